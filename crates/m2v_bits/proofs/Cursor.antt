@@ -1,0 +1,154 @@
+-- Laws of the writer and the reader over bytes.
+use Rattle.std.proofs.Common.{◌≡◌, ℕ, zero, suc, ◌+◌, ◌-◌, ◌*◌, ◌/◌, ◌%◌, ◌^◌, ◌<◌, ◌≤◌, Bool, true, false, List, [], ◌∷◌, ◌++◌, length, get_or, set, take, drop, replicate, refl, sym, ap, subst, ◌∙◌, append_assoc, arith, add-one, add-zero, zero-add}
+use Rattle.std.proofs.lemmas.List.{length-append, length-drop, length-take, take_at, drop_at, drop-drop, get_or-drop, take_more_set, append-nil}
+use Rattle.std.proofs.lemmas.List.Concat.{flat_map-append}
+use Rattle.std.proofs.lemmas.Nat.{shr_high}
+use Rattle.std.proofs.Math.Nat.{zero-div}
+use Rattle.std.specs.Int.{w64, from_be_bytes}
+use Rattle.m2v_bits.specs.Bits.{bits_of, number, bits, packed, ahead, to_edge}
+use Rattle.m2v_bits.proofs.Bits.{length-bits_of, bits_of-add, bits_of-mod, bits_of-low, number-bits_of, packed-bits}
+
+pub length-bits : (bytes : List ℕ) → length (bits bytes) ≡ 8 * length bytes
+length-bits [] = refl
+length-bits (b ∷ bytes) = let e : length (b ∷ bytes) ≡ length bytes + 1 = omega arith in length-append (bits_of 8 b) (bits bytes) ∙ omega (arith, length-bits_of 8 b, length-bits bytes)
+
+drop_none : (n : ℕ) → drop {A = Bool} n [] ≡ []
+drop_none zero = refl
+drop_none (suc n) = refl
+
+pub drop-bits : (i : ℕ) (bytes : List ℕ) → drop (8 * i) (bits bytes) ≡ bits (drop i bytes)
+drop-bits zero bytes = refl
+drop-bits (suc i) [] = drop_none (8 * suc i)
+drop-bits (suc i) (b ∷ bytes) =
+    let e : 8 * suc i ≡ 8 + 8 * i = omega arith in
+    rw e (sym (drop-drop (8 * i) 8 (bits_of 8 b ++ bits bytes)) ∙ ap (drop (8 * i)) (drop_at (bits_of 8 b) (bits bytes) 8 (length-bits_of 8 b)) ∙ drop-bits i bytes)
+
+-- two numbers behind each other
+pub bits_of-join : (k n a b : ℕ) → b < 2 ^ n → bits_of (k + n) (a * 2 ^ n + b) ≡ bits_of k a ++ bits_of n b
+bits_of-join k n a b h = bits_of-add k n (a * 2 ^ n + b) ∙ rw (shr_high a n b h, bits_of-low n a b h) refl
+
+-- a byte moves from the number to the buffer
+pub spilled : (buf : List ℕ) (at m acc : ℕ) → at < length buf → bits (take (at + 1) (set buf at (acc / 2 ^ m % 2 ^ 8))) ++ bits_of m acc ≡ bits (take at buf) ++ bits_of (8 + m) acc
+spilled buf at m acc h =
+    rw (take_more_set buf at (acc / 2 ^ m % 2 ^ 8) h, flat_map-append, bits_of-add 8 m acc, append-nil (bits_of 8 (acc / 2 ^ m % 2 ^ 8)), bits_of-mod 8 (acc / 2 ^ m)) (append_assoc (bits (take at buf)) (bits_of 8 (acc / 2 ^ m)) (bits_of m acc))
+
+-- ---- reading ahead
+
+pub length-ahead : (n : ℕ) (bs : List Bool) → length (ahead n bs) ≡ n
+unfolding ahead
+length-ahead zero bs = refl
+length-ahead (suc n) [] = ap suc (length-ahead n [])
+length-ahead (suc n) (b ∷ bs) = ap suc (length-ahead n bs)
+
+pub ahead-add : (k n : ℕ) (bs : List Bool) → ahead (k + n) bs ≡ ahead k bs ++ ahead n (drop k bs)
+unfolding ahead
+ahead-add zero n bs = rw zero-add refl
+ahead-add (suc k) n [] = let e : suc k + n ≡ suc (k + n) = omega arith in rw e (ap (λ (x : List Bool). false ∷ x) (rw (drop_none k) at (ahead-add k n [])))
+ahead-add (suc k) n (b ∷ bs) = let e : suc k + n ≡ suc (k + n) = omega arith in rw e (ap (λ (x : List Bool). b ∷ x) (ahead-add k n bs))
+
+pub ahead_take : (n : ℕ) (bs : List Bool) → n ≤ length bs → ahead n bs ≡ take n bs
+unfolding ahead
+ahead_take zero bs h = refl
+ahead_take (suc n) [] h = absurd (omega arith)
+ahead_take (suc n) (b ∷ bs) h = ap (λ (x : List Bool). b ∷ x) (ahead_take n bs (omega arith))
+
+empty_byte : ahead 8 [] ≡ bits_of 8 0
+unfolding ahead bits_of
+empty_byte = refl
+
+ahead_byte : (bytes : List ℕ) → ahead 8 (bits bytes) ≡ bits_of 8 (get_or bytes 0 0)
+ahead_byte [] = empty_byte
+ahead_byte (b ∷ bytes) = ahead_take 8 (bits_of 8 b ++ bits bytes) (omega (arith, length-append (bits_of 8 b) (bits bytes), length-bits_of 8 b)) ∙ take_at (bits_of 8 b) (bits bytes) 8 (length-bits_of 8 b)
+
+-- the next byte, and what comes behind it
+ahead_more : (n i : ℕ) (bytes : List ℕ) → ahead (8 + n) (bits (drop i bytes)) ≡ bits_of 8 (get_or bytes i 0) ++ ahead n (bits (drop (i + 1) bytes))
+ahead_more n i bytes =
+    let first : get_or (drop i bytes) 0 0 ≡ get_or bytes i 0 = get_or-drop i bytes 0 0 ∙ rw add-zero refl in
+    let behind : drop 8 (bits (drop i bytes)) ≡ bits (drop (i + 1) bytes) = drop-bits 1 (drop i bytes) ∙ ap bits (drop-drop 1 i bytes) in
+    ahead-add 8 n (bits (drop i bytes)) ∙ rw (ahead_byte (drop i bytes), first, behind) refl
+
+pub five_bytes : (bytes : List ℕ) (i a b c d e : ℕ) → a ≡ get_or bytes i 0 → b ≡ get_or bytes (i + 1) 0 → c ≡ get_or bytes (i + 2) 0 → d ≡ get_or bytes (i + 3) 0 → e ≡ get_or bytes (i + 4) 0
+    → b < 256 → c < 256 → d < 256 → e < 256
+    → bits_of 40 ((((a * 256 + b) * 256 + c) * 256 + d) * 256 + e) ≡ ahead 40 (drop (8 * i) (bits bytes))
+five_bytes bytes i a b c d e pa pb pc pd pe hb hc hd he =
+    let last : ahead 8 (bits (drop (i + 4) bytes)) ≡ bits_of 8 e = ahead_byte (drop (i + 4) bytes) ∙ ap (bits_of 8) (get_or-drop (i + 4) bytes 0 0 ∙ rw add-zero (sym pe)) in
+    let e1 : (i + 1) + 1 ≡ i + 2 = omega arith in
+    let e2 : (i + 2) + 1 ≡ i + 3 = omega arith in
+    let e3 : (i + 3) + 1 ≡ i + 4 = omega arith in
+    let high = bits_of-join 32 8 (((a * 256 + b) * 256 + c) * 256 + d) e he in
+    let high2 = bits_of-join 24 8 ((a * 256 + b) * 256 + c) d hd in
+    let high3 = bits_of-join 16 8 (a * 256 + b) c hc in
+    let high4 = bits_of-join 8 8 a b hb in
+    let parts : ahead 40 (bits (drop i bytes)) ≡ bits_of 8 a ++ (bits_of 8 b ++ (bits_of 8 c ++ (bits_of 8 d ++ bits_of 8 e)))
+    = ahead_more 32 i bytes ∙ rw (← pa, ahead_more 24 (i + 1) bytes, ← pb, e1, ahead_more 16 (i + 2) bytes, ← pc, e2, ahead_more 8 (i + 3) bytes, ← pd, e3, last) refl in
+    rw (drop-bits i bytes, parts, high, high2, high3, high4) (simp append_assoc)
+
+-- the first five bytes of a word of eight
+pub word_is : (a b c d e f g h : ℕ) → f < 256 → g < 256 → h < 256
+    → from_be_bytes w64 (a ∷ b ∷ c ∷ d ∷ e ∷ f ∷ g ∷ h ∷ []) / 2 ^ 24 ≡ (((a * 256 + b) * 256 + c) * 256 + d) * 256 + e
+word_is a b c d e f g h hf hg hh = omega arith
+
+fronts : (a b c d : List Bool) → length a ≡ length c → a ++ b ≡ c ++ d → a ≡ c
+fronts a b c d l e = sym (take_at a b (length c) l) ∙ ap (take (length c)) e ∙ take_at c d (length c) refl
+
+backs : (a b c d : List Bool) → length a ≡ length c → a ++ b ≡ c ++ d → b ≡ d
+backs a b c d l e = sym (drop_at a b (length c) l) ∙ ap (drop (length c)) e ∙ drop_at c d (length c) refl
+
+-- what is peeked, out of a window of 40 bits
+pub peeked : (bs : List Bool) (from r n s w : ℕ) → bits_of 40 w ≡ ahead 40 (drop from bs) → (r + n) + s ≡ 40 → number (ahead n (drop (from + r) bs)) ≡ w / 2 ^ s % 2 ^ n
+peeked bs from r n s w e h =
+    let xs = drop from bs in
+    let whole : ahead ((r + n) + s) xs ≡ bits_of ((r + n) + s) w = rw h (sym e) in
+    let front : ahead (r + n) xs ≡ bits_of (r + n) (w / 2 ^ s) =
+    fronts (ahead (r + n) xs) (ahead s (drop (r + n) xs)) (bits_of (r + n) (w / 2 ^ s)) (bits_of s w) (length-ahead (r + n) xs ∙ sym (length-bits_of (r + n) (w / 2 ^ s)))
+    (sym (ahead-add (r + n) s xs) ∙ whole ∙ bits_of-add (r + n) s w) in
+    let back : ahead n (drop r xs) ≡ bits_of n (w / 2 ^ s) =
+    backs (ahead r xs) (ahead n (drop r xs)) (bits_of r (w / 2 ^ s / 2 ^ n)) (bits_of n (w / 2 ^ s)) (length-ahead r xs ∙ sym (length-bits_of r (w / 2 ^ s / 2 ^ n)))
+    (sym (ahead-add r n xs) ∙ front ∙ bits_of-add r n (w / 2 ^ s)) in
+    rw (← drop-drop r from bs, back) (number-bits_of n (w / 2 ^ s))
+
+pub ruleset lengths = (length-bits, length-bits_of, length-append, length-drop, length-take)
+
+none_held : (p : ℕ) → bits_of 0 p ≡ []
+unfolding bits_of
+none_held p = refl
+
+-- how many bits are written
+written_len : (bytes : List ℕ) (used held p : ℕ) → 8 * used + held ≤ 8 * length bytes → held < 8 → length (bits (take used bytes) ++ bits_of held p) ≡ 8 * used + held
+written_len bytes used held p le h = length-append (bits (take used bytes)) (bits_of held p) ∙ omega (arith, length-bits_of held p, length-bits (take used bytes), length-take used bytes)
+
+pub same_edge : (bytes : List ℕ) (used held p : ℕ) → 8 * used + held ≤ 8 * length bytes → held < 8 → (8 - held) % 8 ≡ to_edge (length (bits (take used bytes) ++ bits_of held p))
+same_edge bytes used held p le h = omega (arith, written_len bytes used held p le h)
+
+-- at the edge of a byte nothing is held
+pub whole_bytes : (bytes : List ℕ) (used held p : ℕ) → 8 * used + held ≤ 8 * length bytes → held < 8 → length (bits (take used bytes) ++ bits_of held p) % 8 ≡ 0 → bits (take used bytes) ++ bits_of held p ≡ bits (take used bytes)
+whole_bytes bytes used held p le h e =
+    let none : held ≡ 0 = omega (arith, written_len bytes used held p le h) in
+    rw (none, none_held p) (append-nil (bits (take used bytes)))
+
+pub begins : (bytes : List ℕ) (used held p : ℕ) → 8 * used + held ≤ 8 * length bytes → held < 8 → length (bits (take used bytes) ++ bits_of held p) % 8 ≡ 0 → bits (take (length (bits (take used bytes) ++ bits_of held p) / 8) bytes) ≡ bits (take used bytes) ++ bits_of held p
+begins bytes used held p le h e =
+    let at : length (bits (take used bytes) ++ bits_of held p) / 8 ≡ used = omega (arith, written_len bytes used held p le h) in
+    rw at (sym (whole_bytes bytes used held p le h e))
+
+-- what is written after held bits and n more, where the whole bytes have moved
+pub put_written : (before after : List Bool) (held n p v acc : ℕ) → acc ≡ p * 2 ^ n + v → v < 2 ^ n
+    → after ++ bits_of ((held + n) % 8) acc ≡ before ++ bits_of (held + n) acc
+    → after ++ bits_of ((held + n) % 8) (acc % 2 ^ ((held + n) % 8)) ≡ (before ++ bits_of held p) ++ bits_of n v
+put_written before after held n p v acc e lt moved =
+    rw (bits_of-mod ((held + n) % 8) acc, moved, e, bits_of-join held n p v lt) (sym (append_assoc before (bits_of held p) (bits_of n v)))
+
+pub zeros : (n : ℕ) → bits_of n 0 ≡ replicate n false
+unfolding bits_of
+zeros zero = refl
+zeros (suc n) = rw (zero-div (2 ^ n)) (ap (λ (x : List Bool). false ∷ x) (zeros n))
+
+take_fits : (n : ℕ) (xs : List ℕ) → ((i : ℕ) → get_or xs i 0 < 256) → (i : ℕ) → get_or (take n xs) i 0 < 256
+take_fits zero xs h i = omega arith
+take_fits (suc n) [] h i = h i
+take_fits (suc n) (x ∷ xs) h zero = h 0
+take_fits (suc n) (x ∷ xs) h (suc i) = take_fits n xs (λ k. h (suc k)) i
+
+-- the first bytes of a buffer are what their bits fill
+pub packed_front : (n : ℕ) (xs : List ℕ) → ((i : ℕ) → get_or xs i 0 < 256) → take n xs ≡ packed (bits (take n xs))
+packed_front n xs h = sym (packed-bits (take n xs) (take_fits n xs h))

@@ -1,0 +1,4 @@
+pub mod Bits
+pub mod Cursor
+pub mod SyntaxLaws
+pub mod LeafLaws

@@ -1,0 +1,66 @@
+-- A text of bits, the first bit first; `true` is 1 (clause 5.2.2: bits stand in bytes the highest first).
+use Rattle.std.specs.Prelude.{◌≡◌, ℕ, zero, suc, ◌+◌, ◌/◌, ◌%◌, ◌-◌, ◌^◌, ◌<◌, Bool, true, false, ◌==◌, cond, List, [], ◌∷◌, length, drop, slice_index}
+use Rattle.std.specs.List.{flat_map}
+
+-- the n lowest bits of v, the highest of them first
+unfoldable pub bits_of : ℕ → ℕ → List Bool
+bits_of zero v = []
+bits_of (suc n) v = (v / 2 ^ n % 2 == 1) ∷ bits_of n v
+
+-- the number that the bits spell, the highest first
+unfoldable pub number : List Bool → ℕ
+number [] = 0
+number (b ∷ bs) = cond b (2 ^ length bs) 0 + number bs
+
+-- the bits of bytes, the highest of each byte first
+abbrev pub bits : List ℕ → List Bool
+bits bytes = flat_map (bits_of 8) bytes
+
+-- the bytes that the bits fill; bits behind the last whole byte are left out
+unfoldable pub packed : List Bool → List ℕ
+packed (a ∷ b ∷ c ∷ d ∷ e ∷ f ∷ g ∷ h ∷ rest) = number (a ∷ b ∷ c ∷ d ∷ e ∷ f ∷ g ∷ h ∷ []) ∷ packed rest
+packed _ = []
+
+-- whether each bit is 0
+unfoldable pub all_zero : List Bool → Bool
+all_zero [] = true
+all_zero (b ∷ bs) = cond b false (all_zero bs)
+
+-- how many bits are left from the first 1 on
+unfoldable pub first_one : List Bool → ℕ
+first_one [] = 0
+first_one (b ∷ bs) = cond b (suc (length bs)) (first_one bs)
+
+-- the next n bits, zeros past the end
+unfoldable pub ahead : ℕ → List Bool → List Bool
+ahead zero bs = []
+ahead (suc n) [] = false ∷ ahead n []
+ahead (suc n) (b ∷ bs) = b ∷ ahead n bs
+
+-- how many bits stand between n and the edge of a byte
+abbrev pub to_edge : ℕ → ℕ
+to_edge n = (8 - n % 8) % 8
+
+-- how a writer is seen: the bits written, and how many more there is room for
+pub record Written : Type 0 where
+  pub written : List Bool
+  pub room : ℕ
+
+-- how a reader is seen: the whole text, the place of the next bit in it, and the bits from there on
+pub record Unread : Type 0 where
+  pub text : List Bool
+  pub place : ℕ
+  pub rest : List Bool
+
+-- the reader n bits on
+abbrev pub past : ℕ → Unread → Unread
+past n r = record { text = r.text; place = r.place + n; rest = drop n r.rest }
+
+-- what holds of each reader: the rest is the text from the place on
+pub record IsSound (r : Unread) : Type 0 where
+  pub suffix : r.rest ≡ drop r.place r.text
+  pub sum : r.place + length r.rest ≡ length r.text
+
+-- the prefix of a start code, 00 00 01, stands at byte i (clause 5.2.3)
+abbrev pub IsStartCode : List ℕ → ℕ → Type 0
+IsStartCode bytes i = (i + 2 < length bytes) × (slice_index bytes i ≡ 0) × (slice_index bytes (i + 1) ≡ 0) × (slice_index bytes (i + 2) ≡ 1)

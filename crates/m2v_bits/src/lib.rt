@@ -1,0 +1,12 @@
+//! Bits in bytes, the highest bit of each byte first: a writer, a reader, and start codes.
+//! `specs/` holds the words on which every syntax of the stream is defined.
+#![tactic(auto, using(crate::proofs::Cursor::lengths))]
+
+mod number;
+mod reader;
+mod start;
+mod writer;
+
+pub use reader::BitReader;
+pub use start::next_start_code;
+pub use writer::BitWriter;

@@ -1,0 +1,21 @@
+ghost use Rattle.std.specs.Prelude.{◌≡◌, ℕ, ◌+◌, ◌<◌, ◌≤◌, IfSome, IsNone, MatchOption, length};
+ghost use Rattle.m2v_bits.specs.Bits.{IsStartCode};
+
+/// The least place at or after `from` where the prefix 00 00 01 of a start code stands (clause 5.2.3),
+/// in bytes, or nothing where none stands there.
+pub fn next_start_code(bytes: &[u8], from: usize) -> Option<usize>
+    ensures found { IfSome result (λ i. (from ≤ i) × IsStartCode bytes.now i) }
+    ensures least { IfSome result (λ i. (k : ℕ) → from ≤ k → k < i → IsStartCode bytes.now k → ⊥) }
+    ensures none { IsNone result → (k : ℕ) → from ≤ k → IsStartCode bytes.now k → ⊥ }
+{
+    let mut i = from;
+    while i < bytes.len() && bytes.len() - i > 2 {
+        let third = bytes[i + 2];
+        if third == 1 && bytes[i] == 0 && bytes[i + 1] == 0 {
+            return Some(i);
+        }
+        // A byte above 1 stands in no prefix, so none begins at it or at the two places before it.
+        i += if third > 1 { 3 } else { 1 };
+    }
+    None
+}
