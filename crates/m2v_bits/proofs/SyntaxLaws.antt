@@ -1,5 +1,5 @@
 -- What is read stands there, and what stands there is read; what is refused is broken so, and what is broken is refused.
-use Rattle.std.proofs.Common.{List, [], ◌++◌, append_assoc, ◌≡◌, ℕ, zero, suc, ◌<◌, ◌≤◌, Bool, true, false, cond, Ok, Err, Result, ◌⊎◌, inl, inr, refl, sym, ap, subst, ◌∙◌, arith}
+use Rattle.std.proofs.Common.{◌≡◌, ℕ, zero, suc, ◌<◌, ◌≤◌, Bool, true, false, cond, Ok, Err, Result, ◌⊎◌, inl, inr, refl, sym, ap, subst, ◌∙◌, arith}
 use Rattle.m2v_bits.specs.Syntax.{Syntax, bind, done, seq, here, rule, choose, Rounds, last, more, Breaks, now, later, rounds, repeated, renamed, renamed_read}
 
 abbrev pub good : {T K V : Type 0} → V × T → Result (V × T) (K × ℕ)

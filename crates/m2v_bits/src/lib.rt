@@ -10,3 +10,6 @@ mod writer;
 pub use reader::BitReader;
 pub use start::next_start_code;
 pub use writer::BitWriter;
+
+#[cfg(test)]
+mod tests;

@@ -14,8 +14,8 @@ pub fn next_start_code(bytes: &[u8], from: usize) -> Option<usize>
         if third == 1 && bytes[i] == 0 && bytes[i + 1] == 0 {
             return Some(i);
         }
-        // A byte above 1 stands in no prefix, so none begins at it or at the two places before it.
-        i += if third > 1 { 3 } else { 1 };
+        // Where the third byte isn't 0, no prefix begins at it or at the place before it either.
+        i += if third == 0 { 1 } else { 3 };
     }
     None
 }

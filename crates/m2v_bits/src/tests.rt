@@ -1,0 +1,65 @@
+use crate::{BitReader, BitWriter, next_start_code};
+use std::alloc::AllocError;
+
+/// The first eight bytes of a sequence header of 16 by 16 samples, aspect 1, rate code 3.
+const SEQUENCE: [u8; 8] = [0x00, 0x00, 0x01, 0xB3, 0x01, 0x00, 0x10, 0x13];
+
+#[test]
+fn writes_a_header_bit_by_bit(rt: HostRuntime) -> Result<(), AllocError> {
+    let buf = vec![in rt.alloc(); 0u8; 16]?;
+    let mut out = BitWriter::over(buf);
+    assert_eq!(rt; out.room(), 128);
+    out.put(0x00_0001, 24);
+    out.put(0xB3, 8);
+    for (value, n) in [(16, 12), (16, 12), (1, 4), (3, 4)] {
+        assert!(rt; out.room() >= 12);
+        out.put(value, n);
+    }
+    assert_eq!(rt; out.bit_len(), 64);
+    assert!(rt; out.bit_len() % 8 == 0);
+    assert!(rt; out.bytes() == SEQUENCE.as_slice());
+    assert!(rt; out.room() >= 8);
+    out.put(1, 1);
+    out.align();
+    assert_eq!(rt; out.bit_len(), 72);
+    out.clear();
+    assert_eq!(rt; out.room(), 128);
+    out.put(0xFFFF_FFFF, 32);
+    let buf = out.into_buf();
+    assert_eq!(rt; buf.len(), 16);
+    assert!(rt; buf[..5] == [0xFF, 0xFF, 0xFF, 0xFF, 0x01]);
+    Ok(())
+}
+
+#[test]
+fn reads_the_header_back(rt: HostRuntime) {
+    let mut input = BitReader::new(&SEQUENCE);
+    for (n, value) in [(32, 0x0000_01B3), (12, 16), (12, 16), (4, 1)] {
+        assert_eq!(rt; input.take(n), Some(value), "{n} bits");
+    }
+    assert_eq!(rt; input.place(), 60);
+    assert_eq!(rt; input.peek(4), 3);
+    assert_eq!(rt; input.peek(5), 6);
+    assert_eq!(rt; input.take(5), None);
+    assert!(rt; !input.rest_is_zero());
+    assert_eq!(rt; input.left_from_one(), 2);
+    let mut behind = input.fork();
+    assert_eq!(rt; behind.left(), 4);
+    behind.finish();
+    assert!(rt; behind.rest_is_zero());
+    assert_eq!(rt; input.place(), 60);
+}
+
+#[test]
+fn finds_start_codes(rt: HostRuntime) {
+    let bytes = [0xFF, 0x00, 0x00, 0x00, 0x01, 0xB7, 0x00, 0x00, 0x01];
+    for (from, place) in [
+        (0, Some(2)),
+        (2, Some(2)),
+        (3, Some(6)),
+        (7, None),
+        (99, None),
+    ] {
+        assert_eq!(rt; next_start_code(&bytes, from), place, "from {from}");
+    }
+}
