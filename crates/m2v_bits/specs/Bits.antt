@@ -1,5 +1,5 @@
 -- A text of bits, the first bit first; `true` is 1 (clause 5.2.2: bits stand in bytes the highest first).
-use Rattle.std.specs.Prelude.{◌≡◌, ℕ, zero, suc, ◌+◌, ◌/◌, ◌%◌, ◌-◌, ◌^◌, ◌<◌, Bool, true, false, ◌==◌, cond, List, [], ◌∷◌, length, drop, slice_index}
+use Rattle.std.specs.Prelude.{◌≡◌, ℕ, zero, suc, ◌+◌, ◌/◌, ◌%◌, ◌-◌, ◌^◌, ◌<◌, Bool, true, false, ◌==◌, cond, List, [], ◌∷◌, ◌++◌, length, drop, replicate, slice_index}
 use Rattle.std.specs.List.{flat_map}
 
 -- the n lowest bits of v, the highest of them first
@@ -21,6 +21,15 @@ unfoldable pub packed : List Bool → List ℕ
 packed (a ∷ b ∷ c ∷ d ∷ e ∷ f ∷ g ∷ h ∷ rest) = number (a ∷ b ∷ c ∷ d ∷ e ∷ f ∷ g ∷ h ∷ []) ∷ packed rest
 packed _ = []
 
+-- one text, and then another: `++`, grouped to the right as fields stand in a syntax table
+infixr 10 ◌⧺◌
+abbrev pub ◌⧺◌ : List Bool → List Bool → List Bool
+a ⧺ b = a ++ b
+
+-- a start code: the prefix 0000 0000 0000 0000 0000 0001, and its value (clause 6.2.1)
+abbrev pub start_code : ℕ → List Bool
+start_code v = bits_of 24 1 ++ bits_of 8 v
+
 -- whether each bit is 0
 unfoldable pub all_zero : List Bool → Bool
 all_zero [] = true
@@ -40,6 +49,10 @@ ahead (suc n) (b ∷ bs) = b ∷ ahead n bs
 -- how many bits stand between n and the edge of a byte
 abbrev pub to_edge : ℕ → ℕ
 to_edge n = (8 - n % 8) % 8
+
+-- zero bits up to the edge of a byte, as they stand before each start code (clause 5.2.3)
+abbrev pub aligned : List Bool → List Bool
+aligned t = t ++ replicate (to_edge (length t)) false
 
 -- how a writer is seen: the bits written, and how many more there is room for
 pub record Written : Type 0 where
