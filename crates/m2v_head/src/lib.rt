@@ -1,0 +1,17 @@
+//! The headers of a stream, both ways (clauses 6.2.2 to 6.2.4).
+#![tactic(auto)]
+
+mod fault;
+mod group;
+mod matrix;
+mod picture;
+mod sequence;
+mod slice;
+mod writing;
+
+pub use fault::HeadFault;
+pub use group::GroupInfo;
+pub use matrix::MatrixInfo;
+pub use picture::{PictureExtension, PictureInfo};
+pub use sequence::{SequenceExtension, SequenceInfo};
+pub use slice::SliceInfo;
