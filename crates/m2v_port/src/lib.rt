@@ -1,0 +1,16 @@
+//! Where bytes come from and go to: sources, sinks and named sinks, in memory and real.
+#![tactic(auto)]
+
+mod calls;
+mod error;
+mod failing;
+mod port;
+mod sure;
+
+pub use error::{Memory, PortError};
+pub use failing::{MemoryFile, MemorySink, MemorySource};
+pub use port::{NamedSink, Sink, Source};
+pub use sure::{SureFile, SureSink, SureSource};
+
+#[cfg(test)]
+mod tests;
