@@ -4,7 +4,7 @@ use Rattle.std.proofs.lemmas.List.{take_at, drop-drop, length-take-le}
 
 -- bytes from a place on, copied to the front of a buffer
 pub taken : (bytes buf got : List ℕ) (from n : ℕ) → n ≤ length buf → length got ≡ length (take n buf) → got ≡ take (from + n - from) (drop from bytes)
-  → drop from bytes ≡ take n (got ++ drop n buf) ++ drop (from + n) bytes
+    → drop from bytes ≡ take n (got ++ drop n buf) ++ drop (from + n) bytes
 taken bytes buf got from n fits len is =
     let is_long : length got ≡ n = len ∙ length-take-le n buf fits in
     let same : from + n - from ≡ n = omega arith in

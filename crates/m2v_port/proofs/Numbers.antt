@@ -34,7 +34,7 @@ one_fewer made [] stands = absurd (cc)
 one_fewer made (x ∷ xs) stands = first_or_later (x == made + 1) refl stands (one_fewer made xs)
   where
     first_or_later : (b : Bool) → (x == made + 1) ≡ b → (b || list_any (λ number. number == made + 1) xs) ≡ true
-      → (list_any (λ number. number == made + 1) xs ≡ true → to_come (made + 1) xs + 1 ≤ to_come made xs) → to_come (made + 1) (x ∷ xs) + 1 ≤ to_come made (x ∷ xs)
+        → (list_any (λ number. number == made + 1) xs ≡ true → to_come (made + 1) xs + 1 ≤ to_come made xs) → to_come (made + 1) (x ∷ xs) + 1 ≤ to_come made (x ∷ xs)
     first_or_later true is any later =
         let is_next : x ≡ made + 1 = grind (arith, nat_tests) in
         let here : cond (nat_lt (made + 1) x) 1 0 + 1 ≤ cond (nat_lt made x) 1 0 = grind (arith, nat_tests) in
@@ -45,12 +45,12 @@ one_fewer made (x ∷ xs) stands = first_or_later (x == made + 1) refl stands (o
 
 -- a call that fails, of those whose numbers fit
 pub after_failing : (fail : List ℕ) (made failed later : ℕ) (room : ℕ) → later ≡ min (made + 1) (2 ^ 64 - 1) → made + 1 < 2 ^ 64 → list_any (λ number. number == made + 1) fail ≡ true
-  → failed + to_come made fail ≤ room → failed + 1 + to_come later fail ≤ room
+    → failed + to_come made fail ≤ room → failed + 1 + to_come later fail ≤ room
 after_failing fail made failed later room is fits stands bound =
     let next : later ≡ made + 1 = omega arith in
     rw next (omega (arith, one_fewer made fail stands))
 
 -- a call that doesn't fail
 pub after_passing : (fail : List ℕ) (made failed later : ℕ) → later ≡ min (made + 1) (2 ^ 64 - 1) → list_any (λ number. number == made + 1) fail ≡ false
-  → let calls : Calls = record { fail = fail; made = later; failed = failed } in calls ≡ after_call (record { fail = fail; made = made; failed = failed })
+    → let calls : Calls = record { fail = fail; made = later; failed = failed } in calls ≡ after_call (record { fail = fail; made = made; failed = failed })
 after_passing fail made failed later is passes = rw (passes, is) refl

@@ -6,11 +6,13 @@ mod error;
 mod failing;
 mod port;
 mod sure;
+mod whole;
 
 pub use error::{Memory, PortError};
 pub use failing::{MemoryFile, MemorySink, MemorySource};
 pub use port::{NamedSink, Sink, Source};
 pub use sure::{SureFile, SureSink, SureSource};
+pub use whole::fill;
 
 #[cfg(test)]
 mod tests;

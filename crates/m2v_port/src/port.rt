@@ -59,6 +59,7 @@ pub trait NamedSink: Sink {
         ensures ok { OnOk result (IsTrue (Self.ready self.new)) }
         ensures name { OnOk result (IfSome (Self.name self.new) (λ told. told ≡ name.now)) }
         ensures err { OnErr result (IsFalse (Self.ready self.new)) }
+        ensures unnamed { OnErr result (Self.name self.new ≡ Self.name self.old) }
         ensures same { Self.held self.new ≡ Self.held self.old }
         ensures failed { IsErrOf result PortError.Failed → Rose (Self.faults self.old) (Self.faults self.new) }
         ensures faults { Self.faults self.old ≤ Self.faults self.new };

@@ -6,6 +6,7 @@ use super::*;
 use std::alloc::Global;
 
 // All bytes of a source, up to a bound that no source reaches.
+#[tactic(auto, using(crate::proofs::Runs::runs))]
 fn read_all<S: Source>(alloc: Global, input: &mut S) -> Result<Vec<u8>, PortError>
     ensures moved { IfOk result (λ bytes. Moves (S.left input.old) bytes.items (S.left input.new)) }
     ensures all { IfOk result (λ bytes. IfSome (S.left input.old) (λ all. bytes.items ≡ all)) }
@@ -26,6 +27,7 @@ fn read_all<S: Source>(alloc: Global, input: &mut S) -> Result<Vec<u8>, PortErro
 }
 
 // Puts both pieces.
+#[tactic(auto, using(crate::proofs::Runs::runs))]
 fn put_both<K: Sink>(output: &mut K, first: &[u8], second: &[u8]) -> Result<(), PortError>
     requires { IsTrue (K.ready output.old) }
     ensures ok { OnOk result (Grows (K.held output.old) (first.now ++ second.now) (K.held output.new)) }
