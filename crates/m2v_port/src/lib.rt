@@ -4,13 +4,17 @@
 mod calls;
 mod error;
 mod failing;
+mod file;
 mod port;
+mod real;
 mod sure;
 mod whole;
 
 pub use error::{Memory, PortError};
 pub use failing::{MemoryFile, MemorySink, MemorySource};
+pub use file::FileSink;
 pub use port::{NamedSink, Sink, Source};
+pub use real::{StdSink, StdSource};
 pub use sure::{SureFile, SureSink, SureSource};
 pub use whole::fill;
 
