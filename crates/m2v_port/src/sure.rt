@@ -107,7 +107,7 @@ impl Sink for SureSink {
 #[derive(Drop)]
 pub struct SureFile {
     alloc: Global,
-    bytes: Vec<u8>,
+    bytes: SureSink,
     name: Option<String>,
 }
 
@@ -118,7 +118,7 @@ impl Model for SureFile {
 
     ghost Value = { Named };
 
-    ghost view = { λ s. record { held = s.bytes.items; name = option_map string_bytes s.name } };
+    ghost view = { λ s. record { held = s.bytes; name = option_map string_bytes s.name } };
 }
 
 impl SureFile {
@@ -128,7 +128,7 @@ impl SureFile {
     {
         SureFile {
             alloc,
-            bytes: Vec::new(alloc),
+            bytes: SureSink::new(alloc),
             name: None,
         }
     }
@@ -137,7 +137,7 @@ impl SureFile {
     pub fn held(&self) -> &[u8]
         ensures { result.now ≡ self.now.held }
     {
-        &self.bytes
+        self.bytes.held()
     }
 
     /// The name that it was given: none exactly where it isn't ready.
@@ -167,8 +167,7 @@ impl Sink for SureFile {
         ensures name { self.new.name ≡ self.old.name }
         ensures memory { IsOkUnless result PortError.Memory }
     {
-        self.bytes.extend_from_slice(piece)?;
-        Ok(())
+        self.bytes.put(piece)
     }
 }
 
