@@ -1,0 +1,3 @@
+mod Bytes
+mod Numbers
+pub mod Runs
