@@ -1,0 +1,3 @@
+pub mod ForwardSums
+pub mod Shifts
+pub mod Sums

@@ -1,0 +1,3 @@
+pub mod Forward
+pub mod Ranges
+pub mod Sums
