@@ -1,3 +1,4 @@
 pub mod ForwardSums
+pub mod Passed
 pub mod Shifts
 pub mod Sums

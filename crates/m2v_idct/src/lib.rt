@@ -1,6 +1,7 @@
 //! The forward and the inverse transform of blocks of eight by eight.
 #![tactic(auto)]
 
+mod combine;
 mod forward;
 
 pub use forward::forward_dc;
