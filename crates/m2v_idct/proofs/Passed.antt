@@ -1,6 +1,6 @@
 -- A signed number that is passed or computed stands in a goal as its bits, read again. Where it fits, that is the
 -- number itself.
-use Rattle.std.proofs.Common.{◌<◌, ◌≤◌, ◌^◌, ◌≡◌, ℕ, arith, ◌∙◌, ℤ, pos, negsuc, ◌+ℤ◌, ◌-ℤ◌}
+use Rattle.std.proofs.Common.{◌<◌, ◌≤◌, ◌^◌, ◌≡◌, ℕ, All, List, length, get_or, arith, ◌∙◌, ℤ, pos, negsuc, ◌+ℤ◌, ◌-ℤ◌}
 use Rattle.std.specs.Int.{int_shr}
 use Rattle.std.proofs.lemmas.Int.{ints, to_z-of_z}
 use lib.Signed.{mag}
@@ -30,3 +30,8 @@ pub shifted_difference : (n : ℕ) (x y r : ℤ) → Within 164000000 x → With
 shifted_difference n x y r hx hy hr e =
     to_z-of_z w32 r (record { sfits = hr }) ∙ e
     ∙ (λ i. int_shr (passed 164000000 x (omega arith) hx i -ℤ passed 235000000 y (omega arith) hy i) n)
+
+-- a number of an array that is passed on
+pub read_within : (n m : ℕ) (xs : List ℤ) (i : ℕ) → n < 2 ^ 31 → n ≤ m → i < length xs → All (Within n) xs
+    → Within m (to_z w32 (of_z w32 (get_or xs i (pos 0))))
+read_within n m xs i small le inside h = passed_within n m (get_or xs i (pos 0)) small le (h i (pos 0) inside)

@@ -3,5 +3,6 @@
 
 mod combine;
 mod forward;
+mod terms;
 
 pub use forward::forward_dc;
