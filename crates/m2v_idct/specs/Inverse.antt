@@ -1,7 +1,7 @@
 -- The inverse transform of Annex A of ISO/IEC 13818-2, in the whole numbers of the reference decoder of the MPEG
 -- Software Simulation Group (the file idct.c of mpeg2decode): first the rows of a block, then the columns of what the
 -- rows leave. `int_shr z n` is z / 2 ^ n, rounded down.
-use Rattle.std.specs.Prelude.{ℕ, ◌+◌, ◌*◌, ◌/◌, ◌%◌, List, [], ◌∷◌, map, slice_index_or, ℤ, pos, neg_ℤ, ◌+ℤ◌, ◌-ℤ◌, ◌*ℤ◌}
+use Rattle.std.specs.Prelude.{ℕ, ◌/◌, ◌%◌, List, [], ◌∷◌, map, slice_index_or, ℤ, pos, neg_ℤ, ◌+ℤ◌, ◌-ℤ◌, ◌*ℤ◌}
 use Rattle.std.specs.Int.{int_shr, int_max, int_min}
 use Rattle.std.specs.List.{range_with_len}
 use Rattle.m2v_idct.specs.Forward.{at}

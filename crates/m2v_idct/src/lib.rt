@@ -2,7 +2,9 @@
 #![tactic(auto)]
 
 mod combine;
-mod forward;
+mod forward_dct;
+mod inverse_dct;
 mod terms;
 
-pub use forward::forward_dc;
+pub use forward_dct::forward_dc;
+pub use inverse_dct::inverse;

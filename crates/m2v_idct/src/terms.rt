@@ -41,6 +41,14 @@ pub fn column_terms(c: &[i32; 8]) -> Terms
     ensures e6 { result.e6 ≡ eighth (pos 1108 *ℤ slice_index_or c.now 2 (pos 0) -ℤ pos 2676 *ℤ slice_index_or c.now 6 (pos 0)) }
     ensures p { result.p ≡ pos 256 *ℤ (slice_index_or c.now 0 (pos 0) +ℤ slice_index_or c.now 4 (pos 0)) +ℤ pos 8192 }
     ensures m { result.m ≡ pos 256 *ℤ (slice_index_or c.now 0 (pos 0) -ℤ slice_index_or c.now 4 (pos 0)) +ℤ pos 8192 }
+    ensures a1_within { Within 82000000 result.a1 }
+    ensures a7_within { Within 82000000 result.a7 }
+    ensures a5_within { Within 82000000 result.a5 }
+    ensures a3_within { Within 82000000 result.a3 }
+    ensures e2_within { Within 82000000 result.e2 }
+    ensures e6_within { Within 82000000 result.e6 }
+    ensures p_within { Within 82000000 result.p }
+    ensures m_within { Within 82000000 result.m }
 {
     Terms {
         a1: eighth_of(one_plus(c[1], c[7])),
@@ -145,7 +153,8 @@ fn row_difference(x: i32, y: i32) -> i32
 fn column_sum(x: i32, y: i32) -> i32
     requires x { Within 160000 x }
     requires y { Within 160000 y }
-    ensures { result ≡ pos 256 *ℤ (x +ℤ y) +ℤ pos 8192 }
+    ensures value { result ≡ pos 256 *ℤ (x +ℤ y) +ℤ pos 8192 }
+    ensures within { Within 82000000 result }
 {
     256 * (x + y) + 8192
 }
@@ -154,7 +163,8 @@ fn column_sum(x: i32, y: i32) -> i32
 fn column_difference(x: i32, y: i32) -> i32
     requires x { Within 160000 x }
     requires y { Within 160000 y }
-    ensures { result ≡ pos 256 *ℤ (x -ℤ y) +ℤ pos 8192 }
+    ensures value { result ≡ pos 256 *ℤ (x -ℤ y) +ℤ pos 8192 }
+    ensures within { Within 82000000 result }
 {
     256 * (x - y) + 8192
 }

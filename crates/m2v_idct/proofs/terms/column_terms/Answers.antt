@@ -3,7 +3,7 @@ use Rattle.std.proofs.lemmas.Int.{to_z-of_z}
 use mir.Syntax.{w32}
 use mir.Val.{SFits}
 use Rattle.m2v_idct.specs.Inverse.{eighth}
-use Rattle.m2v_idct.proofs.Passed.{fits, passed, read_within}
+use Rattle.m2v_idct.proofs.Passed.{fits, passed, passed_within, read_within}
 use Rattle.m2v_idct.proofs.terms.column_terms.Goals as goal
 
 pub one_plus-requires-clause-x : goal.one_plus-requires-clause-x
@@ -107,11 +107,35 @@ returns-clause-p c =
     let x = fits 160000 (get_or c.args.c.now 0 (pos 0)) (omega arith) (c.requires 0 (pos 0) (omega arith)) in
     let y = fits 160000 (get_or c.args.c.now 4 (pos 0)) (omega arith) (c.requires 4 (pos 0) (omega arith)) in
     let t : SFits w32 c.column_sum.result = search rules in
-    to_z-of_z w32 _ t ∙ (simp to_z-of_z at c.column_sum.ensures)
+    to_z-of_z w32 _ t ∙ (simp to_z-of_z at c.column_sum.ensures.value)
 
 pub returns-clause-m : goal.returns-clause-m
 returns-clause-m c =
     let x = fits 160000 (get_or c.args.c.now 0 (pos 0)) (omega arith) (c.requires 0 (pos 0) (omega arith)) in
     let y = fits 160000 (get_or c.args.c.now 4 (pos 0)) (omega arith) (c.requires 4 (pos 0) (omega arith)) in
     let t : SFits w32 c.column_difference.result = search rules in
-    to_z-of_z w32 _ t ∙ (simp to_z-of_z at c.column_difference.ensures)
+    to_z-of_z w32 _ t ∙ (simp to_z-of_z at c.column_difference.ensures.value)
+
+pub returns-clause-a1_within : goal.returns-clause-a1_within
+returns-clause-a1_within c = passed_within 82000000 82000000 _ (omega arith) (omega arith) c.eighth_of.ensures.within
+
+pub returns-clause-a7_within : goal.returns-clause-a7_within
+returns-clause-a7_within c = passed_within 82000000 82000000 _ (omega arith) (omega arith) c.eighth_of-2.ensures.within
+
+pub returns-clause-a5_within : goal.returns-clause-a5_within
+returns-clause-a5_within c = passed_within 82000000 82000000 _ (omega arith) (omega arith) c.eighth_of-3.ensures.within
+
+pub returns-clause-a3_within : goal.returns-clause-a3_within
+returns-clause-a3_within c = passed_within 82000000 82000000 _ (omega arith) (omega arith) c.eighth_of-4.ensures.within
+
+pub returns-clause-e2_within : goal.returns-clause-e2_within
+returns-clause-e2_within c = passed_within 82000000 82000000 _ (omega arith) (omega arith) c.eighth_of-5.ensures.within
+
+pub returns-clause-e6_within : goal.returns-clause-e6_within
+returns-clause-e6_within c = passed_within 82000000 82000000 _ (omega arith) (omega arith) c.eighth_of-6.ensures.within
+
+pub returns-clause-p_within : goal.returns-clause-p_within
+returns-clause-p_within c = passed_within 82000000 82000000 _ (omega arith) (omega arith) c.column_sum.ensures.within
+
+pub returns-clause-m_within : goal.returns-clause-m_within
+returns-clause-m_within c = passed_within 82000000 82000000 _ (omega arith) (omega arith) c.column_difference.ensures.within

@@ -4,7 +4,7 @@ use mir.Val.{to_z, of_z}
 use mir.Syntax.{w64}
 use Rattle.std.specs.Int.{int_shr}
 use Rattle.m2v_idct.proofs.ForwardSums.{mean_is}
-use Rattle.m2v_idct.proofs.forward.forward_dc.Goals as goal
+use Rattle.m2v_idct.proofs.forward_dct.forward_dc.Goals as goal
 
 pub returns-clause-value : goal.returns-clause-value
 returns-clause-value c =

@@ -1,6 +1,6 @@
 use Rattle.std.proofs.Common.{◌≡◌, ◌*◌, get_or, pos, neg_ℤ, ◌≤ℤ◌}
 use Rattle.m2v_idct.specs.Sums.{sum_below}
-use Rattle.m2v_idct.proofs.forward.sum_of.Given as goal
+use Rattle.m2v_idct.proofs.forward_dct.sum_of.Given as goal
 
 abbrev pub invariant-loop-sample : goal.invariant-loop-sample
 invariant-loop-sample l = record {

@@ -2,7 +2,7 @@ use Rattle.std.proofs.Common.{◌<◌, length, get_or, refl, arith, pos}
 use Rattle.std.proofs.lemmas.Int.{ints}
 use Rattle.m2v_idct.specs.Sums.{sum_below}
 use Rattle.m2v_idct.proofs.Sums.{sum_below-more}
-use Rattle.m2v_idct.proofs.forward.sum_of.Goals as goal
+use Rattle.m2v_idct.proofs.forward_dct.sum_of.Goals as goal
 
 pub loop-sample-init : goal.loop-sample-init
 unfolding sum_below
