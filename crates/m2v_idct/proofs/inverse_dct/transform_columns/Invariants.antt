@@ -1,0 +1,7 @@
+use Rattle.std.proofs.Common.{◌≡◌, ◌<◌, ◌+◌, ◌*◌, ℕ, get_or, pos}
+use Rattle.m2v_idct.specs.Forward.{at}
+use Rattle.m2v_idct.specs.Inverse.{clip, column}
+use Rattle.m2v_idct.proofs.inverse_dct.transform_columns.Given as goal
+
+abbrev pub invariant-loop-x : goal.invariant-loop-x
+invariant-loop-x l = (y x : ℕ) → y < 8 → x < l.x → get_or l.out (8 * y + x) (pos 0) ≡ clip (get_or (column (λ k. at l.rows k x)) y (pos 0))

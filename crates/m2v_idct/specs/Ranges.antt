@@ -1,0 +1,14 @@
+-- The ranges of Annex A of ISO/IEC 13818-2: samples on one side of the transforms, coefficients on the other.
+use Rattle.std.specs.Prelude.{ℕ, ℤ, pos, neg_ℤ, ◌≤ℤ◌}
+
+-- a sample or a difference of samples, of nine bits
+abbrev pub IsSample : ℤ → Type 0
+IsSample z = (neg_ℤ (pos 256) ≤ℤ z) × (z ≤ℤ pos 255)
+
+-- a coefficient, of twelve bits
+abbrev pub IsCoefficient : ℤ → Type 0
+IsCoefficient z = (neg_ℤ (pos 2048) ≤ℤ z) × (z ≤ℤ pos 2047)
+
+-- z lies from -n to n
+abbrev pub Within : ℕ → ℤ → Type 0
+Within n z = (neg_ℤ (pos n) ≤ℤ z) × (z ≤ℤ pos n)

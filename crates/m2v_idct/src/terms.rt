@@ -1,0 +1,170 @@
+ghost use Rattle.std.specs.Prelude.{◌≡◌, All, ◌+ℤ◌, ◌-ℤ◌, ◌*ℤ◌, ◌≤ℤ◌, pos, slice_index_or};
+ghost use Rattle.m2v_idct.specs.Inverse.{eighth};
+ghost use Rattle.m2v_idct.specs.Ranges.{Within};
+
+use crate::combine::Terms;
+
+// The terms of a row of coefficients.
+#[inline(always)]
+pub fn row_terms(b: &[i32; 8]) -> Terms
+    requires { All (Within 2048) b.now }
+    ensures a1 { result.a1 ≡ pos 2841 *ℤ slice_index_or b.now 1 (pos 0) +ℤ pos 565 *ℤ slice_index_or b.now 7 (pos 0) }
+    ensures a7 { result.a7 ≡ pos 565 *ℤ slice_index_or b.now 1 (pos 0) -ℤ pos 2841 *ℤ slice_index_or b.now 7 (pos 0) }
+    ensures a5 { result.a5 ≡ pos 2408 *ℤ slice_index_or b.now 3 (pos 0) +ℤ pos 1609 *ℤ slice_index_or b.now 5 (pos 0) }
+    ensures a3 { result.a3 ≡ pos 2408 *ℤ slice_index_or b.now 5 (pos 0) -ℤ pos 1609 *ℤ slice_index_or b.now 3 (pos 0) }
+    ensures e2 { result.e2 ≡ pos 2676 *ℤ slice_index_or b.now 2 (pos 0) +ℤ pos 1108 *ℤ slice_index_or b.now 6 (pos 0) }
+    ensures e6 { result.e6 ≡ pos 1108 *ℤ slice_index_or b.now 2 (pos 0) -ℤ pos 2676 *ℤ slice_index_or b.now 6 (pos 0) }
+    ensures p { result.p ≡ pos 2048 *ℤ (slice_index_or b.now 0 (pos 0) +ℤ slice_index_or b.now 4 (pos 0)) +ℤ pos 128 }
+    ensures m { result.m ≡ pos 2048 *ℤ (slice_index_or b.now 0 (pos 0) -ℤ slice_index_or b.now 4 (pos 0)) +ℤ pos 128 }
+{
+    Terms {
+        a1: one_plus(b[1], b[7]),
+        a7: one_minus(b[1], b[7]),
+        a5: three_plus(b[3], b[5]),
+        a3: three_minus(b[5], b[3]),
+        e2: two_plus(b[2], b[6]),
+        e6: two_minus(b[2], b[6]),
+        p: row_sum(b[0], b[4]),
+        m: row_difference(b[0], b[4]),
+    }
+}
+
+// The terms of a column of what the rows leave.
+#[inline(always)]
+pub fn column_terms(c: &[i32; 8]) -> Terms
+    requires { All (Within 160000) c.now }
+    ensures a1 { result.a1 ≡ eighth (pos 2841 *ℤ slice_index_or c.now 1 (pos 0) +ℤ pos 565 *ℤ slice_index_or c.now 7 (pos 0)) }
+    ensures a7 { result.a7 ≡ eighth (pos 565 *ℤ slice_index_or c.now 1 (pos 0) -ℤ pos 2841 *ℤ slice_index_or c.now 7 (pos 0)) }
+    ensures a5 { result.a5 ≡ eighth (pos 2408 *ℤ slice_index_or c.now 3 (pos 0) +ℤ pos 1609 *ℤ slice_index_or c.now 5 (pos 0)) }
+    ensures a3 { result.a3 ≡ eighth (pos 2408 *ℤ slice_index_or c.now 5 (pos 0) -ℤ pos 1609 *ℤ slice_index_or c.now 3 (pos 0)) }
+    ensures e2 { result.e2 ≡ eighth (pos 2676 *ℤ slice_index_or c.now 2 (pos 0) +ℤ pos 1108 *ℤ slice_index_or c.now 6 (pos 0)) }
+    ensures e6 { result.e6 ≡ eighth (pos 1108 *ℤ slice_index_or c.now 2 (pos 0) -ℤ pos 2676 *ℤ slice_index_or c.now 6 (pos 0)) }
+    ensures p { result.p ≡ pos 256 *ℤ (slice_index_or c.now 0 (pos 0) +ℤ slice_index_or c.now 4 (pos 0)) +ℤ pos 8192 }
+    ensures m { result.m ≡ pos 256 *ℤ (slice_index_or c.now 0 (pos 0) -ℤ slice_index_or c.now 4 (pos 0)) +ℤ pos 8192 }
+    ensures a1_within { Within 82000000 result.a1 }
+    ensures a7_within { Within 82000000 result.a7 }
+    ensures a5_within { Within 82000000 result.a5 }
+    ensures a3_within { Within 82000000 result.a3 }
+    ensures e2_within { Within 82000000 result.e2 }
+    ensures e6_within { Within 82000000 result.e6 }
+    ensures p_within { Within 82000000 result.p }
+    ensures m_within { Within 82000000 result.m }
+{
+    Terms {
+        a1: eighth_of(one_plus(c[1], c[7])),
+        a7: eighth_of(one_minus(c[1], c[7])),
+        a5: eighth_of(three_plus(c[3], c[5])),
+        a3: eighth_of(three_minus(c[5], c[3])),
+        e2: eighth_of(two_plus(c[2], c[6])),
+        e6: eighth_of(two_minus(c[2], c[6])),
+        p: column_sum(c[0], c[4]),
+        m: column_difference(c[0], c[4]),
+    }
+}
+
+#[inline(always)]
+fn one_plus(x: i32, y: i32) -> i32
+    requires x { Within 160000 x }
+    requires y { Within 160000 y }
+    ensures value { result ≡ pos 2841 *ℤ x +ℤ pos 565 *ℤ y }
+    ensures within { Within 650000000 result }
+{
+    2841 * x + 565 * y
+}
+
+#[inline(always)]
+fn one_minus(x: i32, y: i32) -> i32
+    requires x { Within 160000 x }
+    requires y { Within 160000 y }
+    ensures value { result ≡ pos 565 *ℤ x -ℤ pos 2841 *ℤ y }
+    ensures within { Within 650000000 result }
+{
+    565 * x - 2841 * y
+}
+
+#[inline(always)]
+fn three_plus(x: i32, y: i32) -> i32
+    requires x { Within 160000 x }
+    requires y { Within 160000 y }
+    ensures value { result ≡ pos 2408 *ℤ x +ℤ pos 1609 *ℤ y }
+    ensures within { Within 650000000 result }
+{
+    2408 * x + 1609 * y
+}
+
+#[inline(always)]
+fn three_minus(x: i32, y: i32) -> i32
+    requires x { Within 160000 x }
+    requires y { Within 160000 y }
+    ensures value { result ≡ pos 2408 *ℤ x -ℤ pos 1609 *ℤ y }
+    ensures within { Within 650000000 result }
+{
+    2408 * x - 1609 * y
+}
+
+#[inline(always)]
+fn two_plus(x: i32, y: i32) -> i32
+    requires x { Within 160000 x }
+    requires y { Within 160000 y }
+    ensures value { result ≡ pos 2676 *ℤ x +ℤ pos 1108 *ℤ y }
+    ensures within { Within 650000000 result }
+{
+    2676 * x + 1108 * y
+}
+
+#[inline(always)]
+fn two_minus(x: i32, y: i32) -> i32
+    requires x { Within 160000 x }
+    requires y { Within 160000 y }
+    ensures value { result ≡ pos 1108 *ℤ x -ℤ pos 2676 *ℤ y }
+    ensures within { Within 650000000 result }
+{
+    1108 * x - 2676 * y
+}
+
+#[inline(always)]
+fn eighth_of(t: i32) -> i32
+    requires { Within 650000000 t }
+    ensures value { result ≡ eighth t }
+    ensures within { Within 82000000 result }
+{
+    (t + 4) >> 3
+}
+
+#[inline(always)]
+fn row_sum(x: i32, y: i32) -> i32
+    requires x { Within 2048 x }
+    requires y { Within 2048 y }
+    ensures { result ≡ pos 2048 *ℤ (x +ℤ y) +ℤ pos 128 }
+{
+    2048 * (x + y) + 128
+}
+
+#[inline(always)]
+fn row_difference(x: i32, y: i32) -> i32
+    requires x { Within 2048 x }
+    requires y { Within 2048 y }
+    ensures { result ≡ pos 2048 *ℤ (x -ℤ y) +ℤ pos 128 }
+{
+    2048 * (x - y) + 128
+}
+
+#[inline(always)]
+fn column_sum(x: i32, y: i32) -> i32
+    requires x { Within 160000 x }
+    requires y { Within 160000 y }
+    ensures value { result ≡ pos 256 *ℤ (x +ℤ y) +ℤ pos 8192 }
+    ensures within { Within 82000000 result }
+{
+    256 * (x + y) + 8192
+}
+
+#[inline(always)]
+fn column_difference(x: i32, y: i32) -> i32
+    requires x { Within 160000 x }
+    requires y { Within 160000 y }
+    ensures value { result ≡ pos 256 *ℤ (x -ℤ y) +ℤ pos 8192 }
+    ensures within { Within 82000000 result }
+{
+    256 * (x - y) + 8192
+}
