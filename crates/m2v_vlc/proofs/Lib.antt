@@ -1,0 +1,4 @@
+pub mod CodeLaws
+pub mod LookupLaws
+pub mod ValueLaws
+pub mod Increments
