@@ -1,14 +1,13 @@
 -- The laws of code tables, once for all of them.
-use Rattle.std.proofs.Common.{◌≡◌, ℕ, zero, suc, ◌+◌, ◌-◌, ◌/◌, ◌^◌, ◌<◌, ◌≤◌, Bool, true, false, cond, eqb, leb, ltb, List, [], ◌∷◌, ◌++◌, length, take, drop, Option, Some, None, ◌⊎◌, inl, inr, refl, sym, ap, subst, ◌∙◌, arith}
+use Rattle.std.proofs.Common.{◌≡◌, ℕ, ◌+◌, ◌-◌, ◌/◌, ◌^◌, ◌<◌, ◌≤◌, Bool, true, false, eqb, leb, ltb, List, [], ◌∷◌, ◌++◌, length, take, drop, Option, Some, None, ◌⊎◌, inl, inr, refl, sym, ap, subst, ◌∙◌, arith}
 use Rattle.std.specs.Prelude.{◌&&◌, not}
-use Rattle.std.proofs.lemmas.Bool.{cases_lt, cases_Bool, eqb-true, eqb-false, eq-eqb, leb-true, leb-false, le-leb, lt-leb, ltb-true, and_parts, and_from, and_left, and_right, cond-true, cond-false, both_ways, false_from_ne_true, not-true}
+use Rattle.std.proofs.lemmas.Bool.{cases_Bool, eq-eqb, leb-true, leb-false, ltb-true, and_parts, cond-true, cond-false, both_ways, false_from_ne_true, not-true}
 use Rattle.std.proofs.lemmas.List.{length-append, length-take, take_at, drop_at, take-append-drop}
 use Rattle.std.proofs.lemmas.Nat.{shr_high, shr-shr}
 use Rattle.std.proofs.Math.Nat.{mod-eq_of_lt}
-use Rattle.m2v_bits.specs.Bits.{bits_of, number, ahead}
-use Rattle.m2v_bits.specs.Syntax.{Syntax, Spells}
+use Rattle.m2v_bits.specs.Bits.{number}
+use Rattle.m2v_bits.specs.Syntax.{Spells}
 use Rattle.m2v_bits.proofs.Bits.{length-bits_of, number-bits_of, number-append, number_below, same_bits}
-use Rattle.m2v_bits.proofs.Cursor.{length-ahead, ahead-add, ahead_take}
 use Rattle.m2v_bits.proofs.SyntaxLaws.{Lawful, Takes, Strict, good, bad, good_is}
 use Rattle.m2v_vlc.specs.Codes.{Row, code, In, code_of, begins, row_at, is_cut, by_row, code_at, is_code, apart, apart_all, is_free, is_within, is_other, is_single}
 

@@ -1,8 +1,8 @@
 -- Table B.1 and its look-ups, checked by computing.
-use Rattle.std.proofs.Common.{◌≡◌, ℕ, zero, suc, ◌+◌, ◌-◌, ◌<◌, ◌≤◌, Bool, true, false, cond, ltb, leb, List, [], ◌∷◌, ◌++◌, length, get_or, ◌⊎◌, inl, inr, refl, sym, ap, ◌∙◌, arith}
+use Rattle.std.proofs.Common.{◌≡◌, ℕ, zero, suc, ◌-◌, ◌<◌, ◌≤◌, Bool, true, ltb, leb, List, [], ◌++◌, length, get_or, refl, sym, ap, ◌∙◌, arith}
 use Rattle.std.specs.Prelude.{◌&&◌}
 use Rattle.std.specs.List.{list_all}
-use Rattle.std.proofs.lemmas.Bool.{and_parts, ltb-true, leb-true, lt-ltb, le-leb}
+use Rattle.std.proofs.lemmas.Bool.{and_parts, ltb-true, leb-true}
 use Rattle.m2v_bits.specs.Bits.{bits_of, number, ahead}
 use Rattle.m2v_bits.specs.Syntax.{Spells}
 use Rattle.m2v_bits.proofs.SyntaxLaws.{Strict}
@@ -13,8 +13,8 @@ use Rattle.m2v_vlc.specs.Lookups.{rows_of, IsTable, Points, code_in}
 use Rattle.m2v_vlc.specs.declared.values.Increment.{Increment}
 use Rattle.m2v_vlc.specs.declared.values.Increment.TheVariants.{Step, Escape}
 use Rattle.m2v_vlc.specs.declared.increment_rows.TheConstants.{INCREMENT_ROWS, INCREMENT_AT}
-use Rattle.m2v_vlc.proofs.CodeLaws.{code_strict, code_of_row, code_of_none, one_row, length_within, code_spells, spelled_once}
-use Rattle.m2v_vlc.proofs.LookupLaws.{stands_at, holds, points_flat}
+use Rattle.m2v_vlc.proofs.CodeLaws.{code_strict, code_of_none, one_row, length_within, code_spells, spelled_once}
+use Rattle.m2v_vlc.proofs.LookupLaws.{holds, points_flat}
 use Rattle.m2v_vlc.proofs.ValueLaws.{increment_sound, increment_reflexive, all_in, below, agree}
 
 pub increment_rows : rows_of INCREMENT_ROWS ≡ increment

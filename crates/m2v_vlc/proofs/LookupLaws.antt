@@ -1,18 +1,18 @@
 -- What the look-ups of a program say of a table.
-use Rattle.std.proofs.Common.{◌≡◌, ℕ, zero, suc, ◌+◌, ◌-◌, ◌/◌, ◌^◌, ◌<◌, ◌≤◌, Bool, true, false, cond, eqb, leb, ltb, List, [], ◌∷◌, ◌++◌, length, get_or, map, take, drop, Option, Some, None, ◌⊎◌, inl, inr, refl, sym, ap, subst, ◌∙◌, zero-add, arith}
-use Rattle.std.specs.Prelude.{◌&&◌, not, slice_get}
-use Rattle.std.specs.List.{list_any, list_all}
-use Rattle.std.proofs.lemmas.Bool.{cases_lt, cases_Bool, eqb-true, eq-eqb, eqb-false, leb-true, ltb-true, ltb-false, le-leb, lt-leb, lt-ltb, le-ltb, and_parts, and_from, and_left, and_right, cond-true, cond-false, both_ways, false_from_ne_true}
-use Rattle.std.proofs.lemmas.List.{length-append, length-take, take_all, take_at, drop_at, take-append-drop, get_or_past}
+use Rattle.std.proofs.Common.{◌≡◌, ℕ, zero, suc, ◌+◌, ◌-◌, ◌/◌, ◌^◌, ◌<◌, ◌≤◌, Bool, true, false, cond, eqb, leb, ltb, List, [], ◌∷◌, ◌++◌, length, get_or, take, drop, Option, Some, None, inl, inr, refl, sym, ap, subst, ◌∙◌, zero-add, arith}
+use Rattle.std.specs.Prelude.{◌&&◌, slice_get}
+use Rattle.std.specs.List.{list_any}
+use Rattle.std.proofs.lemmas.Bool.{cases_lt, cases_Bool, eqb-true, eqb-false, leb-true, le-leb, lt-leb, lt-ltb, and_parts, and_from, and_left, and_right, false_from_ne_true}
+use Rattle.std.proofs.lemmas.List.{length-take, take_all, take_at}
 use Rattle.std.proofs.lemmas.Nat.{shr_high, shr-shr, shr_below}
 use Rattle.std.proofs.Math.Nat.{mod-eq_of_lt, pow-le-pow_right}
 use Rattle.m2v_bits.specs.Bits.{bits_of, number, ahead}
 use Rattle.m2v_bits.proofs.Bits.{length-bits_of, number-bits_of, number-append, number_below, same_bits}
 use Rattle.m2v_bits.proofs.Cursor.{length-ahead, ahead-add, ahead_take}
 use Rattle.m2v_bits.proofs.SyntaxLaws.{good, bad}
-use Rattle.m2v_vlc.specs.Codes.{Row, row, code, In, begins, row_at, is_cut, by_row, code_at, is_code, apart, apart_all, is_free, is_within, code_of}
+use Rattle.m2v_vlc.specs.Codes.{Row, row, code, In, begins, row_at, is_cut, by_row, code_at, is_code, apart_all, is_free, is_within}
 use Rattle.m2v_vlc.specs.Lookups.{rows_of, IsTable, Points, code_in, is_behind}
-use Rattle.m2v_vlc.proofs.CodeLaws.{begins_own, begins_parts, begins_front, begins_enough, begins_by, begins_short, front_number, begins_number, number_begins, code_parts, free_parts, free_in, within_in, apart_in, not_both, row_here, row_found, row_none, some_is}
+use Rattle.m2v_vlc.proofs.CodeLaws.{begins_front, begins_enough, begins_by, begins_short, front_number, begins_number, code_parts, free_parts, free_in, within_in, apart_in, not_both, row_here, row_found, row_none, some_is}
 
 -- ---- the rows of a program's list
 
@@ -94,9 +94,9 @@ pub reads_none : {V K : Type 0} (cut none : K) (t : List (Row V)) (i : ℕ) (bs 
 unfolding code_at
 reads_none {V} cut none t i bs is at long =
     let nothing : row_at t bs ≡ None = row_none t bs (λ r j e.
-      let there = row_here t r (ahead 17 bs) is.free j (begins_ahead r bs (within_in 17 t r is.within j) e) in
-      let short = long r (sym at ∙ there) in
-      absurd (omega (arith, short, begins_enough (code r) bs e, length-bits_of r.len r.number))) in
+    let there = row_here t r (ahead 17 bs) is.free j (begins_ahead r bs (within_in 17 t r is.within j) e) in
+    let short = long r (sym at ∙ there) in
+    absurd (omega (arith, short, begins_enough (code r) bs e, length-bits_of r.len r.number))) in
     rw nothing (by_cut cut none (is_cut t bs) bs)
 
 -- ---- codes that begin with all that is left

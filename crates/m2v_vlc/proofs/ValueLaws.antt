@@ -1,13 +1,11 @@
 -- When the tests on values hold, and what is known of each value that is read.
-use Rattle.std.proofs.Common.{◌≡◌, ℕ, zero, suc, ◌+◌, ◌*◌, ◌/◌, ◌%◌, ◌<◌, ◌≤◌, Bool, true, false, cond, eqb, ltb, leb, List, [], ◌∷◌, ◌++◌, length, Ok, Err, Result, rules, ◌⊎◌, inl, inr, refl, sym, ap, subst, ◌∙◌, arith}
-use Rattle.std.specs.Prelude.{◌&&◌, IfOk}
+use Rattle.std.proofs.Common.{◌≡◌, ℕ, zero, suc, ◌<◌, Bool, true, false, List, [], ◌∷◌, Ok, Err, Result, rules, inl, inr, refl, sym, ap, subst, arith}
+use Rattle.std.specs.Prelude.{IfOk}
 use Rattle.std.specs.List.{list_all}
 use Rattle.std.proofs.lemmas.Bool.{cases_lt, eqb-true, eq-eqb, and_parts}
-use Rattle.m2v_bits.specs.Syntax.{Syntax, Gives}
-use Rattle.m2v_bits.proofs.SyntaxLaws.{good, bad}
-use Rattle.m2v_vlc.specs.Codes.{Row, In, code_at, is_free, code_of}
-use Rattle.m2v_vlc.specs.Values.{same_number, same_increment}
-use Rattle.m2v_vlc.specs.declared.values.Increment.{Increment}
+use Rattle.m2v_bits.specs.Syntax.{Gives}
+use Rattle.m2v_vlc.specs.Codes.{Row, In, code_at, is_free}
+use Rattle.m2v_vlc.specs.Values.{same_number, same_increment, same_flag, same_type}
 use Rattle.m2v_vlc.specs.declared.values.Increment.TheVariants.{Step, Escape}
 use Rattle.m2v_vlc.proofs.CodeLaws.{Sound, Reflexive, code_lawful}
 
@@ -29,6 +27,31 @@ unfolding same_increment
 increment_reflexive (Step a) = eq-eqb a a refl
 increment_reflexive Escape = refl
 
+flag_sound : (a b : Bool) → same_flag a b ≡ true → a ≡ b
+flag_sound true b e = sym e
+flag_sound false true e = absurd cc
+flag_sound false false e = refl
+
+flag_reflexive : (a : Bool) → same_flag a a ≡ true
+flag_reflexive true = refl
+flag_reflexive false = refl
+
+pub type_sound : Sound same_type
+type_sound a b e =
+    let h = and_parts (same_flag a.quant b.quant) _ e in
+    let i = and_parts (same_flag a.forward b.forward) _ h.1 in
+    let j = and_parts (same_flag a.backward b.backward) _ i.1 in
+    let k = and_parts (same_flag a.pattern b.pattern) (same_flag a.intra b.intra) j.1 in
+    let q = flag_sound a.quant b.quant h.0 in
+    let f = flag_sound a.forward b.forward i.0 in
+    let c = flag_sound a.backward b.backward j.0 in
+    let p = flag_sound a.pattern b.pattern k.0 in
+    let n = flag_sound a.intra b.intra k.1 in
+    λ x. record { quant = q x; forward = f x; backward = c x; pattern = p x; intra = n x }
+
+pub type_reflexive : Reflexive same_type
+type_reflexive a = rw (flag_reflexive a.quant, flag_reflexive a.forward, flag_reflexive a.backward, flag_reflexive a.pattern, flag_reflexive a.intra) refl
+
 -- ---- what holds of each row's value holds of a value that is read
 
 pub all_in : {V : Type 0} (test : V → Bool) (t : List (Row V)) (r : Row V) → list_all (λ s. test s.value) t ≡ true → In t r → test r.value ≡ true
@@ -42,6 +65,10 @@ pub in_range : {V K : Type 0} (P : V → Type 0) (test : V → Bool) (cut none :
 unfolding code_at
 in_range {V} P test cut none t bs rest (Ok v) free all p gives = let st = (code_lawful cut none t free).found v bs rest gives in p v (subst (λ (x : V). test x ≡ true) st.2 (all_in test t st.0 all st.1))
 in_range P test cut none t bs rest (Err e) free all p gives = search rules
+
+-- what is read by a program's rows is read by their table
+pub gives_same : {V K : Type 0} (cut none : K) (s t : List (Row V)) (result : Result V K) (rest bs : List Bool) → s ≡ t → Gives result rest ((code_at cut none s).read bs) → Gives result rest ((code_at cut none t).read bs)
+gives_same {V} cut none s t result rest bs e gives = subst (λ (x : List (Row V)). Gives result rest ((code_at cut none x).read bs)) e gives
 
 -- ---- two functions that agree below n, by computing
 

@@ -1,6 +1,7 @@
 -- What a program's look-ups say of a table.
-use Rattle.std.specs.Prelude.{◌≡◌, ℕ, ◌-◌, ◌/◌, ◌^◌, Bool, true, ◌&&◌, nat_le, nat_eq, List, [], map, length, slice_get, slice_index_or}
-use Rattle.m2v_bits.specs.Bits.{ahead}
+use Rattle.std.specs.Prelude.{◌≡◌, ℕ, ◌-◌, ◌/◌, ◌^◌, Bool, true, ◌&&◌, nat_le, nat_eq, List, [], map, slice_get, slice_index_or}
+use Rattle.m2v_bits.specs.Bits.{bits_of, ahead}
+use Rattle.m2v_vlc.specs.declared.rows.Code.{Code}
 use Rattle.m2v_vlc.specs.Codes.{Row, row, code, row_at, is_free, is_within}
 
 -- the rows of a program's list of values and codes
@@ -20,6 +21,10 @@ Points t i bs = row_at t (ahead 17 bs) ≡ slice_get t i
 -- the code of the row at i, nothing past the table
 abbrev pub code_in : {V : Type 0} → List (Row V) → ℕ → List Bool
 code_in t i = slice_index_or (map code t) i []
+
+-- the bits of a code of the program's
+abbrev pub spelled : Code → List Bool
+spelled c = bits_of c.len c.number
 
 -- the code x of len bits, 17 at most, begins with the number p of left bits
 abbrev pub is_behind : ℕ → ℕ → ℕ → ℕ → Bool

@@ -1,5 +1,5 @@
 -- The values of the code tables, and whether two are the same.
-use Rattle.std.specs.Prelude.{ℕ, ◌<◌, ◌≤◌, Bool, true, false, cond, ◌&&◌, nat_eq, ℤ, pos, negsuc}
+use Rattle.std.specs.Prelude.{ℕ, ◌+◌, ◌<◌, ◌≤◌, Bool, true, false, cond, ◌&&◌, nat_eq}
 use Rattle.m2v_vlc.specs.declared.values.Increment.{Increment}
 use Rattle.m2v_vlc.specs.declared.values.Increment.TheVariants.{Step, Escape}
 use Rattle.m2v_vlc.specs.declared.values.MbType.{MbType}
@@ -29,3 +29,7 @@ same_type a b = same_flag a.quant b.quant && (same_flag a.forward b.forward && (
 -- the columns of tables B.2 to B.4: quant, motion forward, motion backward, pattern, intra
 abbrev pub kind : ℕ → ℕ → ℕ → ℕ → ℕ → MbType
 kind quant forward backward pattern intra = record { quant = nat_eq quant 1; forward = nat_eq forward 1; backward = nat_eq backward 1; pattern = nat_eq pattern 1; intra = nat_eq intra 1 }
+
+-- the flags of a type as one number
+abbrev pub flags : MbType → ℕ
+flags v = cond v.quant 16 0 + cond v.forward 8 0 + cond v.backward 4 0 + cond v.pattern 2 0 + cond v.intra 1 0

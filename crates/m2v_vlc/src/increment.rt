@@ -1,12 +1,12 @@
-ghost use Rattle.std.specs.Prelude.{◌≡◌, ◌+◌, ◌<◌, ◌≤◌, ◌++◌, length, OnErr, IfOk};
+ghost use Rattle.std.specs.Prelude.{◌≡◌, ◌+◌, ◌^◌, ◌<◌, ◌≤◌, ◌++◌, length, OnErr, IfOk};
 ghost use Rattle.m2v_bits.specs.Syntax.{Gives};
 ghost use Rattle.m2v_vlc.specs.Codes.{code_at};
-ghost use Rattle.m2v_vlc.specs.Lookups.{code_in};
+ghost use Rattle.m2v_vlc.specs.Lookups.{code_in, spelled};
 ghost use Rattle.m2v_vlc.specs.Tables.{increment, increment_code};
 ghost use Rattle.m2v_vlc.specs.Values.{IsIncrement};
 
 use crate::increment_rows::{INCREMENT_AT, INCREMENT_ROWS};
-use crate::rows::{at, read_row, row_bits, write_row};
+use crate::rows::{Code, at, bits_of_code, put_code, read_row, row_code};
 use crate::values::{CodeFault, Increment};
 use m2v_bits::{BitReader, BitWriter};
 
@@ -16,15 +16,19 @@ fn increment_row(value: Increment) -> u8
     ensures { code_in increment result ≡ increment_code value }
 {
     match value {
-        Increment::Step(n) => {
-            if n == 0 || n > 33 {
-                255
-            } else {
-                n - 1
-            }
-        }
+        Increment::Step(n) => { if n == 0 || n > 33 { 255 } else { n - 1 } }
         Increment::Escape => 33,
     }
+}
+
+/// The code of the value in table B.1, of no bits where there is none.
+#[inline(always)]
+fn increment_of(value: Increment) -> Code
+    ensures spelled { spelled result ≡ increment_code value }
+    ensures width { result.len ≤ 17 }
+    ensures fits { result.number < 2 ^ result.len }
+{
+    row_code(&INCREMENT_ROWS, increment_row(value))
 }
 
 /// Reads a macroblock_address_increment or a macroblock_escape (clause 6.3.17, table B.1): a step is from 1 to 33.
@@ -49,7 +53,7 @@ pub fn write_increment(value: Increment, out: &mut BitWriter)
     ensures written { out.new.written ≡ out.old.written ++ increment_code value }
     ensures room { out.new.room + length (increment_code value) ≡ out.old.room }
 {
-    write_row(&INCREMENT_ROWS, increment_row(value), out);
+    put_code(increment_of(value), out);
 }
 
 /// How many bits the code of an increment has, 0 where table B.1 has none.
@@ -57,5 +61,5 @@ pub fn write_increment(value: Increment, out: &mut BitWriter)
 pub fn bits_increment(value: Increment) -> u32
     ensures { result ≡ length (increment_code value) }
 {
-    row_bits(&INCREMENT_ROWS, increment_row(value))
+    bits_of_code(increment_of(value))
 }

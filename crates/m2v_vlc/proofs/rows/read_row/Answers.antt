@@ -1,4 +1,4 @@
-use Rattle.std.proofs.Common.{arith, ◌≡◌, ◌<◌, ◌≤◌, ◌∙◌, None, length, refl, sym, ap}
+use Rattle.std.proofs.Common.{arith, ◌≡◌, ◌∙◌, length, sym, ap}
 use Rattle.m2v_bits.specs.Bits.{Unread}
 use Rattle.m2v_bits.proofs.SyntaxLaws.{good, bad}
 use Rattle.m2v_vlc.specs.Codes.{row}
