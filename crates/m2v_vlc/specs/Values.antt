@@ -1,0 +1,35 @@
+-- The values of the code tables, and whether two are the same.
+use Rattle.std.specs.Prelude.{ℕ, ◌+◌, ◌<◌, ◌≤◌, Bool, true, false, cond, ◌&&◌, nat_eq}
+use Rattle.m2v_vlc.specs.declared.values.Increment.{Increment}
+use Rattle.m2v_vlc.specs.declared.values.Increment.TheVariants.{Step, Escape}
+use Rattle.m2v_vlc.specs.declared.values.MbType.{MbType}
+
+abbrev pub same_number : ℕ → ℕ → Bool
+same_number a b = nat_eq a b
+
+abbrev pub same_flag : Bool → Bool → Bool
+same_flag true b = b
+same_flag false true = false
+same_flag false false = true
+
+unfoldable pub same_increment : Increment → Increment → Bool
+same_increment (Step a) (Step b) = nat_eq a b
+same_increment (Step a) Escape = false
+same_increment Escape (Step b) = false
+same_increment Escape Escape = true
+
+-- a step has a code from 1 to 33, and the escape has one
+abbrev pub IsIncrement : Increment → Type 0
+IsIncrement (Step n) = (0 < n) × (n ≤ 33)
+IsIncrement Escape = Unit {0}
+
+abbrev pub same_type : MbType → MbType → Bool
+same_type a b = same_flag a.quant b.quant && (same_flag a.forward b.forward && (same_flag a.backward b.backward && (same_flag a.pattern b.pattern && same_flag a.intra b.intra)))
+
+-- the columns of tables B.2 to B.4: quant, motion forward, motion backward, pattern, intra
+abbrev pub kind : ℕ → ℕ → ℕ → ℕ → ℕ → MbType
+kind quant forward backward pattern intra = record { quant = nat_eq quant 1; forward = nat_eq forward 1; backward = nat_eq backward 1; pattern = nat_eq pattern 1; intra = nat_eq intra 1 }
+
+-- the flags of a type as one number
+abbrev pub flags : MbType → ℕ
+flags v = cond v.quant 16 0 + cond v.forward 8 0 + cond v.backward 4 0 + cond v.pattern 2 0 + cond v.intra 1 0

@@ -1,0 +1,32 @@
+/// Why no code could be read.
+#[derive(Clone, Copy, Debug, PartialEq, Eq)]
+pub enum CodeFault {
+    /// The bits end inside a code.
+    Truncated,
+    /// The bits are no code's, nor the front of one.
+    NoCode,
+}
+
+/// What a code of an address increment stands for (clause 6.3.17, table B.1).
+#[derive(Clone, Copy, Debug, PartialEq, Eq)]
+pub enum Increment {
+    /// From 1 to 33 macroblocks on.
+    Step(u8),
+    /// 33 macroblocks more than the increment that follows.
+    Escape,
+}
+
+/// The type of a macroblock (clause 6.3.17.1, tables B.2 to B.4).
+#[derive(Clone, Copy, Debug, PartialEq, Eq)]
+pub struct MbType {
+    /// A quantiser code follows.
+    pub quant: bool,
+    /// It has forward vectors.
+    pub forward: bool,
+    /// It has backward vectors.
+    pub backward: bool,
+    /// A coded block pattern follows.
+    pub pattern: bool,
+    /// It is intra coded.
+    pub intra: bool,
+}
