@@ -1,0 +1,31 @@
+-- The numbers of DC differences.
+use Rattle.std.proofs.Common.{◌≡◌, ℕ, ◌+◌, ◌-◌, ◌*◌, ◌%◌, ◌^◌, ◌<◌, ◌≤◌, ℤ, pos, negsuc, ◌<ℤ◌, ◌≤ℤ◌, zero, suc, Bool, true, false, Option, Some, inl, inr, refl, ap, sym, ◌∙◌, arith}
+use Rattle.std.specs.Prelude.{unsigned_abs, find, unwrap_or, ◌==◌, ◌/◌}
+use Rattle.std.specs.List.{range_with_len}
+use Rattle.std.proofs.lemmas.Int.{ints}
+use Rattle.std.proofs.lemmas.Bool.{eq-eqb, ne_eqb, cases_lt}
+use Rattle.m2v_block.specs.Dc.{number_of, size_of}
+
+pub negative_number : (size power r : ℕ) (d : ℤ) → d <ℤ pos 0 → power ≡ 2 ^ size → r ≡ unsigned_abs d → power - 1 - r ≡ number_of size d
+unfolding number_of
+negative_number size power r (pos n) lt e is = absurd (omega (arith, ints))
+negative_number size power r (negsuc n) lt e is = rw (e, is) refl
+
+pub positive_number : (size r : ℕ) (d : ℤ) → pos 0 ≤ℤ d → r ≡ unsigned_abs d → r ≡ number_of size d
+unfolding number_of
+positive_number size r (pos n) le is = is
+positive_number size r (negsuc n) le is = absurd (omega (arith, ints))
+
+find_least : (p : ℕ → Bool) (a n r : ℕ) → a ≤ r → r < a + n → ((k : ℕ) → a ≤ k → k < r → p k ≡ false) → p r ≡ true → find p (range_with_len a n) ≡ Some r
+find_least p a zero r le lt none is = absurd (omega arith)
+find_least p a (suc n) r le lt none is = elim (cases_lt a r) [
+  | inl below ↦ rw (none a (omega arith) below) (find_least p (a + 1) n r (omega arith) (omega arith) (λ k from to. none k (omega arith) to) is)
+  | inr above ↦ let same : a ≡ r = omega arith in rw same (rw is refl)
+]
+
+-- the least size of a magnitude
+pub least_size : (magnitude r : ℕ) → r < 12 → ((k : ℕ) → k < r → magnitude / 2 ^ k ≡ 0 → ⊥) → magnitude / 2 ^ r ≡ 0 → r ≡ size_of magnitude
+unfolding size_of
+least_size magnitude r lt none is =
+    let found = find_least (λ s. magnitude / 2 ^ s == 0) 0 12 r (omega arith) (omega arith) (λ k from to. ne_eqb (magnitude / 2 ^ k) 0 (none k to)) (eq-eqb (magnitude / 2 ^ r) 0 is) in
+    sym (ap (λ (o : Option ℕ). unwrap_or o 12) found)
