@@ -1,10 +1,14 @@
 -- The numbers of DC differences.
-use Rattle.std.proofs.Common.{◌≡◌, ℕ, ◌+◌, ◌-◌, ◌*◌, ◌%◌, ◌^◌, ◌<◌, ◌≤◌, ℤ, pos, negsuc, ◌<ℤ◌, ◌≤ℤ◌, zero, suc, Bool, true, false, Option, Some, inl, inr, refl, ap, sym, ◌∙◌, arith}
+use Rattle.std.proofs.Common.{◌≡◌, ℕ, ◌+◌, ◌-◌, ◌*◌, ◌%◌, ◌^◌, ◌<◌, ◌≤◌, ℤ, pos, negsuc, ◌<ℤ◌, ◌≤ℤ◌, zero, suc, Bool, true, false, Option, Some, inl, inr, length, ◌++◌, refl, ap, sym, ◌∙◌, arith}
 use Rattle.std.specs.Prelude.{unsigned_abs, find, unwrap_or, ◌==◌, ◌/◌}
 use Rattle.std.specs.List.{range_with_len}
 use Rattle.std.proofs.lemmas.Int.{ints}
-use Rattle.std.proofs.lemmas.Bool.{eq-eqb, ne_eqb, cases_lt}
-use Rattle.m2v_block.specs.Dc.{number_of, size_of}
+use Rattle.std.proofs.lemmas.Bool.{eq-eqb, ne_eqb, cases_lt, cases_Bool}
+use Rattle.m2v_block.specs.Dc.{number_of, size_of, size_code, dc_text}
+use Rattle.std.proofs.lemmas.List.{length-append}
+use Rattle.m2v_bits.specs.Bits.{bits_of}
+use Rattle.m2v_bits.proofs.Bits.{length-bits_of}
+use Rattle.m2v_vlc.proofs.Sizes.{dc_luma_length, dc_chroma_length}
 
 pub negative_number : (size power r : ℕ) (d : ℤ) → d <ℤ pos 0 → power ≡ 2 ^ size → r ≡ unsigned_abs d → power - 1 - r ≡ number_of size d
 unfolding number_of
@@ -29,3 +33,26 @@ unfolding size_of
 least_size magnitude r lt none is =
     let found = find_least (λ s. magnitude / 2 ^ s == 0) 0 12 r (omega arith) (omega arith) (λ k from to. ne_eqb (magnitude / 2 ^ k) 0 (none k to)) (eq-eqb (magnitude / 2 ^ r) 0 is) in
     sym (ap (λ (o : Option ℕ). unwrap_or o 12) found)
+
+within_range : (p : ℕ → Bool) (a n end : ℕ) → a + n ≡ end → unwrap_or (find p (range_with_len a n)) end ≤ end
+within_range p a zero end e = omega arith
+within_range p a (suc n) end e = elim (cases_Bool (p a)) [
+    | inl on ↦ rw on (omega arith)
+    | inr off ↦ rw off (within_range p (a + 1) n end (omega arith))
+  ]
+
+pub size_most : (magnitude : ℕ) → size_of magnitude ≤ 12
+unfolding size_of
+size_most magnitude = within_range (λ s. magnitude / 2 ^ s == 0) 0 12 12 (omega arith)
+
+code_most : (luma : Bool) (size : ℕ) → length (size_code luma size) ≤ 10
+unfolding size_code
+code_most true size = omega (arith, dc_luma_length size)
+code_most false size = dc_chroma_length size
+
+-- the most bits that a DC difference takes
+pub dc_length : (luma : Bool) (d : ℤ) → length (dc_text luma d) ≤ 22
+unfolding dc_text
+dc_length luma d =
+    let size = size_of (unsigned_abs d) in
+    omega (arith, length-append (size_code luma size) (bits_of size (number_of size d)), length-bits_of size (number_of size d), code_most luma size, size_most (unsigned_abs d))

@@ -1,0 +1,2 @@
+-- What the flat profile answers.
+use Rattle.std.specs.Prelude.{ℕ}
