@@ -1,6 +1,9 @@
 //! The encoder. Today: the flat profile, for one frame of 16 by 16 samples.
 #![tactic(auto)]
 
+mod answer;
 mod blocks;
 mod flat;
 mod units;
+
+pub use answer::{EncodeError, Summary};
