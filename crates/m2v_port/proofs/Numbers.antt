@@ -1,5 +1,5 @@
 -- The numbers of calls that fail, and how many of them are still to come.
-use Rattle.std.proofs.Common.{◌≡◌, ℕ, ◌+◌, ◌-◌, ◌^◌, min, ◌<◌, ◌≤◌, Bool, true, false, cond, ◌||◌, List, [], ◌∷◌, get_or, refl, sym, ◌∙◌, ap, arith, add-one, Fits, w64, nat_lt, ◌==◌}
+use Rattle.std.proofs.Common.{◌≡◌, ℕ, ◌+◌, ◌-◌, ◌^◌, min, ◌<◌, ◌≤◌, Bool, true, false, cond, ◌||◌, List, [], ◌∷◌, get_or, refl, ◌∙◌, ap, arith, add-one, Fits, w64, nat_lt, ◌==◌}
 use Rattle.std.specs.List.{count_by, list_any}
 use Rattle.std.proofs.lemmas.List.Sums.{sum_by-cons}
 use Rattle.m2v_port.specs.Memory.{Calls, after_call}

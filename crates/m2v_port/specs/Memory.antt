@@ -1,5 +1,5 @@
 -- Endpoints in memory.
-use Rattle.std.specs.Prelude.{◌≡◌, ℕ, ◌+◌, ◌-◌, ◌^◌, min, Bool, List, [], if◌then◌else◌, ◌==◌, Option}
+use Rattle.std.specs.Prelude.{ℕ, ◌+◌, ◌-◌, ◌^◌, min, Bool, List, if◌then◌else◌, ◌==◌, Option}
 use Rattle.std.specs.List.{list_any}
 
 -- The calls of an endpoint: the numbers, from 1, of those that fail, how many were made, and how many of them failed.

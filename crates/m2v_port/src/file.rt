@@ -1,4 +1,4 @@
-// A new file of the system: a trusted edge, as the standard streams.
+// A new file of the system: a trusted edge, as the standard streams. It tells neither its bytes nor its name.
 ghost use Rattle.std.specs.Prelude.{◌≡◌, false, None};
 
 use crate::real::fault;

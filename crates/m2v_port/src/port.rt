@@ -12,8 +12,9 @@ pub trait Source {
     /// How often the source has failed: a count that never falls.
     ghost faults: { Self → ℕ };
 
-    /// Moves bytes from the front of what is left to the front of the buffer, and answers how many.
-    /// What stands in the buffer behind them, and in all of it after an error, is left open.
+    /// Moves bytes from the front of what is left to the front of the buffer, and answers how many. After an
+    /// error, be it a fault or want of memory, nothing was moved. What stands in the buffer behind the moved
+    /// bytes, and in all of it after an error, is left open.
     fn read(&mut self, buf: &mut [u8]) -> Result<usize, PortError>
         ensures within { IfOk result (λ n. n ≤ length buf.old) }
         ensures moved { IfOk result (λ n. Moves (left self.old) (take n buf.new) (left self.new)) }
@@ -40,7 +41,7 @@ pub trait Sink {
     /// Its name, where the sink tells one.
     ghost name: { Self → Option (List ℕ) };
 
-    /// Appends the piece.
+    /// Appends the piece. After an error, be it a fault or want of memory, a prefix of the piece was appended.
     fn put(&mut self, piece: &[u8]) -> Result<(), PortError>
         requires { IsTrue (ready self.old) }
         ensures ok { OnOk result (Grows (held self.old) piece.now (held self.new)) }
@@ -53,7 +54,8 @@ pub trait Sink {
 
 /// A sink that is given a name before it is ready.
 pub trait NamedSink: Sink {
-    /// Gives the sink its name and makes it ready. It never changes what the sink holds.
+    /// Gives the sink its name and makes it ready. It never changes what the sink holds, and after an error the
+    /// sink is as it was but for its count.
     fn open(&mut self, name: &str) -> Result<(), PortError>
         requires { IsFalse (Self.ready self.old) }
         ensures ok { OnOk result (IsTrue (Self.ready self.new)) }

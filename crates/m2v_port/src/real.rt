@@ -1,4 +1,5 @@
-// The standard streams: a trusted edge. They tell nothing of the bytes that pass, and count their faults.
+// The standard streams: a trusted edge. No clause can say which bytes the system gives or takes, so these tell
+// nothing of them, and a body that moves none would meet the contracts too. The tests look at that.
 ghost use Rattle.std.specs.Prelude.{◌≡◌, ◌≤◌, length, IfOk, true, None};
 ghost use Rattle.m2v_port.specs.Port.{Rose};
 

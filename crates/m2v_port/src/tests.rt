@@ -4,6 +4,8 @@ ghost use Rattle.m2v_port.specs.Port.{Rose, Moves, IsAtEnd, Grows, GrowsByPrefix
 
 use super::*;
 use std::alloc::Global;
+use std::cell::Cell;
+use std::fmt::Display;
 use std::io::Read;
 use std::test::Fail;
 use std::{fs, io, process};
@@ -162,6 +164,45 @@ fn an_interrupted_read_is_tried_again(rt: HostRuntime) {
     let mut input = StdSource::new(Fitful { calls: 0 });
     let want = [Ok(1), Ok(1), Err(PortError::Failed)];
     assert_eq!(rt; three_reads(&mut input), want);
+}
+
+// Counts the bytes that it is given. Its second call breaks.
+#[derive(Drop)]
+struct Counter {
+    calls: Cell<u8>,
+    bytes: Cell<usize>,
+}
+
+impl Print for Counter {
+    fn print<D: Display + Drop>(&self, _value: D) -> io::Result<()> {
+        Ok(())
+    }
+
+    fn println<D: Display + Drop>(&self, _value: D) -> io::Result<()> {
+        Ok(())
+    }
+
+    fn write_all(&self, bytes: &[u8]) -> io::Result<()> {
+        self.calls.set(self.calls.get().saturating_add(1));
+        if self.calls.get() == 2 {
+            return Err(io::Error::from(io::ErrorKind::BrokenPipe));
+        }
+        self.bytes.set(self.bytes.get().saturating_add(bytes.len()));
+        Ok(())
+    }
+}
+
+#[test]
+fn a_put_that_breaks_is_a_fault(rt: HostRuntime) {
+    let counter = Counter {
+        calls: Cell::new(0),
+        bytes: Cell::new(0),
+    };
+    let mut output = StdSink::new(&counter);
+    assert_eq!(rt; output.put(b"abcd"), Ok(()));
+    assert_eq!(rt; output.put(b"ef"), Err(PortError::Failed));
+    assert_eq!(rt; output.put(b"g"), Ok(()));
+    assert_eq!(rt; counter.bytes.get(), 5);
 }
 
 #[test]

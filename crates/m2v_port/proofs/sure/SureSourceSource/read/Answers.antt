@@ -1,4 +1,4 @@
-use Rattle.std.proofs.Common.{List, ℕ, ◌+◌, ◌-◌, ◌∙◌, sym, ap, take, drop, arith}
+use Rattle.std.proofs.Common.{◌+◌, ◌-◌, ◌∙◌, sym, ap, take, drop, arith}
 use Rattle.m2v_port.proofs.Bytes.{taken}
 use Rattle.m2v_port.proofs.sure.SureSourceSource.read.Goals as goal
 
