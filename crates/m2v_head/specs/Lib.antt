@@ -1,2 +1,4 @@
 pub mod Texts
 pub mod Fits
+pub mod Elements
+pub mod Headers

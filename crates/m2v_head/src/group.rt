@@ -1,9 +1,13 @@
-ghost use Rattle.std.specs.Prelude.{◌≡◌, ◌+◌, ◌≤◌, ◌++◌, length};
+ghost use Rattle.std.specs.Prelude.{◌≡◌, ◌+◌, ◌≤◌, ◌++◌, length, IfOk};
+ghost use Rattle.m2v_bits.specs.Syntax.{Gives};
 ghost use Rattle.m2v_head.specs.Fits.{GroupFits};
 ghost use Rattle.m2v_head.specs.Texts.{group_text};
+ghost use Rattle.m2v_head.specs.Headers.{group_at};
 
+use crate::fault::HeadFault;
+use crate::reading::{flag, marker, number};
 use crate::writing::put_flag;
-use m2v_bits::BitWriter;
+use m2v_bits::{BitReader, BitWriter};
 
 /// A group of pictures header without its start code (clause 6.2.2.6): a time code in hours, minutes, seconds and
 /// pictures, and whether the first B frames need the group before.
@@ -35,5 +39,30 @@ impl GroupInfo {
         out.put(self.pictures as u32, 6);
         put_flag(out, self.closed_gop);
         put_flag(out, self.broken_link);
+    }
+    /// Reads a header. Where an element breaks a rule, the reader stays at it: `Truncated` or `BadMarker`.
+    #[tactic(auto, unfolding(crate::specs::Headers::group_at, m2v_bits::specs::Syntax::seq, m2v_bits::specs::Syntax::bind, m2v_bits::specs::Syntax::done))]
+    pub fn read(input: &mut BitReader) -> Result<Self, HeadFault>
+        ensures exact { Gives result input.new.rest (group_at.read input.old.rest) }
+        ensures fits { IfOk result GroupFits }
+        ensures text { input.new.text ≡ input.old.text }
+    {
+        let drop = flag(input)?;
+        let hours = number(input, 5)? as u8;
+        let minutes = number(input, 6)? as u8;
+        marker(input)?;
+        let seconds = number(input, 6)? as u8;
+        let pictures = number(input, 6)? as u8;
+        let closed_gop = flag(input)?;
+        let broken_link = flag(input)?;
+        Ok(GroupInfo {
+            drop,
+            hours,
+            minutes,
+            seconds,
+            pictures,
+            closed_gop,
+            broken_link,
+        })
     }
 }

@@ -5,6 +5,7 @@ mod fault;
 mod group;
 mod matrix;
 mod picture;
+mod reading;
 mod sequence;
 mod slice;
 mod writing;

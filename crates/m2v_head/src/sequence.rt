@@ -1,9 +1,13 @@
-ghost use Rattle.std.specs.Prelude.{◌≡◌, ◌+◌, ◌≤◌, ◌++◌, length};
+ghost use Rattle.std.specs.Prelude.{◌≡◌, ◌+◌, ◌<◌, ◌≤◌, ◌^◌, ◌++◌, length, IfOk};
+ghost use Rattle.m2v_bits.specs.Syntax.{Gives};
 ghost use Rattle.m2v_head.specs.Fits.{SequenceFits, SequenceExtensionFits};
 ghost use Rattle.m2v_head.specs.Texts.{sequence_text, sequence_extension_text, rates_text};
+ghost use Rattle.m2v_head.specs.Headers.{chroma_format_at, sequence_extension_at};
 
+use crate::fault::HeadFault;
+use crate::reading::{check, flag, id, marker, number};
 use crate::writing::{put_flag, put_loaded};
-use m2v_bits::BitWriter;
+use m2v_bits::{BitReader, BitWriter};
 
 /// A sequence header without its start code (clause 6.2.2.1).
 ///
@@ -94,4 +98,55 @@ impl SequenceExtension {
         out.put(self.rate_n as u32, 2);
         out.put(self.rate_d as u32, 5);
     }
+    /// Reads an extension, its id first. Where an element breaks a rule, the reader stays at it.
+    #[tactic(auto, unfolding(crate::specs::Headers::sequence_extension_at, m2v_bits::specs::Syntax::seq, m2v_bits::specs::Syntax::bind, m2v_bits::specs::Syntax::done))]
+    pub fn read(input: &mut BitReader) -> Result<Self, HeadFault>
+        ensures exact { Gives result input.new.rest (sequence_extension_at.read input.old.rest) }
+        ensures fits { IfOk result SequenceExtensionFits }
+        ensures text { input.new.text ≡ input.old.text }
+    {
+        id(input, 1)?;
+        let profile_and_level = number(input, 8)? as u8;
+        let progressive_sequence = flag(input)?;
+        let chroma_format = chroma_format(input)?;
+        let horizontal_ext = number(input, 2)? as u8;
+        let vertical_ext = number(input, 2)? as u8;
+        let bit_rate_ext = number(input, 12)?;
+        marker(input)?;
+        let vbv_ext = number(input, 8)? as u8;
+        let low_delay = flag(input)?;
+        let rate_n = number(input, 2)? as u8;
+        let rate_d = number(input, 5)? as u8;
+        Ok(SequenceExtension {
+            profile_and_level,
+            progressive_sequence,
+            chroma_format,
+            horizontal_ext,
+            vertical_ext,
+            bit_rate_ext,
+            vbv_ext,
+            low_delay,
+            rate_n,
+            rate_d,
+        })
+    }
+}
+
+/// Reads chroma_format, which is 1.
+#[tactic(auto, unfolding(crate::specs::Headers::chroma_format_at, m2v_bits::specs::Syntax::seq, m2v_bits::specs::Syntax::bind, m2v_bits::specs::Syntax::here, m2v_bits::specs::Syntax::done))]
+fn chroma_format(input: &mut BitReader) -> Result<u8, HeadFault>
+    ensures exact { Gives result input.new.rest (chroma_format_at.read input.old.rest) }
+    ensures value { IfOk result (λ v. v ≡ 1) }
+    ensures text { input.new.text ≡ input.old.text }
+{
+    let at = input.fork();
+    let value = number(input, 2)?;
+    check(input, &at, value != 0, HeadFault::Forbidden { field: 4 })?;
+    check(
+        input,
+        &at,
+        value == 1,
+        HeadFault::Unsupported { field: 4, value },
+    )?;
+    Ok(value as u8)
 }

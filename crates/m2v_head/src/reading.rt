@@ -1,0 +1,122 @@
+ghost use Rattle.std.specs.Prelude.{◌≡◌, ◌<◌, ◌≤◌, ◌^◌, IfOk, length, true};
+ghost use Rattle.m2v_bits.specs.Syntax.{rule, Gives};
+ghost use Rattle.m2v_head.specs.Elements.{number_at, flag_at, marker_at, id_at, some_at, information_at, pair_at, pairs_at};
+
+use crate::fault::HeadFault;
+use m2v_bits::BitReader;
+
+/// A number of n bits.
+#[inline(always)]
+#[tactic(auto, unfolding(m2v_bits::specs::Leaves::bits_at))]
+pub fn number(input: &mut BitReader, n: u8) -> Result<u32, HeadFault>
+    requires { n ≤ 32 }
+    ensures exact { Gives result input.new.rest ((number_at n).read input.old.rest) }
+    ensures below { IfOk result (λ v. v < 2 ^ n) }
+    ensures text { input.new.text ≡ input.old.text }
+{
+    match input.take(n) {
+        Some(v) => Ok(v),
+        None => Err(HeadFault::Truncated),
+    }
+}
+
+/// A rule about the element that began at `start`. Where it doesn't hold, the reader goes back there.
+#[inline(always)]
+#[tactic(auto, unfolding(m2v_bits::specs::Syntax::rule))]
+pub fn check<'a>(
+    input: &mut BitReader<'a>,
+    start: &BitReader<'a>,
+    holds: bool,
+    fault: HeadFault,
+) -> Result<(), HeadFault>
+    requires { start.now.text ≡ input.old.text }
+    ensures exact { Gives result input.new.rest ((rule holds fault (length start.now.rest)).read input.old.rest) }
+    ensures held { IfOk result (λ done. holds ≡ true) }
+    ensures text { input.new.text ≡ input.old.text }
+{
+    if holds {
+        return Ok(());
+    }
+    *input = start.fork();
+    Err(fault)
+}
+
+/// A flag.
+#[inline(always)]
+#[tactic(auto, unfolding(crate::specs::Elements::flag_at, m2v_bits::specs::Syntax::seq, m2v_bits::specs::Syntax::bind, m2v_bits::specs::Syntax::done))]
+pub fn flag(input: &mut BitReader) -> Result<bool, HeadFault>
+    ensures exact { Gives result input.new.rest (flag_at.read input.old.rest) }
+    ensures text { input.new.text ≡ input.old.text }
+{
+    let bit = number(input, 1)?;
+    Ok(bit == 1)
+}
+
+/// A marker, which is 1.
+#[tactic(auto, unfolding(crate::specs::Elements::marker_at, m2v_bits::specs::Syntax::seq, m2v_bits::specs::Syntax::bind, m2v_bits::specs::Syntax::here))]
+pub fn marker(input: &mut BitReader) -> Result<(), HeadFault>
+    ensures exact { Gives result input.new.rest (marker_at.read input.old.rest) }
+    ensures text { input.new.text ≡ input.old.text }
+{
+    let at = input.fork();
+    let bit = number(input, 1)?;
+    check(input, &at, bit == 1, HeadFault::BadMarker)
+}
+
+/// The id of an extension.
+#[tactic(auto, unfolding(crate::specs::Elements::id_at, m2v_bits::specs::Syntax::seq, m2v_bits::specs::Syntax::bind, m2v_bits::specs::Syntax::here))]
+pub fn id(input: &mut BitReader, own: u32) -> Result<(), HeadFault>
+    ensures exact { Gives result input.new.rest ((id_at own).read input.old.rest) }
+    ensures text { input.new.text ≡ input.old.text }
+{
+    let at = input.fork();
+    let id = number(input, 4)?;
+    check(input, &at, id == own, HeadFault::NoCode)
+}
+
+/// A number of n bits that isn't 0; `field` is the element's number in its header.
+#[tactic(auto, unfolding(crate::specs::Elements::some_at, m2v_bits::specs::Syntax::seq, m2v_bits::specs::Syntax::bind, m2v_bits::specs::Syntax::here, m2v_bits::specs::Syntax::done))]
+pub fn some(input: &mut BitReader, field: u8, n: u8) -> Result<u32, HeadFault>
+    requires { n ≤ 32 }
+    ensures exact { Gives result input.new.rest ((some_at field n).read input.old.rest) }
+    ensures below { IfOk result (λ v. v < 2 ^ n) }
+    ensures some { IfOk result (λ v. 1 ≤ v) }
+    ensures text { input.new.text ≡ input.old.text }
+{
+    let at = input.fork();
+    let v = number(input, n)?;
+    check(input, &at, v != 0, HeadFault::Forbidden { field })?;
+    Ok(v)
+}
+
+/// The eight bits of extra information behind a 1.
+#[tactic(auto, unfolding(crate::specs::Elements::information_at, m2v_bits::specs::Syntax::seq, m2v_bits::specs::Syntax::bind, m2v_bits::specs::Syntax::done))]
+fn information(input: &mut BitReader) -> Result<(bool, ()), HeadFault>
+    ensures exact { Gives result input.new.rest (information_at.read input.old.rest) }
+    ensures text { input.new.text ≡ input.old.text }
+{
+    number(input, 8)?;
+    Ok((true, ()))
+}
+
+/// A 1 and eight bits, or the 0 behind the last of them. Whether it was a pair.
+#[tactic(auto, unfolding(crate::specs::Elements::pair_at, m2v_bits::specs::Syntax::seq, m2v_bits::specs::Syntax::bind, m2v_bits::specs::Syntax::choose, m2v_bits::specs::Syntax::done))]
+fn pair(input: &mut BitReader) -> Result<(bool, ()), HeadFault>
+    ensures exact { Gives result input.new.rest ((pair_at tt).read input.old.rest) }
+    ensures text { input.new.text ≡ input.old.text }
+{
+    let more = flag(input)?;
+    if more {
+        return information(input);
+    }
+    Ok((false, ()))
+}
+
+/// Passes over pairs of a 1 and eight bits, and the closing 0.
+pub fn pairs(input: &mut BitReader) -> Result<(), HeadFault>
+    ensures exact { Gives result input.new.rest (pairs_at.read input.old.rest) }
+    ensures text { input.new.text ≡ input.old.text }
+{
+    while pair(input)?.0 {}
+    Ok(())
+}
