@@ -1,6 +1,6 @@
 -- The headers that have a spelling: each number fits its bits and isn't one that a reader refuses, and what a header
 -- doesn't have is 0, false or None.
-use Rattle.std.specs.Prelude.{ℕ, ◌≡◌, ◌≢◌, ◌<◌, ◌≤◌, ◌^◌, Bool, false, List, length, All, Option, Some, None, IfSome, IfNone}
+use Rattle.std.specs.Prelude.{ℕ, ◌≡◌, ◌≢◌, ◌<◌, ◌≤◌, ◌^◌, Bool, false, List, [], ◌∷◌, length, All, Option, Some, None, IfSome, IfNone}
 use Rattle.m2v_head.specs.declared.sequence.SequenceInfo.{SequenceInfo}
 use Rattle.m2v_head.specs.declared.sequence.SequenceExtension.{SequenceExtension}
 use Rattle.m2v_head.specs.declared.group.GroupInfo.{GroupInfo}
@@ -51,11 +51,16 @@ pub record PictureFits (p : PictureInfo) : Type 0 where
   pub forward : p.kind ≡ 1 → (p.full_pel_forward ≡ false) × (p.forward_f_code ≡ 0)
   pub backward : p.kind ≢ 3 → (p.full_pel_backward ≡ false) × (p.backward_f_code ≡ 0)
 
+-- two directions of two components, each of four bits
+pub record AreFCodes (f_code : List (List ℕ)) : Type 0 where
+  pub shape : f_code ≡ (f_code_of f_code 0 0 ∷ f_code_of f_code 0 1 ∷ []) ∷ (f_code_of f_code 1 0 ∷ f_code_of f_code 1 1 ∷ []) ∷ []
+  pub forward_horizontal : f_code_of f_code 0 0 < 2 ^ 4
+  pub forward_vertical : f_code_of f_code 0 1 < 2 ^ 4
+  pub backward_horizontal : f_code_of f_code 1 0 < 2 ^ 4
+  pub backward_vertical : f_code_of f_code 1 1 < 2 ^ 4
+
 pub record PictureExtensionFits (p : PictureExtension) : Type 0 where
-  pub forward_horizontal : f_code_of p 0 0 < 2 ^ 4
-  pub forward_vertical : f_code_of p 0 1 < 2 ^ 4
-  pub backward_horizontal : f_code_of p 1 0 < 2 ^ 4
-  pub backward_vertical : f_code_of p 1 1 < 2 ^ 4
+  pub f_code : AreFCodes p.f_code
   pub dc_precision : p.dc_precision < 2 ^ 2
   pub structure : (1 ≤ p.structure) × (p.structure ≤ 3)
   pub composite : IfSome p.composite (λ display. display < 2 ^ 20)

@@ -91,15 +91,15 @@ picture_text p =
     ⧺ flag false
 
 -- the f_code of a direction (0 forward, 1 backward) and a component (0 horizontal, 1 vertical)
-abbrev pub f_code_of : PictureExtension → ℕ → ℕ → ℕ
-f_code_of p direction component = slice_index (slice_index_or p.f_code direction []) component
+abbrev pub f_code_of : List (List ℕ) → ℕ → ℕ → ℕ
+f_code_of f_code direction component = slice_index (slice_index_or f_code direction []) component
 
-abbrev pub f_codes_text : PictureExtension → List Bool
-f_codes_text p =
-    bits_of 4 (f_code_of p 0 0)
-    ⧺ bits_of 4 (f_code_of p 0 1)
-    ⧺ bits_of 4 (f_code_of p 1 0)
-    ⧺ bits_of 4 (f_code_of p 1 1)
+abbrev pub f_codes_text : List (List ℕ) → List Bool
+f_codes_text f_code =
+    bits_of 4 (f_code_of f_code 0 0)
+    ⧺ bits_of 4 (f_code_of f_code 0 1)
+    ⧺ bits_of 4 (f_code_of f_code 1 0)
+    ⧺ bits_of 4 (f_code_of f_code 1 1)
 
 -- the flag of composite_display_flag, and where it is set the 20 bits behind it
 unfoldable pub composite_text : Option ℕ → List Bool
@@ -123,7 +123,7 @@ flags_text p =
 unfoldable pub picture_extension_text : PictureExtension → List Bool
 picture_extension_text p =
     bits_of 4 8
-    ⧺ f_codes_text p
+    ⧺ f_codes_text p.f_code
     ⧺ bits_of 2 p.dc_precision
     ⧺ bits_of 2 p.structure
     ⧺ flags_text p
