@@ -1,7 +1,9 @@
 -- The elements of which headers are made, each as a syntax of bits. A fault stands at the element that it is about.
-use Rattle.std.specs.Prelude.{ℕ, Bool, true, false, not, nat_eq, List, length}
+use Rattle.std.specs.Prelude.{ℕ, zero, suc, Bool, true, false, cond, not, nat_eq, List, [], ◌∷◌, length, map, slice_index, Option, Some, None}
+use Rattle.std.specs.List.{range_with_len}
 use Rattle.m2v_bits.specs.Syntax.{Syntax, done, here, rule, choose, repeated, ◌>>=◌}
 use Rattle.m2v_bits.specs.Leaves.{bits_at}
+use Rattle.m2v_quant.specs.Scans.{zigzag}
 use Rattle.m2v_head.specs.declared.fault.HeadFault.{HeadFault}
 use Rattle.m2v_head.specs.declared.fault.HeadFault.TheVariants.{NoCode, Truncated, BadMarker, Forbidden}
 
@@ -60,3 +62,33 @@ pair_at none = do
 -- extra information: pairs of a 1 and eight bits, and a 0 (clauses 6.2.3 and 6.2.4)
 unfoldable pub pairs_at : Header (Unit {0})
 pairs_at = repeated length Truncated pair_at tt
+
+-- n numbers of a matrix, none of them 0 (clause 6.3.11)
+unfoldable pub numbers_at : ℕ → ℕ → Header (List ℕ)
+numbers_at field zero = done []
+numbers_at field (suc n) = do
+  first ← some_at field 8
+  rest ← numbers_at field n
+  done (first ∷ rest)
+
+-- where p stands first in a list
+unfoldable pub position : ℕ → List ℕ → ℕ
+position p [] = 0
+position p (q ∷ qs) = cond (nat_eq p q) 0 (suc (position p qs))
+
+-- numbers in zigzag order, put in raster order (clause 7.3.1): at each raster place stands the number whose place in
+-- the scan is that one
+unfoldable pub raster : List ℕ → List ℕ
+raster numbers = map (λ p. slice_index numbers (position p zigzag)) (range_with_len 0 64)
+
+-- the 64 numbers of a matrix, which stand in zigzag order
+unfoldable pub matrix_at : ℕ → Header (Option (List ℕ))
+matrix_at field = do
+  numbers ← numbers_at field 64
+  done (Some (raster numbers))
+
+-- the flag of a matrix, and the matrix where it is set; `field` is the flag's number in its header
+unfoldable pub loaded_at : ℕ → Header (Option (List ℕ))
+loaded_at field = do
+  load ← flag_at
+  choose load (matrix_at field) (done None)

@@ -3,12 +3,39 @@
 use Rattle.std.specs.Prelude.{ℕ, Bool, true, false, not, ◌&&◌, nat_eq, nat_le, nat_lt, List, [], ◌∷◌, Option, Some, None}
 use Rattle.m2v_bits.specs.Syntax.{done, rule, choose, ◌>>=◌}
 use Rattle.m2v_head.specs.declared.fault.HeadFault.TheVariants.{Forbidden, Unsupported}
+use Rattle.m2v_head.specs.declared.sequence.SequenceInfo.{SequenceInfo}
 use Rattle.m2v_head.specs.declared.sequence.SequenceExtension.{SequenceExtension}
 use Rattle.m2v_head.specs.declared.group.GroupInfo.{GroupInfo}
 use Rattle.m2v_head.specs.declared.picture.PictureInfo.{PictureInfo}
 use Rattle.m2v_head.specs.declared.picture.PictureExtension.{PictureExtension}
+use Rattle.m2v_head.specs.declared.matrix.MatrixInfo.{MatrixInfo}
 use Rattle.m2v_head.specs.declared.slice.SliceInfo.{SliceInfo}
-use Rattle.m2v_head.specs.Elements.{Header, place, number_at, flag_at, marker_at, id_at, some_at, pairs_at}
+use Rattle.m2v_head.specs.Elements.{Header, place, number_at, flag_at, marker_at, id_at, some_at, pairs_at, loaded_at}
+
+-- clause 6.2.2.1
+unfoldable pub sequence_at : Header SequenceInfo
+sequence_at = do
+  horizontal_size ← number_at 12
+  vertical_size ← number_at 12
+  aspect ← number_at 4
+  frame_rate_code ← number_at 4
+  bit_rate ← number_at 18
+  marker ← marker_at
+  vbv_buffer_size ← number_at 10
+  constrained ← flag_at
+  load_intra ← loaded_at 9
+  load_non_intra ← loaded_at 10
+  done (record {
+    horizontal_size = horizontal_size;
+    vertical_size = vertical_size;
+    aspect = aspect;
+    frame_rate_code = frame_rate_code;
+    bit_rate = bit_rate;
+    vbv_buffer_size = vbv_buffer_size;
+    constrained = constrained;
+    load_intra = load_intra;
+    load_non_intra = load_non_intra;
+  })
 
 -- chroma_format (table 6-5): only 4:2:0 is read, and 0 is reserved
 unfoldable pub chroma_format_at : Header ℕ
@@ -156,6 +183,16 @@ picture_extension_at = do
     progressive_frame = progressive_frame;
     composite = composite;
   })
+
+-- clause 6.2.3.2
+unfoldable pub matrices_at : Header MatrixInfo
+matrices_at = do
+  id ← id_at 3
+  intra ← loaded_at 2
+  non_intra ← loaded_at 3
+  chroma_intra ← loaded_at 4
+  chroma_non_intra ← loaded_at 5
+  done (record { intra = intra; non_intra = non_intra; chroma_intra = chroma_intra; chroma_non_intra = chroma_non_intra })
 
 -- what stands behind a 1 in a slice header: intra_slice, seven reserved bits and extra information
 unfoldable pub intra_slice_at : Header (Option Bool × ℕ)

@@ -1,9 +1,11 @@
 ghost use Rattle.std.specs.Prelude.{◌≡◌, ◌<◌, ◌≤◌, ◌^◌, IfOk, length, true};
 ghost use Rattle.m2v_bits.specs.Syntax.{rule, Gives};
-ghost use Rattle.m2v_head.specs.Elements.{number_at, flag_at, marker_at, id_at, some_at, information_at, pair_at, pairs_at};
+ghost use Rattle.m2v_head.specs.Elements.{number_at, flag_at, marker_at, id_at, some_at, information_at, pair_at, pairs_at, matrix_at, loaded_at};
+ghost use Rattle.m2v_head.specs.Fits.{IsLoaded};
 
 use crate::fault::HeadFault;
 use m2v_bits::BitReader;
+use m2v_quant::scan;
 
 /// A number of n bits.
 #[inline(always)]
@@ -119,4 +121,31 @@ pub fn pairs(input: &mut BitReader) -> Result<(), HeadFault>
 {
     while pair(input)?.0 {}
     Ok(())
+}
+
+/// Reads the flag of a matrix, and the matrix where it is set; `field` is the flag's number in its header.
+#[tactic(auto, unfolding(crate::specs::Elements::loaded_at, m2v_bits::specs::Syntax::seq, m2v_bits::specs::Syntax::bind, m2v_bits::specs::Syntax::choose, m2v_bits::specs::Syntax::done))]
+pub fn loaded(input: &mut BitReader, field: u8) -> Result<Option<[u8; 64]>, HeadFault>
+    ensures exact { Gives result input.new.rest ((loaded_at field).read input.old.rest) }
+    ensures fits { IfOk result IsLoaded }
+    ensures text { input.new.text ≡ input.old.text }
+{
+    let load = flag(input)?;
+    if load {
+        return matrix(input, field);
+    }
+    Ok(None)
+}
+
+/// Reads the 64 numbers of a matrix, which stand in zigzag order.
+fn matrix(input: &mut BitReader, field: u8) -> Result<Option<[u8; 64]>, HeadFault>
+    ensures exact { Gives result input.new.rest ((matrix_at field).read input.old.rest) }
+    ensures fits { IfOk result IsLoaded }
+    ensures text { input.new.text ≡ input.old.text }
+{
+    let mut numbers = [0; 64];
+    for i in 0..64 {
+        numbers[scan(false, i) as usize] = some(input, field, 8)? as u8;
+    }
+    Ok(Some(numbers))
 }

@@ -2,10 +2,10 @@ ghost use Rattle.std.specs.Prelude.{◌≡◌, ◌+◌, ◌<◌, ◌≤◌, ◌^
 ghost use Rattle.m2v_bits.specs.Syntax.{Gives};
 ghost use Rattle.m2v_head.specs.Fits.{SequenceFits, SequenceExtensionFits};
 ghost use Rattle.m2v_head.specs.Texts.{sequence_text, sequence_extension_text, rates_text};
-ghost use Rattle.m2v_head.specs.Headers.{chroma_format_at, sequence_extension_at};
+ghost use Rattle.m2v_head.specs.Headers.{chroma_format_at, sequence_at, sequence_extension_at};
 
 use crate::fault::HeadFault;
-use crate::reading::{check, flag, id, marker, number};
+use crate::reading::{check, flag, id, loaded, marker, number};
 use crate::writing::{put_flag, put_loaded};
 use m2v_bits::{BitReader, BitWriter};
 
@@ -62,6 +62,37 @@ impl SequenceInfo {
         put_flag(out, self.constrained);
         put_loaded(out, &self.load_intra);
         put_loaded(out, &self.load_non_intra);
+    }
+
+    /// Reads a header. Where an element breaks a rule, the reader stays at it: `Truncated`, `BadMarker`, or
+    /// `Forbidden` at a number of a matrix that is 0.
+    #[tactic(auto, unfolding(crate::specs::Headers::sequence_at, m2v_bits::specs::Syntax::seq, m2v_bits::specs::Syntax::bind, m2v_bits::specs::Syntax::done))]
+    pub fn read(input: &mut BitReader) -> Result<Self, HeadFault>
+        ensures exact { Gives result input.new.rest (sequence_at.read input.old.rest) }
+        ensures fits { IfOk result SequenceFits }
+        ensures text { input.new.text ≡ input.old.text }
+    {
+        let horizontal_size = number(input, 12)?;
+        let vertical_size = number(input, 12)?;
+        let aspect = number(input, 4)? as u8;
+        let frame_rate_code = number(input, 4)? as u8;
+        let bit_rate = number(input, 18)?;
+        marker(input)?;
+        let vbv_buffer_size = number(input, 10)?;
+        let constrained = flag(input)?;
+        let load_intra = loaded(input, 9)?;
+        let load_non_intra = loaded(input, 10)?;
+        Ok(SequenceInfo {
+            horizontal_size,
+            vertical_size,
+            aspect,
+            frame_rate_code,
+            bit_rate,
+            vbv_buffer_size,
+            constrained,
+            load_intra,
+            load_non_intra,
+        })
     }
 }
 
