@@ -1,7 +1,7 @@
 -- The elements are lawful: what is read stands there, and what is refused is broken so; and what spells them.
-use Rattle.std.proofs.Common.{◌≡◌, ◌≢◌, ℕ, ◌<◌, ◌≤◌, ◌^◌, Bool, true, false, List, [], ◌∷◌, ◌++◌, length, refl, sym, ap, subst, arith}
+use Rattle.std.proofs.Common.{◌≡◌, ◌≢◌, ℕ, zero, suc, ◌<◌, ◌≤◌, ◌^◌, Bool, true, false, List, [], ◌∷◌, ◌++◌, length, refl, sym, ap, subst, arith}
 use Rattle.std.specs.Prelude.{not, nat_eq}
-use Rattle.std.proofs.lemmas.Bool.{eq-eqb}
+use Rattle.std.proofs.lemmas.Bool.{eq-eqb, ne_eqb}
 use Rattle.std.proofs.lemmas.List.{append-nil}
 use Rattle.m2v_bits.specs.Bits.{bits_of}
 use Rattle.m2v_bits.specs.Syntax.{Syntax, done, seq, rule, choose, repeated, Rounds, last, Spells}
@@ -121,6 +121,10 @@ marker_spells = same_spells bit_true (here_spells length _ tt (bits_of 1 1) (λ 
 pub id_spells : (own : ℕ) → own < 2 ^ 4 → Spells (id_at own) tt (bits_of 4 own)
 unfolding id_at
 id_spells own below = here_spells length _ tt (bits_of 4 own) (λ at. held_spells own (λ id. nat_eq id own) NoCode at (bits_of 4 own) (eq-eqb own own refl) (number_spells 4 own below))
+
+pub some_of : (v : ℕ) → 1 ≤ v → not (nat_eq v 0) ≡ true
+some_of zero le = absurd (omega arith)
+some_of (suc v) le = ap not (ne_eqb (suc v) 0 (λ e. omega arith))
 
 pub some_spells : (field n v : ℕ) → v < 2 ^ n → not (nat_eq v 0) ≡ true → Spells (some_at field n) v (bits_of n v)
 unfolding some_at

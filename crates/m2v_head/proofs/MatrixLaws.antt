@@ -2,7 +2,7 @@
 use Rattle.std.proofs.Common.{◌≡◌, ◌≢◌, ℕ, zero, suc, ◌+◌, ◌-◌, ◌<◌, ◌≤◌, ◌^◌, Bool, true, false, cond, ltb, eqb, List, [], ◌∷◌, ◌++◌, length, map, take, set, get_or, Option, Some, None, Result, Ok, Err, inl, inr, refl, sym, ap, subst, ◌∙◌, arith, append_assoc}
 use Rattle.std.specs.Prelude.{slice_index, nat_eq, nat_lt, nat_le, not, ◌&&◌, All}
 use Rattle.std.specs.List.{range_with_len, list_all}
-use Rattle.std.proofs.lemmas.Bool.{ltb-true, eqb-true, ne_eqb, and_parts, cases_Bool, both_ways}
+use Rattle.std.proofs.lemmas.Bool.{ltb-true, eqb-true, and_parts, cases_Bool, both_ways}
 use Rattle.std.proofs.lemmas.List.{length-append, length-map, length-take, append-nil, map-append, take_more, take_all, get_or-map, get_or-take, get_or-set_same, get_or-set_other, same_lists}
 use Rattle.std.proofs.lemmas.List.Elements.{All-cons, All-head, All-tail, All-nil, All-map, All-get_or, All-from_get_or}
 use Rattle.std.proofs.lemmas.List.Folds.{list_all_at}
@@ -17,7 +17,7 @@ use Rattle.m2v_head.specs.declared.fault.HeadFault.{HeadFault}
 use Rattle.m2v_head.specs.Texts.{flag, matrix_text, loaded_text}
 use Rattle.m2v_head.specs.Fits.{IsLoaded}
 use Rattle.m2v_head.specs.Elements.{Header, number_at, flag_at, some_at, numbers_at, position, raster, matrix_at, loaded_at}
-use Rattle.m2v_head.proofs.ElementLaws.{flag_strict, some_strict, flag_spells, some_spells, last_spells, whole_spells, same_spells}
+use Rattle.m2v_head.proofs.ElementLaws.{flag_strict, some_strict, flag_spells, some_of, some_spells, last_spells, whole_spells, same_spells}
 
 -- ---- the syntax is lawful
 
@@ -189,10 +189,6 @@ matrix_fits field m t rest e =
     rw (st.3.0) (raster_fits st.0 fit.0 fit.1)
 
 -- ---- what spells a matrix
-
-some_of : (v : ℕ) → 1 ≤ v → not (nat_eq v 0) ≡ true
-some_of zero le = absurd (omega arith)
-some_of (suc v) le = ap not (ne_eqb (suc v) 0 (λ e. omega arith))
 
 numbers_spells : (field n : ℕ) (xs : List ℕ) → length xs ≡ n → All IsNumber xs → Spells (numbers_at field n) xs (bits xs)
 unfolding numbers_at

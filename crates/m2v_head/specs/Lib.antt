@@ -2,3 +2,4 @@ pub mod Texts
 pub mod Fits
 pub mod Elements
 pub mod Headers
+pub mod Decided

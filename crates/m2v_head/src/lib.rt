@@ -3,6 +3,7 @@
 
 mod fault;
 mod group;
+mod laws;
 mod matrix;
 mod picture;
 mod reading;
@@ -12,6 +13,7 @@ mod writing;
 
 pub use fault::HeadFault;
 pub use group::GroupInfo;
+pub use laws::{law_one_value, law_round_trip};
 pub use matrix::MatrixInfo;
 pub use picture::{PictureExtension, PictureInfo};
 pub use sequence::{SequenceExtension, SequenceInfo};
