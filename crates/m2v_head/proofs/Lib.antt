@@ -4,3 +4,4 @@ pub mod MatrixLaws
 pub mod HeaderLaws
 pub mod Spellings
 pub mod Decisions
+pub mod Lengths
