@@ -101,3 +101,11 @@ slice_length s none = slice_rest s ∙ rw none (omega (arith, untold_length s.re
 
 pub slice_most : (s : SliceInfo) → length (slice_text s) ≤ 15
 slice_most s = omega (arith, slice_rest s, intra_slice_most s.intra_slice s.reserved)
+
+-- ---- room enough
+
+pub sequence_most : (s : SequenceInfo) → length (sequence_text s) ≤ 1088
+sequence_most s = omega (arith, sequence_length s, loaded_most s.load_intra, loaded_most s.load_non_intra)
+
+pub matrices_most : (m : MatrixInfo) → length (matrices_text m) ≤ 2056
+matrices_most m = omega (arith, matrices_length m, loaded_most m.intra, loaded_most m.non_intra, loaded_most m.chroma_intra, loaded_most m.chroma_non_intra)

@@ -18,3 +18,6 @@ pub use matrix::MatrixInfo;
 pub use picture::{PictureExtension, PictureInfo};
 pub use sequence::{SequenceExtension, SequenceInfo};
 pub use slice::SliceInfo;
+
+#[cfg(test)]
+mod tests;
