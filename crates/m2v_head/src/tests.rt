@@ -3,39 +3,86 @@ use crate::{
     SequenceInfo, SliceInfo,
 };
 use m2v_bits::{BitReader, BitWriter};
-use std::alloc::AllocError;
+use std::alloc::{AllocError, Global};
 
-/// Reads a header, then writes it with what is left of its last byte behind it.
-macro_rules! both_ways {
-    ($rt:ident, $out:ident, $header:ident, $row:ident) => {{
-        let (bytes, bits, value) = $row;
-        assert!($rt; bytes.len() < 100);
-        let mut input = BitReader::new(bytes);
-        let read = $header::read(&mut input);
-        assert_eq!($rt; read, Ok(value));
-        assert_eq!($rt; input.place(), bits);
-        $out.clear();
-        assert!($rt; $out.room() >= 2400);
-        if let Ok(header) = read {
-            header.write(&mut $out);
+/// Whether bytes are read as a value, up to its last bit, and are what is written of it, with what is left of the last
+/// byte behind it.
+macro_rules! is_both_ways {
+    ($header:ident, $alloc:ident, $bytes:ident, $bits:ident, $value:ident) => {{
+        if $bytes.len() > 100 {
+            return Ok(false);
         }
+        let mut input = BitReader::new($bytes);
+        let Ok(header) = $header::read(&mut input) else {
+            return Ok(false);
+        };
+        let mut out = BitWriter::over(vec![in $alloc; 0u8; 320]?);
+        header.write(&mut out);
         let left = input.left().min(7) as u8;
-        assert!($rt; $out.room() >= 7);
-        $out.put(input.peek(left), left);
-        assert!($rt; $out.bit_len() % 8 == 0);
-        assert!($rt; $out.bytes() == bytes);
+        out.put(input.peek(left), left);
+        let same = header == $value && input.place() == $bits;
+        Ok(same && out.bit_len() % 8 == 0 && out.bytes() == $bytes)
     }};
 }
 
-/// Reads a header that is refused: the fault, and how many bits stand before it.
-macro_rules! refused {
-    ($rt:ident, $header:ident, $row:ident) => {{
-        let (bytes, fault, place) = $row;
-        assert!($rt; bytes.len() < 100);
-        let mut input = BitReader::new(bytes);
-        assert_eq!($rt; $header::read(&mut input), Err(fault), "at {place}");
-        assert_eq!($rt; input.place(), place);
-    }};
+#[tactic(auto, using(crate::proofs::Lengths::sequence_most))]
+fn is_sequence(
+    alloc: Global,
+    bytes: &[u8],
+    bits: u64,
+    value: SequenceInfo,
+) -> Result<bool, AllocError> {
+    is_both_ways!(SequenceInfo, alloc, bytes, bits, value)
+}
+
+#[tactic(auto, using(crate::proofs::Lengths::sequence_extension_length))]
+fn is_sequence_extension(
+    alloc: Global,
+    bytes: &[u8],
+    bits: u64,
+    value: SequenceExtension,
+) -> Result<bool, AllocError> {
+    is_both_ways!(SequenceExtension, alloc, bytes, bits, value)
+}
+
+#[tactic(auto, using(crate::proofs::Lengths::group_length))]
+fn is_group(alloc: Global, bytes: &[u8], bits: u64, value: GroupInfo) -> Result<bool, AllocError> {
+    is_both_ways!(GroupInfo, alloc, bytes, bits, value)
+}
+
+#[tactic(auto, using(crate::proofs::Lengths::picture_most))]
+fn is_picture(
+    alloc: Global,
+    bytes: &[u8],
+    bits: u64,
+    value: PictureInfo,
+) -> Result<bool, AllocError> {
+    is_both_ways!(PictureInfo, alloc, bytes, bits, value)
+}
+
+#[tactic(auto, using(crate::proofs::Lengths::picture_extension_most))]
+fn is_picture_extension(
+    alloc: Global,
+    bytes: &[u8],
+    bits: u64,
+    value: PictureExtension,
+) -> Result<bool, AllocError> {
+    is_both_ways!(PictureExtension, alloc, bytes, bits, value)
+}
+
+#[tactic(auto, using(crate::proofs::Lengths::matrices_most))]
+fn is_matrices(
+    alloc: Global,
+    bytes: &[u8],
+    bits: u64,
+    value: MatrixInfo,
+) -> Result<bool, AllocError> {
+    is_both_ways!(MatrixInfo, alloc, bytes, bits, value)
+}
+
+#[tactic(auto, using(crate::proofs::Lengths::slice_most))]
+fn is_slice(alloc: Global, bytes: &[u8], bits: u64, value: SliceInfo) -> Result<bool, AllocError> {
+    is_both_ways!(SliceInfo, alloc, bytes, bits, value)
 }
 
 const SMALL: SequenceInfo = SequenceInfo {
@@ -48,6 +95,16 @@ const SMALL: SequenceInfo = SequenceInfo {
     constrained: false,
     load_intra: None,
     load_non_intra: None,
+};
+
+const INTRA: PictureInfo = PictureInfo {
+    temporal_reference: 0,
+    kind: 1,
+    vbv_delay: 65535,
+    full_pel_forward: false,
+    forward_f_code: 0,
+    full_pel_backward: false,
+    backward_f_code: 0,
 };
 
 /// The numbers 1 to 64 in raster order, as they stand in zigzag order (figure 7-2).
@@ -64,9 +121,7 @@ const RASTER_FROM_1: [u8; 64] = [
 ];
 
 #[test]
-#[tactic(auto, using(crate::proofs::Lengths::sequence_most))]
 fn sequence_headers_both_ways(rt: HostRuntime) -> Result<(), AllocError> {
-    let mut out = BitWriter::over(vec![in rt.alloc(); 0u8; 320]?);
     let slow = SequenceInfo {
         frame_rate_code: 3,
         aspect: 2,
@@ -78,68 +133,44 @@ fn sequence_headers_both_ways(rt: HostRuntime) -> Result<(), AllocError> {
         (&[0x01, 0x00, 0x10, 0x13, 0x24, 0x9F, 0x23, 0x80], 64, SMALL),
         (&[0x01, 0x00, 0x10, 0x23, 0x00, 0x19, 0x20, 0x08], 64, slow),
     ];
-    for row in rows {
-        both_ways!(rt, out, SequenceInfo, row);
+    for (bytes, bits, value) in rows {
+        assert!(rt; is_sequence(rt.alloc(), bytes, bits, value)?, "{bytes:?}");
     }
     Ok(())
 }
 
-#[test]
-fn sequence_headers_refused(rt: HostRuntime) {
-    let rows: [(&[u8], HeadFault, u64); 3] = [
-        (
-            &[0x01, 0x00, 0x10, 0x13, 0x24, 0x9F, 0x03, 0x80],
-            HeadFault::BadMarker,
-            50,
-        ),
-        (
-            &[
-                0x01, 0x00, 0x10, 0x13, 0x24, 0x9F, 0x23, 0x82, 0x02, 0x02, 0x00,
-            ],
-            HeadFault::Forbidden { field: 9 },
-            79,
-        ),
-        (
-            &[0x01, 0x00, 0x10, 0x13, 0x24, 0x9F, 0x23, 0x81, 0x05, 0x00],
-            HeadFault::Forbidden { field: 10 },
-            72,
-        ),
-    ];
-    for row in rows {
-        refused!(rt, SequenceInfo, row);
-    }
-}
-
-/// Where the elements of a sequence header begin.
-const ELEMENTS: [u64; 10] = [0, 12, 24, 28, 32, 50, 51, 61, 62, 63];
+/// Where each element of a sequence header without matrices begins and ends.
+const ELEMENTS: [(u8, u8); 10] = [
+    (0, 12),
+    (12, 24),
+    (24, 28),
+    (28, 32),
+    (32, 50),
+    (50, 51),
+    (51, 61),
+    (61, 62),
+    (62, 63),
+    (63, 64),
+];
 
 #[test]
 fn a_sequence_header_cut_at_each_bit(rt: HostRuntime) {
-    for cut in 1..64u8 {
-        let bytes = (0x0100_1013_249F_2380_u64 >> cut).to_be_bytes();
-        let mut input = BitReader::new(&bytes);
-        assert!(rt; input.left() == 64);
-        input.skip(cut);
-        assert_eq!(rt;
-            SequenceInfo::read(&mut input),
-            Err(HeadFault::Truncated),
-            "cut by {cut}"
-        );
-        let kept = 64 - u64::from(cut);
-        let mut element = 0;
-        for start in ELEMENTS {
-            if start <= kept {
-                element = start;
-            }
+    for (start, end) in ELEMENTS {
+        for kept in start.max(1)..end {
+            assert!(rt; start <= kept && kept < 64);
+            let bytes = (0x0100_1013_249F_2380_u64 >> (64 - kept)).to_be_bytes();
+            let mut input = BitReader::new(&bytes);
+            assert!(rt; input.left() == 64);
+            input.skip(64 - kept);
+            let read = SequenceInfo::read(&mut input);
+            assert_eq!(rt; read, Err(HeadFault::Truncated), "{kept} bits");
+            assert_eq!(rt; input.left(), u64::from(kept - start), "{kept} bits");
         }
-        assert_eq!(rt; input.left(), kept - element, "cut by {cut}");
     }
 }
 
 #[test]
-#[tactic(auto, using(crate::proofs::Lengths::sequence_most))]
 fn loaded_matrices_both_ways(rt: HostRuntime) -> Result<(), AllocError> {
-    let mut out = BitWriter::over(vec![in rt.alloc(); 0u8; 320]?);
     let loaded = SequenceInfo {
         load_non_intra: Some(RASTER_FROM_1),
         ..SMALL
@@ -148,16 +179,14 @@ fn loaded_matrices_both_ways(rt: HostRuntime) -> Result<(), AllocError> {
     bytes[..8].copy_from_slice(&[0x01, 0x00, 0x10, 0x13, 0x24, 0x9F, 0x23, 0x81]);
     bytes[8..].copy_from_slice(&ZIGZAG_FROM_1);
     let rows: [(&[u8], u64, SequenceInfo); 1] = [(&bytes, 576, loaded)];
-    for row in rows {
-        both_ways!(rt, out, SequenceInfo, row);
+    for (bytes, bits, value) in rows {
+        assert!(rt; is_sequence(rt.alloc(), bytes, bits, value)?, "{bytes:?}");
     }
     Ok(())
 }
 
 #[test]
-#[tactic(auto, using(crate::proofs::Lengths::matrices_most))]
 fn matrix_extensions_both_ways(rt: HostRuntime) -> Result<(), AllocError> {
-    let mut out = BitWriter::over(vec![in rt.alloc(); 0u8; 320]?);
     let none = MatrixInfo {
         intra: None,
         non_intra: None,
@@ -171,31 +200,14 @@ fn matrix_extensions_both_ways(rt: HostRuntime) -> Result<(), AllocError> {
     let mut bytes = [0x31; 65];
     bytes[1..].copy_from_slice(&ZIGZAG_FROM_1);
     let rows: [(&[u8], u64, MatrixInfo); 2] = [(&[0x30], 8, none), (&bytes, 520, loaded)];
-    for row in rows {
-        both_ways!(rt, out, MatrixInfo, row);
+    for (bytes, bits, value) in rows {
+        assert!(rt; is_matrices(rt.alloc(), bytes, bits, value)?, "{bytes:?}");
     }
     Ok(())
 }
 
 #[test]
-fn matrix_extensions_refused(rt: HostRuntime) {
-    let rows: [(&[u8], HeadFault, u64); 6] = [
-        (&[0x20], HeadFault::NoCode, 0),
-        (&[0x38, 0x00], HeadFault::Forbidden { field: 2 }, 5),
-        (&[0x34, 0x00], HeadFault::Forbidden { field: 3 }, 6),
-        (&[0x32, 0x00], HeadFault::Forbidden { field: 4 }, 7),
-        (&[0x31, 0x01, 0x00], HeadFault::Forbidden { field: 5 }, 16),
-        (&[0x31, 0x01], HeadFault::Truncated, 16),
-    ];
-    for row in rows {
-        refused!(rt, MatrixInfo, row);
-    }
-}
-
-#[test]
-#[tactic(auto, using(crate::proofs::Lengths::sequence_extension_length))]
 fn sequence_extensions_both_ways(rt: HostRuntime) -> Result<(), AllocError> {
-    let mut out = BitWriter::over(vec![in rt.alloc(); 0u8; 320]?);
     let main = SequenceExtension {
         profile_and_level: 72,
         progressive_sequence: true,
@@ -217,36 +229,17 @@ fn sequence_extensions_both_ways(rt: HostRuntime) -> Result<(), AllocError> {
         (&[0x14, 0x8A, 0x00, 0x01, 0x00, 0x00], 48, main),
         (&[0x14, 0x8A, 0x00, 0x01, 0x00, 0x9F], 48, low_delay),
     ];
-    for row in rows {
-        both_ways!(rt, out, SequenceExtension, row);
+    for (bytes, bits, value) in rows {
+        assert!(rt;
+            is_sequence_extension(rt.alloc(), bytes, bits, value)?,
+            "{bytes:?}"
+        );
     }
     Ok(())
 }
 
 #[test]
-fn sequence_extensions_refused(rt: HostRuntime) {
-    let unsupported = |value: u32| HeadFault::Unsupported { field: 4, value };
-    let rows: [(&[u8], HeadFault, u64); 6] = [
-        (&[0x24, 0x8A, 0x00, 0x01, 0x00, 0x00], HeadFault::NoCode, 0),
-        (
-            &[0x14, 0x88, 0x00, 0x01],
-            HeadFault::Forbidden { field: 4 },
-            13,
-        ),
-        (&[0x14, 0x8C, 0x00, 0x01], unsupported(2), 13),
-        (&[0x14, 0x8E, 0x00, 0x01], unsupported(3), 13),
-        (&[0x14, 0x8A, 0x00, 0x00], HeadFault::BadMarker, 31),
-        (&[0x14, 0x8A, 0x00, 0x01, 0x00], HeadFault::Truncated, 40),
-    ];
-    for row in rows {
-        refused!(rt, SequenceExtension, row);
-    }
-}
-
-#[test]
-#[tactic(auto, using(crate::proofs::Lengths::group_length))]
 fn group_headers_both_ways(rt: HostRuntime) -> Result<(), AllocError> {
-    let mut out = BitWriter::over(vec![in rt.alloc(); 0u8; 320]?);
     let closed = GroupInfo {
         drop: false,
         hours: 0,
@@ -257,37 +250,14 @@ fn group_headers_both_ways(rt: HostRuntime) -> Result<(), AllocError> {
         broken_link: false,
     };
     let rows: [(&[u8], u64, GroupInfo); 1] = [(&[0x00, 0x08, 0x00, 0x40], 27, closed)];
-    for row in rows {
-        both_ways!(rt, out, GroupInfo, row);
+    for (bytes, bits, value) in rows {
+        assert!(rt; is_group(rt.alloc(), bytes, bits, value)?, "{bytes:?}");
     }
     Ok(())
 }
 
 #[test]
-fn group_headers_refused(rt: HostRuntime) {
-    let rows: [(&[u8], HeadFault, u64); 2] = [
-        (&[0x00, 0x00, 0x00, 0x40], HeadFault::BadMarker, 12),
-        (&[0x00, 0x08, 0x00], HeadFault::Truncated, 19),
-    ];
-    for row in rows {
-        refused!(rt, GroupInfo, row);
-    }
-}
-
-const INTRA: PictureInfo = PictureInfo {
-    temporal_reference: 0,
-    kind: 1,
-    vbv_delay: 65535,
-    full_pel_forward: false,
-    forward_f_code: 0,
-    full_pel_backward: false,
-    backward_f_code: 0,
-};
-
-#[test]
-#[tactic(auto, using(crate::proofs::Lengths::picture_most))]
 fn picture_headers_both_ways(rt: HostRuntime) -> Result<(), AllocError> {
-    let mut out = BitWriter::over(vec![in rt.alloc(); 0u8; 320]?);
     let first = PictureInfo {
         vbv_delay: 27189,
         ..INTRA
@@ -304,8 +274,8 @@ fn picture_headers_both_ways(rt: HostRuntime) -> Result<(), AllocError> {
         (&[0x00, 0x0B, 0x51, 0xA8], 30, first),
         (&[0x00, 0x53, 0xB3, 0x8B, 0x80], 34, second),
     ];
-    for row in rows {
-        both_ways!(rt, out, PictureInfo, row);
+    for (bytes, bits, value) in rows {
+        assert!(rt; is_picture(rt.alloc(), bytes, bits, value)?, "{bytes:?}");
     }
     Ok(())
 }
@@ -319,27 +289,7 @@ fn a_picture_header_with_extra_pairs(rt: HostRuntime) {
 }
 
 #[test]
-fn picture_headers_refused(rt: HostRuntime) {
-    let forbidden = HeadFault::Forbidden { field: 2 };
-    let unsupported = HeadFault::Unsupported { field: 2, value: 4 };
-    let rows: [(&[u8], HeadFault, u64); 7] = [
-        (&[0x00, 0x07, 0xFF, 0xF8], forbidden, 10),
-        (&[0x00, 0x27, 0xFF, 0xF8], unsupported, 10),
-        (&[0x00, 0x2F, 0xFF, 0xF8], forbidden, 10),
-        (&[0x00, 0x37, 0xFF, 0xF8], forbidden, 10),
-        (&[0x00, 0x3F, 0xFF, 0xF8], forbidden, 10),
-        (&[0x00, 0x0F, 0xFF, 0xFC], HeadFault::Truncated, 30),
-        (&[0x00, 0x0F, 0xFF, 0xFD, 0xAA], HeadFault::Truncated, 39),
-    ];
-    for row in rows {
-        refused!(rt, PictureInfo, row);
-    }
-}
-
-#[test]
-#[tactic(auto, using(crate::proofs::Lengths::picture_extension_most))]
 fn picture_extensions_both_ways(rt: HostRuntime) -> Result<(), AllocError> {
-    let mut out = BitWriter::over(vec![in rt.alloc(); 0u8; 320]?);
     let intra = PictureExtension {
         f_code: [[15, 15], [15, 15]],
         dc_precision: 0,
@@ -368,32 +318,17 @@ fn picture_extensions_both_ways(rt: HostRuntime) -> Result<(), AllocError> {
         (&[0x82, 0x2F, 0xF3, 0x41, 0x80], 34, forward),
         (&[0x8F, 0xFF, 0xF3, 0x41, 0xC0, 0x00, 0x04], 54, composite),
     ];
-    for row in rows {
-        both_ways!(rt, out, PictureExtension, row);
+    for (bytes, bits, value) in rows {
+        assert!(rt;
+            is_picture_extension(rt.alloc(), bytes, bits, value)?,
+            "{bytes:?}"
+        );
     }
     Ok(())
 }
 
 #[test]
-fn picture_extensions_refused(rt: HostRuntime) {
-    let rows: [(&[u8], HeadFault, u64); 3] = [
-        (&[0x9F, 0xFF, 0xF3, 0x41, 0x80], HeadFault::NoCode, 0),
-        (
-            &[0x8F, 0xFF, 0xF0, 0x41, 0x80],
-            HeadFault::Forbidden { field: 7 },
-            22,
-        ),
-        (&[0x8F, 0xFF, 0xF3, 0x41, 0xC0], HeadFault::Truncated, 34),
-    ];
-    for row in rows {
-        refused!(rt, PictureExtension, row);
-    }
-}
-
-#[test]
-#[tactic(auto, using(crate::proofs::Lengths::slice_most))]
 fn slice_headers_both_ways(rt: HostRuntime) -> Result<(), AllocError> {
-    let mut out = BitWriter::over(vec![in rt.alloc(); 0u8; 320]?);
     let fine = SliceInfo {
         quantiser: 1,
         intra_slice: None,
@@ -414,20 +349,181 @@ fn slice_headers_both_ways(rt: HostRuntime) -> Result<(), AllocError> {
         (&[0x42], 6, coarse),
         (&[0x0E, 0xA8], 15, told),
     ];
-    for row in rows {
-        both_ways!(rt, out, SliceInfo, row);
+    for (bytes, bits, value) in rows {
+        assert!(rt; is_slice(rt.alloc(), bytes, bits, value)?, "{bytes:?}");
     }
     Ok(())
 }
 
+/// The header that bytes are read as.
+#[derive(Clone, Copy)]
+enum Kind {
+    Sequence,
+    SequenceExtension,
+    Group,
+    Picture,
+    PictureExtension,
+    Matrices,
+    Slice,
+}
+
+/// The fault of a header, and how many bits stand before it.
+fn refusal(kind: Kind, bytes: &[u8]) -> Option<(HeadFault, u64)> {
+    if bytes.len() > 100 {
+        return None;
+    }
+    let mut input = BitReader::new(bytes);
+    let fault = match kind {
+        Kind::Sequence => SequenceInfo::read(&mut input).err()?,
+        Kind::SequenceExtension => SequenceExtension::read(&mut input).err()?,
+        Kind::Group => GroupInfo::read(&mut input).err()?,
+        Kind::Picture => PictureInfo::read(&mut input).err()?,
+        Kind::PictureExtension => PictureExtension::read(&mut input).err()?,
+        Kind::Matrices => MatrixInfo::read(&mut input).err()?,
+        Kind::Slice => SliceInfo::read(&mut input).err()?,
+    };
+    Some((fault, input.place()))
+}
+
 #[test]
-fn slice_headers_refused(rt: HostRuntime) {
-    let rows: [(&[u8], HeadFault, u64); 3] = [
-        (&[0x03], HeadFault::Forbidden { field: 1 }, 0),
-        (&[], HeadFault::Truncated, 0),
-        (&[0x0E], HeadFault::Truncated, 7),
+fn headers_that_are_refused(rt: HostRuntime) {
+    use Kind::*;
+    let chroma = |value: u32| HeadFault::Unsupported { field: 4, value };
+    let rows: [(Kind, &[u8], HeadFault, u64); 30] = [
+        (
+            Sequence,
+            &[0x01, 0x00, 0x10, 0x13, 0x24, 0x9F, 0x03, 0x80],
+            HeadFault::BadMarker,
+            50,
+        ),
+        (
+            Sequence,
+            &[
+                0x01, 0x00, 0x10, 0x13, 0x24, 0x9F, 0x23, 0x82, 0x02, 0x02, 0x00,
+            ],
+            HeadFault::Forbidden { field: 9 },
+            79,
+        ),
+        (
+            Sequence,
+            &[0x01, 0x00, 0x10, 0x13, 0x24, 0x9F, 0x23, 0x81, 0x05, 0x00],
+            HeadFault::Forbidden { field: 10 },
+            72,
+        ),
+        (
+            SequenceExtension,
+            &[0x24, 0x8A, 0x00, 0x01, 0x00, 0x00],
+            HeadFault::NoCode,
+            0,
+        ),
+        (
+            SequenceExtension,
+            &[0x14, 0x88, 0x00, 0x01],
+            HeadFault::Forbidden { field: 4 },
+            13,
+        ),
+        (SequenceExtension, &[0x14, 0x8C, 0x00, 0x01], chroma(2), 13),
+        (SequenceExtension, &[0x14, 0x8E, 0x00, 0x01], chroma(3), 13),
+        (
+            SequenceExtension,
+            &[0x14, 0x8A, 0x00, 0x00],
+            HeadFault::BadMarker,
+            31,
+        ),
+        (
+            SequenceExtension,
+            &[0x14, 0x8A, 0x00, 0x01, 0x00],
+            HeadFault::Truncated,
+            40,
+        ),
+        (Group, &[0x00, 0x00, 0x00, 0x40], HeadFault::BadMarker, 12),
+        (Group, &[0x00, 0x08, 0x00], HeadFault::Truncated, 19),
+        (
+            Picture,
+            &[0x00, 0x07, 0xFF, 0xF8],
+            HeadFault::Forbidden { field: 2 },
+            10,
+        ),
+        (
+            Picture,
+            &[0x00, 0x27, 0xFF, 0xF8],
+            HeadFault::Unsupported { field: 2, value: 4 },
+            10,
+        ),
+        (
+            Picture,
+            &[0x00, 0x2F, 0xFF, 0xF8],
+            HeadFault::Forbidden { field: 2 },
+            10,
+        ),
+        (
+            Picture,
+            &[0x00, 0x37, 0xFF, 0xF8],
+            HeadFault::Forbidden { field: 2 },
+            10,
+        ),
+        (
+            Picture,
+            &[0x00, 0x3F, 0xFF, 0xF8],
+            HeadFault::Forbidden { field: 2 },
+            10,
+        ),
+        (Picture, &[0x00, 0x0F, 0xFF, 0xFC], HeadFault::Truncated, 30),
+        (
+            Picture,
+            &[0x00, 0x0F, 0xFF, 0xFD, 0xAA],
+            HeadFault::Truncated,
+            39,
+        ),
+        (
+            PictureExtension,
+            &[0x9F, 0xFF, 0xF3, 0x41, 0x80],
+            HeadFault::NoCode,
+            0,
+        ),
+        (
+            PictureExtension,
+            &[0x8F, 0xFF, 0xF0, 0x41, 0x80],
+            HeadFault::Forbidden { field: 7 },
+            22,
+        ),
+        (
+            PictureExtension,
+            &[0x8F, 0xFF, 0xF3, 0x41, 0xC0],
+            HeadFault::Truncated,
+            34,
+        ),
+        (Matrices, &[0x20], HeadFault::NoCode, 0),
+        (
+            Matrices,
+            &[0x38, 0x00],
+            HeadFault::Forbidden { field: 2 },
+            5,
+        ),
+        (
+            Matrices,
+            &[0x34, 0x00],
+            HeadFault::Forbidden { field: 3 },
+            6,
+        ),
+        (
+            Matrices,
+            &[0x32, 0x00],
+            HeadFault::Forbidden { field: 4 },
+            7,
+        ),
+        (
+            Matrices,
+            &[0x31, 0x01, 0x00],
+            HeadFault::Forbidden { field: 5 },
+            16,
+        ),
+        (Matrices, &[0x31, 0x01], HeadFault::Truncated, 16),
+        (Slice, &[0x03], HeadFault::Forbidden { field: 1 }, 0),
+        (Slice, &[], HeadFault::Truncated, 0),
+        (Slice, &[0x0E], HeadFault::Truncated, 7),
     ];
-    for row in rows {
-        refused!(rt, SliceInfo, row);
+    for (kind, bytes, fault, place) in rows {
+        assert_eq!(rt; refusal(kind, bytes), Some((fault, place)), "{bytes:?}");
     }
 }
