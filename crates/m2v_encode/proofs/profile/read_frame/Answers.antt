@@ -1,6 +1,6 @@
 use Rattle.std.proofs.Common.{arith, ◌≤◌, ◌<◌, length, take}
 use Rattle.std.proofs.lemmas.List.{length-take-le}
-use Rattle.m2v_encode.proofs.flat.read_frame.Goals as goal
+use Rattle.m2v_encode.proofs.profile.read_frame.Goals as goal
 
 pub returns-then-extra-eq-FRAME-clause-ok : goal.returns-then-extra-eq-FRAME-clause-ok
 returns-then-extra-eq-FRAME-clause-ok g c =
