@@ -1,6 +1,9 @@
 pub mod Blocks
+pub mod Bounds
 pub mod ForwardSums
 pub mod Passed
+pub mod Projections
+pub mod Factors
 pub mod Rows
 pub mod Shifts
 pub mod Sums

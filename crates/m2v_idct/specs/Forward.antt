@@ -21,6 +21,10 @@ turned m =
 unfoldable pub cosine : ℕ → ℕ → ℤ
 cosine u x = if nat_eq u 0 then pos 2896 else turned ((2 * x + 1) * u % 32)
 
+-- the number at place k
+abbrev pub nth : List ℤ → ℕ → ℤ
+nth xs k = slice_index_or xs k (pos 0)
+
 -- the sample in line y and column x of a block
 abbrev pub at : List ℤ → ℕ → ℕ → ℤ
 at f y x = slice_index_or f (8 * y + x) (pos 0)
@@ -33,3 +37,16 @@ forward_at f v u =
 -- the 64 coefficients of a block of samples
 unfoldable pub forward_of : List ℤ → List ℤ
 forward_of f = map (λ k. forward_at f (k / 8) (k % 8)) (range_with_len 0 64)
+
+-- the sum of eight numbers, each times the cosine u of its place
+unfoldable pub projection : ℕ → (ℕ → ℤ) → ℤ
+projection u g = sum_below 8 (λ k. cosine u k *ℤ g k)
+
+abbrev pub projections : (ℕ → ℤ) → List ℤ
+projections g =
+    projection 0 g ∷ projection 1 g ∷ projection 2 g ∷ projection 3 g
+    ∷ projection 4 g ∷ projection 5 g ∷ projection 6 g ∷ projection 7 g ∷ []
+
+-- a sum of products with two cosines in the scale of coefficients, to the nearest
+abbrev pub rounded : ℤ → ℤ
+rounded z = int_shr (z +ℤ pos 33554432) 26

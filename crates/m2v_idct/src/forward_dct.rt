@@ -1,11 +1,27 @@
-ghost use Rattle.std.specs.Prelude.{◌≡◌, All, ◌+ℤ◌, ◌*ℤ◌, ◌≤ℤ◌, pos, neg_ℤ, slice_index_or};
+ghost use Rattle.std.specs.Prelude.{◌≡◌, ◌<◌, ◌+◌, ◌*◌, ℕ, All, ◌*ℤ◌, ◌≤ℤ◌, map, pos, neg_ℤ, slice_index_or};
+ghost use Rattle.m2v_idct.specs.Forward.{at, forward_at, forward_of, nth, projection, projections, rounded};
+ghost use Rattle.m2v_idct.specs.Ranges.{IsCoefficient, IsDoubleSum, IsSample, Within};
 ghost use Rattle.m2v_idct.specs.Sums.{sum_below};
-ghost use Rattle.std.specs.Int.{int_shr};
-ghost use Rattle.m2v_idct.specs.Forward.{forward_at};
-ghost use Rattle.m2v_idct.specs.Ranges.{IsCoefficient, IsSample};
+
+use crate::block::{column_at, put_column, put_row, row_at};
+use crate::products::{differences, product_sum, sums, wide_product_sum};
 
 // The square of the cosine at 0, 2896 times 2896.
 const MEAN_SCALE: i64 = 8_386_816;
+
+/// The 64 coefficients of a block of samples, or of differences of samples, by Annex A of ISO/IEC 13818-2 in whole
+/// numbers, rounded once. Both blocks hold the top line first, each line from the left.
+pub fn forward(f: &[i32; 64]) -> [i32; 64]
+    requires { All IsSample f.now }
+    ensures value { result ≡ forward_of f.now }
+    ensures coefficients { All IsCoefficient result }
+{
+    let mut columns = [0; 64];
+    transform_columns(f, &mut columns);
+    let mut out = [0; 64];
+    transform_rows(&columns, &mut out);
+    out
+}
 
 /// The first coefficient of the forward transform alone: the mean of the 64 samples, times eight.
 pub fn forward_dc(f: &[i32; 64]) -> i32
@@ -13,7 +29,71 @@ pub fn forward_dc(f: &[i32; 64]) -> i32
     ensures value { result ≡ forward_at f.now 0 0 }
     ensures within { IsCoefficient result }
 {
-    rounded(scaled_sum(sum_of(f)))
+    round(scaled_sum(sum_of(f)))
+}
+
+#[inline(always)]
+fn transform_columns(f: &[i32; 64], columns: &mut [i32; 64])
+    requires { All IsSample f.now }
+    ensures { (v x : ℕ) → v < 8 → x < 8
+        → slice_index_or columns.new (8 * v + x) (pos 0) ≡ projection v (λ y. at f.now y x) }
+{
+    for x in 0..8 {
+        put_column(columns, x, &column_sums(&column_at(f, x)));
+    }
+}
+
+#[inline(always)]
+fn transform_rows(columns: &[i32; 64], out: &mut [i32; 64])
+    requires within { All (Within 8400000) columns.now }
+    requires sums { (v u : ℕ) → v < 8 → u < 8 → IsDoubleSum (projection u (at columns.now v)) }
+    ensures { (v u : ℕ) → v < 8 → u < 8
+        → slice_index_or out.new (8 * v + u) (pos 0) ≡ rounded (projection u (at columns.now v)) }
+{
+    for v in 0..8 {
+        put_row(out, v, &row_coefficients(&row_at(columns, v)));
+    }
+}
+
+// The projections of eight samples, by their even and odd parts.
+#[inline(always)]
+fn column_sums(f: &[i32; 8]) -> [i32; 8]
+    requires { All (Within 256) f.now }
+    ensures { result ≡ projections (nth f.now) }
+{
+    let even = sums(f);
+    let odd = differences(f);
+    [
+        product_sum(&[2896, 2896, 2896, 2896], &even),
+        product_sum(&[4017, 3406, 2276, 799], &odd),
+        product_sum(&[3784, 1567, -1567, -3784], &even),
+        product_sum(&[3406, -799, -4017, -2276], &odd),
+        product_sum(&[2896, -2896, -2896, 2896], &even),
+        product_sum(&[2276, -4017, 799, 3406], &odd),
+        product_sum(&[1567, -3784, 3784, -1567], &even),
+        product_sum(&[799, -2276, 3406, -4017], &odd),
+    ]
+}
+
+// The coefficients of eight sums of products with the cosines down the block.
+#[inline(always)]
+fn row_coefficients(c: &[i32; 8]) -> [i32; 8]
+    requires within { All (Within 8400000) c.now }
+    requires sums { (u : ℕ) → u < 8 → IsDoubleSum (projection u (nth c.now)) }
+    ensures { result ≡ map rounded (projections (nth c.now)) }
+{
+    let even = sums(c);
+    let odd = differences(c);
+    [
+        round(wide_product_sum(&[2896, 2896, 2896, 2896], &even)),
+        round(wide_product_sum(&[4017, 3406, 2276, 799], &odd)),
+        round(wide_product_sum(&[3784, 1567, -1567, -3784], &even)),
+        round(wide_product_sum(&[3406, -799, -4017, -2276], &odd)),
+        round(wide_product_sum(&[2896, -2896, -2896, 2896], &even)),
+        round(wide_product_sum(&[2276, -4017, 799, 3406], &odd)),
+        round(wide_product_sum(&[1567, -3784, 3784, -1567], &even)),
+        round(wide_product_sum(&[799, -2276, 3406, -4017], &odd)),
+    ]
 }
 
 // The sum of all samples.
@@ -42,10 +122,9 @@ fn scaled_sum(sum: i32) -> i64
 
 // A sum of products with two cosines in the scale of coefficients, to the nearest.
 #[inline(always)]
-fn rounded(sum: i64) -> i32
-    requires low { neg_ℤ (pos 137409593344) ≤ℤ sum }
-    requires high { sum ≤ℤ pos 137275404288 }
-    ensures value { result ≡ int_shr (sum +ℤ pos 33554432) 26 }
+fn round(sum: i64) -> i32
+    requires { IsDoubleSum sum }
+    ensures value { result ≡ rounded sum }
     ensures within { IsCoefficient result }
 {
     ((sum + (1 << 25)) >> 26) as i32

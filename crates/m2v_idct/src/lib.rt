@@ -1,10 +1,12 @@
 //! The forward and the inverse transform of blocks of eight by eight.
 #![tactic(auto)]
 
+mod block;
 mod combine;
 mod forward_dct;
 mod inverse_dct;
+mod products;
 mod terms;
 
-pub use forward_dct::forward_dc;
+pub use forward_dct::{forward, forward_dc};
 pub use inverse_dct::inverse;

@@ -1,6 +1,6 @@
 use Rattle.std.proofs.Common.{◌≡◌, ◌<◌, ◌≢◌, ◌+◌, ◌*◌, ℕ, length, get_or, pos}
 use Rattle.m2v_idct.specs.Inverse.{clip}
-use Rattle.m2v_idct.proofs.inverse_dct.put_column.Given as goal
+use Rattle.m2v_idct.proofs.inverse_dct.put_clipped.Given as goal
 
 abbrev pub invariant-loop-k : goal.invariant-loop-k
 invariant-loop-k l = record {

@@ -6,7 +6,7 @@ use mir.Val.{SFits}
 use Rattle.m2v_idct.specs.Inverse.{clip}
 use Rattle.m2v_idct.proofs.Blocks.{write_more}
 use Rattle.m2v_idct.proofs.Passed.{passed}
-use Rattle.m2v_idct.proofs.inverse_dct.put_column.Goals as goal
+use Rattle.m2v_idct.proofs.inverse_dct.put_clipped.Goals as goal
 
 pub loop-k-preserved : goal.loop-k-preserved
 loop-k-preserved c =

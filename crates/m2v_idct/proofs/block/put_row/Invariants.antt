@@ -1,5 +1,5 @@
 use Rattle.std.proofs.Common.{◌≡◌, ◌<◌, ◌≢◌, ◌+◌, ◌*◌, ℕ, length, get_or, pos}
-use Rattle.m2v_idct.proofs.inverse_dct.put_row.Given as goal
+use Rattle.m2v_idct.proofs.block.put_row.Given as goal
 
 abbrev pub invariant-loop-k : goal.invariant-loop-k
 invariant-loop-k l = record {
