@@ -31,6 +31,6 @@ block_is xs g len h =
     ext_get_or (pos 0) xs (map (λ k. g (k / 8) (k % 8)) (range_with_len 0 64))
     (len ∙ sym (length-map-range_with_len (λ k. g (k / 8) (k % 8)) 0 64))
     (λ i l.
-        let e : 8 * (i / 8) + i % 8 ≡ i = omega arith in
-        ap (λ k. get_or xs k (pos 0)) (sym e) ∙ h (i / 8) (i % 8) (omega arith) (omega arith)
-        ∙ sym (get_or-map-range_with_len (λ k. g (k / 8) (k % 8)) 0 64 i i (pos 0) (omega arith) (omega arith)))
+    let e : 8 * (i / 8) + i % 8 ≡ i = omega arith in
+    ap (λ k. get_or xs k (pos 0)) (sym e) ∙ h (i / 8) (i % 8) (omega arith) (omega arith)
+    ∙ sym (get_or-map-range_with_len (λ k. g (k / 8) (k % 8)) 0 64 i i (pos 0) (omega arith) (omega arith)))

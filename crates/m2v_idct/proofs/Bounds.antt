@@ -1,7 +1,7 @@
-use Rattle.std.proofs.Common.{◌≡◌, ℕ, zero, suc, ◌+◌, ◌*◌, ◌<◌, ◌≤◌, List, length, All, get_or, arith, refl, ℤ, pos, negsuc, neg_ℤ, ◌+ℤ◌, ◌*ℤ◌, ◌≤ℤ◌}
+use Rattle.std.proofs.Common.{◌≡◌, ℕ, zero, suc, ◌*◌, ◌<◌, ◌≤◌, arith, refl, ℤ, pos, negsuc, neg_ℤ, ◌+ℤ◌, ◌*ℤ◌, ◌≤ℤ◌}
 use Rattle.std.proofs.Math.Nat.{mul-le-mul_left}
 use Rattle.std.proofs.lemmas.Int.{ints}
-use Rattle.m2v_idct.specs.Forward.{at, cosine, projection}
+use Rattle.m2v_idct.specs.Forward.{cosine, projection}
 use Rattle.m2v_idct.specs.Ranges.{IsDoubleSum, IsSample}
 use Rattle.m2v_idct.specs.Sums.{sum_below}
 use Rattle.m2v_idct.proofs.Projections.{eight_cases}
@@ -48,7 +48,7 @@ sum_between (suc n) low high c g h =
     let one = h n (omega arith) in
     let t = times_between low high (c n) (g n) one.0 one.1 in
     plus_between (sum_below n (λ k. bottom low high (c k))) (sum_below n (λ k. c k *ℤ g k)) (sum_below n (λ k. top low high (c k)))
-        (bottom low high (c n)) (c n *ℤ g n) (top low high (c n)) r.0 r.1 t.0 t.1
+    (bottom low high (c n)) (c n *ℤ g n) (top low high (c n)) r.0 r.1 t.0 t.1
 
 single_least : (u : ℕ) → u < 8 → neg_ℤ (pos 5931008) ≤ℤ sum_below 8 (λ k. bottom 256 255 (cosine u k))
 unfolding sum_below cosine bottom
@@ -84,7 +84,7 @@ unfolding projection
 single_between u g l h =
     let s = sum_between 8 256 255 (cosine u) g h in
     between (neg_ℤ (pos 5931008)) (sum_below 8 (λ k. bottom 256 255 (cosine u k))) (sum_below 8 (λ k. cosine u k *ℤ g k))
-        (sum_below 8 (λ k. top 256 255 (cosine u k))) (pos 5919424) (single_least u l) s.0 s.1 (single_most u l)
+    (sum_below 8 (λ k. top 256 255 (cosine u k))) (pos 5919424) (single_least u l) s.0 s.1 (single_most u l)
 
 double_least : (u : ℕ) → u < 8 → neg_ℤ (pos 137409593344) ≤ℤ sum_below 8 (λ k. bottom 5931008 5919424 (cosine u k))
 unfolding sum_below cosine bottom
@@ -117,4 +117,4 @@ unfolding projection
 double_between u g l h =
     let s = sum_between 8 5931008 5919424 (cosine u) g h in
     between (neg_ℤ (pos 137409593344)) (sum_below 8 (λ k. bottom 5931008 5919424 (cosine u k))) (sum_below 8 (λ k. cosine u k *ℤ g k))
-        (sum_below 8 (λ k. top 5931008 5919424 (cosine u k))) (pos 137275404288) (double_least u l) s.0 s.1 (double_most u l)
+    (sum_below 8 (λ k. top 5931008 5919424 (cosine u k))) (pos 137275404288) (double_least u l) s.0 s.1 (double_most u l)

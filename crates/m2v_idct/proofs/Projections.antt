@@ -1,7 +1,7 @@
-use Rattle.std.proofs.Common.{◌≡◌, ℕ, zero, suc, ◌+◌, ◌*◌, ◌<◌, ◌≤◌, ◌∙◌, List, [], ◌∷◌, All, length, get_or, below_more, arith, refl, ap, sym, ℤ, pos, negsuc, neg_ℤ, ◌+ℤ◌, ◌-ℤ◌, ◌*ℤ◌, ◌≤ℤ◌}
+use Rattle.std.proofs.Common.{◌≡◌, ℕ, zero, suc, ◌+◌, ◌<◌, ◌≤◌, ◌∙◌, List, [], ◌∷◌, All, get_or, map, below_more, arith, refl, ap, sym, ℤ, pos, negsuc, neg_ℤ, ◌+ℤ◌, ◌-ℤ◌, ◌*ℤ◌}
 use Rattle.std.proofs.lemmas.Int.{ints}
 use Rattle.std.proofs.lemmas.List.Elements.{All-from_recursion, All-same}
-use Rattle.m2v_idct.specs.Forward.{cosine, projection}
+use Rattle.m2v_idct.specs.Forward.{cosine, nth, projection, projections, rounded}
 use Rattle.m2v_idct.specs.Ranges.{Within}
 use Rattle.m2v_idct.specs.Sums.{sum_below}
 use Rattle.m2v_idct.proofs.Sums.{sum_below-same, times_plus}
@@ -38,7 +38,7 @@ regroup p0 p1 p2 p3 p4 p5 p6 p7 = omega (arith, ints)
 pub even_projection : (u : ℕ) (c0 c1 c2 c3 : ℤ) (g : ℕ → ℤ) (ds : List ℤ)
     → ds ≡ (g 0 +ℤ g 7) ∷ (g 1 +ℤ g 6) ∷ (g 2 +ℤ g 5) ∷ (g 3 +ℤ g 4) ∷ []
     → cosine u 0 ∷ cosine u 1 ∷ cosine u 2 ∷ cosine u 3 ∷ cosine u 4 ∷ cosine u 5 ∷ cosine u 6 ∷ cosine u 7 ∷ []
-        ≡ c0 ∷ c1 ∷ c2 ∷ c3 ∷ c3 ∷ c2 ∷ c1 ∷ c0 ∷ []
+    ≡ c0 ∷ c1 ∷ c2 ∷ c3 ∷ c3 ∷ c2 ∷ c1 ∷ c0 ∷ []
     → sum_below 4 (λ k. get_or (c0 ∷ c1 ∷ c2 ∷ c3 ∷ []) k (pos 0) *ℤ get_or ds k (pos 0)) ≡ projection u g
 unfolding projection sum_below
 even_projection u c0 c1 c2 c3 g ds e same =
@@ -55,7 +55,7 @@ even_projection u c0 c1 c2 c3 g ds e same =
 pub odd_projection : (u : ℕ) (c0 c1 c2 c3 : ℤ) (g : ℕ → ℤ) (ds : List ℤ)
     → ds ≡ (g 0 -ℤ g 7) ∷ (g 1 -ℤ g 6) ∷ (g 2 -ℤ g 5) ∷ (g 3 -ℤ g 4) ∷ []
     → cosine u 0 ∷ cosine u 1 ∷ cosine u 2 ∷ cosine u 3 ∷ cosine u 4 ∷ cosine u 5 ∷ cosine u 6 ∷ cosine u 7 ∷ []
-        ≡ c0 ∷ c1 ∷ c2 ∷ c3 ∷ neg_ℤ c3 ∷ neg_ℤ c2 ∷ neg_ℤ c1 ∷ neg_ℤ c0 ∷ []
+    ≡ c0 ∷ c1 ∷ c2 ∷ c3 ∷ neg_ℤ c3 ∷ neg_ℤ c2 ∷ neg_ℤ c1 ∷ neg_ℤ c0 ∷ []
     → sum_below 4 (λ k. get_or (c0 ∷ c1 ∷ c2 ∷ c3 ∷ []) k (pos 0) *ℤ get_or ds k (pos 0)) ≡ projection u g
 unfolding projection sum_below
 odd_projection u c0 c1 c2 c3 g ds e same =
@@ -119,18 +119,46 @@ pub evens_within : (n m : ℕ) (g : ℕ → ℤ) (ds : List ℤ) → n + n ≤ m
     → All (Within m) ds
 evens_within n m g ds l h e =
     All-same (Within m) ds ((g 0 +ℤ g 7) ∷ (g 1 +ℤ g 6) ∷ (g 2 +ℤ g 5) ∷ (g 3 +ℤ g 4) ∷ []) e
-    (All-from_recursion (Within m) ((g 0 +ℤ g 7) ∷ (g 1 +ℤ g 6) ∷ (g 2 +ℤ g 5) ∷ (g 3 +ℤ g 4) ∷ [])
-        (plus_within n m (g 0) (g 7) l (h 0 (omega arith)) (h 7 (omega arith))
-        , (plus_within n m (g 1) (g 6) l (h 1 (omega arith)) (h 6 (omega arith))
-        , (plus_within n m (g 2) (g 5) l (h 2 (omega arith)) (h 5 (omega arith))
-        , (plus_within n m (g 3) (g 4) l (h 3 (omega arith)) (h 4 (omega arith)) , tt)))))
+    (All-from_recursion (Within m) ((g 0 +ℤ g 7) ∷ (g 1 +ℤ g 6) ∷ (g 2 +ℤ g 5) ∷ (g 3 +ℤ g 4) ∷ []) (
+      plus_within n m (g 0) (g 7) l (h 0 (omega arith)) (h 7 (omega arith)),
+      (
+        plus_within n m (g 1) (g 6) l (h 1 (omega arith)) (h 6 (omega arith)),
+        (
+          plus_within n m (g 2) (g 5) l (h 2 (omega arith)) (h 5 (omega arith)),
+          (plus_within n m (g 3) (g 4) l (h 3 (omega arith)) (h 4 (omega arith)), tt),
+        ),
+      ),
+    ))
 
 pub odds_within : (n m : ℕ) (g : ℕ → ℤ) (ds : List ℤ) → n + n ≤ m → ((k : ℕ) → k < 8 → Within n (g k)) → ds ≡ (g 0 -ℤ g 7) ∷ (g 1 -ℤ g 6) ∷ (g 2 -ℤ g 5) ∷ (g 3 -ℤ g 4) ∷ []
     → All (Within m) ds
 odds_within n m g ds l h e =
     All-same (Within m) ds ((g 0 -ℤ g 7) ∷ (g 1 -ℤ g 6) ∷ (g 2 -ℤ g 5) ∷ (g 3 -ℤ g 4) ∷ []) e
-    (All-from_recursion (Within m) ((g 0 -ℤ g 7) ∷ (g 1 -ℤ g 6) ∷ (g 2 -ℤ g 5) ∷ (g 3 -ℤ g 4) ∷ [])
-        (minus_within n m (g 0) (g 7) l (h 0 (omega arith)) (h 7 (omega arith))
-        , (minus_within n m (g 1) (g 6) l (h 1 (omega arith)) (h 6 (omega arith))
-        , (minus_within n m (g 2) (g 5) l (h 2 (omega arith)) (h 5 (omega arith))
-        , (minus_within n m (g 3) (g 4) l (h 3 (omega arith)) (h 4 (omega arith)) , tt)))))
+    (All-from_recursion (Within m) ((g 0 -ℤ g 7) ∷ (g 1 -ℤ g 6) ∷ (g 2 -ℤ g 5) ∷ (g 3 -ℤ g 4) ∷ []) (
+      minus_within n m (g 0) (g 7) l (h 0 (omega arith)) (h 7 (omega arith)),
+      (
+        minus_within n m (g 1) (g 6) l (h 1 (omega arith)) (h 6 (omega arith)),
+        (
+          minus_within n m (g 2) (g 5) l (h 2 (omega arith)) (h 5 (omega arith)),
+          (minus_within n m (g 3) (g 4) l (h 3 (omega arith)) (h 4 (omega arith)), tt),
+        ),
+      ),
+    ))
+
+-- a projection knows eight numbers
+pub projections_listed : (g : ℕ → ℤ) (xs : List ℤ) → xs ≡ g 0 ∷ g 1 ∷ g 2 ∷ g 3 ∷ g 4 ∷ g 5 ∷ g 6 ∷ g 7 ∷ []
+    → projections (nth xs) ≡ projections g
+unfolding projection sum_below
+projections_listed g xs e = ap (λ zs. projections (nth zs)) e
+
+pub projection_listed : (u : ℕ) (g : ℕ → ℤ) (xs : List ℤ) → xs ≡ g 0 ∷ g 1 ∷ g 2 ∷ g 3 ∷ g 4 ∷ g 5 ∷ g 6 ∷ g 7 ∷ []
+    → projection u (nth xs) ≡ projection u g
+unfolding projection sum_below
+projection_listed u g xs e = ap (λ zs. projection u (nth zs)) e
+
+pub projections_at : (g : ℕ → ℤ) (u : ℕ) → u < 8 → get_or (projections g) u (pos 0) ≡ projection u g
+projections_at g = eight_cases (λ u. get_or (projections g) u (pos 0) ≡ projection u g) refl refl refl refl refl refl refl refl
+
+pub rounded_at : (g : ℕ → ℤ) (u : ℕ) → u < 8 → get_or (map rounded (projections g)) u (pos 0) ≡ rounded (projection u g)
+rounded_at g = eight_cases (λ u. get_or (map rounded (projections g)) u (pos 0) ≡ rounded (projection u g))
+    refl refl refl refl refl refl refl refl

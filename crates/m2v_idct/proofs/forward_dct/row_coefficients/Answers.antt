@@ -69,33 +69,33 @@ returns c =
     let f0 : SFits w64 c.wide_product_sum.result = search rules in
     let p0 = c.wide_product_sum.ensures ∙ projection_0 g c.sums-even.result c.sums-even.ensures in
     let r0 = passed 2048 c.round.result (omega arith) (coefficient_within _ c.round.ensures.within)
-        ∙ c.round.ensures.value ∙ ap rounded (to_z-of_z w64 c.wide_product_sum.result f0 ∙ p0) in
+    ∙ c.round.ensures.value ∙ ap rounded (to_z-of_z w64 c.wide_product_sum.result f0 ∙ p0) in
     let f1 : SFits w64 c.wide_product_sum-2.result = search rules in
     let p1 = c.wide_product_sum-2.ensures ∙ projection_1 g c.differences-odd.result c.differences-odd.ensures in
     let r1 = passed 2048 c.round-2.result (omega arith) (coefficient_within _ c.round-2.ensures.within)
-        ∙ c.round-2.ensures.value ∙ ap rounded (to_z-of_z w64 c.wide_product_sum-2.result f1 ∙ p1) in
+    ∙ c.round-2.ensures.value ∙ ap rounded (to_z-of_z w64 c.wide_product_sum-2.result f1 ∙ p1) in
     let f2 : SFits w64 c.wide_product_sum-3.result = search rules in
     let p2 = c.wide_product_sum-3.ensures ∙ projection_2 g c.sums-even.result c.sums-even.ensures in
     let r2 = passed 2048 c.round-3.result (omega arith) (coefficient_within _ c.round-3.ensures.within)
-        ∙ c.round-3.ensures.value ∙ ap rounded (to_z-of_z w64 c.wide_product_sum-3.result f2 ∙ p2) in
+    ∙ c.round-3.ensures.value ∙ ap rounded (to_z-of_z w64 c.wide_product_sum-3.result f2 ∙ p2) in
     let f3 : SFits w64 c.wide_product_sum-4.result = search rules in
     let p3 = c.wide_product_sum-4.ensures ∙ projection_3 g c.differences-odd.result c.differences-odd.ensures in
     let r3 = passed 2048 c.round-4.result (omega arith) (coefficient_within _ c.round-4.ensures.within)
-        ∙ c.round-4.ensures.value ∙ ap rounded (to_z-of_z w64 c.wide_product_sum-4.result f3 ∙ p3) in
+    ∙ c.round-4.ensures.value ∙ ap rounded (to_z-of_z w64 c.wide_product_sum-4.result f3 ∙ p3) in
     let f4 : SFits w64 c.wide_product_sum-5.result = search rules in
     let p4 = c.wide_product_sum-5.ensures ∙ projection_4 g c.sums-even.result c.sums-even.ensures in
     let r4 = passed 2048 c.round-5.result (omega arith) (coefficient_within _ c.round-5.ensures.within)
-        ∙ c.round-5.ensures.value ∙ ap rounded (to_z-of_z w64 c.wide_product_sum-5.result f4 ∙ p4) in
+    ∙ c.round-5.ensures.value ∙ ap rounded (to_z-of_z w64 c.wide_product_sum-5.result f4 ∙ p4) in
     let f5 : SFits w64 c.wide_product_sum-6.result = search rules in
     let p5 = c.wide_product_sum-6.ensures ∙ projection_5 g c.differences-odd.result c.differences-odd.ensures in
     let r5 = passed 2048 c.round-6.result (omega arith) (coefficient_within _ c.round-6.ensures.within)
-        ∙ c.round-6.ensures.value ∙ ap rounded (to_z-of_z w64 c.wide_product_sum-6.result f5 ∙ p5) in
+    ∙ c.round-6.ensures.value ∙ ap rounded (to_z-of_z w64 c.wide_product_sum-6.result f5 ∙ p5) in
     let f6 : SFits w64 c.wide_product_sum-7.result = search rules in
     let p6 = c.wide_product_sum-7.ensures ∙ projection_6 g c.sums-even.result c.sums-even.ensures in
     let r6 = passed 2048 c.round-7.result (omega arith) (coefficient_within _ c.round-7.ensures.within)
-        ∙ c.round-7.ensures.value ∙ ap rounded (to_z-of_z w64 c.wide_product_sum-7.result f6 ∙ p6) in
+    ∙ c.round-7.ensures.value ∙ ap rounded (to_z-of_z w64 c.wide_product_sum-7.result f6 ∙ p6) in
     let f7 : SFits w64 c.wide_product_sum-8.result = search rules in
     let p7 = c.wide_product_sum-8.ensures ∙ projection_7 g c.differences-odd.result c.differences-odd.ensures in
     let r7 = passed 2048 c.round-8.result (omega arith) (coefficient_within _ c.round-8.ensures.within)
-        ∙ c.round-8.ensures.value ∙ ap rounded (to_z-of_z w64 c.wide_product_sum-8.result f7 ∙ p7) in
+    ∙ c.round-8.ensures.value ∙ ap rounded (to_z-of_z w64 c.wide_product_sum-8.result f7 ∙ p7) in
     (λ i. r0 i ∷ r1 i ∷ r2 i ∷ r3 i ∷ r4 i ∷ r5 i ∷ r6 i ∷ r7 i ∷ [])

@@ -1,4 +1,4 @@
-use Rattle.std.proofs.Common.{◌≡◌, ◌∙◌, sym, ap, arith, refl, get_or, pos, ◌+ℤ◌, ◌*ℤ◌}
+use Rattle.std.proofs.Common.{◌∙◌, sym, ap, arith, refl, get_or, pos, ◌+ℤ◌, ◌*ℤ◌}
 use Rattle.std.proofs.lemmas.Int.{ints, to_z-of_z}
 use mir.Syntax.{w32}
 use mir.Val.{to_z}
@@ -52,7 +52,7 @@ loop-k-preserved c =
     let hs = c.loop-k.invariant.within in
     let fs = fits 8400000 (s +ℤ x *ℤ y) (omega arith) (sum_within k s (x *ℤ y) c.loop-k-test.true hs hp) in
     record {
-        value = simp to_z-of_z (ap (λ t. t +ℤ x *ℤ y) c.loop-k.invariant.value
-            ∙ sym (sum_below-more k (λ i. get_or c.args.c.now i (pos 0) *ℤ get_or c.args.d.now i (pos 0))));
-        within = simp to_z-of_z (next_within k s (x *ℤ y) hs hp)
+      value = simp to_z-of_z (ap (λ t. t +ℤ x *ℤ y) c.loop-k.invariant.value
+          ∙ sym (sum_below-more k (λ i. get_or c.args.c.now i (pos 0) *ℤ get_or c.args.d.now i (pos 0))));
+      within = simp to_z-of_z (next_within k s (x *ℤ y) hs hp);
     }

@@ -1,4 +1,4 @@
-use Rattle.std.proofs.Common.{rules, ◌≡◌, ◌∙◌, sym, ap, arith, refl, get_or, pos, ◌+ℤ◌, ◌*ℤ◌}
+use Rattle.std.proofs.Common.{rules, ◌∙◌, sym, ap, arith, refl, get_or, pos, ◌+ℤ◌, ◌*ℤ◌}
 use Rattle.std.proofs.lemmas.Int.{ints, to_z-of_z}
 use mir.Syntax.{w64}
 use mir.Val.{SFits, to_z}
@@ -26,7 +26,7 @@ overflow_add-sum c =
     let hp = product_within 4096 16800000 x y hx hy in
     let hs = c.loop-k.invariant.within in
     simp to_z-of_z (rw e (fits_wide 300000000000 (to_z w64 c.loop-k.sum-bits +ℤ x *ℤ y) (omega arith)
-        (wide_sum_within k (to_z w64 c.loop-k.sum-bits) (x *ℤ y) c.loop-k-test.true hs hp)))
+    (wide_sum_within k (to_z w64 c.loop-k.sum-bits) (x *ℤ y) c.loop-k-test.true hs hp)))
 
 pub loop-k-preserved : goal.loop-k-preserved
 loop-k-preserved c =
@@ -43,9 +43,9 @@ loop-k-preserved c =
     let hp = product_within 4096 16800000 x y hx hy in
     let hs = c.loop-k.invariant.within in
     let fs : SFits w64 (s +ℤ c.wide_product-sum.result) =
-        rw e (fits_wide 300000000000 (s +ℤ x *ℤ y) (omega arith) (wide_sum_within k s (x *ℤ y) c.loop-k-test.true hs hp)) in
+    rw e (fits_wide 300000000000 (s +ℤ x *ℤ y) (omega arith) (wide_sum_within k s (x *ℤ y) c.loop-k-test.true hs hp)) in
     record {
-        value = simp to_z-of_z (rw e (ap (λ t. t +ℤ x *ℤ y) c.loop-k.invariant.value
-            ∙ sym (sum_below-more k (λ i. get_or c.args.c.now i (pos 0) *ℤ get_or c.args.d.now i (pos 0)))));
-        within = simp to_z-of_z (rw e (next_wide_within k s (x *ℤ y) hs hp))
+      value = simp to_z-of_z (rw e (ap (λ t. t +ℤ x *ℤ y) c.loop-k.invariant.value
+          ∙ sym (sum_below-more k (λ i. get_or c.args.c.now i (pos 0) *ℤ get_or c.args.d.now i (pos 0)))));
+      within = simp to_z-of_z (rw e (next_wide_within k s (x *ℤ y) hs hp));
     }
