@@ -22,7 +22,7 @@ pub fn inverse(b: &[i32; 64]) -> [i32; 64]
 }
 
 #[inline(always)]
-fn transform_rows(b: &[i32; 64], rows: &mut [i32; 64])
+pub fn transform_rows(b: &[i32; 64], rows: &mut [i32; 64])
     requires { All IsCoefficient b.now }
     ensures { (y x : ℕ) → y < 8 → x < 8 → slice_index_or rows.new (8 * y + x) (pos 0) ≡ after_rows b.now y x }
 {
