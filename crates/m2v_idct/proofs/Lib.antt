@@ -1,6 +1,7 @@
 pub mod Blocks
 pub mod Bounds
 pub mod ForwardSums
+pub mod InversePlaces
 pub mod Passed
 pub mod Projections
 pub mod Factors

@@ -1,4 +1,4 @@
-use Rattle.std.proofs.Common.{◌≡◌, All, length}
+use Rattle.std.proofs.Common.{All}
 use Rattle.m2v_idct.specs.Ranges.{IsCoefficient}
 use Rattle.m2v_idct.proofs.tests.coefficients.Given as goal
 
