@@ -2,7 +2,8 @@ use Rattle.std.proofs.Common.{◌≡◌, ℕ, ◌+◌, ◌*◌, ◌<◌, List, g
 use Rattle.std.specs.Int.{int_shr}
 use Rattle.std.proofs.lemmas.Int.{ints}
 use Rattle.m2v_idct.specs.Sums.{sum_below}
-use Rattle.m2v_idct.specs.Forward.{at, cosine, forward_at, forward_of, projection, rounded}
+use Rattle.m2v_idct.specs.Block.{at}
+use Rattle.m2v_idct.specs.Forward.{cosine, forward_at, forward_of, projection, rounded}
 use Rattle.m2v_idct.specs.Ranges.{IsCoefficient, IsDoubleSum}
 use Rattle.m2v_idct.proofs.Blocks.{place_is}
 use Rattle.m2v_idct.proofs.Sums.{sum_below-same, sum_below-times, sum_below-lines, sum_below-turned, times_turned}

@@ -1,7 +1,8 @@
 use Rattle.std.proofs.Common.{◌≡◌, ℕ, zero, suc, ◌+◌, ◌<◌, ◌≤◌, ◌∙◌, List, [], ◌∷◌, All, get_or, map, below_more, arith, refl, ap, sym, ℤ, pos, negsuc, neg_ℤ, ◌+ℤ◌, ◌-ℤ◌, ◌*ℤ◌}
 use Rattle.std.proofs.lemmas.Int.{ints}
 use Rattle.std.proofs.lemmas.List.Elements.{All-from_recursion, All-same}
-use Rattle.m2v_idct.specs.Forward.{cosine, nth, projection, projections, rounded}
+use Rattle.m2v_idct.specs.Block.{nth}
+use Rattle.m2v_idct.specs.Forward.{cosine, projection, projections, rounded}
 use Rattle.m2v_idct.specs.Ranges.{Within}
 use Rattle.m2v_idct.specs.Sums.{sum_below}
 use Rattle.m2v_idct.proofs.Sums.{sum_below-same, times_plus}

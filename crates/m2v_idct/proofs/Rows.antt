@@ -2,7 +2,7 @@ use Rattle.std.proofs.Common.{◌≡◌, ℕ, ◌+◌, ◌*◌, ◌<◌, ◌≤�
 use Rattle.std.specs.Int.{int_shr}
 use Rattle.std.proofs.lemmas.Int.{ints}
 use Rattle.std.proofs.lemmas.List.Elements.{All-from_recursion}
-use Rattle.m2v_idct.specs.Forward.{at}
+use Rattle.m2v_idct.specs.Block.{at}
 use Rattle.m2v_idct.specs.Inverse.{after_rows, column, combine, row, scaled}
 use Rattle.m2v_idct.specs.Ranges.{IsCoefficient, Within}
 use Rattle.m2v_idct.proofs.Shifts.{shr8_low, shr8_high, shr8_is}

@@ -1,5 +1,5 @@
-ghost use Rattle.std.specs.Prelude.{◌≡◌, ◌<◌, ◌+◌, ◌*◌, ℕ, ◌≢◌, ◌∷◌, [], pos, slice_index_or};
-ghost use Rattle.m2v_idct.specs.Forward.{at};
+ghost use Rattle.std.specs.Prelude.{◌≡◌, ◌<◌, ◌+◌, ◌*◌, ℕ, ◌≢◌, ◌∷◌, []};
+ghost use Rattle.m2v_idct.specs.Block.{at, nth};
 
 // The numbers of line y, from the left.
 #[inline(always)]
@@ -43,8 +43,8 @@ pub fn column_at(b: &[i32; 64], x: usize) -> [i32; 8]
 #[inline(always)]
 pub fn put_row(rows: &mut [i32; 64], y: usize, results: &[i32; 8])
     requires { y < 8 }
-    ensures row { (k : ℕ) → k < 8 → slice_index_or rows.new (8 * y + k) (pos 0) ≡ slice_index_or results.now k (pos 0) }
-    ensures rest { (i : ℕ) → ((k : ℕ) → k < 8 → i ≢ 8 * y + k) → slice_index_or rows.new i (pos 0) ≡ slice_index_or rows.old i (pos 0) }
+    ensures row { (k : ℕ) → k < 8 → nth rows.new (8 * y + k) ≡ nth results.now k }
+    ensures rest { (i : ℕ) → ((k : ℕ) → k < 8 → i ≢ 8 * y + k) → nth rows.new i ≡ nth rows.old i }
 {
     for k in 0..8 {
         rows[8 * y + k] = results[k];
@@ -55,8 +55,8 @@ pub fn put_row(rows: &mut [i32; 64], y: usize, results: &[i32; 8])
 #[inline(always)]
 pub fn put_column(out: &mut [i32; 64], x: usize, results: &[i32; 8])
     requires { x < 8 }
-    ensures column { (k : ℕ) → k < 8 → slice_index_or out.new (8 * k + x) (pos 0) ≡ slice_index_or results.now k (pos 0) }
-    ensures rest { (i : ℕ) → ((k : ℕ) → k < 8 → i ≢ 8 * k + x) → slice_index_or out.new i (pos 0) ≡ slice_index_or out.old i (pos 0) }
+    ensures column { (k : ℕ) → k < 8 → nth out.new (8 * k + x) ≡ nth results.now k }
+    ensures rest { (i : ℕ) → ((k : ℕ) → k < 8 → i ≢ 8 * k + x) → nth out.new i ≡ nth out.old i }
 {
     for k in 0..8 {
         out[8 * k + x] = results[k];

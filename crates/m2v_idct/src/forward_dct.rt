@@ -1,5 +1,6 @@
-ghost use Rattle.std.specs.Prelude.{◌≡◌, ◌<◌, ◌+◌, ◌*◌, ℕ, All, ◌*ℤ◌, ◌≤ℤ◌, map, pos, neg_ℤ, slice_index_or};
-ghost use Rattle.m2v_idct.specs.Forward.{at, forward_at, forward_of, nth, projection, projections, rounded};
+ghost use Rattle.std.specs.Prelude.{◌≡◌, ◌<◌, ◌+◌, ◌*◌, ℕ, All, ◌*ℤ◌, ◌≤ℤ◌, map, pos, neg_ℤ};
+ghost use Rattle.m2v_idct.specs.Block.{at, nth};
+ghost use Rattle.m2v_idct.specs.Forward.{forward_at, forward_of, projection, projections, rounded};
 ghost use Rattle.m2v_idct.specs.Ranges.{IsCoefficient, IsDoubleSum, IsSample, Within};
 ghost use Rattle.m2v_idct.specs.Sums.{sum_below};
 
@@ -9,8 +10,9 @@ use crate::products::{differences, product_sum, sums, wide_product_sum};
 // The square of the cosine at 0, 2896 times 2896.
 const MEAN_SCALE: i64 = 8_386_816;
 
-/// The 64 coefficients of a block of samples, or of differences of samples, by Annex A of ISO/IEC 13818-2 in whole
-/// numbers, rounded once. Both blocks hold the top line first, each line from the left.
+/// The 64 coefficients, each from -2048 to 2047, of a block of samples or of differences of samples,
+/// each from -256 to 255, by Annex A of ISO/IEC 13818-2 in whole numbers, rounded once. Both blocks
+/// hold the top line first, each line from the left.
 pub fn forward(f: &[i32; 64]) -> [i32; 64]
     requires { All IsSample f.now }
     ensures value { result ≡ forward_of f.now }
@@ -23,7 +25,8 @@ pub fn forward(f: &[i32; 64]) -> [i32; 64]
     out
 }
 
-/// The first coefficient of the forward transform alone: the mean of the 64 samples, times eight.
+/// The first coefficient of the forward transform alone, from -2048 to 2047: eight times the mean of
+/// the 64 samples, each from -256 to 255.
 pub fn forward_dc(f: &[i32; 64]) -> i32
     requires { All IsSample f.now }
     ensures value { result ≡ forward_at f.now 0 0 }
@@ -36,7 +39,7 @@ pub fn forward_dc(f: &[i32; 64]) -> i32
 fn transform_columns(f: &[i32; 64], columns: &mut [i32; 64])
     requires { All IsSample f.now }
     ensures { (v x : ℕ) → v < 8 → x < 8
-        → slice_index_or columns.new (8 * v + x) (pos 0) ≡ projection v (λ y. at f.now y x) }
+        → nth columns.new (8 * v + x) ≡ projection v (λ y. at f.now y x) }
 {
     for x in 0..8 {
         put_column(columns, x, &column_sums(&column_at(f, x)));
@@ -48,7 +51,7 @@ fn transform_rows(columns: &[i32; 64], out: &mut [i32; 64])
     requires within { All (Within 8400000) columns.now }
     requires sums { (v u : ℕ) → v < 8 → u < 8 → IsDoubleSum (projection u (at columns.now v)) }
     ensures { (v u : ℕ) → v < 8 → u < 8
-        → slice_index_or out.new (8 * v + u) (pos 0) ≡ rounded (projection u (at columns.now v)) }
+        → nth out.new (8 * v + u) ≡ rounded (projection u (at columns.now v)) }
 {
     for v in 0..8 {
         put_row(out, v, &row_coefficients(&row_at(columns, v)));
@@ -99,7 +102,7 @@ fn row_coefficients(c: &[i32; 8]) -> [i32; 8]
 // The sum of all samples.
 fn sum_of(f: &[i32; 64]) -> i32
     requires { All IsSample f.now }
-    ensures value { result ≡ sum_below 64 (λ k. slice_index_or f.now k (pos 0)) }
+    ensures value { result ≡ sum_below 64 (nth f.now) }
     ensures low { neg_ℤ (pos 16384) ≤ℤ result }
     ensures high { result ≤ℤ pos 16320 }
 {

@@ -1,4 +1,5 @@
-ghost use Rattle.std.specs.Prelude.{◌≡◌, All, ◌+ℤ◌, ◌-ℤ◌, ◌*ℤ◌, ◌∷◌, [], pos, slice_index_or};
+ghost use Rattle.std.specs.Prelude.{◌≡◌, All, ◌+ℤ◌, ◌-ℤ◌, ◌*ℤ◌, ◌∷◌, []};
+ghost use Rattle.m2v_idct.specs.Block.{nth};
 ghost use Rattle.m2v_idct.specs.Ranges.{Within};
 ghost use Rattle.m2v_idct.specs.Sums.{sum_below};
 
@@ -7,10 +8,10 @@ ghost use Rattle.m2v_idct.specs.Sums.{sum_below};
 pub fn sums(f: &[i32; 8]) -> [i32; 4]
     requires { All (Within 8400000) f.now }
     ensures { result
-        ≡ (slice_index_or f.now 0 (pos 0) +ℤ slice_index_or f.now 7 (pos 0))
-        ∷ (slice_index_or f.now 1 (pos 0) +ℤ slice_index_or f.now 6 (pos 0))
-        ∷ (slice_index_or f.now 2 (pos 0) +ℤ slice_index_or f.now 5 (pos 0))
-        ∷ (slice_index_or f.now 3 (pos 0) +ℤ slice_index_or f.now 4 (pos 0)) ∷ [] }
+        ≡ (nth f.now 0 +ℤ nth f.now 7)
+        ∷ (nth f.now 1 +ℤ nth f.now 6)
+        ∷ (nth f.now 2 +ℤ nth f.now 5)
+        ∷ (nth f.now 3 +ℤ nth f.now 4) ∷ [] }
 {
     [f[0] + f[7], f[1] + f[6], f[2] + f[5], f[3] + f[4]]
 }
@@ -20,10 +21,10 @@ pub fn sums(f: &[i32; 8]) -> [i32; 4]
 pub fn differences(f: &[i32; 8]) -> [i32; 4]
     requires { All (Within 8400000) f.now }
     ensures { result
-        ≡ (slice_index_or f.now 0 (pos 0) -ℤ slice_index_or f.now 7 (pos 0))
-        ∷ (slice_index_or f.now 1 (pos 0) -ℤ slice_index_or f.now 6 (pos 0))
-        ∷ (slice_index_or f.now 2 (pos 0) -ℤ slice_index_or f.now 5 (pos 0))
-        ∷ (slice_index_or f.now 3 (pos 0) -ℤ slice_index_or f.now 4 (pos 0)) ∷ [] }
+        ≡ (nth f.now 0 -ℤ nth f.now 7)
+        ∷ (nth f.now 1 -ℤ nth f.now 6)
+        ∷ (nth f.now 2 -ℤ nth f.now 5)
+        ∷ (nth f.now 3 -ℤ nth f.now 4) ∷ [] }
 {
     [f[0] - f[7], f[1] - f[6], f[2] - f[5], f[3] - f[4]]
 }
@@ -33,7 +34,7 @@ pub fn differences(f: &[i32; 8]) -> [i32; 4]
 pub fn product_sum(c: &[i32; 4], d: &[i32; 4]) -> i32
     requires c { All (Within 4096) c.now }
     requires d { All (Within 512) d.now }
-    ensures { result ≡ sum_below 4 (λ k. slice_index_or c.now k (pos 0) *ℤ slice_index_or d.now k (pos 0)) }
+    ensures { result ≡ sum_below 4 (λ k. nth c.now k *ℤ nth d.now k) }
 {
     let mut sum = 0;
     for k in 0..4 {
@@ -47,7 +48,7 @@ pub fn product_sum(c: &[i32; 4], d: &[i32; 4]) -> i32
 pub fn wide_product_sum(c: &[i32; 4], d: &[i32; 4]) -> i64
     requires c { All (Within 4096) c.now }
     requires d { All (Within 16800000) d.now }
-    ensures { result ≡ sum_below 4 (λ k. slice_index_or c.now k (pos 0) *ℤ slice_index_or d.now k (pos 0)) }
+    ensures { result ≡ sum_below 4 (λ k. nth c.now k *ℤ nth d.now k) }
 {
     let mut sum = 0;
     for k in 0..4 {

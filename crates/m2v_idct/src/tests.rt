@@ -87,7 +87,8 @@ fn transforms_flat_blocks(rt: HostRuntime) {
     }
 }
 
-// The real cosine transform, rounded, of a block whose left half is the highest sample and whose right half the lowest.
+// The real cosine transform, rounded, of a block whose left half is the highest sample and whose
+// right half is the lowest.
 #[test]
 fn transforms_an_edge(rt: HostRuntime) {
     let mut block = [0; 64];

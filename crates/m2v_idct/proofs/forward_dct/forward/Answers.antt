@@ -1,6 +1,7 @@
 use Rattle.std.proofs.Common.{◌+◌, ◌*◌, ◌∙◌, arith, ap, sym, subst, ℤ, pos, neg_ℤ, ◌≤ℤ◌}
 use Rattle.std.proofs.lemmas.Int.{ints}
-use Rattle.m2v_idct.specs.Forward.{at, forward_at, forward_of, projection, rounded}
+use Rattle.m2v_idct.specs.Block.{at}
+use Rattle.m2v_idct.specs.Forward.{forward_at, forward_of, projection, rounded}
 use Rattle.m2v_idct.specs.Ranges.{IsCoefficient, Within}
 use Rattle.m2v_idct.proofs.Blocks.{all_places, block_is}
 use Rattle.m2v_idct.proofs.Bounds.{double_between, single_between}

@@ -2,7 +2,8 @@ use Rattle.std.proofs.Common.{rules, arith, ap, ◌∙◌, [], ◌∷◌, pos}
 use Rattle.std.proofs.lemmas.Int.{to_z-of_z}
 use mir.Syntax.{w64}
 use mir.Val.{SFits}
-use Rattle.m2v_idct.specs.Forward.{nth, rounded}
+use Rattle.m2v_idct.specs.Block.{nth}
+use Rattle.m2v_idct.specs.Forward.{rounded}
 use Rattle.m2v_idct.proofs.Passed.{coefficient_within, passed, passed_double}
 use Rattle.m2v_idct.proofs.Projections.{evens_within, odds_within, projection_0, projection_1, projection_2, projection_3, projection_4, projection_5, projection_6, projection_7}
 use Rattle.m2v_idct.proofs.forward_dct.row_coefficients.Goals as goal

@@ -1,5 +1,6 @@
 use Rattle.std.proofs.Common.{◌≡◌, ℕ, ◌<◌, ◌+◌, ◌*◌, ◌∙◌, arith, ap, get_or, below_more, pos}
-use Rattle.m2v_idct.specs.Forward.{at, projection}
+use Rattle.m2v_idct.specs.Block.{at}
+use Rattle.m2v_idct.specs.Forward.{projection}
 use Rattle.m2v_idct.proofs.Projections.{projections_at, projections_listed}
 use Rattle.m2v_idct.proofs.forward_dct.transform_columns.Goals as goal
 

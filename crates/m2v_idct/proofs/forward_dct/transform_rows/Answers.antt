@@ -1,5 +1,6 @@
 use Rattle.std.proofs.Common.{◌≡◌, ℕ, ◌<◌, ◌+◌, ◌*◌, ◌∙◌, arith, ap, sym, subst, map, get_or, below_more, pos}
-use Rattle.m2v_idct.specs.Forward.{at, projection, rounded}
+use Rattle.m2v_idct.specs.Block.{at}
+use Rattle.m2v_idct.specs.Forward.{projection, rounded}
 use Rattle.m2v_idct.specs.Ranges.{IsDoubleSum}
 use Rattle.m2v_idct.proofs.Projections.{projection_listed, projections_listed, rounded_at}
 use Rattle.m2v_idct.proofs.forward_dct.transform_rows.Goals as goal

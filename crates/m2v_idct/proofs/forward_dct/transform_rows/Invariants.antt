@@ -1,5 +1,6 @@
 use Rattle.std.proofs.Common.{◌≡◌, ◌<◌, ◌+◌, ◌*◌, ℕ, get_or, pos}
-use Rattle.m2v_idct.specs.Forward.{at, projection, rounded}
+use Rattle.m2v_idct.specs.Block.{at}
+use Rattle.m2v_idct.specs.Forward.{projection, rounded}
 use Rattle.m2v_idct.proofs.forward_dct.transform_rows.Given as goal
 
 abbrev pub invariant-loop-v : goal.invariant-loop-v

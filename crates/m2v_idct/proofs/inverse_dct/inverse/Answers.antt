@@ -1,6 +1,6 @@
 use Rattle.std.proofs.Common.{◌∙◌, arith, ap, sym, get_or, subst, pos, ℤ}
 use Rattle.std.proofs.lemmas.Int.{ints, clamps}
-use Rattle.m2v_idct.specs.Forward.{at}
+use Rattle.m2v_idct.specs.Block.{at}
 use Rattle.m2v_idct.specs.Inverse.{after_rows, clip, column, inverse_at, inverse_of}
 use Rattle.m2v_idct.specs.Ranges.{IsSample, Within}
 use Rattle.m2v_idct.proofs.Blocks.{all_places, block_is}
