@@ -1,11 +1,10 @@
-use Rattle.std.proofs.Common.{◌≡◌, ℕ, ◌+◌, ◌*◌, ◌<◌, List, get_or, arith, refl, ap, ◌∙◌, sym, ℤ, pos, ◌+ℤ◌, ◌*ℤ◌}
+use Rattle.std.proofs.Common.{◌≡◌, ℕ, ◌+◌, ◌*◌, List, get_or, arith, refl, ap, ◌∙◌, sym, ℤ, pos, ◌+ℤ◌, ◌*ℤ◌}
 use Rattle.std.specs.Int.{int_shr}
 use Rattle.std.proofs.lemmas.Int.{ints}
 use Rattle.m2v_idct.specs.Sums.{sum_below}
 use Rattle.m2v_idct.specs.Block.{at}
-use Rattle.m2v_idct.specs.Forward.{cosine, forward_at, forward_of, projection, rounded}
+use Rattle.m2v_idct.specs.Forward.{cosine, forward_at, projection, rounded}
 use Rattle.m2v_idct.specs.Ranges.{IsCoefficient, IsDoubleSum}
-use Rattle.m2v_idct.proofs.Blocks.{place_is}
 use Rattle.m2v_idct.proofs.Sums.{sum_below-same, sum_below-times, sum_below-lines, sum_below-turned, times_turned}
 use Rattle.m2v_idct.proofs.Shifts.{shr26_low, shr26_high}
 
@@ -49,8 +48,3 @@ rounded_within z h =
     let l = shr26_low (z +ℤ pos 33554432) in
     let u = shr26_high (z +ℤ pos 33554432) in
     (omega (arith, ints, h, l, u), omega (arith, ints, h, l, u))
-
--- a place of the whole block
-pub forward_of-at : (f : List ℤ) (v u : ℕ) → v < 8 → u < 8 → get_or (forward_of f) (8 * v + u) (pos 0) ≡ forward_at f v u
-unfolding forward_of
-forward_of-at f v u lv lu = place_is (forward_at f) v u lv lu
