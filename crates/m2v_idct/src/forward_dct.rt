@@ -7,6 +7,24 @@ ghost use Rattle.m2v_idct.specs.Sums.{sum_below};
 use crate::block::{column_at, put_column, put_row, row_at};
 use crate::products::{differences, product_sum, sums, wide_product_sum};
 
+// Each cosine's first four values, times 4096. From the other end those with an even number are the
+// same, and those with an odd number have the other sign.
+const COSINES_0: [i32; 4] = [2896, 2896, 2896, 2896];
+
+const COSINES_1: [i32; 4] = [4017, 3406, 2276, 799];
+
+const COSINES_2: [i32; 4] = [3784, 1567, -1567, -3784];
+
+const COSINES_3: [i32; 4] = [3406, -799, -4017, -2276];
+
+const COSINES_4: [i32; 4] = [2896, -2896, -2896, 2896];
+
+const COSINES_5: [i32; 4] = [2276, -4017, 799, 3406];
+
+const COSINES_6: [i32; 4] = [1567, -3784, 3784, -1567];
+
+const COSINES_7: [i32; 4] = [799, -2276, 3406, -4017];
+
 // The square of the cosine at 0, 2896 times 2896.
 const MEAN_SCALE: i64 = 8_386_816;
 
@@ -67,14 +85,14 @@ fn column_sums(f: &[i32; 8]) -> [i32; 8]
     let even = sums(f);
     let odd = differences(f);
     [
-        product_sum(&[2896, 2896, 2896, 2896], &even),
-        product_sum(&[4017, 3406, 2276, 799], &odd),
-        product_sum(&[3784, 1567, -1567, -3784], &even),
-        product_sum(&[3406, -799, -4017, -2276], &odd),
-        product_sum(&[2896, -2896, -2896, 2896], &even),
-        product_sum(&[2276, -4017, 799, 3406], &odd),
-        product_sum(&[1567, -3784, 3784, -1567], &even),
-        product_sum(&[799, -2276, 3406, -4017], &odd),
+        product_sum(&COSINES_0, &even),
+        product_sum(&COSINES_1, &odd),
+        product_sum(&COSINES_2, &even),
+        product_sum(&COSINES_3, &odd),
+        product_sum(&COSINES_4, &even),
+        product_sum(&COSINES_5, &odd),
+        product_sum(&COSINES_6, &even),
+        product_sum(&COSINES_7, &odd),
     ]
 }
 
@@ -88,14 +106,14 @@ fn row_coefficients(c: &[i32; 8]) -> [i32; 8]
     let even = sums(c);
     let odd = differences(c);
     [
-        round(wide_product_sum(&[2896, 2896, 2896, 2896], &even)),
-        round(wide_product_sum(&[4017, 3406, 2276, 799], &odd)),
-        round(wide_product_sum(&[3784, 1567, -1567, -3784], &even)),
-        round(wide_product_sum(&[3406, -799, -4017, -2276], &odd)),
-        round(wide_product_sum(&[2896, -2896, -2896, 2896], &even)),
-        round(wide_product_sum(&[2276, -4017, 799, 3406], &odd)),
-        round(wide_product_sum(&[1567, -3784, 3784, -1567], &even)),
-        round(wide_product_sum(&[799, -2276, 3406, -4017], &odd)),
+        round(wide_product_sum(&COSINES_0, &even)),
+        round(wide_product_sum(&COSINES_1, &odd)),
+        round(wide_product_sum(&COSINES_2, &even)),
+        round(wide_product_sum(&COSINES_3, &odd)),
+        round(wide_product_sum(&COSINES_4, &even)),
+        round(wide_product_sum(&COSINES_5, &odd)),
+        round(wide_product_sum(&COSINES_6, &even)),
+        round(wide_product_sum(&COSINES_7, &odd)),
     ]
 }
 
