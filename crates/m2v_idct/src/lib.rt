@@ -1,4 +1,5 @@
-//! The forward and the inverse transform of blocks of eight by eight.
+//! The transforms of Annex A of ISO/IEC 13818-2 on blocks of eight by eight: samples, or differences of
+//! samples, from -256 to 255 on one side and coefficients from -2048 to 2047 on the other.
 #![tactic(auto)]
 
 mod block;
