@@ -6,7 +6,7 @@ use mir.Val.{SFits}
 use Rattle.m2v_idct.specs.Inverse.{clip}
 use Rattle.m2v_idct.proofs.Blocks.{write_more}
 use Rattle.m2v_idct.proofs.Passed.{passed}
-use Rattle.m2v_idct.proofs.inverse_dct.put_column.Goals as goal
+use Rattle.m2v_idct.proofs.inverse_dct.put_clipped.Goals as goal
 
 pub loop-k-preserved : goal.loop-k-preserved
 loop-k-preserved c =
@@ -18,8 +18,8 @@ loop-k-preserved c =
     let v = passed 256 c.clamp.result (omega arith) (omega (arith, ints), omega (arith, ints)) ∙ (simp to_z-of_z at c.clamp.ensures.value) in
     let len = c.loop-k.invariant.len in
     record {
-        len = simp length-set len;
-        column = write_more c.loop-k.out (λ k. 8 * k + c.args.x) (λ k. clip (get_or results k (pos 0))) n _ (omega arith)
-            (λ k l. omega arith) c.loop-k.invariant.column v;
-        rest = λ i h. let ne : i ≢ 8 * n + c.args.x = h n c.loop-k-test.true in rw get_or-set_other (c.loop-k.invariant.rest i h)
+      len = simp length-set len;
+      column = write_more c.loop-k.out (λ k. 8 * k + c.args.x) (λ k. clip (get_or results k (pos 0))) n _ (omega arith)
+          (λ k l. omega arith) c.loop-k.invariant.column v;
+      rest = λ i h. let ne : i ≢ 8 * n + c.args.x = h n c.loop-k-test.true in rw get_or-set_other (c.loop-k.invariant.rest i h);
     }
