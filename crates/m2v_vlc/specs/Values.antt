@@ -1,11 +1,20 @@
 -- The values of the code tables, and whether two are the same.
-use Rattle.std.specs.Prelude.{ℕ, ◌+◌, ◌<◌, ◌≤◌, Bool, true, false, cond, ◌&&◌, nat_eq}
+use Rattle.std.specs.Prelude.{ℕ, ◌+◌, ◌<◌, ◌≤◌, Bool, true, false, cond, ◌&&◌, nat_eq, ℤ, pos, negsuc, neg_ℤ}
 use Rattle.m2v_vlc.specs.declared.values.Increment.{Increment}
 use Rattle.m2v_vlc.specs.declared.values.Increment.TheVariants.{Step, Escape}
 use Rattle.m2v_vlc.specs.declared.values.MbType.{MbType}
 
 abbrev pub same_number : ℕ → ℕ → Bool
 same_number a b = nat_eq a b
+
+unfoldable pub same_signed : ℤ → ℤ → Bool
+same_signed (pos a) (pos b) = nat_eq a b
+same_signed (pos a) (negsuc b) = false
+same_signed (negsuc a) (pos b) = false
+same_signed (negsuc a) (negsuc b) = nat_eq a b
+
+abbrev pub minus : ℕ → ℤ
+minus n = neg_ℤ (pos n)
 
 abbrev pub same_flag : Bool → Bool → Bool
 same_flag true b = b

@@ -6,13 +6,22 @@ mod increment;
 mod increment_rows;
 mod kind;
 mod kind_rows;
+mod motion;
+mod motion_rows;
+mod pattern;
+mod pattern_rows;
 mod rows;
 mod size;
 mod size_rows;
 mod values;
 
 pub use increment::{bits_increment, read_increment, write_increment};
-pub use kind::{bits_type_i, read_type_i, write_type_i};
+pub use kind::{
+    bits_type_b, bits_type_i, bits_type_p, read_type_b, read_type_i, read_type_p, write_type_b,
+    write_type_i, write_type_p,
+};
+pub use motion::{bits_dmv, bits_motion, read_dmv, read_motion, write_dmv, write_motion};
+pub use pattern::{bits_pattern, read_pattern, write_pattern};
 pub use size::{
     bits_dc_chroma, bits_dc_luma, read_dc_chroma, read_dc_luma, write_dc_chroma, write_dc_luma,
 };
