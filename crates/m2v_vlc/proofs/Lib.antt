@@ -6,3 +6,5 @@ pub mod MbTypes
 pub mod Patterns
 pub mod Motions
 pub mod Sizes
+pub mod Places
+pub mod Coefficients
