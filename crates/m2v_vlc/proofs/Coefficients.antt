@@ -1,11 +1,11 @@
 -- Tables B.14 and B.15 and their look-ups, checked by computing.
-use Rattle.std.proofs.Common.{◌≡◌, ℕ, zero, suc, ◌+◌, ◌-◌, ◌/◌, ◌<◌, ◌≤◌, Bool, true, false, cond, List, [], ◌∷◌, ◌++◌, length, get_or, refl, sym, ap, ◌∙◌, arith}
+use Rattle.std.proofs.Common.{◌≡◌, ℕ, ◌-◌, ◌/◌, ◌<◌, ◌≤◌, Bool, true, List, [], ◌++◌, length, get_or, refl, arith}
 use Rattle.std.specs.List.{list_all}
 use Rattle.m2v_bits.specs.Bits.{bits_of, number, ahead}
 use Rattle.m2v_bits.specs.Syntax.{Spells}
 use Rattle.m2v_bits.proofs.SyntaxLaws.{Strict}
 use Rattle.m2v_vlc.specs.declared.values.Coefficient.{Coefficient}
-use Rattle.m2v_vlc.specs.declared.values.Coefficient.TheVariants.{End, Escape, Pair}
+use Rattle.m2v_vlc.specs.declared.values.Coefficient.TheVariants.{End, Escape}
 use Rattle.m2v_vlc.specs.declared.zero_rows.TheConstants.{ZERO_ROWS, ZERO_BY_9, ZERO_BY_13, ZERO_BY_17}
 use Rattle.m2v_vlc.specs.declared.one_rows.TheConstants.{ONE_ROWS, ONE_BY_9, ONE_BY_13, ONE_BY_17}
 use Rattle.m2v_vlc.specs.Codes.{Row, row, In, code_of, code_at, apart_all, is_free, is_within, is_other, is_single}
@@ -14,7 +14,7 @@ use Rattle.m2v_vlc.specs.Coefficients.{signed, same_coefficient, pairs_zero, pai
 use Rattle.m2v_vlc.specs.Places.{start, coefficient_place}
 use Rattle.m2v_vlc.specs.Lookups.{rows_of, IsTable, Points, code_in}
 use Rattle.m2v_vlc.proofs.CodeLaws.{code_strict, one_row, length_within, code_spells, spelled_once}
-use Rattle.m2v_vlc.proofs.LookupLaws.{stands_at, holds, points, points_flat}
+use Rattle.m2v_vlc.proofs.LookupLaws.{holds, points, points_flat}
 use Rattle.m2v_vlc.proofs.ValueLaws.{below}
 use Rattle.m2v_vlc.proofs.Places.{coefficient_sound, coefficient_reflexive, is_small, has_place, spot, place_of}
 

@@ -8,3 +8,4 @@ pub mod Motions
 pub mod Sizes
 pub mod Places
 pub mod Coefficients
+pub mod Firsts

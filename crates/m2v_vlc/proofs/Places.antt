@@ -1,5 +1,5 @@
 -- Where the pairs of tables B.14 and B.15 stand among their rows.
-use Rattle.std.proofs.Common.{◌≡◌, ℕ, zero, suc, ◌+◌, ◌-◌, ◌*◌, ◌/◌, ◌%◌, ◌<◌, ◌≤◌, Bool, true, false, cond, eqb, ltb, leb, List, [], ◌∷◌, length, Option, Some, None, inl, inr, refl, sym, ap, subst, ◌∙◌, add-zero, arith}
+use Rattle.std.proofs.Common.{◌≡◌, ℕ, zero, suc, ◌+◌, ◌*◌, ◌/◌, ◌%◌, ◌<◌, ◌≤◌, Bool, true, false, cond, eqb, ltb, leb, List, [], ◌∷◌, Option, Some, None, inl, inr, refl, sym, ap, ◌∙◌, add-zero, arith}
 use Rattle.std.specs.Prelude.{◌&&◌, ℤ, pos, negsuc, int_lt, unsigned_abs, slice_get, slice_index}
 use Rattle.std.specs.List.{list_all}
 use Rattle.std.proofs.lemmas.Int.{ints}
@@ -7,10 +7,10 @@ use Rattle.std.proofs.lemmas.Bool.{cases_Bool, eqb-true, eq-eqb, ltb-true, leb-t
 use Rattle.m2v_vlc.specs.declared.values.Coefficient.{Coefficient}
 use Rattle.m2v_vlc.specs.declared.values.Coefficient.TheVariants.{End, Escape, Pair}
 use Rattle.m2v_vlc.specs.declared.coefficient.TheConstants.{RUN_START}
-use Rattle.m2v_vlc.specs.Codes.{Row, row, In, code_of, is_single}
+use Rattle.m2v_vlc.specs.Codes.{Row, row, code_of, is_single}
 use Rattle.m2v_vlc.specs.Values.{same_signed, minus}
 use Rattle.m2v_vlc.specs.Lookups.{code_in}
-use Rattle.m2v_vlc.specs.Coefficients.{RunLevel, pair, signed, same_coefficient, IsCoefficient}
+use Rattle.m2v_vlc.specs.Coefficients.{RunLevel, signed, same_coefficient, IsCoefficient}
 use Rattle.m2v_vlc.specs.Places.{start, has_pair, pair_place, coefficient_place}
 use Rattle.m2v_vlc.proofs.CodeLaws.{Sound, Reflexive, code_of_none, some_is}
 use Rattle.m2v_vlc.proofs.LookupLaws.{value_index}

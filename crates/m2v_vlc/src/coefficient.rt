@@ -49,7 +49,7 @@ fn coefficient_row(value: Coefficient) -> u8
 
 /// The code of the coefficient in table B.14, of no bits where there is none.
 #[inline(always)]
-fn zero_of(value: Coefficient) -> Code
+pub fn zero_of(value: Coefficient) -> Code
     ensures spelled { spelled result ≡ coefficient_zero_code value }
     ensures width { result.len ≤ 17 }
     ensures fits { result.number < 2 ^ result.len }

@@ -3,6 +3,7 @@
 #![tactic(auto)]
 
 mod coefficient;
+mod first;
 mod increment;
 mod increment_rows;
 mod kind;
@@ -22,6 +23,7 @@ pub use coefficient::{
     bits_coefficient_one, bits_coefficient_zero, read_coefficient_one, read_coefficient_zero,
     write_coefficient_one, write_coefficient_zero,
 };
+pub use first::{bits_first_zero, read_first_zero, write_first_zero};
 pub use increment::{bits_increment, read_increment, write_increment};
 pub use kind::{
     bits_type_b, bits_type_i, bits_type_p, read_type_b, read_type_i, read_type_p, write_type_b,

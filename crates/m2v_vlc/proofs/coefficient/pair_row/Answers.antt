@@ -1,7 +1,6 @@
-use Rattle.std.proofs.Common.{arith, ◌≡◌, cond, ap, sym, ◌∙◌, refl}
-use Rattle.std.specs.Prelude.{int_lt, pos}
+use Rattle.std.proofs.Common.{arith}
 use Rattle.std.proofs.lemmas.Int.{to_z-of_z}
-use Rattle.std.proofs.lemmas.Bool.{cond-true, cond-false}
+use Rattle.std.proofs.lemmas.Bool.{cond-true}
 use Rattle.m2v_vlc.proofs.Places.{place_past, place_here, place_positive, row_small}
 use Rattle.m2v_vlc.proofs.coefficient.pair_row.Goals as goal
 
