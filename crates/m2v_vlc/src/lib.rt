@@ -16,6 +16,8 @@ mod pattern_rows;
 mod rows;
 mod size;
 mod size_rows;
+#[cfg(test)]
+mod tests;
 mod values;
 mod zero_rows;
 
