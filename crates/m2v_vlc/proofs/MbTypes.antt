@@ -1,11 +1,11 @@
 -- Tables B.2 to B.4 and their look-ups, checked by computing.
-use Rattle.std.proofs.Common.{◌≡◌, ℕ, ◌*◌, ◌/◌, ◌%◌, ◌<◌, ◌≤◌, Bool, true, false, cond, List, ◌++◌, length, get_or, refl, ap, ◌∙◌, arith}
+use Rattle.std.proofs.Common.{sym, ◌≡◌, ℕ, ◌*◌, ◌/◌, ◌%◌, ◌<◌, ◌≤◌, Bool, true, false, cond, List, ◌++◌, length, get_or, refl, ap, ◌∙◌, arith, ltb}
 use Rattle.std.specs.Prelude.{nat_eq}
-use Rattle.m2v_bits.specs.Bits.{number, ahead}
+use Rattle.m2v_bits.specs.Bits.{bits_of, number, ahead}
 use Rattle.m2v_bits.specs.Syntax.{Spells}
 use Rattle.m2v_bits.proofs.SyntaxLaws.{Strict}
 use Rattle.m2v_vlc.specs.Codes.{Row, In, code_of, code_at, apart_all, is_free, is_within, is_other, is_single}
-use Rattle.m2v_vlc.specs.Values.{same_type, kind, flags}
+use Rattle.m2v_vlc.specs.Values.{same_type, kind, flags, has_type_i, has_type_p, has_type_b}
 use Rattle.m2v_vlc.specs.Tables.{type_i, type_i_code, type_p, type_p_code, type_b, type_b_code}
 use Rattle.m2v_vlc.specs.Lookups.{rows_of, IsTable, Points, code_in}
 use Rattle.m2v_vlc.specs.declared.values.MbType.{MbType}
@@ -93,6 +93,18 @@ type_i_strict cut none = code_strict cut none type_i type_i_free
 pub type_i_length : (v : MbType) → length (type_i_code v) ≤ 2
 type_i_length v = length_within same_type 2 type_i v type_i_within
 
+type_i_bits : below (λ n. ltb 0 (length (type_i_code (from_flags n)))) 32 ≡ below (λ n. has_type_i (from_flags n)) 32
+unfolding below type_i code_of from_flags bits_of
+type_i_bits = refl
+
+-- which types have a code
+pub type_i_some : (v : MbType) → ltb 0 (length (type_i_code v)) ≡ has_type_i v
+type_i_some v =
+    let back = flags_back v in
+    ap (λ (x : MbType). ltb 0 (length (type_i_code x))) (sym back)
+    ∙ agree (λ n. ltb 0 (length (type_i_code (from_flags n)))) (λ n. has_type_i (from_flags n)) 32 (flags v) type_i_bits (flags_below v)
+    ∙ ap (λ (x : MbType). has_type_i x) back
+
 pub type_i_spells : {K : Type 0} (cut none : K) (v : MbType) → 0 < length (type_i_code v) → Spells (code_at cut none type_i) v (type_i_code v)
 type_i_spells cut none v some = code_spells cut none same_type type_i v type_sound some
 
@@ -151,6 +163,18 @@ type_p_strict cut none = code_strict cut none type_p type_p_free
 pub type_p_length : (v : MbType) → length (type_p_code v) ≤ 6
 type_p_length v = length_within same_type 6 type_p v type_p_within
 
+type_p_bits : below (λ n. ltb 0 (length (type_p_code (from_flags n)))) 32 ≡ below (λ n. has_type_p (from_flags n)) 32
+unfolding below type_p code_of from_flags bits_of
+type_p_bits = refl
+
+-- which types have a code
+pub type_p_some : (v : MbType) → ltb 0 (length (type_p_code v)) ≡ has_type_p v
+type_p_some v =
+    let back = flags_back v in
+    ap (λ (x : MbType). ltb 0 (length (type_p_code x))) (sym back)
+    ∙ agree (λ n. ltb 0 (length (type_p_code (from_flags n)))) (λ n. has_type_p (from_flags n)) 32 (flags v) type_p_bits (flags_below v)
+    ∙ ap (λ (x : MbType). has_type_p x) back
+
 pub type_p_spells : {K : Type 0} (cut none : K) (v : MbType) → 0 < length (type_p_code v) → Spells (code_at cut none type_p) v (type_p_code v)
 type_p_spells cut none v some = code_spells cut none same_type type_p v type_sound some
 
@@ -208,6 +232,18 @@ type_b_strict cut none = code_strict cut none type_b type_b_free
 
 pub type_b_length : (v : MbType) → length (type_b_code v) ≤ 6
 type_b_length v = length_within same_type 6 type_b v type_b_within
+
+type_b_bits : below (λ n. ltb 0 (length (type_b_code (from_flags n)))) 32 ≡ below (λ n. has_type_b (from_flags n)) 32
+unfolding below type_b code_of from_flags bits_of
+type_b_bits = refl
+
+-- which types have a code
+pub type_b_some : (v : MbType) → ltb 0 (length (type_b_code v)) ≡ has_type_b v
+type_b_some v =
+    let back = flags_back v in
+    ap (λ (x : MbType). ltb 0 (length (type_b_code x))) (sym back)
+    ∙ agree (λ n. ltb 0 (length (type_b_code (from_flags n)))) (λ n. has_type_b (from_flags n)) 32 (flags v) type_b_bits (flags_below v)
+    ∙ ap (λ (x : MbType). has_type_b x) back
 
 pub type_b_spells : {K : Type 0} (cut none : K) (v : MbType) → 0 < length (type_b_code v) → Spells (code_at cut none type_b) v (type_b_code v)
 type_b_spells cut none v some = code_spells cut none same_type type_b v type_sound some

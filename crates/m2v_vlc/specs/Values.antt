@@ -1,5 +1,5 @@
 -- The values of the code tables, and whether two are the same.
-use Rattle.std.specs.Prelude.{ℕ, ◌+◌, ◌<◌, ◌≤◌, Bool, true, false, cond, ◌&&◌, nat_eq, ℤ, pos, negsuc, neg_ℤ}
+use Rattle.std.specs.Prelude.{ℕ, ◌+◌, ◌<◌, ◌≤◌, Bool, true, false, cond, not, ◌&&◌, ◌||◌, nat_eq, ℤ, pos, negsuc, neg_ℤ}
 use Rattle.m2v_vlc.specs.declared.values.Increment.{Increment}
 use Rattle.m2v_vlc.specs.declared.values.Increment.TheVariants.{Step, Escape}
 use Rattle.m2v_vlc.specs.declared.values.MbType.{MbType}
@@ -42,3 +42,16 @@ kind quant forward backward pattern intra = record { quant = nat_eq quant 1; for
 -- the flags of a type as one number
 abbrev pub flags : MbType → ℕ
 flags v = cond v.quant 16 0 + cond v.forward 8 0 + cond v.backward 4 0 + cond v.pattern 2 0 + cond v.intra 1 0
+
+-- the types that tables B.2, B.3 and B.4 have: an intra one has nothing but its quantiser code; another one has one only with a pattern
+abbrev pub only_intra : MbType → Bool
+only_intra v = v.intra && (not v.forward && (not v.backward && not v.pattern))
+
+abbrev pub has_type_i : MbType → Bool
+has_type_i v = only_intra v
+
+abbrev pub has_type_p : MbType → Bool
+has_type_p v = only_intra v || (not v.intra && (not v.backward && ((v.forward || v.pattern) && (not v.quant || v.pattern))))
+
+abbrev pub has_type_b : MbType → Bool
+has_type_b v = only_intra v || (not v.intra && ((v.forward || v.backward) && (not v.quant || v.pattern)))
