@@ -1,27 +1,13 @@
 -- The book of the tests meets what is asked of a book.
-use Rattle.std.proofs.Common.{◌≡◌, ℕ, zero, suc, ◌+◌, ◌<◌, ◌≤◌, length, arith}
-use Rattle.std.specs.Prelude.{All}
+use Rattle.std.proofs.Common.{◌≡◌, ℕ, zero, suc, ◌+◌, ◌<◌, length, arith}
 use Rattle.m2v_core.specs.Book.{cache_after}
 use Rattle.m2v_core.specs.Chain.{chain_needs, chain_value}
-
-pub chain_below : (j : ℕ) → All (λ i. i < j) (chain_needs j)
-chain_below zero i d lt = absurd (omega arith)
-chain_below (suc j) zero d lt = omega arith
-chain_below (suc j) (suc i) d lt = absurd (omega arith)
-
-pub chain_few : (j : ℕ) → length (chain_needs j) ≤ 160
-chain_few zero = omega arith
-chain_few (suc j) = omega arith
 
 -- what a cache holds after the need of a job, and the value of the job
 pub chain_works : (j c x : ℕ) → x ≡ cache_after (λ _ part _. part) chain_value (chain_needs j) (length (chain_needs j)) c → 0 < j → j + x ≡ chain_value j
 unfolding cache_after
 chain_works zero c x e lt = absurd (omega arith)
 chain_works (suc j) c x e lt = omega arith
-
-pub chain_first : (j : ℕ) → j ≡ 0 → let z : ℕ = 0 in z ≡ chain_value j
-chain_first zero e = omega arith
-chain_first (suc j) e = absurd (omega arith)
 
 pub chain_small : (j : ℕ) → j < 3 → chain_value j < 4
 chain_small zero lt = omega arith

@@ -1,20 +1,16 @@
 -- Every event keeps a core good.
-use Rattle.std.proofs.Common.{◌≡◌, ℕ, zero, suc, ◌+◌, ◌<◌, ◌≤◌, Bool, true, false, not, cond, List, [], ◌∷◌, ◌++◌, length, set, get_or, replicate, refl, sym, ap, ◌∙◌, subst, arith, eqb, ltb, length-set, get_or-set_other, get_or-set_same}
-use Rattle.std.specs.Prelude.{sum_by, ◌||◌, ◌↔◌, Result, Ok, Err, is_none, Option, Some, None, is_some}
+use Rattle.std.proofs.Common.{◌≡◌, ℕ, zero, suc, ◌+◌, ◌<◌, ◌≤◌, Bool, true, false, cond, List, [], ◌∷◌, ◌++◌, length, set, get_or, replicate, refl, sym, ap, ◌∙◌, subst, arith, eqb, ltb, length-set, get_or-set_other, get_or-set_same}
+use Rattle.std.specs.Prelude.{sum_by, ◌||◌, Option, Some, None, is_some}
 use Rattle.std.specs.List.{list_any}
 use Rattle.std.proofs.lemmas.Bool.Decides.{nat_tests}
-use Rattle.std.proofs.lemmas.Bool.{ltb-true, lt-ltb, and_parts}
+use Rattle.std.proofs.lemmas.Bool.{ltb-true, and_parts}
 use Rattle.std.proofs.lemmas.List.Sums.{sum_by-cons, sum_by_push, sum_by-set, get_or-le-sum_by}
 use mathlib.Core.Bool.{true≢false}
 use mathlib.Core.Logic.{dite}
 use native.Mathlib.Decide.{ℕ_discrete}
 use Rattle.m2v_core.specs.declared.event.Event.{Event}
 use Rattle.m2v_core.specs.declared.event.Event.TheVariants.{Claim, Publish, Fetch}
-use Rattle.m2v_core.specs.declared.event.Answer.{Answer}
-use Rattle.m2v_core.specs.declared.event.Answer.TheVariants.{Drawn, End, Done}
-use Rattle.m2v_core.specs.declared.event.StepFault.{StepFault}
-use Rattle.m2v_core.specs.declared.event.StepFault.TheVariants.{NotLawful}
-use Rattle.m2v_core.specs.Core.{State, Good, opening, workers, of_worker, is_published, is_open, may_claim, may_publish, claim, publish, published_at, missing, answer, after, run, times}
+use Rattle.m2v_core.specs.Core.{State, Good, opening, workers, of_worker, is_open, may_claim, may_publish, claim, publish, after, run, times}
 
 one_if : Bool → ℕ
 one_if b = cond b 1 0

@@ -1,6 +1,6 @@
 -- One need more is learned, and none of the needs is missing.
-use Rattle.std.proofs.Common.{◌≡◌, ℕ, zero, suc, ◌+◌, ◌<◌, Bool, true, false, not, cond, List, [], ◌∷◌, length, get_or, refl, sym, ap, ◌∙◌, arith, add-one}
-use Rattle.std.specs.Prelude.{slice_index, Option, Some, None, is_some, find}
+use Rattle.std.proofs.Common.{◌≡◌, ℕ, zero, suc, ◌+◌, ◌<◌, Bool, true, false, not, cond, List, [], ◌∷◌, length, get_or, refl, ap, ◌∙◌, arith, add-one}
+use Rattle.std.specs.Prelude.{slice_index, Some, None, is_some, find}
 use mathlib.Core.Bool.{true≢false}
 use Rattle.m2v_core.specs.Book.{cache_after}
 

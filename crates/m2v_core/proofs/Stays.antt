@@ -1,13 +1,12 @@
 -- What is published stays, and an event that is refused does nothing.
-use Rattle.std.proofs.Common.{◌≡◌, ◌≢◌, ℕ, ◌<◌, Bool, true, false, not, cond, ◌&&◌, List, [], ◌∷◌, length, set, get_or, refl, sym, ap, ◌∙◌, subst, arith, ltb, length-set, get_or-set_other}
-use Rattle.std.specs.Prelude.{◌↔◌, Option, Some, None, is_some, is_none, Result, Ok, Err}
+use Rattle.std.proofs.Common.{◌≡◌, ℕ, ◌<◌, Bool, true, false, not, cond, ◌&&◌, List, [], ◌∷◌, refl, sym, ap, ◌∙◌, arith, ltb, length-set, get_or-set_other}
+use Rattle.std.specs.Prelude.{◌↔◌, Option, Some, None, is_some, is_none, Ok, Err}
 use Rattle.std.proofs.lemmas.Bool.{lt-ltb, and_parts}
 use mathlib.Core.Bool.{true≢false}
 use mathlib.Core.Logic.{dite}
 use native.Mathlib.Decide.{ℕ_discrete}
 use Rattle.m2v_core.specs.declared.event.Event.{Event}
 use Rattle.m2v_core.specs.declared.event.Event.TheVariants.{Claim, Publish, Fetch}
-use Rattle.m2v_core.specs.declared.event.Answer.{Answer}
 use Rattle.m2v_core.specs.declared.event.Answer.TheVariants.{Drawn, End, Done}
 use Rattle.m2v_core.specs.declared.event.StepFault.{StepFault}
 use Rattle.m2v_core.specs.declared.event.StepFault.TheVariants.{NotLawful}

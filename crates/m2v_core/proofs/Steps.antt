@@ -1,12 +1,12 @@
 -- What a step leaves good, and what a refused one leaves as it was.
-use Rattle.std.proofs.Common.{◌≡◌, ℕ, ◌<◌, Bool, List, length, set, get_or, refl, sym, ap, ◌∙◌, subst, arith, get_or-set_other, get_or-set_same}
+use Rattle.std.proofs.Common.{◌≡◌, ℕ, ◌<◌, List, length, set, get_or, sym, ap, ◌∙◌, subst, arith, get_or-set_other, get_or-set_same}
 use Rattle.std.specs.Prelude.{Option, Some, None, unwrap_or, Result, Ok, Err, OnErr}
-use mathlib.Core.Logic.{⊎_elim, inl, inr, dite}
+use mathlib.Core.Logic.{⊎_elim, dite}
 use native.Mathlib.Decide.{ℕ_discrete}
 use Rattle.m2v_core.specs.declared.event.Event.{Event}
 use Rattle.m2v_core.specs.declared.event.Answer.{Answer}
 use Rattle.m2v_core.specs.declared.event.StepFault.{StepFault}
-use Rattle.m2v_core.specs.Core.{State, Good, published_at}
+use Rattle.m2v_core.specs.Core.{State, Good}
 use Rattle.m2v_core.specs.Machine.{Stepped, IsSound}
 use Rattle.m2v_core.proofs.Good.{after_good, publish_good}
 use Rattle.m2v_core.proofs.Stays.{refused}

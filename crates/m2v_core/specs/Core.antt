@@ -1,5 +1,5 @@
 -- The scheduling core: its states, what it answers to each event, what each event does, and which states are good.
-use Rattle.std.specs.Prelude.{◌≡◌, ℕ, ◌+◌, ◌<◌, ◌≤◌, ◌==◌, Bool, not, cond, ◌&&◌, List, [], ◌∷◌, ◌++◌, length, replicate, Option, Some, None, Result, Ok, Err, is_some, is_none, slice_index_or, slice_set, nat_lt, sum_by, count_by, find, if◌then◌else◌}
+use Rattle.std.specs.Prelude.{◌≡◌, ℕ, ◌+◌, ◌<◌, ◌≤◌, ◌==◌, Bool, not, ◌&&◌, List, [], ◌∷◌, ◌++◌, length, replicate, Option, Some, None, Result, Ok, Err, is_some, is_none, slice_index_or, slice_set, nat_lt, sum_by, count_by, find, if◌then◌else◌}
 use Rattle.std.specs.List.{list_any}
 use Rattle.m2v_core.specs.declared.event.Event.{Event}
 use Rattle.m2v_core.specs.declared.event.Event.TheVariants.{Claim, Publish, Fetch}

@@ -1,7 +1,6 @@
 // A core over a book of three jobs in a chain.
 ghost use Rattle.std.specs.Prelude.{◌≡◌};
-ghost use Rattle.m2v_core.specs.Chain.{chain_needs, chain_value};
-ghost use Rattle.m2v_core.proofs.Chain.{chain_below, chain_few};
+ghost use Rattle.m2v_core.specs.Chain.{chain_needs, chain_value, chain_below, chain_few};
 
 use crate::{Answer, Core, Event, JobBook, Memory, NeedList, StepFault};
 use std::alloc::Global;

@@ -1,4 +1,3 @@
-use Rattle.std.proofs.Common.{refl}
 use Rattle.m2v_core.proofs.Noted.{lists_more}
 use Rattle.m2v_core.proofs.machine.no_claims.Goals as goal
 

@@ -1,4 +1,3 @@
-use Rattle.std.proofs.Common.{arith, ap, sym, refl, ◌∙◌}
 use Rattle.std.specs.Prelude.{not, is_some, slice_index_or, None}
 use Rattle.m2v_core.proofs.Learns.{learn_none, learn_more, find_none, not_false}
 use Rattle.m2v_core.proofs.published.computed.Goals as goal

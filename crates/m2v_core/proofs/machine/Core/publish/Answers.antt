@@ -1,11 +1,10 @@
-use Rattle.std.proofs.Common.{arith, ap, sym, refl, ◌∙◌, ◌≡◌, ◌<◌, subst}
+use Rattle.std.proofs.Common.{arith, ap, sym, ◌∙◌, ◌<◌, subst}
 use mathlib.Core.Logic.{inr}
 use Rattle.m2v_core.specs.Lists.{lists}
-use Rattle.m2v_core.specs.Core.{State, workers, is_open}
+use Rattle.m2v_core.specs.Core.{State, workers}
 use Rattle.m2v_core.proofs.Good.{open_below}
 use Rattle.m2v_core.proofs.Noted.{length_lists}
 use Rattle.m2v_core.proofs.Answers.{publish_not_open, publish_missing, publish_done}
-use Rattle.m2v_core.proofs.Steps.{published_sound}
 use Rattle.m2v_core.proofs.machine.Core.publish.Goals as goal
 
 pub returns-then-not-is_open-clause-stepped : goal.returns-then-not-is_open-clause-stepped

@@ -1,4 +1,4 @@
-use Rattle.std.proofs.Common.{ap, sym, refl, ◌∙◌}
+use Rattle.std.proofs.Common.{ap}
 use mathlib.Core.Logic.{inr}
 use Rattle.m2v_core.specs.Core.{after}
 use Rattle.m2v_core.proofs.Steps.{stepped_same, stepped_good}
