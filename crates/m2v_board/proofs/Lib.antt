@@ -1,4 +1,5 @@
 pub mod Draws
+pub mod Events
 pub mod Joins
 pub mod Opening
 pub mod Raises
