@@ -78,6 +78,7 @@ impl JobBook for Chain {
 }
 
 // Job j needs the three jobs before it, as far as they exist, and its value is j plus the values of its needs, below 1,000,003.
+#[derive(Drop)]
 pub(crate) struct Trio {
     pub(crate) jobs: u32,
 }

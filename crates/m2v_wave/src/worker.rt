@@ -80,6 +80,13 @@ fn fill<B: JobBook>(book: &B, cache: &B::Cache, j: u32, post: &mut Post<B>) -> u
     book.tell(j, &post.shared)
 }
 
+// Tells the gate that a job is done. The book is for the contract.
+fn tell_gate<B: JobBook, G: Gate>(_book: &B, gate: &G, number: u32, j: u32, told: u64)
+    requires { told ≡ B.told _book.now j }
+{
+    gate.done(number, j, told);
+}
+
 // Does one job that the pass has claimed, and publishes it.
 fn work_one<R: Wait, B: JobBook, G: Gate>(
     rt: &R,
@@ -104,7 +111,8 @@ fn work_one<R: Wait, B: JobBook, G: Gate>(
     let mut post = board.take(pass, j);
     gate.pass(number, j);
     learn_all(rt, book, board, pass, cache, j);
-    gate.done(number, j, fill(book, cache, j, &mut post));
+    let told = fill(book, cache, j, &mut post);
+    tell_gate(book, gate, number, j, told);
     board.publish(pass, j, post);
 }
 
