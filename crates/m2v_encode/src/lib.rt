@@ -3,7 +3,8 @@
 
 mod answer;
 mod blocks;
-mod flat;
+mod profile;
 mod units;
 
 pub use answer::{EncodeError, Summary};
+pub use profile::flat;

@@ -31,6 +31,14 @@ block_is xs g len h =
     ext_get_or (pos 0) xs (map (λ k. g (k / 8) (k % 8)) (range_with_len 0 64))
     (len ∙ sym (length-map-range_with_len (λ k. g (k / 8) (k % 8)) 0 64))
     (λ i l.
-        let e : 8 * (i / 8) + i % 8 ≡ i = omega arith in
-        ap (λ k. get_or xs k (pos 0)) (sym e) ∙ h (i / 8) (i % 8) (omega arith) (omega arith)
-        ∙ sym (get_or-map-range_with_len (λ k. g (k / 8) (k % 8)) 0 64 i i (pos 0) (omega arith) (omega arith)))
+    let e : 8 * (i / 8) + i % 8 ≡ i = omega arith in
+    ap (λ k. get_or xs k (pos 0)) (sym e) ∙ h (i / 8) (i % 8) (omega arith) (omega arith)
+    ∙ sym (get_or-map-range_with_len (λ k. g (k / 8) (k % 8)) 0 64 i i (pos 0) (omega arith) (omega arith)))
+
+-- the number in line y and column x of a block that is given place by place
+pub place_is : (g : ℕ → ℕ → ℤ) (y x : ℕ) → y < 8 → x < 8 → get_or (map (λ k. g (k / 8) (k % 8)) (range_with_len 0 64)) (8 * y + x) (pos 0) ≡ g y x
+place_is g y x ly lx =
+    let ey : (8 * y + x) / 8 ≡ y = omega arith in
+    let ex : (8 * y + x) % 8 ≡ x = omega arith in
+    get_or-map-range_with_len (λ k. g (k / 8) (k % 8)) 0 64 (8 * y + x) (8 * y + x) (pos 0) (omega arith) (omega arith)
+    ∙ (λ i. g (ey i) (ex i))

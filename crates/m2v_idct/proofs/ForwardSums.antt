@@ -1,8 +1,12 @@
-use Rattle.std.proofs.Common.{◌≡◌, ℕ, ◌+◌, ◌*◌, List, get_or, refl, ap, ◌∙◌, sym, ℤ, pos, ◌+ℤ◌, ◌*ℤ◌}
+use Rattle.std.proofs.Common.{◌≡◌, ℕ, ◌+◌, ◌*◌, List, get_or, arith, refl, ap, ◌∙◌, sym, ℤ, pos, ◌+ℤ◌, ◌*ℤ◌}
 use Rattle.std.specs.Int.{int_shr}
+use Rattle.std.proofs.lemmas.Int.{ints}
 use Rattle.m2v_idct.specs.Sums.{sum_below}
-use Rattle.m2v_idct.specs.Forward.{forward_at, cosine}
-use Rattle.m2v_idct.proofs.Sums.{sum_below-same, sum_below-times, sum_below-lines}
+use Rattle.m2v_idct.specs.Block.{at}
+use Rattle.m2v_idct.specs.Forward.{cosine, forward_at, projection, rounded}
+use Rattle.m2v_idct.specs.Ranges.{IsCoefficient, IsDoubleSum}
+use Rattle.m2v_idct.proofs.Sums.{sum_below-same, sum_below-times, sum_below-lines, sum_below-turned, times_turned}
+use Rattle.m2v_idct.proofs.Shifts.{shr26_low, shr26_high}
 
 -- the cosine at 0 is everywhere the same
 cosine_zero : (x : ℕ) → cosine 0 x ≡ pos 2896
@@ -26,3 +30,21 @@ pub mean_is : (f : List ℤ) (s : ℤ) → s ≡ sum_below 64 (λ k. get_or f k 
     → r ≡ int_shr (pos 8386816 *ℤ s +ℤ pos 33554432) 26 → r ≡ forward_at f 0 0
 unfolding forward_at
 mean_is f s e r h = h ∙ ap (λ t. int_shr (t +ℤ pos 33554432) 26) (ap (λ t. pos 8386816 *ℤ t) e ∙ sym (double_zero f))
+
+-- down the block first, then across it
+pub forward_by_parts : (f : List ℤ) (v u : ℕ) → forward_at f v u ≡ rounded (projection u (λ x. projection v (λ y. at f y x)))
+unfolding forward_at projection
+forward_by_parts f v u =
+    ap rounded
+    (sum_below-turned 8 8 (λ y x. cosine v y *ℤ cosine u x *ℤ at f y x)
+    ∙ sum_below-same 8 (λ x. sum_below 8 (λ y. cosine v y *ℤ cosine u x *ℤ at f y x))
+    (λ x. cosine u x *ℤ sum_below 8 (λ y. cosine v y *ℤ at f y x))
+    (λ x l. sum_below-same 8 (λ y. cosine v y *ℤ cosine u x *ℤ at f y x) (λ y. cosine u x *ℤ (cosine v y *ℤ at f y x))
+    (λ y m. times_turned (cosine v y) (cosine u x) (at f y x))
+    ∙ sum_below-times 8 (cosine u x) (λ y. cosine v y *ℤ at f y x)))
+
+pub rounded_within : (z : ℤ) → IsDoubleSum z → IsCoefficient (rounded z)
+rounded_within z h =
+    let l = shr26_low (z +ℤ pos 33554432) in
+    let u = shr26_high (z +ℤ pos 33554432) in
+    (omega (arith, ints, h, l, u), omega (arith, ints, h, l, u))

@@ -1,6 +1,10 @@
 pub mod Blocks
+pub mod Bounds
+pub mod Factors
 pub mod ForwardSums
 pub mod Passed
+pub mod Places
+pub mod Projections
 pub mod Rows
 pub mod Shifts
 pub mod Sums

@@ -2,7 +2,7 @@ use Rattle.std.proofs.Common.{◌≡◌, ℕ, ◌+◌, ◌*◌, ◌<◌, ◌≤�
 use Rattle.std.specs.Int.{int_shr}
 use Rattle.std.proofs.lemmas.Int.{ints}
 use Rattle.std.proofs.lemmas.List.Elements.{All-from_recursion}
-use Rattle.m2v_idct.specs.Forward.{at}
+use Rattle.m2v_idct.specs.Block.{at}
 use Rattle.m2v_idct.specs.Inverse.{after_rows, column, combine, row, scaled}
 use Rattle.m2v_idct.specs.Ranges.{IsCoefficient, Within}
 use Rattle.m2v_idct.proofs.Shifts.{shr8_low, shr8_high, shr8_is}
@@ -54,7 +54,7 @@ row_flat g h r e =
     let e7 = h 7 (omega arith) (omega arith) in
     ap (λ t. t ∷ t ∷ t ∷ t ∷ t ∷ t ∷ t ∷ t ∷ []) e ∙ sym (flat (g 0))
     ∙ row_listed g (g 0 ∷ pos 0 ∷ pos 0 ∷ pos 0 ∷ pos 0 ∷ pos 0 ∷ pos 0 ∷ pos 0 ∷ [])
-        (sym (λ i. g 0 ∷ e1 i ∷ e2 i ∷ e3 i ∷ e4 i ∷ e5 i ∷ e6 i ∷ e7 i ∷ []))
+    (sym (λ i. g 0 ∷ e1 i ∷ e2 i ∷ e3 i ∷ e4 i ∷ e5 i ∷ e6 i ∷ e7 i ∷ []))
 
 -- bounds
 scaled_within : (t : ℤ) → Within 33600000 t → Within 23800000 (scaled t)
@@ -88,16 +88,31 @@ combine_within a1 a7 a5 a3 e2 e6 p m h1 h7 h5 h3 g2 g6 hp hm =
     let y = scaled ((a1 -ℤ a5) -ℤ (a7 -ℤ a3)) in
     let hx = scaled_within ((a1 -ℤ a5) +ℤ (a7 -ℤ a3)) (omega (arith, ints), omega (arith, ints)) in
     let hy = scaled_within ((a1 -ℤ a5) -ℤ (a7 -ℤ a3)) (omega (arith, ints), omega (arith, ints)) in
-    All-from_recursion (Within 160000) (combine a1 a7 a5 a3 e2 e6 p m 8)
-    (shifted_within (p +ℤ e2 +ℤ (a1 +ℤ a5)) (plus_plus_within p e2 (a1 +ℤ a5) hp g2 (omega (arith, ints), omega (arith, ints)))
-    , (shifted_within (m +ℤ e6 +ℤ x) (plus_plus_within m e6 x hm g6 hx)
-    , (shifted_within (m -ℤ e6 +ℤ y) (minus_plus_within m e6 y hm g6 hy)
-    , (shifted_within (p -ℤ e2 +ℤ (a7 +ℤ a3)) (minus_plus_within p e2 (a7 +ℤ a3) hp g2 (omega (arith, ints), omega (arith, ints)))
-    , (shifted_within (p -ℤ e2 -ℤ (a7 +ℤ a3)) (minus_minus_within p e2 (a7 +ℤ a3) hp g2 (omega (arith, ints), omega (arith, ints)))
-    , (shifted_within (m -ℤ e6 -ℤ y) (minus_minus_within m e6 y hm g6 hy)
-    , (shifted_within (m +ℤ e6 -ℤ x) (plus_minus_within m e6 x hm g6 hx)
-    , (shifted_within (p +ℤ e2 -ℤ (a1 +ℤ a5)) (plus_minus_within p e2 (a1 +ℤ a5) hp g2 (omega (arith, ints), omega (arith, ints)))
-    , tt))))))))
+    All-from_recursion (Within 160000) (combine a1 a7 a5 a3 e2 e6 p m 8) (
+      shifted_within (p +ℤ e2 +ℤ (a1 +ℤ a5)) (plus_plus_within p e2 (a1 +ℤ a5) hp g2 (omega (arith, ints), omega (arith, ints))),
+      (
+        shifted_within (m +ℤ e6 +ℤ x) (plus_plus_within m e6 x hm g6 hx),
+        (
+          shifted_within (m -ℤ e6 +ℤ y) (minus_plus_within m e6 y hm g6 hy),
+          (
+            shifted_within (p -ℤ e2 +ℤ (a7 +ℤ a3)) (minus_plus_within p e2 (a7 +ℤ a3) hp g2 (omega (arith, ints), omega (arith, ints))),
+            (
+              shifted_within (p -ℤ e2 -ℤ (a7 +ℤ a3)) (minus_minus_within p e2 (a7 +ℤ a3) hp g2 (omega (arith, ints), omega (arith, ints))),
+              (
+                shifted_within (m -ℤ e6 -ℤ y) (minus_minus_within m e6 y hm g6 hy),
+                (
+                  shifted_within (m +ℤ e6 -ℤ x) (plus_minus_within m e6 x hm g6 hx),
+                  (
+                    shifted_within (p +ℤ e2 -ℤ (a1 +ℤ a5)) (plus_minus_within p e2 (a1 +ℤ a5) hp g2 (omega (arith, ints), omega (arith, ints))),
+                    tt,
+                  ),
+                ),
+              ),
+            ),
+          ),
+        ),
+      ),
+    )
 
 pub row_within : (b : ℕ → ℤ) → ((k : ℕ) → k < 8 → Within 2048 (b k)) → All (Within 160000) (row b)
 unfolding row
@@ -105,18 +120,18 @@ row_within b h =
     let h0 = h 0 (omega arith) in let h1 = h 1 (omega arith) in let h2 = h 2 (omega arith) in let h3 = h 3 (omega arith) in
     let h4 = h 4 (omega arith) in let h5 = h 5 (omega arith) in let h6 = h 6 (omega arith) in let h7 = h 7 (omega arith) in
     combine_within
-        (pos 2841 *ℤ b 1 +ℤ pos 565 *ℤ b 7) (pos 565 *ℤ b 1 -ℤ pos 2841 *ℤ b 7)
-        (pos 2408 *ℤ b 3 +ℤ pos 1609 *ℤ b 5) (pos 2408 *ℤ b 5 -ℤ pos 1609 *ℤ b 3)
-        (pos 2676 *ℤ b 2 +ℤ pos 1108 *ℤ b 6) (pos 1108 *ℤ b 2 -ℤ pos 2676 *ℤ b 6)
-        (pos 2048 *ℤ (b 0 +ℤ b 4) +ℤ pos 128) (pos 2048 *ℤ (b 0 -ℤ b 4) +ℤ pos 128)
-        (omega (arith, ints, h1, h7), omega (arith, ints, h1, h7)) (omega (arith, ints, h1, h7), omega (arith, ints, h1, h7))
-        (omega (arith, ints, h3, h5), omega (arith, ints, h3, h5)) (omega (arith, ints, h3, h5), omega (arith, ints, h3, h5))
-        (omega (arith, ints, h2, h6), omega (arith, ints, h2, h6)) (omega (arith, ints, h2, h6), omega (arith, ints, h2, h6))
-        (omega (arith, ints, h0, h4), omega (arith, ints, h0, h4)) (omega (arith, ints, h0, h4), omega (arith, ints, h0, h4))
+    (pos 2841 *ℤ b 1 +ℤ pos 565 *ℤ b 7) (pos 565 *ℤ b 1 -ℤ pos 2841 *ℤ b 7)
+    (pos 2408 *ℤ b 3 +ℤ pos 1609 *ℤ b 5) (pos 2408 *ℤ b 5 -ℤ pos 1609 *ℤ b 3)
+    (pos 2676 *ℤ b 2 +ℤ pos 1108 *ℤ b 6) (pos 1108 *ℤ b 2 -ℤ pos 2676 *ℤ b 6)
+    (pos 2048 *ℤ (b 0 +ℤ b 4) +ℤ pos 128) (pos 2048 *ℤ (b 0 -ℤ b 4) +ℤ pos 128)
+    (omega (arith, ints, h1, h7), omega (arith, ints, h1, h7)) (omega (arith, ints, h1, h7), omega (arith, ints, h1, h7))
+    (omega (arith, ints, h3, h5), omega (arith, ints, h3, h5)) (omega (arith, ints, h3, h5), omega (arith, ints, h3, h5))
+    (omega (arith, ints, h2, h6), omega (arith, ints, h2, h6)) (omega (arith, ints, h2, h6), omega (arith, ints, h2, h6))
+    (omega (arith, ints, h0, h4), omega (arith, ints, h0, h4)) (omega (arith, ints, h0, h4), omega (arith, ints, h0, h4))
 
 pub after_rows_within : (b : List ℤ) → length b ≡ 64 → All IsCoefficient b → (y x : ℕ) → y < 8 → x < 8
     → Within 160000 (after_rows b y x)
 unfolding after_rows row combine
 after_rows_within b len h y x ly lx =
     row_within (at b y) (λ k lk. let c = h (8 * y + k) (pos 0) (omega arith) in (omega (arith, ints, c), omega (arith, ints, c)))
-        x (pos 0) lx
+    x (pos 0) lx

@@ -33,3 +33,11 @@ shr3_high (negsuc a) = omega (arith, ints)
 
 pub eighth_within : (t : ℤ) → Within 650000000 t → Within 82000000 (int_shr (t +ℤ pos 4) 3)
 eighth_within t h = let l = shr3_low (t +ℤ pos 4) in let u = shr3_high (t +ℤ pos 4) in (omega (arith, ints, h.0, h.1), omega (arith, ints, h.0, h.1))
+
+pub shr26_low : (z : ℤ) → (pos 67108864 *ℤ int_shr z 26) ≤ℤ z
+shr26_low (pos a) = omega (arith, ints)
+shr26_low (negsuc a) = omega (arith, ints)
+
+pub shr26_high : (z : ℤ) → z ≤ℤ (pos 67108864 *ℤ int_shr z 26 +ℤ pos 67108863)
+shr26_high (pos a) = omega (arith, ints)
+shr26_high (negsuc a) = omega (arith, ints)

@@ -1,10 +1,10 @@
--- The inverse transform of Annex A of ISO/IEC 13818-2, in the whole numbers of the reference decoder of the MPEG
--- Software Simulation Group (the file idct.c of mpeg2decode): first the rows of a block, then the columns of what the
--- rows leave. `int_shr z n` is z / 2 ^ n, rounded down.
-use Rattle.std.specs.Prelude.{ℕ, ◌/◌, ◌%◌, List, [], ◌∷◌, map, slice_index_or, ℤ, pos, neg_ℤ, ◌+ℤ◌, ◌-ℤ◌, ◌*ℤ◌}
+-- The inverse transform of Annex A of ISO/IEC 13818-2, in the whole numbers of the reference decoder of the
+-- MPEG Software Simulation Group (idct.c of mpeg2decode): first the rows of a block, then the columns of what
+-- the rows leave. `int_shr z n` is z / 2 ^ n, rounded down.
+use Rattle.std.specs.Prelude.{ℕ, ◌/◌, ◌%◌, List, [], ◌∷◌, map, ℤ, pos, neg_ℤ, ◌+ℤ◌, ◌-ℤ◌, ◌*ℤ◌}
 use Rattle.std.specs.Int.{int_shr, int_max, int_min}
 use Rattle.std.specs.List.{range_with_len}
-use Rattle.m2v_idct.specs.Forward.{at}
+use Rattle.m2v_idct.specs.Block.{at, nth}
 
 -- 181 / 256 of t, to the nearest
 unfoldable pub scaled : ℤ → ℤ
@@ -58,11 +58,11 @@ clip z = int_max (neg_ℤ (pos 256)) (int_min z (pos 255))
 
 -- what the rows of the block b leave in line y and column x
 unfoldable pub after_rows : List ℤ → ℕ → ℕ → ℤ
-after_rows b y x = slice_index_or (row (at b y)) x (pos 0)
+after_rows b y x = nth (row (at b y)) x
 
 -- the sample, or the difference, in line y and column x
 unfoldable pub inverse_at : List ℤ → ℕ → ℕ → ℤ
-inverse_at b y x = clip (slice_index_or (column (λ k. after_rows b k x)) y (pos 0))
+inverse_at b y x = clip (nth (column (λ k. after_rows b k x)) y)
 
 -- the 64 samples of a block of coefficients
 unfoldable pub inverse_of : List ℤ → List ℤ

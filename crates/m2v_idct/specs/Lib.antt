@@ -1,3 +1,4 @@
+pub mod Block
 pub mod Forward
 pub mod Inverse
 pub mod Ranges

@@ -12,3 +12,7 @@ IsCoefficient z = (neg_ℤ (pos 2048) ≤ℤ z) × (z ≤ℤ pos 2047)
 -- z lies from -n to n
 abbrev pub Within : ℕ → ℤ → Type 0
 Within n z = (neg_ℤ (pos n) ≤ℤ z) × (z ≤ℤ pos n)
+
+-- a sum of 64 samples, each times two cosines, is one of these
+abbrev pub IsDoubleSum : ℤ → Type 0
+IsDoubleSum z = (neg_ℤ (pos 137409593344) ≤ℤ z) × (z ≤ℤ pos 137275404288)

@@ -3,8 +3,8 @@ ghost use Rattle.std.specs.Int.{int_shr};
 ghost use Rattle.m2v_idct.specs.Inverse.{combine, scaled};
 ghost use Rattle.m2v_idct.specs.Ranges.{Within};
 
-// What the results of a row or a column are made of: the odd inputs turned in pairs, the inputs 2 and 6 turned, and
-// the sum and the difference of the inputs 0 and 4.
+// What the results of a row or a column are made of: the odd inputs turned in pairs, the inputs 2
+// and 6 turned, and the sum and the difference of the inputs 0 and 4.
 #[derive(Clone, Copy)]
 pub struct Terms {
     pub a1: i32,
@@ -111,8 +111,10 @@ fn join_parts(even: Even, odd: Odd, n: u32) -> [i32; 8]
     requires o1 { Within 235000000 odd.o1 }
     requires o2 { Within 235000000 odd.o2 }
     requires o3 { Within 235000000 odd.o3 }
-    ensures { result ≡ int_shr (even.s0 +ℤ odd.o0) n ∷ int_shr (even.s1 +ℤ odd.o1) n ∷ int_shr (even.s2 +ℤ odd.o2) n
-        ∷ int_shr (even.s3 +ℤ odd.o3) n ∷ int_shr (even.s3 -ℤ odd.o3) n ∷ int_shr (even.s2 -ℤ odd.o2) n
+    ensures { result
+        ≡ int_shr (even.s0 +ℤ odd.o0) n ∷ int_shr (even.s1 +ℤ odd.o1) n
+        ∷ int_shr (even.s2 +ℤ odd.o2) n ∷ int_shr (even.s3 +ℤ odd.o3) n
+        ∷ int_shr (even.s3 -ℤ odd.o3) n ∷ int_shr (even.s2 -ℤ odd.o2) n
         ∷ int_shr (even.s1 -ℤ odd.o1) n ∷ int_shr (even.s0 -ℤ odd.o0) n ∷ [] }
 {
     [

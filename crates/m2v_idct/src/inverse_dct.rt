@@ -1,13 +1,15 @@
-ghost use Rattle.std.specs.Prelude.{◌≡◌, ◌<◌, ◌≤◌, ◌+◌, ◌*◌, ℕ, ◌≢◌, All, IsTrue, ◌∷◌, [], pos, ◌*ℤ◌, slice_index_or};
-ghost use Rattle.m2v_idct.specs.Forward.{at};
+ghost use Rattle.std.specs.Prelude.{◌≡◌, ◌<◌, ◌≤◌, ◌+◌, ◌*◌, ℕ, ◌≢◌, All, IsTrue, ◌∷◌, [], pos, ◌*ℤ◌};
+ghost use Rattle.m2v_idct.specs.Block.{at, nth};
 ghost use Rattle.m2v_idct.specs.Inverse.{after_rows, clip, column, inverse_of, row};
 ghost use Rattle.m2v_idct.specs.Ranges.{IsCoefficient, IsSample, Within};
 
+use crate::block::{column_at, put_row, row_at};
 use crate::combine::combine_terms;
 use crate::terms::{column_terms, row_terms};
 
-/// The 64 samples, or differences of samples, of a block of coefficients, by Annex A of ISO/IEC 13818-2 in the whole
-/// numbers of the reference decoder. Both blocks hold the top line first, each line from the left.
+/// The 64 samples or differences of samples, each clipped to -256 to 255, of a block of coefficients,
+/// each from -2048 to 2047, by Annex A of ISO/IEC 13818-2 in the whole numbers of the reference decoder
+/// of the MPEG Software Simulation Group. Both blocks hold the top line first, each line from the left.
 pub fn inverse(b: &[i32; 64]) -> [i32; 64]
     requires { All IsCoefficient b.now }
     ensures value { result ≡ inverse_of b.now }
@@ -21,9 +23,9 @@ pub fn inverse(b: &[i32; 64]) -> [i32; 64]
 }
 
 #[inline(always)]
-fn transform_rows(b: &[i32; 64], rows: &mut [i32; 64])
+pub fn transform_rows(b: &[i32; 64], rows: &mut [i32; 64])
     requires { All IsCoefficient b.now }
-    ensures { (y x : ℕ) → y < 8 → x < 8 → slice_index_or rows.new (8 * y + x) (pos 0) ≡ after_rows b.now y x }
+    ensures { (y x : ℕ) → y < 8 → x < 8 → nth rows.new (8 * y + x) ≡ after_rows b.now y x }
 {
     for y in 0..8 {
         put_row(rows, y, &row_results(&row_at(b, y)));
@@ -34,65 +36,19 @@ fn transform_rows(b: &[i32; 64], rows: &mut [i32; 64])
 fn transform_columns(rows: &[i32; 64], out: &mut [i32; 64])
     requires { All (Within 160000) rows.now }
     ensures { (y x : ℕ) → y < 8 → x < 8
-        → slice_index_or out.new (8 * y + x) (pos 0) ≡ clip (slice_index_or (column (λ k. at rows.now k x)) y (pos 0)) }
+        → nth out.new (8 * y + x) ≡ clip (nth (column (λ k. at rows.now k x)) y) }
 {
     for x in 0..8 {
-        put_column(out, x, &column_results(&column_at(rows, x)));
+        put_clipped(out, x, &column_results(&column_at(rows, x)));
     }
 }
 
+// Writes the results of a column, each clipped to a sample.
 #[inline(always)]
-fn row_at(b: &[i32; 64], y: usize) -> [i32; 8]
-    requires { y < 8 }
-    ensures { result ≡ at b.now y 0 ∷ at b.now y 1 ∷ at b.now y 2 ∷ at b.now y 3
-        ∷ at b.now y 4 ∷ at b.now y 5 ∷ at b.now y 6 ∷ at b.now y 7 ∷ [] }
-{
-    [
-        b[8 * y],
-        b[8 * y + 1],
-        b[8 * y + 2],
-        b[8 * y + 3],
-        b[8 * y + 4],
-        b[8 * y + 5],
-        b[8 * y + 6],
-        b[8 * y + 7],
-    ]
-}
-
-#[inline(always)]
-fn column_at(b: &[i32; 64], x: usize) -> [i32; 8]
+fn put_clipped(out: &mut [i32; 64], x: usize, results: &[i32; 8])
     requires { x < 8 }
-    ensures { result ≡ at b.now 0 x ∷ at b.now 1 x ∷ at b.now 2 x ∷ at b.now 3 x
-        ∷ at b.now 4 x ∷ at b.now 5 x ∷ at b.now 6 x ∷ at b.now 7 x ∷ [] }
-{
-    [
-        b[x],
-        b[8 + x],
-        b[16 + x],
-        b[24 + x],
-        b[32 + x],
-        b[40 + x],
-        b[48 + x],
-        b[56 + x],
-    ]
-}
-
-#[inline(always)]
-fn put_row(rows: &mut [i32; 64], y: usize, results: &[i32; 8])
-    requires { y < 8 }
-    ensures row { (k : ℕ) → k < 8 → slice_index_or rows.new (8 * y + k) (pos 0) ≡ slice_index_or results.now k (pos 0) }
-    ensures rest { (i : ℕ) → ((k : ℕ) → k < 8 → i ≢ 8 * y + k) → slice_index_or rows.new i (pos 0) ≡ slice_index_or rows.old i (pos 0) }
-{
-    for k in 0..8 {
-        rows[8 * y + k] = results[k];
-    }
-}
-
-#[inline(always)]
-fn put_column(out: &mut [i32; 64], x: usize, results: &[i32; 8])
-    requires { x < 8 }
-    ensures column { (k : ℕ) → k < 8 → slice_index_or out.new (8 * k + x) (pos 0) ≡ clip (slice_index_or results.now k (pos 0)) }
-    ensures rest { (i : ℕ) → ((k : ℕ) → k < 8 → i ≢ 8 * k + x) → slice_index_or out.new i (pos 0) ≡ slice_index_or out.old i (pos 0) }
+    ensures column { (k : ℕ) → k < 8 → nth out.new (8 * k + x) ≡ clip (nth results.now k) }
+    ensures rest { (i : ℕ) → ((k : ℕ) → k < 8 → i ≢ 8 * k + x) → nth out.new i ≡ nth out.old i }
 {
     for k in 0..8 {
         out[8 * k + x] = results[k].clamp(-256, 255);
@@ -102,7 +58,7 @@ fn put_column(out: &mut [i32; 64], x: usize, results: &[i32; 8])
 #[inline(always)]
 fn row_results(b: &[i32; 8]) -> [i32; 8]
     requires { All (Within 2048) b.now }
-    ensures { result ≡ row (λ k. slice_index_or b.now k (pos 0)) }
+    ensures { result ≡ row (nth b.now) }
 {
     if is_flat(b) {
         [eight_times(b[0]); 8]
@@ -114,7 +70,7 @@ fn row_results(b: &[i32; 8]) -> [i32; 8]
 #[inline(always)]
 fn column_results(c: &[i32; 8]) -> [i32; 8]
     requires { All (Within 160000) c.now }
-    ensures { result ≡ column (λ k. slice_index_or c.now k (pos 0)) }
+    ensures { result ≡ column (nth c.now) }
 {
     combine_terms(&column_terms(c), 14)
 }
@@ -122,7 +78,7 @@ fn column_results(c: &[i32; 8]) -> [i32; 8]
 // Only the first of a row's coefficients may be other than 0.
 #[inline(always)]
 fn is_flat(b: &[i32; 8]) -> bool
-    ensures { IsTrue result → (k : ℕ) → 1 ≤ k → k < 8 → slice_index_or b.now k (pos 0) ≡ pos 0 }
+    ensures { IsTrue result → (k : ℕ) → 1 ≤ k → k < 8 → nth b.now k ≡ pos 0 }
 {
     b[1] == 0 && b[2] == 0 && b[3] == 0 && b[4] == 0 && b[5] == 0 && b[6] == 0 && b[7] == 0
 }

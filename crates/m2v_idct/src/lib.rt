@@ -1,10 +1,15 @@
-//! The forward and the inverse transform of blocks of eight by eight.
+//! The transforms of Annex A of ISO/IEC 13818-2 on blocks of eight by eight: samples, or differences of
+//! samples, from -256 to 255 on one side and coefficients from -2048 to 2047 on the other.
 #![tactic(auto)]
 
+mod block;
 mod combine;
 mod forward_dct;
 mod inverse_dct;
+mod products;
 mod terms;
+#[cfg(test)]
+mod tests;
 
-pub use forward_dct::forward_dc;
+pub use forward_dct::{forward, forward_dc};
 pub use inverse_dct::inverse;

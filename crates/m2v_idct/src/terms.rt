@@ -1,4 +1,5 @@
-ghost use Rattle.std.specs.Prelude.{◌≡◌, All, ◌+ℤ◌, ◌-ℤ◌, ◌*ℤ◌, ◌≤ℤ◌, pos, slice_index_or};
+ghost use Rattle.std.specs.Prelude.{◌≡◌, All, ◌+ℤ◌, ◌-ℤ◌, ◌*ℤ◌, ◌≤ℤ◌, pos};
+ghost use Rattle.m2v_idct.specs.Block.{nth};
 ghost use Rattle.m2v_idct.specs.Inverse.{eighth};
 ghost use Rattle.m2v_idct.specs.Ranges.{Within};
 
@@ -8,14 +9,14 @@ use crate::combine::Terms;
 #[inline(always)]
 pub fn row_terms(b: &[i32; 8]) -> Terms
     requires { All (Within 2048) b.now }
-    ensures a1 { result.a1 ≡ pos 2841 *ℤ slice_index_or b.now 1 (pos 0) +ℤ pos 565 *ℤ slice_index_or b.now 7 (pos 0) }
-    ensures a7 { result.a7 ≡ pos 565 *ℤ slice_index_or b.now 1 (pos 0) -ℤ pos 2841 *ℤ slice_index_or b.now 7 (pos 0) }
-    ensures a5 { result.a5 ≡ pos 2408 *ℤ slice_index_or b.now 3 (pos 0) +ℤ pos 1609 *ℤ slice_index_or b.now 5 (pos 0) }
-    ensures a3 { result.a3 ≡ pos 2408 *ℤ slice_index_or b.now 5 (pos 0) -ℤ pos 1609 *ℤ slice_index_or b.now 3 (pos 0) }
-    ensures e2 { result.e2 ≡ pos 2676 *ℤ slice_index_or b.now 2 (pos 0) +ℤ pos 1108 *ℤ slice_index_or b.now 6 (pos 0) }
-    ensures e6 { result.e6 ≡ pos 1108 *ℤ slice_index_or b.now 2 (pos 0) -ℤ pos 2676 *ℤ slice_index_or b.now 6 (pos 0) }
-    ensures p { result.p ≡ pos 2048 *ℤ (slice_index_or b.now 0 (pos 0) +ℤ slice_index_or b.now 4 (pos 0)) +ℤ pos 128 }
-    ensures m { result.m ≡ pos 2048 *ℤ (slice_index_or b.now 0 (pos 0) -ℤ slice_index_or b.now 4 (pos 0)) +ℤ pos 128 }
+    ensures a1 { result.a1 ≡ pos 2841 *ℤ nth b.now 1 +ℤ pos 565 *ℤ nth b.now 7 }
+    ensures a7 { result.a7 ≡ pos 565 *ℤ nth b.now 1 -ℤ pos 2841 *ℤ nth b.now 7 }
+    ensures a5 { result.a5 ≡ pos 2408 *ℤ nth b.now 3 +ℤ pos 1609 *ℤ nth b.now 5 }
+    ensures a3 { result.a3 ≡ pos 2408 *ℤ nth b.now 5 -ℤ pos 1609 *ℤ nth b.now 3 }
+    ensures e2 { result.e2 ≡ pos 2676 *ℤ nth b.now 2 +ℤ pos 1108 *ℤ nth b.now 6 }
+    ensures e6 { result.e6 ≡ pos 1108 *ℤ nth b.now 2 -ℤ pos 2676 *ℤ nth b.now 6 }
+    ensures p { result.p ≡ pos 2048 *ℤ (nth b.now 0 +ℤ nth b.now 4) +ℤ pos 128 }
+    ensures m { result.m ≡ pos 2048 *ℤ (nth b.now 0 -ℤ nth b.now 4) +ℤ pos 128 }
 {
     Terms {
         a1: one_plus(b[1], b[7]),
@@ -33,14 +34,14 @@ pub fn row_terms(b: &[i32; 8]) -> Terms
 #[inline(always)]
 pub fn column_terms(c: &[i32; 8]) -> Terms
     requires { All (Within 160000) c.now }
-    ensures a1 { result.a1 ≡ eighth (pos 2841 *ℤ slice_index_or c.now 1 (pos 0) +ℤ pos 565 *ℤ slice_index_or c.now 7 (pos 0)) }
-    ensures a7 { result.a7 ≡ eighth (pos 565 *ℤ slice_index_or c.now 1 (pos 0) -ℤ pos 2841 *ℤ slice_index_or c.now 7 (pos 0)) }
-    ensures a5 { result.a5 ≡ eighth (pos 2408 *ℤ slice_index_or c.now 3 (pos 0) +ℤ pos 1609 *ℤ slice_index_or c.now 5 (pos 0)) }
-    ensures a3 { result.a3 ≡ eighth (pos 2408 *ℤ slice_index_or c.now 5 (pos 0) -ℤ pos 1609 *ℤ slice_index_or c.now 3 (pos 0)) }
-    ensures e2 { result.e2 ≡ eighth (pos 2676 *ℤ slice_index_or c.now 2 (pos 0) +ℤ pos 1108 *ℤ slice_index_or c.now 6 (pos 0)) }
-    ensures e6 { result.e6 ≡ eighth (pos 1108 *ℤ slice_index_or c.now 2 (pos 0) -ℤ pos 2676 *ℤ slice_index_or c.now 6 (pos 0)) }
-    ensures p { result.p ≡ pos 256 *ℤ (slice_index_or c.now 0 (pos 0) +ℤ slice_index_or c.now 4 (pos 0)) +ℤ pos 8192 }
-    ensures m { result.m ≡ pos 256 *ℤ (slice_index_or c.now 0 (pos 0) -ℤ slice_index_or c.now 4 (pos 0)) +ℤ pos 8192 }
+    ensures a1 { result.a1 ≡ eighth (pos 2841 *ℤ nth c.now 1 +ℤ pos 565 *ℤ nth c.now 7) }
+    ensures a7 { result.a7 ≡ eighth (pos 565 *ℤ nth c.now 1 -ℤ pos 2841 *ℤ nth c.now 7) }
+    ensures a5 { result.a5 ≡ eighth (pos 2408 *ℤ nth c.now 3 +ℤ pos 1609 *ℤ nth c.now 5) }
+    ensures a3 { result.a3 ≡ eighth (pos 2408 *ℤ nth c.now 5 -ℤ pos 1609 *ℤ nth c.now 3) }
+    ensures e2 { result.e2 ≡ eighth (pos 2676 *ℤ nth c.now 2 +ℤ pos 1108 *ℤ nth c.now 6) }
+    ensures e6 { result.e6 ≡ eighth (pos 1108 *ℤ nth c.now 2 -ℤ pos 2676 *ℤ nth c.now 6) }
+    ensures p { result.p ≡ pos 256 *ℤ (nth c.now 0 +ℤ nth c.now 4) +ℤ pos 8192 }
+    ensures m { result.m ≡ pos 256 *ℤ (nth c.now 0 -ℤ nth c.now 4) +ℤ pos 8192 }
     ensures a1_within { Within 82000000 result.a1 }
     ensures a7_within { Within 82000000 result.a7 }
     ensures a5_within { Within 82000000 result.a5 }

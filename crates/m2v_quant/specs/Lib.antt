@@ -1,2 +1,5 @@
 pub mod Scans
+pub mod Kinds
+pub mod Coefficients
+pub mod Matrices
 pub mod Quantiser

@@ -1,8 +1,17 @@
-//! Scans, quantiser scales and the quantiser.
+//! From coefficients to levels and back (clauses 7.3 and 7.4 of ISO/IEC 13818-2): scans, quantiser scales, default
+//! matrices, the inverse quantisation with its mismatch control, and the encoder's quantiser.
 #![tactic(auto)]
 
-mod quantise;
+mod forward;
+mod inverse;
+mod kind;
+mod matrices;
 mod scans;
+#[cfg(test)]
+mod tests;
 
-pub use quantise::dc_level;
+pub use forward::{dc_level, quantise};
+pub use inverse::dequantise;
+pub use kind::{BlockKind, Levels};
+pub use matrices::default_matrix;
 pub use scans::{scale_of, scan};

@@ -2,5 +2,10 @@ pub mod CodeLaws
 pub mod LookupLaws
 pub mod ValueLaws
 pub mod Increments
-pub mod Sizes
 pub mod MbTypes
+pub mod Patterns
+pub mod Motions
+pub mod Sizes
+pub mod Places
+pub mod Coefficients
+pub mod Firsts

@@ -10,9 +10,9 @@ use Rattle.m2v_bits.specs.Bits.{bits_of, number, ahead}
 use Rattle.m2v_bits.proofs.Bits.{length-bits_of, number-bits_of, number-append, number_below, same_bits}
 use Rattle.m2v_bits.proofs.Cursor.{length-ahead, ahead-add, ahead_take}
 use Rattle.m2v_bits.proofs.SyntaxLaws.{good, bad}
-use Rattle.m2v_vlc.specs.Codes.{Row, row, code, In, begins, row_at, is_cut, by_row, code_at, is_code, apart_all, is_free, is_within}
+use Rattle.m2v_vlc.specs.Codes.{Row, row, code, In, begins, row_at, is_cut, by_row, code_at, is_code, apart_all, is_free, is_within, code_of, is_single}
 use Rattle.m2v_vlc.specs.Lookups.{rows_of, IsTable, Points, code_in, is_behind}
-use Rattle.m2v_vlc.proofs.CodeLaws.{begins_front, begins_enough, begins_by, begins_short, front_number, begins_number, code_parts, free_parts, free_in, within_in, apart_in, not_both, row_here, row_found, row_none, some_is}
+use Rattle.m2v_vlc.proofs.CodeLaws.{begins_front, begins_enough, begins_by, begins_short, front_number, begins_number, code_parts, free_parts, free_in, within_in, apart_in, not_both, row_here, row_found, row_none, some_is, Reflexive, code_of_row}
 
 -- ---- the rows of a program's list
 
@@ -47,6 +47,10 @@ code_in_past (s ∷ t) (suc i) e = code_in_past t i e
 
 pub code_in_at : {V : Type 0} (rows : List (V × ℕ × ℕ)) (i : ℕ) (e : V × ℕ × ℕ) → i < length rows → e ≡ get_or rows i e → code_in (rows_of rows) i ≡ bits_of e.2 e.1
 code_in_at rows i e lt is = code_in_get (rows_of rows) i (row e.0 e.1 e.2) (rows_at rows i e lt is)
+
+-- the code at the place of a row with the value is the value's code
+pub value_index : {V : Type 0} (same : V → V → Bool) (t : List (Row V)) (i : ℕ) (r : Row V) (v : V) → Reflexive same → is_single same t ≡ true → slice_get t i ≡ Some r → r.value ≡ v → code_in t i ≡ code_of same t v
+value_index same t i r v all one at is = code_in_get t i r at ∙ sym (code_of_row same t r all one (get_in t i r at)) ∙ ap (code_of same t) is
 
 -- a row of a table has at most 17 bits, which its number fits
 pub row_fits : {V : Type 0} (rows : List (V × ℕ × ℕ)) (i : ℕ) (e : V × ℕ × ℕ) → IsTable (rows_of rows) → i < length rows → e ≡ get_or rows i e → (e.2 ≤ 17) × (e.1 < 2 ^ e.2) × (e.1 < 2 ^ 17)

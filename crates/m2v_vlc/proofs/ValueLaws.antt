@@ -1,11 +1,12 @@
 -- When the tests on values hold, and what is known of each value that is read.
 use Rattle.std.proofs.Common.{◌≡◌, ℕ, zero, suc, ◌<◌, Bool, true, false, List, [], ◌∷◌, Ok, Err, Result, rules, inl, inr, refl, sym, ap, subst, arith}
-use Rattle.std.specs.Prelude.{IfOk}
+use Rattle.std.specs.Prelude.{ℤ, pos, negsuc, int_lt, ◌<ℤ◌, ◌≤ℤ◌, IfOk}
+use Rattle.std.proofs.lemmas.Int.{ints}
 use Rattle.std.specs.List.{list_all}
 use Rattle.std.proofs.lemmas.Bool.{cases_lt, eqb-true, eq-eqb, and_parts}
 use Rattle.m2v_bits.specs.Syntax.{Gives}
 use Rattle.m2v_vlc.specs.Codes.{Row, In, code_at, is_free}
-use Rattle.m2v_vlc.specs.Values.{same_number, same_increment, same_flag, same_type}
+use Rattle.m2v_vlc.specs.Values.{same_number, same_increment, same_signed, same_flag, same_type}
 use Rattle.m2v_vlc.specs.declared.values.Increment.TheVariants.{Step, Escape}
 use Rattle.m2v_vlc.proofs.CodeLaws.{Sound, Reflexive, code_lawful}
 
@@ -26,6 +27,18 @@ pub increment_reflexive : Reflexive same_increment
 unfolding same_increment
 increment_reflexive (Step a) = eq-eqb a a refl
 increment_reflexive Escape = refl
+
+pub signed_sound : Sound same_signed
+unfolding same_signed
+signed_sound (pos a) (pos b) e = ap pos (eqb-true a b e)
+signed_sound (pos a) (negsuc b) e = absurd cc
+signed_sound (negsuc a) (pos b) e = absurd cc
+signed_sound (negsuc a) (negsuc b) e = ap negsuc (eqb-true a b e)
+
+pub signed_reflexive : Reflexive same_signed
+unfolding same_signed
+signed_reflexive (pos a) = eq-eqb a a refl
+signed_reflexive (negsuc a) = eq-eqb a a refl
 
 flag_sound : (a b : Bool) → same_flag a b ≡ true → a ≡ b
 flag_sound true b e = sym e
@@ -51,6 +64,13 @@ type_sound a b e =
 
 pub type_reflexive : Reflexive same_type
 type_reflexive a = rw (flag_reflexive a.quant, flag_reflexive a.forward, flag_reflexive a.backward, flag_reflexive a.pattern, flag_reflexive a.intra) refl
+
+-- what a program's test of a sign says
+pub is_negative : (v : ℤ) → int_lt v (pos 0) ≡ true → v <ℤ pos 0
+is_negative v e = grind (arith, ints)
+
+pub is_positive : (v : ℤ) → int_lt v (pos 0) ≡ false → pos 0 ≤ℤ v
+is_positive v e = grind (arith, ints)
 
 -- ---- what holds of each row's value holds of a value that is read
 

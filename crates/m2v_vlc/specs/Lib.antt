@@ -1,4 +1,6 @@
 pub mod Codes
 pub mod Values
 pub mod Tables
+pub mod Coefficients
 pub mod Lookups
+pub mod Places

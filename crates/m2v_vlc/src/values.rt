@@ -30,3 +30,14 @@ pub struct MbType {
     /// It is intra coded.
     pub intra: bool,
 }
+
+/// What a code of a DCT coefficient stands for (clause 7.2.2, tables B.14 and B.15).
+#[derive(Clone, Copy, Debug, PartialEq, Eq)]
+pub enum Coefficient {
+    /// The block ends.
+    End,
+    /// A run and a level follow by their numbers.
+    Escape,
+    /// So many coefficients that are 0, and the level behind them, which is not 0.
+    Pair { run: u8, level: i16 },
+}

@@ -11,4 +11,4 @@ returns c =
     let o = c.odd_part.ensures in
     c.join_parts.ensures
     ∙ (λ i. int_shr (e.s0 i +ℤ o.o0 i) n ∷ int_shr (e.s1 i +ℤ o.o1 i) n ∷ int_shr (e.s2 i +ℤ o.o2 i) n ∷ int_shr (e.s3 i +ℤ o.o3 i) n
-        ∷ int_shr (e.s3 i -ℤ o.o3 i) n ∷ int_shr (e.s2 i -ℤ o.o2 i) n ∷ int_shr (e.s1 i -ℤ o.o1 i) n ∷ int_shr (e.s0 i -ℤ o.o0 i) n ∷ [])
+    ∷ int_shr (e.s3 i -ℤ o.o3 i) n ∷ int_shr (e.s2 i -ℤ o.o2 i) n ∷ int_shr (e.s1 i -ℤ o.o1 i) n ∷ int_shr (e.s0 i -ℤ o.o0 i) n ∷ [])

@@ -15,7 +15,7 @@ returns-clause-value c =
     let fr : SFits w32 c.join.result = search rules in
     to_z-of_z w32 _ fr
     ∙ scaled_by_parts c.args.t c.shift-high.result c.rest-low.result c.round_up.result c.shift.result c.join.result
-        (simp to_z-of_z at c.shift-high.ensures.low) (simp to_z-of_z at c.shift-high.ensures.high)
-        (simp to_z-of_z at c.rest-low.ensures) (simp to_z-of_z at c.round_up.ensures)
-        (simp to_z-of_z at c.shift.ensures.low) (simp to_z-of_z at c.shift.ensures.high)
-        (simp to_z-of_z at c.join.ensures)
+    (simp to_z-of_z at c.shift-high.ensures.low) (simp to_z-of_z at c.shift-high.ensures.high)
+    (simp to_z-of_z at c.rest-low.ensures) (simp to_z-of_z at c.round_up.ensures)
+    (simp to_z-of_z at c.shift.ensures.low) (simp to_z-of_z at c.shift.ensures.high)
+    (simp to_z-of_z at c.join.ensures)

@@ -13,4 +13,4 @@ returns-clause-value c =
     let high = c.sum_of.ensures.high in
     let summed : to_z w64 (of_z w64 c.scaled_sum.result) ≡ pos 8386816 *ℤ c.sum_of.result = omega (arith, ints, c.scaled_sum.ensures) in
     mean_is f c.sum_of.result c.sum_of.ensures.value _
-    (omega (arith, ints, c.rounded.ensures.within) ∙ c.rounded.ensures.value ∙ ap (λ s. int_shr (s +ℤ pos 33554432) 26) summed)
+    (omega (arith, ints, c.round.ensures.within) ∙ c.round.ensures.value ∙ ap (λ s. int_shr (s +ℤ pos 33554432) 26) summed)

@@ -1,6 +1,6 @@
 use Rattle.std.proofs.Common.{◌∙◌, arith, ap, sym, get_or, subst, pos, ℤ}
 use Rattle.std.proofs.lemmas.Int.{ints, clamps}
-use Rattle.m2v_idct.specs.Forward.{at}
+use Rattle.m2v_idct.specs.Block.{at}
 use Rattle.m2v_idct.specs.Inverse.{after_rows, clip, column, inverse_at, inverse_of}
 use Rattle.m2v_idct.specs.Ranges.{IsSample, Within}
 use Rattle.m2v_idct.proofs.Blocks.{all_places, block_is}
@@ -19,8 +19,8 @@ returns-clause-value c =
     let rows = c.transform_rows.new.rows in
     block_is c.transform_columns.new.out (inverse_at b) c.transform_columns.array_long
     (λ y x ly lx. c.transform_columns.ensures y x ly lx
-        ∙ ap (λ zs. clip (get_or zs y (pos 0)))
-            (column_same (λ k. at rows k x) (λ k. after_rows b k x) (λ k lk. c.transform_rows.ensures k x lk lx)))
+    ∙ ap (λ zs. clip (get_or zs y (pos 0)))
+    (column_same (λ k. at rows k x) (λ k. after_rows b k x) (λ k lk. c.transform_rows.ensures k x lk lx)))
 
 clipped : (z : ℤ) → IsSample (clip z)
 clipped z = (omega (arith, ints, clamps), omega (arith, ints, clamps))

@@ -69,7 +69,7 @@ returns-then-is_flat c =
     let f = fits 2048 (get_or b 0 (pos 0)) (omega arith) (c.requires 0 (pos 0) (omega arith)) in
     let t : SFits w32 c.eight_times.result = search rules in
     row_flat (λ k. get_or b k (pos 0)) (c.if-is_flat.ensures refl) _
-        (to_z-of_z w32 _ t ∙ (simp to_z-of_z at c.eight_times.ensures))
+    (to_z-of_z w32 _ t ∙ (simp to_z-of_z at c.eight_times.ensures))
 
 pub returns-else-is_flat : goal.returns-else-is_flat
 unfolding row

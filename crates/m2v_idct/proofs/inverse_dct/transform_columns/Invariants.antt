@@ -1,5 +1,5 @@
 use Rattle.std.proofs.Common.{◌≡◌, ◌<◌, ◌+◌, ◌*◌, ℕ, get_or, pos}
-use Rattle.m2v_idct.specs.Forward.{at}
+use Rattle.m2v_idct.specs.Block.{at}
 use Rattle.m2v_idct.specs.Inverse.{clip, column}
 use Rattle.m2v_idct.proofs.inverse_dct.transform_columns.Given as goal
 

@@ -1,5 +1,5 @@
 use Rattle.std.proofs.Common.{◌≡◌, ℕ, ◌<◌, ◌+◌, ◌*◌, ◌∙◌, arith, ap, get_or, below_more, pos}
-use Rattle.m2v_idct.specs.Forward.{at}
+use Rattle.m2v_idct.specs.Block.{at}
 use Rattle.m2v_idct.specs.Inverse.{after_rows}
 use Rattle.m2v_idct.proofs.Rows.{row_listed}
 use Rattle.m2v_idct.proofs.inverse_dct.transform_rows.Goals as goal

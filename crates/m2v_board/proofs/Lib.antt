@@ -1,0 +1,9 @@
+pub mod Draws
+pub mod Events
+pub mod Joins
+pub mod Opening
+pub mod Raises
+pub mod Shows
+pub mod Slots
+pub mod Sums
+pub mod Tallies

@@ -1,0 +1,6 @@
+pub mod Passes
+pub mod Posts
+pub mod Rule
+pub mod Shows
+pub mod Slots
+pub mod Steps

@@ -1,0 +1,5 @@
+pub mod Book
+pub mod Chain
+pub mod Core
+pub mod Lists
+pub mod Machine

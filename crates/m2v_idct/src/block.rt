@@ -1,0 +1,64 @@
+ghost use Rattle.std.specs.Prelude.{◌≡◌, ◌<◌, ◌+◌, ◌*◌, ℕ, ◌≢◌, ◌∷◌, []};
+ghost use Rattle.m2v_idct.specs.Block.{at, nth};
+
+// The numbers of line y, from the left.
+#[inline(always)]
+pub fn row_at(b: &[i32; 64], y: usize) -> [i32; 8]
+    requires { y < 8 }
+    ensures { result ≡ at b.now y 0 ∷ at b.now y 1 ∷ at b.now y 2 ∷ at b.now y 3
+        ∷ at b.now y 4 ∷ at b.now y 5 ∷ at b.now y 6 ∷ at b.now y 7 ∷ [] }
+{
+    [
+        b[8 * y],
+        b[8 * y + 1],
+        b[8 * y + 2],
+        b[8 * y + 3],
+        b[8 * y + 4],
+        b[8 * y + 5],
+        b[8 * y + 6],
+        b[8 * y + 7],
+    ]
+}
+
+// The numbers of column x, from the top.
+#[inline(always)]
+pub fn column_at(b: &[i32; 64], x: usize) -> [i32; 8]
+    requires { x < 8 }
+    ensures { result ≡ at b.now 0 x ∷ at b.now 1 x ∷ at b.now 2 x ∷ at b.now 3 x
+        ∷ at b.now 4 x ∷ at b.now 5 x ∷ at b.now 6 x ∷ at b.now 7 x ∷ [] }
+{
+    [
+        b[x],
+        b[8 + x],
+        b[16 + x],
+        b[24 + x],
+        b[32 + x],
+        b[40 + x],
+        b[48 + x],
+        b[56 + x],
+    ]
+}
+
+// Writes line y.
+#[inline(always)]
+pub fn put_row(rows: &mut [i32; 64], y: usize, results: &[i32; 8])
+    requires { y < 8 }
+    ensures row { (k : ℕ) → k < 8 → nth rows.new (8 * y + k) ≡ nth results.now k }
+    ensures rest { (i : ℕ) → ((k : ℕ) → k < 8 → i ≢ 8 * y + k) → nth rows.new i ≡ nth rows.old i }
+{
+    for k in 0..8 {
+        rows[8 * y + k] = results[k];
+    }
+}
+
+// Writes column x.
+#[inline(always)]
+pub fn put_column(out: &mut [i32; 64], x: usize, results: &[i32; 8])
+    requires { x < 8 }
+    ensures column { (k : ℕ) → k < 8 → nth out.new (8 * k + x) ≡ nth results.now k }
+    ensures rest { (i : ℕ) → ((k : ℕ) → k < 8 → i ≢ 8 * k + x) → nth out.new i ≡ nth out.old i }
+{
+    for k in 0..8 {
+        out[8 * k + x] = results[k];
+    }
+}

@@ -1,0 +1,31 @@
+//! The program `puckerledge`: it makes the real endpoints, calls `run`, and ends with its status.
+#![tactic(auto)]
+
+use m2v_port::{FileSink, StdSink, StdSource};
+use m2v_tool::run;
+use std::alloc::Global;
+use std::env;
+use std::env::Env;
+use std::io;
+use std::process::ExitCode;
+
+/// The words behind the program's name.
+fn words(rt: &(impl Env + Alloc<A = Global>)) -> io::Result<Vec<String>> {
+    let mut words = Vec::new(rt.alloc());
+    for word in env::args(rt)?.skip(1) {
+        words.push(word)?;
+    }
+    Ok(words)
+}
+
+fn main(rt: HostRuntime) -> ExitCode {
+    let Ok(words) = words(&rt) else {
+        return ExitCode::from(12);
+    };
+    let mut input = StdSource::new(rt.stdin());
+    let mut output = StdSink::new(rt.stdout());
+    let mut recon = FileSink::new(rt);
+    let mut report = StdSink::new(rt.stderr());
+    let status = run(rt.alloc(), &words, &mut input, &mut output, &mut recon, &mut report);
+    ExitCode::from(status.code)
+}

@@ -1,0 +1,17 @@
+use Rattle.std.proofs.Common.{◌∙◌, ap, ◌≡◌, ◌+◌, ◌*◌, ◌/◌, ◌^◌, ℕ, ℤ, cond, arith}
+use Rattle.std.specs.Prelude.{min, unsigned_abs}
+use Rattle.std.proofs.lemmas.Int.{to_z-of_z}
+use mir.Syntax.{w32}
+use mir.Val.{SFits}
+use Rattle.m2v_quant.specs.Quantiser.{with_sign}
+use Rattle.m2v_quant.specs.Coefficients.{saturated}
+use Rattle.m2v_quant.proofs.Reconstruction.{ac_is}
+use Rattle.m2v_quant.proofs.inverse.ac.Goals as goal
+
+pub returns-clause-value : goal.returns-clause-value
+returns-clause-value c =
+    let level = c.ranges.level in
+    let fits : SFits w32 c.kept.result = record { sfits = c.kept.type_inv } in
+    let size = simp to_z-of_z at c.unsigned_abs.ensures.value in
+    let kept = simp to_z-of_z at c.kept.ensures.value in
+    to_z-of_z w32 c.kept.result fits ∙ kept ∙ ap saturated (ap (with_sign c.args.level) (c.ac_size.ensures ∙ ap (λ (n : ℕ). (2 * n + cond c.args.intra 0 (min n 1)) * c.args.step / 32) size) ∙ ac_is c.args.intra c.args.step c.args.level)

@@ -1,0 +1,122 @@
+ghost use Rattle.std.specs.Prelude.{◌≡◌, ◌+◌, ◌*◌, ◌/◌, ◌<◌, ◌≤◌, cond, min, All, ℤ, pos, neg_ℤ, ◌≤ℤ◌, ◌+ℤ◌};
+ghost use Rattle.std.specs.Int.{int_shr, int_max, int_min};
+ghost use Rattle.m2v_quant.specs.Kinds.{IsKind, IsLevel, IsTransformed};
+ghost use Rattle.m2v_quant.specs.Quantiser.{dc_level, with_sign, ac_level, level_at, levels_of};
+
+use crate::inverse::step;
+use crate::kind::{BlockKind, Levels};
+use crate::scans::scan;
+
+/// An eighth, to the nearest.
+#[inline(always)]
+fn eighth(f: i32) -> i32
+    requires low { neg_ℤ (pos 4096) ≤ℤ f }
+    requires high { f ≤ℤ pos 4095 }
+    ensures { result ≡ int_shr (f +ℤ pos 4) 3 }
+{
+    (f + 4) >> 3
+}
+
+/// Kept within 0 to 255.
+#[inline(always)]
+fn kept(level: i32) -> i32
+    ensures value { result ≡ int_max (int_min level (pos 255)) (pos 0) }
+    ensures least { pos 0 ≤ℤ result }
+    ensures most { result ≤ℤ pos 255 }
+{
+    level.min(255).max(0)
+}
+
+/// The level of an intra DC coefficient at 8 bits (precision 0): an eighth of the coefficient, to the nearest,
+/// kept within 0 to 255. A profile that codes the DC alone needs no more of the quantiser.
+#[inline(always)]
+#[tactic(auto, unfolding(crate::specs::Quantiser::dc_level))]
+pub fn dc_level(f: i32) -> i32
+    requires low { neg_ℤ (pos 4096) ≤ℤ f }
+    requires high { f ≤ℤ pos 4095 }
+    ensures value { result ≡ dc_level f }
+    ensures least { pos 0 ≤ℤ result }
+    ensures most { result ≤ℤ pos 255 }
+{
+    kept(eighth(f))
+}
+
+/// What is added before a division that is to go to the nearest in an intra block, and to be cut down in another.
+#[inline(always)]
+fn half(intra: bool, step: u32) -> u32
+    ensures value { result ≡ cond intra (step / 2) 0 }
+    ensures most { result ≤ step }
+{
+    if intra { step / 2 } else { 0 }
+}
+
+/// The size of a level by that of its coefficient.
+#[inline(always)]
+fn ac_size(intra: bool, step: u32, size: u32) -> u32
+    requires least { 1 ≤ step }
+    requires most { step ≤ 28560 }
+    requires size { size ≤ 4096 }
+    ensures value { result ≡ min ((16 * size + cond intra (step / 2) 0) / step) 2047 }
+    ensures most { result ≤ 2047 }
+{
+    ((16 * size + half(intra, step)) / step).min(2047)
+}
+
+/// A number of this size and the sign of `like`.
+#[inline(always)]
+#[tactic(auto, unfolding(crate::specs::Quantiser::with_sign))]
+fn signed(like: i32, size: u32) -> i32
+    requires { size ≤ 2047 }
+    ensures value { result ≡ with_sign like size }
+    ensures within { IsLevel result }
+{
+    if like < 0 {
+        -(size as i32)
+    } else {
+        size as i32
+    }
+}
+
+/// The level of a coefficient that is no intra DC.
+#[inline(always)]
+#[tactic(auto, unfolding(crate::specs::Quantiser::ac_level))]
+fn ac_level(intra: bool, step: u32, f: i32) -> i32
+    requires least { 1 ≤ step }
+    requires most { step ≤ 28560 }
+    requires range { IsTransformed f }
+    ensures value { result ≡ ac_level intra step f }
+    ensures within { IsLevel result }
+{
+    signed(f, ac_size(intra, step, f.unsigned_abs()))
+}
+
+/// The level of a position of the scan.
+#[inline(always)]
+#[tactic(auto, unfolding(crate::specs::Quantiser::level_at))]
+fn level(f: &[i32; 64], kind: &BlockKind, i: u8) -> i32
+    requires kind { IsKind kind.now }
+    requires coefficients { All IsTransformed f.now }
+    requires position { i < 64 }
+    ensures value { result ≡ level_at f.now kind.now i }
+    ensures within { IsLevel result }
+{
+    if kind.intra && i == 0 {
+        return dc_level(f[0]);
+    }
+    let place = scan(kind.alternate, i);
+    ac_level(kind.intra, step(kind, place), f[place as usize])
+}
+
+/// The 64 levels of a block in scan order, each from -2047 to 2047, of its coefficients in raster order, each from -4096
+/// to 4095. Precision is 0.
+pub fn quantise(f: &[i32; 64], kind: &BlockKind, out: &mut Levels)
+    requires kind { IsKind kind.now }
+    requires precision { kind.now.precision ≡ 0 }
+    requires coefficients { All IsTransformed f.now }
+    ensures value { out.new.at ≡ levels_of f.now kind.now }
+    ensures levels { All IsLevel out.new.at }
+{
+    for i in 0..64u8 {
+        out.at[i as usize] = level(f, kind, i);
+    }
+}

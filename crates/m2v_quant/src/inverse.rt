@@ -1,0 +1,163 @@
+ghost use Rattle.std.specs.Prelude.{◌≡◌, ◌+◌, ◌*◌, ◌/◌, ◌%◌, ◌^◌, ◌<◌, ◌≤◌, ◌∷◌, [], cond, min, slice_index, All, ℤ, pos, ◌*ℤ◌, unsigned_abs, nat_eq, if◌then◌else◌, map};
+ghost use Rattle.std.specs.List.{range_with_len};
+ghost use Rattle.m2v_quant.specs.Kinds.{IsKind, IsLevel, IsCoefficient};
+ghost use Rattle.m2v_quant.specs.Quantiser.{with_sign};
+ghost use Rattle.m2v_quant.specs.Coefficients.{ac_coefficient, dc_coefficient, saturated, saturated_of, saturated_at, coefficients_of, sum_below, other_parity};
+
+use crate::kind::{BlockKind, Levels};
+use crate::scans::position;
+
+/// The product of matrix value and scale of a raster place.
+#[inline(always)]
+pub fn step(kind: &BlockKind, place: u8) -> u32
+    requires kind { IsKind kind.now }
+    requires place { place < 64 }
+    ensures value { result ≡ slice_index kind.now.matrix place * kind.now.scale }
+    ensures least { 1 ≤ result }
+    ensures most { result ≤ 28560 }
+{
+    u32::from(kind.matrix[place as usize]) * kind.scale
+}
+
+/// What a block that is not intra adds to twice the size of a level.
+#[inline(always)]
+fn extra(intra: bool, size: u32) -> u32
+    ensures value { result ≡ cond intra 0 (min size 1) }
+    ensures most { result ≤ 1 }
+{
+    if intra { 0 } else { size.min(1) }
+}
+
+/// The size of a coefficient by that of its level.
+#[inline(always)]
+fn ac_size(intra: bool, step: u32, size: u32) -> u32
+    requires step { step ≤ 28560 }
+    requires size { size ≤ 2047 }
+    ensures { result ≡ (2 * size + cond intra 0 (min size 1)) * step / 32 }
+{
+    (2 * size + extra(intra, size)) * step / 32
+}
+
+/// A number of this size and the sign of `like`, kept within -2048 to 2047.
+#[inline(always)]
+#[tactic(auto, unfolding(crate::specs::Coefficients::saturated, crate::specs::Quantiser::with_sign))]
+fn kept(like: i32, size: u32) -> i32
+    ensures value { result ≡ saturated (with_sign like size) }
+    ensures within { IsCoefficient result }
+{
+    if like < 0 {
+        -(size.min(2048) as i32)
+    } else {
+        size.min(2047) as i32
+    }
+}
+
+/// A coefficient that is no intra DC.
+#[inline(always)]
+fn ac(intra: bool, step: u32, level: i32) -> i32
+    requires step { step ≤ 28560 }
+    requires level { IsLevel level }
+    ensures value { result ≡ saturated (ac_coefficient intra step level) }
+    ensures within { IsCoefficient result }
+{
+    kept(level, ac_size(intra, step, level.unsigned_abs()))
+}
+
+/// An intra DC coefficient.
+#[inline(always)]
+fn dc(precision: u8, level: i32) -> i32
+    requires precision { precision ≤ 3 }
+    requires level { IsLevel level }
+    ensures value { result ≡ saturated (dc_coefficient precision level) }
+    ensures within { IsCoefficient result }
+{
+    kept(level, (8u32 >> precision) * level.unsigned_abs())
+}
+
+/// The coefficient of a raster place before mismatch control, by its level.
+#[inline(always)]
+#[tactic(auto, unfolding(crate::specs::Coefficients::saturated_of))]
+fn coefficient(kind: &BlockKind, place: u8, level: i32) -> i32
+    requires kind { IsKind kind.now }
+    requires place { place < 64 }
+    requires level { IsLevel level }
+    ensures value { result ≡ saturated_of kind.now place level }
+    ensures within { IsCoefficient result }
+{
+    if kind.intra && place == 0 {
+        return dc(kind.precision, level);
+    }
+    ac(kind.intra, step(kind, place), level)
+}
+
+/// The coefficient of a raster place before mismatch control.
+#[inline(always)]
+#[tactic(auto, unfolding(crate::specs::Coefficients::saturated_at))]
+fn coefficient_at(levels: &Levels, kind: &BlockKind, place: u8) -> i32
+    requires kind { IsKind kind.now }
+    requires levels { All IsLevel levels.now.at }
+    requires place { place < 64 }
+    ensures value { result ≡ saturated_at levels.now.at kind.now place }
+    ensures within { IsCoefficient result }
+{
+    let level = levels.at[position(kind.alternate, place) as usize];
+    coefficient(kind, place, level)
+}
+
+/// The parity of a sum with one more number.
+#[inline(always)]
+fn parity_with(parity: u32, coefficient: i32) -> u32
+    requires parity { parity < 2 }
+    requires coefficient { IsCoefficient coefficient }
+    ensures value { result ≡ (parity + unsigned_abs coefficient) % 2 }
+    ensures below { result < 2 }
+{
+    (parity + coefficient.unsigned_abs()) % 2
+}
+
+/// A coefficient of the other parity.
+#[inline(always)]
+#[tactic(auto, unfolding(crate::specs::Coefficients::other_parity))]
+fn turned(coefficient: i32) -> i32
+    requires { IsCoefficient coefficient }
+    ensures value { result ≡ other_parity coefficient }
+    ensures within { IsCoefficient result }
+{
+    if coefficient.unsigned_abs() % 2 == 0 {
+        coefficient + 1
+    } else {
+        coefficient - 1
+    }
+}
+
+/// The coefficients of levels before mismatch control, and the parity of their sum.
+#[inline(always)]
+fn saturate(levels: &Levels, kind: &BlockKind, out: &mut [i32; 64]) -> u32
+    requires kind { IsKind kind.now }
+    requires levels { All IsLevel levels.now.at }
+    ensures value { out.new ≡ map (saturated_at levels.now.at kind.now) (range_with_len 0 64) }
+    ensures parity { result ≡ unsigned_abs (sum_below 64 (saturated_at levels.now.at kind.now)) % 2 }
+    ensures within { All IsCoefficient out.new }
+{
+    let mut parity = 0;
+    for place in 0..64u8 {
+        let c = coefficient_at(levels, kind, place);
+        out[place as usize] = c;
+        parity = parity_with(parity, c);
+    }
+    parity
+}
+
+/// The 64 coefficients of a block in raster order, each from -2048 to 2047, of its levels (clauses 7.3 and 7.4):
+/// inverse scan, inverse quantisation, saturation and mismatch control.
+pub fn dequantise(levels: &Levels, kind: &BlockKind, out: &mut [i32; 64])
+    requires kind { IsKind kind.now }
+    requires levels { All IsLevel levels.now.at }
+    ensures value { out.new ≡ coefficients_of levels.now.at kind.now }
+    ensures coefficients { All IsCoefficient out.new }
+{
+    let parity = saturate(levels, kind, out);
+    if parity == 0 {
+        out[63] = turned(out[63]);
+    }
+}

@@ -1,0 +1,6 @@
+//! The program's whole work on small inputs, from words and streams to status, output and report: each test is a
+//! table of rows of one command.
+#![tactic(auto)]
+
+#[cfg(test)]
+mod flat;

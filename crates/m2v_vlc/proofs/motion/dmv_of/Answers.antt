@@ -1,0 +1,14 @@
+use Rattle.std.proofs.Common.{◌∙◌, ℤ, List, ap, sym, subst}
+use Rattle.std.proofs.lemmas.Int.{to_z-of_z}
+use Rattle.m2v_vlc.specs.Codes.{Row}
+use Rattle.m2v_vlc.specs.Lookups.{IsTable, code_in}
+use Rattle.m2v_vlc.proofs.Motions.{dmv_rows, dmv_table}
+use Rattle.m2v_vlc.proofs.motion.dmv_of.Goals as goal
+
+pub row_code-requires : goal.row_code-requires
+row_code-requires c = subst (λ (t : List (Row ℤ)). IsTable t) (sym dmv_rows) dmv_table
+
+pub returns-clause-spelled : goal.returns-clause-spelled
+returns-clause-spelled c =
+    let f = c.ranges.value in
+    c.row_code.ensures.spelled ∙ ap (λ (t : List (Row ℤ)). code_in t c.dmv_row.result) dmv_rows ∙ simp to_z-of_z at c.dmv_row.ensures

@@ -1,0 +1,5 @@
+pub mod Benches
+pub mod Idle
+pub mod Pieces
+pub mod Trio
+pub mod Works

@@ -1,0 +1,20 @@
+//! Workers over the board: every job of a book, by as many threads as are wanted.
+//!
+//! [`Bench::for_book`] takes all memory first. [`run_jobs`] then takes none: each worker claims a
+//! job, passes the gate, fetches the needs, works, shares, tells the gate and publishes, until no
+//! job is left. Each piece of the [`Done`] that it gives is the value of its job, whoever made it.
+#![tactic(auto)]
+
+mod bench;
+#[cfg(test)]
+mod books;
+mod done;
+mod run;
+#[cfg(test)]
+mod tests;
+mod worker;
+
+pub use bench::Bench;
+pub use done::Done;
+pub use run::run_jobs;
+pub use worker::Worker;
