@@ -1,10 +1,10 @@
 -- The laws of a header, from its syntax's.
 use Rattle.std.proofs.Common.{◌≡◌, ℕ, Bool, List, ◌++◌, length, Ok, Err, Result, ◌⊎◌, inl, inr, refl, sym, ap, ◌∙◌}
-use Rattle.m2v_bits.specs.Syntax.{Syntax, Spells}
+use Rattle.m2v_bits.specs.Syntax.{Spells}
 use Rattle.m2v_bits.proofs.SyntaxLaws.{Lawful, Strict, good, bad, good_is}
 use Rattle.m2v_head.specs.declared.fault.HeadFault.{HeadFault}
 use Rattle.m2v_head.specs.Elements.{Header}
-use Rattle.m2v_head.specs.Decided.{Decided, ReadBack}
+use Rattle.m2v_head.specs.Decided.{Decided, RoundTrip}
 
 either : {V : Type 0} {s : Header V} → Lawful length s → (t : List Bool) (r : Result (V × List Bool) (HeadFault × ℕ)) → s.read t ≡ r → ((v : V) × (rest : List Bool) × s.Stands v t rest) ⊎ ((f : HeadFault × ℕ) × s.Broken t f)
 either ls t (Ok x) e = inl (x.0, x.1, ls.found x.0 t x.1 e)
@@ -30,5 +30,8 @@ decided {V} {s} strict =
       first = ls.first;
     }
 
-pub read_back : {V : Type 0} {s : Header V} (Fits : V → Type 0) (text : V → List Bool) → Strict length s → ((v : V) → Fits v → Spells s v (text v)) → ReadBack s Fits text
-read_back Fits text strict spells v rest fits = strict.lawful.only v (text v ++ rest) rest ((spells v fits).stands rest)
+pub round_trip : {V : Type 0} {s : Header V} (Fits : V → Type 0) (text : V → List Bool) → Strict length s → ((v : V) → Fits v → Spells s v (text v)) → RoundTrip s Fits text
+round_trip Fits text strict spells = record {
+  spells = spells;
+  read = λ v rest fits. strict.lawful.only v (text v ++ rest) rest ((spells v fits).stands rest);
+}

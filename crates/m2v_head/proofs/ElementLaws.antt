@@ -1,17 +1,16 @@
 -- The elements are lawful: what is read stands there, and what is refused is broken so; and what spells them.
-use Rattle.std.proofs.Common.{◌≡◌, ◌≢◌, ℕ, zero, suc, ◌<◌, ◌≤◌, ◌^◌, Bool, true, false, List, [], ◌∷◌, ◌++◌, length, refl, sym, ap, subst, arith}
+use Rattle.std.proofs.Common.{◌≡◌, ℕ, zero, suc, ◌<◌, ◌≤◌, ◌^◌, Bool, true, false, List, [], ◌++◌, length, refl, ap, subst, arith}
 use Rattle.std.specs.Prelude.{not, nat_eq}
 use Rattle.std.proofs.lemmas.Bool.{eq-eqb, ne_eqb}
 use Rattle.std.proofs.lemmas.List.{append-nil}
 use Rattle.m2v_bits.specs.Bits.{bits_of}
-use Rattle.m2v_bits.specs.Syntax.{Syntax, done, seq, rule, choose, repeated, Rounds, last, Spells}
-use Rattle.m2v_bits.specs.Leaves.{bits_at}
+use Rattle.m2v_bits.specs.Syntax.{Syntax, done, seq, rule, choose, repeated, last, Spells}
 use Rattle.m2v_bits.proofs.SyntaxLaws.{Lawful, Strict, good, bad, onward, round_err, round_more, round_last, done_lawful, here_lawful, rule_lawful, seq_lawful, seq_strict, seq_strict_later, choose_lawful, repeated_strict}
 use Rattle.m2v_bits.proofs.LeafLaws.{bits_lawful, bits_strict, bits_spells, done_spells, seq_spells, here_spells, rule_spells, second_spells}
 use Rattle.m2v_head.specs.declared.fault.HeadFault.{HeadFault}
 use Rattle.m2v_head.specs.declared.fault.HeadFault.TheVariants.{NoCode, Truncated, BadMarker, Forbidden}
 use Rattle.m2v_head.specs.Texts.{flag, marker}
-use Rattle.m2v_head.specs.Elements.{Header, number_at, flag_at, marker_at, id_at, some_at, information_at, pair_at, pairs_at}
+use Rattle.m2v_head.specs.Elements.{number_at, flag_at, marker_at, id_at, some_at, information_at, pair_at, pairs_at}
 
 -- a number of some bits
 pub number_strict : (n : ℕ) → 0 < n → Strict length (number_at n)

@@ -1,6 +1,6 @@
 -- The headers are lawful: what is read stands there, and what is refused is broken so. Each takes something.
-use Rattle.std.proofs.Common.{◌≡◌, ℕ, ◌<◌, Bool, length, arith, None}
-use Rattle.m2v_bits.proofs.SyntaxLaws.{Lawful, Strict, done_lawful, here_lawful, rule_lawful, seq_lawful, seq_strict, seq_strict_later, choose_lawful}
+use Rattle.std.proofs.Common.{length, arith, None}
+use Rattle.m2v_bits.proofs.SyntaxLaws.{Lawful, Strict, done_lawful, here_lawful, rule_lawful, seq_lawful, seq_strict, choose_lawful}
 use Rattle.m2v_head.specs.Headers.{sequence_at, chroma_format_at, sequence_extension_at, group_at, kind_at, vectors_at, picture_at, f_codes_at, display_at, composite_at, picture_extension_at, matrices_at, intra_slice_at, slice_at}
 use Rattle.m2v_head.proofs.ElementLaws.{number_strict, number_lawful, flag_strict, marker_strict, id_strict, some_strict, pairs_strict}
 use Rattle.m2v_head.proofs.MatrixLaws.{loaded_strict}

@@ -1,7 +1,6 @@
 -- How long each header's text is: the room that its writer asks for.
-use Rattle.std.proofs.Common.{◌≡◌, ◌≢◌, ℕ, zero, suc, ◌+◌, ◌<◌, ◌≤◌, Bool, List, length, Option, Some, None, refl, ◌∙◌, arith}
+use Rattle.std.proofs.Common.{◌≡◌, ℕ, zero, suc, ◌+◌, ◌≤◌, Bool, List, length, Option, Some, None, refl, ◌∙◌, arith}
 use Rattle.std.proofs.lemmas.List.{length-append}
-use Rattle.m2v_bits.specs.Bits.{bits_of, ◌⧺◌}
 use Rattle.m2v_bits.proofs.Bits.{length-bits_of}
 use Rattle.m2v_head.specs.declared.sequence.SequenceInfo.{SequenceInfo}
 use Rattle.m2v_head.specs.declared.sequence.SequenceExtension.{SequenceExtension}

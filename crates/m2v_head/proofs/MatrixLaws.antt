@@ -1,22 +1,22 @@
 -- A matrix is read as it is written: what stands in zigzag order is the value in raster order.
-use Rattle.std.proofs.Common.{◌≡◌, ◌≢◌, ℕ, zero, suc, ◌+◌, ◌-◌, ◌<◌, ◌≤◌, ◌^◌, Bool, true, false, cond, ltb, eqb, List, [], ◌∷◌, ◌++◌, length, map, take, set, get_or, Option, Some, None, Result, Ok, Err, inl, inr, refl, sym, ap, subst, ◌∙◌, arith, append_assoc}
-use Rattle.std.specs.Prelude.{slice_index, nat_eq, nat_lt, nat_le, not, ◌&&◌, All}
+use Rattle.std.proofs.Common.{◌≡◌, ℕ, zero, suc, ◌+◌, ◌<◌, ◌≤◌, ◌^◌, Bool, true, false, List, [], ◌∷◌, ◌++◌, length, map, take, set, get_or, Option, Some, None, Result, Ok, Err, inl, inr, refl, sym, ap, subst, ◌∙◌, arith, append_assoc}
+use Rattle.std.specs.Prelude.{slice_index, nat_eq, nat_lt, not, ◌&&◌, All}
 use Rattle.std.specs.List.{range_with_len, list_all}
 use Rattle.std.proofs.lemmas.Bool.{ltb-true, eqb-true, and_parts, cases_Bool, both_ways}
-use Rattle.std.proofs.lemmas.List.{length-append, length-map, length-take, append-nil, map-append, take_more, take_all, get_or-map, get_or-take, get_or-set_same, get_or-set_other, same_lists}
+use Rattle.std.proofs.lemmas.List.{length-map, length-take, append-nil, map-append, take_more, take_all, get_or-map, get_or-take, get_or-set_same, get_or-set_other, same_lists}
 use Rattle.std.proofs.lemmas.List.Elements.{All-cons, All-head, All-tail, All-nil, All-map, All-get_or, All-from_get_or}
 use Rattle.std.proofs.lemmas.List.Folds.{list_all_at}
 use Rattle.std.proofs.lemmas.List.FromFn.{get_or-range_with_len, length-map-range_with_len, length-range_with_len, fill_by_all}
 use Rattle.m2v_bits.specs.Bits.{bits, bits_of}
-use Rattle.m2v_bits.specs.Syntax.{Syntax, bind, done, seq, here, rule, choose, Spells}
+use Rattle.m2v_bits.specs.Syntax.{bind, done, seq, here, rule, choose, Spells}
 use Rattle.m2v_bits.specs.Leaves.{bits_at}
-use Rattle.m2v_bits.proofs.SyntaxLaws.{Lawful, Strict, good, bad, good_is, done_lawful, seq_lawful, seq_strict, choose_lawful}
+use Rattle.m2v_bits.proofs.SyntaxLaws.{Lawful, Strict, good, bad, done_lawful, seq_lawful, seq_strict, choose_lawful}
 use Rattle.m2v_bits.proofs.LeafLaws.{done_spells, seq_spells, first_spells, second_spells}
 use Rattle.m2v_quant.specs.Scans.{zigzag}
 use Rattle.m2v_head.specs.declared.fault.HeadFault.{HeadFault}
 use Rattle.m2v_head.specs.Texts.{flag, matrix_text, loaded_text}
 use Rattle.m2v_head.specs.Fits.{IsLoaded}
-use Rattle.m2v_head.specs.Elements.{Header, number_at, flag_at, some_at, numbers_at, position, raster, matrix_at, loaded_at}
+use Rattle.m2v_head.specs.Elements.{some_at, numbers_at, position, raster, matrix_at, loaded_at}
 use Rattle.m2v_head.proofs.ElementLaws.{flag_strict, some_strict, flag_spells, some_of, some_spells, last_spells, whole_spells, same_spells}
 
 -- ---- the syntax is lawful

@@ -1,10 +1,9 @@
 -- What is written of a header spells it.
-use Rattle.std.proofs.Common.{◌≡◌, ◌≢◌, ℕ, zero, suc, ◌<◌, ◌≤◌, ◌^◌, Bool, true, false, cond, List, [], ◌∷◌, ◌++◌, length, Option, Some, None, inl, inr, ◌⊎◌, refl, sym, ap, subst, ◌∙◌, arith, append_assoc}
+use Rattle.std.proofs.Common.{◌≡◌, ◌≢◌, ℕ, zero, suc, ◌<◌, ◌≤◌, ◌^◌, Bool, true, false, cond, List, [], ◌++◌, length, Option, Some, None, refl, sym, ap, subst, ◌∙◌, arith, append_assoc}
 use Rattle.std.specs.Prelude.{not, nat_eq, nat_le, nat_lt, ◌&&◌, IfSome, IfNone}
 use Rattle.std.proofs.lemmas.Bool.{and_from, le-leb, lt-ltb, eqb-true, eqb-false}
-use Rattle.std.proofs.lemmas.List.{append-nil}
-use Rattle.m2v_bits.specs.Bits.{bits_of, ◌⧺◌}
-use Rattle.m2v_bits.specs.Syntax.{Syntax, done, seq, rule, choose, Spells}
+use Rattle.m2v_bits.specs.Bits.{bits_of}
+use Rattle.m2v_bits.specs.Syntax.{Syntax, done, seq, choose, Spells}
 use Rattle.m2v_bits.proofs.LeafLaws.{done_spells, seq_spells, here_spells, rule_spells, first_spells, second_spells}
 use Rattle.m2v_head.specs.declared.sequence.SequenceInfo.{SequenceInfo}
 use Rattle.m2v_head.specs.declared.sequence.SequenceExtension.{SequenceExtension}
@@ -14,7 +13,7 @@ use Rattle.m2v_head.specs.declared.picture.PictureExtension.{PictureExtension}
 use Rattle.m2v_head.specs.declared.matrix.MatrixInfo.{MatrixInfo}
 use Rattle.m2v_head.specs.declared.slice.SliceInfo.{SliceInfo}
 use Rattle.m2v_head.specs.declared.fault.HeadFault.TheVariants.{Forbidden, Unsupported}
-use Rattle.m2v_head.specs.Texts.{flag, marker, sequence_text, rates_text, sequence_extension_text, group_text, directions_text, picture_text, f_codes_text, f_code_of, composite_text, flags_text, picture_extension_text, matrices_text, intra_slice_text, slice_text, loaded_text}
+use Rattle.m2v_head.specs.Texts.{flag, sequence_text, rates_text, sequence_extension_text, group_text, directions_text, picture_text, f_codes_text, f_code_of, composite_text, flags_text, picture_extension_text, matrices_text, intra_slice_text, slice_text}
 use Rattle.m2v_head.specs.Fits.{SequenceFits, SequenceExtensionFits, GroupFits, PictureFits, AreFCodes, PictureExtensionFits, MatrixFits, SliceFits}
 use Rattle.m2v_head.specs.Headers.{sequence_at, chroma_format_at, sequence_extension_at, group_at, kind_at, vectors_at, picture_at, f_codes_at, display_at, composite_at, picture_extension_at, matrices_at, intra_slice_at, slice_at}
 use Rattle.m2v_head.specs.Elements.{flag_at}

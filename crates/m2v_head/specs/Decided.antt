@@ -1,5 +1,6 @@
 -- What the laws of a header say.
 use Rattle.std.specs.Prelude.{◌≡◌, ℕ, Bool, List, ◌++◌, ◌⊎◌, Ok, Err}
+use Rattle.m2v_bits.specs.Syntax.{Spells}
 use Rattle.m2v_head.specs.declared.fault.HeadFault.{HeadFault}
 use Rattle.m2v_head.specs.Elements.{Header}
 
@@ -12,6 +13,7 @@ pub record Decided {V : Type 0} (s : Header V) : Type 0 where
   pub found : (v : V) (t rest : List Bool) → s.read t ≡ Ok (v, rest) → s.Stands v t rest
   pub first : (t : List Bool) (f : HeadFault × ℕ) → s.read t ≡ Err f → s.Broken t f
 
--- What is written of a header is read back as it, whatever follows.
-abbrev pub ReadBack : {V : Type 0} → Header V → (V → Type 0) → (V → List Bool) → Type 0
-ReadBack {V} s Fits text = (v : V) (rest : List Bool) → Fits v → s.read (text v ++ rest) ≡ Ok (v, rest)
+-- What is written of each header that fits spells it, and is read back as it, whatever follows.
+pub record RoundTrip {V : Type 0} (s : Header V) (Fits : V → Type 0) (text : V → List Bool) : Type 0 where
+  pub spells : (v : V) → Fits v → Spells s v (text v)
+  pub read : (v : V) (rest : List Bool) → Fits v → s.read (text v ++ rest) ≡ Ok (v, rest)

@@ -32,7 +32,7 @@ marker_at = do
   bit ← number_at 1
   rule (nat_eq bit 1) BadMarker at
 
--- the id of an extension (clause 6.3.1, table 6-2)
+-- the id of an extension (table 6-2)
 unfoldable pub id_at : ℕ → Header (Unit {0})
 id_at own = do
   at ← place

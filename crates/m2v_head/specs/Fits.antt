@@ -1,6 +1,6 @@
 -- The headers that have a spelling: each number fits its bits and isn't one that a reader refuses, and what a header
 -- doesn't have is 0, false or None.
-use Rattle.std.specs.Prelude.{ℕ, ◌≡◌, ◌≢◌, ◌<◌, ◌≤◌, ◌^◌, Bool, false, List, [], ◌∷◌, length, All, Option, Some, None, IfSome, IfNone}
+use Rattle.std.specs.Prelude.{ℕ, ◌≡◌, ◌≢◌, ◌<◌, ◌≤◌, ◌^◌, false, List, [], ◌∷◌, length, All, Option, IfSome, IfNone}
 use Rattle.m2v_head.specs.declared.sequence.SequenceInfo.{SequenceInfo}
 use Rattle.m2v_head.specs.declared.sequence.SequenceExtension.{SequenceExtension}
 use Rattle.m2v_head.specs.declared.group.GroupInfo.{GroupInfo}

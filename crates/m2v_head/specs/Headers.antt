@@ -1,6 +1,6 @@
 -- The headers as the standard's syntax tables have them (clauses 6.2.2 to 6.2.4), from the bit behind the start code
 -- on. Reading order is the order of the lines.
-use Rattle.std.specs.Prelude.{ℕ, Bool, true, false, not, ◌&&◌, nat_eq, nat_le, nat_lt, List, [], ◌∷◌, Option, Some, None}
+use Rattle.std.specs.Prelude.{ℕ, Bool, false, not, ◌&&◌, nat_eq, nat_le, nat_lt, List, [], ◌∷◌, Option, Some, None}
 use Rattle.m2v_bits.specs.Syntax.{done, rule, choose, ◌>>=◌}
 use Rattle.m2v_head.specs.declared.fault.HeadFault.TheVariants.{Forbidden, Unsupported}
 use Rattle.m2v_head.specs.declared.sequence.SequenceInfo.{SequenceInfo}

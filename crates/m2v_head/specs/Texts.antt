@@ -1,6 +1,6 @@
 -- What each header is written as: its elements in the order of the standard's syntax tables (clauses 6.2.2 to 6.2.4).
 -- Nothing is written where an element may be left out.
-use Rattle.std.specs.Prelude.{ℕ, Bool, true, false, cond, List, [], ◌∷◌, ◌++◌, map, Option, Some, None, nat_eq, slice_index, slice_index_or}
+use Rattle.std.specs.Prelude.{ℕ, Bool, true, false, cond, List, [], ◌∷◌, map, Option, Some, None, nat_eq, slice_index, slice_index_or}
 use Rattle.m2v_bits.specs.Bits.{bits, bits_of, ◌⧺◌}
 use Rattle.m2v_quant.specs.Scans.{zigzag}
 use Rattle.m2v_head.specs.declared.sequence.SequenceInfo.{SequenceInfo}

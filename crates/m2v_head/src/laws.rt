@@ -1,4 +1,4 @@
-ghost use Rattle.m2v_head.specs.Decided.{Decided, ReadBack};
+ghost use Rattle.m2v_head.specs.Decided.{Decided, RoundTrip};
 ghost use Rattle.m2v_head.specs.Texts.{sequence_text, sequence_extension_text, group_text, picture_text, picture_extension_text, matrices_text, slice_text};
 ghost use Rattle.m2v_head.specs.Fits.{SequenceFits, SequenceExtensionFits, GroupFits, PictureFits, PictureExtensionFits, MatrixFits, SliceFits};
 ghost use Rattle.m2v_head.specs.Headers.{sequence_at, sequence_extension_at, group_at, picture_at, picture_extension_at, matrices_at, slice_at};
@@ -14,13 +14,13 @@ pub fn law_one_value()
     ensures slice { Decided slice_at }
 {}
 
-/// What is written of a header is read back as it, whatever follows.
+/// What is written of a header spells it, and is read back as it, whatever follows.
 pub fn law_round_trip()
-    ensures sequence { ReadBack sequence_at SequenceFits sequence_text }
-    ensures sequence_extension { ReadBack sequence_extension_at SequenceExtensionFits sequence_extension_text }
-    ensures group { ReadBack group_at GroupFits group_text }
-    ensures picture { ReadBack picture_at PictureFits picture_text }
-    ensures picture_extension { ReadBack picture_extension_at PictureExtensionFits picture_extension_text }
-    ensures matrices { ReadBack matrices_at MatrixFits matrices_text }
-    ensures slice { ReadBack slice_at SliceFits slice_text }
+    ensures sequence { RoundTrip sequence_at SequenceFits sequence_text }
+    ensures sequence_extension { RoundTrip sequence_extension_at SequenceExtensionFits sequence_extension_text }
+    ensures group { RoundTrip group_at GroupFits group_text }
+    ensures picture { RoundTrip picture_at PictureFits picture_text }
+    ensures picture_extension { RoundTrip picture_extension_at PictureExtensionFits picture_extension_text }
+    ensures matrices { RoundTrip matrices_at MatrixFits matrices_text }
+    ensures slice { RoundTrip slice_at SliceFits slice_text }
 {}

@@ -1,4 +1,8 @@
-//! The headers of a stream, both ways (clauses 6.2.2 to 6.2.4).
+//! The headers of a stream, both ways (clauses 6.2.2 to 6.2.4), each from the bit behind its start code on.
+//!
+//! `write` appends a header's text, and `read` takes a header or says its first fault, the reader at the faulty element.
+//! `specs/Headers.antt` has the syntax of each, `specs/Texts.antt` what is written, and `specs/Fits.antt` of which values.
+//! Rules about more than one header are the caller's.
 #![tactic(auto)]
 
 mod fault;

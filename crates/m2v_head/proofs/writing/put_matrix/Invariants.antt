@@ -1,4 +1,4 @@
-use Rattle.std.proofs.Common.{◌≡◌, ◌+◌, ◌*◌, ◌++◌, ℕ, map, take, get_or}
+use Rattle.std.proofs.Common.{◌≡◌, ◌+◌, ◌*◌, ◌++◌, map, take, get_or}
 use Rattle.m2v_bits.specs.Bits.{bits}
 use Rattle.m2v_quant.specs.Scans.{zigzag}
 use Rattle.m2v_head.proofs.writing.put_matrix.Given as goal
