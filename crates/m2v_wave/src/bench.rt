@@ -59,7 +59,11 @@ fn blank_post<B: JobBook>(alloc: Global, book: &B, j: u32) -> Result<Box<Post<B>
 }
 
 // A blank post of each job, in order.
-fn blank_posts<B: JobBook>(alloc: Global, book: &B, jobs: u32) -> Result<Vec<Box<Post<B>>>, Memory>
+pub(crate) fn blank_posts<B: JobBook>(
+    alloc: Global,
+    book: &B,
+    jobs: u32,
+) -> Result<Vec<Box<Post<B>>>, Memory>
     requires { jobs ≡ B.jobs book.now }
     ensures count { IfOk result (λ v. length v.items ≡ jobs) }
     ensures blank { IfOk result (λ v. (j : ℕ) (d : _) → j < jobs → IsBlank (B.fits_piece book.now) (B.fits_shared book.now) j (slice_index_or v.items j d).value) }
