@@ -1,6 +1,6 @@
 -- What each step of the board is to the core that the board shows.
-use Rattle.std.proofs.Common.{◌≡◌, ◌≢◌, ℕ, zero, suc, ◌+◌, ◌<◌, ◌≤◌, min, Bool, true, false, not, cond, ◌&&◌, ◌||◌, List, [], ◌∷◌, ◌++◌, length, map, replicate, set, get_or, refl, sym, ap, ◌∙◌, subst, arith, eqb, ltb, get_or-set_other, get_or-set_same, add-one}
-use Rattle.std.specs.Prelude.{filter, find, Option, Some, None, is_some, is_none, All, Contains, Ok, Err}
+use Rattle.std.proofs.Common.{◌≡◌, ◌≢◌, ℕ, zero, suc, ◌+◌, ◌<◌, ◌≤◌, min, Bool, true, false, not, cond, ◌&&◌, ◌||◌, List, [], ◌∷◌, ◌++◌, length, map, replicate, set, get_or, refl, sym, ap, ◌∙◌, subst, arith, eqb, ltb, get_or-set_other, get_or-set_same}
+use Rattle.std.specs.Prelude.{filter, find, Option, Some, None, is_some, All, Contains, Ok, Err}
 use Rattle.std.specs.List.{range_with_len, list_any}
 use Rattle.std.proofs.lemmas.Bool.Decides.{nat_tests}
 use Rattle.std.proofs.lemmas.Bool.{cases_lt, eq-eqb, ne_eqb, lt-ltb}
@@ -15,15 +15,14 @@ use mathlib.Core.Logic.{⊎_elim, dite}
 use native.Mathlib.Decide.{ℕ_discrete}
 use Rattle.atomic_table.specs.Table as table
 use Rattle.m2v_core.specs.declared.event.Event.TheVariants.{Claim, Publish, Fetch}
-use Rattle.m2v_core.specs.declared.event.Answer.TheVariants.{Drawn, End, Done}
+use Rattle.m2v_core.specs.declared.event.Answer.TheVariants.{Done}
 use Rattle.m2v_core.specs.declared.event.StepFault.TheVariants.{NotLawful}
-use Rattle.m2v_core.specs.Core.{State, published_count, workers, of_worker, is_published, is_open, missing, claim, opening, publish as publish_job, answer, after}
+use Rattle.m2v_core.specs.Core.{State, published_count, workers, of_worker, is_published, is_open, missing, opening, answer, after}
 use Rattle.m2v_core.proofs.Answers.{claim_drawn, claim_at_end, publish_done}
 use Rattle.m2v_board.specs.declared.view.View.{View}
 use Rattle.m2v_board.specs.Rule.{About, Ruled, times, one_if, word, draws, first_view}
-use Rattle.m2v_board.specs.Steps.{draw, publish, borrow, give_back, fewer, one_pass, both}
+use Rattle.m2v_board.specs.Steps.{draw, publish, fewer, one_pass, both}
 use Rattle.m2v_board.specs.Shows.{shown}
-use Rattle.m2v_board.proofs.Draws.{word_drawn}
 use Rattle.m2v_board.proofs.Raises.{word_of_job}
 use Rattle.m2v_board.proofs.Opening.{zero_at}
 use Rattle.m2v_board.proofs.Slots.{times_cons}

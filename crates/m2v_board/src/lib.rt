@@ -21,7 +21,7 @@ mod view;
 
 pub use board::Board;
 pub use gate::{Gate, OpenGate};
-pub use laws::law_shows;
+pub use laws::{law_shows, law_steps};
 pub use m2v_core::Memory;
 pub use pass::Pass;
 pub use post::Post;

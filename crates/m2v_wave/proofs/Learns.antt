@@ -1,5 +1,5 @@
 -- One need more is learned, and one job is done.
-use Rattle.std.proofs.Common.{◌≡◌, ◌≢◌, ℕ, cond, leb, ◌+◌, ◌<◌, ◌≤◌, List, [], ◌∷◌, ◌++◌, length, take, get_or, refl, sym, ap, ◌∙◌, subst, arith}
+use Rattle.std.proofs.Common.{◌≡◌, ◌≢◌, ℕ, cond, leb, ◌+◌, ◌<◌, List, [], ◌∷◌, ◌++◌, length, take, get_or, sym, ap, ◌∙◌, subst, arith}
 use Rattle.std.specs.Prelude.{slice_index, All, Contains, Option, None}
 use Rattle.std.proofs.lemmas.List.Elements.{All-more, All-weaker, Contains-push, Contains-append_left}
 use Rattle.std.proofs.lemmas.List.Sums.{sum_by-append}

@@ -1,5 +1,5 @@
 -- The book of three needs meets what is asked of a book.
-use Rattle.std.proofs.Common.{◌≡◌, ℕ, zero, suc, ◌+◌, ◌-◌, ◌%◌, ◌<◌, ◌≤◌, List, [], ◌∷◌, length, refl, sym, ap, ◌∙◌, arith}
+use Rattle.std.proofs.Common.{◌≡◌, ℕ, zero, suc, ◌+◌, ◌-◌, ◌%◌, ◌<◌, ◌≤◌, [], ◌∷◌, length, refl, arith}
 use Rattle.m2v_core.specs.Book.{cache_after}
 use Rattle.m2v_wave.specs.Trio.{trio_needs, before, trio_value, trio_learned}
 

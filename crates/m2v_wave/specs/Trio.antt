@@ -1,5 +1,5 @@
 -- A book of the tests: each job stands on the three jobs before it, as far as they exist.
-use Rattle.std.specs.Prelude.{◌≡◌, ℕ, zero, suc, ◌+◌, ◌%◌, ◌<◌, ◌≤◌, ◌==◌, List, [], ◌∷◌, All, length, if◌then◌else◌}
+use Rattle.std.specs.Prelude.{ℕ, zero, suc, ◌+◌, ◌%◌, ◌<◌, ◌≤◌, ◌==◌, List, [], ◌∷◌, All, length, if◌then◌else◌}
 use Rattle.std.proofs.Common.{lit≤}
 use Rattle.std.proofs.Math.Nat.{lt-suc_self, lt_trans}
 use Rattle.std.proofs.lemmas.List.Elements.{All-nil, All-push}

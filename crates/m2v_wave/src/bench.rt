@@ -18,13 +18,14 @@ pub struct Bench<B: JobBook> {
 }
 
 impl<B: JobBook> Bench<B> {
-    ghost use Rattle.m2v_wave.specs.Benches.{IsBenchOf};
+    ghost use Rattle.m2v_wave.specs.Benches.{IsBenchOf, worker_count};
 
     /// A bench of 1 to 16 workers for the book. Takes all memory that a run over it needs, and fails
     /// only for want of it.
     pub fn for_book(alloc: Global, book: &B, workers: u32) -> Result<Bench<B>, Memory>
         requires { (0 < workers) × (workers ≤ 16) }
-        ensures { IfOk result (λ b. IsBenchOf B.jobs B.fits_cache book.now b) }
+        ensures bench { IfOk result (λ b. IsBenchOf B.jobs B.fits_cache book.now b) }
+        ensures workers { IfOk result (λ b. worker_count b ≡ workers) }
     {
         let jobs = book.jobs();
         let posts = blank_posts(alloc, book, jobs)?;
@@ -59,7 +60,11 @@ fn blank_post<B: JobBook>(alloc: Global, book: &B, j: u32) -> Result<Box<Post<B>
 }
 
 // A blank post of each job, in order.
-fn blank_posts<B: JobBook>(alloc: Global, book: &B, jobs: u32) -> Result<Vec<Box<Post<B>>>, Memory>
+pub(crate) fn blank_posts<B: JobBook>(
+    alloc: Global,
+    book: &B,
+    jobs: u32,
+) -> Result<Vec<Box<Post<B>>>, Memory>
     requires { jobs ≡ B.jobs book.now }
     ensures count { IfOk result (λ v. length v.items ≡ jobs) }
     ensures blank { IfOk result (λ v. (j : ℕ) (d : _) → j < jobs → IsBlank (B.fits_piece book.now) (B.fits_shared book.now) j (slice_index_or v.items j d).value) }

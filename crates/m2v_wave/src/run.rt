@@ -106,7 +106,7 @@ fn one_pass<B: JobBook>(board: &Board<B>, mut workers: Vec<Worker<B>>) -> Pass<B
 }
 
 // Ends the board once one pass stands for all, and gives the pieces.
-fn ended<B: JobBook>(
+pub(crate) fn ended<B: JobBook>(
     book: &B,
     board: Board<B>,
     all: Pass<B>,

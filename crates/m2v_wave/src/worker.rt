@@ -88,7 +88,7 @@ fn tell_gate<B: JobBook, G: Gate>(_book: &B, gate: &G, number: u32, j: u32, told
 }
 
 // Does one job that the pass has claimed, and publishes it.
-fn work_one<R: Wait, B: JobBook, G: Gate>(
+pub(crate) fn work_one<R: Wait, B: JobBook, G: Gate>(
     rt: &R,
     book: &B,
     board: &Board<B>,

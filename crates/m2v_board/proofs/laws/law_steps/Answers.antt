@@ -1,4 +1,4 @@
-use Rattle.std.proofs.Common.{refl, sym, ◌∙◌, arith}
+use Rattle.std.proofs.Common.{refl, arith}
 use Rattle.m2v_board.proofs.Events.{opening_shown, claim_shown, raise_shown, lent_shown, split_shown, join_shown}
 use Rattle.m2v_board.proofs.laws.law_steps.Goals as goal
 

@@ -1,4 +1,4 @@
-use Rattle.std.proofs.Common.{arith, sym, ap, ◌∙◌}
+use Rattle.std.proofs.Common.{sym, ◌∙◌}
 use Rattle.m2v_wave.specs.Benches.{IsBenchOf}
 use Rattle.m2v_wave.proofs.run.run_jobs.Goals as goal
 

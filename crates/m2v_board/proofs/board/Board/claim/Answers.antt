@@ -1,7 +1,5 @@
-use Rattle.std.proofs.Common.{◌≡◌, ◌<◌, ℕ, ◌∷◌, ◌∙◌, true, false, ltb, length, ap, sym, refl, arith}
-use Rattle.std.proofs.lemmas.Bool.{ltb-true}
+use Rattle.std.proofs.Common.{◌<◌, ◌∷◌, ◌∙◌, ltb, ap, sym, arith}
 use mathlib.Core.Bool.{true≢false}
-use Rattle.m2v_board.specs.Rule.{times, past}
 use Rattle.m2v_board.specs.Slots.{jobs_in}
 use Rattle.m2v_board.specs.Passes.{jobs_of}
 use Rattle.m2v_board.proofs.Tallies.{fewer_open, open_below, none_drawn, claim_tally, claim_once, past_same, not_past}

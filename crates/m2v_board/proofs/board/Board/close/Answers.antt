@@ -1,4 +1,4 @@
-use Rattle.std.proofs.Common.{ap, ◌∙◌, sym, ◌≡◌, ◌<◌, ◌+◌, ◌⊎◌, Some, Option, arith, ℕ, rules}
+use Rattle.std.proofs.Common.{ap, ◌∙◌, sym, ◌≡◌, ◌<◌, ◌⊎◌, Some, Option, arith, ℕ}
 use Rattle.std.specs.Prelude.{unwrap_or}
 use mathlib.Core.Option.{some, some-injective}
 use mathlib.Core.Logic.{⊎_elim, inl, inr}

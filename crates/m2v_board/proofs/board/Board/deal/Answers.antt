@@ -1,5 +1,4 @@
-use Rattle.std.proofs.Common.{rules, refl, sym, ap, arith, ◌≡◌, ◌+◌, ◌-◌, ◌∷◌, [], ◌∙◌, length, length-append}
-use Rattle.std.specs.Prelude.{All}
+use Rattle.std.proofs.Common.{sym, ap, arith, ◌≡◌, ◌+◌, ◌-◌, [], ◌∙◌}
 use Rattle.std.specs.Vec.{vec_len}
 use Rattle.std.proofs.lemmas.List.Elements.{All-pop, All-push}
 use Rattle.m2v_board.specs.Rule.{first_view}

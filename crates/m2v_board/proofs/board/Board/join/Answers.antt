@@ -1,4 +1,4 @@
-use Rattle.std.proofs.Common.{rules, refl, sym, ap, arith, ◌≡◌, ◌+◌, ◌∙◌, cond, ltb}
+use Rattle.std.proofs.Common.{rules, refl, sym, ap, arith, ◌≡◌, ◌∙◌, cond, ltb}
 use Rattle.m2v_board.specs.Rule.{times}
 use Rattle.m2v_board.specs.Slots.{jobs_in}
 use Rattle.m2v_board.proofs.Joins.{joins_ok, ended_join}

@@ -1,4 +1,4 @@
-use Rattle.std.proofs.Common.{◌≡◌, ◌∙◌, ap, sym}
+use Rattle.std.proofs.Common.{◌∙◌, ap, sym}
 use Rattle.m2v_board.specs.Slots.{jobs_in}
 use Rattle.m2v_board.proofs.Slots.{slot_there}
 use Rattle.m2v_board.proofs.board.Board.take.Goals as goal

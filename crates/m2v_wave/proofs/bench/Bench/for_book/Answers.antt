@@ -7,4 +7,4 @@ unfolding IsBenchOf
 returns g c =
     let board = c.in_ok-board.ensures.board in
     let count = c.hire.ensures.count ∙ c.in_ok-board.ensures.passes.0 in
-    (board.0, board.1, omega (arith, count, c.requires), board.2 ∙ sym count, c.hire.ensures.idle, c.in_ok-done.ensures.len, omega (arith, c.in_ok-done.ensures.capacity, board.1, c.jobs-jobs.ensures))
+    record { workers = count; bench = (board.0, board.1, omega (arith, count, c.requires), board.2 ∙ sym count, c.hire.ensures.idle, c.in_ok-done.ensures.len, omega (arith, c.in_ok-done.ensures.capacity, board.1, c.jobs-jobs.ensures)) }

@@ -1,5 +1,4 @@
-use Rattle.std.proofs.Common.{arith, ap, ◌≡◌, ◌<◌}
-use Rattle.m2v_wave.specs.Trio.{before}
+use Rattle.std.proofs.Common.{arith, ap}
 use Rattle.m2v_wave.proofs.Trio.{trio_cache, before_small, trio_works, trio_first}
 use Rattle.m2v_wave.proofs.books.TrioJobBook.work.Goals as goal
 
