@@ -1,7 +1,6 @@
 -- Reconstruction by size and sign is that of the standard, and a sum's parity goes by the sizes.
-use Rattle.std.proofs.Common.{◌≡◌, ℕ, zero, suc, ◌+◌, ◌-◌, ◌*◌, ◌/◌, ◌%◌, ◌^◌, ◌<◌, ◌≤◌, Bool, true, false, cond, refl, ap, sym, ◌∙◌, arith, List, length, map, get_or, set, get_or-set_other, get_or-set_same, below_more, ◌≢◌, All, ℤ, pos, negsuc, ◌+ℤ◌, ◌-ℤ◌, ◌*ℤ◌, ◌≤ℤ◌, inl, inr}
-use Rattle.std.specs.Prelude.{neg_ℤ, min, unsigned_abs, nat_eq, ◌&&◌, slice_index, if◌then◌else◌}
-use Rattle.std.specs.Int.{int_signum}
+use Rattle.std.proofs.Common.{◌≡◌, ℕ, zero, suc, ◌+◌, ◌*◌, ◌/◌, ◌%◌, ◌^◌, ◌<◌, Bool, true, false, cond, refl, ap, sym, ◌∙◌, arith, List, length, map, get_or, set, get_or-set_other, get_or-set_same, below_more, ◌≢◌, ℤ, pos, negsuc, ◌+ℤ◌, ◌*ℤ◌, inl, inr}
+use Rattle.std.specs.Prelude.{neg_ℤ, min, unsigned_abs}
 use Rattle.std.specs.Int.RustNames.{int_div}
 use Rattle.std.specs.List.{range_with_len}
 use Rattle.std.proofs.lemmas.Int.{ints}
@@ -9,9 +8,8 @@ use Rattle.std.proofs.lemmas.Bool.{ne_eqb, eq-eqb, cases_eq}
 use Rattle.std.proofs.lemmas.List.FromFn.{fill_by_all, get_or-map-range_with_len}
 use Rattle.std.proofs.Math.ListN.{length-set}
 use Rattle.m2v_quant.specs.declared.kind.BlockKind.{BlockKind}
-use Rattle.m2v_quant.specs.Kinds.{IsCoefficient}
 use Rattle.m2v_quant.specs.Quantiser.{with_sign}
-use Rattle.m2v_quant.specs.Coefficients.{ac_coefficient, dc_coefficient, saturated, saturated_at, sum_below, is_even, other_parity, coefficient_at, coefficients_of}
+use Rattle.m2v_quant.specs.Coefficients.{ac_coefficient, dc_coefficient, saturated_at, sum_below, other_parity, coefficient_at, coefficients_of}
 
 negated : (a s : ℕ) → neg_ℤ (pos a) *ℤ pos s ≡ neg_ℤ (pos (a * s))
 negated zero s = let e : 0 * s ≡ 0 = omega arith in rw e refl

@@ -1,5 +1,5 @@
 -- What a block is coded with, and the ranges of its numbers.
-use Rattle.std.specs.Prelude.{ℕ, ◌<◌, ◌≤◌, ◌^◌, ℤ, pos, neg_ℤ, ◌≤ℤ◌, All}
+use Rattle.std.specs.Prelude.{◌<◌, ◌≤◌, ◌^◌, ℤ, pos, neg_ℤ, ◌≤ℤ◌, All}
 use Rattle.m2v_quant.specs.declared.kind.BlockKind.{BlockKind}
 
 -- the precision is a value of intra_dc_precision (clause 6.3.10), the scale one of table 7-6, and no number of the

@@ -1,5 +1,5 @@
-use Rattle.std.proofs.Common.{◌∙◌, ap, ◌≡◌, ◌+◌, ◌*◌, ◌/◌, ◌^◌, ℕ, ℤ, cond, arith}
-use Rattle.std.specs.Prelude.{min, unsigned_abs}
+use Rattle.std.proofs.Common.{◌∙◌, ap, ◌+◌, ◌*◌, ◌/◌, ℕ, cond}
+use Rattle.std.specs.Prelude.{min}
 use Rattle.std.proofs.lemmas.Int.{to_z-of_z}
 use mir.Syntax.{w32}
 use mir.Val.{SFits}

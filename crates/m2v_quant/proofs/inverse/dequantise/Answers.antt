@@ -1,10 +1,9 @@
-use Rattle.std.proofs.Common.{arith, rules, ◌≡◌, ◌<◌, ◌∙◌, ap, sym, ℕ, ℤ, List, All, length, get_or, pos}
-use Rattle.std.proofs.lemmas.Int.{ints, to_z-of_z}
+use Rattle.std.proofs.Common.{rules, ◌∙◌, sym, get_or, pos}
+use Rattle.std.proofs.lemmas.Int.{to_z-of_z}
 use Rattle.std.proofs.lemmas.List.Elements.{All-set}
 use mir.Syntax.{w32}
-use mir.Val.{SFits, to_z, of_z}
+use mir.Val.{SFits}
 use Rattle.m2v_quant.specs.Kinds.{IsCoefficient}
-use Rattle.m2v_quant.specs.Coefficients.{other_parity}
 use Rattle.m2v_quant.proofs.Reconstruction.{even_block, odd_block}
 use Rattle.m2v_quant.proofs.inverse.dequantise.Goals as goal
 

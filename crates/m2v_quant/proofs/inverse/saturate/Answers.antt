@@ -1,10 +1,10 @@
-use Rattle.std.proofs.Common.{arith, ◌≡◌, ◌<◌, ◌∙◌, ℕ, ℤ, List, All, get_or, pos}
-use Rattle.std.proofs.lemmas.Int.{ints, to_z-of_z}
+use Rattle.std.proofs.Common.{arith, ◌≡◌, ◌∙◌, pos}
+use Rattle.std.proofs.lemmas.Int.{to_z-of_z}
 use Rattle.std.proofs.lemmas.List.Elements.{All-from_get_or}
 use Rattle.std.proofs.lemmas.List.FromFn.{fill_by_all}
 use Rattle.std.proofs.Math.ListN.{length-set}
 use mir.Syntax.{w32}
-use mir.Val.{SFits, to_z, of_z}
+use mir.Val.{SFits}
 use Rattle.m2v_quant.specs.Kinds.{IsCoefficient}
 use Rattle.m2v_quant.specs.Coefficients.{saturated_at}
 use Rattle.m2v_quant.proofs.Reconstruction.{parity_none, parity_next, write_next}
