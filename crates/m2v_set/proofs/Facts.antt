@@ -1,5 +1,5 @@
 -- What follows for settings that pass.
-use Rattle.std.proofs.Common.{◌≡◌, ℕ, ◌≤◌, ◌<◌, ◌+◌, ◌-◌, ◌*◌, ◌%◌, List, [], ◌∷◌, ◌++◌, refl, ap, sym, ◌∙◌, Bool, true, false, Result, Ok, Err, arith, if◌then◌else◌, nat_le, nat_eq}
+use Rattle.std.proofs.Common.{◌≡◌, ◌≤◌, List, [], ◌∷◌, refl, sym, ◌∙◌, Bool, true, false, Result, Ok, Err, arith, if◌then◌else◌}
 use Rattle.std.proofs.lemmas.Bool.{leb-true, eqb-true}
 use Rattle.m2v_set.specs.declared.unfit.Unfit.{Unfit}
 use Rattle.m2v_set.specs.declared.settings.Settings.{Settings}
@@ -7,8 +7,8 @@ use Rattle.m2v_set.specs.declared.settings.Level.{Level}
 use Rattle.m2v_set.specs.declared.settings.Scan.{Scan}
 use Rattle.m2v_set.specs.declared.settings.Level.TheVariants.{Main, High1440, High}
 use Rattle.m2v_set.specs.declared.settings.Scan.TheVariants.{Progressive, Frames, Fields}
-use Rattle.m2v_set.specs.Numbers.{frame_time, arrival_of, longest_of, buffer_bits, least_of, delay_of, limits_of}
-use Rattle.m2v_set.specs.Rules.{Condition, judge, judged, and_then, frame_rules, channel_rules, buffer_rules, delay_rules, choice_rules, pulldown_rules, rules, line_step, scan_number, Passes}
+use Rattle.m2v_set.specs.Numbers.{limits_of}
+use Rattle.m2v_set.specs.Rules.{Condition, judge, judged, and_then, frame_rules, channel_rules, buffer_rules, delay_rules, choice_rules, pulldown_rules, scan_number, Passes}
 use Rattle.m2v_set.specs.Bounds.{InSize, InTime, InChoice, InPulldown, Bounds}
 use Rattle.m2v_set.proofs.Judged.{in_turn}
 

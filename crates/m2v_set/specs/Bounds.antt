@@ -1,9 +1,9 @@
 -- What settings that pass keep to, as facts on their numbers.
-use Rattle.std.specs.Prelude.{ℕ, ◌≡◌, ◌≤◌, ◌+◌, ◌-◌, ◌*◌, ◌%◌, true}
+use Rattle.std.specs.Prelude.{◌≡◌, ◌≤◌, ◌+◌, ◌-◌, ◌*◌, ◌%◌, true}
 use Rattle.m2v_set.specs.declared.settings.Scan.TheVariants.{Frames}
 use Rattle.m2v_set.specs.declared.settings.Settings.{Settings}
-use Rattle.m2v_set.specs.Numbers.{arrival_of, longest_of, buffer_bits, least_of, delay_of, limits_of}
-use Rattle.m2v_set.specs.Rules.{line_step, scan_number}
+use Rattle.m2v_set.specs.Numbers.{arrival_of, longest_of, buffer_bits, least_of, delay_of}
+use Rattle.m2v_set.specs.Rules.{line_step}
 
 -- size and rates; 1920, 1152, 8, 200000 and 597 bound every level
 pub record InSize (s : Settings) : Type 0 where

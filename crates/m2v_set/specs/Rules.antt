@@ -1,9 +1,8 @@
 -- The published test: conditions in order, under the number of their rule.
-use Rattle.std.specs.Prelude.{ℕ, ◌≡◌, ◌+◌, ◌-◌, ◌*◌, ◌/◌, ◌%◌, List, [], ◌∷◌, ◌++◌, Bool, true, false, nat_le, nat_eq, if◌then◌else◌, Result, Ok, Err}
+use Rattle.std.specs.Prelude.{ℕ, ◌≡◌, ◌+◌, ◌-◌, ◌*◌, ◌%◌, List, [], ◌∷◌, ◌++◌, Bool, true, false, nat_le, nat_eq, if◌then◌else◌, Result, Ok, Err}
 use Rattle.m2v_set.specs.declared.settings.Scan.{Scan}
 use Rattle.m2v_set.specs.declared.settings.Scan.TheVariants.{Progressive, Frames, Fields}
-use Rattle.m2v_set.specs.declared.settings.Level.{Level}
-use Rattle.m2v_set.specs.declared.settings.Level.TheVariants.{Main, High1440, High}
+use Rattle.m2v_set.specs.declared.settings.Level.TheVariants.{Main}
 use Rattle.m2v_set.specs.declared.settings.Settings.{Settings}
 use Rattle.m2v_set.specs.declared.unfit.Unfit.{Unfit}
 use Rattle.m2v_set.specs.declared.limits.Limits.{Limits}

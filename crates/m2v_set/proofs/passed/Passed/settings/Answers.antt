@@ -1,4 +1,3 @@
-use Rattle.std.proofs.Common.{subst, sym}
 use Rattle.m2v_set.proofs.Facts.{bounds}
 use Rattle.m2v_set.proofs.passed.Passed.settings.Goals as goal
 
