@@ -1,0 +1,15 @@
+//! The settings of the encoder, the published test, and the numbers that settings which pass stand for.
+#![tactic(auto)]
+
+mod limits;
+mod numbers;
+mod passed;
+mod rules;
+mod settings;
+#[cfg(test)]
+mod tests;
+mod unfit;
+
+pub use passed::{Passed, test_flat};
+pub use settings::{Level, Scan, Settings};
+pub use unfit::Unfit;
