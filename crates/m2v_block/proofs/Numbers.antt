@@ -37,9 +37,9 @@ least_size magnitude r lt none is =
 within_range : (p : ℕ → Bool) (a n end : ℕ) → a + n ≡ end → unwrap_or (find p (range_with_len a n)) end ≤ end
 within_range p a zero end e = omega arith
 within_range p a (suc n) end e = elim (cases_Bool (p a)) [
-    | inl on ↦ rw on (omega arith)
-    | inr off ↦ rw off (within_range p (a + 1) n end (omega arith))
-  ]
+  | inl on ↦ rw on (omega arith)
+  | inr off ↦ rw off (within_range p (a + 1) n end (omega arith))
+]
 
 pub size_most : (magnitude : ℕ) → size_of magnitude ≤ 12
 unfolding size_of

@@ -4,10 +4,9 @@
 use m2v_port::{FileSink, StdSink, StdSource};
 use m2v_tool::run;
 use std::alloc::Global;
-use std::env;
 use std::env::Env;
-use std::io;
 use std::process::ExitCode;
+use std::{env, io};
 
 /// The words behind the program's name.
 fn words(rt: &(impl Env + Alloc<A = Global>)) -> io::Result<Vec<String>> {
@@ -26,6 +25,13 @@ fn main(rt: HostRuntime) -> ExitCode {
     let mut output = StdSink::new(rt.stdout());
     let mut recon = FileSink::new(rt);
     let mut report = StdSink::new(rt.stderr());
-    let status = run(rt.alloc(), &words, &mut input, &mut output, &mut recon, &mut report);
+    let status = run(
+        rt.alloc(),
+        &words,
+        &mut input,
+        &mut output,
+        &mut recon,
+        &mut report,
+    );
     ExitCode::from(status.code)
 }
