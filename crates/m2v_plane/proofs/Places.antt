@@ -7,10 +7,13 @@ use Rattle.std.proofs.lemmas.Nat.{div-mul-add, mod-mul-add, mod_below}
 use Rattle.std.specs.List.{range_with_len}
 use Rattle.std.proofs.lemmas.List.{ext_get_or, get_or-take, get_or-drop, length-take-le, length-drop, get_or-append_right, get_or_append_left}
 use Rattle.std.proofs.lemmas.List.FromFn.{get_or-map-range_with_len, length-map-range_with_len}
+use Rattle.m2v_plane.specs.declared.dims.Dims.{Dims}
+use Rattle.m2v_plane.specs.declared.planes.Plane.{Plane}
+use Rattle.m2v_plane.specs.declared.planes.Plane.TheVariants.{Y, Cb, Cr}
 use Rattle.m2v_plane.specs.declared.planes.Lines.{Lines}
 use Rattle.std.proofs.lemmas.Bool.Decides.{nat_tests}
 use Rattle.m2v_plane.specs.declared.planes.Lines.TheVariants.{Whole, Top, Bottom}
-use Rattle.m2v_plane.specs.Sizes.{frame_line, part_of}
+use Rattle.m2v_plane.specs.Sizes.{frame_line, part_of, columns_of, IsSize}
 use Rattle.m2v_plane.specs.Samples.{line_part, plane_by, is_among, number_among}
 
 -- a part of a line lies within the whole
@@ -219,3 +222,22 @@ pub part_of-le : (which : Lines) (total : ℕ) → part_of which total ≤ total
 part_of-le Whole total = omega arith
 part_of-le Top total = omega arith
 part_of-le Bottom total = omega arith
+
+-- samples that stand one after another are a part of a line
+pub line_is : (xs : List ℕ) (at : ℕ → ℕ) (column n : ℕ) → length xs ≡ n
+  → ((k : ℕ) → k < n → get_or xs k 0 ≡ at (column + k)) → xs ≡ line_part at column n
+line_is xs at column n len each =
+    let f = λ (k : ℕ). at (column + k) in
+    ext_get_or 0 xs (line_part at column n) (len ∙ sym (length-map-range_with_len f 0 n))
+    (λ i lt.
+        let small : i < n = omega (arith, len, lt) in
+        each i small ∙ sym (get_or-map-range_with_len f 0 n i i 0 small (omega arith)))
+
+pub length-line_part : (at : ℕ → ℕ) (column n : ℕ) → length (line_part at column n) ≡ n
+length-line_part at column n = length-map-range_with_len (λ (k : ℕ). at (column + k)) 0 n
+
+-- a line has at most 1920 samples
+pub columns-most : (d : Dims) (plane : Plane) → IsSize d → columns_of d plane ≤ 1920
+columns-most d Y is = omega (arith, is.width, is.mb_width)
+columns-most d Cb is = omega (arith, is.width, is.mb_width)
+columns-most d Cr is = omega (arith, is.width, is.mb_width)

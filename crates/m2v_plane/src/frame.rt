@@ -163,6 +163,8 @@ impl RefView for Frame {
 
     #[inline(always)]
     fn copy_line(&self, plane: Plane, lines: Lines, line: u32, column: u32, out: &mut [u8]) {
+        // a line is short enough for its samples to be counted
+        let _size = self.dims();
         out.copy_from_slice(self.line(plane, lines, line, column, out.len() as u32));
     }
 }
