@@ -39,12 +39,12 @@ padded lines columns height width bytes =
 
 -- a raw frame as samples of whole macroblocks
 abbrev pub pad : Dims → List ℕ → Samples
-pad d bytes = record
-  { dims = d
-  ; luma = padded (16 * d.mb_rows) (16 * d.mb_width) d.height d.width (take (luma_bytes d) bytes)
-  ; cb = padded (8 * d.mb_rows) (8 * d.mb_width) (chroma_height d) (chroma_width d) (take (chroma_bytes d) (drop (luma_bytes d) bytes))
-  ; cr = padded (8 * d.mb_rows) (8 * d.mb_width) (chroma_height d) (chroma_width d) (drop (luma_bytes d + chroma_bytes d) bytes)
-  }
+pad d bytes = record {
+  dims = d;
+  luma = padded (16 * d.mb_rows) (16 * d.mb_width) d.height d.width (take (luma_bytes d) bytes);
+  cb = padded (8 * d.mb_rows) (8 * d.mb_width) (chroma_height d) (chroma_width d) (take (chroma_bytes d) (drop (luma_bytes d) bytes));
+  cr = padded (8 * d.mb_rows) (8 * d.mb_width) (chroma_height d) (chroma_width d) (drop (luma_bytes d + chroma_bytes d) bytes);
+}
 
 -- the lines and columns of a plane that are shown
 unfoldable pub shown : ℕ → ℕ → ℕ → List ℕ → List ℕ

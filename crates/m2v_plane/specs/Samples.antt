@@ -44,12 +44,12 @@ plane_by lines columns at = map (λ k. at (k / columns) (k % columns)) (range_wi
 
 -- all samples 0
 abbrev pub blank : Dims → ℕ → Samples
-blank d rows = record
-  { dims = d
-  ; luma = replicate (16 * rows * (16 * d.mb_width)) 0
-  ; cb = replicate (8 * rows * (8 * d.mb_width)) 0
-  ; cr = replicate (8 * rows * (8 * d.mb_width)) 0
-  }
+blank d rows = record {
+  dims = d;
+  luma = replicate (16 * rows * (16 * d.mb_width)) 0;
+  cb = replicate (8 * rows * (8 * d.mb_width)) 0;
+  cr = replicate (8 * rows * (8 * d.mb_width)) 0;
+}
 
 -- one sample replaced
 abbrev pub with_sample : Samples → Plane → ℕ → ℕ → ℕ → Samples
@@ -74,15 +74,15 @@ unfoldable pub plane_with_row : ℕ → ℕ → ℕ → Lines → ℕ → List �
 plane_with_row lines columns height which row old new =
     plane_by lines columns
     (λ line column.
-        if is_among which line && nat_eq (number_among which line / height) row
-        then slice_index new (number_among which line % height * columns + column)
-        else slice_index old (line * columns + column))
+    if is_among which line && nat_eq (number_among which line / height) row
+    then slice_index new (number_among which line % height * columns + column)
+    else slice_index old (line * columns + column))
 
 -- one macroblock row of these lines replaced
 abbrev pub with_row : Samples → Lines → ℕ → Samples → Samples
-with_row s which row new = record
-  { dims = s.dims
-  ; luma = plane_with_row (16 * s.dims.mb_rows) (16 * s.dims.mb_width) 16 which row s.luma new.luma
-  ; cb = plane_with_row (8 * s.dims.mb_rows) (8 * s.dims.mb_width) 8 which row s.cb new.cb
-  ; cr = plane_with_row (8 * s.dims.mb_rows) (8 * s.dims.mb_width) 8 which row s.cr new.cr
-  }
+with_row s which row new = record {
+  dims = s.dims;
+  luma = plane_with_row (16 * s.dims.mb_rows) (16 * s.dims.mb_width) 16 which row s.luma new.luma;
+  cb = plane_with_row (8 * s.dims.mb_rows) (8 * s.dims.mb_width) 8 which row s.cb new.cb;
+  cr = plane_with_row (8 * s.dims.mb_rows) (8 * s.dims.mb_width) 8 which row s.cr new.cr;
+}

@@ -79,9 +79,30 @@ impl Frame {
         let (lines, columns) = (self.dims.mb_rows as usize, self.dims.mb_width as usize);
         let (high, wide) = ((height + 1) / 2, (width + 1) / 2);
         let (luma, chroma) = (width * height, wide * high);
-        moves::pad_plane(&mut self.luma, 16 * lines, 16 * columns, &raw[..luma], height, width);
-        moves::pad_plane(&mut self.cb, 8 * lines, 8 * columns, &raw[luma..luma + chroma], high, wide);
-        moves::pad_plane(&mut self.cr, 8 * lines, 8 * columns, &raw[luma + chroma..], high, wide);
+        moves::pad_plane(
+            &mut self.luma,
+            16 * lines,
+            16 * columns,
+            &raw[..luma],
+            height,
+            width,
+        );
+        moves::pad_plane(
+            &mut self.cb,
+            8 * lines,
+            8 * columns,
+            &raw[luma..luma + chroma],
+            high,
+            wide,
+        );
+        moves::pad_plane(
+            &mut self.cr,
+            8 * lines,
+            8 * columns,
+            &raw[luma + chroma..],
+            high,
+            wide,
+        );
     }
 
     /// Writes the displayed part as a raw frame.
@@ -91,16 +112,14 @@ impl Frame {
     {
         let (height, width) = (self.dims.height as usize, self.dims.width as usize);
         let columns = self.dims.mb_width as usize;
-        let (high, wide) = ((height + 1) / 2, (width + 1) / 2);
+        let (wide, high) = ((width + 1) / 2, (height + 1) / 2);
         let (luma, chroma) = raw.split_at_mut(width * height);
         let (cb, cr) = chroma.split_at_mut(wide * high);
         moves::crop_plane(luma, height, width, &self.luma, 16 * columns);
         moves::crop_plane(cb, high, wide, &self.cb, 8 * columns);
         moves::crop_plane(cr, high, wide, &self.cr, 8 * columns);
     }
-}
 
-impl Frame {
     /// Replaces one macroblock row of the whole frame or of one field, and nothing else. The row is one of these lines'
     /// macroblock rows, and the samples were made for this frame's size.
     pub fn set_row(&mut self, lines: Lines, row: u32, samples: &RowSamples)
@@ -111,7 +130,15 @@ impl Frame {
         let (total, columns) = (self.dims.mb_rows as usize, self.dims.mb_width as usize);
         let row = row as usize;
         let luma = samples.plane(Plane::Y);
-        moves::set_rows(&mut self.luma, 16 * total, 16 * columns, 16, lines, row, luma);
+        moves::set_rows(
+            &mut self.luma,
+            16 * total,
+            16 * columns,
+            16,
+            lines,
+            row,
+            luma,
+        );
         let cb = samples.plane(Plane::Cb);
         moves::set_rows(&mut self.cb, 8 * total, 8 * columns, 8, lines, row, cb);
         let cr = samples.plane(Plane::Cr);

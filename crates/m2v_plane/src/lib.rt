@@ -6,6 +6,8 @@ mod frame;
 mod moves;
 mod planes;
 mod row;
+#[cfg(test)]
+mod tests;
 mod view;
 
 pub use dims::Dims;

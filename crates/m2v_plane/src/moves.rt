@@ -54,9 +54,9 @@ pub fn crop_plane(out: &mut [u8], height: usize, width: usize, plane: &[u8], col
     requires wide { columns ≤ 2 ^ 12 }
     ensures value { out.new ≡ shown columns height width plane.now }
 {
-    for line in 0..height {
-        let from = line * columns;
-        out[line * width..line * width + width].copy_from_slice(&plane[from..from + width]);
+    for row in 0..height {
+        let from = row * columns;
+        out[row * width..row * width + width].copy_from_slice(&plane[from..from + width]);
     }
 }
 

@@ -23,5 +23,7 @@ loop-line-preserved c =
 
 pub returns : goal.returns
 unfolding padded
-returns c = record { value = plane_is c.loop-line.out c.args.lines c.args.columns (λ r k. get_or c.args.bytes.now (min r (c.args.height - 1) * c.args.width + min k (c.args.width - 1)) 0) (omega arith)
-    (λ r k lt small. c.loop-line.invariant r k (omega arith) small) }
+returns c = record {
+  value = plane_is c.loop-line.out c.args.lines c.args.columns (λ r k. get_or c.args.bytes.now (min r (c.args.height - 1) * c.args.width + min k (c.args.width - 1)) 0) (omega arith)
+      (λ r k lt small. c.loop-line.invariant r k (omega arith) small);
+}

@@ -6,5 +6,5 @@ use Rattle.m2v_plane.proofs.moves.set_rows.Given as goal
 abbrev pub invariant-loop-line : goal.invariant-loop-line
 invariant-loop-line l =
     ((r c : ℕ) → r < l.fn.total → c < l.fn.columns
-        → get_or l.plane (r * l.fn.columns + c) 0
-          ≡ mixed l.fn.columns l.fn.height l.fn.lines l.fn.row l.line l.fn.plane l.fn.samples r c)
+    → get_or l.plane (r * l.fn.columns + c) 0
+    ≡ mixed l.fn.columns l.fn.height l.fn.lines l.fn.row l.line l.fn.plane l.fn.samples r c)
