@@ -2,5 +2,19 @@
 #![tactic(auto)]
 
 mod dims;
+mod frame;
+mod moves;
+mod planes;
+mod row;
+#[cfg(test)]
+mod tests;
+mod view;
 
 pub use dims::Dims;
+pub use frame::Frame;
+pub use planes::{Lines, Plane};
+pub use row::RowSamples;
+pub use view::RefView;
+
+/// Want of memory.
+pub type Memory = std::alloc::AllocError;

@@ -1,0 +1,51 @@
+ghost use Rattle.std.specs.Prelude.{◌≡◌, ◌≤◌, ◌*◌, ◌+◌};
+ghost use Rattle.m2v_plane.specs.Sizes.{side, frame_line};
+
+/// A plane of samples (clause 6.1.1).
+#[derive(Clone, Copy, Debug, PartialEq, Eq)]
+pub enum Plane {
+    /// Luma.
+    Y,
+    /// The blue colour difference.
+    Cb,
+    /// The red colour difference.
+    Cr,
+}
+
+/// Lines of a frame: all of them, or those of one field.
+#[derive(Clone, Copy, Debug, PartialEq, Eq)]
+pub enum Lines {
+    /// All lines of the frame.
+    Whole,
+    /// The lines of the top field: 0, 2, 4 ..
+    Top,
+    /// The lines of the bottom field: 1, 3, 5 ..
+    Bottom,
+}
+
+/// The side of a macroblock in a plane, in samples.
+#[inline(always)]
+pub(crate) fn side_of(plane: Plane) -> usize
+    ensures value { result ≡ side plane }
+    ensures least { 8 ≤ result }
+    ensures most { result ≤ 16 }
+{
+    match plane {
+        Plane::Y => 16,
+        Plane::Cb | Plane::Cr => 8,
+    }
+}
+
+/// The line of the frame that a line of the whole frame or of one field is.
+#[inline(always)]
+pub(crate) fn place_of(lines: Lines, line: usize) -> usize
+    requires { line ≤ 4096 }
+    ensures value { result ≡ frame_line lines line }
+    ensures most { result ≤ 2 * line + 1 }
+{
+    match lines {
+        Lines::Whole => line,
+        Lines::Top => 2 * line,
+        Lines::Bottom => 2 * line + 1,
+    }
+}

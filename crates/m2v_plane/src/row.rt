@@ -1,0 +1,95 @@
+ghost use Rattle.std.specs.Prelude.{◌≡◌, ◌+◌, ◌*◌, ◌≤◌, ◌<◌, IfOk, length};
+ghost use Rattle.m2v_plane.specs.Sizes.{IsSize, side, columns_of};
+ghost use Rattle.m2v_plane.specs.Samples.{Samples, plane_of, HasRows, sample_of, blank, with_sample};
+
+use crate::Memory;
+use crate::dims::Dims;
+use crate::planes::{Plane, side_of};
+use std::alloc::Global;
+use std::marker::Model;
+
+/// The samples of one macroblock row, of a frame or of a field.
+#[derive(Drop)]
+pub struct RowSamples {
+    dims: Dims,
+    luma: Vec<u8>,
+    cb: Vec<u8>,
+    cr: Vec<u8>,
+}
+
+impl Model for RowSamples {
+    ghost use Rattle.std.specs.Prelude.{◌≡◌, ◌*◌};
+    ghost use Rattle.m2v_plane.specs.Sizes.{IsSize};
+    ghost use Rattle.m2v_plane.specs.Samples.{Samples, HasRows};
+
+    ghost Value = { Samples };
+
+    ghost view = { λ r. record { dims = r.dims; luma = r.luma.items; cb = r.cb.items; cr = r.cr.items } };
+
+    ghost invariant = { λ r. IsSize r.dims × HasRows (record { dims = r.dims; luma = r.luma.items; cb = r.cb.items; cr = r.cr.items }) 1 };
+}
+
+impl RowSamples {
+    /// A row of samples 0, for frames of this size.
+    pub fn blank(alloc: Global, dims: Dims) -> Result<RowSamples, Memory>
+        requires size { IsSize dims }
+        ensures value { IfOk result (λ r. r ≡ blank dims 1) }
+    {
+        let columns = dims.mb_width as usize;
+        Ok(RowSamples {
+            dims,
+            luma: vec![in alloc; 0; 16 * (16 * columns)]?,
+            cb: vec![in alloc; 0; 8 * (8 * columns)]?,
+            cr: vec![in alloc; 0; 8 * (8 * columns)]?,
+        })
+    }
+
+    /// The size of the frames that the row is for.
+    #[inline(always)]
+    pub fn dims(&self) -> Dims
+        ensures value { result ≡ self.now.dims }
+        ensures size { IsSize result }
+    {
+        self.dims
+    }
+
+    /// The samples of a plane, line by line.
+    #[inline(always)]
+    pub(crate) fn plane(&self, plane: Plane) -> &[u8]
+        ensures value { result.now ≡ plane_of self.now plane }
+        ensures whole { length result.now ≡ side plane * columns_of self.now.dims plane }
+    {
+        match plane {
+            Plane::Y => &self.luma,
+            Plane::Cb => &self.cb,
+            Plane::Cr => &self.cr,
+        }
+    }
+
+    /// The sample of a line and a column, both inside the row.
+    #[inline(always)]
+    pub fn sample(&self, plane: Plane, line: u32, column: u32) -> u8
+        requires line { line < side plane }
+        requires column { column < columns_of self.now.dims plane }
+        ensures value { result ≡ sample_of self.now plane line column }
+    {
+        let columns = side_of(plane) * self.dims.mb_width as usize;
+        self.plane(plane)[line as usize * columns + column as usize]
+    }
+
+    /// Replaces the sample of a line and a column, both inside the row.
+    #[inline(always)]
+    pub fn set_sample(&mut self, plane: Plane, line: u32, column: u32, value: u8)
+        requires line { line < side plane }
+        requires column { column < columns_of self.old.dims plane }
+        ensures value { self.new ≡ with_sample self.old plane line column value }
+    {
+        let columns = self.dims.mb_width as usize;
+        let (line, column) = (line as usize, column as usize);
+        match plane {
+            Plane::Y => self.luma[line * (16 * columns) + column] = value,
+            Plane::Cb => self.cb[line * (8 * columns) + column] = value,
+            Plane::Cr => self.cr[line * (8 * columns) + column] = value,
+        }
+    }
+}

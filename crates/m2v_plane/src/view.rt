@@ -1,0 +1,59 @@
+//! Views of reference samples.
+ghost use Rattle.std.specs.Prelude.{◌≡◌, ℕ, ◌+◌, ◌≤◌, ◌<◌, length};
+ghost use Rattle.m2v_plane.specs.declared.dims.Dims.{Dims};
+ghost use Rattle.m2v_plane.specs.declared.planes.Plane.{Plane};
+ghost use Rattle.m2v_plane.specs.declared.planes.Lines.{Lines};
+ghost use Rattle.m2v_plane.specs.Sizes.{IsSize, columns_of, lines_of};
+ghost use Rattle.m2v_plane.specs.Samples.{line_part};
+
+use crate::dims::Dims;
+use crate::planes::{Lines, Plane};
+
+/// Samples of a reference picture, as prediction reads them. What is read is the view's sample at that place, so two
+/// reads of one place agree.
+pub trait RefView {
+    /// The size of the whole frame.
+    ghost size: { Self → Dims };
+
+    /// The sample by plane, lines, line and column.
+    ghost at: { Self → Plane → Lines → ℕ → ℕ → ℕ };
+
+    /// The lines that the view holds, each over its whole width.
+    ghost Holds: { Self → Plane → Lines → ℕ → Type 0 };
+
+    /// The size of the whole frame.
+    fn dims(&self) -> Dims
+        ensures value { result ≡ size self.now }
+        ensures size { IsSize result };
+
+    /// A part of a line, lent: `len` samples from `column` on. The line is one that the view holds, and the part lies
+    /// within the macroblocks of a row.
+    fn line(&self, plane: Plane, lines: Lines, line: u32, column: u32, len: u32) -> &[u8]
+        requires held { Holds self.now plane lines line }
+        requires within { column + len ≤ columns_of (size self.now) plane }
+        ensures value { result.now ≡ line_part (at self.now plane lines line) column len };
+
+    /// One sample, of a line that the view holds. Loops read by [`RefView::line`] or [`RefView::copy_line`].
+    #[inline(always)]
+    fn sample(&self, plane: Plane, lines: Lines, line: u32, column: u32) -> u8
+        requires held { Holds self.now plane lines line }
+        requires within { column < columns_of (size self.now) plane }
+        ensures value { result ≡ at self.now plane lines line column }
+    {
+        self.line(plane, lines, line, column, 1)[0]
+    }
+
+    /// A part of a line, copied: as many samples as `out` has, from `column` on.
+    #[inline(always)]
+    fn copy_line(&self, plane: Plane, lines: Lines, line: u32, column: u32, out: &mut [u8])
+        requires held { Holds self.now plane lines line }
+        requires within { column + length out.old ≤ columns_of (size self.now) plane }
+        ensures value { out.new ≡ line_part (at self.now plane lines line) column (length out.old) }
+    {
+        // a line is short enough for its columns to be counted
+        let _size = self.dims();
+        for i in 0..out.len() {
+            out[i] = self.sample(plane, lines, line, column + i as u32);
+        }
+    }
+}
