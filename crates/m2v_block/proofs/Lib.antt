@@ -1,1 +1,4 @@
 pub mod Numbers
+pub mod Ranges
+pub mod BlockLaws
+pub mod Written

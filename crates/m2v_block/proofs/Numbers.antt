@@ -37,15 +37,15 @@ least_size magnitude r lt none is =
 within_range : (p : ℕ → Bool) (a n end : ℕ) → a + n ≡ end → unwrap_or (find p (range_with_len a n)) end ≤ end
 within_range p a zero end e = omega arith
 within_range p a (suc n) end e = elim (cases_Bool (p a)) [
-    | inl on ↦ rw on (omega arith)
-    | inr off ↦ rw off (within_range p (a + 1) n end (omega arith))
-  ]
+  | inl on ↦ rw on (omega arith)
+  | inr off ↦ rw off (within_range p (a + 1) n end (omega arith))
+]
 
 pub size_most : (magnitude : ℕ) → size_of magnitude ≤ 12
 unfolding size_of
 size_most magnitude = within_range (λ s. magnitude / 2 ^ s == 0) 0 12 12 (omega arith)
 
-code_most : (luma : Bool) (size : ℕ) → length (size_code luma size) ≤ 10
+pub code_most : (luma : Bool) (size : ℕ) → length (size_code luma size) ≤ 10
 unfolding size_code
 code_most true size = omega (arith, dc_luma_length size)
 code_most false size = dc_chroma_length size
