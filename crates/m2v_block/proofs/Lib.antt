@@ -2,3 +2,4 @@ pub mod Numbers
 pub mod Ranges
 pub mod BlockLaws
 pub mod Written
+pub mod Spellings

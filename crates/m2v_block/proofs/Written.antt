@@ -102,3 +102,6 @@ bits_more first next one run after i bits got total levels level lt e ge ne ae i
 pub bits_end : (first one : Bool) (run i bits got total : ℕ) (levels : List ℤ) → length levels ≤ i → got ≡ length (code_text false one End)
     → bits + length (pairs_text first one run (drop i levels)) ≡ total → bits + got ≡ total
 bits_end first one run i bits got total levels le ge inv = omega (arith, ap length (at_end first one run levels i le))
+
+pub room_kept : (room all left : ℕ) (w new before text : List Bool) → new ≡ w ++ text → room + length w ≡ all + length before → left + length text ≡ room → left + length new ≡ all + length before
+room_kept room all left w new before text e sum less = omega (arith, ap length e, length-append w text)

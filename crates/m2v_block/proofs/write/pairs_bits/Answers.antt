@@ -28,7 +28,7 @@ overflow_add-result c = omega (arith, code_most false c.args.one End, c.code_bit
 pub returns-clause-value : goal.returns-clause-value
 returns-clause-value c =
     let levels = c.args.levels.now.at in
-    let over : length levels ≤ c.loop-i.i = ? in
+    let over : length levels ≤ c.loop-i.i = search rules in
     bits_end c.loop-i.none c.args.one c.loop-i.run c.loop-i.i c.loop-i.bits c.code_bits.result _ levels over c.code_bits.ensures c.loop-i.invariant.value
 
 pub returns-clause-most : goal.returns-clause-most
