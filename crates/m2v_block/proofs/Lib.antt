@@ -2,4 +2,3 @@ pub mod Numbers
 pub mod Ranges
 pub mod BlockLaws
 pub mod Written
-pub mod Spellings

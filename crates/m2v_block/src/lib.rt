@@ -5,6 +5,8 @@
 mod dc;
 mod fault;
 mod read;
+#[cfg(test)]
+mod tests;
 mod write;
 
 pub use dc::write_dc;
