@@ -1,7 +1,7 @@
 -- What is read of a block stands there, and what stands there is read: a block has one reading.
 use Rattle.std.proofs.Common.{◌≡◌, ℕ, Bool, true, false, List, length, subst, ap, ◌∙◌, sym, ◌<◌, ℤ}
-use Rattle.std.specs.Prelude.{nat_eq, ◌&&◌, not, cond}
-use Rattle.m2v_bits.specs.Syntax.{done, renamed}
+use Rattle.std.specs.Prelude.{nat_eq, ◌&&◌}
+use Rattle.m2v_bits.specs.Syntax.{renamed}
 use Rattle.m2v_bits.proofs.SyntaxLaws.{Lawful, Strict, Takes, good, bad, good_is, done_lawful, here_lawful, rule_lawful, seq_lawful, seq_strict, seq_strict_later, choose_lawful, choose_strict, renamed_lawful, repeated_strict, onward, round_err, round_more, round_last}
 use Rattle.m2v_bits.proofs.LeafLaws.{bits_lawful}
 use Rattle.m2v_vlc.specs.declared.values.CodeFault.TheVariants as codes
@@ -14,7 +14,7 @@ use Rattle.m2v_vlc.proofs.Firsts.{first_zero_strict}
 use Rattle.m2v_quant.specs.declared.kind.BlockKind.{BlockKind}
 use Rattle.m2v_block.specs.declared.fault.BlockFault.{BlockFault}
 use Rattle.m2v_block.specs.declared.fault.BlockFault.TheVariants.{Code, Overrun, ForbiddenLevel, DcRange}
-use Rattle.m2v_block.specs.Faults.{Of, of_code, coded}
+use Rattle.m2v_block.specs.Faults.{of_code, coded}
 use Rattle.m2v_block.specs.Blocks.{Scan, size_at, dc_at, placed, coefficient_at, code_from, pair_at, pairs_at, opened, first_at, block_at}
 
 coded_takes : {V : Type 0} (table : List (Row V)) → Strict length (code_at codes.Truncated codes.NoCode table) → Takes length (coded table)

@@ -1,5 +1,5 @@
 -- The numbers of DC differences.
-use Rattle.std.proofs.Common.{◌≡◌, ℕ, ◌+◌, ◌-◌, ◌*◌, ◌%◌, ◌^◌, ◌<◌, ◌≤◌, ℤ, pos, negsuc, ◌<ℤ◌, ◌≤ℤ◌, zero, suc, Bool, true, false, Option, Some, inl, inr, length, ◌++◌, refl, ap, sym, ◌∙◌, arith}
+use Rattle.std.proofs.Common.{◌≡◌, ℕ, ◌+◌, ◌-◌, ◌^◌, ◌<◌, ◌≤◌, ℤ, pos, negsuc, ◌<ℤ◌, ◌≤ℤ◌, zero, suc, Bool, true, false, Option, Some, inl, inr, length, refl, ap, sym, arith}
 use Rattle.std.specs.Prelude.{unsigned_abs, find, unwrap_or, ◌==◌, ◌/◌}
 use Rattle.std.specs.List.{range_with_len}
 use Rattle.std.proofs.lemmas.Int.{ints}

@@ -1,5 +1,5 @@
 -- The ranges of numbers.
-use Rattle.std.proofs.Common.{◌≡◌, ℕ, ◌+◌, ◌^◌, ◌<◌, ◌≤◌, All, replicate, Result, Ok, Err, ℤ, pos, negsuc, ◌-ℤ◌, arith}
+use Rattle.std.proofs.Common.{ℕ, ◌+◌, ◌^◌, ◌<◌, ◌≤◌, All, replicate, Result, Ok, Err, ℤ, pos, negsuc, ◌-ℤ◌, arith}
 use Rattle.std.specs.Prelude.{IfOk, unsigned_abs}
 use Rattle.std.proofs.lemmas.Int.{ints, to_z-of_z, fits_signed_from_abs}
 use mir.Syntax.{w32}

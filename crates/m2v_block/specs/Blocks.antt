@@ -1,13 +1,12 @@
 -- The syntax of a block (clauses 6.2.6, 6.3.17.3 and 7.2): its elements in reading order, each rule where it is looked at.
-use Rattle.std.specs.Prelude.{◌≡◌, ℕ, zero, suc, ◌+◌, ◌-◌, ◌^◌, Bool, true, false, cond, ◌&&◌, not, nat_lt, nat_le, nat_eq, Result, Ok, Err, List, [], ◌∷◌, length, slice_index_or, slice_set, replicate, if◌then◌else◌, ℤ, pos, ◌+ℤ◌, ◌-ℤ◌, ◌≤ℤ◌, ◌<ℤ◌, int_lt, int_le, ◌≢◌, All}
-use Rattle.m2v_bits.specs.Syntax.{Syntax, done, rule, choose, repeated, ◌>>=◌}
+use Rattle.std.specs.Prelude.{◌≡◌, ℕ, ◌+◌, ◌-◌, ◌^◌, Bool, true, false, cond, ◌&&◌, not, nat_lt, nat_le, nat_eq, Result, Ok, Err, List, ◌∷◌, length, slice_index_or, slice_set, replicate, if◌then◌else◌, ℤ, pos, ◌+ℤ◌, ◌-ℤ◌, ◌≤ℤ◌, ◌<ℤ◌, int_lt, int_le}
+use Rattle.m2v_bits.specs.Syntax.{done, rule, choose, repeated, ◌>>=◌}
 use Rattle.m2v_vlc.specs.declared.values.CodeFault.TheVariants as codes
 use Rattle.m2v_vlc.specs.declared.values.Coefficient.{Coefficient}
 use Rattle.m2v_vlc.specs.declared.values.Coefficient.TheVariants.{End, Escape, Pair}
 use Rattle.m2v_vlc.specs.Tables.{dc_luma, dc_chroma}
 use Rattle.m2v_vlc.specs.Coefficients.{coefficient_zero, coefficient_one, first_zero}
 use Rattle.m2v_quant.specs.declared.kind.BlockKind.{BlockKind}
-use Rattle.m2v_quant.specs.Kinds.{IsLevel}
 use Rattle.m2v_block.specs.declared.fault.BlockFault.{BlockFault}
 use Rattle.m2v_block.specs.declared.fault.BlockFault.TheVariants.{Code, Overrun, ForbiddenLevel, DcRange}
 use Rattle.m2v_block.specs.Faults.{Of, place, number, coded}

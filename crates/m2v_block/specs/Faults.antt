@@ -1,5 +1,5 @@
 -- The faults of blocks, and the syntaxes of codes and numbers that tell them.
-use Rattle.std.specs.Prelude.{◌≡◌, ℕ, Result, Ok, Err, List, Bool, length}
+use Rattle.std.specs.Prelude.{ℕ, List, Bool, length}
 use Rattle.m2v_bits.specs.Syntax.{Syntax, renamed, here}
 use Rattle.m2v_bits.specs.Leaves.{bits_at}
 use Rattle.m2v_vlc.specs.declared.values.CodeFault.{CodeFault}

@@ -1,5 +1,5 @@
 -- The text of a block as it is written: each pair by its code, and by escape only where its table has none.
-use Rattle.std.specs.Prelude.{◌≡◌, ◌≢◌, ℕ, ◌+◌, ◌-◌, suc, Bool, true, false, cond, ◌&&◌, nat_eq, List, [], ◌∷◌, ◌++◌, length, drop, replicate, slice_index_or, All, if◌then◌else◌, ℤ, pos, negsuc, ◌-ℤ◌, unsigned_abs}
+use Rattle.std.specs.Prelude.{◌≡◌, ◌≢◌, ℕ, ◌+◌, ◌-◌, suc, Bool, true, false, ◌&&◌, nat_eq, List, [], ◌∷◌, length, drop, replicate, slice_index_or, All, if◌then◌else◌, ℤ, pos, negsuc, ◌-ℤ◌, unsigned_abs}
 use Rattle.m2v_bits.specs.Bits.{bits_of, ◌⧺◌}
 use Rattle.m2v_vlc.specs.declared.values.Coefficient.{Coefficient}
 use Rattle.m2v_vlc.specs.declared.values.Coefficient.TheVariants.{End, Escape, Pair}

@@ -31,14 +31,13 @@ fn kind(intra: bool, luma: bool) -> BlockKind
     }
 }
 
-// An intra block with a level behind its DC.
+// An intra block with a level behind its DC, kept to its range.
 fn block(dc: u8, level: i32) -> Levels
-    requires { IsLevel level }
     ensures within { All IsLevel result.at }
     ensures dc { slice_index_or result.at 0 (pos 0) ≡ pos dc }
 {
     let mut at = [0; 64];
-    at[1] = level;
+    at[1] = level.clamp(-2047, 2047);
     at[0] = i32::from(dc);
     Levels { at }
 }
@@ -51,6 +50,7 @@ fn reads_the_blocks_of_pictures(rt: HostRuntime) {
         for plane in [4, 1, 1] {
             let mut pred = 128;
             for _ in 0..plane {
+                assert!(rt; pred >= 0 && pred < 256);
                 let read = read_block(
                     &mut input,
                     &kind(true, plane == 4),
@@ -102,8 +102,9 @@ fn every_level_comes_back(rt: HostRuntime) -> Result<(), AllocError> {
     let mut out = BitWriter::over(vec![in rt.alloc(); 0u8; 16]?);
     let kind = kind(true, true);
     let mut back = Levels { at: [0; 64] };
-    for n in 0..4095i32 {
-        let levels = block(130, n - 2047);
+    for n in 0..4095u16 {
+        let level = i32::from(n) - 2047;
+        let levels = block(130, level);
         let mut pred = 128;
         let mut again = 128;
         out.clear();
@@ -123,7 +124,7 @@ fn every_level_comes_back(rt: HostRuntime) -> Result<(), AllocError> {
             &mut back,
         );
         assert_eq!(rt; read, Ok(()));
-        assert_eq!(rt; back.at[1], n - 2047);
+        assert_eq!(rt; back.at[1], level);
         assert_eq!(rt; again, 130);
     }
     Ok(())

@@ -1,4 +1,4 @@
-use Rattle.std.proofs.Common.{arith, pos, replicate}
+use Rattle.std.proofs.Common.{pos, replicate}
 use Rattle.std.proofs.lemmas.Int.{to_z-of_z}
 use Rattle.std.proofs.lemmas.List.Elements.{All-set, All-same}
 use mir.Syntax.{w32}

@@ -1,4 +1,4 @@
-use Rattle.std.proofs.Common.{arith, sym, ◌∙◌, ◌<◌, ◌≡◌, length, get_or, pos}
+use Rattle.std.proofs.Common.{arith, sym, ◌∙◌, length}
 use Rattle.std.proofs.lemmas.Result.{err_from_is_err_and}
 use Rattle.m2v_block.specs.Blocks.{Scan}
 use Rattle.m2v_block.proofs.BlockLaws.{pairs_err, pairs_more, pairs_last, pairs_less}

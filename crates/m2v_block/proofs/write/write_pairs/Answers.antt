@@ -1,4 +1,4 @@
-use Rattle.std.proofs.Common.{false, arith, rules, refl, ◌≡◌, ◌<◌, ◌≤◌, ◌∙◌, get_or, length, drop, pos}
+use Rattle.std.proofs.Common.{false, arith, rules, refl, ◌<◌, ◌≤◌, get_or, length, drop, pos}
 use Rattle.std.proofs.lemmas.Int.{to_z-of_z}
 use mir.Syntax.{w32}
 use mir.Val.{SFits, to_z, of_z}
