@@ -1,7 +1,8 @@
 ghost use Rattle.std.specs.Prelude.{◌≡◌, ◌+◌, ◌^◌, ◌<◌, ◌≤◌, ◌++◌, ◌&&◌, nat_eq, true, false, length, drop, slice_index_or, All, ℤ, pos, unsigned_abs};
+ghost use Rattle.m2v_bits.specs.Syntax.{Spells};
 ghost use Rattle.m2v_quant.specs.Kinds.{IsKind, IsLevel};
 ghost use Rattle.m2v_block.specs.Dc.{dc_text};
-ghost use Rattle.m2v_block.specs.Blocks.{IsDc, predictor_after};
+ghost use Rattle.m2v_block.specs.Blocks.{IsDc, block_at, predictor_after};
 ghost use Rattle.m2v_block.specs.Texts.{IsBlock, code_text, twelve, escape_text, pair_text, is_zero, level_text, run_after, pairs_text, block_text};
 
 use crate::dc::{dc_bits, write_dc};
@@ -224,6 +225,7 @@ pub fn write_block(
     ensures written { out.new.written ≡ out.old.written ++ block_text kind.now table_one dc_pred.old levels.now.at }
     ensures room { out.new.room + length (block_text kind.now table_one dc_pred.old levels.now.at) ≡ out.old.room }
     ensures predictor { dc_pred.new ≡ predictor_after kind.now dc_pred.old levels.now.at }
+    ensures spells { Spells (block_at kind.now table_one dc_pred.old) levels.now.at (block_text kind.now table_one dc_pred.old levels.now.at) }
 {
     if kind.intra {
         let dc = levels.at[0];
