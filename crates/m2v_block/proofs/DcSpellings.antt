@@ -1,17 +1,17 @@
 -- What is written of a DC difference spells the level.
-use Rattle.std.proofs.Common.{◌≡◌, ℕ, zero, suc, ◌+◌, ◌-◌, ◌*◌, ◌/◌, ◌^◌, ◌<◌, ◌≤◌, Bool, true, false, ◌&&◌, List, [], ◌∷◌, ◌++◌, length, ℤ, pos, negsuc, ◌+ℤ◌, ◌-ℤ◌, ◌<ℤ◌, ◌≤ℤ◌, refl, sym, ap, subst, ◌∙◌, arith, inl, inr, ◌⊎◌}
-use Rattle.std.specs.Prelude.{nat_eq, nat_lt, nat_le, int_lt, int_le, cond, unsigned_abs}
+use Rattle.std.proofs.Common.{◌≡◌, ℕ, zero, suc, ◌+◌, ◌-◌, ◌*◌, ◌/◌, ◌^◌, ◌<◌, ◌≤◌, Bool, true, false, List, [], ◌∷◌, ◌++◌, length, ℤ, pos, negsuc, ◌+ℤ◌, ◌-ℤ◌, refl, sym, ap, subst, ◌∙◌, arith, inl, inr}
+use Rattle.std.specs.Prelude.{nat_eq, nat_lt, nat_le, unsigned_abs}
 use Rattle.std.proofs.lemmas.Int.{ints}
-use Rattle.std.proofs.lemmas.Bool.{cases_Bool, cases_lt, ne_eqb, eq-eqb, eqb-true, lt-ltb, le-leb, lt-leb}
+use Rattle.std.proofs.lemmas.Bool.{cases_lt, ne_eqb, lt-ltb, le-leb, lt-leb}
 use Rattle.std.proofs.lemmas.Nat.{pow_pos}
 use Rattle.std.proofs.Math.Nat.{pow-suc, pow-le-pow_right, div-eq_of_lt, le-div_iff_mul-le}
 use Rattle.m2v_bits.specs.Bits.{bits_of}
-use Rattle.m2v_bits.specs.Syntax.{Syntax, Spells, done, seq, here, rule, choose}
+use Rattle.m2v_bits.specs.Syntax.{Spells, done, seq, rule}
 use Rattle.m2v_bits.proofs.LeafLaws.{seq_spells, done_spells, here_spells, rule_spells, first_spells, second_spells, renamed_spells, bits_spells}
 use Rattle.m2v_vlc.specs.declared.values.CodeFault.TheVariants as codes
 use Rattle.m2v_vlc.proofs.Sizes.{dc_luma_spells, dc_chroma_spells}
 use Rattle.m2v_block.specs.declared.fault.BlockFault.TheVariants.{Code, DcRange}
-use Rattle.m2v_block.specs.Faults.{Of, of_code, place, number}
+use Rattle.m2v_block.specs.Faults.{Of, of_code, number}
 use Rattle.m2v_block.specs.Dc.{size_of, number_of, size_code, dc_text}
 use Rattle.m2v_block.specs.Blocks.{IsDc, is_dc, difference, size_at, dc_at}
 use Rattle.m2v_block.proofs.Numbers.{least_size}
@@ -27,11 +27,14 @@ size_from : (m n : ℕ) → n < 12 → m < 2 ^ n → (s : ℕ) × IsSize m s
 size_from m zero lt fits = (0, record { below = omega arith; fits = fits; least = λ k l. absurd (omega arith) })
 size_from m (suc n) lt fits = elim (cases_lt m (2 ^ n)) [
   | inl small ↦ size_from m n (omega arith) small
-  | inr large ↦ (suc n, record {
+  | inr large ↦ (
+    suc n,
+    record {
       below = lt;
       fits = fits;
       least = λ k l. let most : 2 ^ k ≤ 2 ^ n = pow-le-pow_right {n = 2} (omega arith) {i = k} {j = n} (omega arith) in omega arith;
-    })
+    },
+  )
 ]
 
 not_none : (m k : ℕ) → 2 ^ k ≤ m → m / 2 ^ k ≡ 0 → ⊥
@@ -101,8 +104,8 @@ bits_of_spells luma precision predictor level start s range h =
     let n = number_of s d in
     let back : predictor +ℤ difference s n ≡ level = ap (λ (z : ℤ). predictor +ℤ z) (difference_is d s h) ∙ sum_is predictor level in
     let rest : Spells (seq (rule (is_dc precision (predictor +ℤ difference s n)) DcRange start) (λ fits. done (predictor +ℤ difference s n))) level [] =
-        subst (λ (z : ℤ). Spells (seq (rule (is_dc precision z) DcRange start) (λ fits. done z)) level []) (sym back)
-        (rule_spells (is_dc precision level) DcRange start (λ fits. done level) level [] (in_range precision level range) (done_spells level)) in
+    subst (λ (z : ℤ). Spells (seq (rule (is_dc precision z) DcRange start) (λ fits. done z)) level []) (sym back)
+    (rule_spells (is_dc precision level) DcRange start (λ fits. done level) level [] (in_range precision level range) (done_spells level)) in
     subst (λ (t : List Bool). Spells (bits_behind luma precision predictor start s) level t) (no_more (bits_of s n))
     (seq_spells (λ bits. seq (rule (is_dc precision (predictor +ℤ difference s bits)) DcRange start) (λ fits. done (predictor +ℤ difference s bits))) n level (bits_of s n) [] (bits_spells (Code codes.Truncated) s n (number_fits d s h)) rest)
 

@@ -1,12 +1,12 @@
 -- What is written spells the levels.
-use Rattle.std.proofs.Common.{◌≡◌, ◌≢◌, ℕ, zero, suc, ◌+◌, ◌-◌, ◌^◌, ◌<◌, ◌≤◌, Bool, true, false, ◌&&◌, List, [], ◌∷◌, ◌++◌, length, get_or, set, replicate, All, ℤ, pos, negsuc, refl, sym, ap, subst, ◌∙◌, append_assoc, arith, inl, inr}
-use Rattle.std.specs.Prelude.{nat_eq, nat_lt, nat_le, int_lt, int_le, cond, unsigned_abs, ◌+ℤ◌, ◌-ℤ◌, drop, ◌/◌, ◌<ℤ◌, ◌≤ℤ◌}
+use Rattle.std.proofs.Common.{◌≡◌, ℕ, zero, suc, ◌+◌, ◌-◌, ◌^◌, ◌<◌, ◌≤◌, Bool, true, false, ◌&&◌, List, [], ◌∷◌, ◌++◌, length, set, replicate, All, ℤ, pos, negsuc, refl, sym, ap, subst, ◌∙◌, append_assoc, arith, inl, inr}
+use Rattle.std.specs.Prelude.{nat_eq, nat_lt, cond, ◌-ℤ◌}
 use Rattle.std.proofs.lemmas.Int.{ints}
 use Rattle.std.proofs.lemmas.Bool.{cases_Bool, ne_eqb, eq-eqb, eqb-true, lt-ltb, le-ltb, both_ways}
 use Rattle.std.proofs.lemmas.List.Elements.{All-head, All-tail}
 use Rattle.std.proofs.lemmas.List.{length-append}
 use Rattle.m2v_bits.specs.Bits.{bits_of}
-use Rattle.m2v_bits.specs.Syntax.{Syntax, Spells, done, seq, here, rule, choose, renamed, repeated, Rounds, last, more}
+use Rattle.m2v_bits.specs.Syntax.{Spells, done, seq, rule, repeated, last, more}
 use Rattle.m2v_bits.proofs.LeafLaws.{seq_spells, done_spells, here_spells, rule_spells, first_spells, second_spells, renamed_spells, bits_spells}
 use Rattle.m2v_vlc.specs.declared.values.CodeFault.TheVariants as codes
 use Rattle.m2v_vlc.specs.declared.values.Coefficient.{Coefficient}
@@ -15,10 +15,9 @@ use Rattle.m2v_vlc.proofs.Coefficients.{coefficient_zero_spells, coefficient_one
 use Rattle.m2v_vlc.proofs.Firsts.{first_zero_spells}
 use Rattle.m2v_quant.specs.declared.kind.BlockKind.{BlockKind}
 use Rattle.m2v_quant.specs.Kinds.{IsKind, IsLevel}
-use Rattle.m2v_block.specs.declared.fault.BlockFault.{BlockFault}
-use Rattle.m2v_block.specs.declared.fault.BlockFault.TheVariants.{Code, Overrun, ForbiddenLevel, DcRange}
+use Rattle.m2v_block.specs.declared.fault.BlockFault.TheVariants.{Code, Overrun, ForbiddenLevel}
 use Rattle.m2v_block.specs.Faults.{Of, of_code, place, number}
-use Rattle.m2v_block.specs.Blocks.{IsDc, Scan, dc_at, opened, first_at, block_at, placed, escaped, is_allowed, coefficient_at, code_from, pair_at, pairs_at}
+use Rattle.m2v_block.specs.Blocks.{IsDc, Scan, opened, first_at, block_at, placed, escaped, is_allowed, coefficient_at, code_from, pair_at, pairs_at}
 use Rattle.m2v_block.specs.Texts.{code_text, twelve, escape_text, pair_text, is_zero, level_text, run_after, pairs_text, IsBlock, block_text}
 use Rattle.m2v_block.specs.Dc.{dc_text}
 use Rattle.m2v_block.proofs.Written.{escape_length, end_some}
@@ -105,7 +104,7 @@ unfolding pair_text escape_text
 coded_spells first one start run level s inside range some = elim (cases_Bool (nat_eq (length (code_text first one (Pair run level))) 0)) [
   | inl none ↦ rw none (seq_spells (coefficient_at start s) Escape (true, behind s run level) (code_text first one Escape) (bits_of 6 run ++ bits_of 12 (twelve level)) (code_spells first one Escape (omega (arith, escape_length first one))) (escape_spells start run level s inside range some))
   | inr coded ↦ rw coded (subst (λ (t : List Bool). Spells (coefficient_behind first one s start) (true, behind s run level) t) (no_more (code_text first one (Pair run level)))
-    (seq_spells (coefficient_at start s) (Pair run level) (true, behind s run level) (code_text first one (Pair run level)) [] (code_spells first one (Pair run level) (positive _ coded)) (pair_of_spells start run level s inside)))
+      (seq_spells (coefficient_at start s) (Pair run level) (true, behind s run level) (code_text first one (Pair run level)) [] (code_spells first one (Pair run level) (positive _ coded)) (pair_of_spells start run level s inside)))
 ]
 
 pair_spells : (first one : Bool) (run : ℕ) (level : ℤ) (s : Scan) → first ≡ nat_eq s.position 0 → s.position + run < 64 → IsLevel level → (level ≡ pos 0 → ⊥) → Spells (pair_at one s) (true, behind s run level) (pair_text first one run level)
@@ -170,19 +169,23 @@ pairs_spells first one (level ∷ levels) p run before e range sum some = elim (
       let ih = pairs_spells first one levels p (run + 1) before e (All-tail IsLevel level levels range) (omega arith) (λ on same. some on (λ i. zero_is level zero_here i ∷ same i)) in
       let next : p + (run + 1) ≡ p + run + 1 = omega arith in
       let placed_same : overlay before (p + (run + 1)) levels ≡ overlay before (p + run) (level ∷ levels) = rw (zero_here, next) refl in
-      let text_same = sym (text_zero first one run level levels zero_here) in
-      (ih.0, subst (λ (t : List Bool). Spells (pairs_at one (at p before)) (at ih.0 (overlay before (p + run) (level ∷ levels))) t) text_same
-      (subst (λ (ls : List ℤ). Spells (pairs_at one (at p before)) (at ih.0 ls) (pairs_text first one (run + 1) levels)) placed_same ih.1))
+      let text_same = sym (text_zero first one run level levels zero_here) in (
+        ih.0,
+        subst (λ (t : List Bool). Spells (pairs_at one (at p before)) (at ih.0 (overlay before (p + run) (level ∷ levels))) t) text_same
+            (subst (λ (ls : List ℤ). Spells (pairs_at one (at p before)) (at ih.0 ls) (pairs_text first one (run + 1) levels)) placed_same ih.1),
+      )
   | inr some_here ↦
       let not_first : false ≡ nat_eq (p + run + 1) 0 = sym (ne_eqb (p + run + 1) 0 (λ is. omega arith)) in
       let ih = pairs_spells false one levels (p + run + 1) 0 (set before (p + run) level) not_first (All-tail IsLevel level levels range) (omega arith) (λ on same. cc) in
       let next : p + run + 1 + 0 ≡ p + run + 1 = omega arith in
       let placed_same : overlay (set before (p + run) level) (p + run + 1 + 0) levels ≡ overlay before (p + run) (level ∷ levels) = rw (some_here, next) refl in
       let text_same = sym (text_some first one run level levels some_here) in
-      let head = pair_spells first one run level (at p before) e (omega arith) (All-head IsLevel level levels range) (some_is level some_here) in
-      (ih.0, subst (λ (t : List Bool). Spells (pairs_at one (at p before)) (at ih.0 (overlay before (p + run) (level ∷ levels))) t) text_same
-      (more_spells one (at p before) (at (p + run + 1) (set before (p + run) level)) (at ih.0 (overlay before (p + run) (level ∷ levels))) (pair_text first one run level) (pairs_text false one 0 levels) head
-      (subst (λ (ls : List ℤ). Spells (pairs_at one (at (p + run + 1) (set before (p + run) level))) (at ih.0 ls) (pairs_text false one 0 levels)) placed_same ih.1)))
+      let head = pair_spells first one run level (at p before) e (omega arith) (All-head IsLevel level levels range) (some_is level some_here) in (
+        ih.0,
+        subst (λ (t : List Bool). Spells (pairs_at one (at p before)) (at ih.0 (overlay before (p + run) (level ∷ levels))) t) text_same
+            (more_spells one (at p before) (at (p + run + 1) (set before (p + run) level)) (at ih.0 (overlay before (p + run) (level ∷ levels))) (pair_text first one run level) (pairs_text false one 0 levels) head
+            (subst (λ (ls : List ℤ). Spells (pairs_at one (at (p + run + 1) (set before (p + run) level))) (at ih.0 ls) (pairs_text false one 0 levels)) placed_same ih.1)),
+      )
 ]
 
 set_behind : (front rest : List ℤ) (y x : ℤ) → set (front ++ (y ∷ rest)) (length front) x ≡ front ++ (x ∷ rest)
