@@ -1,5 +1,5 @@
 -- The numbers of DC differences.
-use Rattle.std.proofs.Common.{◌≡◌, ℕ, ◌+◌, ◌-◌, ◌*◌, ◌%◌, ◌^◌, ◌<◌, ◌≤◌, ℤ, pos, negsuc, ◌<ℤ◌, ◌≤ℤ◌, zero, suc, Bool, true, false, Option, Some, inl, inr, length, ◌++◌, refl, ap, sym, ◌∙◌, arith}
+use Rattle.std.proofs.Common.{◌≡◌, ℕ, ◌+◌, ◌-◌, ◌^◌, ◌<◌, ◌≤◌, ℤ, pos, negsuc, ◌<ℤ◌, ◌≤ℤ◌, zero, suc, Bool, true, false, Option, Some, inl, inr, length, refl, ap, sym, arith}
 use Rattle.std.specs.Prelude.{unsigned_abs, find, unwrap_or, ◌==◌, ◌/◌}
 use Rattle.std.specs.List.{range_with_len}
 use Rattle.std.proofs.lemmas.Int.{ints}
@@ -45,7 +45,7 @@ pub size_most : (magnitude : ℕ) → size_of magnitude ≤ 12
 unfolding size_of
 size_most magnitude = within_range (λ s. magnitude / 2 ^ s == 0) 0 12 12 (omega arith)
 
-code_most : (luma : Bool) (size : ℕ) → length (size_code luma size) ≤ 10
+pub code_most : (luma : Bool) (size : ℕ) → length (size_code luma size) ≤ 10
 unfolding size_code
 code_most true size = omega (arith, dc_luma_length size)
 code_most false size = dc_chroma_length size

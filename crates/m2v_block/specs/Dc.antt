@@ -1,5 +1,5 @@
 -- The DC difference of an intra block (clause 7.2.1; Annex B, tables B.12 and B.13).
-use Rattle.std.specs.Prelude.{ℕ, ◌-◌, ◌^◌, Bool, true, false, List, ◌++◌, ℤ, pos, negsuc, unsigned_abs, unwrap_or, find, ◌/◌, ◌==◌}
+use Rattle.std.specs.Prelude.{ℕ, ◌-◌, ◌^◌, Bool, true, false, List, ℤ, pos, negsuc, unsigned_abs, unwrap_or, find, ◌/◌, ◌==◌}
 use Rattle.std.specs.List.{range_with_len}
 use Rattle.m2v_bits.specs.Bits.{bits_of, ◌⧺◌}
 use Rattle.m2v_vlc.specs.Tables.{dc_luma_code, dc_chroma_code}

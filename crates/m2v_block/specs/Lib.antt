@@ -1,1 +1,4 @@
 pub mod Dc
+pub mod Faults
+pub mod Blocks
+pub mod Texts

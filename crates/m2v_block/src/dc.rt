@@ -3,7 +3,7 @@ ghost use Rattle.m2v_bits.specs.Bits.{bits_of};
 ghost use Rattle.m2v_block.specs.Dc.{dc_text, size_code, size_of, number_of};
 
 use m2v_bits::BitWriter;
-use m2v_vlc::{write_dc_chroma, write_dc_luma};
+use m2v_vlc::{bits_dc_chroma, bits_dc_luma, write_dc_chroma, write_dc_luma};
 
 /// The size of a DC difference of this magnitude: how many bits its number has.
 #[inline(always)]
@@ -65,4 +65,28 @@ pub fn write_dc(difference: i32, luma: bool, out: &mut BitWriter)
     let size = size(difference.unsigned_abs());
     write_size(luma, size, out);
     out.put(number(size, difference), size);
+}
+
+/// How many bits the code of a size has.
+#[inline(always)]
+#[tactic(auto, unfolding(crate::specs::Dc::size_code))]
+fn size_bits(luma: bool, size: u8) -> u32
+    ensures { result ≡ length (size_code luma size) }
+{
+    if luma {
+        bits_dc_luma(size)
+    } else {
+        bits_dc_chroma(size)
+    }
+}
+
+/// How many bits a DC difference within -2047 to 2047 takes.
+#[tactic(auto, using(m2v_bits::proofs::Cursor::lengths, crate::proofs::Numbers::dc_length), unfolding(crate::specs::Dc::dc_text))]
+pub fn dc_bits(difference: i32, luma: bool) -> u32
+    requires { unsigned_abs difference < 2 ^ 11 }
+    ensures value { result ≡ length (dc_text luma difference) }
+    ensures most { result ≤ 22 }
+{
+    let size = size(difference.unsigned_abs());
+    size_bits(luma, size) + u32::from(size)
 }

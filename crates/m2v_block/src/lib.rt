@@ -1,6 +1,15 @@
-//! Blocks of coefficients. Today: the DC of intra blocks, written.
+//! Blocks of levels, both ways (clauses 6.2.6 and 7.2 of ISO/IEC 13818-2): the DC of intra blocks, runs and levels by
+//! their codes or by escape, and the end of the block.
 #![tactic(auto)]
 
 mod dc;
+mod fault;
+mod read;
+#[cfg(test)]
+mod tests;
+mod write;
 
 pub use dc::write_dc;
+pub use fault::BlockFault;
+pub use read::read_block;
+pub use write::{block_bits, write_block};

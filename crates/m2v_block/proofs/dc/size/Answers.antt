@@ -1,4 +1,4 @@
-use Rattle.std.proofs.Common.{arith, ◌≡◌, ◌≤◌, ◌/◌, ◌^◌}
+use Rattle.std.proofs.Common.{arith, ◌≡◌}
 use Rattle.m2v_block.proofs.Numbers.{least_size}
 use Rattle.m2v_block.proofs.dc.size.Goals as goal
 

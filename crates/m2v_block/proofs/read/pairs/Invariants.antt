@@ -1,0 +1,17 @@
+use Rattle.std.proofs.Common.{◌≡◌, ◌<◌, ◌≤◌, All, length, get_or, pos}
+use Rattle.m2v_quant.specs.Kinds.{IsLevel}
+use Rattle.m2v_block.specs.Blocks.{pairs_at}
+use Rattle.m2v_block.proofs.read.pairs.Given as goal
+
+abbrev pub invariant-loop-more : goal.invariant-loop-more
+invariant-loop-more l = record {
+  read : (pairs_at l.one (record { position = l.position; levels = l.out.at })).read l.input.rest ≡ (pairs_at l.one (record { position = l.from; levels = l.fn.out.at })).read l.fn.input.rest;
+  text : l.input.text ≡ l.fn.input.text;
+  above : l.from ≤ l.position;
+  within : l.position ≤ 64;
+  levels : All IsLevel l.out.at;
+  dc : 0 < l.from → get_or l.out.at 0 (pos 0) ≡ get_or l.fn.out.at 0 (pos 0);
+}
+
+abbrev pub decreases-loop-more : goal.decreases-loop-more
+decreases-loop-more l = length l.input.rest

@@ -1,0 +1,320 @@
+ghost use Rattle.std.specs.Prelude.{◌≡◌, ◌+◌, ◌^◌, ◌<◌, ◌≤◌, ◌+ℤ◌, nat_eq, Bool, true, false, cond, ◌&&◌, ◌∷◌, length, replicate, slice_index_or, All, IfOk, OnErr, ℤ, pos};
+ghost use Rattle.m2v_bits.specs.Syntax.{Gives};
+ghost use Rattle.m2v_vlc.specs.Coefficients.{IsCoefficient};
+ghost use Rattle.m2v_quant.specs.Kinds.{IsKind, IsLevel};
+ghost use Rattle.m2v_block.specs.Faults.{number};
+ghost use Rattle.m2v_block.specs.Blocks.{difference, IsDc, is_dc, size_at, dc_at, placed, escaped, is_allowed, coefficient_at, code_from, pair_at, pairs_at, opened, first_at, block_at, predictor_after, GivesScan, GivesLevels, GivesEnd};
+
+use crate::fault::BlockFault;
+use m2v_bits::BitReader;
+use m2v_quant::{BlockKind, Levels};
+use m2v_vlc::{
+    CodeFault, Coefficient, read_coefficient_one, read_coefficient_zero, read_dc_chroma,
+    read_dc_luma, read_first_zero,
+};
+
+/// A number of n bits.
+#[inline(always)]
+#[tactic(auto, unfolding(m2v_bits::specs::Leaves::bits_at))]
+fn number(input: &mut BitReader, n: u8) -> Result<u32, BlockFault>
+    requires { n ≤ 32 }
+    ensures exact { Gives result input.new.rest ((number n).read input.old.rest) }
+    ensures text { input.new.text ≡ input.old.text }
+    ensures below { IfOk result (λ v. v < 2 ^ n) }
+{
+    match input.take(n) {
+        Some(v) => Ok(v),
+        None => Err(BlockFault::Code(CodeFault::Truncated)),
+    }
+}
+
+/// The size of a DC difference, by table B.12 for luma and table B.13 for chroma.
+#[inline(always)]
+#[tactic(auto, unfolding(crate::specs::Blocks::size_at, m2v_bits::specs::Syntax::choose, m2v_bits::specs::Syntax::renamed))]
+fn size(input: &mut BitReader, luma: bool) -> Result<u8, BlockFault>
+    ensures exact { Gives result input.new.rest ((size_at luma).read input.old.rest) }
+    ensures text { input.new.text ≡ input.old.text }
+    ensures size { IfOk result (λ v. v < 12) }
+{
+    if luma {
+        let size = read_dc_luma(input)?;
+        Ok(size)
+    } else {
+        let size = read_dc_chroma(input)?;
+        Ok(size)
+    }
+}
+
+/// The difference that a size and so many bits mean.
+#[inline(always)]
+#[tactic(auto, using(crate::proofs::Ranges::power_most), unfolding(crate::specs::Blocks::difference))]
+fn difference(size: u8, bits: u32) -> i32
+    requires size { size < 12 }
+    requires bits { bits < 2 ^ size }
+    ensures value { result ≡ difference size bits }
+    ensures within { IsLevel result }
+{
+    if size == 0 {
+        return 0;
+    }
+    if bits >= 1 << (size - 1) {
+        return bits as i32;
+    }
+    (bits as i32 + 1) - (1 << size)
+}
+
+/// Whether a DC level is in its range.
+#[inline(always)]
+#[tactic(auto, unfolding(crate::specs::Blocks::is_dc))]
+fn is_dc(precision: u8, level: i32) -> bool
+    requires { precision ≤ 3 }
+    ensures value { result ≡ is_dc precision level }
+    ensures held { result ≡ true → IsDc precision level }
+{
+    level >= 0 && level < 1 << (8 + precision)
+}
+
+/// The DC level of an intra block.
+#[inline(always)]
+#[tactic(auto, unfolding(crate::specs::Blocks::dc_at, m2v_bits::specs::Syntax::seq, m2v_bits::specs::Syntax::bind, m2v_bits::specs::Syntax::here, m2v_bits::specs::Syntax::rule, m2v_bits::specs::Syntax::done))]
+fn dc(input: &mut BitReader, luma: bool, precision: u8, predictor: i32) -> Result<i32, BlockFault>
+    requires precision { precision ≤ 3 }
+    requires predictor { IsDc precision predictor }
+    ensures exact { Gives result input.new.rest ((dc_at luma precision predictor).read input.old.rest) }
+    ensures text { input.new.text ≡ input.old.text }
+    ensures range { IfOk result (λ v. IsDc precision v) }
+{
+    let start = input.fork();
+    let size = size(input, luma)?;
+    let bits = number(input, size)?;
+    let level = predictor + difference(size, bits);
+    if !is_dc(precision, level) {
+        *input = start;
+        return Err(BlockFault::DcRange);
+    }
+    Ok(level)
+}
+
+/// A run of zeros and a level behind it.
+#[inline(always)]
+#[tactic(auto, unfolding(crate::specs::Blocks::placed, m2v_bits::specs::Syntax::seq, m2v_bits::specs::Syntax::bind, m2v_bits::specs::Syntax::rule, m2v_bits::specs::Syntax::done))]
+fn place<'a>(
+    input: &mut BitReader<'a>,
+    start: &BitReader<'a>,
+    position: u8,
+    run: u8,
+    level: i32,
+    out: &mut Levels,
+) -> Result<(bool, u8), BlockFault>
+    requires position { position ≤ 64 }
+    requires run { run < 64 }
+    requires level { IsLevel level }
+    requires text { start.now.text ≡ input.old.text }
+    requires levels { All IsLevel out.old.at }
+    ensures exact { GivesScan result out.new.at input.new.rest ((placed (length start.now.rest) run level (record { position = position; levels = out.old.at })).read input.old.rest) }
+    ensures text { input.new.text ≡ input.old.text }
+    ensures within { IfOk result (λ x. (position ≤ x.1) × (x.1 ≤ 64)) }
+    ensures dc { 0 < position → slice_index_or out.new.at 0 (pos 0) ≡ slice_index_or out.old.at 0 (pos 0) }
+    ensures levels { All IsLevel out.new.at }
+{
+    let at = position + run;
+    if at >= 64 {
+        *input = start.fork();
+        return Err(BlockFault::Overrun);
+    }
+    out.at[at as usize] = level;
+    Ok((true, at + 1))
+}
+
+/// Whether an escape's level is neither 0 nor -2048.
+#[inline(always)]
+#[tactic(auto, unfolding(crate::specs::Blocks::is_allowed))]
+fn is_allowed(n: u32) -> bool
+    ensures { result ≡ is_allowed n }
+{
+    n != 0 && n != 2048
+}
+
+/// The level behind an escape.
+#[inline(always)]
+#[tactic(auto, unfolding(crate::specs::Blocks::escaped, crate::specs::Blocks::is_allowed))]
+fn escaped(n: u32) -> i32
+    requires below { n < 2 ^ 12 }
+    requires allowed { is_allowed n ≡ true }
+    ensures value { result ≡ escaped n }
+    ensures within { IsLevel result }
+{
+    if n < 2048 { n as i32 } else { n as i32 - 4096 }
+}
+
+/// A code of the table that holds at this place.
+#[inline(always)]
+#[tactic(auto, unfolding(crate::specs::Blocks::code_from, m2v_bits::specs::Syntax::choose, m2v_bits::specs::Syntax::renamed))]
+fn code(input: &mut BitReader, first: bool, one: bool) -> Result<Coefficient, BlockFault>
+    ensures exact { Gives result input.new.rest ((code_from first one).read input.old.rest) }
+    ensures text { input.new.text ≡ input.old.text }
+    ensures range { IfOk result (λ v. IsCoefficient v) }
+{
+    if first {
+        let c = read_first_zero(input)?;
+        Ok(c)
+    } else if one {
+        let c = read_coefficient_one(input)?;
+        Ok(c)
+    } else {
+        let c = read_coefficient_zero(input)?;
+        Ok(c)
+    }
+}
+
+/// What a code of a coefficient stands for: the end of the block, an escaped pair, or a pair.
+#[inline(always)]
+#[tactic(auto, unfolding(crate::specs::Blocks::coefficient_at, m2v_bits::specs::Syntax::seq, m2v_bits::specs::Syntax::bind, m2v_bits::specs::Syntax::here, m2v_bits::specs::Syntax::rule, m2v_bits::specs::Syntax::done))]
+fn coefficient<'a>(
+    input: &mut BitReader<'a>,
+    start: &BitReader<'a>,
+    position: u8,
+    c: Coefficient,
+    out: &mut Levels,
+) -> Result<(bool, u8), BlockFault>
+    requires position { position ≤ 64 }
+    requires range { IsCoefficient c }
+    requires text { start.now.text ≡ input.old.text }
+    requires levels { All IsLevel out.old.at }
+    ensures exact { GivesScan result out.new.at input.new.rest ((coefficient_at (length start.now.rest) (record { position = position; levels = out.old.at }) c).read input.old.rest) }
+    ensures text { input.new.text ≡ input.old.text }
+    ensures within { IfOk result (λ x. (position ≤ x.1) × (x.1 ≤ 64)) }
+    ensures dc { 0 < position → slice_index_or out.new.at 0 (pos 0) ≡ slice_index_or out.old.at 0 (pos 0) }
+    ensures levels { All IsLevel out.new.at }
+{
+    match c {
+        Coefficient::End => Ok((false, position)),
+        Coefficient::Escape => {
+            let run = number(input, 6)?;
+            let at = input.fork();
+            let level = number(input, 12)?;
+            if !is_allowed(level) {
+                *input = at;
+                return Err(BlockFault::ForbiddenLevel);
+            }
+            place(input, start, position, run as u8, escaped(level), out)
+        }
+        Coefficient::Pair { run, level } => {
+            place(input, start, position, run, i32::from(level), out)
+        }
+    }
+}
+
+/// Reads a pair or the end of the block: whether a pair was read, and the position behind it.
+#[inline(always)]
+#[tactic(auto, unfolding(crate::specs::Blocks::pair_at, m2v_bits::specs::Syntax::seq, m2v_bits::specs::Syntax::bind, m2v_bits::specs::Syntax::here))]
+fn pair(
+    input: &mut BitReader,
+    one: bool,
+    position: u8,
+    out: &mut Levels,
+) -> Result<(bool, u8), BlockFault>
+    requires position { position ≤ 64 }
+    requires levels { All IsLevel out.old.at }
+    ensures exact { GivesScan result out.new.at input.new.rest ((pair_at one (record { position = position; levels = out.old.at })).read input.old.rest) }
+    ensures text { input.new.text ≡ input.old.text }
+    ensures within { IfOk result (λ x. (position ≤ x.1) × (x.1 ≤ 64)) }
+    ensures dc { 0 < position → slice_index_or out.new.at 0 (pos 0) ≡ slice_index_or out.old.at 0 (pos 0) }
+    ensures levels { All IsLevel out.new.at }
+{
+    let start = input.fork();
+    let c = code(input, position == 0, one)?;
+    coefficient(input, &start, position, c, out)
+}
+
+/// Reads pairs up to the end of the block.
+#[inline(always)]
+fn pairs(input: &mut BitReader, one: bool, from: u8, out: &mut Levels) -> Result<(), BlockFault>
+    requires position { from ≤ 64 }
+    requires levels { All IsLevel out.old.at }
+    ensures exact { GivesEnd result out.new.at input.new.rest ((pairs_at one (record { position = from; levels = out.old.at })).read input.old.rest) }
+    ensures text { input.new.text ≡ input.old.text }
+    ensures levels { All IsLevel out.new.at }
+    ensures dc { 0 < from → slice_index_or out.new.at 0 (pos 0) ≡ slice_index_or out.old.at 0 (pos 0) }
+{
+    let mut position = from;
+    loop {
+        let (more, next) = pair(input, one, position, out)?;
+        position = next;
+        if !more {
+            return Ok(());
+        }
+    }
+}
+
+/// The DC level of an intra block, and 0 for another.
+#[inline(always)]
+#[tactic(auto, unfolding(crate::specs::Blocks::first_at, m2v_bits::specs::Syntax::choose, m2v_bits::specs::Syntax::done))]
+fn first(input: &mut BitReader, kind: &BlockKind, predictor: i32) -> Result<i32, BlockFault>
+    requires kind { IsKind kind.now }
+    requires predictor { kind.now.intra ≡ true → IsDc kind.now.precision predictor }
+    ensures exact { Gives result input.new.rest ((first_at kind.now predictor).read input.old.rest) }
+    ensures text { input.new.text ≡ input.old.text }
+    ensures range { IfOk result (λ v. IsLevel v) }
+    ensures dc { kind.now.intra ≡ true → IfOk result (λ v. IsDc kind.now.precision v) }
+{
+    if kind.intra {
+        dc(input, kind.luma, kind.precision, predictor)
+    } else {
+        Ok(0)
+    }
+}
+
+/// All levels become 0.
+#[inline(always)]
+fn clear(out: &mut Levels)
+    ensures { out.new.at ≡ replicate 64 (pos 0) }
+{
+    out.at = [0; 64];
+}
+
+/// The DC level stands among zeros.
+#[inline(always)]
+fn open(dc: i32, out: &mut Levels)
+    requires zeros { out.old.at ≡ replicate 64 (pos 0) }
+    requires range { IsLevel dc }
+    ensures value { out.new.at ≡ dc ∷ replicate 63 (pos 0) }
+    ensures levels { All IsLevel out.new.at }
+    ensures first { slice_index_or out.new.at 0 (pos 0) ≡ dc }
+{
+    out.at[0] = dc;
+}
+
+/// Reads a block (clauses 6.2.6 and 7.2): its 64 levels in scan order, each from -2047 to 2047, with the DC level of an
+/// intra block behind the predictor. `table_one` is intra_vlc_format; `dc_pred` becomes the DC level of an intra block,
+/// and stays at any other.
+///
+/// # Errors
+/// The first fault. The reader then stands at its place, the predictor stays, and the levels are some that are in range.
+#[tactic(auto, unfolding(crate::specs::Blocks::block_at, crate::specs::Blocks::opened, m2v_bits::specs::Syntax::seq, m2v_bits::specs::Syntax::bind, m2v_bits::specs::Syntax::done))]
+pub fn read_block(
+    input: &mut BitReader,
+    kind: &BlockKind,
+    table_one: bool,
+    dc_pred: &mut i32,
+    out: &mut Levels,
+) -> Result<(), BlockFault>
+    requires kind { IsKind kind.now }
+    requires predictor { kind.now.intra ≡ true → IsDc kind.now.precision dc_pred.old }
+    ensures exact { GivesLevels result out.new.at input.new.rest ((block_at kind.now table_one dc_pred.old).read input.old.rest) }
+    ensures text { input.new.text ≡ input.old.text }
+    ensures predictor { IfOk result (λ _. dc_pred.new ≡ predictor_after kind.now dc_pred.old out.new.at) }
+    ensures same { OnErr result (dc_pred.new ≡ dc_pred.old) }
+    ensures levels { All IsLevel out.new.at }
+    ensures dc { kind.now.intra ≡ true → IsDc kind.now.precision dc_pred.new }
+{
+    clear(out);
+    let dc = first(input, kind, *dc_pred)?;
+    open(dc, out);
+    if kind.intra {
+        pairs(input, table_one, 1, out)?;
+        *dc_pred = dc;
+        return Ok(());
+    }
+    pairs(input, false, 0, out)
+}
