@@ -3,6 +3,7 @@
 
 mod dims;
 mod frame;
+mod laws;
 mod moves;
 mod planes;
 mod row;
@@ -12,6 +13,7 @@ mod view;
 
 pub use dims::Dims;
 pub use frame::Frame;
+pub use laws::{law_crop_pad, law_raw_cut};
 pub use planes::{Lines, Plane};
 pub use row::RowSamples;
 pub use view::RefView;
