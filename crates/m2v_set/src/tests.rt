@@ -76,6 +76,7 @@ struct Numbers {
     least: u64,
     longest: u64,
     rows: u32,
+    told: bool,
 }
 
 fn judgement(settings: &Settings) -> Result<Numbers, Unfit> {
@@ -87,6 +88,7 @@ fn judgement(settings: &Settings) -> Result<Numbers, Unfit> {
         least: passed.least(),
         longest: passed.longest(),
         rows: passed.dims().mb_rows,
+        told: passed.settings() == settings && passed.pulldown() == settings.pulldown,
     })
 }
 
@@ -108,6 +110,7 @@ fn settings_that_pass(rt: HostRuntime) {
             least,
             longest,
             rows,
+            told: true,
         };
         assert_eq!(rt; judgement(&settings), Ok(want), "{settings:?}");
     }
