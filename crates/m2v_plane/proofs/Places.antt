@@ -1,5 +1,5 @@
 -- Planes as lines of columns.
-use Rattle.std.proofs.Common.{◌≡◌, ℕ, zero, suc, ◌+◌, ◌-◌, ◌*◌, ◌/◌, ◌%◌, ◌<◌, ◌≤◌, Bool, true, false, List, [], ◌∷◌, ◌++◌, length, get_or, take, drop, map, refl, ap, sym, ◌∙◌, subst, arith, nat_lt, nat_eq, ◌&&◌, if◌then◌else◌, mul-zero, ◌≢◌, inl, inr, cond, eq-eqb}
+use Rattle.std.proofs.Common.{◌≡◌, ℕ, zero, suc, ◌+◌, ◌-◌, ◌*◌, ◌/◌, ◌%◌, ◌<◌, ◌≤◌, Bool, true, false, List, ◌++◌, length, get_or, take, drop, map, refl, ap, sym, ◌∙◌, subst, arith, nat_lt, nat_eq, ◌&&◌, if◌then◌else◌, mul-zero, ◌≢◌, inl, inr, cond, eq-eqb}
 use borrow.Rule.Slice.PartMut.{put_mid, post_of}
 use Rattle.std.proofs.lemmas.Bool.{cases_lt, cases_eq, eqb-true}
 use Rattle.std.proofs.Math.Nat.{mul-le-mul_right, div-add-mod, div-lt_iff_lt-mul, mul_comm}

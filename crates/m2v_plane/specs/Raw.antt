@@ -1,8 +1,7 @@
 -- Raw video: frames one after another, each of the planes Y, Cb and Cr, line by line from the top, a byte a sample.
-use Rattle.std.specs.Prelude.{ℕ, ◌≡◌, ◌+◌, ◌-◌, ◌*◌, ◌/◌, List, ◌++◌, map, length, take, drop, slice_index, min}
+use Rattle.std.specs.Prelude.{ℕ, ◌+◌, ◌-◌, ◌*◌, ◌/◌, List, ◌++◌, map, length, take, drop, slice_index, min}
 use Rattle.std.specs.List.{range_with_len, flat_map}
 use Rattle.m2v_plane.specs.declared.dims.Dims.{Dims}
-use Rattle.m2v_plane.specs.declared.planes.Plane.TheVariants.{Y, Cb, Cr}
 use Rattle.m2v_plane.specs.Samples.{Samples, plane_by}
 
 -- the luma bytes, and those of each chroma plane, whose lines and columns are rounded up

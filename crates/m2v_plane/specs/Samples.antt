@@ -1,12 +1,12 @@
 -- Samples of a frame or of a macroblock row.
-use Rattle.std.specs.Prelude.{ℕ, ◌≡◌, ◌+◌, ◌*◌, ◌/◌, ◌%◌, ◌≤◌, List, map, length, slice_index, slice_set, replicate, Bool, true, ◌&&◌, nat_eq, if◌then◌else◌}
+use Rattle.std.specs.Prelude.{ℕ, ◌≡◌, ◌+◌, ◌*◌, ◌/◌, ◌%◌, List, map, length, slice_index, slice_set, replicate, Bool, true, ◌&&◌, nat_eq, if◌then◌else◌, take, drop, ◌++◌}
 use Rattle.std.specs.List.{range_with_len}
 use Rattle.m2v_plane.specs.declared.dims.Dims.{Dims}
 use Rattle.m2v_plane.specs.declared.planes.Plane.{Plane}
 use Rattle.m2v_plane.specs.declared.planes.Plane.TheVariants.{Y, Cb, Cr}
 use Rattle.m2v_plane.specs.declared.planes.Lines.{Lines}
 use Rattle.m2v_plane.specs.declared.planes.Lines.TheVariants.{Whole, Top, Bottom}
-use Rattle.m2v_plane.specs.Sizes.{side, columns_of, frame_line}
+use Rattle.m2v_plane.specs.Sizes.{columns_of, frame_line}
 
 -- three planes of a size, each line by line from the top
 pub record Samples : Type 0 where
@@ -56,6 +56,16 @@ abbrev pub with_sample : Samples → Plane → ℕ → ℕ → ℕ → Samples
 with_sample s Y line column value = record s { luma = slice_set s.luma (line * columns_of s.dims Y + column) value }
 with_sample s Cb line column value = record s { cb = slice_set s.cb (line * columns_of s.dims Cb + column) value }
 with_sample s Cr line column value = record s { cr = slice_set s.cr (line * columns_of s.dims Cr + column) value }
+
+-- new samples in the place of as many, from one on
+unfoldable pub put : List ℕ → ℕ → List ℕ → List ℕ
+put old from new = take from old ++ (new ++ drop (from + length new) old)
+
+-- a part of a line replaced, from a column on
+abbrev pub with_part : Samples → Plane → ℕ → ℕ → List ℕ → Samples
+with_part s Y line column new = record s { luma = put s.luma (line * columns_of s.dims Y + column) new }
+with_part s Cb line column new = record s { cb = put s.cb (line * columns_of s.dims Cb + column) new }
+with_part s Cr line column new = record s { cr = put s.cr (line * columns_of s.dims Cr + column) new }
 
 -- whether a line of the frame is one of these lines
 abbrev pub is_among : Lines → ℕ → Bool

@@ -2,7 +2,7 @@
 ghost use Rattle.std.specs.Prelude.{ℕ, ◌≡◌, ◌≤◌, ◌<◌, ◌*◌, ◌+◌, ◌-◌, ◌^◌, length, vec_len, slice_index, min, drop};
 ghost use Rattle.std.specs.List.{range_with_len};
 ghost use Rattle.m2v_plane.specs.Sizes.{frame_line, part_of};
-ghost use Rattle.m2v_plane.specs.Samples.{plane_by, plane_with_row};
+ghost use Rattle.m2v_plane.specs.Samples.{plane_with_row, put};
 ghost use Rattle.m2v_plane.specs.Raw.{padded, shown};
 
 use crate::planes::{Lines, place_of};
@@ -94,4 +94,13 @@ pub fn set_rows(
         let at = line_start(lines, row * height + line, total, columns);
         plane[at..at + columns].copy_from_slice(&samples[line * columns..line * columns + columns]);
     }
+}
+
+/// Samples put in the place of as many others.
+#[inline(always)]
+pub fn put_part(out: &mut [u8], from: usize, samples: &[u8])
+    requires { from + length samples.now ≤ length out.old }
+    ensures value { out.new ≡ put out.old from samples.now }
+{
+    out[from..from + samples.len()].copy_from_slice(samples);
 }

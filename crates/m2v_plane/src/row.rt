@@ -1,9 +1,10 @@
 ghost use Rattle.std.specs.Prelude.{◌≡◌, ◌+◌, ◌*◌, ◌≤◌, ◌<◌, IfOk, length};
 ghost use Rattle.m2v_plane.specs.Sizes.{IsSize, side, columns_of};
-ghost use Rattle.m2v_plane.specs.Samples.{Samples, plane_of, HasRows, sample_of, blank, with_sample};
+ghost use Rattle.m2v_plane.specs.Samples.{Samples, plane_of, HasRows, sample_of, blank, line_part, with_sample, with_part};
 
 use crate::Memory;
 use crate::dims::Dims;
+use crate::moves::put_part;
 use crate::planes::{Plane, side_of};
 use std::alloc::Global;
 use std::marker::Model;
@@ -90,6 +91,34 @@ impl RowSamples {
             Plane::Y => self.luma[line * (16 * columns) + column] = value,
             Plane::Cb => self.cb[line * (8 * columns) + column] = value,
             Plane::Cr => self.cr[line * (8 * columns) + column] = value,
+        }
+    }
+
+    /// A part of a line, lent: `len` samples from a column on, all inside the row. A cache of rows lends its lines so.
+    #[inline(always)]
+    pub fn line(&self, plane: Plane, line: u32, column: u32, len: u32) -> &[u8]
+        requires line { line < side plane }
+        requires within { column + len ≤ columns_of self.now.dims plane }
+        ensures value { result.now ≡ line_part (sample_of self.now plane line) column len }
+    {
+        let columns = side_of(plane) * self.dims.mb_width as usize;
+        let from = line as usize * columns + column as usize;
+        &self.plane(plane)[from..from + len as usize]
+    }
+
+    /// Replaces a part of a line, from a column on, all inside the row. Reconstruction writes its lines so.
+    #[inline(always)]
+    pub fn set_part(&mut self, plane: Plane, line: u32, column: u32, samples: &[u8])
+        requires line { line < side plane }
+        requires within { column + length samples.now ≤ columns_of self.old.dims plane }
+        ensures value { self.new ≡ with_part self.old plane line column samples.now }
+    {
+        let columns = self.dims.mb_width as usize;
+        let (line, column) = (line as usize, column as usize);
+        match plane {
+            Plane::Y => put_part(&mut self.luma, line * (16 * columns) + column, samples),
+            Plane::Cb => put_part(&mut self.cb, line * (8 * columns) + column, samples),
+            Plane::Cr => put_part(&mut self.cr, line * (8 * columns) + column, samples),
         }
     }
 }

@@ -71,7 +71,9 @@ fn a_row_of_a_field(rt: HostRuntime) -> Result<(), Fail> {
     row.set_sample(Plane::Y, 2, 3, 7);
     row.set_sample(Plane::Cb, 1, 0, 8);
     row.set_sample(Plane::Cr, 7, 7, 9);
+    row.set_part(Plane::Y, 15, 12, &[1, 2, 3, 4]);
     assert_eq!(rt; row.sample(Plane::Y, 2, 3), 7);
+    assert_eq!(rt; row.line(Plane::Y, 15, 11, 4), [0, 1, 2, 3].as_slice());
     assert_eq!(rt; row.dims(), SMALL);
     let mut frame = Frame::blank(rt.alloc(), SMALL)?;
     frame.pad_from_raw(&RAW);

@@ -1,4 +1,4 @@
-use Rattle.std.proofs.Common.{◌≡◌, ℕ, ◌<◌, ◌+◌, ◌-◌, ◌*◌, ◌≤◌, get_or, length, arith, ap, ◌∙◌}
+use Rattle.std.proofs.Common.{◌+◌, ◌-◌, ◌*◌, get_or, arith, ap, ◌∙◌}
 use Rattle.m2v_plane.proofs.Places.{line_more, line_fits, part_at, part_len, plane_is}
 use Rattle.m2v_plane.specs.Raw.{shown}
 use Rattle.m2v_plane.proofs.moves.crop_plane.Goals as goal

@@ -1,4 +1,4 @@
-use Rattle.std.proofs.Common.{◌+◌, ◌*◌, ◌≤◌, arith, ap, subst, sym}
+use Rattle.std.proofs.Common.{arith}
 use Rattle.m2v_plane.proofs.Places.{line_fits, frame_line-below, part_of-le}
 use Rattle.m2v_plane.specs.Sizes.{frame_line}
 use Rattle.m2v_plane.proofs.moves.line_start.Goals as goal

@@ -1,4 +1,4 @@
-use Rattle.std.proofs.Common.{◌≡◌, ℕ, ◌<◌, ◌+◌, ◌-◌, ◌*◌, ◌≤◌, get_or, length, arith, ap, ◌∙◌, min, take, drop}
+use Rattle.std.proofs.Common.{◌≡◌, ◌+◌, ◌-◌, ◌*◌, get_or, length, arith, ap, ◌∙◌, min, take, drop}
 use Rattle.m2v_plane.proofs.Places.{line_more, line_fits, part_at, part_len, plane_is}
 use Rattle.m2v_plane.specs.Raw.{padded}
 use Rattle.m2v_plane.proofs.moves.pad_plane.Goals as goal

@@ -1,4 +1,4 @@
-use Rattle.std.proofs.Common.{◌≡◌, ℕ, ◌<◌, ◌+◌, ◌-◌, ◌*◌, ◌≤◌, get_or, length, arith, ap, ◌∙◌, sym}
+use Rattle.std.proofs.Common.{◌≡◌, ◌+◌, ◌-◌, ◌*◌, get_or, length, arith, ap, ◌∙◌}
 use Rattle.m2v_plane.proofs.Places.{line_set, line_fits, part_at, part_len, plane_is, mixed, mixed_none, mixed_all, mixed_same, mixed_new, frame_line-below}
 use Rattle.m2v_plane.specs.Samples.{plane_with_row}
 use Rattle.m2v_plane.specs.Sizes.{frame_line}

@@ -1,4 +1,4 @@
-use Rattle.std.proofs.Common.{arith, length, ap, sym, ◌∙◌, ◌+◌, ◌≤◌, length}
+use Rattle.std.proofs.Common.{arith, length, ap, sym, ◌∙◌, length}
 use Rattle.m2v_plane.proofs.Places.{columns-most, length-line_part}
 use Rattle.m2v_plane.specs.Samples.{sample_in}
 use Rattle.m2v_plane.proofs.frame.FrameRefView.copy_line.Goals as goal

@@ -1,4 +1,4 @@
-use Rattle.std.proofs.Common.{◌≡◌, ℕ, ◌+◌, ◌*◌, ◌-◌, ◌≤◌, arith, ap, ◌∙◌, get_or, length}
+use Rattle.std.proofs.Common.{◌≡◌, ◌+◌, ◌*◌, ◌-◌, arith, ap, ◌∙◌, get_or}
 use Rattle.m2v_plane.proofs.Places.{line_is, part_at, part_len}
 use Rattle.m2v_plane.specs.Samples.{Samples, sample_in, plane_of}
 use Rattle.m2v_plane.specs.Sizes.{side, frame_line}
