@@ -1,0 +1,4 @@
+pub mod UnitLaws
+pub mod CutLaws
+pub mod LookLaws
+pub mod HeaderLaws

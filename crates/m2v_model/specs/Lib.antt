@@ -1,0 +1,5 @@
+pub mod Units
+pub mod Looking
+pub mod Faults
+pub mod Unread
+pub mod Headers
