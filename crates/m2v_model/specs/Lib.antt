@@ -3,3 +3,10 @@ pub mod Looking
 pub mod Faults
 pub mod Unread
 pub mod Headers
+pub mod States
+pub mod Macro
+pub mod Slices
+pub mod Streams
+pub mod Pictures
+pub mod Pieces
+pub mod Decoding

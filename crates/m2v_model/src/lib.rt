@@ -6,5 +6,11 @@
 #![tactic(auto)]
 
 mod fault;
+mod laws;
+mod phase;
+mod state;
 
 pub use fault::FaultKind;
+pub use laws::law_unique;
+pub use phase::Phase;
+pub use state::{Open, Sequence, State};

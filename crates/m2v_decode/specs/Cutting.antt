@@ -1,0 +1,61 @@
+-- What a cutter holds of a text, and what it hands out.
+use Rattle.std.specs.Prelude.{◌≡◌, ℕ, ◌+◌, ◌≤◌, ◌<◌, Bool, true, false, not, List, [], ◌∷◌, ◌++◌, length, take, Option, Some, None, if◌then◌else◌}
+use Rattle.m2v_model.specs.declared.phase.Phase.{Phase}
+use Rattle.m2v_model.specs.declared.phase.Phase.TheVariants.{Before, Headers, Picture}
+use Rattle.m2v_model.specs.Units.{cut}
+use Rattle.m2v_model.specs.Pieces.{grouped, piece_of, skipped, limit, Limit, too_long, most_input, trimmed}
+use Rattle.m2v_decode.specs.declared.answer.Piece.{Piece}
+
+-- The piece at hand: the phase of its units, the place of its first byte, its bytes so far, and how many bytes of a
+-- start code's prefix 00 00 01 stand behind these, of which it isn't known yet whether they belong to it.
+pub record Held : Type 0 where
+  pub phase : Phase
+  pub place : ℕ
+  pub sure : List ℕ
+  pub ahead : ℕ
+
+-- so many bytes of a start code's prefix
+abbrev pub prefix : ℕ → List ℕ
+prefix n = take n (0 ∷ 0 ∷ 1 ∷ [])
+
+-- the pieces of a text behind bytes that the piece at hand has already
+unfoldable pub open_pieces : Phase → List ℕ → List ℕ → List (List ℕ)
+open_pieces phase sure text = grouped phase (sure ++ (cut 0 text).0) (cut 0 text).1
+
+-- the place of the first of them
+unfoldable pub open_start : Phase → ℕ → List ℕ → ℕ
+open_start Before place text = place + length (skipped text)
+open_start Headers place text = place
+open_start Picture place text = place
+
+-- the pieces of what is held and of the text behind it, and the place of the first
+abbrev pub pieces_behind : Held → List ℕ → List (List ℕ)
+pieces_behind h text = open_pieces h.phase h.sure (prefix h.ahead ++ text)
+
+abbrev pub start_behind : Held → List ℕ → ℕ
+start_behind h text = open_start h.phase h.place (prefix h.ahead ++ text)
+
+-- behind bytes that are sure: those before the first piece are passed over
+abbrev pub place_after : Phase → ℕ → List ℕ → ℕ
+place_after Before place bytes = place + length bytes
+place_after Headers place bytes = place
+place_after Picture place bytes = place
+
+abbrev pub sure_after : Phase → List ℕ → List ℕ → List ℕ
+sure_after Before sure bytes = sure
+sure_after Headers sure bytes = sure ++ bytes
+sure_after Picture sure bytes = sure ++ bytes
+
+abbrev pub behind : Held → List ℕ → Held
+behind h bytes = record { phase = h.phase; place = place_after h.phase h.place bytes; sure = sure_after h.phase h.sure bytes; ahead = h.ahead }
+
+-- the piece that is handed out
+pub record IsPiece (p : Piece) (place : ℕ) (whole : List ℕ) : Type 0 where
+  pub bytes : p.bytes.items ≡ trimmed whole
+  pub at : p.place ≡ place
+  pub length : p.length ≡ length whole
+  pub fits : limit place 0 whole ≡ None
+
+-- a piece passes a limit
+abbrev pub Passes : ℕ → Limit → List (List ℕ) → Type 0
+Passes place l pieces = (whole : List ℕ) × (others : List (List ℕ)) × (pieces ≡ whole ∷ others) × (limit place 0 whole ≡ Some l)
