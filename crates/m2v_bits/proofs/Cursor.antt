@@ -1,11 +1,11 @@
 -- Laws of the writer and the reader over bytes.
 use Rattle.std.proofs.Common.{◌≡◌, ℕ, zero, suc, ◌+◌, ◌-◌, ◌*◌, ◌/◌, ◌%◌, ◌^◌, ◌<◌, ◌≤◌, Bool, true, false, List, [], ◌∷◌, ◌++◌, length, get_or, set, take, drop, replicate, refl, sym, ap, subst, ◌∙◌, append_assoc, arith, add-one, add-zero, zero-add}
-use Rattle.std.proofs.lemmas.List.{length-append, length-drop, length-take, take_at, drop_at, drop-drop, get_or-drop, take_more_set, append-nil}
+use Rattle.std.proofs.lemmas.List.{length-append, length-drop, length-take, take_at, drop_at, drop-drop, get_or-drop, take_more_set, append-nil, length-replicate, drop_all}
 use Rattle.std.proofs.lemmas.List.Concat.{flat_map-append}
 use Rattle.std.proofs.lemmas.Nat.{shr_high}
 use Rattle.std.proofs.Math.Nat.{zero-div}
 use Rattle.std.specs.Int.{w64, from_be_bytes}
-use Rattle.m2v_bits.specs.Bits.{bits_of, number, bits, packed, ahead, to_edge}
+use Rattle.m2v_bits.specs.Bits.{bits_of, number, bits, packed, ahead, to_edge, padded, all_zero, first_one, Unread, past}
 use Rattle.m2v_bits.proofs.Bits.{length-bits_of, bits_of-add, bits_of-mod, bits_of-low, number-bits_of, packed-bits}
 
 pub length-bits : (bytes : List ℕ) → length (bits bytes) ≡ 8 * length bytes
@@ -107,8 +107,6 @@ peeked bs from r n s w e h =
     (sym (ahead-add r n xs) ∙ front ∙ bits_of-add r n (w / 2 ^ s)) in
     rw (← drop-drop r from bs, back) (number-bits_of n (w / 2 ^ s))
 
-pub ruleset lengths = (length-bits, length-bits_of, length-append, length-drop, length-take)
-
 none_held : (p : ℕ) → bits_of 0 p ≡ []
 unfolding bits_of
 none_held p = refl
@@ -152,3 +150,76 @@ take_fits (suc n) (x ∷ xs) h (suc i) = take_fits n xs (λ k. h (suc k)) i
 -- the first bytes of a buffer are what their bits fill
 pub packed_front : (n : ℕ) (xs : List ℕ) → ((i : ℕ) → get_or xs i 0 < 256) → take n xs ≡ packed (bits (take n xs))
 packed_front n xs h = sym (packed-bits (take n xs) (take_fits n xs h))
+
+-- ---- zero bits behind the bytes
+
+pub length-padded : (t : List Bool) (n : ℕ) → length (padded t n) ≡ length t + n
+unfolding padded
+length-padded t n = length-append t (replicate n false) ∙ omega (arith, length-replicate n false)
+
+pub padded-none : (t : List Bool) → padded t 0 ≡ t
+unfolding padded
+padded-none t = append-nil t
+
+ahead_zeros : (n z : ℕ) → ahead n (replicate z false) ≡ ahead n []
+unfolding ahead
+ahead_zeros zero z = refl
+ahead_zeros (suc n) zero = refl
+ahead_zeros (suc n) (suc z) = ap (λ (x : List Bool). false ∷ x) (ahead_zeros n z)
+
+ahead_padded : (n z : ℕ) (t : List Bool) → ahead n (t ++ replicate z false) ≡ ahead n t
+unfolding ahead
+ahead_padded zero z t = refl
+ahead_padded (suc n) z [] = ahead_zeros (suc n) z
+ahead_padded (suc n) z (b ∷ t) = ap (λ (x : List Bool). b ∷ x) (ahead_padded n z t)
+
+drop_zeros : (p z : ℕ) → drop p (replicate z false) ≡ replicate (z - p) false
+drop_zeros zero z = let e : z - 0 ≡ z = omega arith in rw e refl
+drop_zeros (suc p) zero = let e : 0 - suc p ≡ 0 = omega arith in rw e refl
+drop_zeros (suc p) (suc z) = let e : suc z - suc p ≡ z - p = omega arith in rw e (drop_zeros p z)
+
+-- what is left of a text and the zeros behind it
+drop_padded : (p z : ℕ) (t : List Bool) → drop p (t ++ replicate z false) ≡ drop p t ++ replicate (z - (p - length t)) false
+drop_padded zero z t = let e : z - (0 - length t) ≡ z = omega arith in rw e refl
+drop_padded (suc p) z [] = let e : suc p - 0 ≡ suc p = omega arith in rw e (drop_zeros (suc p) z)
+drop_padded (suc p) z (b ∷ t) = let e : suc p - length (b ∷ t) ≡ p - length t = omega arith in rw e (drop_padded p z t)
+
+-- the zeros behind a text change nothing of what is peeked
+pub ahead-padded : (n p z : ℕ) (t : List Bool) → ahead n (drop p (padded t z)) ≡ ahead n (drop p t)
+unfolding padded
+ahead-padded n p z t = ap (ahead n) (drop_padded p z t) ∙ ahead_padded n (z - (p - length t)) (drop p t)
+
+-- behind the bytes only zeros are left
+pub padded_rest : (p z : ℕ) (t : List Bool) → length (drop p (padded t z)) ≤ z → drop p (padded t z) ≡ replicate (z - (p - length t)) false
+unfolding padded
+padded_rest p z t le =
+    let past : length t ≤ p = omega (arith, le, ap length (drop_padded p z t), length-append (drop p t) (replicate (z - (p - length t)) false), length-replicate (z - (p - length t)) false, length-drop p t) in
+    drop_padded p z t ∙ ap (λ (x : List Bool). x ++ replicate (z - (p - length t)) false) (drop_all p t past)
+
+pub zeros_are_zero : (z : ℕ) → all_zero (replicate z false) ≡ true
+unfolding all_zero
+zeros_are_zero zero = refl
+zeros_are_zero (suc z) = zeros_are_zero z
+
+pub zeros_have_no_one : (z : ℕ) → first_one (replicate z false) ≡ 0
+unfolding first_one
+zeros_have_no_one zero = refl
+zeros_have_no_one (suc z) = zeros_have_no_one z
+
+-- a reader n bits on is one of the same text
+pub past_place : (n : ℕ) (u : Unread) → u.rest ≡ drop u.place u.text → (past n u).rest ≡ drop (past n u).place (past n u).text
+past_place n u is = ap (drop n) is ∙ drop-drop n u.place u.text
+
+-- where only the zeros behind the bytes are left
+only_zeros : (u : Unread) (t : List Bool) (z : ℕ) → u.rest ≡ drop u.place u.text → u.text ≡ padded t z → length u.rest ≤ z → u.rest ≡ replicate (z - (u.place - length t)) false
+only_zeros u t z is text le =
+    let e : u.rest ≡ drop u.place (padded t z) = is ∙ ap (drop u.place) text in
+    e ∙ padded_rest u.place z t (omega (arith, le, ap length e))
+
+pub behind_zero : (u : Unread) (t : List Bool) (z : ℕ) → u.rest ≡ drop u.place u.text → u.text ≡ padded t z → length u.rest ≤ z → all_zero u.rest ≡ true
+behind_zero u t z is text le = ap all_zero (only_zeros u t z is text le) ∙ zeros_are_zero (z - (u.place - length t))
+
+pub behind_no_one : (u : Unread) (t : List Bool) (z : ℕ) → u.rest ≡ drop u.place u.text → u.text ≡ padded t z → length u.rest ≤ z → first_one u.rest ≡ 0
+behind_no_one u t z is text le = ap first_one (only_zeros u t z is text le) ∙ zeros_have_no_one (z - (u.place - length t))
+
+pub ruleset lengths = (length-bits, length-bits_of, length-append, length-drop, length-take, length-padded)

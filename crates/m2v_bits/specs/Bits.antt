@@ -46,6 +46,10 @@ ahead zero bs = []
 ahead (suc n) [] = false ∷ ahead n []
 ahead (suc n) (b ∷ bs) = b ∷ ahead n bs
 
+-- a text behind which so many zero bits stand
+unfoldable pub padded : List Bool → ℕ → List Bool
+padded t n = t ++ replicate n false
+
 -- how many bits stand between n and the edge of a byte
 abbrev pub to_edge : ℕ → ℕ
 to_edge n = (8 - n % 8) % 8

@@ -1,27 +1,29 @@
 ghost use Rattle.std.specs.Prelude.{◌≡◌, ℕ, ◌+◌, ◌-◌, ◌*◌, ◌/◌, ◌%◌, ◌^◌, ◌<◌, ◌≤◌, ◌++◌, ◌∷◌, [], length, take, drop, slice_index, ◌↔◌, IsNone, IfSome, IsTrue, replicate, false};
-ghost use Rattle.m2v_bits.specs.Bits.{Unread, IsSound, bits, bits_of, number, ahead, past, all_zero, first_one};
+ghost use Rattle.m2v_bits.specs.Bits.{Unread, IsSound, bits, bits_of, number, ahead, past, all_zero, first_one, padded};
 
 use crate::number::low;
 use std::marker::Model;
 
 /// Reads bits from bytes, the highest bit of each byte first (clause 5.2.2).
 ///
-/// Contracts see it as its whole text of bits, the place of the next bit, and the bits from there on.
+/// Contracts see it as its whole text of bits, the place of the next bit, and the bits from there on. Zero bits that
+/// end the text need not be kept as bytes: a unit may have any number of zero bytes behind what it says.
 #[derive(Drop)]
 pub struct BitReader<'a> {
     bytes: &'a [u8],
+    zeros: u64,
     place: u64,
 }
 
 impl<'a> Model for BitReader<'a> {
-    ghost use Rattle.std.specs.Prelude.{◌*◌, ◌^◌, ◌<◌, ◌≤◌, length, drop};
-    ghost use Rattle.m2v_bits.specs.Bits.{Unread, bits};
+    ghost use Rattle.std.specs.Prelude.{◌+◌, ◌*◌, ◌^◌, ◌<◌, ◌≤◌, length, drop};
+    ghost use Rattle.m2v_bits.specs.Bits.{Unread, bits, padded};
 
     ghost Value = { Unread };
 
-    ghost view = { λ r. record { text = bits r.bytes.now; place = r.place; rest = drop r.place (bits r.bytes.now) } };
+    ghost view = { λ r. record { text = padded (bits r.bytes.now) r.zeros; place = r.place; rest = drop r.place (padded (bits r.bytes.now) r.zeros) } };
 
-    ghost invariant = { λ r. (r.place ≤ 8 * length r.bytes.now) × (length r.bytes.now < 2 ^ 60) };
+    ghost invariant = { λ r. (r.place ≤ 8 * length r.bytes.now + r.zeros) × (8 * length r.bytes.now + r.zeros < 2 ^ 63) };
 }
 
 /// The byte at i, or 0 past the end.
@@ -76,7 +78,23 @@ impl<'a> BitReader<'a> {
         requires { length bytes.now < 2 ^ 60 }
         ensures { result ≡ record { text = bits bytes.now; place = 0; rest = bits bytes.now } }
     {
-        BitReader { bytes, place: 0 }
+        BitReader {
+            bytes,
+            zeros: 0,
+            place: 0,
+        }
+    }
+
+    /// A reader at the first bit of bytes behind which so many zero bits end the text, fewer than 2^63 bits in all.
+    pub fn with_zeros(bytes: &'a [u8], zeros: u64) -> BitReader<'a>
+        requires { 8 * length bytes.now + zeros < 2 ^ 63 }
+        ensures { result ≡ record { text = padded (bits bytes.now) zeros; place = 0; rest = padded (bits bytes.now) zeros } }
+    {
+        BitReader {
+            bytes,
+            zeros,
+            place: 0,
+        }
     }
 
     /// How many bits were taken.
@@ -94,7 +112,7 @@ impl<'a> BitReader<'a> {
         ensures value { result ≡ length self.now.rest }
         ensures below { result < 2 ^ 63 }
     {
-        8 * (self.bytes.len() as u64) - self.place
+        8 * (self.bytes.len() as u64) + self.zeros - self.place
     }
 
     /// The next n bits as a number, the highest first; zeros past the end.
@@ -142,8 +160,8 @@ impl<'a> BitReader<'a> {
         ensures { result ≡ all_zero self.now.rest }
     {
         let mut ahead = self.fork();
-        while ahead.left() > 0 {
-            let n = ahead.left().min(32) as u8;
+        while ahead.left() > self.zeros {
+            let n = (ahead.left() - self.zeros).min(32) as u8;
             if ahead.peek(n) != 0 {
                 return false;
             }
@@ -159,6 +177,7 @@ impl<'a> BitReader<'a> {
     {
         BitReader {
             bytes: self.bytes,
+            zeros: self.zeros,
             place: self.place,
         }
     }
@@ -170,7 +189,7 @@ impl<'a> BitReader<'a> {
         ensures within { result ≤ length self.now.rest }
     {
         let mut ahead = self.fork();
-        while ahead.left() > 0 {
+        while ahead.left() > self.zeros {
             if ahead.peek(1) != 0 {
                 return ahead.left();
             }
@@ -184,6 +203,6 @@ impl<'a> BitReader<'a> {
         ensures text { self.new.text ≡ self.old.text }
         ensures rest { self.new.rest ≡ [] }
     {
-        self.place = 8 * (self.bytes.len() as u64);
+        self.place = 8 * (self.bytes.len() as u64) + self.zeros;
     }
 }
