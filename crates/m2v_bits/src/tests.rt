@@ -54,7 +54,7 @@ fn reads_the_header_back(rt: HostRuntime) {
 fn zeros_behind_the_bytes_are_read(rt: HostRuntime) {
     let mut input = BitReader::with_zeros(&SEQUENCE[7..], 100);
     assert_eq!(rt; input.left(), 108);
-    assert_eq!(rt; input.left_from_one(), 104);
+    assert_eq!(rt; input.left_from_one(), 105);
     assert_eq!(rt; input.take(32), Some(0x1300_0000));
     assert!(rt; input.rest_is_zero());
     assert_eq!(rt; input.take(32), Some(0));
