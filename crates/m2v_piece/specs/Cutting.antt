@@ -4,7 +4,7 @@ use Rattle.m2v_model.specs.declared.phase.Phase.{Phase}
 use Rattle.m2v_model.specs.declared.phase.Phase.TheVariants.{Before, Headers, Picture}
 use Rattle.m2v_model.specs.Units.{cut}
 use Rattle.m2v_model.specs.Pieces.{grouped, piece_of, skipped, limit, Limit, too_long, most_input, trimmed}
-use Rattle.m2v_decode.specs.declared.answer.Piece.{Piece}
+use Rattle.m2v_piece.specs.declared.answer.Piece.{Piece}
 
 -- The piece at hand: the phase of its units, the place of its first byte, its bytes so far, and how many bytes of a
 -- start code's prefix 00 00 01 stand behind these, of which it isn't known yet whether they belong to it.
@@ -59,3 +59,22 @@ pub record IsPiece (p : Piece) (place : ℕ) (whole : List ℕ) : Type 0 where
 -- a piece passes a limit
 abbrev pub Passes : ℕ → Limit → List (List ℕ) → Type 0
 Passes place l pieces = (whole : List ℕ) × (others : List (List ℕ)) × (pieces ≡ whole ∷ others) × (limit place 0 whole ≡ Some l)
+
+-- ---- what contracts see of a cutter
+
+-- the place of what is read and not handed out, these bytes, whether the first sequence header was seen and the end
+-- code, and whether a call answered an error, behind which no other may come
+pub record Cutting : Type 0 where
+  pub place : ℕ
+  pub unread : List ℕ
+  pub begun : Bool
+  pub ended : Bool
+  pub failed : Bool
+
+-- the pieces that are left, where this text follows what is read
+abbrev pub left_of : Cutting → List ℕ → List (List ℕ)
+left_of c text = if c.ended then [] else open_pieces (if c.begun then Headers else Before) [] (c.unread ++ text)
+
+-- the place of the first of them, or of the end where there is none
+abbrev pub start_of : Cutting → List ℕ → ℕ
+start_of c text = if c.ended then c.place else open_start (if c.begun then Headers else Before) c.place (c.unread ++ text)

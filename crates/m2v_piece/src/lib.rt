@@ -1,4 +1,4 @@
-//! The decoder: a stream is cut into pieces, each piece is read, and its pictures are shown in order.
+//! A stream cut into pieces, each a picture with the header units before it, as they are read from a source.
 #![tactic(auto)]
 
 mod answer;

@@ -7,7 +7,7 @@ use Rattle.m2v_model.specs.declared.phase.Phase.{Phase}
 use Rattle.m2v_model.specs.declared.phase.Phase.TheVariants.{Before, Headers, Picture}
 use Rattle.m2v_model.specs.Units.{begins_code, cut}
 use Rattle.m2v_model.specs.Pieces.{grouped, phase_after, begins_piece, is_end, skipped, before_sequence}
-use Rattle.m2v_decode.specs.Cutting.{open_pieces, open_start, sure_after, place_after}
+use Rattle.m2v_piece.specs.Cutting.{open_pieces, open_start, sure_after, place_after}
 
 -- a byte at which no start code begins
 cut_plain : (b : ℕ) (t : List ℕ) → begins_code (b ∷ t) ≡ false → cut 0 (b ∷ t) ≡ (b ∷ (cut 0 t).0, (cut 0 t).1)
@@ -52,7 +52,7 @@ at_code phase sure v t =
 
 -- the first sequence header
 pub begins_first : (sure t : List ℕ) → open_pieces Before sure (0 ∷ 0 ∷ 1 ∷ 0xB3 ∷ t) ≡ open_pieces Headers [] (0 ∷ 0 ∷ 1 ∷ 0xB3 ∷ t)
-unfolding grouped
+unfolding grouped open_pieces cut is_end phase_after
 begins_first sure t = at_code Before sure 0xB3 t ∙ sym (at_code Headers [] 0xB3 t)
 
 pub starts_first : (place : ℕ) (t : List ℕ) → open_start Before place (0 ∷ 0 ∷ 1 ∷ 0xB3 ∷ t) ≡ place

@@ -27,7 +27,7 @@ pub enum DecodeError {
 
 impl From<Memory> for DecodeError {
     ghost use Rattle.std.specs.Prelude.{◌≡◌};
-    ghost use Rattle.m2v_decode.specs.declared.answer.DecodeError.TheVariants as errors;
+    ghost use Rattle.m2v_piece.specs.declared.answer.DecodeError.TheVariants as errors;
 
     ghost from_gives = { λ e f. f ≡ errors.Memory };
 
