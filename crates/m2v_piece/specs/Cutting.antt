@@ -1,10 +1,12 @@
 -- What a cutter holds of a text, and what it hands out.
-use Rattle.std.specs.Prelude.{◌≡◌, ℕ, ◌+◌, ◌≤◌, ◌<◌, Bool, true, false, not, List, [], ◌∷◌, ◌++◌, length, take, Option, Some, None, if◌then◌else◌}
+use Rattle.std.specs.Prelude.{◌≡◌, ◌⊎◌, ℕ, ◌+◌, ◌≤◌, ◌<◌, Bool, true, false, not, List, [], ◌∷◌, ◌++◌, length, take, Option, Some, None, nat_lt, if◌then◌else◌}
 use Rattle.m2v_model.specs.declared.phase.Phase.{Phase}
 use Rattle.m2v_model.specs.declared.phase.Phase.TheVariants.{Before, Headers, Picture}
 use Rattle.m2v_model.specs.Units.{cut}
-use Rattle.m2v_model.specs.Pieces.{grouped, piece_of, skipped, limit, Limit, too_long, most_input, trimmed}
+use Rattle.m2v_model.specs.Pieces.{grouped, piece_of, skipped, limit, Limit, too_long, too_large, most_input, trimmed}
 use Rattle.m2v_piece.specs.declared.answer.Piece.{Piece}
+use Rattle.m2v_piece.specs.declared.answer.DecodeError.{DecodeError}
+use Rattle.m2v_piece.specs.declared.answer.DecodeError.TheVariants as errors
 
 -- The piece at hand: the phase of its units, the place of its first byte, its bytes so far, and how many bytes of a
 -- start code's prefix 00 00 01 stand behind these, of which it isn't known yet whether they belong to it.
@@ -46,6 +48,12 @@ sure_after Before sure bytes = sure
 sure_after Headers sure bytes = sure ++ bytes
 sure_after Picture sure bytes = sure ++ bytes
 
+-- the first limit that sure bytes pass behind those that the piece has: before the first piece the one of the input
+unfoldable pub limit_in : Phase → ℕ → List ℕ → List ℕ → Option Limit
+limit_in Before place sure bytes = if nat_lt most_input (place + length bytes) then Some too_long else None
+limit_in Headers place sure bytes = limit place (length sure) bytes
+limit_in Picture place sure bytes = limit place (length sure) bytes
+
 abbrev pub behind : Held → List ℕ → Held
 behind h bytes = record { phase = h.phase; place = place_after h.phase h.place bytes; sure = sure_after h.phase h.sure bytes; ahead = h.ahead }
 
@@ -56,9 +64,35 @@ pub record IsPiece (p : Piece) (place : ℕ) (whole : List ℕ) : Type 0 where
   pub length : p.length ≡ length whole
   pub fits : limit place 0 whole ≡ None
 
--- a piece passes a limit
-abbrev pub Passes : ℕ → Limit → List (List ℕ) → Type 0
-Passes place l pieces = (whole : List ℕ) × (others : List (List ℕ)) × (pieces ≡ whole ∷ others) × (limit place 0 whole ≡ Some l)
+-- the byte that the sure bytes of a piece would pass a limit with; those before the first piece pass the input's limit
+abbrev pub limit_of : Held → List ℕ → Option Limit
+limit_of h bytes = limit_in h.phase h.place h.sure bytes
+
+-- a limit that is passed as the answer of a call; want of memory is the one free answer
+abbrev pub LimitErr : Option Limit → DecodeError → Type 0
+LimitErr passed errors.TooLong = passed ≡ Some too_long
+LimitErr passed errors.PictureTooLarge = passed ≡ Some too_large
+LimitErr passed errors.Memory = Unit {0}
+LimitErr passed errors.Read = ⊥
+LimitErr passed errors.Write = ⊥
+LimitErr passed (errors.Stream f) = ⊥
+
+-- the first of some pieces passes a limit, where it begins at a place
+pub record Passes (place : ℕ) (l : Limit) (pieces : List (List ℕ)) : Type 0 where
+  pub whole : List ℕ
+  pub others : List (List ℕ)
+  pub are : pieces ≡ whole ∷ others
+  pub decides : limit place 0 whole ≡ Some l
+
+-- Why the first of some pieces isn't handed out, where it begins at a place: it passes a limit, or the bytes before it
+-- do. Want of memory is the one free answer.
+abbrev pub Stops : ℕ → List (List ℕ) → DecodeError → Type 0
+Stops place pieces errors.TooLong = (most_input < place) ⊎ Passes place too_long pieces
+Stops place pieces errors.PictureTooLarge = Passes place too_large pieces
+Stops place pieces errors.Memory = Unit {0}
+Stops place pieces errors.Read = ⊥
+Stops place pieces errors.Write = ⊥
+Stops place pieces (errors.Stream f) = ⊥
 
 -- ---- what contracts see of a cutter
 

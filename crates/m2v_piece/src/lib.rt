@@ -2,6 +2,8 @@
 #![tactic(auto)]
 
 mod answer;
+mod chunk;
+mod hand;
 
 pub use answer::{DecodeError, Fault, Piece};
 

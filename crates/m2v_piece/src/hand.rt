@@ -1,0 +1,133 @@
+ghost use Rattle.std.specs.Prelude.{◌≡◌, ◌≢◌, ◌⊎◌, ℕ, ◌+◌, ◌-◌, ◌≤◌, ◌<◌, ◌^◌, ◌++◌, ◌∷◌, [], List, length, take, replicate, IfOk, IfErr, IfSome, OnOk, OnErr, IsErrOf, IsTrue, Ok, Err, None, Some, true, false, nat_eq};
+ghost use Rattle.m2v_model.specs.Pieces.{limit, too_long, too_large, is_end, begins_piece, phase_after};
+ghost use Rattle.m2v_piece.specs.Cutting.{Held, prefix, behind, limit_of, IsPiece, LimitErr};
+
+use crate::{DecodeError, Memory, Piece};
+use m2v_model::Phase;
+use std::alloc::Global;
+use std::marker::Model;
+use std::mem;
+
+/// The most bytes that a piece may have up to its last byte that isn't zero.
+const MOST_BYTES: u64 = 2_097_152;
+
+/// The most bytes that are read of an input without a sequence end code.
+const MOST_INPUT: u64 = 1 << 36;
+
+/// How many of the zero bytes that end a piece are handed on.
+const ZEROS: u64 = 64;
+
+/// The prefix of a start code.
+const PREFIX: [u8; 3] = [0, 0, 1];
+
+/// The piece at hand. Contracts see its bytes; the zero bytes that stand last are only counted.
+#[derive(Drop)]
+pub struct Hand {
+    phase: Phase,
+    place: u64,
+    bytes: Vec<u8>,
+    zeros: u64,
+    ahead: u8,
+}
+
+impl Model for Hand {
+    ghost use Rattle.std.specs.Prelude.{◌+◌, ◌≤◌, ◌^◌, ◌++◌, ◌≡◌, [], length, replicate};
+    ghost use Rattle.m2v_model.specs.declared.phase.Phase.TheVariants.{Before};
+    ghost use Rattle.m2v_model.specs.Pieces.{zeros_last};
+    ghost use Rattle.m2v_piece.specs.Cutting.{Held};
+
+    ghost Value = { Held };
+
+    ghost view = { λ h. record { phase = h.phase; place = h.place; sure = h.bytes.items ++ replicate h.zeros 0; ahead = h.ahead } };
+
+    ghost invariant = { λ h. (h.ahead ≤ 3) × (h.place + (length h.bytes.items + h.zeros) ≤ 2 ^ 36) × (zeros_last h.bytes.items ≡ 0) × (h.phase ≡ Before → length h.bytes.items + h.zeros ≡ 0) };
+}
+
+/// Appends so many zero bytes, and a byte.
+fn append(bytes: &mut Vec<u8>, zeros: u64, b: u8) -> Result<(), Memory>
+    requires { length bytes.old.items + zeros ≤ 2 ^ 36 }
+    ensures { OnOk result (bytes.new.items ≡ (bytes.old.items ++ replicate zeros 0) ++ b ∷ []) }
+{
+    let n = bytes.len() + zeros as usize;
+    bytes.resize(n, 0)?;
+    bytes.push(b)?;
+    Ok(())
+}
+
+impl Hand {
+    /// Before the first piece.
+    #[tactic(auto, unfolding(m2v_model::specs::Pieces::zeros_first))]
+    pub fn new(alloc: Global) -> Hand
+        ensures { result ≡ record { phase = Phase.Before; place = 0; sure = []; ahead = 0 } }
+    {
+        Hand {
+            phase: Phase::Before,
+            place: 0,
+            bytes: Vec::new(alloc),
+            zeros: 0,
+            ahead: 0,
+        }
+    }
+
+    /// One byte more is sure.
+    #[tactic(auto, unfolding(crate::specs::Cutting::limit_in, m2v_model::specs::Pieces::limit, m2v_model::specs::Pieces::zeros_first))]
+    fn put(&mut self, b: u8) -> Result<(), DecodeError>
+        ensures ok { OnOk result (self.new ≡ behind self.old (b ∷ [])) }
+        ensures fits { OnOk result (limit_of self.old (b ∷ []) ≡ None) }
+        ensures err { IfErr result (LimitErr (limit_of self.old (b ∷ []))) }
+    {
+        let at = self.bytes.len() as u64 + self.zeros;
+        if self.place + at >= MOST_INPUT {
+            return Err(DecodeError::TooLong);
+        }
+        if let Phase::Before = self.phase {
+            self.place += 1;
+            return Ok(());
+        }
+        if b == 0 {
+            self.zeros += 1;
+            return Ok(());
+        }
+        if at >= MOST_BYTES {
+            return Err(DecodeError::PictureTooLarge);
+        }
+        let Ok(()) = append(&mut self.bytes, self.zeros, b) else {
+            self.bytes.truncate(0);
+            self.zeros = 0;
+            return Err(DecodeError::Memory);
+        };
+        self.zeros = 0;
+        Ok(())
+    }
+
+    /// So many bytes more are sure, one after another.
+    fn put_all(&mut self, bytes: &[u8]) -> Result<(), DecodeError>
+        ensures ok { OnOk result (self.new ≡ behind self.old bytes.now) }
+        ensures fits { OnOk result (limit_of self.old bytes.now ≡ None) }
+        ensures err { IfErr result (LimitErr (limit_of self.old bytes.now)) }
+    {
+        let _held = &self.phase;
+        for b in bytes {
+            self.put(*b)?;
+        }
+        Ok(())
+    }
+
+    #[tactic(auto, using(crate::proofs::LimitLaws::settling))]
+    /// A byte that isn't the next one of a prefix: the prefix before it is none, and all of it is sure.
+    fn settle(&mut self, b: u8) -> Result<(), DecodeError>
+        requires ahead { self.old.ahead ≤ 2 }
+        requires some { nat_eq b 0 ≡ false }
+        requires none { self.old.ahead ≡ 2 → nat_eq b 1 ≡ false }
+        ensures ok { OnOk result (self.new ≡ record (behind self.old (prefix self.old.ahead ++ b ∷ [])) { ahead = 0 }) }
+        ensures fits { OnOk result (limit_of self.old (prefix self.old.ahead ++ b ∷ []) ≡ None) }
+        ensures err { IfErr result (LimitErr (limit_of self.old (prefix self.old.ahead ++ b ∷ []))) }
+    {
+        let ahead = self.ahead as usize;
+        let mut bytes = [0; 3];
+        bytes[ahead] = b;
+        self.put_all(&bytes[..ahead + 1])?;
+        self.ahead = 0;
+        Ok(())
+    }
+}
