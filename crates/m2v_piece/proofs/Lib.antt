@@ -1,3 +1,4 @@
 pub mod PieceLaws
 pub mod TrimLaws
 pub mod LimitLaws
+pub mod Steps

@@ -9,7 +9,7 @@ use Rattle.m2v_model.specs.Units.{Units, cut}
 use Rattle.m2v_model.specs.Pieces.{limit, Limit, too_long, too_large, most_input, most_bytes, grouped, phase_after, begins_piece, is_end, piece_of}
 use Rattle.m2v_piece.specs.declared.answer.DecodeError.{DecodeError}
 use Rattle.m2v_piece.specs.declared.answer.DecodeError.TheVariants as errors
-use Rattle.m2v_piece.specs.Cutting.{Held, open_pieces, limit_in, limit_of, behind, sure_after, place_after, open_start, LimitErr, Passes, Stops, prefix}
+use Rattle.m2v_piece.specs.Cutting.{Held, Fits, open_pieces, limit_in, limit_of, behind, sure_after, place_after, open_start, LimitErr, Passes, Stops, prefix}
 use Rattle.m2v_piece.proofs.PieceLaws.{Begins, begins_headers, begins_picture}
 
 -- the limit that the first byte passes, or that of the others
@@ -184,11 +184,6 @@ unfolding limit_in limit
 in_fits Before place sure xs fits none more = rw (none refl) refl
 in_fits Headers place sure xs fits none more = let n : 0 + length sure ≡ length sure = omega arith in limit_more place 0 sure xs fits ∙ rw n more
 in_fits Picture place sure xs fits none more = let n : 0 + length sure ≡ length sure = omega arith in limit_more place 0 sure xs fits ∙ rw n more
-
--- a held piece that passes no limit; before the first piece nothing is held
-pub record Fits (h : Held) : Type 0 where
-  pub limit : limit h.place 0 h.sure ≡ None
-  pub none : h.phase ≡ Before → h.sure ≡ []
 
 pub fits_more : (h : Held) (xs : List ℕ) → Fits h → limit_of h xs ≡ None → Fits (behind h xs)
 fits_more h xs f more = record { limit = in_fits h.phase h.place h.sure xs f.limit f.none more; none = λ e. by_phase h.phase h.sure e f.none }

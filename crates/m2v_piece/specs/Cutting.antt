@@ -1,5 +1,5 @@
 -- What a cutter holds of a text, and what it hands out.
-use Rattle.std.specs.Prelude.{◌≡◌, ◌⊎◌, ℕ, ◌+◌, ◌≤◌, ◌<◌, Bool, true, false, not, List, [], ◌∷◌, ◌++◌, length, take, Option, Some, None, nat_lt, if◌then◌else◌}
+use Rattle.std.specs.Prelude.{◌≡◌, ◌⊎◌, ℕ, suc, ◌+◌, ◌≤◌, ◌<◌, Bool, true, false, not, List, [], ◌∷◌, ◌++◌, length, take, Option, Some, None, nat_lt, if◌then◌else◌}
 use Rattle.m2v_model.specs.declared.phase.Phase.{Phase}
 use Rattle.m2v_model.specs.declared.phase.Phase.TheVariants.{Before, Headers, Picture}
 use Rattle.m2v_model.specs.Units.{cut}
@@ -57,6 +57,11 @@ limit_in Picture place sure bytes = limit place (length sure) bytes
 abbrev pub behind : Held → List ℕ → Held
 behind h bytes = record { phase = h.phase; place = place_after h.phase h.place bytes; sure = sure_after h.phase h.sure bytes; ahead = h.ahead }
 
+-- what is held passes no limit, and before the first piece nothing is held
+pub record Fits (h : Held) : Type 0 where
+  pub limit : limit h.place 0 h.sure ≡ None
+  pub none : h.phase ≡ Before → h.sure ≡ []
+
 -- the piece that is handed out
 pub record IsPiece (p : Piece) (place : ℕ) (whole : List ℕ) : Type 0 where
   pub bytes : p.bytes.items ≡ trimmed whole
@@ -93,6 +98,17 @@ Stops place pieces errors.Memory = Unit {0}
 Stops place pieces errors.Read = ⊥
 Stops place pieces errors.Write = ⊥
 Stops place pieces (errors.Stream f) = ⊥
+
+-- a byte was taken, and the pieces are the same whatever follows it
+pub record Took (old : Held) (b : ℕ) (new : Held) : Type 0 where
+  pub pieces : (text : List ℕ) → pieces_behind old (b ∷ text) ≡ pieces_behind new text
+  pub start : (text : List ℕ) → start_behind old (b ∷ text) ≡ start_behind new text
+  pub more : new.place + (length new.sure + new.ahead) ≡ suc (old.place + (length old.sure + old.ahead))
+  pub fits : Fits new
+
+-- a byte isn't taken, since the next piece passes a limit with it, whatever follows it
+abbrev pub StopsAt : Held → ℕ → DecodeError → Type 0
+StopsAt h b e = (text : List ℕ) → Stops (start_behind h (b ∷ text)) (pieces_behind h (b ∷ text)) e
 
 -- ---- what contracts see of a cutter
 

@@ -1,6 +1,6 @@
 ghost use Rattle.std.specs.Prelude.{◌≡◌, ◌≢◌, ◌⊎◌, ℕ, ◌+◌, ◌-◌, ◌≤◌, ◌<◌, ◌^◌, ◌++◌, ◌∷◌, [], List, length, take, replicate, IfOk, IfErr, IfSome, OnOk, OnErr, IsErrOf, IsTrue, Ok, Err, None, Some, true, false, nat_eq};
 ghost use Rattle.m2v_model.specs.Pieces.{limit, too_long, too_large, is_end, begins_piece, phase_after};
-ghost use Rattle.m2v_piece.specs.Cutting.{Held, prefix, behind, limit_of, IsPiece, LimitErr};
+ghost use Rattle.m2v_piece.specs.Cutting.{Held, Fits, prefix, behind, limit_of, IsPiece, LimitErr, Took, StopsAt};
 
 use crate::{DecodeError, Memory, Piece};
 use m2v_model::Phase;
@@ -113,8 +113,8 @@ impl Hand {
         Ok(())
     }
 
-    #[tactic(auto, using(crate::proofs::LimitLaws::settling))]
     /// A byte that isn't the next one of a prefix: the prefix before it is none, and all of it is sure.
+    #[tactic(auto, using(crate::proofs::LimitLaws::settling))]
     fn settle(&mut self, b: u8) -> Result<(), DecodeError>
         requires ahead { self.old.ahead ≤ 2 }
         requires some { nat_eq b 0 ≡ false }
@@ -129,5 +129,60 @@ impl Hand {
         self.put_all(&bytes[..ahead + 1])?;
         self.ahead = 0;
         Ok(())
+    }
+
+    /// A third zero byte: the first of them is sure.
+    fn third_zero(&mut self) -> Result<(), DecodeError>
+        requires ahead { self.old.ahead ≡ 2 }
+        requires fits { Fits self.old }
+        ensures ok { OnOk result (Took self.old 0 self.new) }
+        ensures err { IfErr result (StopsAt self.old 0) }
+    {
+        self.put(0)
+    }
+
+    /// A byte that shows that the prefix before it is none.
+    fn other(&mut self, b: u8) -> Result<(), DecodeError>
+        requires ahead { self.old.ahead ≤ 2 }
+        requires some { nat_eq b 0 ≡ false }
+        requires none { self.old.ahead ≡ 2 → nat_eq b 1 ≡ false }
+        requires fits { Fits self.old }
+        ensures ok { OnOk result (Took self.old b self.new) }
+        ensures err { IfErr result (StopsAt self.old b) }
+    {
+        self.settle(b)
+    }
+
+    /// One byte more of a prefix.
+    fn longer(&mut self, b: u8)
+        requires next { prefix (self.old.ahead + 1) ≡ prefix self.old.ahead ++ b ∷ [] }
+        requires ahead { self.old.ahead < 3 }
+        requires fits { Fits self.old }
+        ensures { Took self.old b self.new }
+    {
+        self.ahead += 1;
+    }
+
+    /// A byte behind fewer than the three bytes of a prefix.
+    pub fn plain(&mut self, b: u8) -> Result<(), DecodeError>
+        requires ahead { self.old.ahead < 3 }
+        requires fits { Fits self.old }
+        ensures ok { OnOk result (Took self.old b self.new) }
+        ensures err { IfErr result (StopsAt self.old b) }
+    {
+        if b == 0 {
+            if self.ahead < 2 {
+                self.longer(b);
+                return Ok(());
+            }
+            return self.third_zero();
+        }
+        if b == 1 {
+            if self.ahead == 2 {
+                self.longer(b);
+                return Ok(());
+            }
+        }
+        self.other(b)
     }
 }
