@@ -117,7 +117,7 @@ err_stays h xs ys (errors.Stream f) some = some
 -- ---- what stops a cutter
 
 -- the bytes of a piece that are sure pass a limit, and so does the piece
-stops_piece : (place : ℕ) (bytes : List ℕ) (pieces : List (List ℕ)) (e : DecodeError) → Begins bytes pieces → LimitErr (limit place 0 bytes) e → Stops place pieces e
+pub stops_piece : (place : ℕ) (bytes : List ℕ) (pieces : List (List ℕ)) (e : DecodeError) → Begins bytes pieces → LimitErr (limit place 0 bytes) e → Stops place pieces e
 stops_piece place bytes pieces errors.TooLong b some = inr (record { whole = bytes ++ b.more; others = b.others; are = b.are; decides = limit_stays place 0 bytes b.more too_long some })
 stops_piece place bytes pieces errors.PictureTooLarge b some = record { whole = bytes ++ b.more; others = b.others; are = b.are; decides = limit_stays place 0 bytes b.more too_large some }
 stops_piece place bytes pieces errors.Memory b some = tt
@@ -134,7 +134,7 @@ before_long true e = refl
 before_long false e = absurd cc
 
 -- bytes before the first piece pass the input's limit
-stops_before : (place start : ℕ) (xs : List ℕ) (pieces : List (List ℕ)) (e : DecodeError) → place + length xs ≤ start → LimitErr (limit_in Before place [] xs) e → Stops start pieces e
+pub stops_before : (place start : ℕ) (xs : List ℕ) (pieces : List (List ℕ)) (e : DecodeError) → place + length xs ≤ start → LimitErr (limit_in Before place [] xs) e → Stops start pieces e
 unfolding limit_in
 stops_before place start xs pieces errors.TooLong le some = inl (omega (arith, le, ltb-true _ _ (before_long (nat_lt most_input (place + length xs)) some)))
 stops_before place start xs pieces errors.PictureTooLarge le some = absurd (before_large (nat_lt most_input (place + length xs)) some)
@@ -143,27 +143,27 @@ stops_before place start xs pieces errors.Read le some = absurd some
 stops_before place start xs pieces errors.Write le some = absurd some
 stops_before place start xs pieces (errors.Stream f) le some = absurd some
 
-started : (place : ℕ) (xs t : List ℕ) → place + length xs ≤ open_start Before (place + length xs) t
+pub started : (place : ℕ) (xs t : List ℕ) → place + length xs ≤ open_start Before (place + length xs) t
 unfolding open_start
 started place xs t = omega arith
 
-same_before : (place : ℕ) (sure xs : List ℕ) (e : DecodeError) → LimitErr (limit_in Before place sure xs) e → LimitErr (limit_in Before place [] xs) e
+pub same_before : (place : ℕ) (sure xs : List ℕ) (e : DecodeError) → LimitErr (limit_in Before place sure xs) e → LimitErr (limit_in Before place [] xs) e
 unfolding limit_in
 same_before place sure xs e some = some
 
-headers_begin : (sure : List ℕ) (b : ℕ) (bs t : List ℕ) → Begins (sure ++ b ∷ bs) (open_pieces Headers (sure ++ b ∷ bs) t)
+pub headers_begin : (sure : List ℕ) (b : ℕ) (bs t : List ℕ) → Begins (sure ++ b ∷ bs) (open_pieces Headers (sure ++ b ∷ bs) t)
 headers_begin [] b bs t = begins_headers b bs t
 headers_begin (x ∷ sure) b bs t = begins_headers x (sure ++ b ∷ bs) t
 
-picture_begin : (sure : List ℕ) (b : ℕ) (bs t : List ℕ) → Begins (sure ++ b ∷ bs) (open_pieces Picture (sure ++ b ∷ bs) t)
+pub picture_begin : (sure : List ℕ) (b : ℕ) (bs t : List ℕ) → Begins (sure ++ b ∷ bs) (open_pieces Picture (sure ++ b ∷ bs) t)
 picture_begin [] b bs t = begins_picture b bs t
 picture_begin (x ∷ sure) b bs t = begins_picture x (sure ++ b ∷ bs) t
 
-grown : (place : ℕ) (sure xs : List ℕ) (e : DecodeError) → limit place 0 sure ≡ None → LimitErr (limit_in Headers place sure xs) e → LimitErr (limit place 0 (sure ++ xs)) e
+pub grown : (place : ℕ) (sure xs : List ℕ) (e : DecodeError) → limit place 0 sure ≡ None → LimitErr (limit_in Headers place sure xs) e → LimitErr (limit place 0 (sure ++ xs)) e
 unfolding limit_in
 grown place sure xs e fits some = let n : 0 + length sure ≡ length sure = omega arith in subst (λ (o : Option Limit). LimitErr o e) (sym (limit_more place 0 sure xs fits ∙ rw n refl)) some
 
-grown_picture : (place : ℕ) (sure xs : List ℕ) (e : DecodeError) → limit place 0 sure ≡ None → LimitErr (limit_in Picture place sure xs) e → LimitErr (limit place 0 (sure ++ xs)) e
+pub grown_picture : (place : ℕ) (sure xs : List ℕ) (e : DecodeError) → limit place 0 sure ≡ None → LimitErr (limit_in Picture place sure xs) e → LimitErr (limit place 0 (sure ++ xs)) e
 unfolding limit_in
 grown_picture place sure xs e fits some = let n : 0 + length sure ≡ length sure = omega arith in subst (λ (o : Option Limit). LimitErr o e) (sym (limit_more place 0 sure xs fits ∙ rw n refl)) some
 

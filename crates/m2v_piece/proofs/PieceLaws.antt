@@ -1,6 +1,6 @@
 -- How the pieces of a text follow from it byte by byte.
 use Rattle.std.proofs.Common.{◌≡◌, ℕ, zero, suc, ◌+◌, ◌<◌, ◌≤◌, Bool, true, false, cond, List, [], ◌∷◌, ◌++◌, length, take, drop, refl, sym, ap, subst, ◌∙◌, append_assoc, arith}
-use Rattle.std.specs.Prelude.{nat_eq, ◌&&◌, slice_index, if◌then◌else◌}
+use Rattle.std.specs.Prelude.{nat_eq, ◌&&◌, ◌||◌, slice_index, if◌then◌else◌}
 use Rattle.std.proofs.lemmas.Bool.{cond-true, cond-false}
 use Rattle.std.proofs.lemmas.List.{append-nil, length-append}
 use Rattle.m2v_model.specs.declared.phase.Phase.{Phase}
@@ -228,3 +228,53 @@ begins_headers b bs t = open_begins false b bs t
 pub begins_picture : (b : ℕ) (bs t : List ℕ) → Begins (b ∷ bs) (open_pieces Picture (b ∷ bs) t)
 unfolding phase_by
 begins_picture b bs t = open_begins true b bs t
+
+pub begins_behind : (v b : ℕ) (bs t : List ℕ) → Begins (b ∷ bs) (open_pieces (phase_after Headers v) (b ∷ bs) t)
+begins_behind v b bs t = subst (λ (phase : Phase). Begins (b ∷ bs) (open_pieces phase (b ∷ bs) t)) (sym (by_value v)) (open_begins (nat_eq v 0) b bs t)
+
+pub behind_is_open : (v place : ℕ) (t : List ℕ) → open_start (phase_after Headers v) place t ≡ place
+unfolding phase_after open_start
+behind_is_open v place t = by_cases (nat_eq v 0)
+  where
+    by_cases : (b : Bool) → open_start (if b then Picture else Headers) place t ≡ place
+    by_cases true = refl
+    by_cases false = refl
+
+pub behind_not_before : (v : ℕ) → phase_after Headers v ≡ Before → ⊥
+unfolding phase_after
+behind_not_before v = by_cases (nat_eq v 0)
+  where
+    by_cases : (b : Bool) → (if b then Picture else Headers) ≡ Before → ⊥
+    by_cases true e = absurd cc
+    by_cases false e = absurd cc
+
+-- a value that begins no piece isn't that of the end code
+or_last : (a b c d : Bool) → (a || b || c || d) ≡ false → c ≡ false
+or_last true b c d e = absurd cc
+or_last false true c d e = absurd cc
+or_last false false true d e = absurd cc
+or_last false false false d e = refl
+
+pub no_end : (v : ℕ) → begins_piece v ≡ false → is_end v ≡ false
+unfolding begins_piece is_end
+no_end v off = or_last (nat_eq v 0x00) (nat_eq v 0xB3) (nat_eq v 0xB7) (nat_eq v 0xB8) off
+
+-- ---- the end of the text
+
+pub ends_at : (phase : Phase) (sure : List ℕ) (ahead : ℕ) → ahead ≤ 3 → open_pieces phase sure (prefix ahead ++ []) ≡ grouped phase (sure ++ prefix ahead) []
+unfolding open_pieces cut
+ends_at phase sure zero le = refl
+ends_at phase sure (suc zero) le = refl
+ends_at phase sure (suc (suc zero)) le = refl
+ends_at phase sure (suc (suc (suc zero))) le = refl
+ends_at phase sure (suc (suc (suc (suc n)))) le = absurd (omega arith)
+
+pub ends_start : (phase : Phase) (place ahead : ℕ) → ahead ≤ 3 → open_start phase place (prefix ahead ++ []) ≡ place_after phase place (prefix ahead)
+unfolding open_start cut before_sequence
+ends_start Before place zero le = refl
+ends_start Before place (suc zero) le = refl
+ends_start Before place (suc (suc zero)) le = refl
+ends_start Before place (suc (suc (suc zero))) le = refl
+ends_start Before place (suc (suc (suc (suc n)))) le = absurd (omega arith)
+ends_start Headers place ahead le = refl
+ends_start Picture place ahead le = refl

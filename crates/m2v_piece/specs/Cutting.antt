@@ -1,9 +1,9 @@
 -- What a cutter holds of a text, and what it hands out.
-use Rattle.std.specs.Prelude.{◌≡◌, ◌⊎◌, ℕ, suc, ◌+◌, ◌≤◌, ◌<◌, Bool, true, false, not, List, [], ◌∷◌, ◌++◌, length, take, Option, Some, None, nat_lt, if◌then◌else◌}
+use Rattle.std.specs.Prelude.{◌≡◌, ◌⊎◌, ℕ, suc, ◌+◌, ◌≤◌, ◌<◌, Bool, true, false, not, List, [], ◌∷◌, ◌++◌, length, take, Option, Some, None, nat_lt, nat_eq, if◌then◌else◌}
 use Rattle.m2v_model.specs.declared.phase.Phase.{Phase}
 use Rattle.m2v_model.specs.declared.phase.Phase.TheVariants.{Before, Headers, Picture}
 use Rattle.m2v_model.specs.Units.{cut}
-use Rattle.m2v_model.specs.Pieces.{grouped, piece_of, skipped, limit, Limit, too_long, too_large, most_input, trimmed}
+use Rattle.m2v_model.specs.Pieces.{grouped, piece_of, skipped, limit, Limit, too_long, too_large, most_input, trimmed, phase_after, is_end, begins_piece}
 use Rattle.m2v_piece.specs.declared.answer.Piece.{Piece}
 use Rattle.m2v_piece.specs.declared.answer.DecodeError.{DecodeError}
 use Rattle.m2v_piece.specs.declared.answer.DecodeError.TheVariants as errors
@@ -109,6 +109,42 @@ pub record Took (old : Held) (b : ℕ) (new : Held) : Type 0 where
 -- a byte isn't taken, since the next piece passes a limit with it, whatever follows it
 abbrev pub StopsAt : Held → ℕ → DecodeError → Type 0
 StopsAt h b e = (text : List ℕ) → Stops (start_behind h (b ∷ text)) (pieces_behind h (b ∷ text)) e
+
+-- a start code
+abbrev pub code_of : ℕ → List ℕ
+code_of value = 0 ∷ 0 ∷ 1 ∷ value ∷ []
+
+-- the phase behind a unit that belongs to the piece
+abbrev pub phase_behind : Phase → ℕ → Phase
+phase_behind Before value = Before
+phase_behind Headers value = phase_after Headers value
+phase_behind Picture value = Picture
+
+-- a unit neither begins nor ends a piece
+abbrev pub GoesOn : Phase → ℕ → Type 0
+GoesOn Before value = nat_eq value 0xB3 ≡ false
+GoesOn Headers value = is_end value ≡ false
+GoesOn Picture value = begins_piece value ≡ false
+
+-- the end code was taken, and all that is held is the last piece
+pub record Ends (old new : Held) : Type 0 where
+  pub pieces : (text : List ℕ) → pieces_behind old (0xB7 ∷ text) ≡ new.sure ∷ []
+  pub place : new.place ≡ old.place
+  pub fits : Fits new
+
+-- the first piece begins, and its value stands next
+pub record Begun (old new : Held) : Type 0 where
+  pub pieces : (text : List ℕ) → pieces_behind old (0xB3 ∷ text) ≡ pieces_behind new (0xB3 ∷ text)
+  pub start : (text : List ℕ) → start_behind old (0xB3 ∷ text) ≡ start_behind new (0xB3 ∷ text)
+  pub is : new ≡ record old { phase = Headers }
+  pub fits : Fits new
+
+-- the input has ended, and all that is held is the last piece
+pub record Finished (old new : Held) : Type 0 where
+  pub pieces : pieces_behind old [] ≡ grouped new.phase new.sure []
+  pub start : start_behind old [] ≡ new.place
+  pub phase : new.phase ≡ old.phase
+  pub fits : Fits new
 
 -- ---- what contracts see of a cutter
 

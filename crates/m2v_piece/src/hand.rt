@@ -1,6 +1,6 @@
-ghost use Rattle.std.specs.Prelude.{◌≡◌, ◌≢◌, ◌⊎◌, ℕ, ◌+◌, ◌-◌, ◌≤◌, ◌<◌, ◌^◌, ◌++◌, ◌∷◌, [], List, length, take, replicate, IfOk, IfErr, IfSome, OnOk, OnErr, IsErrOf, IsTrue, Ok, Err, None, Some, true, false, nat_eq};
+ghost use Rattle.std.specs.Prelude.{◌≡◌, ◌≢◌, ◌⊎◌, ℕ, ◌+◌, ◌-◌, ◌≤◌, ◌<◌, ◌^◌, ◌++◌, ◌∷◌, [], List, length, take, replicate, min, IfOk, IfErr, IfSome, OnOk, OnErr, IsErrOf, IsTrue, Ok, Err, None, Some, true, false, nat_eq};
 ghost use Rattle.m2v_model.specs.Pieces.{limit, too_long, too_large, is_end, begins_piece, phase_after};
-ghost use Rattle.m2v_piece.specs.Cutting.{Held, Fits, prefix, behind, limit_of, IsPiece, LimitErr, Took, StopsAt};
+ghost use Rattle.m2v_piece.specs.Cutting.{Held, Fits, prefix, behind, limit_of, IsPiece, LimitErr, Took, StopsAt, Stops, pieces_behind, start_behind, code_of, phase_behind, GoesOn, Ends, Begun, Finished};
 
 use crate::{DecodeError, Memory, Piece};
 use m2v_model::Phase;
@@ -52,6 +52,34 @@ fn append(bytes: &mut Vec<u8>, zeros: u64, b: u8) -> Result<(), Memory>
     bytes.resize(n, 0)?;
     bytes.push(b)?;
     Ok(())
+}
+
+/// Appends so many zero bytes, or the most that are kept.
+fn pad(bytes: &mut Vec<u8>, zeros: u64) -> Result<(), Memory>
+    requires { length bytes.old.items + zeros ≤ 2 ^ 36 }
+    ensures { OnOk result (bytes.new.items ≡ bytes.old.items ++ replicate (min 64 zeros) 0) }
+{
+    let n = bytes.len() + zeros.min(ZEROS) as usize;
+    bytes.resize(n, 0)?;
+    Ok(())
+}
+
+/// The phase behind a unit.
+#[tactic(auto, unfolding(m2v_model::specs::Pieces::phase_after))]
+fn phase_of(phase: Phase, value: u8) -> Phase
+    ensures { result ≡ phase_behind phase value }
+{
+    match phase {
+        Phase::Before => Phase::Before,
+        Phase::Picture => Phase::Picture,
+        Phase::Headers => {
+            if value == 0 {
+                Phase::Picture
+            } else {
+                Phase::Headers
+            }
+        }
+    }
 }
 
 impl Hand {
@@ -184,5 +212,89 @@ impl Hand {
             }
         }
         self.other(b)
+    }
+
+    /// A start code that belongs to the piece: its four bytes are sure.
+    fn code(&mut self, value: u8) -> Result<(), DecodeError>
+        ensures ok { OnOk result (self.new ≡ record (behind self.old (code_of value)) { ahead = 0 }) }
+        ensures fits { OnOk result (limit_of self.old (code_of value) ≡ None) }
+        ensures err { IfErr result (LimitErr (limit_of self.old (code_of value))) }
+    {
+        self.put_all(&[0, 0, 1, value])?;
+        self.ahead = 0;
+        Ok(())
+    }
+
+    /// A unit of the piece, or one before the first piece, by the value behind a prefix.
+    pub fn unit(&mut self, value: u8) -> Result<(), DecodeError>
+        requires ahead { self.old.ahead ≡ 3 }
+        requires goes_on { GoesOn self.old.phase value }
+        requires fits { Fits self.old }
+        ensures ok { OnOk result (Took self.old value self.new) }
+        ensures err { IfErr result (StopsAt self.old value) }
+    {
+        match self.code(value) {
+            Ok(()) => {
+                self.phase = phase_of(self.phase, value);
+                Ok(())
+            }
+            Err(e) => Err(e),
+        }
+    }
+
+    /// The sequence end code, which ends the last piece.
+    pub fn end(&mut self) -> Result<(), DecodeError>
+        requires ahead { self.old.ahead ≡ 3 }
+        requires phase { self.old.phase ≡ Phase.Headers }
+        requires fits { Fits self.old }
+        ensures ok { OnOk result (Ends self.old self.new) }
+        ensures err { IfErr result (StopsAt self.old 0xB7) }
+    {
+        self.code(0xB7)
+    }
+
+    /// The first sequence header begins the first piece. Its value isn't taken.
+    pub fn begin(&mut self)
+        requires ahead { self.old.ahead ≡ 3 }
+        requires phase { self.old.phase ≡ Phase.Before }
+        requires fits { Fits self.old }
+        ensures { Begun self.old self.new }
+    {
+        self.phase = Phase::Headers;
+    }
+
+    /// The input ends: what could begin a start code is sure.
+    pub fn finish(&mut self) -> Result<(), DecodeError>
+        requires fits { Fits self.old }
+        ensures ok { OnOk result (Finished self.old self.new) }
+        ensures err { IfErr result (λ e. Stops (start_behind self.old []) (pieces_behind self.old []) e) }
+    {
+        let ahead = self.ahead as usize;
+        if ahead > 0 {
+            self.put_all(&PREFIX[..ahead])?;
+            self.ahead = 0;
+        }
+        Ok(())
+    }
+
+    /// Hands the piece out; the next one begins behind it.
+    #[tactic(auto, unfolding(m2v_model::specs::Pieces::zeros_first))]
+    pub fn hand_out(&mut self, alloc: Global) -> Result<Piece, Memory>
+        requires fits { Fits self.old }
+        ensures piece { IfOk result (λ p. IsPiece p self.old.place self.old.sure) }
+        ensures next { OnOk result (self.new ≡ record { phase = Phase.Headers; place = self.old.place + length self.old.sure; sure = []; ahead = self.old.ahead }) }
+    {
+        let (place, zeros) = (self.place, self.zeros);
+        let length = self.bytes.len() as u64 + zeros;
+        self.phase = Phase::Headers;
+        self.place = place + length;
+        self.zeros = 0;
+        let mut bytes = mem::replace(&mut self.bytes, Vec::new(alloc));
+        pad(&mut bytes, zeros)?;
+        Ok(Piece {
+            bytes,
+            place,
+            length,
+        })
     }
 }

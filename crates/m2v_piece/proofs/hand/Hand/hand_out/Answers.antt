@@ -1,0 +1,14 @@
+use Rattle.std.proofs.Common.{arith, ap, sym, ◌∙◌, ◌≡◌, ◌++◌, replicate, refl, min, List, ℕ}
+use Rattle.m2v_piece.proofs.TrimLaws.{trimmed_is, length-sure}
+use Rattle.m2v_piece.proofs.hand.Hand.hand_out.Goals as goal
+
+pub returns-clause-piece : goal.returns-clause-piece
+returns-clause-piece c =
+    let h = c.self.inside in
+    rw (← c.self.view_is)
+    (record {
+      bytes = c.in_ok-pad.ensures ∙ ap (λ v. v.items ++ replicate (min 64 h.zeros) 0) c.replace-bytes.ensures.value ∙ trimmed_is h.bytes.items h.zeros c.self.invariant.2;
+      at = refl;
+      length = omega (arith, length-sure h.bytes.items h.zeros, c.len.ensures);
+      fits = rw (← c.self.view_is) at c.requires.fits.limit;
+    })
