@@ -67,7 +67,7 @@ impl Chunk {
     }
 
     /// The first byte.
-    fn first(&self) -> u8
+    pub fn first(&self) -> u8
         requires { 0 < length self.now }
         ensures { result ≡ slice_index self.now 0 }
     {
@@ -92,24 +92,21 @@ impl Chunk {
         Ok(n)
     }
 
-    /// The next byte, which stays; None at the end.
-    pub fn peek<S: Source>(&mut self, input: &mut S) -> Result<Option<u8>, DecodeError>
-        ensures read { IfOk result (λ o. Refilled self.old (S.left input.old) self.new (S.left input.new)) }
-        ensures first { IfOk result (λ o. IfSome o (λ b. (0 < length self.new) × (b ≡ slice_index self.new 0))) }
-        ensures end { result ≡ Ok None → (self.new ≡ []) × IsAtEnd (S.left input.new) }
+    /// Reads on where no byte is left. Answers whether there is one.
+    pub fn fill<S: Source>(&mut self, input: &mut S) -> Result<bool, DecodeError>
+        ensures read { IfOk result (λ some. Refilled self.old (S.left input.old) self.new (S.left input.new)) }
+        ensures some { result ≡ Ok true → 0 < length self.new }
+        ensures end { result ≡ Ok false → (self.new ≡ []) × IsAtEnd (S.left input.new) }
         ensures err { OnErr result (S.left input.new ≡ S.left input.old) }
         ensures failed { IsErrOf result DecodeError.Read → Rose (S.faults input.old) (S.faults input.new) }
         ensures only { IfErr result (λ e. (e ≡ DecodeError.Read) ⊎ (e ≡ DecodeError.Memory)) }
         ensures faults { S.faults input.old ≤ S.faults input.new }
     {
         if self.len() > 0 {
-            return Ok(Some(self.first()));
+            return Ok(true);
         }
         let n = self.refill(input)?;
-        if n == 0 {
-            return Ok(None);
-        }
-        Ok(Some(self.first()))
+        Ok(n > 0)
     }
 
     /// Passes over a byte.

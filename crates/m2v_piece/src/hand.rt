@@ -1,4 +1,4 @@
-ghost use Rattle.std.specs.Prelude.{◌≡◌, ◌≢◌, ◌⊎◌, ℕ, ◌+◌, ◌-◌, ◌≤◌, ◌<◌, ◌^◌, ◌++◌, ◌∷◌, [], List, length, take, replicate, min, IfOk, IfErr, IfSome, OnOk, OnErr, IsErrOf, IsTrue, Ok, Err, None, Some, true, false, nat_eq};
+ghost use Rattle.std.specs.Prelude.{◌≡◌, ◌≢◌, ◌⊎◌, ◌↔◌, ℕ, ◌+◌, ◌-◌, ◌≤◌, ◌<◌, ◌^◌, ◌++◌, ◌∷◌, [], List, length, take, replicate, min, IfOk, IfErr, IfSome, OnOk, OnErr, IsErrOf, IsTrue, Ok, Err, None, Some, true, false, nat_eq};
 ghost use Rattle.m2v_model.specs.Pieces.{limit, too_long, too_large, is_end, begins_piece, phase_after};
 ghost use Rattle.m2v_piece.specs.Cutting.{Held, Fits, prefix, behind, limit_of, IsPiece, LimitErr, Took, StopsAt, Stops, pieces_behind, start_behind, code_of, phase_behind, GoesOn, Ends, Begun, Finished};
 
@@ -95,6 +95,36 @@ impl Hand {
             zeros: 0,
             ahead: 0,
         }
+    }
+
+    /// How many bytes of a prefix stand behind the sure ones; and a bound on what is held.
+    pub fn ahead(&self) -> u8
+        ensures value { result ≡ self.now.ahead }
+        ensures most { result ≤ 3 }
+        ensures bound { self.now.place + (length self.now.sure + self.now.ahead) ≤ 2 ^ 36 + 3 }
+    {
+        self.ahead
+    }
+
+    /// The phase of the units.
+    pub fn phase(&self) -> Phase
+        ensures { result ≡ self.now.phase }
+    {
+        self.phase
+    }
+
+    /// Where the piece begins, and how many bytes of it are sure.
+    pub fn is_empty(&self) -> bool
+        ensures { IsTrue result ↔ (self.now.sure ≡ []) }
+    {
+        self.bytes.len() as u64 + self.zeros == 0
+    }
+
+    /// The place of the piece's first byte.
+    pub fn place(&self) -> u64
+        ensures { result ≡ self.now.place }
+    {
+        self.place
     }
 
     /// One byte more is sure.

@@ -3,7 +3,9 @@
 
 mod answer;
 mod chunk;
+mod cutter;
 mod hand;
+mod taking;
 
 pub use answer::{DecodeError, Fault, Piece};
 

@@ -1,0 +1,100 @@
+-- Where the bytes stop that are looked at for one piece.
+use Rattle.std.proofs.Common.{◌≡◌, ℕ, ◌+◌, ◌<◌, ◌≤◌, List, [], ◌∷◌, ◌++◌, length, get_or, drop, Option, Result, Ok, Err, IfErr, IsErrOf, refl, sym, ap, subst, ◌∙◌, append_assoc, arith}
+use Rattle.std.proofs.lemmas.List.{drop_more}
+use Rattle.m2v_model.specs.declared.phase.Phase.TheVariants.{Before, Headers, Picture}
+use Rattle.m2v_piece.specs.declared.answer.DecodeError.{DecodeError}
+use Rattle.m2v_piece.specs.declared.answer.DecodeError.TheVariants as errors
+use Rattle.m2v_piece.specs.Reads.{Refilled}
+use Rattle.m2v_piece.specs.Cutting.{Held, Fits, open_pieces, open_start, pieces_behind, start_behind, Stops}
+use Rattle.m2v_port.proofs.Runs.{moves_on}
+use Rattle.m2v_piece.specs.declared.cutter.Stand.{Stand}
+use Rattle.m2v_piece.specs.declared.cutter.Stand.TheVariants.{Boundary, Ending, Over}
+use Rattle.m2v_piece.specs.Stepping.{IsWhole, IsLast, Why, Fails, Advanced, Looked, Stood}
+use Rattle.m2v_piece.proofs.PieceLaws.{ends_piece}
+
+-- a chunk by its first byte
+pub by_first : (xs rest : List ℕ) (b : ℕ) → 0 < length xs → b ≡ get_or xs 0 0 → b ∷ (drop 1 xs ++ rest) ≡ xs ++ rest
+by_first [] rest b lt e = absurd (omega arith)
+by_first (x ∷ xs) rest b lt e = ap (λ (y : ℕ). y ∷ (xs ++ rest)) e
+
+pub whole_stood : (h new : Held) (b : ℕ) (t : List ℕ) → IsWhole h b new → (pieces_behind h (b ∷ t) ≡ new.sure ∷ open_pieces Headers [] (0 ∷ 0 ∷ 1 ∷ b ∷ t)) × (start_behind h (b ∷ t) ≡ new.place)
+unfolding open_start
+whole_stood h new b t w = rw (w.same, w.ahead, w.phase) (ends_piece h.sure b t w.begins, refl)
+
+pub last_stood : (h new : Held) (b : ℕ) (t : List ℕ) → IsLast h b new → (pieces_behind h (b ∷ t) ≡ new.sure ∷ []) × (start_behind h (b ∷ t) ≡ new.place)
+unfolding open_start
+last_stood h new b t l = rw (l.value) (l.ends.pieces t, rw (l.ahead, l.phase) (sym l.ends.place))
+
+-- ---- with the bytes that are read
+
+-- what is wrong with a text that was read in part is wrong with it as it was
+pub stops_why : (start : ℕ) (pieces : List (List ℕ)) (e : DecodeError) → Stops start pieces e → Why start pieces e
+stops_why start pieces errors.Read why = tt
+stops_why start pieces errors.Memory why = tt
+stops_why start pieces errors.TooLong why = why
+stops_why start pieces errors.PictureTooLarge why = why
+stops_why start pieces errors.Write why = why
+stops_why start pieces (errors.Stream f) why = why
+
+joined_text : (chunk filled bytes rest : List ℕ) → filled ≡ chunk ++ bytes → filled ++ rest ≡ chunk ++ (bytes ++ rest)
+joined_text chunk filled bytes rest e = ap (λ (x : List ℕ). x ++ rest) e ∙ append_assoc chunk bytes rest
+
+pub filled_fails : (h : Held) (chunk filled : List ℕ) (left left' : Option (List ℕ)) (e : DecodeError) → Refilled chunk left filled left'
+    → ((rest : List ℕ) → Stops (start_behind h (filled ++ rest)) (pieces_behind h (filled ++ rest)) e) → Fails h chunk left left' e
+filled_fails h chunk filled left left' e r why = record {
+  bytes = r.bytes;
+  moved = r.moved;
+  why = λ rest told. subst (λ (t : List ℕ). Why (start_behind h t) (pieces_behind h t) e) (joined_text chunk filled r.bytes rest r.grown) (stops_why _ _ e (why rest));
+}
+
+-- no text stops a byte by a failed source
+pub never_read : {T : Type 0} {A : Type 0} (h : Held) (chunk : List ℕ) (r : Result T DecodeError) → IfErr r (λ e. (rest : List ℕ) → Stops (start_behind h (chunk ++ rest)) (pieces_behind h (chunk ++ rest)) e) → IsErrOf r errors.Read → A
+never_read h chunk (Ok v) f e = absurd cc
+never_read h chunk (Err errors.Read) f e = absurd (f [])
+never_read h chunk (Err errors.Memory) f e = absurd cc
+never_read h chunk (Err errors.TooLong) f e = absurd cc
+never_read h chunk (Err errors.PictureTooLarge) f e = absurd cc
+never_read h chunk (Err errors.Write) f e = absurd cc
+never_read h chunk (Err (errors.Stream f')) f e = absurd cc
+
+-- ---- one byte after another
+
+module _ (h h' : Held) (chunk chunk' : List ℕ) (left left' : Option (List ℕ)) (a : Advanced h chunk left h' chunk' left') where
+  pub regrouped : (more rest : List ℕ) → chunk ++ ((a.bytes ++ more) ++ rest) ≡ chunk ++ (a.bytes ++ (more ++ rest))
+  regrouped more rest = ap (λ (x : List ℕ). chunk ++ x) (append_assoc a.bytes more rest)
+
+  pub advanced_on : (h'' : Held) (chunk'' : List ℕ) (left'' : Option (List ℕ)) → Advanced h' chunk' left' h'' chunk'' left'' → Advanced h chunk left h'' chunk'' left''
+  advanced_on h'' chunk'' left'' b = record {
+    bytes = a.bytes ++ b.bytes;
+    moved = moves_on a.moved b.moved;
+    pieces = λ rest. ap (pieces_behind h) (regrouped b.bytes rest) ∙ a.pieces (b.bytes ++ rest) ∙ b.pieces rest;
+    start = λ rest. ap (start_behind h) (regrouped b.bytes rest) ∙ a.start (b.bytes ++ rest) ∙ b.start rest;
+    fits = b.fits;
+  }
+
+  pub fails_on : (left'' : Option (List ℕ)) (e : DecodeError) → Fails h' chunk' left' left'' e → Fails h chunk left left'' e
+  fails_on left'' e b = record {
+    bytes = a.bytes ++ b.bytes;
+    moved = moves_on a.moved b.moved;
+    why = λ rest told.
+        let start = ap (start_behind h) (regrouped b.bytes rest) ∙ a.start (b.bytes ++ rest) in
+        let pieces = ap (pieces_behind h) (regrouped b.bytes rest) ∙ a.pieces (b.bytes ++ rest) in
+        rw (start, pieces) (b.why rest told);
+  }
+
+  stood_on : (stand : Stand) (text : List ℕ) (text' : List ℕ) (h'' : Held) (chunk'' rest : List ℕ) → pieces_behind h text ≡ pieces_behind h' text' → start_behind h text ≡ start_behind h' text'
+      → Stood stand h' text' h'' chunk'' rest → Stood stand h text h'' chunk'' rest
+  stood_on Boundary text text' h'' chunk'' rest pieces start b = (pieces ∙ b.0, start ∙ b.1, b.2, b.3)
+  stood_on Ending text text' h'' chunk'' rest pieces start b = (pieces ∙ b.0, start ∙ b.1, b.2)
+  stood_on Over text text' h'' chunk'' rest pieces start b = (pieces ∙ b.0, start ∙ b.1, b.2, b.3, b.4)
+
+  pub looked_on : (stand : Stand) (h'' : Held) (chunk'' : List ℕ) (left'' : Option (List ℕ)) → Looked stand h' chunk' left' h'' chunk'' left'' → Looked stand h chunk left h'' chunk'' left''
+  looked_on stand h'' chunk'' left'' b = record {
+    bytes = a.bytes ++ b.bytes;
+    moved = moves_on a.moved b.moved;
+    stood = λ rest told.
+        stood_on stand _ (chunk' ++ (b.bytes ++ rest)) h'' chunk'' rest
+        (ap (pieces_behind h) (regrouped b.bytes rest) ∙ a.pieces (b.bytes ++ rest))
+        (ap (start_behind h) (regrouped b.bytes rest) ∙ a.start (b.bytes ++ rest))
+        (b.stood rest told);
+  }

@@ -1,0 +1,30 @@
+use Rattle.std.proofs.Common.{◌≡◌, ℕ, List, [], ◌∷◌, ◌++◌, drop, refl, sym, ap, subst, ◌∙◌}
+use Rattle.m2v_piece.specs.Cutting.{Held, Fits, Stops, pieces_behind, start_behind}
+use Rattle.m2v_piece.specs.declared.taking.Byte.{Byte}
+use Rattle.m2v_piece.specs.Stepping.{Takes, IsWhole, IsLast}
+use Rattle.m2v_piece.proofs.Stands.{by_first, whole_stood, last_stood}
+use Rattle.m2v_piece.proofs.cutter.turn.Goals as goal
+
+pub returns-in-Err-clause-err : goal.returns-in-Err-clause-err
+returns-in-Err-clause-err c rest =
+    let h = c.args.hand.now in
+    let chunk = c.args.chunk.now in
+    subst (λ (t : List ℕ). Stops (start_behind h t) (pieces_behind h t) c.in-Err.e) (by_first chunk rest c.first-b.result c.requires.some c.first-b.ensures) (c.in-Err.ensures.err (drop 1 chunk ++ rest))
+
+pub returns-in-Ok-Whole-clause-ok : goal.returns-in-Ok-Whole-clause-ok
+returns-in-Ok-Whole-clause-ok c rest =
+    let h = c.args.hand.now in
+    let w : IsWhole h c.first-b.result c.take.new.hand = subst (λ (b : Byte). Takes b h c.first-b.result c.take.new.hand) c.in-Ok-Whole.field-0-is c.in-Ok-Whole.ensures.ok in
+    let t = drop 1 c.args.chunk.now ++ rest in
+    let e = by_first c.args.chunk.now rest c.first-b.result c.requires.some c.first-b.ensures in
+    let s = whole_stood h c.take.new.hand c.first-b.result t w in
+    rw (← e) (s.0, s.1, ap (λ (x : Held). x.ahead) w.same ∙ w.ahead, subst Fits (sym w.same) c.requires.fits)
+
+pub returns-in-Ok-Last-clause-ok : goal.returns-in-Ok-Last-clause-ok
+returns-in-Ok-Last-clause-ok c rest =
+    let h = c.args.hand.now in
+    let l : IsLast h c.first-b.result c.take.new.hand = subst (λ (b : Byte). Takes b h c.first-b.result c.take.new.hand) c.in-Ok-Last.field-0-is c.in-Ok-Last.ensures.ok in
+    let t = drop 1 c.args.chunk.now ++ rest in
+    let e = by_first c.args.chunk.now rest c.first-b.result c.requires.some c.first-b.ensures in
+    let s = last_stood h c.take.new.hand c.first-b.result t l in
+    rw (← e) (s.0, s.1, l.ends.fits)

@@ -1,0 +1,92 @@
+ghost use Rattle.std.specs.Prelude.{◌≡◌, ◌⊎◌, ℕ, ◌+◌, ◌≤◌, ◌<◌, ◌++◌, List, length, IfOk, IfErr, OnOk, IsErrOf, IsTrue, Ok, Err, Some, None, true, false};
+ghost use Rattle.m2v_port.specs.Port.{Rose};
+ghost use Rattle.m2v_piece.specs.Cutting.{Held, Fits, Stops, pieces_behind, start_behind};
+ghost use Rattle.m2v_piece.specs.Stepping.{Turned, Rounded, Looked, Fails};
+
+use crate::DecodeError;
+use crate::chunk::Chunk;
+use crate::hand::Hand;
+use crate::taking::{Byte, take};
+use m2v_port::Source;
+
+/// Where the bytes stop that are looked at for one piece.
+#[derive(Clone, Copy, Debug, PartialEq, Eq)]
+pub enum Stand {
+    /// The next piece begins.
+    Boundary,
+    /// The sequence end code ends the last piece.
+    Ending,
+    /// The input has ended.
+    Over,
+}
+
+/// Uses the first byte of a chunk. Answers where the bytes stop, if they do.
+fn turn(hand: &mut Hand, chunk: &mut Chunk) -> Result<Option<Stand>, DecodeError>
+    requires some { 0 < length chunk.old }
+    requires fits { Fits hand.old }
+    ensures ok { IfOk result (λ stand. Turned stand hand.old chunk.old hand.new chunk.new) }
+    ensures err { IfErr result (λ e. (rest : List ℕ) → Stops (start_behind hand.old (chunk.old ++ rest)) (pieces_behind hand.old (chunk.old ++ rest)) e) }
+{
+    let b = chunk.first();
+    let _held = hand.ahead();
+    match take(hand, b) {
+        Err(e) => Err(e),
+        Ok(Byte::First) => {
+            let _held = hand.ahead();
+            Ok(None)
+        }
+        Ok(Byte::Whole) => Ok(Some(Stand::Boundary)),
+        Ok(Byte::Last) => {
+            chunk.skip();
+            Ok(Some(Stand::Ending))
+        }
+        Ok(Byte::Used) => {
+            chunk.skip();
+            let _held = hand.ahead();
+            Ok(None)
+        }
+    }
+}
+
+/// Looks at one byte, reading where none is left.
+fn round<S: Source>(
+    hand: &mut Hand,
+    chunk: &mut Chunk,
+    input: &mut S,
+) -> Result<Option<Stand>, DecodeError>
+    requires fits { Fits hand.old }
+    ensures ok { IfOk result (λ stand. Rounded stand hand.old chunk.old (S.left input.old) hand.new chunk.new (S.left input.new)) }
+    ensures err { IfErr result (Fails hand.old chunk.old (S.left input.old) (S.left input.new)) }
+    ensures failed { IsErrOf result DecodeError.Read → Rose (S.faults input.old) (S.faults input.new) }
+    ensures faults { S.faults input.old ≤ S.faults input.new }
+{
+    match chunk.fill(input) {
+        Err(e) => Err(e),
+        Ok(false) => match hand.finish() {
+            Ok(()) => Ok(Some(Stand::Over)),
+            Err(e) => Err(e),
+        },
+        Ok(true) => turn(hand, chunk),
+    }
+}
+
+/// Looks at bytes until they stop.
+fn look_on<S: Source>(
+    hand: &mut Hand,
+    chunk: &mut Chunk,
+    input: &mut S,
+) -> Result<Stand, DecodeError>
+    requires fits { Fits hand.old }
+    ensures ok { IfOk result (λ stand. Looked stand hand.old chunk.old (S.left input.old) hand.new chunk.new (S.left input.new)) }
+    ensures err { IfErr result (Fails hand.old chunk.old (S.left input.old) (S.left input.new)) }
+    ensures failed { IsErrOf result DecodeError.Read → Rose (S.faults input.old) (S.faults input.new) }
+    ensures faults { S.faults input.old ≤ S.faults input.new }
+{
+    loop {
+        match round(hand, chunk, input) {
+            Ok(None) => {}
+            Ok(Some(stand)) => return Ok(stand),
+            Err(e) => return Err(e),
+        }
+    }
+}
