@@ -157,10 +157,25 @@ pub record Cutting : Type 0 where
   pub ended : Bool
   pub failed : Bool
 
+-- the phase in which the next piece is looked for
+abbrev pub phase_for : Bool → Phase
+phase_for begun = if begun then Headers else Before
+
 -- the pieces that are left, where this text follows what is read
 abbrev pub left_of : Cutting → List ℕ → List (List ℕ)
-left_of c text = if c.ended then [] else open_pieces (if c.begun then Headers else Before) [] (c.unread ++ text)
+left_of c text = if c.ended then [] else open_pieces (phase_for c.begun) [] (c.unread ++ text)
 
 -- the place of the first of them, or of the end where there is none
 abbrev pub start_of : Cutting → List ℕ → ℕ
-start_of c text = if c.ended then c.place else open_start (if c.begun then Headers else Before) c.place (c.unread ++ text)
+start_of c text = if c.ended then c.place else open_start (phase_for c.begun) c.place (c.unread ++ text)
+
+-- whether the first sequence header was seen
+abbrev pub is_begun : Phase → Bool
+is_begun Before = false
+is_begun Headers = true
+is_begun Picture = true
+
+-- a piece is about to begin: nothing of it is held but a prefix
+pub record AtPiece (h : Held) : Type 0 where
+  pub sure : h.sure ≡ []
+  pub phase : h.phase ≡ phase_for (is_begun h.phase)

@@ -4,13 +4,14 @@ use Rattle.m2v_port.specs.Port.{Moves}
 use Rattle.m2v_model.specs.declared.phase.Phase.{Phase}
 use Rattle.m2v_model.specs.declared.phase.Phase.TheVariants.{Before, Headers, Picture}
 use Rattle.m2v_model.specs.Pieces.{begins_piece, grouped}
+use Rattle.m2v_piece.specs.declared.answer.Piece.{Piece}
 use Rattle.m2v_piece.specs.declared.answer.DecodeError.{DecodeError}
 use Rattle.m2v_piece.specs.declared.answer.DecodeError.TheVariants as errors
 use Rattle.m2v_piece.specs.declared.taking.Byte.{Byte}
 use Rattle.m2v_piece.specs.declared.taking.Byte.TheVariants.{Used, First, Whole, Last}
 use Rattle.m2v_piece.specs.declared.cutter.Stand.{Stand}
 use Rattle.m2v_piece.specs.declared.cutter.Stand.TheVariants.{Boundary, Ending, Over}
-use Rattle.m2v_piece.specs.Cutting.{Held, Fits, Took, Begun, Ends, open_pieces, pieces_behind, start_behind, Stops}
+use Rattle.m2v_piece.specs.Cutting.{Held, Fits, Took, Begun, Ends, open_pieces, pieces_behind, start_behind, Stops, Cutting, left_of, start_of, IsPiece}
 
 -- the piece at hand is whole, and stays as it is
 pub record IsWhole (old : Held) (b : ℕ) (new : Held) : Type 0 where
@@ -105,3 +106,22 @@ pub record Fails (h : Held) (chunk : List ℕ) (left left' : Option (List ℕ)) 
 abbrev pub Rounded : Option Stand → Held → List ℕ → Option (List ℕ) → Held → List ℕ → Option (List ℕ) → Type 0
 Rounded None h chunk left h' chunk' left' = Advanced h chunk left h' chunk' left' × (measure_of h' < measure_of h)
 Rounded (Some stand) h chunk left h' chunk' left' = Looked stand h chunk left h' chunk' left'
+
+-- ---- what a call of a cutter answers
+
+-- a piece, and the ones behind it; or none, and the place where the last one ended
+abbrev pub NextPiece : Option Piece → ℕ → List (List ℕ) → Cutting → List (List ℕ) → Type 0
+NextPiece (Some p) start pieces new left = (whole : List ℕ) × (pieces ≡ whole ∷ left) × IsPiece p start whole × (new.place ≡ p.place + p.length)
+NextPiece None start pieces new left = (pieces ≡ []) × (left ≡ []) × (new.place ≡ start) × (new.ended ≡ true)
+
+-- the next piece of the text that is held and left, where the source tells it
+pub record Handed (old : Cutting) (left : Option (List ℕ)) (new : Cutting) (left' : Option (List ℕ)) (piece : Option Piece) : Type 0 where
+  pub bytes : List ℕ
+  pub moved : Moves left bytes left'
+  pub next : (rest : List ℕ) → left' ≡ Some rest → NextPiece piece (start_of old (bytes ++ rest)) (left_of old (bytes ++ rest)) new (left_of new rest)
+
+-- why there is none
+pub record Stopped (old : Cutting) (left left' : Option (List ℕ)) (e : DecodeError) : Type 0 where
+  pub bytes : List ℕ
+  pub moved : Moves left bytes left'
+  pub why : (rest : List ℕ) → left' ≡ Some rest → Why (start_of old (bytes ++ rest)) (left_of old (bytes ++ rest)) e

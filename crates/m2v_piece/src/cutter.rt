@@ -1,13 +1,15 @@
-ghost use Rattle.std.specs.Prelude.{◌≡◌, ◌⊎◌, ℕ, ◌+◌, ◌≤◌, ◌<◌, ◌++◌, List, length, IfOk, IfErr, OnOk, IsErrOf, IsTrue, Ok, Err, Some, None, true, false};
+ghost use Rattle.std.specs.Prelude.{◌≡◌, ◌⊎◌, ℕ, ◌+◌, ◌≤◌, ◌<◌, ◌++◌, List, [], length, IfOk, IfErr, OnOk, IsErrOf, IsTrue, Ok, Err, Some, None, true, false};
 ghost use Rattle.m2v_port.specs.Port.{Rose};
 ghost use Rattle.m2v_piece.specs.Cutting.{Held, Fits, Stops, pieces_behind, start_behind};
 ghost use Rattle.m2v_piece.specs.Stepping.{Turned, Rounded, Looked, Fails};
 
-use crate::DecodeError;
+use crate::{DecodeError, Memory, Piece};
 use crate::chunk::Chunk;
 use crate::hand::Hand;
 use crate::taking::{Byte, take};
 use m2v_port::Source;
+use std::alloc::Global;
+use std::marker::Model;
 
 /// Where the bytes stop that are looked at for one piece.
 #[derive(Clone, Copy, Debug, PartialEq, Eq)]
@@ -88,5 +90,51 @@ fn look_on<S: Source>(
             Ok(Some(stand)) => return Ok(stand),
             Err(e) => return Err(e),
         }
+    }
+}
+
+/// Cuts the text of a source into pieces.
+///
+/// Contracts see it as the bytes that were read and not handed out with their place, and whether the first sequence
+/// header was seen, the end, and an error.
+#[derive(Drop)]
+pub struct Cutter {
+    hand: Hand,
+    chunk: Chunk,
+    ended: bool,
+    failed: bool,
+}
+
+impl Model for Cutter {
+    ghost use Rattle.std.specs.Prelude.{◌≡◌, ◌++◌, false};
+    ghost use Rattle.m2v_piece.specs.Cutting.{Cutting, AtPiece, prefix, is_begun};
+
+    ghost Value = { Cutting };
+
+    ghost view = { λ c. record { place = c.hand.place; unread = prefix c.hand.ahead ++ c.chunk; begun = is_begun c.hand.phase; ended = c.ended; failed = c.failed } };
+
+    ghost invariant = { λ c. c.failed ≡ false → c.ended ≡ false → AtPiece c.hand };
+}
+
+impl Cutter {
+    /// A cutter that has read nothing.
+    pub fn new(alloc: Global) -> Result<Cutter, Memory>
+        ensures { IfOk result (λ c. c ≡ record { place = 0; unread = []; begun = false; ended = false; failed = false }) }
+    {
+        Ok(Cutter {
+            hand: Hand::new(alloc),
+            chunk: Chunk::new(alloc)?,
+            ended: false,
+            failed: false,
+        })
+    }
+
+    /// The place where the last piece ends, or the input's length where there was no piece; once `next_piece` answered
+    /// that none is left.
+    pub fn end(&self) -> u64
+        requires { self.now.ended ≡ true }
+        ensures { result ≡ self.now.place }
+    {
+        self.hand.place()
     }
 }
