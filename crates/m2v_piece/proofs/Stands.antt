@@ -1,15 +1,18 @@
 -- Where the bytes stop that are looked at for one piece.
-use Rattle.std.proofs.Common.{◌≡◌, ℕ, ◌+◌, ◌<◌, ◌≤◌, List, [], ◌∷◌, ◌++◌, length, get_or, drop, Option, Result, Ok, Err, IfErr, IsErrOf, refl, sym, ap, subst, ◌∙◌, append_assoc, arith}
+use Rattle.std.proofs.Common.{◌≡◌, ℕ, ◌+◌, ◌<◌, ◌≤◌, List, [], ◌∷◌, ◌++◌, length, get_or, drop, Option, Some, None, true, Result, Ok, Err, IfErr, IsErrOf, refl, sym, ap, subst, ◌∙◌, append_assoc, arith}
 use Rattle.std.proofs.lemmas.List.{drop_more}
+use Rattle.m2v_model.specs.declared.phase.Phase.{Phase}
 use Rattle.m2v_model.specs.declared.phase.Phase.TheVariants.{Before, Headers, Picture}
+use Rattle.m2v_piece.specs.declared.answer.Piece.{Piece}
 use Rattle.m2v_piece.specs.declared.answer.DecodeError.{DecodeError}
 use Rattle.m2v_piece.specs.declared.answer.DecodeError.TheVariants as errors
 use Rattle.m2v_piece.specs.Reads.{Refilled}
-use Rattle.m2v_piece.specs.Cutting.{Held, Fits, open_pieces, open_start, pieces_behind, start_behind, Stops}
+use Rattle.m2v_piece.specs.Cutting.{Held, Fits, open_pieces, open_start, pieces_behind, start_behind, Stops, AtPiece, phase_for, is_begun, prefix, Cutting, IsPiece}
+use Rattle.m2v_model.specs.Pieces.{limit, grouped, piece_of}
 use Rattle.m2v_port.proofs.Runs.{moves_on}
 use Rattle.m2v_piece.specs.declared.cutter.Stand.{Stand}
 use Rattle.m2v_piece.specs.declared.cutter.Stand.TheVariants.{Boundary, Ending, Over}
-use Rattle.m2v_piece.specs.Stepping.{IsWhole, IsLast, Why, Fails, Advanced, Looked, Stood}
+use Rattle.m2v_piece.specs.Stepping.{IsWhole, IsLast, Why, Fails, Advanced, Looked, Stood, LastOf, NextPiece}
 use Rattle.m2v_piece.proofs.PieceLaws.{ends_piece}
 
 -- a chunk by its first byte
@@ -84,9 +87,9 @@ module _ (h h' : Held) (chunk chunk' : List ℕ) (left left' : Option (List ℕ)
 
   stood_on : (stand : Stand) (text : List ℕ) (text' : List ℕ) (h'' : Held) (chunk'' rest : List ℕ) → pieces_behind h text ≡ pieces_behind h' text' → start_behind h text ≡ start_behind h' text'
       → Stood stand h' text' h'' chunk'' rest → Stood stand h text h'' chunk'' rest
-  stood_on Boundary text text' h'' chunk'' rest pieces start b = (pieces ∙ b.0, start ∙ b.1, b.2, b.3)
-  stood_on Ending text text' h'' chunk'' rest pieces start b = (pieces ∙ b.0, start ∙ b.1, b.2)
-  stood_on Over text text' h'' chunk'' rest pieces start b = (pieces ∙ b.0, start ∙ b.1, b.2, b.3, b.4)
+  stood_on Boundary text text' h'' chunk'' rest pieces start b = (pieces ∙ b.0, start ∙ b.1, b.2)
+  stood_on Ending text text' h'' chunk'' rest pieces start b = (pieces ∙ b.0, start ∙ b.1)
+  stood_on Over text text' h'' chunk'' rest pieces start b = (pieces ∙ b.0, start ∙ b.1, b.2, b.3)
 
   pub looked_on : (stand : Stand) (h'' : Held) (chunk'' : List ℕ) (left'' : Option (List ℕ)) → Looked stand h' chunk' left' h'' chunk'' left'' → Looked stand h chunk left h'' chunk'' left''
   looked_on stand h'' chunk'' left'' b = record {
@@ -97,4 +100,48 @@ module _ (h h' : Held) (chunk chunk' : List ℕ) (left left' : Option (List ℕ)
         (ap (pieces_behind h) (regrouped b.bytes rest) ∙ a.pieces (b.bytes ++ rest))
         (ap (start_behind h) (regrouped b.bytes rest) ∙ a.start (b.bytes ++ rest))
         (b.stood rest told);
+    fits = b.fits;
   }
+
+-- ---- of a cutter
+
+pub at_piece_fits : (h : Held) → AtPiece h → Fits h
+unfolding limit
+at_piece_fits h a = record { limit = rw (a.sure) refl; none = λ e. a.sure }
+
+-- the pieces that are left are those of what is held
+pub left_is : (h : Held) (chunk text : List ℕ) → AtPiece h → open_pieces (phase_for (is_begun h.phase)) [] ((prefix h.ahead ++ chunk) ++ text) ≡ pieces_behind h (chunk ++ text)
+left_is h chunk text a =
+    ap (λ (phase : Phase). open_pieces phase [] ((prefix h.ahead ++ chunk) ++ text)) (sym a.phase)
+    ∙ ap (λ (sure : List ℕ). open_pieces h.phase sure ((prefix h.ahead ++ chunk) ++ text)) (sym a.sure)
+    ∙ ap (open_pieces h.phase h.sure) (append_assoc (prefix h.ahead) chunk text)
+
+pub start_is : (h : Held) (chunk text : List ℕ) → AtPiece h → open_start (phase_for (is_begun h.phase)) h.place ((prefix h.ahead ++ chunk) ++ text) ≡ start_behind h (chunk ++ text)
+start_is h chunk text a =
+    ap (λ (phase : Phase). open_start phase h.place ((prefix h.ahead ++ chunk) ++ text)) (sym a.phase)
+    ∙ ap (open_start h.phase h.place) (append_assoc (prefix h.ahead) chunk text)
+
+-- no bytes are no piece, and others are one
+pub none_left : (phase : Phase) (sure : List ℕ) → sure ≡ [] → grouped phase sure [] ≡ []
+unfolding grouped
+none_left Before sure e = refl
+none_left Headers sure e = rw e refl
+none_left Picture sure e = rw e refl
+
+one_piece : (sure : List ℕ) → (sure ≡ [] → ⊥) → piece_of sure ≡ sure ∷ []
+one_piece [] some = absurd (some refl)
+one_piece (b ∷ sure) some = refl
+
+pub one_left : (h : Held) → Fits h → (h.sure ≡ [] → ⊥) → grouped h.phase h.sure [] ≡ h.sure ∷ []
+unfolding grouped
+one_left h fits some = by_phase h.phase h.sure fits.none some
+  where
+    by_phase : (phase : Phase) (sure : List ℕ) → (phase ≡ Before → sure ≡ []) → (sure ≡ [] → ⊥) → grouped phase sure [] ≡ sure ∷ []
+    by_phase Before sure none some = absurd (some (none refl))
+    by_phase Headers sure none some = one_piece sure some
+    by_phase Picture sure none some = one_piece sure some
+
+pub last_next : (piece : Option Piece) (h h' : Held) (start : ℕ) (pieces : List (List ℕ)) (new : Cutting) → LastOf piece h h' → pieces ≡ grouped h.phase h.sure [] → start ≡ h.place → new.place ≡ h'.place → new.ended ≡ true
+    → NextPiece piece start pieces new []
+last_next None h h' start pieces new l is at place ended = (is ∙ l.0, refl, place ∙ l.1 ∙ sym at, ended)
+last_next (Some p) h h' start pieces new l is at place ended = (h.sure, is ∙ l.0, subst (λ (n : ℕ). IsPiece p n h.sure) (sym at) l.1, place ∙ l.2)

@@ -55,11 +55,11 @@ measure_of h = 2 * (2 ^ 36 + 4 - (h.place + (length h.sure + h.ahead))) + before
 abbrev pub Stood : Stand → Held → List ℕ → Held → List ℕ → List ℕ → Type 0
 -- the piece is whole, and the next one begins with what is left
 Stood Boundary h text new chunk rest =
-    (pieces_behind h text ≡ new.sure ∷ open_pieces Headers [] (0 ∷ 0 ∷ 1 ∷ (chunk ++ rest))) × (start_behind h text ≡ new.place) × (new.ahead ≡ 3) × Fits new
+    (pieces_behind h text ≡ new.sure ∷ open_pieces Headers [] (0 ∷ 0 ∷ 1 ∷ (chunk ++ rest))) × (start_behind h text ≡ new.place) × (new.ahead ≡ 3)
 -- the end code was taken
-Stood Ending h text new chunk rest = (pieces_behind h text ≡ new.sure ∷ []) × (start_behind h text ≡ new.place) × Fits new
+Stood Ending h text new chunk rest = (pieces_behind h text ≡ new.sure ∷ []) × (start_behind h text ≡ new.place)
 -- the input has ended
-Stood Over h text new chunk rest = (pieces_behind h text ≡ grouped new.phase new.sure []) × (start_behind h text ≡ new.place) × Fits new × (rest ≡ []) × (chunk ≡ [])
+Stood Over h text new chunk rest = (pieces_behind h text ≡ grouped new.phase new.sure []) × (start_behind h text ≡ new.place) × (rest ≡ []) × (chunk ≡ [])
 
 -- the pieces of a text are those of another, behind what is held then
 pub record Reaches (h : Held) (chunk : List ℕ) (h' : Held) (chunk' : List ℕ) : Type 0 where
@@ -71,7 +71,7 @@ pub record Reaches (h : Held) (chunk : List ℕ) (h' : Held) (chunk' : List ℕ)
 -- a byte was used: others are looked at, or the bytes stop here
 abbrev pub Turned : Option Stand → Held → List ℕ → Held → List ℕ → Type 0
 Turned None h chunk h' chunk' = Reaches h chunk h' chunk'
-Turned (Some stand) h chunk h' chunk' = (rest : List ℕ) → Stood stand h (chunk ++ rest) h' chunk' rest
+Turned (Some stand) h chunk h' chunk' = Fits h' × ((rest : List ℕ) → Stood stand h (chunk ++ rest) h' chunk' rest)
 
 
 -- bytes were read and used, and the pieces of the text are those of what is held then and of what is left
@@ -87,6 +87,7 @@ pub record Looked (stand : Stand) (h : Held) (chunk : List ℕ) (left : Option (
   pub bytes : List ℕ
   pub moved : Moves left bytes left'
   pub stood : (rest : List ℕ) → left' ≡ Some rest → Stood stand h (chunk ++ (bytes ++ rest)) h' chunk' rest
+  pub fits : Fits h'
 
 -- why they stop without a piece: the source failed, memory ran out, or the next piece passes a limit
 abbrev pub Why : ℕ → List (List ℕ) → DecodeError → Type 0
@@ -113,6 +114,11 @@ Rounded (Some stand) h chunk left h' chunk' left' = Looked stand h chunk left h'
 abbrev pub NextPiece : Option Piece → ℕ → List (List ℕ) → Cutting → List (List ℕ) → Type 0
 NextPiece (Some p) start pieces new left = (whole : List ℕ) × (pieces ≡ whole ∷ left) × IsPiece p start whole × (new.place ≡ p.place + p.length)
 NextPiece None start pieces new left = (pieces ≡ []) × (left ≡ []) × (new.place ≡ start) × (new.ended ≡ true)
+
+-- the last piece of a text that has ended, or none
+abbrev pub LastOf : Option Piece → Held → Held → Type 0
+LastOf None h h' = (grouped h.phase h.sure [] ≡ []) × (h'.place ≡ h.place)
+LastOf (Some p) h h' = (grouped h.phase h.sure [] ≡ h.sure ∷ []) × IsPiece p h.place h.sure × (h'.place ≡ p.place + p.length)
 
 -- the next piece of the text that is held and left, where the source tells it
 pub record Handed (old : Cutting) (left : Option (List ℕ)) (new : Cutting) (left' : Option (List ℕ)) (piece : Option Piece) : Type 0 where

@@ -1,7 +1,7 @@
 ghost use Rattle.std.specs.Prelude.{◌≡◌, ◌⊎◌, ℕ, ◌+◌, ◌≤◌, ◌<◌, ◌++◌, List, [], length, IfOk, IfErr, OnOk, IsErrOf, IsTrue, Ok, Err, Some, None, true, false};
 ghost use Rattle.m2v_port.specs.Port.{Rose};
 ghost use Rattle.m2v_piece.specs.Cutting.{Held, Fits, Stops, pieces_behind, start_behind};
-ghost use Rattle.m2v_piece.specs.Stepping.{Turned, Rounded, Looked, Fails};
+ghost use Rattle.m2v_piece.specs.Stepping.{Turned, Rounded, Looked, Fails, Handed, Stopped, LastOf};
 
 use crate::{DecodeError, Memory, Piece};
 use crate::chunk::Chunk;
@@ -93,6 +93,18 @@ fn look_on<S: Source>(
     }
 }
 
+/// The last piece of a text that has ended, where there is one.
+fn last(hand: &mut Hand, alloc: Global) -> Result<Option<Piece>, Memory>
+    requires fits { Fits hand.old }
+    ensures { IfOk result (λ piece. LastOf piece hand.old hand.new) }
+{
+    if hand.is_empty() {
+        return Ok(None);
+    }
+    let piece = hand.hand_out(alloc)?;
+    Ok(Some(piece))
+}
+
 /// Cuts the text of a source into pieces.
 ///
 /// Contracts see it as the bytes that were read and not handed out with their place, and whether the first sequence
@@ -127,6 +139,49 @@ impl Cutter {
             ended: false,
             failed: false,
         })
+    }
+
+    /// The next piece of the text; None where none is left. After an error no call may follow.
+    ///
+    /// It answers TooLong where the piece, or the bytes before the first one, pass the first 2^36 bytes of the input, and
+    /// PictureTooLarge where the piece passes 2,097,152 bytes up to its last byte that isn't zero: what comes first in
+    /// the input counts.
+    pub fn next_piece<S: Source>(
+        &mut self,
+        alloc: Global,
+        input: &mut S,
+    ) -> Result<Option<Piece>, DecodeError>
+        requires { self.old.failed ≡ false }
+        ensures ok { IfOk result (Handed self.old (S.left input.old) self.new (S.left input.new)) }
+        ensures going { OnOk result (self.new.failed ≡ false) }
+        ensures err { IfErr result (Stopped self.old (S.left input.old) (S.left input.new)) }
+        ensures failed { IsErrOf result DecodeError.Read → Rose (S.faults input.old) (S.faults input.new) }
+        ensures faults { S.faults input.old ≤ S.faults input.new }
+    {
+        if self.ended {
+            return Ok(None);
+        }
+        self.failed = true;
+        match look_on(&mut self.hand, &mut self.chunk, input) {
+            Err(e) => Err(e),
+            Ok(Stand::Boundary) => {
+                let piece = self.hand.hand_out(alloc)?;
+                self.failed = false;
+                Ok(Some(piece))
+            }
+            Ok(Stand::Ending) => {
+                let piece = self.hand.hand_out(alloc)?;
+                self.ended = true;
+                self.failed = false;
+                Ok(Some(piece))
+            }
+            Ok(Stand::Over) => {
+                let piece = last(&mut self.hand, alloc)?;
+                self.ended = true;
+                self.failed = false;
+                Ok(piece)
+            }
+        }
     }
 
     /// The place where the last piece ends, or the input's length where there was no piece; once `next_piece` answered
