@@ -4,9 +4,11 @@
 mod coding;
 mod display;
 mod jobs;
+mod laws;
 mod reorder;
 
 pub use display::DisplayQueue;
+pub use laws::law_display;
 pub use jobs::{GroupJobs, PictureJob};
 pub use reorder::Reorder;
 
