@@ -8,7 +8,7 @@ mod laws;
 mod reorder;
 
 pub use display::DisplayQueue;
-pub use laws::law_display;
+pub use laws::{law_display, law_groups};
 pub use jobs::{GroupJobs, PictureJob};
 pub use reorder::Reorder;
 

@@ -55,7 +55,7 @@ impl Reorder {
     /// nothing changes. At most 999,999 frames are pushed, and none after the end.
     pub fn push(&mut self, _alloc: Global, frame: Frame) -> Result<(), (Frame, Memory)>
         requires size { frame.dims ≡ dims_of self.old.settings }
-        requires open { self.old.ended ≡ false }
+        requires before_end { self.old.ended ≡ false }
         requires few { self.old.pushed < 999999 }
         ensures ok { OnOk result (self.new ≡ after_push self.old frame) }
         ensures back { IfErr result (λ e. e.0 ≡ frame) }
