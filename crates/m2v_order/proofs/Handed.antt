@@ -1,28 +1,23 @@
 -- What a reorder hands out over a list of calls.
-use Rattle.std.proofs.Common.{◌≡◌, ℕ, zero, suc, ◌+◌, ◌-◌, ◌<◌, ◌≤◌, Bool, true, false, cond, ltb, List, [], ◌∷◌, ◌++◌, length, map, take, drop, Option, Some, None, min, refl, sym, ap, ◌∙◌, subst, arith, ⊎_elim, append_assoc, length-append, inl, inr}
-use Rattle.std.specs.Prelude.{filter, All, ◌⊎◌, ◌==◌, ◌&&◌, ◌||◌}
+use Rattle.std.proofs.Common.{◌≡◌, ℕ, ◌+◌, ◌-◌, ◌<◌, ◌≤◌, Bool, true, false, cond, List, [], ◌∷◌, ◌++◌, length, map, take, drop, Option, Some, None, refl, sym, ap, ◌∙◌, subst, arith, ⊎_elim, append_assoc, length-append}
+use Rattle.std.specs.Prelude.{filter, All}
 use Rattle.std.specs.List.{flat_map}
-use Rattle.std.proofs.lemmas.Bool.{cases_lt, cases_Bool, and_parts, ltb-true}
+use Rattle.std.proofs.lemmas.Bool.{cases_lt}
 use Rattle.std.proofs.lemmas.Grind.{flat_map-append}
+use Rattle.std.proofs.lemmas.List.{append-nil, map-append, take-append-drop}
 use Rattle.std.proofs.lemmas.List.Elements.{All-weaker}
-use Rattle.std.proofs.lemmas.List.{append-nil, map-append, length-drop, length-take-le, take-append-drop}
 use Rattle.m2v_set.specs.declared.settings.Settings.{Settings}
 use Rattle.m2v_set.specs.Rules.{Passes}
-use Rattle.m2v_set.proofs.Facts.{bounds}
 use Rattle.m2v_order.specs.declared.jobs.PictureJob.{PictureJob}
 use Rattle.m2v_order.specs.Coding.{Picture, is_anchor, frames_between, Coding, in_order}
-use Rattle.m2v_order.specs.Groups.{Queue, opening, first_of, intra_from, next_intra, is_due, group_size, Group, anchor_before, group_of, after_push, after_end, after_group}
+use Rattle.m2v_order.specs.Groups.{Queue, opening, first_of, intra_from, next_intra, is_due, group_size, Group, anchor_before, group_of, after_push, after_end, after_group, IsSound}
 use Rattle.m2v_order.specs.Calls.{Call, Push, End, Next, Run, begun, call, calls, frames_in, jobs_in, picture_of, last_anchor, IsGroup}
 use Rattle.m2v_order.proofs.Anchors.{filter_same}
 use Rattle.m2v_order.proofs.Pictures.{last_more}
-use Rattle.m2v_order.proofs.Intra.{test_other, IsGrouped, intra_low, intra_next, intra_first, same_anchor}
+use Rattle.m2v_order.proofs.Intra.{test_other, IsGrouped, intra_low, intra_first, same_anchor}
 use Rattle.m2v_order.proofs.Orders.{frames_none}
-use Rattle.m2v_order.proofs.Turns.{rest_of, next_first, turn_jobs, turn_low, turn_high, turn_clear, turn_past, turn_all, Agree, rest_split, turn_last, turn_places, turn_intra}
-
-pub grouped : (s : Settings) → Passes s → IsGrouped s
-grouped s passes =
-    let choice = (bounds s passes).choice in
-    record { group = choice.grouped; step = choice.stepped; whole = choice.whole }
+use Rattle.m2v_order.proofs.Turns.{rest_of, next_first, turn_jobs, turn_clear, Agree, rest_split, turn_last, turn_intra}
+use Rattle.m2v_order.proofs.Queues.{grouped, true_false, sound_opening, push_first, sound_push, sound_end, top_of, first_next, Due, due_is, Turn, turn_is, top_next, has_next, next_is, sound_next, group_places}
 
 -- an element of a list with one more at its end
 at_push : {A : Type 0} (P : List A → A → Type 0) (xs : List A) (x : A) (b : List A) (y : A) (l : List A) → xs ++ x ∷ [] ≡ b ++ y ∷ l
@@ -41,19 +36,15 @@ anchor_some : (b : ℕ) → 0 < b → anchor_before b ≡ Some (b - 1)
 unfolding anchor_before
 anchor_some b pos = rw (test_other b 0 (λ e. omega (arith, e, pos))) refl
 
-true_false : (b : Bool) → b ≡ true → b ≡ false → ⊥
-true_false b t f = let e : true ≡ false = sym t ∙ f in cc
-
 module _ {F : Type 0} where
   -- what every list of calls keeps
   pub record Good (r : Run F) : Type 0 where
     pub grouped : IsGrouped r.now.settings
+    pub sound : IsSound r.now
     pub count : r.now.pushed ≡ length r.pushed
     pub whole : frames_in r.groups ++ r.now.frames ≡ r.pushed
     pub ahead : (c : ℕ) → r.now.pushed ≤ c → (r.now.ended ≡ true → c ≡ r.now.pushed)
       → Coding r.now.settings c ≡ map picture_of (jobs_in r.groups) ++ rest_of r.now.settings c (first_of r.now)
-    pub near : 0 < length r.now.frames → intra_from r.now.settings (first_of r.now) < r.now.pushed
-    pub none : length r.now.frames ≡ 0 → r.now.ended ≡ false → r.now.pushed ≡ 0
     pub clear : 0 < length r.now.frames
       → filter (is_anchor r.now.settings r.now.pushed) (frames_between (first_of r.now) (intra_from r.now.settings (first_of r.now))) ≡ []
     pub before : anchor_before (first_of r.now) ≡ last_anchor None (jobs_in r.groups)
@@ -67,13 +58,6 @@ module _ {F : Type 0} where
       let sum = length-append (frames_in r.groups) r.now.frames in
       omega (arith, count, whole, sum)
 
-  room_is : (r : Run F) → Good r → length r.now.frames ≤ r.now.pushed
-  room_is r good =
-      let count = good.count in
-      let whole = ap length good.whole in
-      let sum = length-append (frames_in r.groups) r.now.frames in
-      omega (arith, count, whole, sum)
-
   no_split : (earlier : List (Group F)) (g : Group F) (later : List (Group F)) → [] ≡ earlier ++ g ∷ later → ⊥
   no_split [] g later e = cc
   no_split (x ∷ earlier) g later e = cc
@@ -82,11 +66,10 @@ module _ {F : Type 0} where
   unfolding anchor_before last_anchor
   good_begun s ok = record {
     grouped = ok;
+    sound = sound_opening s;
     count = refl;
     whole = refl;
     ahead = λ c low end. refl;
-    near = λ some. absurd (omega arith);
-    none = λ none going. refl;
     clear = λ some. absurd (omega arith);
     before = refl;
     each = λ earlier g later e. absurd (no_split earlier g later e);
@@ -95,50 +78,37 @@ module _ {F : Type 0} where
   push_whole : (r : Run F) (f : F) → frames_in r.groups ++ r.now.frames ≡ r.pushed → frames_in r.groups ++ (r.now.frames ++ f ∷ []) ≡ r.pushed ++ f ∷ []
   push_whole r f whole = sym (append_assoc (frames_in r.groups) r.now.frames (f ∷ [])) ∙ ap (λ xs. xs ++ f ∷ []) whole
 
-  push_near : (r : Run F) → Good r → r.now.ended ≡ false → intra_from r.now.settings (first_of r.now) < r.now.pushed + 1
-  push_near r good going =
+  push_clear : (q : Queue F) → IsGrouped q.settings → IsSound q → q.ended ≡ false
+      → (0 < length q.frames → filter (is_anchor q.settings q.pushed) (frames_between (first_of q) (intra_from q.settings (first_of q))) ≡ [])
+      → filter (is_anchor q.settings (q.pushed + 1)) (frames_between (first_of q) (intra_from q.settings (first_of q))) ≡ []
+  push_clear q ok sound going clear =
+      let s = q.settings in
+      let first = first_of q in
       ⊎_elim
-        (λ (some : 0 < length r.now.frames). let near = good.near some in omega (arith, near))
-        (λ (few : length r.now.frames ≤ 0).
-          let none = good.none (omega (arith, few)) going in
-          let first : first_of r.now ≡ 0 = omega (arith, none) in
-          rw (first, intra_first r.now.settings good.grouped) (omega arith))
-        (cases_lt 0 (length r.now.frames))
-
-  push_clear : (r : Run F) → Good r → r.now.ended ≡ false
-      → filter (is_anchor r.now.settings (r.now.pushed + 1)) (frames_between (first_of r.now) (intra_from r.now.settings (first_of r.now))) ≡ []
-  push_clear r good going =
-      let s = r.now.settings in
-      let first = first_of r.now in
-      ⊎_elim
-        (λ (some : 0 < length r.now.frames).
-          let near = good.near some in
-          let low = intra_low s first good.grouped in
-          filter_same (is_anchor s (r.now.pushed + 1)) (is_anchor s r.now.pushed) first (intra_from s first - first)
-            (λ i l h. same_anchor s (r.now.pushed + 1) r.now.pushed i (omega (arith, near, low, l, h)) (omega (arith, near, low, l, h)))
-          ∙ good.clear some)
-        (λ (few : length r.now.frames ≤ 0).
-          let none = good.none (omega (arith, few)) going in
-          let e : first_of r.now ≡ 0 = omega (arith, none) in
-          rw (e, intra_first s good.grouped) refl)
-        (cases_lt 0 (length r.now.frames))
+        (λ (some : 0 < length q.frames).
+          let near = sound.near some in
+          let low = intra_low s first ok in
+          filter_same (is_anchor s (q.pushed + 1)) (is_anchor s q.pushed) first (intra_from s first - first)
+            (λ i l h. same_anchor s (q.pushed + 1) q.pushed i (omega (arith, near, low, l, h)) (omega (arith, near, low, l, h)))
+          ∙ clear some)
+        (λ (few : length q.frames ≤ 0).
+          let none = sound.none (omega (arith, few)) going in
+          let e : first_of q ≡ 0 = omega (arith, none) in
+          rw (e, intra_first s ok) refl)
+        (cases_lt 0 (length q.frames))
 
   good_push : (r : Run F) (f : F) → Good r → r.now.ended ≡ false
       → Good (record { now = after_push r.now f; pushed = r.pushed ++ f ∷ []; groups = r.groups })
   good_push r f good going =
       let q = r.now in
-      let s = r.now.settings in
-      let room = room_is r good in
-      let one = length-append q.frames (f ∷ []) in
-      let first : q.pushed + 1 - length (q.frames ++ f ∷ []) ≡ first_of q = omega (arith, room, one) in
+      let first = push_first q f good.sound in
       record {
         grouped = good.grouped;
+        sound = sound_push q f good.grouped good.sound going;
         count = (let c = good.count in let l = length-append r.pushed (f ∷ []) in omega (arith, c, l));
         whole = push_whole r f good.whole;
         ahead = λ c low end. rw first (good.ahead c (omega (arith, low)) (λ t. absurd (true_false q.ended t going)));
-        near = λ some. rw first (push_near r good going);
-        none = λ none o. absurd (omega (arith, none, one));
-        clear = λ some. rw first (push_clear r good going);
+        clear = λ some. rw first (push_clear q good.grouped good.sound going good.clear);
         before = rw first good.before;
         each = good.each;
       }
@@ -146,102 +116,14 @@ module _ {F : Type 0} where
   good_end : (r : Run F) → Good r → Good (record { now = after_end r.now; pushed = r.pushed; groups = r.groups })
   good_end r good = record {
     grouped = good.grouped;
+    sound = sound_end r.now good.sound;
     count = good.count;
     whole = good.whole;
     ahead = λ c low end. good.ahead c low (λ t. end refl);
-    near = good.near;
-    none = λ none going. absurd (true_false true refl going);
     clear = good.clear;
     before = good.before;
     each = good.each;
   }
-
-  -- the frames below which the next group's anchors stand
-  abbrev top_of : Queue F → ℕ
-  top_of q = min (next_intra q) q.pushed
-
-  -- a group is due
-  record Due (q : Queue F) : Type 0 where
-    some : 0 < length q.frames
-    next : (q.ended ≡ true) ⊎ (next_intra q < q.pushed)
-
-  next_step : (q : Queue F) (b : Bool) → q.ended ≡ b → (b || ltb (next_intra q) q.pushed) ≡ true → (q.ended ≡ true) ⊎ (next_intra q < q.pushed)
-  next_step q true is e = inl is
-  next_step q false is e = inr (ltb-true (next_intra q) q.pushed e)
-
-  due_is : (q : Queue F) → is_due q ≡ true → Due q
-  unfolding is_due
-  due_is q e =
-      let parts = and_parts (ltb 0 (length q.frames)) (q.ended || ltb (next_intra q) q.pushed) e in
-      record { some = ltb-true 0 (length q.frames) parts.0; next = next_step q q.ended refl parts.1 }
-
-  -- the numbers of a turn
-  record Turn (r : Run F) : Type 0 where
-    low : first_of r.now ≤ intra_from r.now.settings (first_of r.now)
-    near : intra_from r.now.settings (first_of r.now) < top_of r.now
-    top : top_of r.now ≤ r.now.pushed
-    next : top_of r.now ≤ next_intra r.now
-    past : intra_from r.now.settings (first_of r.now) < next_first r.now.settings r.now.pushed (first_of r.now) (top_of r.now)
-    high : next_first r.now.settings r.now.pushed (first_of r.now) (top_of r.now) ≤ top_of r.now
-    after : first_of (after_group r.now) ≡ next_first r.now.settings r.now.pushed (first_of r.now) (top_of r.now)
-    left : length (after_group r.now).frames + next_first r.now.settings r.now.pushed (first_of r.now) (top_of r.now) ≡ r.now.pushed
-
-  turn_is : (r : Run F) → Good r → Due r.now → Turn r
-  unfolding after_group
-  turn_is r good due =
-      let q = r.now in
-      let s = r.now.settings in
-      let first = first_of q in
-      let m = min (next_intra q) q.pushed in
-      let b = next_first s q.pushed first m in
-      let room = room_is r good in
-      let near = good.near due.some in
-      let low = intra_low s first good.grouped in
-      let pos = good.grouped.group in
-      let below : intra_from s first < m = omega (arith, near, pos) in
-      let past = turn_past s q.pushed first m good.grouped below in
-      let high = turn_high s q.pushed first m (omega (arith, low, below)) in
-      let size = length-drop (b - first) q.frames in
-      record {
-        low = low;
-        near = below;
-        top = omega arith;
-        next = omega arith;
-        past = past;
-        high = high;
-        after = omega (arith, room, past, low, high, size);
-        left = omega (arith, room, past, low, high, size);
-      }
-
-  top_is : (q : Queue F) → q.pushed ≤ next_intra q → top_of q ≡ q.pushed
-  top_is q behind = omega arith
-
-  top_next : (q : Queue F) → next_intra q < q.pushed → top_of q ≡ next_intra q
-  top_next q before = omega arith
-
-  -- where frames are left, the next I frame has come
-  good_near : (r : Run F) → Good r → Turn r → 0 < length (after_group r.now).frames → next_intra r.now < r.now.pushed
-  good_near r good turn some =
-      let q = r.now in
-      ⊎_elim
-        (λ (before : next_intra q < q.pushed). before)
-        (λ (behind : q.pushed ≤ next_intra q).
-          let m = top_is q behind in
-          let near = turn.near in
-          let low = turn.low in
-          let left = turn.left in
-          let all = turn_all q.settings q.pushed (first_of q) good.grouped (omega (arith, near, low, m)) in
-          let e : next_first q.settings q.pushed (first_of q) (top_of q) ≡ q.pushed = ap (next_first q.settings q.pushed (first_of q)) m ∙ all in
-          absurd (omega (arith, e, left, some)))
-        (cases_lt (next_intra q) q.pushed)
-
-  -- the I frame after it is that of the group that follows
-  next_is : (r : Run F) → Good r → Turn r → intra_from r.now.settings (next_first r.now.settings r.now.pushed (first_of r.now) (top_of r.now)) ≡ next_intra r.now
-  next_is r good turn =
-      let q = r.now in
-      let high = turn.high in
-      let next = turn.next in
-      intra_next q.settings (first_of q) (next_first q.settings q.pushed (first_of q) (top_of q)) good.grouped turn.past (omega (arith, high, next))
 
   one_more : {A : Type 0} (f : Group F → List A) (groups : List (Group F)) (g : Group F) → flat_map f (groups ++ g ∷ []) ≡ flat_map f groups ++ f g
   one_more f groups g = flat_map-append f groups (g ∷ []) ∙ ap (λ xs. flat_map f groups ++ xs) (append-nil (f g))
@@ -255,19 +137,16 @@ module _ {F : Type 0} where
       whole
 
   -- how many frames follow the next I frame doesn't matter to the group
-  agree : (r : Run F) → Turn r → Due r.now → (c : ℕ) → r.now.pushed ≤ c → (r.now.ended ≡ true → c ≡ r.now.pushed)
-      → Agree r.now.settings c r.now.pushed (first_of r.now) (top_of r.now)
-  agree r turn due c low end i from to =
-      let q = r.now in
-      let s = r.now.settings in
+  agree : (q : Queue F) → Turn q → Due q → (c : ℕ) → q.pushed ≤ c → (q.ended ≡ true → c ≡ q.pushed) → Agree q.settings c q.pushed (first_of q) (top_of q)
+  agree q turn due c low end i from to =
       ⊎_elim
-        (λ (e : q.ended ≡ true). ap (λ n. is_anchor s n i) (end e))
+        (λ (e : q.ended ≡ true). ap (λ n. is_anchor q.settings n i) (end e))
         (λ (before : next_intra q < q.pushed).
           let next = turn.next in
-          same_anchor s c q.pushed i (omega (arith, next, to, before, low)) (omega (arith, next, to, before)))
+          same_anchor q.settings c q.pushed i (omega (arith, next, to, before, low)) (omega (arith, next, to, before)))
         due.next
 
-  next_ahead : (r : Run F) → Good r → Due r.now → Turn r → (c : ℕ) → r.now.pushed ≤ c → (r.now.ended ≡ true → c ≡ r.now.pushed)
+  next_ahead : (r : Run F) → Good r → Due r.now → Turn r.now → (c : ℕ) → r.now.pushed ≤ c → (r.now.ended ≡ true → c ≡ r.now.pushed)
       → Coding r.now.settings c ≡ map picture_of (jobs_in (r.groups ++ group_of r.now ∷ [])) ++ rest_of r.now.settings c (first_of (after_group r.now))
   unfolding group_of
   next_ahead r good due turn c low end =
@@ -280,39 +159,21 @@ module _ {F : Type 0} where
       let begin = turn.low in
       let top = turn.top in
       good.ahead c low end
-      ∙ (ap (λ xs. map picture_of (jobs_in r.groups) ++ xs) (rest_split s c q.pushed first m (omega (arith, near, begin)) (omega (arith, top, low)) (agree r turn due c low end))
+      ∙ (ap (λ xs. map picture_of (jobs_in r.groups) ++ xs) (rest_split s c q.pushed first m (omega (arith, near, begin)) (omega (arith, top, low)) (agree q turn due c low end))
          ∙ (sym (append_assoc (map picture_of (jobs_in r.groups)) (map picture_of jobs) (rest_of s c (next_first s q.pushed first m)))
             ∙ rw (turn.after, one_more (λ (g : Group F). g.pictures) r.groups (group_of q), map-append picture_of (jobs_in r.groups) jobs) refl))
 
-  next_near : (r : Run F) → Good r → Turn r → 0 < length (after_group r.now).frames
-      → intra_from r.now.settings (first_of (after_group r.now)) < r.now.pushed
-  next_near r good turn some = rw (turn.after, next_is r good turn) (good_near r good turn some)
-
-  next_none : (r : Run F) → Due r.now → Turn r → length (after_group r.now).frames ≡ 0 → r.now.ended ≡ false → ⊥
-  next_none r due turn none going =
-      let q = r.now in
-      ⊎_elim
-        (λ (e : q.ended ≡ true). true_false q.ended e going)
-        (λ (before : next_intra q < q.pushed).
-          let next = turn.next in
-          let high = turn.high in
-          let left = turn.left in
-          omega (arith, next, high, left, none, before))
-        due.next
-
-  next_clear : (r : Run F) → Good r → Turn r → 0 < length (after_group r.now).frames
-      → filter (is_anchor r.now.settings r.now.pushed) (frames_between (first_of (after_group r.now)) (intra_from r.now.settings (first_of (after_group r.now)))) ≡ []
-  next_clear r good turn some =
-      let q = r.now in
+  next_clear : (q : Queue F) → IsGrouped q.settings → Turn q → 0 < length (after_group q).frames
+      → filter (is_anchor q.settings q.pushed) (frames_between (first_of (after_group q)) (intra_from q.settings (first_of (after_group q)))) ≡ []
+  next_clear q ok turn some =
       let near = turn.near in
       let low = turn.low in
-      let m = top_next q (good_near r good turn some) in
-      let b = next_first q.settings q.pushed (first_of q) (top_of q) in
-      rw (turn.after, next_is r good turn)
-      (subst (λ x. filter (is_anchor q.settings q.pushed) (frames_between b x) ≡ []) m
+      let m = top_next q (has_next q ok turn some) in
+      rw (turn.after, next_is q ok turn)
+      (subst (λ x. filter (is_anchor q.settings q.pushed) (frames_between (first_next q) x) ≡ []) m
          (turn_clear q.settings q.pushed (first_of q) (top_of q) (omega (arith, near, low))))
 
-  next_before : (r : Run F) → Good r → Turn r → anchor_before (first_of (after_group r.now)) ≡ last_anchor None (jobs_in (r.groups ++ group_of r.now ∷ []))
+  next_before : (r : Run F) → Good r → Turn r.now → anchor_before (first_of (after_group r.now)) ≡ last_anchor None (jobs_in (r.groups ++ group_of r.now ∷ []))
   unfolding group_of
   next_before r good turn =
       let q = r.now in
@@ -325,26 +186,14 @@ module _ {F : Type 0} where
           turn_last s q.pushed first m (last_anchor None (jobs_in r.groups)) good.grouped (omega (arith, low, past)))
       (anchor_some (next_first s q.pushed first m) (omega (arith, past)))
 
-  next_group : (r : Run F) → Good r → Due r.now → Turn r → IsGroup r.groups (group_of r.now)
+  next_group : (r : Run F) → Good r → Due r.now → Turn r.now → IsGroup r.groups (group_of r.now)
   unfolding group_of
   next_group r good due turn =
       let q = r.now in
-      let s = r.now.settings in
-      let first = first_of q in
-      let m = top_of q in
-      let b = next_first s q.pushed first m in
-      let room = room_is r good in
-      let high = turn.high in
-      let top = turn.top in
       let same = first_is r good in
-      let size = length-take-le (b - first) q.frames (omega (arith, room, high, top)) in
       record {
-        intra = turn_intra s q.pushed first m good.grouped turn.near turn.next (good.clear due.some);
-        places =
-          All-weaker (λ (j : PictureJob). (j.display ≡ first + j.frame) × (j.frame < b - first))
-            (λ (j : PictureJob). (j.display ≡ length (frames_in r.groups) + j.frame) × (j.frame < length (take (b - first) q.frames)))
-            (λ j h. (omega (arith, same, h.0), omega (arith, size, h.1)))
-            (turn_jobs s q.pushed first m) (turn_places s q.pushed first m);
+        intra = turn_intra q.settings q.pushed (first_of q) (top_of q) good.grouped turn.near turn.next (good.clear due.some);
+        places = rw (sym same) (group_places q good.sound turn);
         before = good.before;
       }
 
@@ -352,15 +201,14 @@ module _ {F : Type 0} where
       → Good (record { now = after_group r.now; pushed = r.pushed; groups = r.groups ++ group_of r.now ∷ [] })
   unfolding after_group
   good_next r good due =
-      let turn = turn_is r good due in
+      let turn = turn_is r.now good.grouped good.sound due in
       record {
         grouped = good.grouped;
+        sound = sound_next r.now good.grouped due turn;
         count = good.count;
         whole = next_whole r good.whole;
         ahead = λ c low end. next_ahead r good due turn c low end;
-        near = λ some. next_near r good turn some;
-        none = λ none going. absurd (next_none r due turn none going);
-        clear = λ some. next_clear r good turn some;
+        clear = λ some. next_clear r.now good.grouped turn some;
         before = next_before r good turn;
         each = λ earlier g later e. at_push IsGroup r.groups (group_of r.now) earlier g later e (next_group r good due turn) (λ rest f. good.each earlier g rest f);
       }

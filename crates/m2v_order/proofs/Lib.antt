@@ -4,4 +4,5 @@ pub mod Anchors
 pub mod Intra
 pub mod Pictures
 pub mod Turns
+pub mod Queues
 pub mod Handed

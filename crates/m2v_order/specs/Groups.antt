@@ -1,6 +1,6 @@
 -- The state of a reorder, and the group that it hands out next: the frames from one I frame up to the next in coding
 -- order.
-use Rattle.std.specs.Prelude.{ℕ, ◌+◌, ◌-◌, ◌*◌, ◌/◌, ◌==◌, nat_lt, min, Bool, true, false, ◌&&◌, ◌||◌, if◌then◌else◌, List, [], ◌∷◌, ◌++◌, length, take, drop, map, Option, Some, None}
+use Rattle.std.specs.Prelude.{ℕ, ◌≡◌, ◌<◌, ◌≤◌, ◌+◌, ◌-◌, ◌*◌, ◌/◌, ◌==◌, nat_lt, min, Bool, true, false, ◌&&◌, ◌||◌, if◌then◌else◌, List, [], ◌∷◌, ◌++◌, length, take, drop, map, Option, Some, None}
 use Rattle.std.specs.List.{flat_map}
 use Rattle.m2v_set.specs.declared.settings.Settings.{Settings}
 use Rattle.m2v_order.specs.declared.jobs.PictureJob.{PictureJob}
@@ -81,3 +81,10 @@ after_end q = record q { ended = true }
 -- the group's frames are handed out
 unfoldable pub after_group : {F : Type 0} → Queue F → Queue F
 after_group q = record q { frames = drop (group_size q) q.frames }
+
+-- what a reorder keeps: it holds no more frames than were pushed; where it holds some, the I frame of the next group is
+-- among them; and it holds none only before the first frame or after the end
+pub record IsSound {F : Type 0} (q : Queue F) : Type 0 where
+  pub room : length q.frames ≤ q.pushed
+  pub near : 0 < length q.frames → intra_from q.settings (first_of q) < q.pushed
+  pub none : length q.frames ≡ 0 → q.ended ≡ false → q.pushed ≡ 0

@@ -6,6 +6,8 @@ mod display;
 mod jobs;
 mod laws;
 mod reorder;
+#[cfg(test)]
+mod tests;
 
 pub use display::DisplayQueue;
 pub use laws::{law_display, law_groups};

@@ -1,6 +1,7 @@
-ghost use Rattle.std.specs.Prelude.{◌≡◌, ◌+◌, ◌<◌, ◌≤◌, ◌^◌, ◌↔◌, false, All, IsSome, IsTrue, IfOk, IfErr, OnOk, OnErr, IfSome, OnSome, IfNone};
+ghost use Rattle.std.specs.Prelude.{◌≡◌, ◌+◌, ◌<◌, ◌≤◌, ◌^◌, ◌↔◌, false, All, length, IsSome, IsTrue, IfOk, IfErr, OnOk, OnErr, IfSome, OnSome, IfNone};
 ghost use Rattle.m2v_plane.specs.Samples.{Samples};
 ghost use Rattle.m2v_set.specs.Numbers.{dims_of};
+ghost use Rattle.m2v_order.specs.declared.jobs.PictureJob.{PictureJob};
 ghost use Rattle.m2v_order.specs.Groups.{opening, first_of, next_intra, is_due, group_of, after_push, after_end, after_group};
 
 use crate::Memory;
@@ -26,16 +27,16 @@ pub struct Reorder {
 }
 
 impl Model for Reorder {
-    ghost use Rattle.std.specs.Prelude.{◌≡◌, ◌<◌, ◌≤◌, All, length};
+    ghost use Rattle.std.specs.Prelude.{◌≡◌, ◌<◌, All};
     ghost use Rattle.m2v_plane.specs.Samples.{Samples};
     ghost use Rattle.m2v_set.specs.Numbers.{dims_of};
-    ghost use Rattle.m2v_order.specs.Groups.{Queue};
+    ghost use Rattle.m2v_order.specs.Groups.{Queue, IsSound};
 
     ghost Value = { Queue Samples };
 
     ghost view = { λ r. record { settings = r.passed; pushed = r.pushed; frames = r.frames.items; ended = r.ended } };
 
-    ghost invariant = { λ r. (length r.frames.items ≤ r.pushed) × (r.pushed < 1000000) × All (λ (f : Samples). f.dims ≡ dims_of r.passed) r.frames.items };
+    ghost invariant = { λ r. IsSound (record { settings = r.passed; pushed = r.pushed; frames = r.frames.items; ended = r.ended }) × (r.pushed < 1000000) × All (λ (f : Samples). f.dims ≡ dims_of r.passed) r.frames.items };
 }
 
 impl Reorder {
@@ -61,6 +62,8 @@ impl Reorder {
         ensures back { IfErr result (λ e. e.0 ≡ frame) }
         ensures memory { OnErr result (self.new ≡ self.old) }
     {
+        // groups and steps of settings that pass
+        let _known = self.passed.settings();
         if let Err(refused) = self.frames.push(frame) {
             return Err((refused.value, AllocError));
         }
@@ -83,6 +86,8 @@ impl Reorder {
         ensures frames { IfOk result (λ o. IfSome o (λ g. g.frames.items ≡ (group_of self.old).frames)) }
         ensures pictures { IfOk result (λ o. IfSome o (λ g. g.pictures.items ≡ (group_of self.old).pictures)) }
         ensures before { IfOk result (λ o. IfSome o (λ g. g.before ≡ (group_of self.old).before)) }
+        ensures some { IfOk result (λ o. IfSome o (λ g. 0 < length g.frames.items)) }
+        ensures places { IfOk result (λ o. IfSome o (λ g. All (λ (j : PictureJob). (j.display ≡ first_of self.old + j.frame) × (j.frame < length g.frames.items)) g.pictures.items)) }
         ensures size { IfOk result (λ o. IfSome o (λ g. All (λ (f : Samples). f.dims ≡ dims_of self.old.settings) g.frames.items)) }
         ensures rest { IfOk result (λ o. OnSome o (self.new ≡ after_group self.old)) }
         ensures same { IfOk result (λ o. IfNone o (self.new ≡ self.old)) }
