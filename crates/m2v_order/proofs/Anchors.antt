@@ -1,5 +1,5 @@
 -- Coding order along the frames, for any test that says which frames are anchors.
-use Rattle.std.proofs.Common.{◌≡◌, ℕ, zero, suc, ◌+◌, ◌-◌, ◌<◌, ◌≤◌, Bool, true, false, cond, List, [], ◌∷◌, ◌++◌, refl, sym, ap, ◌∙◌, subst, arith, append_assoc, length, Option, Some, None}
+use Rattle.std.proofs.Common.{◌≡◌, ℕ, zero, suc, ◌+◌, ◌-◌, ◌<◌, ◌≤◌, Bool, true, false, cond, List, [], ◌∷◌, ◌++◌, refl, sym, ap, ◌∙◌, subst, arith, Option, Some}
 use Rattle.std.specs.Prelude.{filter, All}
 use Rattle.std.specs.List.{range_with_len, flat_map}
 use Rattle.std.proofs.lemmas.List.{append-nil}
@@ -21,7 +21,7 @@ pub range_within : (a n : ℕ) → All (Between a (a + n)) (range_with_len a n)
 range_within a zero = All-nil (Between a (a + zero))
 range_within a (suc n) =
     All-cons (Between a (a + suc n)) a (range_with_len (a + 1) n) (omega arith, omega arith)
-      (All-weaker (Between (a + 1) (a + 1 + n)) (Between a (a + suc n)) (λ x h. (omega (arith, h.0), omega (arith, h.1))) (range_with_len (a + 1) n) (range_within (a + 1) n))
+    (All-weaker (Between (a + 1) (a + 1 + n)) (Between a (a + suc n)) (λ x h. (omega (arith, h.0), omega (arith, h.1))) (range_with_len (a + 1) n) (range_within (a + 1) n))
 
 -- two tests that agree on some frames
 pub filter_same : (p q : ℕ → Bool) (a n : ℕ) → ((i : ℕ) → a ≤ i → i < a + n → p i ≡ q i) → filter p (range_with_len a n) ≡ filter q (range_with_len a n)
@@ -113,7 +113,7 @@ module _ (p : ℕ → Bool) (from : ℕ) where
   past_step n i false is low high at rec =
       let e = behind_no n is in
       let before : i < from + n =
-        lt_or_is i (from + n) (omega arith) (λ same. absurd (let t : true ≡ false = sym at ∙ (ap p same ∙ is) in cc)) in
+      lt_or_is i (from + n) (omega arith) (λ same. absurd (let t : true ≡ false = sym at ∙ (ap p same ∙ is) in cc)) in
       omega (arith, e, rec before)
 
   pub past : (n i : ℕ) → from ≤ i → i < from + n → p i ≡ true → i < behind from (upto n)
@@ -131,9 +131,9 @@ module _ (p : ℕ → Bool) (from : ℕ) where
       let P = Between from (d + 1) in
       rw (behind_yes n is, order_yes n is)
       (All-append P (in_order from (upto n)) (d ∷ frames_between old d)
-         (All-weaker (Between from old) P (λ x h. (h.0, omega (arith, h.1))) (in_order from (upto n)) rec)
-         (All-cons P d (frames_between old d) (omega arith, omega arith)
-            (All-weaker (Between old (old + (d - old))) P (λ x h. (omega (arith, h.0), omega (arith, h.1))) (frames_between old d) (range_within old (d - old)))))
+      (All-weaker (Between from old) P (λ x h. (h.0, omega (arith, h.1))) (in_order from (upto n)) rec)
+      (All-cons P d (frames_between old d) (omega arith, omega arith)
+      (All-weaker (Between old (old + (d - old))) P (λ x h. (omega (arith, h.0), omega (arith, h.1))) (frames_between old d) (range_within old (d - old)))))
   order_within n false is rec = rw (behind_no n is, order_no n is) rec
 
   -- all frames in coding order lie between the first one and the last anchor
@@ -143,10 +143,10 @@ module _ (p : ℕ → Bool) (from : ℕ) where
   within (suc n) = order_within n (p (from + n)) refl (within n)
 
   module _ {A : Type 0} (f : ℕ → List A) (last : Option ℕ → List A → Option ℕ)
-    (on_none : (o : Option ℕ) → last o [] ≡ o)
-    (on_more : (o : Option ℕ) (xs ys : List A) → last o (xs ++ ys) ≡ last (last o xs) ys)
-    (on_anchor : (o : Option ℕ) (i : ℕ) → p i ≡ true → last o (f i) ≡ Some i)
-    (on_other : (o : Option ℕ) (i : ℕ) → p i ≡ false → last o (f i) ≡ o) where
+      (on_none : (o : Option ℕ) → last o [] ≡ o)
+      (on_more : (o : Option ℕ) (xs ys : List A) → last o (xs ++ ys) ≡ last (last o xs) ys)
+      (on_anchor : (o : Option ℕ) (i : ℕ) → p i ≡ true → last o (f i) ≡ Some i)
+      (on_other : (o : Option ℕ) (i : ℕ) → p i ≡ false → last o (f i) ≡ o) where
     on_others : (o : Option ℕ) (xs : List ℕ) → All (λ i. p i ≡ false) xs → last o (flat_map f xs) ≡ o
     on_others o [] each = on_none o
     on_others o (x ∷ xs) each =
@@ -175,7 +175,7 @@ module _ (p : ℕ → Bool) (from : ℕ) where
 -- the coding order of frames, cut behind the last anchor below a frame
 pub split_order : (p : ℕ → Bool) (first m c : ℕ) → first ≤ m → m ≤ c
     → (let b = behind first (filter p (frames_between first m)) in
-       in_order first (filter p (frames_between first c)) ≡ in_order first (filter p (frames_between first m)) ++ in_order b (filter p (frames_between b c)))
+    in_order first (filter p (frames_between first c)) ≡ in_order first (filter p (frames_between first m)) ++ in_order b (filter p (frames_between b c)))
 split_order p first m c low high =
     let there : first + (m - first) ≡ m = omega arith in
     let facts = behind_is p first (m - first) in
@@ -183,7 +183,7 @@ split_order p first m c low high =
     let up : b ≤ m = omega (arith, facts.high) in
     let clear : filter p (frames_between b m) ≡ [] = subst (λ x. filter p (frames_between b x) ≡ []) there facts.clear in
     let rest : filter p (frames_between b c) ≡ filter p (frames_between m c) =
-      rw (frames_split b m c up high, filter-append p (frames_between b m) (frames_between m c), clear) refl in
+    rw (frames_split b m c up high, filter-append p (frames_between b m) (frames_between m c), clear) refl in
     rw (rest, frames_split first m c low high, filter-append p (frames_between first m) (frames_between m c))
     (in_order-append first (filter p (frames_between first m)) (filter p (frames_between m c)))
 
@@ -191,5 +191,11 @@ split_order p first m c low high =
 pub first_anchor : (p : ℕ → Bool) (first i m : ℕ) → first ≤ i → i < m → p i ≡ true → filter p (frames_between first i) ≡ []
     → filter p (frames_between first m) ≡ i ∷ filter p (frames_between (i + 1) m)
 first_anchor p first i m low high is clear =
-    rw (frames_split first i m low (omega arith), frames_split i (i + 1) m (omega arith) (omega arith), frames_one i,
-        filter-append p (frames_between first i) ((i ∷ []) ++ frames_between (i + 1) m), clear, is) refl
+    rw (
+      frames_split first i m low (omega arith),
+      frames_split i (i + 1) m (omega arith) (omega arith),
+      frames_one i,
+      filter-append p (frames_between first i) ((i ∷ []) ++ frames_between (i + 1) m),
+      clear,
+      is,
+    ) refl

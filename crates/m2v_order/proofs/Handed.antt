@@ -1,16 +1,14 @@
 -- What a reorder hands out over a list of calls.
-use Rattle.std.proofs.Common.{◌≡◌, ℕ, ◌+◌, ◌-◌, ◌<◌, ◌≤◌, Bool, true, false, cond, List, [], ◌∷◌, ◌++◌, length, map, take, drop, Option, Some, None, refl, sym, ap, ◌∙◌, subst, arith, ⊎_elim, append_assoc, length-append}
-use Rattle.std.specs.Prelude.{filter, All}
+use Rattle.std.proofs.Common.{◌≡◌, ℕ, ◌+◌, ◌-◌, ◌<◌, ◌≤◌, Bool, true, false, cond, List, [], ◌∷◌, ◌++◌, length, map, take, drop, Some, None, refl, sym, ap, ◌∙◌, subst, arith, ⊎_elim, append_assoc, length-append}
+use Rattle.std.specs.Prelude.{filter}
 use Rattle.std.specs.List.{flat_map}
 use Rattle.std.proofs.lemmas.Bool.{cases_lt}
 use Rattle.std.proofs.lemmas.Grind.{flat_map-append}
 use Rattle.std.proofs.lemmas.List.{append-nil, map-append, take-append-drop}
-use Rattle.std.proofs.lemmas.List.Elements.{All-weaker}
 use Rattle.m2v_set.specs.declared.settings.Settings.{Settings}
 use Rattle.m2v_set.specs.Rules.{Passes}
-use Rattle.m2v_order.specs.declared.jobs.PictureJob.{PictureJob}
 use Rattle.m2v_order.specs.Coding.{Picture, is_anchor, frames_between, Coding, in_order}
-use Rattle.m2v_order.specs.Groups.{Queue, opening, first_of, intra_from, next_intra, is_due, group_size, Group, anchor_before, group_of, after_push, after_end, after_group, IsSound}
+use Rattle.m2v_order.specs.Groups.{Queue, first_of, intra_from, next_intra, is_due, group_size, Group, anchor_before, group_of, after_push, after_end, after_group, IsSound}
 use Rattle.m2v_order.specs.Calls.{Call, Push, End, Next, Run, begun, call, calls, frames_in, jobs_in, picture_of, last_anchor, IsGroup}
 use Rattle.m2v_order.proofs.Anchors.{filter_same}
 use Rattle.m2v_order.proofs.Pictures.{last_more}
@@ -30,7 +28,7 @@ at_push P (a ∷ xs) x (z ∷ b) y l e last old =
     let same : a ≡ z = cc in
     let more : xs ++ x ∷ [] ≡ b ++ y ∷ l = cc in
     at_push (λ c. P (z ∷ c)) xs x b y l more (subst (λ c. P (c ∷ xs) x) same last)
-      (λ rest f. old rest (rw same (ap (λ c. z ∷ c) f)))
+    (λ rest f. old rest (rw same (ap (λ c. z ∷ c) f)))
 
 anchor_some : (b : ℕ) → 0 < b → anchor_before b ≡ Some (b - 1)
 unfolding anchor_before
@@ -44,9 +42,9 @@ module _ {F : Type 0} where
     pub count : r.now.pushed ≡ length r.pushed
     pub whole : frames_in r.groups ++ r.now.frames ≡ r.pushed
     pub ahead : (c : ℕ) → r.now.pushed ≤ c → (r.now.ended ≡ true → c ≡ r.now.pushed)
-      → Coding r.now.settings c ≡ map picture_of (jobs_in r.groups) ++ rest_of r.now.settings c (first_of r.now)
+        → Coding r.now.settings c ≡ map picture_of (jobs_in r.groups) ++ rest_of r.now.settings c (first_of r.now)
     pub clear : 0 < length r.now.frames
-      → filter (is_anchor r.now.settings r.now.pushed) (frames_between (first_of r.now) (intra_from r.now.settings (first_of r.now))) ≡ []
+        → filter (is_anchor r.now.settings r.now.pushed) (frames_between (first_of r.now) (intra_from r.now.settings (first_of r.now))) ≡ []
     pub before : anchor_before (first_of r.now) ≡ last_anchor None (jobs_in r.groups)
     pub each : (earlier : List (Group F)) (g : Group F) (later : List (Group F)) → r.groups ≡ earlier ++ g ∷ later → IsGroup earlier g
 
@@ -85,17 +83,17 @@ module _ {F : Type 0} where
       let s = q.settings in
       let first = first_of q in
       ⊎_elim
-        (λ (some : 0 < length q.frames).
-          let near = sound.near some in
-          let low = intra_low s first ok in
-          filter_same (is_anchor s (q.pushed + 1)) (is_anchor s q.pushed) first (intra_from s first - first)
-            (λ i l h. same_anchor s (q.pushed + 1) q.pushed i (omega (arith, near, low, l, h)) (omega (arith, near, low, l, h)))
-          ∙ clear some)
-        (λ (few : length q.frames ≤ 0).
-          let none = sound.none (omega (arith, few)) going in
-          let e : first_of q ≡ 0 = omega (arith, none) in
-          rw (e, intra_first s ok) refl)
-        (cases_lt 0 (length q.frames))
+      (λ (some : 0 < length q.frames).
+      let near = sound.near some in
+      let low = intra_low s first ok in
+      filter_same (is_anchor s (q.pushed + 1)) (is_anchor s q.pushed) first (intra_from s first - first)
+      (λ i l h. same_anchor s (q.pushed + 1) q.pushed i (omega (arith, near, low, l, h)) (omega (arith, near, low, l, h)))
+      ∙ clear some)
+      (λ (few : length q.frames ≤ 0).
+      let none = sound.none (omega (arith, few)) going in
+      let e : first_of q ≡ 0 = omega (arith, none) in
+      rw (e, intra_first s ok) refl)
+      (cases_lt 0 (length q.frames))
 
   good_push : (r : Run F) (f : F) → Good r → r.now.ended ≡ false
       → Good (record { now = after_push r.now f; pushed = r.pushed ++ f ∷ []; groups = r.groups })
@@ -129,7 +127,7 @@ module _ {F : Type 0} where
   one_more f groups g = flat_map-append f groups (g ∷ []) ∙ ap (λ xs. flat_map f groups ++ xs) (append-nil (f g))
 
   next_whole : (r : Run F) → frames_in r.groups ++ r.now.frames ≡ r.pushed → frames_in (r.groups ++ group_of r.now ∷ []) ++ (after_group r.now).frames ≡ r.pushed
-  unfolding group_of after_group
+  unfolding group_of
   next_whole r whole =
       let q = r.now in
       let n = group_size q in
@@ -140,11 +138,11 @@ module _ {F : Type 0} where
   agree : (q : Queue F) → Turn q → Due q → (c : ℕ) → q.pushed ≤ c → (q.ended ≡ true → c ≡ q.pushed) → Agree q.settings c q.pushed (first_of q) (top_of q)
   agree q turn due c low end i from to =
       ⊎_elim
-        (λ (e : q.ended ≡ true). ap (λ n. is_anchor q.settings n i) (end e))
-        (λ (before : next_intra q < q.pushed).
-          let next = turn.next in
-          same_anchor q.settings c q.pushed i (omega (arith, next, to, before, low)) (omega (arith, next, to, before)))
-        due.next
+      (λ (e : q.ended ≡ true). ap (λ n. is_anchor q.settings n i) (end e))
+      (λ (before : next_intra q < q.pushed).
+      let next = turn.next in
+      same_anchor q.settings c q.pushed i (omega (arith, next, to, before, low)) (omega (arith, next, to, before)))
+      due.next
 
   next_ahead : (r : Run F) → Good r → Due r.now → Turn r.now → (c : ℕ) → r.now.pushed ≤ c → (r.now.ended ≡ true → c ≡ r.now.pushed)
       → Coding r.now.settings c ≡ map picture_of (jobs_in (r.groups ++ group_of r.now ∷ [])) ++ rest_of r.now.settings c (first_of (after_group r.now))
@@ -160,8 +158,8 @@ module _ {F : Type 0} where
       let top = turn.top in
       good.ahead c low end
       ∙ (ap (λ xs. map picture_of (jobs_in r.groups) ++ xs) (rest_split s c q.pushed first m (omega (arith, near, begin)) (omega (arith, top, low)) (agree q turn due c low end))
-         ∙ (sym (append_assoc (map picture_of (jobs_in r.groups)) (map picture_of jobs) (rest_of s c (next_first s q.pushed first m)))
-            ∙ rw (turn.after, one_more (λ (g : Group F). g.pictures) r.groups (group_of q), map-append picture_of (jobs_in r.groups) jobs) refl))
+      ∙ (sym (append_assoc (map picture_of (jobs_in r.groups)) (map picture_of jobs) (rest_of s c (next_first s q.pushed first m)))
+      ∙ rw (turn.after, one_more (λ (g : Group F). g.pictures) r.groups (group_of q), map-append picture_of (jobs_in r.groups) jobs) refl))
 
   next_clear : (q : Queue F) → IsGrouped q.settings → Turn q → 0 < length (after_group q).frames
       → filter (is_anchor q.settings q.pushed) (frames_between (first_of (after_group q)) (intra_from q.settings (first_of (after_group q)))) ≡ []
@@ -171,7 +169,7 @@ module _ {F : Type 0} where
       let m = top_next q (has_next q ok turn some) in
       rw (turn.after, next_is q ok turn)
       (subst (λ x. filter (is_anchor q.settings q.pushed) (frames_between (first_next q) x) ≡ []) m
-         (turn_clear q.settings q.pushed (first_of q) (top_of q) (omega (arith, near, low))))
+      (turn_clear q.settings q.pushed (first_of q) (top_of q) (omega (arith, near, low))))
 
   next_before : (r : Run F) → Good r → Turn r.now → anchor_before (first_of (after_group r.now)) ≡ last_anchor None (jobs_in (r.groups ++ group_of r.now ∷ []))
   unfolding group_of
@@ -182,8 +180,12 @@ module _ {F : Type 0} where
       let m = top_of q in
       let low = turn.low in
       let past = turn.past in
-      rw (turn.after, one_more (λ (g : Group F). g.pictures) r.groups (group_of q), last_more None (jobs_in r.groups) (turn_jobs s q.pushed first m),
-          turn_last s q.pushed first m (last_anchor None (jobs_in r.groups)) good.grouped (omega (arith, low, past)))
+      rw (
+        turn.after,
+        one_more (λ (g : Group F). g.pictures) r.groups (group_of q),
+        last_more None (jobs_in r.groups) (turn_jobs s q.pushed first m),
+        turn_last s q.pushed first m (last_anchor None (jobs_in r.groups)) good.grouped (omega (arith, low, past)),
+      )
       (anchor_some (next_first s q.pushed first m) (omega (arith, past)))
 
   next_group : (r : Run F) → Good r → Due r.now → Turn r.now → IsGroup r.groups (group_of r.now)
@@ -199,7 +201,6 @@ module _ {F : Type 0} where
 
   good_next : (r : Run F) → Good r → Due r.now
       → Good (record { now = after_group r.now; pushed = r.pushed; groups = r.groups ++ group_of r.now ∷ [] })
-  unfolding after_group
   good_next r good due =
       let turn = turn_is r.now good.grouped good.sound due in
       record {
@@ -239,7 +240,7 @@ module _ {F : Type 0} where
   settings_step false s x y e f = f
 
   settings_call : (s : Settings) (r : Run F) (c : Call F) → r.now.settings ≡ s → (call r c).now.settings ≡ s
-  unfolding call after_group
+  unfolding call
   settings_call s r (Push f) e = settings_step r.now.ended s r (record { now = after_push r.now f; pushed = r.pushed ++ f ∷ []; groups = r.groups }) e e
   settings_call s r End e = e
   settings_call s r Next e = settings_step (is_due r.now) s (record { now = after_group r.now; pushed = r.pushed; groups = r.groups ++ group_of r.now ∷ [] }) r e e
@@ -277,15 +278,16 @@ module _ {F : Type 0} where
 
   pub coding_begins : (s : Settings) (cs : List (Call F)) (count : ℕ) → Passes s
       → (let r = calls (begun s) cs in length r.pushed ≤ count → (r.now.ended ≡ true → count ≡ length r.pushed)
-         → (more : List Picture) × (Coding s count ≡ map picture_of (jobs_in r.groups) ++ more))
+      → (more : List Picture) × (Coding s count ≡ map picture_of (jobs_in r.groups) ++ more))
   coding_begins s cs count passes low end =
       let r = calls (begun s) cs in
       let good = good_all s cs passes in
       let same = settings_calls s cs (begun s) refl in
-      let c = good.count in
-      (rest_of r.now.settings count (first_of r.now),
-       subst (λ t. Coding t count ≡ map picture_of (jobs_in r.groups) ++ rest_of r.now.settings count (first_of r.now)) same
-         (good.ahead count (omega (arith, c, low)) (λ t. end t ∙ sym c)))
+      let c = good.count in (
+        rest_of r.now.settings count (first_of r.now),
+        subst (λ t. Coding t count ≡ map picture_of (jobs_in r.groups) ++ rest_of r.now.settings count (first_of r.now)) same
+            (good.ahead count (omega (arith, c, low)) (λ t. end t ∙ sym c)),
+      )
 
   pub coding_all : (s : Settings) (cs : List (Call F)) → Passes s
       → (let r = calls (begun s) cs in r.now.ended ≡ true → r.now.frames ≡ [] → map picture_of (jobs_in r.groups) ≡ Coding s (length r.pushed))
@@ -301,7 +303,7 @@ module _ {F : Type 0} where
       let rest : rest_of r.now.settings r.now.pushed (first_of r.now) ≡ [] = rw (first, frames_none r.now.pushed) refl in
       sym (append-nil (map picture_of (jobs_in r.groups)))
       ∙ (ap (λ xs. map picture_of (jobs_in r.groups) ++ xs) (sym rest)
-         ∙ (sym ahead ∙ rw (same, c) refl))
+      ∙ (sym ahead ∙ rw (same, c) refl))
 
   pub groups_all : (s : Settings) (cs : List (Call F)) → Passes s → (earlier : List (Group F)) (g : Group F) (later : List (Group F))
       → (calls (begun s) cs).groups ≡ earlier ++ g ∷ later → IsGroup earlier g

@@ -1,6 +1,6 @@
 -- Where I frames stand, and the types of frames.
-use Rattle.std.proofs.Common.{◌≡◌, ℕ, zero, suc, ◌+◌, ◌-◌, ◌*◌, ◌/◌, ◌%◌, ◌<◌, ◌≤◌, Bool, true, false, cond, eqb, refl, sym, ap, ◌∙◌, subst, arith}
-use Rattle.std.specs.Prelude.{◌==◌, ◌||◌, ◌&&◌}
+use Rattle.std.proofs.Common.{◌≡◌, ℕ, zero, suc, ◌+◌, ◌-◌, ◌*◌, ◌/◌, ◌%◌, ◌<◌, ◌≤◌, Bool, true, false, cond, refl, sym, ap, ◌∙◌, arith}
+use Rattle.std.specs.Prelude.{◌==◌, ◌||◌}
 use Rattle.std.proofs.lemmas.Bool.Decides.{nat_tests}
 use Rattle.std.proofs.lemmas.Bool.{eqb-true}
 use Rattle.std.proofs.lemmas.Nat.{mod_below, div-mul-add, mod-mul-add, mul-mod}
@@ -8,7 +8,6 @@ use Rattle.std.proofs.Math.Nat.{mod-add-div', mul-mod_left, div-eq_of_lt}
 use Rattle.m2v_set.specs.declared.settings.Settings.{Settings}
 use Rattle.m2v_order.specs.Coding.{is_intra, is_anchor, kind_of}
 use Rattle.m2v_order.specs.Groups.{intra_from}
-use Rattle.m2v_order.proofs.Anchors.{Between}
 
 test_zero : (n : ℕ) → n ≡ 0 → (n == 0) ≡ true
 test_zero n e = rw e refl

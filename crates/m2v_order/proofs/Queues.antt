@@ -1,9 +1,8 @@
 -- A reorder's state along its calls.
-use Rattle.std.proofs.Common.{◌≡◌, ℕ, ◌+◌, ◌-◌, ◌<◌, ◌≤◌, Bool, true, false, ltb, List, [], ◌∷◌, ◌++◌, length, take, min, refl, sym, ap, ◌∙◌, arith, ⊎_elim, length-append, inl, inr}
-use Rattle.std.specs.Prelude.{All, ◌⊎◌, ◌&&◌, ◌||◌}
+use Rattle.std.proofs.Common.{◌≡◌, ℕ, ◌+◌, ◌-◌, ◌<◌, ◌≤◌, Bool, true, false, ltb, [], ◌∷◌, length, take, min, refl, sym, ap, ◌∙◌, arith, ⊎_elim, length-append, inl, inr}
+use Rattle.std.specs.Prelude.{All, ◌⊎◌, ◌||◌}
 use Rattle.std.proofs.lemmas.Bool.{cases_lt, and_parts, ltb-true}
 use Rattle.std.proofs.lemmas.List.{length-drop, length-take-le}
-use Rattle.std.proofs.lemmas.List.Elements.{All-weaker}
 use Rattle.m2v_set.specs.declared.settings.Settings.{Settings}
 use Rattle.m2v_set.specs.Rules.{Passes}
 use Rattle.m2v_set.proofs.Facts.{bounds}
@@ -27,12 +26,12 @@ module _ {F : Type 0} where
   pub push_near : (q : Queue F) → IsGrouped q.settings → IsSound q → q.ended ≡ false → intra_from q.settings (first_of q) < q.pushed + 1
   push_near q ok sound going =
       ⊎_elim
-        (λ (some : 0 < length q.frames). let near = sound.near some in omega (arith, near))
-        (λ (few : length q.frames ≤ 0).
-          let none = sound.none (omega (arith, few)) going in
-          let first : first_of q ≡ 0 = omega (arith, none) in
-          rw (first, intra_first q.settings ok) (omega arith))
-        (cases_lt 0 (length q.frames))
+      (λ (some : 0 < length q.frames). let near = sound.near some in omega (arith, near))
+      (λ (few : length q.frames ≤ 0).
+      let none = sound.none (omega (arith, few)) going in
+      let first : first_of q ≡ 0 = omega (arith, none) in
+      rw (first, intra_first q.settings ok) (omega arith))
+      (cases_lt 0 (length q.frames))
 
   pub push_first : (q : Queue F) (f : F) → IsSound q → first_of (after_push q f) ≡ first_of q
   push_first q f sound =
@@ -88,7 +87,6 @@ module _ {F : Type 0} where
     pub left : length (after_group q).frames + first_next q ≡ q.pushed
 
   pub turn_is : (q : Queue F) → IsGrouped q.settings → IsSound q → Due q → Turn q
-  unfolding after_group
   turn_is q ok sound due =
       let first = first_of q in
       let m = top_of q in
@@ -122,16 +120,16 @@ module _ {F : Type 0} where
   pub has_next : (q : Queue F) → IsGrouped q.settings → Turn q → 0 < length (after_group q).frames → next_intra q < q.pushed
   has_next q ok turn some =
       ⊎_elim
-        (λ (before : next_intra q < q.pushed). before)
-        (λ (behind : q.pushed ≤ next_intra q).
-          let m = top_is q behind in
-          let near = turn.near in
-          let low = turn.low in
-          let left = turn.left in
-          let all = turn_all q.settings q.pushed (first_of q) ok (omega (arith, near, low, m)) in
-          let e : first_next q ≡ q.pushed = ap (next_first q.settings q.pushed (first_of q)) m ∙ all in
-          absurd (omega (arith, e, left, some)))
-        (cases_lt (next_intra q) q.pushed)
+      (λ (before : next_intra q < q.pushed). before)
+      (λ (behind : q.pushed ≤ next_intra q).
+      let m = top_is q behind in
+      let near = turn.near in
+      let low = turn.low in
+      let left = turn.left in
+      let all = turn_all q.settings q.pushed (first_of q) ok (omega (arith, near, low, m)) in
+      let e : first_next q ≡ q.pushed = ap (next_first q.settings q.pushed (first_of q)) m ∙ all in
+      absurd (omega (arith, e, left, some)))
+      (cases_lt (next_intra q) q.pushed)
 
   -- the I frame after it is that of the group that follows
   pub next_is : (q : Queue F) → IsGrouped q.settings → Turn q → intra_from q.settings (first_next q) ≡ next_intra q
@@ -144,16 +142,15 @@ module _ {F : Type 0} where
   none_left : (q : Queue F) → Due q → Turn q → length (after_group q).frames ≡ 0 → q.ended ≡ false → ⊥
   none_left q due turn none going =
       ⊎_elim
-        (λ (e : q.ended ≡ true). true_false q.ended e going)
-        (λ (before : next_intra q < q.pushed).
-          let next = turn.next in
-          let high = turn.high in
-          let left = turn.left in
-          omega (arith, next, high, left, none, before))
-        due.next
+      (λ (e : q.ended ≡ true). true_false q.ended e going)
+      (λ (before : next_intra q < q.pushed).
+      let next = turn.next in
+      let high = turn.high in
+      let left = turn.left in
+      omega (arith, next, high, left, none, before))
+      due.next
 
   pub sound_next : (q : Queue F) → IsGrouped q.settings → Due q → Turn q → IsSound (after_group q)
-  unfolding after_group
   sound_next q ok due turn =
       let left = turn.left in
       record {

@@ -1,6 +1,6 @@
 -- A display queue's steps over a list of frames, and display order.
-use Rattle.std.proofs.Common.{◌≡◌, ℕ, zero, suc, Bool, true, false, cond, List, [], ◌∷◌, ◌++◌, map, refl, sym, ap, ◌∙◌, append_assoc, Option, Some, None, option_to_list, is_some}
-use Rattle.std.specs.Prelude.{filter, not, ◌==◌, ◌&&◌, ◌||◌}
+use Rattle.std.proofs.Common.{◌≡◌, ℕ, zero, suc, Bool, true, false, cond, List, [], ◌∷◌, ◌++◌, refl, sym, ap, ◌∙◌, append_assoc, Option, Some, None, option_to_list, is_some}
+use Rattle.std.specs.Prelude.{filter, not, ◌&&◌, ◌||◌}
 use Rattle.std.specs.List.{list_any}
 use Rattle.std.proofs.lemmas.List.{append-nil, map-append}
 use Rattle.std.proofs.lemmas.List.Elements.{filter-append}
@@ -248,7 +248,7 @@ module _ {F : Type 0} where
 
   pub handed_shown : (dropped : F → Bool) (low_delay : Bool) (ps : List (F × ℕ))
       → (let kept = filter (is_kept dropped) ps in
-         handed (opening low_delay) kept ++ option_to_list (held_after (opening low_delay) kept).anchor ≡ frames_of (Shown dropped low_delay ps))
+      handed (opening low_delay) kept ++ option_to_list (held_after (opening low_delay) kept).anchor ≡ frames_of (Shown dropped low_delay ps))
   unfolding Order holding frame_of
   handed_shown dropped true ps =
       let kept = filter (is_kept dropped) ps in
@@ -277,6 +277,7 @@ module _ {F : Type 0} where
   unfolding Order
   due_prefix dropped true ps qs = (filter (is_kept dropped) qs, filter-append (is_kept dropped) ps qs)
   due_prefix dropped false ps qs =
-      let keep = is_kept dropped in
-      (shows (last_held None (filter keep ps)) (filter keep qs),
-       rw (due_shows dropped (ps ++ qs), due_shows dropped ps, filter-append keep ps qs) (shows_append (filter keep ps) (filter keep qs) None))
+      let keep = is_kept dropped in (
+        shows (last_held None (filter keep ps)) (filter keep qs),
+        rw (due_shows dropped (ps ++ qs), due_shows dropped ps, filter-append keep ps qs) (shows_append (filter keep ps) (filter keep qs) None),
+      )

@@ -1,18 +1,17 @@
 -- One group handed out, in the numbers of frames.
-use Rattle.std.proofs.Common.{◌≡◌, ℕ, ◌+◌, ◌-◌, ◌<◌, ◌≤◌, Bool, true, false, List, [], ◌∷◌, ◌++◌, length, map, Option, Some, None, min, refl, sym, ap, ◌∙◌, subst, arith, ⊎_elim}
-use Rattle.std.specs.Prelude.{filter, All, ◌⊎◌, ◌↔◌}
+use Rattle.std.proofs.Common.{◌≡◌, ℕ, ◌+◌, ◌-◌, ◌<◌, ◌≤◌, true, List, [], ◌∷◌, ◌++◌, map, Option, Some, refl, subst, arith, ⊎_elim}
+use Rattle.std.specs.Prelude.{filter, All, ◌↔◌}
 use Rattle.std.specs.List.{flat_map}
 use Rattle.std.proofs.lemmas.Bool.{cases_eq}
 use Rattle.std.proofs.lemmas.Grind.{flat_map-append}
-use Rattle.std.proofs.lemmas.List.{map-append}
 use Rattle.m2v_set.specs.declared.settings.Settings.{Settings}
 use Rattle.m2v_order.specs.declared.jobs.PictureJob.{PictureJob}
-use Rattle.m2v_order.specs.Coding.{Picture, is_anchor, is_intra, kind_of, frames_between, anchors_between, in_order, pictures_of}
+use Rattle.m2v_order.specs.Coding.{Picture, is_anchor, kind_of, frames_between, anchors_between, in_order, pictures_of}
 use Rattle.m2v_order.specs.Groups.{intra_from, behind, jobs_of}
 use Rattle.m2v_order.specs.Calls.{picture_of, last_anchor, IsFromIntra}
-use Rattle.m2v_order.proofs.Anchors.{Between, upto, Behind, behind_is, past, within, last_is, split_order, first_anchor, filter_same, flat_map_same}
-use Rattle.m2v_order.proofs.Intra.{IsGrouped, intra_low, intra_high, intra_next, intra_is, intra_only, intra_anchor, last_anchor_is, same_anchor, kind_intra, kind_other, kind_anchor, kind_b}
-use Rattle.m2v_order.proofs.Pictures.{pictures_all, last_none, last_more, last_jobs, last_others, job_by, all_flat, all_jobs, from_intra}
+use Rattle.m2v_order.proofs.Anchors.{Between, behind_is, past, within, last_is, split_order, first_anchor, filter_same, flat_map_same}
+use Rattle.m2v_order.proofs.Intra.{IsGrouped, intra_low, intra_is, intra_only, intra_anchor, last_anchor_is, kind_intra, kind_other, kind_anchor, kind_b}
+use Rattle.m2v_order.proofs.Pictures.{pictures_all, last_none, last_more, last_jobs, last_others, all_flat, all_jobs, from_intra}
 
 -- the pictures of the frames from one on, in coding order
 abbrev pub rest_of : Settings → ℕ → ℕ → List Picture
@@ -39,14 +38,14 @@ turn_high s pushed first m low =
 pub turn_clear : (s : Settings) (pushed first m : ℕ) → first ≤ m → filter (is_anchor s pushed) (frames_between (next_first s pushed first m) m) ≡ []
 turn_clear s pushed first m low =
     subst (λ x. filter (is_anchor s pushed) (frames_between (next_first s pushed first m) x) ≡ []) (there first m low)
-      (behind_is (is_anchor s pushed) first (m - first)).clear
+    (behind_is (is_anchor s pushed) first (m - first)).clear
 
 -- the I frame belongs to the group
 pub turn_past : (s : Settings) (pushed first m : ℕ) → IsGrouped s → intra_from s first < m → intra_from s first < next_first s pushed first m
 turn_past s pushed first m ok near =
     let low = intra_low s first ok in
     past (is_anchor s pushed) first (m - first) (intra_from s first) low (omega arith)
-      (intra_anchor s pushed (intra_from s first) ok (intra_is s first))
+    (intra_anchor s pushed (intra_from s first) ok (intra_is s first))
 
 -- the last group takes all frames
 pub turn_all : (s : Settings) (pushed first : ℕ) → IsGrouped s → first < pushed → next_first s pushed first pushed ≡ pushed
@@ -70,13 +69,17 @@ rest_split s count pushed first m low high agree =
     let anchors = anchors_between s pushed first m in
     let b = next_first s pushed first m in
     let same : anchors_between s count first m ≡ anchors =
-      filter_same (is_anchor s count) (is_anchor s pushed) first (m - first) (λ i l h. agree i l (omega arith)) in
+    filter_same (is_anchor s count) (is_anchor s pushed) first (m - first) (λ i l h. agree i l (omega arith)) in
     let pictures : flat_map (pictures_of s count) (in_order first anchors) ≡ flat_map (pictures_of s pushed) (in_order first anchors) =
-      flat_map_same (pictures_of s count) (pictures_of s pushed) (Between first b) (in_order first anchors) (within (is_anchor s pushed) first (m - first))
-        (λ i h. same_pictures s count pushed i (agree i h.0 (let t = turn_high s pushed first m low in omega (arith, h.1, t)))) in
-    rw (split_order (is_anchor s count) first m count low high, same,
-        flat_map-append (pictures_of s count) (in_order first anchors) (in_order b (anchors_between s count b count)),
-        pictures, pictures_all s pushed first (in_order first anchors))
+    flat_map_same (pictures_of s count) (pictures_of s pushed) (Between first b) (in_order first anchors) (within (is_anchor s pushed) first (m - first))
+    (λ i h. same_pictures s count pushed i (agree i h.0 (let t = turn_high s pushed first m low in omega (arith, h.1, t)))) in
+    rw (
+      split_order (is_anchor s count) first m count low high,
+      same,
+      flat_map-append (pictures_of s count) (in_order first anchors) (in_order b (anchors_between s count b count)),
+      pictures,
+      pictures_all s pushed first (in_order first anchors),
+    )
     refl
 
 -- the last anchor of the group
@@ -84,9 +87,9 @@ pub turn_last : (s : Settings) (pushed first m : ℕ) (o : Option ℕ) → IsGro
     → last_anchor o (turn_jobs s pushed first m) ≡ Some (next_first s pushed first m - 1)
 turn_last s pushed first m o ok some =
     last_is (is_anchor s pushed) first (jobs_of s pushed first) last_anchor last_none last_more
-      (λ before i is. last_jobs s pushed first i before (kind_anchor s pushed i is))
-      (λ before i is. last_others s pushed first i before (kind_b s pushed i ok is))
-      (m - first) o some
+    (λ before i is. last_jobs s pushed first i before (kind_anchor s pushed i is))
+    (λ before i is. last_others s pushed first i before (kind_b s pushed i ok is))
+    (m - first) o some
 
 -- each picture of the group has its frame among the group's
 pub turn_places : (s : Settings) (pushed first m : ℕ)
@@ -95,7 +98,7 @@ turn_places s pushed first m =
     let b = next_first s pushed first m in
     let Q : PictureJob → Type 0 = λ (j : PictureJob). (j.display ≡ first + j.frame) × (j.frame < b - first) in
     all_flat (Between first b) Q (jobs_of s pushed first) (in_order first (anchors_between s pushed first m)) (within (is_anchor s pushed) first (m - first))
-      (λ i h. all_jobs Q s pushed first i (λ structure. (omega (arith, h.0), omega (arith, h.0, h.1))))
+    (λ i h. all_jobs Q s pushed first i (λ structure. (omega (arith, h.0), omega (arith, h.0, h.1))))
 
 only_intra : (s : Settings) (pushed first i : ℕ) → IsGrouped s → first ≤ i → i < intra_from s first + s.group → kind_of s pushed i ≡ 1 → i ≡ intra_from s first
 only_intra s pushed first i ok low high e =
@@ -113,16 +116,17 @@ turn_intra s pushed first m ok near high clear =
     let top = turn_high s pushed first m (omega (arith, low)) in
     let Q : PictureJob → Type 0 = λ (j : PictureJob). (j.kind ≡ 1) ↔ (j.display ≡ intra) in
     let each : All Q (turn_jobs s pushed first m) =
-      all_flat (Between first b) Q (jobs_of s pushed first) (in_order first (anchors_between s pushed first m)) (within p first (m - first))
-        (λ i h. all_jobs Q s pushed first i
-          (λ structure.
-            (λ e. only_intra s pushed first i ok h.0 (omega (arith, h.1, top)) e,
-             λ e. rw e (kind_intra s pushed intra (intra_is s first))))) in
+    all_flat (Between first b) Q (jobs_of s pushed first) (in_order first (anchors_between s pushed first m)) (within p first (m - first))
+    (λ i h. all_jobs Q s pushed first i
+    (λ structure. (
+      λ e. only_intra s pushed first i ok h.0 (omega (arith, h.1, top)) e,
+      λ e. rw e (kind_intra s pushed intra (intra_is s first)),
+    ))) in
     let later = anchors_between s pushed (intra + 1) m in
     let found : anchors_between s pushed first m ≡ intra ∷ later =
-      first_anchor p first intra m low near (intra_anchor s pushed intra ok (intra_is s first)) clear in
+    first_anchor p first intra m low near (intra_anchor s pushed intra ok (intra_is s first)) clear in
     let jobs : turn_jobs s pushed first m ≡ jobs_of s pushed first intra ++ flat_map (jobs_of s pushed first) (frames_between first intra ++ in_order (intra + 1) later) =
-      rw found refl in
+    rw found refl in
     rw jobs
     (from_intra s pushed first intra (flat_map (jobs_of s pushed first) (frames_between first intra ++ in_order (intra + 1) later))
-      (kind_intra s pushed intra (intra_is s first)) (rw jobs at each))
+    (kind_intra s pushed intra (intra_is s first)) (rw jobs at each))

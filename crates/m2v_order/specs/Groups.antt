@@ -79,7 +79,7 @@ abbrev pub after_end : {F : Type 0} → Queue F → Queue F
 after_end q = record q { ended = true }
 
 -- the group's frames are handed out
-unfoldable pub after_group : {F : Type 0} → Queue F → Queue F
+abbrev pub after_group : {F : Type 0} → Queue F → Queue F
 after_group q = record q { frames = drop (group_size q) q.frames }
 
 -- what a reorder keeps: it holds no more frames than were pushed; where it holds some, the I frame of the next group is

@@ -10,8 +10,8 @@ mod reorder;
 mod tests;
 
 pub use display::DisplayQueue;
-pub use laws::{law_display, law_groups};
 pub use jobs::{GroupJobs, PictureJob};
+pub use laws::{law_display, law_groups};
 pub use reorder::Reorder;
 
 /// Want of memory.

@@ -80,7 +80,7 @@ impl Reorder {
 
     /// Hands out the next group. There is none exactly where neither the next I frame nor the end has come, or all
     /// groups were handed out. Where memory runs out nothing changes.
-    #[tactic(auto, unfolding(crate::specs::Groups::group_of, crate::specs::Groups::anchor_before, crate::specs::Groups::after_group))]
+    #[tactic(auto, unfolding(crate::specs::Groups::group_of, crate::specs::Groups::anchor_before))]
     pub fn next_group(&mut self, alloc: Global) -> Result<Option<GroupJobs>, Memory>
         ensures due { IfOk result (λ o. IsSome o ↔ IsTrue (is_due self.old)) }
         ensures frames { IfOk result (λ o. IfSome o (λ g. g.frames.items ≡ (group_of self.old).frames)) }

@@ -1,6 +1,6 @@
--- The buffer's account in the terms of Annex C (clauses C.3 and C.9 to C.11). Amounts are in units of 1/1800 bit. A list
--- of removals stands for the pictures before one, in decoding order; so `Held start total (take n pictures)` is what is
--- held when picture n is removed.
+-- The buffer's account in the terms of Annex C, at constant bit rate. Amounts are in units of 1/1800 bit. A list of
+-- removals stands for the pictures before one, in decoding order; so `Held start total (take n pictures)` is what is held
+-- when picture n is removed.
 use Rattle.std.specs.Prelude.{ℕ, ◌≡◌, ◌+◌, ◌-◌, ◌*◌, ◌≤◌, List, ◌∷◌, ◌++◌, sum_by, min}
 
 -- the rate K in units of 400 bit/s, the buffer's size B in bits, the bits S up to and with the first picture start code,

@@ -1,4 +1,4 @@
-use Rattle.std.proofs.Common.{◌≡◌, true, false, sym, ◌∙◌, arith}
+use Rattle.std.proofs.Common.{sym, ◌∙◌, arith}
 use Rattle.m2v_order.specs.Coding.{is_anchor}
 use Rattle.m2v_order.specs.Groups.{jobs_of}
 use Rattle.m2v_order.proofs.Orders.{order_none, behind_none, anchor_more, anchor_behind, other_more}

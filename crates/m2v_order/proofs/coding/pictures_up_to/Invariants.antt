@@ -1,4 +1,4 @@
-use Rattle.std.proofs.Common.{◌≡◌, ◌≤◌, ◌++◌}
+use Rattle.std.proofs.Common.{◌≡◌, ◌≤◌}
 use Rattle.std.specs.List.{flat_map}
 use Rattle.m2v_order.specs.Coding.{anchors_between, in_order}
 use Rattle.m2v_order.specs.Groups.{jobs_of, behind}
