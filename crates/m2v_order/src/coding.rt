@@ -105,6 +105,27 @@ fn push_between(
     Ok(())
 }
 
+/// Appends the pictures of an anchor, and then those of the frames between the anchor before, behind which `from` stands,
+/// and itself.
+fn push_anchor(
+    settings: &Settings,
+    count: u64,
+    first: u64,
+    from: u64,
+    anchor: u64,
+    pictures: &mut Vec<PictureJob>,
+) -> Result<(), Memory>
+    requires group { 1 ≤ settings.now.group }
+    requires step { 1 ≤ settings.now.step }
+    requires begun { first ≤ from }
+    requires order { from ≤ anchor }
+    requires small { anchor < 2 ^ 32 }
+    ensures ok { OnOk result (pictures.new.items ≡ (pictures.old.items ++ jobs_of settings.now count first anchor) ++ flat_map (jobs_of settings.now count first) (frames_between from anchor)) }
+{
+    push_frame(settings, count, first, anchor, pictures)?;
+    push_between(settings, count, first, from, anchor, pictures)
+}
+
 /// The pictures of the frames from `first` on below `to`, of `count`, up to the last anchor in coding order, and the
 /// frame behind that anchor.
 fn pictures_up_to(
@@ -127,8 +148,7 @@ fn pictures_up_to(
     let mut from = first;
     for display in first..to {
         if anchor_at(settings, count, display) {
-            push_frame(settings, count, first, display, &mut pictures)?;
-            push_between(settings, count, first, from, display, &mut pictures)?;
+            push_anchor(settings, count, first, from, display, &mut pictures)?;
             from = display + 1;
         }
     }

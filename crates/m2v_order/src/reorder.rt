@@ -86,7 +86,7 @@ impl Reorder {
         ensures frames { IfOk result (λ o. IfSome o (λ g. g.frames.items ≡ (group_of self.old).frames)) }
         ensures pictures { IfOk result (λ o. IfSome o (λ g. g.pictures.items ≡ (group_of self.old).pictures)) }
         ensures before { IfOk result (λ o. IfSome o (λ g. g.before ≡ (group_of self.old).before)) }
-        ensures some { IfOk result (λ o. IfSome o (λ g. 0 < length g.frames.items)) }
+        ensures nonempty { IfOk result (λ o. IfSome o (λ g. 0 < length g.frames.items)) }
         ensures places { IfOk result (λ o. IfSome o (λ g. All (λ (j : PictureJob). (j.display ≡ first_of self.old + j.frame) × (j.frame < length g.frames.items)) g.pictures.items)) }
         ensures size { IfOk result (λ o. IfSome o (λ g. All (λ (f : Samples). f.dims ≡ dims_of self.old.settings) g.frames.items)) }
         ensures rest { IfOk result (λ o. OnSome o (self.new ≡ after_group self.old)) }

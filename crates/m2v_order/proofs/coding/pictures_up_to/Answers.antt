@@ -3,7 +3,7 @@ use Rattle.m2v_order.specs.Coding.{is_anchor}
 use Rattle.m2v_order.specs.Groups.{jobs_of}
 use Rattle.m2v_order.proofs.Orders.{order_none, behind_none, anchor_more, anchor_behind, other_more}
 use Rattle.m2v_order.proofs.coding.pictures_up_to.Goals as goal
-use Rattle.m2v_order.proofs.coding.pictures_up_to.Goals.{then-anchor_at+in_ok-push_frame+in_ok-push_between, else-anchor_at}
+use Rattle.m2v_order.proofs.coding.pictures_up_to.Goals.{then-anchor_at+in_ok-push_anchor, else-anchor_at}
 
 pub loop-display-init : goal.loop-display-init
 loop-display-init c = (
@@ -18,8 +18,8 @@ loop-display-preserved c =
     let jobs = jobs_of c.args.settings.now c.args.count c.args.first in
     let test = is_anchor c.args.settings.now c.args.count in
     elim c.if-anchor_at.branch [
-      | then-anchor_at+in_ok-push_frame+in_ok-push_between w ↦ (
-        rw (w.pictures-is, w.in_ok-push_between.ensures.ok, w.in_ok-push_frame.ensures.ok, c.loop-display.invariant.0, c.loop-display.invariant.1)
+      | then-anchor_at+in_ok-push_anchor w ↦ (
+        rw (w.pictures-is, w.in_ok-push_anchor.ensures.ok, c.loop-display.invariant.0, c.loop-display.invariant.1)
             (sym (anchor_more jobs test c.args.first c.loop-display.display (omega arith) (sym w.if-anchor_at.ensures.value))),
         rw w.from-is (sym (anchor_behind test c.args.first c.loop-display.display (omega arith) (sym w.if-anchor_at.ensures.value))),
         omega arith,

@@ -6,9 +6,9 @@ use Rattle.m2v_order.specs.Groups.{Queue, group_of, group_size}
 use Rattle.m2v_order.proofs.Queues.{grouped, due_is, turn_is, sound_next, group_some, group_places}
 use Rattle.m2v_order.proofs.reorder.Reorder.next_group.Goals as goal
 
-pub returns-clause-some : goal.returns-clause-some
+pub returns-clause-nonempty : goal.returns-clause-nonempty
 unfolding group_of
-returns-clause-some c =
+returns-clause-nonempty c =
     let fields = c.self.inside in
     let q : Queue Samples = record { settings = fields.passed; pushed = fields.pushed; frames = fields.frames.items; ended = fields.ended } in
     let ok = grouped fields.passed c.settings-settings.ensures.passes in
