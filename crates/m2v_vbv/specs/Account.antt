@@ -1,5 +1,5 @@
 -- An account and its steps. Amounts are in units of 1/1800 bit, times in units of 1/720,000 s.
-use Rattle.std.specs.Prelude.{ℕ, ◌+◌, ◌-◌, ◌*◌, ◌≤◌, nat_le, if◌then◌else◌, List, [], ◌∷◌, length}
+use Rattle.std.specs.Prelude.{ℕ, ◌+◌, ◌-◌, ◌*◌, ◌/◌, ◌≤◌, nat_le, if◌then◌else◌, List, [], ◌∷◌, length}
 use Rattle.m2v_vbv.specs.Annex.{Start, Removal, time_of, held_endless}
 
 -- what contracts see of an account: its starting numbers, the number of removals, the time since the first one, and
@@ -26,6 +26,12 @@ after a bits units = record {
 -- that removal leaves room for what arrives until the next one
 abbrev pub LeavesRoom : State → ℕ → ℕ → Type 0
 LeavesRoom a bits units = a.held + a.start.k * units ≤ 1800 * (a.start.buffer_bits + bits)
+
+-- the zero bits, in whole bytes, that are sent after a picture of so many bits: what is too much for the buffer when the
+-- next picture is due, in units of 14400, a byte each, rounded up
+unfoldable pub stuffing_of : State → ℕ → ℕ → ℕ
+stuffing_of a bits units =
+    8 * ((a.held + a.start.k * units - 1800 * (a.start.buffer_bits + bits) + 14399) / 14400)
 
 -- what arrives from the place of a picture's start code to its removal: what arrived in all that time, less the bits
 -- from the first picture start code to this one

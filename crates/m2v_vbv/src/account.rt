@@ -1,5 +1,5 @@
 ghost use Rattle.std.specs.Prelude.{◌≡◌, ℕ, ◌+◌, ◌-◌, ◌*◌, ◌/◌, ◌%◌, ◌<◌, ◌≤◌, ◌^◌, ◌↔◌, IsErr, IfErr, OnOk, OnErr, min};
-ghost use Rattle.m2v_vbv.specs.Account.{opening, after, LeavesRoom, arriving};
+ghost use Rattle.m2v_vbv.specs.Account.{opening, after, LeavesRoom, stuffing_of, arriving};
 
 use crate::fault::AccountFault;
 use std::marker::Model;
@@ -113,11 +113,13 @@ impl Account {
     /// The zero bits to be sent after a picture of so many bits, in whole bytes: the fewest with which the buffer takes
     /// what arrives until the next picture, so many units later. The picture is held whole, and the buffer takes what is
     /// held. Where the buffer takes what arrives in that time and a byte more, the zero bytes are held too.
+    #[tactic(auto, unfolding(crate::specs::Account::stuffing_of))]
     pub fn stuffing(&self, bits: u64, units: u64) -> u64
         requires bits { bits < 2 ^ 42 }
         requires units { units < 2 ^ 20 }
         requires whole { 1800 * bits ≤ self.now.held }
         requires taken { self.now.held ≤ 1800 * self.now.start.buffer_bits }
+        ensures value { result ≡ stuffing_of self.now bits units }
         ensures bytes { result % 8 ≡ 0 }
         ensures enough { LeavesRoom self.now (bits + result) units }
         ensures fewest { (z : ℕ) → z % 8 ≡ 0 → LeavesRoom self.now (bits + z) units → result ≤ z }
