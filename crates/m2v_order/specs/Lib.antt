@@ -1,0 +1,4 @@
+pub mod Coding
+pub mod Groups
+pub mod Calls
+pub mod Display

@@ -1,0 +1,18 @@
+//! Groups of pictures in coding order, and frames in display order.
+#![tactic(auto)]
+
+mod coding;
+mod display;
+mod jobs;
+mod laws;
+mod reorder;
+#[cfg(test)]
+mod tests;
+
+pub use display::DisplayQueue;
+pub use jobs::{GroupJobs, PictureJob};
+pub use laws::{law_display, law_groups};
+pub use reorder::Reorder;
+
+/// Want of memory.
+pub type Memory = std::alloc::AllocError;
