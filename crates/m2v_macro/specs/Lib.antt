@@ -1,0 +1,4 @@
+pub mod Faults
+pub mod States
+pub mod Vectors
+pub mod Macros

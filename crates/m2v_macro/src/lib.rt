@@ -1,0 +1,9 @@
+//! Macroblocks without their blocks, both ways (clause 6.2.5 of ISO/IEC 13818-2): address increments, types, motion
+//! types, vectors and patterns, and the state that each leaves to the next.
+#![tactic(auto)]
+
+mod fault;
+mod values;
+
+pub use fault::MacroFault;
+pub use values::{MacroSyntax, PictureContext, SliceState};
