@@ -1,1 +1,2 @@
 pub mod MacroLaws
+pub mod Steps

@@ -22,7 +22,7 @@ use Rattle.m2v_macro.specs.declared.values.Shape.{Shape}
 use Rattle.m2v_macro.specs.Faults.{of_code, flag_at, coded, ahead_at}
 use Rattle.m2v_macro.specs.States.{is_field, pmv_before}
 use Rattle.m2v_macro.specs.Vectors.{shape_of, component_at, dm_at, vertical_at, vector_at, selected_at, vectors_at, direction_at}
-use Rattle.m2v_macro.specs.Macros.{added, round_at, increment_from, step_at, kind_at, told_form_at, form_at, dct_at, told_quantiser_at, quantiser_at, is_concealed, f_codes_of, told_marker_at, marker_at, zero_pattern, told_pattern_at, pattern_at, macro_at}
+use Rattle.m2v_macro.specs.Macros.{added, round_at, increment_from, allowed_at, step_at, kind_at, told_form_at, form_at, dct_at, told_quantiser_at, quantiser_at, is_concealed, f_codes_of, told_marker_at, marker_at, zero_pattern, told_pattern_at, pattern_at, macro_at}
 
 -- ---- elements
 
@@ -62,15 +62,20 @@ pub increment_from_strict : (sum : ℕ) → Strict length (increment_from sum)
 unfolding increment_from
 increment_from_strict sum = repeated_strict length (Code codes.Truncated) round_at round_strict sum
 
+allowed_lawful : (c : PictureContext) (st : SliceState) (start increment : ℕ) → Lawful length (allowed_at c st start increment)
+unfolding allowed_at
+allowed_lawful c st start increment =
+    seq_lawful (rule_lawful length _ MissingMacroblocks start) (λ near.
+    seq_lawful (rule_lawful length _ SliceOrder start) (λ order.
+    seq_lawful (rule_lawful length _ SkipRule start) (λ skip.
+    done_lawful length _)))
+
 pub step_strict : (c : PictureContext) (st : SliceState) → Strict length (step_at c st)
 unfolding step_at
 step_strict c st =
     seq_strict_later (here_lawful length length) (λ start.
     seq_strict (increment_from_strict 0) (λ increment.
-    seq_lawful (rule_lawful length _ MissingMacroblocks start) (λ near.
-    seq_lawful (rule_lawful length _ SliceOrder start) (λ order.
-    seq_lawful (rule_lawful length _ SkipRule start) (λ skip.
-    done_lawful length _)))))
+    allowed_lawful c st start increment))
 
 -- ---- modes
 
@@ -202,3 +207,20 @@ macro_once c st a b t rest other p q =
     let l = (macro_strict c st).lawful in
     let same = good_is {K = MacroFault} (a, rest) (b, other) (sym (l.only a t rest p) ∙ l.only b t other q) in
     (ap (λ (x : MacroSyntax × List Bool). x.0) same, ap (λ (x : MacroSyntax × List Bool). x.1) same)
+
+-- ---- what the reader's loop goes by
+
+pub increment_err : (sum : ℕ) (t : List Bool) (f : MacroFault × ℕ) → (round_at sum).read t ≡ bad f → (increment_from sum).read t ≡ bad f
+unfolding increment_from
+increment_err = round_err length (Code codes.Truncated) round_at (λ s. (round_strict s).lawful) (onward round_strict)
+
+pub increment_more : (sum next : ℕ) (t mid : List Bool) (b : Bool) → (round_at sum).read t ≡ good ((b, next), mid) → b ≡ true → (increment_from sum).read t ≡ (increment_from next).read mid
+unfolding increment_from
+increment_more sum next t mid b e on = round_more length (Code codes.Truncated) round_at (λ s. (round_strict s).lawful) (onward round_strict) sum next t mid (subst (λ (x : Bool). (round_at sum).read t ≡ good ((x, next), mid)) on e)
+
+pub increment_last : (sum next : ℕ) (t mid : List Bool) (b : Bool) → (round_at sum).read t ≡ good ((b, next), mid) → b ≡ false → (increment_from sum).read t ≡ good (next, mid)
+unfolding increment_from
+increment_last sum next t mid b e off = round_last length (Code codes.Truncated) round_at (λ s. (round_strict s).lawful) (onward round_strict) sum next t mid (subst (λ (x : Bool). (round_at sum).read t ≡ good ((x, next), mid)) off e)
+
+pub increment_less : (sum next : ℕ) (t mid : List Bool) (b : Bool) → (round_at sum).read t ≡ good ((b, next), mid) → length mid < length t
+increment_less sum next t mid b e = (round_strict sum).takes.less (b, next) t mid ((round_strict sum).lawful.found (b, next) t mid e)

@@ -2,3 +2,5 @@ pub mod Faults
 pub mod States
 pub mod Vectors
 pub mod Macros
+pub mod Conditions
+pub mod Reading

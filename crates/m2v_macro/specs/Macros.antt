@@ -37,14 +37,18 @@ abbrev pub increment_at : Of ℕ
 increment_at = increment_from 0
 
 -- an increment that may stand here
-unfoldable pub step_at : PictureContext → SliceState → Of ℕ
-step_at c st = do
-  start ← place
-  increment ← increment_at
+unfoldable pub allowed_at : PictureContext → SliceState → ℕ → ℕ → Of ℕ
+allowed_at c st start increment = do
   near ← rule (not_past st increment) MissingMacroblocks start
   order ← rule (in_order c st increment) SliceOrder start
   skip ← rule (may_skip c st increment) SkipRule start
   done increment
+
+unfoldable pub step_at : PictureContext → SliceState → Of ℕ
+step_at c st = do
+  start ← place
+  increment ← increment_at
+  allowed_at c st start increment
 
 -- ---- modes (clause 6.2.5.1)
 

@@ -2,7 +2,9 @@
 //! types, vectors and patterns, and the state that each leaves to the next.
 #![tactic(auto)]
 
+mod elements;
 mod fault;
+mod increments;
 mod values;
 
 pub use fault::MacroFault;
