@@ -5,7 +5,9 @@
 mod elements;
 mod fault;
 mod increments;
+mod modes;
 mod values;
+mod vectors;
 
 pub use fault::MacroFault;
 pub use values::{MacroSyntax, PictureContext, SliceState};
