@@ -22,7 +22,7 @@ use Rattle.m2v_macro.specs.declared.values.Shape.{Shape}
 use Rattle.m2v_macro.specs.Faults.{of_code, flag_at, coded, ahead_at}
 use Rattle.m2v_macro.specs.States.{is_field, pmv_before}
 use Rattle.m2v_macro.specs.Vectors.{shape_of, component_at, dm_at, vertical_at, vector_at, selected_at, vectors_at, direction_at}
-use Rattle.m2v_macro.specs.Macros.{added, round_at, increment_from, allowed_at, step_at, kind_at, told_form_at, form_at, dct_at, told_quantiser_at, quantiser_at, is_concealed, f_codes_of, told_marker_at, marker_at, zero_pattern, told_pattern_at, pattern_at, macro_at}
+use Rattle.m2v_macro.specs.Macros.{added, round_at, increment_from, allowed_at, step_at, kind_at, told_form_at, form_at, dct_at, told_quantiser_at, quantiser_at, is_concealed, f_codes_of, told_marker_at, marker_at, zero_pattern, told_pattern_at, pattern_at, directions_at, macro_at}
 
 -- ---- elements
 
@@ -185,6 +185,14 @@ pattern_lawful : (kind : MbType) → Lawful length (pattern_at kind)
 unfolding pattern_at
 pattern_lawful kind = choose_lawful kind.intra (done_lawful length _) (choose_lawful kind.pattern told_pattern_lawful (done_lawful length _))
 
+directions_lawful : (c : PictureContext) (kind : MbType) (form : ℕ) (pmv : Pmv) → Lawful length (directions_at c kind form pmv)
+unfolding directions_at
+directions_lawful c kind form pmv =
+    seq_lawful (direction_lawful _ _ _ _ 0) (λ forward.
+    seq_lawful (direction_lawful kind.backward _ _ _ 1) (λ backward.
+    seq_lawful (marker_lawful c kind) (λ marker.
+    done_lawful length _)))
+
 -- the laws of a macroblock up to its blocks: one reading, and it takes something
 pub macro_strict : (c : PictureContext) (st : SliceState) → Strict length (macro_at c st)
 unfolding macro_at
@@ -194,11 +202,9 @@ macro_strict c st =
     seq_lawful (form_lawful c kind) (λ form.
     seq_lawful (dct_lawful c kind) (λ dct_field.
     seq_lawful (quantiser_lawful kind) (λ quantiser.
-    seq_lawful (direction_lawful _ _ _ _ 0) (λ forward.
-    seq_lawful (direction_lawful kind.backward _ _ _ 1) (λ backward.
-    seq_lawful (marker_lawful c kind) (λ marker.
+    seq_lawful (directions_lawful c kind form _) (λ vectors.
     seq_lawful (pattern_lawful kind) (λ pattern.
-    done_lawful length _)))))))))
+    done_lawful length _)))))))
 
 -- two spellings of one text give the same macroblock and the same rest
 pub macro_once : (c : PictureContext) (st : SliceState) (a b : MacroSyntax) (t rest other : List Bool)

@@ -42,6 +42,7 @@ pub record IsContext (c : PictureContext) : Type 0 where
   pub kind : (1 ≤ c.kind) × (c.kind ≤ 3)
   pub structure : (1 ≤ c.extension.structure) × (c.extension.structure ≤ 3)
   pub columns : (1 ≤ c.columns) × (c.columns ≤ 120)
+  pub precision : c.extension.dc_precision ≤ 3
   pub forward : is_used c 0 ≡ true → AreScales (f_codes_of c 0)
   pub backward : is_used c 1 ≡ true → AreScales (f_codes_of c 1)
 

@@ -7,6 +7,7 @@ use Rattle.m2v_vlc.specs.declared.values.CodeFault.TheVariants as codes
 use Rattle.m2v_vlc.specs.declared.values.Increment.{Increment}
 use Rattle.m2v_vlc.specs.declared.values.Increment.TheVariants.{Step, Escape}
 use Rattle.m2v_vlc.specs.declared.values.MbType.{MbType}
+use Rattle.m2v_vector.specs.declared.predictors.Pmv.{Pmv}
 use Rattle.m2v_vlc.specs.Tables.{increment, type_i, type_p, type_b, block_pattern}
 use Rattle.m2v_macro.specs.declared.fault.MacroFault.TheVariants.{Code, SliceOrder, MissingMacroblocks, SkipRule, QuantZero, PatternZero, BadMotionType, Marker}
 use Rattle.m2v_macro.specs.declared.values.MacroSyntax.{MacroSyntax}
@@ -147,6 +148,14 @@ macro_of increment kind form dct_field quantiser f b pattern = record {
   pattern = pattern;
 }
 
+-- motion_vectors (0), motion_vectors (1) and the marker; a skipped macroblock before has changed the predictors already
+unfoldable pub directions_at : PictureContext → MbType → ℕ → Pmv → Of (Direction × Direction)
+directions_at c kind form pmv = do
+  forward ← direction_at (kind.forward || is_concealed c kind) (shape_of (is_field c) form) (f_codes_of c 0) pmv 0
+  backward ← direction_at kind.backward (shape_of (is_field c) form) (f_codes_of c 1) pmv 1
+  marker ← marker_at c kind
+  done (forward, backward)
+
 -- macroblock (), up to its blocks
 unfoldable pub macro_at : PictureContext → SliceState → Of MacroSyntax
 macro_at c st = do
@@ -155,8 +164,6 @@ macro_at c st = do
   form ← form_at c kind
   dct_field ← dct_at c kind
   quantiser ← quantiser_at kind
-  forward ← direction_at (kind.forward || is_concealed c kind) (shape_of (is_field c) form) (f_codes_of c 0) (pmv_before c st increment) 0
-  backward ← direction_at kind.backward (shape_of (is_field c) form) (f_codes_of c 1) (pmv_before c st increment) 1
-  marker ← marker_at c kind
+  vectors ← directions_at c kind form (pmv_before c st increment)
   pattern ← pattern_at kind
-  done (macro_of increment kind form dct_field quantiser forward backward pattern)
+  done (macro_of increment kind form dct_field quantiser vectors.0 vectors.1 pattern)

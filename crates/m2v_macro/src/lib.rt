@@ -6,8 +6,11 @@ mod elements;
 mod fault;
 mod increments;
 mod modes;
+mod read;
+mod state;
 mod values;
 mod vectors;
 
 pub use fault::MacroFault;
+pub use read::read_macro;
 pub use values::{MacroSyntax, PictureContext, SliceState};

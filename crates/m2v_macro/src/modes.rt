@@ -154,6 +154,14 @@ pub fn is_concealed(context: &PictureContext, kind: MbType) -> bool
     kind.intra && context.extension.concealment
 }
 
+/// Whether the macroblock has forward vectors, or concealment vectors in their place.
+#[inline(always)]
+pub fn has_forward(context: &PictureContext, kind: MbType) -> bool
+    ensures { result ≡ (kind.forward || is_concealed_of context.now kind) }
+{
+    kind.forward || is_concealed(context, kind)
+}
+
 /// A marker that stands there.
 #[inline(always)]
 #[tactic(auto, unfolding(crate::specs::Macros::told_marker_at, m2v_bits::specs::Syntax::seq, m2v_bits::specs::Syntax::bind, m2v_bits::specs::Syntax::here))]

@@ -244,3 +244,31 @@ fn vectors(
     let second = second(input, shape, f_code, &pmv.at[1][direction])?;
     Ok(Direction { first, second })
 }
+
+/// The vectors of a direction that is told; zero vectors of one that isn't.
+#[inline(always)]
+#[tactic(auto, unfolding(crate::specs::Vectors::direction_at, m2v_bits::specs::Syntax::choose, m2v_bits::specs::Syntax::done))]
+pub fn direction(
+    input: &mut BitReader,
+    told: bool,
+    shape: &Shape,
+    f_code: &[u8; 2],
+    pmv: &Pmv,
+    direction: usize,
+) -> Result<Direction, MacroFault>
+    requires scales { told ≡ true → AreScales f_code.now }
+    requires predictors { told ≡ true → ArePredictors f_code.now pmv.now direction }
+    requires direction { direction < 2 }
+    ensures exact { Gives result input.new.rest ((direction_at told shape.now f_code.now pmv.now direction).read input.old.rest) }
+    ensures text { input.new.text ≡ input.old.text }
+    ensures known { IfOk result (λ d. IsDirection told shape.now f_code.now d) }
+{
+    if told {
+        let read = vectors(input, shape, f_code, pmv, direction)?;
+        return Ok(read);
+    }
+    Ok(Direction {
+        first: no_vector(),
+        second: no_vector(),
+    })
+}
