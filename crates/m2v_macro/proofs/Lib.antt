@@ -5,4 +5,4 @@ pub mod Types
 pub mod Components
 pub mod Predicted
 pub mod Ready
-pub mod Fits
+pub mod Lengths

@@ -4,3 +4,4 @@ pub mod Vectors
 pub mod Macros
 pub mod Conditions
 pub mod Reading
+pub mod Texts

@@ -10,6 +10,7 @@ mod read;
 mod state;
 mod values;
 mod vectors;
+mod write;
 
 pub use fault::MacroFault;
 pub use read::read_macro;

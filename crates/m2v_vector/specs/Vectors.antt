@@ -1,5 +1,5 @@
 -- Vector arithmetic (clauses 7.6.3.1 and 7.6.3.6). The unit is half a sample, and f is 2 ^ (f_code - 1).
-use Rattle.std.specs.Prelude.{◌≡◌, ℕ, ◌+◌, ◌-◌, ◌*◌, ◌^◌, ◌<◌, ◌≤◌, Bool, ◌||◌, nat_eq, cond, if◌then◌else◌, ℤ, pos, negsuc, neg_ℤ, ◌+ℤ◌, ◌-ℤ◌, ◌*ℤ◌, ◌≤ℤ◌, ◌<ℤ◌, int_lt, int_le, unsigned_abs}
+use Rattle.std.specs.Prelude.{◌≡◌, ℕ, ◌+◌, ◌-◌, ◌*◌, ◌/◌, ◌%◌, ◌^◌, ◌<◌, ◌≤◌, Bool, ◌||◌, nat_eq, cond, if◌then◌else◌, ℤ, pos, negsuc, neg_ℤ, ◌+ℤ◌, ◌-ℤ◌, ◌*ℤ◌, ◌≤ℤ◌, ◌<ℤ◌, int_lt, int_le, unsigned_abs}
 use Rattle.std.specs.Int.{int_shr}
 
 -- f
@@ -31,6 +31,13 @@ pub record IsSpelling (f : ℕ) (code : ℤ) (residual : ℕ) : Type 0 where
   pub high : code ≤ℤ pos 16
   pub below : residual < f
   pub none : code ≡ pos 0 → residual ≡ 0
+
+-- the motion_code of a difference, and its motion_residual
+unfoldable pub code_of : ℕ → ℤ → ℤ
+code_of f d = if nat_eq (unsigned_abs d) 0 then pos 0 else with_sign d ((unsigned_abs d - 1) / f + 1)
+
+unfoldable pub residual_of : ℕ → ℤ → ℕ
+residual_of f d = (unsigned_abs d - 1) % f
 
 -- brought back into the range of vectors
 unfoldable pub wrapped : ℕ → ℤ → ℤ

@@ -1,5 +1,5 @@
 ghost use Rattle.std.specs.Prelude.{◌≡◌, ℕ, ◌+◌, ◌-◌, ◌*◌, ◌/◌, ◌%◌, ◌^◌, ◌<◌, ◌≤◌, ◌||◌, nat_eq, ℤ, pos, neg_ℤ, cond, int_lt, ◌+ℤ◌, ◌-ℤ◌, ◌*ℤ◌, ◌≤ℤ◌, ◌<ℤ◌, unsigned_abs, ◌⊎◌};
-ghost use Rattle.m2v_vector.specs.Vectors.{scale, IsVector, IsDifference, IsSpelling, with_sign, difference, wrapped, joined, between as between_of, half as half_of, opposite};
+ghost use Rattle.m2v_vector.specs.Vectors.{scale, IsVector, IsDifference, IsSpelling, with_sign, difference, code_of, residual_of, wrapped, joined, between as between_of, half as half_of, opposite};
 
 /// What an f_code stands for.
 #[inline(always)]
@@ -121,10 +121,13 @@ fn code_size(f: u32, size: u32) -> u32
 }
 
 /// The motion_code and the motion_residual of a difference from `-16 f` to `16 f`.
+#[tactic(auto, unfolding(crate::specs::Vectors::code_of, crate::specs::Vectors::residual_of))]
 pub fn split(delta: i32, f_code: u8) -> (i8, u32)
     requires least { 1 ≤ f_code }
     requires most { f_code ≤ 9 }
     requires range { IsDifference (scale f_code) delta }
+    ensures code { result.0 ≡ code_of (scale f_code) delta }
+    ensures residual { result.1 ≡ residual_of (scale f_code) delta }
     ensures spelling { IsSpelling (scale f_code) result.0 result.1 }
     ensures value { difference (scale f_code) result.0 result.1 ≡ delta }
 {
