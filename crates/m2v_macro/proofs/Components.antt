@@ -5,7 +5,7 @@ use Rattle.std.proofs.lemmas.Int.{ints, to_z-of_z}
 use Rattle.std.proofs.lemmas.Bool.{and_parts}
 use mir.Syntax.{w32}
 use mir.Val.{SFits, to_z, of_z}
-use Rattle.m2v_vector.specs.Vectors.{scale, IsVector}
+use Rattle.m2v_vector.specs.Vectors.{scale, IsVector, half}
 use Rattle.m2v_vector.proofs.Ranges.{powers}
 use Rattle.m2v_macro.specs.Vectors.{has_residual}
 use Rattle.m2v_macro.specs.Conditions.{IsDm}
@@ -33,3 +33,8 @@ dm_fits (negsuc a) h = record { sfits = omega (arith, ints, h.0, h.1) }
 
 pub passed_dm : (d : ℤ) → IsDm d → to_z w32 (of_z w32 d) ≡ d
 passed_dm d h = to_z-of_z w32 d (dm_fits d h)
+
+-- half a predictor
+pub half_within : (f : ℕ) (v : ℤ) → IsVector f v → IsVector f (half v)
+half_within f (pos a) h = (omega (arith, ints, h.0, h.1), omega (arith, ints, h.0, h.1))
+half_within f (negsuc a) h = (omega (arith, ints, h.0, h.1), omega (arith, ints, h.0, h.1))

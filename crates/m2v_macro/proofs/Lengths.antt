@@ -1,4 +1,4 @@
--- The texts of escapes, one behind another.
+-- Texts one behind another, and those of escapes.
 use Rattle.std.proofs.Common.{◌≡◌, ℕ, zero, suc, ◌+◌, ◌-◌, ◌*◌, ◌<◌, ◌≤◌, Bool, List, [], ◌++◌, length, refl, ap, sym, ◌∙◌, append_assoc, append-nil, arith}
 use Rattle.std.proofs.lemmas.List.{length-append}
 use Rattle.m2v_vlc.specs.declared.values.Increment.TheVariants.{Step, Escape}
@@ -33,3 +33,20 @@ escapes_bits (suc n) = omega (arith, length-append (increment_code Escape) (esca
 pub escapes_none : (n : ℕ) (w all : List Bool) → n ≡ 0 → w ++ escapes_text n ≡ all → w ≡ all
 unfolding escapes_text
 escapes_none n w all none h = sym (append-nil w) ∙ ap (λ (k : ℕ). w ++ escapes_text k) (sym none) ∙ h
+
+-- ---- two texts
+
+pub two_bits : (x y : List Bool) (m n : ℕ) → m ≡ length x → n ≡ length y → m + n ≡ length (x ++ y)
+two_bits x y m n e f = omega (arith, e, f, length-append x y)
+
+pub first_room : (x y : List Bool) (room : ℕ) → length (x ++ y) ≤ room → length x ≤ room
+first_room x y room le = omega (arith, le, length-append x y)
+
+pub second_room : (x y : List Bool) (room mid : ℕ) → length (x ++ y) ≤ room → mid + length x ≡ room → length y ≤ mid
+second_room x y room mid le e = omega (arith, le, e, length-append x y)
+
+pub two_room : (x y : List Bool) (room mid new : ℕ) → mid + length x ≡ room → new + length y ≡ mid → new + length (x ++ y) ≡ room
+two_room x y room mid new e f = omega (arith, e, f, length-append x y)
+
+pub two_written : (x y w mid new : List Bool) → mid ≡ w ++ x → new ≡ mid ++ y → new ≡ w ++ (x ++ y)
+two_written x y w mid new e f = f ∙ ap (λ (z : List Bool). z ++ y) e ∙ append_assoc w x y

@@ -6,3 +6,4 @@ pub mod Components
 pub mod Predicted
 pub mod Ready
 pub mod Lengths
+pub mod Parts

@@ -47,12 +47,20 @@ component_text f_code predictor v = difference_text f_code (between (scale f_cod
 unfoldable pub dm_text : Bool → ℤ → List Bool
 dm_text dual dm = if dual then dmv_code dm else []
 
+-- what a component is predicted from
+unfoldable pub predictor_at : Shape → List ℤ → ℕ → ℤ
+predictor_at shape predictor k =
+    if nat_eq k 0 then slice_index_or predictor 0 (pos 0)
+    else cond shape.halved (half (slice_index_or predictor 1 (pos 0))) (slice_index_or predictor 1 (pos 0))
+
+-- a component, and its dmvector in dual prime
+unfoldable pub part_text : Shape → List ℕ → List ℤ → Selected → ℕ → List Bool
+part_text shape f_code predictor s k =
+    component_text (slice_index f_code k) (predictor_at shape predictor k) (slice_index_or s.vector k (pos 0))
+    ⧺ dm_text shape.dual (slice_index_or s.dmvector k (pos 0))
+
 unfoldable pub vector_text : Shape → List ℕ → List ℤ → Selected → List Bool
-vector_text shape f_code predictor s =
-    component_text (slice_index f_code 0) (slice_index_or predictor 0 (pos 0)) (slice_index_or s.vector 0 (pos 0))
-    ⧺ dm_text shape.dual (slice_index_or s.dmvector 0 (pos 0))
-    ⧺ component_text (slice_index f_code 1) (cond shape.halved (half (slice_index_or predictor 1 (pos 0))) (slice_index_or predictor 1 (pos 0))) (slice_index_or s.vector 1 (pos 0))
-    ⧺ dm_text shape.dual (slice_index_or s.dmvector 1 (pos 0))
+vector_text shape f_code predictor s = part_text shape f_code predictor s 0 ⧺ part_text shape f_code predictor s 1
 
 unfoldable pub bit_text : Bool → Bool → List Bool
 bit_text told b = if told then flag b else []

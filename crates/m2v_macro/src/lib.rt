@@ -2,6 +2,7 @@
 //! types, vectors and patterns, and the state that each leaves to the next.
 #![tactic(auto)]
 
+mod differences;
 mod elements;
 mod fault;
 mod increments;
@@ -11,6 +12,7 @@ mod state;
 mod values;
 mod vectors;
 mod write;
+mod write_vectors;
 
 pub use fault::MacroFault;
 pub use read::read_macro;

@@ -87,7 +87,7 @@ fn dm(input: &mut BitReader, dual: bool) -> Result<i32, MacroFault>
 
 /// What the vertical component is predicted from.
 #[inline(always)]
-fn before(halved: bool, predictor: i32) -> i32
+pub fn before(halved: bool, predictor: i32) -> i32
     ensures { result ≡ cond halved (half_of predictor) predictor }
 {
     if halved { half(predictor) } else { predictor }
