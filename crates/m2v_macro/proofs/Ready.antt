@@ -18,6 +18,7 @@ use Rattle.m2v_macro.specs.States.{is_field, motion, pmv_before, after}
 use Rattle.m2v_macro.specs.Vectors.{shape_of, no_vector}
 use Rattle.m2v_macro.specs.Macros.{is_concealed, f_codes_of, macro_of}
 use Rattle.m2v_macro.specs.Conditions.{IsContext, IsReady, AreScales, IsPair, ArePredictors, IsSelected, IsDirection, IsMacro, has_type, is_used, forward_of, backward_of}
+use Rattle.m2v_macro.proofs.Types.{of_i, of_p}
 use Rattle.m2v_macro.proofs.Predicted.{Leaves, forward_after, backward_after, forward_before, backward_before}
 
 -- ---- which directions a picture's types have
@@ -40,20 +41,12 @@ still_p v h = elim (cases_Bool v.backward) [
   ]
 ]
 
-type_i : (kind : ℕ) (v : MbType) → kind ≡ 1 → has_type kind v ≡ true → has_type_i v ≡ true
-unfolding has_type
-type_i kind v e h = rw e at h
-
-type_p : (kind : ℕ) (v : MbType) → kind ≡ 2 → has_type kind v ≡ true → has_type_p v ≡ true
-unfolding has_type
-type_p kind v e h = rw e at h
-
 pub used_forward : (c : PictureContext) (v : MbType) → has_type c.kind v ≡ true → (v.forward || is_concealed c v) ≡ true → is_used c 0 ≡ true
 unfolding is_used
 used_forward c v h told = elim (cases_Bool (nat_eq c.kind 1)) [
   | inr other ↦ rw other refl
   | inl intra ↦
-    let still = (still_i v (type_i c.kind v (eqb-true c.kind 1 intra) h)).0 in
+    let still = (still_i v (of_i c.kind v (eqb-true c.kind 1 intra) h)).0 in
     let hidden : is_concealed c v ≡ true = rw still at told in
     rw intra (and_parts v.intra c.extension.concealment hidden).1
 ]
@@ -61,9 +54,9 @@ used_forward c v h told = elim (cases_Bool (nat_eq c.kind 1)) [
 pub used_backward : (c : PictureContext) (v : MbType) → 1 ≤ c.kind → c.kind ≤ 3 → has_type c.kind v ≡ true → v.backward ≡ true → is_used c 1 ≡ true
 unfolding is_used
 used_backward c v low high h told = elim (cases_Bool (nat_eq c.kind 1)) [
-  | inl intra ↦ absurd (let still = (still_i v (type_i c.kind v (eqb-true c.kind 1 intra) h)).1 in cc)
+  | inl intra ↦ absurd (let still = (still_i v (of_i c.kind v (eqb-true c.kind 1 intra) h)).1 in cc)
   | inr not_i ↦ elim (cases_Bool (nat_eq c.kind 2)) [
-    | inl forward ↦ absurd (let still = still_p v (type_p c.kind v (eqb-true c.kind 2 forward) h) in cc)
+    | inl forward ↦ absurd (let still = still_p v (of_p c.kind v (eqb-true c.kind 2 forward) h) in cc)
     | inr not_p ↦ let three : c.kind ≡ 3 = from c.kind low high not_i not_p in rw three refl
   ]
 ]

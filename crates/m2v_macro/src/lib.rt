@@ -12,8 +12,10 @@ mod state;
 mod values;
 mod vectors;
 mod write;
+mod write_modes;
 mod write_vectors;
 
 pub use fault::MacroFault;
 pub use read::read_macro;
 pub use values::{MacroSyntax, PictureContext, SliceState};
+pub use write::{macro_bits, write_macro};

@@ -2,10 +2,10 @@
 use Rattle.std.proofs.Common.{◌≡◌, ℕ, zero, suc, ◌+◌, ◌-◌, ◌*◌, ◌/◌, ◌%◌, ◌<◌, ◌≤◌, Bool, true, false, cond, ℤ, pos, negsuc, neg_ℤ, ◌+ℤ◌, ◌-ℤ◌, ◌<ℤ◌, ◌≤ℤ◌, ◌⊎◌, inl, inr, arith, refl, ap, sym, subst, ◌∙◌}
 use Rattle.std.specs.Prelude.{nat_eq, ◌||◌, unsigned_abs}
 use Rattle.std.proofs.lemmas.Int.{ints}
-use Rattle.std.proofs.lemmas.Bool.{cases_Bool, eqb-true, ne_eqb}
+use Rattle.std.proofs.lemmas.Bool.{cases_Bool, eqb-true, eqb-false, ne_eqb}
 use Rattle.std.proofs.lemmas.Nat.{div-mul-add, div-add-mod'}
-use Rattle.std.proofs.Math.Nat.{mul-le-mul_right, mod-lt, div-lt_iff_lt-mul}
-use Rattle.m2v_vector.specs.Vectors.{IsVector, IsDifference, IsSpelling, with_sign, difference, wrapped, joined}
+use Rattle.std.proofs.Math.Nat.{mul-le-mul_right, mod-lt, mod-eq_of_lt, div-lt_iff_lt-mul}
+use Rattle.m2v_vector.specs.Vectors.{IsVector, IsDifference, IsSpelling, with_sign, difference, code_of, residual_of, wrapped, joined}
 use Rattle.m2v_vector.proofs.Wrapping.{same_or_edges}
 
 -- the difference of a code, by its size less 1
@@ -114,3 +114,24 @@ two_spellings f predictor code other residual more p q e =
       | inl same ↦ inl (one_spelling f code other residual more p q same)
       | inr edges ↦ inr edges
     ]
+
+-- ---- the spelling of a difference
+
+-- the code of a difference and its residual are a spelling
+pub spelling_of : (f : ℕ) (d : ℤ) → 0 < f → IsDifference f d → IsSpelling f (code_of f d) (residual_of f d)
+unfolding code_of residual_of
+spelling_of f d some h = elim (cases_Bool (nat_eq (unsigned_abs d) 0)) [
+  | inl e ↦ let none : unsigned_abs d ≡ 0 = eqb-true (unsigned_abs d) 0 e in let small : 0 - 1 ≡ 0 = omega arith in rw (e, none, small, mod-eq_of_lt some) (record { low = omega (arith, ints); high = omega (arith, ints); below = some; none = λ z. refl })
+  | inr e ↦ rw e (split_spelling f (unsigned_abs d) d _ some h refl (eqb-false (unsigned_abs d) 0 e) refl)
+]
+
+-- and mean it
+pub difference_of : (f : ℕ) (d : ℤ) → 0 < f → difference f (code_of f d) (residual_of f d) ≡ d
+unfolding code_of residual_of
+difference_of f d some = elim (cases_Bool (nat_eq (unsigned_abs d) 0)) [
+  | inl e ↦ rw e (of_none f _ ∙ nothing d (eqb-true (unsigned_abs d) 0 e))
+  | inr e ↦ rw e (split_value f (unsigned_abs d) d _ some refl (eqb-false (unsigned_abs d) 0 e) refl)
+]
+  where
+    nothing : (z : ℤ) → unsigned_abs z ≡ 0 → pos 0 ≡ z
+    nothing z h = omega (arith, ints, h)

@@ -1,5 +1,5 @@
 -- Components brought back into their range.
-use Rattle.std.proofs.Common.{◌≡◌, ℕ, ◌*◌, ◌<◌, ◌≤◌, Bool, true, false, cond, ℤ, pos, neg_ℤ, ◌+ℤ◌, ◌-ℤ◌, ◌*ℤ◌, ◌<ℤ◌, ◌≤ℤ◌, ◌⊎◌, inl, inr, arith, refl, ap, sym, ◌∙◌}
+use Rattle.std.proofs.Common.{◌≡◌, ℕ, ◌*◌, ◌<◌, ◌≤◌, Bool, true, false, cond, ℤ, pos, neg_ℤ, ◌+ℤ◌, ◌-ℤ◌, ◌*ℤ◌, ◌<ℤ◌, ◌≤ℤ◌, ◌⊎◌, inl, inr, arith, refl, ap, sym, subst, ◌∙◌}
 use Rattle.std.specs.Prelude.{int_lt, int_le}
 use Rattle.std.proofs.lemmas.Int.{ints, by_lt_z}
 use Rattle.std.proofs.lemmas.Bool.{cond-true}
@@ -81,3 +81,13 @@ joined_is f g residual p code read x d r e same is of from = e ∙ (λ i. wrappe
 pub opposite_is : (v dm m k x h y a s r : ℤ) → h ≡ half x → x ≡ y +ℤ a → y ≡ v *ℤ m → a ≡ cond (int_lt (pos 0) v) (pos 1) (pos 0) → s ≡ dm +ℤ k → r ≡ h +ℤ s → r ≡ opposite v dm m k
 unfolding opposite
 opposite_is v dm m k x h y a s r of sum product above added is = is ∙ (λ i. of i +ℤ added i) ∙ (λ i. half (sum i) +ℤ (dm +ℤ k)) ∙ (λ i. half (product i +ℤ above i) +ℤ (dm +ℤ k))
+
+-- the difference that is written lies in the range of vectors
+pub between_within : (f : ℕ) (p v : ℤ) → IsVector f p → IsVector f v → IsVector f (between f p v)
+unfolding between
+between_within f p v hp hv =
+    by_lt_z (v -ℤ p) (neg_ℤ (pos (16 * f)))
+    (λ low. subst (λ (z : ℤ). IsVector f z) (sym (wrap_low f (v -ℤ p) low)) (omega (arith, ints, hp.0, hp.1, hv.0, hv.1), omega (arith, ints, low)))
+    (λ ge. by_lt_z (v -ℤ p) (pos (16 * f))
+    (λ lt. subst (λ (z : ℤ). IsVector f z) (sym (wrap_none f (v -ℤ p) ge lt)) (ge, lt))
+    (λ high. subst (λ (z : ℤ). IsVector f z) (sym (wrap_high f (v -ℤ p) high)) (omega (arith, ints, high), omega (arith, ints, hp.0, hp.1, hv.0, hv.1))))
