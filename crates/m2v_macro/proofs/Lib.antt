@@ -7,3 +7,5 @@ pub mod Predicted
 pub mod Ready
 pub mod Lengths
 pub mod Parts
+pub mod Spellings
+pub mod MacroSpellings

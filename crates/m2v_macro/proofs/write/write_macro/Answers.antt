@@ -6,7 +6,7 @@ use Rattle.m2v_macro.proofs.Predicted.{forward_before, backward_before}
 use Rattle.m2v_macro.specs.declared.values.SliceState.{SliceState}
 use Rattle.m2v_macro.specs.Conditions.{IsReady}
 use Rattle.m2v_macro.proofs.Ready.{ready_after}
-use Rattle.m2v_macro.proofs.Spellings.{macro_spells}
+use Rattle.m2v_macro.proofs.MacroSpellings.{macro_spells}
 use Rattle.m2v_macro.proofs.write.write_macro.Goals as goal
 
 pub write_directions-requires-clause-forward : goal.write_directions-requires-clause-forward
