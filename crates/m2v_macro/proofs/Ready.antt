@@ -46,9 +46,9 @@ unfolding is_used
 used_forward c v h told = elim (cases_Bool (nat_eq c.kind 1)) [
   | inr other ↦ rw other refl
   | inl intra ↦
-    let still = (still_i v (of_i c.kind v (eqb-true c.kind 1 intra) h)).0 in
-    let hidden : is_concealed c v ≡ true = rw still at told in
-    rw intra (and_parts v.intra c.extension.concealment hidden).1
+      let still = (still_i v (of_i c.kind v (eqb-true c.kind 1 intra) h)).0 in
+      let hidden : is_concealed c v ≡ true = rw still at told in
+      rw intra (and_parts v.intra c.extension.concealment hidden).1
 ]
 
 pub used_backward : (c : PictureContext) (v : MbType) → 1 ≤ c.kind → c.kind ≤ 3 → has_type c.kind v ≡ true → v.backward ≡ true → is_used c 1 ≡ true

@@ -129,9 +129,9 @@ no_residual : (f_code : ℕ) (code : ℤ) (residual : ℕ) → 1 ≤ f_code → 
 unfolding has_residual
 no_residual f_code code residual least h e = elim (cases_Bool (nat_eq f_code 1)) [
   | inl one ↦
-    let is : f_code ≡ 1 = eqb-true f_code 1 one in
-    let small : scale f_code ≡ 1 = ap (λ (n : ℕ). 2 ^ (n - 1)) is in
-    omega (arith, h.below, small)
+      let is : f_code ≡ 1 = eqb-true f_code 1 one in
+      let small : scale f_code ≡ 1 = ap (λ (n : ℕ). 2 ^ (n - 1)) is in
+      omega (arith, h.below, small)
   | inr other ↦ elim (cases_Bool (nat_eq (unsigned_abs code) 0)) [
     | inl none ↦ h.none (nothing code (eqb-true (unsigned_abs code) 0 none))
     | inr some ↦ absurd (let g = rw (other, some) at e in cc)

@@ -60,9 +60,9 @@ pub allowed_kept : (c : PictureContext) (st : SliceState) (start n v : ℕ) (t :
 allowed_kept c st start n v t e most low next = elim (cases_lt n (2 ^ 32 - 1)) [
   | inl small ↦ let same : v ≡ n = omega (arith, e) in rw same refl
   | inr far ↦
-    let v_far : 2 ^ 20 ≤ v = omega (arith, e) in
-    let n_far : 2 ^ 20 ≤ n = omega arith in
-    far_same c st start n v t (far_past st v low next v_far ∙ sym (far_past st n low next n_far)) (far_order c st v most v_far) (far_order c st n most n_far)
+      let v_far : 2 ^ 20 ≤ v = omega (arith, e) in
+      let n_far : 2 ^ 20 ≤ n = omega arith in
+      far_same c st start n v t (far_past st v low next v_far ∙ sym (far_past st n low next n_far)) (far_order c st v most v_far) (far_order c st n most n_far)
 ]
 
 -- an increment that may stand here is below 2 ^ 20

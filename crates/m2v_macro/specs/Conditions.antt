@@ -125,4 +125,3 @@ pub record IsMacro (c : PictureContext) (st : SliceState) (m : MacroSyntax) : Ty
   pub no_pattern : m.kind.intra ≡ false → m.kind.pattern ≡ false → m.pattern ≡ 0
   -- the vectors and field bits are two by two
   pub arranged : m ≡ macro_of m.increment m.kind m.form m.dct_field m.quantiser (forward_of m) (backward_of m) m.pattern
-

@@ -16,7 +16,7 @@ use Rattle.m2v_macro.specs.declared.values.PictureContext.{PictureContext}
 use Rattle.m2v_macro.specs.declared.values.Direction.{Direction}
 use Rattle.m2v_macro.specs.Faults.{Of, place, number, flag_at, coded, ahead_at}
 use Rattle.m2v_macro.specs.States.{is_field, not_past, in_order, may_skip, pmv_before}
-use Rattle.m2v_macro.specs.Vectors.{shape_of, direction_at}
+use Rattle.m2v_macro.specs.Vectors.{shape_of, no_vector, direction_at}
 
 -- ---- address increments
 
@@ -147,6 +147,17 @@ macro_of increment kind form dct_field quantiser f b pattern = record {
   dmvector = f.first.dmvector;
   pattern = pattern;
 }
+
+-- no type and no vectors yet
+abbrev pub no_kind : MbType
+no_kind = record { quant = false; forward = false; backward = false; pattern = false; intra = false }
+
+abbrev pub no_vectors : Direction
+no_vectors = record { first = no_vector; second = no_vector }
+
+-- a macroblock that has nothing
+abbrev pub blank : MacroSyntax
+blank = macro_of 0 no_kind 0 false 0 no_vectors no_vectors 0
 
 -- motion_vectors (0), motion_vectors (1) and the marker; a skipped macroblock before has changed the predictors already
 unfoldable pub directions_at : PictureContext → MbType → ℕ → Pmv → Of (Direction × Direction)

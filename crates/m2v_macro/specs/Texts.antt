@@ -74,7 +74,7 @@ second_text shape f_code predictor s = if shape.two then selected_text shape f_c
 unfoldable pub direction_text : Bool → Shape → List ℕ → Pmv → ℕ → Direction → List Bool
 direction_text told shape f_code pmv direction d =
     if told then
-        selected_text shape f_code (pair_of pmv.at 0 direction) d.first ⧺ second_text shape f_code (pair_of pmv.at 1 direction) d.second
+    selected_text shape f_code (pair_of pmv.at 0 direction) d.first ⧺ second_text shape f_code (pair_of pmv.at 1 direction) d.second
     else []
 
 -- ---- macroblocks

@@ -9,6 +9,8 @@ mod increments;
 mod modes;
 mod read;
 mod state;
+#[cfg(test)]
+mod tests;
 mod values;
 mod vectors;
 mod write;

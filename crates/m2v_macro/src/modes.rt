@@ -67,18 +67,19 @@ fn told_form(input: &mut BitReader, kind: u8) -> Result<u8, MacroFault>
 {
     let start = input.fork();
     let form = number(input, 2)?;
-    check(input, &start, is_form(kind, form), MacroFault::BadMotionType)?;
+    check(
+        input,
+        &start,
+        is_form(kind, form),
+        MacroFault::BadMotionType,
+    )?;
     Ok(form as u8)
 }
 
 /// The motion type of a macroblock (clause 6.3.17.1).
 #[inline(always)]
 #[tactic(auto, unfolding(crate::specs::Macros::form_at, m2v_bits::specs::Syntax::choose, m2v_bits::specs::Syntax::done))]
-pub fn form(
-    input: &mut BitReader,
-    context: &PictureContext,
-    kind: MbType,
-) -> Result<u8, MacroFault>
+pub fn form(input: &mut BitReader, context: &PictureContext, kind: MbType) -> Result<u8, MacroFault>
     ensures exact { Gives result input.new.rest ((form_at context.now kind).read input.old.rest) }
     ensures text { input.new.text ≡ input.old.text }
     ensures known { has_form_of context.now kind ≡ true → IfOk result (λ v. (is_form_of context.now.kind v ≡ true) × (v < 4)) }

@@ -2,51 +2,25 @@ ghost use Rattle.std.specs.Prelude.{◌≡◌, ◌≤◌, ◌<◌, ◌^◌, ◌|
 ghost use Rattle.m2v_bits.specs.Syntax.{Gives};
 ghost use Rattle.m2v_macro.specs.States.{is_field as is_field_of, pmv_before as pmv_before_of, after};
 ghost use Rattle.m2v_macro.specs.Vectors.{shape_of as shape_as};
-ghost use Rattle.m2v_macro.specs.Macros.{macro_of, directions_at, macro_at, is_concealed as is_concealed_of, f_codes_of};
+ghost use Rattle.m2v_macro.specs.Macros.{no_kind, macro_of, directions_at, macro_at, is_concealed as is_concealed_of, f_codes_of};
 ghost use Rattle.m2v_macro.specs.Conditions.{IsContext, IsReady, IsAddress, IsDirection, IsMacro, has_type, is_used, ArePredictors, AreScales};
 
 use crate::fault::MacroFault;
 use crate::increments::step;
 use crate::modes::{dct, form, has_forward, is_field, kind, marker, pattern, quantiser};
 use crate::state::pmv_before;
-use crate::values::{Direction, MacroSyntax, PictureContext, Shape, SliceState};
+use crate::values::{Direction, MacroSyntax, PictureContext, SliceState, copied};
 use crate::vectors::{direction, shape_of};
 use m2v_bits::BitReader;
 use m2v_vector::Pmv;
 use m2v_vlc::MbType;
 
-static BLANK: MacroSyntax = MacroSyntax {
-    increment: 0,
-    kind: MbType {
-        quant: false,
-        forward: false,
-        backward: false,
-        pattern: false,
-        intra: false,
-    },
-    form: 0,
-    dct_field: false,
-    quantiser: 0,
-    vectors: [[[0, 0], [0, 0]], [[0, 0], [0, 0]]],
-    bottom: [[false, false], [false, false]],
-    dmvector: [0, 0],
-    pattern: 0,
-};
-
-/// The same macroblock.
-#[inline(always)]
-fn copied(m: &MacroSyntax) -> MacroSyntax
-    ensures { result ≡ m.now }
-{
-    *m
-}
-
 /// A macroblock that has the vectors of both directions, and nothing else yet.
 #[inline(always)]
 fn with_vectors(forward: &Direction, backward: &Direction) -> MacroSyntax
-    ensures { result ≡ macro_of 0 (record { quant = false; forward = false; backward = false; pattern = false; intra = false }) 0 false 0 forward.now backward.now 0 }
+    ensures { result ≡ macro_of 0 no_kind 0 false 0 forward.now backward.now 0 }
 {
-    let mut m = copied(&BLANK);
+    let mut m = MacroSyntax::blank();
     m.vectors[0][0] = forward.first.vector;
     m.vectors[0][1] = backward.first.vector;
     m.vectors[1][0] = forward.second.vector;

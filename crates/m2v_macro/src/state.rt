@@ -131,7 +131,10 @@ impl SliceState {
     pub fn at_start(context: &PictureContext, row: u32, quantiser: u8, next: u32) -> SliceState
         requires precision { context.now.extension.dc_precision ≤ 3 }
         requires columns { context.now.columns ≤ 120 }
-        ensures { result ≡ at_start_of context.now row quantiser next }
+        requires quantiser { (1 ≤ quantiser) × (quantiser ≤ 31) }
+        ensures value { result ≡ at_start_of context.now row quantiser next }
+        ensures ready { IsReady context.now result }
+        ensures address { row * context.now.columns ≤ 2 ^ 16 → IsAddress result.address }
     {
         let dc = dc_reset(context);
         SliceState {

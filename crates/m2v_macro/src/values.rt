@@ -1,3 +1,5 @@
+ghost use Rattle.std.specs.Prelude.{◌≡◌};
+
 use m2v_head::PictureExtension;
 use m2v_vector::Pmv;
 use m2v_vlc::MbType;
@@ -20,6 +22,44 @@ pub struct MacroSyntax {
     pub bottom: [[bool; 2]; 2],
     pub dmvector: [i32; 2],
     pub pattern: u8,
+}
+
+static BLANK: MacroSyntax = MacroSyntax {
+    increment: 0,
+    kind: MbType {
+        quant: false,
+        forward: false,
+        backward: false,
+        pattern: false,
+        intra: false,
+    },
+    form: 0,
+    dct_field: false,
+    quantiser: 0,
+    vectors: [[[0, 0], [0, 0]], [[0, 0], [0, 0]]],
+    bottom: [[false, false], [false, false]],
+    dmvector: [0, 0],
+    pattern: 0,
+};
+
+/// The same macroblock.
+#[inline(always)]
+pub fn copied(m: &MacroSyntax) -> MacroSyntax
+    ensures { result ≡ m.now }
+{
+    *m
+}
+
+impl MacroSyntax {
+    ghost use Rattle.m2v_macro.specs.Macros.{blank as blank_of};
+
+    /// A macroblock that has nothing: all is 0 or false. Callers begin with it, since a struct whose field is an array
+    /// three deep isn't written as one literal.
+    pub fn blank() -> MacroSyntax
+        ensures { result ≡ blank_of }
+    {
+        copied(&BLANK)
+    }
 }
 
 /// What the macroblocks of a slice so far leave to the next one.

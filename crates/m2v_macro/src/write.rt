@@ -122,12 +122,7 @@ fn backward_of(m: &MacroSyntax) -> Direction
 
 /// Appends what stands before the vectors of a macroblock.
 #[tactic(auto, using(m2v_bits::proofs::Cursor::lengths), unfolding(crate::specs::Texts::modes_text))]
-fn write_modes(
-    m: &MacroSyntax,
-    context: &PictureContext,
-    state: &SliceState,
-    out: &mut BitWriter,
-)
+fn write_modes(m: &MacroSyntax, context: &PictureContext, state: &SliceState, out: &mut BitWriter)
     requires fits { IsMacro context.now state.now m.now }
     requires room { length (modes_text context.now m.now) ≤ out.old.room }
     ensures written { out.new.written ≡ out.old.written ++ modes_text context.now m.now }
@@ -183,12 +178,7 @@ fn modes_bits(m: &MacroSyntax, context: &PictureContext) -> u32
 
 /// How many bits the vectors of both directions take, and the marker behind concealment vectors.
 #[tactic(auto, using(m2v_bits::proofs::Cursor::lengths), unfolding(crate::specs::Texts::directions_text))]
-fn directions_bits(
-    m: &MacroSyntax,
-    context: &PictureContext,
-    state: &SliceState,
-    pmv: &Pmv,
-) -> u32
+fn directions_bits(m: &MacroSyntax, context: &PictureContext, state: &SliceState, pmv: &Pmv) -> u32
     requires context { IsContext context.now }
     requires fits { IsMacro context.now state.now m.now }
     requires forward { is_used context.now 0 ≡ true → ArePredictors (f_codes_of context.now 0) pmv.now 0 }

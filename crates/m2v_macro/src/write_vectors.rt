@@ -50,13 +50,7 @@ fn write_part(
 /// How many bits a component of a vector takes with its dmvector.
 #[inline(always)]
 #[tactic(auto, using(m2v_bits::proofs::Cursor::lengths), unfolding(crate::specs::Texts::part_text))]
-fn part_bits(
-    shape: &Shape,
-    f_code: &[u8; 2],
-    predictor: &[i32; 2],
-    s: &Selected,
-    k: usize,
-) -> u32
+fn part_bits(shape: &Shape, f_code: &[u8; 2], predictor: &[i32; 2], s: &Selected, k: usize) -> u32
     requires k { k < 2 }
     requires scales { AreScales f_code.now }
     requires predictor { IsPair f_code.now predictor.now }

@@ -1,4 +1,4 @@
-use Rattle.std.proofs.Common.{refl, []  , ◌∷◌}
+use Rattle.std.proofs.Common.{refl, [], ◌∷◌}
 use Rattle.m2v_macro.proofs.Components.{passed, passed_dm}
 use Rattle.m2v_macro.proofs.vectors.vector.Goals as goal
 
