@@ -7,7 +7,7 @@ use Rattle.m2v_vlc.specs.declared.values.MbType.{MbType}
 use Rattle.m2v_vlc.specs.Values.{has_type_i, has_type_p, has_type_b}
 use Rattle.m2v_vector.specs.Vectors.{scale, IsVector}
 use Rattle.m2v_vector.specs.Predictors.{zeros, pair_of, number_of, has_vectors, AreSmall}
-use Rattle.m2v_vector.proofs.Ranges.{powers}
+use Rattle.m2v_vector.proofs.Ranges.{powers, Small, zeros_small, two_small, all_small}
 use Rattle.m2v_macro.specs.declared.values.MacroSyntax.{MacroSyntax}
 use Rattle.m2v_macro.specs.declared.values.SliceState.{SliceState}
 use Rattle.m2v_macro.specs.declared.values.PictureContext.{PictureContext}
@@ -69,24 +69,8 @@ used_backward c v low high h told = elim (cases_Bool (nat_eq c.kind 1)) [
 
 -- ---- ranges
 
--- the numbers of a vector have a size of at most 2 ^ 16
-Small : List ℤ → Type 0
-Small v = (k : ℕ) → (neg_ℤ (pos (2 ^ 16)) ≤ℤ slice_index_or v k (pos 0)) × (slice_index_or v k (pos 0) ≤ℤ pos (2 ^ 16))
-
-zeros_small : Small zeros
-unfolding Small
-zeros_small zero = (omega (arith, ints), omega (arith, ints))
-zeros_small (suc zero) = (omega (arith, ints), omega (arith, ints))
-zeros_small (suc (suc n)) = (omega (arith, ints), omega (arith, ints))
-
 number_small : (f_code : ℕ) (v : ℤ) → f_code ≤ 9 → IsVector (scale f_code) v → (neg_ℤ (pos (2 ^ 16)) ≤ℤ v) × (v ≤ℤ pos (2 ^ 16))
 number_small f_code v most h = let f = powers f_code most in (omega (arith, ints, h.0, h.1, f.1), omega (arith, ints, h.0, h.1, f.1))
-
-two_small : (x y : ℤ) → (neg_ℤ (pos (2 ^ 16)) ≤ℤ x) × (x ≤ℤ pos (2 ^ 16)) → (neg_ℤ (pos (2 ^ 16)) ≤ℤ y) × (y ≤ℤ pos (2 ^ 16)) → Small (x ∷ y ∷ [])
-unfolding Small
-two_small x y p q zero = p
-two_small x y p q (suc zero) = q
-two_small x y p q (suc (suc n)) = (omega (arith, ints), omega (arith, ints))
 
 selected_small : (shape : Shape) (f_code : List ℕ) (s : Selected) → AreScales f_code → IsSelected shape f_code s → Small s.vector
 selected_small shape f_code s scales h =
@@ -104,16 +88,6 @@ direction_small told shape f_code d scales h = elim (cases_Bool told) [
   ]
   | inr off ↦ (none_small d.first (h.none off).0, none_small d.second (h.none off).1)
 ]
-
-all_small : (a b c d : List ℤ) → Small a → Small b → Small c → Small d → AreSmall ((a ∷ b ∷ []) ∷ (c ∷ d ∷ []) ∷ [])
-unfolding Small
-all_small a b c d p q r s zero zero k = p k
-all_small a b c d p q r s zero (suc zero) k = q k
-all_small a b c d p q r s zero (suc (suc n)) k = (omega (arith, ints), omega (arith, ints))
-all_small a b c d p q r s (suc zero) zero k = r k
-all_small a b c d p q r s (suc zero) (suc zero) k = s k
-all_small a b c d p q r s (suc zero) (suc (suc n)) k = (omega (arith, ints), omega (arith, ints))
-all_small a b c d p q r s (suc (suc m)) e k = (omega (arith, ints), omega (arith, ints))
 
 pub vectors_small : (c : PictureContext) (st : SliceState) (m : MacroSyntax) → IsContext c → IsMacro c st m → AreSmall m.vectors
 vectors_small c st m ctx h =

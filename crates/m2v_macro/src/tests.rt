@@ -1,4 +1,4 @@
-ghost use Rattle.std.specs.Prelude.{◌≡◌, ◌≤◌, pos, ◌^◌};
+ghost use Rattle.std.specs.Prelude.{◌≤◌, ◌^◌, length};
 ghost use Rattle.m2v_macro.specs.Conditions.{IsContext, IsReady, IsAddress};
 
 use crate::{
@@ -57,6 +57,7 @@ fn context(picture: Picture) -> PictureContext
 }
 
 // A slice's first state in the first row, or the state behind a macroblock at address 0.
+#[tactic(auto, unfolding(crate::specs::States::at_start))]
 fn state(context: &PictureContext, first: bool, intra: bool, next: u32) -> SliceState
     requires context { IsContext context.now }
     requires next { next ≤ 2 ^ 16 }

@@ -44,16 +44,18 @@ left_by halved v = slice_index_or v 0 (pos 0) ∷ cond halved (pos 2 *ℤ slice_
 unfoldable pub entry_after : Motion → Pmv → ℕ → ℕ → List ℤ
 entry_after m p entry direction =
     if has_vectors m direction then
-        left_by (is_halved m.field_picture m.form) (pair_of m.vectors (cond (has_two m.field_picture m.form) entry 0) direction)
+    left_by (is_halved m.field_picture m.form) (pair_of m.vectors (cond (has_two m.field_picture m.form) entry 0) direction)
     else pair_of p.at entry direction
 
 -- the predictors after a macroblock
 unfoldable pub predictors_after : Motion → Pmv → Pmv
 predictors_after m p =
     if resets m then zero
-    else record { at =
-        (entry_after m p 0 0 ∷ entry_after m p 0 1 ∷ [])
-        ∷ (entry_after m p 1 0 ∷ entry_after m p 1 1 ∷ []) ∷ [] }
+    else record {
+      at =
+          (entry_after m p 0 0 ∷ entry_after m p 0 1 ∷ [])
+          ∷ (entry_after m p 1 0 ∷ entry_after m p 1 1 ∷ []) ∷ [];
+    }
 
 -- each number of vectors has a size of at most 2 ^ 16
 abbrev pub AreSmall : List (List (List ℤ)) → Type 0
