@@ -1,0 +1,11 @@
+pub mod MacroLaws
+pub mod Steps
+pub mod Patterns
+pub mod Types
+pub mod Components
+pub mod Predicted
+pub mod Ready
+pub mod Lengths
+pub mod Parts
+pub mod Spellings
+pub mod MacroSpellings

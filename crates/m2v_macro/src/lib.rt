@@ -1,0 +1,23 @@
+//! Macroblocks without their blocks, both ways (clause 6.2.5 of ISO/IEC 13818-2): address increments, types, motion
+//! types, vectors and patterns, and the state that each leaves to the next.
+#![tactic(auto)]
+
+mod differences;
+mod elements;
+mod fault;
+mod increments;
+mod modes;
+mod read;
+mod state;
+#[cfg(test)]
+mod tests;
+mod values;
+mod vectors;
+mod write;
+mod write_modes;
+mod write_vectors;
+
+pub use fault::MacroFault;
+pub use read::read_macro;
+pub use values::{MacroSyntax, PictureContext, SliceState};
+pub use write::{macro_bits, write_macro};

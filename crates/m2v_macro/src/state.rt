@@ -1,0 +1,174 @@
+ghost use Rattle.std.specs.Prelude.{◌≡◌, ◌+◌, ◌-◌, ◌*◌, ◌≤◌, ◌<◌, ◌^◌, ◌&&◌, ◌||◌, not, nat_eq, cond, if◌then◌else◌, true, false, replicate, length, pos, neg_ℤ, ◌≤ℤ◌, ◌+ℤ◌, ◌-ℤ◌};
+ghost use Rattle.m2v_vector.specs.Vectors.{scale, IsVector};
+ghost use Rattle.m2v_vector.specs.Predictors.{zero, AreSmall, predictors_after};
+ghost use Rattle.m2v_macro.specs.States.{is_field as is_field_of, address, skipped as skipped_of, motion as motion_of, pmv_before as pmv_before_of, dc_reset as dc_reset_of, dc_behind as dc_behind_of, at_start as at_start_of, after as after_of};
+ghost use Rattle.m2v_macro.specs.Macros.{f_codes_of};
+ghost use Rattle.m2v_macro.specs.Conditions.{IsContext, IsReady, IsAddress, ArePredictors, IsMacro, is_used};
+
+use crate::increments::skips;
+use crate::modes::is_field;
+use crate::values::{MacroSyntax, PictureContext, SliceState};
+use m2v_vector::{Motion, Pmv};
+
+static STILL: Motion = Motion {
+    field_picture: false,
+    kind: 0,
+    intra: false,
+    concealment: false,
+    forward: false,
+    backward: false,
+    form: 0,
+    vectors: [[[0, 0], [0, 0]], [[0, 0], [0, 0]]],
+};
+
+/// The same motion.
+#[inline(always)]
+fn copied(m: &Motion) -> Motion
+    ensures { result ≡ m.now }
+{
+    *m
+}
+
+/// What skipped macroblocks do to the predictors.
+#[inline(always)]
+fn skipped(context: &PictureContext) -> Motion
+    ensures { result ≡ skipped_of context.now }
+{
+    let mut motion = copied(&STILL);
+    motion.field_picture = is_field(context);
+    motion.kind = context.kind;
+    motion.concealment = context.extension.concealment;
+    motion
+}
+
+/// What a macroblock does to the predictors.
+#[inline(always)]
+fn motion(context: &PictureContext, m: &MacroSyntax) -> Motion
+    ensures { result ≡ motion_of context.now m.now }
+{
+    let mut motion = skipped(context);
+    motion.intra = m.kind.intra;
+    motion.forward = m.kind.forward;
+    motion.backward = m.kind.backward;
+    motion.form = m.form;
+    let first = m.vectors[0];
+    let second = m.vectors[1];
+    motion.vectors[0] = first;
+    motion.vectors[1] = second;
+    motion
+}
+
+/// The predictors behind the macroblocks that are skipped before this one.
+#[inline(always)]
+#[tactic(auto, unfolding(crate::specs::States::pmv_before))]
+pub fn pmv_before(context: &PictureContext, state: &SliceState, increment: u32) -> Pmv
+    ensures { result ≡ pmv_before_of context.now state.now increment }
+{
+    if skips(state, increment) {
+        return state.pmv.after(&skipped(context));
+    }
+    state.pmv
+}
+
+/// The DC predictors as they are reset (clause 7.2.1).
+#[inline(always)]
+#[tactic(auto, unfolding(crate::specs::States::dc_reset))]
+fn dc_reset(context: &PictureContext) -> [i32; 3]
+    requires { context.now.extension.dc_precision ≤ 3 }
+    ensures { result ≡ dc_reset_of context.now }
+{
+    [1 << (7 + context.extension.dc_precision); 3]
+}
+
+/// The DC predictors behind the elements of a macroblock.
+#[inline(always)]
+#[tactic(auto, unfolding(crate::specs::States::dc_behind))]
+fn dc_behind(context: &PictureContext, state: &SliceState, m: &MacroSyntax) -> [i32; 3]
+    requires { context.now.extension.dc_precision ≤ 3 }
+    ensures { result ≡ dc_behind_of context.now state.now m.now }
+{
+    if m.kind.intra && !skips(state, m.increment) {
+        return state.dc;
+    }
+    dc_reset(context)
+}
+
+/// The quantiser code in force behind a macroblock.
+#[inline(always)]
+fn quantiser_behind(state: &SliceState, m: &MacroSyntax) -> u8
+    ensures { result ≡ (if m.now.kind.quant then m.now.quantiser else state.now.quantiser) }
+{
+    if m.kind.quant {
+        m.quantiser
+    } else {
+        state.quantiser
+    }
+}
+
+/// The predictors of vectors behind a macroblock.
+#[inline(always)]
+fn pmv_behind(context: &PictureContext, state: &SliceState, m: &MacroSyntax) -> Pmv
+    requires { AreSmall m.now.vectors }
+    ensures { result ≡ predictors_after (motion_of context.now m.now) (pmv_before_of context.now state.now m.now.increment) }
+{
+    let motion = motion(context, m);
+    pmv_before(context, state, m.increment).after(&motion)
+}
+
+/// The address of a macroblock.
+#[inline(always)]
+fn address_of(state: &SliceState, m: &MacroSyntax) -> i64
+    requires { IsAddress state.now.address }
+    ensures { result ≡ address state.now m.now.increment }
+{
+    state.address + i64::from(m.increment)
+}
+
+impl SliceState {
+    /// The state at the start of a slice: the row counted from 0, the slice header's quantiser code, and the next
+    /// uncovered macroblock of the picture.
+    #[tactic(auto, unfolding(crate::specs::States::at_start))]
+    pub fn at_start(context: &PictureContext, row: u32, quantiser: u8, next: u32) -> SliceState
+        requires precision { context.now.extension.dc_precision ≤ 3 }
+        requires columns { context.now.columns ≤ 120 }
+        requires quantiser { (1 ≤ quantiser) × (quantiser ≤ 31) }
+        ensures value { result ≡ at_start_of context.now row quantiser next }
+        ensures ready { IsReady context.now result }
+        ensures address { row * context.now.columns ≤ 2 ^ 16 → IsAddress result.address }
+    {
+        let dc = dc_reset(context);
+        SliceState {
+            quantiser,
+            dc,
+            pmv: Pmv::zero(),
+            forward: false,
+            backward: false,
+            intra: false,
+            first: true,
+            address: i64::from(row) * i64::from(context.columns) - 1,
+            next,
+        }
+    }
+
+    /// The state behind a macroblock (clauses 7.2.1 and 7.6.3), but for what its blocks do to the DC predictors.
+    #[tactic(auto, unfolding(crate::specs::States::after))]
+    pub fn after(&self, context: &PictureContext, m: &MacroSyntax) -> SliceState
+        requires context { IsContext context.now }
+        requires address { IsAddress self.now.address }
+        requires fits { IsMacro context.now self.now m.now }
+        ensures { result ≡ after_of context.now self.now m.now }
+    {
+        let dc = dc_behind(context, self, m);
+        SliceState {
+            quantiser: quantiser_behind(self, m),
+            dc,
+            pmv: pmv_behind(context, self, m),
+            forward: m.kind.forward,
+            backward: m.kind.backward,
+            intra: m.kind.intra,
+            first: false,
+            address: address_of(self, m),
+            next: self.next,
+        }
+    }
+}

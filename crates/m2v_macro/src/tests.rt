@@ -1,0 +1,497 @@
+ghost use Rattle.std.specs.Prelude.{◌≤◌, ◌^◌, length};
+ghost use Rattle.m2v_macro.specs.Conditions.{IsContext, IsReady, IsAddress};
+
+use crate::{
+    MacroFault, MacroSyntax, PictureContext, SliceState, macro_bits, read_macro, write_macro,
+};
+use m2v_bits::{BitReader, BitWriter};
+use m2v_head::PictureExtension;
+use m2v_vlc::{CodeFault, MbType};
+use std::alloc::{AllocError, Global};
+
+// A picture: its type, its structure, frame_pred_frame_dct, concealment vectors.
+type Picture = (u8, u8, bool, bool);
+
+// What a macroblock is to be: increment, flags of the type (16 quant, 8 forward, 4 backward, 2 pattern, 1 intra), motion
+// type, dct_type, quantiser; the first vectors forward and backward and the second ones, their field bits, the dmvector
+// and the pattern.
+type Want = (
+    u32,
+    u8,
+    u8,
+    bool,
+    u8,
+    [[i32; 2]; 4],
+    [bool; 4],
+    [i32; 2],
+    u8,
+);
+
+// A context of f_codes 2 and 45 columns.
+fn context(picture: Picture) -> PictureContext
+    ensures { IsContext result }
+{
+    let extension = PictureExtension {
+        f_code: [[2, 2], [2, 2]],
+        dc_precision: 0,
+        structure: picture.1.clamp(1, 3),
+        top_field_first: false,
+        frame_pred_frame_dct: picture.2,
+        concealment: picture.3,
+        q_scale_type: false,
+        intra_vlc_format: false,
+        alternate_scan: false,
+        repeat_first_field: false,
+        chroma_420_type: false,
+        progressive_frame: false,
+        composite: None,
+    };
+    PictureContext {
+        kind: picture.0.clamp(1, 3),
+        second: false,
+        columns: 45,
+        extension,
+        intra: [16; 64],
+        non_intra: [16; 64],
+    }
+}
+
+// A slice's first state in the first row, or the state behind a macroblock at address 0.
+#[tactic(auto, unfolding(crate::specs::States::at_start))]
+fn state(context: &PictureContext, first: bool, intra: bool, next: u32) -> SliceState
+    requires context { IsContext context.now }
+    requires next { next ≤ 2 ^ 16 }
+    ensures ready { IsReady context.now result }
+    ensures address { IsAddress result.address }
+    ensures next { result.next ≤ 2 ^ 16 }
+{
+    let mut state = SliceState::at_start(context, 0, 8, next);
+    state.first = first;
+    state.intra = intra;
+    if !first {
+        state.address = 0;
+    }
+    state
+}
+
+fn wanted(want: &Want) -> MacroSyntax {
+    let mut m = MacroSyntax::blank();
+    m.increment = want.0;
+    m.kind = MbType {
+        quant: want.1 / 16 == 1,
+        forward: want.1 / 8 % 2 == 1,
+        backward: want.1 / 4 % 2 == 1,
+        pattern: want.1 / 2 % 2 == 1,
+        intra: want.1 % 2 == 1,
+    };
+    m.form = want.2;
+    m.dct_field = want.3;
+    m.quantiser = want.4;
+    m.vectors[0][0] = want.5[0];
+    m.vectors[0][1] = want.5[1];
+    m.vectors[1][0] = want.5[2];
+    m.vectors[1][1] = want.5[3];
+    m.bottom = [[want.6[0], want.6[1]], [want.6[2], want.6[3]]];
+    m.dmvector = want.7;
+    m.pattern = want.8;
+    m
+}
+
+// Reads a macroblock, and writes it again: whether it is the one that is wanted, ends after so many bits, and is written
+// as it stood, with the same state behind it.
+fn goes_both_ways(
+    alloc: Global,
+    picture: Picture,
+    first: bool,
+    bytes: &[u8; 4],
+    bits: u64,
+    want: &Want,
+) -> Result<bool, AllocError> {
+    let context = context(picture);
+    let before = state(&context, first, false, 0);
+    let mut behind = before;
+    let mut input = BitReader::new(bytes);
+    let Ok(m) = read_macro(&mut input, &context, &mut behind) else {
+        return Ok(false);
+    };
+    let mut out = BitWriter::over(vec![in alloc; 0u8; 32]?);
+    if u64::from(macro_bits(&m, &context, &before)) > out.room() {
+        return Ok(false);
+    }
+    let mut again = before;
+    write_macro(&m, &context, &mut again, &mut out);
+    let measured = out.bit_len() == bits && input.place() == bits;
+    out.align();
+    if out.bit_len() % 8 != 0 {
+        return Ok(false);
+    }
+    let text = out.bytes();
+    let same = text.len() <= 4 && text == &bytes[..text.len().min(4)];
+    Ok(measured && same && m == wanted(want) && again == behind)
+}
+
+const NO: [[i32; 2]; 4] = [[0, 0], [0, 0], [0, 0], [0, 0]];
+
+const OFF: [bool; 4] = [false, false, false, false];
+
+// The macroblocks of a grey picture, of a grey P picture, of one that skips 43 macroblocks, and of a field picture.
+static WORKED: [(Picture, bool, [u8; 4], u64, Want); 5] = [
+    (
+        (1, 3, true, false),
+        true,
+        [0xC0, 0, 0, 0],
+        2,
+        (1, 1, 2, false, 0, NO, OFF, [0, 0], 63),
+    ),
+    (
+        (2, 3, true, false),
+        true,
+        [0x9C, 0, 0, 0],
+        6,
+        (1, 8, 2, false, 0, NO, OFF, [0, 0], 0),
+    ),
+    (
+        (2, 3, true, false),
+        false,
+        [0x01, 0x01, 0x47, 0],
+        24,
+        (44, 8, 2, false, 0, NO, OFF, [0, 0], 0),
+    ),
+    (
+        (1, 1, false, false),
+        true,
+        [0xC0, 0, 0, 0],
+        2,
+        (1, 1, 0, false, 0, NO, OFF, [0, 0], 63),
+    ),
+    (
+        (2, 3, true, false),
+        true,
+        [0x94, 0x80, 0, 0],
+        9,
+        (
+            1,
+            8,
+            2,
+            false,
+            0,
+            [[1, 0], [0, 0], [0, 0], [0, 0]],
+            OFF,
+            [0, 0],
+            0,
+        ),
+    ),
+];
+
+// Each motion type in frames and fields, concealment vectors in both, and both directions.
+static MOTIONS: [(Picture, [u8; 4], u64, Want); 9] = [
+    (
+        (2, 3, false, false),
+        [0x96, 0xAC, 0x94, 0],
+        22,
+        (
+            1,
+            8,
+            1,
+            false,
+            0,
+            [[2, -1], [0, 0], [0, 4], [0, 0]],
+            [true, false, false, false],
+            [0, 0],
+            0,
+        ),
+    ),
+    (
+        (2, 3, false, false),
+        [0xE9, 0x0F, 0xC0, 0],
+        18,
+        (
+            1,
+            10,
+            2,
+            true,
+            0,
+            [[3, -4], [0, 0], [0, 0], [0, 0]],
+            OFF,
+            [0, 0],
+            60,
+        ),
+    ),
+    (
+        (2, 3, false, false),
+        [0x9D, 0x27, 0xC0, 0],
+        18,
+        (
+            1,
+            8,
+            3,
+            false,
+            0,
+            [[1, -2], [0, 0], [0, 0], [0, 0]],
+            OFF,
+            [1, -1],
+            0,
+        ),
+    ),
+    (
+        (2, 1, false, false),
+        [0x96, 0xC2, 0x80, 0],
+        17,
+        (
+            1,
+            8,
+            1,
+            false,
+            0,
+            [[-1, 6], [0, 0], [0, 0], [0, 0]],
+            [true, false, false, false],
+            [0, 0],
+            0,
+        ),
+    ),
+    (
+        (2, 2, false, false),
+        [0x99, 0x49, 0xE0, 0],
+        19,
+        (
+            1,
+            8,
+            2,
+            false,
+            0,
+            [[0, 1], [0, 0], [-4, 0], [0, 0]],
+            [false, false, true, false],
+            [0, 0],
+            0,
+        ),
+    ),
+    (
+        (2, 1, false, false),
+        [0x9E, 0x0C, 0x80, 0],
+        18,
+        (
+            1,
+            8,
+            3,
+            false,
+            0,
+            [[0, 7], [0, 0], [0, 0], [0, 0]],
+            OFF,
+            [0, 1],
+            0,
+        ),
+    ),
+    (
+        (1, 3, true, true),
+        [0xD5, 0xA0, 0, 0],
+        11,
+        (
+            1,
+            1,
+            2,
+            false,
+            0,
+            [[2, -1], [0, 0], [0, 0], [0, 0]],
+            OFF,
+            [0, 0],
+            63,
+        ),
+    ),
+    (
+        (1, 2, false, true),
+        [0xEA, 0xD0, 0, 0],
+        12,
+        (
+            1,
+            1,
+            0,
+            false,
+            0,
+            [[2, -1], [0, 0], [0, 0], [0, 0]],
+            [true, false, false, false],
+            [0, 0],
+            63,
+        ),
+    ),
+    (
+        (3, 3, false, false),
+        [0x8A, 0x1D, 0x37, 0x30],
+        30,
+        (
+            1,
+            30,
+            2,
+            false,
+            7,
+            [[1, 0], [0, -2], [0, 0], [0, 0]],
+            OFF,
+            [0, 0],
+            63,
+        ),
+    ),
+];
+
+#[test]
+fn worked_macroblocks_go_both_ways(rt: HostRuntime) -> Result<(), AllocError> {
+    for (picture, first, bytes, bits, want) in &WORKED {
+        let held = goes_both_ways(rt.alloc(), *picture, *first, bytes, *bits, want)?;
+        assert!(rt; held, "{bytes:?}");
+    }
+    Ok(())
+}
+
+#[test]
+fn motion_types_go_both_ways(rt: HostRuntime) -> Result<(), AllocError> {
+    for (picture, bytes, bits, want) in &MOTIONS {
+        let held = goes_both_ways(rt.alloc(), *picture, true, bytes, *bits, want)?;
+        assert!(rt; held, "{bytes:?}");
+    }
+    Ok(())
+}
+
+// The fault of a macroblock and how many bits stand before its place, where the state stays as it was.
+fn fault(
+    picture: Picture,
+    first: bool,
+    intra: bool,
+    next: u16,
+    bytes: &[u8],
+) -> Option<(MacroFault, u64)>
+    requires { length bytes.now ≤ 4 }
+{
+    let context = context(picture);
+    let before = state(&context, first, intra, u32::from(next));
+    let mut behind = before;
+    let mut input = BitReader::new(bytes);
+    match read_macro(&mut input, &context, &mut behind) {
+        Ok(_) => None,
+        Err(e) if behind == before => Some((e, input.place())),
+        Err(_) => None,
+    }
+}
+
+const I: Picture = (1, 3, true, false);
+
+const P: Picture = (2, 3, false, false);
+
+const B: Picture = (3, 3, false, false);
+
+static FAULTS: [(Picture, bool, bool, u16, [u8; 3], MacroFault, u64); 14] = [
+    (
+        I,
+        true,
+        false,
+        0,
+        [0x80, 0, 0],
+        MacroFault::Code(CodeFault::NoCode),
+        1,
+    ),
+    (
+        I,
+        true,
+        false,
+        0,
+        [0x00, 0, 0],
+        MacroFault::Code(CodeFault::NoCode),
+        0,
+    ),
+    (
+        P,
+        true,
+        false,
+        0,
+        [0x33, 0x80, 0],
+        MacroFault::MissingMacroblocks,
+        0,
+    ),
+    (P, true, false, 1, [0x9C, 0, 0], MacroFault::SliceOrder, 0),
+    (
+        P,
+        false,
+        false,
+        0,
+        [0x01, 0x01, 0x0A],
+        MacroFault::SliceOrder,
+        0,
+    ),
+    (I, false, false, 0, [0x70, 0, 0], MacroFault::SkipRule, 0),
+    (B, false, true, 0, [0x70, 0, 0], MacroFault::SkipRule, 0),
+    (I, true, false, 0, [0xA0, 0, 0], MacroFault::QuantZero, 3),
+    (
+        (2, 3, true, false),
+        true,
+        false,
+        0,
+        [0xA0, 0x10, 0],
+        MacroFault::PatternZero,
+        3,
+    ),
+    (
+        P,
+        true,
+        false,
+        0,
+        [0x90, 0, 0],
+        MacroFault::BadMotionType,
+        4,
+    ),
+    (
+        B,
+        true,
+        false,
+        0,
+        [0x96, 0, 0],
+        MacroFault::BadMotionType,
+        5,
+    ),
+    (
+        P,
+        true,
+        false,
+        0,
+        [0x97, 0x03, 0x20],
+        MacroFault::VectorRange,
+        8,
+    ),
+    (
+        (1, 3, true, true),
+        true,
+        false,
+        0,
+        [0xF0, 0, 0],
+        MacroFault::Marker,
+        4,
+    ),
+    (
+        (1, 3, true, true),
+        true,
+        false,
+        0,
+        [0xC0, 0, 0],
+        MacroFault::Code(CodeFault::NoCode),
+        2,
+    ),
+];
+
+#[test]
+fn faults_stand_at_their_places(rt: HostRuntime) {
+    for (picture, first, intra, next, bytes, want, place) in &FAULTS {
+        let found = fault(*picture, *first, *intra, *next, bytes);
+        assert!(rt; found == Some((*want, *place)), "{found:?}");
+    }
+    assert!(rt;
+        fault(I, true, false, 0, &[0x01]) == Some((MacroFault::Code(CodeFault::Truncated), 0))
+    );
+}
+
+#[test]
+fn both_edges_give_one_vector(rt: HostRuntime) {
+    let context = context((2, 3, true, false));
+    for bytes in [[0x90, 0x31, 0x80], [0x90, 0x33, 0x80]] {
+        let mut behind = state(&context, true, false, 0);
+        let mut input = BitReader::new(&bytes);
+        let read = read_macro(&mut input, &context, &mut behind);
+        assert!(rt; read.is_ok_and(|m| m.vectors[0][0] == [-32, 0]));
+        assert!(rt; behind.pmv.at == [[[-32, 0], [0, 0]], [[-32, 0], [0, 0]]]);
+    }
+}
