@@ -44,6 +44,7 @@ patch_of r plane part = record {
 -- a patch lies within a plane of this side
 pub record IsPatch (side : ℕ) (p : Patch) : Type 0 where
   pub apart : 1 ≤ p.apart
+  pub some : 1 ≤ p.height
   pub height : p.height ≤ 16
   pub lines : (k : ℕ) → k < p.height → p.first + k * p.apart < side
   pub y : p.y ≤ 2 ^ 13

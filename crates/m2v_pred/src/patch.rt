@@ -138,3 +138,44 @@ fn both<V: RefView>(view: &V, patch: &Patch, side: usize, out: &mut [u8])
         above = below;
     }
 }
+
+/// Predicts the lines of a patch in a plane of this side, by the case that its place asks for.
+#[inline(always)]
+fn by_case<V: RefView>(view: &V, patch: &Patch, side: usize, out: &mut [u8])
+    requires patch { IsPatch side patch.now }
+    requires side { side ≤ 16 }
+    requires out { length out.old ≡ side * side }
+    requires columns { (patch.now.x + 1) / 2 + side ≤ columns_of (V.size view.now) patch.now.plane }
+    requires upper { (k : ℕ) → k < patch.now.height → V.Holds view.now patch.now.plane patch.now.lines (patch.now.y / 2 + k) }
+    requires lower { (k : ℕ) → k < patch.now.height → V.Holds view.now patch.now.plane patch.now.lines ((patch.now.y + 1) / 2 + k) }
+    ensures value { Patched side patch.now.first patch.now.apart patch.now.height out.old out.new
+        (λ k c. interpolated (V.at view.now patch.now.plane patch.now.lines) (patch.now.y + 2 * k) (patch.now.x + 2 * c)) }
+{
+    if patch.y % 2 == 0 {
+        if patch.x % 2 == 0 {
+            whole(view, patch, side, out);
+        } else {
+            across(view, patch, side, out);
+        }
+    } else if patch.x % 2 == 0 {
+        down(view, patch, side, out);
+    } else {
+        both(view, patch, side, out);
+    }
+}
+
+/// Predicts the lines of a patch, and leaves the other lines of its plane as they are.
+pub fn predict_patch<V: RefView>(view: &V, patch: &Patch, out: &mut [u8])
+    requires patch { IsPatch (side patch.now.plane) patch.now }
+    requires out { length out.old ≡ side patch.now.plane * side patch.now.plane }
+    requires columns { (patch.now.x + 1) / 2 + side patch.now.plane ≤ columns_of (V.size view.now) patch.now.plane }
+    requires upper { (k : ℕ) → k < patch.now.height → V.Holds view.now patch.now.plane patch.now.lines (patch.now.y / 2 + k) }
+    requires lower { (k : ℕ) → k < patch.now.height → V.Holds view.now patch.now.plane patch.now.lines ((patch.now.y + 1) / 2 + k) }
+    ensures value { Patched (side patch.now.plane) patch.now.first patch.now.apart patch.now.height out.old out.new
+        (λ k c. interpolated (V.at view.now patch.now.plane patch.now.lines) (patch.now.y + 2 * k) (patch.now.x + 2 * c)) }
+{
+    match patch.plane {
+        Plane::Y => by_case(view, patch, 16, out),
+        Plane::Cb | Plane::Cr => by_case(view, patch, 8, out),
+    }
+}
