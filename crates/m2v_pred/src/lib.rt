@@ -4,15 +4,16 @@
 
 mod block;
 mod halves;
-mod inside;
+mod area;
 mod mode;
+mod part;
 mod patch;
-mod predict;
+mod prediction;
 mod source;
 #[cfg(test)]
 mod tests;
 
 pub use block::Block16;
-//pub use inside::inside;
+pub use area::inside;
 pub use mode::{Form, MbPlace, Mode};
-//pub use predict::predict;
+pub use prediction::predict;
