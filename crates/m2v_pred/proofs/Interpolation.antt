@@ -23,6 +23,10 @@ pub patched_as : (side first apart n : ℕ) (old new : List ℕ) (f g : ℕ → 
     → Patched side first apart n old new f → Patched side first apart n old new g
 patched_as side first apart n old new f g same is = record { lines = λ k c lt small. is.lines k c lt small ∙ same k c; rest = is.rest }
 
+pub patched_within : (side first apart n : ℕ) (old new : List ℕ) (f g : ℕ → ℕ → ℕ) → ((k c : ℕ) → k < n → c < side → f k c ≡ g k c)
+    → Patched side first apart n old new f → Patched side first apart n old new g
+patched_within side first apart n old new f g same is = record { lines = λ k c lt small. is.lines k c lt small ∙ same k c lt small; rest = is.rest }
+
 pub whole_is : (at : ℕ → ℕ → ℕ) (y x k c : ℕ) → y % 2 ≡ 0 → x % 2 ≡ 0 → at (y / 2 + k) (x / 2 + c) ≡ interpolated at (y + 2 * k) (x + 2 * c)
 unfolding interpolated
 whole_is at y x k c ey ex = rw (even_stays y k ey, even_stays x c ex, whole_part y k, whole_part x c) refl
