@@ -19,11 +19,11 @@ zip2-map : (f : ℕ → ℕ → ℕ) (a b : ℕ → ℕ) (xs : List ℕ) → zip
 zip2-map f a b [] = refl
 zip2-map f a b (x ∷ xs) = ap (λ t. f (a x) (b x) ∷ t) (zip2-map f a b xs)
 
-zip2-append : (f : ℕ → ℕ → ℕ) (as bs cs ds : List ℕ) → length as ≡ length cs → zip2 f (as ++ bs) (cs ++ ds) ≡ zip2 f as cs ++ zip2 f bs ds
+zip2-append : (f : ℕ → ℕ → ℕ) (ws bs cs ds : List ℕ) → length ws ≡ length cs → zip2 f (ws ++ bs) (cs ++ ds) ≡ zip2 f ws cs ++ zip2 f bs ds
 zip2-append f [] bs [] ds same = refl
 zip2-append f [] bs (c ∷ cs) ds same = absurd (omega arith)
-zip2-append f (a ∷ as) bs [] ds same = absurd (omega arith)
-zip2-append f (a ∷ as) bs (c ∷ cs) ds same = ap (λ t. f a c ∷ t) (zip2-append f as bs cs ds (suc_inj same))
+zip2-append f (a ∷ ws) bs [] ds same = absurd (omega arith)
+zip2-append f (a ∷ ws) bs (c ∷ cs) ds same = ap (λ t. f a c ∷ t) (zip2-append f ws bs cs ds (suc_inj same))
 
 zip2-plane : (f : ℕ → ℕ → ℕ) (a b : ℕ → ℕ → ℕ) (lines columns : ℕ)
     → zip2 f (plane_by lines columns a) (plane_by lines columns b) ≡ plane_by lines columns (λ l c. f (a l c) (b l c))
