@@ -1,18 +1,20 @@
 -- The three planes of a macroblock as one list.
-use Rattle.std.proofs.Common.{◌≡◌, ℕ, zero, suc, ◌+◌, ◌-◌, ◌*◌, ◌/◌, ◌%◌, ◌<◌, ◌≤◌, List, [], ◌∷◌, ◌++◌, length, map, Bool, true, false, ◌&&◌, if◌then◌else◌, refl, ap, sym, ◌∙◌, arith}
+use Rattle.std.proofs.Common.{◌≡◌, ℕ, zero, suc, ◌+◌, ◌-◌, ◌*◌, ◌/◌, ◌%◌, ◌<◌, ◌≤◌, List, [], ◌∷◌, ◌++◌, length, get_or, map, Bool, true, false, ◌&&◌, if◌then◌else◌, refl, ap, sym, ◌∙◌, arith}
 use Rattle.std.specs.List.{range_with_len}
 use Rattle.std.specs.Simd.Lanes.{zip2}
-use Rattle.std.proofs.lemmas.List.FromFn.{length-map-range_with_len}
+use Rattle.std.proofs.lemmas.List.{get_or_append_left, get_or-append_right}
 use Rattle.m2v_plane.specs.declared.planes.Plane.{Plane}
 use Rattle.m2v_plane.specs.declared.planes.Plane.TheVariants.{Y, Cb, Cr}
 use Rattle.m2v_plane.specs.declared.planes.Lines.{Lines}
 use Rattle.m2v_plane.specs.Samples.{plane_by}
+use Rattle.m2v_plane.specs.Sizes.{side}
+use Rattle.m2v_plane.proofs.RawVideo.{plane_at, length-plane_by}
 use Rattle.m2v_kernel.specs.Sums.{mean}
 use Rattle.m2v_pred.specs.declared.mode.Mode.{Mode}
 use Rattle.m2v_pred.specs.declared.mode.MbPlace.{MbPlace}
 use Rattle.m2v_pred.specs.Motion.{is_dual}
 use Rattle.m2v_pred.specs.Vectors.{reading}
-use Rattle.m2v_pred.specs.Predicted.{sample_read, from_direction, predicted, block_by}
+use Rattle.m2v_pred.specs.Predicted.{sample_read, from_direction, predicted, block_by, place_in}
 use native.Mathlib.Nat.{suc_inj}
 
 zip2-map : (f : ℕ → ℕ → ℕ) (a b : ℕ → ℕ) (xs : List ℕ) → zip2 f (map a xs) (map b xs) ≡ map (λ x. f (a x) (b x)) xs
@@ -31,19 +33,15 @@ unfolding plane_by
 zip2-plane f a b lines columns =
     zip2-map f (λ k. a (k / columns) (k % columns)) (λ k. b (k / columns) (k % columns)) (range_with_len 0 (lines * columns))
 
-length-plane : (lines columns : ℕ) (a : ℕ → ℕ → ℕ) → length (plane_by lines columns a) ≡ lines * columns
-unfolding plane_by
-length-plane lines columns a = length-map-range_with_len (λ (k : ℕ). a (k / columns) (k % columns)) 0 (lines * columns)
-
 -- the means of two macroblocks
 zip2-block : (f : ℕ → ℕ → ℕ) (a b : Plane → ℕ → ℕ → ℕ) → zip2 f (block_by a) (block_by b) ≡ block_by (λ p l c. f (a p l c) (b p l c))
 unfolding block_by
 zip2-block f a b =
     zip2-append f (plane_by 16 16 (a Y)) (plane_by 8 8 (a Cb) ++ plane_by 8 8 (a Cr)) (plane_by 16 16 (b Y)) (plane_by 8 8 (b Cb) ++ plane_by 8 8 (b Cr))
-    (length-plane 16 16 (a Y) ∙ sym (length-plane 16 16 (b Y)))
+    (length-plane_by 16 16 (a Y) ∙ sym (length-plane_by 16 16 (b Y)))
     ∙ (λ i. zip2-plane f (a Y) (b Y) 16 16 i
     ++ (zip2-append f (plane_by 8 8 (a Cb)) (plane_by 8 8 (a Cr)) (plane_by 8 8 (b Cb)) (plane_by 8 8 (b Cr))
-    (length-plane 8 8 (a Cb) ∙ sym (length-plane 8 8 (b Cb)))
+    (length-plane_by 8 8 (a Cb) ∙ sym (length-plane_by 8 8 (b Cb)))
     ∙ (λ j. zip2-plane f (a Cb) (b Cb) 8 8 j ++ zip2-plane f (a Cr) (b Cr) 8 8 j)) i)
 
 pub means_are : (xs ys : List ℕ) (a b : Plane → ℕ → ℕ → ℕ) → xs ≡ block_by a → ys ≡ block_by b
@@ -83,3 +81,32 @@ directions_are forward backward mode place f b ef eb =
     if ef i && eb i
     then mean (from_direction forward mode 0 place p l c) (from_direction backward mode 1 place p l c)
     else (if ef i then from_direction forward mode 0 place p l c else from_direction backward mode 1 place p l c)))
+
+-- a sample of a macroblock that is told by plane, line and column
+pub block-at : (f : Plane → ℕ → ℕ → ℕ) (plane : Plane) (line column : ℕ) → line < side plane → column < side plane
+    → get_or (block_by f) (place_in plane line column) 0 ≡ f plane line column
+unfolding block_by
+block-at f Y line column lt small =
+    let luma = plane_by 16 16 (f Y) in
+    let spot : 16 * line + column ≡ line * 16 + column = omega arith in
+    get_or_append_left luma (plane_by 8 8 (f Cb) ++ plane_by 8 8 (f Cr)) 0 (16 * line + column) (omega (arith, length-plane_by 16 16 (f Y)))
+    ∙ ap (λ k. get_or luma k 0) spot ∙ plane_at 16 16 (f Y) line column lt small
+block-at f Cb line column lt small =
+    let luma = plane_by 16 16 (f Y) in
+    let cb = plane_by 8 8 (f Cb) in
+    let spot : 256 + (8 * line + column) - 256 ≡ line * 8 + column = omega arith in
+    get_or-append_right luma (cb ++ plane_by 8 8 (f Cr)) 256 (256 + (8 * line + column)) 0 (length-plane_by 16 16 (f Y)) (omega arith)
+    ∙ ap (λ k. get_or (cb ++ plane_by 8 8 (f Cr)) k 0) spot
+    ∙ get_or_append_left cb (plane_by 8 8 (f Cr)) 0 (line * 8 + column) (omega (arith, length-plane_by 8 8 (f Cb)))
+    ∙ plane_at 8 8 (f Cb) line column lt small
+block-at f Cr line column lt small =
+    let luma = plane_by 16 16 (f Y) in
+    let cb = plane_by 8 8 (f Cb) in
+    let cr = plane_by 8 8 (f Cr) in
+    let spot : 320 + (8 * line + column) - 256 ≡ 64 + (line * 8 + column) = omega arith in
+    let rest : 64 + (line * 8 + column) - 64 ≡ line * 8 + column = omega arith in
+    get_or-append_right luma (cb ++ cr) 256 (320 + (8 * line + column)) 0 (length-plane_by 16 16 (f Y)) (omega arith)
+    ∙ ap (λ k. get_or (cb ++ cr) k 0) spot
+    ∙ get_or-append_right cb cr 64 (64 + (line * 8 + column)) 0 (length-plane_by 8 8 (f Cb)) (omega arith)
+    ∙ ap (λ k. get_or cr k 0) rest
+    ∙ plane_at 8 8 (f Cr) line column lt small

@@ -1,5 +1,5 @@
 -- What each line of a macroblock is predicted from (clauses 7.6.2, 7.6.3.6 and 7.6.6).
-use Rattle.std.specs.Prelude.{ℕ, ◌+◌, ◌*◌, ◌/◌, ◌%◌, Bool, true, false, nat_eq, if◌then◌else◌, List, [], slice_index_or, ℤ, pos}
+use Rattle.std.specs.Prelude.{ℕ, ◌+◌, ◌*◌, ◌/◌, ◌%◌, Bool, true, false, nat_eq, if◌then◌else◌, List, [], ◌∷◌, slice_index_or, ℤ, pos}
 use Rattle.m2v_plane.specs.declared.planes.Plane.{Plane}
 use Rattle.m2v_plane.specs.declared.planes.Lines.{Lines}
 use Rattle.m2v_plane.specs.declared.planes.Lines.TheVariants as lines
@@ -10,6 +10,17 @@ use Rattle.m2v_pred.specs.declared.mode.Mode.{Mode}
 use Rattle.m2v_pred.specs.declared.source.Parts.{Parts}
 use Rattle.m2v_pred.specs.declared.source.Parts.TheVariants.{One, Fields, Halves}
 use Rattle.m2v_pred.specs.declared.source.Source.{Source}
+
+-- no direction, and all vectors 0
+abbrev pub no_motion : Mode
+no_motion = record {
+  form = Frame;
+  forward = false;
+  backward = false;
+  vectors = ((pos 0 ∷ pos 0 ∷ []) ∷ (pos 0 ∷ pos 0 ∷ []) ∷ []) ∷ ((pos 0 ∷ pos 0 ∷ []) ∷ (pos 0 ∷ pos 0 ∷ []) ∷ []) ∷ [];
+  bottom = (false ∷ false ∷ []) ∷ (false ∷ false ∷ []) ∷ [];
+  opposite = (pos 0 ∷ pos 0 ∷ []) ∷ (pos 0 ∷ pos 0 ∷ []) ∷ [];
+}
 
 -- a vector's component, by its number, its direction and 0 across or 1 down
 abbrev pub component : Mode → ℕ → ℕ → ℕ → ℤ

@@ -76,13 +76,7 @@ fn part_inside(
 }
 
 /// Whether all luma samples that are read from a source lie inside.
-fn reads_inside(
-    mode: &Mode,
-    direction: usize,
-    opposite: bool,
-    at: MbPlace,
-    dims: Dims,
-) -> bool
+fn reads_inside(mode: &Mode, direction: usize, opposite: bool, at: MbPlace, dims: Dims) -> bool
     requires direction { direction < 2 }
     requires size { IsSize dims }
     requires place { IsPlace at dims }

@@ -22,6 +22,7 @@ returns-then-lie c =
     let columns = simp to_z-of_z at c.lie-then-lie.ensures.value in
     record {
       value = (
-      λ yes. part_is d r c.args.part _ _ _ _ s high first c.lines_of.ensures.value (lines.0 c.if-lie.true) (columns.0 yes),
-      λ is. columns.1 (part_columns d r c.args.part _ s is));
+        λ yes. part_is d r c.args.part _ _ _ _ s high first c.lines_of.ensures.value (lines.0 c.if-lie.true) (columns.0 yes),
+        λ is. columns.1 (part_columns d r c.args.part _ s is),
+      );
     }

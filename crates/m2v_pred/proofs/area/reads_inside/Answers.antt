@@ -22,8 +22,9 @@ returns-then-first c =
     λ one. let is_one = c.parts_of.ensures.value ∙ one in elim c.in-Fields.is [ inl fields ↦ cc | inr halves ↦ cc ] in
     record {
       value = (
-      λ yes. two_parts d r (c.part_inside-first.ensures.value.0 c.if-first.true) (c.part_inside.ensures.value.0 yes),
-      λ is. c.part_inside.ensures.value.1 (second_part d r several is));
+        λ yes. two_parts d r (c.part_inside-first.ensures.value.0 c.if-first.true) (c.part_inside.ensures.value.0 yes),
+        λ is. c.part_inside.ensures.value.1 (second_part d r several is),
+      );
     }
 
 pub returns-else-first : goal.returns-else-first
@@ -32,6 +33,7 @@ returns-else-first c =
     let r = reading c.args.mode.now c.args.direction c.args.opposite c.args.at in
     record {
       value = (
-      λ yes. absurd (true≢false (sym yes ∙ c.if-first.false)),
-      λ is. c.part_inside-first.ensures.value.1 (first_part d r is));
+        λ yes. absurd (true≢false (sym yes ∙ c.if-first.false)),
+        λ is. c.part_inside-first.ensures.value.1 (first_part d r is),
+      );
     }
