@@ -5,7 +5,7 @@ use Rattle.m2v_plane.specs.declared.planes.Plane.TheVariants.{Y}
 use Rattle.m2v_pred.specs.declared.source.Parts.{Parts}
 use Rattle.m2v_pred.specs.Vectors.{reading}
 use Rattle.m2v_pred.specs.Patches.{part_height, part_number}
-use Rattle.m2v_pred.proofs.Areas.{part_is, part_lines, part_columns}
+use Rattle.m2v_pred.proofs.Areas.{part_is, part_columns}
 use Rattle.m2v_pred.proofs.area.part_inside.Goals as goal
 
 pub returns-then-lie : goal.returns-then-lie
