@@ -1,0 +1,2 @@
+pub mod Luma
+pub mod Squares

@@ -1,0 +1,1 @@
+-- Squares of a row.
