@@ -3,6 +3,11 @@ use Rattle.std.proofs.Common.{◌≡◌, ◌≢◌, ℕ, zero, suc, ◌+◌, ◌
 use Rattle.std.proofs.lemmas.Bool.{cases_lt}
 use Rattle.m2v_plane.specs.declared.planes.Plane.TheVariants.{Y}
 use Rattle.m2v_idct.specs.Block.{nth}
+use Rattle.m2v_idct.specs.Ranges.{IsSample}
+use Rattle.m2v_idct.proofs.Passed.{fits}
+use Rattle.std.proofs.lemmas.Int.{ints}
+use mir.Syntax.{w32}
+use mir.Val.{SFits}
 use Rattle.m2v_recon.specs.Macro.{BlockPlace, block_of}
 use Rattle.m2v_recon.specs.Steps.{luma_line, luma_place}
 
@@ -46,3 +51,7 @@ rest_more field block n at old mid new place before low high i other =
             | inr behind ↦ high i behind ∙ stays
           ]
     ]
+
+-- a sample's difference fits its type
+pub sample_fits : (z : ℤ) → IsSample z → SFits w32 z
+sample_fits z is = fits 256 z (omega arith) (is.0, omega (arith, ints, is.1))
