@@ -15,6 +15,11 @@ use Rattle.m2v_plane.proofs.RawVideo.{plane_at, length-plane_by}
 use Rattle.m2v_recon.specs.Macro.{plane_with}
 use Rattle.m2v_recon.specs.Steps.{lines_with, with_lines}
 
+pub side-most : (plane : Plane) → side plane ≤ 16
+side-most Y = omega arith
+side-most Cb = omega arith
+side-most Cr = omega arith
+
 -- samples put in place of others
 put_low : (old new : List ℕ) (from i : ℕ) → from ≤ length old → i < from → get_or (put old from new) i 0 ≡ get_or old i 0
 unfolding put

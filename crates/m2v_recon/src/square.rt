@@ -25,6 +25,7 @@ fn sums(prediction: &[u8], differences: &[i32], from: usize, count: usize) -> [u
     requires prediction { from + count ≤ length prediction.now }
     requires differences { from + count ≤ length differences.now }
     requires samples { (i : ℕ) → i < length differences.now → IsSample (nth differences.now i) }
+    ensures len { length result ≡ 16 }
     ensures value { (k : ℕ) → k < count
         → slice_index result k ≡ clamped (pos (slice_index prediction.now (from + k)) +ℤ nth differences.now (from + k)) }
 {
