@@ -51,10 +51,10 @@ length-put old new from fits =
     omega (arith, length-append (take from old) (new ++ drop (from + length new) old), length-append new (drop (from + length new) old),
     length-take-le from old (omega arith), length-drop (from + length new) old)
 
-one_more : (k n : ℕ) → k ≢ n → nat_lt k n ≡ nat_lt k (n + 1)
+pub one_more : (k n : ℕ) → k ≢ n → nat_lt k n ≡ nat_lt k (n + 1)
 one_more k n ne = grind (arith, nat_tests)
 
-is_less : (k n : ℕ) → k < n → nat_lt k n ≡ true
+pub is_less : (k n : ℕ) → k < n → nat_lt k n ≡ true
 is_less k n lt = grind (arith, nat_tests)
 
 no_less : (k : ℕ) → nat_lt k 0 ≡ false

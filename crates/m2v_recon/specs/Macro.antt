@@ -1,5 +1,5 @@
 -- The samples of one macroblock (clause 7.6.8): the prediction, and the inverse transform of each block that is coded.
-use Rattle.std.specs.Prelude.{ℕ, ◌+◌, ◌-◌, ◌*◌, ◌/◌, ◌%◌, ◌^◌, Bool, true, false, ◌&&◌, nat_eq, nat_lt, if◌then◌else◌, List, replicate, slice_index, slice_index_or, ℤ, pos, ◌+ℤ◌, unsigned_abs}
+use Rattle.std.specs.Prelude.{ℕ, ◌+◌, ◌-◌, ◌*◌, ◌/◌, ◌%◌, ◌^◌, Bool, true, false, ◌&&◌, nat_eq, nat_lt, if◌then◌else◌, List, [], replicate, slice_index, slice_index_or, ℤ, pos, ◌+ℤ◌, unsigned_abs}
 use Rattle.std.specs.Int.{int_max, int_min}
 use Rattle.m2v_plane.specs.declared.planes.Plane.{Plane}
 use Rattle.m2v_plane.specs.declared.planes.Plane.TheVariants.{Y, Cb, Cr}
@@ -31,6 +31,11 @@ is_coded pattern block = nat_eq (pattern / 2 ^ (5 - block) % 2) 1
 -- luma blocks are of one kind, chroma blocks of another
 abbrev pub kind_of : BlockKind → BlockKind → ℕ → BlockKind
 kind_of luma chroma block = if nat_lt block 4 then luma else chroma
+
+-- the kind of number k in a list
+abbrev pub kind_at : List BlockKind → ℕ → BlockKind
+kind_at kinds k =
+    slice_index_or kinds k (record { intra = false; luma = false; precision = 0; scale = 0; matrix = []; alternate = false })
 
 -- what is added to the prediction: the inverse transform of the block's coefficients, or nothing where it isn't coded
 unfoldable pub residual : List (List ℤ) → ℕ → BlockKind → BlockKind → BlockPlace → ℤ

@@ -1,9 +1,13 @@
 -- A macroblock's planes one by one.
-use Rattle.std.specs.Prelude.{ℕ, ◌+◌, ◌*◌, ◌/◌, ◌%◌, Bool, true, false, ◌&&◌, nat_eq, nat_lt, if◌then◌else◌, List, slice_index}
+use Rattle.std.specs.Prelude.{ℕ, ◌+◌, ◌*◌, ◌/◌, ◌%◌, Bool, true, false, ◌&&◌, nat_eq, nat_lt, if◌then◌else◌, List, map, slice_index, slice_index_or, ℤ, pos}
 use Rattle.m2v_plane.specs.declared.planes.Plane.{Plane}
 use Rattle.m2v_plane.specs.declared.planes.Plane.TheVariants.{Y, Cb, Cr}
 use Rattle.m2v_plane.specs.Sizes.{side, columns_of}
 use Rattle.m2v_plane.specs.Samples.{Samples, plane_by}
+use Rattle.m2v_quant.specs.declared.kind.BlockKind.{BlockKind}
+use Rattle.m2v_quant.specs.declared.kind.Levels.{Levels}
+use Rattle.m2v_quant.specs.Coefficients.{coefficients_of}
+use Rattle.m2v_idct.specs.Inverse.{inverse_of}
 
 -- the line of luma that line k of a luma block is
 abbrev pub luma_line : Bool → ℕ → ℕ → ℕ
@@ -25,3 +29,11 @@ abbrev pub with_lines : ℕ → Plane → ℕ → (ℕ → ℕ → ℕ) → Samp
 with_lines n Y column new s = record s { luma = lines_with n (columns_of s.dims Y) 16 column new s.luma }
 with_lines n Cb column new s = record s { cb = lines_with n (columns_of s.dims Cb) 8 column new s.cb }
 with_lines n Cr column new s = record s { cr = lines_with n (columns_of s.dims Cr) 8 column new s.cr }
+
+-- the differences of a block's levels, or none where it isn't coded
+abbrev pub difference_at : Bool → List ℤ → BlockKind → ℕ → ℤ
+difference_at coded levels kind place = if coded then slice_index_or (inverse_of (coefficients_of levels kind)) place (pos 0) else pos 0
+
+-- the levels of each block
+abbrev pub levels_of : List Levels → List (List ℤ)
+levels_of levels = map (λ l. l.at) levels
