@@ -1,2 +1,3 @@
 pub mod Luma
+pub mod Samples
 pub mod Squares

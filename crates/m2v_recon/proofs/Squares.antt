@@ -184,6 +184,23 @@ lines_all columns side column f new old some same =
     by_case a b true ea eb same z = rw (ea, eb) same
     by_case a b false ea eb same z = rw (and_false a, and_false b) refl
 
+-- lines that agree
+lines_same : (n columns side column : ℕ) (f g : ℕ → ℕ → ℕ) (old : List ℕ) → 0 < side → ((r c : ℕ) → r < side → c < side → f r c ≡ g r c)
+    → lines_with n columns side column f old ≡ lines_with n columns side column g old
+unfolding lines_with
+lines_same n columns side column f g old some same =
+    plane_is (lines_with n columns side column f old) side columns (at_lines n columns side column g old)
+    (length-plane_by side columns (at_lines n columns side column f old))
+    (λ r c lt small.
+    lines_at n columns side column f old r c lt small
+    ∙ ap (λ v. cond (nat_lt r n && nat_eq (c / side) column) v (get_or old (r * columns + c) 0)) (same r (c % side) lt (mod_below c side some)))
+
+pub rows_same : (n : ℕ) (s : Samples) (plane : Plane) (column : ℕ) (f g : ℕ → ℕ → ℕ) → ((r c : ℕ) → r < side plane → c < side plane → f r c ≡ g r c)
+    → with_lines n plane column f s ≡ with_lines n plane column g s
+rows_same n s Y column f g same = ap (λ xs. record s { luma = xs }) (lines_same n (columns_of s.dims Y) 16 column f g s.luma (omega arith) same)
+rows_same n s Cb column f g same = ap (λ xs. record s { cb = xs }) (lines_same n (columns_of s.dims Cb) 8 column f g s.cb (omega arith) same)
+rows_same n s Cr column f g same = ap (λ xs. record s { cr = xs }) (lines_same n (columns_of s.dims Cr) 8 column f g s.cr (omega arith) same)
+
 -- a row with no line written yet
 pub row_none : (s : Samples) (plane : Plane) (column : ℕ) (new : ℕ → ℕ → ℕ) → HasRows s 1 → s ≡ with_lines 0 plane column new s
 row_none s Y column new whole = ap (λ xs. record s { luma = xs }) (lines_none (columns_of s.dims Y) 16 column new s.luma (omega (arith, whole.luma)))
@@ -203,22 +220,3 @@ row_more n s Cb column new samples below inside whole count are =
 row_more n s Cr column new samples below inside whole count are =
     ap (λ xs. record s { cr = xs })
     (lines_more n (columns_of s.dims Cr) 8 column new s.cr samples below (omega arith) (omega (arith, whole.cr)) count are)
-
--- a row stays whole
-pub rows_whole : (n : ℕ) (s : Samples) (plane : Plane) (column : ℕ) (new : ℕ → ℕ → ℕ) → HasRows s 1 → HasRows (with_lines n plane column new s) 1
-unfolding lines_with
-rows_whole n s Y column new whole = record {
-  luma = length-plane_by 16 (columns_of s.dims Y) (at_lines n (columns_of s.dims Y) 16 column new s.luma) ∙ omega arith;
-  cb = whole.cb;
-  cr = whole.cr;
-}
-rows_whole n s Cb column new whole = record {
-  luma = whole.luma;
-  cb = length-plane_by 8 (columns_of s.dims Cb) (at_lines n (columns_of s.dims Cb) 8 column new s.cb) ∙ omega arith;
-  cr = whole.cr;
-}
-rows_whole n s Cr column new whole = record {
-  luma = whole.luma;
-  cb = whole.cb;
-  cr = length-plane_by 8 (columns_of s.dims Cr) (at_lines n (columns_of s.dims Cr) 8 column new s.cr) ∙ omega arith;
-}

@@ -112,6 +112,7 @@ pub fn luma_differences(
     requires zeros { (i : ℕ) → i < 256 → nth sums.old i ≡ pos 0 }
     ensures value { (l c : ℕ) → l < 16 → c < 16 → nth sums.new (16 * l + c)
         ≡ residual (levels_of levels.now) pattern (kind_at kinds.now 0) (kind_at kinds.now 1) (block_of dct_field Y l c) }
+    ensures samples { (i : ℕ) → i < 256 → IsSample (nth sums.new i) }
 {
     for block in 0..4 {
         let coded = is_coded(pattern, block as u32);
@@ -125,6 +126,7 @@ pub fn chroma_differences(coded: bool, levels: &Levels, kind: &BlockKind) -> [i3
     requires levels { All IsLevel levels.now.at }
     ensures len { length result ≡ 64 }
     ensures value { (i : ℕ) → i < 64 → nth result i ≡ difference_at coded levels.now.at kind.now i }
+    ensures samples { (i : ℕ) → i < 64 → IsSample (nth result i) }
 {
     if coded {
         differences(levels, kind)

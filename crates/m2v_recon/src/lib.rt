@@ -8,4 +8,4 @@ mod square;
 #[cfg(test)]
 mod tests;
 
-//pub use macroblock::rebuild;
+pub use macroblock::rebuild;
