@@ -1,11 +1,11 @@
 -- The samples of a macroblock's planes.
-use Rattle.std.proofs.Common.{◌≡◌, ◌≢◌, ℕ, zero, suc, ◌+◌, ◌-◌, ◌*◌, ◌/◌, ◌%◌, ◌<◌, ◌≤◌, Bool, true, false, cond, nat_lt, List, [], length, get_or, take, drop, replicate, slice_index_or, refl, ap, sym, ◌∙◌, subst, arith, ℤ, pos, negsuc, neg_ℤ, ◌+ℤ◌, ◌≤ℤ◌}
+use Rattle.std.proofs.Common.{◌≡◌, ℕ, ◌+◌, ◌*◌, ◌/◌, ◌%◌, ◌<◌, Bool, true, false, cond, List, [], length, get_or, take, drop, replicate, slice_index_or, refl, sym, ◌∙◌, subst, arith, ℤ, pos, ◌+ℤ◌}
 use Rattle.std.proofs.lemmas.Int.{ints, clamps}
 use Rattle.std.proofs.lemmas.List.{get_or-map, get_or-take}
 use Rattle.m2v_plane.specs.declared.planes.Plane.{Plane}
 use Rattle.m2v_plane.specs.declared.planes.Plane.TheVariants.{Y, Cb, Cr}
-use Rattle.m2v_plane.specs.Sizes.{side, columns_of}
-use Rattle.m2v_plane.specs.Samples.{Samples, HasRows}
+use Rattle.m2v_plane.specs.Sizes.{columns_of}
+use Rattle.m2v_plane.specs.Samples.{Samples}
 use Rattle.m2v_quant.specs.declared.kind.BlockKind.{BlockKind}
 use Rattle.m2v_quant.specs.declared.kind.Levels.{Levels}
 use Rattle.m2v_quant.specs.Coefficients.{coefficients_of}
@@ -14,7 +14,6 @@ use Rattle.m2v_idct.specs.Block.{nth}
 use Rattle.m2v_idct.specs.Ranges.{IsSample}
 use Rattle.m2v_idct.specs.Inverse.{inverse_of, inverse_at, clip, column, after_rows}
 use Rattle.m2v_idct.proofs.Blocks.{place_is}
-use Rattle.m2v_pred.specs.Predicted.{place_in}
 use Rattle.m2v_recon.specs.Macro.{BlockPlace, block_of, is_coded, kind_at, kind_of, residual, clamped, macro_sample, with_macroblock}
 use Rattle.m2v_recon.specs.Steps.{difference_at, levels_of, with_lines}
 use Rattle.m2v_recon.proofs.Luma.{block_below}

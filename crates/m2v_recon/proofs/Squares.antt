@@ -1,15 +1,14 @@
 -- Squares of a row's planes, written line by line.
-use Rattle.std.proofs.Common.{◌≡◌, ◌≢◌, ℕ, zero, suc, ◌+◌, ◌-◌, ◌*◌, ◌/◌, ◌%◌, ◌<◌, ◌≤◌, Bool, true, false, ◌&&◌, cond, nat_lt, nat_eq, List, ◌++◌, length, get_or, take, drop, refl, ap, sym, ◌∙◌, subst, arith, inl, inr, ◌⊎◌, length-append, length-drop, eq-eqb}
-use Rattle.std.proofs.lemmas.Bool.{cases_lt, cases_eq, eqb-true, cases_Bool}
+use Rattle.std.proofs.Common.{◌≡◌, ◌≢◌, ℕ, ◌+◌, ◌-◌, ◌*◌, ◌/◌, ◌%◌, ◌<◌, ◌≤◌, Bool, true, false, ◌&&◌, cond, nat_lt, nat_eq, List, ◌++◌, length, get_or, take, drop, refl, ap, sym, ◌∙◌, arith, inl, inr, length-append, length-drop, eq-eqb}
+use Rattle.std.proofs.lemmas.Bool.{cases_lt, cases_eq}
 use Rattle.std.proofs.lemmas.Bool.Decides.{nat_tests}
 use Rattle.std.proofs.lemmas.List.{length-take-le, get_or-take, get_or-drop, get_or_append_left, get_or-append_right}
 use Rattle.std.proofs.lemmas.Nat.{div-mul-add, mod-mul-add, mod_below}
-use Rattle.std.proofs.Math.Nat.{mul-le-mul_right, div-add-mod, mul_comm, div-eq_of_lt, mod-eq_of_lt}
-use Rattle.m2v_plane.specs.declared.dims.Dims.{Dims}
+use Rattle.std.proofs.Math.Nat.{div-add-mod, mul_comm, div-eq_of_lt, mod-eq_of_lt}
 use Rattle.m2v_plane.specs.declared.planes.Plane.{Plane}
 use Rattle.m2v_plane.specs.declared.planes.Plane.TheVariants.{Y, Cb, Cr}
 use Rattle.m2v_plane.specs.Sizes.{side, columns_of}
-use Rattle.m2v_plane.specs.Samples.{Samples, HasRows, plane_by, put, with_part}
+use Rattle.m2v_plane.specs.Samples.{Samples, HasRows, put, with_part}
 use Rattle.m2v_plane.proofs.Places.{plane_is, line_fits}
 use Rattle.m2v_plane.proofs.RawVideo.{plane_at, length-plane_by}
 use Rattle.m2v_recon.specs.Macro.{plane_with}
@@ -48,8 +47,13 @@ put_high old new from i fits le =
 length-put : (old new : List ℕ) (from : ℕ) → from + length new ≤ length old → length (put old from new) ≡ length old
 unfolding put
 length-put old new from fits =
-    omega (arith, length-append (take from old) (new ++ drop (from + length new) old), length-append new (drop (from + length new) old),
-    length-take-le from old (omega arith), length-drop (from + length new) old)
+    omega (
+      arith,
+      length-append (take from old) (new ++ drop (from + length new) old),
+      length-append new (drop (from + length new) old),
+      length-take-le from old (omega arith),
+      length-drop (from + length new) old,
+    )
 
 pub one_more : (k n : ℕ) → k ≢ n → nat_lt k n ≡ nat_lt k (n + 1)
 one_more k n ne = grind (arith, nat_tests)

@@ -42,9 +42,9 @@ unfoldable pub residual : List (List ℤ) → ℕ → BlockKind → BlockKind �
 residual levels pattern luma chroma place =
     if is_coded pattern place.block
     then slice_index_or
-        (inverse_of (coefficients_of (slice_index_or levels place.block (replicate 64 (pos 0))) (kind_of luma chroma place.block)))
-        (8 * place.line + place.column)
-        (pos 0)
+    (inverse_of (coefficients_of (slice_index_or levels place.block (replicate 64 (pos 0))) (kind_of luma chroma place.block)))
+    (8 * place.line + place.column)
+    (pos 0)
     else pos 0
 
 -- the nearest number from 0 to 255

@@ -38,7 +38,14 @@ fn sums(prediction: &[u8], differences: &[i32], from: usize, count: usize) -> [u
 
 /// Writes a plane of a macroblock of this side, line by line.
 #[inline(always)]
-pub fn put_lines(prediction: &[u8], differences: &[i32], plane: Plane, count: usize, column: u32, out: &mut RowSamples)
+pub fn put_lines(
+    prediction: &[u8],
+    differences: &[i32],
+    plane: Plane,
+    count: usize,
+    column: u32,
+    out: &mut RowSamples,
+)
     requires side { count ≡ side plane }
     requires column { column < out.old.dims.mb_width }
     requires prediction { length prediction.now ≡ count * count }

@@ -1,4 +1,4 @@
-use Rattle.std.proofs.Common.{◌≡◌, ◌≢◌, ℕ, ◌<◌, ◌≤◌, ◌+◌, ◌*◌, length}
+use Rattle.std.proofs.Common.{◌≡◌, ◌≢◌, ℕ, ◌<◌, ◌+◌, ◌*◌, length}
 use Rattle.m2v_idct.specs.Block.{nth}
 use Rattle.m2v_recon.specs.Steps.{luma_place}
 use Rattle.m2v_recon.proofs.differences.put_block.Given as goal

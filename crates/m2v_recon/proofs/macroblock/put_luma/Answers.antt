@@ -1,4 +1,4 @@
-use Rattle.std.proofs.Common.{◌∙◌, arith, pos}
+use Rattle.std.proofs.Common.{◌∙◌, pos}
 use Rattle.std.proofs.lemmas.List.{get_or-replicate}
 use Rattle.m2v_plane.specs.declared.planes.Plane.TheVariants.{Y}
 use Rattle.m2v_recon.specs.Macro.{kind_at}

@@ -1,4 +1,4 @@
-use Rattle.std.proofs.Common.{◌∙◌, ap, ℕ, Bool}
+use Rattle.std.proofs.Common.{◌∙◌, ap}
 use Rattle.m2v_plane.specs.declared.planes.Plane.TheVariants.{Cb, Cr}
 use Rattle.m2v_plane.specs.Samples.{Samples}
 use Rattle.m2v_recon.specs.Macro.{kind_at, macro_sample}

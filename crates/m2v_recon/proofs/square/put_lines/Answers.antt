@@ -1,7 +1,6 @@
-use Rattle.std.proofs.Common.{◌≡◌, ℕ, ◌+◌, ◌-◌, ◌*◌, ◌<◌, List, length, get_or, take, ap, sym, ◌∙◌, arith, pos, ◌+ℤ◌}
+use Rattle.std.proofs.Common.{◌≡◌, ℕ, ◌+◌, ◌*◌, length, get_or, take, ap, ◌∙◌, arith, pos, ◌+ℤ◌}
 use Rattle.std.proofs.lemmas.List.{length-take-le, get_or-take}
 use Rattle.m2v_plane.specs.Samples.{Samples, with_part}
-use Rattle.m2v_plane.specs.Sizes.{side}
 use Rattle.m2v_idct.specs.Block.{nth}
 use Rattle.m2v_recon.specs.Macro.{clamped}
 use Rattle.m2v_recon.specs.Steps.{with_lines}

@@ -1,4 +1,4 @@
-use Rattle.std.proofs.Common.{◌≡◌, ℕ, ◌+◌, ◌*◌, get_or, pos, ◌+ℤ◌}
+use Rattle.std.proofs.Common.{◌≡◌, ◌+◌, ◌*◌, get_or, pos, ◌+ℤ◌}
 use Rattle.m2v_idct.specs.Block.{nth}
 use Rattle.m2v_recon.specs.Macro.{clamped}
 use Rattle.m2v_recon.specs.Steps.{with_lines}
