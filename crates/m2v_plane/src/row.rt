@@ -45,11 +45,12 @@ impl RowSamples {
         })
     }
 
-    /// The size of the frames that the row is for.
+    /// The size of the frames that the row is for. The row holds whole macroblocks of that size.
     #[inline(always)]
     pub fn dims(&self) -> Dims
         ensures value { result ≡ self.now.dims }
         ensures size { IsSize result }
+        ensures whole { HasRows self.now 1 }
     {
         self.dims
     }

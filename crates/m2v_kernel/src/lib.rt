@@ -1,0 +1,13 @@
+//! Sums of absolute differences and means of samples: what search and prediction compute most often.
+#![tactic(auto)]
+
+mod difference;
+mod lanes;
+mod mean;
+#[cfg(test)]
+mod tests;
+mod window;
+
+pub use difference::{sad16, sad16_until};
+pub use mean::average;
+pub use window::sad_at_until;

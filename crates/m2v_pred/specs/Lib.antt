@@ -1,0 +1,4 @@
+pub mod Motion
+pub mod Vectors
+pub mod Predicted
+pub mod Patches

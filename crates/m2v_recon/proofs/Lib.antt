@@ -1,0 +1,3 @@
+pub mod Luma
+pub mod Samples
+pub mod Squares

@@ -1,0 +1,11 @@
+//! The samples of one macroblock (clause 7.6.8 of ISO/IEC 13818-2): prediction plus the inverse transform of each coded
+//! block's coefficients, clamped.
+#![tactic(auto)]
+
+mod differences;
+mod macroblock;
+mod square;
+#[cfg(test)]
+mod tests;
+
+pub use macroblock::rebuild;
