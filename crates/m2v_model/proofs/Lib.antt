@@ -5,3 +5,4 @@ pub mod HeaderLaws
 pub mod SliceLaws
 pub mod StreamLaws
 pub mod Unique
+pub mod Fronts

@@ -70,6 +70,6 @@ pub record ExactlyOne (text : List ℕ) : Type 0 where
   pub one_fault : (p q : ℕ) (k l : FaultKind) → FaultAt text p k → FaultAt text q l → (p ≡ q) × (k ≡ l)
 
 -- what pictures show before the end is the front of what they show when others follow
-pub record IsPrefix (low_delay : Bool) (ps qs : Pictures) : Type 0 where
+pub record IsFront (low_delay : Bool) (ps qs : Pictures) : Type 0 where
   pub more : List (List ℕ)
   pub is : due low_delay (ps ++ qs) ≡ due low_delay ps ++ more

@@ -4,7 +4,6 @@ pub mod Faults
 pub mod Unread
 pub mod Headers
 pub mod States
-pub mod Macro
 pub mod Slices
 pub mod Streams
 pub mod Pictures

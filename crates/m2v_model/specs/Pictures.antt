@@ -12,7 +12,7 @@ use Rattle.m2v_model.specs.States.{width_of, height_of, columns_of, rows_of}
 use Rattle.m2v_model.specs.Slices.{Macroblock, Slice, kind_for, after_macroblock, context, slice_start}
 use Rattle.m2v_model.specs.Streams.{Part, sequence, group, picture, matrices, slice, skipped, ending, over}
 use Rattle.m2v_model.specs.Streams.{after as state_after}
-use Rattle.m2v_model.specs.Macro.{macro_sample, with_macroblock}
+use Rattle.m2v_recon.specs.Macro.{macro_sample, with_macroblock}
 
 -- the size of the frames of a sequence
 abbrev pub dims_of : Sequence → Dims

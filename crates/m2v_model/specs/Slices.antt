@@ -20,7 +20,7 @@ use Rattle.m2v_model.specs.declared.state.State.{State}
 use Rattle.m2v_model.specs.Faults.{Of, of_head, of_block, of_macro}
 use Rattle.m2v_model.specs.Looking.{looking}
 use Rattle.m2v_model.specs.States.{columns_of}
-use Rattle.m2v_model.specs.Macro.{is_coded}
+use Rattle.m2v_recon.specs.Macro.{is_coded}
 
 -- ---- blocks
 

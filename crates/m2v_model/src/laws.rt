@@ -1,8 +1,13 @@
 ghost use Rattle.std.specs.Prelude.{ℕ, List, Bool};
 ghost use Rattle.m2v_model.specs.Pictures.{Pictures};
-ghost use Rattle.m2v_model.specs.Decoding.{ExactlyOne, IsPrefix};
+ghost use Rattle.m2v_model.specs.Decoding.{ExactlyOne, IsFront};
 
 /// Of each text exactly one holds: it decodes to frames, or it has a first fault; and each has one value.
 pub fn law_unique()
     ensures { (text : List ℕ) → ExactlyOne text }
+{}
+
+/// The frames that pictures show before the end are the first of those that they show when others follow.
+pub fn law_prefix()
+    ensures { (low_delay : Bool) (ps qs : Pictures) → IsFront low_delay ps qs }
 {}
