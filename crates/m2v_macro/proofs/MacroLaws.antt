@@ -1,7 +1,7 @@
 -- What is read of a macroblock stands there, and what stands there is read: a macroblock has one reading.
-use Rattle.std.proofs.Common.{◌≡◌, ℕ, Bool, true, false, List, length, subst, ap, ◌∙◌, sym, ◌<◌, ◌≤◌, ℤ, arith, refl}
+use Rattle.std.proofs.Common.{◌≡◌, ℕ, Bool, true, false, List, length, subst, ap, ◌∙◌, sym, ◌<◌, ℤ, arith, refl}
 use Rattle.m2v_bits.specs.Syntax.{renamed}
-use Rattle.m2v_bits.proofs.SyntaxLaws.{Lawful, Strict, Takes, good, bad, good_is, done_lawful, here_lawful, rule_lawful, seq_lawful, seq_strict, seq_strict_later, choose_lawful, choose_strict, renamed_lawful, repeated_strict, onward, round_err, round_more, round_last}
+use Rattle.m2v_bits.proofs.SyntaxLaws.{Lawful, Strict, Takes, good, bad, good_is, done_lawful, here_lawful, rule_lawful, seq_lawful, seq_strict, seq_strict_later, choose_lawful, renamed_lawful, repeated_strict, onward, round_err, round_more, round_last}
 use Rattle.m2v_bits.proofs.LeafLaws.{bits_lawful}
 use Rattle.m2v_vlc.specs.declared.values.CodeFault.TheVariants as codes
 use Rattle.m2v_vlc.specs.declared.values.Increment.{Increment}
@@ -20,9 +20,8 @@ use Rattle.m2v_macro.specs.declared.values.SliceState.{SliceState}
 use Rattle.m2v_macro.specs.declared.values.PictureContext.{PictureContext}
 use Rattle.m2v_macro.specs.declared.values.Shape.{Shape}
 use Rattle.m2v_macro.specs.Faults.{of_code, flag_at, coded, look_at, ahead_at}
-use Rattle.m2v_macro.specs.States.{is_field, pmv_before}
-use Rattle.m2v_macro.specs.Vectors.{shape_of, component_at, dm_at, vertical_at, vector_at, selected_at, vectors_at, direction_at}
-use Rattle.m2v_macro.specs.Macros.{added, round_at, increment_from, before_at, allowed_at, step_at, kind_at, told_form_at, form_at, dct_at, told_quantiser_at, quantiser_at, is_concealed, f_codes_of, told_marker_at, marker_at, zero_pattern, told_pattern_at, pattern_at, directions_at, macro_at}
+use Rattle.m2v_macro.specs.Vectors.{component_at, dm_at, vertical_at, vector_at, selected_at, vectors_at, direction_at}
+use Rattle.m2v_macro.specs.Macros.{added, round_at, increment_from, before_at, allowed_at, step_at, kind_at, told_form_at, form_at, dct_at, told_quantiser_at, quantiser_at, told_marker_at, marker_at, zero_pattern, told_pattern_at, pattern_at, directions_at, macro_at}
 
 -- ---- elements
 

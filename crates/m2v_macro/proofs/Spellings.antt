@@ -1,41 +1,37 @@
 -- What is written of a macroblock spells it.
-use Rattle.std.proofs.Common.{◌≡◌, ℕ, zero, suc, ◌+◌, ◌-◌, ◌*◌, ◌/◌, ◌%◌, ◌^◌, ◌<◌, ◌≤◌, Bool, true, false, cond, List, [], ◌∷◌, ◌++◌, length, ℤ, pos, neg_ℤ, ◌+ℤ◌, ◌≤ℤ◌, ◌<ℤ◌, refl, sym, ap, subst, ◌∙◌, inl, inr, append_assoc, append-nil, arith}
-use Rattle.std.specs.Prelude.{nat_eq, not, ◌&&◌, ◌||◌, slice_index, slice_index_or, int_le, int_lt, unsigned_abs}
+use Rattle.std.proofs.Common.{◌≡◌, ℕ, zero, suc, ◌+◌, ◌-◌, ◌*◌, ◌/◌, ◌%◌, ◌^◌, ◌<◌, ◌≤◌, Bool, true, false, cond, List, [], ◌∷◌, ◌++◌, length, ℤ, pos, ◌+ℤ◌, ◌≤ℤ◌, ◌<ℤ◌, refl, sym, ap, subst, ◌∙◌, inl, inr, append_assoc, append-nil, arith}
+use Rattle.std.specs.Prelude.{nat_eq, not, ◌||◌, slice_index, slice_index_or, int_le, int_lt, unsigned_abs}
 use Rattle.std.proofs.lemmas.Int.{ints}
-use Rattle.std.proofs.lemmas.Bool.{cases_Bool, and_from, and_parts, eqb-true, ne_eqb}
+use Rattle.std.proofs.lemmas.Bool.{cases_Bool, and_from, eqb-true}
 use Rattle.std.proofs.lemmas.Nat.{pow_pos, div-add-mod'}
 use Rattle.std.proofs.Math.Nat.{mod-lt}
 use Rattle.m2v_bits.specs.Bits.{bits_of}
-use Rattle.m2v_bits.specs.Syntax.{Syntax, done, seq, here, rule, choose, repeated, renamed, Rounds, last, more, Spells}
+use Rattle.m2v_bits.specs.Syntax.{Syntax, done, seq, choose, repeated, Rounds, last, more, Spells}
 use Rattle.m2v_bits.proofs.LeafLaws.{done_spells, seq_spells, here_spells, rule_spells, first_spells, second_spells, renamed_spells, bits_spells}
 use Rattle.m2v_head.proofs.ElementLaws.{last_spells, whole_spells, same_spells}
 use Rattle.m2v_vlc.specs.declared.values.CodeFault.TheVariants as codes
 use Rattle.m2v_vlc.specs.declared.values.Increment.{Increment}
 use Rattle.m2v_vlc.specs.declared.values.Increment.TheVariants.{Step, Escape}
-use Rattle.m2v_vlc.specs.declared.values.MbType.{MbType}
-use Rattle.m2v_vlc.specs.Tables.{increment, increment_code, motion, motion_code, dmv, dmv_code}
+use Rattle.m2v_vlc.specs.Tables.{increment_code, dmv_code}
 use Rattle.m2v_vlc.specs.Values.{IsIncrement}
 use Rattle.m2v_vlc.proofs.Increments.{increment_spells}
-use Rattle.m2v_vlc.proofs.MbTypes.{type_i_spells, type_p_spells, type_b_spells}
 use Rattle.m2v_vlc.proofs.Motions.{motion_spells, dmv_spells}
-use Rattle.m2v_vector.specs.declared.predictors.Pmv.{Pmv}
 use Rattle.m2v_vector.specs.Vectors.{scale, IsVector, IsDifference, IsSpelling, half, difference, between, wrapped, joined, code_of, residual_of}
-use Rattle.m2v_vector.specs.Predictors.{zeros, pair_of}
+use Rattle.m2v_vector.specs.Predictors.{zeros}
 use Rattle.m2v_vector.proofs.Wrapping.{step_back, between_within}
 use Rattle.m2v_vector.proofs.Spellings.{spelling_of, difference_of}
 use Rattle.m2v_macro.specs.declared.fault.MacroFault.{MacroFault}
-use Rattle.m2v_macro.specs.declared.fault.MacroFault.TheVariants.{Code, SliceOrder, MissingMacroblocks, SkipRule, QuantZero, PatternZero, BadMotionType, VectorRange, Marker}
+use Rattle.m2v_macro.specs.declared.fault.MacroFault.TheVariants.{Code, SliceOrder, MissingMacroblocks, SkipRule, VectorRange}
 use Rattle.m2v_macro.specs.declared.values.SliceState.{SliceState}
 use Rattle.m2v_macro.specs.declared.values.PictureContext.{PictureContext}
 use Rattle.m2v_macro.specs.declared.values.Shape.{Shape}
 use Rattle.m2v_macro.specs.declared.values.Selected.{Selected}
-use Rattle.m2v_macro.specs.Faults.{Of, of_code, flag_at, coded}
+use Rattle.m2v_macro.specs.Faults.{of_code, flag_at}
 use Rattle.m2v_macro.specs.States.{not_past, in_order, may_skip}
 use Rattle.m2v_macro.specs.Vectors.{has_residual, component_at, dm_at, is_half_vector, vertical_at, vector_at}
-use Rattle.m2v_macro.specs.Macros.{added, round_at, increment_from, allowed_at, step_at, kind_at}
-use Rattle.m2v_macro.specs.Conditions.{IsStep, IsHalf, IsDm, IsPair, AreScales, IsSelected, has_type}
-use Rattle.m2v_macro.specs.Texts.{flag, escapes_text, increment_text, residual_text, difference_text, component_text, dm_text, predictor_at, part_text, vector_text, kind_text}
-use Rattle.m2v_macro.proofs.Types.{of_i, of_p, of_b, code_i, code_p, code_b}
+use Rattle.m2v_macro.specs.Macros.{added, round_at, increment_from, allowed_at, step_at}
+use Rattle.m2v_macro.specs.Conditions.{IsStep, IsHalf, IsDm, IsPair, AreScales, IsSelected}
+use Rattle.m2v_macro.specs.Texts.{flag, escapes_text, increment_text, residual_text, difference_text, component_text, dm_text, predictor_at, part_text, vector_text}
 use Rattle.m2v_macro.proofs.Components.{half_within}
 
 -- an element, and what follows it

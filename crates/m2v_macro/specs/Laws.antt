@@ -1,6 +1,6 @@
 -- What the laws of macroblocks say.
-use Rattle.std.specs.Prelude.{◌≡◌, ℕ, ◌*◌, Bool, List, ◌++◌, ◌⊎◌, Ok, Err, ℤ, pos, neg_ℤ}
-use Rattle.m2v_bits.specs.Syntax.{Syntax, Spells}
+use Rattle.std.specs.Prelude.{◌≡◌, ℕ, ◌*◌, Bool, List, ◌⊎◌, Ok, Err, ℤ, pos, neg_ℤ}
+use Rattle.m2v_bits.specs.Syntax.{Spells}
 use Rattle.m2v_vector.specs.Vectors.{scale}
 use Rattle.m2v_macro.specs.declared.fault.MacroFault.{MacroFault}
 use Rattle.m2v_macro.specs.Faults.{Of}

@@ -1,6 +1,6 @@
 -- The syntax of a macroblock up to its blocks (clause 6.2.5): its elements in reading order, each rule where it is
 -- looked at, with the place that it tells.
-use Rattle.std.specs.Prelude.{ℕ, ◌+◌, Bool, true, false, cond, ◌&&◌, ◌||◌, not, nat_eq, pos, int_le, Result, Ok, Err, List, [], ◌∷◌, length, slice_index_or, if◌then◌else◌}
+use Rattle.std.specs.Prelude.{ℕ, ◌+◌, Bool, true, false, ◌&&◌, ◌||◌, not, nat_eq, pos, int_le, Result, Ok, Err, List, [], ◌∷◌, length, slice_index_or, if◌then◌else◌}
 use Rattle.m2v_bits.specs.Bits.{bits_of}
 use Rattle.m2v_bits.specs.Syntax.{done, rule, choose, repeated, ◌>>=◌}
 use Rattle.m2v_vlc.specs.declared.values.CodeFault.TheVariants as codes
