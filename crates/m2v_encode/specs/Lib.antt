@@ -1,3 +1,4 @@
 pub mod Units
 pub mod Flat
 pub mod Answers
+pub mod Steps
