@@ -6,7 +6,7 @@ use Rattle.m2v_set.specs.declared.unfit.Unfit.{Unfit}
 use Rattle.m2v_set.specs.declared.settings.Scan.TheVariants.{Progressive}
 use Rattle.m2v_set.specs.declared.settings.Level.TheVariants.{Main}
 use Rattle.m2v_set.specs.Numbers.{limits_of, flat_dims}
-use Rattle.m2v_set.specs.Rules.{Condition, judge, judged, and_then, frame_rules, quantiser_rules, flat_rules, FlatPasses}
+use Rattle.m2v_set.specs.Rules.{Condition, judge, judged, and_then, is_progressive, frame_rules, quantiser_rules, flat_rules, FlatPasses}
 use Rattle.m2v_set.proofs.Judged.{flat_in_turn}
 use Rattle.m2v_encode.specs.declared.settings.FlatSettings.{FlatSettings}
 use Rattle.m2v_encode.specs.Answers.{HasPassed}
@@ -42,20 +42,24 @@ all_hold (c ∷ cs) e =
 
 -- the bounds of main level, and those of the quantiser
 pub record InBounds (width height code quantiser : ℕ) : Type 0 where
+  pub width_least : 2 ≤ width
   pub width_most : width ≤ 720
+  pub height_least : 2 ≤ height
   pub height_most : height ≤ 576
   pub code_most : code ≤ 5
   pub quantiser_least : 1 ≤ quantiser
   pub quantiser_most : quantiser ≤ 31
 
 pub in_bounds : (width height code quantiser : ℕ) → FlatPasses width height code quantiser → InBounds width height code quantiser
-unfolding frame_rules quantiser_rules limits_of
+unfolding frame_rules quantiser_rules limits_of is_progressive
 in_bounds width height code quantiser passes =
     let parts = sym (flat_in_turn width height code quantiser) ∙ passes in
     let h = all_hold (frame_rules (limits_of Main) Progressive width height code) (and_then-first _ _ parts) in
     let q = all_hold (quantiser_rules quantiser) (and_then-next _ _ parts) in
     record {
+      width_least = leb-true _ _ h.0;
       width_most = leb-true _ _ h.1.0;
+      height_least = leb-true _ _ h.1.1.1.0;
       height_most = leb-true _ _ h.1.1.1.1.0;
       code_most = leb-true _ _ h.1.1.1.1.1.1.1.0;
       quantiser_least = leb-true _ _ q.0;
