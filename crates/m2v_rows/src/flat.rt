@@ -68,38 +68,61 @@ fn ran(
 
 const FLAT: &'static str = "flat 16 16 3 1";
 
-const ONE_LINE: &'static str = "frames 1 pictures 1 bytes 52 stuffing 0\n";
+/// Whether a run of so many bytes of one value gives this status, this output and this line.
+fn gives(
+    alloc: Global,
+    line: &str,
+    bytes: Vec<u8>,
+    fail: [u64; 3],
+    want: (u8, &[u8], &str),
+) -> Result<bool, AllocError> {
+    let (code, output, report) = want;
+    let came = ran(alloc, line, bytes, fail)?;
+    Ok(came.code == code
+        && came.output.as_slice() == output
+        && came.report.as_slice() == report.as_bytes())
+}
 
-const TWO_LINE: &'static str = "frames 2 pictures 2 bytes 78 stuffing 0\n";
+/// The first bytes of the stream of two frames.
+fn two(n: usize) -> &'static [u8] {
+    &TWO[..n.min(78)]
+}
 
+#[test]
+fn one_frame_gives_its_stream(rt: HostRuntime) -> Result<(), AllocError> {
+    let alloc = rt.alloc();
+    let black: Vec<u8> = vec![in alloc; 0; 384]?;
+    let line = "frames 1 pictures 1 bytes 57 stuffing 0\n";
+    assert!(rt; gives(alloc, FLAT, black, [0, 0, 0], (0, &BLACK, line))?);
+    let small: Vec<u8> = vec![in alloc; 128; 6]?;
+    let line = "frames 1 pictures 1 bytes 52 stuffing 0\n";
+    assert!(rt; gives(alloc, "flat 0002 02 3 1", small, [0, 0, 0], (0, &SMALL, line))?);
+    Ok(())
+}
+
+/// The input's bytes, the calls that fail, the status, how much of the stream of two frames stands, and the line.
 #[rattlefmt::skip]
 #[test]
-fn frames_give_their_stream(rt: HostRuntime) -> Result<(), AllocError> {
+fn two_frames_and_less(rt: HostRuntime) -> Result<(), AllocError> {
     let table = [
-        (FLAT, 768, 128, [0, 0, 0], 0, TWO.as_slice(), TWO_LINE),
-        (FLAT, 384, 0, [0, 0, 0], 0, BLACK.as_slice(), "frames 1 pictures 1 bytes 57 stuffing 0\n"),
-        ("flat 2 2 3 1", 6, 128, [0, 0, 0], 0, SMALL.as_slice(), ONE_LINE),
-        ("flat 0002 02 3 01", 6, 128, [0, 0, 0], 0, SMALL.as_slice(), ONE_LINE),
-        (FLAT, 0, 128, [0, 0, 0], 5, b"".as_slice(), "no frames\n"),
-        (FLAT, 383, 128, [0, 0, 0], 4, b"".as_slice(), "short frame extra 383\n"),
-        (FLAT, 385, 128, [0, 0, 0], 4, &TWO[..48], "short frame extra 1\n"),
-        (FLAT, 767, 128, [0, 0, 0], 4, &TWO[..48], "short frame extra 383\n"),
-        (FLAT, 768, 128, [1, 0, 0], 7, b"".as_slice(), "read fault\n"),
-        (FLAT, 768, 128, [2, 0, 0], 7, &TWO[..48], "read fault\n"),
-        (FLAT, 768, 128, [3, 0, 0], 7, &TWO[..74], "read fault\n"),
-        (FLAT, 768, 128, [0, 1, 0], 8, b"".as_slice(), "write fault\n"),
-        (FLAT, 768, 128, [0, 2, 0], 8, &TWO[..48], "write fault\n"),
-        (FLAT, 768, 128, [0, 3, 0], 8, &TWO[..74], "write fault\n"),
-        (FLAT, 768, 128, [0, 0, 1], 8, TWO.as_slice(), ""),
-        (FLAT, 385, 128, [0, 0, 1], 4, &TWO[..48], ""),
+        (768, [0, 0, 0], 0, 78, "frames 2 pictures 2 bytes 78 stuffing 0\n"),
+        (0, [0, 0, 0], 5, 0, "no frames\n"),
+        (383, [0, 0, 0], 4, 0, "short frame extra 383\n"),
+        (385, [0, 0, 0], 4, 48, "short frame extra 1\n"),
+        (767, [0, 0, 0], 4, 48, "short frame extra 383\n"),
+        (768, [1, 0, 0], 7, 0, "read fault\n"),
+        (768, [2, 0, 0], 7, 48, "read fault\n"),
+        (768, [3, 0, 0], 7, 74, "read fault\n"),
+        (768, [0, 1, 0], 8, 0, "write fault\n"),
+        (768, [0, 2, 0], 8, 48, "write fault\n"),
+        (768, [0, 3, 0], 8, 74, "write fault\n"),
+        (768, [0, 0, 1], 8, 78, ""),
+        (385, [0, 0, 1], 4, 48, ""),
     ];
-    for (words, bytes, sample, fail, code, output, report) in table {
-        let input: Vec<u8> = vec![in rt.alloc(); sample; bytes]?;
-        let came = ran(rt.alloc(), words, input, fail)?;
-        let same = came.code == code
-            && came.output.as_slice() == output
-            && came.report.as_slice() == report.as_bytes();
-        assert!(rt; same, "{words}, {bytes} bytes, {code}");
+    for (bytes, fail, code, written, report) in table {
+        let grey: Vec<u8> = vec![in rt.alloc(); 128; bytes]?;
+        let same = gives(rt.alloc(), FLAT, grey, fail, (code, two(written), report))?;
+        assert!(rt; same, "{bytes} bytes, {code}");
     }
     Ok(())
 }
@@ -129,10 +152,7 @@ fn settings_and_words_are_refused(rt: HostRuntime) -> Result<(), AllocError> {
     ];
     for (words, code, report) in table {
         let input: Vec<u8> = vec![in rt.alloc(); 128; 384]?;
-        let came = ran(rt.alloc(), words, input, [0, 0, 0])?;
-        let same = came.code == code
-            && came.output.is_empty()
-            && came.report.as_slice() == report.as_bytes();
+        let same = gives(rt.alloc(), words, input, [0, 0, 0], (code, b"", report))?;
         assert!(rt; same, "{words}");
     }
     Ok(())
