@@ -173,11 +173,11 @@ fn told_by(bytes: &[u8]) -> u32 {
 fn a_frame_of_720_by_576(rt: HostRuntime) -> Result<(), AllocError> {
     let mut input = Vec::new(rt.alloc());
     for k in 0..622_080u64 {
-        input.push(((k * k / 97 + k / 5) % 256) as u8)?;
+        input.push(((k / 3 + 13 * (k / 1009)) % 256) as u8)?;
     }
     let came = ran(rt.alloc(), "flat 720 576 3 5", input, [0, 0, 0])?;
     assert_eq!(rt; came.code, 0);
-    assert_eq!(rt; came.output.len(), 11_084);
-    assert_eq!(rt; told_by(&came.output), 131_049_953);
+    assert_eq!(rt; came.output.len(), 11_495);
+    assert_eq!(rt; told_by(&came.output), 2_260_740_221);
     Ok(())
 }
