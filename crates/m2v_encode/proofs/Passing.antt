@@ -1,12 +1,12 @@
 -- What follows for settings that passed the flat profile's part of the test.
-use Rattle.std.proofs.Common.{◌≡◌, ℕ, ◌+◌, ◌/◌, ◌<◌, ◌≤◌, List, [], ◌∷◌, refl, sym, ◌∙◌, ap, Bool, true, false, Result, Ok, Err, arith, if◌then◌else◌}
+use Rattle.std.proofs.Common.{◌≡◌, ℕ, ◌≤◌, List, [], ◌∷◌, refl, sym, ◌∙◌, ap, Bool, true, false, Result, Ok, Err, arith}
 use Rattle.std.proofs.lemmas.Bool.{leb-true}
 use Rattle.m2v_plane.specs.declared.dims.Dims.{Dims}
 use Rattle.m2v_set.specs.declared.unfit.Unfit.{Unfit}
 use Rattle.m2v_set.specs.declared.settings.Scan.TheVariants.{Progressive}
 use Rattle.m2v_set.specs.declared.settings.Level.TheVariants.{Main}
-use Rattle.m2v_set.specs.Numbers.{limits_of, flat_dims}
-use Rattle.m2v_set.specs.Rules.{Condition, judge, judged, and_then, is_progressive, frame_rules, quantiser_rules, flat_rules, FlatPasses}
+use Rattle.m2v_set.specs.Numbers.{limits_of}
+use Rattle.m2v_set.specs.Rules.{Condition, judge, judged, and_then, is_progressive, frame_rules, quantiser_rules, FlatPasses}
 use Rattle.m2v_set.proofs.Judged.{flat_in_turn}
 use Rattle.m2v_encode.specs.declared.settings.FlatSettings.{FlatSettings}
 use Rattle.m2v_encode.specs.Answers.{HasPassed}

@@ -1,12 +1,12 @@
 -- The predictors of DC, and their range.
-use Rattle.std.proofs.Common.{◌≡◌, ℕ, zero, suc, ◌+◌, ◌-◌, ◌<◌, ◌≤◌, Bool, true, false, cond, ℤ, pos, negsuc, ◌+ℤ◌, ◌≤ℤ◌, refl, sym, ap, subst, ◌∙◌, arith, inl, inr}
-use Rattle.std.specs.Prelude.{◌&&◌, nat_lt, nat_eq, if◌then◌else◌, ◌-ℤ◌, List, ◌++◌}
+use Rattle.std.proofs.Common.{◌≡◌, ℕ, zero, suc, ◌+◌, ◌-◌, ◌<◌, true, ℤ, pos, negsuc, ◌+ℤ◌, ◌≤ℤ◌, refl, sym, subst, arith}
+use Rattle.std.specs.Prelude.{nat_lt, ◌-ℤ◌, ◌++◌}
 use Rattle.std.specs.Int.{int_max, int_min, int_shr}
 use mir.Syntax.{w32}
 use mir.Val.{SFits, to_z, of_z}
 use Rattle.m2v_idct.specs.Forward.{forward_at}
 use Rattle.std.proofs.lemmas.Int.{ints, to_z-of_z, int_max_is, int_min_is}
-use Rattle.std.proofs.lemmas.Bool.{cases_Bool, lt-ltb}
+use Rattle.std.proofs.lemmas.Bool.{lt-ltb}
 use Rattle.m2v_quant.specs.Quantiser.{dc_level}
 use Rattle.m2v_plane.specs.Samples.{Samples}
 use Rattle.m2v_block.specs.Dc.{dc_text}

@@ -1,12 +1,11 @@
 -- Frame after frame: what stands after one more, and where coding stops.
-use Rattle.std.proofs.Common.{◌≡◌, ℕ, zero, suc, ◌+◌, ◌*◌, ◌%◌, ◌<◌, ◌≤◌, All, List, [], ◌∷◌, ◌++◌, length, Option, Result, Ok, Err, OnOk, IfOk, refl, sym, subst, ap, ◌∙◌, arith, inl, inr}
-use Rattle.std.specs.List.{flat_map}
+use Rattle.std.proofs.Common.{◌≡◌, ℕ, ◌+◌, ◌*◌, ◌<◌, ◌≤◌, List, [], ◌∷◌, ◌++◌, length, Option, Result, Ok, Err, OnOk, IfOk, refl, sym, subst, ap, ◌∙◌, arith, inl, inr}
 use Rattle.std.proofs.Math.Nat.{mul-pos}
 use Rattle.std.proofs.lemmas.List.{length-append, append-nil}
 use Rattle.std.proofs.lemmas.List.Concat.{flat_map-append}
 use Rattle.std.proofs.lemmas.List.Elements.{All-append, All-cons, All-nil}
 use Rattle.m2v_bits.specs.Bits.{packed, start_code}
-use Rattle.m2v_port.specs.Port.{Moves, MovesFewer, IsAtEnd, Grows, GrowsByPrefix}
+use Rattle.m2v_port.specs.Port.{Moves, Grows, GrowsByPrefix}
 use Rattle.m2v_port.proofs.Runs.{moves_on, moves_nothing, grows_on, grows_by_nothing, grows_by_all, prefix_on, prefix_of_more}
 use Rattle.m2v_plane.specs.declared.dims.Dims.{Dims}
 use Rattle.m2v_plane.specs.Sizes.{IsSize}
@@ -16,8 +15,8 @@ use Rattle.m2v_encode.specs.declared.answer.Summary.{Summary}
 use Rattle.m2v_encode.specs.declared.answer.EncodeError.{EncodeError}
 use Rattle.m2v_encode.specs.declared.answer.EncodeError.TheVariants.{Read, Write, ShortFrame, NoFrames, TooManyFrames, Memory}
 use Rattle.m2v_encode.specs.Flat.{Flat, FlatBegun, FlatFrame}
-use Rattle.m2v_encode.specs.Answers.{Change, AreWhole, most_frames, Coded, Begun, CutOff, EndedShort, WasEmpty, WentOn, FailedInside, Stops}
-use Rattle.m2v_encode.specs.Steps.{SoFar, Unwritten, NextCoded, NextCut, NextNone, NextShort, NextLost, NextStops, EndStops, ReadStops}
+use Rattle.m2v_encode.specs.Answers.{AreWhole, most_frames, Coded, Begun, CutOff, Stops}
+use Rattle.m2v_encode.specs.Steps.{SoFar, Unwritten, NextCoded, NextCut, NextNone, NextStops, EndStops, ReadStops}
 use Rattle.m2v_encode.proofs.Edges.{bytes_more, bytes_end, begun_none, flat_none}
 
 pub some_bytes : (d : Dims) → IsSize d → 0 < frame_bytes d
@@ -161,13 +160,15 @@ pub stopped : (A : Type 0) (o0 o1 o2 : A) (InputRose InputRose' OutputRose Outpu
     → Stops (o2 ≡ o0) InputRose' OutputRose' s (record { old = l0; new = l2 }) (record { old = h0; new = h2 }) e
 unfolding Stops NextStops
 stopped A o0 o1 o2 IR IR' OR OR' s number bytes l0 l1 l2 h0 h1 h2 Read size small input output before h =
-    let lost = h.1 in
-    (input h.0, record {
-      frames = before.frames;
-      part = lost.moved.part;
-      begun = begun_here A o0 o1 o2 s number bytes lost.moved.part l0 l1 l2 h0 h1 h2 (omega arith) before lost.moved.moved lost.unwritten;
-      less = lost.moved.fewer;
-    })
+    let lost = h.1 in (
+      input h.0,
+      record {
+        frames = before.frames;
+        part = lost.moved.part;
+        begun = begun_here A o0 o1 o2 s number bytes lost.moved.part l0 l1 l2 h0 h1 h2 (omega arith) before lost.moved.moved lost.unwritten;
+        less = lost.moved.fewer;
+      },
+    )
 stopped A o0 o1 o2 IR IR' OR OR' s number bytes l0 l1 l2 h0 h1 h2 Write size small input output before h =
     (output h.0, cut_here (o1 ≡ o0) (o2 ≡ o0) s number bytes l0 l1 l2 h0 h1 h2 size small before h.1)
 stopped A o0 o1 o2 IR IR' OR OR' s number bytes l0 l1 l2 h0 h1 h2 (ShortFrame extra) size small input output before h = record {
@@ -273,13 +274,15 @@ pub look_stopped : (A : Type 0) (o0 o1 o2 : A) (InputRose InputRose' OutputRose 
     → Stops (o2 ≡ o0) InputRose' OutputRose s (record { old = l0; new = l2 }) (record { old = h0; new = h1 }) e
 unfolding Stops ReadStops
 look_stopped A o0 o1 o2 IR IR' OR s number bytes l0 l1 l2 h0 h1 Read size small input before same h =
-    let lost = h.1 in
-    (input h.0, record {
-      frames = before.frames;
-      part = lost.part;
-      begun = begun_here A o0 o1 o2 s number bytes lost.part l0 l1 l2 h0 h1 h1 small before lost.moved (record { same = same; stays = refl });
-      less = omega (arith, lost.fewer, some_bytes s.dims size);
-    })
+    let lost = h.1 in (
+      input h.0,
+      record {
+        frames = before.frames;
+        part = lost.part;
+        begun = begun_here A o0 o1 o2 s number bytes lost.part l0 l1 l2 h0 h1 h1 small before lost.moved (record { same = same; stays = refl });
+        less = omega (arith, lost.fewer, some_bytes s.dims size);
+      },
+    )
 look_stopped A o0 o1 o2 IR IR' OR s number bytes l0 l1 l2 h0 h1 Write size small input before same h = absurd h
 look_stopped A o0 o1 o2 IR IR' OR s number bytes l0 l1 l2 h0 h1 (ShortFrame extra) size small input before same h = absurd h
 look_stopped A o0 o1 o2 IR IR' OR s number bytes l0 l1 l2 h0 h1 NoFrames size small input before same h = absurd h

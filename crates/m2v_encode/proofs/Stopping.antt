@@ -1,5 +1,5 @@
 -- Why coding stopped, from why one of its steps did.
-use Rattle.std.proofs.Common.{◌≡◌, ℕ, ◌+◌, ◌<◌, ◌≤◌, List, length, refl, sym, subst, ap, arith, inl, inr}
+use Rattle.std.proofs.Common.{◌≡◌, ℕ, ◌<◌, List, length, subst, inl, inr}
 use Rattle.m2v_bits.specs.Bits.{packed, start_code}
 use Rattle.m2v_port.specs.Port.{Moves, GrowsByPrefix}
 use Rattle.m2v_plane.specs.Raw.{frame_bytes}

@@ -1,5 +1,5 @@
 -- How long the units of the flat profile are.
-use Rattle.std.proofs.Common.{◌≡◌, ℕ, ◌+◌, ◌-◌, ◌%◌, ◌<◌, ◌≤◌, Bool, false, List, ◌++◌, length, replicate, refl, sym, ap, ◌∙◌, arith}
+use Rattle.std.proofs.Common.{◌≡◌, ℕ, ◌+◌, ◌≤◌, Bool, false, List, ◌++◌, length, replicate, refl, ◌∙◌, arith}
 use Rattle.std.proofs.lemmas.List.{length-append, length-replicate}
 use Rattle.m2v_bits.specs.Bits.{bits_of, start_code, to_edge}
 use Rattle.m2v_bits.proofs.Bits.{length-bits_of}
@@ -8,7 +8,7 @@ use Rattle.m2v_plane.specs.Samples.{Samples}
 use Rattle.m2v_encode.proofs.Lengths.{row_most}
 use Rattle.m2v_encode.specs.Units.{unit}
 use Rattle.m2v_encode.specs.declared.settings.FlatSettings.{FlatSettings}
-use Rattle.m2v_encode.specs.Flat.{flat_sequence, flat_sequence_extension, flat_picture, flat_picture_extension, flat_slice, row_text, slice_unit, sequence_units, picture_units}
+use Rattle.m2v_encode.specs.Flat.{flat_sequence, flat_sequence_extension, flat_picture, flat_picture_extension, flat_slice, row_text, slice_unit, sequence_units}
 
 start_length : (v : ℕ) → length (start_code v) ≡ 32
 start_length v = omega (arith, length-append (bits_of 24 1) (bits_of 8 v), length-bits_of 24 1, length-bits_of 8 v)

@@ -1,6 +1,6 @@
 -- The flat profile: a progressive sequence of I pictures, one for each raw frame. A picture has one slice for each
 -- macroblock row, and each block is coded by its DC alone.
-use Rattle.std.specs.Prelude.{ℕ, zero, suc, ◌≡◌, ◌+◌, ◌-◌, ◌*◌, ◌/◌, ◌%◌, Bool, true, false, ◌&&◌, List, [], ◌∷◌, ◌++◌, map, None, nat_lt, nat_eq, if◌then◌else◌, ℤ, pos, ◌-ℤ◌}
+use Rattle.std.specs.Prelude.{ℕ, zero, suc, ◌+◌, ◌-◌, ◌*◌, ◌/◌, ◌%◌, Bool, true, false, ◌&&◌, List, [], ◌∷◌, map, None, nat_lt, nat_eq, if◌then◌else◌, ℤ, pos, ◌-ℤ◌}
 use Rattle.std.specs.List.{flat_map, range_with_len}
 use Rattle.m2v_bits.specs.Bits.{bits_of, packed, ◌⧺◌, start_code}
 use Rattle.m2v_quant.specs.Quantiser.{dc_level}

@@ -1,5 +1,5 @@
 -- The steps of coding a raw input: what stands after some frames, and what the next one does.
-use Rattle.std.specs.Prelude.{ℕ, ◌≡◌, ◌+◌, ◌*◌, ◌<◌, ◌≤◌, ◌⊎◌, List, [], ◌∷◌, length, vec_len}
+use Rattle.std.specs.Prelude.{ℕ, ◌≡◌, ◌+◌, ◌<◌, ◌⊎◌, List, [], length, vec_len}
 use Rattle.m2v_bits.specs.Bits.{packed, start_code}
 use Rattle.m2v_port.specs.Port.{Moves, MovesFewer, IsAtEnd, Grows, GrowsByPrefix}
 use Rattle.m2v_plane.specs.Raw.{frame_bytes, raw}

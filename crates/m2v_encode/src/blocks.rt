@@ -76,12 +76,7 @@ fn dc_of(frame: &Frame, row: u32, column: u32, block: u32) -> i32
     ensures most { result ≤ℤ pos 255 }
 {
     let place = place_of(frame.dims(), row, column, block);
-    dc_level(forward_dc(&samples(
-        frame,
-        place.plane,
-        place.line,
-        place.column,
-    )))
+    dc_level(forward_dc(&samples(frame, place.plane, place.line, place.column)))
 }
 
 /// How far a level lies from its predictor.

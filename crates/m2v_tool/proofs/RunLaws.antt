@@ -1,21 +1,20 @@
 -- What follows from the outcome that came and what was told of it.
-use Rattle.std.proofs.Common.{◌≡◌, ◌⊎◌, inl, inr, ℕ, suc, ◌+◌, ◌*◌, ◌<◌, ◌≤◌, All, List, [], ◌∷◌, ◌++◌, length, Option, Some, None, IfSome, Result, Ok, Err, IsOk, refl, sym, ap, subst, ◌∙◌, arith, length-append}
+use Rattle.std.proofs.Common.{◌≡◌, ◌⊎◌, inl, inr, ℕ, suc, ◌*◌, ◌<◌, ◌≤◌, All, List, [], ◌∷◌, ◌++◌, length, Option, Some, None, IfSome, refl, sym, ap, subst, ◌∙◌, arith, length-append}
 use Rattle.std.proofs.lemmas.Bool.{cases_lt}
 use Rattle.std.proofs.Math.Nat.{suc-mul, mul-pos, mul-le-mul_right}
-use Rattle.m2v_port.specs.Port.{Moves, IsAtEnd, Grows, GrowsByPrefix}
+use Rattle.m2v_port.specs.Port.{Moves}
 use Rattle.m2v_port.proofs.Runs.{moved_all}
-use Rattle.m2v_plane.specs.declared.dims.Dims.{Dims}
 use Rattle.m2v_plane.specs.Raw.{frame_bytes, raw}
 use Rattle.m2v_set.specs.declared.unfit.Unfit.{Unfit}
 use Rattle.m2v_encode.specs.declared.answer.EncodeError.{EncodeError}
 use Rattle.m2v_encode.specs.declared.answer.EncodeError.TheVariants as Error
 use Rattle.m2v_encode.specs.declared.settings.FlatSettings.{FlatSettings}
 use Rattle.m2v_encode.specs.declared.answer.Summary.{Summary}
-use Rattle.m2v_encode.specs.Answers.{Change, AreWhole, Coded, Stops, most_frames, WasEmpty, EndedShort, WentOn}
+use Rattle.m2v_encode.specs.Answers.{Change, Coded, Stops, most_frames, WasEmpty, EndedShort, WentOn}
 use Rattle.m2v_tool.specs.declared.words.FlatWords.{FlatWords}
 use Rattle.m2v_tool.specs.declared.outcome.Outcome.{Outcome}
 use Rattle.m2v_tool.specs.declared.outcome.Outcome.TheVariants.{Done, Usage, BadSettings, ShortFrame, NoFrames, TooManyFrames, ReadFault, WriteFault, NoMemory}
-use Rattle.m2v_tool.specs.Outcomes.{outcome_of, status_of, status_unreported, line_of}
+use Rattle.m2v_tool.specs.Outcomes.{outcome_of, status_of, status_unreported}
 use Rattle.m2v_tool.specs.Words.{IsFlat, NotFlat, settings_of, WordsPass, WordsFail}
 use Rattle.m2v_tool.specs.Runs.{FlatStops, Comes, Told, whole, cut, AreFrames, EndInside, Answers, unfit, ok, short, none, many, read, write, unreported, memory}
 use Rattle.m2v_encode.proofs.Passing.{in_bounds}

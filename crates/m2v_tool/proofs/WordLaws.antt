@@ -1,6 +1,5 @@
 -- The five words of the flat profile.
-use Rattle.std.proofs.Common.{◌≡◌, ℕ, ◌+◌, ◌<◌, ◌≤◌, List, [], ◌∷◌, map, length, get_or, refl, ap, sym, subst, ◌∙◌, arith}
-use Rattle.std.specs.Prelude.{codes}
+use Rattle.std.proofs.Common.{◌≡◌, ℕ, ◌<◌, ◌≤◌, List, [], ◌∷◌, map, length, get_or, ap, sym, subst, ◌∙◌, arith}
 use Rattle.std.specs.Str.Parse.{digits_value}
 use Rattle.m2v_tool.specs.declared.words.FlatWords.{FlatWords}
 use Rattle.m2v_tool.specs.Words.{IsNumber, AreNumbers, IsFlat, NotFlat}

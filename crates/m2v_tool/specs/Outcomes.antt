@@ -1,7 +1,5 @@
 -- The statuses, and the line on report of each.
 use Rattle.std.specs.Prelude.{ℕ, ◌==◌, List, [], ◌∷◌, ◌++◌, codes, decimal, if◌then◌else◌}
-use Rattle.m2v_set.specs.declared.unfit.Unfit.{Unfit}
-use Rattle.m2v_encode.specs.declared.answer.Summary.{Summary}
 use Rattle.m2v_encode.specs.declared.answer.EncodeError.{EncodeError}
 use Rattle.m2v_encode.specs.declared.answer.EncodeError.TheVariants as Error
 use Rattle.m2v_tool.specs.declared.outcome.Outcome.{Outcome}

@@ -1,8 +1,8 @@
-use Rattle.std.proofs.Common.{arith, ◌≡◌, ◌∙◌, ap, sym, ℕ, pos, ◌+◌, ◌/◌, ◌%◌}
+use Rattle.std.proofs.Common.{arith, ◌≡◌, ◌∙◌, ap, sym, pos, ◌+◌, ◌/◌, ◌%◌}
 use Rattle.std.specs.Int.{w32}
 use Rattle.std.proofs.lemmas.Int.{to_z-of_z}
 use Rattle.m2v_plane.specs.Samples.{sample_of}
-use Rattle.m2v_encode.proofs.Samples.{Made, made_none, made_more, made_all, all_within}
+use Rattle.m2v_encode.proofs.Samples.{made_none, made_more, made_all, all_within}
 use Rattle.m2v_encode.proofs.blocks.samples.Goals as goal
 
 pub loop-k-init : goal.loop-k-init

@@ -1,4 +1,4 @@
-use Rattle.std.proofs.Common.{ℕ, ◌+◌, ◌/◌, ◌%◌, pos}
+use Rattle.std.proofs.Common.{◌+◌, ◌/◌, ◌%◌, pos}
 use Rattle.m2v_plane.specs.Samples.{sample_of}
 use Rattle.m2v_encode.proofs.Samples.{Made}
 use Rattle.m2v_encode.proofs.blocks.samples.Given as goal

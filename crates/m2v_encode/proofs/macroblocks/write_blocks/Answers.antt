@@ -1,10 +1,8 @@
-use Rattle.std.proofs.Common.{arith, ◌≡◌, ◌∙◌, ◌+◌, ◌++◌, ap, length, ℕ, List, Bool, ℤ, sym, append_assoc}
-use Rattle.std.specs.List.{flat_map, range_with_len}
+use Rattle.std.proofs.Common.{arith, ◌∙◌, ◌++◌, ap, List, Bool, sym}
 use Rattle.std.specs.Int.{w32}
 use Rattle.std.proofs.lemmas.Int.{to_z-of_z}
-use Rattle.std.proofs.lemmas.List.{length-append}
 use Rattle.m2v_encode.specs.declared.macroblocks.Predictors.{Predictors}
-use Rattle.m2v_encode.specs.Flat.{block_text, blocks_text, level}
+use Rattle.m2v_encode.specs.Flat.{block_text}
 use Rattle.m2v_encode.proofs.Lengths.{texts_most, block_length, six_blocks, six_lengths}
 use Rattle.m2v_encode.proofs.Predictions.{before_bytes, byte_passed, predictors_next, cb_predictor, cr_predictor}
 use Rattle.m2v_encode.proofs.macroblocks.write_blocks.Goals as goal

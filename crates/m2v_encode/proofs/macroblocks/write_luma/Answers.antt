@@ -1,9 +1,9 @@
-use Rattle.std.proofs.Common.{arith, ◌≡◌, ◌∙◌, ◌+◌, ◌-◌, ◌++◌, ap, length, ℕ, List, Bool, ℤ, sym, append_assoc}
+use Rattle.std.proofs.Common.{arith, ◌≡◌, ◌∙◌, ◌+◌, ◌-◌, append_assoc}
 use Rattle.std.specs.List.{flat_map, range_with_len}
 use Rattle.std.specs.Int.{w32}
 use Rattle.std.proofs.lemmas.Int.{to_z-of_z}
 use Rattle.std.proofs.lemmas.List.{length-append}
-use Rattle.m2v_encode.specs.Flat.{block_text, level}
+use Rattle.m2v_encode.specs.Flat.{block_text}
 use Rattle.m2v_encode.proofs.Lengths.{texts_more, block_length}
 use Rattle.m2v_encode.proofs.Predictions.{luma_predictor, luma_byte}
 use Rattle.m2v_encode.proofs.macroblocks.write_luma.Goals as goal

@@ -1,8 +1,8 @@
-use Rattle.std.proofs.Common.{arith, ◌≡◌, ◌∙◌, ◌+◌, ◌++◌, length, ap, ℕ, List, Bool, sym, append_assoc, append-nil}
+use Rattle.std.proofs.Common.{arith, ◌≡◌, ◌∙◌, ◌++◌, length, ap, List, Bool, sym, append_assoc, append-nil}
 use Rattle.std.specs.List.{flat_map, range_with_len}
 use Rattle.std.proofs.lemmas.List.{length-append}
 use Rattle.m2v_plane.specs.declared.dims.Dims.{Dims}
-use Rattle.m2v_encode.specs.Flat.{macroblock_text, row_text}
+use Rattle.m2v_encode.specs.Flat.{macroblock_text}
 use Rattle.m2v_encode.proofs.Lengths.{texts_more, macroblock_most, row_is}
 use Rattle.m2v_encode.proofs.Predictions.{predictors_first}
 use Rattle.m2v_encode.proofs.macroblocks.write_row.Goals as goal

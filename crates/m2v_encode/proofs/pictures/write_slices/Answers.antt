@@ -1,8 +1,8 @@
-use Rattle.std.proofs.Common.{arith, ◌≡◌, ◌∙◌, ◌+◌, ◌++◌, length, ap, ℕ, List, Bool, sym, append_assoc, append-nil}
+use Rattle.std.proofs.Common.{arith, ◌≡◌, ◌∙◌, ◌++◌, length, ap, List, Bool, append_assoc}
 use Rattle.std.specs.List.{flat_map, range_with_len}
 use Rattle.std.proofs.lemmas.List.{length-append}
 use Rattle.m2v_plane.specs.declared.dims.Dims.{Dims}
-use Rattle.m2v_encode.specs.Flat.{slice_unit, slices_units}
+use Rattle.m2v_encode.specs.Flat.{slice_unit}
 use Rattle.m2v_encode.proofs.Lengths.{texts_more, slices_are}
 use Rattle.m2v_encode.proofs.UnitLaws.{slice_most}
 use Rattle.m2v_encode.proofs.pictures.write_slices.Goals as goal

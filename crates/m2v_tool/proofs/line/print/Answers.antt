@@ -1,4 +1,4 @@
-use Rattle.std.proofs.Common.{◌≡◌, ◌<◌, ◌≤◌, ◌+◌, ◌++◌, [], map, drop, get_or, length, List, ℕ, arith, sym, ap, ◌∙◌, Bor}
+use Rattle.std.proofs.Common.{◌<◌, ◌≤◌, ◌+◌, ◌++◌, [], map, drop, length, List, ℕ, arith, sym, ap, ◌∙◌, Bor}
 use Rattle.std.proofs.lemmas.List.{length-map, get_or-map}
 use Rattle.m2v_tool.specs.Outcomes.{line_text}
 use Rattle.m2v_tool.proofs.LineLaws.{number_text, line_more, line_end}

@@ -1,4 +1,4 @@
-use Rattle.std.proofs.Common.{refl, sym, subst}
+use Rattle.std.proofs.Common.{refl}
 use Rattle.m2v_tool.specs.Runs.{Comes}
 use Rattle.m2v_tool.proofs.RunLaws.{comes_of}
 use Rattle.m2v_tool.proofs.top.carried_out.Goals as goal

@@ -1,4 +1,4 @@
-use Rattle.std.proofs.Common.{List, ℕ, [], ◌∷◌, ◌≡◌, map}
+use Rattle.std.proofs.Common.{[], ◌∷◌, ◌≡◌, map}
 use Rattle.std.specs.Prelude.{string_bytes}
 use Rattle.m2v_tool.proofs.WordLaws.{five, words_none}
 use Rattle.m2v_tool.proofs.words.flat_words.Goals as goal

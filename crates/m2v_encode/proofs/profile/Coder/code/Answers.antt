@@ -1,4 +1,4 @@
-use Rattle.std.proofs.Common.{arith, ap, ◌∙◌, ◌+◌, length, Bool, List}
+use Rattle.std.proofs.Common.{arith, ap, ◌∙◌, length}
 use Rattle.m2v_plane.specs.declared.dims.Dims.{Dims}
 use Rattle.m2v_plane.specs.Samples.{Samples}
 use Rattle.m2v_encode.proofs.Passing.{is_small}

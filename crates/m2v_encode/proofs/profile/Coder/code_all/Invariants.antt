@@ -1,4 +1,4 @@
-use Rattle.std.proofs.Common.{◌≡◌, ◌+◌, ◌*◌, ◌<◌, ◌≤◌, IsTrue}
+use Rattle.std.proofs.Common.{◌≡◌, ◌*◌, ◌≤◌, IsTrue}
 use Rattle.m2v_encode.specs.Steps.{IsReady, SoFar}
 use Rattle.m2v_encode.proofs.profile.Coder.code_all.Given as goal
 

@@ -1,4 +1,4 @@
-use Rattle.std.proofs.Common.{arith, refl, subst, ap, inl, inr, sym, ◌∙◌, ◌≡◌, ◌≤◌, ◌<◌, ℕ, List, length, take}
+use Rattle.std.proofs.Common.{arith, refl, subst, ap, ◌∙◌, ◌≡◌, ◌<◌, ℕ, List, length, take}
 use Rattle.std.proofs.lemmas.List.{length-take-le, take_all}
 use Rattle.std.proofs.lemmas.Result.{err_from_is_err_and}
 use Rattle.m2v_bits.specs.Bits.{packed}

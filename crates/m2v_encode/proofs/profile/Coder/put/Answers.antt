@@ -1,4 +1,4 @@
-use Rattle.std.proofs.Common.{arith, refl, subst, ap, ◌∙◌, ◌≡◌, ◌≤◌, ◌<◌, ℕ, List, length, Err}
+use Rattle.std.proofs.Common.{arith, ap, length, Err}
 use Rattle.m2v_bits.proofs.Cursor.{length-bits}
 use Rattle.m2v_encode.specs.Steps.{PutStops}
 use Rattle.m2v_encode.proofs.profile.Coder.put.Goals as goal

@@ -1,4 +1,4 @@
-use Rattle.std.proofs.Common.{arith, refl, subst, ap, ◌∙◌, ◌≡◌, ◌≤◌, ◌<◌, ℕ, List, length, take, Err}
+use Rattle.std.proofs.Common.{subst, ap, ◌∙◌, ℕ, Err}
 use Rattle.m2v_port.specs.Port.{MovesFewer}
 use Rattle.m2v_encode.specs.Steps.{ReadStops}
 use Rattle.m2v_encode.proofs.profile.Coder.read.Goals as goal
