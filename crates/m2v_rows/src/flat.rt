@@ -36,12 +36,7 @@ struct Answer {
 }
 
 /// Runs words on an input; `fail` has the numbers of the call that fails of input, output and report, 0 for none.
-fn ran(
-    alloc: Global,
-    line: &str,
-    bytes: Vec<u8>,
-    fail: [u64; 3],
-) -> Result<Answer, AllocError> {
+fn ran(alloc: Global, line: &str, bytes: Vec<u8>, fail: [u64; 3]) -> Result<Answer, AllocError> {
     let mut words = Vec::new(alloc);
     for word in line.split_whitespace() {
         words.push(String::from_str(alloc, word)?)?;
@@ -78,9 +73,11 @@ fn gives(
 ) -> Result<bool, AllocError> {
     let (code, output, report) = want;
     let came = ran(alloc, line, bytes, fail)?;
-    Ok(came.code == code
-        && came.output.as_slice() == output
-        && came.report.as_slice() == report.as_bytes())
+    Ok(
+        came.code == code
+            && came.output.as_slice() == output
+            && came.report.as_slice() == report.as_bytes(),
+    )
 }
 
 /// The first bytes of the stream of two frames.
@@ -96,7 +93,15 @@ fn one_frame_gives_its_stream(rt: HostRuntime) -> Result<(), AllocError> {
     assert!(rt; gives(alloc, FLAT, black, [0, 0, 0], (0, &BLACK, line))?);
     let small: Vec<u8> = vec![in alloc; 128; 6]?;
     let line = "frames 1 pictures 1 bytes 52 stuffing 0\n";
-    assert!(rt; gives(alloc, "flat 0002 02 3 1", small, [0, 0, 0], (0, &SMALL, line))?);
+    assert!(rt;
+        gives(
+            alloc,
+            "flat 0002 02 3 1",
+            small,
+            [0, 0, 0],
+            (0, &SMALL, line)
+        )?
+    );
     Ok(())
 }
 
