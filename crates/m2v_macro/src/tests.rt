@@ -13,19 +13,9 @@ use std::alloc::{AllocError, Global};
 type Picture = (u8, u8, bool, bool);
 
 // What a macroblock is to be: increment, flags of the type (16 quant, 8 forward, 4 backward, 2 pattern, 1 intra), motion
-// type, dct_type, quantiser; the first vectors forward and backward and the second ones, their field bits, the dmvector
-// and the pattern.
-type Want = (
-    u32,
-    u8,
-    u8,
-    bool,
-    u8,
-    [[i32; 2]; 4],
-    [bool; 4],
-    [i32; 2],
-    u8,
-);
+// type, dct_type, quantiser and pattern; the first vectors forward and backward and the second ones; their field bits;
+// the dmvector.
+type Want = ([u8; 6], [[i32; 2]; 4], [bool; 4], [i32; 2]);
 
 // A context of f_codes 2 and 45 columns.
 fn context(picture: Picture) -> PictureContext
@@ -75,25 +65,26 @@ fn state(context: &PictureContext, first: bool, intra: bool, next: u32) -> Slice
 }
 
 fn wanted(want: &Want) -> MacroSyntax {
+    let [increment, flags, form, dct_field, quantiser, pattern] = want.0;
     let mut m = MacroSyntax::blank();
-    m.increment = want.0;
+    m.increment = u32::from(increment);
     m.kind = MbType {
-        quant: want.1 / 16 == 1,
-        forward: want.1 / 8 % 2 == 1,
-        backward: want.1 / 4 % 2 == 1,
-        pattern: want.1 / 2 % 2 == 1,
-        intra: want.1 % 2 == 1,
+        quant: flags / 16 == 1,
+        forward: flags / 8 % 2 == 1,
+        backward: flags / 4 % 2 == 1,
+        pattern: flags / 2 % 2 == 1,
+        intra: flags % 2 == 1,
     };
-    m.form = want.2;
-    m.dct_field = want.3;
-    m.quantiser = want.4;
-    m.vectors[0][0] = want.5[0];
-    m.vectors[0][1] = want.5[1];
-    m.vectors[1][0] = want.5[2];
-    m.vectors[1][1] = want.5[3];
-    m.bottom = [[want.6[0], want.6[1]], [want.6[2], want.6[3]]];
-    m.dmvector = want.7;
-    m.pattern = want.8;
+    m.form = form;
+    m.dct_field = dct_field == 1;
+    m.quantiser = quantiser;
+    m.vectors[0][0] = want.1[0];
+    m.vectors[0][1] = want.1[1];
+    m.vectors[1][0] = want.1[2];
+    m.vectors[1][1] = want.1[3];
+    m.bottom = [[want.2[0], want.2[1]], [want.2[2], want.2[3]]];
+    m.dmvector = want.3;
+    m.pattern = pattern;
     m
 }
 
@@ -134,35 +125,40 @@ const NO: [[i32; 2]; 4] = [[0, 0], [0, 0], [0, 0], [0, 0]];
 
 const OFF: [bool; 4] = [false, false, false, false];
 
-// The macroblocks of a grey picture, of a grey P picture, of one that skips 43 macroblocks, and of a field picture.
+const FIRST: [bool; 4] = [true, false, false, false];
+
+const SECOND: [bool; 4] = [false, false, true, false];
+
+// The macroblocks of a grey picture, of a grey P picture, of one that skips 43 macroblocks, of a field picture, and one
+// with a vector of half a sample.
 static WORKED: [(Picture, bool, [u8; 4], u64, Want); 5] = [
     (
         (1, 3, true, false),
         true,
         [0xC0, 0, 0, 0],
         2,
-        (1, 1, 2, false, 0, NO, OFF, [0, 0], 63),
+        ([1, 1, 2, 0, 0, 63], NO, OFF, [0, 0]),
     ),
     (
         (2, 3, true, false),
         true,
         [0x9C, 0, 0, 0],
         6,
-        (1, 8, 2, false, 0, NO, OFF, [0, 0], 0),
+        ([1, 8, 2, 0, 0, 0], NO, OFF, [0, 0]),
     ),
     (
         (2, 3, true, false),
         false,
         [0x01, 0x01, 0x47, 0],
         24,
-        (44, 8, 2, false, 0, NO, OFF, [0, 0], 0),
+        ([44, 8, 2, 0, 0, 0], NO, OFF, [0, 0]),
     ),
     (
         (1, 1, false, false),
         true,
         [0xC0, 0, 0, 0],
         2,
-        (1, 1, 0, false, 0, NO, OFF, [0, 0], 63),
+        ([1, 1, 0, 0, 0, 63], NO, OFF, [0, 0]),
     ),
     (
         (2, 3, true, false),
@@ -170,15 +166,10 @@ static WORKED: [(Picture, bool, [u8; 4], u64, Want); 5] = [
         [0x94, 0x80, 0, 0],
         9,
         (
-            1,
-            8,
-            2,
-            false,
-            0,
+            [1, 8, 2, 0, 0, 0],
             [[1, 0], [0, 0], [0, 0], [0, 0]],
             OFF,
             [0, 0],
-            0,
         ),
     ),
 ];
@@ -190,15 +181,10 @@ static MOTIONS: [(Picture, [u8; 4], u64, Want); 9] = [
         [0x96, 0xAC, 0x94, 0],
         22,
         (
-            1,
-            8,
-            1,
-            false,
-            0,
+            [1, 8, 1, 0, 0, 0],
             [[2, -1], [0, 0], [0, 4], [0, 0]],
-            [true, false, false, false],
+            FIRST,
             [0, 0],
-            0,
         ),
     ),
     (
@@ -206,15 +192,10 @@ static MOTIONS: [(Picture, [u8; 4], u64, Want); 9] = [
         [0xE9, 0x0F, 0xC0, 0],
         18,
         (
-            1,
-            10,
-            2,
-            true,
-            0,
+            [1, 10, 2, 1, 0, 60],
             [[3, -4], [0, 0], [0, 0], [0, 0]],
             OFF,
             [0, 0],
-            60,
         ),
     ),
     (
@@ -222,15 +203,10 @@ static MOTIONS: [(Picture, [u8; 4], u64, Want); 9] = [
         [0x9D, 0x27, 0xC0, 0],
         18,
         (
-            1,
-            8,
-            3,
-            false,
-            0,
+            [1, 8, 3, 0, 0, 0],
             [[1, -2], [0, 0], [0, 0], [0, 0]],
             OFF,
             [1, -1],
-            0,
         ),
     ),
     (
@@ -238,15 +214,10 @@ static MOTIONS: [(Picture, [u8; 4], u64, Want); 9] = [
         [0x96, 0xC2, 0x80, 0],
         17,
         (
-            1,
-            8,
-            1,
-            false,
-            0,
+            [1, 8, 1, 0, 0, 0],
             [[-1, 6], [0, 0], [0, 0], [0, 0]],
-            [true, false, false, false],
+            FIRST,
             [0, 0],
-            0,
         ),
     ),
     (
@@ -254,15 +225,10 @@ static MOTIONS: [(Picture, [u8; 4], u64, Want); 9] = [
         [0x99, 0x49, 0xE0, 0],
         19,
         (
-            1,
-            8,
-            2,
-            false,
-            0,
+            [1, 8, 2, 0, 0, 0],
             [[0, 1], [0, 0], [-4, 0], [0, 0]],
-            [false, false, true, false],
+            SECOND,
             [0, 0],
-            0,
         ),
     ),
     (
@@ -270,15 +236,10 @@ static MOTIONS: [(Picture, [u8; 4], u64, Want); 9] = [
         [0x9E, 0x0C, 0x80, 0],
         18,
         (
-            1,
-            8,
-            3,
-            false,
-            0,
+            [1, 8, 3, 0, 0, 0],
             [[0, 7], [0, 0], [0, 0], [0, 0]],
             OFF,
             [0, 1],
-            0,
         ),
     ),
     (
@@ -286,15 +247,10 @@ static MOTIONS: [(Picture, [u8; 4], u64, Want); 9] = [
         [0xD5, 0xA0, 0, 0],
         11,
         (
-            1,
-            1,
-            2,
-            false,
-            0,
+            [1, 1, 2, 0, 0, 63],
             [[2, -1], [0, 0], [0, 0], [0, 0]],
             OFF,
             [0, 0],
-            63,
         ),
     ),
     (
@@ -302,15 +258,10 @@ static MOTIONS: [(Picture, [u8; 4], u64, Want); 9] = [
         [0xEA, 0xD0, 0, 0],
         12,
         (
-            1,
-            1,
-            0,
-            false,
-            0,
+            [1, 1, 0, 0, 0, 63],
             [[2, -1], [0, 0], [0, 0], [0, 0]],
-            [true, false, false, false],
+            FIRST,
             [0, 0],
-            63,
         ),
     ),
     (
@@ -318,15 +269,10 @@ static MOTIONS: [(Picture, [u8; 4], u64, Want); 9] = [
         [0x8A, 0x1D, 0x37, 0x30],
         30,
         (
-            1,
-            30,
-            2,
-            false,
-            7,
+            [1, 30, 2, 0, 7, 63],
             [[1, 0], [0, -2], [0, 0], [0, 0]],
             OFF,
             [0, 0],
-            63,
         ),
     ),
 ];
