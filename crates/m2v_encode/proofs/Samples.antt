@@ -1,12 +1,14 @@
 -- The samples of a block, one after another.
-use Rattle.std.proofs.Common.{◌≡◌, ℕ, ◌+◌, ◌/◌, ◌%◌, ◌<◌, All, List, [], ◌∷◌, ◌++◌, map, take, set, length, ℤ, pos, refl, sym, ap, subst, ◌∙◌, arith, zero-add}
+use Rattle.std.proofs.Common.{◌≡◌, ℕ, ◌+◌, ◌/◌, ◌%◌, ◌<◌, All, List, [], ◌∷◌, ◌++◌, map, take, set, length, ℤ, pos, refl, sym, subst, ◌∙◌, arith}
 use Rattle.std.specs.List.{range_with_len}
 use Rattle.std.proofs.lemmas.Int.{ints}
 use Rattle.std.proofs.lemmas.List.{take_more_set, take_all, length-set}
 use Rattle.std.proofs.lemmas.List.Elements.{All-append, All-cons, All-nil}
 use Rattle.std.proofs.lemmas.List.FromFn.{map-range_with_len_more}
 use Rattle.m2v_idct.specs.Ranges.{IsSample}
-use Rattle.m2v_encode.specs.Flat.{sample, block_samples}
+use Rattle.m2v_plane.specs.declared.planes.Plane.{Plane}
+use Rattle.m2v_plane.specs.Samples.{Samples, sample_of}
+use Rattle.m2v_encode.specs.Flat.{samples_at}
 
 pub record Made (f : ℕ → ℤ) (k : ℕ) (xs : List ℤ) : Type 0 where
   pub made : take k xs ≡ map f (range_with_len 0 k)
@@ -28,9 +30,9 @@ made_more f k s v xs h lt small is same =
       len = length-set xs k v ∙ h.len;
     }
 
-pub made_all : (raw : List ℕ) (block : ℕ) (xs : List ℤ) → Made (λ k. pos (sample raw block (k / 8) (k % 8))) 64 xs → xs ≡ block_samples raw block
-unfolding block_samples
-made_all raw block xs h = sym (take_all 64 xs (omega (arith, h.len))) ∙ h.made
+pub made_all : (frame : Samples) (plane : Plane) (line column : ℕ) (xs : List ℤ) → Made (λ k. pos (sample_of frame plane (line + k / 8) (column + k % 8))) 64 xs → xs ≡ samples_at frame plane line column
+unfolding samples_at
+made_all frame plane line column xs h = sym (take_all 64 xs (omega (arith, h.len))) ∙ h.made
 
 pub all_within : (f : ℕ → ℤ) (xs : List ℤ) → Made f 64 xs → All IsSample xs
 all_within f xs h = subst (All IsSample) (take_all 64 xs (omega (arith, h.len))) h.within

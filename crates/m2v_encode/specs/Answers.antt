@@ -1,37 +1,105 @@
 -- What coding a raw input answers, and what stands then in input and output.
-use Rattle.std.specs.Prelude.{ℕ, ◌≡◌, ◌≢◌, ◌+◌, ◌≤◌, List, [], ◌∷◌, length, Option}
+use Rattle.std.specs.Prelude.{ℕ, ◌≡◌, ◌<◌, ◌≤◌, All, List, [], ◌∷◌, ◌++◌, length, Option}
 use Rattle.m2v_port.specs.Port.{Moves, IsAtEnd, Grows, GrowsByPrefix}
+use Rattle.m2v_plane.specs.declared.dims.Dims.{Dims}
+use Rattle.m2v_plane.specs.Sizes.{IsSize}
+use Rattle.m2v_plane.specs.Raw.{frame_bytes, raw}
+use Rattle.m2v_set.specs.Numbers.{flat_dims}
+use Rattle.m2v_set.specs.Rules.{FlatPasses}
+use Rattle.m2v_encode.specs.declared.settings.FlatSettings.{FlatSettings}
 use Rattle.m2v_encode.specs.declared.answer.Summary.{Summary}
-use Rattle.m2v_encode.specs.Flat.{Flat}
+use Rattle.m2v_encode.specs.declared.answer.EncodeError.{EncodeError}
+use Rattle.m2v_encode.specs.declared.answer.EncodeError.TheVariants.{Read, Write, ShortFrame, NoFrames, TooManyFrames, Memory}
+use Rattle.m2v_encode.specs.Flat.{Flat, FlatBegun}
 
--- the bytes of a raw frame of 16 by 16 samples, chroma at half the size both ways
-abbrev pub frame_bytes : ℕ
-frame_bytes = 384
+-- settings that passed the part of the published test that the flat profile takes, with the size of their frames
+pub record HasPassed (s : FlatSettings) : Type 0 where
+  pub passes : FlatPasses s.dims.width s.dims.height s.rate_code s.quantiser
+  pub dims : s.dims ≡ flat_dims s.dims.width s.dims.height
+  pub size : IsSize s.dims
 
--- The input was one whole frame, and all of it was read.
-pub record OneFrame (old new : Option (List ℕ)) (raw : List ℕ) : Type 0 where
-  pub whole : length raw ≡ frame_bytes
-  pub moved : Moves old raw new
-  pub end : IsAtEnd new
+-- what an endpoint tells, before and after
+pub record Change : Type 0 where
+  pub old : Option (List ℕ)
+  pub new : Option (List ℕ)
 
--- The input wasn't one whole frame: its bytes, or the first of them, one more than a frame has.
-pub record NotOneFrame (old new : Option (List ℕ)) (extra : ℕ) : Type 0 where
-  pub read : List ℕ
-  pub moved : Moves old read new
-  pub count : length read ≡ extra
-  pub other : extra ≢ frame_bytes
-  pub most : extra ≤ frame_bytes + 1
-  pub end : extra ≤ frame_bytes → IsAtEnd new
+-- the most frames of a raw input
+abbrev pub most_frames : ℕ
+most_frames = 999999
 
--- The frame was read and its stream written, and these are its numbers.
-pub record Coded (quantiser : ℕ) (left left_then held held_then : Option (List ℕ)) (summary : Summary) : Type 0 where
-  pub raw : List ℕ
-  pub frame : OneFrame left left_then raw
-  pub grown : Grows held (Flat quantiser (raw ∷ [])) held_then
-  pub numbers : summary ≡ record { frames = 1; pictures = 1; bytes = length (Flat quantiser (raw ∷ [])); stuffing = 0 }
+-- each of these has the bytes of a frame
+abbrev pub AreWhole : Dims → List (List ℕ) → Type 0
+AreWhole d frames = All (λ frame. length frame ≡ frame_bytes d) frames
 
--- The frame was read, and a prefix of its stream written.
-pub record CodedInPart (quantiser : ℕ) (left left_then held held_then : Option (List ℕ)) : Type 0 where
-  pub raw : List ℕ
-  pub frame : OneFrame left left_then raw
-  pub grown : GrowsByPrefix held (Flat quantiser (raw ∷ [])) held_then
+-- The input was whole frames, one at least, and the whole stream was written; these are its numbers.
+pub record Coded (s : FlatSettings) (left held : Change) (summary : Summary) : Type 0 where
+  pub frames : List (List ℕ)
+  pub some : 1 ≤ length frames
+  pub most : length frames ≤ most_frames
+  pub whole : AreWhole s.dims frames
+  pub moved : Moves left.old (raw frames) left.new
+  pub end : IsAtEnd left.new
+  pub grown : Grows held.old (Flat s frames) held.new
+  pub numbers : summary ≡ record { frames = length frames; pictures = length frames; bytes = length (Flat s frames); stuffing = 0 }
+
+-- Some whole frames were read and then a part of the next, and output has grown by the frames' bytes without the end
+-- code. Where no frame was read, output is as it was (`Same`), its count too.
+pub record Begun (Same : Type 0) (s : FlatSettings) (left held : Change) (frames : List (List ℕ)) (part : List ℕ) : Type 0 where
+  pub most : length frames ≤ most_frames
+  pub whole : AreWhole s.dims frames
+  pub moved : Moves left.old (raw frames ++ part) left.new
+  pub grown : Grows held.old (FlatBegun s frames) held.new
+  pub unwritten : length frames ≡ 0 → Same
+
+-- Some whole frames were read and perhaps a part of the next, and output has grown by a prefix of what success would
+-- have given for these frames.
+pub record CutOff (Same : Type 0) (s : FlatSettings) (left held : Change) : Type 0 where
+  pub frames : List (List ℕ)
+  pub part : List ℕ
+  pub most : length frames ≤ most_frames
+  pub whole : AreWhole s.dims frames
+  pub less : length part < frame_bytes s.dims
+  pub moved : Moves left.old (raw frames ++ part) left.new
+  pub grown : GrowsByPrefix held.old (Flat s frames) held.new
+  pub unwritten : length frames ≡ 0 → Same
+
+-- The input ended inside a frame, of which these many bytes are there.
+pub record EndedShort (Same : Type 0) (s : FlatSettings) (left held : Change) (extra : ℕ) : Type 0 where
+  pub frames : List (List ℕ)
+  pub part : List ℕ
+  pub begun : Begun Same s left held frames part
+  pub fewer : length frames < most_frames
+  pub count : length part ≡ extra
+  pub some : 0 < extra
+  pub less : extra < frame_bytes s.dims
+  pub end : IsAtEnd left.new
+
+-- The input was empty.
+pub record WasEmpty (Same : Type 0) (left : Change) : Type 0 where
+  pub moved : Moves left.old [] left.new
+  pub end : IsAtEnd left.new
+  pub same : Same
+
+-- A byte followed the last frame that an input may have.
+pub record WentOn (Same : Type 0) (s : FlatSettings) (left held : Change) : Type 0 where
+  pub frames : List (List ℕ)
+  pub next : ℕ
+  pub begun : Begun Same s left held frames (next ∷ [])
+  pub all : length frames ≡ most_frames
+
+-- The input failed inside a frame, or before one.
+pub record FailedInside (Same : Type 0) (s : FlatSettings) (left held : Change) : Type 0 where
+  pub frames : List (List ℕ)
+  pub part : List ℕ
+  pub begun : Begun Same s left held frames part
+  pub less : length part < frame_bytes s.dims
+
+-- When each error comes, and what stands then. `Same` says that output is as it was, its count too; `InputRose` and
+-- `OutputRose` that the endpoint's count rose.
+unfoldable pub Stops : (Same InputRose OutputRose : Type 0) → FlatSettings → Change → Change → EncodeError → Type 0
+Stops Same InputRose OutputRose s left held Read = InputRose × FailedInside Same s left held
+Stops Same InputRose OutputRose s left held Write = OutputRose × CutOff Same s left held
+Stops Same InputRose OutputRose s left held (ShortFrame extra) = EndedShort Same s left held extra
+Stops Same InputRose OutputRose s left held NoFrames = WasEmpty Same left
+Stops Same InputRose OutputRose s left held TooManyFrames = WentOn Same s left held
+Stops Same InputRose OutputRose s left held Memory = CutOff Same s left held

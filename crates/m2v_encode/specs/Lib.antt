@@ -1,3 +1,5 @@
 pub mod Units
 pub mod Flat
+pub mod Recon
 pub mod Answers
+pub mod Steps

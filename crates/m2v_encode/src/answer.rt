@@ -5,8 +5,12 @@ pub enum EncodeError {
     Read,
     /// The output failed.
     Write,
-    /// The raw input isn't one whole frame: how many bytes it has, or one more than a frame where it has more.
+    /// The raw input ends inside a frame, of which it has so many bytes.
     ShortFrame { extra: u64 },
+    /// The raw input is empty.
+    NoFrames,
+    /// A byte follows the last frame that a raw input may have.
+    TooManyFrames,
     /// Memory ran out.
     Memory,
 }

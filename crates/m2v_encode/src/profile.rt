@@ -1,123 +1,246 @@
-ghost use Rattle.std.specs.Prelude.{◌≡◌, ◌≢◌, ◌⊎◌, ℕ, ◌+◌, ◌*◌, ◌%◌, ◌<◌, ◌≤◌, ◌++◌, [], ◌∷◌, length, take, vec_len, IsTrue, IfOk, IfErr, IfSome, IsErrOf, OnOk, OnErr, Ok, Err};
-ghost use Rattle.m2v_port.specs.Port.{Rose, Moves, MovesFewer, IsAtEnd, Grows, GrowsByPrefix};
-ghost use Rattle.m2v_encode.specs.Answers.{OneFrame, NotOneFrame, Coded, CodedInPart};
-ghost use Rattle.m2v_encode.specs.Flat.{flat_text, Flat, pictures_from, sequence_units, picture_units};
+ghost use Rattle.std.specs.Prelude.{◌≡◌, ℕ, ◌+◌, ◌*◌, ◌%◌, ◌<◌, ◌≤◌, ◌^◌, [], ◌∷◌, true, false, length, take, IsTrue, IfOk, IfErr, IfSome, OnOk, OnErr, MatchOption, Ok};
+ghost use Rattle.m2v_bits.specs.Bits.{packed, start_code};
+ghost use Rattle.m2v_port.specs.Port.{Rose, Moves, IsAtEnd, Grows};
+ghost use Rattle.m2v_plane.specs.Sizes.{IsSize};
+ghost use Rattle.m2v_plane.specs.Raw.{frame_bytes, pad};
+ghost use Rattle.m2v_encode.specs.Flat.{frame_units, FlatFrame};
+ghost use Rattle.m2v_encode.specs.Answers.{HasPassed, Change, Coded, Stops};
+ghost use Rattle.m2v_encode.specs.Steps.{IsReady, room_bits, NextCoded, NextNone, NextStops, EndStops, ReadStops, PutStops};
 
 use crate::answer::{EncodeError, Summary};
-use crate::blocks::FRAME;
-use crate::units::{write_picture, write_sequence, write_start_code};
+use crate::pictures::write_frame;
+use crate::settings::FlatSettings;
+use crate::units::write_end;
 use m2v_bits::BitWriter;
+use m2v_plane::{Dims, Frame};
 use m2v_port::{PortError, Sink, Source, fill};
-use std::alloc::Global;
+use std::alloc::{AllocError, Global};
 
-/// One byte more than a frame: it shows that the input goes on.
-const MORE: usize = 385;
+/// The most frames of a raw input.
+const MOST: u64 = 999_999;
 
-/// Room for the bytes of a stream of one frame.
-const STREAM: usize = 128;
+/// Room for the bytes of a picture of Main level, the headers before it and an end code.
+const ROOM: usize = 32_784;
 
-/// Appends the whole stream of one frame.
-#[tactic(auto, using(m2v_bits::proofs::Cursor::lengths, crate::proofs::UnitLaws::streams), unfolding(crate::specs::Flat::flat_text, crate::specs::Flat::pictures_from))]
-fn write_stream(quantiser: u8, raw: &[u8], out: &mut BitWriter)
-    requires quantiser { (1 ≤ quantiser) × (quantiser ≤ 31) }
-    requires raw { length raw.now ≡ 384 }
-    requires empty { out.old.written ≡ [] }
-    requires room { 1024 ≤ out.old.room }
-    ensures written { out.new.written ≡ flat_text quantiser (raw.now ∷ []) }
-    ensures edge { length out.new.written % 8 ≡ 0 }
-{
-    write_sequence(out);
-    write_picture(quantiser, 0, raw, out);
-    write_start_code(0xB7, out);
+/// What coding frame after frame needs, whatever their number: the bytes, the samples and the bits of one.
+#[derive(Drop)]
+struct Coder {
+    settings: FlatSettings,
+    raw: Vec<u8>,
+    frame: Frame,
+    out: BitWriter,
 }
 
-/// Reads the whole input, which is to be one frame. The buffer has room for one byte more than a frame.
-fn read_frame<S: Source>(input: &mut S, raw: &mut [u8]) -> Result<(), EncodeError>
-    requires { length raw.old ≡ 385 }
-    ensures ok { OnOk result (OneFrame (S.left input.old) (S.left input.new) (take 384 raw.new)) }
-    ensures short { (x : ℕ) → result ≡ Err (EncodeError.ShortFrame x) → NotOneFrame (S.left input.old) (S.left input.new) x }
-    ensures read { result ≡ Err EncodeError.Read → Rose (S.faults input.old) (S.faults input.new) }
-    ensures write { result ≢ Err EncodeError.Write }
-    ensures faults { S.faults input.old ≤ S.faults input.new }
+/// The bytes of a raw frame.
+fn bytes_of(dims: Dims) -> usize
+    requires { IsSize dims }
+    ensures value { result ≡ frame_bytes dims }
 {
-    let extra = match fill(input, raw) {
-        Ok(n) => n,
-        Err(PortError::Failed) => return Err(EncodeError::Read),
-        Err(PortError::Memory) => return Err(EncodeError::Memory),
-    };
-    if extra == FRAME {
-        Ok(())
-    } else {
-        Err(EncodeError::ShortFrame {
-            extra: extra as u64,
+    let (width, height) = (dims.width as usize, dims.height as usize);
+    let (wide, high) = ((width + 1) / 2, (height + 1) / 2);
+    width * height + 2 * (wide * high)
+}
+
+impl Coder {
+    /// Room for one frame.
+    fn new(alloc: Global, settings: &FlatSettings) -> Result<Coder, AllocError>
+        requires passed { HasPassed settings.now }
+        ensures ready { IfOk result IsReady }
+        ensures settings { IfOk result (λ c. c.settings ≡ settings.now) }
+    {
+        Ok(Coder {
+            settings: *settings,
+            raw: vec![in alloc; 0; bytes_of(settings.dims)]?,
+            frame: Frame::blank(alloc, settings.dims)?,
+            out: BitWriter::over(vec![in alloc; 0; ROOM]?),
         })
+    }
+
+    /// Codes the frame that was read, frame n; the bits are those that it brings.
+    fn code(&mut self, number: u64)
+        requires ready { IsReady self.old }
+        ensures written { self.new.out.written ≡ frame_units self.old.settings number (pad self.old.settings.dims self.old.raw.items) }
+        ensures edge { length self.new.out.written % 8 ≡ 0 }
+        ensures ready { IsReady self.new }
+        ensures settings { self.new.settings ≡ self.old.settings }
+    {
+        self.out.clear();
+        self.frame.pad_from_raw(&self.raw);
+        write_frame(&self.settings, number, &self.frame, &mut self.out);
+    }
+
+    /// Reads bytes of the next frame until they are all there or the input ends, and says how many there are.
+    fn read<S: Source>(&mut self, input: &mut S) -> Result<usize, EncodeError>
+        requires ready { IsReady self.old }
+        ensures within { IfOk result (λ n. n ≤ frame_bytes self.old.settings.dims) }
+        ensures moved { IfOk result (λ n. Moves (S.left input.old) (take n self.new.raw.items) (S.left input.new)) }
+        ensures end { IfOk result (λ n. n < frame_bytes self.old.settings.dims → IsAtEnd (S.left input.new)) }
+        ensures err { IfErr result (ReadStops (Rose (S.faults input.old) (S.faults input.new)) (frame_bytes self.old.settings.dims) (record { old = S.left input.old; new = S.left input.new })) }
+        ensures ready { IsReady self.new }
+        ensures settings { self.new.settings ≡ self.old.settings }
+        ensures faults { S.faults input.old ≤ S.faults input.new }
+    {
+        match fill(input, &mut self.raw) {
+            Ok(read) => Ok(read),
+            Err(PortError::Failed) => Err(EncodeError::Read),
+            Err(PortError::Memory) => Err(EncodeError::Memory),
+        }
+    }
+
+    /// Writes the bytes of the bits, and says how many they are.
+    fn put<K: Sink>(&self, output: &mut K) -> Result<u64, EncodeError>
+        requires ready { IsReady self.now }
+        requires edge { length self.now.out.written % 8 ≡ 0 }
+        requires output { IsTrue (K.ready output.old) }
+        ensures grown { OnOk result (Grows (K.held output.old) (packed self.now.out.written) (K.held output.new)) }
+        ensures size { IfOk result (λ n. n ≡ length (packed self.now.out.written)) }
+        ensures most { IfOk result (λ n. n ≤ 32784) }
+        ensures err { IfErr result (PutStops (Rose (K.faults output.old) (K.faults output.new)) (packed self.now.out.written) (record { old = K.held output.old; new = K.held output.new })) }
+        ensures output { IsTrue (K.ready output.new) }
+        ensures name { K.name output.new ≡ K.name output.old }
+        ensures faults { K.faults output.old ≤ K.faults output.new }
+    {
+        let bytes = self.out.bytes();
+        match output.put(bytes) {
+            Ok(()) => Ok(bytes.len() as u64),
+            Err(PortError::Failed) => Err(EncodeError::Write),
+            Err(PortError::Memory) => Err(EncodeError::Memory),
+        }
+    }
+
+    /// Reads frame n, codes it and writes its bytes, and says how many they are; `None` where the input has ended.
+    fn next<S: Source, K: Sink>(
+        &mut self,
+        number: u64,
+        input: &mut S,
+        output: &mut K,
+    ) -> Result<Option<u64>, EncodeError>
+        requires ready { IsReady self.old }
+        requires output { IsTrue (K.ready output.old) }
+        ensures coded { IfOk result (λ o. MatchOption o
+            (NextNone (output.new ≡ output.old) (record { old = S.left input.old; new = S.left input.new }) (record { old = K.held output.old; new = K.held output.new }))
+            (λ n. NextCoded self.old.settings number n (record { old = S.left input.old; new = S.left input.new }) (record { old = K.held output.old; new = K.held output.new }))) }
+        ensures most { IfOk result (λ o. IfSome o (λ n. n ≤ 32784)) }
+        ensures err { IfErr result (NextStops (output.new ≡ output.old) (Rose (S.faults input.old) (S.faults input.new)) (Rose (K.faults output.old) (K.faults output.new)) self.old.settings number (record { old = S.left input.old; new = S.left input.new }) (record { old = K.held output.old; new = K.held output.new })) }
+        ensures ready { IsReady self.new }
+        ensures settings { self.new.settings ≡ self.old.settings }
+        ensures output { IsTrue (K.ready output.new) }
+        ensures name { K.name output.new ≡ K.name output.old }
+        ensures input_faults { S.faults input.old ≤ S.faults input.new }
+        ensures output_faults { K.faults output.old ≤ K.faults output.new }
+    {
+        let read = self.read(input)?;
+        if read == 0 {
+            return Ok(None);
+        }
+        if read < self.raw.len() {
+            return Err(EncodeError::ShortFrame { extra: read as u64 });
+        }
+        self.code(number);
+        let bytes = self.put(output)?;
+        Ok(Some(bytes))
+    }
+
+    /// Ends the stream of so many frames, which has so many bytes.
+    fn finish<K: Sink>(
+        &mut self,
+        frames: u64,
+        bytes: u64,
+        output: &mut K,
+    ) -> Result<Summary, EncodeError>
+        requires ready { IsReady self.old }
+        requires bytes { bytes < 2 ^ 63 }
+        requires output { IsTrue (K.ready output.old) }
+        ensures some { OnOk result (0 < frames) }
+        ensures grown { OnOk result (Grows (K.held output.old) (packed (start_code 0xB7)) (K.held output.new)) }
+        ensures numbers { IfOk result (λ s. s ≡ record { frames = frames; pictures = frames; bytes = bytes + length (packed (start_code 0xB7)); stuffing = 0 }) }
+        ensures err { IfErr result (EndStops (output.new ≡ output.old) (Rose (K.faults output.old) (K.faults output.new)) frames (record { old = K.held output.old; new = K.held output.new })) }
+        ensures output { IsTrue (K.ready output.new) }
+        ensures name { K.name output.new ≡ K.name output.old }
+        ensures faults { K.faults output.old ≤ K.faults output.new }
+    {
+        if frames == 0 {
+            return Err(EncodeError::NoFrames);
+        }
+        self.out.clear();
+        write_end(&mut self.out);
+        let end = self.put(output)?;
+        Ok(Summary {
+            frames,
+            pictures: frames,
+            bytes: bytes + end,
+            stuffing: 0,
+        })
+    }
+
+    /// Codes all frames of the input.
+    fn code_all<S: Source, K: Sink>(
+        &mut self,
+        input: &mut S,
+        output: &mut K,
+    ) -> Result<Summary, EncodeError>
+        requires ready { IsReady self.old }
+        requires output { IsTrue (K.ready output.old) }
+        ensures ok { IfOk result (Coded self.old.settings (record { old = S.left input.old; new = S.left input.new }) (record { old = K.held output.old; new = K.held output.new })) }
+        ensures err { IfErr result (Stops (output.new ≡ output.old) (Rose (S.faults input.old) (S.faults input.new)) (Rose (K.faults output.old) (K.faults output.new)) self.old.settings (record { old = S.left input.old; new = S.left input.new }) (record { old = K.held output.old; new = K.held output.new })) }
+        ensures output { IsTrue (K.ready output.new) }
+        ensures name { K.name output.new ≡ K.name output.old }
+        ensures input_faults { S.faults input.old ≤ S.faults input.new }
+        ensures output_faults { K.faults output.old ≤ K.faults output.new }
+    {
+        let mut bytes = 0;
+        for number in 0..MOST {
+            match self.next(number, input, output)? {
+                Some(more) => bytes += more,
+                None => return self.finish(number, bytes, output),
+            }
+        }
+        if goes_on(input)? {
+            return Err(EncodeError::TooManyFrames);
+        }
+        self.finish(MOST, bytes, output)
     }
 }
 
-/// Writes the stream of a raw frame and gives its length in bytes.
-fn put_stream<K: Sink>(
-    quantiser: u8,
-    raw: &[u8],
-    buf: Vec<u8>,
-    output: &mut K,
-) -> Result<u64, EncodeError>
-    requires quantiser { (1 ≤ quantiser) × (quantiser ≤ 31) }
-    requires raw { length raw.now ≡ 384 }
-    requires buf { vec_len buf ≡ 128 }
-    requires ready { IsTrue (K.ready output.old) }
-    ensures ok { OnOk result (Grows (K.held output.old) (Flat quantiser (raw.now ∷ [])) (K.held output.new)) }
-    ensures bytes { IfOk result (λ n. n ≡ length (Flat quantiser (raw.now ∷ []))) }
-    ensures err { OnErr result (GrowsByPrefix (K.held output.old) (Flat quantiser (raw.now ∷ [])) (K.held output.new)) }
-    ensures which { IfErr result (λ e. (e ≡ EncodeError.Write) ⊎ (e ≡ EncodeError.Memory)) }
-    ensures write { result ≡ Err EncodeError.Write → Rose (K.faults output.old) (K.faults output.new) }
-    ensures ready { IsTrue (K.ready output.new) }
-    ensures name { K.name output.new ≡ K.name output.old }
-    ensures faults { K.faults output.old ≤ K.faults output.new }
+/// Whether a byte is left; it is read.
+fn goes_on<S: Source>(input: &mut S) -> Result<bool, EncodeError>
+    ensures more { result ≡ Ok true → (byte : ℕ) × Moves (S.left input.old) (byte ∷ []) (S.left input.new) }
+    ensures none { result ≡ Ok false → Moves (S.left input.old) [] (S.left input.new) × IsAtEnd (S.left input.new) }
+    ensures err { IfErr result (ReadStops (Rose (S.faults input.old) (S.faults input.new)) 1 (record { old = S.left input.old; new = S.left input.new })) }
+    ensures faults { S.faults input.old ≤ S.faults input.new }
 {
-    let mut out = BitWriter::over(buf);
-    write_stream(quantiser, raw, &mut out);
-    let bytes = out.bytes();
-    match output.put(bytes) {
-        Ok(()) => Ok(bytes.len() as u64),
-        Err(PortError::Failed) => Err(EncodeError::Write),
+    let mut byte = [0u8];
+    match fill(input, &mut byte) {
+        Ok(read) => Ok(read > 0),
+        Err(PortError::Failed) => Err(EncodeError::Read),
         Err(PortError::Memory) => Err(EncodeError::Memory),
     }
 }
 
-/// Codes the one frame that the input holds (clause 6.1.1: a progressive sequence of I pictures).
+/// Codes the frames of a raw input, up to 999,999 of them, by the flat profile: a progressive sequence of I pictures of
+/// which each block has its DC alone (clause 6.1.1).
 ///
-/// Nothing is written before the end of input was seen. The frame is 16 by 16 samples, chroma 8 by 8; the quantiser
-/// code is from 1 to 31.
+/// Each frame is read whole, coded and written before the next one is read; memory is that of one frame, whatever their
+/// number. The sequence headers go with the first frame, so an input without a whole frame writes nothing.
 pub fn flat<S: Source, K: Sink>(
     alloc: Global,
-    quantiser: u8,
+    settings: &FlatSettings,
     input: &mut S,
     output: &mut K,
 ) -> Result<Summary, EncodeError>
-    requires quantiser { (1 ≤ quantiser) × (quantiser ≤ 31) }
-    requires ready { IsTrue (K.ready output.old) }
-    ensures ok { IfOk result (λ s. Coded quantiser (S.left input.old) (S.left input.new) (K.held output.old) (K.held output.new) s) }
-    // Where neither the output failed nor memory ran out, the output is as it was.
-    ensures short { (x : ℕ) → result ≡ Err (EncodeError.ShortFrame x) → NotOneFrame (S.left input.old) (S.left input.new) x × (output.new ≡ output.old) }
-    ensures read { result ≡ Err EncodeError.Read → Rose (S.faults input.old) (S.faults input.new) × (output.new ≡ output.old) }
-    ensures write { result ≡ Err EncodeError.Write → Rose (K.faults output.old) (K.faults output.new) × CodedInPart quantiser (S.left input.old) (S.left input.new) (K.held output.old) (K.held output.new) }
-    ensures memory { result ≡ Err EncodeError.Memory → (output.new ≡ output.old) ⊎ CodedInPart quantiser (S.left input.old) (S.left input.new) (K.held output.old) (K.held output.new) }
-    ensures ready { IsTrue (K.ready output.new) }
+    requires passed { HasPassed settings.now }
+    requires output { IsTrue (K.ready output.old) }
+    // All frames of the input were coded.
+    ensures ok { IfOk result (Coded settings.now (record { old = S.left input.old; new = S.left input.new }) (record { old = K.held output.old; new = K.held output.new })) }
+    // When each error comes, and what stands then.
+    ensures err { IfErr result (Stops (output.new ≡ output.old) (Rose (S.faults input.old) (S.faults input.new)) (Rose (K.faults output.old) (K.faults output.new)) settings.now (record { old = S.left input.old; new = S.left input.new }) (record { old = K.held output.old; new = K.held output.new })) }
+    ensures output { IsTrue (K.ready output.new) }
     ensures name { K.name output.new ≡ K.name output.old }
     ensures input_faults { S.faults input.old ≤ S.faults input.new }
     ensures output_faults { K.faults output.old ≤ K.faults output.new }
 {
-    let buf = match vec![in alloc; 0u8; STREAM] {
-        Ok(buf) => buf,
-        Err(_) => return Err(EncodeError::Memory),
+    let Ok(mut coder) = Coder::new(alloc, settings) else {
+        return Err(EncodeError::Memory);
     };
-    let mut raw = [0u8; MORE];
-    read_frame(input, &mut raw)?;
-    let bytes = put_stream(quantiser, &raw[..FRAME], buf, output)?;
-    Ok(Summary {
-        frames: 1,
-        pictures: 1,
-        bytes,
-        stuffing: 0,
-    })
+    coder.code_all(input, output)
 }

@@ -1,26 +1,12 @@
-ghost use Rattle.std.specs.Prelude.{◌≡◌, ℕ, ◌+◌, ◌*◌, ◌%◌, ◌<◌, ◌≤◌, ◌^◌, ◌++◌, length};
+ghost use Rattle.std.specs.Prelude.{◌≡◌, ℕ, ◌+◌, ◌*◌, ◌%◌, ◌<◌, ◌≤◌, ◌^◌, ◌++◌, [], length};
 ghost use Rattle.m2v_bits.specs.Bits.{start_code, bits_of};
-ghost use Rattle.m2v_head.specs.Texts.{sequence_text, sequence_extension_text, picture_text, picture_extension_text, slice_text};
+ghost use Rattle.m2v_head.specs.Texts.{sequence_text, sequence_extension_text, picture_text, picture_extension_text};
 ghost use Rattle.m2v_encode.specs.Units.{unit};
-ghost use Rattle.m2v_encode.specs.Flat.{flat_sequence, flat_sequence_extension, flat_picture, flat_picture_extension, flat_slice, sequence_units, picture_units, macroblock_text};
+ghost use Rattle.m2v_encode.specs.Flat.{flat_sequence, flat_sequence_extension, flat_picture, flat_picture_extension, sequence_units};
 
-use crate::blocks::write_macroblock;
+use crate::settings::FlatSettings;
 use m2v_bits::BitWriter;
-use m2v_head::{PictureExtension, PictureInfo, SequenceExtension, SequenceInfo, SliceInfo};
-
-/// 16 by 16 square samples, 25 frames a second, and the most that Main profile at Main level allows of the rate and
-/// the buffer.
-const SEQUENCE: SequenceInfo = SequenceInfo {
-    horizontal_size: 16,
-    vertical_size: 16,
-    aspect: 1,
-    frame_rate_code: 3,
-    bit_rate: 37500,
-    vbv_buffer_size: 112,
-    constrained: false,
-    load_intra: None,
-    load_non_intra: None,
-};
+use m2v_head::{PictureExtension, PictureInfo, SequenceExtension, SequenceInfo};
 
 /// Main profile at Main level, progressive, 4:2:0.
 const SEQUENCE_EXTENSION: SequenceExtension = SequenceExtension {
@@ -64,17 +50,32 @@ pub fn write_start_code(value: u8, out: &mut BitWriter)
     out.put(value as u32, 8);
 }
 
-/// Appends the sequence header.
+/// Appends the sequence header: square samples, and the most that Main profile at Main level allows of the rate and the
+/// buffer.
 #[tactic(auto, using(m2v_bits::proofs::Cursor::lengths, crate::proofs::UnitLaws::units))]
-fn write_sequence_header(out: &mut BitWriter)
+fn write_sequence_header(settings: &FlatSettings, out: &mut BitWriter)
+    requires width { settings.now.dims.width < 2 ^ 12 }
+    requires height { settings.now.dims.height < 2 ^ 12 }
+    requires code { settings.now.rate_code < 2 ^ 4 }
     requires edge { length out.old.written % 8 ≡ 0 }
     requires room { 128 ≤ out.old.room }
-    ensures written { out.new.written ≡ out.old.written ++ unit 0xB3 (sequence_text flat_sequence) }
-    ensures room { out.new.room + length (unit 0xB3 (sequence_text flat_sequence)) ≡ out.old.room }
+    ensures written { out.new.written ≡ out.old.written ++ unit 0xB3 (sequence_text (flat_sequence settings.now)) }
+    ensures room { out.new.room + length (unit 0xB3 (sequence_text (flat_sequence settings.now))) ≡ out.old.room }
     ensures edge { length out.new.written % 8 ≡ 0 }
 {
     write_start_code(0xB3, out);
-    SEQUENCE.write(out);
+    let sequence = SequenceInfo {
+        horizontal_size: settings.dims.width,
+        vertical_size: settings.dims.height,
+        aspect: 1,
+        frame_rate_code: settings.rate_code as u8,
+        bit_rate: 37500,
+        vbv_buffer_size: 112,
+        constrained: false,
+        load_intra: None,
+        load_non_intra: None,
+    };
+    sequence.write(out);
     out.align();
 }
 
@@ -94,7 +95,7 @@ fn write_sequence_extension(out: &mut BitWriter)
 
 /// Appends the header of picture n.
 #[tactic(auto, using(m2v_bits::proofs::Cursor::lengths, crate::proofs::UnitLaws::units))]
-fn write_picture_header(number: u32, out: &mut BitWriter)
+pub fn write_picture_header(number: u64, out: &mut BitWriter)
     requires edge { length out.old.written % 8 ≡ 0 }
     requires room { 128 ≤ out.old.room }
     ensures written { out.new.written ≡ out.old.written ++ unit 0x00 (picture_text (flat_picture number)) }
@@ -103,7 +104,7 @@ fn write_picture_header(number: u32, out: &mut BitWriter)
 {
     write_start_code(0x00, out);
     let picture = PictureInfo {
-        temporal_reference: number % 1024,
+        temporal_reference: (number % 1024) as u32,
         kind: 1,
         vbv_delay: 65535,
         full_pel_forward: false,
@@ -117,7 +118,7 @@ fn write_picture_header(number: u32, out: &mut BitWriter)
 
 /// Appends the picture coding extension.
 #[tactic(auto, using(m2v_bits::proofs::Cursor::lengths, crate::proofs::UnitLaws::units))]
-fn write_picture_extension(out: &mut BitWriter)
+pub fn write_picture_extension(out: &mut BitWriter)
     requires edge { length out.old.written % 8 ≡ 0 }
     requires room { 128 ≤ out.old.room }
     ensures written { out.new.written ≡ out.old.written ++ unit 0xB5 (picture_extension_text flat_picture_extension) }
@@ -129,53 +130,30 @@ fn write_picture_extension(out: &mut BitWriter)
     out.align();
 }
 
-/// Appends the slice of a frame of one macroblock.
-#[tactic(auto, using(m2v_bits::proofs::Cursor::lengths, crate::proofs::UnitLaws::units))]
-fn write_slice(quantiser: u8, raw: &[u8], out: &mut BitWriter)
-    requires quantiser { (1 ≤ quantiser) × (quantiser ≤ 31) }
-    requires raw { length raw.now ≡ 384 }
-    requires edge { length out.old.written % 8 ≡ 0 }
-    requires room { 256 ≤ out.old.room }
-    ensures written { out.new.written ≡ out.old.written ++ unit 0x01 (slice_text (flat_slice quantiser) ++ macroblock_text raw.now) }
-    ensures room { out.new.room + length (unit 0x01 (slice_text (flat_slice quantiser) ++ macroblock_text raw.now)) ≡ out.old.room }
-    ensures edge { length out.new.written % 8 ≡ 0 }
-{
-    write_start_code(0x01, out);
-    let slice = SliceInfo {
-        quantiser,
-        intra_slice: None,
-        reserved: 0,
-    };
-    slice.write(out);
-    write_macroblock(raw, out);
-    out.align();
-}
-
 /// Appends the headers before the first picture.
 #[tactic(auto, using(m2v_bits::proofs::Cursor::lengths, crate::proofs::UnitLaws::units), unfolding(crate::specs::Flat::sequence_units))]
-pub fn write_sequence(out: &mut BitWriter)
+pub fn write_sequence(settings: &FlatSettings, out: &mut BitWriter)
+    requires width { settings.now.dims.width < 2 ^ 12 }
+    requires height { settings.now.dims.height < 2 ^ 12 }
+    requires code { settings.now.rate_code < 2 ^ 4 }
     requires edge { length out.old.written % 8 ≡ 0 }
     requires room { 256 ≤ out.old.room }
-    ensures written { out.new.written ≡ out.old.written ++ sequence_units }
-    ensures room { out.new.room + length sequence_units ≡ out.old.room }
+    ensures written { out.new.written ≡ out.old.written ++ sequence_units settings.now }
+    ensures room { out.new.room + length (sequence_units settings.now) ≡ out.old.room }
     ensures edge { length out.new.written % 8 ≡ 0 }
 {
-    write_sequence_header(out);
+    write_sequence_header(settings, out);
     write_sequence_extension(out);
 }
 
-/// Appends picture n, which codes a raw frame.
-#[tactic(auto, using(m2v_bits::proofs::Cursor::lengths, crate::proofs::UnitLaws::units), unfolding(crate::specs::Flat::picture_units))]
-pub fn write_picture(quantiser: u8, number: u32, raw: &[u8], out: &mut BitWriter)
-    requires quantiser { (1 ≤ quantiser) × (quantiser ≤ 31) }
-    requires raw { length raw.now ≡ 384 }
-    requires edge { length out.old.written % 8 ≡ 0 }
-    requires room { 512 ≤ out.old.room }
-    ensures written { out.new.written ≡ out.old.written ++ picture_units quantiser number raw.now }
-    ensures room { out.new.room + length (picture_units quantiser number raw.now) ≡ out.old.room }
+/// Writes the sequence end code.
+#[tactic(auto, using(m2v_bits::proofs::Cursor::lengths))]
+pub fn write_end(out: &mut BitWriter)
+    requires empty { out.old.written ≡ [] }
+    requires room { 32 ≤ out.old.room }
+    ensures written { out.new.written ≡ start_code 0xB7 }
+    ensures room { out.new.room + length out.new.written ≡ out.old.room }
     ensures edge { length out.new.written % 8 ≡ 0 }
 {
-    write_picture_header(number, out);
-    write_picture_extension(out);
-    write_slice(quantiser, raw, out);
+    write_start_code(0xB7, out);
 }

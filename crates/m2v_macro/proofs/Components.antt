@@ -1,6 +1,6 @@
 -- Components of vectors.
-use Rattle.std.proofs.Common.{◌≡◌, ℕ, ◌≤◌, Bool, true, false, ℤ, pos, negsuc, ap, sym, ◌∙◌, arith}
-use Rattle.std.specs.Prelude.{nat_eq, not, ◌&&◌, unsigned_abs}
+use Rattle.std.proofs.Common.{◌≡◌, ℕ, ◌≤◌, true, false, ℤ, pos, negsuc, ap, sym, ◌∙◌, arith}
+use Rattle.std.specs.Prelude.{nat_eq, not, unsigned_abs}
 use Rattle.std.proofs.lemmas.Int.{ints, to_z-of_z}
 use Rattle.std.proofs.lemmas.Bool.{and_parts}
 use mir.Syntax.{w32}

@@ -1,12 +1,12 @@
 -- Texts one behind another, and those of escapes.
-use Rattle.std.proofs.Common.{◌≡◌, ℕ, zero, suc, ◌+◌, ◌-◌, ◌*◌, ◌<◌, ◌≤◌, Bool, List, [], ◌++◌, length, refl, ap, sym, ◌∙◌, append_assoc, append-nil, arith}
+use Rattle.std.proofs.Common.{◌≡◌, ℕ, zero, suc, ◌+◌, ◌-◌, ◌*◌, ◌<◌, ◌≤◌, Bool, List, ◌++◌, length, refl, ap, sym, ◌∙◌, append_assoc, append-nil, arith}
 use Rattle.std.proofs.lemmas.List.{length-append}
-use Rattle.m2v_vlc.specs.declared.values.Increment.TheVariants.{Step, Escape}
+use Rattle.m2v_vlc.specs.declared.values.Increment.TheVariants.{Escape}
 use Rattle.m2v_bits.specs.Bits.{bits_of}
 use Rattle.m2v_vlc.specs.Codes.{code_of}
 use Rattle.m2v_vlc.specs.Tables.{increment, increment_code}
 use Rattle.m2v_vlc.specs.Values.{same_increment}
-use Rattle.m2v_macro.specs.Texts.{escapes_text, increment_text}
+use Rattle.m2v_macro.specs.Texts.{escapes_text}
 
 pub escapes_one : (n : ℕ) → 0 < n → escapes_text n ≡ increment_code Escape ++ escapes_text (n - 1)
 unfolding escapes_text

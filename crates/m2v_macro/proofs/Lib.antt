@@ -9,3 +9,4 @@ pub mod Lengths
 pub mod Parts
 pub mod Spellings
 pub mod MacroSpellings
+pub mod Decisions

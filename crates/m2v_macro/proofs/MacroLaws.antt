@@ -1,7 +1,7 @@
 -- What is read of a macroblock stands there, and what stands there is read: a macroblock has one reading.
-use Rattle.std.proofs.Common.{◌≡◌, ℕ, Bool, true, false, List, length, subst, ap, ◌∙◌, sym, ◌<◌, ◌≤◌, ℤ, arith, refl}
+use Rattle.std.proofs.Common.{◌≡◌, ℕ, Bool, true, false, List, length, subst, ap, ◌∙◌, sym, ◌<◌, ℤ, arith, refl}
 use Rattle.m2v_bits.specs.Syntax.{renamed}
-use Rattle.m2v_bits.proofs.SyntaxLaws.{Lawful, Strict, Takes, good, bad, good_is, done_lawful, here_lawful, rule_lawful, seq_lawful, seq_strict, seq_strict_later, choose_lawful, choose_strict, renamed_lawful, repeated_strict, onward, round_err, round_more, round_last}
+use Rattle.m2v_bits.proofs.SyntaxLaws.{Lawful, Strict, Takes, good, bad, good_is, done_lawful, here_lawful, rule_lawful, seq_lawful, seq_strict, seq_strict_later, choose_lawful, renamed_lawful, repeated_strict, onward, round_err, round_more, round_last}
 use Rattle.m2v_bits.proofs.LeafLaws.{bits_lawful}
 use Rattle.m2v_vlc.specs.declared.values.CodeFault.TheVariants as codes
 use Rattle.m2v_vlc.specs.declared.values.Increment.{Increment}
@@ -19,10 +19,9 @@ use Rattle.m2v_macro.specs.declared.values.MacroSyntax.{MacroSyntax}
 use Rattle.m2v_macro.specs.declared.values.SliceState.{SliceState}
 use Rattle.m2v_macro.specs.declared.values.PictureContext.{PictureContext}
 use Rattle.m2v_macro.specs.declared.values.Shape.{Shape}
-use Rattle.m2v_macro.specs.Faults.{of_code, flag_at, coded, ahead_at}
-use Rattle.m2v_macro.specs.States.{is_field, pmv_before}
-use Rattle.m2v_macro.specs.Vectors.{shape_of, component_at, dm_at, vertical_at, vector_at, selected_at, vectors_at, direction_at}
-use Rattle.m2v_macro.specs.Macros.{added, round_at, increment_from, allowed_at, step_at, kind_at, told_form_at, form_at, dct_at, told_quantiser_at, quantiser_at, is_concealed, f_codes_of, told_marker_at, marker_at, zero_pattern, told_pattern_at, pattern_at, directions_at, macro_at}
+use Rattle.m2v_macro.specs.Faults.{of_code, flag_at, coded, look_at, ahead_at}
+use Rattle.m2v_macro.specs.Vectors.{component_at, dm_at, vertical_at, vector_at, selected_at, vectors_at, direction_at}
+use Rattle.m2v_macro.specs.Macros.{added, round_at, increment_from, before_at, allowed_at, step_at, kind_at, told_form_at, form_at, dct_at, told_quantiser_at, quantiser_at, told_marker_at, marker_at, zero_pattern, told_pattern_at, pattern_at, directions_at, macro_at}
 
 -- ---- elements
 
@@ -37,15 +36,24 @@ flag_lawful : Lawful length flag_at
 unfolding flag_at
 flag_lawful = seq_lawful (bits_lawful (Code codes.Truncated) 1) (λ bit. done_lawful length _)
 
-ahead_lawful : (bits : List Bool) → Lawful length (ahead_at bits)
-unfolding ahead_at
-ahead_lawful bits = record {
-  found = λ w t rest e. let g = good_is {K = MacroFault} (begins bits t, t) (w, rest) e in (sym (ap (λ (x : Bool × List Bool). x.0) g), sym (ap (λ (x : Bool × List Bool). x.1) g));
+look_lawful : (f : List Bool → Bool) → Lawful length (look_at f)
+unfolding look_at
+look_lawful f = record {
+  found = λ w t rest e. let g = good_is {K = MacroFault} (f t, t) (w, rest) e in (sym (ap (λ (x : Bool × List Bool). x.0) g), sym (ap (λ (x : Bool × List Bool). x.1) g));
   only = λ w t rest st. rw (st.0, st.1) refl;
   first = λ t f e. absurd cc;
   refused = λ t f b. absurd b;
   shorter = λ w t rest st. rw (st.1) (omega arith);
 }
+
+ahead_lawful : (bits : List Bool) → Lawful length (ahead_at bits)
+unfolding ahead_at
+ahead_lawful bits = look_lawful (begins bits)
+
+-- a look at a slice's first increment
+pub before_lawful : (st : SliceState) → Lawful length (before_at st)
+unfolding before_at
+before_lawful st = look_lawful _
 
 -- ---- increments
 

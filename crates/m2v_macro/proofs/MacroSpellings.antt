@@ -1,21 +1,21 @@
 -- What is written of a direction's vectors and of a macroblock spells them.
-use Rattle.std.proofs.Common.{◌≡◌, ℕ, zero, suc, ◌+◌, ◌^◌, ◌<◌, ◌≤◌, Bool, true, false, cond, List, [], ◌∷◌, ◌++◌, length, ℤ, refl, sym, ap, subst, ◌∙◌, inl, inr, append_assoc, append-nil, arith}
-use Rattle.std.specs.Prelude.{nat_eq, not, ◌&&◌, ◌||◌}
+use Rattle.std.proofs.Common.{◌≡◌, ℕ, zero, suc, ◌<◌, ◌≤◌, Bool, true, false, List, [], ◌++◌, length, ℤ, refl, sym, ap, subst, ◌∙◌, inl, inr, append_assoc, arith}
+use Rattle.std.specs.Prelude.{nat_eq, not, ◌||◌}
 use Rattle.std.proofs.lemmas.Bool.{cases_Bool, ne_eqb, eqb-true, eqb-false}
 use Rattle.m2v_bits.specs.Bits.{bits_of}
-use Rattle.m2v_bits.specs.Syntax.{Syntax, done, seq, rule, choose, Spells}
-use Rattle.m2v_bits.proofs.LeafLaws.{done_spells, seq_spells, here_spells, rule_spells, first_spells, second_spells, renamed_spells, bits_spells}
+use Rattle.m2v_bits.specs.Syntax.{done, seq, rule, choose, Spells}
+use Rattle.m2v_bits.proofs.LeafLaws.{done_spells, here_spells, rule_spells, first_spells, second_spells, renamed_spells, bits_spells}
 use Rattle.m2v_head.proofs.ElementLaws.{last_spells, whole_spells, same_spells}
 use Rattle.m2v_vlc.specs.declared.values.CodeFault.TheVariants as codes
 use Rattle.m2v_vlc.specs.declared.values.MbType.{MbType}
 use Rattle.m2v_vlc.specs.Codes.{begins}
-use Rattle.m2v_vlc.specs.Tables.{type_i, type_p, type_b, type_i_code, type_p_code, type_b_code, block_pattern, pattern_code}
+use Rattle.m2v_vlc.specs.Tables.{block_pattern, pattern_code}
 use Rattle.m2v_vlc.proofs.MbTypes.{type_i_spells, type_p_spells, type_b_spells}
 use Rattle.m2v_vlc.proofs.Patterns.{pattern_spells}
 use Rattle.m2v_vlc.specs.Codes.{code_of}
 use Rattle.m2v_vlc.proofs.ValueLaws.{below, agree}
 use Rattle.m2v_vector.specs.declared.predictors.Pmv.{Pmv}
-use Rattle.m2v_vector.specs.Predictors.{zeros, pair_of}
+use Rattle.m2v_vector.specs.Predictors.{pair_of}
 use Rattle.m2v_macro.specs.declared.fault.MacroFault.{MacroFault}
 use Rattle.m2v_macro.specs.declared.fault.MacroFault.TheVariants.{Code, QuantZero, PatternZero, BadMotionType, Marker}
 use Rattle.m2v_macro.specs.declared.values.MacroSyntax.{MacroSyntax}
@@ -24,12 +24,12 @@ use Rattle.m2v_macro.specs.declared.values.PictureContext.{PictureContext}
 use Rattle.m2v_macro.specs.declared.values.Shape.{Shape}
 use Rattle.m2v_macro.specs.declared.values.Selected.{Selected}
 use Rattle.m2v_macro.specs.declared.values.Direction.{Direction}
-use Rattle.m2v_macro.specs.Faults.{Of, of_code, flag_at, coded, ahead_at}
+use Rattle.m2v_macro.specs.Faults.{Of, of_code, flag_at, look_at, ahead_at}
 use Rattle.m2v_macro.specs.States.{is_field, pmv_before}
-use Rattle.m2v_macro.specs.Vectors.{shape_of, no_vector, vector_at, selected_at, vectors_at, direction_at}
-use Rattle.m2v_macro.specs.Macros.{step_at, kind_at, has_form, is_form, no_form, told_form_at, form_at, has_dct, dct_at, told_quantiser_at, quantiser_at, is_concealed, f_codes_of, told_marker_at, marker_at, zero_pattern, told_pattern_at, pattern_at, macro_of, directions_at, macro_at}
+use Rattle.m2v_macro.specs.Vectors.{shape_of, no_vector, selected_at, vectors_at, direction_at}
+use Rattle.m2v_macro.specs.Macros.{kind_at, has_form, is_form, no_form, told_form_at, form_at, has_dct, dct_at, told_quantiser_at, quantiser_at, is_concealed, f_codes_of, told_marker_at, marker_at, zero_pattern, told_pattern_at, pattern_at, macro_of, directions_at, macro_at}
 use Rattle.m2v_macro.specs.Conditions.{IsContext, IsReady, IsMacro, IsPair, AreScales, ArePredictors, IsSelected, IsDirection, has_type, is_used, forward_of, backward_of}
-use Rattle.m2v_macro.specs.Texts.{flag, increment_text, bit_text, vector_text, selected_text, second_text, direction_text, kind_text, form_text, dct_text, quantiser_text, marker_text, pattern_text, modes_text, directions_text, macro_text}
+use Rattle.m2v_macro.specs.Texts.{flag, increment_text, bit_text, selected_text, second_text, direction_text, kind_text, form_text, dct_text, quantiser_text, marker_text, pattern_text, modes_text, directions_text, macro_text}
 use Rattle.m2v_macro.proofs.Types.{of_i, of_p, of_b, code_i, code_p, code_b}
 use Rattle.m2v_macro.proofs.Ready.{used_forward, used_backward}
 use Rattle.m2v_macro.proofs.Predicted.{forward_before, backward_before}
@@ -135,7 +135,7 @@ pattern_apart zero rest some lt = absurd (omega arith)
 pattern_apart (suc n) rest some lt = agree (λ n. begins zero_pattern (pattern_code (suc n) ++ rest)) (λ n. false) 63 n (not_zero rest) (omega arith)
 
 ahead_spells : {V : Type 0} (bits : List Bool) (k : Bool → Of V) (b : Bool) (v : V) (text : List Bool) → ((rest : List Bool) → begins bits (text ++ rest) ≡ b) → Spells (k b) v text → Spells (seq (ahead_at bits) k) v text
-unfolding seq ahead_at
+unfolding seq ahead_at look_at
 ahead_spells bits k b v text h p = record { stands = λ rest. (b, text ++ rest, (sym (h rest), refl), p.stands rest) }
 
 told_pattern_spells : (p : ℕ) → 0 < p → p < 64 → Spells told_pattern_at p (pattern_code p)

@@ -1,13 +1,12 @@
 -- A component of a vector and its dmvector.
-use Rattle.std.proofs.Common.{◌≡◌, ℕ, zero, suc, ◌+◌, ◌<◌, ◌≤◌, Bool, true, false, cond, List, [], ◌++◌, length, ℤ, pos, refl, ap, sym, ◌∙◌, subst, arith}
-use Rattle.std.specs.Prelude.{nat_eq, slice_index, slice_index_or}
+use Rattle.std.proofs.Common.{◌≡◌, ℕ, zero, suc, ◌<◌, ◌≤◌, Bool, true, false, cond, List, ◌++◌, ℤ, pos, sym, arith}
+use Rattle.std.specs.Prelude.{slice_index, slice_index_or}
 use Rattle.m2v_vector.specs.Vectors.{scale, IsVector, half}
 use Rattle.m2v_macro.specs.declared.values.Shape.{Shape}
 use Rattle.m2v_macro.specs.declared.values.Selected.{Selected}
 use Rattle.m2v_macro.specs.Texts.{component_text, dm_text, predictor_at, part_text}
 use Rattle.m2v_macro.specs.Conditions.{AreScales, IsPair, IsSelected, IsDm}
 use Rattle.m2v_macro.proofs.Components.{half_within}
-use Rattle.m2v_macro.proofs.Lengths.{first_room, second_room, two_room, two_written}
 
 -- what is known of a component
 pub record PartFacts (shape : Shape) (f_code : List ℕ) (predictor : List ℤ) (s : Selected) (k : ℕ) : Type 0 where

@@ -1,18 +1,17 @@
 -- The predictors stay in their ranges.
-use Rattle.std.proofs.Common.{◌≡◌, ℕ, zero, suc, ◌*◌, ◌^◌, ◌<◌, ◌≤◌, Bool, true, false, cond, List, [], ◌∷◌, ℤ, pos, negsuc, neg_ℤ, ◌*ℤ◌, ◌≤ℤ◌, ◌<ℤ◌, get_or, refl, ap, sym, subst, ◌∙◌, inl, inr, ◌⊎◌, arith}
-use Rattle.std.specs.Prelude.{nat_eq, not, ◌&&◌, ◌||◌, slice_index, slice_index_or}
+use Rattle.std.proofs.Common.{◌≡◌, ℕ, ◌^◌, Bool, true, false, List, ℤ, pos, ◌*ℤ◌, refl, inl, inr, arith}
+use Rattle.std.specs.Prelude.{slice_index, slice_index_or}
 use Rattle.std.proofs.lemmas.Int.{ints}
 use Rattle.std.proofs.lemmas.Bool.{cases_Bool}
 use Rattle.std.proofs.lemmas.Nat.{pow_pos}
 use Rattle.m2v_vector.specs.declared.predictors.Pmv.{Pmv}
 use Rattle.m2v_vector.specs.declared.predictors.Motion.{Motion}
 use Rattle.m2v_vector.specs.Vectors.{scale, IsVector}
-use Rattle.m2v_vector.specs.Predictors.{zero as none, zeros, pair_of, resets, has_vectors, has_two, is_halved, left_by, entry_after, predictors_after}
+use Rattle.m2v_vector.specs.Predictors.{zeros, pair_of, resets, has_vectors, has_two, is_halved, left_by, entry_after, predictors_after}
 use Rattle.m2v_macro.specs.declared.values.SliceState.{SliceState}
 use Rattle.m2v_macro.specs.declared.values.PictureContext.{PictureContext}
-use Rattle.m2v_macro.specs.States.{skipped, motion, skips, pmv_before}
-use Rattle.m2v_macro.specs.Macros.{f_codes_of}
-use Rattle.m2v_macro.specs.Conditions.{IsPair, ArePredictors, IsHalf, IsReady, is_used}
+use Rattle.m2v_macro.specs.States.{skipped, skips, pmv_before}
+use Rattle.m2v_macro.specs.Conditions.{IsPair, ArePredictors, IsHalf}
 
 pub zero_vector : (n : ℕ) → IsVector (2 ^ n) (pos 0)
 zero_vector n = let some = pow_pos n in (omega (arith, ints), omega (arith, ints))

@@ -1,12 +1,12 @@
 -- A macroblock leaves a state that the next one can go by.
-use Rattle.std.proofs.Common.{◌≡◌, ℕ, zero, suc, ◌*◌, ◌^◌, ◌<◌, ◌≤◌, Bool, true, false, cond, List, [], ◌∷◌, ℤ, pos, negsuc, neg_ℤ, ◌≤ℤ◌, ◌<ℤ◌, get_or, refl, ap, sym, subst, ◌∙◌, inl, inr, ◌⊎◌, arith}
-use Rattle.std.specs.Prelude.{nat_eq, not, ◌&&◌, ◌||◌, slice_index, slice_index_or}
+use Rattle.std.proofs.Common.{◌≡◌, ℕ, zero, suc, ◌^◌, ◌≤◌, Bool, true, false, List, ℤ, pos, neg_ℤ, ◌≤ℤ◌, refl, sym, subst, inl, inr, arith}
+use Rattle.std.specs.Prelude.{nat_eq, ◌||◌}
 use Rattle.std.proofs.lemmas.Int.{ints}
-use Rattle.std.proofs.lemmas.Bool.{cases_Bool, and_parts, eqb-true, ne_eqb, eq-eqb}
+use Rattle.std.proofs.lemmas.Bool.{cases_Bool, and_parts, eqb-true}
 use Rattle.m2v_vlc.specs.declared.values.MbType.{MbType}
-use Rattle.m2v_vlc.specs.Values.{has_type_i, has_type_p, has_type_b}
+use Rattle.m2v_vlc.specs.Values.{has_type_i, has_type_p}
 use Rattle.m2v_vector.specs.Vectors.{scale, IsVector}
-use Rattle.m2v_vector.specs.Predictors.{zeros, pair_of, number_of, has_vectors, AreSmall}
+use Rattle.m2v_vector.specs.Predictors.{has_vectors, AreSmall}
 use Rattle.m2v_vector.proofs.Ranges.{powers, Small, zeros_small, two_small, all_small}
 use Rattle.m2v_macro.specs.declared.values.MacroSyntax.{MacroSyntax}
 use Rattle.m2v_macro.specs.declared.values.SliceState.{SliceState}
@@ -16,8 +16,8 @@ use Rattle.m2v_macro.specs.declared.values.Selected.{Selected}
 use Rattle.m2v_macro.specs.declared.values.Direction.{Direction}
 use Rattle.m2v_macro.specs.States.{is_field, motion, pmv_before, after}
 use Rattle.m2v_macro.specs.Vectors.{shape_of, no_vector}
-use Rattle.m2v_macro.specs.Macros.{is_concealed, f_codes_of, macro_of}
-use Rattle.m2v_macro.specs.Conditions.{IsContext, IsReady, AreScales, IsPair, ArePredictors, IsSelected, IsDirection, IsMacro, has_type, is_used, forward_of, backward_of}
+use Rattle.m2v_macro.specs.Macros.{is_concealed, f_codes_of}
+use Rattle.m2v_macro.specs.Conditions.{IsContext, IsReady, AreScales, IsSelected, IsDirection, IsMacro, has_type, is_used, forward_of, backward_of}
 use Rattle.m2v_macro.proofs.Types.{of_i, of_p}
 use Rattle.m2v_macro.proofs.Predicted.{Leaves, forward_after, backward_after, forward_before, backward_before}
 

@@ -1,41 +1,37 @@
 -- What is written of a macroblock spells it.
-use Rattle.std.proofs.Common.{◌≡◌, ℕ, zero, suc, ◌+◌, ◌-◌, ◌*◌, ◌/◌, ◌%◌, ◌^◌, ◌<◌, ◌≤◌, Bool, true, false, cond, List, [], ◌∷◌, ◌++◌, length, ℤ, pos, neg_ℤ, ◌≤ℤ◌, ◌<ℤ◌, refl, sym, ap, subst, ◌∙◌, inl, inr, append_assoc, append-nil, arith}
-use Rattle.std.specs.Prelude.{nat_eq, not, ◌&&◌, ◌||◌, slice_index, slice_index_or, int_le, int_lt, unsigned_abs}
+use Rattle.std.proofs.Common.{◌≡◌, ℕ, zero, suc, ◌+◌, ◌-◌, ◌*◌, ◌/◌, ◌%◌, ◌^◌, ◌<◌, ◌≤◌, Bool, true, false, cond, List, [], ◌∷◌, ◌++◌, length, ℤ, pos, ◌+ℤ◌, ◌≤ℤ◌, ◌<ℤ◌, refl, sym, ap, subst, ◌∙◌, inl, inr, append_assoc, append-nil, arith}
+use Rattle.std.specs.Prelude.{nat_eq, not, ◌||◌, slice_index, slice_index_or, int_le, int_lt, unsigned_abs}
 use Rattle.std.proofs.lemmas.Int.{ints}
-use Rattle.std.proofs.lemmas.Bool.{cases_Bool, and_from, and_parts, eqb-true, ne_eqb}
+use Rattle.std.proofs.lemmas.Bool.{cases_Bool, and_from, eqb-true}
 use Rattle.std.proofs.lemmas.Nat.{pow_pos, div-add-mod'}
 use Rattle.std.proofs.Math.Nat.{mod-lt}
 use Rattle.m2v_bits.specs.Bits.{bits_of}
-use Rattle.m2v_bits.specs.Syntax.{Syntax, done, seq, here, rule, choose, repeated, renamed, Rounds, last, more, Spells}
+use Rattle.m2v_bits.specs.Syntax.{Syntax, done, seq, choose, repeated, Rounds, last, more, Spells}
 use Rattle.m2v_bits.proofs.LeafLaws.{done_spells, seq_spells, here_spells, rule_spells, first_spells, second_spells, renamed_spells, bits_spells}
 use Rattle.m2v_head.proofs.ElementLaws.{last_spells, whole_spells, same_spells}
 use Rattle.m2v_vlc.specs.declared.values.CodeFault.TheVariants as codes
 use Rattle.m2v_vlc.specs.declared.values.Increment.{Increment}
 use Rattle.m2v_vlc.specs.declared.values.Increment.TheVariants.{Step, Escape}
-use Rattle.m2v_vlc.specs.declared.values.MbType.{MbType}
-use Rattle.m2v_vlc.specs.Tables.{increment, increment_code, motion, motion_code, dmv, dmv_code}
+use Rattle.m2v_vlc.specs.Tables.{increment_code, dmv_code}
 use Rattle.m2v_vlc.specs.Values.{IsIncrement}
 use Rattle.m2v_vlc.proofs.Increments.{increment_spells}
-use Rattle.m2v_vlc.proofs.MbTypes.{type_i_spells, type_p_spells, type_b_spells}
 use Rattle.m2v_vlc.proofs.Motions.{motion_spells, dmv_spells}
-use Rattle.m2v_vector.specs.declared.predictors.Pmv.{Pmv}
-use Rattle.m2v_vector.specs.Vectors.{scale, IsVector, IsDifference, IsSpelling, half, difference, between, joined, code_of, residual_of}
-use Rattle.m2v_vector.specs.Predictors.{zeros, pair_of}
-use Rattle.m2v_vector.proofs.Wrapping.{round_trip, between_within}
+use Rattle.m2v_vector.specs.Vectors.{scale, IsVector, IsDifference, IsSpelling, half, difference, between, wrapped, joined, code_of, residual_of}
+use Rattle.m2v_vector.specs.Predictors.{zeros}
+use Rattle.m2v_vector.proofs.Wrapping.{step_back, between_within}
 use Rattle.m2v_vector.proofs.Spellings.{spelling_of, difference_of}
 use Rattle.m2v_macro.specs.declared.fault.MacroFault.{MacroFault}
-use Rattle.m2v_macro.specs.declared.fault.MacroFault.TheVariants.{Code, SliceOrder, MissingMacroblocks, SkipRule, QuantZero, PatternZero, BadMotionType, VectorRange, Marker}
+use Rattle.m2v_macro.specs.declared.fault.MacroFault.TheVariants.{Code, SliceOrder, MissingMacroblocks, SkipRule, VectorRange}
 use Rattle.m2v_macro.specs.declared.values.SliceState.{SliceState}
 use Rattle.m2v_macro.specs.declared.values.PictureContext.{PictureContext}
 use Rattle.m2v_macro.specs.declared.values.Shape.{Shape}
 use Rattle.m2v_macro.specs.declared.values.Selected.{Selected}
-use Rattle.m2v_macro.specs.Faults.{Of, of_code, flag_at, coded}
+use Rattle.m2v_macro.specs.Faults.{of_code, flag_at}
 use Rattle.m2v_macro.specs.States.{not_past, in_order, may_skip}
 use Rattle.m2v_macro.specs.Vectors.{has_residual, component_at, dm_at, is_half_vector, vertical_at, vector_at}
-use Rattle.m2v_macro.specs.Macros.{added, round_at, increment_from, allowed_at, step_at, kind_at}
-use Rattle.m2v_macro.specs.Conditions.{IsStep, IsHalf, IsDm, IsPair, AreScales, IsSelected, has_type}
-use Rattle.m2v_macro.specs.Texts.{flag, escapes_text, increment_text, residual_text, difference_text, component_text, dm_text, predictor_at, part_text, vector_text, kind_text}
-use Rattle.m2v_macro.proofs.Types.{of_i, of_p, of_b, code_i, code_p, code_b}
+use Rattle.m2v_macro.specs.Macros.{added, round_at, increment_from, allowed_at, step_at}
+use Rattle.m2v_macro.specs.Conditions.{IsStep, IsHalf, IsDm, IsPair, AreScales, IsSelected}
+use Rattle.m2v_macro.specs.Texts.{flag, escapes_text, increment_text, residual_text, difference_text, component_text, dm_text, predictor_at, part_text, vector_text}
 use Rattle.m2v_macro.proofs.Components.{half_within}
 
 -- an element, and what follows it
@@ -141,24 +137,28 @@ no_residual f_code code residual least h e = elim (cases_Bool (nat_eq f_code 1))
     nothing : (z : ℤ) → unsigned_abs z ≡ 0 → z ≡ pos 0
     nothing z h = omega (arith, ints, h)
 
-component_behind : (f_code : ℕ) (p v code : ℤ) (residual : ℕ) → joined (scale f_code) p code residual ≡ v → Spells {K = MacroFault} (done (joined (scale f_code) p code residual)) v []
-component_behind f_code p v code residual e = subst (λ (z : ℤ). Spells {K = MacroFault} (done (joined (scale f_code) p code residual)) z []) e (done_spells (joined (scale f_code) p code residual))
-
-pub component_spells : (f_code : ℕ) (p v : ℤ) → 1 ≤ f_code → f_code ≤ 9 → IsVector (scale f_code) p → IsVector (scale f_code) v → Spells (component_at f_code p) v (component_text f_code p v)
-unfolding component_at component_text difference_text residual_text
-component_spells f_code p v least most hp hv =
+-- a difference spells the vector that it leads to
+pub difference_spells : (f_code : ℕ) (p d : ℤ) → 1 ≤ f_code → IsDifference (scale f_code) d → Spells (component_at f_code p) (wrapped (scale f_code) (p +ℤ d)) (difference_text f_code d)
+unfolding component_at difference_text residual_text joined
+difference_spells f_code p d least within =
     let f = scale f_code in
     let some = scale_some f_code in
-    let d = between f p v in
-    let range = between_within f p v hp hv in
-    let within : IsDifference f d = (range.0, omega (arith, ints, range.1)) in
     let s = spelling_of f d some within in
     let code = code_of f d in
     let residual = residual_of f d in
-    let whole = round_trip f p v code residual some hp hv (difference_of f d some) in
+    let back : wrapped f (p +ℤ difference f code residual) ≡ wrapped f (p +ℤ d) = ap (λ (z : ℤ). wrapped f (p +ℤ z)) (difference_of f d some) in
     then_spells _ (renamed_spells of_code _ code _ (motion_spells codes.Truncated codes.NoCode code s.low s.high)) (
     whole_spells (then_spells (λ r. done (joined f p code r)) (if_spells (has_residual f_code code) _ 0 residual (bits_of (f_code - 1) residual) (λ e. bits_spells (Code codes.Truncated) (f_code - 1) residual s.below) (λ e. no_residual f_code code residual least s e)) (
-    component_behind f_code p v code residual whole)))
+    subst (λ (z : ℤ). Spells {K = MacroFault} (done (wrapped f (p +ℤ difference f code residual))) z []) back (done_spells (wrapped f (p +ℤ difference f code residual))))))
+
+pub component_spells : (f_code : ℕ) (p v : ℤ) → 1 ≤ f_code → f_code ≤ 9 → IsVector (scale f_code) p → IsVector (scale f_code) v → Spells (component_at f_code p) v (component_text f_code p v)
+unfolding component_text between
+component_spells f_code p v least most hp hv =
+    let f = scale f_code in
+    let range = between_within f p v hp hv in
+    let within : IsDifference f (between f p v) = (range.0, omega (arith, ints, range.1)) in
+    subst (λ (z : ℤ). Spells (component_at f_code p) z (difference_text f_code (between f p v))) (step_back f p v (scale_some f_code) hp hv)
+    (difference_spells f_code p (between f p v) least within)
 
 pub dm_spells : (dual : Bool) (d : ℤ) → (dual ≡ true → IsDm d) → (dual ≡ false → d ≡ pos 0) → Spells (dm_at dual) d (dm_text dual d)
 unfolding dm_at dm_text

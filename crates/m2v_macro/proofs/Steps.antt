@@ -1,24 +1,18 @@
 -- Increments, with their escapes and with what the program keeps of them.
-use Rattle.std.proofs.Common.{◌≡◌, ℕ, ◌+◌, ◌-◌, ◌%◌, ◌*◌, ◌^◌, ◌<◌, ◌≤◌, min, Bool, true, false, cond, List, length, Ok, Err, Result, inl, inr, refl, sym, ap, subst, ◌∙◌, ℤ, pos, neg_ℤ, ◌+ℤ◌, ◌≤ℤ◌, ◌<ℤ◌, ltb, arith}
-use Rattle.std.specs.Prelude.{int_le, not, ◌&&◌, ◌||◌, nat_lt, nat_eq, unsigned_abs}
+use Rattle.std.proofs.Common.{◌≡◌, ℕ, ◌+◌, ◌-◌, ◌^◌, ◌<◌, ◌≤◌, Bool, true, false, List, length, Ok, inl, inr, refl, sym, ap, ◌∙◌, ℤ, pos, neg_ℤ, ◌+ℤ◌, ◌≤ℤ◌, ◌<ℤ◌, arith}
+use Rattle.std.specs.Prelude.{int_le, not, ◌||◌}
 use Rattle.std.proofs.lemmas.Int.{ints}
-use Rattle.std.proofs.lemmas.Bool.{cases_lt, cases_Bool, lt-ltb, le-ltb, ltb-true, ltb-false, and_parts}
-use Rattle.std.proofs.Math.Nat.{mod-lt}
+use Rattle.std.proofs.lemmas.Bool.{cases_lt, cases_Bool, le-ltb}
 use Rattle.m2v_bits.specs.Syntax.{renamed, seq, bind, here, done, rule}
-use Rattle.m2v_bits.proofs.SyntaxLaws.{good, bad}
 use Rattle.m2v_vlc.specs.declared.values.CodeFault.TheVariants as codes
 use Rattle.m2v_vlc.specs.declared.values.Increment.{Increment}
 use Rattle.m2v_vlc.specs.declared.values.Increment.TheVariants.{Step, Escape}
 use Rattle.m2v_vlc.specs.Codes.{code_at}
 use Rattle.m2v_vlc.specs.Tables.{increment}
-use Rattle.m2v_macro.specs.declared.fault.MacroFault.{MacroFault}
-use Rattle.m2v_macro.specs.declared.fault.MacroFault.TheVariants.{SliceOrder, MissingMacroblocks, SkipRule}
 use Rattle.m2v_macro.specs.declared.values.SliceState.{SliceState}
 use Rattle.m2v_macro.specs.declared.values.PictureContext.{PictureContext}
-use Rattle.m2v_macro.specs.Faults.{of_code, coded}
-use Rattle.m2v_macro.specs.States.{address, column, not_past, in_order, skips, may_skip}
+use Rattle.m2v_macro.specs.States.{column, not_past, in_order}
 use Rattle.m2v_macro.specs.Macros.{added, round_at, increment_from, allowed_at, step_at}
-use Rattle.m2v_macro.specs.Conditions.{IsAddress}
 use Rattle.m2v_macro.specs.Reading.{kept}
 
 pub round_step : (sum n : ℕ) (code : Increment) (t rest : List Bool) → (code_at codes.Truncated codes.NoCode increment).read t ≡ Ok (code, rest) → code ≡ Step n → (round_at sum).read t ≡ Ok ((false, sum + n), rest)

@@ -33,6 +33,10 @@ flag_at = do
 abbrev pub coded : {V : Type 0} → List (Row V) → Of V
 coded table = renamed of_code (code_at codes.Truncated codes.NoCode table)
 
--- whether these bits stand ahead; takes nothing
+-- what a look at the text ahead tells; takes nothing
+unfoldable pub look_at : (List Bool → Bool) → Of Bool
+look_at f = record { read = λ t. Ok (f t, t); Stands = λ v t rest. (v ≡ f t) × (rest ≡ t); Broken = λ t f. ⊥ }
+
+-- whether these bits stand ahead
 unfoldable pub ahead_at : List Bool → Of Bool
-ahead_at bits = record { read = λ t. Ok (begins bits t, t); Stands = λ v t rest. (v ≡ begins bits t) × (rest ≡ t); Broken = λ t f. ⊥ }
+ahead_at bits = look_at (begins bits)

@@ -5,3 +5,4 @@ pub mod Macros
 pub mod Conditions
 pub mod Reading
 pub mod Texts
+pub mod Laws

@@ -1,6 +1,6 @@
 -- The syntax of a macroblock up to its blocks (clause 6.2.5): its elements in reading order, each rule where it is
 -- looked at, with the place that it tells.
-use Rattle.std.specs.Prelude.{ℕ, ◌+◌, Bool, true, false, cond, ◌&&◌, ◌||◌, not, nat_eq, List, [], ◌∷◌, length, slice_index_or, if◌then◌else◌}
+use Rattle.std.specs.Prelude.{ℕ, ◌+◌, Bool, true, false, ◌&&◌, ◌||◌, not, nat_eq, pos, int_le, Result, Ok, Err, List, [], ◌∷◌, length, slice_index_or, if◌then◌else◌}
 use Rattle.m2v_bits.specs.Bits.{bits_of}
 use Rattle.m2v_bits.specs.Syntax.{done, rule, choose, repeated, ◌>>=◌}
 use Rattle.m2v_vlc.specs.declared.values.CodeFault.TheVariants as codes
@@ -9,13 +9,14 @@ use Rattle.m2v_vlc.specs.declared.values.Increment.TheVariants.{Step, Escape}
 use Rattle.m2v_vlc.specs.declared.values.MbType.{MbType}
 use Rattle.m2v_vector.specs.declared.predictors.Pmv.{Pmv}
 use Rattle.m2v_vlc.specs.Tables.{increment, type_i, type_p, type_b, block_pattern}
+use Rattle.m2v_macro.specs.declared.fault.MacroFault.{MacroFault}
 use Rattle.m2v_macro.specs.declared.fault.MacroFault.TheVariants.{Code, SliceOrder, MissingMacroblocks, SkipRule, QuantZero, PatternZero, BadMotionType, Marker}
 use Rattle.m2v_macro.specs.declared.values.MacroSyntax.{MacroSyntax}
 use Rattle.m2v_macro.specs.declared.values.SliceState.{SliceState}
 use Rattle.m2v_macro.specs.declared.values.PictureContext.{PictureContext}
 use Rattle.m2v_macro.specs.declared.values.Direction.{Direction}
-use Rattle.m2v_macro.specs.Faults.{Of, place, number, flag_at, coded, ahead_at}
-use Rattle.m2v_macro.specs.States.{is_field, not_past, in_order, may_skip, pmv_before}
+use Rattle.m2v_macro.specs.Faults.{Of, place, number, flag_at, coded, look_at, ahead_at}
+use Rattle.m2v_macro.specs.States.{is_field, address, not_past, in_order, may_skip, pmv_before}
 use Rattle.m2v_macro.specs.Vectors.{shape_of, no_vector, direction_at}
 
 -- ---- address increments
@@ -50,6 +51,15 @@ step_at c st = do
   start ← place
   increment ← increment_at
   allowed_at c st start increment
+
+-- the increment ahead, where there is one, begins the slice before the next uncovered macroblock
+unfoldable pub begins_before : SliceState → Result (ℕ × List Bool) (MacroFault × ℕ) → Bool
+begins_before st (Ok x) = not (not st.first || int_le (pos st.next) (address st x.0))
+begins_before st (Err e) = false
+
+-- a look at the first increment of a slice: a rule on it tells the slice, where those of a macroblock tell the increment
+unfoldable pub before_at : SliceState → Of Bool
+before_at st = look_at (λ t. begins_before st (increment_at.read t))
 
 -- ---- modes (clause 6.2.5.1)
 

@@ -1,6 +1,6 @@
 -- The text of a macroblock up to its blocks, as it is written: of two spellings of a vector that whose difference lies
 -- from -16 f to 16 f - 1.
-use Rattle.std.specs.Prelude.{ℕ, zero, suc, ◌+◌, ◌-◌, ◌/◌, ◌%◌, Bool, true, false, cond, ◌||◌, nat_eq, List, [], ◌∷◌, length, slice_index, slice_index_or, if◌then◌else◌, ℤ, pos}
+use Rattle.std.specs.Prelude.{ℕ, zero, suc, ◌+◌, ◌-◌, ◌/◌, ◌%◌, Bool, true, cond, ◌||◌, nat_eq, List, [], ◌∷◌, slice_index, slice_index_or, if◌then◌else◌, ℤ, pos}
 use Rattle.m2v_bits.specs.Bits.{bits_of, ◌⧺◌}
 use Rattle.m2v_vlc.specs.declared.values.Increment.TheVariants.{Step, Escape}
 use Rattle.m2v_vlc.specs.declared.values.MbType.{MbType}

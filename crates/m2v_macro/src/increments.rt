@@ -1,7 +1,7 @@
 ghost use Rattle.std.specs.Prelude.{◌≡◌, ℕ, ◌+◌, ◌-◌, ◌≤◌, ◌<◌, ◌^◌, min, nat_lt, ◌&&◌, ◌||◌, not, IfOk, length, true, pos, ◌+ℤ◌, int_le};
 ghost use Rattle.m2v_bits.specs.Syntax.{Gives};
 ghost use Rattle.m2v_macro.specs.States.{address, column as column_of, not_past as not_past_of, in_order as in_order_of, skips as skips_of, may_skip as may_skip_of};
-ghost use Rattle.m2v_macro.specs.Macros.{round_at, increment_at, allowed_at, step_at};
+ghost use Rattle.m2v_macro.specs.Macros.{round_at, increment_at, begins_before as begins_before_of, allowed_at, step_at};
 ghost use Rattle.m2v_macro.specs.Conditions.{IsAddress, IsStep, IsContext};
 ghost use Rattle.m2v_macro.specs.Reading.{kept, GivesRound, GivesSum};
 
@@ -153,4 +153,19 @@ pub fn step(
     let start = input.fork();
     let increment = increment(input)?;
     allowed(input, &start, context, state, increment)
+}
+
+/// Whether the increment that stands ahead is whole and begins a slice before the next uncovered macroblock. A decoder
+/// tells such a slice by its unit, where `SliceOrder` of `read_macro` stands at the increment.
+#[tactic(auto, unfolding(crate::specs::Macros::begins_before))]
+pub fn begins_before(input: &BitReader, state: &SliceState) -> bool
+    requires address { IsAddress state.now.address }
+    requires next { state.now.next ≤ 2 ^ 16 }
+    ensures { result ≡ begins_before_of state.now (increment_at.read input.now.rest) }
+{
+    let mut ahead = input.fork();
+    match increment(&mut ahead) {
+        Ok(n) => !not_before(state, n),
+        Err(_) => false,
+    }
 }

@@ -6,6 +6,7 @@ mod differences;
 mod elements;
 mod fault;
 mod increments;
+mod laws;
 mod modes;
 mod read;
 mod state;
@@ -18,6 +19,8 @@ mod write_modes;
 mod write_vectors;
 
 pub use fault::MacroFault;
+pub use increments::begins_before;
+pub use laws::{law_one_reading, law_round_trip, law_two_texts};
 pub use read::read_macro;
 pub use values::{MacroSyntax, PictureContext, SliceState};
 pub use write::{macro_bits, write_macro};

@@ -194,7 +194,7 @@ pub fn marker(
 
 /// A coded block pattern that stands there.
 #[inline(always)]
-#[tactic(auto, using(crate::proofs::Patterns::pattern_ahead), unfolding(crate::specs::Macros::told_pattern_at, crate::specs::Faults::ahead_at, m2v_bits::specs::Syntax::seq, m2v_bits::specs::Syntax::bind, m2v_bits::specs::Syntax::here, m2v_bits::specs::Syntax::renamed))]
+#[tactic(auto, using(crate::proofs::Patterns::pattern_ahead), unfolding(crate::specs::Macros::told_pattern_at, crate::specs::Faults::ahead_at, crate::specs::Faults::look_at, m2v_bits::specs::Syntax::seq, m2v_bits::specs::Syntax::bind, m2v_bits::specs::Syntax::here, m2v_bits::specs::Syntax::renamed))]
 fn told_pattern(input: &mut BitReader) -> Result<u8, MacroFault>
     ensures exact { Gives result input.new.rest (told_pattern_at.read input.old.rest) }
     ensures text { input.new.text ≡ input.old.text }

@@ -77,14 +77,29 @@ abbrev pub on_frame : (Samples → Samples) → Option Samples → Option Sample
 on_frame f (Some frame) = Some (f frame)
 on_frame f None = None
 
+-- the picture that is open is whole at a part that ends it; at any other nothing is
+abbrev pub closed_by : State → Option Samples → Part → Pictures
+closed_by st now (sequence s) = closed st now
+closed_by st now (group g) = closed st now
+closed_by st now (picture info extension) = closed st now
+closed_by st now (matrices m) = []
+closed_by st now (slice row x) = []
+closed_by st now (skipped u) = []
+closed_by st now ending = closed st now
+closed_by st now over = closed st now
+
+-- the frame of the picture that is open behind a part
+abbrev pub frame_after : State → Option Samples → Part → Option Samples
+frame_after st now (sequence s) = None
+frame_after st now (group g) = None
+frame_after st now (picture info extension) = opened st.sequence
+frame_after st now (matrices m) = now
+frame_after st now (slice row x) = on_frame (slice_painted st st.sequence st.picture row x) now
+frame_after st now (skipped u) = now
+frame_after st now ending = None
+frame_after st now over = None
+
 -- the pictures of a stream's parts in decoding order, with the frame of the one that is open
 unfoldable pub pictures_from : State → Option Samples → List Part → Pictures
 pictures_from st now [] = closed st now
-pictures_from st now (sequence s ∷ ps) = closed st now ++ pictures_from (state_after st (sequence s)) None ps
-pictures_from st now (group g ∷ ps) = closed st now ++ pictures_from (state_after st (group g)) None ps
-pictures_from st now (picture info extension ∷ ps) = closed st now ++ pictures_from (state_after st (picture info extension)) (opened st.sequence) ps
-pictures_from st now (slice row x ∷ ps) = pictures_from (state_after st (slice row x)) (on_frame (slice_painted st st.sequence st.picture row x) now) ps
-pictures_from st now (matrices m ∷ ps) = pictures_from (state_after st (matrices m)) now ps
-pictures_from st now (skipped u ∷ ps) = pictures_from st now ps
-pictures_from st now (ending ∷ ps) = closed st now ++ pictures_from (state_after st ending) None ps
-pictures_from st now (over ∷ ps) = closed st now ++ pictures_from (state_after st over) None ps
+pictures_from st now (p ∷ ps) = closed_by st now p ++ pictures_from (state_after st p) (frame_after st now p) ps

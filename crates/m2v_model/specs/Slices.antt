@@ -50,8 +50,8 @@ predictor dc levels block =
 unfoldable pub block_in : PictureContext → MacroSyntax → SliceState → ℕ → List (List ℤ) → Of (List ℤ)
 block_in c m st block levels =
     choose (is_coded m.pattern block)
-        (renamed of_block (block_at (kind_for c m.kind.intra (nat_lt block 4) st.quantiser) c.extension.intra_vlc_format (predictor st.dc levels block)))
-        (done (replicate 64 (pos 0)))
+    (renamed of_block (block_at (kind_for c m.kind.intra (nat_lt block 4) st.quantiser) c.extension.intra_vlc_format (predictor st.dc levels block)))
+    (done (replicate 64 (pos 0)))
 
 -- so many blocks, from one on
 unfoldable pub blocks_from : PictureContext → MacroSyntax → SliceState → ℕ → ℕ → List (List ℤ) → Of (List (List ℤ))

@@ -122,9 +122,9 @@ unfoldable pub extension_unit : State → ℕ → List ℕ → Among Part
 extension_unit st start u = do
   id ← id_at u
   choose (nat_eq id 1 || nat_eq id 8) (refuse Forbidden start)
-    (choose (nat_eq id 3) (matrix_unit st start u)
-    (choose (nat_eq id 5 || nat_eq id 9 || nat_eq id 10) (refuse Unsupported start)
-    (done (skipped u))))
+      (choose (nat_eq id 3) (matrix_unit st start u)
+      (choose (nat_eq id 5 || nat_eq id 9 || nat_eq id 10) (refuse Unsupported start)
+      (done (skipped u))))
 
 -- a slice of a picture: its row is neither past the last one nor above that of the slice before it
 unfoldable pub slice_in : State → Sequence → Open → ℕ → ℕ → List ℕ → Among Part

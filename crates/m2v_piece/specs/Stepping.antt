@@ -73,7 +73,6 @@ abbrev pub Turned : Option Stand → Held → List ℕ → Held → List ℕ →
 Turned None h chunk h' chunk' = Reaches h chunk h' chunk'
 Turned (Some stand) h chunk h' chunk' = Fits h' × ((rest : List ℕ) → Stood stand h (chunk ++ rest) h' chunk' rest)
 
-
 -- bytes were read and used, and the pieces of the text are those of what is held then and of what is left
 pub record Advanced (h : Held) (chunk : List ℕ) (left : Option (List ℕ)) (h' : Held) (chunk' : List ℕ) (left' : Option (List ℕ)) : Type 0 where
   pub bytes : List ℕ

@@ -3,10 +3,10 @@ ghost use Rattle.m2v_port.specs.Port.{Rose};
 ghost use Rattle.m2v_piece.specs.Cutting.{Held, Fits, Stops, pieces_behind, start_behind};
 ghost use Rattle.m2v_piece.specs.Stepping.{Turned, Rounded, Looked, Fails, Handed, Stopped, LastOf};
 
-use crate::{DecodeError, Memory, Piece};
 use crate::chunk::Chunk;
 use crate::hand::Hand;
 use crate::taking::{Byte, take};
+use crate::{DecodeError, Memory, Piece};
 use m2v_port::Source;
 use std::alloc::Global;
 use std::marker::Model;

@@ -8,6 +8,10 @@ mod hand;
 mod taking;
 
 pub use answer::{DecodeError, Fault, Piece};
+pub use cutter::Cutter;
 
 /// Want of memory.
 pub type Memory = std::alloc::AllocError;
+
+#[cfg(test)]
+mod tests;

@@ -8,7 +8,7 @@ use Rattle.m2v_plane.specs.Samples.{Samples, plane_by}
 use Rattle.m2v_quant.specs.declared.kind.BlockKind.{BlockKind}
 use Rattle.m2v_quant.specs.Coefficients.{coefficients_of}
 use Rattle.m2v_idct.specs.Inverse.{inverse_of}
-use Rattle.m2v_pred.specs.Predicted.{place_in}
+pub use Rattle.m2v_pred.specs.Predicted.{place_in}
 
 -- where a sample stands among the blocks: the number of its block, and its line and its column there
 pub record BlockPlace : Type 0 where

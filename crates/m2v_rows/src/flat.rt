@@ -2,36 +2,32 @@ use m2v_port::{MemoryFile, MemorySink, MemorySource};
 use m2v_tool::run;
 use std::alloc::{AllocError, Global};
 
-/// What stands before the slice of a stream of one frame: the sequence header and extension, the picture header and
-/// the picture coding extension.
-const HEADERS: [u8; 39] = [
+/// The stream of two frames of 16 by 16 samples that are all 128. The first frame's bytes are 48, the second's 26.
+const TWO: [u8; 78] = [
     0x00, 0x00, 0x01, 0xB3, 0x01, 0x00, 0x10, 0x13, 0x24, 0x9F, 0x23, 0x80, 0x00, 0x00, 0x01, 0xB5,
     0x14, 0x8A, 0x00, 0x01, 0x00, 0x00, 0x00, 0x00, 0x01, 0x00, 0x00, 0x0F, 0xFF, 0xF8, 0x00, 0x00,
-    0x01, 0xB5, 0x8F, 0xFF, 0xF3, 0x41, 0x80,
+    0x01, 0xB5, 0x8F, 0xFF, 0xF3, 0x41, 0x80, 0x00, 0x00, 0x01, 0x01, 0x0B, 0x94, 0xA5, 0x22, 0x20,
+    0x00, 0x00, 0x01, 0x00, 0x00, 0x4F, 0xFF, 0xF8, 0x00, 0x00, 0x01, 0xB5, 0x8F, 0xFF, 0xF3, 0x41,
+    0x80, 0x00, 0x00, 0x01, 0x01, 0x0B, 0x94, 0xA5, 0x22, 0x20, 0x00, 0x00, 0x01, 0xB7,
 ];
 
-/// The slice and the end code where all samples are 128.
-const GREY: [u8; 13] = [
-    0x00, 0x00, 0x01, 0x01, 0x0B, 0x94, 0xA5, 0x22, 0x20, 0x00, 0x00, 0x01, 0xB7,
+/// The stream of one frame of 16 by 16 samples that are all 0.
+const BLACK: [u8; 57] = [
+    0x00, 0x00, 0x01, 0xB3, 0x01, 0x00, 0x10, 0x13, 0x24, 0x9F, 0x23, 0x80, 0x00, 0x00, 0x01, 0xB5,
+    0x14, 0x8A, 0x00, 0x01, 0x00, 0x00, 0x00, 0x00, 0x01, 0x00, 0x00, 0x0F, 0xFF, 0xF8, 0x00, 0x00,
+    0x01, 0xB5, 0x8F, 0xFF, 0xF3, 0x41, 0x80, 0x00, 0x00, 0x01, 0x01, 0x0B, 0xFC, 0xFF, 0x4A, 0x52,
+    0xFE, 0x7F, 0xBF, 0x9F, 0xE0, 0x00, 0x00, 0x01, 0xB7,
 ];
 
-/// The slice and the end code where all samples are 0.
-const BLACK: [u8; 18] = [
-    0x00, 0x00, 0x01, 0x01, 0x0B, 0xFC, 0xFF, 0x4A, 0x52, 0xFE, 0x7F, 0xBF, 0x9F, 0xE0, 0x00, 0x00,
-    0x01, 0xB7,
+/// The stream of one frame of 2 by 2 samples that are all 128.
+const SMALL: [u8; 52] = [
+    0x00, 0x00, 0x01, 0xB3, 0x00, 0x20, 0x02, 0x13, 0x24, 0x9F, 0x23, 0x80, 0x00, 0x00, 0x01, 0xB5,
+    0x14, 0x8A, 0x00, 0x01, 0x00, 0x00, 0x00, 0x00, 0x01, 0x00, 0x00, 0x0F, 0xFF, 0xF8, 0x00, 0x00,
+    0x01, 0xB5, 0x8F, 0xFF, 0xF3, 0x41, 0x80, 0x00, 0x00, 0x01, 0x01, 0x0B, 0x94, 0xA5, 0x22, 0x20,
+    0x00, 0x00, 0x01, 0xB7,
 ];
 
-/// What is run: words, how many bytes of which value are on input, and the numbers of the call that fails of input,
-/// output and report, 0 for none.
-#[derive(Drop)]
-struct Case {
-    words: &'static [&'static str],
-    bytes: usize,
-    sample: u8,
-    fail: [u64; 3],
-}
-
-/// What came of it.
+/// What came of a run.
 #[derive(Drop)]
 struct Answer {
     code: u8,
@@ -39,16 +35,14 @@ struct Answer {
     report: Vec<u8>,
 }
 
-fn ran(alloc: Global, case: &Case) -> Result<Answer, AllocError> {
+/// Runs words on an input; `fail` has the numbers of the call that fails of input, output and report, 0 for none.
+fn ran(alloc: Global, line: &str, bytes: Vec<u8>, fail: [u64; 3]) -> Result<Answer, AllocError> {
     let mut words = Vec::new(alloc);
-    for word in case.words {
+    for word in line.split_whitespace() {
         words.push(String::from_str(alloc, word)?)?;
     }
-    let [input_fails, output_fails, report_fails] = case.fail;
-    let mut input = MemorySource::new(
-        vec![in alloc; case.sample; case.bytes]?,
-        vec![in alloc; input_fails]?,
-    );
+    let [input_fails, output_fails, report_fails] = fail;
+    let mut input = MemorySource::new(bytes, vec![in alloc; input_fails]?);
     let mut output = MemorySink::new(alloc, vec![in alloc; output_fails]?);
     let mut recon = MemoryFile::new(alloc, Vec::new(alloc));
     let mut report = MemorySink::new(alloc, vec![in alloc; report_fails]?);
@@ -67,120 +61,128 @@ fn ran(alloc: Global, case: &Case) -> Result<Answer, AllocError> {
     })
 }
 
-/// What stands on output: the headers and this, or nothing where it is empty.
-fn stream(alloc: Global, slice: &[u8]) -> Result<Vec<u8>, AllocError> {
-    let mut bytes = Vec::new(alloc);
-    if !slice.is_empty() {
-        bytes.extend_from_slice(&HEADERS)?;
-        bytes.extend_from_slice(slice)?;
-    }
-    Ok(bytes)
+const FLAT: &'static str = "flat 16 16 3 1";
+
+/// Whether a run of so many bytes of one value gives this status, this output and this line.
+fn gives(
+    alloc: Global,
+    line: &str,
+    bytes: Vec<u8>,
+    fail: [u64; 3],
+    want: (u8, &[u8], &str),
+) -> Result<bool, AllocError> {
+    let (code, output, report) = want;
+    let came = ran(alloc, line, bytes, fail)?;
+    Ok(
+        came.code == code
+            && came.output.as_slice() == output
+            && came.report.as_slice() == report.as_bytes(),
+    )
 }
 
-const FLAT: &'static [&'static str] = &["flat", "16", "16", "3", "1"];
-
-const GREY_LINE: &'static str = "frames 1 pictures 1 bytes 52 stuffing 0\n";
+/// The first bytes of the stream of two frames.
+fn two(n: usize) -> &'static [u8] {
+    &TWO[..n.min(78)]
+}
 
 #[test]
 fn one_frame_gives_its_stream(rt: HostRuntime) -> Result<(), AllocError> {
+    let alloc = rt.alloc();
+    let black: Vec<u8> = vec![in alloc; 0; 384]?;
+    let line = "frames 1 pictures 1 bytes 57 stuffing 0\n";
+    assert!(rt; gives(alloc, FLAT, black, [0, 0, 0], (0, &BLACK, line))?);
+    let small: Vec<u8> = vec![in alloc; 128; 6]?;
+    let line = "frames 1 pictures 1 bytes 52 stuffing 0\n";
+    assert!(rt;
+        gives(
+            alloc,
+            "flat 0002 02 3 1",
+            small,
+            [0, 0, 0],
+            (0, &SMALL, line)
+        )?
+    );
+    Ok(())
+}
+
+/// The input's bytes, the calls that fail, the status, how much of the stream of two frames stands, and the line.
+#[rattlefmt::skip]
+#[test]
+fn two_frames_and_less(rt: HostRuntime) -> Result<(), AllocError> {
     let table = [
-        (384, 128, [0, 0, 0], 0, GREY.as_slice(), GREY_LINE),
-        (
-            384,
-            0,
-            [0, 0, 0],
-            0,
-            BLACK.as_slice(),
-            "frames 1 pictures 1 bytes 57 stuffing 0\n",
-        ),
-        (
-            383,
-            128,
-            [0, 0, 0],
-            4,
-            b"".as_slice(),
-            "short frame extra 383\n",
-        ),
-        (
-            385,
-            128,
-            [0, 0, 0],
-            4,
-            b"".as_slice(),
-            "short frame extra 385\n",
-        ),
-        (
-            1000,
-            128,
-            [0, 0, 0],
-            4,
-            b"".as_slice(),
-            "short frame extra 385\n",
-        ),
-        (
-            0,
-            128,
-            [0, 0, 0],
-            4,
-            b"".as_slice(),
-            "short frame extra 0\n",
-        ),
-        (384, 128, [1, 0, 0], 7, b"".as_slice(), "read fault\n"),
-        (384, 128, [2, 0, 0], 7, b"".as_slice(), "read fault\n"),
-        (384, 128, [0, 1, 0], 8, b"".as_slice(), "write fault\n"),
-        (384, 128, [0, 0, 1], 8, GREY.as_slice(), ""),
-        (383, 128, [0, 0, 1], 4, b"".as_slice(), ""),
+        (768, [0, 0, 0], 0, 78, "frames 2 pictures 2 bytes 78 stuffing 0\n"),
+        (0, [0, 0, 0], 5, 0, "no frames\n"),
+        (383, [0, 0, 0], 4, 0, "short frame extra 383\n"),
+        (385, [0, 0, 0], 4, 48, "short frame extra 1\n"),
+        (767, [0, 0, 0], 4, 48, "short frame extra 383\n"),
+        (768, [1, 0, 0], 7, 0, "read fault\n"),
+        (768, [2, 0, 0], 7, 48, "read fault\n"),
+        (768, [3, 0, 0], 7, 74, "read fault\n"),
+        (768, [0, 1, 0], 8, 0, "write fault\n"),
+        (768, [0, 2, 0], 8, 48, "write fault\n"),
+        (768, [0, 3, 0], 8, 74, "write fault\n"),
+        (768, [0, 0, 1], 8, 78, ""),
+        (385, [0, 0, 1], 4, 48, ""),
     ];
-    for (bytes, sample, fail, code, slice, report) in table {
-        let case = Case {
-            words: FLAT,
-            bytes,
-            sample,
-            fail,
-        };
-        let ran = ran(rt.alloc(), &case)?;
-        assert_eq!(rt; ran.code, code, "{bytes} bytes {sample}");
-        assert!(rt;
-            ran.output == stream(rt.alloc(), slice)?,
-            "{bytes} bytes {sample}"
-        );
-        assert!(rt;
-            ran.report.as_slice() == report.as_bytes(),
-            "{bytes} bytes {sample}"
-        );
+    for (bytes, fail, code, written, report) in table {
+        let grey: Vec<u8> = vec![in rt.alloc(); 128; bytes]?;
+        let same = gives(rt.alloc(), FLAT, grey, fail, (code, two(written), report))?;
+        assert!(rt; same, "{bytes} bytes, {code}");
     }
     Ok(())
 }
 
+#[rattlefmt::skip]
 #[test]
-fn other_words_are_refused(rt: HostRuntime) -> Result<(), AllocError> {
-    let table: [&'static [&'static str]; 14] = [
-        &[],
-        &["flat"],
-        &["flat", "16", "16", "x", "1"],
-        &["flat", "16", "16", "3"],
-        &["flat", "16", "16", "3", "1", "1"],
-        &["flat", "16", "16", "3", "0"],
-        &["flat", "16", "16", "3", "32"],
-        &["flat", "16", "16", "3", "+1"],
-        &["flat", "16", "16", "3", "-1"],
-        &["flat", "16", "16", "3", ""],
-        &["flat", "16", "16", "3", "4294967297"],
-        &["flat", "16", "32", "3", "1"],
-        &["frobnicate", "16", "16", "3", "1"],
-        &["--help"],
+fn settings_and_words_are_refused(rt: HostRuntime) -> Result<(), AllocError> {
+    let table = [
+        ("flat 16 16 3 32", 3, "unfit rule 7 have 32 need 31\n"),
+        ("flat 16 16 3 0", 3, "unfit rule 7 have 0 need 1\n"),
+        ("flat 15 16 3 1", 3, "unfit rule 1 have 1 need 0\n"),
+        ("flat 17 33 3 1", 3, "unfit rule 1 have 1 need 0\n"),
+        ("flat 16 578 6 32", 3, "unfit rule 1 have 578 need 576\n"),
+        ("flat 16 16 6 1", 3, "unfit rule 1 have 6 need 5\n"),
+        ("flat 720 576 5 1", 3, "unfit rule 1 have 298598400000 need 248832000000\n"),
+        ("flat 4294967295 16 3 1", 3, "unfit rule 1 have 4294967295 need 720\n"),
+        ("", 2, "usage\n"),
+        ("flat", 2, "usage\n"),
+        ("flat 16 16 x 1", 2, "usage\n"),
+        ("flat 16 16 3", 2, "usage\n"),
+        ("flat 16 16 3 1 1", 2, "usage\n"),
+        ("flat 16 16 3 +1", 2, "usage\n"),
+        ("flat 16 16 -3 1", 2, "usage\n"),
+        ("flat 4294967296 16 3 1", 2, "usage\n"),
+        ("frobnicate 16 16 3 1", 2, "usage\n"),
+        ("--help", 2, "usage\n"),
     ];
-    for words in table {
-        let case = Case {
-            words,
-            bytes: 384,
-            sample: 128,
-            fail: [0, 0, 0],
-        };
-        let ran = ran(rt.alloc(), &case)?;
-        assert_eq!(rt; ran.code, 2);
-        assert!(rt; ran.output.is_empty());
-        assert!(rt; ran.report.as_slice() == b"usage\n".as_slice());
+    for (words, code, report) in table {
+        let input: Vec<u8> = vec![in rt.alloc(); 128; 384]?;
+        let same = gives(rt.alloc(), words, input, [0, 0, 0], (code, b"", report))?;
+        assert!(rt; same, "{words}");
     }
+    Ok(())
+}
+
+/// A number that tells byte strings apart.
+fn told_by(bytes: &[u8]) -> u32 {
+    let mut sum = 0u32;
+    for byte in bytes {
+        sum = sum.wrapping_mul(31).wrapping_add(u32::from(*byte));
+    }
+    sum
+}
+
+/// The length and the number of the output are those of an encoder that was written apart from this one, over strings
+/// of binary digits.
+#[test]
+fn a_frame_of_720_by_576(rt: HostRuntime) -> Result<(), AllocError> {
+    let mut input = Vec::new(rt.alloc());
+    for k in 0..622_080u64 {
+        input.push(((k / 3 + 13 * (k / 1009)) % 256) as u8)?;
+    }
+    let came = ran(rt.alloc(), "flat 720 576 3 5", input, [0, 0, 0])?;
+    assert_eq!(rt; came.code, 0);
+    assert_eq!(rt; came.output.len(), 11_495);
+    assert_eq!(rt; told_by(&came.output), 2_260_740_221);
     Ok(())
 }

@@ -1,7 +1,8 @@
 -- The five words of the flat profile.
-use Rattle.std.proofs.Common.{◌≡◌, ℕ, ◌+◌, ◌<◌, ◌≤◌, List, [], ◌∷◌, map, length, get_or, refl, ap, sym, subst, arith, Option, Some, None, IfSome, IsNone}
-use Rattle.std.specs.Prelude.{codes}
-use Rattle.m2v_tool.specs.Words.{IsNumber, IsFlat}
+use Rattle.std.proofs.Common.{◌≡◌, ℕ, ◌<◌, ◌≤◌, List, [], ◌∷◌, map, length, get_or, ap, sym, subst, ◌∙◌, arith}
+use Rattle.std.specs.Str.Parse.{digits_value}
+use Rattle.m2v_tool.specs.declared.words.FlatWords.{FlatWords}
+use Rattle.m2v_tool.specs.Words.{IsNumber, AreNumbers, IsFlat, NotFlat}
 
 pub five : {X : Type 0} (f : X → List ℕ) (xs : List X) (a b c d e : X) → 5 ≤ length xs → length xs < 6
     → a ≡ get_or xs 0 a → b ≡ get_or xs 1 b → c ≡ get_or xs 2 c → d ≡ get_or xs 3 d → e ≡ get_or xs 4 e
@@ -14,24 +15,43 @@ five f (v ∷ w ∷ x ∷ y ∷ []) a b c d e least most pa pb pc pd pe = absurd
 five f (v ∷ w ∷ x ∷ y ∷ z ∷ []) a b c d e least most pa pb pc pd pe = cc
 five f (v ∷ w ∷ x ∷ y ∷ z ∷ u ∷ more) a b c d e least most pa pb pc pd pe = absurd (omega arith)
 
-pub words_found : (n w h c k : List ℕ) (words : List (List ℕ)) (r : Option ℕ) → words ≡ n ∷ w ∷ h ∷ c ∷ k ∷ [] → n ≡ codes "flat" → IsNumber w 16 → IsNumber h 16 → IsNumber c 3
-    → IfSome r (λ q. IsNumber k q × (1 ≤ q) × (q ≤ 31)) → IfSome r (λ q. IsFlat words q)
-words_found n w h c k words None are name wi he co qu = tt
-words_found n w h c k words (Some q) are name wi he co qu = record {
-  width = w;
-  height = h;
-  code = c;
-  quantiser = k;
-  are = cc;
-  width_is = wi;
-  height_is = he;
-  code_is = co;
-  quantiser_is = qu.0;
-  least = qu.1;
-  most = qu.2;
-}
+pub words_none : (n w h c k : List ℕ) (words : List (List ℕ)) → words ≡ n ∷ w ∷ h ∷ c ∷ k ∷ []
+    → ((m : FlatWords) → AreNumbers w h c k m → ⊥) → NotFlat words
+words_none n w h c k words are none m is =
+    let width : is.width ≡ w = cc (is.are) in
+    let height : is.height ≡ h = cc (is.are) in
+    let code : is.code ≡ c = cc (is.are) in
+    let quantiser : is.quantiser ≡ k = cc (is.are) in
+    none m (record {
+      width_is = subst (λ (x : List ℕ). IsNumber x m.width) width is.numbers.width_is;
+      height_is = subst (λ (x : List ℕ). IsNumber x m.height) height is.numbers.height_is;
+      code_is = subst (λ (x : List ℕ). IsNumber x m.rate_code) code is.numbers.code_is;
+      quantiser_is = subst (λ (x : List ℕ). IsNumber x m.quantiser) quantiser is.numbers.quantiser_is;
+    })
 
-pub words_none : (n w h c k : List ℕ) (words : List (List ℕ)) → words ≡ n ∷ w ∷ h ∷ c ∷ k ∷ [] → ((q : ℕ) → IsNumber k q → 1 ≤ q → q ≤ 31 → ⊥) → (q : ℕ) → IsFlat words q → ⊥
-words_none n w h c k words are none q is =
-    let same : is.quantiser ≡ k = cc in
-    none q (subst (λ (x : List ℕ). IsNumber x q) same is.quantiser_is) is.least is.most
+same_number : (v w : List ℕ) (m n : ℕ) → v ≡ w → IsNumber v m → IsNumber w n → m ≡ n
+same_number v w m n e a b = sym a.value ∙ ap (digits_value 10) e ∙ b.value
+
+pub record SameWords (a b : FlatWords) : Type 0 where
+  pub width : a.width ≡ b.width
+  pub height : a.height ≡ b.height
+  pub rate_code : a.rate_code ≡ b.rate_code
+  pub quantiser : a.quantiser ≡ b.quantiser
+
+alike : (a b : FlatWords) → SameWords a b → a ≡ b
+alike a b h = λ i. record { width = h.width i; height = h.height i; rate_code = h.rate_code i; quantiser = h.quantiser i }
+
+-- words have one meaning
+pub one_meaning : (words : List (List ℕ)) (a b : FlatWords) → IsFlat words a → IsFlat words b → a ≡ b
+one_meaning words a b f g =
+    let e = sym f.are ∙ g.are in
+    let width : f.width ≡ g.width = cc e in
+    let height : f.height ≡ g.height = cc e in
+    let code : f.code ≡ g.code = cc e in
+    let quantiser : f.quantiser ≡ g.quantiser = cc e in
+    alike a b (record {
+      width = same_number f.width g.width a.width b.width width f.numbers.width_is g.numbers.width_is;
+      height = same_number f.height g.height a.height b.height height f.numbers.height_is g.numbers.height_is;
+      rate_code = same_number f.code g.code a.rate_code b.rate_code code f.numbers.code_is g.numbers.code_is;
+      quantiser = same_number f.quantiser g.quantiser a.quantiser b.quantiser quantiser f.numbers.quantiser_is g.numbers.quantiser_is;
+    })

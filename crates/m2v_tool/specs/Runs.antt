@@ -1,32 +1,44 @@
--- What the program does, command by command.
-use Rattle.std.specs.Prelude.{ℕ, ◌≡◌, ◌≢◌, ◌⊎◌, List, Option}
+-- What the program does: which outcome comes, what stands in input and output then, and what is put on report.
+use Rattle.std.specs.Prelude.{ℕ, ◌≡◌, ◌+◌, ◌*◌, ◌<◌, ◌≤◌, ◌⊎◌, List}
 use Rattle.m2v_port.specs.Port.{Grows, GrowsByPrefix}
-use Rattle.m2v_encode.specs.Answers.{NotOneFrame, Coded, CodedInPart, frame_bytes}
+use Rattle.m2v_plane.specs.Raw.{frame_bytes}
+use Rattle.m2v_encode.specs.declared.answer.EncodeError.{EncodeError}
+use Rattle.m2v_encode.specs.declared.answer.EncodeError.TheVariants as Error
+use Rattle.m2v_encode.specs.Answers.{Change, Coded, Stops, most_frames}
+use Rattle.m2v_tool.specs.declared.words.FlatWords.{FlatWords}
 use Rattle.m2v_tool.specs.declared.outcome.Outcome.{Outcome}
-use Rattle.m2v_tool.specs.declared.outcome.Outcome.TheVariants.{Done, Usage, ShortFrame, ReadFault, WriteFault, NoMemory}
+use Rattle.m2v_tool.specs.declared.outcome.Outcome.TheVariants.{Done, Usage, BadSettings, ShortFrame, NoFrames, TooManyFrames, ReadFault, WriteFault, NoMemory}
 use Rattle.m2v_tool.specs.Outcomes.{status_of, status_unreported, line_of}
-use Rattle.m2v_tool.specs.Words.{IsFlat}
+use Rattle.m2v_tool.specs.Words.{IsFlat, NotFlat, settings_of, WordsPass, WordsFail}
 
--- what an endpoint tells, before and after
-pub record Change : Type 0 where
-  pub old : Option (List ℕ)
-  pub new : Option (List ℕ)
+-- The words are `flat` with settings that pass, and coding stopped.
+pub record FlatStops (InputRose OutputSame OutputRose : Type 0) (words : List (List ℕ)) (left held : Change) (e : EncodeError) : Type 0 where
+  pub meant : FlatWords
+  pub words_are : IsFlat words meant
+  pub passes : WordsPass meant
+  pub stops : Stops OutputSame InputRose OutputRose (settings_of meant) left held e
 
 -- When each outcome comes, and what stands then. `InputSame` and `OutputSame` say that the endpoint is as it was, its
 -- count too; `InputRose` and `OutputRose` that its count rose.
 unfoldable pub Comes : (InputSame InputRose OutputSame OutputRose : Type 0) → List (List ℕ) → Change → Change → Outcome → Type 0
 Comes InputSame InputRose OutputSame OutputRose words left held (Done s) =
-    (q : ℕ) × IsFlat words q × Coded q left.old left.new held.old held.new s
+    (w : FlatWords) × IsFlat words w × WordsPass w × Coded (settings_of w) left held s
 Comes InputSame InputRose OutputSame OutputRose words left held Usage =
-    ((q : ℕ) → IsFlat words q → ⊥) × InputSame × OutputSame
+    NotFlat words × InputSame × OutputSame
+Comes InputSame InputRose OutputSame OutputRose words left held (BadSettings u) =
+    (w : FlatWords) × IsFlat words w × WordsFail w u × InputSame × OutputSame
 Comes InputSame InputRose OutputSame OutputRose words left held (ShortFrame extra) =
-    (q : ℕ) × IsFlat words q × NotOneFrame left.old left.new extra × OutputSame
+    FlatStops InputRose OutputSame OutputRose words left held (Error.ShortFrame extra)
+Comes InputSame InputRose OutputSame OutputRose words left held NoFrames =
+    FlatStops InputRose OutputSame OutputRose words left held Error.NoFrames
+Comes InputSame InputRose OutputSame OutputRose words left held TooManyFrames =
+    FlatStops InputRose OutputSame OutputRose words left held Error.TooManyFrames
 Comes InputSame InputRose OutputSame OutputRose words left held ReadFault =
-    (q : ℕ) × IsFlat words q × InputRose × OutputSame
+    FlatStops InputRose OutputSame OutputRose words left held Error.Read
 Comes InputSame InputRose OutputSame OutputRose words left held WriteFault =
-    (q : ℕ) × IsFlat words q × OutputRose × CodedInPart q left.old left.new held.old held.new
+    FlatStops InputRose OutputSame OutputRose words left held Error.Write
 Comes InputSame InputRose OutputSame OutputRose words left held NoMemory =
-    (q : ℕ) × IsFlat words q × (OutputSame ⊎ CodedInPart q left.old left.new held.old held.new)
+    FlatStops InputRose OutputSame OutputRose words left held Error.Memory
 
 -- What is put on report of an outcome, and the status. Where the report fails or memory runs out there, a prefix of
 -- the line is put.
@@ -40,11 +52,31 @@ pub record Ran (InputSame InputRose OutputSame OutputRose ReportRose : Type 0) (
   pub comes : Comes InputSame InputRose OutputSame OutputRose words left held outcome
   pub told : Told outcome status report ReportRose
 
--- The status that an input of so many bytes gives: success for one whole frame, a short frame for any other input, but
--- where memory runs out or an endpoint's count rose.
-pub data Answers (InputRose WriteRose : Type 0) (bytes status : ℕ) : Type 0 where
-  ok : bytes ≡ frame_bytes → status ≡ 0 → Answers InputRose WriteRose bytes status
-  short : bytes ≢ frame_bytes → status ≡ 4 → Answers InputRose WriteRose bytes status
-  read : InputRose → status ≡ 7 → Answers InputRose WriteRose bytes status
-  write : bytes ≡ frame_bytes → WriteRose → status ≡ 8 → Answers InputRose WriteRose bytes status
-  memory : status ≡ 12 → Answers InputRose WriteRose bytes status
+-- so many bytes are whole frames of a size, 1 to 999,999 of them
+pub record AreFrames (size bytes : ℕ) : Type 0 where
+  pub frames : ℕ
+  pub some : 1 ≤ frames
+  pub most : frames ≤ most_frames
+  pub are : bytes ≡ frames * size
+
+-- so many bytes end inside one of the frames that an input may have
+pub record EndInside (size bytes : ℕ) : Type 0 where
+  pub frames : ℕ
+  pub extra : ℕ
+  pub fewer : frames < most_frames
+  pub some : 0 < extra
+  pub less : extra < size
+  pub are : bytes ≡ frames * size + extra
+
+-- The status that `flat` gives by its words and the number of input's bytes: the first cause in the order settings,
+-- input. In its place may come 12, and where the settings pass 7 or 8 where a count rose.
+pub data Answers (InputRose OutputRose ReportRose : Type 0) (w : FlatWords) (bytes status : ℕ) : Type 0 where
+  unfit : (WordsPass w → ⊥) → status ≡ 3 → Answers InputRose OutputRose ReportRose w bytes status
+  ok : WordsPass w → AreFrames (frame_bytes (settings_of w).dims) bytes → status ≡ 0 → Answers InputRose OutputRose ReportRose w bytes status
+  short : WordsPass w → EndInside (frame_bytes (settings_of w).dims) bytes → status ≡ 4 → Answers InputRose OutputRose ReportRose w bytes status
+  none : WordsPass w → bytes ≡ 0 → status ≡ 5 → Answers InputRose OutputRose ReportRose w bytes status
+  many : WordsPass w → most_frames * frame_bytes (settings_of w).dims < bytes → status ≡ 6 → Answers InputRose OutputRose ReportRose w bytes status
+  read : WordsPass w → InputRose → status ≡ 7 → Answers InputRose OutputRose ReportRose w bytes status
+  write : WordsPass w → OutputRose → status ≡ 8 → Answers InputRose OutputRose ReportRose w bytes status
+  unreported : WordsPass w → AreFrames (frame_bytes (settings_of w).dims) bytes → ReportRose → status ≡ 8 → Answers InputRose OutputRose ReportRose w bytes status
+  memory : status ≡ 12 → Answers InputRose OutputRose ReportRose w bytes status

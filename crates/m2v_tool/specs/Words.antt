@@ -1,22 +1,45 @@
 -- The words of the commands.
-use Rattle.std.specs.Prelude.{ℕ, ◌≡◌, ◌<◌, ◌≤◌, ◌^◌, List, [], ◌∷◌, codes}
+use Rattle.std.specs.Prelude.{ℕ, ◌≡◌, ◌<◌, ◌^◌, List, [], ◌∷◌, codes}
 use Rattle.std.specs.Str.Parse.{IsNumeral, digits_value}
+use Rattle.m2v_set.specs.Numbers.{flat_dims}
+use Rattle.m2v_set.specs.Rules.{FlatPasses, FlatUnfit}
+use Rattle.m2v_set.specs.declared.unfit.Unfit.{Unfit}
+use Rattle.m2v_encode.specs.declared.settings.FlatSettings.{FlatSettings}
+use Rattle.m2v_tool.specs.declared.words.FlatWords.{FlatWords}
 
--- a word of decimal digits without a sign, and its value
+-- a word of decimal digits without a sign whose value fits 32 bits, and its value
 pub record IsNumber (word : List ℕ) (n : ℕ) : Type 0 where
   pub digits : IsNumeral 10 word
   pub value : digits_value 10 word ≡ n
+  pub fits : n < 2 ^ 32
 
--- the words `flat 16 16 3 Q`: a width, a height, a frame rate code and a quantiser code
-pub record IsFlat (words : List (List ℕ)) (q : ℕ) : Type 0 where
+-- a width, a height, a frame rate code and a quantiser code
+pub record AreNumbers (width height code quantiser : List ℕ) (w : FlatWords) : Type 0 where
+  pub width_is : IsNumber width w.width
+  pub height_is : IsNumber height w.height
+  pub code_is : IsNumber code w.rate_code
+  pub quantiser_is : IsNumber quantiser w.quantiser
+
+-- the words `flat W H CODE Q`
+pub record IsFlat (words : List (List ℕ)) (w : FlatWords) : Type 0 where
   pub width : List ℕ
   pub height : List ℕ
   pub code : List ℕ
   pub quantiser : List ℕ
   pub are : words ≡ codes "flat" ∷ width ∷ height ∷ code ∷ quantiser ∷ []
-  pub width_is : IsNumber width 16
-  pub height_is : IsNumber height 16
-  pub code_is : IsNumber code 3
-  pub quantiser_is : IsNumber quantiser q
-  pub least : 1 ≤ q
-  pub most : q ≤ 31
+  pub numbers : AreNumbers width height code quantiser w
+
+-- no such words
+abbrev pub NotFlat : List (List ℕ) → Type 0
+NotFlat words = (w : FlatWords) → IsFlat words w → ⊥
+
+-- the settings that they are
+abbrev pub settings_of : FlatWords → FlatSettings
+settings_of w = record { dims = flat_dims w.width w.height; rate_code = w.rate_code; quantiser = w.quantiser }
+
+-- whether these pass their part of the published test, and the first condition that fails
+abbrev pub WordsPass : FlatWords → Type 0
+WordsPass w = FlatPasses w.width w.height w.rate_code w.quantiser
+
+abbrev pub WordsFail : FlatWords → Unfit → Type 0
+WordsFail w u = FlatUnfit w.width w.height w.rate_code w.quantiser u

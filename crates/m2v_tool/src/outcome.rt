@@ -2,6 +2,7 @@ ghost use Rattle.std.specs.Prelude.{◌≡◌};
 ghost use Rattle.m2v_tool.specs.Outcomes.{status_of, status_unreported};
 
 use m2v_encode::Summary;
+use m2v_set::Unfit;
 
 /// How the program ends: its exit status.
 #[derive(Clone, Copy, Debug, PartialEq, Eq)]
@@ -17,8 +18,14 @@ pub enum Outcome {
     Done(Summary),
     /// The words are no command.
     Usage,
-    /// The raw input isn't one whole frame; `extra` counts its bytes, up to one more than a frame has.
+    /// The settings don't pass the published test: the first condition that fails.
+    BadSettings(Unfit),
+    /// The raw input ends inside a frame, of which it has `extra` bytes.
     ShortFrame { extra: u64 },
+    /// The raw input is empty.
+    NoFrames,
+    /// A byte follows the last frame that a raw input may have.
+    TooManyFrames,
     /// The input failed.
     ReadFault,
     /// The output failed.
@@ -36,7 +43,10 @@ impl Outcome {
         let code = match self {
             Outcome::Done(_) => 0,
             Outcome::Usage => 2,
+            Outcome::BadSettings(_) => 3,
             Outcome::ShortFrame { extra: _ } => 4,
+            Outcome::NoFrames => 5,
+            Outcome::TooManyFrames => 6,
             Outcome::ReadFault => 7,
             Outcome::WriteFault => 8,
             Outcome::NoMemory => 12,

@@ -1,18 +1,36 @@
-ghost use Rattle.std.specs.Prelude.{◌≡◌, ◌≢◌, ◌⊎◌, ℕ, ◌≤◌, map, string_bytes, length, IsTrue, IsFalse, IfSome};
+ghost use Rattle.std.specs.Prelude.{◌≡◌, ◌⊎◌, ◌≤◌, map, string_bytes, length, IsTrue, IsFalse, IfSome};
 ghost use Rattle.m2v_port.specs.Port.{Rose};
-ghost use Rattle.m2v_tool.specs.Words.{IsFlat};
-ghost use Rattle.m2v_tool.specs.Outcomes.{status_of, status_unreported, line_of};
-ghost use Rattle.m2v_tool.specs.Runs.{Change, Comes, Told, Ran, Answers};
+ghost use Rattle.m2v_plane.specs.Raw.{frame_bytes};
+ghost use Rattle.m2v_encode.specs.Answers.{Change};
+ghost use Rattle.m2v_tool.specs.declared.words.FlatWords.{FlatWords};
+ghost use Rattle.m2v_tool.specs.Words.{IsFlat, NotFlat, WordsPass, settings_of};
+ghost use Rattle.m2v_tool.specs.Outcomes.{outcome_of, status_of, status_unreported, line_of};
+ghost use Rattle.m2v_tool.specs.Runs.{Comes, Told, Ran, Answers, AreFrames};
 
 use crate::line::line;
 use crate::outcome::{Outcome, Status};
 use crate::words::flat_words;
-use m2v_encode::{EncodeError, flat};
+use m2v_encode::{EncodeError, FlatSettings, flat};
 use m2v_port::{NamedSink, PortError, Sink, Source};
+use m2v_set::test_flat;
 use std::alloc::Global;
 
+/// The outcome of an encoder that stopped.
+#[tactic(auto, unfolding(crate::specs::Outcomes::outcome_of))]
+fn stopped(error: EncodeError) -> Outcome
+    ensures { result ≡ outcome_of error }
+{
+    match error {
+        EncodeError::Read => Outcome::ReadFault,
+        EncodeError::Write => Outcome::WriteFault,
+        EncodeError::ShortFrame { extra } => Outcome::ShortFrame { extra },
+        EncodeError::NoFrames => Outcome::NoFrames,
+        EncodeError::TooManyFrames => Outcome::TooManyFrames,
+        EncodeError::Memory => Outcome::NoMemory,
+    }
+}
+
 /// Does what the words say, all but the report.
-#[tactic(auto, unfolding(crate::specs::Runs::Comes))]
 fn carried_out<S: Source, K: Sink>(
     alloc: Global,
     words: &[String],
@@ -26,15 +44,21 @@ fn carried_out<S: Source, K: Sink>(
     ensures input_faults { S.faults input.old ≤ S.faults input.new }
     ensures output_faults { K.faults output.old ≤ K.faults output.new }
 {
-    let Some(quantiser) = flat_words(words) else {
+    let Some(meant) = flat_words(words) else {
         return Outcome::Usage;
     };
-    match flat(alloc, quantiser, input, output) {
+    let dims = match test_flat(meant.width, meant.height, meant.rate_code, meant.quantiser) {
+        Ok(dims) => dims,
+        Err(unfit) => return Outcome::BadSettings(unfit),
+    };
+    let settings = FlatSettings {
+        dims,
+        rate_code: meant.rate_code,
+        quantiser: meant.quantiser,
+    };
+    match flat(alloc, &settings, input, output) {
         Ok(summary) => Outcome::Done(summary),
-        Err(EncodeError::Read) => Outcome::ReadFault,
-        Err(EncodeError::Write) => Outcome::WriteFault,
-        Err(EncodeError::ShortFrame { extra }) => Outcome::ShortFrame { extra },
-        Err(EncodeError::Memory) => Outcome::NoMemory,
+        Err(error) => stopped(error),
     }
 }
 
@@ -58,8 +82,9 @@ fn reported<E: Sink>(alloc: Global, outcome: &Outcome, report: &mut E) -> Status
 
 /// Does all that the program does.
 ///
-/// `words` are those behind the program's name. Today the command `flat 16 16 3 Q` exists, with Q from 1 to 31: it
-/// codes one raw frame of 16 by 16 samples, 384 bytes, from `input` to `output`. `recon` isn't used yet.
+/// `words` are those behind the program's name. Today the command `flat W H CODE Q` exists: it codes the raw frames of
+/// `input`, 1 to 999,999 of them, each W by H samples, to `output` by the flat profile, with the frame rate code CODE
+/// and the quantiser code Q. `recon` isn't used yet.
 pub fn run<S: Source, K: Sink, N: NamedSink, E: Sink>(
     alloc: Global,
     words: &[String],
@@ -74,9 +99,13 @@ pub fn run<S: Source, K: Sink, N: NamedSink, E: Sink>(
     // Which outcome came, what stands in input and output, what was put on report, and the status.
     ensures ran { Ran (input.new ≡ input.old) (Rose (S.faults input.old) (S.faults input.new)) (output.new ≡ output.old) (Rose (K.faults output.old) (K.faults output.new)) (Rose (E.faults report.old) (E.faults report.new)) (map string_bytes words.now) (record { old = S.left input.old; new = S.left input.new }) (record { old = K.held output.old; new = K.held output.new }) (record { old = E.held report.old; new = E.held report.new }) result.code }
     // Words that are no command are refused, and nothing else is looked at.
-    ensures refused { ((q : ℕ) → IsFlat (map string_bytes words.now) q → ⊥) → ((result.code ≡ 2) ⊎ (result.code ≡ 12)) × (input.new ≡ input.old) × (output.new ≡ output.old) }
-    // For words that are a command the status is the one that the input's bytes give.
-    ensures answer { IfSome (S.left input.old) (λ bytes. (q : ℕ) → IsFlat (map string_bytes words.now) q → Answers (Rose (S.faults input.old) (S.faults input.new)) (Rose (K.faults output.old) (K.faults output.new) ⊎ Rose (E.faults report.old) (E.faults report.new)) (length bytes) result.code) }
+    ensures refused { NotFlat (map string_bytes words.now) → ((result.code ≡ 2) ⊎ (result.code ≡ 12)) × (input.new ≡ input.old) × (output.new ≡ output.old) }
+    // Settings that don't pass are refused, and nothing else is looked at.
+    ensures unfit { (w : FlatWords) → IsFlat (map string_bytes words.now) w → (WordsPass w → ⊥) → ((result.code ≡ 3) ⊎ (result.code ≡ 12)) × (input.new ≡ input.old) × (output.new ≡ output.old) }
+    // For words that are a command the status is the one that the settings and the input's bytes give.
+    ensures answer { IfSome (S.left input.old) (λ bytes. (w : FlatWords) → IsFlat (map string_bytes words.now) w → Answers (Rose (S.faults input.old) (S.faults input.new)) (Rose (K.faults output.old) (K.faults output.new)) (Rose (E.faults report.old) (E.faults report.new)) w (length bytes) result.code) }
+    // Whole frames with settings that pass are coded, where no count rose and memory is there.
+    ensures complete { IfSome (S.left input.old) (λ bytes. (w : FlatWords) → IsFlat (map string_bytes words.now) w → WordsPass w → AreFrames (frame_bytes (settings_of w).dims) (length bytes) → (Rose (S.faults input.old) (S.faults input.new) → ⊥) → (Rose (K.faults output.old) (K.faults output.new) → ⊥) → (Rose (E.faults report.old) (E.faults report.new) → ⊥) → (result.code ≡ 0) ⊎ (result.code ≡ 12)) }
     ensures recon { recon.new ≡ recon.old }
     ensures output { IsTrue (K.ready output.new) × (K.name output.new ≡ K.name output.old) × (K.faults output.old ≤ K.faults output.new) }
     ensures report { IsTrue (E.ready report.new) × (E.name report.new ≡ E.name report.old) × (E.faults report.old ≤ E.faults report.new) }

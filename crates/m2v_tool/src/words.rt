@@ -1,7 +1,21 @@
-ghost use Rattle.std.specs.Prelude.{◌≡◌, ℕ, ◌<◌, ◌≤◌, ◌^◌, ◌↔◌, map, codes, string_bytes, IsTrue, IfSome, IsNone};
+ghost use Rattle.std.specs.Prelude.{◌≡◌, ◌<◌, ◌^◌, ◌↔◌, map, codes, string_bytes, IsTrue, IfSome, IsNone};
 ghost use Rattle.std.specs.Option.{SomeIff};
 ghost use Rattle.std.specs.Str.Parse.{IsNumeral, digits_value};
-ghost use Rattle.m2v_tool.specs.Words.{IsFlat, IsNumber};
+ghost use Rattle.m2v_tool.specs.declared.words.FlatWords.{FlatWords};
+ghost use Rattle.m2v_tool.specs.Words.{IsFlat, IsNumber, NotFlat, AreNumbers};
+
+/// The numbers of the words `flat W H CODE Q`, whatever they are.
+#[derive(Clone, Copy, Debug, PartialEq, Eq)]
+pub struct FlatWords {
+    /// Luma samples in a line.
+    pub width: u32,
+    /// Lines of a frame.
+    pub height: u32,
+    /// The frame rate code.
+    pub rate_code: u32,
+    /// The quantiser code.
+    pub quantiser: u32,
+}
 
 /// A number of decimal digits without a sign, where it fits.
 fn number(word: &str) -> Option<u32>
@@ -13,13 +27,6 @@ fn number(word: &str) -> Option<u32>
     word.parse::<u32>().ok()
 }
 
-/// Whether the word is the number.
-fn is_number(word: &str, n: u32) -> bool
-    ensures { IsTrue result ↔ IsNumber word.now n }
-{
-    number(word) == Some(n)
-}
-
 /// Whether the word is the name of the flat profile.
 fn is_flat(word: &str) -> bool
     ensures { IsTrue result ↔ (word.now ≡ codes "flat") }
@@ -27,31 +34,34 @@ fn is_flat(word: &str) -> bool
     word == "flat"
 }
 
-/// Whether the word is a quantiser code, and which.
-fn quantiser_of(word: &str) -> Option<u8>
-    ensures found { IfSome result (λ q. IsNumber word.now q × (1 ≤ q) × (q ≤ 31)) }
-    ensures none { IsNone result → (q : ℕ) → IsNumber word.now q → 1 ≤ q → q ≤ 31 → ⊥ }
+/// The four numbers of the flat profile.
+fn numbers(width: &str, height: &str, code: &str, quantiser: &str) -> Option<FlatWords>
+    ensures found { IfSome result (AreNumbers width.now height.now code.now quantiser.now) }
+    ensures none { IsNone result → (w : FlatWords) → AreNumbers width.now height.now code.now quantiser.now w → ⊥ }
 {
-    match number(word) {
-        Some(q) if 1 <= q && q <= 31 => Some(q as u8),
-        _ => None,
-    }
+    Some(FlatWords {
+        width: number(width)?,
+        height: number(height)?,
+        rate_code: number(code)?,
+        quantiser: number(quantiser)?,
+    })
 }
 
-/// The quantiser code of the words `flat 16 16 3 Q`, with Q from 1 to 31.
-pub fn flat_words(words: &[String]) -> Option<u8>
-    ensures found { IfSome result (λ q. IsFlat (map string_bytes words.now) q) }
-    ensures none { IsNone result → (q : ℕ) → IsFlat (map string_bytes words.now) q → ⊥ }
+/// The numbers of the words `flat W H CODE Q`, four decimal numbers without a sign.
+pub fn flat_words(words: &[String]) -> Option<FlatWords>
+    ensures found { IfSome result (λ w. IsFlat (map string_bytes words.now) w) }
+    ensures none { IsNone result → NotFlat (map string_bytes words.now) }
 {
     let [name, width, height, code, quantiser] = words else {
         return None;
     };
-    if !is_flat(name.as_str())
-        || !is_number(width.as_str(), 16)
-        || !is_number(height.as_str(), 16)
-        || !is_number(code.as_str(), 3)
-    {
+    if !is_flat(name.as_str()) {
         return None;
     }
-    quantiser_of(quantiser.as_str())
+    numbers(
+        width.as_str(),
+        height.as_str(),
+        code.as_str(),
+        quantiser.as_str(),
+    )
 }

@@ -1,11 +1,11 @@
 -- Codes and residuals of differences.
-use Rattle.std.proofs.Common.{◌≡◌, ℕ, zero, suc, ◌+◌, ◌-◌, ◌*◌, ◌/◌, ◌%◌, ◌<◌, ◌≤◌, Bool, true, false, cond, ℤ, pos, negsuc, neg_ℤ, ◌+ℤ◌, ◌-ℤ◌, ◌<ℤ◌, ◌≤ℤ◌, ◌⊎◌, inl, inr, arith, refl, ap, sym, subst, ◌∙◌}
-use Rattle.std.specs.Prelude.{nat_eq, ◌||◌, unsigned_abs}
+use Rattle.std.proofs.Common.{◌≡◌, ℕ, zero, suc, ◌+◌, ◌-◌, ◌*◌, ◌/◌, ◌%◌, ◌<◌, ◌≤◌, false, ℤ, pos, negsuc, neg_ℤ, ◌⊎◌, inl, inr, arith, refl, ap, sym, ◌∙◌}
+use Rattle.std.specs.Prelude.{nat_eq, unsigned_abs}
 use Rattle.std.proofs.lemmas.Int.{ints}
 use Rattle.std.proofs.lemmas.Bool.{cases_Bool, eqb-true, eqb-false, ne_eqb}
 use Rattle.std.proofs.lemmas.Nat.{div-mul-add, div-add-mod'}
 use Rattle.std.proofs.Math.Nat.{mul-le-mul_right, mod-lt, mod-eq_of_lt, div-lt_iff_lt-mul}
-use Rattle.m2v_vector.specs.Vectors.{IsVector, IsDifference, IsSpelling, with_sign, difference, code_of, residual_of, wrapped, joined}
+use Rattle.m2v_vector.specs.Vectors.{IsDifference, IsSpelling, with_sign, difference, code_of, residual_of, joined}
 use Rattle.m2v_vector.proofs.Wrapping.{same_or_edges}
 
 -- the difference of a code, by its size less 1

@@ -1,5 +1,5 @@
 -- Components brought back into their range.
-use Rattle.std.proofs.Common.{◌≡◌, ℕ, ◌*◌, ◌<◌, ◌≤◌, Bool, true, false, cond, ℤ, pos, neg_ℤ, ◌+ℤ◌, ◌-ℤ◌, ◌*ℤ◌, ◌<ℤ◌, ◌≤ℤ◌, ◌⊎◌, inl, inr, arith, refl, ap, sym, subst, ◌∙◌}
+use Rattle.std.proofs.Common.{◌≡◌, ℕ, ◌*◌, ◌<◌, true, false, cond, ℤ, pos, neg_ℤ, ◌+ℤ◌, ◌-ℤ◌, ◌*ℤ◌, ◌<ℤ◌, ◌≤ℤ◌, ◌⊎◌, inl, inr, arith, refl, ap, sym, subst, ◌∙◌}
 use Rattle.std.specs.Prelude.{int_lt, int_le}
 use Rattle.std.proofs.lemmas.Int.{ints, by_lt_z}
 use Rattle.std.proofs.lemmas.Bool.{cond-true}
@@ -37,7 +37,7 @@ wrap_cases f v =
     by_lt_z v (neg_ℤ (pos (16 * f))) (λ low. inl (wrap_low f v low))
     (λ ge. by_lt_z v (pos (16 * f)) (λ lt. inr (inr (wrap_none f v ge lt))) (λ high. inr (inl (wrap_high f v high))))
 
-step_back : (f : ℕ) (p v : ℤ) → 0 < f → IsVector f p → IsVector f v → wrapped f (p +ℤ wrapped f (v -ℤ p)) ≡ v
+pub step_back : (f : ℕ) (p v : ℤ) → 0 < f → IsVector f p → IsVector f v → wrapped f (p +ℤ wrapped f (v -ℤ p)) ≡ v
 step_back f p v some hp hv =
     by_lt_z (v -ℤ p) (neg_ℤ (pos (16 * f)))
     (λ low. ap (λ (d : ℤ). wrapped f (p +ℤ d)) (wrap_low f (v -ℤ p) low) ∙ wrap_high f _ (omega (arith, ints, hp.0, hp.1, hv.0, hv.1)) ∙ omega (arith, ints))

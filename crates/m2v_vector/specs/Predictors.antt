@@ -1,5 +1,5 @@
 -- The predictors of vectors, and what a macroblock leaves of them (clauses 7.6.3.2 to 7.6.3.4, tables 7-9 and 7-10).
-use Rattle.std.specs.Prelude.{◌≡◌, ℕ, ◌+◌, ◌*◌, ◌^◌, ◌≤◌, ◌<◌, Bool, true, false, ◌&&◌, ◌||◌, not, nat_eq, cond, if◌then◌else◌, List, [], ◌∷◌, slice_index_or, ℤ, pos, neg_ℤ, ◌*ℤ◌, ◌≤ℤ◌}
+use Rattle.std.specs.Prelude.{ℕ, ◌^◌, Bool, ◌&&◌, ◌||◌, not, nat_eq, cond, if◌then◌else◌, List, [], ◌∷◌, slice_index_or, ℤ, pos, neg_ℤ, ◌*ℤ◌, ◌≤ℤ◌}
 use Rattle.m2v_vector.specs.declared.predictors.Pmv.{Pmv}
 use Rattle.m2v_vector.specs.declared.predictors.Motion.{Motion}
 

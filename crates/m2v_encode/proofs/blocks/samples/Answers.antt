@@ -1,8 +1,8 @@
-use Rattle.std.proofs.Common.{arith, ◌≡◌, ◌∙◌, ap, sym, ℕ, pos, ◌/◌, ◌%◌}
+use Rattle.std.proofs.Common.{arith, ◌≡◌, ◌∙◌, ap, sym, pos, ◌+◌, ◌/◌, ◌%◌}
 use Rattle.std.specs.Int.{w32}
 use Rattle.std.proofs.lemmas.Int.{to_z-of_z}
-use Rattle.m2v_encode.specs.Flat.{sample}
-use Rattle.m2v_encode.proofs.Samples.{Made, made_none, made_more, made_all, all_within}
+use Rattle.m2v_plane.specs.Samples.{sample_of}
+use Rattle.m2v_encode.proofs.Samples.{made_none, made_more, made_all, all_within}
 use Rattle.m2v_encode.proofs.blocks.samples.Goals as goal
 
 pub loop-k-init : goal.loop-k-init
@@ -11,12 +11,12 @@ loop-k-init c = made_none _ _ (omega arith)
 pub loop-k-preserved : goal.loop-k-preserved
 loop-k-preserved c =
     let same = to_z-of_z w32 c.from.result (record { sfits = c.from.type_inv }) in
-    made_more (λ k. pos (sample c.args.raw.now c.args.block (k / 8) (k % 8))) c.loop-k.k c.sample_at.result _ c.loop-k.samples c.loop-k.invariant c.loop-k-test.true c.sample_at.type_inv (same ∙ c.from.ensures) (ap pos (sym c.sample_at.ensures))
+    made_more (λ k. pos (sample_of c.args.frame.now c.args.plane (c.args.line + k / 8) (c.args.column + k % 8))) c.loop-k.k c.sample-sample.result _ c.loop-k.samples c.loop-k.invariant c.loop-k-test.true c.sample-sample.type_inv (same ∙ c.from.ensures) (ap pos (sym c.sample-sample.ensures.value))
 
 pub returns-clause-value : goal.returns-clause-value
 returns-clause-value c =
     let end : c.loop-k.k ≡ 64 = omega arith in
-    made_all c.args.raw.now c.args.block c.loop-k.samples (rw end at c.loop-k.invariant)
+    made_all c.args.frame.now c.args.plane c.args.line c.args.column c.loop-k.samples (rw end at c.loop-k.invariant)
 
 pub returns-clause-within : goal.returns-clause-within
 returns-clause-within c =

@@ -1,5 +1,5 @@
-use Rattle.std.proofs.Common.{inr, take}
+use Rattle.m2v_encode.proofs.Progress.{not_begun}
 use Rattle.m2v_encode.proofs.profile.flat.Goals as goal
 
-pub returns-in_err-bytes-clause-memory : goal.returns-in_err-bytes-clause-memory
-returns-in_err-bytes-clause-memory g c = λ is. inr (record { raw = _; frame = c.in_ok-read_frame.ensures.ok; grown = c.in_err-bytes.ensures.err })
+pub returns-in_default-clause-err : goal.returns-in_default-clause-err
+returns-in_default-clause-err g c = not_begun _ _ _ _ _ _ _ c.requires.passed.size

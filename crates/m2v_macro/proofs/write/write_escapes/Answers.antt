@@ -1,4 +1,4 @@
-use Rattle.std.proofs.Common.{arith, rules, ◌∙◌, sym}
+use Rattle.std.proofs.Common.{arith}
 use Rattle.m2v_macro.proofs.Lengths.{escapes_length, escapes_written, escapes_none, escapes_bits}
 use Rattle.m2v_macro.proofs.write.write_escapes.Goals as goal
 

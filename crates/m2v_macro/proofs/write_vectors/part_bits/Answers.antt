@@ -1,7 +1,7 @@
-use Rattle.std.proofs.Common.{◌≡◌, ◌≤◌, ◌++◌, ◌+◌, List, Bool, length, sym, subst, ◌∙◌, rules, ℤ, pos, get_or}
+use Rattle.std.proofs.Common.{length, sym, subst, ◌∙◌, rules, ℤ, pos, get_or}
 use Rattle.std.proofs.lemmas.Int.{to_z-of_z}
 use mir.Syntax.{w32}
-use mir.Val.{SFits, to_z, of_z}
+use mir.Val.{SFits}
 use Rattle.m2v_vector.specs.Vectors.{scale, IsVector}
 use Rattle.m2v_macro.specs.Conditions.{IsDm}
 use Rattle.m2v_macro.proofs.Components.{passed}

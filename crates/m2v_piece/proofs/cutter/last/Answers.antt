@@ -10,6 +10,8 @@ returns-then-is_empty c = let h = c.args.hand.now in (none_left h.phase h.sure (
 pub returns : goal.returns
 returns c =
     let h = c.args.hand.now in
-    let piece = c.in_ok-piece.ensures.piece in
-    (one_left h c.requires.fits (λ e. absurd (both_ways c.is_empty.result c.if-is_empty.false (c.is_empty.ensures.1 e))), piece,
-    omega (arith, ap (λ (x : Held). x.place) c.in_ok-piece.ensures.next, piece.at, piece.length))
+    let piece = c.in_ok-piece.ensures.piece in (
+      one_left h c.requires.fits (λ e. absurd (both_ways c.is_empty.result c.if-is_empty.false (c.is_empty.ensures.1 e))),
+      piece,
+      omega (arith, ap (λ (x : Held). x.place) c.in_ok-piece.ensures.next, piece.at, piece.length),
+    )

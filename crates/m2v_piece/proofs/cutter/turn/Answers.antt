@@ -14,17 +14,21 @@ returns-in-Err-clause-err c rest =
 pub returns-in-Ok-Whole-clause-ok : goal.returns-in-Ok-Whole-clause-ok
 returns-in-Ok-Whole-clause-ok c =
     let h = c.args.hand.now in
-    let w : IsWhole h c.first-b.result c.take.new.hand = subst (λ (b : Byte). Takes b h c.first-b.result c.take.new.hand) c.in-Ok-Whole.field-0-is c.in-Ok-Whole.ensures.ok in
-    (subst Fits (sym w.same) c.requires.fits, λ rest.
-    let e = by_first c.args.chunk.now rest c.first-b.result c.requires.some c.first-b.ensures in
-    let s = whole_stood h c.take.new.hand c.first-b.result (drop 1 c.args.chunk.now ++ rest) w in
-    rw (← e) (s.0, s.1, ap (λ (x : Held). x.ahead) w.same ∙ w.ahead))
+    let w : IsWhole h c.first-b.result c.take.new.hand = subst (λ (b : Byte). Takes b h c.first-b.result c.take.new.hand) c.in-Ok-Whole.field-0-is c.in-Ok-Whole.ensures.ok in (
+      subst Fits (sym w.same) c.requires.fits,
+      λ rest.
+          let e = by_first c.args.chunk.now rest c.first-b.result c.requires.some c.first-b.ensures in
+          let s = whole_stood h c.take.new.hand c.first-b.result (drop 1 c.args.chunk.now ++ rest) w in
+          rw (← e) (s.0, s.1, ap (λ (x : Held). x.ahead) w.same ∙ w.ahead),
+    )
 
 pub returns-in-Ok-Last-clause-ok : goal.returns-in-Ok-Last-clause-ok
 returns-in-Ok-Last-clause-ok c =
     let h = c.args.hand.now in
-    let l : IsLast h c.first-b.result c.take.new.hand = subst (λ (b : Byte). Takes b h c.first-b.result c.take.new.hand) c.in-Ok-Last.field-0-is c.in-Ok-Last.ensures.ok in
-    (l.ends.fits, λ rest.
-    let e = by_first c.args.chunk.now rest c.first-b.result c.requires.some c.first-b.ensures in
-    let s = last_stood h c.take.new.hand c.first-b.result (drop 1 c.args.chunk.now ++ rest) l in
-    rw (← e) (s.0, s.1))
+    let l : IsLast h c.first-b.result c.take.new.hand = subst (λ (b : Byte). Takes b h c.first-b.result c.take.new.hand) c.in-Ok-Last.field-0-is c.in-Ok-Last.ensures.ok in (
+      l.ends.fits,
+      λ rest.
+          let e = by_first c.args.chunk.now rest c.first-b.result c.requires.some c.first-b.ensures in
+          let s = last_stood h c.take.new.hand c.first-b.result (drop 1 c.args.chunk.now ++ rest) l in
+          rw (← e) (s.0, s.1),
+    )

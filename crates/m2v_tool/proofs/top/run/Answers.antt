@@ -1,8 +1,14 @@
-use Rattle.m2v_tool.proofs.RunLaws.{refused_by, answered_by}
+use Rattle.m2v_tool.proofs.RunLaws.{refused_by, unfit_by, answered_by, completed_by}
 use Rattle.m2v_tool.proofs.top.run.Goals as goal
 
 pub returns-clause-refused : goal.returns-clause-refused
 returns-clause-refused g c = refused_by _ _ _ _ _ _ _ _ _ _ _ c.carried_out-outcome.ensures.comes c.reported.ensures.told
 
+pub returns-clause-unfit : goal.returns-clause-unfit
+returns-clause-unfit g c = unfit_by _ _ _ _ _ _ _ _ _ _ _ c.carried_out-outcome.ensures.comes c.reported.ensures.told
+
 pub returns-clause-answer : goal.returns-clause-answer
 returns-clause-answer g c = answered_by _ _ _ _ _ _ _ _ _ _ _ _ c.carried_out-outcome.ensures.comes c.reported.ensures.told
+
+pub returns-clause-complete : goal.returns-clause-complete
+returns-clause-complete g c = completed_by _ _ _ _ _ _ _ _ _ _ _ _ c.carried_out-outcome.ensures.comes c.reported.ensures.told

@@ -10,6 +10,9 @@ invariant_of-self-2 c =
     let e = c.in-Ok.ensures in
     let front = h.bytes.items ++ replicate h.zeros 0 in
     let len = ap length e ∙ length-append front (c.args.b ∷ []) in
-    let known = c.self.invariant in
-    (known.0, omega (arith, len, length-sure h.bytes.items h.zeros, c.len.ensures, c.if-self-at-ge-MOST_INPUT.false),
-    ap zeros_last e ∙ zeros_last_end front c.args.b c.if-b-eq0.false, λ before. absurd (c.in_default.not-Before before))
+    let known = c.self.invariant in (
+      known.0,
+      omega (arith, len, length-sure h.bytes.items h.zeros, c.len.ensures, c.if-self-at-ge-MOST_INPUT.false),
+      ap zeros_last e ∙ zeros_last_end front c.args.b c.if-b-eq0.false,
+      λ before. absurd (c.in_default.not-Before before),
+    )

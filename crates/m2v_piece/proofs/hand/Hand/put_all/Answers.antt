@@ -31,6 +31,7 @@ loop-b-preserved c =
     let b : List ℕ = get_or bytes c.loop-b.b-index 0 ∷ [] in
     let front = take c.loop-b.b-index bytes in
     let more = take_more bytes c.loop-b.b-index 0 (omega arith) in
-    let h = c.in_ok-put.ensures in
-    (h.ok ∙ ap (λ (x : Held). behind x b) c.loop-b.invariant.0 ∙ behind_more before front b ∙ ap (behind before) (sym more),
-    ap (limit_of before) more ∙ limit_of_more before front b c.loop-b.invariant.1 ∙ ap (λ (x : Held). limit_of x b) (sym c.loop-b.invariant.0) ∙ h.fits)
+    let h = c.in_ok-put.ensures in (
+      h.ok ∙ ap (λ (x : Held). behind x b) c.loop-b.invariant.0 ∙ behind_more before front b ∙ ap (behind before) (sym more),
+      ap (limit_of before) more ∙ limit_of_more before front b c.loop-b.invariant.1 ∙ ap (λ (x : Held). limit_of x b) (sym c.loop-b.invariant.0) ∙ h.fits,
+    )

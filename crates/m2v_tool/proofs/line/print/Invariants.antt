@@ -1,0 +1,7 @@
+use Rattle.std.proofs.Common.{◌≡◌, ◌++◌, map, drop}
+use Rattle.m2v_tool.specs.Outcomes.{line_text}
+use Rattle.m2v_tool.proofs.line.print.Given as goal
+
+abbrev pub invariant-loop-i : goal.invariant-loop-i
+invariant-loop-i l =
+    l.line.items ++ line_text (drop l.i (map (λ t. t.now) l.texts)) (drop l.i l.numbers) ≡ line_text (map (λ t. t.now) l.texts) l.numbers
