@@ -16,14 +16,9 @@ use Rattle.m2v_macro.specs.declared.values.SliceState.{SliceState}
 use Rattle.m2v_macro.specs.declared.values.PictureContext.{PictureContext}
 use Rattle.m2v_model.specs.Slices.{Macroblock, kind_for, after_macroblock}
 use Rattle.m2v_model.specs.Pictures.{prediction_of, address_of, painted, all_painted}
-use Rattle.m2v_picture.specs.Rows.{row_painted, all_row_painted}
-use Rattle.m2v_picture.specs.Conditions.{AllInRow}
+use Rattle.m2v_picture.specs.Rows.{row_painted, all_row_painted, IsRowOf, IsRow, RowInFrame}
 
 -- ---- planes
-
--- the lines of one plane are those of a row of another
-abbrev pub IsRowOf : ℕ → ℕ → ℕ → List ℕ → List ℕ → Type 0
-IsRowOf columns side row new old = (r c : ℕ) → r < side → c < columns → get_or new (r * columns + c) 0 ≡ get_or old ((row * side + r) * columns + c) 0
 
 -- planes of the same samples
 plane_same : (lines columns : ℕ) (f g : ℕ → ℕ → ℕ) → ((r c : ℕ) → r < lines → c < columns → f r c ≡ g r c) → plane_by lines columns f ≡ plane_by lines columns g
@@ -75,13 +70,6 @@ row_with lines columns side row column f old new some fits is r c lt small =
 
 -- ---- frames
 
--- the samples are those of a row of the frame
-pub record IsRow (frame : Samples) (row : ℕ) (now : Samples) : Type 0 where
-  pub dims : now.dims ≡ frame.dims
-  pub luma : IsRowOf (16 * frame.dims.mb_width) 16 row now.luma frame.luma
-  pub cb : IsRowOf (8 * frame.dims.mb_width) 8 row now.cb frame.cb
-  pub cr : IsRowOf (8 * frame.dims.mb_width) 8 row now.cr frame.cr
-
 samples_eq : (d : Dims) (a b e p q s : List ℕ) → a ≡ p → b ≡ q → e ≡ s
     → record { dims = d; luma = a; cb = b; cr = e } ≡ (let z : Samples = record { dims = d; luma = p; cb = q; cr = s } in z)
 samples_eq d a b e p q s x y z = rw (x, y, z) refl
@@ -126,9 +114,7 @@ samples_for c st x =
     macro_sample (prediction_of c x) x.levels x.syntax.pattern (kind_for c x.syntax.kind.intra true (after c st x.syntax).quantiser) (kind_for c x.syntax.kind.intra false (after c st x.syntax).quantiser) x.syntax.dct_field
 
 -- the macroblocks of a row, painted into it and put into the frame, are those painted into the frame
-pub row_in_frame : (c : PictureContext) (row : ℕ) (st : SliceState) (xs : List Macroblock) (frame now : Samples)
-    → HasRows frame frame.dims.mb_rows → row < frame.dims.mb_rows → IsRow frame row now → AllInRow c row st xs
-    → with_row frame Whole row (all_row_painted c st xs now) ≡ all_painted c frame.dims.mb_rows st xs frame
+pub row_in_frame : RowInFrame
 unfolding all_row_painted all_painted row_painted painted
 row_in_frame c row st [] frame now whole below is inside = frame_kept frame row now whole is
 row_in_frame c row st (x ∷ xs) frame now whole below is inside =

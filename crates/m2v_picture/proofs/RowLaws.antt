@@ -18,10 +18,10 @@ use Rattle.m2v_model.specs.declared.state.Sequence.{Sequence}
 use Rattle.m2v_model.specs.declared.state.Open.{Open}
 use Rattle.m2v_model.specs.declared.state.State.{State}
 use Rattle.m2v_model.specs.States.{columns_of}
-use Rattle.m2v_model.specs.Slices.{Macroblock, after_macroblock, dc_after, context, slice_start}
+use Rattle.m2v_model.specs.Slices.{Macroblock, after_macroblock, dc_after, context, slice_start, begins_late}
 use Rattle.m2v_model.specs.Pictures.{address_of}
-use Rattle.m2v_picture.specs.Rows.{row_painted, all_row_painted}
-use Rattle.m2v_picture.specs.Conditions.{IsInside, InRow, AllInRow, IsState, IsPicture, IsIntra, AreDc, last_dc}
+use Rattle.m2v_picture.specs.Rows.{row_painted, all_row_painted, AllInRow}
+use Rattle.m2v_picture.specs.Conditions.{IsInside, InRow, IsState, IsPicture, IsIntra, AreDc, last_dc}
 
 -- the macroblocks so far: whatever follows them is painted on what they left, and lies in the row if they do
 pub record Left (c : PictureContext) (row : ℕ) (start : SliceState) (before : Samples) (xs : List Macroblock) (st : SliceState) (now : Samples) : Type 0 where
@@ -160,3 +160,19 @@ starts_in st s p row quantiser h ready = record {
   place = record { first = λ e. refl; later = λ e. absurd (false-true (sym e)); end = row_ends st s p row h };
   next = h.covered;
 }
+
+pub late_is : (st : State) (s : Sequence) (p : Open) (row n : ℕ) (late : Bool) (c : PictureContext) → c ≡ context st s p → late ≡ begins_late (row * c.columns) n p.covered
+    → begins_late (row * columns_of s) n p.covered ≡ late
+unfolding context
+late_is st s p row n late c e h = sym (h ∙ ap (λ (x : PictureContext). begins_late (row * x.columns) n p.covered) e)
+
+-- what is behind an address of the row is not past the row's end
+pub covered_most : (c : PictureContext) (row covered : ℕ) (address : ℤ) → IsInside c row address → covered ≡ nat_abs (address +ℤ pos 1) → covered ≤ (row + 1) * c.columns
+covered_most c row covered address i is =
+    let e = add-mul row 1 c.columns in
+    let a : covered ≡ nat_abs (pos (row * c.columns + i.0) +ℤ pos 1) = rw i.2 at is in
+    omega (arith, ints, e, a, i.1)
+
+-- an address of the row is small
+pub inside_small : (c : PictureContext) (row : ℕ) (address : ℤ) → row * c.columns + c.columns ≤ 2 ^ 16 → IsInside c row address → (n : ℕ) × (n < 2 ^ 16) × (address ≡ pos n)
+inside_small c row address end i = (row * c.columns + i.0, omega (arith, end, i.1), i.2)

@@ -1,5 +1,5 @@
 -- What is known of the headers in force, and of the state between two macroblocks of a slice.
-use Rattle.std.specs.Prelude.{◌≡◌, ℕ, ◌+◌, ◌*◌, ◌/◌, ◌^◌, ◌<◌, ◌≤◌, Bool, true, false, All, List, [], ◌∷◌, slice_index_or, ℤ, pos, ◌-ℤ◌}
+use Rattle.std.specs.Prelude.{◌≡◌, ℕ, ◌+◌, ◌*◌, ◌^◌, ◌<◌, ◌≤◌, Bool, true, false, All, List, [], ◌∷◌, slice_index_or, ℤ, pos, ◌-ℤ◌}
 use Rattle.m2v_quant.specs.declared.kind.Levels.{Levels}
 use Rattle.m2v_block.specs.Blocks.{IsDc}
 use Rattle.m2v_macro.specs.declared.values.SliceState.{SliceState}
@@ -9,8 +9,7 @@ use Rattle.m2v_model.specs.declared.state.Sequence.{Sequence}
 use Rattle.m2v_model.specs.declared.state.Open.{Open}
 use Rattle.m2v_model.specs.declared.state.State.{State}
 use Rattle.m2v_model.specs.States.{columns_of, rows_of}
-use Rattle.m2v_model.specs.Slices.{Macroblock, after_macroblock, dc_of}
-use Rattle.m2v_model.specs.Pictures.{address_of}
+use Rattle.m2v_model.specs.Slices.{dc_of}
 use Rattle.m2v_recon.specs.Steps.{levels_of}
 
 -- a matrix without 0 (clause 6.3.11)
@@ -63,8 +62,3 @@ pub record IsState (c : PictureContext) (row : ℕ) (st : SliceState) : Type 0 w
   pub dc : AreDc c.extension.dc_precision st.dc
   pub place : InRow c row st
   pub next : st.next ≤ 2 ^ 16
-
--- each of the macroblocks lies in the row
-abbrev pub AllInRow : PictureContext → ℕ → SliceState → List Macroblock → Type 0
-AllInRow c row st [] = Unit {0}
-AllInRow c row st (x ∷ xs) = (address_of c st x / c.columns ≡ row) × AllInRow c row (after_macroblock c st x) xs

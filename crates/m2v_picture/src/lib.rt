@@ -4,6 +4,7 @@
 
 mod blocks;
 mod increments;
+mod laws;
 mod macroblocks;
 mod paint;
 mod slices;
@@ -12,5 +13,6 @@ mod stop;
 #[cfg(test)]
 mod tests;
 
+pub use laws::law_row_in_frame;
 pub use slices::read_slice;
 pub use stop::{Stop, of_block, of_head, of_macro, stopped};

@@ -1,10 +1,9 @@
-ghost use Rattle.std.specs.Prelude.{◌≡◌, ◌+◌, ◌*◌, ◌≤◌, ◌<◌, ◌^◌, IfOk, IfErr, length, true};
+ghost use Rattle.std.specs.Prelude.{◌≡◌, ℕ, ◌+◌, ◌*◌, ◌≤◌, ◌<◌, ◌^◌, IfOk, IfErr, length, nat_abs, pos, ◌+ℤ◌};
 ghost use Rattle.m2v_bits.specs.Syntax.{renamed};
 ghost use Rattle.m2v_head.specs.Headers as head;
 ghost use Rattle.m2v_head.specs.Fits.{SliceFits};
 ghost use Rattle.m2v_model.specs.Faults as faults;
 ghost use Rattle.m2v_model.specs.Pictures.{dims_of};
-ghost use Rattle.m2v_model.specs.Slices.{begins_late as begins_late_of};
 ghost use Rattle.m2v_model.specs.States.{columns_of};
 ghost use Rattle.m2v_picture.specs.Conditions.{IsIntra};
 ghost use Rattle.m2v_picture.specs.Reads.{Tells, TellsSlice};
@@ -33,6 +32,14 @@ fn header(input: &mut BitReader) -> Result<SliceInfo, Stop>
     }
 }
 
+/// The address behind the last macroblock.
+fn behind(last: &SliceState) -> u32
+    requires { (n : ℕ) × (n < 2 ^ 16) × (last.now.address ≡ pos n) }
+    ensures { result ≡ nat_abs (last.now.address +ℤ pos 1) }
+{
+    last.address.unsigned_abs() as u32 + 1
+}
+
 /// Reads a slice of an I picture, without its start code, and writes its macroblocks into their row (clauses 6.2.4
 /// and 7.6.8). The row counts from 0. Answers the address behind the last macroblock.
 ///
@@ -40,7 +47,6 @@ fn header(input: &mut BitReader) -> Result<SliceInfo, Stop>
 /// The first fault in reading order, with the bits that are left at its place. A slice that begins before the next
 /// uncovered macroblock is `SliceOrder` at the unit's start code, 32 bits before the first bit; the samples of the row
 /// are then those of the macroblocks before the fault.
-#[tactic(auto, unfolding(m2v_model::specs::Slices::slice_at, m2v_model::specs::Slices::unit_place, m2v_model::specs::Slices::slice_start, m2v_model::specs::Looking::looking, m2v_bits::specs::Syntax::seq, m2v_bits::specs::Syntax::bind, m2v_bits::specs::Syntax::here, m2v_bits::specs::Syntax::rule, m2v_bits::specs::Syntax::done))]
 pub fn read_slice(
     input: &mut BitReader,
     st: &State,
@@ -68,5 +74,5 @@ pub fn read_slice(
     }
     let first = SliceState::at_start(&c, row, info.quantiser, p.covered);
     let last = macroblocks(input, &c, row, first, out)?;
-    Ok((last.address + 1).unsigned_abs() as u32)
+    Ok(behind(&last))
 }
