@@ -1,5 +1,5 @@
 -- A row that is painted and put into its frame is the frame painted: what joins slices read row by row to pictures.
-use Rattle.std.proofs.Common.{◌≡◌, ℕ, zero, suc, ◌+◌, ◌-◌, ◌*◌, ◌/◌, ◌%◌, ◌<◌, ◌≤◌, Bool, true, false, ◌&&◌, cond, nat_eq, List, [], ◌∷◌, get_or, length, refl, sym, ap, ◌∙◌, subst, arith, inl, inr, eq-eqb, mul_comm}
+use Rattle.std.proofs.Common.{◌≡◌, ℕ, ◌+◌, ◌*◌, ◌/◌, ◌%◌, ◌<◌, ◌≤◌, Bool, true, false, ◌&&◌, cond, nat_eq, List, [], ◌∷◌, get_or, length, refl, sym, ap, ◌∙◌, arith, inl, inr, eq-eqb, mul_comm}
 use Rattle.std.proofs.lemmas.Bool.{cases_Bool, eqb-true}
 use Rattle.std.proofs.lemmas.Nat.{mod-mul-add, div-mul-add, mod_below}
 use Rattle.std.proofs.Math.Nat.{div-add-mod, div-eq_of_lt, mod-eq_of_lt}

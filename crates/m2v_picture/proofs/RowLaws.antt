@@ -1,5 +1,5 @@
 -- Macroblocks of a row, one after another: their samples and their addresses.
-use Rattle.std.proofs.Common.{◌≡◌, ℕ, suc, ◌+◌, ◌-◌, ◌*◌, ◌/◌, ◌%◌, ◌<◌, ◌≤◌, Bool, true, false, List, [], ◌∷◌, ◌++◌, refl, sym, ap, ◌∙◌, subst, arith, append_assoc, inl, inr, ◌^◌, ℤ, pos, ◌+ℤ◌, ◌-ℤ◌, pow-suc, mul-le-mul, add-mul}
+use Rattle.std.proofs.Common.{◌≡◌, ℕ, suc, ◌+◌, ◌-◌, ◌*◌, ◌/◌, ◌%◌, ◌<◌, ◌≤◌, Bool, true, false, List, [], ◌∷◌, ◌++◌, refl, sym, ap, ◌∙◌, subst, arith, append_assoc, inl, inr, ◌^◌, ℤ, pos, ◌+ℤ◌, pow-suc, mul-le-mul, add-mul}
 use Rattle.std.specs.Prelude.{nat_abs, unsigned_abs, not, ◌&&◌, ◌||◌, nat_lt, int_le}
 use Rattle.std.proofs.lemmas.Int.{ints}
 use Rattle.std.proofs.lemmas.List.{append-nil}

@@ -1,5 +1,5 @@
 -- What is known of the headers in force, and of the state between two macroblocks of a slice.
-use Rattle.std.specs.Prelude.{◌≡◌, ℕ, ◌+◌, ◌*◌, ◌^◌, ◌<◌, ◌≤◌, Bool, true, false, All, List, [], ◌∷◌, slice_index_or, ℤ, pos, ◌-ℤ◌}
+use Rattle.std.specs.Prelude.{◌≡◌, ℕ, ◌+◌, ◌*◌, ◌^◌, ◌<◌, ◌≤◌, true, false, All, List, [], ◌∷◌, slice_index_or, ℤ, pos, ◌-ℤ◌}
 use Rattle.m2v_quant.specs.declared.kind.Levels.{Levels}
 use Rattle.m2v_block.specs.Blocks.{IsDc}
 use Rattle.m2v_macro.specs.declared.values.SliceState.{SliceState}

@@ -50,5 +50,13 @@ pub fn paint(
         kind_for(c, intra, false, state.quantiser),
     ];
     let column = column(c, row, state.address);
-    rebuild(&prediction, levels, m.pattern, &kinds, m.dct_field, column, out);
+    rebuild(
+        &prediction,
+        levels,
+        m.pattern,
+        &kinds,
+        m.dct_field,
+        column,
+        out,
+    );
 }

@@ -32,6 +32,16 @@ fn header(input: &mut BitReader) -> Result<SliceInfo, Stop>
     }
 }
 
+/// How many bits are left at a unit's start code, which stands 32 bits before the unit's first bit.
+fn unit_left(input: &BitReader) -> u64
+    ensures value { result ≡ length input.now.rest + 32 }
+    ensures within { result ≤ length input.now.text + 32 }
+{
+    // what is left is not more than the whole text
+    let _place = input.place();
+    input.left() + 32
+}
+
 /// The address behind the last macroblock.
 fn behind(last: &SliceState) -> u32
     requires { (n : ℕ) × (n < 2 ^ 16) × (last.now.address ≡ pos n) }
@@ -55,14 +65,13 @@ pub fn read_slice(
     row: u32,
     out: &mut RowSamples,
 ) -> Result<u32, Stop>
-    requires short { length input.old.text < 2 ^ 40 }
     requires picture { IsIntra st.now s.now p.now row }
     requires size { out.old.dims ≡ dims_of s.now }
     ensures exact { TellsSlice st.now s.now p.now row input.old.rest out.old result input.new.rest out.new }
     ensures left { IfErr result (λ e. e.left ≤ length input.old.text + 32) }
     ensures covered { IfOk result (λ covered. covered ≤ (row + 1) * columns_of s.now) }
 {
-    let unit = input.left() + 32;
+    let unit = unit_left(input);
     let info = header(input)?;
     let increment = increment_ahead(input)?;
     let c = context(st, s, p);

@@ -11,8 +11,7 @@ fn columns_of(s: &Sequence) -> u32
     requires { columns_of_of s.now ≤ 120 }
     ensures { result ≡ columns_of_of s.now }
 {
-    let width =
-        u64::from(s.extension.horizontal_ext) * 4096 + u64::from(s.info.horizontal_size);
+    let width = u64::from(s.extension.horizontal_ext) * 4096 + u64::from(s.info.horizontal_size);
     ((width + 15) / 16) as u32
 }
 

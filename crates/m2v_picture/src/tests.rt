@@ -116,7 +116,14 @@ fn slice(
 {
     let mut row = RowSamples::blank(alloc, SIZE)?;
     let mut input = BitReader::new(bytes);
-    let told = read_slice(&mut input, &state(), &sequence(), &picture(covered), 0, &mut row);
+    let told = read_slice(
+        &mut input,
+        &state(),
+        &sequence(),
+        &picture(covered),
+        0,
+        &mut row,
+    );
     if row.dims().mb_width != 1 {
         return Ok((told, [0; 4]));
     }

@@ -1,4 +1,4 @@
-use Rattle.std.proofs.Common.{sym, ◌∙◌, length, rules}
+use Rattle.std.proofs.Common.{sym, ◌∙◌, length}
 use Rattle.std.proofs.lemmas.Result.{err_from_is_err_and}
 use Rattle.m2v_macro.proofs.MacroLaws.{increment_err, increment_more, increment_last, increment_less}
 use Rattle.m2v_picture.proofs.increments.increment.Goals as goal

@@ -7,15 +7,28 @@ use Rattle.m2v_macro.specs.declared.values.PictureContext.{PictureContext}
 use Rattle.m2v_macro.specs.Conditions.{IsReady}
 use Rattle.m2v_macro.specs.States.{at_start}
 use Rattle.m2v_model.specs.Slices.{context, slice_start}
-use Rattle.m2v_picture.specs.Conditions.{IsPicture, IsState, IsInside}
+use Rattle.m2v_picture.specs.Conditions.{IsPicture, IsState}
 use Rattle.m2v_picture.specs.Reads.{Macroblocks}
-use Rattle.m2v_picture.proofs.SliceLaws.{slice_early, slice_broken, slice_read}
+use Rattle.m2v_picture.proofs.SliceLaws.{slice_no_header, slice_no_increment, slice_early, slice_broken, slice_read}
 use Rattle.m2v_picture.proofs.RowLaws.{picture_is, starts_in, row_ends, late_is, covered_most, inside_small}
 use Rattle.m2v_picture.proofs.slices.read_slice.Goals as goal
 
 pub begins_late-requires : goal.begins_late-requires
 unfolding context
 begins_late-requires c = record { columns = subst (λ (x : PictureContext). x.columns ≤ 120) (sym c.context-c.ensures) c.requires.picture.columns.1 }
+
+pub returns-in_err-info-clause-exact : goal.returns-in_err-info-clause-exact
+returns-in_err-info-clause-exact c =
+    let f = c.in_err-info.field-0.0 in
+    let r = err_from_is_err_and c.from_residual.result c.from_residual.ensures.1 in
+    rw (r.1, r.2) (slice_no_header c.args.st.now c.args.s.now c.args.p.now c.args.row c.args.input.now.rest (f.kind, f.left) c.in_err-info.ensures.exact)
+
+pub returns-in_err-increment-clause-exact : goal.returns-in_err-increment-clause-exact
+returns-in_err-increment-clause-exact c =
+    let f = c.in_err-increment.field-0.0 in
+    let r = err_from_is_err_and c.from_residual-in_err-increment.result c.from_residual-in_err-increment.ensures.1 in
+    rw (r.1, r.2)
+    (slice_no_increment c.args.st.now c.args.s.now c.args.p.now c.args.row c.args.input.now.rest c.in_ok-info.info c.header.new.input.rest (f.kind, f.left) c.in_ok-info.ensures.exact c.in_err-increment.ensures.exact)
 
 pub returns-then-not-begins_late-clause-exact : goal.returns-then-not-begins_late-clause-exact
 returns-then-not-begins_late-clause-exact c =
@@ -24,7 +37,7 @@ returns-then-not-begins_late-clause-exact c =
     let p = c.args.p.now in
     let n = c.in_ok-increment.ensures.exact in
     let late = late_is st s p c.args.row n.0 c.begins_late.result c.context-c.result c.context-c.ensures (c.begins_late.ensures n.0 n.2 c.requires.picture.covered) in
-    rw c.left-unit.ensures.value
+    rw c.unit_left-unit.ensures.value
     (slice_early st s p c.args.row c.args.input.now.rest c.in_ok-info.info c.header.new.input.rest n.1 n.0 c.in_ok-info.ensures.exact n.3 (late ∙ c.if-not-begins_late.true))
 
 pub at_start-first-requires-clause-precision : goal.at_start-first-requires-clause-precision
@@ -75,7 +88,7 @@ returns-in_err-last-clause-exact c =
     let e : first ≡ slice_start ctx row p.covered q = c.at_start-first.ensures.value ∙ ap (λ (x : PictureContext). at_start x row q p.covered) c.context-c.ensures in
     let f = c.in_err-last.field-0.0 in
     let read = subst (λ (z : SliceState). Macroblocks ctx row z mid c.args.out.now (Err f) rest now) e
-      (subst (λ (x : PictureContext). Macroblocks x row first mid c.args.out.now (Err f) rest now) c.context-c.ensures c.in_err-last.ensures.exact) in
+    (subst (λ (x : PictureContext). Macroblocks x row first mid c.args.out.now (Err f) rest now) c.context-c.ensures c.in_err-last.ensures.exact) in
     let r = err_from_is_err_and c.from_residual-in_err-last.result c.from_residual-in_err-last.ensures.1 in
     rw (r.1, r.2) (slice_broken st s p row c.args.input.now.rest c.in_ok-info.info mid n.1 n.0 (f.kind, f.left) c.in_ok-info.ensures.exact n.3 (late ∙ c.if-not-begins_late.false) read)
 
@@ -104,7 +117,7 @@ returns-clause-exact c =
     let late = late_is st s p row n.0 c.begins_late.result c.context-c.result c.context-c.ensures (c.begins_late.ensures n.0 n.2 c.requires.picture.covered) in
     let e : first ≡ slice_start ctx row p.covered q = c.at_start-first.ensures.value ∙ ap (λ (x : PictureContext). at_start x row q p.covered) c.context-c.ensures in
     let x = subst (λ (z : SliceState). Macroblocks ctx row z mid c.args.out.now (Ok last) rest now) e
-      (subst (λ (x : PictureContext). Macroblocks x row first mid c.args.out.now (Ok last) rest now) c.context-c.ensures c.in_ok-last.ensures.exact) in (
+    (subst (λ (x : PictureContext). Macroblocks x row first mid c.args.out.now (Ok last) rest now) c.context-c.ensures c.in_ok-last.ensures.exact) in (
       _,
       slice_read st s p row c.args.input.now.rest c.in_ok-info.info mid n.1 rest n.0 x.0 c.in_ok-info.ensures.exact n.3 (late ∙ c.if-not-begins_late.false) x.1,
       c.behind.ensures ∙ ap (λ (z : SliceState). nat_abs (z.address +ℤ pos 1)) x.2,
