@@ -1,4 +1,4 @@
-ghost use Rattle.std.specs.Prelude.{◌≡◌, ℕ, ◌<◌, ◌≤◌, ◌^◌, All, IfOk, IfErr, length, slice_index_or, replicate, pos, true, []};
+ghost use Rattle.std.specs.Prelude.{◌≡◌, ◌<◌, ◌≤◌, All, IfOk, IfErr, length, slice_index_or, replicate, pos, true, []};
 ghost use Rattle.m2v_bits.specs.Syntax.{choose, done, renamed};
 ghost use Rattle.m2v_quant.specs.Kinds.{IsKind, IsLevel};
 ghost use Rattle.m2v_block.specs.Blocks.{block_at, IsDc};

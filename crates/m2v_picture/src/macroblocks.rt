@@ -1,5 +1,4 @@
 ghost use Rattle.std.specs.Prelude.{◌≡◌, ◌≤◌, All, IfOk, IfErr, length, true};
-ghost use Rattle.m2v_bits.specs.Bits.{all_zero};
 ghost use Rattle.m2v_bits.specs.Syntax.{renamed};
 ghost use Rattle.m2v_quant.specs.Kinds.{IsLevel};
 ghost use Rattle.m2v_macro.specs.Macros.{macro_at};
