@@ -1,0 +1,3 @@
+pub mod SliceLaws
+pub mod RowLaws
+pub mod FrameLaws

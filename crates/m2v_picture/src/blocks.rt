@@ -1,0 +1,175 @@
+ghost use Rattle.std.specs.Prelude.{◌≡◌, ◌<◌, ◌≤◌, All, IfOk, IfErr, length, slice_index_or, replicate, pos, true, []};
+ghost use Rattle.m2v_bits.specs.Syntax.{choose, done, renamed};
+ghost use Rattle.m2v_quant.specs.Kinds.{IsKind, IsLevel};
+ghost use Rattle.m2v_block.specs.Blocks.{block_at, IsDc};
+ghost use Rattle.m2v_recon.specs.Macro.{is_coded as is_coded_of};
+ghost use Rattle.m2v_model.specs.Faults as faults;
+ghost use Rattle.m2v_model.specs.Slices.{kind_for as kind_for_of, blocks_from};
+ghost use Rattle.m2v_picture.specs.Conditions.{IsPicture, AreDc, last_dc};
+ghost use Rattle.m2v_picture.specs.Reads.{TellsLevels, TellsBlocks};
+
+use crate::stop::{Stop, of_block, stopped};
+use m2v_bits::BitReader;
+use m2v_block::read_block;
+use m2v_macro::{MacroSyntax, PictureContext, SliceState};
+use m2v_quant::{BlockKind, Levels, scale_of};
+
+/// Whether a block is coded.
+#[inline(always)]
+fn is_coded(pattern: u8, block: u8) -> bool
+    requires { block < 6 }
+    ensures { result ≡ is_coded_of pattern block }
+{
+    (pattern >> (5 - block)) % 2 == 1
+}
+
+/// What blocks are coded with.
+#[tactic(auto, unfolding(m2v_model::specs::Slices::kind_for))]
+pub fn kind_for(c: &PictureContext, intra: bool, luma: bool, quantiser: u8) -> BlockKind
+    requires picture { IsPicture c.now }
+    requires quantiser { (1 ≤ quantiser) × (quantiser ≤ 31) }
+    ensures value { result ≡ kind_for_of c.now intra luma quantiser }
+    ensures kind { IsKind result }
+    ensures intra { result.intra ≡ intra }
+    ensures precision { result.precision ≡ c.now.extension.dc_precision }
+{
+    BlockKind {
+        intra,
+        luma,
+        precision: c.extension.dc_precision,
+        scale: scale_of(c.extension.q_scale_type, quantiser),
+        matrix: if intra { c.intra } else { c.non_intra },
+        alternate: c.extension.alternate_scan,
+    }
+}
+
+/// All levels 0.
+fn no_levels() -> Levels
+    ensures value { result.at ≡ replicate 64 (pos 0) }
+    ensures levels { All IsLevel result.at }
+{
+    Levels { at: [0; 64] }
+}
+
+/// A coded block's levels.
+#[tactic(auto, unfolding(m2v_bits::specs::Syntax::renamed))]
+fn coded_block(
+    input: &mut BitReader,
+    kind: &BlockKind,
+    table_one: bool,
+    predictor: i32,
+) -> Result<Levels, Stop>
+    requires kind { IsKind kind.now }
+    requires predictor { kind.now.intra ≡ true → IsDc kind.now.precision predictor }
+    ensures exact { TellsLevels result input.new.rest ((renamed faults.of_block (block_at kind.now table_one predictor)).read input.old.rest) }
+    ensures text { input.new.text ≡ input.old.text }
+    ensures left { IfErr result (λ e. e.left ≤ length input.old.text) }
+    ensures levels { IfOk result (λ l. All IsLevel l.at) }
+    ensures dc { IfOk result (λ l. kind.now.intra ≡ true → IsDc kind.now.precision (slice_index_or l.at 0 (pos 0))) }
+{
+    let mut levels = no_levels();
+    let mut dc = predictor;
+    match read_block(input, kind, table_one, &mut dc, &mut levels) {
+        Ok(()) => Ok(levels),
+        Err(e) => Err(stopped(input, of_block(e))),
+    }
+}
+
+/// A block's levels: all 0 where it isn't coded.
+#[tactic(auto, unfolding(m2v_bits::specs::Syntax::choose, m2v_bits::specs::Syntax::done))]
+fn block(
+    input: &mut BitReader,
+    kind: &BlockKind,
+    table_one: bool,
+    coded: bool,
+    predictor: i32,
+) -> Result<Levels, Stop>
+    requires kind { IsKind kind.now }
+    requires predictor { kind.now.intra ≡ true → IsDc kind.now.precision predictor }
+    ensures exact { TellsLevels result input.new.rest
+        ((choose coded (renamed faults.of_block (block_at kind.now table_one predictor)) (done (replicate 64 (pos 0)))).read input.old.rest) }
+    ensures text { input.new.text ≡ input.old.text }
+    ensures left { IfErr result (λ e. e.left ≤ length input.old.text) }
+    ensures levels { IfOk result (λ l. All IsLevel l.at) }
+    ensures dc { IfOk result (λ l. kind.now.intra ≡ true → IsDc kind.now.precision (slice_index_or l.at 0 (pos 0))) }
+{
+    if coded {
+        return coded_block(input, kind, table_one, predictor);
+    }
+    Ok(no_levels())
+}
+
+/// A block that goes by the DC predictor of its component: 0 for Y, 1 for Cb, 2 for Cr.
+fn first_block(
+    input: &mut BitReader,
+    kind: &BlockKind,
+    table_one: bool,
+    coded: bool,
+    dc: &[i32; 3],
+    component: usize,
+) -> Result<Levels, Stop>
+    requires kind { IsKind kind.now }
+    requires component { component < 3 }
+    requires predictor { kind.now.intra ≡ true → IsDc kind.now.precision (slice_index_or dc.now component (pos 0)) }
+    ensures exact { TellsLevels result input.new.rest
+        ((choose coded (renamed faults.of_block (block_at kind.now table_one (slice_index_or dc.now component (pos 0)))) (done (replicate 64 (pos 0)))).read input.old.rest) }
+    ensures text { input.new.text ≡ input.old.text }
+    ensures left { IfErr result (λ e. e.left ≤ length input.old.text) }
+    ensures levels { IfOk result (λ l. All IsLevel l.at) }
+    ensures dc { IfOk result (λ l. kind.now.intra ≡ true → IsDc kind.now.precision (slice_index_or l.at 0 (pos 0))) }
+{
+    block(input, kind, table_one, coded, dc[component])
+}
+
+/// A luma block that goes by the level of the block before it.
+fn next_block(
+    input: &mut BitReader,
+    kind: &BlockKind,
+    table_one: bool,
+    coded: bool,
+    before: &Levels,
+) -> Result<Levels, Stop>
+    requires kind { IsKind kind.now }
+    requires predictor { kind.now.intra ≡ true → IsDc kind.now.precision (slice_index_or before.now.at 0 (pos 0)) }
+    ensures exact { TellsLevels result input.new.rest
+        ((choose coded (renamed faults.of_block (block_at kind.now table_one (slice_index_or before.now.at 0 (pos 0)))) (done (replicate 64 (pos 0)))).read input.old.rest) }
+    ensures text { input.new.text ≡ input.old.text }
+    ensures left { IfErr result (λ e. e.left ≤ length input.old.text) }
+    ensures levels { IfOk result (λ l. All IsLevel l.at) }
+    ensures dc { IfOk result (λ l. kind.now.intra ≡ true → IsDc kind.now.precision (slice_index_or l.at 0 (pos 0))) }
+{
+    block(input, kind, table_one, coded, before.at[0])
+}
+
+/// The levels of a macroblock's six blocks (clause 6.2.6). The DC predictor of the first luma block and of each chroma
+/// block is that of its component, that of another luma block the level of the block before it (clause 7.2.1). `state`
+/// is that behind the macroblock's elements.
+#[tactic(auto, unfolding(m2v_model::specs::Slices::blocks_from, m2v_model::specs::Slices::block_in, m2v_model::specs::Slices::predictor, m2v_bits::specs::Syntax::seq, m2v_bits::specs::Syntax::bind, m2v_bits::specs::Syntax::done))]
+pub fn blocks(
+    input: &mut BitReader,
+    c: &PictureContext,
+    m: &MacroSyntax,
+    state: &SliceState,
+) -> Result<[Levels; 6], Stop>
+    requires picture { IsPicture c.now }
+    requires quantiser { (1 ≤ state.now.quantiser) × (state.now.quantiser ≤ 31) }
+    requires dc { AreDc c.now.extension.dc_precision state.now.dc }
+    ensures exact { TellsBlocks result input.new.rest ((blocks_from c.now m.now state.now 0 6 []).read input.old.rest) }
+    ensures text { input.new.text ≡ input.old.text }
+    ensures left { IfErr result (λ e. e.left ≤ length input.old.text) }
+    ensures levels { IfOk result (All (λ l. All IsLevel l.at)) }
+    ensures dc { m.now.kind.intra ≡ true → IfOk result (λ ls. AreDc c.now.extension.dc_precision (last_dc ls)) }
+{
+    let intra = m.kind.intra;
+    let luma = kind_for(c, intra, true, state.quantiser);
+    let chroma = kind_for(c, intra, false, state.quantiser);
+    let one = c.extension.intra_vlc_format;
+    let pattern = m.pattern;
+    let first = first_block(input, &luma, one, is_coded(pattern, 0), &state.dc, 0)?;
+    let second = next_block(input, &luma, one, is_coded(pattern, 1), &first)?;
+    let third = next_block(input, &luma, one, is_coded(pattern, 2), &second)?;
+    let fourth = next_block(input, &luma, one, is_coded(pattern, 3), &third)?;
+    let blue = first_block(input, &chroma, one, is_coded(pattern, 4), &state.dc, 1)?;
+    let red = first_block(input, &chroma, one, is_coded(pattern, 5), &state.dc, 2)?;
+    Ok([first, second, third, fourth, blue, red])
+}
