@@ -6,3 +6,4 @@ pub mod SliceLaws
 pub mod StreamLaws
 pub mod Unique
 pub mod Fronts
+pub mod Worked

@@ -1,6 +1,6 @@
 -- Macroblocks with their blocks, and slices, are lawful.
 use Rattle.std.proofs.Common.{ℕ, zero, suc, ◌+◌, Bool, List, ◌∷◌, ◌++◌, [], length, ℤ}
-use Rattle.m2v_bits.specs.Syntax.{Syntax, renamed, repeated}
+use Rattle.m2v_bits.specs.Syntax.{Syntax, renamed}
 use Rattle.m2v_bits.proofs.SyntaxLaws.{Lawful, Strict, Takes, done_lawful, here_lawful, rule_lawful, seq_lawful, seq_strict, choose_lawful, renamed_lawful, repeated_strict}
 use Rattle.m2v_bits.proofs.LeafLaws.{zero_lawful}
 use Rattle.m2v_head.proofs.HeaderLaws.{slice_strict}

@@ -1,15 +1,14 @@
 -- Streams are lawful.
-use Rattle.std.proofs.Common.{◌≡◌, sym, ℕ, ◌<◌, ◌≤◌, Bool, true, false, List, length, Option, Some, None, ap, arith}
+use Rattle.std.proofs.Common.{◌≡◌, sym, ℕ, ◌<◌, Bool, true, false, List, length, Option, Some, None, ap, arith}
 use Rattle.std.proofs.lemmas.Bool.{both_ways}
 use Rattle.m2v_bits.specs.Syntax.{seq, here, done}
 use Rattle.m2v_bits.proofs.SyntaxLaws.{Lawful, done_lawful, here_lawful, rule_lawful, seq_lawful, choose_lawful, repeated_lawful, Onward}
 use Rattle.m2v_bits.proofs.LeafLaws.{bits_lawful}
-use Rattle.m2v_model.specs.declared.fault.FaultKind.{FaultKind}
 use Rattle.m2v_model.specs.declared.fault.FaultKind.TheVariants.{NoSequence, NotMpeg2, Unsupported, Truncated, Forbidden, SequenceChanged, SliceOrder, MissingMacroblocks}
 use Rattle.m2v_model.specs.declared.state.Sequence.{Sequence}
 use Rattle.m2v_model.specs.declared.state.Open.{Open}
 use Rattle.m2v_model.specs.declared.state.State.{State}
-use Rattle.m2v_model.specs.Units.{Units, unit_bits, unit_at, Next, inside}
+use Rattle.m2v_model.specs.Units.{Units, unit_bits, unit_at, Next}
 use Rattle.m2v_model.specs.Faults.{Of}
 use Rattle.m2v_model.specs.Streams.{Part, Sofar, Among, value_of, close, id_at, extension_in, extension_behind, sequence_unit, group_unit, picture_unit, matrix_unit, extension_unit, slice_in, slice_unit, end_unit, onward, final, later_unit, known_unit, text_end, next_unit, unit_round, stream_at}
 use Rattle.m2v_model.proofs.UnitLaws.{unit_lawful, inside_lawful}

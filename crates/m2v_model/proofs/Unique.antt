@@ -1,5 +1,5 @@
 -- Exactly one of a decoding and a fault, each for one value.
-use Rattle.std.proofs.Common.{◌≡◌, ℕ, ◌-◌, ◌*◌, List, [], length, None, ◌⊎◌, inl, inr, Ok, Err, Result, refl, sym, ap, ◌∙◌}
+use Rattle.std.proofs.Common.{◌≡◌, ℕ, ◌-◌, ◌*◌, List, length, ◌⊎◌, inl, inr, Ok, Err, Result, refl, sym, ap, ◌∙◌}
 use Rattle.m2v_bits.proofs.SyntaxLaws.{good, bad, good_is}
 use Rattle.m2v_model.specs.declared.fault.FaultKind.{FaultKind}
 use Rattle.m2v_model.specs.Units.{Units, cut, Cuts}

@@ -1,10 +1,9 @@
 -- Whole texts: what one decodes to, and its first fault.
-use Rattle.std.specs.Prelude.{◌≡◌, ℕ, ◌-◌, ◌*◌, Bool, false, List, [], ◌∷◌, ◌++◌, map, length, Option, Some, None, ◌⊎◌}
+use Rattle.std.specs.Prelude.{◌≡◌, ℕ, ◌-◌, ◌*◌, Bool, false, List, ◌++◌, map, length, Option, Some, None, ◌⊎◌}
 use Rattle.m2v_plane.specs.Raw.{crop}
 use Rattle.m2v_order.specs.Display.{Shown, Due}
 use Rattle.m2v_model.specs.declared.fault.FaultKind.{FaultKind}
 use Rattle.m2v_model.specs.declared.state.Sequence.{Sequence}
-use Rattle.m2v_model.specs.declared.state.State.{State}
 use Rattle.m2v_model.specs.Units.{Units, Cuts}
 use Rattle.m2v_model.specs.States.{at_first}
 use Rattle.m2v_model.specs.Streams.{Sofar, Part, stream_at}

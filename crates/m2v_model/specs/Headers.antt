@@ -1,6 +1,6 @@
 -- Headers in their units: the syntax of each header, the rules that look at more than one of them, each at its
 -- element, and zero bits up to the unit's end.
-use Rattle.std.specs.Prelude.{ℕ, ◌+◌, ◌-◌, ◌*◌, Bool, true, false, not, ◌&&◌, ◌||◌, nat_eq, nat_le, nat_lt, Option, Some, None}
+use Rattle.std.specs.Prelude.{ℕ, ◌+◌, ◌-◌, ◌*◌, Bool, true, not, ◌&&◌, ◌||◌, nat_eq, nat_le, Option, Some, None}
 use Rattle.m2v_bits.specs.Syntax.{done, rule, renamed, ◌>>=◌}
 use Rattle.m2v_bits.specs.Leaves.{end_at}
 use Rattle.m2v_head.specs.declared.sequence.SequenceInfo.{SequenceInfo}
@@ -10,7 +10,7 @@ use Rattle.m2v_head.specs.declared.picture.PictureInfo.{PictureInfo}
 use Rattle.m2v_head.specs.declared.picture.PictureExtension.{PictureExtension}
 use Rattle.m2v_head.specs.declared.matrix.MatrixInfo.{MatrixInfo}
 use Rattle.m2v_head.specs.Headers.{sequence_at, sequence_extension_at, group_at, picture_at, picture_extension_at, matrices_at}
-use Rattle.m2v_model.specs.declared.fault.FaultKind.TheVariants.{Unsupported, Truncated, Forbidden}
+use Rattle.m2v_model.specs.declared.fault.FaultKind.TheVariants.{Unsupported, Forbidden}
 use Rattle.m2v_model.specs.Faults.{Of, place, of_head}
 use Rattle.m2v_model.specs.Looking.{look, passes}
 use Rattle.m2v_model.specs.Unread.{is_read_type, is_read_sequence, is_read_structure, is_read_prediction, is_read_concealment}

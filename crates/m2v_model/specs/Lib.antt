@@ -9,3 +9,4 @@ pub mod Streams
 pub mod Pictures
 pub mod Pieces
 pub mod Decoding
+pub mod Worked

@@ -1,6 +1,6 @@
 -- Slices (clause 6.2.4): a header, and macroblocks until the rest of the unit is zero; macroblocks with their blocks
 -- (clauses 6.2.5 and 6.2.6).
-use Rattle.std.specs.Prelude.{ℕ, zero, suc, ◌+◌, ◌-◌, ◌*◌, Bool, true, false, not, ◌&&◌, nat_eq, nat_le, nat_lt, cond, List, [], ◌∷◌, ◌++◌, length, slice_index_or, replicate, if◌then◌else◌, ℤ, pos, ◌+ℤ◌, nat_abs}
+use Rattle.std.specs.Prelude.{ℕ, zero, suc, ◌+◌, ◌-◌, ◌*◌, Bool, true, false, not, nat_eq, nat_lt, cond, List, [], ◌∷◌, ◌++◌, length, slice_index_or, replicate, if◌then◌else◌, ℤ, pos, ◌+ℤ◌, nat_abs}
 use Rattle.m2v_bits.specs.Syntax.{done, here, rule, choose, renamed, repeated, ◌>>=◌}
 use Rattle.m2v_bits.specs.Leaves.{zero_at}
 use Rattle.m2v_quant.specs.declared.kind.BlockKind.{BlockKind}

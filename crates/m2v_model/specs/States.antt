@@ -2,8 +2,6 @@
 use Rattle.std.specs.Prelude.{ℕ, ◌+◌, ◌*◌, ◌/◌, Bool, true, false, ◌&&◌, not, nat_eq, List, Option, Some, None}
 use Rattle.std.specs.Bool.{beq}
 use Rattle.m2v_quant.specs.Matrices.{default_matrix}
-use Rattle.m2v_head.specs.declared.sequence.SequenceInfo.{SequenceInfo}
-use Rattle.m2v_head.specs.declared.sequence.SequenceExtension.{SequenceExtension}
 use Rattle.m2v_head.specs.declared.group.GroupInfo.{GroupInfo}
 use Rattle.m2v_head.specs.declared.picture.PictureInfo.{PictureInfo}
 use Rattle.m2v_head.specs.declared.picture.PictureExtension.{PictureExtension}

@@ -1,6 +1,6 @@
 -- Streams: units in order, and the rules that look at more than one of them (clause 6.1.1). Reading order is the order
 -- of the lines.
-use Rattle.std.specs.Prelude.{ℕ, ◌+◌, ◌-◌, Bool, true, false, not, ◌&&◌, ◌||◌, nat_eq, nat_lt, nat_le, List, [], ◌∷◌, ◌++◌, Option, Some, None, slice_index, is_some, length}
+use Rattle.std.specs.Prelude.{ℕ, ◌-◌, Bool, true, false, ◌&&◌, ◌||◌, nat_eq, nat_lt, nat_le, List, [], ◌∷◌, ◌++◌, Option, Some, None, slice_index, is_some, length}
 use Rattle.m2v_bits.specs.Syntax.{Syntax, done, here, rule, choose, repeated, ◌>>=◌}
 use Rattle.m2v_bits.specs.Leaves.{bits_at}
 use Rattle.m2v_head.specs.declared.group.GroupInfo.{GroupInfo}

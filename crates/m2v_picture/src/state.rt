@@ -2,7 +2,7 @@ ghost use Rattle.std.specs.Prelude.{◌≡◌, ◌≤◌};
 ghost use Rattle.m2v_model.specs.States.{columns_of as columns_in};
 ghost use Rattle.m2v_model.specs.Slices.{context as context_of};
 
-use m2v_macro::{PictureContext, SliceState};
+use m2v_macro::PictureContext;
 use m2v_model::{Open, Sequence, State};
 
 /// How many macroblocks stand in a row (clause 6.3.3).

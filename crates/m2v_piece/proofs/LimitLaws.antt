@@ -1,15 +1,14 @@
 -- Which byte passes a limit, as bytes become sure one after another.
-use Rattle.std.proofs.Common.{◌≡◌, ◌≢◌, ℕ, zero, suc, ◌+◌, ◌<◌, ◌≤◌, Bool, true, false, List, [], ◌∷◌, ◌++◌, length, take, set, Option, Some, None, refl, sym, ap, subst, ◌∙◌, append_assoc, arith, inl, inr}
+use Rattle.std.proofs.Common.{◌≡◌, ℕ, zero, suc, ◌+◌, ◌≤◌, Bool, true, false, List, [], ◌∷◌, ◌++◌, length, take, set, Option, Some, None, refl, sym, ap, subst, ◌∙◌, append_assoc, arith, inl, inr}
 use Rattle.std.specs.Prelude.{nat_eq, nat_le, nat_lt, not, ◌&&◌, if◌then◌else◌}
-use Rattle.std.proofs.lemmas.Bool.{cases_Bool, ltb-true, ltb-false, lt-ltb, le-ltb}
+use Rattle.std.proofs.lemmas.Bool.{cases_Bool, ltb-true, lt-ltb, le-ltb}
 use Rattle.std.proofs.lemmas.List.{append-nil, length-append}
 use Rattle.m2v_model.specs.declared.phase.Phase.{Phase}
 use Rattle.m2v_model.specs.declared.phase.Phase.TheVariants.{Before, Headers, Picture}
-use Rattle.m2v_model.specs.Units.{Units, cut}
-use Rattle.m2v_model.specs.Pieces.{limit, Limit, too_long, too_large, most_input, most_bytes, grouped, phase_after, begins_piece, is_end, piece_of}
+use Rattle.m2v_model.specs.Pieces.{limit, Limit, too_long, too_large, most_input, most_bytes}
 use Rattle.m2v_piece.specs.declared.answer.DecodeError.{DecodeError}
 use Rattle.m2v_piece.specs.declared.answer.DecodeError.TheVariants as errors
-use Rattle.m2v_piece.specs.Cutting.{Held, Fits, open_pieces, limit_in, limit_of, behind, sure_after, place_after, open_start, LimitErr, Passes, Stops, prefix}
+use Rattle.m2v_piece.specs.Cutting.{Held, Fits, open_pieces, limit_in, limit_of, behind, sure_after, place_after, open_start, LimitErr, Stops, prefix}
 use Rattle.m2v_piece.proofs.PieceLaws.{Begins, begins_headers, begins_picture}
 
 -- the limit that the first byte passes, or that of the others

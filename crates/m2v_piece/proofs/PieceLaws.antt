@@ -1,12 +1,12 @@
 -- How the pieces of a text follow from it byte by byte.
-use Rattle.std.proofs.Common.{◌≡◌, ℕ, zero, suc, ◌+◌, ◌<◌, ◌≤◌, Bool, true, false, cond, List, [], ◌∷◌, ◌++◌, length, take, drop, refl, sym, ap, subst, ◌∙◌, append_assoc, arith}
-use Rattle.std.specs.Prelude.{nat_eq, ◌&&◌, ◌||◌, slice_index, if◌then◌else◌}
-use Rattle.std.proofs.lemmas.Bool.{cond-true, cond-false}
+use Rattle.std.proofs.Common.{◌≡◌, ℕ, zero, suc, ◌+◌, ◌≤◌, Bool, true, false, List, [], ◌∷◌, ◌++◌, length, take, refl, sym, ap, subst, ◌∙◌, append_assoc, arith}
+use Rattle.std.specs.Prelude.{nat_eq, ◌||◌, slice_index, if◌then◌else◌}
+use Rattle.std.proofs.lemmas.Bool.{cond-false}
 use Rattle.std.proofs.lemmas.List.{append-nil, length-append}
 use Rattle.m2v_model.specs.declared.phase.Phase.{Phase}
 use Rattle.m2v_model.specs.declared.phase.Phase.TheVariants.{Before, Headers, Picture}
 use Rattle.m2v_model.specs.Units.{begins_code, cut}
-use Rattle.m2v_model.specs.Pieces.{grouped, phase_after, begins_piece, is_end, skipped, before_sequence}
+use Rattle.m2v_model.specs.Pieces.{grouped, phase_after, begins_piece, is_end, before_sequence}
 use Rattle.m2v_piece.specs.Cutting.{open_pieces, open_start, sure_after, place_after, prefix}
 
 -- a byte at which no start code begins

@@ -1,9 +1,9 @@
 -- What a cutter holds of a text, and what it hands out.
-use Rattle.std.specs.Prelude.{◌≡◌, ◌⊎◌, ℕ, suc, ◌+◌, ◌≤◌, ◌<◌, Bool, true, false, not, List, [], ◌∷◌, ◌++◌, length, take, Option, Some, None, nat_lt, nat_eq, if◌then◌else◌}
+use Rattle.std.specs.Prelude.{◌≡◌, ◌⊎◌, ℕ, suc, ◌+◌, ◌<◌, Bool, true, false, List, [], ◌∷◌, ◌++◌, length, take, Option, Some, None, nat_lt, nat_eq, if◌then◌else◌}
 use Rattle.m2v_model.specs.declared.phase.Phase.{Phase}
 use Rattle.m2v_model.specs.declared.phase.Phase.TheVariants.{Before, Headers, Picture}
 use Rattle.m2v_model.specs.Units.{cut}
-use Rattle.m2v_model.specs.Pieces.{grouped, piece_of, skipped, limit, Limit, too_long, too_large, most_input, trimmed, phase_after, is_end, begins_piece}
+use Rattle.m2v_model.specs.Pieces.{grouped, skipped, limit, Limit, too_long, too_large, most_input, trimmed, phase_after, is_end, begins_piece}
 use Rattle.m2v_piece.specs.declared.answer.Piece.{Piece}
 use Rattle.m2v_piece.specs.declared.answer.DecodeError.{DecodeError}
 use Rattle.m2v_piece.specs.declared.answer.DecodeError.TheVariants as errors

@@ -1,4 +1,4 @@
-ghost use Rattle.std.specs.Prelude.{◌≡◌, ◌⊎◌, ℕ, ◌+◌, ◌≤◌, ◌<◌, ◌++◌, ◌∷◌, [], List, length, drop, take, slice_index, IfOk, IfErr, OnErr, IfSome, IsErrOf, Ok, Err, None, Some, true, false};
+ghost use Rattle.std.specs.Prelude.{◌≡◌, ◌⊎◌, ℕ, ◌+◌, ◌≤◌, ◌<◌, [], List, length, drop, take, slice_index, IfOk, IfErr, OnErr, IsErrOf, Ok, Err, true, false};
 ghost use Rattle.m2v_port.specs.Port.{Rose, Moves, IsAtEnd};
 ghost use Rattle.m2v_piece.specs.Reads.{Refilled};
 

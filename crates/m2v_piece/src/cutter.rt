@@ -1,6 +1,6 @@
-ghost use Rattle.std.specs.Prelude.{◌≡◌, ◌⊎◌, ℕ, ◌+◌, ◌≤◌, ◌<◌, ◌++◌, List, [], length, IfOk, IfErr, OnOk, IsErrOf, IsTrue, Ok, Err, Some, None, true, false};
+ghost use Rattle.std.specs.Prelude.{◌≡◌, ℕ, ◌+◌, ◌≤◌, ◌<◌, ◌++◌, List, [], length, IfOk, IfErr, OnOk, IsErrOf, Ok, Err, Some, None, true, false};
 ghost use Rattle.m2v_port.specs.Port.{Rose};
-ghost use Rattle.m2v_piece.specs.Cutting.{Held, Fits, Stops, pieces_behind, start_behind};
+ghost use Rattle.m2v_piece.specs.Cutting.{Fits, Stops, pieces_behind, start_behind};
 ghost use Rattle.m2v_piece.specs.Stepping.{Turned, Rounded, Looked, Fails, Handed, Stopped, LastOf};
 
 use crate::chunk::Chunk;

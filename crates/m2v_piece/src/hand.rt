@@ -1,5 +1,5 @@
-ghost use Rattle.std.specs.Prelude.{◌≡◌, ◌≢◌, ◌⊎◌, ◌↔◌, ℕ, ◌+◌, ◌-◌, ◌≤◌, ◌<◌, ◌^◌, ◌++◌, ◌∷◌, [], List, length, take, replicate, min, IfOk, IfErr, IfSome, OnOk, OnErr, IsErrOf, IsTrue, Ok, Err, None, Some, true, false, nat_eq};
-ghost use Rattle.m2v_model.specs.Pieces.{limit, too_long, too_large, is_end, begins_piece, phase_after};
+ghost use Rattle.std.specs.Prelude.{◌≡◌, ◌↔◌, ◌+◌, ◌-◌, ◌≤◌, ◌<◌, ◌^◌, ◌++◌, ◌∷◌, [], length, replicate, min, IfOk, IfErr, OnOk, IsTrue, Ok, Err, None, false, nat_eq};
+ghost use Rattle.m2v_model.specs.Pieces.{limit, phase_after};
 ghost use Rattle.m2v_piece.specs.Cutting.{Held, Fits, prefix, behind, limit_of, IsPiece, LimitErr, Took, StopsAt, Stops, pieces_behind, start_behind, code_of, phase_behind, GoesOn, Ends, Begun, Finished};
 
 use crate::{DecodeError, Memory, Piece};

@@ -1,6 +1,6 @@
-ghost use Rattle.std.specs.Prelude.{◌≡◌, ◌⊎◌, ℕ, ◌+◌, ◌≤◌, ◌<◌, ◌++◌, List, length, IfOk, IfErr, OnOk, IsErrOf, IsTrue, Ok, Err, Some, None, true, false};
+ghost use Rattle.std.specs.Prelude.{◌≡◌, ◌<◌, IfOk, IfErr, Ok, Err};
 ghost use Rattle.m2v_model.specs.Pieces.{begins_piece};
-ghost use Rattle.m2v_piece.specs.Cutting.{Held, Fits, StopsAt};
+ghost use Rattle.m2v_piece.specs.Cutting.{Fits, StopsAt};
 ghost use Rattle.m2v_piece.specs.Stepping.{Takes};
 
 use crate::DecodeError;

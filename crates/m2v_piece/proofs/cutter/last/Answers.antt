@@ -1,4 +1,4 @@
-use Rattle.std.proofs.Common.{◌≡◌, [], ap, arith, refl}
+use Rattle.std.proofs.Common.{ap, arith, refl}
 use Rattle.std.proofs.lemmas.Bool.{both_ways}
 use Rattle.m2v_piece.specs.Cutting.{Held}
 use Rattle.m2v_piece.proofs.Stands.{none_left, one_left}

@@ -1,4 +1,4 @@
-use Rattle.std.proofs.Common.{◌≡◌, Option, Some, None, subst, arith}
+use Rattle.std.proofs.Common.{Option, None, subst, arith}
 use Rattle.m2v_piece.specs.declared.cutter.Stand.{Stand}
 use Rattle.m2v_piece.specs.Stepping.{Rounded}
 use Rattle.m2v_piece.proofs.Stands.{advanced_on, looked_on, fails_on}

@@ -1,4 +1,4 @@
-use Rattle.std.proofs.Common.{ℕ, ◌≤◌}
+use Rattle.std.proofs.Common.{◌≤◌}
 use Rattle.m2v_piece.specs.Stepping.{Advanced, measure_of}
 use Rattle.m2v_piece.proofs.cutter.look_on.Given as goal
 

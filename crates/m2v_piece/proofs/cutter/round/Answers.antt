@@ -1,4 +1,3 @@
-use Rattle.std.proofs.Common.{◌≡◌, ℕ, List, ◌++◌, sym, ap, subst, ◌∙◌, append_assoc}
 use Rattle.m2v_piece.proofs.Stands.{filled_fails, never_read}
 use Rattle.m2v_piece.proofs.Steps.{each_err}
 use Rattle.m2v_piece.proofs.cutter.round.Goals as goal

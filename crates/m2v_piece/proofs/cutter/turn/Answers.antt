@@ -1,4 +1,4 @@
-use Rattle.std.proofs.Common.{◌≡◌, ℕ, List, [], ◌∷◌, ◌++◌, drop, refl, sym, ap, subst, ◌∙◌}
+use Rattle.std.proofs.Common.{ℕ, List, ◌++◌, drop, sym, ap, subst, ◌∙◌}
 use Rattle.m2v_piece.specs.Cutting.{Held, Fits, Stops, pieces_behind, start_behind}
 use Rattle.m2v_piece.specs.declared.taking.Byte.{Byte}
 use Rattle.m2v_piece.specs.Stepping.{Takes, IsWhole, IsLast}

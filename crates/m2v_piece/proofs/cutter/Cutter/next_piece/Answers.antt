@@ -1,5 +1,5 @@
-use Rattle.std.proofs.Common.{◌≡◌, ap, sym, ◌∙◌}
-use Rattle.m2v_piece.proofs.Stands.{at_piece_fits, left_is, start_is, last_next}
+use Rattle.std.proofs.Common.{ap, ◌∙◌}
+use Rattle.m2v_piece.proofs.Stands.{at_piece_fits}
 use Rattle.m2v_piece.proofs.cutter.Cutter.next_piece.Goals as goal
 
 pub look_on-requires : goal.look_on-requires

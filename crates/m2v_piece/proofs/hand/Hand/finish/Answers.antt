@@ -1,4 +1,4 @@
-use Rattle.std.proofs.Common.{ap, ◌∙◌, arith, ◌≡◌, sym}
+use Rattle.std.proofs.Common.{ap, arith, sym}
 use Rattle.std.proofs.lemmas.Result.{err_from_is_err_and}
 use Rattle.m2v_piece.specs.Cutting.{Held}
 use Rattle.m2v_piece.proofs.Steps.{finished_by, finished_none, stops_by}

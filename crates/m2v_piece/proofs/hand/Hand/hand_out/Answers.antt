@@ -1,4 +1,4 @@
-use Rattle.std.proofs.Common.{arith, ap, sym, ◌∙◌, ◌≡◌, ◌++◌, replicate, refl, min, List, ℕ}
+use Rattle.std.proofs.Common.{arith, ap, ◌∙◌, ◌++◌, replicate, refl, min}
 use Rattle.m2v_piece.proofs.TrimLaws.{trimmed_is, length-sure}
 use Rattle.m2v_piece.proofs.hand.Hand.hand_out.Goals as goal
 

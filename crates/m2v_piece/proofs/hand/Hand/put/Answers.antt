@@ -1,4 +1,4 @@
-use Rattle.std.proofs.Common.{◌≡◌, ◌++◌, ◌∷◌, [], length, replicate, arith, ap, sym, ◌∙◌}
+use Rattle.std.proofs.Common.{◌++◌, ◌∷◌, [], length, replicate, arith, ap, ◌∙◌}
 use Rattle.std.proofs.lemmas.List.{length-append}
 use Rattle.m2v_model.specs.Pieces.{zeros_last}
 use Rattle.m2v_piece.proofs.TrimLaws.{zeros_last_end, length-sure}

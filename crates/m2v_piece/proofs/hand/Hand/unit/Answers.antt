@@ -1,4 +1,4 @@
-use Rattle.std.proofs.Common.{◌≡◌, sym, ap, refl, ◌∙◌}
+use Rattle.std.proofs.Common.{sym, ap, ◌∙◌}
 use Rattle.m2v_piece.specs.Cutting.{Held, phase_behind}
 use Rattle.m2v_piece.proofs.Steps.{took_unit, stops_unit, before_only, unit_is}
 use Rattle.m2v_piece.proofs.hand.Hand.unit.Goals as goal
