@@ -2,7 +2,8 @@ ghost use Rattle.std.specs.Prelude.{◌≤◌, ◌^◌, length};
 ghost use Rattle.m2v_macro.specs.Conditions.{IsContext, IsReady, IsAddress};
 
 use crate::{
-    MacroFault, MacroSyntax, PictureContext, SliceState, macro_bits, read_macro, write_macro,
+    MacroFault, MacroSyntax, PictureContext, SliceState, begins_before, macro_bits, read_macro,
+    write_macro,
 };
 use m2v_bits::{BitReader, BitWriter};
 use m2v_head::PictureExtension;
@@ -111,7 +112,8 @@ fn goes_both_ways(
     }
     let mut again = before;
     write_macro(&m, &context, &mut again, &mut out);
-    let measured = out.bit_len() == bits && input.place() == bits;
+    let stepped = before.after(&context, &m) == behind;
+    let measured = stepped && out.bit_len() == bits && input.place() == bits;
     out.align();
     if out.bit_len() % 8 != 0 {
         return Ok(false);
@@ -439,5 +441,21 @@ fn both_edges_give_one_vector(rt: HostRuntime) {
         let read = read_macro(&mut input, &context, &mut behind);
         assert!(rt; read.is_ok_and(|m| m.vectors[0][0] == [-32, 0]));
         assert!(rt; behind.pmv.at == [[[-32, 0], [0, 0]], [[-32, 0], [0, 0]]]);
+    }
+}
+
+#[test]
+fn a_slice_that_begins_too_early_is_known(rt: HostRuntime) {
+    let context = context(I);
+    // increments 1, 2 and a code that is cut off, in a row whose first macroblock is covered, or isn't
+    for (byte, early, late) in [
+        (0x80, true, false),
+        (0x60, false, false),
+        (0x00, false, false),
+    ] {
+        let bytes = [byte];
+        let input = BitReader::new(&bytes);
+        assert!(rt; begins_before(&input, &state(&context, true, false, 1)) == early);
+        assert!(rt; begins_before(&input, &state(&context, true, false, 0)) == late);
     }
 }
