@@ -9,4 +9,5 @@ pub mod Streams
 pub mod Pictures
 pub mod Pieces
 pub mod Decoding
+pub mod ByPieces
 pub mod Worked
