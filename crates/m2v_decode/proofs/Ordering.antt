@@ -1,0 +1,138 @@
+-- What a display queue hands out over the frames of pictures is display order.
+use Rattle.std.proofs.Common.{◌≡◌, ℕ, ◌+◌, Bool, true, false, cond, List, [], ◌∷◌, ◌++◌, length, map, Option, Some, None, option_to_list, refl, sym, ap, subst, ◌∙◌, append_assoc}
+use Rattle.std.specs.Prelude.{filter, ◌||◌, ◌==◌}
+use Rattle.std.specs.Option.{option_map}
+use Rattle.std.proofs.lemmas.List.{append-nil, map-append}
+use Rattle.std.proofs.lemmas.List.Elements.{filter-append}
+use Rattle.m2v_plane.specs.Samples.{Samples}
+use Rattle.m2v_plane.specs.Raw.{crop}
+use Rattle.m2v_order.specs.Display.{Holder, opening, shown as shown_step, held, handed, held_after, is_kept, frames_of, Shown, Due}
+use Rattle.m2v_order.proofs.Shows.{handed_due, handed_shown}
+use Rattle.m2v_model.specs.declared.state.Sequence.{Sequence}
+use Rattle.m2v_model.specs.Pictures.{Picture, Pictures}
+use Rattle.m2v_model.specs.Decoding.{is_dropped, raw_frames, shown, due, low_delay_of}
+use Rattle.m2v_decoder.specs.Decoding.{frame_of, decoded_of, queue_of, Agrees, Shows}
+
+-- ---- one list behind another
+
+decoded-append : (ps qs : Pictures) → decoded_of (ps ++ qs) ≡ decoded_of ps ++ decoded_of qs
+decoded-append ps qs = ap (map frame_of) (filter-append (is_kept is_dropped) ps qs) ∙ map-append frame_of (filter (is_kept is_dropped) ps) (filter (is_kept is_dropped) qs)
+
+low_one : {F : Type 0} (q : Holder F) (f : F) (kind : ℕ) (b : Bool) → (q.low_delay || (kind == 3)) ≡ b → (held q f kind).low_delay ≡ q.low_delay
+unfolding held
+low_one q f kind true e = rw e refl
+low_one q f kind false e = rw e refl
+
+low_stays : {F : Type 0} (q : Holder F) (ps : List (F × ℕ)) → (held_after q ps).low_delay ≡ q.low_delay
+unfolding held_after
+low_stays q [] = refl
+low_stays q (p ∷ ps) = low_stays (held q p.0 p.1) ps ∙ low_one q p.0 p.1 (q.low_delay || (p.1 == 3)) refl
+
+handed-append : {F : Type 0} (q : Holder F) (ps qs : List (F × ℕ)) → handed q (ps ++ qs) ≡ handed q ps ++ handed (held_after q ps) qs
+unfolding handed held_after
+handed-append q [] qs = refl
+handed-append q (p ∷ ps) qs =
+    ap (λ t. option_to_list (shown_step q p.0 p.1) ++ t) (handed-append (held q p.0 p.1) ps qs)
+    ∙ sym (append_assoc (option_to_list (shown_step q p.0 p.1)) (handed (held q p.0 p.1) ps) (handed (held_after (held q p.0 p.1) ps) qs))
+
+held-append : {F : Type 0} (q : Holder F) (ps qs : List (F × ℕ)) → held_after q (ps ++ qs) ≡ held_after (held_after q ps) qs
+unfolding held_after
+held-append q [] qs = refl
+held-append q (p ∷ ps) qs = held-append (held q p.0 p.1) ps qs
+
+-- the queue behind frames, by the anchor that it holds then
+queue_is : (low : Bool) (anchor then : Option Samples) (ps : List (Samples × ℕ)) → then ≡ (held_after (queue_of low anchor) ps).anchor → held_after (queue_of low anchor) ps ≡ queue_of low then
+queue_is low anchor then ps e =
+    let q = held_after (queue_of low anchor) ps in
+    let l : q.low_delay ≡ low = low_stays (queue_of low anchor) ps in
+    ap (λ (x : Bool). record { low_delay = x; anchor = q.anchor }) l ∙ ap (λ (x : Option Samples). queue_of low x) (sym e)
+
+pub shows_none : (low : Bool) (anchor : Option Samples) (ready : List Samples) → Shows low anchor ready [] anchor ready
+unfolding handed held_after
+shows_none low anchor ready = record { ready_is = sym (append-nil ready); anchor_is = refl }
+
+-- pictures, and more pictures of which what is shown is counted from nothing
+pub shows_on : (low : Bool) (a b c : Option Samples) (r s t : List Samples) (ps qs : Pictures)
+    → Shows low a r ps b s → Shows low b [] qs c t → Shows low a r (ps ++ qs) c (s ++ t)
+shows_on low a b c r s t ps qs first second =
+    let q = queue_of low a in
+    let now = queue_is low a b (decoded_of ps) first.anchor_is in
+    record {
+      ready_is =
+          ap (λ (x : List Samples). x ++ t) first.ready_is
+          ∙ append_assoc r (handed q (decoded_of ps)) t
+          ∙ ap (λ (x : List Samples). r ++ x)
+          (ap (λ (x : List Samples). handed q (decoded_of ps) ++ x) (second.ready_is ∙ ap (λ (x : Holder Samples). handed x (decoded_of qs)) (sym now))
+          ∙ sym (handed-append q (decoded_of ps) (decoded_of qs)) ∙ ap (handed q) (sym (decoded-append ps qs)));
+      anchor_is =
+          second.anchor_is
+          ∙ ap (λ (x : Holder Samples). (held_after x (decoded_of qs)).anchor) (sym now)
+          ∙ ap (λ (x : Holder Samples). x.anchor) (sym (held-append q (decoded_of ps) (decoded_of qs)) ∙ ap (held_after q) (sym (decoded-append ps qs)));
+    }
+
+-- ---- frames of pictures
+
+framed : Holder Picture → Holder Samples
+framed q = record { low_delay = q.low_delay; anchor = option_map (λ (p : Picture). p.frame) q.anchor }
+
+framed_held : (q : Holder Picture) (p : Picture) (kind : ℕ) (b : Bool) → (q.low_delay || (kind == 3)) ≡ b → framed (held q p kind) ≡ held (framed q) p.frame kind
+unfolding held framed
+framed_held q p kind true e = rw e refl
+framed_held q p kind false e = rw e refl
+
+shown_one : (q : Holder Picture) (p : Picture) (kind : ℕ) (b : Bool) → (q.low_delay || (kind == 3)) ≡ b → shown_step (framed q) p.frame kind ≡ option_map (λ (x : Picture). x.frame) (shown_step q p kind)
+unfolding shown_step framed
+shown_one q p kind true e = rw e refl
+shown_one q p kind false e = rw e refl
+
+list_of_map : (o : Option Picture) → option_to_list (option_map (λ (x : Picture). x.frame) o) ≡ map (λ (x : Picture). x.frame) (option_to_list o)
+list_of_map None = refl
+list_of_map (Some x) = refl
+
+framed_handed : (q : Holder Picture) (ps : Pictures) → handed (framed q) (map frame_of ps) ≡ map (λ (x : Picture). x.frame) (handed q ps)
+unfolding handed
+framed_handed q [] = refl
+framed_handed q (p ∷ ps) =
+    let b = q.low_delay || (p.1 == 3) in
+    ap (λ (o : Option Samples). option_to_list o ++ handed (held (framed q) (p.0).frame p.1) (map frame_of ps)) (shown_one q p.0 p.1 b refl)
+    ∙ ap (λ (x : List Samples). x ++ handed (held (framed q) (p.0).frame p.1) (map frame_of ps)) (list_of_map (shown_step q p.0 p.1))
+    ∙ ap (λ (x : List Samples). map (λ (y : Picture). y.frame) (option_to_list (shown_step q p.0 p.1)) ++ x)
+    (ap (λ (x : Holder Samples). handed x (map frame_of ps)) (sym (framed_held q p.0 p.1 b refl)) ∙ framed_handed (held q p.0 p.1) ps)
+    ∙ sym (map-append (λ (y : Picture). y.frame) (option_to_list (shown_step q p.0 p.1)) (handed (held q p.0 p.1) ps))
+
+framed_after : (q : Holder Picture) (ps : Pictures) → held_after (framed q) (map frame_of ps) ≡ framed (held_after q ps)
+unfolding held_after
+framed_after q [] = refl
+framed_after q (p ∷ ps) =
+    ap (λ (x : Holder Samples). held_after x (map frame_of ps)) (sym (framed_held q p.0 p.1 (q.low_delay || (p.1 == 3)) refl)) ∙ framed_after (held q p.0 p.1) ps
+
+map_map : (ps : List (Picture × ℕ)) → map crop (map (λ (x : Picture). x.frame) (frames_of ps)) ≡ raw_frames ps
+map_map [] = refl
+map_map (p ∷ ps) = ap (λ (t : List (List ℕ)). crop (p.0).frame ∷ t) (map_map ps)
+
+-- what was handed out are the frames that are due
+pub due_is : (low : Bool) (ps : Pictures) (anchor : Option Samples) (frames : List Samples) → Shows low None [] ps anchor frames → map crop frames ≡ due low ps
+unfolding framed
+due_is low ps anchor frames s =
+    let kept = filter (is_kept is_dropped) ps in
+    ap (map crop) (s.ready_is ∙ framed_handed (opening low) kept ∙ ap (map (λ (x : Picture). x.frame)) (handed_due is_dropped low ps))
+    ∙ map_map (Due is_dropped low ps)
+
+-- and with the last anchor those that are shown
+pub shown_is : (low : Bool) (ps : Pictures) (anchor : Option Samples) (frames : List Samples) → Shows low None [] ps anchor frames → map crop (frames ++ option_to_list anchor) ≡ shown low ps
+unfolding framed
+shown_is low ps anchor frames s =
+    let kept = filter (is_kept is_dropped) ps in
+    let last : option_to_list anchor ≡ map (λ (x : Picture). x.frame) (option_to_list (held_after (opening low) kept).anchor) =
+        ap option_to_list (s.anchor_is ∙ ap (λ (x : Holder Samples). x.anchor) (framed_after (opening low) kept)) ∙ list_of_map (held_after (opening low) kept).anchor in
+    ap (map crop)
+    (ap (λ (x : List Samples). x ++ option_to_list anchor) (s.ready_is ∙ framed_handed (opening low) kept)
+    ∙ ap (λ (x : List Samples). map (λ (y : Picture). y.frame) (handed (opening low) kept) ++ x) last
+    ∙ sym (map-append (λ (y : Picture). y.frame) (handed (opening low) kept) (option_to_list (held_after (opening low) kept).anchor))
+    ∙ ap (map (λ (x : Picture). x.frame)) (handed_shown is_dropped low ps))
+    ∙ map_map (Shown is_dropped low ps)
+
+-- low_delay of the first sequence extension agrees with it
+pub agrees : (first : Option Sequence) → Agrees (low_delay_of first) first
+agrees None = tt
+agrees (Some s) = refl

@@ -1,0 +1,110 @@
+-- What decoding a stream answers, and what stands then in input and output.
+use Rattle.std.specs.Prelude.{◌≡◌, ◌⊎◌, ℕ, ◌+◌, ◌<◌, ◌≤◌, List, [], ◌∷◌, ◌++◌, length, map, filter, Option, Some, None, Ok, Err}
+use Rattle.m2v_port.specs.Port.{Moves, Grows, GrowsByPrefix}
+use Rattle.m2v_plane.specs.Raw.{raw}
+use Rattle.m2v_model.specs.declared.fault.FaultKind.{FaultKind}
+use Rattle.m2v_model.specs.declared.state.State.{State}
+use Rattle.m2v_model.specs.States.{at_first}
+use Rattle.m2v_model.specs.Pictures.{Picture, Pictures}
+use Rattle.m2v_model.specs.Pieces.{pieces, limit, Limit, too_long, too_large, most_input}
+use Rattle.m2v_model.specs.Pieces.{skipped as before_pieces}
+use Rattle.m2v_model.specs.Decoding.{Decodes, FaultAt, shown, due, low_delay_of}
+use Rattle.m2v_model.specs.ByPieces.{piece_read, pieces_read, end_of, IsRead}
+use Rattle.m2v_piece.specs.declared.answer.Fault.{Fault}
+use Rattle.m2v_piece.specs.declared.answer.DecodeError.{DecodeError}
+use Rattle.m2v_piece.specs.declared.answer.DecodeError.TheVariants as errors
+use Rattle.m2v_piece.specs.Cutting.{Stops}
+use Rattle.m2v_decode.specs.declared.answer.Decoded.{Decoded}
+
+-- what an endpoint tells, before and after
+pub record Change : Type 0 where
+  pub old : Option (List ℕ)
+  pub new : Option (List ℕ)
+
+-- where the first piece of a text begins
+abbrev pub start_of : List ℕ → ℕ
+start_of text = length (before_pieces text)
+
+-- pieces of which none passes a limit, the first from a byte on
+abbrev pub AllFit : ℕ → List (List ℕ) → Type 0
+AllFit at [] = Unit {0}
+AllFit at (p ∷ ps) = (limit at 0 p ≡ None) × AllFit (at + length p) ps
+
+-- the first pieces of a text: none of them passes a limit, and they stand; with their pictures and the state behind them
+pub record Begun (text : List ℕ) (ps : Pictures) (st : State) (others : List (List ℕ)) : Type 0 where
+  pub first : List (List ℕ)
+  pub are : pieces text ≡ first ++ others
+  pub fit : AllFit (start_of text) first
+  pub read : pieces_read at_first (start_of text) first ≡ Ok (ps, st)
+
+-- the place behind them
+abbrev pub behind : {text : List ℕ} {ps : Pictures} {st : State} {others : List (List ℕ)} → Begun text ps st others → ℕ
+behind {text} b = end_of (start_of text) b.first
+
+-- the next piece has the first fault; behind the last one the end of the text
+abbrev pub HasFault : State → ℕ → List (List ℕ) → FaultKind → ℕ → Type 0
+HasFault st at [] kind place = piece_read st at [] ≡ Err (kind, place)
+HasFault st at (p ∷ ps) kind place = (limit at 0 p ≡ None) × (piece_read st (at + length p) p ≡ Err (kind, place))
+
+-- the frames that the pictures of the pieces before show before the end
+abbrev pub due_before : State → Pictures → List (List ℕ)
+due_before st ps = due (low_delay_of st.first) ps
+
+-- all frames that they show
+abbrev pub shown_by : State → Pictures → List (List ℕ)
+shown_by st ps = shown (low_delay_of st.first) ps
+
+-- The text is a stream without a fault, no piece of it passes a limit, and output has grown by the frames that it shows.
+pub record IsDecoded (text : List ℕ) (held : Change) (d : Decoded) : Type 0 where
+  pub frames : List (List ℕ)
+  pub decodes : Decodes text frames
+  pub pictures : Pictures
+  pub state : State
+  pub read : IsRead text pictures state
+  pub fit : AllFit (start_of text) (pieces text)
+  pub grown : Grows held.old (raw frames) held.new
+  pub numbers : d ≡ record { frames = length frames; pictures = length pictures; dropped = 0 }
+
+-- The text has this first fault, and output has grown by the frames that are due from the pieces before the one in which
+-- it is looked at; where that is at the end, from all pieces.
+pub record IsFaulty (text : List ℕ) (held : Change) (f : Fault) : Type 0 where
+  pub fault : FaultAt text f.place f.kind
+  pub pictures : Pictures
+  pub state : State
+  pub others : List (List ℕ)
+  pub begun : Begun text pictures state others
+  pub here : HasFault state (behind begun) others f.kind f.place
+  pub grown : Grows held.old (raw (due_before state pictures)) held.new
+
+-- The next piece passes a limit, or the bytes before the first one do, and output has grown by the frames that are due
+-- from the pieces before.
+pub record IsOver (text : List ℕ) (held : Change) (e : DecodeError) : Type 0 where
+  pub pictures : Pictures
+  pub state : State
+  pub others : List (List ℕ)
+  pub begun : Begun text pictures state others
+  pub over : Stops (behind begun) others e
+  pub grown : Grows held.old (raw (due_before state pictures)) held.new
+
+-- Output has grown by a prefix of the frames that whole pictures of the text show.
+pub record IsCut (text : List ℕ) (held : Change) : Type 0 where
+  pub pictures : Pictures
+  pub state : State
+  pub others : List (List ℕ)
+  pub begun : Begun text pictures state others
+  pub grown : GrowsByPrefix held.old (raw (shown_by state pictures)) held.new
+
+-- Some bytes of the input were read, and where the input tells its bytes, this holds of them and what is left.
+pub record Of (left : Change) (Holds : List ℕ → Type 0) : Type 0 where
+  pub bytes : List ℕ
+  pub moved : Moves left.old bytes left.new
+  pub told : (rest : List ℕ) → left.new ≡ Some rest → Holds (bytes ++ rest)
+
+-- When each error comes, and what stands then. `InputRose` and `OutputRose` say that the endpoint's count rose.
+abbrev pub Fails : (InputRose OutputRose : Type 0) → Change → Change → DecodeError → Type 0
+Fails InputRose OutputRose left held errors.Read = InputRose × Of left (λ text. IsCut text held)
+Fails InputRose OutputRose left held errors.Write = OutputRose × Of left (λ text. IsCut text held)
+Fails InputRose OutputRose left held (errors.Stream f) = Of left (λ text. IsFaulty text held f)
+Fails InputRose OutputRose left held errors.TooLong = Of left (λ text. IsOver text held errors.TooLong)
+Fails InputRose OutputRose left held errors.PictureTooLarge = Of left (λ text. IsOver text held errors.PictureTooLarge)
+Fails InputRose OutputRose left held errors.Memory = Of left (λ text. IsCut text held)

@@ -1,0 +1,89 @@
+-- Decoding under way: what stands between two pieces.
+use Rattle.std.specs.Prelude.{◌≡◌, ℕ, ◌+◌, ◌≤◌, Bool, true, false, List, [], ◌∷◌, ◌++◌, length, map, Option, Some, None, Ok, Err, option_to_list}
+use Rattle.m2v_port.specs.Port.{Moves, Grows, GrowsByPrefix}
+use Rattle.m2v_plane.specs.Samples.{Samples}
+use Rattle.m2v_plane.specs.Raw.{raw, crop}
+use Rattle.m2v_model.specs.Pictures.{Pictures}
+use Rattle.m2v_model.specs.ByPieces.{piece_read}
+use Rattle.m2v_piece.specs.declared.answer.DecodeError.{DecodeError}
+use Rattle.m2v_piece.specs.declared.answer.DecodeError.TheVariants as errors
+use Rattle.m2v_piece.specs.Cutting.{Cutting, left_of, start_of as start_of_rest}
+use Rattle.m2v_decoder.specs.Decoding.{Decoding, due_of, Agrees, Shows, Finished}
+use Rattle.m2v_decode.specs.declared.answer.Decoded.{Decoded}
+use Rattle.m2v_decode.specs.Answers.{Change, Begun, behind, Of, AllFit, start_of}
+
+-- frames as raw video
+abbrev pub raw_of : List Samples → List ℕ
+raw_of frames = raw (map crop frames)
+
+-- a cutter that has read nothing
+abbrev pub before_all : Cutting
+before_all = record { place = 0; unread = []; begun = false; ended = false; failed = false }
+
+-- why bytes weren't written whole: output failed or memory ran out, and a prefix of them stands
+abbrev pub Cuts : (OutputRose : Type 0) → List ℕ → Change → DecodeError → Type 0
+Cuts OutputRose bytes held errors.Read = ⊥
+Cuts OutputRose bytes held errors.Write = OutputRose × GrowsByPrefix held.old bytes held.new
+Cuts OutputRose bytes held (errors.Stream f) = ⊥
+Cuts OutputRose bytes held errors.TooLong = ⊥
+Cuts OutputRose bytes held errors.PictureTooLarge = ⊥
+Cuts OutputRose bytes held errors.Memory = GrowsByPrefix held.old bytes held.new
+
+-- the frames that were due were handed out
+pub record HasPut (old new : Decoding) : Type 0 where
+  pub none : due_of new ≡ []
+  pub state : new.state ≡ old.state
+  pub anchor : old.ended ≡ false → new.anchor ≡ old.anchor
+  pub ended : new.ended ≡ old.ended
+  pub failed : new.failed ≡ old.failed
+  pub pictures : new.pictures ≡ old.pictures
+  pub shown : new.shown ≡ old.shown + length (due_of old)
+
+-- the first pieces of the text were read, and the frames due from them written
+pub record Reached (text : List ℕ) (start : ℕ) (others : List (List ℕ)) (frames : List Samples) (d : Decoding) : Type 0 where
+  pub pictures : Pictures
+  pub begun : Begun text pictures d.state others
+  pub place : start ≡ behind begun
+  pub shows : (low : Bool) → Agrees low d.state.first → Shows low None [] pictures d.anchor frames
+  pub counted : d.pictures ≡ length pictures
+
+-- bytes were read and frames written
+pub record Progress (left held : Change) (c : Cutting) (d : Decoding) : Type 0 where
+  pub bytes : List ℕ
+  pub moved : Moves left.old bytes left.new
+  pub frames : List Samples
+  pub grown : Grows held.old (raw_of frames) held.new
+  pub shown : d.shown ≡ length frames
+  pub none : d.ready ≡ []
+  pub going : d.ended ≡ false
+  pub sound : d.failed ≡ false
+  pub told : (rest : List ℕ) → left.new ≡ Some rest → Reached (bytes ++ rest) (start_of_rest c rest) (left_of c rest) frames d
+
+-- all pieces were read
+pub record IsDone (left held : Change) (c : Cutting) (d : Decoding) : Type 0 where
+  pub bytes : List ℕ
+  pub moved : Moves left.old bytes left.new
+  pub frames : List Samples
+  pub grown : Grows held.old (raw_of frames) held.new
+  pub shown : d.shown ≡ length frames
+  pub none : d.ready ≡ []
+  pub going : d.ended ≡ false
+  pub sound : d.failed ≡ false
+  pub over : c.ended ≡ true
+  pub told : (rest : List ℕ) → left.new ≡ Some rest → Reached (bytes ++ rest) c.place [] frames d
+
+-- the end of the text was read, and the frames due then written
+pub record Ends (old : Decoding) (end : ℕ) (d : Decoded) (held : Change) : Type 0 where
+  pub new : Decoding
+  pub finished : Finished old end new
+  pub grown : Grows held.old (raw_of (due_of new)) held.new
+  pub numbers : d ≡ record { frames = old.shown + length (due_of new); pictures = old.pictures; dropped = 0 }
+
+-- why not
+abbrev pub EndFails : (OutputRose : Type 0) → Decoding → ℕ → Change → DecodeError → Type 0
+EndFails OutputRose old end held errors.Read = ⊥
+EndFails OutputRose old end held errors.Write = OutputRose × ((new : Decoding) × Finished old end new × GrowsByPrefix held.old (raw_of (due_of new)) held.new)
+EndFails OutputRose old end held (errors.Stream f) = (piece_read old.state end [] ≡ Err (f.kind, f.place)) × (held.new ≡ held.old)
+EndFails OutputRose old end held errors.TooLong = ⊥
+EndFails OutputRose old end held errors.PictureTooLarge = ⊥
+EndFails OutputRose old end held errors.Memory = (new : Decoding) × Finished old end new × GrowsByPrefix held.old (raw_of (due_of new)) held.new

@@ -1,0 +1,96 @@
+ghost use Rattle.std.specs.Prelude.{◌≡◌, ℕ, ◌+◌, ◌≤◌, ◌<◌, ◌^◌, [], IsTrue, IfOk, IfErr, OnOk, true, false};
+ghost use Rattle.m2v_port.specs.Port.{Rose};
+ghost use Rattle.m2v_decoder.specs.Decoding.{at_start};
+ghost use Rattle.m2v_decode.specs.Answers.{Change, Of, IsDecoded, Fails};
+ghost use Rattle.m2v_decode.specs.Progress.{before_all, IsDone, Ends, EndFails};
+
+use crate::answer::Decoded;
+use crate::frames::put_due;
+use m2v_decoder::Decoder;
+use m2v_piece::{Cutter, DecodeError};
+use m2v_port::{Sink, Source};
+use std::alloc::Global;
+
+/// Reads piece after piece, and writes the frames that are due behind each.
+fn read_pieces<S: Source, K: Sink>(
+    alloc: Global,
+    cutter: &mut Cutter,
+    decoder: &mut Decoder,
+    input: &mut S,
+    output: &mut K,
+) -> Result<(), DecodeError>
+    requires cutter { cutter.old ≡ before_all }
+    requires decoder { decoder.old ≡ at_start }
+    requires output { IsTrue (K.ready output.old) }
+    ensures ok { OnOk result (IsDone (record { old = S.left input.old; new = S.left input.new }) (record { old = K.held output.old; new = K.held output.new }) cutter.new decoder.new) }
+    ensures err { IfErr result (Fails (Rose (S.faults input.old) (S.faults input.new)) (Rose (K.faults output.old) (K.faults output.new)) (record { old = S.left input.old; new = S.left input.new }) (record { old = K.held output.old; new = K.held output.new })) }
+    ensures output { IsTrue (K.ready output.new) }
+    ensures name { K.name output.new ≡ K.name output.old }
+    ensures input_faults { S.faults input.old ≤ S.faults input.new }
+    ensures output_faults { K.faults output.old ≤ K.faults output.new }
+{
+    loop {
+        match cutter.next_piece(alloc, input) {
+            Err(e) => return Err(e),
+            Ok(None) => return Ok(()),
+            Ok(Some(piece)) => {
+                decoder.piece(alloc, &piece)?;
+                put_due(alloc, decoder, output)?;
+            }
+        }
+    }
+}
+
+/// Ends the stream, and writes the frames that are due then.
+fn finish<K: Sink>(
+    alloc: Global,
+    end: u64,
+    decoder: &mut Decoder,
+    output: &mut K,
+) -> Result<Decoded, DecodeError>
+    requires going { decoder.old.failed ≡ false }
+    requires before { decoder.old.ended ≡ false }
+    requires end { end ≤ 2 ^ 36 }
+    requires output { IsTrue (K.ready output.old) }
+    ensures ok { IfOk result (λ d. Ends decoder.old end d (record { old = K.held output.old; new = K.held output.new })) }
+    ensures err { IfErr result (EndFails (Rose (K.faults output.old) (K.faults output.new)) decoder.old end (record { old = K.held output.old; new = K.held output.new })) }
+    ensures output { IsTrue (K.ready output.new) }
+    ensures name { K.name output.new ≡ K.name output.old }
+    ensures faults { K.faults output.old ≤ K.faults output.new }
+{
+    match decoder.end(end) {
+        Err(f) => return Err(DecodeError::Stream(f)),
+        Ok(()) => {}
+    }
+    put_due(alloc, decoder, output)?;
+    Ok(Decoded {
+        frames: decoder.shown(),
+        pictures: decoder.pictures(),
+        dropped: 0,
+    })
+}
+
+/// Decodes a stream: reads it to its end code or to the input's end, and writes the frames that it shows as raw video, in
+/// display order, each as it becomes due.
+///
+/// # Errors
+/// The first fault of the stream, with output grown by the frames that were due before the piece that has it; too long
+/// or too large, by the input's limits; a failed endpoint; want of memory.
+pub fn decode<S: Source, K: Sink>(
+    alloc: Global,
+    input: &mut S,
+    output: &mut K,
+) -> Result<Decoded, DecodeError>
+    requires output { IsTrue (K.ready output.old) }
+    ensures ok { IfOk result (λ d. Of (record { old = S.left input.old; new = S.left input.new }) (λ text. IsDecoded text (record { old = K.held output.old; new = K.held output.new }) d)) }
+    ensures err { IfErr result (Fails (Rose (S.faults input.old) (S.faults input.new)) (Rose (K.faults output.old) (K.faults output.new)) (record { old = S.left input.old; new = S.left input.new }) (record { old = K.held output.old; new = K.held output.new })) }
+    ensures output { IsTrue (K.ready output.new) }
+    ensures name { K.name output.new ≡ K.name output.old }
+    ensures input_faults { S.faults input.old ≤ S.faults input.new }
+    ensures output_faults { K.faults output.old ≤ K.faults output.new }
+{
+    let mut cutter = Cutter::new(alloc)?;
+    let mut decoder = Decoder::new(alloc)?;
+    read_pieces(alloc, &mut cutter, &mut decoder, input, output)?;
+    finish(alloc, cutter.end(), &mut decoder, output)
+}

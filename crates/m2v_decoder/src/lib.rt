@@ -1,0 +1,9 @@
+//! A decoder of streams, piece by piece: it reads each piece as the definitions say, and hands out frames as they are due.
+#![tactic(auto)]
+
+mod decoder;
+
+pub use decoder::Decoder;
+
+/// Want of memory.
+pub type Memory = std::alloc::AllocError;
