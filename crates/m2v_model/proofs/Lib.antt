@@ -4,6 +4,8 @@ pub mod LookLaws
 pub mod HeaderLaws
 pub mod SliceLaws
 pub mod StreamLaws
+pub mod FlowLaws
+pub mod PieceLaws
 pub mod Unique
 pub mod Fronts
 pub mod Worked
