@@ -5,6 +5,7 @@ pub mod HeaderLaws
 pub mod SliceLaws
 pub mod StreamLaws
 pub mod FlowLaws
+pub mod ShiftLaws
 pub mod PieceLaws
 pub mod Unique
 pub mod Fronts

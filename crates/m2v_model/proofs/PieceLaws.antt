@@ -2,6 +2,7 @@
 use Rattle.std.proofs.Common.{◌≡◌, ℕ, List}
 use Rattle.m2v_model.specs.ByPieces.{ByPieces}
 use Rattle.m2v_model.proofs.FlowLaws.{seen_once}
+use Rattle.m2v_model.proofs.ShiftLaws.{unit_kept}
 
 pub by_pieces : (text : List ℕ) → ByPieces text
 by_pieces text = ?
