@@ -6,6 +6,7 @@ pub mod SliceLaws
 pub mod StreamLaws
 pub mod FlowLaws
 pub mod ShiftLaws
+pub mod SplitLaws
 pub mod PieceLaws
 pub mod Unique
 pub mod Fronts
