@@ -121,7 +121,7 @@ known_lawful st start value u =
     choose_lawful _ (onward_lawful (sequence_unit_lawful st start u))
     (choose_lawful _ (later_lawful st start value u) (done_lawful length _))
 
-text_end_lawful : (st : State) (start : ℕ) → Lawful length (text_end st start)
+pub text_end_lawful : (st : State) (start : ℕ) → Lawful length (text_end st start)
 unfolding text_end
 text_end_lawful st start =
     seq_lawful (rule_lawful length _ NoSequence start) (λ some.
