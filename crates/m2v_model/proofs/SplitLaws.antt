@@ -23,11 +23,11 @@ use Rattle.m2v_model.proofs.ShiftLaws.{BeginsPiece, NoEnds, Kept, shifted, unit_
 
 -- ---- pictures in front
 
-behind_none : (r : Course) → behind [] r ≡ r
+pub behind_none : (r : Course) → behind [] r ≡ r
 behind_none (Ok x) = refl
 behind_none (Err f) = refl
 
-behind_twice : (ps qs : Pictures) (r : Course) → behind (ps ++ qs) r ≡ behind ps (behind qs r)
+pub behind_twice : (ps qs : Pictures) (r : Course) → behind (ps ++ qs) r ≡ behind ps (behind qs r)
 behind_twice ps qs (Ok x) = ap (λ (l : Pictures). Ok (l, x.1)) (append_assoc ps qs x.0)
 behind_twice ps qs (Err f) = refl
 
@@ -50,7 +50,7 @@ abbrev pub IsKnownBehind : Course → Type 0
 IsKnownBehind (Ok x) = IsKnown x.1
 IsKnownBehind (Err f) = Unit {0}
 
-known_at : (st : State) (us : Units) → IsKnown st → KnownAt st us
+pub known_at : (st : State) (us : Units) → IsKnown st → KnownAt st us
 known_at st [] k = k
 known_at st (u ∷ us) k = rw k refl
 
