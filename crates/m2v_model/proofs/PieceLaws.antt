@@ -17,9 +17,11 @@ use Rattle.m2v_model.specs.Pictures.{Pictures}
 use Rattle.m2v_model.specs.Pieces.{phase_after, begins_piece, is_end, piece_of, grouped, pieces, before_sequence}
 use Rattle.m2v_model.specs.Pieces.{skipped as before_pieces}
 use Rattle.m2v_model.specs.Decoding.{Stream, FaultAt}
+use Rattle.m2v_model.specs.Decoding.{pictures as pictures_of}
 use Rattle.m2v_model.specs.ByPieces.{Course, stream_from, told, piece_read, behind, onward, pieces_read, end_of, text_read, IsRead, ByPieces}
 use Rattle.m2v_model.proofs.CutLaws.{cut_cuts, joined_bits, joined-append, are_before, are_behind, are_code, cut_units}
 use Rattle.m2v_model.proofs.StreamLaws.{stream_lawful}
+use Rattle.m2v_model.proofs.Unique.{bad_is}
 use Rattle.m2v_model.proofs.FlowLaws.{viewed, seen, unit_of, part_seen, seen_once}
 use Rattle.m2v_model.proofs.ShiftLaws.{BeginsPiece, NoEnds}
 use Rattle.m2v_model.proofs.SplitLaws.{behind_none, behind_twice, IsKnown, KnownBy, KnownAt, IsKnownBehind, known_at, split, splits, closing, over_seen, end_seen}
@@ -310,15 +312,71 @@ skipped_seen u us off = seen_once at_first None (u ∷ us) ∙ rw off (behind_no
 abbrev FirstRead : Units → Type 0
 FirstRead us = (at : ℕ) → AreUnits us → placed (at + length (joined us)) (seen at_first None us) ≡ rest_read at_first (at + length (before_sequence us)) (grouped Before [] us)
 
+sequence_goes : (value : ℕ) → nat_eq value 0xB3 ≡ true → is_end value ≡ false
+unfolding is_end
+sequence_goes value on = let e = eqb-true value 0xB3 on in rw e refl
+
 first_goes : (b : Bool) (us : Units) (u : List ℕ) (at : ℕ) → nat_eq (value_of u) 0xB3 ≡ b → FirstRead us → AreUnits (u ∷ us)
     → placed (at + length (joined (u ∷ us))) (seen at_first None (u ∷ us)) ≡ rest_read at_first (at + length (if b then [] else u ++ before_sequence us)) (if b then grouped Headers u us else grouped Before [] us)
-first_goes true us u at is ih h = ?
-first_goes false us u at is ih h = ?
+first_goes true us u at is ih h =
+    let e : at ≡ at + 0 = omega arith in
+    grouped_read us Headers at_first at u [] tt (sequence_goes (value_of u) is, tt) is h
+    ∙ ap (λ (l : List ℕ). rest_read at_first at (grouped Headers l us)) (append-nil u)
+    ∙ ap (λ (n : ℕ). rest_read at_first n (grouped Headers u us)) e
+first_goes false us u at is ih h =
+    let to : at + length (u ++ joined us) ≡ at + length u + length (joined us) = omega (arith, length-append u (joined us)) in
+    let from : at + length u + length (before_sequence us) ≡ at + length (u ++ before_sequence us) = omega (arith, length-append u (before_sequence us)) in
+    ap (placed (at + length (u ++ joined us))) (skipped_seen u us is)
+    ∙ ap (λ (n : ℕ). placed n (seen at_first None us)) to
+    ∙ ih (at + length u) h.3
+    ∙ ap (λ (n : ℕ). rest_read at_first n (grouped Before [] us)) from
 
 first_read : (us : Units) → FirstRead us
 unfolding grouped before_sequence
-first_read [] at h = ?
+first_read [] at h = let e : at + 0 ≡ at = omega arith in rw e (sym (rest_none at_first at ∙ piece_none at_first at))
 first_read (u ∷ us) at h = first_goes _ us u at refl (first_read us) h
 
+-- what is read piece by piece is what is seen of the whole
+pub text_is : (text : List ℕ) → text_read text ≡ placed (length text) (seen at_first None (cut 0 text).1)
+unfolding text_read
+text_is text =
+    let c = cut_cuts text in
+    let front = (cut 0 text).0 in
+    let us = (cut 0 text).1 in
+    let whole : length text ≡ length front + length (joined us) = ap length c.whole ∙ length-append front (joined us) in
+    ap (λ (n : ℕ). rest_read at_first n (pieces text)) (length-append front (before_sequence us))
+    ∙ sym (first_read us (length front) c.are_units)
+    ∙ ap (λ (n : ℕ). placed n (seen at_first None us)) (sym whole)
+
+text_stands : (text : List ℕ) (ps : Pictures) (st : State) (r : Result (Sofar × Units) (FaultKind × ℕ)) → stream_at.read (cut 0 text).1 ≡ r → placed (length text) (viewed at_first None r) ≡ Ok (ps, st) → IsRead text ps st
+text_stands text ps st (Ok x) at e =
+    let same : (pictures_of (x.0).parts, (x.0).state) ≡ (ps, st) = good_is {K = FaultKind} _ _ e in
+    record {
+      tree = x.0;
+      stream = record { front = (cut 0 text).0; units = (cut 0 text).1; rest = x.1; cuts = cut_cuts text; stands = stream_lawful.found x.0 _ x.1 at };
+      pictures = sym (ap (λ (y : Pictures × State). y.0) same);
+      state = sym (ap (λ (y : Pictures × State). y.1) same);
+    }
+text_stands text ps st (Err f) at e = absurd cc
+
+text_broken : (text : List ℕ) (kind : FaultKind) (place : ℕ) (r : Result (Sofar × Units) (FaultKind × ℕ)) → stream_at.read (cut 0 text).1 ≡ r → placed (length text) (viewed at_first None r) ≡ bad {T = State} {V = Pictures} (kind, place) → FaultAt text place kind
+text_broken text kind place (Ok x) at e = absurd cc
+text_broken text kind place (Err f) at e =
+    let same : (f.0, 8 * length text - f.1) ≡ (kind, place) = bad_is {T = State} {V = Pictures} _ _ e in
+    let kinds : f.0 ≡ kind = ap (λ (y : FaultKind × ℕ). y.0) same in
+    record {
+      front = (cut 0 text).0;
+      units = (cut 0 text).1;
+      left = f.1;
+      cuts = cut_cuts text;
+      broken = subst (λ (k : FaultKind). stream_at.Broken (cut 0 text).1 (k, f.1)) kinds (stream_lawful.first _ f at);
+      at = sym (ap (λ (y : FaultKind × ℕ). y.1) same);
+    }
+
+-- the law of pieces
 pub by_pieces : (text : List ℕ) → ByPieces text
-by_pieces text = ?
+unfolding seen stream_from stream_at
+by_pieces text = record {
+  stands = λ ps st e. text_stands text ps st _ refl (sym (text_is text) ∙ e);
+  fault = λ kind place e. text_broken text kind place _ refl (sym (text_is text) ∙ e);
+}
