@@ -4,6 +4,10 @@ pub mod LookLaws
 pub mod HeaderLaws
 pub mod SliceLaws
 pub mod StreamLaws
+pub mod FlowLaws
+pub mod ShiftLaws
+pub mod SplitLaws
+pub mod PieceLaws
 pub mod Unique
 pub mod Fronts
 pub mod Worked

@@ -38,7 +38,7 @@ unfolding extension_behind
 extension_behind_lawful own None start ls = refuse_lawful length NotMpeg2 start
 extension_behind_lawful own (Some u) start ls = choose_lawful _ (extension_in_lawful own u start ls) (refuse_lawful length NotMpeg2 start)
 
-sequence_unit_lawful : (st : State) (start : ℕ) (u : List ℕ) → Lawful length (sequence_unit st start u)
+pub sequence_unit_lawful : (st : State) (start : ℕ) (u : List ℕ) → Lawful length (sequence_unit st start u)
 unfolding sequence_unit
 sequence_unit_lawful st start u =
     seq_lawful (close_lawful st start) (λ closed.
@@ -49,14 +49,14 @@ sequence_unit_lawful st start u =
     seq_lawful (rule_lawful length _ SequenceChanged start) (λ same.
     done_lawful length _))))))
 
-group_unit_lawful : (st : State) (start : ℕ) (u : List ℕ) → Lawful length (group_unit st start u)
+pub group_unit_lawful : (st : State) (start : ℕ) (u : List ℕ) → Lawful length (group_unit st start u)
 unfolding group_unit
 group_unit_lawful st start u =
     seq_lawful (close_lawful st start) (λ closed.
     seq_lawful (inside_lawful u (whole_lawful group_lawful)) (λ g.
     done_lawful length _))
 
-picture_unit_lawful : (st : State) (start : ℕ) (u : List ℕ) → Lawful length (picture_unit st start u)
+pub picture_unit_lawful : (st : State) (start : ℕ) (u : List ℕ) → Lawful length (picture_unit st start u)
 unfolding picture_unit
 picture_unit_lawful st start u =
     seq_lawful (close_lawful st start) (λ closed.
@@ -91,15 +91,15 @@ slice_unit_lawful st (Some s) (Some p) row start u =
 slice_unit_lawful st (Some s) None row start u = refuse_lawful length SliceOrder start
 slice_unit_lawful st None p row start u = refuse_lawful length SliceOrder start
 
-end_unit_lawful : (st : State) (start : ℕ) → Lawful length (end_unit st start)
+pub end_unit_lawful : (st : State) (start : ℕ) → Lawful length (end_unit st start)
 unfolding end_unit
 end_unit_lawful st start = seq_lawful (close_lawful st start) (λ closed. done_lawful length _)
 
-onward_lawful : {s : Among Part} → Lawful length s → Lawful length (onward s)
+pub onward_lawful : {s : Among Part} → Lawful length s → Lawful length (onward s)
 unfolding onward
 onward_lawful ls = seq_lawful ls (λ p. done_lawful length _)
 
-final_lawful : {s : Among Part} → Lawful length s → Lawful length (final s)
+pub final_lawful : {s : Among Part} → Lawful length s → Lawful length (final s)
 unfolding final
 final_lawful ls = seq_lawful ls (λ p. done_lawful length _)
 
@@ -115,13 +115,13 @@ later_lawful st start value u =
     (choose_lawful _ (refuse_lawful length Forbidden start)
     (refuse_lawful length Unsupported start)))))))
 
-known_lawful : (st : State) (start value : ℕ) (u : List ℕ) → Lawful length (known_unit st start value u)
+pub known_lawful : (st : State) (start value : ℕ) (u : List ℕ) → Lawful length (known_unit st start value u)
 unfolding known_unit
 known_lawful st start value u =
     choose_lawful _ (onward_lawful (sequence_unit_lawful st start u))
     (choose_lawful _ (later_lawful st start value u) (done_lawful length _))
 
-text_end_lawful : (st : State) (start : ℕ) → Lawful length (text_end st start)
+pub text_end_lawful : (st : State) (start : ℕ) → Lawful length (text_end st start)
 unfolding text_end
 text_end_lawful st start =
     seq_lawful (rule_lawful length _ NoSequence start) (λ some.

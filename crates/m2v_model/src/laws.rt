@@ -1,6 +1,7 @@
 ghost use Rattle.std.specs.Prelude.{ℕ, List, Bool};
 ghost use Rattle.m2v_model.specs.Pictures.{Pictures};
 ghost use Rattle.m2v_model.specs.Decoding.{ExactlyOne, IsFront};
+ghost use Rattle.m2v_model.specs.ByPieces.{ByPieces};
 ghost use Rattle.m2v_model.specs.Worked.{WorkedRows};
 
 /// Of each text exactly one holds: it decodes to frames, or it has a first fault; and each has one value.
@@ -11,6 +12,12 @@ pub fn law_unique()
 /// The frames that pictures show before the end are the first of those that they show when others follow.
 pub fn law_prefix()
     ensures { (low_delay : Bool) (ps qs : Pictures) → IsFront low_delay ps qs }
+{}
+
+/// A text that is read piece by piece, each piece as a text of its own from the state that the pieces before it left,
+/// stands as what was read, or has the fault that was found, at its place.
+pub fn law_by_pieces()
+    ensures { (text : List ℕ) → ByPieces text }
 {}
 
 /// Streams that are given byte by byte decode to the frames, or have the first fault, that outside vectors say.

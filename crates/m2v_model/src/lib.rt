@@ -11,6 +11,6 @@ mod phase;
 mod state;
 
 pub use fault::FaultKind;
-pub use laws::{law_prefix, law_unique, law_worked_rows};
+pub use laws::{law_by_pieces, law_prefix, law_unique, law_worked_rows};
 pub use phase::Phase;
 pub use state::{Open, Sequence, State};
