@@ -83,7 +83,7 @@ unfolding told
 told_is st end (Ok x) = refl
 told_is st end (Err f) = refl
 
-piece_is : (st : State) (end : ℕ) (piece : List ℕ) → piece_read st end piece ≡ placed end (seen st None (cut 0 piece).1)
+pub piece_is : (st : State) (end : ℕ) (piece : List ℕ) → piece_read st end piece ≡ placed end (seen st None (cut 0 piece).1)
 unfolding piece_read seen
 piece_is st end piece = told_is st end _
 
