@@ -1,6 +1,6 @@
 -- A stream from a state on, unit by unit, and the pictures that are seen on the way.
-use Rattle.std.proofs.Common.{◌≡◌, ℕ, zero, suc, ◌+◌, ◌<◌, Bool, true, false, cond, List, [], ◌∷◌, ◌++◌, length, Option, Some, None, Result, Ok, Err, refl, sym, ap, subst, ◌∙◌, append_assoc}
-use Rattle.m2v_bits.specs.Syntax.{Syntax, bind, seq, here, done, rounds, repeated}
+use Rattle.std.proofs.Common.{◌≡◌, ℕ, zero, suc, ◌<◌, Bool, true, false, cond, List, [], ◌∷◌, ◌++◌, length, Option, Result, Ok, Err, refl, sym, ap, subst, ◌∙◌, append_assoc}
+use Rattle.m2v_bits.specs.Syntax.{bind, seq, here, done, rounds, repeated}
 use Rattle.m2v_bits.proofs.SyntaxLaws.{Lawful, good, bad, repeated_lawful, unrolled, round_err, round_more, round_last}
 use Rattle.m2v_plane.specs.Samples.{Samples}
 use Rattle.m2v_model.specs.declared.fault.FaultKind.{FaultKind}
@@ -8,7 +8,7 @@ use Rattle.m2v_model.specs.declared.fault.FaultKind.TheVariants.{Truncated}
 use Rattle.m2v_model.specs.declared.state.State.{State}
 use Rattle.m2v_model.specs.Units.{Units, unit_bits, unit_at}
 use Rattle.m2v_model.specs.Streams.{Part, Sofar, Among, after, value_of, known_unit, text_end, next_unit, unit_round}
-use Rattle.m2v_model.specs.Pictures.{Pictures, closed, closed_by, frame_after, pictures_from}
+use Rattle.m2v_model.specs.Pictures.{closed, closed_by, frame_after, pictures_from}
 use Rattle.m2v_model.specs.ByPieces.{Course, behind, stream_from}
 use Rattle.m2v_model.proofs.StreamLaws.{round_lawful, round_onward}
 

@@ -1,10 +1,10 @@
 -- Reading a text piece by piece is reading it whole.
-use Rattle.std.proofs.Common.{◌≡◌, ℕ, ◌+◌, ◌-◌, ◌*◌, Bool, true, false, cond, List, [], ◌∷◌, ◌++◌, length, take, Option, Some, None, Result, Ok, Err, inl, inr, refl, sym, ap, subst, ◌∙◌, append_assoc, arith}
-use Rattle.std.specs.Prelude.{nat_eq, ◌||◌, is_some, slice_index, if◌then◌else◌}
+use Rattle.std.proofs.Common.{◌≡◌, ℕ, ◌+◌, ◌-◌, ◌*◌, Bool, true, false, cond, List, [], ◌∷◌, ◌++◌, length, take, None, Result, Ok, Err, inl, inr, refl, sym, ap, subst, ◌∙◌, append_assoc, arith}
+use Rattle.std.specs.Prelude.{nat_eq, if◌then◌else◌}
 use Rattle.std.proofs.lemmas.Bool.{cases_Bool, eqb-true}
 use Rattle.std.proofs.lemmas.List.{append-nil, length-append}
 use Rattle.m2v_bits.specs.Syntax.{bind, done, choose}
-use Rattle.m2v_bits.proofs.SyntaxLaws.{good, bad, good_is}
+use Rattle.m2v_bits.proofs.SyntaxLaws.{bad, good_is}
 use Rattle.m2v_model.specs.declared.fault.FaultKind.{FaultKind}
 use Rattle.m2v_model.specs.declared.fault.FaultKind.TheVariants.{MissingMacroblocks}
 use Rattle.m2v_model.specs.declared.state.State.{State}
@@ -12,17 +12,16 @@ use Rattle.m2v_model.specs.declared.phase.Phase.{Phase}
 use Rattle.m2v_model.specs.declared.phase.Phase.TheVariants.{Before, Headers, Picture}
 use Rattle.m2v_model.specs.Units.{Units, cut, joined, unit_bits, AreUnits}
 use Rattle.m2v_model.specs.States.{at_first, after_end, is_complete}
-use Rattle.m2v_model.specs.Streams.{Sofar, value_of, skipped, after, known_unit, stream_at}
+use Rattle.m2v_model.specs.Streams.{Sofar, value_of, after, known_unit, stream_at}
 use Rattle.m2v_model.specs.Pictures.{Pictures}
 use Rattle.m2v_model.specs.Pieces.{phase_after, begins_piece, is_end, piece_of, grouped, pieces, before_sequence}
-use Rattle.m2v_model.specs.Pieces.{skipped as before_pieces}
-use Rattle.m2v_model.specs.Decoding.{Stream, FaultAt}
+use Rattle.m2v_model.specs.Decoding.{FaultAt}
 use Rattle.m2v_model.specs.Decoding.{pictures as pictures_of}
 use Rattle.m2v_model.specs.ByPieces.{Course, stream_from, told, piece_read, behind, onward, pieces_read, end_of, text_read, IsRead, ByPieces}
 use Rattle.m2v_model.proofs.CutLaws.{cut_cuts, joined_bits, joined-append, are_before, are_behind, are_code, cut_units}
 use Rattle.m2v_model.proofs.StreamLaws.{stream_lawful}
 use Rattle.m2v_model.proofs.Unique.{bad_is}
-use Rattle.m2v_model.proofs.FlowLaws.{viewed, seen, unit_of, part_seen, seen_once}
+use Rattle.m2v_model.proofs.FlowLaws.{viewed, seen, unit_of, seen_once}
 use Rattle.m2v_model.proofs.ShiftLaws.{BeginsPiece, NoEnds}
 use Rattle.m2v_model.proofs.SplitLaws.{behind_none, behind_twice, IsKnown, KnownBy, KnownAt, IsKnownBehind, known_at, split, splits, closing, over_seen, end_seen}
 

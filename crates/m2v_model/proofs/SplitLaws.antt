@@ -3,7 +3,7 @@ use Rattle.std.proofs.Common.{◌≡◌, ℕ, zero, suc, ◌+◌, ◌<◌, ◌�
 use Rattle.std.specs.Prelude.{nat_eq, ◌||◌, is_some}
 use Rattle.std.proofs.lemmas.Bool.{cases_Bool, cond-true, both_ways, eqb-true}
 use Rattle.std.proofs.lemmas.List.{append-nil}
-use Rattle.m2v_bits.specs.Syntax.{Syntax, bind, done, seq, here, rule, choose}
+use Rattle.m2v_bits.specs.Syntax.{bind, done, seq, rule, choose}
 use Rattle.m2v_bits.proofs.SyntaxLaws.{good, bad}
 use Rattle.m2v_plane.specs.Samples.{Samples}
 use Rattle.m2v_model.specs.declared.fault.FaultKind.{FaultKind}
@@ -19,7 +19,7 @@ use Rattle.m2v_model.specs.Pieces.{begins_piece, is_end}
 use Rattle.m2v_model.specs.ByPieces.{Course, behind}
 use Rattle.m2v_model.proofs.StreamLaws.{known_lawful, text_end_lawful, sequence_unit_lawful, group_unit_lawful, picture_unit_lawful, end_unit_lawful, onward_lawful, final_lawful}
 use Rattle.m2v_model.proofs.FlowLaws.{unit_of, seen, part_seen, seen_once}
-use Rattle.m2v_model.proofs.ShiftLaws.{BeginsPiece, NoEnds, Kept, shifted, unit_bits-append, unit_shifted, unit_kept}
+use Rattle.m2v_model.proofs.ShiftLaws.{BeginsPiece, NoEnds, Kept, shifted, unit_shifted, unit_kept}
 
 -- ---- pictures in front
 
