@@ -1,5 +1,6 @@
 -- Piece after piece: what stands after one more, and where decoding stops.
 use Rattle.std.proofs.Common.{◌≡◌, ℕ, ◌+◌, ◌*◌, ◌≤◌, Bool, true, false, List, [], ◌∷◌, ◌++◌, length, map, Option, Some, None, option_to_list, Result, Ok, Err, refl, sym, ap, subst, ◌∙◌, append_assoc, arith, inl, inr, ◌⊎◌}
+use Rattle.std.specs.Prelude.{if◌then◌else◌}
 use Rattle.std.specs.Option.{option_map}
 use Rattle.std.proofs.lemmas.List.{append-nil, length-append, map-append}
 use Rattle.m2v_port.specs.Port.{Moves, Grows, GrowsByPrefix}
@@ -78,8 +79,8 @@ first_same low st z e a = subst (λ (x : State). Agrees low x.first) e a
 
 pub reached_more : (text : List ℕ) (start : ℕ) (whole : List ℕ) (others : List (List ℕ)) (frames : List Samples) (d m n : Decoding) → Reached text start (whole ∷ others) frames d → d.ready ≡ []
     → limit start 0 whole ≡ None → Advanced d (start + length whole) whole m → HasPut m n → Reached text (start + length whole) others (frames ++ due_of m) n
+unfolding begun_more
 reached_more text start whole others frames d m n r none fits a put =
-    let at : ℕ = behind r.begun in
     let read : piece_read d.state (behind r.begun + length whole) whole ≡ Ok (a.pictures, n.state) =
         ap (λ (x : ℕ). piece_read d.state (x + length whole) whole) (sym r.place) ∙ a.read ∙ ap (λ (z : State). Ok (a.pictures, z)) (sym put.state) in
     record {
@@ -95,6 +96,81 @@ reached_more text start whole others frames d m n r none fits a put =
       counted = omega (arith, put.pictures, a.counted, r.counted, length-append r.pictures a.pictures);
     }
 
--- a piece that was handed out, where the source tells its bytes
-abbrev Whole : Cutting → List ℕ → List ℕ → Cutting → Piece → Type 0
-Whole c bytes rest c' p = (left_of c (bytes ++ rest) ≡ whole_of p ∷ left_of c' rest) × (p.place ≡ start_of_rest c (bytes ++ rest)) × (p.length ≡ length (whole_of p)) × (limit p.place 0 (whole_of p) ≡ None) × (start_of_rest c' rest ≡ p.place + p.length)
+whole_is : (p : Piece) (place : ℕ) (whole : List ℕ) → IsPiece p place whole → whole_of p ≡ whole
+whole_is p place whole h = ?
+
+-- what a cutter that handed a piece out says of it, where the source tells its bytes
+pub record Gave (c : Cutting) (bytes rest : List ℕ) (c' : Cutting) (p : Piece) : Type 0 where
+  pub pieces : left_of c (bytes ++ rest) ≡ whole_of p ∷ left_of c' rest
+  pub place : p.place ≡ start_of_rest c (bytes ++ rest)
+  pub length : p.length ≡ length (whole_of p)
+  pub fits : limit p.place 0 (whole_of p) ≡ None
+  pub next : start_of_rest c' rest ≡ p.place + p.length
+
+same : (b : Bool) (x : ℕ) → (if b then x else x) ≡ x
+same true x = refl
+same false x = refl
+
+next_start : (c : Cutting) (rest : List ℕ) → c.begun ≡ true → start_of_rest c rest ≡ c.place
+unfolding open_start
+next_start c rest begun = rw begun (same c.ended c.place)
+
+pub gave : (c : Cutting) (bytes rest : List ℕ) (c' : Cutting) (p : Piece) → c'.begun ≡ true → NextPiece (Some p) (start_of_rest c (bytes ++ rest)) (left_of c (bytes ++ rest)) c' (left_of c' rest) → Gave c bytes rest c' p
+gave c bytes rest c' p begun h =
+    let whole : List ℕ = h.0 in
+    let is = whole_is p _ whole h.2 in
+    record {
+      pieces = h.1 ∙ ap (λ (w : List ℕ). w ∷ left_of c' rest) (sym is);
+      place = (h.2).at;
+      length = (h.2).length ∙ ap length (sym is);
+      fits = subst (λ (w : List ℕ). limit p.place 0 w ≡ None) (sym is) (subst (λ (x : ℕ). limit x 0 whole ≡ None) (sym (h.2).at) (h.2).fits);
+      next = next_start c' rest begun ∙ h.3;
+    }
+
+-- ---- between two pieces
+
+abbrev With : (l0 l1 h0 h1 : Option (List ℕ)) → Cutting → Decoding → Type 0
+With l0 l1 h0 h1 c d = Progress (record { old = l0; new = l1 }) (record { old = h0; new = h1 }) c d
+
+pub progress_none : (l h : Option (List ℕ)) → With l l h h before_all at_start
+unfolding pieces_read end_of open_start open_pieces
+progress_none l h = record {
+  bytes = [];
+  moved = moves_nothing l;
+  frames = [];
+  grown = grows_by_nothing h;
+  shown = refl;
+  none = refl;
+  going = refl;
+  sound = refl;
+  told = λ rest e. record {
+    pictures = [];
+    begun = record { first = []; are = refl; fit = tt; read = refl };
+    place = refl;
+    shows = λ low agree. shows_none low None [];
+    counted = refl;
+  };
+}
+
+pub progress_more : (l0 l1 l2 h0 h1 h2 : Option (List ℕ)) (c c' : Cutting) (d m n : Decoding) (p : Piece) → With l0 l1 h0 h1 c d → Handed c l1 c' l2 (Some p) → c'.begun ≡ true
+    → Advanced d (p.place + p.length) (whole_of p) m → HasPut m n → Grows h1 (raw_of (due_of m)) h2 → With l0 l2 h0 h2 c' n
+progress_more l0 l1 l2 h0 h1 h2 c c' d m n p so handed begun a put grown = record {
+  bytes = so.bytes ++ handed.bytes;
+  moved = moves_on so.moved handed.moved;
+  frames = so.frames ++ due_of m;
+  grown = subst (λ (b : List ℕ). Grows h0 b h2) (sym (raw-append so.frames (due_of m))) (grows_on so.grown grown);
+  shown = omega (arith, put.shown, a.shown, so.shown, length-append so.frames (due_of m));
+  none = ready_none n (put.ended ∙ a.going) put.none;
+  going = put.ended ∙ a.going;
+  sound = put.failed ∙ a.sound;
+  told = λ rest e.
+      let g = gave c handed.bytes rest c' p begun (handed.next rest e) in
+      let r = so.told (handed.bytes ++ rest) (moved_some l1 l2 handed.bytes rest handed.moved e) in
+      let start : ℕ = start_of_rest c (handed.bytes ++ rest) in
+      let r' = subst (λ (ps : List (List ℕ)). Reached (so.bytes ++ (handed.bytes ++ rest)) start ps so.frames d) g.pieces r in
+      let a' = subst (λ (x : ℕ). Advanced d x (whole_of p) m) (ap (λ (x : ℕ). x + p.length) g.place ∙ ap (λ (x : ℕ). start + x) g.length) a in
+      let more = reached_more _ start (whole_of p) (left_of c' rest) so.frames d m n r' so.none (subst (λ (x : ℕ). limit x 0 (whole_of p) ≡ None) g.place g.fits) a' put in
+      let place : start + length (whole_of p) ≡ start_of_rest c' rest = sym (g.next ∙ ap (λ (x : ℕ). x + p.length) g.place ∙ ap (λ (x : ℕ). start + x) g.length) in
+      subst (λ (t : List ℕ). Reached t (start_of_rest c' rest) (left_of c' rest) (so.frames ++ due_of m) n) (sym (append_assoc so.bytes handed.bytes rest))
+      (subst (λ (x : ℕ). Reached (so.bytes ++ (handed.bytes ++ rest)) x (left_of c' rest) (so.frames ++ due_of m) n) place more);
+}

@@ -1,6 +1,6 @@
 -- A stream from a state on, unit by unit, and the pictures that are seen on the way.
-use Rattle.std.proofs.Common.{◌≡◌, ℕ, zero, suc, ◌+◌, ◌<◌, Bool, true, false, cond, List, [], ◌∷◌, ◌++◌, length, Option, Some, None, Result, Ok, Err, refl, sym, ap, subst, ◌∙◌, append_assoc}
-use Rattle.m2v_bits.specs.Syntax.{Syntax, bind, seq, here, done, rounds, repeated}
+use Rattle.std.proofs.Common.{◌≡◌, ℕ, zero, suc, ◌<◌, Bool, true, false, cond, List, [], ◌∷◌, ◌++◌, length, Option, Result, Ok, Err, refl, sym, ap, subst, ◌∙◌, append_assoc}
+use Rattle.m2v_bits.specs.Syntax.{bind, seq, here, done, rounds, repeated}
 use Rattle.m2v_bits.proofs.SyntaxLaws.{Lawful, good, bad, repeated_lawful, unrolled, round_err, round_more, round_last}
 use Rattle.m2v_plane.specs.Samples.{Samples}
 use Rattle.m2v_model.specs.declared.fault.FaultKind.{FaultKind}
@@ -8,7 +8,7 @@ use Rattle.m2v_model.specs.declared.fault.FaultKind.TheVariants.{Truncated}
 use Rattle.m2v_model.specs.declared.state.State.{State}
 use Rattle.m2v_model.specs.Units.{Units, unit_bits, unit_at}
 use Rattle.m2v_model.specs.Streams.{Part, Sofar, Among, after, value_of, known_unit, text_end, next_unit, unit_round}
-use Rattle.m2v_model.specs.Pictures.{Pictures, closed, closed_by, frame_after, pictures_from}
+use Rattle.m2v_model.specs.Pictures.{closed, closed_by, frame_after, pictures_from}
 use Rattle.m2v_model.specs.ByPieces.{Course, behind, stream_from}
 use Rattle.m2v_model.proofs.StreamLaws.{round_lawful, round_onward}
 
@@ -44,10 +44,11 @@ unfoldable pub unit_of : State → Units → Result ((Bool × Part) × Units) (F
 unit_of st [] = (text_end st 0).read []
 unit_of st (u ∷ us) = (known_unit st (unit_bits (u ∷ us)) (value_of u) u).read us
 
-abbrev joining : Sofar → Bool × Part → Units → Result ((Bool × Sofar) × Units) (FaultKind × ℕ)
+abbrev pub joining : Sofar → Bool × Part → Units → Result ((Bool × Sofar) × Units) (FaultKind × ℕ)
 joining s x mid = good ((x.0, record { state = after s.state x.1; parts = s.parts ++ x.1 ∷ [] }), mid)
 
-round_is : (s : Sofar) (t : Units) → (unit_round s).read t ≡ bind (unit_of s.state t) (joining s)
+-- a round reads one unit, and puts its part behind the others
+pub round_is : (s : Sofar) (t : Units) → (unit_round s).read t ≡ bind (unit_of s.state t) (joining s)
 unfolding unit_round unit_of seq here unit_at done next_unit bind
 round_is s [] = refl
 round_is s (u ∷ us) = refl
@@ -121,3 +122,25 @@ unfolding seen stream_from
 seen_once st now us =
     ap (viewed st now) (units_once (record { state = st; parts = [] }) us ∙ ap (λ r. bind r (λ x mid. cond x.0 ((units_at x.1).read mid) (good (x.1, mid)))) (round_is (record { state = st; parts = [] }) us))
     ∙ viewed_next st now (unit_of st us)
+
+-- ---- what a loop goes by that decodes a unit a round
+
+pub seen_err : (st : State) (now : Option Samples) (us : Units) (f : FaultKind × ℕ) → unit_of st us ≡ bad f → seen st now us ≡ Err f
+unfolding bind
+seen_err st now us f e = seen_once st now us ∙ rw e refl
+
+pub seen_more : (st : State) (now : Option Samples) (us mid : Units) (b : Bool) (p : Part) → unit_of st us ≡ good ((b, p), mid) → b ≡ true → seen st now us ≡ behind (closed_by st now p) (seen (after st p) (frame_after st now p) mid)
+unfolding bind
+seen_more st now us mid b p e on = seen_once st now us ∙ rw (e, on) refl
+
+pub seen_last : (st : State) (now : Option Samples) (us mid : Units) (b : Bool) (p : Part) → unit_of st us ≡ good ((b, p), mid) → b ≡ false → seen st now us ≡ behind (closed_by st now p) (Ok (closed (after st p) (frame_after st now p), after st p))
+unfolding bind
+seen_last st now us mid b p e off = seen_once st now us ∙ rw (e, off) refl
+
+pub unit_less : (st : State) (us mid : Units) (b : Bool) (p : Part) → unit_of st us ≡ good ((b, p), mid) → b ≡ true → length mid < length us
+unfolding bind
+unit_less st us mid b p e on =
+    let s : Sofar = record { state = st; parts = [] } in
+    let m : Sofar = record { state = after st p; parts = p ∷ [] } in
+    let round : (unit_round s).read us ≡ good ((b, m), mid) = round_is s us ∙ rw e refl in
+    units_less s m us mid b round on

@@ -1,10 +1,10 @@
 -- Reading a text piece by piece is reading it whole.
-use Rattle.std.proofs.Common.{◌≡◌, ℕ, ◌+◌, ◌-◌, ◌*◌, Bool, true, false, cond, List, [], ◌∷◌, ◌++◌, length, take, Option, Some, None, Result, Ok, Err, inl, inr, refl, sym, ap, subst, ◌∙◌, append_assoc, arith}
-use Rattle.std.specs.Prelude.{nat_eq, ◌||◌, is_some, slice_index, if◌then◌else◌}
+use Rattle.std.proofs.Common.{◌≡◌, ℕ, ◌+◌, ◌-◌, ◌*◌, Bool, true, false, cond, List, [], ◌∷◌, ◌++◌, length, take, None, Result, Ok, Err, inl, inr, refl, sym, ap, subst, ◌∙◌, append_assoc, arith}
+use Rattle.std.specs.Prelude.{nat_eq, if◌then◌else◌}
 use Rattle.std.proofs.lemmas.Bool.{cases_Bool, eqb-true}
 use Rattle.std.proofs.lemmas.List.{append-nil, length-append}
 use Rattle.m2v_bits.specs.Syntax.{bind, done, choose}
-use Rattle.m2v_bits.proofs.SyntaxLaws.{good, bad, good_is}
+use Rattle.m2v_bits.proofs.SyntaxLaws.{bad, good_is}
 use Rattle.m2v_model.specs.declared.fault.FaultKind.{FaultKind}
 use Rattle.m2v_model.specs.declared.fault.FaultKind.TheVariants.{MissingMacroblocks}
 use Rattle.m2v_model.specs.declared.state.State.{State}
@@ -12,17 +12,17 @@ use Rattle.m2v_model.specs.declared.phase.Phase.{Phase}
 use Rattle.m2v_model.specs.declared.phase.Phase.TheVariants.{Before, Headers, Picture}
 use Rattle.m2v_model.specs.Units.{Units, cut, joined, unit_bits, AreUnits}
 use Rattle.m2v_model.specs.States.{at_first, after_end, is_complete}
-use Rattle.m2v_model.specs.Streams.{Sofar, value_of, skipped, after, known_unit, stream_at}
+use Rattle.m2v_model.specs.Streams.{Sofar, value_of, after, known_unit, stream_at}
 use Rattle.m2v_model.specs.Pictures.{Pictures}
 use Rattle.m2v_model.specs.Pieces.{phase_after, begins_piece, is_end, piece_of, grouped, pieces, before_sequence}
 use Rattle.m2v_model.specs.Pieces.{skipped as before_pieces}
-use Rattle.m2v_model.specs.Decoding.{Stream, FaultAt}
+use Rattle.m2v_model.specs.Decoding.{FaultAt}
 use Rattle.m2v_model.specs.Decoding.{pictures as pictures_of}
 use Rattle.m2v_model.specs.ByPieces.{Course, stream_from, told, piece_read, behind, onward, pieces_read, end_of, text_read, IsRead, ByPieces}
 use Rattle.m2v_model.proofs.CutLaws.{cut_cuts, joined_bits, joined-append, are_before, are_behind, are_code, cut_units}
 use Rattle.m2v_model.proofs.StreamLaws.{stream_lawful}
 use Rattle.m2v_model.proofs.Unique.{bad_is}
-use Rattle.m2v_model.proofs.FlowLaws.{viewed, seen, unit_of, part_seen, seen_once}
+use Rattle.m2v_model.proofs.FlowLaws.{viewed, seen, unit_of, seen_once}
 use Rattle.m2v_model.proofs.ShiftLaws.{BeginsPiece, NoEnds}
 use Rattle.m2v_model.proofs.SplitLaws.{behind_none, behind_twice, IsKnown, KnownBy, KnownAt, IsKnownBehind, known_at, split, splits, closing, over_seen, end_seen}
 
@@ -61,15 +61,27 @@ pieces_read-append (p ∷ ps) qs st at =
 abbrev pub rest_read : State → ℕ → List (List ℕ) → Course
 rest_read st at ps = onward (pieces_read st at ps) (λ last. piece_read last (end_of at ps) [])
 
-rest_none : (st : State) (at : ℕ) → rest_read st at [] ≡ piece_read st at []
+pub rest_none : (st : State) (at : ℕ) → rest_read st at [] ≡ piece_read st at []
 unfolding pieces_read end_of onward
 rest_none st at = behind_none _
 
-rest_more : (st : State) (at : ℕ) (p : List ℕ) (ps : List (List ℕ)) → rest_read st at (p ∷ ps) ≡ onward (piece_read st (at + length p) p) (λ next. rest_read next (at + length p) ps)
+pub rest_more : (st : State) (at : ℕ) (p : List ℕ) (ps : List (List ℕ)) → rest_read st at (p ∷ ps) ≡ onward (piece_read st (at + length p) p) (λ next. rest_read next (at + length p) ps)
 unfolding pieces_read end_of
 rest_more st at p ps =
     let to = at + length p in
     onward_twice (piece_read st to p) (λ next. pieces_read next to ps) (λ last. piece_read last (end_of to ps) [])
+
+pub end_of-append : (ps qs : List (List ℕ)) (at : ℕ) → end_of at (ps ++ qs) ≡ end_of (end_of at ps) qs
+unfolding end_of
+end_of-append [] qs at = refl
+end_of-append (p ∷ ps) qs at = end_of-append ps qs (at + length p)
+
+pub rest_read-append : (ps qs : List (List ℕ)) (st : State) (at : ℕ) → rest_read st at (ps ++ qs) ≡ onward (pieces_read st at ps) (λ next. rest_read next (end_of at ps) qs)
+rest_read-append ps qs st at =
+    let f = λ (last : State). piece_read last (end_of at (ps ++ qs)) [] in
+    ap (λ (r : Course). onward r f) (pieces_read-append ps qs st at)
+    ∙ onward_twice (pieces_read st at ps) (λ next. pieces_read next (end_of at ps) qs) f
+    ∙ ap (λ (n : ℕ). onward (pieces_read st at ps) (λ next. onward (pieces_read next (end_of at ps) qs) (λ last. piece_read last n []))) (end_of-append ps qs at)
 
 -- ---- places
 
@@ -83,15 +95,16 @@ unfolding told
 told_is st end (Ok x) = refl
 told_is st end (Err f) = refl
 
+-- a piece, as what is seen of its units
 pub piece_is : (st : State) (end : ℕ) (piece : List ℕ) → piece_read st end piece ≡ placed end (seen st None (cut 0 piece).1)
 unfolding piece_read seen
 piece_is st end piece = told_is st end _
 
 -- a piece of units
-piece_units : (st : State) (end : ℕ) (us : Units) → AreUnits us → piece_read st end (joined us) ≡ placed end (seen st None us)
+pub piece_units : (st : State) (end : ℕ) (us : Units) → AreUnits us → piece_read st end (joined us) ≡ placed end (seen st None us)
 piece_units st end us h = piece_is st end (joined us) ∙ ap (λ (vs : Units). placed end (seen st None vs)) (cut_units us h)
 
-piece_none : (st : State) (end : ℕ) → piece_read st end [] ≡ placed end (seen st None [])
+pub piece_none : (st : State) (end : ℕ) → piece_read st end [] ≡ placed end (seen st None [])
 piece_none st end = piece_units st end [] tt
 
 placed_behind : (end : ℕ) (ps : Pictures) (r : Course) → placed end (behind ps r) ≡ behind ps (placed end r)
@@ -141,9 +154,9 @@ next_piece st at us vs ps b n k h e =
 last_piece : (st : State) (at : ℕ) (us : Units) → NoEnds us → KnownAt st us → AreUnits (us ++ []) → placed (at + length (joined (us ++ []))) (seen st None (us ++ [])) ≡ rest_read st at (joined us ∷ [])
 last_piece st at us n k h =
     next_piece st at us [] [] tt n k h (λ next known.
-      let to = at + length (joined us) in
-      let e : to + 0 ≡ to = omega arith in
-      ap (λ (m : ℕ). placed m (seen next None [])) e ∙ sym (rest_none next to ∙ piece_none next to))
+    let to = at + length (joined us) in
+    let e : to + 0 ≡ to = omega arith in
+    ap (λ (m : ℕ). placed m (seen next None [])) e ∙ sym (rest_none next to ∙ piece_none next to))
 
 -- ---- the sequence end code
 
@@ -274,8 +287,8 @@ piece_begins st at v vs us u ih on off n k h =
     let to = at + length (joined (v ∷ vs)) in
     let phase = phase_after Headers (value_of u) in
     next_piece st at (v ∷ vs) (u ∷ us) (grouped phase u us) on n k h (λ next known.
-      ih phase next to u [] (open_after (value_of u)) (off, tt) (known_at next (u ∷ []) known) (are_behind (v ∷ vs) (u ∷ us) h)
-      ∙ ap (λ (l : List ℕ). rest_read next to (grouped phase l us)) (append-nil u))
+    ih phase next to u [] (open_after (value_of u)) (off, tt) (known_at next (u ∷ []) known) (are_behind (v ∷ vs) (u ∷ us) h)
+    ∙ ap (λ (l : List ℕ). rest_read next to (grouped phase l us)) (append-nil u))
 
 picture_goes : (b c : Bool) (st : State) (at : ℕ) (v : List ℕ) (vs us : Units) (u : List ℕ) → is_end (value_of u) ≡ b → begins_piece (value_of u) ≡ c → Grouped us → NoEnds (v ∷ vs) → KnownBy st v → AreUnits (v ∷ (vs ++ u ∷ us))
     → placed (at + length (joined (v ∷ (vs ++ u ∷ us)))) (seen st None (v ∷ (vs ++ u ∷ us)))
@@ -335,6 +348,10 @@ first_read : (us : Units) → FirstRead us
 unfolding grouped before_sequence
 first_read [] at h = let e : at + 0 ≡ at = omega arith in rw e (sym (rest_none at_first at ∙ piece_none at_first at))
 first_read (u ∷ us) at h = first_goes _ us u at refl (first_read us) h
+
+pub text_rest : (text : List ℕ) → text_read text ≡ rest_read at_first (length (before_pieces text)) (pieces text)
+unfolding text_read
+text_rest text = refl
 
 -- what is read piece by piece is what is seen of the whole
 pub text_is : (text : List ℕ) → text_read text ≡ placed (length text) (seen at_first None (cut 0 text).1)

@@ -1,15 +1,15 @@
 -- What a unit gives doesn't change by the units that stand further on, if the first of them begins a piece.
-use Rattle.std.proofs.Common.{◌≡◌, ℕ, ◌+◌, Bool, true, false, List, [], ◌∷◌, ◌++◌, Option, Some, None, Result, Ok, Err, refl, ap, subst, sym, ◌∙◌, inl, inr, arith}
+use Rattle.std.proofs.Common.{◌≡◌, ℕ, ◌+◌, Bool, true, false, List, [], ◌∷◌, ◌++◌, Option, Some, None, Result, Ok, Err, refl, ap, subst, ◌∙◌, inl, inr, arith}
 use Rattle.std.specs.Prelude.{nat_eq}
 use Rattle.std.proofs.lemmas.Bool.{cases_Bool, eqb-true}
-use Rattle.m2v_bits.specs.Syntax.{Syntax, bind, done, seq, here, rule, choose}
+use Rattle.m2v_bits.specs.Syntax.{bind, done, seq, here, rule, choose}
 use Rattle.m2v_bits.proofs.SyntaxLaws.{bad}
 use Rattle.m2v_model.specs.declared.fault.FaultKind.{FaultKind}
-use Rattle.m2v_model.specs.declared.fault.FaultKind.TheVariants.{NoSequence, NotMpeg2, Unsupported, Truncated, Forbidden, SequenceChanged, SliceOrder, MissingMacroblocks}
+use Rattle.m2v_model.specs.declared.fault.FaultKind.TheVariants.{NotMpeg2, Unsupported, Forbidden, SequenceChanged, SliceOrder, MissingMacroblocks}
 use Rattle.m2v_model.specs.declared.state.Sequence.{Sequence}
 use Rattle.m2v_model.specs.declared.state.Open.{Open}
 use Rattle.m2v_model.specs.declared.state.State.{State}
-use Rattle.m2v_model.specs.Units.{Units, unit_bits, unit_at, body, of_body, inside}
+use Rattle.m2v_model.specs.Units.{Units, unit_bits, unit_at, of_body, inside}
 use Rattle.m2v_model.specs.Looking.{refuse}
 use Rattle.m2v_model.specs.Faults.{Of}
 use Rattle.m2v_model.specs.Streams.{Part, Among, value_of, close, id_at, extension_in, extension_behind, sequence_unit, group_unit, picture_unit, matrix_unit, extension_unit, slice_in, slice_unit, end_unit, onward, final, later_unit, known_unit}

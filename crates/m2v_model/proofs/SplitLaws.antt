@@ -3,7 +3,7 @@ use Rattle.std.proofs.Common.{◌≡◌, ℕ, zero, suc, ◌+◌, ◌<◌, ◌�
 use Rattle.std.specs.Prelude.{nat_eq, ◌||◌, is_some}
 use Rattle.std.proofs.lemmas.Bool.{cases_Bool, cond-true, both_ways, eqb-true}
 use Rattle.std.proofs.lemmas.List.{append-nil}
-use Rattle.m2v_bits.specs.Syntax.{Syntax, bind, done, seq, here, rule, choose}
+use Rattle.m2v_bits.specs.Syntax.{bind, done, seq, rule, choose}
 use Rattle.m2v_bits.proofs.SyntaxLaws.{good, bad}
 use Rattle.m2v_plane.specs.Samples.{Samples}
 use Rattle.m2v_model.specs.declared.fault.FaultKind.{FaultKind}
@@ -19,7 +19,7 @@ use Rattle.m2v_model.specs.Pieces.{begins_piece, is_end}
 use Rattle.m2v_model.specs.ByPieces.{Course, behind}
 use Rattle.m2v_model.proofs.StreamLaws.{known_lawful, text_end_lawful, sequence_unit_lawful, group_unit_lawful, picture_unit_lawful, end_unit_lawful, onward_lawful, final_lawful}
 use Rattle.m2v_model.proofs.FlowLaws.{unit_of, seen, part_seen, seen_once}
-use Rattle.m2v_model.proofs.ShiftLaws.{BeginsPiece, NoEnds, Kept, shifted, unit_bits-append, unit_shifted, unit_kept}
+use Rattle.m2v_model.proofs.ShiftLaws.{BeginsPiece, NoEnds, Kept, shifted, unit_shifted, unit_kept}
 
 -- ---- pictures in front
 
@@ -181,12 +181,12 @@ which value b =
     elim (cases_Bool (nat_eq value 0x00)) [
       | inl on ↦ inl (eqb-true value 0x00 on)
       | inr off0 ↦ elim (cases_Bool (nat_eq value 0xB3)) [
-          | inl on ↦ inr (inl (eqb-true value 0xB3 on))
-          | inr off3 ↦ elim (cases_Bool (nat_eq value 0xB7)) [
-              | inl on ↦ inr (inr (inl (eqb-true value 0xB7 on)))
-              | inr off7 ↦ inr (inr (inr (eqb-true value 0xB8 (rw (off0, off3, off7) at b))))
-            ]
+        | inl on ↦ inr (inl (eqb-true value 0xB3 on))
+        | inr off3 ↦ elim (cases_Bool (nat_eq value 0xB7)) [
+          | inl on ↦ inr (inr (inl (eqb-true value 0xB7 on)))
+          | inr off7 ↦ inr (inr (inr (eqb-true value 0xB8 (rw (off0, off3, off7) at b))))
         ]
+      ]
     ]
 
 closes_by : (st : State) (start value : ℕ) (u : List ℕ) (t : Units) → begins_piece value ≡ true → IsKnown st → Closes st start u t value
@@ -194,12 +194,12 @@ closes_by st start value u t b k =
     elim (which value b) [
       | inl e ↦ subst (Closes st start u t) (sym e) (closes_picture st start u t k)
       | inr y ↦ elim y [
-          | inl e ↦ subst (Closes st start u t) (sym e) (closes_sequence st start u t)
-          | inr z ↦ elim z [
-              | inl e ↦ subst (Closes st start u t) (sym e) (closes_end st start u t k)
-              | inr e ↦ subst (Closes st start u t) (sym e) (closes_group st start u t k)
-            ]
+        | inl e ↦ subst (Closes st start u t) (sym e) (closes_sequence st start u t)
+        | inr z ↦ elim z [
+          | inl e ↦ subst (Closes st start u t) (sym e) (closes_end st start u t k)
+          | inr e ↦ subst (Closes st start u t) (sym e) (closes_group st start u t k)
         ]
+      ]
     ]
 
 renews_by : (st : State) (start value : ℕ) (u : List ℕ) (t mid : Units) (x : Bool × Part) → begins_piece value ≡ true → IsKnown st → (known_unit st start value u).read t ≡ good (x, mid) → Renews x.1
@@ -208,12 +208,12 @@ renews_by st start value u t mid x b k e =
     elim (which value b) [
       | inl is ↦ renews_picture st start u t mid x k (subst at is e)
       | inr y ↦ elim y [
-          | inl is ↦ renews_sequence st start u t mid x (subst at is e)
-          | inr z ↦ elim z [
-              | inl is ↦ renews_end st start u t mid x k (subst at is e)
-              | inr is ↦ renews_group st start u t mid x k (subst at is e)
-            ]
+        | inl is ↦ renews_sequence st start u t mid x (subst at is e)
+        | inr z ↦ elim z [
+          | inl is ↦ renews_end st start u t mid x k (subst at is e)
+          | inr is ↦ renews_group st start u t mid x k (subst at is e)
         ]
+      ]
     ]
 
 unit_closes : (st : State) (vs : Units) → BeginsPiece vs → IsKnown st → unit_of st vs ≡ cond (is_complete st.sequence st.picture) (unit_of (after_end st) vs) (Err (MissingMacroblocks, unit_bits vs))
@@ -266,21 +266,21 @@ later_goes st start value u x t rest off e =
     elim e [
       | inl y ↦ onward_goes _ x t rest y.1
       | inr y ↦ elim y.1 [
-          | inl z ↦ onward_goes _ x t rest z.1
-          | inr z ↦ elim z.1 [
-              | inl a ↦ onward_goes _ x t rest a.1
-              | inr a ↦ elim a.1 [
-                  | inl b ↦ onward_goes _ x t rest b.1
-                  | inr b ↦ elim b.1 [
-                      | inl c ↦ absurd (both_ways _ off c.0)
-                      | inr c ↦ elim c.1 [
-                          | inl d ↦ onward_goes _ x t rest d.1
-                          | inr d ↦ elim d.1 [ inl f ↦ absurd f.1 | inr f ↦ absurd f.1 ]
-                        ]
-                    ]
-                ]
+        | inl z ↦ onward_goes _ x t rest z.1
+        | inr z ↦ elim z.1 [
+          | inl a ↦ onward_goes _ x t rest a.1
+          | inr a ↦ elim a.1 [
+            | inl b ↦ onward_goes _ x t rest b.1
+            | inr b ↦ elim b.1 [
+              | inl c ↦ absurd (both_ways _ off c.0)
+              | inr c ↦ elim c.1 [
+                | inl d ↦ onward_goes _ x t rest d.1
+                | inr d ↦ elim d.1 [ inl f ↦ absurd f.1 | inr f ↦ absurd f.1 ]
+              ]
             ]
+          ]
         ]
+      ]
     ]
 
 sequence_known : (st : State) (start : ℕ) (u : List ℕ) (x : Bool × Part) (t rest : Units) → (onward (sequence_unit st start u)).Stands x t rest → IsKnown (after st x.1)
@@ -293,9 +293,9 @@ known_goes st start u x t rest off k e =
     elim e [
       | inl y ↦ (onward_goes _ x t rest y.1, sequence_known st start u x t rest y.1)
       | inr y ↦ elim y.1 [
-          | inl z ↦ (later_goes st start (value_of u) u x t rest off z.1, known_after st x.1 z.0)
-          | inr z ↦ let h = rw (z.0, y.0) at k in absurd cc
-        ]
+        | inl z ↦ (later_goes st start (value_of u) u x t rest off z.1, known_after st x.1 z.0)
+        | inr z ↦ let h = rw (z.0, y.0) at k in absurd cc
+      ]
     ]
 
 -- what a unit leaves, where it neither ends the stream nor stands before the first sequence header
