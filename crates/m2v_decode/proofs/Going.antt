@@ -11,15 +11,17 @@ use Rattle.m2v_model.specs.declared.fault.FaultKind.{FaultKind}
 use Rattle.m2v_model.specs.declared.state.State.{State}
 use Rattle.m2v_model.specs.States.{at_first}
 use Rattle.m2v_model.specs.Pictures.{Picture, Pictures}
-use Rattle.m2v_model.specs.Pieces.{pieces, limit, Limit}
+use Rattle.m2v_model.specs.declared.phase.Phase.TheVariants.{Before}
+use Rattle.m2v_model.specs.Units.{Units, cut}
+use Rattle.m2v_model.specs.Pieces.{pieces, limit, Limit, grouped}
 use Rattle.m2v_model.specs.Decoding.{Decodes, FaultAt, shown, due, low_delay_of}
 use Rattle.m2v_model.specs.ByPieces.{Course, piece_read, behind as behind_pictures, onward, pieces_read, end_of, text_read, IsRead}
-use Rattle.m2v_model.proofs.PieceLaws.{pieces_read-append, by_pieces}
+use Rattle.m2v_model.proofs.PieceLaws.{pieces_read-append, rest_read, rest_none, rest_more, rest_read-append, text_rest, by_pieces}
 use Rattle.m2v_piece.specs.declared.answer.Piece.{Piece}
 use Rattle.m2v_piece.specs.declared.answer.Fault.{Fault}
 use Rattle.m2v_piece.specs.declared.answer.DecodeError.{DecodeError}
 use Rattle.m2v_piece.specs.declared.answer.DecodeError.TheVariants as errors
-use Rattle.m2v_piece.specs.Cutting.{Cutting, left_of, IsPiece, open_start, open_pieces}
+use Rattle.m2v_piece.specs.Cutting.{Cutting, left_of, IsPiece, Stops, open_start, open_pieces}
 use Rattle.m2v_piece.specs.Cutting.{start_of as start_of_rest}
 use Rattle.m2v_piece.specs.Stepping.{Handed, Stopped, NextPiece, Why}
 use Rattle.m2v_decoder.specs.Decoding.{Decoding, at_start, due_of, Agrees, Shows, Advanced, Refuses, Finished, IsSound, whole_of}
@@ -132,6 +134,11 @@ gave c bytes rest c' p begun h =
 abbrev With : (l0 l1 h0 h1 : Option (List ℕ)) → Cutting → Decoding → Type 0
 With l0 l1 h0 h1 c d = Progress (record { old = l0; new = l1 }) (record { old = h0; new = h1 }) c d
 
+before_bytes : (bytes : List ℕ) (us : Units) → grouped Before [] us ≡ grouped Before bytes us
+unfolding grouped
+before_bytes bytes [] = refl
+before_bytes bytes (u ∷ us) = refl
+
 pub progress_none : (l h : Option (List ℕ)) → With l l h h before_all at_start
 unfolding pieces_read end_of open_start open_pieces
 progress_none l h = record {
@@ -145,8 +152,8 @@ progress_none l h = record {
   sound = refl;
   told = λ rest e. record {
     pictures = [];
-    begun = record { first = []; are = refl; fit = tt; read = refl };
-    place = refl;
+    begun = record { first = []; are = before_bytes (cut 0 rest).0 (cut 0 rest).1; fit = tt; read = refl };
+    place = omega arith;
     shows = λ low agree. shows_none low None [];
     counted = refl;
   };
@@ -173,4 +180,188 @@ progress_more l0 l1 l2 h0 h1 h2 c c' d m n p so handed begun a put grown = recor
       let place : start + length (whole_of p) ≡ start_of_rest c' rest = sym (g.next ∙ ap (λ (x : ℕ). x + p.length) g.place ∙ ap (λ (x : ℕ). start + x) g.length) in
       subst (λ (t : List ℕ). Reached t (start_of_rest c' rest) (left_of c' rest) (so.frames ++ due_of m) n) (sym (append_assoc so.bytes handed.bytes rest))
       (subst (λ (x : ℕ). Reached (so.bytes ++ (handed.bytes ++ rest)) x (left_of c' rest) (so.frames ++ due_of m) n) place more);
+}
+
+-- ---- where decoding stops
+
+abbrev Text : Option (List ℕ) → Option (List ℕ) → (List ℕ → Type 0) → Type 0
+Text l0 l1 Holds = Of (record { old = l0; new = l1 }) Holds
+
+-- the frames that were written are those that are due
+due_raw : (st : State) (ps : Pictures) (anchor : Option Samples) (frames : List Samples) → ((low : Bool) → Agrees low st.first → Shows low None [] ps anchor frames) → raw_of frames ≡ raw (due_before st ps)
+due_raw st ps anchor frames s = ap raw (due_is (low_delay_of st.first) ps anchor frames (s (low_delay_of st.first) (agrees st.first)))
+
+pub shown_raw : (st : State) (ps : Pictures) (anchor : Option Samples) (frames : List Samples) → ((low : Bool) → Agrees low st.first → Shows low None [] ps anchor frames)
+    → raw (shown_by st ps) ≡ raw_of frames ++ raw_of (option_to_list anchor)
+shown_raw st ps anchor frames s = sym (ap raw (shown_is (low_delay_of st.first) ps anchor frames (s (low_delay_of st.first) (agrees st.first)))) ∙ raw-append frames (option_to_list anchor)
+
+reached_cut : (text : List ℕ) (start : ℕ) (others : List (List ℕ)) (frames : List Samples) (d : Decoding) (h0 h1 : Option (List ℕ)) → Reached text start others frames d → GrowsByPrefix h0 (raw_of frames) h1 → IsCut text (record { old = h0; new = h1 })
+reached_cut text start others frames d h0 h1 r grown = record {
+  pictures = r.pictures;
+  state = d.state;
+  others = others;
+  begun = r.begun;
+  grown = subst (λ (b : List ℕ). GrowsByPrefix h0 b h1) (sym (shown_raw d.state r.pictures d.anchor frames r.shows)) (prefix_of_more grown (raw_of (option_to_list d.anchor)));
+}
+
+-- bytes were read, and nothing came of them
+pub moved_cut : (l0 l1 l2 h0 h1 : Option (List ℕ)) (c : Cutting) (d : Decoding) (bytes : List ℕ) → With l0 l1 h0 h1 c d → Moves l1 bytes l2 → Text l0 l2 (λ text. IsCut text (record { old = h0; new = h1 }))
+moved_cut l0 l1 l2 h0 h1 c d bytes so moved = record {
+  bytes = so.bytes ++ bytes;
+  moved = moves_on so.moved moved;
+  told = λ rest e.
+      subst (λ (t : List ℕ). IsCut t (record { old = h0; new = h1 })) (sym (append_assoc so.bytes bytes rest))
+      (reached_cut _ _ _ so.frames d h0 h1 (so.told (bytes ++ rest) (moved_some l1 l2 bytes rest moved e)) (grows_by_all so.grown));
+}
+
+over_at : (text : List ℕ) (start : ℕ) (others : List (List ℕ)) (frames : List Samples) (d : Decoding) (h0 h1 : Option (List ℕ)) (e : DecodeError) → Reached text start others frames d → Grows h0 (raw_of frames) h1 → Stops start others e → IsOver text (record { old = h0; new = h1 }) e
+over_at text start others frames d h0 h1 e r grown over = record {
+  pictures = r.pictures;
+  state = d.state;
+  others = others;
+  begun = r.begun;
+  over = subst (λ (x : ℕ). Stops x others e) r.place over;
+  grown = subst (λ (b : List ℕ). Grows h0 b h1) (due_raw d.state r.pictures d.anchor frames r.shows) grown;
+}
+
+over_text : (l0 l1 l2 h0 h1 : Option (List ℕ)) (c : Cutting) (d : Decoding) (bytes : List ℕ) (e : DecodeError) → With l0 l1 h0 h1 c d → Moves l1 bytes l2
+    → ((rest : List ℕ) → l2 ≡ Some rest → Stops (start_of_rest c (bytes ++ rest)) (left_of c (bytes ++ rest)) e) → Text l0 l2 (λ text. IsOver text (record { old = h0; new = h1 }) e)
+over_text l0 l1 l2 h0 h1 c d bytes e so moved why = record {
+  bytes = so.bytes ++ bytes;
+  moved = moves_on so.moved moved;
+  told = λ rest q.
+      subst (λ (t : List ℕ). IsOver t (record { old = h0; new = h1 }) e) (sym (append_assoc so.bytes bytes rest))
+      (over_at _ _ _ so.frames d h0 h1 e (so.told (bytes ++ rest) (moved_some l1 l2 bytes rest moved q)) so.grown (why rest q));
+}
+
+-- the errors of a cutter
+abbrev pub IsReading : DecodeError → Type 0
+IsReading errors.Read = Unit {0}
+IsReading errors.Write = ⊥
+IsReading (errors.Stream f) = ⊥
+IsReading errors.TooLong = Unit {0}
+IsReading errors.PictureTooLarge = Unit {0}
+IsReading errors.Memory = Unit {0}
+
+-- the cutter gave no piece
+pub cutter_stopped : (InputRose OutputRose : Type 0) (l0 l1 l2 h0 h1 : Option (List ℕ)) (c : Cutting) (d : Decoding) (e : DecodeError) → (e ≡ errors.Read → InputRose) → IsReading e
+    → With l0 l1 h0 h1 c d → Stopped c l1 l2 e → Fails InputRose OutputRose (record { old = l0; new = l2 }) (record { old = h0; new = h1 }) e
+cutter_stopped InputRose OutputRose l0 l1 l2 h0 h1 c d errors.Read rose kind so s = (rose refl, moved_cut l0 l1 l2 h0 h1 c d s.bytes so s.moved)
+cutter_stopped InputRose OutputRose l0 l1 l2 h0 h1 c d errors.Write rose kind so s = absurd kind
+cutter_stopped InputRose OutputRose l0 l1 l2 h0 h1 c d (errors.Stream f) rose kind so s = absurd kind
+cutter_stopped InputRose OutputRose l0 l1 l2 h0 h1 c d errors.TooLong rose kind so s = over_text l0 l1 l2 h0 h1 c d s.bytes errors.TooLong so s.moved s.why
+cutter_stopped InputRose OutputRose l0 l1 l2 h0 h1 c d errors.PictureTooLarge rose kind so s = over_text l0 l1 l2 h0 h1 c d s.bytes errors.PictureTooLarge so s.moved s.why
+cutter_stopped InputRose OutputRose l0 l1 l2 h0 h1 c d errors.Memory rose kind so s = moved_cut l0 l1 l2 h0 h1 c d s.bytes so s.moved
+
+onward_err : (r : Course) (next : State → Course) (f : FaultKind × ℕ) → r ≡ Err f → onward r next ≡ Err f
+unfolding onward
+onward_err r next f e = rw e refl
+
+-- the first fault of a text is looked at in the next piece
+faulty_text : (text : List ℕ) (kind : FaultKind) (place : ℕ) (ps : Pictures) (st : State) (others : List (List ℕ)) → (b : Begun text ps st others) → HasFault st (behind b) others kind place → FaultAt text place kind
+unfolding onward pieces_read
+faulty_text text kind place ps st [] b here = (by_pieces text).fault kind place (
+    text_rest text ∙ ap (rest_read at_first (start_of text)) (b.are) ∙ rest_read-append b.first [] at_first (start_of text)
+    ∙ rw b.read (ap (behind_pictures ps) (rest_none st (behind b) ∙ here)))
+faulty_text text kind place ps st (p ∷ others) b here = (by_pieces text).fault kind place (
+    text_rest text ∙ ap (rest_read at_first (start_of text)) (b.are) ∙ rest_read-append b.first (p ∷ others) at_first (start_of text)
+    ∙ rw b.read (ap (behind_pictures ps) (rest_more st (behind b) p others ∙ onward_err (piece_read st (behind b + length p) p) (λ next. rest_read next (behind b + length p) others) (kind, place) here.1)))
+
+pub faulty_at : (text : List ℕ) (start : ℕ) (others : List (List ℕ)) (frames : List Samples) (d : Decoding) (h0 h1 : Option (List ℕ)) (f : Fault) → Reached text start others frames d → Grows h0 (raw_of frames) h1 → HasFault d.state start others f.kind f.place
+    → IsFaulty text (record { old = h0; new = h1 }) f
+faulty_at text start others frames d h0 h1 f r grown here =
+    let there = subst (λ (x : ℕ). HasFault d.state x others f.kind f.place) r.place here in
+    record {
+      fault = faulty_text text f.kind f.place r.pictures d.state others r.begun there;
+      pictures = r.pictures;
+      state = d.state;
+      others = others;
+      begun = r.begun;
+      here = there;
+      grown = subst (λ (b : List ℕ). Grows h0 b h1) (due_raw d.state r.pictures d.anchor frames r.shows) grown;
+    }
+
+-- a piece that was given is the next one of those that are left
+given : (l0 l1 l2 h0 h1 : Option (List ℕ)) (c c' : Cutting) (d : Decoding) (p : Piece) → (so : With l0 l1 h0 h1 c d) → (handed : Handed c l1 c' l2 (Some p)) → c'.begun ≡ true → (rest : List ℕ) → l2 ≡ Some rest
+    → Reached (so.bytes ++ (handed.bytes ++ rest)) p.place (whole_of p ∷ left_of c' rest) so.frames d × (limit p.place 0 (whole_of p) ≡ None) × (p.length ≡ length (whole_of p))
+given l0 l1 l2 h0 h1 c c' d p so handed begun rest e =
+    let g = gave c handed.bytes rest c' p begun (handed.next rest e) in
+    let r = so.told (handed.bytes ++ rest) (moved_some l1 l2 handed.bytes rest handed.moved e) in
+    let r' = subst (λ (ps : List (List ℕ)). Reached (so.bytes ++ (handed.bytes ++ rest)) (start_of_rest c (handed.bytes ++ rest)) ps so.frames d) g.pieces r in
+    (subst (λ (x : ℕ). Reached (so.bytes ++ (handed.bytes ++ rest)) x (whole_of p ∷ left_of c' rest) so.frames d) (sym g.place) r', g.fits, g.length)
+
+-- the decoder refused a piece
+pub piece_refused : (InputRose OutputRose : Type 0) (l0 l1 l2 h0 h1 : Option (List ℕ)) (c c' : Cutting) (d : Decoding) (p : Piece) (e : DecodeError) → With l0 l1 h0 h1 c d → Handed c l1 c' l2 (Some p) → c'.begun ≡ true
+    → Refuses d (p.place + p.length) (whole_of p) e → Fails InputRose OutputRose (record { old = l0; new = l2 }) (record { old = h0; new = h1 }) e
+piece_refused InputRose OutputRose l0 l1 l2 h0 h1 c c' d p errors.Read so handed begun why = absurd why
+piece_refused InputRose OutputRose l0 l1 l2 h0 h1 c c' d p errors.Write so handed begun why = absurd why
+piece_refused InputRose OutputRose l0 l1 l2 h0 h1 c c' d p errors.TooLong so handed begun why = absurd why
+piece_refused InputRose OutputRose l0 l1 l2 h0 h1 c c' d p errors.PictureTooLarge so handed begun why = absurd why
+piece_refused InputRose OutputRose l0 l1 l2 h0 h1 c c' d p errors.Memory so handed begun why = moved_cut l0 l1 l2 h0 h1 c d handed.bytes so handed.moved
+piece_refused InputRose OutputRose l0 l1 l2 h0 h1 c c' d p (errors.Stream f) so handed begun why = record {
+  bytes = so.bytes ++ handed.bytes;
+  moved = moves_on so.moved handed.moved;
+  told = λ rest e.
+      let g = given l0 l1 l2 h0 h1 c c' d p so handed begun rest e in
+      subst (λ (t : List ℕ). IsFaulty t (record { old = h0; new = h1 }) f) (sym (append_assoc so.bytes handed.bytes rest))
+      (faulty_at _ p.place (whole_of p ∷ left_of c' rest) so.frames d h0 h1 f g.0 so.grown (g.1, subst (λ (x : ℕ). piece_read d.state (p.place + x) (whole_of p) ≡ Err (f.kind, f.place)) g.2 why));
+}
+
+-- a prefix of the frames due behind a piece was written
+due_cut : (text : List ℕ) (start : ℕ) (whole : List ℕ) (others : List (List ℕ)) (frames : List Samples) (d m : Decoding) (h0 h1 h2 : Option (List ℕ)) → Reached text start (whole ∷ others) frames d → d.ready ≡ []
+    → limit start 0 whole ≡ None → Advanced d (start + length whole) whole m → Grows h0 (raw_of frames) h1 → GrowsByPrefix h1 (raw_of (due_of m)) h2 → IsCut text (record { old = h0; new = h2 })
+due_cut text start whole others frames d m h0 h1 h2 r none fits a grown cut =
+    let drained : Decoding = record m { ready = []; shown = m.shown + length (due_of m) } in
+    let put : HasPut m drained = record {
+          none = due_ready drained a.going;
+          state = refl;
+          anchor = λ going. refl;
+          ended = refl;
+          failed = refl;
+          pictures = refl;
+          shown = refl;
+        } in
+    reached_cut text (start + length whole) others (frames ++ due_of m) drained h0 h2 (reached_more text start whole others frames d m drained r none fits a put)
+    (subst (λ (b : List ℕ). GrowsByPrefix h0 b h2) (sym (raw-append frames (due_of m))) (prefix_on grown cut))
+
+due_text : (l0 l1 l2 h0 h1 h2 : Option (List ℕ)) (c c' : Cutting) (d m : Decoding) (p : Piece) → With l0 l1 h0 h1 c d → Handed c l1 c' l2 (Some p) → c'.begun ≡ true → Advanced d (p.place + p.length) (whole_of p) m
+    → GrowsByPrefix h1 (raw_of (due_of m)) h2 → Text l0 l2 (λ text. IsCut text (record { old = h0; new = h2 }))
+due_text l0 l1 l2 h0 h1 h2 c c' d m p so handed begun a cut = record {
+  bytes = so.bytes ++ handed.bytes;
+  moved = moves_on so.moved handed.moved;
+  told = λ rest e.
+      let g = given l0 l1 l2 h0 h1 c c' d p so handed begun rest e in
+      subst (λ (t : List ℕ). IsCut t (record { old = h0; new = h2 })) (sym (append_assoc so.bytes handed.bytes rest))
+      (due_cut _ p.place (whole_of p) (left_of c' rest) so.frames d m h0 h1 h2 g.0 so.none g.1 (subst (λ (x : ℕ). Advanced d (p.place + x) (whole_of p) m) g.2 a) so.grown cut);
+}
+
+-- output failed behind a piece
+pub put_stopped : (InputRose OutputRose OutputRose' : Type 0) (l0 l1 l2 h0 h1 h2 : Option (List ℕ)) (c c' : Cutting) (d m : Decoding) (p : Piece) (e : DecodeError) → (OutputRose → OutputRose')
+    → With l0 l1 h0 h1 c d → Handed c l1 c' l2 (Some p) → c'.begun ≡ true → Advanced d (p.place + p.length) (whole_of p) m
+    → Cuts OutputRose (raw_of (due_of m)) (record { old = h1; new = h2 }) e → Fails InputRose OutputRose' (record { old = l0; new = l2 }) (record { old = h0; new = h2 }) e
+put_stopped InputRose OutputRose OutputRose' l0 l1 l2 h0 h1 h2 c c' d m p errors.Read rose so handed begun a cut = absurd cut
+put_stopped InputRose OutputRose OutputRose' l0 l1 l2 h0 h1 h2 c c' d m p errors.Write rose so handed begun a cut = (rose cut.0, due_text l0 l1 l2 h0 h1 h2 c c' d m p so handed begun a cut.1)
+put_stopped InputRose OutputRose OutputRose' l0 l1 l2 h0 h1 h2 c c' d m p (errors.Stream f) rose so handed begun a cut = absurd cut
+put_stopped InputRose OutputRose OutputRose' l0 l1 l2 h0 h1 h2 c c' d m p errors.TooLong rose so handed begun a cut = absurd cut
+put_stopped InputRose OutputRose OutputRose' l0 l1 l2 h0 h1 h2 c c' d m p errors.PictureTooLarge rose so handed begun a cut = absurd cut
+put_stopped InputRose OutputRose OutputRose' l0 l1 l2 h0 h1 h2 c c' d m p errors.Memory rose so handed begun a cut = due_text l0 l1 l2 h0 h1 h2 c c' d m p so handed begun a cut
+
+-- no piece was left
+pub pieces_done : (l0 l1 l2 h0 h1 : Option (List ℕ)) (c c' : Cutting) (d : Decoding) → With l0 l1 h0 h1 c d → Handed c l1 c' l2 None → c'.ended ≡ true → IsDone (record { old = l0; new = l2 }) (record { old = h0; new = h1 }) c' d
+pieces_done l0 l1 l2 h0 h1 c c' d so handed over = record {
+  bytes = so.bytes ++ handed.bytes;
+  moved = moves_on so.moved handed.moved;
+  frames = so.frames;
+  grown = so.grown;
+  shown = so.shown;
+  none = so.none;
+  going = so.going;
+  sound = so.sound;
+  over = over;
+  told = λ rest e.
+      let next = handed.next rest e in
+      let r = so.told (handed.bytes ++ rest) (moved_some l1 l2 handed.bytes rest handed.moved e) in
+      subst (λ (t : List ℕ). Reached t c'.place [] so.frames d) (sym (append_assoc so.bytes handed.bytes rest))
+      (subst (λ (x : ℕ). Reached (so.bytes ++ (handed.bytes ++ rest)) x [] so.frames d) (sym next.2)
+      (subst (λ (ps : List (List ℕ)). Reached (so.bytes ++ (handed.bytes ++ rest)) (start_of_rest c (handed.bytes ++ rest)) ps so.frames d) next.0 r));
 }

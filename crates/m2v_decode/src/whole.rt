@@ -23,6 +23,7 @@ fn read_pieces<S: Source, K: Sink>(
     requires decoder { decoder.old ≡ at_start }
     requires output { IsTrue (K.ready output.old) }
     ensures ok { OnOk result (IsDone (record { old = S.left input.old; new = S.left input.new }) (record { old = K.held output.old; new = K.held output.new }) cutter.new decoder.new) }
+    ensures most { OnOk result (cutter.new.place ≤ 2 ^ 36) }
     ensures err { IfErr result (Fails (Rose (S.faults input.old) (S.faults input.new)) (Rose (K.faults output.old) (K.faults output.new)) (record { old = S.left input.old; new = S.left input.new }) (record { old = K.held output.old; new = K.held output.new })) }
     ensures output { IsTrue (K.ready output.new) }
     ensures name { K.name output.new ≡ K.name output.old }
