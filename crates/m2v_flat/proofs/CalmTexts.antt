@@ -28,6 +28,14 @@ calm_end t h =
     let few : length zeros ≤ 7 = omega (arith, length-replicate (to_edge (32 + length t)) false) in
     record { calm = calm_then t zeros 22 7 0 h (calm_any zeros 7 0 (omega arith) (omega arith)) }
 
+-- a text that ends at the edge of a byte
+calm_whole : (t : List Bool) → length t % 8 ≡ 0 → Calm 22 t 6 → IsCalm t
+unfolding ended
+calm_whole t edge h =
+    let zeros = replicate (to_edge (32 + length t)) false in
+    let none : length zeros ≤ 0 = omega (arith, length-replicate (to_edge (32 + length t)) false) in
+    record { calm = calm_then t zeros 22 6 0 h (calm_any zeros 6 0 (omega arith) (omega arith)) }
+
 -- ---- blocks
 
 no_code : (luma : Bool) → length (size_code luma 12) ≡ 0
@@ -126,12 +134,12 @@ sequence_calm s wide width tall height =
     (calm_then a (r ++ known) 11 22 7 calm_aspect
     (calm_then r known 22 18 7 (calm_any r 22 18 (omega arith) (omega arith)) calm_known)))))
 
-extension_calm : Calm 22 (sequence_extension_text flat_sequence_extension) 7
+extension_calm : Calm 22 (sequence_extension_text flat_sequence_extension) 6
 unfolding sequence_extension_text rates_text bits_of
 extension_calm = omega arith
 
 pub sequence_extension_calm : IsCalm (sequence_extension_text flat_sequence_extension)
-sequence_extension_calm = calm_end (sequence_extension_text flat_sequence_extension) extension_calm
+sequence_extension_calm = calm_whole (sequence_extension_text flat_sequence_extension) (omega (arith, sequence_extension_length)) extension_calm
 
 coding_calm : Calm 22 (picture_extension_text flat_picture_extension) 7
 unfolding picture_extension_text flags_text composite_text bits_of

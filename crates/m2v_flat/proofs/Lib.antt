@@ -1,3 +1,6 @@
+pub mod Blocks
 pub mod Calm
 pub mod CalmTexts
+pub mod Macroblocks
+pub mod Orders
 pub mod Units
