@@ -3,4 +3,5 @@ pub mod Calm
 pub mod CalmTexts
 pub mod Macroblocks
 pub mod Orders
+pub mod Slices
 pub mod Units
