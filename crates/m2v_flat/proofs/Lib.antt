@@ -1,6 +1,8 @@
 pub mod Blocks
 pub mod Calm
 pub mod CalmTexts
+pub mod Chains
+pub mod Headers
 pub mod Macroblocks
 pub mod Orders
 pub mod Slices

@@ -74,7 +74,7 @@ not_zero : (frame : Samples) (row column : ℕ) (rest behind : List Bool) → al
 unfolding macroblock_text code_of increment type_i same_increment bits_of all_zero
 not_zero frame row column rest behind = refl
 
-zeros_are : (n : ℕ) → all_zero (replicate n false) ≡ true
+pub zeros_are : (n : ℕ) → all_zero (replicate n false) ≡ true
 unfolding all_zero
 zeros_are zero = refl
 zeros_are (suc n) = zeros_are n
