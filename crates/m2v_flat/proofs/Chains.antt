@@ -1,5 +1,5 @@
 -- Units one behind another, each a part of the stream.
-use Rattle.std.proofs.Common.{◌≡◌, ℕ, true, false, List, [], ◌∷◌, ◌++◌, Some, refl, sym, ap, subst, ◌∙◌, append_assoc}
+use Rattle.std.proofs.Common.{◌≡◌, ℕ, true, false, List, [], ◌∷◌, ◌++◌, Some, refl, sym, ap, subst, ◌∙◌, append_assoc, append-nil}
 use Rattle.m2v_bits.specs.Syntax.{seq, done, here, Rounds, last, more}
 use Rattle.m2v_model.specs.declared.state.State.{State}
 use Rattle.m2v_model.specs.Units.{Units, unit_at, unit_bits}
@@ -19,7 +19,7 @@ chain_then nothing g = g
 chain_then {a} {b} {c} {ps} {qs} {us} {vs} (link {p = p} {ps = later} {u = u} {others = others} {us = ws} r h) g =
     subst (λ (xs : Units). Chain a (p ∷ (later ++ qs)) (u ∷ xs) c) (sym (append_assoc others ws vs)) (link r (chain_then h g))
 
-pub sofar : State → List Part → Sofar
+abbrev pub sofar : State → List Part → Sofar
 sofar st ps = record { state = st; parts = ps }
 
 round_stands : (st : State) (p : Part) (u : List ℕ) (others us : Units) (xs : List Part) → Reads st p u others
@@ -33,5 +33,8 @@ round_stands st p u others us xs r =
 -- units that are parts are read in as many rounds
 pub rounds_of : {a b : State} {ps : List Part} {us : Units} → Chain a ps us b → (xs : List Part) (vs rest : Units) (z : Sofar)
     → Rounds unit_round (record { state = b; parts = xs ++ ps }) z vs rest → Rounds unit_round (record { state = a; parts = xs }) z (us ++ vs) rest
-rounds_of {a} {b} nothing xs vs rest z h = ?
-rounds_of {a} {b} (link {p = p} {ps = later} {u = u} {others = others} {us = us} r c) xs vs rest z h = ?
+rounds_of {a} {b} nothing xs vs rest z h = subst (λ (ys : List Part). Rounds unit_round (sofar a ys) z vs rest) (append-nil xs) h
+rounds_of {a} {b} (link {p = p} {ps = later} {u = u} {others = others} {us = us} r c) xs vs rest z h =
+    let same : Rounds unit_round (sofar b ((xs ++ p ∷ []) ++ later)) z vs rest = subst (λ (ys : List Part). Rounds unit_round (sofar b ys) z vs rest) (sym (append_assoc xs (p ∷ []) later)) h in
+    subst (λ (ws : Units). Rounds unit_round (sofar a xs) z (u ∷ ws) rest) (sym (append_assoc others us vs))
+    (more (round_stands a p u others (us ++ vs) xs r) (rounds_of c (xs ++ p ∷ []) vs rest z same))

@@ -5,5 +5,6 @@ pub mod Chains
 pub mod Headers
 pub mod Macroblocks
 pub mod Orders
+pub mod Pictures
 pub mod Slices
 pub mod Units
