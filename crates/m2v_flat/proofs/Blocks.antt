@@ -1,8 +1,7 @@
 -- What is written of a block of the flat profile spells its levels.
-use Rattle.std.proofs.Common.{◌≡◌, ℕ, ◌+◌, ◌*◌, ◌^◌, ◌<◌, ◌≤◌, true, false, All, List, [], ◌∷◌, ◌++◌, length, replicate, ℤ, pos, refl, sym, ap, subst, ◌∙◌, arith}
-use Rattle.std.specs.Prelude.{nat_lt, ◌-ℤ◌, ◌≤ℤ◌, ◌<ℤ◌}
+use Rattle.std.proofs.Common.{◌≡◌, ℕ, ◌≤◌, true, false, All, List, ◌++◌, length, replicate, ℤ, pos, refl, subst, ◌∙◌, arith}
+use Rattle.std.specs.Prelude.{nat_lt, ◌-ℤ◌}
 use Rattle.std.proofs.lemmas.Int.{ints}
-use Rattle.std.proofs.lemmas.List.{length-replicate}
 use Rattle.std.proofs.lemmas.List.Elements.{All-cons, All-replicate}
 use Rattle.m2v_bits.specs.Bits.{bits_of}
 use Rattle.m2v_bits.specs.Syntax.{Spells}
@@ -10,7 +9,7 @@ use Rattle.m2v_vlc.specs.Codes.{code_of}
 use Rattle.m2v_vlc.specs.Coefficients.{coefficient_zero, same_coefficient}
 use Rattle.m2v_quant.specs.Kinds.{IsKind, IsLevel}
 use Rattle.m2v_quant.specs.Scans.{scale_at}
-use Rattle.m2v_quant.specs.Matrices.{intra_matrix, default_matrix}
+use Rattle.m2v_quant.specs.Matrices.{default_matrix}
 use Rattle.m2v_quant.proofs.Tables.{IsWeight, same_intra, intra_weights}
 use Rattle.m2v_block.specs.Blocks.{IsDc, block_at}
 use Rattle.m2v_block.specs.Dc.{dc_text}

@@ -1,5 +1,5 @@
 -- No prefix of a start code stands in the texts of the flat profile.
-use Rattle.std.proofs.Common.{◌≡◌, ℕ, zero, suc, ◌+◌, ◌*◌, ◌%◌, ◌^◌, ◌<◌, ◌≤◌, Bool, true, false, List, [], ◌∷◌, ◌++◌, length, replicate, refl, sym, ap, subst, ◌∙◌, arith, append_assoc, inl, inr}
+use Rattle.std.proofs.Common.{◌≡◌, ℕ, zero, suc, ◌+◌, ◌%◌, ◌<◌, ◌≤◌, Bool, true, false, List, [], ◌∷◌, ◌++◌, length, replicate, refl, sym, subst, arith, inl, inr}
 use Rattle.std.specs.Prelude.{nat_lt, ◌-ℤ◌, ℤ, unsigned_abs}
 use Rattle.std.specs.List.{flat_map, range_with_len}
 use Rattle.std.proofs.lemmas.Bool.{cases_eq}
@@ -12,11 +12,11 @@ use Rattle.m2v_vlc.specs.Tables.{increment, type_i, dc_luma, dc_chroma, incremen
 use Rattle.m2v_vlc.specs.Values.{kind, same_increment}
 use Rattle.m2v_block.specs.Dc.{size_of, number_of, size_code, dc_text}
 use Rattle.m2v_block.proofs.Numbers.{size_most, code_most}
-use Rattle.m2v_head.specs.Texts.{sequence_text, sequence_extension_text, rates_text, picture_text, picture_extension_text, directions_text, flags_text, composite_text, slice_text, intra_slice_text, loaded_text}
+use Rattle.m2v_head.specs.Texts.{sequence_text, sequence_extension_text, rates_text, picture_text, picture_extension_text, directions_text, flags_text, composite_text, slice_text, loaded_text}
 use Rattle.m2v_plane.specs.Samples.{Samples}
 use Rattle.m2v_encode.specs.declared.settings.FlatSettings.{FlatSettings}
 use Rattle.m2v_encode.specs.Flat.{flat_sequence, flat_sequence_extension, flat_picture, flat_picture_extension, flat_slice, level, predictor, block_text, blocks_text, end_of_block, macroblock_text, row_text}
-use Rattle.m2v_encode.proofs.UnitLaws.{sequence_length, sequence_extension_length, picture_length, picture_extension_length, slice_length}
+use Rattle.m2v_encode.proofs.UnitLaws.{sequence_extension_length, slice_length}
 use Rattle.m2v_flat.proofs.Calm.{Calm, calm_more, calm_less, calm_then, calm_any, calm_one, some_one}
 use Rattle.m2v_flat.proofs.Units.{ended, IsCalm}
 

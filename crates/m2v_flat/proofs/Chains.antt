@@ -1,6 +1,6 @@
 -- Units one behind another, each a part of the stream.
-use Rattle.std.proofs.Common.{◌≡◌, ℕ, true, false, List, [], ◌∷◌, ◌++◌, Some, refl, sym, ap, subst, ◌∙◌, append_assoc, append-nil}
-use Rattle.m2v_bits.specs.Syntax.{seq, done, here, Rounds, last, more}
+use Rattle.std.proofs.Common.{ℕ, true, List, [], ◌∷◌, ◌++◌, Some, refl, sym, subst, append_assoc, append-nil}
+use Rattle.m2v_bits.specs.Syntax.{seq, done, here, Rounds, more}
 use Rattle.m2v_model.specs.declared.state.State.{State}
 use Rattle.m2v_model.specs.Units.{Units, unit_at, unit_bits}
 use Rattle.m2v_model.specs.Streams.{Part, Sofar, after, value_of, known_unit, next_unit, unit_round}
@@ -25,10 +25,17 @@ sofar st ps = record { state = st; parts = ps }
 round_stands : (st : State) (p : Part) (u : List ℕ) (others us : Units) (xs : List Part) → Reads st p u others
     → (unit_round (record { state = st; parts = xs })).Stands (true, record { state = after st p; parts = xs ++ p ∷ [] }) (u ∷ (others ++ us)) us
 unfolding unit_round seq here unit_at next_unit done
-round_stands st p u others us xs r =
-    (unit_bits (u ∷ (others ++ us)), u ∷ (others ++ us), (refl, refl),
-    (Some u, others ++ us, refl,
-    ((true, p), us, r.stands (unit_bits (u ∷ (others ++ us))) us, (refl, refl))))
+round_stands st p u others us xs r = (
+  unit_bits (u ∷ (others ++ us)),
+  u ∷ (others ++ us),
+  (refl, refl),
+  (
+    Some u,
+    others ++ us,
+    refl,
+    ((true, p), us, r.stands (unit_bits (u ∷ (others ++ us))) us, (refl, refl)),
+  ),
+)
 
 -- units that are parts are read in as many rounds
 pub rounds_of : {a b : State} {ps : List Part} {us : Units} → Chain a ps us b → (xs : List Part) (vs rest : Units) (z : Sofar)

@@ -1,22 +1,21 @@
 -- The headers of the flat profile stand in their units.
-use Rattle.std.proofs.Common.{◌≡◌, ℕ, zero, suc, ◌+◌, ◌-◌, ◌*◌, ◌%◌, ◌^◌, ◌<◌, ◌≤◌, Bool, true, false, List, [], ◌∷◌, ◌++◌, length, drop, replicate, Option, Some, None, inl, inr, refl, sym, ap, subst, ◌∙◌, arith}
-use Rattle.std.specs.Prelude.{nat_eq, nat_le, not, ◌&&◌, ◌||◌}
+use Rattle.std.proofs.Common.{◌≡◌, ℕ, ◌+◌, ◌^◌, ◌<◌, ◌≤◌, Bool, true, false, List, [], ◌++◌, length, drop, replicate, Some, refl, sym, ap, subst, arith}
+use Rattle.std.specs.Prelude.{nat_eq, nat_le, not}
 use Rattle.std.proofs.lemmas.Bool.{ne_eqb, le-leb}
 use Rattle.std.proofs.lemmas.Nat.{mod_below}
-use Rattle.m2v_bits.specs.Bits.{bits_of, bits, number, packed, all_zero, to_edge}
-use Rattle.m2v_bits.specs.Syntax.{Syntax, seq, done, here, rule, choose, renamed, Spells}
+use Rattle.m2v_bits.specs.Bits.{bits_of, number, to_edge}
+use Rattle.m2v_bits.specs.Syntax.{seq, done, here, rule, renamed}
 use Rattle.m2v_bits.specs.Leaves.{bits_at, end_at}
-use Rattle.m2v_head.specs.Headers.{sequence_at, sequence_extension_at, picture_at, picture_extension_at}
 use Rattle.m2v_head.specs.Texts.{sequence_text, sequence_extension_text, rates_text, picture_text, picture_extension_text, directions_text, flags_text, composite_text}
 use Rattle.m2v_head.specs.Fits.{SequenceFits, SequenceExtensionFits, PictureFits, PictureExtensionFits}
 use Rattle.m2v_head.specs.declared.sequence.SequenceInfo.{SequenceInfo}
 use Rattle.m2v_head.proofs.Spellings.{sequence_spells, sequence_extension_spells, picture_spells, picture_extension_spells}
 use Rattle.m2v_encode.specs.declared.settings.FlatSettings.{FlatSettings}
 use Rattle.m2v_encode.specs.Flat.{flat_sequence, flat_sequence_extension, flat_picture, flat_picture_extension}
-use Rattle.m2v_model.specs.declared.fault.FaultKind.TheVariants.{Truncated, Forbidden}
-use Rattle.m2v_model.specs.Faults.{Of, of_head}
+use Rattle.m2v_model.specs.declared.fault.FaultKind.TheVariants.{Truncated}
+use Rattle.m2v_model.specs.Faults.{Of}
 use Rattle.m2v_model.specs.Looking.{number_from, look, looking}
-use Rattle.m2v_model.specs.Units.{Units, inside, body}
+use Rattle.m2v_model.specs.Units.{Units, inside}
 use Rattle.m2v_model.specs.Headers.{whole, size_of, size_at, sequence_in, sequence_extension_in, picture_in, f_code_at, f_codes_at, picture_extension_in}
 use Rattle.m2v_model.specs.Streams.{id_at, extension_in}
 use Rattle.m2v_flat.proofs.Units.{ended, ended_bits, unit_bytes}
@@ -77,16 +76,47 @@ extension_looks : (info : SequenceInfo) → 1 ≤ info.horizontal_size → info.
 unfolding sequence_extension_in size_at seq here look number_from rule renamed ended sequence_extension_text rates_text bits_of number
 extension_looks info wide width tall height =
     let t = ended (sequence_extension_text flat_sequence_extension) in
-    let rest = behind (sequence_extension_text flat_sequence_extension) in
-    (length t, t, (refl, refl),
-    (Some 1, t, (refl, refl),
-    (tt, t, (refl, refl),
-    (Some 1, t, (refl, refl),
-    (Some 0, t, (refl, refl),
-    (tt, t, (tt, t, (size_some info.horizontal_size wide, refl), (size_most info.horizontal_size 1920 width, refl)),
-    (Some 0, t, (refl, refl),
-    (tt, t, (tt, t, (size_some info.vertical_size tall, refl), (size_most info.vertical_size 1152 height, refl)),
-    (sequence_extension_spells flat_sequence_extension extension_fits).stands rest))))))))
+    let rest = behind (sequence_extension_text flat_sequence_extension) in (
+      length t,
+      t,
+      (refl, refl),
+      (
+        Some 1,
+        t,
+        (refl, refl),
+        (
+          tt,
+          t,
+          (refl, refl),
+          (
+            Some 1,
+            t,
+            (refl, refl),
+            (
+              Some 0,
+              t,
+              (refl, refl),
+              (
+                tt,
+                t,
+                (tt, t, (size_some info.horizontal_size wide, refl), (size_most info.horizontal_size 1920 width, refl)),
+                (
+                  Some 0,
+                  t,
+                  (refl, refl),
+                  (
+                    tt,
+                    t,
+                    (tt, t, (size_some info.vertical_size tall, refl), (size_most info.vertical_size 1152 height, refl)),
+                    (sequence_extension_spells flat_sequence_extension extension_fits).stands rest,
+                  ),
+                ),
+              ),
+            ),
+          ),
+        ),
+      ),
+    )
 
 pub extension_stands : (s : FlatSettings) → 1 ≤ s.dims.width → s.dims.width ≤ 1920 → 1 ≤ s.dims.height → s.dims.height ≤ 1152
     → (whole (sequence_extension_in (flat_sequence s))).Stands flat_sequence_extension (ended (sequence_extension_text flat_sequence_extension)) []
@@ -109,11 +139,22 @@ picture_fits n = record {
 picture_looks : (n : ℕ) → picture_in.Stands (flat_picture n) (ended (picture_text (flat_picture n))) (behind (picture_text (flat_picture n)))
 unfolding picture_in seq here look number_from rule renamed ended picture_text directions_text bits_of number
 picture_looks n =
-    let t = ended (picture_text (flat_picture n)) in
-    (length t, t, (refl, refl),
-    (Some 1, t, (refl, refl),
-    (tt, t, (refl, refl),
-    (picture_spells (flat_picture n) (picture_fits n)).stands (behind (picture_text (flat_picture n))))))
+    let t = ended (picture_text (flat_picture n)) in (
+      length t,
+      t,
+      (refl, refl),
+      (
+        Some 1,
+        t,
+        (refl, refl),
+        (
+          tt,
+          t,
+          (refl, refl),
+          (picture_spells (flat_picture n) (picture_fits n)).stands (behind (picture_text (flat_picture n))),
+        ),
+      ),
+    )
 
 pub picture_stands : (n : ℕ) → (whole picture_in).Stands (flat_picture n) (ended (picture_text (flat_picture n))) []
 picture_stands n = whole_stands picture_in (picture_text (flat_picture n)) (flat_picture n) (picture_looks n)
@@ -129,27 +170,77 @@ coding_fits = record {
 f_codes_stand : (at : ℕ) → (f_codes_at 1 at).Stands tt (ended (picture_extension_text flat_picture_extension)) (ended (picture_extension_text flat_picture_extension))
 unfolding f_codes_at f_code_at seq look number_from rule ended picture_extension_text flags_text composite_text bits_of number
 f_codes_stand at =
-    let t = ended (picture_extension_text flat_picture_extension) in
-    (Some 0, t, (refl, refl),
-    (tt, t, (Some 15, t, (refl, refl), (refl, refl)),
-    (tt, t, (Some 15, t, (refl, refl), (refl, refl)),
-    (tt, t, (Some 15, t, (refl, refl), (refl, refl)),
-    (Some 15, t, (refl, refl), (refl, refl))))))
+    let t = ended (picture_extension_text flat_picture_extension) in (
+      Some 0,
+      t,
+      (refl, refl),
+      (
+        tt,
+        t,
+        (Some 15, t, (refl, refl), (refl, refl)),
+        (
+          tt,
+          t,
+          (Some 15, t, (refl, refl), (refl, refl)),
+          (
+            tt,
+            t,
+            (Some 15, t, (refl, refl), (refl, refl)),
+            (Some 15, t, (refl, refl), (refl, refl)),
+          ),
+        ),
+      ),
+    )
 
 coding_looks : (n : ℕ) → (picture_extension_in (flat_picture n)).Stands flat_picture_extension (ended (picture_extension_text flat_picture_extension)) (behind (picture_extension_text flat_picture_extension))
 unfolding picture_extension_in seq here look number_from rule renamed ended picture_extension_text flags_text composite_text bits_of number
 coding_looks n =
-    let t = ended (picture_extension_text flat_picture_extension) in
-    (length t, t, (refl, refl),
-    (tt, t, f_codes_stand (length t),
-    (Some 3, t, (refl, refl),
-    (tt, t, (refl, refl),
-    (tt, t, (refl, refl),
-    (Some 1, t, (refl, refl),
-    (tt, t, (refl, refl),
-    (Some 0, t, (refl, refl),
-    (tt, t, (refl, refl),
-    (picture_extension_spells flat_picture_extension coding_fits).stands (behind (picture_extension_text flat_picture_extension)))))))))))
+    let t = ended (picture_extension_text flat_picture_extension) in (
+      length t,
+      t,
+      (refl, refl),
+      (
+        tt,
+        t,
+        f_codes_stand (length t),
+        (
+          Some 3,
+          t,
+          (refl, refl),
+          (
+            tt,
+            t,
+            (refl, refl),
+            (
+              tt,
+              t,
+              (refl, refl),
+              (
+                Some 1,
+                t,
+                (refl, refl),
+                (
+                  tt,
+                  t,
+                  (refl, refl),
+                  (
+                    Some 0,
+                    t,
+                    (refl, refl),
+                    (
+                      tt,
+                      t,
+                      (refl, refl),
+                      (picture_extension_spells flat_picture_extension coding_fits).stands (behind (picture_extension_text flat_picture_extension)),
+                    ),
+                  ),
+                ),
+              ),
+            ),
+          ),
+        ),
+      ),
+    )
 
 pub coding_stands : (n : ℕ) → (whole (picture_extension_in (flat_picture n))).Stands flat_picture_extension (ended (picture_extension_text flat_picture_extension)) []
 coding_stands n = whole_stands (picture_extension_in (flat_picture n)) (picture_extension_text flat_picture_extension) flat_picture_extension (coding_looks n)
@@ -171,6 +262,9 @@ picture_id = refl
 pub extension_in_stands : {V : Type 0} (s : Of V) (own start : ℕ) (t : List Bool) (v : V) (us : Units) → own < 2 ^ 4 → IdStands own t → nat_eq own own ≡ true → s.Stands v (ended t) []
     → (extension_in own (unit_bytes 0xB5 t) start s).Stands v us us
 unfolding extension_in id_at seq rule looking bits_at
-extension_in_stands s own start t v us below id same h =
-    (own, us, inside_stands (looking (bits_at Truncated 4)) 0xB5 t own us (ended t) (refl, (drop 4 (ended t), (below, id))),
-    (tt, us, (same, refl), inside_stands s 0xB5 t v us [] h))
+extension_in_stands s own start t v us below id same h = (
+  own,
+  us,
+  inside_stands (looking (bits_at Truncated 4)) 0xB5 t own us (ended t) (refl, (drop 4 (ended t), (below, id))),
+  (tt, us, (same, refl), inside_stands s 0xB5 t v us [] h),
+)

@@ -1,14 +1,13 @@
 -- What is written of a macroblock of the flat profile spells it, and leaves the state of the next one.
-use Rattle.std.proofs.Common.{◌≡◌, ℕ, zero, suc, ◌+◌, ◌-◌, ◌*◌, ◌%◌, ◌^◌, ◌<◌, ◌≤◌, Bool, true, false, cond, List, [], ◌∷◌, ◌++◌, length, ℤ, pos, ◌+ℤ◌, refl, sym, ap, subst, ◌∙◌, arith, append_assoc}
-use Rattle.std.specs.Prelude.{nat_lt, nat_eq, int_le, not, ◌&&◌, ◌||◌, unsigned_abs, ◌-ℤ◌}
-use Rattle.std.specs.List.{flat_map, range_with_len}
+use Rattle.std.proofs.Common.{◌≡◌, ℕ, zero, suc, ◌+◌, ◌-◌, ◌*◌, ◌<◌, ◌≤◌, Bool, true, false, cond, List, [], ◌++◌, ℤ, pos, ◌+ℤ◌, refl, sym, ap, subst, ◌∙◌, arith, append_assoc}
+use Rattle.std.specs.Prelude.{nat_lt, nat_eq, int_le, ◌&&◌, ◌-ℤ◌}
 use Rattle.std.proofs.lemmas.Int.{ints}
 use Rattle.std.proofs.lemmas.Bool.{lt-ltb, and_from}
 use Rattle.std.proofs.lemmas.Nat.{mod-mul-add}
 use Rattle.m2v_bits.specs.Bits.{bits_of}
-use Rattle.m2v_bits.specs.Syntax.{Spells, seq, done, choose, renamed}
+use Rattle.m2v_bits.specs.Syntax.{Spells}
 use Rattle.m2v_bits.proofs.LeafLaws.{done_spells, first_spells, renamed_spells}
-use Rattle.m2v_head.proofs.ElementLaws.{last_spells, whole_spells, same_spells}
+use Rattle.m2v_head.proofs.ElementLaws.{last_spells, same_spells}
 use Rattle.m2v_vlc.specs.declared.values.Increment.TheVariants.{Step}
 use Rattle.m2v_vlc.specs.Codes.{code_of}
 use Rattle.m2v_vlc.specs.Tables.{increment, type_i, increment_code, type_i_code}
@@ -24,7 +23,7 @@ use Rattle.m2v_macro.specs.Texts.{macro_text, modes_text, directions_text, direc
 use Rattle.m2v_macro.proofs.Spellings.{then_spells}
 use Rattle.m2v_macro.proofs.MacroSpellings.{macro_spells}
 use Rattle.m2v_plane.specs.Samples.{Samples}
-use Rattle.m2v_encode.specs.Flat.{level, predictors, block_text, blocks_text, macroblock_text}
+use Rattle.m2v_encode.specs.Flat.{predictors, block_text, blocks_text, macroblock_text}
 use Rattle.m2v_encode.specs.Flat.{predictor as predictor_of}
 use Rattle.m2v_encode.specs.Recon.{flat_kind, flat_levels}
 use Rattle.m2v_encode.proofs.Predictions.{IsByte, level_byte, predictors_bytes}

@@ -1,8 +1,8 @@
 -- Where each picture is an anchor, pictures are shown in decoding order.
-use Rattle.std.proofs.Common.{◌≡◌, ℕ, zero, suc, Bool, true, false, All, List, [], ◌∷◌, refl, sym, ap, ◌∙◌}
-use Rattle.std.specs.Prelude.{not, ◌&&◌, filter, if◌then◌else◌}
+use Rattle.std.proofs.Common.{◌≡◌, ℕ, zero, suc, Bool, true, false, All, List, [], ◌∷◌, refl, ap, ◌∙◌}
+use Rattle.std.specs.Prelude.{filter}
 use Rattle.std.proofs.lemmas.List.Elements.{All-head, All-tail}
-use Rattle.m2v_order.specs.Display.{is_b, is_reference, is_kept, anchors, b_after, from_anchor, Order, Shown}
+use Rattle.m2v_order.specs.Display.{is_b, is_kept, anchors, b_after, from_anchor, Order, Shown}
 
 abbrev pub IsAnchor : {F : Type 0} → F × ℕ → Type 0
 IsAnchor p = is_b p ≡ false

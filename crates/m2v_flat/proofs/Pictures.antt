@@ -1,30 +1,27 @@
 -- The units of the flat stream are its parts, one behind another.
-use Rattle.std.proofs.Common.{◌≡◌, ℕ, zero, suc, ◌+◌, ◌-◌, ◌*◌, ◌/◌, ◌^◌, ◌<◌, ◌≤◌, Bool, true, false, List, [], ◌∷◌, ◌++◌, length, map, replicate, Option, Some, None, inl, inr, refl, sym, ap, subst, ◌∙◌, arith, append_assoc}
-use Rattle.std.specs.Prelude.{nat_eq, nat_le, nat_lt, ◌&&◌, ◌||◌, not, is_some}
+use Rattle.std.proofs.Common.{◌≡◌, ℕ, zero, suc, ◌+◌, ◌-◌, ◌*◌, ◌/◌, ◌<◌, ◌≤◌, true, List, [], ◌∷◌, ◌++◌, length, map, Option, Some, inl, inr, refl, sym, ap, subst, ◌∙◌, arith}
+use Rattle.std.specs.Prelude.{nat_le, nat_lt}
 use Rattle.std.specs.List.{range_with_len}
 use Rattle.std.proofs.lemmas.Bool.{ne_eqb, eq-eqb, le-leb, lt-ltb, and_from}
 use Rattle.std.proofs.Math.Nat.{mul_comm}
 use Rattle.m2v_bits.specs.Bits.{to_edge}
 use Rattle.m2v_bits.specs.Syntax.{seq, done, here, rule, choose}
 use Rattle.m2v_head.specs.Texts.{sequence_text, sequence_extension_text, picture_text, picture_extension_text, slice_text}
-use Rattle.m2v_macro.specs.declared.values.PictureContext.{PictureContext}
 use Rattle.m2v_plane.specs.declared.dims.Dims.{Dims}
 use Rattle.m2v_plane.specs.Samples.{Samples}
 use Rattle.m2v_plane.specs.Raw.{pad}
-use Rattle.m2v_set.specs.Numbers.{flat_dims}
 use Rattle.m2v_encode.specs.declared.settings.FlatSettings.{FlatSettings}
 use Rattle.m2v_encode.specs.Answers.{HasPassed}
 use Rattle.m2v_encode.specs.Flat.{flat_sequence, flat_sequence_extension, flat_picture, flat_picture_extension, flat_slice, row_text}
-use Rattle.m2v_encode.proofs.Passing.{IsSmall, is_small}
-use Rattle.m2v_model.specs.declared.state.Sequence.{Sequence}
+use Rattle.m2v_encode.proofs.Passing.{is_small}
 use Rattle.m2v_model.specs.declared.state.Open.{Open}
 use Rattle.m2v_model.specs.declared.state.State.{State}
 use Rattle.m2v_model.specs.Units.{Units, unit_at, unit_bits}
 use Rattle.m2v_model.specs.Headers.{whole, sequence_in, sequence_extension_in, picture_in, picture_extension_in}
-use Rattle.m2v_model.specs.States.{at_first, after_sequence, after_picture, after_slice, is_complete, columns_of, rows_of}
-use Rattle.m2v_model.specs.Slices.{Slice, slice_at, context}
-use Rattle.m2v_model.specs.Streams.{Part, sequence, picture, slice, ending, after, value_of, close, extension_behind, sequence_unit, picture_unit, slice_in, slice_unit, end_unit, onward, final, later_unit, known_unit}
-use Rattle.m2v_flat.specs.Tree.{flat_context, flat_row, flat_rows, sequence_of, open_picture, state_first, state_in, picture_parts, pictures_parts}
+use Rattle.m2v_model.specs.States.{at_first, is_complete, columns_of, rows_of}
+use Rattle.m2v_model.specs.Slices.{slice_at, context}
+use Rattle.m2v_model.specs.Streams.{sequence, picture, slice, after, close, extension_behind, sequence_unit, picture_unit, slice_in, slice_unit, onward, later_unit, known_unit}
+use Rattle.m2v_flat.specs.Tree.{flat_context, flat_row, flat_rows, sequence_of, open_picture, state_first, state_in, pictures_parts}
 use Rattle.m2v_flat.proofs.Units.{ended, unit_bytes}
 use Rattle.m2v_flat.proofs.Slices.{slice_stands}
 use Rattle.m2v_flat.proofs.Headers.{behind, inside_stands, sequence_fits, sequence_stands, extension_stands, picture_stands, coding_stands, sequence_id, picture_id, extension_in_stands}
@@ -99,14 +96,37 @@ sequence_reads s h = record {
       (extension_stands s h.width.0 (omega (arith, h.width.1)) h.height.0 (omega (arith, h.height.1))) in
       inl (
         refl,
-        (sequence (sequence_of s), us,
-        (tt, later, (refl, refl),
-        (flat_sequence s, later, own,
-        (unit_bits later, later, (refl, refl),
-        (Some extension_bytes, us, refl,
-        (flat_sequence_extension, us, inl (refl, other),
-        (tt, us, (refl, refl), (refl, refl))))))),
-        (refl, refl)),
+        (
+          sequence (sequence_of s),
+          us,
+          (
+            tt,
+            later,
+            (refl, refl),
+            (
+              flat_sequence s,
+              later,
+              own,
+              (
+                unit_bits later,
+                later,
+                (refl, refl),
+                (
+                  Some extension_bytes,
+                  us,
+                  refl,
+                  (
+                    flat_sequence_extension,
+                    us,
+                    inl (refl, other),
+                    (tt, us, (refl, refl), (refl, refl)),
+                  ),
+                ),
+              ),
+            ),
+          ),
+          (refl, refl),
+        ),
       );
 }
 
@@ -130,14 +150,37 @@ picture_reads s open_one number whole_one = record {
           refl,
           inl (
             refl,
-            (picture (flat_picture number) flat_picture_extension, us,
-            (tt, later, (whole_one, refl),
-            (flat_picture number, later, own,
-            (unit_bits later, later, (refl, refl),
-            (Some coding_bytes, us, refl,
-            (flat_picture_extension, us, inl (refl, other),
-            (refl, refl)))))),
-            (refl, refl)),
+            (
+              picture (flat_picture number) flat_picture_extension,
+              us,
+              (
+                tt,
+                later,
+                (whole_one, refl),
+                (
+                  flat_picture number,
+                  later,
+                  own,
+                  (
+                    unit_bits later,
+                    later,
+                    (refl, refl),
+                    (
+                      Some coding_bytes,
+                      us,
+                      refl,
+                      (
+                        flat_picture_extension,
+                        us,
+                        inl (refl, other),
+                        (refl, refl),
+                      ),
+                    ),
+                  ),
+                ),
+              ),
+              (refl, refl),
+            ),
           ),
         ),
       );
@@ -150,12 +193,12 @@ unfolding open_picture
 row_before columns number zero = omega arith
 row_before columns number (suc row) = omega arith
 
-covered_before : (columns number row : ℕ) → (open_picture columns number row).covered ≡ row * columns
+pub covered_before : (columns number row : ℕ) → (open_picture columns number row).covered ≡ row * columns
 unfolding open_picture
 covered_before columns number zero = omega arith
 covered_before columns number (suc row) = omega arith
 
-context_is : (s : FlatSettings) (number row : ℕ) → IsFlat s → flat_context s.dims.mb_width ≡ context (state_in s number row) (sequence_of s) (open_picture s.dims.mb_width number row)
+pub context_is : (s : FlatSettings) (number row : ℕ) → IsFlat s → flat_context s.dims.mb_width ≡ context (state_in s number row) (sequence_of s) (open_picture s.dims.mb_width number row)
 unfolding context open_picture
 context_is s number zero h = ap flat_context (sym h.columns_are)
 context_is s number (suc row) h = ap flat_context (sym h.columns_are)
@@ -171,10 +214,17 @@ slice_in_stands s number row start frame us h same lt =
     let below : row < rows_of (sequence_of s) = omega (arith, h.rows_are) in
     let order = and_from (nat_lt row (rows_of (sequence_of s))) (nat_le p.row row) (lt-ltb row (rows_of (sequence_of s)) below) (le-leb p.row row (row_before s.dims.mb_width number row)) in
     let stands = slice_stands st (sequence_of s) p s.quantiser s.dims.mb_width frame row (to_edge (32 + length t)) h.quantiser.0 h.quantiser.1 h.columns.0 (omega (arith, h.columns.1))
-    h.columns_are (ap (λ (d : Dims). d.mb_width) (sym same)) (context_is s number row h) (covered_before s.dims.mb_width number row) in
-    (tt, us, (order, refl),
-    (x, us, inside_stands (slice_at st (sequence_of s) p row) (row + 1) t x us (behind t) stands,
-    (refl, refl)))
+    h.columns_are (ap (λ (d : Dims). d.mb_width) (sym same)) (context_is s number row h) (covered_before s.dims.mb_width number row) in (
+      tt,
+      us,
+      (order, refl),
+      (
+        x,
+        us,
+        inside_stands (slice_at st (sequence_of s) p row) (row + 1) t x us (behind t) stands,
+        (refl, refl),
+      ),
+    )
 
 pub slice_reads : (s : FlatSettings) (number row : ℕ) (frame : Samples) → IsFlat s → frame.dims ≡ s.dims → row < s.dims.mb_rows
     → Reads (state_in s number row) (slice row (flat_row s.quantiser s.dims.mb_width frame row)) (slice_bytes s.quantiser frame row) []
@@ -200,7 +250,7 @@ slice_reads s number row frame h same lt = record {
 
 -- ---- pictures
 
-after_row : (s : FlatSettings) (number row : ℕ) (frame : Samples) → after (state_in s number row) (slice row (flat_row s.quantiser s.dims.mb_width frame row)) ≡ state_in s number (suc row)
+pub after_row : (s : FlatSettings) (number row : ℕ) (frame : Samples) → after (state_in s number row) (slice row (flat_row s.quantiser s.dims.mb_width frame row)) ≡ state_in s number (suc row)
 unfolding after open_picture flat_row
 after_row s number zero frame = refl
 after_row s number (suc row) frame = refl
@@ -221,7 +271,7 @@ picture_whole s number h =
     let same : columns_of (sequence_of s) * rows_of (sequence_of s) ≡ c * r = ap (λ (n : ℕ). n * rows_of (sequence_of s)) h.columns_are ∙ ap (λ (n : ℕ). c * n) h.rows_are in
     eq-eqb _ _ (covered_before c number r ∙ mul_comm r c ∙ sym same)
 
-after_header : (s : FlatSettings) (open_one : Option Open) (number : ℕ) → after (state_with s open_one) (picture (flat_picture number) flat_picture_extension) ≡ state_in s number 0
+pub after_header : (s : FlatSettings) (open_one : Option Open) (number : ℕ) → after (state_with s open_one) (picture (flat_picture number) flat_picture_extension) ≡ state_in s number 0
 unfolding after open_picture
 after_header s open_one number = refl
 

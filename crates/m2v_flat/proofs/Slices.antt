@@ -1,15 +1,14 @@
 -- A slice of the flat profile stands in its unit.
-use Rattle.std.proofs.Common.{◌≡◌, ℕ, zero, suc, ◌+◌, ◌-◌, ◌*◌, ◌%◌, ◌^◌, ◌<◌, ◌≤◌, Bool, true, false, cond, List, [], ◌∷◌, ◌++◌, length, map, replicate, ℤ, pos, ◌+ℤ◌, refl, sym, ap, subst, ◌∙◌, arith, append_assoc, append-nil}
-use Rattle.std.specs.Prelude.{nat_lt, not, nat_abs}
+use Rattle.std.proofs.Common.{◌≡◌, ℕ, zero, suc, ◌+◌, ◌*◌, ◌<◌, ◌≤◌, Bool, true, false, List, [], ◌∷◌, ◌++◌, length, replicate, pos, ◌+ℤ◌, refl, sym, ap, subst, ◌∙◌, arith, append_assoc, append-nil}
+use Rattle.std.specs.Prelude.{not, nat_abs}
 use Rattle.std.specs.List.{flat_map, range_with_len}
 use Rattle.std.proofs.lemmas.Int.{ints}
-use Rattle.std.proofs.lemmas.Bool.{le-ltb, lt-ltb}
-use Rattle.m2v_bits.specs.Bits.{bits_of, all_zero, to_edge}
-use Rattle.m2v_bits.specs.Syntax.{Spells, seq, done, here, rule, renamed, repeated, Rounds, last, more}
+use Rattle.std.proofs.lemmas.Bool.{lt-ltb}
+use Rattle.m2v_bits.specs.Bits.{bits_of, all_zero}
+use Rattle.m2v_bits.specs.Syntax.{seq, done, here, rule, renamed, repeated, Rounds, last, more}
 use Rattle.m2v_bits.specs.Leaves.{zero_at}
-use Rattle.m2v_vlc.specs.declared.values.Increment.TheVariants.{Step}
 use Rattle.m2v_vlc.specs.Codes.{code_of}
-use Rattle.m2v_vlc.specs.Tables.{increment, type_i, increment_code, type_i_code}
+use Rattle.m2v_vlc.specs.Tables.{increment, type_i, type_i_code}
 use Rattle.m2v_vlc.specs.Values.{kind, same_increment}
 use Rattle.m2v_head.specs.Texts.{slice_text}
 use Rattle.m2v_head.specs.Fits.{SliceFits}
@@ -27,10 +26,9 @@ use Rattle.m2v_encode.proofs.Lengths.{row_is}
 use Rattle.m2v_model.specs.declared.state.Sequence.{Sequence}
 use Rattle.m2v_model.specs.declared.state.Open.{Open}
 use Rattle.m2v_model.specs.declared.state.State.{State}
-use Rattle.m2v_model.specs.Faults.{Of, of_head, of_macro}
 use Rattle.m2v_model.specs.Looking.{looking}
 use Rattle.m2v_model.specs.States.{columns_of}
-use Rattle.m2v_model.specs.Slices.{Row, Slice, macroblock_at, after_macroblock, macroblock_round, macroblocks_at, context, slice_start, begins_late, unit_place, slice_at}
+use Rattle.m2v_model.specs.Slices.{Row, Slice, macroblock_round, macroblocks_at, context, slice_start, begins_late, unit_place, slice_at}
 use Rattle.m2v_model.specs.Slices.{Macroblock}
 use Rattle.m2v_flat.specs.Tree.{flat_context, flat_macroblock, flat_macroblocks, state_before, flat_row}
 use Rattle.m2v_flat.proofs.Macroblocks.{after_is, macroblock_spells}
@@ -58,9 +56,12 @@ round_stands : (quantiser columns : ℕ) (frame : Samples) (row column : ℕ) (x
 unfolding macroblock_round seq zero_at done
 round_stands quantiser columns frame row column xs rest least most wide lt =
     let m = flat_macroblock frame row column in
-    let next = after_is quantiser columns frame row column in
-    (m, rest, (macroblock_spells quantiser columns frame row column least most wide lt).stands rest,
-    (all_zero rest, rest, (refl, refl), (ap (λ (st : SliceState). (not (all_zero rest), row_of st (xs ++ m ∷ []))) (sym next), refl)))
+    let next = after_is quantiser columns frame row column in (
+      m,
+      rest,
+      (macroblock_spells quantiser columns frame row column least most wide lt).stands rest,
+      (all_zero rest, rest, (refl, refl), (ap (λ (st : SliceState). (not (all_zero rest), row_of st (xs ++ m ∷ []))) (sym next), refl)),
+    )
 
 moved : (quantiser columns : ℕ) (frame : Samples) (row column : ℕ) (xs ys : List Macroblock) (rest : List Bool) (b c : Bool) (k l : ℕ) (t u : List Bool) → b ≡ c → k ≡ l → t ≡ u
     → RoundStands quantiser columns frame row column k xs ys b t rest → RoundStands quantiser columns frame row column l xs ys c u rest
@@ -128,7 +129,7 @@ first_of : (columns : ℕ) (frame : Samples) (row z : ℕ) → 1 ≤ columns →
 first_of zero frame row z some = absurd (omega arith)
 first_of (suc n) frame row z some = (behind_first frame row n z, first_stands frame row n z)
 
-start_is : (quantiser columns : ℕ) (frame : Samples) (row covered : ℕ) (c : PictureContext) → flat_context columns ≡ c → covered ≡ row * columns → state_before quantiser columns frame row 0 ≡ slice_start c row covered quantiser
+pub start_is : (quantiser columns : ℕ) (frame : Samples) (row covered : ℕ) (c : PictureContext) → flat_context columns ≡ c → covered ≡ row * columns → state_before quantiser columns frame row 0 ≡ slice_start c row covered quantiser
 unfolding state_before slice_start
 start_is quantiser columns frame row covered c ec is = ap (λ (n : ℕ). at_start (flat_context columns) row quantiser n) (sym is) ∙ ap (λ (x : PictureContext). at_start x row quantiser covered) ec
 
@@ -158,12 +159,27 @@ slice_here st s p quantiser columns frame row z least most some wide own ec is =
     let late = not_late row columns p.covered (columns_of s) own is in
     let start = start_is quantiser columns frame row p.covered (context st s p) ec is in
     let rounds = macroblocks_stand quantiser columns frame row z (context st s p) (slice_start (context st s p) row p.covered quantiser) least most some wide ec start in
-    let end = row_is_of quantiser columns frame row (nat_abs (x.state.address +ℤ pos 1)) (covered_is quantiser columns frame row some) in
-    (length (head ++ t) + 32, head ++ t, (refl, refl),
-    (flat_slice quantiser, t, (slice_spells (flat_slice quantiser) fits).stands t,
-    (1, t, (refl, first_of columns frame row z some),
-    (tt, t, (late, refl),
-    (x, replicate z false, rounds, (end, refl))))))
+    let end = row_is_of quantiser columns frame row (nat_abs (x.state.address +ℤ pos 1)) (covered_is quantiser columns frame row some) in (
+      length (head ++ t) + 32,
+      head ++ t,
+      (refl, refl),
+      (
+        flat_slice quantiser,
+        t,
+        (slice_spells (flat_slice quantiser) fits).stands t,
+        (
+          1,
+          t,
+          (refl, first_of columns frame row z some),
+          (
+            tt,
+            t,
+            (late, refl),
+            (x, replicate z false, rounds, (end, refl)),
+          ),
+        ),
+      ),
+    )
 
 pub slice_stands : (st : State) (s : Sequence) (p : Open) (quantiser columns : ℕ) (frame : Samples) (row z : ℕ) → 1 ≤ quantiser → quantiser ≤ 31 → 1 ≤ columns → columns ≤ 120
     → columns_of s ≡ columns → columns ≡ frame.dims.mb_width → flat_context columns ≡ context st s p → p.covered ≡ row * columns

@@ -1,17 +1,17 @@
 -- Units as bytes, and that no start code stands inside one.
-use Rattle.std.proofs.Common.{◌≡◌, ℕ, zero, suc, ◌+◌, ◌*◌, ◌%◌, ◌/◌, ◌<◌, ◌≤◌, Bool, true, false, All, List, [], ◌∷◌, ◌++◌, length, drop, replicate, map, refl, sym, ap, subst, ◌∙◌, arith, append_assoc, inl, inr}
+use Rattle.std.proofs.Common.{◌≡◌, ℕ, zero, suc, ◌+◌, ◌*◌, ◌%◌, ◌/◌, ◌<◌, ◌≤◌, Bool, true, false, All, List, [], ◌∷◌, ◌++◌, length, replicate, map, refl, sym, ap, subst, ◌∙◌, arith, append_assoc}
 use Rattle.std.specs.Prelude.{nat_eq, ◌&&◌}
 use Rattle.std.specs.List.{flat_map, range_with_len}
-use Rattle.std.proofs.lemmas.Bool.{false_from_ne_true, and_parts, eqb-true, cases_Bool}
+use Rattle.std.proofs.lemmas.Bool.{false_from_ne_true, and_parts, eqb-true}
 use Rattle.std.proofs.lemmas.List.{length-append, length-replicate, append-nil}
 use Rattle.std.proofs.lemmas.List.Elements.{All-head, All-tail, All-nil, All-cons, All-append}
 use Rattle.std.proofs.Math.Nat.{mod-eq_of_lt}
 use Rattle.m2v_bits.specs.Bits.{bits_of, number, bits, packed, start_code, to_edge}
 use Rattle.m2v_bits.proofs.Bits.{length-bits_of, number-bits_of, bits_of-number}
 use Rattle.m2v_encode.specs.Units.{unit}
-use Rattle.m2v_encode.proofs.Edges.{IsEdge, packed-append}
+use Rattle.m2v_encode.proofs.Edges.{packed-append}
 use Rattle.m2v_model.specs.Units.{begins_code, joined, Clear, AreUnits, Cuts, Units}
-use Rattle.m2v_flat.proofs.Calm.{Calm, calm_more, calm_then, calm_zeros, calm_rest}
+use Rattle.m2v_flat.proofs.Calm.{Calm, calm_zeros, calm_rest}
 
 -- ---- one unit
 
@@ -157,8 +157,7 @@ pub are_units : (us : Units) → All IsTidy us → AreUnits us
 are_units [] h = tt
 are_units (u ∷ us) h =
     let tidy = All-head IsTidy u us h in
-    let later = All-tail IsTidy u us h in
-    (
+    let later = All-tail IsTidy u us h in (
       subst (λ (x : List ℕ). 4 ≤ length x) (sym tidy.is) (omega arith),
       subst (λ (x : List ℕ). begins_code x ≡ true) (sym tidy.is) (begins_unit tidy.value (packed (ended tidy.text))),
       subst (λ (x : List ℕ). Clear 4 x (joined us)) (sym tidy.is) (tidy_clear tidy.value tidy.text (joined us) tidy.calm (follows us later)),

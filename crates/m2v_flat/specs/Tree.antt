@@ -1,5 +1,5 @@
 -- What stands in the stream of the flat profile: the macroblocks of its slices, its headers, and the states between them.
-use Rattle.std.specs.Prelude.{ℕ, zero, suc, ◌+◌, ◌*◌, true, false, List, [], ◌∷◌, ◌++◌, map, Some, None, ℤ, pos}
+use Rattle.std.specs.Prelude.{ℕ, zero, suc, ◌+◌, ◌*◌, true, false, List, [], ◌∷◌, ◌++◌, map, Some, ℤ, pos}
 use Rattle.std.specs.List.{range_with_len}
 use Rattle.m2v_quant.specs.Matrices.{default_matrix}
 use Rattle.m2v_vlc.specs.Values.{kind}
@@ -17,7 +17,7 @@ use Rattle.m2v_encode.specs.Recon.{flat_levels}
 use Rattle.m2v_model.specs.declared.state.Sequence.{Sequence}
 use Rattle.m2v_model.specs.declared.state.Open.{Open}
 use Rattle.m2v_model.specs.declared.state.State.{State}
-use Rattle.m2v_model.specs.States.{at_first, after_sequence, after_picture}
+use Rattle.m2v_model.specs.States.{at_first, after_sequence}
 use Rattle.m2v_model.specs.Slices.{Macroblock, Slice}
 use Rattle.m2v_model.specs.Streams.{Part, sequence, picture, slice, ending}
 
