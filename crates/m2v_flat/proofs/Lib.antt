@@ -1,0 +1,13 @@
+pub mod Blocks
+pub mod Calm
+pub mod CalmTexts
+pub mod Chains
+pub mod Frames
+pub mod Headers
+pub mod Macroblocks
+pub mod Orders
+pub mod Painting
+pub mod Pictures
+pub mod Slices
+pub mod Streams
+pub mod Units

@@ -1,0 +1,297 @@
+-- The units of the flat stream are its parts, one behind another.
+use Rattle.std.proofs.Common.{◌≡◌, ℕ, zero, suc, ◌+◌, ◌-◌, ◌*◌, ◌/◌, ◌<◌, ◌≤◌, true, List, [], ◌∷◌, ◌++◌, length, map, Option, Some, inl, inr, refl, sym, ap, subst, ◌∙◌, arith}
+use Rattle.std.specs.Prelude.{nat_le, nat_lt}
+use Rattle.std.specs.List.{range_with_len}
+use Rattle.std.proofs.lemmas.Bool.{ne_eqb, eq-eqb, le-leb, lt-ltb, and_from}
+use Rattle.std.proofs.Math.Nat.{mul_comm}
+use Rattle.m2v_bits.specs.Bits.{to_edge}
+use Rattle.m2v_bits.specs.Syntax.{seq, done, here, rule, choose}
+use Rattle.m2v_head.specs.Texts.{sequence_text, sequence_extension_text, picture_text, picture_extension_text, slice_text}
+use Rattle.m2v_plane.specs.declared.dims.Dims.{Dims}
+use Rattle.m2v_plane.specs.Samples.{Samples}
+use Rattle.m2v_plane.specs.Raw.{pad}
+use Rattle.m2v_encode.specs.declared.settings.FlatSettings.{FlatSettings}
+use Rattle.m2v_encode.specs.Answers.{HasPassed}
+use Rattle.m2v_encode.specs.Flat.{flat_sequence, flat_sequence_extension, flat_picture, flat_picture_extension, flat_slice, row_text}
+use Rattle.m2v_encode.proofs.Passing.{is_small}
+use Rattle.m2v_model.specs.declared.state.Open.{Open}
+use Rattle.m2v_model.specs.declared.state.State.{State}
+use Rattle.m2v_model.specs.Units.{Units, unit_at, unit_bits}
+use Rattle.m2v_model.specs.Headers.{whole, sequence_in, sequence_extension_in, picture_in, picture_extension_in}
+use Rattle.m2v_model.specs.States.{at_first, is_complete, columns_of, rows_of}
+use Rattle.m2v_model.specs.Slices.{slice_at, context}
+use Rattle.m2v_model.specs.Streams.{sequence, picture, slice, after, close, extension_behind, sequence_unit, picture_unit, slice_in, slice_unit, onward, later_unit, known_unit}
+use Rattle.m2v_flat.specs.Tree.{flat_context, flat_row, flat_rows, sequence_of, open_picture, state_first, state_in, pictures_parts}
+use Rattle.m2v_flat.proofs.Units.{ended, unit_bytes}
+use Rattle.m2v_flat.proofs.Slices.{slice_stands}
+use Rattle.m2v_flat.proofs.Headers.{behind, inside_stands, sequence_fits, sequence_stands, extension_stands, picture_stands, coding_stands, sequence_id, picture_id, extension_in_stands}
+use Rattle.m2v_flat.proofs.Chains.{Reads, Chain, nothing, link, chain_then}
+
+-- ---- the units
+
+abbrev pub sequence_bytes : FlatSettings → List ℕ
+sequence_bytes s = unit_bytes 0xB3 (sequence_text (flat_sequence s))
+
+abbrev pub extension_bytes : List ℕ
+extension_bytes = unit_bytes 0xB5 (sequence_extension_text flat_sequence_extension)
+
+abbrev pub picture_bytes : ℕ → List ℕ
+picture_bytes number = unit_bytes 0x00 (picture_text (flat_picture number))
+
+abbrev pub coding_bytes : List ℕ
+coding_bytes = unit_bytes 0xB5 (picture_extension_text flat_picture_extension)
+
+abbrev pub slice_bytes : ℕ → Samples → ℕ → List ℕ
+slice_bytes quantiser frame row = unit_bytes (row + 1) (slice_text (flat_slice quantiser) ++ row_text frame row)
+
+abbrev pub rows_bytes : ℕ → Samples → ℕ → ℕ → Units
+rows_bytes quantiser frame from n = map (slice_bytes quantiser frame) (range_with_len from n)
+
+unfoldable pub pictures_bytes : FlatSettings → ℕ → List (List ℕ) → Units
+pictures_bytes s number [] = []
+pictures_bytes s number (raw ∷ frames) =
+    picture_bytes number ∷ coding_bytes ∷ (rows_bytes s.quantiser (pad s.dims raw) 0 s.dims.mb_rows ++ pictures_bytes s (number + 1) frames)
+
+-- ---- the settings
+
+-- the settings as the stream's headers say them
+pub record IsFlat (s : FlatSettings) : Type 0 where
+  pub quantiser : (1 ≤ s.quantiser) × (s.quantiser ≤ 31)
+  pub columns : (1 ≤ s.dims.mb_width) × (s.dims.mb_width ≤ 45)
+  pub rows : (1 ≤ s.dims.mb_rows) × (s.dims.mb_rows ≤ 36)
+  pub width : (1 ≤ s.dims.width) × (s.dims.width ≤ 720)
+  pub height : (1 ≤ s.dims.height) × (s.dims.height ≤ 576)
+  pub code : s.rate_code ≤ 5
+  pub columns_are : columns_of (sequence_of s) ≡ s.dims.mb_width
+  pub rows_are : rows_of (sequence_of s) ≡ s.dims.mb_rows
+
+pub is_flat : (s : FlatSettings) → HasPassed s → IsFlat s
+is_flat s h =
+    let small = is_small s h in
+    let bounds = small.bounds in
+    let columns : s.dims.mb_width ≡ (s.dims.width + 15) / 16 = ap (λ (d : Dims). d.mb_width) h.dims in
+    let rows : s.dims.mb_rows ≡ (s.dims.height + 15) / 16 = ap (λ (d : Dims). d.mb_rows) h.dims in
+    record {
+      quantiser = (bounds.quantiser_least, bounds.quantiser_most);
+      columns = (omega (arith, columns, bounds.width_least), small.columns);
+      rows = (omega (arith, rows, bounds.height_least), small.rows);
+      width = (omega (arith, bounds.width_least), bounds.width_most);
+      height = (omega (arith, bounds.height_least), bounds.height_most);
+      code = bounds.code_most;
+      columns_are = omega (arith, columns);
+      rows_are = omega (arith, rows);
+    }
+
+-- ---- headers
+
+pub sequence_reads : (s : FlatSettings) → IsFlat s → Reads at_first (sequence (sequence_of s)) (sequence_bytes s) (extension_bytes ∷ [])
+unfolding known_unit onward sequence_unit close extension_behind choose rule here unit_at seq done
+sequence_reads s h = record {
+  stands = λ start us.
+      let u = sequence_bytes s in
+      let later = extension_bytes ∷ us in
+      let own = inside_stands (whole sequence_in) 0xB3 (sequence_text (flat_sequence s)) (flat_sequence s) later []
+      (sequence_stands s (sequence_fits s (omega (arith, h.width.1)) (omega (arith, h.height.1)) h.code)) in
+      let other = extension_in_stands (whole (sequence_extension_in (flat_sequence s))) 1 (unit_bits later) (sequence_extension_text flat_sequence_extension) flat_sequence_extension us (omega arith) sequence_id refl
+      (extension_stands s h.width.0 (omega (arith, h.width.1)) h.height.0 (omega (arith, h.height.1))) in
+      inl (
+        refl,
+        (
+          sequence (sequence_of s),
+          us,
+          (
+            tt,
+            later,
+            (refl, refl),
+            (
+              flat_sequence s,
+              later,
+              own,
+              (
+                unit_bits later,
+                later,
+                (refl, refl),
+                (
+                  Some extension_bytes,
+                  us,
+                  refl,
+                  (
+                    flat_sequence_extension,
+                    us,
+                    inl (refl, other),
+                    (tt, us, (refl, refl), (refl, refl)),
+                  ),
+                ),
+              ),
+            ),
+          ),
+          (refl, refl),
+        ),
+      );
+}
+
+-- a state in which the sequence's headers are in force
+abbrev pub state_with : FlatSettings → Option Open → State
+state_with s open_one = record (state_first s) { picture = open_one }
+
+abbrev pub IsWhole : FlatSettings → Option Open → Type 0
+IsWhole s open_one = is_complete (Some (sequence_of s)) open_one ≡ true
+
+pub picture_reads : (s : FlatSettings) (open_one : Option Open) (number : ℕ) → IsWhole s open_one → Reads (state_with s open_one) (picture (flat_picture number) flat_picture_extension) (picture_bytes number) (coding_bytes ∷ [])
+unfolding known_unit later_unit onward picture_unit close extension_behind choose rule here unit_at seq done
+picture_reads s open_one number whole_one = record {
+  stands = λ start us.
+      let later = coding_bytes ∷ us in
+      let own = inside_stands (whole picture_in) 0x00 (picture_text (flat_picture number)) (flat_picture number) later [] (picture_stands number) in
+      let other = extension_in_stands (whole (picture_extension_in (flat_picture number))) 8 (unit_bits later) (picture_extension_text flat_picture_extension) flat_picture_extension us (omega arith) picture_id refl (coding_stands number) in
+      inr (
+        refl,
+        inl (
+          refl,
+          inl (
+            refl,
+            (
+              picture (flat_picture number) flat_picture_extension,
+              us,
+              (
+                tt,
+                later,
+                (whole_one, refl),
+                (
+                  flat_picture number,
+                  later,
+                  own,
+                  (
+                    unit_bits later,
+                    later,
+                    (refl, refl),
+                    (
+                      Some coding_bytes,
+                      us,
+                      refl,
+                      (
+                        flat_picture_extension,
+                        us,
+                        inl (refl, other),
+                        (refl, refl),
+                      ),
+                    ),
+                  ),
+                ),
+              ),
+              (refl, refl),
+            ),
+          ),
+        ),
+      );
+}
+
+-- ---- slices
+
+row_before : (columns number row : ℕ) → (open_picture columns number row).row ≤ row
+unfolding open_picture
+row_before columns number zero = omega arith
+row_before columns number (suc row) = omega arith
+
+pub covered_before : (columns number row : ℕ) → (open_picture columns number row).covered ≡ row * columns
+unfolding open_picture
+covered_before columns number zero = omega arith
+covered_before columns number (suc row) = omega arith
+
+pub context_is : (s : FlatSettings) (number row : ℕ) → IsFlat s → flat_context s.dims.mb_width ≡ context (state_in s number row) (sequence_of s) (open_picture s.dims.mb_width number row)
+unfolding context open_picture
+context_is s number zero h = ap flat_context (sym h.columns_are)
+context_is s number (suc row) h = ap flat_context (sym h.columns_are)
+
+slice_in_stands : (s : FlatSettings) (number row start : ℕ) (frame : Samples) (us : Units) → IsFlat s → frame.dims ≡ s.dims → row < s.dims.mb_rows
+    → (slice_in (state_in s number row) (sequence_of s) (open_picture s.dims.mb_width number row) row start (slice_bytes s.quantiser frame row)).Stands (slice row (flat_row s.quantiser s.dims.mb_width frame row)) us us
+unfolding slice_in rule seq done ended
+slice_in_stands s number row start frame us h same lt =
+    let st = state_in s number row in
+    let p = open_picture s.dims.mb_width number row in
+    let x = flat_row s.quantiser s.dims.mb_width frame row in
+    let t = slice_text (flat_slice s.quantiser) ++ row_text frame row in
+    let below : row < rows_of (sequence_of s) = omega (arith, h.rows_are) in
+    let order = and_from (nat_lt row (rows_of (sequence_of s))) (nat_le p.row row) (lt-ltb row (rows_of (sequence_of s)) below) (le-leb p.row row (row_before s.dims.mb_width number row)) in
+    let stands = slice_stands st (sequence_of s) p s.quantiser s.dims.mb_width frame row (to_edge (32 + length t)) h.quantiser.0 h.quantiser.1 h.columns.0 (omega (arith, h.columns.1))
+    h.columns_are (ap (λ (d : Dims). d.mb_width) (sym same)) (context_is s number row h) (covered_before s.dims.mb_width number row) in (
+      tt,
+      us,
+      (order, refl),
+      (
+        x,
+        us,
+        inside_stands (slice_at st (sequence_of s) p row) (row + 1) t x us (behind t) stands,
+        (refl, refl),
+      ),
+    )
+
+pub slice_reads : (s : FlatSettings) (number row : ℕ) (frame : Samples) → IsFlat s → frame.dims ≡ s.dims → row < s.dims.mb_rows
+    → Reads (state_in s number row) (slice row (flat_row s.quantiser s.dims.mb_width frame row)) (slice_bytes s.quantiser frame row) []
+unfolding known_unit later_unit onward slice_unit choose seq done
+slice_reads s number row frame h same lt = record {
+  stands = λ start us.
+      let x = flat_row s.quantiser s.dims.mb_width frame row in
+      let st = state_in s number row in
+      let p = open_picture s.dims.mb_width number row in
+      let back : row ≡ row + 1 - 1 = omega arith in
+      let stands = subst (λ (r : ℕ). (slice_in st (sequence_of s) p r start (slice_bytes s.quantiser frame row)).Stands (slice row x) us us) back (slice_in_stands s number row start frame us h same lt) in
+      inr (
+        ne_eqb (row + 1) 0xB3 (λ e. omega (arith, h.rows.1)),
+        inl (
+          refl,
+          inr (
+            ne_eqb (row + 1) 0x00 (λ e. omega arith),
+            inl (le-leb (row + 1) 0xAF (omega (arith, h.rows.1)), (slice row x, us, stands, (refl, refl))),
+          ),
+        ),
+      );
+}
+
+-- ---- pictures
+
+pub after_row : (s : FlatSettings) (number row : ℕ) (frame : Samples) → after (state_in s number row) (slice row (flat_row s.quantiser s.dims.mb_width frame row)) ≡ state_in s number (suc row)
+unfolding after open_picture flat_row
+after_row s number zero frame = refl
+after_row s number (suc row) frame = refl
+
+rows_chain : (s : FlatSettings) (number n row end : ℕ) (frame : Samples) → IsFlat s → frame.dims ≡ s.dims → row + n ≡ end → end ≤ s.dims.mb_rows
+    → Chain (state_in s number row) (flat_rows s.quantiser s.dims.mb_width frame row n) (rows_bytes s.quantiser frame row n) (state_in s number end)
+rows_chain s number zero row end frame h same is le = let here : row ≡ end = omega arith in subst (λ (k : ℕ). Chain (state_in s number row) [] [] (state_in s number k)) here nothing
+rows_chain s number (suc n) row end frame h same is le =
+    let next : state_in s number (suc row) ≡ state_in s number (row + 1) = ap (state_in s number) (omega arith) in
+    let rest = rows_chain s number n (row + 1) end frame h same (omega arith) le in
+    link (slice_reads s number row frame h same (omega arith))
+    (subst (λ (st : State). Chain st (flat_rows s.quantiser s.dims.mb_width frame (row + 1) n) (rows_bytes s.quantiser frame (row + 1) n) (state_in s number end)) (sym (after_row s number row frame ∙ next)) rest)
+
+picture_whole : (s : FlatSettings) (number : ℕ) → IsFlat s → IsWhole s (Some (open_picture s.dims.mb_width number s.dims.mb_rows))
+picture_whole s number h =
+    let c = s.dims.mb_width in
+    let r = s.dims.mb_rows in
+    let same : columns_of (sequence_of s) * rows_of (sequence_of s) ≡ c * r = ap (λ (n : ℕ). n * rows_of (sequence_of s)) h.columns_are ∙ ap (λ (n : ℕ). c * n) h.rows_are in
+    eq-eqb _ _ (covered_before c number r ∙ mul_comm r c ∙ sym same)
+
+pub after_header : (s : FlatSettings) (open_one : Option Open) (number : ℕ) → after (state_with s open_one) (picture (flat_picture number) flat_picture_extension) ≡ state_in s number 0
+unfolding after open_picture
+after_header s open_one number = refl
+
+-- pictures one behind another, the last of them whole
+pub record Ends (s : FlatSettings) (number : ℕ) (frames : List (List ℕ)) (open_one : Option Open) : Type 0 where
+  pub end : Option Open
+  pub whole : IsWhole s end
+  pub chain : Chain (state_with s open_one) (pictures_parts s number frames) (pictures_bytes s number frames) (state_with s end)
+
+pub pictures_chain : (s : FlatSettings) (frames : List (List ℕ)) (number : ℕ) (open_one : Option Open) → IsFlat s → IsWhole s open_one → Ends s number frames open_one
+unfolding pictures_parts pictures_bytes
+pictures_chain s [] number open_one h whole_one = record { end = open_one; whole = whole_one; chain = nothing }
+pictures_chain s (raw ∷ frames) number open_one h whole_one =
+    let frame = pad s.dims raw in
+    let rest = pictures_chain s frames (number + 1) (Some (open_picture s.dims.mb_width number s.dims.mb_rows)) h (picture_whole s number h) in
+    let rows = rows_chain s number s.dims.mb_rows 0 s.dims.mb_rows frame h refl (omega arith) (omega arith) in
+    record {
+      end = rest.end;
+      whole = rest.whole;
+      chain = link (picture_reads s open_one number whole_one)
+          (subst (λ (st : State). Chain st (flat_rows s.quantiser s.dims.mb_width frame 0 s.dims.mb_rows ++ pictures_parts s (number + 1) frames) (rows_bytes s.quantiser frame 0 s.dims.mb_rows ++ pictures_bytes s (number + 1) frames) (state_with s rest.end)) (sym (after_header s open_one number))
+          (chain_then rows rest.chain));
+    }

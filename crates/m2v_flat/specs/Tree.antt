@@ -1,0 +1,133 @@
+-- What stands in the stream of the flat profile: the macroblocks of its slices, its headers, and the states between them.
+use Rattle.std.specs.Prelude.{ℕ, zero, suc, ◌+◌, ◌*◌, true, false, List, [], ◌∷◌, ◌++◌, map, Some, ℤ, pos}
+use Rattle.std.specs.List.{range_with_len}
+use Rattle.m2v_quant.specs.Matrices.{default_matrix}
+use Rattle.m2v_vlc.specs.Values.{kind}
+use Rattle.m2v_vector.specs.Predictors.{zero as no_predictors}
+use Rattle.m2v_macro.specs.declared.values.MacroSyntax.{MacroSyntax}
+use Rattle.m2v_macro.specs.declared.values.SliceState.{SliceState}
+use Rattle.m2v_macro.specs.declared.values.PictureContext.{PictureContext}
+use Rattle.m2v_macro.specs.Macros.{macro_of, no_vectors}
+use Rattle.m2v_macro.specs.States.{at_start}
+use Rattle.m2v_plane.specs.Samples.{Samples}
+use Rattle.m2v_plane.specs.Raw.{pad}
+use Rattle.m2v_encode.specs.declared.settings.FlatSettings.{FlatSettings}
+use Rattle.m2v_encode.specs.Flat.{flat_sequence, flat_sequence_extension, flat_picture, flat_picture_extension, flat_slice, predictors}
+use Rattle.m2v_encode.specs.Recon.{flat_levels}
+use Rattle.m2v_model.specs.declared.state.Sequence.{Sequence}
+use Rattle.m2v_model.specs.declared.state.Open.{Open}
+use Rattle.m2v_model.specs.declared.state.State.{State}
+use Rattle.m2v_model.specs.States.{at_first, after_sequence}
+use Rattle.m2v_model.specs.Slices.{Macroblock, Slice}
+use Rattle.m2v_model.specs.Streams.{Part, sequence, picture, slice, ending}
+
+-- ---- macroblocks
+
+-- what the headers say of a picture of so many columns
+abbrev pub flat_context : ℕ → PictureContext
+flat_context columns = record {
+  kind = 1;
+  second = false;
+  columns = columns;
+  extension = flat_picture_extension;
+  intra = default_matrix true;
+  non_intra = default_matrix false;
+}
+
+-- an intra macroblock right behind the one before it
+abbrev pub flat_macro : MacroSyntax
+flat_macro = macro_of 1 (kind 0 0 0 0 1) 2 false 0 no_vectors no_vectors 63
+
+-- the macroblock of a row and a column
+unfoldable pub flat_macroblock : Samples → ℕ → ℕ → Macroblock
+flat_macroblock frame row column = record {
+  syntax = flat_macro;
+  levels =
+      flat_levels frame row column 0 ∷ flat_levels frame row column 1 ∷ flat_levels frame row column 2
+      ∷ flat_levels frame row column 3 ∷ flat_levels frame row column 4 ∷ flat_levels frame row column 5 ∷ [];
+}
+
+-- the DC predictors of a macroblock as a list
+abbrev pub predictor_list : Samples → ℕ → ℕ → List ℤ
+predictor_list frame row column =
+    (predictors frame row column).luma ∷ (predictors frame row column).cb ∷ (predictors frame row column).cr ∷ []
+
+-- the state in which the blocks of a macroblock are read
+unfoldable pub state_inside : ℕ → ℕ → Samples → ℕ → ℕ → SliceState
+state_inside quantiser columns frame row column = record {
+  quantiser = quantiser;
+  dc = predictor_list frame row column;
+  pmv = no_predictors;
+  forward = false;
+  backward = false;
+  intra = true;
+  first = false;
+  address = pos (row * columns + column);
+  next = row * columns;
+}
+
+-- the state before a macroblock
+unfoldable pub state_before : ℕ → ℕ → Samples → ℕ → ℕ → SliceState
+state_before quantiser columns frame row zero = at_start (flat_context columns) row quantiser (row * columns)
+state_before quantiser columns frame row (suc column) = record {
+  quantiser = quantiser;
+  dc = predictor_list frame row (suc column);
+  pmv = no_predictors;
+  forward = false;
+  backward = false;
+  intra = true;
+  first = false;
+  address = pos (row * columns + column);
+  next = row * columns;
+}
+
+-- ---- slices
+
+-- the macroblocks of a row, n of them from a column on
+abbrev pub flat_macroblocks : Samples → ℕ → ℕ → ℕ → List Macroblock
+flat_macroblocks frame row from n = map (flat_macroblock frame row) (range_with_len from n)
+
+-- the slice of a row of so many columns
+unfoldable pub flat_row : ℕ → ℕ → Samples → ℕ → Slice
+flat_row quantiser columns frame row = record {
+  info = flat_slice quantiser;
+  macroblocks = flat_macroblocks frame row 0 columns;
+  covered = row * columns + columns;
+}
+
+-- the slices of n rows, from one on
+abbrev pub flat_rows : ℕ → ℕ → Samples → ℕ → ℕ → List Part
+flat_rows quantiser columns frame from n = map (λ row. slice row (flat_row quantiser columns frame row)) (range_with_len from n)
+
+-- ---- streams
+
+abbrev pub sequence_of : FlatSettings → Sequence
+sequence_of s = record { info = flat_sequence s; extension = flat_sequence_extension }
+
+-- the picture number n, of which so many rows were read
+unfoldable pub open_picture : ℕ → ℕ → ℕ → Open
+open_picture columns number zero = record { info = flat_picture number; extension = flat_picture_extension; begun = false; row = 0; covered = 0 }
+open_picture columns number (suc row) =
+    record { info = flat_picture number; extension = flat_picture_extension; begun = true; row = row; covered = row * columns + columns }
+
+-- the state behind the headers of the sequence
+abbrev pub state_first : FlatSettings → State
+state_first s = after_sequence at_first (sequence_of s)
+
+-- the state inside a picture
+abbrev pub state_in : FlatSettings → ℕ → ℕ → State
+state_in s number row = record (state_first s) { picture = Some (open_picture s.dims.mb_width number row) }
+
+-- a picture: its headers, and its slices
+abbrev pub picture_parts : FlatSettings → ℕ → Samples → List Part
+picture_parts s number frame =
+    picture (flat_picture number) flat_picture_extension ∷ flat_rows s.quantiser s.dims.mb_width frame 0 s.dims.mb_rows
+
+-- the pictures of raw frames
+unfoldable pub pictures_parts : FlatSettings → ℕ → List (List ℕ) → List Part
+pictures_parts s number [] = []
+pictures_parts s number (raw ∷ frames) = picture_parts s number (pad s.dims raw) ++ pictures_parts s (number + 1) frames
+
+-- all parts of the stream
+abbrev pub stream_parts : FlatSettings → List (List ℕ) → List Part
+stream_parts s frames = sequence (sequence_of s) ∷ (pictures_parts s 0 frames ++ ending ∷ [])

@@ -1,0 +1,13 @@
+ghost use Rattle.std.specs.Prelude.{ℕ, ◌≤◌, List, length};
+ghost use Rattle.m2v_encode.specs.declared.settings.FlatSettings.{FlatSettings};
+ghost use Rattle.m2v_encode.specs.Flat.{Flat};
+ghost use Rattle.m2v_encode.specs.Recon.{FlatRecon};
+ghost use Rattle.m2v_encode.specs.Answers.{HasPassed};
+ghost use Rattle.m2v_model.specs.Decoding.{Decodes};
+
+/// The stream of the flat profile decodes to the frames that it stands for, and no fault stands in it.
+///
+/// It holds for every number of frames from 1 on, whatever bytes they have.
+pub fn law_flat_decodes()
+    ensures { (s : FlatSettings) (frames : List (List ℕ)) → HasPassed s → 1 ≤ length frames → Decodes (Flat s frames) (FlatRecon s frames) }
+{}
