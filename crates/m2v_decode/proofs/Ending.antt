@@ -10,6 +10,7 @@ use Rattle.m2v_model.specs.States.{at_first}
 use Rattle.m2v_model.specs.Pictures.{Pictures}
 use Rattle.m2v_model.specs.Pieces.{pieces}
 use Rattle.m2v_model.specs.Decoding.{Decodes, shown, low_delay_of}
+use Rattle.m2v_model.specs.Decoding.{pictures as pictures_of}
 use Rattle.m2v_model.specs.ByPieces.{piece_read, behind as behind_pictures, onward, text_read, IsRead}
 use Rattle.m2v_model.proofs.PieceLaws.{rest_read, rest_none, rest_read-append, text_rest, by_pieces}
 use Rattle.m2v_piece.specs.declared.answer.DecodeError.{DecodeError}
@@ -40,7 +41,7 @@ decodes_to : (text : List ℕ) (ps : Pictures) (st : State) → IsRead text ps s
 decodes_to text ps st r = record {
   tree = r.tree;
   stream = r.stream;
-  shown = ap (λ (q : Pictures). shown (low_delay_of st.first) q) r.pictures ∙ ap (λ (z : State). shown (low_delay_of z.first) _) r.state;
+  shown = ap (λ (q : Pictures). shown (low_delay_of st.first) q) r.pictures ∙ ap (λ (z : State). shown (low_delay_of z.first) (pictures_of (r.tree).parts)) r.state;
 }
 
 all_fit : (text : List ℕ) (ps : Pictures) (st : State) → (b : Begun text ps st []) → AllFit (start_of text) (pieces text)
@@ -55,7 +56,7 @@ decoded text at frames d n h0 h1 h2 x r none count f grown last is =
     let read = (by_pieces text).stands r.pictures n.state (whole_read text r.pictures d.state n.state r.begun (subst (λ (y : ℕ). piece_read d.state y [] ≡ Ok ([], n.state)) r.place f.read)) in
     let all : map crop (frames ++ option_to_list d.anchor) ≡ shown_by d.state r.pictures = shown_is low r.pictures d.anchor frames (r.shows low (agrees d.state.first)) in
     let number : d.shown + length (due_of n) ≡ length (shown_by n.state r.pictures) =
-        omega (arith, count, ap length due, ap length all, ap length same, length-map crop (frames ++ option_to_list d.anchor), length-append frames (option_to_list d.anchor)) in
+        omega (arith, count, ap length due, ap length all, ap length same, length-map (frames ++ option_to_list d.anchor) crop, length-append frames (option_to_list d.anchor)) in
     record {
       frames = shown_by n.state r.pictures;
       decodes = decodes_to text r.pictures n.state read;
