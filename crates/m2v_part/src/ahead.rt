@@ -1,5 +1,4 @@
-ghost use Rattle.std.specs.Prelude.{◌≡◌, ◌+◌, ◌<◌, ◌≤◌, ◌^◌, IfOk, IfErr, IfSome, true, length};
-ghost use Rattle.m2v_bits.specs.Syntax.{rule};
+ghost use Rattle.std.specs.Prelude.{◌≡◌, ◌+◌, ◌<◌, ◌≤◌, ◌^◌, IfOk, IfErr, IfSome, true, false, length};
 ghost use Rattle.m2v_bits.specs.Leaves.{bits_at, end_at};
 ghost use Rattle.m2v_model.specs.declared.fault.FaultKind.TheVariants.{Truncated, Forbidden};
 ghost use Rattle.m2v_model.specs.Looking.{number_from, looking};
@@ -35,10 +34,9 @@ pub fn left_of(input: &BitReader) -> u64
 }
 
 /// A rule on an element at which so many bits are left.
-#[tactic(auto, unfolding(m2v_bits::specs::Syntax::rule))]
-pub fn check(input: &BitReader, holds: bool, kind: FaultKind, left: u64) -> Result<(), Stop>
-    ensures exact { Tells result input.now.rest ((rule holds kind left).read input.now.rest) }
-    ensures left { IfErr result (λ e. e.left ≡ left) }
+pub fn check(holds: bool, kind: FaultKind, left: u64) -> Result<(), Stop>
+    ensures held { IfOk result (λ done. holds ≡ true) }
+    ensures broken { IfErr result (λ e. (holds ≡ false) × (e ≡ record { kind = kind; left = left })) }
 {
     if holds {
         return Ok(());

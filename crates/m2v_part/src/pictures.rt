@@ -39,7 +39,7 @@ fn picture_elements(input: &mut BitReader) -> Result<PictureInfo, Stop>
 }
 
 /// A header, behind the rule that looks ahead: picture_coding_type stands 10 bits on.
-#[tactic(auto, unfolding(m2v_model::specs::Headers::picture_in, m2v_model::specs::Looking::look, m2v_bits::specs::Syntax::seq, m2v_bits::specs::Syntax::bind, m2v_bits::specs::Syntax::here))]
+#[tactic(auto, unfolding(m2v_model::specs::Headers::picture_in, m2v_model::specs::Looking::look, m2v_bits::specs::Syntax::seq, m2v_bits::specs::Syntax::bind, m2v_bits::specs::Syntax::here, m2v_bits::specs::Syntax::rule))]
 fn picture_info(input: &mut BitReader) -> Result<PictureInfo, Stop>
     ensures exact { Tells result input.new.rest (picture_in.read input.old.rest) }
     ensures text { input.new.text ≡ input.old.text }
@@ -48,7 +48,7 @@ fn picture_info(input: &mut BitReader) -> Result<PictureInfo, Stop>
 {
     let at = left_of(input);
     let read = is_read_type(look(input, 10, 3));
-    check(input, read, FaultKind::Unsupported, at.saturating_sub(10))?;
+    check(read, FaultKind::Unsupported, at.saturating_sub(10))?;
     picture_elements(input)
 }
 
@@ -85,14 +85,13 @@ fn is_allowed(used: bool, code: Option<u32>) -> bool
 }
 
 /// The rule on the f_code that stands some bits on.
-#[tactic(auto, unfolding(m2v_model::specs::Headers::f_code_at, m2v_model::specs::Looking::look, m2v_bits::specs::Syntax::seq, m2v_bits::specs::Syntax::bind))]
+#[tactic(auto, unfolding(m2v_model::specs::Headers::f_code_at, m2v_model::specs::Looking::look, m2v_bits::specs::Syntax::seq, m2v_bits::specs::Syntax::bind, m2v_bits::specs::Syntax::rule))]
 fn check_f_code(input: &BitReader, used: bool, at: u64, from: u8) -> Result<(), Stop>
     ensures exact { Tells result input.now.rest ((f_code_at used at from).read input.now.rest) }
     ensures left { IfErr result (λ e. e.left ≤ at) }
 {
     let allowed = is_allowed(used, look(input, from, 4));
     check(
-        input,
         allowed,
         FaultKind::Forbidden,
         at.saturating_sub(u64::from(from)),
@@ -100,7 +99,7 @@ fn check_f_code(input: &BitReader, used: bool, at: u64, from: u8) -> Result<(), 
 }
 
 /// The rules on the four f_codes.
-#[tactic(auto, unfolding(m2v_model::specs::Headers::f_codes_at, m2v_model::specs::Looking::look, m2v_bits::specs::Syntax::seq, m2v_bits::specs::Syntax::bind))]
+#[tactic(auto, unfolding(m2v_model::specs::Headers::f_codes_at, m2v_model::specs::Looking::look, m2v_bits::specs::Syntax::seq, m2v_bits::specs::Syntax::bind, m2v_bits::specs::Syntax::rule))]
 fn check_f_codes(input: &BitReader, kind: u8, at: u64) -> Result<(), Stop>
     ensures exact { Tells result input.now.rest ((f_codes_at kind at).read input.now.rest) }
     ensures left { IfErr result (λ e. e.left ≤ at) }
@@ -168,7 +167,7 @@ fn extension_elements(input: &mut BitReader) -> Result<PictureExtension, Stop>
 
 /// An extension, behind the rules that look ahead: picture_structure stands 22 bits on, frame_pred_frame_dct 25 and
 /// concealment_motion_vectors 26.
-#[tactic(auto, unfolding(m2v_model::specs::Headers::picture_extension_in, m2v_model::specs::Looking::look, m2v_bits::specs::Syntax::seq, m2v_bits::specs::Syntax::bind, m2v_bits::specs::Syntax::here))]
+#[tactic(auto, unfolding(m2v_model::specs::Headers::picture_extension_in, m2v_model::specs::Looking::look, m2v_bits::specs::Syntax::seq, m2v_bits::specs::Syntax::bind, m2v_bits::specs::Syntax::here, m2v_bits::specs::Syntax::rule))]
 fn extension_in(input: &mut BitReader, info: &PictureInfo) -> Result<PictureExtension, Stop>
     ensures exact { Tells result input.new.rest ((picture_extension_in info.now).read input.old.rest) }
     ensures text { input.new.text ≡ input.old.text }
@@ -179,26 +178,19 @@ fn extension_in(input: &mut BitReader, info: &PictureInfo) -> Result<PictureExte
     check_f_codes(input, info.kind, at)?;
     let structure = look(input, 22, 2);
     check(
-        input,
         is_structure(structure),
         FaultKind::Forbidden,
         at.saturating_sub(22),
     )?;
     check(
-        input,
         is_read_structure(structure),
         FaultKind::Unsupported,
         at.saturating_sub(22),
     )?;
     let frames = is_frame_only(look(input, 25, 1));
-    check(input, frames, FaultKind::Unsupported, at.saturating_sub(25))?;
+    check(frames, FaultKind::Unsupported, at.saturating_sub(25))?;
     let unconcealed = is_unconcealed(look(input, 26, 1));
-    check(
-        input,
-        unconcealed,
-        FaultKind::Unsupported,
-        at.saturating_sub(26),
-    )?;
+    check(unconcealed, FaultKind::Unsupported, at.saturating_sub(26))?;
     extension_elements(input)
 }
 

@@ -1,10 +1,10 @@
-ghost use Rattle.std.specs.Prelude.{◌≡◌, ◌≤◌, IfOk, IfErr, length, not, nat_eq, nat_le};
+ghost use Rattle.std.specs.Prelude.{◌≡◌, ◌-◌, ◌≤◌, IfOk, IfErr, length, not, nat_eq, nat_le};
 ghost use Rattle.m2v_bits.specs.Syntax.{renamed};
 ghost use Rattle.m2v_head.specs.Headers.{sequence_extension_at};
 ghost use Rattle.m2v_head.specs.Fits.{SequenceFits, SequenceExtensionFits};
 ghost use Rattle.m2v_model.specs.Faults as faults;
 ghost use Rattle.m2v_model.specs.Headers.{whole, sequence_in, sequence_extension_in, size_passes, size_at};
-ghost use Rattle.m2v_model.specs.Looking.{passes};
+ghost use Rattle.m2v_model.specs.Looking.{number_from, passes};
 ghost use Rattle.m2v_model.specs.Unread.{is_read_sequence};
 ghost use Rattle.m2v_picture.specs.Reads.{Tells};
 ghost use Rattle.m2v_part.specs.Reads.{IsSequence};
@@ -72,23 +72,27 @@ fn is_size_within(low: u32, most: u32, format: Option<u32>, ext: Option<u32>) ->
     }
 }
 
-/// The rules on a size, whose extension stands where so many bits are left.
-#[tactic(auto, unfolding(m2v_model::specs::Headers::size_at, m2v_bits::specs::Syntax::seq, m2v_bits::specs::Syntax::bind))]
+/// The rules on a size, whose extension stands some bits on.
+#[tactic(auto, unfolding(m2v_model::specs::Headers::size_at, m2v_bits::specs::Syntax::seq, m2v_bits::specs::Syntax::bind, m2v_bits::specs::Syntax::rule))]
 fn check_size(
     input: &BitReader,
     low: u32,
     most: u32,
     format: Option<u32>,
-    ext: Option<u32>,
-    left: u64,
+    at: u64,
+    from: u8,
 ) -> Result<(), Stop>
-    ensures exact { Tells result input.now.rest ((size_at low most format ext left).read input.now.rest) }
-    ensures left { IfErr result (λ e. e.left ≡ left) }
+    ensures exact { Tells result input.now.rest ((size_at low most format (number_from from 2 input.now.rest) (at - from)).read input.now.rest) }
+    ensures left { IfErr result (λ e. e.left ≤ at) }
 {
-    let some = is_some_size(low, format, ext);
-    check(input, some, FaultKind::Forbidden, left)?;
-    let within = is_size_within(low, most, format, ext);
-    check(input, within, FaultKind::Unsupported, left)
+    let ext = look(input, from, 2);
+    let left = at.saturating_sub(u64::from(from));
+    check(is_some_size(low, format, ext), FaultKind::Forbidden, left)?;
+    check(
+        is_size_within(low, most, format, ext),
+        FaultKind::Unsupported,
+        left,
+    )
 }
 
 #[tactic(auto, unfolding(m2v_bits::specs::Syntax::renamed))]
@@ -106,7 +110,7 @@ fn extension_elements(input: &mut BitReader) -> Result<SequenceExtension, Stop>
 
 /// An extension, behind the rules that look ahead: progressive_sequence stands 12 bits on, chroma_format 13, and the
 /// extensions of the sizes 15 and 17.
-#[tactic(auto, unfolding(m2v_model::specs::Headers::sequence_extension_in, m2v_model::specs::Looking::look, m2v_bits::specs::Syntax::seq, m2v_bits::specs::Syntax::bind, m2v_bits::specs::Syntax::here))]
+#[tactic(auto, unfolding(m2v_model::specs::Headers::sequence_extension_in, m2v_model::specs::Looking::look, m2v_bits::specs::Syntax::seq, m2v_bits::specs::Syntax::bind, m2v_bits::specs::Syntax::here, m2v_bits::specs::Syntax::rule))]
 fn extension_in(input: &mut BitReader, info: &SequenceInfo) -> Result<SequenceExtension, Stop>
     ensures exact { Tells result input.new.rest ((sequence_extension_in info.now).read input.old.rest) }
     ensures text { input.new.text ≡ input.old.text }
@@ -115,31 +119,10 @@ fn extension_in(input: &mut BitReader, info: &SequenceInfo) -> Result<SequenceEx
 {
     let at = left_of(input);
     let progressive = is_progressive(look(input, 12, 1));
-    check(
-        input,
-        progressive,
-        FaultKind::Unsupported,
-        at.saturating_sub(12),
-    )?;
+    check(progressive, FaultKind::Unsupported, at.saturating_sub(12))?;
     let format = look(input, 13, 2);
-    let width = look(input, 15, 2);
-    check_size(
-        input,
-        info.horizontal_size,
-        1920,
-        format,
-        width,
-        at.saturating_sub(15),
-    )?;
-    let height = look(input, 17, 2);
-    check_size(
-        input,
-        info.vertical_size,
-        1152,
-        format,
-        height,
-        at.saturating_sub(17),
-    )?;
+    check_size(input, info.horizontal_size, 1920, format, at, 15)?;
+    check_size(input, info.vertical_size, 1152, format, at, 17)?;
     extension_elements(input)
 }
 
