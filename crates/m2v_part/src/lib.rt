@@ -4,10 +4,16 @@
 
 mod ahead;
 mod groups;
+mod header;
+mod headers;
 mod pictures;
 mod sequences;
+mod state;
+mod units;
 
 pub use ahead::id_ahead;
 pub use groups::{group, matrices};
+pub use header::Header;
+pub use headers::{is_slice, read_end, read_header};
 pub use pictures::{picture, picture_extension};
 pub use sequences::{sequence, sequence_extension};

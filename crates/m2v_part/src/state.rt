@@ -1,4 +1,4 @@
-ghost use Rattle.std.specs.Prelude.{◌≡◌, ◌<◌, ◌^◌};
+ghost use Rattle.std.specs.Prelude.{◌≡◌, ◌*◌, ◌<◌, ◌^◌};
 ghost use Rattle.m2v_model.specs.States.{columns_of as columns_in, rows_of as rows_in, width_of as width_in, height_of as height_in, is_complete as complete, is_same_sequence as same_sequence, takes_matrices as matrices_are_taken};
 
 use m2v_model::{Open, Sequence};
@@ -8,14 +8,18 @@ fn width_of(s: &Sequence) -> u64
     ensures value { result ≡ width_in s.now }
     ensures below { result < 2 ^ 33 }
 {
-    u64::from(s.extension.horizontal_ext) * 4096 + u64::from(s.info.horizontal_size)
+    let high = s.extension.horizontal_ext;
+    let low = s.info.horizontal_size;
+    u64::from(high) * 4096 + u64::from(low)
 }
 
 fn height_of(s: &Sequence) -> u64
     ensures value { result ≡ height_in s.now }
     ensures below { result < 2 ^ 33 }
 {
-    u64::from(s.extension.vertical_ext) * 4096 + u64::from(s.info.vertical_size)
+    let high = s.extension.vertical_ext;
+    let low = s.info.vertical_size;
+    u64::from(high) * 4096 + u64::from(low)
 }
 
 /// How many macroblocks a frame has (clause 6.3.3).

@@ -1,12 +1,11 @@
-ghost use Rattle.std.specs.Prelude.{◌≡◌, ◌+◌, ◌<◌, ◌^◌, IfOk, IfErr};
-ghost use Rattle.m2v_bits.specs.Leaves.{bits_at};
+ghost use Rattle.std.specs.Prelude.{◌≡◌, ◌+◌, ◌<◌, ◌^◌, IfOk, IfErr, Ok};
 ghost use Rattle.m2v_head.specs.Fits.{SequenceFits, GroupFits, MatrixFits};
 ghost use Rattle.m2v_model.specs.declared.fault.FaultKind.{FaultKind as Kind};
 ghost use Rattle.m2v_model.specs.Units.{unit_bits, unit_at, inside};
 ghost use Rattle.m2v_model.specs.Headers.{whole, sequence_in, sequence_extension_in, group_in, picture_in, picture_extension_in, matrices_in};
 ghost use Rattle.m2v_model.specs.Streams.{id_at};
 ghost use Rattle.m2v_part.specs.Reads.{IsSequence, IsPicture, IsFrame};
-ghost use Rattle.m2v_part.specs.Among.{TellsAmong, itself};
+ghost use Rattle.m2v_part.specs.Among.{TellsIn};
 
 use crate::ahead::id_ahead;
 use crate::groups::{group, matrices};
@@ -33,7 +32,7 @@ fn behind(stop: Stop, units: &UnitReader) -> Stop
 /// Takes the next unit, where there is one.
 #[tactic(auto, unfolding(m2v_model::specs::Units::unit_at))]
 pub fn next_unit<'a>(units: &mut UnitReader<'a>) -> Option<Unit<'a>>
-    ensures { TellsNext result units.new ((unit_at {K = Kind}).read units.old) }
+    ensures { (unit_at {K = Kind}).read units.old ≡ Ok (result, units.new) }
 {
     units.next()
 }
@@ -41,7 +40,7 @@ pub fn next_unit<'a>(units: &mut UnitReader<'a>) -> Option<Unit<'a>>
 /// The id with which a unit's extension begins.
 #[tactic(auto, unfolding(m2v_model::specs::Streams::id_at, m2v_model::specs::Units::inside))]
 pub fn id_inside(u: &Unit, units: &UnitReader) -> Result<u32, Stop>
-    ensures exact { TellsAmong itself result units.now ((id_at u.now).read units.now) }
+    ensures exact { TellsIn result units.now ((id_at u.now).read units.now) }
     ensures left { IfErr result (λ e. e.left < 2 ^ 41) }
 {
     match id_ahead(&u.body()) {
@@ -52,7 +51,7 @@ pub fn id_inside(u: &Unit, units: &UnitReader) -> Result<u32, Stop>
 
 #[tactic(auto, unfolding(m2v_model::specs::Units::inside))]
 pub fn sequence_inside(u: &Unit, units: &UnitReader) -> Result<SequenceInfo, Stop>
-    ensures exact { TellsAmong itself result units.now ((inside u.now (whole sequence_in)).read units.now) }
+    ensures exact { TellsIn result units.now ((inside u.now (whole sequence_in)).read units.now) }
     ensures left { IfErr result (λ e. e.left < 2 ^ 41) }
     ensures fits { IfOk result SequenceFits }
 {
@@ -68,7 +67,7 @@ pub fn sequence_extension_inside(
     info: &SequenceInfo,
     units: &UnitReader,
 ) -> Result<SequenceExtension, Stop>
-    ensures exact { TellsAmong itself result units.now ((inside u.now (whole (sequence_extension_in info.now))).read units.now) }
+    ensures exact { TellsIn result units.now ((inside u.now (whole (sequence_extension_in info.now))).read units.now) }
     ensures left { IfErr result (λ e. e.left < 2 ^ 41) }
     ensures fits { IfOk result (IsSequence info.now) }
 {
@@ -80,7 +79,7 @@ pub fn sequence_extension_inside(
 
 #[tactic(auto, unfolding(m2v_model::specs::Units::inside))]
 pub fn group_inside(u: &Unit, units: &UnitReader) -> Result<GroupInfo, Stop>
-    ensures exact { TellsAmong itself result units.now ((inside u.now (whole group_in)).read units.now) }
+    ensures exact { TellsIn result units.now ((inside u.now (whole group_in)).read units.now) }
     ensures left { IfErr result (λ e. e.left < 2 ^ 41) }
     ensures fits { IfOk result GroupFits }
 {
@@ -92,7 +91,7 @@ pub fn group_inside(u: &Unit, units: &UnitReader) -> Result<GroupInfo, Stop>
 
 #[tactic(auto, unfolding(m2v_model::specs::Units::inside))]
 pub fn picture_inside(u: &Unit, units: &UnitReader) -> Result<PictureInfo, Stop>
-    ensures exact { TellsAmong itself result units.now ((inside u.now (whole picture_in)).read units.now) }
+    ensures exact { TellsIn result units.now ((inside u.now (whole picture_in)).read units.now) }
     ensures left { IfErr result (λ e. e.left < 2 ^ 41) }
     ensures fits { IfOk result IsPicture }
 {
@@ -108,7 +107,7 @@ pub fn picture_extension_inside(
     info: &PictureInfo,
     units: &UnitReader,
 ) -> Result<PictureExtension, Stop>
-    ensures exact { TellsAmong itself result units.now ((inside u.now (whole (picture_extension_in info.now))).read units.now) }
+    ensures exact { TellsIn result units.now ((inside u.now (whole (picture_extension_in info.now))).read units.now) }
     ensures left { IfErr result (λ e. e.left < 2 ^ 41) }
     ensures fits { IfOk result IsFrame }
 {
@@ -120,7 +119,7 @@ pub fn picture_extension_inside(
 
 #[tactic(auto, unfolding(m2v_model::specs::Units::inside))]
 pub fn matrices_inside(u: &Unit, units: &UnitReader) -> Result<MatrixInfo, Stop>
-    ensures exact { TellsAmong itself result units.now ((inside u.now (whole matrices_in)).read units.now) }
+    ensures exact { TellsIn result units.now ((inside u.now (whole matrices_in)).read units.now) }
     ensures left { IfErr result (λ e. e.left < 2 ^ 41) }
     ensures fits { IfOk result MatrixFits }
 {
