@@ -1,9 +1,9 @@
 -- What is looked at ahead is what is read behind it, so the rules that look ahead hold of what was read.
-use Rattle.std.proofs.Common.{◌≡◌, ℕ, zero, suc, ◌+◌, ◌*◌, ◌<◌, ◌≤◌, Bool, true, false, List, ◌++◌, length, Option, Some, None, Ok, Err, Result, refl, sym, ap, subst, ◌∙◌, ◌⊎◌, inl, inr, arith}
-use Rattle.std.specs.Prelude.{nat_eq, nat_le, not, ◌||◌}
+use Rattle.std.proofs.Common.{◌≡◌, ℕ, zero, suc, ◌≤◌, Bool, true, false, List, Option, Some, Ok, Err, Result, refl, sym, ap, ◌∙◌, arith}
+use Rattle.std.specs.Prelude.{nat_eq, nat_le, not}
 use Rattle.std.proofs.lemmas.Bool.{eqb-true, leb-true}
-use Rattle.m2v_bits.specs.Syntax.{Syntax, bind, seq, here, rule, renamed, renamed_read, done}
-use Rattle.m2v_bits.proofs.SyntaxLaws.{good, bad, good_is}
+use Rattle.m2v_bits.specs.Syntax.{bind, seq, here, rule, renamed, renamed_read, done}
+use Rattle.m2v_bits.proofs.SyntaxLaws.{good}
 use Rattle.m2v_head.specs.declared.fault.HeadFault.{HeadFault}
 use Rattle.m2v_head.specs.declared.sequence.SequenceInfo.{SequenceInfo}
 use Rattle.m2v_head.specs.declared.sequence.SequenceExtension.{SequenceExtension}
@@ -14,12 +14,12 @@ use Rattle.m2v_head.specs.Headers as head
 use Rattle.m2v_head.proofs.HeaderLaws.{sequence_extension_strict, picture_strict, picture_extension_strict}
 use Rattle.m2v_model.specs.declared.fault.FaultKind.{FaultKind}
 use Rattle.m2v_model.specs.declared.fault.FaultKind.TheVariants.{Forbidden, Unsupported}
-use Rattle.m2v_model.specs.Faults.{Of, of_head}
+use Rattle.m2v_model.specs.Faults.{of_head}
 use Rattle.m2v_model.specs.Looking.{number_from, look, passes}
 use Rattle.m2v_model.specs.Unread.{is_read_type, is_read_sequence, is_read_structure, is_read_prediction, is_read_concealment}
 use Rattle.m2v_model.specs.Headers.{size_of, size_passes, size_at, sequence_extension_in, picture_in, f_code_at, f_codes_at, picture_extension_in}
 use Rattle.m2v_part.specs.Reads.{IsSequence, IsPicture, IsFrame}
-use Rattle.m2v_part.proofs.Further.{Skips, IsAt, skip_more, number_is, flag_is, id_skips, some_is, format_is, kind_is, f_codes_skip}
+use Rattle.m2v_part.proofs.Further.{skip_more, number_is, flag_is, id_skips, some_is, format_is, kind_is, f_codes_skip}
 
 -- ---- what stands further on in a header
 

@@ -1,5 +1,5 @@
 -- What the readers of header units answer.
-use Rattle.std.specs.Prelude.{◌≡◌, ℕ, Bool, true, false, ◌&&◌, nat_le, is_some, List, Option, Some, None, Result, Ok, Err}
+use Rattle.std.specs.Prelude.{◌≡◌, ℕ, Bool, true, false, ◌&&◌, nat_le, is_some, List, Result, Ok, Err}
 use Rattle.m2v_head.specs.Fits.{SequenceFits, GroupFits, MatrixFits}
 use Rattle.m2v_model.specs.declared.fault.FaultKind.{FaultKind}
 use Rattle.m2v_model.specs.declared.state.State.{State}

@@ -8,52 +8,34 @@ use m2v_bits::BitReader;
 use m2v_head::{GroupInfo, MatrixInfo};
 use m2v_picture::{Stop, of_head, stopped};
 
-#[tactic(auto, unfolding(m2v_model::specs::Headers::group_in, m2v_bits::specs::Syntax::renamed))]
-fn group_info(input: &mut BitReader) -> Result<GroupInfo, Stop>
-    ensures exact { Tells result input.new.rest (group_in.read input.old.rest) }
-    ensures text { input.new.text ≡ input.old.text }
-    ensures left { IfErr result (λ e. e.left ≤ length input.old.text) }
-    ensures fits { IfOk result GroupFits }
-{
-    match GroupInfo::read(input) {
-        Ok(info) => Ok(info),
-        Err(e) => Err(stopped(input, of_head(e))),
-    }
-}
-
 /// Reads a group header's unit behind its start code (clause 6.2.2.6).
-#[tactic(auto, unfolding(m2v_model::specs::Headers::whole, m2v_bits::specs::Syntax::seq, m2v_bits::specs::Syntax::bind, m2v_bits::specs::Syntax::done))]
+#[tactic(auto, unfolding(m2v_model::specs::Headers::whole, m2v_model::specs::Headers::group_in, m2v_bits::specs::Syntax::renamed, m2v_bits::specs::Syntax::seq, m2v_bits::specs::Syntax::bind, m2v_bits::specs::Syntax::done))]
 pub fn group(input: &mut BitReader) -> Result<GroupInfo, Stop>
     ensures exact { Tells result input.new.rest ((whole group_in).read input.old.rest) }
     ensures left { IfErr result (λ e. e.left ≤ length input.old.text) }
     ensures fits { IfOk result GroupFits }
 {
-    let info = group_info(input)?;
-    end(input)?;
-    Ok(info)
-}
-
-#[tactic(auto, unfolding(m2v_model::specs::Headers::matrices_in, m2v_bits::specs::Syntax::renamed))]
-fn matrix_info(input: &mut BitReader) -> Result<MatrixInfo, Stop>
-    ensures exact { Tells result input.new.rest (matrices_in.read input.old.rest) }
-    ensures text { input.new.text ≡ input.old.text }
-    ensures left { IfErr result (λ e. e.left ≤ length input.old.text) }
-    ensures fits { IfOk result MatrixFits }
-{
-    match MatrixInfo::read(input) {
-        Ok(info) => Ok(info),
+    match GroupInfo::read(input) {
+        Ok(info) => {
+            end(input)?;
+            Ok(info)
+        }
         Err(e) => Err(stopped(input, of_head(e))),
     }
 }
 
 /// Reads a quant matrix extension's unit behind its start code (clause 6.2.3.2).
-#[tactic(auto, unfolding(m2v_model::specs::Headers::whole, m2v_bits::specs::Syntax::seq, m2v_bits::specs::Syntax::bind, m2v_bits::specs::Syntax::done))]
+#[tactic(auto, unfolding(m2v_model::specs::Headers::whole, m2v_model::specs::Headers::matrices_in, m2v_bits::specs::Syntax::renamed, m2v_bits::specs::Syntax::seq, m2v_bits::specs::Syntax::bind, m2v_bits::specs::Syntax::done))]
 pub fn matrices(input: &mut BitReader) -> Result<MatrixInfo, Stop>
     ensures exact { Tells result input.new.rest ((whole matrices_in).read input.old.rest) }
     ensures left { IfErr result (λ e. e.left ≤ length input.old.text) }
     ensures fits { IfOk result MatrixFits }
 {
-    let info = matrix_info(input)?;
-    end(input)?;
-    Ok(info)
+    match MatrixInfo::read(input) {
+        Ok(info) => {
+            end(input)?;
+            Ok(info)
+        }
+        Err(e) => Err(stopped(input, of_head(e))),
+    }
 }

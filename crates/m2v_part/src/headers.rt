@@ -1,4 +1,4 @@
-ghost use Rattle.std.specs.Prelude.{◌≡◌, ◌<◌, ◌≤◌, ◌^◌, IfOk, IfErr, Option, List, ℕ, [], true, false};
+ghost use Rattle.std.specs.Prelude.{◌≡◌, ◌<◌, ◌≤◌, ◌^◌, IfOk, IfErr, List, ℕ, length, [], true, false};
 ghost use Rattle.m2v_model.specs.declared.fault.FaultKind.TheVariants.{MissingMacroblocks};
 ghost use Rattle.m2v_model.specs.States.{is_complete as complete};
 ghost use Rattle.m2v_model.specs.Headers.{whole, sequence_extension_in, picture_extension_in};
@@ -76,6 +76,7 @@ fn sequence_extension_behind(
 fn sequence_unit(st: &State, start: u64, u: &Unit, units: &mut UnitReader) -> Result<Header, Stop>
     requires { start < 2 ^ 41 }
     ensures exact { TellsAs (told u.now) result units.new ((onward (streams.sequence_unit st.now start u.now)).read units.old) }
+    ensures shorter { length units.new ≤ length units.old }
     ensures left { IfErr result (λ e. e.left < 2 ^ 41) }
     ensures fits { IfOk result HeaderFits }
 {
@@ -149,6 +150,7 @@ fn picture_extension_behind(
 fn picture_unit(st: &State, start: u64, u: &Unit, units: &mut UnitReader) -> Result<Header, Stop>
     requires { start < 2 ^ 41 }
     ensures exact { TellsAs (told u.now) result units.new ((onward (streams.picture_unit st.now start u.now)).read units.old) }
+    ensures shorter { length units.new ≤ length units.old }
     ensures left { IfErr result (λ e. e.left < 2 ^ 41) }
     ensures fits { IfOk result HeaderFits }
 {
@@ -226,6 +228,7 @@ fn later_unit(
     requires start { start < 2 ^ 41 }
     requires header { 1 ≤ value → 0xB0 ≤ value }
     ensures exact { TellsAs (told u.now) result units.new ((streams.later_unit st.now start value u.now).read units.old) }
+    ensures shorter { length units.new ≤ length units.old }
     ensures left { IfErr result (λ e. e.left < 2 ^ 41) }
     ensures fits { IfOk result HeaderFits }
 {
@@ -261,15 +264,11 @@ pub fn is_slice(st: &State, u: &Unit) -> bool
 /// # Errors
 /// The first fault in reading order, with the bits that are left at its place.
 #[tactic(auto, unfolding(m2v_model::specs::Streams::known_unit, m2v_bits::specs::Syntax::choose, m2v_bits::specs::Syntax::done))]
-pub fn read_header(
-    st: &State,
-    start: u64,
-    u: &Unit,
-    units: &mut UnitReader,
-) -> Result<Header, Stop>
+pub fn read_header(st: &State, start: u64, u: &Unit, units: &mut UnitReader) -> Result<Header, Stop>
     requires start { start < 2 ^ 41 }
     requires header { slice_stands st.now (value_of u.now) ≡ false }
     ensures exact { TellsAs (told u.now) result units.new ((streams.known_unit st.now start (value_of u.now) u.now).read units.old) }
+    ensures shorter { length units.new ≤ length units.old }
     ensures left { IfErr result (λ e. e.left < 2 ^ 41) }
     ensures fits { IfOk result HeaderFits }
 {

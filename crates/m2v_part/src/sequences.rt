@@ -15,29 +15,20 @@ use m2v_head::{SequenceExtension, SequenceInfo};
 use m2v_model::FaultKind;
 use m2v_picture::{Stop, of_head, stopped};
 
-#[tactic(auto, unfolding(m2v_model::specs::Headers::sequence_in, m2v_bits::specs::Syntax::renamed))]
-fn sequence_info(input: &mut BitReader) -> Result<SequenceInfo, Stop>
-    ensures exact { Tells result input.new.rest (sequence_in.read input.old.rest) }
-    ensures text { input.new.text ≡ input.old.text }
-    ensures left { IfErr result (λ e. e.left ≤ length input.old.text) }
-    ensures fits { IfOk result SequenceFits }
-{
-    match SequenceInfo::read(input) {
-        Ok(info) => Ok(info),
-        Err(e) => Err(stopped(input, of_head(e))),
-    }
-}
-
 /// Reads a sequence header's unit behind its start code (clause 6.2.2.1).
-#[tactic(auto, unfolding(m2v_model::specs::Headers::whole, m2v_bits::specs::Syntax::seq, m2v_bits::specs::Syntax::bind, m2v_bits::specs::Syntax::done))]
+#[tactic(auto, unfolding(m2v_model::specs::Headers::whole, m2v_model::specs::Headers::sequence_in, m2v_bits::specs::Syntax::renamed, m2v_bits::specs::Syntax::seq, m2v_bits::specs::Syntax::bind, m2v_bits::specs::Syntax::done))]
 pub fn sequence(input: &mut BitReader) -> Result<SequenceInfo, Stop>
     ensures exact { Tells result input.new.rest ((whole sequence_in).read input.old.rest) }
     ensures left { IfErr result (λ e. e.left ≤ length input.old.text) }
     ensures fits { IfOk result SequenceFits }
 {
-    let info = sequence_info(input)?;
-    end(input)?;
-    Ok(info)
+    match SequenceInfo::read(input) {
+        Ok(info) => {
+            end(input)?;
+            Ok(info)
+        }
+        Err(e) => Err(stopped(input, of_head(e))),
+    }
 }
 
 /// Whether progressive_sequence says a sequence that is read.

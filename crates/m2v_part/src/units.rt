@@ -1,4 +1,4 @@
-ghost use Rattle.std.specs.Prelude.{◌≡◌, ◌+◌, ◌<◌, ◌^◌, IfOk, IfErr, Ok};
+ghost use Rattle.std.specs.Prelude.{◌≡◌, ◌+◌, ◌<◌, ◌≤◌, ◌^◌, IfOk, IfErr, Ok, length};
 ghost use Rattle.m2v_head.specs.Fits.{SequenceFits, GroupFits, MatrixFits};
 ghost use Rattle.m2v_model.specs.declared.fault.FaultKind.{FaultKind as Kind};
 ghost use Rattle.m2v_model.specs.Units.{unit_bits, unit_at, inside};
@@ -32,7 +32,8 @@ fn behind(stop: Stop, units: &UnitReader) -> Stop
 /// Takes the next unit, where there is one.
 #[tactic(auto, unfolding(m2v_model::specs::Units::unit_at))]
 pub fn next_unit<'a>(units: &mut UnitReader<'a>) -> Option<Unit<'a>>
-    ensures { (unit_at {K = Kind}).read units.old ≡ Ok (result, units.new) }
+    ensures exact { (unit_at {K = Kind}).read units.old ≡ Ok (result, units.new) }
+    ensures shorter { length units.new ≤ length units.old }
 {
     units.next()
 }
