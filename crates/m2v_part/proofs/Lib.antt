@@ -1,0 +1,3 @@
+pub mod Further
+pub mod Judged
+pub mod Ends

@@ -1,0 +1,22 @@
+//! The header units of a stream, read (clauses 6.1.1 and 6.2.2 to 6.2.3 of ISO/IEC 13818-2): each header in its unit
+//! with the rules that look ahead, and the units by the values of their start codes.
+#![tactic(auto)]
+
+mod ahead;
+mod groups;
+mod header;
+mod headers;
+mod pictures;
+mod sequences;
+mod state;
+mod units;
+
+pub use ahead::id_ahead;
+pub use groups::{group, matrices};
+pub use header::Header;
+pub use headers::{is_slice, read_end, read_header};
+pub use pictures::{picture, picture_extension};
+pub use sequences::{sequence, sequence_extension};
+
+#[cfg(test)]
+mod tests;

@@ -1,0 +1,22 @@
+ghost use Rattle.std.specs.Prelude.{◌≤◌, length};
+ghost use Rattle.m2v_unit.specs.Texts.{IsNextUnit};
+
+use m2v_bits::next_start_code;
+
+/// The place of the first start code at or behind `from`, or the end of the bytes where none begins there, whatever
+/// number of zero bytes stands behind them.
+pub fn next_unit(bytes: &[u8], from: usize) -> usize
+    requires { from ≤ length bytes.now }
+    ensures { IsNextUnit bytes.now from result }
+{
+    match next_start_code(bytes, from) {
+        Some(place) => {
+            if bytes.len() - place > 3 {
+                place
+            } else {
+                bytes.len()
+            }
+        }
+        None => bytes.len(),
+    }
+}
