@@ -1,5 +1,5 @@
 -- A macroblock row copied out of its frame line by line, and a painted row put back.
-use Rattle.std.proofs.Common.{◌≡◌, ℕ, ◌+◌, ◌*◌, ◌<◌, ◌≤◌, ⊥, List, ◌++◌, length, get_or, take, drop, refl, sym, ap, subst, ◌∙◌, arith, Some}
+use Rattle.std.proofs.Common.{◌≡◌, ℕ, ◌+◌, ◌*◌, ◌<◌, ◌≤◌, List, ◌++◌, length, get_or, take, drop, refl, sym, ap, subst, ◌∙◌, arith, Some}
 use borrow.Rule.Slice.PartMut.{put_mid}
 use Rattle.std.proofs.lemmas.List.{drop-drop, length-replicate}
 use Rattle.std.proofs.lemmas.List.FromFn.{get_or-map-range_with_len}
@@ -55,7 +55,9 @@ put_line old from new =
     rw e (ap (λ (t : List ℕ). take from old ++ (new ++ t)) (sym (drop-drop (length new) from old)))
 
 line_at : (frame : Samples) (plane : Plane) (line n c : ℕ) → c < n → get_or (line_part (sample_in frame plane Whole line) 0 n) c 0 ≡ get_or (plane_of frame plane) (line * columns_of frame.dims plane + c) 0
-line_at frame plane line n c lt = get_or-map-range_with_len (λ (k : ℕ). sample_in frame plane Whole line (0 + k)) 0 n c c 0 lt (omega arith)
+line_at frame plane line n c lt =
+    let same : 0 + c ≡ c = omega arith in
+    get_or-map-range_with_len (λ (k : ℕ). sample_in frame plane Whole line (0 + k)) 0 n c c 0 lt (omega arith) ∙ ap (λ (k : ℕ). sample_in frame plane Whole line k) same
 
 -- the lines above are those of the frame's row
 abbrev pub AreLifted : Samples → Plane → ℕ → ℕ → Samples → Type 0
@@ -78,6 +80,19 @@ lifted_more frame s plane row n samples lt same whole is old r c lt' small =
     ∙ line_more f n w (length samples) (plane_of s plane) samples long fits long old
     (λ c small. ap (λ (t : List ℕ). get_or t c 0) is ∙ line_at frame plane (row * side plane + n) w c small)
     r c lt' small
+
+-- ---- the same of what calls gave
+
+pub columns_are : (plane : Plane) (s : ℕ) (d frame out : Dims) → s ≡ side plane → d ≡ frame → out ≡ frame → s * d.mb_width ≡ columns_of out plane
+columns_are plane s d frame out es ed eo = rw (es, ed, eo) refl
+
+pub line_within : (samples : List ℕ) (f : ℕ → ℕ) (n w : ℕ) → samples ≡ line_part f 0 n → n ≡ w → 0 + length samples ≤ w
+line_within samples f n w is e = omega (arith, ap length is, length-line_part f 0 n)
+
+pub samples_are : (frame : Samples) (plane : Plane) (samples : List ℕ) (row line from s n : ℕ) → samples ≡ line_part (sample_in frame plane Whole from) 0 n → from ≡ row * s + line → s ≡ side plane → n ≡ columns_of frame.dims plane
+    → samples ≡ line_part (sample_in frame plane Whole (row * side plane + line)) 0 (columns_of frame.dims plane)
+samples_are frame plane samples row line from s n is ef es en =
+    is ∙ ap (λ (k : ℕ). line_part (sample_in frame plane Whole k) 0 n) (ef ∙ ap (λ (k : ℕ). row * k + line) es) ∙ ap (λ (k : ℕ). line_part (sample_in frame plane Whole (row * side plane + line)) 0 k) en
 
 -- ---- the row painted and put back
 

@@ -1,4 +1,4 @@
-ghost use Rattle.std.specs.Prelude.{◌≡◌, ◌+◌, ◌*◌, ◌≤◌, ◌<◌, ⊥};
+ghost use Rattle.std.specs.Prelude.{◌≡◌, ◌+◌, ◌*◌, ◌≤◌, ◌<◌};
 ghost use Rattle.m2v_plane.specs.declared.planes.Plane.{Plane};
 ghost use Rattle.m2v_plane.specs.Sizes.{side, columns_of};
 ghost use Rattle.m2v_plane.specs.Samples.{plane_of};
