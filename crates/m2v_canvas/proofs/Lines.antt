@@ -1,5 +1,5 @@
 -- A macroblock row copied out of its frame line by line, and a painted row put back.
-use Rattle.std.proofs.Common.{◌≡◌, ℕ, ◌+◌, ◌*◌, ◌<◌, ◌≤◌, List, ◌++◌, length, get_or, take, drop, refl, sym, ap, subst, ◌∙◌, arith, Some}
+use Rattle.std.proofs.Common.{◌≡◌, ℕ, ◌+◌, ◌*◌, ◌<◌, ◌≤◌, List, ◌++◌, length, get_or, take, refl, sym, ap, ◌∙◌, arith, Some}
 use borrow.Rule.Slice.PartMut.{put_mid}
 use Rattle.std.proofs.lemmas.List.{drop-drop, length-replicate}
 use Rattle.std.proofs.lemmas.List.FromFn.{get_or-map-range_with_len}
@@ -17,7 +17,7 @@ use Rattle.m2v_model.specs.declared.state.State.{State}
 use Rattle.m2v_model.specs.States.{rows_of}
 use Rattle.m2v_model.specs.Slices.{Slice, context, slice_start}
 use Rattle.m2v_model.specs.Pictures.{dims_of, all_painted, slice_painted}
-use Rattle.m2v_picture.specs.Rows.{all_row_painted, AllInRow, IsRowOf, IsRow}
+use Rattle.m2v_picture.specs.Rows.{all_row_painted, AllInRow, IsRow}
 use Rattle.m2v_picture.proofs.FrameLaws.{row_in_frame}
 
 -- ---- one line of a plane replaced

@@ -10,3 +10,6 @@ pub use canvas::Canvas;
 
 /// Want of memory.
 pub type Memory = std::alloc::AllocError;
+
+#[cfg(test)]
+mod tests;

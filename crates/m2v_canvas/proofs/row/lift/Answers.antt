@@ -1,5 +1,5 @@
-use Rattle.std.proofs.Common.{◌≡◌, ℕ, ◌*◌, List, sym, subst, ◌∙◌}
-use Rattle.m2v_plane.specs.declared.planes.Plane.TheVariants.{Y, Cb, Cr}
+use Rattle.std.proofs.Common.{ℕ, ◌*◌, List, sym, subst, ◌∙◌}
+use Rattle.m2v_plane.specs.declared.planes.Plane.TheVariants.{Y, Cb}
 use Rattle.m2v_picture.specs.Rows.{IsRowOf}
 use Rattle.m2v_canvas.proofs.row.lift.Goals as goal
 

@@ -1,5 +1,4 @@
-use Rattle.std.proofs.Common.{◌≡◌, ℕ, ◌+◌, ◌*◌, ◌<◌, ◌≤◌, List, sym, ap, subst, refl, ◌∙◌, arith}
-use Rattle.m2v_plane.specs.declared.planes.Plane.{Plane}
+use Rattle.std.proofs.Common.{◌+◌, ◌*◌, ◌<◌, sym, ap, subst, refl, ◌∙◌, arith}
 use Rattle.m2v_plane.specs.Sizes.{side, columns_of}
 use Rattle.m2v_plane.specs.Samples.{Samples, plane_of, sample_in}
 use Rattle.m2v_plane.specs.declared.planes.Lines.TheVariants.{Whole}

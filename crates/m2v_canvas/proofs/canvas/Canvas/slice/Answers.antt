@@ -25,6 +25,6 @@ returns-clause-exact c =
       x.1,
       x.2,
       c.set_row.ensures.value ∙ ap (λ (r : Samples). with_row frame Whole row r) x.3
-      ∙ slice_put st s p row x.0 frame c.lift.new.out c.self.invariant.1 c.requires.picture.below same c.lift.ensures x.4
-      ∙ ap (λ (f : Samples). slice_painted st (Some s) (Some p) row x.0 f) c.self.view_is,
+          ∙ slice_put st s p row x.0 frame c.lift.new.out c.self.invariant.1 c.requires.picture.below same c.lift.ensures x.4
+          ∙ ap (λ (f : Samples). slice_painted st (Some s) (Some p) row x.0 f) c.self.view_is,
     )
