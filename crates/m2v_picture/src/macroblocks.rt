@@ -93,6 +93,7 @@ fn round(
     ensures left { IfErr result (λ e. e.left ≤ length input.old.text) }
     ensures state { IfOk result (λ more. IsState c.now row state.new) }
     ensures place { IfOk result (λ more. IsInside c.now row state.new.address) }
+    ensures dims { out.new.dims ≡ out.old.dims }
 {
     let (m, levels) = macroblock(input, c, row, state)?;
     paint(c, row, state, &m, &levels, out);
@@ -114,6 +115,7 @@ pub fn macroblocks(
     ensures exact { Macroblocks c.now row first input.old.rest out.old result input.new.rest out.new }
     ensures left { IfErr result (λ e. e.left ≤ length input.old.text) }
     ensures place { IfOk result (λ z. IsInside c.now row z.address) }
+    ensures dims { out.new.dims ≡ out.old.dims }
 {
     let mut state = first;
     loop {

@@ -70,6 +70,7 @@ pub fn read_slice(
     ensures exact { TellsSlice st.now s.now p.now row input.old.rest out.old result input.new.rest out.new }
     ensures left { IfErr result (λ e. e.left ≤ length input.old.text + 32) }
     ensures covered { IfOk result (λ covered. covered ≤ (row + 1) * columns_of s.now) }
+    ensures dims { out.new.dims ≡ out.old.dims }
 {
     let unit = unit_left(input);
     let info = header(input)?;

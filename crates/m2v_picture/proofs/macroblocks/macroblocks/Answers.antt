@@ -16,6 +16,7 @@ loop-more-init c = record {
   state = c.requires.state;
   text = refl;
   columns = c.requires.columns;
+  dims = refl;
 }
 
 pub returns-in_err-more-clause-exact : goal.returns-in_err-more-clause-exact
@@ -66,4 +67,5 @@ loop-more-preserved c =
       state = c.in_ok-more.ensures.state;
       text = c.in_ok-more.ensures.text ∙ c.loop-more.invariant.text;
       columns = ap (λ (r : Samples). r.dims.mb_width) x.4 ∙ c.loop-more.invariant.columns;
+      dims = c.in_ok-more.ensures.dims ∙ c.loop-more.invariant.dims;
     }

@@ -12,6 +12,7 @@ invariant-loop-more l = record {
   state : IsState l.c l.row l.state;
   text : l.input.text ≡ l.fn.input.text;
   columns : l.out.dims.mb_width ≡ l.c.columns;
+  dims : l.out.dims ≡ l.fn.out.dims;
 }
 
 abbrev pub decreases-loop-more : goal.decreases-loop-more
