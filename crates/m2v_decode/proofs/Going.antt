@@ -29,7 +29,8 @@ use Rattle.m2v_decode.specs.declared.answer.Decoded.{Decoded}
 use Rattle.m2v_decode.specs.Answers.{Change, start_of, AllFit, Begun, behind, HasFault, due_before, shown_by, IsDecoded, IsFaulty, IsOver, IsCut, Of, Fails}
 use Rattle.m2v_decode.specs.Progress.{raw_of, before_all, Cuts, HasPut, Reached, Progress, IsDone, Ends, EndFails}
 use Rattle.m2v_decode.proofs.Putting.{raw-append}
-use Rattle.m2v_decode.proofs.Ordering.{due_is, shown_is, shows_on, shows_none, agrees}
+use Rattle.m2v_decoder.proofs.Showing.{shows_on, shows_none, shows_behind}
+use Rattle.m2v_decode.proofs.Ordering.{due_is, shown_is, agrees}
 
 -- ---- lists of pieces
 
@@ -94,7 +95,7 @@ reached_more text start whole others frames d m n r none fits a put =
           let second = subst (λ (x : List Samples). Shows low d.anchor x a.pictures m.anchor m.ready) none (a.shows low agree_m) in
           subst (λ (x : List Samples). Shows low None [] (r.pictures ++ a.pictures) n.anchor (frames ++ x)) (sym (due_ready m a.going))
           (subst (λ (x : Option Samples). Shows low None [] (r.pictures ++ a.pictures) x (frames ++ m.ready)) (sym (put.anchor a.going))
-          (shows_on low None d.anchor m.anchor [] frames m.ready r.pictures a.pictures (r.shows low (a.first low agree_m)) second));
+          (shows_on low None d.anchor m.anchor [] frames (frames ++ m.ready) r.pictures a.pictures (r.shows low (a.first low agree_m)) (shows_behind low d.anchor m.anchor frames m.ready a.pictures second)));
       counted = omega (arith, put.pictures, a.counted, r.counted, length-append r.pictures a.pictures);
     }
 

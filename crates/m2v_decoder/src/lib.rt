@@ -1,7 +1,9 @@
 //! A decoder of streams, piece by piece: it reads each piece as the definitions say, and hands out frames as they are due.
 #![tactic(auto)]
 
+mod course;
 mod decoder;
+mod halt;
 
 pub use decoder::Decoder;
 
