@@ -18,7 +18,7 @@ use Rattle.m2v_model.specs.Faults.{of_head}
 use Rattle.m2v_model.specs.Looking.{number_from, look, passes}
 use Rattle.m2v_model.specs.Unread.{is_read_type, is_read_sequence, is_read_structure, is_read_prediction, is_read_concealment}
 use Rattle.m2v_model.specs.Headers.{size_of, size_passes, size_at, sequence_extension_in, picture_in, f_code_at, f_codes_at, picture_extension_in}
-use Rattle.m2v_part.specs.Reads.{IsSequence, IsPicture, IsFrame}
+use Rattle.m2v_part.specs.Reads.{IsReadSequence, IsReadPicture, IsReadExtension}
 use Rattle.m2v_part.proofs.Further.{skip_more, number_is, flag_is, id_skips, some_is, format_is, kind_is, f_codes_skip}
 
 -- ---- what stands further on in a header
@@ -130,7 +130,7 @@ some (suc n) e = omega arith
 
 -- ---- headers that are read
 
-pub sequence_is : (info : SequenceInfo) (e : SequenceExtension) (t rest : List Bool) → (sequence_extension_in info).read t ≡ good (e, rest) → SequenceExtensionFits e → IsSequence info e
+pub sequence_is : (info : SequenceInfo) (e : SequenceExtension) (t rest : List Bool) → (sequence_extension_in info).read t ≡ good (e, rest) → SequenceExtensionFits e → IsReadSequence info e
 unfolding sequence_extension_in seq bind here look renamed
 sequence_is info e t rest read fits =
     let p = held _ Unsupported _ t _ (e, rest) read in
@@ -160,7 +160,7 @@ intra (suc (suc zero)) low high e = absurd cc
 intra (suc (suc (suc zero))) low high e = absurd cc
 intra (suc (suc (suc (suc k)))) low high e = absurd (omega arith)
 
-pub picture_is : (p : PictureInfo) (t rest : List Bool) → picture_in.read t ≡ good (p, rest) → PictureFits p → IsPicture p
+pub picture_is : (p : PictureInfo) (t rest : List Bool) → picture_in.read t ≡ good (p, rest) → PictureFits p → IsReadPicture p
 unfolding picture_in seq bind here look renamed
 picture_is p t rest read fits =
     let h = held _ Unsupported _ t _ (p, rest) read in
@@ -183,7 +183,7 @@ codes_held kind at t f y e =
     let c = first_held _ Forbidden _ t _ f y b.1 in
     (held _ Forbidden _ t f y c.1).1
 
-pub frame_is : (info : PictureInfo) (p : PictureExtension) (t rest : List Bool) → (picture_extension_in info).read t ≡ good (p, rest) → PictureExtensionFits p → IsFrame p
+pub frame_is : (info : PictureInfo) (p : PictureExtension) (t rest : List Bool) → (picture_extension_in info).read t ≡ good (p, rest) → PictureExtensionFits p → IsReadExtension p
 unfolding picture_extension_in seq bind here look renamed
 frame_is info p t rest read fits =
     let codes = codes_held info.kind _ t _ (p, rest) read in

@@ -8,7 +8,7 @@ use Rattle.m2v_model.specs.Streams as streams
 use Rattle.m2v_picture.specs.declared.stop.Stop.{Stop}
 use Rattle.m2v_part.specs.declared.header.Header.{Header}
 use Rattle.m2v_part.specs.declared.header.Header.TheVariants.{Sequence, Group, Picture, Matrices, Skipped, Ending}
-use Rattle.m2v_part.specs.Reads.{IsSequence, IsPicture, IsFrame}
+use Rattle.m2v_part.specs.Reads.{IsReadSequence, IsReadPicture, IsReadExtension}
 
 -- the value that stands among units, or the fault and its place
 abbrev pub TellsIn : {V : Type 0} → Result V Stop → Units → Result (V × Units) (FaultKind × ℕ) → Type 0
@@ -48,9 +48,9 @@ told u h = (goes_on h, part_of u h)
 
 -- what is known of a header that was read
 abbrev pub HeaderFits : Header → Type 0
-HeaderFits (Sequence s) = SequenceFits s.info × IsSequence s.info s.extension
+HeaderFits (Sequence s) = SequenceFits s.info × IsReadSequence s.info s.extension
 HeaderFits (Group g) = GroupFits g
-HeaderFits (Picture info extension) = IsPicture info × IsFrame extension
+HeaderFits (Picture info extension) = IsReadPicture info × IsReadExtension extension
 HeaderFits (Matrices m) = MatrixFits m
 HeaderFits Skipped = Unit {0}
 HeaderFits Ending = Unit {0}

@@ -11,18 +11,18 @@ use Rattle.m2v_model.specs.Pictures.{dims_of}
 -- ---- headers that are read
 
 -- a sequence extension behind its header: the sequence is progressive, and its frames have a size that is read
-pub record IsSequence (info : SequenceInfo) (e : SequenceExtension) : Type 0 where
+pub record IsReadSequence (info : SequenceInfo) (e : SequenceExtension) : Type 0 where
   pub fits : SequenceExtensionFits e
   pub progressive : e.progressive_sequence ≡ true
   pub size : IsSize (dims_of (record { info = info; extension = e }))
 
 -- the header of an I picture
-pub record IsPicture (p : PictureInfo) : Type 0 where
+pub record IsReadPicture (p : PictureInfo) : Type 0 where
   pub fits : PictureFits p
   pub kind : p.kind ≡ 1
 
 -- a picture coding extension of a frame with frame prediction, frame DCT and no concealment vectors
-pub record IsFrame (p : PictureExtension) : Type 0 where
+pub record IsReadExtension (p : PictureExtension) : Type 0 where
   pub fits : PictureExtensionFits p
   pub structure : p.structure ≡ 3
   pub frames : p.frame_pred_frame_dct ≡ true

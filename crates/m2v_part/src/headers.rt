@@ -5,7 +5,7 @@ ghost use Rattle.m2v_model.specs.Headers.{whole, sequence_extension_in, picture_
 ghost use Rattle.m2v_head.specs.Fits.{MatrixFits};
 ghost use Rattle.m2v_model.specs.Streams.{value_of, extension_in, extension_behind, matrices, onward, «final», over, text_end};
 ghost use Rattle.m2v_model.specs.Streams as streams;
-ghost use Rattle.m2v_part.specs.Reads.{IsSequence, IsFrame};
+ghost use Rattle.m2v_part.specs.Reads.{IsReadSequence, IsReadExtension};
 ghost use Rattle.m2v_part.specs.Among.{TellsIn, TellsAs, is_slice as slice_stands, told, HeaderFits};
 
 use crate::ahead::check;
@@ -40,7 +40,7 @@ fn sequence_extension_in(
     requires { start < 2 ^ 41 }
     ensures exact { TellsIn result units.now ((extension_in 1 v.now start (whole (sequence_extension_in info.now))).read units.now) }
     ensures left { IfErr result (λ e. e.left < 2 ^ 41) }
-    ensures fits { IfOk result (IsSequence info.now) }
+    ensures fits { IfOk result (IsReadSequence info.now) }
 {
     let id = id_inside(v, units)?;
     check(id == 1, FaultKind::NotMpeg2, start)?;
@@ -58,7 +58,7 @@ fn sequence_extension_behind(
     requires { start < 2 ^ 41 }
     ensures exact { TellsIn result units.now ((extension_behind 1 v.now start (whole (sequence_extension_in info.now))).read units.now) }
     ensures left { IfErr result (λ e. e.left < 2 ^ 41) }
-    ensures fits { IfOk result (IsSequence info.now) }
+    ensures fits { IfOk result (IsReadSequence info.now) }
 {
     if let Some(v) = v {
         if v.value() == 0xB5 {
@@ -114,7 +114,7 @@ fn picture_extension_in(
     requires { start < 2 ^ 41 }
     ensures exact { TellsIn result units.now ((extension_in 8 v.now start (whole (picture_extension_in info.now))).read units.now) }
     ensures left { IfErr result (λ e. e.left < 2 ^ 41) }
-    ensures fits { IfOk result IsFrame }
+    ensures fits { IfOk result IsReadExtension }
 {
     let id = id_inside(v, units)?;
     check(id == 8, FaultKind::NotMpeg2, start)?;
@@ -132,7 +132,7 @@ fn picture_extension_behind(
     requires { start < 2 ^ 41 }
     ensures exact { TellsIn result units.now ((extension_behind 8 v.now start (whole (picture_extension_in info.now))).read units.now) }
     ensures left { IfErr result (λ e. e.left < 2 ^ 41) }
-    ensures fits { IfOk result IsFrame }
+    ensures fits { IfOk result IsReadExtension }
 {
     if let Some(v) = v {
         if v.value() == 0xB5 {

@@ -1,13 +1,10 @@
 ghost use Rattle.std.specs.Prelude.{◌≡◌, ◌≤◌, IfOk, IfErr, length, Bool, not, nat_eq, ◌||◌};
-ghost use Rattle.m2v_bits.specs.Syntax.{renamed};
-ghost use Rattle.m2v_head.specs.Headers.{picture_at, picture_extension_at};
 ghost use Rattle.m2v_head.specs.Fits.{PictureFits, PictureExtensionFits};
-ghost use Rattle.m2v_model.specs.Faults as faults;
 ghost use Rattle.m2v_model.specs.Headers.{whole, picture_in, picture_extension_in, is_f_code, uses_forward as forward_is_used, f_code_at, f_codes_at};
 ghost use Rattle.m2v_model.specs.Looking.{passes};
 ghost use Rattle.m2v_model.specs.Unread.{is_read_type as type_is_read, is_read_structure as structure_is_read, is_read_prediction, is_read_concealment};
 ghost use Rattle.m2v_picture.specs.Reads.{Tells};
-ghost use Rattle.m2v_part.specs.Reads.{IsPicture, IsFrame};
+ghost use Rattle.m2v_part.specs.Reads.{IsReadPicture, IsReadExtension};
 
 use crate::ahead::{check, end, left_of, look};
 use m2v_bits::BitReader;
@@ -25,21 +22,8 @@ fn is_read_type(kind: Option<u32>) -> bool
     }
 }
 
-#[tactic(auto, unfolding(m2v_bits::specs::Syntax::renamed))]
-fn picture_elements(input: &mut BitReader) -> Result<PictureInfo, Stop>
-    ensures exact { Tells result input.new.rest ((renamed faults.of_head picture_at).read input.old.rest) }
-    ensures text { input.new.text ≡ input.old.text }
-    ensures left { IfErr result (λ e. e.left ≤ length input.old.text) }
-    ensures fits { IfOk result PictureFits }
-{
-    match PictureInfo::read(input) {
-        Ok(info) => Ok(info),
-        Err(e) => Err(stopped(input, of_head(e))),
-    }
-}
-
 /// A header, behind the rule that looks ahead: picture_coding_type stands 10 bits on.
-#[tactic(auto, unfolding(m2v_model::specs::Headers::picture_in, m2v_model::specs::Looking::look, m2v_bits::specs::Syntax::seq, m2v_bits::specs::Syntax::bind, m2v_bits::specs::Syntax::here, m2v_bits::specs::Syntax::rule))]
+#[tactic(auto, unfolding(m2v_model::specs::Headers::picture_in, m2v_bits::specs::Syntax::renamed, m2v_model::specs::Looking::look, m2v_bits::specs::Syntax::seq, m2v_bits::specs::Syntax::bind, m2v_bits::specs::Syntax::here, m2v_bits::specs::Syntax::rule))]
 fn picture_info(input: &mut BitReader) -> Result<PictureInfo, Stop>
     ensures exact { Tells result input.new.rest (picture_in.read input.old.rest) }
     ensures text { input.new.text ≡ input.old.text }
@@ -49,7 +33,10 @@ fn picture_info(input: &mut BitReader) -> Result<PictureInfo, Stop>
     let at = left_of(input);
     let read = is_read_type(look(input, 10, 3));
     check(read, FaultKind::Unsupported, at.saturating_sub(10))?;
-    picture_elements(input)
+    match PictureInfo::read(input) {
+        Ok(info) => Ok(info),
+        Err(e) => Err(stopped(input, of_head(e))),
+    }
 }
 
 /// Reads a picture header's unit behind its start code (clause 6.2.3).
@@ -57,7 +44,7 @@ fn picture_info(input: &mut BitReader) -> Result<PictureInfo, Stop>
 pub fn picture(input: &mut BitReader) -> Result<PictureInfo, Stop>
     ensures exact { Tells result input.new.rest ((whole picture_in).read input.old.rest) }
     ensures left { IfErr result (λ e. e.left ≤ length input.old.text) }
-    ensures fits { IfOk result IsPicture }
+    ensures fits { IfOk result IsReadPicture }
 {
     let info = picture_info(input)?;
     end(input)?;
@@ -152,22 +139,9 @@ fn is_unconcealed(bit: Option<u32>) -> bool
     }
 }
 
-#[tactic(auto, unfolding(m2v_bits::specs::Syntax::renamed))]
-fn extension_elements(input: &mut BitReader) -> Result<PictureExtension, Stop>
-    ensures exact { Tells result input.new.rest ((renamed faults.of_head picture_extension_at).read input.old.rest) }
-    ensures text { input.new.text ≡ input.old.text }
-    ensures left { IfErr result (λ e. e.left ≤ length input.old.text) }
-    ensures fits { IfOk result PictureExtensionFits }
-{
-    match PictureExtension::read(input) {
-        Ok(extension) => Ok(extension),
-        Err(e) => Err(stopped(input, of_head(e))),
-    }
-}
-
 /// An extension, behind the rules that look ahead: picture_structure stands 22 bits on, frame_pred_frame_dct 25 and
 /// concealment_motion_vectors 26.
-#[tactic(auto, unfolding(m2v_model::specs::Headers::picture_extension_in, m2v_model::specs::Looking::look, m2v_bits::specs::Syntax::seq, m2v_bits::specs::Syntax::bind, m2v_bits::specs::Syntax::here, m2v_bits::specs::Syntax::rule))]
+#[tactic(auto, unfolding(m2v_model::specs::Headers::picture_extension_in, m2v_bits::specs::Syntax::renamed, m2v_model::specs::Looking::look, m2v_bits::specs::Syntax::seq, m2v_bits::specs::Syntax::bind, m2v_bits::specs::Syntax::here, m2v_bits::specs::Syntax::rule))]
 fn extension_in(input: &mut BitReader, info: &PictureInfo) -> Result<PictureExtension, Stop>
     ensures exact { Tells result input.new.rest ((picture_extension_in info.now).read input.old.rest) }
     ensures text { input.new.text ≡ input.old.text }
@@ -191,7 +165,10 @@ fn extension_in(input: &mut BitReader, info: &PictureInfo) -> Result<PictureExte
     check(frames, FaultKind::Unsupported, at.saturating_sub(25))?;
     let unconcealed = is_unconcealed(look(input, 26, 1));
     check(unconcealed, FaultKind::Unsupported, at.saturating_sub(26))?;
-    extension_elements(input)
+    match PictureExtension::read(input) {
+        Ok(extension) => Ok(extension),
+        Err(e) => Err(stopped(input, of_head(e))),
+    }
 }
 
 /// Reads a picture coding extension's unit behind its start code and its picture header (clause 6.2.3.1).
@@ -202,7 +179,7 @@ pub fn picture_extension(
 ) -> Result<PictureExtension, Stop>
     ensures exact { Tells result input.new.rest ((whole (picture_extension_in info.now)).read input.old.rest) }
     ensures left { IfErr result (λ e. e.left ≤ length input.old.text) }
-    ensures fits { IfOk result IsFrame }
+    ensures fits { IfOk result IsReadExtension }
 {
     let extension = extension_in(input, info)?;
     end(input)?;

@@ -1,13 +1,10 @@
 ghost use Rattle.std.specs.Prelude.{◌≡◌, ◌-◌, ◌≤◌, IfOk, IfErr, length, not, nat_eq, nat_le};
-ghost use Rattle.m2v_bits.specs.Syntax.{renamed};
-ghost use Rattle.m2v_head.specs.Headers.{sequence_extension_at};
 ghost use Rattle.m2v_head.specs.Fits.{SequenceFits, SequenceExtensionFits};
-ghost use Rattle.m2v_model.specs.Faults as faults;
 ghost use Rattle.m2v_model.specs.Headers.{whole, sequence_in, sequence_extension_in, size_passes, size_at};
 ghost use Rattle.m2v_model.specs.Looking.{number_from, passes};
 ghost use Rattle.m2v_model.specs.Unread.{is_read_sequence};
 ghost use Rattle.m2v_picture.specs.Reads.{Tells};
-ghost use Rattle.m2v_part.specs.Reads.{IsSequence};
+ghost use Rattle.m2v_part.specs.Reads.{IsReadSequence};
 
 use crate::ahead::{check, end, left_of, look};
 use m2v_bits::BitReader;
@@ -86,22 +83,9 @@ fn check_size(
     )
 }
 
-#[tactic(auto, unfolding(m2v_bits::specs::Syntax::renamed))]
-fn extension_elements(input: &mut BitReader) -> Result<SequenceExtension, Stop>
-    ensures exact { Tells result input.new.rest ((renamed faults.of_head sequence_extension_at).read input.old.rest) }
-    ensures text { input.new.text ≡ input.old.text }
-    ensures left { IfErr result (λ e. e.left ≤ length input.old.text) }
-    ensures fits { IfOk result SequenceExtensionFits }
-{
-    match SequenceExtension::read(input) {
-        Ok(extension) => Ok(extension),
-        Err(e) => Err(stopped(input, of_head(e))),
-    }
-}
-
 /// An extension, behind the rules that look ahead: progressive_sequence stands 12 bits on, chroma_format 13, and the
 /// extensions of the sizes 15 and 17.
-#[tactic(auto, unfolding(m2v_model::specs::Headers::sequence_extension_in, m2v_model::specs::Looking::look, m2v_bits::specs::Syntax::seq, m2v_bits::specs::Syntax::bind, m2v_bits::specs::Syntax::here, m2v_bits::specs::Syntax::rule))]
+#[tactic(auto, unfolding(m2v_model::specs::Headers::sequence_extension_in, m2v_bits::specs::Syntax::renamed, m2v_model::specs::Looking::look, m2v_bits::specs::Syntax::seq, m2v_bits::specs::Syntax::bind, m2v_bits::specs::Syntax::here, m2v_bits::specs::Syntax::rule))]
 fn extension_in(input: &mut BitReader, info: &SequenceInfo) -> Result<SequenceExtension, Stop>
     ensures exact { Tells result input.new.rest ((sequence_extension_in info.now).read input.old.rest) }
     ensures text { input.new.text ≡ input.old.text }
@@ -114,7 +98,10 @@ fn extension_in(input: &mut BitReader, info: &SequenceInfo) -> Result<SequenceEx
     let format = look(input, 13, 2);
     check_size(input, info.horizontal_size, 1920, format, at, 15)?;
     check_size(input, info.vertical_size, 1152, format, at, 17)?;
-    extension_elements(input)
+    match SequenceExtension::read(input) {
+        Ok(extension) => Ok(extension),
+        Err(e) => Err(stopped(input, of_head(e))),
+    }
 }
 
 /// Reads a sequence extension's unit behind its start code and its sequence header (clause 6.2.2.3).
@@ -125,7 +112,7 @@ pub fn sequence_extension(
 ) -> Result<SequenceExtension, Stop>
     ensures exact { Tells result input.new.rest ((whole (sequence_extension_in info.now)).read input.old.rest) }
     ensures left { IfErr result (λ e. e.left ≤ length input.old.text) }
-    ensures fits { IfOk result (IsSequence info.now) }
+    ensures fits { IfOk result (IsReadSequence info.now) }
 {
     let extension = extension_in(input, info)?;
     end(input)?;

@@ -4,7 +4,7 @@ ghost use Rattle.m2v_model.specs.declared.fault.FaultKind.{FaultKind as Kind};
 ghost use Rattle.m2v_model.specs.Units.{unit_bits, unit_at, inside};
 ghost use Rattle.m2v_model.specs.Headers.{whole, sequence_in, sequence_extension_in, group_in, picture_in, picture_extension_in, matrices_in};
 ghost use Rattle.m2v_model.specs.Streams.{id_at};
-ghost use Rattle.m2v_part.specs.Reads.{IsSequence, IsPicture, IsFrame};
+ghost use Rattle.m2v_part.specs.Reads.{IsReadSequence, IsReadPicture, IsReadExtension};
 ghost use Rattle.m2v_part.specs.Among.{TellsIn};
 
 use crate::ahead::id_ahead;
@@ -70,7 +70,7 @@ pub fn sequence_extension_inside(
 ) -> Result<SequenceExtension, Stop>
     ensures exact { TellsIn result units.now ((inside u.now (whole (sequence_extension_in info.now))).read units.now) }
     ensures left { IfErr result (λ e. e.left < 2 ^ 41) }
-    ensures fits { IfOk result (IsSequence info.now) }
+    ensures fits { IfOk result (IsReadSequence info.now) }
 {
     match sequence_extension(&mut u.body(), info) {
         Ok(extension) => Ok(extension),
@@ -94,7 +94,7 @@ pub fn group_inside(u: &Unit, units: &UnitReader) -> Result<GroupInfo, Stop>
 pub fn picture_inside(u: &Unit, units: &UnitReader) -> Result<PictureInfo, Stop>
     ensures exact { TellsIn result units.now ((inside u.now (whole picture_in)).read units.now) }
     ensures left { IfErr result (λ e. e.left < 2 ^ 41) }
-    ensures fits { IfOk result IsPicture }
+    ensures fits { IfOk result IsReadPicture }
 {
     match picture(&mut u.body()) {
         Ok(info) => Ok(info),
@@ -110,7 +110,7 @@ pub fn picture_extension_inside(
 ) -> Result<PictureExtension, Stop>
     ensures exact { TellsIn result units.now ((inside u.now (whole (picture_extension_in info.now))).read units.now) }
     ensures left { IfErr result (λ e. e.left < 2 ^ 41) }
-    ensures fits { IfOk result IsFrame }
+    ensures fits { IfOk result IsReadExtension }
 {
     match picture_extension(&mut u.body(), info) {
         Ok(extension) => Ok(extension),
