@@ -4,8 +4,7 @@ ghost use Rattle.m2v_model.specs.States.{after_end, after_sequence};
 ghost use Rattle.m2v_model.specs.Streams.{Part, value_of, known_unit, over, sequence, group, picture, matrices, ending};
 ghost use Rattle.m2v_model.specs.Pictures.{type_of, closed};
 ghost use Rattle.m2v_head.specs.Fits.{IsLoaded};
-ghost use Rattle.m2v_quant.specs.Matrices.{default_matrix as default_of};
-ghost use Rattle.m2v_model.specs.States.{loaded_or};
+ghost use Rattle.m2v_model.specs.States.{loaded_or as matrix_or};
 ghost use Rattle.m2v_picture.specs.Conditions.{IsMatrix};
 ghost use Rattle.m2v_part.specs.declared.header.Header.TheVariants as headers;
 ghost use Rattle.m2v_part.specs.Among.{HeaderFits, part_of};
@@ -46,14 +45,14 @@ fn kind_of(picture: &Option<Open>) -> u8
     }
 }
 
-/// The matrix that is loaded, or the default one.
-fn matrix_of(loaded: Option<[u8; 64]>, intra: bool) -> [u8; 64]
-    ensures value { result ≡ loaded_or loaded (default_of intra) }
-    ensures fits { IsLoaded loaded → IsMatrix result }
+/// The matrix that is loaded, or another one.
+fn loaded_or(loaded: Option<[u8; 64]>, other: [u8; 64]) -> [u8; 64]
+    ensures value { result ≡ matrix_or loaded other }
+    ensures fits { IsLoaded loaded → IsMatrix other → IsMatrix result }
 {
     match loaded {
         Some(matrix) => matrix,
-        None => default_matrix(intra),
+        None => other,
     }
 }
 
@@ -102,8 +101,8 @@ impl Course {
             self.queue = DisplayQueue::new(s.extension.low_delay);
         }
         self.state.sequence = Some(s);
-        self.state.intra = matrix_of(s.info.load_intra, true);
-        self.state.non_intra = matrix_of(s.info.load_non_intra, false);
+        self.state.intra = loaded_or(s.info.load_intra, default_matrix(true));
+        self.state.non_intra = loaded_or(s.info.load_non_intra, default_matrix(false));
         self.state.picture = None;
     }
 
@@ -178,12 +177,8 @@ impl Course {
         requires sound { IsSound self.old }
         ensures { Steps self.old (matrices m) self.new }
     {
-        if let Some(intra) = m.intra {
-            self.state.intra = intra;
-        }
-        if let Some(non_intra) = m.non_intra {
-            self.state.non_intra = non_intra;
-        }
+        self.state.intra = loaded_or(m.intra, self.state.intra);
+        self.state.non_intra = loaded_or(m.non_intra, self.state.non_intra);
     }
 
     /// What stands in a unit that isn't a slice.
