@@ -1,5 +1,6 @@
 pub mod PieceLaws
 pub mod TrimLaws
 pub mod LimitLaws
+pub mod WholeLaws
 pub mod Steps
 pub mod Stands

@@ -71,6 +71,7 @@ module _ (h h' : Held) (chunk chunk' : List ℕ) (left left' : Option (List ℕ)
     moved = moves_on a.moved b.moved;
     pieces = λ rest. ap (pieces_behind h) (regrouped b.bytes rest) ∙ a.pieces (b.bytes ++ rest) ∙ b.pieces rest;
     start = λ rest. ap (start_behind h) (regrouped b.bytes rest) ∙ a.start (b.bytes ++ rest) ∙ b.start rest;
+    forward = omega (arith, a.forward, b.forward);
     fits = b.fits;
   }
 
@@ -99,6 +100,8 @@ module _ (h h' : Held) (chunk chunk' : List ℕ) (left left' : Option (List ℕ)
         (ap (pieces_behind h) (regrouped b.bytes rest) ∙ a.pieces (b.bytes ++ rest))
         (ap (start_behind h) (regrouped b.bytes rest) ∙ a.start (b.bytes ++ rest))
         (b.stood rest told);
+    full = b.full;
+    forward = omega (arith, a.forward, b.forward);
     fits = b.fits;
   }
 

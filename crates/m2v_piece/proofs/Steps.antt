@@ -16,6 +16,11 @@ after_more Before place sure xs = omega arith
 after_more Headers place sure xs = omega (arith, length-append sure xs)
 after_more Picture place sure xs = omega (arith, length-append sure xs)
 
+after_forward : (phase : Phase) (place : ℕ) (xs : List ℕ) → place ≤ place_after phase place xs
+after_forward Before place xs = omega arith
+after_forward Headers place xs = omega arith
+after_forward Picture place xs = omega arith
+
 pub took_zero : (h new : Held) → h.ahead ≡ 2 → Fits h → new ≡ behind h (0 ∷ []) → limit_of h (0 ∷ []) ≡ None → Took h 0 new
 took_zero h new two fits is none =
     subst (λ (x : Held). Took h 0 x) (sym is)
@@ -23,6 +28,7 @@ took_zero h new two fits is none =
       pieces = λ text. rw two (third_zero h.phase h.sure text);
       start = λ text. rw two (third_zero_start h.phase h.place text);
       more = omega (arith, after_more h.phase h.place h.sure (0 ∷ []));
+      forward = after_forward h.phase h.place (0 ∷ []);
       fits = fits_more h (0 ∷ []) fits none;
     })
 
@@ -45,6 +51,7 @@ took_other h new b le some one fits is none =
       pieces = λ text. settled h.phase h.sure h.ahead b text le some one;
       start = λ text. settled_start h.phase h.place h.ahead b text le some one;
       more = omega (arith, after_more h.phase h.place h.sure (prefix h.ahead ++ b ∷ []), length-append (prefix h.ahead) (b ∷ []), length_prefix h.ahead le);
+      forward = after_forward h.phase h.place (prefix h.ahead ++ b ∷ []);
       fits = record { limit = f.limit; none = f.none };
     })
 
@@ -71,6 +78,7 @@ took_longer h new b next fits is =
       pieces = λ text. ap (open_pieces h.phase h.sure) (sym (ap (λ (x : List ℕ). x ++ text) next ∙ append_assoc (prefix h.ahead) (b ∷ []) text));
       start = λ text. ap (open_start h.phase h.place) (sym (ap (λ (x : List ℕ). x ++ text) next ∙ append_assoc (prefix h.ahead) (b ∷ []) text));
       more = omega arith;
+      forward = omega arith;
       fits = record { limit = fits.limit; none = fits.none };
     })
 
@@ -110,6 +118,7 @@ took_unit h new v three goes fits is none =
       pieces = λ text. rw three (unit_pieces h.phase h.sure v text goes);
       start = λ text. rw three (unit_start h.phase h.place v text goes);
       more = omega (arith, after_more h.phase h.place h.sure (code_of v));
+      forward = after_forward h.phase h.place (code_of v);
       fits = record { limit = f.limit; none = unit_none h.phase h.sure v f.none };
     })
 
@@ -136,6 +145,7 @@ ends_here h new three phase fits is none =
     (record {
       pieces = λ text. rw (three, phase) (ends_text h.sure text);
       place = rw phase refl;
+      some = rw phase (omega (arith, length-append h.sure (code_of 0xB7)));
       fits = record { limit = f.limit; none = f.none };
     })
 
@@ -175,6 +185,7 @@ finished_here h new le fits is none =
       pieces = ends_at h.phase h.sure h.ahead le ∙ same_end h.phase h.sure (prefix h.ahead);
       start = ends_start h.phase h.place h.ahead le;
       phase = refl;
+      forward = after_forward h.phase h.place (prefix h.ahead);
       fits = record { limit = f.limit; none = f.none };
     })
 
@@ -209,6 +220,17 @@ before_only Before v e = refl
 before_only Headers v e = absurd (behind_not_before v e)
 before_only Picture v e = absurd cc
 
+full_after : (phase : Phase) (v : ℕ) (sure : List ℕ) → phase_behind phase v ≡ Picture → 1 ≤ length (sure_after phase sure (code_of v))
+full_after Before v sure e = absurd cc
+full_after Headers v sure e = omega (arith, length-append sure (code_of v))
+full_after Picture v sure e = omega (arith, length-append sure (code_of v))
+
+-- behind a picture's start code some bytes are held
+pub unit_full : (h now : Held) (phase : Phase) (v : ℕ) → now ≡ record (behind h (code_of v)) { ahead = 0 } → phase ≡ phase_behind now.phase v → phase ≡ Picture → 1 ≤ length now.sure
+unit_full h now phase v is by e =
+    let at : phase_behind h.phase v ≡ Picture = sym (by ∙ ap (λ (x : Held). phase_behind x.phase v) is) ∙ e in
+    subst (λ (x : Held). 1 ≤ length x.sure) (sym is) (full_after h.phase v h.sure at)
+
 pub unit_is : (h now new : Held) (phase : Phase) (v : ℕ) → now ≡ record (behind h (code_of v)) { ahead = 0 } → phase ≡ phase_behind now.phase v → new ≡ record now { phase = phase }
     → new ≡ record { phase = phase_behind h.phase v; place = place_after h.phase h.place (code_of v); sure = sure_after h.phase h.sure (code_of v); ahead = 0 }
 unit_is h now new phase v is by is_then =
@@ -226,6 +248,7 @@ finished_none h none fits = record {
   pieces = ap (λ (n : ℕ). open_pieces h.phase h.sure (prefix n ++ [])) none ∙ ends_at h.phase h.sure 0 (omega arith) ∙ ap (λ (x : List ℕ). grouped h.phase x []) (append-nil h.sure);
   start = ap (λ (n : ℕ). open_start h.phase h.place (prefix n ++ [])) none ∙ ends_start h.phase h.place 0 (omega arith) ∙ place_none h.phase h.place;
   phase = refl;
+  forward = omega arith;
   fits = fits;
 }
 

@@ -17,7 +17,7 @@ replicate_last : (n : ℕ) → replicate {A = ℕ} n 0 ++ 0 ∷ [] ≡ 0 ∷ rep
 replicate_last zero = refl
 replicate_last (suc n) = ap (λ (x : List ℕ). 0 ∷ x) (replicate_last n)
 
-reverse_zeros : (n : ℕ) → reverse (replicate {A = ℕ} n 0) ≡ replicate n 0
+pub reverse_zeros : (n : ℕ) → reverse (replicate {A = ℕ} n 0) ≡ replicate n 0
 reverse_zeros zero = refl
 reverse_zeros (suc n) = reverse-append (0 ∷ []) (replicate {A = ℕ} n 0) ∙ ap (λ (x : List ℕ). x ++ 0 ∷ []) (reverse_zeros n) ∙ replicate_last n
 

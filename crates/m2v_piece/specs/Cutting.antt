@@ -1,5 +1,5 @@
 -- What a cutter holds of a text, and what it hands out.
-use Rattle.std.specs.Prelude.{◌≡◌, ◌⊎◌, ℕ, suc, ◌+◌, ◌<◌, Bool, true, false, List, [], ◌∷◌, ◌++◌, length, take, Option, Some, None, nat_lt, nat_eq, if◌then◌else◌}
+use Rattle.std.specs.Prelude.{◌≡◌, ◌⊎◌, ℕ, suc, ◌+◌, ◌<◌, ◌≤◌, Bool, true, false, List, [], ◌∷◌, ◌++◌, length, take, Option, Some, None, nat_lt, nat_eq, if◌then◌else◌}
 use Rattle.m2v_model.specs.declared.phase.Phase.{Phase}
 use Rattle.m2v_model.specs.declared.phase.Phase.TheVariants.{Before, Headers, Picture}
 use Rattle.m2v_model.specs.Units.{cut}
@@ -104,6 +104,7 @@ pub record Took (old : Held) (b : ℕ) (new : Held) : Type 0 where
   pub pieces : (text : List ℕ) → pieces_behind old (b ∷ text) ≡ pieces_behind new text
   pub start : (text : List ℕ) → start_behind old (b ∷ text) ≡ start_behind new text
   pub more : new.place + (length new.sure + new.ahead) ≡ suc (old.place + (length old.sure + old.ahead))
+  pub forward : old.place ≤ new.place
   pub fits : Fits new
 
 -- a byte isn't taken, since the next piece passes a limit with it, whatever follows it
@@ -130,6 +131,7 @@ GoesOn Picture value = begins_piece value ≡ false
 pub record Ends (old new : Held) : Type 0 where
   pub pieces : (text : List ℕ) → pieces_behind old (0xB7 ∷ text) ≡ new.sure ∷ []
   pub place : new.place ≡ old.place
+  pub some : 1 ≤ length new.sure
   pub fits : Fits new
 
 -- the first piece begins, and its value stands next
@@ -144,6 +146,7 @@ pub record Finished (old new : Held) : Type 0 where
   pub pieces : pieces_behind old [] ≡ grouped new.phase new.sure []
   pub start : start_behind old [] ≡ new.place
   pub phase : new.phase ≡ old.phase
+  pub forward : old.place ≤ new.place
   pub fits : Fits new
 
 -- ---- what contracts see of a cutter

@@ -1,3 +1,4 @@
 pub mod Cutting
 pub mod Reads
+pub mod Sound
 pub mod Stepping

@@ -1,5 +1,5 @@
 -- What a cutter does with the next byte of a text, whatever follows what was read.
-use Rattle.std.specs.Prelude.{◌≡◌, ℕ, ◌+◌, ◌-◌, ◌*◌, ◌^◌, true, List, [], ◌∷◌, ◌++◌, length, Option, Some, None, ◌<◌}
+use Rattle.std.specs.Prelude.{◌≡◌, ℕ, ◌+◌, ◌-◌, ◌*◌, ◌^◌, true, List, [], ◌∷◌, ◌++◌, length, Option, Some, None, ◌<◌, ◌≤◌}
 use Rattle.m2v_port.specs.Port.{Moves}
 use Rattle.m2v_model.specs.declared.phase.Phase.{Phase}
 use Rattle.m2v_model.specs.declared.phase.Phase.TheVariants.{Before, Headers, Picture}
@@ -61,17 +61,24 @@ Stood Ending h text new chunk rest = (pieces_behind h text ≡ new.sure ∷ []) 
 -- the input has ended
 Stood Over h text new chunk rest = (pieces_behind h text ≡ grouped new.phase new.sure []) × (start_behind h text ≡ new.place) × (rest ≡ []) × (chunk ≡ [])
 
+-- some bytes are held wherever the next piece begins or the end code stands
+abbrev pub IsFull : Stand → Held → Type 0
+IsFull Boundary h = 1 ≤ length h.sure
+IsFull Ending h = 1 ≤ length h.sure
+IsFull Over h = Unit {0}
+
 -- the pieces of a text are those of another, behind what is held then
 pub record Reaches (h : Held) (chunk : List ℕ) (h' : Held) (chunk' : List ℕ) : Type 0 where
   pub pieces : (rest : List ℕ) → pieces_behind h (chunk ++ rest) ≡ pieces_behind h' (chunk' ++ rest)
   pub start : (rest : List ℕ) → start_behind h (chunk ++ rest) ≡ start_behind h' (chunk' ++ rest)
+  pub forward : h.place ≤ h'.place
   pub fits : Fits h'
   pub less : measure_of h' < measure_of h
 
 -- a byte was used: others are looked at, or the bytes stop here
 abbrev pub Turned : Option Stand → Held → List ℕ → Held → List ℕ → Type 0
 Turned None h chunk h' chunk' = Reaches h chunk h' chunk'
-Turned (Some stand) h chunk h' chunk' = Fits h' × ((rest : List ℕ) → Stood stand h (chunk ++ rest) h' chunk' rest)
+Turned (Some stand) h chunk h' chunk' = Fits h' × ((rest : List ℕ) → Stood stand h (chunk ++ rest) h' chunk' rest) × IsFull stand h' × (h.place ≤ h'.place)
 
 -- bytes were read and used, and the pieces of the text are those of what is held then and of what is left
 pub record Advanced (h : Held) (chunk : List ℕ) (left : Option (List ℕ)) (h' : Held) (chunk' : List ℕ) (left' : Option (List ℕ)) : Type 0 where
@@ -79,6 +86,7 @@ pub record Advanced (h : Held) (chunk : List ℕ) (left : Option (List ℕ)) (h'
   pub moved : Moves left bytes left'
   pub pieces : (rest : List ℕ) → pieces_behind h (chunk ++ (bytes ++ rest)) ≡ pieces_behind h' (chunk' ++ rest)
   pub start : (rest : List ℕ) → start_behind h (chunk ++ (bytes ++ rest)) ≡ start_behind h' (chunk' ++ rest)
+  pub forward : h.place ≤ h'.place
   pub fits : Fits h'
 
 -- bytes were read and used, and they stop here
@@ -86,6 +94,8 @@ pub record Looked (stand : Stand) (h : Held) (chunk : List ℕ) (left : Option (
   pub bytes : List ℕ
   pub moved : Moves left bytes left'
   pub stood : (rest : List ℕ) → left' ≡ Some rest → Stood stand h (chunk ++ (bytes ++ rest)) h' chunk' rest
+  pub full : IsFull stand h'
+  pub forward : h.place ≤ h'.place
   pub fits : Fits h'
 
 -- why they stop without a piece: the source failed, memory ran out, or the next piece passes a limit

@@ -1,6 +1,7 @@
-ghost use Rattle.std.specs.Prelude.{◌≡◌, ℕ, ◌+◌, ◌≤◌, ◌<◌, ◌++◌, List, [], length, IfOk, IfErr, OnOk, IsErrOf, Ok, Err, Some, None, true, false};
+ghost use Rattle.std.specs.Prelude.{◌≡◌, ℕ, ◌+◌, ◌≤◌, ◌<◌, ◌^◌, ◌++◌, List, [], length, IfOk, IfSome, IfErr, OnOk, IsErrOf, Ok, Err, Some, None, true, false};
 ghost use Rattle.m2v_port.specs.Port.{Rose};
 ghost use Rattle.m2v_piece.specs.Cutting.{Fits, Stops, pieces_behind, start_behind};
+ghost use Rattle.m2v_piece.specs.Sound.{IsSound, GoesForward};
 ghost use Rattle.m2v_piece.specs.Stepping.{Turned, Rounded, Looked, Fails, Handed, Stopped, LastOf};
 
 use crate::chunk::Chunk;
@@ -96,8 +97,11 @@ fn look_on<S: Source>(
 /// The last piece of a text that has ended, where there is one.
 fn last(hand: &mut Hand, alloc: Global) -> Result<Option<Piece>, Memory>
     requires fits { Fits hand.old }
-    ensures { IfOk result (λ piece. LastOf piece hand.old hand.new) }
+    ensures last { IfOk result (λ piece. LastOf piece hand.old hand.new) }
+    ensures sound { IfOk result (λ piece. IfSome piece IsSound) }
+    ensures most { OnOk result (hand.new.place ≤ 2 ^ 36) }
 {
+    let _place = hand.place();
     if hand.is_empty() {
         return Ok(None);
     }
@@ -157,7 +161,12 @@ impl Cutter {
         ensures err { IfErr result (Stopped self.old (S.left input.old) (S.left input.new)) }
         ensures failed { IsErrOf result DecodeError.Read → Rose (S.faults input.old) (S.faults input.new) }
         ensures faults { S.faults input.old ≤ S.faults input.new }
+        ensures sound { IfOk result (λ piece. IfSome piece IsSound) }
+        ensures forward { IfOk result (λ piece. GoesForward piece self.old.place self.new.place) }
+        ensures most { self.old.place ≤ 2 ^ 36 }
     {
+        // places are bounded
+        let _place = self.hand.place();
         if self.ended {
             return Ok(None);
         }

@@ -1,5 +1,6 @@
 ghost use Rattle.std.specs.Prelude.{◌≡◌, ◌↔◌, ◌+◌, ◌-◌, ◌≤◌, ◌<◌, ◌^◌, ◌++◌, ◌∷◌, [], length, replicate, min, IfOk, IfErr, OnOk, IsTrue, Ok, Err, None, false, nat_eq};
 ghost use Rattle.m2v_model.specs.Pieces.{limit, phase_after};
+ghost use Rattle.m2v_piece.specs.Sound.{IsSound};
 ghost use Rattle.m2v_piece.specs.Cutting.{Held, Fits, prefix, behind, limit_of, IsPiece, LimitErr, Took, StopsAt, Stops, pieces_behind, start_behind, code_of, phase_behind, GoesOn, Ends, Begun, Finished};
 
 use crate::{DecodeError, Memory, Piece};
@@ -32,7 +33,7 @@ pub struct Hand {
 
 impl Model for Hand {
     ghost use Rattle.std.specs.Prelude.{◌+◌, ◌≤◌, ◌^◌, ◌++◌, ◌≡◌, [], length, replicate};
-    ghost use Rattle.m2v_model.specs.declared.phase.Phase.TheVariants.{Before};
+    ghost use Rattle.m2v_model.specs.declared.phase.Phase.TheVariants.{Before, Picture};
     ghost use Rattle.m2v_model.specs.Pieces.{zeros_last};
     ghost use Rattle.m2v_piece.specs.Cutting.{Held};
 
@@ -40,7 +41,7 @@ impl Model for Hand {
 
     ghost view = { λ h. record { phase = h.phase; place = h.place; sure = h.bytes.items ++ replicate h.zeros 0; ahead = h.ahead } };
 
-    ghost invariant = { λ h. (h.ahead ≤ 3) × (h.place + (length h.bytes.items + h.zeros) ≤ 2 ^ 36) × (zeros_last h.bytes.items ≡ 0) × (h.phase ≡ Before → length h.bytes.items + h.zeros ≡ 0) };
+    ghost invariant = { λ h. (h.ahead ≤ 3) × (h.place + (length h.bytes.items + h.zeros) ≤ 2 ^ 36) × (zeros_last h.bytes.items ≡ 0) × (h.phase ≡ Before → length h.bytes.items + h.zeros ≡ 0) × (h.phase ≡ Picture → 1 ≤ length h.bytes.items + h.zeros) };
 }
 
 /// Appends so many zero bytes, and a byte.
@@ -102,6 +103,7 @@ impl Hand {
         ensures value { result ≡ self.now.ahead }
         ensures most { result ≤ 3 }
         ensures bound { self.now.place + (length self.now.sure + self.now.ahead) ≤ 2 ^ 36 + 3 }
+        ensures picture { self.now.phase ≡ Phase.Picture → 1 ≤ length self.now.sure }
     {
         self.ahead
     }
@@ -113,16 +115,18 @@ impl Hand {
         self.phase
     }
 
-    /// Where the piece begins, and how many bytes of it are sure.
+    /// Whether no byte of the piece is sure.
     pub fn is_empty(&self) -> bool
-        ensures { IsTrue result ↔ (self.now.sure ≡ []) }
+        ensures value { IsTrue result ↔ (self.now.sure ≡ []) }
+        ensures some { result ≡ false → 1 ≤ length self.now.sure }
     {
         self.bytes.len() as u64 + self.zeros == 0
     }
 
     /// The place of the piece's first byte.
     pub fn place(&self) -> u64
-        ensures { result ≡ self.now.place }
+        ensures value { result ≡ self.now.place }
+        ensures most { result ≤ 2 ^ 36 }
     {
         self.place
     }
@@ -152,6 +156,7 @@ impl Hand {
         let Ok(()) = append(&mut self.bytes, self.zeros, b) else {
             self.bytes.truncate(0);
             self.zeros = 0;
+            self.phase = Phase::Headers;
             return Err(DecodeError::Memory);
         };
         self.zeros = 0;
@@ -313,6 +318,8 @@ impl Hand {
         requires fits { Fits self.old }
         ensures piece { IfOk result (λ p. IsPiece p self.old.place self.old.sure) }
         ensures next { OnOk result (self.new ≡ record { phase = Phase.Headers; place = self.old.place + length self.old.sure; sure = []; ahead = self.old.ahead }) }
+        ensures sound { IfOk result (λ p. 1 ≤ length self.old.sure → IsSound p) }
+        ensures most { OnOk result (self.new.place ≤ 2 ^ 36) }
     {
         let (place, zeros) = (self.place, self.zeros);
         let length = self.bytes.len() as u64 + zeros;

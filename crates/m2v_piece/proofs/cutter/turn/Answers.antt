@@ -1,4 +1,4 @@
-use Rattle.std.proofs.Common.{ℕ, List, ◌++◌, drop, sym, ap, subst, ◌∙◌}
+use Rattle.std.proofs.Common.{ℕ, ◌≤◌, length, arith, List, ◌++◌, drop, sym, ap, subst, ◌∙◌}
 use Rattle.m2v_piece.specs.Cutting.{Held, Fits, Stops, pieces_behind, start_behind}
 use Rattle.m2v_piece.specs.declared.taking.Byte.{Byte}
 use Rattle.m2v_piece.specs.Stepping.{Takes, IsWhole, IsLast}
@@ -20,6 +20,8 @@ returns-in-Ok-Whole-clause-ok c =
           let e = by_first c.args.chunk.now rest c.first-b.result c.requires.some c.first-b.ensures in
           let s = whole_stood h c.take.new.hand c.first-b.result (drop 1 c.args.chunk.now ++ rest) w in
           rw (← e) (s.0, s.1, ap (λ (x : Held). x.ahead) w.same ∙ w.ahead),
+      subst (λ (x : Held). 1 ≤ length x.sure) (sym w.same) (c.ahead-held.ensures.picture w.phase),
+      omega (arith, ap (λ (x : Held). x.place) w.same),
     )
 
 pub returns-in-Ok-Last-clause-ok : goal.returns-in-Ok-Last-clause-ok
@@ -31,4 +33,6 @@ returns-in-Ok-Last-clause-ok c =
           let e = by_first c.args.chunk.now rest c.first-b.result c.requires.some c.first-b.ensures in
           let s = last_stood h c.take.new.hand c.first-b.result (drop 1 c.args.chunk.now ++ rest) l in
           rw (← e) (s.0, s.1),
+      l.ends.some,
+      omega (arith, l.ends.place),
     )

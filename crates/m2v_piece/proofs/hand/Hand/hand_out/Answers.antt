@@ -1,5 +1,6 @@
 use Rattle.std.proofs.Common.{arith, ap, ◌∙◌, ◌++◌, replicate, refl, min}
 use Rattle.m2v_piece.proofs.TrimLaws.{trimmed_is, length-sure}
+use Rattle.m2v_piece.proofs.WholeLaws.{piece_sound}
 use Rattle.m2v_piece.proofs.hand.Hand.hand_out.Goals as goal
 
 pub returns-clause-piece : goal.returns-clause-piece
@@ -12,3 +13,6 @@ returns-clause-piece c =
       length = omega (arith, length-sure h.bytes.items h.zeros, c.len.ensures);
       fits = rw (← c.self.view_is) at c.requires.fits.limit;
     })
+
+pub returns-clause-sound : goal.returns-clause-sound
+returns-clause-sound c some = piece_sound _ c.args.self.now.place c.args.self.now.sure (returns-clause-piece c) (omega (arith, c.self.invariant.1, c.len.ensures)) some

@@ -15,4 +15,5 @@ invariant_of-self-2 c =
       omega (arith, len, length-sure h.bytes.items h.zeros, c.len.ensures, c.if-self-at-ge-MOST_INPUT.false),
       ap zeros_last e ∙ zeros_last_end front c.args.b c.if-b-eq0.false,
       λ before. absurd (c.in_default.not-Before before),
+      λ picture. omega (arith, len),
     )
