@@ -1,3 +1,4 @@
 pub mod EndLaws
 pub mod Showing
 pub mod CourseLaws
+pub mod StepLaws

@@ -12,10 +12,11 @@ use Rattle.m2v_model.specs.declared.fault.FaultKind.{FaultKind}
 use Rattle.m2v_model.specs.declared.state.Sequence.{Sequence}
 use Rattle.m2v_model.specs.declared.state.Open.{Open}
 use Rattle.m2v_model.specs.declared.state.State.{State}
-use Rattle.m2v_model.specs.Units.{Units}
+use Rattle.m2v_model.specs.Units.{Units, unit_bits, body}
+use Rattle.m2v_model.specs.Slices.{Slice, slice_at}
 use Rattle.m2v_model.specs.Streams.{Part, after}
 use Rattle.m2v_model.specs.States.{after_end, after_picture}
-use Rattle.m2v_model.specs.Pictures.{Pictures, dims_of, opened, closed, closed_by, frame_after}
+use Rattle.m2v_model.specs.Pictures.{Pictures, dims_of, opened, on_frame, slice_painted, closed, closed_by, frame_after}
 use Rattle.m2v_model.specs.Decoding.{low_delay_of}
 use Rattle.m2v_decoder.specs.declared.course.Course.{Course}
 use Rattle.m2v_decoder.specs.declared.halt.Halt.{Halt}
@@ -96,6 +97,26 @@ pub record Begun (old : Course) (info : PictureInfo) (extension : PictureExtensi
   pub pictures : new.pictures ≡ old.pictures
   pub shown : new.shown ≡ old.shown
   pub sound : IsSound new
+
+-- a slice of a row was read and painted: the address behind its last macroblock
+pub record Painted (old : Course) (s : Sequence) (p : Open) (row : ℕ) (u : List ℕ) (covered : ℕ) (new : Course) : Type 0 where
+  pub slice : Slice
+  pub end : List Bool
+  pub read : (slice_at old.state s p row).read (body u) ≡ Ok (slice, end)
+  pub covered_is : covered ≡ slice.covered
+  pub most : covered ≤ 2 ^ 16
+  pub canvas : new.canvas ≡ on_frame (slice_painted old.state (Some s) (Some p) row slice) old.canvas
+  pub size : Fits (Some s) (Some p) new.canvas
+  pub state : new.state ≡ old.state
+  pub queue : new.queue ≡ old.queue
+  pub ready : new.ready ≡ old.ready
+  pub pictures : new.pictures ≡ old.pictures
+  pub shown : new.shown ≡ old.shown
+
+-- that, or the fault in the slice
+abbrev pub Paints : Course → Sequence → Open → ℕ → List ℕ → Units → Result ℕ Stop → Course → Type 0
+Paints old s p row u units (Ok covered) new = Painted old s p row u covered new
+Paints old s p row u units (Err e) new = (left : ℕ) × ((slice_at old.state s p row).read (body u) ≡ Err (e.kind, left)) × (e.left ≡ left + unit_bits units)
 
 -- what a round among the units answers: whether another follows
 abbrev pub Rounds : Course → Result Bool Halt → Course → Units → Result ((Bool × Part) × Units) (FaultKind × ℕ) → Type 0

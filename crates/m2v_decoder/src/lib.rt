@@ -4,6 +4,7 @@
 mod course;
 mod decoder;
 mod halt;
+mod slice;
 
 pub use decoder::Decoder;
 
