@@ -21,7 +21,8 @@ use Rattle.m2v_model.specs.Decoding.{low_delay_of}
 use Rattle.m2v_decoder.specs.declared.course.Course.{Course}
 use Rattle.m2v_decoder.specs.declared.halt.Halt.{Halt}
 use Rattle.m2v_decoder.specs.declared.halt.Halt.TheVariants.{Fault, Memory}
-use Rattle.m2v_decoder.specs.Decoding.{decoded_of}
+use Rattle.m2v_model.proofs.FlowLaws.{seen}
+use Rattle.m2v_decoder.specs.Decoding.{Agrees, Shows, decoded_of}
 
 -- ---- what is known of the headers in force
 
@@ -123,3 +124,20 @@ abbrev pub Rounds : Course → Result Bool Halt → Course → Units → Result 
 Rounds old (Ok more) new rest read = (p : Part) × (read ≡ Ok ((more, p), rest)) × Steps old p new × (more ≡ false → new.canvas ≡ None)
 Rounds old (Err Memory) new rest read = Unit {0}
 Rounds old (Err (Fault stop)) new rest read = read ≡ Err (stop.kind, stop.left)
+
+-- all units of a piece were read, and no picture is open
+pub record ReadAll (old : Course) (us : Units) (new : Course) : Type 0 where
+  pub pictures : Pictures
+  pub read : seen old.state old.canvas us ≡ Ok (pictures, new.state)
+  pub first : (low : Bool) → Agrees low new.state.first → Agrees low old.state.first
+  pub shows : (low : Bool) → Agrees low new.state.first → Shows low old.queue.anchor old.ready.items pictures new.queue.anchor new.ready.items
+  pub counted : new.pictures ≡ old.pictures + length pictures
+  pub few : length pictures ≤ length us + 1
+  pub shown : new.shown ≡ old.shown
+  pub none : new.canvas ≡ None
+  pub sound : IsSound new
+
+-- the first fault of a piece
+abbrev pub Stops : Course → Units → Halt → Type 0
+Stops old us Memory = Unit {0}
+Stops old us (Fault stop) = seen old.state old.canvas us ≡ Err (stop.kind, stop.left)

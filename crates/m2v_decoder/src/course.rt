@@ -12,15 +12,13 @@ ghost use Rattle.m2v_model.proofs.FlowLaws.{unit_of};
 ghost use Rattle.m2v_decoder.specs.Course.{IsSound, Steps, Showed, Begun, Closed};
 
 use crate::Memory;
-use crate::halt::Halt;
 use m2v_canvas::Canvas;
 use m2v_head::{GroupInfo, MatrixInfo, PictureExtension, PictureInfo};
 use m2v_model::{Open, Sequence, State};
 use m2v_order::DisplayQueue;
-use m2v_part::{Header, is_slice, read_end, read_header};
+use m2v_part::Header;
 use m2v_plane::Frame;
 use m2v_quant::default_matrix;
-use m2v_unit::{Unit, UnitReader};
 use std::alloc::Global;
 
 /// A decoder at work: the headers in force, the frame of the picture that is open, and the frames on their way to the
@@ -70,7 +68,7 @@ impl Course {
     }
 
     /// The picture that is open is whole.
-    fn close(&mut self) -> Result<(), Memory>
+    pub fn close(&mut self) -> Result<(), Memory>
         requires sound { IsSound self.old }
         requires counted { self.old.pictures < 2 ^ 62 }
         ensures { OnOk result (Closed self.old self.new) }
@@ -182,7 +180,7 @@ impl Course {
     }
 
     /// What stands in a unit that isn't a slice.
-    fn enter(&mut self, alloc: Global, header: Header) -> Result<(), Memory>
+    pub fn enter(&mut self, alloc: Global, header: Header) -> Result<(), Memory>
         requires fits { HeaderFits header }
         requires sound { IsSound self.old }
         requires counted { self.old.pictures < 2 ^ 62 }

@@ -4,6 +4,7 @@
 mod course;
 mod decoder;
 mod halt;
+mod reading;
 mod slice;
 
 pub use decoder::Decoder;

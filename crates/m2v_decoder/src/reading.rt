@@ -1,0 +1,89 @@
+ghost use Rattle.std.specs.Prelude.{◌≡◌, ◌+◌, ◌*◌, ◌^◌, ◌<◌, ◌≤◌, IfOk, IfErr, OnOk, Ok, Err, [], length, true, false};
+ghost use Rattle.m2v_part.specs.Among.{is_slice as slice_stands};
+ghost use Rattle.m2v_model.specs.Units.{unit_bits};
+ghost use Rattle.m2v_model.specs.Streams.{value_of, known_unit, text_end};
+ghost use Rattle.m2v_model.proofs.FlowLaws.{unit_of};
+ghost use Rattle.m2v_decoder.specs.Course.{IsSound, Rounds, ReadAll, Stops};
+
+use crate::course::Course;
+use crate::halt::Halt;
+use m2v_part::{Header, is_slice, read_end, read_header};
+use m2v_unit::{Unit, UnitReader};
+use std::alloc::Global;
+
+impl Course {
+    /// Reads a unit that isn't a slice, and with a header the extension behind it. Answers whether units may follow.
+    fn header(
+        &mut self,
+        alloc: Global,
+        start: u64,
+        u: &Unit,
+        units: &mut UnitReader,
+    ) -> Result<bool, Halt>
+        requires sound { IsSound self.old }
+        requires counted { self.old.pictures < 2 ^ 62 }
+        requires start { start < 2 ^ 41 }
+        requires header { slice_stands self.old.state (value_of u.now) ≡ false }
+        ensures { Rounds self.old result self.new units.new ((known_unit self.old.state start (value_of u.now) u.now).read units.old) }
+    {
+        let header = read_header(&self.state, start, u, units)?;
+        let more = !matches!(header, Header::Ending);
+        self.enter(alloc, header)?;
+        Ok(more)
+    }
+
+    /// Reads a unit that is there. Answers whether units may follow.
+    fn known(
+        &mut self,
+        alloc: Global,
+        start: u64,
+        u: &Unit,
+        units: &mut UnitReader,
+    ) -> Result<bool, Halt>
+        requires sound { IsSound self.old }
+        requires counted { self.old.pictures < 2 ^ 62 }
+        requires start { start < 2 ^ 41 }
+        ensures { Rounds self.old result self.new units.new ((known_unit self.old.state start (value_of u.now) u.now).read units.old) }
+    {
+        if !is_slice(&self.state, u) {
+            return self.header(alloc, start, u, units);
+        }
+        self.slice(start, u, units)?;
+        Ok(true)
+    }
+
+    /// The end of the piece.
+    fn over(&mut self) -> Result<bool, Halt>
+        requires sound { IsSound self.old }
+        requires counted { self.old.pictures < 2 ^ 62 }
+        ensures { Rounds self.old result self.new [] ((text_end self.old.state 0).read []) }
+    {
+        read_end(&self.state)?;
+        self.close()?;
+        Ok(false)
+    }
+
+    /// Reads the next unit, or the end of the piece. Answers whether units may follow.
+    fn unit(&mut self, alloc: Global, units: &mut UnitReader) -> Result<bool, Halt>
+        requires sound { IsSound self.old }
+        requires counted { self.old.pictures < 2 ^ 62 }
+        ensures { Rounds self.old result self.new units.new (unit_of self.old.state units.old) }
+    {
+        let start = units.left();
+        match units.next() {
+            Some(u) => self.known(alloc, start, &u, units),
+            None => self.over(),
+        }
+    }
+
+    /// Reads all units of a piece.
+    pub fn units(&mut self, alloc: Global, units: &mut UnitReader) -> Result<(), Halt>
+        requires sound { IsSound self.old }
+        requires counted { self.old.pictures + length units.old < 2 ^ 61 }
+        ensures ok { OnOk result (ReadAll self.old units.old self.new) }
+        ensures err { IfErr result (Stops self.old units.old) }
+    {
+        while self.unit(alloc, units)? {}
+        Ok(())
+    }
+}
