@@ -71,7 +71,7 @@ module _ (h h' : Held) (chunk chunk' : List ℕ) (left left' : Option (List ℕ)
     moved = moves_on a.moved b.moved;
     pieces = λ rest. ap (pieces_behind h) (regrouped b.bytes rest) ∙ a.pieces (b.bytes ++ rest) ∙ b.pieces rest;
     start = λ rest. ap (start_behind h) (regrouped b.bytes rest) ∙ a.start (b.bytes ++ rest) ∙ b.start rest;
-    forward = omega (arith, a.forward, b.forward);
+    onward = omega (arith, a.onward, b.onward);
     fits = b.fits;
   }
 
@@ -101,7 +101,7 @@ module _ (h h' : Held) (chunk chunk' : List ℕ) (left left' : Option (List ℕ)
         (ap (start_behind h) (regrouped b.bytes rest) ∙ a.start (b.bytes ++ rest))
         (b.stood rest told);
     full = b.full;
-    forward = omega (arith, a.forward, b.forward);
+    onward = omega (arith, a.onward, b.onward);
     fits = b.fits;
   }
 

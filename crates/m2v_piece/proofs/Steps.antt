@@ -16,10 +16,10 @@ after_more Before place sure xs = omega arith
 after_more Headers place sure xs = omega (arith, length-append sure xs)
 after_more Picture place sure xs = omega (arith, length-append sure xs)
 
-after_forward : (phase : Phase) (place : ℕ) (xs : List ℕ) → place ≤ place_after phase place xs
-after_forward Before place xs = omega arith
-after_forward Headers place xs = omega arith
-after_forward Picture place xs = omega arith
+after_onward : (phase : Phase) (place : ℕ) (xs : List ℕ) → place ≤ place_after phase place xs
+after_onward Before place xs = omega arith
+after_onward Headers place xs = omega arith
+after_onward Picture place xs = omega arith
 
 pub took_zero : (h new : Held) → h.ahead ≡ 2 → Fits h → new ≡ behind h (0 ∷ []) → limit_of h (0 ∷ []) ≡ None → Took h 0 new
 took_zero h new two fits is none =
@@ -28,7 +28,7 @@ took_zero h new two fits is none =
       pieces = λ text. rw two (third_zero h.phase h.sure text);
       start = λ text. rw two (third_zero_start h.phase h.place text);
       more = omega (arith, after_more h.phase h.place h.sure (0 ∷ []));
-      forward = after_forward h.phase h.place (0 ∷ []);
+      onward = after_onward h.phase h.place (0 ∷ []);
       fits = fits_more h (0 ∷ []) fits none;
     })
 
@@ -51,7 +51,7 @@ took_other h new b le some one fits is none =
       pieces = λ text. settled h.phase h.sure h.ahead b text le some one;
       start = λ text. settled_start h.phase h.place h.ahead b text le some one;
       more = omega (arith, after_more h.phase h.place h.sure (prefix h.ahead ++ b ∷ []), length-append (prefix h.ahead) (b ∷ []), length_prefix h.ahead le);
-      forward = after_forward h.phase h.place (prefix h.ahead ++ b ∷ []);
+      onward = after_onward h.phase h.place (prefix h.ahead ++ b ∷ []);
       fits = record { limit = f.limit; none = f.none };
     })
 
@@ -78,7 +78,7 @@ took_longer h new b next fits is =
       pieces = λ text. ap (open_pieces h.phase h.sure) (sym (ap (λ (x : List ℕ). x ++ text) next ∙ append_assoc (prefix h.ahead) (b ∷ []) text));
       start = λ text. ap (open_start h.phase h.place) (sym (ap (λ (x : List ℕ). x ++ text) next ∙ append_assoc (prefix h.ahead) (b ∷ []) text));
       more = omega arith;
-      forward = omega arith;
+      onward = omega arith;
       fits = record { limit = fits.limit; none = fits.none };
     })
 
@@ -118,7 +118,7 @@ took_unit h new v three goes fits is none =
       pieces = λ text. rw three (unit_pieces h.phase h.sure v text goes);
       start = λ text. rw three (unit_start h.phase h.place v text goes);
       more = omega (arith, after_more h.phase h.place h.sure (code_of v));
-      forward = after_forward h.phase h.place (code_of v);
+      onward = after_onward h.phase h.place (code_of v);
       fits = record { limit = f.limit; none = unit_none h.phase h.sure v f.none };
     })
 
@@ -185,7 +185,7 @@ finished_here h new le fits is none =
       pieces = ends_at h.phase h.sure h.ahead le ∙ same_end h.phase h.sure (prefix h.ahead);
       start = ends_start h.phase h.place h.ahead le;
       phase = refl;
-      forward = after_forward h.phase h.place (prefix h.ahead);
+      onward = after_onward h.phase h.place (prefix h.ahead);
       fits = record { limit = f.limit; none = f.none };
     })
 
@@ -248,7 +248,7 @@ finished_none h none fits = record {
   pieces = ap (λ (n : ℕ). open_pieces h.phase h.sure (prefix n ++ [])) none ∙ ends_at h.phase h.sure 0 (omega arith) ∙ ap (λ (x : List ℕ). grouped h.phase x []) (append-nil h.sure);
   start = ap (λ (n : ℕ). open_start h.phase h.place (prefix n ++ [])) none ∙ ends_start h.phase h.place 0 (omega arith) ∙ place_none h.phase h.place;
   phase = refl;
-  forward = omega arith;
+  onward = omega arith;
   fits = fits;
 }
 

@@ -104,7 +104,7 @@ pub record Took (old : Held) (b : ℕ) (new : Held) : Type 0 where
   pub pieces : (text : List ℕ) → pieces_behind old (b ∷ text) ≡ pieces_behind new text
   pub start : (text : List ℕ) → start_behind old (b ∷ text) ≡ start_behind new text
   pub more : new.place + (length new.sure + new.ahead) ≡ suc (old.place + (length old.sure + old.ahead))
-  pub forward : old.place ≤ new.place
+  pub onward : old.place ≤ new.place
   pub fits : Fits new
 
 -- a byte isn't taken, since the next piece passes a limit with it, whatever follows it
@@ -146,7 +146,7 @@ pub record Finished (old new : Held) : Type 0 where
   pub pieces : pieces_behind old [] ≡ grouped new.phase new.sure []
   pub start : start_behind old [] ≡ new.place
   pub phase : new.phase ≡ old.phase
-  pub forward : old.place ≤ new.place
+  pub onward : old.place ≤ new.place
   pub fits : Fits new
 
 -- ---- what contracts see of a cutter

@@ -11,6 +11,6 @@ pub record IsSound (p : Piece) : Type 0 where
   pub zeros : 0 < p.length - vec_len p.bytes → (0 < length p.bytes.items) × (slice_index p.bytes.items (length p.bytes.items - 1) ≡ 0)
 
 -- a piece begins at or behind the place where the one before it ended
-abbrev pub GoesForward : Option Piece → ℕ → ℕ → Type 0
-GoesForward (Some p) before after = (before ≤ p.place) × (after ≡ p.place + p.length)
-GoesForward None before after = (before ≤ after) × (after ≤ 2 ^ 36)
+abbrev pub GoesOnward : Option Piece → ℕ → ℕ → Type 0
+GoesOnward (Some p) before after = (before ≤ p.place) × (after ≡ p.place + p.length)
+GoesOnward None before after = (before ≤ after) × (after ≤ 2 ^ 36)

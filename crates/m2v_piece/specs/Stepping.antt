@@ -71,7 +71,7 @@ IsFull Over h = Unit {0}
 pub record Reaches (h : Held) (chunk : List ℕ) (h' : Held) (chunk' : List ℕ) : Type 0 where
   pub pieces : (rest : List ℕ) → pieces_behind h (chunk ++ rest) ≡ pieces_behind h' (chunk' ++ rest)
   pub start : (rest : List ℕ) → start_behind h (chunk ++ rest) ≡ start_behind h' (chunk' ++ rest)
-  pub forward : h.place ≤ h'.place
+  pub onward : h.place ≤ h'.place
   pub fits : Fits h'
   pub less : measure_of h' < measure_of h
 
@@ -86,7 +86,7 @@ pub record Advanced (h : Held) (chunk : List ℕ) (left : Option (List ℕ)) (h'
   pub moved : Moves left bytes left'
   pub pieces : (rest : List ℕ) → pieces_behind h (chunk ++ (bytes ++ rest)) ≡ pieces_behind h' (chunk' ++ rest)
   pub start : (rest : List ℕ) → start_behind h (chunk ++ (bytes ++ rest)) ≡ start_behind h' (chunk' ++ rest)
-  pub forward : h.place ≤ h'.place
+  pub onward : h.place ≤ h'.place
   pub fits : Fits h'
 
 -- bytes were read and used, and they stop here
@@ -95,7 +95,7 @@ pub record Looked (stand : Stand) (h : Held) (chunk : List ℕ) (left : Option (
   pub moved : Moves left bytes left'
   pub stood : (rest : List ℕ) → left' ≡ Some rest → Stood stand h (chunk ++ (bytes ++ rest)) h' chunk' rest
   pub full : IsFull stand h'
-  pub forward : h.place ≤ h'.place
+  pub onward : h.place ≤ h'.place
   pub fits : Fits h'
 
 -- why they stop without a piece: the source failed, memory ran out, or the next piece passes a limit

@@ -1,7 +1,7 @@
 ghost use Rattle.std.specs.Prelude.{◌≡◌, ℕ, ◌+◌, ◌≤◌, ◌<◌, ◌^◌, ◌++◌, List, [], length, IfOk, IfSome, IfErr, OnOk, IsErrOf, Ok, Err, Some, None, true, false};
 ghost use Rattle.m2v_port.specs.Port.{Rose};
 ghost use Rattle.m2v_piece.specs.Cutting.{Fits, Stops, pieces_behind, start_behind};
-ghost use Rattle.m2v_piece.specs.Sound.{IsSound, GoesForward};
+ghost use Rattle.m2v_piece.specs.Sound.{IsSound, GoesOnward};
 ghost use Rattle.m2v_piece.specs.Stepping.{Turned, Rounded, Looked, Fails, Handed, Stopped, LastOf};
 
 use crate::chunk::Chunk;
@@ -162,11 +162,11 @@ impl Cutter {
         ensures failed { IsErrOf result DecodeError.Read → Rose (S.faults input.old) (S.faults input.new) }
         ensures faults { S.faults input.old ≤ S.faults input.new }
         ensures sound { IfOk result (λ piece. IfSome piece IsSound) }
-        ensures forward { IfOk result (λ piece. GoesForward piece self.old.place self.new.place) }
+        ensures onward { IfOk result (λ piece. GoesOnward piece self.old.place self.new.place) }
         ensures most { self.old.place ≤ 2 ^ 36 }
     {
         // places are bounded
-        let _place = self.hand.place();
+        let _place = self.place();
         if self.ended {
             return Ok(None);
         }
@@ -193,12 +193,20 @@ impl Cutter {
         }
     }
 
+    /// The place of what was read and neither handed out nor passed over before the first piece.
+    pub fn place(&self) -> u64
+        ensures value { result ≡ self.now.place }
+        ensures most { result ≤ 2 ^ 36 }
+    {
+        self.hand.place()
+    }
+
     /// The place where the last piece ends, or the input's length where there was no piece; once `next_piece` answered
     /// that none is left.
     pub fn end(&self) -> u64
         requires { self.now.ended ≡ true }
         ensures { result ≡ self.now.place }
     {
-        self.hand.place()
+        self.place()
     }
 }

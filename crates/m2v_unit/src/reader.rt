@@ -1,9 +1,9 @@
-ghost use Rattle.std.specs.Prelude.{◌≡◌, ℕ, ◌+◌, ◌*◌, ◌^◌, ◌<◌, ◌≤◌, length, drop, IfSome};
+ghost use Rattle.std.specs.Prelude.{◌≡◌, ◌+◌, ◌*◌, ◌^◌, ◌<◌, ◌≤◌, length, IfSome};
 ghost use Rattle.m2v_model.specs.Units.{Next, AreUnits, unit_bits};
 ghost use Rattle.m2v_unit.specs.Texts.{text_of, units_in, IsZeroEnded};
 
 use crate::Unit;
-use crate::search::next_unit;
+use crate::search::{bytes_from, next_unit};
 use std::marker::Model;
 
 /// The units of a piece that are left, one after another.
@@ -23,14 +23,6 @@ impl<'a> Model for UnitReader<'a> {
     ghost view = { λ r. units_in (text_of r.bytes.now r.zeros) };
 
     ghost invariant = { λ r. (length r.bytes.now + r.zeros ≤ 2 ^ 36) × IsZeroEnded r.bytes.now r.zeros × BeginsUnit r.bytes.now r.zeros };
-}
-
-/// The bytes from a place on.
-fn bytes_from(bytes: &[u8], place: usize) -> &[u8]
-    requires { place ≤ length bytes.now }
-    ensures { result.now ≡ drop place bytes.now }
-{
-    bytes.split_at(place).1
 }
 
 impl<'a> UnitReader<'a> {

@@ -1,4 +1,4 @@
-ghost use Rattle.std.specs.Prelude.{◌≤◌, length};
+ghost use Rattle.std.specs.Prelude.{◌≡◌, ◌≤◌, length, drop};
 ghost use Rattle.m2v_unit.specs.Texts.{IsNextUnit};
 
 use m2v_bits::next_start_code;
@@ -19,4 +19,12 @@ pub fn next_unit(bytes: &[u8], from: usize) -> usize
         }
         None => bytes.len(),
     }
+}
+
+/// The bytes from a place on.
+pub fn bytes_from(bytes: &[u8], place: usize) -> &[u8]
+    requires { place ≤ length bytes.now }
+    ensures { result.now ≡ drop place bytes.now }
+{
+    bytes.split_at(place).1
 }

@@ -1,8 +1,9 @@
-ghost use Rattle.std.specs.Prelude.{◌≡◌, ◌+◌, ◌*◌, ◌≤◌, ◌<◌, ◌^◌, length, drop};
+ghost use Rattle.std.specs.Prelude.{◌≡◌, ◌+◌, ◌*◌, ◌≤◌, ◌<◌, ◌^◌, length};
 ghost use Rattle.m2v_model.specs.Units.{body};
 ghost use Rattle.m2v_model.specs.Streams.{value_of};
 ghost use Rattle.m2v_unit.specs.Texts.{text_of};
 
+use crate::search::bytes_from;
 use m2v_bits::BitReader;
 use std::marker::Model;
 
@@ -25,17 +26,9 @@ impl<'a> Model for Unit<'a> {
     ghost invariant = { λ u. (4 ≤ length u.bytes.now) × (length u.bytes.now + u.zeros ≤ 2 ^ 36) };
 }
 
-/// The bytes behind a start code.
-fn behind_code(bytes: &[u8]) -> &[u8]
-    requires { 4 ≤ length bytes.now }
-    ensures { result.now ≡ drop 4 bytes.now }
-{
-    bytes.split_at(4).1
-}
-
 impl<'a> Unit<'a> {
     /// A unit of these bytes and of so many zero bytes.
-    pub fn new(bytes: &'a [u8], zeros: u64) -> Unit<'a>
+    pub(crate) fn new(bytes: &'a [u8], zeros: u64) -> Unit<'a>
         requires code { 4 ≤ length bytes.now }
         requires most { length bytes.now + zeros ≤ 2 ^ 36 }
         ensures { result ≡ text_of bytes.now zeros }
@@ -56,7 +49,7 @@ impl<'a> Unit<'a> {
         ensures text { result.text ≡ body self.now }
         ensures short { length result.text < 2 ^ 40 }
     {
-        BitReader::with_zeros(behind_code(self.bytes), 8 * self.zeros)
+        BitReader::with_zeros(bytes_from(self.bytes, 4), 8 * self.zeros)
     }
 
     /// How many bits it has.

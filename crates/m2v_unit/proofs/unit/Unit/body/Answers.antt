@@ -10,7 +10,7 @@ returns-clause-rest c =
     let bytes = c.self.inside.bytes.now in
     let zeros = c.self.inside.zeros in
     ap (λ (r : Unread). r.rest) c.with_zeros.ensures
-    ∙ ap (λ (b : List ℕ). padded (bits b) (8 * zeros)) c.behind_code.ensures
+    ∙ ap (λ (b : List ℕ). padded (bits b) (8 * zeros)) c.bytes_from.ensures
     ∙ body_is bytes zeros c.self.invariant.0
     ∙ ap body c.self.view_is
 
