@@ -83,14 +83,6 @@ pub record HandsOut (old : Decoding) (frame : Samples) (new : Decoding) : Type 0
   pub pictures : new.pictures ≡ old.pictures
   pub shown : new.shown ≡ old.shown + 1
 
--- a piece as a cutter hands it out: its bytes, of the zero bytes that end it the first ones, its place and its length
-pub record IsSound (p : Piece) : Type 0 where
-  pub kept : vec_len p.bytes ≤ p.length
-  pub end : p.place + p.length ≤ 68719476736
-  pub some : 1 ≤ p.length
-  pub most : vec_len p.bytes ≤ 2097216
-  pub zeros : vec_len p.bytes < p.length → (0 < vec_len p.bytes) × (slice_index p.bytes.items (vec_len p.bytes - 1) ≡ 0)
-
 -- the whole piece
 abbrev pub whole_of : Piece → List ℕ
 whole_of p = p.bytes.items ++ replicate (p.length - vec_len p.bytes) 0

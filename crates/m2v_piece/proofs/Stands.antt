@@ -6,7 +6,7 @@ use Rattle.m2v_piece.specs.declared.answer.Piece.{Piece}
 use Rattle.m2v_piece.specs.declared.answer.DecodeError.{DecodeError}
 use Rattle.m2v_piece.specs.declared.answer.DecodeError.TheVariants as errors
 use Rattle.m2v_piece.specs.Reads.{Refilled}
-use Rattle.m2v_piece.specs.Cutting.{Held, Fits, open_pieces, open_start, pieces_behind, start_behind, Stops, AtPiece, phase_for, is_begun, prefix, Cutting, IsPiece}
+use Rattle.m2v_piece.specs.Cutting.{Held, Fits, open_pieces, open_start, pieces_behind, start_behind, Stops, IsReading, AtPiece, phase_for, is_begun, prefix, Cutting, IsPiece}
 use Rattle.m2v_model.specs.Pieces.{limit, grouped, piece_of}
 use Rattle.m2v_port.proofs.Runs.{moves_on}
 use Rattle.m2v_piece.specs.declared.cutter.Stand.{Stand}
@@ -26,6 +26,15 @@ whole_stood h new b t w = rw (w.same, w.ahead, w.phase) (ends_piece h.sure b t w
 pub last_stood : (h new : Held) (b : ℕ) (t : List ℕ) → IsLast h b new → (pieces_behind h (b ∷ t) ≡ new.sure ∷ []) × (start_behind h (b ∷ t) ≡ new.place)
 unfolding open_start
 last_stood h new b t l = rw (l.value) (l.ends.pieces t, rw (l.ahead, l.phase) (sym l.ends.place))
+
+-- why a byte isn't taken is an error of a cutter
+pub reading_stops : (start : ℕ) (pieces : List (List ℕ)) (e : DecodeError) → Stops start pieces e → IsReading e
+reading_stops start pieces errors.Read why = tt
+reading_stops start pieces errors.Memory why = tt
+reading_stops start pieces errors.TooLong why = tt
+reading_stops start pieces errors.PictureTooLarge why = tt
+reading_stops start pieces errors.Write why = why
+reading_stops start pieces (errors.Stream f) why = why
 
 -- ---- with the bytes that are read
 

@@ -182,3 +182,12 @@ is_begun Picture = true
 pub record AtPiece (h : Held) : Type 0 where
   pub sure : h.sure ≡ []
   pub phase : h.phase ≡ phase_for (is_begun h.phase)
+
+-- the errors of a cutter: it never writes, and reads no element
+abbrev pub IsReading : DecodeError → Type 0
+IsReading errors.Read = Unit {0}
+IsReading errors.Write = ⊥
+IsReading (errors.Stream f) = ⊥
+IsReading errors.TooLong = Unit {0}
+IsReading errors.PictureTooLarge = Unit {0}
+IsReading errors.Memory = Unit {0}

@@ -1,6 +1,6 @@
-ghost use Rattle.std.specs.Prelude.{◌≡◌, ℕ, ◌+◌, ◌≤◌, ◌<◌, ◌^◌, ◌++◌, List, [], length, IfOk, IfSome, IfErr, OnOk, IsErrOf, Ok, Err, Some, None, true, false};
+ghost use Rattle.std.specs.Prelude.{◌≡◌, ℕ, ◌+◌, ◌≤◌, ◌<◌, ◌^◌, ◌++◌, List, [], length, IfOk, IfSome, IfErr, OnOk, IsErrOf, Ok, Err, Some, None, true, false, IfNone};
 ghost use Rattle.m2v_port.specs.Port.{Rose};
-ghost use Rattle.m2v_piece.specs.Cutting.{Fits, Stops, pieces_behind, start_behind};
+ghost use Rattle.m2v_piece.specs.Cutting.{Fits, Stops, IsReading, pieces_behind, start_behind};
 ghost use Rattle.m2v_piece.specs.Sound.{IsSound, GoesOnward};
 ghost use Rattle.m2v_piece.specs.Stepping.{Turned, Rounded, Looked, Fails, Handed, Stopped, LastOf};
 
@@ -8,6 +8,7 @@ use crate::chunk::Chunk;
 use crate::hand::Hand;
 use crate::taking::{Byte, take};
 use crate::{DecodeError, Memory, Piece};
+use m2v_model::Phase;
 use m2v_port::Source;
 use std::alloc::Global;
 use std::marker::Model;
@@ -29,6 +30,7 @@ fn turn(hand: &mut Hand, chunk: &mut Chunk) -> Result<Option<Stand>, DecodeError
     requires fits { Fits hand.old }
     ensures ok { IfOk result (λ stand. Turned stand hand.old chunk.old hand.new chunk.new) }
     ensures err { IfErr result (λ e. (rest : List ℕ) → Stops (start_behind hand.old (chunk.old ++ rest)) (pieces_behind hand.old (chunk.old ++ rest)) e) }
+    ensures kind { IfErr result IsReading }
 {
     let b = chunk.first();
     let _held = hand.ahead();
@@ -60,6 +62,7 @@ fn round<S: Source>(
     requires fits { Fits hand.old }
     ensures ok { IfOk result (λ stand. Rounded stand hand.old chunk.old (S.left input.old) hand.new chunk.new (S.left input.new)) }
     ensures err { IfErr result (Fails hand.old chunk.old (S.left input.old) (S.left input.new)) }
+    ensures kind { IfErr result IsReading }
     ensures failed { IsErrOf result DecodeError.Read → Rose (S.faults input.old) (S.faults input.new) }
     ensures faults { S.faults input.old ≤ S.faults input.new }
 {
@@ -82,6 +85,7 @@ fn look_on<S: Source>(
     requires fits { Fits hand.old }
     ensures ok { IfOk result (λ stand. Looked stand hand.old chunk.old (S.left input.old) hand.new chunk.new (S.left input.new)) }
     ensures err { IfErr result (Fails hand.old chunk.old (S.left input.old) (S.left input.new)) }
+    ensures kind { IfErr result IsReading }
     ensures failed { IsErrOf result DecodeError.Read → Rose (S.faults input.old) (S.faults input.new) }
     ensures faults { S.faults input.old ≤ S.faults input.new }
 {
@@ -100,6 +104,7 @@ fn last(hand: &mut Hand, alloc: Global) -> Result<Option<Piece>, Memory>
     ensures last { IfOk result (λ piece. LastOf piece hand.old hand.new) }
     ensures sound { IfOk result (λ piece. IfSome piece IsSound) }
     ensures most { OnOk result (hand.new.place ≤ 2 ^ 36) }
+    ensures begun { IfOk result (λ piece. IfSome piece (λ p. hand.new.phase ≡ Phase.Headers)) }
 {
     let _place = hand.place();
     if hand.is_empty() {
@@ -159,10 +164,13 @@ impl Cutter {
         ensures ok { IfOk result (Handed self.old (S.left input.old) self.new (S.left input.new)) }
         ensures going { OnOk result (self.new.failed ≡ false) }
         ensures err { IfErr result (Stopped self.old (S.left input.old) (S.left input.new)) }
+        ensures kind { IfErr result IsReading }
         ensures failed { IsErrOf result DecodeError.Read → Rose (S.faults input.old) (S.faults input.new) }
         ensures faults { S.faults input.old ≤ S.faults input.new }
         ensures sound { IfOk result (λ piece. IfSome piece IsSound) }
         ensures onward { IfOk result (λ piece. GoesOnward piece self.old.place self.new.place) }
+        ensures begun { IfOk result (λ piece. IfSome piece (λ p. self.new.begun ≡ true)) }
+        ensures over { IfOk result (λ piece. IfNone piece (self.new.ended ≡ true)) }
         ensures most { self.old.place ≤ 2 ^ 36 }
     {
         // places are bounded
