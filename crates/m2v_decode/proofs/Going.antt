@@ -21,10 +21,11 @@ use Rattle.m2v_piece.specs.declared.answer.Piece.{Piece}
 use Rattle.m2v_piece.specs.declared.answer.Fault.{Fault}
 use Rattle.m2v_piece.specs.declared.answer.DecodeError.{DecodeError}
 use Rattle.m2v_piece.specs.declared.answer.DecodeError.TheVariants as errors
-use Rattle.m2v_piece.specs.Cutting.{Cutting, left_of, IsPiece, Stops, open_start, open_pieces}
+use Rattle.m2v_piece.specs.Cutting.{Cutting, left_of, IsPiece, IsReading, Stops, open_start, open_pieces}
+use Rattle.m2v_piece.proofs.WholeLaws.{whole_is}
 use Rattle.m2v_piece.specs.Cutting.{start_of as start_of_rest}
 use Rattle.m2v_piece.specs.Stepping.{Handed, Stopped, NextPiece, Why}
-use Rattle.m2v_decoder.specs.Decoding.{Decoding, at_start, due_of, Agrees, Shows, Advanced, Refuses, Finished, IsSound, whole_of}
+use Rattle.m2v_decoder.specs.Decoding.{Decoding, at_start, due_of, Agrees, Shows, Advanced, Refuses, Finished, whole_of}
 use Rattle.m2v_decode.specs.declared.answer.Decoded.{Decoded}
 use Rattle.m2v_decode.specs.Answers.{Change, start_of, AllFit, Begun, behind, HasFault, due_before, shown_by, IsDecoded, IsFaulty, IsOver, IsCut, Of, Fails}
 use Rattle.m2v_decode.specs.Progress.{raw_of, before_all, Cuts, HasPut, Reached, Progress, IsDone, Ends, EndFails}
@@ -98,9 +99,6 @@ reached_more text start whole others frames d m n r none fits a put =
           (shows_on low None d.anchor m.anchor [] frames (frames ++ m.ready) r.pictures a.pictures (r.shows low (a.first low agree_m)) (shows_behind low d.anchor m.anchor frames m.ready a.pictures second)));
       counted = omega (arith, put.pictures, a.counted, r.counted, length-append r.pictures a.pictures);
     }
-
-whole_is : (p : Piece) (place : ℕ) (whole : List ℕ) → IsPiece p place whole → whole_of p ≡ whole
-whole_is p place whole h = ?
 
 -- what a cutter that handed a piece out says of it, where the source tells its bytes
 pub record Gave (c : Cutting) (bytes rest : List ℕ) (c' : Cutting) (p : Piece) : Type 0 where
@@ -234,15 +232,6 @@ over_text l0 l1 l2 h0 h1 c d bytes e so moved why = record {
       subst (λ (t : List ℕ). IsOver t (record { old = h0; new = h1 }) e) (sym (append_assoc so.bytes bytes rest))
       (over_at _ _ _ so.frames d h0 h1 e (so.told (bytes ++ rest) (moved_some l1 l2 bytes rest moved q)) so.grown (why rest q));
 }
-
--- the errors of a cutter
-abbrev pub IsReading : DecodeError → Type 0
-IsReading errors.Read = Unit {0}
-IsReading errors.Write = ⊥
-IsReading (errors.Stream f) = ⊥
-IsReading errors.TooLong = Unit {0}
-IsReading errors.PictureTooLarge = Unit {0}
-IsReading errors.Memory = Unit {0}
 
 -- the cutter gave no piece
 pub cutter_stopped : (InputRose OutputRose : Type 0) (l0 l1 l2 h0 h1 : Option (List ℕ)) (c : Cutting) (d : Decoding) (e : DecodeError) → (e ≡ errors.Read → InputRose) → IsReading e
