@@ -1,3 +1,6 @@
 pub mod LineLaws
-pub mod RunLaws
 pub mod WordLaws
+pub mod CodingLaws
+pub mod LimitLaws
+pub mod DecodingLaws
+pub mod RunLaws

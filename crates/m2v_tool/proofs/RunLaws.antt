@@ -1,199 +1,92 @@
 -- What follows from the outcome that came and what was told of it.
-use Rattle.std.proofs.Common.{◌≡◌, ◌⊎◌, inl, inr, ℕ, suc, ◌*◌, ◌<◌, ◌≤◌, All, List, [], ◌∷◌, ◌++◌, length, Option, Some, None, IfSome, refl, sym, ap, subst, ◌∙◌, arith, length-append}
-use Rattle.std.proofs.lemmas.Bool.{cases_lt}
-use Rattle.std.proofs.Math.Nat.{suc-mul, mul-pos, mul-le-mul_right}
-use Rattle.m2v_port.specs.Port.{Moves}
-use Rattle.m2v_port.proofs.Runs.{moved_all}
-use Rattle.m2v_plane.specs.Raw.{frame_bytes, raw}
-use Rattle.m2v_set.specs.declared.unfit.Unfit.{Unfit}
-use Rattle.m2v_encode.specs.declared.answer.EncodeError.{EncodeError}
-use Rattle.m2v_encode.specs.declared.answer.EncodeError.TheVariants as Error
-use Rattle.m2v_encode.specs.declared.settings.FlatSettings.{FlatSettings}
-use Rattle.m2v_encode.specs.declared.answer.Summary.{Summary}
-use Rattle.m2v_encode.specs.Answers.{Change, Coded, Stops, most_frames, WasEmpty, EndedShort, WentOn}
+use Rattle.std.proofs.Common.{◌≡◌, ◌⊎◌, ℕ, List, length, Option, Some, None, IfSome, ap, subst}
+use Rattle.m2v_plane.specs.Raw.{frame_bytes}
+use Rattle.m2v_encode.specs.Answers.{Change}
+use Rattle.m2v_model.specs.Pieces.{Limit}
+use Rattle.m2v_model.specs.Decoding.{Decodes, FaultAt}
+use Rattle.m2v_piece.specs.declared.answer.Fault.{Fault}
 use Rattle.m2v_tool.specs.declared.words.FlatWords.{FlatWords}
+use Rattle.m2v_tool.specs.declared.words.Command.{Command}
+use Rattle.m2v_tool.specs.declared.words.Command.TheVariants.{Flat, Decode}
 use Rattle.m2v_tool.specs.declared.outcome.Outcome.{Outcome}
-use Rattle.m2v_tool.specs.declared.outcome.Outcome.TheVariants.{Done, Usage, BadSettings, ShortFrame, NoFrames, TooManyFrames, ReadFault, WriteFault, NoMemory}
-use Rattle.m2v_tool.specs.Outcomes.{outcome_of, status_of, status_unreported}
-use Rattle.m2v_tool.specs.Words.{IsFlat, NotFlat, settings_of, WordsPass, WordsFail}
-use Rattle.m2v_tool.specs.Runs.{FlatStops, Comes, Told, whole, cut, AreFrames, EndInside, Answers, unfit, ok, short, none, many, read, write, unreported, memory}
-use Rattle.m2v_encode.proofs.Passing.{in_bounds}
-use Rattle.m2v_tool.proofs.WordLaws.{one_meaning}
+use Rattle.m2v_tool.specs.Outcomes.{status_of, status_unreported}
+use Rattle.m2v_tool.specs.Reports.{Told}
+use Rattle.m2v_tool.specs.Words.{IsFlat, IsDecode, Means, NoCommand, settings_of, WordsPass}
+use Rattle.m2v_tool.specs.Coding.{FlatComes, AreFrames, Answers}
+use Rattle.m2v_tool.specs.Decoding.{DecodeComes, IsUnderLimits, IsPast, Shows, Refuses, Stopped}
+use Rattle.m2v_tool.specs.Runs.{Comes, refused, meant}
+use Rattle.m2v_tool.proofs.WordLaws.{one_meaning, not_both}
+use Rattle.m2v_tool.proofs.CodingLaws.{refusal, unfit_at, answer_at, whole_answer}
+use Rattle.m2v_tool.proofs.DecodingLaws.{shows_at, whole_shown, refuses_at, stopped_at}
 
--- ---- how many bytes an input had
+module _ (InputSame InputRose OutputSame OutputRose : Type 0) (words : List (List ℕ)) (left held : Change) (o : Outcome) where
+  -- what a command did
+  pub coded_comes : (w : FlatWords) (c : Command) → c ≡ Flat w → Means words c → FlatComes InputSame InputRose OutputSame OutputRose w left held o → Comes InputSame InputRose OutputSame OutputRose words left held o
+  coded_comes w c is means does = meant (Flat w) (subst (Means words) is means) does
 
-frames_length : (size : ℕ) (frames : List (List ℕ)) → All (λ (f : List ℕ). length f ≡ size) frames → length (raw frames) ≡ length frames * size
-frames_length size [] each = omega arith
-frames_length size (f ∷ frames) each =
-    let first : length f ≡ size = each 0 f (omega arith) in
-    let others : length (raw frames) ≡ length frames * size = frames_length size frames (λ k d lt. each (suc k) d (omega arith)) in
-    omega (arith, length-append f (raw frames), first, others, suc-mul (length frames) size)
+  pub decoded_comes : (c : Command) → c ≡ Decode → Means words c → DecodeComes InputRose OutputRose left held o → Comes InputSame InputRose OutputSame OutputRose words left held o
+  decoded_comes c is means does = meant Decode (subst (Means words) is means) does
 
-long_by : (xs bytes : List ℕ) (new : Option (List ℕ)) → Moves (Some bytes) xs new → length xs ≤ length bytes
-long_by xs bytes None m = absurd (cc (m.was))
-long_by xs bytes (Some rest) m = let e : bytes ≡ xs ++ rest = cc (m.was) in omega (arith, ap length e, length-append xs rest)
+  -- words have one meaning, so what came is what their command gives
+  flat_of : Comes InputSame InputRose OutputSame OutputRose words left held o → (w : FlatWords) → IsFlat words w → FlatComes InputSame InputRose OutputSame OutputRose w left held o
+  flat_of (refused none a b is) w means = absurd (none (Flat w) means)
+  flat_of (meant (Flat v) m does) w means = subst (λ (x : FlatWords). FlatComes InputSame InputRose OutputSame OutputRose x left held o) (one_meaning words v w m means) does
+  flat_of (meant Decode m does) w means = absurd (not_both words w means m)
 
-done_frames : (s : FlatSettings) (bytes : List ℕ) (new : Option (List ℕ)) (held : Change) (summary : Summary) → Coded s (record { old = Some bytes; new = new }) held summary → AreFrames (frame_bytes s.dims) (length bytes)
-done_frames s bytes new held summary c =
-    let all : raw c.frames ≡ bytes = moved_all c.moved c.end in
-    record { frames = length c.frames; some = c.some; most = c.most; are = ap length (sym all) ∙ frames_length (frame_bytes s.dims) c.frames c.whole }
+  decode_of : Comes InputSame InputRose OutputSame OutputRose words left held o → IsDecode words → DecodeComes InputRose OutputRose left held o
+  decode_of (refused none a b is) means = absurd (none Decode means)
+  decode_of (meant (Flat v) m does) means = absurd (not_both words v m means)
+  decode_of (meant Decode m does) means = does
 
-short_inside : (Same : Type 0) (s : FlatSettings) (bytes : List ℕ) (new : Option (List ℕ)) (held : Change) (extra : ℕ) → EndedShort Same s (record { old = Some bytes; new = new }) held extra → EndInside (frame_bytes s.dims) (length bytes)
-short_inside Same s bytes new held extra e =
-    let all : raw e.frames ++ e.part ≡ bytes = moved_all e.begun.moved e.end in
-    record {
-      frames = length e.frames;
-      extra = extra;
-      fewer = e.fewer;
-      some = e.some;
-      less = e.less;
-      are = omega (arith, ap length all, length-append (raw e.frames) e.part, frames_length (frame_bytes s.dims) e.frames e.begun.whole, e.count);
-    }
+  module _ (ReportRose : Type 0) (report : Change) (status : ℕ) where
+    pub refused_by : Comes InputSame InputRose OutputSame OutputRose words left held o → Told o status report ReportRose → NoCommand words → ((status ≡ 2) ⊎ (status ≡ 12)) × InputSame × OutputSame
+    unfolding status_of status_unreported
+    refused_by (refused none a b is) t fails = (refusal o status 2 report ReportRose t (ap status_of is) (ap status_unreported is), a, b)
+    refused_by (meant c m does) t fails = absurd (fails c m)
 
-none_empty : (Same : Type 0) (bytes : List ℕ) (new : Option (List ℕ)) → WasEmpty Same (record { old = Some bytes; new = new }) → length bytes ≡ 0
-none_empty Same bytes new e = let all : [] ≡ bytes = moved_all e.moved e.end in ap length (sym all)
+    pub unfit_by : Comes InputSame InputRose OutputSame OutputRose words left held o → Told o status report ReportRose → (w : FlatWords) → IsFlat words w → (WordsPass w → ⊥) → ((status ≡ 3) ⊎ (status ≡ 12)) × InputSame × OutputSame
+    unfit_by c t w means fails = unfit_at InputSame InputRose OutputSame OutputRose ReportRose w left held report status o (flat_of c w means) t fails
 
-many_long : (Same : Type 0) (s : FlatSettings) (bytes : List ℕ) (new : Option (List ℕ)) (held : Change) → WentOn Same s (record { old = Some bytes; new = new }) held → most_frames * frame_bytes s.dims < length bytes
-many_long Same s bytes new held e =
-    let size = frame_bytes s.dims in
-    let long = long_by (raw e.frames ++ e.next ∷ []) bytes new e.begun.moved in
-    let total : length (raw e.frames) ≡ most_frames * size = frames_length size e.frames e.begun.whole ∙ ap (λ (n : ℕ). n * size) e.all in
-    omega (arith, long, total, length-append (raw e.frames) (e.next ∷ []))
+module _ (InputSame InputRose OutputSame OutputRose ReportRose : Type 0) (words : List (List ℕ)) (new : Option (List ℕ)) (held report : Change) (status : ℕ) (o : Outcome) where
+  -- where the input tells its bytes
+  answer_for : (bytes : List ℕ) → Comes InputSame InputRose OutputSame OutputRose words (record { old = Some bytes; new = new }) held o → Told o status report ReportRose → (w : FlatWords) → IsFlat words w → Answers InputRose OutputRose ReportRose w (length bytes) status
+  answer_for bytes c t w means =
+      answer_at InputSame InputRose OutputSame OutputRose ReportRose w bytes new held report status o (flat_of InputSame InputRose OutputSame OutputRose words (record { old = Some bytes; new = new }) held o c w means) t
 
--- ---- an input is of one kind
+  decode_for : (bytes : List ℕ) → Comes InputSame InputRose OutputSame OutputRose words (record { old = Some bytes; new = new }) held o → IsDecode words → DecodeComes InputRose OutputRose (record { old = Some bytes; new = new }) held o
+  decode_for bytes c means = decode_of InputSame InputRose OutputSame OutputRose words (record { old = Some bytes; new = new }) held o c means
 
-some_bytes : (w : FlatWords) → WordsPass w → 0 < frame_bytes (settings_of w).dims
-some_bytes w passes =
-    let bounds = in_bounds w.width w.height w.rate_code w.quantiser passes in
-    let some : 0 < w.width * w.height = mul-pos (omega (arith, bounds.width_least)) (omega (arith, bounds.height_least)) in
-    omega arith
+  shows_for : (text : List ℕ) → Comes InputSame InputRose OutputSame OutputRose words (record { old = Some text; new = new }) held o → Told o status report ReportRose → IsDecode words → (frames : List (List ℕ)) (d : Decodes text frames) → Shows InputRose OutputRose ReportRose held report d status
+  shows_for text c t means frames d = shows_at InputRose OutputRose ReportRose text new held report status frames d o (decode_for text c means) t
 
-not_inside : (size bytes : ℕ) → AreFrames size bytes → EndInside size bytes → ⊥
-not_inside size bytes a b = elim (cases_lt b.frames a.frames) [
-  | inl fewer ↦
-      let next : suc b.frames ≤ a.frames = omega arith in
-      omega (arith, a.are, b.are, b.less, mul-le-mul_right size next, suc-mul b.frames size)
-  | inr more ↦ omega (arith, a.are, b.are, b.some, mul-le-mul_right size more)
-]
-
-not_empty : (size bytes : ℕ) → 0 < size → AreFrames size bytes → bytes ≡ 0 → ⊥
-not_empty size bytes some a is =
-    let least : 0 < a.frames * size = mul-pos (omega (arith, a.some)) some in
-    omega (arith, a.are, is)
-
-not_many : (size bytes : ℕ) → AreFrames size bytes → most_frames * size < bytes → ⊥
-not_many size bytes a more = omega (arith, a.are, mul-le-mul_right size a.most)
-
--- ---- where the encoder stopped
-
-pub comes_of : (InputSame InputRose OutputSame OutputRose : Type 0) (words : List (List ℕ)) (left held : Change) (e : EncodeError)
-    → FlatStops InputRose OutputSame OutputRose words left held e → Comes InputSame InputRose OutputSame OutputRose words left held (outcome_of e)
-unfolding Comes outcome_of
-comes_of IS IR OS OR words left held Error.Read h = h
-comes_of IS IR OS OR words left held Error.Write h = h
-comes_of IS IR OS OR words left held (Error.ShortFrame extra) h = h
-comes_of IS IR OS OR words left held Error.NoFrames h = h
-comes_of IS IR OS OR words left held Error.TooManyFrames h = h
-comes_of IS IR OS OR words left held Error.Memory h = h
-
--- ---- what was told
-
--- the status of a refusal, whether its line was put or not
-refusal : (o : Outcome) (status n : ℕ) (report : Change) (Rose : Type 0) → Told o status report Rose → status_of o ≡ n → status_unreported o ≡ n → (status ≡ n) ⊎ (status ≡ 12)
-refusal o status n report Rose (whole is g) a b = inl (is ∙ a)
-refusal o status n report Rose (cut (inl is) g) a b = inr is
-refusal o status n report Rose (cut (inr is) g) a b = inl (is.1 ∙ b)
-
-module _ (InputSame InputRose OutputSame OutputRose ReportRose : Type 0) (words : List (List ℕ)) where
-  pub refused_by : (left held report : Change) (status : ℕ) (o : Outcome) → Comes InputSame InputRose OutputSame OutputRose words left held o → Told o status report ReportRose
-      → NotFlat words → ((status ≡ 2) ⊎ (status ≡ 12)) × InputSame × OutputSame
-  unfolding Comes status_of status_unreported
-  refused_by left held report status (Done s) c t not = absurd (not c.0 c.1)
-  refused_by left held report status Usage c t not = (refusal Usage status 2 report ReportRose t refl refl, c.1, c.2)
-  refused_by left held report status (BadSettings u) c t not = absurd (not c.0 c.1)
-  refused_by left held report status (ShortFrame x) c t not = absurd (not c.meant c.words_are)
-  refused_by left held report status NoFrames c t not = absurd (not c.meant c.words_are)
-  refused_by left held report status TooManyFrames c t not = absurd (not c.meant c.words_are)
-  refused_by left held report status ReadFault c t not = absurd (not c.meant c.words_are)
-  refused_by left held report status WriteFault c t not = absurd (not c.meant c.words_are)
-  refused_by left held report status NoMemory c t not = absurd (not c.meant c.words_are)
-
-  passes_too : (v w : FlatWords) → IsFlat words v → IsFlat words w → WordsPass v → WordsPass w
-  passes_too v w a b passes = subst WordsPass (one_meaning words v w a b) passes
-
-  pub unfit_by : (left held report : Change) (status : ℕ) (o : Outcome) → Comes InputSame InputRose OutputSame OutputRose words left held o → Told o status report ReportRose
-      → (w : FlatWords) → IsFlat words w → (WordsPass w → ⊥) → ((status ≡ 3) ⊎ (status ≡ 12)) × InputSame × OutputSame
-  unfolding Comes status_of status_unreported
-  unfit_by left held report status (Done s) c t w is fails = absurd (fails (passes_too c.0 w c.1 is c.2))
-  unfit_by left held report status Usage c t w is fails = absurd (c.0 w is)
-  unfit_by left held report status (BadSettings u) c t w is fails = (refusal (BadSettings u) status 3 report ReportRose t refl refl, c.3, c.4)
-  unfit_by left held report status (ShortFrame x) c t w is fails = absurd (fails (passes_too c.meant w c.words_are is c.passes))
-  unfit_by left held report status NoFrames c t w is fails = absurd (fails (passes_too c.meant w c.words_are is c.passes))
-  unfit_by left held report status TooManyFrames c t w is fails = absurd (fails (passes_too c.meant w c.words_are is c.passes))
-  unfit_by left held report status ReadFault c t w is fails = absurd (fails (passes_too c.meant w c.words_are is c.passes))
-  unfit_by left held report status WriteFault c t w is fails = absurd (fails (passes_too c.meant w c.words_are is c.passes))
-  unfit_by left held report status NoMemory c t w is fails = absurd (fails (passes_too c.meant w c.words_are is c.passes))
-
-  -- a refusal's answer, or memory
-  either : (w : FlatWords) (bytes status n : ℕ) → (status ≡ n) ⊎ (status ≡ 12) → (status ≡ n → Answers InputRose OutputRose ReportRose w bytes status) → Answers InputRose OutputRose ReportRose w bytes status
-  either w bytes status n (inl is) f = f is
-  either w bytes status n (inr is) f = memory is
-
-  done_answer : (w : FlatWords) (bytes : ℕ) (report : Change) (status : ℕ) (s : Summary) → WordsPass w → AreFrames (frame_bytes (settings_of w).dims) bytes → Told (Done s) status report ReportRose → Answers InputRose OutputRose ReportRose w bytes status
-  unfolding status_of status_unreported
-  done_answer w bytes report status s passes frames (whole is g) = ok passes frames is
-  done_answer w bytes report status s passes frames (cut (inl is) g) = memory is
-  done_answer w bytes report status s passes frames (cut (inr is) g) = unreported passes frames is.0 is.1
-
-  fails_then : (w : FlatWords) (u : Unfit) → WordsFail w u → WordsPass w → ⊥
-  fails_then w u fails passes = cc (sym passes ∙ fails)
-
-  -- the answer by the words that were meant
-  answer_at : (bytes : List ℕ) (new : Option (List ℕ)) (held report : Change) (status : ℕ) (o : Outcome) → Comes InputSame InputRose OutputSame OutputRose words (record { old = Some bytes; new = new }) held o → Told o status report ReportRose
-      → (NotFlat words) ⊎ ((w : FlatWords) × IsFlat words w × Answers InputRose OutputRose ReportRose w (length bytes) status)
-  unfolding Comes Stops status_of status_unreported
-  answer_at bytes new held report status (Done s) c t = inr (c.0, c.1, done_answer c.0 (length bytes) report status s c.2 (done_frames (settings_of c.0) bytes new held s c.3) t)
-  answer_at bytes new held report status Usage c t = inl c.0
-  answer_at bytes new held report status (BadSettings u) c t =
-      inr (c.0, c.1, either c.0 (length bytes) status 3 (refusal (BadSettings u) status 3 report ReportRose t refl refl) (λ is. unfit (fails_then c.0 u c.2) is))
-  answer_at bytes new held report status (ShortFrame x) c t =
-      inr (c.meant, c.words_are, either c.meant (length bytes) status 4 (refusal (ShortFrame x) status 4 report ReportRose t refl refl) (λ is. short c.passes (short_inside OutputSame (settings_of c.meant) bytes new held x c.stops) is))
-  answer_at bytes new held report status NoFrames c t =
-      inr (c.meant, c.words_are, either c.meant (length bytes) status 5 (refusal NoFrames status 5 report ReportRose t refl refl) (λ is. none c.passes (none_empty OutputSame bytes new c.stops) is))
-  answer_at bytes new held report status TooManyFrames c t =
-      inr (c.meant, c.words_are, either c.meant (length bytes) status 6 (refusal TooManyFrames status 6 report ReportRose t refl refl) (λ is. many c.passes (many_long OutputSame (settings_of c.meant) bytes new held c.stops) is))
-  answer_at bytes new held report status ReadFault c t =
-      inr (c.meant, c.words_are, either c.meant (length bytes) status 7 (refusal ReadFault status 7 report ReportRose t refl refl) (λ is. read c.passes c.stops.0 is))
-  answer_at bytes new held report status WriteFault c t =
-      inr (c.meant, c.words_are, either c.meant (length bytes) status 8 (refusal WriteFault status 8 report ReportRose t refl refl) (λ is. write c.passes c.stops.0 is))
-  answer_at bytes new held report status NoMemory c t =
-      inr (c.meant, c.words_are, either c.meant (length bytes) status 12 (refusal NoMemory status 12 report ReportRose t refl refl) (λ is. memory is))
-
-  answer_for : (bytes : List ℕ) (status : ℕ) → (NotFlat words) ⊎ ((w : FlatWords) × IsFlat words w × Answers InputRose OutputRose ReportRose w (length bytes) status)
-      → (w : FlatWords) → IsFlat words w → Answers InputRose OutputRose ReportRose w (length bytes) status
-  answer_for bytes status (inl not) w is = absurd (not w is)
-  answer_for bytes status (inr h) w is = subst (λ (m : FlatWords). Answers InputRose OutputRose ReportRose m (length bytes) status) (one_meaning words h.0 w h.1 is) h.2
-
-  pub answered_by : (old new : Option (List ℕ)) (held report : Change) (status : ℕ) (o : Outcome) → Comes InputSame InputRose OutputSame OutputRose words (record { old = old; new = new }) held o → Told o status report ReportRose
+  pub answered_by : (old : Option (List ℕ)) → Comes InputSame InputRose OutputSame OutputRose words (record { old = old; new = new }) held o → Told o status report ReportRose
       → IfSome old (λ bytes. (w : FlatWords) → IsFlat words w → Answers InputRose OutputRose ReportRose w (length bytes) status)
-  answered_by None new held report status o c t = tt
-  answered_by (Some bytes) new held report status o c t = answer_for bytes status (answer_at bytes new held report status o c t)
+  answered_by None c t = tt
+  answered_by (Some bytes) c t = answer_for bytes c t
 
-  -- whole frames leave no other answer
-  whole_answer : (w : FlatWords) (bytes status : ℕ) → WordsPass w → AreFrames (frame_bytes (settings_of w).dims) bytes → (InputRose → ⊥) → (OutputRose → ⊥) → (ReportRose → ⊥)
-      → Answers InputRose OutputRose ReportRose w bytes status → (status ≡ 0) ⊎ (status ≡ 12)
-  whole_answer w bytes status passes frames i o r (unfit fails is) = absurd (fails passes)
-  whole_answer w bytes status passes frames i o r (ok p f is) = inl is
-  whole_answer w bytes status passes frames i o r (short p f is) = absurd (not_inside (frame_bytes (settings_of w).dims) bytes frames f)
-  whole_answer w bytes status passes frames i o r (none p f is) = absurd (not_empty (frame_bytes (settings_of w).dims) bytes (some_bytes w passes) frames f)
-  whole_answer w bytes status passes frames i o r (many p f is) = absurd (not_many (frame_bytes (settings_of w).dims) bytes frames f)
-  whole_answer w bytes status passes frames i o r (read p f is) = absurd (i f)
-  whole_answer w bytes status passes frames i o r (write p f is) = absurd (o f)
-  whole_answer w bytes status passes frames i o r (unreported p f g is) = absurd (r g)
-  whole_answer w bytes status passes frames i o r (memory is) = inr is
-
-  pub completed_by : (old new : Option (List ℕ)) (held report : Change) (status : ℕ) (o : Outcome) → Comes InputSame InputRose OutputSame OutputRose words (record { old = old; new = new }) held o → Told o status report ReportRose
+  pub completed_by : (old : Option (List ℕ)) → Comes InputSame InputRose OutputSame OutputRose words (record { old = old; new = new }) held o → Told o status report ReportRose
       → IfSome old (λ bytes. (w : FlatWords) → IsFlat words w → WordsPass w → AreFrames (frame_bytes (settings_of w).dims) (length bytes) → (InputRose → ⊥) → (OutputRose → ⊥) → (ReportRose → ⊥) → (status ≡ 0) ⊎ (status ≡ 12))
-  completed_by None new held report status o c t = tt
-  completed_by (Some bytes) new held report status o c t =
-      λ w is passes frames i p r. whole_answer w (length bytes) status passes frames i p r (answer_for bytes status (answer_at bytes new held report status o c t) w is)
+  completed_by None c t = tt
+  completed_by (Some bytes) c t =
+      λ w means passes frames i p r. whole_answer InputSame InputRose OutputSame OutputRose ReportRose w (length bytes) status passes frames i p r (answer_for bytes c t w means)
+
+  pub shown_by : (old : Option (List ℕ)) → Comes InputSame InputRose OutputSame OutputRose words (record { old = old; new = new }) held o → Told o status report ReportRose
+      → IfSome old (λ text. IsDecode words → (frames : List (List ℕ)) (d : Decodes text frames) → Shows InputRose OutputRose ReportRose held report d status)
+  shown_by None c t = tt
+  shown_by (Some text) c t = shows_for text c t
+
+  pub faulty_by : (old : Option (List ℕ)) → Comes InputSame InputRose OutputSame OutputRose words (record { old = old; new = new }) held o → Told o status report ReportRose
+      → IfSome old (λ text. IsDecode words → (f : Fault) → FaultAt text f.place f.kind → Refuses InputRose OutputRose ReportRose held report text f status)
+  faulty_by None c t = tt
+  faulty_by (Some text) c t = λ means f fault. refuses_at InputRose OutputRose ReportRose text new held report status f o fault (decode_for text c means) t
+
+  pub stopped_by : (old : Option (List ℕ)) → Comes InputSame InputRose OutputSame OutputRose words (record { old = old; new = new }) held o → Told o status report ReportRose
+      → IfSome old (λ text. IsDecode words → (l : Limit) → IsPast text l → Stopped InputRose OutputRose l status)
+  stopped_by None c t = tt
+  stopped_by (Some text) c t = λ means l past. stopped_at InputRose OutputRose ReportRose text new held report status l past o (decode_for text c means) t
+
+  pub decoded_by : (old : Option (List ℕ)) → Comes InputSame InputRose OutputSame OutputRose words (record { old = old; new = new }) held o → Told o status report ReportRose
+      → IfSome old (λ text. IsDecode words → (frames : List (List ℕ)) → Decodes text frames → IsUnderLimits text → (InputRose → ⊥) → (OutputRose → ⊥) → (ReportRose → ⊥) → (status ≡ 0) ⊎ (status ≡ 12))
+  decoded_by None c t = tt
+  decoded_by (Some text) c t =
+      λ means frames d under i p r. whole_shown InputRose OutputRose ReportRose text new held report status frames d under i p r (shows_for text c t means frames d)

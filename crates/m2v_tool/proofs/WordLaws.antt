@@ -1,8 +1,8 @@
--- The five words of the flat profile.
+-- The words of the commands.
 use Rattle.std.proofs.Common.{◌≡◌, ℕ, ◌<◌, ◌≤◌, List, [], ◌∷◌, map, length, get_or, ap, sym, subst, ◌∙◌, arith}
 use Rattle.std.specs.Str.Parse.{digits_value}
 use Rattle.m2v_tool.specs.declared.words.FlatWords.{FlatWords}
-use Rattle.m2v_tool.specs.Words.{IsNumber, AreNumbers, IsFlat, NotFlat}
+use Rattle.m2v_tool.specs.Words.{IsNumber, AreNumbers, IsFlat, NotFlat, IsDecode}
 
 pub five : {X : Type 0} (f : X → List ℕ) (xs : List X) (a b c d e : X) → 5 ≤ length xs → length xs < 6
     → a ≡ get_or xs 0 a → b ≡ get_or xs 1 b → c ≡ get_or xs 2 c → d ≡ get_or xs 3 d → e ≡ get_or xs 4 e
@@ -14,6 +14,11 @@ five f (v ∷ w ∷ x ∷ []) a b c d e least most pa pb pc pd pe = absurd (omeg
 five f (v ∷ w ∷ x ∷ y ∷ []) a b c d e least most pa pb pc pd pe = absurd (omega arith)
 five f (v ∷ w ∷ x ∷ y ∷ z ∷ []) a b c d e least most pa pb pc pd pe = cc
 five f (v ∷ w ∷ x ∷ y ∷ z ∷ u ∷ more) a b c d e least most pa pb pc pd pe = absurd (omega arith)
+
+pub one : {X : Type 0} (f : X → List ℕ) (xs : List X) (a : X) → 1 ≤ length xs → length xs < 2 → a ≡ get_or xs 0 a → map f xs ≡ f a ∷ []
+one f [] a least most is = absurd (omega arith)
+one f (x ∷ []) a least most is = cc
+one f (x ∷ y ∷ more) a least most is = absurd (omega arith)
 
 pub words_none : (n w h c k : List ℕ) (words : List (List ℕ)) → words ≡ n ∷ w ∷ h ∷ c ∷ k ∷ []
     → ((m : FlatWords) → AreNumbers w h c k m → ⊥) → NotFlat words
@@ -55,3 +60,7 @@ one_meaning words a b f g =
       rate_code = same_number f.code g.code a.rate_code b.rate_code code f.numbers.code_is g.numbers.code_is;
       quantiser = same_number f.quantiser g.quantiser a.quantiser b.quantiser quantiser f.numbers.quantiser_is g.numbers.quantiser_is;
     })
+
+-- `flat` with its numbers isn't `decode` alone
+pub not_both : (words : List (List ℕ)) (w : FlatWords) → IsFlat words w → IsDecode words → ⊥
+not_both words w flat decode = let e = sym flat.are ∙ decode in absurd cc

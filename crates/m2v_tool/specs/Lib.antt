@@ -1,3 +1,6 @@
 pub mod Words
 pub mod Outcomes
+pub mod Reports
+pub mod Coding
+pub mod Decoding
 pub mod Runs

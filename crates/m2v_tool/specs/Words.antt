@@ -6,6 +6,8 @@ use Rattle.m2v_set.specs.Rules.{FlatPasses, FlatUnfit}
 use Rattle.m2v_set.specs.declared.unfit.Unfit.{Unfit}
 use Rattle.m2v_encode.specs.declared.settings.FlatSettings.{FlatSettings}
 use Rattle.m2v_tool.specs.declared.words.FlatWords.{FlatWords}
+use Rattle.m2v_tool.specs.declared.words.Command.{Command}
+use Rattle.m2v_tool.specs.declared.words.Command.TheVariants.{Flat, Decode}
 
 -- a word of decimal digits without a sign whose value fits 32 bits, and its value
 pub record IsNumber (word : List ℕ) (n : ℕ) : Type 0 where
@@ -33,7 +35,23 @@ pub record IsFlat (words : List (List ℕ)) (w : FlatWords) : Type 0 where
 abbrev pub NotFlat : List (List ℕ) → Type 0
 NotFlat words = (w : FlatWords) → IsFlat words w → ⊥
 
--- the settings that they are
+-- the word `decode` alone
+abbrev pub IsDecode : List (List ℕ) → Type 0
+IsDecode words = words ≡ codes "decode" ∷ []
+
+abbrev pub NotDecode : List (List ℕ) → Type 0
+NotDecode words = IsDecode words → ⊥
+
+-- what words mean as a command
+abbrev pub Means : List (List ℕ) → Command → Type 0
+Means words (Flat w) = IsFlat words w
+Means words Decode = IsDecode words
+
+-- words that mean none
+abbrev pub NoCommand : List (List ℕ) → Type 0
+NoCommand words = (c : Command) → Means words c → ⊥
+
+-- the settings of the flat profile that words are
 abbrev pub settings_of : FlatWords → FlatSettings
 settings_of w = record { dims = flat_dims w.width w.height; rate_code = w.rate_code; quantiser = w.quantiser }
 

@@ -1,26 +1,22 @@
 ghost use Rattle.std.specs.Prelude.{◌≡◌, ◌++◌, [], decimal, map, length, nat_lt, slice_index, if◌then◌else◌, IfOk, OnOk};
-ghost use Rattle.m2v_tool.specs.Outcomes.{line_text, line_of};
+ghost use Rattle.m2v_tool.specs.declared.outcome.Outcome.TheVariants.{Done, Shown, Stream};
+ghost use Rattle.m2v_tool.specs.Outcomes.{line_text, line_of, name_of};
 
 use crate::outcome::Outcome;
 use itoa::Buffer;
+use m2v_decode::{Decoded, Fault};
+use m2v_encode::Summary;
+use m2v_model::FaultKind;
 use std::alloc::{AllocError, Global};
 
 /// The line on report of an outcome, with its newline.
-#[tactic(auto, unfolding(crate::specs::Outcomes::status_of, crate::specs::Outcomes::numbers_of, crate::specs::Outcomes::texts_of, crate::specs::Outcomes::Line))]
+#[tactic(auto, unfolding(crate::specs::Outcomes::numbers_of, crate::specs::Outcomes::texts_of, crate::specs::Outcomes::line_of))]
 pub fn line(alloc: Global, outcome: &Outcome) -> Result<Vec<u8>, AllocError>
     ensures { IfOk result (λ l. l.items ≡ line_of outcome.now) }
 {
     match outcome {
-        Outcome::Done(s) => print(
-            alloc,
-            &["frames ", " pictures ", " bytes ", " stuffing "],
-            &[
-                u128::from(s.frames),
-                u128::from(s.pictures),
-                u128::from(s.bytes),
-                u128::from(s.stuffing),
-            ],
-        ),
+        Outcome::Done(numbers) => coded_line(alloc, numbers),
+        Outcome::Shown(numbers) => decoded_line(alloc, numbers),
         Outcome::Usage => print(alloc, &["usage"], &[]),
         Outcome::BadSettings(u) => print(
             alloc,
@@ -34,7 +30,80 @@ pub fn line(alloc: Global, outcome: &Outcome) -> Result<Vec<u8>, AllocError>
         Outcome::TooManyFrames => print(alloc, &["too many frames"], &[]),
         Outcome::ReadFault => print(alloc, &["read fault"], &[]),
         Outcome::WriteFault => print(alloc, &["write fault"], &[]),
+        Outcome::Stream(fault) => fault_line(alloc, fault),
+        Outcome::TooLong => print(alloc, &["too long"], &[]),
+        Outcome::TooLarge => print(alloc, &["picture too large"], &[]),
         Outcome::NoMemory => print(alloc, &["no memory"], &[]),
+    }
+}
+
+/// The numbers of what was coded.
+#[tactic(auto, unfolding(crate::specs::Outcomes::numbers_of, crate::specs::Outcomes::texts_of, crate::specs::Outcomes::line_of))]
+fn coded_line(alloc: Global, numbers: &Summary) -> Result<Vec<u8>, AllocError>
+    ensures { IfOk result (λ l. l.items ≡ line_of (Done numbers.now)) }
+{
+    print(
+        alloc,
+        &["frames ", " pictures ", " bytes ", " stuffing "],
+        &[
+            u128::from(numbers.frames),
+            u128::from(numbers.pictures),
+            u128::from(numbers.bytes),
+            u128::from(numbers.stuffing),
+        ],
+    )
+}
+
+/// The numbers of what was decoded.
+#[tactic(auto, unfolding(crate::specs::Outcomes::numbers_of, crate::specs::Outcomes::texts_of, crate::specs::Outcomes::line_of))]
+fn decoded_line(alloc: Global, numbers: &Decoded) -> Result<Vec<u8>, AllocError>
+    ensures { IfOk result (λ l. l.items ≡ line_of (Shown numbers.now)) }
+{
+    print(
+        alloc,
+        &["frames ", " pictures ", " dropped "],
+        &[
+            u128::from(numbers.frames),
+            u128::from(numbers.pictures),
+            u128::from(numbers.dropped),
+        ],
+    )
+}
+
+/// The line of a stream's first fault: its kind and its place.
+#[tactic(auto, unfolding(crate::specs::Outcomes::numbers_of, crate::specs::Outcomes::texts_of, crate::specs::Outcomes::line_of))]
+fn fault_line(alloc: Global, fault: &Fault) -> Result<Vec<u8>, AllocError>
+    ensures { IfOk result (λ l. l.items ≡ line_of (Stream fault.now)) }
+{
+    let mut text = String::from_str(alloc, "stream ")?;
+    text.push_str(name_of(fault.kind))?;
+    text.push_str(" at bit ")?;
+    print(alloc, &[text.as_str()], &[u128::from(fault.place)])
+}
+
+/// The name of a kind of fault.
+#[tactic(auto, unfolding(crate::specs::Outcomes::name_of))]
+fn name_of(kind: FaultKind) -> &'static str
+    ensures { result.now ≡ name_of kind }
+{
+    match kind {
+        FaultKind::NoSequence => "NoSequence",
+        FaultKind::NotMpeg2 => "NotMpeg2",
+        FaultKind::Unsupported => "Unsupported",
+        FaultKind::Truncated => "Truncated",
+        FaultKind::NoCode => "NoCode",
+        FaultKind::BadMarker => "BadMarker",
+        FaultKind::Forbidden => "Forbidden",
+        FaultKind::SequenceChanged => "SequenceChanged",
+        FaultKind::SliceOrder => "SliceOrder",
+        FaultKind::MissingMacroblocks => "MissingMacroblocks",
+        FaultKind::SkipRule => "SkipRule",
+        FaultKind::VectorRange => "VectorRange",
+        FaultKind::VectorOutside => "VectorOutside",
+        FaultKind::Overrun => "Overrun",
+        FaultKind::DcRange => "DcRange",
+        FaultKind::MissingReference => "MissingReference",
+        FaultKind::FieldPair => "FieldPair",
     }
 }
 

@@ -1,6 +1,7 @@
 ghost use Rattle.std.specs.Prelude.{◌≡◌};
 ghost use Rattle.m2v_tool.specs.Outcomes.{status_of, status_unreported};
 
+use m2v_decode::{Decoded, Fault};
 use m2v_encode::Summary;
 use m2v_set::Unfit;
 
@@ -14,8 +15,10 @@ pub struct Status {
 /// What came of the words: the status and the numbers of its report line.
 #[derive(Clone, Copy, Debug, PartialEq, Eq)]
 pub enum Outcome {
-    /// The command did its work.
+    /// Raw frames were coded.
     Done(Summary),
+    /// A stream was decoded.
+    Shown(Decoded),
     /// The words are no command.
     Usage,
     /// The settings don't pass the published test: the first condition that fails.
@@ -30,6 +33,12 @@ pub enum Outcome {
     ReadFault,
     /// The output failed.
     WriteFault,
+    /// The first fault of the stream.
+    Stream(Fault),
+    /// A byte follows the first 2^36 bytes of the stream, and no sequence end code stands before it.
+    TooLong,
+    /// A picture of the stream, with its headers, has more than 2,097,152 bytes.
+    TooLarge,
     /// Memory ran out.
     NoMemory,
 }
@@ -42,6 +51,7 @@ impl Outcome {
     {
         let code = match self {
             Outcome::Done(_) => 0,
+            Outcome::Shown(_) => 0,
             Outcome::Usage => 2,
             Outcome::BadSettings(_) => 3,
             Outcome::ShortFrame { extra: _ } => 4,
@@ -49,6 +59,9 @@ impl Outcome {
             Outcome::TooManyFrames => 6,
             Outcome::ReadFault => 7,
             Outcome::WriteFault => 8,
+            Outcome::Stream(_) => 9,
+            Outcome::TooLong => 13,
+            Outcome::TooLarge => 14,
             Outcome::NoMemory => 12,
         };
         Status { code }
@@ -61,6 +74,7 @@ impl Outcome {
     {
         match self {
             Outcome::Done(_) => Status { code: 8 },
+            Outcome::Shown(_) => Status { code: 8 },
             refusal => refusal.status(),
         }
     }
