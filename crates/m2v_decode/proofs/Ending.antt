@@ -56,7 +56,7 @@ decoded text at frames d n h0 h1 h2 x r none count f grown last is =
     let read = (by_pieces text).stands r.pictures n.state (whole_read text r.pictures d.state n.state r.begun (subst (λ (y : ℕ). piece_read d.state y [] ≡ Ok ([], n.state)) r.place f.read)) in
     let all : map crop (frames ++ option_to_list d.anchor) ≡ shown_by d.state r.pictures = shown_is low r.pictures d.anchor frames (r.shows low (agrees d.state.first)) in
     let number : d.shown + length (due_of n) ≡ length (shown_by n.state r.pictures) =
-        omega (arith, count, ap length due, ap length all, ap length same, length-map (frames ++ option_to_list d.anchor) crop, length-append frames (option_to_list d.anchor)) in
+    omega (arith, count, ap length due, ap length all, ap length same, length-map (frames ++ option_to_list d.anchor) crop, length-append frames (option_to_list d.anchor)) in
     record {
       frames = shown_by n.state r.pictures;
       decodes = decodes_to text r.pictures n.state read;

@@ -86,7 +86,7 @@ pub reached_more : (text : List ℕ) (start : ℕ) (whole : List ℕ) (others : 
 unfolding begun_more
 reached_more text start whole others frames d m n r none fits a put =
     let read : piece_read d.state (behind r.begun + length whole) whole ≡ Ok (a.pictures, n.state) =
-        ap (λ (x : ℕ). piece_read d.state (x + length whole) whole) (sym r.place) ∙ a.read ∙ ap (λ (z : State). Ok (a.pictures, z)) (sym put.state) in
+    ap (λ (x : ℕ). piece_read d.state (x + length whole) whole) (sym r.place) ∙ a.read ∙ ap (λ (z : State). Ok (a.pictures, z)) (sym put.state) in
     record {
       pictures = r.pictures ++ a.pictures;
       begun = begun_more text r.pictures a.pictures d.state n.state whole others r.begun (subst (λ (x : ℕ). limit x 0 whole ≡ None) r.place fits) read;
@@ -303,14 +303,14 @@ due_cut : (text : List ℕ) (start : ℕ) (whole : List ℕ) (others : List (Lis
 due_cut text start whole others frames d m h0 h1 h2 r none fits a grown cut =
     let drained : Decoding = record m { ready = []; shown = m.shown + length (due_of m) } in
     let put : HasPut m drained = record {
-          none = due_ready drained a.going;
-          state = refl;
-          anchor = λ going. refl;
-          ended = refl;
-          failed = refl;
-          pictures = refl;
-          shown = refl;
-        } in
+      none = due_ready drained a.going;
+      state = refl;
+      anchor = λ going. refl;
+      ended = refl;
+      failed = refl;
+      pictures = refl;
+      shown = refl;
+    } in
     reached_cut text (start + length whole) others (frames ++ due_of m) drained h0 h2 (reached_more text start whole others frames d m drained r none fits a put)
     (subst (λ (b : List ℕ). GrowsByPrefix h0 b h2) (sym (raw-append frames (due_of m))) (prefix_on grown cut))
 

@@ -67,7 +67,7 @@ unfolding framed
 shown_is low ps anchor frames s =
     let kept = filter (is_kept is_dropped) ps in
     let last : option_to_list anchor ≡ map (λ (x : Picture). x.frame) (option_to_list (held_after (opening low) kept).anchor) =
-        ap option_to_list (s.anchor_is ∙ ap (λ (x : Holder Samples). x.anchor) (framed_after (opening low) kept)) ∙ list_of_map (held_after (opening low) kept).anchor in
+    ap option_to_list (s.anchor_is ∙ ap (λ (x : Holder Samples). x.anchor) (framed_after (opening low) kept)) ∙ list_of_map (held_after (opening low) kept).anchor in
     ap (map crop)
     (ap (λ (x : List Samples). x ++ option_to_list anchor) (s.ready_is ∙ framed_handed (opening low) kept)
     ∙ ap (λ (x : List Samples). map (λ (y : Picture). y.frame) (handed (opening low) kept) ++ x) last

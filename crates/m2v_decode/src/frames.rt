@@ -49,7 +49,11 @@ fn put_frame<K: Sink>(alloc: Global, frame: &Frame, output: &mut K) -> Result<()
 }
 
 /// Writes the frames that are due.
-pub fn put_due<K: Sink>(alloc: Global, decoder: &mut Decoder, output: &mut K) -> Result<(), DecodeError>
+pub fn put_due<K: Sink>(
+    alloc: Global,
+    decoder: &mut Decoder,
+    output: &mut K,
+) -> Result<(), DecodeError>
     requires going { decoder.old.failed ≡ false }
     requires output { IsTrue (K.ready output.old) }
     ensures put { OnOk result (HasPut decoder.old decoder.new) }

@@ -3,10 +3,10 @@
 #![tactic(auto)]
 
 mod answer;
-mod whole;
 mod frames;
+mod whole;
 
 pub use answer::Decoded;
-pub use whole::decode;
 pub use m2v_decoder::Decoder;
 pub use m2v_piece::{Cutter, DecodeError, Fault, Piece};
+pub use whole::decode;

@@ -113,7 +113,7 @@ unfolding after
 steps_slice old mid s p row covered u sound sequence_is picture_is h =
     let new : Course = record mid { state = record mid.state { picture = Some (record p { begun = true; row = row; covered = covered }) } } in
     let behind : after_slice old.state row (h.slice).covered ≡ record old.state { picture = Some (record p { begun = true; row = row; covered = (h.slice).covered }) } =
-        rw picture_is refl in
+    rw picture_is refl in
     let queue : new.queue ≡ old.queue = h.queue in
     let seq : mid.state.sequence ≡ Some s = ap (λ (z : State). z.sequence) h.state ∙ sequence_is in
     record {
