@@ -101,7 +101,7 @@ done_err InputRose OutputRose OutputRose' l0 l1 h0 h1 h2 c d errors.Write rose s
 done_err InputRose OutputRose OutputRose' l0 l1 h0 h1 h2 c d (errors.Stream f) rose so why = record {
   bytes = so.bytes;
   moved = so.moved;
-  told = λ rest q. faulty_at _ c.place [] so.frames d h0 h2 f (so.told rest q) (subst (λ (h : Option (List ℕ)). Grows h0 (raw_of so.frames) h) (sym why.1) so.grown) why.0;
+  told = λ rest q. faulty_at _ c.place [] so.frames d h0 h2 f (so.told rest q) (subst (λ (h : Option (List ℕ)). Grows h0 (raw_of so.frames) h) (sym why.1) so.grown) (so.most, why.0);
 }
 done_err InputRose OutputRose OutputRose' l0 l1 h0 h1 h2 c d errors.TooLong rose so why = absurd why
 done_err InputRose OutputRose OutputRose' l0 l1 h0 h1 h2 c d errors.PictureTooLarge rose so why = absurd why

@@ -13,7 +13,7 @@ use Rattle.m2v_model.specs.States.{at_first}
 use Rattle.m2v_model.specs.Pictures.{Picture, Pictures}
 use Rattle.m2v_model.specs.declared.phase.Phase.TheVariants.{Before}
 use Rattle.m2v_model.specs.Units.{Units, cut}
-use Rattle.m2v_model.specs.Pieces.{pieces, limit, Limit, grouped}
+use Rattle.m2v_model.specs.Pieces.{pieces, limit, Limit, grouped, most_input}
 use Rattle.m2v_model.specs.Decoding.{Decodes, FaultAt, shown, due, low_delay_of}
 use Rattle.m2v_model.specs.ByPieces.{Course, piece_read, behind as behind_pictures, onward, pieces_read, end_of, text_read, IsRead}
 use Rattle.m2v_model.proofs.PieceLaws.{pieces_read-append, rest_read, rest_none, rest_more, rest_read-append, text_rest, by_pieces}
@@ -252,7 +252,7 @@ faulty_text : (text : List ℕ) (kind : FaultKind) (place : ℕ) (ps : Pictures)
 unfolding onward pieces_read
 faulty_text text kind place ps st [] b here = (by_pieces text).fault kind place (
     text_rest text ∙ ap (rest_read at_first (start_of text)) (b.are) ∙ rest_read-append b.first [] at_first (start_of text)
-    ∙ rw b.read (ap (behind_pictures ps) (rest_none st (behind b) ∙ here)))
+    ∙ rw b.read (ap (behind_pictures ps) (rest_none st (behind b) ∙ here.1)))
 faulty_text text kind place ps st (p ∷ others) b here = (by_pieces text).fault kind place (
     text_rest text ∙ ap (rest_read at_first (start_of text)) (b.are) ∙ rest_read-append b.first (p ∷ others) at_first (start_of text)
     ∙ rw b.read (ap (behind_pictures ps) (rest_more st (behind b) p others ∙ onward_err (piece_read st (behind b + length p) p) (λ next. rest_read next (behind b + length p) others) (kind, place) here.1)))
@@ -337,8 +337,8 @@ put_stopped InputRose OutputRose OutputRose' l0 l1 l2 h0 h1 h2 c c' d m p errors
 put_stopped InputRose OutputRose OutputRose' l0 l1 l2 h0 h1 h2 c c' d m p errors.Memory rose so handed begun a cut = due_text l0 l1 l2 h0 h1 h2 c c' d m p so handed begun a cut
 
 -- no piece was left
-pub pieces_done : (l0 l1 l2 h0 h1 : Option (List ℕ)) (c c' : Cutting) (d : Decoding) → With l0 l1 h0 h1 c d → Handed c l1 c' l2 None → c'.ended ≡ true → IsDone (record { old = l0; new = l2 }) (record { old = h0; new = h1 }) c' d
-pieces_done l0 l1 l2 h0 h1 c c' d so handed over = record {
+pub pieces_done : (l0 l1 l2 h0 h1 : Option (List ℕ)) (c c' : Cutting) (d : Decoding) → With l0 l1 h0 h1 c d → Handed c l1 c' l2 None → c'.ended ≡ true → c'.place ≤ most_input → IsDone (record { old = l0; new = l2 }) (record { old = h0; new = h1 }) c' d
+pieces_done l0 l1 l2 h0 h1 c c' d so handed over most = record {
   bytes = so.bytes ++ handed.bytes;
   moved = moves_on so.moved handed.moved;
   frames = so.frames;
@@ -348,6 +348,7 @@ pieces_done l0 l1 l2 h0 h1 c c' d so handed over = record {
   going = so.going;
   sound = so.sound;
   over = over;
+  most = most;
   told = λ rest e.
       let next = handed.next rest e in
       let r = so.told (handed.bytes ++ rest) (moved_some l1 l2 handed.bytes rest handed.moved e) in

@@ -41,9 +41,9 @@ pub record Begun (text : List ℕ) (ps : Pictures) (st : State) (others : List (
 abbrev pub behind : {text : List ℕ} {ps : Pictures} {st : State} {others : List (List ℕ)} → Begun text ps st others → ℕ
 behind {text} b = end_of (start_of text) b.first
 
--- the next piece has the first fault; behind the last one the end of the text
+-- the next piece has the first fault; behind the last one the end of the text, which an input may have there
 abbrev pub HasFault : State → ℕ → List (List ℕ) → FaultKind → ℕ → Type 0
-HasFault st at [] kind place = piece_read st at [] ≡ Err (kind, place)
+HasFault st at [] kind place = (at ≤ most_input) × (piece_read st at [] ≡ Err (kind, place))
 HasFault st at (p ∷ ps) kind place = (limit at 0 p ≡ None) × (piece_read st (at + length p) p ≡ Err (kind, place))
 
 -- the frames that the pictures of the pieces before show before the end

@@ -4,6 +4,7 @@ use Rattle.m2v_port.specs.Port.{Moves, Grows, GrowsByPrefix}
 use Rattle.m2v_plane.specs.Samples.{Samples}
 use Rattle.m2v_plane.specs.Raw.{raw, crop}
 use Rattle.m2v_model.specs.Pictures.{Pictures}
+use Rattle.m2v_model.specs.Pieces.{most_input}
 use Rattle.m2v_model.specs.ByPieces.{piece_read}
 use Rattle.m2v_piece.specs.declared.answer.DecodeError.{DecodeError}
 use Rattle.m2v_piece.specs.declared.answer.DecodeError.TheVariants as errors
@@ -70,6 +71,7 @@ pub record IsDone (left held : Change) (c : Cutting) (d : Decoding) : Type 0 whe
   pub going : d.ended ≡ false
   pub sound : d.failed ≡ false
   pub over : c.ended ≡ true
+  pub most : c.place ≤ most_input
   pub told : (rest : List ℕ) → left.new ≡ Some rest → Reached (bytes ++ rest) c.place [] frames d
 
 -- the end of the text was read, and the frames due then written

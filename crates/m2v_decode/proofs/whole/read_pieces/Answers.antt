@@ -29,7 +29,8 @@ pub returns-in-Ok-None-clause-ok : goal.returns-in-Ok-None-clause-ok
 returns-in-Ok-None-clause-ok g c =
     let x = rw c.in-Ok-None.field-0-is at c.in-Ok-None.ensures.ok in
     let over = rw c.in-Ok-None.field-0-is at c.in-Ok-None.ensures.over in
-    pieces_done _ _ _ _ _ _ _ _ c.loop-e.invariant.progress x over
+    let onward = rw c.in-Ok-None.field-0-is at c.in-Ok-None.ensures.onward in
+    pieces_done _ _ _ _ _ _ _ _ c.loop-e.invariant.progress x over onward.1
 
 pub returns-in_err-piece-in-Ok-Some-clause-err : goal.returns-in_err-piece-in-Ok-Some-clause-err
 returns-in_err-piece-in-Ok-Some-clause-err g c =
