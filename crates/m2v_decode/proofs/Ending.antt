@@ -1,7 +1,7 @@
 -- The end of the text: what stands then.
-use Rattle.std.proofs.Common.{◌≡◌, ℕ, ◌+◌, List, [], ◌∷◌, ◌++◌, length, map, Option, Some, None, option_to_list, Result, Ok, Err, refl, sym, ap, subst, ◌∙◌, arith, true, false}
+use Rattle.std.proofs.Common.{◌≡◌, ℕ, ◌+◌, List, [], ◌++◌, length, map, Option, option_to_list, Ok, refl, sym, ap, subst, ◌∙◌, arith}
 use Rattle.std.proofs.lemmas.List.{append-nil, length-append, length-map}
-use Rattle.m2v_port.specs.Port.{Moves, Grows, GrowsByPrefix}
+use Rattle.m2v_port.specs.Port.{Grows, GrowsByPrefix}
 use Rattle.m2v_port.proofs.Runs.{moves_nothing, grows_on, prefix_on}
 use Rattle.m2v_plane.specs.Samples.{Samples}
 use Rattle.m2v_plane.specs.Raw.{raw, crop}
@@ -18,9 +18,8 @@ use Rattle.m2v_piece.specs.declared.answer.DecodeError.TheVariants as errors
 use Rattle.m2v_piece.specs.Cutting.{Cutting}
 use Rattle.m2v_decoder.specs.Decoding.{Decoding, at_start, due_of, Finished}
 use Rattle.m2v_decode.specs.declared.answer.Decoded.{Decoded}
-use Rattle.m2v_decode.specs.Answers.{Change, start_of, AllFit, Begun, behind, shown_by, IsDecoded, IsFaulty, IsCut, Of, Fails}
+use Rattle.m2v_decode.specs.Answers.{start_of, AllFit, Begun, behind, shown_by, IsDecoded, IsCut, Of, Fails}
 use Rattle.m2v_decode.specs.Progress.{raw_of, before_all, Reached, IsDone, Ends, EndFails}
-use Rattle.m2v_decode.proofs.Putting.{raw-append}
 use Rattle.m2v_decode.proofs.Ordering.{shown_is, agrees}
 use Rattle.m2v_decode.proofs.Going.{progress_none, moved_cut, shown_raw, faulty_at}
 

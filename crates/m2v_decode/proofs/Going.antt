@@ -1,34 +1,33 @@
 -- Piece after piece: what stands after one more, and where decoding stops.
-use Rattle.std.proofs.Common.{◌≡◌, ℕ, ◌+◌, ◌*◌, ◌≤◌, Bool, true, false, List, [], ◌∷◌, ◌++◌, length, map, Option, Some, None, option_to_list, Result, Ok, Err, refl, sym, ap, subst, ◌∙◌, append_assoc, arith, inl, inr, ◌⊎◌}
+use Rattle.std.proofs.Common.{◌≡◌, ℕ, ◌+◌, ◌≤◌, Bool, true, false, List, [], ◌∷◌, ◌++◌, length, Option, Some, None, option_to_list, Ok, Err, refl, sym, ap, subst, ◌∙◌, append_assoc, arith}
 use Rattle.std.specs.Prelude.{if◌then◌else◌}
 use Rattle.std.specs.Option.{option_map}
-use Rattle.std.proofs.lemmas.List.{append-nil, length-append, map-append}
+use Rattle.std.proofs.lemmas.List.{append-nil, length-append}
 use Rattle.m2v_port.specs.Port.{Moves, Grows, GrowsByPrefix}
 use Rattle.m2v_port.proofs.Runs.{moves_on, moves_nothing, grows_on, grows_by_nothing, grows_by_all, prefix_on, prefix_of_more}
 use Rattle.m2v_plane.specs.Samples.{Samples}
-use Rattle.m2v_plane.specs.Raw.{raw, crop}
+use Rattle.m2v_plane.specs.Raw.{raw}
 use Rattle.m2v_model.specs.declared.fault.FaultKind.{FaultKind}
 use Rattle.m2v_model.specs.declared.state.State.{State}
 use Rattle.m2v_model.specs.States.{at_first}
-use Rattle.m2v_model.specs.Pictures.{Picture, Pictures}
+use Rattle.m2v_model.specs.Pictures.{Pictures}
 use Rattle.m2v_model.specs.declared.phase.Phase.TheVariants.{Before}
 use Rattle.m2v_model.specs.Units.{Units, cut}
-use Rattle.m2v_model.specs.Pieces.{pieces, limit, Limit, grouped, most_input}
-use Rattle.m2v_model.specs.Decoding.{Decodes, FaultAt, shown, due, low_delay_of}
-use Rattle.m2v_model.specs.ByPieces.{Course, piece_read, behind as behind_pictures, onward, pieces_read, end_of, text_read, IsRead}
+use Rattle.m2v_model.specs.Pieces.{limit, grouped, most_input}
+use Rattle.m2v_model.specs.Decoding.{FaultAt, low_delay_of}
+use Rattle.m2v_model.specs.ByPieces.{Course, piece_read, behind as behind_pictures, onward, pieces_read, end_of}
 use Rattle.m2v_model.proofs.PieceLaws.{pieces_read-append, rest_read, rest_none, rest_more, rest_read-append, text_rest, by_pieces}
 use Rattle.m2v_piece.specs.declared.answer.Piece.{Piece}
 use Rattle.m2v_piece.specs.declared.answer.Fault.{Fault}
 use Rattle.m2v_piece.specs.declared.answer.DecodeError.{DecodeError}
 use Rattle.m2v_piece.specs.declared.answer.DecodeError.TheVariants as errors
-use Rattle.m2v_piece.specs.Cutting.{Cutting, left_of, IsPiece, IsReading, Stops, open_start, open_pieces}
+use Rattle.m2v_piece.specs.Cutting.{Cutting, left_of, IsReading, Stops, open_start, open_pieces}
 use Rattle.m2v_piece.proofs.WholeLaws.{whole_is}
 use Rattle.m2v_piece.specs.Cutting.{start_of as start_of_rest}
-use Rattle.m2v_piece.specs.Stepping.{Handed, Stopped, NextPiece, Why}
-use Rattle.m2v_decoder.specs.Decoding.{Decoding, at_start, due_of, Agrees, Shows, Advanced, Refuses, Finished, whole_of}
-use Rattle.m2v_decode.specs.declared.answer.Decoded.{Decoded}
-use Rattle.m2v_decode.specs.Answers.{Change, start_of, AllFit, Begun, behind, HasFault, due_before, shown_by, IsDecoded, IsFaulty, IsOver, IsCut, Of, Fails}
-use Rattle.m2v_decode.specs.Progress.{raw_of, before_all, Cuts, HasPut, Reached, Progress, IsDone, Ends, EndFails}
+use Rattle.m2v_piece.specs.Stepping.{Handed, Stopped, NextPiece}
+use Rattle.m2v_decoder.specs.Decoding.{Decoding, at_start, due_of, Agrees, Shows, Advanced, Refuses, whole_of}
+use Rattle.m2v_decode.specs.Answers.{start_of, AllFit, Begun, behind, HasFault, due_before, shown_by, IsFaulty, IsOver, IsCut, Of, Fails}
+use Rattle.m2v_decode.specs.Progress.{raw_of, before_all, Cuts, HasPut, Reached, Progress, IsDone}
 use Rattle.m2v_decode.proofs.Putting.{raw-append}
 use Rattle.m2v_decoder.proofs.Showing.{shows_on, shows_none, shows_behind}
 use Rattle.m2v_decode.proofs.Ordering.{due_is, shown_is, agrees}

@@ -1,9 +1,8 @@
 -- What a display queue hands out over the frames of pictures is display order.
-use Rattle.std.proofs.Common.{◌≡◌, ℕ, ◌+◌, Bool, true, false, cond, List, [], ◌∷◌, ◌++◌, length, map, Option, Some, None, option_to_list, refl, sym, ap, subst, ◌∙◌, append_assoc}
+use Rattle.std.proofs.Common.{◌≡◌, ℕ, Bool, true, false, List, [], ◌∷◌, ◌++◌, map, Option, Some, None, option_to_list, refl, sym, ap, ◌∙◌}
 use Rattle.std.specs.Prelude.{filter, ◌||◌, ◌==◌}
 use Rattle.std.specs.Option.{option_map}
-use Rattle.std.proofs.lemmas.List.{append-nil, map-append}
-use Rattle.std.proofs.lemmas.List.Elements.{filter-append}
+use Rattle.std.proofs.lemmas.List.{map-append}
 use Rattle.m2v_plane.specs.Samples.{Samples}
 use Rattle.m2v_plane.specs.Raw.{crop}
 use Rattle.m2v_order.specs.Display.{Holder, opening, shown as shown_step, held, handed, held_after, is_kept, frames_of, Shown, Due}
@@ -11,7 +10,7 @@ use Rattle.m2v_order.proofs.Shows.{handed_due, handed_shown}
 use Rattle.m2v_model.specs.declared.state.Sequence.{Sequence}
 use Rattle.m2v_model.specs.Pictures.{Picture, Pictures}
 use Rattle.m2v_model.specs.Decoding.{is_dropped, raw_frames, shown, due, low_delay_of}
-use Rattle.m2v_decoder.specs.Decoding.{frame_of, decoded_of, queue_of, Agrees, Shows}
+use Rattle.m2v_decoder.specs.Decoding.{frame_of, Agrees, Shows}
 
 -- ---- frames of pictures
 

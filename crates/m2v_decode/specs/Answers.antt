@@ -1,12 +1,12 @@
 -- What decoding a stream answers, and what stands then in input and output.
-use Rattle.std.specs.Prelude.{◌≡◌, ◌⊎◌, ℕ, ◌+◌, ◌<◌, ◌≤◌, List, [], ◌∷◌, ◌++◌, length, map, filter, Option, Some, None, Ok, Err}
+use Rattle.std.specs.Prelude.{◌≡◌, ℕ, ◌+◌, ◌≤◌, List, [], ◌∷◌, ◌++◌, length, Option, Some, None, Ok, Err}
 use Rattle.m2v_port.specs.Port.{Moves, Grows, GrowsByPrefix}
 use Rattle.m2v_plane.specs.Raw.{raw}
 use Rattle.m2v_model.specs.declared.fault.FaultKind.{FaultKind}
 use Rattle.m2v_model.specs.declared.state.State.{State}
 use Rattle.m2v_model.specs.States.{at_first}
-use Rattle.m2v_model.specs.Pictures.{Picture, Pictures}
-use Rattle.m2v_model.specs.Pieces.{pieces, limit, Limit, too_long, too_large, most_input}
+use Rattle.m2v_model.specs.Pictures.{Pictures}
+use Rattle.m2v_model.specs.Pieces.{pieces, limit, most_input}
 use Rattle.m2v_model.specs.Pieces.{skipped as before_pieces}
 use Rattle.m2v_model.specs.Decoding.{Decodes, FaultAt, shown, due, low_delay_of}
 use Rattle.m2v_model.specs.ByPieces.{piece_read, pieces_read, end_of, IsRead}

@@ -1,5 +1,5 @@
 -- Decoding under way: what stands between two pieces.
-use Rattle.std.specs.Prelude.{◌≡◌, ℕ, ◌+◌, ◌≤◌, Bool, true, false, List, [], ◌∷◌, ◌++◌, length, map, Option, Some, None, Ok, Err, option_to_list}
+use Rattle.std.specs.Prelude.{◌≡◌, ℕ, ◌+◌, ◌≤◌, Bool, true, false, List, [], ◌++◌, length, map, Some, None, Err}
 use Rattle.m2v_port.specs.Port.{Moves, Grows, GrowsByPrefix}
 use Rattle.m2v_plane.specs.Samples.{Samples}
 use Rattle.m2v_plane.specs.Raw.{raw, crop}
@@ -11,7 +11,7 @@ use Rattle.m2v_piece.specs.declared.answer.DecodeError.TheVariants as errors
 use Rattle.m2v_piece.specs.Cutting.{Cutting, left_of, start_of as start_of_rest}
 use Rattle.m2v_decoder.specs.Decoding.{Decoding, due_of, Agrees, Shows, Finished}
 use Rattle.m2v_decode.specs.declared.answer.Decoded.{Decoded}
-use Rattle.m2v_decode.specs.Answers.{Change, Begun, behind, Of, AllFit, start_of}
+use Rattle.m2v_decode.specs.Answers.{Change, Begun, behind}
 
 -- frames as raw video
 abbrev pub raw_of : List Samples → List ℕ

@@ -1,5 +1,5 @@
 -- What the steps of a decoder keep.
-use Rattle.std.proofs.Common.{◌≡◌, ℕ, ◌+◌, ◌≤◌, Bool, true, false, List, [], ◌∷◌, ◌++◌, length, Option, Some, None, option_to_list, refl, sym, ap, subst, ◌∙◌, arith}
+use Rattle.std.proofs.Common.{◌≡◌, ℕ, ◌+◌, Bool, true, false, List, [], ◌∷◌, ◌++◌, length, Option, Some, None, option_to_list, refl, sym, ap, subst, ◌∙◌, arith}
 use Rattle.std.specs.Prelude.{◌||◌, ◌==◌}
 use Rattle.std.proofs.lemmas.List.{append-nil, length-append}
 use Rattle.m2v_plane.specs.Samples.{Samples}
@@ -10,10 +10,10 @@ use Rattle.m2v_model.specs.declared.state.Sequence.{Sequence}
 use Rattle.m2v_model.specs.declared.state.Open.{Open}
 use Rattle.m2v_model.specs.declared.state.State.{State}
 use Rattle.m2v_model.specs.States.{after_end}
-use Rattle.m2v_model.specs.Pictures.{Picture, Pictures, type_of, closed}
+use Rattle.m2v_model.specs.Pictures.{Pictures, type_of, closed}
 use Rattle.m2v_decoder.specs.declared.course.Course.{Course}
 use Rattle.m2v_decoder.specs.Decoding.{decoded_of}
-use Rattle.m2v_decoder.specs.Course.{Fits, IsFresh, IsSound, Emits, Showed, Closed}
+use Rattle.m2v_decoder.specs.Course.{Fits, IsFresh, IsSound, Showed, Closed}
 use Rattle.m2v_decoder.proofs.Showing.{low_one}
 
 one_kept : (frame : Samples) (kind : ℕ) (b : Bool) → (kind == 3) ≡ b → decoded_of ((record { frame = frame; dropped = false }, kind) ∷ []) ≡ (frame, kind) ∷ []

@@ -1,6 +1,6 @@
 -- The end of a text, read from a state on.
-use Rattle.std.proofs.Common.{◌≡◌, ℕ, ◌+◌, ◌*◌, ◌-◌, ◌≤◌, Bool, true, false, cond, List, [], Option, Some, None, is_some, length, subst, Ok, Err, refl, sym, ap, ◌∙◌, arith}
-use Rattle.std.specs.Prelude.{◌++◌, replicate, vec_len}
+use Rattle.std.proofs.Common.{◌≡◌, ℕ, ◌+◌, ◌*◌, ◌-◌, ◌≤◌, Bool, true, false, List, [], Option, Some, None, is_some, length, subst, Ok, Err, refl, sym, ap, ◌∙◌, arith}
+use Rattle.std.specs.Prelude.{replicate, vec_len}
 use Rattle.std.proofs.lemmas.List.{length-append, length-replicate}
 use Rattle.m2v_bits.specs.Syntax.{bind, done, seq, here, rule, rounds, repeated}
 use Rattle.m2v_model.specs.declared.fault.FaultKind.TheVariants.{NoSequence}

@@ -1,5 +1,5 @@
 -- Unit after unit: what stands after one more, and where reading stops.
-use Rattle.std.proofs.Common.{◌≡◌, ℕ, ◌+◌, ◌-◌, ◌≤◌, Bool, true, false, cond, List, [], ◌∷◌, ◌++◌, length, Option, Some, None, is_some, option_to_list, Result, Ok, Err, refl, sym, ap, subst, ◌∙◌, arith}
+use Rattle.std.proofs.Common.{◌≡◌, ℕ, ◌+◌, ◌-◌, ◌≤◌, Bool, true, false, List, [], ◌∷◌, ◌++◌, length, Option, Some, None, is_some, Ok, Err, refl, sym, ap, subst, ◌∙◌, arith}
 use Rattle.std.specs.Prelude.{nat_eq, nat_le, ◌&&◌}
 use Rattle.std.proofs.lemmas.Bool.{and_parts, leb-true, ne_eqb}
 use Rattle.std.proofs.lemmas.List.{append-nil, length-append}
@@ -12,9 +12,8 @@ use Rattle.m2v_model.specs.declared.state.Open.{Open}
 use Rattle.m2v_model.specs.declared.state.State.{State}
 use Rattle.m2v_model.specs.Units.{Units, unit_bits}
 use Rattle.m2v_model.specs.States.{first_or}
-use Rattle.m2v_model.specs.Slices.{Slice}
 use Rattle.m2v_model.specs.Streams.{Part, after, value_of, sequence, group, picture, matrices, slice, skipped, ending, over, slice_unit, later_unit, known_unit, text_end, onward}
-use Rattle.m2v_model.specs.Pictures.{Picture, Pictures, closed, closed_by, frame_after}
+use Rattle.m2v_model.specs.Pictures.{Pictures, closed, closed_by, frame_after}
 use Rattle.m2v_model.specs.Decoding.{low_delay_of}
 use Rattle.m2v_model.specs.ByPieces.{behind}
 use Rattle.m2v_model.proofs.FlowLaws.{unit_of, seen, seen_err, seen_more, seen_last, unit_less}

@@ -1,5 +1,5 @@
 -- What each part of the stream does to a decoder.
-use Rattle.std.proofs.Common.{◌≡◌, ℕ, ◌+◌, ◌*◌, ◌<◌, ◌≤◌, ◌^◌, Bool, true, false, List, [], ◌∷◌, ◌++◌, length, Option, Some, None, option_to_list, Ok, refl, sym, ap, subst, ◌∙◌, arith}
+use Rattle.std.proofs.Common.{◌≡◌, ℕ, ◌+◌, ◌*◌, ◌<◌, ◌≤◌, ◌^◌, Bool, true, List, [], length, Option, Some, None, option_to_list, Ok, refl, sym, ap, subst, ◌∙◌, arith}
 use Rattle.std.specs.Prelude.{nat_lt, nat_le}
 use Rattle.std.proofs.Math.Nat.{mul-le-mul}
 use Rattle.std.proofs.lemmas.Bool.{lt-ltb, le-leb}
@@ -14,17 +14,16 @@ use Rattle.m2v_picture.specs.Conditions.{IsMatrix}
 use Rattle.m2v_model.specs.declared.state.Sequence.{Sequence}
 use Rattle.m2v_model.specs.declared.state.Open.{Open}
 use Rattle.m2v_model.specs.declared.state.State.{State}
-use Rattle.m2v_model.specs.States.{rows_of, columns_of, after_end, after_sequence, after_picture, after_group, after_matrices, after_slice}
+use Rattle.m2v_model.specs.States.{rows_of, columns_of, after_sequence, after_picture, after_matrices, after_slice}
 use Rattle.m2v_bits.specs.Syntax.{seq, bind, rule, done}
 use Rattle.m2v_model.specs.Units.{Units, body, inside}
 use Rattle.m2v_model.specs.Slices.{Slice, slice_at}
 use Rattle.m2v_canvas.specs.Paints.{Paints as Paints_slice}
 use Rattle.m2v_plane.specs.Sizes.{IsSize}
-use Rattle.m2v_model.specs.Streams.{Part, after, sequence, group, picture, matrices, slice, skipped, ending, over, slice_unit, slice_in}
-use Rattle.m2v_model.specs.Pictures.{Pictures, dims_of, opened, on_frame, slice_painted, closed, closed_by, frame_after}
+use Rattle.m2v_model.specs.Streams.{after, sequence, group, picture, matrices, slice, skipped, ending, over, slice_unit, slice_in}
+use Rattle.m2v_model.specs.Pictures.{Pictures, dims_of, opened}
 use Rattle.m2v_model.specs.Decoding.{low_delay_of}
 use Rattle.m2v_decoder.specs.declared.course.Course.{Course}
-use Rattle.m2v_decoder.specs.Decoding.{decoded_of}
 use Rattle.m2v_decoder.specs.Course.{IsOpen, Fits, IsFresh, IsSound, Emits, Steps, Closed, Begun, Painted}
 
 -- ---- the frames on their way stay as they are

@@ -1,17 +1,16 @@
 -- A decoder at work in a piece: what a part of the stream does to it.
-use Rattle.std.specs.Prelude.{◌≡◌, ℕ, ◌+◌, ◌*◌, ◌^◌, ◌≤◌, true, false, All, List, [], ◌∷◌, ◌++◌, length, Bool, Option, Some, None, option_to_list, Result, Ok, Err}
+use Rattle.std.specs.Prelude.{◌≡◌, ℕ, ◌+◌, ◌^◌, ◌≤◌, true, false, List, ◌++◌, length, Bool, Option, Some, None, option_to_list, Result, Ok, Err}
 use Rattle.m2v_plane.specs.Sizes.{IsSize}
 use Rattle.m2v_plane.specs.Samples.{Samples}
 use Rattle.m2v_head.specs.declared.picture.PictureInfo.{PictureInfo}
 use Rattle.m2v_head.specs.declared.picture.PictureExtension.{PictureExtension}
 use Rattle.m2v_picture.specs.declared.stop.Stop.{Stop}
 use Rattle.m2v_picture.specs.Conditions.{IsMatrix}
-use Rattle.m2v_order.specs.Display.{Holder, handed, held_after}
+use Rattle.m2v_order.specs.Display.{handed, held_after}
 use Rattle.m2v_order.specs.Display.{shown as shown_then, held as held_then}
 use Rattle.m2v_model.specs.declared.fault.FaultKind.{FaultKind}
 use Rattle.m2v_model.specs.declared.state.Sequence.{Sequence}
 use Rattle.m2v_model.specs.declared.state.Open.{Open}
-use Rattle.m2v_model.specs.declared.state.State.{State}
 use Rattle.m2v_model.specs.Units.{Units, unit_bits, body}
 use Rattle.m2v_model.specs.Slices.{Slice, slice_at}
 use Rattle.m2v_model.specs.Streams.{Part, after}

@@ -1,5 +1,5 @@
 -- What contracts see of a decoder, and what a piece does to it.
-use Rattle.std.specs.Prelude.{◌≡◌, ℕ, ◌+◌, ◌-◌, ◌≤◌, ◌<◌, Bool, true, false, List, [], ◌∷◌, ◌++◌, length, map, filter, replicate, Option, Some, None, option_to_list, Result, Ok, Err, if◌then◌else◌, slice_index, vec_len}
+use Rattle.std.specs.Prelude.{◌≡◌, ℕ, ◌+◌, ◌-◌, ◌≤◌, Bool, true, false, List, [], ◌∷◌, ◌++◌, length, map, filter, replicate, Option, Some, None, option_to_list, Ok, Err, if◌then◌else◌, vec_len}
 use Rattle.m2v_plane.specs.Samples.{Samples}
 use Rattle.m2v_order.specs.Display.{Holder, is_kept, handed, held_after}
 use Rattle.m2v_model.specs.declared.state.Sequence.{Sequence}

@@ -1,7 +1,7 @@
 use Rattle.std.proofs.lemmas.Result.{err_from_is_err_and, IfErr-weaker, IfOk-weaker}
 use Rattle.m2v_port.specs.Port.{Rose}
 use Rattle.m2v_port.proofs.Runs.{rose_since}
-use Rattle.m2v_decode.specs.Answers.{Change, Of, IsDecoded, Fails}
+use Rattle.m2v_decode.specs.Answers.{Of, IsDecoded, Fails}
 use Rattle.m2v_decode.specs.Progress.{Ends, EndFails}
 use Rattle.m2v_decode.proofs.Ending.{nothing_read, done_ok, done_err}
 use Rattle.m2v_decode.proofs.whole.decode.Goals as goal

@@ -1,5 +1,4 @@
 use Rattle.std.proofs.Common.{◌≡◌, ◌≤◌, ◌-◌, ◌^◌, IsTrue, false}
-use Rattle.m2v_decode.specs.Answers.{Change}
 use Rattle.m2v_decode.specs.Progress.{Progress}
 use Rattle.m2v_decode.proofs.whole.read_pieces.Given as goal
 

@@ -1,6 +1,5 @@
 use Rattle.std.proofs.Common.{refl, sym, ◌∙◌}
 use Rattle.std.proofs.lemmas.Result.{on_ok_weaker}
-use Rattle.m2v_decoder.specs.Course.{Showed, Closed}
 use Rattle.m2v_decoder.proofs.CourseLaws.{closed_frame, closed_none}
 use Rattle.m2v_decoder.proofs.course.Course.close.Goals as goal
 

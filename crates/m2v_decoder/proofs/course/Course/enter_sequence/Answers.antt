@@ -1,4 +1,4 @@
-use Rattle.std.proofs.Common.{refl, ap}
+use Rattle.std.proofs.Common.{ap}
 use Rattle.m2v_decoder.proofs.StepLaws.{steps_sequence}
 use Rattle.m2v_decoder.proofs.course.Course.enter_sequence.Goals as goal
 

@@ -1,4 +1,4 @@
-use Rattle.std.proofs.Common.{◌≡◌, length}
+use Rattle.std.proofs.Common.{length}
 use Rattle.m2v_decoder.specs.Course.{IsSound}
 use Rattle.m2v_decoder.proofs.ReadLaws.{SoFar}
 use Rattle.m2v_decoder.proofs.course.Course.units.Given as goal

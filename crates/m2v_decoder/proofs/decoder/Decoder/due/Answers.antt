@@ -1,4 +1,4 @@
-use Rattle.std.proofs.Common.{◌≡◌, ◌≤◌, ◌+◌, length, option_to_list, ap, arith, sym, ◌∙◌, Option}
+use Rattle.std.proofs.Common.{length, option_to_list, ap, arith, sym, ◌∙◌, Option}
 use Rattle.std.proofs.lemmas.Bool.Decides.{nat_tests}
 use Rattle.m2v_plane.specs.Samples.{Samples}
 use Rattle.m2v_decoder.proofs.decoder.Decoder.due.Goals as goal

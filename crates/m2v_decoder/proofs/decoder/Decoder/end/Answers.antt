@@ -1,5 +1,5 @@
-use Rattle.std.proofs.Common.{◌≡◌, false, not, ap, ◌∙◌}
-use Rattle.m2v_decoder.proofs.EndLaws.{finished, end_none, advanced, refused}
+use Rattle.std.proofs.Common.{not, ap, ◌∙◌}
+use Rattle.m2v_decoder.proofs.EndLaws.{finished, end_none}
 use Rattle.m2v_decoder.proofs.decoder.Decoder.end.Goals as goal
 
 pub returns-then-is_none-clause-err : goal.returns-then-is_none-clause-err

@@ -1,8 +1,5 @@
-use Rattle.std.proofs.Common.{◌≡◌, ◌+◌, ◌-◌, ◌*◌, ◌≤◌, length, ap, ◌∙◌, sym, arith}
-use Rattle.m2v_model.specs.Units.{Units, cut}
+use Rattle.std.proofs.Common.{◌≡◌, ◌+◌, ◌*◌, ◌≤◌, length, arith}
 use Rattle.m2v_decoder.specs.Decoding.{whole_of}
-use Rattle.m2v_decoder.specs.Course.{Stops}
-use Rattle.m2v_decoder.specs.declared.halt.Halt.{Halt}
 use Rattle.m2v_decoder.proofs.EndLaws.{advanced, refused, whole_length}
 use Rattle.m2v_decoder.proofs.decoder.Decoder.piece.Goals as goal
 
