@@ -46,8 +46,8 @@ fn streams_give_their_frames(rt: HostRuntime) -> Result<(), AllocError> {
 #[test]
 fn a_fault_has_its_kind_and_its_place(rt: HostRuntime) -> Result<(), AllocError> {
     let table: [(usize, usize, &[u8], &str); 26] = [
-        // The text ends early. Behind its start code (32 bits) a sequence header has sizes, ratio and frame rate code of
-        // 32 bits, a bit rate of 18 and a marker, so its vbv_buffer_size of 10 bits stands at 32 + 32 + 18 + 1 = 83.
+        // The text ends early. Behind its start code (32 bits) a sequence header has sizes, ratio and frame rate code
+        // of 32 bits, a bit rate of 18 and a marker, so its vbv_buffer_size of 10 bits stands at 32 + 32 + 18 + 1 = 83.
         (0, 52, b"", "stream NoSequence at bit 0\n"),
         (11, 52, b"", "stream Truncated at bit 83\n"),
         (12, 52, b"", "stream NotMpeg2 at bit 96\n"),
@@ -97,14 +97,14 @@ fn a_fault_has_its_kind_and_its_place(rt: HostRuntime) -> Result<(), AllocError>
 }
 
 /// Changes of the stream of two frames, each with the status, how many samples were due, and the line: an I picture is
-/// shown once the next one is decoded. The second picture's bytes are 48 to 73, its slice's 65 to 73; a third picture put
-/// in behind it has its slice from byte 74 + 17 = 91 on.
+/// shown once the next one is decoded. The second picture's bytes are 48 to 73, its slice's 65 to 73; a third picture
+/// put in behind it has its slice from byte 74 + 17 = 91 on.
 #[rattlefmt::skip]
 #[test]
 fn frames_that_were_due_stand_before_a_fault(rt: HostRuntime) -> Result<(), AllocError> {
     let table: [(usize, usize, &[u8], u8, usize, &str); 4] = [
-        // The slice's bits from 70 * 8 = 560 on are 94 A5: three blocks of 5 bits, and a code that ends behind its first
-        // bit, at 560 + 15 = 575.
+        // The slice's bits from 70 * 8 = 560 on are 94 A5: three blocks of 5 bits, and the first bit of a code, at
+        // 560 + 15 = 575, behind which the unit ends.
         (72, 74, b"", 9, 0, "stream Truncated at bit 575\n"),
         (74, 74, &TWO[48..74], 0, 1152, "frames 3 pictures 3 dropped 0\n"),
         // The same in the third picture: 96 * 8 + 15 = 783.
@@ -121,8 +121,8 @@ fn frames_that_were_due_stand_before_a_fault(rt: HostRuntime) -> Result<(), Allo
     Ok(())
 }
 
-/// User data put in before the slice of the grey frame: with the 48 bytes of the picture and its headers and the 4 of its
-/// start code, 2,097,100 bytes make the piece 2,097,152 bytes long.
+/// User data put in before the slice of the grey frame: with the 48 bytes of the picture and its headers and the 4 of
+/// its start code, 2,097,100 bytes make the piece 2,097,152 bytes long.
 #[rattlefmt::skip]
 #[test]
 fn a_piece_over_the_limit_is_refused(rt: HostRuntime) -> Result<(), AllocError> {
