@@ -3,4 +3,10 @@
 #![tactic(auto)]
 
 #[cfg(test)]
+mod decode;
+#[cfg(test)]
 mod flat;
+#[cfg(test)]
+mod running;
+#[cfg(test)]
+mod streams;
