@@ -1,7 +1,8 @@
-ghost use Rattle.std.specs.Prelude.{◌≡◌, ℕ, ◌+◌, ◌≤◌, ◌<◌, ◌^◌, [], IsTrue, IfOk, IfErr, OnOk, true, false};
+ghost use Rattle.std.specs.Prelude.{◌≡◌, ℕ, ◌+◌, ◌≤◌, ◌<◌, ◌^◌, [], IsTrue, IfOk, IfErr, IfSome, OnOk, true, false};
 ghost use Rattle.m2v_port.specs.Port.{Rose};
 ghost use Rattle.m2v_decoder.specs.Decoding.{at_start};
 ghost use Rattle.m2v_decode.specs.Answers.{Change, Of, IsDecoded, Fails};
+ghost use Rattle.m2v_decode.specs.Complete.{IsAnswered};
 ghost use Rattle.m2v_decode.specs.Progress.{before_all, IsDone, Ends, EndFails};
 
 use crate::answer::Decoded;
@@ -71,13 +72,8 @@ fn finish<K: Sink>(
     })
 }
 
-/// Decodes a stream: reads it to its end code or to the input's end, and writes the frames that it shows as raw video, in
-/// display order, each as it becomes due.
-///
-/// # Errors
-/// The first fault of the stream, with output grown by the frames that were due before the piece that has it; too long
-/// or too large, by the input's limits; a failed endpoint; want of memory.
-pub fn decode<S: Source, K: Sink>(
+/// Reads piece after piece to the end, and ends the stream there.
+fn by_pieces<S: Source, K: Sink>(
     alloc: Global,
     input: &mut S,
     output: &mut K,
@@ -94,4 +90,28 @@ pub fn decode<S: Source, K: Sink>(
     let mut decoder = Decoder::new(alloc)?;
     read_pieces(alloc, &mut cutter, &mut decoder, input, output)?;
     finish(alloc, cutter.end(), &mut decoder, output)
+}
+
+/// Decodes a stream: reads it to its end code or to the input's end, and writes the frames that it shows as raw video, in
+/// display order, each as it becomes due.
+///
+/// # Errors
+/// The first fault of the stream, with output grown by the frames that were due before the piece that has it; too long
+/// or too large, by the input's limits; a failed endpoint; want of memory.
+pub fn decode<S: Source, K: Sink>(
+    alloc: Global,
+    input: &mut S,
+    output: &mut K,
+) -> Result<Decoded, DecodeError>
+    requires output { IsTrue (K.ready output.old) }
+    ensures ok { IfOk result (λ d. Of (record { old = S.left input.old; new = S.left input.new }) (λ text. IsDecoded text (record { old = K.held output.old; new = K.held output.new }) d)) }
+    ensures err { IfErr result (Fails (Rose (S.faults input.old) (S.faults input.new)) (Rose (K.faults output.old) (K.faults output.new)) (record { old = S.left input.old; new = S.left input.new }) (record { old = K.held output.old; new = K.held output.new })) }
+    // A text that decodes, that has a first fault or that passes a limit is answered so, and by nothing else.
+    ensures answer { IfSome (S.left input.old) (IsAnswered (Rose (S.faults input.old) (S.faults input.new)) (Rose (K.faults output.old) (K.faults output.new)) result) }
+    ensures output { IsTrue (K.ready output.new) }
+    ensures name { K.name output.new ≡ K.name output.old }
+    ensures input_faults { S.faults input.old ≤ S.faults input.new }
+    ensures output_faults { K.faults output.old ≤ K.faults output.new }
+{
+    by_pieces(alloc, input, output)
 }

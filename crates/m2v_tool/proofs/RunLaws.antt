@@ -13,7 +13,8 @@ use Rattle.m2v_tool.specs.Outcomes.{status_of, status_unreported}
 use Rattle.m2v_tool.specs.Reports.{Told}
 use Rattle.m2v_tool.specs.Words.{IsFlat, IsDecode, Means, NoCommand, settings_of, WordsPass}
 use Rattle.m2v_tool.specs.Coding.{FlatComes, AreFrames, Answers}
-use Rattle.m2v_tool.specs.Decoding.{DecodeComes, IsUnderLimits, IsPast, Shows, Refuses, Stopped}
+use Rattle.m2v_decode.specs.Complete.{IsUnderLimits, IsPast}
+use Rattle.m2v_tool.specs.Decoding.{DecodeComes, Shows, Refuses, Stopped}
 use Rattle.m2v_tool.specs.Runs.{Comes, refused, meant}
 use Rattle.m2v_tool.proofs.WordLaws.{one_meaning, not_both}
 use Rattle.m2v_tool.proofs.CodingLaws.{refusal, unfit_at, answer_at, whole_answer}

@@ -1,18 +1,15 @@
 -- What `decode` does: which outcome comes, what stands in input and output then, and what is answered to a text by its
 -- decoding or its first fault.
-use Rattle.std.specs.Prelude.{ℕ, ◌≡◌, ◌≤◌, List, length}
+use Rattle.std.specs.Prelude.{ℕ, ◌≡◌, List}
 use Rattle.m2v_port.specs.Port.{Grows}
 use Rattle.m2v_plane.specs.Raw.{raw}
 use Rattle.m2v_encode.specs.Answers.{Change}
-use Rattle.m2v_model.specs.declared.state.State.{State}
-use Rattle.m2v_model.specs.Pictures.{Pictures}
-use Rattle.m2v_model.specs.Pieces.{pieces, most_input, Limit, too_long, too_large}
-use Rattle.m2v_model.specs.Decoding.{Decodes, pictures}
+use Rattle.m2v_model.specs.Pieces.{pieces, Limit, too_long, too_large}
+use Rattle.m2v_model.specs.Decoding.{Decodes}
 use Rattle.m2v_piece.specs.declared.answer.Fault.{Fault}
 use Rattle.m2v_piece.specs.declared.answer.DecodeError.TheVariants as errors
-use Rattle.m2v_decode.specs.declared.answer.Decoded.{Decoded}
-use Rattle.m2v_piece.specs.Cutting.{Passes}
-use Rattle.m2v_decode.specs.Answers.{Of, Begun, behind, IsDecoded, IsFaulty, IsOver, Fails, AllFit, start_of}
+use Rattle.m2v_decode.specs.Answers.{Of, IsDecoded, IsFaulty, IsOver, Fails, AllFit, start_of}
+use Rattle.m2v_decode.specs.Complete.{IsUnderLimits, counted}
 use Rattle.m2v_decode.specs.Answers.{Change as Seen}
 use Rattle.m2v_tool.specs.declared.outcome.Outcome.{Outcome}
 use Rattle.m2v_tool.specs.declared.outcome.Outcome.TheVariants as outcomes
@@ -40,29 +37,10 @@ DecodeComes InputRose OutputRose left held (outcomes.ShortFrame extra) = ⊥
 DecodeComes InputRose OutputRose left held outcomes.NoFrames = ⊥
 DecodeComes InputRose OutputRose left held outcomes.TooManyFrames = ⊥
 
--- no piece of a text passes a limit, nor do the bytes before the first one
-pub record IsUnderLimits (text : List ℕ) : Type 0 where
-  pub start : start_of text ≤ most_input
-  pub pieces : AllFit (start_of text) (pieces text)
-
--- A piece of a text passes this limit, and no fault stands in those before it; the first one begins where an input may have
--- bytes.
-pub record IsPast (text : List ℕ) (l : Limit) : Type 0 where
-  pub start : start_of text ≤ most_input
-  pub pictures : Pictures
-  pub state : State
-  pub others : List (List ℕ)
-  pub begun : Begun text pictures state others
-  pub passes : Passes (behind begun) l others
-
 -- the status of a limit
 abbrev pub status_past : Limit → ℕ
 status_past too_long = 13
 status_past too_large = 14
-
--- the numbers of a text that decodes
-abbrev pub counted : {text : List ℕ} {frames : List (List ℕ)} → Decodes text frames → Decoded
-counted {text} {frames} d = record { frames = length frames; pictures = length (pictures (d.tree).parts); dropped = 0 }
 
 -- What `decode` answers to a text that decodes: where no piece passes a limit status 0 with its frames on output and its
 -- line on report, or 8 where the report's count rose then; else 13 or 14. In their place may come 12, and 7 or 8 where a

@@ -5,12 +5,13 @@ ghost use Rattle.m2v_encode.specs.Answers.{Change};
 ghost use Rattle.m2v_model.specs.Pieces.{Limit};
 ghost use Rattle.m2v_model.specs.Decoding.{Decodes, FaultAt};
 ghost use Rattle.m2v_piece.specs.declared.answer.Fault.{Fault};
+ghost use Rattle.m2v_decode.specs.Complete.{IsUnderLimits, IsPast};
 ghost use Rattle.m2v_tool.specs.declared.words.FlatWords.{FlatWords};
 ghost use Rattle.m2v_tool.specs.Words.{IsFlat, IsDecode, NoCommand, WordsPass, settings_of};
 ghost use Rattle.m2v_tool.specs.Outcomes.{outcome_of, outcome_after, status_of, status_unreported, line_of};
 ghost use Rattle.m2v_tool.specs.Reports.{Told};
 ghost use Rattle.m2v_tool.specs.Coding.{FlatComes, Answers, AreFrames};
-ghost use Rattle.m2v_tool.specs.Decoding.{DecodeComes, IsUnderLimits, IsPast, Shows, Refuses, Stopped};
+ghost use Rattle.m2v_tool.specs.Decoding.{DecodeComes, Shows, Refuses, Stopped};
 ghost use Rattle.m2v_tool.specs.Runs.{Comes, Ran};
 
 use crate::line::line;

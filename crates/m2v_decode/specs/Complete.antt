@@ -1,0 +1,60 @@
+-- What is answered to a text, and that no other answer comes: by its decoding, its first fault, or the limit that a piece
+-- passes first.
+use Rattle.std.specs.Prelude.{◌≡◌, ℕ, ◌≤◌, List, length, Result, Ok, Err}
+use Rattle.m2v_model.specs.declared.state.State.{State}
+use Rattle.m2v_model.specs.Pictures.{Pictures}
+use Rattle.m2v_model.specs.Pieces.{pieces, most_input, Limit, too_long, too_large}
+use Rattle.m2v_model.specs.Decoding.{Decodes, FaultAt, pictures}
+use Rattle.m2v_piece.specs.declared.answer.Fault.{Fault}
+use Rattle.m2v_piece.specs.declared.answer.DecodeError.{DecodeError}
+use Rattle.m2v_piece.specs.declared.answer.DecodeError.TheVariants as errors
+use Rattle.m2v_piece.specs.Cutting.{Passes}
+use Rattle.m2v_decode.specs.declared.answer.Decoded.{Decoded}
+use Rattle.m2v_decode.specs.Answers.{AllFit, start_of, Begun, behind, HasFault}
+
+-- no piece of a text passes a limit, nor do the bytes before the first one
+pub record IsUnderLimits (text : List ℕ) : Type 0 where
+  pub start : start_of text ≤ most_input
+  pub pieces : AllFit (start_of text) (pieces text)
+
+-- A piece of a text passes this limit, and no fault stands in those before it; the first one begins where an input may have
+-- bytes.
+pub record IsPast (text : List ℕ) (l : Limit) : Type 0 where
+  pub start : start_of text ≤ most_input
+  pub pictures : Pictures
+  pub state : State
+  pub others : List (List ℕ)
+  pub begun : Begun text pictures state others
+  pub passes : Passes (behind begun) l others
+
+-- The piece with this fault, and those before it, pass no limit; the first one begins where an input may have bytes.
+pub record IsReached (text : List ℕ) (f : Fault) : Type 0 where
+  pub start : start_of text ≤ most_input
+  pub pictures : Pictures
+  pub state : State
+  pub others : List (List ℕ)
+  pub begun : Begun text pictures state others
+  pub here : HasFault state (behind begun) others f.kind f.place
+
+-- the numbers of a text that decodes
+abbrev pub counted : {text : List ℕ} {frames : List (List ℕ)} → Decodes text frames → Decoded
+counted {text} {frames} d = record { frames = length frames; pictures = length (pictures (d.tree).parts); dropped = 0 }
+
+-- the error of a limit
+abbrev pub error_of : Limit → DecodeError
+error_of too_long = errors.TooLong
+error_of too_large = errors.PictureTooLarge
+
+-- This is answered. In its place may come want of memory, and a failed endpoint where a count rose.
+pub data Gives (InputRose OutputRose : Type 0) (answer result : Result Decoded DecodeError) : Type 0 where
+  as_said : result ≡ answer → Gives InputRose OutputRose answer result
+  read : result ≡ Err errors.Read → InputRose → Gives InputRose OutputRose answer result
+  write : result ≡ Err errors.Write → OutputRose → Gives InputRose OutputRose answer result
+  memory : result ≡ Err errors.Memory → Gives InputRose OutputRose answer result
+
+-- What is answered to a text: where it decodes under the limits its numbers; where its first fault comes before a limit that
+-- fault; where a limit is passed before a fault that limit.
+pub record IsAnswered (InputRose OutputRose : Type 0) (result : Result Decoded DecodeError) (text : List ℕ) : Type 0 where
+  pub decodes : (frames : List (List ℕ)) (d : Decodes text frames) → IsUnderLimits text → Gives InputRose OutputRose (Ok (counted d)) result
+  pub faulty : (f : Fault) → FaultAt text f.place f.kind → IsReached text f → Gives InputRose OutputRose (Err (errors.Stream f)) result
+  pub over : (l : Limit) → IsPast text l → Gives InputRose OutputRose (Err (error_of l)) result
