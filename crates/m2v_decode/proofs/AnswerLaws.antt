@@ -1,5 +1,5 @@
 -- What follows from what is known of an answer: a text with a cause is answered by it, and by nothing else.
-use Rattle.std.proofs.Common.{◌≡◌, ◌⊎◌, inl, inr, ℕ, ◌+◌, ◌<◌, ◌≤◌, Bool, true, false, List, [], ◌∷◌, ◌++◌, length, Option, Some, None, Result, Ok, Err, refl, sym, ap, subst, ◌∙◌, arith}
+use Rattle.std.proofs.Common.{◌≡◌, inl, inr, ℕ, ◌+◌, ◌<◌, ◌≤◌, Bool, true, false, List, [], ◌∷◌, ◌++◌, length, Option, Some, None, Result, Ok, Err, refl, sym, ap, subst, ◌∙◌, arith}
 use Rattle.std.specs.Prelude.{if◌then◌else◌, not, nat_eq, nat_le, ◌&&◌, IfSome, IfOk, IfErr}
 use Rattle.std.proofs.lemmas.Bool.{cases_lt, le-leb}
 use Rattle.m2v_port.specs.Port.{Grows}
@@ -210,7 +210,7 @@ pub answered : (InputRose OutputRose : Type 0) (old new : Option (List ℕ)) (he
     → IfSome old (IsAnswered InputRose OutputRose result)
 answered IR OR None new held result ok err = tt
 answered IR OR (Some text) new held result ok err = record {
-    decodes = λ frames d under. by_decodes IR OR text new held frames d under result ok err;
-    faulty = λ f at r. by_fault IR OR text new held f at r result ok err;
-    over = λ l past. by_limit IR OR text new held l past result ok err
-  }
+  decodes = λ frames d under. by_decodes IR OR text new held frames d under result ok err;
+  faulty = λ f at r. by_fault IR OR text new held f at r result ok err;
+  over = λ l past. by_limit IR OR text new held l past result ok err;
+}
