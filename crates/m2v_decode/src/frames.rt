@@ -1,9 +1,8 @@
-ghost use Rattle.std.specs.Prelude.{◌≡◌, ℕ, ◌+◌, ◌*◌, ◌/◌, ◌≤◌, [], map, length, IsTrue, IfOk, IfErr, OnOk, false};
+ghost use Rattle.std.specs.Prelude.{◌≡◌, ◌+◌, ◌*◌, ◌/◌, ◌≤◌, map, IsTrue, IfOk, IfErr, OnOk, false};
 ghost use Rattle.m2v_port.specs.Port.{Rose, Grows};
 ghost use Rattle.m2v_plane.specs.Sizes.{IsSize};
 ghost use Rattle.m2v_plane.specs.Raw.{frame_bytes, crop, raw};
 ghost use Rattle.m2v_decoder.specs.Decoding.{due_of};
-ghost use Rattle.m2v_decode.specs.Answers.{Change};
 ghost use Rattle.m2v_decode.specs.Progress.{Cuts, HasPut};
 
 use m2v_decoder::Decoder;

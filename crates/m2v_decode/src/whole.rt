@@ -1,7 +1,7 @@
-ghost use Rattle.std.specs.Prelude.{◌≡◌, ℕ, ◌+◌, ◌≤◌, ◌<◌, ◌^◌, [], IsTrue, IfOk, IfErr, IfSome, OnOk, true, false};
+ghost use Rattle.std.specs.Prelude.{◌≡◌, ◌≤◌, ◌<◌, ◌^◌, IsTrue, IfOk, IfErr, IfSome, OnOk, false};
 ghost use Rattle.m2v_port.specs.Port.{Rose};
 ghost use Rattle.m2v_decoder.specs.Decoding.{at_start};
-ghost use Rattle.m2v_decode.specs.Answers.{Change, Of, IsDecoded, Fails};
+ghost use Rattle.m2v_decode.specs.Answers.{Of, IsDecoded, Fails};
 ghost use Rattle.m2v_decode.specs.Complete.{IsAnswered};
 ghost use Rattle.m2v_decode.specs.Progress.{before_all, IsDone, Ends, EndFails};
 
@@ -97,7 +97,8 @@ fn by_pieces<S: Source, K: Sink>(
 ///
 /// # Errors
 /// The first fault of the stream, with output grown by the frames that were due before the piece that has it; too long
-/// or too large, by the input's limits; a failed endpoint; want of memory.
+/// or too large, by the input's limits, with output grown likewise; a failed endpoint and want of memory, with a prefix
+/// of the frames on output.
 pub fn decode<S: Source, K: Sink>(
     alloc: Global,
     input: &mut S,

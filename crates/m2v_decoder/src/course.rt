@@ -1,14 +1,12 @@
-ghost use Rattle.std.specs.Prelude.{◌≡◌, ◌+◌, ◌-◌, ◌*◌, ◌^◌, ◌<◌, ◌≤◌, ◌++◌, List, ℕ, OnOk, IfOk, IfErr, true, false, None, option_to_list, length};
-ghost use Rattle.m2v_model.specs.Units.{unit_bits};
-ghost use Rattle.m2v_model.specs.States.{after_end, after_sequence};
-ghost use Rattle.m2v_model.specs.Streams.{Part, value_of, known_unit, over, sequence, group, picture, matrices, ending};
+ghost use Rattle.std.specs.Prelude.{◌≡◌, ◌+◌, ◌-◌, ◌^◌, ◌<◌, List, ℕ, OnOk, true, false, None};
+ghost use Rattle.m2v_model.specs.States.{after_sequence};
+ghost use Rattle.m2v_model.specs.Streams.{sequence, group, picture, matrices};
 ghost use Rattle.m2v_model.specs.Pictures.{type_of, closed};
 ghost use Rattle.m2v_head.specs.Fits.{IsLoaded};
 ghost use Rattle.m2v_model.specs.States.{loaded_or as matrix_or};
 ghost use Rattle.m2v_picture.specs.Conditions.{IsMatrix};
 ghost use Rattle.m2v_part.specs.declared.header.Header.TheVariants as headers;
 ghost use Rattle.m2v_part.specs.Among.{HeaderFits, part_of};
-ghost use Rattle.m2v_model.proofs.FlowLaws.{unit_of};
 ghost use Rattle.m2v_decoder.specs.Course.{IsSound, Steps, Showed, Begun, Closed};
 
 use crate::Memory;

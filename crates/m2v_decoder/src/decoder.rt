@@ -18,7 +18,8 @@ use std::marker::Model;
 /// A decoder of one stream, which is handed to it piece by piece.
 ///
 /// Contracts see it as the headers in force, the anchor that waits to be shown, the frames that are due and weren't
-/// handed out, whether the end has come, and how many pictures were decoded and frames handed out.
+/// handed out, whether the end has come, whether a piece was refused, and how many pictures were decoded and frames
+/// handed out.
 #[derive(Drop)]
 pub struct Decoder {
     course: Course,
@@ -115,7 +116,7 @@ impl Decoder {
     /// Ends the stream, which has so many bytes.
     ///
     /// # Errors
-    /// `NoSequence`, where there was no sequence header.
+    /// `NoSequence`, where there was no sequence header. No call may follow then.
     pub fn end(&mut self, length: u64) -> Result<(), Fault>
         requires going { self.old.failed ≡ false }
         requires before { self.old.ended ≡ false }

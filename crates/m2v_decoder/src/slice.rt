@@ -1,5 +1,5 @@
 ghost use Rattle.std.specs.Prelude.{◌≡◌, ◌+◌, ◌-◌, ◌*◌, ◌^◌, ◌<◌, ◌≤◌, List, ℕ, IfOk, IfErr, IfSome, OnOk, Ok, Err, Some, true};
-ghost use Rattle.m2v_model.specs.Units.{Units, unit_bits};
+ghost use Rattle.m2v_model.specs.Units.{Units};
 ghost use Rattle.m2v_model.specs.States.{rows_of as rows_in};
 ghost use Rattle.m2v_model.specs.Streams.{value_of, slice_unit, slice};
 ghost use Rattle.m2v_model.specs.Slices.{Slice};
@@ -59,6 +59,7 @@ impl Course {
         requires row { row < rows_in s.now }
         ensures { Paints self.old s.now p.now row u.now units.now result self.new }
     {
+        // a picture that is open has its frame, so this doesn't come
         let Some(mut canvas) = self.canvas.take() else {
             return Err(Stop {
                 kind: FaultKind::SliceOrder,
