@@ -51,6 +51,14 @@ ends_low at (p ∷ ps) fit le =
     let next : (at + 0) + length p ≤ most_input = stays_low at 0 p fit.0 (omega arith) in
     ends_low (at + length p) ps fit.1 (omega arith)
 
+-- pieces end no earlier than they begin
+ends_behind : (at : ℕ) (ps : List (List ℕ)) → at ≤ end_of at ps
+unfolding end_of
+ends_behind at [] = omega arith
+ends_behind at (p ∷ ps) =
+    let more : at + length p ≤ end_of (at + length p) ps = ends_behind (at + length p) ps in
+    omega arith
+
 pub rest_fits : (at : ℕ) (first others : List (List ℕ)) → AllFit at (first ++ others) → AllFit (end_of at first) others
 unfolding end_of
 rest_fits at [] others fit = fit
@@ -109,12 +117,25 @@ pub one_limit : (text : List ℕ) (l m : Limit) (past : IsPast text l) (first ot
 one_limit text l m past first others are fit passes =
     over_over (past.begun).first first past.others others (start_of text) l m (sym (past.begun).are ∙ are) (past.begun).fit fit past.passes passes
 
+-- a piece that begins where an input has no more bytes passes the limit of long inputs, and no other
+late_limit : (place : ℕ) (bs : List ℕ) (l : Limit) → most_input ≤ place → limit place 0 bs ≡ Some l → l ≡ too_long
+unfolding limit
+late_limit place [] l le some = absurd cc
+late_limit place (b ∷ bs) l le some =
+    let t : nat_le most_input (place + 0) ≡ true = le-leb most_input (place + 0) (omega arith) in
+    cc
+
 -- a limit that was passed first is too long where it is told as that, and too large likewise
 pub past_long : (text : List ℕ) (l : Limit) (held : Change) → IsPast text l → IsOver text held errors.TooLong → l ≡ too_long
 past_long text l held past o = elim (o.over) [
-  | inl more ↦
-      let low = ends_low (start_of text) (o.begun).first (o.begun).fit past.start in
-      absurd (omega arith)
+  | inl more ↦ elim (cases_lt most_input (start_of text)) [
+    | inl late ↦
+        let low = ends_behind (start_of text) (past.begun).first in
+        late_limit (end_of (start_of text) (past.begun).first) (past.passes).whole l (omega arith) (past.passes).decides
+    | inr start ↦
+        let low = ends_low (start_of text) (o.begun).first (o.begun).fit start in
+        absurd (omega arith)
+  ]
   | inr passes ↦ one_limit text l too_long past (o.begun).first o.others (o.begun).are (o.begun).fit passes
 ]
 

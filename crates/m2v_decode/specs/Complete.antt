@@ -17,10 +17,8 @@ pub record IsUnderLimits (text : List ℕ) : Type 0 where
   pub start : start_of text ≤ most_input
   pub pieces : AllFit (start_of text) (pieces text)
 
--- A piece of a text passes this limit, and no fault stands in those before it; the first one begins where an input may have
--- bytes.
+-- a piece of a text passes this limit, and those before it pass none and have no fault
 pub record IsPast (text : List ℕ) (l : Limit) : Type 0 where
-  pub start : start_of text ≤ most_input
   pub pictures : Pictures
   pub state : State
   pub others : List (List ℕ)
