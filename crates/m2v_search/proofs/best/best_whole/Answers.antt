@@ -1,0 +1,18 @@
+use Rattle.std.proofs.Common.{◌≡◌, ◌*◌, ◌∙◌, arith, sym, subst}
+use Rattle.m2v_search.specs.Least.{least}
+use Rattle.m2v_search.specs.Spots.{spots, spot_sad, whole_spot, IsNear}
+use Rattle.m2v_search.proofs.Near.{whole_near}
+use Rattle.m2v_search.proofs.best.best_whole.Goals as goal
+
+pub returns : goal.returns
+unfolding whole_spot
+returns c =
+    let cost = spot_sad c.args.block.now c.args.count c.args.window.now in
+    let is : c.best_by_bounds.result.spot ≡ whole_spot cost c.args.count c.args.area c.args.across c.args.down =
+    c.best_by_bounds.ensures.spot ∙ (λ i. least cost (c.requires.middle i) (spots 2 (c.within_reach-lines.ensures.value i) (c.within_reach-columns.ensures.value i))) in
+    record {
+      spot = is;
+      sad = c.best_by_bounds.ensures.sad;
+      near = subst (IsNear c.args.count c.args.area (2 * c.args.across) (2 * c.args.down)) (sym is)
+          (whole_near cost c.args.count c.args.area c.args.across c.args.down (omega arith) (omega arith) (omega arith) (omega arith) (omega arith) (omega arith) (omega arith));
+    }

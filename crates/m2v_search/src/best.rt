@@ -1,0 +1,105 @@
+//! The best place of a window: in whole samples first, and then half a sample around it.
+ghost use Rattle.std.specs.Prelude.{◌≡◌, ◌+◌, ◌*◌, ◌≤◌, ◌⊎◌, length};
+ghost use Rattle.m2v_search.specs.Spots.{spot_sad, middle, whole_spot, half_spot, IsNear};
+
+use crate::difference::sad_of;
+use crate::passing::best_by_bounds;
+use crate::scan::best_of;
+use crate::spot::{Area, Best, Spot, within_reach};
+
+/// The best place of the window: of all in whole samples, and then of those half a sample around it.
+pub fn best_spot(
+    block: &[u8],
+    count: u32,
+    window: &[u8],
+    area: Area,
+    across: u32,
+    down: u32,
+) -> Best
+    requires count { (count ≡ 8) ⊎ (count ≡ 16) }
+    requires block { length block.now ≡ 16 * count }
+    requires window { length window.now ≡ 2304 }
+    requires across { across ≤ 15 }
+    requires down { down + 1 ≤ count }
+    requires top { area.top ≤ count }
+    requires bottom { 2 * count ≤ area.bottom }
+    requires left { area.left ≤ 16 }
+    requires right { 32 ≤ area.right }
+    requires high { area.bottom ≤ 3 * count }
+    requires wide { area.right ≤ 48 }
+    ensures spot { result.spot ≡ half_spot (spot_sad block.now count window.now) count area (whole_spot (spot_sad block.now count window.now) count area across down) }
+    ensures sad { result.sad ≡ spot_sad block.now count window.now result.spot }
+    ensures near { IsNear count area (2 * across + 1) (2 * down + 1) result.spot }
+{
+    let spot = Spot {
+        y: 2 * count,
+        x: 32,
+    };
+    let best = Best {
+        spot,
+        sad: sad_of(block, count as usize, window, spot),
+    };
+    let best = best_whole(block, count, window, area, across, down, best);
+    best_half(block, count, window, area, 2 * across, 2 * down, best)
+}
+
+/// The best place in whole samples, the middle first.
+fn best_whole(
+    block: &[u8],
+    count: u32,
+    window: &[u8],
+    area: Area,
+    across: u32,
+    down: u32,
+    best: Best,
+) -> Best
+    requires count { (count ≡ 8) ⊎ (count ≡ 16) }
+    requires block { length block.now ≡ 16 * count }
+    requires window { length window.now ≡ 2304 }
+    requires across { across ≤ 15 }
+    requires down { down + 1 ≤ count }
+    requires top { area.top ≤ count }
+    requires bottom { 2 * count ≤ area.bottom }
+    requires left { area.left ≤ 16 }
+    requires right { 32 ≤ area.right }
+    requires high { area.bottom ≤ 3 * count }
+    requires wide { area.right ≤ 48 }
+    requires middle { best.spot ≡ middle count }
+    requires known { best.sad ≡ spot_sad block.now count window.now best.spot }
+    ensures spot { result.spot ≡ whole_spot (spot_sad block.now count window.now) count area across down }
+    ensures sad { result.sad ≡ spot_sad block.now count window.now result.spot }
+    ensures near { IsNear count area (2 * across) (2 * down) result.spot }
+{
+    let lines = within_reach(count, down, area.top, area.bottom, count);
+    let columns = within_reach(16, across, area.left, area.right, 16);
+    best_by_bounds(block, count as usize, window, lines, columns, best)
+}
+
+/// The best place half a sample around one, that one first.
+fn best_half(
+    block: &[u8],
+    count: u32,
+    window: &[u8],
+    area: Area,
+    across: u32,
+    down: u32,
+    best: Best,
+) -> Best
+    requires count { (count ≡ 8) ⊎ (count ≡ 16) }
+    requires block { length block.now ≡ 16 * count }
+    requires window { length window.now ≡ 2304 }
+    requires across { across ≤ 30 }
+    requires down { down + 2 ≤ 2 * count }
+    requires high { area.bottom ≤ 3 * count }
+    requires wide { area.right ≤ 48 }
+    requires near { IsNear count area across down best.spot }
+    requires known { best.sad ≡ spot_sad block.now count window.now best.spot }
+    ensures spot { result.spot ≡ half_spot (spot_sad block.now count window.now) count area best.spot }
+    ensures sad { result.sad ≡ spot_sad block.now count window.now result.spot }
+    ensures near { IsNear count area (across + 1) (down + 1) result.spot }
+{
+    let Spot { y, x } = best.spot;
+    let lines = within_reach(y, 1, 2 * area.top, 2 * area.bottom, 2 * count);
+    let columns = within_reach(x, 1, 2 * area.left, 2 * area.right, 32);
+    best_of(block, count as usize, window, 1, lines, columns, best)
+}

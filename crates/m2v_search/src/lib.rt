@@ -1,0 +1,21 @@
+//! The search of motion vectors: of all vectors within reach the first one of least luma difference, in whole samples and
+//! then among its neighbours at half samples.
+#![tactic(auto)]
+
+mod best;
+mod difference;
+mod form;
+mod half;
+mod laws;
+mod parts;
+mod passing;
+mod scan;
+mod spot;
+#[cfg(test)]
+mod tests;
+mod vector;
+mod window;
+
+pub use form::SearchForm;
+pub use laws::law_first_least;
+pub use vector::{Found, best_vector};

@@ -1,0 +1,270 @@
+//! The search in whole samples. A place whose bound is no less than the best so far is passed over without a look at its
+//! samples, and the most likely place is looked at first, so that the best so far is low from the start.
+ghost use Rattle.std.specs.Prelude.{ℕ, ◌≡◌, ◌+◌, ◌-◌, ◌*◌, ◌≤◌, ◌<◌, ◌⊎◌, min, length, map, slice_index};
+ghost use Rattle.std.specs.List.{range_with_len};
+ghost use Rattle.m2v_search.specs.Least.{better, least};
+ghost use Rattle.m2v_search.specs.Spots.{spot_sad, spots};
+ghost use Rattle.m2v_search.specs.Bounds.{cut, HasSmall, IsBound, AreParts, part_sum};
+
+use crate::difference::spot_sad_until;
+use crate::parts::{Parts, block_parts, line_bounds, lowest, part_sums};
+use crate::spot::{Best, Span, Spot};
+
+/// The better of the best so far and one place more, of which a bound is known, as long as they lie below a limit.
+#[inline(always)]
+fn tried_below(
+    block: &[u8],
+    count: usize,
+    window: &[u8],
+    best: Best,
+    spot: Spot,
+    bound: u32,
+    limit: u32,
+) -> Best
+    requires count { (count ≡ 8) ⊎ (count ≡ 16) }
+    requires block { length block.now ≡ 16 * count }
+    requires window { length window.now ≡ 2304 }
+    requires y { spot.y + 2 * count ≤ 96 }
+    requires x { spot.x ≤ 64 }
+    requires bound { bound ≤ spot_sad block.now count window.now spot }
+    requires known { best.sad ≡ spot_sad block.now count window.now best.spot }
+    ensures spot { result.spot ≡ better (cut limit (spot_sad block.now count window.now)) best.spot spot }
+    ensures sad { result.sad ≡ spot_sad block.now count window.now result.spot }
+{
+    let limit = lower(best.sad, limit);
+    if limit <= bound {
+        return best;
+    }
+    match spot_sad_until(block, count, window, spot, limit) {
+        Some(sad) => Best { spot, sad },
+        None => best,
+    }
+}
+
+/// The lower of two numbers.
+#[inline(always)]
+fn lower(a: u32, b: u32) -> u32
+    ensures { result ≡ min a b }
+{
+    if a < b { a } else { b }
+}
+
+/// The best of a place and of those in some columns of a line, as long as they lie below a limit.
+#[inline(always)]
+fn passed_line(
+    block: &[u8],
+    count: usize,
+    window: &[u8],
+    y: u32,
+    columns: Span,
+    bounds: &[u16; 32],
+    limit: u32,
+    best: Best,
+) -> Best
+    requires count { (count ≡ 8) ⊎ (count ≡ 16) }
+    requires block { length block.now ≡ 16 * count }
+    requires window { length window.now ≡ 2304 }
+    requires y { y + count ≤ 48 }
+    requires some { columns.first ≤ columns.end }
+    requires few { columns.end ≤ columns.first + 32 }
+    requires x { columns.end ≤ 33 }
+    requires bounds { (x : ℕ) → columns.first ≤ x → x < columns.end
+        → slice_index bounds.now (x - columns.first) ≤ spot_sad block.now count window.now (record { y = 2 * y; x = 2 * x }) }
+    requires known { best.sad ≡ spot_sad block.now count window.now best.spot }
+    ensures spot { result.spot ≡ least (cut limit (spot_sad block.now count window.now)) best.spot
+        (map (λ x. record { y = 2 * y; x = 2 * x }) (range_with_len columns.first (columns.end - columns.first))) }
+    ensures sad { result.sad ≡ spot_sad block.now count window.now result.spot }
+{
+    let mut best = best;
+    for x in columns.first..columns.end {
+        let bound = u32::from(bounds[(x - columns.first) as usize]);
+        let spot = Spot { y: 2 * y, x: 2 * x };
+        best = tried_below(block, count, window, best, spot, bound, limit);
+    }
+    best
+}
+
+/// The same, where the line is passed over as a whole if no bound of it lies below the best so far.
+#[inline(always)]
+fn line_by_bounds(
+    block: &[u8],
+    count: usize,
+    window: &[u8],
+    y: u32,
+    columns: Span,
+    bounds: &[u16; 32],
+    limit: u32,
+    best: Best,
+) -> Best
+    requires count { (count ≡ 8) ⊎ (count ≡ 16) }
+    requires block { length block.now ≡ 16 * count }
+    requires window { length window.now ≡ 2304 }
+    requires y { y + count ≤ 48 }
+    requires some { columns.first ≤ columns.end }
+    requires few { columns.end ≤ columns.first + 32 }
+    requires x { columns.end ≤ 33 }
+    requires bounds { (x : ℕ) → columns.first ≤ x → x < columns.end
+        → slice_index bounds.now (x - columns.first) ≤ spot_sad block.now count window.now (record { y = 2 * y; x = 2 * x }) }
+    requires known { best.sad ≡ spot_sad block.now count window.now best.spot }
+    ensures spot { result.spot ≡ least (cut limit (spot_sad block.now count window.now)) best.spot
+        (map (λ x. record { y = 2 * y; x = 2 * x }) (range_with_len columns.first (columns.end - columns.first))) }
+    ensures sad { result.sad ≡ spot_sad block.now count window.now result.spot }
+{
+    let least = u32::from(lowest(bounds));
+    if lower(best.sad, limit) <= least {
+        return best;
+    }
+    passed_line(block, count, window, y, columns, bounds, limit, best)
+}
+
+/// The best of a place and of those in some lines and columns, line by line and from left to right, as long as they lie
+/// below a limit.
+fn passed(
+    block: &[u8],
+    count: usize,
+    window: &[u8],
+    sums: &[u16],
+    parts: &Parts,
+    lines: Span,
+    columns: Span,
+    limit: u32,
+    best: Best,
+) -> Best
+    requires count { (count ≡ 8) ⊎ (count ≡ 16) }
+    requires block { length block.now ≡ 16 * count }
+    requires window { length window.now ≡ 2304 }
+    requires sums { length sums.now ≡ 2304 }
+    requires most { (i : ℕ) → slice_index sums.now i ≤ 16320 }
+    requires small { HasSmall parts.now }
+    requires bound { IsBound block.now count window.now (slice_index sums.now) parts.now }
+    requires lines { lines.first ≤ lines.end }
+    requires columns { columns.first ≤ columns.end }
+    requires few { columns.end ≤ columns.first + 32 }
+    requires y { lines.end + count ≤ 49 }
+    requires x { columns.end ≤ 33 }
+    requires known { best.sad ≡ spot_sad block.now count window.now best.spot }
+    ensures spot { result.spot ≡ least (cut limit (spot_sad block.now count window.now)) best.spot (spots 2 lines columns) }
+    ensures sad { result.sad ≡ spot_sad block.now count window.now result.spot }
+{
+    let mut best = best;
+    for y in lines.first..lines.end {
+        let bounds = line_bounds(sums, count, (48 * y + columns.first) as usize, parts);
+        best = line_by_bounds(block, count, window, y, columns, &bounds, limit, best);
+    }
+    best
+}
+
+/// The place of the least of the first n bounds.
+#[inline(always)]
+fn least_bound(bounds: &[u16; 32], n: usize) -> usize
+    requires some { 1 ≤ n }
+    requires most { n ≤ 32 }
+    ensures { result < n }
+{
+    let mut at = 0;
+    for k in 1..n {
+        if bounds[k] < bounds[at] {
+            at = k;
+        }
+    }
+    at
+}
+
+/// A place among some lines and columns: one of the least bound.
+fn likely(sums: &[u16], count: usize, parts: &Parts, lines: Span, columns: Span) -> Spot
+    requires count { (count ≡ 8) ⊎ (count ≡ 16) }
+    requires sums { length sums.now ≡ 2304 }
+    requires most { (i : ℕ) → slice_index sums.now i ≤ 16320 }
+    requires small { HasSmall parts.now }
+    requires lines { lines.first < lines.end }
+    requires columns { columns.first < columns.end }
+    requires few { columns.end ≤ columns.first + 32 }
+    requires y { lines.end + count ≤ 49 }
+    requires x { columns.end ≤ 33 }
+    ensures top { lines.first ≤ result.y }
+    ensures bottom { result.y < lines.end }
+    ensures left { columns.first ≤ result.x }
+    ensures right { result.x < columns.end }
+{
+    let mut spot = Spot {
+        y: lines.first,
+        x: columns.first,
+    };
+    let mut least = u16::MAX;
+    for y in lines.first..lines.end {
+        let bounds = line_bounds(sums, count, (48 * y + columns.first) as usize, parts);
+        if lowest(&bounds) < least {
+            let at = least_bound(&bounds, (columns.end - columns.first) as usize);
+            least = bounds[at];
+            spot = Spot {
+                y,
+                x: columns.first + at as u32,
+            };
+        }
+    }
+    spot
+}
+
+/// A limit below which the best place lies, or which is the difference at the one that is known.
+fn limit_by(
+    block: &[u8],
+    count: usize,
+    window: &[u8],
+    lines: Span,
+    columns: Span,
+    place: Spot,
+    best: Best,
+) -> u32
+    requires count { (count ≡ 8) ⊎ (count ≡ 16) }
+    requires block { length block.now ≡ 16 * count }
+    requires window { length window.now ≡ 2304 }
+    requires y { lines.end + count ≤ 49 }
+    requires x { columns.end ≤ 33 }
+    requires top { lines.first ≤ place.y }
+    requires bottom { place.y < lines.end }
+    requires left { columns.first ≤ place.x }
+    requires right { place.x < columns.end }
+    requires known { best.sad ≡ spot_sad block.now count window.now best.spot }
+    ensures enough { (spot_sad block.now count window.now best.spot ≤ result)
+        ⊎ (spot_sad block.now count window.now (least (spot_sad block.now count window.now) best.spot (spots 2 lines columns)) < result) }
+{
+    let spot = Spot {
+        y: 2 * place.y,
+        x: 2 * place.x,
+    };
+    match spot_sad_until(block, count, window, spot, best.sad) {
+        Some(sad) => sad + 1,
+        None => best.sad,
+    }
+}
+
+/// The best of a place and of those in some lines and columns in whole samples, line by line and from left to right.
+pub fn best_by_bounds(
+    block: &[u8],
+    count: usize,
+    window: &[u8],
+    lines: Span,
+    columns: Span,
+    best: Best,
+) -> Best
+    requires count { (count ≡ 8) ⊎ (count ≡ 16) }
+    requires block { length block.now ≡ 16 * count }
+    requires window { length window.now ≡ 2304 }
+    requires lines { lines.first < lines.end }
+    requires columns { columns.first < columns.end }
+    requires few { columns.end ≤ columns.first + 32 }
+    requires y { lines.end + count ≤ 49 }
+    requires x { columns.end ≤ 33 }
+    requires known { best.sad ≡ spot_sad block.now count window.now best.spot }
+    ensures spot { result.spot ≡ least (spot_sad block.now count window.now) best.spot (spots 2 lines columns) }
+    ensures sad { result.sad ≡ spot_sad block.now count window.now result.spot }
+{
+    let mut sums = [0; 2304];
+    part_sums(window, 48, &mut sums);
+    let parts = block_parts(block, count);
+    let place = likely(&sums, count, &parts, lines, columns);
+    let limit = limit_by(block, count, window, lines, columns, place, best);
+    passed(
+        block, count, window, &sums, &parts, lines, columns, limit, best,
+    )
+}
