@@ -1,3 +1,6 @@
+ghost use Rattle.std.specs.Prelude.{◌≡◌, ◌≤◌, IsTrue};
+ghost use Rattle.m2v_search.specs.Near.{IsFormIn, is_field};
+
 use crate::{Found, SearchForm, best_vector};
 use m2v_plane::{Dims, Frame, Lines, Plane, RefView};
 use m2v_pred::{Block16, MbPlace};
@@ -58,47 +61,89 @@ fn block(frame: &Frame, lines: Lines, at: MbPlace) -> Block16 {
     block
 }
 
-/// The best vector of a macroblock, where the form is one of the picture's structure.
-fn found(now: &Frame, before: &Frame, at: MbPlace, form: SearchForm, search: u32) -> Found {
-    let none = Found { x: 0, y: 0, sad: 0 };
+/// No vector.
+const NOTHING: Found = Found { x: 0, y: 0, sad: 0 };
+
+/// The best vector of a macroblock of a frame, where it lies in the frame.
+fn in_frame(now: &Frame, before: &Frame, place: (u32, u32), form: SearchForm, search: u32) -> Found
+    requires form { IsFormIn 3 form }
+    requires search { search ≤ 15 }
+{
+    let (row, column) = place;
     let size = before.dims();
-    if at.column >= size.mb_width || search > 15 {
-        return none;
+    if row >= size.mb_rows || column >= size.mb_width {
+        return NOTHING;
     }
-    match form {
-        SearchForm::Whole => {
-            if at.structure != 3 || at.row >= size.mb_rows {
-                return none;
-            }
-        }
-        SearchForm::FieldLines { reference, .. } => {
-            if at.structure != 3 || at.row >= size.mb_rows || reference == Lines::Whole {
-                return none;
-            }
-        }
-        SearchForm::FieldPicture { reference } => {
-            if at.structure == 3 || at.row >= size.mb_rows / 2 || reference == Lines::Whole {
-                return none;
-            }
-        }
-    }
-    let own = if at.structure == 3 {
-        Lines::Whole
-    } else if at.structure == 2 {
-        Lines::Bottom
-    } else {
-        Lines::Top
+    let at = MbPlace {
+        row,
+        column,
+        structure: 3,
     };
-    best_vector(&block(now, own, at), before, at, form, search)
+    best_vector(&block(now, Lines::Whole, at), before, at, form, search)
 }
 
-/// Where the square of a frame stands, where those of the reference, the row, column and structure of the macroblock, the
-/// form, the reach, and the vector with its sum.
+/// The best vector of a macroblock of a top field, where it lies in the field.
+fn in_top(now: &Frame, before: &Frame, place: (u32, u32), reference: Lines, search: u32) -> Found
+    requires reference { IsTrue (is_field reference) }
+    requires search { search ≤ 15 }
+{
+    let (row, column) = place;
+    let size = before.dims();
+    if row >= size.mb_rows / 2 || column >= size.mb_width {
+        return NOTHING;
+    }
+    let at = MbPlace {
+        row,
+        column,
+        structure: 1,
+    };
+    let form = SearchForm::FieldPicture { reference };
+    best_vector(&block(now, Lines::Top, at), before, at, form, search)
+}
+
+/// The best vector of a macroblock of a bottom field, where it lies in the field.
+fn in_bottom(now: &Frame, before: &Frame, place: (u32, u32), reference: Lines, search: u32) -> Found
+    requires reference { IsTrue (is_field reference) }
+    requires search { search ≤ 15 }
+{
+    let (row, column) = place;
+    let size = before.dims();
+    if row >= size.mb_rows / 2 || column >= size.mb_width {
+        return NOTHING;
+    }
+    let at = MbPlace {
+        row,
+        column,
+        structure: 2,
+    };
+    let form = SearchForm::FieldPicture { reference };
+    best_vector(&block(now, Lines::Bottom, at), before, at, form, search)
+}
+
+/// What is searched for in a test.
+#[derive(Clone, Copy)]
+enum Task {
+    /// A macroblock of a frame.
+    Frame,
+    /// The top lines of a macroblock of a frame, in the top field.
+    TopLines,
+    /// The bottom lines of a macroblock of a frame, in the top field.
+    BottomLines,
+    /// A macroblock of a top field, in the top field.
+    TopField,
+    /// A macroblock of a bottom field, in the top field.
+    OtherField,
+    /// A macroblock of a bottom field, in the bottom field.
+    BottomField,
+}
+
+/// Where the square of a frame stands, where those of the reference, the row and column of the macroblock, what is
+/// searched for, the reach, and the vector with its sum.
 type Row = (
     (usize, usize),
     [(usize, usize); 2],
-    (u32, u32, u8),
-    SearchForm,
+    (u32, u32),
+    Task,
     u32,
     (i32, i32, u32),
 );
@@ -106,135 +151,183 @@ type Row = (
 /// No square.
 const NONE: (usize, usize) = (64, 48);
 
-const WHOLE: SearchForm = SearchForm::Whole;
-
-const TOP: SearchForm = SearchForm::FieldLines {
-    target: Lines::Top,
-    reference: Lines::Top,
-};
-
-const OTHER: SearchForm = SearchForm::FieldLines {
-    target: Lines::Bottom,
-    reference: Lines::Top,
-};
-
-const FIELD: SearchForm = SearchForm::FieldPicture {
-    reference: Lines::Top,
-};
-
-const BOTTOM: SearchForm = SearchForm::FieldPicture {
-    reference: Lines::Bottom,
-};
+fn found(now: &Frame, before: &Frame, place: (u32, u32), task: Task, search: u32) -> Found {
+    if search > 15 {
+        return NOTHING;
+    }
+    let (top, bottom) = (Lines::Top, Lines::Bottom);
+    let top_lines = SearchForm::FieldLines {
+        target: top,
+        reference: top,
+    };
+    let bottom_lines = SearchForm::FieldLines {
+        target: bottom,
+        reference: top,
+    };
+    match task {
+        Task::Frame => in_frame(now, before, place, SearchForm::Whole, search),
+        Task::TopLines => in_frame(now, before, place, top_lines, search),
+        Task::BottomLines => in_frame(now, before, place, bottom_lines, search),
+        Task::TopField => in_top(now, before, place, top, search),
+        Task::OtherField => in_bottom(now, before, place, top, search),
+        Task::BottomField => in_bottom(now, before, place, bottom, search),
+    }
+}
 
 /// The expected vectors were worked out apart by a search of all vectors, sample by sample: a square that moved, within
 /// reach and out of it; places alike, of which the upper one, the left one and vector zero come first; corners and edges,
 /// at which the window is cut; lines of a field, and field pictures.
 static ROWS: [Row; 17] = [
-    ((22, 22), [(20, 25), NONE], (1, 1, 3), WHOLE, 7, (6, -4, 0)),
     (
         (22, 22),
         [(20, 25), NONE],
-        (1, 1, 3),
-        WHOLE,
+        (1, 1),
+        Task::Frame,
+        7,
+        (6, -4, 0),
+    ),
+    (
+        (22, 22),
+        [(20, 25), NONE],
+        (1, 1),
+        Task::Frame,
         2,
         (5, -4, 320),
     ),
     (
         (22, 22),
         [(20, 25), NONE],
-        (1, 1, 3),
-        WHOLE,
+        (1, 1),
+        Task::Frame,
         0,
         (1, -1, 1960),
     ),
     (
         (22, 22),
         [(18, 22), (26, 22)],
-        (1, 1, 3),
-        WHOLE,
+        (1, 1),
+        Task::Frame,
         7,
         (0, -8, 640),
     ),
     (
         (22, 22),
         [(22, 18), (22, 26)],
-        (1, 1, 3),
-        WHOLE,
+        (1, 1),
+        Task::Frame,
         7,
         (-8, 0, 640),
     ),
     (
         (22, 22),
         [(24, 22), (20, 22)],
-        (1, 1, 3),
-        WHOLE,
+        (1, 1),
+        Task::Frame,
         7,
         (0, 0, 1280),
     ),
-    ((6, 6), [(2, 3), NONE], (0, 0, 3), WHOLE, 15, (14, 0, 1280)),
+    (
+        (6, 6),
+        [(2, 3), NONE],
+        (0, 0),
+        Task::Frame,
+        15,
+        (14, 0, 1280),
+    ),
     (
         (6, 40),
         [(3, 43), NONE],
-        (0, 2, 3),
-        WHOLE,
+        (0, 2),
+        Task::Frame,
         15,
         (-30, 0, 1280),
     ),
     (
         (54, 40),
         [(48, 34), NONE],
-        (3, 2, 3),
-        WHOLE,
+        (3, 2),
+        Task::Frame,
         15,
         (-12, -12, 0),
     ),
     (
         (22, 6),
         [(20, 2), NONE],
-        (1, 0, 3),
-        WHOLE,
+        (1, 0),
+        Task::Frame,
         15,
         (0, -30, 1280),
     ),
     (
         (54, 22),
         [(59, 24), NONE],
-        (3, 1, 3),
-        WHOLE,
+        (3, 1),
+        Task::Frame,
         15,
         (-30, -30, 1280),
     ),
-    ((22, 22), [(20, 25), NONE], (1, 1, 3), TOP, 15, (6, -2, 0)),
-    ((22, 22), [(20, 25), NONE], (1, 1, 3), OTHER, 15, (6, -2, 0)),
+    (
+        (22, 22),
+        [(20, 25), NONE],
+        (1, 1),
+        Task::TopLines,
+        15,
+        (6, -2, 0),
+    ),
+    (
+        (22, 22),
+        [(20, 25), NONE],
+        (1, 1),
+        Task::BottomLines,
+        15,
+        (6, -2, 0),
+    ),
     (
         (22, 22),
         [(18, 22), (26, 22)],
-        (1, 1, 3),
-        TOP,
+        (1, 1),
+        Task::TopLines,
         15,
         (0, -4, 320),
     ),
-    ((44, 22), [(36, 25), NONE], (1, 1, 1), FIELD, 15, (6, -8, 0)),
-    ((44, 22), [(36, 25), NONE], (1, 1, 2), FIELD, 15, (6, -8, 0)),
-    ((4, 4), [(10, 12), NONE], (0, 0, 2), BOTTOM, 15, (16, 6, 0)),
+    (
+        (44, 22),
+        [(36, 25), NONE],
+        (1, 1),
+        Task::TopField,
+        15,
+        (6, -8, 0),
+    ),
+    (
+        (44, 22),
+        [(36, 25), NONE],
+        (1, 1),
+        Task::OtherField,
+        15,
+        (6, -8, 0),
+    ),
+    (
+        (4, 4),
+        [(10, 12), NONE],
+        (0, 0),
+        Task::BottomField,
+        15,
+        (16, 6, 0),
+    ),
 ];
 
-fn finds(alloc: Global, row: &Row) -> Result<bool, AllocError> {
-    let (square, others, (down, column, structure), form, search, (x, y, sad)) = *row;
+fn finds(alloc: Global, row: Row) -> Result<bool, AllocError> {
+    let (square, others, place, task, search, (x, y, sad)) = row;
     let now = squares(alloc, [square, NONE])?;
     let before = squares(alloc, others)?;
-    let at = MbPlace {
-        row: down,
-        column,
-        structure,
-    };
-    Ok(found(&now, &before, at, form, search) == Found { x, y, sad })
+    Ok(found(&now, &before, place, task, search) == Found { x, y, sad })
 }
 
 #[test]
 fn finds_the_first_of_least_difference(rt: HostRuntime) -> Result<(), AllocError> {
-    for row in &ROWS {
-        assert!(rt; finds(rt.alloc(), row)?);
+    let rows = ROWS;
+    for i in 0..rows.len() {
+        assert!(rt; finds(rt.alloc(), rows[i])?);
     }
     Ok(())
 }
