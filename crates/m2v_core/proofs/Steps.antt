@@ -7,7 +7,7 @@ use Rattle.m2v_core.specs.declared.event.Event.{Event}
 use Rattle.m2v_core.specs.declared.event.Answer.{Answer}
 use Rattle.m2v_core.specs.declared.event.StepFault.{StepFault}
 use Rattle.m2v_core.specs.Core.{State, Good}
-use Rattle.m2v_core.specs.Machine.{Stepped, IsSound}
+use Rattle.m2v_core.specs.Machine.{Stepped, IsSoundCore}
 use Rattle.m2v_core.proofs.Good.{after_good, publish_good}
 use Rattle.m2v_core.proofs.Stays.{refused}
 
@@ -21,8 +21,8 @@ module _ {P : Type 0} (value : ℕ → P) where
     stepped_good got t good h = ⊎_elim (λ m. subst (Good value) (sym m.1) good) (λ d. subst (Good value) (sym d.1) (after_good value needs s e good)) h
 
   -- a piece more that is the value of its job
-  pub published_sound : (n : ℕ) (fits : ℕ → P → Type 0) (s : State P) (j : ℕ) (v : P) → IsSound n value fits s → j < s.next → v ≡ value j → fits j v
-      → IsSound n value fits record s { published = set s.published j (Some v) }
+  pub published_sound : (n : ℕ) (fits : ℕ → P → Type 0) (s : State P) (j : ℕ) (v : P) → IsSoundCore n value fits s → j < s.next → v ≡ value j → fits j v
+      → IsSoundCore n value fits record s { published = set s.published j (Some v) }
   published_sound n fits s j v h below is fit = record {
     count = h.count;
     good = subst (λ (p : P). Good value record s { published = set s.published j (Some p) }) (sym is) (publish_good value s j h.good below);

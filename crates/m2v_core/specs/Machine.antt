@@ -13,7 +13,7 @@ pub record Machine (B P : Type 0) : Type 0 where
 
 module _ {P : Type 0} where
   -- a good state over a book of n jobs, whose pieces are of that book
-  pub record IsSound (n : ℕ) (value : ℕ → P) (fits_piece : ℕ → P → Type 0) (s : State P) : Type 0 where
+  pub record IsSoundCore (n : ℕ) (value : ℕ → P) (fits_piece : ℕ → P → Type 0) (s : State P) : Type 0 where
     pub count : s.jobs ≡ n
     pub good : Good value s
     pub fits : (j : ℕ) (p : P) → published_at s j ≡ Some p → fits_piece j p

@@ -102,6 +102,9 @@ pub trait JobBook {
         requires part { part.now ≡ shared self.now j }
         ensures { result ≡ told self.now j };
 
+    // The two laws below speak of every plain value of the book's type, also of one that no book has that was made by
+    // calls. So where they hold of proper books alone, `jobs` is guarded: it is 0 of all other values.
+
     // Each need is a lower job.
     ghost needs_are_below: { (book : Self) (j : ℕ) → j < jobs book → All (λ i. i < j) (needs book j) };
 

@@ -4,7 +4,7 @@ ghost use Rattle.std.specs.Vec.{vec_len};
 ghost use Rattle.m2v_core.specs.declared.event.Event.TheVariants.{Claim, Publish, Fetch};
 ghost use Rattle.m2v_core.specs.Core.{State, Good, opening, missing, publish, answer, after};
 ghost use Rattle.m2v_core.specs.Lists.{lists};
-ghost use Rattle.m2v_core.specs.Machine.{Machine, IsSound, Stepped};
+ghost use Rattle.m2v_core.specs.Machine.{Machine, IsSoundCore, Stepped};
 
 use crate::book::{JobBook, Memory};
 use crate::event::{Answer, Event, StepFault};
@@ -32,7 +32,7 @@ impl<B: JobBook> Model for Core<B> {
 
     ghost view = { λ c. record { book = c.of.value; state = record { jobs = c.jobs; next = c.next; claimed = lists c.claimed.items; published = c.published.items } } };
 
-    ghost invariant = { λ c. IsSound (B.jobs c.of.value) (B.value c.of.value) (B.fits_piece c.of.value) record { jobs = c.jobs; next = c.next; claimed = lists c.claimed.items; published = c.published.items } };
+    ghost invariant = { λ c. IsSoundCore (B.jobs c.of.value) (B.value c.of.value) (B.fits_piece c.of.value) record { jobs = c.jobs; next = c.next; claimed = lists c.claimed.items; published = c.published.items } };
 }
 
 impl<B: JobBook> Drop for Core<B> {

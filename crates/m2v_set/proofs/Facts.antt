@@ -9,20 +9,22 @@ use Rattle.m2v_set.specs.declared.settings.Level.TheVariants.{Main, High1440, Hi
 use Rattle.m2v_set.specs.declared.settings.Scan.TheVariants.{Progressive, Frames, Fields}
 use Rattle.m2v_set.specs.Numbers.{limits_of}
 use Rattle.m2v_set.specs.Rules.{Condition, judge, judged, and_then, frame_rules, channel_rules, buffer_rules, delay_rules, choice_rules, pulldown_rules, scan_number, Passes}
-use Rattle.m2v_set.specs.Bounds.{InSize, InTime, InChoice, InPulldown, Bounds}
+use Rattle.m2v_set.specs.Bounds.{InSize, InLevel, InTime, InChoice, InPulldown, Bounds}
 use Rattle.m2v_set.proofs.Judged.{in_turn}
 
-and_then-first : (a b : Result (Unit {0}) Unfit) → and_then a b ≡ Ok tt → a ≡ Ok tt
+-- two judgements in a row pass where each of them does
+pub and_then-first : (a b : Result (Unit {0}) Unfit) → and_then a b ≡ Ok tt → a ≡ Ok tt
 unfolding and_then
 and_then-first (Ok passed) b e = refl
 and_then-first (Err unfit) b e = cc
 
-and_then-next : (a b : Result (Unit {0}) Unfit) → and_then a b ≡ Ok tt → b ≡ Ok tt
+pub and_then-next : (a b : Result (Unit {0}) Unfit) → and_then a b ≡ Ok tt → b ≡ Ok tt
 unfolding and_then
 and_then-next (Ok passed) b e = e
 and_then-next (Err unfit) b e = cc
 
-judge-holds : (c : Condition) → judge c ≡ Ok tt → c.holds ≡ true
+-- a condition that passes holds
+pub judge-holds : (c : Condition) → judge c ≡ Ok tt → c.holds ≡ true
 unfolding judge
 judge-holds c e = by_case c.holds refl
   where
@@ -31,11 +33,12 @@ judge-holds c e = by_case c.holds refl
     by_case false is = cc
 
 -- each condition of the list holds
-abbrev AllHold : List Condition → Type 0
+abbrev pub AllHold : List Condition → Type 0
 AllHold [] = Unit {0}
 AllHold (c ∷ cs) = (c.holds ≡ true) × AllHold cs
 
-all_hold : (cs : List Condition) → judged cs ≡ Ok tt → AllHold cs
+-- where a list of conditions passes, each of them holds
+pub all_hold : (cs : List Condition) → judged cs ≡ Ok tt → AllHold cs
 unfolding judged
 all_hold [] e = tt
 all_hold (c ∷ cs) e =
@@ -97,6 +100,21 @@ in_size s e f =
       buffer = omega (arith, limit-buffer s.level);
     }
 
+in_level : (s : Settings) → judged (frame_rules (limits_of s.level) s.scan s.width s.height s.rate_code) ≡ Ok tt
+    → judged (channel_rules (limits_of s.level) s) ≡ Ok tt → InLevel s
+unfolding frame_rules channel_rules
+in_level s e f =
+    let h = all_hold (frame_rules (limits_of s.level) s.scan s.width s.height s.rate_code) e in
+    let k = all_hold (channel_rules (limits_of s.level) s) f in
+    record {
+      width = leb-true _ _ h.1.0;
+      height = leb-true _ _ h.1.1.1.1.0;
+      codes = leb-true _ _ h.1.1.1.1.1.1.1.0;
+      luma = leb-true _ _ h.1.1.1.1.1.1.1.1.0;
+      bits = leb-true _ _ k.1.0;
+      buffer = leb-true _ _ k.1.1.1.0;
+    }
+
 in_time : (s : Settings) → judged (buffer_rules s) ≡ Ok tt → judged (delay_rules s) ≡ Ok tt → InTime s
 unfolding buffer_rules delay_rules
 in_time s e f =
@@ -154,6 +172,7 @@ bounds s passes =
     let e = and_then-next _ _ d in
     record {
       size = in_size s (and_then-first _ _ a) (and_then-first _ _ b);
+      level = in_level s (and_then-first _ _ a) (and_then-first _ _ b);
       time = in_time s (and_then-first _ _ c) (and_then-first _ _ d);
       choice = in_choice s (and_then-first _ _ e);
       pulldown = in_pulldown s (and_then-next _ _ e);

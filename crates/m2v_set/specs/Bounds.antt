@@ -2,7 +2,7 @@
 use Rattle.std.specs.Prelude.{◌≡◌, ◌≤◌, ◌+◌, ◌-◌, ◌*◌, ◌%◌, true}
 use Rattle.m2v_set.specs.declared.settings.Scan.TheVariants.{Frames}
 use Rattle.m2v_set.specs.declared.settings.Settings.{Settings}
-use Rattle.m2v_set.specs.Numbers.{arrival_of, longest_of, buffer_bits, least_of, delay_of}
+use Rattle.m2v_set.specs.Numbers.{frame_time, limits_of, arrival_of, longest_of, buffer_bits, least_of, delay_of}
 use Rattle.m2v_set.specs.Rules.{line_step}
 
 -- size and rates; 1920, 1152, 8, 200000 and 597 bound every level
@@ -19,6 +19,15 @@ pub record InSize (s : Settings) : Type 0 where
   pub bits : s.bits ≤ 200000
   pub buffered : 1 ≤ s.buffer
   pub buffer : s.buffer ≤ 597
+
+-- the bounds of the level (tables 8-10 to 8-14)
+pub record InLevel (s : Settings) : Type 0 where
+  pub width : s.width ≤ (limits_of s.level).width
+  pub height : s.height ≤ (limits_of s.level).height
+  pub codes : s.rate_code ≤ (limits_of s.level).codes
+  pub luma : 720000 * s.width * s.height ≤ (limits_of s.level).luma * frame_time s.rate_code
+  pub bits : s.bits ≤ (limits_of s.level).bits
+  pub buffer : s.buffer ≤ (limits_of s.level).buffer
 
 -- the buffer's account
 pub record InTime (s : Settings) : Type 0 where
@@ -50,6 +59,7 @@ pub record InPulldown (s : Settings) : Type 0 where
 
 pub record Bounds (s : Settings) : Type 0 where
   pub size : InSize s
+  pub level : InLevel s
   pub time : InTime s
   pub choice : InChoice s
   pub pulldown : InPulldown s

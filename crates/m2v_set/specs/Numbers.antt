@@ -19,6 +19,10 @@ field_time code = slice_index field_units code
 abbrev pub frame_time : ℕ → ℕ
 frame_time code = 2 * field_time code
 
+-- the time of a frame that is shown for three fields
+abbrev pub film_time : ℕ → ℕ
+film_time code = 3 * field_time code
+
 -- the time from one picture to the next
 unfoldable pub picture_time : Scan → ℕ → ℕ
 picture_time Progressive code = frame_time code
@@ -28,13 +32,17 @@ picture_time Fields code = field_time code
 abbrev pub interval_of : Settings → ℕ
 interval_of s = picture_time s.scan s.rate_code
 
--- what arrives in that time, in units of 1/1800 bit: the rate is a multiple of 400 bit/s
+-- the longest time from one picture to the next: with pulldown a picture may be shown for three fields
+unfoldable pub longest_interval_of : Settings → ℕ
+longest_interval_of s = if s.pulldown then film_time s.rate_code else interval_of s
+
+-- what arrives in an interval, in units of 1/1800 bit: the rate is a multiple of 400 bit/s
 unfoldable pub arrival_of : Settings → ℕ
 arrival_of s = s.bits * interval_of s
 
--- what arrives at most from one picture to the next: with pulldown a picture may be shown for three fields
+-- what arrives at most from one picture to the next, in the same units
 unfoldable pub longest_of : Settings → ℕ
-longest_of s = if s.pulldown then s.bits * (3 * field_time s.rate_code) else arrival_of s
+longest_of s = s.bits * longest_interval_of s
 
 -- the buffer in bits (vbv_buffer_size, clause 6.3.3)
 abbrev pub buffer_bits : Settings → ℕ

@@ -1,6 +1,6 @@
 //! The numbers that settings stand for. None of them wraps, whatever the settings are.
 ghost use Rattle.std.specs.Prelude.{◌≡◌, ◌≤◌, ◌<◌, ◌+◌, ◌*◌, ◌/◌, ◌^◌};
-ghost use Rattle.m2v_set.specs.Numbers.{field_time, interval_of, arrival_of, longest_of, buffer_bits, mb_width_of, rows_by, frame_rows_by, slice_least, least_of, delay_of, dims_of};
+ghost use Rattle.m2v_set.specs.Numbers.{field_time, interval_of, longest_interval_of, arrival_of, longest_of, buffer_bits, mb_width_of, rows_by, frame_rows_by, slice_least, least_of, delay_of, dims_of};
 
 use crate::settings::{Scan, Settings};
 use m2v_plane::Dims;
@@ -36,7 +36,20 @@ pub fn interval(settings: &Settings) -> u64
     }
 }
 
-/// What arrives in that time, in units of 1/1800 bit.
+/// The longest time from one picture to the next: with pulldown a frame may be shown for three fields.
+#[tactic(auto, unfolding(crate::specs::Numbers::longest_interval_of))]
+pub fn longest_interval(settings: &Settings) -> u64
+    ensures value { result ≡ longest_interval_of settings.now }
+    ensures most { result ≤ 45045 }
+{
+    if settings.pulldown {
+        3 * time_of_field(settings.rate_code)
+    } else {
+        interval(settings)
+    }
+}
+
+/// What arrives in an interval, in units of 1/1800 bit.
 #[tactic(auto, unfolding(crate::specs::Numbers::arrival_of))]
 pub fn arrival(settings: &Settings) -> u64
     ensures value { result ≡ arrival_of settings.now }
@@ -46,18 +59,14 @@ pub fn arrival(settings: &Settings) -> u64
     u64::from(settings.bits) * interval(settings)
 }
 
-/// What arrives at most from one picture to the next, in units of 1/1800 bit: with pulldown for three fields.
+/// What arrives at most from one picture to the next, in units of 1/1800 bit.
 #[tactic(auto, unfolding(crate::specs::Numbers::longest_of))]
 pub fn longest(settings: &Settings) -> u64
     ensures value { result ≡ longest_of settings.now }
     ensures most { result ≤ settings.now.bits * 45045 }
     ensures below { result < 2 ^ 48 }
 {
-    if settings.pulldown {
-        u64::from(settings.bits) * (3 * time_of_field(settings.rate_code))
-    } else {
-        arrival(settings)
-    }
+    u64::from(settings.bits) * longest_interval(settings)
 }
 
 /// The decoder's buffer, in bits.

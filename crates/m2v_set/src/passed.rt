@@ -1,7 +1,7 @@
 ghost use Rattle.std.specs.Prelude.{◌≡◌, ◌≤◌, ◌<◌, ◌↔◌, ◌^◌, IfOk, IfErr, IsOk, OnOk};
 ghost use Rattle.m2v_plane.specs.Sizes.{IsSize};
 ghost use Rattle.m2v_set.specs.Bounds.{Bounds};
-ghost use Rattle.m2v_set.specs.Numbers.{interval_of, arrival_of, longest_of, least_of, delay_of, dims_of, flat_dims};
+ghost use Rattle.m2v_set.specs.Numbers.{interval_of, longest_interval_of, arrival_of, longest_of, least_of, delay_of, dims_of, flat_dims};
 ghost use Rattle.m2v_set.specs.Rules.{Passes, FirstUnfit, FlatPasses, FlatUnfit};
 
 use crate::limits::limits_at;
@@ -87,6 +87,14 @@ impl Passed {
         ensures most { result ≤ 30030 }
     {
         numbers::interval(&self.settings)
+    }
+
+    /// The longest time from one picture to the next, in the same units: with pulldown a frame may be shown for three fields.
+    pub fn longest_interval(&self) -> u64
+        ensures value { result ≡ longest_interval_of self.now }
+        ensures most { result ≤ 45045 }
+    {
+        numbers::longest_interval(&self.settings)
     }
 
     /// What arrives in an interval, in units of 1/1800 bit.

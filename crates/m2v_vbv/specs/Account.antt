@@ -1,5 +1,5 @@
 -- An account and its steps. Amounts are in units of 1/1800 bit, times in units of 1/720,000 s.
-use Rattle.std.specs.Prelude.{ℕ, ◌+◌, ◌-◌, ◌*◌, ◌/◌, ◌≤◌, nat_le, if◌then◌else◌, List, [], ◌∷◌, length}
+use Rattle.std.specs.Prelude.{ℕ, ◌+◌, ◌-◌, ◌*◌, ◌/◌, ◌≤◌, ◌<◌, nat_le, if◌then◌else◌, List, [], ◌∷◌, length}
 use Rattle.m2v_vbv.specs.Annex.{Start, Removal, time_of, held_endless}
 
 -- what contracts see of an account: its starting numbers, the number of removals, the time since the first one, and
@@ -26,6 +26,13 @@ after a bits units = record {
 -- that removal leaves room for what arrives until the next one
 abbrev pub LeavesRoom : State → ℕ → ℕ → Type 0
 LeavesRoom a bits units = a.held + a.start.k * units ≤ 1800 * (a.start.buffer_bits + bits)
+
+-- with these zero bits behind a picture the buffer is full but for less than a byte when the next picture is due, so that
+-- with a byte less it would run over
+abbrev pub IsTight : State → ℕ → ℕ → ℕ → Type 0
+IsTight a bits zeros units =
+    (1800 * (a.start.buffer_bits - 8) < (after a (bits + zeros) units).held)
+    × (1800 * (a.start.buffer_bits + (bits + (zeros - 8))) < a.held + a.start.k * units)
 
 -- the zero bits, in whole bytes, that are sent after a picture of so many bits: what is too much for the buffer when the
 -- next picture is due, in units of 14400, a byte each, rounded up

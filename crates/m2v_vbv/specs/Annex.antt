@@ -42,3 +42,9 @@ abbrev pub NeverUnder : Start → List Removal → Type 0
 NeverUnder start rs =
     (before : List Removal) (r : Removal) (later : List Removal) → rs ≡ before ++ r ∷ later
     → 1800 * r.bits ≤ held_endless start before
+
+-- each picture is whole in the buffer when it is removed, and the buffer takes what is held then
+abbrev pub Safe : Start → List Removal → Type 0
+Safe start rs =
+    (before : List Removal) (r : Removal) (later : List Removal) → rs ≡ before ++ r ∷ later
+    → (1800 * r.bits ≤ Held start (removed rs) before) × (Held start (removed rs) before ≤ 1800 * start.buffer_bits)

@@ -1,5 +1,5 @@
 ghost use Rattle.std.specs.Prelude.{◌≡◌, ℕ, ◌+◌, ◌-◌, ◌*◌, ◌/◌, ◌%◌, ◌<◌, ◌≤◌, ◌^◌, ◌↔◌, IsErr, IfErr, OnOk, OnErr, min};
-ghost use Rattle.m2v_vbv.specs.Account.{opening, after, LeavesRoom, stuffing_of, arriving};
+ghost use Rattle.m2v_vbv.specs.Account.{opening, after, LeavesRoom, IsTight, stuffing_of, arriving};
 
 use crate::fault::AccountFault;
 use std::marker::Model;
@@ -112,7 +112,8 @@ impl Account {
 
     /// The zero bits to be sent after a picture of so many bits, in whole bytes: the fewest with which the buffer takes
     /// what arrives until the next picture, so many units later. The picture is held whole, and the buffer takes what is
-    /// held. Where the buffer takes what arrives in that time and a byte more, the zero bytes are held too.
+    /// held. Where the buffer takes what arrives in that time and a byte more, the zero bytes are held too; and where there
+    /// are zero bytes, less than a byte is missing then to fill the buffer: with one of them less it would run over.
     #[tactic(auto, unfolding(crate::specs::Account::stuffing_of))]
     pub fn stuffing(&self, bits: u64, units: u64) -> u64
         requires bits { bits < 2 ^ 42 }
@@ -125,6 +126,7 @@ impl Account {
         ensures fewest { (z : ℕ) → z % 8 ≡ 0 → LeavesRoom self.now (bits + z) units → result ≤ z }
         ensures small { result < 2 ^ 40 }
         ensures held { self.now.start.k * units + 14400 ≤ 1800 * self.now.start.buffer_bits → 1800 * (bits + result) ≤ self.now.held }
+        ensures tight { self.now.start.k * units + 14400 ≤ 1800 * self.now.start.buffer_bits → 0 < result → IsTight self.now bits result units }
     {
         let full = 1800 * (u128::from(self.buffer_bits) + u128::from(bits));
         let excess = (self.held + self.arriving(units)).saturating_sub(full);
