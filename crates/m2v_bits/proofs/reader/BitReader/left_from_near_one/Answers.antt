@@ -1,9 +1,9 @@
-use Rattle.std.proofs.Common.{length, sym, ap, ◌∙◌, arith, refl, drop}
+use Rattle.std.proofs.Common.{length, sym, ap, ◌∙◌, arith, refl}
 use Rattle.std.proofs.lemmas.List.{length-drop}
 use Rattle.m2v_bits.specs.Bits.{Unread, first_one, bits}
 use Rattle.m2v_bits.proofs.Bits.{one_next, one_here}
 use Rattle.m2v_bits.proofs.Cursor.{past_place, behind_no_one}
-use Rattle.m2v_bits.proofs.reader.BitReader.left_from_one.Goals as goal
+use Rattle.m2v_bits.proofs.reader.BitReader.left_from_near_one.Goals as goal
 
 pub loop-ahead-init : goal.loop-ahead-init
 loop-ahead-init c = rw (c.fork-ahead.ensures, ← c.self.view_is) (refl, omega arith, refl, refl)
