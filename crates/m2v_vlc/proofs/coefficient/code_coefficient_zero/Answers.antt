@@ -4,7 +4,7 @@ use Rattle.m2v_vlc.specs.Lookups.{IsTable, code_in}
 use Rattle.m2v_vlc.specs.Coefficients.{coefficient_zero}
 use Rattle.m2v_vlc.specs.declared.values.Coefficient.{Coefficient}
 use Rattle.m2v_vlc.proofs.Coefficients.{coefficient_zero_rows, coefficient_zero_table, zero_index}
-use Rattle.m2v_vlc.proofs.coefficient.zero_of.Goals as goal
+use Rattle.m2v_vlc.proofs.coefficient.code_coefficient_zero.Goals as goal
 
 pub row_code-requires : goal.row_code-requires
 row_code-requires c = subst (λ (t : List (Row Coefficient)). IsTable t) (sym coefficient_zero_rows) coefficient_zero_table
