@@ -2,7 +2,7 @@ use Rattle.std.proofs.Common.{arith, pos, ◌<ℤ◌, ◌≤ℤ◌}
 use Rattle.std.proofs.lemmas.Int.{ints, to_z-of_z}
 use Rattle.std.proofs.lemmas.Nat.{one_shl}
 use Rattle.m2v_block.proofs.Numbers.{negative_number, positive_number}
-use Rattle.m2v_block.proofs.dc.number.Goals as goal
+use Rattle.m2v_block.proofs.dc.number_of.Goals as goal
 
 pub returns-then-difference-lt0-clause-value : goal.returns-then-difference-lt0-clause-value
 returns-then-difference-lt0-clause-value c =
