@@ -4,7 +4,7 @@ use Rattle.std.proofs.lemmas.List.{length-append}
 use Rattle.std.proofs.lemmas.Bool.{false_from_ne_true}
 use Rattle.std.proofs.lemmas.Nat.{shr-shr, mod-pow-add, mod_low, pow-add, pow_pos}
 use Rattle.std.proofs.Math.Nat.{mod-eq_of_lt, mod-mod}
-use Rattle.m2v_bits.specs.Bits.{bits_of, number, bits, packed, all_zero, first_one}
+use Rattle.m2v_bits.specs.Bits.{bits_of, number, bits, packed, all_zero, first_one, ahead}
 
 pub length-bits_of : (n v : ℕ) → length (bits_of n v) ≡ n
 unfolding bits_of
@@ -106,10 +106,29 @@ zero_take (suc n) (false ∷ bs) e = zero_take n bs e
 pub zero_not : (n : ℕ) (bs : List Bool) → (number (take n bs) ≡ 0 → ⊥) → all_zero bs ≡ false
 zero_not n bs e = false_from_ne_true (all_zero bs) (λ z. e (zero_number (take n bs) (zero_take n bs z)))
 
+-- the next bits of zeros are zeros, also past the end
+ahead_zero : (n : ℕ) (bs : List Bool) → all_zero bs ≡ true → all_zero (ahead n bs) ≡ true
+unfolding all_zero ahead
+ahead_zero zero bs e = refl
+ahead_zero (suc n) [] e = ahead_zero n [] refl
+ahead_zero (suc n) (true ∷ bs) e = absurd cc
+ahead_zero (suc n) (false ∷ bs) e = ahead_zero n bs e
+
+pub zero_near : (n : ℕ) (bs : List Bool) → (number (ahead n bs) ≡ 0 → ⊥) → all_zero bs ≡ false
+zero_near n bs e = false_from_ne_true (all_zero bs) (λ z. e (zero_number (ahead n bs) (ahead_zero n bs z)))
+
 pub zero_end : (bs : List Bool) → length bs ≤ 0 → all_zero bs ≡ true
 unfolding all_zero
 zero_end [] le = refl
 zero_end (b ∷ bs) le = absurd (omega arith)
+
+-- nor do they change where the first 1 stands
+pub one_front : (n : ℕ) (bs : List Bool) → n ≤ length bs → number (take n bs) ≡ 0 → first_one bs ≡ first_one (drop n bs)
+unfolding first_one number
+one_front zero bs le e = refl
+one_front (suc n) [] le e = absurd (omega arith)
+one_front (suc n) (true ∷ bs) le e = absurd (omega (arith, pow_pos (length (take n bs))))
+one_front (suc n) (false ∷ bs) le e = let z : number (take n bs) ≡ 0 = omega arith in one_front n bs (omega arith) z
 
 pub one_next : (bs : List Bool) → 0 < length bs → number (take 1 bs) ≡ 0 → first_one bs ≡ first_one (drop 1 bs)
 unfolding first_one number

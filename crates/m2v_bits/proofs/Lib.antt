@@ -2,3 +2,6 @@ pub mod Bits
 pub mod Cursor
 pub mod SyntaxLaws
 pub mod LeafLaws
+pub mod ElementLaws
+pub mod Decisions
+pub mod Units

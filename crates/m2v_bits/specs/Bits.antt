@@ -1,4 +1,4 @@
--- A text of bits, the first bit first; `true` is 1 (clause 5.2.2: bits stand in bytes the highest first).
+-- A text of bits, the first bit first; `true` is 1 (clause 4.6 of ISO/IEC 13818-2: bits stand in bytes the highest first).
 use Rattle.std.specs.Prelude.{◌≡◌, ℕ, zero, suc, ◌+◌, ◌/◌, ◌%◌, ◌-◌, ◌^◌, ◌<◌, Bool, true, false, ◌==◌, cond, List, [], ◌∷◌, ◌++◌, length, drop, replicate, slice_index}
 use Rattle.std.specs.List.{flat_map}
 
@@ -57,6 +57,14 @@ to_edge n = (8 - n % 8) % 8
 -- zero bits up to the edge of a byte, as they stand before each start code (clause 5.2.3)
 abbrev pub aligned : List Bool → List Bool
 aligned t = t ++ replicate (to_edge (length t)) false
+
+-- a unit: a start code, what follows it, and zero bits up to the edge of a byte (clause 5.2.3)
+abbrev pub unit : ℕ → List Bool → List Bool
+unit value t = aligned (start_code value ++ t)
+
+-- the text ends at the edge of a byte
+abbrev pub IsEdge : List Bool → Type 0
+IsEdge t = length t % 8 ≡ 0
 
 -- how a writer is seen: the bits written, and how many more there is room for
 pub record Written : Type 0 where

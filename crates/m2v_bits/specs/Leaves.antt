@@ -3,7 +3,7 @@ use Rattle.std.specs.Prelude.{◌≡◌, ℕ, ◌<◌, ◌^◌, Bool, true, fals
 use Rattle.m2v_bits.specs.Bits.{bits_of, number, all_zero, first_one}
 use Rattle.m2v_bits.specs.Syntax.{Syntax}
 
--- a number of n bits, the highest first (mnemonic uimsbf, clause 5.2.1)
+-- a number of n bits, the highest first (mnemonic uimsbf, clause 4.6)
 unfoldable pub bits_at : {K : Type 0} → K → ℕ → Syntax (List Bool) K ℕ
 bits_at cut n = record {
   read = λ t. cond (nat_lt (length t) n) (Err (cut, length t)) (Ok (number (take n t), drop n t));

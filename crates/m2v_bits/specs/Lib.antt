@@ -1,3 +1,5 @@
 pub mod Bits
 pub mod Syntax
 pub mod Leaves
+pub mod Elements
+pub mod Laws

@@ -2,11 +2,13 @@
 //! `specs/` holds the words on which every syntax of the stream is defined.
 #![tactic(auto, using(crate::proofs::Cursor::lengths))]
 
-mod number;
+mod elements;
+mod low;
 mod reader;
 mod start;
 mod writer;
 
+pub use elements::{check, flag, number};
 pub use reader::BitReader;
 pub use start::next_start_code;
 pub use writer::BitWriter;

@@ -1,10 +1,10 @@
 ghost use Rattle.std.specs.Prelude.{◌≡◌, ℕ, ◌+◌, ◌-◌, ◌*◌, ◌/◌, ◌%◌, ◌^◌, ◌<◌, ◌≤◌, ◌++◌, ◌∷◌, [], length, take, drop, slice_index, ◌↔◌, IsNone, IfSome, IsTrue, replicate, false};
 ghost use Rattle.m2v_bits.specs.Bits.{Unread, IsSound, bits, bits_of, number, ahead, past, all_zero, first_one, padded};
 
-use crate::number::low;
+use crate::low::low;
 use std::marker::Model;
 
-/// Reads bits from bytes, the highest bit of each byte first (clause 5.2.2).
+/// Reads bits from bytes, the highest bit of each byte first (clause 4.6 of ISO/IEC 13818-2).
 ///
 /// Contracts see it as its whole text of bits, the place of the next bit, and the bits from there on. Zero bits that
 /// end the text need not be kept as bytes: a unit may have any number of zero bytes behind what it says.
@@ -111,6 +111,7 @@ impl<'a> BitReader<'a> {
     pub fn left(&self) -> u64
         ensures value { result ≡ length self.now.rest }
         ensures below { result < 2 ^ 63 }
+        ensures text { result ≤ length self.now.text }
     {
         8 * (self.bytes.len() as u64) + self.zeros - self.place
     }
@@ -155,8 +156,21 @@ impl<'a> BitReader<'a> {
         Some(v)
     }
 
-    /// Whether all bits that are left are 0.
+    /// Whether all bits that are left are 0. Where a 1 stands among the next 32 bits one look tells.
+    #[inline(always)]
     pub fn rest_is_zero(&self) -> bool
+        ensures { result ≡ all_zero self.now.rest }
+    {
+        if self.peek(32) != 0 {
+            return false;
+        }
+        self.is_zero_throughout()
+    }
+
+    /// Whether all bits that are left are 0, 32 at a time.
+    #[cold]
+    #[inline(never)]
+    fn is_zero_throughout(&self) -> bool
         ensures { result ≡ all_zero self.now.rest }
     {
         let mut ahead = self.fork();
@@ -185,6 +199,33 @@ impl<'a> BitReader<'a> {
     /// How many bits are left from the first 1 on, 0 where there is none: the place of a bit 1
     /// that stands behind a header's last element.
     pub fn left_from_one(&self) -> u64
+        ensures value { result ≡ first_one self.now.rest }
+        ensures within { result ≤ length self.now.rest }
+        ensures text { result ≤ length self.now.text }
+    {
+        let near = self.past_zeros();
+        near.left_from_near_one()
+    }
+
+    /// Another reader of the same text, behind zero bits, 32 at a time.
+    fn past_zeros(&self) -> BitReader<'a>
+        ensures text { result.text ≡ self.now.text }
+        ensures one { first_one result.rest ≡ first_one self.now.rest }
+        ensures within { length result.rest ≤ length self.now.rest }
+    {
+        let mut ahead = self.fork();
+        while ahead.left() > self.zeros {
+            let n = (ahead.left() - self.zeros).min(32) as u8;
+            if ahead.peek(n) != 0 {
+                return ahead;
+            }
+            ahead.skip(n);
+        }
+        ahead
+    }
+
+    /// How many bits are left from the first 1 on, bit by bit.
+    fn left_from_near_one(&self) -> u64
         ensures value { result ≡ first_one self.now.rest }
         ensures within { result ≤ length self.now.rest }
     {

@@ -1,4 +1,4 @@
-use crate::{BitReader, BitWriter, next_start_code};
+use crate::{BitReader, BitWriter, check, flag, next_start_code, number};
 use std::alloc::AllocError;
 
 /// The first eight bytes of a sequence header of 16 by 16 samples, aspect 1, rate code 3.
@@ -62,15 +62,20 @@ fn zeros_behind_the_bytes_are_read(rt: HostRuntime) {
 }
 
 #[test]
-fn finds_start_codes(rt: HostRuntime) {
+fn finds_a_start_code(rt: HostRuntime) {
     let bytes = [0xFF, 0x00, 0x00, 0x00, 0x01, 0xB7, 0x00, 0x00, 0x01];
-    for (from, place) in [
-        (0, Some(2)),
-        (2, Some(2)),
-        (3, Some(6)),
-        (7, None),
-        (99, None),
-    ] {
-        assert_eq!(rt; next_start_code(&bytes, from), place, "from {from}");
-    }
+    assert_eq!(rt; next_start_code(&bytes, 3), Some(6));
+    assert_eq!(rt; next_start_code(&bytes, 7), None);
+}
+
+#[test]
+fn elements_tell_their_fault_and_its_place(rt: HostRuntime) {
+    let mut input = BitReader::new(&SEQUENCE);
+    let start = input.fork();
+    assert_eq!(rt; number(&mut input, 31, 'x'), Ok(0xD9));
+    assert_eq!(rt; flag(&mut input, 'x'), Ok(true));
+    assert_eq!(rt; check(&mut input, &start, false, 'y'), Err('y'));
+    assert_eq!(rt; input.place(), 0);
+    input.finish();
+    assert_eq!(rt; flag(&mut input, 'x'), Err('x'));
 }

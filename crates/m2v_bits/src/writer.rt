@@ -1,10 +1,10 @@
 ghost use Rattle.std.specs.Prelude.{◌≡◌, ℕ, ◌+◌, ◌-◌, ◌*◌, ◌/◌, ◌%◌, ◌^◌, ◌<◌, ◌≤◌, ◌++◌, [], length, take, replicate, false};
 ghost use Rattle.m2v_bits.specs.Bits.{Written, bits, bits_of, packed, to_edge};
 
-use crate::number::{joined, low};
+use crate::low::{joined, low};
 use std::marker::Model;
 
-/// Writes bits into a buffer, the highest bit of each byte first (clause 5.2.2).
+/// Writes bits into a buffer, the highest bit of each byte first (clause 4.6 of ISO/IEC 13818-2).
 ///
 /// Contracts see it as the bits written, and how many more there is room for.
 #[derive(Drop)]

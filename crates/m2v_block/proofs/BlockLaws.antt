@@ -13,8 +13,8 @@ use Rattle.m2v_vlc.proofs.Coefficients.{coefficient_zero_strict, coefficient_one
 use Rattle.m2v_vlc.proofs.Firsts.{first_zero_strict}
 use Rattle.m2v_quant.specs.declared.kind.BlockKind.{BlockKind}
 use Rattle.m2v_block.specs.declared.fault.BlockFault.{BlockFault}
-use Rattle.m2v_block.specs.declared.fault.BlockFault.TheVariants.{Code, Overrun, ForbiddenLevel, DcRange}
-use Rattle.m2v_block.specs.Faults.{of_code, coded}
+use Rattle.m2v_block.specs.declared.fault.BlockFault.TheVariants.{Overrun, ForbiddenLevel, DcRange}
+use Rattle.m2v_block.specs.Faults.{of_code, cut, coded}
 use Rattle.m2v_block.specs.Blocks.{Scan, size_at, dc_at, placed, coefficient_at, code_from, pair_at, pairs_at, opened, first_at, block_at}
 
 coded_takes : {V : Type 0} (table : List (Row V)) → Strict length (code_at codes.Truncated codes.NoCode table) → Takes length (coded table)
@@ -33,7 +33,7 @@ unfolding dc_at
 dc_strict luma precision predictor =
     seq_strict_later (here_lawful length length) (λ start.
     seq_strict (size_strict luma) (λ size.
-    seq_lawful (bits_lawful (Code codes.Truncated) size) (λ bits.
+    seq_lawful (bits_lawful cut size) (λ bits.
     seq_lawful (rule_lawful length _ DcRange start) (λ fits.
     done_lawful length _))))
 
@@ -45,9 +45,9 @@ coefficient_lawful : (start : ℕ) (s : Scan) (c : Coefficient) → Lawful lengt
 unfolding coefficient_at
 coefficient_lawful start s End = done_lawful length _
 coefficient_lawful start s Escape =
-    seq_lawful (bits_lawful (Code codes.Truncated) 6) (λ run.
+    seq_lawful (bits_lawful cut 6) (λ run.
     seq_lawful (here_lawful length length) (λ at.
-    seq_lawful (bits_lawful (Code codes.Truncated) 12) (λ level.
+    seq_lawful (bits_lawful cut 12) (λ level.
     seq_lawful (rule_lawful length _ ForbiddenLevel at) (λ allowed.
     placed_lawful start run _ s))))
 coefficient_lawful start s (Pair run level) = placed_lawful start run level s
@@ -62,12 +62,12 @@ pair_strict : (one : Bool) (s : Scan) → Strict length (pair_at one s)
 unfolding pair_at
 pair_strict one s =
     seq_strict_later (here_lawful length length) (λ start.
-    seq_strict (code_strict (nat_eq s.position 0) one) (λ c.
+    seq_strict (code_strict (nat_eq s.filled 0) one) (λ c.
     coefficient_lawful start s c))
 
 pub pairs_strict : (one : Bool) (s : Scan) → Strict length (pairs_at one s)
 unfolding pairs_at
-pairs_strict one s = repeated_strict length (Code codes.Truncated) (pair_at one) (pair_strict one) s
+pairs_strict one s = repeated_strict length cut (pair_at one) (pair_strict one) s
 
 first_lawful : (kind : BlockKind) (predictor : ℤ) → Lawful length (first_at kind predictor)
 unfolding first_at
@@ -93,15 +93,15 @@ block_once kind table_one predictor a b t rest other p q =
 
 pub pairs_err : (one : Bool) (s : Scan) (t : List Bool) (f : BlockFault × ℕ) → (pair_at one s).read t ≡ bad f → (pairs_at one s).read t ≡ bad f
 unfolding pairs_at
-pairs_err one = round_err length (Code codes.Truncated) (pair_at one) (λ s. (pair_strict one s).lawful) (onward (pair_strict one))
+pairs_err one = round_err length cut (pair_at one) (λ s. (pair_strict one s).lawful) (onward (pair_strict one))
 
 pub pairs_more : (one : Bool) (s m : Scan) (t mid : List Bool) (b : Bool) → (pair_at one s).read t ≡ good ((b, m), mid) → b ≡ true → (pairs_at one s).read t ≡ (pairs_at one m).read mid
 unfolding pairs_at
-pairs_more one s m t mid b e on = round_more length (Code codes.Truncated) (pair_at one) (λ s. (pair_strict one s).lawful) (onward (pair_strict one)) s m t mid (subst (λ (x : Bool). (pair_at one s).read t ≡ good ((x, m), mid)) on e)
+pairs_more one s m t mid b e on = round_more length cut (pair_at one) (λ s. (pair_strict one s).lawful) (onward (pair_strict one)) s m t mid (subst (λ (x : Bool). (pair_at one s).read t ≡ good ((x, m), mid)) on e)
 
 pub pairs_last : (one : Bool) (s m : Scan) (t mid : List Bool) (b : Bool) → (pair_at one s).read t ≡ good ((b, m), mid) → b ≡ false → (pairs_at one s).read t ≡ good (m, mid)
 unfolding pairs_at
-pairs_last one s m t mid b e off = round_last length (Code codes.Truncated) (pair_at one) (λ s. (pair_strict one s).lawful) (onward (pair_strict one)) s m t mid (subst (λ (x : Bool). (pair_at one s).read t ≡ good ((x, m), mid)) off e)
+pairs_last one s m t mid b e off = round_last length cut (pair_at one) (λ s. (pair_strict one s).lawful) (onward (pair_strict one)) s m t mid (subst (λ (x : Bool). (pair_at one s).read t ≡ good ((x, m), mid)) off e)
 
 pub pairs_less : (one : Bool) (s m : Scan) (t mid : List Bool) (b : Bool) → (pair_at one s).read t ≡ good ((b, m), mid) → length mid < length t
 pairs_less one s m t mid b e = (pair_strict one s).takes.less (b, m) t mid ((pair_strict one s).lawful.found (b, m) t mid e)

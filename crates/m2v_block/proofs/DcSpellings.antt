@@ -1,5 +1,5 @@
 -- What is written of a DC difference spells the level.
-use Rattle.std.proofs.Common.{◌≡◌, ℕ, zero, suc, ◌+◌, ◌-◌, ◌*◌, ◌/◌, ◌^◌, ◌<◌, ◌≤◌, Bool, true, false, List, [], ◌∷◌, ◌++◌, length, ℤ, pos, negsuc, ◌+ℤ◌, ◌-ℤ◌, refl, sym, ap, subst, ◌∙◌, arith, inl, inr}
+use Rattle.std.proofs.Common.{◌≡◌, ℕ, zero, suc, ◌+◌, ◌-◌, ◌*◌, ◌/◌, ◌^◌, ◌<◌, ◌≤◌, Bool, true, false, [], ◌++◌, length, ℤ, pos, negsuc, ◌+ℤ◌, ◌-ℤ◌, refl, sym, ap, subst, ◌∙◌, arith, inl, inr}
 use Rattle.std.specs.Prelude.{nat_eq, nat_lt, nat_le, unsigned_abs}
 use Rattle.std.proofs.lemmas.Int.{ints}
 use Rattle.std.proofs.lemmas.Bool.{cases_lt, ne_eqb, lt-ltb, le-leb, lt-leb}
@@ -10,8 +10,12 @@ use Rattle.m2v_bits.specs.Syntax.{Spells, done, seq, rule}
 use Rattle.m2v_bits.proofs.LeafLaws.{seq_spells, done_spells, here_spells, rule_spells, first_spells, second_spells, renamed_spells, bits_spells}
 use Rattle.m2v_vlc.specs.declared.values.CodeFault.TheVariants as codes
 use Rattle.m2v_vlc.proofs.Sizes.{dc_luma_spells, dc_chroma_spells}
-use Rattle.m2v_block.specs.declared.fault.BlockFault.TheVariants.{Code, DcRange}
-use Rattle.m2v_block.specs.Faults.{Of, of_code, number}
+use Rattle.m2v_block.specs.declared.fault.BlockFault.{BlockFault}
+use Rattle.m2v_block.specs.declared.fault.BlockFault.TheVariants.{DcRange}
+use Rattle.m2v_block.specs.Faults.{of_code, cut}
+use Rattle.m2v_bits.specs.Leaves.{bits_at}
+use Rattle.m2v_bits.specs.Elements.{BitSyntax}
+use Rattle.m2v_bits.proofs.ElementLaws.{whole_spells}
 use Rattle.m2v_block.specs.Dc.{size_of, number_of, size_code, dc_text}
 use Rattle.m2v_block.specs.Blocks.{IsDc, is_dc, difference, size_at, dc_at}
 use Rattle.m2v_block.proofs.Numbers.{least_size}
@@ -89,13 +93,9 @@ sum_is (pos a) (negsuc b) = omega (arith, ints)
 sum_is (negsuc a) (pos b) = omega (arith, ints)
 sum_is (negsuc a) (negsuc b) = omega (arith, ints)
 
-abbrev bits_behind : Bool → ℕ → ℤ → ℕ → ℕ → Of ℤ
+abbrev bits_behind : Bool → ℕ → ℤ → ℕ → ℕ → BitSyntax BlockFault ℤ
 bits_behind luma precision predictor start size =
-    seq (number size) (λ bits. seq (rule (is_dc precision (predictor +ℤ difference size bits)) DcRange start) (λ fits. done (predictor +ℤ difference size bits)))
-
-pub no_more : (xs : List Bool) → xs ++ [] ≡ xs
-no_more [] = refl
-no_more (x ∷ xs) = ap (λ (ys : List Bool). x ∷ ys) (no_more xs)
+    seq (bits_at cut size) (λ bits. seq (rule (is_dc precision (predictor +ℤ difference size bits)) DcRange start) (λ fits. done (predictor +ℤ difference size bits)))
 
 bits_of_spells : (luma : Bool) (precision : ℕ) (predictor level : ℤ) (start s : ℕ) → IsDc precision level → IsSize (unsigned_abs (level -ℤ predictor)) s
     → Spells (bits_behind luma precision predictor start s) level (bits_of s (number_of s (level -ℤ predictor)))
@@ -106,8 +106,7 @@ bits_of_spells luma precision predictor level start s range h =
     let rest : Spells (seq (rule (is_dc precision (predictor +ℤ difference s n)) DcRange start) (λ fits. done (predictor +ℤ difference s n))) level [] =
     subst (λ (z : ℤ). Spells (seq (rule (is_dc precision z) DcRange start) (λ fits. done z)) level []) (sym back)
     (rule_spells (is_dc precision level) DcRange start (λ fits. done level) level [] (in_range precision level range) (done_spells level)) in
-    subst (λ (t : List Bool). Spells (bits_behind luma precision predictor start s) level t) (no_more (bits_of s n))
-    (seq_spells (λ bits. seq (rule (is_dc precision (predictor +ℤ difference s bits)) DcRange start) (λ fits. done (predictor +ℤ difference s bits))) n level (bits_of s n) [] (bits_spells (Code codes.Truncated) s n (number_fits d s h)) rest)
+    whole_spells (seq_spells (λ bits. seq (rule (is_dc precision (predictor +ℤ difference s bits)) DcRange start) (λ fits. done (predictor +ℤ difference s bits))) n level (bits_of s n) [] (bits_spells cut s n (number_fits d s h)) rest)
 
 pub dc_spells : (luma : Bool) (precision : ℕ) (predictor level : ℤ) → precision ≤ 3 → IsDc precision predictor → IsDc precision level → Spells (dc_at luma precision predictor) level (dc_text luma (level -ℤ predictor))
 unfolding dc_at dc_text

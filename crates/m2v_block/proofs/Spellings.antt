@@ -1,5 +1,5 @@
 -- What is written spells the levels.
-use Rattle.std.proofs.Common.{◌≡◌, ℕ, zero, suc, ◌+◌, ◌-◌, ◌^◌, ◌<◌, ◌≤◌, Bool, true, false, ◌&&◌, List, [], ◌∷◌, ◌++◌, length, set, replicate, All, ℤ, pos, negsuc, refl, sym, ap, subst, ◌∙◌, append_assoc, arith, inl, inr}
+use Rattle.std.proofs.Common.{◌≡◌, ℕ, zero, suc, ◌+◌, ◌-◌, ◌^◌, ◌<◌, ◌≤◌, Bool, true, false, ◌&&◌, List, [], ◌∷◌, ◌++◌, length, set, replicate, All, ℤ, pos, negsuc, refl, sym, ap, subst, ◌∙◌, append_assoc, append-nil, arith, inl, inr}
 use Rattle.std.specs.Prelude.{nat_eq, nat_lt, cond, ◌-ℤ◌}
 use Rattle.std.proofs.lemmas.Int.{ints}
 use Rattle.std.proofs.lemmas.Bool.{cases_Bool, ne_eqb, eq-eqb, eqb-true, lt-ltb, le-ltb, both_ways}
@@ -7,6 +7,8 @@ use Rattle.std.proofs.lemmas.List.Elements.{All-head, All-tail}
 use Rattle.std.proofs.lemmas.List.{length-append}
 use Rattle.m2v_bits.specs.Bits.{bits_of}
 use Rattle.m2v_bits.specs.Syntax.{Spells, done, seq, rule, repeated, last, more}
+use Rattle.m2v_bits.specs.Leaves.{bits_at}
+use Rattle.m2v_bits.specs.Elements.{BitSyntax, left_at}
 use Rattle.m2v_bits.proofs.LeafLaws.{seq_spells, done_spells, here_spells, rule_spells, first_spells, second_spells, renamed_spells, bits_spells}
 use Rattle.m2v_vlc.specs.declared.values.CodeFault.TheVariants as codes
 use Rattle.m2v_vlc.specs.declared.values.Coefficient.{Coefficient}
@@ -15,13 +17,14 @@ use Rattle.m2v_vlc.proofs.Coefficients.{coefficient_zero_spells, coefficient_one
 use Rattle.m2v_vlc.proofs.Firsts.{first_zero_spells}
 use Rattle.m2v_quant.specs.declared.kind.BlockKind.{BlockKind}
 use Rattle.m2v_quant.specs.Kinds.{IsKind, IsLevel}
-use Rattle.m2v_block.specs.declared.fault.BlockFault.TheVariants.{Code, Overrun, ForbiddenLevel}
-use Rattle.m2v_block.specs.Faults.{Of, of_code, place, number}
+use Rattle.m2v_block.specs.declared.fault.BlockFault.{BlockFault}
+use Rattle.m2v_block.specs.declared.fault.BlockFault.TheVariants.{Overrun, ForbiddenLevel}
+use Rattle.m2v_block.specs.Faults.{of_code, cut}
 use Rattle.m2v_block.specs.Blocks.{IsDc, Scan, opened, first_at, block_at, placed, escaped, is_allowed, coefficient_at, code_from, pair_at, pairs_at}
 use Rattle.m2v_block.specs.Texts.{code_text, twelve, escape_text, pair_text, is_zero, level_text, run_after, pairs_text, IsBlock, block_text}
 use Rattle.m2v_block.specs.Dc.{dc_text}
 use Rattle.m2v_block.proofs.Written.{escape_length, end_some}
-use Rattle.m2v_block.proofs.DcSpellings.{no_more, dc_spells}
+use Rattle.m2v_block.proofs.DcSpellings.{dc_spells}
 
 code_spells : (first one : Bool) (c : Coefficient) → 0 < length (code_text first one c) → Spells (code_from first one) c (code_text first one c)
 unfolding code_from code_text
@@ -30,12 +33,12 @@ code_spells false true c some = second_spells false _ _ c _ refl (first_spells t
 code_spells false false c some = second_spells false _ _ c _ refl (second_spells false _ _ c _ refl (renamed_spells of_code _ c _ (coefficient_zero_spells codes.Truncated codes.NoCode c some)))
 
 -- the scan behind a pair
-abbrev behind : Scan → ℕ → ℤ → Scan
-behind s run level = record { position = s.position + run + 1; levels = set s.levels (s.position + run) level }
+abbrev after_pair : Scan → ℕ → ℤ → Scan
+after_pair s run level = record { filled = s.filled + run + 1; levels = set s.levels (s.filled + run) level }
 
-placed_spells : (start run : ℕ) (level : ℤ) (s : Scan) → s.position + run < 64 → Spells (placed start run level s) (true, behind s run level) []
+placed_spells : (start run : ℕ) (level : ℤ) (s : Scan) → s.filled + run < 64 → Spells (placed start run level s) (true, after_pair s run level) []
 unfolding placed
-placed_spells start run level s inside = rule_spells (nat_lt (s.position + run) 64) Overrun start (λ fits. done (true, behind s run level)) (true, behind s run level) [] (lt-ltb _ _ inside) (done_spells (true, behind s run level))
+placed_spells start run level s inside = rule_spells (nat_lt (s.filled + run) 64) Overrun start (λ fits. done (true, after_pair s run level)) (true, after_pair s run level) [] (lt-ltb _ _ inside) (done_spells (true, after_pair s run level))
 
 twelve_below : (level : ℤ) → IsLevel level → twelve level < 2 ^ 12
 unfolding twelve
@@ -66,29 +69,29 @@ positive (suc n) e = omega arith
 
 -- ---- an escaped pair
 
-abbrev allowed_at : ℕ → Scan → ℕ → ℕ → ℕ → Of (Bool × Scan)
+abbrev allowed_at : ℕ → Scan → ℕ → ℕ → ℕ → BitSyntax BlockFault (Bool × Scan)
 allowed_at start s run at level = seq (rule (is_allowed level) ForbiddenLevel at) (λ allowed. placed start run (escaped level) s)
 
-abbrev level_behind : ℕ → Scan → ℕ → ℕ → Of (Bool × Scan)
-level_behind start s run at = seq (number 12) (allowed_at start s run at)
+abbrev level_behind : ℕ → Scan → ℕ → ℕ → BitSyntax BlockFault (Bool × Scan)
+level_behind start s run at = seq (bits_at cut 12) (allowed_at start s run at)
 
-abbrev run_behind : ℕ → Scan → ℕ → Of (Bool × Scan)
-run_behind start s run = seq place (level_behind start s run)
+abbrev run_behind : ℕ → Scan → ℕ → BitSyntax BlockFault (Bool × Scan)
+run_behind start s run = seq left_at (level_behind start s run)
 
-level_spells : (start at run : ℕ) (level : ℤ) (s : Scan) → s.position + run < 64 → IsLevel level → (level ≡ pos 0 → ⊥) → Spells (level_behind start s run at) (true, behind s run level) (bits_of 12 (twelve level))
+level_spells : (start at run : ℕ) (level : ℤ) (s : Scan) → s.filled + run < 64 → IsLevel level → (level ≡ pos 0 → ⊥) → Spells (level_behind start s run at) (true, after_pair s run level) (bits_of 12 (twelve level))
 level_spells start at run level s inside range some =
-    let back = subst (λ (z : ℤ). Spells (placed start run z s) (true, behind s run level) []) (sym (twelve_back level range)) (placed_spells start run level s inside) in
-    let rest = rule_spells (is_allowed (twelve level)) ForbiddenLevel at (λ allowed. placed start run (escaped (twelve level)) s) (true, behind s run level) [] (twelve_allowed level range some) back in
-    subst (λ (t : List Bool). Spells (level_behind start s run at) (true, behind s run level) t) (no_more (bits_of 12 (twelve level)))
-    (seq_spells (allowed_at start s run at) (twelve level) (true, behind s run level) (bits_of 12 (twelve level)) [] (bits_spells (Code codes.Truncated) 12 (twelve level) (twelve_below level range)) rest)
+    let back = subst (λ (z : ℤ). Spells (placed start run z s) (true, after_pair s run level) []) (sym (twelve_back level range)) (placed_spells start run level s inside) in
+    let rest = rule_spells (is_allowed (twelve level)) ForbiddenLevel at (λ allowed. placed start run (escaped (twelve level)) s) (true, after_pair s run level) [] (twelve_allowed level range some) back in
+    subst (λ (t : List Bool). Spells (level_behind start s run at) (true, after_pair s run level) t) (append-nil (bits_of 12 (twelve level)))
+    (seq_spells (allowed_at start s run at) (twelve level) (true, after_pair s run level) (bits_of 12 (twelve level)) [] (bits_spells cut 12 (twelve level) (twelve_below level range)) rest)
 
-escape_spells : (start run : ℕ) (level : ℤ) (s : Scan) → s.position + run < 64 → IsLevel level → (level ≡ pos 0 → ⊥) → Spells (coefficient_at start s Escape) (true, behind s run level) (bits_of 6 run ++ bits_of 12 (twelve level))
+escape_spells : (start run : ℕ) (level : ℤ) (s : Scan) → s.filled + run < 64 → IsLevel level → (level ≡ pos 0 → ⊥) → Spells (coefficient_at start s Escape) (true, after_pair s run level) (bits_of 6 run ++ bits_of 12 (twelve level))
 unfolding coefficient_at
 escape_spells start run level s inside range some =
-    seq_spells (run_behind start s) run (true, behind s run level) (bits_of 6 run) (bits_of 12 (twelve level)) (bits_spells (Code codes.Truncated) 6 run (omega arith))
-    (here_spells length (level_behind start s run) (true, behind s run level) (bits_of 12 (twelve level)) (λ at. level_spells start at run level s inside range some))
+    seq_spells (run_behind start s) run (true, after_pair s run level) (bits_of 6 run) (bits_of 12 (twelve level)) (bits_spells cut 6 run (omega arith))
+    (here_spells length (level_behind start s run) (true, after_pair s run level) (bits_of 12 (twelve level)) (λ at. level_spells start at run level s inside range some))
 
-pair_of_spells : (start run : ℕ) (level : ℤ) (s : Scan) → s.position + run < 64 → Spells (coefficient_at start s (Pair run level)) (true, behind s run level) []
+pair_of_spells : (start run : ℕ) (level : ℤ) (s : Scan) → s.filled + run < 64 → Spells (coefficient_at start s (Pair run level)) (true, after_pair s run level) []
 unfolding coefficient_at
 pair_of_spells start run level s inside = placed_spells start run level s inside
 
@@ -96,26 +99,26 @@ end_of_spells : (start : ℕ) (s : Scan) → Spells (coefficient_at start s End)
 unfolding coefficient_at
 end_of_spells start s = done_spells (false, s)
 
-abbrev coefficient_behind : Bool → Bool → Scan → ℕ → Of (Bool × Scan)
+abbrev coefficient_behind : Bool → Bool → Scan → ℕ → BitSyntax BlockFault (Bool × Scan)
 coefficient_behind first one s start = seq (code_from first one) (coefficient_at start s)
 
-coded_spells : (first one : Bool) (start run : ℕ) (level : ℤ) (s : Scan) → s.position + run < 64 → IsLevel level → (level ≡ pos 0 → ⊥) → Spells (coefficient_behind first one s start) (true, behind s run level) (pair_text first one run level)
+coded_spells : (first one : Bool) (start run : ℕ) (level : ℤ) (s : Scan) → s.filled + run < 64 → IsLevel level → (level ≡ pos 0 → ⊥) → Spells (coefficient_behind first one s start) (true, after_pair s run level) (pair_text first one run level)
 unfolding pair_text escape_text
 coded_spells first one start run level s inside range some = elim (cases_Bool (nat_eq (length (code_text first one (Pair run level))) 0)) [
-  | inl none ↦ rw none (seq_spells (coefficient_at start s) Escape (true, behind s run level) (code_text first one Escape) (bits_of 6 run ++ bits_of 12 (twelve level)) (code_spells first one Escape (omega (arith, escape_length first one))) (escape_spells start run level s inside range some))
-  | inr coded ↦ rw coded (subst (λ (t : List Bool). Spells (coefficient_behind first one s start) (true, behind s run level) t) (no_more (code_text first one (Pair run level)))
-      (seq_spells (coefficient_at start s) (Pair run level) (true, behind s run level) (code_text first one (Pair run level)) [] (code_spells first one (Pair run level) (positive _ coded)) (pair_of_spells start run level s inside)))
+  | inl none ↦ rw none (seq_spells (coefficient_at start s) Escape (true, after_pair s run level) (code_text first one Escape) (bits_of 6 run ++ bits_of 12 (twelve level)) (code_spells first one Escape (omega (arith, escape_length first one))) (escape_spells start run level s inside range some))
+  | inr coded ↦ rw coded (subst (λ (t : List Bool). Spells (coefficient_behind first one s start) (true, after_pair s run level) t) (append-nil (code_text first one (Pair run level)))
+      (seq_spells (coefficient_at start s) (Pair run level) (true, after_pair s run level) (code_text first one (Pair run level)) [] (code_spells first one (Pair run level) (positive _ coded)) (pair_of_spells start run level s inside)))
 ]
 
-pair_spells : (first one : Bool) (run : ℕ) (level : ℤ) (s : Scan) → first ≡ nat_eq s.position 0 → s.position + run < 64 → IsLevel level → (level ≡ pos 0 → ⊥) → Spells (pair_at one s) (true, behind s run level) (pair_text first one run level)
+pair_spells : (first one : Bool) (run : ℕ) (level : ℤ) (s : Scan) → first ≡ nat_eq s.filled 0 → s.filled + run < 64 → IsLevel level → (level ≡ pos 0 → ⊥) → Spells (pair_at one s) (true, after_pair s run level) (pair_text first one run level)
 unfolding pair_at
 pair_spells first one run level s e inside range some =
-    rw e (here_spells length (coefficient_behind (nat_eq s.position 0) one s) (true, behind s run level) (pair_text (nat_eq s.position 0) one run level) (λ start. coded_spells (nat_eq s.position 0) one start run level s inside range some))
+    rw e (here_spells length (coefficient_behind (nat_eq s.filled 0) one s) (true, after_pair s run level) (pair_text (nat_eq s.filled 0) one run level) (λ start. coded_spells (nat_eq s.filled 0) one start run level s inside range some))
 
-end_spells : (one : Bool) (s : Scan) → nat_eq s.position 0 ≡ false → Spells (pair_at one s) (false, s) (code_text false one End)
+end_spells : (one : Bool) (s : Scan) → nat_eq s.filled 0 ≡ false → Spells (pair_at one s) (false, s) (code_text false one End)
 unfolding pair_at
 end_spells one s e =
-    rw e (here_spells length (coefficient_behind false one s) (false, s) (code_text false one End) (λ start. subst (λ (t : List Bool). Spells (coefficient_behind false one s start) (false, s) t) (no_more (code_text false one End))
+    rw e (here_spells length (coefficient_behind false one s) (false, s) (code_text false one End) (λ start. subst (λ (t : List Bool). Spells (coefficient_behind false one s start) (false, s) t) (append-nil (code_text false one End))
     (seq_spells (coefficient_at start s) End (false, s) (code_text false one End) [] (code_spells false one End (end_some one)) (end_of_spells start s))))
 
 -- ---- all pairs
@@ -138,7 +141,7 @@ unfolding pairs_text level_text run_after
 text_some true one run level levels e = rw e refl
 text_some false one run level levels e = rw e refl
 
--- the levels from a position on take their places
+-- the levels from a place on take theirs
 unfoldable overlay : List ℤ → ℕ → List ℤ → List ℤ
 overlay before k [] = before
 overlay before k (level ∷ levels) = overlay (cond (is_zero level) before (set before k level)) (k + 1) levels
@@ -152,10 +155,10 @@ some_is (pos n) e is = both_ways _ e (eq-eqb n 0 (omega (arith, ints, is)))
 some_is (negsuc n) e is = omega (arith, ints, is)
 
 abbrev Ends : Bool → Scan → List ℤ → List Bool → Type 0
-Ends one s levels text = (q : ℕ) × Spells (pairs_at one s) (record { position = q; levels = levels }) text
+Ends one s levels text = (q : ℕ) × Spells (pairs_at one s) (record { filled = q; levels = levels }) text
 
 abbrev at : ℕ → List ℤ → Scan
-at p levels = record { position = p; levels = levels }
+at p levels = record { filled = p; levels = levels }
 
 pairs_spells : (first one : Bool) (levels : List ℤ) (p run : ℕ) (before : List ℤ) → first ≡ nat_eq p 0 → All IsLevel levels → p + run + length levels ≡ 64 → (first ≡ true → levels ≡ replicate (length levels) (pos 0) → ⊥)
     → Ends one (at p before) (overlay before (p + run) levels) (pairs_text first one run levels)
@@ -211,7 +214,7 @@ overlay_is front (level ∷ levels) k e =
 
 scan_spells : (one : Bool) (s : Scan) (levels : List ℤ) (text : List Bool) → Ends one s levels text → Spells (seq (pairs_at one s) (λ scan. done scan.levels)) levels text
 scan_spells one s levels text h =
-    subst (λ (t : List Bool). Spells (seq (pairs_at one s) (λ scan. done scan.levels)) levels t) (no_more text)
+    subst (λ (t : List Bool). Spells (seq (pairs_at one s) (λ scan. done scan.levels)) levels t) (append-nil text)
     (seq_spells (λ scan. done scan.levels) (at h.0 levels) levels text [] h.1 (done_spells levels))
 
 joined : (kind : BlockKind) (table_one : Bool) (predictor dc : ℤ) (levels : List ℤ) (x y : List Bool) → Spells (first_at kind predictor) dc x → Ends (kind.intra && table_one) (opened kind.intra dc) levels y → Spells (block_at kind table_one predictor) levels (x ++ y)

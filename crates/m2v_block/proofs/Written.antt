@@ -1,22 +1,40 @@
 -- What is written, piece by piece.
-use Rattle.std.proofs.Common.{◌≡◌, ℕ, suc, ◌+◌, ◌<◌, ◌≤◌, Bool, true, false, ◌&&◌, List, ◌++◌, length, drop, get_or, ℤ, pos, refl, sym, ap, ◌∙◌, append_assoc, arith, inl, inr}
-use Rattle.std.specs.Prelude.{nat_eq}
+use Rattle.std.proofs.Common.{◌≡◌, ℕ, suc, ◌+◌, ◌*◌, ◌^◌, ◌<◌, ◌≤◌, Bool, true, false, ◌&&◌, List, [], ◌∷◌, ◌++◌, length, drop, get_or, ℤ, pos, refl, sym, ap, ◌∙◌, append_assoc, append-nil, arith, inl, inr}
+use Rattle.std.specs.Prelude.{nat_eq, cond, ◌-ℤ◌, unsigned_abs}
 use Rattle.std.proofs.Math.Seq.{drop-cons}
-use Rattle.std.proofs.lemmas.Bool.{cases_Bool}
-use Rattle.std.proofs.lemmas.List.{length-append, drop_all}
+use Rattle.std.proofs.lemmas.Bool.{cases_Bool, eq-eqb, ne_eqb}
+use Rattle.std.proofs.lemmas.List.{length-append, length-drop, drop_all}
 use Rattle.m2v_bits.specs.Bits.{bits_of}
 use Rattle.m2v_bits.proofs.Bits.{length-bits_of}
+use Rattle.m2v_bits.proofs.Cursor.{bits_of-join}
 use Rattle.m2v_vlc.specs.declared.values.Coefficient.{Coefficient}
 use Rattle.m2v_vlc.specs.declared.values.Coefficient.TheVariants.{End, Escape, Pair}
 use Rattle.m2v_vlc.proofs.Coefficients.{coefficient_zero_end, coefficient_zero_escape, coefficient_one_end, coefficient_one_escape, coefficient_zero_length, coefficient_one_length}
 use Rattle.m2v_vlc.proofs.Firsts.{first_zero_escape, first_zero_length}
-use Rattle.m2v_block.specs.Texts.{code_text, twelve, escape_text, pair_text, is_zero, level_text, run_after, pairs_text}
+use Rattle.m2v_quant.specs.declared.kind.BlockKind.{BlockKind}
+use Rattle.m2v_block.specs.Dc.{dc_text}
+use Rattle.m2v_block.specs.Texts.{code_text, twelve, escape_text, pair_text, is_zero, level_text, run_after, pairs_text, block_text}
+use Rattle.m2v_block.proofs.Numbers.{dc_length}
+
+-- the escape stands in each table
+escape_code : (first one : Bool) → code_text first one Escape ≡ bits_of 6 1
+unfolding code_text
+escape_code true one = first_zero_escape
+escape_code false true = coefficient_one_escape
+escape_code false false = coefficient_zero_escape
 
 pub escape_length : (first one : Bool) → length (code_text first one Escape) ≡ 6
-unfolding code_text
-escape_length true one = ap length first_zero_escape ∙ length-bits_of 6 1
-escape_length false true = ap length coefficient_one_escape ∙ length-bits_of 6 1
-escape_length false false = ap length coefficient_zero_escape ∙ length-bits_of 6 1
+escape_length first one = ap length (escape_code first one) ∙ length-bits_of 6 1
+
+-- the escape, a run and a level, as one number
+pub escape_number : (first one : Bool) (run t : ℕ) (level : ℤ) → run < 64 → t ≡ twelve level → t < 2 ^ 12 → bits_of 24 ((64 + run) * 4096 + t) ≡ escape_text first one run level
+unfolding escape_text
+escape_number first one run t level small is below =
+    let high : bits_of 12 (64 + run) ≡ bits_of 6 1 ++ bits_of 6 run = bits_of-join 6 6 1 run small in
+    bits_of-join 12 12 (64 + run) t below
+    ∙ ap (λ (x : List Bool). x ++ bits_of 12 t) high
+    ∙ append_assoc (bits_of 6 1) (bits_of 6 run) (bits_of 12 t)
+    ∙ rw (escape_code first one, is) refl
 
 pub end_some : (one : Bool) → 0 < length (code_text false one End)
 unfolding code_text
@@ -34,6 +52,19 @@ unfolding escape_text
 escape_is first one run level =
     omega (arith, length-append (code_text first one Escape) (bits_of 6 run ++ bits_of 12 (twelve level)), length-append (bits_of 6 run) (bits_of 12 (twelve level)), length-bits_of 6 run, length-bits_of 12 (twelve level), escape_length first one)
 
+-- a pair without a code is escaped
+pub pair_escaped : (first one : Bool) (run n x : ℕ) (level : ℤ) → bits_of n x ≡ code_text first one (Pair run level) → n ≡ 0 → escape_text first one run level ≡ pair_text first one run level
+unfolding pair_text
+pair_escaped first one run n x level e none =
+    let test : nat_eq (length (code_text first one (Pair run level))) 0 ≡ true = eq-eqb _ 0 (omega (arith, ap length e, length-bits_of n x)) in
+    rw test refl
+
+pub pair_coded : (first one : Bool) (run n x : ℕ) (level : ℤ) → bits_of n x ≡ code_text first one (Pair run level) → (n ≡ 0 → ⊥) → bits_of n x ≡ pair_text first one run level
+unfolding pair_text
+pair_coded first one run n x level e some =
+    let test : nat_eq (length (code_text first one (Pair run level))) 0 ≡ false = ne_eqb _ 0 (λ none. some (omega (arith, ap length e, length-bits_of n x))) in
+    rw test e
+
 pub pair_most : (first one : Bool) (run : ℕ) (level : ℤ) → length (pair_text first one run level) ≤ 24
 unfolding pair_text
 pair_most first one run level = elim (cases_Bool (nat_eq (length (code_text first one (Pair run level))) 0)) [
@@ -41,12 +72,61 @@ pair_most first one run level = elim (cases_Bool (nat_eq (length (code_text firs
   | inr some ↦ rw some (omega (arith, code_most first one (Pair run level)))
 ]
 
+-- a level of 0 has no bits
+pub level_none : (first one : Bool) (run n : ℕ) (level : ℤ) → n ≡ unsigned_abs level → n ≡ 0 → bits_of 0 0 ≡ level_text first one run level
+unfolding level_text bits_of
+level_none first one run n level e none =
+    let test : is_zero level ≡ true = eq-eqb (unsigned_abs level) 0 (sym e ∙ none) in
+    rw test refl
+
+pub nothing_more : (w text : List Bool) (n x : ℕ) → bits_of n x ≡ text → n ≡ 0 → w ≡ w ++ text
+unfolding bits_of
+nothing_more w text n x e none = sym (append-nil w) ∙ ap (λ (t : List Bool). w ++ t) (sym (ap (λ (k : ℕ). bits_of k x) none) ∙ e)
+
 pub level_most : (first one : Bool) (run : ℕ) (level : ℤ) → length (level_text first one run level) ≤ 24
 unfolding level_text
 level_most first one run level = elim (cases_Bool (is_zero level)) [
   | inl zero_is ↦ rw zero_is (omega arith)
   | inr some ↦ rw some (pair_most first one run level)
 ]
+
+end_most : (one : Bool) → length (code_text false one End) ≤ cond one 4 2
+unfolding code_text
+end_most true = omega (arith, ap length coefficient_one_end, length-bits_of 4 6)
+end_most false = omega (arith, ap length coefficient_zero_end, length-bits_of 2 2)
+
+-- the most bits that pairs take: each by escape, and the end
+pub pairs_most : (first one : Bool) (run : ℕ) (levels : List ℤ) → length (pairs_text first one run levels) ≤ 24 * length levels + cond one 4 2
+unfolding pairs_text
+pairs_most first one run [] = omega (arith, end_most one)
+pairs_most first one run (level ∷ levels) =
+    omega (
+      arith,
+      length-append (level_text first one run level) (pairs_text (first && is_zero level) one (run_after run level) levels),
+      level_most first one run level,
+      pairs_most (first && is_zero level) one (run_after run level) levels,
+    )
+
+intra_most : (one : Bool) (dc rest : List Bool) (levels : List ℤ) → length levels ≤ 64 → length dc ≤ 22 → length rest ≤ 24 * length (drop 1 levels) + cond one 4 2 → length (dc ++ rest) ≤ 1538
+intra_most true dc rest levels le front back = omega (arith, length-append dc rest, length-drop 1 levels)
+intra_most false dc rest levels le front back = omega (arith, length-append dc rest, length-drop 1 levels)
+
+-- the most bits that a block takes: 64 escaped pairs, and the end
+pub block_most : (kind : BlockKind) (table_one : Bool) (predictor : ℤ) (levels : List ℤ) → length levels ≤ 64 → length (block_text kind table_one predictor levels) ≤ 1538
+unfolding block_text
+block_most kind table_one predictor levels le = elim (cases_Bool kind.intra) [
+  | inl on ↦
+      let dc = get_or levels 0 (pos 0) -ℤ predictor in
+      rw on (intra_most table_one (dc_text kind.luma dc) (pairs_text false table_one 0 (drop 1 levels)) levels le (dc_length kind.luma dc) (pairs_most false table_one 0 (drop 1 levels)))
+  | inr off ↦ rw off (omega (arith, pairs_most true false 0 levels))
+]
+
+pub intra_bits_most : (one : Bool) (a b : ℕ) (levels : List ℤ) → length levels ≡ 64 → a ≤ 22 → b ≡ length (pairs_text false one 0 (drop 1 levels)) → a + b ≤ 1538
+intra_bits_most true a b levels len front back = omega (arith, pairs_most false true 0 (drop 1 levels), length-drop 1 levels)
+intra_bits_most false a b levels len front back = omega (arith, pairs_most false false 0 (drop 1 levels), length-drop 1 levels)
+
+pub other_bits_most : (b : ℕ) (levels : List ℤ) → length levels ≡ 64 → b ≡ length (pairs_text true false 0 levels) → b ≤ 1538
+other_bits_most b levels len back = omega (arith, pairs_most true false 0 levels)
 
 -- one level more
 pub next_level : (first one : Bool) (run : ℕ) (levels : List ℤ) (i : ℕ) (level : ℤ) → i < length levels → level ≡ get_or levels i (pos 0)

@@ -39,7 +39,7 @@ fn write_size(luma: bool, size: u8, out: &mut BitWriter)
 
 /// The number of a difference of this size.
 #[inline(always)]
-fn number(size: u8, difference: i32) -> u32
+fn number_of(size: u8, difference: i32) -> u32
     requires known { size < 12 }
     requires fits { unsigned_abs difference < 2 ^ size }
     ensures value { result ≡ number_of size difference }
@@ -64,7 +64,7 @@ pub fn write_dc(difference: i32, luma: bool, out: &mut BitWriter)
 {
     let size = size(difference.unsigned_abs());
     write_size(luma, size, out);
-    out.put(number(size, difference), size);
+    out.put(number_of(size, difference), size);
 }
 
 /// How many bits the code of a size has.

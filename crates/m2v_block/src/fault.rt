@@ -5,7 +5,7 @@ use m2v_vlc::CodeFault;
 pub enum BlockFault {
     /// The bits end inside an element, or no code stands there.
     Code(CodeFault),
-    /// A pair goes past position 63.
+    /// A pair goes past the last place of the scan, 63.
     Overrun,
     /// An escape's level is 0 or -2048.
     ForbiddenLevel,

@@ -4,6 +4,7 @@
 
 mod dc;
 mod fault;
+mod laws;
 mod read;
 #[cfg(test)]
 mod tests;
@@ -11,5 +12,6 @@ mod write;
 
 pub use dc::write_dc;
 pub use fault::BlockFault;
+pub use laws::{law_one_reading, law_round_trip};
 pub use read::read_block;
 pub use write::{block_bits, write_block};

@@ -2,31 +2,17 @@ ghost use Rattle.std.specs.Prelude.{◌≡◌, ◌+◌, ◌^◌, ◌<◌, ◌≤
 ghost use Rattle.m2v_bits.specs.Syntax.{Gives};
 ghost use Rattle.m2v_vlc.specs.Coefficients.{IsCoefficient};
 ghost use Rattle.m2v_quant.specs.Kinds.{IsKind, IsLevel};
-ghost use Rattle.m2v_block.specs.Faults.{number};
 ghost use Rattle.m2v_block.specs.Blocks.{difference, IsDc, is_dc, size_at, dc_at, placed, escaped, is_allowed, coefficient_at, code_from, pair_at, pairs_at, opened, first_at, block_at, predictor_after, GivesScan, GivesLevels, GivesEnd};
 
 use crate::fault::BlockFault;
-use m2v_bits::BitReader;
+use crate::fault::BlockFault::{Code, DcRange, ForbiddenLevel, Overrun};
+use m2v_bits::{BitReader, check, number};
 use m2v_quant::{BlockKind, Levels};
+use m2v_vlc::CodeFault::Truncated;
 use m2v_vlc::{
-    CodeFault, Coefficient, read_coefficient_one, read_coefficient_zero, read_dc_chroma,
-    read_dc_luma, read_first_zero,
+    Coefficient, read_coefficient_one, read_coefficient_zero, read_dc_chroma, read_dc_luma,
+    read_first_zero,
 };
-
-/// A number of n bits.
-#[inline(always)]
-#[tactic(auto, unfolding(m2v_bits::specs::Leaves::bits_at))]
-fn number(input: &mut BitReader, n: u8) -> Result<u32, BlockFault>
-    requires { n ≤ 32 }
-    ensures exact { Gives result input.new.rest ((number n).read input.old.rest) }
-    ensures text { input.new.text ≡ input.old.text }
-    ensures below { IfOk result (λ v. v < 2 ^ n) }
-{
-    match input.take(n) {
-        Some(v) => Ok(v),
-        None => Err(BlockFault::Code(CodeFault::Truncated)),
-    }
-}
 
 /// The size of a DC difference, by table B.12 for luma and table B.13 for chroma.
 #[inline(always)]
@@ -86,42 +72,36 @@ fn dc(input: &mut BitReader, luma: bool, precision: u8, predictor: i32) -> Resul
 {
     let start = input.fork();
     let size = size(input, luma)?;
-    let bits = number(input, size)?;
+    let bits = number(input, size, Code(Truncated))?;
     let level = predictor + difference(size, bits);
-    if !is_dc(precision, level) {
-        *input = start;
-        return Err(BlockFault::DcRange);
-    }
+    check(input, &start, is_dc(precision, level), DcRange)?;
     Ok(level)
 }
 
 /// A run of zeros and a level behind it.
 #[inline(always)]
 #[tactic(auto, unfolding(crate::specs::Blocks::placed, m2v_bits::specs::Syntax::seq, m2v_bits::specs::Syntax::bind, m2v_bits::specs::Syntax::rule, m2v_bits::specs::Syntax::done))]
-fn place<'a>(
+fn placed<'a>(
     input: &mut BitReader<'a>,
     start: &BitReader<'a>,
-    position: u8,
+    filled: u8,
     run: u8,
     level: i32,
     out: &mut Levels,
 ) -> Result<(bool, u8), BlockFault>
-    requires position { position ≤ 64 }
+    requires filled { filled ≤ 64 }
     requires run { run < 64 }
     requires level { IsLevel level }
     requires text { start.now.text ≡ input.old.text }
     requires levels { All IsLevel out.old.at }
-    ensures exact { GivesScan result out.new.at input.new.rest ((placed (length start.now.rest) run level (record { position = position; levels = out.old.at })).read input.old.rest) }
+    ensures exact { GivesScan result out.new.at input.new.rest ((placed (length start.now.rest) run level (record { filled = filled; levels = out.old.at })).read input.old.rest) }
     ensures text { input.new.text ≡ input.old.text }
-    ensures within { IfOk result (λ x. (position ≤ x.1) × (x.1 ≤ 64)) }
-    ensures dc { 0 < position → slice_index_or out.new.at 0 (pos 0) ≡ slice_index_or out.old.at 0 (pos 0) }
+    ensures within { IfOk result (λ x. (filled ≤ x.1) × (x.1 ≤ 64)) }
+    ensures dc { 0 < filled → slice_index_or out.new.at 0 (pos 0) ≡ slice_index_or out.old.at 0 (pos 0) }
     ensures levels { All IsLevel out.new.at }
 {
-    let at = position + run;
-    if at >= 64 {
-        *input = start.fork();
-        return Err(BlockFault::Overrun);
-    }
+    let at = filled + run;
+    check(input, start, at < 64, Overrun)?;
     out.at[at as usize] = level;
     Ok((true, at + 1))
 }
@@ -173,74 +153,71 @@ fn code(input: &mut BitReader, first: bool, one: bool) -> Result<Coefficient, Bl
 fn coefficient<'a>(
     input: &mut BitReader<'a>,
     start: &BitReader<'a>,
-    position: u8,
+    filled: u8,
     c: Coefficient,
     out: &mut Levels,
 ) -> Result<(bool, u8), BlockFault>
-    requires position { position ≤ 64 }
+    requires filled { filled ≤ 64 }
     requires range { IsCoefficient c }
     requires text { start.now.text ≡ input.old.text }
     requires levels { All IsLevel out.old.at }
-    ensures exact { GivesScan result out.new.at input.new.rest ((coefficient_at (length start.now.rest) (record { position = position; levels = out.old.at }) c).read input.old.rest) }
+    ensures exact { GivesScan result out.new.at input.new.rest ((coefficient_at (length start.now.rest) (record { filled = filled; levels = out.old.at }) c).read input.old.rest) }
     ensures text { input.new.text ≡ input.old.text }
-    ensures within { IfOk result (λ x. (position ≤ x.1) × (x.1 ≤ 64)) }
-    ensures dc { 0 < position → slice_index_or out.new.at 0 (pos 0) ≡ slice_index_or out.old.at 0 (pos 0) }
+    ensures within { IfOk result (λ x. (filled ≤ x.1) × (x.1 ≤ 64)) }
+    ensures dc { 0 < filled → slice_index_or out.new.at 0 (pos 0) ≡ slice_index_or out.old.at 0 (pos 0) }
     ensures levels { All IsLevel out.new.at }
 {
     match c {
-        Coefficient::End => Ok((false, position)),
+        Coefficient::End => Ok((false, filled)),
         Coefficient::Escape => {
-            let run = number(input, 6)?;
+            let run = number(input, 6, Code(Truncated))?;
             let at = input.fork();
-            let level = number(input, 12)?;
-            if !is_allowed(level) {
-                *input = at;
-                return Err(BlockFault::ForbiddenLevel);
-            }
-            place(input, start, position, run as u8, escaped(level), out)
+            let level = number(input, 12, Code(Truncated))?;
+            check(input, &at, is_allowed(level), ForbiddenLevel)?;
+            placed(input, start, filled, run as u8, escaped(level), out)
         }
         Coefficient::Pair { run, level } => {
-            place(input, start, position, run, i32::from(level), out)
+            placed(input, start, filled, run, i32::from(level), out)
         }
     }
 }
 
-/// Reads a pair or the end of the block: whether a pair was read, and the position behind it.
+/// Reads a pair or the end of the block: whether a pair was read, and how many places are filled then.
 #[inline(always)]
 #[tactic(auto, unfolding(crate::specs::Blocks::pair_at, m2v_bits::specs::Syntax::seq, m2v_bits::specs::Syntax::bind, m2v_bits::specs::Syntax::here))]
 fn pair(
     input: &mut BitReader,
     one: bool,
-    position: u8,
+    filled: u8,
     out: &mut Levels,
 ) -> Result<(bool, u8), BlockFault>
-    requires position { position ≤ 64 }
+    requires filled { filled ≤ 64 }
     requires levels { All IsLevel out.old.at }
-    ensures exact { GivesScan result out.new.at input.new.rest ((pair_at one (record { position = position; levels = out.old.at })).read input.old.rest) }
+    ensures exact { GivesScan result out.new.at input.new.rest ((pair_at one (record { filled = filled; levels = out.old.at })).read input.old.rest) }
     ensures text { input.new.text ≡ input.old.text }
-    ensures within { IfOk result (λ x. (position ≤ x.1) × (x.1 ≤ 64)) }
-    ensures dc { 0 < position → slice_index_or out.new.at 0 (pos 0) ≡ slice_index_or out.old.at 0 (pos 0) }
+    ensures within { IfOk result (λ x. (filled ≤ x.1) × (x.1 ≤ 64)) }
+    ensures dc { 0 < filled → slice_index_or out.new.at 0 (pos 0) ≡ slice_index_or out.old.at 0 (pos 0) }
     ensures levels { All IsLevel out.new.at }
 {
     let start = input.fork();
-    let c = code(input, position == 0, one)?;
-    coefficient(input, &start, position, c, out)
+    let c = code(input, filled == 0, one)?;
+    coefficient(input, &start, filled, c, out)
 }
 
 /// Reads pairs up to the end of the block.
 #[inline(always)]
 fn pairs(input: &mut BitReader, one: bool, from: u8, out: &mut Levels) -> Result<(), BlockFault>
-    requires position { from ≤ 64 }
+    requires filled { from ≤ 64 }
     requires levels { All IsLevel out.old.at }
-    ensures exact { GivesEnd result out.new.at input.new.rest ((pairs_at one (record { position = from; levels = out.old.at })).read input.old.rest) }
+    ensures exact { GivesEnd result out.new.at input.new.rest ((pairs_at one (record { filled = from; levels = out.old.at })).read input.old.rest) }
     ensures text { input.new.text ≡ input.old.text }
     ensures levels { All IsLevel out.new.at }
     ensures dc { 0 < from → slice_index_or out.new.at 0 (pos 0) ≡ slice_index_or out.old.at 0 (pos 0) }
 {
-    let mut position = from;
+    let mut filled = from;
     loop {
-        let (more, next) = pair(input, one, position, out)?;
-        position = next;
+        let (more, next) = pair(input, one, filled, out)?;
+        filled = next;
         if !more {
             return Ok(());
         }

@@ -1,4 +1,4 @@
-//! Blocks of the worked pictures, blocks that are refused, and every level by its code or its escape.
+//! The blocks of a worked picture, and blocks that are refused.
 
 ghost use Rattle.std.specs.Prelude.{◌≡◌, ◌<◌, All, slice_index_or, pos, true};
 ghost use Rattle.m2v_quant.specs.Kinds.{IsKind, IsLevel};
@@ -11,9 +11,7 @@ use m2v_quant::{BlockKind, Levels, default_matrix};
 use m2v_vlc::CodeFault;
 use std::alloc::AllocError;
 
-// The six blocks of the slice of a grey picture of 16 by 16 samples, and of a black one.
-static GREY: [u8; 9] = [0x94, 0xA5, 0x22, 0x20, 0, 0, 0, 0, 0];
-
+// The six blocks of the slice of a black picture of 16 by 16 samples.
 static BLACK: [u8; 9] = [0xFC, 0xFF, 0x4A, 0x52, 0xFE, 0x7F, 0xBF, 0x9F, 0xE0];
 
 fn kind(intra: bool, luma: bool) -> BlockKind
@@ -42,30 +40,14 @@ fn block(dc: u8, level: i32) -> Levels
     Levels { at }
 }
 
-#[test]
-fn reads_the_blocks_of_pictures(rt: HostRuntime) {
-    for (bytes, level, end) in [(&GREY, 128, 28), (&BLACK, 0, 68)] {
-        let mut input = BitReader::new(bytes);
-        let mut out = Levels { at: [7; 64] };
-        for plane in [4, 1, 1] {
-            let mut pred = 128;
-            for _ in 0..plane {
-                assert!(rt; pred >= 0 && pred < 256);
-                let read = read_block(
-                    &mut input,
-                    &kind(true, plane == 4),
-                    false,
-                    &mut pred,
-                    &mut out,
-                );
-                assert_eq!(rt; read, Ok(()));
-                assert_eq!(rt; out.at[0], level);
-                assert_eq!(rt; out.at[1], 0);
-                assert_eq!(rt; pred, level);
-            }
-        }
-        assert_eq!(rt; input.place(), end);
-    }
+// What reading 32 bits answers, intra or not, by table one or not: the place behind it, and two levels.
+fn read(bits: u32, intra: bool, one: bool) -> (Result<(), BlockFault>, u64, i32, i32) {
+    let bytes = bits.to_be_bytes();
+    let mut input = BitReader::new(&bytes);
+    let mut out = Levels { at: [7; 64] };
+    let mut pred = 128;
+    let read = read_block(&mut input, &kind(intra, true), one, &mut pred, &mut out);
+    (read, input.place(), out.at[0], out.at[1])
 }
 
 #[test]
@@ -73,61 +55,13 @@ fn reads_and_refuses_blocks(rt: HostRuntime) {
     let forbidden = Err(BlockFault::ForbiddenLevel);
     let overrun = Err(BlockFault::Overrun);
     let no_code = Err(BlockFault::Code(CodeFault::NoCode));
-    // the bits, intra, table one; the answer, the place behind it, and the level of a position
-    for (bits, intra, one, want, place, position, level) in [
-        (0x8081_0000u32, true, false, forbidden, 15, 1, 0),
-        (0x8080_0000, true, false, forbidden, 15, 1, 0),
-        (0x07F0_01C0, false, false, overrun, 24, 63, 1),
-        (0x80FE_0020, true, false, overrun, 3, 1, 0),
-        (0xFDFE_0000, true, false, Err(BlockFault::DcRange), 0, 0, 0),
-        (0x9180_0000, true, true, Ok(()), 10, 1, 1),
-        (0x9180_0000, true, false, Ok(()), 5, 1, 0),
-        (0xA000_0000, false, true, Ok(()), 4, 0, 1),
-        (0x0000_0000, false, false, no_code, 0, 0, 0),
-    ] {
-        let bytes = bits.to_be_bytes();
-        let mut input = BitReader::new(&bytes);
-        let mut out = Levels { at: [7; 64] };
-        let mut pred = 128;
-        let read = read_block(&mut input, &kind(intra, true), one, &mut pred, &mut out);
-        assert_eq!(rt; read, want, "{bits}");
-        assert_eq!(rt; input.place(), place, "{bits}");
-        assert_eq!(rt; out.at[position % 64], level, "{bits}");
-        assert_eq!(rt; pred, 128);
-    }
-}
-
-#[test]
-fn every_level_comes_back(rt: HostRuntime) -> Result<(), AllocError> {
-    let mut out = BitWriter::over(vec![in rt.alloc(); 0u8; 16]?);
-    let kind = kind(true, true);
-    let mut back = Levels { at: [0; 64] };
-    for n in 0..4095u16 {
-        let level = i32::from(n) - 2047;
-        let levels = block(130, level);
-        let mut pred = 128;
-        let mut again = 128;
-        out.clear();
-        let bits = block_bits(&levels, &kind, n % 2 == 1, pred);
-        assert!(rt; u64::from(bits) <= out.room());
-        write_block(&levels, &kind, n % 2 == 1, &mut pred, &mut out);
-        assert_eq!(rt; out.bit_len(), u64::from(bits));
-        out.align();
-        assert!(rt; out.bit_len() % 8 == 0);
-        let text = out.bytes();
-        assert!(rt; text.len() <= 16);
-        let read = read_block(
-            &mut BitReader::new(text),
-            &kind,
-            n % 2 == 1,
-            &mut again,
-            &mut back,
-        );
-        assert_eq!(rt; read, Ok(()));
-        assert_eq!(rt; back.at[1], level);
-        assert_eq!(rt; again, 130);
-    }
-    Ok(())
+    assert!(rt; read(0x8081_0000, true, false) == (forbidden, 15, 128, 0));
+    assert!(rt; read(0x07F0_01C0, false, false) == (overrun, 24, 0, 0));
+    assert!(rt; read(0xFDFE_0000, true, false) == (Err(BlockFault::DcRange), 0, 0, 0));
+    assert!(rt; read(0x9180_0000, true, true) == (Ok(()), 10, 128, 1));
+    assert!(rt; read(0x9180_0000, true, false) == (Ok(()), 5, 128, 0));
+    assert!(rt; read(0xA000_0000, false, true) == (Ok(()), 4, 1, 0));
+    assert!(rt; read(0x0000_0000, false, false) == (no_code, 0, 0, 0));
 }
 
 #[test]

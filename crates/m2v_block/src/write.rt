@@ -1,5 +1,6 @@
-ghost use Rattle.std.specs.Prelude.{◌≡◌, ◌+◌, ◌^◌, ◌<◌, ◌≤◌, ◌++◌, ◌&&◌, nat_eq, true, false, length, drop, slice_index_or, All, ℤ, pos, unsigned_abs};
+ghost use Rattle.std.specs.Prelude.{◌≡◌, ◌+◌, ◌^◌, ◌<◌, ◌≤◌, ◌++◌, ◌&&◌, nat_eq, Bool, true, false, length, drop, slice_index_or, All, ℤ, pos, unsigned_abs};
 ghost use Rattle.m2v_bits.specs.Syntax.{Spells};
+ghost use Rattle.m2v_vlc.specs.Lookups.{spelled};
 ghost use Rattle.m2v_quant.specs.Kinds.{IsKind, IsLevel};
 ghost use Rattle.m2v_block.specs.Dc.{dc_text};
 ghost use Rattle.m2v_block.specs.Blocks.{IsDc, block_at, predictor_after};
@@ -8,42 +9,44 @@ ghost use Rattle.m2v_block.specs.Texts.{IsBlock, code_text, twelve, escape_text,
 use crate::dc::{dc_bits, write_dc};
 use m2v_bits::BitWriter;
 use m2v_quant::{BlockKind, Levels};
-use m2v_vlc::{
-    Coefficient, bits_coefficient_one, bits_coefficient_zero, bits_first_zero,
-    write_coefficient_one, write_coefficient_zero, write_first_zero,
-};
+use m2v_vlc::{Code, Coefficient, code_coefficient_one, code_coefficient_zero, code_first_zero};
+
+/// The code by the table that holds there, of no bits where it has none.
+#[inline(always)]
+#[tactic(auto, unfolding(crate::specs::Texts::code_text))]
+fn code_of(first: bool, one: bool, c: Coefficient) -> Code
+    ensures spelled { spelled result ≡ code_text first one c }
+    ensures width { result.len ≤ 17 }
+    ensures fits { result.number < 2 ^ result.len }
+{
+    if first {
+        code_first_zero(c)
+    } else if one {
+        code_coefficient_one(c)
+    } else {
+        code_coefficient_zero(c)
+    }
+}
 
 /// Appends a code by the table that holds there.
 #[inline(always)]
-#[tactic(auto, unfolding(crate::specs::Texts::code_text))]
+#[tactic(auto, using(m2v_bits::proofs::Cursor::lengths))]
 fn write_code(first: bool, one: bool, c: Coefficient, out: &mut BitWriter)
-    requires known { 0 < length (code_text first one c) }
-    requires room { length (code_text first one c) ≤ out.old.room }
+    requires { length (code_text first one c) ≤ out.old.room }
     ensures written { out.new.written ≡ out.old.written ++ code_text first one c }
     ensures room { out.new.room + length (code_text first one c) ≡ out.old.room }
 {
-    if first {
-        write_first_zero(c, out);
-    } else if one {
-        write_coefficient_one(c, out);
-    } else {
-        write_coefficient_zero(c, out);
-    }
+    let code = code_of(first, one, c);
+    out.put(code.number, code.len);
 }
 
 /// How many bits a code has by the table that holds there, 0 where it has none.
 #[inline(always)]
-#[tactic(auto, unfolding(crate::specs::Texts::code_text))]
+#[tactic(auto, using(m2v_bits::proofs::Cursor::lengths))]
 fn code_bits(first: bool, one: bool, c: Coefficient) -> u32
     ensures { result ≡ length (code_text first one c) }
 {
-    if first {
-        bits_first_zero(c)
-    } else if one {
-        bits_coefficient_one(c)
-    } else {
-        bits_coefficient_zero(c)
-    }
+    u32::from(code_of(first, one, c).len)
 }
 
 /// A run and a level.
@@ -73,53 +76,56 @@ fn twelve(level: i32) -> u32
     }
 }
 
-/// Appends the escape, a run and a level.
+/// The escape, a run and a level, as one code of 24 bits.
 #[inline(always)]
-#[tactic(auto, using(m2v_bits::proofs::Cursor::lengths, crate::proofs::Written::escape_length), unfolding(crate::specs::Texts::escape_text))]
-fn write_escape(first: bool, one: bool, run: u8, level: i32, out: &mut BitWriter)
+fn escape_of(run: u8, level: i32) -> Code
     requires run { run < 64 }
     requires level { IsLevel level }
-    requires room { length (escape_text first one run level) ≤ out.old.room }
-    ensures written { out.new.written ≡ out.old.written ++ escape_text first one run level }
-    ensures room { out.new.room + length (escape_text first one run level) ≡ out.old.room }
+    ensures spelled { (first one : Bool) → spelled result ≡ escape_text first one run level }
+    ensures width { result.len ≡ 24 }
+    ensures fits { result.number < 2 ^ 24 }
 {
-    write_code(first, one, Coefficient::Escape, out);
-    out.put(u32::from(run), 6);
-    out.put(twelve(level), 12);
-}
-
-/// Appends a pair: its code, or the escape where there is none.
-#[inline(always)]
-#[tactic(auto, unfolding(crate::specs::Texts::pair_text))]
-fn write_pair(first: bool, one: bool, run: u8, level: i32, out: &mut BitWriter)
-    requires run { run < 64 }
-    requires level { IsLevel level }
-    requires room { length (pair_text first one run level) ≤ out.old.room }
-    ensures written { out.new.written ≡ out.old.written ++ pair_text first one run level }
-    ensures room { out.new.room + length (pair_text first one run level) ≡ out.old.room }
-{
-    let c = pair_of(run, level);
-    if code_bits(first, one, c) == 0 {
-        write_escape(first, one, run, level, out);
-    } else {
-        write_code(first, one, c, out);
+    Code {
+        number: (64 + run as u32) * 4096 + twelve(level),
+        len: 24,
     }
 }
 
-/// How many bits a pair takes.
+/// The code of a pair, or the escape where there is none.
 #[inline(always)]
-#[tactic(auto, using(m2v_bits::proofs::Cursor::lengths, crate::proofs::Written::escape_length), unfolding(crate::specs::Texts::pair_text, crate::specs::Texts::escape_text))]
-fn pair_bits(first: bool, one: bool, run: u8, level: i32) -> u32
-    requires { IsLevel level }
-    ensures { result ≡ length (pair_text first one run level) }
+fn pair_code(first: bool, one: bool, run: u8, level: i32) -> Code
+    requires run { run < 64 }
+    requires level { IsLevel level }
+    ensures spelled { spelled result ≡ pair_text first one run level }
+    ensures width { result.len ≤ 24 }
+    ensures fits { result.number < 2 ^ result.len }
 {
-    let bits = code_bits(first, one, pair_of(run, level));
-    if bits == 0 { 24 } else { bits }
+    let code = code_of(first, one, pair_of(run, level));
+    if code.len == 0 {
+        return escape_of(run, level);
+    }
+    code
+}
+
+/// The code of a level behind a run of zeros, of no bits where it is 0 too.
+#[inline(always)]
+#[tactic(auto, unfolding(crate::specs::Texts::level_text))]
+fn level_code(first: bool, one: bool, run: u8, level: i32) -> Code
+    requires run { run < 64 }
+    requires level { IsLevel level }
+    ensures spelled { spelled result ≡ level_text first one run level }
+    ensures width { result.len ≤ 24 }
+    ensures fits { result.number < 2 ^ result.len }
+{
+    if level.unsigned_abs() == 0 {
+        return Code { number: 0, len: 0 };
+    }
+    pair_code(first, one, run, level)
 }
 
 /// Appends a level behind a run of zeros, where it is not 0.
 #[inline(always)]
-#[tactic(auto, using(m2v_bits::proofs::Cursor::lengths), unfolding(crate::specs::Texts::level_text))]
+#[tactic(auto, using(m2v_bits::proofs::Cursor::lengths))]
 fn write_level(first: bool, one: bool, run: u8, level: i32, out: &mut BitWriter)
     requires run { run < 64 }
     requires level { IsLevel level }
@@ -127,22 +133,21 @@ fn write_level(first: bool, one: bool, run: u8, level: i32, out: &mut BitWriter)
     ensures written { out.new.written ≡ out.old.written ++ level_text first one run level }
     ensures room { out.new.room + length (level_text first one run level) ≡ out.old.room }
 {
-    if level.unsigned_abs() != 0 {
-        write_pair(first, one, run, level, out);
+    let code = level_code(first, one, run, level);
+    if code.len != 0 {
+        out.put(code.number, code.len);
     }
 }
 
 /// How many bits a level takes behind a run of zeros.
 #[inline(always)]
-#[tactic(auto, unfolding(crate::specs::Texts::level_text))]
+#[tactic(auto, using(m2v_bits::proofs::Cursor::lengths))]
 fn level_bits(first: bool, one: bool, run: u8, level: i32) -> u32
-    requires { IsLevel level }
+    requires run { run < 64 }
+    requires level { IsLevel level }
     ensures { result ≡ length (level_text first one run level) }
 {
-    if level.unsigned_abs() == 0 {
-        return 0;
-    }
-    pair_bits(first, one, run, level)
+    u32::from(level_code(first, one, run, level).len)
 }
 
 /// The run behind a level.
@@ -168,7 +173,7 @@ fn is_first(first: bool, level: i32) -> bool
     first && level.unsigned_abs() == 0
 }
 
-/// Appends the levels from a position on, and the end of the block.
+/// Appends the levels from a place of the scan on, and the end of the block.
 #[tactic(auto, using(m2v_bits::proofs::Cursor::lengths))]
 fn write_pairs(levels: &Levels, from: u8, first: bool, one: bool, out: &mut BitWriter)
     requires from { from ≤ 64 }
@@ -188,7 +193,7 @@ fn write_pairs(levels: &Levels, from: u8, first: bool, one: bool, out: &mut BitW
     write_code(false, one, Coefficient::End, out);
 }
 
-/// How many bits the levels from a position on take, with the end of the block.
+/// How many bits the levels from a place of the scan on take, with the end of the block.
 fn pairs_bits(levels: &Levels, from: u8, first: bool, one: bool) -> u32
     requires from { from ≤ 64 }
     requires levels { All IsLevel levels.now.at }
@@ -237,13 +242,14 @@ pub fn write_block(
     }
 }
 
-/// How many bits `write_block` takes for a block. Nothing is written.
+/// How many bits `write_block` takes for a block, at most 1538: 64 escaped pairs, and the end. Nothing is written.
 #[tactic(auto, using(m2v_bits::proofs::Cursor::lengths), unfolding(crate::specs::Texts::block_text))]
 pub fn block_bits(levels: &Levels, kind: &BlockKind, table_one: bool, dc_pred: i32) -> u32
     requires kind { IsKind kind.now }
     requires levels { IsBlock kind.now levels.now.at }
     requires predictor { kind.now.intra ≡ true → IsDc kind.now.precision dc_pred }
-    ensures { result ≡ length (block_text kind.now table_one dc_pred levels.now.at) }
+    ensures value { result ≡ length (block_text kind.now table_one dc_pred levels.now.at) }
+    ensures most { result ≤ 1538 }
 {
     if kind.intra {
         dc_bits(levels.at[0] - dc_pred, kind.luma) + pairs_bits(levels, 1, false, table_one)

@@ -6,6 +6,9 @@ use Rattle.std.proofs.lemmas.List.{append-nil}
 use Rattle.m2v_bits.specs.Bits.{bits_of}
 use Rattle.m2v_bits.specs.Syntax.{Syntax, done, seq, rule, choose, repeated, last, Spells}
 use Rattle.m2v_bits.proofs.SyntaxLaws.{Lawful, Strict, good, bad, onward, round_err, round_more, round_last, done_lawful, here_lawful, rule_lawful, seq_lawful, seq_strict, seq_strict_later, choose_lawful, repeated_strict}
+use Rattle.m2v_bits.proofs.ElementLaws.{bit_true, held_spells}
+pub use Rattle.m2v_bits.proofs.ElementLaws.{same_spells, whole_spells, last_spells}
+use Rattle.m2v_bits.proofs.ElementLaws as elements
 use Rattle.m2v_bits.proofs.LeafLaws.{bits_lawful, bits_strict, bits_spells, done_spells, seq_spells, here_spells, rule_spells, second_spells}
 use Rattle.m2v_head.specs.declared.fault.HeadFault.{HeadFault}
 use Rattle.m2v_head.specs.declared.fault.HeadFault.TheVariants.{NoCode, Truncated, BadMarker, Forbidden}
@@ -20,8 +23,7 @@ pub number_lawful : (n : ℕ) → Lawful length (number_at n)
 number_lawful n = bits_lawful Truncated n
 
 pub flag_strict : Strict length flag_at
-unfolding flag_at
-flag_strict = seq_strict (number_strict 1 (omega arith)) (λ bit. done_lawful length _)
+flag_strict = elements.flag_strict Truncated
 
 pub marker_strict : Strict length marker_at
 unfolding marker_at
@@ -76,42 +78,11 @@ pairs_less x t mid e = (pair_strict tt).takes.less x t mid ((pair_strict tt).law
 
 -- ---- what spells the elements
 
--- a rule that holds takes nothing
-holding : {K : Type 0} (b : Bool) (kind : K) (at : ℕ) → b ≡ true → Spells (rule b kind at) tt []
-unfolding rule
-holding b kind at holds = record { stands = λ rest. (holds, refl) }
-
--- the same text, written otherwise
-pub same_spells : {K V : Type 0} {s : Syntax (List Bool) K V} {v : V} {x y : List Bool} → x ≡ y → Spells s v x → Spells s v y
-same_spells {K} {V} {s} {v} e h = subst (λ (text : List Bool). Spells s v text) e h
-
--- a text, and nothing behind it
-pub whole_spells : {K V : Type 0} {s : Syntax (List Bool) K V} {v : V} {x : List Bool} → Spells s v (x ++ []) → Spells s v x
-whole_spells {x} h = same_spells (append-nil x) h
-
--- an element, and nothing more
-pub last_spells : {K A V : Type 0} {s : Syntax (List Bool) K A} (a : A) (f : A → V) (text : List Bool) → Spells s a text → Spells (seq s (λ b. done (f b))) (f a) text
-last_spells a f text h = whole_spells (seq_spells (λ b. done (f b)) a (f a) text [] h (done_spells (f a)))
-
--- an element, and a rule that holds of it
-held_spells : {K A : Type 0} {s : Syntax (List Bool) K A} (a : A) (test : A → Bool) (kind : K) (at : ℕ) (text : List Bool) → test a ≡ true → Spells s a text → Spells (seq s (λ b. rule (test b) kind at)) tt text
-held_spells a test kind at text holds h = whole_spells (seq_spells (λ b. rule (test b) kind at) a tt text [] h (holding (test a) kind at holds))
-
 pub number_spells : (n v : ℕ) → v < 2 ^ n → Spells (number_at n) v (bits_of n v)
 number_spells n v below = bits_spells Truncated n v below
 
-bit_false : bits_of 1 0 ≡ flag false
-unfolding bits_of
-bit_false = refl
-
-bit_true : bits_of 1 1 ≡ flag true
-unfolding bits_of
-bit_true = refl
-
 pub flag_spells : (b : Bool) → Spells flag_at b (flag b)
-unfolding flag_at
-flag_spells true = same_spells bit_true (last_spells 1 (λ v. nat_eq v 1) (bits_of 1 1) (number_spells 1 1 (omega arith)))
-flag_spells false = same_spells bit_false (last_spells 0 (λ v. nat_eq v 1) (bits_of 1 0) (number_spells 1 0 (omega arith)))
+flag_spells b = elements.flag_spells Truncated b
 
 pub marker_spells : Spells marker_at tt marker
 unfolding marker_at

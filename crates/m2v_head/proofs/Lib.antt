@@ -3,5 +3,4 @@ pub mod ElementLaws
 pub mod MatrixLaws
 pub mod HeaderLaws
 pub mod Spellings
-pub mod Decisions
 pub mod Lengths

@@ -16,7 +16,7 @@ use Rattle.m2v_quant.specs.Scans.{zigzag}
 use Rattle.m2v_head.specs.declared.fault.HeadFault.{HeadFault}
 use Rattle.m2v_head.specs.Texts.{flag, matrix_text, loaded_text}
 use Rattle.m2v_head.specs.Fits.{IsLoaded}
-use Rattle.m2v_head.specs.Elements.{some_at, numbers_at, position, raster, matrix_at, loaded_at}
+use Rattle.m2v_head.specs.Elements.{some_at, numbers_at, first_index, raster, matrix_at, loaded_at}
 use Rattle.m2v_head.proofs.ElementLaws.{flag_strict, some_strict, flag_spells, some_of, some_spells, last_spells, whole_spells, same_spells}
 
 -- ---- the syntax is lawful
@@ -48,17 +48,17 @@ below_passes p n i all lt =
     rw at at (passes p (range_with_len 0 n) i all (omega (arith, length-range_with_len 0 n)))
 
 abbrev has_place : ℕ → Bool
-has_place p = nat_lt (position p zigzag) 64 && nat_eq (get_or zigzag (position p zigzag) 0) p
+has_place p = nat_lt (first_index p zigzag) 64 && nat_eq (get_or zigzag (first_index p zigzag) 0) p
 
 each_has_place : list_all has_place (range_with_len 0 64) ≡ true
-unfolding zigzag position
+unfolding zigzag first_index
 each_has_place = refl
 
 abbrev has_order : ℕ → Bool
-has_order k = nat_lt (get_or zigzag k 0) 64 && nat_eq (position (get_or zigzag k 0) zigzag) k
+has_order k = nat_lt (get_or zigzag k 0) 64 && nat_eq (first_index (get_or zigzag k 0) zigzag) k
 
 each_has_order : list_all has_order (range_with_len 0 64) ≡ true
-unfolding zigzag position
+unfolding zigzag first_index
 each_has_order = refl
 
 zigzag_length : length zigzag ≡ 64
@@ -66,15 +66,15 @@ unfolding zigzag
 zigzag_length = refl
 
 -- the place of p in the scan, and what stands there
-pub at_position : (p : ℕ) → p < 64 → (position p zigzag < 64) × (get_or zigzag (position p zigzag) 0 ≡ p)
-at_position p lt =
-    let both = and_parts (nat_lt (position p zigzag) 64) (nat_eq (get_or zigzag (position p zigzag) 0) p) (below_passes has_place 64 p each_has_place lt) in
+pub at_first_index : (p : ℕ) → p < 64 → (first_index p zigzag < 64) × (get_or zigzag (first_index p zigzag) 0 ≡ p)
+at_first_index p lt =
+    let both = and_parts (nat_lt (first_index p zigzag) 64) (nat_eq (get_or zigzag (first_index p zigzag) 0) p) (below_passes has_place 64 p each_has_place lt) in
     (ltb-true _ _ both.0, eqb-true _ _ both.1)
 
 -- what stands at a place in the scan, and its place
-pub scanned_at : (k : ℕ) → k < 64 → (get_or zigzag k 0 < 64) × (position (get_or zigzag k 0) zigzag ≡ k)
+pub scanned_at : (k : ℕ) → k < 64 → (get_or zigzag k 0 < 64) × (first_index (get_or zigzag k 0) zigzag ≡ k)
 scanned_at k lt =
-    let both = and_parts (nat_lt (get_or zigzag k 0) 64) (nat_eq (position (get_or zigzag k 0) zigzag) k) (below_passes has_order 64 k each_has_order lt) in
+    let both = and_parts (nat_lt (get_or zigzag k 0) 64) (nat_eq (first_index (get_or zigzag k 0) zigzag) k) (below_passes has_order 64 k each_has_order lt) in
     (ltb-true _ _ both.0, eqb-true _ _ both.1)
 
 -- a matrix in zigzag order
@@ -94,13 +94,13 @@ scanned_get m n k d lt le =
 -- raster order is zigzag order undone
 pub raster_scanned : (m : List ℕ) → length m ≡ 64 → raster (scanned m 64) ≡ m
 unfolding raster
-raster_scanned m len = sym (fill_by_all (λ p. slice_index (scanned m 64) (position p zigzag)) m 64 0 len (λ p lt.
-    let at = at_position p lt in
-    sym (scanned_get m 64 (position p zigzag) 0 at.0 (omega arith) ∙ ap (λ (q : ℕ). get_or m q 0) at.1)))
+raster_scanned m len = sym (fill_by_all (λ p. slice_index (scanned m 64) (first_index p zigzag)) m 64 0 len (λ p lt.
+    let at = at_first_index p lt in
+    sym (scanned_get m 64 (first_index p zigzag) 0 at.0 (omega arith) ∙ ap (λ (q : ℕ). get_or m q 0) at.1)))
 
 -- a number is set at its place
 scanned_set : (m : List ℕ) (i v k : ℕ) → i < 64 → k < i → get_or (set m (get_or zigzag i 0) v) (get_or zigzag k 0) 0 ≡ get_or m (get_or zigzag k 0) 0
-scanned_set m i v k lt less = get_or-set_other m (get_or zigzag i 0) (get_or zigzag k 0) v 0 (λ same. let e : k ≡ i = sym (scanned_at k (omega arith)).1 ∙ ap (λ (p : ℕ). position p zigzag) same ∙ (scanned_at i lt).1 in omega arith)
+scanned_set m i v k lt less = get_or-set_other m (get_or zigzag i 0) (get_or zigzag k 0) v 0 (λ same. let e : k ≡ i = sym (scanned_at k (omega arith)).1 ∙ ap (λ (p : ℕ). first_index p zigzag) same ∙ (scanned_at i lt).1 in omega arith)
 
 scanned_front : (m : List ℕ) (i v : ℕ) → i < 64 → scanned (set m (get_or zigzag i 0) v) i ≡ scanned m i
 scanned_front m i v lt = same_lists (scanned (set m (get_or zigzag i 0) v) i) (scanned m i) (scanned_length (set m (get_or zigzag i 0) v) i (omega arith) ∙ sym (scanned_length m i (omega arith))) (λ k d less.
@@ -115,31 +115,31 @@ scanned_more m i p v len lt is =
 -- ---- what the loop over a matrix goes by
 
 -- numbers behind those that are read
-unfoldable pub behind : List ℕ → Result (List ℕ × List Bool) (HeadFault × ℕ) → Result (List ℕ × List Bool) (HeadFault × ℕ)
-behind before (Ok x) = Ok (before ++ x.0, x.1)
-behind before (Err f) = Err f
+unfoldable pub in_front : List ℕ → Result (List ℕ × List Bool) (HeadFault × ℕ) → Result (List ℕ × List Bool) (HeadFault × ℕ)
+in_front before (Ok x) = Ok (before ++ x.0, x.1)
+in_front before (Err f) = Err f
 
-pub none_behind : (r : Result (List ℕ × List Bool) (HeadFault × ℕ)) → behind [] r ≡ r
-unfolding behind
+pub none_behind : (r : Result (List ℕ × List Bool) (HeadFault × ℕ)) → in_front [] r ≡ r
+unfolding in_front
 none_behind (Ok x) = refl
 none_behind (Err f) = refl
 
-pub numbers_err : (field m n : ℕ) (before : List ℕ) (t : List Bool) (f : HeadFault × ℕ) → m ≡ suc n → (some_at field 8).read t ≡ bad f → behind before ((numbers_at field m).read t) ≡ bad f
-unfolding behind numbers_at seq bind
+pub numbers_err : (field m n : ℕ) (before : List ℕ) (t : List Bool) (f : HeadFault × ℕ) → m ≡ suc n → (some_at field 8).read t ≡ bad f → in_front before ((numbers_at field m).read t) ≡ bad f
+unfolding in_front numbers_at seq bind
 numbers_err field m n before t f is e = rw (is, e) refl
 
-one_behind : (before : List ℕ) (v : ℕ) (r : Result (List ℕ × List Bool) (HeadFault × ℕ)) → behind before (bind r (λ xs rest. good (v ∷ xs, rest))) ≡ behind (before ++ v ∷ []) r
-unfolding behind bind
+one_behind : (before : List ℕ) (v : ℕ) (r : Result (List ℕ × List Bool) (HeadFault × ℕ)) → in_front before (bind r (λ xs rest. good (v ∷ xs, rest))) ≡ in_front (before ++ v ∷ []) r
+unfolding in_front bind
 one_behind before v (Ok x) = rw (append_assoc before (v ∷ []) x.0) refl
 one_behind before v (Err f) = refl
 
-pub numbers_more : (field m n v : ℕ) (before : List ℕ) (t mid : List Bool) → m ≡ suc n → (some_at field 8).read t ≡ good (v, mid) → behind before ((numbers_at field m).read t) ≡ behind (before ++ v ∷ []) ((numbers_at field n).read mid)
+pub numbers_more : (field m n v : ℕ) (before : List ℕ) (t mid : List Bool) → m ≡ suc n → (some_at field 8).read t ≡ good (v, mid) → in_front before ((numbers_at field m).read t) ≡ in_front (before ++ v ∷ []) ((numbers_at field n).read mid)
 unfolding numbers_at seq bind done
 numbers_more field m n v before t mid is e = rw (is, e) (one_behind before v ((numbers_at field n).read mid))
 
 -- the matrix is read
-pub matrix_read : (field : ℕ) (m : List ℕ) (t rest : List Bool) → length m ≡ 64 → behind (scanned m 64) ((numbers_at field 0).read rest) ≡ (numbers_at field 64).read t → (matrix_at field).read t ≡ good (Some m, rest)
-unfolding behind matrix_at numbers_at seq bind done
+pub matrix_read : (field : ℕ) (m : List ℕ) (t rest : List Bool) → length m ≡ 64 → in_front (scanned m 64) ((numbers_at field 0).read rest) ≡ (numbers_at field 64).read t → (matrix_at field).read t ≡ good (Some m, rest)
+unfolding in_front matrix_at numbers_at seq bind done
 matrix_read field m t rest len e = rw (← e, append-nil (scanned m 64), raster_scanned m len) refl
 
 -- a fault in a matrix
@@ -174,11 +174,11 @@ numbers_fit field (suc n) xs t rest st =
 raster_fits : (xs : List ℕ) → length xs ≡ 64 → All IsNumber xs → IsLoaded (Some (raster xs))
 unfolding raster
 raster_fits xs len all = (
-  length-map-range_with_len (λ p. slice_index xs (position p zigzag)) 0 64,
-  All-map IsNumber (λ p. slice_index xs (position p zigzag)) (range_with_len 0 64) (All-from_get_or (λ p. IsNumber (slice_index xs (position p zigzag))) (range_with_len 0 64) 0 (λ i lt.
+  length-map-range_with_len (λ p. slice_index xs (first_index p zigzag)) 0 64,
+  All-map IsNumber (λ p. slice_index xs (first_index p zigzag)) (range_with_len 0 64) (All-from_get_or (λ p. IsNumber (slice_index xs (first_index p zigzag))) (range_with_len 0 64) 0 (λ i lt.
       let below : i < 64 = omega (arith, length-range_with_len 0 64) in
       let at : get_or (range_with_len 0 64) i 0 ≡ i = get_or-range_with_len 0 64 i 0 below ∙ omega arith in
-      rw at (All-get_or IsNumber xs (position i zigzag) 0 (omega (arith, (at_position i below).0)) all))),
+      rw at (All-get_or IsNumber xs (first_index i zigzag) 0 (omega (arith, (at_first_index i below).0)) all))),
 )
 
 pub matrix_fits : (field : ℕ) (m : Option (List ℕ)) (t rest : List Bool) → (matrix_at field).read t ≡ good (m, rest) → IsLoaded m

@@ -17,12 +17,9 @@ use Rattle.m2v_head.specs.Texts.{flag, sequence_text, rates_text, sequence_exten
 use Rattle.m2v_head.specs.Fits.{SequenceFits, SequenceExtensionFits, GroupFits, PictureFits, AreFCodes, PictureExtensionFits, MatrixFits, SliceFits}
 use Rattle.m2v_head.specs.Headers.{sequence_at, chroma_format_at, sequence_extension_at, group_at, kind_at, vectors_at, picture_at, f_codes_at, display_at, composite_at, picture_extension_at, matrices_at, intra_slice_at, slice_at}
 use Rattle.m2v_head.specs.Elements.{flag_at}
+use Rattle.m2v_bits.proofs.ElementLaws.{then_spells}
 use Rattle.m2v_head.proofs.ElementLaws.{number_spells, flag_spells, marker_spells, id_spells, some_spells, pairs_spells, last_spells, whole_spells, same_spells, some_of}
 use Rattle.m2v_head.proofs.MatrixLaws.{loaded_spells}
-
--- an element, and what follows it
-then_spells : {K A B : Type 0} {s : Syntax (List Bool) K A} (k : A → Syntax (List Bool) K B) {a : A} {b : B} {x y : List Bool} → Spells s a x → Spells (k a) b y → Spells (seq s k) b (x ++ y)
-then_spells k {a = a} {b = b} {x = x} {y = y} p q = seq_spells k a b x y p q
 
 pub sequence_spells : (s : SequenceInfo) → SequenceFits s → Spells sequence_at s (sequence_text s)
 unfolding sequence_at sequence_text

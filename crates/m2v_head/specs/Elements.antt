@@ -1,48 +1,44 @@
 -- The elements of which headers are made, each as a syntax of bits. A fault stands at the element that it is about.
 use Rattle.std.specs.Prelude.{ℕ, zero, suc, Bool, true, false, cond, not, nat_eq, List, [], ◌∷◌, length, map, slice_index, Option, Some, None}
 use Rattle.std.specs.List.{range_with_len}
-use Rattle.m2v_bits.specs.Syntax.{Syntax, done, here, rule, choose, repeated, ◌>>=◌}
+use Rattle.m2v_bits.specs.Syntax.{done, rule, choose, repeated, ◌>>=◌}
 use Rattle.m2v_bits.specs.Leaves.{bits_at}
+use Rattle.m2v_bits.specs.Elements.{BitSyntax, left_at}
+use Rattle.m2v_bits.specs.Elements as elements
 use Rattle.m2v_quant.specs.Scans.{zigzag}
 use Rattle.m2v_head.specs.declared.fault.HeadFault.{HeadFault}
 use Rattle.m2v_head.specs.declared.fault.HeadFault.TheVariants.{NoCode, Truncated, BadMarker, Forbidden}
 
 -- the syntax of a header, or of a part of one
 abbrev pub Header : Type 0 → Type 1
-Header V = Syntax (List Bool) HeadFault V
-
--- the place of the next element: how many bits are left
-abbrev pub place : Header ℕ
-place = here length
+Header V = BitSyntax HeadFault V
 
 -- a number of n bits
 abbrev pub number_at : ℕ → Header ℕ
 number_at n = bits_at Truncated n
 
 -- a flag of one bit
-unfoldable pub flag_at : Header Bool
-flag_at = do
-  bit ← number_at 1
-  done (nat_eq bit 1)
+abbrev pub flag_at : Header Bool
+flag_at = elements.flag_at Truncated
 
 -- marker_bit, which is 1 (clause 6.2)
 unfoldable pub marker_at : Header (Unit {0})
 marker_at = do
-  at ← place
+  at ← left_at
   bit ← number_at 1
   rule (nat_eq bit 1) BadMarker at
 
 -- the id of an extension (table 6-2)
 unfoldable pub id_at : ℕ → Header (Unit {0})
 id_at own = do
-  at ← place
+  at ← left_at
   id ← number_at 4
   rule (nat_eq id own) NoCode at
 
 -- a number of n bits that isn't 0; `field` is the element's number in its header
 unfoldable pub some_at : ℕ → ℕ → Header ℕ
 some_at field n = do
-  at ← place
+  at ← left_at
   v ← number_at n
   some ← rule (not (nat_eq v 0)) (Forbidden field) at
   done v
@@ -72,14 +68,14 @@ numbers_at field (suc n) = do
   done (first ∷ rest)
 
 -- where p stands first in a list
-unfoldable pub position : ℕ → List ℕ → ℕ
-position p [] = 0
-position p (q ∷ qs) = cond (nat_eq p q) 0 (suc (position p qs))
+unfoldable pub first_index : ℕ → List ℕ → ℕ
+first_index p [] = 0
+first_index p (q ∷ qs) = cond (nat_eq p q) 0 (suc (first_index p qs))
 
 -- numbers in zigzag order, put in raster order (clause 7.3.1): at each raster place stands the number whose place in
 -- the scan is that one
 unfoldable pub raster : List ℕ → List ℕ
-raster numbers = map (λ p. slice_index numbers (position p zigzag)) (range_with_len 0 64)
+raster numbers = map (λ p. slice_index numbers (first_index p zigzag)) (range_with_len 0 64)
 
 -- the 64 numbers of a matrix, which stand in zigzag order
 unfoldable pub matrix_at : ℕ → Header (Option (List ℕ))

@@ -10,7 +10,8 @@ use Rattle.m2v_head.specs.declared.picture.PictureInfo.{PictureInfo}
 use Rattle.m2v_head.specs.declared.picture.PictureExtension.{PictureExtension}
 use Rattle.m2v_head.specs.declared.matrix.MatrixInfo.{MatrixInfo}
 use Rattle.m2v_head.specs.declared.slice.SliceInfo.{SliceInfo}
-use Rattle.m2v_head.specs.Elements.{Header, place, number_at, flag_at, marker_at, id_at, some_at, pairs_at, loaded_at}
+use Rattle.m2v_bits.specs.Elements.{left_at}
+use Rattle.m2v_head.specs.Elements.{Header, number_at, flag_at, marker_at, id_at, some_at, pairs_at, loaded_at}
 
 -- clause 6.2.2.1
 unfoldable pub sequence_at : Header SequenceInfo
@@ -40,7 +41,7 @@ sequence_at = do
 -- chroma_format (table 6-5): only 4:2:0 is read, and 0 is reserved
 unfoldable pub chroma_format_at : Header ℕ
 chroma_format_at = do
-  at ← place
+  at ← left_at
   format ← number_at 2
   some ← rule (not (nat_eq format 0)) (Forbidden 4) at
   known ← rule (nat_eq format 1) (Unsupported 4 format) at
@@ -98,7 +99,7 @@ group_at = do
 -- picture_coding_type (table 6-12): 1 I, 2 P, 3 B; a D picture, 4, isn't read, and the others may not stand
 unfoldable pub kind_at : Header ℕ
 kind_at = do
-  at ← place
+  at ← left_at
   kind ← number_at 3
   allowed ← rule (nat_le 1 kind && nat_le kind 4) (Forbidden 2) at
   known ← rule (nat_lt kind 4) (Unsupported 2 kind) at

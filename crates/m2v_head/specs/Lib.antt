@@ -2,4 +2,3 @@ pub mod Texts
 pub mod Fits
 pub mod Elements
 pub mod Headers
-pub mod Decided

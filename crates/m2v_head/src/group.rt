@@ -5,9 +5,10 @@ ghost use Rattle.m2v_head.specs.Texts.{group_text};
 ghost use Rattle.m2v_head.specs.Headers.{group_at};
 
 use crate::fault::HeadFault;
-use crate::reading::{flag, marker, number};
+use crate::fault::HeadFault::Truncated;
+use crate::reading::marker;
 use crate::writing::put_flag;
-use m2v_bits::{BitReader, BitWriter};
+use m2v_bits::{BitReader, BitWriter, flag, number};
 
 /// A group of pictures header without its start code (clause 6.2.2.6): a time code in hours, minutes, seconds and
 /// pictures, and whether the first B frames need the group before.
@@ -47,14 +48,14 @@ impl GroupInfo {
         ensures fits { IfOk result GroupFits }
         ensures text { input.new.text ≡ input.old.text }
     {
-        let drop = flag(input)?;
-        let hours = number(input, 5)? as u8;
-        let minutes = number(input, 6)? as u8;
+        let drop = flag(input, Truncated)?;
+        let hours = number(input, 5, Truncated)? as u8;
+        let minutes = number(input, 6, Truncated)? as u8;
         marker(input)?;
-        let seconds = number(input, 6)? as u8;
-        let pictures = number(input, 6)? as u8;
-        let closed_gop = flag(input)?;
-        let broken_link = flag(input)?;
+        let seconds = number(input, 6, Truncated)? as u8;
+        let pictures = number(input, 6, Truncated)? as u8;
+        let closed_gop = flag(input, Truncated)?;
+        let broken_link = flag(input, Truncated)?;
         Ok(GroupInfo {
             drop,
             hours,

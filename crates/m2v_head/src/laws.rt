@@ -1,4 +1,4 @@
-ghost use Rattle.m2v_head.specs.Decided.{Decided, RoundTrip};
+ghost use Rattle.m2v_bits.specs.Laws.{Decided, RoundTrip};
 ghost use Rattle.m2v_head.specs.Texts.{sequence_text, sequence_extension_text, group_text, picture_text, picture_extension_text, matrices_text, slice_text};
 ghost use Rattle.m2v_head.specs.Fits.{SequenceFits, SequenceExtensionFits, GroupFits, PictureFits, PictureExtensionFits, MatrixFits, SliceFits};
 ghost use Rattle.m2v_head.specs.Headers.{sequence_at, sequence_extension_at, group_at, picture_at, picture_extension_at, matrices_at, slice_at};

@@ -5,9 +5,10 @@ ghost use Rattle.m2v_head.specs.Texts.{picture_text, picture_extension_text, f_c
 ghost use Rattle.m2v_head.specs.Headers.{kind_at, vectors_at, picture_at, f_codes_at, display_at, composite_at, picture_extension_at};
 
 use crate::fault::HeadFault;
-use crate::reading::{check, flag, id, number, pairs, some};
+use crate::fault::HeadFault::Truncated;
+use crate::reading::{id, pairs, some};
 use crate::writing::put_flag;
-use m2v_bits::{BitReader, BitWriter};
+use m2v_bits::{BitReader, BitWriter, check, flag, number};
 
 /// A picture header without its start code (clause 6.2.3). `kind` is picture_coding_type: 1 I, 2 P, 3 B. The delay
 /// is in ticks of 1/90,000 s, 65535 where none is told. What a type doesn't have is 0 or false.
@@ -86,9 +87,9 @@ impl PictureInfo {
         ensures fits { IfOk result PictureFits }
         ensures text { input.new.text ≡ input.old.text }
     {
-        let temporal_reference = number(input, 10)?;
+        let temporal_reference = number(input, 10, Truncated)?;
         let kind = kind(input)?;
-        let vbv_delay = number(input, 16)?;
+        let vbv_delay = number(input, 16, Truncated)?;
         let (full_pel_forward, forward_f_code) = direction(input, kind != 1)?;
         let (full_pel_backward, backward_f_code) = direction(input, kind == 3)?;
         pairs(input)?;
@@ -112,7 +113,7 @@ fn kind(input: &mut BitReader) -> Result<u8, HeadFault>
     ensures text { input.new.text ≡ input.old.text }
 {
     let at = input.fork();
-    let value = number(input, 3)?;
+    let value = number(input, 3, Truncated)?;
     let allowed = 1 <= value && value <= 4;
     check(input, &at, allowed, HeadFault::Forbidden { field: 2 })?;
     check(
@@ -145,8 +146,8 @@ fn vectors(input: &mut BitReader) -> Result<(bool, u8), HeadFault>
     ensures f_code { IfOk result (λ x. x.1 < 2 ^ 3) }
     ensures text { input.new.text ≡ input.old.text }
 {
-    let full_pel = flag(input)?;
-    let f_code = number(input, 3)? as u8;
+    let full_pel = flag(input, Truncated)?;
+    let f_code = number(input, 3, Truncated)? as u8;
     Ok((full_pel, f_code))
 }
 
@@ -223,17 +224,17 @@ impl PictureExtension {
     {
         id(input, 8)?;
         let f_code = f_codes(input)?;
-        let dc_precision = number(input, 2)? as u8;
+        let dc_precision = number(input, 2, Truncated)? as u8;
         let structure = some(input, 7, 2)? as u8;
-        let top_field_first = flag(input)?;
-        let frame_pred_frame_dct = flag(input)?;
-        let concealment = flag(input)?;
-        let q_scale_type = flag(input)?;
-        let intra_vlc_format = flag(input)?;
-        let alternate_scan = flag(input)?;
-        let repeat_first_field = flag(input)?;
-        let chroma_420_type = flag(input)?;
-        let progressive_frame = flag(input)?;
+        let top_field_first = flag(input, Truncated)?;
+        let frame_pred_frame_dct = flag(input, Truncated)?;
+        let concealment = flag(input, Truncated)?;
+        let q_scale_type = flag(input, Truncated)?;
+        let intra_vlc_format = flag(input, Truncated)?;
+        let alternate_scan = flag(input, Truncated)?;
+        let repeat_first_field = flag(input, Truncated)?;
+        let chroma_420_type = flag(input, Truncated)?;
+        let progressive_frame = flag(input, Truncated)?;
         let composite = composite(input)?;
         Ok(PictureExtension {
             f_code,
@@ -260,10 +261,10 @@ fn f_codes(input: &mut BitReader) -> Result<[[u8; 2]; 2], HeadFault>
     ensures fits { IfOk result AreFCodes }
     ensures text { input.new.text ≡ input.old.text }
 {
-    let forward_horizontal = number(input, 4)? as u8;
-    let forward_vertical = number(input, 4)? as u8;
-    let backward_horizontal = number(input, 4)? as u8;
-    let backward_vertical = number(input, 4)? as u8;
+    let forward_horizontal = number(input, 4, Truncated)? as u8;
+    let forward_vertical = number(input, 4, Truncated)? as u8;
+    let backward_horizontal = number(input, 4, Truncated)? as u8;
+    let backward_vertical = number(input, 4, Truncated)? as u8;
     Ok([
         [forward_horizontal, forward_vertical],
         [backward_horizontal, backward_vertical],
@@ -277,7 +278,7 @@ fn composite(input: &mut BitReader) -> Result<Option<u32>, HeadFault>
     ensures below { IfOk result (λ x. IfSome x (λ v. v < 2 ^ 20)) }
     ensures text { input.new.text ≡ input.old.text }
 {
-    let told = flag(input)?;
+    let told = flag(input, Truncated)?;
     if told {
         return display(input);
     }
@@ -291,6 +292,6 @@ fn display(input: &mut BitReader) -> Result<Option<u32>, HeadFault>
     ensures below { IfOk result (λ x. IfSome x (λ v. v < 2 ^ 20)) }
     ensures text { input.new.text ≡ input.old.text }
 {
-    let display = number(input, 20)?;
+    let display = number(input, 20, Truncated)?;
     Ok(Some(display))
 }

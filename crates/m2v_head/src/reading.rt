@@ -1,58 +1,12 @@
-ghost use Rattle.std.specs.Prelude.{◌≡◌, ◌<◌, ◌≤◌, ◌^◌, IfOk, length, true};
-ghost use Rattle.m2v_bits.specs.Syntax.{rule, Gives};
-ghost use Rattle.m2v_head.specs.Elements.{number_at, flag_at, marker_at, id_at, some_at, information_at, pair_at, pairs_at, matrix_at, loaded_at};
+ghost use Rattle.std.specs.Prelude.{◌≡◌, ◌<◌, ◌≤◌, ◌^◌, IfOk};
+ghost use Rattle.m2v_bits.specs.Syntax.{Gives};
+ghost use Rattle.m2v_head.specs.Elements.{marker_at, id_at, some_at, information_at, pair_at, pairs_at, matrix_at, loaded_at};
 ghost use Rattle.m2v_head.specs.Fits.{IsLoaded};
 
 use crate::fault::HeadFault;
-use m2v_bits::BitReader;
+use crate::fault::HeadFault::Truncated;
+use m2v_bits::{BitReader, check, flag, number};
 use m2v_quant::scan;
-
-/// A number of n bits.
-#[inline(always)]
-#[tactic(auto, unfolding(m2v_bits::specs::Leaves::bits_at))]
-pub fn number(input: &mut BitReader, n: u8) -> Result<u32, HeadFault>
-    requires { n ≤ 32 }
-    ensures exact { Gives result input.new.rest ((number_at n).read input.old.rest) }
-    ensures below { IfOk result (λ v. v < 2 ^ n) }
-    ensures text { input.new.text ≡ input.old.text }
-{
-    match input.take(n) {
-        Some(v) => Ok(v),
-        None => Err(HeadFault::Truncated),
-    }
-}
-
-/// A rule about the element that began at `start`. Where it doesn't hold, the reader goes back there.
-#[inline(always)]
-#[tactic(auto, unfolding(m2v_bits::specs::Syntax::rule))]
-pub fn check<'a>(
-    input: &mut BitReader<'a>,
-    start: &BitReader<'a>,
-    holds: bool,
-    fault: HeadFault,
-) -> Result<(), HeadFault>
-    requires { start.now.text ≡ input.old.text }
-    ensures exact { Gives result input.new.rest ((rule holds fault (length start.now.rest)).read input.old.rest) }
-    ensures held { IfOk result (λ done. holds ≡ true) }
-    ensures text { input.new.text ≡ input.old.text }
-{
-    if holds {
-        return Ok(());
-    }
-    *input = start.fork();
-    Err(fault)
-}
-
-/// A flag.
-#[inline(always)]
-#[tactic(auto, unfolding(crate::specs::Elements::flag_at, m2v_bits::specs::Syntax::seq, m2v_bits::specs::Syntax::bind, m2v_bits::specs::Syntax::done))]
-pub fn flag(input: &mut BitReader) -> Result<bool, HeadFault>
-    ensures exact { Gives result input.new.rest (flag_at.read input.old.rest) }
-    ensures text { input.new.text ≡ input.old.text }
-{
-    let bit = number(input, 1)?;
-    Ok(bit == 1)
-}
 
 /// A marker, which is 1.
 #[tactic(auto, unfolding(crate::specs::Elements::marker_at, m2v_bits::specs::Syntax::seq, m2v_bits::specs::Syntax::bind, m2v_bits::specs::Syntax::here))]
@@ -61,7 +15,7 @@ pub fn marker(input: &mut BitReader) -> Result<(), HeadFault>
     ensures text { input.new.text ≡ input.old.text }
 {
     let at = input.fork();
-    let bit = number(input, 1)?;
+    let bit = number(input, 1, Truncated)?;
     check(input, &at, bit == 1, HeadFault::BadMarker)
 }
 
@@ -72,7 +26,7 @@ pub fn id(input: &mut BitReader, own: u32) -> Result<(), HeadFault>
     ensures text { input.new.text ≡ input.old.text }
 {
     let at = input.fork();
-    let id = number(input, 4)?;
+    let id = number(input, 4, Truncated)?;
     check(input, &at, id == own, HeadFault::NoCode)
 }
 
@@ -86,7 +40,7 @@ pub fn some(input: &mut BitReader, field: u8, n: u8) -> Result<u32, HeadFault>
     ensures text { input.new.text ≡ input.old.text }
 {
     let at = input.fork();
-    let v = number(input, n)?;
+    let v = number(input, n, Truncated)?;
     check(input, &at, v != 0, HeadFault::Forbidden { field })?;
     Ok(v)
 }
@@ -97,7 +51,7 @@ fn information(input: &mut BitReader) -> Result<(bool, ()), HeadFault>
     ensures exact { Gives result input.new.rest (information_at.read input.old.rest) }
     ensures text { input.new.text ≡ input.old.text }
 {
-    number(input, 8)?;
+    number(input, 8, Truncated)?;
     Ok((true, ()))
 }
 
@@ -107,7 +61,7 @@ fn pair(input: &mut BitReader) -> Result<(bool, ()), HeadFault>
     ensures exact { Gives result input.new.rest ((pair_at tt).read input.old.rest) }
     ensures text { input.new.text ≡ input.old.text }
 {
-    let more = flag(input)?;
+    let more = flag(input, Truncated)?;
     if more {
         return information(input);
     }
@@ -130,7 +84,7 @@ pub fn loaded(input: &mut BitReader, field: u8) -> Result<Option<[u8; 64]>, Head
     ensures fits { IfOk result IsLoaded }
     ensures text { input.new.text ≡ input.old.text }
 {
-    let load = flag(input)?;
+    let load = flag(input, Truncated)?;
     if load {
         return matrix(input, field);
     }

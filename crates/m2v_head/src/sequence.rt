@@ -5,9 +5,10 @@ ghost use Rattle.m2v_head.specs.Texts.{sequence_text, sequence_extension_text, r
 ghost use Rattle.m2v_head.specs.Headers.{chroma_format_at, sequence_at, sequence_extension_at};
 
 use crate::fault::HeadFault;
-use crate::reading::{check, flag, id, loaded, marker, number};
+use crate::fault::HeadFault::Truncated;
+use crate::reading::{id, loaded, marker};
 use crate::writing::{put_flag, put_loaded};
-use m2v_bits::{BitReader, BitWriter};
+use m2v_bits::{BitReader, BitWriter, check, flag, number};
 
 /// A sequence header without its start code (clause 6.2.2.1).
 ///
@@ -72,14 +73,14 @@ impl SequenceInfo {
         ensures fits { IfOk result SequenceFits }
         ensures text { input.new.text ≡ input.old.text }
     {
-        let horizontal_size = number(input, 12)?;
-        let vertical_size = number(input, 12)?;
-        let aspect = number(input, 4)? as u8;
-        let frame_rate_code = number(input, 4)? as u8;
-        let bit_rate = number(input, 18)?;
+        let horizontal_size = number(input, 12, Truncated)?;
+        let vertical_size = number(input, 12, Truncated)?;
+        let aspect = number(input, 4, Truncated)? as u8;
+        let frame_rate_code = number(input, 4, Truncated)? as u8;
+        let bit_rate = number(input, 18, Truncated)?;
         marker(input)?;
-        let vbv_buffer_size = number(input, 10)?;
-        let constrained = flag(input)?;
+        let vbv_buffer_size = number(input, 10, Truncated)?;
+        let constrained = flag(input, Truncated)?;
         let load_intra = loaded(input, 9)?;
         let load_non_intra = loaded(input, 10)?;
         Ok(SequenceInfo {
@@ -137,17 +138,17 @@ impl SequenceExtension {
         ensures text { input.new.text ≡ input.old.text }
     {
         id(input, 1)?;
-        let profile_and_level = number(input, 8)? as u8;
-        let progressive_sequence = flag(input)?;
+        let profile_and_level = number(input, 8, Truncated)? as u8;
+        let progressive_sequence = flag(input, Truncated)?;
         let chroma_format = chroma_format(input)?;
-        let horizontal_ext = number(input, 2)? as u8;
-        let vertical_ext = number(input, 2)? as u8;
-        let bit_rate_ext = number(input, 12)?;
+        let horizontal_ext = number(input, 2, Truncated)? as u8;
+        let vertical_ext = number(input, 2, Truncated)? as u8;
+        let bit_rate_ext = number(input, 12, Truncated)?;
         marker(input)?;
-        let vbv_ext = number(input, 8)? as u8;
-        let low_delay = flag(input)?;
-        let rate_n = number(input, 2)? as u8;
-        let rate_d = number(input, 5)? as u8;
+        let vbv_ext = number(input, 8, Truncated)? as u8;
+        let low_delay = flag(input, Truncated)?;
+        let rate_n = number(input, 2, Truncated)? as u8;
+        let rate_d = number(input, 5, Truncated)? as u8;
         Ok(SequenceExtension {
             profile_and_level,
             progressive_sequence,
@@ -171,7 +172,7 @@ fn chroma_format(input: &mut BitReader) -> Result<u8, HeadFault>
     ensures text { input.new.text ≡ input.old.text }
 {
     let at = input.fork();
-    let value = number(input, 2)?;
+    let value = number(input, 2, Truncated)?;
     check(input, &at, value != 0, HeadFault::Forbidden { field: 4 })?;
     check(
         input,

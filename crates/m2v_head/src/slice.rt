@@ -5,9 +5,10 @@ ghost use Rattle.m2v_head.specs.Texts.{slice_text, intra_slice_text};
 ghost use Rattle.m2v_head.specs.Headers.{intra_slice_at, slice_at};
 
 use crate::fault::HeadFault;
-use crate::reading::{flag, number, pairs, some};
+use crate::fault::HeadFault::Truncated;
+use crate::reading::{pairs, some};
 use crate::writing::put_flag;
-use m2v_bits::{BitReader, BitWriter};
+use m2v_bits::{BitReader, BitWriter, flag, number};
 
 /// A slice header without its start code (clause 6.2.4). `quantiser` is quantiser_scale_code, from 1 to 31.
 /// `intra_slice` is `Some` where its flag is set, and `reserved` the seven bits behind it.
@@ -55,8 +56,8 @@ impl SliceInfo {
         ensures text { input.new.text ≡ input.old.text }
     {
         let quantiser = some(input, 1, 5)? as u8;
-        let told = flag(input)?;
-        let (intra_slice, reserved) = behind(input, told)?;
+        let told = flag(input, Truncated)?;
+        let (intra_slice, reserved) = intra_part(input, told)?;
         Ok(SliceInfo {
             quantiser,
             intra_slice,
@@ -67,7 +68,7 @@ impl SliceInfo {
 
 /// What stands behind the flag: intra_slice and seven reserved bits where it is set.
 #[tactic(auto, unfolding(m2v_bits::specs::Syntax::choose, m2v_bits::specs::Syntax::done))]
-fn behind(input: &mut BitReader, told: bool) -> Result<(Option<bool>, u8), HeadFault>
+fn intra_part(input: &mut BitReader, told: bool) -> Result<(Option<bool>, u8), HeadFault>
     ensures exact { Gives result input.new.rest ((choose told intra_slice_at (done (None, 0))).read input.old.rest) }
     ensures reserved { IfOk result (λ x. x.1 < 2 ^ 7) }
     ensures untold { IfOk result (λ x. IfNone x.0 (x.1 ≡ 0)) }
@@ -87,8 +88,8 @@ fn told_behind(input: &mut BitReader) -> Result<(Option<bool>, u8), HeadFault>
     ensures untold { IfOk result (λ x. IfNone x.0 (x.1 ≡ 0)) }
     ensures text { input.new.text ≡ input.old.text }
 {
-    let intra_slice = flag(input)?;
-    let reserved = number(input, 7)? as u8;
+    let intra_slice = flag(input, Truncated)?;
+    let reserved = number(input, 7, Truncated)? as u8;
     pairs(input)?;
     Ok((Some(intra_slice), reserved))
 }

@@ -204,7 +204,7 @@ Sound {V} same = (a b : V) → same a b ≡ true → a ≡ b
 abbrev pub Reflexive : {V : Type 0} → (V → V → Bool) → Type 0
 Reflexive {V} same = (a : V) → same a a ≡ true
 
-other_in : {V : Type 0} (same : V → V → Bool) (v : V) (t : List (Row V)) (r : Row V) → is_other same v t ≡ true → In t r → same v r.value ≡ false
+pub other_in : {V : Type 0} (same : V → V → Bool) (v : V) (t : List (Row V)) (r : Row V) → is_other same v t ≡ true → In t r → same v r.value ≡ false
 unfolding is_other
 other_in same v [] r f i = absurd i
 other_in {V} same v (s ∷ t) r f i =

@@ -9,3 +9,4 @@ pub mod Sizes
 pub mod Places
 pub mod Coefficients
 pub mod Firsts
+pub mod TableLaws

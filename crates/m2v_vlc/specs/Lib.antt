@@ -4,3 +4,4 @@ pub mod Tables
 pub mod Coefficients
 pub mod Lookups
 pub mod Places
+pub mod Laws

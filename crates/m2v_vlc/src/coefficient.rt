@@ -49,7 +49,7 @@ fn coefficient_row(value: Coefficient) -> u8
 
 /// The code of the coefficient in table B.14, of no bits where there is none.
 #[inline(always)]
-pub fn zero_of(value: Coefficient) -> Code
+pub fn code_coefficient_zero(value: Coefficient) -> Code
     ensures spelled { spelled result ≡ coefficient_zero_code value }
     ensures width { result.len ≤ 17 }
     ensures fits { result.number < 2 ^ result.len }
@@ -95,7 +95,7 @@ pub fn write_coefficient_zero(value: Coefficient, out: &mut BitWriter)
     ensures written { out.new.written ≡ out.old.written ++ coefficient_zero_code value }
     ensures room { out.new.room + length (coefficient_zero_code value) ≡ out.old.room }
 {
-    put_code(zero_of(value), out);
+    put_code(code_coefficient_zero(value), out);
 }
 
 /// How many bits the code of a coefficient has by table B.14, 0 where it has none.
@@ -103,12 +103,12 @@ pub fn write_coefficient_zero(value: Coefficient, out: &mut BitWriter)
 pub fn bits_coefficient_zero(value: Coefficient) -> u32
     ensures { result ≡ length (coefficient_zero_code value) }
 {
-    bits_of_code(zero_of(value))
+    bits_of_code(code_coefficient_zero(value))
 }
 
 /// The code of the coefficient in table B.15, of no bits where there is none.
 #[inline(always)]
-fn one_of(value: Coefficient) -> Code
+pub fn code_coefficient_one(value: Coefficient) -> Code
     ensures spelled { spelled result ≡ coefficient_one_code value }
     ensures width { result.len ≤ 17 }
     ensures fits { result.number < 2 ^ result.len }
@@ -154,7 +154,7 @@ pub fn write_coefficient_one(value: Coefficient, out: &mut BitWriter)
     ensures written { out.new.written ≡ out.old.written ++ coefficient_one_code value }
     ensures room { out.new.room + length (coefficient_one_code value) ≡ out.old.room }
 {
-    put_code(one_of(value), out);
+    put_code(code_coefficient_one(value), out);
 }
 
 /// How many bits the code of a coefficient has by table B.15, 0 where it has none.
@@ -162,5 +162,5 @@ pub fn write_coefficient_one(value: Coefficient, out: &mut BitWriter)
 pub fn bits_coefficient_one(value: Coefficient) -> u32
     ensures { result ≡ length (coefficient_one_code value) }
 {
-    bits_of_code(one_of(value))
+    bits_of_code(code_coefficient_one(value))
 }

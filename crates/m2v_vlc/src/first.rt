@@ -4,7 +4,7 @@ ghost use Rattle.m2v_vlc.specs.Codes.{code_at};
 ghost use Rattle.m2v_vlc.specs.Coefficients.{first_zero, first_zero_code, IsFirst};
 ghost use Rattle.m2v_vlc.specs.Lookups.{spelled};
 
-use crate::coefficient::{read_coefficient_zero, zero_of};
+use crate::coefficient::{code_coefficient_zero, read_coefficient_zero};
 use crate::rows::{Code, bits_of_code, put_code};
 use crate::values::{CodeFault, Coefficient};
 use m2v_bits::{BitReader, BitWriter};
@@ -21,20 +21,20 @@ fn pair_of(run: u8, level: i16) -> Code
     } else if run == 0 && level == -1 {
         Code { number: 3, len: 2 }
     } else {
-        zero_of(Coefficient::Pair { run, level })
+        code_coefficient_zero(Coefficient::Pair { run, level })
     }
 }
 
-/// The code of the first coefficient of a block that is not intra, of no bits where there is none.
+/// The code by table B.14 of the first coefficient of a block that is not intra, of no bits where there is none.
 #[inline(always)]
-fn first_of(value: Coefficient) -> Code
+pub fn code_first_zero(value: Coefficient) -> Code
     ensures spelled { spelled result ≡ first_zero_code value }
     ensures width { result.len ≤ 17 }
     ensures fits { result.number < 2 ^ result.len }
 {
     match value {
         Coefficient::End => Code { number: 0, len: 0 },
-        Coefficient::Escape => zero_of(value),
+        Coefficient::Escape => code_coefficient_zero(value),
         Coefficient::Pair { run, level } => pair_of(run, level),
     }
 }
@@ -73,7 +73,7 @@ pub fn write_first_zero(value: Coefficient, out: &mut BitWriter)
     ensures written { out.new.written ≡ out.old.written ++ first_zero_code value }
     ensures room { out.new.room + length (first_zero_code value) ≡ out.old.room }
 {
-    put_code(first_of(value), out);
+    put_code(code_first_zero(value), out);
 }
 
 /// How many bits the code of a coefficient has by table B.14 at the first place of a block that is not intra, 0 where it has none.
@@ -81,5 +81,5 @@ pub fn write_first_zero(value: Coefficient, out: &mut BitWriter)
 pub fn bits_first_zero(value: Coefficient) -> u32
     ensures { result ≡ length (first_zero_code value) }
 {
-    bits_of_code(first_of(value))
+    bits_of_code(code_first_zero(value))
 }

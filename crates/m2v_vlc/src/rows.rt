@@ -7,10 +7,12 @@ ghost use Rattle.m2v_vlc.specs.Lookups.{rows_of, IsTable, Points, code_in, is_be
 use crate::values::CodeFault;
 use m2v_bits::{BitReader, BitWriter};
 
-/// A code: a number of so many bits.
+/// A code as `BitWriter::put` takes it.
 #[derive(Clone, Copy)]
 pub struct Code {
+    /// Its bits as a number.
     pub number: u32,
+    /// How many bits it has, 0 where there is none.
     pub len: u8,
 }
 

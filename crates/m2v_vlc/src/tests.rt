@@ -2,13 +2,6 @@
 
 ghost use Rattle.std.specs.Prelude.{◌≡◌, ◌+◌, ◌<◌, ◌≤◌, ◌^◌, length};
 
-use crate::increment_rows::INCREMENT_ROWS;
-use crate::kind_rows::{TYPE_B_ROWS, TYPE_I_ROWS, TYPE_P_ROWS};
-use crate::motion_rows::{DMV_ROWS, MOTION_ROWS};
-use crate::one_rows::ONE_ROWS;
-use crate::pattern_rows::PATTERN_ROWS;
-use crate::size_rows::{CHROMA_ROWS, LUMA_ROWS};
-use crate::zero_rows::ZERO_ROWS;
 use crate::{
     Coefficient, Increment, MbType, bits_coefficient_one, bits_coefficient_zero, bits_dc_chroma,
     bits_dc_luma, bits_dmv, bits_first_zero, bits_increment, bits_motion, bits_pattern,
@@ -33,139 +26,35 @@ fn text_of(p: u32) -> [u8; 3]
     ]
 }
 
-fn begins_increment(text: &[u8]) -> bool
-    requires { length text.now < 2 ^ 60 }
+// Whether seventeen bits begin with a code in each table, but for those named here.
+fn begins_with_codes(p: u32) -> bool
+    requires { p < 131072 }
 {
-    read_increment(&mut BitReader::new(text)).is_ok()
+    let text = text_of(p);
+    read_increment(&mut BitReader::new(&text)).is_ok() == (p >> 6 > 0x17 || p >> 6 == 8)
+        && read_type_i(&mut BitReader::new(&text)).is_ok() == (p >> 15 != 0)
+        && read_type_p(&mut BitReader::new(&text)).is_ok() == (p >> 11 != 0)
+        && read_type_b(&mut BitReader::new(&text)).is_ok() == (p >> 11 != 0)
+        && read_pattern(&mut BitReader::new(&text)).is_ok() == (p >> 8 > 1)
+        && read_motion(&mut BitReader::new(&text)).is_ok() == (p >> 7 > 0xB)
+        && read_dmv(&mut BitReader::new(&text)).is_ok()
+        && read_dc_luma(&mut BitReader::new(&text)).is_ok()
+        && read_dc_chroma(&mut BitReader::new(&text)).is_ok()
+        && read_coefficient_zero(&mut BitReader::new(&text)).is_ok() == (p >> 5 != 0)
+        && read_first_zero(&mut BitReader::new(&text)).is_ok() == (p >> 5 != 0)
+        && read_coefficient_one(&mut BitReader::new(&text)).is_ok() != is_free_of_one(p)
 }
 
-fn begins_type_i(text: &[u8]) -> bool
-    requires { length text.now < 2 ^ 60 }
-{
-    read_type_i(&mut BitReader::new(text)).is_ok()
-}
-
-fn begins_type_p(text: &[u8]) -> bool
-    requires { length text.now < 2 ^ 60 }
-{
-    read_type_p(&mut BitReader::new(text)).is_ok()
-}
-
-fn begins_type_b(text: &[u8]) -> bool
-    requires { length text.now < 2 ^ 60 }
-{
-    read_type_b(&mut BitReader::new(text)).is_ok()
-}
-
-fn begins_pattern(text: &[u8]) -> bool
-    requires { length text.now < 2 ^ 60 }
-{
-    read_pattern(&mut BitReader::new(text)).is_ok()
-}
-
-fn begins_motion(text: &[u8]) -> bool
-    requires { length text.now < 2 ^ 60 }
-{
-    read_motion(&mut BitReader::new(text)).is_ok()
-}
-
-fn begins_dmv(text: &[u8]) -> bool
-    requires { length text.now < 2 ^ 60 }
-{
-    read_dmv(&mut BitReader::new(text)).is_ok()
-}
-
-fn begins_dc_luma(text: &[u8]) -> bool
-    requires { length text.now < 2 ^ 60 }
-{
-    read_dc_luma(&mut BitReader::new(text)).is_ok()
-}
-
-fn begins_dc_chroma(text: &[u8]) -> bool
-    requires { length text.now < 2 ^ 60 }
-{
-    read_dc_chroma(&mut BitReader::new(text)).is_ok()
-}
-
-fn begins_coefficient_zero(text: &[u8]) -> bool
-    requires { length text.now < 2 ^ 60 }
-{
-    read_coefficient_zero(&mut BitReader::new(text)).is_ok()
-}
-
-fn begins_first_zero(text: &[u8]) -> bool
-    requires { length text.now < 2 ^ 60 }
-{
-    read_first_zero(&mut BitReader::new(text)).is_ok()
-}
-
-fn begins_coefficient_one(text: &[u8]) -> bool
-    requires { length text.now < 2 ^ 60 }
-{
-    read_coefficient_one(&mut BitReader::new(text)).is_ok()
-}
-
-// In each table every string of seventeen bits begins with a code, but for those named here.
 #[test]
 fn every_string_begins_with_a_code(rt: HostRuntime) {
     for p in 0..131072u32 {
-        let text = text_of(p);
-        let eleven = p >> 6;
-        assert_eq!(rt;
-            begins_increment(&text),
-            eleven > 0x17 || eleven == 8,
-            "B.1 at {p}"
-        );
-        assert_eq!(rt; begins_type_i(&text), p >> 15 != 0, "B.2 at {p}");
-        assert_eq!(rt; begins_type_p(&text), p >> 11 != 0, "B.3 at {p}");
-        assert_eq!(rt; begins_type_b(&text), p >> 11 != 0, "B.4 at {p}");
-        assert_eq!(rt; begins_pattern(&text), p >> 8 > 1, "B.9 at {p}");
-        assert_eq!(rt; begins_motion(&text), p >> 7 > 0xB, "B.10 at {p}");
-        assert!(rt; begins_dmv(&text), "B.11 at {p}");
-        assert!(rt; begins_dc_luma(&text), "B.12 at {p}");
-        assert!(rt; begins_dc_chroma(&text), "B.13 at {p}");
-        assert_eq!(rt; begins_coefficient_zero(&text), p >> 5 != 0, "B.14 at {p}");
-        assert_eq!(rt;
-            begins_first_zero(&text),
-            p >> 5 != 0,
-            "B.14, first, at {p}"
-        );
-        assert_eq!(rt;
-            begins_coefficient_one(&text),
-            !is_free_of_one(p),
-            "B.15 at {p}"
-        );
+        assert!(rt; begins_with_codes(p), "{p}");
     }
 }
 
 /// Whether no code of table B.15 begins the bits.
 fn is_free_of_one(p: u32) -> bool {
     matches!(p >> 5, 0 | 0x10 | 0x13 | 0x14 | 0x18 | 0x1B | 0x1D) || matches!(p >> 4, 0x17..=0x1A)
-}
-
-/// How many strings of seventeen bits begin with the rows' codes.
-fn strings_of<V: Copy>(rows: &[(V, u16, u8)]) -> u32 {
-    let mut count = 0u32;
-    for row in rows {
-        count = count.wrapping_add(131072u32.wrapping_shr(row.2 as u32));
-    }
-    count
-}
-
-// The codes begin as many strings as begin with a code, so none begins with two.
-#[test]
-fn no_string_begins_with_two_codes(rt: HostRuntime) {
-    assert_eq!(rt; strings_of(&INCREMENT_ROWS), 131072 - 23 * 64);
-    assert_eq!(rt; strings_of(&TYPE_I_ROWS), 131072 - 32768);
-    assert_eq!(rt; strings_of(&TYPE_P_ROWS), 131072 - 2048);
-    assert_eq!(rt; strings_of(&TYPE_B_ROWS), 131072 - 2048);
-    assert_eq!(rt; strings_of(&PATTERN_ROWS), 131072 - 2 * 256);
-    assert_eq!(rt; strings_of(&MOTION_ROWS), 131072 - 12 * 128);
-    assert_eq!(rt; strings_of(&DMV_ROWS), 131072);
-    assert_eq!(rt; strings_of(&LUMA_ROWS), 131072);
-    assert_eq!(rt; strings_of(&CHROMA_ROWS), 131072);
-    assert_eq!(rt; strings_of(&ZERO_ROWS), 131072 - 32);
-    assert_eq!(rt; strings_of(&ONE_ROWS), 131072 - 7 * 32 - 4 * 16);
 }
 
 /// The type of these flags.

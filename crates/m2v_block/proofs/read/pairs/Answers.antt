@@ -6,26 +6,26 @@ use Rattle.m2v_block.proofs.read.pairs.Goals as goal
 
 pub returns-in_err-more-clause-exact : goal.returns-in_err-more-clause-exact
 returns-in_err-more-clause-exact c =
-    let s : Scan = record { position = c.loop-more.position; levels = c.loop-more.out.at } in
+    let s : Scan = record { filled = c.loop-more.filled; levels = c.loop-more.out.at } in
     let p = err_from_is_err_and c.from_residual.result c.from_residual.ensures.1 in
     rw (p.1, p.2) (sym c.loop-more.invariant.read ∙ pairs_err c.args.one s c.loop-more.input.rest (c.in_err-more.field-0.0, length c.pair.new.input.rest) c.in_err-more.ensures.exact)
 
 pub returns-then-not-more-clause-exact : goal.returns-then-not-more-clause-exact
 returns-then-not-more-clause-exact c =
-    let s : Scan = record { position = c.loop-more.position; levels = c.loop-more.out.at } in
-    let m : Scan = record { position = c.in_ok-more.next; levels = c.pair.new.out.at } in
+    let s : Scan = record { filled = c.loop-more.filled; levels = c.loop-more.out.at } in
+    let m : Scan = record { filled = c.in_ok-more.next; levels = c.pair.new.out.at } in
     (c.in_ok-more.next, sym c.loop-more.invariant.read ∙ pairs_last c.args.one s m c.loop-more.input.rest c.pair.new.input.rest c.in_ok-more.more c.in_ok-more.ensures.exact c.if-not-more.true)
 
 pub loop-more-smaller : goal.loop-more-smaller
 loop-more-smaller c =
-    let s : Scan = record { position = c.loop-more.position; levels = c.loop-more.out.at } in
-    let m : Scan = record { position = c.in_ok-more.next; levels = c.pair.new.out.at } in
+    let s : Scan = record { filled = c.loop-more.filled; levels = c.loop-more.out.at } in
+    let m : Scan = record { filled = c.in_ok-more.next; levels = c.pair.new.out.at } in
     pairs_less c.args.one s m c.loop-more.input.rest c.pair.new.input.rest c.in_ok-more.more c.in_ok-more.ensures.exact
 
 pub loop-more-preserved : goal.loop-more-preserved
 loop-more-preserved c =
-    let s : Scan = record { position = c.loop-more.position; levels = c.loop-more.out.at } in
-    let m : Scan = record { position = c.in_ok-more.next; levels = c.pair.new.out.at } in
+    let s : Scan = record { filled = c.loop-more.filled; levels = c.loop-more.out.at } in
+    let m : Scan = record { filled = c.in_ok-more.next; levels = c.pair.new.out.at } in
     let within = c.in_ok-more.ensures.within in
     record {
       read = sym (pairs_more c.args.one s m c.loop-more.input.rest c.pair.new.input.rest c.in_ok-more.more c.in_ok-more.ensures.exact c.if-not-more.false) ∙ c.loop-more.invariant.read;

@@ -5,10 +5,10 @@ use Rattle.m2v_block.proofs.read.pairs.Given as goal
 
 abbrev pub invariant-loop-more : goal.invariant-loop-more
 invariant-loop-more l = record {
-  read : (pairs_at l.one (record { position = l.position; levels = l.out.at })).read l.input.rest ≡ (pairs_at l.one (record { position = l.from; levels = l.fn.out.at })).read l.fn.input.rest;
+  read : (pairs_at l.one (record { filled = l.filled; levels = l.out.at })).read l.input.rest ≡ (pairs_at l.one (record { filled = l.from; levels = l.fn.out.at })).read l.fn.input.rest;
   text : l.input.text ≡ l.fn.input.text;
-  above : l.from ≤ l.position;
-  within : l.position ≤ 64;
+  above : l.from ≤ l.filled;
+  within : l.filled ≤ 64;
   levels : All IsLevel l.out.at;
   dc : 0 < l.from → get_or l.out.at 0 (pos 0) ≡ get_or l.fn.out.at 0 (pos 0);
 }

@@ -4,7 +4,7 @@ use mir.Syntax.{w32}
 use mir.Val.{SFits, to_z, of_z}
 use Rattle.m2v_block.specs.Texts.{pairs_text, code_text}
 use Rattle.m2v_vlc.specs.declared.values.Coefficient.TheVariants.{End}
-use Rattle.m2v_block.proofs.Written.{end_some, written_more, room_more, written_end, room_end, room_left, room_kept}
+use Rattle.m2v_block.proofs.Written.{written_more, room_more, written_end, room_end, room_left, room_kept}
 use Rattle.m2v_block.proofs.write.write_pairs.Goals as goal
 
 pub write_level-requires-clause-room : goal.write_level-requires-clause-room
@@ -29,11 +29,8 @@ loop-i-preserved c =
       run = omega arith;
     }
 
-pub write_code-requires-clause-known : goal.write_code-requires-clause-known
-write_code-requires-clause-known c = end_some c.args.one
-
-pub write_code-requires-clause-room : goal.write_code-requires-clause-room
-write_code-requires-clause-room c =
+pub write_code-requires : goal.write_code-requires
+write_code-requires c =
     let levels = c.args.levels.now.at in
     let over : length levels ≤ c.loop-i.i = search rules in
     room_end c.loop-i.none c.args.one c.loop-i.run c.loop-i.i c.loop-i.out.room c.args.out.now.room levels c.loop-i.out.written c.args.out.now.written (pairs_text c.args.first c.args.one 0 (drop c.args.from levels))

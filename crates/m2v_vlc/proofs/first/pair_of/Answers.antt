@@ -21,7 +21,7 @@ returns-then-level-eqminus1-clause-spelled c =
 pub returns-else-run-eq0-2-clause-spelled : goal.returns-else-run-eq0-2-clause-spelled
 returns-else-run-eq0-2-clause-spelled c =
     let f = c.ranges.level in
-    (simp to_z-of_z at c.zero_of.ensures.spelled)
+    (simp to_z-of_z at c.code_coefficient_zero.ensures.spelled)
     ∙ sym (first_other c.args.run c.args.level
     (λ z e. elim c.else-run-eq0.either [ inl x ↦ x.1 (ap (of_z w16) e) | inr x ↦ x z ])
     (λ z e. elim c.else-run-eq0-2.either [ inl x ↦ x.1 (ap (of_z w16) e) | inr x ↦ x z ]))

@@ -1,4 +1,4 @@
-use Rattle.std.proofs.Common.{◌≡◌, List, Bool, sym, ap}
+use Rattle.std.proofs.Common.{List, Bool, ap}
 use Rattle.m2v_bits.specs.Bits.{Unread, bits}
 use Rattle.m2v_bits.proofs.Cursor.{padded-none}
 use Rattle.m2v_bits.proofs.reader.BitReader.new.Goals as goal
