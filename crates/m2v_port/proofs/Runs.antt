@@ -1,8 +1,9 @@
 -- How the calls of an endpoint follow one another: what holds of a run, from what holds of its parts.
-use Rattle.std.proofs.Common.{◌≡◌, inl, inr, ℕ, zero, suc, ◌+◌, ◌-◌, ◌^◌, ◌<◌, ◌≤◌, List, [], ◌∷◌, ◌++◌, length, take, Option, Some, None, IfSome, Result, Ok, Err, OnErr, refl, sym, ◌∙◌, ap, subst, arith, append_assoc, length-append}
+use Rattle.std.proofs.Common.{◌≡◌, inl, inr, ℕ, zero, suc, ◌+◌, ◌-◌, ◌^◌, ◌<◌, ◌≤◌, Bool, IsTrue, List, [], ◌∷◌, ◌++◌, length, take, Option, Some, None, IfSome, Result, Ok, Err, OnErr, refl, sym, ◌∙◌, ap, subst, arith, append_assoc, length-append}
 use Rattle.std.specs.Option.{option_map}
 use Rattle.std.proofs.lemmas.List.{append-nil, length-take-le, take-append-le}
 use Rattle.m2v_port.specs.Port.{Rose, Moves, IsAtEnd, Grows, GrowsByPrefix}
+use Rattle.m2v_port.specs.Ends.{SinkStays}
 
 -- A count that rose in the last part rose in the whole.
 pub rose_since : {before between now : ℕ} → before ≤ between → Rose between now → Rose before now
@@ -115,5 +116,17 @@ pub on_err : {T E P : Type 0} (result : Result T E) → P → OnErr result P
 on_err (Ok v) holds = tt
 on_err (Err e) holds = holds
 
+-- A sink stays as it is where nothing is called.
+pub stays_here : {K : Type 0} {ready : K → Bool} {name : K → Option (List ℕ)} {faults : K → ℕ} {k : K} → IsTrue (ready k) → SinkStays ready name faults k k
+stays_here ready = record { is_ready = ready; keeps_name = refl; counts = omega arith }
+
+-- one call of a sink after another
+pub stays_on : {K : Type 0} {ready : K → Bool} {name : K → Option (List ℕ)} {faults : K → ℕ} {a b c : K} → SinkStays ready name faults a b → SinkStays ready name faults b c → SinkStays ready name faults a c
+stays_on first second = record {
+  is_ready = second.is_ready;
+  keeps_name = second.keeps_name ∙ first.keeps_name;
+  counts = omega (arith, first.counts, second.counts);
+}
+
 -- for the goals of a caller that reads or puts more than once
-pub ruleset runs = (rose_since, rose_still, moves_nothing, moves_on, end_stays, moved_all, grows_by_nothing, grows_on, grows_by_all, prefix_on, prefix_of_more)
+pub ruleset runs = (rose_since, rose_still, moves_nothing, moves_on, end_stays, moved_all, grows_by_nothing, grows_on, grows_by_all, prefix_on, prefix_of_more, stays_here, stays_on)

@@ -1,3 +1,4 @@
+pub mod Ends
 pub mod File
 pub mod Memory
 pub mod Port

@@ -27,6 +27,17 @@ pub trait Source {
         ensures faults { faults self.old ≤ faults self.new };
 }
 
+// A source that is lent is a source: what is read of it is gone from the one that it points to.
+impl<S: Source> Source for &mut S {
+    ghost left = { λ s. S.left s.now };
+
+    ghost faults = { λ s. S.faults s.now };
+
+    fn read(&mut self, buf: &mut [u8]) -> Result<usize, PortError> {
+        (**self).read(buf)
+    }
+}
+
 /// Where bytes go to.
 pub trait Sink {
     /// The bytes that it holds, where the sink tells them.
