@@ -1,6 +1,5 @@
 -- What holds of a ledger whatever is told to it, for settings that pass.
 use Rattle.std.specs.Prelude.{ℕ, ◌≡◌, ◌+◌, ◌-◌, ◌*◌, ◌≤◌, ◌<◌, ◌^◌, All, length, slice_index}
-use Rattle.m2v_set.specs.declared.settings.Settings.{Settings}
 use Rattle.m2v_set.specs.Numbers.{buffer_bits, least_of, IsInterval}
 use Rattle.m2v_set.specs.Rules.{Passes}
 use Rattle.m2v_rate.specs.Plans.{Entries, low_behind, mean_behind, Low}
