@@ -15,7 +15,7 @@ use mathlib.Core.Logic.{⊎_elim, dite}
 use native.Mathlib.Decide.{ℕ_discrete}
 use Rattle.atomic_table.specs.Table as table
 use Rattle.m2v_core.specs.declared.event.Event.TheVariants.{Claim, Publish, Fetch}
-use Rattle.m2v_core.specs.declared.event.Answer.TheVariants.{Done}
+use Rattle.m2v_core.specs.declared.event.Answer.TheVariants.{Drawn, End, Done}
 use Rattle.m2v_core.specs.declared.event.StepFault.TheVariants.{NotLawful}
 use Rattle.m2v_core.specs.Core.{State, published_count, workers, of_worker, is_published, is_open, missing, opening, answer, after}
 use Rattle.m2v_core.proofs.Answers.{claim_drawn, claim_at_end, publish_done}
@@ -178,6 +178,26 @@ module _ {S P : Type 0} (k : About S) (value : ℕ → P) (s : table.State S Vie
         where
           not_below : (a b : ℕ) → b ≤ a → ltb a b ≡ false
           not_below a b le = grind (arith, nat_tests)
+
+  -- what is answered to it: the number that was drawn, where that is a job
+  pub claim_answered : (w : ℕ) (v : View) → get_elem? s.views w ≡ some v
+      → answer k.needs (shown k.jobs value s.words s.views) (Claim w) ≡ cond (ltb (draws s.words) k.jobs) (Ok (Drawn (draws s.words))) (Ok End)
+  claim_answered w v at = ⊎_elim below past (cases_lt (draws s.words) k.jobs)
+    where
+      not_below : (a b : ℕ) → b ≤ a → ltb a b ≡ false
+      not_below a b le = grind (arith, nat_tests)
+
+      below : draws s.words < k.jobs → answer k.needs (shown k.jobs value s.words s.views) (Claim w) ≡ cond (ltb (draws s.words) k.jobs) (Ok (Drawn (draws s.words))) (Ok End)
+      below lt =
+          let low : min (draws s.words) k.jobs ≡ draws s.words = omega arith in
+          sym (claim_drawn value k.needs now w (is_worker w v at) (omega arith)).0
+          ∙ ap (λ (m : ℕ). Ok (Drawn m)) low
+          ∙ ap (λ b. cond b (Ok (Drawn (draws s.words))) (Ok End)) (sym (lt-ltb (draws s.words) k.jobs lt))
+
+      past : k.jobs ≤ draws s.words → answer k.needs (shown k.jobs value s.words s.views) (Claim w) ≡ cond (ltb (draws s.words) k.jobs) (Ok (Drawn (draws s.words))) (Ok End)
+      past ge =
+          sym (claim_at_end value k.needs now w (is_worker w v at) (omega arith)).0
+          ∙ ap (λ b. cond b (Ok (Drawn (draws s.words))) (Ok End)) (sym (not_below (draws s.words) k.jobs ge))
 
   -- the word of one job changes, and not to 0
   module _ (j b : ℕ) (lt : j < k.jobs) (nz : b ≢ 0) where

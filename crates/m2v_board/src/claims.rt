@@ -73,7 +73,8 @@ impl<B: JobBook> Board<B> {
             .unwrap()
     }
 
-    /// Shows the post of an open job, which this pass took and made ready, to every pass.
+    /// Shows the post of an open job, which this pass took and made ready, to every pass, and wakes those that sleep until
+    /// it is shown.
     pub fn publish(&self, pass: &mut Pass<B>, j: u32, post: Box<Post<B>>)
         requires pass { IsPassOf self.now pass.old }
         requires taken { slot_of pass.old j ≡ Some None }
@@ -87,6 +88,7 @@ impl<B: JobBook> Board<B> {
         let shared = &self.table.shared;
         drop(shared.exchange(&mut pass.seat, j as usize, Some(post)));
         shared.store::<Raise>(&mut pass.seat, j as usize + 1, 1);
+        shared.wake_all(j as usize + 1);
         let _ = pass.queue.pop_front();
     }
 }

@@ -16,6 +16,9 @@ use std::marker::Brand;
 use std::sync::Wait;
 use std::thread::yield_now;
 
+// How often a fetch looks before it sleeps.
+const TURNS_AWAKE: u32 = 100;
+
 impl<B: JobBook> Board<B> {
     // Whether the job was published and its post at home, which the seat then has.
     fn borrow<W: Told<Option<Box<Post<B>>>>>(
@@ -37,7 +40,8 @@ impl<B: JobBook> Board<B> {
             == 1
     }
 
-    // Looks until the job is published and its post at home.
+    // Looks until the job is published and its post at home. It looks some turns at once; from then on it sleeps while the
+    // job isn't published. A post that is lent is at home again as soon as it was learned from, and isn't waited for asleep.
     fn wait_for<R: Wait>(&self, rt: &R, seat: &mut Seat<Option<Box<Post<B>>>, View>, j: u32)
         requires fits { seat.old.table_id ≡ self.now.table.shared.table_id }
         requires stands { 0 < seat.old.me.0.passes }
@@ -46,9 +50,15 @@ impl<B: JobBook> Board<B> {
         ensures same { seat.new.table_id ≡ seat.old.table_id }
         ensures lent { (x : _) × Has (IsReady (B.value (book_of self.now)) (B.shared (book_of self.now))) j x × (seat.new.me ≡ (borrow seat.old.me.0 j, (j, x) ∷ seat.old.me.1)) }
     {
+        let mut turns = 0;
         for _ in rt.forever() {
             if self.borrow::<Brand>(seat, j) {
                 return;
+            }
+            if turns < TURNS_AWAKE {
+                turns += 1;
+            } else {
+                self.table.shared.park(rt, j as usize + 1, 0);
             }
             yield_now();
         }

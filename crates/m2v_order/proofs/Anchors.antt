@@ -1,10 +1,11 @@
 -- Coding order along the frames, for any test that says which frames are anchors.
-use Rattle.std.proofs.Common.{◌≡◌, ℕ, zero, suc, ◌+◌, ◌-◌, ◌<◌, ◌≤◌, Bool, true, false, cond, List, [], ◌∷◌, ◌++◌, refl, sym, ap, ◌∙◌, subst, arith, Option, Some}
+use Rattle.std.proofs.Common.{◌≡◌, ℕ, zero, suc, ◌+◌, ◌-◌, ◌<◌, ◌≤◌, Bool, true, false, cond, List, [], ◌∷◌, ◌++◌, refl, sym, ap, ◌∙◌, subst, arith, length, length-append, Option, Some}
 use Rattle.std.specs.Prelude.{filter, All}
 use Rattle.std.specs.List.{range_with_len, flat_map}
 use Rattle.std.proofs.lemmas.List.{append-nil}
 use Rattle.std.proofs.lemmas.List.Elements.{filter-append, All-nil, All-cons, All-append, All-weaker, All-head, All-tail}
 use Rattle.std.proofs.lemmas.Grind.{flat_map-append}
+use Rattle.std.proofs.lemmas.List.FromFn.{length-range_with_len}
 use Rattle.m2v_order.specs.Coding.{frames_between, in_order}
 use Rattle.m2v_order.specs.Groups.{behind}
 use Rattle.m2v_order.proofs.Orders.{range_append, frames_split, frames_one, in_order-append, behind-append}
@@ -142,6 +143,23 @@ module _ (p : ℕ → Bool) (from : ℕ) where
   within zero = All-nil (Between from (behind from (upto zero)))
   within (suc n) = order_within n (p (from + n)) refl (within n)
 
+  count_step : (n : ℕ) (b : Bool) → p (from + n) ≡ b → length (in_order from (upto n)) + from ≡ behind from (upto n)
+      → length (in_order from (upto (suc n))) + from ≡ behind from (upto (suc n))
+  count_step n true is rec =
+      let old = behind from (upto n) in
+      let d = from + n in
+      let high = (behind_is n).high in
+      let sum = length-append (in_order from (upto n)) (d ∷ frames_between old d) in
+      let between = length-range_with_len old (d - old) in
+      rw (behind_yes n is, order_yes n is) (omega (arith, rec, sum, between, high))
+  count_step n false is rec = rw (behind_no n is, order_no n is) rec
+
+  -- each frame up to the last anchor stands once
+  pub order_count : (n : ℕ) → length (in_order from (upto n)) + from ≡ behind from (upto n)
+  unfolding in_order behind
+  order_count zero = omega arith
+  order_count (suc n) = count_step n (p (from + n)) refl (order_count n)
+
   module _ {A : Type 0} (f : ℕ → List A) (last : Option ℕ → List A → Option ℕ)
       (on_none : (o : Option ℕ) → last o [] ≡ o)
       (on_more : (o : Option ℕ) (xs ys : List A) → last o (xs ++ ys) ≡ last (last o xs) ys)
@@ -199,3 +217,13 @@ first_anchor p first i m low high is clear =
       clear,
       is,
     ) refl
+
+head_step : (p : ℕ → Bool) (x a : ℕ) (xs more : List ℕ) (b : Bool) → p x ≡ b → cond b (x ∷ filter p xs) (filter p xs) ≡ a ∷ more
+    → (filter p xs ≡ a ∷ more → p a ≡ true) → p a ≡ true
+head_step p x a xs more true is e rec = let same : x ≡ a = cc in ap p (sym same) ∙ is
+head_step p x a xs more false is e rec = rec e
+
+-- what passes a test passes it
+pub head_passes : (p : ℕ → Bool) (xs : List ℕ) (a : ℕ) (more : List ℕ) → filter p xs ≡ a ∷ more → p a ≡ true
+head_passes p [] a more e = absurd (cc)
+head_passes p (x ∷ xs) a more e = head_step p x a xs more (p x) refl e (head_passes p xs a more)

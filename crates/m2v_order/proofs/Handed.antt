@@ -1,21 +1,22 @@
 -- What a reorder hands out over a list of calls.
-use Rattle.std.proofs.Common.{◌≡◌, ℕ, ◌+◌, ◌-◌, ◌<◌, ◌≤◌, Bool, true, false, cond, List, [], ◌∷◌, ◌++◌, length, map, take, drop, Some, None, refl, sym, ap, ◌∙◌, subst, arith, ⊎_elim, append_assoc, length-append}
-use Rattle.std.specs.Prelude.{filter}
+use Rattle.std.proofs.Common.{◌≡◌, ℕ, ◌-◌, ◌<◌, ◌≤◌, Bool, true, false, cond, List, [], ◌∷◌, ◌++◌, length, map, take, drop, Some, None, refl, sym, ap, ◌∙◌, subst, arith, ⊎_elim, append_assoc, length-append}
+use Rattle.std.specs.Prelude.{All}
+use Rattle.std.proofs.lemmas.List.Elements.{All-nil, All-push}
 use Rattle.std.specs.List.{flat_map}
-use Rattle.std.proofs.lemmas.Bool.{cases_lt}
 use Rattle.std.proofs.lemmas.Grind.{flat_map-append}
 use Rattle.std.proofs.lemmas.List.{append-nil, map-append, take-append-drop}
 use Rattle.m2v_set.specs.declared.settings.Settings.{Settings}
 use Rattle.m2v_set.specs.Rules.{Passes}
-use Rattle.m2v_order.specs.Coding.{Picture, is_anchor, frames_between, Coding, in_order}
-use Rattle.m2v_order.specs.Groups.{Queue, first_of, intra_from, next_intra, is_due, group_size, Group, anchor_before, group_of, after_push, after_end, after_group, IsSound}
+use Rattle.m2v_order.specs.Coding.{Picture, is_anchor, Coding, in_order}
+use Rattle.m2v_order.specs.Groups.{Queue, first_of, next_intra, is_due, group_size, Group, anchor_before, group_of, after_push, after_end, after_group, followed, IsSoundQueue}
 use Rattle.m2v_order.specs.Calls.{Call, Push, End, Next, Run, begun, call, calls, frames_in, jobs_in, picture_of, last_anchor, IsGroup}
-use Rattle.m2v_order.proofs.Anchors.{filter_same}
+use Rattle.m2v_order.specs.Whole.{IsGroupOf}
+use Rattle.m2v_order.proofs.Wholes.{group_is, group_stays, due_stays}
 use Rattle.m2v_order.proofs.Pictures.{last_more}
-use Rattle.m2v_order.proofs.Intra.{test_other, IsGrouped, intra_low, intra_first, same_anchor}
+use Rattle.m2v_order.proofs.Intra.{test_other, IsGrouped, same_anchor}
 use Rattle.m2v_order.proofs.Orders.{frames_none}
-use Rattle.m2v_order.proofs.Turns.{rest_of, next_first, turn_jobs, turn_clear, Agree, rest_split, turn_last, turn_intra}
-use Rattle.m2v_order.proofs.Queues.{grouped, true_false, sound_opening, push_first, sound_push, sound_end, top_of, first_next, Due, due_is, Turn, turn_is, top_next, has_next, next_is, sound_next, group_places}
+use Rattle.m2v_order.proofs.Turns.{rest_of, next_first, turn_jobs, Agree, rest_split, turn_last, turn_intra}
+use Rattle.m2v_order.proofs.Queues.{grouped, true_false, sound_opening, push_first, sound_push, sound_end, top_of, Due, due_is, Turn, turn_is, sound_next, group_places}
 
 -- an element of a list with one more at its end
 at_push : {A : Type 0} (P : List A → A → Type 0) (xs : List A) (x : A) (b : List A) (y : A) (l : List A) → xs ++ x ∷ [] ≡ b ++ y ∷ l
@@ -37,15 +38,15 @@ anchor_some b pos = rw (test_other b 0 (λ e. omega (arith, e, pos))) refl
 module _ {F : Type 0} where
   -- what every list of calls keeps
   pub record Good (r : Run F) : Type 0 where
+    pub passes : Passes r.now.settings
     pub grouped : IsGrouped r.now.settings
-    pub sound : IsSound r.now
+    pub sound : IsSoundQueue r.now
     pub count : r.now.pushed ≡ length r.pushed
     pub whole : frames_in r.groups ++ r.now.frames ≡ r.pushed
     pub ahead : (c : ℕ) → r.now.pushed ≤ c → (r.now.ended ≡ true → c ≡ r.now.pushed)
         → Coding r.now.settings c ≡ map picture_of (jobs_in r.groups) ++ rest_of r.now.settings c (first_of r.now)
-    pub clear : 0 < length r.now.frames
-        → filter (is_anchor r.now.settings r.now.pushed) (frames_between (first_of r.now) (intra_from r.now.settings (first_of r.now))) ≡ []
     pub before : anchor_before (first_of r.now) ≡ last_anchor None (jobs_in r.groups)
+    pub handed : All (λ (g : Group F). IsGroupOf r.now.settings g) r.groups
     pub each : (earlier : List (Group F)) (g : Group F) (later : List (Group F)) → r.groups ≡ earlier ++ g ∷ later → IsGroup earlier g
 
   -- the first frame that waits stands behind those handed out
@@ -60,40 +61,22 @@ module _ {F : Type 0} where
   no_split [] g later e = cc
   no_split (x ∷ earlier) g later e = cc
 
-  good_begun : (s : Settings) → IsGrouped s → Good (begun s)
+  good_begun : (s : Settings) → Passes s → Good (begun s)
   unfolding anchor_before last_anchor
-  good_begun s ok = record {
-    grouped = ok;
+  good_begun s passes = record {
+    passes = passes;
+    grouped = grouped s passes;
     sound = sound_opening s;
     count = refl;
     whole = refl;
     ahead = λ c low end. refl;
-    clear = λ some. absurd (omega arith);
     before = refl;
+    handed = All-nil (λ (g : Group F). IsGroupOf s g);
     each = λ earlier g later e. absurd (no_split earlier g later e);
   }
 
   push_whole : (r : Run F) (f : F) → frames_in r.groups ++ r.now.frames ≡ r.pushed → frames_in r.groups ++ (r.now.frames ++ f ∷ []) ≡ r.pushed ++ f ∷ []
   push_whole r f whole = sym (append_assoc (frames_in r.groups) r.now.frames (f ∷ [])) ∙ ap (λ xs. xs ++ f ∷ []) whole
-
-  push_clear : (q : Queue F) → IsGrouped q.settings → IsSound q → q.ended ≡ false
-      → (0 < length q.frames → filter (is_anchor q.settings q.pushed) (frames_between (first_of q) (intra_from q.settings (first_of q))) ≡ [])
-      → filter (is_anchor q.settings (q.pushed + 1)) (frames_between (first_of q) (intra_from q.settings (first_of q))) ≡ []
-  push_clear q ok sound going clear =
-      let s = q.settings in
-      let first = first_of q in
-      ⊎_elim
-      (λ (some : 0 < length q.frames).
-      let near = sound.near some in
-      let low = intra_low s first ok in
-      filter_same (is_anchor s (q.pushed + 1)) (is_anchor s q.pushed) first (intra_from s first - first)
-      (λ i l h. same_anchor s (q.pushed + 1) q.pushed i (omega (arith, near, low, l, h)) (omega (arith, near, low, l, h)))
-      ∙ clear some)
-      (λ (few : length q.frames ≤ 0).
-      let none = sound.none (omega (arith, few)) going in
-      let e : first_of q ≡ 0 = omega (arith, none) in
-      rw (e, intra_first s ok) refl)
-      (cases_lt 0 (length q.frames))
 
   good_push : (r : Run F) (f : F) → Good r → r.now.ended ≡ false
       → Good (record { now = after_push r.now f; pushed = r.pushed ++ f ∷ []; groups = r.groups })
@@ -101,25 +84,27 @@ module _ {F : Type 0} where
       let q = r.now in
       let first = push_first q f good.sound in
       record {
+        passes = good.passes;
         grouped = good.grouped;
         sound = sound_push q f good.grouped good.sound going;
         count = (let c = good.count in let l = length-append r.pushed (f ∷ []) in omega (arith, c, l));
         whole = push_whole r f good.whole;
         ahead = λ c low end. rw first (good.ahead c (omega (arith, low)) (λ t. absurd (true_false q.ended t going)));
-        clear = λ some. rw first (push_clear q good.grouped good.sound going good.clear);
         before = rw first good.before;
+        handed = good.handed;
         each = good.each;
       }
 
   good_end : (r : Run F) → Good r → Good (record { now = after_end r.now; pushed = r.pushed; groups = r.groups })
   good_end r good = record {
+    passes = good.passes;
     grouped = good.grouped;
     sound = sound_end r.now good.sound;
     count = good.count;
     whole = good.whole;
     ahead = λ c low end. good.ahead c low (λ t. end refl);
-    clear = good.clear;
     before = good.before;
+    handed = good.handed;
     each = good.each;
   }
 
@@ -161,16 +146,6 @@ module _ {F : Type 0} where
       ∙ (sym (append_assoc (map picture_of (jobs_in r.groups)) (map picture_of jobs) (rest_of s c (next_first s q.pushed first m)))
       ∙ rw (turn.after, one_more (λ (g : Group F). g.pictures) r.groups (group_of q), map-append picture_of (jobs_in r.groups) jobs) refl))
 
-  next_clear : (q : Queue F) → IsGrouped q.settings → Turn q → 0 < length (after_group q).frames
-      → filter (is_anchor q.settings q.pushed) (frames_between (first_of (after_group q)) (intra_from q.settings (first_of (after_group q)))) ≡ []
-  next_clear q ok turn some =
-      let near = turn.near in
-      let low = turn.low in
-      let m = top_next q (has_next q ok turn some) in
-      rw (turn.after, next_is q ok turn)
-      (subst (λ x. filter (is_anchor q.settings q.pushed) (frames_between (first_next q) x) ≡ []) m
-      (turn_clear q.settings q.pushed (first_of q) (top_of q) (omega (arith, near, low))))
-
   next_before : (r : Run F) → Good r → Turn r.now → anchor_before (first_of (after_group r.now)) ≡ last_anchor None (jobs_in (r.groups ++ group_of r.now ∷ []))
   unfolding group_of
   next_before r good turn =
@@ -194,23 +169,25 @@ module _ {F : Type 0} where
       let q = r.now in
       let same = first_is r good in
       record {
-        intra = turn_intra q.settings q.pushed (first_of q) (top_of q) good.grouped turn.near turn.next (good.clear due.some);
+        intra = turn_intra q.settings q.pushed (first_of q) (top_of q) good.grouped turn.near turn.next (good.sound.clear due.some);
         places = rw (sym same) (group_places q good.sound turn);
         before = good.before;
       }
 
-  good_next : (r : Run F) → Good r → Due r.now
+  good_next : (r : Run F) → Good r → is_due r.now ≡ true
       → Good (record { now = after_group r.now; pushed = r.pushed; groups = r.groups ++ group_of r.now ∷ [] })
-  good_next r good due =
+  good_next r good is =
+      let due = due_is r.now is in
       let turn = turn_is r.now good.grouped good.sound due in
       record {
+        passes = good.passes;
         grouped = good.grouped;
         sound = sound_next r.now good.grouped due turn;
         count = good.count;
         whole = next_whole r good.whole;
         ahead = λ c low end. next_ahead r good due turn c low end;
-        clear = λ some. next_clear r.now good.grouped turn some;
         before = next_before r good turn;
+        handed = All-push (λ (g : Group F). IsGroupOf r.now.settings g) r.groups (group_of r.now) good.handed (group_is r.now good.passes good.sound is);
         each = λ earlier g later e. at_push IsGroup r.groups (group_of r.now) earlier g later e (next_group r good due turn) (λ rest f. good.each earlier g rest f);
       }
 
@@ -221,7 +198,7 @@ module _ {F : Type 0} where
 
   next_step_of : (r : Run F) (b : Bool) → is_due r.now ≡ b → Good r
       → Good (cond b (record { now = after_group r.now; pushed = r.pushed; groups = r.groups ++ group_of r.now ∷ [] }) r)
-  next_step_of r true is good = good_next r good (due_is r.now is)
+  next_step_of r true is good = good_next r good is
   next_step_of r false is good = good
 
   good_call : (r : Run F) (c : Call F) → Good r → Good (call r c)
@@ -274,7 +251,7 @@ module _ {F : Type 0} where
   frames_all s cs = whole_calls cs (begun s) refl
 
   good_all : (s : Settings) (cs : List (Call F)) → Passes s → Good (calls (begun s) cs)
-  good_all s cs passes = good_calls cs (begun s) (good_begun s (grouped s passes))
+  good_all s cs passes = good_calls cs (begun s) (good_begun s passes)
 
   pub coding_begins : (s : Settings) (cs : List (Call F)) (count : ℕ) → Passes s
       → (let r = calls (begun s) cs in length r.pushed ≤ count → (r.now.ended ≡ true → count ≡ length r.pushed)
@@ -308,3 +285,16 @@ module _ {F : Type 0} where
   pub groups_all : (s : Settings) (cs : List (Call F)) → Passes s → (earlier : List (Group F)) (g : Group F) (later : List (Group F))
       → (calls (begun s) cs).groups ≡ earlier ++ g ∷ later → IsGroup earlier g
   groups_all s cs passes = (good_all s cs passes).each
+
+  pub handed_all : (s : Settings) (cs : List (Call F)) → Passes s → All (λ (g : Group F). IsGroupOf s g) (calls (begun s) cs).groups
+  handed_all s cs passes =
+      let same = settings_calls s cs (begun s) refl in
+      subst (λ (t : Settings). All (λ (g : Group F). IsGroupOf t g) (calls (begun s) cs).groups) same (good_all s cs passes).handed
+
+  pub sound_all : (s : Settings) (cs : List (Call F)) → Passes s → IsSoundQueue (calls (begun s) cs).now
+  sound_all s cs passes = (good_all s cs passes).sound
+
+  pub stays_all : (q : Queue F) (more : List F) (ended : Bool) → Passes q.settings → IsSoundQueue q → q.ended ≡ false → is_due q ≡ true
+      → (is_due (followed q more ended) ≡ true) × (group_of (followed q more ended) ≡ group_of q)
+  stays_all q more ended passes sound going is =
+      (due_stays q more ended passes sound going is, group_stays q more ended passes sound going is)

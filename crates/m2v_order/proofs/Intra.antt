@@ -111,6 +111,38 @@ intra_anchor s count i ok is =
     let e : i % s.step ≡ 0 = ap (λ n. n % s.step) product ∙ mod_multiple g s.step (i / g) ok.whole in
     rw (test_zero (i % s.step) e) refl
 
+step_down : (t x : ℕ) → 1 ≤ t → t ≤ x → x % t ≡ 0 → (x - t) % t ≡ 0
+step_down t x pos le e = by (x / t) refl
+  where
+    by : (m : ℕ) → x / t ≡ m → (x - t) % t ≡ 0
+    by zero d =
+        let none : x / t * t ≡ 0 * t = ap (λ n. n * t) d in
+        let sum = mod-add-div' x t in absurd (omega (arith, sum, e, none))
+    by (suc m) d =
+        let some : x / t * t ≡ suc m * t = ap (λ n. n * t) d in
+        let sum = mod-add-div' x t in
+        let down : x - t ≡ m * t = omega (arith, sum, e, some) in
+        ap (λ n. n % t) down ∙ mul-mod_left m t
+
+-- the frame a step before an I frame is an anchor
+pub step_anchor : (s : Settings) (count i : ℕ) → IsGrouped s → s.step ≤ intra_from s i → is_anchor s count (intra_from s i - s.step) ≡ true
+unfolding is_anchor intra_from
+step_anchor s count i ok le =
+    let g = s.group in
+    let k = (i + (g - 1)) / g in
+    let e : k * g % s.step ≡ 0 = mod_multiple g s.step k ok.whole in
+    let down = step_down s.step (k * g) ok.step le e in
+    rw (test_zero ((k * g - s.step) % s.step) down) refl
+
+-- a frame is of one of three types
+pub kind_is : (s : Settings) (count i : ℕ) → (1 ≤ kind_of s count i) × (kind_of s count i ≤ 3)
+kind_is s count i = by_two (is_intra s i) (is_anchor s count i)
+  where
+    by_two : (a b : Bool) → (1 ≤ cond {A = ℕ} a 1 (cond {A = ℕ} b 2 3)) × (cond {A = ℕ} a 1 (cond {A = ℕ} b 2 3) ≤ 3)
+    by_two true b = (omega arith, omega arith)
+    by_two false true = (omega arith, omega arith)
+    by_two false false = (omega arith, omega arith)
+
 -- the last frame is an anchor
 pub last_anchor_is : (s : Settings) (i : ℕ) → is_anchor s (i + 1) i ≡ true
 unfolding is_anchor

@@ -6,3 +6,5 @@ pub mod Pictures
 pub mod Turns
 pub mod Queues
 pub mod Handed
+pub mod Wholes
+pub mod TimesBehind

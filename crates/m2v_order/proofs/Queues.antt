@@ -1,15 +1,17 @@
 -- A reorder's state along its calls.
-use Rattle.std.proofs.Common.{◌≡◌, ℕ, ◌+◌, ◌-◌, ◌<◌, ◌≤◌, Bool, true, false, ltb, [], ◌∷◌, length, take, min, refl, sym, ap, ◌∙◌, arith, ⊎_elim, length-append, inl, inr}
-use Rattle.std.specs.Prelude.{All, ◌⊎◌, ◌||◌}
+use Rattle.std.proofs.Common.{◌≡◌, ℕ, ◌+◌, ◌-◌, ◌<◌, ◌≤◌, Bool, true, false, ltb, [], ◌∷◌, length, take, min, refl, sym, ap, subst, ◌∙◌, arith, ⊎_elim, length-append, inl, inr}
+use Rattle.std.specs.Prelude.{All, ◌⊎◌, ◌||◌, filter}
 use Rattle.std.proofs.lemmas.Bool.{cases_lt, and_parts, ltb-true}
 use Rattle.std.proofs.lemmas.List.{length-drop, length-take-le}
 use Rattle.m2v_set.specs.declared.settings.Settings.{Settings}
 use Rattle.m2v_set.specs.Rules.{Passes}
 use Rattle.m2v_set.proofs.Facts.{bounds}
 use Rattle.m2v_order.specs.declared.jobs.PictureJob.{PictureJob}
-use Rattle.m2v_order.specs.Groups.{Queue, opening, first_of, intra_from, next_intra, is_due, group_size, group_of, after_push, after_end, after_group, IsSound}
-use Rattle.m2v_order.proofs.Intra.{IsGrouped, intra_low, intra_next, intra_first}
-use Rattle.m2v_order.proofs.Turns.{next_first, turn_high, turn_past, turn_all, turn_places}
+use Rattle.m2v_order.specs.Groups.{Queue, opening, first_of, intra_from, next_intra, is_due, group_size, group_of, after_push, after_end, after_group, IsSoundQueue}
+use Rattle.m2v_order.specs.Coding.{is_anchor, frames_between}
+use Rattle.m2v_order.proofs.Anchors.{filter_same}
+use Rattle.m2v_order.proofs.Intra.{IsGrouped, intra_low, intra_next, intra_first, same_anchor}
+use Rattle.m2v_order.proofs.Turns.{next_first, turn_high, turn_past, turn_all, turn_places, turn_clear}
 
 pub grouped : (s : Settings) → Passes s → IsGrouped s
 grouped s passes =
@@ -20,10 +22,10 @@ pub true_false : (b : Bool) → b ≡ true → b ≡ false → ⊥
 true_false b t f = let e : true ≡ false = sym t ∙ f in cc
 
 module _ {F : Type 0} where
-  pub sound_opening : (s : Settings) → (let q : Queue F = opening s in IsSound q)
-  sound_opening s = record { room = omega arith; near = λ some. absurd (omega arith); none = λ none going. refl }
+  pub sound_opening : (s : Settings) → (let q : Queue F = opening s in IsSoundQueue q)
+  sound_opening s = record { room = omega arith; near = λ some. absurd (omega arith); clear = λ some. absurd (omega arith); none = λ none going. refl }
 
-  pub push_near : (q : Queue F) → IsGrouped q.settings → IsSound q → q.ended ≡ false → intra_from q.settings (first_of q) < q.pushed + 1
+  pub push_near : (q : Queue F) → IsGrouped q.settings → IsSoundQueue q → q.ended ≡ false → intra_from q.settings (first_of q) < q.pushed + 1
   push_near q ok sound going =
       ⊎_elim
       (λ (some : 0 < length q.frames). let near = sound.near some in omega (arith, near))
@@ -33,24 +35,43 @@ module _ {F : Type 0} where
       rw (first, intra_first q.settings ok) (omega arith))
       (cases_lt 0 (length q.frames))
 
-  pub push_first : (q : Queue F) (f : F) → IsSound q → first_of (after_push q f) ≡ first_of q
+  pub push_first : (q : Queue F) (f : F) → IsSoundQueue q → first_of (after_push q f) ≡ first_of q
   push_first q f sound =
       let room = sound.room in
       let one = length-append q.frames (f ∷ []) in
       omega (arith, room, one)
 
-  pub sound_push : (q : Queue F) (f : F) → IsGrouped q.settings → IsSound q → q.ended ≡ false → IsSound (after_push q f)
+  push_clear : (q : Queue F) → IsGrouped q.settings → IsSoundQueue q → q.ended ≡ false
+      → filter (is_anchor q.settings (q.pushed + 1)) (frames_between (first_of q) (intra_from q.settings (first_of q))) ≡ []
+  push_clear q ok sound going =
+      let s = q.settings in
+      let first = first_of q in
+      ⊎_elim
+      (λ (some : 0 < length q.frames).
+      let near = sound.near some in
+      let low = intra_low s first ok in
+      filter_same (is_anchor s (q.pushed + 1)) (is_anchor s q.pushed) first (intra_from s first - first)
+      (λ i l h. same_anchor s (q.pushed + 1) q.pushed i (omega (arith, near, low, l, h)) (omega (arith, near, low, l, h)))
+      ∙ sound.clear some)
+      (λ (few : length q.frames ≤ 0).
+      let none = sound.none (omega (arith, few)) going in
+      let e : first_of q ≡ 0 = omega (arith, none) in
+      rw (e, intra_first s ok) refl)
+      (cases_lt 0 (length q.frames))
+
+  pub sound_push : (q : Queue F) (f : F) → IsGrouped q.settings → IsSoundQueue q → q.ended ≡ false → IsSoundQueue (after_push q f)
   sound_push q f ok sound going =
       let room = sound.room in
       let one = length-append q.frames (f ∷ []) in
       record {
         room = omega (arith, room, one);
         near = λ some. rw (push_first q f sound) (push_near q ok sound going);
+        clear = λ some. rw (push_first q f sound) (push_clear q ok sound going);
         none = λ none o. absurd (omega (arith, none, one));
       }
 
-  pub sound_end : (q : Queue F) → IsSound q → IsSound (after_end q)
-  sound_end q sound = record { room = sound.room; near = sound.near; none = λ none going. absurd (true_false true refl going) }
+  pub sound_end : (q : Queue F) → IsSoundQueue q → IsSoundQueue (after_end q)
+  sound_end q sound = record { room = sound.room; near = sound.near; clear = sound.clear; none = λ none going. absurd (true_false true refl going) }
 
   -- the frames below which the next group's anchors stand
   abbrev pub top_of : Queue F → ℕ
@@ -86,7 +107,7 @@ module _ {F : Type 0} where
     pub after : first_of (after_group q) ≡ first_next q
     pub left : length (after_group q).frames + first_next q ≡ q.pushed
 
-  pub turn_is : (q : Queue F) → IsGrouped q.settings → IsSound q → Due q → Turn q
+  pub turn_is : (q : Queue F) → IsGrouped q.settings → IsSoundQueue q → Due q → Turn q
   turn_is q ok sound due =
       let first = first_of q in
       let m = top_of q in
@@ -150,16 +171,27 @@ module _ {F : Type 0} where
       omega (arith, next, high, left, none, before))
       due.next
 
-  pub sound_next : (q : Queue F) → IsGrouped q.settings → Due q → Turn q → IsSound (after_group q)
+  next_clear : (q : Queue F) → IsGrouped q.settings → Turn q → 0 < length (after_group q).frames
+      → filter (is_anchor q.settings q.pushed) (frames_between (first_of (after_group q)) (intra_from q.settings (first_of (after_group q)))) ≡ []
+  next_clear q ok turn some =
+      let near = turn.near in
+      let low = turn.low in
+      let m = top_next q (has_next q ok turn some) in
+      rw (turn.after, next_is q ok turn)
+      (subst (λ x. filter (is_anchor q.settings q.pushed) (frames_between (first_next q) x) ≡ []) m
+      (turn_clear q.settings q.pushed (first_of q) (top_of q) (omega (arith, near, low))))
+
+  pub sound_next : (q : Queue F) → IsGrouped q.settings → Due q → Turn q → IsSoundQueue (after_group q)
   sound_next q ok due turn =
       let left = turn.left in
       record {
         room = omega (arith, left);
         near = λ some. rw (turn.after, next_is q ok turn) (has_next q ok turn some);
+        clear = λ some. next_clear q ok turn some;
         none = λ none going. absurd (none_left q due turn none going);
       }
 
-  group_length : (q : Queue F) → IsSound q → Turn q → length (take (group_size q) q.frames) ≡ first_next q - first_of q
+  pub group_length : (q : Queue F) → IsSoundQueue q → Turn q → length (take (group_size q) q.frames) ≡ first_next q - first_of q
   group_length q sound turn =
       let room = sound.room in
       let high = turn.high in
@@ -167,7 +199,7 @@ module _ {F : Type 0} where
       length-take-le (group_size q) q.frames (omega (arith, room, high, top))
 
   -- a group has a frame, and each of its pictures has its frame among the group's
-  pub group_some : (q : Queue F) → IsSound q → Turn q → 0 < length (group_of q).frames
+  pub group_some : (q : Queue F) → IsSoundQueue q → Turn q → 0 < length (group_of q).frames
   unfolding group_of
   group_some q sound turn =
       let size = group_length q sound turn in
@@ -175,7 +207,7 @@ module _ {F : Type 0} where
       let low = turn.low in
       omega (arith, size, past, low)
 
-  pub group_places : (q : Queue F) → IsSound q → Turn q
+  pub group_places : (q : Queue F) → IsSoundQueue q → Turn q
       → All (λ (j : PictureJob). (j.display ≡ first_of q + j.frame) × (j.frame < length (group_of q).frames)) (group_of q).pictures
   unfolding group_of
   group_places q sound turn =

@@ -82,9 +82,14 @@ after_end q = record q { ended = true }
 abbrev pub after_group : {F : Type 0} → Queue F → Queue F
 after_group q = record q { frames = drop (group_size q) q.frames }
 
+-- frames follow, and perhaps the end
+abbrev pub followed : {F : Type 0} → Queue F → List F → Bool → Queue F
+followed q more ended = record q { pushed = q.pushed + length more; frames = q.frames ++ more; ended = ended }
+
 -- what a reorder keeps: it holds no more frames than were pushed; where it holds some, the I frame of the next group is
--- among them; and it holds none only before the first frame or after the end
-pub record IsSound {F : Type 0} (q : Queue F) : Type 0 where
+-- among them, and no anchor before it; and it holds none only before the first frame or after the end
+pub record IsSoundQueue {F : Type 0} (q : Queue F) : Type 0 where
   pub room : length q.frames ≤ q.pushed
   pub near : 0 < length q.frames → intra_from q.settings (first_of q) < q.pushed
+  pub clear : 0 < length q.frames → anchors_between q.settings q.pushed (first_of q) (intra_from q.settings (first_of q)) ≡ []
   pub none : length q.frames ≡ 0 → q.ended ≡ false → q.pushed ≡ 0

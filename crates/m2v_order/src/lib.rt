@@ -8,11 +8,13 @@ mod laws;
 mod reorder;
 #[cfg(test)]
 mod tests;
+mod times;
 
 pub use display::DisplayQueue;
 pub use jobs::{GroupJobs, PictureJob};
 pub use laws::{law_display, law_groups};
 pub use reorder::Reorder;
+pub use times::{intervals, repeat_first_field, top_field_first};
 
 /// Want of memory.
 pub type Memory = std::alloc::AllocError;

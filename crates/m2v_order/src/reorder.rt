@@ -3,6 +3,7 @@ ghost use Rattle.m2v_plane.specs.Samples.{Samples};
 ghost use Rattle.m2v_set.specs.Numbers.{dims_of};
 ghost use Rattle.m2v_order.specs.declared.jobs.PictureJob.{PictureJob};
 ghost use Rattle.m2v_order.specs.Groups.{opening, first_of, next_intra, is_due, group_of, after_push, after_end, after_group};
+ghost use Rattle.m2v_order.specs.Whole.{IsGroupOf, handed};
 
 use crate::Memory;
 use crate::coding::{group_pictures, intra_at};
@@ -30,13 +31,13 @@ impl Model for Reorder {
     ghost use Rattle.std.specs.Prelude.{◌≡◌, ◌<◌, All};
     ghost use Rattle.m2v_plane.specs.Samples.{Samples};
     ghost use Rattle.m2v_set.specs.Numbers.{dims_of};
-    ghost use Rattle.m2v_order.specs.Groups.{Queue, IsSound};
+    ghost use Rattle.m2v_order.specs.Groups.{Queue, IsSoundQueue};
 
     ghost Value = { Queue Samples };
 
     ghost view = { λ r. record { settings = r.passed; pushed = r.pushed; frames = r.frames.items; ended = r.ended } };
 
-    ghost invariant = { λ r. IsSound (record { settings = r.passed; pushed = r.pushed; frames = r.frames.items; ended = r.ended }) × (r.pushed < 1000000) × All (λ (f : Samples). f.dims ≡ dims_of r.passed) r.frames.items };
+    ghost invariant = { λ r. IsSoundQueue (record { settings = r.passed; pushed = r.pushed; frames = r.frames.items; ended = r.ended }) × (r.pushed < 1000000) × All (λ (f : Samples). f.dims ≡ dims_of r.passed) r.frames.items };
 }
 
 impl Reorder {
@@ -86,6 +87,7 @@ impl Reorder {
         ensures frames { IfOk result (λ o. IfSome o (λ g. g.frames.items ≡ (group_of self.old).frames)) }
         ensures pictures { IfOk result (λ o. IfSome o (λ g. g.pictures.items ≡ (group_of self.old).pictures)) }
         ensures before { IfOk result (λ o. IfSome o (λ g. g.before ≡ (group_of self.old).before)) }
+        ensures group { IfOk result (λ o. IfSome o (λ g. IsGroupOf self.old.settings (handed g))) }
         ensures nonempty { IfOk result (λ o. IfSome o (λ g. 0 < length g.frames.items)) }
         ensures places { IfOk result (λ o. IfSome o (λ g. All (λ (j : PictureJob). (j.display ≡ first_of self.old + j.frame) × (j.frame < length g.frames.items)) g.pictures.items)) }
         ensures size { IfOk result (λ o. IfSome o (λ g. All (λ (f : Samples). f.dims ≡ dims_of self.old.settings) g.frames.items)) }

@@ -1,6 +1,9 @@
-ghost use Rattle.std.specs.Prelude.{◌≤◌};
+ghost use Rattle.std.specs.Prelude.{◌≡◌, ◌≤◌};
 
-use crate::{DisplayQueue, GroupJobs, Memory, Reorder};
+use crate::{
+    DisplayQueue, GroupJobs, Memory, PictureJob, Reorder, intervals, repeat_first_field,
+    top_field_first,
+};
 use m2v_plane::{Dims, Frame, Lines, Plane, RefView};
 use m2v_set::{Level, Scan, Settings};
 use std::alloc::Global;
@@ -51,6 +54,18 @@ fn tell(text: &mut String, group: &GroupJobs) -> Result<(), Memory> {
     Ok(())
 }
 
+/// Appends the next group, where one is due.
+fn tell_next(alloc: Global, reorder: &mut Reorder, text: &mut String) -> Result<(), Memory>
+    ensures settings { reorder.new.settings ≡ reorder.old.settings }
+    ensures pushed { reorder.new.pushed ≡ reorder.old.pushed }
+    ensures ended { reorder.new.ended ≡ reorder.old.ended }
+{
+    if let Some(group) = reorder.next_group(alloc)? {
+        tell(text, &group)?;
+    }
+    Ok(())
+}
+
 /// The groups of so many frames, each handed out as soon as it can be.
 fn told(alloc: Global, settings: &Settings, count: u32) -> Result<String, Fail>
     requires few { count ≤ 100 }
@@ -63,15 +78,11 @@ fn told(alloc: Global, settings: &Settings, count: u32) -> Result<String, Fail>
         if let Err((_, memory)) = reorder.push(alloc, frame) {
             return Err(memory.into());
         }
-        if let Some(group) = reorder.next_group(alloc)? {
-            tell(&mut text, &group)?;
-        }
+        tell_next(alloc, &mut reorder, &mut text)?;
     }
     reorder.end();
     for _ in 0..count {
-        if let Some(group) = reorder.next_group(alloc)? {
-            tell(&mut text, &group)?;
-        }
+        tell_next(alloc, &mut reorder, &mut text)?;
     }
     Ok(text)
 }
@@ -158,5 +169,43 @@ fn an_anchor_is_shown_when_the_next_one_comes(rt: HostRuntime) -> Result<(), Fai
 fn with_low_delay_each_frame_is_shown_at_once(rt: HostRuntime) -> Result<(), Fail> {
     let text = shown(rt.alloc(), true)?;
     assert_eq!(rt; text.as_str(), "0 3 1 2 5 4 - - ");
+    Ok(())
+}
+
+/// The times behind the pictures of three film frames, of which the third is coded before the second, and whether each frame
+/// begins with its top field and repeats one.
+fn film(alloc: Global) -> Result<(Vec<u64>, [(bool, bool); 4]), Fail> {
+    let settings = Settings {
+        height: 32,
+        rate_code: 4,
+        scan: Scan::Frames,
+        pulldown: true,
+        ..usual()
+    };
+    let passed = settings.test()?;
+    let picture = |display: u64, kind: u8| PictureJob {
+        frame: 0,
+        display,
+        kind,
+        structure: 3,
+    };
+    let pictures = [picture(0, 1), picture(2, 2), picture(1, 3), picture(3, 2)];
+    let times = intervals(alloc, &passed, None, &pictures)?;
+    let fields = |display: u64| {
+        (
+            top_field_first(&settings, display),
+            repeat_first_field(&settings, display),
+        )
+    };
+    Ok((times, [fields(0), fields(1), fields(2), fields(3)]))
+}
+
+#[test]
+fn film_frames_are_shown_for_three_and_two_fields(rt: HostRuntime) -> Result<(), Fail> {
+    let (times, fields) = film(rt.alloc())?;
+    let shown = [24_024, 36_036, 24_024, 36_036];
+    assert_eq!(rt; times.as_slice(), shown.as_slice());
+    let want = [(true, true), (false, false), (false, true), (true, false)];
+    assert_eq!(rt; fields, want);
     Ok(())
 }

@@ -4,13 +4,13 @@ use Rattle.std.proofs.Math.Nat.{mul-le-mul_left}
 use Rattle.m2v_set.specs.declared.settings.Settings.{Settings}
 use Rattle.m2v_set.specs.declared.settings.Scan.{Scan}
 use Rattle.m2v_set.specs.declared.settings.Scan.TheVariants.{Frames}
-use Rattle.m2v_set.specs.Numbers.{buffer_bits, least_of, interval_of, field_time, film_time, picture_time, arrival_of, longest_interval_of, longest_of}
+use Rattle.m2v_set.specs.Numbers.{buffer_bits, least_of, interval_of, field_time, film_time, picture_time, arrival_of, longest_interval_of, longest_of, IsInterval}
 use Rattle.m2v_set.specs.Bounds.{Bounds}
 use Rattle.m2v_set.proofs.Facts.{bounds}
 use Rattle.m2v_vbv.specs.Annex.{Start}
 use Rattle.m2v_vbv.specs.Account.{stuffing_of}
 use Rattle.m2v_rate.specs.Plans.{Entries, income, account_at, first_open, low_behind, mean_behind, Low}
-use Rattle.m2v_rate.specs.Steady.{IsInterval, IsBegun, IsSteady, IsHeld}
+use Rattle.m2v_rate.specs.Steady.{IsBegun, IsSteady, IsHeld}
 
 -- ---- one removal, in numbers: what is held, what arrives, the picture's size, its cap, the buffer
 

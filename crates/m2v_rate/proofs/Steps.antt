@@ -3,12 +3,12 @@ use Rattle.std.proofs.Common.{◌≡◌, ℕ, zero, suc, ◌+◌, ◌-◌, ◌*�
 use Rattle.m2v_set.specs.declared.settings.Settings.{Settings}
 use Rattle.m2v_set.specs.declared.settings.Scan.{Scan}
 use Rattle.m2v_set.specs.declared.settings.Scan.TheVariants.{Progressive, Frames, Fields}
-use Rattle.m2v_set.specs.Numbers.{buffer_bits, least_of, field_units, field_time, film_time, picture_time, interval_of, longest_interval_of}
+use Rattle.m2v_set.specs.Numbers.{buffer_bits, least_of, field_units, field_time, film_time, picture_time, interval_of, longest_interval_of, IsInterval}
 use Rattle.m2v_vbv.specs.Account.{State}
 use Rattle.m2v_rate.specs.declared.values.Plan.{Plan}
 use Rattle.m2v_rate.specs.declared.values.Known.{Known}
 use Rattle.m2v_rate.specs.Plans.{Entries, income, removed, account_at, first_open, low_behind, mean_behind, Low, last_of, last_known, target_of, quantiser_by, plan_of}
-use Rattle.m2v_rate.specs.Steady.{IsInterval, IsSteady, IsLedger}
+use Rattle.m2v_rate.specs.Steady.{IsSteady, IsLedger}
 use Rattle.m2v_rate.proofs.Lows.{removals_at, rate_at, buffer_at, gain_high, held_most, size_whole}
 use Rattle.m2v_rate.proofs.Targets.{buffer_small}
 

@@ -6,7 +6,7 @@ use Rattle.std.proofs.lemmas.List.Elements.{All-map}
 use Rattle.std.proofs.lemmas.List.FromFn.{map-range_with_len_more}
 use Rattle.std.proofs.lemmas.List.Sums.{sum_by-append, sum_by-cons}
 use Rattle.m2v_set.specs.declared.settings.Settings.{Settings}
-use Rattle.m2v_set.specs.Numbers.{buffer_bits, least_of}
+use Rattle.m2v_set.specs.Numbers.{buffer_bits, least_of, IsInterval}
 use Rattle.m2v_set.specs.Rules.{Passes}
 use Rattle.m2v_set.proofs.Facts.{bounds}
 use Rattle.m2v_vbv.specs.Annex.{Start, Removal, removed, held_endless, Safe}
@@ -14,7 +14,7 @@ use Rattle.m2v_vbv.specs.Account.{State, after, stuffing_of, arriving, account_o
 use Rattle.m2v_vbv.proofs.Sums.{Exact, account_push, exact_push, exact_none, opening_is}
 use Rattle.m2v_rate.specs.declared.values.Plan.{Plan}
 use Rattle.m2v_rate.specs.Plans.{Entries, income, account_at, first_open, Low, plan_of, target_of, fresh}
-use Rattle.m2v_rate.specs.Steady.{IsInterval, IsBegun, IsSteady}
+use Rattle.m2v_rate.specs.Steady.{IsBegun, IsSteady}
 use Rattle.m2v_rate.specs.Safety.{Picture, closed, IsCoded, AreCoded, removal_at, ending_at, group_removals, removals, after_groups, sent, Keeps}
 use Rattle.m2v_rate.proofs.Lows.{rate_at, buffer_at, gain_high, held_least, held_most, held_tight, left_whole, low_least, low_below, cap_held, size_whole}
 use Rattle.m2v_rate.proofs.Keeps.{cap_low, cap_is, cap_least}

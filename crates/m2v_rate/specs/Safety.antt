@@ -1,12 +1,11 @@
 -- A coded stream as its buffer's account sees it: groups of pictures, each with its size and its plan.
 use Rattle.std.specs.Prelude.{ℕ, ◌≡◌, ◌+◌, ◌-◌, ◌*◌, ◌≤◌, ◌<◌, List, [], ◌∷◌, ◌++◌, All, length, map, slice_index, slice_index_or}
 use Rattle.std.specs.List.{range_with_len}
-use Rattle.m2v_set.specs.Numbers.{buffer_bits, least_of}
+use Rattle.m2v_set.specs.Numbers.{buffer_bits, least_of, IsInterval}
 use Rattle.m2v_vbv.specs.Annex.{Removal}
 use Rattle.m2v_vbv.specs.Account.{stuffing_of}
 use Rattle.m2v_rate.specs.declared.values.Plan.{Plan}
 use Rattle.m2v_rate.specs.Plans.{Entries, account_at, Low, plan_of, begun}
-use Rattle.m2v_rate.specs.Steady.{IsInterval}
 
 -- a picture: its type, the time behind it, its bits with its headers, without the zero bytes and an end code behind it,
 -- and its plan

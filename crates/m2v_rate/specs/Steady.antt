@@ -1,14 +1,8 @@
 -- What holds of a ledger whatever is told to it, for settings that pass.
-use Rattle.std.specs.Prelude.{ℕ, ◌≡◌, ◌+◌, ◌-◌, ◌*◌, ◌≤◌, ◌<◌, ◌^◌, ◌⊎◌, All, length, slice_index}
-use Rattle.m2v_set.specs.declared.settings.Settings.{Settings}
-use Rattle.m2v_set.specs.Numbers.{buffer_bits, least_of, interval_of, longest_interval_of}
+use Rattle.std.specs.Prelude.{ℕ, ◌≡◌, ◌+◌, ◌-◌, ◌*◌, ◌≤◌, ◌<◌, ◌^◌, All, length, slice_index}
+use Rattle.m2v_set.specs.Numbers.{buffer_bits, least_of, IsInterval}
 use Rattle.m2v_set.specs.Rules.{Passes}
 use Rattle.m2v_rate.specs.Plans.{Entries, low_behind, mean_behind, Low}
-
--- the time behind a picture: that of a picture, or the longest, which with pulldown is that of a frame shown for three
--- fields
-abbrev pub IsInterval : Settings → ℕ → Type 0
-IsInterval s units = (units ≡ interval_of s) ⊎ (units ≡ longest_interval_of s)
 
 -- the type of a picture: 1 for I, 2 for P, 3 for B
 abbrev pub IsKind : ℕ → Type 0

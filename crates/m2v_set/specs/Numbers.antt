@@ -1,5 +1,5 @@
 -- The numbers that settings stand for.
-use Rattle.std.specs.Prelude.{ℕ, ◌+◌, ◌-◌, ◌*◌, ◌/◌, List, [], ◌∷◌, slice_index, if◌then◌else◌, unwrap_or}
+use Rattle.std.specs.Prelude.{ℕ, ◌≡◌, ◌⊎◌, ◌+◌, ◌-◌, ◌*◌, ◌/◌, List, [], ◌∷◌, slice_index, if◌then◌else◌, unwrap_or}
 use Rattle.m2v_plane.specs.declared.dims.Dims.{Dims}
 use Rattle.m2v_set.specs.declared.settings.Scan.{Scan}
 use Rattle.m2v_set.specs.declared.settings.Scan.TheVariants.{Progressive, Frames, Fields}
@@ -35,6 +35,11 @@ interval_of s = picture_time s.scan s.rate_code
 -- the longest time from one picture to the next: with pulldown a picture may be shown for three fields
 unfoldable pub longest_interval_of : Settings → ℕ
 longest_interval_of s = if s.pulldown then film_time s.rate_code else interval_of s
+
+-- the time behind a picture: that of a picture, or the longest, which with pulldown is that of a frame shown for three
+-- fields
+abbrev pub IsInterval : Settings → ℕ → Type 0
+IsInterval s units = (units ≡ interval_of s) ⊎ (units ≡ longest_interval_of s)
 
 -- what arrives in an interval, in units of 1/1800 bit: the rate is a multiple of 400 bit/s
 unfoldable pub arrival_of : Settings → ℕ

@@ -1,5 +1,5 @@
 pub mod Benches
 pub mod Idle
+pub mod Pair
 pub mod Pieces
-pub mod Trio
 pub mod Works

@@ -1,7 +1,7 @@
 // The books of the tests.
 ghost use Rattle.std.specs.Prelude.{◌≡◌};
 ghost use Rattle.m2v_core.specs.Chain.{chain_needs, chain_value, chain_below, chain_few};
-ghost use Rattle.m2v_wave.specs.Trio.{trio_needs, trio_value, trio_learned, trio_below, trio_few};
+ghost use Rattle.m2v_wave.specs.Pair.{pair_needs, pair_value, pair_below, pair_few};
 
 use m2v_core::{JobBook, Memory, NeedList};
 use std::alloc::Global;
@@ -77,30 +77,27 @@ impl JobBook for Chain {
     }
 }
 
-// Job j needs the three jobs before it, as far as they exist, and its value is j plus the values of its needs, below 1,000,003.
-#[derive(Drop)]
-pub(crate) struct Trio {
-    pub(crate) jobs: u32,
-}
+// Two jobs that need none. The value of job j is 3 j + 5, and so is the number that a gate is told.
+pub(crate) struct Pair;
 
-impl JobBook for Trio {
+impl JobBook for Pair {
     type Piece = u64;
 
     type Shared = u64;
 
-    type Cache = (u64, u64, u64);
+    type Cache = u64;
 
-    ghost jobs = { λ b. b.jobs };
+    ghost jobs = { λ _. 2 };
 
-    ghost needs = { λ _. trio_needs };
+    ghost needs = { λ _. pair_needs };
 
-    ghost value = { λ _. trio_value };
+    ghost value = { λ _. pair_value };
 
-    ghost shared = { λ _. trio_value };
+    ghost shared = { λ _. pair_value };
 
-    ghost told = { λ _ _. 0 };
+    ghost told = { λ _. pair_value };
 
-    ghost learned = { λ _ _. trio_learned };
+    ghost learned = { λ _ _ _ part _. part };
 
     ghost fits_piece = { λ _ _ _. Unit {0} };
 
@@ -108,29 +105,15 @@ impl JobBook for Trio {
 
     ghost fits_cache = { λ _ _. Unit {0} };
 
-    ghost needs_are_below = { λ _ j _. trio_below j };
+    ghost needs_are_below = { λ _ j _. pair_below j };
 
-    ghost needs_are_few = { λ _ j _. trio_few j };
+    ghost needs_are_few = { λ _ j _. pair_few j };
 
     fn jobs(&self) -> u32 {
-        self.jobs
+        2
     }
 
-    fn needs(&self, j: u32, out: &mut NeedList) {
-        match j {
-            0 => {}
-            1 => out.push(0),
-            2 => {
-                out.push(0);
-                out.push(1);
-            }
-            _ => {
-                out.push(j - 3);
-                out.push(j - 2);
-                out.push(j - 1);
-            }
-        }
-    }
+    fn needs(&self, _j: u32, _out: &mut NeedList) {}
 
     fn blank_piece(&self, _alloc: Global, _j: u32) -> Result<u64, Memory> {
         Ok(0)
@@ -140,31 +123,23 @@ impl JobBook for Trio {
         Ok(0)
     }
 
-    fn blank_cache(&self, _alloc: Global) -> Result<(u64, u64, u64), Memory> {
-        Ok((7, 8, 9))
+    fn blank_cache(&self, _alloc: Global) -> Result<u64, Memory> {
+        Ok(0)
     }
 
-    fn work(&self, j: u32, cache: &(u64, u64, u64), out: &mut u64) {
-        *out = if j == 0 {
-            0
-        } else {
-            (j as u64 + cache.0 + cache.1 + cache.2) % 1_000_003
-        };
+    fn work(&self, j: u32, _cache: &u64, out: &mut u64) {
+        *out = 3 * u64::from(j) + 5;
     }
 
     fn share(&self, _j: u32, piece: &u64, into: &mut u64) {
         *into = *piece;
     }
 
-    fn learn(&self, _j: u32, at: u32, part: &u64, cache: &mut (u64, u64, u64)) {
-        *cache = if at == 0 {
-            (*part, 0, 0)
-        } else {
-            (*part, cache.0, cache.1)
-        };
+    fn learn(&self, _j: u32, _at: u32, part: &u64, cache: &mut u64) {
+        *cache = *part;
     }
 
-    fn tell(&self, _j: u32, _part: &u64) -> u64 {
-        0
+    fn tell(&self, _j: u32, part: &u64) -> u64 {
+        *part
     }
 }

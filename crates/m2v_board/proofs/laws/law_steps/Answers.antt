@@ -1,5 +1,5 @@
 use Rattle.std.proofs.Common.{refl, arith}
-use Rattle.m2v_board.proofs.Events.{opening_shown, claim_shown, raise_shown, lent_shown, split_shown, join_shown}
+use Rattle.m2v_board.proofs.Events.{opening_shown, claim_shown, claim_answered, raise_shown, lent_shown, split_shown, join_shown}
 use Rattle.m2v_board.proofs.laws.law_steps.Goals as goal
 
 pub returns-clause-make : goal.returns-clause-make
@@ -7,6 +7,9 @@ returns-clause-make g c = λ book n w. opening_shown n w (g.B.JobBook.value book
 
 pub returns-clause-claim : goal.returns-clause-claim
 returns-clause-claim g c = λ book n w s i v h at. claim_shown _ (g.B.JobBook.value book) s h i v at
+
+pub returns-clause-claim_answer : goal.returns-clause-claim_answer
+returns-clause-claim_answer g c = λ book n w s i v h at. claim_answered _ (g.B.JobBook.value book) s h i v at
 
 pub returns-clause-raise : goal.returns-clause-raise
 returns-clause-raise g c = λ book n w s i v j h at lt more learned. raise_shown _ (g.B.JobBook.value book) s h j 1 lt (λ e. omega arith) i v at more learned

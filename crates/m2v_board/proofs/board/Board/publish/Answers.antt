@@ -26,6 +26,14 @@ store-requires g c =
       raise_at _ _ _ c.bring.new.seat.me _ _ _ c.exchange.ensures.3 (rw same old.stands) lt (rw same more) (rw same c.requires.learned) (c.args.post, refl, c.requires.ready),
     )
 
+pub wake_all-requires : goal.wake_all-requires
+wake_all-requires g c =
+    let old = c.args.pass.now in
+    let n = old.seat.me.0.jobs in
+    let there = rw old.order at (slot_there c.args.pass.now.seat.me.1 c.args.j None c.requires.taken) in
+    let lt = rw c.requires.pass.1 at (open_below n c.args.j _ _ _ (old.tally c.args.j) there) in
+    omega (arith, lt, c.args.self.now.sized.0, c.args.self.now.sized.2)
+
 pub invariant_of-pass : goal.invariant_of-pass
 invariant_of-pass g c =
     let old = c.args.pass.now in

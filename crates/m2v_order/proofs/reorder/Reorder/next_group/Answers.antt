@@ -1,9 +1,10 @@
-use Rattle.std.proofs.Common.{◌≡◌, drop, sym, rules}
+use Rattle.std.proofs.Common.{◌≡◌, true, drop, sym, rules}
 use Rattle.std.proofs.lemmas.List.Elements.{All-drop}
 use Rattle.m2v_plane.specs.Samples.{Samples}
 use Rattle.m2v_set.specs.Numbers.{dims_of}
-use Rattle.m2v_order.specs.Groups.{Queue, group_of, group_size}
+use Rattle.m2v_order.specs.Groups.{Queue, anchor_before, is_due, group_of, group_size}
 use Rattle.m2v_order.proofs.Queues.{grouped, due_is, turn_is, sound_next, group_some, group_places}
+use Rattle.m2v_order.proofs.Wholes.{group_is}
 use Rattle.m2v_order.proofs.reorder.Reorder.next_group.Goals as goal
 
 pub returns-clause-nonempty : goal.returns-clause-nonempty
@@ -43,3 +44,14 @@ invariant_of-self-2 c =
       c.self.invariant.1,
       All-drop (λ (f : Samples). f.dims ≡ dims_of fields.passed) (group_size q) fields.frames.items c.self.invariant.2,
     )
+
+pub returns-clause-group : goal.returns-clause-group
+unfolding group_of anchor_before
+returns-clause-group c =
+    let fields = c.self.inside in
+    let q : Queue Samples = record { settings = fields.passed; pushed = fields.pushed; frames = fields.frames.items; ended = fields.ended } in
+    let is : is_due q ≡ true = rw (← c.self.view_is) at (sym c.if-not-is_due.ensures.value) in
+    let frames : c.replace-frames.result.items ≡ (group_of q).frames = search rules in
+    let pictures : c.in_ok-pictures.pictures.items ≡ (group_of q).pictures = search rules in
+    let before : c.checked_sub.result ≡ (group_of q).before = search rules in
+    rw (← c.self.view_is, frames, pictures, before) (group_is q c.settings-settings.ensures.passes c.self.invariant.0 is)
