@@ -84,11 +84,11 @@ fn dc(input: &mut BitReader, luma: bool, precision: u8, predictor: i32) -> Resul
 fn placed<'a>(
     input: &mut BitReader<'a>,
     start: &BitReader<'a>,
-    filled: u8,
+    filled: usize,
     run: u8,
     level: i32,
     out: &mut Levels,
-) -> Result<(bool, u8), BlockFault>
+) -> Result<(bool, usize), BlockFault>
     requires filled { filled ≤ 64 }
     requires run { run < 64 }
     requires level { IsLevel level }
@@ -100,9 +100,9 @@ fn placed<'a>(
     ensures dc { 0 < filled → slice_index_or out.new.at 0 (pos 0) ≡ slice_index_or out.old.at 0 (pos 0) }
     ensures levels { All IsLevel out.new.at }
 {
-    let at = filled + run;
+    let at = filled + run as usize;
     check(input, start, at < 64, Overrun)?;
-    out.at[at as usize] = level;
+    out.at[at] = level;
     Ok((true, at + 1))
 }
 
@@ -153,10 +153,10 @@ fn code(input: &mut BitReader, first: bool, one: bool) -> Result<Coefficient, Bl
 fn coefficient<'a>(
     input: &mut BitReader<'a>,
     start: &BitReader<'a>,
-    filled: u8,
+    filled: usize,
     c: Coefficient,
     out: &mut Levels,
-) -> Result<(bool, u8), BlockFault>
+) -> Result<(bool, usize), BlockFault>
     requires filled { filled ≤ 64 }
     requires range { IsCoefficient c }
     requires text { start.now.text ≡ input.old.text }
@@ -188,9 +188,9 @@ fn coefficient<'a>(
 fn pair(
     input: &mut BitReader,
     one: bool,
-    filled: u8,
+    filled: usize,
     out: &mut Levels,
-) -> Result<(bool, u8), BlockFault>
+) -> Result<(bool, usize), BlockFault>
     requires filled { filled ≤ 64 }
     requires levels { All IsLevel out.old.at }
     ensures exact { GivesScan result out.new.at input.new.rest ((pair_at one (record { filled = filled; levels = out.old.at })).read input.old.rest) }
@@ -206,7 +206,7 @@ fn pair(
 
 /// Reads pairs up to the end of the block.
 #[inline(always)]
-fn pairs(input: &mut BitReader, one: bool, from: u8, out: &mut Levels) -> Result<(), BlockFault>
+fn pairs(input: &mut BitReader, one: bool, from: usize, out: &mut Levels) -> Result<(), BlockFault>
     requires filled { from ≤ 64 }
     requires levels { All IsLevel out.old.at }
     ensures exact { GivesEnd result out.new.at input.new.rest ((pairs_at one (record { filled = from; levels = out.old.at })).read input.old.rest) }

@@ -3,6 +3,7 @@ use Rattle.std.proofs.Common.{◌≡◌, ℕ, Bool, true, false, List, length, s
 use Rattle.m2v_bits.specs.Syntax.{renamed}
 use Rattle.m2v_bits.proofs.SyntaxLaws.{Lawful, Strict, Takes, good, bad, good_is, done_lawful, here_lawful, rule_lawful, seq_lawful, seq_strict, seq_strict_later, choose_lawful, renamed_lawful, repeated_strict, onward, round_err, round_more, round_last}
 use Rattle.m2v_bits.proofs.LeafLaws.{bits_lawful}
+use Rattle.m2v_bits.proofs.ElementLaws.{flag_strict}
 use Rattle.m2v_vlc.specs.declared.values.CodeFault.TheVariants as codes
 use Rattle.m2v_vlc.specs.declared.values.Increment.{Increment}
 use Rattle.m2v_vlc.specs.declared.values.Increment.TheVariants.{Step, Escape}
@@ -14,12 +15,12 @@ use Rattle.m2v_vlc.proofs.Patterns.{pattern_strict}
 use Rattle.m2v_vlc.proofs.Motions.{motion_strict, dmv_strict}
 use Rattle.m2v_vector.specs.declared.predictors.Pmv.{Pmv}
 use Rattle.m2v_macro.specs.declared.fault.MacroFault.{MacroFault}
-use Rattle.m2v_macro.specs.declared.fault.MacroFault.TheVariants.{Code, SliceOrder, MissingMacroblocks, SkipRule, QuantZero, PatternZero, BadMotionType, VectorRange, Marker}
+use Rattle.m2v_macro.specs.declared.fault.MacroFault.TheVariants.{SliceOrder, MissingMacroblocks, SkipRule, QuantZero, PatternZero, BadMotionType, VectorRange, Marker}
 use Rattle.m2v_macro.specs.declared.values.MacroSyntax.{MacroSyntax}
 use Rattle.m2v_macro.specs.declared.values.SliceState.{SliceState}
 use Rattle.m2v_macro.specs.declared.values.PictureContext.{PictureContext}
 use Rattle.m2v_macro.specs.declared.values.Shape.{Shape}
-use Rattle.m2v_macro.specs.Faults.{of_code, flag_at, coded, look_at, ahead_at}
+use Rattle.m2v_macro.specs.Faults.{of_code, cut, flag_at, coded, look_at, ahead_at}
 use Rattle.m2v_macro.specs.Vectors.{component_at, dm_at, vertical_at, vector_at, selected_at, vectors_at, direction_at}
 use Rattle.m2v_macro.specs.Macros.{added, round_at, increment_from, before_at, allowed_at, step_at, kind_at, told_form_at, form_at, dct_at, told_quantiser_at, quantiser_at, told_marker_at, marker_at, zero_pattern, told_pattern_at, pattern_at, directions_at, macro_at}
 
@@ -33,8 +34,7 @@ coded_strict : {V : Type 0} (table : List (Row V)) → Strict length (code_at co
 coded_strict table s = record { lawful = renamed_lawful of_code s.lawful; takes = coded_takes table s }
 
 flag_lawful : Lawful length flag_at
-unfolding flag_at
-flag_lawful = seq_lawful (bits_lawful (Code codes.Truncated) 1) (λ bit. done_lawful length _)
+flag_lawful = (flag_strict cut).lawful
 
 look_lawful : (f : List Bool → Bool) → Lawful length (look_at f)
 unfolding look_at
@@ -68,7 +68,7 @@ round_strict sum = seq_strict (coded_strict _ (increment_strict codes.Truncated 
 
 pub increment_from_strict : (sum : ℕ) → Strict length (increment_from sum)
 unfolding increment_from
-increment_from_strict sum = repeated_strict length (Code codes.Truncated) round_at round_strict sum
+increment_from_strict sum = repeated_strict length cut round_at round_strict sum
 
 allowed_lawful : (c : PictureContext) (st : SliceState) (start increment : ℕ) → Lawful length (allowed_at c st start increment)
 unfolding allowed_at
@@ -97,7 +97,7 @@ told_form_lawful : (kind : ℕ) → Lawful length (told_form_at kind)
 unfolding told_form_at
 told_form_lawful kind =
     seq_lawful (here_lawful length length) (λ start.
-    seq_lawful (bits_lawful (Code codes.Truncated) 2) (λ form.
+    seq_lawful (bits_lawful cut 2) (λ form.
     seq_lawful (rule_lawful length _ BadMotionType start) (λ known.
     done_lawful length _)))
 
@@ -113,7 +113,7 @@ told_quantiser_lawful : Lawful length told_quantiser_at
 unfolding told_quantiser_at
 told_quantiser_lawful =
     seq_lawful (here_lawful length length) (λ start.
-    seq_lawful (bits_lawful (Code codes.Truncated) 5) (λ code.
+    seq_lawful (bits_lawful cut 5) (λ code.
     seq_lawful (rule_lawful length _ QuantZero start) (λ some.
     done_lawful length _)))
 
@@ -127,7 +127,7 @@ component_lawful : (f_code : ℕ) (predictor : ℤ) → Lawful length (component
 unfolding component_at
 component_lawful f_code predictor =
     seq_lawful (coded_strict _ (motion_strict codes.Truncated codes.NoCode)).lawful (λ code.
-    seq_lawful (choose_lawful _ (bits_lawful (Code codes.Truncated) _) (done_lawful length _)) (λ residual.
+    seq_lawful (choose_lawful _ (bits_lawful cut _) (done_lawful length _)) (λ residual.
     done_lawful length _))
 
 dm_lawful : (dual : Bool) → Lawful length (dm_at dual)
@@ -174,7 +174,7 @@ told_marker_lawful : Lawful length told_marker_at
 unfolding told_marker_at
 told_marker_lawful =
     seq_lawful (here_lawful length length) (λ start.
-    seq_lawful (bits_lawful (Code codes.Truncated) 1) (λ bit.
+    seq_lawful (bits_lawful cut 1) (λ bit.
     rule_lawful length _ Marker start))
 
 marker_lawful : (c : PictureContext) (kind : MbType) → Lawful length (marker_at c kind)
@@ -226,15 +226,15 @@ macro_once c st a b t rest other p q =
 
 pub increment_err : (sum : ℕ) (t : List Bool) (f : MacroFault × ℕ) → (round_at sum).read t ≡ bad f → (increment_from sum).read t ≡ bad f
 unfolding increment_from
-increment_err = round_err length (Code codes.Truncated) round_at (λ s. (round_strict s).lawful) (onward round_strict)
+increment_err = round_err length cut round_at (λ s. (round_strict s).lawful) (onward round_strict)
 
 pub increment_more : (sum next : ℕ) (t mid : List Bool) (b : Bool) → (round_at sum).read t ≡ good ((b, next), mid) → b ≡ true → (increment_from sum).read t ≡ (increment_from next).read mid
 unfolding increment_from
-increment_more sum next t mid b e on = round_more length (Code codes.Truncated) round_at (λ s. (round_strict s).lawful) (onward round_strict) sum next t mid (subst (λ (x : Bool). (round_at sum).read t ≡ good ((x, next), mid)) on e)
+increment_more sum next t mid b e on = round_more length cut round_at (λ s. (round_strict s).lawful) (onward round_strict) sum next t mid (subst (λ (x : Bool). (round_at sum).read t ≡ good ((x, next), mid)) on e)
 
 pub increment_last : (sum next : ℕ) (t mid : List Bool) (b : Bool) → (round_at sum).read t ≡ good ((b, next), mid) → b ≡ false → (increment_from sum).read t ≡ good (next, mid)
 unfolding increment_from
-increment_last sum next t mid b e off = round_last length (Code codes.Truncated) round_at (λ s. (round_strict s).lawful) (onward round_strict) sum next t mid (subst (λ (x : Bool). (round_at sum).read t ≡ good ((x, next), mid)) off e)
+increment_last sum next t mid b e off = round_last length cut round_at (λ s. (round_strict s).lawful) (onward round_strict) sum next t mid (subst (λ (x : Bool). (round_at sum).read t ≡ good ((x, next), mid)) off e)
 
 pub increment_less : (sum next : ℕ) (t mid : List Bool) (b : Bool) → (round_at sum).read t ≡ good ((b, next), mid) → length mid < length t
 increment_less sum next t mid b e = (round_strict sum).takes.less (b, next) t mid ((round_strict sum).lawful.found (b, next) t mid e)

@@ -24,7 +24,8 @@ use Rattle.m2v_macro.specs.declared.values.PictureContext.{PictureContext}
 use Rattle.m2v_macro.specs.declared.values.Shape.{Shape}
 use Rattle.m2v_macro.specs.declared.values.Selected.{Selected}
 use Rattle.m2v_macro.specs.declared.values.Direction.{Direction}
-use Rattle.m2v_macro.specs.Faults.{Of, of_code, flag_at, look_at, ahead_at}
+use Rattle.m2v_bits.specs.Elements.{BitSyntax}
+use Rattle.m2v_macro.specs.Faults.{of_code, flag_at, look_at, ahead_at}
 use Rattle.m2v_macro.specs.States.{is_field, pmv_before}
 use Rattle.m2v_macro.specs.Vectors.{shape_of, no_vector, selected_at, vectors_at, direction_at}
 use Rattle.m2v_macro.specs.Macros.{kind_at, has_form, is_form, no_form, told_form_at, form_at, has_dct, dct_at, told_quantiser_at, quantiser_at, is_concealed, f_codes_of, told_marker_at, marker_at, zero_pattern, told_pattern_at, pattern_at, macro_of, directions_at, macro_at}
@@ -134,7 +135,7 @@ pattern_apart : (p : ℕ) (rest : List Bool) → 0 < p → p < 64 → begins zer
 pattern_apart zero rest some lt = absurd (omega arith)
 pattern_apart (suc n) rest some lt = agree (λ n. begins zero_pattern (pattern_code (suc n) ++ rest)) (λ n. false) 63 n (not_zero rest) (omega arith)
 
-ahead_spells : {V : Type 0} (bits : List Bool) (k : Bool → Of V) (b : Bool) (v : V) (text : List Bool) → ((rest : List Bool) → begins bits (text ++ rest) ≡ b) → Spells (k b) v text → Spells (seq (ahead_at bits) k) v text
+ahead_spells : {V : Type 0} (bits : List Bool) (k : Bool → BitSyntax MacroFault V) (b : Bool) (v : V) (text : List Bool) → ((rest : List Bool) → begins bits (text ++ rest) ≡ b) → Spells (k b) v text → Spells (seq (ahead_at bits) k) v text
 unfolding seq ahead_at look_at
 ahead_spells bits k b v text h p = record { stands = λ rest. (b, text ++ rest, (sym (h rest), refl), p.stands rest) }
 

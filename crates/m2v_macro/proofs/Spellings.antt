@@ -8,7 +8,9 @@ use Rattle.std.proofs.Math.Nat.{mod-lt}
 use Rattle.m2v_bits.specs.Bits.{bits_of}
 use Rattle.m2v_bits.specs.Syntax.{Syntax, done, seq, choose, repeated, Rounds, last, more, Spells}
 use Rattle.m2v_bits.proofs.LeafLaws.{done_spells, seq_spells, here_spells, rule_spells, first_spells, second_spells, renamed_spells, bits_spells}
-use Rattle.m2v_head.proofs.ElementLaws.{last_spells, whole_spells, same_spells}
+use Rattle.m2v_bits.proofs.ElementLaws.{last_spells, whole_spells, same_spells}
+pub use Rattle.m2v_bits.proofs.ElementLaws.{then_spells}
+use Rattle.m2v_bits.proofs.ElementLaws as elements
 use Rattle.m2v_vlc.specs.declared.values.CodeFault.TheVariants as codes
 use Rattle.m2v_vlc.specs.declared.values.Increment.{Increment}
 use Rattle.m2v_vlc.specs.declared.values.Increment.TheVariants.{Step, Escape}
@@ -21,12 +23,12 @@ use Rattle.m2v_vector.specs.Predictors.{zeros}
 use Rattle.m2v_vector.proofs.Wrapping.{step_back, between_within}
 use Rattle.m2v_vector.proofs.Spellings.{spelling_of, difference_of}
 use Rattle.m2v_macro.specs.declared.fault.MacroFault.{MacroFault}
-use Rattle.m2v_macro.specs.declared.fault.MacroFault.TheVariants.{Code, SliceOrder, MissingMacroblocks, SkipRule, VectorRange}
+use Rattle.m2v_macro.specs.declared.fault.MacroFault.TheVariants.{SliceOrder, MissingMacroblocks, SkipRule, VectorRange}
 use Rattle.m2v_macro.specs.declared.values.SliceState.{SliceState}
 use Rattle.m2v_macro.specs.declared.values.PictureContext.{PictureContext}
 use Rattle.m2v_macro.specs.declared.values.Shape.{Shape}
 use Rattle.m2v_macro.specs.declared.values.Selected.{Selected}
-use Rattle.m2v_macro.specs.Faults.{of_code, flag_at}
+use Rattle.m2v_macro.specs.Faults.{of_code, cut, flag_at}
 use Rattle.m2v_macro.specs.States.{not_past, in_order, may_skip}
 use Rattle.m2v_macro.specs.Vectors.{has_residual, component_at, dm_at, is_half_vector, vertical_at, vector_at}
 use Rattle.m2v_macro.specs.Macros.{added, round_at, increment_from, allowed_at, step_at}
@@ -34,27 +36,13 @@ use Rattle.m2v_macro.specs.Conditions.{IsStep, IsHalf, IsDm, IsPair, AreScales, 
 use Rattle.m2v_macro.specs.Texts.{flag, escapes_text, increment_text, residual_text, difference_text, component_text, dm_text, predictor_at, part_text, vector_text}
 use Rattle.m2v_macro.proofs.Components.{half_within}
 
--- an element, and what follows it
-pub then_spells : {K A B : Type 0} {s : Syntax (List Bool) K A} (k : A → Syntax (List Bool) K B) {a : A} {b : B} {x y : List Bool} → Spells s a x → Spells (k a) b y → Spells (seq s k) b (x ++ y)
-then_spells k {a = a} {b = b} {x = x} {y = y} p q = seq_spells k a b x y p q
-
 -- an element that stands where the test holds, and its value where it doesn't
 pub if_spells : {K V : Type 0} (b : Bool) (s : Syntax (List Bool) K V) (none v : V) (text : List Bool) → (b ≡ true → Spells s v text) → (b ≡ false → v ≡ none) → Spells (choose b s (done none)) v (cond b text [])
 if_spells true s none v text h e = first_spells true s (done none) v text refl (h refl)
 if_spells {K} {V} false s none v text h e = second_spells false s (done none) v [] refl (subst (λ (x : V). Spells {K = K} (done none) x []) (sym (e refl)) (done_spells none))
 
-bit_true : bits_of 1 1 ≡ flag true
-unfolding bits_of
-bit_true = refl
-
-bit_false : bits_of 1 0 ≡ flag false
-unfolding bits_of
-bit_false = refl
-
 pub flag_spells : (b : Bool) → Spells flag_at b (flag b)
-unfolding flag_at
-flag_spells true = same_spells bit_true (last_spells 1 (λ v. nat_eq v 1) (bits_of 1 1) (bits_spells (Code codes.Truncated) 1 1 (omega arith)))
-flag_spells false = same_spells bit_false (last_spells 0 (λ v. nat_eq v 1) (bits_of 1 0) (bits_spells (Code codes.Truncated) 1 0 (omega arith)))
+flag_spells b = elements.flag_spells cut b
 
 -- ---- increments
 
@@ -148,7 +136,7 @@ difference_spells f_code p d least within =
     let residual = residual_of f d in
     let back : wrapped f (p +ℤ difference f code residual) ≡ wrapped f (p +ℤ d) = ap (λ (z : ℤ). wrapped f (p +ℤ z)) (difference_of f d some) in
     then_spells _ (renamed_spells of_code _ code _ (motion_spells codes.Truncated codes.NoCode code s.low s.high)) (
-    whole_spells (then_spells (λ r. done (joined f p code r)) (if_spells (has_residual f_code code) _ 0 residual (bits_of (f_code - 1) residual) (λ e. bits_spells (Code codes.Truncated) (f_code - 1) residual s.below) (λ e. no_residual f_code code residual least s e)) (
+    whole_spells (then_spells (λ r. done (joined f p code r)) (if_spells (has_residual f_code code) _ 0 residual (bits_of (f_code - 1) residual) (λ e. bits_spells cut (f_code - 1) residual s.below) (λ e. no_residual f_code code residual least s e)) (
     subst (λ (z : ℤ). Spells {K = MacroFault} (done (wrapped f (p +ℤ difference f code residual))) z []) back (done_spells (wrapped f (p +ℤ difference f code residual))))))
 
 pub component_spells : (f_code : ℕ) (p v : ℤ) → 1 ≤ f_code → f_code ≤ 9 → IsVector (scale f_code) p → IsVector (scale f_code) v → Spells (component_at f_code p) v (component_text f_code p v)

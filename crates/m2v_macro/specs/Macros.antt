@@ -3,52 +3,53 @@
 use Rattle.std.specs.Prelude.{ℕ, ◌+◌, Bool, true, false, ◌&&◌, ◌||◌, not, nat_eq, pos, int_le, Result, Ok, Err, List, [], ◌∷◌, length, slice_index_or, if◌then◌else◌}
 use Rattle.m2v_bits.specs.Bits.{bits_of}
 use Rattle.m2v_bits.specs.Syntax.{done, rule, choose, repeated, ◌>>=◌}
-use Rattle.m2v_vlc.specs.declared.values.CodeFault.TheVariants as codes
 use Rattle.m2v_vlc.specs.declared.values.Increment.{Increment}
 use Rattle.m2v_vlc.specs.declared.values.Increment.TheVariants.{Step, Escape}
 use Rattle.m2v_vlc.specs.declared.values.MbType.{MbType}
 use Rattle.m2v_vector.specs.declared.predictors.Pmv.{Pmv}
 use Rattle.m2v_vlc.specs.Tables.{increment, type_i, type_p, type_b, block_pattern}
 use Rattle.m2v_macro.specs.declared.fault.MacroFault.{MacroFault}
-use Rattle.m2v_macro.specs.declared.fault.MacroFault.TheVariants.{Code, SliceOrder, MissingMacroblocks, SkipRule, QuantZero, PatternZero, BadMotionType, Marker}
+use Rattle.m2v_macro.specs.declared.fault.MacroFault.TheVariants.{SliceOrder, MissingMacroblocks, SkipRule, QuantZero, PatternZero, BadMotionType, Marker}
 use Rattle.m2v_macro.specs.declared.values.MacroSyntax.{MacroSyntax}
 use Rattle.m2v_macro.specs.declared.values.SliceState.{SliceState}
 use Rattle.m2v_macro.specs.declared.values.PictureContext.{PictureContext}
 use Rattle.m2v_macro.specs.declared.values.Direction.{Direction}
-use Rattle.m2v_macro.specs.Faults.{Of, place, number, flag_at, coded, look_at, ahead_at}
+use Rattle.m2v_bits.specs.Leaves.{bits_at}
+use Rattle.m2v_bits.specs.Elements.{BitSyntax, left_at}
+use Rattle.m2v_macro.specs.Faults.{cut, flag_at, coded, look_at, ahead_at}
 use Rattle.m2v_macro.specs.States.{is_field, address, not_past, in_order, may_skip, pmv_before}
 use Rattle.m2v_macro.specs.Vectors.{shape_of, no_vector, direction_at}
 
 -- ---- address increments
 
 -- macroblock_escape adds 33, and another one or the increment follows (table B.1)
-unfoldable pub added : ℕ → Increment → Of (Bool × ℕ)
+unfoldable pub added : ℕ → Increment → BitSyntax MacroFault (Bool × ℕ)
 added sum Escape = done (true, sum + 33)
 added sum (Step n) = done (false, sum + n)
 
-unfoldable pub round_at : ℕ → Of (Bool × ℕ)
+unfoldable pub round_at : ℕ → BitSyntax MacroFault (Bool × ℕ)
 round_at sum = do
   code ← coded increment
   added sum code
 
-unfoldable pub increment_from : ℕ → Of ℕ
-increment_from sum = repeated length (Code codes.Truncated) round_at sum
+unfoldable pub increment_from : ℕ → BitSyntax MacroFault ℕ
+increment_from sum = repeated length cut round_at sum
 
 -- macroblock_escapes and macroblock_address_increment
-abbrev pub increment_at : Of ℕ
+abbrev pub increment_at : BitSyntax MacroFault ℕ
 increment_at = increment_from 0
 
 -- an increment that may stand here
-unfoldable pub allowed_at : PictureContext → SliceState → ℕ → ℕ → Of ℕ
+unfoldable pub allowed_at : PictureContext → SliceState → ℕ → ℕ → BitSyntax MacroFault ℕ
 allowed_at c st start increment = do
   near ← rule (not_past st increment) MissingMacroblocks start
   order ← rule (in_order c st increment) SliceOrder start
   skip ← rule (may_skip c st increment) SkipRule start
   done increment
 
-unfoldable pub step_at : PictureContext → SliceState → Of ℕ
+unfoldable pub step_at : PictureContext → SliceState → BitSyntax MacroFault ℕ
 step_at c st = do
-  start ← place
+  start ← left_at
   increment ← increment_at
   allowed_at c st start increment
 
@@ -58,13 +59,13 @@ begins_before st (Ok x) = not (not st.first || int_le (pos st.next) (address st 
 begins_before st (Err e) = false
 
 -- a look at the first increment of a slice: a rule on it tells the slice, where those of a macroblock tell the increment
-unfoldable pub before_at : SliceState → Of Bool
+unfoldable pub before_at : SliceState → BitSyntax MacroFault Bool
 before_at st = look_at (λ t. begins_before st (increment_at.read t))
 
 -- ---- modes (clause 6.2.5.1)
 
 -- macroblock_type, by the picture's type
-unfoldable pub kind_at : ℕ → Of MbType
+unfoldable pub kind_at : ℕ → BitSyntax MacroFault MbType
 kind_at kind = choose (nat_eq kind 1) (coded type_i) (choose (nat_eq kind 2) (coded type_p) (coded type_b))
 
 -- a motion type stands in a field picture and where frame_pred_frame_dct is 0, at a macroblock with a direction
@@ -80,34 +81,34 @@ abbrev pub no_form : PictureContext → ℕ
 no_form c = if is_field c then 0 else 2
 
 -- frame_motion_type or field_motion_type
-unfoldable pub told_form_at : ℕ → Of ℕ
+unfoldable pub told_form_at : ℕ → BitSyntax MacroFault ℕ
 told_form_at kind = do
-  start ← place
-  form ← number 2
+  start ← left_at
+  form ← bits_at cut 2
   known ← rule (is_form kind form) BadMotionType start
   done form
 
-unfoldable pub form_at : PictureContext → MbType → Of ℕ
+unfoldable pub form_at : PictureContext → MbType → BitSyntax MacroFault ℕ
 form_at c kind = choose (has_form c kind) (told_form_at c.kind) (done (no_form c))
 
 -- dct_type stands in frame pictures where frame_pred_frame_dct is 0, at a macroblock with blocks
 unfoldable pub has_dct : PictureContext → MbType → Bool
 has_dct c kind = not (is_field c) && (not c.extension.frame_pred_frame_dct && (kind.intra || kind.pattern))
 
-unfoldable pub dct_at : PictureContext → MbType → Of Bool
+unfoldable pub dct_at : PictureContext → MbType → BitSyntax MacroFault Bool
 dct_at c kind = choose (has_dct c kind) flag_at (done false)
 
 -- ---- the macroblock
 
 -- quantiser_scale_code, which is not 0
-unfoldable pub told_quantiser_at : Of ℕ
+unfoldable pub told_quantiser_at : BitSyntax MacroFault ℕ
 told_quantiser_at = do
-  start ← place
-  code ← number 5
+  start ← left_at
+  code ← bits_at cut 5
   some ← rule (not (nat_eq code 0)) QuantZero start
   done code
 
-unfoldable pub quantiser_at : MbType → Of ℕ
+unfoldable pub quantiser_at : MbType → BitSyntax MacroFault ℕ
 quantiser_at kind = choose kind.quant told_quantiser_at (done 0)
 
 -- an intra macroblock has concealment vectors
@@ -119,13 +120,13 @@ abbrev pub f_codes_of : PictureContext → ℕ → List ℕ
 f_codes_of c direction = slice_index_or c.extension.f_code direction []
 
 -- the marker behind concealment vectors
-unfoldable pub told_marker_at : Of (Unit {0})
+unfoldable pub told_marker_at : BitSyntax MacroFault (Unit {0})
 told_marker_at = do
-  start ← place
-  bit ← number 1
+  start ← left_at
+  bit ← bits_at cut 1
   rule (nat_eq bit 1) Marker start
 
-unfoldable pub marker_at : PictureContext → MbType → Of (Unit {0})
+unfoldable pub marker_at : PictureContext → MbType → BitSyntax MacroFault (Unit {0})
 marker_at c kind = choose (is_concealed c kind) told_marker_at (done tt)
 
 -- the code of pattern 0 in table B.9, which stands in 4:2:2 and 4:4:4 alone
@@ -133,15 +134,15 @@ abbrev pub zero_pattern : List Bool
 zero_pattern = bits_of 9 1
 
 -- coded_block_pattern_420
-unfoldable pub told_pattern_at : Of ℕ
+unfoldable pub told_pattern_at : BitSyntax MacroFault ℕ
 told_pattern_at = do
-  start ← place
+  start ← left_at
   none ← ahead_at zero_pattern
   some ← rule (not none) PatternZero start
   coded block_pattern
 
 -- all blocks of an intra macroblock are coded
-unfoldable pub pattern_at : MbType → Of ℕ
+unfoldable pub pattern_at : MbType → BitSyntax MacroFault ℕ
 pattern_at kind = choose kind.intra (done 63) (choose kind.pattern told_pattern_at (done 0))
 
 -- a macroblock of its elements; a dmvector has the forward direction alone
@@ -170,7 +171,7 @@ abbrev pub blank : MacroSyntax
 blank = macro_of 0 no_kind 0 false 0 no_vectors no_vectors 0
 
 -- motion_vectors (0), motion_vectors (1) and the marker; a skipped macroblock before has changed the predictors already
-unfoldable pub directions_at : PictureContext → MbType → ℕ → Pmv → Of (Direction × Direction)
+unfoldable pub directions_at : PictureContext → MbType → ℕ → Pmv → BitSyntax MacroFault (Direction × Direction)
 directions_at c kind form pmv = do
   forward ← direction_at (kind.forward || is_concealed c kind) (shape_of (is_field c) form) (f_codes_of c 0) pmv 0
   backward ← direction_at kind.backward (shape_of (is_field c) form) (f_codes_of c 1) pmv 1
@@ -178,7 +179,7 @@ directions_at c kind form pmv = do
   done (forward, backward)
 
 -- macroblock (), up to its blocks
-unfoldable pub macro_at : PictureContext → SliceState → Of MacroSyntax
+unfoldable pub macro_at : PictureContext → SliceState → BitSyntax MacroFault MacroSyntax
 macro_at c st = do
   increment ← step_at c st
   kind ← kind_at c.kind

@@ -5,11 +5,14 @@ use Rattle.m2v_vlc.specs.Tables.{motion, dmv}
 use Rattle.m2v_vector.specs.declared.predictors.Pmv.{Pmv}
 use Rattle.m2v_vector.specs.Vectors.{scale, half, joined}
 use Rattle.m2v_vector.specs.Predictors.{pair_of, zeros, has_two, is_halved}
+use Rattle.m2v_macro.specs.declared.fault.MacroFault.{MacroFault}
 use Rattle.m2v_macro.specs.declared.fault.MacroFault.TheVariants.{VectorRange}
 use Rattle.m2v_macro.specs.declared.values.Shape.{Shape}
 use Rattle.m2v_macro.specs.declared.values.Selected.{Selected}
 use Rattle.m2v_macro.specs.declared.values.Direction.{Direction}
-use Rattle.m2v_macro.specs.Faults.{Of, place, number, flag_at, coded}
+use Rattle.m2v_bits.specs.Leaves.{bits_at}
+use Rattle.m2v_bits.specs.Elements.{BitSyntax, left_at}
+use Rattle.m2v_macro.specs.Faults.{cut, flag_at, coded}
 
 -- ---- motion types (tables 6-17 and 6-18)
 
@@ -30,14 +33,14 @@ unfoldable pub has_residual : ℕ → ℤ → Bool
 has_residual f_code code = not (nat_eq f_code 1) && not (nat_eq (unsigned_abs code) 0)
 
 -- motion_code and motion_residual: a component behind its predictor
-unfoldable pub component_at : ℕ → ℤ → Of ℤ
+unfoldable pub component_at : ℕ → ℤ → BitSyntax MacroFault ℤ
 component_at f_code predictor = do
   code ← coded motion
-  residual ← choose (has_residual f_code code) (number (f_code - 1)) (done 0)
+  residual ← choose (has_residual f_code code) (bits_at cut (f_code - 1)) (done 0)
   done (joined (scale f_code) predictor code residual)
 
 -- dmvector, in dual prime
-unfoldable pub dm_at : Bool → Of ℤ
+unfoldable pub dm_at : Bool → BitSyntax MacroFault ℤ
 dm_at dual = choose dual (coded dmv) (done (pos 0))
 
 -- the vertical range of a field vector in a frame picture: -8 f to 8 f - 1
@@ -45,15 +48,15 @@ unfoldable pub is_half_vector : ℕ → ℤ → Bool
 is_half_vector f v = int_le (neg_ℤ (pos (8 * f))) v && int_lt v (pos (8 * f))
 
 -- the vertical component; that of a field vector in a frame picture goes by half the predictor
-unfoldable pub vertical_at : Bool → ℕ → ℤ → Of ℤ
+unfoldable pub vertical_at : Bool → ℕ → ℤ → BitSyntax MacroFault ℤ
 vertical_at halved f_code predictor = do
-  start ← place
+  start ← left_at
   v ← component_at f_code (cond halved (half predictor) predictor)
   fits ← rule (not halved || is_half_vector (scale f_code) v) VectorRange start
   done v
 
 -- motion_vector (clause 6.2.5.2.1), behind its reference field bit
-unfoldable pub vector_at : Shape → List ℕ → List ℤ → Bool → Of Selected
+unfoldable pub vector_at : Shape → List ℕ → List ℤ → Bool → BitSyntax MacroFault Selected
 vector_at shape f_code predictor bottom = do
   x ← component_at (slice_index f_code 0) (slice_index_or predictor 0 (pos 0))
   dm_x ← dm_at shape.dual
@@ -62,7 +65,7 @@ vector_at shape f_code predictor bottom = do
   done (record { bottom = bottom; vector = x ∷ y ∷ []; dmvector = dm_x ∷ dm_y ∷ [] })
 
 -- motion_vertical_field_select, where there is one, and motion_vector
-unfoldable pub selected_at : Shape → List ℕ → List ℤ → Of Selected
+unfoldable pub selected_at : Shape → List ℕ → List ℤ → BitSyntax MacroFault Selected
 selected_at shape f_code predictor = do
   bottom ← choose shape.bit flag_at (done false)
   vector_at shape f_code predictor bottom
@@ -72,13 +75,13 @@ abbrev pub no_vector : Selected
 no_vector = record { bottom = false; vector = zeros; dmvector = zeros }
 
 -- motion_vectors (clause 6.2.5.2): the first vector goes by entry 0 of the predictors, the second by entry 1
-unfoldable pub vectors_at : Shape → List ℕ → Pmv → ℕ → Of Direction
+unfoldable pub vectors_at : Shape → List ℕ → Pmv → ℕ → BitSyntax MacroFault Direction
 vectors_at shape f_code pmv direction = do
   first ← selected_at shape f_code (pair_of pmv.at 0 direction)
   second ← choose shape.two (selected_at shape f_code (pair_of pmv.at 1 direction)) (done no_vector)
   done (record { first = first; second = second })
 
 -- the vectors of a direction that is told
-unfoldable pub direction_at : Bool → Shape → List ℕ → Pmv → ℕ → Of Direction
+unfoldable pub direction_at : Bool → Shape → List ℕ → Pmv → ℕ → BitSyntax MacroFault Direction
 direction_at told shape f_code pmv direction =
     choose told (vectors_at shape f_code pmv direction) (done (record { first = no_vector; second = no_vector }))

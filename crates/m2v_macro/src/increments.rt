@@ -5,10 +5,9 @@ ghost use Rattle.m2v_macro.specs.Macros.{round_at, increment_at, begins_before a
 ghost use Rattle.m2v_macro.specs.Conditions.{IsAddress, IsStep, IsContext};
 ghost use Rattle.m2v_macro.specs.Reading.{kept, GivesRound, GivesSum};
 
-use crate::elements::check;
 use crate::fault::MacroFault;
 use crate::values::{PictureContext, SliceState};
-use m2v_bits::BitReader;
+use m2v_bits::{BitReader, check};
 use m2v_vlc::{Increment, read_increment};
 
 /// An escape, or the increment: whether another follows, and the sum so far. Sums are kept up to 2^32 - 1, far past

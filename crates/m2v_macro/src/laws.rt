@@ -1,4 +1,5 @@
 ghost use Rattle.std.specs.Prelude.{◌≡◌, ℕ, ◌≤◌, ◌++◌, List, Bool, ℤ, Ok};
+ghost use Rattle.m2v_bits.specs.Laws.{Decided};
 ghost use Rattle.m2v_vector.specs.Vectors.{scale, IsVector};
 ghost use Rattle.m2v_macro.specs.declared.values.MacroSyntax.{MacroSyntax};
 ghost use Rattle.m2v_macro.specs.declared.values.SliceState.{SliceState};
@@ -6,7 +7,7 @@ ghost use Rattle.m2v_macro.specs.declared.values.PictureContext.{PictureContext}
 ghost use Rattle.m2v_macro.specs.Macros.{macro_at};
 ghost use Rattle.m2v_macro.specs.Conditions.{IsContext, IsReady, IsMacro};
 ghost use Rattle.m2v_macro.specs.Texts.{macro_text};
-ghost use Rattle.m2v_macro.specs.Laws.{Decided, TwoTexts};
+ghost use Rattle.m2v_macro.specs.Laws.{TwoTexts};
 
 /// At each text exactly one of a macroblock and a first fault stands, and it has one value: two spellings of one text
 /// give the same macroblock, and so the same state.

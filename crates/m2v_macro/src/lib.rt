@@ -3,7 +3,6 @@
 #![tactic(auto)]
 
 mod differences;
-mod elements;
 mod fault;
 mod increments;
 mod laws;

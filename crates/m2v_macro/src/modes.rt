@@ -4,10 +4,11 @@ ghost use Rattle.m2v_macro.specs.States.{is_field as is_field_of};
 ghost use Rattle.m2v_macro.specs.Macros.{kind_at, has_form as has_form_of, is_form as is_form_of, no_form, told_form_at, form_at, has_dct as has_dct_of, dct_at, told_quantiser_at, quantiser_at, is_concealed as is_concealed_of, told_marker_at, marker_at, told_pattern_at, pattern_at, zero_pattern};
 ghost use Rattle.m2v_macro.specs.Conditions.{has_type};
 
-use crate::elements::{check, flag, number};
 use crate::fault::MacroFault;
+use crate::fault::MacroFault::Code;
 use crate::values::PictureContext;
-use m2v_bits::BitReader;
+use m2v_bits::{BitReader, check, flag, number};
+use m2v_vlc::CodeFault::Truncated;
 use m2v_vlc::{MbType, read_pattern, read_type_b, read_type_i, read_type_p};
 
 /// Whether the picture is a field.
@@ -66,7 +67,7 @@ fn told_form(input: &mut BitReader, kind: u8) -> Result<u8, MacroFault>
     ensures known { IfOk result (λ v. (is_form_of kind v ≡ true) × (v < 4)) }
 {
     let start = input.fork();
-    let form = number(input, 2)?;
+    let form = number(input, 2, Code(Truncated))?;
     check(
         input,
         &start,
@@ -113,7 +114,7 @@ pub fn dct(
     ensures none { has_dct_of context.now kind ≡ false → IfOk result (λ v. v ≡ false) }
 {
     if has_dct(context, kind) {
-        return flag(input);
+        return flag(input, Code(Truncated));
     }
     Ok(false)
 }
@@ -127,7 +128,7 @@ fn told_quantiser(input: &mut BitReader) -> Result<u8, MacroFault>
     ensures known { IfOk result (λ v. (1 ≤ v) × (v ≤ 31)) }
 {
     let start = input.fork();
-    let code = number(input, 5)?;
+    let code = number(input, 5, Code(Truncated))?;
     check(input, &start, code != 0, MacroFault::QuantZero)?;
     Ok(code as u8)
 }
@@ -171,7 +172,7 @@ fn told_marker(input: &mut BitReader) -> Result<(), MacroFault>
     ensures text { input.new.text ≡ input.old.text }
 {
     let start = input.fork();
-    let bit = number(input, 1)?;
+    let bit = number(input, 1, Code(Truncated))?;
     check(input, &start, bit == 1, MacroFault::Marker)
 }
 

@@ -2,15 +2,17 @@ ghost use Rattle.std.specs.Prelude.{◌≡◌, ◌+◌, ◌-◌, ◌*◌, ◌≤
 ghost use Rattle.m2v_bits.specs.Syntax.{Gives, choose, done};
 ghost use Rattle.m2v_vector.specs.Vectors.{scale, IsVector, half as half_of};
 ghost use Rattle.m2v_vector.specs.Predictors.{pair_of};
-ghost use Rattle.m2v_macro.specs.Faults.{number as number_at, flag_at};
+ghost use Rattle.m2v_bits.specs.Leaves.{bits_at};
+ghost use Rattle.m2v_macro.specs.Faults.{cut, flag_at};
 ghost use Rattle.m2v_macro.specs.Vectors.{shape_of as shape_as, has_residual as has_residual_of, component_at, dm_at, is_half_vector as is_half_vector_of, vertical_at, vector_at, selected_at, no_vector as no_vector_of, vectors_at, direction_at};
 ghost use Rattle.m2v_macro.specs.Conditions.{AreScales, IsPair, ArePredictors, IsHalf, IsDm, IsSelected, IsDirection};
 
-use crate::elements::{check, flag, number};
 use crate::fault::MacroFault;
+use crate::fault::MacroFault::Code;
 use crate::values::{Direction, Selected, Shape};
-use m2v_bits::BitReader;
+use m2v_bits::{BitReader, check, flag, number};
 use m2v_vector::{Pmv, half, join};
+use m2v_vlc::CodeFault::Truncated;
 use m2v_vlc::{read_dmv, read_motion};
 
 /// How the vectors of a motion type are spelled.
@@ -42,13 +44,13 @@ pub fn has_residual(f_code: u8, code: i8) -> bool
 fn residual(input: &mut BitReader, f_code: u8, code: i8) -> Result<u32, MacroFault>
     requires least { 1 ≤ f_code }
     requires most { f_code ≤ 9 }
-    ensures exact { Gives result input.new.rest ((choose (has_residual_of f_code code) (number_at (f_code - 1)) (done 0)).read input.old.rest) }
+    ensures exact { Gives result input.new.rest ((choose (has_residual_of f_code code) (bits_at cut (f_code - 1)) (done 0)).read input.old.rest) }
     ensures text { input.new.text ≡ input.old.text }
     ensures below { IfOk result (λ v. v < scale f_code) }
     ensures none { IfOk result (λ v. code ≡ pos 0 → v ≡ 0) }
 {
     if has_residual(f_code, code) {
-        let residual = number(input, f_code - 1)?;
+        let residual = number(input, f_code - 1, Code(Truncated))?;
         return Ok(residual);
     }
     Ok(0)
@@ -165,7 +167,7 @@ fn bit(input: &mut BitReader, told: bool) -> Result<bool, MacroFault>
     ensures none { IfOk result (λ v. told ≡ false → v ≡ false) }
 {
     if told {
-        let bottom = flag(input)?;
+        let bottom = flag(input, Code(Truncated))?;
         return Ok(bottom);
     }
     Ok(false)
