@@ -1,0 +1,77 @@
+// The one place where the program's top call is made, over endpoints in memory.
+ghost use Rattle.std.specs.Prelude.{IsFalse, is_some};
+
+use crate::case::Failing;
+use m2v_port::{MemoryFile, MemorySink, MemorySource};
+use m2v_tool::run;
+use std::alloc::{AllocError, Global};
+
+/// What came of a run.
+#[derive(Drop)]
+pub(crate) struct Answer {
+    pub(crate) status: u8,
+    pub(crate) output: Vec<u8>,
+    pub(crate) report: Vec<u8>,
+    /// Whether the place for reconstructions was opened or holds something.
+    pub(crate) recon: bool,
+    /// Whether a call of an endpoint failed.
+    pub(crate) failed: bool,
+}
+
+/// The endpoints of a run.
+#[derive(Drop)]
+struct Endpoints {
+    input: MemorySource,
+    output: MemorySink,
+    recon: MemoryFile,
+    report: MemorySink,
+}
+
+/// The status of words.
+fn status_of(alloc: Global, words: &[String], endpoints: &mut Endpoints) -> u8
+    requires { IsFalse (is_some endpoints.old.recon.name) }
+{
+    let status = run(
+        alloc,
+        words,
+        &mut endpoints.input,
+        &mut endpoints.output,
+        &mut endpoints.recon,
+        &mut endpoints.report,
+    );
+    status.code
+}
+
+/// What stands in the endpoints.
+fn answer_of(alloc: Global, status: u8, endpoints: &Endpoints) -> Result<Answer, AllocError> {
+    let (output, report) = (endpoints.output.held(), endpoints.report.held());
+    let opened = endpoints.recon.name().is_some();
+    let held = !endpoints.recon.held().is_empty();
+    let input_failed = endpoints.input.faults() > 0;
+    let output_failed = endpoints.output.faults() > 0;
+    let report_failed = endpoints.report.faults() > 0;
+    Ok(Answer {
+        status,
+        output: output.to_vec(alloc)?,
+        report: report.to_vec(alloc)?,
+        recon: opened || held,
+        failed: input_failed || output_failed || report_failed,
+    })
+}
+
+/// Runs words on an input.
+pub(crate) fn ran(
+    alloc: Global,
+    words: &[String],
+    input: &[u8],
+    failing: &Failing,
+) -> Result<Answer, AllocError> {
+    let mut endpoints = Endpoints {
+        input: MemorySource::new(input.to_vec(alloc)?, failing.input.to_vec(alloc)?),
+        output: MemorySink::new(alloc, failing.output.to_vec(alloc)?),
+        recon: MemoryFile::new(alloc, Vec::new(alloc)),
+        report: MemorySink::new(alloc, failing.report.to_vec(alloc)?),
+    };
+    let status = status_of(alloc, words, &mut endpoints);
+    answer_of(alloc, status, &endpoints)
+}

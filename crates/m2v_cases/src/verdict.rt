@@ -1,0 +1,150 @@
+// Whether runs give what is wanted of them.
+use crate::case::{Case, Endpoint, Extent, Failing, Wanted};
+use crate::running::{Answer, ran};
+use std::alloc::{AllocError, Global};
+use std::fmt;
+
+/// More calls than a run of a case makes.
+const MANY_CALLS: u64 = 100_000;
+
+/// A run that didn't give what is wanted.
+#[derive(Drop)]
+pub(crate) struct Mistake {
+    /// The endpoint and the call that was to fail, where each fails in turn.
+    failing: Option<(Endpoint, u64)>,
+    wanted_status: u8,
+    wanted_bytes: usize,
+    wanted_report: String,
+    status: u8,
+    bytes: usize,
+    report: String,
+    /// How many first bytes of the output are the wanted ones.
+    same: usize,
+}
+
+impl fmt::Display for Mistake {
+    fn fmt<W: fmt::Write>(&self, f: &mut fmt::Formatter<W>) -> fmt::Result {
+        if let Some((endpoint, call)) = self.failing {
+            write!(f, "call {call} of {endpoint:?} fails: ")?;
+        }
+        let (status, bytes, report) = (self.wanted_status, self.wanted_bytes, &self.wanted_report);
+        write!(f, "wanted {status}, {report:?} and {bytes} bytes, ")?;
+        let (status, bytes, report) = (self.status, self.bytes, &self.report);
+        write!(f, "got {status}, {report:?} and {bytes} bytes, ")?;
+        let same = self.same;
+        write!(f, "the first {same} as wanted")
+    }
+}
+
+/// How many first bytes of two texts are the same.
+fn same_bytes(a: &[u8], b: &[u8]) -> usize {
+    a.iter().zip(b).take_while(|(x, y)| *x == *y).count()
+}
+
+/// The number of a text: each byte is added to 31 times the number of those before, modulo 2^32.
+fn sum_of(bytes: &[u8]) -> u32 {
+    let mut sum = 0u32;
+    for byte in bytes {
+        sum = sum.wrapping_mul(31).wrapping_add(u32::from(*byte));
+    }
+    sum
+}
+
+/// Whether the output is the one that is wanted.
+fn is_output(wanted: &Wanted, output: &[u8]) -> bool {
+    let fits = match wanted.extent {
+        Extent::Whole => output == wanted.output.as_slice(),
+        Extent::Prefix { least } => {
+            least <= output.len() && wanted.output.as_slice().starts_with(output)
+        }
+        Extent::Begun { length } => { output.len() == length && output.starts_with(&wanted.output) }
+    };
+    match wanted.sum {
+        Some(sum) => fits && sum_of(output) == sum,
+        None => fits,
+    }
+}
+
+/// Whether a run gave what is wanted.
+fn is_wanted(wanted: &Wanted, answer: &Answer) -> bool {
+    answer.status == wanted.status
+        && answer.report.as_slice() == wanted.report.as_slice()
+        && is_output(wanted, &answer.output)
+        && !answer.recon
+}
+
+/// Whether a run of which a call failed gave what such a run may give: a read fault or a write fault with a prefix of the
+/// wanted output. Where a report fails, the status is that of a refusal, or a write fault after success, and a prefix of
+/// the line stands.
+fn is_wanted_at_a_fault(wanted: &Wanted, endpoint: Endpoint, answer: &Answer) -> bool {
+    let begun = wanted.output.as_slice().starts_with(&answer.output);
+    let report = answer.report.as_slice();
+    let fits = match endpoint {
+        Endpoint::Input => answer.status == 7 && report == b"read fault\n".as_slice() && begun,
+        Endpoint::Output => answer.status == 8 && report == b"write fault\n".as_slice() && begun,
+        Endpoint::Report => {
+            let status = if wanted.status == 0 { 8 } else { wanted.status };
+            answer.status == status
+                && wanted.report.as_slice().starts_with(report)
+                && is_output(wanted, &answer.output)
+        }
+    };
+    fits && !answer.recon
+}
+
+/// What a run gave in place of what is wanted.
+fn mistake_of(
+    alloc: Global,
+    wanted: &Wanted,
+    answer: &Answer,
+    failing: Option<(Endpoint, u64)>,
+) -> Result<Mistake, AllocError> {
+    Ok(Mistake {
+        failing,
+        wanted_status: wanted.status,
+        wanted_bytes: wanted.output.len(),
+        wanted_report: String::from_utf8_lossy(alloc, &wanted.report)?,
+        status: answer.status,
+        bytes: answer.output.len(),
+        report: String::from_utf8_lossy(alloc, &answer.report)?,
+        same: same_bytes(&wanted.output, &answer.output),
+    })
+}
+
+/// Runs a case once for each call of an endpoint, which fails, and once more with a call that isn't made.
+fn mistake_at_a_fault(
+    alloc: Global,
+    case: &Case,
+    endpoint: Endpoint,
+) -> Result<Option<Mistake>, AllocError> {
+    for call in 1..MANY_CALLS {
+        let mut failing = Failing::none(alloc);
+        failing.of(endpoint).push(call)?;
+        let answer = ran(alloc, &case.words, &case.input, &failing)?;
+        let right = if answer.failed {
+            is_wanted_at_a_fault(&case.wanted, endpoint, &answer)
+        } else {
+            is_wanted(&case.wanted, &answer)
+        };
+        if !right {
+            let failing = Some((endpoint, call));
+            return Ok(Some(mistake_of(alloc, &case.wanted, &answer, failing)?));
+        }
+        if !answer.failed {
+            return Ok(None);
+        }
+    }
+    Ok(None)
+}
+
+/// Runs a case: none where it gives what is wanted, else the first run that doesn't.
+pub(crate) fn first_mistake(alloc: Global, case: &Case) -> Result<Option<Mistake>, AllocError> {
+    if let Some(endpoint) = case.each {
+        return mistake_at_a_fault(alloc, case, endpoint);
+    }
+    let answer = ran(alloc, &case.words, &case.input, &case.failing)?;
+    if is_wanted(&case.wanted, &answer) {
+        return Ok(None);
+    }
+    Ok(Some(mistake_of(alloc, &case.wanted, &answer, None)?))
+}
