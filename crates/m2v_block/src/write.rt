@@ -243,7 +243,8 @@ pub fn block_bits(levels: &Levels, kind: &BlockKind, table_one: bool, dc_pred: i
     requires kind { IsKind kind.now }
     requires levels { IsBlock kind.now levels.now.at }
     requires predictor { kind.now.intra ≡ true → IsDc kind.now.precision dc_pred }
-    ensures { result ≡ length (block_text kind.now table_one dc_pred levels.now.at) }
+    ensures value { result ≡ length (block_text kind.now table_one dc_pred levels.now.at) }
+    ensures most { result ≤ 1575 }
 {
     if kind.intra {
         dc_bits(levels.at[0] - dc_pred, kind.luma) + pairs_bits(levels, 1, false, table_one)
