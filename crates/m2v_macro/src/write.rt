@@ -230,7 +230,8 @@ pub fn macro_bits(m: &MacroSyntax, context: &PictureContext, state: &SliceState)
     requires state { IsReady context.now state.now }
     requires address { IsAddress state.now.address }
     requires fits { IsMacro context.now state.now m.now }
-    ensures { result ≡ length (macro_text context.now state.now m.now) }
+    ensures value { result ≡ length (macro_text context.now state.now m.now) }
+    ensures most { result ≤ 2 ^ 21 }
 {
     let pmv = pmv_before(context, state, m.increment);
     modes_bits(m, context)

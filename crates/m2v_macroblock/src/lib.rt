@@ -1,0 +1,13 @@
+//! Macroblocks with their blocks, once for decoder and encoder: what blocks are coded with, what a macroblock leaves to
+//! the next one, its text, and how it is predicted (clauses 6.2.5, 6.2.6, 7.2.1 and 7.6 of ISO/IEC 13818-2).
+#![tactic(auto)]
+
+mod blocks;
+mod modes;
+#[cfg(test)]
+mod tests;
+mod write;
+
+pub use blocks::{dc_after, is_coded, kind_for, kinds};
+pub use modes::{mode, skipped_mode};
+pub use write::{macroblock_bits, write_macroblock};
