@@ -8,3 +8,5 @@ pub mod Projections
 pub mod Rows
 pub mod Shifts
 pub mod Sums
+pub mod InPlace
+pub mod Mean

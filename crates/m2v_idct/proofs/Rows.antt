@@ -3,7 +3,7 @@ use Rattle.std.specs.Int.{int_shr}
 use Rattle.std.proofs.lemmas.Int.{ints}
 use Rattle.std.proofs.lemmas.List.Elements.{All-from_recursion}
 use Rattle.m2v_idct.specs.Block.{at}
-use Rattle.m2v_idct.specs.Inverse.{after_rows, column, combine, row, scaled}
+use Rattle.m2v_idct.specs.Inverse.{w1, w2, w3, w5, w6, w7, after_rows, column, combine, row, scaled}
 use Rattle.m2v_idct.specs.Ranges.{IsCoefficient, Within}
 use Rattle.m2v_idct.proofs.Shifts.{shr8_low, shr8_high, shr8_is}
 
@@ -120,9 +120,9 @@ row_within b h =
     let h0 = h 0 (omega arith) in let h1 = h 1 (omega arith) in let h2 = h 2 (omega arith) in let h3 = h 3 (omega arith) in
     let h4 = h 4 (omega arith) in let h5 = h 5 (omega arith) in let h6 = h 6 (omega arith) in let h7 = h 7 (omega arith) in
     combine_within
-    (pos 2841 *ℤ b 1 +ℤ pos 565 *ℤ b 7) (pos 565 *ℤ b 1 -ℤ pos 2841 *ℤ b 7)
-    (pos 2408 *ℤ b 3 +ℤ pos 1609 *ℤ b 5) (pos 2408 *ℤ b 5 -ℤ pos 1609 *ℤ b 3)
-    (pos 2676 *ℤ b 2 +ℤ pos 1108 *ℤ b 6) (pos 1108 *ℤ b 2 -ℤ pos 2676 *ℤ b 6)
+    (w1 *ℤ b 1 +ℤ w7 *ℤ b 7) (w7 *ℤ b 1 -ℤ w1 *ℤ b 7)
+    (w3 *ℤ b 3 +ℤ w5 *ℤ b 5) (w3 *ℤ b 5 -ℤ w5 *ℤ b 3)
+    (w2 *ℤ b 2 +ℤ w6 *ℤ b 6) (w6 *ℤ b 2 -ℤ w2 *ℤ b 6)
     (pos 2048 *ℤ (b 0 +ℤ b 4) +ℤ pos 128) (pos 2048 *ℤ (b 0 -ℤ b 4) +ℤ pos 128)
     (omega (arith, ints, h1, h7), omega (arith, ints, h1, h7)) (omega (arith, ints, h1, h7), omega (arith, ints, h1, h7))
     (omega (arith, ints, h3, h5), omega (arith, ints, h3, h5)) (omega (arith, ints, h3, h5), omega (arith, ints, h3, h5))

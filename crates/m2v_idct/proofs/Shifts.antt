@@ -23,11 +23,11 @@ pub scaled_by_parts : (t h l m s r : ℤ) → (pos 256 *ℤ h) ≤ℤ t → t �
 unfolding scaled
 scaled_by_parts t h l m s r a b c d e f g = shr8_is (pos 181 *ℤ t +ℤ pos 128) r (omega (arith, ints)) (omega (arith, ints))
 
-shr3_low : (z : ℤ) → (pos 8 *ℤ int_shr z 3) ≤ℤ z
+pub shr3_low : (z : ℤ) → (pos 8 *ℤ int_shr z 3) ≤ℤ z
 shr3_low (pos a) = omega (arith, ints)
 shr3_low (negsuc a) = omega (arith, ints)
 
-shr3_high : (z : ℤ) → z ≤ℤ (pos 8 *ℤ int_shr z 3 +ℤ pos 7)
+pub shr3_high : (z : ℤ) → z ≤ℤ (pos 8 *ℤ int_shr z 3 +ℤ pos 7)
 shr3_high (pos a) = omega (arith, ints)
 shr3_high (negsuc a) = omega (arith, ints)
 

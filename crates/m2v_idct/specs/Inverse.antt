@@ -6,6 +6,25 @@ use Rattle.std.specs.Int.{int_shr, int_max, int_min}
 use Rattle.std.specs.List.{range_with_len}
 use Rattle.m2v_idct.specs.Block.{at, nth}
 
+-- 2048 times the root of two and the cosine of k sixteenths of a half turn, to the nearest, as idct.c names them
+abbrev pub w1 : ℤ
+w1 = pos 2841
+
+abbrev pub w2 : ℤ
+w2 = pos 2676
+
+abbrev pub w3 : ℤ
+w3 = pos 2408
+
+abbrev pub w5 : ℤ
+w5 = pos 1609
+
+abbrev pub w6 : ℤ
+w6 = pos 1108
+
+abbrev pub w7 : ℤ
+w7 = pos 565
+
 -- 181 / 256 of t, to the nearest
 unfoldable pub scaled : ℤ → ℤ
 scaled t = int_shr (pos 181 *ℤ t +ℤ pos 128) 8
@@ -29,12 +48,12 @@ eighth t = int_shr (t +ℤ pos 4) 3
 -- the results of the row b 0 .. b 7
 unfoldable pub row : (ℕ → ℤ) → List ℤ
 row b = combine
-    (pos 2841 *ℤ b 1 +ℤ pos 565 *ℤ b 7)
-    (pos 565 *ℤ b 1 -ℤ pos 2841 *ℤ b 7)
-    (pos 2408 *ℤ b 3 +ℤ pos 1609 *ℤ b 5)
-    (pos 2408 *ℤ b 5 -ℤ pos 1609 *ℤ b 3)
-    (pos 2676 *ℤ b 2 +ℤ pos 1108 *ℤ b 6)
-    (pos 1108 *ℤ b 2 -ℤ pos 2676 *ℤ b 6)
+    (w1 *ℤ b 1 +ℤ w7 *ℤ b 7)
+    (w7 *ℤ b 1 -ℤ w1 *ℤ b 7)
+    (w3 *ℤ b 3 +ℤ w5 *ℤ b 5)
+    (w3 *ℤ b 5 -ℤ w5 *ℤ b 3)
+    (w2 *ℤ b 2 +ℤ w6 *ℤ b 6)
+    (w6 *ℤ b 2 -ℤ w2 *ℤ b 6)
     (pos 2048 *ℤ (b 0 +ℤ b 4) +ℤ pos 128)
     (pos 2048 *ℤ (b 0 -ℤ b 4) +ℤ pos 128)
     8
@@ -42,12 +61,12 @@ row b = combine
 -- the results of the column c 0 .. c 7, not yet clipped
 unfoldable pub column : (ℕ → ℤ) → List ℤ
 column c = combine
-    (eighth (pos 2841 *ℤ c 1 +ℤ pos 565 *ℤ c 7))
-    (eighth (pos 565 *ℤ c 1 -ℤ pos 2841 *ℤ c 7))
-    (eighth (pos 2408 *ℤ c 3 +ℤ pos 1609 *ℤ c 5))
-    (eighth (pos 2408 *ℤ c 5 -ℤ pos 1609 *ℤ c 3))
-    (eighth (pos 2676 *ℤ c 2 +ℤ pos 1108 *ℤ c 6))
-    (eighth (pos 1108 *ℤ c 2 -ℤ pos 2676 *ℤ c 6))
+    (eighth (w1 *ℤ c 1 +ℤ w7 *ℤ c 7))
+    (eighth (w7 *ℤ c 1 -ℤ w1 *ℤ c 7))
+    (eighth (w3 *ℤ c 3 +ℤ w5 *ℤ c 5))
+    (eighth (w3 *ℤ c 5 -ℤ w5 *ℤ c 3))
+    (eighth (w2 *ℤ c 2 +ℤ w6 *ℤ c 6))
+    (eighth (w6 *ℤ c 2 -ℤ w2 *ℤ c 6))
     (pos 256 *ℤ (c 0 +ℤ c 4) +ℤ pos 8192)
     (pos 256 *ℤ (c 0 -ℤ c 4) +ℤ pos 8192)
     14

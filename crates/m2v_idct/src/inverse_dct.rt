@@ -1,6 +1,7 @@
-ghost use Rattle.std.specs.Prelude.{◌≡◌, ◌<◌, ◌≤◌, ◌+◌, ◌*◌, ℕ, ◌≢◌, All, IsTrue, ◌∷◌, [], pos, ◌*ℤ◌};
+ghost use Rattle.std.specs.Int.{int_shr};
+ghost use Rattle.std.specs.Prelude.{◌+ℤ◌, ◌≤ℤ◌, ◌⊎◌, replicate, ◌≡◌, ◌<◌, ◌≤◌, ◌+◌, ◌*◌, ℕ, ◌≢◌, All, IsTrue, ◌∷◌, [], pos, ◌*ℤ◌};
 ghost use Rattle.m2v_idct.specs.Block.{at, nth};
-ghost use Rattle.m2v_idct.specs.Inverse.{after_rows, clip, column, inverse_of, row};
+ghost use Rattle.m2v_idct.specs.Inverse.{after_rows, clip, column, inverse_at, inverse_of, row};
 ghost use Rattle.m2v_idct.specs.Ranges.{IsCoefficient, IsSample, Within};
 
 use crate::block::{column_at, put_row, row_at};
@@ -15,32 +16,152 @@ pub fn inverse(b: &[i32; 64]) -> [i32; 64]
     ensures value { result ≡ inverse_of b.now }
     ensures samples { All IsSample result }
 {
-    let mut rows = [0; 64];
-    transform_rows(b, &mut rows);
-    let mut out = [0; 64];
-    transform_columns(&rows, &mut out);
-    out
+    let mut block = *b;
+    inverse_in_place(&mut block);
+    block
+}
+
+/// The same, written over the coefficients.
+pub fn inverse_in_place(block: &mut [i32; 64])
+    requires { All IsCoefficient block.old }
+    ensures value { block.new ≡ inverse_of block.old }
+    ensures samples { All IsSample block.new }
+{
+    if has_mean(block) {
+        let dc = block[0];
+        fill(block, clipped_mean(dc));
+        return;
+    }
+    transform_rows(block);
+    transform_columns(block);
+}
+
+// All 64 results are one number: only the mean stands, and perhaps the 1 of mismatch control, which is too small to
+// show where the mean isn't near a half. Looks at two coefficients first, one of which mostly stands elsewhere.
+#[inline(always)]
+fn has_mean(block: &[i32; 64]) -> bool
+    requires { All IsCoefficient block.now }
+    ensures { IsTrue result → (y x : ℕ) → y < 8 → x < 8
+        → inverse_at block.now y x ≡ clip (int_shr (nth block.now 0 +ℤ pos 4) 3) }
+{
+    if block[1] != 0 || block[8] != 0 {
+        return false;
+    }
+    if !is_small(block[63]) {
+        return false;
+    }
+    if !are_zero(block) {
+        return false;
+    }
+    is_far(block[0], mean(block[0]))
 }
 
 #[inline(always)]
-pub fn transform_rows(b: &[i32; 64], rows: &mut [i32; 64])
-    requires { All IsCoefficient b.now }
-    ensures { (y x : ℕ) → y < 8 → x < 8 → nth rows.new (8 * y + x) ≡ after_rows b.now y x }
+fn is_small(z: i32) -> bool
+    ensures { IsTrue result → (z ≡ pos 0) ⊎ (z ≡ pos 1) }
+{
+    z == 0 || z == 1
+}
+
+// All between the first and the last are 0.
+#[inline(always)]
+fn are_zero(block: &[i32; 64]) -> bool
+    ensures { IsTrue result → (k : ℕ) → 1 ≤ k → k < 63 → nth block.now k ≡ pos 0 }
+{
+    let mut bits = 0;
+    for k in 1..63 {
+        bits |= block[k].unsigned_abs();
+    }
+    bits == 0
+}
+
+#[inline(always)]
+fn mean(c: i32) -> i32
+    requires { Within 2048 c }
+    ensures value { result ≡ int_shr (c +ℤ pos 4) 3 }
+    ensures low { (pos 8 *ℤ result) ≤ℤ (c +ℤ pos 4) }
+    ensures high { (c +ℤ pos 4) ≤ℤ (pos 8 *ℤ result +ℤ pos 7) }
+{
+    (c + 4) >> 3
+}
+
+// The mean is a fourth away from where its rounding changes.
+#[inline(always)]
+fn is_far(c: i32, mean: i32) -> bool
+    requires c { Within 2048 c }
+    requires low { (pos 8 *ℤ mean) ≤ℤ (c +ℤ pos 4) }
+    requires high { (c +ℤ pos 4) ≤ℤ (pos 8 *ℤ mean +ℤ pos 7) }
+    ensures low { IsTrue result → (pos 8 *ℤ mean +ℤ pos 2) ≤ℤ (c +ℤ pos 4) }
+    ensures high { IsTrue result → (c +ℤ pos 4) ≤ℤ (pos 8 *ℤ mean +ℤ pos 6) }
+{
+    let rest = c + 4 - 8 * mean;
+    rest >= 2 && rest <= 6
+}
+
+#[inline(always)]
+fn clipped_mean(c: i32) -> i32
+    requires { Within 2048 c }
+    ensures value { result ≡ clip (int_shr (c +ℤ pos 4) 3) }
+    ensures sample { IsSample result }
+{
+    mean(c).clamp(-256, 255)
+}
+
+#[inline(always)]
+fn fill(block: &mut [i32; 64], value: i32)
+    requires { IsSample value }
+    ensures value { block.new ≡ replicate 64 value }
+    ensures samples { All IsSample block.new }
+{
+    *block = [value; 64];
+}
+
+#[inline(always)]
+fn transform_rows(block: &mut [i32; 64])
+    requires { All IsCoefficient block.old }
+    ensures { (y x : ℕ) → y < 8 → x < 8 → nth block.new (8 * y + x) ≡ after_rows block.old y x }
 {
     for y in 0..8 {
-        put_row(rows, y, &row_results(&row_at(b, y)));
+        transform_row(block, y);
     }
 }
 
+// Puts the results of line y in its place. Most lines have no coefficient, and no result.
 #[inline(always)]
-fn transform_columns(rows: &[i32; 64], out: &mut [i32; 64])
-    requires { All (Within 160000) rows.now }
+fn transform_row(block: &mut [i32; 64], y: usize)
+    requires y { y < 8 }
+    requires within { (k : ℕ) → k < 8 → Within 2048 (at block.old y k) }
+    ensures row { (k : ℕ) → k < 8 → nth block.new (8 * y + k) ≡ after_rows block.old y k }
+    ensures rest { (i : ℕ) → ((k : ℕ) → k < 8 → i ≢ 8 * y + k) → nth block.new i ≡ nth block.old i }
+{
+    let coefficients = row_at(block, y);
+    if is_zero(&coefficients) {
+        return;
+    }
+    put_row(block, y, &row_results(&coefficients));
+}
+
+#[inline(always)]
+fn transform_columns(block: &mut [i32; 64])
+    requires { All (Within 160000) block.old }
     ensures { (y x : ℕ) → y < 8 → x < 8
-        → nth out.new (8 * y + x) ≡ clip (nth (column (λ k. at rows.now k x)) y) }
+        → nth block.new (8 * y + x) ≡ clip (nth (column (λ k. at block.old k x)) y) }
 {
     for x in 0..8 {
-        put_clipped(out, x, &column_results(&column_at(rows, x)));
+        transform_column(block, x);
     }
+}
+
+// Puts the results of column x in its place.
+#[inline(always)]
+fn transform_column(block: &mut [i32; 64], x: usize)
+    requires x { x < 8 }
+    requires within { (k : ℕ) → k < 8 → Within 160000 (at block.old k x) }
+    ensures column { (k : ℕ) → k < 8 → nth block.new (8 * k + x) ≡ clip (nth (column (λ j. at block.old j x)) k) }
+    ensures rest { (i : ℕ) → ((k : ℕ) → k < 8 → i ≢ 8 * k + x) → nth block.new i ≡ nth block.old i }
+{
+    let left = column_at(block, x);
+    put_clipped(block, x, &column_results(&left));
 }
 
 // Writes the results of a column, each clipped to a sample.
@@ -73,6 +194,18 @@ fn column_results(c: &[i32; 8]) -> [i32; 8]
     ensures { result ≡ column (nth c.now) }
 {
     combine_terms(&column_terms(c), 14)
+}
+
+// A row has no coefficient other than 0.
+#[inline(always)]
+fn is_zero(b: &[i32; 8]) -> bool
+    ensures { IsTrue result → (k : ℕ) → k < 8 → nth b.now k ≡ pos 0 }
+{
+    let mut bits = 0;
+    for k in 0..8 {
+        bits |= b[k].unsigned_abs();
+    }
+    bits == 0
 }
 
 // Only the first of a row's coefficients may be other than 0.

@@ -12,4 +12,4 @@ mod terms;
 mod tests;
 
 pub use forward_dct::{forward, forward_dc};
-pub use inverse_dct::inverse;
+pub use inverse_dct::{inverse, inverse_in_place};

@@ -1,20 +1,33 @@
 ghost use Rattle.std.specs.Prelude.{◌≡◌, All, ◌+ℤ◌, ◌-ℤ◌, ◌*ℤ◌, ◌≤ℤ◌, pos};
 ghost use Rattle.m2v_idct.specs.Block.{nth};
-ghost use Rattle.m2v_idct.specs.Inverse.{eighth};
+ghost use Rattle.m2v_idct.specs.Inverse.{eighth, w1, w2, w3, w5, w6, w7};
 ghost use Rattle.m2v_idct.specs.Ranges.{Within};
 
 use crate::combine::Terms;
+
+// 2048 times the root of two and the cosine of so many sixteenths of a half turn, to the nearest.
+const W1: i32 = 2841;
+
+const W2: i32 = 2676;
+
+const W3: i32 = 2408;
+
+const W5: i32 = 1609;
+
+const W6: i32 = 1108;
+
+const W7: i32 = 565;
 
 // The terms of a row of coefficients.
 #[inline(always)]
 pub fn row_terms(b: &[i32; 8]) -> Terms
     requires { All (Within 2048) b.now }
-    ensures a1 { result.a1 ≡ pos 2841 *ℤ nth b.now 1 +ℤ pos 565 *ℤ nth b.now 7 }
-    ensures a7 { result.a7 ≡ pos 565 *ℤ nth b.now 1 -ℤ pos 2841 *ℤ nth b.now 7 }
-    ensures a5 { result.a5 ≡ pos 2408 *ℤ nth b.now 3 +ℤ pos 1609 *ℤ nth b.now 5 }
-    ensures a3 { result.a3 ≡ pos 2408 *ℤ nth b.now 5 -ℤ pos 1609 *ℤ nth b.now 3 }
-    ensures e2 { result.e2 ≡ pos 2676 *ℤ nth b.now 2 +ℤ pos 1108 *ℤ nth b.now 6 }
-    ensures e6 { result.e6 ≡ pos 1108 *ℤ nth b.now 2 -ℤ pos 2676 *ℤ nth b.now 6 }
+    ensures a1 { result.a1 ≡ w1 *ℤ nth b.now 1 +ℤ w7 *ℤ nth b.now 7 }
+    ensures a7 { result.a7 ≡ w7 *ℤ nth b.now 1 -ℤ w1 *ℤ nth b.now 7 }
+    ensures a5 { result.a5 ≡ w3 *ℤ nth b.now 3 +ℤ w5 *ℤ nth b.now 5 }
+    ensures a3 { result.a3 ≡ w3 *ℤ nth b.now 5 -ℤ w5 *ℤ nth b.now 3 }
+    ensures e2 { result.e2 ≡ w2 *ℤ nth b.now 2 +ℤ w6 *ℤ nth b.now 6 }
+    ensures e6 { result.e6 ≡ w6 *ℤ nth b.now 2 -ℤ w2 *ℤ nth b.now 6 }
     ensures p { result.p ≡ pos 2048 *ℤ (nth b.now 0 +ℤ nth b.now 4) +ℤ pos 128 }
     ensures m { result.m ≡ pos 2048 *ℤ (nth b.now 0 -ℤ nth b.now 4) +ℤ pos 128 }
 {
@@ -34,12 +47,12 @@ pub fn row_terms(b: &[i32; 8]) -> Terms
 #[inline(always)]
 pub fn column_terms(c: &[i32; 8]) -> Terms
     requires { All (Within 160000) c.now }
-    ensures a1 { result.a1 ≡ eighth (pos 2841 *ℤ nth c.now 1 +ℤ pos 565 *ℤ nth c.now 7) }
-    ensures a7 { result.a7 ≡ eighth (pos 565 *ℤ nth c.now 1 -ℤ pos 2841 *ℤ nth c.now 7) }
-    ensures a5 { result.a5 ≡ eighth (pos 2408 *ℤ nth c.now 3 +ℤ pos 1609 *ℤ nth c.now 5) }
-    ensures a3 { result.a3 ≡ eighth (pos 2408 *ℤ nth c.now 5 -ℤ pos 1609 *ℤ nth c.now 3) }
-    ensures e2 { result.e2 ≡ eighth (pos 2676 *ℤ nth c.now 2 +ℤ pos 1108 *ℤ nth c.now 6) }
-    ensures e6 { result.e6 ≡ eighth (pos 1108 *ℤ nth c.now 2 -ℤ pos 2676 *ℤ nth c.now 6) }
+    ensures a1 { result.a1 ≡ eighth (w1 *ℤ nth c.now 1 +ℤ w7 *ℤ nth c.now 7) }
+    ensures a7 { result.a7 ≡ eighth (w7 *ℤ nth c.now 1 -ℤ w1 *ℤ nth c.now 7) }
+    ensures a5 { result.a5 ≡ eighth (w3 *ℤ nth c.now 3 +ℤ w5 *ℤ nth c.now 5) }
+    ensures a3 { result.a3 ≡ eighth (w3 *ℤ nth c.now 5 -ℤ w5 *ℤ nth c.now 3) }
+    ensures e2 { result.e2 ≡ eighth (w2 *ℤ nth c.now 2 +ℤ w6 *ℤ nth c.now 6) }
+    ensures e6 { result.e6 ≡ eighth (w6 *ℤ nth c.now 2 -ℤ w2 *ℤ nth c.now 6) }
     ensures p { result.p ≡ pos 256 *ℤ (nth c.now 0 +ℤ nth c.now 4) +ℤ pos 8192 }
     ensures m { result.m ≡ pos 256 *ℤ (nth c.now 0 -ℤ nth c.now 4) +ℤ pos 8192 }
     ensures a1_within { Within 82000000 result.a1 }
@@ -67,60 +80,60 @@ pub fn column_terms(c: &[i32; 8]) -> Terms
 fn one_plus(x: i32, y: i32) -> i32
     requires x { Within 160000 x }
     requires y { Within 160000 y }
-    ensures value { result ≡ pos 2841 *ℤ x +ℤ pos 565 *ℤ y }
+    ensures value { result ≡ w1 *ℤ x +ℤ w7 *ℤ y }
     ensures within { Within 650000000 result }
 {
-    2841 * x + 565 * y
+    W1 * x + W7 * y
 }
 
 #[inline(always)]
 fn one_minus(x: i32, y: i32) -> i32
     requires x { Within 160000 x }
     requires y { Within 160000 y }
-    ensures value { result ≡ pos 565 *ℤ x -ℤ pos 2841 *ℤ y }
+    ensures value { result ≡ w7 *ℤ x -ℤ w1 *ℤ y }
     ensures within { Within 650000000 result }
 {
-    565 * x - 2841 * y
+    W7 * x - W1 * y
 }
 
 #[inline(always)]
 fn three_plus(x: i32, y: i32) -> i32
     requires x { Within 160000 x }
     requires y { Within 160000 y }
-    ensures value { result ≡ pos 2408 *ℤ x +ℤ pos 1609 *ℤ y }
+    ensures value { result ≡ w3 *ℤ x +ℤ w5 *ℤ y }
     ensures within { Within 650000000 result }
 {
-    2408 * x + 1609 * y
+    W3 * x + W5 * y
 }
 
 #[inline(always)]
 fn three_minus(x: i32, y: i32) -> i32
     requires x { Within 160000 x }
     requires y { Within 160000 y }
-    ensures value { result ≡ pos 2408 *ℤ x -ℤ pos 1609 *ℤ y }
+    ensures value { result ≡ w3 *ℤ x -ℤ w5 *ℤ y }
     ensures within { Within 650000000 result }
 {
-    2408 * x - 1609 * y
+    W3 * x - W5 * y
 }
 
 #[inline(always)]
 fn two_plus(x: i32, y: i32) -> i32
     requires x { Within 160000 x }
     requires y { Within 160000 y }
-    ensures value { result ≡ pos 2676 *ℤ x +ℤ pos 1108 *ℤ y }
+    ensures value { result ≡ w2 *ℤ x +ℤ w6 *ℤ y }
     ensures within { Within 650000000 result }
 {
-    2676 * x + 1108 * y
+    W2 * x + W6 * y
 }
 
 #[inline(always)]
 fn two_minus(x: i32, y: i32) -> i32
     requires x { Within 160000 x }
     requires y { Within 160000 y }
-    ensures value { result ≡ pos 1108 *ℤ x -ℤ pos 2676 *ℤ y }
+    ensures value { result ≡ w6 *ℤ x -ℤ w2 *ℤ y }
     ensures within { Within 650000000 result }
 {
-    1108 * x - 2676 * y
+    W6 * x - W2 * y
 }
 
 #[inline(always)]

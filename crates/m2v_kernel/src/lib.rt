@@ -9,5 +9,5 @@ mod tests;
 mod window;
 
 pub use difference::{sad16, sad16_until};
-pub use mean::average;
+pub use mean::{average, average_into};
 pub use window::sad_at_until;

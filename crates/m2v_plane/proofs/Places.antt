@@ -23,10 +23,10 @@ line_fits line height width end lt le =
     omega (arith, mul-le-mul_right width h)
 
 -- what is at line r and column c once the first n lines of a row are in place
-abbrev pub mixed : ℕ → ℕ → Lines → ℕ → ℕ → List ℕ → List ℕ → ℕ → ℕ → ℕ
+abbrev pub mixed : ℕ → ℕ → Lines → ℕ → ℕ → List ℕ → (ℕ → ℕ → ℕ) → ℕ → ℕ → ℕ
 mixed columns height which row n old new r c =
     if is_among which r && nat_eq (number_among which r / height) row && nat_lt (number_among which r % height) n
-    then get_or new (number_among which r % height * columns + c) 0
+    then new (number_among which r % height) c
     else get_or old (r * columns + c) 0
 
 columns_some : (i lines columns : ℕ) → i < lines * columns → 0 < columns
@@ -50,13 +50,13 @@ plane_is xs lines columns at len each =
     ∙ sym (get_or-map-range_with_len f 0 (lines * columns) i i 0 small (omega arith)))
 
 -- where n samples are put in place of n others from a on
-put_before : (a n : ℕ) (xs ys : List ℕ) (i : ℕ) → a ≤ length xs → i < a
+pub put_before : (a n : ℕ) (xs ys : List ℕ) (i : ℕ) → a ≤ length xs → i < a
     → get_or (put_mid a n xs ys) i 0 ≡ get_or xs i 0
 put_before a n xs ys i fits lt =
     let len = length-take-le a xs fits in
     get_or_append_left (take a xs) (ys ++ post_of a n xs) 0 i (omega (arith, len)) ∙ get_or-take a xs i 0 lt
 
-put_within : (a n : ℕ) (xs ys : List ℕ) (i : ℕ) → a ≤ length xs → i < length ys
+pub put_within : (a n : ℕ) (xs ys : List ℕ) (i : ℕ) → a ≤ length xs → i < length ys
     → get_or (put_mid a n xs ys) (a + i) 0 ≡ get_or ys i 0
 put_within a n xs ys i fits lt =
     let len = length-take-le a xs fits in
@@ -64,7 +64,7 @@ put_within a n xs ys i fits lt =
     ∙ ap (λ k. get_or (ys ++ post_of a n xs) k 0) (omega arith)
     ∙ get_or_append_left ys (post_of a n xs) 0 i lt
 
-put_behind : (a n : ℕ) (xs ys : List ℕ) (i : ℕ) → a ≤ length xs → length ys ≡ n → a + n ≤ i
+pub put_behind : (a n : ℕ) (xs ys : List ℕ) (i : ℕ) → a ≤ length xs → length ys ≡ n → a + n ≤ i
     → get_or (put_mid a n xs ys) i 0 ≡ get_or xs i 0
 put_behind a n xs ys i fits same le =
     let len = length-take-le a xs fits in
@@ -129,26 +129,26 @@ pub part_len : (xs : List ℕ) (a n : ℕ) → a + n ≤ length xs → length (t
 part_len xs a n fits = length-take-le n (drop a xs) (omega (arith, length-drop a xs))
 
 -- which of the lines a line of the frame is, and back
-placed : (which : Lines) (r : ℕ) → is_among which r ≡ true → frame_line which (number_among which r) ≡ r
+pub placed : (which : Lines) (r : ℕ) → is_among which r ≡ true → frame_line which (number_among which r) ≡ r
 placed Whole r e = refl
 placed Top r e = let even = eqb-true (r % 2) 0 e in omega arith
 placed Bottom r e = let odd = eqb-true (r % 2) 1 e in omega arith
 
-among : (which : Lines) (m : ℕ) → is_among which (frame_line which m) ≡ true
+pub among : (which : Lines) (m : ℕ) → is_among which (frame_line which m) ≡ true
 among Whole m = refl
 among Top m = eq-eqb (2 * m % 2) 0 (omega arith)
 among Bottom m = eq-eqb ((2 * m + 1) % 2) 1 (omega arith)
 
-numbered : (which : Lines) (m : ℕ) → number_among which (frame_line which m) ≡ m
+pub numbered : (which : Lines) (m : ℕ) → number_among which (frame_line which m) ≡ m
 numbered Whole m = refl
 numbered Top m = omega arith
 numbered Bottom m = omega arith
 
-row_number : (q h row n : ℕ) → 0 < h → q / h ≡ row → q % h ≡ n → q ≡ row * h + n
+pub row_number : (q h row n : ℕ) → 0 < h → q / h ≡ row → q % h ≡ n → q ≡ row * h + n
 row_number q h row n some e f = omega (arith, div-add-mod q h, mul_comm h (q / h), ap (λ k. k * h) e)
 
 -- at the start all lines are as they were
-pub mixed_none : (columns height : ℕ) (which : Lines) (row : ℕ) (old new : List ℕ) (r c : ℕ)
+pub mixed_none : (columns height : ℕ) (which : Lines) (row : ℕ) (old : List ℕ) (new : ℕ → ℕ → ℕ) (r c : ℕ)
     → get_or old (r * columns + c) 0 ≡ mixed columns height which row 0 old new r c
 mixed_none columns height which row old new r c =
     by_case (is_among which r) (nat_eq (number_among which r / height) row) (nat_lt (number_among which r % height) 0) (below_zero (number_among which r % height))
@@ -157,15 +157,15 @@ mixed_none columns height which row old new r c =
     below_zero k = grind (arith, nat_tests)
 
     by_case : (a b d : Bool) → d ≡ false → get_or old (r * columns + c) 0
-        ≡ cond (a && b && d) (get_or new (number_among which r % height * columns + c) 0) (get_or old (r * columns + c) 0)
+        ≡ cond (a && b && d) (new (number_among which r % height) c) (get_or old (r * columns + c) 0)
     by_case false b d e = refl
     by_case true false d e = refl
     by_case true true d e = rw e
 
 -- at the end the whole row is in place
-pub mixed_all : (columns height : ℕ) (which : Lines) (row : ℕ) (old new : List ℕ) (r c : ℕ) → 0 < height
+pub mixed_all : (columns height : ℕ) (which : Lines) (row : ℕ) (old : List ℕ) (new : ℕ → ℕ → ℕ) (r c : ℕ) → 0 < height
     → mixed columns height which row height old new r c
-    ≡ cond (is_among which r && nat_eq (number_among which r / height) row) (get_or new (number_among which r % height * columns + c) 0) (get_or old (r * columns + c) 0)
+    ≡ cond (is_among which r && nat_eq (number_among which r / height) row) (new (number_among which r % height) c) (get_or old (r * columns + c) 0)
 mixed_all columns height which row old new r c some =
     by_case (is_among which r) (nat_eq (number_among which r / height) row) (nat_lt (number_among which r % height) height)
     (below (number_among which r % height) (mod_below (number_among which r) height some))
@@ -174,14 +174,14 @@ mixed_all columns height which row old new r c some =
     below k lt = grind (arith, nat_tests)
 
     by_case : (a b d : Bool) → d ≡ true
-        → cond (a && b && d) (get_or new (number_among which r % height * columns + c) 0) (get_or old (r * columns + c) 0)
-        ≡ cond (a && b) (get_or new (number_among which r % height * columns + c) 0) (get_or old (r * columns + c) 0)
+        → cond (a && b && d) (new (number_among which r % height) c) (get_or old (r * columns + c) 0)
+        ≡ cond (a && b) (new (number_among which r % height) c) (get_or old (r * columns + c) 0)
     by_case false b d e = refl
     by_case true false d e = refl
     by_case true true d e = rw e
 
 -- a line that isn't the next one of the row stays
-pub mixed_same : (columns height : ℕ) (which : Lines) (row n : ℕ) (old new : List ℕ) (r c : ℕ) → 0 < height
+pub mixed_same : (columns height : ℕ) (which : Lines) (row n : ℕ) (old : List ℕ) (new : ℕ → ℕ → ℕ) (r c : ℕ) → 0 < height
     → r ≢ frame_line which (row * height + n)
     → mixed columns height which row n old new r c ≡ mixed columns height which row (n + 1) old new r c
 mixed_same columns height which row n old new r c some other =
@@ -195,15 +195,15 @@ mixed_same columns height which row n old new r c some other =
     one_more k ne = grind (arith, nat_tests)
 
     by_case : (a b d e : Bool) → (a ≡ true → b ≡ true → d ≡ e)
-        → cond (a && b && d) (get_or new (number_among which r % height * columns + c) 0) (get_or old (r * columns + c) 0)
-        ≡ cond (a && b && e) (get_or new (number_among which r % height * columns + c) 0) (get_or old (r * columns + c) 0)
+        → cond (a && b && d) (new (number_among which r % height) c) (get_or old (r * columns + c) 0)
+        ≡ cond (a && b && e) (new (number_among which r % height) c) (get_or old (r * columns + c) 0)
     by_case false b d e same = refl
     by_case true false d e same = refl
     by_case true true d e same = rw (same refl refl)
 
 -- the next line of the row
-pub mixed_new : (columns height : ℕ) (which : Lines) (row n : ℕ) (old new : List ℕ) (c : ℕ) → n < height
-    → get_or new (n * columns + c) 0 ≡ mixed columns height which row (n + 1) old new (frame_line which (row * height + n)) c
+pub mixed_new : (columns height : ℕ) (which : Lines) (row n : ℕ) (old : List ℕ) (new : ℕ → ℕ → ℕ) (c : ℕ) → n < height
+    → new n c ≡ mixed columns height which row (n + 1) old new (frame_line which (row * height + n)) c
 mixed_new columns height which row n old new c lt =
     let m = row * height + n in
     let number = numbered which m in
@@ -211,10 +211,25 @@ mixed_new columns height which row n old new c lt =
     let e2 : number_among which (frame_line which m) % height ≡ n = ap (λ k. k % height) number ∙ mod-mul-add row height n lt in
     rw (among which m, e1, e2) (by_case (nat_lt n (n + 1)) (grind (arith, nat_tests)))
   where
-    by_case : (d : Bool) → d ≡ true → get_or new (n * columns + c) 0
-        ≡ cond d (get_or new (n * columns + c) 0) (get_or old (frame_line which (row * height + n) * columns + c) 0)
+    by_case : (d : Bool) → d ≡ true → new n c
+        ≡ cond d (new n c) (get_or old (frame_line which (row * height + n) * columns + c) 0)
     by_case true e = refl
     by_case false e = cc
+
+-- the next line of the row is as it was
+pub mixed_still : (columns height : ℕ) (which : Lines) (row n : ℕ) (old : List ℕ) (new : ℕ → ℕ → ℕ) (c : ℕ) → n < height
+    → mixed columns height which row n old new (frame_line which (row * height + n)) c ≡ get_or old (frame_line which (row * height + n) * columns + c) 0
+mixed_still columns height which row n old new c lt =
+    let m = row * height + n in
+    let number = numbered which m in
+    let e1 : nat_eq (number_among which (frame_line which m) / height) row ≡ true = eq-eqb _ row (ap (λ k. k / height) number ∙ div-mul-add row height n lt) in
+    let e2 : number_among which (frame_line which m) % height ≡ n = ap (λ k. k % height) number ∙ mod-mul-add row height n lt in
+    rw (among which m, e1, e2) (by_case (nat_lt n n) (grind (arith, nat_tests)))
+  where
+    by_case : (d : Bool) → d ≡ false → cond d (new n c) (get_or old (frame_line which (row * height + n) * columns + c) 0)
+        ≡ get_or old (frame_line which (row * height + n) * columns + c) 0
+    by_case true e = cc
+    by_case false e = refl
 
 pub frame_line-below : (which : Lines) (line total : ℕ) → line < part_of which total → frame_line which line < total
 frame_line-below Whole line total lt = lt

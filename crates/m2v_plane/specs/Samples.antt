@@ -96,3 +96,42 @@ with_row s which row new = record {
   cb = plane_with_row (8 * s.dims.mb_rows) (8 * s.dims.mb_width) 8 which row s.cb new.cb;
   cr = plane_with_row (8 * s.dims.mb_rows) (8 * s.dims.mb_width) 8 which row s.cr new.cr;
 }
+
+-- the samples of a macroblock's square of so many lines of as many columns, by line and column
+abbrev pub square_of : ℕ → List ℕ → ℕ → ℕ → ℕ
+square_of side samples line column = slice_index samples (side * line + column)
+
+-- a plane of so many lines, with one macroblock's square of these lines replaced
+unfoldable pub plane_with_square : ℕ → ℕ → ℕ → Lines → ℕ → ℕ → (ℕ → ℕ → ℕ) → List ℕ → List ℕ
+plane_with_square lines columns side which row column new old =
+    plane_by lines columns
+    (λ line c.
+    if is_among which line && (nat_eq (number_among which line / side) row && nat_eq (c / side) column)
+    then new (number_among which line % side) (c % side)
+    else slice_index old (line * columns + c))
+
+-- planes of so many macroblock rows, with the square of one macroblock of these lines replaced in one plane
+abbrev pub with_square : ℕ → Samples → Plane → Lines → ℕ → ℕ → (ℕ → ℕ → ℕ) → Samples
+with_square rows s Y which row column new =
+    record s { luma = plane_with_square (16 * rows) (columns_of s.dims Y) 16 which row column new s.luma }
+with_square rows s Cb which row column new =
+    record s { cb = plane_with_square (8 * rows) (columns_of s.dims Cb) 8 which row column new s.cb }
+with_square rows s Cr which row column new =
+    record s { cr = plane_with_square (8 * rows) (columns_of s.dims Cr) 8 which row column new s.cr }
+
+-- a plane of so many lines, with these lines as they are in another one
+unfoldable pub plane_with_lines : ℕ → ℕ → Lines → List ℕ → List ℕ → List ℕ
+plane_with_lines lines columns which old new =
+    plane_by lines columns
+    (λ line c.
+    if is_among which line then slice_index new (line * columns + c)
+    else slice_index old (line * columns + c))
+
+-- a frame with these lines of another one
+abbrev pub with_field : Samples → Lines → Samples → Samples
+with_field s which other = record {
+  dims = s.dims;
+  luma = plane_with_lines (16 * s.dims.mb_rows) (16 * s.dims.mb_width) which s.luma other.luma;
+  cb = plane_with_lines (8 * s.dims.mb_rows) (8 * s.dims.mb_width) which s.cb other.cb;
+  cr = plane_with_lines (8 * s.dims.mb_rows) (8 * s.dims.mb_width) which s.cr other.cr;
+}

@@ -1,12 +1,12 @@
 ghost use Rattle.std.specs.Prelude.{◌≡◌, ◌+◌, ◌*◌, ◌/◌, ◌≤◌, ◌<◌, IfOk, length, vec_len};
 ghost use Rattle.m2v_plane.specs.Sizes.{IsSize, side, frame_line, lines_of, columns_of, part_of};
-ghost use Rattle.m2v_plane.specs.Samples.{Samples, plane_of, HasRows, sample_in, blank, with_row};
+ghost use Rattle.m2v_plane.specs.Samples.{Samples, plane_of, HasRows, sample_in, blank, square_of, with_field, with_row, with_square};
 ghost use Rattle.m2v_plane.specs.Raw.{frame_bytes, pad, crop};
 
 use crate::Memory;
 use crate::dims::Dims;
 use crate::moves::{self, line_start};
-use crate::planes::{Lines, Plane, side_of};
+use crate::planes::{Lines, Plane};
 use crate::row::RowSamples;
 use crate::view::RefView;
 use std::alloc::Global;
@@ -145,6 +145,73 @@ impl Frame {
         moves::set_rows(&mut self.cr, 8 * total, 8 * columns, 8, lines, row, cr);
     }
 
+    /// Makes all samples 0.
+    pub fn clear(&mut self)
+        ensures value { self.new ≡ blank self.old.dims self.old.dims.mb_rows }
+    {
+        self.luma.fill(0);
+        self.cb.fill(0);
+        self.cr.fill(0);
+    }
+
+    /// Takes the samples of another frame of the same size.
+    pub fn copy_from(&mut self, other: &Frame)
+        requires same { other.now.dims ≡ self.old.dims }
+        ensures value { self.new ≡ other.now }
+    {
+        self.luma.copy_from_slice(&other.luma);
+        self.cb.copy_from_slice(&other.cb);
+        self.cr.copy_from_slice(&other.cr);
+    }
+
+    /// Takes the lines of one field, or all lines, from another frame of the same size, and leaves the others.
+    pub fn set_field(&mut self, lines: Lines, other: &Frame)
+        requires same { other.now.dims ≡ self.old.dims }
+        ensures value { self.new ≡ with_field self.old lines other.now }
+    {
+        let (total, columns) = (self.dims.mb_rows as usize, self.dims.mb_width as usize);
+        moves::set_lines(&mut self.luma, 16 * total, 16 * columns, lines, &other.luma);
+        moves::set_lines(&mut self.cb, 8 * total, 8 * columns, lines, &other.cb);
+        moves::set_lines(&mut self.cr, 8 * total, 8 * columns, lines, &other.cr);
+    }
+
+    /// Replaces the square of one macroblock of the whole frame or of one field in one plane, line by line: 16 lines of
+    /// 16 samples of luma, 8 lines of 8 of a colour difference. Of a field only its own lines are replaced.
+    #[inline(always)]
+    pub fn set_square(&mut self, plane: Plane, lines: Lines, row: u32, column: u32, samples: &[u8])
+        requires row { 16 * row + 16 ≤ part_of lines (16 * self.old.dims.mb_rows) }
+        requires column { column < self.old.dims.mb_width }
+        requires samples { length samples.now ≡ side plane * side plane }
+        ensures value { self.new
+            ≡ with_square self.old.dims.mb_rows self.old plane lines row column (square_of (side plane) samples.now) }
+    {
+        let (total, columns) = (self.dims.mb_rows as usize, self.dims.mb_width as usize);
+        let (row, column) = (row as usize, column as usize);
+        match plane {
+            Plane::Y => {
+                let (lines_in, wide) = (16 * total, 16 * columns);
+                moves::set_square(
+                    &mut self.luma,
+                    lines_in,
+                    wide,
+                    16,
+                    lines,
+                    row,
+                    column,
+                    samples,
+                );
+            }
+            Plane::Cb => {
+                let (lines_in, wide) = (8 * total, 8 * columns);
+                moves::set_square(&mut self.cb, lines_in, wide, 8, lines, row, column, samples);
+            }
+            Plane::Cr => {
+                let (lines_in, wide) = (8 * total, 8 * columns);
+                moves::set_square(&mut self.cr, lines_in, wide, 8, lines, row, column, samples);
+            }
+        }
+    }
+
     /// The samples of a plane, line by line.
     #[inline(always)]
     fn plane(&self, plane: Plane) -> &[u8]
@@ -174,7 +241,7 @@ impl RefView for Frame {
 
     #[inline(always)]
     fn line(&self, plane: Plane, lines: Lines, line: u32, column: u32, len: u32) -> &[u8] {
-        let side = side_of(plane);
+        let side = plane.side() as usize;
         let (total, columns) = (self.dims.mb_rows as usize, self.dims.mb_width as usize);
         let from = line_start(lines, line as usize, side * total, side * columns) + column as usize;
         &self.plane(plane)[from..from + len as usize]
@@ -182,7 +249,7 @@ impl RefView for Frame {
 
     #[inline(always)]
     fn sample(&self, plane: Plane, lines: Lines, line: u32, column: u32) -> u8 {
-        let side = side_of(plane);
+        let side = plane.side() as usize;
         let (total, columns) = (self.dims.mb_rows as usize, self.dims.mb_width as usize);
         let from = line_start(lines, line as usize, side * total, side * columns);
         self.plane(plane)[from + column as usize]

@@ -2,6 +2,7 @@
 #![tactic(auto)]
 
 mod dims;
+mod fields;
 mod frame;
 mod laws;
 mod moves;
@@ -11,7 +12,8 @@ mod row;
 mod tests;
 mod view;
 
-pub use dims::Dims;
+pub use dims::{Dims, bytes_of};
+pub use fields::FieldView;
 pub use frame::Frame;
 pub use laws::{law_crop_pad, law_raw_cut};
 pub use planes::{Lines, Plane};

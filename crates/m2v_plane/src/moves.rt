@@ -1,11 +1,12 @@
 //! Whole lines, moved by slices.
-ghost use Rattle.std.specs.Prelude.{ℕ, ◌≡◌, ◌≤◌, ◌<◌, ◌*◌, ◌+◌, ◌-◌, ◌^◌, length, vec_len, slice_index, min, drop};
+ghost use Rattle.std.specs.Prelude.{◌⊎◌, ◌%◌, ℕ, ◌≡◌, ◌≤◌, ◌<◌, ◌*◌, ◌+◌, ◌-◌, ◌^◌, length, vec_len, slice_index, min, drop};
 ghost use Rattle.std.specs.List.{range_with_len};
 ghost use Rattle.m2v_plane.specs.Sizes.{frame_line, part_of};
-ghost use Rattle.m2v_plane.specs.Samples.{plane_with_row, put};
+ghost use Rattle.m2v_plane.specs.Samples.{plane_with_lines, plane_with_row, plane_with_square, put, square_of};
 ghost use Rattle.m2v_plane.specs.Raw.{padded, shown};
 
 use crate::planes::{Lines, place_of};
+use std::simd::prelude::*;
 
 /// A line whose last sample is repeated to its end.
 fn pad_line(out: &mut [u8], line: &[u8])
@@ -103,4 +104,74 @@ pub fn put_part(out: &mut [u8], from: usize, samples: &[u8])
     ensures value { out.new ≡ put out.old from samples.now }
 {
     out[from..from + samples.len()].copy_from_slice(samples);
+}
+
+/// A line of a macroblock, 16 or 8 samples, copied by one move.
+#[inline(always)]
+fn copy_side(out: &mut [u8], line: &[u8])
+    requires side { (length line.now ≡ 16) ⊎ (length line.now ≡ 8) }
+    requires same { length out.old ≡ length line.now }
+    ensures value { out.new ≡ line.now }
+{
+    if line.len() == 16 {
+        u8x16::from_slice(line).copy_to_slice(out);
+    } else {
+        u8x8::from_slice(line).copy_to_slice(out);
+    }
+}
+
+/// The square of one macroblock of the whole frame or of one field.
+#[inline(always)]
+pub fn set_square(
+    plane: &mut [u8],
+    total: usize,
+    columns: usize,
+    side: usize,
+    lines: Lines,
+    row: usize,
+    column: usize,
+    samples: &[u8],
+)
+    requires whole { length plane.old ≡ total * columns }
+    requires side { (side ≡ 16) ⊎ (side ≡ 8) }
+    requires row { row * side + side ≤ part_of lines total }
+    requires column { side * column + side ≤ columns }
+    requires samples { length samples.now ≡ side * side }
+    requires total { total ≤ 2 ^ 12 }
+    requires columns { columns ≤ 2 ^ 12 }
+    ensures value { plane.new ≡ plane_with_square total columns side lines row column (square_of side samples.now) plane.old }
+{
+    for line in 0..side {
+        let at = line_start(lines, row * side + line, total, columns) + side * column;
+        let from = side * line;
+        copy_side(&mut plane[at..at + side], &samples[from..from + side]);
+    }
+}
+
+/// How many of so many lines are lines of the whole frame or of one field.
+#[inline(always)]
+fn part_of(lines: Lines, total: usize) -> usize
+    ensures value { result ≡ part_of lines total }
+{
+    match lines {
+        Lines::Whole => total,
+        Lines::Top | Lines::Bottom => total / 2,
+    }
+}
+
+/// The lines of the whole frame or of one field, as they are in another plane.
+pub fn set_lines(plane: &mut [u8], total: usize, columns: usize, lines: Lines, samples: &[u8])
+    requires whole { length plane.old ≡ total * columns }
+    requires samples { length samples.now ≡ total * columns }
+    requires even { total % 2 ≡ 0 }
+    requires some { 1 ≤ total }
+    requires total { total ≤ 2 ^ 12 }
+    requires columns { columns ≤ 2 ^ 12 }
+    ensures value { plane.new ≡ plane_with_lines total columns lines plane.old samples.now }
+{
+    let count = part_of(lines, total);
+    for line in 0..count {
+        let at = line_start(lines, line, total, columns);
+        plane[at..at + columns].copy_from_slice(&samples[at..at + columns]);
+    }
 }

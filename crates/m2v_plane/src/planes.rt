@@ -1,5 +1,5 @@
 ghost use Rattle.std.specs.Prelude.{◌≡◌, ◌≤◌, ◌*◌, ◌+◌};
-ghost use Rattle.m2v_plane.specs.Sizes.{side, frame_line};
+ghost use Rattle.m2v_plane.specs.Sizes.{frame_line};
 
 /// A plane of samples (clause 6.1.1).
 #[derive(Clone, Copy, Debug, PartialEq, Eq)]
@@ -23,16 +23,21 @@ pub enum Lines {
     Bottom,
 }
 
-/// The side of a macroblock in a plane, in samples.
-#[inline(always)]
-pub(crate) fn side_of(plane: Plane) -> usize
-    ensures value { result ≡ side plane }
-    ensures least { 8 ≤ result }
-    ensures most { result ≤ 16 }
-{
-    match plane {
-        Plane::Y => 16,
-        Plane::Cb | Plane::Cr => 8,
+impl Plane {
+    ghost use Rattle.std.specs.Prelude.{◌≡◌, ◌≤◌};
+    ghost use Rattle.m2v_plane.specs.Sizes.{side};
+
+    /// The side of a macroblock in the plane: 16 samples of luma, 8 of a colour difference (clause 6.1.3, 4:2:0).
+    #[inline(always)]
+    pub fn side(self) -> u32
+        ensures value { result ≡ side self }
+        ensures least { 8 ≤ result }
+        ensures most { result ≤ 16 }
+    {
+        match self {
+            Plane::Y => 16,
+            Plane::Cb | Plane::Cr => 8,
+        }
     }
 }
 

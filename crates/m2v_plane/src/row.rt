@@ -1,11 +1,12 @@
 ghost use Rattle.std.specs.Prelude.{◌≡◌, ◌+◌, ◌*◌, ◌≤◌, ◌<◌, IfOk, length};
 ghost use Rattle.m2v_plane.specs.Sizes.{IsSize, side, columns_of};
-ghost use Rattle.m2v_plane.specs.Samples.{Samples, plane_of, HasRows, sample_of, blank, line_part, with_sample, with_part};
+ghost use Rattle.m2v_plane.specs.Samples.{Samples, plane_of, HasRows, sample_of, blank, line_part, square_of, with_part, with_sample, with_square};
+ghost use Rattle.m2v_plane.specs.declared.planes.Lines.TheVariants.{Whole};
 
 use crate::Memory;
 use crate::dims::Dims;
-use crate::moves::put_part;
-use crate::planes::{Plane, side_of};
+use crate::moves::{self, put_part};
+use crate::planes::{Lines, Plane};
 use std::alloc::Global;
 use std::marker::Model;
 
@@ -75,7 +76,7 @@ impl RowSamples {
         requires column { column < columns_of self.now.dims plane }
         ensures value { result ≡ sample_of self.now plane line column }
     {
-        let columns = side_of(plane) * self.dims.mb_width as usize;
+        let columns = plane.side() as usize * self.dims.mb_width as usize;
         self.plane(plane)[line as usize * columns + column as usize]
     }
 
@@ -102,7 +103,7 @@ impl RowSamples {
         requires within { column + len ≤ columns_of self.now.dims plane }
         ensures value { result.now ≡ line_part (sample_of self.now plane line) column len }
     {
-        let columns = side_of(plane) * self.dims.mb_width as usize;
+        let columns = plane.side() as usize * self.dims.mb_width as usize;
         let from = line as usize * columns + column as usize;
         &self.plane(plane)[from..from + len as usize]
     }
@@ -121,5 +122,40 @@ impl RowSamples {
             Plane::Cb => put_part(&mut self.cb, line * (8 * columns) + column, samples),
             Plane::Cr => put_part(&mut self.cr, line * (8 * columns) + column, samples),
         }
+    }
+    /// Replaces the square of one macroblock in one plane, line by line: 16 lines of 16 samples of luma, 8 lines of 8 of
+    /// a colour difference.
+    #[inline(always)]
+    pub fn set_square(&mut self, plane: Plane, column: u32, samples: &[u8])
+        requires column { column < self.old.dims.mb_width }
+        requires samples { length samples.now ≡ side plane * side plane }
+        ensures value { self.new ≡ with_square 1 self.old plane Whole 0 column (square_of (side plane) samples.now) }
+    {
+        let columns = self.dims.mb_width as usize;
+        let (lines, column) = (Lines::Whole, column as usize);
+        match plane {
+            Plane::Y => {
+                let wide = 16 * columns;
+                moves::set_square(&mut self.luma, 16, wide, 16, lines, 0, column, samples);
+            }
+            Plane::Cb => {
+                let wide = 8 * columns;
+                moves::set_square(&mut self.cb, 8, wide, 8, lines, 0, column, samples);
+            }
+            Plane::Cr => {
+                let wide = 8 * columns;
+                moves::set_square(&mut self.cr, 8, wide, 8, lines, 0, column, samples);
+            }
+        }
+    }
+
+    /// Takes the samples of another row for frames of the same size.
+    pub fn copy_from(&mut self, other: &RowSamples)
+        requires same { other.now.dims ≡ self.old.dims }
+        ensures value { self.new ≡ other.now }
+    {
+        self.luma.copy_from_slice(&other.luma);
+        self.cb.copy_from_slice(&other.cb);
+        self.cr.copy_from_slice(&other.cr);
     }
 }

@@ -9,7 +9,7 @@ use Rattle.std.proofs.lemmas.List.FromFn.{fill_by_all, get_or-map-range_with_len
 use Rattle.std.proofs.Math.ListN.{length-set}
 use Rattle.m2v_quant.specs.declared.kind.BlockKind.{BlockKind}
 use Rattle.m2v_quant.specs.Quantiser.{with_sign}
-use Rattle.m2v_quant.specs.Coefficients.{ac_coefficient, dc_coefficient, saturated_at, sum_below, other_parity, coefficient_at, coefficients_of}
+use Rattle.m2v_quant.specs.Coefficients.{ac_coefficient, dc_coefficient, saturated_at, coefficient_sum, other_parity, coefficient_at, coefficients_of}
 
 negated : (a s : ℕ) → neg_ℤ (pos a) *ℤ pos s ≡ neg_ℤ (pos (a * s))
 negated zero s = let e : 0 * s ≡ 0 = omega arith in rw e refl
@@ -46,17 +46,6 @@ parity_more p (pos a) (negsuc b) e = omega (arith, ints)
 parity_more p (negsuc a) (pos b) e = omega (arith, ints)
 parity_more p (negsuc a) (negsuc b) e = omega (arith, ints)
 
-sum_more : (n : ℕ) (g : ℕ → ℤ) → sum_below (n + 1) g ≡ sum_below n g +ℤ g n
-unfolding sum_below
-sum_more n g = let e : n + 1 ≡ suc n = omega arith in rw e refl
-
-pub parity_next : (p r n : ℕ) (g : ℕ → ℤ) (c : ℤ) → p ≡ unsigned_abs (sum_below n g) % 2 → c ≡ g n → r ≡ (p + unsigned_abs c) % 2 → r ≡ unsigned_abs (sum_below (n + 1) g) % 2
-parity_next p r n g c e is step = step ∙ parity_more p (sum_below n g) c e ∙ ap (λ (z : ℤ). unsigned_abs (sum_below n g +ℤ z) % 2) is ∙ sym (ap (λ (z : ℤ). unsigned_abs z % 2) (sum_more n g))
-
-pub parity_none : (g : ℕ → ℤ) → 0 ≡ unsigned_abs (sum_below 0 g) % 2
-unfolding sum_below
-parity_none g = refl
-
 -- one more place is written
 pub write_next : (P : ℕ → ℤ → Type 0) (xs : List ℤ) (n : ℕ) (v : ℤ) → n < length xs → ((k : ℕ) → k < n → P k (get_or xs k (pos 0))) → P n v
     → (k : ℕ) → k < n + 1 → P k (get_or (set xs n v) k (pos 0))
@@ -70,14 +59,14 @@ unfolding coefficient_at
 other_place levels kind k ne = rw (ne_eqb k 63 ne) refl
 
 -- the sum is odd
-odd_place : (levels : List ℤ) (kind : BlockKind) (k : ℕ) → (unsigned_abs (sum_below 64 (saturated_at levels kind)) % 2 ≡ 0 → ⊥) → coefficient_at levels kind k ≡ saturated_at levels kind k
+odd_place : (levels : List ℤ) (kind : BlockKind) (k : ℕ) → (unsigned_abs (coefficient_sum 64 (saturated_at levels kind)) % 2 ≡ 0 → ⊥) → coefficient_at levels kind k ≡ saturated_at levels kind k
 unfolding coefficient_at
 odd_place levels kind k odd = elim (cases_eq k 63) [
-  | inl same ↦ rw (ne_eqb (unsigned_abs (sum_below 64 (saturated_at levels kind)) % 2) 0 odd, eq-eqb k 63 same) refl
+  | inl same ↦ rw (ne_eqb (unsigned_abs (coefficient_sum 64 (saturated_at levels kind)) % 2) 0 odd, eq-eqb k 63 same) refl
   | inr ne ↦ rw (ne_eqb k 63 ne) refl
 ]
 
-even_last : (levels : List ℤ) (kind : BlockKind) → unsigned_abs (sum_below 64 (saturated_at levels kind)) % 2 ≡ 0 → coefficient_at levels kind 63 ≡ other_parity (saturated_at levels kind 63)
+even_last : (levels : List ℤ) (kind : BlockKind) → unsigned_abs (coefficient_sum 64 (saturated_at levels kind)) % 2 ≡ 0 → coefficient_at levels kind 63 ≡ other_parity (saturated_at levels kind 63)
 unfolding coefficient_at
 even_last levels kind even = rw even refl
 
@@ -87,18 +76,18 @@ before levels kind = map (saturated_at levels kind) (range_with_len 0 64)
 at_before : (levels : List ℤ) (kind : BlockKind) (xs : List ℤ) (k : ℕ) → xs ≡ before levels kind → k < 64 → get_or xs k (pos 0) ≡ saturated_at levels kind k
 at_before levels kind xs k e lt = ap (λ (ys : List ℤ). get_or ys k (pos 0)) e ∙ get_or-map-range_with_len (saturated_at levels kind) 0 64 k k (pos 0) lt (omega arith)
 
-pub odd_block : (levels : List ℤ) (kind : BlockKind) (xs : List ℤ) → length xs ≡ 64 → xs ≡ before levels kind → (unsigned_abs (sum_below 64 (saturated_at levels kind)) % 2 ≡ 0 → ⊥) → xs ≡ coefficients_of levels kind
+pub odd_block : (levels : List ℤ) (kind : BlockKind) (xs : List ℤ) → length xs ≡ 64 → xs ≡ before levels kind → (unsigned_abs (coefficient_sum 64 (saturated_at levels kind)) % 2 ≡ 0 → ⊥) → xs ≡ coefficients_of levels kind
 unfolding coefficients_of
 odd_block levels kind xs len e odd = fill_by_all (coefficient_at levels kind) xs 64 (pos 0) len (λ k lt. at_before levels kind xs k e lt ∙ sym (odd_place levels kind k odd))
 
-even_place : (levels : List ℤ) (kind : BlockKind) (xs : List ℤ) (v : ℤ) → length xs ≡ 64 → xs ≡ before levels kind → unsigned_abs (sum_below 64 (saturated_at levels kind)) % 2 ≡ 0 → v ≡ other_parity (get_or xs 63 (pos 0))
+even_place : (levels : List ℤ) (kind : BlockKind) (xs : List ℤ) (v : ℤ) → length xs ≡ 64 → xs ≡ before levels kind → unsigned_abs (coefficient_sum 64 (saturated_at levels kind)) % 2 ≡ 0 → v ≡ other_parity (get_or xs 63 (pos 0))
     → (k : ℕ) → k < 64 → get_or (set xs 63 v) k (pos 0) ≡ coefficient_at levels kind k
 even_place levels kind xs v len e even is k lt = elim (cases_eq k 63) [
   | inl same ↦ let inside : 63 < length xs = omega arith in rw same (rw get_or-set_same (is ∙ ap other_parity (at_before levels kind xs 63 e (omega arith)) ∙ sym (even_last levels kind even)))
   | inr ne ↦ let apart : k ≢ 63 = ne in rw get_or-set_other (at_before levels kind xs k e lt ∙ sym (other_place levels kind k ne))
 ]
 
-pub even_block : (levels : List ℤ) (kind : BlockKind) (xs : List ℤ) (v : ℤ) → length xs ≡ 64 → xs ≡ before levels kind → unsigned_abs (sum_below 64 (saturated_at levels kind)) % 2 ≡ 0 → v ≡ other_parity (get_or xs 63 (pos 0))
+pub even_block : (levels : List ℤ) (kind : BlockKind) (xs : List ℤ) (v : ℤ) → length xs ≡ 64 → xs ≡ before levels kind → unsigned_abs (coefficient_sum 64 (saturated_at levels kind)) % 2 ≡ 0 → v ≡ other_parity (get_or xs 63 (pos 0))
     → set xs 63 v ≡ coefficients_of levels kind
 unfolding coefficients_of
 even_block levels kind xs v len e even is = fill_by_all (coefficient_at levels kind) (set xs 63 v) 64 (pos 0) (length-set xs 63 v ∙ len) (even_place levels kind xs v len e even is)

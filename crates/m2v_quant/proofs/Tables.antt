@@ -1,16 +1,14 @@
 -- The program's tables are those of the standard.
-use Rattle.std.proofs.Common.{inl, inr, ◌≡◌, ℕ, ◌-◌, ◌*◌, ◌^◌, ◌<◌, ◌≤◌, Bool, true, false, List, All, length, map, get_or, refl, ap, ◌∙◌, arith}
+use Rattle.std.proofs.Common.{inl, inr, ◌≡◌, ℕ, ◌-◌, ◌*◌, ◌^◌, ◌<◌, ◌≤◌, Bool, true, false, List, All, length, get_or, refl, ap, ◌∙◌, arith}
 use Rattle.std.specs.Prelude.{nat_lt, nat_le, ◌&&◌, slice_index}
-use Rattle.std.specs.List.{list_all, range_with_len}
+use Rattle.std.specs.List.{list_all}
 use Rattle.std.proofs.lemmas.List.Elements.{All-from_get_or}
-use Rattle.std.proofs.lemmas.List.FromFn.{get_or-map-range_with_len}
 use Rattle.std.proofs.lemmas.Bool.{ltb-true, leb-true, and_parts, cases_Bool, both_ways}
 use Rattle.std.proofs.lemmas.List.Folds.{list_all_at}
 use Rattle.m2v_quant.specs.Scans.{zigzag, alternate, nonlinear_scales, scan_order, scale_at}
-use Rattle.m2v_quant.specs.Coefficients.{position}
 use Rattle.m2v_quant.specs.Matrices.{intra_matrix}
 use Rattle.m2v_quant.specs.declared.matrices.TheConstants.{INTRA}
-use Rattle.m2v_quant.specs.declared.scans.TheConstants.{ZIGZAG, ALTERNATE, ZIGZAG_POSITIONS, ALTERNATE_POSITIONS, SCALES}
+use Rattle.m2v_quant.specs.declared.scans.TheConstants.{ZIGZAG, ALTERNATE, SCALES}
 
 pub same_zigzag : ZIGZAG ≡ zigzag
 unfolding zigzag
@@ -60,26 +58,6 @@ pub scale_range : (code r : ℕ) → 1 ≤ code → code ≤ 31 → r ≡ slice_
 scale_range code r low high is =
     let passes = and_parts (nat_le 1 (get_or SCALES (code - 1) 0)) (nat_le (get_or SCALES (code - 1) 0) 112) (entry_passes scale SCALES (code - 1) refl (omega arith)) in
     rw is (leb-true _ _ passes.0, leb-true _ _ passes.1)
-
-same_positions : ZIGZAG_POSITIONS ≡ map (position false) (range_with_len 0 64)
-unfolding position scan_order zigzag
-same_positions = refl
-
-same_alternate_positions : ALTERNATE_POSITIONS ≡ map (position true) (range_with_len 0 64)
-unfolding position scan_order alternate
-same_alternate_positions = refl
-
-pub zigzag_position : (b : Bool) (place r : ℕ) → b ≡ false → place < 64 → r ≡ slice_index ZIGZAG_POSITIONS place → r ≡ position b place
-zigzag_position b place r e lt is = rw e (is ∙ ap (λ (xs : List ℕ). get_or xs place 0) same_positions ∙ get_or-map-range_with_len (position false) 0 64 place place 0 lt (omega arith))
-
-pub zigzag_position_below : (place r : ℕ) → place < 64 → r ≡ slice_index ZIGZAG_POSITIONS place → r < 64
-zigzag_position_below place r lt is = rw is (ltb-true _ _ (entry_passes place_test ZIGZAG_POSITIONS place refl lt))
-
-pub alternate_position : (b : Bool) (place r : ℕ) → b ≡ true → place < 64 → r ≡ slice_index ALTERNATE_POSITIONS place → r ≡ position b place
-alternate_position b place r e lt is = rw e (is ∙ ap (λ (xs : List ℕ). get_or xs place 0) same_alternate_positions ∙ get_or-map-range_with_len (position true) 0 64 place place 0 lt (omega arith))
-
-pub alternate_position_below : (place r : ℕ) → place < 64 → r ≡ slice_index ALTERNATE_POSITIONS place → r < 64
-alternate_position_below place r lt is = rw is (ltb-true _ _ (entry_passes place_test ALTERNATE_POSITIONS place refl lt))
 
 pub same_intra : INTRA ≡ intra_matrix
 unfolding intra_matrix

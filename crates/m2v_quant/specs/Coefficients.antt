@@ -36,10 +36,10 @@ saturated_of kind place level =
 unfoldable pub saturated_at : List ℤ → BlockKind → ℕ → ℤ
 saturated_at levels kind place = saturated_of kind place (level_of levels kind place)
 
--- g 0 + .. + g (n - 1)
-unfoldable pub sum_below : ℕ → (ℕ → ℤ) → ℤ
-sum_below zero g = pos 0
-sum_below (suc n) g = sum_below n g +ℤ g n
+-- the sum g 0 + .. + g (n - 1) of the coefficients of the first n places
+unfoldable pub coefficient_sum : ℕ → (ℕ → ℤ) → ℤ
+coefficient_sum zero g = pos 0
+coefficient_sum (suc n) g = coefficient_sum n g +ℤ g n
 
 abbrev pub is_even : ℤ → Bool
 is_even z = nat_eq (unsigned_abs z % 2) 0
@@ -51,7 +51,7 @@ other_parity z = if is_even z then z +ℤ pos 1 else z -ℤ pos 1
 -- the coefficient of a raster place: the last one changes its parity where the sum of all is even (clause 7.4.4)
 unfoldable pub coefficient_at : List ℤ → BlockKind → ℕ → ℤ
 coefficient_at levels kind place =
-    if nat_eq place 63 && is_even (sum_below 64 (saturated_at levels kind)) then other_parity (saturated_at levels kind place)
+    if nat_eq place 63 && is_even (coefficient_sum 64 (saturated_at levels kind)) then other_parity (saturated_at levels kind place)
     else saturated_at levels kind place
 
 -- the 64 coefficients in raster order

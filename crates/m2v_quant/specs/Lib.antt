@@ -1,4 +1,5 @@
 pub mod Scans
+pub mod Prefix
 pub mod Kinds
 pub mod Coefficients
 pub mod Matrices

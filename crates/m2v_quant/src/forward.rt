@@ -59,7 +59,12 @@ fn ac_size(intra: bool, step: u32, size: u32) -> u32
     ensures value { result ≡ min ((16 * size + cond intra (step / 2) 0) / step) 2047 }
     ensures most { result ≤ 2047 }
 {
-    ((16 * size + half(intra, step)) / step).min(2047)
+    // most are 0, and need no division
+    let sixteenths = 16 * size + half(intra, step);
+    if sixteenths < step {
+        return 0;
+    }
+    (sixteenths / step).min(2047)
 }
 
 /// A number of this size and the sign of `like`.

@@ -1,11 +1,13 @@
-ghost use Rattle.std.specs.Prelude.{◌≡◌, ◌+◌, ◌*◌, ◌/◌, ◌%◌, ◌^◌, ◌<◌, ◌≤◌, ◌∷◌, [], cond, min, slice_index, All, ℤ, pos, ◌*ℤ◌, unsigned_abs, nat_eq, if◌then◌else◌, map};
+ghost use Rattle.std.specs.Prelude.{◌≡◌, ◌+◌, ◌*◌, ◌/◌, ◌%◌, ◌^◌, ◌<◌, ◌≤◌, ◌∷◌, [], cond, min, slice_index, slice_index_or, slice_set, ◌-◌, IsTrue, ℕ, All, ℤ, pos, ◌*ℤ◌, unsigned_abs, nat_eq, if◌then◌else◌, map};
 ghost use Rattle.std.specs.List.{range_with_len};
 ghost use Rattle.m2v_quant.specs.Kinds.{IsKind, IsLevel, IsCoefficient};
 ghost use Rattle.m2v_quant.specs.Quantiser.{with_sign};
-ghost use Rattle.m2v_quant.specs.Coefficients.{ac_coefficient, dc_coefficient, saturated, saturated_of, saturated_at, coefficients_of, sum_below, other_parity};
+ghost use Rattle.m2v_quant.specs.Prefix.{IsUpTo};
+ghost use Rattle.m2v_quant.specs.Scans.{scan_order};
+ghost use Rattle.m2v_quant.specs.Coefficients.{ac_coefficient, dc_coefficient, saturated, saturated_of, saturated_at, coefficients_of, coefficient_sum, other_parity};
 
 use crate::kind::{BlockKind, Levels};
-use crate::scans::position;
+use crate::scans::scan;
 
 /// The product of matrix value and scale of a raster place.
 #[inline(always)]
@@ -90,20 +92,6 @@ fn coefficient(kind: &BlockKind, place: u8, level: i32) -> i32
     ac(kind.intra, step(kind, place), level)
 }
 
-/// The coefficient of a raster place before mismatch control.
-#[inline(always)]
-#[tactic(auto, unfolding(crate::specs::Coefficients::saturated_at))]
-fn coefficient_at(levels: &Levels, kind: &BlockKind, place: u8) -> i32
-    requires kind { IsKind kind.now }
-    requires levels { All IsLevel levels.now.at }
-    requires place { place < 64 }
-    ensures value { result ≡ saturated_at levels.now.at kind.now place }
-    ensures within { IsCoefficient result }
-{
-    let level = levels.at[position(kind.alternate, place) as usize];
-    coefficient(kind, place, level)
-}
-
 /// The parity of a sum with one more number.
 #[inline(always)]
 fn parity_with(parity: u32, coefficient: i32) -> u32
@@ -130,20 +118,97 @@ fn turned(coefficient: i32) -> i32
     }
 }
 
-/// The coefficients of levels before mismatch control, and the parity of their sum.
+/// The place of one level more, and the parity with it.
+#[inline(always)]
+fn put_coefficient(level: i32, kind: &BlockKind, i: u8, out: &mut [i32; 64], parity: u32) -> u32
+    requires level { IsLevel level }
+    requires kind { IsKind kind.now }
+    requires i { i < 64 }
+    requires parity { parity < 2 }
+    ensures value { out.new ≡ slice_set out.old (slice_index (scan_order kind.now.alternate) i)
+        (saturated_of kind.now (slice_index (scan_order kind.now.alternate) i) level) }
+    ensures within { slice_index (scan_order kind.now.alternate) i < 64 }
+    ensures parity { result
+        ≡ (parity + unsigned_abs (saturated_of kind.now (slice_index (scan_order kind.now.alternate) i) level)) % 2 }
+{
+    let place = scan(kind.alternate, i);
+    let c = coefficient(kind, place, level);
+    out[place as usize] = c;
+    parity_with(parity, c)
+}
+
+/// The coefficients of one level more.
+#[inline(always)]
+fn put_level(levels: &Levels, kind: &BlockKind, i: u8, out: &mut [i32; 64], parity: u32) -> u32
+    requires kind { IsKind kind.now }
+    requires levels { All IsLevel levels.now.at }
+    requires i { i < 64 }
+    requires before { IsUpTo levels.now.at kind.now i out.old parity }
+    ensures { IsUpTo levels.now.at kind.now (i + 1) out.new result }
+{
+    let level = levels.at[i as usize];
+    if level == 0 {
+        return parity;
+    }
+    put_coefficient(level, kind, i, out, parity)
+}
+
+/// Whether so many levels are 0, from one on.
+#[inline(always)]
+fn is_empty(levels: &Levels, from: u8, count: u8) -> bool
+    requires { from + count ≤ 64 }
+    ensures { IsTrue result → (j : ℕ) → j < count → slice_index_or levels.now.at (from + j) (pos 0) ≡ pos 0 }
+{
+    let mut bits = 0;
+    for j in 0..count {
+        bits |= levels.at[(from + j) as usize].unsigned_abs();
+    }
+    bits == 0
+}
+
+/// How many groups of eight levels hold all that aren't 0, or some more.
+#[inline(always)]
+fn groups(levels: &Levels) -> u8
+    ensures within { result ≤ 8 }
+    ensures zeros { (j : ℕ) → j < 64 - 8 * result → slice_index_or levels.now.at (8 * result + j) (pos 0) ≡ pos 0 }
+{
+    if is_empty(levels, 32, 32) { 4 } else { 8 }
+}
+
+/// The coefficients of eight levels more.
+#[inline(always)]
+fn put_group(levels: &Levels, kind: &BlockKind, from: u8, out: &mut [i32; 64], parity: u32) -> u32
+    requires kind { IsKind kind.now }
+    requires levels { All IsLevel levels.now.at }
+    requires from { from ≤ 56 }
+    requires before { IsUpTo levels.now.at kind.now from out.old parity }
+    ensures { IsUpTo levels.now.at kind.now (from + 8) out.new result }
+{
+    if is_empty(levels, from, 8) {
+        return parity;
+    }
+    let mut sum = parity;
+    for j in 0..8 {
+        sum = put_level(levels, kind, from + j, out, sum);
+    }
+    sum
+}
+
+/// The coefficients of levels before mismatch control, and the parity of their sum. Most levels are 0, and stand in
+/// groups: what is written is the places of the others.
 #[inline(always)]
 fn saturate(levels: &Levels, kind: &BlockKind, out: &mut [i32; 64]) -> u32
     requires kind { IsKind kind.now }
     requires levels { All IsLevel levels.now.at }
     ensures value { out.new ≡ map (saturated_at levels.now.at kind.now) (range_with_len 0 64) }
-    ensures parity { result ≡ unsigned_abs (sum_below 64 (saturated_at levels.now.at kind.now)) % 2 }
+    ensures parity { result ≡ unsigned_abs (coefficient_sum 64 (saturated_at levels.now.at kind.now)) % 2 }
     ensures within { All IsCoefficient out.new }
 {
+    *out = [0; 64];
     let mut parity = 0;
-    for place in 0..64u8 {
-        let c = coefficient_at(levels, kind, place);
-        out[place as usize] = c;
-        parity = parity_with(parity, c);
+    let end = groups(levels);
+    for group in 0..end {
+        parity = put_group(levels, kind, 8 * group, out, parity);
     }
     parity
 }

@@ -1,15 +1,26 @@
-use Rattle.std.proofs.Common.{◌≡◌, ℕ, ◌<◌, ◌+◌, ◌*◌, ◌∙◌, arith, ap, get_or, below_more, pos}
-use Rattle.m2v_idct.specs.Block.{at}
+use Rattle.std.proofs.Common.{◌≡◌, ℕ, ◌<◌, ◌+◌, ◌*◌, ◌∙◌, arith, get_or, below_more, subst, sym, pos}
 use Rattle.m2v_idct.specs.Inverse.{after_rows}
-use Rattle.m2v_idct.proofs.Rows.{row_listed}
+use Rattle.m2v_idct.specs.Ranges.{Within}
+use Rattle.m2v_idct.proofs.Passed.{coefficient_within}
+use Rattle.m2v_idct.proofs.InPlace.{after_same}
 use Rattle.m2v_idct.proofs.inverse_dct.transform_rows.Goals as goal
 
-pub loop-y-preserved : goal.loop-y-preserved
-unfolding after_rows
-loop-y-preserved c y x ly lx =
-    let b = c.args.b.now in
+pub transform_row-requires-clause-within : goal.transform_row-requires-clause-within
+transform_row-requires-clause-within c k lk =
     let n = c.loop-y.y in
-    below_more (λ j. (k : ℕ) → k < 8 → get_or c.put_row.new.rows (8 * j + k) (pos 0) ≡ after_rows b j k) n
-    (λ j l k lk. c.put_row.ensures.rest (8 * j + k) (λ i li. omega arith) ∙ c.loop-y.invariant j k l lk)
-    (λ k lk. c.put_row.ensures.row k lk ∙ ap (λ zs. get_or zs k (pos 0)) (c.row_results.ensures ∙ row_listed (at b n) c.row_at.result c.row_at.ensures))
-    y ly x lx
+    subst (Within 2048) (sym (c.loop-y.invariant.rest n k (omega arith) (omega arith) lk)) (coefficient_within _ (c.requires (8 * n + k) (pos 0) (omega (arith, c.told-block))))
+
+pub loop-y-preserved : goal.loop-y-preserved
+loop-y-preserved c =
+    let old = c.args.block.now in
+    let mid = c.loop-y.block in
+    let new = c.transform_row.new.block in
+    let n = c.loop-y.y in
+    record {
+      done = λ y x ly lx.
+          below_more (λ j. (k : ℕ) → k < 8 → get_or new (8 * j + k) (pos 0) ≡ after_rows old j k) n
+          (λ j l k lk. c.transform_row.ensures.rest (8 * j + k) (λ i li. omega arith) ∙ c.loop-y.invariant.done j k l lk)
+          (λ k lk. c.transform_row.ensures.row k lk ∙ after_same mid old n (λ i li. c.loop-y.invariant.rest n i (omega arith) (omega arith) li) k)
+          y ly x lx;
+      rest = λ y x ly l8 lx. c.transform_row.ensures.rest (8 * y + x) (λ i li. omega arith) ∙ c.loop-y.invariant.rest y x (omega arith) l8 lx;
+    }

@@ -7,4 +7,4 @@ abbrev pub invariant-loop-line : goal.invariant-loop-line
 invariant-loop-line l =
     ((r c : ℕ) → r < l.fn.total → c < l.fn.columns
     → get_or l.plane (r * l.fn.columns + c) 0
-    ≡ mixed l.fn.columns l.fn.height l.fn.lines l.fn.row l.line l.fn.plane l.fn.samples r c)
+    ≡ mixed l.fn.columns l.fn.height l.fn.lines l.fn.row l.line l.fn.plane (λ k x. get_or l.fn.samples (k * l.fn.columns + x) 0) r c)

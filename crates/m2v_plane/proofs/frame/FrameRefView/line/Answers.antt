@@ -15,8 +15,8 @@ returns c =
     let width : c.self.inside.dims.mb_width ≡ s.dims.mb_width = ap (λ (v : Samples). v.dims.mb_width) c.self.view_is in
     let rows : c.self.inside.dims.mb_rows ≡ s.dims.mb_rows = ap (λ (v : Samples). v.dims.mb_rows) c.self.view_is in
     let start : c.line_start.result ≡ at * (side p * s.dims.mb_width) =
-    c.line_start.ensures.value ∙ ap (λ n. at * (n * c.self.inside.dims.mb_width)) c.side_of-side.ensures.value ∙ ap (λ n. at * (side p * n)) width in
-    let inside = rw (c.side_of-side.ensures.value, width, rows) at c.line_start.ensures.within in
+    c.line_start.ensures.value ∙ ap (λ n. at * (n * c.self.inside.dims.mb_width)) c.side-side.ensures.value ∙ ap (λ n. at * (side p * n)) width in
+    let inside = rw (c.side-side.ensures.value, width, rows) at c.line_start.ensures.within in
     record {
       value = line_is _ (sample_in s p c.args.lines c.args.line) c.args.column c.args.len
           (part_len c.plane.result.now from m (omega (arith, inside, c.plane.ensures.whole, c.requires.within)) ∙ is)

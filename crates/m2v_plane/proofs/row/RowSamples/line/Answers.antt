@@ -9,10 +9,10 @@ returns c =
     let s = c.args.self.now in
     let p = c.args.plane in
     let w = side p * s.dims.mb_width in
-    let start : c.args.line * (c.side_of.result * c.self.inside.dims.mb_width) ≡ c.args.line * w =
-    ap (λ n. c.args.line * (n * c.self.inside.dims.mb_width)) c.side_of.ensures.value
+    let start : c.args.line * (c.side.result * c.self.inside.dims.mb_width) ≡ c.args.line * w =
+    ap (λ n. c.args.line * (n * c.self.inside.dims.mb_width)) c.side.ensures.value
     ∙ ap (λ (v : Samples). c.args.line * (side p * v.dims.mb_width)) c.self.view_is in
-    let from = c.args.line * (c.side_of.result * c.self.inside.dims.mb_width) + c.args.column in
+    let from = c.args.line * (c.side.result * c.self.inside.dims.mb_width) + c.args.column in
     let m = from + c.args.len - from in
     let fits = line_fits c.args.line (side p) w w c.requires.line (omega arith) in
     record {

@@ -1,0 +1,59 @@
+-- Rows and columns that are transformed where they stand.
+use Rattle.std.proofs.Common.{◌≡◌, ℕ, zero, suc, ◌<◌, ◌∙◌, sym, refl, List, [], ◌∷◌, All, get_or, arith, ap, subst, ℤ, pos, ◌*ℤ◌}
+use Rattle.std.proofs.lemmas.List.{get_or-replicate}
+use Rattle.std.proofs.lemmas.List.Elements.{All-from_get_or}
+use Rattle.std.specs.Int.Bits.{bit_or}
+use Rattle.std.proofs.lemmas.Nat.{le_or_l, le_or_r}
+use Rattle.std.specs.Prelude.{unsigned_abs}
+use Rattle.std.proofs.Common.{negsuc}
+use Rattle.m2v_idct.specs.Block.{at}
+use Rattle.m2v_idct.specs.Inverse.{after_rows, row}
+use Rattle.m2v_idct.proofs.Rows.{row_flat, row_listed}
+
+-- eight numbers by their places
+pub listed_at : (g : ℕ → ℤ) (k : ℕ) → k < 8 → get_or (g 0 ∷ g 1 ∷ g 2 ∷ g 3 ∷ g 4 ∷ g 5 ∷ g 6 ∷ g 7 ∷ []) k (pos 0) ≡ g k
+listed_at g zero lt = refl
+listed_at g (suc zero) lt = refl
+listed_at g (suc (suc zero)) lt = refl
+listed_at g (suc (suc (suc zero))) lt = refl
+listed_at g (suc (suc (suc (suc zero)))) lt = refl
+listed_at g (suc (suc (suc (suc (suc zero))))) lt = refl
+listed_at g (suc (suc (suc (suc (suc (suc zero)))))) lt = refl
+listed_at g (suc (suc (suc (suc (suc (suc (suc zero))))))) lt = refl
+listed_at g (suc (suc (suc (suc (suc (suc (suc (suc k)))))))) lt = absurd (omega arith)
+
+pub all_listed : (P : ℤ → Type 0) (g : ℕ → ℤ) (xs : List ℤ) → xs ≡ g 0 ∷ g 1 ∷ g 2 ∷ g 3 ∷ g 4 ∷ g 5 ∷ g 6 ∷ g 7 ∷ []
+    → ((k : ℕ) → k < 8 → P (g k)) → All P xs
+all_listed P g xs e h =
+    subst (All P) (sym e)
+    (All-from_get_or P (g 0 ∷ g 1 ∷ g 2 ∷ g 3 ∷ g 4 ∷ g 5 ∷ g 6 ∷ g 7 ∷ []) (pos 0) (λ i l. subst P (sym (listed_at g i l)) (h i l)))
+
+pub row_same : (g h : ℕ → ℤ) → ((k : ℕ) → k < 8 → g k ≡ h k) → row g ≡ row h
+unfolding row
+row_same g h e =
+    let e0 = e 0 (omega arith) in let e1 = e 1 (omega arith) in let e2 = e 2 (omega arith) in let e3 = e 3 (omega arith) in
+    let e4 = e 4 (omega arith) in let e5 = e 5 (omega arith) in let e6 = e 6 (omega arith) in let e7 = e 7 (omega arith) in
+    ap (λ zs. row (λ k. get_or zs k (pos 0))) (λ i. e0 i ∷ e1 i ∷ e2 i ∷ e3 i ∷ e4 i ∷ e5 i ∷ e6 i ∷ e7 i ∷ [])
+
+-- a row by another block's
+pub after_same : (b d : List ℤ) (y : ℕ) → ((k : ℕ) → k < 8 → at b y k ≡ at d y k) → (k : ℕ) → after_rows b y k ≡ after_rows d y k
+unfolding after_rows
+after_same b d y e k = ap (λ zs. get_or zs k (pos 0)) (row_same (at b y) (at d y) e)
+
+-- a row of zeros leaves zeros
+pub zero_row : (b : List ℤ) (y : ℕ) (xs : List ℤ) → xs ≡ at b y 0 ∷ at b y 1 ∷ at b y 2 ∷ at b y 3 ∷ at b y 4 ∷ at b y 5 ∷ at b y 6 ∷ at b y 7 ∷ []
+    → ((k : ℕ) → k < 8 → get_or xs k (pos 0) ≡ pos 0) → (k : ℕ) → k < 8 → at b y k ≡ after_rows b y k
+unfolding after_rows
+zero_row b y xs e none k lt =
+    let first : pos 0 ≡ pos 8 *ℤ get_or xs 0 (pos 0) = sym (ap (λ z. pos 8 *ℤ z) (none 0 (omega arith))) in
+    let zeros = row_flat (λ j. get_or xs j (pos 0)) (λ j _ l. none j l) (pos 0) first ∙ row_listed (at b y) xs e in
+    sym (listed_at (at b y) k lt) ∙ ap (λ zs. get_or zs k (pos 0)) (sym e) ∙ none k lt
+    ∙ sym (get_or-replicate 8 k (pos 0) (pos 0) lt) ∙ ap (λ zs. get_or zs k (pos 0)) zeros
+
+-- no bit is set in a number joined with another
+pub joined_zero : (a b : ℕ) → bit_or a b ≡ 0 → (a ≡ 0) × (b ≡ 0)
+joined_zero a b e = (omega (arith, e, le_or_l a b), omega (arith, e, le_or_r a b))
+
+pub size_zero : (z : ℤ) → unsigned_abs z ≡ 0 → z ≡ pos 0
+size_zero (pos n) e = ap pos e
+size_zero (negsuc n) e = absurd (omega arith)
