@@ -1,7 +1,8 @@
 -- What a cache holds once it has learned its needs, whatever it held before.
-use Rattle.std.proofs.Common.{◌≡◌, ℕ, zero, suc, ◌≤◌, ◌<◌, inl, inr, List, refl, ap, subst, ◌∙◌, arith}
+use Rattle.std.proofs.Common.{◌≡◌, ℕ, zero, suc, ◌≤◌, ◌<◌, inl, inr, List, length, get_or, set, refl, ap, subst, ◌∙◌, arith}
 use Rattle.std.specs.Prelude.{slice_index}
 use Rattle.std.proofs.lemmas.Bool.{cases_lt}
+use Rattle.std.proofs.lemmas.List.{length-set, get_or-set_same, get_or-set_other}
 use Rattle.m2v_core.specs.Book.{cache_after, SetsPlaces}
 
 module _ {S C : Type 0} (learned : ℕ → S → C → C) (shared : ℕ → S) (needs : List ℕ) where
