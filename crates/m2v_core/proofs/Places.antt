@@ -1,7 +1,8 @@
 -- What a cache holds once it has learned its needs, whatever it held before.
-use Rattle.std.proofs.Common.{◌≡◌, ℕ, zero, suc, ◌≤◌, ◌<◌, inl, inr, List, refl, ap, subst, ◌∙◌, arith}
+use Rattle.std.proofs.Common.{◌≡◌, ℕ, zero, suc, ◌≤◌, ◌<◌, inl, inr, List, length, get_or, set, refl, ap, subst, ◌∙◌, arith}
 use Rattle.std.specs.Prelude.{slice_index}
 use Rattle.std.proofs.lemmas.Bool.{cases_lt}
+use Rattle.std.proofs.lemmas.List.{length-set, get_or-set_same, get_or-set_other}
 use Rattle.m2v_core.specs.Book.{cache_after, SetsPlaces}
 
 module _ {S C : Type 0} (learned : ℕ → S → C → C) (shared : ℕ → S) (needs : List ℕ) where
@@ -44,3 +45,13 @@ module _ {S C : Type 0} (learned : ℕ → S → C → C) (shared : ℕ → S) (
               subst (λ (k : ℕ). place k (cache_after learned shared needs (suc m) c) ≡ value k) here
               (ap (place m) (cache-next m c) ∙ h.sets m before (omega arith) some)
         ]
+
+  -- where learning number k sets element k of a list that the cache has, its elements are such places
+  pub list-places : {V : Type 0} (n : ℕ) (list : C → List V) (value : ℕ → V) (d : V)
+      → ((k : ℕ) (c : C) → k < n → list (learned k (shared (slice_index needs k)) c) ≡ set (list c) k (value k))
+      → SetsPlaces learned shared needs n (λ c. length (list c)) (λ i c. get_or (list c) i d) value
+  list-places n list value d h = record {
+    room_stays = λ k c lt. ap length (h k c lt) ∙ length-set (list c) k (value k);
+    sets = λ k c lt fits. ap (λ xs. get_or xs k d) (h k c lt) ∙ get_or-set_same (list c) k (value k) d fits;
+    leaves = λ k i c lt other. ap (λ xs. get_or xs i d) (h k c lt) ∙ get_or-set_other (list c) k i (value k) d other;
+  }

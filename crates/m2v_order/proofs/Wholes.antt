@@ -1,5 +1,5 @@
 -- What every group has that is handed out.
-use Rattle.std.proofs.Common.{◌≡◌, ℕ, ◌+◌, ◌-◌, ◌*◌, ◌<◌, ◌≤◌, Bool, true, false, cond, List, [], ◌∷◌, ◌++◌, length, map, take, Option, Some, None, refl, sym, ap, subst, ◌∙◌, arith, ⊎_elim, length-append, append_assoc}
+use Rattle.std.proofs.Common.{◌≡◌, ℕ, zero, suc, ◌+◌, ◌-◌, ◌*◌, ◌<◌, ◌≤◌, Bool, true, false, cond, List, [], ◌∷◌, ◌++◌, length, get_or, map, take, Option, Some, None, refl, sym, ap, subst, ◌∙◌, arith, ⊎_elim, length-append, append_assoc}
 use Rattle.std.specs.Prelude.{All, ◌==◌, ◌||◌, not, ◌&&◌}
 use Rattle.std.specs.List.{flat_map}
 use Rattle.std.proofs.lemmas.Bool.{cases_lt, lt-ltb, eqb-true}
@@ -45,6 +45,33 @@ head_of s count first i = job_by (i - first) i (kind_of s count i) 0
 heads_are : (s : Settings) (count first : ℕ) (xs : List ℕ) → flat_map (jobs_of s count first) xs ≡ flat_map (fields_of s.scan) (map (head_of s count first) xs)
 heads_are s count first [] = refl
 heads_are s count first (x ∷ xs) = ap (λ ys. jobs_of s count first x ++ ys) (heads_are s count first xs)
+
+-- the pictures of frames by their place: a frame's field pictures stand side by side, the top field first
+pub pair_at : (heads : List PictureJob) (i : ℕ) (d : PictureJob) → i < length heads
+    → (get_or (flat_map (fields_of Fields) heads) (2 * i) d ≡ record (get_or heads i d) { structure = 1 })
+    × (get_or (flat_map (fields_of Fields) heads) (2 * i + 1) d ≡ record (get_or heads i d) { structure = 2 })
+unfolding structures
+pair_at [] i d lt = absurd (omega arith)
+pair_at (h ∷ heads) zero d lt = (refl, refl)
+pair_at (h ∷ heads) (suc i) d lt =
+    let rec = pair_at heads i d (omega arith) in
+    let xs = flat_map (fields_of Fields) (h ∷ heads) in
+    let top : 2 * suc i ≡ suc (suc (2 * i)) = omega arith in
+    let bottom : 2 * suc i + 1 ≡ suc (suc (2 * i + 1)) = omega arith in
+    (ap (λ (k : ℕ). get_or xs k d) top ∙ rec.0, ap (λ (k : ℕ). get_or xs k d) bottom ∙ rec.1)
+
+frame_by : (scan : Scan) (h : PictureJob) (heads : List PictureJob) (i : ℕ) (d : PictureJob) → structures scan ≡ 3 ∷ []
+    → get_or (fields_of scan h ++ flat_map (fields_of scan) heads) (suc i) d ≡ get_or (flat_map (fields_of scan) heads) i d
+frame_by scan h heads i d e =
+    ap (λ (xs : List ℕ). get_or (map (λ structure. record h { structure = structure }) xs ++ flat_map (fields_of scan) heads) (suc i) d) e
+
+-- a frame picture stands at its frame's place
+pub frame_at : (scan : Scan) (heads : List PictureJob) (i : ℕ) (d : PictureJob) → structures scan ≡ 3 ∷ [] → i < length heads
+    → get_or (flat_map (fields_of scan) heads) i d ≡ record (get_or heads i d) { structure = 3 }
+frame_at scan [] i d e lt = absurd (omega arith)
+frame_at scan (h ∷ heads) zero d e lt =
+    ap (λ (xs : List ℕ). get_or (map (λ structure. record h { structure = structure }) xs ++ flat_map (fields_of scan) heads) 0 d) e
+frame_at scan (h ∷ heads) (suc i) d e lt = frame_by scan h heads i d e ∙ frame_at scan heads i d e (omega arith)
 
 -- ---- the I frame is near
 

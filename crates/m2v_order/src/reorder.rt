@@ -80,7 +80,8 @@ impl Reorder {
     }
 
     /// Hands out the next group. There is none exactly where neither the next I frame nor the end has come, or all
-    /// groups were handed out. Where memory runs out nothing changes.
+    /// groups were handed out. It is a group of the settings (`IsGroupOf`), of 1 to 63 frames and 1 to 126 pictures. Where
+    /// memory runs out nothing changes.
     #[tactic(auto, unfolding(crate::specs::Groups::group_of, crate::specs::Groups::anchor_before))]
     pub fn next_group(&mut self, alloc: Global) -> Result<Option<GroupJobs>, Memory>
         ensures due { IfOk result (λ o. IsSome o ↔ IsTrue (is_due self.old)) }
