@@ -1,9 +1,9 @@
 -- Laws of the writer and the reader over bytes.
 use Rattle.std.proofs.Common.{◌≡◌, ℕ, zero, suc, ◌+◌, ◌-◌, ◌*◌, ◌/◌, ◌%◌, ◌^◌, ◌<◌, ◌≤◌, Bool, true, false, List, [], ◌∷◌, ◌++◌, length, get_or, set, take, drop, replicate, refl, sym, ap, subst, ◌∙◌, append_assoc, arith, add-one, add-zero, zero-add}
-use Rattle.std.proofs.lemmas.List.{length-append, length-drop, length-take, take_at, drop_at, drop-drop, get_or-drop, take_more_set, append-nil, length-replicate, drop_all}
+use Rattle.std.proofs.lemmas.List.{length-append, length-drop, length-take, take_at, drop_at, drop-drop, take-take, take-append-drop, length-set, get_or-drop, take_more_set, append-nil, length-replicate, drop_all}
 use Rattle.std.proofs.lemmas.List.Concat.{flat_map-append}
-use Rattle.std.proofs.lemmas.Nat.{shr_high}
-use Rattle.std.proofs.Math.Nat.{zero-div}
+use Rattle.std.proofs.lemmas.Nat.{shr_high, pow-add, pow_pos}
+use Rattle.std.proofs.Math.Nat.{zero-div, mul-le-mul_right}
 use Rattle.std.specs.Int.{w64, from_be_bytes}
 use Rattle.m2v_bits.specs.Bits.{bits_of, number, bits, packed, ahead, to_edge, padded, all_zero, first_one, Unread, past}
 use Rattle.m2v_bits.proofs.Bits.{length-bits_of, bits_of-add, bits_of-mod, bits_of-low, number-bits_of, packed-bits}
@@ -106,6 +106,69 @@ peeked bs from r n s w e h =
     backs (ahead r xs) (ahead n (drop r xs)) (bits_of r (w / 2 ^ s / 2 ^ n)) (bits_of n (w / 2 ^ s)) (length-ahead r xs ∙ sym (length-bits_of r (w / 2 ^ s / 2 ^ n)))
     (sym (ahead-add r n xs) ∙ front ∙ bits_of-add r n (w / 2 ^ s)) in
     rw (← drop-drop r from bs, back) (number-bits_of n (w / 2 ^ s))
+
+-- ---- four bytes at a time
+
+-- four bytes move from a number of 40 bits to the buffer
+pub spilled_four : (buf : List ℕ) (at w x0 x1 x2 x3 : ℕ) → at + 4 ≤ length buf → x0 ≡ w / 2 ^ 32 % 2 ^ 8 → x1 ≡ w / 2 ^ 24 % 2 ^ 8 → x2 ≡ w / 2 ^ 16 % 2 ^ 8 → x3 ≡ w / 2 ^ 8 % 2 ^ 8
+    → bits (take (at + 4) (set (set (set (set buf at x0) (at + 1) x1) (at + 2) x2) (at + 3) x3)) ++ bits_of 8 w ≡ bits (take at buf) ++ bits_of 40 w
+spilled_four buf at w x0 x1 x2 x3 le e0 e1 e2 e3 =
+    let b1 = set buf at x0 in
+    let b2 = set b1 (at + 1) x1 in
+    let b3 = set b2 (at + 2) x2 in
+    let l1 : length b1 ≡ length buf = length-set buf at x0 in
+    let l2 : length b2 ≡ length buf = length-set b1 (at + 1) x1 ∙ l1 in
+    let l3 : length b3 ≡ length buf = length-set b2 (at + 2) x2 ∙ l2 in
+    let n2 : at + 1 + 1 ≡ at + 2 = omega arith in
+    let n3 : at + 2 + 1 ≡ at + 3 = omega arith in
+    let n4 : at + 3 + 1 ≡ at + 4 = omega arith in
+    let s4 : bits (take (at + 4) (set b3 (at + 3) x3)) ++ bits_of 8 w ≡ bits (take (at + 3) b3) ++ bits_of 16 w = rw e3 (rw n4 at (spilled b3 (at + 3) 8 w (omega (arith, l3)))) in
+    let s3 : bits (take (at + 3) b3) ++ bits_of 16 w ≡ bits (take (at + 2) b2) ++ bits_of 24 w = rw e2 (rw n3 at (spilled b2 (at + 2) 16 w (omega (arith, l2)))) in
+    let s2 : bits (take (at + 2) b2) ++ bits_of 24 w ≡ bits (take (at + 1) b1) ++ bits_of 32 w = rw e1 (rw n2 at (spilled b1 (at + 1) 24 w (omega (arith, l1)))) in
+    let s1 : bits (take (at + 1) b1) ++ bits_of 32 w ≡ bits (take at buf) ++ bits_of 40 w = rw e0 (spilled buf at 32 w (omega arith)) in
+    s4 ∙ s3 ∙ s2 ∙ s1
+
+-- of these bytes those count that the bits held fill
+pub spilled_whole : (buf new : List ℕ) (at acc held w : ℕ) → held < 40 → at + 4 ≤ length buf → length new ≡ length buf → w ≡ acc * 2 ^ (40 - held)
+    → bits (take (at + 4) new) ++ bits_of 8 w ≡ bits (take at buf) ++ bits_of 40 w
+    → bits (take (at + held / 8) new) ++ bits_of (held % 8) acc ≡ bits (take at buf) ++ bits_of held acc
+spilled_whole buf new at acc held w lt le len is e =
+    let k = held / 8 in
+    let r = held % 8 in
+    let all : held + (40 - held) ≡ 40 = omega arith in
+    let none : acc * 2 ^ (40 - held) + 0 ≡ w = omega (arith, is) in
+    let wide : bits_of 40 w ≡ bits_of held acc ++ bits_of (40 - held) 0 = rw (all, none) at (bits_of-join held (40 - held) acc 0 (pow_pos (40 - held))) in
+    let whole : 8 * k + r ≡ held = omega arith in
+    let parts : bits_of held acc ≡ bits_of (8 * k) (acc / 2 ^ r) ++ bits_of r acc = rw whole at (bits_of-add (8 * k) r acc) in
+    let front : take (at + k) (take (at + 4) new) ≡ take (at + k) new = take-take (at + k) (at + 4) new (omega arith) in
+    let rest = drop (at + k) (take (at + 4) new) in
+    let left : bits (take (at + 4) new) ≡ bits (take (at + k) new) ++ bits rest =
+    ap bits (sym (take-append-drop (at + k) (take (at + 4) new))) ∙ flat_map-append (bits_of 8) (take (at + k) (take (at + 4) new)) rest ∙ ap (λ (x : List ℕ). bits x ++ bits rest) front in
+    let here = bits (take at buf) in
+    let high = bits_of (8 * k) (acc / 2 ^ r) in
+    let right : here ++ bits_of 40 w ≡ (here ++ high) ++ (bits_of r acc ++ bits_of (40 - held) 0) = rw (wide, parts) (simp append_assoc) in
+    let both : bits (take (at + k) new) ++ (bits rest ++ bits_of 8 w) ≡ (here ++ high) ++ (bits_of r acc ++ bits_of (40 - held) 0) =
+    sym (append_assoc (bits (take (at + k) new)) (bits rest) (bits_of 8 w)) ∙ ap (λ (x : List Bool). x ++ bits_of 8 w) (sym left) ∙ e ∙ right in
+    let same : bits (take (at + k) new) ≡ here ++ high =
+    fronts (bits (take (at + k) new)) (bits rest ++ bits_of 8 w) (here ++ high) (bits_of r acc ++ bits_of (40 - held) 0)
+    (omega (arith, length-bits (take (at + k) new), length-take (at + k) new, length-append here high, length-bits (take at buf), length-take at buf, length-bits_of (8 * k) (acc / 2 ^ r))) both in
+    ap (λ (x : List Bool). x ++ bits_of r acc) same ∙ append_assoc here high (bits_of r acc) ∙ ap (λ (x : List Bool). here ++ x) (sym parts)
+
+-- what two numbers one behind the other are less than
+pub joined_less : (h n p v a : ℕ) → p < 2 ^ h → v < 2 ^ n → a ≡ p * 2 ^ n + v → a < 2 ^ (h + n)
+joined_less h n p v a lp lv e =
+    let wide : 2 ^ (h + n) ≡ 2 ^ h * 2 ^ n = pow-add 2 h n in
+    let most : (p + 1) * 2 ^ n ≤ 2 ^ h * 2 ^ n = mul-le-mul_right (2 ^ n) (omega arith) in
+    omega arith
+
+-- bits raised to the top of 40 fit
+pub raised_less : (acc held : ℕ) → held < 40 → acc < 2 ^ held → acc * 2 ^ (40 - held) < 2 ^ 40
+raised_less acc held lt less =
+    let all : held + (40 - held) ≡ 40 = omega arith in
+    let some = pow_pos (40 - held) in
+    let low : 0 < 2 ^ (40 - held) = some in
+    let wide : acc * 2 ^ (40 - held) + 0 < 2 ^ 40 = rw all at (joined_less held (40 - held) acc 0 (acc * 2 ^ (40 - held) + 0) less low refl) in
+    omega arith
 
 none_held : (p : ℕ) → bits_of 0 p ≡ []
 unfolding bits_of

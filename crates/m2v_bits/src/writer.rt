@@ -26,8 +26,10 @@ impl Model for BitWriter {
     ghost invariant = { λ w. (w.held < 8) × (8 * w.used + w.held ≤ 8 * length w.buf.items) × (w.pending < 2 ^ w.held) × (length w.buf.items < 2 ^ 60) };
 }
 
-/// Writes the whole bytes that held bits fill, and gives the place after them.
-fn spill(buf: &mut Vec<u8>, mut at: usize, acc: u64, held: u8) -> usize
+/// Writes the whole bytes that held bits fill, byte by byte, and gives the place after them.
+#[cold]
+#[inline(never)]
+fn spill_near_end(buf: &mut Vec<u8>, mut at: usize, acc: u64, held: u8) -> usize
     requires width { held < 64 }
     requires room { at + held / 8 ≤ length buf.old.items }
     ensures place { result ≡ at + held / 8 }
@@ -41,6 +43,47 @@ fn spill(buf: &mut Vec<u8>, mut at: usize, acc: u64, held: u8) -> usize
         at += 1;
     }
     at
+}
+
+/// The held bits as the highest of 40.
+#[inline(always)]
+fn raised(acc: u64, held: u8) -> u64
+    requires width { held < 40 }
+    requires fits { acc < 2 ^ held }
+    ensures { result ≡ acc * 2 ^ (40 - held) }
+{
+    acc << (40 - held)
+}
+
+/// Writes the four highest bytes of a word of 40 bits.
+#[inline(always)]
+fn put_four(buf: &mut Vec<u8>, at: usize, word: u64)
+    requires { at + 4 ≤ length buf.old.items }
+    ensures len { length buf.new.items ≡ length buf.old.items }
+    ensures written { bits (take (at + 4) buf.new.items) ++ bits_of 8 word ≡ bits (take at buf.old.items) ++ bits_of 40 word }
+{
+    buf[at] = low(word >> 32, 8) as u8;
+    buf[at + 1] = low(word >> 24, 8) as u8;
+    buf[at + 2] = low(word >> 16, 8) as u8;
+    buf[at + 3] = low(word >> 8, 8) as u8;
+}
+
+/// Writes the whole bytes that held bits fill, four bytes in one step where there is room, and gives the place after
+/// those that are filled.
+#[inline(always)]
+fn spill(buf: &mut Vec<u8>, at: usize, acc: u64, held: u8) -> usize
+    requires width { held < 40 }
+    requires fits { acc < 2 ^ held }
+    requires room { at + held / 8 ≤ length buf.old.items }
+    ensures place { result ≡ at + held / 8 }
+    ensures len { length buf.new.items ≡ length buf.old.items }
+    ensures written { bits (take result buf.new.items) ++ bits_of (held % 8) acc ≡ bits (take at buf.old.items) ++ bits_of held acc }
+{
+    if buf.len() - at < 4 {
+        return spill_near_end(buf, at, acc, held);
+    }
+    put_four(buf, at, raised(acc, held));
+    at + (held / 8) as usize
 }
 
 /// The first bytes of a buffer, which are what their bits fill.

@@ -8,6 +8,7 @@ use Rattle.m2v_model.specs.Worked.{Faulty, faulty, Whole, whole_streams, Shows, 
 use Rattle.m2v_model.proofs.CutLaws.{cut_cuts}
 use Rattle.m2v_model.proofs.StreamLaws.{stream_lawful}
 use Rattle.m2v_bits.specs.Bits as bitsBits
+use Rattle.m2v_bits.specs.Elements as bitsElements
 use Rattle.m2v_bits.specs.Leaves as bitsLeaves
 use Rattle.m2v_bits.specs.Syntax as bitsSyntax
 use Rattle.m2v_vlc.specs.Codes as vlcCodes
@@ -88,7 +89,7 @@ frames_told (r ∷ rs) e (suc k) d less =
 -- all that a stream's grammar names is computed
 rows_read : (map (λ (r : Faulty). fault_in r.text) faulty ≡ map (λ (r : Faulty). Some (r.kind, r.place)) faulty)
     × (map (λ (r : Whole). shown_in r.text) whole_streams ≡ map (λ (r : Whole). Some r.count) whole_streams)
-unfolding bitsBits.bits_of bitsBits.number bitsBits.all_zero bitsLeaves.bits_at bitsLeaves.zero_at bitsLeaves.end_at bitsSyntax.bind bitsSyntax.done bitsSyntax.seq bitsSyntax.here bitsSyntax.rule bitsSyntax.choose bitsSyntax.rounds bitsSyntax.repeated bitsSyntax.renamed vlcCodes.code_of vlcCodes.begins vlcCodes.row_at vlcCodes.is_cut vlcCodes.code_at vlcCodes.apart_all vlcCodes.is_free vlcCodes.is_within vlcCodes.is_other vlcCodes.is_single vlcCoefficients.signed vlcCoefficients.same_coefficient vlcCoefficients.pairs_zero vlcCoefficients.coefficient_zero vlcCoefficients.first_zero vlcCoefficients.pairs_one vlcCoefficients.coefficient_one vlcTables.increment vlcTables.type_i vlcTables.type_p vlcTables.type_b vlcTables.block_pattern vlcTables.motion vlcTables.dmv vlcTables.dc_luma vlcTables.dc_chroma vlcValues.same_signed vlcValues.same_increment headElements.flag_at headElements.marker_at headElements.id_at headElements.some_at headElements.information_at headElements.pair_at headElements.pairs_at headElements.numbers_at headElements.position headElements.raster headElements.matrix_at headElements.loaded_at headHeaders.sequence_at headHeaders.chroma_format_at headHeaders.sequence_extension_at headHeaders.group_at headHeaders.kind_at headHeaders.vectors_at headHeaders.picture_at headHeaders.f_codes_at headHeaders.display_at headHeaders.composite_at headHeaders.picture_extension_at headHeaders.matrices_at headHeaders.intra_slice_at headHeaders.slice_at blockBlocks.difference blockBlocks.is_dc blockBlocks.size_at blockBlocks.dc_at blockBlocks.placed blockBlocks.escaped blockBlocks.is_allowed blockBlocks.coefficient_at blockBlocks.code_from blockBlocks.pair_at blockBlocks.pairs_at blockBlocks.opened blockBlocks.first_at blockBlocks.block_at blockDc.size_of blockDc.number_of blockDc.size_code blockDc.dc_text blockFaults.of_code macroFaults.of_code macroFaults.flag_at macroFaults.look_at macroFaults.ahead_at macroMacros.added macroMacros.round_at macroMacros.increment_from macroMacros.allowed_at macroMacros.step_at macroMacros.begins_before macroMacros.before_at macroMacros.kind_at macroMacros.has_form macroMacros.is_form macroMacros.told_form_at macroMacros.form_at macroMacros.has_dct macroMacros.dct_at macroMacros.told_quantiser_at macroMacros.quantiser_at macroMacros.told_marker_at macroMacros.marker_at macroMacros.told_pattern_at macroMacros.pattern_at macroMacros.directions_at macroMacros.macro_at macroStates.column macroStates.not_past macroStates.in_order macroStates.skips macroStates.may_skip macroStates.pmv_before macroStates.dc_reset macroStates.dc_behind macroStates.at_start macroStates.after macroVectors.direction_at modelFaults.of_head modelFaults.of_code modelFaults.of_block modelFaults.of_macro modelHeaders.whole modelHeaders.size_at modelHeaders.sequence_extension_in modelHeaders.picture_in modelHeaders.f_code_at modelHeaders.f_codes_at modelHeaders.picture_extension_in modelHeaders.sequence_in modelHeaders.group_in modelHeaders.matrices_in modelLooking.number_from modelLooking.look modelLooking.looking modelLooking.refuse modelPictures.painted modelPictures.all_painted modelPictures.slice_painted modelPictures.pictures_from modelSlices.kind_for modelSlices.predictor modelSlices.block_in modelSlices.blocks_from modelSlices.macroblock_at modelSlices.dc_after modelSlices.after_macroblock modelSlices.macroblock_round modelSlices.macroblocks_at modelSlices.context modelSlices.slice_start modelSlices.unit_place modelSlices.slice_at modelStreams.after modelStreams.close modelStreams.id_at modelStreams.extension_in modelStreams.extension_behind modelStreams.sequence_unit modelStreams.group_unit modelStreams.picture_unit modelStreams.matrix_unit modelStreams.extension_unit modelStreams.slice_in modelStreams.slice_unit modelStreams.end_unit modelStreams.onward modelStreams.final modelStreams.later_unit modelStreams.known_unit modelStreams.text_end modelStreams.next_unit modelStreams.unit_round modelStreams.stream_at modelUnits.cut modelUnits.unit_at modelUnits.inside orderDisplay.b_after orderDisplay.from_anchor orderDisplay.Order orderDisplay.without_last_anchor orderDisplay.shown orderDisplay.held orderDisplay.handed orderDisplay.held_after modelWorked.grey modelWorked.grouped faulty whole_streams
+unfolding bitsBits.bits_of bitsBits.number bitsBits.all_zero bitsLeaves.bits_at bitsLeaves.zero_at bitsLeaves.end_at bitsSyntax.bind bitsSyntax.done bitsSyntax.seq bitsSyntax.here bitsSyntax.rule bitsSyntax.choose bitsSyntax.rounds bitsSyntax.repeated bitsSyntax.renamed vlcCodes.code_of vlcCodes.begins vlcCodes.row_at vlcCodes.is_cut vlcCodes.code_at vlcCodes.apart_all vlcCodes.is_free vlcCodes.is_within vlcCodes.is_other vlcCodes.is_single vlcCoefficients.signed vlcCoefficients.same_coefficient vlcCoefficients.pairs_zero vlcCoefficients.coefficient_zero vlcCoefficients.first_zero vlcCoefficients.pairs_one vlcCoefficients.coefficient_one vlcTables.increment vlcTables.type_i vlcTables.type_p vlcTables.type_b vlcTables.block_pattern vlcTables.motion vlcTables.dmv vlcTables.dc_luma vlcTables.dc_chroma vlcValues.same_signed vlcValues.same_increment bitsElements.flag_at headElements.marker_at headElements.id_at headElements.some_at headElements.information_at headElements.pair_at headElements.pairs_at headElements.numbers_at headElements.first_index headElements.raster headElements.matrix_at headElements.loaded_at headHeaders.sequence_at headHeaders.chroma_format_at headHeaders.sequence_extension_at headHeaders.group_at headHeaders.kind_at headHeaders.vectors_at headHeaders.picture_at headHeaders.f_codes_at headHeaders.display_at headHeaders.composite_at headHeaders.picture_extension_at headHeaders.matrices_at headHeaders.intra_slice_at headHeaders.slice_at blockBlocks.difference blockBlocks.is_dc blockBlocks.size_at blockBlocks.dc_at blockBlocks.placed blockBlocks.escaped blockBlocks.is_allowed blockBlocks.coefficient_at blockBlocks.code_from blockBlocks.pair_at blockBlocks.pairs_at blockBlocks.opened blockBlocks.first_at blockBlocks.block_at blockDc.size_of blockDc.number_of blockDc.size_code blockDc.dc_text blockFaults.of_code macroFaults.of_code macroFaults.look_at macroFaults.ahead_at macroMacros.added macroMacros.round_at macroMacros.increment_from macroMacros.allowed_at macroMacros.step_at macroMacros.begins_before macroMacros.before_at macroMacros.kind_at macroMacros.has_form macroMacros.is_form macroMacros.told_form_at macroMacros.form_at macroMacros.has_dct macroMacros.dct_at macroMacros.told_quantiser_at macroMacros.quantiser_at macroMacros.told_marker_at macroMacros.marker_at macroMacros.told_pattern_at macroMacros.pattern_at macroMacros.directions_at macroMacros.macro_at macroStates.column macroStates.not_past macroStates.in_order macroStates.skips macroStates.may_skip macroStates.pmv_before macroStates.dc_reset macroStates.dc_behind macroStates.at_start macroStates.after macroVectors.direction_at modelFaults.of_head modelFaults.of_code modelFaults.of_block modelFaults.of_macro modelHeaders.whole modelHeaders.size_at modelHeaders.sequence_extension_in modelHeaders.picture_in modelHeaders.f_code_at modelHeaders.f_codes_at modelHeaders.picture_extension_in modelHeaders.sequence_in modelHeaders.group_in modelHeaders.matrices_in modelLooking.number_from modelLooking.look modelLooking.looking modelLooking.refuse modelPictures.painted modelPictures.all_painted modelPictures.slice_painted modelPictures.pictures_from modelSlices.kind_for modelSlices.predictor modelSlices.block_in modelSlices.blocks_from modelSlices.macroblock_at modelSlices.dc_after modelSlices.after_macroblock modelSlices.macroblock_round modelSlices.macroblocks_at modelSlices.context modelSlices.slice_start modelSlices.unit_place modelSlices.slice_at modelStreams.after modelStreams.close modelStreams.id_at modelStreams.extension_in modelStreams.extension_behind modelStreams.sequence_unit modelStreams.group_unit modelStreams.picture_unit modelStreams.matrix_unit modelStreams.extension_unit modelStreams.slice_in modelStreams.slice_unit modelStreams.end_unit modelStreams.onward modelStreams.final modelStreams.later_unit modelStreams.known_unit modelStreams.text_end modelStreams.next_unit modelStreams.unit_round modelStreams.stream_at modelUnits.cut modelUnits.unit_at modelUnits.inside orderDisplay.b_after orderDisplay.from_anchor orderDisplay.Order orderDisplay.without_last_anchor orderDisplay.shown orderDisplay.held orderDisplay.handed orderDisplay.held_after modelWorked.grey modelWorked.grouped faulty whole_streams
 rows_read = (refl, refl)
 
 pub worked_rows : WorkedRows

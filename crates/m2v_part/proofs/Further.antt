@@ -8,6 +8,7 @@ use Rattle.std.proofs.Math.Nat.{mod-eq_of_lt}
 use Rattle.m2v_bits.specs.Bits.{bits_of}
 use Rattle.m2v_bits.specs.Syntax.{seq, here, rule, done}
 use Rattle.m2v_bits.specs.Leaves.{bits_at}
+use Rattle.m2v_bits.specs.Elements as elements
 use Rattle.m2v_bits.proofs.Bits.{length-bits_of, number-bits_of}
 use Rattle.m2v_head.specs.Elements.{number_at, flag_at, id_at, some_at}
 use Rattle.m2v_head.specs.Headers.{chroma_format_at, f_codes_at, kind_at}
@@ -60,7 +61,7 @@ unfolding bits_at
 number_is n v t mid st = rw st.1 (record { number = bits_first n v mid st.0; skips = bits_skip n v mid })
 
 pub flag_is : (b : Bool) (t mid : List Bool) → flag_at.Stands b t mid → (v : ℕ) × (b ≡ nat_eq v 1) × IsAt 1 v t mid
-unfolding flag_at seq done
+unfolding elements.flag_at seq done
 flag_is b t mid st = (st.0, st.3.0, subst (IsAt 1 st.0 t) (sym st.3.1) (number_is 1 st.0 t st.1 st.2))
 
 -- an element between the same points, told by other names
