@@ -1,5 +1,5 @@
 -- The macroblocks of a picture, painted one after another, are the frame that the stream stands for.
-use Rattle.std.proofs.Common.{◌≡◌, ℕ, zero, suc, ◌+◌, ◌*◌, ◌/◌, ◌%◌, ◌<◌, true, false, cond, List, length, get_or, replicate, ℤ, pos, ◌+ℤ◌, inl, inr, refl, sym, ap, subst, ◌∙◌, arith, mul_comm}
+use Rattle.std.proofs.Common.{◌≡◌, ℕ, zero, suc, ◌+◌, ◌*◌, ◌/◌, ◌%◌, ◌<◌, Bool, true, false, cond, List, length, get_or, replicate, ℤ, pos, ◌+ℤ◌, inl, inr, refl, sym, ap, subst, ◌∙◌, arith, mul_comm}
 use Rattle.std.specs.Prelude.{nat_eq, ◌&&◌, nat_abs, unsigned_abs, slice_index}
 use Rattle.std.specs.Int.{int_max, int_min}
 use Rattle.std.proofs.lemmas.Int.{ints, int_max_is}
@@ -57,18 +57,22 @@ no_prediction zero k = refl
 no_prediction (suc n) zero = refl
 no_prediction (suc n) (suc k) = no_prediction n k
 
+no_base : (alone : Bool) (k : ℕ) → cond alone 0 (slice_index (replicate 384 0) k) ≡ 0
+no_base true k = refl
+no_base false k = no_prediction 384 k
+
 -- the samples of a macroblock
 abbrev samples_of : ℕ → ℕ → Samples → ℕ → ℕ → Plane → ℕ → ℕ → ℕ
 samples_of quantiser columns frame row column =
     macro_sample (replicate 384 0) (flat_macroblock frame row column).levels 63 (kind_for (flat_context columns) true true quantiser) (kind_for (flat_context columns) true false quantiser) false
 
 -- a sample by its block
-by_block : (quantiser columns : ℕ) (frame : Samples) (row column block line across k : ℕ) → block < 6
-    → macro.clamped (pos (slice_index (replicate 384 0) k) +ℤ residual (flat_macroblock frame row column).levels 63 (kind_for (flat_context columns) true true quantiser) (kind_for (flat_context columns) true false quantiser) (record { block = block; line = line; column = across }))
+by_block : (quantiser columns : ℕ) (frame : Samples) (row column block line across k : ℕ) (alone : Bool) → block < 6
+    → macro.clamped (pos (cond alone 0 (slice_index (replicate 384 0) k)) +ℤ residual (flat_macroblock frame row column).levels 63 (kind_for (flat_context columns) true true quantiser) (kind_for (flat_context columns) true false quantiser) (record { block = block; line = line; column = across }))
     ≡ rebuilt quantiser frame row column block line across
 unfolding rebuilt
-by_block quantiser columns frame row column block line across k lt =
-    rw (no_prediction 384 k, residual_is quantiser columns frame row column block line across lt)
+by_block quantiser columns frame row column block line across k alone lt =
+    rw (no_base alone k, residual_is quantiser columns frame row column block line across lt)
     (clamped_same (at (inverse_of (coefficients_of (flat_levels frame row column block) (flat_kind quantiser block))) line across))
 
 sample_is : (quantiser columns : ℕ) (frame : Samples) (row column : ℕ) (plane : Plane) (r c : ℕ) → r / side plane ≡ row → c / side plane ≡ column
@@ -78,16 +82,16 @@ sample_is quantiser columns frame row column Y r c er ec =
     let block = 2 * (r % 16 / 8) + c % 16 / 8 in
     let line : r % 16 % 8 ≡ r % 8 = omega arith in
     let across : c % 16 % 8 ≡ c % 8 = omega arith in
-    by_block quantiser columns frame row column block (r % 16 % 8) (c % 16 % 8) (place_in Y (r % 16) (c % 16)) (omega arith)
+    by_block quantiser columns frame row column block (r % 16 % 8) (c % 16 % 8) (place_in Y (r % 16) (c % 16)) _ (omega arith)
     ∙ ap (λ (n : ℕ). rebuilt quantiser frame row column block n (c % 16 % 8)) line
     ∙ ap (λ (n : ℕ). rebuilt quantiser frame row column block (r % 8) n) across
     ∙ ap (λ (n : ℕ). rebuilt quantiser frame n column block (r % 8) (c % 8)) (sym er)
     ∙ ap (λ (n : ℕ). rebuilt quantiser frame (r / 16) n block (r % 8) (c % 8)) (sym ec)
 sample_is quantiser columns frame row column Cb r c er ec =
-    by_block quantiser columns frame row column 4 (r % 8) (c % 8) (place_in Cb (r % 8) (c % 8)) (omega arith)
+    by_block quantiser columns frame row column 4 (r % 8) (c % 8) (place_in Cb (r % 8) (c % 8)) _ (omega arith)
     ∙ rw (er, ec) refl
 sample_is quantiser columns frame row column Cr r c er ec =
-    by_block quantiser columns frame row column 5 (r % 8) (c % 8) (place_in Cr (r % 8) (c % 8)) (omega arith)
+    by_block quantiser columns frame row column 5 (r % 8) (c % 8) (place_in Cr (r % 8) (c % 8)) _ (omega arith)
     ∙ rw (er, ec) refl
 
 -- ---- planes

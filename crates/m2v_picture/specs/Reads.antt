@@ -27,22 +27,22 @@ TellsSum (Ok x) read = (n : ℕ) × (rest : List Bool) × (x ≡ kept n) × (rea
 TellsSum (Err e) read = read ≡ Err (e.kind, e.left)
 
 -- the levels of a block
-abbrev pub TellsLevels : Result Levels Stop → List Bool → Result (List ℤ × List Bool) (FaultKind × ℕ) → Type 0
-TellsLevels (Ok l) rest read = read ≡ Ok (l.at, rest)
-TellsLevels (Err e) rest read = read ≡ Err (e.kind, e.left)
+abbrev pub TellsLevels : Result (Unit {0}) Stop → List ℤ → List Bool → Result (List ℤ × List Bool) (FaultKind × ℕ) → Type 0
+TellsLevels (Ok _) levels rest read = read ≡ Ok (levels, rest)
+TellsLevels (Err e) levels rest read = read ≡ Err (e.kind, e.left)
 
 -- the levels of a macroblock's blocks
-abbrev pub TellsBlocks : Result (List Levels) Stop → List Bool → Result (List (List ℤ) × List Bool) (FaultKind × ℕ) → Type 0
-TellsBlocks (Ok ls) rest read = read ≡ Ok (levels_of ls, rest)
-TellsBlocks (Err e) rest read = read ≡ Err (e.kind, e.left)
+abbrev pub TellsBlocks : Result (Unit {0}) Stop → List Levels → List Bool → Result (List (List ℤ) × List Bool) (FaultKind × ℕ) → Type 0
+TellsBlocks (Ok _) levels rest read = read ≡ Ok (levels_of levels, rest)
+TellsBlocks (Err e) levels rest read = read ≡ Err (e.kind, e.left)
 
 -- a macroblock and the levels of its blocks
-abbrev pub macroblock_of : MacroSyntax × List Levels → Macroblock
-macroblock_of x = record { syntax = x.0; levels = levels_of x.1 }
+abbrev pub macroblock_of : MacroSyntax → List Levels → Macroblock
+macroblock_of m levels = record { syntax = m; levels = levels_of levels }
 
-abbrev pub TellsMacroblock : Result (MacroSyntax × List Levels) Stop → List Bool → Result (Macroblock × List Bool) (FaultKind × ℕ) → Type 0
-TellsMacroblock (Ok x) rest read = read ≡ Ok (macroblock_of x, rest)
-TellsMacroblock (Err e) rest read = read ≡ Err (e.kind, e.left)
+abbrev pub TellsMacroblock : Result MacroSyntax Stop → List Levels → List Bool → Result (Macroblock × List Bool) (FaultKind × ℕ) → Type 0
+TellsMacroblock (Ok m) levels rest read = read ≡ Ok (macroblock_of m levels, rest)
+TellsMacroblock (Err e) levels rest read = read ≡ Err (e.kind, e.left)
 
 -- one macroblock was read and painted; whether another follows, and the state
 abbrev pub Round : PictureContext → SliceState → List Bool → Samples → Result Bool Stop → SliceState → List Bool → Samples → Type 0

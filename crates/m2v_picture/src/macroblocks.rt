@@ -1,4 +1,4 @@
-ghost use Rattle.std.specs.Prelude.{◌≡◌, ◌≤◌, All, IfOk, IfErr, length, true};
+ghost use Rattle.std.specs.Prelude.{◌≡◌, ◌≤◌, All, IfOk, OnOk, IfErr, length, true};
 ghost use Rattle.m2v_bits.specs.Syntax.{renamed};
 ghost use Rattle.m2v_quant.specs.Kinds.{IsLevel};
 ghost use Rattle.m2v_macro.specs.Macros.{macro_at};
@@ -47,21 +47,22 @@ fn macroblock(
     c: &PictureContext,
     row: u32,
     state: &mut SliceState,
-) -> Result<(MacroSyntax, [Levels; 6]), Stop>
+    levels: &mut [Levels; 6],
+) -> Result<MacroSyntax, Stop>
     requires picture { IsPicture c.now }
     requires state { IsState c.now row state.old }
-    ensures exact { TellsMacroblock result input.new.rest ((macroblock_at c.now state.old).read input.old.rest) }
+    ensures exact { TellsMacroblock result levels.new input.new.rest ((macroblock_at c.now state.old).read input.old.rest) }
     ensures text { input.new.text ≡ input.old.text }
     ensures left { IfErr result (λ e. e.left ≤ length input.old.text) }
-    ensures state { IfOk result (λ x. state.new ≡ after c.now state.old x.0) }
-    ensures inside { IfOk result (λ x. IsState c.now row state.new) }
-    ensures place { IfOk result (λ x. IsInside c.now row state.new.address) }
-    ensures levels { IfOk result (λ x. All (λ l. All IsLevel l.at) x.1) }
-    ensures dc { IfOk result (λ x. (x.0).kind.intra ≡ true → AreDc c.now.extension.dc_precision (last_dc x.1)) }
+    ensures state { IfOk result (λ m. state.new ≡ after c.now state.old m) }
+    ensures inside { IfOk result (λ m. IsState c.now row state.new) }
+    ensures place { IfOk result (λ m. IsInside c.now row state.new.address) }
+    ensures levels { OnOk result (All (λ l. All IsLevel l.at) levels.new) }
+    ensures dc { IfOk result (λ m. m.kind.intra ≡ true → AreDc c.now.extension.dc_precision (last_dc levels.new)) }
 {
     let m = elements(input, c, row, state)?;
-    let levels = blocks(input, c, &m, state)?;
-    Ok((m, levels))
+    blocks(input, c, &m, state, levels)?;
+    Ok(m)
 }
 
 /// The DC predictors behind a macroblock's blocks (clause 7.2.1).
@@ -95,7 +96,8 @@ fn round(
     ensures place { IfOk result (λ more. IsInside c.now row state.new.address) }
     ensures dims { out.new.dims ≡ out.old.dims }
 {
-    let (m, levels) = macroblock(input, c, row, state)?;
+    let mut levels = [Levels { at: [0; 64] }; 6];
+    let m = macroblock(input, c, row, state, &mut levels)?;
     paint(c, row, state, &m, &levels, out);
     state.dc = dc_after(m.kind.intra, &levels, state.dc);
     Ok(!input.rest_is_zero())

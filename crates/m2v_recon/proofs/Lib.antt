@@ -1,3 +1,2 @@
 pub mod Luma
 pub mod Samples
-pub mod Squares

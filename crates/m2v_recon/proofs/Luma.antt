@@ -1,5 +1,5 @@
 -- Luma blocks in 16 lines of 16.
-use Rattle.std.proofs.Common.{◌≡◌, ◌≢◌, ℕ, ◌+◌, ◌-◌, ◌*◌, ◌%◌, ◌<◌, ◌≤◌, Bool, true, false, cond, nat_lt, List, [], length, get_or, replicate, refl, ap, sym, ◌∙◌, arith, ℤ, pos, inl, inr}
+use Rattle.std.proofs.Common.{◌≡◌, ◌≢◌, ℕ, ◌^◌, ◌+ℤ◌, ◌+◌, ◌-◌, ◌*◌, ◌%◌, ◌<◌, ◌≤◌, Bool, true, false, ◌&&◌, cond, nat_lt, List, [], length, get_or, replicate, refl, ap, sym, ◌∙◌, arith, ℤ, pos, inl, inr}
 use Rattle.std.proofs.lemmas.Bool.{cases_lt, cases_eq}
 use Rattle.std.proofs.lemmas.Bool.Decides.{nat_tests}
 use Rattle.std.proofs.lemmas.List.{get_or-map}
@@ -7,43 +7,73 @@ use Rattle.m2v_plane.specs.declared.planes.Plane.TheVariants.{Y}
 use Rattle.m2v_idct.specs.Block.{nth}
 use Rattle.m2v_idct.specs.Ranges.{IsSample}
 use Rattle.m2v_idct.proofs.Passed.{fits}
-use Rattle.std.proofs.lemmas.Int.{ints}
+use Rattle.std.proofs.lemmas.Int.{ints, clamps, to_z-of_z}
 use mir.Syntax.{w32}
-use mir.Val.{SFits}
+use mir.Val.{SFits, to_z, of_z}
 use Rattle.m2v_quant.specs.declared.kind.BlockKind.{BlockKind}
 use Rattle.m2v_quant.specs.declared.kind.Levels.{Levels}
-use Rattle.m2v_recon.specs.Macro.{BlockPlace, block_of, is_coded, kind_at, residual}
-use Rattle.m2v_recon.specs.Steps.{luma_line, luma_place, difference_at, levels_of}
-use Rattle.m2v_recon.proofs.Squares.{one_more, is_less}
+use Rattle.m2v_recon.specs.Macro.{clamped, BlockPlace, block_of, is_alone, is_coded, kind_at, residual}
+use Rattle.m2v_quant.specs.Coefficients.{coefficients_of}
+use Rattle.m2v_idct.specs.Inverse.{inverse_of}
+use Rattle.m2v_recon.specs.Steps.{luma_line, luma_place, difference_at, rebuilt, levels_of}
+
+one_more : (k n : ℕ) → k ≢ n → nat_lt k n ≡ nat_lt k (n + 1)
+one_more k n ne = grind (arith, nat_tests)
+
+is_less : (k n : ℕ) → k < n → nat_lt k n ≡ true
+is_less k n lt = grind (arith, nat_tests)
 
 -- a line begins behind the ones before
 pub place_later : (field : Bool) (block k n : ℕ) → k < n → luma_place field block k + 16 ≤ luma_place field block n
 place_later false block k n lt = omega arith
 place_later true block k n lt = omega arith
 
+-- a sample of which nothing is known yet, by its place
+abbrev pub spot : List ℕ → ℕ → ℕ
+spot xs i = get_or xs i 0
+
+-- a sample and its difference, or the difference alone
+abbrev pub plus : Bool → ℕ → ℤ → ℕ
+plus alone sample difference = clamped (pos (cond alone 0 sample) +ℤ difference)
+
+pub plus_none : (x : ℕ) → x < 2 ^ 8 → plus false x (pos 0) ≡ x
+plus_none x lt = omega (arith, ints, clamps)
+
+pub not_added : (coded : Bool) (levels : List ℤ) (kind : BlockKind) (i x : ℕ) → coded ≡ false → x < 2 ^ 8 → x ≡ rebuilt coded levels kind i x
+not_added coded levels kind i x off lt = sym (ap (λ b. rebuilt b levels kind i x) off ∙ plus_none x lt)
+
+pub added : (coded : Bool) (levels : List ℤ) (kind : BlockKind) (i x : ℕ) (values : List ℤ) → coded ≡ true → values ≡ inverse_of (coefficients_of levels kind)
+    → plus kind.intra x (nth values i) ≡ rebuilt coded levels kind i x
+added coded levels kind i x values on are =
+    ap (λ zs. plus kind.intra x (nth zs i)) are ∙ sym (ap (λ b. rebuilt b levels kind i x) on)
+
 -- one line more
-pub lines_more : (field : Bool) (block n at : ℕ) (old mid new values : List ℤ) → at ≡ luma_place field block n
-    → ((k j : ℕ) → k < n → j < 8 → nth mid (luma_place field block k + j) ≡ nth values (8 * k + j))
-    → ((j : ℕ) → j < 8 → nth new (at + j) ≡ nth values (8 * n + j))
-    → ((i : ℕ) → i < at → nth new i ≡ nth mid i)
-    → (k j : ℕ) → k < n + 1 → j < 8 → nth new (luma_place field block k + j) ≡ nth values (8 * k + j)
-lines_more field block n at old mid new values place before within stay k j lt small =
+pub lines_more : (field : Bool) (block n at : ℕ) (intra : Bool) (old mid new : List ℕ) (values : List ℤ) → at ≡ luma_place field block n
+    → ((k j : ℕ) → k < n → j < 8 → spot mid (luma_place field block k + j) ≡ plus intra (spot old (luma_place field block k + j)) (nth values (8 * k + j)))
+    → ((i : ℕ) → ((k j : ℕ) → k < n → j < 8 → i ≢ luma_place field block k + j) → spot mid i ≡ spot old i)
+    → ((j : ℕ) → j < 8 → spot new (at + j) ≡ plus intra (spot mid (at + j)) (nth values (8 * n + j)))
+    → ((i : ℕ) → i < at → spot new i ≡ spot mid i)
+    → (k j : ℕ) → k < n + 1 → j < 8 → spot new (luma_place field block k + j) ≡ plus intra (spot old (luma_place field block k + j)) (nth values (8 * k + j))
+lines_more field block n at intra old mid new values place before rest within stay k j lt small =
     elim (cases_lt k n) [
       | inl less ↦
           let later = place_later field block k n less in
           stay (luma_place field block k + j) (omega arith) ∙ before k j less small
       | inr more ↦
           let here : k ≡ n = omega arith in
-          let spot : luma_place field block k + j ≡ at + j = ap (λ m. luma_place field block m + j) here ∙ ap (λ m. m + j) (sym place) in
-          ap (nth new) spot ∙ within j small ∙ ap (λ m. nth values (8 * m + j)) (sym here)
+          let at_is : luma_place field block k + j ≡ at + j = ap (λ m. luma_place field block m + j) here ∙ ap (λ m. m + j) (sym place) in
+          let untouched : spot mid (at + j) ≡ spot old (at + j) =
+          rest (at + j) (λ m i less low. let later = place_later field block m n less in λ same. absurd (omega (arith, later, same, place))) in
+          ap (spot new) at_is ∙ within j small
+          ∙ (λ i. plus intra ((untouched ∙ ap (spot old) (sym at_is)) i) (nth values (8 * (sym here) i + j)))
     ]
 
 -- what is written nowhere stays
-pub rest_more : (field : Bool) (block n at : ℕ) (old mid new : List ℤ) → at ≡ luma_place field block n
-    → ((i : ℕ) → ((k j : ℕ) → k < n → j < 8 → i ≢ luma_place field block k + j) → nth mid i ≡ nth old i)
-    → ((i : ℕ) → i < at → nth new i ≡ nth mid i)
-    → ((i : ℕ) → at + 8 ≤ i → nth new i ≡ nth mid i)
-    → (i : ℕ) → ((k j : ℕ) → k < n + 1 → j < 8 → i ≢ luma_place field block k + j) → nth new i ≡ nth old i
+pub rest_more : (field : Bool) (block n at : ℕ) (old mid new : List ℕ) → at ≡ luma_place field block n
+    → ((i : ℕ) → ((k j : ℕ) → k < n → j < 8 → i ≢ luma_place field block k + j) → spot mid i ≡ spot old i)
+    → ((i : ℕ) → i < at → spot new i ≡ spot mid i)
+    → ((i : ℕ) → at + 8 ≤ i → spot new i ≡ spot mid i)
+    → (i : ℕ) → ((k j : ℕ) → k < n + 1 → j < 8 → i ≢ luma_place field block k + j) → spot new i ≡ spot old i
 rest_more field block n at old mid new place before low high i other =
     let stays = before i (λ k j lt small. other k j (omega arith) small) in
     elim (cases_lt i at) [
@@ -51,8 +81,8 @@ rest_more field block n at old mid new place before low high i other =
       | inr more ↦
           elim (cases_lt i (at + 8)) [
             | inl inside ↦
-                let spot : i ≡ luma_place field block n + (i - at) = omega (arith, place, more) in
-                absurd (other n (i - at) (omega arith) (omega arith) spot)
+                let here : i ≡ luma_place field block n + (i - at) = omega (arith, place, more) in
+                absurd (other n (i - at) (omega arith) (omega arith) here)
             | inr behind ↦ high i behind ∙ stays
           ]
     ]
@@ -60,6 +90,9 @@ rest_more field block n at old mid new place before low high i other =
 -- a sample's difference fits its type
 pub sample_fits : (z : ℤ) → IsSample z → SFits w32 z
 sample_fits z is = fits 256 z (omega arith) (is.0, omega (arith, ints, is.1))
+
+pub sample_passed : (z : ℤ) → IsSample z → IsSample (to_z w32 (of_z w32 z))
+sample_passed z is = rw (to_z-of_z w32 z (sample_fits z is)) is
 
 -- where a luma sample stands among its block's, and back
 pub place_again : (field : Bool) (l c : ℕ) → l < 16 → c < 16
@@ -103,50 +136,62 @@ residual_is levels kinds pattern block coded place same below inside told =
     luma_block : (k : ℕ) → k < 4 → nat_lt k 4 ≡ true
     luma_block k lt = grind (arith, nat_tests)
 
--- one block more of luma
-pub luma_more : (levels : List Levels) (kinds : List BlockKind) (pattern block : ℕ) (coded field : Bool) (old new : List ℤ) → block < 4 → block < length levels
+-- whether it is its results alone
+pub alone_is : (kinds : List BlockKind) (pattern block : ℕ) (coded : Bool) (place : BlockPlace) → place.block ≡ block → block < 4
     → coded ≡ is_coded pattern block
-    → ((r c : ℕ) → r < 16 → c < 16 → nth old (16 * r + c)
-    ≡ cond (nat_lt (block_of field Y r c).block block) (residual (levels_of levels) pattern (kind_at kinds 0) (kind_at kinds 1) (block_of field Y r c)) (pos 0))
-    → ((k j : ℕ) → k < 8 → j < 8 → nth new (luma_place field block k + j)
-    ≡ difference_at coded (get_or levels block (record { at = [] })).at (kind_at kinds 0) (8 * k + j))
-    → ((i : ℕ) → ((k j : ℕ) → k < 8 → j < 8 → i ≢ luma_place field block k + j) → nth new i ≡ nth old i)
-    → (r c : ℕ) → r < 16 → c < 16 → nth new (16 * r + c)
-    ≡ cond (nat_lt (block_of field Y r c).block (block + 1)) (residual (levels_of levels) pattern (kind_at kinds 0) (kind_at kinds 1) (block_of field Y r c)) (pos 0)
-luma_more levels kinds pattern block coded field old new below inside told before lines rest r c lt small =
+    → (coded && (kind_at kinds 0).intra) ≡ is_alone pattern (kind_at kinds 0) (kind_at kinds 1) place
+alone_is kinds pattern block coded place same below told =
+    let small : nat_lt place.block 4 ≡ true = is_less place.block 4 (omega (arith, same, below)) in
+    let is : coded ≡ is_coded pattern place.block = told ∙ ap (is_coded pattern) (sym same) in
+    (λ i. is i && (cond ((sym small) i) (kind_at kinds 0) (kind_at kinds 1)).intra)
+
+-- one block more of luma
+pub luma_more : (levels : List Levels) (kinds : List BlockKind) (pattern block : ℕ) (coded field : Bool) (old mid new : List ℕ) → block < 4 → block < length levels
+    → coded ≡ is_coded pattern block
+    → ((r c : ℕ) → r < 16 → c < 16 → spot mid (16 * r + c)
+    ≡ cond (nat_lt (block_of field Y r c).block block)
+    (plus (is_alone pattern (kind_at kinds 0) (kind_at kinds 1) (block_of field Y r c)) (spot old (16 * r + c)) (residual (levels_of levels) pattern (kind_at kinds 0) (kind_at kinds 1) (block_of field Y r c))) (spot old (16 * r + c)))
+    → ((k j : ℕ) → k < 8 → j < 8 → spot new (luma_place field block k + j)
+    ≡ rebuilt coded (get_or levels block (record { at = [] })).at (kind_at kinds 0) (8 * k + j) (spot mid (luma_place field block k + j)))
+    → ((i : ℕ) → ((k j : ℕ) → k < 8 → j < 8 → i ≢ luma_place field block k + j) → spot new i ≡ spot mid i)
+    → (r c : ℕ) → r < 16 → c < 16 → spot new (16 * r + c)
+    ≡ cond (nat_lt (block_of field Y r c).block (block + 1))
+    (plus (is_alone pattern (kind_at kinds 0) (kind_at kinds 1) (block_of field Y r c)) (spot old (16 * r + c)) (residual (levels_of levels) pattern (kind_at kinds 0) (kind_at kinds 1) (block_of field Y r c))) (spot old (16 * r + c))
+luma_more levels kinds pattern block coded field old mid new below inside told before lines rest r c lt small =
     let place = block_of field Y r c in
-    let value = residual (levels_of levels) pattern (kind_at kinds 0) (kind_at kinds 1) place in
+    let difference = residual (levels_of levels) pattern (kind_at kinds 0) (kind_at kinds 1) place in
+    let was = spot old (16 * r + c) in
+    let alone = is_alone pattern (kind_at kinds 0) (kind_at kinds 1) place in
     let within = block_below field r c lt small in
     elim (cases_eq place.block block) [
       | inl here ↦
-          let spot : luma_place field block place.line + place.column ≡ 16 * r + c =
+          let at_is : luma_place field block place.line + place.column ≡ 16 * r + c =
           ap (λ b. luma_place field b place.line + place.column) (sym here) ∙ place_again field r c lt small in
           let done : nat_lt place.block (block + 1) ≡ true = is_less place.block (block + 1) (omega arith) in
-          ap (nth new) (sym spot) ∙ lines place.line place.column within.1 within.2
-          ∙ residual_is levels kinds pattern block coded place here below inside told
-          ∙ sym (ap (λ b. cond b value (pos 0)) done)
+          let open_yet : nat_lt place.block block ≡ false = ap (λ b. nat_lt b block) here ∙ not_itself block in
+          let untouched : spot mid (16 * r + c) ≡ was = before r c lt small ∙ ap (λ b. cond b (plus alone was difference) was) open_yet in
+          let added = residual_is levels kinds pattern block coded place here below inside told in
+          let is = alone_is kinds pattern block coded place here below told in
+          ap (spot new) (sym at_is) ∙ lines place.line place.column within.1 within.2
+          ∙ (λ i. plus (is i) ((ap (spot mid) at_is ∙ untouched) i) (added i))
+          ∙ sym (ap (λ b. cond b (plus alone was difference) was) done)
       | inr other ↦
           rest (16 * r + c) (λ k j kk jj same. other (block_known field block k j r c below kk jj lt small same))
-          ∙ before r c lt small ∙ ap (λ b. cond b value (pos 0)) (one_more place.block block other)
+          ∙ before r c lt small ∙ ap (λ b. cond b (plus alone was difference) was) (one_more place.block block other)
     ]
-
--- a block that wasn't reached is still 0
-pub luma_zeros : (field : Bool) (block : ℕ) (sums : List ℤ) (f : ℕ → ℕ → ℤ) → block < 4
-    → ((r c : ℕ) → r < 16 → c < 16 → nth sums (16 * r + c) ≡ cond (nat_lt (block_of field Y r c).block block) (f r c) (pos 0))
-    → (k j : ℕ) → k < 8 → j < 8 → nth sums (luma_place field block k + j) ≡ pos 0
-luma_zeros field block sums f below so k j kk jj =
-    let at = line_below field block k j below kk jj in
-    let l = luma_line field block k in
-    let c = 8 * (block % 2) + j in
-    let known = block_known field block k j l c below kk jj at.0 at.1 at.2 in
-    let none : nat_lt (block_of field Y l c).block block ≡ false = ap (λ b. nat_lt b block) known ∙ not_itself block in
-    ap (nth sums) (sym at.2) ∙ so l c at.0 at.1 ∙ ap (λ b. cond b (f l c) (pos 0)) none
   where
     not_itself : (k : ℕ) → nat_lt k k ≡ false
     not_itself k = grind (arith, nat_tests)
 
+pub luma_none : (field : Bool) (old : List ℕ) (f : ℕ → ℕ → ℕ) (r c : ℕ)
+    → spot old (16 * r + c) ≡ cond (nat_lt (block_of field Y r c).block 0) (f r c) (spot old (16 * r + c))
+luma_none field old f r c = sym (ap (λ b. cond b (f r c) (spot old (16 * r + c))) (none (block_of field Y r c).block))
+  where
+    none : (k : ℕ) → nat_lt k 0 ≡ false
+    none k = grind (arith, nat_tests)
+
 -- at the end all blocks are in place
-pub luma_all : (field : Bool) (sums : List ℤ) (f : ℕ → ℕ → ℤ) (n r c : ℕ) → r < 16 → c < 16 → 4 ≤ n
-    → nth sums (16 * r + c) ≡ cond (nat_lt (block_of field Y r c).block n) (f r c) (pos 0) → nth sums (16 * r + c) ≡ f r c
-luma_all field sums f n r c lt small all so =
-    so ∙ ap (λ b. cond b (f r c) (pos 0)) (is_less (block_of field Y r c).block n (omega (arith, (block_below field r c lt small).0)))
+pub luma_all : (field : Bool) (new old : List ℕ) (f : ℕ → ℕ → ℕ) (n r c : ℕ) → r < 16 → c < 16 → 4 ≤ n
+    → spot new (16 * r + c) ≡ cond (nat_lt (block_of field Y r c).block n) (f r c) (spot old (16 * r + c)) → spot new (16 * r + c) ≡ f r c
+luma_all field new old f n r c lt small all so =
+    so ∙ ap (λ b. cond b (f r c) (spot old (16 * r + c))) (is_less (block_of field Y r c).block n (omega (arith, (block_below field r c lt small).0)))

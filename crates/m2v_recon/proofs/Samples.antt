@@ -1,79 +1,34 @@
 -- The samples of a macroblock's planes.
-use Rattle.std.proofs.Common.{◌≡◌, ℕ, ◌+◌, ◌*◌, ◌/◌, ◌%◌, ◌<◌, Bool, true, false, cond, List, [], length, get_or, take, drop, replicate, slice_index_or, refl, sym, ◌∙◌, subst, arith, ℤ, pos, ◌+ℤ◌}
-use Rattle.std.proofs.lemmas.Int.{ints, clamps}
-use Rattle.std.proofs.lemmas.List.{get_or-map, get_or-take}
+use Rattle.std.proofs.Common.{◌≡◌, ℕ, ◌+◌, ◌*◌, ◌<◌, ◌^◌, Bool, true, false, ◌&&◌, cond, zero, suc, List, [], length, get_or, take, drop, replicate, refl, ap, sym, ◌∙◌, arith, ℤ, pos, ◌+ℤ◌}
+use Rattle.std.proofs.lemmas.List.{get_or-map, get_or-take, get_or-drop}
 use Rattle.m2v_plane.specs.declared.planes.Plane.{Plane}
 use Rattle.m2v_plane.specs.declared.planes.Plane.TheVariants.{Y, Cb, Cr}
+use Rattle.m2v_plane.specs.declared.planes.Lines.TheVariants.{Whole}
 use Rattle.m2v_plane.specs.Sizes.{columns_of}
-use Rattle.m2v_plane.specs.Samples.{Samples}
+use Rattle.m2v_plane.specs.Samples.{Samples, plane_by, plane_with_square, square_of, with_square}
+use Rattle.m2v_plane.proofs.Places.{part_at, plane_is}
+use Rattle.m2v_plane.proofs.Squares.{square_same}
 use Rattle.m2v_quant.specs.declared.kind.BlockKind.{BlockKind}
 use Rattle.m2v_quant.specs.declared.kind.Levels.{Levels}
-use Rattle.m2v_quant.specs.Coefficients.{coefficients_of}
-use Rattle.m2v_plane.proofs.Places.{part_at}
-use Rattle.m2v_idct.specs.Block.{nth}
-use Rattle.m2v_idct.specs.Ranges.{IsSample}
-use Rattle.m2v_idct.specs.Inverse.{inverse_of, inverse_at, clip, column, after_rows}
-use Rattle.m2v_idct.proofs.Blocks.{place_is}
-use Rattle.m2v_recon.specs.Macro.{BlockPlace, block_of, is_coded, kind_at, kind_of, residual, clamped, macro_sample, with_macroblock}
-use Rattle.m2v_recon.specs.Steps.{difference_at, levels_of, with_lines}
-use Rattle.m2v_recon.proofs.Luma.{block_below}
-use Rattle.m2v_recon.proofs.Squares.{lines_all}
-
-clip_is : (z : ℤ) → IsSample (clip z)
-clip_is z = (omega (arith, ints, clamps), omega (arith, ints, clamps))
-
-inverse_sample : (b : List ℤ) (y x : ℕ) → y < 8 → x < 8 → IsSample (nth (inverse_of b) (8 * y + x))
-unfolding inverse_of inverse_at
-inverse_sample b y x ly lx = subst IsSample (sym (place_is (inverse_at b) y x ly lx)) (clip_is (nth (column (λ k. after_rows b k x)) y))
-
-nothing : IsSample (pos 0)
-nothing = (omega (arith, ints), omega (arith, ints))
-
--- what is added is a sample's difference
-residual_sample : (levels : List (List ℤ)) (pattern : ℕ) (luma chroma : BlockKind) (place : BlockPlace) → place.line < 8 → place.column < 8
-    → IsSample (residual levels pattern luma chroma place)
-unfolding residual
-residual_sample levels pattern luma chroma place ly lx =
-    by_case (is_coded pattern place.block) (coefficients_of (slice_index_or levels place.block (replicate 64 (pos 0))) (kind_of luma chroma place.block))
-  where
-    by_case : (b : Bool) (m : List ℤ) → IsSample (cond b (nth (inverse_of m) (8 * place.line + place.column)) (pos 0))
-    by_case true m = inverse_sample m place.line place.column ly lx
-    by_case false m = nothing
-
-pub luma_samples : (levels : List (List ℤ)) (pattern : ℕ) (luma chroma : BlockKind) (field : Bool) (sums : List ℤ)
-    → ((l c : ℕ) → l < 16 → c < 16 → nth sums (16 * l + c) ≡ residual levels pattern luma chroma (block_of field Y l c))
-    → (i : ℕ) → i < 256 → IsSample (nth sums i)
-luma_samples levels pattern luma chroma field sums are i lt =
-    let l = i / 16 in
-    let c = i % 16 in
-    let low : l < 16 = omega arith in
-    let left : c < 16 = omega arith in
-    let spot : 16 * l + c ≡ i = omega arith in
-    let within = block_below field l c low left in
-    subst (λ (k : ℕ). IsSample (nth sums k)) spot
-    (subst IsSample (sym (are l c low left)) (residual_sample levels pattern luma chroma (block_of field Y l c) within.1 within.2))
-
-pub chroma_samples : (coded : Bool) (levels : List ℤ) (kind : BlockKind) (sums : List ℤ)
-    → ((i : ℕ) → i < 64 → nth sums i ≡ difference_at coded levels kind i) → (i : ℕ) → i < 64 → IsSample (nth sums i)
-chroma_samples coded levels kind sums are i lt =
-    let spot : 8 * (i / 8) + i % 8 ≡ i = omega arith in
-    subst IsSample (sym (are i lt))
-    (subst (λ (k : ℕ). IsSample (difference_at coded levels kind k)) spot (by_case coded (i / 8) (i % 8) (omega arith) (omega arith)))
-  where
-    by_case : (b : Bool) (y x : ℕ) → y < 8 → x < 8 → IsSample (difference_at b levels kind (8 * y + x))
-    by_case true y x ly lx = inverse_sample (coefficients_of levels kind) y x ly lx
-    by_case false y x ly lx = nothing
+use Rattle.m2v_pred.specs.Predicted.{block_by}
+use Rattle.m2v_pred.proofs.Blocks.{block-at}
+use Rattle.m2v_recon.specs.Macro.{block_of, is_alone, is_coded, kind_at, kind_of, residual, clamped, macro_sample, plane_with, with_macroblock}
+use Rattle.m2v_recon.specs.Steps.{difference_at, levels_of, rebuilt}
+use Rattle.m2v_recon.proofs.Luma.{block_below, not_added, plus_none}
 
 -- luma samples
-pub luma_is : (pred : List ℕ) (levels : List (List ℤ)) (pattern : ℕ) (luma chroma : BlockKind) (field : Bool) (sums : List ℤ)
-    → ((l c : ℕ) → l < 16 → c < 16 → nth sums (16 * l + c) ≡ residual levels pattern luma chroma (block_of field Y l c))
-    → (l c : ℕ) → l < 16 → c < 16
-    → clamped (pos (get_or (take 256 pred) (16 * l + c) 0) +ℤ nth sums (16 * l + c)) ≡ macro_sample pred levels pattern luma chroma field Y l c
+pub luma_is : (pred : List ℕ) (levels : List (List ℤ)) (pattern : ℕ) (luma chroma : BlockKind) (field : Bool) (samples : List ℕ) → length samples ≡ 256
+    → ((l c : ℕ) → l < 16 → c < 16 → get_or samples (16 * l + c) 0
+    ≡ clamped (pos (cond (is_alone pattern luma chroma (block_of field Y l c)) 0 (get_or (take 256 pred) (16 * l + c) 0)) +ℤ residual levels pattern luma chroma (block_of field Y l c)))
+    → samples ≡ plane_by 16 16 (macro_sample pred levels pattern luma chroma field Y)
 unfolding macro_sample
-luma_is pred levels pattern luma chroma field sums are l c lt small =
-    let sample = get_or-take 256 pred (16 * l + c) 0 (omega arith) in
-    let difference = are l c lt small in
-    λ i. clamped (pos (sample i) +ℤ difference i)
+luma_is pred levels pattern luma chroma field samples len are =
+    plane_is samples 16 16 (macro_sample pred levels pattern luma chroma field Y) len
+    (λ l c lt small.
+    let spot : l * 16 + c ≡ 16 * l + c = omega arith in
+    ap (λ k. get_or samples k 0) spot ∙ are l c lt small
+    ∙ ap (λ (x : ℕ). clamped (pos (cond (is_alone pattern luma chroma (block_of field Y l c)) 0 x) +ℤ residual levels pattern luma chroma (block_of field Y l c)))
+    (get_or-take 256 pred (16 * l + c) 0 (omega arith)))
 
 -- chroma samples
 blue_residual : (levels : List Levels) (kinds : List BlockKind) (pattern : ℕ) (coded field : Bool) (l c : ℕ) → 4 < length levels → coded ≡ is_coded pattern 4
@@ -94,36 +49,92 @@ red_residual levels kinds pattern coded false l c inside told =
 red_residual levels kinds pattern coded true l c inside told =
     sym (rw (get_or-map (λ (b : Levels). b.at) levels 5 (record { at = [] }) (replicate 64 (pos 0)) inside, ← told) refl)
 
-pub blue_is : (pred : List ℕ) (levels : List Levels) (kinds : List BlockKind) (pattern : ℕ) (coded field : Bool) (sums : List ℤ) → 4 < length levels
-    → coded ≡ is_coded pattern 4
-    → ((i : ℕ) → i < 64 → nth sums i ≡ difference_at coded (get_or levels 4 (record { at = [] })).at (kind_at kinds 1) i)
-    → (l c : ℕ) → l < 8 → c < 8
-    → clamped (pos (get_or (take 64 (drop 256 pred)) (8 * l + c) 0) +ℤ nth sums (8 * l + c))
-    ≡ macro_sample pred (levels_of levels) pattern (kind_at kinds 0) (kind_at kinds 1) field Cb l c
+-- whether they are results alone
+blue_alone : (kinds : List BlockKind) (pattern : ℕ) (coded field : Bool) (l c : ℕ) → coded ≡ is_coded pattern 4
+    → (coded && (kind_at kinds 1).intra) ≡ is_alone pattern (kind_at kinds 0) (kind_at kinds 1) (block_of field Cb l c)
+unfolding block_of
+blue_alone kinds pattern coded false l c told = ap (λ b. b && (kind_at kinds 1).intra) told
+blue_alone kinds pattern coded true l c told = ap (λ b. b && (kind_at kinds 1).intra) told
+
+red_alone : (kinds : List BlockKind) (pattern : ℕ) (coded field : Bool) (l c : ℕ) → coded ≡ is_coded pattern 5
+    → (coded && (kind_at kinds 1).intra) ≡ is_alone pattern (kind_at kinds 0) (kind_at kinds 1) (block_of field Cr l c)
+unfolding block_of
+red_alone kinds pattern coded false l c told = ap (λ b. b && (kind_at kinds 1).intra) told
+red_alone kinds pattern coded true l c told = ap (λ b. b && (kind_at kinds 1).intra) told
+
+pub blue_is : (pred : List ℕ) (levels : List Levels) (kinds : List BlockKind) (pattern : ℕ) (coded field : Bool) (samples : List ℕ) → length samples ≡ 64
+    → 4 < length levels → coded ≡ is_coded pattern 4
+    → ((i : ℕ) → i < 64 → get_or samples i 0
+    ≡ rebuilt coded (get_or levels 4 (record { at = [] })).at (kind_at kinds 1) i (get_or (take 64 (drop 256 pred)) i 0))
+    → samples ≡ plane_by 8 8 (macro_sample pred (levels_of levels) pattern (kind_at kinds 0) (kind_at kinds 1) field Cb)
 unfolding macro_sample
-blue_is pred levels kinds pattern coded field sums inside told are l c lt small =
+blue_is pred levels kinds pattern coded field samples len inside told are =
+    plane_is samples 8 8 (macro_sample pred (levels_of levels) pattern (kind_at kinds 0) (kind_at kinds 1) field Cb) len
+    (λ l c lt small.
+    let spot : l * 8 + c ≡ 8 * l + c = omega arith in
     let sample = part_at pred 256 64 (8 * l + c) (omega arith) in
-    let difference = are (8 * l + c) (omega arith) ∙ blue_residual levels kinds pattern coded field l c inside told in
-    λ i. clamped (pos (sample i) +ℤ difference i)
+    let difference = blue_residual levels kinds pattern coded field l c inside told in
+    let alone = blue_alone kinds pattern coded field l c told in
+    ap (λ k. get_or samples k 0) spot ∙ are (8 * l + c) (omega arith) ∙ (λ i. clamped (pos (cond (alone i) 0 (sample i)) +ℤ difference i)))
 
-pub red_is : (pred : List ℕ) (levels : List Levels) (kinds : List BlockKind) (pattern : ℕ) (coded field : Bool) (sums : List ℤ) → 5 < length levels
-    → coded ≡ is_coded pattern 5
-    → ((i : ℕ) → i < 64 → nth sums i ≡ difference_at coded (get_or levels 5 (record { at = [] })).at (kind_at kinds 1) i)
-    → (l c : ℕ) → l < 8 → c < 8
-    → clamped (pos (get_or (take 64 (drop 320 pred)) (8 * l + c) 0) +ℤ nth sums (8 * l + c))
-    ≡ macro_sample pred (levels_of levels) pattern (kind_at kinds 0) (kind_at kinds 1) field Cr l c
+pub red_is : (pred : List ℕ) (levels : List Levels) (kinds : List BlockKind) (pattern : ℕ) (coded field : Bool) (samples : List ℕ) → length samples ≡ 64
+    → 5 < length levels → coded ≡ is_coded pattern 5
+    → ((i : ℕ) → i < 64 → get_or samples i 0
+    ≡ rebuilt coded (get_or levels 5 (record { at = [] })).at (kind_at kinds 1) i (get_or (drop 64 (drop 256 pred)) i 0))
+    → samples ≡ plane_by 8 8 (macro_sample pred (levels_of levels) pattern (kind_at kinds 0) (kind_at kinds 1) field Cr)
 unfolding macro_sample
-red_is pred levels kinds pattern coded field sums inside told are l c lt small =
-    let sample = part_at pred 320 64 (8 * l + c) (omega arith) in
-    let difference = are (8 * l + c) (omega arith) ∙ red_residual levels kinds pattern coded field l c inside told in
-    λ i. clamped (pos (sample i) +ℤ difference i)
+red_is pred levels kinds pattern coded field samples len inside told are =
+    plane_is samples 8 8 (macro_sample pred (levels_of levels) pattern (kind_at kinds 0) (kind_at kinds 1) field Cr) len
+    (λ l c lt small.
+    let spot : l * 8 + c ≡ 8 * l + c = omega arith in
+    let place : 256 + (64 + (8 * l + c)) ≡ 320 + (8 * l + c) = omega arith in
+    let sample = get_or-drop 64 (drop 256 pred) (8 * l + c) 0 ∙ get_or-drop 256 pred (64 + (8 * l + c)) 0 ∙ ap (λ k. get_or pred k 0) place in
+    let difference = red_residual levels kinds pattern coded field l c inside told in
+    let alone = red_alone kinds pattern coded field l c told in
+    ap (λ k. get_or samples k 0) spot ∙ are (8 * l + c) (omega arith) ∙ (λ i. clamped (pos (cond (alone i) 0 (sample i)) +ℤ difference i)))
 
--- the three planes are the macroblock
-pub planes_are : (s : Samples) (column : ℕ) (f : Plane → ℕ → ℕ → ℕ)
-    → with_lines 8 Cr column (f Cr) (with_lines 8 Cb column (f Cb) (with_lines 16 Y column (f Y) s)) ≡ with_macroblock 1 0 column f s
-planes_are s column f = λ i. record {
-  dims = s.dims;
-  luma = lines_all (columns_of s.dims Y) 16 column (f Y) (f Y) s.luma (omega arith) (λ r c lt small. refl) i;
-  cb = lines_all (columns_of s.dims Cb) 8 column (f Cb) (f Cb) s.cb (omega arith) (λ r c lt small. refl) i;
-  cr = lines_all (columns_of s.dims Cr) 8 column (f Cr) (f Cr) s.cr (omega arith) (λ r c lt small. refl) i;
-}
+-- the three squares are the macroblock
+pub squares_are : (s : Samples) (column : ℕ) (f : Plane → ℕ → ℕ → ℕ) (xs : List ℕ) → xs ≡ block_by f
+    → with_square 1 (with_square 1 (with_square 1 s Y Whole 0 column (square_of 16 (take 256 xs))) Cb Whole 0 column (square_of 8 (take 64 (drop 256 xs))))
+    Cr Whole 0 column (square_of 8 (take 64 (drop 320 xs)))
+    ≡ with_macroblock 1 0 column f s
+unfolding plane_with plane_with_square
+squares_are s column f xs is =
+    let luma = λ (r c : ℕ) (lt : r < 16) (small : c < 16).
+    get_or-take 256 xs (16 * r + c) 0 (omega arith) ∙ ap (λ zs. get_or zs (16 * r + c) 0) is ∙ block-at f Y r c lt small in
+    let blue = λ (r c : ℕ) (lt : r < 8) (small : c < 8).
+    part_at xs 256 64 (8 * r + c) (omega arith) ∙ ap (λ zs. get_or zs (256 + (8 * r + c)) 0) is ∙ block-at f Cb r c lt small in
+    let red = λ (r c : ℕ) (lt : r < 8) (small : c < 8).
+    part_at xs 320 64 (8 * r + c) (omega arith) ∙ ap (λ zs. get_or zs (320 + (8 * r + c)) 0) is ∙ block-at f Cr r c lt small in
+    λ i. record {
+      dims = s.dims;
+      luma = square_same 16 (columns_of s.dims Y) 16 Whole 0 column (square_of 16 (take 256 xs)) (f Y) s.luma (omega arith) luma i;
+      cb = square_same 8 (columns_of s.dims Cb) 8 Whole 0 column (square_of 8 (take 64 (drop 256 xs))) (f Cb) s.cb (omega arith) blue i;
+      cr = square_same 8 (columns_of s.dims Cr) 8 Whole 0 column (square_of 8 (take 64 (drop 320 xs))) (f Cr) s.cr (omega arith) red i;
+    }
+
+-- a macroblock without a coded block is its prediction
+none_coded : (b : ℕ) → b < 6 → is_coded 0 b ≡ false
+none_coded zero lt = refl
+none_coded (suc zero) lt = refl
+none_coded (suc (suc zero)) lt = refl
+none_coded (suc (suc (suc zero))) lt = refl
+none_coded (suc (suc (suc (suc zero)))) lt = refl
+none_coded (suc (suc (suc (suc (suc zero))))) lt = refl
+none_coded (suc (suc (suc (suc (suc (suc n)))))) lt = absurd (omega arith)
+
+nothing_added : (coded alone : Bool) (x : ℕ) (z : ℤ) → coded ≡ false → x < 2 ^ 8 → x ≡ clamped (pos (cond (coded && alone) 0 x) +ℤ cond coded z (pos 0))
+nothing_added true alone x z e lt = absurd cc
+nothing_added false alone x z e lt = sym (plus_none x lt)
+
+pub off : (pattern b : ℕ) → pattern ≡ 0 → b < 6 → is_coded pattern b ≡ false
+off pattern b none lt = ap (λ p. is_coded p b) none ∙ none_coded b lt
+
+pub luma_untouched : (xs : List ℕ) (levels : List (List ℤ)) (pattern : ℕ) (luma chroma : BlockKind) (field : Bool) → pattern ≡ 0 → ((i : ℕ) → get_or xs i 0 < 2 ^ 8)
+    → (l c : ℕ) → l < 16 → c < 16 → get_or xs (16 * l + c) 0
+    ≡ clamped (pos (cond (is_alone pattern luma chroma (block_of field Y l c)) 0 (get_or xs (16 * l + c) 0)) +ℤ residual levels pattern luma chroma (block_of field Y l c))
+unfolding residual
+luma_untouched xs levels pattern luma chroma field none bytes l c lt small =
+    let place = block_of field Y l c in
+    nothing_added (is_coded pattern place.block) (kind_of luma chroma place.block).intra _ _
+    (off pattern place.block none (omega (arith, (block_below field l c lt small).0))) (bytes (16 * l + c))

@@ -51,10 +51,19 @@ residual levels pattern luma chroma place =
 abbrev pub clamped : ℤ → ℕ
 clamped z = unsigned_abs (int_max (pos 0) (int_min z (pos 255)))
 
+-- a coded block of an intra macroblock, all of whose blocks are coded, is its results alone: its prediction isn't added,
+-- whatever it holds
+abbrev pub is_alone : ℕ → BlockKind → BlockKind → BlockPlace → Bool
+is_alone pattern luma chroma place = is_coded pattern place.block && (kind_of luma chroma place.block).intra
+
 -- a sample of a macroblock, by its plane, line and column, from the samples of its prediction and the levels of its blocks
 unfoldable pub macro_sample : List ℕ → List (List ℤ) → ℕ → BlockKind → BlockKind → Bool → Plane → ℕ → ℕ → ℕ
 macro_sample prediction levels pattern luma chroma dct_field plane line column =
-    clamped (pos (slice_index prediction (place_in plane line column)) +ℤ residual levels pattern luma chroma (block_of dct_field plane line column))
+    clamped (
+    pos (
+    if is_alone pattern luma chroma (block_of dct_field plane line column) then 0
+    else slice_index prediction (place_in plane line column))
+    +ℤ residual levels pattern luma chroma (block_of dct_field plane line column))
 
 -- a plane of so many lines and columns, with one square replaced
 unfoldable pub plane_with : ℕ → ℕ → ℕ → ℕ → ℕ → (ℕ → ℕ → ℕ) → List ℕ → List ℕ

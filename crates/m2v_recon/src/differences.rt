@@ -1,5 +1,5 @@
 //! What is added to a prediction.
-ghost use Rattle.std.specs.Prelude.{ℕ, ◌≡◌, ◌≢◌, ◌+◌, ◌-◌, ◌*◌, ◌/◌, ◌%◌, ◌≤◌, ◌<◌, All, IsTrue, slice_index_or, length, ℤ, pos};
+ghost use Rattle.std.specs.Prelude.{ℕ, ◌≡◌, ◌≢◌, ◌+◌, ◌-◌, ◌*◌, ◌/◌, ◌%◌, ◌≤◌, ◌<◌, All, IsTrue, cond, slice_index, slice_index_or, length, ℤ, pos, ◌+ℤ◌};
 ghost use Rattle.m2v_quant.specs.declared.kind.Levels.{Levels};
 ghost use Rattle.m2v_quant.specs.Kinds.{IsKind, IsLevel};
 ghost use Rattle.m2v_quant.specs.Coefficients.{coefficients_of};
@@ -7,13 +7,13 @@ ghost use Rattle.m2v_idct.specs.Inverse.{inverse_of};
 ghost use Rattle.m2v_idct.specs.Block.{nth};
 ghost use Rattle.m2v_idct.specs.Ranges.{IsSample};
 ghost use Rattle.m2v_plane.specs.declared.planes.Plane.TheVariants.{Y};
-ghost use Rattle.m2v_recon.specs.Macro.{is_coded, residual, block_of, kind_at};
-ghost use Rattle.m2v_recon.specs.Steps.{luma_line, luma_place, difference_at, levels_of};
+ghost use Rattle.m2v_recon.specs.Macro.{clamped, is_alone, is_coded, residual, block_of, kind_at};
+ghost use Rattle.m2v_recon.specs.Steps.{luma_line, luma_place, rebuilt, levels_of};
 
-use m2v_idct::inverse;
+use m2v_idct::inverse_in_place;
 use m2v_quant::{BlockKind, Levels, dequantise};
 
-/// Whether a block is coded.
+/// Whether a block is coded: its bit `32 >> block` of the pattern is 1 (clause 6.3.17.4).
 #[inline(always)]
 pub fn is_coded(pattern: u8, block: u32) -> bool
     requires { block < 6 }
@@ -23,15 +23,31 @@ pub fn is_coded(pattern: u8, block: u32) -> bool
 }
 
 /// The differences of a coded block.
-pub fn differences(levels: &Levels, kind: &BlockKind) -> [i32; 64]
+fn differences(levels: &Levels, kind: &BlockKind, out: &mut [i32; 64])
     requires kind { IsKind kind.now }
     requires levels { All IsLevel levels.now.at }
-    ensures value { result ≡ inverse_of (coefficients_of levels.now.at kind.now) }
-    ensures samples { All IsSample result }
+    ensures value { out.new ≡ inverse_of (coefficients_of levels.now.at kind.now) }
+    ensures samples { All IsSample out.new }
 {
-    let mut coefficients = [0; 64];
-    dequantise(levels, kind, &mut coefficients);
-    inverse(&coefficients)
+    dequantise(levels, kind, out);
+    inverse_in_place(out);
+}
+
+/// What a difference is added to: nothing in an intra block.
+#[inline(always)]
+fn base(intra: bool, sample: u8) -> u8
+    ensures value { result ≡ cond intra 0 sample }
+{
+    if intra { 0 } else { sample }
+}
+
+/// A sample and its difference.
+#[inline(always)]
+fn sum(sample: u8, difference: i32) -> u8
+    requires { IsSample difference }
+    ensures value { result ≡ clamped (pos sample +ℤ difference) }
+{
+    (i32::from(sample) + difference).clamp(0, 255) as u8
 }
 
 /// Where line k of a luma block begins in 16 lines of 16.
@@ -50,95 +66,134 @@ fn luma_place(dct_field: bool, block: usize, k: usize) -> usize
     16 * line + 8 * (block % 2)
 }
 
-/// Puts a line of eight.
+/// Adds a line of eight to samples, or puts it in their place in an intra block.
 #[inline(always)]
-fn put_eight(sums: &mut [i32; 256], from: usize, values: &[i32; 64], at: usize)
-    requires from { from + 8 ≤ 256 }
+fn add_eight(samples: &mut [u8], from: usize, intra: bool, values: &[i32; 64], at: usize)
+    requires from { from + 8 ≤ length samples.old }
     requires at { at + 8 ≤ 64 }
-    ensures within { (j : ℕ) → j < 8 → nth sums.new (from + j) ≡ nth values.now (at + j) }
-    ensures before { (i : ℕ) → i < from → nth sums.new i ≡ nth sums.old i }
-    ensures behind { (i : ℕ) → from + 8 ≤ i → nth sums.new i ≡ nth sums.old i }
+    requires values { All IsSample values.now }
+    ensures within { (j : ℕ) → j < 8
+        → slice_index samples.new (from + j)
+        ≡ clamped (pos (cond intra 0 (slice_index samples.old (from + j))) +ℤ nth values.now (at + j)) }
+    ensures before { (i : ℕ) → i < from → slice_index samples.new i ≡ slice_index samples.old i }
+    ensures behind { (i : ℕ) → from + 8 ≤ i → slice_index samples.new i ≡ slice_index samples.old i }
 {
     for j in 0..8 {
-        sums[from + j] = values[at + j];
+        samples[from + j] = sum(base(intra, samples[from + j]), values[at + j]);
     }
 }
 
-/// Puts the lines of a luma block into 16 lines of 16, in frame or in field order.
+/// Adds the lines of a luma block to 16 lines of 16 samples, in frame or in field order.
 #[inline(always)]
-pub fn put_block(sums: &mut [i32; 256], dct_field: bool, block: usize, values: &[i32; 64])
-    requires { block < 4 }
-    ensures lines { (k j : ℕ) → k < 8 → j < 8 → nth sums.new (luma_place dct_field block k + j) ≡ nth values.now (8 * k + j) }
-    ensures rest { (i : ℕ) → ((k j : ℕ) → k < 8 → j < 8 → i ≢ luma_place dct_field block k + j) → nth sums.new i ≡ nth sums.old i }
+fn add_block(samples: &mut [u8], dct_field: bool, block: usize, intra: bool, values: &[i32; 64])
+    requires samples { length samples.old ≡ 256 }
+    requires block { block < 4 }
+    requires values { All IsSample values.now }
+    ensures lines { (k j : ℕ) → k < 8 → j < 8 → slice_index samples.new (luma_place dct_field block k + j)
+        ≡ clamped (pos (cond intra 0 (slice_index samples.old (luma_place dct_field block k + j))) +ℤ nth values.now (8 * k + j)) }
+    ensures rest { (i : ℕ) → ((k j : ℕ) → k < 8 → j < 8 → i ≢ luma_place dct_field block k + j)
+        → slice_index samples.new i ≡ slice_index samples.old i }
 {
     for k in 0..8 {
-        put_eight(sums, luma_place(dct_field, block, k), values, 8 * k);
+        add_eight(
+            samples,
+            luma_place(dct_field, block, k),
+            intra,
+            values,
+            8 * k,
+        );
     }
 }
 
-/// Puts a luma block's differences, or leaves the zeros there where it isn't coded.
+/// Adds a luma block's differences, none where it isn't coded. `room` is for the block.
 #[inline(always)]
-fn add_block(
-    sums: &mut [i32; 256],
+fn add_coded(
+    samples: &mut [u8],
     dct_field: bool,
     block: usize,
     coded: bool,
     levels: &Levels,
     kind: &BlockKind,
+    room: &mut [i32; 64],
 )
+    requires samples { length samples.old ≡ 256 }
     requires block { block < 4 }
     requires kind { IsKind kind.now }
     requires levels { All IsLevel levels.now.at }
-    requires zeros { (k j : ℕ) → k < 8 → j < 8 → nth sums.old (luma_place dct_field block k + j) ≡ pos 0 }
-    ensures lines { (k j : ℕ) → k < 8 → j < 8
-        → nth sums.new (luma_place dct_field block k + j) ≡ difference_at coded levels.now.at kind.now (8 * k + j) }
-    ensures rest { (i : ℕ) → ((k j : ℕ) → k < 8 → j < 8 → i ≢ luma_place dct_field block k + j) → nth sums.new i ≡ nth sums.old i }
+    ensures lines { (k j : ℕ) → k < 8 → j < 8 → slice_index samples.new (luma_place dct_field block k + j)
+        ≡ rebuilt coded levels.now.at kind.now (8 * k + j) (slice_index samples.old (luma_place dct_field block k + j)) }
+    ensures rest { (i : ℕ) → ((k j : ℕ) → k < 8 → j < 8 → i ≢ luma_place dct_field block k + j)
+        → slice_index samples.new i ≡ slice_index samples.old i }
 {
-    if coded {
-        put_block(sums, dct_field, block, &differences(levels, kind));
+    if !coded {
+        return;
     }
+    differences(levels, kind, room);
+    add_block(samples, dct_field, block, kind.intra, room);
 }
 
-/// The differences of luma, 16 lines of 16.
-pub fn luma_differences(
+/// Adds the differences of luma to 16 lines of 16 samples. `room` is for a block.
+#[inline(always)]
+pub fn add_luma(
+    samples: &mut [u8],
     levels: &[Levels; 6],
     pattern: u8,
     kinds: &[BlockKind; 2],
     dct_field: bool,
-    sums: &mut [i32; 256],
+    room: &mut [i32; 64],
 )
+    requires samples { length samples.old ≡ 256 }
     requires kinds { All IsKind kinds.now }
     requires levels { All (λ l. All IsLevel l.at) levels.now }
-    requires zeros { (i : ℕ) → i < 256 → nth sums.old i ≡ pos 0 }
-    ensures value { (l c : ℕ) → l < 16 → c < 16 → nth sums.new (16 * l + c)
-        ≡ residual (levels_of levels.now) pattern (kind_at kinds.now 0) (kind_at kinds.now 1) (block_of dct_field Y l c) }
-    ensures samples { (i : ℕ) → i < 256 → IsSample (nth sums.new i) }
+    ensures value { (l c : ℕ) → l < 16 → c < 16 → slice_index samples.new (16 * l + c)
+        ≡ clamped (
+        pos (cond (is_alone pattern (kind_at kinds.now 0) (kind_at kinds.now 1) (block_of dct_field Y l c)) 0 (slice_index samples.old (16 * l + c)))
+        +ℤ residual (levels_of levels.now) pattern (kind_at kinds.now 0) (kind_at kinds.now 1) (block_of dct_field Y l c)) }
 {
     for block in 0..4 {
         let coded = is_coded(pattern, block as u32);
-        add_block(sums, dct_field, block, coded, &levels[block], &kinds[0]);
+        add_coded(
+            samples,
+            dct_field,
+            block,
+            coded,
+            &levels[block],
+            &kinds[0],
+            room,
+        );
     }
 }
 
-/// The differences of a chroma block.
-pub fn chroma_differences(coded: bool, levels: &Levels, kind: &BlockKind) -> [i32; 64]
+/// Adds 64 differences to as many samples, or puts them in their place in an intra block.
+#[inline(always)]
+fn add_all(samples: &mut [u8], intra: bool, values: &[i32; 64])
+    requires samples { length samples.old ≡ 64 }
+    requires values { All IsSample values.now }
+    ensures { (i : ℕ) → i < 64
+        → slice_index samples.new i ≡ clamped (pos (cond intra 0 (slice_index samples.old i)) +ℤ nth values.now i) }
+{
+    for i in 0..64 {
+        samples[i] = sum(base(intra, samples[i]), values[i]);
+    }
+}
+
+/// Adds the differences of a chroma block, none where it isn't coded. `room` is for the block.
+#[inline(always)]
+pub fn add_chroma(
+    samples: &mut [u8],
+    coded: bool,
+    levels: &Levels,
+    kind: &BlockKind,
+    room: &mut [i32; 64],
+)
+    requires samples { length samples.old ≡ 64 }
     requires kind { IsKind kind.now }
     requires levels { All IsLevel levels.now.at }
-    ensures len { length result ≡ 64 }
-    ensures value { (i : ℕ) → i < 64 → nth result i ≡ difference_at coded levels.now.at kind.now i }
-    ensures samples { (i : ℕ) → i < 64 → IsSample (nth result i) }
+    ensures value { (i : ℕ) → i < 64 → slice_index samples.new i ≡ rebuilt coded levels.now.at kind.now i (slice_index samples.old i) }
 {
-    if coded {
-        differences(levels, kind)
-    } else {
-        no_differences()
+    if !coded {
+        return;
     }
-}
-
-#[inline(always)]
-fn no_differences() -> [i32; 64]
-    ensures len { length result ≡ 64 }
-    ensures value { (i : ℕ) → i < 64 → nth result i ≡ pos 0 }
-{
-    [0; 64]
+    differences(levels, kind, room);
+    add_all(samples, kind.intra, room);
 }

@@ -4,8 +4,8 @@
 
 mod differences;
 mod macroblock;
-mod square;
 #[cfg(test)]
 mod tests;
 
-pub use macroblock::rebuild;
+pub use differences::is_coded;
+pub use macroblock::{rebuild, rebuild_block};

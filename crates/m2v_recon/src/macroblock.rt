@@ -1,84 +1,75 @@
 //! The samples of a macroblock.
-ghost use Rattle.std.specs.Prelude.{ℕ, ◌≡◌, ◌+◌, ◌*◌, ◌≤◌, ◌<◌, Bool, All, length, slice_index, ℤ, pos, ◌+ℤ◌};
-ghost use Rattle.m2v_plane.specs.declared.planes.Plane.{Plane};
-ghost use Rattle.m2v_plane.specs.declared.planes.Plane.TheVariants.{Y, Cb, Cr};
-ghost use Rattle.m2v_plane.specs.Sizes.{side, columns_of};
+ghost use Rattle.std.specs.Prelude.{ℕ, ◌≡◌, ◌+◌, ◌*◌, ◌<◌, All, cond, length, slice_index, pos, ◌+ℤ◌};
+ghost use Rattle.m2v_plane.specs.declared.planes.Plane.TheVariants.{Y};
 ghost use Rattle.m2v_quant.specs.Kinds.{IsKind, IsLevel};
-ghost use Rattle.m2v_idct.specs.Block.{nth};
-ghost use Rattle.m2v_idct.specs.Ranges.{IsSample};
-ghost use Rattle.m2v_pred.specs.Predicted.{place_in};
-ghost use Rattle.m2v_recon.specs.Macro.{clamped, kind_at, macro_sample, with_macroblock};
-ghost use Rattle.m2v_recon.specs.Steps.{with_lines, levels_of};
+ghost use Rattle.m2v_pred.specs.Predicted.{block_by};
+ghost use Rattle.m2v_recon.specs.Macro.{block_of, clamped, is_alone, is_coded, kind_at, macro_sample, residual, with_macroblock};
+ghost use Rattle.m2v_recon.specs.Steps.{level_list, levels_of, rebuilt};
 
-use crate::differences::{chroma_differences, is_coded, luma_differences};
-use crate::square::put_lines;
+use crate::differences::{add_chroma, add_luma, is_coded};
 use m2v_plane::{Plane, RowSamples};
 use m2v_pred::Block16;
 use m2v_quant::{BlockKind, Levels};
 
-/// Writes luma.
-fn put_luma(
-    pred: &Block16,
+/// The samples of the three planes, written over their prediction.
+#[inline(always)]
+fn rebuild_planes(
+    luma: &mut [u8],
+    blue: &mut [u8],
+    red: &mut [u8],
     levels: &[Levels; 6],
     pattern: u8,
     kinds: &[BlockKind; 2],
     dct_field: bool,
-    column: u32,
-    out: &mut RowSamples,
 )
+    requires luma { length luma.old ≡ 256 }
+    requires blue { length blue.old ≡ 64 }
+    requires red { length red.old ≡ 64 }
     requires kinds { All IsKind kinds.now }
     requires levels { All (λ l. All IsLevel l.at) levels.now }
-    requires column { column < out.old.dims.mb_width }
-    ensures value { out.new ≡ with_lines 16 Y column
-        (macro_sample pred.now.at (levels_of levels.now) pattern (kind_at kinds.now 0) (kind_at kinds.now 1) dct_field Y) out.old }
+    ensures luma { (l c : ℕ) → l < 16 → c < 16 → slice_index luma.new (16 * l + c)
+        ≡ clamped (
+        pos (cond (is_alone pattern (kind_at kinds.now 0) (kind_at kinds.now 1) (block_of dct_field Y l c)) 0 (slice_index luma.old (16 * l + c)))
+        +ℤ residual (levels_of levels.now) pattern (kind_at kinds.now 0) (kind_at kinds.now 1) (block_of dct_field Y l c)) }
+    ensures blue { (i : ℕ) → i < 64 → slice_index blue.new i
+        ≡ rebuilt (is_coded pattern 4) (level_list levels.now 4) (kind_at kinds.now 1) i (slice_index blue.old i) }
+    ensures red { (i : ℕ) → i < 64 → slice_index red.new i
+        ≡ rebuilt (is_coded pattern 5) (level_list levels.now 5) (kind_at kinds.now 1) i (slice_index red.old i) }
 {
-    let mut sums = [0; 256];
-    luma_differences(levels, pattern, kinds, dct_field, &mut sums);
-    put_lines(&pred.at[..256], &sums, Plane::Y, 16, column, out);
+    if pattern == 0 {
+        return;
+    }
+    let mut room = [0; 64];
+    add_luma(luma, levels, pattern, kinds, dct_field, &mut room);
+    let coded = is_coded(pattern, 4);
+    add_chroma(blue, coded, &levels[4], &kinds[1], &mut room);
+    let coded = is_coded(pattern, 5);
+    add_chroma(red, coded, &levels[5], &kinds[1], &mut room);
 }
 
-/// Writes the blue colour difference.
-fn put_blue(
-    pred: &Block16,
+/// The samples of one macroblock (clause 7.6.8), written over its prediction: the prediction plus the inverse transform of
+/// the coefficients of each block whose bit `32 >> i` of `pattern` is set, clamped to 0 to 255. A block of an intra
+/// macroblock is its transform alone, whatever the prediction holds. The kinds are those of luma and of chroma blocks;
+/// with `dct_field` luma blocks hold the lines of a field each. Takes no memory.
+pub fn rebuild_block(
+    block: &mut Block16,
     levels: &[Levels; 6],
     pattern: u8,
     kinds: &[BlockKind; 2],
-    column: u32,
-    out: &mut RowSamples,
+    dct_field: bool,
 )
     requires kinds { All IsKind kinds.now }
     requires levels { All (λ l. All IsLevel l.at) levels.now }
-    requires column { column < out.old.dims.mb_width }
-    ensures value { (dct_field : Bool) → out.new ≡ with_lines 8 Cb column
-        (macro_sample pred.now.at (levels_of levels.now) pattern (kind_at kinds.now 0) (kind_at kinds.now 1) dct_field Cb) out.old }
+    ensures value { block.new.at ≡ block_by
+        (macro_sample block.old.at (levels_of levels.now) pattern (kind_at kinds.now 0) (kind_at kinds.now 1) dct_field) }
 {
-    let sums = chroma_differences(is_coded(pattern, 4), &levels[4], &kinds[1]);
-    put_lines(&pred.at[256..320], &sums, Plane::Cb, 8, column, out);
+    let (luma, chroma) = block.at.split_at_mut(256);
+    let (blue, red) = chroma.split_at_mut(64);
+    rebuild_planes(luma, blue, red, levels, pattern, kinds, dct_field);
 }
 
-/// Writes the red colour difference.
-fn put_red(
-    pred: &Block16,
-    levels: &[Levels; 6],
-    pattern: u8,
-    kinds: &[BlockKind; 2],
-    column: u32,
-    out: &mut RowSamples,
-)
-    requires kinds { All IsKind kinds.now }
-    requires levels { All (λ l. All IsLevel l.at) levels.now }
-    requires column { column < out.old.dims.mb_width }
-    ensures value { (dct_field : Bool) → out.new ≡ with_lines 8 Cr column
-        (macro_sample pred.now.at (levels_of levels.now) pattern (kind_at kinds.now 0) (kind_at kinds.now 1) dct_field Cr) out.old }
-{
-    let sums = chroma_differences(is_coded(pattern, 5), &levels[5], &kinds[1]);
-    put_lines(&pred.at[320..384], &sums, Plane::Cr, 8, column, out);
-}
-
-/// Writes the samples of one macroblock (clause 7.6.8) at its column of a row, and nothing else of the row: the
-/// prediction, all 0 for an intra macroblock, plus the inverse transform of the coefficients of each block whose bit
-/// `32 >> i` of `pattern` is set, clamped to 0 to 255. The kinds are those of luma and of chroma blocks; with `dct_field`
-/// luma blocks hold the lines of a field each. Takes no memory.
+/// Writes the samples of one macroblock, those of [`rebuild_block`], at its column of a row, and nothing else of the row.
+/// Takes no memory.
 pub fn rebuild(
     pred: &Block16,
     levels: &[Levels; 6],
@@ -94,9 +85,9 @@ pub fn rebuild(
     ensures value { out.new ≡ with_macroblock 1 0 column
         (macro_sample pred.now.at (levels_of levels.now) pattern (kind_at kinds.now 0) (kind_at kinds.now 1) dct_field) out.old }
 {
-    // the row is whole
-    let _size = out.dims();
-    put_luma(pred, levels, pattern, kinds, dct_field, column, out);
-    put_blue(pred, levels, pattern, kinds, column, out);
-    put_red(pred, levels, pattern, kinds, column, out);
+    let mut block = *pred;
+    rebuild_block(&mut block, levels, pattern, kinds, dct_field);
+    out.set_square(Plane::Y, column, &block.at[..256]);
+    out.set_square(Plane::Cb, column, &block.at[256..320]);
+    out.set_square(Plane::Cr, column, &block.at[320..384]);
 }

@@ -1,17 +1,20 @@
-use Rattle.std.proofs.Common.{◌∙◌, ap}
+use Rattle.std.proofs.Common.{◌∙◌, ap, take, drop}
 use Rattle.m2v_plane.specs.declared.planes.Plane.TheVariants.{Cb, Cr}
-use Rattle.m2v_plane.specs.Samples.{Samples}
+use Rattle.m2v_plane.specs.declared.planes.Lines.TheVariants.{Whole}
+use Rattle.m2v_plane.specs.Samples.{Samples, square_of, with_square}
 use Rattle.m2v_recon.specs.Macro.{kind_at, macro_sample}
-use Rattle.m2v_recon.specs.Steps.{with_lines, levels_of}
-use Rattle.m2v_recon.proofs.Samples.{planes_are}
+use Rattle.m2v_recon.specs.Steps.{levels_of}
+use Rattle.m2v_recon.proofs.Samples.{squares_are}
 use Rattle.m2v_recon.proofs.macroblock.rebuild.Goals as goal
 
 pub returns : goal.returns
 returns c =
     let f = macro_sample c.args.pred.now.at (levels_of c.args.levels.now) c.args.pattern (kind_at c.args.kinds.now 0) (kind_at c.args.kinds.now 1) c.args.dct_field in
+    let xs = c.rebuild_block.new.block.at in
+    let column = c.args.column in
+    let red = λ (s : Samples). with_square 1 s Cr Whole 0 column (square_of 8 (take 64 (drop 320 xs))) in
+    let blue = λ (s : Samples). with_square 1 s Cb Whole 0 column (square_of 8 (take 64 (drop 256 xs))) in
     record {
-      value = c.put_red.ensures.value c.args.dct_field
-          ∙ ap (λ (s : Samples). with_lines 8 Cr c.args.column (f Cr) s) (c.put_blue.ensures.value c.args.dct_field)
-          ∙ ap (λ (s : Samples). with_lines 8 Cr c.args.column (f Cr) (with_lines 8 Cb c.args.column (f Cb) s)) c.put_luma.ensures.value
-          ∙ planes_are c.args.out.now c.args.column f;
+      value = c.set_square-3.ensures.value ∙ ap red c.set_square-2.ensures.value ∙ ap (λ s. red (blue s)) c.set_square.ensures.value
+          ∙ squares_are c.args.out.now column f xs c.rebuild_block.ensures.value;
     }
