@@ -187,6 +187,10 @@ impl Hand {
         ensures err { IfErr result (LimitErr (limit_of self.old (prefix self.old.ahead ++ b ∷ []))) }
     {
         let ahead = self.ahead as usize;
+        if ahead == 0 {
+            // most bytes stand behind no zero byte
+            return self.put(b);
+        }
         let mut bytes = [0; 3];
         bytes[ahead] = b;
         self.put_all(&bytes[..ahead + 1])?;
