@@ -49,8 +49,10 @@ fn append(bytes: &mut Vec<u8>, zeros: u64, b: u8) -> Result<(), Memory>
     requires { length bytes.old.items + zeros ≤ 2 ^ 36 }
     ensures { OnOk result (bytes.new.items ≡ (bytes.old.items ++ replicate zeros 0) ++ b ∷ []) }
 {
-    let n = bytes.len() + zeros as usize;
-    bytes.resize(n, 0)?;
+    if zeros > 0 {
+        let n = bytes.len() + zeros as usize;
+        bytes.resize(n, 0)?;
+    }
     bytes.push(b)?;
     Ok(())
 }
