@@ -8,7 +8,6 @@ ghost use Rattle.m2v_canvas.specs.Paints.{Paints};
 
 use crate::Memory;
 use crate::row::lift;
-use crate::size::dims_of;
 use m2v_bits::BitReader;
 use m2v_model::{Open, Sequence, State};
 use m2v_picture::{Stop, read_slice};
@@ -40,7 +39,7 @@ impl Canvas {
         requires { IsSize (dims_for s.now) }
         ensures { IfOk result (λ c. c ≡ blank (dims_for s.now) (rows_of s.now)) }
     {
-        let dims = dims_of(s);
+        let dims = s.dims();
         let frame = Frame::blank(alloc, dims)?;
         let row = RowSamples::blank(alloc, dims)?;
         Ok(Canvas { frame, row })

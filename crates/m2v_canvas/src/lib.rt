@@ -4,7 +4,6 @@
 
 mod canvas;
 mod row;
-mod size;
 
 pub use canvas::Canvas;
 

@@ -11,11 +11,10 @@ use Rattle.m2v_model.specs.Units.{unit_at, cut}
 use Rattle.m2v_model.specs.States.{after_end}
 use Rattle.m2v_model.specs.Streams.{unit_round, next_unit, text_end, close, after}
 use Rattle.m2v_model.specs.Pictures.{pictures_from}
-use Rattle.m2v_model.specs.ByPieces.{stream_from, told, piece_read}
+use Rattle.m2v_model.specs.ByPieces.{stream_from, told, piece_read, seen}
 use Rattle.m2v_plane.specs.Samples.{Samples}
 use Rattle.m2v_model.specs.declared.fault.FaultKind.{FaultKind}
 use Rattle.m2v_model.specs.Units.{Units}
-use Rattle.m2v_model.proofs.FlowLaws.{seen}
 use Rattle.m2v_model.proofs.PieceLaws.{placed, piece_is}
 use Rattle.m2v_decoder.specs.declared.course.Course.{Course}
 use Rattle.m2v_decoder.specs.Course.{Fits, IsSound, ReadAll}

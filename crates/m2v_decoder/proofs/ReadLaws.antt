@@ -15,8 +15,8 @@ use Rattle.m2v_model.specs.States.{first_or}
 use Rattle.m2v_model.specs.Streams.{Part, after, value_of, sequence, group, picture, matrices, slice, skipped, ending, over, slice_unit, later_unit, known_unit, text_end, onward}
 use Rattle.m2v_model.specs.Pictures.{Pictures, closed, closed_by, frame_after}
 use Rattle.m2v_model.specs.Decoding.{low_delay_of}
-use Rattle.m2v_model.specs.ByPieces.{behind}
-use Rattle.m2v_model.proofs.FlowLaws.{unit_of, seen, seen_err, seen_more, seen_last, unit_less}
+use Rattle.m2v_model.specs.ByPieces.{behind, unit_of, seen}
+use Rattle.m2v_model.proofs.FlowLaws.{seen_err, seen_more, seen_last, unit_less}
 use Rattle.m2v_model.proofs.SplitLaws.{behind_none, behind_twice}
 use Rattle.m2v_part.specs.Among.{is_slice}
 use Rattle.m2v_decoder.specs.declared.course.Course.{Course}

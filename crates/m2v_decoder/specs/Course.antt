@@ -20,7 +20,7 @@ use Rattle.m2v_model.specs.Decoding.{low_delay_of}
 use Rattle.m2v_decoder.specs.declared.course.Course.{Course}
 use Rattle.m2v_decoder.specs.declared.halt.Halt.{Halt}
 use Rattle.m2v_decoder.specs.declared.halt.Halt.TheVariants.{Fault, Memory}
-use Rattle.m2v_model.proofs.FlowLaws.{seen}
+use Rattle.m2v_model.specs.ByPieces.{seen}
 use Rattle.m2v_decoder.specs.Decoding.{Agrees, Shows, decoded_of}
 
 -- ---- what is known of the headers in force

@@ -1,7 +1,7 @@
 ghost use Rattle.std.specs.Prelude.{◌≡◌, ◌+◌, ◌^◌, ◌<◌, IfErr, OnOk, Ok, [], length, true, false};
 ghost use Rattle.m2v_part.specs.Among.{is_slice as slice_stands};
 ghost use Rattle.m2v_model.specs.Streams.{value_of, known_unit, text_end};
-ghost use Rattle.m2v_model.proofs.FlowLaws.{unit_of};
+ghost use Rattle.m2v_model.specs.ByPieces.{unit_of};
 ghost use Rattle.m2v_decoder.specs.Course.{IsSound, Rounds, ReadAll, Stops};
 
 use crate::course::Course;

@@ -10,15 +10,6 @@ use m2v_model::{FaultKind, Open, Sequence, State};
 use m2v_picture::Stop;
 use m2v_unit::{Unit, UnitReader};
 
-/// The macroblock rows of a frame of a progressive sequence (clause 6.3.3).
-fn rows_of(s: &Sequence) -> u32
-    requires { rows_in s.now ≤ 72 }
-    ensures { result ≡ rows_in s.now }
-{
-    let height = u64::from(s.extension.vertical_ext) * 4096 + u64::from(s.info.vertical_size);
-    ((height + 15) / 16) as u32
-}
-
 /// The sequence and the picture in which a slice of a row may stand: its row is neither past the last one nor above
 /// that of the slice before it.
 #[tactic(auto, unfolding(m2v_model::specs::Streams::slice_unit, m2v_model::specs::Streams::slice_in, m2v_model::specs::Looking::refuse, m2v_bits::specs::Syntax::seq, m2v_bits::specs::Syntax::bind, m2v_bits::specs::Syntax::rule))]
@@ -37,7 +28,7 @@ fn place(st: &State, row: u32, start: u64) -> Result<(Sequence, Open), Stop>
     let Some(p) = st.picture else {
         return Err(order);
     };
-    if row < rows_of(&s) && p.row <= row {
+    if u64::from(row) < s.rows() && p.row <= row {
         return Ok((s, p));
     }
     Err(order)

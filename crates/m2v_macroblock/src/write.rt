@@ -6,7 +6,7 @@ ghost use Rattle.m2v_block.specs.Texts.{IsBlock, block_text};
 ghost use Rattle.m2v_macro.specs.Conditions.{IsContext, IsReady, IsAddress, IsMacro};
 ghost use Rattle.m2v_macro.specs.States.{after};
 ghost use Rattle.m2v_macroblock.specs.Macroblocks.{macroblock_of, after_macroblock};
-ghost use Rattle.m2v_macroblock.specs.Texts.{block_in_text, blocks_text, macroblock_text};
+ghost use Rattle.m2v_macroblock.specs.Texts.{block_in_text, blocks_text, text_written};
 ghost use Rattle.m2v_macroblock.specs.Conditions.{IsPicture, AreDc, AreBlocks, AreWritable};
 
 use crate::blocks::{dc_after, is_coded, kind_for, predictor};
@@ -148,9 +148,9 @@ pub fn write_macroblock(
     requires dc { AreDc context.now.extension.dc_precision state.old.dc }
     requires fits { IsMacro context.now state.old x.now }
     requires blocks { AreBlocks context.now state.old (macroblock_of x.now levels.now) }
-    requires room { length (macroblock_text context.now state.old (macroblock_of x.now levels.now)) ≤ out.old.room }
-    ensures written { out.new.written ≡ out.old.written ++ macroblock_text context.now state.old (macroblock_of x.now levels.now) }
-    ensures room { out.new.room + length (macroblock_text context.now state.old (macroblock_of x.now levels.now)) ≡ out.old.room }
+    requires room { length (text_written context.now state.old x.now levels.now) ≤ out.old.room }
+    ensures written { out.new.written ≡ out.old.written ++ text_written context.now state.old x.now levels.now }
+    ensures room { out.new.room + length (text_written context.now state.old x.now levels.now) ≡ out.old.room }
     ensures state { state.new ≡ after_macroblock context.now state.old (macroblock_of x.now levels.now) }
     ensures ready { IsReady context.now state.new }
     ensures dc { AreDc context.now.extension.dc_precision state.new.dc }
@@ -174,7 +174,7 @@ pub fn macroblock_bits(
     requires dc { AreDc context.now.extension.dc_precision state.now.dc }
     requires fits { IsMacro context.now state.now x.now }
     requires blocks { AreBlocks context.now state.now (macroblock_of x.now levels.now) }
-    ensures value { result ≡ length (macroblock_text context.now state.now (macroblock_of x.now levels.now)) }
+    ensures value { result ≡ length (text_written context.now state.now x.now levels.now) }
     ensures most { result ≤ 2 ^ 22 }
 {
     let behind = state.after(context, x);

@@ -6,10 +6,10 @@ use Rattle.m2v_plane.specs.Samples.{Samples}
 use Rattle.m2v_model.specs.declared.fault.FaultKind.{FaultKind}
 use Rattle.m2v_model.specs.declared.fault.FaultKind.TheVariants.{Truncated}
 use Rattle.m2v_model.specs.declared.state.State.{State}
-use Rattle.m2v_model.specs.Units.{Units, unit_bits, unit_at}
-use Rattle.m2v_model.specs.Streams.{Part, Sofar, Among, after, value_of, known_unit, text_end, next_unit, unit_round}
+use Rattle.m2v_model.specs.Units.{Units, unit_at}
+use Rattle.m2v_model.specs.Streams.{Part, Sofar, Among, after, next_unit, unit_round}
 use Rattle.m2v_model.specs.Pictures.{closed, closed_by, frame_after, pictures_from}
-use Rattle.m2v_model.specs.ByPieces.{Course, behind, stream_from}
+use Rattle.m2v_model.specs.ByPieces.{Course, behind, stream_from, unit_of, viewed, seen}
 use Rattle.m2v_model.proofs.StreamLaws.{round_lawful, round_onward}
 
 -- ---- what a loop over units goes by
@@ -38,11 +38,6 @@ unfolding stream_from
 stream_from_lawful st = repeated_lawful length Truncated unit_round round_lawful round_onward _
 
 -- ---- one unit
-
--- what one round reads, from a state on
-unfoldable pub unit_of : State → Units → Result ((Bool × Part) × Units) (FaultKind × ℕ)
-unit_of st [] = (text_end st 0).read []
-unit_of st (u ∷ us) = (known_unit st (unit_bits (u ∷ us)) (value_of u) u).read us
 
 abbrev pub joining : Sofar → Bool × Part → Units → Result ((Bool × Sofar) × Units) (FaultKind × ℕ)
 joining s x mid = good ((x.0, record { state = after s.state x.1; parts = s.parts ++ x.1 ∷ [] }), mid)
@@ -89,15 +84,6 @@ unfolding repeated stream_from
 units_parts st ps t = parts_n (suc (length t)) st ps t
 
 -- ---- pictures
-
--- what reading gives where a picture may be open: the pictures and the state, or the fault and what is left at it
-abbrev pub viewed : State → Option Samples → Result (Sofar × Units) (FaultKind × ℕ) → Course
-viewed st now (Ok x) = Ok (pictures_from st now (x.0).parts, (x.0).state)
-viewed st now (Err f) = Err f
-
--- units from a state on
-unfoldable pub seen : State → Option Samples → Units → Course
-seen st now us = viewed st now ((stream_from st).read us)
 
 -- a part, and what is seen behind it
 abbrev pub part_seen : State → Option Samples → Bool × Part → Units → Course

@@ -3,6 +3,7 @@ pub mod CutLaws
 pub mod LookLaws
 pub mod HeaderLaws
 pub mod SliceLaws
+pub mod MacroblockSpellings
 pub mod StreamLaws
 pub mod FlowLaws
 pub mod ShiftLaws

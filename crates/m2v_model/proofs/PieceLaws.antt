@@ -18,11 +18,11 @@ use Rattle.m2v_model.specs.Pieces.{phase_after, begins_piece, is_end, piece_of, 
 use Rattle.m2v_model.specs.Pieces.{skipped as before_pieces}
 use Rattle.m2v_model.specs.Decoding.{FaultAt}
 use Rattle.m2v_model.specs.Decoding.{pictures as pictures_of}
-use Rattle.m2v_model.specs.ByPieces.{Course, stream_from, told, piece_read, behind, onward, pieces_read, end_of, text_read, IsRead, ByPieces}
+use Rattle.m2v_model.specs.ByPieces.{Course, stream_from, told, piece_read, behind, onward, pieces_read, end_of, text_read, IsRead, ByPieces, viewed, seen, unit_of}
 use Rattle.m2v_model.proofs.CutLaws.{cut_cuts, joined_bits, joined-append, are_before, are_behind, are_code, cut_units}
 use Rattle.m2v_model.proofs.StreamLaws.{stream_lawful}
 use Rattle.m2v_model.proofs.Unique.{bad_is}
-use Rattle.m2v_model.proofs.FlowLaws.{viewed, seen, unit_of, seen_once}
+use Rattle.m2v_model.proofs.FlowLaws.{seen_once}
 use Rattle.m2v_model.proofs.ShiftLaws.{BeginsPiece, NoEnds}
 use Rattle.m2v_model.proofs.SplitLaws.{behind_none, behind_twice, IsKnown, KnownBy, KnownAt, IsKnownBehind, known_at, split, splits, closing, over_seen, end_seen}
 

@@ -14,7 +14,7 @@ use Rattle.m2v_model.specs.Looking.{refuse}
 use Rattle.m2v_model.specs.Faults.{Of}
 use Rattle.m2v_model.specs.Streams.{Part, Among, value_of, close, id_at, extension_in, extension_behind, sequence_unit, group_unit, picture_unit, matrix_unit, extension_unit, slice_in, slice_unit, end_unit, onward, final, later_unit, known_unit}
 use Rattle.m2v_model.specs.Pieces.{begins_piece, is_end}
-use Rattle.m2v_model.proofs.FlowLaws.{unit_of}
+use Rattle.m2v_model.specs.ByPieces.{unit_of}
 
 -- nothing, or units of which the first begins a piece
 abbrev pub BeginsPiece : Units → Type 0

@@ -16,9 +16,9 @@ use Rattle.m2v_model.specs.Looking.{refuse}
 use Rattle.m2v_model.specs.Streams.{Part, Among, sequence, group, picture, matrices, slice, skipped, ending, over, after, value_of, close, sequence_unit, group_unit, picture_unit, end_unit, onward, final, later_unit, known_unit, text_end}
 use Rattle.m2v_model.specs.Pictures.{Pictures, closed, closed_by, frame_after}
 use Rattle.m2v_model.specs.Pieces.{begins_piece, is_end}
-use Rattle.m2v_model.specs.ByPieces.{Course, behind}
+use Rattle.m2v_model.specs.ByPieces.{Course, behind, unit_of, seen}
 use Rattle.m2v_model.proofs.StreamLaws.{known_lawful, text_end_lawful, sequence_unit_lawful, group_unit_lawful, picture_unit_lawful, end_unit_lawful, onward_lawful, final_lawful}
-use Rattle.m2v_model.proofs.FlowLaws.{unit_of, seen, part_seen, seen_once}
+use Rattle.m2v_model.proofs.FlowLaws.{part_seen, seen_once}
 use Rattle.m2v_model.proofs.ShiftLaws.{BeginsPiece, NoEnds, Kept, shifted, unit_shifted, unit_kept}
 
 -- ---- pictures in front

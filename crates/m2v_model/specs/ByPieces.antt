@@ -1,12 +1,13 @@
 -- Reading piece by piece: each piece is read as a text of its own, from the state that the pieces before it left.
-use Rattle.std.specs.Prelude.{◌≡◌, ℕ, ◌+◌, ◌-◌, ◌*◌, List, [], ◌∷◌, ◌++◌, length, None, Result, Ok, Err}
+use Rattle.std.specs.Prelude.{◌≡◌, ℕ, ◌+◌, ◌-◌, ◌*◌, Bool, List, [], ◌∷◌, ◌++◌, length, Option, None, Result, Ok, Err}
 use Rattle.m2v_bits.specs.Syntax.{repeated}
+use Rattle.m2v_plane.specs.Samples.{Samples}
 use Rattle.m2v_model.specs.declared.fault.FaultKind.{FaultKind}
 use Rattle.m2v_model.specs.declared.fault.FaultKind.TheVariants.{Truncated}
 use Rattle.m2v_model.specs.declared.state.State.{State}
-use Rattle.m2v_model.specs.Units.{Units, cut}
+use Rattle.m2v_model.specs.Units.{Units, cut, unit_bits}
 use Rattle.m2v_model.specs.States.{at_first}
-use Rattle.m2v_model.specs.Streams.{Sofar, Among, unit_round}
+use Rattle.m2v_model.specs.Streams.{Part, Sofar, Among, value_of, known_unit, text_end, unit_round}
 use Rattle.m2v_model.specs.Pictures.{Pictures, pictures_from}
 use Rattle.m2v_model.specs.Pieces.{pieces}
 use Rattle.m2v_model.specs.Pieces.{skipped as before_pieces}
@@ -16,9 +17,23 @@ use Rattle.m2v_model.specs.Decoding.{Stream, FaultAt, pictures as pictures_of}
 unfoldable pub stream_from : State → Among Sofar
 stream_from st = repeated length Truncated unit_round (record { state = st; parts = [] })
 
+-- one unit from a state on: its part, and whether another unit follows; without units, the text's end
+unfoldable pub unit_of : State → Units → Result ((Bool × Part) × Units) (FaultKind × ℕ)
+unit_of st [] = (text_end st 0).read []
+unit_of st (u ∷ us) = (known_unit st (unit_bits (u ∷ us)) (value_of u) u).read us
+
 -- the pictures in decoding order and the state behind them, or the first fault and its place in bits from the first byte
 abbrev pub Course : Type 0
 Course = Result (Pictures × State) (FaultKind × ℕ)
+
+-- what reading gives where a picture may be open: the pictures and the state, or the fault and what is left at it
+abbrev pub viewed : State → Option Samples → Result (Sofar × Units) (FaultKind × ℕ) → Course
+viewed st now (Ok x) = Ok (pictures_from st now (x.0).parts, (x.0).state)
+viewed st now (Err f) = Err f
+
+-- units from a state on, and the frame at hand
+unfoldable pub seen : State → Option Samples → Units → Course
+seen st now us = viewed st now ((stream_from st).read us)
 
 -- what reading from a state gives, where the text that was read ends at a byte
 unfoldable pub told : State → ℕ → Result (Sofar × Units) (FaultKind × ℕ) → Course

@@ -5,6 +5,7 @@ pub mod Unread
 pub mod Headers
 pub mod States
 pub mod Slices
+pub mod Written
 pub mod Streams
 pub mod Pictures
 pub mod Pieces

@@ -1,10 +1,8 @@
 -- Slices (clause 6.2.4): a header, and macroblocks until the rest of the unit is zero; macroblocks with their blocks
 -- (clauses 6.2.5 and 6.2.6).
-use Rattle.std.specs.Prelude.{ℕ, zero, suc, ◌+◌, ◌-◌, ◌*◌, Bool, true, false, not, nat_eq, nat_lt, cond, List, [], ◌∷◌, ◌++◌, length, slice_index_or, replicate, if◌then◌else◌, ℤ, pos, ◌+ℤ◌, nat_abs}
+use Rattle.std.specs.Prelude.{ℕ, zero, suc, ◌+◌, ◌*◌, Bool, false, not, nat_lt, List, [], ◌∷◌, ◌++◌, length, replicate, ℤ, pos, ◌+ℤ◌, nat_abs}
 use Rattle.m2v_bits.specs.Syntax.{done, here, rule, choose, renamed, repeated, ◌>>=◌}
 use Rattle.m2v_bits.specs.Leaves.{zero_at}
-use Rattle.m2v_quant.specs.declared.kind.BlockKind.{BlockKind}
-use Rattle.m2v_quant.specs.Scans.{scale_at}
 use Rattle.m2v_head.specs.declared.slice.SliceInfo.{SliceInfo}
 use Rattle.m2v_head.specs.Headers as head
 use Rattle.m2v_block.specs.Blocks.{block_at}
@@ -21,30 +19,10 @@ use Rattle.m2v_model.specs.Faults.{Of, of_head, of_block, of_macro}
 use Rattle.m2v_model.specs.Looking.{looking}
 use Rattle.m2v_model.specs.States.{columns_of}
 use Rattle.m2v_recon.specs.Macro.{is_coded}
+pub use Rattle.m2v_macroblock.specs.Macroblocks.{Macroblock, dc_of}
+unfoldable pub use Rattle.m2v_macroblock.specs.Macroblocks.{kind_for, predictor, dc_after, after_macroblock}
 
 -- ---- blocks
-
--- what a block of a macroblock is coded with
-unfoldable pub kind_for : PictureContext → Bool → Bool → ℕ → BlockKind
-kind_for c intra luma quantiser = record {
-  intra = intra;
-  luma = luma;
-  precision = c.extension.dc_precision;
-  scale = scale_at c.extension.q_scale_type quantiser;
-  matrix = cond intra c.intra c.non_intra;
-  alternate = c.extension.alternate_scan;
-}
-
--- the DC level of a block
-abbrev pub dc_of : List (List ℤ) → ℕ → ℤ
-dc_of levels block = slice_index_or (slice_index_or levels block []) 0 (pos 0)
-
--- the DC predictor of a block: that of its component as the macroblock begins, or the level of the luma block before
--- (clause 7.2.1)
-unfoldable pub predictor : List ℤ → List (List ℤ) → ℕ → ℤ
-predictor dc levels block =
-    if nat_lt block 4 then (if nat_eq block 0 then slice_index_or dc 0 (pos 0) else dc_of levels (block - 1))
-    else slice_index_or dc (block - 3) (pos 0)
 
 -- a block of a macroblock: its levels in scan order, all 0 where it isn't coded
 unfoldable pub block_in : PictureContext → MacroSyntax → SliceState → ℕ → List (List ℤ) → Of (List ℤ)
@@ -62,26 +40,12 @@ blocks_from c m st block (suc n) levels = do
 
 -- ---- macroblocks
 
--- a macroblock: its elements up to the pattern, and the levels of its six blocks
-pub record Macroblock : Type 0 where
-  pub syntax : MacroSyntax
-  pub levels : List (List ℤ)
-
 -- a macroblock, whose elements up to the pattern leave the state in which its blocks are read
 unfoldable pub macroblock_at : PictureContext → SliceState → Of Macroblock
 macroblock_at c st = do
   m ← renamed of_macro (macro_at c st)
   levels ← blocks_from c m (after c st m) 0 6 []
   done (record { syntax = m; levels = levels })
-
--- the DC predictors behind a macroblock's blocks
-unfoldable pub dc_after : Bool → List (List ℤ) → List ℤ → List ℤ
-dc_after true levels dc = dc_of levels 3 ∷ dc_of levels 4 ∷ dc_of levels 5 ∷ []
-dc_after false levels dc = dc
-
--- the state behind a macroblock
-unfoldable pub after_macroblock : PictureContext → SliceState → Macroblock → SliceState
-after_macroblock c st x = record (after c st x.syntax) { dc = dc_after x.syntax.kind.intra x.levels (after c st x.syntax).dc }
 
 -- the state, and the macroblocks so far
 pub record Row : Type 0 where

@@ -3,6 +3,10 @@ ghost use Rattle.m2v_model.specs.Pictures.{Pictures};
 ghost use Rattle.m2v_model.specs.Decoding.{ExactlyOne, IsFront};
 ghost use Rattle.m2v_model.specs.ByPieces.{ByPieces};
 ghost use Rattle.m2v_model.specs.Worked.{WorkedRows};
+ghost use Rattle.m2v_model.specs.Written.{IsSpelled};
+ghost use Rattle.m2v_macro.specs.declared.values.SliceState.{SliceState};
+ghost use Rattle.m2v_macro.specs.declared.values.PictureContext.{PictureContext};
+ghost use Rattle.m2v_macroblock.specs.Macroblocks.{Macroblock};
 
 /// Of each text exactly one holds: it decodes to frames, or it has a first fault; and each has one value.
 pub fn law_unique()
@@ -18,6 +22,11 @@ pub fn law_prefix()
 /// stands as what was read, or has the fault that was found, at its place.
 pub fn law_by_pieces()
     ensures { (text : List ℕ) → ByPieces text }
+{}
+
+/// What is written of a macroblock that can stand somewhere, is read there as that macroblock, whatever follows.
+pub fn law_macroblock_spelled()
+    ensures { (c : PictureContext) (st : SliceState) (x : Macroblock) → IsSpelled c st x }
 {}
 
 /// Streams that are given byte by byte decode to the frames, or have the first fault, that outside vectors say.

@@ -8,9 +8,10 @@
 mod fault;
 mod laws;
 mod phase;
+mod size;
 mod state;
 
 pub use fault::FaultKind;
-pub use laws::{law_by_pieces, law_prefix, law_unique, law_worked_rows};
+pub use laws::{law_by_pieces, law_macroblock_spelled, law_prefix, law_unique, law_worked_rows};
 pub use phase::Phase;
 pub use state::{Open, Sequence, State};

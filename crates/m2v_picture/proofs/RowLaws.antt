@@ -1,27 +1,25 @@
 -- Macroblocks of a row, one after another: their samples and their addresses.
-use Rattle.std.proofs.Common.{◌≡◌, ℕ, suc, ◌+◌, ◌-◌, ◌*◌, ◌/◌, ◌%◌, ◌<◌, ◌≤◌, Bool, true, false, List, [], ◌∷◌, ◌++◌, refl, sym, ap, ◌∙◌, subst, arith, append_assoc, inl, inr, ◌^◌, ℤ, pos, ◌+ℤ◌, pow-suc, mul-le-mul, add-mul}
-use Rattle.std.specs.Prelude.{nat_abs, unsigned_abs, not, ◌&&◌, ◌||◌, nat_lt, int_le}
+use Rattle.std.proofs.Common.{◌≡◌, ℕ, ◌+◌, ◌-◌, ◌*◌, ◌/◌, ◌%◌, ◌<◌, ◌≤◌, Bool, true, false, List, [], ◌∷◌, ◌++◌, refl, sym, ap, ◌∙◌, subst, arith, append_assoc, inl, inr, ◌^◌, ℤ, pos, ◌+ℤ◌, mul-le-mul, add-mul}
+use Rattle.std.specs.Prelude.{nat_abs, unsigned_abs, not, ◌||◌, nat_lt, int_le}
 use Rattle.std.proofs.lemmas.Int.{ints}
 use Rattle.std.proofs.lemmas.List.{append-nil}
-use Rattle.std.proofs.lemmas.Nat.{mod-mul-add, div-mul-add, pow_pos}
+use Rattle.std.proofs.lemmas.Nat.{mod-mul-add, div-mul-add}
 use Rattle.std.proofs.lemmas.Bool.{cases_Bool, and_parts, ltb-true}
 use Rattle.m2v_plane.specs.Samples.{Samples}
 use Rattle.m2v_macro.specs.declared.values.SliceState.{SliceState}
 use Rattle.m2v_macro.specs.declared.values.PictureContext.{PictureContext}
 use Rattle.m2v_macro.specs.declared.values.MacroSyntax.{MacroSyntax}
-use Rattle.m2v_macro.specs.States.{address, column, in_order, skips, dc_reset, dc_behind, after, at_start}
+use Rattle.m2v_macro.specs.States.{address, column, in_order, after, at_start}
 use Rattle.m2v_macro.specs.Conditions.{IsStep, IsReady, is_used}
-use Rattle.m2v_quant.specs.declared.kind.Levels.{Levels}
-use Rattle.m2v_block.specs.Blocks.{IsDc}
-use Rattle.m2v_recon.specs.Steps.{levels_of}
 use Rattle.m2v_model.specs.declared.state.Sequence.{Sequence}
 use Rattle.m2v_model.specs.declared.state.Open.{Open}
 use Rattle.m2v_model.specs.declared.state.State.{State}
 use Rattle.m2v_model.specs.States.{columns_of}
-use Rattle.m2v_model.specs.Slices.{Macroblock, after_macroblock, dc_after, context, slice_start, begins_late}
+use Rattle.m2v_model.specs.Slices.{Macroblock, after_macroblock, context, slice_start, begins_late}
 use Rattle.m2v_model.specs.Pictures.{address_of}
+use Rattle.m2v_macroblock.proofs.DcLaws.{dc_start, dc_behind-is}
 use Rattle.m2v_picture.specs.Rows.{row_painted, all_row_painted, AllInRow}
-use Rattle.m2v_picture.specs.Conditions.{IsInside, InRow, IsState, IsPicture, IsIntra, AreDc, last_dc}
+use Rattle.m2v_picture.specs.Conditions.{IsInside, InRow, IsState, IsPicture, IsIntra, AreDc}
 
 -- the macroblocks so far: whatever follows them is painted on what they left, and lies in the row if they do
 pub record Left (c : PictureContext) (row : ℕ) (start : SliceState) (before : Samples) (xs : List Macroblock) (st : SliceState) (now : Samples) : Type 0 where
@@ -82,24 +80,6 @@ inside_size c row address i =
 
 -- ---- states
 
-dc_one : (precision : ℕ) → IsDc precision (pos (2 ^ (7 + precision)))
-dc_one precision =
-    let e : 8 + precision ≡ suc (7 + precision) = omega arith in
-    let some = pow_pos (7 + precision) in
-    let twice = pow-suc 2 (7 + precision) in
-    (omega (arith, ints), rw e (omega (arith, ints, some, twice)))
-
-dc_reset-is : (c : PictureContext) → AreDc c.extension.dc_precision (dc_reset c)
-unfolding dc_reset
-dc_reset-is c = let d = dc_one c.extension.dc_precision in record { luma = d; blue = d; red = d }
-
-dc_behind-is : (c : PictureContext) (st : SliceState) (m : MacroSyntax) → AreDc c.extension.dc_precision st.dc → AreDc c.extension.dc_precision (dc_behind c st m)
-unfolding dc_behind
-dc_behind-is c st m d = elim (cases_Bool (m.kind.intra && not (skips st m.increment))) [
-  | inl e ↦ rw e d
-  | inr e ↦ rw e (dc_reset-is c)
-]
-
 pub place_after : (c : PictureContext) (row : ℕ) (st : SliceState) (m : MacroSyntax) → InRow c row st → IsStep c st m.increment → IsInside c row (after c st m).address
 unfolding after
 place_after c row st m h step = inside_after c row st m.increment h step.some step.order
@@ -112,12 +92,6 @@ state_after c row st m h step ready = record {
   place = record { first = λ e. absurd (false-true e); later = λ e. inside_after c row st m.increment h.place step.some step.order; end = h.place.end };
   next = h.next;
 }
-
--- the DC predictors that a macroblock's blocks leave
-pub dc_left : (c : PictureContext) (intra : Bool) (ls : List Levels) (dc : List ℤ) → AreDc c.extension.dc_precision dc → (intra ≡ true → AreDc c.extension.dc_precision (last_dc ls)) → AreDc c.extension.dc_precision (dc_after intra (levels_of ls) dc)
-unfolding dc_after
-dc_left c true ls dc d h = h refl
-dc_left c false ls dc d h = d
 
 pub with_dc : (c : PictureContext) (row : ℕ) (st : SliceState) (dc : List ℤ) → IsState c row st → AreDc c.extension.dc_precision dc → IsState c row (record st { dc = dc })
 with_dc c row st dc h d = record {
@@ -156,7 +130,7 @@ pub starts_in : (st : State) (s : Sequence) (p : Open) (row quantiser : ℕ) →
 unfolding slice_start at_start context
 starts_in st s p row quantiser h ready = record {
   ready = ready;
-  dc = dc_reset-is (context st s p);
+  dc = dc_start (context st s p) row quantiser p.covered;
   place = record { first = λ e. refl; later = λ e. absurd (false-true (sym e)); end = row_ends st s p row h };
   next = h.covered;
 }

@@ -3,7 +3,7 @@ ghost use Rattle.m2v_bits.specs.Syntax.{choose, done, renamed};
 ghost use Rattle.m2v_quant.specs.Kinds.{IsKind, IsLevel};
 ghost use Rattle.m2v_block.specs.Blocks.{block_at, IsDc};
 ghost use Rattle.m2v_model.specs.Faults as faults;
-ghost use Rattle.m2v_model.specs.Slices.{kind_for as kind_for_of, blocks_from};
+ghost use Rattle.m2v_model.specs.Slices.{blocks_from};
 ghost use Rattle.m2v_picture.specs.Conditions.{IsPicture, AreDc, last_dc};
 ghost use Rattle.m2v_picture.specs.Reads.{TellsLevels, TellsBlocks};
 
@@ -11,28 +11,9 @@ use crate::stop::{Stop, of_block, stopped};
 use m2v_bits::BitReader;
 use m2v_block::read_block;
 use m2v_macro::{MacroSyntax, PictureContext, SliceState};
-use m2v_quant::{BlockKind, Levels, scale_of};
+use m2v_macroblock::kind_for;
+use m2v_quant::{BlockKind, Levels};
 use m2v_recon::is_coded;
-
-/// What blocks are coded with.
-#[tactic(auto, unfolding(m2v_model::specs::Slices::kind_for))]
-pub fn kind_for(c: &PictureContext, intra: bool, luma: bool, quantiser: u8) -> BlockKind
-    requires picture { IsPicture c.now }
-    requires quantiser { (1 ≤ quantiser) × (quantiser ≤ 31) }
-    ensures value { result ≡ kind_for_of c.now intra luma quantiser }
-    ensures kind { IsKind result }
-    ensures intra { result.intra ≡ intra }
-    ensures precision { result.precision ≡ c.now.extension.dc_precision }
-{
-    BlockKind {
-        intra,
-        luma,
-        precision: c.extension.dc_precision,
-        scale: scale_of(c.extension.q_scale_type, quantiser),
-        matrix: if intra { c.intra } else { c.non_intra },
-        alternate: c.extension.alternate_scan,
-    }
-}
 
 /// All levels 0.
 #[inline(always)]
@@ -148,7 +129,7 @@ fn next_block(
 /// The levels of a macroblock's six blocks (clause 6.2.6). The DC predictor of the first luma block and of each chroma
 /// block is that of its component, that of another luma block the level of the block before it (clause 7.2.1). `state`
 /// is that behind the macroblock's elements.
-#[tactic(auto, unfolding(m2v_model::specs::Slices::blocks_from, m2v_model::specs::Slices::block_in, m2v_model::specs::Slices::predictor, m2v_bits::specs::Syntax::seq, m2v_bits::specs::Syntax::bind, m2v_bits::specs::Syntax::done))]
+#[tactic(auto, unfolding(m2v_model::specs::Slices::blocks_from, m2v_model::specs::Slices::block_in, m2v_macroblock::specs::Macroblocks::predictor, m2v_bits::specs::Syntax::seq, m2v_bits::specs::Syntax::bind, m2v_bits::specs::Syntax::done))]
 pub fn blocks(
     input: &mut BitReader,
     c: &PictureContext,

@@ -4,8 +4,7 @@ ghost use Rattle.m2v_quant.specs.Kinds.{IsLevel};
 ghost use Rattle.m2v_macro.specs.Macros.{macro_at};
 ghost use Rattle.m2v_macro.specs.States.{after};
 ghost use Rattle.m2v_model.specs.Faults as faults;
-ghost use Rattle.m2v_model.specs.Slices.{macroblock_at, dc_after as dc_after_of};
-ghost use Rattle.m2v_recon.specs.Steps.{levels_of};
+ghost use Rattle.m2v_model.specs.Slices.{macroblock_at};
 ghost use Rattle.m2v_picture.specs.Conditions.{IsPicture, IsState, AreDc, IsInside, last_dc};
 ghost use Rattle.m2v_picture.specs.Reads.{Tells, TellsMacroblock, Round, Macroblocks};
 
@@ -14,6 +13,7 @@ use crate::paint::paint;
 use crate::stop::{Stop, of_macro, stopped};
 use m2v_bits::BitReader;
 use m2v_macro::{MacroSyntax, PictureContext, SliceState, read_macro};
+use m2v_macroblock::dc_after;
 use m2v_plane::RowSamples;
 use m2v_quant::Levels;
 
@@ -65,20 +65,8 @@ fn macroblock(
     Ok(m)
 }
 
-/// The DC predictors behind a macroblock's blocks (clause 7.2.1).
-#[tactic(auto, unfolding(m2v_model::specs::Slices::dc_after))]
-fn dc_after(intra: bool, levels: &[Levels; 6], dc: [i32; 3]) -> [i32; 3]
-    ensures { result ≡ dc_after_of intra (levels_of levels.now) dc }
-{
-    if intra {
-        [levels[3].at[0], levels[4].at[0], levels[5].at[0]]
-    } else {
-        dc
-    }
-}
-
 /// One macroblock, written into the row: whether another follows, and the state behind it.
-#[tactic(auto, unfolding(crate::specs::Rows::row_painted, m2v_model::specs::Slices::after_macroblock))]
+#[tactic(auto, unfolding(crate::specs::Rows::row_painted, m2v_macroblock::specs::Macroblocks::after_macroblock))]
 fn round(
     input: &mut BitReader,
     c: &PictureContext,

@@ -5,8 +5,8 @@ ghost use Rattle.m2v_recon.specs.Macro.{macro_sample, with_macroblock};
 ghost use Rattle.m2v_recon.specs.Steps.{levels_of};
 ghost use Rattle.m2v_picture.specs.Conditions.{IsPicture, IsInside};
 
-use crate::blocks::kind_for;
 use m2v_macro::{MacroSyntax, PictureContext, SliceState};
+use m2v_macroblock::kind_for;
 use m2v_plane::RowSamples;
 use m2v_pred::Block16;
 use m2v_quant::Levels;

@@ -49,8 +49,10 @@ fn append(bytes: &mut Vec<u8>, zeros: u64, b: u8) -> Result<(), Memory>
     requires { length bytes.old.items + zeros ≤ 2 ^ 36 }
     ensures { OnOk result (bytes.new.items ≡ (bytes.old.items ++ replicate zeros 0) ++ b ∷ []) }
 {
-    let n = bytes.len() + zeros as usize;
-    bytes.resize(n, 0)?;
+    if zeros > 0 {
+        let n = bytes.len() + zeros as usize;
+        bytes.resize(n, 0)?;
+    }
     bytes.push(b)?;
     Ok(())
 }
@@ -187,6 +189,10 @@ impl Hand {
         ensures err { IfErr result (LimitErr (limit_of self.old (prefix self.old.ahead ++ b ∷ []))) }
     {
         let ahead = self.ahead as usize;
+        if ahead == 0 {
+            // most bytes stand behind no zero byte
+            return self.put(b);
+        }
         let mut bytes = [0; 3];
         bytes[ahead] = b;
         self.put_all(&bytes[..ahead + 1])?;

@@ -1,6 +1,6 @@
 use Rattle.std.proofs.Common.{sym, subst, []}
 use Rattle.m2v_model.specs.Units.{Units}
-use Rattle.m2v_model.proofs.FlowLaws.{unit_of}
+use Rattle.m2v_model.specs.ByPieces.{unit_of}
 use Rattle.m2v_decoder.specs.Course.{Rounds}
 use Rattle.m2v_decoder.proofs.ReadLaws.{unit_some, unit_none}
 use Rattle.m2v_decoder.proofs.course.Course.unit.Goals as goal

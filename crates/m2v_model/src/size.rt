@@ -1,0 +1,60 @@
+//! The size of a sequence's frames.
+ghost use Rattle.std.specs.Prelude.{◌≡◌, ◌<◌, ◌^◌};
+ghost use Rattle.m2v_plane.specs.Sizes.{IsSize};
+
+use crate::Sequence;
+use m2v_plane::Dims;
+
+impl Sequence {
+    ghost use Rattle.m2v_model.specs.States.{width_of, height_of, columns_of, rows_of};
+    ghost use Rattle.m2v_model.specs.Pictures.{dims_of};
+
+    /// The width of its frames in samples (clause 6.3.3): twelve bits of the header, and those of the extension above.
+    pub fn width(&self) -> u64
+        ensures value { result ≡ width_of self.now }
+        ensures below { result < 2 ^ 33 }
+    {
+        let high = self.extension.horizontal_ext;
+        let low = self.info.horizontal_size;
+        u64::from(high) * 4096 + u64::from(low)
+    }
+
+    /// The height of its frames in samples (clause 6.3.3).
+    pub fn height(&self) -> u64
+        ensures value { result ≡ height_of self.now }
+        ensures below { result < 2 ^ 33 }
+    {
+        let high = self.extension.vertical_ext;
+        let low = self.info.vertical_size;
+        u64::from(high) * 4096 + u64::from(low)
+    }
+
+    /// How many macroblocks stand in a row of a frame (clause 6.3.3).
+    pub fn columns(&self) -> u64
+        ensures value { result ≡ columns_of self.now }
+        ensures below { result < 2 ^ 30 }
+    {
+        (self.width() + 15) / 16
+    }
+
+    /// How many macroblock rows a frame has (clause 6.3.3).
+    pub fn rows(&self) -> u64
+        ensures value { result ≡ rows_of self.now }
+        ensures below { result < 2 ^ 30 }
+    {
+        (self.height() + 15) / 16
+    }
+
+    /// The size of its frames, in samples and in macroblocks, where it is one that frames can have.
+    pub fn dims(&self) -> Dims
+        requires { IsSize (dims_of self.now) }
+        ensures { result ≡ dims_of self.now }
+    {
+        Dims {
+            width: self.width() as u32,
+            height: self.height() as u32,
+            mb_width: self.columns() as u32,
+            mb_rows: self.rows() as u32,
+        }
+    }
+}
