@@ -1,4 +1,4 @@
-ghost use Rattle.std.specs.Prelude.{◌≤◌, ◌^◌, length};
+ghost use Rattle.std.specs.Prelude.{◌≤◌, ◌^◌};
 ghost use Rattle.m2v_macro.specs.Conditions.{IsContext, IsReady, IsAddress};
 
 use crate::{
@@ -7,7 +7,7 @@ use crate::{
 };
 use m2v_bits::{BitReader, BitWriter};
 use m2v_head::PictureExtension;
-use m2v_vlc::{CodeFault, MbType};
+use m2v_vlc::MbType;
 use std::alloc::{AllocError, Global};
 
 // A picture: its type, its structure, frame_pred_frame_dct, concealment vectors.
@@ -131,23 +131,9 @@ const FIRST: [bool; 4] = [true, false, false, false];
 
 const SECOND: [bool; 4] = [false, false, true, false];
 
-// The macroblocks of a grey picture, of a grey P picture, of one that skips 43 macroblocks, of a field picture, and one
-// with a vector of half a sample.
-static WORKED: [(Picture, bool, [u8; 4], u64, Want); 5] = [
-    (
-        (1, 3, true, false),
-        true,
-        [0xC0, 0, 0, 0],
-        2,
-        ([1, 1, 2, 0, 0, 63], NO, OFF, [0, 0]),
-    ),
-    (
-        (2, 3, true, false),
-        true,
-        [0x9C, 0, 0, 0],
-        6,
-        ([1, 8, 2, 0, 0, 0], NO, OFF, [0, 0]),
-    ),
+// A P macroblock behind 43 skipped ones; each motion type in frames and fields, concealment vectors in both, and both
+// directions.
+static MACROBLOCKS: [(Picture, bool, [u8; 4], u64, Want); 10] = [
     (
         (2, 3, true, false),
         false,
@@ -156,30 +142,8 @@ static WORKED: [(Picture, bool, [u8; 4], u64, Want); 5] = [
         ([44, 8, 2, 0, 0, 0], NO, OFF, [0, 0]),
     ),
     (
-        (1, 1, false, false),
-        true,
-        [0xC0, 0, 0, 0],
-        2,
-        ([1, 1, 0, 0, 0, 63], NO, OFF, [0, 0]),
-    ),
-    (
-        (2, 3, true, false),
-        true,
-        [0x94, 0x80, 0, 0],
-        9,
-        (
-            [1, 8, 2, 0, 0, 0],
-            [[1, 0], [0, 0], [0, 0], [0, 0]],
-            OFF,
-            [0, 0],
-        ),
-    ),
-];
-
-// Each motion type in frames and fields, concealment vectors in both, and both directions.
-static MOTIONS: [(Picture, [u8; 4], u64, Want); 9] = [
-    (
         (2, 3, false, false),
+        true,
         [0x96, 0xAC, 0x94, 0],
         22,
         (
@@ -191,6 +155,7 @@ static MOTIONS: [(Picture, [u8; 4], u64, Want); 9] = [
     ),
     (
         (2, 3, false, false),
+        true,
         [0xE9, 0x0F, 0xC0, 0],
         18,
         (
@@ -202,6 +167,7 @@ static MOTIONS: [(Picture, [u8; 4], u64, Want); 9] = [
     ),
     (
         (2, 3, false, false),
+        true,
         [0x9D, 0x27, 0xC0, 0],
         18,
         (
@@ -213,6 +179,7 @@ static MOTIONS: [(Picture, [u8; 4], u64, Want); 9] = [
     ),
     (
         (2, 1, false, false),
+        true,
         [0x96, 0xC2, 0x80, 0],
         17,
         (
@@ -224,6 +191,7 @@ static MOTIONS: [(Picture, [u8; 4], u64, Want); 9] = [
     ),
     (
         (2, 2, false, false),
+        true,
         [0x99, 0x49, 0xE0, 0],
         19,
         (
@@ -235,6 +203,7 @@ static MOTIONS: [(Picture, [u8; 4], u64, Want); 9] = [
     ),
     (
         (2, 1, false, false),
+        true,
         [0x9E, 0x0C, 0x80, 0],
         18,
         (
@@ -246,6 +215,7 @@ static MOTIONS: [(Picture, [u8; 4], u64, Want); 9] = [
     ),
     (
         (1, 3, true, true),
+        true,
         [0xD5, 0xA0, 0, 0],
         11,
         (
@@ -257,6 +227,7 @@ static MOTIONS: [(Picture, [u8; 4], u64, Want); 9] = [
     ),
     (
         (1, 2, false, true),
+        true,
         [0xEA, 0xD0, 0, 0],
         12,
         (
@@ -268,6 +239,7 @@ static MOTIONS: [(Picture, [u8; 4], u64, Want); 9] = [
     ),
     (
         (3, 3, false, false),
+        true,
         [0x8A, 0x1D, 0x37, 0x30],
         30,
         (
@@ -280,182 +252,67 @@ static MOTIONS: [(Picture, [u8; 4], u64, Want); 9] = [
 ];
 
 #[test]
-fn worked_macroblocks_go_both_ways(rt: HostRuntime) -> Result<(), AllocError> {
-    for (picture, first, bytes, bits, want) in &WORKED {
+fn macroblocks_go_both_ways(rt: HostRuntime) -> Result<(), AllocError> {
+    for (picture, first, bytes, bits, want) in &MACROBLOCKS {
         let held = goes_both_ways(rt.alloc(), *picture, *first, bytes, *bits, want)?;
         assert!(rt; held, "{bytes:?}");
     }
     Ok(())
 }
 
-#[test]
-fn motion_types_go_both_ways(rt: HostRuntime) -> Result<(), AllocError> {
-    for (picture, bytes, bits, want) in &MOTIONS {
-        let held = goes_both_ways(rt.alloc(), *picture, true, bytes, *bits, want)?;
-        assert!(rt; held, "{bytes:?}");
-    }
-    Ok(())
-}
-
-// The fault of a macroblock and how many bits stand before its place, where the state stays as it was.
-fn fault(
+// Whether a macroblock has a fault with so many bits before its place, and the state stays as it was.
+fn is_refused(
     picture: Picture,
-    first: bool,
     intra: bool,
-    next: u16,
-    bytes: &[u8],
-) -> Option<(MacroFault, u64)>
-    requires { length bytes.now ≤ 4 }
-{
+    bytes: &[u8; 3],
+    fault: MacroFault,
+    place: u64,
+) -> bool {
     let context = context(picture);
-    let before = state(&context, first, intra, u32::from(next));
+    let before = state(&context, !intra, intra, 0);
     let mut behind = before;
     let mut input = BitReader::new(bytes);
     match read_macro(&mut input, &context, &mut behind) {
-        Ok(_) => None,
-        Err(e) if behind == before => Some((e, input.place())),
-        Err(_) => None,
+        Ok(_) => false,
+        Err(e) => e == fault && input.place() == place && behind == before,
     }
 }
-
-const I: Picture = (1, 3, true, false);
 
 const P: Picture = (2, 3, false, false);
 
 const B: Picture = (3, 3, false, false);
 
-static FAULTS: [(Picture, bool, bool, u16, [u8; 3], MacroFault, u64); 14] = [
-    (
-        I,
-        true,
-        false,
-        0,
-        [0x80, 0, 0],
-        MacroFault::Code(CodeFault::NoCode),
-        1,
-    ),
-    (
-        I,
-        true,
-        false,
-        0,
-        [0x00, 0, 0],
-        MacroFault::Code(CodeFault::NoCode),
-        0,
-    ),
-    (
-        P,
-        true,
-        false,
-        0,
-        [0x33, 0x80, 0],
-        MacroFault::MissingMacroblocks,
-        0,
-    ),
-    (P, true, false, 1, [0x9C, 0, 0], MacroFault::SliceOrder, 0),
-    (
-        P,
-        false,
-        false,
-        0,
-        [0x01, 0x01, 0x0A],
-        MacroFault::SliceOrder,
-        0,
-    ),
-    (I, false, false, 0, [0x70, 0, 0], MacroFault::SkipRule, 0),
-    (B, false, true, 0, [0x70, 0, 0], MacroFault::SkipRule, 0),
-    (I, true, false, 0, [0xA0, 0, 0], MacroFault::QuantZero, 3),
+const CONCEALED: Picture = (1, 3, true, true);
+
+// What only P and B pictures and concealment vectors break, behind an intra macroblock or at a slice's start.
+static FAULTS: [(Picture, bool, [u8; 3], MacroFault, u64); 6] = [
+    (B, true, [0x70, 0, 0], MacroFault::SkipRule, 0),
     (
         (2, 3, true, false),
-        true,
         false,
-        0,
         [0xA0, 0x10, 0],
         MacroFault::PatternZero,
         3,
     ),
-    (
-        P,
-        true,
-        false,
-        0,
-        [0x90, 0, 0],
-        MacroFault::BadMotionType,
-        4,
-    ),
-    (
-        B,
-        true,
-        false,
-        0,
-        [0x96, 0, 0],
-        MacroFault::BadMotionType,
-        5,
-    ),
-    (
-        P,
-        true,
-        false,
-        0,
-        [0x97, 0x03, 0x20],
-        MacroFault::VectorRange,
-        8,
-    ),
-    (
-        (1, 3, true, true),
-        true,
-        false,
-        0,
-        [0xF0, 0, 0],
-        MacroFault::Marker,
-        4,
-    ),
-    (
-        (1, 3, true, true),
-        true,
-        false,
-        0,
-        [0xC0, 0, 0],
-        MacroFault::Code(CodeFault::NoCode),
-        2,
-    ),
+    (P, false, [0x90, 0, 0], MacroFault::BadMotionType, 4),
+    (B, false, [0x96, 0, 0], MacroFault::BadMotionType, 5),
+    (P, false, [0x97, 0x03, 0x20], MacroFault::VectorRange, 8),
+    (CONCEALED, false, [0xF0, 0, 0], MacroFault::Marker, 4),
 ];
 
 #[test]
 fn faults_stand_at_their_places(rt: HostRuntime) {
-    for (picture, first, intra, next, bytes, want, place) in &FAULTS {
-        let found = fault(*picture, *first, *intra, *next, bytes);
-        assert!(rt; found == Some((*want, *place)), "{found:?}");
-    }
-    assert!(rt;
-        fault(I, true, false, 0, &[0x01]) == Some((MacroFault::Code(CodeFault::Truncated), 0))
-    );
-}
-
-#[test]
-fn both_edges_give_one_vector(rt: HostRuntime) {
-    let context = context((2, 3, true, false));
-    for bytes in [[0x90, 0x31, 0x80], [0x90, 0x33, 0x80]] {
-        let mut behind = state(&context, true, false, 0);
-        let mut input = BitReader::new(&bytes);
-        let read = read_macro(&mut input, &context, &mut behind);
-        assert!(rt; read.is_ok_and(|m| m.vectors[0][0] == [-32, 0]));
-        assert!(rt; behind.pmv.at == [[[-32, 0], [0, 0]], [[-32, 0], [0, 0]]]);
+    for (picture, intra, bytes, fault, place) in &FAULTS {
+        let held = is_refused(*picture, *intra, bytes, *fault, *place);
+        assert!(rt; held, "{bytes:?}");
     }
 }
 
 #[test]
 fn a_slice_that_begins_too_early_is_known(rt: HostRuntime) {
-    let context = context(I);
-    // increments 1, 2 and a code that is cut off, in a row whose first macroblock is covered, or isn't
-    for (byte, early, late) in [
-        (0x80, true, false),
-        (0x60, false, false),
-        (0x00, false, false),
-    ] {
-        let bytes = [byte];
-        let input = BitReader::new(&bytes);
-        assert!(rt; begins_before(&input, &state(&context, true, false, 1)) == early);
-        assert!(rt; begins_before(&input, &state(&context, true, false, 0)) == late);
-    }
+    let context = context((1, 3, true, false));
+    // increment 1, in a row whose first macroblock is covered
+    let bytes = [0x80];
+    let early = begins_before(&BitReader::new(&bytes), &state(&context, true, false, 1));
+    assert!(rt; early);
 }

@@ -17,6 +17,3 @@ pub use header::Header;
 pub use headers::{is_slice, read_end, read_header};
 pub use pictures::{picture, picture_extension};
 pub use sequences::{sequence, sequence_extension};
-
-#[cfg(test)]
-mod tests;

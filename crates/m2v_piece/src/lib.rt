@@ -12,6 +12,3 @@ pub use cutter::Cutter;
 
 /// Want of memory.
 pub type Memory = std::alloc::AllocError;
-
-#[cfg(test)]
-mod tests;

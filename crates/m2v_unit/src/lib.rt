@@ -8,6 +8,3 @@ mod unit;
 
 pub use reader::UnitReader;
 pub use unit::Unit;
-
-#[cfg(test)]
-mod tests;
