@@ -1,7 +1,9 @@
 -- What follows from what is known of an answer: a text with a cause is answered by it, and by nothing else.
 use Rattle.std.proofs.Common.{◌≡◌, inl, inr, ℕ, ◌+◌, ◌<◌, ◌≤◌, Bool, true, false, List, [], ◌∷◌, ◌++◌, length, Option, Some, None, Result, Ok, Err, refl, sym, ap, subst, ◌∙◌, arith}
 use Rattle.std.specs.Prelude.{if◌then◌else◌, not, nat_eq, nat_le, ◌&&◌, IfSome, IfOk, IfErr}
+use Rattle.std.specs.Option.{option_map}
 use Rattle.std.proofs.lemmas.Bool.{cases_lt, le-leb}
+use Rattle.m2v_port.specs.Ends.{Change, Tells}
 use Rattle.m2v_port.specs.Port.{Grows}
 use Rattle.m2v_plane.specs.Raw.{raw}
 use Rattle.m2v_model.specs.Pieces.{limit, Limit, too_long, too_large, most_input, most_bytes, pieces}
@@ -17,7 +19,7 @@ use Rattle.m2v_piece.specs.declared.answer.DecodeError.{DecodeError}
 use Rattle.m2v_piece.specs.declared.answer.DecodeError.TheVariants as errors
 use Rattle.m2v_piece.specs.Cutting.{Passes}
 use Rattle.m2v_decode.specs.declared.answer.Decoded.{Decoded}
-use Rattle.m2v_decode.specs.Answers.{Change, Of, IsDecoded, IsFaulty, IsOver, Fails, AllFit, start_of}
+use Rattle.m2v_decode.specs.Answers.{Of, IsDecoded, IsFaulty, IsOver, Fails, AllFit, start_of}
 use Rattle.m2v_decode.specs.Complete.{IsUnderLimits, IsPast, IsReached, IsAnswered, Gives, counted, error_of}
 use Rattle.m2v_decode.proofs.LimitLaws.{over_fault, over_over}
 
@@ -87,11 +89,25 @@ not_large text held o under = passes_none _ _ _ (fits_behind text (o.begun).firs
 
 -- ---- the input's bytes
 
-pub of_text : (Holds : List ℕ → Type 0) (text : List ℕ) (new : Option (List ℕ)) → Of (record { old = Some text; new = new }) Holds → Holds text
-of_text Holds text None h = absurd (cc ((h.moved).was))
-of_text Holds text (Some rest) h =
-    let e : text ≡ h.bytes ++ rest = cc ((h.moved).was) in
-    subst Holds (sym e) (h.told rest refl)
+-- what holds of all bytes that an endpoint can have told holds of those that it told
+pub tells : (c : Change) (Holds : List ℕ → Type 0) → ((bytes : List ℕ) → c.old ≡ Some bytes → Holds bytes) → Tells c Holds
+tells c Holds each = by_case c.old refl
+  where
+    by_case : (o : Option (List ℕ)) → c.old ≡ o → IfSome o Holds
+    by_case None is = tt
+    by_case (Some bytes) is = each bytes is
+
+pub of_text : (left : Change) (Holds : List ℕ → Type 0) (text : List ℕ) → left.old ≡ Some text → Of left Holds → Holds text
+of_text left Holds text is h = by_case left.new refl
+  where
+    by_case : (o : Option (List ℕ)) → left.new ≡ o → Holds text
+    by_case None e =
+        let none : Some text ≡ None = sym is ∙ (h.moved).was ∙ ap (option_map (λ (t : List ℕ). h.bytes ++ t)) e in
+        absurd cc
+    by_case (Some rest) e =
+        let some : Some text ≡ Some (h.bytes ++ rest) = sym is ∙ (h.moved).was ∙ ap (option_map (λ (t : List ℕ). h.bytes ++ t)) e in
+        let same : text ≡ h.bytes ++ rest = cc some in
+        subst Holds (sym same) (h.told rest e)
 
 -- ---- one decoding, one fault
 
@@ -173,65 +189,62 @@ reached_large text held f r o = reached_over text too_large held f (o.begun).fir
 
 -- ---- no other answer
 
-module _ (InputRose OutputRose : Type 0) (text : List ℕ) (new : Option (List ℕ)) (held : Change) where
+module _ (left held : Change) (text : List ℕ) (is : left.old ≡ Some text) where
   -- what is known of an error
   abbrev Why : DecodeError → Type 0
-  Why e = Fails InputRose OutputRose (record { old = Some text; new = new }) held e
+  Why e = Fails left held e
 
-  over_of : (e : DecodeError) → Of (record { old = Some text; new = new }) (λ bytes. IsOver bytes held e) → IsOver text held e
-  over_of e h = of_text (λ bytes. IsOver bytes held e) text new h
+  over_of : (e : DecodeError) → Of left (λ bytes. IsOver bytes held e) → IsOver text held e
+  over_of e h = of_text left (λ bytes. IsOver bytes held e) text is h
 
   module _ (frames : List (List ℕ)) (d : Decodes text frames) (under : IsUnderLimits text) where
-    err_decodes : (e : DecodeError) → Why e → Gives InputRose OutputRose (Ok (counted d)) (Err e)
+    err_decodes : (e : DecodeError) → Why e → Gives left held (Ok (counted d)) (Err e)
     err_decodes errors.Read h = Gives.read refl h.0
     err_decodes errors.Write h = Gives.write refl h.0
     err_decodes errors.Memory h = Gives.memory refl
     err_decodes errors.TooLong h = absurd (not_long text held (over_of errors.TooLong h) under)
     err_decodes errors.PictureTooLarge h = absurd (not_large text held (over_of errors.PictureTooLarge h) under)
     err_decodes (errors.Stream f) h =
-        let i = of_text (λ bytes. IsFaulty bytes held f) text new h in
+        let i = of_text left (λ bytes. IsFaulty bytes held f) text is h in
         absurd ((exactly_one text).not_both frames f.place f.kind d i.fault)
 
-    by_decodes : (result : Result Decoded DecodeError) → IfOk result (λ n. Of (record { old = Some text; new = new }) (λ bytes. IsDecoded bytes held n)) → IfErr result Why → Gives InputRose OutputRose (Ok (counted d)) result
-    by_decodes (Ok n) ok err = Gives.as_said (ap Ok (shown_counted text frames d held n (of_text (λ bytes. IsDecoded bytes held n) text new ok)))
+    by_decodes : (result : Result Decoded DecodeError) → IfOk result (λ n. Of left (λ bytes. IsDecoded bytes held n)) → IfErr result Why → Gives left held (Ok (counted d)) result
+    by_decodes (Ok n) ok err = Gives.as_said (ap Ok (shown_counted text frames d held n (of_text left (λ bytes. IsDecoded bytes held n) text is ok)))
     by_decodes (Err e) ok err = err_decodes e err
 
   module _ (f : Fault) (at : FaultAt text f.place f.kind) (r : IsReached text f) where
-    err_faulty : (e : DecodeError) → Why e → Gives InputRose OutputRose (Err (errors.Stream f)) (Err e)
+    err_faulty : (e : DecodeError) → Why e → Gives left held (Err (errors.Stream f)) (Err e)
     err_faulty errors.Read h = Gives.read refl h.0
     err_faulty errors.Write h = Gives.write refl h.0
     err_faulty errors.Memory h = Gives.memory refl
     err_faulty errors.TooLong h = absurd (reached_long text held f r (over_of errors.TooLong h))
     err_faulty errors.PictureTooLarge h = absurd (reached_large text held f r (over_of errors.PictureTooLarge h))
     err_faulty (errors.Stream g) h =
-        let i = of_text (λ bytes. IsFaulty bytes held g) text new h in
+        let i = of_text left (λ bytes. IsFaulty bytes held g) text is h in
         Gives.as_said (ap (λ (x : Fault). Err (errors.Stream x)) (same_fault text g f i.fault at))
 
-    by_fault : (result : Result Decoded DecodeError) → IfOk result (λ n. Of (record { old = Some text; new = new }) (λ bytes. IsDecoded bytes held n)) → IfErr result Why → Gives InputRose OutputRose (Err (errors.Stream f)) result
+    by_fault : (result : Result Decoded DecodeError) → IfOk result (λ n. Of left (λ bytes. IsDecoded bytes held n)) → IfErr result Why → Gives left held (Err (errors.Stream f)) result
     by_fault (Ok n) ok err =
-        let i = of_text (λ bytes. IsDecoded bytes held n) text new ok in
+        let i = of_text left (λ bytes. IsDecoded bytes held n) text is ok in
         absurd ((exactly_one text).not_both i.frames f.place f.kind i.decodes at)
     by_fault (Err e) ok err = err_faulty e err
 
   module _ (l : Limit) (past : IsPast text l) where
-    err_over : (e : DecodeError) → Why e → Gives InputRose OutputRose (Err (error_of l)) (Err e)
+    err_over : (e : DecodeError) → Why e → Gives left held (Err (error_of l)) (Err e)
     err_over errors.Read h = Gives.read refl h.0
     err_over errors.Write h = Gives.write refl h.0
     err_over errors.Memory h = Gives.memory refl
     err_over errors.TooLong h = Gives.as_said (ap (λ (m : Limit). Err (error_of m)) (sym (past_long text l held past (over_of errors.TooLong h))))
     err_over errors.PictureTooLarge h = Gives.as_said (ap (λ (m : Limit). Err (error_of m)) (sym (past_large text l held past (over_of errors.PictureTooLarge h))))
-    err_over (errors.Stream f) h = absurd (past_fault text l held f past (of_text (λ bytes. IsFaulty bytes held f) text new h))
+    err_over (errors.Stream f) h = absurd (past_fault text l held f past (of_text left (λ bytes. IsFaulty bytes held f) text is h))
 
-    by_limit : (result : Result Decoded DecodeError) → IfOk result (λ n. Of (record { old = Some text; new = new }) (λ bytes. IsDecoded bytes held n)) → IfErr result Why → Gives InputRose OutputRose (Err (error_of l)) result
-    by_limit (Ok n) ok err = absurd (past_shown text l held n past (of_text (λ bytes. IsDecoded bytes held n) text new ok))
+    by_limit : (result : Result Decoded DecodeError) → IfOk result (λ n. Of left (λ bytes. IsDecoded bytes held n)) → IfErr result Why → Gives left held (Err (error_of l)) result
+    by_limit (Ok n) ok err = absurd (past_shown text l held n past (of_text left (λ bytes. IsDecoded bytes held n) text is ok))
     by_limit (Err e) ok err = err_over e err
 
-pub answered : (InputRose OutputRose : Type 0) (old new : Option (List ℕ)) (held : Change) (result : Result Decoded DecodeError)
-    → IfOk result (λ n. Of (record { old = old; new = new }) (λ bytes. IsDecoded bytes held n)) → IfErr result (Fails InputRose OutputRose (record { old = old; new = new }) held)
-    → IfSome old (IsAnswered InputRose OutputRose result)
-answered IR OR None new held result ok err = tt
-answered IR OR (Some text) new held result ok err = record {
-  decodes = λ frames d under. by_decodes IR OR text new held frames d under result ok err;
-  faulty = λ f at r. by_fault IR OR text new held f at r result ok err;
-  over = λ l past. by_limit IR OR text new held l past result ok err;
-}
+pub answered : (left held : Change) (result : Result Decoded DecodeError) → IfOk result (λ n. Of left (λ bytes. IsDecoded bytes held n)) → IfErr result (Fails left held) → Tells left (IsAnswered left held result)
+answered left held result ok err = tells left (IsAnswered left held result) (λ text is. record {
+  decodes = λ frames d under. by_decodes left held text is frames d under result ok err;
+  faulty = λ f at r. by_fault left held text is f at r result ok err;
+  over = λ l past. by_limit left held text is l past result ok err;
+})

@@ -1,8 +1,9 @@
 -- The end of the text: what stands then.
-use Rattle.std.proofs.Common.{◌≡◌, ℕ, ◌+◌, List, [], ◌++◌, length, map, Option, option_to_list, Ok, refl, sym, ap, subst, ◌∙◌, arith}
+use Rattle.std.proofs.Common.{◌≡◌, ℕ, ◌+◌, ◌≤◌, List, [], ◌++◌, length, map, Option, option_to_list, Ok, refl, sym, ap, subst, ◌∙◌, arith}
 use Rattle.std.proofs.lemmas.List.{append-nil, length-append, length-map}
+use Rattle.m2v_port.specs.Ends.{Change, change}
 use Rattle.m2v_port.specs.Port.{Grows, GrowsByPrefix}
-use Rattle.m2v_port.proofs.Runs.{moves_nothing, grows_on, prefix_on}
+use Rattle.m2v_port.proofs.Runs.{rose_since, moves_nothing, grows_on, prefix_on}
 use Rattle.m2v_plane.specs.Samples.{Samples}
 use Rattle.m2v_plane.specs.Raw.{raw, crop}
 use Rattle.m2v_model.specs.declared.state.State.{State}
@@ -23,10 +24,6 @@ use Rattle.m2v_decode.specs.Progress.{raw_of, before_all, Reached, IsDone, Ends,
 use Rattle.m2v_decode.proofs.Ordering.{shown_is, agrees}
 use Rattle.m2v_decode.proofs.Going.{progress_none, moved_cut, shown_raw, faulty_at}
 
--- nothing was read
-pub nothing_read : (InputRose OutputRose : Type 0) (l h : Option (List ℕ)) → Fails InputRose OutputRose (record { old = l; new = l }) (record { old = h; new = h }) errors.Memory
-nothing_read InputRose OutputRose l h = moved_cut l l l h h before_all at_start [] (progress_none l h) (moves_nothing l)
-
 due_then : (d n : Decoding) (end : ℕ) → d.ready ≡ [] → Finished d end n → due_of n ≡ option_to_list d.anchor
 due_then d n end none f = rw (f.ready, f.ended, f.anchor, none) refl
 
@@ -46,62 +43,74 @@ decodes_to text ps st r = record {
 all_fit : (text : List ℕ) (ps : Pictures) (st : State) → (b : Begun text ps st []) → AllFit (start_of text) (pieces text)
 all_fit text ps st b = subst (AllFit (start_of text)) (sym (b.are ∙ append-nil b.first)) b.fit
 
-decoded : (text : List ℕ) (at : ℕ) (frames : List Samples) (d n : Decoding) (h0 h1 h2 : Option (List ℕ)) (x : Decoded) → Reached text at [] frames d → d.ready ≡ [] → d.shown ≡ length frames → Finished d at n
-    → Grows h0 (raw_of frames) h1 → Grows h1 (raw_of (due_of n)) h2 → x ≡ record { frames = d.shown + length (due_of n); pictures = d.pictures; dropped = 0 } → IsDecoded text (record { old = h0; new = h2 }) x
-decoded text at frames d n h0 h1 h2 x r none count f grown last is =
-    let low = low_delay_of d.state.first in
-    let due : due_of n ≡ option_to_list d.anchor = due_then d n at none f in
-    let same : shown_by n.state r.pictures ≡ shown_by d.state r.pictures = ap (λ s. shown (low_delay_of s) r.pictures) f.first in
-    let read = (by_pieces text).stands r.pictures n.state (whole_read text r.pictures d.state n.state r.begun (subst (λ (y : ℕ). piece_read d.state y [] ≡ Ok ([], n.state)) r.place f.read)) in
-    let all : map crop (frames ++ option_to_list d.anchor) ≡ shown_by d.state r.pictures = shown_is low r.pictures d.anchor frames (r.shows low (agrees d.state.first)) in
-    let number : d.shown + length (due_of n) ≡ length (shown_by n.state r.pictures) =
-    omega (arith, count, ap length due, ap length all, ap length same, length-map (frames ++ option_to_list d.anchor) crop, length-append frames (option_to_list d.anchor)) in
-    record {
-      frames = shown_by n.state r.pictures;
-      decodes = decodes_to text r.pictures n.state read;
-      pictures = r.pictures;
-      state = n.state;
-      read = read;
-      fit = all_fit text r.pictures d.state r.begun;
-      grown = subst (λ (b : List ℕ). Grows h0 b h2) (sym (ap raw same ∙ shown_raw d.state r.pictures d.anchor frames r.shows ∙ ap (λ (t : List Samples). raw_of frames ++ raw_of t) (sym due))) (grows_on grown last);
-      numbers = is ∙ ap (λ (k : ℕ). record { frames = k; pictures = d.pictures; dropped = 0 }) number ∙ ap (λ (k : ℕ). record { frames = length (shown_by n.state r.pictures); pictures = k; dropped = 0 }) r.counted;
-    }
+-- The input's states are i0, i1 and so on, the output's o0, o1.
+module _ {S K : Type 0} (left : S → Option (List ℕ)) (input_faults : S → ℕ) (held : K → Option (List ℕ)) (output_faults : K → ℕ) where
+  abbrev input : S → S → Change
+  input = change left input_faults
 
-pub done_ok : (l0 l1 h0 h1 h2 : Option (List ℕ)) (c : Cutting) (d : Decoding) (x : Decoded) → IsDone (record { old = l0; new = l1 }) (record { old = h0; new = h1 }) c d → Ends d c.place x (record { old = h1; new = h2 })
-    → Of (record { old = l0; new = l1 }) (λ text. IsDecoded text (record { old = h0; new = h2 }) x)
-done_ok l0 l1 h0 h1 h2 c d x so e = record {
-  bytes = so.bytes;
-  moved = so.moved;
-  told = λ rest q. decoded _ c.place so.frames d e.new h0 h1 h2 x (so.told rest q) so.none so.shown e.finished so.grown e.grown e.numbers;
-}
+  abbrev output : K → K → Change
+  output = change held output_faults
 
-end_cut : (text : List ℕ) (at : ℕ) (frames : List Samples) (d n : Decoding) (h0 h1 h2 : Option (List ℕ)) → Reached text at [] frames d → d.ready ≡ [] → Finished d at n → Grows h0 (raw_of frames) h1 → GrowsByPrefix h1 (raw_of (due_of n)) h2
-    → IsCut text (record { old = h0; new = h2 })
-end_cut text at frames d n h0 h1 h2 r none f grown cut = record {
-  pictures = r.pictures;
-  state = d.state;
-  others = [];
-  begun = r.begun;
-  grown = subst (λ (b : List ℕ). GrowsByPrefix h0 b h2) (sym (shown_raw d.state r.pictures d.anchor frames r.shows ∙ ap (λ (t : List Samples). raw_of frames ++ raw_of t) (sym (due_then d n at none f)))) (prefix_on grown cut);
-}
+  -- nothing was read
+  pub nothing_read : (i0 : S) (o0 : K) → Fails (input i0 i0) (output o0 o0) errors.Memory
+  nothing_read i0 o0 = moved_cut left input_faults held output_faults i0 i0 i0 o0 o0 before_all at_start [] (progress_none left input_faults held output_faults i0 o0) (moves_nothing (left i0))
 
-end_text : (l0 l1 h0 h1 h2 : Option (List ℕ)) (c : Cutting) (d n : Decoding) → IsDone (record { old = l0; new = l1 }) (record { old = h0; new = h1 }) c d → Finished d c.place n → GrowsByPrefix h1 (raw_of (due_of n)) h2
-    → Of (record { old = l0; new = l1 }) (λ text. IsCut text (record { old = h0; new = h2 }))
-end_text l0 l1 h0 h1 h2 c d n so f cut = record {
-  bytes = so.bytes;
-  moved = so.moved;
-  told = λ rest q. end_cut _ c.place so.frames d n h0 h1 h2 (so.told rest q) so.none f so.grown cut;
-}
+  decoded : (text : List ℕ) (at : ℕ) (frames : List Samples) (d n : Decoding) (o0 o1 o2 : K) (x : Decoded) → Reached text at [] frames d → d.ready ≡ [] → d.shown ≡ length frames → Finished d at n
+      → Grows (held o0) (raw_of frames) (held o1) → Grows (held o1) (raw_of (due_of n)) (held o2) → x ≡ record { frames = d.shown + length (due_of n); pictures = d.pictures; dropped = 0 } → IsDecoded text (output o0 o2) x
+  decoded text at frames d n o0 o1 o2 x r none count f grown last is =
+      let low = low_delay_of d.state.first in
+      let due : due_of n ≡ option_to_list d.anchor = due_then d n at none f in
+      let same : shown_by n.state r.pictures ≡ shown_by d.state r.pictures = ap (λ s. shown (low_delay_of s) r.pictures) f.first in
+      let read = (by_pieces text).stands r.pictures n.state (whole_read text r.pictures d.state n.state r.begun (subst (λ (y : ℕ). piece_read d.state y [] ≡ Ok ([], n.state)) r.place f.read)) in
+      let all : map crop (frames ++ option_to_list d.anchor) ≡ shown_by d.state r.pictures = shown_is low r.pictures d.anchor frames (r.shows low (agrees d.state.first)) in
+      let number : d.shown + length (due_of n) ≡ length (shown_by n.state r.pictures) =
+      omega (arith, count, ap length due, ap length all, ap length same, length-map (frames ++ option_to_list d.anchor) crop, length-append frames (option_to_list d.anchor)) in
+      record {
+        frames = shown_by n.state r.pictures;
+        decodes = decodes_to text r.pictures n.state read;
+        pictures = r.pictures;
+        state = n.state;
+        read = read;
+        fit = all_fit text r.pictures d.state r.begun;
+        grown = subst (λ (b : List ℕ). Grows (held o0) b (held o2)) (sym (ap raw same ∙ shown_raw d.state r.pictures d.anchor frames r.shows ∙ ap (λ (t : List Samples). raw_of frames ++ raw_of t) (sym due))) (grows_on grown last);
+        numbers = is ∙ ap (λ (k : ℕ). record { frames = k; pictures = d.pictures; dropped = 0 }) number ∙ ap (λ (k : ℕ). record { frames = length (shown_by n.state r.pictures); pictures = k; dropped = 0 }) r.counted;
+      }
 
-pub done_err : (InputRose OutputRose OutputRose' : Type 0) (l0 l1 h0 h1 h2 : Option (List ℕ)) (c : Cutting) (d : Decoding) (e : DecodeError) → (OutputRose → OutputRose') → IsDone (record { old = l0; new = l1 }) (record { old = h0; new = h1 }) c d
-    → EndFails OutputRose d c.place (record { old = h1; new = h2 }) e → Fails InputRose OutputRose' (record { old = l0; new = l1 }) (record { old = h0; new = h2 }) e
-done_err InputRose OutputRose OutputRose' l0 l1 h0 h1 h2 c d errors.Read rose so why = absurd why
-done_err InputRose OutputRose OutputRose' l0 l1 h0 h1 h2 c d errors.Write rose so why = (rose why.0, end_text l0 l1 h0 h1 h2 c d why.1.0 so why.1.1 why.1.2)
-done_err InputRose OutputRose OutputRose' l0 l1 h0 h1 h2 c d (errors.Stream f) rose so why = record {
-  bytes = so.bytes;
-  moved = so.moved;
-  told = λ rest q. faulty_at _ c.place [] so.frames d h0 h2 f (so.told rest q) (subst (λ (h : Option (List ℕ)). Grows h0 (raw_of so.frames) h) (sym why.1) so.grown) (so.most, why.0);
-}
-done_err InputRose OutputRose OutputRose' l0 l1 h0 h1 h2 c d errors.TooLong rose so why = absurd why
-done_err InputRose OutputRose OutputRose' l0 l1 h0 h1 h2 c d errors.PictureTooLarge rose so why = absurd why
-done_err InputRose OutputRose OutputRose' l0 l1 h0 h1 h2 c d errors.Memory rose so why = end_text l0 l1 h0 h1 h2 c d why.0 so why.1 why.2
+  pub done_ok : (i0 i1 : S) (o0 o1 o2 : K) (c : Cutting) (d : Decoding) (x : Decoded) → IsDone (input i0 i1) (output o0 o1) c d → Ends d c.place x (output o1 o2)
+      → Of (input i0 i1) (λ text. IsDecoded text (output o0 o2) x)
+  done_ok i0 i1 o0 o1 o2 c d x so e = record {
+    bytes = so.bytes;
+    moved = so.moved;
+    told = λ rest q. decoded _ c.place so.frames d e.new o0 o1 o2 x (so.told rest q) so.none so.shown e.finished so.grown e.grown e.numbers;
+  }
+
+  end_cut : (text : List ℕ) (at : ℕ) (frames : List Samples) (d n : Decoding) (o0 o1 o2 : K) → Reached text at [] frames d → d.ready ≡ [] → Finished d at n → Grows (held o0) (raw_of frames) (held o1) → GrowsByPrefix (held o1) (raw_of (due_of n)) (held o2)
+      → IsCut text (output o0 o2)
+  end_cut text at frames d n o0 o1 o2 r none f grown cut = record {
+    pictures = r.pictures;
+    state = d.state;
+    others = [];
+    begun = r.begun;
+    grown = subst (λ (b : List ℕ). GrowsByPrefix (held o0) b (held o2)) (sym (shown_raw d.state r.pictures d.anchor frames r.shows ∙ ap (λ (t : List Samples). raw_of frames ++ raw_of t) (sym (due_then d n at none f)))) (prefix_on grown cut);
+  }
+
+  end_text : (i0 i1 : S) (o0 o1 o2 : K) (c : Cutting) (d n : Decoding) → IsDone (input i0 i1) (output o0 o1) c d → Finished d c.place n → GrowsByPrefix (held o1) (raw_of (due_of n)) (held o2)
+      → Of (input i0 i1) (λ text. IsCut text (output o0 o2))
+  end_text i0 i1 o0 o1 o2 c d n so f cut = record {
+    bytes = so.bytes;
+    moved = so.moved;
+    told = λ rest q. end_cut _ c.place so.frames d n o0 o1 o2 (so.told rest q) so.none f so.grown cut;
+  }
+
+  pub done_err : (i0 i1 : S) (o0 o1 o2 : K) (c : Cutting) (d : Decoding) (e : DecodeError) → output_faults o0 ≤ output_faults o1 → IsDone (input i0 i1) (output o0 o1) c d
+      → EndFails d c.place (output o1 o2) e → Fails (input i0 i1) (output o0 o2) e
+  done_err i0 i1 o0 o1 o2 c d errors.Read rises so why = absurd why
+  done_err i0 i1 o0 o1 o2 c d errors.Write rises so why = (rose_since rises why.0, end_text i0 i1 o0 o1 o2 c d why.1.0 so why.1.1 why.1.2)
+  done_err i0 i1 o0 o1 o2 c d (errors.Stream f) rises so why = record {
+    bytes = so.bytes;
+    moved = so.moved;
+    told = λ rest q. faulty_at left input_faults held output_faults _ c.place [] so.frames d o0 o2 f (so.told rest q) (subst (λ (h : Option (List ℕ)). Grows (held o0) (raw_of so.frames) h) (sym why.1) so.grown) (so.most, why.0);
+  }
+  done_err i0 i1 o0 o1 o2 c d errors.TooLong rises so why = absurd why
+  done_err i0 i1 o0 o1 o2 c d errors.PictureTooLarge rises so why = absurd why
+  done_err i0 i1 o0 o1 o2 c d errors.Memory rises so why = end_text i0 i1 o0 o1 o2 c d why.0 so why.1 why.2

@@ -3,8 +3,9 @@ use Rattle.std.proofs.Common.{◌≡◌, ℕ, ◌+◌, ◌≤◌, Bool, true, fa
 use Rattle.std.specs.Prelude.{if◌then◌else◌}
 use Rattle.std.specs.Option.{option_map}
 use Rattle.std.proofs.lemmas.List.{append-nil, length-append}
+use Rattle.m2v_port.specs.Ends.{Change, change}
 use Rattle.m2v_port.specs.Port.{Moves, Grows, GrowsByPrefix}
-use Rattle.m2v_port.proofs.Runs.{moves_on, moves_nothing, grows_on, grows_by_nothing, grows_by_all, prefix_on, prefix_of_more}
+use Rattle.m2v_port.proofs.Runs.{rose_since, moves_on, moves_nothing, grows_on, grows_by_nothing, grows_by_all, prefix_on, prefix_of_more}
 use Rattle.m2v_plane.specs.Samples.{Samples}
 use Rattle.m2v_plane.specs.Raw.{raw}
 use Rattle.m2v_model.specs.declared.fault.FaultKind.{FaultKind}
@@ -127,63 +128,10 @@ gave c bytes rest c' p begun h =
       next = next_start c' rest begun ∙ h.3;
     }
 
--- ---- between two pieces
-
-abbrev With : (l0 l1 h0 h1 : Option (List ℕ)) → Cutting → Decoding → Type 0
-With l0 l1 h0 h1 c d = Progress (record { old = l0; new = l1 }) (record { old = h0; new = h1 }) c d
-
 before_bytes : (bytes : List ℕ) (us : Units) → grouped Before [] us ≡ grouped Before bytes us
 unfolding grouped
 before_bytes bytes [] = refl
 before_bytes bytes (u ∷ us) = refl
-
-pub progress_none : (l h : Option (List ℕ)) → With l l h h before_all at_start
-unfolding pieces_read end_of open_start open_pieces
-progress_none l h = record {
-  bytes = [];
-  moved = moves_nothing l;
-  frames = [];
-  grown = grows_by_nothing h;
-  shown = refl;
-  none = refl;
-  going = refl;
-  sound = refl;
-  told = λ rest e. record {
-    pictures = [];
-    begun = record { first = []; are = before_bytes (cut 0 rest).0 (cut 0 rest).1; fit = tt; read = refl };
-    place = omega arith;
-    shows = λ low agree. shows_none low None [];
-    counted = refl;
-  };
-}
-
-pub progress_more : (l0 l1 l2 h0 h1 h2 : Option (List ℕ)) (c c' : Cutting) (d m n : Decoding) (p : Piece) → With l0 l1 h0 h1 c d → Handed c l1 c' l2 (Some p) → c'.begun ≡ true
-    → Advanced d (p.place + p.length) (whole_of p) m → HasPut m n → Grows h1 (raw_of (due_of m)) h2 → With l0 l2 h0 h2 c' n
-progress_more l0 l1 l2 h0 h1 h2 c c' d m n p so handed begun a put grown = record {
-  bytes = so.bytes ++ handed.bytes;
-  moved = moves_on so.moved handed.moved;
-  frames = so.frames ++ due_of m;
-  grown = subst (λ (b : List ℕ). Grows h0 b h2) (sym (raw-append so.frames (due_of m))) (grows_on so.grown grown);
-  shown = omega (arith, put.shown, a.shown, so.shown, length-append so.frames (due_of m));
-  none = ready_none n (put.ended ∙ a.going) put.none;
-  going = put.ended ∙ a.going;
-  sound = put.failed ∙ a.sound;
-  told = λ rest e.
-      let g = gave c handed.bytes rest c' p begun (handed.next rest e) in
-      let r = so.told (handed.bytes ++ rest) (moved_some l1 l2 handed.bytes rest handed.moved e) in
-      let start : ℕ = start_of_rest c (handed.bytes ++ rest) in
-      let r' = subst (λ (ps : List (List ℕ)). Reached (so.bytes ++ (handed.bytes ++ rest)) start ps so.frames d) g.pieces r in
-      let a' = subst (λ (x : ℕ). Advanced d x (whole_of p) m) (ap (λ (x : ℕ). x + p.length) g.place ∙ ap (λ (x : ℕ). start + x) g.length) a in
-      let more = reached_more _ start (whole_of p) (left_of c' rest) so.frames d m n r' so.none (subst (λ (x : ℕ). limit x 0 (whole_of p) ≡ None) g.place g.fits) a' put in
-      let place : start + length (whole_of p) ≡ start_of_rest c' rest = sym (g.next ∙ ap (λ (x : ℕ). x + p.length) g.place ∙ ap (λ (x : ℕ). start + x) g.length) in
-      subst (λ (t : List ℕ). Reached t (start_of_rest c' rest) (left_of c' rest) (so.frames ++ due_of m) n) (sym (append_assoc so.bytes handed.bytes rest))
-      (subst (λ (x : ℕ). Reached (so.bytes ++ (handed.bytes ++ rest)) x (left_of c' rest) (so.frames ++ due_of m) n) place more);
-}
-
--- ---- where decoding stops
-
-abbrev Text : Option (List ℕ) → Option (List ℕ) → (List ℕ → Type 0) → Type 0
-Text l0 l1 Holds = Of (record { old = l0; new = l1 }) Holds
 
 -- the frames that were written are those that are due
 due_raw : (st : State) (ps : Pictures) (anchor : Option Samples) (frames : List Samples) → ((low : Bool) → Agrees low st.first → Shows low None [] ps anchor frames) → raw_of frames ≡ raw (due_before st ps)
@@ -192,55 +140,6 @@ due_raw st ps anchor frames s = ap raw (due_is (low_delay_of st.first) ps anchor
 pub shown_raw : (st : State) (ps : Pictures) (anchor : Option Samples) (frames : List Samples) → ((low : Bool) → Agrees low st.first → Shows low None [] ps anchor frames)
     → raw (shown_by st ps) ≡ raw_of frames ++ raw_of (option_to_list anchor)
 shown_raw st ps anchor frames s = sym (ap raw (shown_is (low_delay_of st.first) ps anchor frames (s (low_delay_of st.first) (agrees st.first)))) ∙ raw-append frames (option_to_list anchor)
-
-reached_cut : (text : List ℕ) (start : ℕ) (others : List (List ℕ)) (frames : List Samples) (d : Decoding) (h0 h1 : Option (List ℕ)) → Reached text start others frames d → GrowsByPrefix h0 (raw_of frames) h1 → IsCut text (record { old = h0; new = h1 })
-reached_cut text start others frames d h0 h1 r grown = record {
-  pictures = r.pictures;
-  state = d.state;
-  others = others;
-  begun = r.begun;
-  grown = subst (λ (b : List ℕ). GrowsByPrefix h0 b h1) (sym (shown_raw d.state r.pictures d.anchor frames r.shows)) (prefix_of_more grown (raw_of (option_to_list d.anchor)));
-}
-
--- bytes were read, and nothing came of them
-pub moved_cut : (l0 l1 l2 h0 h1 : Option (List ℕ)) (c : Cutting) (d : Decoding) (bytes : List ℕ) → With l0 l1 h0 h1 c d → Moves l1 bytes l2 → Text l0 l2 (λ text. IsCut text (record { old = h0; new = h1 }))
-moved_cut l0 l1 l2 h0 h1 c d bytes so moved = record {
-  bytes = so.bytes ++ bytes;
-  moved = moves_on so.moved moved;
-  told = λ rest e.
-      subst (λ (t : List ℕ). IsCut t (record { old = h0; new = h1 })) (sym (append_assoc so.bytes bytes rest))
-      (reached_cut _ _ _ so.frames d h0 h1 (so.told (bytes ++ rest) (moved_some l1 l2 bytes rest moved e)) (grows_by_all so.grown));
-}
-
-over_at : (text : List ℕ) (start : ℕ) (others : List (List ℕ)) (frames : List Samples) (d : Decoding) (h0 h1 : Option (List ℕ)) (e : DecodeError) → Reached text start others frames d → Grows h0 (raw_of frames) h1 → Stops start others e → IsOver text (record { old = h0; new = h1 }) e
-over_at text start others frames d h0 h1 e r grown over = record {
-  pictures = r.pictures;
-  state = d.state;
-  others = others;
-  begun = r.begun;
-  over = subst (λ (x : ℕ). Stops x others e) r.place over;
-  grown = subst (λ (b : List ℕ). Grows h0 b h1) (due_raw d.state r.pictures d.anchor frames r.shows) grown;
-}
-
-over_text : (l0 l1 l2 h0 h1 : Option (List ℕ)) (c : Cutting) (d : Decoding) (bytes : List ℕ) (e : DecodeError) → With l0 l1 h0 h1 c d → Moves l1 bytes l2
-    → ((rest : List ℕ) → l2 ≡ Some rest → Stops (start_of_rest c (bytes ++ rest)) (left_of c (bytes ++ rest)) e) → Text l0 l2 (λ text. IsOver text (record { old = h0; new = h1 }) e)
-over_text l0 l1 l2 h0 h1 c d bytes e so moved why = record {
-  bytes = so.bytes ++ bytes;
-  moved = moves_on so.moved moved;
-  told = λ rest q.
-      subst (λ (t : List ℕ). IsOver t (record { old = h0; new = h1 }) e) (sym (append_assoc so.bytes bytes rest))
-      (over_at _ _ _ so.frames d h0 h1 e (so.told (bytes ++ rest) (moved_some l1 l2 bytes rest moved q)) so.grown (why rest q));
-}
-
--- the cutter gave no piece
-pub cutter_stopped : (InputRose OutputRose : Type 0) (l0 l1 l2 h0 h1 : Option (List ℕ)) (c : Cutting) (d : Decoding) (e : DecodeError) → (e ≡ errors.Read → InputRose) → IsReading e
-    → With l0 l1 h0 h1 c d → Stopped c l1 l2 e → Fails InputRose OutputRose (record { old = l0; new = l2 }) (record { old = h0; new = h1 }) e
-cutter_stopped InputRose OutputRose l0 l1 l2 h0 h1 c d errors.Read rose kind so s = (rose refl, moved_cut l0 l1 l2 h0 h1 c d s.bytes so s.moved)
-cutter_stopped InputRose OutputRose l0 l1 l2 h0 h1 c d errors.Write rose kind so s = absurd kind
-cutter_stopped InputRose OutputRose l0 l1 l2 h0 h1 c d (errors.Stream f) rose kind so s = absurd kind
-cutter_stopped InputRose OutputRose l0 l1 l2 h0 h1 c d errors.TooLong rose kind so s = over_text l0 l1 l2 h0 h1 c d s.bytes errors.TooLong so s.moved s.why
-cutter_stopped InputRose OutputRose l0 l1 l2 h0 h1 c d errors.PictureTooLarge rose kind so s = over_text l0 l1 l2 h0 h1 c d s.bytes errors.PictureTooLarge so s.moved s.why
-cutter_stopped InputRose OutputRose l0 l1 l2 h0 h1 c d errors.Memory rose kind so s = moved_cut l0 l1 l2 h0 h1 c d s.bytes so s.moved
 
 onward_err : (r : Course) (next : State → Course) (f : FaultKind × ℕ) → r ≡ Err f → onward r next ≡ Err f
 unfolding onward
@@ -256,102 +155,212 @@ faulty_text text kind place ps st (p ∷ others) b here = (by_pieces text).fault
     text_rest text ∙ ap (rest_read at_first (start_of text)) (b.are) ∙ rest_read-append b.first (p ∷ others) at_first (start_of text)
     ∙ rw b.read (ap (behind_pictures ps) (rest_more st (behind b) p others ∙ onward_err (piece_read st (behind b + length p) p) (λ next. rest_read next (behind b + length p) others) (kind, place) here.1)))
 
-pub faulty_at : (text : List ℕ) (start : ℕ) (others : List (List ℕ)) (frames : List Samples) (d : Decoding) (h0 h1 : Option (List ℕ)) (f : Fault) → Reached text start others frames d → Grows h0 (raw_of frames) h1 → HasFault d.state start others f.kind f.place
-    → IsFaulty text (record { old = h0; new = h1 }) f
-faulty_at text start others frames d h0 h1 f r grown here =
-    let there = subst (λ (x : ℕ). HasFault d.state x others f.kind f.place) r.place here in
-    record {
-      fault = faulty_text text f.kind f.place r.pictures d.state others r.begun there;
-      pictures = r.pictures;
-      state = d.state;
-      others = others;
-      begun = r.begun;
-      here = there;
-      grown = subst (λ (b : List ℕ). Grows h0 b h1) (due_raw d.state r.pictures d.anchor frames r.shows) grown;
-    }
+-- ---- between two pieces
 
--- a piece that was given is the next one of those that are left
-given : (l0 l1 l2 h0 h1 : Option (List ℕ)) (c c' : Cutting) (d : Decoding) (p : Piece) → (so : With l0 l1 h0 h1 c d) → (handed : Handed c l1 c' l2 (Some p)) → c'.begun ≡ true → (rest : List ℕ) → l2 ≡ Some rest
-    → Reached (so.bytes ++ (handed.bytes ++ rest)) p.place (whole_of p ∷ left_of c' rest) so.frames d × (limit p.place 0 (whole_of p) ≡ None) × (p.length ≡ length (whole_of p))
-given l0 l1 l2 h0 h1 c c' d p so handed begun rest e =
-    let g = gave c handed.bytes rest c' p begun (handed.next rest e) in
-    let r = so.told (handed.bytes ++ rest) (moved_some l1 l2 handed.bytes rest handed.moved e) in
-    let r' = subst (λ (ps : List (List ℕ)). Reached (so.bytes ++ (handed.bytes ++ rest)) (start_of_rest c (handed.bytes ++ rest)) ps so.frames d) g.pieces r in
-    (subst (λ (x : ℕ). Reached (so.bytes ++ (handed.bytes ++ rest)) x (whole_of p ∷ left_of c' rest) so.frames d) (sym g.place) r', g.fits, g.length)
+-- The input's states are i0, i1 and so on, the output's o0, o1.
+module _ {S K : Type 0} (left : S → Option (List ℕ)) (input_faults : S → ℕ) (held : K → Option (List ℕ)) (output_faults : K → ℕ) where
+  abbrev input : S → S → Change
+  input = change left input_faults
 
--- the decoder refused a piece
-pub piece_refused : (InputRose OutputRose : Type 0) (l0 l1 l2 h0 h1 : Option (List ℕ)) (c c' : Cutting) (d : Decoding) (p : Piece) (e : DecodeError) → With l0 l1 h0 h1 c d → Handed c l1 c' l2 (Some p) → c'.begun ≡ true
-    → Refuses d (p.place + p.length) (whole_of p) e → Fails InputRose OutputRose (record { old = l0; new = l2 }) (record { old = h0; new = h1 }) e
-piece_refused InputRose OutputRose l0 l1 l2 h0 h1 c c' d p errors.Read so handed begun why = absurd why
-piece_refused InputRose OutputRose l0 l1 l2 h0 h1 c c' d p errors.Write so handed begun why = absurd why
-piece_refused InputRose OutputRose l0 l1 l2 h0 h1 c c' d p errors.TooLong so handed begun why = absurd why
-piece_refused InputRose OutputRose l0 l1 l2 h0 h1 c c' d p errors.PictureTooLarge so handed begun why = absurd why
-piece_refused InputRose OutputRose l0 l1 l2 h0 h1 c c' d p errors.Memory so handed begun why = moved_cut l0 l1 l2 h0 h1 c d handed.bytes so handed.moved
-piece_refused InputRose OutputRose l0 l1 l2 h0 h1 c c' d p (errors.Stream f) so handed begun why = record {
-  bytes = so.bytes ++ handed.bytes;
-  moved = moves_on so.moved handed.moved;
-  told = λ rest e.
-      let g = given l0 l1 l2 h0 h1 c c' d p so handed begun rest e in
-      subst (λ (t : List ℕ). IsFaulty t (record { old = h0; new = h1 }) f) (sym (append_assoc so.bytes handed.bytes rest))
-      (faulty_at _ p.place (whole_of p ∷ left_of c' rest) so.frames d h0 h1 f g.0 so.grown (g.1, subst (λ (x : ℕ). piece_read d.state (p.place + x) (whole_of p) ≡ Err (f.kind, f.place)) g.2 why));
-}
+  abbrev output : K → K → Change
+  output = change held output_faults
 
--- a prefix of the frames due behind a piece was written
-due_cut : (text : List ℕ) (start : ℕ) (whole : List ℕ) (others : List (List ℕ)) (frames : List Samples) (d m : Decoding) (h0 h1 h2 : Option (List ℕ)) → Reached text start (whole ∷ others) frames d → d.ready ≡ []
-    → limit start 0 whole ≡ None → Advanced d (start + length whole) whole m → Grows h0 (raw_of frames) h1 → GrowsByPrefix h1 (raw_of (due_of m)) h2 → IsCut text (record { old = h0; new = h2 })
-due_cut text start whole others frames d m h0 h1 h2 r none fits a grown cut =
-    let drained : Decoding = record m { ready = []; shown = m.shown + length (due_of m) } in
-    let put : HasPut m drained = record {
-      none = due_ready drained a.going;
-      state = refl;
-      anchor = λ going. refl;
-      ended = refl;
-      failed = refl;
-      pictures = refl;
-      shown = refl;
-    } in
-    reached_cut text (start + length whole) others (frames ++ due_of m) drained h0 h2 (reached_more text start whole others frames d m drained r none fits a put)
-    (subst (λ (b : List ℕ). GrowsByPrefix h0 b h2) (sym (raw-append frames (due_of m))) (prefix_on grown cut))
+  abbrev With : S → S → K → K → Cutting → Decoding → Type 0
+  With i0 i1 o0 o1 c d = Progress (input i0 i1) (output o0 o1) c d
 
-due_text : (l0 l1 l2 h0 h1 h2 : Option (List ℕ)) (c c' : Cutting) (d m : Decoding) (p : Piece) → With l0 l1 h0 h1 c d → Handed c l1 c' l2 (Some p) → c'.begun ≡ true → Advanced d (p.place + p.length) (whole_of p) m
-    → GrowsByPrefix h1 (raw_of (due_of m)) h2 → Text l0 l2 (λ text. IsCut text (record { old = h0; new = h2 }))
-due_text l0 l1 l2 h0 h1 h2 c c' d m p so handed begun a cut = record {
-  bytes = so.bytes ++ handed.bytes;
-  moved = moves_on so.moved handed.moved;
-  told = λ rest e.
-      let g = given l0 l1 l2 h0 h1 c c' d p so handed begun rest e in
-      subst (λ (t : List ℕ). IsCut t (record { old = h0; new = h2 })) (sym (append_assoc so.bytes handed.bytes rest))
-      (due_cut _ p.place (whole_of p) (left_of c' rest) so.frames d m h0 h1 h2 g.0 so.none g.1 (subst (λ (x : ℕ). Advanced d (p.place + x) (whole_of p) m) g.2 a) so.grown cut);
-}
+  pub progress_none : (i0 : S) (o0 : K) → With i0 i0 o0 o0 before_all at_start
+  unfolding pieces_read end_of open_start open_pieces
+  progress_none i0 o0 = record {
+    bytes = [];
+    moved = moves_nothing (left i0);
+    frames = [];
+    grown = grows_by_nothing (held o0);
+    shown = refl;
+    none = refl;
+    going = refl;
+    sound = refl;
+    told = λ rest e. record {
+      pictures = [];
+      begun = record { first = []; are = before_bytes (cut 0 rest).0 (cut 0 rest).1; fit = tt; read = refl };
+      place = omega arith;
+      shows = λ low agree. shows_none low None [];
+      counted = refl;
+    };
+  }
 
--- output failed behind a piece
-pub put_stopped : (InputRose OutputRose OutputRose' : Type 0) (l0 l1 l2 h0 h1 h2 : Option (List ℕ)) (c c' : Cutting) (d m : Decoding) (p : Piece) (e : DecodeError) → (OutputRose → OutputRose')
-    → With l0 l1 h0 h1 c d → Handed c l1 c' l2 (Some p) → c'.begun ≡ true → Advanced d (p.place + p.length) (whole_of p) m
-    → Cuts OutputRose (raw_of (due_of m)) (record { old = h1; new = h2 }) e → Fails InputRose OutputRose' (record { old = l0; new = l2 }) (record { old = h0; new = h2 }) e
-put_stopped InputRose OutputRose OutputRose' l0 l1 l2 h0 h1 h2 c c' d m p errors.Read rose so handed begun a cut = absurd cut
-put_stopped InputRose OutputRose OutputRose' l0 l1 l2 h0 h1 h2 c c' d m p errors.Write rose so handed begun a cut = (rose cut.0, due_text l0 l1 l2 h0 h1 h2 c c' d m p so handed begun a cut.1)
-put_stopped InputRose OutputRose OutputRose' l0 l1 l2 h0 h1 h2 c c' d m p (errors.Stream f) rose so handed begun a cut = absurd cut
-put_stopped InputRose OutputRose OutputRose' l0 l1 l2 h0 h1 h2 c c' d m p errors.TooLong rose so handed begun a cut = absurd cut
-put_stopped InputRose OutputRose OutputRose' l0 l1 l2 h0 h1 h2 c c' d m p errors.PictureTooLarge rose so handed begun a cut = absurd cut
-put_stopped InputRose OutputRose OutputRose' l0 l1 l2 h0 h1 h2 c c' d m p errors.Memory rose so handed begun a cut = due_text l0 l1 l2 h0 h1 h2 c c' d m p so handed begun a cut
+  pub progress_more : (i0 i1 i2 : S) (o0 o1 o2 : K) (c c' : Cutting) (d m n : Decoding) (p : Piece) → With i0 i1 o0 o1 c d → Handed c (left i1) c' (left i2) (Some p) → c'.begun ≡ true
+      → Advanced d (p.place + p.length) (whole_of p) m → HasPut m n → Grows (held o1) (raw_of (due_of m)) (held o2) → With i0 i2 o0 o2 c' n
+  progress_more i0 i1 i2 o0 o1 o2 c c' d m n p so handed begun a put grown = record {
+    bytes = so.bytes ++ handed.bytes;
+    moved = moves_on so.moved handed.moved;
+    frames = so.frames ++ due_of m;
+    grown = subst (λ (b : List ℕ). Grows (held o0) b (held o2)) (sym (raw-append so.frames (due_of m))) (grows_on so.grown grown);
+    shown = omega (arith, put.shown, a.shown, so.shown, length-append so.frames (due_of m));
+    none = ready_none n (put.ended ∙ a.going) put.none;
+    going = put.ended ∙ a.going;
+    sound = put.failed ∙ a.sound;
+    told = λ rest e.
+        let g = gave c handed.bytes rest c' p begun (handed.next rest e) in
+        let r = so.told (handed.bytes ++ rest) (moved_some (left i1) (left i2) handed.bytes rest handed.moved e) in
+        let start : ℕ = start_of_rest c (handed.bytes ++ rest) in
+        let r' = subst (λ (ps : List (List ℕ)). Reached (so.bytes ++ (handed.bytes ++ rest)) start ps so.frames d) g.pieces r in
+        let a' = subst (λ (x : ℕ). Advanced d x (whole_of p) m) (ap (λ (x : ℕ). x + p.length) g.place ∙ ap (λ (x : ℕ). start + x) g.length) a in
+        let more = reached_more _ start (whole_of p) (left_of c' rest) so.frames d m n r' so.none (subst (λ (x : ℕ). limit x 0 (whole_of p) ≡ None) g.place g.fits) a' put in
+        let place : start + length (whole_of p) ≡ start_of_rest c' rest = sym (g.next ∙ ap (λ (x : ℕ). x + p.length) g.place ∙ ap (λ (x : ℕ). start + x) g.length) in
+        subst (λ (t : List ℕ). Reached t (start_of_rest c' rest) (left_of c' rest) (so.frames ++ due_of m) n) (sym (append_assoc so.bytes handed.bytes rest))
+        (subst (λ (x : ℕ). Reached (so.bytes ++ (handed.bytes ++ rest)) x (left_of c' rest) (so.frames ++ due_of m) n) place more);
+  }
 
--- no piece was left
-pub pieces_done : (l0 l1 l2 h0 h1 : Option (List ℕ)) (c c' : Cutting) (d : Decoding) → With l0 l1 h0 h1 c d → Handed c l1 c' l2 None → c'.ended ≡ true → c'.place ≤ most_input → IsDone (record { old = l0; new = l2 }) (record { old = h0; new = h1 }) c' d
-pieces_done l0 l1 l2 h0 h1 c c' d so handed over most = record {
-  bytes = so.bytes ++ handed.bytes;
-  moved = moves_on so.moved handed.moved;
-  frames = so.frames;
-  grown = so.grown;
-  shown = so.shown;
-  none = so.none;
-  going = so.going;
-  sound = so.sound;
-  over = over;
-  most = most;
-  told = λ rest e.
-      let next = handed.next rest e in
-      let r = so.told (handed.bytes ++ rest) (moved_some l1 l2 handed.bytes rest handed.moved e) in
-      subst (λ (t : List ℕ). Reached t c'.place [] so.frames d) (sym (append_assoc so.bytes handed.bytes rest))
-      (subst (λ (x : ℕ). Reached (so.bytes ++ (handed.bytes ++ rest)) x [] so.frames d) (sym next.2)
-      (subst (λ (ps : List (List ℕ)). Reached (so.bytes ++ (handed.bytes ++ rest)) (start_of_rest c (handed.bytes ++ rest)) ps so.frames d) next.0 r));
-}
+  -- ---- where decoding stops
+
+  abbrev Text : S → S → (List ℕ → Type 0) → Type 0
+  Text i0 i1 Holds = Of (input i0 i1) Holds
+
+  reached_cut : (text : List ℕ) (start : ℕ) (others : List (List ℕ)) (frames : List Samples) (d : Decoding) (o0 o1 : K) → Reached text start others frames d → GrowsByPrefix (held o0) (raw_of frames) (held o1) → IsCut text (output o0 o1)
+  reached_cut text start others frames d o0 o1 r grown = record {
+    pictures = r.pictures;
+    state = d.state;
+    others = others;
+    begun = r.begun;
+    grown = subst (λ (b : List ℕ). GrowsByPrefix (held o0) b (held o1)) (sym (shown_raw d.state r.pictures d.anchor frames r.shows)) (prefix_of_more grown (raw_of (option_to_list d.anchor)));
+  }
+
+  -- bytes were read, and nothing came of them
+  pub moved_cut : (i0 i1 i2 : S) (o0 o1 : K) (c : Cutting) (d : Decoding) (bytes : List ℕ) → With i0 i1 o0 o1 c d → Moves (left i1) bytes (left i2) → Text i0 i2 (λ text. IsCut text (output o0 o1))
+  moved_cut i0 i1 i2 o0 o1 c d bytes so moved = record {
+    bytes = so.bytes ++ bytes;
+    moved = moves_on so.moved moved;
+    told = λ rest e.
+        subst (λ (t : List ℕ). IsCut t (output o0 o1)) (sym (append_assoc so.bytes bytes rest))
+        (reached_cut _ _ _ so.frames d o0 o1 (so.told (bytes ++ rest) (moved_some (left i1) (left i2) bytes rest moved e)) (grows_by_all so.grown));
+  }
+
+  over_at : (text : List ℕ) (start : ℕ) (others : List (List ℕ)) (frames : List Samples) (d : Decoding) (o0 o1 : K) (e : DecodeError) → Reached text start others frames d → Grows (held o0) (raw_of frames) (held o1) → Stops start others e → IsOver text (output o0 o1) e
+  over_at text start others frames d o0 o1 e r grown over = record {
+    pictures = r.pictures;
+    state = d.state;
+    others = others;
+    begun = r.begun;
+    over = subst (λ (x : ℕ). Stops x others e) r.place over;
+    grown = subst (λ (b : List ℕ). Grows (held o0) b (held o1)) (due_raw d.state r.pictures d.anchor frames r.shows) grown;
+  }
+
+  over_text : (i0 i1 i2 : S) (o0 o1 : K) (c : Cutting) (d : Decoding) (bytes : List ℕ) (e : DecodeError) → With i0 i1 o0 o1 c d → Moves (left i1) bytes (left i2)
+      → ((rest : List ℕ) → (left i2) ≡ Some rest → Stops (start_of_rest c (bytes ++ rest)) (left_of c (bytes ++ rest)) e) → Text i0 i2 (λ text. IsOver text (output o0 o1) e)
+  over_text i0 i1 i2 o0 o1 c d bytes e so moved why = record {
+    bytes = so.bytes ++ bytes;
+    moved = moves_on so.moved moved;
+    told = λ rest q.
+        subst (λ (t : List ℕ). IsOver t (output o0 o1) e) (sym (append_assoc so.bytes bytes rest))
+        (over_at _ _ _ so.frames d o0 o1 e (so.told (bytes ++ rest) (moved_some (left i1) (left i2) bytes rest moved q)) so.grown (why rest q));
+  }
+
+  -- the cutter gave no piece
+  pub cutter_stopped : (i0 i1 i2 : S) (o0 o1 : K) (c : Cutting) (d : Decoding) (e : DecodeError) → (e ≡ errors.Read → (input i0 i2).Failed) → IsReading e
+      → With i0 i1 o0 o1 c d → Stopped c (left i1) (left i2) e → Fails (input i0 i2) (output o0 o1) e
+  cutter_stopped i0 i1 i2 o0 o1 c d errors.Read rose kind so s = (rose refl, moved_cut i0 i1 i2 o0 o1 c d s.bytes so s.moved)
+  cutter_stopped i0 i1 i2 o0 o1 c d errors.Write rose kind so s = absurd kind
+  cutter_stopped i0 i1 i2 o0 o1 c d (errors.Stream f) rose kind so s = absurd kind
+  cutter_stopped i0 i1 i2 o0 o1 c d errors.TooLong rose kind so s = over_text i0 i1 i2 o0 o1 c d s.bytes errors.TooLong so s.moved s.why
+  cutter_stopped i0 i1 i2 o0 o1 c d errors.PictureTooLarge rose kind so s = over_text i0 i1 i2 o0 o1 c d s.bytes errors.PictureTooLarge so s.moved s.why
+  cutter_stopped i0 i1 i2 o0 o1 c d errors.Memory rose kind so s = moved_cut i0 i1 i2 o0 o1 c d s.bytes so s.moved
+
+  pub faulty_at : (text : List ℕ) (start : ℕ) (others : List (List ℕ)) (frames : List Samples) (d : Decoding) (o0 o1 : K) (f : Fault) → Reached text start others frames d → Grows (held o0) (raw_of frames) (held o1) → HasFault d.state start others f.kind f.place
+      → IsFaulty text (output o0 o1) f
+  faulty_at text start others frames d o0 o1 f r grown here =
+      let there = subst (λ (x : ℕ). HasFault d.state x others f.kind f.place) r.place here in
+      record {
+        fault = faulty_text text f.kind f.place r.pictures d.state others r.begun there;
+        pictures = r.pictures;
+        state = d.state;
+        others = others;
+        begun = r.begun;
+        here = there;
+        grown = subst (λ (b : List ℕ). Grows (held o0) b (held o1)) (due_raw d.state r.pictures d.anchor frames r.shows) grown;
+      }
+
+  -- a piece that was given is the next one of those that are left
+  given : (i0 i1 i2 : S) (o0 o1 : K) (c c' : Cutting) (d : Decoding) (p : Piece) → (so : With i0 i1 o0 o1 c d) → (handed : Handed c (left i1) c' (left i2) (Some p)) → c'.begun ≡ true → (rest : List ℕ) → (left i2) ≡ Some rest
+      → Reached (so.bytes ++ (handed.bytes ++ rest)) p.place (whole_of p ∷ left_of c' rest) so.frames d × (limit p.place 0 (whole_of p) ≡ None) × (p.length ≡ length (whole_of p))
+  given i0 i1 i2 o0 o1 c c' d p so handed begun rest e =
+      let g = gave c handed.bytes rest c' p begun (handed.next rest e) in
+      let r = so.told (handed.bytes ++ rest) (moved_some (left i1) (left i2) handed.bytes rest handed.moved e) in
+      let r' = subst (λ (ps : List (List ℕ)). Reached (so.bytes ++ (handed.bytes ++ rest)) (start_of_rest c (handed.bytes ++ rest)) ps so.frames d) g.pieces r in
+      (subst (λ (x : ℕ). Reached (so.bytes ++ (handed.bytes ++ rest)) x (whole_of p ∷ left_of c' rest) so.frames d) (sym g.place) r', g.fits, g.length)
+
+  -- the decoder refused a piece
+  pub piece_refused : (i0 i1 i2 : S) (o0 o1 : K) (c c' : Cutting) (d : Decoding) (p : Piece) (e : DecodeError) → With i0 i1 o0 o1 c d → Handed c (left i1) c' (left i2) (Some p) → c'.begun ≡ true
+      → Refuses d (p.place + p.length) (whole_of p) e → Fails (input i0 i2) (output o0 o1) e
+  piece_refused i0 i1 i2 o0 o1 c c' d p errors.Read so handed begun why = absurd why
+  piece_refused i0 i1 i2 o0 o1 c c' d p errors.Write so handed begun why = absurd why
+  piece_refused i0 i1 i2 o0 o1 c c' d p errors.TooLong so handed begun why = absurd why
+  piece_refused i0 i1 i2 o0 o1 c c' d p errors.PictureTooLarge so handed begun why = absurd why
+  piece_refused i0 i1 i2 o0 o1 c c' d p errors.Memory so handed begun why = moved_cut i0 i1 i2 o0 o1 c d handed.bytes so handed.moved
+  piece_refused i0 i1 i2 o0 o1 c c' d p (errors.Stream f) so handed begun why = record {
+    bytes = so.bytes ++ handed.bytes;
+    moved = moves_on so.moved handed.moved;
+    told = λ rest e.
+        let g = given i0 i1 i2 o0 o1 c c' d p so handed begun rest e in
+        subst (λ (t : List ℕ). IsFaulty t (output o0 o1) f) (sym (append_assoc so.bytes handed.bytes rest))
+        (faulty_at _ p.place (whole_of p ∷ left_of c' rest) so.frames d o0 o1 f g.0 so.grown (g.1, subst (λ (x : ℕ). piece_read d.state (p.place + x) (whole_of p) ≡ Err (f.kind, f.place)) g.2 why));
+  }
+
+  -- a prefix of the frames due behind a piece was written
+  due_cut : (text : List ℕ) (start : ℕ) (whole : List ℕ) (others : List (List ℕ)) (frames : List Samples) (d m : Decoding) (o0 o1 o2 : K) → Reached text start (whole ∷ others) frames d → d.ready ≡ []
+      → limit start 0 whole ≡ None → Advanced d (start + length whole) whole m → Grows (held o0) (raw_of frames) (held o1) → GrowsByPrefix (held o1) (raw_of (due_of m)) (held o2) → IsCut text (output o0 o2)
+  due_cut text start whole others frames d m o0 o1 o2 r none fits a grown cut =
+      let drained : Decoding = record m { ready = []; shown = m.shown + length (due_of m) } in
+      let put : HasPut m drained = record {
+        none = due_ready drained a.going;
+        state = refl;
+        anchor = λ going. refl;
+        ended = refl;
+        failed = refl;
+        pictures = refl;
+        shown = refl;
+      } in
+      reached_cut text (start + length whole) others (frames ++ due_of m) drained o0 o2 (reached_more text start whole others frames d m drained r none fits a put)
+      (subst (λ (b : List ℕ). GrowsByPrefix (held o0) b (held o2)) (sym (raw-append frames (due_of m))) (prefix_on grown cut))
+
+  due_text : (i0 i1 i2 : S) (o0 o1 o2 : K) (c c' : Cutting) (d m : Decoding) (p : Piece) → With i0 i1 o0 o1 c d → Handed c (left i1) c' (left i2) (Some p) → c'.begun ≡ true → Advanced d (p.place + p.length) (whole_of p) m
+      → GrowsByPrefix (held o1) (raw_of (due_of m)) (held o2) → Text i0 i2 (λ text. IsCut text (output o0 o2))
+  due_text i0 i1 i2 o0 o1 o2 c c' d m p so handed begun a cut = record {
+    bytes = so.bytes ++ handed.bytes;
+    moved = moves_on so.moved handed.moved;
+    told = λ rest e.
+        let g = given i0 i1 i2 o0 o1 c c' d p so handed begun rest e in
+        subst (λ (t : List ℕ). IsCut t (output o0 o2)) (sym (append_assoc so.bytes handed.bytes rest))
+        (due_cut _ p.place (whole_of p) (left_of c' rest) so.frames d m o0 o1 o2 g.0 so.none g.1 (subst (λ (x : ℕ). Advanced d (p.place + x) (whole_of p) m) g.2 a) so.grown cut);
+  }
+
+  -- output failed behind a piece
+  pub put_stopped : (i0 i1 i2 : S) (o0 o1 o2 : K) (c c' : Cutting) (d m : Decoding) (p : Piece) (e : DecodeError) → output_faults o0 ≤ output_faults o1
+      → With i0 i1 o0 o1 c d → Handed c (left i1) c' (left i2) (Some p) → c'.begun ≡ true → Advanced d (p.place + p.length) (whole_of p) m
+      → Cuts (raw_of (due_of m)) (output o1 o2) e → Fails (input i0 i2) (output o0 o2) e
+  put_stopped i0 i1 i2 o0 o1 o2 c c' d m p errors.Read rises so handed begun a cut = absurd cut
+  put_stopped i0 i1 i2 o0 o1 o2 c c' d m p errors.Write rises so handed begun a cut = (rose_since rises cut.0, due_text i0 i1 i2 o0 o1 o2 c c' d m p so handed begun a cut.1)
+  put_stopped i0 i1 i2 o0 o1 o2 c c' d m p (errors.Stream f) rises so handed begun a cut = absurd cut
+  put_stopped i0 i1 i2 o0 o1 o2 c c' d m p errors.TooLong rises so handed begun a cut = absurd cut
+  put_stopped i0 i1 i2 o0 o1 o2 c c' d m p errors.PictureTooLarge rises so handed begun a cut = absurd cut
+  put_stopped i0 i1 i2 o0 o1 o2 c c' d m p errors.Memory rises so handed begun a cut = due_text i0 i1 i2 o0 o1 o2 c c' d m p so handed begun a cut
+
+  -- no piece was left
+  pub pieces_done : (i0 i1 i2 : S) (o0 o1 : K) (c c' : Cutting) (d : Decoding) → With i0 i1 o0 o1 c d → Handed c (left i1) c' (left i2) None → c'.ended ≡ true → c'.place ≤ most_input → IsDone (input i0 i2) (output o0 o1) c' d
+  pieces_done i0 i1 i2 o0 o1 c c' d so handed over most = record {
+    bytes = so.bytes ++ handed.bytes;
+    moved = moves_on so.moved handed.moved;
+    frames = so.frames;
+    grown = so.grown;
+    shown = so.shown;
+    none = so.none;
+    going = so.going;
+    sound = so.sound;
+    over = over;
+    most = most;
+    told = λ rest e.
+        let next = handed.next rest e in
+        let r = so.told (handed.bytes ++ rest) (moved_some (left i1) (left i2) handed.bytes rest handed.moved e) in
+        subst (λ (t : List ℕ). Reached t c'.place [] so.frames d) (sym (append_assoc so.bytes handed.bytes rest))
+        (subst (λ (x : ℕ). Reached (so.bytes ++ (handed.bytes ++ rest)) x [] so.frames d) (sym next.2)
+        (subst (λ (ps : List (List ℕ)). Reached (so.bytes ++ (handed.bytes ++ rest)) (start_of_rest c (handed.bytes ++ rest)) ps so.frames d) next.0 r));
+  }

@@ -1,15 +1,15 @@
 -- Frame after frame: what stands after one more is written, and where writing stops.
-use Rattle.std.proofs.Common.{◌≡◌, ℕ, ◌+◌, List, [], ◌∷◌, ◌++◌, length, map, Option, refl, sym, subst, ap, ◌∙◌, append_assoc, arith, false}
+use Rattle.std.proofs.Common.{◌≡◌, ℕ, ◌+◌, ◌≤◌, List, [], ◌∷◌, ◌++◌, length, map, Option, refl, sym, subst, ap, ◌∙◌, append_assoc, arith, false}
 use Rattle.std.proofs.lemmas.List.{length-append, append-nil, map-append}
 use Rattle.std.proofs.lemmas.List.Concat.{flat_map-append}
+use Rattle.m2v_port.specs.Ends.{Change, change}
 use Rattle.m2v_port.specs.Port.{Grows, GrowsByPrefix}
-use Rattle.m2v_port.proofs.Runs.{grows_on, grows_by_nothing, prefix_on, prefix_of_more}
+use Rattle.m2v_port.proofs.Runs.{rose_since, grows_on, grows_by_nothing, prefix_on, prefix_of_more}
 use Rattle.m2v_plane.specs.Samples.{Samples}
 use Rattle.m2v_plane.specs.Raw.{raw, crop}
 use Rattle.m2v_piece.specs.declared.answer.DecodeError.{DecodeError}
 use Rattle.m2v_piece.specs.declared.answer.DecodeError.TheVariants as errors
 use Rattle.m2v_decoder.specs.Decoding.{Decoding, due_of, HandsOut}
-use Rattle.m2v_decode.specs.Answers.{Change}
 use Rattle.m2v_decode.specs.Progress.{raw_of, Cuts, HasPut}
 
 pub raw-append : (fs gs : List Samples) → raw_of (fs ++ gs) ≡ raw_of fs ++ raw_of gs
@@ -30,33 +30,6 @@ pub record HasPutSome (old new : Decoding) (held : Change) : Type 0 where
   pub pictures : new.pictures ≡ old.pictures
   pub shown : new.shown ≡ old.shown + length frames
 
-pub put_none : (d : Decoding) (h : Option (List ℕ)) → HasPutSome d d (record { old = h; new = h })
-put_none d h = record {
-  frames = [];
-  due = refl;
-  grown = grows_by_nothing h;
-  state = refl;
-  anchor = λ going. refl;
-  ended = refl;
-  failed = refl;
-  pictures = refl;
-  shown = omega arith;
-}
-
-pub put_more : (old mid new : Decoding) (f : Samples) (h0 h1 h2 : Option (List ℕ))
-    → HasPutSome old mid (record { old = h0; new = h1 }) → HandsOut mid f new → Grows h1 (crop f) h2 → HasPutSome old new (record { old = h0; new = h2 })
-put_more old mid new f h0 h1 h2 so next grown = record {
-  frames = so.frames ++ f ∷ [];
-  due = so.due ∙ ap (λ (t : List Samples). so.frames ++ t) next.due ∙ sym (append_assoc so.frames (f ∷ []) (due_of new));
-  grown = subst (λ (b : List ℕ). Grows h0 b h2) (sym (raw_one so.frames f)) (grows_on so.grown grown);
-  state = next.state ∙ so.state;
-  anchor = λ going. next.anchor (so.ended ∙ going) ∙ so.anchor going;
-  ended = next.ended ∙ so.ended;
-  failed = next.failed ∙ so.failed;
-  pictures = next.pictures ∙ so.pictures;
-  shown = omega (arith, next.shown, so.shown, length-append so.frames (f ∷ []));
-}
-
 pub all_due : (old new : Decoding) (held : Change) → (so : HasPutSome old new held) → due_of new ≡ [] → so.frames ≡ due_of old
 all_due old new held so none = sym (so.due ∙ ap (λ (t : List Samples). so.frames ++ t) none ∙ append-nil so.frames)
 
@@ -71,21 +44,53 @@ put_all old new held so none = record {
   shown = so.shown ∙ ap (λ (t : List Samples). old.shown + length t) (all_due old new held so none);
 }
 
-pub put_whole : (old new : Decoding) (h0 h1 : Option (List ℕ)) → HasPutSome old new (record { old = h0; new = h1 }) → due_of new ≡ [] → Grows h0 (raw_of (due_of old)) h1
-put_whole old new h0 h1 so none = subst (λ (t : List Samples). Grows h0 (raw_of t) h1) (all_due old new (record { old = h0; new = h1 }) so none) so.grown
+-- The output's states are o0, o1 and so on.
+module _ {K : Type 0} (held : K → Option (List ℕ)) (output_faults : K → ℕ) where
+  abbrev output : K → K → Change
+  output = change held output_faults
 
-cut_part : (old mid new : Decoding) (f : Samples) (h0 h1 h2 : Option (List ℕ))
-    → HasPutSome old mid (record { old = h0; new = h1 }) → HandsOut mid f new → GrowsByPrefix h1 (crop f) h2 → GrowsByPrefix h0 (raw_of (due_of old)) h2
-cut_part old mid new f h0 h1 h2 so next cut =
-    let due : raw_of (due_of old) ≡ raw_of so.frames ++ (crop f ++ raw_of (due_of new)) = ap raw_of (so.due ∙ ap (λ (t : List Samples). so.frames ++ t) next.due) ∙ raw-append so.frames (f ∷ due_of new) in
-    subst (λ (b : List ℕ). GrowsByPrefix h0 b h2) (sym due) (prefix_on so.grown (prefix_of_more cut (raw_of (due_of new))))
+  pub put_none : (d : Decoding) (o0 : K) → HasPutSome d d (output o0 o0)
+  put_none d o0 = record {
+    frames = [];
+    due = refl;
+    grown = grows_by_nothing (held o0);
+    state = refl;
+    anchor = λ going. refl;
+    ended = refl;
+    failed = refl;
+    pictures = refl;
+    shown = omega arith;
+  }
 
-pub put_cut : (OutputRose OutputRose' : Type 0) (old mid new : Decoding) (f : Samples) (h0 h1 h2 : Option (List ℕ)) (e : DecodeError) → (OutputRose → OutputRose')
-    → HasPutSome old mid (record { old = h0; new = h1 }) → HandsOut mid f new → Cuts OutputRose (crop f) (record { old = h1; new = h2 }) e
-    → Cuts OutputRose' (raw_of (due_of old)) (record { old = h0; new = h2 }) e
-put_cut OutputRose OutputRose' old mid new f h0 h1 h2 errors.Read rose so next cut = absurd cut
-put_cut OutputRose OutputRose' old mid new f h0 h1 h2 errors.Write rose so next cut = (rose cut.0, cut_part old mid new f h0 h1 h2 so next cut.1)
-put_cut OutputRose OutputRose' old mid new f h0 h1 h2 (errors.Stream x) rose so next cut = absurd cut
-put_cut OutputRose OutputRose' old mid new f h0 h1 h2 errors.TooLong rose so next cut = absurd cut
-put_cut OutputRose OutputRose' old mid new f h0 h1 h2 errors.PictureTooLarge rose so next cut = absurd cut
-put_cut OutputRose OutputRose' old mid new f h0 h1 h2 errors.Memory rose so next cut = cut_part old mid new f h0 h1 h2 so next cut
+  pub put_more : (old mid new : Decoding) (f : Samples) (o0 o1 o2 : K)
+      → HasPutSome old mid (output o0 o1) → HandsOut mid f new → Grows (held o1) (crop f) (held o2) → HasPutSome old new (output o0 o2)
+  put_more old mid new f o0 o1 o2 so next grown = record {
+    frames = so.frames ++ f ∷ [];
+    due = so.due ∙ ap (λ (t : List Samples). so.frames ++ t) next.due ∙ sym (append_assoc so.frames (f ∷ []) (due_of new));
+    grown = subst (λ (b : List ℕ). Grows (held o0) b (held o2)) (sym (raw_one so.frames f)) (grows_on so.grown grown);
+    state = next.state ∙ so.state;
+    anchor = λ going. next.anchor (so.ended ∙ going) ∙ so.anchor going;
+    ended = next.ended ∙ so.ended;
+    failed = next.failed ∙ so.failed;
+    pictures = next.pictures ∙ so.pictures;
+    shown = omega (arith, next.shown, so.shown, length-append so.frames (f ∷ []));
+  }
+
+  pub put_whole : (old new : Decoding) (o0 o1 : K) → HasPutSome old new (output o0 o1) → due_of new ≡ [] → Grows (held o0) (raw_of (due_of old)) (held o1)
+  put_whole old new o0 o1 so none = subst (λ (t : List Samples). Grows (held o0) (raw_of t) (held o1)) (all_due old new (output o0 o1) so none) so.grown
+
+  cut_part : (old mid new : Decoding) (f : Samples) (o0 o1 o2 : K)
+      → HasPutSome old mid (output o0 o1) → HandsOut mid f new → GrowsByPrefix (held o1) (crop f) (held o2) → GrowsByPrefix (held o0) (raw_of (due_of old)) (held o2)
+  cut_part old mid new f o0 o1 o2 so next cut =
+      let due : raw_of (due_of old) ≡ raw_of so.frames ++ (crop f ++ raw_of (due_of new)) = ap raw_of (so.due ∙ ap (λ (t : List Samples). so.frames ++ t) next.due) ∙ raw-append so.frames (f ∷ due_of new) in
+      subst (λ (b : List ℕ). GrowsByPrefix (held o0) b (held o2)) (sym due) (prefix_on so.grown (prefix_of_more cut (raw_of (due_of new))))
+
+  pub put_cut : (old mid new : Decoding) (f : Samples) (o0 o1 o2 : K) (e : DecodeError) → output_faults o0 ≤ output_faults o1
+      → HasPutSome old mid (output o0 o1) → HandsOut mid f new → Cuts (crop f) (output o1 o2) e
+      → Cuts (raw_of (due_of old)) (output o0 o2) e
+  put_cut old mid new f o0 o1 o2 errors.Read rises so next cut = absurd cut
+  put_cut old mid new f o0 o1 o2 errors.Write rises so next cut = (rose_since rises cut.0, cut_part old mid new f o0 o1 o2 so next cut.1)
+  put_cut old mid new f o0 o1 o2 (errors.Stream x) rises so next cut = absurd cut
+  put_cut old mid new f o0 o1 o2 errors.TooLong rises so next cut = absurd cut
+  put_cut old mid new f o0 o1 o2 errors.PictureTooLarge rises so next cut = absurd cut
+  put_cut old mid new f o0 o1 o2 errors.Memory rises so next cut = cut_part old mid new f o0 o1 o2 so next cut

@@ -1,5 +1,6 @@
 -- What decoding a stream answers, and what stands then in input and output.
-use Rattle.std.specs.Prelude.{◌≡◌, ℕ, ◌+◌, ◌≤◌, List, [], ◌∷◌, ◌++◌, length, Option, Some, None, Ok, Err}
+use Rattle.std.specs.Prelude.{◌≡◌, ℕ, ◌+◌, ◌≤◌, List, [], ◌∷◌, ◌++◌, length, Some, None, Ok, Err}
+use Rattle.m2v_port.specs.Ends.{Change}
 use Rattle.m2v_port.specs.Port.{Moves, Grows, GrowsByPrefix}
 use Rattle.m2v_plane.specs.Raw.{raw}
 use Rattle.m2v_model.specs.declared.fault.FaultKind.{FaultKind}
@@ -15,11 +16,6 @@ use Rattle.m2v_piece.specs.declared.answer.DecodeError.{DecodeError}
 use Rattle.m2v_piece.specs.declared.answer.DecodeError.TheVariants as errors
 use Rattle.m2v_piece.specs.Cutting.{Stops}
 use Rattle.m2v_decode.specs.declared.answer.Decoded.{Decoded}
-
--- what an endpoint tells, before and after
-pub record Change : Type 0 where
-  pub old : Option (List ℕ)
-  pub new : Option (List ℕ)
 
 -- where the first piece of a text begins
 abbrev pub start_of : List ℕ → ℕ
@@ -100,11 +96,11 @@ pub record Of (left : Change) (Holds : List ℕ → Type 0) : Type 0 where
   pub moved : Moves left.old bytes left.new
   pub told : (rest : List ℕ) → left.new ≡ Some rest → Holds (bytes ++ rest)
 
--- When each error comes, and what stands then. `InputRose` and `OutputRose` say that the endpoint's count rose.
-abbrev pub Fails : (InputRose OutputRose : Type 0) → Change → Change → DecodeError → Type 0
-Fails InputRose OutputRose left held errors.Read = InputRose × Of left (λ text. IsCut text held)
-Fails InputRose OutputRose left held errors.Write = OutputRose × Of left (λ text. IsCut text held)
-Fails InputRose OutputRose left held (errors.Stream f) = Of left (λ text. IsFaulty text held f)
-Fails InputRose OutputRose left held errors.TooLong = Of left (λ text. IsOver text held errors.TooLong)
-Fails InputRose OutputRose left held errors.PictureTooLarge = Of left (λ text. IsOver text held errors.PictureTooLarge)
-Fails InputRose OutputRose left held errors.Memory = Of left (λ text. IsCut text held)
+-- When each error comes, and what stands then.
+abbrev pub Fails : Change → Change → DecodeError → Type 0
+Fails left held errors.Read = left.Failed × Of left (λ text. IsCut text held)
+Fails left held errors.Write = held.Failed × Of left (λ text. IsCut text held)
+Fails left held (errors.Stream f) = Of left (λ text. IsFaulty text held f)
+Fails left held errors.TooLong = Of left (λ text. IsOver text held errors.TooLong)
+Fails left held errors.PictureTooLarge = Of left (λ text. IsOver text held errors.PictureTooLarge)
+Fails left held errors.Memory = Of left (λ text. IsCut text held)

@@ -1,6 +1,7 @@
 -- What is answered to a text, and that no other answer comes: by its decoding, its first fault, or the limit that a piece
 -- passes first.
 use Rattle.std.specs.Prelude.{◌≡◌, ℕ, ◌≤◌, List, length, Result, Ok, Err}
+use Rattle.m2v_port.specs.Ends.{Change}
 use Rattle.m2v_model.specs.declared.state.State.{State}
 use Rattle.m2v_model.specs.Pictures.{Pictures}
 use Rattle.m2v_model.specs.Pieces.{pieces, most_input, Limit, too_long, too_large}
@@ -44,15 +45,15 @@ error_of too_long = errors.TooLong
 error_of too_large = errors.PictureTooLarge
 
 -- This is answered. In its place may come want of memory, and a failed endpoint where a count rose.
-pub data Gives (InputRose OutputRose : Type 0) (answer result : Result Decoded DecodeError) : Type 0 where
-  as_said : result ≡ answer → Gives InputRose OutputRose answer result
-  read : result ≡ Err errors.Read → InputRose → Gives InputRose OutputRose answer result
-  write : result ≡ Err errors.Write → OutputRose → Gives InputRose OutputRose answer result
-  memory : result ≡ Err errors.Memory → Gives InputRose OutputRose answer result
+pub data Gives (left held : Change) (answer result : Result Decoded DecodeError) : Type 0 where
+  as_said : result ≡ answer → Gives left held answer result
+  read : result ≡ Err errors.Read → left.Failed → Gives left held answer result
+  write : result ≡ Err errors.Write → held.Failed → Gives left held answer result
+  memory : result ≡ Err errors.Memory → Gives left held answer result
 
 -- What is answered to a text: where it decodes under the limits its numbers; where its first fault comes before a limit that
 -- fault; where a limit is passed before a fault that limit.
-pub record IsAnswered (InputRose OutputRose : Type 0) (result : Result Decoded DecodeError) (text : List ℕ) : Type 0 where
-  pub decodes : (frames : List (List ℕ)) (d : Decodes text frames) → IsUnderLimits text → Gives InputRose OutputRose (Ok (counted d)) result
-  pub faulty : (f : Fault) → FaultAt text f.place f.kind → IsReached text f → Gives InputRose OutputRose (Err (errors.Stream f)) result
-  pub over : (l : Limit) → IsPast text l → Gives InputRose OutputRose (Err (error_of l)) result
+pub record IsAnswered (left held : Change) (result : Result Decoded DecodeError) (text : List ℕ) : Type 0 where
+  pub decodes : (frames : List (List ℕ)) (d : Decodes text frames) → IsUnderLimits text → Gives left held (Ok (counted d)) result
+  pub faulty : (f : Fault) → FaultAt text f.place f.kind → IsReached text f → Gives left held (Err (errors.Stream f)) result
+  pub over : (l : Limit) → IsPast text l → Gives left held (Err (error_of l)) result

@@ -1,5 +1,6 @@
 -- Decoding under way: what stands between two pieces.
 use Rattle.std.specs.Prelude.{◌≡◌, ℕ, ◌+◌, ◌≤◌, Bool, true, false, List, [], ◌++◌, length, map, Some, None, Err}
+use Rattle.m2v_port.specs.Ends.{Change}
 use Rattle.m2v_port.specs.Port.{Moves, Grows, GrowsByPrefix}
 use Rattle.m2v_plane.specs.Samples.{Samples}
 use Rattle.m2v_plane.specs.Raw.{raw, crop}
@@ -11,7 +12,7 @@ use Rattle.m2v_piece.specs.declared.answer.DecodeError.TheVariants as errors
 use Rattle.m2v_piece.specs.Cutting.{Cutting, left_of, start_of as start_of_rest}
 use Rattle.m2v_decoder.specs.Decoding.{Decoding, due_of, Agrees, Shows, Finished}
 use Rattle.m2v_decode.specs.declared.answer.Decoded.{Decoded}
-use Rattle.m2v_decode.specs.Answers.{Change, Begun, behind}
+use Rattle.m2v_decode.specs.Answers.{Begun, behind}
 
 -- frames as raw video
 abbrev pub raw_of : List Samples → List ℕ
@@ -22,13 +23,13 @@ abbrev pub before_all : Cutting
 before_all = record { place = 0; unread = []; begun = false; ended = false; failed = false }
 
 -- why bytes weren't written whole: output failed or memory ran out, and a prefix of them stands
-abbrev pub Cuts : (OutputRose : Type 0) → List ℕ → Change → DecodeError → Type 0
-Cuts OutputRose bytes held errors.Read = ⊥
-Cuts OutputRose bytes held errors.Write = OutputRose × GrowsByPrefix held.old bytes held.new
-Cuts OutputRose bytes held (errors.Stream f) = ⊥
-Cuts OutputRose bytes held errors.TooLong = ⊥
-Cuts OutputRose bytes held errors.PictureTooLarge = ⊥
-Cuts OutputRose bytes held errors.Memory = GrowsByPrefix held.old bytes held.new
+abbrev pub Cuts : List ℕ → Change → DecodeError → Type 0
+Cuts bytes held errors.Read = ⊥
+Cuts bytes held errors.Write = held.Failed × GrowsByPrefix held.old bytes held.new
+Cuts bytes held (errors.Stream f) = ⊥
+Cuts bytes held errors.TooLong = ⊥
+Cuts bytes held errors.PictureTooLarge = ⊥
+Cuts bytes held errors.Memory = GrowsByPrefix held.old bytes held.new
 
 -- the frames that were due were handed out
 pub record HasPut (old new : Decoding) : Type 0 where
@@ -82,10 +83,10 @@ pub record Ends (old : Decoding) (end : ℕ) (d : Decoded) (held : Change) : Typ
   pub numbers : d ≡ record { frames = old.shown + length (due_of new); pictures = old.pictures; dropped = 0 }
 
 -- why not
-abbrev pub EndFails : (OutputRose : Type 0) → Decoding → ℕ → Change → DecodeError → Type 0
-EndFails OutputRose old end held errors.Read = ⊥
-EndFails OutputRose old end held errors.Write = OutputRose × ((new : Decoding) × Finished old end new × GrowsByPrefix held.old (raw_of (due_of new)) held.new)
-EndFails OutputRose old end held (errors.Stream f) = (piece_read old.state end [] ≡ Err (f.kind, f.place)) × (held.new ≡ held.old)
-EndFails OutputRose old end held errors.TooLong = ⊥
-EndFails OutputRose old end held errors.PictureTooLarge = ⊥
-EndFails OutputRose old end held errors.Memory = (new : Decoding) × Finished old end new × GrowsByPrefix held.old (raw_of (due_of new)) held.new
+abbrev pub EndFails : Decoding → ℕ → Change → DecodeError → Type 0
+EndFails old end held errors.Read = ⊥
+EndFails old end held errors.Write = held.Failed × ((new : Decoding) × Finished old end new × GrowsByPrefix held.old (raw_of (due_of new)) held.new)
+EndFails old end held (errors.Stream f) = (piece_read old.state end [] ≡ Err (f.kind, f.place)) × (held.new ≡ held.old)
+EndFails old end held errors.TooLong = ⊥
+EndFails old end held errors.PictureTooLarge = ⊥
+EndFails old end held errors.Memory = (new : Decoding) × Finished old end new × GrowsByPrefix held.old (raw_of (due_of new)) held.new

@@ -1,5 +1,6 @@
 ghost use Rattle.std.specs.Prelude.{◌≡◌, ◌+◌, ◌*◌, ◌/◌, ◌≤◌, map, IsTrue, IfOk, IfErr, OnOk, false};
-ghost use Rattle.m2v_port.specs.Port.{Rose, Grows};
+ghost use Rattle.m2v_port.specs.Ends.{change, SinkStays};
+ghost use Rattle.m2v_port.specs.Port.{Grows};
 ghost use Rattle.m2v_plane.specs.Sizes.{IsSize};
 ghost use Rattle.m2v_plane.specs.Raw.{frame_bytes, crop, raw};
 ghost use Rattle.m2v_decoder.specs.Decoding.{due_of};
@@ -34,10 +35,9 @@ fn raw_of(alloc: Global, frame: &Frame) -> Result<Vec<u8>, std::alloc::AllocErro
 fn put_frame<K: Sink>(alloc: Global, frame: &Frame, output: &mut K) -> Result<(), DecodeError>
     requires output { IsTrue (K.ready output.old) }
     ensures grown { OnOk result (Grows (K.held output.old) (crop frame.now) (K.held output.new)) }
-    ensures err { IfErr result (Cuts (Rose (K.faults output.old) (K.faults output.new)) (crop frame.now) (record { old = K.held output.old; new = K.held output.new })) }
-    ensures output { IsTrue (K.ready output.new) }
-    ensures name { K.name output.new ≡ K.name output.old }
-    ensures faults { K.faults output.old ≤ K.faults output.new }
+    ensures err { IfErr result (Cuts (crop frame.now)
+        (change K.held K.faults output.old output.new)) }
+    ensures output { SinkStays K.ready K.name K.faults output.old output.new }
 {
     let raw = raw_of(alloc, frame)?;
     match output.put(&raw) {
@@ -57,10 +57,9 @@ pub fn put_due<K: Sink>(
     requires output { IsTrue (K.ready output.old) }
     ensures put { OnOk result (HasPut decoder.old decoder.new) }
     ensures grown { OnOk result (Grows (K.held output.old) (raw (map crop (due_of decoder.old))) (K.held output.new)) }
-    ensures err { IfErr result (Cuts (Rose (K.faults output.old) (K.faults output.new)) (raw (map crop (due_of decoder.old))) (record { old = K.held output.old; new = K.held output.new })) }
-    ensures output { IsTrue (K.ready output.new) }
-    ensures name { K.name output.new ≡ K.name output.old }
-    ensures faults { K.faults output.old ≤ K.faults output.new }
+    ensures err { IfErr result (Cuts (raw (map crop (due_of decoder.old)))
+        (change K.held K.faults output.old output.new)) }
+    ensures output { SinkStays K.ready K.name K.faults output.old output.new }
 {
     while let Some(frame) = decoder.due() {
         put_frame(alloc, &frame, output)?;

@@ -1,5 +1,5 @@
 ghost use Rattle.std.specs.Prelude.{◌≡◌, ◌≤◌, ◌<◌, ◌^◌, IsTrue, IfOk, IfErr, IfSome, OnOk, false};
-ghost use Rattle.m2v_port.specs.Port.{Rose};
+ghost use Rattle.m2v_port.specs.Ends.{change, Tells, SinkStays};
 ghost use Rattle.m2v_decoder.specs.Decoding.{at_start};
 ghost use Rattle.m2v_decode.specs.Answers.{Of, IsDecoded, Fails};
 ghost use Rattle.m2v_decode.specs.Complete.{IsAnswered};
@@ -23,13 +23,15 @@ fn read_pieces<S: Source, K: Sink>(
     requires cutter { cutter.old ≡ before_all }
     requires decoder { decoder.old ≡ at_start }
     requires output { IsTrue (K.ready output.old) }
-    ensures ok { OnOk result (IsDone (record { old = S.left input.old; new = S.left input.new }) (record { old = K.held output.old; new = K.held output.new }) cutter.new decoder.new) }
+    ensures ok { OnOk result (IsDone
+        (change S.left S.faults input.old input.new)
+        (change K.held K.faults output.old output.new) cutter.new decoder.new) }
     ensures most { OnOk result (cutter.new.place ≤ 2 ^ 36) }
-    ensures err { IfErr result (Fails (Rose (S.faults input.old) (S.faults input.new)) (Rose (K.faults output.old) (K.faults output.new)) (record { old = S.left input.old; new = S.left input.new }) (record { old = K.held output.old; new = K.held output.new })) }
-    ensures output { IsTrue (K.ready output.new) }
-    ensures name { K.name output.new ≡ K.name output.old }
-    ensures input_faults { S.faults input.old ≤ S.faults input.new }
-    ensures output_faults { K.faults output.old ≤ K.faults output.new }
+    ensures err { IfErr result (Fails
+        (change S.left S.faults input.old input.new)
+        (change K.held K.faults output.old output.new)) }
+    ensures output { SinkStays K.ready K.name K.faults output.old output.new }
+    ensures input { S.faults input.old ≤ S.faults input.new }
 {
     loop {
         match cutter.next_piece(alloc, input) {
@@ -54,11 +56,11 @@ fn finish<K: Sink>(
     requires before { decoder.old.ended ≡ false }
     requires end { end ≤ 2 ^ 36 }
     requires output { IsTrue (K.ready output.old) }
-    ensures ok { IfOk result (λ d. Ends decoder.old end d (record { old = K.held output.old; new = K.held output.new })) }
-    ensures err { IfErr result (EndFails (Rose (K.faults output.old) (K.faults output.new)) decoder.old end (record { old = K.held output.old; new = K.held output.new })) }
-    ensures output { IsTrue (K.ready output.new) }
-    ensures name { K.name output.new ≡ K.name output.old }
-    ensures faults { K.faults output.old ≤ K.faults output.new }
+    ensures ok { IfOk result (λ d. Ends decoder.old end d
+        (change K.held K.faults output.old output.new)) }
+    ensures err { IfErr result (EndFails decoder.old end
+        (change K.held K.faults output.old output.new)) }
+    ensures output { SinkStays K.ready K.name K.faults output.old output.new }
 {
     match decoder.end(end) {
         Err(f) => return Err(DecodeError::Stream(f)),
@@ -79,12 +81,14 @@ fn by_pieces<S: Source, K: Sink>(
     output: &mut K,
 ) -> Result<Decoded, DecodeError>
     requires output { IsTrue (K.ready output.old) }
-    ensures ok { IfOk result (λ d. Of (record { old = S.left input.old; new = S.left input.new }) (λ text. IsDecoded text (record { old = K.held output.old; new = K.held output.new }) d)) }
-    ensures err { IfErr result (Fails (Rose (S.faults input.old) (S.faults input.new)) (Rose (K.faults output.old) (K.faults output.new)) (record { old = S.left input.old; new = S.left input.new }) (record { old = K.held output.old; new = K.held output.new })) }
-    ensures output { IsTrue (K.ready output.new) }
-    ensures name { K.name output.new ≡ K.name output.old }
-    ensures input_faults { S.faults input.old ≤ S.faults input.new }
-    ensures output_faults { K.faults output.old ≤ K.faults output.new }
+    ensures ok { IfOk result (λ d. Of
+        (change S.left S.faults input.old input.new) (λ text. IsDecoded text
+        (change K.held K.faults output.old output.new) d)) }
+    ensures err { IfErr result (Fails
+        (change S.left S.faults input.old input.new)
+        (change K.held K.faults output.old output.new)) }
+    ensures output { SinkStays K.ready K.name K.faults output.old output.new }
+    ensures input { S.faults input.old ≤ S.faults input.new }
 {
     let mut cutter = Cutter::new(alloc)?;
     let mut decoder = Decoder::new(alloc)?;
@@ -105,14 +109,19 @@ pub fn decode<S: Source, K: Sink>(
     output: &mut K,
 ) -> Result<Decoded, DecodeError>
     requires output { IsTrue (K.ready output.old) }
-    ensures ok { IfOk result (λ d. Of (record { old = S.left input.old; new = S.left input.new }) (λ text. IsDecoded text (record { old = K.held output.old; new = K.held output.new }) d)) }
-    ensures err { IfErr result (Fails (Rose (S.faults input.old) (S.faults input.new)) (Rose (K.faults output.old) (K.faults output.new)) (record { old = S.left input.old; new = S.left input.new }) (record { old = K.held output.old; new = K.held output.new })) }
+    ensures ok { IfOk result (λ d. Of
+        (change S.left S.faults input.old input.new) (λ text. IsDecoded text
+        (change K.held K.faults output.old output.new) d)) }
+    ensures err { IfErr result (Fails
+        (change S.left S.faults input.old input.new)
+        (change K.held K.faults output.old output.new)) }
     // A text that decodes, that has a first fault or that passes a limit is answered so, and by nothing else.
-    ensures answer { IfSome (S.left input.old) (IsAnswered (Rose (S.faults input.old) (S.faults input.new)) (Rose (K.faults output.old) (K.faults output.new)) result) }
-    ensures output { IsTrue (K.ready output.new) }
-    ensures name { K.name output.new ≡ K.name output.old }
-    ensures input_faults { S.faults input.old ≤ S.faults input.new }
-    ensures output_faults { K.faults output.old ≤ K.faults output.new }
+    ensures answer { Tells
+        (change S.left S.faults input.old input.new) (IsAnswered
+        (change S.left S.faults input.old input.new)
+        (change K.held K.faults output.old output.new) result) }
+    ensures output { SinkStays K.ready K.name K.faults output.old output.new }
+    ensures input { S.faults input.old ≤ S.faults input.new }
 {
     by_pieces(alloc, input, output)
 }

@@ -17,9 +17,9 @@ use Rattle.m2v_block.specs.Texts.{IsBlock, code_text, level_text, run_after, pai
 use Rattle.m2v_block.specs.Texts.{block_text as text_of_block}
 use Rattle.m2v_block.proofs.Spellings.{block_spells}
 use Rattle.m2v_plane.specs.Samples.{Samples}
-use Rattle.m2v_encode.specs.Flat.{level, predictor, block_text, end_of_block}
-use Rattle.m2v_encode.specs.Recon.{flat_kind, flat_levels}
-use Rattle.m2v_encode.proofs.Predictions.{IsByte, level_byte, block_is}
+use Rattle.m2v_flat.specs.Flat.{level, predictor, block_text, end_of_block}
+use Rattle.m2v_flat.specs.Recon.{flat_kind, flat_levels}
+use Rattle.m2v_flat.proofs.Predictions.{IsByte, level_byte, block_is}
 
 byte_dc : (z : ℤ) → IsByte z → IsDc 0 z
 byte_dc z h = (h.least, omega (arith, ints, h.most))

@@ -1,10 +1,9 @@
 -- No prefix of a start code stands in the texts of the flat profile.
-use Rattle.std.proofs.Common.{◌≡◌, ℕ, zero, suc, ◌+◌, ◌%◌, ◌<◌, ◌≤◌, Bool, true, false, List, [], ◌∷◌, ◌++◌, length, replicate, refl, sym, subst, arith, inl, inr}
+use Rattle.std.proofs.Common.{◌≡◌, ℕ, ◌+◌, ◌%◌, ◌<◌, ◌≤◌, Bool, true, false, List, [], ◌∷◌, ◌++◌, length, refl, sym, subst, arith, inl, inr}
 use Rattle.std.specs.Prelude.{nat_lt, ◌-ℤ◌, ℤ, unsigned_abs}
-use Rattle.std.specs.List.{flat_map, range_with_len}
 use Rattle.std.proofs.lemmas.Bool.{cases_eq}
-use Rattle.std.proofs.lemmas.List.{length-append, length-replicate}
-use Rattle.m2v_bits.specs.Bits.{bits_of, to_edge}
+use Rattle.std.proofs.lemmas.List.{length-append}
+use Rattle.m2v_bits.specs.Bits.{bits_of}
 use Rattle.m2v_bits.proofs.Bits.{length-bits_of}
 use Rattle.m2v_vlc.specs.declared.values.Increment.TheVariants.{Step}
 use Rattle.m2v_vlc.specs.Codes.{code_of}
@@ -14,27 +13,11 @@ use Rattle.m2v_block.specs.Dc.{size_of, number_of, size_code, dc_text}
 use Rattle.m2v_block.proofs.Numbers.{size_most, code_most}
 use Rattle.m2v_head.specs.Texts.{sequence_text, sequence_extension_text, rates_text, picture_text, picture_extension_text, directions_text, flags_text, composite_text, slice_text, loaded_text}
 use Rattle.m2v_plane.specs.Samples.{Samples}
-use Rattle.m2v_encode.specs.declared.settings.FlatSettings.{FlatSettings}
-use Rattle.m2v_encode.specs.Flat.{flat_sequence, flat_sequence_extension, flat_picture, flat_picture_extension, flat_slice, level, predictor, block_text, blocks_text, end_of_block, macroblock_text, row_text}
-use Rattle.m2v_encode.proofs.UnitLaws.{sequence_extension_length, slice_length}
-use Rattle.m2v_flat.proofs.Calm.{Calm, calm_more, calm_less, calm_then, calm_any, calm_one, some_one}
-use Rattle.m2v_flat.proofs.Units.{ended, IsCalm}
-
--- the zeros behind a text that leaves seven more
-pub calm_end : (t : List Bool) → Calm 22 t 7 → IsCalm t
-unfolding ended
-calm_end t h =
-    let zeros = replicate (to_edge (32 + length t)) false in
-    let few : length zeros ≤ 7 = omega (arith, length-replicate (to_edge (32 + length t)) false) in
-    record { calm = calm_then t zeros 22 7 0 h (calm_any zeros 7 0 (omega arith) (omega arith)) }
-
--- a text that ends at the edge of a byte
-calm_whole : (t : List Bool) → length t % 8 ≡ 0 → Calm 22 t 6 → IsCalm t
-unfolding ended
-calm_whole t edge h =
-    let zeros = replicate (to_edge (32 + length t)) false in
-    let none : length zeros ≤ 0 = omega (arith, length-replicate (to_edge (32 + length t)) false) in
-    record { calm = calm_then t zeros 22 6 0 h (calm_any zeros 6 0 (omega arith) (omega arith)) }
+use Rattle.m2v_flat.specs.declared.settings.FlatSettings.{FlatSettings}
+use Rattle.m2v_flat.specs.Flat.{flat_sequence, flat_sequence_extension, flat_picture, flat_picture_extension, flat_slice, level, predictor, block_text, blocks_text, end_of_block, macroblock_text, row_text}
+use Rattle.m2v_flat.proofs.UnitLaws.{sequence_extension_length, slice_length}
+use Rattle.m2v_chain.specs.Texts.{Calm, IsCalm}
+use Rattle.m2v_chain.proofs.Calm.{calm_more, calm_less, calm_then, calm_any, calm_one, some_one, calm_end, calm_whole, calm_texts}
 
 -- ---- blocks
 
@@ -68,11 +51,6 @@ calm_block frame row column block =
     calm_then dc end_of_block 21 0 21 (calm_any dc 21 0 (omega arith) (omega arith)) calm_eob
 
 -- ---- macroblocks
-
--- texts one after another
-calm_texts : (text : ℕ → List Bool) (k : ℕ) → ((i : ℕ) → Calm k (text i) k) → (from n : ℕ) → Calm k (flat_map text (range_with_len from n)) k
-calm_texts text k each from zero = omega arith
-calm_texts text k each from (suc n) = calm_then (text from) (flat_map text (range_with_len (from + 1) n)) k k k (each from) (calm_texts text k each (from + 1) n)
 
 calm_blocks : (frame : Samples) (row column : ℕ) → Calm 21 (blocks_text frame row column) 21
 unfolding blocks_text

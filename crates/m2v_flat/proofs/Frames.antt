@@ -6,8 +6,8 @@ use Rattle.m2v_macro.specs.declared.values.PictureContext.{PictureContext}
 use Rattle.m2v_plane.specs.declared.dims.Dims.{Dims}
 use Rattle.m2v_plane.specs.Samples.{Samples, blank}
 use Rattle.m2v_plane.specs.Raw.{pad, crop}
-use Rattle.m2v_encode.specs.declared.settings.FlatSettings.{FlatSettings}
-use Rattle.m2v_encode.specs.Recon.{recon_frame, FlatRecon}
+use Rattle.m2v_flat.specs.declared.settings.FlatSettings.{FlatSettings}
+use Rattle.m2v_flat.specs.Recon.{recon_frame, FlatRecon}
 use Rattle.m2v_model.specs.declared.state.Open.{Open}
 use Rattle.m2v_model.specs.declared.state.State.{State}
 use Rattle.m2v_model.specs.States.{at_first, rows_of}

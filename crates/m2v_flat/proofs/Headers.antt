@@ -10,15 +10,16 @@ use Rattle.m2v_head.specs.Texts.{sequence_text, sequence_extension_text, rates_t
 use Rattle.m2v_head.specs.Fits.{SequenceFits, SequenceExtensionFits, PictureFits, PictureExtensionFits}
 use Rattle.m2v_head.specs.declared.sequence.SequenceInfo.{SequenceInfo}
 use Rattle.m2v_head.proofs.Spellings.{sequence_spells, sequence_extension_spells, picture_spells, picture_extension_spells}
-use Rattle.m2v_encode.specs.declared.settings.FlatSettings.{FlatSettings}
-use Rattle.m2v_encode.specs.Flat.{flat_sequence, flat_sequence_extension, flat_picture, flat_picture_extension}
+use Rattle.m2v_flat.specs.declared.settings.FlatSettings.{FlatSettings}
+use Rattle.m2v_flat.specs.Flat.{flat_sequence, flat_sequence_extension, flat_picture, flat_picture_extension}
 use Rattle.m2v_model.specs.declared.fault.FaultKind.TheVariants.{Truncated}
 use Rattle.m2v_model.specs.Faults.{Of}
 use Rattle.m2v_model.specs.Looking.{number_from, look, looking}
 use Rattle.m2v_model.specs.Units.{Units, inside}
 use Rattle.m2v_model.specs.Headers.{whole, size_of, size_at, sequence_in, sequence_extension_in, picture_in, f_code_at, f_codes_at, picture_extension_in}
 use Rattle.m2v_model.specs.Streams.{id_at, extension_in}
-use Rattle.m2v_flat.proofs.Units.{ended, ended_bits, unit_bytes}
+use Rattle.m2v_chain.specs.Texts.{ended, unit_bytes}
+use Rattle.m2v_chain.proofs.Units.{ended_bits}
 use Rattle.m2v_flat.proofs.Slices.{zeros_are}
 
 -- the zeros behind a text

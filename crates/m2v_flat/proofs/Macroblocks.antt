@@ -23,10 +23,10 @@ use Rattle.m2v_macro.specs.Texts.{macro_text, modes_text, directions_text, direc
 use Rattle.m2v_macro.proofs.Spellings.{then_spells}
 use Rattle.m2v_macro.proofs.MacroSpellings.{macro_spells}
 use Rattle.m2v_plane.specs.Samples.{Samples}
-use Rattle.m2v_encode.specs.Flat.{predictors, block_text, blocks_text, macroblock_text}
-use Rattle.m2v_encode.specs.Flat.{predictor as predictor_of}
-use Rattle.m2v_encode.specs.Recon.{flat_kind, flat_levels}
-use Rattle.m2v_encode.proofs.Predictions.{IsByte, level_byte, predictors_bytes}
+use Rattle.m2v_flat.specs.Flat.{predictors, block_text, blocks_text, macroblock_text}
+use Rattle.m2v_flat.specs.Flat.{predictor as predictor_of}
+use Rattle.m2v_flat.specs.Recon.{flat_kind, flat_levels}
+use Rattle.m2v_flat.proofs.Predictions.{IsByte, level_byte, predictors_bytes}
 use Rattle.m2v_recon.specs.Macro.{is_coded}
 use Rattle.m2v_block.specs.Blocks.{block_at}
 use Rattle.m2v_model.specs.Faults.{of_block, of_macro}

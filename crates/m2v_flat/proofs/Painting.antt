@@ -3,10 +3,8 @@ use Rattle.std.proofs.Common.{◌≡◌, ℕ, zero, suc, ◌+◌, ◌*◌, ◌/�
 use Rattle.std.specs.Prelude.{nat_eq, ◌&&◌, nat_abs, unsigned_abs, slice_index}
 use Rattle.std.specs.Int.{int_max, int_min}
 use Rattle.std.proofs.lemmas.Int.{ints, int_max_is}
-use Rattle.std.proofs.lemmas.Bool.{cases_Bool, cases_eq, and_parts, and_from, eqb-true, eq-eqb}
 use Rattle.std.proofs.lemmas.List.{length-replicate}
 use Rattle.std.proofs.lemmas.Nat.{div-mul-add, mod-mul-add}
-use Rattle.std.proofs.Math.Nat.{div-lt_iff_lt-mul}
 use Rattle.m2v_quant.specs.Coefficients.{coefficients_of}
 use Rattle.m2v_idct.specs.Inverse.{inverse_of}
 use Rattle.m2v_idct.specs.Block.{at}
@@ -15,15 +13,15 @@ use Rattle.m2v_plane.specs.declared.dims.Dims.{Dims}
 use Rattle.m2v_plane.specs.declared.planes.Plane.{Plane}
 use Rattle.m2v_plane.specs.declared.planes.Plane.TheVariants.{Y, Cb, Cr}
 use Rattle.m2v_plane.specs.Sizes.{side}
-use Rattle.m2v_plane.specs.Samples.{Samples, plane_by, blank}
-use Rattle.m2v_plane.proofs.Places.{plane_is, line_fits}
-use Rattle.m2v_plane.proofs.RawVideo.{length-plane_by, plane_at}
+use Rattle.m2v_plane.specs.Samples.{Samples, blank}
 use Rattle.m2v_recon.specs.Macro.{place_in, is_coded, residual, macro_sample, plane_with, with_macroblock}
 use Rattle.m2v_recon.specs.Macro as macro
-use Rattle.m2v_encode.specs.Recon.{flat_kind, flat_levels, rebuilt, recon_at, recon_frame}
-use Rattle.m2v_encode.specs.Recon as recon
+use Rattle.m2v_flat.specs.Recon.{flat_kind, flat_levels, rebuilt, recon_at, recon_frame}
+use Rattle.m2v_flat.specs.Recon as recon
 use Rattle.m2v_model.specs.Slices.{kind_for}
 use Rattle.m2v_model.specs.Pictures.{painted, all_painted}
+use Rattle.m2v_chain.specs.Painting.{HasPart}
+use Rattle.m2v_chain.proofs.Painting.{part_more, part_all, part_none}
 use Rattle.m2v_flat.specs.Tree.{flat_context, flat_macroblock, flat_macroblocks, state_inside, state_before}
 use Rattle.m2v_flat.proofs.Macroblocks.{inside_is, after_is}
 
@@ -93,57 +91,6 @@ sample_is quantiser columns frame row column Cb r c er ec =
 sample_is quantiser columns frame row column Cr r c er ec =
     by_block quantiser columns frame row column 5 (r % 8) (c % 8) (place_in Cr (r % 8) (c % 8)) _ (omega arith)
     ∙ rw (er, ec) refl
-
--- ---- planes
-
--- a plane whose first macroblocks have their samples
-pub record HasPart (side rows columns count : ℕ) (f : ℕ → ℕ → ℕ) (xs : List ℕ) : Type 0 where
-  pub len : length xs ≡ (side * rows) * (side * columns)
-  pub part : (r c : ℕ) → r < side * rows → c < side * columns → r / side * columns + c / side < count → get_or xs (r * (side * columns) + c) 0 ≡ f r c
-
-in_columns : (side columns c : ℕ) → 0 < side → c < side * columns → c / side < columns
-in_columns side columns c some lt = (div-lt_iff_lt-mul some).1 (omega (arith, mul_comm side columns))
-
--- one macroblock more
-part_more : (side rows columns row column : ℕ) (f new : ℕ → ℕ → ℕ) (xs : List ℕ) → 0 < side → column < columns → HasPart side rows columns (row * columns + column) f xs
-    → ((r c : ℕ) → r / side ≡ row → c / side ≡ column → new (r % side) (c % side) ≡ f r c)
-    → HasPart side rows columns (row * columns + suc column) f (plane_with (side * rows) (side * columns) side row column new xs)
-unfolding plane_with
-part_more side rows columns row column f new xs some small h same =
-    let at = λ (line c : ℕ). cond (nat_eq (line / side) row && nat_eq (c / side) column) (new (line % side) (c % side)) (get_or xs (line * (side * columns) + c) 0) in
-    record {
-      len = length-plane_by (side * rows) (side * columns) at;
-      part = λ r c lr lc below. plane_at (side * rows) (side * columns) at r c lr lc ∙ elim (cases_Bool (nat_eq (r / side) row && nat_eq (c / side) column)) [
-        | inl here ↦
-            let p = and_parts (nat_eq (r / side) row) (nat_eq (c / side) column) here in
-            rw here (same r c (eqb-true (r / side) row p.0) (eqb-true (c / side) column p.1))
-        | inr other ↦
-            let across : c / side < columns = in_columns side columns c some lc in
-            rw other (h.part r c lr lc (before (r / side) (c / side) across below other))
-      ];
-    }
-  where
-    -- another macroblock is one before
-    before : (a b : ℕ) → b < columns → a * columns + b < row * columns + suc column → (nat_eq a row && nat_eq b column) ≡ false → a * columns + b < row * columns + column
-    before a b lt below other = elim (cases_eq (a * columns + b) (row * columns + column)) [
-      | inl e ↦
-          let down : a ≡ row = sym (div-mul-add a columns b lt) ∙ ap (λ (n : ℕ). n / columns) e ∙ div-mul-add row columns column small in
-          let across : b ≡ column = sym (mod-mul-add a columns b lt) ∙ ap (λ (n : ℕ). n % columns) e ∙ mod-mul-add row columns column small in
-          let on : (nat_eq a row && nat_eq b column) ≡ true = and_from (nat_eq a row) (nat_eq b column) (eq-eqb a row down) (eq-eqb b column across) in
-          absurd cc
-      | inr other_one ↦ omega arith
-    ]
-
--- all macroblocks
-part_all : (side rows columns : ℕ) (f : ℕ → ℕ → ℕ) (xs : List ℕ) → 0 < side → HasPart side rows columns (rows * columns) f xs → xs ≡ plane_by (side * rows) (side * columns) f
-part_all side rows columns f xs some h =
-    plane_is xs (side * rows) (side * columns) f h.len (λ r c lr lc.
-    let down : r / side < rows = in_columns side rows r some lr in
-    let across : c / side < columns = in_columns side columns c some lc in
-    h.part r c lr lc (omega (arith, line_fits (r / side) rows columns (c / side + 1) down (omega arith))))
-
-pub part_none : (side rows columns : ℕ) (f : ℕ → ℕ → ℕ) (xs : List ℕ) → length xs ≡ (side * rows) * (side * columns) → HasPart side rows columns 0 f xs
-part_none side rows columns f xs len = record { len = len; part = λ r c lr lc below. absurd (omega arith) }
 
 -- ---- frames
 

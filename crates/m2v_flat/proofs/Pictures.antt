@@ -10,10 +10,10 @@ use Rattle.m2v_head.specs.Texts.{sequence_text, sequence_extension_text, picture
 use Rattle.m2v_plane.specs.declared.dims.Dims.{Dims}
 use Rattle.m2v_plane.specs.Samples.{Samples}
 use Rattle.m2v_plane.specs.Raw.{pad}
-use Rattle.m2v_encode.specs.declared.settings.FlatSettings.{FlatSettings}
-use Rattle.m2v_encode.specs.Answers.{HasPassed}
-use Rattle.m2v_encode.specs.Flat.{flat_sequence, flat_sequence_extension, flat_picture, flat_picture_extension, flat_slice, row_text}
-use Rattle.m2v_encode.proofs.Passing.{is_small}
+use Rattle.m2v_flat.specs.declared.settings.FlatSettings.{FlatSettings}
+use Rattle.m2v_flat.specs.Answers.{HasPassed}
+use Rattle.m2v_flat.specs.Flat.{flat_sequence, flat_sequence_extension, flat_picture, flat_picture_extension, flat_slice, row_text}
+use Rattle.m2v_flat.proofs.Passing.{is_small}
 use Rattle.m2v_model.specs.declared.state.Open.{Open}
 use Rattle.m2v_model.specs.declared.state.State.{State}
 use Rattle.m2v_model.specs.Units.{Units, unit_at, unit_bits}
@@ -22,10 +22,11 @@ use Rattle.m2v_model.specs.States.{at_first, is_complete, columns_of, rows_of}
 use Rattle.m2v_model.specs.Slices.{slice_at, context}
 use Rattle.m2v_model.specs.Streams.{sequence, picture, slice, after, close, extension_behind, sequence_unit, picture_unit, slice_in, slice_unit, onward, later_unit, known_unit}
 use Rattle.m2v_flat.specs.Tree.{flat_context, flat_row, flat_rows, sequence_of, open_picture, state_first, state_in, pictures_parts}
-use Rattle.m2v_flat.proofs.Units.{ended, unit_bytes}
+use Rattle.m2v_chain.specs.Texts.{ended, unit_bytes}
 use Rattle.m2v_flat.proofs.Slices.{slice_stands}
 use Rattle.m2v_flat.proofs.Headers.{behind, inside_stands, sequence_fits, sequence_stands, extension_stands, picture_stands, coding_stands, sequence_id, picture_id, extension_in_stands}
-use Rattle.m2v_flat.proofs.Chains.{Reads, Chain, nothing, link, chain_then}
+use Rattle.m2v_chain.specs.Chains.{Reads, Chain, nothing, link}
+use Rattle.m2v_chain.proofs.Chains.{chain_then}
 
 -- ---- the units
 

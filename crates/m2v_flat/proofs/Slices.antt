@@ -21,8 +21,8 @@ use Rattle.m2v_macro.specs.declared.values.SliceState.{SliceState}
 use Rattle.m2v_macro.specs.declared.values.PictureContext.{PictureContext}
 use Rattle.m2v_head.specs.declared.slice.SliceInfo.{SliceInfo}
 use Rattle.m2v_plane.specs.Samples.{Samples}
-use Rattle.m2v_encode.specs.Flat.{flat_slice, blocks_text, macroblock_text, row_text}
-use Rattle.m2v_encode.proofs.Lengths.{row_is}
+use Rattle.m2v_flat.specs.Flat.{flat_slice, blocks_text, macroblock_text, row_text}
+use Rattle.m2v_flat.proofs.Lengths.{row_is}
 use Rattle.m2v_model.specs.declared.state.Sequence.{Sequence}
 use Rattle.m2v_model.specs.declared.state.Open.{Open}
 use Rattle.m2v_model.specs.declared.state.State.{State}

@@ -5,11 +5,11 @@ use Rattle.m2v_bits.specs.Syntax.{seq, done, here, rule, choose, repeated, Round
 use Rattle.m2v_head.specs.Texts.{sequence_text, sequence_extension_text, picture_text, picture_extension_text, slice_text}
 use Rattle.m2v_plane.specs.Samples.{Samples}
 use Rattle.m2v_plane.specs.Raw.{pad}
-use Rattle.m2v_encode.specs.declared.settings.FlatSettings.{FlatSettings}
-use Rattle.m2v_encode.specs.Units.{unit}
-use Rattle.m2v_encode.specs.Answers.{HasPassed}
-use Rattle.m2v_encode.specs.Flat.{flat_sequence, flat_sequence_extension, flat_picture, flat_picture_extension, flat_slice, row_text, slice_unit, slices_units, sequence_units, picture_units, pictures_from, flat_text, Flat}
-use Rattle.m2v_encode.specs.Recon.{FlatRecon}
+use Rattle.m2v_flat.specs.declared.settings.FlatSettings.{FlatSettings}
+use Rattle.m2v_chain.specs.Units.{unit}
+use Rattle.m2v_flat.specs.Answers.{HasPassed}
+use Rattle.m2v_flat.specs.Flat.{flat_sequence, flat_sequence_extension, flat_picture, flat_picture_extension, flat_slice, row_text, slice_unit, slices_units, sequence_units, picture_units, pictures_from, flat_text, Flat}
+use Rattle.m2v_flat.specs.Recon.{FlatRecon}
 use Rattle.m2v_model.specs.declared.state.Open.{Open}
 use Rattle.m2v_model.specs.declared.state.State.{State}
 use Rattle.m2v_model.specs.Units.{Units, unit_at, unit_bits}
@@ -17,9 +17,12 @@ use Rattle.m2v_model.specs.States.{at_first}
 use Rattle.m2v_model.specs.Streams.{Part, Sofar, sequence, ending, after, close, end_unit, final, later_unit, known_unit, next_unit, unit_round, stream_at}
 use Rattle.m2v_model.specs.Decoding.{Decodes}
 use Rattle.m2v_flat.specs.Tree.{sequence_of, pictures_parts, stream_parts}
-use Rattle.m2v_flat.proofs.Units.{unit_bytes, Packs, packs_none, packs_unit, packs_append, packs_map, cuts_of}
-use Rattle.m2v_flat.proofs.CalmTexts.{sequence_calm, sequence_extension_calm, picture_calm, picture_extension_calm, slice_calm, calm_end}
-use Rattle.m2v_flat.proofs.Chains.{Chain, link, rounds_of}
+use Rattle.m2v_chain.specs.Texts.{unit_bytes, Packs}
+use Rattle.m2v_chain.proofs.Units.{packs_none, packs_unit, packs_append, packs_map, cuts_of}
+use Rattle.m2v_chain.proofs.Calm.{calm_end}
+use Rattle.m2v_flat.proofs.CalmTexts.{sequence_calm, sequence_extension_calm, picture_calm, picture_extension_calm, slice_calm}
+use Rattle.m2v_chain.specs.Chains.{Chain, link}
+use Rattle.m2v_chain.proofs.Chains.{rounds_of}
 use Rattle.m2v_flat.proofs.Pictures.{IsFlat, is_flat, state_with, IsWhole, sequence_bytes, extension_bytes, picture_bytes, coding_bytes, slice_bytes, rows_bytes, pictures_bytes, sequence_reads, pictures_chain}
 use Rattle.m2v_flat.proofs.Frames.{parts_show, first_state}
 

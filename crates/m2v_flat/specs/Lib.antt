@@ -1,1 +1,5 @@
+pub mod Answers
+pub mod Flat
+pub mod Recon
+pub mod Steps
 pub mod Tree

@@ -11,9 +11,9 @@ use Rattle.m2v_macro.specs.Macros.{macro_of, no_vectors}
 use Rattle.m2v_macro.specs.States.{at_start}
 use Rattle.m2v_plane.specs.Samples.{Samples}
 use Rattle.m2v_plane.specs.Raw.{pad}
-use Rattle.m2v_encode.specs.declared.settings.FlatSettings.{FlatSettings}
-use Rattle.m2v_encode.specs.Flat.{flat_sequence, flat_sequence_extension, flat_picture, flat_picture_extension, flat_slice, predictors}
-use Rattle.m2v_encode.specs.Recon.{flat_levels}
+use Rattle.m2v_flat.specs.declared.settings.FlatSettings.{FlatSettings}
+use Rattle.m2v_flat.specs.Flat.{flat_sequence, flat_sequence_extension, flat_picture, flat_picture_extension, flat_slice, predictors}
+use Rattle.m2v_flat.specs.Recon.{flat_levels}
 use Rattle.m2v_model.specs.declared.state.Sequence.{Sequence}
 use Rattle.m2v_model.specs.declared.state.Open.{Open}
 use Rattle.m2v_model.specs.declared.state.State.{State}

@@ -1,8 +1,8 @@
 ghost use Rattle.std.specs.Prelude.{ℕ, ◌≤◌, List, length};
-ghost use Rattle.m2v_encode.specs.declared.settings.FlatSettings.{FlatSettings};
-ghost use Rattle.m2v_encode.specs.Flat.{Flat};
-ghost use Rattle.m2v_encode.specs.Recon.{FlatRecon};
-ghost use Rattle.m2v_encode.specs.Answers.{HasPassed};
+ghost use Rattle.m2v_flat.specs.declared.settings.FlatSettings.{FlatSettings};
+ghost use Rattle.m2v_flat.specs.Flat.{Flat};
+ghost use Rattle.m2v_flat.specs.Recon.{FlatRecon};
+ghost use Rattle.m2v_flat.specs.Answers.{HasPassed};
 ghost use Rattle.m2v_model.specs.Decoding.{Decodes};
 
 /// The stream of the flat profile decodes to the frames that it stands for, and no fault stands in it.

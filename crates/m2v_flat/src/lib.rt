@@ -1,7 +1,14 @@
-//! The stream of the flat profile decodes to the frames that it stands for: the encoder's stream, held against the
-//! definitions of what a stream decodes to.
+//! The flat profile: a progressive sequence of I pictures of which each block has its DC alone, and the law that its
+//! stream decodes to the frames that it stands for.
 #![tactic(auto)]
 
+mod answer;
 mod laws;
+mod profile;
+mod settings;
+mod writing;
 
+pub use answer::{EncodeError, Summary};
 pub use laws::law_flat_decodes;
+pub use profile::flat;
+pub use settings::FlatSettings;

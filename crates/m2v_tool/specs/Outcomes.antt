@@ -1,7 +1,7 @@
 -- The statuses, and the line on report of each.
 use Rattle.std.specs.Prelude.{ℕ, List, [], ◌∷◌, ◌++◌, codes, decimal}
-use Rattle.m2v_encode.specs.declared.answer.EncodeError.{EncodeError}
-use Rattle.m2v_encode.specs.declared.answer.EncodeError.TheVariants as Error
+use Rattle.m2v_flat.specs.declared.answer.EncodeError.{EncodeError}
+use Rattle.m2v_flat.specs.declared.answer.EncodeError.TheVariants as Error
 use Rattle.m2v_model.specs.declared.fault.FaultKind.{FaultKind}
 use Rattle.m2v_model.specs.declared.fault.FaultKind.TheVariants as kinds
 use Rattle.m2v_piece.specs.declared.answer.DecodeError.{DecodeError}

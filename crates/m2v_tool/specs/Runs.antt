@@ -1,29 +1,33 @@
--- What the program does: which outcome comes, what stands in input and output then, and what is put on report.
-use Rattle.std.specs.Prelude.{ℕ, ◌≡◌, List}
-use Rattle.m2v_encode.specs.Answers.{Change}
-use Rattle.m2v_tool.specs.declared.words.Command.{Command}
-use Rattle.m2v_tool.specs.declared.words.Command.TheVariants as commands
-use Rattle.m2v_tool.specs.declared.outcome.Outcome.{Outcome}
-use Rattle.m2v_tool.specs.declared.outcome.Outcome.TheVariants as outcomes
-use Rattle.m2v_tool.specs.Words.{Means, NoCommand}
-use Rattle.m2v_tool.specs.Coding.{FlatComes}
-use Rattle.m2v_tool.specs.Decoding.{DecodeComes}
-use Rattle.m2v_tool.specs.Reports.{Told}
+-- A run of the program, as it is seen from outside.
+use Rattle.std.specs.Prelude.{ℕ, ◌≡◌, ◌⊎◌, List}
+use Rattle.m2v_port.specs.Ends.{Change}
 
--- which outcome a command gives, and what stands then
-abbrev pub Does : (InputSame InputRose OutputSame OutputRose : Type 0) → Command → Change → Change → Outcome → Type 0
-Does InputSame InputRose OutputSame OutputRose (commands.Flat w) left held o = FlatComes InputSame InputRose OutputSame OutputRose w left held o
-Does InputSame InputRose OutputSame OutputRose commands.Decode left held o = DecodeComes InputRose OutputRose left held o
+-- the words, what the run did to each endpoint, and the status
+pub record Run : Type 1 where
+  pub words : List (List ℕ)
+  pub input : Change
+  pub output : Change
+  pub recon : Change
+  pub report : Change
+  pub status : ℕ
 
--- When each outcome comes, and what stands then: words that mean no command are refused, and else comes what their
--- command gives. `InputSame` and `OutputSame` say that the endpoint is as it was, its count too; `InputRose` and
--- `OutputRose` that its count rose.
-pub data Comes (InputSame InputRose OutputSame OutputRose : Type 0) (words : List (List ℕ)) (left held : Change) (o : Outcome) : Type 0 where
-  refused : NoCommand words → InputSame → OutputSame → o ≡ outcomes.Usage → Comes InputSame InputRose OutputSame OutputRose words left held o
-  meant : (c : Command) → Means words c → Does InputSame InputRose OutputSame OutputRose c left held o → Comes InputSame InputRose OutputSame OutputRose words left held o
+-- This is answered. In its place may come want of memory, and 7 or 8 where the count of input or output rose.
+pub data Yields (r : Run) (Answer : Type 0) : Type 0 where
+  said : Answer → Yields r Answer
+  read : r.status ≡ 7 → r.input.Failed → Yields r Answer
+  write : r.status ≡ 8 → r.output.Failed → Yields r Answer
+  memory : r.status ≡ 12 → Yields r Answer
 
--- the outcome that came, and what was told of it
-pub record Ran (InputSame InputRose OutputSame OutputRose ReportRose : Type 0) (words : List (List ℕ)) (left held report : Change) (status : ℕ) : Type 0 where
-  pub outcome : Outcome
-  pub comes : Comes InputSame InputRose OutputSame OutputRose words left held outcome
-  pub told : Told outcome status report ReportRose
+-- Refused with this status, or by want of memory, and nothing else was looked at.
+abbrev pub RefusedBy : ℕ → Run → Type 0
+RefusedBy n r = ((r.status ≡ n) ⊎ (r.status ≡ 12)) × r.input.Unchanged × r.output.Unchanged × r.recon.Unchanged
+
+-- no endpoint of the run failed
+pub record NoneFailed (r : Run) : Type 0 where
+  pub input : r.input.Failed → ⊥
+  pub output : r.output.Failed → ⊥
+  pub report : r.report.Failed → ⊥
+
+-- success, unless memory runs out
+abbrev pub Succeeds : Run → Type 0
+Succeeds r = (r.status ≡ 0) ⊎ (r.status ≡ 12)

@@ -4,7 +4,7 @@ use Rattle.std.specs.Str.Parse.{IsNumeral, digits_value}
 use Rattle.m2v_set.specs.Numbers.{flat_dims}
 use Rattle.m2v_set.specs.Rules.{FlatPasses, FlatUnfit}
 use Rattle.m2v_set.specs.declared.unfit.Unfit.{Unfit}
-use Rattle.m2v_encode.specs.declared.settings.FlatSettings.{FlatSettings}
+use Rattle.m2v_flat.specs.declared.settings.FlatSettings.{FlatSettings}
 use Rattle.m2v_tool.specs.declared.words.FlatWords.{FlatWords}
 use Rattle.m2v_tool.specs.declared.words.Command.{Command}
 use Rattle.m2v_tool.specs.declared.words.Command.TheVariants.{Flat, Decode}

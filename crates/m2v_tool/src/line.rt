@@ -5,7 +5,7 @@ ghost use Rattle.m2v_tool.specs.Outcomes.{line_text, line_of, name_of};
 use crate::outcome::Outcome;
 use itoa::Buffer;
 use m2v_decode::{Decoded, Fault};
-use m2v_encode::Summary;
+use m2v_flat::Summary;
 use m2v_model::FaultKind;
 use std::alloc::{AllocError, Global};
 

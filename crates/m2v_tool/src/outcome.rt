@@ -2,7 +2,7 @@ ghost use Rattle.std.specs.Prelude.{◌≡◌};
 ghost use Rattle.m2v_tool.specs.Outcomes.{status_of, status_unreported};
 
 use m2v_decode::{Decoded, Fault};
-use m2v_encode::Summary;
+use m2v_flat::Summary;
 use m2v_set::Unfit;
 
 /// How the program ends: its exit status.

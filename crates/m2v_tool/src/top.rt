@@ -1,24 +1,16 @@
-ghost use Rattle.std.specs.Prelude.{◌≡◌, ◌⊎◌, ◌≤◌, ℕ, List, map, string_bytes, length, IsTrue, IsFalse, IfSome};
-ghost use Rattle.m2v_port.specs.Port.{Rose};
-ghost use Rattle.m2v_plane.specs.Raw.{frame_bytes};
-ghost use Rattle.m2v_encode.specs.Answers.{Change};
-ghost use Rattle.m2v_model.specs.Pieces.{Limit};
-ghost use Rattle.m2v_model.specs.Decoding.{Decodes, FaultAt};
-ghost use Rattle.m2v_piece.specs.declared.answer.Fault.{Fault};
-ghost use Rattle.m2v_decode.specs.Complete.{IsUnderLimits, IsPast};
-ghost use Rattle.m2v_tool.specs.declared.words.FlatWords.{FlatWords};
-ghost use Rattle.m2v_tool.specs.Words.{IsFlat, IsDecode, NoCommand, WordsPass, settings_of};
+ghost use Rattle.std.specs.Prelude.{◌≡◌, ◌≤◌, map, string_bytes, IsTrue, IsFalse};
+ghost use Rattle.m2v_port.specs.Ends.{change, SinkStays};
 ghost use Rattle.m2v_tool.specs.Outcomes.{outcome_of, outcome_after, status_of, status_unreported, line_of};
 ghost use Rattle.m2v_tool.specs.Reports.{Told};
-ghost use Rattle.m2v_tool.specs.Coding.{FlatComes, Answers, AreFrames};
-ghost use Rattle.m2v_tool.specs.Decoding.{DecodeComes, Shows, Refuses, Stopped};
-ghost use Rattle.m2v_tool.specs.Runs.{Comes, Ran};
+ghost use Rattle.m2v_tool.specs.Coding.{FlatComes};
+ghost use Rattle.m2v_tool.specs.Decoding.{DecodeComes};
+ghost use Rattle.m2v_tool.specs.Commands.{Comes, Kept};
 
 use crate::line::line;
 use crate::outcome::{Outcome, Status};
 use crate::words::{Command, FlatWords, meaning};
 use m2v_decode::{DecodeError, decode};
-use m2v_encode::{EncodeError, FlatSettings, flat};
+use m2v_flat::{EncodeError, FlatSettings, flat};
 use m2v_port::{NamedSink, PortError, Sink, Source};
 use m2v_set::test_flat;
 use std::alloc::Global;
@@ -61,11 +53,11 @@ fn coded<S: Source, K: Sink>(
     output: &mut K,
 ) -> Outcome
     requires { IsTrue (K.ready output.old) }
-    ensures comes { FlatComes (input.new ≡ input.old) (Rose (S.faults input.old) (S.faults input.new)) (output.new ≡ output.old) (Rose (K.faults output.old) (K.faults output.new)) meant.now (record { old = S.left input.old; new = S.left input.new }) (record { old = K.held output.old; new = K.held output.new }) result }
-    ensures ready { IsTrue (K.ready output.new) }
-    ensures name { K.name output.new ≡ K.name output.old }
-    ensures input_faults { S.faults input.old ≤ S.faults input.new }
-    ensures output_faults { K.faults output.old ≤ K.faults output.new }
+    ensures comes { FlatComes meant.now
+        (change S.left S.faults input.old input.new)
+        (change K.held K.faults output.old output.new) result }
+    ensures output { SinkStays K.ready K.name K.faults output.old output.new }
+    ensures input { S.faults input.old ≤ S.faults input.new }
 {
     let dims = match test_flat(meant.width, meant.height, meant.rate_code, meant.quantiser) {
         Ok(dims) => dims,
@@ -85,11 +77,11 @@ fn coded<S: Source, K: Sink>(
 /// Decodes the stream of the input.
 fn decoded<S: Source, K: Sink>(alloc: Global, input: &mut S, output: &mut K) -> Outcome
     requires { IsTrue (K.ready output.old) }
-    ensures comes { DecodeComes (Rose (S.faults input.old) (S.faults input.new)) (Rose (K.faults output.old) (K.faults output.new)) (record { old = S.left input.old; new = S.left input.new }) (record { old = K.held output.old; new = K.held output.new }) result }
-    ensures ready { IsTrue (K.ready output.new) }
-    ensures name { K.name output.new ≡ K.name output.old }
-    ensures input_faults { S.faults input.old ≤ S.faults input.new }
-    ensures output_faults { K.faults output.old ≤ K.faults output.new }
+    ensures comes { DecodeComes
+        (change S.left S.faults input.old input.new)
+        (change K.held K.faults output.old output.new) result }
+    ensures output { SinkStays K.ready K.name K.faults output.old output.new }
+    ensures input { S.faults input.old ≤ S.faults input.new }
 {
     match decode(alloc, input, output) {
         Ok(numbers) => Outcome::Shown(numbers),
@@ -105,11 +97,11 @@ fn carried_out<S: Source, K: Sink>(
     output: &mut K,
 ) -> Outcome
     requires { IsTrue (K.ready output.old) }
-    ensures comes { Comes (input.new ≡ input.old) (Rose (S.faults input.old) (S.faults input.new)) (output.new ≡ output.old) (Rose (K.faults output.old) (K.faults output.new)) (map string_bytes words.now) (record { old = S.left input.old; new = S.left input.new }) (record { old = K.held output.old; new = K.held output.new }) result }
-    ensures ready { IsTrue (K.ready output.new) }
-    ensures name { K.name output.new ≡ K.name output.old }
-    ensures input_faults { S.faults input.old ≤ S.faults input.new }
-    ensures output_faults { K.faults output.old ≤ K.faults output.new }
+    ensures comes { Comes (map string_bytes words.now)
+        (change S.left S.faults input.old input.new)
+        (change K.held K.faults output.old output.new) result }
+    ensures output { SinkStays K.ready K.name K.faults output.old output.new }
+    ensures input { S.faults input.old ≤ S.faults input.new }
 {
     match meaning(words) {
         Some(Command::Flat(meant)) => coded(alloc, &meant, input, output),
@@ -121,10 +113,8 @@ fn carried_out<S: Source, K: Sink>(
 /// Puts the line of an outcome on report, and gives the status.
 fn reported<E: Sink>(alloc: Global, outcome: &Outcome, report: &mut E) -> Status
     requires { IsTrue (E.ready report.old) }
-    ensures told { Told outcome.now result.code (record { old = E.held report.old; new = E.held report.new }) (Rose (E.faults report.old) (E.faults report.new)) }
-    ensures ready { IsTrue (E.ready report.new) }
-    ensures name { E.name report.new ≡ E.name report.old }
-    ensures faults { E.faults report.old ≤ E.faults report.new }
+    ensures told { Told outcome.now result.code (change E.held E.faults report.old report.new) }
+    ensures report { SinkStays E.ready E.name E.faults report.old report.new }
 {
     let Ok(text) = line(alloc, outcome) else {
         return Status { code: 12 };
@@ -153,27 +143,17 @@ pub fn run<S: Source, K: Sink, N: NamedSink, E: Sink>(
     requires output { IsTrue (K.ready output.old) }
     requires recon { IsFalse (N.ready recon.old) }
     requires report { IsTrue (E.ready report.old) }
-    // Which outcome came, what stands in input and output, what was put on report, and the status.
-    ensures ran { Ran (input.new ≡ input.old) (Rose (S.faults input.old) (S.faults input.new)) (output.new ≡ output.old) (Rose (K.faults output.old) (K.faults output.new)) (Rose (E.faults report.old) (E.faults report.new)) (map string_bytes words.now) (record { old = S.left input.old; new = S.left input.new }) (record { old = K.held output.old; new = K.held output.new }) (record { old = E.held report.old; new = E.held report.new }) result.code }
-    // Words that are no command are refused, and nothing else is looked at.
-    ensures refused { NoCommand (map string_bytes words.now) → ((result.code ≡ 2) ⊎ (result.code ≡ 12)) × (input.new ≡ input.old) × (output.new ≡ output.old) }
-    // Settings that don't pass are refused, and nothing else is looked at.
-    ensures unfit { (w : FlatWords) → IsFlat (map string_bytes words.now) w → (WordsPass w → ⊥) → ((result.code ≡ 3) ⊎ (result.code ≡ 12)) × (input.new ≡ input.old) × (output.new ≡ output.old) }
-    // For `flat` the status is the one that the settings and the input's bytes give.
-    ensures answer { IfSome (S.left input.old) (λ bytes. (w : FlatWords) → IsFlat (map string_bytes words.now) w → Answers (Rose (S.faults input.old) (S.faults input.new)) (Rose (K.faults output.old) (K.faults output.new)) (Rose (E.faults report.old) (E.faults report.new)) w (length bytes) result.code) }
-    // Whole frames with settings that pass are coded, where no count rose and memory is there.
-    ensures complete { IfSome (S.left input.old) (λ bytes. (w : FlatWords) → IsFlat (map string_bytes words.now) w → WordsPass w → AreFrames (frame_bytes (settings_of w).dims) (length bytes) → (Rose (S.faults input.old) (S.faults input.new) → ⊥) → (Rose (K.faults output.old) (K.faults output.new) → ⊥) → (Rose (E.faults report.old) (E.faults report.new) → ⊥) → (result.code ≡ 0) ⊎ (result.code ≡ 12)) }
-    // A stream that decodes is decoded to its frames, or refused where it passes a limit.
-    ensures decodes { IfSome (S.left input.old) (λ text. IsDecode (map string_bytes words.now) → (frames : List (List ℕ)) (d : Decodes text frames) → Shows (Rose (S.faults input.old) (S.faults input.new)) (Rose (K.faults output.old) (K.faults output.new)) (Rose (E.faults report.old) (E.faults report.new)) (record { old = K.held output.old; new = K.held output.new }) (record { old = E.held report.old; new = E.held report.new }) d result.code) }
-    // A stream that doesn't decode is refused by its first fault, or by a limit before it.
-    ensures faulty { IfSome (S.left input.old) (λ text. IsDecode (map string_bytes words.now) → (f : Fault) → FaultAt text f.place f.kind → Refuses (Rose (S.faults input.old) (S.faults input.new)) (Rose (K.faults output.old) (K.faults output.new)) (Rose (E.faults report.old) (E.faults report.new)) (record { old = K.held output.old; new = K.held output.new }) (record { old = E.held report.old; new = E.held report.new }) text f result.code) }
-    // A stream that passes a limit before a fault is refused by that limit.
-    ensures over { IfSome (S.left input.old) (λ text. IsDecode (map string_bytes words.now) → (l : Limit) → IsPast text l → Stopped (Rose (S.faults input.old) (S.faults input.new)) (Rose (K.faults output.old) (K.faults output.new)) l result.code) }
-    // A stream under the limits that decodes is decoded, where no count rose and memory is there.
-    ensures decoded { IfSome (S.left input.old) (λ text. IsDecode (map string_bytes words.now) → (frames : List (List ℕ)) → Decodes text frames → IsUnderLimits text → (Rose (S.faults input.old) (S.faults input.new) → ⊥) → (Rose (K.faults output.old) (K.faults output.new) → ⊥) → (Rose (E.faults report.old) (E.faults report.new) → ⊥) → (result.code ≡ 0) ⊎ (result.code ≡ 12)) }
+    ensures kept { Kept (record {
+      words = map string_bytes words.now;
+      input = change S.left S.faults input.old input.new;
+      output = change K.held K.faults output.old output.new;
+      recon = change N.held N.faults recon.old recon.new;
+      report = change E.held E.faults report.old report.new;
+      status = result.code;
+    }) }
     ensures recon { recon.new ≡ recon.old }
-    ensures output { IsTrue (K.ready output.new) × (K.name output.new ≡ K.name output.old) × (K.faults output.old ≤ K.faults output.new) }
-    ensures report { IsTrue (E.ready report.new) × (E.name report.new ≡ E.name report.old) × (E.faults report.old ≤ E.faults report.new) }
+    ensures output { SinkStays K.ready K.name K.faults output.old output.new }
+    ensures report { SinkStays E.ready E.name E.faults report.old report.new }
     ensures input { S.faults input.old ≤ S.faults input.new }
 {
     let outcome = carried_out(alloc, words, input, output);

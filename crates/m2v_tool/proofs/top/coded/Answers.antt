@@ -14,7 +14,7 @@ returns-in-Ok-flat-clause-comes g c = done_of _ _ _ _ _ c.in-Ok.ensures.value c.
 pub returns-in-Err-flat-clause-comes : goal.returns-in-Err-flat-clause-comes
 returns-in-Err-flat-clause-comes g c =
     rw (c.stopped.ensures)
-    (comes_of _ _ _ _ _ _ _ _ (record {
+    (comes_of _ _ _ _ (record {
       passes = c.in-Ok.ensures.passes.0 refl;
       stops = rw (c.in-Ok.ensures.value) at c.in-Err-flat.ensures.err;
     }))

@@ -7,4 +7,4 @@ unfolding DecodeComes
 returns-in-Ok-clause-comes g c = c.in-Ok.ensures.ok
 
 pub returns-in-Err-clause-comes : goal.returns-in-Err-clause-comes
-returns-in-Err-clause-comes g c = rw (c.given_up.ensures) (decode_comes_of _ _ _ _ _ c.in-Err.ensures.err)
+returns-in-Err-clause-comes g c = rw (c.given_up.ensures) (decode_comes_of _ _ _ c.in-Err.ensures.err)

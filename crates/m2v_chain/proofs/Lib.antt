@@ -1,0 +1,5 @@
+pub mod Calm
+pub mod Chains
+pub mod Edges
+pub mod Painting
+pub mod Units

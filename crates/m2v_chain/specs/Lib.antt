@@ -1,0 +1,4 @@
+pub mod Chains
+pub mod Painting
+pub mod Texts
+pub mod Units

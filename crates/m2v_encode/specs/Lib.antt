@@ -1,5 +1,0 @@
-pub mod Units
-pub mod Flat
-pub mod Recon
-pub mod Answers
-pub mod Steps

@@ -1,0 +1,84 @@
+-- What follows for settings that passed the flat profile's part of the test.
+use Rattle.std.proofs.Common.{◌≡◌, ℕ, ◌≤◌, List, [], ◌∷◌, refl, sym, ◌∙◌, ap, Bool, true, false, Result, Ok, Err, arith}
+use Rattle.std.proofs.lemmas.Bool.{leb-true}
+use Rattle.m2v_plane.specs.declared.dims.Dims.{Dims}
+use Rattle.m2v_set.specs.declared.unfit.Unfit.{Unfit}
+use Rattle.m2v_set.specs.declared.settings.Scan.TheVariants.{Progressive}
+use Rattle.m2v_set.specs.declared.settings.Level.TheVariants.{Main}
+use Rattle.m2v_set.specs.Numbers.{limits_of}
+use Rattle.m2v_set.specs.Rules.{Condition, judge, judged, and_then, is_progressive, frame_rules, quantiser_rules, FlatPasses}
+use Rattle.m2v_set.proofs.Judged.{flat_in_turn}
+use Rattle.m2v_flat.specs.declared.settings.FlatSettings.{FlatSettings}
+use Rattle.m2v_flat.specs.Answers.{HasPassed}
+
+and_then-first : (a b : Result (Unit {0}) Unfit) → and_then a b ≡ Ok tt → a ≡ Ok tt
+unfolding and_then
+and_then-first (Ok passed) b e = refl
+and_then-first (Err unfit) b e = cc
+
+and_then-next : (a b : Result (Unit {0}) Unfit) → and_then a b ≡ Ok tt → b ≡ Ok tt
+unfolding and_then
+and_then-next (Ok passed) b e = e
+and_then-next (Err unfit) b e = cc
+
+judge-holds : (c : Condition) → judge c ≡ Ok tt → c.holds ≡ true
+unfolding judge
+judge-holds c e = by_case c.holds refl
+  where
+    by_case : (b : Bool) → c.holds ≡ b → c.holds ≡ true
+    by_case true is = is
+    by_case false is = cc
+
+-- each condition of the list holds
+abbrev AllHold : List Condition → Type 0
+AllHold [] = Unit {0}
+AllHold (c ∷ cs) = (c.holds ≡ true) × AllHold cs
+
+all_hold : (cs : List Condition) → judged cs ≡ Ok tt → AllHold cs
+unfolding judged
+all_hold [] e = tt
+all_hold (c ∷ cs) e =
+    (judge-holds c (and_then-first (judge c) (judged cs) e), all_hold cs (and_then-next (judge c) (judged cs) e))
+
+-- the bounds of main level, and those of the quantiser
+pub record InBounds (width height code quantiser : ℕ) : Type 0 where
+  pub width_least : 2 ≤ width
+  pub width_most : width ≤ 720
+  pub height_least : 2 ≤ height
+  pub height_most : height ≤ 576
+  pub code_most : code ≤ 5
+  pub quantiser_least : 1 ≤ quantiser
+  pub quantiser_most : quantiser ≤ 31
+
+pub in_bounds : (width height code quantiser : ℕ) → FlatPasses width height code quantiser → InBounds width height code quantiser
+unfolding frame_rules quantiser_rules limits_of is_progressive
+in_bounds width height code quantiser passes =
+    let parts = sym (flat_in_turn width height code quantiser) ∙ passes in
+    let h = all_hold (frame_rules (limits_of Main) Progressive width height code) (and_then-first _ _ parts) in
+    let q = all_hold (quantiser_rules quantiser) (and_then-next _ _ parts) in
+    record {
+      width_least = leb-true _ _ h.0;
+      width_most = leb-true _ _ h.1.0;
+      height_least = leb-true _ _ h.1.1.1.0;
+      height_most = leb-true _ _ h.1.1.1.1.0;
+      code_most = leb-true _ _ h.1.1.1.1.1.1.1.0;
+      quantiser_least = leb-true _ _ q.0;
+      quantiser_most = leb-true _ _ q.1.0;
+    }
+
+-- the macroblocks of settings that passed
+pub record IsSmall (s : FlatSettings) : Type 0 where
+  pub bounds : InBounds s.dims.width s.dims.height s.rate_code s.quantiser
+  pub rows : s.dims.mb_rows ≤ 36
+  pub columns : s.dims.mb_width ≤ 45
+
+pub is_small : (s : FlatSettings) → HasPassed s → IsSmall s
+is_small s h =
+    let bounds = in_bounds s.dims.width s.dims.height s.rate_code s.quantiser h.passes in
+    let rows = ap (λ (d : Dims). d.mb_rows) h.dims in
+    let columns = ap (λ (d : Dims). d.mb_width) h.dims in
+    record {
+      bounds = bounds;
+      rows = omega (arith, rows, bounds.height_most);
+      columns = omega (arith, columns, bounds.width_most);
+    }

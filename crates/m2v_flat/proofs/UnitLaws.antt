@@ -1,0 +1,53 @@
+-- How long the units of the flat profile are.
+use Rattle.std.proofs.Common.{◌≡◌, ℕ, ◌+◌, ◌≤◌, Bool, false, List, ◌++◌, length, replicate, refl, ◌∙◌, arith}
+use Rattle.std.proofs.lemmas.List.{length-append, length-replicate}
+use Rattle.m2v_bits.specs.Bits.{bits_of, start_code, to_edge}
+use Rattle.m2v_bits.proofs.Bits.{length-bits_of}
+use Rattle.m2v_head.specs.Texts.{sequence_text, sequence_extension_text, rates_text, picture_text, picture_extension_text, directions_text, flags_text, composite_text, slice_text, intra_slice_text, loaded_text}
+use Rattle.m2v_plane.specs.Samples.{Samples}
+use Rattle.m2v_flat.proofs.Lengths.{row_most}
+use Rattle.m2v_chain.specs.Units.{unit}
+use Rattle.m2v_flat.specs.declared.settings.FlatSettings.{FlatSettings}
+use Rattle.m2v_flat.specs.Flat.{flat_sequence, flat_sequence_extension, flat_picture, flat_picture_extension, flat_slice, row_text, slice_unit, sequence_units}
+
+start_length : (v : ℕ) → length (start_code v) ≡ 32
+start_length v = omega (arith, length-append (bits_of 24 1) (bits_of 8 v), length-bits_of 24 1, length-bits_of 8 v)
+
+pub unit_length : (v : ℕ) (t : List Bool) → length (unit v t) ≡ 32 + length t + to_edge (32 + length t)
+unit_length v t =
+    let front : length (start_code v ++ t) ≡ 32 + length t = omega (arith, length-append (start_code v) t, start_length v) in
+    length-append (start_code v ++ t) (replicate (to_edge (length (start_code v ++ t))) false)
+    ∙ rw (length-replicate (to_edge (length (start_code v ++ t))) false, front) refl
+
+pub sequence_length : (s : FlatSettings) → length (sequence_text (flat_sequence s)) ≡ 64
+unfolding sequence_text loaded_text bits_of
+sequence_length s = refl
+
+pub sequence_extension_length : length (sequence_extension_text flat_sequence_extension) ≡ 48
+unfolding sequence_extension_text rates_text bits_of
+sequence_extension_length = refl
+
+pub picture_length : (n : ℕ) → length (picture_text (flat_picture n)) ≡ 30
+unfolding picture_text directions_text bits_of
+picture_length n = refl
+
+pub picture_extension_length : length (picture_extension_text flat_picture_extension) ≡ 34
+unfolding picture_extension_text flags_text composite_text bits_of
+picture_extension_length = refl
+
+pub slice_length : (q : ℕ) → length (slice_text (flat_slice q)) ≡ 6
+unfolding slice_text intra_slice_text bits_of
+slice_length q = refl
+
+pub ruleset units = (unit_length, sequence_length, sequence_extension_length, picture_length, picture_extension_length, slice_length)
+
+pub sequence_most : (s : FlatSettings) → length (sequence_units s) ≤ 256
+unfolding sequence_units
+sequence_most s = omega (arith, length-append (unit 0xB3 (sequence_text (flat_sequence s))) (unit 0xB5 (sequence_extension_text flat_sequence_extension)), unit_length 0xB3 (sequence_text (flat_sequence s)), unit_length 0xB5 (sequence_extension_text flat_sequence_extension), sequence_length s, sequence_extension_length)
+
+-- a slice, by the macroblocks of its row
+pub slice_most : (quantiser : ℕ) (frame : Samples) (row : ℕ) → frame.dims.mb_width ≤ 45 → length (slice_unit quantiser frame row) ≤ 7264
+unfolding slice_unit
+slice_most quantiser frame row wide =
+    let t = slice_text (flat_slice quantiser) in
+    omega (arith, unit_length (row + 1) (t ++ row_text frame row), length-append t (row_text frame row), slice_length quantiser, row_most frame row)

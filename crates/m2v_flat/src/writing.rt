@@ -1,0 +1,5 @@
+// The bits of a stream: units, slices, macroblocks and blocks.
+pub(crate) mod blocks;
+pub(crate) mod macroblocks;
+pub(crate) mod pictures;
+pub(crate) mod units;
