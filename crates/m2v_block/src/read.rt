@@ -167,19 +167,17 @@ fn coefficient<'a>(
     ensures dc { 0 < filled → slice_index_or out.new.at 0 (pos 0) ≡ slice_index_or out.old.at 0 (pos 0) }
     ensures levels { All IsLevel out.new.at }
 {
-    match c {
-        Coefficient::End => Ok((false, filled)),
-        Coefficient::Escape => {
-            let run = number(input, 6, Code(Truncated))?;
-            let at = input.fork();
-            let level = number(input, 12, Code(Truncated))?;
-            check(input, &at, is_allowed(level), ForbiddenLevel)?;
-            placed(input, start, filled, run as u8, escaped(level), out)
-        }
-        Coefficient::Pair { run, level } => {
-            placed(input, start, filled, run, i32::from(level), out)
-        }
+    if let Coefficient::Pair { run, level } = c {
+        return placed(input, start, filled, run, i32::from(level), out);
     }
+    if let Coefficient::End = c {
+        return Ok((false, filled));
+    }
+    let run = number(input, 6, Code(Truncated))?;
+    let at = input.fork();
+    let level = number(input, 12, Code(Truncated))?;
+    check(input, &at, is_allowed(level), ForbiddenLevel)?;
+    placed(input, start, filled, run as u8, escaped(level), out)
 }
 
 /// Reads a pair or the end of the block: whether a pair was read, and how many places are filled then.
