@@ -111,7 +111,8 @@ fn mistake_of(
     })
 }
 
-/// Runs a case once for each call of an endpoint, which fails, and once more with a call that isn't made.
+/// Runs a case once for each call of an endpoint, which fails, and once more with a call that isn't made. A case that
+/// makes as many calls as none should is a mistake too.
 fn mistake_at_a_fault(
     alloc: Global,
     case: &Case,
@@ -134,7 +135,9 @@ fn mistake_at_a_fault(
             return Ok(None);
         }
     }
-    Ok(None)
+    let answer = ran(alloc, &case.words, &case.input, &Failing::none(alloc))?;
+    let failing = Some((endpoint, MANY_CALLS));
+    Ok(Some(mistake_of(alloc, &case.wanted, &answer, failing)?))
 }
 
 /// Runs a case: none where it gives what is wanted, else the first run that doesn't.
