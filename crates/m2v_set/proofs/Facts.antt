@@ -12,17 +12,17 @@ use Rattle.m2v_set.specs.Rules.{Condition, judge, judged, and_then, frame_rules,
 use Rattle.m2v_set.specs.Bounds.{InSize, InTime, InChoice, InPulldown, Bounds}
 use Rattle.m2v_set.proofs.Judged.{in_turn}
 
-and_then-first : (a b : Result (Unit {0}) Unfit) → and_then a b ≡ Ok tt → a ≡ Ok tt
+pub and_then-first : (a b : Result (Unit {0}) Unfit) → and_then a b ≡ Ok tt → a ≡ Ok tt
 unfolding and_then
 and_then-first (Ok passed) b e = refl
 and_then-first (Err unfit) b e = cc
 
-and_then-next : (a b : Result (Unit {0}) Unfit) → and_then a b ≡ Ok tt → b ≡ Ok tt
+pub and_then-next : (a b : Result (Unit {0}) Unfit) → and_then a b ≡ Ok tt → b ≡ Ok tt
 unfolding and_then
 and_then-next (Ok passed) b e = e
 and_then-next (Err unfit) b e = cc
 
-judge-holds : (c : Condition) → judge c ≡ Ok tt → c.holds ≡ true
+pub judge-holds : (c : Condition) → judge c ≡ Ok tt → c.holds ≡ true
 unfolding judge
 judge-holds c e = by_case c.holds refl
   where
@@ -31,11 +31,11 @@ judge-holds c e = by_case c.holds refl
     by_case false is = cc
 
 -- each condition of the list holds
-abbrev AllHold : List Condition → Type 0
+abbrev pub AllHold : List Condition → Type 0
 AllHold [] = Unit {0}
 AllHold (c ∷ cs) = (c.holds ≡ true) × AllHold cs
 
-all_hold : (cs : List Condition) → judged cs ≡ Ok tt → AllHold cs
+pub all_hold : (cs : List Condition) → judged cs ≡ Ok tt → AllHold cs
 unfolding judged
 all_hold [] e = tt
 all_hold (c ∷ cs) e =
