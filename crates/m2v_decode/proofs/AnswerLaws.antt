@@ -1,9 +1,10 @@
 -- What follows from what is known of an answer: a text with a cause is answered by it, and by nothing else.
 use Rattle.std.proofs.Common.{◌≡◌, inl, inr, ℕ, ◌+◌, ◌<◌, ◌≤◌, Bool, true, false, List, [], ◌∷◌, ◌++◌, length, Option, Some, None, Result, Ok, Err, refl, sym, ap, subst, ◌∙◌, arith}
-use Rattle.std.specs.Prelude.{if◌then◌else◌, not, nat_eq, nat_le, ◌&&◌, IfSome, IfOk, IfErr}
+use Rattle.std.specs.Prelude.{if◌then◌else◌, not, nat_eq, nat_le, ◌&&◌, IfOk, IfErr}
 use Rattle.std.specs.Option.{option_map}
 use Rattle.std.proofs.lemmas.Bool.{cases_lt, le-leb}
 use Rattle.m2v_port.specs.Ends.{Change, Tells}
+use Rattle.m2v_port.proofs.Runs.{tells}
 use Rattle.m2v_port.specs.Port.{Grows}
 use Rattle.m2v_plane.specs.Raw.{raw}
 use Rattle.m2v_model.specs.Pieces.{limit, Limit, too_long, too_large, most_input, most_bytes, pieces}
@@ -88,14 +89,6 @@ pub not_large : (text : List ℕ) (held : Change) → IsOver text held errors.Pi
 not_large text held o under = passes_none _ _ _ (fits_behind text (o.begun).first o.others under (o.begun).are) o.over
 
 -- ---- the input's bytes
-
--- what holds of all bytes that an endpoint can have told holds of those that it told
-pub tells : (c : Change) (Holds : List ℕ → Type 0) → ((bytes : List ℕ) → c.old ≡ Some bytes → Holds bytes) → Tells c Holds
-tells c Holds each = by_case c.old refl
-  where
-    by_case : (o : Option (List ℕ)) → c.old ≡ o → IfSome o Holds
-    by_case None is = tt
-    by_case (Some bytes) is = each bytes is
 
 pub of_text : (left : Change) (Holds : List ℕ → Type 0) (text : List ℕ) → left.old ≡ Some text → Of left Holds → Holds text
 of_text left Holds text is h = by_case left.new refl

@@ -1,44 +1,15 @@
 -- What follows for settings that passed the flat profile's part of the test.
-use Rattle.std.proofs.Common.{◌≡◌, ℕ, ◌≤◌, List, [], ◌∷◌, refl, sym, ◌∙◌, ap, Bool, true, false, Result, Ok, Err, arith}
+use Rattle.std.proofs.Common.{ℕ, ◌≤◌, sym, ◌∙◌, ap, arith}
 use Rattle.std.proofs.lemmas.Bool.{leb-true}
 use Rattle.m2v_plane.specs.declared.dims.Dims.{Dims}
-use Rattle.m2v_set.specs.declared.unfit.Unfit.{Unfit}
 use Rattle.m2v_set.specs.declared.settings.Scan.TheVariants.{Progressive}
 use Rattle.m2v_set.specs.declared.settings.Level.TheVariants.{Main}
 use Rattle.m2v_set.specs.Numbers.{limits_of}
-use Rattle.m2v_set.specs.Rules.{Condition, judge, judged, and_then, is_progressive, frame_rules, quantiser_rules, FlatPasses}
+use Rattle.m2v_set.specs.Rules.{is_progressive, frame_rules, quantiser_rules, FlatPasses}
 use Rattle.m2v_set.proofs.Judged.{flat_in_turn}
+use Rattle.m2v_set.proofs.Facts.{and_then-first, and_then-next, all_hold}
 use Rattle.m2v_flat.specs.declared.settings.FlatSettings.{FlatSettings}
 use Rattle.m2v_flat.specs.Answers.{HasPassed}
-
-and_then-first : (a b : Result (Unit {0}) Unfit) → and_then a b ≡ Ok tt → a ≡ Ok tt
-unfolding and_then
-and_then-first (Ok passed) b e = refl
-and_then-first (Err unfit) b e = cc
-
-and_then-next : (a b : Result (Unit {0}) Unfit) → and_then a b ≡ Ok tt → b ≡ Ok tt
-unfolding and_then
-and_then-next (Ok passed) b e = e
-and_then-next (Err unfit) b e = cc
-
-judge-holds : (c : Condition) → judge c ≡ Ok tt → c.holds ≡ true
-unfolding judge
-judge-holds c e = by_case c.holds refl
-  where
-    by_case : (b : Bool) → c.holds ≡ b → c.holds ≡ true
-    by_case true is = is
-    by_case false is = cc
-
--- each condition of the list holds
-abbrev AllHold : List Condition → Type 0
-AllHold [] = Unit {0}
-AllHold (c ∷ cs) = (c.holds ≡ true) × AllHold cs
-
-all_hold : (cs : List Condition) → judged cs ≡ Ok tt → AllHold cs
-unfolding judged
-all_hold [] e = tt
-all_hold (c ∷ cs) e =
-    (judge-holds c (and_then-first (judge c) (judged cs) e), all_hold cs (and_then-next (judge c) (judged cs) e))
 
 -- the bounds of main level, and those of the quantiser
 pub record InBounds (width height code quantiser : ℕ) : Type 0 where

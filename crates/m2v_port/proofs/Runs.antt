@@ -3,7 +3,7 @@ use Rattle.std.proofs.Common.{◌≡◌, inl, inr, ℕ, zero, suc, ◌+◌, ◌-
 use Rattle.std.specs.Option.{option_map}
 use Rattle.std.proofs.lemmas.List.{append-nil, length-take-le, take-append-le}
 use Rattle.m2v_port.specs.Port.{Rose, Moves, IsAtEnd, Grows, GrowsByPrefix}
-use Rattle.m2v_port.specs.Ends.{SinkStays}
+use Rattle.m2v_port.specs.Ends.{Change, Tells, SinkStays}
 
 -- A count that rose in the last part rose in the whole.
 pub rose_since : {before between now : ℕ} → before ≤ between → Rose between now → Rose before now
@@ -127,6 +127,14 @@ stays_on first second = record {
   keeps_name = second.keeps_name ∙ first.keeps_name;
   counts = omega (arith, first.counts, second.counts);
 }
+
+-- what holds of all bytes that an endpoint can have told holds of those that it told
+pub tells : (c : Change) (Holds : List ℕ → Type 0) → ((bytes : List ℕ) → c.old ≡ Some bytes → Holds bytes) → Tells c Holds
+tells c Holds each = by_case c.old refl
+  where
+    by_case : (o : Option (List ℕ)) → c.old ≡ o → IfSome o Holds
+    by_case None is = tt
+    by_case (Some bytes) is = each bytes is
 
 -- for the goals of a caller that reads or puts more than once
 pub ruleset runs = (rose_since, rose_still, moves_nothing, moves_on, end_stays, moved_all, grows_by_nothing, grows_on, grows_by_all, prefix_on, prefix_of_more, stays_here, stays_on)

@@ -5,7 +5,7 @@ use Rattle.std.proofs.lemmas.Bool.{cases_lt}
 use Rattle.std.proofs.Math.Nat.{suc-mul, mul-pos, mul-le-mul_right}
 use Rattle.m2v_port.specs.Ends.{Change}
 use Rattle.m2v_port.specs.Port.{Moves, IsAtEnd}
-use Rattle.m2v_port.proofs.Runs.{moved_all}
+use Rattle.m2v_port.proofs.Runs.{moved_all, tells}
 use Rattle.m2v_plane.specs.declared.dims.Dims.{Dims}
 use Rattle.m2v_plane.specs.Sizes.{IsSize}
 use Rattle.m2v_plane.specs.Raw.{frame_bytes, raw}
@@ -21,7 +21,6 @@ use Rattle.m2v_flat.specs.Recon.{FlatRecon}
 use Rattle.m2v_flat.proofs.Passing.{in_bounds}
 use Rattle.m2v_model.proofs.Unique.{exactly_one}
 use Rattle.m2v_flat.proofs.Streams.{flat_decodes}
-use Rattle.m2v_decode.proofs.AnswerLaws.{tells}
 use Rattle.m2v_tool.specs.declared.words.FlatWords.{FlatWords}
 use Rattle.m2v_tool.specs.declared.outcome.Outcome.{Outcome}
 use Rattle.m2v_tool.specs.declared.outcome.Outcome.TheVariants.{Done, Shown, Usage, BadSettings, ShortFrame, NoFrames, TooManyFrames, ReadFault, WriteFault, Stream, NoMemory, TooLong, TooLarge}

@@ -2,6 +2,7 @@
 use Rattle.std.proofs.Common.{◌≡◌, inl, inr, ℕ, List, Some, refl, sym, subst}
 use Rattle.m2v_port.specs.Ends.{Change}
 use Rattle.m2v_port.specs.Port.{Grows}
+use Rattle.m2v_port.proofs.Runs.{tells}
 use Rattle.m2v_plane.specs.Raw.{raw}
 use Rattle.m2v_model.specs.Pieces.{Limit, too_long, too_large, pieces}
 use Rattle.m2v_model.specs.Decoding.{Decodes, FaultAt}
@@ -12,7 +13,7 @@ use Rattle.m2v_piece.specs.declared.answer.DecodeError.TheVariants as errors
 use Rattle.m2v_decode.specs.declared.answer.Decoded.{Decoded}
 use Rattle.m2v_decode.specs.Answers.{Of, IsDecoded, IsFaulty, IsOver, Fails, AllFit, start_of}
 use Rattle.m2v_decode.specs.Complete.{IsUnderLimits, IsPast, counted}
-use Rattle.m2v_decode.proofs.AnswerLaws.{tells, not_long, not_large, of_text, shown_grown, shown_counted, same_fault, past_long, past_large, past_shown, past_fault}
+use Rattle.m2v_decode.proofs.AnswerLaws.{not_long, not_large, of_text, shown_grown, shown_counted, same_fault, past_long, past_large, past_shown, past_fault}
 use Rattle.m2v_tool.specs.declared.outcome.Outcome.{Outcome}
 use Rattle.m2v_tool.specs.declared.outcome.Outcome.TheVariants.{Done, Shown, Usage, BadSettings, ShortFrame, NoFrames, TooManyFrames, ReadFault, WriteFault, Stream, NoMemory, TooLong, TooLarge}
 use Rattle.m2v_tool.specs.Outcomes.{outcome_after, status_of, status_unreported, line_of}
