@@ -6,18 +6,6 @@ ghost use Rattle.m2v_picture.specs.Rows.{IsRowOf, IsRow};
 
 use m2v_plane::{Frame, Lines, Plane, RefView, RowSamples};
 
-/// The side of a macroblock in a plane, in samples.
-fn side_of(plane: Plane) -> u32
-    ensures value { result ≡ side plane }
-    ensures some { 1 ≤ result }
-    ensures most { result ≤ 16 }
-{
-    match plane {
-        Plane::Y => 16,
-        Plane::Cb | Plane::Cr => 8,
-    }
-}
-
 /// The line of a plane that is a line of one of its macroblock rows.
 fn line_in(row: u32, side: u32, line: u32, rows: u32) -> u32
     requires row { row < rows }
@@ -38,7 +26,7 @@ fn lift_plane(frame: &Frame, plane: Plane, row: u32, out: &mut RowSamples)
     ensures others { (q : Plane) → (q ≡ plane → ⊥) → plane_of out.new q ≡ plane_of out.old q }
 {
     let dims = frame.dims();
-    let side = side_of(plane);
+    let side = plane.side();
     let columns = side * dims.mb_width;
     for line in 0..side {
         let from = line_in(row, side, line, dims.mb_rows);

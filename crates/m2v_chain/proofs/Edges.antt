@@ -1,10 +1,10 @@
--- Texts one behind another: how long they are, that they end at the edge of a byte, and their bytes.
-use Rattle.std.proofs.Common.{◌≡◌, ℕ, zero, suc, add-zero, ◌+◌, ◌*◌, ◌/◌, ◌≤◌, Bool, List, [], ◌∷◌, ◌++◌, length, refl, subst, ap, arith}
+-- Texts one behind another: how long they are, and that they end at the edge of a byte.
+use Rattle.std.proofs.Common.{◌≡◌, ℕ, zero, suc, add-zero, ◌+◌, ◌*◌, ◌≤◌, Bool, List, [], ◌∷◌, ◌++◌, length, refl, subst, ap, arith}
 use Rattle.std.specs.List.{flat_map, range_with_len}
 use Rattle.std.proofs.lemmas.List.{length-append, append-nil}
 use Rattle.std.proofs.lemmas.List.Concat.{flat_map-append}
-use Rattle.m2v_bits.specs.Bits.{packed, number}
-use Rattle.m2v_chain.specs.Texts.{IsEdge}
+use Rattle.m2v_bits.specs.Bits.{packed, IsEdge}
+use Rattle.m2v_bits.proofs.Units.{edge-append}
 
 -- ---- texts one after another
 
@@ -31,9 +31,6 @@ texts_most text most each (suc k) =
 
 -- ---- the edge of a byte
 
-pub edge-append : (a b : List Bool) → IsEdge a → IsEdge b → IsEdge (a ++ b)
-edge-append a b ea eb = omega (arith, length-append a b)
-
 pub texts_edge : (text : ℕ → List Bool) → ((k : ℕ) → IsEdge (text k)) → (n : ℕ) → IsEdge (flat_map text (range_with_len 0 n))
 texts_edge text each zero = refl
 texts_edge text each (suc n) =
@@ -43,21 +40,6 @@ texts_edge text each (suc n) =
 
 -- ---- bytes
 
-packed_front : (a b c d e f g h : Bool) (rest more : List Bool) → packed (rest ++ more) ≡ packed rest ++ packed more
-    → packed ((a ∷ b ∷ c ∷ d ∷ e ∷ f ∷ g ∷ h ∷ rest) ++ more) ≡ packed (a ∷ b ∷ c ∷ d ∷ e ∷ f ∷ g ∷ h ∷ rest) ++ packed more
-unfolding packed
-packed_front a b c d e f g h rest more is = ap (λ (xs : List ℕ). number (a ∷ b ∷ c ∷ d ∷ e ∷ f ∷ g ∷ h ∷ []) ∷ xs) is
-
 pub packed_none : packed [] ≡ []
 unfolding packed
 packed_none = refl
-
-packed_whole : (n : ℕ) (xs ys : List Bool) → length xs ≡ 8 * n → packed (xs ++ ys) ≡ packed xs ++ packed ys
-packed_whole zero [] ys len = rw packed_none refl
-packed_whole zero (a ∷ xs) ys len = absurd (omega arith)
-packed_whole (suc n) (a ∷ b ∷ c ∷ d ∷ e ∷ f ∷ g ∷ h ∷ rest) ys len = packed_front a b c d e f g h rest ys (packed_whole n rest ys (omega arith))
-packed_whole (suc n) _ ys len = absurd (omega arith)
-
--- the bytes of one text behind another, where the first ends at the edge of a byte
-pub packed-append : (xs ys : List Bool) → IsEdge xs → packed (xs ++ ys) ≡ packed xs ++ packed ys
-packed-append xs ys edge = packed_whole (length xs / 8) xs ys (omega arith)

@@ -6,11 +6,11 @@ use Rattle.std.proofs.lemmas.Bool.{false_from_ne_true, and_parts, eqb-true}
 use Rattle.std.proofs.lemmas.List.{length-append, length-replicate, append-nil}
 use Rattle.std.proofs.lemmas.List.Elements.{All-head, All-tail, All-nil, All-cons, All-append}
 use Rattle.std.proofs.Math.Nat.{mod-eq_of_lt}
-use Rattle.m2v_bits.specs.Bits.{bits_of, number, bits, packed, start_code, to_edge}
+use Rattle.m2v_bits.specs.Bits.{bits_of, number, bits, packed, start_code, to_edge, unit}
 use Rattle.m2v_bits.proofs.Bits.{length-bits_of, number-bits_of, bits_of-number}
-use Rattle.m2v_chain.specs.Units.{unit}
 use Rattle.m2v_chain.specs.Texts.{Calm, ended, unit_bytes, IsCalm, IsTidy, Packs}
-use Rattle.m2v_chain.proofs.Edges.{packed_none, packed-append}
+use Rattle.m2v_bits.proofs.Units.{start_length, unit_edge, packed-append}
+use Rattle.m2v_chain.proofs.Edges.{packed_none}
 use Rattle.m2v_model.specs.Units.{begins_code, joined, Clear, AreUnits, Cuts, Units}
 use Rattle.m2v_chain.proofs.Calm.{calm_zeros, calm_rest}
 
@@ -20,14 +20,14 @@ start_bytes : (value : ℕ) (t : List Bool) → packed (start_code value ++ t) �
 unfolding bits_of packed number
 start_bytes value t = refl
 
-start_length : (value : ℕ) (t : List Bool) → length (start_code value ++ t) ≡ 32 + length t
-start_length value t = omega (arith, length-append (start_code value) t, length-append (bits_of 24 1) (bits_of 8 value), length-bits_of 24 1, length-bits_of 8 value)
+begun_length : (value : ℕ) (t : List Bool) → length (start_code value ++ t) ≡ 32 + length t
+begun_length value t = omega (arith, length-append (start_code value) t, start_length value)
 
 unit_text : (value : ℕ) (t : List Bool) → unit value t ≡ start_code value ++ ended t
 unfolding ended
 unit_text value t =
     append_assoc (start_code value) t (replicate (to_edge (length (start_code value ++ t))) false)
-    ∙ ap (λ (n : ℕ). start_code value ++ (t ++ replicate (to_edge n) false)) (start_length value t)
+    ∙ ap (λ (n : ℕ). start_code value ++ (t ++ replicate (to_edge n) false)) (begun_length value t)
 
 unit_is : (value : ℕ) (t : List Bool) → value < 256 → packed (unit value t) ≡ unit_bytes value t
 unit_is value t below =
@@ -37,9 +37,6 @@ unit_is value t below =
 ended_length : (t : List Bool) → length (ended t) % 8 ≡ 0
 unfolding ended
 ended_length t = omega (arith, length-append t (replicate (to_edge (32 + length t)) false), length-replicate (to_edge (32 + length t)) false)
-
-pub unit_edge : (value : ℕ) (t : List Bool) → length (unit value t) % 8 ≡ 0
-unit_edge value t = omega (arith, ap length (unit_text value t), start_length value (ended t), ended_length t)
 
 eight_bits : (a b c d e f g h : Bool) (rest more : List Bool) → bits (packed rest) ≡ more → bits (packed (a ∷ b ∷ c ∷ d ∷ e ∷ f ∷ g ∷ h ∷ rest)) ≡ a ∷ b ∷ c ∷ d ∷ e ∷ f ∷ g ∷ h ∷ more
 unfolding packed

@@ -1,4 +1,3 @@
 pub mod Chains
 pub mod Painting
 pub mod Texts
-pub mod Units

@@ -11,10 +11,6 @@ Calm k (true ∷ bs) m = Calm 22 bs m
 Calm zero (false ∷ bs) m = ⊥
 Calm (suc k) (false ∷ bs) m = Calm k bs m
 
--- a text that ends at the edge of a byte
-abbrev pub IsEdge : List Bool → Type 0
-IsEdge text = length text % 8 ≡ 0
-
 -- what stands behind a start code: a text, and zeros up to the edge of a byte
 unfoldable pub ended : List Bool → List Bool
 ended t = t ++ replicate (to_edge (32 + length t)) false

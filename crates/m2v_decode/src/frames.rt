@@ -8,19 +8,9 @@ ghost use Rattle.m2v_decode.specs.Progress.{Cuts, HasPut};
 
 use m2v_decoder::Decoder;
 use m2v_piece::DecodeError;
-use m2v_plane::{Dims, Frame, RefView};
+use m2v_plane::{Frame, RefView, bytes_of};
 use m2v_port::{PortError, Sink};
 use std::alloc::Global;
-
-/// The bytes of a raw frame.
-fn bytes_of(dims: Dims) -> usize
-    requires { IsSize dims }
-    ensures value { result ≡ frame_bytes dims }
-{
-    let (width, height) = (dims.width as usize, dims.height as usize);
-    let (wide, high) = ((width + 1) / 2, (height + 1) / 2);
-    width * height + 2 * (wide * high)
-}
 
 /// The displayed part of a frame.
 fn raw_of(alloc: Global, frame: &Frame) -> Result<Vec<u8>, std::alloc::AllocError>

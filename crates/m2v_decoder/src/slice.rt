@@ -14,7 +14,6 @@ use m2v_unit::{Unit, UnitReader};
 /// that of the slice before it.
 #[tactic(auto, unfolding(m2v_model::specs::Streams::slice_unit, m2v_model::specs::Streams::slice_in, m2v_model::specs::Looking::refuse, m2v_bits::specs::Syntax::seq, m2v_bits::specs::Syntax::bind, m2v_bits::specs::Syntax::rule))]
 fn place(st: &State, row: u32, start: u64) -> Result<(Sequence, Open), Stop>
-    requires { IfSome st.now.sequence (λ s. rows_in s ≤ 72) }
     ensures ok { IfOk result (λ x. (st.now.sequence ≡ Some x.0) × (st.now.picture ≡ Some x.1) × (row < rows_in x.0) × (x.1.row ≤ row)) }
     ensures err { IfErr result (λ e. (u : List ℕ) (us : Units) → (slice_unit st.now st.now.sequence st.now.picture row start u).read us ≡ Err (e.kind, e.left)) }
 {

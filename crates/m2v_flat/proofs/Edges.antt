@@ -2,16 +2,14 @@
 use Rattle.std.proofs.Common.{◌≡◌, ℕ, suc, ◌+◌, ◌<◌, zero-add, Bool, List, [], ◌∷◌, ◌++◌, length, refl, sym, ap, ◌∙◌, arith, append_assoc}
 use Rattle.std.proofs.lemmas.List.{append-nil}
 use Rattle.std.proofs.lemmas.Bool.{ne_eqb}
-use Rattle.m2v_bits.specs.Bits.{packed, start_code}
+use Rattle.m2v_bits.specs.Bits.{packed, start_code, unit, IsEdge}
+use Rattle.m2v_bits.proofs.Units.{unit_edge, edge-append, packed-append}
 use Rattle.m2v_head.specs.Texts.{sequence_text, sequence_extension_text, picture_text, picture_extension_text, slice_text}
 use Rattle.m2v_plane.specs.Samples.{Samples}
 use Rattle.m2v_plane.specs.Raw.{pad}
 use Rattle.m2v_flat.specs.declared.settings.FlatSettings.{FlatSettings}
-use Rattle.m2v_chain.specs.Units.{unit}
 use Rattle.m2v_flat.specs.Flat.{flat_sequence, flat_sequence_extension, flat_picture, flat_picture_extension, flat_slice, row_text, slice_unit, slices_units, sequence_units, picture_units, pictures_from, begun_text, flat_text, frame_units, Flat, FlatBegun, FlatFrame}
-use Rattle.m2v_chain.specs.Texts.{IsEdge}
-use Rattle.m2v_chain.proofs.Edges.{edge-append, texts_edge, packed_none, packed-append}
-use Rattle.m2v_chain.proofs.Units.{unit_edge}
+use Rattle.m2v_chain.proofs.Edges.{texts_edge, packed_none}
 
 -- ---- the edge of a byte
 

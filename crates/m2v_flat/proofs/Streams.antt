@@ -1,12 +1,11 @@
 -- The flat stream stands in its bytes, and decodes to the frames that it stands for.
 use Rattle.std.proofs.Common.{◌≡◌, ℕ, ◌+◌, ◌≤◌, false, List, [], ◌∷◌, ◌++◌, length, Option, Some, None, inl, inr, refl, sym, subst, arith}
-use Rattle.m2v_bits.specs.Bits.{bits_of, number, start_code}
+use Rattle.m2v_bits.specs.Bits.{bits_of, number, start_code, unit}
 use Rattle.m2v_bits.specs.Syntax.{seq, done, here, rule, choose, repeated, Rounds, last}
 use Rattle.m2v_head.specs.Texts.{sequence_text, sequence_extension_text, picture_text, picture_extension_text, slice_text}
 use Rattle.m2v_plane.specs.Samples.{Samples}
 use Rattle.m2v_plane.specs.Raw.{pad}
 use Rattle.m2v_flat.specs.declared.settings.FlatSettings.{FlatSettings}
-use Rattle.m2v_chain.specs.Units.{unit}
 use Rattle.m2v_flat.specs.Answers.{HasPassed}
 use Rattle.m2v_flat.specs.Flat.{flat_sequence, flat_sequence_extension, flat_picture, flat_picture_extension, flat_slice, row_text, slice_unit, slices_units, sequence_units, picture_units, pictures_from, flat_text, Flat}
 use Rattle.m2v_flat.specs.Recon.{FlatRecon}

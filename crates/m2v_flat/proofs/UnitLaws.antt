@@ -1,23 +1,13 @@
 -- How long the units of the flat profile are.
 use Rattle.std.proofs.Common.{◌≡◌, ℕ, ◌+◌, ◌≤◌, Bool, false, List, ◌++◌, length, replicate, refl, ◌∙◌, arith}
 use Rattle.std.proofs.lemmas.List.{length-append, length-replicate}
-use Rattle.m2v_bits.specs.Bits.{bits_of, start_code, to_edge}
-use Rattle.m2v_bits.proofs.Bits.{length-bits_of}
+use Rattle.m2v_bits.specs.Bits.{bits_of, start_code, to_edge, unit}
+use Rattle.m2v_bits.proofs.Units.{start_length, unit_length}
 use Rattle.m2v_head.specs.Texts.{sequence_text, sequence_extension_text, rates_text, picture_text, picture_extension_text, directions_text, flags_text, composite_text, slice_text, intra_slice_text, loaded_text}
 use Rattle.m2v_plane.specs.Samples.{Samples}
 use Rattle.m2v_flat.proofs.Lengths.{row_most}
-use Rattle.m2v_chain.specs.Units.{unit}
 use Rattle.m2v_flat.specs.declared.settings.FlatSettings.{FlatSettings}
 use Rattle.m2v_flat.specs.Flat.{flat_sequence, flat_sequence_extension, flat_picture, flat_picture_extension, flat_slice, row_text, slice_unit, sequence_units}
-
-start_length : (v : ℕ) → length (start_code v) ≡ 32
-start_length v = omega (arith, length-append (bits_of 24 1) (bits_of 8 v), length-bits_of 24 1, length-bits_of 8 v)
-
-pub unit_length : (v : ℕ) (t : List Bool) → length (unit v t) ≡ 32 + length t + to_edge (32 + length t)
-unit_length v t =
-    let front : length (start_code v ++ t) ≡ 32 + length t = omega (arith, length-append (start_code v) t, start_length v) in
-    length-append (start_code v ++ t) (replicate (to_edge (length (start_code v ++ t))) false)
-    ∙ rw (length-replicate (to_edge (length (start_code v ++ t))) false, front) refl
 
 pub sequence_length : (s : FlatSettings) → length (sequence_text (flat_sequence s)) ≡ 64
 unfolding sequence_text loaded_text bits_of

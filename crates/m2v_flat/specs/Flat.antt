@@ -2,7 +2,7 @@
 -- macroblock row, and each block is coded by its DC alone.
 use Rattle.std.specs.Prelude.{ℕ, zero, suc, ◌+◌, ◌-◌, ◌*◌, ◌/◌, ◌%◌, Bool, true, false, ◌&&◌, List, [], ◌∷◌, map, None, nat_lt, nat_eq, if◌then◌else◌, ℤ, pos, ◌-ℤ◌}
 use Rattle.std.specs.List.{flat_map, range_with_len}
-use Rattle.m2v_bits.specs.Bits.{bits_of, packed, ◌⧺◌, start_code}
+use Rattle.m2v_bits.specs.Bits.{bits_of, packed, ◌⧺◌, start_code, unit}
 use Rattle.m2v_quant.specs.Quantiser.{dc_level}
 use Rattle.m2v_idct.specs.Forward.{forward_at}
 use Rattle.m2v_vlc.specs.declared.values.Increment.TheVariants.{Step}
@@ -21,7 +21,6 @@ use Rattle.m2v_plane.specs.Samples.{Samples, sample_of}
 use Rattle.m2v_plane.specs.Raw.{pad}
 use Rattle.m2v_flat.specs.declared.settings.FlatSettings.{FlatSettings}
 use Rattle.m2v_flat.specs.declared.writing.macroblocks.Predictors.{Predictors}
-use Rattle.m2v_chain.specs.Units.{unit}
 
 -- ---- headers
 

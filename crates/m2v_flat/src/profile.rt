@@ -13,7 +13,7 @@ use crate::settings::FlatSettings;
 use crate::writing::pictures::write_frame;
 use crate::writing::units::write_end;
 use m2v_bits::BitWriter;
-use m2v_plane::{Dims, Frame};
+use m2v_plane::{Frame, bytes_of};
 use m2v_port::{PortError, Sink, Source, fill};
 use std::alloc::{AllocError, Global};
 
@@ -30,16 +30,6 @@ struct Coder {
     raw: Vec<u8>,
     frame: Frame,
     out: BitWriter,
-}
-
-/// The bytes of a raw frame.
-fn bytes_of(dims: Dims) -> usize
-    requires { IsSize dims }
-    ensures value { result ≡ frame_bytes dims }
-{
-    let (width, height) = (dims.width as usize, dims.height as usize);
-    let (wide, high) = ((width + 1) / 2, (height + 1) / 2);
-    width * height + 2 * (wide * high)
 }
 
 impl Coder {

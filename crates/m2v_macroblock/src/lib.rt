@@ -8,6 +8,6 @@ mod modes;
 mod tests;
 mod write;
 
-pub use blocks::{dc_after, is_coded, kind_for, kinds};
+pub use blocks::{dc_after, kind_for, kinds};
 pub use modes::{mode, skipped_mode};
 pub use write::{macroblock_bits, write_macroblock};

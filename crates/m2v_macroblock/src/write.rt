@@ -9,11 +9,12 @@ ghost use Rattle.m2v_macroblock.specs.Macroblocks.{macroblock_of, after_macroblo
 ghost use Rattle.m2v_macroblock.specs.Texts.{block_in_text, blocks_text, text_written};
 ghost use Rattle.m2v_macroblock.specs.Conditions.{IsPicture, AreDc, AreBlocks, AreWritable};
 
-use crate::blocks::{dc_after, is_coded, kind_for, predictor};
+use crate::blocks::{dc_after, kind_for, predictor};
 use m2v_bits::BitWriter;
 use m2v_block::{block_bits, write_block};
 use m2v_macro::{MacroSyntax, PictureContext, SliceState, macro_bits, write_macro};
 use m2v_quant::{BlockKind, Levels};
+use m2v_recon::is_coded;
 
 /// Appends a coded block behind its DC predictor.
 #[inline(always)]
@@ -52,7 +53,7 @@ fn write_one(
     ensures written { out.new.written ≡ out.old.written ++ block_in_text context.now state.now (macroblock_of x.now levels.now) block }
     ensures room { out.new.room + length (block_in_text context.now state.now (macroblock_of x.now levels.now) block) ≡ out.old.room }
 {
-    if is_coded(x.pattern, block) {
+    if is_coded(x.pattern, block as u32) {
         let kind = kind_for(context, x.kind.intra, block < 4, state.quantiser);
         let dc = predictor(&state.dc, levels, block);
         write_coded(
@@ -99,7 +100,7 @@ fn one_bits(
     ensures value { result ≡ length (block_in_text context.now state.now (macroblock_of x.now levels.now) block) }
     ensures most { result ≤ 1575 }
 {
-    if !is_coded(x.pattern, block) {
+    if !is_coded(x.pattern, block as u32) {
         return 0;
     }
     let kind = kind_for(context, x.kind.intra, block < 4, state.quantiser);

@@ -1,7 +1,7 @@
+ghost use Rattle.m2v_bits.specs.Bits.{unit};
 ghost use Rattle.std.specs.Prelude.{◌≡◌, ℕ, ◌+◌, ◌*◌, ◌%◌, ◌<◌, ◌≤◌, ◌^◌, ◌++◌, [], length, nat_eq, if◌then◌else◌};
 ghost use Rattle.m2v_head.specs.Texts.{slice_text};
 ghost use Rattle.m2v_plane.specs.Samples.{Samples};
-ghost use Rattle.m2v_chain.specs.Units.{unit};
 ghost use Rattle.m2v_flat.specs.Flat.{flat_slice, row_text, slice_unit, slices_units, sequence_units, picture_units, frame_units};
 
 use crate::settings::FlatSettings;

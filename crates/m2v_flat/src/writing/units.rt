@@ -1,7 +1,6 @@
 ghost use Rattle.std.specs.Prelude.{◌≡◌, ℕ, ◌+◌, ◌*◌, ◌%◌, ◌<◌, ◌≤◌, ◌^◌, ◌++◌, [], length};
-ghost use Rattle.m2v_bits.specs.Bits.{start_code, bits_of};
+ghost use Rattle.m2v_bits.specs.Bits.{start_code, bits_of, unit};
 ghost use Rattle.m2v_head.specs.Texts.{sequence_text, sequence_extension_text, picture_text, picture_extension_text};
-ghost use Rattle.m2v_chain.specs.Units.{unit};
 ghost use Rattle.m2v_flat.specs.Flat.{flat_sequence, flat_sequence_extension, flat_picture, flat_picture_extension, sequence_units};
 
 use crate::settings::FlatSettings;

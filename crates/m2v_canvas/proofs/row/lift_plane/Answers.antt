@@ -8,8 +8,8 @@ use Rattle.m2v_canvas.proofs.row.lift_plane.Goals as goal
 pub set_part-requires-clause-within : goal.set_part-requires-clause-within
 set_part-requires-clause-within c =
     let same = c.loop-line.invariant.dims ∙ c.requires.same in
-    line_within c.line-samples.result.now (sample_in c.args.frame.now c.args.plane Whole c.line_in-from.result) (c.side_of-side.result * c.dims-dims.result.mb_width) (columns_of c.loop-line.out.dims c.args.plane) c.line-samples.ensures.value
-    (columns_are c.args.plane c.side_of-side.result c.dims-dims.result c.args.frame.now.dims c.loop-line.out.dims c.side_of-side.ensures.value c.dims-dims.ensures.value same)
+    line_within c.line-samples.result.now (sample_in c.args.frame.now c.args.plane Whole c.line_in-from.result) (c.side-side.result * c.dims-dims.result.mb_width) (columns_of c.loop-line.out.dims c.args.plane) c.line-samples.ensures.value
+    (columns_are c.args.plane c.side-side.result c.dims-dims.result c.args.frame.now.dims c.loop-line.out.dims c.side-side.ensures.value c.dims-dims.ensures.value same)
 
 pub loop-line-preserved : goal.loop-line-preserved
 loop-line-preserved c =
@@ -20,9 +20,9 @@ loop-line-preserved c =
     let line = c.loop-line.line in
     let samples = c.line-samples.result.now in
     let same = c.loop-line.invariant.dims ∙ c.requires.same in
-    let columns = columns_are plane c.side_of-side.result c.dims-dims.result frame.dims frame.dims c.side_of-side.ensures.value c.dims-dims.ensures.value refl in
-    let is = samples_are frame plane samples row line c.line_in-from.result c.side_of-side.result (c.side_of-side.result * c.dims-dims.result.mb_width) c.line-samples.ensures.value c.line_in-from.ensures.value c.side_of-side.ensures.value columns in
-    let lt : line < side plane = omega (arith, c.loop-line-test.true, c.side_of-side.ensures.value) in
+    let columns = columns_are plane c.side-side.result c.dims-dims.result frame.dims frame.dims c.side-side.ensures.value c.dims-dims.ensures.value refl in
+    let is = samples_are frame plane samples row line c.line_in-from.result c.side-side.result (c.side-side.result * c.dims-dims.result.mb_width) c.line-samples.ensures.value c.line_in-from.ensures.value c.side-side.ensures.value columns in
+    let lt : line < side plane = omega (arith, c.loop-line-test.true, c.side-side.ensures.value) in
     let lines = lifted_more frame out plane row line samples lt same c.dims-whole.ensures.whole is c.loop-line.invariant.lines in
     record {
       dims = ap (λ (s : Samples). s.dims) c.set_part.ensures.value ∙ part_dims out plane line samples ∙ c.loop-line.invariant.dims;
