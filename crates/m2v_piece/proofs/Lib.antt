@@ -4,3 +4,4 @@ pub mod LimitLaws
 pub mod WholeLaws
 pub mod Steps
 pub mod Stands
+pub mod AtOnce

@@ -1,5 +1,5 @@
 -- What a cutter holds of a text, and what it hands out.
-use Rattle.std.specs.Prelude.{◌≡◌, ◌⊎◌, ℕ, suc, ◌+◌, ◌<◌, ◌≤◌, Bool, true, false, List, [], ◌∷◌, ◌++◌, length, take, Option, Some, None, nat_lt, nat_eq, if◌then◌else◌}
+use Rattle.std.specs.Prelude.{◌≡◌, ◌⊎◌, ℕ, suc, ◌+◌, ◌<◌, ◌≤◌, Bool, true, false, All, List, [], ◌∷◌, ◌++◌, length, take, Option, Some, None, nat_lt, nat_eq, if◌then◌else◌}
 use Rattle.m2v_model.specs.declared.phase.Phase.{Phase}
 use Rattle.m2v_model.specs.declared.phase.Phase.TheVariants.{Before, Headers, Picture}
 use Rattle.m2v_model.specs.Units.{cut}
@@ -104,6 +104,19 @@ pub record Took (old : Held) (b : ℕ) (new : Held) : Type 0 where
   pub pieces : (text : List ℕ) → pieces_behind old (b ∷ text) ≡ pieces_behind new text
   pub start : (text : List ℕ) → start_behind old (b ∷ text) ≡ start_behind new text
   pub more : new.place + (length new.sure + new.ahead) ≡ suc (old.place + (length old.sure + old.ahead))
+  pub onward : old.place ≤ new.place
+  pub fits : Fits new
+
+-- bytes that are not zero
+abbrev pub AreNonzero : List ℕ → Type 0
+AreNonzero bytes = All (λ b. nat_eq b 0 ≡ false) bytes
+
+-- bytes were taken, and the pieces are the same whatever follows them
+pub record TookAll (old : Held) (bytes : List ℕ) (new : Held) : Type 0 where
+  pub pieces : (text : List ℕ) → pieces_behind old (bytes ++ text) ≡ pieces_behind new text
+  pub start : (text : List ℕ) → start_behind old (bytes ++ text) ≡ start_behind new text
+  pub more : new.place + (length new.sure + new.ahead) ≡ length bytes + (old.place + (length old.sure + old.ahead))
+  pub phase : new.phase ≡ old.phase
   pub onward : old.place ≤ new.place
   pub fits : Fits new
 

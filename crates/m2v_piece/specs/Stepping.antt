@@ -1,4 +1,4 @@
--- What a cutter does with the next byte of a text, whatever follows what was read.
+-- What a cutter does with the next bytes of a text, whatever follows what was read.
 use Rattle.std.specs.Prelude.{◌≡◌, ℕ, ◌+◌, ◌-◌, ◌*◌, ◌^◌, true, List, [], ◌∷◌, ◌++◌, length, Option, Some, None, ◌<◌, ◌≤◌}
 use Rattle.m2v_port.specs.Port.{Moves}
 use Rattle.m2v_model.specs.declared.phase.Phase.{Phase}
@@ -75,7 +75,7 @@ pub record Reaches (h : Held) (chunk : List ℕ) (h' : Held) (chunk' : List ℕ)
   pub fits : Fits h'
   pub less : measure_of h' < measure_of h
 
--- a byte was used: others are looked at, or the bytes stop here
+-- bytes were used: others are looked at, or the bytes stop here
 abbrev pub Turned : Option Stand → Held → List ℕ → Held → List ℕ → Type 0
 Turned None h chunk h' chunk' = Reaches h chunk h' chunk'
 Turned (Some stand) h chunk h' chunk' = Fits h' × ((rest : List ℕ) → Stood stand h (chunk ++ rest) h' chunk' rest) × IsFull stand h' × (h.place ≤ h'.place)
@@ -112,7 +112,7 @@ pub record Fails (h : Held) (chunk : List ℕ) (left left' : Option (List ℕ)) 
   pub moved : Moves left bytes left'
   pub why : (rest : List ℕ) → left' ≡ Some rest → Why (start_behind h (chunk ++ (bytes ++ rest))) (pieces_behind h (chunk ++ (bytes ++ rest))) e
 
--- one byte was looked at
+-- bytes were looked at: those before the first 0 at once, or one
 abbrev pub Rounded : Option Stand → Held → List ℕ → Option (List ℕ) → Held → List ℕ → Option (List ℕ) → Type 0
 Rounded None h chunk left h' chunk' left' = Advanced h chunk left h' chunk' left' × (measure_of h' < measure_of h)
 Rounded (Some stand) h chunk left h' chunk' left' = Looked stand h chunk left h' chunk' left'

@@ -74,6 +74,21 @@ impl Chunk {
         self.bytes[self.at]
     }
 
+    /// All of the bytes.
+    pub fn bytes(&self) -> &[u8]
+        ensures { result.now ≡ self.now }
+    {
+        &self.bytes[self.at..self.filled]
+    }
+
+    /// Passes over so many bytes.
+    pub fn pass(&mut self, n: usize)
+        requires { n ≤ length self.old }
+        ensures { self.new ≡ drop n self.old }
+    {
+        self.at += n;
+    }
+
     /// Reads on where nothing is left. Answers how many bytes there are then, 0 at the end.
     fn refill<S: Source>(&mut self, input: &mut S) -> Result<usize, DecodeError>
         requires { self.old ≡ [] }

@@ -2,7 +2,7 @@ ghost use Rattle.std.specs.Prelude.{◌≡◌, ℕ, ◌+◌, ◌≤◌, ◌<◌,
 ghost use Rattle.m2v_port.specs.Port.{Rose};
 ghost use Rattle.m2v_piece.specs.Cutting.{Fits, Stops, IsReading, pieces_behind, start_behind};
 ghost use Rattle.m2v_piece.specs.Sound.{IsSound, GoesOnward};
-ghost use Rattle.m2v_piece.specs.Stepping.{Turned, Rounded, Looked, Fails, Handed, Stopped, LastOf};
+ghost use Rattle.m2v_piece.specs.Stepping.{Reaches, Turned, Rounded, Looked, Fails, Handed, Stopped, LastOf};
 
 use crate::chunk::Chunk;
 use crate::hand::Hand;
@@ -53,7 +53,38 @@ fn turn(hand: &mut Hand, chunk: &mut Chunk) -> Result<Option<Stand>, DecodeError
     }
 }
 
-/// Looks at one byte, reading where none is left.
+/// Uses the bytes of a chunk before the first 0, where they can be taken at once. Answers whether there were some.
+fn skim(hand: &mut Hand, chunk: &mut Chunk) -> Result<bool, DecodeError>
+    requires fits { Fits hand.old }
+    ensures some { result ≡ Ok true → Reaches hand.old chunk.old hand.new chunk.new }
+    ensures none { result ≡ Ok false → (hand.new ≡ hand.old) × (chunk.new ≡ chunk.old) }
+    ensures err { IfErr result (λ e. e ≡ DecodeError.Memory) }
+{
+    let n = hand.run(chunk.bytes())?;
+    if n == 0 {
+        return Ok(false);
+    }
+    chunk.pass(n);
+    let _held = hand.ahead();
+    Ok(true)
+}
+
+/// Uses the first bytes of a chunk: those before the first 0 at once, or one. Answers where the bytes stop, if they do.
+fn advance(hand: &mut Hand, chunk: &mut Chunk) -> Result<Option<Stand>, DecodeError>
+    requires some { 0 < length chunk.old }
+    requires fits { Fits hand.old }
+    ensures ok { IfOk result (λ stand. Turned stand hand.old chunk.old hand.new chunk.new) }
+    ensures err { IfErr result (λ e. (rest : List ℕ) → Stops (start_behind hand.old (chunk.old ++ rest)) (pieces_behind hand.old (chunk.old ++ rest)) e) }
+    ensures kind { IfErr result IsReading }
+{
+    match skim(hand, chunk) {
+        Err(e) => Err(e),
+        Ok(true) => Ok(None),
+        Ok(false) => turn(hand, chunk),
+    }
+}
+
+/// Looks at the next bytes, reading where none is left.
 fn round<S: Source>(
     hand: &mut Hand,
     chunk: &mut Chunk,
@@ -72,7 +103,7 @@ fn round<S: Source>(
             Ok(()) => Ok(Some(Stand::Over)),
             Err(e) => Err(e),
         },
-        Ok(true) => turn(hand, chunk),
+        Ok(true) => advance(hand, chunk),
     }
 }
 

@@ -1,8 +1,9 @@
-ghost use Rattle.std.specs.Prelude.{◌≡◌, ◌↔◌, ◌+◌, ◌-◌, ◌≤◌, ◌<◌, ◌^◌, ◌++◌, ◌∷◌, [], length, replicate, min, IfOk, IfErr, OnOk, IsTrue, Ok, Err, None, false, nat_eq};
+ghost use Rattle.std.specs.Prelude.{◌≡◌, ◌↔◌, ◌+◌, ◌-◌, ◌≤◌, ◌<◌, ◌^◌, ◌++◌, ◌∷◌, [], length, take, replicate, min, IfOk, IfErr, OnOk, IsTrue, Ok, Err, None, false, nat_eq};
 ghost use Rattle.m2v_model.specs.Pieces.{limit, phase_after};
 ghost use Rattle.m2v_piece.specs.Sound.{IsSound};
-ghost use Rattle.m2v_piece.specs.Cutting.{Held, Fits, prefix, behind, limit_of, IsPiece, LimitErr, Took, StopsAt, Stops, pieces_behind, start_behind, code_of, phase_behind, GoesOn, Ends, Begun, Finished};
+ghost use Rattle.m2v_piece.specs.Cutting.{Held, Fits, AreNonzero, TookAll, prefix, behind, limit_of, IsPiece, LimitErr, Took, StopsAt, Stops, pieces_behind, start_behind, code_of, phase_behind, GoesOn, Ends, Begun, Finished};
 
+use crate::runs::{append_all, before_zero};
 use crate::{DecodeError, Memory, Piece};
 use m2v_model::Phase;
 use std::alloc::Global;
@@ -176,6 +177,62 @@ impl Hand {
             self.put(*b)?;
         }
         Ok(())
+    }
+
+    /// How many bytes more are sure at once where none of them is 0: behind no byte of a prefix, in a piece that has
+    /// begun, as many as pass no limit.
+    fn room(&self) -> usize
+        ensures ahead { 0 < result → self.now.ahead ≡ 0 }
+        ensures begun { 0 < result → self.now.phase ≡ Phase.Before → ⊥ }
+        ensures large { 0 < result → length self.now.sure + result ≤ 2097152 }
+        ensures long { 0 < result → self.now.place + (length self.now.sure + result) ≤ 2 ^ 36 }
+    {
+        let at = self.bytes.len() as u64 + self.zeros;
+        if self.ahead > 0 {
+            return 0;
+        }
+        if let Phase::Before = self.phase {
+            return 0;
+        }
+        let input = MOST_INPUT.saturating_sub(self.place + at);
+        MOST_BYTES.saturating_sub(at).min(input) as usize
+    }
+
+    /// Bytes of which none is 0 are sure.
+    #[tactic(auto, unfolding(m2v_model::specs::Pieces::zeros_first))]
+    fn put_run(&mut self, run: &[u8]) -> Result<(), DecodeError>
+        requires begun { self.old.phase ≡ Phase.Before → ⊥ }
+        requires some { 0 < length run.now }
+        requires none { AreNonzero run.now }
+        requires long { self.old.place + (length self.old.sure + length run.now) ≤ 2 ^ 36 }
+        ensures ok { OnOk result (self.new ≡ record self.old { sure = self.old.sure ++ run.now }) }
+        ensures err { IfErr result (λ e. e ≡ DecodeError.Memory) }
+    {
+        let Ok(()) = append_all(&mut self.bytes, self.zeros, run) else {
+            self.bytes.truncate(0);
+            self.zeros = 0;
+            self.phase = Phase::Headers;
+            return Err(DecodeError::Memory);
+        };
+        self.zeros = 0;
+        Ok(())
+    }
+
+    /// Takes the bytes before the first 0 at once, where none of them can end the piece or pass a limit: most bytes are
+    /// taken so. Answers how many.
+    pub fn run(&mut self, bytes: &[u8]) -> Result<usize, DecodeError>
+        requires fits { Fits self.old }
+        ensures within { IfOk result (λ n. n ≤ length bytes.now) }
+        ensures took { IfOk result (λ n. TookAll self.old (take n bytes.now) self.new) }
+        ensures none { result ≡ Ok 0 → self.new ≡ self.old }
+        ensures err { IfErr result (λ e. e ≡ DecodeError.Memory) }
+    {
+        let n = before_zero(bytes, self.room());
+        if n == 0 {
+            return Ok(0);
+        }
+        self.put_run(&bytes[..n])?;
+        Ok(n)
     }
 
     /// A byte that isn't the next one of a prefix: the prefix before it is none, and all of it is sure.

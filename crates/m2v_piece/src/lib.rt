@@ -5,6 +5,7 @@ mod answer;
 mod chunk;
 mod cutter;
 mod hand;
+mod runs;
 mod taking;
 
 pub use answer::{DecodeError, Fault, Piece};
