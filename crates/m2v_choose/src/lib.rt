@@ -1,0 +1,9 @@
+//! The choice of a macroblock in the encoder: its candidates in order, the bits and the score of each, and the first of
+//! least score among those that are short enough. Definitions, with the laws that hold of them.
+#![tactic(auto)]
+
+mod laws;
+mod values;
+
+pub use laws::law_first_of_least;
+pub use values::Limits;
