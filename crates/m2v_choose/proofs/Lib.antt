@@ -1,1 +1,3 @@
 pub mod Chosen
+pub mod HeldParts
+pub mod Held

@@ -1,9 +1,26 @@
 //! What holds of the choice of a macroblock.
-ghost use Rattle.m2v_choose.specs.Candidates.{Decision};
-ghost use Rattle.m2v_choose.specs.Laws.{IsFirstOfLeast};
+ghost use Rattle.std.specs.Prelude.{ℕ, ◌*◌, ◌<◌, ◌≤◌};
+ghost use Rattle.m2v_choose.specs.Candidates.{Decision, increment_of, hold};
+ghost use Rattle.m2v_choose.specs.Choice.{bits_taken, choice_of};
+ghost use Rattle.m2v_choose.specs.Own.{IsOwn, AreNear};
+ghost use Rattle.m2v_choose.specs.Laws.{IsFirstOfLeast, Fits};
 
 /// The choice is the first of least score of hold and of the others that fit: none scores less, and those before it score
 /// more.
 pub fn law_first_of_least()
     ensures { (d : Decision) → IsFirstOfLeast d }
+{}
+
+/// Hold takes at most 31 bits for the macroblock and for each one that is skipped right before it.
+pub fn law_hold_fits()
+    ensures { (d : Decision) → IsOwn d.context → AreNear d.state.pmv.at → 0 < increment_of d
+        → bits_taken d (hold d) ≤ 31 * increment_of d }
+{}
+
+/// The choice has at most 4,608 bits and at most the room, where hold does; and it does in the pictures that this encoder
+/// writes, where the room is 31 bits for the macroblock and for each one that is skipped right before it.
+pub fn law_choice_fits()
+    ensures held { (d : Decision) → Fits d (hold d) → Fits d (choice_of d) }
+    ensures own { (d : Decision) → IsOwn d.context → AreNear d.state.pmv.at → 0 < increment_of d
+        → increment_of d ≤ d.context.columns → 31 * increment_of d ≤ d.limits.room → Fits d (choice_of d) }
 {}
