@@ -1,34 +1,32 @@
 -- How many bits hold takes.
-use Rattle.std.proofs.Common.{◌≡◌, ℕ, zero, suc, ◌+◌, ◌-◌, ◌*◌, ◌<◌, ◌≤◌, Bool, true, false, cond, ◌&&◌, ◌||◌, not, List, [], ◌∷◌, ◌++◌, length, refl, ap, sym, subst, ◌∙◌, arith, inl, inr, ℤ, pos, negsuc, ◌-ℤ◌, unsigned_abs, replicate, map}
-use Rattle.std.specs.Prelude.{nat_le, nat_eq, if◌then◌else◌, slice_index, slice_index_or, drop}
+use Rattle.std.proofs.Common.{◌≡◌, ℕ, ◌+◌, ◌-◌, ◌*◌, ◌<◌, ◌≤◌, Bool, true, false, ◌&&◌, ◌||◌, not, List, [], ◌∷◌, ◌++◌, length, refl, ap, ◌∙◌, arith, inl, inr, ℤ, pos, ◌-ℤ◌, unsigned_abs, replicate, map}
+use Rattle.std.specs.Prelude.{nat_eq, if◌then◌else◌, slice_index, slice_index_or}
 use Rattle.std.specs.List.{range_with_len, flat_map}
 use Rattle.std.proofs.lemmas.List.{length-append}
 use Rattle.std.proofs.lemmas.Bool.{cases_lt, eq-eqb, cond-true}
-use Rattle.m2v_bits.specs.Bits.{bits_of, ◌⧺◌}
+use Rattle.m2v_bits.specs.Bits.{bits_of}
 use Rattle.m2v_vlc.specs.declared.values.MbType.{MbType}
 use Rattle.m2v_vlc.specs.Codes.{code_of}
-use Rattle.m2v_vlc.specs.Values.{kind, same_type}
+use Rattle.m2v_vlc.specs.Values.{kind}
 use Rattle.m2v_vlc.specs.Tables.{type_i, type_p, type_b, dc_luma, dc_chroma}
 use Rattle.m2v_vlc.specs.Coefficients.{coefficient_zero, same_coefficient, pairs_zero, signed}
 use Rattle.m2v_quant.specs.declared.kind.BlockKind.{BlockKind}
 use Rattle.m2v_block.specs.Texts.{block_text, pairs_text, level_text, run_after, code_text}
 use Rattle.m2v_block.specs.Dc.{dc_text, size_of, number_of, size_code}
 use Rattle.m2v_vector.specs.declared.predictors.Pmv.{Pmv}
-use Rattle.m2v_vector.specs.Predictors.{zero as none, pair_of, zeros, resets, has_vectors, has_two, is_halved, left_by, entry_after, predictors_after}
+use Rattle.m2v_vector.specs.Predictors.{zero as none, pair_of, zeros, resets, has_vectors, has_two, is_halved, entry_after, predictors_after}
 use Rattle.m2v_macro.specs.declared.values.MacroSyntax.{MacroSyntax}
 use Rattle.m2v_macro.specs.declared.values.SliceState.{SliceState}
 use Rattle.m2v_macro.specs.declared.values.PictureContext.{PictureContext}
-use Rattle.m2v_macro.specs.declared.values.Shape.{Shape}
 use Rattle.m2v_macro.specs.declared.values.Selected.{Selected}
-use Rattle.m2v_macro.specs.declared.values.Direction.{Direction}
 use Rattle.m2v_macro.specs.States.{is_field, skips, pmv_before, skipped, after}
 use Rattle.m2v_macro.specs.Vectors.{shape_of}
 use Rattle.m2v_macro.specs.Macros.{macro_of, no_vectors, no_form, has_form, has_dct, is_concealed, f_codes_of}
 use Rattle.m2v_macro.specs.Conditions.{forward_of, backward_of}
 use Rattle.m2v_macro.specs.Texts.{increment_text, kind_text, form_text, dct_text, quantiser_text, direction_text, marker_text, pattern_text, modes_text, directions_text, macro_text, selected_text, second_text, bit_text, vector_text, part_text, dm_text, predictor_at, component_text, flag}
-use Rattle.m2v_macroblock.specs.Macroblocks.{Macroblock, kind_for, predictor, dc_of, block_levels}
+use Rattle.m2v_macroblock.specs.Macroblocks.{Macroblock, kind_for, predictor}
 use Rattle.m2v_macroblock.specs.Texts.{block_in_text, blocks_text, macroblock_text}
-use Rattle.m2v_choose.specs.Candidates.{Decision, Candidate, written, no_levels, increment_of, intra_syntax, uncoded_syntax, plain_form, still_vector, still_prediction, held_intra, held_levels, hold}
+use Rattle.m2v_choose.specs.Candidates.{Decision, written, no_levels, increment_of, intra_syntax, uncoded_syntax, plain_form, still_vector, still_prediction, held_intra, held_levels, hold}
 use Rattle.m2v_choose.specs.Choice.{bits_taken, choice_of}
 use Rattle.m2v_choose.specs.Laws.{Fits}
 use Rattle.m2v_choose.specs.Own.{IsOwn, AreNear}

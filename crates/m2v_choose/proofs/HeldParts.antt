@@ -1,10 +1,9 @@
 -- How many bits the parts of a held macroblock take: its increment, and components that are 0; a number less itself.
-use Rattle.std.proofs.Common.{◌≡◌, ℕ, suc, ◌+◌, ◌-◌, ◌*◌, ◌/◌, ◌%◌, ◌<◌, ◌≤◌, Bool, true, false, cond, ◌&&◌, ◌||◌, not, List, [], ◌∷◌, ◌++◌, length, refl, ap, sym, subst, ◌∙◌, arith, inl, inr, ℤ, pos, negsuc, ◌-ℤ◌, unsigned_abs, length-append, replicate, slice_index, slice_index_or, drop, map}
-use Rattle.std.specs.Prelude.{nat_le, nat_eq, if◌then◌else◌}
-use Rattle.std.specs.List.{range_with_len, flat_map}
+use Rattle.std.proofs.Common.{◌≡◌, ℕ, ◌+◌, ◌-◌, ◌*◌, ◌/◌, ◌%◌, ◌<◌, ◌≤◌, Bool, true, length, refl, arith, inl, inr, ℤ, pos, negsuc, ◌-ℤ◌, unsigned_abs, length-append}
+use Rattle.std.specs.Prelude.{nat_le}
 use Rattle.std.proofs.Math.Nat.{mul-div-le}
 use Rattle.std.proofs.lemmas.Bool.{cases_lt, leb-true}
-use Rattle.m2v_bits.specs.Bits.{bits_of, ◌⧺◌}
+use Rattle.m2v_bits.specs.Bits.{bits_of}
 use Rattle.m2v_vlc.specs.Codes.{code_of, is_within}
 use Rattle.m2v_vlc.specs.Values.{same_increment, same_signed}
 use Rattle.m2v_vlc.specs.Tables.{increment, increment_code, motion}

@@ -1,3 +1,4 @@
 pub mod Chosen
 pub mod HeldParts
 pub mod Held
+pub mod Worked

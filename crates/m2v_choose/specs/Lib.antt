@@ -2,3 +2,4 @@ pub mod Candidates
 pub mod Choice
 pub mod Own
 pub mod Laws
+pub mod Rows

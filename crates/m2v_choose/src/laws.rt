@@ -4,6 +4,7 @@ ghost use Rattle.m2v_choose.specs.Candidates.{Decision, increment_of, hold};
 ghost use Rattle.m2v_choose.specs.Choice.{bits_taken, choice_of};
 ghost use Rattle.m2v_choose.specs.Own.{IsOwn, AreNear};
 ghost use Rattle.m2v_choose.specs.Laws.{IsFirstOfLeast, Fits};
+ghost use Rattle.m2v_choose.specs.Rows.{WorkedRows};
 
 /// The choice is the first of least score of hold and of the others that fit: none scores less, and those before it score
 /// more.
@@ -23,4 +24,10 @@ pub fn law_choice_fits()
     ensures held { (d : Decision) → Fits d (hold d) → Fits d (choice_of d) }
     ensures own { (d : Decision) → IsOwn d.context → AreNear d.state.pmv.at → 0 < increment_of d
         → increment_of d ≤ d.context.columns → 31 * increment_of d ≤ d.limits.room → Fits d (choice_of d) }
+{}
+
+/// Worked values: the texts of held macroblocks, bit by bit, those that take all of 31 bits, and where a macroblock may be
+/// skipped.
+pub fn law_worked_rows()
+    ensures { WorkedRows }
 {}
