@@ -5,7 +5,8 @@ use Rattle.std.proofs.lemmas.Bool.{and_parts, le-leb, leb-true}
 use Rattle.std.proofs.lemmas.List.Elements.{All-cons, All-head, All-tail, All-append, All-weaker, filter_passes}
 use Rattle.m2v_search.specs.Least.{least, better, IsFirstLeast}
 use Rattle.m2v_search.proofs.Least.{first_least}
-use Rattle.m2v_choose.specs.Candidates.{Decision, Candidate, hold, others}
+use Rattle.m2v_choose.specs.Decisions.{Decision, Candidate}
+use Rattle.m2v_choose.specs.Candidates.{hold, others}
 use Rattle.m2v_choose.specs.Choice.{bits_taken, most_bits, score, fits, candidates, choice_of}
 use Rattle.m2v_choose.specs.Laws.{IsFirstOfLeast, Fits}
 

@@ -1,7 +1,8 @@
 -- How many bits hold takes.
-use Rattle.std.proofs.Common.{◌≡◌, ℕ, ◌+◌, ◌-◌, ◌*◌, ◌<◌, ◌≤◌, Bool, true, false, ◌&&◌, ◌||◌, not, List, [], ◌∷◌, ◌++◌, length, refl, ap, ◌∙◌, arith, inl, inr, ℤ, pos, ◌-ℤ◌, unsigned_abs, replicate, map}
+use Rattle.std.proofs.Common.{◌≡◌, ℕ, ◌+◌, ◌-◌, ◌*◌, ◌<◌, ◌≤◌, Bool, true, false, ◌&&◌, ◌||◌, not, List, [], ◌∷◌, ◌++◌, length, refl, ap, ◌∙◌, arith, inl, inr, ℤ, pos, negsuc, neg_ℤ, ◌≤ℤ◌, ◌-ℤ◌, unsigned_abs, replicate, map}
 use Rattle.std.specs.Prelude.{nat_eq, if◌then◌else◌, slice_index, slice_index_or}
 use Rattle.std.specs.List.{range_with_len, flat_map}
+use Rattle.std.proofs.lemmas.Int.{ints}
 use Rattle.std.proofs.lemmas.List.{length-append}
 use Rattle.std.proofs.lemmas.Bool.{cases_lt, eq-eqb, cond-true}
 use Rattle.m2v_bits.specs.Bits.{bits_of}
@@ -26,7 +27,8 @@ use Rattle.m2v_macro.specs.Conditions.{forward_of, backward_of}
 use Rattle.m2v_macro.specs.Texts.{increment_text, kind_text, form_text, dct_text, quantiser_text, direction_text, marker_text, pattern_text, modes_text, directions_text, macro_text, selected_text, second_text, bit_text, vector_text, part_text, dm_text, predictor_at, component_text, flag}
 use Rattle.m2v_macroblock.specs.Macroblocks.{Macroblock, kind_for, predictor}
 use Rattle.m2v_macroblock.specs.Texts.{block_in_text, blocks_text, macroblock_text}
-use Rattle.m2v_choose.specs.Candidates.{Decision, written, no_levels, increment_of, intra_syntax, uncoded_syntax, plain_form, still_vector, still_prediction, held_intra, held_levels, hold}
+use Rattle.m2v_choose.specs.Decisions.{Decision, written, no_levels, increment_of, intra_syntax, uncoded_syntax}
+use Rattle.m2v_choose.specs.Candidates.{plain_form, still_vector, still_prediction, held_intra, held_levels, hold}
 use Rattle.m2v_choose.specs.Choice.{bits_taken, choice_of}
 use Rattle.m2v_choose.specs.Laws.{Fits}
 use Rattle.m2v_choose.specs.Own.{IsOwn, AreNear}
@@ -129,18 +131,22 @@ direction_bits c f_code pmv direction code near =
 
 -- ---- predictors
 
+up_to : (z : ℤ) → (neg_ℤ (pos 31) ≤ℤ z) × (z ≤ℤ pos 31) → unsigned_abs z ≤ 31
+up_to (pos n) h = omega (arith, ints, h.0, h.1)
+up_to (negsuc n) h = omega (arith, ints, h.0, h.1)
+
 -- skipped macroblocks leave near predictors near
 forward_near : (c : PictureContext) (st : SliceState) (n : ℕ) → AreNear st.pmv.at → IsNearIn 0 (pmv_before c st n)
 unfolding pmv_before predictors_after entry_after has_vectors
 forward_near c st n near =
     either (IsNearIn 0) (skips st n) (predictors_after (skipped c) st.pmv) st.pmv
-    (either (IsNearIn 0) (resets (skipped c)) none _ (omega arith, omega arith) (near 0 0 0, near 0 0 1)) (near 0 0 0, near 0 0 1)
+    (either (IsNearIn 0) (resets (skipped c)) none _ (omega arith, omega arith) (up_to _ (near 0 0 0), up_to _ (near 0 0 1))) (up_to _ (near 0 0 0), up_to _ (near 0 0 1))
 
 backward_near : (c : PictureContext) (st : SliceState) (n : ℕ) → AreNear st.pmv.at → IsNearIn 1 (pmv_before c st n)
 unfolding pmv_before predictors_after entry_after has_vectors
 backward_near c st n near =
     either (IsNearIn 1) (skips st n) (predictors_after (skipped c) st.pmv) st.pmv
-    (either (IsNearIn 1) (resets (skipped c)) none _ (omega arith, omega arith) (near 0 1 0, near 0 1 1)) (near 0 1 0, near 0 1 1)
+    (either (IsNearIn 1) (resets (skipped c)) none _ (omega arith, omega arith) (up_to _ (near 0 1 0), up_to _ (near 0 1 1))) (up_to _ (near 0 1 0), up_to _ (near 0 1 1))
 
 -- ---- elements
 

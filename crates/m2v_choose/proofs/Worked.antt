@@ -16,7 +16,8 @@ use Rattle.m2v_macro.specs.Macros.{has_form, has_dct}
 use Rattle.m2v_macro.specs.Texts.{escapes_text, increment_text, kind_text, form_text, dct_text, quantiser_text, direction_text, marker_text, pattern_text, modes_text, directions_text, macro_text, selected_text, second_text, bit_text, vector_text, part_text, dm_text, predictor_at, component_text, difference_text, residual_text}
 use Rattle.m2v_macroblock.specs.Macroblocks.{kind_for, predictor}
 use Rattle.m2v_macroblock.specs.Texts.{block_in_text, macroblock_text}
-use Rattle.m2v_choose.specs.Candidates.{increment_of, intra_syntax, uncoded_syntax, plain_form, still_prediction, held_levels, hold, may_skip}
+use Rattle.m2v_choose.specs.Decisions.{increment_of, intra_syntax, uncoded_syntax}
+use Rattle.m2v_choose.specs.Candidates.{plain_form, still_prediction, held_levels, hold, may_skip}
 use Rattle.m2v_choose.specs.Rows.{WorkedRows, picture, behind_first, decision}
 
 pub worked_rows : WorkedRows

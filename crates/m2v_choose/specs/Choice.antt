@@ -3,12 +3,15 @@ use Rattle.std.specs.Prelude.{ℕ, ◌+◌, ◌*◌, ◌^◌, Bool, ◌&&◌, na
 use Rattle.std.specs.List.{range_with_len}
 use Rattle.m2v_plane.specs.declared.planes.Plane.{Plane}
 use Rattle.m2v_kernel.specs.Sums.{apart}
+use Rattle.m2v_macro.specs.declared.values.SliceState.{SliceState}
 use Rattle.m2v_pred.specs.Predicted.{predicted, block_by}
+use Rattle.m2v_macroblock.specs.Macroblocks.{after_macroblock}
 use Rattle.m2v_macroblock.specs.Modes.{skipped_mode}
 use Rattle.m2v_macroblock.specs.Predictions.{prediction_of, sample_at}
 use Rattle.m2v_macroblock.specs.Texts.{macroblock_text}
 use Rattle.m2v_search.specs.Least.{least}
-use Rattle.m2v_choose.specs.Candidates.{Decision, Candidate, place_of, hold, others}
+use Rattle.m2v_choose.specs.Decisions.{Decision, Candidate, place_of}
+use Rattle.m2v_choose.specs.Candidates.{hold, others}
 
 -- the bits of the whole macroblock, from its address increment to the end of its last block; a skipped one takes none
 unfoldable pub bits_taken : Decision → Candidate → ℕ
@@ -55,3 +58,7 @@ candidates d = hold d ∷ others d
 -- the choice: hold, or the first of least score among those that fit
 unfoldable pub choice_of : Decision → Candidate
 choice_of d = least (score d) (hold d) (filter (fits d) (others d))
+
+-- the state behind a candidate: a skipped macroblock changes none
+abbrev pub state_behind : Decision → Candidate → SliceState
+state_behind d x = if x.skip then d.state else after_macroblock d.context d.state x.macroblock

@@ -1,7 +1,8 @@
 -- What the laws of choices say.
 use Rattle.std.specs.Prelude.{◌≡◌, ◌≤◌, true, ◌∷◌, filter, All}
 use Rattle.m2v_search.specs.Least.{IsFirstLeast}
-use Rattle.m2v_choose.specs.Candidates.{Decision, Candidate, hold, others}
+use Rattle.m2v_choose.specs.Decisions.{Decision, Candidate}
+use Rattle.m2v_choose.specs.Candidates.{hold, others}
 use Rattle.m2v_choose.specs.Choice.{bits_taken, most_bits, score, fits, candidates, choice_of}
 
 -- the choice is the first of least score

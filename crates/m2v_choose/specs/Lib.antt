@@ -1,3 +1,4 @@
+pub mod Decisions
 pub mod Candidates
 pub mod Choice
 pub mod Own

@@ -1,8 +1,10 @@
 -- What holds of the pictures that this encoder writes, and of the states in their slices.
-use Rattle.std.specs.Prelude.{ℕ, ◌≡◌, ◌≤◌, Bool, true, false, cond, ◌||◌, nat_eq, List, [], ◌∷◌, ℤ, unsigned_abs}
+use Rattle.std.specs.Prelude.{ℕ, ◌≡◌, ◌≤◌, Bool, true, false, cond, ◌||◌, nat_eq, List, [], ◌∷◌, ℤ, pos, neg_ℤ, ◌≤ℤ◌}
 use Rattle.m2v_quant.specs.Matrices.{default_matrix}
 use Rattle.m2v_vector.specs.Predictors.{number_of}
+use Rattle.m2v_macro.specs.declared.values.SliceState.{SliceState}
 use Rattle.m2v_macro.specs.declared.values.PictureContext.{PictureContext}
+use Rattle.m2v_choose.specs.declared.values.Limits.{Limits}
 
 -- the f_codes of a direction: 2 where vectors of it occur, which reach 31 half samples, and 15 where none does (clause
 -- 6.3.10)
@@ -26,4 +28,19 @@ pub record IsOwn (c : PictureContext) : Type 0 where
 -- predictors of vectors that a search of at most 15 samples leaves: a field vector of a frame counts twice, but reaches half
 -- as far
 abbrev pub AreNear : List (List (List ℤ)) → Type 0
-AreNear at = (entry direction component : ℕ) → unsigned_abs (number_of at entry direction component) ≤ 31
+AreNear at =
+    (entry direction component : ℕ) → (neg_ℤ (pos 31) ≤ℤ number_of at entry direction component) × (number_of at entry direction component ≤ℤ pos 31)
+
+-- a quantiser code (clause 6.3.17)
+abbrev pub IsCode : ℕ → Type 0
+IsCode q = (1 ≤ q) × (q ≤ 31)
+
+-- a state in a slice of this encoder
+pub record IsOwnState (st : SliceState) : Type 0 where
+  pub predictors : AreNear st.pmv.at
+  pub quantiser : IsCode st.quantiser
+
+-- limits of this encoder
+pub record AreLimits (limits : Limits) : Type 0 where
+  pub q : IsCode limits.q
+  pub search : limits.search ≤ 15

@@ -8,7 +8,8 @@ use Rattle.m2v_macro.specs.declared.values.SliceState.{SliceState}
 use Rattle.m2v_macro.specs.declared.values.PictureContext.{PictureContext}
 use Rattle.m2v_macro.specs.States.{at_start}
 use Rattle.m2v_macroblock.specs.Texts.{macroblock_text}
-use Rattle.m2v_choose.specs.Candidates.{Decision, hold, may_skip}
+use Rattle.m2v_choose.specs.Decisions.{Decision}
+use Rattle.m2v_choose.specs.Candidates.{hold, may_skip}
 use Rattle.m2v_choose.specs.Own.{own_f_codes}
 
 -- a picture of so many macroblock columns: its type, its structure, and frame_pred_frame_dct

@@ -1,8 +1,9 @@
 //! What holds of the choice of a macroblock.
 ghost use Rattle.std.specs.Prelude.{ℕ, ◌*◌, ◌<◌, ◌≤◌};
-ghost use Rattle.m2v_choose.specs.Candidates.{Decision, increment_of, hold};
-ghost use Rattle.m2v_choose.specs.Choice.{bits_taken, choice_of};
-ghost use Rattle.m2v_choose.specs.Own.{IsOwn, AreNear};
+ghost use Rattle.m2v_choose.specs.Decisions.{Decision, increment_of};
+ghost use Rattle.m2v_choose.specs.Candidates.{hold};
+ghost use Rattle.m2v_choose.specs.Choice.{bits_taken, choice_of, state_behind};
+ghost use Rattle.m2v_choose.specs.Own.{IsOwn, AreNear, IsOwnState, AreLimits};
 ghost use Rattle.m2v_choose.specs.Laws.{IsFirstOfLeast, Fits};
 ghost use Rattle.m2v_choose.specs.Rows.{WorkedRows};
 
@@ -24,6 +25,11 @@ pub fn law_choice_fits()
     ensures held { (d : Decision) → Fits d (hold d) → Fits d (choice_of d) }
     ensures own { (d : Decision) → IsOwn d.context → AreNear d.state.pmv.at → 0 < increment_of d
         → increment_of d ≤ d.context.columns → 31 * increment_of d ≤ d.limits.room → Fits d (choice_of d) }
+{}
+
+/// A choice leaves a state of this encoder: predictors from -31 to 31, and a quantiser code.
+pub fn law_choice_leaves()
+    ensures { (d : Decision) → IsOwnState d.state → AreLimits d.limits → IsOwnState (state_behind d (choice_of d)) }
 {}
 
 /// Worked values: the texts of held macroblocks, bit by bit, those that take all of 31 bits, and where a macroblock may be
