@@ -57,6 +57,9 @@ all_near a b c d p q r s (suc (suc m)) e k = (omega (arith, ints), omega (arith,
 zeros_near : Near zeros
 zeros_near = two_near (pos 0) (pos 0) none_near none_near
 
+pub zero_near : AreNear none.at
+zero_near = all_near zeros zeros zeros zeros zeros_near zeros_near zeros_near zeros_near
+
 -- what a vector leaves is near
 left_zeros : (halved : Bool) → Near (left_by halved zeros)
 unfolding left_by
@@ -103,7 +106,7 @@ entry_near m p entry direction leaves near =
 after_near : (m : Motion) (p : Pmv) → LeavesNear m → AreNear p.at → AreNear (predictors_after m p).at
 unfolding predictors_after
 after_near m p leaves near =
-    either (λ (q : Pmv). AreNear q.at) (resets m) none _ (all_near zeros zeros zeros zeros zeros_near zeros_near zeros_near zeros_near)
+    either (λ (q : Pmv). AreNear q.at) (resets m) none _ zero_near
     (all_near (entry_after m p 0 0) (entry_after m p 0 1) (entry_after m p 1 0) (entry_after m p 1 1) (entry_near m p 0 0 leaves near) (entry_near m p 0 1 leaves near) (entry_near m p 1 0 leaves near) (entry_near m p 1 1 leaves near))
 
 before_near : (c : PictureContext) (st : SliceState) (n : ℕ) → AreNear st.pmv.at → AreNear (pmv_before c st n).at
@@ -199,12 +202,12 @@ unfolding predictions
 predictions_near d le =
     let P = PredictionNear d.context in
     let h = is_halved (is_field d.context) (no_form d.context) in
-    let zero_near : P (zero_prediction d) = record { forward = no_vectors_near h; backward = no_vectors_near h } in
+    let first_near : P (zero_prediction d) = record { forward = no_vectors_near h; backward = no_vectors_near h } in
     let still = cond (nat_eq d.context.kind 2) (zero_prediction d ∷ []) [] in
     let plain = predictions_by d (plain_form d.context) (plain_direction d d.forward) (plain_direction d d.backward) in
     let fields = predictions_by d 1 (field_direction d d.forward) (field_direction d d.backward) in
     let halved = is_halved (is_field d.context) 1 in
-    let still_all = either (All P) (nat_eq d.context.kind 2) (zero_prediction d ∷ []) [] (All-cons P (zero_prediction d) [] zero_near (All-nil P)) (All-nil P) in
+    let still_all = either (All P) (nat_eq d.context.kind 2) (zero_prediction d ∷ []) [] (All-cons P (zero_prediction d) [] first_near (All-nil P)) (All-nil P) in
     let plain_all = by_near d (plain_form d.context) (plain_direction d d.forward) (plain_direction d d.backward) (plain_near d d.forward le) (plain_near d d.backward le) in
     let fields_all = by_near d 1 (field_direction d d.forward) (field_direction d d.backward) (field_near halved d d.forward le) (field_near halved d d.backward le) in
     let last = cond (has_dct_type d) fields [] in

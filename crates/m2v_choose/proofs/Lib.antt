@@ -3,4 +3,5 @@ pub mod HeldParts
 pub mod Held
 pub mod Reached
 pub mod Kept
+pub mod OwnReady
 pub mod Worked

@@ -1,9 +1,13 @@
 //! What holds of the choice of a macroblock.
 ghost use Rattle.std.specs.Prelude.{ℕ, ◌*◌, ◌<◌, ◌≤◌};
+ghost use Rattle.m2v_macro.specs.declared.values.SliceState.{SliceState};
+ghost use Rattle.m2v_macro.specs.declared.values.PictureContext.{PictureContext};
+ghost use Rattle.m2v_macro.specs.States.{at_start};
+ghost use Rattle.m2v_macro.specs.Conditions.{IsContext, IsReady};
 ghost use Rattle.m2v_choose.specs.Decisions.{Decision, increment_of};
 ghost use Rattle.m2v_choose.specs.Candidates.{hold};
 ghost use Rattle.m2v_choose.specs.Choice.{bits_taken, choice_of, state_behind};
-ghost use Rattle.m2v_choose.specs.Own.{IsOwn, AreNear, IsOwnState, AreLimits};
+ghost use Rattle.m2v_choose.specs.Own.{IsOwn, AreNear, IsCode, IsOwnState, AreLimits};
 ghost use Rattle.m2v_choose.specs.Laws.{IsFirstOfLeast, Fits};
 ghost use Rattle.m2v_choose.specs.Rows.{WorkedRows};
 
@@ -30,6 +34,14 @@ pub fn law_choice_fits()
 /// A choice leaves a state of this encoder: predictors from -31 to 31, and a quantiser code.
 pub fn law_choice_leaves()
     ensures { (d : Decision) → IsOwnState d.state → AreLimits d.limits → IsOwnState (state_behind d (choice_of d)) }
+{}
+
+/// A slice begins with a state of this encoder, and in its pictures the headers and these states are as readers and writers of
+/// macroblocks ask for them.
+pub fn law_own_ready()
+    ensures start { (c : PictureContext) (row q next : ℕ) → IsCode q → IsOwnState (at_start c row q next) }
+    ensures context { (c : PictureContext) → IsOwn c → IsContext c }
+    ensures ready { (c : PictureContext) (st : SliceState) → IsOwn c → IsOwnState st → IsReady c st }
 {}
 
 /// Worked values: the texts of held macroblocks, bit by bit, those that take all of 31 bits, and where a macroblock may be
