@@ -4,4 +4,5 @@ pub mod Held
 pub mod Reached
 pub mod Kept
 pub mod OwnReady
+pub mod DcKept
 pub mod Worked

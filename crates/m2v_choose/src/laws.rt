@@ -4,6 +4,7 @@ ghost use Rattle.m2v_macro.specs.declared.values.SliceState.{SliceState};
 ghost use Rattle.m2v_macro.specs.declared.values.PictureContext.{PictureContext};
 ghost use Rattle.m2v_macro.specs.States.{at_start};
 ghost use Rattle.m2v_macro.specs.Conditions.{IsContext, IsReady};
+ghost use Rattle.m2v_macroblock.specs.Conditions.{AreDc};
 ghost use Rattle.m2v_choose.specs.Decisions.{Decision, increment_of};
 ghost use Rattle.m2v_choose.specs.Candidates.{hold};
 ghost use Rattle.m2v_choose.specs.Choice.{bits_taken, choice_of, state_behind};
@@ -34,6 +35,12 @@ pub fn law_choice_fits()
 /// A choice leaves a state of this encoder: predictors from -31 to 31, and a quantiser code.
 pub fn law_choice_leaves()
     ensures { (d : Decision) → IsOwnState d.state → AreLimits d.limits → IsOwnState (state_behind d (choice_of d)) }
+{}
+
+/// A slice begins with DC predictors of 8 bits, and a choice leaves such ones.
+pub fn law_choice_dc()
+    ensures start { (c : PictureContext) (row q next : ℕ) → IsOwn c → AreDc 0 (at_start c row q next).dc }
+    ensures choice { (d : Decision) → IsOwn d.context → AreDc 0 d.state.dc → AreDc 0 (state_behind d (choice_of d)).dc }
 {}
 
 /// A slice begins with a state of this encoder, and in its pictures the headers and these states are as readers and writers of

@@ -6,7 +6,7 @@ mod laws;
 mod values;
 
 pub use laws::{
-    law_choice_fits, law_choice_leaves, law_first_of_least, law_hold_fits, law_own_ready,
-    law_worked_rows,
+    law_choice_dc, law_choice_fits, law_choice_leaves, law_first_of_least, law_hold_fits,
+    law_own_ready, law_worked_rows,
 };
 pub use values::Limits;
