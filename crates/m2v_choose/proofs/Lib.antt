@@ -1,0 +1,8 @@
+pub mod Chosen
+pub mod HeldParts
+pub mod Held
+pub mod Reached
+pub mod Kept
+pub mod OwnReady
+pub mod DcKept
+pub mod Worked

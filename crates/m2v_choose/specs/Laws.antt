@@ -1,0 +1,20 @@
+-- What the laws of choices say.
+use Rattle.std.specs.Prelude.{◌≡◌, ◌≤◌, true, ◌∷◌, filter, All}
+use Rattle.m2v_search.specs.Least.{IsFirstLeast}
+use Rattle.m2v_choose.specs.Decisions.{Decision, Candidate}
+use Rattle.m2v_choose.specs.Candidates.{hold, others}
+use Rattle.m2v_choose.specs.Choice.{bits_taken, most_bits, score, fits, candidates, choice_of}
+
+-- the choice is the first of least score
+pub record IsFirstOfLeast (d : Decision) : Type 0 where
+  -- of hold and of the others that fit
+  pub all : IsFirstLeast (score d) (hold d ∷ filter (fits d) (others d)) (choice_of d)
+  -- of all candidates that fit, where hold does
+  pub fitting : fits d (hold d) ≡ true → IsFirstLeast (score d) (filter (fits d) (candidates d)) (choice_of d)
+  -- so hold is taken only where none that fits is better
+  pub held : choice_of d ≡ hold d → All (λ x. score d (hold d) ≤ score d x) (filter (fits d) (others d))
+
+-- a candidate is short enough
+pub record Fits (d : Decision) (x : Candidate) : Type 0 where
+  pub most : bits_taken d x ≤ most_bits
+  pub room : bits_taken d x ≤ d.limits.room

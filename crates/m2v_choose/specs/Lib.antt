@@ -1,0 +1,6 @@
+pub mod Decisions
+pub mod Candidates
+pub mod Choice
+pub mod Own
+pub mod Laws
+pub mod Rows

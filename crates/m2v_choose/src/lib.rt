@@ -1,0 +1,12 @@
+//! The choice of a macroblock in the encoder: its candidates in order, the bits and the score of each, and the first of
+//! least score among those that are short enough. Definitions, with the laws that hold of them.
+#![tactic(auto)]
+
+mod laws;
+mod values;
+
+pub use laws::{
+    law_choice_dc, law_choice_fits, law_choice_leaves, law_first_of_least, law_hold_fits,
+    law_own_ready, law_worked_rows,
+};
+pub use values::Limits;
