@@ -77,7 +77,8 @@ impl JobBook for Chain {
     }
 }
 
-// Two jobs that need none. The value of job j is 3 j + 5, and so is the number that a gate is told.
+// Two jobs that need none, and a third one that needs the first. The value of job j is 3 j + 5, and so is the number that
+// a gate is told.
 pub(crate) struct Pair;
 
 impl JobBook for Pair {
@@ -87,7 +88,7 @@ impl JobBook for Pair {
 
     type Cache = u64;
 
-    ghost jobs = { λ _. 2 };
+    ghost jobs = { λ _. 3 };
 
     ghost needs = { λ _. pair_needs };
 
@@ -110,10 +111,14 @@ impl JobBook for Pair {
     ghost needs_are_few = { λ _ j _. pair_few j };
 
     fn jobs(&self) -> u32 {
-        2
+        3
     }
 
-    fn needs(&self, _j: u32, _out: &mut NeedList) {}
+    fn needs(&self, j: u32, out: &mut NeedList) {
+        if j > 1 {
+            out.push(0);
+        }
+    }
 
     fn blank_piece(&self, _alloc: Global, _j: u32) -> Result<u64, Memory> {
         Ok(0)

@@ -60,13 +60,14 @@ impl Seen {
 }
 
 // A gate that holds job 0 in `pass` until job 1 is done, and job 1 in `pass` until job 0 was there, each for 50,000,000
-// turns at most. One worker alone never opens it.
+// turns at most. One worker alone never opens it. It lets the third job pass.
 #[derive(Drop)]
 struct Meeting {
     calls: AtomicU64,
     given_up: AtomicU64,
     first: Seen,
     second: Seen,
+    third: Seen,
 }
 
 impl Meeting {
@@ -76,6 +77,7 @@ impl Meeting {
             given_up: AtomicU64::new(0),
             first: Seen::new(),
             second: Seen::new(),
+            third: Seen::new(),
         }
     }
 
@@ -85,7 +87,11 @@ impl Meeting {
     }
 
     fn of(&self, job: u32) -> &Seen {
-        if job == 0 { &self.first } else { &self.second }
+        match job {
+            0 => &self.first,
+            1 => &self.second,
+            _ => &self.third,
+        }
     }
 
     fn wait_for(&self, call: &AtomicU64) {
@@ -104,10 +110,10 @@ impl Gate for Meeting {
         let seen = self.of(job);
         seen.passed_by.store(u64::from(worker), Ordering::SeqCst);
         seen.passed.store(self.call(), Ordering::SeqCst);
-        if job == 0 {
-            self.wait_for(&self.second.done);
-        } else {
-            self.wait_for(&self.first.passed);
+        match job {
+            0 => self.wait_for(&self.second.done),
+            1 => self.wait_for(&self.first.passed),
+            _ => {}
         }
     }
 
@@ -130,6 +136,7 @@ fn check_meeting<R: Abort>(rt: &R, gate: &Meeting) {
     assert_eq!(rt; read(&gate.given_up), 0);
     assert_eq!(rt; read(&first.told), 5);
     assert_eq!(rt; read(&second.told), 8);
+    assert_eq!(rt; read(&gate.third.told), 11);
     assert!(rt; read(&first.passed) < read(&second.done));
     assert!(rt; read(&second.passed) < read(&second.done));
     assert!(rt; read(&second.done) < read(&first.done));
@@ -147,6 +154,7 @@ fn run_pair<R: Abort + Threads + Wait + Sync>(rt: &R, alloc: Global) -> Result<(
     check_meeting(rt, &gate);
     assert_eq!(rt; *done.piece(0), 5);
     assert_eq!(rt; *done.piece(1), 8);
+    assert_eq!(rt; *done.piece(2), 11);
     Ok(())
 }
 
