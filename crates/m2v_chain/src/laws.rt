@@ -16,7 +16,8 @@ pub fn law_cut()
 
 /// Units that are parts of a stream are read in as many rounds.
 pub fn law_chained()
-    ensures { (a b : State) (ps : List Part) (us : Units) → Chain a ps us b → (xs : List Part) (vs rest : Units) (z : Sofar)
+    ensures { (a b : State) (ps : List Part) (us : Units) → Chain a ps us b
+        → (xs : List Part) (vs rest : Units) (z : Sofar)
         → Rounds unit_round (record { state = b; parts = xs ++ ps }) z vs rest
         → Rounds unit_round (record { state = a; parts = xs }) z (us ++ vs) rest }
 {}

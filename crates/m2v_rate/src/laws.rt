@@ -18,10 +18,17 @@ ghost use Rattle.m2v_rate.specs.Safety.{Picture, closed, IsCoded, AreCoded, grou
 /// and of a cap is cut off at 0, since each cap is held. The caps of all slices are the picture's cap
 /// less 416 bits, for headers and an end code.
 pub fn law_plan()
-    ensures sees { (l : Entries) (s q c t s' q' c' t' : List ℕ) (p : ℕ) → Agree (first_open p) s s' → Agree p q q' → Agree p c c' → Agree p t t' → plan_of (told l s q c t) p ≡ plan_of (told l s' q' c' t') p }
-    ensures early { (l : Entries) (p : ℕ) → plan_of l p ≡ plan_of (told l (take (first_open p) l.sizes) (take p l.quantisers) (take p l.caps) (take p l.targets)) p }
-    ensures held { (l : Entries) (p j : ℕ) → IsSteady l → p ≤ length l.caps → p ≤ length l.sizes + 3 → first_open p ≤ j → j < p → IsHeld l (first_open p) j }
-    ensures slices { (s : Settings) (cap : ℕ) → Passes s → least_of s ≤ cap → cap % 8 ≡ 0 → sum_by (λ r. slice_cap_of s cap r) (range_with_len 0 (rows_by s.scan s.height)) ≡ cap - 416 }
+    ensures sees { (l : Entries) (s q c t s' q' c' t' : List ℕ) (p : ℕ) → Agree (first_open p) s s'
+        → Agree p q q' → Agree p c c' → Agree p t t'
+        → plan_of (told l s q c t) p ≡ plan_of (told l s' q' c' t') p }
+    ensures early { (l : Entries) (p : ℕ)
+        → plan_of l p ≡ plan_of (told l (take (first_open p) l.sizes) (take p l.quantisers)
+        (take p l.caps) (take p l.targets)) p }
+    ensures held { (l : Entries) (p j : ℕ) → IsSteady l → p ≤ length l.caps → p ≤ length l.sizes + 3
+        → first_open p ≤ j → j < p → IsHeld l (first_open p) j }
+    ensures slices { (s : Settings) (cap : ℕ) → Passes s → least_of s ≤ cap → cap % 8 ≡ 0
+        → sum_by (λ r. slice_cap_of s cap r) (range_with_len 0 (rows_by s.scan s.height))
+        ≡ cap - 416 }
 {}
 
 /// What holds of each stream that is coded by its plans, with settings that pass: of groups of pictures whose sizes, without
@@ -31,8 +38,17 @@ pub fn law_plan()
 /// that of Annex C for the pictures that were sent, and each picture keeps what its plan knew. The time until a picture is
 /// removed, from a place so many bits behind its begin, is that in which what is held beyond these bits arrives.
 pub fn law_safe()
-    ensures safe { (s : Settings) (gs : List (List Picture)) → Passes s → AreCoded (fresh s) gs → Safe (start_of s) (removals (fresh s) gs) }
-    ensures accounts { (s : Settings) (gs : List (List Picture)) (g : List Picture) (p : ℕ) → Passes s → AreCoded (fresh s) gs → let l = after_groups (fresh s) gs in IsCoded l g → p ≤ length g → account_at (closed l g) p ≡ account_of (start_of s) (sent (fresh s) gs ++ group_removals (closed l g) p) }
-    ensures keeps { (s : Settings) (gs : List (List Picture)) (g : List Picture) (p : ℕ) → Passes s → AreCoded (fresh s) gs → let l = after_groups (fresh s) gs in IsCoded l g → p < length g → Keeps (closed l g) p }
-    ensures delay { (start : Start) (before : List Removal) (bits : ℕ) → start.s ≤ removed before + bits → arriving (account_of start before) (removed before + bits) ≡ held_endless start before - 1800 * bits }
+    ensures safe { (s : Settings) (gs : List (List Picture)) → Passes s → AreCoded (fresh s) gs
+        → Safe (start_of s) (removals (fresh s) gs) }
+    ensures accounts { (s : Settings) (gs : List (List Picture)) (g : List Picture) (p : ℕ)
+        → Passes s → AreCoded (fresh s) gs → let l = after_groups (fresh s) gs in IsCoded l g
+        → p ≤ length g → account_at (closed l g) p
+        ≡ account_of (start_of s) (sent (fresh s) gs ++ group_removals (closed l g) p) }
+    ensures keeps { (s : Settings) (gs : List (List Picture)) (g : List Picture) (p : ℕ) → Passes s
+        → AreCoded (fresh s) gs → let l = after_groups (fresh s) gs in IsCoded l g → p < length g
+        → Keeps (closed l g) p }
+    ensures delay { (start : Start) (before : List Removal) (bits : ℕ)
+        → start.s ≤ removed before + bits
+        → arriving (account_of start before) (removed before + bits)
+        ≡ held_endless start before - 1800 * bits }
 {}

@@ -27,7 +27,8 @@ pub fn best_spot(
     requires right { 32 ≤ area.right }
     requires high { area.bottom ≤ 3 * count }
     requires wide { area.right ≤ 48 }
-    ensures spot { result.spot ≡ half_spot (spot_sad block.now count window.now) count area (whole_spot (spot_sad block.now count window.now) count area across down) }
+    ensures spot { result.spot ≡ half_spot (spot_sad block.now count window.now) count area
+        (whole_spot (spot_sad block.now count window.now) count area across down) }
     ensures sad { result.sad ≡ spot_sad block.now count window.now result.spot }
     ensures near { IsNear count area (2 * across + 1) (2 * down + 1) result.spot }
 {

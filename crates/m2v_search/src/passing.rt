@@ -143,7 +143,8 @@ fn passed(
     requires y { lines.end + count ≤ 49 }
     requires x { columns.end ≤ 33 }
     requires known { best.sad ≡ spot_sad block.now count window.now best.spot }
-    ensures spot { result.spot ≡ least (cut limit (spot_sad block.now count window.now)) best.spot (spots 2 lines columns) }
+    ensures spot { result.spot ≡ least (cut limit (spot_sad block.now count window.now)) best.spot
+        (spots 2 lines columns) }
     ensures sad { result.sad ≡ spot_sad block.now count window.now result.spot }
 {
     let mut best = best;
@@ -256,7 +257,8 @@ pub fn best_by_bounds(
     requires y { lines.end + count ≤ 49 }
     requires x { columns.end ≤ 33 }
     requires known { best.sad ≡ spot_sad block.now count window.now best.spot }
-    ensures spot { result.spot ≡ least (spot_sad block.now count window.now) best.spot (spots 2 lines columns) }
+    ensures spot { result.spot ≡ least (spot_sad block.now count window.now) best.spot
+        (spots 2 lines columns) }
     ensures sad { result.sad ≡ spot_sad block.now count window.now result.spot }
 {
     let mut sums = [0; 2304];

@@ -78,7 +78,8 @@ pub fn best_of(
     requires y { unit * lines.end + 2 * count ≤ 96 + unit }
     requires x { unit * columns.end ≤ 64 + unit }
     requires known { best.sad ≡ spot_sad block.now count window.now best.spot }
-    ensures spot { result.spot ≡ least (spot_sad block.now count window.now) best.spot (spots unit lines columns) }
+    ensures spot { result.spot ≡ least (spot_sad block.now count window.now) best.spot
+        (spots unit lines columns) }
     ensures sad { result.sad ≡ spot_sad block.now count window.now result.spot }
 {
     let mut best = best;

@@ -126,7 +126,8 @@ impl Account {
         ensures fewest { (z : ℕ) → z % 8 ≡ 0 → LeavesRoom self.now (bits + z) units → result ≤ z }
         ensures small { result < 2 ^ 40 }
         ensures held { self.now.start.k * units + 14400 ≤ 1800 * self.now.start.buffer_bits → 1800 * (bits + result) ≤ self.now.held }
-        ensures tight { self.now.start.k * units + 14400 ≤ 1800 * self.now.start.buffer_bits → 0 < result → IsTight self.now bits result units }
+        ensures tight { self.now.start.k * units + 14400 ≤ 1800 * self.now.start.buffer_bits
+            → 0 < result → IsTight self.now bits result units }
     {
         let full = 1800 * (u128::from(self.buffer_bits) + u128::from(bits));
         let excess = (self.held + self.arriving(units)).saturating_sub(full);
