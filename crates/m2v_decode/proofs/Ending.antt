@@ -19,7 +19,7 @@ use Rattle.m2v_piece.specs.declared.answer.DecodeError.TheVariants as errors
 use Rattle.m2v_piece.specs.Cutting.{Cutting}
 use Rattle.m2v_decoder.specs.Decoding.{Decoding, at_start, due_of, Finished}
 use Rattle.m2v_decode.specs.declared.answer.Decoded.{Decoded}
-use Rattle.m2v_decode.specs.Answers.{start_of, AllFit, Begun, behind, shown_by, IsDecoded, IsCut, Of, Fails}
+use Rattle.m2v_decode.specs.Answers.{start_of, AllFit, PiecesRead, behind, shown_by, IsDecoded, IsCut, Of, Fails}
 use Rattle.m2v_decode.specs.Progress.{raw_of, before_all, Reached, IsDone, Ends, EndFails}
 use Rattle.m2v_decode.proofs.Ordering.{shown_is, agrees}
 use Rattle.m2v_decode.proofs.Going.{progress_none, moved_cut, shown_raw, faulty_at}
@@ -27,7 +27,7 @@ use Rattle.m2v_decode.proofs.Going.{progress_none, moved_cut, shown_raw, faulty_
 due_then : (d n : Decoding) (end : ℕ) → d.ready ≡ [] → Finished d end n → due_of n ≡ option_to_list d.anchor
 due_then d n end none f = rw (f.ready, f.ended, f.anchor, none) refl
 
-whole_read : (text : List ℕ) (ps : Pictures) (st last : State) → (b : Begun text ps st []) → piece_read st (behind b) [] ≡ Ok ([], last) → text_read text ≡ Ok (ps, last)
+whole_read : (text : List ℕ) (ps : Pictures) (st last : State) → (b : PiecesRead text ps st []) → piece_read st (behind b) [] ≡ Ok ([], last) → text_read text ≡ Ok (ps, last)
 unfolding onward
 whole_read text ps st last b read =
     text_rest text ∙ ap (rest_read at_first (start_of text)) (b.are) ∙ rest_read-append b.first [] at_first (start_of text)
@@ -40,7 +40,7 @@ decodes_to text ps st r = record {
   shown = ap (λ (q : Pictures). shown (low_delay_of st.first) q) r.pictures ∙ ap (λ (z : State). shown (low_delay_of z.first) (pictures_of (r.tree).parts)) r.state;
 }
 
-all_fit : (text : List ℕ) (ps : Pictures) (st : State) → (b : Begun text ps st []) → AllFit (start_of text) (pieces text)
+all_fit : (text : List ℕ) (ps : Pictures) (st : State) → (b : PiecesRead text ps st []) → AllFit (start_of text) (pieces text)
 all_fit text ps st b = subst (AllFit (start_of text)) (sym (b.are ∙ append-nil b.first)) b.fit
 
 -- The input's states are i0, i1 and so on, the output's o0, o1.

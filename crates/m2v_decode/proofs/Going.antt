@@ -22,12 +22,12 @@ use Rattle.m2v_piece.specs.declared.answer.Piece.{Piece}
 use Rattle.m2v_piece.specs.declared.answer.Fault.{Fault}
 use Rattle.m2v_piece.specs.declared.answer.DecodeError.{DecodeError}
 use Rattle.m2v_piece.specs.declared.answer.DecodeError.TheVariants as errors
-use Rattle.m2v_piece.specs.Cutting.{Cutting, left_of, IsReading, Stops, open_start, open_pieces}
+use Rattle.m2v_piece.specs.Cutting.{Cutting, left_of, IsReading, PieceStops, open_start, open_pieces}
 use Rattle.m2v_piece.proofs.WholeLaws.{whole_is}
 use Rattle.m2v_piece.specs.Cutting.{start_of as start_of_rest}
 use Rattle.m2v_piece.specs.Stepping.{Handed, Stopped, NextPiece}
-use Rattle.m2v_decoder.specs.Decoding.{Decoding, at_start, due_of, Agrees, Shows, Advanced, Refuses, whole_of}
-use Rattle.m2v_decode.specs.Answers.{start_of, AllFit, Begun, behind, HasFault, due_before, shown_by, IsFaulty, IsOver, IsCut, Of, Fails}
+use Rattle.m2v_decoder.specs.Decoding.{Decoding, at_start, due_of, Agrees, ShowsFrames, Advanced, Refuses, whole_of}
+use Rattle.m2v_decode.specs.Answers.{start_of, AllFit, PiecesRead, behind, HasFault, due_before, shown_by, IsFaulty, IsOver, IsCut, Of, Fails}
 use Rattle.m2v_decode.specs.Progress.{raw_of, before_all, Cuts, HasPut, Reached, Progress, IsDone}
 use Rattle.m2v_decode.proofs.Putting.{raw-append}
 use Rattle.m2v_decoder.proofs.Showing.{shows_on, shows_none, shows_behind}
@@ -69,8 +69,8 @@ ready_none d going none = both_none d.ready _ none
 due_ready : (d : Decoding) → d.ended ≡ false → due_of d ≡ d.ready
 due_ready d going = rw going (append-nil d.ready)
 
-begun_more : (text : List ℕ) (ps qs : Pictures) (mid last : State) (whole : List ℕ) (others : List (List ℕ)) → (b : Begun text ps mid (whole ∷ others)) → limit (behind b) 0 whole ≡ None
-    → piece_read mid (behind b + length whole) whole ≡ Ok (qs, last) → Begun text (ps ++ qs) last others
+begun_more : (text : List ℕ) (ps qs : Pictures) (mid last : State) (whole : List ℕ) (others : List (List ℕ)) → (b : PiecesRead text ps mid (whole ∷ others)) → limit (behind b) 0 whole ≡ None
+    → piece_read mid (behind b + length whole) whole ≡ Ok (qs, last) → PiecesRead text (ps ++ qs) last others
 begun_more text ps qs mid last whole others b fits read = record {
   first = b.first ++ whole ∷ [];
   are = b.are ∙ sym (append_assoc b.first (whole ∷ []) others);
@@ -93,9 +93,9 @@ reached_more text start whole others frames d m n r none fits a put =
       place = ap (λ (x : ℕ). x + length whole) r.place ∙ sym (end_more (r.begun).first (start_of text) whole);
       shows = λ low agree.
           let agree_m = first_same low m.state n.state put.state agree in
-          let second = subst (λ (x : List Samples). Shows low d.anchor x a.pictures m.anchor m.ready) none (a.shows low agree_m) in
-          subst (λ (x : List Samples). Shows low None [] (r.pictures ++ a.pictures) n.anchor (frames ++ x)) (sym (due_ready m a.going))
-          (subst (λ (x : Option Samples). Shows low None [] (r.pictures ++ a.pictures) x (frames ++ m.ready)) (sym (put.anchor a.going))
+          let second = subst (λ (x : List Samples). ShowsFrames low d.anchor x a.pictures m.anchor m.ready) none (a.shows low agree_m) in
+          subst (λ (x : List Samples). ShowsFrames low None [] (r.pictures ++ a.pictures) n.anchor (frames ++ x)) (sym (due_ready m a.going))
+          (subst (λ (x : Option Samples). ShowsFrames low None [] (r.pictures ++ a.pictures) x (frames ++ m.ready)) (sym (put.anchor a.going))
           (shows_on low None d.anchor m.anchor [] frames (frames ++ m.ready) r.pictures a.pictures (r.shows low (a.first low agree_m)) (shows_behind low d.anchor m.anchor frames m.ready a.pictures second)));
       counted = omega (arith, put.pictures, a.counted, r.counted, length-append r.pictures a.pictures);
     }
@@ -134,10 +134,10 @@ before_bytes bytes [] = refl
 before_bytes bytes (u ∷ us) = refl
 
 -- the frames that were written are those that are due
-due_raw : (st : State) (ps : Pictures) (anchor : Option Samples) (frames : List Samples) → ((low : Bool) → Agrees low st.first → Shows low None [] ps anchor frames) → raw_of frames ≡ raw (due_before st ps)
+due_raw : (st : State) (ps : Pictures) (anchor : Option Samples) (frames : List Samples) → ((low : Bool) → Agrees low st.first → ShowsFrames low None [] ps anchor frames) → raw_of frames ≡ raw (due_before st ps)
 due_raw st ps anchor frames s = ap raw (due_is (low_delay_of st.first) ps anchor frames (s (low_delay_of st.first) (agrees st.first)))
 
-pub shown_raw : (st : State) (ps : Pictures) (anchor : Option Samples) (frames : List Samples) → ((low : Bool) → Agrees low st.first → Shows low None [] ps anchor frames)
+pub shown_raw : (st : State) (ps : Pictures) (anchor : Option Samples) (frames : List Samples) → ((low : Bool) → Agrees low st.first → ShowsFrames low None [] ps anchor frames)
     → raw (shown_by st ps) ≡ raw_of frames ++ raw_of (option_to_list anchor)
 shown_raw st ps anchor frames s = sym (ap raw (shown_is (low_delay_of st.first) ps anchor frames (s (low_delay_of st.first) (agrees st.first)))) ∙ raw-append frames (option_to_list anchor)
 
@@ -146,7 +146,7 @@ unfolding onward
 onward_err r next f e = rw e refl
 
 -- the first fault of a text is looked at in the next piece
-faulty_text : (text : List ℕ) (kind : FaultKind) (place : ℕ) (ps : Pictures) (st : State) (others : List (List ℕ)) → (b : Begun text ps st others) → HasFault st (behind b) others kind place → FaultAt text place kind
+faulty_text : (text : List ℕ) (kind : FaultKind) (place : ℕ) (ps : Pictures) (st : State) (others : List (List ℕ)) → (b : PiecesRead text ps st others) → HasFault st (behind b) others kind place → FaultAt text place kind
 unfolding onward pieces_read
 faulty_text text kind place ps st [] b here = (by_pieces text).fault kind place (
     text_rest text ∙ ap (rest_read at_first (start_of text)) (b.are) ∙ rest_read-append b.first [] at_first (start_of text)
@@ -235,18 +235,18 @@ module _ {S K : Type 0} (left : S → Option (List ℕ)) (input_faults : S → �
         (reached_cut _ _ _ so.frames d o0 o1 (so.told (bytes ++ rest) (moved_some (left i1) (left i2) bytes rest moved e)) (grows_by_all so.grown));
   }
 
-  over_at : (text : List ℕ) (start : ℕ) (others : List (List ℕ)) (frames : List Samples) (d : Decoding) (o0 o1 : K) (e : DecodeError) → Reached text start others frames d → Grows (held o0) (raw_of frames) (held o1) → Stops start others e → IsOver text (output o0 o1) e
+  over_at : (text : List ℕ) (start : ℕ) (others : List (List ℕ)) (frames : List Samples) (d : Decoding) (o0 o1 : K) (e : DecodeError) → Reached text start others frames d → Grows (held o0) (raw_of frames) (held o1) → PieceStops start others e → IsOver text (output o0 o1) e
   over_at text start others frames d o0 o1 e r grown over = record {
     pictures = r.pictures;
     state = d.state;
     others = others;
     begun = r.begun;
-    over = subst (λ (x : ℕ). Stops x others e) r.place over;
+    over = subst (λ (x : ℕ). PieceStops x others e) r.place over;
     grown = subst (λ (b : List ℕ). Grows (held o0) b (held o1)) (due_raw d.state r.pictures d.anchor frames r.shows) grown;
   }
 
   over_text : (i0 i1 i2 : S) (o0 o1 : K) (c : Cutting) (d : Decoding) (bytes : List ℕ) (e : DecodeError) → With i0 i1 o0 o1 c d → Moves (left i1) bytes (left i2)
-      → ((rest : List ℕ) → (left i2) ≡ Some rest → Stops (start_of_rest c (bytes ++ rest)) (left_of c (bytes ++ rest)) e) → Text i0 i2 (λ text. IsOver text (output o0 o1) e)
+      → ((rest : List ℕ) → (left i2) ≡ Some rest → PieceStops (start_of_rest c (bytes ++ rest)) (left_of c (bytes ++ rest)) e) → Text i0 i2 (λ text. IsOver text (output o0 o1) e)
   over_text i0 i1 i2 o0 o1 c d bytes e so moved why = record {
     bytes = so.bytes ++ bytes;
     moved = moves_on so.moved moved;

@@ -10,7 +10,7 @@ use Rattle.m2v_order.proofs.Shows.{handed_due, handed_shown}
 use Rattle.m2v_model.specs.declared.state.Sequence.{Sequence}
 use Rattle.m2v_model.specs.Pictures.{Picture, Pictures}
 use Rattle.m2v_model.specs.Decoding.{is_dropped, raw_frames, shown, due, low_delay_of}
-use Rattle.m2v_decoder.specs.Decoding.{frame_of, Agrees, Shows}
+use Rattle.m2v_decoder.specs.Decoding.{frame_of, Agrees, ShowsFrames}
 
 -- ---- frames of pictures
 
@@ -53,7 +53,7 @@ map_map [] = refl
 map_map (p ∷ ps) = ap (λ (t : List (List ℕ)). crop (p.0).frame ∷ t) (map_map ps)
 
 -- what was handed out are the frames that are due
-pub due_is : (low : Bool) (ps : Pictures) (anchor : Option Samples) (frames : List Samples) → Shows low None [] ps anchor frames → map crop frames ≡ due low ps
+pub due_is : (low : Bool) (ps : Pictures) (anchor : Option Samples) (frames : List Samples) → ShowsFrames low None [] ps anchor frames → map crop frames ≡ due low ps
 unfolding framed
 due_is low ps anchor frames s =
     let kept = filter (is_kept is_dropped) ps in
@@ -61,7 +61,7 @@ due_is low ps anchor frames s =
     ∙ map_map (Due is_dropped low ps)
 
 -- and with the last anchor those that are shown
-pub shown_is : (low : Bool) (ps : Pictures) (anchor : Option Samples) (frames : List Samples) → Shows low None [] ps anchor frames → map crop (frames ++ option_to_list anchor) ≡ shown low ps
+pub shown_is : (low : Bool) (ps : Pictures) (anchor : Option Samples) (frames : List Samples) → ShowsFrames low None [] ps anchor frames → map crop (frames ++ option_to_list anchor) ≡ shown low ps
 unfolding framed
 shown_is low ps anchor frames s =
     let kept = filter (is_kept is_dropped) ps in

@@ -14,7 +14,7 @@ use Rattle.m2v_model.specs.ByPieces.{piece_read, pieces_read, end_of, IsRead}
 use Rattle.m2v_piece.specs.declared.answer.Fault.{Fault}
 use Rattle.m2v_piece.specs.declared.answer.DecodeError.{DecodeError}
 use Rattle.m2v_piece.specs.declared.answer.DecodeError.TheVariants as errors
-use Rattle.m2v_piece.specs.Cutting.{Stops}
+use Rattle.m2v_piece.specs.Cutting.{PieceStops}
 use Rattle.m2v_decode.specs.declared.answer.Decoded.{Decoded}
 
 -- where the first piece of a text begins
@@ -27,14 +27,14 @@ AllFit at [] = Unit {0}
 AllFit at (p ∷ ps) = (limit at 0 p ≡ None) × AllFit (at + length p) ps
 
 -- the first pieces of a text: none of them passes a limit, and they stand; with their pictures and the state behind them
-pub record Begun (text : List ℕ) (ps : Pictures) (st : State) (others : List (List ℕ)) : Type 0 where
+pub record PiecesRead (text : List ℕ) (ps : Pictures) (st : State) (others : List (List ℕ)) : Type 0 where
   pub first : List (List ℕ)
   pub are : pieces text ≡ first ++ others
   pub fit : AllFit (start_of text) first
   pub read : pieces_read at_first (start_of text) first ≡ Ok (ps, st)
 
 -- the place behind them
-abbrev pub behind : {text : List ℕ} {ps : Pictures} {st : State} {others : List (List ℕ)} → Begun text ps st others → ℕ
+abbrev pub behind : {text : List ℕ} {ps : Pictures} {st : State} {others : List (List ℕ)} → PiecesRead text ps st others → ℕ
 behind {text} b = end_of (start_of text) b.first
 
 -- the next piece has the first fault; behind the last one the end of the text, which an input may have there
@@ -68,7 +68,7 @@ pub record IsFaulty (text : List ℕ) (held : Change) (f : Fault) : Type 0 where
   pub pictures : Pictures
   pub state : State
   pub others : List (List ℕ)
-  pub begun : Begun text pictures state others
+  pub begun : PiecesRead text pictures state others
   pub here : HasFault state (behind begun) others f.kind f.place
   pub grown : Grows held.old (raw (due_before state pictures)) held.new
 
@@ -78,8 +78,8 @@ pub record IsOver (text : List ℕ) (held : Change) (e : DecodeError) : Type 0 w
   pub pictures : Pictures
   pub state : State
   pub others : List (List ℕ)
-  pub begun : Begun text pictures state others
-  pub over : Stops (behind begun) others e
+  pub begun : PiecesRead text pictures state others
+  pub over : PieceStops (behind begun) others e
   pub grown : Grows held.old (raw (due_before state pictures)) held.new
 
 -- Output has grown by a prefix of the frames that whole pictures of the text show.
@@ -87,7 +87,7 @@ pub record IsCut (text : List ℕ) (held : Change) : Type 0 where
   pub pictures : Pictures
   pub state : State
   pub others : List (List ℕ)
-  pub begun : Begun text pictures state others
+  pub begun : PiecesRead text pictures state others
   pub grown : GrowsByPrefix held.old (raw (shown_by state pictures)) held.new
 
 -- Some bytes of the input were read, and where the input tells its bytes, this holds of them and what is left.

@@ -11,7 +11,7 @@ use Rattle.m2v_piece.specs.declared.answer.DecodeError.{DecodeError}
 use Rattle.m2v_piece.specs.declared.answer.DecodeError.TheVariants as errors
 use Rattle.m2v_piece.specs.Cutting.{Passes}
 use Rattle.m2v_decode.specs.declared.answer.Decoded.{Decoded}
-use Rattle.m2v_decode.specs.Answers.{AllFit, start_of, Begun, behind, HasFault}
+use Rattle.m2v_decode.specs.Answers.{AllFit, start_of, PiecesRead, behind, HasFault}
 
 -- no piece of a text passes a limit, nor do the bytes before the first one
 pub record IsUnderLimits (text : List ℕ) : Type 0 where
@@ -23,7 +23,7 @@ pub record IsPast (text : List ℕ) (l : Limit) : Type 0 where
   pub pictures : Pictures
   pub state : State
   pub others : List (List ℕ)
-  pub begun : Begun text pictures state others
+  pub begun : PiecesRead text pictures state others
   pub passes : Passes (behind begun) l others
 
 -- The piece with this fault, and those before it, pass no limit; the first one begins where an input may have bytes.
@@ -32,7 +32,7 @@ pub record IsReached (text : List ℕ) (f : Fault) : Type 0 where
   pub pictures : Pictures
   pub state : State
   pub others : List (List ℕ)
-  pub begun : Begun text pictures state others
+  pub begun : PiecesRead text pictures state others
   pub here : HasFault state (behind begun) others f.kind f.place
 
 -- the numbers of a text that decodes

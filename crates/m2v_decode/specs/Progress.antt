@@ -10,9 +10,9 @@ use Rattle.m2v_model.specs.ByPieces.{piece_read}
 use Rattle.m2v_piece.specs.declared.answer.DecodeError.{DecodeError}
 use Rattle.m2v_piece.specs.declared.answer.DecodeError.TheVariants as errors
 use Rattle.m2v_piece.specs.Cutting.{Cutting, left_of, start_of as start_of_rest}
-use Rattle.m2v_decoder.specs.Decoding.{Decoding, due_of, Agrees, Shows, Finished}
+use Rattle.m2v_decoder.specs.Decoding.{Decoding, due_of, Agrees, ShowsFrames, Finished}
 use Rattle.m2v_decode.specs.declared.answer.Decoded.{Decoded}
-use Rattle.m2v_decode.specs.Answers.{Begun, behind}
+use Rattle.m2v_decode.specs.Answers.{PiecesRead, behind}
 
 -- frames as raw video
 abbrev pub raw_of : List Samples → List ℕ
@@ -44,9 +44,9 @@ pub record HasPut (old new : Decoding) : Type 0 where
 -- the first pieces of the text were read, and the frames due from them written
 pub record Reached (text : List ℕ) (start : ℕ) (others : List (List ℕ)) (frames : List Samples) (d : Decoding) : Type 0 where
   pub pictures : Pictures
-  pub begun : Begun text pictures d.state others
+  pub begun : PiecesRead text pictures d.state others
   pub place : start ≡ behind begun
-  pub shows : (low : Bool) → Agrees low d.state.first → Shows low None [] pictures d.anchor frames
+  pub shows : (low : Bool) → Agrees low d.state.first → ShowsFrames low None [] pictures d.anchor frames
   pub counted : d.pictures ≡ length pictures
 
 -- bytes were read and frames written

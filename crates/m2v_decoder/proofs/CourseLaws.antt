@@ -13,7 +13,7 @@ use Rattle.m2v_model.specs.States.{after_end}
 use Rattle.m2v_model.specs.Pictures.{Pictures, type_of, closed}
 use Rattle.m2v_decoder.specs.declared.course.Course.{Course}
 use Rattle.m2v_decoder.specs.Decoding.{decoded_of}
-use Rattle.m2v_decoder.specs.Course.{Fits, IsFresh, IsSound, Showed, Closed}
+use Rattle.m2v_decoder.specs.Course.{Fits, IsFresh, IsSoundCourse, Showed, Closed}
 use Rattle.m2v_decoder.proofs.Showing.{low_one}
 
 one_kept : (frame : Samples) (kind : ℕ) (b : Bool) → (kind == 3) ≡ b → decoded_of ((record { frame = frame; dropped = false }, kind) ∷ []) ≡ (frame, kind) ∷ []
@@ -51,7 +51,7 @@ fresh_shown None (Some s) p f a b h fits = absurd h
 fresh_shown None None p f a b h fits = absurd fits
 
 -- the frame that was open is shown or held
-pub closed_frame : (old mid new : Course) (frame : Samples) → IsSound old → old.canvas ≡ Some frame → mid.state ≡ after_end old.state → mid.canvas ≡ None → mid.queue ≡ old.queue → mid.ready.items ≡ old.ready.items → mid.pictures ≡ old.pictures → mid.shown ≡ old.shown
+pub closed_frame : (old mid new : Course) (frame : Samples) → IsSoundCourse old → old.canvas ≡ Some frame → mid.state ≡ after_end old.state → mid.canvas ≡ None → mid.queue ≡ old.queue → mid.ready.items ≡ old.ready.items → mid.pictures ≡ old.pictures → mid.shown ≡ old.shown
     → Showed mid frame (type_of old.state.picture) new → Closed old new
 closed_frame old mid new frame sound is state canvas queue ready pictures shown h =
     let kind = type_of old.state.picture in
@@ -85,7 +85,7 @@ closed_frame old mid new frame sound is state canvas queue ready pictures shown 
     }
 
 -- no frame was open
-pub closed_none : (old new : Course) → IsSound old → old.canvas ≡ None → new.state ≡ after_end old.state → new.canvas ≡ None → new.queue ≡ old.queue → new.ready.items ≡ old.ready.items → new.pictures ≡ old.pictures → new.shown ≡ old.shown → Closed old new
+pub closed_none : (old new : Course) → IsSoundCourse old → old.canvas ≡ None → new.state ≡ after_end old.state → new.canvas ≡ None → new.queue ≡ old.queue → new.ready.items ≡ old.ready.items → new.pictures ≡ old.pictures → new.shown ≡ old.shown → Closed old new
 unfolding handed held_after
 closed_none old new sound is state canvas queue ready pictures shown =
     let last : closed old.state old.canvas ≡ [] = ap (closed old.state) is in

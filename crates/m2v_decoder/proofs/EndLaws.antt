@@ -17,9 +17,9 @@ use Rattle.m2v_model.specs.declared.fault.FaultKind.{FaultKind}
 use Rattle.m2v_model.specs.Units.{Units}
 use Rattle.m2v_model.proofs.PieceLaws.{placed, piece_is}
 use Rattle.m2v_decoder.specs.declared.course.Course.{Course}
-use Rattle.m2v_decoder.specs.Course.{Fits, IsSound, ReadAll}
+use Rattle.m2v_decoder.specs.Course.{Fits, IsSoundCourse, ReadAll}
 use Rattle.m2v_piece.specs.declared.answer.Piece.{Piece}
-use Rattle.m2v_piece.specs.Sound.{IsSound as IsSoundPiece}
+use Rattle.m2v_piece.specs.Sound.{IsSoundPiece}
 use Rattle.m2v_decoder.specs.Decoding.{Decoding, Finished, Advanced, whole_of}
 
 -- a sequence header is in force, and no picture is open
@@ -53,7 +53,7 @@ no_picture s (Some p) (Some f) e h = absurd cc
 abbrev pub seen_as : Course → Bool → Bool → Decoding
 seen_as c ended failed = record { state = c.state; anchor = c.queue.anchor; ready = c.ready.items; ended = ended; failed = failed; pictures = c.pictures; shown = c.shown }
 
-pub finished : (c : Course) (end : ℕ) (ended : Bool) → is_some c.state.sequence ≡ true → IsSound c → c.canvas ≡ None → Finished (seen_as c ended false) end (seen_as (record c { state = record c.state { picture = None } }) true false)
+pub finished : (c : Course) (end : ℕ) (ended : Bool) → is_some c.state.sequence ≡ true → IsSoundCourse c → c.canvas ≡ None → Finished (seen_as c ended false) end (seen_as (record c { state = record c.state { picture = None } }) true false)
 finished c end ended some sound none =
     let s = present c.state.sequence some in
     let picture = no_picture s.0 c.state.picture c.canvas none (subst (λ (q : Option Sequence). Fits q c.state.picture c.canvas) s.1 sound.fits) in

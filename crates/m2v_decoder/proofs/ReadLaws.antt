@@ -22,8 +22,8 @@ use Rattle.m2v_part.specs.Among.{is_slice}
 use Rattle.m2v_decoder.specs.declared.course.Course.{Course}
 use Rattle.m2v_decoder.specs.declared.halt.Halt.{Halt}
 use Rattle.m2v_decoder.specs.declared.halt.Halt.TheVariants as halts
-use Rattle.m2v_decoder.specs.Decoding.{Agrees, Shows, queue_of, decoded_of}
-use Rattle.m2v_decoder.specs.Course.{Fits, IsFresh, IsSound, Emits, Steps, Rounds, ReadAll, Stops}
+use Rattle.m2v_decoder.specs.Decoding.{Agrees, ShowsFrames, queue_of, decoded_of}
+use Rattle.m2v_decoder.specs.Course.{Fits, IsFresh, IsSoundCourse, Emits, Steps, Rounds, ReadAll, CourseStops}
 use Rattle.m2v_decoder.proofs.Showing.{shows_none, shows_on}
 
 -- ---- one unit
@@ -113,7 +113,7 @@ queue_same None s o f q low st p fresh fits is agree =
     let none : closed_by st f p ≡ [] = ap (λ (x : Option Samples). closed_by st x p) (no_canvas s o f q.anchor fresh fits) ∙ closed_by_none st p in
     (rw none refl, rw none refl)
 
-step_shows : (low : Bool) (c d : Course) (p : Part) → IsSound c → Agrees low c.state.first → Emits c (closed_by c.state c.canvas p) d → Shows low c.queue.anchor c.ready.items (closed_by c.state c.canvas p) d.queue.anchor d.ready.items
+step_shows : (low : Bool) (c d : Course) (p : Part) → IsSoundCourse c → Agrees low c.state.first → Emits c (closed_by c.state c.canvas p) d → ShowsFrames low c.queue.anchor c.ready.items (closed_by c.state c.canvas p) d.queue.anchor d.ready.items
 step_shows low c d p sound agree e =
     let same = queue_same c.state.first c.state.sequence c.state.picture c.canvas c.queue low c.state p sound.fresh sound.fits sound.low agree in
     record { ready_is = e.ready ∙ ap (λ (t : List Samples). c.ready.items ++ t) (sym same.0); anchor_is = e.anchor ∙ sym same.1 }
@@ -125,7 +125,7 @@ pub record SoFar (old : Course) (us : Units) (new : Course) (mid : Units) : Type
   pub pictures : Pictures
   pub read : seen old.state old.canvas us ≡ behind pictures (seen new.state new.canvas mid)
   pub first : (low : Bool) → Agrees low new.state.first → Agrees low old.state.first
-  pub shows : (low : Bool) → Agrees low new.state.first → Shows low old.queue.anchor old.ready.items pictures new.queue.anchor new.ready.items
+  pub shows : (low : Bool) → Agrees low new.state.first → ShowsFrames low old.queue.anchor old.ready.items pictures new.queue.anchor new.ready.items
   pub counted : new.pictures ≡ old.pictures + length pictures
   pub few : length pictures + length mid ≤ length us
   pub shown : new.shown ≡ old.shown
@@ -144,7 +144,7 @@ so_far_none c us = record {
 agrees_step : (low : Bool) (c d : Course) (p : Part) → d.state ≡ after c.state p → Agrees low d.state.first → Agrees low c.state.first
 agrees_step low c d p state agree = agrees_before low c.state p (subst (λ (z : State). Agrees low z.first) state agree)
 
-pub so_far_more : (old c d : Course) (us mid next : Units) (more : Bool) (p : Part) → SoFar old us c mid → IsSound c → unit_of c.state mid ≡ Ok ((more, p), next) → more ≡ true → Steps c p d → SoFar old us d next
+pub so_far_more : (old c d : Course) (us mid next : Units) (more : Bool) (p : Part) → SoFar old us c mid → IsSoundCourse c → unit_of c.state mid ≡ Ok ((more, p), next) → more ≡ true → Steps c p d → SoFar old us d next
 so_far_more old c d us mid next more p so sound read on step =
     let one = one_closed c.state c.canvas p in
     let less = unit_less c.state mid next more p read on in
@@ -165,7 +165,7 @@ so_far_more old c d us mid next more p so sound read on step =
       shown = (step.emits).shown ∙ so.shown;
     }
 
-pub all_read : (old c d : Course) (us mid next : Units) (more : Bool) (p : Part) → SoFar old us c mid → IsSound c → unit_of c.state mid ≡ Ok ((more, p), next) → more ≡ false → Steps c p d → d.canvas ≡ None → ReadAll old us d
+pub all_read : (old c d : Course) (us mid next : Units) (more : Bool) (p : Part) → SoFar old us c mid → IsSoundCourse c → unit_of c.state mid ≡ Ok ((more, p), next) → more ≡ false → Steps c p d → d.canvas ≡ None → ReadAll old us d
 all_read old c d us mid next more p so sound read off step none =
     let one = one_closed c.state c.canvas p in
     let now = closed_by c.state c.canvas p in
@@ -190,6 +190,6 @@ all_read old c d us mid next more p so sound read off step none =
       sound = step.sound;
     }
 
-pub stopped : (old c d : Course) (us mid next : Units) (h : Halt) → SoFar old us c mid → Rounds c (Err h) d next (unit_of c.state mid) → Stops old us h
+pub stopped : (old c d : Course) (us mid next : Units) (h : Halt) → SoFar old us c mid → Rounds c (Err h) d next (unit_of c.state mid) → CourseStops old us h
 stopped old c d us mid next halts.Memory so r = tt
 stopped old c d us mid next (halts.Fault stop) so r = so.read ∙ ap (behind so.pictures) (seen_err c.state c.canvas mid (stop.kind, stop.left) r)

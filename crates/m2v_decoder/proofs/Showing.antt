@@ -7,7 +7,7 @@ use Rattle.m2v_plane.specs.Samples.{Samples}
 use Rattle.m2v_order.specs.Display.{Holder, shown as shown_step, held, handed, held_after, is_kept}
 use Rattle.m2v_model.specs.Pictures.{Pictures}
 use Rattle.m2v_model.specs.Decoding.{is_dropped}
-use Rattle.m2v_decoder.specs.Decoding.{frame_of, decoded_of, queue_of, Shows}
+use Rattle.m2v_decoder.specs.Decoding.{frame_of, decoded_of, queue_of, ShowsFrames}
 
 decoded-append : (ps qs : Pictures) → decoded_of (ps ++ qs) ≡ decoded_of ps ++ decoded_of qs
 decoded-append ps qs = ap (map frame_of) (filter-append (is_kept is_dropped) ps qs) ∙ map-append frame_of (filter (is_kept is_dropped) ps) (filter (is_kept is_dropped) qs)
@@ -41,13 +41,13 @@ queue_is low anchor then ps e =
     let l : q.low_delay ≡ low = low_stays (queue_of low anchor) ps in
     ap (λ (x : Bool). record { low_delay = x; anchor = q.anchor }) l ∙ ap (λ (x : Option Samples). queue_of low x) (sym e)
 
-pub shows_none : (low : Bool) (anchor : Option Samples) (ready : List Samples) → Shows low anchor ready [] anchor ready
+pub shows_none : (low : Bool) (anchor : Option Samples) (ready : List Samples) → ShowsFrames low anchor ready [] anchor ready
 unfolding handed held_after
 shows_none low anchor ready = record { ready_is = sym (append-nil ready); anchor_is = refl }
 
 -- pictures, and then more pictures
 pub shows_on : (low : Bool) (a b c : Option Samples) (r s t : List Samples) (ps qs : Pictures)
-    → Shows low a r ps b s → Shows low b s qs c t → Shows low a r (ps ++ qs) c t
+    → ShowsFrames low a r ps b s → ShowsFrames low b s qs c t → ShowsFrames low a r (ps ++ qs) c t
 shows_on low a b c r s t ps qs first second =
     let q = queue_of low a in
     let now = queue_is low a b (decoded_of ps) first.anchor_is in
@@ -67,5 +67,5 @@ shows_on low a b c r s t ps qs first second =
     }
 
 -- what is shown of some pictures stands behind what was ready before
-pub shows_behind : (low : Bool) (a b : Option Samples) (s t : List Samples) (ps : Pictures) → Shows low a [] ps b t → Shows low a s ps b (s ++ t)
+pub shows_behind : (low : Bool) (a b : Option Samples) (s t : List Samples) (ps : Pictures) → ShowsFrames low a [] ps b t → ShowsFrames low a s ps b (s ++ t)
 shows_behind low a b s t ps h = record { ready_is = ap (λ (x : List Samples). s ++ x) h.ready_is; anchor_is = h.anchor_is }

@@ -24,7 +24,7 @@ use Rattle.m2v_model.specs.Streams.{after, sequence, group, picture, matrices, s
 use Rattle.m2v_model.specs.Pictures.{Pictures, dims_of, opened}
 use Rattle.m2v_model.specs.Decoding.{low_delay_of}
 use Rattle.m2v_decoder.specs.declared.course.Course.{Course}
-use Rattle.m2v_decoder.specs.Course.{IsOpen, Fits, IsFresh, IsSound, Emits, Steps, Closed, Begun, Painted}
+use Rattle.m2v_decoder.specs.Course.{IsOpen, Fits, IsFresh, IsSoundCourse, Emits, Steps, Closed, PictureBegun, Painted}
 
 -- ---- the frames on their way stay as they are
 
@@ -54,7 +54,7 @@ emits_kept old mid new ps e k = record {
 
 -- ---- parts that end a picture
 
-pub steps_sequence : (old mid new : Course) (s : Sequence) → Closed old mid → Keeps mid new → new.state ≡ after_sequence mid.state s → new.canvas ≡ None → IsSound new → Steps old (sequence s) new
+pub steps_sequence : (old mid new : Course) (s : Sequence) → Closed old mid → Keeps mid new → new.state ≡ after_sequence mid.state s → new.canvas ≡ None → IsSoundCourse new → Steps old (sequence s) new
 unfolding after
 steps_sequence old mid new s c k state canvas sound = record {
   state = state ∙ ap (λ (z : State). after_sequence z s) c.state;
@@ -63,7 +63,7 @@ steps_sequence old mid new s c k state canvas sound = record {
   sound = sound;
 }
 
-pub steps_group : (old mid new : Course) (g : GroupInfo) → Closed old mid → Keeps mid new → new.state ≡ record mid.state { closed_gop = g.closed_gop } → new.canvas ≡ None → IsSound new → Steps old (group g) new
+pub steps_group : (old mid new : Course) (g : GroupInfo) → Closed old mid → Keeps mid new → new.state ≡ record mid.state { closed_gop = g.closed_gop } → new.canvas ≡ None → IsSoundCourse new → Steps old (group g) new
 unfolding after
 steps_group old mid new g c k state canvas sound = record {
   state = state ∙ ap (λ (z : State). record z { closed_gop = g.closed_gop }) c.state;
@@ -72,7 +72,7 @@ steps_group old mid new g c k state canvas sound = record {
   sound = sound;
 }
 
-pub steps_picture : (old mid new : Course) (info : PictureInfo) (extension : PictureExtension) → Closed old mid → Begun mid info extension new → Steps old (picture info extension) new
+pub steps_picture : (old mid new : Course) (info : PictureInfo) (extension : PictureExtension) → Closed old mid → PictureBegun mid info extension new → Steps old (picture info extension) new
 unfolding after
 steps_picture old mid new info extension c b = record {
   state = b.state ∙ ap (λ (z : State). after_picture z info extension) c.state;
@@ -91,11 +91,11 @@ steps_over old new c = record { state = c.state; canvas = c.canvas; emits = c.em
 
 -- ---- parts that don't
 
-pub steps_matrices : (old new : Course) (m : MatrixInfo) → Keeps old new → new.state ≡ after_matrices old.state m → new.canvas ≡ old.canvas → IsSound new → Steps old (matrices m) new
+pub steps_matrices : (old new : Course) (m : MatrixInfo) → Keeps old new → new.state ≡ after_matrices old.state m → new.canvas ≡ old.canvas → IsSoundCourse new → Steps old (matrices m) new
 unfolding after
 steps_matrices old new m k state canvas sound = record { state = state; canvas = canvas; emits = emits_none old new k; sound = sound }
 
-pub steps_skipped : (c : Course) (u : List ℕ) → IsSound c → Steps c (skipped u) c
+pub steps_skipped : (c : Course) (u : List ℕ) → IsSoundCourse c → Steps c (skipped u) c
 unfolding after
 steps_skipped c u sound = record { state = refl; canvas = refl; emits = emits_none c c (record { anchor = refl; ready = refl; pictures = refl; shown = refl }); sound = sound }
 
@@ -106,7 +106,7 @@ fits_with : (s : Sequence) (p : Open) (f : Option Samples) (row covered : ℕ) �
 fits_with s p (Some f) row covered most h = (h.0, open_with p row covered h.1 most, h.2)
 fits_with s p None row covered most h = absurd h
 
-pub steps_slice : (old mid : Course) (s : Sequence) (p : Open) (row covered : ℕ) (u : List ℕ) → IsSound old → old.state.sequence ≡ Some s → old.state.picture ≡ Some p → (h : Painted old s p row u covered mid)
+pub steps_slice : (old mid : Course) (s : Sequence) (p : Open) (row covered : ℕ) (u : List ℕ) → IsSoundCourse old → old.state.sequence ≡ Some s → old.state.picture ≡ Some p → (h : Painted old s p row u covered mid)
     → Steps old (slice row h.slice) (record mid { state = record mid.state { picture = Some (record p { begun = true; row = row; covered = covered }) } })
 unfolding after
 steps_slice old mid s p row covered u sound sequence_is picture_is h =
@@ -134,7 +134,7 @@ steps_slice old mid s p row covered u sound sequence_is picture_is h =
 
 -- ---- slices
 
-fits_at : (old : Course) (s : Sequence) (p : Open) (before : Samples) → IsSound old → old.state.sequence ≡ Some s → old.state.picture ≡ Some p → old.canvas ≡ Some before → Fits (Some s) (Some p) (Some before)
+fits_at : (old : Course) (s : Sequence) (p : Open) (before : Samples) → IsSoundCourse old → old.state.sequence ≡ Some s → old.state.picture ≡ Some p → old.canvas ≡ Some before → Fits (Some s) (Some p) (Some before)
 fits_at old s p before sound sequence_is picture_is canvas_is =
     subst (λ (f : Option Samples). Fits (Some s) (Some p) f) canvas_is
     (subst (λ (o : Option Open). Fits (Some s) o old.canvas) picture_is
@@ -147,7 +147,7 @@ most_covered s row covered size below le =
     let product : (row + 1) * columns_of s ≤ 72 * 120 = mul-le-mul rows columns in
     omega arith
 
-pub painted : (old : Course) (s : Sequence) (p : Open) (row covered : ℕ) (u : List ℕ) (before now : Samples) (rest end : List Bool) → IsSound old → old.state.sequence ≡ Some s → old.state.picture ≡ Some p → old.canvas ≡ Some before → row < rows_of s
+pub painted : (old : Course) (s : Sequence) (p : Open) (row covered : ℕ) (u : List ℕ) (before now : Samples) (rest end : List Bool) → IsSoundCourse old → old.state.sequence ≡ Some s → old.state.picture ≡ Some p → old.canvas ≡ Some before → row < rows_of s
     → rest ≡ body u → Paints_slice old.state s p row rest before (Ok covered) end now → now.dims ≡ before.dims → covered ≤ (row + 1) * columns_of s → Painted old s p row u covered (record old { canvas = Some now })
 painted old s p row covered u before now rest end sound sequence_is picture_is canvas_is below rest_is h dims le =
     let fits = fits_at old s p before sound sequence_is picture_is canvas_is in

@@ -21,7 +21,7 @@ use Rattle.m2v_decoder.specs.declared.course.Course.{Course}
 use Rattle.m2v_decoder.specs.declared.halt.Halt.{Halt}
 use Rattle.m2v_decoder.specs.declared.halt.Halt.TheVariants.{Fault, Memory}
 use Rattle.m2v_model.specs.ByPieces.{seen}
-use Rattle.m2v_decoder.specs.Decoding.{Agrees, Shows, decoded_of}
+use Rattle.m2v_decoder.specs.Decoding.{Agrees, ShowsFrames, decoded_of}
 
 -- ---- what is known of the headers in force
 
@@ -47,7 +47,7 @@ IsFresh None None None = Unit {0}
 IsFresh None sequence anchor = ⊥
 IsFresh (Some first) sequence anchor = Unit {0}
 
-pub record IsSound (c : Course) : Type 0 where
+pub record IsSoundCourse (c : Course) : Type 0 where
   pub fits : Fits c.state.sequence c.state.picture c.canvas
   pub intra : IsMatrix c.state.intra
   pub non_intra : IsMatrix c.state.non_intra
@@ -69,7 +69,7 @@ pub record Steps (old : Course) (p : Part) (new : Course) : Type 0 where
   pub state : new.state ≡ after old.state p
   pub canvas : new.canvas ≡ frame_after old.state old.canvas p
   pub emits : Emits old (closed_by old.state old.canvas p) new
-  pub sound : IsSound new
+  pub sound : IsSoundCourse new
 
 -- a frame was decoded: it is shown at once, or held, and another one is shown in its place
 pub record Showed (old : Course) (frame : Samples) (kind : ℕ) (new : Course) : Type 0 where
@@ -86,17 +86,17 @@ pub record Closed (old new : Course) : Type 0 where
   pub canvas : new.canvas ≡ None
   pub emits : Emits old (closed old.state old.canvas) new
   pub queue : new.queue.low_delay ≡ old.queue.low_delay
-  pub sound : IsSound new
+  pub sound : IsSoundCourse new
 
 -- a picture header with its extension is in force, and a frame of samples 0 is open where there is a sequence
-pub record Begun (old : Course) (info : PictureInfo) (extension : PictureExtension) (new : Course) : Type 0 where
+pub record PictureBegun (old : Course) (info : PictureInfo) (extension : PictureExtension) (new : Course) : Type 0 where
   pub state : new.state ≡ after_picture old.state info extension
   pub canvas : new.canvas ≡ opened old.state.sequence
   pub queue : new.queue ≡ old.queue
   pub ready : new.ready ≡ old.ready
   pub pictures : new.pictures ≡ old.pictures
   pub shown : new.shown ≡ old.shown
-  pub sound : IsSound new
+  pub sound : IsSoundCourse new
 
 -- a slice of a row was read and painted: the address behind its last macroblock
 pub record Painted (old : Course) (s : Sequence) (p : Open) (row : ℕ) (u : List ℕ) (covered : ℕ) (new : Course) : Type 0 where
@@ -129,14 +129,14 @@ pub record ReadAll (old : Course) (us : Units) (new : Course) : Type 0 where
   pub pictures : Pictures
   pub read : seen old.state old.canvas us ≡ Ok (pictures, new.state)
   pub first : (low : Bool) → Agrees low new.state.first → Agrees low old.state.first
-  pub shows : (low : Bool) → Agrees low new.state.first → Shows low old.queue.anchor old.ready.items pictures new.queue.anchor new.ready.items
+  pub shows : (low : Bool) → Agrees low new.state.first → ShowsFrames low old.queue.anchor old.ready.items pictures new.queue.anchor new.ready.items
   pub counted : new.pictures ≡ old.pictures + length pictures
   pub few : length pictures ≤ length us + 1
   pub shown : new.shown ≡ old.shown
   pub none : new.canvas ≡ None
-  pub sound : IsSound new
+  pub sound : IsSoundCourse new
 
 -- the first fault of a piece
-abbrev pub Stops : Course → Units → Halt → Type 0
-Stops old us Memory = Unit {0}
-Stops old us (Fault stop) = seen old.state old.canvas us ≡ Err (stop.kind, stop.left)
+abbrev pub CourseStops : Course → Units → Halt → Type 0
+CourseStops old us Memory = Unit {0}
+CourseStops old us (Fault stop) = seen old.state old.canvas us ≡ Err (stop.kind, stop.left)

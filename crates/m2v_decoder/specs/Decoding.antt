@@ -48,7 +48,7 @@ abbrev pub queue_of : Bool → Option Samples → Holder Samples
 queue_of low anchor = record { low_delay = low; anchor = anchor }
 
 -- pictures were decoded, each shown or held as display order asks
-pub record Shows (low : Bool) (anchor : Option Samples) (ready : List Samples) (ps : Pictures) (anchor_then : Option Samples) (ready_then : List Samples) : Type 0 where
+pub record ShowsFrames (low : Bool) (anchor : Option Samples) (ready : List Samples) (ps : Pictures) (anchor_then : Option Samples) (ready_then : List Samples) : Type 0 where
   pub ready_is : ready_then ≡ ready ++ handed (queue_of low anchor) (decoded_of ps)
   pub anchor_is : anchor_then ≡ (held_after (queue_of low anchor) (decoded_of ps)).anchor
 
@@ -57,7 +57,7 @@ pub record Advanced (old : Decoding) (end : ℕ) (whole : List ℕ) (new : Decod
   pub pictures : Pictures
   pub read : piece_read old.state end whole ≡ Ok (pictures, new.state)
   pub first : (low : Bool) → Agrees low new.state.first → Agrees low old.state.first
-  pub shows : (low : Bool) → Agrees low new.state.first → Shows low old.anchor old.ready pictures new.anchor new.ready
+  pub shows : (low : Bool) → Agrees low new.state.first → ShowsFrames low old.anchor old.ready pictures new.anchor new.ready
   pub counted : new.pictures ≡ old.pictures + length pictures
   pub few : length pictures ≤ length whole
   pub shown : new.shown ≡ old.shown

@@ -7,7 +7,7 @@ ghost use Rattle.m2v_model.specs.States.{loaded_or as matrix_or};
 ghost use Rattle.m2v_picture.specs.Conditions.{IsMatrix};
 ghost use Rattle.m2v_part.specs.declared.header.Header.TheVariants as headers;
 ghost use Rattle.m2v_part.specs.Among.{HeaderFits, part_of};
-ghost use Rattle.m2v_decoder.specs.Course.{IsSound, Steps, Showed, Begun, Closed};
+ghost use Rattle.m2v_decoder.specs.Course.{IsSoundCourse, Steps, Showed, PictureBegun, Closed};
 
 use crate::Memory;
 use m2v_canvas::Canvas;
@@ -67,7 +67,7 @@ impl Course {
 
     /// The picture that is open is whole.
     pub fn close(&mut self) -> Result<(), Memory>
-        requires sound { IsSound self.old }
+        requires sound { IsSoundCourse self.old }
         requires counted { self.old.pictures < 2 ^ 62 }
         ensures { OnOk result (Closed self.old self.new) }
     {
@@ -82,9 +82,9 @@ impl Course {
     /// A sequence header with its extension is in force; the first one says how frames are shown.
     fn begin_sequence(&mut self, s: Sequence)
         requires fits { HeaderFits (headers.Sequence s) }
-        requires sound { IsSound self.old }
+        requires sound { IsSoundCourse self.old }
         requires closed { self.old.canvas ≡ None }
-        ensures sound { IsSound self.new }
+        ensures sound { IsSoundCourse self.new }
         ensures state { self.new.state ≡ after_sequence self.old.state s }
         ensures canvas { self.new.canvas ≡ None }
         ensures anchor { self.new.queue.anchor ≡ self.old.queue.anchor }
@@ -110,9 +110,9 @@ impl Course {
         extension: PictureExtension,
     ) -> Result<(), Memory>
         requires fits { HeaderFits (headers.Picture info extension) }
-        requires sound { IsSound self.old }
+        requires sound { IsSoundCourse self.old }
         requires closed { self.old.canvas ≡ None }
-        ensures { OnOk result (Begun self.old info extension self.new) }
+        ensures { OnOk result (PictureBegun self.old info extension self.new) }
     {
         self.canvas = match &self.state.sequence {
             Some(s) => Some(Canvas::new(alloc, s)?),
@@ -131,7 +131,7 @@ impl Course {
     /// A sequence header with its extension.
     fn enter_sequence(&mut self, s: Sequence) -> Result<(), Memory>
         requires fits { HeaderFits (headers.Sequence s) }
-        requires sound { IsSound self.old }
+        requires sound { IsSoundCourse self.old }
         requires counted { self.old.pictures < 2 ^ 62 }
         ensures { OnOk result (Steps self.old (sequence s) self.new) }
     {
@@ -142,7 +142,7 @@ impl Course {
 
     /// A group header.
     fn enter_group(&mut self, g: GroupInfo) -> Result<(), Memory>
-        requires sound { IsSound self.old }
+        requires sound { IsSoundCourse self.old }
         requires counted { self.old.pictures < 2 ^ 62 }
         ensures { OnOk result (Steps self.old (group g) self.new) }
     {
@@ -159,7 +159,7 @@ impl Course {
         extension: PictureExtension,
     ) -> Result<(), Memory>
         requires fits { HeaderFits (headers.Picture info extension) }
-        requires sound { IsSound self.old }
+        requires sound { IsSoundCourse self.old }
         requires counted { self.old.pictures < 2 ^ 62 }
         ensures { OnOk result (Steps self.old (picture info extension) self.new) }
     {
@@ -170,7 +170,7 @@ impl Course {
     /// A quant matrix extension.
     fn load(&mut self, m: MatrixInfo)
         requires fits { HeaderFits (headers.Matrices m) }
-        requires sound { IsSound self.old }
+        requires sound { IsSoundCourse self.old }
         ensures { Steps self.old (matrices m) self.new }
     {
         self.state.intra = loaded_or(m.intra, self.state.intra);
@@ -180,7 +180,7 @@ impl Course {
     /// What stands in a unit that isn't a slice.
     pub fn enter(&mut self, alloc: Global, header: Header) -> Result<(), Memory>
         requires fits { HeaderFits header }
-        requires sound { IsSound self.old }
+        requires sound { IsSoundCourse self.old }
         requires counted { self.old.pictures < 2 ^ 62 }
         ensures { OnOk result ((u : List ℕ) → Steps self.old (part_of u header) self.new) }
     {

@@ -1,6 +1,6 @@
 ghost use Rattle.std.specs.Prelude.{◌≡◌, ◌+◌, ◌*◌, ◌≤◌, ◌^◌, [], IfOk, IfErr, OnOk, MatchOption, Ok, Err, false};
 ghost use Rattle.m2v_model.specs.ByPieces.{piece_read};
-ghost use Rattle.m2v_piece.specs.Sound.{IsSound};
+ghost use Rattle.m2v_piece.specs.Sound.{IsSoundPiece};
 ghost use Rattle.m2v_decoder.specs.Decoding.{at_start, due_of, whole_of, Advanced, Refuses, HandsOut, Finished};
 
 use crate::Memory;
@@ -30,7 +30,7 @@ pub struct Decoder {
 impl Model for Decoder {
     ghost use Rattle.std.specs.Prelude.{◌≡◌, false, None};
     ghost use Rattle.m2v_decoder.specs.Decoding.{Decoding};
-    ghost use Rattle.m2v_decoder.specs.Course.{IsSound as IsSoundCourse};
+    ghost use Rattle.m2v_decoder.specs.Course.{IsSoundCourse};
 
     ghost Value = { Decoding };
 
@@ -87,7 +87,7 @@ impl Decoder {
     /// The first fault of the stream, where it is looked at within this piece, its end included; want of memory. No call
     /// may follow then.
     pub fn piece(&mut self, alloc: Global, piece: &Piece) -> Result<(), DecodeError>
-        requires piece { IsSound piece.now }
+        requires piece { IsSoundPiece piece.now }
         requires going { self.old.failed ≡ false }
         requires before { self.old.ended ≡ false }
         requires counted { self.old.pictures + piece.now.length ≤ 2 ^ 60 }

@@ -2,7 +2,7 @@ ghost use Rattle.std.specs.Prelude.{◌≡◌, ◌+◌, ◌^◌, ◌<◌, IfErr,
 ghost use Rattle.m2v_part.specs.Among.{is_slice as slice_stands};
 ghost use Rattle.m2v_model.specs.Streams.{value_of, known_unit, text_end};
 ghost use Rattle.m2v_model.specs.ByPieces.{unit_of};
-ghost use Rattle.m2v_decoder.specs.Course.{IsSound, Rounds, ReadAll, Stops};
+ghost use Rattle.m2v_decoder.specs.Course.{IsSoundCourse, Rounds, ReadAll, CourseStops};
 
 use crate::course::Course;
 use crate::halt::Halt;
@@ -19,7 +19,7 @@ impl Course {
         u: &Unit,
         units: &mut UnitReader,
     ) -> Result<bool, Halt>
-        requires sound { IsSound self.old }
+        requires sound { IsSoundCourse self.old }
         requires counted { self.old.pictures < 2 ^ 62 }
         requires start { start < 2 ^ 41 }
         requires header { slice_stands self.old.state (value_of u.now) ≡ false }
@@ -39,7 +39,7 @@ impl Course {
         u: &Unit,
         units: &mut UnitReader,
     ) -> Result<bool, Halt>
-        requires sound { IsSound self.old }
+        requires sound { IsSoundCourse self.old }
         requires counted { self.old.pictures < 2 ^ 62 }
         requires start { start < 2 ^ 41 }
         ensures { Rounds self.old result self.new units.new ((known_unit self.old.state start (value_of u.now) u.now).read units.old) }
@@ -53,7 +53,7 @@ impl Course {
 
     /// The end of the piece.
     fn over(&mut self) -> Result<bool, Halt>
-        requires sound { IsSound self.old }
+        requires sound { IsSoundCourse self.old }
         requires counted { self.old.pictures < 2 ^ 62 }
         ensures { Rounds self.old result self.new [] ((text_end self.old.state 0).read []) }
     {
@@ -64,7 +64,7 @@ impl Course {
 
     /// Reads the next unit, or the end of the piece. Answers whether units may follow.
     fn unit(&mut self, alloc: Global, units: &mut UnitReader) -> Result<bool, Halt>
-        requires sound { IsSound self.old }
+        requires sound { IsSoundCourse self.old }
         requires counted { self.old.pictures < 2 ^ 62 }
         ensures { Rounds self.old result self.new units.new (unit_of self.old.state units.old) }
     {
@@ -77,10 +77,10 @@ impl Course {
 
     /// Reads all units of a piece.
     pub fn units(&mut self, alloc: Global, units: &mut UnitReader) -> Result<(), Halt>
-        requires sound { IsSound self.old }
+        requires sound { IsSoundCourse self.old }
         requires counted { self.old.pictures + length units.old < 2 ^ 61 }
         ensures ok { OnOk result (ReadAll self.old units.old self.new) }
-        ensures err { IfErr result (Stops self.old units.old) }
+        ensures err { IfErr result (CourseStops self.old units.old) }
     {
         while self.unit(alloc, units)? {}
         Ok(())

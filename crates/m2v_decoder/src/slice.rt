@@ -3,7 +3,7 @@ ghost use Rattle.m2v_model.specs.Units.{Units};
 ghost use Rattle.m2v_model.specs.States.{rows_of as rows_in};
 ghost use Rattle.m2v_model.specs.Streams.{value_of, slice_unit, slice};
 ghost use Rattle.m2v_model.specs.Slices.{Slice};
-ghost use Rattle.m2v_decoder.specs.Course.{IsSound, Steps, Paints};
+ghost use Rattle.m2v_decoder.specs.Course.{IsSoundCourse, Steps, Paints};
 
 use crate::course::Course;
 use m2v_model::{FaultKind, Open, Sequence, State};
@@ -43,7 +43,7 @@ impl Course {
         u: &Unit,
         units: &UnitReader,
     ) -> Result<u32, Stop>
-        requires sound { IsSound self.old }
+        requires sound { IsSoundCourse self.old }
         requires sequence { self.old.state.sequence ≡ Some s.now }
         requires picture { self.old.state.picture ≡ Some p.now }
         requires row { row < rows_in s.now }
@@ -74,7 +74,7 @@ impl Course {
     /// The first fault in reading order, with the bits of the piece that are left at its place.
     #[tactic(auto, unfolding(m2v_model::specs::Streams::slice_unit, m2v_model::specs::Streams::slice_in, m2v_model::specs::Units::inside, m2v_bits::specs::Syntax::seq, m2v_bits::specs::Syntax::bind, m2v_bits::specs::Syntax::rule, m2v_bits::specs::Syntax::done))]
     pub fn slice(&mut self, start: u64, u: &Unit, units: &UnitReader) -> Result<(), Stop>
-        requires sound { IsSound self.old }
+        requires sound { IsSoundCourse self.old }
         requires value { 1 ≤ value_of u.now }
         requires start { start < 2 ^ 41 }
         ensures ok { OnOk result ((x : Slice) × ((slice_unit self.old.state self.old.state.sequence self.old.state.picture (value_of u.now - 1) start u.now).read units.now ≡ Ok (slice (value_of u.now - 1) x, units.now)) × Steps self.old (slice (value_of u.now - 1) x) self.new) }

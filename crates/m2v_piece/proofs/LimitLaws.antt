@@ -8,7 +8,7 @@ use Rattle.m2v_model.specs.declared.phase.Phase.TheVariants.{Before, Headers, Pi
 use Rattle.m2v_model.specs.Pieces.{limit, Limit, too_long, too_large, most_input, most_bytes}
 use Rattle.m2v_piece.specs.declared.answer.DecodeError.{DecodeError}
 use Rattle.m2v_piece.specs.declared.answer.DecodeError.TheVariants as errors
-use Rattle.m2v_piece.specs.Cutting.{Held, Fits, open_pieces, limit_in, limit_of, behind, sure_after, place_after, open_start, LimitErr, Stops, prefix}
+use Rattle.m2v_piece.specs.Cutting.{Held, Fits, open_pieces, limit_in, limit_of, behind, sure_after, place_after, open_start, LimitErr, PieceStops, prefix}
 use Rattle.m2v_piece.proofs.PieceLaws.{Begins, begins_headers, begins_picture}
 
 -- the limit that the first byte passes, or that of the others
@@ -116,7 +116,7 @@ err_stays h xs ys (errors.Stream f) some = some
 -- ---- what stops a cutter
 
 -- the bytes of a piece that are sure pass a limit, and so does the piece
-pub stops_piece : (place : ℕ) (bytes : List ℕ) (pieces : List (List ℕ)) (e : DecodeError) → Begins bytes pieces → LimitErr (limit place 0 bytes) e → Stops place pieces e
+pub stops_piece : (place : ℕ) (bytes : List ℕ) (pieces : List (List ℕ)) (e : DecodeError) → Begins bytes pieces → LimitErr (limit place 0 bytes) e → PieceStops place pieces e
 stops_piece place bytes pieces errors.TooLong b some = inr (record { whole = bytes ++ b.more; others = b.others; are = b.are; decides = limit_stays place 0 bytes b.more too_long some })
 stops_piece place bytes pieces errors.PictureTooLarge b some = record { whole = bytes ++ b.more; others = b.others; are = b.are; decides = limit_stays place 0 bytes b.more too_large some }
 stops_piece place bytes pieces errors.Memory b some = tt
@@ -133,7 +133,7 @@ before_long true e = refl
 before_long false e = absurd cc
 
 -- bytes before the first piece pass the input's limit
-pub stops_before : (place start : ℕ) (xs : List ℕ) (pieces : List (List ℕ)) (e : DecodeError) → place + length xs ≤ start → LimitErr (limit_in Before place [] xs) e → Stops start pieces e
+pub stops_before : (place start : ℕ) (xs : List ℕ) (pieces : List (List ℕ)) (e : DecodeError) → place + length xs ≤ start → LimitErr (limit_in Before place [] xs) e → PieceStops start pieces e
 unfolding limit_in
 stops_before place start xs pieces errors.TooLong le some = inl (omega (arith, le, ltb-true _ _ (before_long (nat_lt most_input (place + length xs)) some)))
 stops_before place start xs pieces errors.PictureTooLarge le some = absurd (before_large (nat_lt most_input (place + length xs)) some)
@@ -168,12 +168,12 @@ grown_picture place sure xs e fits some = let n : 0 + length sure ≡ length sur
 
 -- bytes that would be sure pass a limit: the next piece does, whatever follows them
 pub stopped : (h : Held) (b : ℕ) (bs t : List ℕ) (e : DecodeError) → limit h.place 0 h.sure ≡ None → LimitErr (limit_of h (b ∷ bs)) e
-    → Stops (open_start h.phase (place_after h.phase h.place (b ∷ bs)) t) (open_pieces h.phase (sure_after h.phase h.sure (b ∷ bs)) t) e
+    → PieceStops (open_start h.phase (place_after h.phase h.place (b ∷ bs)) t) (open_pieces h.phase (sure_after h.phase h.sure (b ∷ bs)) t) e
 unfolding open_start
 stopped h b bs t e fits some = by_phase h.phase h.place h.sure fits some
   where
     by_phase : (phase : Phase) (place : ℕ) (sure : List ℕ) → limit place 0 sure ≡ None → LimitErr (limit_in phase place sure (b ∷ bs)) e
-        → Stops (open_start phase (place_after phase place (b ∷ bs)) t) (open_pieces phase (sure_after phase sure (b ∷ bs)) t) e
+        → PieceStops (open_start phase (place_after phase place (b ∷ bs)) t) (open_pieces phase (sure_after phase sure (b ∷ bs)) t) e
     by_phase Before place sure fits some = stops_before place _ (b ∷ bs) _ e (started place (b ∷ bs) t) (same_before place sure (b ∷ bs) e some)
     by_phase Headers place sure fits some = stops_piece place (sure ++ b ∷ bs) _ e (headers_begin sure b bs t) (grown place sure (b ∷ bs) e fits some)
     by_phase Picture place sure fits some = stops_piece place (sure ++ b ∷ bs) _ e (picture_begin sure b bs t) (grown_picture place sure (b ∷ bs) e fits some)

@@ -6,7 +6,7 @@ use Rattle.m2v_piece.specs.declared.answer.Piece.{Piece}
 use Rattle.m2v_piece.specs.declared.answer.DecodeError.{DecodeError}
 use Rattle.m2v_piece.specs.declared.answer.DecodeError.TheVariants as errors
 use Rattle.m2v_piece.specs.Reads.{Refilled}
-use Rattle.m2v_piece.specs.Cutting.{Held, Fits, open_pieces, open_start, pieces_behind, start_behind, Stops, IsReading, AtPiece, phase_for, is_begun, prefix, Cutting, IsPiece}
+use Rattle.m2v_piece.specs.Cutting.{Held, Fits, open_pieces, open_start, pieces_behind, start_behind, PieceStops, IsReading, AtPiece, phase_for, is_begun, prefix, Cutting, IsPiece}
 use Rattle.m2v_model.specs.Pieces.{limit, grouped, piece_of}
 use Rattle.m2v_port.proofs.Runs.{moves_on}
 use Rattle.m2v_piece.specs.declared.cutter.Stand.{Stand}
@@ -28,7 +28,7 @@ unfolding open_start
 last_stood h new b t l = rw (l.value) (l.ends.pieces t, rw (l.ahead, l.phase) (sym l.ends.place))
 
 -- why a byte isn't taken is an error of a cutter
-pub reading_stops : (start : ℕ) (pieces : List (List ℕ)) (e : DecodeError) → Stops start pieces e → IsReading e
+pub reading_stops : (start : ℕ) (pieces : List (List ℕ)) (e : DecodeError) → PieceStops start pieces e → IsReading e
 reading_stops start pieces errors.Read why = tt
 reading_stops start pieces errors.Memory why = tt
 reading_stops start pieces errors.TooLong why = tt
@@ -39,7 +39,7 @@ reading_stops start pieces (errors.Stream f) why = why
 -- ---- with the bytes that are read
 
 -- what is wrong with a text that was read in part is wrong with it as it was
-pub stops_why : (start : ℕ) (pieces : List (List ℕ)) (e : DecodeError) → Stops start pieces e → Why start pieces e
+pub stops_why : (start : ℕ) (pieces : List (List ℕ)) (e : DecodeError) → PieceStops start pieces e → Why start pieces e
 stops_why start pieces errors.Read why = tt
 stops_why start pieces errors.Memory why = tt
 stops_why start pieces errors.TooLong why = why
@@ -51,7 +51,7 @@ joined_text : (chunk filled bytes rest : List ℕ) → filled ≡ chunk ++ bytes
 joined_text chunk filled bytes rest e = ap (λ (x : List ℕ). x ++ rest) e ∙ append_assoc chunk bytes rest
 
 pub filled_fails : (h : Held) (chunk filled : List ℕ) (left left' : Option (List ℕ)) (e : DecodeError) → Refilled chunk left filled left'
-    → ((rest : List ℕ) → Stops (start_behind h (filled ++ rest)) (pieces_behind h (filled ++ rest)) e) → Fails h chunk left left' e
+    → ((rest : List ℕ) → PieceStops (start_behind h (filled ++ rest)) (pieces_behind h (filled ++ rest)) e) → Fails h chunk left left' e
 filled_fails h chunk filled left left' e r why = record {
   bytes = r.bytes;
   moved = r.moved;
@@ -59,7 +59,7 @@ filled_fails h chunk filled left left' e r why = record {
 }
 
 -- no text stops a byte by a failed source
-pub never_read : {T : Type 0} {A : Type 0} (h : Held) (chunk : List ℕ) (r : Result T DecodeError) → IfErr r (λ e. (rest : List ℕ) → Stops (start_behind h (chunk ++ rest)) (pieces_behind h (chunk ++ rest)) e) → IsErrOf r errors.Read → A
+pub never_read : {T : Type 0} {A : Type 0} (h : Held) (chunk : List ℕ) (r : Result T DecodeError) → IfErr r (λ e. (rest : List ℕ) → PieceStops (start_behind h (chunk ++ rest)) (pieces_behind h (chunk ++ rest)) e) → IsErrOf r errors.Read → A
 never_read h chunk (Ok v) f e = absurd cc
 never_read h chunk (Err errors.Read) f e = absurd (f [])
 never_read h chunk (Err errors.Memory) f e = absurd cc

@@ -6,7 +6,7 @@ use Rattle.m2v_model.specs.declared.phase.Phase.{Phase}
 use Rattle.m2v_model.specs.declared.phase.Phase.TheVariants.{Before, Headers, Picture}
 use Rattle.m2v_model.specs.Pieces.{limit, phase_after, grouped, piece_of}
 use Rattle.m2v_piece.specs.declared.answer.DecodeError.{DecodeError}
-use Rattle.m2v_piece.specs.Cutting.{Held, Fits, prefix, open_pieces, open_start, pieces_behind, start_behind, behind, limit_of, place_after, sure_after, limit_in, LimitErr, Stops, Took, StopsAt, GoesOn, phase_behind, code_of, Ends, Begun, Finished}
+use Rattle.m2v_piece.specs.Cutting.{Held, Fits, prefix, open_pieces, open_start, pieces_behind, start_behind, behind, limit_of, place_after, sure_after, limit_in, LimitErr, PieceStops, Took, StopsAt, GoesOn, phase_behind, code_of, Ends, FirstBegun, Finished}
 use Rattle.m2v_piece.proofs.PieceLaws.{third_zero, third_zero_start, settled, settled_start, passes_unit, passes_start, goes_on, goes_on_behind, no_end, behind_is_open, behind_not_before, Begins, begins_behind, ends_text, begins_first, starts_first, ends_at, ends_start}
 use Rattle.m2v_piece.proofs.LimitLaws.{fits_more, stopped, stops_piece, stops_before, started, same_before, grown, grown_picture, picture_begin}
 
@@ -69,7 +69,7 @@ stops_other h b e le some one fits passed text =
     let at : LimitErr (limit_of h (f.0 ∷ f.1)) e = subst (λ (x : List ℕ). LimitErr (limit_of h x) e) f.2 passed in
     let stop = stopped h f.0 f.1 text e fits.limit at in
     rw (settled h.phase h.sure h.ahead b text le some one, settled_start h.phase h.place h.ahead b text le some one)
-    (subst (λ (x : List ℕ). Stops (open_start h.phase (place_after h.phase h.place x) text) (open_pieces h.phase (sure_after h.phase h.sure x) text) e) (sym f.2) stop)
+    (subst (λ (x : List ℕ). PieceStops (open_start h.phase (place_after h.phase h.place x) text) (open_pieces h.phase (sure_after h.phase h.sure x) text) e) (sym f.2) stop)
 
 pub took_longer : (h new : Held) (b : ℕ) → prefix (h.ahead + 1) ≡ prefix h.ahead ++ b ∷ [] → Fits h → new ≡ record h { ahead = h.ahead + 1 } → Took h b new
 took_longer h new b next fits is =
@@ -127,7 +127,7 @@ begins_after [] v t = begins_behind v 0 (0 ∷ 1 ∷ v ∷ []) t
 begins_after (x ∷ sure) v t = begins_behind v x (sure ++ code_of v) t
 
 stops_code : (phase : Phase) (place : ℕ) (sure : List ℕ) (v : ℕ) (t : List ℕ) (e : DecodeError) → limit place 0 sure ≡ None → LimitErr (limit_in phase place sure (code_of v)) e
-    → Stops (open_start (phase_behind phase v) (place_after phase place (code_of v)) t) (open_pieces (phase_behind phase v) (sure_after phase sure (code_of v)) t) e
+    → PieceStops (open_start (phase_behind phase v) (place_after phase place (code_of v)) t) (open_pieces (phase_behind phase v) (sure_after phase sure (code_of v)) t) e
 unfolding open_start
 stops_code Before place sure v t e fits some = stops_before place _ (code_of v) _ e (started place (code_of v) t) (same_before place sure (code_of v) e some)
 stops_code Headers place sure v t e fits some = rw (behind_is_open v place t) (stops_piece place (sure ++ code_of v) _ e (begins_after sure v t) (grown place sure (code_of v) e fits some))
@@ -159,10 +159,10 @@ stops_end h e three phase fits passed text =
     rw (three, phase) (stops_piece h.place (h.sure ++ code_of 0xB7) _ e (end_pieces h.sure text) (grown h.place h.sure (code_of 0xB7) e fits.limit at))
 
 -- the first sequence header
-pub begun_here : (h new : Held) → h.ahead ≡ 3 → h.phase ≡ Before → Fits h → new ≡ record h { phase = Headers } → Begun h new
+pub begun_here : (h new : Held) → h.ahead ≡ 3 → h.phase ≡ Before → Fits h → new ≡ record h { phase = Headers } → FirstBegun h new
 unfolding open_start
 begun_here h new three phase fits is =
-    subst (λ (x : Held). Begun h x) (sym is)
+    subst (λ (x : Held). FirstBegun h x) (sym is)
     (record {
       pieces = λ text. rw (three, phase, fits.none phase) (begins_first [] text);
       start = λ text. rw (three, phase) (starts_first h.place text);
@@ -194,7 +194,7 @@ piece_begins [] lt = absurd (omega arith)
 piece_begins (x ∷ xs) lt = record { more = []; others = []; are = ap (λ (y : List ℕ). (x ∷ y) ∷ []) (sym (append-nil xs)) }
 
 stops_text : (phase : Phase) (place : ℕ) (sure xs : List ℕ) (e : DecodeError) → 0 < length xs → limit place 0 sure ≡ None → LimitErr (limit_in phase place sure xs) e
-    → Stops (place_after phase place xs) (grouped phase (sure ++ xs) []) e
+    → PieceStops (place_after phase place xs) (grouped phase (sure ++ xs) []) e
 unfolding grouped
 stops_text Before place sure xs e some fits passed = stops_before place _ xs _ e (omega arith) (same_before place sure xs e passed)
 stops_text Headers place sure xs e some fits passed = stops_piece place (sure ++ xs) _ e (piece_begins (sure ++ xs) (omega (arith, length-append sure xs))) (grown place sure xs e fits passed)
@@ -208,7 +208,7 @@ prefix_some (suc (suc (suc zero))) lt le = omega arith
 prefix_some (suc (suc (suc (suc n)))) lt le = absurd (omega arith)
 
 -- at the end of the input what could begin a start code passes a limit
-pub stops_finish : (h : Held) (e : DecodeError) → h.ahead ≤ 3 → 0 < h.ahead → Fits h → LimitErr (limit_of h (prefix h.ahead)) e → Stops (start_behind h []) (pieces_behind h []) e
+pub stops_finish : (h : Held) (e : DecodeError) → h.ahead ≤ 3 → 0 < h.ahead → Fits h → LimitErr (limit_of h (prefix h.ahead)) e → PieceStops (start_behind h []) (pieces_behind h []) e
 stops_finish h e le lt fits passed =
     rw (ends_start h.phase h.place h.ahead le, ends_at h.phase h.sure h.ahead le)
     (stops_text h.phase h.place h.sure (prefix h.ahead) e (prefix_some h.ahead lt le) fits.limit passed)
@@ -257,5 +257,5 @@ finished_by h now new n is le fits behind_is new_is none =
     let at : now ≡ behind h (prefix h.ahead) = behind_is ∙ ap (λ (k : ℕ). behind h (prefix k)) (sym is) in
     finished_here h new (omega (arith, is, le)) fits (new_is ∙ ap (λ (x : Held). record x { ahead = 0 }) at) (ap (λ (k : ℕ). limit_of h (prefix k)) is ∙ none)
 
-pub stops_by : (h : Held) (n : ℕ) (e : DecodeError) → h.ahead ≡ n → n ≤ 3 → 0 < n → Fits h → LimitErr (limit_of h (prefix n)) e → Stops (start_behind h []) (pieces_behind h []) e
+pub stops_by : (h : Held) (n : ℕ) (e : DecodeError) → h.ahead ≡ n → n ≤ 3 → 0 < n → Fits h → LimitErr (limit_of h (prefix n)) e → PieceStops (start_behind h []) (pieces_behind h []) e
 stops_by h n e is le lt fits passed = stops_finish h e (omega (arith, is, le)) (omega (arith, is, lt)) fits (subst (λ (k : ℕ). LimitErr (limit_of h (prefix k)) e) (sym is) passed)

@@ -7,7 +7,7 @@ use Rattle.std.proofs.lemmas.List.{reverse-append, reverse-reverse, length-rever
 use Rattle.m2v_model.specs.Pieces.{zeros_first, zeros_last, trimmed, limit, Limit, most_bytes, most_input}
 use Rattle.m2v_piece.specs.declared.answer.Piece.{Piece}
 use Rattle.m2v_piece.specs.Cutting.{IsPiece}
-use Rattle.m2v_piece.specs.Sound.{IsSound}
+use Rattle.m2v_piece.specs.Sound.{IsSoundPiece}
 use Rattle.m2v_piece.proofs.TrimLaws.{reverse_zeros}
 use Rattle.m2v_piece.proofs.LimitLaws.{limit_more, limit_stays}
 
@@ -135,7 +135,7 @@ last_zero xs all m is some =
       ap (λ (t : List ℕ). get_or t (length all - 1) 0) is ∙ get_or-append_right xs (replicate m 0) (length xs) (length all - 1) 0 refl (omega arith) ∙ zeros_get m (length all - 1 - length xs),
     )
 
-pub piece_sound : (p : Piece) (place : ℕ) (whole : List ℕ) → IsPiece p place whole → p.place + p.length ≤ 2 ^ 36 → 1 ≤ length whole → IsSound p
+pub piece_sound : (p : Piece) (place : ℕ) (whole : List ℕ) → IsPiece p place whole → p.place + p.length ≤ 2 ^ 36 → 1 ≤ length whole → IsSoundPiece p
 unfolding zeros
 piece_sound p place whole is end some =
     let len = ap length is.bytes ∙ length_trimmed whole in

@@ -91,13 +91,13 @@ pub record Passes (place : ℕ) (l : Limit) (pieces : List (List ℕ)) : Type 0 
 
 -- Why the first of some pieces isn't handed out, where it begins at a place: it passes a limit, or the bytes before it
 -- do. Want of memory is the one free answer.
-abbrev pub Stops : ℕ → List (List ℕ) → DecodeError → Type 0
-Stops place pieces errors.TooLong = (most_input < place) ⊎ Passes place too_long pieces
-Stops place pieces errors.PictureTooLarge = Passes place too_large pieces
-Stops place pieces errors.Memory = Unit {0}
-Stops place pieces errors.Read = ⊥
-Stops place pieces errors.Write = ⊥
-Stops place pieces (errors.Stream f) = ⊥
+abbrev pub PieceStops : ℕ → List (List ℕ) → DecodeError → Type 0
+PieceStops place pieces errors.TooLong = (most_input < place) ⊎ Passes place too_long pieces
+PieceStops place pieces errors.PictureTooLarge = Passes place too_large pieces
+PieceStops place pieces errors.Memory = Unit {0}
+PieceStops place pieces errors.Read = ⊥
+PieceStops place pieces errors.Write = ⊥
+PieceStops place pieces (errors.Stream f) = ⊥
 
 -- a byte was taken, and the pieces are the same whatever follows it
 pub record Took (old : Held) (b : ℕ) (new : Held) : Type 0 where
@@ -122,7 +122,7 @@ pub record TookAll (old : Held) (bytes : List ℕ) (new : Held) : Type 0 where
 
 -- a byte isn't taken, since the next piece passes a limit with it, whatever follows it
 abbrev pub StopsAt : Held → ℕ → DecodeError → Type 0
-StopsAt h b e = (text : List ℕ) → Stops (start_behind h (b ∷ text)) (pieces_behind h (b ∷ text)) e
+StopsAt h b e = (text : List ℕ) → PieceStops (start_behind h (b ∷ text)) (pieces_behind h (b ∷ text)) e
 
 -- a start code
 abbrev pub code_of : ℕ → List ℕ
@@ -148,7 +148,7 @@ pub record Ends (old new : Held) : Type 0 where
   pub fits : Fits new
 
 -- the first piece begins, and its value stands next
-pub record Begun (old new : Held) : Type 0 where
+pub record FirstBegun (old new : Held) : Type 0 where
   pub pieces : (text : List ℕ) → pieces_behind old (0xB3 ∷ text) ≡ pieces_behind new (0xB3 ∷ text)
   pub start : (text : List ℕ) → start_behind old (0xB3 ∷ text) ≡ start_behind new (0xB3 ∷ text)
   pub is : new ≡ record old { phase = Headers }

@@ -2,7 +2,7 @@
 use Rattle.std.specs.Prelude.{◌≡◌, ℕ, ◌+◌, ◌-◌, ◌^◌, ◌<◌, ◌≤◌, Option, Some, None, length, vec_len, slice_index}
 use Rattle.m2v_piece.specs.declared.answer.Piece.{Piece}
 
-pub record IsSound (p : Piece) : Type 0 where
+pub record IsSoundPiece (p : Piece) : Type 0 where
   pub some : 1 ≤ p.length
   pub end : p.place + p.length ≤ 2 ^ 36
   pub kept : vec_len p.bytes ≤ p.length

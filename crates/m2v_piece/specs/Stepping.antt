@@ -11,7 +11,7 @@ use Rattle.m2v_piece.specs.declared.taking.Byte.{Byte}
 use Rattle.m2v_piece.specs.declared.taking.Byte.TheVariants.{Used, First, Whole, Last}
 use Rattle.m2v_piece.specs.declared.cutter.Stand.{Stand}
 use Rattle.m2v_piece.specs.declared.cutter.Stand.TheVariants.{Boundary, Ending, Over}
-use Rattle.m2v_piece.specs.Cutting.{Held, Fits, Took, Begun, Ends, open_pieces, pieces_behind, start_behind, Stops, Cutting, left_of, start_of, IsPiece}
+use Rattle.m2v_piece.specs.Cutting.{Held, Fits, Took, FirstBegun, Ends, open_pieces, pieces_behind, start_behind, PieceStops, Cutting, left_of, start_of, IsPiece}
 
 -- the piece at hand is whole, and stays as it is
 pub record IsWhole (old : Held) (b : ℕ) (new : Held) : Type 0 where
@@ -24,7 +24,7 @@ pub record IsWhole (old : Held) (b : ℕ) (new : Held) : Type 0 where
 pub record IsFirst (old : Held) (b : ℕ) (new : Held) : Type 0 where
   pub value : b ≡ 0xB3
   pub phase : old.phase ≡ Before
-  pub begun : Begun old new
+  pub begun : FirstBegun old new
 
 -- the sequence end code ends the last piece
 pub record IsLast (old : Held) (b : ℕ) (new : Held) : Type 0 where
@@ -102,8 +102,8 @@ pub record Looked (stand : Stand) (h : Held) (chunk : List ℕ) (left : Option (
 abbrev pub Why : ℕ → List (List ℕ) → DecodeError → Type 0
 Why start pieces errors.Read = Unit {0}
 Why start pieces errors.Memory = Unit {0}
-Why start pieces errors.TooLong = Stops start pieces errors.TooLong
-Why start pieces errors.PictureTooLarge = Stops start pieces errors.PictureTooLarge
+Why start pieces errors.TooLong = PieceStops start pieces errors.TooLong
+Why start pieces errors.PictureTooLarge = PieceStops start pieces errors.PictureTooLarge
 Why start pieces errors.Write = ⊥
 Why start pieces (errors.Stream f) = ⊥
 

@@ -1,7 +1,7 @@
 ghost use Rattle.std.specs.Prelude.{◌≡◌, ℕ, ◌+◌, ◌≤◌, ◌<◌, ◌^◌, ◌++◌, List, [], length, IfOk, IfSome, IfErr, OnOk, IsErrOf, Ok, Err, Some, None, true, false, IfNone};
 ghost use Rattle.m2v_port.specs.Port.{Rose};
-ghost use Rattle.m2v_piece.specs.Cutting.{Fits, Stops, IsReading, pieces_behind, start_behind};
-ghost use Rattle.m2v_piece.specs.Sound.{IsSound, GoesOnward};
+ghost use Rattle.m2v_piece.specs.Cutting.{Fits, PieceStops, IsReading, pieces_behind, start_behind};
+ghost use Rattle.m2v_piece.specs.Sound.{IsSoundPiece, GoesOnward};
 ghost use Rattle.m2v_piece.specs.Stepping.{Reaches, Turned, Rounded, Looked, Fails, Handed, Stopped, LastOf};
 
 use crate::chunk::Chunk;
@@ -29,7 +29,7 @@ fn turn(hand: &mut Hand, chunk: &mut Chunk) -> Result<Option<Stand>, DecodeError
     requires some { 0 < length chunk.old }
     requires fits { Fits hand.old }
     ensures ok { IfOk result (λ stand. Turned stand hand.old chunk.old hand.new chunk.new) }
-    ensures err { IfErr result (λ e. (rest : List ℕ) → Stops (start_behind hand.old (chunk.old ++ rest)) (pieces_behind hand.old (chunk.old ++ rest)) e) }
+    ensures err { IfErr result (λ e. (rest : List ℕ) → PieceStops (start_behind hand.old (chunk.old ++ rest)) (pieces_behind hand.old (chunk.old ++ rest)) e) }
     ensures kind { IfErr result IsReading }
 {
     let b = chunk.first();
@@ -74,7 +74,7 @@ fn advance(hand: &mut Hand, chunk: &mut Chunk) -> Result<Option<Stand>, DecodeEr
     requires some { 0 < length chunk.old }
     requires fits { Fits hand.old }
     ensures ok { IfOk result (λ stand. Turned stand hand.old chunk.old hand.new chunk.new) }
-    ensures err { IfErr result (λ e. (rest : List ℕ) → Stops (start_behind hand.old (chunk.old ++ rest)) (pieces_behind hand.old (chunk.old ++ rest)) e) }
+    ensures err { IfErr result (λ e. (rest : List ℕ) → PieceStops (start_behind hand.old (chunk.old ++ rest)) (pieces_behind hand.old (chunk.old ++ rest)) e) }
     ensures kind { IfErr result IsReading }
 {
     match skim(hand, chunk) {
@@ -133,7 +133,7 @@ fn look_on<S: Source>(
 fn last(hand: &mut Hand, alloc: Global) -> Result<Option<Piece>, Memory>
     requires fits { Fits hand.old }
     ensures last { IfOk result (λ piece. LastOf piece hand.old hand.new) }
-    ensures sound { IfOk result (λ piece. IfSome piece IsSound) }
+    ensures sound { IfOk result (λ piece. IfSome piece IsSoundPiece) }
     ensures most { OnOk result (hand.new.place ≤ 2 ^ 36) }
     ensures begun { IfOk result (λ piece. IfSome piece (λ p. hand.new.phase ≡ Phase.Headers)) }
 {
@@ -198,7 +198,7 @@ impl Cutter {
         ensures kind { IfErr result IsReading }
         ensures failed { IsErrOf result DecodeError.Read → Rose (S.faults input.old) (S.faults input.new) }
         ensures faults { S.faults input.old ≤ S.faults input.new }
-        ensures sound { IfOk result (λ piece. IfSome piece IsSound) }
+        ensures sound { IfOk result (λ piece. IfSome piece IsSoundPiece) }
         ensures onward { IfOk result (λ piece. GoesOnward piece self.old.place self.new.place) }
         ensures begun { IfOk result (λ piece. IfSome piece (λ p. self.new.begun ≡ true)) }
         ensures over { IfOk result (λ piece. IfNone piece (self.new.ended ≡ true)) }

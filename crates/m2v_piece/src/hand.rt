@@ -1,7 +1,7 @@
 ghost use Rattle.std.specs.Prelude.{◌≡◌, ◌↔◌, ◌+◌, ◌-◌, ◌≤◌, ◌<◌, ◌^◌, ◌++◌, ◌∷◌, [], length, take, replicate, min, IfOk, IfErr, OnOk, IsTrue, Ok, Err, None, false, nat_eq};
 ghost use Rattle.m2v_model.specs.Pieces.{limit, phase_after};
-ghost use Rattle.m2v_piece.specs.Sound.{IsSound};
-ghost use Rattle.m2v_piece.specs.Cutting.{Held, Fits, AreNonzero, TookAll, prefix, behind, limit_of, IsPiece, LimitErr, Took, StopsAt, Stops, pieces_behind, start_behind, code_of, phase_behind, GoesOn, Ends, Begun, Finished};
+ghost use Rattle.m2v_piece.specs.Sound.{IsSoundPiece};
+ghost use Rattle.m2v_piece.specs.Cutting.{Held, Fits, AreNonzero, TookAll, prefix, behind, limit_of, IsPiece, LimitErr, Took, StopsAt, PieceStops, pieces_behind, start_behind, code_of, phase_behind, GoesOn, Ends, FirstBegun, Finished};
 
 use crate::runs::{append_all, before_zero};
 use crate::{DecodeError, Memory, Piece};
@@ -356,7 +356,7 @@ impl Hand {
         requires ahead { self.old.ahead ≡ 3 }
         requires phase { self.old.phase ≡ Phase.Before }
         requires fits { Fits self.old }
-        ensures { Begun self.old self.new }
+        ensures { FirstBegun self.old self.new }
     {
         self.phase = Phase::Headers;
     }
@@ -365,7 +365,7 @@ impl Hand {
     pub fn finish(&mut self) -> Result<(), DecodeError>
         requires fits { Fits self.old }
         ensures ok { OnOk result (Finished self.old self.new) }
-        ensures err { IfErr result (λ e. Stops (start_behind self.old []) (pieces_behind self.old []) e) }
+        ensures err { IfErr result (λ e. PieceStops (start_behind self.old []) (pieces_behind self.old []) e) }
     {
         let ahead = self.ahead as usize;
         if ahead > 0 {
@@ -381,7 +381,7 @@ impl Hand {
         requires fits { Fits self.old }
         ensures piece { IfOk result (λ p. IsPiece p self.old.place self.old.sure) }
         ensures next { OnOk result (self.new ≡ record { phase = Phase.Headers; place = self.old.place + length self.old.sure; sure = []; ahead = self.old.ahead }) }
-        ensures sound { IfOk result (λ p. 1 ≤ length self.old.sure → IsSound p) }
+        ensures sound { IfOk result (λ p. 1 ≤ length self.old.sure → IsSoundPiece p) }
         ensures most { OnOk result (self.new.place ≤ 2 ^ 36) }
     {
         let (place, zeros) = (self.place, self.zeros);

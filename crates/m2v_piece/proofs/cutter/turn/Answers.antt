@@ -1,5 +1,5 @@
 use Rattle.std.proofs.Common.{ℕ, ◌≤◌, length, arith, List, [], ◌++◌, drop, sym, ap, subst, ◌∙◌}
-use Rattle.m2v_piece.specs.Cutting.{Held, Fits, Stops, pieces_behind, start_behind}
+use Rattle.m2v_piece.specs.Cutting.{Held, Fits, PieceStops, pieces_behind, start_behind}
 use Rattle.m2v_piece.specs.declared.taking.Byte.{Byte}
 use Rattle.m2v_piece.specs.Stepping.{Takes, IsWhole, IsLast}
 use Rattle.m2v_piece.proofs.Stands.{by_first, whole_stood, last_stood, reading_stops}
@@ -9,7 +9,7 @@ pub returns-in-Err-clause-err : goal.returns-in-Err-clause-err
 returns-in-Err-clause-err c rest =
     let h = c.args.hand.now in
     let chunk = c.args.chunk.now in
-    subst (λ (t : List ℕ). Stops (start_behind h t) (pieces_behind h t) c.in-Err.e) (by_first chunk rest c.first-b.result c.requires.some c.first-b.ensures) (c.in-Err.ensures.err (drop 1 chunk ++ rest))
+    subst (λ (t : List ℕ). PieceStops (start_behind h t) (pieces_behind h t) c.in-Err.e) (by_first chunk rest c.first-b.result c.requires.some c.first-b.ensures) (c.in-Err.ensures.err (drop 1 chunk ++ rest))
 
 pub returns-in-Err-clause-kind : goal.returns-in-Err-clause-kind
 returns-in-Err-clause-kind c = reading_stops _ _ c.in-Err.e (c.in-Err.ensures.err [])

@@ -1,11 +1,11 @@
 use Rattle.std.proofs.Common.{length}
-use Rattle.m2v_decoder.specs.Course.{IsSound}
+use Rattle.m2v_decoder.specs.Course.{IsSoundCourse}
 use Rattle.m2v_decoder.proofs.ReadLaws.{SoFar}
 use Rattle.m2v_decoder.proofs.course.Course.units.Given as goal
 
 abbrev pub invariant-loop : goal.invariant-loop
 invariant-loop l = record {
-  sound : IsSound l.self;
+  sound : IsSoundCourse l.self;
   so_far : SoFar l.fn.self l.fn.units l.self l.units;
 }
 
