@@ -1,4 +1,5 @@
-ghost use Rattle.std.specs.Prelude.{◌≡◌, ◌+◌, ◌<◌, OnOk, IfSome, IsSome, length};
+ghost use Rattle.std.specs.Prelude.{◌≡◌, ◌+◌, ◌<◌, OnOk, IfSome, IsSome, All, length};
+ghost use Rattle.m2v_set.specs.Numbers.{IsInterval};
 ghost use Rattle.m2v_rate.specs.Plans.{Entries};
 
 use crate::{Ledger, Plan, plan, slice_cap};
@@ -103,6 +104,24 @@ fn film(settings: &Settings, sizes: [u64; 3]) -> Option<[(u8, u64, u64); 5]> {
     ])
 }
 
+/// The times behind 126 pictures, none of which is shown longer.
+fn steady(settings: &Passed) -> [u64; 126]
+    ensures times { All (IsInterval settings.now) result }
+    ensures count { length result ≡ 126 }
+{
+    let units = settings.interval();
+    [units; 126]
+}
+
+/// The first plan of a group of 126 pictures, as many as a ledger holds, all of one type.
+fn longest(settings: &Settings) -> Option<(u8, u64, u64)> {
+    let passed = settings.test().ok()?;
+    let mut ledger = Ledger::start(&passed);
+    ledger.group(&passed, &[2; 126], &steady(&passed));
+    let a = plan(&passed, &ledger, 0);
+    Some((a.q, a.cap, a.target))
+}
+
 /// The cap of a slice of a progressive picture with a cap of so many bits.
 #[tactic(auto, unfolding(m2v_set::specs::Numbers::dims_of, m2v_set::specs::Numbers::rows_by, m2v_set::specs::Numbers::frame_rows_by))]
 fn slice(settings: &Settings, cap: u64, r: u32) -> Option<u64> {
@@ -152,6 +171,18 @@ fn plans_of_five_pictures(rt: HostRuntime) {
 fn a_group_goes_by_the_one_before(rt: HostRuntime) {
     let plans = two(&small(100, 1), 448);
     assert_eq!(rt; plans, Some([(8, 3200, 1600), (2, 5504, 2752)]));
+}
+
+// The same, of the pool's 126 shares.
+#[test]
+fn a_ledger_holds_the_pictures_of_63_frames(rt: HostRuntime) {
+    let fields = Settings {
+        width: 32,
+        height: 64,
+        scan: Scan::Fields,
+        ..small(1000, 10)
+    };
+    assert_eq!(rt; longest(&fields), Some((8, 16_000, 8_000)));
 }
 
 // The expected values are those of the plan's formula, worked out by a program in another language.
