@@ -6,3 +6,4 @@ pub mod ElementLaws
 pub mod Decisions
 pub mod Units
 pub mod Outputs
+pub mod Texts
