@@ -1,8 +1,6 @@
 -- Texts one behind another: how long they are, and that they end at the edge of a byte.
-use Rattle.std.proofs.Common.{◌≡◌, ℕ, zero, suc, add-zero, ◌+◌, ◌*◌, ◌≤◌, Bool, List, [], ◌∷◌, ◌++◌, length, refl, subst, ap, arith}
+use Rattle.std.proofs.Common.{◌≡◌, ℕ, zero, suc, ◌+◌, Bool, List, [], refl, subst, arith}
 use Rattle.std.specs.List.{flat_map, range_with_len}
-use Rattle.std.proofs.lemmas.List.{length-append, append-nil}
-use Rattle.std.proofs.lemmas.List.Concat.{flat_map-append}
 use Rattle.m2v_bits.specs.Bits.{packed, IsEdge}
 use Rattle.m2v_bits.proofs.Units.{edge-append}
 use Rattle.m2v_bits.proofs.Texts.{texts_more}
