@@ -121,12 +121,11 @@ block_most kind table_one predictor levels le = elim (cases_Bool kind.intra) [
   | inr off ↦ rw off (omega (arith, pairs_most true false 0 levels))
 ]
 
-pub intra_bits_most : (one : Bool) (a b : ℕ) (levels : List ℤ) → length levels ≡ 64 → a ≤ 22 → b ≡ length (pairs_text false one 0 (drop 1 levels)) → a + b ≤ 1538
-intra_bits_most true a b levels len front back = omega (arith, pairs_most false true 0 (drop 1 levels), length-drop 1 levels)
-intra_bits_most false a b levels len front back = omega (arith, pairs_most false false 0 (drop 1 levels), length-drop 1 levels)
-
-pub other_bits_most : (b : ℕ) (levels : List ℤ) → length levels ≡ 64 → b ≡ length (pairs_text true false 0 levels) → b ≤ 1538
-other_bits_most b levels len back = omega (arith, pairs_most true false 0 levels)
+-- the text of an intra block
+pub intra_text : (kind : BlockKind) (table_one : Bool) (d predictor : ℤ) (levels : List ℤ) → kind.intra ≡ true → d ≡ get_or levels 0 (pos 0) -ℤ predictor
+    → dc_text kind.luma d ++ pairs_text false table_one 0 (drop 1 levels) ≡ block_text kind table_one predictor levels
+unfolding block_text
+intra_text kind table_one d predictor levels on e = rw (e, on) refl
 
 -- one level more
 pub next_level : (first one : Bool) (run : ℕ) (levels : List ℤ) (i : ℕ) (level : ℤ) → i < length levels → level ≡ get_or levels i (pos 0)
@@ -144,7 +143,3 @@ at_end first one run levels i le = rw (drop_all i levels le) refl
 pub next_level_is : (first next one : Bool) (run after : ℕ) (levels : List ℤ) (i : ℕ) (level : ℤ) → i < length levels → level ≡ get_or levels i (pos 0) → next ≡ (first && is_zero level) → after ≡ run_after run level
     → pairs_text first one run (drop i levels) ≡ level_text first one run level ++ pairs_text next one after (drop (i + 1) levels)
 next_level_is first next one run after levels i level lt e ne ae = rw (ne, ae) (next_level first one run levels i level lt e)
-
-pub pairs_few : (first one : Bool) (from : ℕ) (levels : List ℤ) → length levels ≡ 64 → length (pairs_text first one 0 (drop from levels)) ≤ 1540
-pairs_few first true from levels len = omega (arith, pairs_most first true 0 (drop from levels), length-drop from levels)
-pairs_few first false from levels len = omega (arith, pairs_most first false 0 (drop from levels), length-drop from levels)

@@ -7,7 +7,7 @@ ghost use Rattle.m2v_block.specs.Dc.{dc_text};
 ghost use Rattle.m2v_block.specs.Blocks.{IsDc, block_at, predictor_after};
 ghost use Rattle.m2v_block.specs.Texts.{IsBlock, code_text, twelve, escape_text, pair_text, is_zero, level_text, run_after, pairs_text, block_text};
 
-use crate::dc::{dc_bits, write_dc};
+use crate::dc::put_dc;
 use m2v_bits::{BitCount, BitOutput, BitWriter};
 use m2v_quant::{BlockKind, Levels};
 use m2v_vlc::{Code, Coefficient, code_coefficient_one, code_coefficient_zero, code_first_zero};
@@ -171,35 +171,33 @@ fn put_pairs<O: BitOutput>(levels: &Levels, from: u8, first: bool, one: bool, ou
     put_code(false, one, Coefficient::End, out);
 }
 
-/// Appends them to a writer.
-fn write_pairs(levels: &Levels, from: u8, first: bool, one: bool, out: &mut BitWriter)
-    requires from { from ≤ 64 }
-    requires levels { All IsLevel levels.now.at }
-    requires room { length (pairs_text first one 0 (drop from levels.now.at)) ≤ out.old.room }
-    ensures written { out.new.written ≡ out.old.written ++ pairs_text first one 0 (drop from levels.now.at) }
-    ensures room { out.new.room + length (pairs_text first one 0 (drop from levels.now.at)) ≡ out.old.room }
+/// Appends a block behind the DC predictor.
+#[inline(always)]
+#[tactic(auto, unfolding(crate::specs::Texts::block_text))]
+fn put_block<O: BitOutput>(
+    levels: &Levels,
+    kind: &BlockKind,
+    table_one: bool,
+    dc_pred: i32,
+    out: &mut O,
+)
+    requires kind { IsKind kind.now }
+    requires levels { IsBlock kind.now levels.now.at }
+    requires predictor { kind.now.intra ≡ true → IsDc kind.now.precision dc_pred }
+    requires room { length (block_text kind.now table_one dc_pred levels.now.at) ≤ O.space out.old }
+    ensures { Gains O.took O.space out.old (block_text kind.now table_one dc_pred levels.now.at) out.new }
 {
-    put_pairs(levels, from, first, one, out);
-}
-
-/// How many bits they take.
-fn pairs_bits(levels: &Levels, from: u8, first: bool, one: bool) -> u32
-    requires from { from ≤ 64 }
-    requires levels { All IsLevel levels.now.at }
-    ensures value { result ≡ length (pairs_text first one 0 (drop from levels.now.at)) }
-    ensures most { result ≤ 1553 }
-{
-    // 64 levels: the count holds their bits
-    let _levels = &levels.at;
-    let mut count = BitCount { bits: 0 };
-    put_pairs(levels, from, first, one, &mut count);
-    count.bits
+    if kind.intra {
+        put_dc(levels.at[0] - dc_pred, kind.luma, out);
+        put_pairs(levels, 1, false, table_one, out);
+    } else {
+        put_pairs(levels, 0, true, false, out);
+    }
 }
 
 /// Appends a block (clauses 6.2.6 and 7.2) of 64 levels in scan order: an intra DC by its difference to the predictor,
 /// each pair by its code, or by escape where its table has none, and the end of the block. `table_one` is
 /// intra_vlc_format; `dc_pred` becomes the DC level of an intra block, and stays at any other.
-#[tactic(auto, using(m2v_bits::proofs::Cursor::lengths), unfolding(crate::specs::Texts::block_text))]
 pub fn write_block(
     levels: &Levels,
     kind: &BlockKind,
@@ -216,18 +214,13 @@ pub fn write_block(
     ensures predictor { dc_pred.new ≡ predictor_after kind.now dc_pred.old levels.now.at }
     ensures spells { Spells (block_at kind.now table_one dc_pred.old) levels.now.at (block_text kind.now table_one dc_pred.old levels.now.at) }
 {
+    put_block(levels, kind, table_one, *dc_pred, out);
     if kind.intra {
-        let dc = levels.at[0];
-        write_dc(dc - *dc_pred, kind.luma, out);
-        write_pairs(levels, 1, false, table_one, out);
-        *dc_pred = dc;
-    } else {
-        write_pairs(levels, 0, true, false, out);
+        *dc_pred = levels.at[0];
     }
 }
 
 /// How many bits `write_block` takes for a block, at most 1538: 64 escaped pairs, and the end. Nothing is written.
-#[tactic(auto, using(m2v_bits::proofs::Cursor::lengths), unfolding(crate::specs::Texts::block_text))]
 pub fn block_bits(levels: &Levels, kind: &BlockKind, table_one: bool, dc_pred: i32) -> u32
     requires kind { IsKind kind.now }
     requires levels { IsBlock kind.now levels.now.at }
@@ -235,9 +228,9 @@ pub fn block_bits(levels: &Levels, kind: &BlockKind, table_one: bool, dc_pred: i
     ensures value { result ≡ length (block_text kind.now table_one dc_pred levels.now.at) }
     ensures most { result ≤ 1538 }
 {
-    if kind.intra {
-        dc_bits(levels.at[0] - dc_pred, kind.luma) + pairs_bits(levels, 1, false, table_one)
-    } else {
-        pairs_bits(levels, 0, true, false)
-    }
+    // 64 levels: the count holds their bits
+    let _levels = &levels.at;
+    let mut count = BitCount { bits: 0 };
+    put_block(levels, kind, table_one, dc_pred, &mut count);
+    count.bits
 }
