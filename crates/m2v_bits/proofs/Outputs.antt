@@ -35,8 +35,8 @@ module _ {O : Type 0} {took : O → List Bool → Type 0} {space : O → ℕ} wh
   -- there is room for what comes next
   pub room_for_next : {a b : O} {here whole : List Bool} (s rest : List Bool) → GainsBut took space a here whole b → here ≡ s ++ rest → length whole ≤ space a → length s ≤ space b
   room_for_next {a} {b} {here} {whole} s rest before is enough =
-    omega (arith, before.gains.less, ap length before.joins, length-append before.part here, ap length is, length-append s rest)
+      omega (arith, before.gains.less, ap length before.joins, length-append before.part here, ap length is, length-append s rest)
 
   pub room_for_last : {a b : O} {here whole : List Bool} → GainsBut took space a here whole b → length whole ≤ space a → length here ≤ space b
   room_for_last {a} {b} {here} {whole} before enough =
-    omega (arith, before.gains.less, ap length before.joins, length-append before.part here)
+      omega (arith, before.gains.less, ap length before.joins, length-append before.part here)

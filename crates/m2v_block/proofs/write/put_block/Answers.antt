@@ -13,5 +13,5 @@ returns-then-kind g c =
     let dc = get_or c.args.levels.now.at 0 (pos 0) in
     let same = difference_is c.args.kind.now.precision dc c.args.dc_pred c.requires.kind.precision (c.requires.levels.dc c.if-kind.true) (c.requires.predictor c.if-kind.true) in
     subst (λ (text : List Bool). Gains g.O.BitOutput.took g.O.BitOutput.space c.args.out.now text c.put_pairs.new.out)
-        (intra_text c.args.kind.now c.args.table_one _ c.args.dc_pred c.args.levels.now.at c.if-kind.true same)
-        (gains_on c.put_dc.ensures c.put_pairs.ensures)
+    (intra_text c.args.kind.now c.args.table_one _ c.args.dc_pred c.args.levels.now.at c.if-kind.true same)
+    (gains_on c.put_dc.ensures c.put_pairs.ensures)
