@@ -23,7 +23,7 @@ fn increment_row(value: Increment) -> u8
 
 /// The code of the value in table B.1, of no bits where there is none.
 #[inline(always)]
-fn increment_of(value: Increment) -> Code
+pub fn code_increment(value: Increment) -> Code
     ensures spelled { spelled result ≡ increment_code value }
     ensures width { result.len ≤ 17 }
     ensures fits { result.number < 2 ^ result.len }
@@ -53,7 +53,7 @@ pub fn write_increment(value: Increment, out: &mut BitWriter)
     ensures written { out.new.written ≡ out.old.written ++ increment_code value }
     ensures room { out.new.room + length (increment_code value) ≡ out.old.room }
 {
-    put_code(increment_of(value), out);
+    put_code(code_increment(value), out);
 }
 
 /// How many bits the code of an increment has, 0 where table B.1 has none.
@@ -61,5 +61,5 @@ pub fn write_increment(value: Increment, out: &mut BitWriter)
 pub fn bits_increment(value: Increment) -> u32
     ensures { result ≡ length (increment_code value) }
 {
-    bits_of_code(increment_of(value))
+    bits_of_code(code_increment(value))
 }

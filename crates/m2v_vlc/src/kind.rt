@@ -36,7 +36,7 @@ fn flags_of(value: MbType) -> u32
 
 /// The code of the type in table B.2, of no bits where there is none.
 #[inline(always)]
-fn type_i_of(value: MbType) -> Code
+pub fn code_type_i(value: MbType) -> Code
     ensures spelled { spelled result ≡ type_i_code value }
     ensures width { result.len ≤ 17 }
     ensures fits { result.number < 2 ^ result.len }
@@ -65,7 +65,7 @@ pub fn write_type_i(value: MbType, out: &mut BitWriter)
     ensures written { out.new.written ≡ out.old.written ++ type_i_code value }
     ensures room { out.new.room + length (type_i_code value) ≡ out.old.room }
 {
-    put_code(type_i_of(value), out);
+    put_code(code_type_i(value), out);
 }
 
 /// How many bits the code of a macroblock type has, 0 where table B.2 has none.
@@ -73,12 +73,12 @@ pub fn write_type_i(value: MbType, out: &mut BitWriter)
 pub fn bits_type_i(value: MbType) -> u32
     ensures { result ≡ length (type_i_code value) }
 {
-    bits_of_code(type_i_of(value))
+    bits_of_code(code_type_i(value))
 }
 
 /// The code of the value in table B.3, of no bits where there is none.
 #[inline(always)]
-fn type_p_of(value: MbType) -> Code
+pub fn code_type_p(value: MbType) -> Code
     ensures spelled { spelled result ≡ type_p_code value }
     ensures width { result.len ≤ 17 }
     ensures fits { result.number < 2 ^ result.len }
@@ -107,7 +107,7 @@ pub fn write_type_p(value: MbType, out: &mut BitWriter)
     ensures written { out.new.written ≡ out.old.written ++ type_p_code value }
     ensures room { out.new.room + length (type_p_code value) ≡ out.old.room }
 {
-    put_code(type_p_of(value), out);
+    put_code(code_type_p(value), out);
 }
 
 /// How many bits the code of a macroblock_type of a P picture has, 0 where table B.3 has none.
@@ -115,12 +115,12 @@ pub fn write_type_p(value: MbType, out: &mut BitWriter)
 pub fn bits_type_p(value: MbType) -> u32
     ensures { result ≡ length (type_p_code value) }
 {
-    bits_of_code(type_p_of(value))
+    bits_of_code(code_type_p(value))
 }
 
 /// The code of the value in table B.4, of no bits where there is none.
 #[inline(always)]
-fn type_b_of(value: MbType) -> Code
+pub fn code_type_b(value: MbType) -> Code
     ensures spelled { spelled result ≡ type_b_code value }
     ensures width { result.len ≤ 17 }
     ensures fits { result.number < 2 ^ result.len }
@@ -149,7 +149,7 @@ pub fn write_type_b(value: MbType, out: &mut BitWriter)
     ensures written { out.new.written ≡ out.old.written ++ type_b_code value }
     ensures room { out.new.room + length (type_b_code value) ≡ out.old.room }
 {
-    put_code(type_b_of(value), out);
+    put_code(code_type_b(value), out);
 }
 
 /// How many bits the code of a macroblock_type of a B picture has, 0 where table B.4 has none.
@@ -157,5 +157,5 @@ pub fn write_type_b(value: MbType, out: &mut BitWriter)
 pub fn bits_type_b(value: MbType) -> u32
     ensures { result ≡ length (type_b_code value) }
 {
-    bits_of_code(type_b_of(value))
+    bits_of_code(code_type_b(value))
 }

@@ -25,14 +25,16 @@ pub use coefficient::{
     read_coefficient_one, read_coefficient_zero, write_coefficient_one, write_coefficient_zero,
 };
 pub use first::{bits_first_zero, code_first_zero, read_first_zero, write_first_zero};
-pub use increment::{bits_increment, read_increment, write_increment};
+pub use increment::{bits_increment, code_increment, read_increment, write_increment};
 pub use kind::{
-    bits_type_b, bits_type_i, bits_type_p, read_type_b, read_type_i, read_type_p, write_type_b,
-    write_type_i, write_type_p,
+    bits_type_b, bits_type_i, bits_type_p, code_type_b, code_type_i, code_type_p, read_type_b,
+    read_type_i, read_type_p, write_type_b, write_type_i, write_type_p,
 };
 pub use laws::law_tables;
-pub use motion::{bits_dmv, bits_motion, read_dmv, read_motion, write_dmv, write_motion};
-pub use pattern::{bits_pattern, read_pattern, write_pattern};
+pub use motion::{
+    bits_dmv, bits_motion, code_dmv, code_motion, read_dmv, read_motion, write_dmv, write_motion,
+};
+pub use pattern::{bits_pattern, code_pattern, read_pattern, write_pattern};
 pub use rows::Code;
 pub use size::{
     bits_dc_chroma, bits_dc_luma, code_dc_chroma, code_dc_luma, read_dc_chroma, read_dc_luma,

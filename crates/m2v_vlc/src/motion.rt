@@ -42,7 +42,7 @@ fn dmv_row(value: i8) -> u8
 
 /// The code of the value in table B.10, of no bits where there is none.
 #[inline(always)]
-fn motion_of(value: i8) -> Code
+pub fn code_motion(value: i8) -> Code
     ensures spelled { spelled result ≡ motion_code value }
     ensures width { result.len ≤ 17 }
     ensures fits { result.number < 2 ^ result.len }
@@ -73,7 +73,7 @@ pub fn write_motion(value: i8, out: &mut BitWriter)
     ensures written { out.new.written ≡ out.old.written ++ motion_code value }
     ensures room { out.new.room + length (motion_code value) ≡ out.old.room }
 {
-    put_code(motion_of(value), out);
+    put_code(code_motion(value), out);
 }
 
 /// How many bits the code of a motion_code has, 0 where table B.10 has none.
@@ -81,12 +81,12 @@ pub fn write_motion(value: i8, out: &mut BitWriter)
 pub fn bits_motion(value: i8) -> u32
     ensures { result ≡ length (motion_code value) }
 {
-    bits_of_code(motion_of(value))
+    bits_of_code(code_motion(value))
 }
 
 /// The code of the value in table B.11, of no bits where there is none.
 #[inline(always)]
-fn dmv_of(value: i8) -> Code
+pub fn code_dmv(value: i8) -> Code
     ensures spelled { spelled result ≡ dmv_code value }
     ensures width { result.len ≤ 17 }
     ensures fits { result.number < 2 ^ result.len }
@@ -117,7 +117,7 @@ pub fn write_dmv(value: i8, out: &mut BitWriter)
     ensures written { out.new.written ≡ out.old.written ++ dmv_code value }
     ensures room { out.new.room + length (dmv_code value) ≡ out.old.room }
 {
-    put_code(dmv_of(value), out);
+    put_code(code_dmv(value), out);
 }
 
 /// How many bits the code of a dmvector has, 0 where table B.11 has none.
@@ -125,5 +125,5 @@ pub fn write_dmv(value: i8, out: &mut BitWriter)
 pub fn bits_dmv(value: i8) -> u32
     ensures { result ≡ length (dmv_code value) }
 {
-    bits_of_code(dmv_of(value))
+    bits_of_code(code_dmv(value))
 }

@@ -19,7 +19,7 @@ fn pattern_row(pattern: u8) -> u8
 
 /// The code of the value in table B.9, of no bits where there is none.
 #[inline(always)]
-fn pattern_of(pattern: u8) -> Code
+pub fn code_pattern(pattern: u8) -> Code
     ensures spelled { spelled result ≡ pattern_code pattern }
     ensures width { result.len ≤ 17 }
     ensures fits { result.number < 2 ^ result.len }
@@ -50,7 +50,7 @@ pub fn write_pattern(pattern: u8, out: &mut BitWriter)
     ensures written { out.new.written ≡ out.old.written ++ pattern_code pattern }
     ensures room { out.new.room + length (pattern_code pattern) ≡ out.old.room }
 {
-    put_code(pattern_of(pattern), out);
+    put_code(code_pattern(pattern), out);
 }
 
 /// How many bits the code of a coded_block_pattern_420 has, 0 where table B.9 has none.
@@ -58,5 +58,5 @@ pub fn write_pattern(pattern: u8, out: &mut BitWriter)
 pub fn bits_pattern(pattern: u8) -> u32
     ensures { result ≡ length (pattern_code pattern) }
 {
-    bits_of_code(pattern_of(pattern))
+    bits_of_code(code_pattern(pattern))
 }

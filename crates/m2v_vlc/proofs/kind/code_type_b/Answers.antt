@@ -3,7 +3,7 @@ use Rattle.m2v_vlc.specs.Codes.{Row}
 use Rattle.m2v_vlc.specs.Lookups.{IsTable, code_in}
 use Rattle.m2v_vlc.specs.declared.values.MbType.{MbType}
 use Rattle.m2v_vlc.proofs.MbTypes.{type_b_rows, type_b_table, type_b_index}
-use Rattle.m2v_vlc.proofs.kind.type_b_of.Goals as goal
+use Rattle.m2v_vlc.proofs.kind.code_type_b.Goals as goal
 
 pub row_code-requires : goal.row_code-requires
 row_code-requires c = subst (λ (t : List (Row MbType)). IsTable t) (sym type_b_rows) type_b_table

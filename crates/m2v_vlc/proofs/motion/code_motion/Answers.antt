@@ -3,7 +3,7 @@ use Rattle.std.proofs.lemmas.Int.{to_z-of_z}
 use Rattle.m2v_vlc.specs.Codes.{Row}
 use Rattle.m2v_vlc.specs.Lookups.{IsTable, code_in}
 use Rattle.m2v_vlc.proofs.Motions.{motion_rows, motion_table}
-use Rattle.m2v_vlc.proofs.motion.motion_of.Goals as goal
+use Rattle.m2v_vlc.proofs.motion.code_motion.Goals as goal
 
 pub row_code-requires : goal.row_code-requires
 row_code-requires c = subst (λ (t : List (Row ℤ)). IsTable t) (sym motion_rows) motion_table

@@ -3,7 +3,7 @@ use Rattle.std.proofs.lemmas.Int.{to_z-of_z}
 use Rattle.m2v_vlc.specs.Codes.{Row}
 use Rattle.m2v_vlc.specs.Lookups.{IsTable, code_in}
 use Rattle.m2v_vlc.proofs.Motions.{dmv_rows, dmv_table}
-use Rattle.m2v_vlc.proofs.motion.dmv_of.Goals as goal
+use Rattle.m2v_vlc.proofs.motion.code_dmv.Goals as goal
 
 pub row_code-requires : goal.row_code-requires
 row_code-requires c = subst (λ (t : List (Row ℤ)). IsTable t) (sym dmv_rows) dmv_table

@@ -2,7 +2,7 @@ use Rattle.std.proofs.Common.{◌∙◌, ℕ, List, ap, sym, subst}
 use Rattle.m2v_vlc.specs.Codes.{Row}
 use Rattle.m2v_vlc.specs.Lookups.{IsTable, code_in}
 use Rattle.m2v_vlc.proofs.Patterns.{pattern_rows, pattern_table}
-use Rattle.m2v_vlc.proofs.pattern.pattern_of.Goals as goal
+use Rattle.m2v_vlc.proofs.pattern.code_pattern.Goals as goal
 
 pub row_code-requires : goal.row_code-requires
 row_code-requires c = subst (λ (t : List (Row ℕ)). IsTable t) (sym pattern_rows) pattern_table

@@ -3,7 +3,7 @@ use Rattle.m2v_vlc.specs.Codes.{Row}
 use Rattle.m2v_vlc.specs.Lookups.{IsTable, code_in}
 use Rattle.m2v_vlc.specs.declared.values.Increment.{Increment}
 use Rattle.m2v_vlc.proofs.Increments.{increment_rows, increment_table}
-use Rattle.m2v_vlc.proofs.increment.increment_of.Goals as goal
+use Rattle.m2v_vlc.proofs.increment.code_increment.Goals as goal
 
 pub row_code-requires : goal.row_code-requires
 row_code-requires c = subst (λ (t : List (Row Increment)). IsTable t) (sym increment_rows) increment_table
