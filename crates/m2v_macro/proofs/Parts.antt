@@ -1,11 +1,18 @@
--- A component of a vector and its dmvector.
-use Rattle.std.proofs.Common.{◌≡◌, ℕ, zero, suc, ◌<◌, ◌≤◌, Bool, true, false, cond, List, ◌++◌, ℤ, pos, sym, arith}
-use Rattle.std.specs.Prelude.{slice_index, slice_index_or}
+-- A component of a vector and its dmvector, and the vectors of both directions.
+use Rattle.std.proofs.Common.{◌≡◌, ℕ, zero, suc, ◌<◌, ◌≤◌, Bool, true, false, cond, List, ◌++◌, ℤ, pos, sym, ap, ◌∙◌, arith}
+use Rattle.std.specs.Prelude.{◌||◌, slice_index, slice_index_or}
 use Rattle.m2v_vector.specs.Vectors.{scale, IsVector, half}
 use Rattle.m2v_macro.specs.declared.values.Shape.{Shape}
+use Rattle.m2v_vector.specs.declared.predictors.Pmv.{Pmv}
 use Rattle.m2v_macro.specs.declared.values.Selected.{Selected}
-use Rattle.m2v_macro.specs.Texts.{component_text, dm_text, predictor_at, part_text}
-use Rattle.m2v_macro.specs.Conditions.{AreScales, IsPair, IsSelected, IsDm}
+use Rattle.m2v_macro.specs.declared.values.Direction.{Direction}
+use Rattle.m2v_macro.specs.declared.values.MacroSyntax.{MacroSyntax}
+use Rattle.m2v_macro.specs.declared.values.PictureContext.{PictureContext}
+use Rattle.m2v_macro.specs.States.{is_field}
+use Rattle.m2v_macro.specs.Vectors.{shape_of}
+use Rattle.m2v_macro.specs.Macros.{is_concealed, f_codes_of}
+use Rattle.m2v_macro.specs.Texts.{component_text, dm_text, predictor_at, part_text, direction_text, marker_text, directions_text}
+use Rattle.m2v_macro.specs.Conditions.{AreScales, IsPair, IsSelected, IsDm, forward_of, backward_of}
 use Rattle.m2v_macro.proofs.Components.{half_within}
 
 -- what is known of a component
@@ -49,3 +56,11 @@ pub part_is : (shape : Shape) (f_code : List ℕ) (predictor : List ℤ) (s : Se
     → part_text shape f_code predictor s k ≡ component_text (slice_index f_code k) x v ++ dm_text shape.dual d
 unfolding part_text
 part_is shape f_code predictor s k x v d e f g = sym (λ i. component_text (slice_index f_code k) (e i) (f i) ++ dm_text shape.dual (g i))
+
+pub directions_is : (c : PictureContext) (pmv : Pmv) (m : MacroSyntax) (told field : Bool) (shape : Shape) (forward backward : Direction) → told ≡ (m.kind.forward || is_concealed c m.kind) → field ≡ is_field c → shape ≡ shape_of field m.form
+    → forward ≡ forward_of m → backward ≡ backward_of m
+    → direction_text told shape (f_codes_of c 0) pmv 0 forward ++ (direction_text m.kind.backward shape (f_codes_of c 1) pmv 1 backward ++ marker_text c m.kind) ≡ directions_text c pmv m
+unfolding directions_text
+directions_is c pmv m told field shape forward backward t f s d e =
+    let same : shape ≡ shape_of (is_field c) m.form = s ∙ ap (λ (b : Bool). shape_of b m.form) f in
+    λ i. direction_text (t i) (same i) (f_codes_of c 0) pmv 0 (d i) ++ (direction_text m.kind.backward (same i) (f_codes_of c 1) pmv 1 (e i) ++ marker_text c m.kind)

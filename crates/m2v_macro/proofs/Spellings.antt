@@ -6,8 +6,8 @@ use Rattle.std.proofs.lemmas.Bool.{cases_Bool, and_from, eqb-true}
 use Rattle.std.proofs.lemmas.Nat.{pow_pos, div-add-mod'}
 use Rattle.std.proofs.Math.Nat.{mod-lt}
 use Rattle.m2v_bits.specs.Bits.{bits_of}
-use Rattle.m2v_bits.specs.Syntax.{Syntax, done, seq, choose, repeated, Rounds, last, more, Spells}
-use Rattle.m2v_bits.proofs.LeafLaws.{done_spells, seq_spells, here_spells, rule_spells, first_spells, second_spells, renamed_spells, bits_spells}
+use Rattle.m2v_bits.specs.Syntax.{Syntax, done, choose, repeated, Rounds, last, more, Spells}
+use Rattle.m2v_bits.proofs.LeafLaws.{done_spells, here_spells, rule_spells, first_spells, second_spells, renamed_spells, bits_spells}
 use Rattle.m2v_bits.proofs.ElementLaws.{last_spells, whole_spells, same_spells}
 pub use Rattle.m2v_bits.proofs.ElementLaws.{then_spells}
 use Rattle.m2v_bits.proofs.ElementLaws as elements

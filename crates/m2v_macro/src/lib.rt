@@ -20,4 +20,4 @@ pub use increments::begins_before;
 pub use laws::{law_one_reading, law_round_trip, law_two_texts};
 pub use read::read_macro;
 pub use values::{MacroSyntax, PictureContext, SliceState};
-pub use write::{macro_bits, write_macro};
+pub use write::{macro_bits, put_macro, write_macro};

@@ -1,8 +1,9 @@
-ghost use Rattle.std.specs.Prelude.{◌≡◌, ℕ, ◌+◌, ◌-◌, ◌*◌, ◌/◌, ◌%◌, ◌≤◌, ◌<◌, ◌^◌, ◌++◌, ◌||◌, cond, true, false, length, slice_index_or, pos};
-ghost use Rattle.m2v_bits.specs.Bits.{bits_of};
+ghost use Rattle.std.specs.Prelude.{◌≡◌, ◌+◌, ◌-◌, ◌/◌, ◌%◌, ◌≤◌, ◌<◌, ◌^◌, ◌++◌, true, length};
+ghost use Rattle.m2v_bits.specs.Outputs.{Gains};
 ghost use Rattle.m2v_bits.specs.Syntax.{Spells};
-ghost use Rattle.m2v_macro.specs.Texts.{flag as flag_text, escapes_text, increment_text, modes_text, directions_text, macro_text};
-ghost use Rattle.m2v_macro.specs.States.{pmv_before as pmv_before_of, after};
+ghost use Rattle.m2v_vlc.specs.Tables.{increment_code};
+ghost use Rattle.m2v_macro.specs.Texts.{escapes_text, increment_text, modes_text, directions_text, macro_text};
+ghost use Rattle.m2v_macro.specs.States.{after};
 ghost use Rattle.m2v_macro.specs.Macros.{f_codes_of, macro_at};
 ghost use Rattle.m2v_macro.specs.Conditions.{IsContext, IsReady, IsAddress, IsMacro, ArePredictors, is_used, forward_of as forward_as, backward_of as backward_as};
 
@@ -10,44 +11,31 @@ use crate::modes::{has_forward, is_field};
 use crate::state::pmv_before;
 use crate::values::{Direction, MacroSyntax, PictureContext, Selected, SliceState};
 use crate::vectors::shape_of;
-use crate::write_modes::{
-    dct_bits, form_bits, kind_bits, marker_bits, pattern_bits, quantiser_bits, write_block_pattern,
-    write_dct, write_form, write_kind, write_marker, write_quantiser,
-};
-use crate::write_vectors::{direction_bits, write_direction};
-use m2v_bits::BitWriter;
+use crate::write_modes::{put_dct, put_form, put_kind, put_marker, put_pattern, put_quantiser};
+use crate::write_vectors::put_direction;
+use m2v_bits::{BitCount, BitOutput, BitWriter};
 use m2v_vector::Pmv;
-use m2v_vlc::{Increment, bits_increment, write_increment};
+use m2v_vlc::{Increment, code_increment};
 
-/// The bit of a flag.
+/// Appends the code of an increment or of the escape.
 #[inline(always)]
-#[tactic(auto, unfolding(m2v_bits::specs::Bits::bits_of))]
-fn bit(b: bool) -> u32
-    ensures below { result < 2 }
-    ensures bits { bits_of 1 result ≡ flag_text b }
+#[tactic(auto, using(m2v_bits::proofs::Cursor::lengths))]
+fn put_increment<O: BitOutput>(value: Increment, out: &mut O)
+    requires { length (increment_code value) ≤ O.space out.old }
+    ensures { Gains O.took O.space out.old (increment_code value) out.new }
 {
-    if b { 1 } else { 0 }
-}
-
-/// Appends a flag.
-#[inline(always)]
-pub fn put_flag(b: bool, out: &mut BitWriter)
-    requires { 1 ≤ out.old.room }
-    ensures written { out.new.written ≡ out.old.written ++ flag_text b }
-    ensures room { out.new.room + 1 ≡ out.old.room }
-{
-    out.put(bit(b), 1);
+    let code = code_increment(value);
+    out.append(code.number, code.len);
 }
 
 /// Appends escapes.
-fn write_escapes(count: u32, out: &mut BitWriter)
-    requires { length (escapes_text count) ≤ out.old.room }
-    ensures written { out.new.written ≡ out.old.written ++ escapes_text count }
-    ensures room { out.new.room + length (escapes_text count) ≡ out.old.room }
+fn put_escapes<O: BitOutput>(count: u32, out: &mut O)
+    requires { length (escapes_text count) ≤ O.space out.old }
+    ensures { Gains O.took O.space out.old (escapes_text count) out.new }
 {
     let mut left = count;
     while left > 0 {
-        write_increment(Increment::Escape, out);
+        put_increment(Increment::Escape, out);
         left -= 1;
     }
 }
@@ -55,26 +43,13 @@ fn write_escapes(count: u32, out: &mut BitWriter)
 /// Appends an increment with its escapes.
 #[inline(always)]
 #[tactic(auto, using(m2v_bits::proofs::Cursor::lengths), unfolding(crate::specs::Texts::increment_text))]
-fn write_step(increment: u32, out: &mut BitWriter)
+fn put_step<O: BitOutput>(increment: u32, out: &mut O)
     requires some { 1 ≤ increment }
-    requires room { length (increment_text increment) ≤ out.old.room }
-    ensures written { out.new.written ≡ out.old.written ++ increment_text increment }
-    ensures room { out.new.room + length (increment_text increment) ≡ out.old.room }
+    requires room { length (increment_text increment) ≤ O.space out.old }
+    ensures { Gains O.took O.space out.old (increment_text increment) out.new }
 {
-    write_escapes((increment - 1) / 33, out);
-    write_increment(Increment::Step(((increment - 1) % 33 + 1) as u8), out);
-}
-
-/// How many bits an increment takes with its escapes, which have 11 bits each.
-#[inline(always)]
-#[tactic(auto, using(m2v_bits::proofs::Cursor::lengths, crate::proofs::Lengths::escapes_bits, m2v_vlc::proofs::Increments::increment_length), unfolding(crate::specs::Texts::increment_text))]
-fn step_bits(increment: u32) -> u32
-    requires some { 1 ≤ increment }
-    requires most { increment < 2 ^ 20 }
-    ensures value { result ≡ length (increment_text increment) }
-    ensures most { result ≤ 2 ^ 20 }
-{
-    (increment - 1) / 33 * 11 + bits_increment(Increment::Step(((increment - 1) % 33 + 1) as u8))
+    put_escapes((increment - 1) / 33, out);
+    put_increment(Increment::Step(((increment - 1) % 33 + 1) as u8), out);
 }
 
 /// The forward vectors of a macroblock.
@@ -122,83 +97,73 @@ fn backward_of(m: &MacroSyntax) -> Direction
 
 /// Appends what stands before the vectors of a macroblock.
 #[tactic(auto, using(m2v_bits::proofs::Cursor::lengths), unfolding(crate::specs::Texts::modes_text))]
-fn write_modes(m: &MacroSyntax, context: &PictureContext, state: &SliceState, out: &mut BitWriter)
+fn put_modes<O: BitOutput>(
+    m: &MacroSyntax,
+    context: &PictureContext,
+    state: &SliceState,
+    out: &mut O,
+)
     requires fits { IsMacro context.now state.now m.now }
-    requires room { length (modes_text context.now m.now) ≤ out.old.room }
-    ensures written { out.new.written ≡ out.old.written ++ modes_text context.now m.now }
-    ensures room { out.new.room + length (modes_text context.now m.now) ≡ out.old.room }
+    requires room { length (modes_text context.now m.now) ≤ O.space out.old }
+    ensures { Gains O.took O.space out.old (modes_text context.now m.now) out.new }
 {
-    write_step(m.increment, out);
-    write_kind(context.kind, m.kind, out);
-    write_form(context, m.kind, m.form, out);
-    write_dct(context, m.kind, m.dct_field, out);
-    write_quantiser(m.kind, m.quantiser, out);
+    put_step(m.increment, out);
+    put_kind(context.kind, m.kind, out);
+    put_form(context, m.kind, m.form, out);
+    put_dct(context, m.kind, m.dct_field, out);
+    put_quantiser(m.kind, m.quantiser, out);
 }
 
 /// Appends the vectors of both directions, and the marker behind concealment vectors.
 #[tactic(auto, using(m2v_bits::proofs::Cursor::lengths), unfolding(crate::specs::Texts::directions_text))]
-fn write_directions(
+fn put_directions<O: BitOutput>(
     m: &MacroSyntax,
     context: &PictureContext,
     state: &SliceState,
     pmv: &Pmv,
-    out: &mut BitWriter,
+    out: &mut O,
 )
     requires context { IsContext context.now }
     requires fits { IsMacro context.now state.now m.now }
     requires forward { is_used context.now 0 ≡ true → ArePredictors (f_codes_of context.now 0) pmv.now 0 }
     requires backward { is_used context.now 1 ≡ true → ArePredictors (f_codes_of context.now 1) pmv.now 1 }
-    requires room { length (directions_text context.now pmv.now m.now) ≤ out.old.room }
-    ensures written { out.new.written ≡ out.old.written ++ directions_text context.now pmv.now m.now }
-    ensures room { out.new.room + length (directions_text context.now pmv.now m.now) ≡ out.old.room }
+    requires room { length (directions_text context.now pmv.now m.now) ≤ O.space out.old }
+    ensures { Gains O.took O.space out.old (directions_text context.now pmv.now m.now) out.new }
 {
     let shape = shape_of(is_field(context), m.form);
     let codes = &context.extension.f_code;
     let told = has_forward(context, m.kind);
-    write_direction(told, &shape, &codes[0], pmv, 0, &forward_of(m), out);
+    put_direction(told, &shape, &codes[0], pmv, 0, &forward_of(m), out);
     let behind = backward_of(m);
-    write_direction(m.kind.backward, &shape, &codes[1], pmv, 1, &behind, out);
-    write_marker(context, m.kind, out);
+    put_direction(m.kind.backward, &shape, &codes[1], pmv, 1, &behind, out);
+    put_marker(context, m.kind, out);
 }
 
-/// How many bits stand before the vectors of a macroblock.
-#[tactic(auto, using(m2v_bits::proofs::Cursor::lengths), unfolding(crate::specs::Texts::modes_text))]
-fn modes_bits(m: &MacroSyntax, context: &PictureContext) -> u32
-    requires some { 1 ≤ m.now.increment }
-    requires most { m.now.increment < 2 ^ 20 }
-    ensures value { result ≡ length (modes_text context.now m.now) }
-    ensures most { result ≤ 2 ^ 20 + 14 }
-{
-    step_bits(m.increment)
-        + kind_bits(context.kind, m.kind)
-        + form_bits(context, m.kind, m.form)
-        + dct_bits(context, m.kind, m.dct_field)
-        + quantiser_bits(m.kind, m.quantiser)
-}
-
-/// How many bits the vectors of both directions take, and the marker behind concealment vectors.
-#[tactic(auto, using(m2v_bits::proofs::Cursor::lengths), unfolding(crate::specs::Texts::directions_text))]
-fn directions_bits(m: &MacroSyntax, context: &PictureContext, state: &SliceState, pmv: &Pmv) -> u32
+/// Appends a macroblock up to its blocks (clauses 6.2.5 and 6.3.17), behind the state before it. Of the two spellings of
+/// a vector the one is written whose difference lies from `-16 f` to `16 f - 1`, where f is 2 ^ (f_code - 1).
+#[tactic(auto, using(m2v_bits::proofs::Cursor::lengths), unfolding(crate::specs::Texts::macro_text))]
+pub fn put_macro<O: BitOutput>(
+    m: &MacroSyntax,
+    context: &PictureContext,
+    state: &SliceState,
+    out: &mut O,
+)
     requires context { IsContext context.now }
+    requires state { IsReady context.now state.now }
+    requires address { IsAddress state.now.address }
     requires fits { IsMacro context.now state.now m.now }
-    requires forward { is_used context.now 0 ≡ true → ArePredictors (f_codes_of context.now 0) pmv.now 0 }
-    requires backward { is_used context.now 1 ≡ true → ArePredictors (f_codes_of context.now 1) pmv.now 1 }
-    ensures value { result ≡ length (directions_text context.now pmv.now m.now) }
-    ensures most { result ≤ 173 }
+    requires room { length (macro_text context.now state.now m.now) ≤ O.space out.old }
+    ensures { Gains O.took O.space out.old (macro_text context.now state.now m.now) out.new }
 {
-    let shape = shape_of(is_field(context), m.form);
-    let codes = &context.extension.f_code;
-    let told = has_forward(context, m.kind);
-    let forward = direction_bits(told, &shape, &codes[0], pmv, 0, &forward_of(m));
-    let behind = backward_of(m);
-    let backward = direction_bits(m.kind.backward, &shape, &codes[1], pmv, 1, &behind);
-    forward + backward + marker_bits(context, m.kind)
+    let pmv = pmv_before(context, state, m.increment);
+    put_modes(m, context, state, out);
+    put_directions(m, context, state, &pmv, out);
+    put_pattern(m.kind, m.pattern, out);
 }
 
 /// Appends a macroblock up to its blocks (clauses 6.2.5 and 6.3.17), and leaves the state behind it. The DC predictors
 /// are those that its first blocks go by. Of the two spellings of a vector the one is written whose difference lies
 /// from `-16 f` to `16 f - 1`, where f is 2 ^ (f_code - 1).
-#[tactic(auto, using(m2v_bits::proofs::Cursor::lengths), unfolding(crate::specs::Texts::macro_text))]
 pub fn write_macro(
     m: &MacroSyntax,
     context: &PictureContext,
@@ -216,15 +181,11 @@ pub fn write_macro(
     ensures state { state.new ≡ after context.now state.old m.now }
     ensures ready { IsReady context.now state.new }
 {
-    let pmv = pmv_before(context, state, m.increment);
-    write_modes(m, context, state, out);
-    write_directions(m, context, state, &pmv, out);
-    write_block_pattern(m.kind, m.pattern, out);
+    put_macro(m, context, state, out);
     *state = state.after(context, m);
 }
 
 /// How many bits `write_macro` takes for a macroblock. Nothing is written.
-#[tactic(auto, using(m2v_bits::proofs::Cursor::lengths), unfolding(crate::specs::Texts::macro_text))]
 pub fn macro_bits(m: &MacroSyntax, context: &PictureContext, state: &SliceState) -> u32
     requires context { IsContext context.now }
     requires state { IsReady context.now state.now }
@@ -233,8 +194,7 @@ pub fn macro_bits(m: &MacroSyntax, context: &PictureContext, state: &SliceState)
     ensures value { result ≡ length (macro_text context.now state.now m.now) }
     ensures most { result ≤ 2 ^ 21 }
 {
-    let pmv = pmv_before(context, state, m.increment);
-    modes_bits(m, context)
-        + directions_bits(m, context, state, &pmv)
-        + pattern_bits(m.kind, m.pattern)
+    let mut count = BitCount { bits: 0 };
+    put_macro(m, context, state, &mut count);
+    count.bits
 }

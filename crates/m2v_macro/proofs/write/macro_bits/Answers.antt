@@ -1,20 +1,12 @@
-use Rattle.std.proofs.Common.{sym, subst}
-use Rattle.m2v_vector.specs.declared.predictors.Pmv.{Pmv}
-use Rattle.m2v_macro.specs.Macros.{f_codes_of}
-use Rattle.m2v_macro.specs.Conditions.{ArePredictors}
-use Rattle.m2v_macro.proofs.Predicted.{forward_before, backward_before}
-use Rattle.m2v_macro.proofs.Steps.{order_small}
+use Rattle.std.proofs.Common.{arith, [], refl}
+use Rattle.m2v_macro.proofs.Lengths.{macro_most}
 use Rattle.m2v_macro.proofs.write.macro_bits.Goals as goal
 
-pub directions_bits-requires-clause-forward : goal.directions_bits-requires-clause-forward
-directions_bits-requires-clause-forward c =
-    let ctx = c.args.context.now in
-    λ used. subst (λ (p : Pmv). ArePredictors (f_codes_of ctx 0) p 0) (sym c.pmv_before-pmv.ensures) (forward_before (f_codes_of ctx 0) ctx c.args.state.now c.args.m.now.increment (c.requires.state.forward used))
+pub put_macro-requires-clause-room : goal.put_macro-requires-clause-room
+put_macro-requires-clause-room c = omega (arith, macro_most c.args.context.now c.args.state.now c.args.m.now c.requires.context c.requires.fits)
 
-pub directions_bits-requires-clause-backward : goal.directions_bits-requires-clause-backward
-directions_bits-requires-clause-backward c =
-    let ctx = c.args.context.now in
-    λ used. subst (λ (p : Pmv). ArePredictors (f_codes_of ctx 1) p 1) (sym c.pmv_before-pmv.ensures) (backward_before (f_codes_of ctx 1) ctx c.args.state.now c.args.m.now.increment (c.requires.state.backward used))
+pub returns-clause-value : goal.returns-clause-value
+returns-clause-value c = c.put_macro.ensures.taken [] refl
 
-pub modes_bits-requires-clause-most : goal.modes_bits-requires-clause-most
-modes_bits-requires-clause-most c = order_small c.args.context.now c.args.state.now c.args.m.now.increment c.requires.context.columns.1 c.requires.fits.step.order
+pub returns-clause-most : goal.returns-clause-most
+returns-clause-most c = omega (arith, macro_most c.args.context.now c.args.state.now c.args.m.now c.requires.context c.requires.fits, c.put_macro.ensures.taken [] refl)
