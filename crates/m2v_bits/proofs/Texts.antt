@@ -1,5 +1,5 @@
 -- Texts one behind another: what stands of them, what is left, and how long they are.
-use Rattle.std.proofs.Common.{◌≡◌, ℕ, zero, suc, add-zero, ◌+◌, ◌-◌, ◌*◌, ◌<◌, ◌≤◌, Bool, List, [], ◌∷◌, ◌++◌, length, refl, sym, ap, ◌∙◌, subst, arith, append_assoc}
+use Rattle.std.proofs.Common.{◌≡◌, ℕ, zero, suc, add-zero, ◌+◌, ◌-◌, ◌*◌, ◌<◌, ◌≤◌, Bool, List, [], ◌∷◌, ◌++◌, length, refl, ap, ◌∙◌, subst, arith}
 use Rattle.std.specs.List.{range_with_len, flat_map}
 use Rattle.std.proofs.lemmas.List.{length-append, append-nil}
 use Rattle.std.proofs.lemmas.List.Concat.{flat_map-append}
@@ -37,14 +37,3 @@ left_none text n k le = let none : n - k ≡ 0 = omega (arith, le) in rw none re
 
 pub left_length : (text : ℕ → List Bool) (n k : ℕ) → k < n → length (flat_map text (range_with_len k (n - k))) ≡ length (text k) + length (flat_map text (range_with_len (k + 1) (n - (k + 1))))
 left_length text n k lt = ap length (left_more text n k lt) ∙ length-append (text k) (flat_map text (range_with_len (k + 1) (n - (k + 1))))
-
--- one text more is written: what is written and what is left are together what they were
-pub written_more : (text : ℕ → List Bool) (n k : ℕ) (before behind all : List Bool) → k < n → behind ≡ before ++ text k → before ++ flat_map text (range_with_len k (n - k)) ≡ all
-    → behind ++ flat_map text (range_with_len (k + 1) (n - (k + 1))) ≡ all
-written_more text n k before behind all lt e h =
-    ap (λ (t : List Bool). t ++ flat_map text (range_with_len (k + 1) (n - (k + 1)))) e
-    ∙ append_assoc before (text k) (flat_map text (range_with_len (k + 1) (n - (k + 1))))
-    ∙ ap (λ (t : List Bool). before ++ t) (sym (left_more text n k lt)) ∙ h
-
-pub written_end : (text : ℕ → List Bool) (n k : ℕ) (before all : List Bool) → n ≤ k → before ++ flat_map text (range_with_len k (n - k)) ≡ all → before ≡ all
-written_end text n k before all le h = sym (append-nil before) ∙ ap (λ (t : List Bool). before ++ t) (sym (left_none text n k le)) ∙ h

@@ -12,4 +12,4 @@ pub use dc::write_dc;
 pub use fault::BlockFault;
 pub use laws::{law_one_reading, law_round_trip};
 pub use read::read_block;
-pub use write::{block_bits, write_block};
+pub use write::{block_bits, put_block, write_block};

@@ -171,10 +171,10 @@ fn put_pairs<O: BitOutput>(levels: &Levels, from: u8, first: bool, one: bool, ou
     put_code(false, one, Coefficient::End, out);
 }
 
-/// Appends a block behind the DC predictor.
+/// Appends a block as `write_block` does, behind the DC predictor, to whatever takes bits.
 #[inline(always)]
 #[tactic(auto, unfolding(crate::specs::Texts::block_text))]
-fn put_block<O: BitOutput>(
+pub fn put_block<O: BitOutput>(
     levels: &Levels,
     kind: &BlockKind,
     table_one: bool,

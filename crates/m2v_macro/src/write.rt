@@ -139,8 +139,7 @@ fn put_directions<O: BitOutput>(
     put_marker(context, m.kind, out);
 }
 
-/// Appends a macroblock up to its blocks (clauses 6.2.5 and 6.3.17), behind the state before it. Of the two spellings of
-/// a vector the one is written whose difference lies from `-16 f` to `16 f - 1`, where f is 2 ^ (f_code - 1).
+/// Appends a macroblock up to its blocks as `write_macro` does, behind the state before it, to whatever takes bits.
 #[tactic(auto, using(m2v_bits::proofs::Cursor::lengths), unfolding(crate::specs::Texts::macro_text))]
 pub fn put_macro<O: BitOutput>(
     m: &MacroSyntax,

@@ -1,3 +1,4 @@
 pub mod KindLaws
 pub mod DcLaws
 pub mod DualLaws
+pub mod BlockTexts

@@ -1,13 +1,17 @@
-use Rattle.std.proofs.Common.{sym, subst}
-use Rattle.m2v_macro.specs.declared.values.SliceState.{SliceState}
-use Rattle.m2v_macro.proofs.Ready.{ready_after}
+use Rattle.std.proofs.Common.{arith, [], refl}
 use Rattle.m2v_macroblock.specs.Macroblocks.{macroblock_of}
-use Rattle.m2v_macroblock.specs.Conditions.{AreWritable}
-use Rattle.m2v_macroblock.proofs.DcLaws.{writable}
+use Rattle.m2v_macroblock.proofs.BlockTexts.{are_whole, macroblock_most}
 use Rattle.m2v_macroblock.proofs.write.macroblock_bits.Goals as goal
 
-pub blocks_bits-requires-clause-blocks : goal.blocks_bits-requires-clause-blocks
-blocks_bits-requires-clause-blocks c =
-    let x = macroblock_of c.args.x.now c.args.levels.now in
-    let ready = ready_after c.args.context.now c.args.state.now c.args.x.now c.requires.state c.requires.fits in
-    subst (λ (s : SliceState). AreWritable c.args.context.now s x) (sym c.after-behind.ensures) (writable c.args.context.now c.args.state.now x ready c.requires.dc c.requires.fits c.requires.blocks)
+pub put_macroblock-requires-clause-room : goal.put_macroblock-requires-clause-room
+put_macroblock-requires-clause-room c =
+    let six = are_whole c.args.levels.now c.whole.ensures c.whole-2.ensures c.whole-3.ensures c.whole-4.ensures c.whole-5.ensures c.whole-6.ensures in
+    omega (arith, macroblock_most c.args.context.now c.args.state.now (macroblock_of c.args.x.now c.args.levels.now) c.requires.picture.context c.requires.fits six)
+
+pub returns-clause-value : goal.returns-clause-value
+returns-clause-value c = c.put_macroblock.ensures.taken [] refl
+
+pub returns-clause-most : goal.returns-clause-most
+returns-clause-most c =
+    let six = are_whole c.args.levels.now c.whole.ensures c.whole-2.ensures c.whole-3.ensures c.whole-4.ensures c.whole-5.ensures c.whole-6.ensures in
+    omega (arith, c.put_macroblock.ensures.taken [] refl, macroblock_most c.args.context.now c.args.state.now (macroblock_of c.args.x.now c.args.levels.now) c.requires.picture.context c.requires.fits six)

@@ -1,9 +1,0 @@
-use Rattle.std.specs.Prelude.{nat_lt}
-use Rattle.m2v_macroblock.specs.Macroblocks.{macroblock_of}
-use Rattle.m2v_macroblock.proofs.DcLaws.{predictor_passed}
-use Rattle.m2v_macroblock.proofs.write.one_bits.Goals as goal
-
-pub block_bits-requires-clause-predictor : goal.block_bits-requires-clause-predictor
-block_bits-requires-clause-predictor c =
-    predictor_passed c.args.context.now c.args.state.now (macroblock_of c.args.x.now c.args.levels.now) c.args.block (nat_lt c.args.block 4) c.kind_for-kind.result c.predictor-dc.result
-    c.requires.blocks c.requires.block c.kind_for-kind.ensures.value c.predictor-dc.ensures (record { sfits = c.predictor-dc.type_inv })
