@@ -149,7 +149,6 @@ pub fn put_macro<O: BitOutput>(
 )
     requires context { IsContext context.now }
     requires state { IsReady context.now state.now }
-    requires address { IsAddress state.now.address }
     requires fits { IsMacro context.now state.now m.now }
     requires room { length (macro_text context.now state.now m.now) ≤ O.space out.old }
     ensures { Gains O.took O.space out.old (macro_text context.now state.now m.now) out.new }

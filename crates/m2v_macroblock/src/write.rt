@@ -68,7 +68,6 @@ fn put_macroblock<O: BitOutput>(
 )
     requires picture { IsPicture context.now }
     requires state { IsReady context.now state.now }
-    requires address { IsAddress state.now.address }
     requires dc { AreDc context.now.extension.dc_precision state.now.dc }
     requires fits { IsMacro context.now state.now x.now }
     requires blocks { AreBlocks context.now state.now (macroblock_of x.now levels.now) }
