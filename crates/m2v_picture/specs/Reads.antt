@@ -13,13 +13,8 @@ use Rattle.m2v_model.specs.declared.state.Sequence.{Sequence}
 use Rattle.m2v_model.specs.declared.state.Open.{Open}
 use Rattle.m2v_model.specs.declared.state.State.{State}
 use Rattle.m2v_model.specs.Slices.{Macroblock, Row, Slice, macroblock_at, macroblocks_at, after_macroblock, context, slice_start, slice_at}
-use Rattle.m2v_picture.specs.declared.stop.Stop.{Stop}
+use Rattle.m2v_unit.specs.declared.stop.Stop.{Stop}
 use Rattle.m2v_picture.specs.Rows.{row_painted, all_row_painted, AllInRow}
-
--- the value that stands there, or the fault and its place
-abbrev pub Tells : {V : Type 0} → Result V Stop → List Bool → Result (V × List Bool) (FaultKind × ℕ) → Type 0
-Tells (Ok v) rest read = read ≡ Ok (v, rest)
-Tells (Err e) rest read = read ≡ Err (e.kind, e.left)
 
 -- an increment as the program keeps it
 abbrev pub TellsSum : Result ℕ Stop → Result (ℕ × List Bool) (FaultKind × ℕ) → Type 0

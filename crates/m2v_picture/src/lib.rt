@@ -9,10 +9,8 @@ mod macroblocks;
 mod paint;
 mod slices;
 mod state;
-mod stop;
 #[cfg(test)]
 mod tests;
 
 pub use laws::law_row_in_frame;
 pub use slices::read_slice;
-pub use stop::{Stop, of_block, of_head, of_macro, stopped};

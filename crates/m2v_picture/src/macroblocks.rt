@@ -6,11 +6,12 @@ ghost use Rattle.m2v_macro.specs.States.{after};
 ghost use Rattle.m2v_model.specs.Faults as faults;
 ghost use Rattle.m2v_model.specs.Slices.{macroblock_at};
 ghost use Rattle.m2v_picture.specs.Conditions.{IsPicture, IsState, AreDc, IsInside, last_dc};
-ghost use Rattle.m2v_picture.specs.Reads.{Tells, TellsMacroblock, Round, Macroblocks};
+ghost use Rattle.m2v_picture.specs.Reads.{TellsMacroblock, Round, Macroblocks};
+ghost use Rattle.m2v_unit.specs.Stops.{Tells};
 
 use crate::blocks::blocks;
 use crate::paint::paint;
-use crate::stop::{Stop, of_macro, stopped};
+use m2v_unit::{Stop, of_macro, stopped};
 use m2v_bits::BitReader;
 use m2v_macro::{MacroSyntax, PictureContext, SliceState, read_macro};
 use m2v_macroblock::dc_after;

@@ -6,12 +6,13 @@ ghost use Rattle.m2v_model.specs.Faults as faults;
 ghost use Rattle.m2v_model.specs.Pictures.{dims_of};
 ghost use Rattle.m2v_model.specs.States.{columns_of};
 ghost use Rattle.m2v_picture.specs.Conditions.{IsIntra};
-ghost use Rattle.m2v_picture.specs.Reads.{Tells, TellsSlice};
+ghost use Rattle.m2v_picture.specs.Reads.{TellsSlice};
+ghost use Rattle.m2v_unit.specs.Stops.{Tells};
 
 use crate::increments::{begins_late, increment_ahead};
 use crate::macroblocks::macroblocks;
 use crate::state::context;
-use crate::stop::{Stop, of_head, stopped};
+use m2v_unit::{Stop, of_head, stopped};
 use m2v_bits::BitReader;
 use m2v_head::SliceInfo;
 use m2v_macro::SliceState;

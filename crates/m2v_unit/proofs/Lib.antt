@@ -1,1 +1,4 @@
 pub mod Cuts
+pub mod Further
+pub mod Judged
+pub mod Ends

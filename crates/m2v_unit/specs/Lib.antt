@@ -1,1 +1,4 @@
 pub mod Texts
+pub mod Stops
+pub mod Reads
+pub mod Among

@@ -1,10 +1,27 @@
-//! The units of a piece of a stream, one after another (clause 5.2.3 of ISO/IEC 13818-2), as they stand in its bytes and
-//! in the zero bytes behind them.
+//! The units of a piece of a stream, one after another, as they stand in its bytes and in the zero bytes behind them
+//! (clause 5.2.3 of ISO/IEC 13818-2), and the header units, read (clauses 6.1.1 and 6.2.2 to 6.2.3): each header in its
+//! unit with the rules that look ahead, and the units by the values of their start codes.
 #![tactic(auto)]
 
+mod ahead;
+mod groups;
+mod header;
+mod headers;
+mod pictures;
 mod reader;
 mod search;
+mod sequences;
+mod state;
+mod stop;
 mod unit;
+mod units;
 
+pub use ahead::id_ahead;
+pub use groups::{group, matrices};
+pub use header::Header;
+pub use headers::{is_slice, read_end, read_header};
+pub use pictures::{picture, picture_extension};
 pub use reader::UnitReader;
+pub use sequences::{sequence, sequence_extension};
+pub use stop::{Stop, of_block, of_head, of_macro, stopped};
 pub use unit::Unit;

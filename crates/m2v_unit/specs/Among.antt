@@ -5,10 +5,10 @@ use Rattle.m2v_model.specs.declared.fault.FaultKind.{FaultKind}
 use Rattle.m2v_model.specs.declared.state.State.{State}
 use Rattle.m2v_model.specs.Units.{Units}
 use Rattle.m2v_model.specs.Streams as streams
-use Rattle.m2v_picture.specs.declared.stop.Stop.{Stop}
-use Rattle.m2v_part.specs.declared.header.Header.{Header}
-use Rattle.m2v_part.specs.declared.header.Header.TheVariants.{Sequence, Group, Picture, Matrices, Skipped, Ending}
-use Rattle.m2v_part.specs.Reads.{IsReadSequence, IsReadPicture, IsReadExtension}
+use Rattle.m2v_unit.specs.declared.stop.Stop.{Stop}
+use Rattle.m2v_unit.specs.declared.header.Header.{Header}
+use Rattle.m2v_unit.specs.declared.header.Header.TheVariants.{Sequence, Group, Picture, Matrices, Skipped, Ending}
+use Rattle.m2v_unit.specs.Reads.{IsReadSequence, IsReadPicture, IsReadExtension}
 
 -- the value that stands among units, or the fault and its place
 abbrev pub TellsIn : {V : Type 0} → Result V Stop → Units → Result (V × Units) (FaultKind × ℕ) → Type 0

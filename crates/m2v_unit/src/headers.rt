@@ -5,8 +5,8 @@ ghost use Rattle.m2v_model.specs.Headers.{whole, sequence_extension_in, picture_
 ghost use Rattle.m2v_head.specs.Fits.{MatrixFits};
 ghost use Rattle.m2v_model.specs.Streams.{value_of, extension_in, extension_behind, matrices, onward, «final», over, text_end};
 ghost use Rattle.m2v_model.specs.Streams as streams;
-ghost use Rattle.m2v_part.specs.Reads.{IsReadSequence, IsReadExtension};
-ghost use Rattle.m2v_part.specs.Among.{TellsIn, TellsAs, is_slice as slice_stands, told, HeaderFits};
+ghost use Rattle.m2v_unit.specs.Reads.{IsReadSequence, IsReadExtension};
+ghost use Rattle.m2v_unit.specs.Among.{TellsIn, TellsAs, is_slice as slice_stands, told, HeaderFits};
 
 use crate::ahead::check;
 use crate::header::Header;
@@ -17,8 +17,9 @@ use crate::units::{
 };
 use m2v_head::{MatrixInfo, PictureExtension, PictureInfo, SequenceExtension, SequenceInfo};
 use m2v_model::{FaultKind, Sequence, State};
-use m2v_picture::Stop;
-use m2v_unit::{Unit, UnitReader};
+use crate::stop::Stop;
+use crate::reader::UnitReader;
+use crate::unit::Unit;
 
 /// The picture that is open ends here, with each of its macroblocks read.
 fn close(st: &State, start: u64) -> Result<(), Stop>

@@ -4,8 +4,8 @@ ghost use Rattle.m2v_model.specs.declared.fault.FaultKind.{FaultKind as Kind};
 ghost use Rattle.m2v_model.specs.Units.{unit_bits, unit_at, inside};
 ghost use Rattle.m2v_model.specs.Headers.{whole, sequence_in, sequence_extension_in, group_in, picture_in, picture_extension_in, matrices_in};
 ghost use Rattle.m2v_model.specs.Streams.{id_at};
-ghost use Rattle.m2v_part.specs.Reads.{IsReadSequence, IsReadPicture, IsReadExtension};
-ghost use Rattle.m2v_part.specs.Among.{TellsIn};
+ghost use Rattle.m2v_unit.specs.Reads.{IsReadSequence, IsReadPicture, IsReadExtension};
+ghost use Rattle.m2v_unit.specs.Among.{TellsIn};
 
 use crate::ahead::id_ahead;
 use crate::groups::{group, matrices};
@@ -14,8 +14,9 @@ use crate::sequences::{sequence, sequence_extension};
 use m2v_head::{
     GroupInfo, MatrixInfo, PictureExtension, PictureInfo, SequenceExtension, SequenceInfo,
 };
-use m2v_picture::Stop;
-use m2v_unit::{Unit, UnitReader};
+use crate::stop::Stop;
+use crate::reader::UnitReader;
+use crate::unit::Unit;
 
 /// A fault inside a unit, with the units that are left behind it.
 fn behind(stop: Stop, units: &UnitReader) -> Stop

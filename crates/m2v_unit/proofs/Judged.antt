@@ -18,8 +18,8 @@ use Rattle.m2v_model.specs.Faults.{of_head}
 use Rattle.m2v_model.specs.Looking.{number_from, look, passes}
 use Rattle.m2v_model.specs.Unread.{is_read_type, is_read_sequence, is_read_structure, is_read_prediction, is_read_concealment}
 use Rattle.m2v_model.specs.Headers.{size_of, size_passes, size_at, sequence_extension_in, picture_in, f_code_at, f_codes_at, picture_extension_in}
-use Rattle.m2v_part.specs.Reads.{IsReadSequence, IsReadPicture, IsReadExtension}
-use Rattle.m2v_part.proofs.Further.{skip_more, number_is, flag_is, id_skips, some_is, format_is, kind_is, f_codes_skip}
+use Rattle.m2v_unit.specs.Reads.{IsReadSequence, IsReadPicture, IsReadExtension}
+use Rattle.m2v_unit.proofs.Further.{skip_more, number_is, flag_is, id_skips, some_is, format_is, kind_is, f_codes_skip}
 
 -- ---- what stands further on in a header
 
