@@ -13,5 +13,3 @@ pub use reader::BitReader;
 pub use start::next_start_code;
 pub use writer::BitWriter;
 
-#[cfg(test)]
-mod tests;

@@ -17,8 +17,6 @@ mod pattern_rows;
 mod rows;
 mod size;
 mod size_rows;
-#[cfg(test)]
-mod tests;
 mod values;
 mod zero_rows;
 
