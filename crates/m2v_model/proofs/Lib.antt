@@ -12,3 +12,4 @@ pub mod PieceLaws
 pub mod Unique
 pub mod Fronts
 pub mod Worked
+pub mod Verdicts
