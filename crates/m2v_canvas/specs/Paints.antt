@@ -6,7 +6,7 @@ use Rattle.m2v_model.specs.declared.state.Open.{Open}
 use Rattle.m2v_model.specs.declared.state.State.{State}
 use Rattle.m2v_model.specs.Slices.{Slice, slice_at}
 use Rattle.m2v_model.specs.Pictures.{slice_painted}
-use Rattle.m2v_unit.specs.declared.stop.Stop.{Stop}
+use Rattle.m2v_model.specs.declared.stop.Stop.{Stop}
 
 -- a slice of a row: the address behind its last macroblock, and the frame with its samples; or the fault and its place
 abbrev pub Paints : State → Sequence → Open → ℕ → List Bool → Samples → Result ℕ Stop → List Bool → Samples → Type 0

@@ -11,7 +11,7 @@ use crate::row::lift;
 use m2v_bits::BitReader;
 use m2v_model::{Open, Sequence, State};
 use m2v_picture::read_slice;
-use m2v_unit::Stop;
+use m2v_model::Stop;
 use m2v_plane::{Frame, Lines, RowSamples};
 use std::alloc::Global;
 use std::marker::Model;

@@ -7,7 +7,7 @@ use crate::Canvas;
 use m2v_bits::BitReader;
 use m2v_head::{PictureExtension, PictureInfo, SequenceExtension, SequenceInfo};
 use m2v_model::{FaultKind, Open, Sequence, State};
-use m2v_unit::Stop;
+use m2v_model::Stop;
 use m2v_plane::{Lines, Plane, RefView};
 use m2v_quant::default_matrix;
 use std::alloc::{AllocError, Global};

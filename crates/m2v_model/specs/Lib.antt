@@ -1,6 +1,7 @@
 pub mod Units
 pub mod Looking
 pub mod Faults
+pub mod Stops
 pub mod Headers
 pub mod States
 pub mod Modes

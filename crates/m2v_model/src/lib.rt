@@ -13,6 +13,7 @@ mod phase;
 mod setup;
 mod size;
 mod state;
+mod stop;
 
 pub use fault::FaultKind;
 pub use laws::{
@@ -23,3 +24,4 @@ pub use notes::{Notes, PictureNote};
 pub use phase::Phase;
 pub use setup::SliceSetup;
 pub use state::{FirstField, Open, Sequence, State};
+pub use stop::{Stop, of_block, of_head, of_macro, stopped};

@@ -5,7 +5,7 @@ use Rattle.m2v_model.specs.declared.fault.FaultKind.{FaultKind}
 use Rattle.m2v_model.specs.declared.state.State.{State}
 use Rattle.m2v_model.specs.Units.{Units}
 use Rattle.m2v_model.specs.Streams as streams
-use Rattle.m2v_unit.specs.declared.stop.Stop.{Stop}
+use Rattle.m2v_model.specs.declared.stop.Stop.{Stop}
 use Rattle.m2v_unit.specs.declared.header.Header.{Header}
 use Rattle.m2v_unit.specs.declared.header.Header.TheVariants.{Sequence, Group, Picture, Matrices, Skipped, Ending}
 use Rattle.m2v_unit.specs.Reads.{IsReadSequence, IsReadPicture, IsReadExtension}

@@ -1,4 +1,3 @@
 pub mod Texts
-pub mod Stops
 pub mod Reads
 pub mod Among

@@ -2,11 +2,11 @@ ghost use Rattle.std.specs.Prelude.{◌≡◌, ◌+◌, ◌<◌, ◌≤◌, ◌^
 ghost use Rattle.m2v_bits.specs.Leaves.{bits_at, end_at};
 ghost use Rattle.m2v_model.specs.declared.fault.FaultKind.TheVariants.{Truncated, Forbidden};
 ghost use Rattle.m2v_model.specs.Looking.{number_from, looking};
-ghost use Rattle.m2v_unit.specs.Stops.{Tells};
+ghost use Rattle.m2v_model.specs.Stops.{Tells};
 
 use m2v_bits::BitReader;
 use m2v_model::FaultKind;
-use crate::stop::{Stop, stopped};
+use m2v_model::{Stop, stopped};
 
 /// The number of n bits that stands some bits on, where the unit has it. Nothing is taken.
 #[tactic(auto, using(m2v_bits::proofs::Cursor::lengths), unfolding(m2v_model::specs::Looking::number_from))]

@@ -17,7 +17,7 @@ use crate::units::{
 };
 use m2v_head::{MatrixInfo, PictureExtension, PictureInfo, SequenceExtension, SequenceInfo};
 use m2v_model::{FaultKind, Sequence, State};
-use crate::stop::Stop;
+use m2v_model::Stop;
 use crate::reader::UnitReader;
 use crate::unit::Unit;
 

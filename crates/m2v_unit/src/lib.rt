@@ -12,7 +12,6 @@ mod reader;
 mod search;
 mod sequences;
 mod state;
-mod stop;
 mod unit;
 mod units;
 
@@ -23,5 +22,4 @@ pub use headers::{is_slice, read_end, read_header};
 pub use pictures::{picture, picture_extension};
 pub use reader::UnitReader;
 pub use sequences::{sequence, sequence_extension};
-pub use stop::{Stop, of_block, of_head, of_macro, stopped};
 pub use unit::Unit;

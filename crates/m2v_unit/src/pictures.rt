@@ -3,14 +3,14 @@ ghost use Rattle.m2v_head.specs.Fits.{PictureFits, PictureExtensionFits};
 ghost use Rattle.m2v_model.specs.Headers.{whole, picture_in, picture_extension_in, is_f_code, uses_forward as forward_is_used, f_code_at, f_codes_at};
 ghost use Rattle.m2v_model.specs.Looking.{passes};
 ghost use Rattle.m2v_model.specs.Unread.{is_read_type as type_is_read, is_read_structure as structure_is_read, is_read_prediction, is_read_concealment};
-ghost use Rattle.m2v_unit.specs.Stops.{Tells};
+ghost use Rattle.m2v_model.specs.Stops.{Tells};
 ghost use Rattle.m2v_unit.specs.Reads.{IsReadPicture, IsReadExtension};
 
 use crate::ahead::{check, end, left_of, look};
 use m2v_bits::BitReader;
 use m2v_head::{PictureExtension, PictureInfo};
 use m2v_model::FaultKind;
-use crate::stop::{Stop, of_head, stopped};
+use m2v_model::{Stop, of_head, stopped};
 
 /// Whether pictures of this type are read: P and B aren't. Others are looked at where the type is taken.
 fn is_read_type(kind: Option<u32>) -> bool

@@ -3,14 +3,14 @@ ghost use Rattle.m2v_head.specs.Fits.{SequenceFits, SequenceExtensionFits};
 ghost use Rattle.m2v_model.specs.Headers.{whole, sequence_in, sequence_extension_in, size_passes, size_at};
 ghost use Rattle.m2v_model.specs.Looking.{number_from, passes};
 ghost use Rattle.m2v_model.specs.Unread.{is_read_sequence};
-ghost use Rattle.m2v_unit.specs.Stops.{Tells};
+ghost use Rattle.m2v_model.specs.Stops.{Tells};
 ghost use Rattle.m2v_unit.specs.Reads.{IsReadSequence};
 
 use crate::ahead::{check, end, left_of, look};
 use m2v_bits::BitReader;
 use m2v_head::{SequenceExtension, SequenceInfo};
 use m2v_model::FaultKind;
-use crate::stop::{Stop, of_head, stopped};
+use m2v_model::{Stop, of_head, stopped};
 
 /// Reads a sequence header's unit behind its start code (clause 6.2.2.1).
 #[tactic(auto, unfolding(m2v_model::specs::Headers::whole, m2v_model::specs::Headers::sequence_in, m2v_bits::specs::Syntax::renamed, m2v_bits::specs::Syntax::seq, m2v_bits::specs::Syntax::bind, m2v_bits::specs::Syntax::done))]

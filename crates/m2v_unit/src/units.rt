@@ -14,7 +14,7 @@ use crate::sequences::{sequence, sequence_extension};
 use m2v_head::{
     GroupInfo, MatrixInfo, PictureExtension, PictureInfo, SequenceExtension, SequenceInfo,
 };
-use crate::stop::Stop;
+use m2v_model::Stop;
 use crate::reader::UnitReader;
 use crate::unit::Unit;
 

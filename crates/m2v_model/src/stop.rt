@@ -5,7 +5,7 @@ use m2v_bits::BitReader;
 use m2v_block::BlockFault;
 use m2v_head::HeadFault;
 use m2v_macro::MacroFault;
-use m2v_model::FaultKind;
+use crate::fault::FaultKind;
 use m2v_vlc::CodeFault;
 
 /// A fault inside a unit: its kind, and how many bits of the unit are left at its place.
@@ -29,7 +29,7 @@ pub fn stopped(input: &BitReader, kind: FaultKind) -> Stop
     }
 }
 
-#[tactic(auto, unfolding(m2v_model::specs::Faults::of_code))]
+#[tactic(auto, unfolding(crate::specs::Faults::of_code))]
 fn of_code(e: CodeFault) -> FaultKind
     ensures { result ≡ faults.of_code e }
 {
@@ -40,7 +40,7 @@ fn of_code(e: CodeFault) -> FaultKind
 }
 
 /// The fault of a header as one of a stream.
-#[tactic(auto, unfolding(m2v_model::specs::Faults::of_head))]
+#[tactic(auto, unfolding(crate::specs::Faults::of_head))]
 pub fn of_head(e: HeadFault) -> FaultKind
     ensures { result ≡ faults.of_head e }
 {
@@ -54,7 +54,7 @@ pub fn of_head(e: HeadFault) -> FaultKind
 }
 
 /// The fault of a block as one of a stream: an escape's level that may not stand there is forbidden.
-#[tactic(auto, unfolding(m2v_model::specs::Faults::of_block))]
+#[tactic(auto, unfolding(crate::specs::Faults::of_block))]
 pub fn of_block(e: BlockFault) -> FaultKind
     ensures { result ≡ faults.of_block e }
 {
@@ -68,7 +68,7 @@ pub fn of_block(e: BlockFault) -> FaultKind
 
 /// The fault of a macroblock as one of a stream: pattern 0 has no code, a quantiser code of 0 and a motion type that
 /// may not stand there are forbidden.
-#[tactic(auto, unfolding(m2v_model::specs::Faults::of_macro))]
+#[tactic(auto, unfolding(crate::specs::Faults::of_macro))]
 pub fn of_macro(e: MacroFault) -> FaultKind
     ensures { result ≡ faults.of_macro e }
 {

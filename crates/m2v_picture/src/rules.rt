@@ -1,0 +1,130 @@
+ghost use Rattle.std.specs.Prelude.{◌≡◌, ◌<◌, ◌+◌, ◌*◌, IfOk, IfErr, slice_index_or, false};
+ghost use Rattle.std.specs.List.{list_all, range_with_len};
+ghost use Rattle.m2v_plane.specs.Fields.{lines_there as lines_there_of};
+ghost use Rattle.m2v_pred.specs.Inside.{is_inside};
+ghost use Rattle.m2v_macro.specs.Conditions.{IsMacro};
+ghost use Rattle.m2v_model.specs.Modes.{part_decoded as part_decoded_of, direction_decoded as direction_decoded_of, is_decoded as is_decoded_of};
+ghost use Rattle.m2v_picture.specs.Conditions.{IsSetup, rows_in, place_in, IsColumn, IsGap, CanPaint};
+ghost use Rattle.m2v_picture.specs.Reads.{Breaks};
+
+use crate::gap::Gap;
+use crate::prediction::place;
+use m2v_macro::{MacroSyntax, SliceState};
+use m2v_macroblock::{mode, skipped_mode};
+use m2v_model::{FaultKind, SliceSetup};
+use m2v_plane::Lines;
+use m2v_pred::{Form, Mode, Parts, inside, lines_read, other_field, own_field, parts_of};
+use m2v_model::Stop;
+
+/// Whether these lines were decoded, where the top field and the bottom field of the reference were or weren't.
+#[inline(always)]
+#[tactic(auto, unfolding(m2v_plane::specs::Fields::lines_there))]
+fn lines_there(top: bool, bottom: bool, lines: Lines) -> bool
+    ensures { result ≡ lines_there_of top bottom lines }
+{
+    match lines {
+        Lines::Whole => top && bottom,
+        Lines::Top => top,
+        Lines::Bottom => bottom,
+    }
+}
+
+/// Whether what a part of a macroblock reads in a direction was decoded.
+#[tactic(auto, unfolding(m2v_model::specs::Modes::part_decoded))]
+fn part_decoded(
+    fields: [bool; 2],
+    mode: &Mode,
+    direction: usize,
+    structure: u8,
+    part: usize,
+) -> bool
+    requires direction { direction < 2 }
+    requires part { part < 2 }
+    ensures { result ≡ part_decoded_of (slice_index_or fields 0 false) (slice_index_or fields 1 false) mode.now direction structure part }
+{
+    let own = lines_there(
+        fields[0],
+        fields[1],
+        lines_read(mode, direction, structure, part),
+    );
+    let other = other_field(own_field(structure, part));
+    own && (mode.form != Form::Dual || lines_there(fields[0], fields[1], other))
+}
+
+/// Whether what a macroblock reads in a direction was decoded.
+#[tactic(auto, unfolding(m2v_model::specs::Modes::direction_decoded))]
+fn direction_decoded(fields: [bool; 2], mode: &Mode, direction: usize, structure: u8) -> bool
+    requires direction { direction < 2 }
+    ensures { result ≡ direction_decoded_of (slice_index_or fields 0 false) (slice_index_or fields 1 false) mode.now direction structure }
+{
+    part_decoded(fields, mode, direction, structure, 0)
+        && (parts_of(mode.form, structure) == Parts::One
+            || part_decoded(fields, mode, direction, structure, 1))
+}
+
+/// Whether the fields that a macroblock is predicted from were decoded.
+#[tactic(auto, unfolding(m2v_model::specs::Modes::is_decoded))]
+fn is_decoded(references: &[bool; 4], structure: u8, mode: &Mode) -> bool
+    ensures { result ≡ is_decoded_of references.now structure mode.now }
+{
+    let [top, bottom, behind_top, behind_bottom] = *references;
+    (!mode.forward || direction_decoded([top, bottom], mode, 0, structure))
+        && (!mode.backward || direction_decoded([behind_top, behind_bottom], mode, 1, structure))
+}
+
+/// Whether the predictions of the macroblocks of a gap read inside their references.
+fn gap_inside(s: &SliceSetup, row: u32, mode: &Mode, gap: Gap) -> bool
+    requires setup { IsSetup s.now }
+    requires row { row < rows_in s.now }
+    requires within { 0 < gap.count → gap.column + gap.count < s.now.context.columns }
+    ensures { result ≡ list_all (λ k. is_inside mode.now (place_in s.now row (gap.column + k)) s.now.dims) (range_with_len 0 gap.count) }
+{
+    for k in 0..gap.count {
+        if !inside(mode, place(s, row, gap.column + k), s.dims) {
+            return false;
+        }
+    }
+    true
+}
+
+/// What a macroblock and those skipped before it are predicted from lies inside its references (clause 7.6.3.8), and was
+/// decoded. The place of a fault is the macroblock's first bit, where `left` bits are left.
+///
+/// # Errors
+/// `VectorOutside` of any of them before `MissingReference` of any of them.
+pub fn check(
+    s: &SliceSetup,
+    row: u32,
+    column: u32,
+    gap: Gap,
+    before: &SliceState,
+    m: &MacroSyntax,
+    left: u64,
+) -> Result<(), Stop>
+    requires setup { IsSetup s.now }
+    requires row { row < rows_in s.now }
+    requires fits { IsMacro s.now.context before.now m.now }
+    requires gap { IsGap s.now.context row before.now m.now gap }
+    requires column { IsColumn s.now.context row before.now m.now column }
+    ensures held { IfOk result (λ done. CanPaint s.now before.now m.now) }
+    ensures broken { IfErr result (Breaks s.now before.now m.now left) }
+{
+    let skipped = skipped_mode(&s.context, before);
+    let mode = mode(&s.context, m);
+    let at = place(s, row, column);
+    if !(gap_inside(s, row, &skipped, gap) && inside(&mode, at, s.dims)) {
+        return Err(Stop {
+            kind: FaultKind::VectorOutside,
+            left,
+        });
+    }
+    let structure = at.structure;
+    let known = gap.count == 0 || is_decoded(&s.references, structure, &skipped);
+    if !(known && is_decoded(&s.references, structure, &mode)) {
+        return Err(Stop {
+            kind: FaultKind::MissingReference,
+            left,
+        });
+    }
+    Ok(())
+}
