@@ -1,3 +1,7 @@
+pub mod Squares
 pub mod SliceLaws
 pub mod RowLaws
-pub mod FrameLaws
+pub mod Held
+pub mod Tested
+pub mod Ranges
+pub mod RuleLaws

@@ -13,16 +13,16 @@ pub struct Gap {
     pub count: u32,
 }
 
-/// The column of an address of the row.
-#[tactic(auto, using(crate::proofs::RowLaws::inside_size))]
-pub fn column(c: &PictureContext, row: u32, address: i64) -> u32
-    requires row { LiesInRow c.now row address }
+/// The column of the last macroblock that was read.
+#[tactic(auto, using(crate::proofs::RowLaws::in_row_size))]
+pub fn column(c: &PictureContext, row: u32, state: &SliceState) -> u32
+    requires row { LiesInRow c.now row state.now.address }
     requires columns { c.now.columns ≤ 120 }
-    ensures value { address ≡ pos (row * c.now.columns + result) }
+    ensures value { state.now.address ≡ pos (row * c.now.columns + result) }
     ensures below { result < c.now.columns }
 {
     let first = u64::from(row) * u64::from(c.columns);
-    (address.unsigned_abs() - first) as u32
+    (state.address.unsigned_abs() - first) as u32
 }
 
 /// The macroblocks that are skipped before one. `before` is the state behind the macroblock before it.
@@ -36,7 +36,7 @@ pub fn gap_before(c: &PictureContext, row: u32, before: &SliceState, m: &MacroSy
         return Gap { column: 0, count: 0 };
     }
     Gap {
-        column: column(c, row, before.address) + 1,
+        column: column(c, row, before) + 1,
         count: m.increment - 1,
     }
 }

@@ -1,9 +1,10 @@
 //! The slices of pictures, read and painted (clauses 6.2.4, 7.2 and 7.6 of ISO/IEC 13818-2): a slice header, and macroblocks
 //! with their blocks until the rest of the unit is zero, each predicted from references, rebuilt and put into a frame or
-//! into a macroblock row.
+//! into a macroblock row; and the frames at hand while pictures are decoded, into which slices are painted.
 #![tactic(auto)]
 
 mod blocks;
+mod gallery;
 mod gap;
 mod increments;
 mod macroblocks;
@@ -14,6 +15,10 @@ mod scratch;
 mod slices;
 mod target;
 
+pub use gallery::{Gallery, Reading};
 pub use scratch::Scratch;
 pub use slices::{SliceEnd, read_slice};
 pub use target::Target;
+
+/// Want of memory.
+pub type Memory = std::alloc::AllocError;

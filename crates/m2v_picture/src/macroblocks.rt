@@ -20,10 +20,9 @@ use crate::target::Target;
 use m2v_bits::BitReader;
 use m2v_macro::{MacroSyntax, PictureContext, SliceState, read_macro};
 use m2v_macroblock::dc_after;
-use m2v_model::SliceSetup;
 use m2v_plane::RefView;
 use m2v_quant::Levels;
-use m2v_model::{Stop, of_macro, stopped};
+use m2v_model::{SliceSetup, Stop, of_macro, stopped};
 
 /// A macroblock that was read, and where it stands in its row.
 #[derive(Clone, Copy, Debug, PartialEq, Eq)]
@@ -105,7 +104,7 @@ fn macroblock(
     let left = bits_left(input);
     let syntax = elements(input, &s.context, row, state)?;
     let gap = gap_before(&s.context, row, &before, &syntax);
-    let column = column(&s.context, row, state.address);
+    let column = column(&s.context, row, state);
     check(s, row, column, gap, &before, &syntax, left)?;
     blocks(input, &s.context, &syntax, state, levels)?;
     Ok(Located {
@@ -117,7 +116,7 @@ fn macroblock(
 
 /// One macroblock, put with those skipped before it.
 #[tactic(auto, unfolding(m2v_model::specs::Samples::painted, m2v_macroblock::specs::Macroblocks::after_macroblock))]
-fn round<V: RefView, T: Target>(
+fn next_macroblock<V: RefView, T: Target>(
     input: &mut BitReader,
     s: &SliceSetup,
     row: u32,
@@ -198,7 +197,7 @@ pub fn macroblocks<V: RefView, T: Target>(
     let mut state = first;
     let mut large = 0;
     loop {
-        let r = round(
+        let r = next_macroblock(
             input, s, row, &mut state, forward, backward, scratch, out,
         )?;
         if r.large {

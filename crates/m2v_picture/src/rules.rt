@@ -11,10 +11,9 @@ use crate::gap::Gap;
 use crate::prediction::place;
 use m2v_macro::{MacroSyntax, SliceState};
 use m2v_macroblock::{mode, skipped_mode};
-use m2v_model::{FaultKind, SliceSetup};
+use m2v_model::{FaultKind, SliceSetup, Stop};
 use m2v_plane::Lines;
-use m2v_pred::{Form, Mode, Parts, inside, lines_read, other_field, own_field, parts_of};
-use m2v_model::Stop;
+use m2v_pred::{Form, Mode, inside, lines_read, other_field, own_field, part_count};
 
 /// Whether these lines were decoded, where the top field and the bottom field of the reference were or weren't.
 #[inline(always)]
@@ -58,7 +57,7 @@ fn direction_decoded(fields: [bool; 2], mode: &Mode, direction: usize, structure
     ensures { result ≡ direction_decoded_of (slice_index_or fields 0 false) (slice_index_or fields 1 false) mode.now direction structure }
 {
     part_decoded(fields, mode, direction, structure, 0)
-        && (parts_of(mode.form, structure) == Parts::One
+        && (part_count(mode.form, structure) == 1
             || part_decoded(fields, mode, direction, structure, 1))
 }
 

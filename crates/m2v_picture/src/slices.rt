@@ -15,9 +15,8 @@ use crate::target::Target;
 use m2v_bits::BitReader;
 use m2v_head::SliceInfo;
 use m2v_macro::SliceState;
-use m2v_model::{FaultKind, SliceSetup};
+use m2v_model::{FaultKind, SliceSetup, Stop, of_head, stopped};
 use m2v_plane::RefView;
-use m2v_model::{Stop, of_head, stopped};
 
 /// What a slice that was read leaves.
 #[derive(Clone, Copy, Debug, PartialEq, Eq)]

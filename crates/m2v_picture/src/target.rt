@@ -1,6 +1,7 @@
 ghost use Rattle.std.specs.Prelude.{ℕ, ◌≡◌};
-ghost use Rattle.m2v_plane.specs.declared.planes.Plane.{Plane as PlaneOf};
+ghost use Rattle.m2v_plane.specs.declared.planes.Plane.{Plane};
 ghost use Rattle.m2v_plane.specs.Samples.{Samples};
+ghost use Rattle.m2v_pred.specs.declared.mode.MbPlace.{MbPlace};
 ghost use Rattle.m2v_pred.specs.Predicted.{block_by};
 ghost use Rattle.m2v_model.specs.Samples.{Put};
 
@@ -21,7 +22,7 @@ pub trait Target {
     /// Puts the samples of a macroblock.
     fn put(&mut self, at: MbPlace, block: &Block16)
         requires takes { Takes self.old at }
-        ensures value { (f : PlaneOf → ℕ → ℕ → ℕ) → block.now.at ≡ block_by f → samples self.new ≡ placed at f (samples self.old) }
+        ensures value { (f : Plane → ℕ → ℕ → ℕ) → block.now.at ≡ block_by f → samples self.new ≡ placed at f (samples self.old) }
         ensures takes { (p : MbPlace) → Takes self.old p → Takes self.new p };
 }
 
