@@ -2,6 +2,5 @@ pub mod Squares
 pub mod SliceLaws
 pub mod RowLaws
 pub mod Held
-pub mod Tested
 pub mod Ranges
 pub mod RuleLaws

@@ -1,9 +1,13 @@
 -- The rules on what macroblocks are predicted from, by places of the row.
-use Rattle.std.proofs.Common.{◌≡◌, ℕ, ◌+◌, ◌*◌, ◌<◌, ◌≤◌, Bool, true, false, ◌&&◌, ◌||◌, refl, sym, ap, ◌∙◌, subst, arith, nat_eq, inl, inr}
-use Rattle.std.specs.Prelude.{IsTrue, ◌⊎◌}
+use Rattle.std.proofs.Common.{◌≡◌, ℕ, zero, suc, ◌+◌, ◌*◌, ◌<◌, ◌≤◌, Bool, true, false, ◌&&◌, ◌||◌, refl, sym, ap, ◌∙◌, subst, arith, nat_eq, inl, inr}
+use Rattle.std.specs.Prelude.{IsTrue, ◌⊎◌, ◌/◌, if◌then◌else◌}
+use Rattle.m2v_plane.specs.declared.dims.Dims.{Dims}
+use Rattle.m2v_plane.specs.declared.planes.Plane.TheVariants.{Y}
 use Rattle.std.specs.List.{list_all, range_with_len}
 use Rattle.std.proofs.lemmas.Bool.{and_parts, cases_Bool}
-use Rattle.m2v_plane.specs.Sizes.{IsSize}
+use Rattle.m2v_plane.specs.Sizes.{lines_of}
+use Rattle.m2v_pred.specs.declared.mode.MbPlace.{MbPlace}
+use Rattle.m2v_pred.specs.Motion.{own_lines}
 use Rattle.m2v_pred.specs.declared.mode.Mode.{Mode}
 use Rattle.m2v_pred.specs.Vectors.{IsPlace}
 use Rattle.m2v_pred.specs.Inside.{is_inside}
@@ -13,32 +17,102 @@ use Rattle.m2v_macroblock.specs.Modes.{address_of, place_of, skipped_before, fir
 use Rattle.m2v_model.specs.declared.setup.SliceSetup.{SliceSetup}
 use Rattle.m2v_model.specs.Modes.{is_decoded, all_inside, references_decoded}
 use Rattle.m2v_picture.specs.declared.gap.Gap.{Gap}
-use Rattle.m2v_picture.specs.Conditions.{IsSetup, rows_in, place_in, IsColumn, IsGap, CanPaint}
+use Rattle.m2v_picture.specs.Conditions.{IsSetup, rows_in, place_in, IsColumn, IsGap, CanPaint, CanPredict}
 use Rattle.m2v_picture.proofs.Ranges.{all_below, not_below, each_below}
 use Rattle.m2v_picture.proofs.RowLaws.{place_is}
 
+row_lies : (structure rows row : ℕ) (d : Dims) → 1 ≤ structure → structure ≤ 3 → d.mb_rows ≡ rows → row < (if nat_eq structure 3 then rows else rows / 2) → 16 * row + 16 ≤ lines_of d Y (own_lines structure)
+row_lies zero rows row d some most is lt = absurd (omega (arith, some))
+row_lies (suc zero) rows row d some most is lt = rw is (omega (arith, lt))
+row_lies (suc (suc zero)) rows row d some most is lt = rw is (omega (arith, lt))
+row_lies (suc (suc (suc zero))) rows row d some most is lt = rw is (omega (arith, lt))
+row_lies (suc (suc (suc (suc n)))) rows row d some most is lt = absurd (omega (arith, most))
+
 -- a place of the row lies in the picture
 pub lies : (s : SliceSetup) (row column : ℕ) → IsSetup s → row < rows_in s → column < s.context.columns → IsPlace (place_in s row column) s.dims
-lies s row column h below small = by_structure s.context.extension.structure refl
-  where
-    by_structure : (n : ℕ) → s.context.extension.structure ≡ n → IsPlace (place_in s row column) s.dims
-    by_structure n e = record {
-      least = h.picture.context.structure.0;
-      most = h.picture.context.structure.1;
-      row = ?;
-      column = rw h.columns small;
-    }
+lies s row column h below small = record {
+  least = h.picture.context.structure.0;
+  most = h.picture.context.structure.1;
+  row = row_lies s.context.extension.structure s.dims.mb_rows row s.dims h.picture.context.structure.0 h.picture.context.structure.1 refl below;
+  column = rw h.columns small;
+}
 
 -- the places of a gap
-gap_place : (s : SliceSetup) (row : ℕ) (st : SliceState) (m : MacroSyntax) (gap : Gap) → IsGap s.context row st m gap → (k : ℕ) → k < gap.count
+pub gap_place : (s : SliceSetup) (row : ℕ) (st : SliceState) (m : MacroSyntax) (gap : Gap) → IsGap s.context row st m gap → (k : ℕ) → k < gap.count
     → place_of s.context (first_skipped st + k) ≡ place_in s row (gap.column + k)
 gap_place s row st m gap h k lt =
     let first = h.first (omega (arith, lt)) in
     let within = h.within (omega (arith, lt)) in
-    ap (place_of s.context) (ap (λ n. n + k) first ∙ omega arith) ∙ place_is s row (gap.column + k) (omega (arith, within, lt))
+    let moved : first_skipped st + k ≡ row * s.context.columns + (gap.column + k) = omega (arith, first) in
+    ap (place_of s.context) moved ∙ place_is s row (gap.column + k) (omega (arith, within, lt))
 
-same_tests : (f g : ℕ → Bool) (n : ℕ) → ((k : ℕ) → k < n → f k ≡ g k) → list_all f (range_with_len 0 n) ≡ list_all g (range_with_len 0 n)
-same_tests f g n same = elim (cases_Bool (list_all g (range_with_len 0 n))) [
-  | inl e ↦ all_below f n (λ k lt. same k lt ∙ each_below g n k e lt) ∙ sym e
-  | inr e ↦ ?
-]
+false-true : false ≡ true → ⊥
+false-true e = cc
+
+same_tests : (f g : ℕ → Bool) (n : ℕ) → ((k : ℕ) → k < n → f k ≡ g k) → (a b : Bool) → list_all f (range_with_len 0 n) ≡ a → list_all g (range_with_len 0 n) ≡ b → a ≡ b
+same_tests f g n same true true x y = refl
+same_tests f g n same false false x y = refl
+same_tests f g n same true false x y = absurd (false-true (sym y ∙ all_below g n (λ k lt. sym (same k lt) ∙ each_below f n k x lt)))
+same_tests f g n same false true x y = absurd (false-true (sym x ∙ all_below f n (λ k lt. same k lt ∙ each_below g n k y lt)))
+
+-- the tests of a gap by columns, and by addresses
+gap_tests : (s : SliceSetup) (row : ℕ) (st : SliceState) (m : MacroSyntax) (gap : Gap) → IsGap s.context row st m gap
+    → list_all (λ k. is_inside (skipped_mode s.context st) (place_in s row (gap.column + k)) s.dims) (range_with_len 0 gap.count)
+    ≡ list_all (λ k. is_inside (skipped_mode s.context st) (place_of s.context (first_skipped st + k)) s.dims) (range_with_len 0 (skipped_before st m))
+gap_tests s row st m gap h =
+    let f = λ (k : ℕ). is_inside (skipped_mode s.context st) (place_in s row (gap.column + k)) s.dims in
+    let g = λ (k : ℕ). is_inside (skipped_mode s.context st) (place_of s.context (first_skipped st + k)) s.dims in
+    same_tests f g gap.count (λ k lt. ap (λ at. is_inside (skipped_mode s.context st) at s.dims) (sym (gap_place s row st m gap h k lt))) _ _ refl refl
+    ∙ ap (λ n. list_all g (range_with_len 0 n)) h.count
+
+-- the place of the macroblock itself
+pub own_place : (s : SliceSetup) (row column : ℕ) (st : SliceState) (m : MacroSyntax) → IsColumn s.context row st m column → place_of s.context (address_of st m) ≡ place_in s row column
+own_place s row column st m h = ap (place_of s.context) h.address ∙ place_is s row column h.below
+
+-- the rule on what is read, by columns of the row
+pub inside_by_columns : (s : SliceSetup) (row column : ℕ) (st : SliceState) (m : MacroSyntax) (gap : Gap) → IsGap s.context row st m gap → IsColumn s.context row st m column
+    → (list_all (λ k. is_inside (skipped_mode s.context st) (place_in s row (gap.column + k)) s.dims) (range_with_len 0 gap.count) && is_inside (mode_of s.context m) (place_in s row column) s.dims)
+    ≡ all_inside s st m
+unfolding all_inside
+inside_by_columns s row column st m gap g h =
+    (λ i. gap_tests s row st m gap g i && is_inside (mode_of s.context m) (sym (own_place s row column st m h) i) s.dims)
+
+-- what a macroblock that can be painted is predicted by
+pub own_can : (s : SliceSetup) (row column : ℕ) (st : SliceState) (m : MacroSyntax) → IsSetup s → row < rows_in s → CanPaint s st m → IsColumn s.context row st m column
+    → IsTrue (mode_of s.context m).forward ⊎ IsTrue (mode_of s.context m).backward → CanPredict s (mode_of s.context m) (place_in s row column)
+unfolding all_inside references_decoded
+own_can s row column st m h below can col some =
+    let skipped = list_all (λ k. is_inside (skipped_mode s.context st) (place_of s.context (first_skipped st + k)) s.dims) (range_with_len 0 (skipped_before st m)) in
+    let own = is_inside (mode_of s.context m) (place_of s.context (address_of st m)) s.dims in
+    let before = nat_eq (skipped_before st m) 0 || is_decoded s.references s.context.extension.structure (skipped_mode s.context st) in
+    record {
+      some = some;
+      place = lies s row column h below col.below;
+      inside = subst (λ (at : MbPlace). is_inside (mode_of s.context m) at s.dims ≡ true) (own_place s row column st m col) (and_parts skipped own can.inside).1;
+      decoded = (and_parts before (is_decoded s.references s.context.extension.structure (mode_of s.context m)) can.decoded).1;
+    }
+
+or_given : (n : ℕ) (test : Bool) → 0 < n → (nat_eq n 0 || test) ≡ true → test ≡ true
+or_given zero test some e = absurd (omega (arith, some))
+or_given (suc n) test some e = e
+
+-- and what those of a gap are predicted by
+pub gap_can : (s : SliceSetup) (row : ℕ) (st : SliceState) (m : MacroSyntax) (gap : Gap) → IsSetup s → row < rows_in s → CanPaint s st m → IsGap s.context row st m gap
+    → IsTrue (skipped_mode s.context st).forward ⊎ IsTrue (skipped_mode s.context st).backward → (k : ℕ) → k < gap.count
+    → CanPredict s (skipped_mode s.context st) (place_in s row (gap.column + k))
+unfolding all_inside references_decoded
+gap_can s row st m gap h below can g some k lt =
+    let mode = skipped_mode s.context st in
+    let test = λ (k : ℕ). is_inside mode (place_of s.context (first_skipped st + k)) s.dims in
+    let own = is_inside (mode_of s.context m) (place_of s.context (address_of st m)) s.dims in
+    let within = g.within (omega (arith, lt)) in
+    let n = skipped_before st m in
+    let known = is_decoded s.references s.context.extension.structure mode in
+    let small : k < n = subst (λ (c : ℕ). k < c) g.count lt in
+    record {
+      some = some;
+      place = lies s row (gap.column + k) h below (omega (arith, within, lt));
+      inside = subst (λ (at : MbPlace). is_inside mode at s.dims ≡ true) (gap_place s row st m gap g k lt)
+          (each_below test n k (and_parts (list_all test (range_with_len 0 n)) own can.inside).0 small);
+      decoded = or_given n known (omega (arith, small)) (and_parts (nat_eq n 0 || known) (is_decoded s.references s.context.extension.structure (mode_of s.context m)) can.decoded).0;
+    }

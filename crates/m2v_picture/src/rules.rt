@@ -1,9 +1,10 @@
-ghost use Rattle.std.specs.Prelude.{◌≡◌, ◌<◌, ◌+◌, ◌*◌, IfOk, IfErr, slice_index_or, false};
+ghost use Rattle.std.specs.Prelude.{◌≡◌, ◌<◌, ◌+◌, ◌*◌, IfOk, IfErr, slice_index_or, false, nat_eq, ◌||◌};
 ghost use Rattle.std.specs.List.{list_all, range_with_len};
 ghost use Rattle.m2v_plane.specs.Fields.{lines_there as lines_there_of};
 ghost use Rattle.m2v_pred.specs.Inside.{is_inside};
 ghost use Rattle.m2v_macro.specs.Conditions.{IsMacro};
-ghost use Rattle.m2v_model.specs.Modes.{part_decoded as part_decoded_of, direction_decoded as direction_decoded_of, is_decoded as is_decoded_of};
+ghost use Rattle.m2v_model.specs.Modes.{part_decoded as part_decoded_of, direction_decoded as direction_decoded_of, is_decoded as is_decoded_of, all_inside, references_decoded};
+ghost use Rattle.m2v_macroblock.specs.Modes.{skipped_mode as skipped_mode_of};
 ghost use Rattle.m2v_picture.specs.Conditions.{IsSetup, rows_in, place_in, IsColumn, IsGap, CanPaint};
 ghost use Rattle.m2v_picture.specs.Reads.{Breaks};
 
@@ -86,8 +87,57 @@ fn gap_inside(s: &SliceSetup, row: u32, mode: &Mode, gap: Gap) -> bool
     true
 }
 
-/// What a macroblock and those skipped before it are predicted from lies inside its references (clause 7.6.3.8), and was
-/// decoded. The place of a fault is the macroblock's first bit, where `left` bits are left.
+/// Whether what a macroblock and those skipped before it are predicted from lies inside its references (clause 7.6.3.8).
+fn are_inside(
+    s: &SliceSetup,
+    row: u32,
+    column: u32,
+    gap: Gap,
+    before: &SliceState,
+    m: &MacroSyntax,
+) -> bool
+    requires setup { IsSetup s.now }
+    requires row { row < rows_in s.now }
+    requires fits { IsMacro s.now.context before.now m.now }
+    requires gap { IsGap s.now.context row before.now m.now gap }
+    requires column { IsColumn s.now.context row before.now m.now column }
+    ensures { result ≡ all_inside s.now before.now m.now }
+{
+    let skipped = skipped_mode(&s.context, before);
+    let mode = mode(&s.context, m);
+    let gap_inside = gap_inside(s, row, &skipped, gap);
+    let own_inside = inside(&mode, place(s, row, column), s.dims);
+    gap_inside && own_inside
+}
+
+/// Whether the fields that the macroblocks of a gap are predicted from were decoded.
+fn gap_decoded(s: &SliceSetup, gap: Gap, before: &SliceState) -> bool
+    ensures { result ≡ (nat_eq gap.count 0
+        || is_decoded_of s.now.references s.now.context.extension.structure (skipped_mode_of s.now.context before.now)) }
+{
+    if gap.count == 0 {
+        return true;
+    }
+    let skipped = skipped_mode(&s.context, before);
+    is_decoded(&s.references, s.context.extension.structure, &skipped)
+}
+
+/// Whether the fields that a macroblock and those skipped before it are predicted from were decoded.
+#[tactic(auto, unfolding(m2v_model::specs::Modes::references_decoded))]
+fn are_decoded(s: &SliceSetup, row: u32, gap: Gap, before: &SliceState, m: &MacroSyntax) -> bool
+    requires setup { IsSetup s.now }
+    requires fits { IsMacro s.now.context before.now m.now }
+    requires gap { IsGap s.now.context row before.now m.now gap }
+    ensures { result ≡ references_decoded s.now before.now m.now }
+{
+    let mode = mode(&s.context, m);
+    let gap_decoded = gap_decoded(s, gap, before);
+    let own_decoded = is_decoded(&s.references, s.context.extension.structure, &mode);
+    gap_decoded && own_decoded
+}
+
+/// What a macroblock and those skipped before it are predicted from lies inside its references, and was decoded. The place
+/// of a fault is the macroblock's first bit, where `left` bits are left.
 ///
 /// # Errors
 /// `VectorOutside` of any of them before `MissingReference` of any of them.
@@ -108,18 +158,13 @@ pub fn check(
     ensures held { IfOk result (λ done. CanPaint s.now before.now m.now) }
     ensures broken { IfErr result (Breaks s.now before.now m.now left) }
 {
-    let skipped = skipped_mode(&s.context, before);
-    let mode = mode(&s.context, m);
-    let at = place(s, row, column);
-    if !(gap_inside(s, row, &skipped, gap) && inside(&mode, at, s.dims)) {
+    if !are_inside(s, row, column, gap, before, m) {
         return Err(Stop {
             kind: FaultKind::VectorOutside,
             left,
         });
     }
-    let structure = at.structure;
-    let known = gap.count == 0 || is_decoded(&s.references, structure, &skipped);
-    if !(known && is_decoded(&s.references, structure, &mode)) {
+    if !are_decoded(s, row, gap, before, m) {
         return Err(Stop {
             kind: FaultKind::MissingReference,
             left,

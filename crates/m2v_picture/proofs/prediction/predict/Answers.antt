@@ -5,7 +5,7 @@ use Rattle.m2v_plane.specs.declared.dims.Dims.{Dims}
 use Rattle.m2v_pred.specs.Vectors.{IsInside, size_read}
 use Rattle.m2v_model.specs.Modes.{is_decoded, direction_decoded}
 use Rattle.m2v_picture.proofs.Held.{held_read, has_direction, read_size}
-use Rattle.m2v_picture.proofs.Tested.{inside_is}
+use Rattle.m2v_pred.proofs.Tested.{inside_is}
 
 use Rattle.m2v_picture.proofs.prediction.predict.Goals as goal
 
