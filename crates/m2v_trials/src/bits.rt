@@ -5,6 +5,7 @@ use std::alloc::AllocError;
 const SEQUENCE: [u8; 8] = [0x00, 0x00, 0x01, 0xB3, 0x01, 0x00, 0x10, 0x13];
 
 #[test]
+#[tactic(auto, using(m2v_bits::proofs::Cursor::lengths))]
 fn writes_a_header_bit_by_bit(rt: HostRuntime) -> Result<(), AllocError> {
     let buf = vec![in rt.alloc(); 0u8; 16]?;
     let mut out = BitWriter::over(buf);

@@ -3,7 +3,7 @@ ghost use Rattle.m2v_set.specs.Numbers.{IsInterval};
 ghost use Rattle.m2v_rate.specs.Plans.{Entries};
 
 use crate::settings::{full, small};
-use m2v_rate::{Ledger, Plan, plan, slice_cap};
+use m2v_rate::{Ledger, Plan, account_before, plan, slice_cap};
 use m2v_set::{Passed, Scan, Settings};
 
 /// The plan of the next picture, which then is coded with so many bits, if they are within its cap.
@@ -82,6 +82,16 @@ fn film(settings: &Settings, sizes: [u64; 3]) -> Option<[(u8, u64, u64); 5]> {
         (d.q, d.cap, d.target),
         (e.q, e.cap, e.target),
     ])
+}
+
+/// What is held behind a first picture that is coded with so many bits, in units of 1/1800 bit.
+fn held_after(settings: &Settings, bits: u64) -> Option<u128> {
+    let passed = settings.test().ok()?;
+    let units = passed.interval();
+    let mut ledger = Ledger::start(&passed);
+    ledger.group(&passed, &[1], &[units]);
+    coded(&passed, &mut ledger, 0, bits)?;
+    Some(account_before(&ledger, 1).held())
 }
 
 /// The times behind 126 pictures, none of which is shown longer.
@@ -187,4 +197,10 @@ fn the_first_slices_take_what_is_left(rt: HostRuntime) {
     ] {
         assert_eq!(rt; slice(&settings, cap, r), Some(want));
     }
+}
+
+// What was held less 448 bits, and what arrives in 28,800 units of time.
+#[test]
+fn the_account_goes_on_behind_a_picture(rt: HostRuntime) {
+    assert_eq!(rt; held_after(&small(100, 1), 448), Some(24_314_400));
 }

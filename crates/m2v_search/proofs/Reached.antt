@@ -8,7 +8,7 @@ use Rattle.m2v_plane.specs.declared.planes.Lines.{Lines}
 use Rattle.m2v_search.specs.declared.form.SearchForm.{SearchForm}
 use Rattle.m2v_search.specs.declared.form.BlockLines.{BlockLines}
 use Rattle.m2v_search.specs.Search.{Vector, zero_vector, block_lines, reach, vector_sad, vector_inside, around, vectors, vectors_around, best_around, whole_vector, vector_of}
-use Rattle.m2v_choose.proofs.Chosen.{least_in}
+use Rattle.m2v_search.proofs.Products.{least_in}
 
 -- ---- lists
 

@@ -2,7 +2,7 @@ use Rattle.std.proofs.Common.{◌∙◌, ℕ, List, ap, sym, subst}
 use Rattle.m2v_vlc.specs.Codes.{Row}
 use Rattle.m2v_vlc.specs.Lookups.{IsTable, code_in}
 use Rattle.m2v_vlc.proofs.Sizes.{dc_luma_rows, dc_luma_table, dc_luma_index}
-use Rattle.m2v_vlc.proofs.size.luma_of.Goals as goal
+use Rattle.m2v_vlc.proofs.size.code_dc_luma.Goals as goal
 
 pub row_code-requires : goal.row_code-requires
 row_code-requires c = subst (λ (t : List (Row ℕ)). IsTable t) (sym dc_luma_rows) dc_luma_table
