@@ -11,7 +11,9 @@ use Rattle.m2v_macro.specs.declared.values.SliceState.{SliceState}
 use Rattle.m2v_macro.specs.declared.values.PictureContext.{PictureContext}
 use Rattle.m2v_macro.specs.declared.values.MacroSyntax.{MacroSyntax}
 use Rattle.m2v_macro.specs.States.{address, column, in_order, skips, after, at_start}
-use Rattle.m2v_macro.specs.Conditions.{IsStep, IsReady, IsMacro}
+use Rattle.m2v_vlc.specs.declared.values.MbType.{MbType}
+use Rattle.m2v_vlc.specs.Values.{has_type_b}
+use Rattle.m2v_macro.specs.Conditions.{IsStep, IsReady, IsMacro, has_type}
 use Rattle.m2v_macroblock.specs.Macroblocks.{Macroblock, after_macroblock}
 use Rattle.m2v_macroblock.specs.Modes.{address_of, place_of, skipped_before, first_skipped}
 use Rattle.m2v_macroblock.proofs.DcLaws.{dc_start, dc_behind-is}
@@ -126,3 +128,32 @@ gap_is c row st m before first e at lt order =
       first = λ some. rw at (omega (arith, ints));
       within = λ some. omega (arith, m2, d, some);
     }
+
+-- the column of the macroblock that was read
+pub column_is : (c : PictureContext) (row : ℕ) (st : SliceState) (m : MacroSyntax) (z : SliceState) (column : ℕ) → z ≡ after c st m → z.address ≡ pos (row * c.columns + column) → column < c.columns
+    → IsColumn c row st m column
+unfolding after
+column_is c row st m z column is at lt = record { address = ap (λ (s : SliceState). nat_abs s.address) (sym is) ∙ ap nat_abs at; below = lt }
+
+-- ---- states behind a macroblock
+
+-- a macroblock of a B picture that isn't intra has a direction (table B.4)
+directed : (kind : MbType) → has_type_b kind ≡ true → kind.intra ≡ false → (kind.forward || kind.backward) ≡ true
+directed kind has e = (and_parts (kind.forward || kind.backward) (not kind.quant || kind.pattern) (rw e at has)).0
+
+pub state_after : (c : PictureContext) (row : ℕ) (st : SliceState) (m : MacroSyntax) → IsState c row st → IsMacro c st m → IsReady c (after c st m) → IsState c row (after c st m)
+unfolding after has_type
+state_after c row st m h fits ready = record {
+  ready = ready;
+  dc = dc_behind-is c st m h.dc;
+  place = record { first = λ e. absurd (false-true e); later = λ e. inside_after c row st m.increment h.place fits.step.some fits.step.order; end = h.place.end };
+  next = h.next;
+  direction = λ kind first intra. directed m.kind (rw kind at fits.kind) intra;
+}
+
+-- no more macroblocks are large than were read, and these are at most those of the row
+pub large_few : (c : PictureContext) (row : ℕ) (st : SliceState) (large : ℕ) → IsBefore c row st → pos (large + row * c.columns) ≤ℤ (st.address +ℤ pos 1) → large ≤ 2 ^ 16
+large_few c row st large h few = elim (cases_Bool st.first) [
+  | inl e ↦ let a = h.first e in omega (arith, ints, a, few)
+  | inr e ↦ let i = h.later e in let end = h.end in omega (arith, ints, i.2, i.1, few, end)
+]

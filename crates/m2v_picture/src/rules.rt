@@ -1,4 +1,4 @@
-ghost use Rattle.std.specs.Prelude.{◌≡◌, ◌<◌, ◌+◌, ◌*◌, IfOk, IfErr, slice_index_or, false, nat_eq, ◌||◌};
+ghost use Rattle.std.specs.Prelude.{◌≡◌, ◌<◌, ◌+◌, ◌*◌, IfOk, IfErr, slice_index_or, false, nat_eq, ◌||◌, ◌&&◌};
 ghost use Rattle.std.specs.List.{list_all, range_with_len};
 ghost use Rattle.m2v_plane.specs.Fields.{lines_there as lines_there_of};
 ghost use Rattle.m2v_pred.specs.Inside.{is_inside};
@@ -87,6 +87,14 @@ fn gap_inside(s: &SliceSetup, row: u32, mode: &Mode, gap: Gap) -> bool
     true
 }
 
+/// Whether both hold.
+#[inline(always)]
+fn both(one: bool, other: bool) -> bool
+    ensures { result ≡ (one && other) }
+{
+    one && other
+}
+
 /// Whether what a macroblock and those skipped before it are predicted from lies inside its references (clause 7.6.3.8).
 fn are_inside(
     s: &SliceSetup,
@@ -107,7 +115,7 @@ fn are_inside(
     let mode = mode(&s.context, m);
     let gap_inside = gap_inside(s, row, &skipped, gap);
     let own_inside = inside(&mode, place(s, row, column), s.dims);
-    gap_inside && own_inside
+    both(gap_inside, own_inside)
 }
 
 /// Whether the fields that the macroblocks of a gap are predicted from were decoded.
@@ -133,7 +141,7 @@ fn are_decoded(s: &SliceSetup, row: u32, gap: Gap, before: &SliceState, m: &Macr
     let mode = mode(&s.context, m);
     let gap_decoded = gap_decoded(s, gap, before);
     let own_decoded = is_decoded(&s.references, s.context.extension.structure, &mode);
-    gap_decoded && own_decoded
+    both(gap_decoded, own_decoded)
 }
 
 /// What a macroblock and those skipped before it are predicted from lies inside its references, and was decoded. The place
