@@ -1,12 +1,14 @@
 -- The rules that the verifier looks at beside the buffer (levels and profiles: clause 8), over what a stream tells: its
 -- headers and pictures in order. Each rule answers what breaks it, with the two numbers that it compares.
-use Rattle.std.specs.Prelude.{ℕ, suc, ◌+◌, ◌*◌, ◌%◌, Bool, true, false, ◌&&◌, ◌||◌, not, nat_eq, nat_le, nat_lt, if◌then◌else◌, List, [], ◌∷◌, ◌++◌, slice_index, slice_index_or, Option, Some, None}
+use Rattle.std.specs.Prelude.{◌≡◌, ℕ, suc, ◌+◌, ◌*◌, ◌%◌, Bool, true, false, ◌&&◌, ◌||◌, not, nat_eq, nat_le, nat_lt, if◌then◌else◌, List, [], ◌∷◌, ◌++◌, slice_index, slice_index_or, Option, Some, None}
 use Rattle.std.specs.List.{flat_map}
 use Rattle.m2v_order.specs.Display.{Order}
 use Rattle.m2v_model.specs.declared.state.Sequence.{Sequence}
 use Rattle.m2v_model.specs.States.{width_of, height_of, is_frame}
 use Rattle.m2v_model.specs.Headers.{uses_forward, uses_backward}
+use Rattle.m2v_model.specs.Streams.{Sofar}
 use Rattle.m2v_model.specs.Pictures.{Picture, Events, sequence_header, group_header, coded_picture}
+use Rattle.m2v_model.specs.Decoding.{Stream, events, low_delay_of}
 
 -- ---- what is broken
 
@@ -169,10 +171,15 @@ unfoldable pub display_place : ℕ → List (ℕ × ℕ) → ℕ
 display_place frame [] = 0
 display_place frame (f ∷ fs) = if nat_eq f.0 frame then 0 else suc (display_place frame fs)
 
--- temporal_reference is the frame's place in display order in its group, modulo 1024
+-- the place of a picture's frame in the display order of its group. In the whole stream the frames of a group stand in
+-- the same order, since B frames before the first anchor of the group stand before it in both.
+unfoldable pub place_in_group : Bool → List Numbered → Numbered → ℕ
+place_in_group low_delay all n = display_place n.frame (Order low_delay (frames_of_group n.group all))
+
+-- temporal_reference is that place, modulo 1024 (clause 6.3.9); both fields of a frame are looked at
 unfoldable pub reference_rule : Bool → List Numbered → Numbered → Breaches
 reference_rule low_delay all n =
-    let place = display_place n.frame (Order low_delay (frames_of_group n.group all)) % 1024 in
+    let place = place_in_group low_delay all n % 1024 in
     judge (nat_eq n.picture.info.temporal_reference place) (breach 11 n.number n.picture.info.temporal_reference place)
 
 unfoldable pub crowd_rule : Numbered → Breaches
@@ -203,18 +210,33 @@ picture_breaches low_delay constant all n =
 abbrev pub all_numbered : Events → List Numbered
 all_numbered es = numbered None 0 false 0 0 es
 
--- the first vbv_delay says that the rate is variable
-abbrev pub is_constant : List Numbered → Bool
-is_constant [] = false
-is_constant (n ∷ ns) = not (nat_eq n.picture.info.vbv_delay 65535)
+-- the first vbv_delay says that the rate is variable (clause 6.3.9)
+abbrev pub is_variable : List Numbered → Bool
+is_variable [] = false
+is_variable (n ∷ ns) = nat_eq n.picture.info.vbv_delay 65535
 
 -- all that is broken, picture by picture and for each picture rule by rule
 unfoldable pub breaches : Bool → Events → Breaches
 breaches low_delay es =
     let all = all_numbered es in
-    sequence_breaches (sequences_in es) ++ flat_map (picture_breaches low_delay (is_constant all) all) all
+    sequence_breaches (sequences_in es) ++ flat_map (picture_breaches low_delay (not (is_variable all)) all) all
 
--- the first of them
-abbrev pub first_of : Breaches → Option Breach
-first_of [] = None
-first_of (b ∷ bs) = Some b
+-- ---- texts
+
+-- all that is broken in a stream, by the low_delay of its first sequence extension
+abbrev pub breaches_of : Sofar → Breaches
+breaches_of tree = breaches (low_delay_of tree.state.first) (events tree)
+
+-- the text is a stream without a fault, and no rule is broken
+pub record Lawful (text : List ℕ) : Type 0 where
+  pub tree : Sofar
+  pub stream : Stream text tree
+  pub lawful : breaches_of tree ≡ []
+
+-- the text is a stream without a fault, and this is the rule that is broken first: that of the least picture, then of the
+-- least number, at the first place that breaks it
+pub record Broken (text : List ℕ) (b : Breach) : Type 0 where
+  pub tree : Sofar
+  pub stream : Stream text tree
+  pub others : Breaches
+  pub broken : breaches_of tree ≡ b ∷ others
