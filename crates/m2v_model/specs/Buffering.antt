@@ -1,5 +1,6 @@
 -- The buffer's account of a stream (Annex C): what each picture takes, and when; and whether the buffer bears it.
 use Rattle.std.specs.Prelude.{◌≡◌, ℕ, zero, suc, ◌+◌, ◌-◌, ◌*◌, ◌/◌, min, max, Bool, false, ◌&&◌, not, nat_eq, nat_le, if◌then◌else◌, List, [], ◌∷◌, ◌++◌, length, map, sum, drop, slice_index, slice_get, Option, Some, None}
+use Rattle.m2v_set.specs.Numbers.{field_time, frame_time, film_time}
 use Rattle.m2v_vbv.specs.Annex.{Start, Removal, Held}
 use Rattle.m2v_vbv.specs.Account.{account_of, arriving}
 use Rattle.m2v_vbv.specs.declared.fault.AccountFault.{AccountFault}
@@ -10,7 +11,7 @@ use Rattle.m2v_model.specs.Units.{Units, cut}
 use Rattle.m2v_model.specs.Streams.{Sofar}
 use Rattle.m2v_model.specs.Pieces.{pieces}
 use Rattle.m2v_model.specs.Decoding.{Stream, events, low_delay_of}
-use Rattle.m2v_model.specs.Lawful.{Numbered, field_time, rate_of, buffer_of, all_numbered}
+use Rattle.m2v_model.specs.Lawful.{Numbered, rate_of, buffer_of, all_numbered}
 
 -- ---- times (clauses C.9 to C.12), in units of 1/720,000 s
 
@@ -18,27 +19,27 @@ use Rattle.m2v_model.specs.Lawful.{Numbered, field_time, rate_of, buffer_of, all
 abbrev pub repeats : Numbered → Bool
 repeats n = not n.sequence.extension.progressive_sequence && (is_frame n.picture.extension && n.picture.extension.repeat_first_field)
 
--- two or three fields
-abbrev pub fields_shown : Bool → ℕ → ℕ
-fields_shown three field = if three then 3 * field else 2 * field
+-- the time of a frame, or of three fields, by frame_rate_code
+abbrev pub time_shown : Bool → ℕ → ℕ
+time_shown repeated code = if repeated then film_time code else frame_time code
 
--- The time from the removal of each picture to that of the next one, where a field takes so long; `before` tells whether
--- the last anchor repeats. An anchor is shown in the time of the one before it, and any other frame, with low_delay each
--- frame, in its own.
+-- The time from the removal of each picture to that of the next one; `before` tells whether the last anchor repeats. An
+-- anchor is removed as long before the next picture as the anchor before it is shown; a B frame, and with low_delay each
+-- frame, as long as it is shown itself.
 unfoldable pub intervals : Bool → ℕ → Bool → List Numbered → List ℕ
-intervals low_delay field before [] = []
-intervals low_delay field before (n ∷ ns) =
+intervals low_delay code before [] = []
+intervals low_delay code before (n ∷ ns) =
     let anchor = not (is_b n.picture.info.kind) in
     let after = if anchor && n.picture.ends_frame then repeats n else before in
-    (if is_frame n.picture.extension then fields_shown (if anchor && not low_delay then before else repeats n) field
-    else if anchor && n.picture.ends_frame && before then 2 * field else field)
-    ∷ intervals low_delay field after ns
+    (if is_frame n.picture.extension then time_shown (if anchor && not low_delay then before else repeats n) code
+    else if anchor && n.picture.ends_frame && before then frame_time code else field_time code)
+    ∷ intervals low_delay code after ns
 
 -- ---- sizes, in bits
 
--- The sizes of so many pictures, from those of the pieces. Piece i has picture i: a piece ends where a unit follows that
--- begins another one, and that ends a piece behind a picture unit alone, so each piece has one picture, but for a last one
--- that may have none. The last picture has all that stands behind it.
+-- The sizes of so many pictures, from those of the pieces. Piece i has picture i: another piece begins behind a picture
+-- unit alone, and with the next picture unit at the latest, so each piece has one, but for a last piece that may have
+-- none; and each picture unit of a stream is a picture's. The last picture has all that stands behind it.
 unfoldable pub sizes : ℕ → List ℕ → List ℕ
 sizes zero ls = []
 sizes (suc zero) ls = sum ls ∷ []
@@ -76,7 +77,7 @@ joined_removals (b ∷ bs) (u ∷ us) = record { bits = b; units = u } ∷ joine
 
 -- the removals of a stream: the bits of each picture, and the time to the next one
 abbrev pub removals : Bool → ℕ → List ℕ → List Numbered → List Removal
-removals low_delay field ls ns = joined_removals (sizes (length ns) ls) (intervals low_delay field false ns)
+removals low_delay code ls ns = joined_removals (sizes (length ns) ls) (intervals low_delay code false ns)
 
 -- all that a stream's buffer is judged by: its starting numbers, its bits from the first sequence header on, and its
 -- removals
@@ -90,10 +91,10 @@ abbrev pub account_from : Bool → Sequence → Numbered → List (List ℕ) →
 account_from low_delay s first ps ns = record {
   start = record { k = rate_of s; buffer_bits = 16384 * buffer_of s; s = first_code ps; delay = first.picture.info.vbv_delay };
   total = sum (map bits_of_piece ps);
-  removals = removals low_delay (field_time s.info.frame_rate_code) (map bits_of_piece ps) ns;
+  removals = removals low_delay s.info.frame_rate_code (map bits_of_piece ps) ns;
 }
 
--- the account of pieces and pictures: its rate, its buffer and its field time are those of the first sequence header; a
+-- the account of pieces and pictures: its rate, its buffer and its frame rate are those of the first sequence header; a
 -- stream without a picture has none
 abbrev pub account_by : Bool → Option Sequence → List (List ℕ) → List Numbered → Option StreamAccount
 account_by low_delay (Some s) ps (n ∷ ns) = Some (account_from low_delay s n ps (n ∷ ns))

@@ -2,6 +2,10 @@
 -- headers and pictures in order. Each rule answers what breaks it, with the two numbers that it compares.
 use Rattle.std.specs.Prelude.{◌≡◌, ℕ, suc, ◌+◌, ◌*◌, ◌%◌, Bool, true, false, ◌&&◌, ◌||◌, not, nat_eq, nat_le, nat_lt, if◌then◌else◌, List, [], ◌∷◌, ◌++◌, slice_index, slice_index_or, Option, Some, None}
 use Rattle.std.specs.List.{flat_map}
+use Rattle.m2v_set.specs.declared.settings.Level.{Level}
+use Rattle.m2v_set.specs.declared.settings.Level.TheVariants.{Main, High1440, High}
+use Rattle.m2v_set.specs.declared.limits.Limits.{Limits}
+use Rattle.m2v_set.specs.Numbers.{frame_time, limits_of}
 use Rattle.m2v_order.specs.Display.{Order}
 use Rattle.m2v_model.specs.declared.state.Sequence.{Sequence}
 use Rattle.m2v_model.specs.States.{width_of, height_of, is_frame}
@@ -38,34 +42,27 @@ within rule picture have low high =
     if nat_lt have low then breach rule picture have low ∷ []
     else at_most rule picture have high
 
--- ---- levels (tables 8-8 to 8-14)
+-- ---- levels (tables 8-2, 8-3 and 8-8 to 8-14)
 
-pub record Level : Type 0 where
-  pub width : ℕ
-  pub height : ℕ
-  pub codes : ℕ
-  pub luma_rate : ℕ
-  pub rate : ℕ
-  pub buffer : ℕ
-  -- the greatest horizontal f_code
-  pub f_code : ℕ
-
--- Main, High 1440 and High level; a stream that names none of them breaks rule 1, and counts as of Main level then
+-- Main, High 1440 and High level of the main profile, by profile_and_level
 abbrev pub is_level : ℕ → Bool
 is_level code = nat_eq code 72 || nat_eq code 70 || nat_eq code 68
 
+-- a code of no such level breaks rule 1, and counts as Main level in the other rules
 unfoldable pub level_of : ℕ → Level
-level_of code =
-    if nat_eq code 68 then record { width = 1920; height = 1152; codes = 8; luma_rate = 62668800; rate = 200000; buffer = 597; f_code = 9 }
-    else if nat_eq code 70 then record { width = 1440; height = 1152; codes = 8; luma_rate = 47001600; rate = 150000; buffer = 448; f_code = 9 }
-    else record { width = 720; height = 576; codes = 5; luma_rate = 10368000; rate = 37500; buffer = 112; f_code = 8 }
+level_of code = if nat_eq code 68 then High else if nat_eq code 70 then High1440 else Main
 
 abbrev pub level_in : Sequence → Level
 level_in s = level_of s.extension.profile_and_level
 
--- the time of a field in units of 1/720,000 s, by frame_rate_code (table 6-4); 0 where it is none
-unfoldable pub field_time : ℕ → ℕ
-field_time code = slice_index_or (0 ∷ 15015 ∷ 15000 ∷ 14400 ∷ 12012 ∷ 12000 ∷ 7200 ∷ 6006 ∷ 6000 ∷ []) code 0
+abbrev pub limits_in : Sequence → Limits
+limits_in s = limits_of (level_in s)
+
+-- the greatest horizontal f_code of a level; 9 is the greatest that there is
+unfoldable pub most_horizontal : Level → ℕ
+most_horizontal Main = 8
+most_horizontal High1440 = 9
+most_horizontal High = 9
 
 -- bit_rate in units of 400 bit/s, and vbv_buffer_size in units of 16,384 bits (clause 6.3.3)
 abbrev pub rate_of : Sequence → ℕ
@@ -80,25 +77,25 @@ unfoldable pub level_rule : Sequence → Breaches
 level_rule s = judge (is_level s.extension.profile_and_level) (breach 1 0 s.extension.profile_and_level 72)
 
 unfoldable pub width_rule : Sequence → Breaches
-width_rule s = at_most 2 0 (width_of s) (level_in s).width
+width_rule s = at_most 2 0 (width_of s) (limits_in s).width
 
 unfoldable pub height_rule : Sequence → Breaches
-height_rule s = at_most 3 0 (height_of s) (level_in s).height
+height_rule s = at_most 3 0 (height_of s) (limits_in s).height
 
 -- the code, and then the two numbers that change it
 unfoldable pub frame_rate_rule : Sequence → Breaches
 frame_rate_rule s =
-    within 4 0 s.info.frame_rate_code 1 (level_in s).codes
+    within 4 0 s.info.frame_rate_code 1 (limits_in s).codes
     ++ at_most 4 0 (32 * s.extension.rate_n + s.extension.rate_d) 0
 
 unfoldable pub luma_rule : Sequence → Breaches
-luma_rule s = at_most 5 0 (720000 * width_of s * height_of s) ((level_in s).luma_rate * (2 * field_time s.info.frame_rate_code))
+luma_rule s = at_most 5 0 (720000 * width_of s * height_of s) ((limits_in s).luma * frame_time s.info.frame_rate_code)
 
 unfoldable pub rate_rule : Sequence → Breaches
-rate_rule s = within 6 0 (rate_of s) 1 (level_in s).rate
+rate_rule s = within 6 0 (rate_of s) 1 (limits_in s).bits
 
 unfoldable pub buffer_rule : Sequence → Breaches
-buffer_rule s = within 7 0 (buffer_of s) 1 (level_in s).buffer
+buffer_rule s = within 7 0 (buffer_of s) 1 (limits_in s).buffer
 
 -- rule by rule, and for each rule header by header
 abbrev pub sequence_breaches : List Sequence → Breaches
@@ -150,7 +147,7 @@ f_code_rule rule component limit n =
     ++ (if uses_backward n.picture.info.kind then at_most rule n.number (f_code_of n.picture 1 component) (limit n) else [])
 
 unfoldable pub horizontal_rule : Numbered → Breaches
-horizontal_rule n = f_code_rule 8 0 (λ m. (level_in m.sequence).f_code) n
+horizontal_rule n = f_code_rule 8 0 (λ m. most_horizontal (level_in m.sequence)) n
 
 unfoldable pub vertical_rule : Numbered → Breaches
 vertical_rule n = f_code_rule 9 1 (λ m. if is_frame m.picture.extension then 5 else 4) n
