@@ -17,5 +17,6 @@ pub mod Lawful
 pub mod Buffering
 pub mod PieceNotes
 pub mod Outside
+pub mod FieldStreams
 pub mod Worked
 pub mod Verdicts
