@@ -1,5 +1,5 @@
 -- The buffer's account of a stream (Annex C): what each picture takes, and when; and whether the buffer bears it.
-use Rattle.std.specs.Prelude.{◌≡◌, ℕ, zero, suc, ◌+◌, ◌-◌, ◌*◌, ◌/◌, min, max, Bool, false, ◌&&◌, not, nat_eq, nat_le, if◌then◌else◌, List, [], ◌∷◌, ◌++◌, length, map, sum, drop, slice_index, slice_get, Option, Some, None}
+use Rattle.std.specs.Prelude.{◌≡◌, ℕ, zero, suc, ◌+◌, ◌-◌, ◌*◌, ◌/◌, ◌≤◌, ◌↔◌, ◌⊎◌, min, max, Bool, false, ◌&&◌, not, nat_eq, nat_le, if◌then◌else◌, List, [], ◌∷◌, ◌++◌, length, map, sum, drop, slice_index, slice_get, Option, Some, None}
 use Rattle.m2v_set.specs.Numbers.{field_time, frame_time, film_time}
 use Rattle.m2v_vbv.specs.Annex.{Start, Removal, Held}
 use Rattle.m2v_vbv.specs.Account.{account_of, arriving}
@@ -11,7 +11,7 @@ use Rattle.m2v_model.specs.Units.{Units, cut}
 use Rattle.m2v_model.specs.Streams.{Sofar}
 use Rattle.m2v_model.specs.Pieces.{pieces}
 use Rattle.m2v_model.specs.Decoding.{Stream, events, low_delay_of}
-use Rattle.m2v_model.specs.Lawful.{Numbered, rate_of, buffer_of, all_numbered}
+use Rattle.m2v_model.specs.Lawful.{Breach, Lawful, Broken, Numbered, rate_of, buffer_of, all_numbered}
 
 -- ---- times (clauses C.9 to C.12), in units of 1/720,000 s
 
@@ -123,6 +123,16 @@ abbrev pub unsafe_in : Option StreamAccount → List AccountFault
 unsafe_in None = []
 unsafe_in (Some a) = unsafe_from a [] a.removals
 
+-- each picture is whole in the buffer when it is removed, and the buffer takes what is held then
+abbrev pub IsSafe : StreamAccount → Type 0
+IsSafe a =
+    (before : List Removal) (r : Removal) (later : List Removal) → a.removals ≡ before ++ r ∷ later
+    → (1800 * r.bits ≤ Held a.start a.total before) × (Held a.start a.total before ≤ 1800 * a.start.buffer_bits)
+
+-- nothing is unsafe exactly where each picture is safe
+abbrev pub IsJudgedByAll : StreamAccount → Type 0
+IsJudgedByAll a = (unsafe_in (Some a) ≡ []) ↔ IsSafe a
+
 -- ---- figures
 
 -- what is held when each picture is removed, and what it takes, in units of 1/1800 bit
@@ -218,3 +228,15 @@ pub record HasExactDelay (text : List ℕ) (number delay : ℕ) : Type 0 where
   pub account : StreamAccount
   pub told : account_in text tree ≡ Some account
   pub delay_is : slice_get (exact_delays (pieces text) account) number ≡ Some delay
+
+-- Of a stream exactly one holds: no rule is broken, or one is broken first; and exactly one: it is safe, or its account
+-- fails first. Each has one value, and so have the figures.
+pub record OneVerdict (text : List ℕ) : Type 0 where
+  pub rules : Lawful text ⊎ ((b : Breach) × Broken text b)
+  pub not_lawful : (b : Breach) → Lawful text → Broken text b → ⊥
+  pub one_breach : (b c : Breach) → Broken text b → Broken text c → b ≡ c
+  pub buffer : Safe text ⊎ ((f : AccountFault) × FirstUnsafe text f)
+  pub not_safe : (f : AccountFault) → Safe text → FirstUnsafe text f → ⊥
+  pub one_failure : (f g : AccountFault) → FirstUnsafe text f → FirstUnsafe text g → f ≡ g
+  pub some_figures : (f : BufferFigures) × HasFigures text f
+  pub one_figures : (f g : BufferFigures) → HasFigures text f → HasFigures text g → f ≡ g
