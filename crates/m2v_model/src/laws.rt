@@ -35,7 +35,7 @@ pub fn law_one_verdict()
 
 /// An account is safe exactly where each picture is whole in the buffer when it is removed and the buffer takes what is
 /// held then.
-pub fn law_safe()
+pub fn law_safe_account()
     ensures { (a : StreamAccount) → IsJudgedByAll a }
 {}
 
