@@ -1,5 +1,5 @@
 -- The verdict on a stream is one, and its account is safe exactly where each picture is.
-use Rattle.std.proofs.Common.{◌≡◌, ℕ, ◌*◌, ◌≤◌, Bool, true, false, List, [], ◌∷◌, ◌++◌, ◌⊎◌, inl, inr, Some, refl, sym, ap, ◌∙◌, append-nil, append_assoc}
+use Rattle.std.proofs.Common.{◌≡◌, ℕ, ◌*◌, ◌≤◌, Bool, true, false, List, [], ◌∷◌, ◌++◌, ◌⊎◌, inl, inr, refl, sym, ap, ◌∙◌, append-nil, append_assoc}
 use Rattle.std.specs.Prelude.{if◌then◌else◌, nat_le}
 use Rattle.std.proofs.lemmas.Bool.{leb-true, le-leb}
 use Rattle.m2v_vbv.specs.Annex.{Removal, Held}
@@ -7,7 +7,7 @@ use Rattle.m2v_vbv.specs.declared.fault.AccountFault.{AccountFault}
 use Rattle.m2v_model.specs.Streams.{Sofar}
 use Rattle.m2v_model.specs.Decoding.{Stream}
 use Rattle.m2v_model.specs.Lawful.{Breach, Breaches, Lawful, Broken, breaches_of}
-use Rattle.m2v_model.specs.Buffering.{StreamAccount, unsafe_at, unsafe_from, unsafe_in, account_in, figures_in, IsSafe, IsJudgedByAll, BufferFigures, Safe, FirstUnsafe, HasFigures, OneVerdict}
+use Rattle.m2v_model.specs.Buffering.{StreamAccount, unsafe_at, unsafe_from, unsafe_in, account_in, figures_in, IsJudgedByAll, Safe, FirstUnsafe, OneVerdict}
 use Rattle.m2v_model.proofs.Unique.{exactly_one}
 
 -- ---- one verdict

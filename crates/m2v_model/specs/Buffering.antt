@@ -37,9 +37,8 @@ intervals low_delay code before (n ∷ ns) =
 
 -- ---- sizes, in bits
 
--- The sizes of so many pictures, from those of the pieces. Piece i has picture i: another piece begins behind a picture
--- unit alone, and with the next picture unit at the latest, so each piece has one, but for a last piece that may have
--- none; and each picture unit of a stream is a picture's. The last picture has all that stands behind it.
+-- The sizes of so many pictures, from those of the pieces: piece i has picture i, but a last piece may have none
+-- (`TellsPictures`). The last picture has all that stands behind it.
 unfoldable pub sizes : ℕ → List ℕ → List ℕ
 sizes zero ls = []
 sizes (suc zero) ls = sum ls ∷ []

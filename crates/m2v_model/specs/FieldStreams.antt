@@ -1,5 +1,5 @@
 -- Streams of interlaced frames, byte by byte.
-use Rattle.std.specs.Prelude.{ℕ, List, [], ◌∷◌, ◌++◌, take, drop}
+use Rattle.std.specs.Prelude.{ℕ, List, [], ◌∷◌, ◌++◌, take}
 
 -- a sequence header and a group header: frames of 16 by 32 samples that are not progressive
 unfoldable pub interlaced_head : List ℕ

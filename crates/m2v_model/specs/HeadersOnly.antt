@@ -1,9 +1,9 @@
 -- Reading the headers of a piece alone: its slices stay unread, and a reader of rows reads them later.
-use Rattle.std.specs.Prelude.{◌≡◌, ℕ, Bool, true, false, ◌||◌, List, [], ◌∷◌, Option, Some, None, Result, Ok, Err}
+use Rattle.std.specs.Prelude.{◌≡◌, ℕ, Bool, true, false, List, [], ◌∷◌, Option, Some, None, Ok, Err}
 use Rattle.m2v_model.specs.declared.fault.FaultKind.{FaultKind}
 use Rattle.m2v_model.specs.declared.state.State.{State}
 use Rattle.m2v_model.specs.Units.{Units, cut}
-use Rattle.m2v_model.specs.Streams.{Part, sequence, group, picture, matrices, slice, unread_slice, skipped_unit, ending, over, after}
+use Rattle.m2v_model.specs.Streams.{Part, picture, unread_slice, after}
 use Rattle.m2v_model.specs.ByPieces.{unit_read}
 
 -- a state from which headers alone are read

@@ -5,7 +5,7 @@ ghost use Rattle.m2v_model.specs.declared.setup.SliceSetup.{SliceSetup};
 ghost use Rattle.m2v_model.specs.Pictures.{Pictures};
 ghost use Rattle.m2v_model.specs.Streams.{Sofar};
 ghost use Rattle.m2v_model.specs.Decoding.{Stream, ExactlyOne, IsFront};
-ghost use Rattle.m2v_model.specs.ByPieces.{ByPieces};
+ghost use Rattle.m2v_model.specs.ByPieces.{ByPieces, TellsPictures};
 ghost use Rattle.m2v_model.specs.Buffering.{StreamAccount, IsJudgedByAll, OneVerdict};
 ghost use Rattle.m2v_model.specs.Written.{IsSpelled};
 ghost use Rattle.m2v_model.specs.Worked.{WorkedRows};
@@ -25,6 +25,12 @@ pub fn law_prefix()
 /// what was read, or has the fault that was found, at its place.
 pub fn law_by_pieces()
     ensures { (text : List ℕ) → ByPieces text }
+{}
+
+/// The pieces of a text, read one after another, each tell one picture, and the last one at most one: piece i has
+/// picture i.
+pub fn law_pictures_in_turn()
+    ensures { (text : List ℕ) → TellsPictures text }
 {}
 
 /// Of a stream exactly one holds: no rule of the verifier is broken, or one is broken first; and exactly one: its account
