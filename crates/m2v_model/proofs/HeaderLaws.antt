@@ -10,9 +10,9 @@ use Rattle.m2v_model.specs.Faults.{InUnit, of_head}
 use Rattle.m2v_model.specs.Headers.{whole_header, size_at, sequence_extension_in, picture_in, f_code_at, f_codes_at, picture_extension_in, sequence_in, group_in, matrices_in}
 use Rattle.m2v_model.proofs.LookLaws.{look_lawful}
 
-pub whole_lawful : {V : Type 0} {s : InUnit V} → Lawful length s → Lawful length (whole_header s)
+pub whole_header_lawful : {V : Type 0} {s : InUnit V} → Lawful length s → Lawful length (whole_header s)
 unfolding whole_header
-whole_lawful ls = seq_lawful ls (λ header. seq_lawful (end_lawful Forbidden) (λ end. done_lawful length header))
+whole_header_lawful ls = seq_lawful ls (λ header. seq_lawful (end_lawful Forbidden) (λ end. done_lawful length header))
 
 size_lawful : (low most : ℕ) (format ext : Option ℕ) (at : ℕ) → Lawful length (size_at low most format ext at)
 unfolding size_at

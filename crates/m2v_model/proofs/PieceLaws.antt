@@ -246,7 +246,7 @@ end_piece st at u on k h =
     ∙ ap (λ (r : Course). continued r (λ last. rest_read last to [])) (piece_units st to (u ∷ []) h ∙ end_placed st at u [] on k)
     ∙ coded_rest (is_complete st.state.sequence st.state.picture) (none_waits st.state.waiting) st at to k refl
 
-value_code : (u : List ℕ) → value_of (take 4 u) ≡ value_of u
+pub value_code : (u : List ℕ) → value_of (take 4 u) ≡ value_of u
 value_code [] = refl
 value_code (a ∷ []) = refl
 value_code (a ∷ b ∷ []) = refl
@@ -306,16 +306,16 @@ end_within st at us code on n k h =
 -- ---- units in groups
 
 -- a piece is at hand
-abbrev IsOpen : Phase → Type 0
+abbrev pub IsOpen : Phase → Type 0
 IsOpen Before = ⊥
 IsOpen Headers = Unit {0}
 IsOpen Picture = Unit {0}
 
-open_after : (value : ℕ) → IsOpen (phase_after Headers value)
+pub open_after : (value : ℕ) → IsOpen (phase_after Headers value)
 unfolding phase_after
 open_after value = elim (cases_Bool (nat_eq value 0x00)) [ inl on ↦ rw on tt | inr off ↦ rw off tt ]
 
-no_ends-append : (us vs : Units) → NoEnds us → NoEnds vs → NoEnds (us ++ vs)
+pub no_ends-append : (us vs : Units) → NoEnds us → NoEnds vs → NoEnds (us ++ vs)
 no_ends-append [] vs n m = m
 no_ends-append (u ∷ us) vs n m = (n.0, no_ends-append us vs n.1 m)
 
@@ -360,7 +360,7 @@ picture_goes true c st at v vs us u is begins ih n k h =
 picture_goes false true st at v vs us u is begins ih n k h = piece_begins st at v vs us u ih begins is n k h
 picture_goes false false st at v vs us u is begins ih n k h = piece_goes Picture st at v vs us u ih tt is n k h
 
-piece_whole : (v : List ℕ) (us : Units) → AreUnits (v ∷ us) → piece_of (joined (v ∷ us)) ≡ joined (v ∷ us) ∷ []
+pub piece_whole : (v : List ℕ) (us : Units) → AreUnits (v ∷ us) → piece_of (joined (v ∷ us)) ≡ joined (v ∷ us) ∷ []
 piece_whole [] us h = absurd (omega (arith, h.0))
 piece_whole (b ∷ v) us h = refl
 
@@ -387,7 +387,7 @@ skipped_seen u us off = read_once at_start (u ∷ us) ∙ rw off (behind_none _)
 abbrev FirstRead : Units → Type 0
 FirstRead us = (at : ℕ) → AreUnits us → finished (at + length (joined us)) (units_read at_start us) ≡ rest_read at_start (at + length (before_sequence us)) (grouped Before [] us)
 
-sequence_goes : (value : ℕ) → nat_eq value 0xB3 ≡ true → is_end value ≡ false
+pub sequence_goes : (value : ℕ) → nat_eq value 0xB3 ≡ true → is_end value ≡ false
 unfolding is_end
 sequence_goes value on = let e = eqb-true value 0xB3 on in rw e refl
 

@@ -53,7 +53,7 @@ pub known_at : (st : State) (us : Units) → IsKnown st → KnownAt st us
 known_at st [] k = k
 known_at st (u ∷ us) k = rw k refl
 
-known_after : (st : State) (p : Part) → IsKnown st → IsKnown (after st p)
+pub known_after : (st : State) (p : Part) → IsKnown st → IsKnown (after st p)
 unfolding after
 known_after st (sequence s) k = refl
 known_after st (group g) k = k
@@ -299,11 +299,11 @@ later_goes st start value u x t rest off e =
       ]
     ]
 
-sequence_known : (st : State) (start : ℕ) (u : List ℕ) (x : Bool × Part) (t rest : Units) → (onward (sequence_unit st start u)).Stands x t rest → IsKnown (after st x.1)
+pub sequence_known : (st : State) (start : ℕ) (u : List ℕ) (x : Bool × Part) (t rest : Units) → (onward (sequence_unit st start u)).Stands x t rest → IsKnown (after st x.1)
 unfolding onward sequence_unit seq done after
 sequence_known st start u x t rest e = subst (λ (p : Part). IsKnown (after st p)) (sym (ap (λ (y : Bool × Part). y.1) e.3.0 ∙ e.2.3.3.3.3.3.3.3.0)) refl
 
-known_goes : (st : State) (start : ℕ) (u : List ℕ) (x : Bool × Part) (t rest : Units) → is_end (value_of u) ≡ false → KnownBy st u → (known_unit st start (value_of u) u).Stands x t rest → (x.0 ≡ true) × IsKnown (after st x.1)
+pub known_goes : (st : State) (start : ℕ) (u : List ℕ) (x : Bool × Part) (t rest : Units) → is_end (value_of u) ≡ false → KnownBy st u → (known_unit st start (value_of u) u).Stands x t rest → (x.0 ≡ true) × IsKnown (after st x.1)
 unfolding known_unit choose
 known_goes st start u x t rest off k e =
     elim e [

@@ -14,7 +14,7 @@ use Rattle.m2v_model.specs.Streams.{Part, Sofar, Among, value_of, close, no_seco
 use Rattle.m2v_model.proofs.UnitLaws.{unit_lawful, inside_lawful}
 use Rattle.m2v_model.proofs.LookLaws.{looking_lawful, refuse_lawful}
 use Rattle.m2v_model.proofs.SliceLaws.{slice_lawful}
-use Rattle.m2v_model.proofs.HeaderLaws.{whole_lawful, sequence_lawful, sequence_extension_lawful, group_lawful, picture_lawful, picture_extension_lawful, matrices_lawful}
+use Rattle.m2v_model.proofs.HeaderLaws.{whole_header_lawful, sequence_lawful, sequence_extension_lawful, group_lawful, picture_lawful, picture_extension_lawful, matrices_lawful}
 
 -- ---- units
 
@@ -22,9 +22,9 @@ close_lawful : (st : State) (start : ℕ) → Lawful length (close st start)
 unfolding close
 close_lawful st start = rule_lawful length _ MissingMacroblocks start
 
-settled_lawful : (st : State) (start : ℕ) → Lawful length (no_second_field_due st start)
+due_lawful : (st : State) (start : ℕ) → Lawful length (no_second_field_due st start)
 unfolding no_second_field_due
-settled_lawful st start = rule_lawful length _ FieldPair start
+due_lawful st start = rule_lawful length _ FieldPair start
 
 id_lawful : (u : List ℕ) → Lawful length (id_at u)
 unfolding id_at
@@ -46,11 +46,11 @@ pub sequence_unit_lawful : (st : State) (start : ℕ) (u : List ℕ) → Lawful 
 unfolding sequence_unit
 sequence_unit_lawful st start u =
     seq_lawful (close_lawful st start) (λ closed.
-    seq_lawful (settled_lawful st start) (λ paired.
-    seq_lawful (inside_lawful u (whole_lawful sequence_lawful)) (λ info.
+    seq_lawful (due_lawful st start) (λ paired.
+    seq_lawful (inside_lawful u (whole_header_lawful sequence_lawful)) (λ info.
     seq_lawful (here_lawful length unit_bits) (λ next.
     seq_lawful unit_lawful (λ v.
-    seq_lawful (extension_behind_lawful 1 v next (whole_lawful (sequence_extension_lawful info))) (λ extension.
+    seq_lawful (extension_behind_lawful 1 v next (whole_header_lawful (sequence_extension_lawful info))) (λ extension.
     seq_lawful (rule_lawful length _ SequenceChanged start) (λ same.
     done_lawful length _)))))))
 
@@ -58,18 +58,18 @@ pub group_unit_lawful : (st : State) (start : ℕ) (u : List ℕ) → Lawful len
 unfolding group_unit
 group_unit_lawful st start u =
     seq_lawful (close_lawful st start) (λ closed.
-    seq_lawful (settled_lawful st start) (λ paired.
-    seq_lawful (inside_lawful u (whole_lawful group_lawful)) (λ g.
+    seq_lawful (due_lawful st start) (λ paired.
+    seq_lawful (inside_lawful u (whole_header_lawful group_lawful)) (λ g.
     done_lawful length _)))
 
 pub picture_unit_lawful : (st : State) (start : ℕ) (u : List ℕ) → Lawful length (picture_unit st start u)
 unfolding picture_unit
 picture_unit_lawful st start u =
     seq_lawful (close_lawful st start) (λ closed.
-    seq_lawful (inside_lawful u (whole_lawful picture_lawful)) (λ info.
+    seq_lawful (inside_lawful u (whole_header_lawful picture_lawful)) (λ info.
     seq_lawful (here_lawful length unit_bits) (λ next.
     seq_lawful unit_lawful (λ v.
-    seq_lawful (extension_behind_lawful 8 v next (whole_lawful (picture_extension_lawful _ info))) (λ extension.
+    seq_lawful (extension_behind_lawful 8 v next (whole_header_lawful (picture_extension_lawful _ info))) (λ extension.
     seq_lawful (rule_lawful length _ FieldPair start) (λ pair.
     seq_lawful (rule_lawful length _ MissingReference start) (λ anchor.
     done_lawful length _)))))))
@@ -78,7 +78,7 @@ matrix_unit_lawful : (st : State) (start : ℕ) (u : List ℕ) → Lawful length
 unfolding matrix_unit
 matrix_unit_lawful st start u =
     seq_lawful (rule_lawful length _ Forbidden start) (λ allowed.
-    seq_lawful (inside_lawful u (whole_lawful matrices_lawful)) (λ m.
+    seq_lawful (inside_lawful u (whole_header_lawful matrices_lawful)) (λ m.
     done_lawful length _))
 
 extension_unit_lawful : (st : State) (start : ℕ) (u : List ℕ) → Lawful length (extension_unit st start u)
@@ -104,7 +104,7 @@ slice_unit_lawful st None p row start u = refuse_lawful length SliceOrder start
 
 pub end_unit_lawful : (st : State) (start : ℕ) → Lawful length (end_unit st start)
 unfolding end_unit
-end_unit_lawful st start = seq_lawful (close_lawful st start) (λ closed. seq_lawful (settled_lawful st start) (λ paired. done_lawful length _))
+end_unit_lawful st start = seq_lawful (close_lawful st start) (λ closed. seq_lawful (due_lawful st start) (λ paired. done_lawful length _))
 
 pub onward_lawful : {s : Among Part} → Lawful length s → Lawful length (onward s)
 unfolding onward

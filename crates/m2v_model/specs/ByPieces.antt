@@ -1,12 +1,12 @@
 -- Reading piece by piece: each piece is read as a text of its own, from what the pieces before it left.
-use Rattle.std.specs.Prelude.{◌≡◌, ℕ, ◌+◌, ◌-◌, ◌*◌, Bool, cond, List, [], ◌∷◌, ◌++◌, length, Result, Ok, Err}
+use Rattle.std.specs.Prelude.{◌≡◌, ℕ, ◌+◌, ◌-◌, ◌*◌, ◌≤◌, Bool, cond, List, [], ◌∷◌, ◌++◌, length, Result, Ok, Err}
 use Rattle.m2v_model.specs.declared.fault.FaultKind.{FaultKind}
 use Rattle.m2v_model.specs.declared.fault.FaultKind.TheVariants.{FieldPair}
 use Rattle.m2v_model.specs.declared.state.State.{State}
 use Rattle.m2v_model.specs.Units.{Units, cut, unit_bits}
 use Rattle.m2v_model.specs.States.{at_first, none_waits}
 use Rattle.m2v_model.specs.Streams.{Part, Sofar, after, value_of, known_unit, text_end, units_from}
-use Rattle.m2v_model.specs.Pictures.{Events, Store, no_frames, store_after, events_from, store_from}
+use Rattle.m2v_model.specs.Pictures.{Events, Store, no_frames, store_after, events_from, store_from, pictures_in}
 use Rattle.m2v_model.specs.Pieces.{pieces, before_pieces}
 use Rattle.m2v_model.specs.Decoding.{Stream, FaultAt}
 
@@ -90,6 +90,22 @@ unfoldable pub text_read : List ℕ → Course
 text_read text =
     let at = length (before_pieces text) in
     continued (pieces_read at_start at (pieces text)) (λ last. end_read last (end_of at (pieces text)))
+
+-- so many pictures of a piece, and the pieces behind it: one, and of the last piece one at most
+abbrev pub IsOne : ℕ → List (List ℕ) → Type 0
+IsOne n [] = n ≤ 1
+IsOne n (p ∷ later) = n ≡ 1
+
+-- pieces that are read one after another each tell one picture, and the last one at most one
+abbrev pub TellInTurn : Between → ℕ → List (List ℕ) → Type 0
+TellInTurn b at [] = Unit {0}
+TellInTurn b at (p ∷ ps) =
+    (es : Events) (next : Between) → piece_read b (at + length p) p ≡ Ok (es, next)
+    → IsOne (length (pictures_in es)) ps × TellInTurn next (at + length p) ps
+
+-- piece i of a text has picture i
+abbrev pub TellsPictures : List ℕ → Type 0
+TellsPictures text = TellInTurn at_start (length (before_pieces text)) (pieces text)
 
 -- the text is a stream without a fault: what it tells, and what stands behind it
 pub record IsRead (text : List ℕ) (es : Events) (b : Between) : Type 0 where
