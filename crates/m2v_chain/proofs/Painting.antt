@@ -1,35 +1,55 @@
--- One macroblock more of a plane, and all of them.
-use Rattle.std.proofs.Common.{◌≡◌, ℕ, suc, ◌+◌, ◌*◌, ◌/◌, ◌%◌, ◌<◌, true, false, cond, List, length, get_or, inl, inr, sym, ap, ◌∙◌, arith, mul_comm}
+-- One macroblock more of a plane and of a frame, and all of them.
+use Rattle.std.proofs.Common.{◌≡◌, ℕ, suc, ◌+◌, ◌*◌, ◌/◌, ◌%◌, ◌<◌, Bool, true, false, cond, List, length, get_or, inl, inr, refl, sym, ap, subst, ◌∙◌, arith, mul_comm}
 use Rattle.std.specs.Prelude.{nat_eq, ◌&&◌}
-use Rattle.std.proofs.lemmas.Bool.{cases_Bool, cases_eq, and_parts, and_from, eqb-true, eq-eqb}
+use Rattle.std.proofs.lemmas.Bool.{cases_eq, and_parts, and_from, eqb-true, eq-eqb}
+use Rattle.std.proofs.lemmas.List.{length-replicate}
 use Rattle.std.proofs.lemmas.Nat.{div-mul-add, mod-mul-add}
 use Rattle.std.proofs.Math.Nat.{div-lt_iff_lt-mul}
-use Rattle.m2v_plane.specs.Samples.{plane_by}
+use Rattle.m2v_plane.specs.declared.dims.Dims.{Dims}
+use Rattle.m2v_plane.specs.declared.planes.Plane.{Plane}
+use Rattle.m2v_plane.specs.declared.planes.Plane.TheVariants.{Y, Cb, Cr}
+use Rattle.m2v_plane.specs.declared.planes.Lines.{Lines}
+use Rattle.m2v_plane.specs.declared.planes.Lines.TheVariants.{Whole, Top, Bottom}
+use Rattle.m2v_plane.specs.Sizes.{side}
+use Rattle.m2v_plane.specs.Samples.{Samples, plane_by, is_among, number_among, plane_with_square, blank}
 use Rattle.m2v_plane.proofs.Places.{plane_is, line_fits}
 use Rattle.m2v_plane.proofs.RawVideo.{length-plane_by, plane_at}
-use Rattle.m2v_recon.specs.Macro.{plane_with}
-use Rattle.m2v_chain.specs.Painting.{HasPart}
+use Rattle.m2v_pred.specs.declared.mode.MbPlace.{MbPlace}
+use Rattle.m2v_pred.specs.Motion.{own_lines}
+use Rattle.m2v_model.specs.Samples.{with_squares, put_in_frame}
+use Rattle.m2v_chain.specs.Painting.{HasPart, IsPainted, frame_by}
+
+-- ---- planes
 
 pub in_columns : (side columns c : ℕ) → 0 < side → c < side * columns → c / side < columns
 in_columns side columns c some lt = (div-lt_iff_lt-mul some).1 (omega (arith, mul_comm side columns))
 
+-- what is true of both ways of a test is true of what it picks
+picked : (a b : Bool) (x y z : ℕ) → a ≡ true → (b ≡ true → x ≡ z) → (b ≡ false → y ≡ z) → cond (a && b) x y ≡ z
+picked true true x y z e h g = h refl
+picked true false x y z e h g = g refl
+picked false b x y z e h g = absurd cc
+
+-- what doesn't lie on these lines stays
+passed : (a b : Bool) (x y z : ℕ) → a ≡ false → y ≡ z → cond (a && b) x y ≡ z
+passed true b x y z e h = absurd cc
+passed false b x y z e h = h
+
 -- one macroblock more
-pub part_more : (side rows columns row column : ℕ) (f new : ℕ → ℕ → ℕ) (xs : List ℕ) → 0 < side → column < columns → HasPart side rows columns (row * columns + column) f xs
-    → ((r c : ℕ) → r / side ≡ row → c / side ≡ column → new (r % side) (c % side) ≡ f r c)
-    → HasPart side rows columns (row * columns + suc column) f (plane_with (side * rows) (side * columns) side row column new xs)
-unfolding plane_with
-part_more side rows columns row column f new xs some small h same =
-    let at = λ (line c : ℕ). cond (nat_eq (line / side) row && nat_eq (c / side) column) (new (line % side) (c % side)) (get_or xs (line * (side * columns) + c) 0) in
+pub part_more : (which : Lines) (side rows columns row column : ℕ) (f new : ℕ → ℕ → ℕ) (xs : List ℕ) → 0 < side → column < columns → HasPart which side rows columns (row * columns + column) f xs
+    → ((r c : ℕ) → is_among which r ≡ true → number_among which r / side ≡ row → c / side ≡ column → new (number_among which r % side) (c % side) ≡ f r c)
+    → HasPart which side rows columns (row * columns + suc column) f (plane_with_square (side * rows) (side * columns) side which row column new xs)
+unfolding plane_with_square
+part_more which side rows columns row column f new xs some small h same =
+    let at = λ (line c : ℕ).
+    cond (is_among which line && (nat_eq (number_among which line / side) row && nat_eq (c / side) column)) (new (number_among which line % side) (c % side)) (get_or xs (line * (side * columns) + c) 0) in
     record {
       len = length-plane_by (side * rows) (side * columns) at;
-      part = λ r c lr lc below. plane_at (side * rows) (side * columns) at r c lr lc ∙ elim (cases_Bool (nat_eq (r / side) row && nat_eq (c / side) column)) [
-        | inl here ↦
-            let p = and_parts (nat_eq (r / side) row) (nat_eq (c / side) column) here in
-            rw here (same r c (eqb-true (r / side) row p.0) (eqb-true (c / side) column p.1))
-        | inr other ↦
-            let across : c / side < columns = in_columns side columns c some lc in
-            rw other (h.part r c lr lc (before (r / side) (c / side) across below other))
-      ];
+      part = λ r c lr lc among below.
+          let n = number_among which r / side in
+          plane_at (side * rows) (side * columns) at r c lr lc ∙ picked (is_among which r) (nat_eq n row && nat_eq (c / side) column) _ _ _ among
+          (λ here. let p = and_parts (nat_eq n row) (nat_eq (c / side) column) here in same r c among (eqb-true n row p.0) (eqb-true (c / side) column p.1))
+          (λ other. h.part r c lr lc among (before n (c / side) (in_columns side columns c some lc) below other));
     }
   where
     -- another macroblock is one before
@@ -43,13 +63,93 @@ part_more side rows columns row column f new xs some small h same =
       | inr other_one ↦ omega arith
     ]
 
+-- a macroblock of other lines changes nothing of these
+pub part_kept : (which others : Lines) (side rows columns count row column : ℕ) (f new : ℕ → ℕ → ℕ) (xs : List ℕ) → HasPart which side rows columns count f xs
+    → ((r : ℕ) → is_among which r ≡ true → is_among others r ≡ false)
+    → HasPart which side rows columns count f (plane_with_square (side * rows) (side * columns) side others row column new xs)
+unfolding plane_with_square
+part_kept which others side rows columns count row column f new xs h apart =
+    let at = λ (line c : ℕ).
+    cond (is_among others line && (nat_eq (number_among others line / side) row && nat_eq (c / side) column)) (new (number_among others line % side) (c % side)) (get_or xs (line * (side * columns) + c) 0) in
+    record {
+      len = length-plane_by (side * rows) (side * columns) at;
+      part = λ r c lr lc among below.
+          plane_at (side * rows) (side * columns) at r c lr lc ∙ passed (is_among others r) _ _ _ _ (apart r among) (h.part r c lr lc among below);
+    }
+
 -- all macroblocks
-pub part_all : (side rows columns : ℕ) (f : ℕ → ℕ → ℕ) (xs : List ℕ) → 0 < side → HasPart side rows columns (rows * columns) f xs → xs ≡ plane_by (side * rows) (side * columns) f
+pub part_all : (side rows columns : ℕ) (f : ℕ → ℕ → ℕ) (xs : List ℕ) → 0 < side → HasPart Whole side rows columns (rows * columns) f xs → xs ≡ plane_by (side * rows) (side * columns) f
 part_all side rows columns f xs some h =
     plane_is xs (side * rows) (side * columns) f h.len (λ r c lr lc.
     let down : r / side < rows = in_columns side rows r some lr in
     let across : c / side < columns = in_columns side columns c some lc in
-    h.part r c lr lc (omega (arith, line_fits (r / side) rows columns (c / side + 1) down (omega arith))))
+    h.part r c lr lc refl (omega (arith, line_fits (r / side) rows columns (c / side + 1) down (omega arith))))
 
-pub part_none : (side rows columns : ℕ) (f : ℕ → ℕ → ℕ) (xs : List ℕ) → length xs ≡ (side * rows) * (side * columns) → HasPart side rows columns 0 f xs
-part_none side rows columns f xs len = record { len = len; part = λ r c lr lc below. absurd (omega arith) }
+-- the macroblocks of both fields, each of half as many rows
+pub fields_all : (side half columns : ℕ) (f : ℕ → ℕ → ℕ) (xs : List ℕ) → 0 < side
+    → HasPart Top side (2 * half) columns (half * columns) f xs → HasPart Bottom side (2 * half) columns (half * columns) f xs → xs ≡ plane_by (side * (2 * half)) (side * columns) f
+fields_all side half columns f xs some top bottom =
+    let twice : side * (2 * half) ≡ 2 * (side * half) = omega arith in
+    plane_is xs (side * (2 * half)) (side * columns) f top.len (λ r c lr lc.
+    let down : r / 2 / side < half = in_columns side half (r / 2) some (omega (arith, twice)) in
+    let across : c / side < columns = in_columns side columns c some lc in
+    let below = line_fits (r / 2 / side) half columns (c / side + 1) down (omega arith) in
+    elim (cases_eq (r % 2) 0) [
+      | inl even ↦ top.part r c lr lc (eq-eqb (r % 2) 0 even) (omega (arith, below))
+      | inr odd ↦ bottom.part r c lr lc (eq-eqb (r % 2) 1 (omega arith)) (omega (arith, below))
+    ])
+
+pub part_none : (which : Lines) (side rows columns : ℕ) (f : ℕ → ℕ → ℕ) (xs : List ℕ) → length xs ≡ (side * rows) * (side * columns) → HasPart which side rows columns 0 f xs
+part_none which side rows columns f xs len = record { len = len; part = λ r c lr lc among below. absurd (omega arith) }
+
+-- ---- frames
+
+-- before the first macroblock
+pub blank_painted : (which : Lines) (d : Dims) (at : Plane → ℕ → ℕ → ℕ) → IsPainted which d 0 at (blank d d.mb_rows)
+blank_painted which d at = record {
+  dims = refl;
+  luma = part_none which 16 d.mb_rows d.mb_width (at Y) _ (length-replicate (16 * d.mb_rows * (16 * d.mb_width)) 0);
+  cb = part_none which 8 d.mb_rows d.mb_width (at Cb) _ (length-replicate (8 * d.mb_rows * (8 * d.mb_width)) 0);
+  cr = part_none which 8 d.mb_rows d.mb_width (at Cr) _ (length-replicate (8 * d.mb_rows * (8 * d.mb_width)) 0);
+}
+
+-- the new samples of a macroblock are those of the frame
+abbrev pub AreOf : Lines → ℕ → ℕ → (Plane → ℕ → ℕ → ℕ) → (Plane → ℕ → ℕ → ℕ) → Type 0
+AreOf which row column new at =
+    (plane : Plane) (r c : ℕ) → is_among which r ≡ true → number_among which r / side plane ≡ row → c / side plane ≡ column
+    → new plane (number_among which r % side plane) (c % side plane) ≡ at plane r c
+
+squares_more : (which : Lines) (d : Dims) (row column : ℕ) (at new : Plane → ℕ → ℕ → ℕ) (now : Samples) → column < d.mb_width → IsPainted which d (row * d.mb_width + column) at now → AreOf which row column new at
+    → IsPainted which d (row * d.mb_width + suc column) at (with_squares now.dims.mb_rows which row column new now)
+squares_more which d row column at new now lt h same =
+    let count = row * d.mb_width + suc column in
+    record {
+      dims = h.dims;
+      luma = subst (λ (e : Dims). HasPart which 16 d.mb_rows d.mb_width count (at Y) (plane_with_square (16 * e.mb_rows) (16 * e.mb_width) 16 which row column (new Y) now.luma)) (sym h.dims)
+          (part_more which 16 d.mb_rows d.mb_width row column (at Y) (new Y) now.luma (omega arith) lt h.luma (same Y));
+      cb = subst (λ (e : Dims). HasPart which 8 d.mb_rows d.mb_width count (at Cb) (plane_with_square (8 * e.mb_rows) (8 * e.mb_width) 8 which row column (new Cb) now.cb)) (sym h.dims)
+          (part_more which 8 d.mb_rows d.mb_width row column (at Cb) (new Cb) now.cb (omega arith) lt h.cb (same Cb));
+      cr = subst (λ (e : Dims). HasPart which 8 d.mb_rows d.mb_width count (at Cr) (plane_with_square (8 * e.mb_rows) (8 * e.mb_width) 8 which row column (new Cr) now.cr)) (sym h.dims)
+          (part_more which 8 d.mb_rows d.mb_width row column (at Cr) (new Cr) now.cr (omega arith) lt h.cr (same Cr));
+    }
+
+-- a frame with the macroblock at a place, behind all those before it
+pub put_more : (d : Dims) (place : MbPlace) (at new : Plane → ℕ → ℕ → ℕ) (now : Samples) → place.column < d.mb_width
+    → IsPainted (own_lines place.structure) d (place.row * d.mb_width + place.column) at now
+    → AreOf (own_lines place.structure) place.row place.column new at
+    → IsPainted (own_lines place.structure) d (place.row * d.mb_width + suc place.column) at (put_in_frame place new now)
+put_more d place at new now = squares_more (own_lines place.structure) d place.row place.column at new now
+
+abbrev samples_of : Dims → List ℕ → List ℕ → List ℕ → Samples
+samples_of d luma cb cr = record { dims = d; luma = luma; cb = cb; cr = cr }
+
+samples_same : (d e : Dims) (a b c p q r : List ℕ) → d ≡ e → a ≡ p → b ≡ q → c ≡ r → samples_of d a b c ≡ samples_of e p q r
+samples_same d e a b c p q r x y z w = λ i. samples_of (x i) (y i) (z i) (w i)
+
+-- a frame that has them all
+pub frame_all : (d : Dims) (at : Plane → ℕ → ℕ → ℕ) (now : Samples) → IsPainted Whole d (d.mb_rows * d.mb_width) at now → now ≡ frame_by d at
+frame_all d at now h =
+    samples_same now.dims d now.luma now.cb now.cr _ _ _ h.dims
+    (part_all 16 d.mb_rows d.mb_width (at Y) now.luma (omega arith) h.luma)
+    (part_all 8 d.mb_rows d.mb_width (at Cb) now.cb (omega arith) h.cb)
+    (part_all 8 d.mb_rows d.mb_width (at Cr) now.cr (omega arith) h.cr)

@@ -1,6 +1,7 @@
 ghost use Rattle.std.specs.Prelude.{◌≡◌, ℕ, ◌*◌, ◌<◌, [], ◌++◌, List, Bool};
 ghost use Rattle.m2v_bits.specs.Bits.{packed};
 ghost use Rattle.m2v_bits.specs.Syntax.{Rounds};
+ghost use Rattle.m2v_plane.specs.declared.planes.Lines.TheVariants.{Whole, Top, Bottom};
 ghost use Rattle.m2v_plane.specs.Samples.{plane_by};
 ghost use Rattle.m2v_model.specs.declared.state.State.{State};
 ghost use Rattle.m2v_model.specs.Units.{Units, Cuts};
@@ -25,5 +26,13 @@ pub fn law_chained()
 /// A plane in which all macroblocks have their samples is the plane of these samples.
 pub fn law_painted()
     ensures { (side rows columns : ℕ) (f : ℕ → ℕ → ℕ) (xs : List ℕ) → 0 < side
-        → HasPart side rows columns (rows * columns) f xs → xs ≡ plane_by (side * rows) (side * columns) f }
+        → HasPart Whole side rows columns (rows * columns) f xs → xs ≡ plane_by (side * rows) (side * columns) f }
+{}
+
+/// A plane in which all macroblocks of both fields have their samples is the plane of these samples: each field has half
+/// as many macroblock rows.
+pub fn law_fields_painted()
+    ensures { (side half columns : ℕ) (f : ℕ → ℕ → ℕ) (xs : List ℕ) → 0 < side
+        → HasPart Top side (2 * half) columns (half * columns) f xs → HasPart Bottom side (2 * half) columns (half * columns) f xs
+        → xs ≡ plane_by (side * (2 * half)) (side * columns) f }
 {}

@@ -4,4 +4,4 @@
 
 mod laws;
 
-pub use laws::{law_chained, law_cut, law_painted};
+pub use laws::{law_chained, law_cut, law_fields_painted, law_painted};
