@@ -1,10 +1,11 @@
 -- One macroblock more of a plane and of a frame, and all of them.
-use Rattle.std.proofs.Common.{◌≡◌, ℕ, suc, ◌+◌, ◌*◌, ◌/◌, ◌%◌, ◌<◌, Bool, true, false, cond, List, length, get_or, inl, inr, refl, sym, ap, subst, ◌∙◌, arith, mul_comm}
-use Rattle.std.specs.Prelude.{nat_eq, ◌&&◌}
+use Rattle.std.proofs.Common.{◌≡◌, ℕ, zero, suc, ◌+◌, ◌*◌, ◌/◌, ◌%◌, ◌<◌, Bool, true, false, cond, List, [], ◌∷◌, length, get_or, inl, inr, refl, sym, ap, subst, ◌∙◌, arith, mul_comm}
+use Rattle.std.specs.Prelude.{nat_eq, nat_abs, ◌&&◌}
+use Rattle.std.proofs.lemmas.Int.{ints}
 use Rattle.std.proofs.lemmas.Bool.{cases_eq, and_parts, and_from, eqb-true, eq-eqb}
 use Rattle.std.proofs.lemmas.List.{length-replicate}
-use Rattle.std.proofs.lemmas.Nat.{div-mul-add, mod-mul-add}
-use Rattle.std.proofs.Math.Nat.{div-lt_iff_lt-mul}
+use Rattle.std.proofs.lemmas.Nat.{div-mul-add, mod-mul-add, mod_below}
+use Rattle.std.proofs.Math.Nat.{div-lt_iff_lt-mul, div-add-mod}
 use Rattle.m2v_plane.specs.declared.dims.Dims.{Dims}
 use Rattle.m2v_plane.specs.declared.planes.Plane.{Plane}
 use Rattle.m2v_plane.specs.declared.planes.Plane.TheVariants.{Y, Cb, Cr}
@@ -16,8 +17,14 @@ use Rattle.m2v_plane.proofs.Places.{plane_is, line_fits}
 use Rattle.m2v_plane.proofs.RawVideo.{length-plane_by, plane_at}
 use Rattle.m2v_pred.specs.declared.mode.MbPlace.{MbPlace}
 use Rattle.m2v_pred.specs.Motion.{own_lines}
-use Rattle.m2v_model.specs.Samples.{with_squares, put_in_frame}
-use Rattle.m2v_chain.specs.Painting.{HasPart, IsPainted, frame_by}
+use Rattle.m2v_macro.specs.declared.values.SliceState.{SliceState}
+use Rattle.m2v_macro.specs.declared.values.PictureContext.{PictureContext}
+use Rattle.m2v_macro.specs.States.{after}
+use Rattle.m2v_macroblock.specs.Macroblocks.{Macroblock, after_macroblock}
+use Rattle.m2v_macroblock.specs.Modes.{place_of, address_of, skipped_before, first_skipped}
+use Rattle.m2v_model.specs.declared.setup.SliceSetup.{SliceSetup}
+use Rattle.m2v_model.specs.Samples.{References, with_squares, put_in_frame, skipped_painted, own_painted, painted, all_painted}
+use Rattle.m2v_chain.specs.Painting.{HasPart, IsPainted, frame_by, lines_in, LiesIn, skipped_sample, own_sample, Paints, AllPaint, state_behind}
 
 -- ---- planes
 
@@ -113,13 +120,8 @@ blank_painted which d at = record {
   cr = part_none which 8 d.mb_rows d.mb_width (at Cr) _ (length-replicate (8 * d.mb_rows * (8 * d.mb_width)) 0);
 }
 
--- the new samples of a macroblock are those of the frame
-abbrev pub AreOf : Lines → ℕ → ℕ → (Plane → ℕ → ℕ → ℕ) → (Plane → ℕ → ℕ → ℕ) → Type 0
-AreOf which row column new at =
-    (plane : Plane) (r c : ℕ) → is_among which r ≡ true → number_among which r / side plane ≡ row → c / side plane ≡ column
-    → new plane (number_among which r % side plane) (c % side plane) ≡ at plane r c
-
-squares_more : (which : Lines) (d : Dims) (row column : ℕ) (at new : Plane → ℕ → ℕ → ℕ) (now : Samples) → column < d.mb_width → IsPainted which d (row * d.mb_width + column) at now → AreOf which row column new at
+squares_more : (which : Lines) (d : Dims) (row column : ℕ) (at new : Plane → ℕ → ℕ → ℕ) (now : Samples) → column < d.mb_width → IsPainted which d (row * d.mb_width + column) at now
+    → ((plane : Plane) (r c : ℕ) → is_among which r ≡ true → number_among which r / side plane ≡ row → c / side plane ≡ column → new plane (number_among which r % side plane) (c % side plane) ≡ at plane r c)
     → IsPainted which d (row * d.mb_width + suc column) at (with_squares now.dims.mb_rows which row column new now)
 squares_more which d row column at new now lt h same =
     let count = row * d.mb_width + suc column in
@@ -133,12 +135,33 @@ squares_more which d row column at new now lt h same =
           (part_more which 8 d.mb_rows d.mb_width row column (at Cr) (new Cr) now.cr (omega arith) lt h.cr (same Cr));
     }
 
--- a frame with the macroblock at a place, behind all those before it
-pub put_more : (d : Dims) (place : MbPlace) (at new : Plane → ℕ → ℕ → ℕ) (now : Samples) → place.column < d.mb_width
-    → IsPainted (own_lines place.structure) d (place.row * d.mb_width + place.column) at now
-    → AreOf (own_lines place.structure) place.row place.column new at
-    → IsPainted (own_lines place.structure) d (place.row * d.mb_width + suc place.column) at (put_in_frame place new now)
-put_more d place at new now = squares_more (own_lines place.structure) d place.row place.column at new now
+-- a frame with the macroblock at an address, behind all those before it
+pub put_more : (c : PictureContext) (d : Dims) (address : ℕ) (at new : Plane → ℕ → ℕ → ℕ) (now : Samples) → 0 < d.mb_width → c.columns ≡ d.mb_width → IsPainted (lines_in c) d address at now → LiesIn c address new at
+    → IsPainted (lines_in c) d (suc address) at (put_in_frame (place_of c address) new now)
+put_more c d address at new now some same h lies =
+    let row = address / c.columns in
+    let column = address % c.columns in
+    let below : column < c.columns = mod_below address c.columns (omega (arith, same)) in
+    let place : row * d.mb_width + column ≡ address = ap (λ (n : ℕ). row * n + column) (sym same) ∙ omega (arith, mul_comm row c.columns, div-add-mod address c.columns) in
+    let next : row * d.mb_width + suc column ≡ suc address = omega (arith, place) in
+    subst (λ (k : ℕ). IsPainted (lines_in c) d k at (put_in_frame (place_of c address) new now)) next
+    (squares_more (lines_in c) d row column at new now (omega (arith, same)) (subst (λ (k : ℕ). IsPainted (lines_in c) d k at now) (sym place) h) lies)
+
+-- a macroblock of other lines changes nothing of these
+pub put_kept : (which : Lines) (d : Dims) (count : ℕ) (place : MbPlace) (at new : Plane → ℕ → ℕ → ℕ) (now : Samples) → IsPainted which d count at now
+    → ((r : ℕ) → is_among which r ≡ true → is_among (own_lines place.structure) r ≡ false)
+    → IsPainted which d count at (put_in_frame place new now)
+put_kept which d count place at new now h apart =
+    let others = own_lines place.structure in
+    record {
+      dims = h.dims;
+      luma = subst (λ (e : Dims). HasPart which 16 d.mb_rows d.mb_width count (at Y) (plane_with_square (16 * e.mb_rows) (16 * e.mb_width) 16 others place.row place.column (new Y) now.luma)) (sym h.dims)
+          (part_kept which others 16 d.mb_rows d.mb_width count place.row place.column (at Y) (new Y) now.luma h.luma apart);
+      cb = subst (λ (e : Dims). HasPart which 8 d.mb_rows d.mb_width count (at Cb) (plane_with_square (8 * e.mb_rows) (8 * e.mb_width) 8 others place.row place.column (new Cb) now.cb)) (sym h.dims)
+          (part_kept which others 8 d.mb_rows d.mb_width count place.row place.column (at Cb) (new Cb) now.cb h.cb apart);
+      cr = subst (λ (e : Dims). HasPart which 8 d.mb_rows d.mb_width count (at Cr) (plane_with_square (8 * e.mb_rows) (8 * e.mb_width) 8 others place.row place.column (new Cr) now.cr)) (sym h.dims)
+          (part_kept which others 8 d.mb_rows d.mb_width count place.row place.column (at Cr) (new Cr) now.cr h.cr apart);
+    }
 
 abbrev samples_of : Dims → List ℕ → List ℕ → List ℕ → Samples
 samples_of d luma cb cr = record { dims = d; luma = luma; cb = cb; cr = cr }
@@ -153,3 +176,87 @@ frame_all d at now h =
     (part_all 16 d.mb_rows d.mb_width (at Y) now.luma (omega arith) h.luma)
     (part_all 8 d.mb_rows d.mb_width (at Cb) now.cb (omega arith) h.cb)
     (part_all 8 d.mb_rows d.mb_width (at Cr) now.cr (omega arith) h.cr)
+
+-- a frame both of whose fields have them all
+pub frame_fields : (d : Dims) (half : ℕ) (at : Plane → ℕ → ℕ → ℕ) (now : Samples) → d.mb_rows ≡ 2 * half → IsPainted Top d (half * d.mb_width) at now → IsPainted Bottom d (half * d.mb_width) at now → now ≡ frame_by d at
+frame_fields d half at now two top bottom =
+    let count = half * d.mb_width in
+    let plane : (side : ℕ) (f : ℕ → ℕ → ℕ) (xs : List ℕ) → 0 < side → HasPart Top side d.mb_rows d.mb_width count f xs → HasPart Bottom side d.mb_rows d.mb_width count f xs → xs ≡ plane_by (side * d.mb_rows) (side * d.mb_width) f =
+    λ side f xs some t b.
+    fields_all side half d.mb_width f xs some (subst (λ (n : ℕ). HasPart Top side n d.mb_width count f xs) two t) (subst (λ (n : ℕ). HasPart Bottom side n d.mb_width count f xs) two b)
+    ∙ ap (λ (n : ℕ). plane_by (side * n) (side * d.mb_width) f) (sym two) in
+    samples_same now.dims d now.luma now.cb now.cr _ _ _ top.dims
+    (plane 16 (at Y) now.luma (omega arith) top.luma bottom.luma)
+    (plane 8 (at Cb) now.cb (omega arith) top.cb bottom.cb)
+    (plane 8 (at Cr) now.cr (omega arith) top.cr bottom.cr)
+
+-- ---- macroblocks
+
+skipped_more : (s : SliceSetup) (refs : References) (st : SliceState) (d : Dims) (at : Plane → ℕ → ℕ → ℕ) (n address : ℕ) (now : Samples) → 0 < d.mb_width → s.context.columns ≡ d.mb_width
+    → ((k : ℕ) → k < n → LiesIn s.context (address + k) (skipped_sample s refs st (address + k)) at)
+    → IsPainted (lines_in s.context) d address at now
+    → IsPainted (lines_in s.context) d (address + n) at (skipped_painted put_in_frame s refs st address n now)
+unfolding skipped_painted
+skipped_more s refs st d at zero address now some same lie h =
+    let here : address ≡ address + 0 = omega arith in
+    subst (λ (k : ℕ). IsPainted (lines_in s.context) d k at now) here h
+skipped_more s refs st d at (suc n) address now some same lie h =
+    let new = skipped_sample s refs st in
+    let then = put_in_frame (place_of s.context address) (new address) now in
+    let here : address + 0 ≡ address = omega arith in
+    let next : suc address ≡ address + 1 = omega arith in
+    let end : address + 1 + n ≡ address + suc n = omega arith in
+    let one = put_more s.context d address at (new address) now some same h (subst (λ (a : ℕ). LiesIn s.context a (new a) at) here (lie 0 (omega arith))) in
+    subst (λ (k : ℕ). IsPainted (lines_in s.context) d k at (skipped_painted put_in_frame s refs st (address + 1) n then)) end
+    (skipped_more s refs st d at n (address + 1) then some same
+    (λ k lt.
+    let on : address + suc k ≡ address + 1 + k = omega arith in
+    subst (λ (a : ℕ). LiesIn s.context a (new a) at) on (lie (suc k) (omega arith)))
+    (subst (λ (k : ℕ). IsPainted (lines_in s.context) d k at then) next one))
+
+-- a macroblock, and those skipped before it
+painted_more : (s : SliceSetup) (refs : References) (st : SliceState) (x : Macroblock) (d : Dims) (at : Plane → ℕ → ℕ → ℕ) (now : Samples) → 0 < d.mb_width → s.context.columns ≡ d.mb_width → Paints s refs st x at
+    → IsPainted (lines_in s.context) d (first_skipped st) at now
+    → IsPainted (lines_in s.context) d (suc (address_of st x.syntax)) at (painted put_in_frame s refs st x now)
+unfolding painted own_painted
+painted_more s refs st x d at now some same paints h =
+    let before = skipped_painted put_in_frame s refs st (first_skipped st) (skipped_before st x.syntax) now in
+    let own : first_skipped st + skipped_before st x.syntax ≡ address_of st x.syntax = sym (ap nat_abs paints.follows) in
+    let then = skipped_more s refs st d at (skipped_before st x.syntax) (first_skipped st) now some same paints.skipped h in
+    put_more s.context d (address_of st x.syntax) at (own_sample s refs st x) before some same (subst (λ (k : ℕ). IsPainted (lines_in s.context) d k at before) own then) paints.own
+
+behind_one : (s : SliceSetup) (refs : References) (st : SliceState) (x : Macroblock) (at : Plane → ℕ → ℕ → ℕ) → Paints s refs st x at → suc (address_of st x.syntax) ≡ first_skipped (after_macroblock s.context st x)
+unfolding after_macroblock after
+behind_one s refs st x at paints = omega (arith, ints, paints.follows)
+
+-- macroblocks, one behind another
+pub all_more : (s : SliceSetup) (refs : References) (st : SliceState) (xs : List Macroblock) (d : Dims) (at : Plane → ℕ → ℕ → ℕ) (now : Samples) → 0 < d.mb_width → s.context.columns ≡ d.mb_width → AllPaint s refs st xs at
+    → IsPainted (lines_in s.context) d (first_skipped st) at now
+    → IsPainted (lines_in s.context) d (first_skipped (state_behind s.context st xs)) at (all_painted put_in_frame s refs st xs now)
+unfolding AllPaint state_behind all_painted
+all_more s refs st [] d at now some same paint h = h
+all_more s refs st (x ∷ xs) d at now some same paint h =
+    let then = painted put_in_frame s refs st x now in
+    all_more s refs (after_macroblock s.context st x) xs d at then some same paint.1
+    (subst (λ (k : ℕ). IsPainted (lines_in s.context) d k at then) (behind_one s refs st x at paint.0) (painted_more s refs st x d at now some same paint.0 h))
+
+-- macroblocks of other lines change nothing of these
+skipped_kept : (which : Lines) (d : Dims) (count : ℕ) (s : SliceSetup) (refs : References) (st : SliceState) (at : Plane → ℕ → ℕ → ℕ) (n address : ℕ) (now : Samples)
+    → ((r : ℕ) → is_among which r ≡ true → is_among (lines_in s.context) r ≡ false)
+    → IsPainted which d count at now → IsPainted which d count at (skipped_painted put_in_frame s refs st address n now)
+unfolding skipped_painted
+skipped_kept which d count s refs st at zero address now apart h = h
+skipped_kept which d count s refs st at (suc n) address now apart h =
+    let new = skipped_sample s refs st address in
+    skipped_kept which d count s refs st at n (address + 1) (put_in_frame (place_of s.context address) new now) apart (put_kept which d count (place_of s.context address) at new now h apart)
+
+pub all_kept : (which : Lines) (d : Dims) (count : ℕ) (s : SliceSetup) (refs : References) (st : SliceState) (xs : List Macroblock) (at : Plane → ℕ → ℕ → ℕ) (now : Samples)
+    → ((r : ℕ) → is_among which r ≡ true → is_among (lines_in s.context) r ≡ false)
+    → IsPainted which d count at now → IsPainted which d count at (all_painted put_in_frame s refs st xs now)
+unfolding all_painted painted own_painted
+all_kept which d count s refs st [] at now apart h = h
+all_kept which d count s refs st (x ∷ xs) at now apart h =
+    let before = skipped_painted put_in_frame s refs st (first_skipped st) (skipped_before st x.syntax) now in
+    all_kept which d count s refs (after_macroblock s.context st x) xs at (painted put_in_frame s refs st x now) apart
+    (put_kept which d count (place_of s.context (address_of st x.syntax)) at (own_sample s refs st x) before
+    (skipped_kept which d count s refs st at (skipped_before st x.syntax) (first_skipped st) now apart h) apart)

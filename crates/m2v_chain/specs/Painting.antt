@@ -1,10 +1,21 @@
 -- Frames that are painted macroblock by macroblock: all their lines, or those of one field.
-use Rattle.std.specs.Prelude.{◌≡◌, ℕ, ◌+◌, ◌*◌, ◌/◌, ◌<◌, true, List, length, get_or}
+use Rattle.std.specs.Prelude.{◌≡◌, ℕ, ◌+◌, ◌*◌, ◌/◌, ◌%◌, ◌<◌, true, List, [], ◌∷◌, length, get_or, pos}
 use Rattle.m2v_plane.specs.declared.dims.Dims.{Dims}
 use Rattle.m2v_plane.specs.declared.planes.Plane.{Plane}
 use Rattle.m2v_plane.specs.declared.planes.Plane.TheVariants.{Y, Cb, Cr}
 use Rattle.m2v_plane.specs.declared.planes.Lines.{Lines}
+use Rattle.m2v_plane.specs.Sizes.{side}
 use Rattle.m2v_plane.specs.Samples.{Samples, plane_by, is_among, number_among}
+use Rattle.m2v_pred.specs.Motion.{own_lines}
+use Rattle.m2v_pred.specs.Predicted.{predicted}
+use Rattle.m2v_macro.specs.declared.values.SliceState.{SliceState}
+use Rattle.m2v_macro.specs.declared.values.PictureContext.{PictureContext}
+use Rattle.m2v_macro.specs.States.{address}
+use Rattle.m2v_macroblock.specs.Macroblocks.{Macroblock, after_macroblock}
+use Rattle.m2v_macroblock.specs.Modes.{place_of, address_of, skipped_before, first_skipped, skipped_mode}
+use Rattle.m2v_macroblock.specs.Predictions.{prediction_of, sample_at}
+use Rattle.m2v_model.specs.declared.setup.SliceSetup.{SliceSetup}
+use Rattle.m2v_model.specs.Samples.{References}
 
 -- a plane of so many macroblock rows, of these lines of which the first macroblocks, in raster order, have their samples:
 -- those that stand at line and column of the plane
@@ -28,3 +39,40 @@ frame_by d at = record {
   cb = plane_by (8 * d.mb_rows) (8 * d.mb_width) (at Cb);
   cr = plane_by (8 * d.mb_rows) (8 * d.mb_width) (at Cr);
 }
+
+-- ---- macroblocks
+
+-- the lines of the frame that a picture has
+abbrev pub lines_in : PictureContext → Lines
+lines_in c = own_lines c.extension.structure
+
+-- the samples of the macroblock at an address are those of a frame, where it lies
+abbrev pub LiesIn : PictureContext → ℕ → (Plane → ℕ → ℕ → ℕ) → (Plane → ℕ → ℕ → ℕ) → Type 0
+LiesIn c address new at =
+    (plane : Plane) (line column : ℕ) → is_among (lines_in c) line ≡ true
+    → number_among (lines_in c) line / side plane ≡ (place_of c address).row → column / side plane ≡ (place_of c address).column
+    → new plane (number_among (lines_in c) line % side plane) (column % side plane) ≡ at plane line column
+
+-- the samples of a skipped macroblock at an address are its prediction
+abbrev pub skipped_sample : SliceSetup → References → SliceState → ℕ → Plane → ℕ → ℕ → ℕ
+skipped_sample s refs st address = predicted refs.forward refs.backward (skipped_mode s.context st) (place_of s.context address)
+
+-- and those of a macroblock that isn't skipped
+abbrev pub own_sample : SliceSetup → References → SliceState → Macroblock → Plane → ℕ → ℕ → ℕ
+own_sample s refs st x = sample_at s.context st (prediction_of refs.forward refs.backward s.context (place_of s.context (address_of st x.syntax)) x.syntax) x
+
+-- a macroblock and those skipped before it follow the one before them, and their samples are those of a frame
+pub record Paints (s : SliceSetup) (refs : References) (st : SliceState) (x : Macroblock) (at : Plane → ℕ → ℕ → ℕ) : Type 0 where
+  pub follows : address st x.syntax.increment ≡ pos (first_skipped st + skipped_before st x.syntax)
+  pub skipped : (k : ℕ) → k < skipped_before st x.syntax → LiesIn s.context (first_skipped st + k) (skipped_sample s refs st (first_skipped st + k)) at
+  pub own : LiesIn s.context (address_of st x.syntax) (own_sample s refs st x) at
+
+-- macroblocks, one behind another
+unfoldable pub AllPaint : SliceSetup → References → SliceState → List Macroblock → (Plane → ℕ → ℕ → ℕ) → Type 0
+AllPaint s refs st [] at = Unit {0}
+AllPaint s refs st (x ∷ xs) at = Paints s refs st x at × AllPaint s refs (after_macroblock s.context st x) xs at
+
+-- the state behind macroblocks
+unfoldable pub state_behind : PictureContext → SliceState → List Macroblock → SliceState
+state_behind c st [] = st
+state_behind c st (x ∷ xs) = state_behind c (after_macroblock c st x) xs

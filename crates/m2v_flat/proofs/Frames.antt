@@ -1,5 +1,5 @@
 -- The pictures of the flat stream's parts are the frames that it stands for, in decoding order.
-use Rattle.std.proofs.Common.{◌≡◌, ℕ, zero, suc, ◌+◌, ◌*◌, Bool, true, false, All, List, [], ◌∷◌, ◌++◌, map, Option, Some, None, refl, sym, ap, subst, ◌∙◌, arith, append_assoc}
+use Rattle.std.proofs.Common.{◌≡◌, ℕ, zero, suc, ◌+◌, ◌*◌, ◌<◌, Bool, true, false, All, List, [], ◌∷◌, ◌++◌, map, Option, Some, None, refl, sym, ap, subst, ◌∙◌, arith, append_assoc}
 use Rattle.std.proofs.lemmas.List.Elements.{All-nil, All-cons}
 use Rattle.m2v_macro.specs.declared.values.SliceState.{SliceState}
 use Rattle.m2v_plane.specs.declared.dims.Dims.{Dims}
@@ -28,16 +28,13 @@ use Rattle.m2v_flat.proofs.Orders.{IsAnchor, all_shown}
 
 -- ---- slices
 
-row_painted : (quantiser width : ℕ) (d : Dims) (refs : References) (source now : Samples) (row : ℕ) (q : SliceSetup) (start : SliceState) → source.dims.mb_width ≡ width → flat_setup width d ≡ q → state_before quantiser width source row 0 ≡ start
+row_painted : (quantiser width : ℕ) (d : Dims) (refs : References) (source now : Samples) (row : ℕ) (q : SliceSetup) (start : SliceState) → 0 < width → source.dims.mb_width ≡ width → flat_setup width d ≡ q → state_before quantiser width source row 0 ≡ start
     → HasSamples quantiser source (row * source.dims.mb_width) now
     → HasSamples quantiser source (suc row * source.dims.mb_width) (all_painted put_in_frame q refs start (flat_macroblocks source row 0 width) now)
-row_painted quantiser width d refs source now row q start ew eq es has =
+row_painted quantiser width d refs source now row q start some ew eq es has =
     let w = source.dims.mb_width in
-    let none : row * w ≡ row * w + 0 = omega arith in
-    let one : row * w + w ≡ suc row * w = omega arith in
-    let whole = subst (λ (k : ℕ). HasSamples quantiser source k (all_painted put_in_frame (flat_setup w d) refs (state_before quantiser w source row 0) (flat_macroblocks source row 0 w) now)) one
-    (row_has quantiser d refs source row w 0 now (omega arith) (subst (λ (k : ℕ). HasSamples quantiser source k now) none has)) in
-    let wide = subst (λ (n : ℕ). HasSamples quantiser source (suc row * w) (all_painted put_in_frame (flat_setup n d) refs (state_before quantiser n source row 0) (flat_macroblocks source row 0 n) now)) ew whole in
+    let wide = subst (λ (n : ℕ). HasSamples quantiser source (suc row * w) (all_painted put_in_frame (flat_setup n d) refs (state_before quantiser n source row 0) (flat_macroblocks source row 0 n) now)) ew
+    (row_has quantiser d refs source row now (omega (arith, ew)) has) in
     let known = subst (λ (x : SliceSetup). HasSamples quantiser source (suc row * w) (all_painted put_in_frame x refs (state_before quantiser width source row 0) (flat_macroblocks source row 0 width) now)) eq wide in
     subst (λ (x : SliceState). HasSamples quantiser source (suc row * w) (all_painted put_in_frame q refs x (flat_macroblocks source row 0 width) now)) es known
 
@@ -51,7 +48,7 @@ slice_has s anchors number row refs source now h same has =
     let q = slice_setup (state_in s anchors number row) (sequence_of s) p in
     let eq = setup_is s anchors number row h in
     row_painted s.quantiser s.dims.mb_width s.dims refs source now row q (slice_start q.context row p.covered s.quantiser)
-    (ap (λ (d : Dims). d.mb_width) same) eq
+    h.columns.0 (ap (λ (d : Dims). d.mb_width) same) eq
     (start_is s.quantiser s.dims.mb_width source row p.covered q.context (ap (λ (x : SliceSetup). x.context) eq) (covered_before s.dims.mb_width number row)) has
 
 -- the frames at hand, with one that is being painted

@@ -1,6 +1,6 @@
 -- The macroblocks of a picture, painted one after another, are the frame that the stream stands for.
 use Rattle.std.proofs.Common.{◌≡◌, ℕ, zero, suc, ◌+◌, ◌*◌, ◌/◌, ◌%◌, ◌<◌, Bool, true, false, cond, replicate, ℤ, pos, ◌+ℤ◌, refl, sym, ap, subst, ◌∙◌, arith}
-use Rattle.std.specs.Prelude.{nat_abs, unsigned_abs, slice_index}
+use Rattle.std.specs.Prelude.{unsigned_abs, slice_index}
 use Rattle.std.specs.Int.{int_max, int_min}
 use Rattle.std.proofs.lemmas.Int.{ints, int_max_is}
 use Rattle.std.proofs.lemmas.Nat.{div-mul-add, mod-mul-add}
@@ -14,18 +14,17 @@ use Rattle.m2v_plane.specs.declared.planes.Plane.TheVariants.{Y, Cb, Cr}
 use Rattle.m2v_plane.specs.declared.planes.Lines.TheVariants.{Whole}
 use Rattle.m2v_plane.specs.Sizes.{side}
 use Rattle.m2v_plane.specs.Samples.{Samples}
-use Rattle.m2v_pred.specs.declared.mode.MbPlace.{MbPlace}
 use Rattle.m2v_recon.specs.Macro.{place_in, is_coded, residual, macro_sample}
 use Rattle.m2v_recon.specs.Macro as macro
 use Rattle.m2v_flat.specs.Recon.{flat_kind, flat_levels, rebuilt, recon_at, recon_frame}
 use Rattle.m2v_flat.specs.Recon as recon
-use Rattle.m2v_macro.specs.States.{after}
+use Rattle.m2v_macro.specs.States.{address, at_start}
 use Rattle.m2v_macroblock.specs.Macroblocks.{kind_for}
 use Rattle.m2v_macroblock.specs.Modes.{first_skipped}
 use Rattle.m2v_macroblock.specs.Predictions.{prediction_of, sample_at}
-use Rattle.m2v_model.specs.Samples.{References, put_in_frame, skipped_painted, own_painted, painted, all_painted}
-use Rattle.m2v_chain.specs.Painting.{IsPainted}
-use Rattle.m2v_chain.proofs.Painting.{put_more, frame_all}
+use Rattle.m2v_model.specs.Samples.{References, put_in_frame, all_painted}
+use Rattle.m2v_chain.specs.Painting.{IsPainted, LiesIn, own_sample, Paints, AllPaint, state_behind}
+use Rattle.m2v_chain.proofs.Painting.{all_more, frame_all}
 use Rattle.m2v_flat.specs.Tree.{flat_context, flat_setup, flat_macroblock, flat_macroblocks, state_inside, state_before}
 use Rattle.m2v_flat.proofs.Macroblocks.{inside_is, after_is, none_skipped}
 
@@ -107,63 +106,79 @@ pub all_samples : (quantiser : ℕ) (source now : Samples) → HasSamples quanti
 unfolding recon_frame
 all_samples quantiser source now h = frame_all source.dims (recon_at quantiser source) now h
 
--- the place of a macroblock of a frame picture
-abbrev place_at : ℕ → ℕ → MbPlace
-place_at row column = record { row = row; column = column; structure = 3 }
+-- where a macroblock stands
+first_is : (quantiser columns : ℕ) (frame : Samples) (row column : ℕ) → first_skipped (state_before quantiser columns frame row column) ≡ row * columns + column
+unfolding state_before at_start
+first_is quantiser columns frame row zero = omega (arith, ints)
+first_is quantiser columns frame row (suc column) = omega (arith, ints)
 
--- one macroblock more
-macroblock_has : (quantiser columns : ℕ) (source : Samples) (row column : ℕ) (now : Samples) → column < source.dims.mb_width
-    → HasSamples quantiser source (row * source.dims.mb_width + column) now
-    → HasSamples quantiser source (row * source.dims.mb_width + suc column) (put_in_frame (place_at row column) (samples_of quantiser columns source row column) now)
-macroblock_has quantiser columns source row column now lt h =
-    put_more source.dims (place_at row column) (recon_at quantiser source) (samples_of quantiser columns source row column) now lt h
-    (λ plane r c among down across. sample_is quantiser columns source row column plane r c down across)
+follows_is : (quantiser columns : ℕ) (frame : Samples) (row column : ℕ) → address (state_before quantiser columns frame row column) 1 ≡ pos (first_skipped (state_before quantiser columns frame row column) + 0)
+unfolding state_before at_start
+follows_is quantiser columns frame row zero = omega (arith, ints)
+follows_is quantiser columns frame row (suc column) = omega (arith, ints)
 
--- a frame with the macroblock's samples, where its state tells its place
-abbrev by_state : Samples → ℕ → ℕ → Samples → SliceState → Samples
-by_state source row column now st =
-    put_in_frame (place_at (nat_abs st.address / source.dims.mb_width) (nat_abs st.address % source.dims.mb_width)) (samples_of st.quantiser source.dims.mb_width source row column) now
-
-own_is : (quantiser : ℕ) (d : Dims) (refs : References) (source : Samples) (row column : ℕ) (now : Samples) → column < source.dims.mb_width
-    → own_painted put_in_frame (flat_setup source.dims.mb_width d) refs (state_before quantiser source.dims.mb_width source row column) (flat_macroblock source row column) now
-    ≡ put_in_frame (place_at row column) (samples_of quantiser source.dims.mb_width source row column) now
-unfolding own_painted prediction_of sample_at after flat_macroblock state_inside
-own_is quantiser d refs source row column now lt =
+-- a macroblock has the samples of the frame, where it lies
+own_is : (quantiser : ℕ) (d : Dims) (refs : References) (source : Samples) (row column : ℕ) → column < source.dims.mb_width
+    → LiesIn (flat_context source.dims.mb_width) (first_skipped (state_before quantiser source.dims.mb_width source row column))
+    (own_sample (flat_setup source.dims.mb_width d) refs (state_before quantiser source.dims.mb_width source row column) (flat_macroblock source row column)) (recon_at quantiser source)
+unfolding prediction_of sample_at flat_macroblock state_inside
+own_is quantiser d refs source row column lt plane r c among down across =
     let width = source.dims.mb_width in
-    let new = samples_of quantiser width source row column in
-    ap (by_state source row column now) (inside_is quantiser width source row column)
-    ∙ ap (λ (n : ℕ). put_in_frame (place_at n ((row * width + column) % width)) new now) (div-mul-add row width column lt)
-    ∙ ap (λ (n : ℕ). put_in_frame (place_at row n) new now) (mod-mul-add row width column lt)
+    let place = first_is quantiser width source row column in
+    let line : r / side plane ≡ row = down ∙ ap (λ (n : ℕ). n / width) place ∙ div-mul-add row width column lt in
+    let beside : c / side plane ≡ column = across ∙ ap (λ (n : ℕ). n % width) place ∙ mod-mul-add row width column lt in
+    ap (λ (z : SliceState). samples_of z.quantiser width source row column plane (r % side plane) (c % side plane)) (inside_is quantiser width source row column)
+    ∙ sample_is quantiser width source row column plane r c line beside
 
-painted_is : (quantiser : ℕ) (d : Dims) (refs : References) (source : Samples) (row column : ℕ) (now : Samples) → column < source.dims.mb_width
-    → painted put_in_frame (flat_setup source.dims.mb_width d) refs (state_before quantiser source.dims.mb_width source row column) (flat_macroblock source row column) now
-    ≡ put_in_frame (place_at row column) (samples_of quantiser source.dims.mb_width source row column) now
-unfolding painted skipped_painted flat_macroblock
-painted_is quantiser d refs source row column now lt =
+macroblock_paints : (quantiser : ℕ) (d : Dims) (refs : References) (source : Samples) (row column : ℕ) → column < source.dims.mb_width
+    → Paints (flat_setup source.dims.mb_width d) refs (state_before quantiser source.dims.mb_width source row column) (flat_macroblock source row column) (recon_at quantiser source)
+unfolding flat_macroblock
+macroblock_paints quantiser d refs source row column lt =
     let width = source.dims.mb_width in
     let st = state_before quantiser width source row column in
-    let s = flat_setup width d in
-    ap (λ (n : ℕ). own_painted put_in_frame s refs st (flat_macroblock source row column) (skipped_painted put_in_frame s refs st (first_skipped st) n now)) (none_skipped quantiser width source row column)
-    ∙ own_is quantiser d refs source row column now lt
+    let none = none_skipped quantiser width source row column in
+    record {
+      follows = follows_is quantiser width source row column ∙ ap (λ (n : ℕ). pos (first_skipped st + n)) (sym none);
+      skipped = λ k some. absurd (omega (arith, none, some));
+      own = own_is quantiser d refs source row column lt;
+    }
 
 -- the macroblocks of a row
-pub row_has : (quantiser : ℕ) (d : Dims) (refs : References) (source : Samples) (row n column : ℕ) (now : Samples) → column + n ≡ source.dims.mb_width
-    → HasSamples quantiser source (row * source.dims.mb_width + column) now
-    → HasSamples quantiser source (row * source.dims.mb_width + source.dims.mb_width)
-    (all_painted put_in_frame (flat_setup source.dims.mb_width d) refs (state_before quantiser source.dims.mb_width source row column) (flat_macroblocks source row column n) now)
-unfolding all_painted
-row_has quantiser d refs source row zero column now is h =
-    let end : column ≡ source.dims.mb_width = omega arith in
-    subst (λ (k : ℕ). HasSamples quantiser source (row * source.dims.mb_width + k) now) end h
-row_has quantiser d refs source row (suc n) column now is h =
+all_paint : (quantiser : ℕ) (d : Dims) (refs : References) (source : Samples) (row n column : ℕ) → column + n ≡ source.dims.mb_width
+    → AllPaint (flat_setup source.dims.mb_width d) refs (state_before quantiser source.dims.mb_width source row column) (flat_macroblocks source row column n) (recon_at quantiser source)
+unfolding AllPaint
+all_paint quantiser d refs source row zero column is = tt
+all_paint quantiser d refs source row (suc n) column is =
+    let width = source.dims.mb_width in
+    let next : suc column ≡ column + 1 = omega arith in (
+      macroblock_paints quantiser d refs source row column (omega arith),
+      subst (λ (z : SliceState). AllPaint (flat_setup width d) refs z (flat_macroblocks source row (column + 1) n) (recon_at quantiser source))
+          (sym (after_is quantiser width source row column ∙ ap (state_before quantiser width source row) next))
+          (all_paint quantiser d refs source row n (column + 1) (omega arith)),
+    )
+
+behind_is : (quantiser columns : ℕ) (source : Samples) (row n column : ℕ) → state_behind (flat_context columns) (state_before quantiser columns source row column) (flat_macroblocks source row column n) ≡ state_before quantiser columns source row (column + n)
+unfolding state_behind
+behind_is quantiser columns source row zero column = ap (state_before quantiser columns source row) (omega arith)
+behind_is quantiser columns source row (suc n) column =
+    let next : suc column ≡ column + 1 = omega arith in
+    ap (λ (z : SliceState). state_behind (flat_context columns) z (flat_macroblocks source row (column + 1) n)) (after_is quantiser columns source row column ∙ ap (state_before quantiser columns source row) next)
+    ∙ behind_is quantiser columns source row n (column + 1)
+    ∙ ap (state_before quantiser columns source row) (omega arith)
+
+pub row_has : (quantiser : ℕ) (d : Dims) (refs : References) (source : Samples) (row : ℕ) (now : Samples) → 0 < source.dims.mb_width
+    → HasSamples quantiser source (row * source.dims.mb_width) now
+    → HasSamples quantiser source (suc row * source.dims.mb_width)
+    (all_painted put_in_frame (flat_setup source.dims.mb_width d) refs (state_before quantiser source.dims.mb_width source row 0) (flat_macroblocks source row 0 source.dims.mb_width) now)
+row_has quantiser d refs source row now some h =
     let width = source.dims.mb_width in
     let s = flat_setup width d in
-    let st = state_before quantiser width source row column in
-    let x = flat_macroblock source row column in
-    let then = painted put_in_frame s refs st x now in
-    let next : suc column ≡ column + 1 = omega arith in
-    let more : HasSamples quantiser source (row * width + suc column) then =
-    subst (HasSamples quantiser source (row * width + suc column)) (sym (painted_is quantiser d refs source row column now (omega arith))) (macroblock_has quantiser width source row column now (omega arith) h) in
-    let rest = row_has quantiser d refs source row n (column + 1) then (omega arith) (subst (λ (k : ℕ). HasSamples quantiser source (row * width + k) then) next more) in
-    subst (λ (z : SliceState). HasSamples quantiser source (row * width + width) (all_painted put_in_frame s refs z (flat_macroblocks source row (column + 1) n) then))
-    (sym (after_is quantiser width source row column ∙ ap (state_before quantiser width source row) next)) rest
+    let st = state_before quantiser width source row 0 in
+    let xs = flat_macroblocks source row 0 width in
+    let start : row * width ≡ first_skipped st = omega (arith, first_is quantiser width source row 0) in
+    let all : 0 + width ≡ width = omega arith in
+    let end : first_skipped (state_behind (flat_context width) st xs) ≡ suc row * width =
+    ap first_skipped (behind_is quantiser width source row width 0 ∙ ap (state_before quantiser width source row) all) ∙ omega (arith, first_is quantiser width source row width) in
+    subst (λ (k : ℕ). HasSamples quantiser source k (all_painted put_in_frame s refs st xs now)) end
+    (all_more s refs st xs source.dims (recon_at quantiser source) now some refl (all_paint quantiser d refs source row width 0 (omega arith))
+    (subst (λ (k : ℕ). HasSamples quantiser source k now) start h))
