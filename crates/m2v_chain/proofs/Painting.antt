@@ -24,7 +24,7 @@ use Rattle.m2v_macroblock.specs.Macroblocks.{Macroblock, after_macroblock}
 use Rattle.m2v_macroblock.specs.Modes.{place_of, address_of, skipped_before, first_skipped}
 use Rattle.m2v_model.specs.declared.setup.SliceSetup.{SliceSetup}
 use Rattle.m2v_model.specs.Samples.{References, with_squares, put_in_frame, skipped_painted, own_painted, painted, all_painted}
-use Rattle.m2v_chain.specs.Painting.{HasPart, IsPainted, frame_by, lines_in, LiesIn, skipped_sample, own_sample, Paints, AllPaint, state_behind}
+use Rattle.m2v_chain.specs.Painting.{HasPart, IsPainted, frame_by, lines_in, LiesIn, skipped_sample, own_sample, IsPartOf, ArePartsOf, after_macroblocks}
 
 -- ---- planes
 
@@ -215,7 +215,7 @@ skipped_more s refs st d at (suc n) address now some same lie h =
     (subst (λ (k : ℕ). IsPainted (lines_in s.context) d k at then) next one))
 
 -- a macroblock, and those skipped before it
-painted_more : (s : SliceSetup) (refs : References) (st : SliceState) (x : Macroblock) (d : Dims) (at : Plane → ℕ → ℕ → ℕ) (now : Samples) → 0 < d.mb_width → s.context.columns ≡ d.mb_width → Paints s refs st x at
+painted_more : (s : SliceSetup) (refs : References) (st : SliceState) (x : Macroblock) (d : Dims) (at : Plane → ℕ → ℕ → ℕ) (now : Samples) → 0 < d.mb_width → s.context.columns ≡ d.mb_width → IsPartOf s refs st x at
     → IsPainted (lines_in s.context) d (first_skipped st) at now
     → IsPainted (lines_in s.context) d (suc (address_of st x.syntax)) at (painted put_in_frame s refs st x now)
 unfolding painted own_painted
@@ -225,15 +225,15 @@ painted_more s refs st x d at now some same paints h =
     let then = skipped_more s refs st d at (skipped_before st x.syntax) (first_skipped st) now some same paints.skipped h in
     put_more s.context d (address_of st x.syntax) at (own_sample s refs st x) before some same (subst (λ (k : ℕ). IsPainted (lines_in s.context) d k at before) own then) paints.own
 
-behind_one : (s : SliceSetup) (refs : References) (st : SliceState) (x : Macroblock) (at : Plane → ℕ → ℕ → ℕ) → Paints s refs st x at → suc (address_of st x.syntax) ≡ first_skipped (after_macroblock s.context st x)
+behind_one : (s : SliceSetup) (refs : References) (st : SliceState) (x : Macroblock) (at : Plane → ℕ → ℕ → ℕ) → IsPartOf s refs st x at → suc (address_of st x.syntax) ≡ first_skipped (after_macroblock s.context st x)
 unfolding after_macroblock after
 behind_one s refs st x at paints = omega (arith, ints, paints.follows)
 
 -- macroblocks, one behind another
-pub all_more : (s : SliceSetup) (refs : References) (st : SliceState) (xs : List Macroblock) (d : Dims) (at : Plane → ℕ → ℕ → ℕ) (now : Samples) → 0 < d.mb_width → s.context.columns ≡ d.mb_width → AllPaint s refs st xs at
+pub all_more : (s : SliceSetup) (refs : References) (st : SliceState) (xs : List Macroblock) (d : Dims) (at : Plane → ℕ → ℕ → ℕ) (now : Samples) → 0 < d.mb_width → s.context.columns ≡ d.mb_width → ArePartsOf s refs st xs at
     → IsPainted (lines_in s.context) d (first_skipped st) at now
-    → IsPainted (lines_in s.context) d (first_skipped (state_behind s.context st xs)) at (all_painted put_in_frame s refs st xs now)
-unfolding AllPaint state_behind all_painted
+    → IsPainted (lines_in s.context) d (first_skipped (after_macroblocks s.context st xs)) at (all_painted put_in_frame s refs st xs now)
+unfolding ArePartsOf after_macroblocks all_painted
 all_more s refs st [] d at now some same paint h = h
 all_more s refs st (x ∷ xs) d at now some same paint h =
     let then = painted put_in_frame s refs st x now in

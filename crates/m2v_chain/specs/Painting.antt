@@ -61,18 +61,18 @@ skipped_sample s refs st address = predicted refs.forward refs.backward (skipped
 abbrev pub own_sample : SliceSetup → References → SliceState → Macroblock → Plane → ℕ → ℕ → ℕ
 own_sample s refs st x = sample_at s.context st (prediction_of refs.forward refs.backward s.context (place_of s.context (address_of st x.syntax)) x.syntax) x
 
--- a macroblock and those skipped before it follow the one before them, and their samples are those of a frame
-pub record Paints (s : SliceSetup) (refs : References) (st : SliceState) (x : Macroblock) (at : Plane → ℕ → ℕ → ℕ) : Type 0 where
+-- a macroblock is part of a frame: with those skipped before it, it follows the one before, and their samples are the frame's
+pub record IsPartOf (s : SliceSetup) (refs : References) (st : SliceState) (x : Macroblock) (at : Plane → ℕ → ℕ → ℕ) : Type 0 where
   pub follows : address st x.syntax.increment ≡ pos (first_skipped st + skipped_before st x.syntax)
   pub skipped : (k : ℕ) → k < skipped_before st x.syntax → LiesIn s.context (first_skipped st + k) (skipped_sample s refs st (first_skipped st + k)) at
   pub own : LiesIn s.context (address_of st x.syntax) (own_sample s refs st x) at
 
 -- macroblocks, one behind another
-unfoldable pub AllPaint : SliceSetup → References → SliceState → List Macroblock → (Plane → ℕ → ℕ → ℕ) → Type 0
-AllPaint s refs st [] at = Unit {0}
-AllPaint s refs st (x ∷ xs) at = Paints s refs st x at × AllPaint s refs (after_macroblock s.context st x) xs at
+unfoldable pub ArePartsOf : SliceSetup → References → SliceState → List Macroblock → (Plane → ℕ → ℕ → ℕ) → Type 0
+ArePartsOf s refs st [] at = Unit {0}
+ArePartsOf s refs st (x ∷ xs) at = IsPartOf s refs st x at × ArePartsOf s refs (after_macroblock s.context st x) xs at
 
 -- the state behind macroblocks
-unfoldable pub state_behind : PictureContext → SliceState → List Macroblock → SliceState
-state_behind c st [] = st
-state_behind c st (x ∷ xs) = state_behind c (after_macroblock c st x) xs
+unfoldable pub after_macroblocks : PictureContext → SliceState → List Macroblock → SliceState
+after_macroblocks c st [] = st
+after_macroblocks c st (x ∷ xs) = after_macroblocks c (after_macroblock c st x) xs

@@ -15,7 +15,7 @@ ghost use Rattle.m2v_model.specs.Units.{Units, Cuts};
 ghost use Rattle.m2v_model.specs.Streams.{Part, Sofar, unit_round};
 ghost use Rattle.m2v_chain.specs.Texts.{Packs};
 ghost use Rattle.m2v_chain.specs.Chains.{Chain};
-ghost use Rattle.m2v_chain.specs.Painting.{HasPart, IsPainted, lines_in, AllPaint, state_behind};
+ghost use Rattle.m2v_chain.specs.Painting.{HasPart, IsPainted, lines_in, ArePartsOf, after_macroblocks};
 
 /// A text that packs units, in none of which a prefix of a start code stands, is cut into these units.
 pub fn law_cut()
@@ -50,8 +50,8 @@ pub fn law_fields_painted()
 pub fn law_macroblocks_painted()
     ensures { (d : Dims) (s : SliceSetup) (refs : References) (st : SliceState) (xs : List Macroblock)
         (at : Plane → ℕ → ℕ → ℕ) (now : Samples) → 0 < d.mb_width → s.context.columns ≡ d.mb_width
-        → AllPaint s refs st xs at
+        → ArePartsOf s refs st xs at
         → IsPainted (lines_in s.context) d (first_skipped st) at now
-        → IsPainted (lines_in s.context) d (first_skipped (state_behind s.context st xs)) at
+        → IsPainted (lines_in s.context) d (first_skipped (after_macroblocks s.context st xs)) at
         (all_painted put_in_frame s refs st xs now) }
 {}

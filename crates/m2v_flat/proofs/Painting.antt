@@ -23,7 +23,7 @@ use Rattle.m2v_macroblock.specs.Macroblocks.{kind_for}
 use Rattle.m2v_macroblock.specs.Modes.{first_skipped}
 use Rattle.m2v_macroblock.specs.Predictions.{prediction_of, sample_at}
 use Rattle.m2v_model.specs.Samples.{References, put_in_frame, all_painted}
-use Rattle.m2v_chain.specs.Painting.{IsPainted, LiesIn, own_sample, Paints, AllPaint, state_behind}
+use Rattle.m2v_chain.specs.Painting.{IsPainted, LiesIn, own_sample, IsPartOf, ArePartsOf, after_macroblocks}
 use Rattle.m2v_chain.proofs.Painting.{all_more, frame_all}
 use Rattle.m2v_flat.specs.Tree.{flat_context, flat_setup, flat_macroblock, flat_macroblocks, state_inside, state_before}
 use Rattle.m2v_flat.proofs.Macroblocks.{inside_is, after_is, none_skipped}
@@ -117,7 +117,7 @@ unfolding state_before at_start
 follows_is quantiser columns frame row zero = omega (arith, ints)
 follows_is quantiser columns frame row (suc column) = omega (arith, ints)
 
--- a macroblock has the samples of the frame, where it lies
+-- a macroblock has its samples of the frame
 own_is : (quantiser : ℕ) (d : Dims) (refs : References) (source : Samples) (row column : ℕ) → column < source.dims.mb_width
     → LiesIn (flat_context source.dims.mb_width) (first_skipped (state_before quantiser source.dims.mb_width source row column))
     (own_sample (flat_setup source.dims.mb_width d) refs (state_before quantiser source.dims.mb_width source row column) (flat_macroblock source row column)) (recon_at quantiser source)
@@ -130,10 +130,10 @@ own_is quantiser d refs source row column lt plane r c among down across =
     ap (λ (z : SliceState). samples_of z.quantiser width source row column plane (r % side plane) (c % side plane)) (inside_is quantiser width source row column)
     ∙ sample_is quantiser width source row column plane r c line beside
 
-macroblock_paints : (quantiser : ℕ) (d : Dims) (refs : References) (source : Samples) (row column : ℕ) → column < source.dims.mb_width
-    → Paints (flat_setup source.dims.mb_width d) refs (state_before quantiser source.dims.mb_width source row column) (flat_macroblock source row column) (recon_at quantiser source)
+macroblock_is : (quantiser : ℕ) (d : Dims) (refs : References) (source : Samples) (row column : ℕ) → column < source.dims.mb_width
+    → IsPartOf (flat_setup source.dims.mb_width d) refs (state_before quantiser source.dims.mb_width source row column) (flat_macroblock source row column) (recon_at quantiser source)
 unfolding flat_macroblock
-macroblock_paints quantiser d refs source row column lt =
+macroblock_is quantiser d refs source row column lt =
     let width = source.dims.mb_width in
     let st = state_before quantiser width source row column in
     let none = none_skipped quantiser width source row column in
@@ -144,25 +144,25 @@ macroblock_paints quantiser d refs source row column lt =
     }
 
 -- the macroblocks of a row
-all_paint : (quantiser : ℕ) (d : Dims) (refs : References) (source : Samples) (row n column : ℕ) → column + n ≡ source.dims.mb_width
-    → AllPaint (flat_setup source.dims.mb_width d) refs (state_before quantiser source.dims.mb_width source row column) (flat_macroblocks source row column n) (recon_at quantiser source)
-unfolding AllPaint
-all_paint quantiser d refs source row zero column is = tt
-all_paint quantiser d refs source row (suc n) column is =
+macroblocks_are : (quantiser : ℕ) (d : Dims) (refs : References) (source : Samples) (row n column : ℕ) → column + n ≡ source.dims.mb_width
+    → ArePartsOf (flat_setup source.dims.mb_width d) refs (state_before quantiser source.dims.mb_width source row column) (flat_macroblocks source row column n) (recon_at quantiser source)
+unfolding ArePartsOf
+macroblocks_are quantiser d refs source row zero column is = tt
+macroblocks_are quantiser d refs source row (suc n) column is =
     let width = source.dims.mb_width in
     let next : suc column ≡ column + 1 = omega arith in (
-      macroblock_paints quantiser d refs source row column (omega arith),
-      subst (λ (z : SliceState). AllPaint (flat_setup width d) refs z (flat_macroblocks source row (column + 1) n) (recon_at quantiser source))
+      macroblock_is quantiser d refs source row column (omega arith),
+      subst (λ (z : SliceState). ArePartsOf (flat_setup width d) refs z (flat_macroblocks source row (column + 1) n) (recon_at quantiser source))
           (sym (after_is quantiser width source row column ∙ ap (state_before quantiser width source row) next))
-          (all_paint quantiser d refs source row n (column + 1) (omega arith)),
+          (macroblocks_are quantiser d refs source row n (column + 1) (omega arith)),
     )
 
-behind_is : (quantiser columns : ℕ) (source : Samples) (row n column : ℕ) → state_behind (flat_context columns) (state_before quantiser columns source row column) (flat_macroblocks source row column n) ≡ state_before quantiser columns source row (column + n)
-unfolding state_behind
+behind_is : (quantiser columns : ℕ) (source : Samples) (row n column : ℕ) → after_macroblocks (flat_context columns) (state_before quantiser columns source row column) (flat_macroblocks source row column n) ≡ state_before quantiser columns source row (column + n)
+unfolding after_macroblocks
 behind_is quantiser columns source row zero column = ap (state_before quantiser columns source row) (omega arith)
 behind_is quantiser columns source row (suc n) column =
     let next : suc column ≡ column + 1 = omega arith in
-    ap (λ (z : SliceState). state_behind (flat_context columns) z (flat_macroblocks source row (column + 1) n)) (after_is quantiser columns source row column ∙ ap (state_before quantiser columns source row) next)
+    ap (λ (z : SliceState). after_macroblocks (flat_context columns) z (flat_macroblocks source row (column + 1) n)) (after_is quantiser columns source row column ∙ ap (state_before quantiser columns source row) next)
     ∙ behind_is quantiser columns source row n (column + 1)
     ∙ ap (state_before quantiser columns source row) (omega arith)
 
@@ -177,8 +177,8 @@ row_has quantiser d refs source row now some h =
     let xs = flat_macroblocks source row 0 width in
     let start : row * width ≡ first_skipped st = omega (arith, first_is quantiser width source row 0) in
     let all : 0 + width ≡ width = omega arith in
-    let end : first_skipped (state_behind (flat_context width) st xs) ≡ suc row * width =
+    let end : first_skipped (after_macroblocks (flat_context width) st xs) ≡ suc row * width =
     ap first_skipped (behind_is quantiser width source row width 0 ∙ ap (state_before quantiser width source row) all) ∙ omega (arith, first_is quantiser width source row width) in
     subst (λ (k : ℕ). HasSamples quantiser source k (all_painted put_in_frame s refs st xs now)) end
-    (all_more s refs st xs source.dims (recon_at quantiser source) now some refl (all_paint quantiser d refs source row width 0 (omega arith))
+    (all_more s refs st xs source.dims (recon_at quantiser source) now some refl (macroblocks_are quantiser d refs source row width 0 (omega arith))
     (subst (λ (k : ℕ). HasSamples quantiser source k now) start h))

@@ -21,7 +21,7 @@ use Rattle.m2v_model.specs.Headers.{whole_header, sequence_in, sequence_extensio
 use Rattle.m2v_model.specs.States.{at_first, one_anchor_more, with_slice, is_complete, columns_of, rows_of, picture_rows, dims_of, slice_setup}
 use Rattle.m2v_model.specs.Slices.{slice_at, large_in}
 use Rattle.m2v_model.specs.Streams.{sequence, picture, slice, after, close, no_second_field_due, extension_behind, sequence_unit, picture_unit, read_slice, slice_in, slice_unit, onward, later_unit, known_unit}
-use Rattle.m2v_flat.specs.Tree.{flat_setup, flat_row, flat_rows, sequence_of, picture_at, open_picture, state_with, state_in, pictures_parts}
+use Rattle.m2v_flat.specs.Tree.{flat_setup, flat_row, flat_rows, sequence_of, flat_open, open_picture, state_with, state_in, pictures_parts}
 use Rattle.m2v_chain.specs.Texts.{ended, unit_bytes}
 use Rattle.m2v_flat.proofs.Slices.{slice_stands, none_large}
 use Rattle.m2v_flat.proofs.Headers.{behind, inside_stands, sequence_fits, sequence_stands, extension_stands, picture_stands, coding_stands, sequence_id, picture_id, extension_in_stands}
@@ -276,10 +276,10 @@ slice_reads s anchors number row frame h same lt = record {
 -- ---- pictures
 
 -- a slice below the last one, none of whose macroblocks is large
-first_row : (number covered large : ℕ) → large ≡ 0 → with_slice (Some (picture_at number false 0 0)) 0 covered large ≡ Some (picture_at number true 0 covered)
+first_row : (number covered large : ℕ) → large ≡ 0 → with_slice (Some (flat_open number false 0 0)) 0 covered large ≡ Some (flat_open number true 0 covered)
 first_row number covered large none = rw none refl
 
-next_row : (number row before covered large : ℕ) → large ≡ 0 → with_slice (Some (picture_at number true row before)) (suc row) covered large ≡ Some (picture_at number true (suc row) covered)
+next_row : (number row before covered large : ℕ) → large ≡ 0 → with_slice (Some (flat_open number true row before)) (suc row) covered large ≡ Some (flat_open number true (suc row) covered)
 next_row number row before covered large none =
     let below : nat_eq (suc row) row ≡ false = ne_eqb (suc row) row (λ e. omega arith) in
     rw (below, none) refl

@@ -118,8 +118,8 @@ sequence_of s = record { info = flat_sequence s; extension = flat_sequence_exten
 
 -- the picture number n: whether a slice of it came, the row of the last one, and the address behind it; no macroblock is
 -- large
-abbrev pub picture_at : ℕ → Bool → ℕ → ℕ → Open
-picture_at number has_slice row covered = record {
+abbrev pub flat_open : ℕ → Bool → ℕ → ℕ → Open
+flat_open number has_slice row covered = record {
   info = flat_picture number;
   extension = flat_picture_extension;
   second_field = false;
@@ -135,8 +135,8 @@ picture_at number has_slice row covered = record {
 
 -- the picture number n, of which so many rows were read
 unfoldable pub open_picture : ℕ → ℕ → ℕ → Open
-open_picture columns number zero = picture_at number false 0 0
-open_picture columns number (suc row) = picture_at number true row (row * columns + columns)
+open_picture columns number zero = flat_open number false 0 0
+open_picture columns number (suc row) = flat_open number true row (row * columns + columns)
 
 -- the state behind the headers of the sequence
 abbrev pub state_first : FlatSettings → State
