@@ -33,14 +33,16 @@ pub fn law_chained()
 /// A plane in which all macroblocks have their samples is the plane of these samples.
 pub fn law_painted()
     ensures { (side rows columns : ℕ) (f : ℕ → ℕ → ℕ) (xs : List ℕ) → 0 < side
-        → HasPart Whole side rows columns (rows * columns) f xs → xs ≡ plane_by (side * rows) (side * columns) f }
+        → HasPart Whole side rows columns (rows * columns) f xs
+        → xs ≡ plane_by (side * rows) (side * columns) f }
 {}
 
 /// A plane in which all macroblocks of both fields have their samples is the plane of these samples: each field has half
 /// as many macroblock rows.
 pub fn law_fields_painted()
     ensures { (side half columns : ℕ) (f : ℕ → ℕ → ℕ) (xs : List ℕ) → 0 < side
-        → HasPart Top side (2 * half) columns (half * columns) f xs → HasPart Bottom side (2 * half) columns (half * columns) f xs
+        → HasPart Top side (2 * half) columns (half * columns) f xs
+        → HasPart Bottom side (2 * half) columns (half * columns) f xs
         → xs ≡ plane_by (side * (2 * half)) (side * columns) f }
 {}
 
