@@ -50,8 +50,9 @@ pub fn law_fields_painted()
 /// have theirs, leave one of which all have theirs as far as they reach: in frames and in each field, with those that are
 /// skipped.
 pub fn law_macroblocks_painted()
-    ensures { (d : Dims) (s : SliceSetup) (refs : References) (st : SliceState) (xs : List Macroblock)
-        (at : Plane → ℕ → ℕ → ℕ) (now : Samples) → 0 < d.mb_width → s.context.columns ≡ d.mb_width
+    ensures { (d : Dims) (s : SliceSetup) (refs : References) (st : SliceState)
+        (xs : List Macroblock) (at : Plane → ℕ → ℕ → ℕ) (now : Samples)
+        → 0 < d.mb_width → s.context.columns ≡ d.mb_width
         → ArePartsOf s refs st xs at
         → IsPainted (lines_in s.context) d (first_skipped st) at now
         → IsPainted (lines_in s.context) d (first_skipped (after_macroblocks s.context st xs)) at
