@@ -157,3 +157,12 @@ large_few c row st large h few = elim (cases_Bool st.first) [
   | inl e ↦ let a = h.first e in omega (arith, ints, a, few)
   | inr e ↦ let i = h.later e in let end = h.end in omega (arith, ints, i.2, i.1, few, end)
 ]
+
+-- an increment goes on
+pub further_on : (c : PictureContext) (st : SliceState) (m : MacroSyntax) (z : SliceState) → z ≡ after c st m → 1 ≤ m.increment → st.address <ℤ z.address
+unfolding after
+further_on c st m z is some = rw is (omega (arith, ints, some))
+
+-- one macroblock more
+pub few_more : (large more columns : ℕ) (before behind : ℤ) → pos (large + columns) ≤ℤ (before +ℤ pos 1) → before <ℤ behind → more ≤ large + 1 → pos (more + columns) ≤ℤ (behind +ℤ pos 1)
+few_more large more columns before behind few further le = omega (arith, ints, few, further, le)
