@@ -80,11 +80,6 @@ units_parts st ps t = parts_n (suc (length t)) st ps t
 
 -- ---- what is told
 
--- what reading gives, from what stands before it: what is told and what stands behind, or the fault and what is left at it
-abbrev pub course_of : Between → Result (Sofar × Units) (FaultKind × ℕ) → Course
-course_of b (Ok x) = Ok (read_of b x.0)
-course_of b (Err f) = Err f
-
 -- a part, and what is read behind it
 abbrev pub part_read : Between → Bool × Part → Units → Course
 part_read b x mid = behind (told_by b.state b.store x.1) (cond x.0 (units_read (after_part b x.1) mid) (Ok ([], after_part b x.1)))

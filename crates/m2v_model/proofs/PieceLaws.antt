@@ -15,7 +15,7 @@ use Rattle.m2v_model.specs.Streams.{Sofar, value_of, after, known_unit, units_fr
 use Rattle.m2v_model.specs.Pictures.{Events}
 use Rattle.m2v_model.specs.Pieces.{phase_after, begins_piece, is_end, piece_of, grouped, pieces, before_sequence, before_pieces}
 use Rattle.m2v_model.specs.Decoding.{FaultAt}
-use Rattle.m2v_model.specs.ByPieces.{Between, at_start, Course, read_of, course_of, units_read, told, piece_read, behind, continued, pieces_read, end_of, text_ended, end_read, text_read, IsRead, ByPieces}
+use Rattle.m2v_model.specs.ByPieces.{Between, at_start, Course, read_of, unit_read, course_of, units_read, told, piece_read, behind, continued, pieces_read, end_of, text_ended, end_read, text_read, IsRead, ByPieces}
 use Rattle.m2v_model.proofs.CutLaws.{cut_cuts, joined_bits, joined-append, are_before, are_behind, are_code, cut_units}
 use Rattle.m2v_model.proofs.StreamLaws.{stream_lawful}
 use Rattle.m2v_model.proofs.Unique.{bad_is}
@@ -102,7 +102,7 @@ ended_continued end (Err e) f = refl
 
 -- ---- places
 
--- what is units_read, with its fault's place in a text that ends at a byte
+-- what is read, with its fault's place in a text that ends at a byte
 abbrev pub placed : ℕ → Course → Course
 placed end (Ok x) = Ok x
 placed end (Err f) = Err (f.0, 8 * end - f.1)
@@ -112,7 +112,7 @@ unfolding told
 told_is st end (Ok x) = refl
 told_is st end (Err f) = refl
 
--- a piece, as what is units_read of its units
+-- a piece, as what is read of its units
 pub piece_is : (st : Between) (end : ℕ) (piece : List ℕ) → piece_read st end piece ≡ placed end (units_read st (cut 0 piece).1)
 unfolding piece_read units_read
 piece_is st end piece = told_is st end _
@@ -153,7 +153,7 @@ piece_split st at us vs b n k h =
     ∙ placed_split to vs (units_read st us)
     ∙ ap (λ (r : Course). continued r f) (sym (piece_units st to us (are_before us vs h)))
 
--- what is units_read, with its fault's place in a text that ends at a byte, and that end
+-- what is read, with its fault's place in a text that ends at a byte, and that end
 abbrev pub finished : ℕ → Course → Course
 finished end r = text_ended end (placed end r)
 

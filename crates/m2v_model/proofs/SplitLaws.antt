@@ -331,7 +331,7 @@ unit_goes st u us n k x mid e =
 
 -- ---- units, and others behind them
 
--- what is units_read of units, and then what stands behind them
+-- what is read of units, and then what stands behind them
 abbrev pub split : Units → Course → Course
 split vs (Ok x) = behind x.0 (units_read x.1 vs)
 split vs (Err f) = Err (f.0, f.1 + unit_bits vs)
