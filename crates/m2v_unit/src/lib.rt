@@ -19,9 +19,14 @@ mod units;
 pub use ahead::id_ahead;
 pub use groups::{group, matrices};
 pub use header::Header;
-pub use headers::{is_slice, read_end, read_header};
+pub use headers::{is_slice, read_end, read_header, read_text_end};
 pub use pictures::{picture, picture_extension};
 pub use reader::UnitReader;
 pub use sequences::{sequence, sequence_extension};
+pub use state::{
+    anchors_after, crowded_by, has_anchor, is_complete, is_progressive, is_same_sequence,
+    is_second_field_due, opened, picture_rows, slice_setup, takes_matrices, waiting_after,
+    with_slice, with_unread_slice,
+};
 pub use stop::{Stop, of_block, of_head, of_macro, stopped};
 pub use unit::Unit;
