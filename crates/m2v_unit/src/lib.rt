@@ -4,6 +4,7 @@
 #![tactic(auto)]
 
 mod ahead;
+mod changes;
 mod groups;
 mod header;
 mod headers;
@@ -17,6 +18,7 @@ mod unit;
 mod units;
 
 pub use ahead::id_ahead;
+pub use changes::{enter, enter_slice, enter_unread_slice, first_state};
 pub use groups::{group, matrices};
 pub use header::Header;
 pub use headers::{is_slice, read_end, read_header, read_text_end};
