@@ -17,10 +17,9 @@ use Rattle.m2v_model.specs.declared.fault.FaultKind.{FaultKind}
 use Rattle.m2v_model.specs.declared.fault.FaultKind.TheVariants.{Forbidden, Unsupported}
 use Rattle.m2v_model.specs.Faults.{of_head}
 use Rattle.m2v_model.specs.Looking.{number_from, look, passes}
-use Rattle.m2v_macro.specs.Conditions.{AreScales}
 use Rattle.m2v_model.specs.Headers.{size_of, size_passes, size_at, sequence_extension_in, is_f_code, uses_forward, uses_backward, f_code_at, f_codes_at, picture_extension_in}
 use Rattle.m2v_unit.specs.Reads.{IsReadSequence, IsReadPicture}
-use Rattle.m2v_unit.proofs.Further.{skip_more, number_is, flag_is, id_skips, some_is, format_is, FCodesAhead, f_codes_ahead}
+use Rattle.m2v_unit.proofs.Further.{skip_more, number_is, flag_is, id_skips, some_is, format_is, f_codes_ahead}
 use Rattle.m2v_unit.proofs.Cuts.{both_true}
 
 -- ---- what stands further on in a header

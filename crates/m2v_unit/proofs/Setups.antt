@@ -1,5 +1,5 @@
 -- What slices are read by, where the headers were read.
-use Rattle.std.proofs.Common.{◌≡◌, arith}
+use Rattle.std.proofs.Common.{arith}
 use Rattle.m2v_plane.specs.Sizes.{IsSize}
 use Rattle.m2v_macro.specs.Conditions.{is_used}
 use Rattle.m2v_macroblock.specs.Conditions.{IsPicture}

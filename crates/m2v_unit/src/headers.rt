@@ -28,7 +28,8 @@ use m2v_model::{FaultKind, Sequence, State};
 /// The picture that is open ends here, with each of its macroblocks read.
 fn close(st: &State, start: u64) -> Result<(), Stop>
     ensures held { IfOk result (λ done. complete st.now.sequence st.now.picture ≡ true) }
-    ensures broken { IfErr result (λ e. (complete st.now.sequence st.now.picture ≡ false) × (e ≡ record { kind = MissingMacroblocks; left = start })) }
+    ensures broken { IfErr result (λ e. (complete st.now.sequence st.now.picture ≡ false)
+        × (e ≡ record { kind = MissingMacroblocks; left = start })) }
 {
     let complete = is_complete(&st.sequence, &st.picture);
     check(complete, FaultKind::MissingMacroblocks, start)
@@ -37,7 +38,8 @@ fn close(st: &State, start: u64) -> Result<(), Stop>
 /// No first field waits for its second.
 fn no_second_field_due(st: &State, start: u64) -> Result<(), Stop>
     ensures held { IfOk result (λ done. none_waits st.now.waiting ≡ true) }
-    ensures broken { IfErr result (λ e. (none_waits st.now.waiting ≡ false) × (e ≡ record { kind = FieldPair; left = start })) }
+    ensures broken { IfErr result (λ e. (none_waits st.now.waiting ≡ false)
+        × (e ≡ record { kind = FieldPair; left = start })) }
 {
     check(st.waiting.is_none(), FaultKind::FieldPair, start)
 }
@@ -51,7 +53,9 @@ fn sequence_extension_in(
     units: &UnitReader,
 ) -> Result<SequenceExtension, Stop>
     requires { start < 2 ^ 41 }
-    ensures exact { TellsIn result units.now ((extension_in 1 v.now start (whole_header (sequence_extension_in info.now))).read units.now) }
+    ensures exact { TellsIn result units.now
+        ((extension_in 1 v.now start
+        (whole_header (sequence_extension_in info.now))).read units.now) }
     ensures left { IfErr result (λ e. e.left < 2 ^ 41) }
     ensures fits { IfOk result (IsReadSequence info.now) }
 {
@@ -69,7 +73,9 @@ fn sequence_extension_behind(
     units: &UnitReader,
 ) -> Result<SequenceExtension, Stop>
     requires { start < 2 ^ 41 }
-    ensures exact { TellsIn result units.now ((extension_behind 1 v.now start (whole_header (sequence_extension_in info.now))).read units.now) }
+    ensures exact { TellsIn result units.now
+        ((extension_behind 1 v.now start
+        (whole_header (sequence_extension_in info.now))).read units.now) }
     ensures left { IfErr result (λ e. e.left < 2 ^ 41) }
     ensures fits { IfOk result (IsReadSequence info.now) }
 {
@@ -88,7 +94,8 @@ fn sequence_extension_behind(
 #[tactic(auto, unfolding(m2v_model::specs::Streams::sequence_unit, m2v_model::specs::Streams::close, m2v_model::specs::Streams::no_second_field_due, m2v_model::specs::Streams::onward, m2v_bits::specs::Syntax::seq, m2v_bits::specs::Syntax::bind, m2v_bits::specs::Syntax::here, m2v_bits::specs::Syntax::rule, m2v_bits::specs::Syntax::done))]
 fn sequence_unit(st: &State, start: u64, u: &Unit, units: &mut UnitReader) -> Result<Header, Stop>
     requires { start < 2 ^ 41 }
-    ensures exact { TellsAs (told u.now) result units.new ((onward (streams.sequence_unit st.now start u.now)).read units.old) }
+    ensures exact { TellsAs (told u.now) result units.new
+        ((onward (streams.sequence_unit st.now start u.now)).read units.old) }
     ensures shorter { length units.new ≤ length units.old }
     ensures left { IfErr result (λ e. e.left < 2 ^ 41) }
     ensures fits { IfOk result HeaderFits }
@@ -108,7 +115,8 @@ fn sequence_unit(st: &State, start: u64, u: &Unit, units: &mut UnitReader) -> Re
 #[tactic(auto, unfolding(m2v_model::specs::Streams::group_unit, m2v_model::specs::Streams::close, m2v_model::specs::Streams::no_second_field_due, m2v_model::specs::Streams::onward, m2v_bits::specs::Syntax::seq, m2v_bits::specs::Syntax::bind, m2v_bits::specs::Syntax::rule, m2v_bits::specs::Syntax::done))]
 fn group_unit(st: &State, start: u64, u: &Unit, units: &UnitReader) -> Result<Header, Stop>
     requires { start < 2 ^ 41 }
-    ensures exact { TellsAs (told u.now) result units.now ((onward (streams.group_unit st.now start u.now)).read units.now) }
+    ensures exact { TellsAs (told u.now) result units.now
+        ((onward (streams.group_unit st.now start u.now)).read units.now) }
     ensures left { IfErr result (λ e. e.left < 2 ^ 41) }
     ensures fits { IfOk result HeaderFits }
 {
@@ -128,7 +136,9 @@ fn picture_extension_in(
     units: &UnitReader,
 ) -> Result<PictureExtension, Stop>
     requires { start < 2 ^ 41 }
-    ensures exact { TellsIn result units.now ((extension_in 8 v.now start (whole_header (picture_extension_in progressive info.now))).read units.now) }
+    ensures exact { TellsIn result units.now
+        ((extension_in 8 v.now start
+        (whole_header (picture_extension_in progressive info.now))).read units.now) }
     ensures left { IfErr result (λ e. e.left < 2 ^ 41) }
     ensures fits { IfOk result (IsReadPicture info.now) }
 {
@@ -147,7 +157,9 @@ fn picture_extension_behind(
     units: &UnitReader,
 ) -> Result<PictureExtension, Stop>
     requires { start < 2 ^ 41 }
-    ensures exact { TellsIn result units.now ((extension_behind 8 v.now start (whole_header (picture_extension_in progressive info.now))).read units.now) }
+    ensures exact { TellsIn result units.now
+        ((extension_behind 8 v.now start
+        (whole_header (picture_extension_in progressive info.now))).read units.now) }
     ensures left { IfErr result (λ e. e.left < 2 ^ 41) }
     ensures fits { IfOk result (IsReadPicture info.now) }
 {
@@ -167,7 +179,8 @@ fn picture_extension_behind(
 #[tactic(auto, unfolding(m2v_model::specs::Streams::picture_unit, m2v_model::specs::Streams::close, m2v_model::specs::Streams::onward, m2v_bits::specs::Syntax::seq, m2v_bits::specs::Syntax::bind, m2v_bits::specs::Syntax::here, m2v_bits::specs::Syntax::rule, m2v_bits::specs::Syntax::done))]
 fn picture_unit(st: &State, start: u64, u: &Unit, units: &mut UnitReader) -> Result<Header, Stop>
     requires { start < 2 ^ 41 }
-    ensures exact { TellsAs (told u.now) result units.new ((onward (streams.picture_unit st.now start u.now)).read units.old) }
+    ensures exact { TellsAs (told u.now) result units.new
+        ((onward (streams.picture_unit st.now start u.now)).read units.old) }
     ensures shorter { length units.new ≤ length units.old }
     ensures left { IfErr result (λ e. e.left < 2 ^ 41) }
     ensures fits { IfOk result HeaderFits }
@@ -189,7 +202,8 @@ fn picture_unit(st: &State, start: u64, u: &Unit, units: &mut UnitReader) -> Res
 #[tactic(auto, unfolding(m2v_model::specs::Streams::matrix_unit, m2v_bits::specs::Syntax::seq, m2v_bits::specs::Syntax::bind, m2v_bits::specs::Syntax::rule, m2v_bits::specs::Syntax::done))]
 fn matrix_unit(st: &State, start: u64, u: &Unit, units: &UnitReader) -> Result<MatrixInfo, Stop>
     requires { start < 2 ^ 41 }
-    ensures exact { TellsAs matrices result units.now ((streams.matrix_unit st.now start u.now).read units.now) }
+    ensures exact { TellsAs matrices result units.now
+        ((streams.matrix_unit st.now start u.now).read units.now) }
     ensures left { IfErr result (λ e. e.left < 2 ^ 41) }
     ensures fits { IfOk result MatrixFits }
 {
@@ -203,7 +217,8 @@ fn matrix_unit(st: &State, start: u64, u: &Unit, units: &UnitReader) -> Result<M
 #[tactic(auto, unfolding(m2v_model::specs::Streams::extension_unit, m2v_model::specs::Streams::onward, m2v_model::specs::Looking::refuse, m2v_bits::specs::Syntax::choose, m2v_bits::specs::Syntax::seq, m2v_bits::specs::Syntax::bind, m2v_bits::specs::Syntax::done))]
 fn extension_unit(st: &State, start: u64, u: &Unit, units: &UnitReader) -> Result<Header, Stop>
     requires { start < 2 ^ 41 }
-    ensures exact { TellsAs (told u.now) result units.now ((onward (streams.extension_unit st.now start u.now)).read units.now) }
+    ensures exact { TellsAs (told u.now) result units.now
+        ((onward (streams.extension_unit st.now start u.now)).read units.now) }
     ensures left { IfErr result (λ e. e.left < 2 ^ 41) }
     ensures fits { IfOk result HeaderFits }
 {
@@ -231,7 +246,8 @@ fn extension_unit(st: &State, start: u64, u: &Unit, units: &UnitReader) -> Resul
 #[tactic(auto, using(crate::proofs::Ends::end_stands, crate::proofs::Ends::end_broken, crate::proofs::Ends::end_waits))]
 fn end_unit(st: &State, start: u64, units: &UnitReader) -> Result<Header, Stop>
     requires { start < 2 ^ 41 }
-    ensures exact { (u : List ℕ) → TellsAs (told u) result units.now ((«final» (streams.end_unit st.now start)).read units.now) }
+    ensures exact { (u : List ℕ) → TellsAs (told u) result units.now
+        ((«final» (streams.end_unit st.now start)).read units.now) }
     ensures left { IfErr result (λ e. e.left < 2 ^ 41) }
     ensures fits { IfOk result HeaderFits }
 {
@@ -251,7 +267,8 @@ fn later_unit(
 ) -> Result<Header, Stop>
     requires start { start < 2 ^ 41 }
     requires header { 1 ≤ value → 0xB0 ≤ value }
-    ensures exact { TellsAs (told u.now) result units.new ((streams.later_unit st.now start value u.now).read units.old) }
+    ensures exact { TellsAs (told u.now) result units.new
+        ((streams.later_unit st.now start value u.now).read units.old) }
     ensures shorter { length units.new ≤ length units.old }
     ensures left { IfErr result (λ e. e.left < 2 ^ 41) }
     ensures fits { IfOk result HeaderFits }
@@ -291,7 +308,8 @@ pub fn is_slice(st: &State, u: &Unit) -> bool
 pub fn read_header(st: &State, start: u64, u: &Unit, units: &mut UnitReader) -> Result<Header, Stop>
     requires start { start < 2 ^ 41 }
     requires header { slice_stands st.now (value_of u.now) ≡ false }
-    ensures exact { TellsAs (told u.now) result units.new ((streams.known_unit st.now start (value_of u.now) u.now).read units.old) }
+    ensures exact { TellsAs (told u.now) result units.new
+        ((streams.known_unit st.now start (value_of u.now) u.now).read units.old) }
     ensures shorter { length units.new ≤ length units.old }
     ensures left { IfErr result (λ e. e.left < 2 ^ 41) }
     ensures fits { IfOk result HeaderFits }
@@ -325,7 +343,8 @@ pub fn read_end(st: &State) -> Result<(), Stop>
 /// `FieldPair`, at the text's end.
 #[tactic(auto, unfolding(m2v_bits::specs::Syntax::rule))]
 pub fn read_text_end(st: &State) -> Result<(), Stop>
-    ensures exact { (us : Units) → TellsIn result us ((rule (none_waits st.now.waiting) FieldPair 0).read us) }
+    ensures exact { (us : Units) → TellsIn result us
+        ((rule (none_waits st.now.waiting) FieldPair 0).read us) }
     ensures ends { EndsText result st.now }
     ensures left { IfErr result (λ e. e.left ≡ 0) }
 {

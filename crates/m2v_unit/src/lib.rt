@@ -1,6 +1,7 @@
 //! The units of a piece of a stream, one after another, as they stand in its bytes and in the zero bytes behind them
 //! (clause 5.2.3 of ISO/IEC 13818-2), and the header units, read (clauses 6.1.1 and 6.2.2 to 6.2.3): each header in its
-//! unit with the rules that look ahead, and the units by the values of their start codes.
+//! unit with the rules that look ahead, and the units by the values of their start codes. What the headers in force say
+//! of what follows, and what headers and slices do to them, are functions of the state alone.
 #![tactic(auto)]
 
 mod ahead;

@@ -93,7 +93,8 @@ fn extension_in(
     progressive: bool,
     info: &PictureInfo,
 ) -> Result<PictureExtension, Stop>
-    ensures exact { Tells result input.new.rest ((picture_extension_in progressive info.now).read input.old.rest) }
+    ensures exact { Tells result input.new.rest
+        ((picture_extension_in progressive info.now).read input.old.rest) }
     ensures text { input.new.text ≡ input.old.text }
     ensures left { IfErr result (λ e. e.left ≤ length input.old.text) }
     ensures fits { IfOk result PictureExtensionFits }
@@ -116,7 +117,8 @@ pub fn picture_extension(
     progressive: bool,
     info: &PictureInfo,
 ) -> Result<PictureExtension, Stop>
-    ensures exact { Tells result input.new.rest ((whole_header (picture_extension_in progressive info.now)).read input.old.rest) }
+    ensures exact { Tells result input.new.rest
+        ((whole_header (picture_extension_in progressive info.now)).read input.old.rest) }
     ensures left { IfErr result (λ e. e.left ≤ length input.old.text) }
     ensures fits { IfOk result (IsReadPicture info.now) }
 {

@@ -59,7 +59,9 @@ fn check_size(
     at: u64,
     from: u8,
 ) -> Result<(), Stop>
-    ensures exact { Tells result input.now.rest ((size_at low most format (number_from from 2 input.now.rest) (at - from)).read input.now.rest) }
+    ensures exact { Tells result input.now.rest
+        ((size_at low most format (number_from from 2 input.now.rest)
+        (at - from)).read input.now.rest) }
     ensures left { IfErr result (λ e. e.left ≤ at) }
 {
     let ext = look(input, from, 2);
@@ -76,7 +78,8 @@ fn check_size(
 /// and 17.
 #[tactic(auto, unfolding(m2v_model::specs::Headers::sequence_extension_in, m2v_bits::specs::Syntax::renamed, m2v_model::specs::Looking::look, m2v_bits::specs::Syntax::seq, m2v_bits::specs::Syntax::bind, m2v_bits::specs::Syntax::here, m2v_bits::specs::Syntax::rule))]
 fn extension_in(input: &mut BitReader, info: &SequenceInfo) -> Result<SequenceExtension, Stop>
-    ensures exact { Tells result input.new.rest ((sequence_extension_in info.now).read input.old.rest) }
+    ensures exact { Tells result input.new.rest
+        ((sequence_extension_in info.now).read input.old.rest) }
     ensures text { input.new.text ≡ input.old.text }
     ensures left { IfErr result (λ e. e.left ≤ length input.old.text) }
     ensures fits { IfOk result SequenceExtensionFits }
@@ -97,7 +100,8 @@ pub fn sequence_extension(
     input: &mut BitReader,
     info: &SequenceInfo,
 ) -> Result<SequenceExtension, Stop>
-    ensures exact { Tells result input.new.rest ((whole_header (sequence_extension_in info.now)).read input.old.rest) }
+    ensures exact { Tells result input.new.rest
+        ((whole_header (sequence_extension_in info.now)).read input.old.rest) }
     ensures left { IfErr result (λ e. e.left ≤ length input.old.text) }
     ensures fits { IfOk result (IsReadSequence info.now) }
 {

@@ -216,10 +216,13 @@ pub fn waiting_after(
 pub fn slice_setup(st: &State, s: &Sequence, p: &Open) -> SliceSetup
     requires { IsSize (states.dims_of s.now) }
     ensures value { result ≡ states.slice_setup st.now s.now p.now }
-    ensures picture { AreMatrices st.now → HeaderFits (Picture p.now.info p.now.extension) → IsPicture result.context }
+    ensures picture { AreMatrices st.now → HeaderFits (Picture p.now.info p.now.extension)
+        → IsPicture result.context }
     ensures size { IsSize result.dims }
     ensures columns { result.dims.mb_width ≡ result.context.columns }
-    ensures rows { states.picture_rows s.now p.now ≡ (if states.is_frame result.context.extension then result.dims.mb_rows else result.dims.mb_rows / 2) }
+    ensures rows { states.picture_rows s.now p.now
+        ≡ (if states.is_frame result.context.extension
+        then result.dims.mb_rows else result.dims.mb_rows / 2) }
 {
     let dims = s.dims();
     SliceSetup {

@@ -53,7 +53,8 @@ pub fn id_inside(u: &Unit, units: &UnitReader) -> Result<u32, Stop>
 
 #[tactic(auto, unfolding(m2v_model::specs::Units::inside))]
 pub fn sequence_inside(u: &Unit, units: &UnitReader) -> Result<SequenceInfo, Stop>
-    ensures exact { TellsIn result units.now ((inside u.now (whole_header sequence_in)).read units.now) }
+    ensures exact { TellsIn result units.now
+        ((inside u.now (whole_header sequence_in)).read units.now) }
     ensures left { IfErr result (λ e. e.left < 2 ^ 41) }
     ensures fits { IfOk result SequenceFits }
 {
@@ -69,7 +70,8 @@ pub fn sequence_extension_inside(
     info: &SequenceInfo,
     units: &UnitReader,
 ) -> Result<SequenceExtension, Stop>
-    ensures exact { TellsIn result units.now ((inside u.now (whole_header (sequence_extension_in info.now))).read units.now) }
+    ensures exact { TellsIn result units.now
+        ((inside u.now (whole_header (sequence_extension_in info.now))).read units.now) }
     ensures left { IfErr result (λ e. e.left < 2 ^ 41) }
     ensures fits { IfOk result (IsReadSequence info.now) }
 {
@@ -81,7 +83,8 @@ pub fn sequence_extension_inside(
 
 #[tactic(auto, unfolding(m2v_model::specs::Units::inside))]
 pub fn group_inside(u: &Unit, units: &UnitReader) -> Result<GroupInfo, Stop>
-    ensures exact { TellsIn result units.now ((inside u.now (whole_header group_in)).read units.now) }
+    ensures exact { TellsIn result units.now
+        ((inside u.now (whole_header group_in)).read units.now) }
     ensures left { IfErr result (λ e. e.left < 2 ^ 41) }
     ensures fits { IfOk result GroupFits }
 {
@@ -93,7 +96,8 @@ pub fn group_inside(u: &Unit, units: &UnitReader) -> Result<GroupInfo, Stop>
 
 #[tactic(auto, unfolding(m2v_model::specs::Units::inside))]
 pub fn picture_inside(u: &Unit, units: &UnitReader) -> Result<PictureInfo, Stop>
-    ensures exact { TellsIn result units.now ((inside u.now (whole_header picture_in)).read units.now) }
+    ensures exact { TellsIn result units.now
+        ((inside u.now (whole_header picture_in)).read units.now) }
     ensures left { IfErr result (λ e. e.left < 2 ^ 41) }
     ensures fits { IfOk result PictureFits }
 {
@@ -110,7 +114,8 @@ pub fn picture_extension_inside(
     info: &PictureInfo,
     units: &UnitReader,
 ) -> Result<PictureExtension, Stop>
-    ensures exact { TellsIn result units.now ((inside u.now (whole_header (picture_extension_in progressive info.now))).read units.now) }
+    ensures exact { TellsIn result units.now
+        ((inside u.now (whole_header (picture_extension_in progressive info.now))).read units.now) }
     ensures left { IfErr result (λ e. e.left < 2 ^ 41) }
     ensures fits { IfOk result (IsReadPicture info.now) }
 {
@@ -122,7 +127,8 @@ pub fn picture_extension_inside(
 
 #[tactic(auto, unfolding(m2v_model::specs::Units::inside))]
 pub fn matrices_inside(u: &Unit, units: &UnitReader) -> Result<MatrixInfo, Stop>
-    ensures exact { TellsIn result units.now ((inside u.now (whole_header matrices_in)).read units.now) }
+    ensures exact { TellsIn result units.now
+        ((inside u.now (whole_header matrices_in)).read units.now) }
     ensures left { IfErr result (λ e. e.left < 2 ^ 41) }
     ensures fits { IfOk result MatrixFits }
 {
