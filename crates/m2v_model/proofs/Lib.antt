@@ -10,6 +10,7 @@ pub mod ShiftLaws
 pub mod SplitLaws
 pub mod PieceLaws
 pub mod Unique
+pub mod VerdictLaws
 pub mod Fronts
 pub mod Worked
 pub mod Verdicts

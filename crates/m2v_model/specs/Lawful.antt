@@ -1,12 +1,18 @@
 -- The rules that the verifier looks at beside the buffer (levels and profiles: clause 8), over what a stream tells: its
 -- headers and pictures in order. Each rule answers what breaks it, with the two numbers that it compares.
-use Rattle.std.specs.Prelude.{ℕ, suc, ◌+◌, ◌*◌, ◌%◌, Bool, true, false, ◌&&◌, ◌||◌, not, nat_eq, nat_le, nat_lt, if◌then◌else◌, List, [], ◌∷◌, ◌++◌, slice_index, slice_index_or, Option, Some, None}
+use Rattle.std.specs.Prelude.{◌≡◌, ℕ, suc, ◌+◌, ◌*◌, ◌%◌, Bool, true, false, ◌&&◌, ◌||◌, not, nat_eq, nat_le, nat_lt, if◌then◌else◌, List, [], ◌∷◌, ◌++◌, slice_index, slice_index_or, Option, Some, None}
 use Rattle.std.specs.List.{flat_map}
+use Rattle.m2v_set.specs.declared.settings.Level.{Level}
+use Rattle.m2v_set.specs.declared.settings.Level.TheVariants.{Main, High1440, High}
+use Rattle.m2v_set.specs.declared.limits.Limits.{Limits}
+use Rattle.m2v_set.specs.Numbers.{frame_time, limits_of}
 use Rattle.m2v_order.specs.Display.{Order}
 use Rattle.m2v_model.specs.declared.state.Sequence.{Sequence}
 use Rattle.m2v_model.specs.States.{width_of, height_of, is_frame}
 use Rattle.m2v_model.specs.Headers.{uses_forward, uses_backward}
+use Rattle.m2v_model.specs.Streams.{Sofar}
 use Rattle.m2v_model.specs.Pictures.{Picture, Events, sequence_header, group_header, coded_picture}
+use Rattle.m2v_model.specs.Decoding.{Stream, events, low_delay_of}
 
 -- ---- what is broken
 
@@ -36,34 +42,27 @@ within rule picture have low high =
     if nat_lt have low then breach rule picture have low ∷ []
     else at_most rule picture have high
 
--- ---- levels (tables 8-8 to 8-14)
+-- ---- levels (tables 8-2, 8-3 and 8-8 to 8-14)
 
-pub record Level : Type 0 where
-  pub width : ℕ
-  pub height : ℕ
-  pub codes : ℕ
-  pub luma_rate : ℕ
-  pub rate : ℕ
-  pub buffer : ℕ
-  -- the greatest horizontal f_code
-  pub f_code : ℕ
-
--- Main, High 1440 and High level; a stream that names none of them breaks rule 1, and counts as of Main level then
+-- Main, High 1440 and High level of the main profile, by profile_and_level
 abbrev pub is_level : ℕ → Bool
 is_level code = nat_eq code 72 || nat_eq code 70 || nat_eq code 68
 
+-- a code of no such level breaks rule 1, and counts as Main level in the other rules
 unfoldable pub level_of : ℕ → Level
-level_of code =
-    if nat_eq code 68 then record { width = 1920; height = 1152; codes = 8; luma_rate = 62668800; rate = 200000; buffer = 597; f_code = 9 }
-    else if nat_eq code 70 then record { width = 1440; height = 1152; codes = 8; luma_rate = 47001600; rate = 150000; buffer = 448; f_code = 9 }
-    else record { width = 720; height = 576; codes = 5; luma_rate = 10368000; rate = 37500; buffer = 112; f_code = 8 }
+level_of code = if nat_eq code 68 then High else if nat_eq code 70 then High1440 else Main
 
 abbrev pub level_in : Sequence → Level
 level_in s = level_of s.extension.profile_and_level
 
--- the time of a field in units of 1/720,000 s, by frame_rate_code (table 6-4); 0 where it is none
-unfoldable pub field_time : ℕ → ℕ
-field_time code = slice_index_or (0 ∷ 15015 ∷ 15000 ∷ 14400 ∷ 12012 ∷ 12000 ∷ 7200 ∷ 6006 ∷ 6000 ∷ []) code 0
+abbrev pub limits_in : Sequence → Limits
+limits_in s = limits_of (level_in s)
+
+-- the greatest horizontal f_code of a level; 9 is the greatest that there is
+unfoldable pub most_horizontal : Level → ℕ
+most_horizontal Main = 8
+most_horizontal High1440 = 9
+most_horizontal High = 9
 
 -- bit_rate in units of 400 bit/s, and vbv_buffer_size in units of 16,384 bits (clause 6.3.3)
 abbrev pub rate_of : Sequence → ℕ
@@ -78,25 +77,25 @@ unfoldable pub level_rule : Sequence → Breaches
 level_rule s = judge (is_level s.extension.profile_and_level) (breach 1 0 s.extension.profile_and_level 72)
 
 unfoldable pub width_rule : Sequence → Breaches
-width_rule s = at_most 2 0 (width_of s) (level_in s).width
+width_rule s = at_most 2 0 (width_of s) (limits_in s).width
 
 unfoldable pub height_rule : Sequence → Breaches
-height_rule s = at_most 3 0 (height_of s) (level_in s).height
+height_rule s = at_most 3 0 (height_of s) (limits_in s).height
 
 -- the code, and then the two numbers that change it
 unfoldable pub frame_rate_rule : Sequence → Breaches
 frame_rate_rule s =
-    within 4 0 s.info.frame_rate_code 1 (level_in s).codes
+    within 4 0 s.info.frame_rate_code 1 (limits_in s).codes
     ++ at_most 4 0 (32 * s.extension.rate_n + s.extension.rate_d) 0
 
 unfoldable pub luma_rule : Sequence → Breaches
-luma_rule s = at_most 5 0 (720000 * width_of s * height_of s) ((level_in s).luma_rate * (2 * field_time s.info.frame_rate_code))
+luma_rule s = at_most 5 0 (720000 * width_of s * height_of s) ((limits_in s).luma * frame_time s.info.frame_rate_code)
 
 unfoldable pub rate_rule : Sequence → Breaches
-rate_rule s = within 6 0 (rate_of s) 1 (level_in s).rate
+rate_rule s = within 6 0 (rate_of s) 1 (limits_in s).bits
 
 unfoldable pub buffer_rule : Sequence → Breaches
-buffer_rule s = within 7 0 (buffer_of s) 1 (level_in s).buffer
+buffer_rule s = within 7 0 (buffer_of s) 1 (limits_in s).buffer
 
 -- rule by rule, and for each rule header by header
 abbrev pub sequence_breaches : List Sequence → Breaches
@@ -148,7 +147,7 @@ f_code_rule rule component limit n =
     ++ (if uses_backward n.picture.info.kind then at_most rule n.number (f_code_of n.picture 1 component) (limit n) else [])
 
 unfoldable pub horizontal_rule : Numbered → Breaches
-horizontal_rule n = f_code_rule 8 0 (λ m. (level_in m.sequence).f_code) n
+horizontal_rule n = f_code_rule 8 0 (λ m. most_horizontal (level_in m.sequence)) n
 
 unfoldable pub vertical_rule : Numbered → Breaches
 vertical_rule n = f_code_rule 9 1 (λ m. if is_frame m.picture.extension then 5 else 4) n
@@ -169,10 +168,15 @@ unfoldable pub display_place : ℕ → List (ℕ × ℕ) → ℕ
 display_place frame [] = 0
 display_place frame (f ∷ fs) = if nat_eq f.0 frame then 0 else suc (display_place frame fs)
 
--- temporal_reference is the frame's place in display order in its group, modulo 1024
+-- the place of a picture's frame in the display order of its group. In the whole stream the frames of a group stand in
+-- the same order, since B frames before the first anchor of the group stand before it in both.
+unfoldable pub place_in_group : Bool → List Numbered → Numbered → ℕ
+place_in_group low_delay all n = display_place n.frame (Order low_delay (frames_of_group n.group all))
+
+-- temporal_reference is that place, modulo 1024 (clause 6.3.9); both fields of a frame are looked at
 unfoldable pub reference_rule : Bool → List Numbered → Numbered → Breaches
 reference_rule low_delay all n =
-    let place = display_place n.frame (Order low_delay (frames_of_group n.group all)) % 1024 in
+    let place = place_in_group low_delay all n % 1024 in
     judge (nat_eq n.picture.info.temporal_reference place) (breach 11 n.number n.picture.info.temporal_reference place)
 
 unfoldable pub crowd_rule : Numbered → Breaches
@@ -203,18 +207,33 @@ picture_breaches low_delay constant all n =
 abbrev pub all_numbered : Events → List Numbered
 all_numbered es = numbered None 0 false 0 0 es
 
--- the first vbv_delay says that the rate is variable
-abbrev pub is_constant : List Numbered → Bool
-is_constant [] = false
-is_constant (n ∷ ns) = not (nat_eq n.picture.info.vbv_delay 65535)
+-- the first vbv_delay says that the rate is variable (clause 6.3.9)
+abbrev pub is_variable : List Numbered → Bool
+is_variable [] = false
+is_variable (n ∷ ns) = nat_eq n.picture.info.vbv_delay 65535
 
 -- all that is broken, picture by picture and for each picture rule by rule
 unfoldable pub breaches : Bool → Events → Breaches
 breaches low_delay es =
     let all = all_numbered es in
-    sequence_breaches (sequences_in es) ++ flat_map (picture_breaches low_delay (is_constant all) all) all
+    sequence_breaches (sequences_in es) ++ flat_map (picture_breaches low_delay (not (is_variable all)) all) all
 
--- the first of them
-abbrev pub first_of : Breaches → Option Breach
-first_of [] = None
-first_of (b ∷ bs) = Some b
+-- ---- texts
+
+-- all that is broken in a stream, by the low_delay of its first sequence extension
+abbrev pub breaches_of : Sofar → Breaches
+breaches_of tree = breaches (low_delay_of tree.state.first) (events tree)
+
+-- the text is a stream without a fault, and no rule is broken
+pub record Lawful (text : List ℕ) : Type 0 where
+  pub tree : Sofar
+  pub stream : Stream text tree
+  pub lawful : breaches_of tree ≡ []
+
+-- the text is a stream without a fault, and this is the rule that is broken first: that of the least picture, then of the
+-- least number, at the first place that breaks it
+pub record Broken (text : List ℕ) (b : Breach) : Type 0 where
+  pub tree : Sofar
+  pub stream : Stream text tree
+  pub others : Breaches
+  pub broken : breaches_of tree ≡ b ∷ others

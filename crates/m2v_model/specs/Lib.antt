@@ -12,8 +12,11 @@ pub mod Pictures
 pub mod Pieces
 pub mod Decoding
 pub mod ByPieces
+pub mod HeadersOnly
 pub mod Lawful
 pub mod Buffering
+pub mod PieceNotes
 pub mod Outside
+pub mod FieldStreams
 pub mod Worked
 pub mod Verdicts

@@ -3,8 +3,10 @@ ghost use Rattle.m2v_macro.specs.declared.values.SliceState.{SliceState};
 ghost use Rattle.m2v_macroblock.specs.Macroblocks.{Macroblock};
 ghost use Rattle.m2v_model.specs.declared.setup.SliceSetup.{SliceSetup};
 ghost use Rattle.m2v_model.specs.Pictures.{Pictures};
-ghost use Rattle.m2v_model.specs.Decoding.{ExactlyOne, IsFront};
+ghost use Rattle.m2v_model.specs.Streams.{Sofar};
+ghost use Rattle.m2v_model.specs.Decoding.{Stream, ExactlyOne, IsFront};
 ghost use Rattle.m2v_model.specs.ByPieces.{ByPieces};
+ghost use Rattle.m2v_model.specs.Buffering.{StreamAccount, IsJudgedByAll, OneVerdict};
 ghost use Rattle.m2v_model.specs.Written.{IsSpelled};
 ghost use Rattle.m2v_model.specs.Worked.{WorkedRows};
 ghost use Rattle.m2v_model.specs.Verdicts.{judged_streams, IsJudged};
@@ -23,6 +25,18 @@ pub fn law_prefix()
 /// what was read, or has the fault that was found, at its place.
 pub fn law_by_pieces()
     ensures { (text : List ℕ) → ByPieces text }
+{}
+
+/// Of a stream exactly one holds: no rule of the verifier is broken, or one is broken first; and exactly one: its account
+/// is safe, or fails first; and each has one value.
+pub fn law_one_verdict()
+    ensures { (text : List ℕ) (tree : Sofar) → Stream text tree → OneVerdict text }
+{}
+
+/// An account is safe exactly where each picture is whole in the buffer when it is removed and the buffer takes what is
+/// held then.
+pub fn law_safe_account()
+    ensures { (a : StreamAccount) → IsJudgedByAll a }
 {}
 
 /// What is written of a macroblock that can stand somewhere, is read there as that macroblock, whatever follows.

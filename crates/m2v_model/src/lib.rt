@@ -16,8 +16,8 @@ mod state;
 
 pub use fault::FaultKind;
 pub use laws::{
-    law_by_pieces, law_macroblock_spelled, law_prefix, law_unique, law_verdict_rows,
-    law_worked_rows,
+    law_by_pieces, law_macroblock_spelled, law_one_verdict, law_prefix, law_safe_account, law_unique,
+    law_verdict_rows, law_worked_rows,
 };
 pub use notes::{Notes, PictureNote};
 pub use phase::Phase;
