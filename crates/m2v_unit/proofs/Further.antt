@@ -11,7 +11,8 @@ use Rattle.m2v_bits.specs.Leaves.{bits_at}
 use Rattle.m2v_bits.specs.Elements as elements
 use Rattle.m2v_bits.proofs.Bits.{length-bits_of, number-bits_of}
 use Rattle.m2v_head.specs.Elements.{number_at, flag_at, id_at, some_at}
-use Rattle.m2v_head.specs.Headers.{chroma_format_at, f_codes_at, kind_at}
+use Rattle.m2v_head.specs.Texts.{f_code_of}
+use Rattle.m2v_head.specs.Headers.{chroma_format_at, f_codes_at}
 use Rattle.m2v_model.specs.Looking.{number_from}
 
 -- k bits stand between two points of a text: what stands further on is seen from both
@@ -81,15 +82,28 @@ pub format_is : (v : ℕ) (t mid : List Bool) → chroma_format_at.Stands v t mi
 unfolding chroma_format_at seq here rule done
 format_is v t mid st = framed st.2.1 st.3.3.3.3.0 (st.3.3.3.3.1 ∙ st.3.3.3.2.1 ∙ st.3.3.2.1) (number_is 2 st.3.0 st.1 st.3.1 st.3.2)
 
-pub kind_is : (v : ℕ) (t mid : List Bool) → kind_at.Stands v t mid → IsAt 3 v t mid
-unfolding kind_at seq here rule done
-kind_is v t mid st = framed st.2.1 st.3.3.3.3.0 (st.3.3.3.3.1 ∙ st.3.3.3.2.1 ∙ st.3.3.2.1) (number_is 3 st.3.0 st.1 st.3.1 st.3.2)
+-- the four f_codes stand from here on
+pub record FCodesAhead (v : List (List ℕ)) (t mid : List Bool) : Type 0 where
+  pub forward_horizontal : number_from 0 4 t ≡ Some (f_code_of v 0 0)
+  pub forward_vertical : number_from 4 4 t ≡ Some (f_code_of v 0 1)
+  pub backward_horizontal : number_from 8 4 t ≡ Some (f_code_of v 1 0)
+  pub backward_vertical : number_from 12 4 t ≡ Some (f_code_of v 1 1)
+  pub skips : Skips 16 t mid
 
-pub f_codes_skip : (v : List (List ℕ)) (t mid : List Bool) → f_codes_at.Stands v t mid → Skips 16 t mid
+pub f_codes_ahead : (v : List (List ℕ)) (t mid : List Bool) → f_codes_at.Stands v t mid → FCodesAhead v t mid
 unfolding f_codes_at seq done
-f_codes_skip v t mid st =
+f_codes_ahead v t mid st =
     let a = number_is 4 st.0 t st.1 st.2 in
     let b = number_is 4 st.3.0 st.1 st.3.1 st.3.2 in
     let c = number_is 4 st.3.3.0 st.3.1 st.3.3.1 st.3.3.2 in
     let d = number_is 4 st.3.3.3.0 st.3.3.1 st.3.3.3.1 st.3.3.3.2 in
-    subst (Skips 16 t) (sym st.3.3.3.3.1) (skip_more a.skips (skip_more b.skips (skip_more c.skips d.skips)))
+    let s8 = skip_more a.skips b.skips in
+    let s12 = skip_more s8 c.skips in
+    let told = λ (direction component : ℕ). ap (λ (x : List (List ℕ)). Some (f_code_of x direction component)) (sym st.3.3.3.3.0) in
+    record {
+      forward_horizontal = a.number ∙ told 0 0;
+      forward_vertical = a.skips.on 0 4 ∙ b.number ∙ told 0 1;
+      backward_horizontal = s8.on 0 4 ∙ c.number ∙ told 1 0;
+      backward_vertical = s12.on 0 4 ∙ d.number ∙ told 1 1;
+      skips = subst (Skips 16 t) (sym st.3.3.3.3.1) (skip_more s12 d.skips);
+    }

@@ -2,3 +2,4 @@ pub mod Cuts
 pub mod Further
 pub mod Judged
 pub mod Ends
+pub mod Setups

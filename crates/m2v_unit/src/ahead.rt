@@ -4,9 +4,8 @@ ghost use Rattle.m2v_model.specs.declared.fault.FaultKind.TheVariants.{Truncated
 ghost use Rattle.m2v_model.specs.Looking.{number_from, looking};
 ghost use Rattle.m2v_model.specs.Stops.{Tells};
 
+use m2v_model::{FaultKind, Stop, stopped};
 use m2v_bits::BitReader;
-use m2v_model::FaultKind;
-use m2v_model::{Stop, stopped};
 
 /// The number of n bits that stands some bits on, where the unit has it. Nothing is taken.
 #[tactic(auto, using(m2v_bits::proofs::Cursor::lengths), unfolding(m2v_model::specs::Looking::number_from))]
@@ -36,7 +35,8 @@ pub fn left_of(input: &BitReader) -> u64
 /// A rule on an element at which so many bits are left.
 pub fn check(holds: bool, kind: FaultKind, left: u64) -> Result<(), Stop>
     ensures held { IfOk result (λ done. holds ≡ true) }
-    ensures broken { IfErr result (λ e. (holds ≡ false) × (e ≡ record { kind = kind; left = left })) }
+    ensures broken { IfErr result (λ e. (holds ≡ false)
+        × (e ≡ record { kind = kind; left = left })) }
 {
     if holds {
         return Ok(());
@@ -65,7 +65,8 @@ pub fn end(input: &mut BitReader) -> Result<(), Stop>
 /// The id with which an extension begins (clause 6.3.4). Nothing is taken.
 #[tactic(auto, unfolding(m2v_model::specs::Looking::looking, m2v_bits::specs::Leaves::bits_at))]
 pub fn id_ahead(input: &BitReader) -> Result<u32, Stop>
-    ensures exact { Tells result input.now.rest ((looking (bits_at Truncated 4)).read input.now.rest) }
+    ensures exact { Tells result input.now.rest
+        ((looking (bits_at Truncated 4)).read input.now.rest) }
     ensures left { IfErr result (λ e. e.left ≤ length input.now.text) }
     ensures below { IfOk result (λ id. id < 2 ^ 4) }
 {

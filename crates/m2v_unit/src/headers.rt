@@ -1,33 +1,46 @@
 ghost use Rattle.std.specs.Prelude.{◌≡◌, ◌<◌, ◌≤◌, ◌^◌, IfOk, IfErr, List, ℕ, length, [], true, false};
-ghost use Rattle.m2v_model.specs.declared.fault.FaultKind.TheVariants.{MissingMacroblocks};
-ghost use Rattle.m2v_model.specs.States.{is_complete as complete};
-ghost use Rattle.m2v_model.specs.Headers.{whole, sequence_extension_in, picture_extension_in};
+ghost use Rattle.m2v_bits.specs.Syntax.{rule};
+ghost use Rattle.m2v_model.specs.declared.fault.FaultKind.TheVariants.{MissingMacroblocks, FieldPair};
+ghost use Rattle.m2v_model.specs.Units.{Units};
+ghost use Rattle.m2v_model.specs.States.{is_complete as complete, none_waits};
+ghost use Rattle.m2v_model.specs.Headers.{whole_header, sequence_extension_in, picture_extension_in};
 ghost use Rattle.m2v_head.specs.Fits.{MatrixFits};
 ghost use Rattle.m2v_model.specs.Streams.{value_of, extension_in, extension_behind, matrices, onward, «final», over, text_end};
 ghost use Rattle.m2v_model.specs.Streams as streams;
-ghost use Rattle.m2v_unit.specs.Reads.{IsReadSequence, IsReadExtension};
-ghost use Rattle.m2v_unit.specs.Among.{TellsIn, TellsAs, is_slice as slice_stands, told, HeaderFits};
+ghost use Rattle.m2v_unit.specs.Reads.{IsReadSequence, IsReadPicture};
+ghost use Rattle.m2v_unit.specs.Among.{TellsIn, TellsAs, is_slice as slice_stands, told, HeaderFits, EndsText};
 
 use crate::ahead::check;
 use crate::header::Header;
-use crate::state::{is_complete, is_same_sequence, takes_matrices};
+use crate::reader::UnitReader;
+use crate::state::{
+    has_anchor, is_complete, is_progressive, is_same_sequence, is_second_field_due, takes_matrices,
+};
+use m2v_model::{FaultKind, Sequence, State, Stop};
+use crate::unit::Unit;
 use crate::units::{
     group_inside, id_inside, matrices_inside, next_unit, picture_extension_inside, picture_inside,
     sequence_extension_inside, sequence_inside,
 };
 use m2v_head::{MatrixInfo, PictureExtension, PictureInfo, SequenceExtension, SequenceInfo};
-use m2v_model::{FaultKind, Sequence, State};
-use m2v_model::Stop;
-use crate::reader::UnitReader;
-use crate::unit::Unit;
 
 /// The picture that is open ends here, with each of its macroblocks read.
 fn close(st: &State, start: u64) -> Result<(), Stop>
     ensures held { IfOk result (λ done. complete st.now.sequence st.now.picture ≡ true) }
-    ensures broken { IfErr result (λ e. (complete st.now.sequence st.now.picture ≡ false) × (e ≡ record { kind = MissingMacroblocks; left = start })) }
+    ensures broken { IfErr result (λ e. (complete st.now.sequence st.now.picture ≡ false)
+        × (e ≡ record { kind = MissingMacroblocks; left = start })) }
 {
     let complete = is_complete(&st.sequence, &st.picture);
     check(complete, FaultKind::MissingMacroblocks, start)
+}
+
+/// No first field waits for its second.
+fn no_second_field_due(st: &State, start: u64) -> Result<(), Stop>
+    ensures held { IfOk result (λ done. none_waits st.now.waiting ≡ true) }
+    ensures broken { IfErr result (λ e. (none_waits st.now.waiting ≡ false)
+        × (e ≡ record { kind = FieldPair; left = start })) }
+{
+    check(st.waiting.is_none(), FaultKind::FieldPair, start)
 }
 
 /// A sequence extension in the unit behind a sequence header, whose id must be 1.
@@ -39,7 +52,9 @@ fn sequence_extension_in(
     units: &UnitReader,
 ) -> Result<SequenceExtension, Stop>
     requires { start < 2 ^ 41 }
-    ensures exact { TellsIn result units.now ((extension_in 1 v.now start (whole (sequence_extension_in info.now))).read units.now) }
+    ensures exact { TellsIn result units.now
+        ((extension_in 1 v.now start
+        (whole_header (sequence_extension_in info.now))).read units.now) }
     ensures left { IfErr result (λ e. e.left < 2 ^ 41) }
     ensures fits { IfOk result (IsReadSequence info.now) }
 {
@@ -57,7 +72,9 @@ fn sequence_extension_behind(
     units: &UnitReader,
 ) -> Result<SequenceExtension, Stop>
     requires { start < 2 ^ 41 }
-    ensures exact { TellsIn result units.now ((extension_behind 1 v.now start (whole (sequence_extension_in info.now))).read units.now) }
+    ensures exact { TellsIn result units.now
+        ((extension_behind 1 v.now start
+        (whole_header (sequence_extension_in info.now))).read units.now) }
     ensures left { IfErr result (λ e. e.left < 2 ^ 41) }
     ensures fits { IfOk result (IsReadSequence info.now) }
 {
@@ -73,15 +90,17 @@ fn sequence_extension_behind(
 }
 
 /// A sequence header and its extension; changes are looked at behind both.
-#[tactic(auto, unfolding(m2v_model::specs::Streams::sequence_unit, m2v_model::specs::Streams::close, m2v_model::specs::Streams::onward, m2v_bits::specs::Syntax::seq, m2v_bits::specs::Syntax::bind, m2v_bits::specs::Syntax::here, m2v_bits::specs::Syntax::rule, m2v_bits::specs::Syntax::done))]
+#[tactic(auto, unfolding(m2v_model::specs::Streams::sequence_unit, m2v_model::specs::Streams::close, m2v_model::specs::Streams::no_second_field_due, m2v_model::specs::Streams::onward, m2v_bits::specs::Syntax::seq, m2v_bits::specs::Syntax::bind, m2v_bits::specs::Syntax::here, m2v_bits::specs::Syntax::rule, m2v_bits::specs::Syntax::done))]
 fn sequence_unit(st: &State, start: u64, u: &Unit, units: &mut UnitReader) -> Result<Header, Stop>
     requires { start < 2 ^ 41 }
-    ensures exact { TellsAs (told u.now) result units.new ((onward (streams.sequence_unit st.now start u.now)).read units.old) }
+    ensures exact { TellsAs (told u.now) result units.new
+        ((onward (streams.sequence_unit st.now start u.now)).read units.old) }
     ensures shorter { length units.new ≤ length units.old }
     ensures left { IfErr result (λ e. e.left < 2 ^ 41) }
     ensures fits { IfOk result HeaderFits }
 {
     close(st, start)?;
+    no_second_field_due(st, start)?;
     let info = sequence_inside(u, units)?;
     let next = units.left();
     let v = next_unit(units);
@@ -92,14 +111,16 @@ fn sequence_unit(st: &State, start: u64, u: &Unit, units: &mut UnitReader) -> Re
     Ok(Header::Sequence(sequence))
 }
 
-#[tactic(auto, unfolding(m2v_model::specs::Streams::group_unit, m2v_model::specs::Streams::close, m2v_model::specs::Streams::onward, m2v_bits::specs::Syntax::seq, m2v_bits::specs::Syntax::bind, m2v_bits::specs::Syntax::rule, m2v_bits::specs::Syntax::done))]
+#[tactic(auto, unfolding(m2v_model::specs::Streams::group_unit, m2v_model::specs::Streams::close, m2v_model::specs::Streams::no_second_field_due, m2v_model::specs::Streams::onward, m2v_bits::specs::Syntax::seq, m2v_bits::specs::Syntax::bind, m2v_bits::specs::Syntax::rule, m2v_bits::specs::Syntax::done))]
 fn group_unit(st: &State, start: u64, u: &Unit, units: &UnitReader) -> Result<Header, Stop>
     requires { start < 2 ^ 41 }
-    ensures exact { TellsAs (told u.now) result units.now ((onward (streams.group_unit st.now start u.now)).read units.now) }
+    ensures exact { TellsAs (told u.now) result units.now
+        ((onward (streams.group_unit st.now start u.now)).read units.now) }
     ensures left { IfErr result (λ e. e.left < 2 ^ 41) }
     ensures fits { IfOk result HeaderFits }
 {
     close(st, start)?;
+    no_second_field_due(st, start)?;
     let group = group_inside(u, units)?;
     Ok(Header::Group(group))
 }
@@ -109,17 +130,20 @@ fn group_unit(st: &State, start: u64, u: &Unit, units: &UnitReader) -> Result<He
 fn picture_extension_in(
     v: &Unit,
     start: u64,
+    progressive: bool,
     info: &PictureInfo,
     units: &UnitReader,
 ) -> Result<PictureExtension, Stop>
     requires { start < 2 ^ 41 }
-    ensures exact { TellsIn result units.now ((extension_in 8 v.now start (whole (picture_extension_in info.now))).read units.now) }
+    ensures exact { TellsIn result units.now
+        ((extension_in 8 v.now start
+        (whole_header (picture_extension_in progressive info.now))).read units.now) }
     ensures left { IfErr result (λ e. e.left < 2 ^ 41) }
-    ensures fits { IfOk result IsReadExtension }
+    ensures fits { IfOk result (IsReadPicture info.now) }
 {
     let id = id_inside(v, units)?;
     check(id == 8, FaultKind::NotMpeg2, start)?;
-    picture_extension_inside(v, info, units)
+    picture_extension_inside(v, progressive, info, units)
 }
 
 /// The unit behind a picture header, which must be a picture coding extension.
@@ -127,17 +151,20 @@ fn picture_extension_in(
 fn picture_extension_behind(
     v: &Option<Unit>,
     start: u64,
+    progressive: bool,
     info: &PictureInfo,
     units: &UnitReader,
 ) -> Result<PictureExtension, Stop>
     requires { start < 2 ^ 41 }
-    ensures exact { TellsIn result units.now ((extension_behind 8 v.now start (whole (picture_extension_in info.now))).read units.now) }
+    ensures exact { TellsIn result units.now
+        ((extension_behind 8 v.now start
+        (whole_header (picture_extension_in progressive info.now))).read units.now) }
     ensures left { IfErr result (λ e. e.left < 2 ^ 41) }
-    ensures fits { IfOk result IsReadExtension }
+    ensures fits { IfOk result (IsReadPicture info.now) }
 {
     if let Some(v) = v {
         if v.value() == 0xB5 {
-            return picture_extension_in(v, start, info, units);
+            return picture_extension_in(v, start, progressive, info, units);
         }
     }
     Err(Stop {
@@ -146,11 +173,13 @@ fn picture_extension_behind(
     })
 }
 
-/// A picture header and its picture coding extension.
+/// A picture header and its picture coding extension. Behind both it is looked at that the picture is the second field
+/// that is due, and that a P picture has an anchor.
 #[tactic(auto, unfolding(m2v_model::specs::Streams::picture_unit, m2v_model::specs::Streams::close, m2v_model::specs::Streams::onward, m2v_bits::specs::Syntax::seq, m2v_bits::specs::Syntax::bind, m2v_bits::specs::Syntax::here, m2v_bits::specs::Syntax::rule, m2v_bits::specs::Syntax::done))]
 fn picture_unit(st: &State, start: u64, u: &Unit, units: &mut UnitReader) -> Result<Header, Stop>
     requires { start < 2 ^ 41 }
-    ensures exact { TellsAs (told u.now) result units.new ((onward (streams.picture_unit st.now start u.now)).read units.old) }
+    ensures exact { TellsAs (told u.now) result units.new
+        ((onward (streams.picture_unit st.now start u.now)).read units.old) }
     ensures shorter { length units.new ≤ length units.old }
     ensures left { IfErr result (λ e. e.left < 2 ^ 41) }
     ensures fits { IfOk result HeaderFits }
@@ -159,7 +188,12 @@ fn picture_unit(st: &State, start: u64, u: &Unit, units: &mut UnitReader) -> Res
     let info = picture_inside(u, units)?;
     let next = units.left();
     let v = next_unit(units);
-    let extension = picture_extension_behind(&v, next, &info, units)?;
+    let progressive = is_progressive(&st.sequence);
+    let extension = picture_extension_behind(&v, next, progressive, &info, units)?;
+    let due = is_second_field_due(&st.waiting, &info, &extension);
+    check(due, FaultKind::FieldPair, start)?;
+    let anchor = has_anchor(st, &info);
+    check(anchor, FaultKind::MissingReference, start)?;
     Ok(Header::Picture(info, extension))
 }
 
@@ -167,7 +201,8 @@ fn picture_unit(st: &State, start: u64, u: &Unit, units: &mut UnitReader) -> Res
 #[tactic(auto, unfolding(m2v_model::specs::Streams::matrix_unit, m2v_bits::specs::Syntax::seq, m2v_bits::specs::Syntax::bind, m2v_bits::specs::Syntax::rule, m2v_bits::specs::Syntax::done))]
 fn matrix_unit(st: &State, start: u64, u: &Unit, units: &UnitReader) -> Result<MatrixInfo, Stop>
     requires { start < 2 ^ 41 }
-    ensures exact { TellsAs matrices result units.now ((streams.matrix_unit st.now start u.now).read units.now) }
+    ensures exact { TellsAs matrices result units.now
+        ((streams.matrix_unit st.now start u.now).read units.now) }
     ensures left { IfErr result (λ e. e.left < 2 ^ 41) }
     ensures fits { IfOk result MatrixFits }
 {
@@ -181,7 +216,8 @@ fn matrix_unit(st: &State, start: u64, u: &Unit, units: &UnitReader) -> Result<M
 #[tactic(auto, unfolding(m2v_model::specs::Streams::extension_unit, m2v_model::specs::Streams::onward, m2v_model::specs::Looking::refuse, m2v_bits::specs::Syntax::choose, m2v_bits::specs::Syntax::seq, m2v_bits::specs::Syntax::bind, m2v_bits::specs::Syntax::done))]
 fn extension_unit(st: &State, start: u64, u: &Unit, units: &UnitReader) -> Result<Header, Stop>
     requires { start < 2 ^ 41 }
-    ensures exact { TellsAs (told u.now) result units.now ((onward (streams.extension_unit st.now start u.now)).read units.now) }
+    ensures exact { TellsAs (told u.now) result units.now
+        ((onward (streams.extension_unit st.now start u.now)).read units.now) }
     ensures left { IfErr result (λ e. e.left < 2 ^ 41) }
     ensures fits { IfOk result HeaderFits }
 {
@@ -206,14 +242,16 @@ fn extension_unit(st: &State, start: u64, u: &Unit, units: &UnitReader) -> Resul
 }
 
 /// The sequence end code.
-#[tactic(auto, using(crate::proofs::Ends::end_stands, crate::proofs::Ends::end_broken))]
+#[tactic(auto, using(crate::proofs::Ends::end_stands, crate::proofs::Ends::end_broken, crate::proofs::Ends::end_waits))]
 fn end_unit(st: &State, start: u64, units: &UnitReader) -> Result<Header, Stop>
     requires { start < 2 ^ 41 }
-    ensures exact { (u : List ℕ) → TellsAs (told u) result units.now ((«final» (streams.end_unit st.now start)).read units.now) }
+    ensures exact { (u : List ℕ) → TellsAs (told u) result units.now
+        ((«final» (streams.end_unit st.now start)).read units.now) }
     ensures left { IfErr result (λ e. e.left < 2 ^ 41) }
     ensures fits { IfOk result HeaderFits }
 {
     close(st, start)?;
+    no_second_field_due(st, start)?;
     Ok(Header::Ending)
 }
 
@@ -228,7 +266,8 @@ fn later_unit(
 ) -> Result<Header, Stop>
     requires start { start < 2 ^ 41 }
     requires header { 1 ≤ value → 0xB0 ≤ value }
-    ensures exact { TellsAs (told u.now) result units.new ((streams.later_unit st.now start value u.now).read units.old) }
+    ensures exact { TellsAs (told u.now) result units.new
+        ((streams.later_unit st.now start value u.now).read units.old) }
     ensures shorter { length units.new ≤ length units.old }
     ensures left { IfErr result (λ e. e.left < 2 ^ 41) }
     ensures fits { IfOk result HeaderFits }
@@ -268,7 +307,8 @@ pub fn is_slice(st: &State, u: &Unit) -> bool
 pub fn read_header(st: &State, start: u64, u: &Unit, units: &mut UnitReader) -> Result<Header, Stop>
     requires start { start < 2 ^ 41 }
     requires header { slice_stands st.now (value_of u.now) ≡ false }
-    ensures exact { TellsAs (told u.now) result units.new ((streams.known_unit st.now start (value_of u.now) u.now).read units.old) }
+    ensures exact { TellsAs (told u.now) result units.new
+        ((streams.known_unit st.now start (value_of u.now) u.now).read units.old) }
     ensures shorter { length units.new ≤ length units.old }
     ensures left { IfErr result (λ e. e.left < 2 ^ 41) }
     ensures fits { IfOk result HeaderFits }
@@ -283,10 +323,10 @@ pub fn read_header(st: &State, start: u64, u: &Unit, units: &mut UnitReader) -> 
     later_unit(st, start, value, u, units)
 }
 
-/// The rules at the end of the text: there was a sequence header, and the picture that is open is whole.
+/// The rules at the end of a piece: there was a sequence header, and the picture that is open is complete.
 ///
 /// # Errors
-/// `NoSequence` or `MissingMacroblocks`, at the text's end.
+/// `NoSequence` or `MissingMacroblocks`, at the piece's end.
 #[tactic(auto, unfolding(m2v_model::specs::Streams::text_end, m2v_model::specs::Streams::close, m2v_bits::specs::Syntax::seq, m2v_bits::specs::Syntax::bind, m2v_bits::specs::Syntax::rule, m2v_bits::specs::Syntax::done))]
 pub fn read_end(st: &State) -> Result<(), Stop>
     ensures exact { TellsAs (λ done. (false, over)) result [] ((text_end st.now 0).read []) }
@@ -294,4 +334,18 @@ pub fn read_end(st: &State) -> Result<(), Stop>
 {
     check(st.sequence.is_some(), FaultKind::NoSequence, 0)?;
     close(st, 0)
+}
+
+/// The rule at the end of the text that isn't one at a piece's end: no first field waits for its second.
+///
+/// # Errors
+/// `FieldPair`, at the text's end.
+#[tactic(auto, unfolding(m2v_bits::specs::Syntax::rule))]
+pub fn read_text_end(st: &State) -> Result<(), Stop>
+    ensures exact { (us : Units) → TellsIn result us
+        ((rule (none_waits st.now.waiting) FieldPair 0).read us) }
+    ensures ends { EndsText result st.now }
+    ensures left { IfErr result (λ e. e.left ≡ 0) }
+{
+    no_second_field_due(st, 0)
 }

@@ -1,21 +1,19 @@
 ghost use Rattle.std.specs.Prelude.{◌≡◌, ◌-◌, ◌≤◌, IfOk, IfErr, length, not, nat_eq, nat_le};
 ghost use Rattle.m2v_head.specs.Fits.{SequenceFits, SequenceExtensionFits};
-ghost use Rattle.m2v_model.specs.Headers.{whole, sequence_in, sequence_extension_in, size_passes, size_at};
-ghost use Rattle.m2v_model.specs.Looking.{number_from, passes};
-ghost use Rattle.m2v_model.specs.Unread.{is_read_sequence};
+ghost use Rattle.m2v_model.specs.Headers.{whole_header, sequence_in, sequence_extension_in, size_passes, size_at};
+ghost use Rattle.m2v_model.specs.Looking.{number_from};
 ghost use Rattle.m2v_model.specs.Stops.{Tells};
 ghost use Rattle.m2v_unit.specs.Reads.{IsReadSequence};
 
 use crate::ahead::{check, end, left_of, look};
+use m2v_model::{FaultKind, Stop, of_head, stopped};
 use m2v_bits::BitReader;
 use m2v_head::{SequenceExtension, SequenceInfo};
-use m2v_model::FaultKind;
-use m2v_model::{Stop, of_head, stopped};
 
 /// Reads a sequence header's unit behind its start code (clause 6.2.2.1).
-#[tactic(auto, unfolding(m2v_model::specs::Headers::whole, m2v_model::specs::Headers::sequence_in, m2v_bits::specs::Syntax::renamed, m2v_bits::specs::Syntax::seq, m2v_bits::specs::Syntax::bind, m2v_bits::specs::Syntax::done))]
+#[tactic(auto, unfolding(m2v_model::specs::Headers::whole_header, m2v_model::specs::Headers::sequence_in, m2v_bits::specs::Syntax::renamed, m2v_bits::specs::Syntax::seq, m2v_bits::specs::Syntax::bind, m2v_bits::specs::Syntax::done))]
 pub fn sequence(input: &mut BitReader) -> Result<SequenceInfo, Stop>
-    ensures exact { Tells result input.new.rest ((whole sequence_in).read input.old.rest) }
+    ensures exact { Tells result input.new.rest ((whole_header sequence_in).read input.old.rest) }
     ensures left { IfErr result (λ e. e.left ≤ length input.old.text) }
     ensures fits { IfOk result SequenceFits }
 {
@@ -25,16 +23,6 @@ pub fn sequence(input: &mut BitReader) -> Result<SequenceInfo, Stop>
             Ok(info)
         }
         Err(e) => Err(stopped(input, of_head(e))),
-    }
-}
-
-/// Whether progressive_sequence says a sequence that is read.
-fn is_progressive(bit: Option<u32>) -> bool
-    ensures { result ≡ passes is_read_sequence bit }
-{
-    match bit {
-        Some(bit) => bit == 1,
-        None => true,
     }
 }
 
@@ -70,7 +58,9 @@ fn check_size(
     at: u64,
     from: u8,
 ) -> Result<(), Stop>
-    ensures exact { Tells result input.now.rest ((size_at low most format (number_from from 2 input.now.rest) (at - from)).read input.now.rest) }
+    ensures exact { Tells result input.now.rest
+        ((size_at low most format (number_from from 2 input.now.rest)
+        (at - from)).read input.now.rest) }
     ensures left { IfErr result (λ e. e.left ≤ at) }
 {
     let ext = look(input, from, 2);
@@ -83,18 +73,17 @@ fn check_size(
     )
 }
 
-/// An extension, behind the rules that look ahead: progressive_sequence stands 12 bits on, chroma_format 13, and the
-/// extensions of the sizes 15 and 17.
+/// An extension, behind the rules that look ahead: chroma_format stands 13 bits on, and the extensions of the sizes 15
+/// and 17.
 #[tactic(auto, unfolding(m2v_model::specs::Headers::sequence_extension_in, m2v_bits::specs::Syntax::renamed, m2v_model::specs::Looking::look, m2v_bits::specs::Syntax::seq, m2v_bits::specs::Syntax::bind, m2v_bits::specs::Syntax::here, m2v_bits::specs::Syntax::rule))]
 fn extension_in(input: &mut BitReader, info: &SequenceInfo) -> Result<SequenceExtension, Stop>
-    ensures exact { Tells result input.new.rest ((sequence_extension_in info.now).read input.old.rest) }
+    ensures exact { Tells result input.new.rest
+        ((sequence_extension_in info.now).read input.old.rest) }
     ensures text { input.new.text ≡ input.old.text }
     ensures left { IfErr result (λ e. e.left ≤ length input.old.text) }
     ensures fits { IfOk result SequenceExtensionFits }
 {
     let at = left_of(input);
-    let progressive = is_progressive(look(input, 12, 1));
-    check(progressive, FaultKind::Unsupported, at.saturating_sub(12))?;
     let format = look(input, 13, 2);
     check_size(input, info.horizontal_size, 1920, format, at, 15)?;
     check_size(input, info.vertical_size, 1152, format, at, 17)?;
@@ -105,12 +94,13 @@ fn extension_in(input: &mut BitReader, info: &SequenceInfo) -> Result<SequenceEx
 }
 
 /// Reads a sequence extension's unit behind its start code and its sequence header (clause 6.2.2.3).
-#[tactic(auto, unfolding(m2v_model::specs::Headers::whole, m2v_bits::specs::Syntax::seq, m2v_bits::specs::Syntax::bind, m2v_bits::specs::Syntax::done))]
+#[tactic(auto, unfolding(m2v_model::specs::Headers::whole_header, m2v_bits::specs::Syntax::seq, m2v_bits::specs::Syntax::bind, m2v_bits::specs::Syntax::done))]
 pub fn sequence_extension(
     input: &mut BitReader,
     info: &SequenceInfo,
 ) -> Result<SequenceExtension, Stop>
-    ensures exact { Tells result input.new.rest ((whole (sequence_extension_in info.now)).read input.old.rest) }
+    ensures exact { Tells result input.new.rest
+        ((whole_header (sequence_extension_in info.now)).read input.old.rest) }
     ensures left { IfErr result (λ e. e.left ≤ length input.old.text) }
     ensures fits { IfOk result (IsReadSequence info.now) }
 {

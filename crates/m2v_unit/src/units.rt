@@ -1,22 +1,22 @@
 ghost use Rattle.std.specs.Prelude.{◌≡◌, ◌+◌, ◌<◌, ◌≤◌, ◌^◌, IfOk, IfErr, Ok, length};
-ghost use Rattle.m2v_head.specs.Fits.{SequenceFits, GroupFits, MatrixFits};
+ghost use Rattle.m2v_head.specs.Fits.{SequenceFits, GroupFits, PictureFits, MatrixFits};
 ghost use Rattle.m2v_model.specs.declared.fault.FaultKind.{FaultKind as Kind};
 ghost use Rattle.m2v_model.specs.Units.{unit_bits, unit_at, inside};
-ghost use Rattle.m2v_model.specs.Headers.{whole, sequence_in, sequence_extension_in, group_in, picture_in, picture_extension_in, matrices_in};
+ghost use Rattle.m2v_model.specs.Headers.{whole_header, sequence_in, sequence_extension_in, group_in, picture_in, picture_extension_in, matrices_in};
 ghost use Rattle.m2v_model.specs.Streams.{id_at};
-ghost use Rattle.m2v_unit.specs.Reads.{IsReadSequence, IsReadPicture, IsReadExtension};
+ghost use Rattle.m2v_unit.specs.Reads.{IsReadSequence, IsReadPicture};
 ghost use Rattle.m2v_unit.specs.Among.{TellsIn};
 
 use crate::ahead::id_ahead;
 use crate::groups::{group, matrices};
 use crate::pictures::{picture, picture_extension};
+use crate::reader::UnitReader;
 use crate::sequences::{sequence, sequence_extension};
+use m2v_model::Stop;
+use crate::unit::Unit;
 use m2v_head::{
     GroupInfo, MatrixInfo, PictureExtension, PictureInfo, SequenceExtension, SequenceInfo,
 };
-use m2v_model::Stop;
-use crate::reader::UnitReader;
-use crate::unit::Unit;
 
 /// A fault inside a unit, with the units that are left behind it.
 fn behind(stop: Stop, units: &UnitReader) -> Stop
@@ -53,7 +53,8 @@ pub fn id_inside(u: &Unit, units: &UnitReader) -> Result<u32, Stop>
 
 #[tactic(auto, unfolding(m2v_model::specs::Units::inside))]
 pub fn sequence_inside(u: &Unit, units: &UnitReader) -> Result<SequenceInfo, Stop>
-    ensures exact { TellsIn result units.now ((inside u.now (whole sequence_in)).read units.now) }
+    ensures exact { TellsIn result units.now
+        ((inside u.now (whole_header sequence_in)).read units.now) }
     ensures left { IfErr result (λ e. e.left < 2 ^ 41) }
     ensures fits { IfOk result SequenceFits }
 {
@@ -69,7 +70,8 @@ pub fn sequence_extension_inside(
     info: &SequenceInfo,
     units: &UnitReader,
 ) -> Result<SequenceExtension, Stop>
-    ensures exact { TellsIn result units.now ((inside u.now (whole (sequence_extension_in info.now))).read units.now) }
+    ensures exact { TellsIn result units.now
+        ((inside u.now (whole_header (sequence_extension_in info.now))).read units.now) }
     ensures left { IfErr result (λ e. e.left < 2 ^ 41) }
     ensures fits { IfOk result (IsReadSequence info.now) }
 {
@@ -81,7 +83,8 @@ pub fn sequence_extension_inside(
 
 #[tactic(auto, unfolding(m2v_model::specs::Units::inside))]
 pub fn group_inside(u: &Unit, units: &UnitReader) -> Result<GroupInfo, Stop>
-    ensures exact { TellsIn result units.now ((inside u.now (whole group_in)).read units.now) }
+    ensures exact { TellsIn result units.now
+        ((inside u.now (whole_header group_in)).read units.now) }
     ensures left { IfErr result (λ e. e.left < 2 ^ 41) }
     ensures fits { IfOk result GroupFits }
 {
@@ -93,9 +96,10 @@ pub fn group_inside(u: &Unit, units: &UnitReader) -> Result<GroupInfo, Stop>
 
 #[tactic(auto, unfolding(m2v_model::specs::Units::inside))]
 pub fn picture_inside(u: &Unit, units: &UnitReader) -> Result<PictureInfo, Stop>
-    ensures exact { TellsIn result units.now ((inside u.now (whole picture_in)).read units.now) }
+    ensures exact { TellsIn result units.now
+        ((inside u.now (whole_header picture_in)).read units.now) }
     ensures left { IfErr result (λ e. e.left < 2 ^ 41) }
-    ensures fits { IfOk result IsReadPicture }
+    ensures fits { IfOk result PictureFits }
 {
     match picture(&mut u.body()) {
         Ok(info) => Ok(info),
@@ -106,14 +110,16 @@ pub fn picture_inside(u: &Unit, units: &UnitReader) -> Result<PictureInfo, Stop>
 #[tactic(auto, unfolding(m2v_model::specs::Units::inside))]
 pub fn picture_extension_inside(
     u: &Unit,
+    progressive: bool,
     info: &PictureInfo,
     units: &UnitReader,
 ) -> Result<PictureExtension, Stop>
-    ensures exact { TellsIn result units.now ((inside u.now (whole (picture_extension_in info.now))).read units.now) }
+    ensures exact { TellsIn result units.now
+        ((inside u.now (whole_header (picture_extension_in progressive info.now))).read units.now) }
     ensures left { IfErr result (λ e. e.left < 2 ^ 41) }
-    ensures fits { IfOk result IsReadExtension }
+    ensures fits { IfOk result (IsReadPicture info.now) }
 {
-    match picture_extension(&mut u.body(), info) {
+    match picture_extension(&mut u.body(), progressive, info) {
         Ok(extension) => Ok(extension),
         Err(e) => Err(behind(e, units)),
     }
@@ -121,7 +127,8 @@ pub fn picture_extension_inside(
 
 #[tactic(auto, unfolding(m2v_model::specs::Units::inside))]
 pub fn matrices_inside(u: &Unit, units: &UnitReader) -> Result<MatrixInfo, Stop>
-    ensures exact { TellsIn result units.now ((inside u.now (whole matrices_in)).read units.now) }
+    ensures exact { TellsIn result units.now
+        ((inside u.now (whole_header matrices_in)).read units.now) }
     ensures left { IfErr result (λ e. e.left < 2 ^ 41) }
     ensures fits { IfOk result MatrixFits }
 {
