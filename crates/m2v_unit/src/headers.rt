@@ -16,13 +16,13 @@ use crate::reader::UnitReader;
 use crate::state::{
     has_anchor, is_complete, is_progressive, is_same_sequence, is_second_field_due, takes_matrices,
 };
-use m2v_model::{FaultKind, Sequence, State, Stop};
 use crate::unit::Unit;
 use crate::units::{
     group_inside, id_inside, matrices_inside, next_unit, picture_extension_inside, picture_inside,
     sequence_extension_inside, sequence_inside,
 };
 use m2v_head::{MatrixInfo, PictureExtension, PictureInfo, SequenceExtension, SequenceInfo};
+use m2v_model::{FaultKind, Sequence, State, Stop};
 
 /// The picture that is open ends here, with each of its macroblocks read.
 fn close(st: &State, start: u64) -> Result<(), Stop>
