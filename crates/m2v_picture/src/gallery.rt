@@ -5,7 +5,7 @@ ghost use Rattle.m2v_plane.specs.Samples.{blank};
 ghost use Rattle.m2v_model.specs.States.{dims_of, is_frame_end};
 ghost use Rattle.m2v_model.specs.Pictures.{picture_begun, picture_ended};
 ghost use Rattle.m2v_picture.specs.Conditions.{IsSetup, rows_in};
-ghost use Rattle.m2v_picture.specs.Frames.{none_at_hand, store_of, reading_of, forward_frame, backward_frame, HasReferences, HaveSize, PaintsSlice};
+ghost use Rattle.m2v_picture.specs.Frames.{none_at_hand, store_of, reading_of, forward_top, forward_bottom, backward_frame, HasReferences, HaveSize, PaintsSlice};
 
 use crate::Memory;
 use crate::scratch::Scratch;
@@ -104,8 +104,8 @@ fn forward_view<'a>(
     requires newer { IfSome newer.now (λ f. f.dims ≡ dims) }
     requires first { IfSome first_field.now (λ f. f.dims ≡ dims) }
     ensures dims { result.dims ≡ dims }
-    ensures top { result.top ≡ forward_frame (record { older = older.now; newer = newer.now; current = None; first_field = first_field.now; reading = reading.now }) 1 reading.now }
-    ensures bottom { result.bottom ≡ forward_frame (record { older = older.now; newer = newer.now; current = None; first_field = first_field.now; reading = reading.now }) 2 reading.now }
+    ensures top { result.top ≡ forward_top reading.now older.now newer.now first_field.now }
+    ensures bottom { result.bottom ≡ forward_bottom reading.now older.now newer.now first_field.now }
 {
     match reading {
         None => FieldView::new(dims, None, None),
@@ -132,8 +132,8 @@ fn backward_view<'a>(
     requires size { IsSize dims }
     requires newer { IfSome newer.now (λ f. f.dims ≡ dims) }
     ensures dims { result.dims ≡ dims }
-    ensures top { result.top ≡ backward_frame (record { older = None; newer = newer.now; current = None; first_field = None; reading = reading.now }) reading.now }
-    ensures bottom { result.bottom ≡ backward_frame (record { older = None; newer = newer.now; current = None; first_field = None; reading = reading.now }) reading.now }
+    ensures top { result.top ≡ backward_frame reading.now newer.now }
+    ensures bottom { result.bottom ≡ backward_frame reading.now newer.now }
 {
     match reading {
         Some(r) if r.kind == 3 => FieldView::new(dims, newer.as_ref(), newer.as_ref()),

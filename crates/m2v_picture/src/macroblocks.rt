@@ -77,7 +77,7 @@ fn elements(
 }
 
 /// A macroblock with the levels of its blocks. The state is that behind its elements.
-#[tactic(auto, unfolding(m2v_model::specs::Slices::macroblock_at, m2v_model::specs::Faults::bits_left, m2v_bits::specs::Syntax::here, m2v_bits::specs::Syntax::rule, m2v_bits::specs::Syntax::seq, m2v_bits::specs::Syntax::bind, m2v_bits::specs::Syntax::done))]
+#[tactic(auto, unfolding(m2v_model::specs::Slices::macroblock_at, m2v_bits::specs::Syntax::here, m2v_bits::specs::Syntax::rule, m2v_bits::specs::Syntax::seq, m2v_bits::specs::Syntax::bind, m2v_bits::specs::Syntax::done))]
 fn macroblock(
     input: &mut BitReader,
     s: &SliceSetup,
