@@ -20,9 +20,9 @@ use crate::target::Target;
 use m2v_bits::BitReader;
 use m2v_macro::{MacroSyntax, PictureContext, SliceState, read_macro};
 use m2v_macroblock::dc_after;
+use m2v_model::{SliceSetup, Stop, of_macro, stopped};
 use m2v_plane::RefView;
 use m2v_quant::Levels;
-use m2v_model::{SliceSetup, Stop, of_macro, stopped};
 
 /// A macroblock that was read, and where it stands in its row.
 #[derive(Clone, Copy, Debug, PartialEq, Eq)]
@@ -197,9 +197,7 @@ pub fn macroblocks<V: RefView, T: Target>(
     let mut state = first;
     let mut large = 0;
     loop {
-        let r = next_macroblock(
-            input, s, row, &mut state, forward, backward, scratch, out,
-        )?;
+        let r = next_macroblock(input, s, row, &mut state, forward, backward, scratch, out)?;
         if r.large {
             large += 1;
         }

@@ -53,7 +53,7 @@ returns-then-not-r-clause-exact g c =
       | else-r w ↦ w.large-is ∙ large_else inv.1 (length before - length rest) c.loop-r.large (inv.4) (x.3 ∙ w.if-r.false)
     ] in
     let left = left_more g.T.Target.placed s refs c.args.first (g.T.Target.samples c.args.out.now) inv.0 c.loop-r.state z.state (g.T.Target.samples c.loop-r.out)
-        (g.T.Target.samples c.next_macroblock.new.out) x.0 inv.3 refl x.5 in (
+    (g.T.Target.samples c.next_macroblock.new.out) x.0 inv.3 refl x.5 in (
       z,
       sym inv.2 ∙ macroblocks_last s r x.0 before rest x.1 (x.2 ∙ not_more c.in_ok-r.r.more c.if-not-r.true),
       x.4,
@@ -93,7 +93,7 @@ loop-r-preserved g c =
         inv.1 ++ n ∷ [],
         rw x.4 (sym (macroblocks_more s r x.0 before rest x.1 (x.2 ∙ still_more c.in_ok-r.r.more c.if-not-r.false)) ∙ inv.2),
         left_more g.T.Target.placed s refs c.args.first (g.T.Target.samples c.args.out.now) inv.0 c.loop-r.state c.next_macroblock.new.state (g.T.Target.samples c.loop-r.out)
-        (g.T.Target.samples c.next_macroblock.new.out) x.0 inv.3 x.4 x.5,
+            (g.T.Target.samples c.next_macroblock.new.out) x.0 inv.3 x.4 x.5,
         large,
       );
       state = c.in_ok-r.ensures.state;
