@@ -1,9 +1,10 @@
 -- Units one behind another, each a part of the stream.
-use Rattle.std.proofs.Common.{ℕ, true, List, [], ◌∷◌, ◌++◌, Some, refl, sym, subst, append_assoc, append-nil}
-use Rattle.m2v_bits.specs.Syntax.{seq, done, here, Rounds, more}
+use Rattle.std.proofs.Common.{◌≡◌, ℕ, true, List, [], ◌∷◌, ◌++◌, Some, refl, sym, subst, append_assoc, append-nil}
+use Rattle.m2v_bits.specs.Syntax.{seq, done, here, rule, repeated, Rounds, more}
 use Rattle.m2v_model.specs.declared.state.State.{State}
 use Rattle.m2v_model.specs.Units.{Units, unit_at, unit_bits}
-use Rattle.m2v_model.specs.Streams.{Part, Sofar, after, next_unit, unit_round}
+use Rattle.m2v_model.specs.States.{at_first, none_waits}
+use Rattle.m2v_model.specs.Streams.{Part, Sofar, after, next_unit, unit_round, units_from, stream_from, stream_at}
 use Rattle.m2v_chain.specs.Chains.{Reads, Chain, nothing, link, sofar}
 
 pub chain_then : {a b c : State} {ps qs : List Part} {us vs : Units} → Chain a ps us b → Chain b qs vs c → Chain a (ps ++ qs) (us ++ vs) c
@@ -34,3 +35,8 @@ rounds_of {a} {b} (link {p = p} {ps = later} {u = u} {others = others} {us = us}
     let same : Rounds unit_round (sofar b ((xs ++ p ∷ []) ++ later)) z vs rest = subst (λ (ys : List Part). Rounds unit_round (sofar b ys) z vs rest) (sym (append_assoc xs (p ∷ []) later)) h in
     subst (λ (ws : Units). Rounds unit_round (sofar a xs) z (u ∷ ws) rest) (sym (append_assoc others us vs))
     (more (round_stands a p u others (us ++ vs) xs r) (rounds_of c (xs ++ p ∷ []) vs rest z same))
+
+-- rounds from the first state on are a stream, where no second field is due behind them
+pub stream_of : (us rest : Units) (z : Sofar) → Rounds unit_round (sofar at_first []) z us rest → none_waits z.state.waiting ≡ true → stream_at.Stands z us rest
+unfolding stream_at stream_from units_from repeated seq rule done
+stream_of us rest z h none = (z, rest, h, (tt, rest, (none, refl), (refl, refl)))

@@ -18,7 +18,7 @@ use Rattle.m2v_model.specs.Decoding.{low_delay_of}
 use Rattle.m2v_model.specs.ByPieces.{behind, unit_of, seen}
 use Rattle.m2v_model.proofs.FlowLaws.{seen_err, seen_more, seen_last, unit_less}
 use Rattle.m2v_model.proofs.SplitLaws.{behind_none, behind_twice}
-use Rattle.m2v_part.specs.Among.{is_slice}
+use Rattle.m2v_unit.specs.Among.{is_slice}
 use Rattle.m2v_decoder.specs.declared.course.Course.{Course}
 use Rattle.m2v_decoder.specs.declared.halt.Halt.{Halt}
 use Rattle.m2v_decoder.specs.declared.halt.Halt.TheVariants as halts

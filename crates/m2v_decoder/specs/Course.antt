@@ -4,7 +4,7 @@ use Rattle.m2v_plane.specs.Sizes.{IsSize}
 use Rattle.m2v_plane.specs.Samples.{Samples}
 use Rattle.m2v_head.specs.declared.picture.PictureInfo.{PictureInfo}
 use Rattle.m2v_head.specs.declared.picture.PictureExtension.{PictureExtension}
-use Rattle.m2v_picture.specs.declared.stop.Stop.{Stop}
+use Rattle.m2v_model.specs.declared.stop.Stop.{Stop}
 use Rattle.m2v_picture.specs.Conditions.{IsMatrix}
 use Rattle.m2v_order.specs.Display.{handed, held_after}
 use Rattle.m2v_order.specs.Display.{shown as shown_then, held as held_then}

@@ -1,5 +1,5 @@
 use crate::Memory;
-use m2v_picture::Stop;
+use m2v_model::Stop;
 
 /// Why reading a piece stopped.
 #[derive(Clone, Copy, Debug, PartialEq, Eq)]

@@ -1,13 +1,12 @@
 ghost use Rattle.std.specs.Prelude.{◌≡◌, ◌+◌, ◌^◌, ◌<◌, IfErr, OnOk, Ok, [], length, true, false};
-ghost use Rattle.m2v_part.specs.Among.{is_slice as slice_stands};
+ghost use Rattle.m2v_unit.specs.Among.{is_slice as slice_stands};
 ghost use Rattle.m2v_model.specs.Streams.{value_of, known_unit, text_end};
 ghost use Rattle.m2v_model.specs.ByPieces.{unit_of};
 ghost use Rattle.m2v_decoder.specs.Course.{IsSoundCourse, Rounds, ReadAll, CourseStops};
 
 use crate::course::Course;
 use crate::halt::Halt;
-use m2v_part::{Header, is_slice, read_end, read_header};
-use m2v_unit::{Unit, UnitReader};
+use m2v_unit::{Header, Unit, UnitReader, is_slice, read_end, read_header};
 use std::alloc::Global;
 
 impl Course {

@@ -7,7 +7,7 @@ ghost use Rattle.m2v_decoder.specs.Course.{IsSoundCourse, Steps, Paints};
 
 use crate::course::Course;
 use m2v_model::{FaultKind, Open, Sequence, State};
-use m2v_picture::Stop;
+use m2v_model::Stop;
 use m2v_unit::{Unit, UnitReader};
 
 /// The sequence and the picture in which a slice of a row may stand: its row is neither past the last one nor above

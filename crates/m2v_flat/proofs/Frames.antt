@@ -1,145 +1,188 @@
 -- The pictures of the flat stream's parts are the frames that it stands for, in decoding order.
-use Rattle.std.proofs.Common.{◌≡◌, ℕ, zero, suc, ◌+◌, ◌*◌, Bool, false, All, List, [], ◌∷◌, ◌++◌, map, Option, Some, None, refl, sym, ap, subst, ◌∙◌, arith, append_assoc}
+use Rattle.std.proofs.Common.{◌≡◌, ℕ, zero, suc, ◌+◌, ◌*◌, ◌<◌, Bool, true, false, All, List, [], ◌∷◌, ◌++◌, map, Option, Some, None, refl, sym, ap, subst, ◌∙◌, arith, append_assoc}
 use Rattle.std.proofs.lemmas.List.Elements.{All-nil, All-cons}
 use Rattle.m2v_macro.specs.declared.values.SliceState.{SliceState}
-use Rattle.m2v_macro.specs.declared.values.PictureContext.{PictureContext}
 use Rattle.m2v_plane.specs.declared.dims.Dims.{Dims}
+use Rattle.m2v_plane.specs.declared.planes.Lines.TheVariants.{Whole}
 use Rattle.m2v_plane.specs.Samples.{Samples, blank}
 use Rattle.m2v_plane.specs.Raw.{pad, crop}
 use Rattle.m2v_flat.specs.declared.settings.FlatSettings.{FlatSettings}
-use Rattle.m2v_flat.specs.Recon.{recon_frame, FlatRecon}
+use Rattle.m2v_flat.specs.Flat.{flat_picture, flat_picture_extension}
+use Rattle.m2v_flat.specs.Recon.{recon_at, recon_frame, FlatRecon}
+use Rattle.m2v_model.specs.declared.setup.SliceSetup.{SliceSetup}
 use Rattle.m2v_model.specs.declared.state.Open.{Open}
 use Rattle.m2v_model.specs.declared.state.State.{State}
-use Rattle.m2v_model.specs.States.{at_first, rows_of}
-use Rattle.m2v_model.specs.Slices.{context, slice_start}
+use Rattle.m2v_model.specs.States.{at_first, one_anchor_more, opened, slice_setup}
+use Rattle.m2v_model.specs.Slices.{slice_start}
+use Rattle.m2v_model.specs.Samples.{References, put_in_frame, all_painted}
 use Rattle.m2v_model.specs.Streams.{Part, sequence, ending, after}
-use Rattle.m2v_model.specs.Pictures.{dims_of, all_painted, slice_painted, Picture, Pictures, closed, opened, pictures_from}
+use Rattle.m2v_model.specs.Pictures.{Store, no_frames, slice_painted, Picture, Pictures, picture_of, sequence_header, coded_picture, Events, pictures_in, closed, picture_ended, picture_begun, frames_in, events_from}
+use Rattle.m2v_order.specs.Display.{Shown}
 use Rattle.m2v_model.specs.Decoding.{is_dropped, raw_frames, shown}
-use Rattle.m2v_flat.specs.Tree.{flat_context, flat_row, flat_rows, flat_macroblocks, state_before, sequence_of, open_picture, state_in, pictures_parts, stream_parts}
-use Rattle.m2v_flat.proofs.Painting.{HasSamples, blank_has, all_samples, row_has}
+use Rattle.m2v_chain.proofs.Painting.{blank_painted}
+use Rattle.m2v_flat.specs.Tree.{flat_setup, flat_row, flat_rows, flat_macroblocks, state_before, sequence_of, open_picture, state_with, state_in, pictures_parts, stream_parts}
+use Rattle.m2v_flat.proofs.Painting.{HasSamples, all_samples, row_has}
 use Rattle.m2v_flat.proofs.Slices.{start_is}
-use Rattle.m2v_flat.proofs.Pictures.{IsFlat, state_with, context_is, covered_before, after_row, after_header}
+use Rattle.m2v_flat.proofs.Pictures.{IsFlat, dims_are, setup_is, covered_before, after_row, after_header}
 use Rattle.m2v_flat.proofs.Orders.{IsAnchor, all_shown}
 
 -- ---- slices
 
-row_painted : (quantiser width rows : ℕ) (source now : Samples) (row : ℕ) (c : PictureContext) (start : SliceState) → source.dims.mb_width ≡ width → source.dims.mb_rows ≡ rows → flat_context width ≡ c → state_before quantiser width source row 0 ≡ start
+row_painted : (quantiser width : ℕ) (d : Dims) (refs : References) (source now : Samples) (row : ℕ) (q : SliceSetup) (start : SliceState) → 0 < width → source.dims.mb_width ≡ width → flat_setup width d ≡ q → state_before quantiser width source row 0 ≡ start
     → HasSamples quantiser source (row * source.dims.mb_width) now
-    → HasSamples quantiser source (suc row * source.dims.mb_width) (all_painted c rows start (flat_macroblocks source row 0 width) now)
-row_painted quantiser width rows source now row c start ew er ec es has =
+    → HasSamples quantiser source (suc row * source.dims.mb_width) (all_painted put_in_frame q refs start (flat_macroblocks source row 0 width) now)
+row_painted quantiser width d refs source now row q start some ew eq es has =
     let w = source.dims.mb_width in
-    let r = source.dims.mb_rows in
-    let none : row * w ≡ row * w + 0 = omega arith in
-    let one : row * w + w ≡ suc row * w = omega arith in
-    let whole = subst (λ (k : ℕ). HasSamples quantiser source k (all_painted (flat_context w) r (state_before quantiser w source row 0) (flat_macroblocks source row 0 w) now)) one
-    (row_has quantiser source row w 0 now (omega arith) (subst (λ (k : ℕ). HasSamples quantiser source k now) none has)) in
-    let wide = subst (λ (n : ℕ). HasSamples quantiser source (suc row * w) (all_painted (flat_context n) r (state_before quantiser n source row 0) (flat_macroblocks source row 0 n) now)) ew whole in
-    let tall = subst (λ (n : ℕ). HasSamples quantiser source (suc row * w) (all_painted (flat_context width) n (state_before quantiser width source row 0) (flat_macroblocks source row 0 width) now)) er wide in
-    let known = subst (λ (x : PictureContext). HasSamples quantiser source (suc row * w) (all_painted x rows (state_before quantiser width source row 0) (flat_macroblocks source row 0 width) now)) ec tall in
-    subst (λ (x : SliceState). HasSamples quantiser source (suc row * w) (all_painted c rows x (flat_macroblocks source row 0 width) now)) es known
+    let wide = subst (λ (n : ℕ). HasSamples quantiser source (suc row * w) (all_painted put_in_frame (flat_setup n d) refs (state_before quantiser n source row 0) (flat_macroblocks source row 0 n) now)) ew
+    (row_has quantiser d refs source row now (omega (arith, ew)) has) in
+    let known = subst (λ (x : SliceSetup). HasSamples quantiser source (suc row * w) (all_painted put_in_frame x refs (state_before quantiser width source row 0) (flat_macroblocks source row 0 width) now)) eq wide in
+    subst (λ (x : SliceState). HasSamples quantiser source (suc row * w) (all_painted put_in_frame q refs x (flat_macroblocks source row 0 width) now)) es known
 
 -- a slice of a picture brings its row of macroblocks
-slice_has : (s : FlatSettings) (number row : ℕ) (source now : Samples) → IsFlat s → source.dims ≡ s.dims
+slice_has : (s : FlatSettings) (anchors number row : ℕ) (refs : References) (source now : Samples) → IsFlat s → source.dims ≡ s.dims
     → HasSamples s.quantiser source (row * source.dims.mb_width) now
-    → HasSamples s.quantiser source (suc row * source.dims.mb_width) (slice_painted (state_in s number row) (Some (sequence_of s)) (Some (open_picture s.dims.mb_width number row)) row (flat_row s.quantiser s.dims.mb_width source row) now)
+    → HasSamples s.quantiser source (suc row * source.dims.mb_width) (slice_painted (state_in s anchors number row) (sequence_of s) (open_picture s.dims.mb_width number row) refs row (flat_row s.quantiser s.dims.mb_width source row) now)
 unfolding slice_painted flat_row
-slice_has s number row source now h same has =
+slice_has s anchors number row refs source now h same has =
     let p = open_picture s.dims.mb_width number row in
-    let c = context (state_in s number row) (sequence_of s) p in
-    let ec = context_is s number row h in
-    row_painted s.quantiser s.dims.mb_width (rows_of (sequence_of s)) source now row c (slice_start c row p.covered s.quantiser)
-    (ap (λ (d : Dims). d.mb_width) same) (ap (λ (d : Dims). d.mb_rows) same ∙ sym h.rows_are) ec (start_is s.quantiser s.dims.mb_width source row p.covered c ec (covered_before s.dims.mb_width number row)) has
+    let q = slice_setup (state_in s anchors number row) (sequence_of s) p in
+    let eq = setup_is s anchors number row h in
+    row_painted s.quantiser s.dims.mb_width s.dims refs source now row q (slice_start q.context row p.covered s.quantiser)
+    h.columns.0 (ap (λ (d : Dims). d.mb_width) same) eq
+    (start_is s.quantiser s.dims.mb_width source row p.covered q.context (ap (λ (x : SliceSetup). x.context) eq) (covered_before s.dims.mb_width number row)) has
+
+-- the frames at hand, with one that is being painted
+abbrev with_current : Store → Samples → Store
+with_current store now = record store { current = Some now }
 
 -- the slices of the rows from one on
-rows_has : (s : FlatSettings) (number n row : ℕ) (source now : Samples) (rest : List Part) → IsFlat s → source.dims ≡ s.dims → row + n ≡ s.dims.mb_rows
+rows_has : (s : FlatSettings) (anchors number n row : ℕ) (store : Store) (source now : Samples) (rest : List Part) → IsFlat s → source.dims ≡ s.dims → row + n ≡ s.dims.mb_rows
     → HasSamples s.quantiser source (row * source.dims.mb_width) now
-    → pictures_from (state_in s number row) (Some now) (flat_rows s.quantiser s.dims.mb_width source row n ++ rest) ≡ pictures_from (state_in s number s.dims.mb_rows) (Some (recon_frame s.quantiser source)) rest
-unfolding pictures_from
-rows_has s number zero row source now rest h same is has =
+    → events_from (state_in s anchors number row) (with_current store now) (flat_rows s.quantiser s.dims.mb_width source row n ++ rest)
+    ≡ events_from (state_in s anchors number s.dims.mb_rows) (with_current store (recon_frame s.quantiser source)) rest
+unfolding events_from
+rows_has s anchors number zero row store source now rest h same is has =
     let end : row ≡ s.dims.mb_rows = omega arith in
     let rows : s.dims.mb_rows ≡ source.dims.mb_rows = sym (ap (λ (d : Dims). d.mb_rows) same) in
     let all = subst (λ (k : ℕ). HasSamples s.quantiser source (k * source.dims.mb_width) now) (end ∙ rows) has in
-    ap (λ (k : ℕ). pictures_from (state_in s number k) (Some now) rest) end
-    ∙ ap (λ (f : Samples). pictures_from (state_in s number s.dims.mb_rows) (Some f) rest) (all_samples s.quantiser source now all)
-rows_has s number (suc n) row source now rest h same is has =
+    ap (λ (k : ℕ). events_from (state_in s anchors number k) (with_current store now) rest) end
+    ∙ ap (λ (f : Samples). events_from (state_in s anchors number s.dims.mb_rows) (with_current store f) rest) (all_samples s.quantiser source now all)
+rows_has s anchors number (suc n) row store source now rest h same is has =
     let next : suc row ≡ row + 1 = omega arith in
-    let then = slice_painted (state_in s number row) (Some (sequence_of s)) (Some (open_picture s.dims.mb_width number row)) row (flat_row s.quantiser s.dims.mb_width source row) now in
-    let more = subst (λ (k : ℕ). HasSamples s.quantiser source (k * source.dims.mb_width) then) next (slice_has s number row source now h same has) in
-    ap (λ (st : State). pictures_from st (Some then) (flat_rows s.quantiser s.dims.mb_width source (row + 1) n ++ rest)) (after_row s number row source ∙ ap (state_in s number) next)
-    ∙ rows_has s number n (row + 1) source then rest h same (omega arith) more
+    let then = slice_painted (state_in s anchors number row) (sequence_of s) (open_picture s.dims.mb_width number row) store.references row (flat_row s.quantiser s.dims.mb_width source row) now in
+    let more = subst (λ (k : ℕ). HasSamples s.quantiser source (k * source.dims.mb_width) then) next (slice_has s anchors number row store.references source now h same has) in
+    ap (λ (st : State). events_from st (with_current store then) (flat_rows s.quantiser s.dims.mb_width source (row + 1) n ++ rest)) (after_row s anchors number row source ∙ ap (state_in s anchors number) next)
+    ∙ rows_has s anchors number n (row + 1) store source then rest h same (omega arith) more
 
 -- ---- pictures
 
 -- a frame as a decoded I picture
-abbrev decoded : FlatSettings → List ℕ → Picture × ℕ
-decoded s raw = (record { frame = recon_frame s.quantiser (pad s.dims raw); dropped = false }, 1)
+abbrev decoded : FlatSettings → ℕ → List ℕ → Picture
+decoded s number raw = record {
+  info = flat_picture number;
+  extension = flat_picture_extension;
+  begins_frame = true;
+  ends_frame = true;
+  dropped = false;
+  crowded_row = 0;
+  frame = recon_frame s.quantiser (pad s.dims raw);
+}
 
-dims_are : (s : FlatSettings) → IsFlat s → dims_of (sequence_of s) ≡ s.dims
-dims_are s h =
-    let width : (dims_of (sequence_of s)).width ≡ s.dims.width = omega arith in
-    let height : (dims_of (sequence_of s)).height ≡ s.dims.height = omega arith in
-    λ i. record { width = width i; height = height i; mb_width = h.columns_are i; mb_rows = h.rows_are i }
+-- frames as pictures that are numbered from a number on
+unfoldable decoded_from : FlatSettings → ℕ → List (List ℕ) → Pictures
+decoded_from s number [] = []
+decoded_from s number (raw ∷ frames) = decoded s number raw ∷ decoded_from s (number + 1) frames
 
-opened_is : (s : FlatSettings) → IsFlat s → opened (Some (sequence_of s)) ≡ Some (blank s.dims s.dims.mb_rows)
-opened_is s h =
-    ap (λ (d : Dims). Some (blank d (rows_of (sequence_of s)))) (dims_are s h) ∙ ap (λ (n : ℕ). Some (blank s.dims n)) h.rows_are
+-- what is told of a whole picture
+picture_is : (s : FlatSettings) (columns number row : ℕ) (raw : List ℕ) (store : Store) → picture_of (open_picture columns number row) (with_current store (recon_frame s.quantiser (pad s.dims raw))) ≡ decoded s number raw
+unfolding picture_of open_picture
+picture_is s columns number zero raw store = refl
+picture_is s columns number (suc row) raw store = refl
 
-kind_is : (columns number row : ℕ) → (open_picture columns number row).info.kind ≡ 1
-unfolding open_picture
-kind_is columns number zero = refl
-kind_is columns number (suc row) = refl
+-- the frames at hand behind the header of a picture
+abbrev begun : FlatSettings → ℕ → ℕ → Option Open → Store → Store
+begun s anchors number open_one store =
+    picture_begun (Some (sequence_of s)) (opened (state_with s anchors open_one) (flat_picture number) flat_picture_extension) (picture_ended open_one store)
 
--- what is left of a picture's parts, behind its header
-picture_is : (s : FlatSettings) (number : ℕ) (raw : List ℕ) (rest : List Part) → IsFlat s
-    → pictures_from (state_in s number 0) (opened (Some (sequence_of s))) (flat_rows s.quantiser s.dims.mb_width (pad s.dims raw) 0 s.dims.mb_rows ++ rest)
-    ≡ pictures_from (state_in s number s.dims.mb_rows) (Some (recon_frame s.quantiser (pad s.dims raw))) rest
-picture_is s number raw rest h =
+abbrev begun_with : FlatSettings → ℕ → ℕ → Option Open → Store → Dims → Store
+begun_with s anchors number open_one store d = with_current (begun s anchors number open_one store) (blank d d.mb_rows)
+
+begun_is : (s : FlatSettings) (anchors number : ℕ) (open_one : Option Open) (store : Store) → IsFlat s → begun s anchors number open_one store ≡ begun_with s anchors number open_one store s.dims
+begun_is s anchors number open_one store h = ap (begun_with s anchors number open_one store) (dims_are s h)
+
+-- what is told from a picture's first slice on
+rows_behind : (s : FlatSettings) (anchors number : ℕ) (store : Store) (raw : List ℕ) (rest : List Part) → IsFlat s
+    → events_from (state_in s anchors number 0) (with_current store (blank s.dims s.dims.mb_rows)) (flat_rows s.quantiser s.dims.mb_width (pad s.dims raw) 0 s.dims.mb_rows ++ rest)
+    ≡ events_from (state_in s anchors number s.dims.mb_rows) (with_current store (recon_frame s.quantiser (pad s.dims raw))) rest
+rows_behind s anchors number store raw rest h =
     let source = pad s.dims raw in
-    let parts = flat_rows s.quantiser s.dims.mb_width source 0 s.dims.mb_rows ++ rest in
     let none : 0 ≡ 0 * s.dims.mb_width = omega arith in
-    ap (λ (o : Option Samples). pictures_from (state_in s number 0) o parts) (opened_is s h)
-    ∙ rows_has s number s.dims.mb_rows 0 source (blank s.dims s.dims.mb_rows) rest h refl (omega arith)
-    (subst (λ (k : ℕ). HasSamples s.quantiser source k (blank s.dims s.dims.mb_rows)) none (blank_has s.quantiser source))
+    rows_has s anchors number s.dims.mb_rows 0 store source (blank s.dims s.dims.mb_rows) rest h refl (omega arith)
+    (subst (λ (k : ℕ). HasSamples s.quantiser source k (blank s.dims s.dims.mb_rows)) none (blank_painted Whole s.dims (recon_at s.quantiser source)))
 
-pictures_are : (s : FlatSettings) (frames : List (List ℕ)) (number : ℕ) (open_one : Option Open) (now : Option Samples) → IsFlat s
-    → pictures_from (state_with s open_one) now (pictures_parts s number frames ++ ending ∷ []) ≡ closed (state_with s open_one) now ++ map (decoded s) frames
-unfolding pictures_from pictures_parts
-pictures_are s [] number open_one now h = refl
-pictures_are s (raw ∷ frames) number open_one now h =
+events_are : (s : FlatSettings) (frames : List (List ℕ)) (anchors number : ℕ) (open_one : Option Open) (store : Store) → IsFlat s
+    → events_from (state_with s anchors open_one) store (pictures_parts s number frames ++ ending ∷ []) ≡ closed open_one store ++ map coded_picture (decoded_from s number frames)
+unfolding events_from pictures_parts decoded_from
+events_are s [] anchors number open_one store h = refl
+events_are s (raw ∷ frames) anchors number open_one store h =
     let source = pad s.dims raw in
     let rows = flat_rows s.quantiser s.dims.mb_width source 0 s.dims.mb_rows in
     let later = pictures_parts s (number + 1) frames in
-    let new = Some (recon_frame s.quantiser source) in
+    let next = one_anchor_more anchors in
+    let first = begun s anchors number open_one store in
+    let last = with_current first (recon_frame s.quantiser source) in
     let p = open_picture s.dims.mb_width number s.dims.mb_rows in
-    ap (λ (ps : Pictures). closed (state_with s open_one) now ++ ps)
-    (ap (λ (st : State). pictures_from st (opened (Some (sequence_of s))) ((rows ++ later) ++ ending ∷ [])) (after_header s open_one number)
-    ∙ ap (λ (xs : List Part). pictures_from (state_in s number 0) (opened (Some (sequence_of s))) xs) (append_assoc rows later (ending ∷ []))
-    ∙ picture_is s number raw (later ++ ending ∷ []) h
-    ∙ pictures_are s frames (number + 1) (Some p) new h
-    ∙ ap (λ (n : ℕ). (record { frame = recon_frame s.quantiser source; dropped = false }, n) ∷ map (decoded s) frames) (kind_is s.dims.mb_width number s.dims.mb_rows))
+    ap (λ (es : Events). closed open_one store ++ es)
+    (ap (λ (st : State). events_from st first ((rows ++ later) ++ ending ∷ [])) (after_header s anchors open_one number)
+    ∙ ap (λ (xs : List Part). events_from (state_in s next number 0) first xs) (append_assoc rows later (ending ∷ []))
+    ∙ ap (λ (x : Store). events_from (state_in s next number 0) x (rows ++ (later ++ ending ∷ []))) (begun_is s anchors number open_one store h)
+    ∙ rows_behind s next number first raw (later ++ ending ∷ []) h
+    ∙ events_are s frames next (number + 1) (Some p) last h
+    ∙ ap (λ (x : Picture). coded_picture x ∷ map coded_picture (decoded_from s (number + 1) frames)) (picture_is s s.dims.mb_width number s.dims.mb_rows raw first))
 
-all_anchors : (s : FlatSettings) (frames : List (List ℕ)) → All IsAnchor (map (decoded s) frames)
-all_anchors s [] = All-nil IsAnchor
-all_anchors s (raw ∷ frames) = All-cons IsAnchor (decoded s raw) (map (decoded s) frames) refl (all_anchors s frames)
+-- ---- what is shown
 
-raw_is : (s : FlatSettings) (frames : List (List ℕ)) → raw_frames (map (decoded s) frames) ≡ FlatRecon s frames
-raw_is s [] = refl
-raw_is s (raw ∷ frames) = ap (λ (xs : List (List ℕ)). crop (recon_frame s.quantiser (pad s.dims raw)) ∷ xs) (raw_is s frames)
+pictures_are : (ps : Pictures) → pictures_in (map coded_picture ps) ≡ ps
+pictures_are [] = refl
+pictures_are (p ∷ ps) = ap (λ (xs : Pictures). p ∷ xs) (pictures_are ps)
 
-pub first_state : (s : FlatSettings) → after at_first (sequence (sequence_of s)) ≡ state_with s None
+-- each picture ends a frame of its type
+unfoldable frames_from : FlatSettings → ℕ → List (List ℕ) → List (Picture × ℕ)
+frames_from s number [] = []
+frames_from s number (raw ∷ frames) = (decoded s number raw, 1) ∷ frames_from s (number + 1) frames
+
+frames_are : (s : FlatSettings) (number : ℕ) (frames : List (List ℕ)) → frames_in (decoded_from s number frames) ≡ frames_from s number frames
+unfolding decoded_from frames_from
+frames_are s number [] = refl
+frames_are s number (raw ∷ frames) = ap (λ (xs : List (Picture × ℕ)). (decoded s number raw, 1) ∷ xs) (frames_are s (number + 1) frames)
+
+all_anchors : (s : FlatSettings) (number : ℕ) (frames : List (List ℕ)) → All IsAnchor (frames_from s number frames)
+unfolding frames_from
+all_anchors s number [] = All-nil IsAnchor
+all_anchors s number (raw ∷ frames) = All-cons IsAnchor (decoded s number raw, 1) (frames_from s (number + 1) frames) refl (all_anchors s (number + 1) frames)
+
+raw_is : (s : FlatSettings) (number : ℕ) (frames : List (List ℕ)) → raw_frames (frames_from s number frames) ≡ FlatRecon s frames
+unfolding frames_from
+raw_is s number [] = refl
+raw_is s number (raw ∷ frames) = ap (λ (xs : List (List ℕ)). crop (recon_frame s.quantiser (pad s.dims raw)) ∷ xs) (raw_is s (number + 1) frames)
+
+pub first_state : (s : FlatSettings) → after at_first (sequence (sequence_of s)) ≡ state_with s 0 None
 unfolding after
 first_state s = refl
 
--- the pictures of the stream's parts
-parts_are : (s : FlatSettings) (frames : List (List ℕ)) → IsFlat s → pictures_from at_first None (stream_parts s frames) ≡ map (decoded s) frames
-unfolding pictures_from
+-- what the stream's parts tell
+parts_are : (s : FlatSettings) (frames : List (List ℕ)) → IsFlat s → events_from at_first no_frames (stream_parts s frames) ≡ sequence_header (sequence_of s) ∷ map coded_picture (decoded_from s 0 frames)
+unfolding events_from
 parts_are s frames h =
-    ap (λ (st : State). pictures_from st None (pictures_parts s 0 frames ++ ending ∷ [])) (first_state s)
-    ∙ pictures_are s frames 0 None None h
+    ap (λ (es : Events). sequence_header (sequence_of s) ∷ es)
+    (ap (λ (st : State). events_from st no_frames (pictures_parts s 0 frames ++ ending ∷ [])) (first_state s)
+    ∙ events_are s frames 0 0 None no_frames h)
 
 -- what the stream's parts show is what it stands for
-pub parts_show : (s : FlatSettings) (frames : List (List ℕ)) (low_delay : Bool) → IsFlat s → FlatRecon s frames ≡ shown low_delay (pictures_from at_first None (stream_parts s frames))
+pub parts_show : (s : FlatSettings) (frames : List (List ℕ)) (low_delay : Bool) → IsFlat s → FlatRecon s frames ≡ shown low_delay (pictures_in (events_from at_first no_frames (stream_parts s frames)))
 parts_show s frames low_delay h =
-    sym (raw_is s frames)
-    ∙ ap raw_frames (sym (all_shown is_dropped low_delay (map (decoded s) frames) (all_anchors s frames)))
-    ∙ ap (shown low_delay) (sym (parts_are s frames h))
+    let ps = decoded_from s 0 frames in
+    sym (raw_is s 0 frames)
+    ∙ ap raw_frames (sym (all_shown is_dropped low_delay (frames_from s 0 frames) (all_anchors s 0 frames)))
+    ∙ ap (λ (fs : List (Picture × ℕ)). raw_frames (Shown is_dropped low_delay fs)) (sym (frames_are s 0 frames))
+    ∙ ap (shown low_delay) (sym (ap pictures_in (parts_are s frames h) ∙ pictures_are ps))

@@ -6,17 +6,17 @@ use Rattle.std.proofs.lemmas.Nat.{mod_below}
 use Rattle.m2v_bits.specs.Bits.{bits_of, number, to_edge}
 use Rattle.m2v_bits.specs.Syntax.{seq, done, here, rule, renamed}
 use Rattle.m2v_bits.specs.Leaves.{bits_at, end_at}
-use Rattle.m2v_head.specs.Texts.{sequence_text, sequence_extension_text, rates_text, picture_text, picture_extension_text, directions_text, flags_text, composite_text}
+use Rattle.m2v_head.specs.Texts.{sequence_text, sequence_extension_text, rates_text, picture_text, picture_extension_text, flags_text, composite_text}
 use Rattle.m2v_head.specs.Fits.{SequenceFits, SequenceExtensionFits, PictureFits, PictureExtensionFits}
 use Rattle.m2v_head.specs.declared.sequence.SequenceInfo.{SequenceInfo}
 use Rattle.m2v_head.proofs.Spellings.{sequence_spells, sequence_extension_spells, picture_spells, picture_extension_spells}
 use Rattle.m2v_flat.specs.declared.settings.FlatSettings.{FlatSettings}
 use Rattle.m2v_flat.specs.Flat.{flat_sequence, flat_sequence_extension, flat_picture, flat_picture_extension}
 use Rattle.m2v_model.specs.declared.fault.FaultKind.TheVariants.{Truncated}
-use Rattle.m2v_model.specs.Faults.{Of}
+use Rattle.m2v_model.specs.Faults.{InUnit}
 use Rattle.m2v_model.specs.Looking.{number_from, look, looking}
 use Rattle.m2v_model.specs.Units.{Units, inside}
-use Rattle.m2v_model.specs.Headers.{whole, size_of, size_at, sequence_in, sequence_extension_in, picture_in, f_code_at, f_codes_at, picture_extension_in}
+use Rattle.m2v_model.specs.Headers.{whole_header, size_of, size_at, sequence_in, sequence_extension_in, picture_in, f_code_at, f_codes_at, picture_extension_in}
 use Rattle.m2v_model.specs.Streams.{id_at, extension_in}
 use Rattle.m2v_chain.specs.Texts.{ended, unit_bytes}
 use Rattle.m2v_chain.proofs.Units.{ended_bits}
@@ -27,13 +27,13 @@ abbrev pub behind : List Bool → List Bool
 behind t = replicate (to_edge (32 + length t)) false
 
 -- what stands in a text stands in its unit
-pub inside_stands : {V : Type 0} (s : Of V) (value : ℕ) (t : List Bool) (v : V) (us : Units) (end : List Bool) → s.Stands v (ended t) end → (inside (unit_bytes value t) s).Stands v us us
+pub inside_stands : {V : Type 0} (s : InUnit V) (value : ℕ) (t : List Bool) (v : V) (us : Units) (end : List Bool) → s.Stands v (ended t) end → (inside (unit_bytes value t) s).Stands v us us
 unfolding inside
 inside_stands s value t v us end h = (refl, (end, subst (λ (x : List Bool). s.Stands v x end) (sym (ended_bits t)) h))
 
 -- a header, and zeros
-pub whole_stands : {V : Type 0} (s : Of V) (t : List Bool) (v : V) → s.Stands v (ended t) (behind t) → (whole s).Stands v (ended t) []
-unfolding whole seq end_at done
+pub whole_stands : {V : Type 0} (s : InUnit V) (t : List Bool) (v : V) → s.Stands v (ended t) (behind t) → (whole_header s).Stands v (ended t) []
+unfolding whole_header seq end_at done
 whole_stands s t v h = (v, behind t, h, (tt, [], (zeros_are (to_edge (32 + length t)), refl), (refl, refl)))
 
 -- ---- sequences
@@ -50,7 +50,7 @@ sequence_fits s wide tall code = record {
   load_non_intra = tt;
 }
 
-pub sequence_stands : (s : FlatSettings) → SequenceFits (flat_sequence s) → (whole sequence_in).Stands (flat_sequence s) (ended (sequence_text (flat_sequence s))) []
+pub sequence_stands : (s : FlatSettings) → SequenceFits (flat_sequence s) → (whole_header sequence_in).Stands (flat_sequence s) (ended (sequence_text (flat_sequence s))) []
 unfolding sequence_in renamed ended
 sequence_stands s fits = whole_stands sequence_in (sequence_text (flat_sequence s)) (flat_sequence s) ((sequence_spells (flat_sequence s) fits).stands (behind (sequence_text (flat_sequence s))))
 
@@ -86,13 +86,13 @@ extension_looks info wide width tall height =
         t,
         (refl, refl),
         (
-          tt,
+          Some 0,
           t,
           (refl, refl),
           (
-            Some 1,
+            tt,
             t,
-            (refl, refl),
+            (tt, t, (size_some info.horizontal_size wide, refl), (size_most info.horizontal_size 1920 width, refl)),
             (
               Some 0,
               t,
@@ -100,18 +100,8 @@ extension_looks info wide width tall height =
               (
                 tt,
                 t,
-                (tt, t, (size_some info.horizontal_size wide, refl), (size_most info.horizontal_size 1920 width, refl)),
-                (
-                  Some 0,
-                  t,
-                  (refl, refl),
-                  (
-                    tt,
-                    t,
-                    (tt, t, (size_some info.vertical_size tall, refl), (size_most info.vertical_size 1152 height, refl)),
-                    (sequence_extension_spells flat_sequence_extension extension_fits).stands rest,
-                  ),
-                ),
+                (tt, t, (size_some info.vertical_size tall, refl), (size_most info.vertical_size 1152 height, refl)),
+                (sequence_extension_spells flat_sequence_extension extension_fits).stands rest,
               ),
             ),
           ),
@@ -120,7 +110,7 @@ extension_looks info wide width tall height =
     )
 
 pub extension_stands : (s : FlatSettings) → 1 ≤ s.dims.width → s.dims.width ≤ 1920 → 1 ≤ s.dims.height → s.dims.height ≤ 1152
-    → (whole (sequence_extension_in (flat_sequence s))).Stands flat_sequence_extension (ended (sequence_extension_text flat_sequence_extension)) []
+    → (whole_header (sequence_extension_in (flat_sequence s))).Stands flat_sequence_extension (ended (sequence_extension_text flat_sequence_extension)) []
 extension_stands s wide width tall height =
     whole_stands (sequence_extension_in (flat_sequence s)) (sequence_extension_text flat_sequence_extension) flat_sequence_extension (extension_looks (flat_sequence s) wide width tall height)
 
@@ -138,26 +128,10 @@ picture_fits n = record {
 }
 
 picture_looks : (n : ℕ) → picture_in.Stands (flat_picture n) (ended (picture_text (flat_picture n))) (behind (picture_text (flat_picture n)))
-unfolding picture_in seq here look number_from rule renamed ended picture_text directions_text bits_of number
-picture_looks n =
-    let t = ended (picture_text (flat_picture n)) in (
-      length t,
-      t,
-      (refl, refl),
-      (
-        Some 1,
-        t,
-        (refl, refl),
-        (
-          tt,
-          t,
-          (refl, refl),
-          (picture_spells (flat_picture n) (picture_fits n)).stands (behind (picture_text (flat_picture n))),
-        ),
-      ),
-    )
+unfolding picture_in renamed ended
+picture_looks n = (picture_spells (flat_picture n) (picture_fits n)).stands (behind (picture_text (flat_picture n)))
 
-pub picture_stands : (n : ℕ) → (whole picture_in).Stands (flat_picture n) (ended (picture_text (flat_picture n))) []
+pub picture_stands : (n : ℕ) → (whole_header picture_in).Stands (flat_picture n) (ended (picture_text (flat_picture n))) []
 picture_stands n = whole_stands picture_in (picture_text (flat_picture n)) (flat_picture n) (picture_looks n)
 
 coding_fits : PictureExtensionFits flat_picture_extension
@@ -193,7 +167,7 @@ f_codes_stand at =
       ),
     )
 
-coding_looks : (n : ℕ) → (picture_extension_in (flat_picture n)).Stands flat_picture_extension (ended (picture_extension_text flat_picture_extension)) (behind (picture_extension_text flat_picture_extension))
+coding_looks : (n : ℕ) → (picture_extension_in true (flat_picture n)).Stands flat_picture_extension (ended (picture_extension_text flat_picture_extension)) (behind (picture_extension_text flat_picture_extension))
 unfolding picture_extension_in seq here look number_from rule renamed ended picture_extension_text flags_text composite_text bits_of number
 coding_looks n =
     let t = ended (picture_extension_text flat_picture_extension) in (
@@ -212,39 +186,14 @@ coding_looks n =
             tt,
             t,
             (refl, refl),
-            (
-              tt,
-              t,
-              (refl, refl),
-              (
-                Some 1,
-                t,
-                (refl, refl),
-                (
-                  tt,
-                  t,
-                  (refl, refl),
-                  (
-                    Some 0,
-                    t,
-                    (refl, refl),
-                    (
-                      tt,
-                      t,
-                      (refl, refl),
-                      (picture_extension_spells flat_picture_extension coding_fits).stands (behind (picture_extension_text flat_picture_extension)),
-                    ),
-                  ),
-                ),
-              ),
-            ),
+            (picture_extension_spells flat_picture_extension coding_fits).stands (behind (picture_extension_text flat_picture_extension)),
           ),
         ),
       ),
     )
 
-pub coding_stands : (n : ℕ) → (whole (picture_extension_in (flat_picture n))).Stands flat_picture_extension (ended (picture_extension_text flat_picture_extension)) []
-coding_stands n = whole_stands (picture_extension_in (flat_picture n)) (picture_extension_text flat_picture_extension) flat_picture_extension (coding_looks n)
+pub coding_stands : (n : ℕ) → (whole_header (picture_extension_in true (flat_picture n))).Stands flat_picture_extension (ended (picture_extension_text flat_picture_extension)) []
+coding_stands n = whole_stands (picture_extension_in true (flat_picture n)) (picture_extension_text flat_picture_extension) flat_picture_extension (coding_looks n)
 
 -- ---- extensions
 
@@ -260,7 +209,7 @@ unfolding ended picture_extension_text flags_text composite_text bits_of
 picture_id = refl
 
 -- an extension, with its id, stands in its unit
-pub extension_in_stands : {V : Type 0} (s : Of V) (own start : ℕ) (t : List Bool) (v : V) (us : Units) → own < 2 ^ 4 → IdStands own t → nat_eq own own ≡ true → s.Stands v (ended t) []
+pub extension_in_stands : {V : Type 0} (s : InUnit V) (own start : ℕ) (t : List Bool) (v : V) (us : Units) → own < 2 ^ 4 → IdStands own t → nat_eq own own ≡ true → s.Stands v (ended t) []
     → (extension_in own (unit_bytes 0xB5 t) start s).Stands v us us
 unfolding extension_in id_at seq rule looking bits_at
 extension_in_stands s own start t v us below id same h = (

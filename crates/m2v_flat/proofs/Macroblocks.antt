@@ -6,7 +6,7 @@ use Rattle.std.proofs.lemmas.Bool.{lt-ltb, and_from}
 use Rattle.std.proofs.lemmas.Nat.{mod-mul-add}
 use Rattle.m2v_bits.specs.Bits.{bits_of}
 use Rattle.m2v_bits.specs.Syntax.{Spells}
-use Rattle.m2v_bits.proofs.LeafLaws.{done_spells, first_spells, renamed_spells}
+use Rattle.m2v_bits.proofs.LeafLaws.{done_spells, here_spells, rule_spells, first_spells, renamed_spells}
 use Rattle.m2v_head.proofs.ElementLaws.{last_spells, same_spells}
 use Rattle.m2v_vlc.specs.declared.values.Increment.TheVariants.{Step}
 use Rattle.m2v_vlc.specs.Codes.{code_of}
@@ -22,6 +22,10 @@ use Rattle.m2v_macro.specs.Conditions.{IsContext, IsReady, IsStep, IsMacro, is_u
 use Rattle.m2v_macro.specs.Texts.{macro_text, modes_text, directions_text, direction_text, increment_text, escapes_text, kind_text, form_text, dct_text, quantiser_text, marker_text, pattern_text}
 use Rattle.m2v_macro.proofs.Spellings.{then_spells}
 use Rattle.m2v_macro.proofs.MacroSpellings.{macro_spells}
+use Rattle.m2v_macroblock.specs.Macroblocks.{Macroblock, kind_for, predictor, dc_after, after_macroblock}
+use Rattle.m2v_macroblock.specs.Modes.{skipped_before, mode_of}
+use Rattle.m2v_pred.specs.Inside.{is_inside}
+use Rattle.m2v_plane.specs.declared.dims.Dims.{Dims}
 use Rattle.m2v_plane.specs.Samples.{Samples}
 use Rattle.m2v_flat.specs.Flat.{predictors, block_text, blocks_text, macroblock_text}
 use Rattle.m2v_flat.specs.Flat.{predictor as predictor_of}
@@ -29,9 +33,11 @@ use Rattle.m2v_flat.specs.Recon.{flat_kind, flat_levels}
 use Rattle.m2v_flat.proofs.Predictions.{IsByte, level_byte, predictors_bytes}
 use Rattle.m2v_recon.specs.Macro.{is_coded}
 use Rattle.m2v_block.specs.Blocks.{block_at}
+use Rattle.m2v_model.specs.declared.fault.FaultKind.TheVariants.{VectorOutside, MissingReference}
 use Rattle.m2v_model.specs.Faults.{of_block, of_macro}
-use Rattle.m2v_model.specs.Slices.{kind_for, predictor, block_in, blocks_from, Macroblock, macroblock_at, dc_after, after_macroblock}
-use Rattle.m2v_flat.specs.Tree.{flat_context, flat_macro, flat_macroblock, predictor_list, state_inside, state_before}
+use Rattle.m2v_model.specs.Modes.{is_decoded, all_inside, references_decoded}
+use Rattle.m2v_model.specs.Slices.{block_in, blocks_from, macroblock_at}
+use Rattle.m2v_flat.specs.Tree.{flat_context, flat_setup, flat_macro, flat_macroblock, predictor_list, state_inside, state_before}
 use Rattle.m2v_flat.proofs.Blocks.{flat_block_spells}
 
 -- ---- states
@@ -177,15 +183,34 @@ blocks_spell quantiser columns frame row column least most =
 
 -- ---- macroblocks
 
-pub macroblock_spells : (quantiser columns : ℕ) (frame : Samples) (row column : ℕ) → 1 ≤ quantiser → quantiser ≤ 31 → columns ≤ 120 → column < columns
-    → Spells (macroblock_at (flat_context columns) (state_before quantiser columns frame row column)) (flat_macroblock frame row column) (macroblock_text frame row column)
+-- none is skipped before one, and none reads a reference
+pub none_skipped : (quantiser columns : ℕ) (frame : Samples) (row column : ℕ) → skipped_before (state_before quantiser columns frame row column) flat_macro ≡ 0
+unfolding state_before at_start skips
+none_skipped quantiser columns frame row zero = refl
+none_skipped quantiser columns frame row (suc column) = refl
+
+inside_all : (quantiser columns : ℕ) (d : Dims) (frame : Samples) (row column : ℕ) → all_inside (flat_setup columns d) (state_before quantiser columns frame row column) flat_macro ≡ true
+unfolding all_inside mode_of is_inside state_before at_start skips
+inside_all quantiser columns d frame row zero = refl
+inside_all quantiser columns d frame row (suc column) = refl
+
+decoded_all : (quantiser columns : ℕ) (d : Dims) (frame : Samples) (row column : ℕ) → references_decoded (flat_setup columns d) (state_before quantiser columns frame row column) flat_macro ≡ true
+unfolding references_decoded is_decoded mode_of state_before at_start skips
+decoded_all quantiser columns d frame row zero = refl
+decoded_all quantiser columns d frame row (suc column) = refl
+
+pub macroblock_spells : (quantiser columns : ℕ) (d : Dims) (frame : Samples) (row column : ℕ) → 1 ≤ quantiser → quantiser ≤ 31 → columns ≤ 120 → column < columns
+    → Spells (macroblock_at (flat_setup columns d) (state_before quantiser columns frame row column)) (flat_macroblock frame row column) (macroblock_text frame row column)
 unfolding macroblock_at macroblock_text flat_macroblock
-macroblock_spells quantiser columns frame row column least most wide lt =
+macroblock_spells quantiser columns d frame row column least most wide lt =
     same_spells (append_assoc (increment_code (Step 1)) (type_i_code (kind 0 0 0 0 1)) (blocks_text frame row column))
-    (then_spells _ (renamed_spells of_macro _ _ _ (elements_spell quantiser columns frame row column least most wide lt))
+    (here_spells _ _ (flat_macroblock frame row column) _ (λ start.
+    then_spells _ (renamed_spells of_macro _ _ _ (elements_spell quantiser columns frame row column least most wide lt))
+    (rule_spells _ VectorOutside start _ (flat_macroblock frame row column) _ (inside_all quantiser columns d frame row column)
+    (rule_spells _ MissingReference start _ (flat_macroblock frame row column) _ (decoded_all quantiser columns d frame row column)
     (last_spells (flat_macroblock frame row column).levels (λ levels. made levels) (blocks_text frame row column)
     (subst (λ (st : SliceState). Spells (blocks_from (flat_context columns) flat_macro st 0 6 []) (flat_macroblock frame row column).levels (blocks_text frame row column)) (sym (inside_is quantiser columns frame row column))
-    (blocks_spell quantiser columns frame row column least most))))
+    (blocks_spell quantiser columns frame row column least most)))))))
   where
     made : List (List ℤ) → Macroblock
     made levels = record { syntax = flat_macro; levels = levels }

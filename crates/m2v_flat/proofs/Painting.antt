@@ -1,9 +1,8 @@
 -- The macroblocks of a picture, painted one after another, are the frame that the stream stands for.
-use Rattle.std.proofs.Common.{◌≡◌, ℕ, zero, suc, ◌+◌, ◌*◌, ◌/◌, ◌%◌, ◌<◌, Bool, true, false, cond, List, length, get_or, replicate, ℤ, pos, ◌+ℤ◌, inl, inr, refl, sym, ap, subst, ◌∙◌, arith, mul_comm}
-use Rattle.std.specs.Prelude.{nat_eq, ◌&&◌, nat_abs, unsigned_abs, slice_index}
+use Rattle.std.proofs.Common.{◌≡◌, ℕ, zero, suc, ◌+◌, ◌*◌, ◌/◌, ◌%◌, ◌<◌, Bool, true, false, cond, replicate, ℤ, pos, ◌+ℤ◌, refl, sym, ap, subst, ◌∙◌, arith}
+use Rattle.std.specs.Prelude.{unsigned_abs, slice_index}
 use Rattle.std.specs.Int.{int_max, int_min}
 use Rattle.std.proofs.lemmas.Int.{ints, int_max_is}
-use Rattle.std.proofs.lemmas.List.{length-replicate}
 use Rattle.std.proofs.lemmas.Nat.{div-mul-add, mod-mul-add}
 use Rattle.m2v_quant.specs.Coefficients.{coefficients_of}
 use Rattle.m2v_idct.specs.Inverse.{inverse_of}
@@ -12,18 +11,22 @@ use Rattle.m2v_macro.specs.declared.values.SliceState.{SliceState}
 use Rattle.m2v_plane.specs.declared.dims.Dims.{Dims}
 use Rattle.m2v_plane.specs.declared.planes.Plane.{Plane}
 use Rattle.m2v_plane.specs.declared.planes.Plane.TheVariants.{Y, Cb, Cr}
+use Rattle.m2v_plane.specs.declared.planes.Lines.TheVariants.{Whole}
 use Rattle.m2v_plane.specs.Sizes.{side}
-use Rattle.m2v_plane.specs.Samples.{Samples, blank}
-use Rattle.m2v_recon.specs.Macro.{place_in, is_coded, residual, macro_sample, plane_with, with_macroblock}
+use Rattle.m2v_plane.specs.Samples.{Samples}
+use Rattle.m2v_recon.specs.Macro.{place_in, is_coded, residual, macro_sample}
 use Rattle.m2v_recon.specs.Macro as macro
 use Rattle.m2v_flat.specs.Recon.{flat_kind, flat_levels, rebuilt, recon_at, recon_frame}
 use Rattle.m2v_flat.specs.Recon as recon
-use Rattle.m2v_model.specs.Slices.{kind_for}
-use Rattle.m2v_model.specs.Pictures.{painted, all_painted}
-use Rattle.m2v_chain.specs.Painting.{HasPart}
-use Rattle.m2v_chain.proofs.Painting.{part_more, part_all, part_none}
-use Rattle.m2v_flat.specs.Tree.{flat_context, flat_macroblock, flat_macroblocks, state_inside, state_before}
-use Rattle.m2v_flat.proofs.Macroblocks.{inside_is, after_is}
+use Rattle.m2v_macro.specs.States.{address, at_start}
+use Rattle.m2v_macroblock.specs.Macroblocks.{kind_for}
+use Rattle.m2v_macroblock.specs.Modes.{first_skipped}
+use Rattle.m2v_macroblock.specs.Predictions.{prediction_of, sample_at}
+use Rattle.m2v_model.specs.Samples.{References, put_in_frame, all_painted}
+use Rattle.m2v_chain.specs.Painting.{IsPainted, LiesIn, own_sample, IsPartOf, ArePartsOf, after_macroblocks}
+use Rattle.m2v_chain.proofs.Painting.{all_more, frame_all}
+use Rattle.m2v_flat.specs.Tree.{flat_context, flat_setup, flat_macroblock, flat_macroblocks, state_inside, state_before}
+use Rattle.m2v_flat.proofs.Macroblocks.{inside_is, after_is, none_skipped}
 
 -- ---- samples of a macroblock
 
@@ -94,92 +97,88 @@ sample_is quantiser columns frame row column Cr r c er ec =
 
 -- ---- frames
 
-abbrev frame_of : Dims → List ℕ → List ℕ → List ℕ → Samples
-frame_of d luma cb cr = record { dims = d; luma = luma; cb = cb; cr = cr }
-
 -- a frame whose first macroblocks have their samples
-pub record HasSamples (quantiser : ℕ) (source : Samples) (count : ℕ) (now : Samples) : Type 0 where
-  pub dims : now.dims ≡ source.dims
-  pub luma : HasPart 16 source.dims.mb_rows source.dims.mb_width count (recon_at quantiser source Y) now.luma
-  pub cb : HasPart 8 source.dims.mb_rows source.dims.mb_width count (recon_at quantiser source Cb) now.cb
-  pub cr : HasPart 8 source.dims.mb_rows source.dims.mb_width count (recon_at quantiser source Cr) now.cr
-
-pub blank_has : (quantiser : ℕ) (source : Samples) → HasSamples quantiser source 0 (blank source.dims source.dims.mb_rows)
-blank_has quantiser source = record {
-  dims = refl;
-  luma = part_none 16 source.dims.mb_rows source.dims.mb_width (recon_at quantiser source Y) _ (length-replicate (16 * source.dims.mb_rows * (16 * source.dims.mb_width)) 0);
-  cb = part_none 8 source.dims.mb_rows source.dims.mb_width (recon_at quantiser source Cb) _ (length-replicate (8 * source.dims.mb_rows * (8 * source.dims.mb_width)) 0);
-  cr = part_none 8 source.dims.mb_rows source.dims.mb_width (recon_at quantiser source Cr) _ (length-replicate (8 * source.dims.mb_rows * (8 * source.dims.mb_width)) 0);
-}
-
-samples_same : (d e : Dims) (a b c p q r : List ℕ) → d ≡ e → a ≡ p → b ≡ q → c ≡ r → frame_of d a b c ≡ frame_of e p q r
-samples_same d e a b c p q r x y z w = λ i. frame_of (x i) (y i) (z i) (w i)
+abbrev pub HasSamples : ℕ → Samples → ℕ → Samples → Type 0
+HasSamples quantiser source count now = IsPainted Whole source.dims count (recon_at quantiser source) now
 
 -- a frame that has them all
 pub all_samples : (quantiser : ℕ) (source now : Samples) → HasSamples quantiser source (source.dims.mb_rows * source.dims.mb_width) now → now ≡ recon_frame quantiser source
 unfolding recon_frame
-all_samples quantiser source now h =
-    let rows = source.dims.mb_rows in
-    let columns = source.dims.mb_width in
-    samples_same now.dims source.dims now.luma now.cb now.cr _ _ _ h.dims
-    (part_all 16 rows columns (recon_at quantiser source Y) now.luma (omega arith) h.luma)
-    (part_all 8 rows columns (recon_at quantiser source Cb) now.cb (omega arith) h.cb)
-    (part_all 8 rows columns (recon_at quantiser source Cr) now.cr (omega arith) h.cr)
+all_samples quantiser source now h = frame_all source.dims (recon_at quantiser source) now h
 
--- one macroblock more
-macroblock_has : (quantiser columns : ℕ) (source : Samples) (row column : ℕ) (now : Samples) → column < source.dims.mb_width
-    → HasSamples quantiser source (row * source.dims.mb_width + column) now
-    → HasSamples quantiser source (row * source.dims.mb_width + suc column) (with_macroblock source.dims.mb_rows row column (samples_of quantiser columns source row column) now)
-macroblock_has quantiser columns source row column now lt h =
-    let rows = source.dims.mb_rows in
+-- where a macroblock stands
+first_is : (quantiser columns : ℕ) (frame : Samples) (row column : ℕ) → first_skipped (state_before quantiser columns frame row column) ≡ row * columns + column
+unfolding state_before at_start
+first_is quantiser columns frame row zero = omega (arith, ints)
+first_is quantiser columns frame row (suc column) = omega (arith, ints)
+
+follows_is : (quantiser columns : ℕ) (frame : Samples) (row column : ℕ) → address (state_before quantiser columns frame row column) 1 ≡ pos (first_skipped (state_before quantiser columns frame row column) + 0)
+unfolding state_before at_start
+follows_is quantiser columns frame row zero = omega (arith, ints)
+follows_is quantiser columns frame row (suc column) = omega (arith, ints)
+
+-- a macroblock has its samples of the frame
+own_is : (quantiser : ℕ) (d : Dims) (refs : References) (source : Samples) (row column : ℕ) → column < source.dims.mb_width
+    → LiesIn (flat_context source.dims.mb_width) (first_skipped (state_before quantiser source.dims.mb_width source row column))
+    (own_sample (flat_setup source.dims.mb_width d) refs (state_before quantiser source.dims.mb_width source row column) (flat_macroblock source row column)) (recon_at quantiser source)
+unfolding prediction_of sample_at flat_macroblock state_inside
+own_is quantiser d refs source row column lt plane r c among down across =
     let width = source.dims.mb_width in
-    let new = samples_of quantiser columns source row column in
-    let same : width ≡ now.dims.mb_width = sym (ap (λ (d : Dims). d.mb_width) h.dims) in
+    let place = first_is quantiser width source row column in
+    let line : r / side plane ≡ row = down ∙ ap (λ (n : ℕ). n / width) place ∙ div-mul-add row width column lt in
+    let beside : c / side plane ≡ column = across ∙ ap (λ (n : ℕ). n % width) place ∙ mod-mul-add row width column lt in
+    ap (λ (z : SliceState). samples_of z.quantiser width source row column plane (r % side plane) (c % side plane)) (inside_is quantiser width source row column)
+    ∙ sample_is quantiser width source row column plane r c line beside
+
+macroblock_is : (quantiser : ℕ) (d : Dims) (refs : References) (source : Samples) (row column : ℕ) → column < source.dims.mb_width
+    → IsPartOf (flat_setup source.dims.mb_width d) refs (state_before quantiser source.dims.mb_width source row column) (flat_macroblock source row column) (recon_at quantiser source)
+unfolding flat_macroblock
+macroblock_is quantiser d refs source row column lt =
+    let width = source.dims.mb_width in
+    let st = state_before quantiser width source row column in
+    let none = none_skipped quantiser width source row column in
     record {
-      dims = h.dims;
-      luma = subst (λ (w : ℕ). HasPart 16 rows width (row * width + suc column) (recon_at quantiser source Y) (plane_with (16 * rows) (16 * w) 16 row column (new Y) now.luma)) same
-          (part_more 16 rows width row column (recon_at quantiser source Y) (new Y) now.luma (omega arith) lt h.luma (sample_is quantiser columns source row column Y));
-      cb = subst (λ (w : ℕ). HasPart 8 rows width (row * width + suc column) (recon_at quantiser source Cb) (plane_with (8 * rows) (8 * w) 8 row column (new Cb) now.cb)) same
-          (part_more 8 rows width row column (recon_at quantiser source Cb) (new Cb) now.cb (omega arith) lt h.cb (sample_is quantiser columns source row column Cb));
-      cr = subst (λ (w : ℕ). HasPart 8 rows width (row * width + suc column) (recon_at quantiser source Cr) (plane_with (8 * rows) (8 * w) 8 row column (new Cr) now.cr)) same
-          (part_more 8 rows width row column (recon_at quantiser source Cr) (new Cr) now.cr (omega arith) lt h.cr (sample_is quantiser columns source row column Cr));
+      follows = follows_is quantiser width source row column ∙ ap (λ (n : ℕ). pos (first_skipped st + n)) (sym none);
+      skipped = λ k some. absurd (omega (arith, none, some));
+      own = own_is quantiser d refs source row column lt;
     }
 
--- a frame with the macroblock's samples, where its state tells its place
-abbrev by_state : ℕ → Samples → ℕ → ℕ → Samples → SliceState → Samples
-by_state rows source row column now st =
-    with_macroblock rows (nat_abs st.address / source.dims.mb_width) (nat_abs st.address % source.dims.mb_width) (samples_of st.quantiser source.dims.mb_width source row column) now
-
-painted_is : (quantiser rows : ℕ) (source : Samples) (row column : ℕ) (now : Samples) → column < source.dims.mb_width
-    → painted (flat_context source.dims.mb_width) rows (state_before quantiser source.dims.mb_width source row column) (flat_macroblock source row column) now
-    ≡ with_macroblock rows row column (samples_of quantiser source.dims.mb_width source row column) now
-unfolding painted flat_macroblock state_inside
-painted_is quantiser rows source row column now lt =
-    let width = source.dims.mb_width in
-    let new = samples_of quantiser width source row column in
-    ap (by_state rows source row column now) (inside_is quantiser width source row column)
-    ∙ ap (λ (n : ℕ). with_macroblock rows n ((row * width + column) % width) new now) (div-mul-add row width column lt)
-    ∙ ap (λ (n : ℕ). with_macroblock rows row n new now) (mod-mul-add row width column lt)
-
 -- the macroblocks of a row
-pub row_has : (quantiser : ℕ) (source : Samples) (row n column : ℕ) (now : Samples) → column + n ≡ source.dims.mb_width
-    → HasSamples quantiser source (row * source.dims.mb_width + column) now
-    → HasSamples quantiser source (row * source.dims.mb_width + source.dims.mb_width)
-    (all_painted (flat_context source.dims.mb_width) source.dims.mb_rows (state_before quantiser source.dims.mb_width source row column) (flat_macroblocks source row column n) now)
-unfolding all_painted
-row_has quantiser source row zero column now is h =
-    let end : column ≡ source.dims.mb_width = omega arith in
-    subst (λ (k : ℕ). HasSamples quantiser source (row * source.dims.mb_width + k) now) end h
-row_has quantiser source row (suc n) column now is h =
+macroblocks_are : (quantiser : ℕ) (d : Dims) (refs : References) (source : Samples) (row n column : ℕ) → column + n ≡ source.dims.mb_width
+    → ArePartsOf (flat_setup source.dims.mb_width d) refs (state_before quantiser source.dims.mb_width source row column) (flat_macroblocks source row column n) (recon_at quantiser source)
+unfolding ArePartsOf
+macroblocks_are quantiser d refs source row zero column is = tt
+macroblocks_are quantiser d refs source row (suc n) column is =
     let width = source.dims.mb_width in
-    let rows = source.dims.mb_rows in
-    let c = flat_context width in
-    let st = state_before quantiser width source row column in
-    let x = flat_macroblock source row column in
-    let then = painted c rows st x now in
+    let next : suc column ≡ column + 1 = omega arith in (
+      macroblock_is quantiser d refs source row column (omega arith),
+      subst (λ (z : SliceState). ArePartsOf (flat_setup width d) refs z (flat_macroblocks source row (column + 1) n) (recon_at quantiser source))
+          (sym (after_is quantiser width source row column ∙ ap (state_before quantiser width source row) next))
+          (macroblocks_are quantiser d refs source row n (column + 1) (omega arith)),
+    )
+
+behind_is : (quantiser columns : ℕ) (source : Samples) (row n column : ℕ) → after_macroblocks (flat_context columns) (state_before quantiser columns source row column) (flat_macroblocks source row column n) ≡ state_before quantiser columns source row (column + n)
+unfolding after_macroblocks
+behind_is quantiser columns source row zero column = ap (state_before quantiser columns source row) (omega arith)
+behind_is quantiser columns source row (suc n) column =
     let next : suc column ≡ column + 1 = omega arith in
-    let more : HasSamples quantiser source (row * width + suc column) then =
-    subst (HasSamples quantiser source (row * width + suc column)) (sym (painted_is quantiser rows source row column now (omega arith))) (macroblock_has quantiser width source row column now (omega arith) h) in
-    let rest = row_has quantiser source row n (column + 1) then (omega arith) (subst (λ (k : ℕ). HasSamples quantiser source (row * width + k) then) next more) in
-    subst (λ (s : SliceState). HasSamples quantiser source (row * width + width) (all_painted c rows s (flat_macroblocks source row (column + 1) n) then))
-    (sym (after_is quantiser width source row column ∙ ap (state_before quantiser width source row) next)) rest
+    ap (λ (z : SliceState). after_macroblocks (flat_context columns) z (flat_macroblocks source row (column + 1) n)) (after_is quantiser columns source row column ∙ ap (state_before quantiser columns source row) next)
+    ∙ behind_is quantiser columns source row n (column + 1)
+    ∙ ap (state_before quantiser columns source row) (omega arith)
+
+pub row_has : (quantiser : ℕ) (d : Dims) (refs : References) (source : Samples) (row : ℕ) (now : Samples) → 0 < source.dims.mb_width
+    → HasSamples quantiser source (row * source.dims.mb_width) now
+    → HasSamples quantiser source (suc row * source.dims.mb_width)
+    (all_painted put_in_frame (flat_setup source.dims.mb_width d) refs (state_before quantiser source.dims.mb_width source row 0) (flat_macroblocks source row 0 source.dims.mb_width) now)
+row_has quantiser d refs source row now some h =
+    let width = source.dims.mb_width in
+    let s = flat_setup width d in
+    let st = state_before quantiser width source row 0 in
+    let xs = flat_macroblocks source row 0 width in
+    let start : row * width ≡ first_skipped st = omega (arith, first_is quantiser width source row 0) in
+    let all : 0 + width ≡ width = omega arith in
+    let end : first_skipped (after_macroblocks (flat_context width) st xs) ≡ suc row * width =
+    ap first_skipped (behind_is quantiser width source row width 0 ∙ ap (state_before quantiser width source row) all) ∙ omega (arith, first_is quantiser width source row width) in
+    subst (λ (k : ℕ). HasSamples quantiser source k (all_painted put_in_frame s refs st xs now)) end
+    (all_more s refs st xs source.dims (recon_at quantiser source) now some refl (macroblocks_are quantiser d refs source row width 0 (omega arith))
+    (subst (λ (k : ℕ). HasSamples quantiser source k now) start h))

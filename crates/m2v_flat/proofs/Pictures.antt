@@ -1,6 +1,6 @@
 -- The units of the flat stream are its parts, one behind another.
-use Rattle.std.proofs.Common.{◌≡◌, ℕ, zero, suc, ◌+◌, ◌-◌, ◌*◌, ◌/◌, ◌<◌, ◌≤◌, true, List, [], ◌∷◌, ◌++◌, length, map, Option, Some, inl, inr, refl, sym, ap, subst, ◌∙◌, arith}
-use Rattle.std.specs.Prelude.{nat_le, nat_lt}
+use Rattle.std.proofs.Common.{◌≡◌, ℕ, zero, suc, ◌+◌, ◌-◌, ◌*◌, ◌/◌, ◌<◌, ◌≤◌, true, false, List, [], ◌∷◌, ◌++◌, length, map, Option, Some, inl, inr, refl, sym, ap, subst, ◌∙◌, arith}
+use Rattle.std.specs.Prelude.{nat_eq, nat_le, nat_lt}
 use Rattle.std.specs.List.{range_with_len}
 use Rattle.std.proofs.lemmas.Bool.{ne_eqb, eq-eqb, le-leb, lt-ltb, and_from}
 use Rattle.std.proofs.Math.Nat.{mul_comm}
@@ -17,13 +17,13 @@ use Rattle.m2v_flat.proofs.Passing.{is_small}
 use Rattle.m2v_model.specs.declared.state.Open.{Open}
 use Rattle.m2v_model.specs.declared.state.State.{State}
 use Rattle.m2v_model.specs.Units.{Units, unit_at, unit_bits}
-use Rattle.m2v_model.specs.Headers.{whole, sequence_in, sequence_extension_in, picture_in, picture_extension_in}
-use Rattle.m2v_model.specs.States.{at_first, is_complete, columns_of, rows_of}
-use Rattle.m2v_model.specs.Slices.{slice_at, context}
-use Rattle.m2v_model.specs.Streams.{sequence, picture, slice, after, close, extension_behind, sequence_unit, picture_unit, slice_in, slice_unit, onward, later_unit, known_unit}
-use Rattle.m2v_flat.specs.Tree.{flat_context, flat_row, flat_rows, sequence_of, open_picture, state_first, state_in, pictures_parts}
+use Rattle.m2v_model.specs.Headers.{whole_header, sequence_in, sequence_extension_in, picture_in, picture_extension_in}
+use Rattle.m2v_model.specs.States.{at_first, one_anchor_more, with_slice, is_complete, columns_of, rows_of, picture_rows, dims_of, slice_setup}
+use Rattle.m2v_model.specs.Slices.{slice_at, large_in}
+use Rattle.m2v_model.specs.Streams.{sequence, picture, slice, after, close, no_second_field_due, extension_behind, sequence_unit, picture_unit, read_slice, slice_in, slice_unit, onward, later_unit, known_unit}
+use Rattle.m2v_flat.specs.Tree.{flat_setup, flat_row, flat_rows, sequence_of, flat_open, open_picture, state_with, state_in, pictures_parts}
 use Rattle.m2v_chain.specs.Texts.{ended, unit_bytes}
-use Rattle.m2v_flat.proofs.Slices.{slice_stands}
+use Rattle.m2v_flat.proofs.Slices.{slice_stands, none_large}
 use Rattle.m2v_flat.proofs.Headers.{behind, inside_stands, sequence_fits, sequence_stands, extension_stands, picture_stands, coding_stands, sequence_id, picture_id, extension_in_stands}
 use Rattle.m2v_chain.specs.Chains.{Reads, Chain, nothing, link}
 use Rattle.m2v_chain.proofs.Chains.{chain_then}
@@ -86,14 +86,14 @@ is_flat s h =
 -- ---- headers
 
 pub sequence_reads : (s : FlatSettings) → IsFlat s → Reads at_first (sequence (sequence_of s)) (sequence_bytes s) (extension_bytes ∷ [])
-unfolding known_unit onward sequence_unit close extension_behind choose rule here unit_at seq done
+unfolding known_unit onward sequence_unit close no_second_field_due extension_behind choose rule here unit_at seq done
 sequence_reads s h = record {
   stands = λ start us.
       let u = sequence_bytes s in
       let later = extension_bytes ∷ us in
-      let own = inside_stands (whole sequence_in) 0xB3 (sequence_text (flat_sequence s)) (flat_sequence s) later []
+      let own = inside_stands (whole_header sequence_in) 0xB3 (sequence_text (flat_sequence s)) (flat_sequence s) later []
       (sequence_stands s (sequence_fits s (omega (arith, h.width.1)) (omega (arith, h.height.1)) h.code)) in
-      let other = extension_in_stands (whole (sequence_extension_in (flat_sequence s))) 1 (unit_bits later) (sequence_extension_text flat_sequence_extension) flat_sequence_extension us (omega arith) sequence_id refl
+      let other = extension_in_stands (whole_header (sequence_extension_in (flat_sequence s))) 1 (unit_bits later) (sequence_extension_text flat_sequence_extension) flat_sequence_extension us (omega arith) sequence_id refl
       (extension_stands s h.width.0 (omega (arith, h.width.1)) h.height.0 (omega (arith, h.height.1))) in
       inl (
         refl,
@@ -105,22 +105,27 @@ sequence_reads s h = record {
             later,
             (refl, refl),
             (
-              flat_sequence s,
+              tt,
               later,
-              own,
+              (refl, refl),
               (
-                unit_bits later,
+                flat_sequence s,
                 later,
-                (refl, refl),
+                own,
                 (
-                  Some extension_bytes,
-                  us,
-                  refl,
+                  unit_bits later,
+                  later,
+                  (refl, refl),
                   (
-                    flat_sequence_extension,
+                    Some extension_bytes,
                     us,
-                    inl (refl, other),
-                    (tt, us, (refl, refl), (refl, refl)),
+                    refl,
+                    (
+                      flat_sequence_extension,
+                      us,
+                      inl (refl, other),
+                      (tt, us, (refl, refl), (refl, refl)),
+                    ),
                   ),
                 ),
               ),
@@ -131,20 +136,17 @@ sequence_reads s h = record {
       );
 }
 
--- a state in which the sequence's headers are in force
-abbrev pub state_with : FlatSettings → Option Open → State
-state_with s open_one = record (state_first s) { picture = open_one }
-
+-- each macroblock of the picture that is open was read
 abbrev pub IsWhole : FlatSettings → Option Open → Type 0
 IsWhole s open_one = is_complete (Some (sequence_of s)) open_one ≡ true
 
-pub picture_reads : (s : FlatSettings) (open_one : Option Open) (number : ℕ) → IsWhole s open_one → Reads (state_with s open_one) (picture (flat_picture number) flat_picture_extension) (picture_bytes number) (coding_bytes ∷ [])
+pub picture_reads : (s : FlatSettings) (anchors : ℕ) (open_one : Option Open) (number : ℕ) → IsWhole s open_one → Reads (state_with s anchors open_one) (picture (flat_picture number) flat_picture_extension) (picture_bytes number) (coding_bytes ∷ [])
 unfolding known_unit later_unit onward picture_unit close extension_behind choose rule here unit_at seq done
-picture_reads s open_one number whole_one = record {
+picture_reads s anchors open_one number whole_one = record {
   stands = λ start us.
       let later = coding_bytes ∷ us in
-      let own = inside_stands (whole picture_in) 0x00 (picture_text (flat_picture number)) (flat_picture number) later [] (picture_stands number) in
-      let other = extension_in_stands (whole (picture_extension_in (flat_picture number))) 8 (unit_bits later) (picture_extension_text flat_picture_extension) flat_picture_extension us (omega arith) picture_id refl (coding_stands number) in
+      let own = inside_stands (whole_header picture_in) 0x00 (picture_text (flat_picture number)) (flat_picture number) later [] (picture_stands number) in
+      let other = extension_in_stands (whole_header (picture_extension_in true (flat_picture number))) 8 (unit_bits later) (picture_extension_text flat_picture_extension) flat_picture_extension us (omega arith) picture_id refl (coding_stands number) in
       inr (
         refl,
         inl (
@@ -174,7 +176,7 @@ picture_reads s open_one number whole_one = record {
                         flat_picture_extension,
                         us,
                         inl (refl, other),
-                        (refl, refl),
+                        (tt, us, (refl, refl), (tt, us, (refl, refl), (refl, refl))),
                       ),
                     ),
                   ),
@@ -199,44 +201,66 @@ unfolding open_picture
 covered_before columns number zero = omega arith
 covered_before columns number (suc row) = omega arith
 
-pub context_is : (s : FlatSettings) (number row : ℕ) → IsFlat s → flat_context s.dims.mb_width ≡ context (state_in s number row) (sequence_of s) (open_picture s.dims.mb_width number row)
-unfolding context open_picture
-context_is s number zero h = ap flat_context (sym h.columns_are)
-context_is s number (suc row) h = ap flat_context (sym h.columns_are)
+pub dims_are : (s : FlatSettings) → IsFlat s → dims_of (sequence_of s) ≡ s.dims
+dims_are s h =
+    let width : (dims_of (sequence_of s)).width ≡ s.dims.width = omega arith in
+    let height : (dims_of (sequence_of s)).height ≡ s.dims.height = omega arith in
+    λ i. record { width = width i; height = height i; mb_width = h.columns_are i; mb_rows = h.rows_are i }
 
-slice_in_stands : (s : FlatSettings) (number row start : ℕ) (frame : Samples) (us : Units) → IsFlat s → frame.dims ≡ s.dims → row < s.dims.mb_rows
-    → (slice_in (state_in s number row) (sequence_of s) (open_picture s.dims.mb_width number row) row start (slice_bytes s.quantiser frame row)).Stands (slice row (flat_row s.quantiser s.dims.mb_width frame row)) us us
-unfolding slice_in rule seq done ended
-slice_in_stands s number row start frame us h same lt =
-    let st = state_in s number row in
+pub setup_is : (s : FlatSettings) (anchors number row : ℕ) → IsFlat s
+    → flat_setup s.dims.mb_width s.dims ≡ slice_setup (state_in s anchors number row) (sequence_of s) (open_picture s.dims.mb_width number row)
+unfolding slice_setup open_picture
+setup_is s anchors number zero h = ap (λ (n : ℕ). flat_setup n s.dims) (sym h.columns_are) ∙ ap (flat_setup (columns_of (sequence_of s))) (sym (dims_are s h))
+setup_is s anchors number (suc row) h = ap (λ (n : ℕ). flat_setup n s.dims) (sym h.columns_are) ∙ ap (flat_setup (columns_of (sequence_of s))) (sym (dims_are s h))
+
+-- its slices are read, and it is a frame
+is_read : (columns number row : ℕ) → (open_picture columns number row).slices_unread ≡ false
+unfolding open_picture
+is_read columns number zero = refl
+is_read columns number (suc row) = refl
+
+rows_in : (s : FlatSettings) (number row : ℕ) → picture_rows (sequence_of s) (open_picture s.dims.mb_width number row) ≡ rows_of (sequence_of s)
+unfolding open_picture
+rows_in s number zero = refl
+rows_in s number (suc row) = refl
+
+slice_in_stands : (s : FlatSettings) (anchors number row start : ℕ) (frame : Samples) (us : Units) → IsFlat s → frame.dims ≡ s.dims → row < s.dims.mb_rows
+    → (slice_in (state_in s anchors number row) (sequence_of s) (open_picture s.dims.mb_width number row) row start (slice_bytes s.quantiser frame row)).Stands (slice row (flat_row s.quantiser s.dims.mb_width frame row)) us us
+unfolding slice_in read_slice rule choose seq done ended
+slice_in_stands s anchors number row start frame us h same lt =
+    let st = state_in s anchors number row in
     let p = open_picture s.dims.mb_width number row in
     let x = flat_row s.quantiser s.dims.mb_width frame row in
     let t = slice_text (flat_slice s.quantiser) ++ row_text frame row in
-    let below : row < rows_of (sequence_of s) = omega (arith, h.rows_are) in
-    let order = and_from (nat_lt row (rows_of (sequence_of s))) (nat_le p.row row) (lt-ltb row (rows_of (sequence_of s)) below) (le-leb p.row row (row_before s.dims.mb_width number row)) in
-    let stands = slice_stands st (sequence_of s) p s.quantiser s.dims.mb_width frame row (to_edge (32 + length t)) h.quantiser.0 h.quantiser.1 h.columns.0 (omega (arith, h.columns.1))
-    h.columns_are (ap (λ (d : Dims). d.mb_width) (sym same)) (context_is s number row h) (covered_before s.dims.mb_width number row) in (
+    let setup = slice_setup st (sequence_of s) p in
+    let below : row < picture_rows (sequence_of s) p = omega (arith, rows_in s number row, h.rows_are) in
+    let order = and_from (nat_lt row (picture_rows (sequence_of s) p)) (nat_le p.row row) (lt-ltb row (picture_rows (sequence_of s) p) below) (le-leb p.row row (row_before s.dims.mb_width number row)) in
+    let stands = slice_stands setup s.quantiser s.dims.mb_width s.dims frame row p.covered (to_edge (32 + length t)) h.quantiser.0 h.quantiser.1 h.columns.0 (omega (arith, h.columns.1))
+    (ap (λ (d : Dims). d.mb_width) (sym same)) (setup_is s anchors number row h) (covered_before s.dims.mb_width number row) in (
       tt,
       us,
       (order, refl),
-      (
-        x,
-        us,
-        inside_stands (slice_at st (sequence_of s) p row) (row + 1) t x us (behind t) stands,
-        (refl, refl),
+      inr (
+        is_read s.dims.mb_width number row,
+        (
+          x,
+          us,
+          inside_stands (slice_at setup p.covered row) (row + 1) t x us (behind t) stands,
+          (refl, refl),
+        ),
       ),
     )
 
-pub slice_reads : (s : FlatSettings) (number row : ℕ) (frame : Samples) → IsFlat s → frame.dims ≡ s.dims → row < s.dims.mb_rows
-    → Reads (state_in s number row) (slice row (flat_row s.quantiser s.dims.mb_width frame row)) (slice_bytes s.quantiser frame row) []
+pub slice_reads : (s : FlatSettings) (anchors number row : ℕ) (frame : Samples) → IsFlat s → frame.dims ≡ s.dims → row < s.dims.mb_rows
+    → Reads (state_in s anchors number row) (slice row (flat_row s.quantiser s.dims.mb_width frame row)) (slice_bytes s.quantiser frame row) []
 unfolding known_unit later_unit onward slice_unit choose seq done
-slice_reads s number row frame h same lt = record {
+slice_reads s anchors number row frame h same lt = record {
   stands = λ start us.
       let x = flat_row s.quantiser s.dims.mb_width frame row in
-      let st = state_in s number row in
+      let st = state_in s anchors number row in
       let p = open_picture s.dims.mb_width number row in
       let back : row ≡ row + 1 - 1 = omega arith in
-      let stands = subst (λ (r : ℕ). (slice_in st (sequence_of s) p r start (slice_bytes s.quantiser frame row)).Stands (slice row x) us us) back (slice_in_stands s number row start frame us h same lt) in
+      let stands = subst (λ (r : ℕ). (slice_in st (sequence_of s) p r start (slice_bytes s.quantiser frame row)).Stands (slice row x) us us) back (slice_in_stands s anchors number row start frame us h same lt) in
       inr (
         ne_eqb (row + 1) 0xB3 (λ e. omega (arith, h.rows.1)),
         inl (
@@ -251,48 +275,75 @@ slice_reads s number row frame h same lt = record {
 
 -- ---- pictures
 
-pub after_row : (s : FlatSettings) (number row : ℕ) (frame : Samples) → after (state_in s number row) (slice row (flat_row s.quantiser s.dims.mb_width frame row)) ≡ state_in s number (suc row)
-unfolding after open_picture flat_row
-after_row s number zero frame = refl
-after_row s number (suc row) frame = refl
+-- a slice below the last one, none of whose macroblocks is large
+first_row : (number covered large : ℕ) → large ≡ 0 → with_slice (Some (flat_open number false 0 0)) 0 covered large ≡ Some (flat_open number true 0 covered)
+first_row number covered large none = rw none refl
 
-rows_chain : (s : FlatSettings) (number n row end : ℕ) (frame : Samples) → IsFlat s → frame.dims ≡ s.dims → row + n ≡ end → end ≤ s.dims.mb_rows
-    → Chain (state_in s number row) (flat_rows s.quantiser s.dims.mb_width frame row n) (rows_bytes s.quantiser frame row n) (state_in s number end)
-rows_chain s number zero row end frame h same is le = let here : row ≡ end = omega arith in subst (λ (k : ℕ). Chain (state_in s number row) [] [] (state_in s number k)) here nothing
-rows_chain s number (suc n) row end frame h same is le =
-    let next : state_in s number (suc row) ≡ state_in s number (row + 1) = ap (state_in s number) (omega arith) in
-    let rest = rows_chain s number n (row + 1) end frame h same (omega arith) le in
-    link (slice_reads s number row frame h same (omega arith))
-    (subst (λ (st : State). Chain st (flat_rows s.quantiser s.dims.mb_width frame (row + 1) n) (rows_bytes s.quantiser frame (row + 1) n) (state_in s number end)) (sym (after_row s number row frame ∙ next)) rest)
+next_row : (number row before covered large : ℕ) → large ≡ 0 → with_slice (Some (flat_open number true row before)) (suc row) covered large ≡ Some (flat_open number true (suc row) covered)
+next_row number row before covered large none =
+    let below : nat_eq (suc row) row ≡ false = ne_eqb (suc row) row (λ e. omega arith) in
+    rw (below, none) refl
+
+pub after_row : (s : FlatSettings) (anchors number row : ℕ) (frame : Samples) → after (state_in s anchors number row) (slice row (flat_row s.quantiser s.dims.mb_width frame row)) ≡ state_in s anchors number (suc row)
+unfolding after open_picture flat_row
+after_row s anchors number zero frame =
+    ap (λ (o : Option Open). state_with s anchors o) (first_row number (0 * s.dims.mb_width + s.dims.mb_width) (large_in (flat_row s.quantiser s.dims.mb_width frame 0)) (none_large s.quantiser s.dims.mb_width frame 0))
+after_row s anchors number (suc row) frame =
+    ap (λ (o : Option Open). state_with s anchors o)
+    (next_row number row (row * s.dims.mb_width + s.dims.mb_width) (suc row * s.dims.mb_width + s.dims.mb_width) (large_in (flat_row s.quantiser s.dims.mb_width frame (suc row))) (none_large s.quantiser s.dims.mb_width frame (suc row)))
+
+rows_chain : (s : FlatSettings) (anchors number n row end : ℕ) (frame : Samples) → IsFlat s → frame.dims ≡ s.dims → row + n ≡ end → end ≤ s.dims.mb_rows
+    → Chain (state_in s anchors number row) (flat_rows s.quantiser s.dims.mb_width frame row n) (rows_bytes s.quantiser frame row n) (state_in s anchors number end)
+rows_chain s anchors number zero row end frame h same is le = let here : row ≡ end = omega arith in subst (λ (k : ℕ). Chain (state_in s anchors number row) [] [] (state_in s anchors number k)) here nothing
+rows_chain s anchors number (suc n) row end frame h same is le =
+    let next : state_in s anchors number (suc row) ≡ state_in s anchors number (row + 1) = ap (state_in s anchors number) (omega arith) in
+    let rest = rows_chain s anchors number n (row + 1) end frame h same (omega arith) le in
+    link (slice_reads s anchors number row frame h same (omega arith))
+    (subst (λ (st : State). Chain st (flat_rows s.quantiser s.dims.mb_width frame (row + 1) n) (rows_bytes s.quantiser frame (row + 1) n) (state_in s anchors number end)) (sym (after_row s anchors number row frame ∙ next)) rest)
+
+all_covered : (s : FlatSettings) (row : ℕ) → IsFlat s → row ≡ s.dims.mb_rows → row * s.dims.mb_width ≡ columns_of (sequence_of s) * rows_of (sequence_of s)
+all_covered s row h is =
+    ap (λ (n : ℕ). n * s.dims.mb_width) is ∙ mul_comm s.dims.mb_rows s.dims.mb_width
+    ∙ sym (ap (λ (n : ℕ). n * rows_of (sequence_of s)) h.columns_are ∙ ap (λ (n : ℕ). s.dims.mb_width * n) h.rows_are)
+
+none_yet : (columns : ℕ) → 0 ≡ 0 * columns
+none_yet columns = omega arith
+
+one_row : (row columns : ℕ) → row * columns + columns ≡ suc row * columns
+one_row row columns = omega arith
+
+whole_at : (s : FlatSettings) (number row : ℕ) → IsFlat s → row ≡ s.dims.mb_rows → IsWhole s (Some (open_picture s.dims.mb_width number row))
+unfolding open_picture
+whole_at s number zero h is = eq-eqb _ _ (none_yet s.dims.mb_width ∙ all_covered s 0 h is)
+whole_at s number (suc row) h is = eq-eqb _ _ (one_row row s.dims.mb_width ∙ all_covered s (suc row) h is)
 
 picture_whole : (s : FlatSettings) (number : ℕ) → IsFlat s → IsWhole s (Some (open_picture s.dims.mb_width number s.dims.mb_rows))
-picture_whole s number h =
-    let c = s.dims.mb_width in
-    let r = s.dims.mb_rows in
-    let same : columns_of (sequence_of s) * rows_of (sequence_of s) ≡ c * r = ap (λ (n : ℕ). n * rows_of (sequence_of s)) h.columns_are ∙ ap (λ (n : ℕ). c * n) h.rows_are in
-    eq-eqb _ _ (covered_before c number r ∙ mul_comm r c ∙ sym same)
+picture_whole s number h = whole_at s number s.dims.mb_rows h refl
 
-pub after_header : (s : FlatSettings) (open_one : Option Open) (number : ℕ) → after (state_with s open_one) (picture (flat_picture number) flat_picture_extension) ≡ state_in s number 0
+pub after_header : (s : FlatSettings) (anchors : ℕ) (open_one : Option Open) (number : ℕ) → after (state_with s anchors open_one) (picture (flat_picture number) flat_picture_extension) ≡ state_in s (one_anchor_more anchors) number 0
 unfolding after open_picture
-after_header s open_one number = refl
+after_header s anchors open_one number = refl
 
 -- pictures one behind another, the last of them whole
-pub record Ends (s : FlatSettings) (number : ℕ) (frames : List (List ℕ)) (open_one : Option Open) : Type 0 where
+pub record Ends (s : FlatSettings) (anchors number : ℕ) (frames : List (List ℕ)) (open_one : Option Open) : Type 0 where
+  pub counted : ℕ
   pub end : Option Open
   pub whole : IsWhole s end
-  pub chain : Chain (state_with s open_one) (pictures_parts s number frames) (pictures_bytes s number frames) (state_with s end)
+  pub chain : Chain (state_with s anchors open_one) (pictures_parts s number frames) (pictures_bytes s number frames) (state_with s counted end)
 
-pub pictures_chain : (s : FlatSettings) (frames : List (List ℕ)) (number : ℕ) (open_one : Option Open) → IsFlat s → IsWhole s open_one → Ends s number frames open_one
+pub pictures_chain : (s : FlatSettings) (frames : List (List ℕ)) (anchors number : ℕ) (open_one : Option Open) → IsFlat s → IsWhole s open_one → Ends s anchors number frames open_one
 unfolding pictures_parts pictures_bytes
-pictures_chain s [] number open_one h whole_one = record { end = open_one; whole = whole_one; chain = nothing }
-pictures_chain s (raw ∷ frames) number open_one h whole_one =
+pictures_chain s [] anchors number open_one h whole_one = record { counted = anchors; end = open_one; whole = whole_one; chain = nothing }
+pictures_chain s (raw ∷ frames) anchors number open_one h whole_one =
     let frame = pad s.dims raw in
-    let rest = pictures_chain s frames (number + 1) (Some (open_picture s.dims.mb_width number s.dims.mb_rows)) h (picture_whole s number h) in
-    let rows = rows_chain s number s.dims.mb_rows 0 s.dims.mb_rows frame h refl (omega arith) (omega arith) in
+    let next = one_anchor_more anchors in
+    let rest = pictures_chain s frames next (number + 1) (Some (open_picture s.dims.mb_width number s.dims.mb_rows)) h (picture_whole s number h) in
+    let rows = rows_chain s next number s.dims.mb_rows 0 s.dims.mb_rows frame h refl (omega arith) (omega arith) in
     record {
+      counted = rest.counted;
       end = rest.end;
       whole = rest.whole;
-      chain = link (picture_reads s open_one number whole_one)
-          (subst (λ (st : State). Chain st (flat_rows s.quantiser s.dims.mb_width frame 0 s.dims.mb_rows ++ pictures_parts s (number + 1) frames) (rows_bytes s.quantiser frame 0 s.dims.mb_rows ++ pictures_bytes s (number + 1) frames) (state_with s rest.end)) (sym (after_header s open_one number))
+      chain = link (picture_reads s anchors open_one number whole_one)
+          (subst (λ (st : State). Chain st (flat_rows s.quantiser s.dims.mb_width frame 0 s.dims.mb_rows ++ pictures_parts s (number + 1) frames) (rows_bytes s.quantiser frame 0 s.dims.mb_rows ++ pictures_bytes s (number + 1) frames) (state_with s rest.counted rest.end)) (sym (after_header s anchors open_one number))
           (chain_then rows rest.chain));
     }

@@ -1,9 +1,10 @@
 -- A slice of the flat profile stands in its unit.
-use Rattle.std.proofs.Common.{◌≡◌, ℕ, zero, suc, ◌+◌, ◌*◌, ◌<◌, ◌≤◌, Bool, true, false, List, [], ◌∷◌, ◌++◌, length, replicate, pos, ◌+ℤ◌, refl, sym, ap, subst, ◌∙◌, arith, append_assoc, append-nil}
-use Rattle.std.specs.Prelude.{not, nat_abs}
+use Rattle.std.proofs.Common.{◌≡◌, ℕ, zero, suc, ◌+◌, ◌-◌, ◌*◌, ◌<◌, ◌≤◌, Bool, true, false, List, [], ◌∷◌, ◌++◌, length, replicate, pos, ◌+ℤ◌, refl, sym, ap, subst, ◌∙◌, arith, append_assoc, append-nil}
+use Rattle.std.specs.Prelude.{not, nat_abs, filter}
 use Rattle.std.specs.List.{flat_map, range_with_len}
 use Rattle.std.proofs.lemmas.Int.{ints}
-use Rattle.std.proofs.lemmas.Bool.{lt-ltb}
+use Rattle.std.proofs.lemmas.Bool.{lt-ltb, le-ltb}
+use Rattle.std.proofs.lemmas.List.{length-append}
 use Rattle.m2v_bits.specs.Bits.{bits_of, all_zero}
 use Rattle.m2v_bits.specs.Syntax.{seq, done, here, rule, renamed, repeated, Rounds, last, more}
 use Rattle.m2v_bits.specs.Leaves.{zero_at}
@@ -20,55 +21,69 @@ use Rattle.m2v_macro.proofs.Spellings.{increments_spell}
 use Rattle.m2v_macro.specs.declared.values.SliceState.{SliceState}
 use Rattle.m2v_macro.specs.declared.values.PictureContext.{PictureContext}
 use Rattle.m2v_head.specs.declared.slice.SliceInfo.{SliceInfo}
+use Rattle.m2v_macroblock.specs.Macroblocks.{Macroblock, after_macroblock}
+use Rattle.m2v_plane.specs.declared.dims.Dims.{Dims}
 use Rattle.m2v_plane.specs.Samples.{Samples}
 use Rattle.m2v_flat.specs.Flat.{flat_slice, blocks_text, macroblock_text, row_text}
-use Rattle.m2v_flat.proofs.Lengths.{row_is}
-use Rattle.m2v_model.specs.declared.state.Sequence.{Sequence}
-use Rattle.m2v_model.specs.declared.state.Open.{Open}
-use Rattle.m2v_model.specs.declared.state.State.{State}
+use Rattle.m2v_flat.proofs.Lengths.{macroblock_most, row_is}
+use Rattle.m2v_model.specs.declared.setup.SliceSetup.{SliceSetup}
 use Rattle.m2v_model.specs.Looking.{looking}
-use Rattle.m2v_model.specs.States.{columns_of}
-use Rattle.m2v_model.specs.Slices.{Row, Slice, macroblock_round, macroblocks_at, context, slice_start, begins_late, unit_place, slice_at}
-use Rattle.m2v_model.specs.Slices.{Macroblock}
-use Rattle.m2v_flat.specs.Tree.{flat_context, flat_macroblock, flat_macroblocks, state_before, flat_row}
+use Rattle.m2v_model.specs.Slices.{Row, Slice, macroblock_round, macroblocks_at, slice_start, begins_late, unit_place, slice_at, is_large, large_in}
+use Rattle.m2v_flat.specs.Tree.{flat_context, flat_setup, flat_macroblock, flat_macroblocks, flat_bits, state_before, flat_row}
 use Rattle.m2v_flat.proofs.Macroblocks.{after_is, macroblock_spells}
 
 -- ---- macroblocks of a row
 
+abbrev row_of : SliceState → List Macroblock → List ℕ → Row
+row_of st xs bs = record { state = st; macroblocks = xs; bits = bs }
+
 -- the row before a macroblock
-abbrev row_at : ℕ → ℕ → Samples → ℕ → ℕ → List Macroblock → Row
-row_at quantiser columns frame row column xs = record { state = state_before quantiser columns frame row column; macroblocks = xs }
+abbrev row_at : ℕ → ℕ → Samples → ℕ → ℕ → List Macroblock → List ℕ → Row
+row_at quantiser columns frame row column xs bs = row_of (state_before quantiser columns frame row column) xs bs
 
-abbrev row_of : SliceState → List Macroblock → Row
-row_of st xs = record { state = st; macroblocks = xs }
+abbrev slice_of : SliceInfo → List Macroblock → List ℕ → ℕ → Slice
+slice_of info xs bs covered = record { info = info; macroblocks = xs; bits = bs; covered = covered }
 
-abbrev slice_of : SliceInfo → List Macroblock → ℕ → Slice
-slice_of info xs covered = record { info = info; macroblocks = xs; covered = covered }
-
--- a round of the loop over macroblocks, from one macroblock to another
-abbrev RoundStands : ℕ → ℕ → Samples → ℕ → ℕ → ℕ → List Macroblock → List Macroblock → Bool → List Bool → List Bool → Type 0
-RoundStands quantiser columns frame row column end xs ys goes_on t rest =
-    (macroblock_round (flat_context columns) (row_at quantiser columns frame row column xs)).Stands (goes_on, row_at quantiser columns frame row end ys) t rest
+-- a round of the loop over macroblocks, from one row to another
+abbrev RoundStands : ℕ → Dims → Row → Row → Bool → List Bool → List Bool → Type 0
+RoundStands columns d before behind goes_on t rest = (macroblock_round (flat_setup columns d) before).Stands (goes_on, behind) t rest
 
 -- a macroblock, and whether others follow
-round_stands : (quantiser columns : ℕ) (frame : Samples) (row column : ℕ) (xs : List Macroblock) (rest : List Bool) → 1 ≤ quantiser → quantiser ≤ 31 → columns ≤ 120 → column < columns
-    → RoundStands quantiser columns frame row column (suc column) xs (xs ++ flat_macroblock frame row column ∷ []) (not (all_zero rest)) (macroblock_text frame row column ++ rest) rest
-unfolding macroblock_round seq zero_at done
-round_stands quantiser columns frame row column xs rest least most wide lt =
+round_stands : (quantiser columns : ℕ) (d : Dims) (frame : Samples) (row column : ℕ) (xs : List Macroblock) (bs : List ℕ) (rest : List Bool) → 1 ≤ quantiser → quantiser ≤ 31 → columns ≤ 120 → column < columns
+    → RoundStands columns d (row_at quantiser columns frame row column xs bs)
+    (row_at quantiser columns frame row (suc column) (xs ++ flat_macroblock frame row column ∷ []) (bs ++ length (macroblock_text frame row column) ∷ []))
+    (not (all_zero rest)) (macroblock_text frame row column ++ rest) rest
+unfolding macroblock_round seq here zero_at done
+round_stands quantiser columns d frame row column xs bs rest least most wide lt =
     let m = flat_macroblock frame row column in
-    let next = after_is quantiser columns frame row column in (
-      m,
-      rest,
-      (macroblock_spells quantiser columns frame row column least most wide lt).stands rest,
-      (all_zero rest, rest, (refl, refl), (ap (λ (st : SliceState). (not (all_zero rest), row_of st (xs ++ m ∷ []))) (sym next), refl)),
+    let t = macroblock_text frame row column in
+    let st = state_before quantiser columns frame row column in
+    let next = after_is quantiser columns frame row column in
+    let bits : length t ≡ length (t ++ rest) - length rest = omega (arith, length-append t rest) in
+    let made = ap (λ (z : SliceState). (not (all_zero rest), row_of z (xs ++ m ∷ []) (bs ++ length t ∷ []))) (sym next)
+    ∙ ap (λ (n : ℕ). (not (all_zero rest), row_of (after_macroblock (flat_context columns) st m) (xs ++ m ∷ []) (bs ++ n ∷ []))) bits in (
+      length (t ++ rest),
+      t ++ rest,
+      (refl, refl),
+      (
+        m,
+        rest,
+        (macroblock_spells quantiser columns d frame row column least most wide lt).stands rest,
+        (
+          length rest,
+          rest,
+          (refl, refl),
+          (all_zero rest, rest, (refl, refl), (made, refl)),
+        ),
+      ),
     )
 
-moved : (quantiser columns : ℕ) (frame : Samples) (row column : ℕ) (xs ys : List Macroblock) (rest : List Bool) (b c : Bool) (k l : ℕ) (t u : List Bool) → b ≡ c → k ≡ l → t ≡ u
-    → RoundStands quantiser columns frame row column k xs ys b t rest → RoundStands quantiser columns frame row column l xs ys c u rest
-moved quantiser columns frame row column xs ys rest b c k l t u eb ek et h =
-    subst (λ (x : List Bool). RoundStands quantiser columns frame row column l xs ys c x rest) et
-    (subst (λ (n : ℕ). RoundStands quantiser columns frame row column n xs ys c t rest) ek
-    (subst (λ (x : Bool). RoundStands quantiser columns frame row column k xs ys x t rest) eb h))
+moved : (quantiser columns : ℕ) (d : Dims) (frame : Samples) (row : ℕ) (before : Row) (ys : List Macroblock) (cs : List ℕ) (rest : List Bool) (b c : Bool) (k l : ℕ) (t u : List Bool) → b ≡ c → k ≡ l → t ≡ u
+    → RoundStands columns d before (row_at quantiser columns frame row k ys cs) b t rest → RoundStands columns d before (row_at quantiser columns frame row l ys cs) c u rest
+moved quantiser columns d frame row before ys cs rest b c k l t u eb ek et h =
+    subst (λ (x : List Bool). RoundStands columns d before (row_at quantiser columns frame row l ys cs) c x rest) et
+    (subst (λ (n : ℕ). RoundStands columns d before (row_at quantiser columns frame row n ys cs) c t rest) ek
+    (subst (λ (x : Bool). RoundStands columns d before (row_at quantiser columns frame row k ys cs) x t rest) eb h))
 
 -- a macroblock has a bit that is 1
 not_zero : (frame : Samples) (row column : ℕ) (rest behind : List Bool) → all_zero ((macroblock_text frame row column ++ rest) ++ behind) ≡ false
@@ -81,40 +96,47 @@ zeros_are zero = refl
 zeros_are (suc n) = zeros_are n
 
 -- the macroblocks from one on, with zeros behind them
-rounds_stand : (quantiser columns : ℕ) (frame : Samples) (row n column end z : ℕ) (xs : List Macroblock) → 1 ≤ quantiser → quantiser ≤ 31 → columns ≤ 120 → column + suc n ≡ columns → end ≡ columns
-    → Rounds (macroblock_round (flat_context columns)) (row_at quantiser columns frame row column xs) (row_at quantiser columns frame row end (xs ++ flat_macroblocks frame row column (suc n)))
+rounds_stand : (quantiser columns : ℕ) (d : Dims) (frame : Samples) (row n column end z : ℕ) (xs : List Macroblock) (bs : List ℕ) → 1 ≤ quantiser → quantiser ≤ 31 → columns ≤ 120 → column + suc n ≡ columns → end ≡ columns
+    → Rounds (macroblock_round (flat_setup columns d)) (row_at quantiser columns frame row column xs bs)
+    (row_at quantiser columns frame row end (xs ++ flat_macroblocks frame row column (suc n)) (bs ++ flat_bits frame row column (suc n)))
     (flat_map (macroblock_text frame row) (range_with_len column (suc n)) ++ replicate z false) (replicate z false)
-rounds_stand quantiser columns frame row zero column end z xs least most wide is last_is =
+rounds_stand quantiser columns d frame row zero column end z xs bs least most wide is last_is =
     let behind = replicate z false in
     let t = macroblock_text frame row column in
     let m = flat_macroblock frame row column in
-    last (moved quantiser columns frame row column xs (xs ++ m ∷ []) behind (not (all_zero behind)) false (suc column) end (t ++ behind) ((t ++ []) ++ behind)
+    last (moved quantiser columns d frame row (row_at quantiser columns frame row column xs bs) (xs ++ m ∷ []) (bs ++ length t ∷ []) behind (not (all_zero behind)) false (suc column) end (t ++ behind) ((t ++ []) ++ behind)
     (ap not (zeros_are z)) (omega arith) (ap (λ (x : List Bool). x ++ behind) (sym (append-nil t)))
-    (round_stands quantiser columns frame row column xs behind least most wide (omega arith)))
-rounds_stand quantiser columns frame row (suc n) column end z xs least most wide is last_is =
+    (round_stands quantiser columns d frame row column xs bs behind least most wide (omega arith)))
+rounds_stand quantiser columns d frame row (suc n) column end z xs bs least most wide is last_is =
     let behind = replicate z false in
     let t = macroblock_text frame row column in
     let m = flat_macroblock frame row column in
     let later = flat_map (macroblock_text frame row) (range_with_len (column + 1) (suc n)) in
-    let first = moved quantiser columns frame row column xs (xs ++ m ∷ []) (later ++ behind) (not (all_zero (later ++ behind))) true (suc column) (column + 1) (t ++ (later ++ behind)) ((t ++ later) ++ behind)
+    let ys = flat_macroblocks frame row (column + 1) (suc n) in
+    let cs = flat_bits frame row (column + 1) (suc n) in
+    let next = row_at quantiser columns frame row (column + 1) (xs ++ m ∷ []) (bs ++ length t ∷ []) in
+    let first = moved quantiser columns d frame row (row_at quantiser columns frame row column xs bs) (xs ++ m ∷ []) (bs ++ length t ∷ []) (later ++ behind) (not (all_zero (later ++ behind))) true (suc column) (column + 1) (t ++ (later ++ behind)) ((t ++ later) ++ behind)
     (ap not (not_zero frame row (column + 1) (flat_map (macroblock_text frame row) (range_with_len (column + 1 + 1) n)) behind)) (omega arith) (sym (append_assoc t later behind))
-    (round_stands quantiser columns frame row column xs (later ++ behind) least most wide (omega arith)) in
-    let rest = rounds_stand quantiser columns frame row n (column + 1) end z (xs ++ m ∷ []) least most wide (omega arith) last_is in
-    more first (subst (λ (ys : List Macroblock). Rounds (macroblock_round (flat_context columns)) (row_at quantiser columns frame row (column + 1) (xs ++ m ∷ [])) (row_at quantiser columns frame row end ys) (later ++ behind) behind)
-    (append_assoc xs (m ∷ []) (flat_macroblocks frame row (column + 1) (suc n))) rest)
+    (round_stands quantiser columns d frame row column xs bs (later ++ behind) least most wide (omega arith)) in
+    let rest = rounds_stand quantiser columns d frame row n (column + 1) end z (xs ++ m ∷ []) (bs ++ length t ∷ []) least most wide (omega arith) last_is in
+    more first
+    (subst (λ (ws : List ℕ). Rounds (macroblock_round (flat_setup columns d)) next (row_at quantiser columns frame row end (xs ++ m ∷ ys) ws) (later ++ behind) behind) (append_assoc bs (length t ∷ []) cs)
+    (subst (λ (ws : List Macroblock). Rounds (macroblock_round (flat_setup columns d)) next (row_at quantiser columns frame row end ws ((bs ++ length t ∷ []) ++ cs)) (later ++ behind) behind) (append_assoc xs (m ∷ []) ys) rest))
 
 -- ---- slices
 
-macroblocks_stand : (quantiser columns : ℕ) (frame : Samples) (row z : ℕ) (c : PictureContext) (start : SliceState) → 1 ≤ quantiser → quantiser ≤ 31 → 1 ≤ columns → columns ≤ 120
-    → flat_context columns ≡ c → state_before quantiser columns frame row 0 ≡ start
-    → (macroblocks_at c (row_of start [])).Stands (row_at quantiser columns frame row columns (flat_macroblocks frame row 0 columns))
+macroblocks_stand : (quantiser columns : ℕ) (d : Dims) (frame : Samples) (row z : ℕ) (s : SliceSetup) (start : SliceState) → 1 ≤ quantiser → quantiser ≤ 31 → 1 ≤ columns → columns ≤ 120
+    → flat_setup columns d ≡ s → state_before quantiser columns frame row 0 ≡ start
+    → (macroblocks_at s (row_of start [] [])).Stands (row_at quantiser columns frame row columns (flat_macroblocks frame row 0 columns) (flat_bits frame row 0 columns))
     (flat_map (macroblock_text frame row) (range_with_len 0 columns) ++ replicate z false) (replicate z false)
 unfolding macroblocks_at repeated
-macroblocks_stand quantiser zero frame row z c start least most some wide ec es = absurd (omega arith)
-macroblocks_stand quantiser (suc n) frame row z c start least most some wide ec es =
-    subst (λ (x : PictureContext). Rounds (macroblock_round x) (row_of start []) (row_at quantiser (suc n) frame row (suc n) (flat_macroblocks frame row 0 (suc n))) (flat_map (macroblock_text frame row) (range_with_len 0 (suc n)) ++ replicate z false) (replicate z false)) ec
-    (subst (λ (x : SliceState). Rounds (macroblock_round (flat_context (suc n))) (row_of x []) (row_at quantiser (suc n) frame row (suc n) (flat_macroblocks frame row 0 (suc n))) (flat_map (macroblock_text frame row) (range_with_len 0 (suc n)) ++ replicate z false) (replicate z false)) es
-    (rounds_stand quantiser (suc n) frame row n 0 (suc n) z [] least most wide (omega arith) refl))
+macroblocks_stand quantiser zero d frame row z s start least most some wide ec es = absurd (omega arith)
+macroblocks_stand quantiser (suc n) d frame row z s start least most some wide ec es =
+    let t = flat_map (macroblock_text frame row) (range_with_len 0 (suc n)) ++ replicate z false in
+    let end = row_at quantiser (suc n) frame row (suc n) (flat_macroblocks frame row 0 (suc n)) (flat_bits frame row 0 (suc n)) in
+    subst (λ (x : SliceSetup). Rounds (macroblock_round x) (row_of start [] []) end t (replicate z false)) ec
+    (subst (λ (x : SliceState). Rounds (macroblock_round (flat_setup (suc n) d)) (row_of x [] []) end t (replicate z false)) es
+    (rounds_stand quantiser (suc n) d frame row n 0 (suc n) z [] [] least most wide (omega arith) refl))
 
 -- the first increment
 abbrev behind_first : Samples → ℕ → ℕ → ℕ → List Bool
@@ -143,22 +165,25 @@ not_late row columns covered own e is =
     let same : row * own ≡ row * columns = ap (λ (n : ℕ). row * n) e in
     lt-ltb _ _ (omega arith)
 
-row_is_of : (quantiser columns : ℕ) (frame : Samples) (row covered : ℕ) → covered ≡ row * columns + columns → flat_row quantiser columns frame row ≡ slice_of (flat_slice quantiser) (flat_macroblocks frame row 0 columns) covered
+row_is_of : (quantiser columns : ℕ) (frame : Samples) (row covered : ℕ) → covered ≡ row * columns + columns
+    → flat_row quantiser columns frame row ≡ slice_of (flat_slice quantiser) (flat_macroblocks frame row 0 columns) (flat_bits frame row 0 columns) covered
 unfolding flat_row
-row_is_of quantiser columns frame row covered is = ap (slice_of (flat_slice quantiser) (flat_macroblocks frame row 0 columns)) (sym is)
+row_is_of quantiser columns frame row covered is = ap (slice_of (flat_slice quantiser) (flat_macroblocks frame row 0 columns) (flat_bits frame row 0 columns)) (sym is)
 
-slice_here : (st : State) (s : Sequence) (p : Open) (quantiser columns : ℕ) (frame : Samples) (row z : ℕ) → 1 ≤ quantiser → quantiser ≤ 31 → 1 ≤ columns → columns ≤ 120
-    → columns_of s ≡ columns → flat_context columns ≡ context st s p → p.covered ≡ row * columns
-    → (slice_at st s p row).Stands (flat_row quantiser columns frame row) (slice_text (flat_slice quantiser) ++ (flat_map (macroblock_text frame row) (range_with_len 0 columns) ++ replicate z false)) (replicate z false)
+slice_here : (s : SliceSetup) (quantiser columns : ℕ) (d : Dims) (frame : Samples) (row covered z : ℕ) → 1 ≤ quantiser → quantiser ≤ 31 → 1 ≤ columns → columns ≤ 120
+    → flat_setup columns d ≡ s → covered ≡ row * columns
+    → (slice_at s covered row).Stands (flat_row quantiser columns frame row) (slice_text (flat_slice quantiser) ++ (flat_map (macroblock_text frame row) (range_with_len 0 columns) ++ replicate z false)) (replicate z false)
 unfolding slice_at seq here rule looking renamed unit_place done
-slice_here st s p quantiser columns frame row z least most some wide own ec is =
+slice_here s quantiser columns d frame row covered z least most some wide es is =
     let t = flat_map (macroblock_text frame row) (range_with_len 0 columns) ++ replicate z false in
     let head = slice_text (flat_slice quantiser) in
     let fits : SliceFits (flat_slice quantiser) = record { quantiser = (least, most); reserved = omega arith; untold = refl } in
-    let x = row_at quantiser columns frame row columns (flat_macroblocks frame row 0 columns) in
-    let late = not_late row columns p.covered (columns_of s) own is in
-    let start = start_is quantiser columns frame row p.covered (context st s p) ec is in
-    let rounds = macroblocks_stand quantiser columns frame row z (context st s p) (slice_start (context st s p) row p.covered quantiser) least most some wide ec start in
+    let x = row_at quantiser columns frame row columns (flat_macroblocks frame row 0 columns) (flat_bits frame row 0 columns) in
+    let ec : flat_context columns ≡ s.context = ap (λ (q : SliceSetup). q.context) es in
+    let own : s.context.columns ≡ columns = sym (ap (λ (c : PictureContext). c.columns) ec) in
+    let late = not_late row columns covered s.context.columns own is in
+    let start = start_is quantiser columns frame row covered s.context ec is in
+    let rounds = macroblocks_stand quantiser columns d frame row z s (slice_start s.context row covered quantiser) least most some wide es start in
     let end = row_is_of quantiser columns frame row (nat_abs (x.state.address +ℤ pos 1)) (covered_is quantiser columns frame row some) in (
       length (head ++ t) + 32,
       head ++ t,
@@ -181,13 +206,26 @@ slice_here st s p quantiser columns frame row z least most some wide own ec is =
       ),
     )
 
-pub slice_stands : (st : State) (s : Sequence) (p : Open) (quantiser columns : ℕ) (frame : Samples) (row z : ℕ) → 1 ≤ quantiser → quantiser ≤ 31 → 1 ≤ columns → columns ≤ 120
-    → columns_of s ≡ columns → columns ≡ frame.dims.mb_width → flat_context columns ≡ context st s p → p.covered ≡ row * columns
-    → (slice_at st s p row).Stands (flat_row quantiser columns frame row) ((slice_text (flat_slice quantiser) ++ row_text frame row) ++ replicate z false) (replicate z false)
-slice_stands st s p quantiser columns frame row z least most some wide own width ec is =
+pub slice_stands : (s : SliceSetup) (quantiser columns : ℕ) (d : Dims) (frame : Samples) (row covered z : ℕ) → 1 ≤ quantiser → quantiser ≤ 31 → 1 ≤ columns → columns ≤ 120
+    → columns ≡ frame.dims.mb_width → flat_setup columns d ≡ s → covered ≡ row * columns
+    → (slice_at s covered row).Stands (flat_row quantiser columns frame row) ((slice_text (flat_slice quantiser) ++ row_text frame row) ++ replicate z false) (replicate z false)
+slice_stands s quantiser columns d frame row covered z least most some wide width es is =
     let head = slice_text (flat_slice quantiser) in
     let behind = replicate z false in
     let same : head ++ (flat_map (macroblock_text frame row) (range_with_len 0 columns) ++ behind) ≡ (head ++ row_text frame row) ++ behind =
     ap (λ (t : List Bool). head ++ (t ++ behind)) (row_is frame row columns width) ∙ sym (append_assoc head (row_text frame row) behind) in
-    subst (λ (t : List Bool). (slice_at st s p row).Stands (flat_row quantiser columns frame row) t behind) same
-    (slice_here st s p quantiser columns frame row z least most some wide own ec is)
+    subst (λ (t : List Bool). (slice_at s covered row).Stands (flat_row quantiser columns frame row) t behind) same
+    (slice_here s quantiser columns d frame row covered z least most some wide es is)
+
+-- ---- large macroblocks
+
+few_bits : (frame : Samples) (row n from : ℕ) → filter is_large (flat_bits frame row from n) ≡ []
+few_bits frame row zero from = refl
+few_bits frame row (suc n) from =
+    let small : is_large (length (macroblock_text frame row from)) ≡ false = le-ltb _ _ (omega (arith, macroblock_most frame row from)) in
+    rw small (few_bits frame row n (from + 1))
+
+-- no macroblock is large
+pub none_large : (quantiser columns : ℕ) (frame : Samples) (row : ℕ) → large_in (flat_row quantiser columns frame row) ≡ 0
+unfolding flat_row
+none_large quantiser columns frame row = ap length (few_bits frame row columns 0)

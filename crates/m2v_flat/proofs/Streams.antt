@@ -1,7 +1,7 @@
 -- The flat stream stands in its bytes, and decodes to the frames that it stands for.
-use Rattle.std.proofs.Common.{◌≡◌, ℕ, ◌+◌, ◌≤◌, false, List, [], ◌∷◌, ◌++◌, length, Option, Some, None, inl, inr, refl, sym, subst, arith}
+use Rattle.std.proofs.Common.{◌≡◌, ℕ, ◌+◌, ◌≤◌, true, false, List, [], ◌∷◌, ◌++◌, length, Option, Some, None, inl, inr, refl, sym, subst, arith}
 use Rattle.m2v_bits.specs.Bits.{bits_of, number, start_code, unit}
-use Rattle.m2v_bits.specs.Syntax.{seq, done, here, rule, choose, repeated, Rounds, last}
+use Rattle.m2v_bits.specs.Syntax.{seq, done, here, rule, choose, Rounds, last}
 use Rattle.m2v_head.specs.Texts.{sequence_text, sequence_extension_text, picture_text, picture_extension_text, slice_text}
 use Rattle.m2v_plane.specs.Samples.{Samples}
 use Rattle.m2v_plane.specs.Raw.{pad}
@@ -12,17 +12,17 @@ use Rattle.m2v_flat.specs.Recon.{FlatRecon}
 use Rattle.m2v_model.specs.declared.state.Open.{Open}
 use Rattle.m2v_model.specs.declared.state.State.{State}
 use Rattle.m2v_model.specs.Units.{Units, unit_at, unit_bits}
-use Rattle.m2v_model.specs.States.{at_first}
-use Rattle.m2v_model.specs.Streams.{Part, Sofar, sequence, ending, after, close, end_unit, final, later_unit, known_unit, next_unit, unit_round, stream_at}
+use Rattle.m2v_model.specs.States.{at_first, none_waits}
+use Rattle.m2v_model.specs.Streams.{Part, Sofar, sequence, ending, after, close, no_second_field_due, end_unit, final, later_unit, known_unit, next_unit, unit_round, stream_at}
 use Rattle.m2v_model.specs.Decoding.{Decodes}
-use Rattle.m2v_flat.specs.Tree.{sequence_of, pictures_parts, stream_parts}
+use Rattle.m2v_flat.specs.Tree.{sequence_of, state_with, pictures_parts, stream_parts}
 use Rattle.m2v_chain.specs.Texts.{unit_bytes, Packs}
 use Rattle.m2v_chain.proofs.Units.{packs_none, packs_unit, packs_append, packs_map, cuts_of}
 use Rattle.m2v_chain.proofs.Calm.{calm_end}
 use Rattle.m2v_flat.proofs.CalmTexts.{sequence_calm, sequence_extension_calm, picture_calm, picture_extension_calm, slice_calm}
 use Rattle.m2v_chain.specs.Chains.{Chain, link}
-use Rattle.m2v_chain.proofs.Chains.{rounds_of}
-use Rattle.m2v_flat.proofs.Pictures.{IsFlat, is_flat, state_with, IsWhole, sequence_bytes, extension_bytes, picture_bytes, coding_bytes, slice_bytes, rows_bytes, pictures_bytes, sequence_reads, pictures_chain}
+use Rattle.m2v_chain.proofs.Chains.{rounds_of, stream_of}
+use Rattle.m2v_flat.proofs.Pictures.{IsFlat, is_flat, IsWhole, sequence_bytes, extension_bytes, picture_bytes, coding_bytes, slice_bytes, rows_bytes, pictures_bytes, sequence_reads, pictures_chain}
 use Rattle.m2v_flat.proofs.Frames.{parts_show, first_state}
 
 -- ---- the stream is cut into its units
@@ -75,10 +75,10 @@ stream_packs s raw frames h =
 -- ---- the stream stands in its units
 
 -- the sequence end code ends it
-end_stands : (s : FlatSettings) (open_one : Option Open) (parts : List Part) → IsWhole s open_one
-    → Rounds unit_round (record { state = state_with s open_one; parts = parts }) (record { state = after (state_with s open_one) ending; parts = parts ++ ending ∷ [] }) (end_bytes ∷ []) []
-unfolding unit_round next_unit known_unit later_unit final end_unit close choose rule here unit_at seq done
-end_stands s open_one parts whole_one =
+end_stands : (s : FlatSettings) (anchors : ℕ) (open_one : Option Open) (parts : List Part) → IsWhole s open_one
+    → Rounds unit_round (record { state = state_with s anchors open_one; parts = parts }) (record { state = after (state_with s anchors open_one) ending; parts = parts ++ ending ∷ [] }) (end_bytes ∷ []) []
+unfolding unit_round next_unit known_unit later_unit final end_unit close no_second_field_due choose rule here unit_at seq done
+end_stands s anchors open_one parts whole_one =
     let us = end_bytes ∷ [] in
     last (
       unit_bits us,
@@ -91,39 +91,45 @@ end_stands s open_one parts whole_one =
         (
           (false, ending),
           [],
-          inr (refl, inl (refl, inr (refl, inr (refl, inr (refl, inr (refl, inl (refl, (ending, [], (tt, [], (whole_one, refl), (refl, refl)), (refl, refl))))))))),
+          inr (refl, inl (refl, inr (refl, inr (refl, inr (refl, inr (refl, inl (refl, (ending, [], (tt, [], (whole_one, refl), (tt, [], (refl, refl), (refl, refl))), (refl, refl))))))))),
           (refl, refl),
         ),
       ),
     )
 
-abbrev tree_of : FlatSettings → Option Open → List (List ℕ) → Sofar
-tree_of s open_one frames = record { state = after (state_with s open_one) ending; parts = stream_parts s frames }
+abbrev tree_of : FlatSettings → ℕ → Option Open → List (List ℕ) → Sofar
+tree_of s anchors open_one frames = record { state = after (state_with s anchors open_one) ending; parts = stream_parts s frames }
 
-parts_chain : (s : FlatSettings) (frames : List (List ℕ)) (open_one : Option Open) → IsFlat s → Chain (state_with s None) (pictures_parts s 0 frames) (pictures_bytes s 0 frames) (state_with s open_one)
-    → Chain at_first (sequence (sequence_of s) ∷ pictures_parts s 0 frames) (sequence_bytes s ∷ extension_bytes ∷ pictures_bytes s 0 frames) (state_with s open_one)
-parts_chain s frames open_one h c =
-    link (sequence_reads s h) (subst (λ (st : State). Chain st (pictures_parts s 0 frames) (pictures_bytes s 0 frames) (state_with s open_one)) (sym (first_state s)) c)
+-- behind the end no second field is due
+none_due : (s : FlatSettings) (anchors : ℕ) (open_one : Option Open) → none_waits (after (state_with s anchors open_one) ending).waiting ≡ true
+unfolding after
+none_due s anchors open_one = refl
 
-stream_stands : (s : FlatSettings) (frames : List (List ℕ)) (open_one : Option Open) → IsFlat s → IsWhole s open_one → Chain (state_with s None) (pictures_parts s 0 frames) (pictures_bytes s 0 frames) (state_with s open_one)
-    → stream_at.Stands (tree_of s open_one frames) (stream_bytes s frames) []
-unfolding stream_at repeated
-stream_stands s frames open_one h whole_one c =
-    rounds_of (parts_chain s frames open_one h c) [] (end_bytes ∷ []) [] (tree_of s open_one frames)
-    (end_stands s open_one (sequence (sequence_of s) ∷ pictures_parts s 0 frames) whole_one)
+parts_chain : (s : FlatSettings) (frames : List (List ℕ)) (anchors : ℕ) (open_one : Option Open) → IsFlat s → Chain (state_with s 0 None) (pictures_parts s 0 frames) (pictures_bytes s 0 frames) (state_with s anchors open_one)
+    → Chain at_first (sequence (sequence_of s) ∷ pictures_parts s 0 frames) (sequence_bytes s ∷ extension_bytes ∷ pictures_bytes s 0 frames) (state_with s anchors open_one)
+parts_chain s frames anchors open_one h c =
+    link (sequence_reads s h) (subst (λ (st : State). Chain st (pictures_parts s 0 frames) (pictures_bytes s 0 frames) (state_with s anchors open_one)) (sym (first_state s)) c)
+
+stream_stands : (s : FlatSettings) (frames : List (List ℕ)) (anchors : ℕ) (open_one : Option Open) → IsFlat s → IsWhole s open_one → Chain (state_with s 0 None) (pictures_parts s 0 frames) (pictures_bytes s 0 frames) (state_with s anchors open_one)
+    → stream_at.Stands (tree_of s anchors open_one frames) (stream_bytes s frames) []
+stream_stands s frames anchors open_one h whole_one c =
+    stream_of (stream_bytes s frames) [] (tree_of s anchors open_one frames)
+    (rounds_of (parts_chain s frames anchors open_one h c) [] (end_bytes ∷ []) [] (tree_of s anchors open_one frames)
+    (end_stands s anchors open_one (sequence (sequence_of s) ∷ pictures_parts s 0 frames) whole_one))
+    (none_due s anchors open_one)
 
 decodes_some : (s : FlatSettings) (raw : List ℕ) (frames : List (List ℕ)) → IsFlat s → Decodes (Flat s (raw ∷ frames)) (FlatRecon s (raw ∷ frames))
 unfolding after
 decodes_some s raw frames h =
-    let ends = pictures_chain s (raw ∷ frames) 0 None h refl in
+    let ends = pictures_chain s (raw ∷ frames) 0 0 None h refl in
     record {
-      tree = tree_of s ends.end (raw ∷ frames);
+      tree = tree_of s ends.counted ends.end (raw ∷ frames);
       stream = record {
         front = [];
         units = stream_bytes s (raw ∷ frames);
         rest = [];
         cuts = cuts_of (flat_text s (raw ∷ frames)) (stream_bytes s (raw ∷ frames)) (stream_packs s raw frames h);
-        stands = stream_stands s (raw ∷ frames) ends.end h ends.whole ends.chain;
+        stands = stream_stands s (raw ∷ frames) ends.counted ends.end h ends.whole ends.chain;
       };
       shown = parts_show s (raw ∷ frames) false h;
     }

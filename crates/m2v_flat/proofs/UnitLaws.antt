@@ -1,7 +1,7 @@
 -- How long the units of the flat profile are.
-use Rattle.std.proofs.Common.{◌≡◌, ℕ, ◌+◌, ◌≤◌, Bool, false, List, ◌++◌, length, replicate, refl, ◌∙◌, arith}
-use Rattle.std.proofs.lemmas.List.{length-append, length-replicate}
-use Rattle.m2v_bits.specs.Bits.{bits_of, start_code, to_edge, unit}
+use Rattle.std.proofs.Common.{◌≡◌, ℕ, ◌+◌, ◌≤◌, ◌++◌, length, refl, arith}
+use Rattle.std.proofs.lemmas.List.{length-append}
+use Rattle.m2v_bits.specs.Bits.{bits_of, unit}
 use Rattle.m2v_bits.proofs.Units.{start_length, unit_length}
 use Rattle.m2v_head.specs.Texts.{sequence_text, sequence_extension_text, rates_text, picture_text, picture_extension_text, directions_text, flags_text, composite_text, slice_text, intra_slice_text, loaded_text}
 use Rattle.m2v_plane.specs.Samples.{Samples}

@@ -1,5 +1,5 @@
 -- What stands in the stream of the flat profile: the macroblocks of its slices, its headers, and the states between them.
-use Rattle.std.specs.Prelude.{ℕ, zero, suc, ◌+◌, ◌*◌, true, false, List, [], ◌∷◌, ◌++◌, map, Some, ℤ, pos}
+use Rattle.std.specs.Prelude.{ℕ, zero, suc, ◌+◌, ◌*◌, Bool, true, false, List, [], ◌∷◌, ◌++◌, map, length, Option, Some, ℤ, pos}
 use Rattle.std.specs.List.{range_with_len}
 use Rattle.m2v_quant.specs.Matrices.{default_matrix}
 use Rattle.m2v_vlc.specs.Values.{kind}
@@ -9,16 +9,19 @@ use Rattle.m2v_macro.specs.declared.values.SliceState.{SliceState}
 use Rattle.m2v_macro.specs.declared.values.PictureContext.{PictureContext}
 use Rattle.m2v_macro.specs.Macros.{macro_of, no_vectors}
 use Rattle.m2v_macro.specs.States.{at_start}
+use Rattle.m2v_macroblock.specs.Macroblocks.{Macroblock}
+use Rattle.m2v_plane.specs.declared.dims.Dims.{Dims}
 use Rattle.m2v_plane.specs.Samples.{Samples}
 use Rattle.m2v_plane.specs.Raw.{pad}
 use Rattle.m2v_flat.specs.declared.settings.FlatSettings.{FlatSettings}
-use Rattle.m2v_flat.specs.Flat.{flat_sequence, flat_sequence_extension, flat_picture, flat_picture_extension, flat_slice, predictors}
+use Rattle.m2v_flat.specs.Flat.{flat_sequence, flat_sequence_extension, flat_picture, flat_picture_extension, flat_slice, predictors, macroblock_text}
 use Rattle.m2v_flat.specs.Recon.{flat_levels}
 use Rattle.m2v_model.specs.declared.state.Sequence.{Sequence}
 use Rattle.m2v_model.specs.declared.state.Open.{Open}
 use Rattle.m2v_model.specs.declared.state.State.{State}
+use Rattle.m2v_model.specs.declared.setup.SliceSetup.{SliceSetup}
 use Rattle.m2v_model.specs.States.{at_first, after_sequence}
-use Rattle.m2v_model.specs.Slices.{Macroblock, Slice}
+use Rattle.m2v_model.specs.Slices.{Slice}
 use Rattle.m2v_model.specs.Streams.{Part, sequence, picture, slice, ending}
 
 -- ---- macroblocks
@@ -33,6 +36,10 @@ flat_context columns = record {
   intra = default_matrix true;
   non_intra = default_matrix false;
 }
+
+-- and what its slices are read by: an I picture has no references
+abbrev pub flat_setup : ℕ → Dims → SliceSetup
+flat_setup columns d = record { context = flat_context columns; dims = d; references = false ∷ false ∷ false ∷ false ∷ [] }
 
 -- an intra macroblock right behind the one before it
 abbrev pub flat_macro : MacroSyntax
@@ -87,11 +94,16 @@ state_before quantiser columns frame row (suc column) = record {
 abbrev pub flat_macroblocks : Samples → ℕ → ℕ → ℕ → List Macroblock
 flat_macroblocks frame row from n = map (flat_macroblock frame row) (range_with_len from n)
 
+-- how many bits each of them has
+abbrev pub flat_bits : Samples → ℕ → ℕ → ℕ → List ℕ
+flat_bits frame row from n = map (λ column. length (macroblock_text frame row column)) (range_with_len from n)
+
 -- the slice of a row of so many columns
 unfoldable pub flat_row : ℕ → ℕ → Samples → ℕ → Slice
 flat_row quantiser columns frame row = record {
   info = flat_slice quantiser;
   macroblocks = flat_macroblocks frame row 0 columns;
+  bits = flat_bits frame row 0 columns;
   covered = row * columns + columns;
 }
 
@@ -104,19 +116,39 @@ flat_rows quantiser columns frame from n = map (λ row. slice row (flat_row quan
 abbrev pub sequence_of : FlatSettings → Sequence
 sequence_of s = record { info = flat_sequence s; extension = flat_sequence_extension }
 
+-- the picture number n: whether a slice of it came, the row of the last one, and the address behind it; no macroblock is
+-- large
+abbrev pub flat_open : ℕ → Bool → ℕ → ℕ → Open
+flat_open number has_slice row covered = record {
+  info = flat_picture number;
+  extension = flat_picture_extension;
+  second_field = false;
+  dropped = false;
+  slices_unread = false;
+  references = false ∷ false ∷ false ∷ false ∷ [];
+  has_slice = has_slice;
+  row = row;
+  covered = covered;
+  large_macroblocks = 0;
+  crowded_row = 0;
+}
+
 -- the picture number n, of which so many rows were read
 unfoldable pub open_picture : ℕ → ℕ → ℕ → Open
-open_picture columns number zero = record { info = flat_picture number; extension = flat_picture_extension; begun = false; row = 0; covered = 0 }
-open_picture columns number (suc row) =
-    record { info = flat_picture number; extension = flat_picture_extension; begun = true; row = row; covered = row * columns + columns }
+open_picture columns number zero = flat_open number false 0 0
+open_picture columns number (suc row) = flat_open number true row (row * columns + columns)
 
 -- the state behind the headers of the sequence
 abbrev pub state_first : FlatSettings → State
 state_first s = after_sequence at_first (sequence_of s)
 
+-- a state in which they are in force: so many anchors were counted, and no field waits
+abbrev pub state_with : FlatSettings → ℕ → Option Open → State
+state_with s anchors open_one = record (state_first s) { anchors = anchors; picture = open_one }
+
 -- the state inside a picture
-abbrev pub state_in : FlatSettings → ℕ → ℕ → State
-state_in s number row = record (state_first s) { picture = Some (open_picture s.dims.mb_width number row) }
+abbrev pub state_in : FlatSettings → ℕ → ℕ → ℕ → State
+state_in s anchors number row = state_with s anchors (Some (open_picture s.dims.mb_width number row))
 
 -- a picture: its headers, and its slices
 abbrev pub picture_parts : FlatSettings → ℕ → Samples → List Part

@@ -1,15 +1,14 @@
--- A stream from a state on, unit by unit, and the pictures that are seen on the way.
-use Rattle.std.proofs.Common.{◌≡◌, ℕ, zero, suc, ◌<◌, Bool, true, false, cond, List, [], ◌∷◌, ◌++◌, length, Option, Result, Ok, Err, refl, sym, ap, subst, ◌∙◌, append_assoc}
+-- A stream from a state on, unit by unit, and what is told on the way.
+use Rattle.std.proofs.Common.{◌≡◌, ℕ, zero, suc, ◌<◌, Bool, true, false, cond, List, [], ◌∷◌, ◌++◌, length, Result, Ok, Err, refl, sym, ap, subst, ◌∙◌, append_assoc}
 use Rattle.m2v_bits.specs.Syntax.{bind, seq, here, done, rounds, repeated}
-use Rattle.m2v_bits.proofs.SyntaxLaws.{Lawful, good, bad, repeated_lawful, unrolled, round_err, round_more, round_last}
-use Rattle.m2v_plane.specs.Samples.{Samples}
+use Rattle.m2v_bits.proofs.SyntaxLaws.{good, bad, unrolled, round_err, round_more, round_last}
 use Rattle.m2v_model.specs.declared.fault.FaultKind.{FaultKind}
 use Rattle.m2v_model.specs.declared.fault.FaultKind.TheVariants.{Truncated}
 use Rattle.m2v_model.specs.declared.state.State.{State}
 use Rattle.m2v_model.specs.Units.{Units, unit_at}
-use Rattle.m2v_model.specs.Streams.{Part, Sofar, Among, after, next_unit, unit_round}
-use Rattle.m2v_model.specs.Pictures.{closed, closed_by, frame_after, pictures_from}
-use Rattle.m2v_model.specs.ByPieces.{Course, behind, stream_from, unit_of, viewed, seen}
+use Rattle.m2v_model.specs.Streams.{Part, Sofar, Among, after, next_unit, unit_round, units_from}
+use Rattle.m2v_model.specs.Pictures.{told_by, events_from, store_from}
+use Rattle.m2v_model.specs.ByPieces.{Between, Course, behind, unit_read, after_part, course_of, units_read}
 use Rattle.m2v_model.proofs.StreamLaws.{round_lawful, round_onward}
 
 -- ---- what a loop over units goes by
@@ -33,18 +32,14 @@ units_last s m t mid b e off = round_last length Truncated unit_round round_lawf
 pub units_less : (s m : Sofar) (t mid : Units) (b : Bool) → (unit_round s).read t ≡ good ((b, m), mid) → b ≡ true → length mid < length t
 units_less s m t mid b e on = round_onward s m t mid ((round_lawful s).found (true, m) t mid (subst (λ (x : Bool). (unit_round s).read t ≡ good ((x, m), mid)) on e))
 
-pub stream_from_lawful : (st : State) → Lawful length (stream_from st)
-unfolding stream_from
-stream_from_lawful st = repeated_lawful length Truncated unit_round round_lawful round_onward _
-
 -- ---- one unit
 
 abbrev pub joining : Sofar → Bool × Part → Units → Result ((Bool × Sofar) × Units) (FaultKind × ℕ)
 joining s x mid = good ((x.0, record { state = after s.state x.1; parts = s.parts ++ x.1 ∷ [] }), mid)
 
 -- a round reads one unit, and puts its part behind the others
-pub round_is : (s : Sofar) (t : Units) → (unit_round s).read t ≡ bind (unit_of s.state t) (joining s)
-unfolding unit_round unit_of seq here unit_at done next_unit bind
+pub round_is : (s : Sofar) (t : Units) → (unit_round s).read t ≡ bind (unit_read s.state t) (joining s)
+unfolding unit_round unit_read seq here unit_at done next_unit bind
 round_is s [] = refl
 round_is s (u ∷ us) = refl
 
@@ -76,54 +71,53 @@ unfolding rounds
 parts_n zero st ps t = refl
 parts_n (suc n) st ps t =
     ap (λ r. bind r (going n)) (round_is (record { state = st; parts = ps }) t)
-    ∙ parts_next n st ps (parts_n n) (unit_of st t)
+    ∙ parts_next n st ps (parts_n n) (unit_read st t)
     ∙ ap (λ r. fronted ps (bind r (going n))) (sym (round_is (record { state = st; parts = [] }) t))
 
-units_parts : (st : State) (ps : List Part) (t : Units) → (units_at (record { state = st; parts = ps })).read t ≡ fronted ps ((stream_from st).read t)
-unfolding repeated stream_from
+units_parts : (st : State) (ps : List Part) (t : Units) → (units_at (record { state = st; parts = ps })).read t ≡ fronted ps ((units_from st).read t)
+unfolding repeated units_from
 units_parts st ps t = parts_n (suc (length t)) st ps t
 
--- ---- pictures
+-- ---- what is told
 
--- a part, and what is seen behind it
-abbrev pub part_seen : State → Option Samples → Bool × Part → Units → Course
-part_seen st now x mid = behind (closed_by st now x.1) (cond x.0 (seen (after st x.1) (frame_after st now x.1) mid) (Ok (closed (after st x.1) (frame_after st now x.1), after st x.1)))
+-- a part, and what is read behind it
+abbrev pub part_read : Between → Bool × Part → Units → Course
+part_read b x mid = behind (told_by b.state b.store x.1) (cond x.0 (units_read (after_part b x.1) mid) (Ok ([], after_part b x.1)))
 
-viewed_part : (st : State) (now : Option Samples) (p : Part) (r : Result (Sofar × Units) (FaultKind × ℕ))
-    → viewed st now (fronted (p ∷ []) r) ≡ behind (closed_by st now p) (viewed (after st p) (frame_after st now p) r)
-unfolding pictures_from
-viewed_part st now p (Ok x) = refl
-viewed_part st now p (Err f) = refl
+course_part : (b : Between) (p : Part) (r : Result (Sofar × Units) (FaultKind × ℕ)) → course_of b (fronted (p ∷ []) r) ≡ behind (told_by b.state b.store p) (course_of (after_part b p) r)
+unfolding events_from store_from
+course_part b p (Ok x) = refl
+course_part b p (Err f) = refl
 
-viewed_next : (st : State) (now : Option Samples) (r : Result ((Bool × Part) × Units) (FaultKind × ℕ))
-    → viewed st now (bind (bind r (joining (record { state = st; parts = [] }))) (λ x mid. cond x.0 ((units_at x.1).read mid) (good (x.1, mid)))) ≡ bind r (part_seen st now)
-unfolding bind seen pictures_from
-viewed_next st now (Ok ((true, p), mid)) = ap (viewed st now) (units_parts (after st p) (p ∷ []) mid) ∙ viewed_part st now p ((stream_from (after st p)).read mid)
-viewed_next st now (Ok ((false, p), mid)) = refl
-viewed_next st now (Err f) = refl
+course_next : (b : Between) (r : Result ((Bool × Part) × Units) (FaultKind × ℕ))
+    → course_of b (bind (bind r (joining (record { state = b.state; parts = [] }))) (λ x mid. cond x.0 ((units_at x.1).read mid) (good (x.1, mid)))) ≡ bind r (part_read b)
+unfolding bind units_read events_from store_from
+course_next b (Ok ((true, p), mid)) = ap (course_of b) (units_parts (after b.state p) (p ∷ []) mid) ∙ course_part b p ((units_from (after b.state p)).read mid)
+course_next b (Ok ((false, p), mid)) = refl
+course_next b (Err f) = refl
 
 -- the first unit, and then the others
-pub seen_once : (st : State) (now : Option Samples) (us : Units) → seen st now us ≡ bind (unit_of st us) (part_seen st now)
-unfolding seen stream_from
-seen_once st now us =
-    ap (viewed st now) (units_once (record { state = st; parts = [] }) us ∙ ap (λ r. bind r (λ x mid. cond x.0 ((units_at x.1).read mid) (good (x.1, mid)))) (round_is (record { state = st; parts = [] }) us))
-    ∙ viewed_next st now (unit_of st us)
+pub read_once : (b : Between) (us : Units) → units_read b us ≡ bind (unit_read b.state us) (part_read b)
+unfolding units_read units_from
+read_once b us =
+    ap (course_of b) (units_once (record { state = b.state; parts = [] }) us ∙ ap (λ r. bind r (λ x mid. cond x.0 ((units_at x.1).read mid) (good (x.1, mid)))) (round_is (record { state = b.state; parts = [] }) us))
+    ∙ course_next b (unit_read b.state us)
 
 -- ---- what a loop goes by that decodes a unit a round
 
-pub seen_err : (st : State) (now : Option Samples) (us : Units) (f : FaultKind × ℕ) → unit_of st us ≡ bad f → seen st now us ≡ Err f
+pub read_err : (b : Between) (us : Units) (f : FaultKind × ℕ) → unit_read b.state us ≡ bad f → units_read b us ≡ Err f
 unfolding bind
-seen_err st now us f e = seen_once st now us ∙ rw e refl
+read_err b us f e = read_once b us ∙ rw e refl
 
-pub seen_more : (st : State) (now : Option Samples) (us mid : Units) (b : Bool) (p : Part) → unit_of st us ≡ good ((b, p), mid) → b ≡ true → seen st now us ≡ behind (closed_by st now p) (seen (after st p) (frame_after st now p) mid)
+pub read_more : (b : Between) (us mid : Units) (m : Bool) (p : Part) → unit_read b.state us ≡ good ((m, p), mid) → m ≡ true → units_read b us ≡ behind (told_by b.state b.store p) (units_read (after_part b p) mid)
 unfolding bind
-seen_more st now us mid b p e on = seen_once st now us ∙ rw (e, on) refl
+read_more b us mid m p e on = read_once b us ∙ rw (e, on) refl
 
-pub seen_last : (st : State) (now : Option Samples) (us mid : Units) (b : Bool) (p : Part) → unit_of st us ≡ good ((b, p), mid) → b ≡ false → seen st now us ≡ behind (closed_by st now p) (Ok (closed (after st p) (frame_after st now p), after st p))
+pub read_last : (b : Between) (us mid : Units) (m : Bool) (p : Part) → unit_read b.state us ≡ good ((m, p), mid) → m ≡ false → units_read b us ≡ behind (told_by b.state b.store p) (Ok ([], after_part b p))
 unfolding bind
-seen_last st now us mid b p e off = seen_once st now us ∙ rw (e, off) refl
+read_last b us mid m p e off = read_once b us ∙ rw (e, off) refl
 
-pub unit_less : (st : State) (us mid : Units) (b : Bool) (p : Part) → unit_of st us ≡ good ((b, p), mid) → b ≡ true → length mid < length us
+pub unit_less : (st : State) (us mid : Units) (b : Bool) (p : Part) → unit_read st us ≡ good ((b, p), mid) → b ≡ true → length mid < length us
 unfolding bind
 unit_less st us mid b p e on =
     let s : Sofar = record { state = st; parts = [] } in

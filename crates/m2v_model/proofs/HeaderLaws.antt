@@ -6,13 +6,13 @@ use Rattle.m2v_head.specs.declared.sequence.SequenceInfo.{SequenceInfo}
 use Rattle.m2v_head.specs.declared.picture.PictureInfo.{PictureInfo}
 use Rattle.m2v_head.proofs.HeaderLaws.{sequence_strict, sequence_extension_strict, group_strict, picture_strict, picture_extension_strict, matrices_strict}
 use Rattle.m2v_model.specs.declared.fault.FaultKind.TheVariants.{Unsupported, Forbidden}
-use Rattle.m2v_model.specs.Faults.{Of, of_head}
-use Rattle.m2v_model.specs.Headers.{whole, size_at, sequence_extension_in, picture_in, f_code_at, f_codes_at, picture_extension_in, sequence_in, group_in, matrices_in}
+use Rattle.m2v_model.specs.Faults.{InUnit, of_head}
+use Rattle.m2v_model.specs.Headers.{whole_header, size_at, sequence_extension_in, picture_in, f_code_at, f_codes_at, picture_extension_in, sequence_in, group_in, matrices_in}
 use Rattle.m2v_model.proofs.LookLaws.{look_lawful}
 
-pub whole_lawful : {V : Type 0} {s : Of V} → Lawful length s → Lawful length (whole s)
-unfolding whole
-whole_lawful ls = seq_lawful ls (λ header. seq_lawful (end_lawful Forbidden) (λ end. done_lawful length header))
+pub whole_header_lawful : {V : Type 0} {s : InUnit V} → Lawful length s → Lawful length (whole_header s)
+unfolding whole_header
+whole_header_lawful ls = seq_lawful ls (λ header. seq_lawful (end_lawful Forbidden) (λ end. done_lawful length header))
 
 size_lawful : (low most : ℕ) (format ext : Option ℕ) (at : ℕ) → Lawful length (size_at low most format ext at)
 unfolding size_at
@@ -22,22 +22,16 @@ pub sequence_extension_lawful : (info : SequenceInfo) → Lawful length (sequenc
 unfolding sequence_extension_in
 sequence_extension_lawful info =
     seq_lawful (here_lawful length length) (λ at.
-    seq_lawful (look_lawful 12 1) (λ progressive.
-    seq_lawful (rule_lawful length _ Unsupported _) (λ read.
     seq_lawful (look_lawful 13 2) (λ format.
     seq_lawful (look_lawful 15 2) (λ horizontal.
     seq_lawful (size_lawful _ 1920 format horizontal _) (λ width.
     seq_lawful (look_lawful 17 2) (λ vertical.
     seq_lawful (size_lawful _ 1152 format vertical _) (λ height.
-    renamed_lawful of_head sequence_extension_strict.lawful))))))))
+    renamed_lawful of_head sequence_extension_strict.lawful))))))
 
 pub picture_lawful : Lawful length picture_in
 unfolding picture_in
-picture_lawful =
-    seq_lawful (here_lawful length length) (λ at.
-    seq_lawful (look_lawful 10 3) (λ kind.
-    seq_lawful (rule_lawful length _ Unsupported _) (λ read.
-    renamed_lawful of_head picture_strict.lawful)))
+picture_lawful = renamed_lawful of_head picture_strict.lawful
 
 f_code_lawful : (used : Bool) (at from : ℕ) → Lawful length (f_code_at used at from)
 unfolding f_code_at
@@ -52,19 +46,14 @@ f_codes_lawful kind at =
     seq_lawful (f_code_lawful _ at 12) (λ backward_horizontal.
     f_code_lawful _ at 16))))
 
-pub picture_extension_lawful : (info : PictureInfo) → Lawful length (picture_extension_in info)
+pub picture_extension_lawful : (progressive : Bool) (info : PictureInfo) → Lawful length (picture_extension_in progressive info)
 unfolding picture_extension_in
-picture_extension_lawful info =
+picture_extension_lawful progressive info =
     seq_lawful (here_lawful length length) (λ at.
     seq_lawful (f_codes_lawful _ at) (λ codes.
     seq_lawful (look_lawful 22 2) (λ structure.
-    seq_lawful (rule_lawful length _ Forbidden _) (λ some.
-    seq_lawful (rule_lawful length _ Unsupported _) (λ frame.
-    seq_lawful (look_lawful 25 1) (λ prediction.
-    seq_lawful (rule_lawful length _ Unsupported _) (λ frames.
-    seq_lawful (look_lawful 26 1) (λ concealment.
-    seq_lawful (rule_lawful length _ Unsupported _) (λ unconcealed.
-    renamed_lawful of_head picture_extension_strict.lawful)))))))))
+    seq_lawful (rule_lawful length _ Forbidden _) (λ allowed.
+    renamed_lawful of_head picture_extension_strict.lawful))))
 
 pub sequence_lawful : Lawful length sequence_in
 unfolding sequence_in

@@ -8,7 +8,12 @@ pub mod StreamLaws
 pub mod FlowLaws
 pub mod ShiftLaws
 pub mod SplitLaws
+pub mod EventLaws
+pub mod CountLaws
 pub mod PieceLaws
+pub mod TurnLaws
 pub mod Unique
+pub mod VerdictLaws
 pub mod Fronts
 pub mod Worked
+pub mod Verdicts

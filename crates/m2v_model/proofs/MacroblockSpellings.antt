@@ -2,7 +2,7 @@
 use Rattle.std.proofs.Common.{◌≡◌, ℕ, ◌<◌, List, [], ◌∷◌, ℤ, pos, replicate, refl, sym, subst, arith}
 use Rattle.std.specs.Prelude.{nat_lt}
 use Rattle.m2v_bits.specs.Syntax.{Spells}
-use Rattle.m2v_bits.proofs.LeafLaws.{done_spells, renamed_spells}
+use Rattle.m2v_bits.proofs.LeafLaws.{done_spells, here_spells, renamed_spells, rule_spells}
 use Rattle.m2v_head.proofs.ElementLaws.{last_spells}
 use Rattle.m2v_block.proofs.Spellings.{block_spells}
 use Rattle.m2v_macro.specs.declared.values.SliceState.{SliceState}
@@ -17,6 +17,8 @@ use Rattle.m2v_macroblock.specs.Texts.{block_in_text, blocks_text, macroblock_te
 use Rattle.m2v_macroblock.specs.Conditions.{IsPicture, AreWritable, AreLevels}
 use Rattle.m2v_macroblock.proofs.KindLaws.{kind_is}
 use Rattle.m2v_macroblock.proofs.DcLaws.{writable}
+use Rattle.m2v_model.specs.declared.fault.FaultKind.TheVariants.{VectorOutside, MissingReference}
+use Rattle.m2v_model.specs.declared.setup.SliceSetup.{SliceSetup}
 use Rattle.m2v_model.specs.Faults.{of_block, of_macro}
 use Rattle.m2v_model.specs.Slices.{block_in, blocks_from, macroblock_at}
 use Rattle.m2v_model.specs.Written.{CanBeWritten}
@@ -44,14 +46,17 @@ blocks_spell c st x h w l =
     then_spells _ (block_in_spells c st x 5 _ h w l (omega arith) refl) (
     done_spells _))))))
 
-pub macroblock_spells : (c : PictureContext) (st : SliceState) (x : Macroblock) → CanBeWritten c st x → Spells (macroblock_at c st) x (macroblock_text c st x)
+pub macroblock_spells : (s : SliceSetup) (st : SliceState) (x : Macroblock) → CanBeWritten s st x → Spells (macroblock_at s st) x (macroblock_text s.context st x)
 unfolding macroblock_at macroblock_text
-macroblock_spells c st x h =
-    let w = writable c st x (ready_after c st x.syntax h.ready h.fits) h.dc h.fits h.blocks in
-    then_spells _ (renamed_spells of_macro _ _ _ (macro_spells c st x.syntax h.picture.context h.ready h.fits))
-    (last_spells x.levels (λ levels. made levels) (blocks_text c (after c st x.syntax) x 0 6)
-    (subst (λ (levels : List (List ℤ)). Spells (blocks_from c x.syntax (after c st x.syntax) 0 6 []) levels (blocks_text c (after c st x.syntax) x 0 6)) (sym h.levels.six)
-    (blocks_spell c (after c st x.syntax) x h.picture w h.levels)))
+macroblock_spells s st x h =
+    let w = writable s.context st x (ready_after s.context st x.syntax h.ready h.fits) h.dc h.fits h.blocks in
+    here_spells _ _ x _ (λ start.
+    then_spells _ (renamed_spells of_macro _ _ _ (macro_spells s.context st x.syntax h.picture.context h.ready h.fits))
+    (rule_spells _ VectorOutside start _ x _ h.inside
+    (rule_spells _ MissingReference start _ x _ h.decoded
+    (last_spells x.levels (λ levels. made levels) (blocks_text s.context (after s.context st x.syntax) x 0 6)
+    (subst (λ (levels : List (List ℤ)). Spells (blocks_from s.context x.syntax (after s.context st x.syntax) 0 6 []) levels (blocks_text s.context (after s.context st x.syntax) x 0 6)) (sym h.levels.six)
+    (blocks_spell s.context (after s.context st x.syntax) x h.picture w h.levels))))))
   where
     made : List (List ℤ) → Macroblock
     made levels = record { syntax = x.syntax; levels = levels }

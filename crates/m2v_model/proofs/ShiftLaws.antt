@@ -5,16 +5,16 @@ use Rattle.std.proofs.lemmas.Bool.{cases_Bool, eqb-true}
 use Rattle.m2v_bits.specs.Syntax.{bind, done, seq, here, rule, choose}
 use Rattle.m2v_bits.proofs.SyntaxLaws.{bad}
 use Rattle.m2v_model.specs.declared.fault.FaultKind.{FaultKind}
-use Rattle.m2v_model.specs.declared.fault.FaultKind.TheVariants.{NotMpeg2, Unsupported, Forbidden, SequenceChanged, SliceOrder, MissingMacroblocks}
+use Rattle.m2v_model.specs.declared.fault.FaultKind.TheVariants.{NotMpeg2, Unsupported, Forbidden, SequenceChanged, SliceOrder, MissingMacroblocks, MissingReference, FieldPair}
 use Rattle.m2v_model.specs.declared.state.Sequence.{Sequence}
 use Rattle.m2v_model.specs.declared.state.Open.{Open}
 use Rattle.m2v_model.specs.declared.state.State.{State}
 use Rattle.m2v_model.specs.Units.{Units, unit_bits, unit_at, of_body, inside}
 use Rattle.m2v_model.specs.Looking.{refuse}
-use Rattle.m2v_model.specs.Faults.{Of}
-use Rattle.m2v_model.specs.Streams.{Part, Among, value_of, close, id_at, extension_in, extension_behind, sequence_unit, group_unit, picture_unit, matrix_unit, extension_unit, slice_in, slice_unit, end_unit, onward, final, later_unit, known_unit}
+use Rattle.m2v_model.specs.Faults.{InUnit}
+use Rattle.m2v_model.specs.Streams.{Part, Among, value_of, close, no_second_field_due, id_at, extension_in, extension_behind, sequence_unit, group_unit, picture_unit, matrix_unit, extension_unit, read_slice, slice_in, slice_unit, end_unit, onward, final, later_unit, known_unit}
 use Rattle.m2v_model.specs.Pieces.{begins_piece, is_end}
-use Rattle.m2v_model.specs.ByPieces.{unit_of}
+use Rattle.m2v_model.specs.ByPieces.{unit_read}
 
 -- nothing, or units of which the first begins a piece
 abbrev pub BeginsPiece : Units → Type 0
@@ -93,7 +93,7 @@ body_kept : {V : Type 0} (t : Units) (r : Result (V × List Bool) (FaultKind × 
 body_kept t (Ok x) n = n
 body_kept t (Err f) n = tt
 
-inside_shifts : {V : Type 0} (vs : Units) (u : List ℕ) (s : Of V) → Shifts vs (inside u s) (inside u s)
+inside_shifts : {V : Type 0} (vs : Units) (u : List ℕ) (s : InUnit V) → Shifts vs (inside u s) (inside u s)
 unfolding inside
 inside_shifts vs u s = record { is = λ t. body_is t vs _; kept = λ t n. body_kept t _ n }
 
@@ -103,18 +103,22 @@ close_shifts : (vs : Units) (st : State) (start : ℕ) → Shifts vs (close st s
 unfolding close
 close_shifts vs st start = rule_shifts vs _ MissingMacroblocks start
 
+settled_shifts : (vs : Units) (st : State) (start : ℕ) → Shifts vs (no_second_field_due st start) (no_second_field_due st (start + unit_bits vs))
+unfolding no_second_field_due
+settled_shifts vs st start = rule_shifts vs _ FieldPair start
+
 id_shifts : (vs : Units) (u : List ℕ) → Shifts vs (id_at u) (id_at u)
 unfolding id_at
 id_shifts vs u = inside_shifts vs u _
 
-extension_in_shifts : {V : Type 0} (vs : Units) (own : ℕ) (u : List ℕ) (start : ℕ) (s : Of V) → Shifts vs (extension_in own u start s) (extension_in own u (start + unit_bits vs) s)
+extension_in_shifts : {V : Type 0} (vs : Units) (own : ℕ) (u : List ℕ) (start : ℕ) (s : InUnit V) → Shifts vs (extension_in own u start s) (extension_in own u (start + unit_bits vs) s)
 unfolding extension_in
 extension_in_shifts vs own u start s =
     seq_shifts (id_shifts vs u) (λ id.
     seq_shifts (rule_shifts vs _ NotMpeg2 start) (λ own_id.
     inside_shifts vs u s))
 
-extension_shifts : {V : Type 0} (vs : Units) (own : ℕ) (u : List ℕ) (start : ℕ) (s : Of V) → Shifts vs (extension_behind own (Some u) start s) (extension_behind own (Some u) (start + unit_bits vs) s)
+extension_shifts : {V : Type 0} (vs : Units) (own : ℕ) (u : List ℕ) (start : ℕ) (s : InUnit V) → Shifts vs (extension_behind own (Some u) start s) (extension_behind own (Some u) (start + unit_bits vs) s)
 unfolding extension_behind
 extension_shifts vs own u start s = choose_shifts _ (extension_in_shifts vs own u start s) (refuse_shifts vs NotMpeg2 start)
 
@@ -128,50 +132,52 @@ no_extension value b =
     ]
 
 -- the extension behind a header, and what is read then
-abbrev extended : {V W : Type 0} → ℕ → Of V → (V → Among W) → Among W
+abbrev extended : {V W : Type 0} → ℕ → InUnit V → (V → Among W) → Among W
 extended own s k = seq (here unit_bits) (λ next. seq unit_at (λ v. seq (extension_behind own v next s) k))
 
-none_is : {V W : Type 0} (own : ℕ) (s : Of V) (l : V → Among W) (v : List ℕ) (vs : Units) → nat_eq (value_of v) 0xB5 ≡ false → (extended own s l).read (v ∷ vs) ≡ Err (NotMpeg2, 0 + unit_bits (v ∷ vs))
+none_is : {V W : Type 0} (own : ℕ) (s : InUnit V) (l : V → Among W) (v : List ℕ) (vs : Units) → nat_eq (value_of v) 0xB5 ≡ false → (extended own s l).read (v ∷ vs) ≡ Err (NotMpeg2, 0 + unit_bits (v ∷ vs))
 unfolding seq here unit_at extension_behind refuse choose bind
 none_is {W = W} own s l v vs off =
     let e : unit_bits (v ∷ vs) ≡ 0 + unit_bits (v ∷ vs) = omega arith in
     rw off (ap (λ (n : ℕ). bad {T = Units} {V = W} (NotMpeg2, n)) e)
 
-unit_is : {V W : Type 0} (own : ℕ) (s : Of V) (k l : V → Among W) (vs : Units) → ((v : V) → Shifts vs (k v) (l v)) → (u : List ℕ) (t : Units) → (extended own s l).read (u ∷ (t ++ vs)) ≡ shifted vs ((extended own s k).read (u ∷ t))
+unit_is : {V W : Type 0} (own : ℕ) (s : InUnit V) (k l : V → Among W) (vs : Units) → ((v : V) → Shifts vs (k v) (l v)) → (u : List ℕ) (t : Units) → (extended own s l).read (u ∷ (t ++ vs)) ≡ shifted vs ((extended own s k).read (u ∷ t))
 unfolding seq here unit_at bind
 unit_is own s k l vs h u t =
     let e : unit_bits (u ∷ (t ++ vs)) ≡ unit_bits (u ∷ t) + unit_bits vs = omega (arith, unit_bits-append t vs) in
     ap (λ (n : ℕ). (seq (extension_behind own (Some u) n s) l).read (t ++ vs)) e ∙ (seq_shifts {k = k} (extension_shifts vs own u (unit_bits (u ∷ t)) s) h).is t
 
-extended_is : {V W : Type 0} (own : ℕ) (s : Of V) (k l : V → Among W) (vs : Units) → BeginsPiece vs → ((v : V) → Shifts vs (k v) (l v)) → (t : Units) → (extended own s l).read (t ++ vs) ≡ shifted vs ((extended own s k).read t)
+extended_is : {V W : Type 0} (own : ℕ) (s : InUnit V) (k l : V → Among W) (vs : Units) → BeginsPiece vs → ((v : V) → Shifts vs (k v) (l v)) → (t : Units) → (extended own s l).read (t ++ vs) ≡ shifted vs ((extended own s k).read t)
 unfolding seq here unit_at extension_behind refuse bind
 extended_is own s k l [] b h [] = refl
 extended_is own s k l (v ∷ vs) b h [] = none_is own s l v vs (no_extension (value_of v) b)
 extended_is own s k l vs b h (u ∷ t) = unit_is own s k l vs h u t
 
-extended_kept : {V W : Type 0} (own : ℕ) (s : Of V) (k l : V → Among W) (vs : Units) → ((v : V) → Shifts vs (k v) (l v)) → (t : Units) → NoEnds t → Kept ((extended own s k).read t)
+extended_kept : {V W : Type 0} (own : ℕ) (s : InUnit V) (k l : V → Among W) (vs : Units) → ((v : V) → Shifts vs (k v) (l v)) → (t : Units) → NoEnds t → Kept ((extended own s k).read t)
 unfolding seq here unit_at extension_behind refuse bind
 extended_kept own s k l vs h [] n = tt
 extended_kept own s k l vs h (u ∷ t) n = (seq_shifts {k = k} (extension_shifts vs own u (unit_bits (u ∷ t)) s) h).kept t n.1
 
-extended_shifts : {V W : Type 0} {vs : Units} {k l : V → Among W} (own : ℕ) (s : Of V) → BeginsPiece vs → ((v : V) → Shifts vs (k v) (l v)) → Shifts vs (extended own s k) (extended own s l)
+extended_shifts : {V W : Type 0} {vs : Units} {k l : V → Among W} (own : ℕ) (s : InUnit V) → BeginsPiece vs → ((v : V) → Shifts vs (k v) (l v)) → Shifts vs (extended own s k) (extended own s l)
 extended_shifts {vs = vs} {k = k} {l = l} own s b h = record { is = extended_is own s k l vs b h; kept = extended_kept own s k l vs h }
 
 sequence_shifts : (vs : Units) → BeginsPiece vs → (st : State) (start : ℕ) (u : List ℕ) → Shifts vs (sequence_unit st start u) (sequence_unit st (start + unit_bits vs) u)
 unfolding sequence_unit
 sequence_shifts vs b st start u =
     seq_shifts (close_shifts vs st start) (λ closed.
+    seq_shifts (settled_shifts vs st start) (λ paired.
     seq_shifts (inside_shifts vs u _) (λ info.
     extended_shifts _ _ b (λ extension.
     seq_shifts (rule_shifts vs _ SequenceChanged start) (λ same.
-    done_shifts vs _))))
+    done_shifts vs _)))))
 
 group_shifts : (vs : Units) (st : State) (start : ℕ) (u : List ℕ) → Shifts vs (group_unit st start u) (group_unit st (start + unit_bits vs) u)
 unfolding group_unit
 group_shifts vs st start u =
     seq_shifts (close_shifts vs st start) (λ closed.
+    seq_shifts (settled_shifts vs st start) (λ paired.
     seq_shifts (inside_shifts vs u _) (λ g.
-    done_shifts vs _))
+    done_shifts vs _)))
 
 picture_shifts : (vs : Units) → BeginsPiece vs → (st : State) (start : ℕ) (u : List ℕ) → Shifts vs (picture_unit st start u) (picture_unit st (start + unit_bits vs) u)
 unfolding picture_unit
@@ -179,7 +185,9 @@ picture_shifts vs b st start u =
     seq_shifts (close_shifts vs st start) (λ closed.
     seq_shifts (inside_shifts vs u _) (λ info.
     extended_shifts _ _ b (λ extension.
-    done_shifts vs _)))
+    seq_shifts (rule_shifts vs _ FieldPair start) (λ pair.
+    seq_shifts (rule_shifts vs _ MissingReference start) (λ anchor.
+    done_shifts vs _)))))
 
 matrix_shifts : (vs : Units) (st : State) (start : ℕ) (u : List ℕ) → Shifts vs (matrix_unit st start u) (matrix_unit st (start + unit_bits vs) u)
 unfolding matrix_unit
@@ -197,18 +205,21 @@ extension_unit_shifts vs st start u =
     (choose_shifts _ (refuse_shifts vs Unsupported start)
     (done_shifts vs _))))
 
+read_slice_shifts : (vs : Units) (st : State) (s : Sequence) (p : Open) (row : ℕ) (u : List ℕ) → Shifts vs (read_slice st s p row u) (read_slice st s p row u)
+unfolding read_slice
+read_slice_shifts vs st s p row u = seq_shifts (inside_shifts vs u _) (λ x. done_shifts vs _)
+
 slice_shifts : (vs : Units) (st : State) (s : Option Sequence) (p : Option Open) (row start : ℕ) (u : List ℕ) → Shifts vs (slice_unit st s p row start u) (slice_unit st s p row (start + unit_bits vs) u)
 unfolding slice_unit slice_in
 slice_shifts vs st (Some s) (Some p) row start u =
     seq_shifts (rule_shifts vs _ SliceOrder start) (λ order.
-    seq_shifts (inside_shifts vs u _) (λ x.
-    done_shifts vs _))
+    choose_shifts _ (done_shifts vs _) (read_slice_shifts vs st s p row u))
 slice_shifts vs st (Some s) None row start u = refuse_shifts vs SliceOrder start
 slice_shifts vs st None p row start u = refuse_shifts vs SliceOrder start
 
 end_shifts : (vs : Units) (st : State) (start : ℕ) → Shifts vs (end_unit st start) (end_unit st (start + unit_bits vs))
 unfolding end_unit
-end_shifts vs st start = seq_shifts (close_shifts vs st start) (λ closed. done_shifts vs _)
+end_shifts vs st start = seq_shifts (close_shifts vs st start) (λ closed. seq_shifts (settled_shifts vs st start) (λ paired. done_shifts vs _))
 
 onward_shifts : {vs : Units} {s z : Among Part} → Shifts vs s z → Shifts vs (onward s) (onward z)
 unfolding onward
@@ -237,12 +248,12 @@ known_shifts vs b st start value u =
     (choose_shifts _ (later_shifts vs b st start value u) (done_shifts vs _))
 
 -- one unit, with others behind it
-pub unit_shifted : (vs : Units) → BeginsPiece vs → (st : State) (u : List ℕ) (us : Units) → unit_of st (u ∷ (us ++ vs)) ≡ shifted vs (unit_of st (u ∷ us))
-unfolding unit_of
+pub unit_shifted : (vs : Units) → BeginsPiece vs → (st : State) (u : List ℕ) (us : Units) → unit_read st (u ∷ (us ++ vs)) ≡ shifted vs (unit_read st (u ∷ us))
+unfolding unit_read
 unit_shifted vs b st u us =
     let e : unit_bits (u ∷ (us ++ vs)) ≡ unit_bits (u ∷ us) + unit_bits vs = omega (arith, unit_bits-append us vs) in
     ap (λ (n : ℕ). (known_unit st n (value_of u) u).read (us ++ vs)) e ∙ (known_shifts vs b st (unit_bits (u ∷ us)) (value_of u) u).is us
 
-pub unit_kept : (st : State) (u : List ℕ) (us : Units) → NoEnds us → Kept (unit_of st (u ∷ us))
-unfolding unit_of
+pub unit_kept : (st : State) (u : List ℕ) (us : Units) → NoEnds us → Kept (unit_read st (u ∷ us))
+unfolding unit_read
 unit_kept st u us n = (known_shifts [] tt st (unit_bits (u ∷ us)) (value_of u) u).kept us n

@@ -1,7 +1,7 @@
 -- Macroblocks with their blocks, and slices, are lawful.
 use Rattle.std.proofs.Common.{ℕ, zero, suc, ◌+◌, Bool, List, ◌∷◌, ◌++◌, [], length, ℤ}
 use Rattle.m2v_bits.specs.Syntax.{Syntax, renamed}
-use Rattle.m2v_bits.proofs.SyntaxLaws.{Lawful, Strict, Takes, done_lawful, here_lawful, rule_lawful, seq_lawful, seq_strict, choose_lawful, renamed_lawful, repeated_strict}
+use Rattle.m2v_bits.proofs.SyntaxLaws.{Lawful, Strict, Takes, done_lawful, here_lawful, rule_lawful, seq_lawful, seq_strict, seq_strict_later, choose_lawful, renamed_lawful, repeated_strict}
 use Rattle.m2v_bits.proofs.LeafLaws.{zero_lawful}
 use Rattle.m2v_head.proofs.HeaderLaws.{slice_strict}
 use Rattle.m2v_block.proofs.BlockLaws.{block_strict}
@@ -9,10 +9,8 @@ use Rattle.m2v_macro.specs.declared.values.MacroSyntax.{MacroSyntax}
 use Rattle.m2v_macro.specs.declared.values.SliceState.{SliceState}
 use Rattle.m2v_macro.specs.declared.values.PictureContext.{PictureContext}
 use Rattle.m2v_macro.proofs.MacroLaws.{increment_from_strict, macro_strict}
-use Rattle.m2v_model.specs.declared.fault.FaultKind.TheVariants.{Truncated, SliceOrder}
-use Rattle.m2v_model.specs.declared.state.Sequence.{Sequence}
-use Rattle.m2v_model.specs.declared.state.Open.{Open}
-use Rattle.m2v_model.specs.declared.state.State.{State}
+use Rattle.m2v_model.specs.declared.fault.FaultKind.TheVariants.{Truncated, SliceOrder, VectorOutside, MissingReference}
+use Rattle.m2v_model.specs.declared.setup.SliceSetup.{SliceSetup}
 use Rattle.m2v_model.specs.Faults.{of_head, of_block, of_macro}
 use Rattle.m2v_model.specs.Slices.{Row, block_in, blocks_from, macroblock_at, macroblock_round, macroblocks_at, unit_place, slice_at}
 use Rattle.m2v_model.proofs.LookLaws.{looking_lawful}
@@ -33,24 +31,32 @@ unfolding blocks_from
 blocks_lawful c m st block zero levels = done_lawful length levels
 blocks_lawful c m st block (suc n) levels = seq_lawful (block_lawful c m st block levels) (λ own. blocks_lawful c m st (block + 1) n (levels ++ own ∷ []))
 
-pub macroblock_strict : (c : PictureContext) (st : SliceState) → Strict length (macroblock_at c st)
+pub macroblock_strict : (s : SliceSetup) (st : SliceState) → Strict length (macroblock_at s st)
 unfolding macroblock_at
-macroblock_strict c st =
-    seq_strict (renamed_strict of_macro (macro_strict c st)) (λ m.
-    seq_lawful (blocks_lawful c m _ 0 6 []) (λ levels.
-    done_lawful length _))
+macroblock_strict s st =
+    seq_strict_later (here_lawful length length) (λ start.
+    seq_strict (renamed_strict of_macro (macro_strict s.context st)) (λ m.
+    seq_lawful (rule_lawful length _ VectorOutside start) (λ inside.
+    seq_lawful (rule_lawful length _ MissingReference start) (λ decoded.
+    seq_lawful (blocks_lawful s.context m _ 0 6 []) (λ levels.
+    done_lawful length _)))))
 
-pub round_strict : (c : PictureContext) (s : Row) → Strict length (macroblock_round c s)
+pub round_strict : (s : SliceSetup) (r : Row) → Strict length (macroblock_round s r)
 unfolding macroblock_round
-round_strict c s = seq_strict (macroblock_strict c s.state) (λ x. seq_lawful zero_lawful (λ over. done_lawful length _))
+round_strict s r =
+    seq_strict_later (here_lawful length length) (λ start.
+    seq_strict (macroblock_strict s r.state) (λ x.
+    seq_lawful (here_lawful length length) (λ end.
+    seq_lawful zero_lawful (λ over.
+    done_lawful length _))))
 
-pub macroblocks_strict : (c : PictureContext) (s : Row) → Strict length (macroblocks_at c s)
+pub macroblocks_strict : (s : SliceSetup) (r : Row) → Strict length (macroblocks_at s r)
 unfolding macroblocks_at
-macroblocks_strict c s = repeated_strict length Truncated (macroblock_round c) (round_strict c) s
+macroblocks_strict s r = repeated_strict length Truncated (macroblock_round s) (round_strict s) r
 
-pub slice_lawful : (st : State) (s : Sequence) (p : Open) (row : ℕ) → Lawful length (slice_at st s p row)
+pub slice_lawful : (s : SliceSetup) (covered row : ℕ) → Lawful length (slice_at s covered row)
 unfolding slice_at unit_place
-slice_lawful st s p row =
+slice_lawful s covered row =
     seq_lawful (here_lawful length _) (λ unit.
     seq_lawful (renamed_lawful of_head slice_strict.lawful) (λ info.
     seq_lawful (looking_lawful (renamed_lawful of_macro (increment_from_strict 0).lawful)) (λ increment.

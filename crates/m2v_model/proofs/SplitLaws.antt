@@ -5,30 +5,29 @@ use Rattle.std.proofs.lemmas.Bool.{cases_Bool, cond-true, both_ways, eqb-true}
 use Rattle.std.proofs.lemmas.List.{append-nil}
 use Rattle.m2v_bits.specs.Syntax.{bind, done, seq, rule, choose}
 use Rattle.m2v_bits.proofs.SyntaxLaws.{good, bad}
-use Rattle.m2v_plane.specs.Samples.{Samples}
 use Rattle.m2v_model.specs.declared.fault.FaultKind.{FaultKind}
-use Rattle.m2v_model.specs.declared.fault.FaultKind.TheVariants.{MissingMacroblocks}
+use Rattle.m2v_model.specs.declared.fault.FaultKind.TheVariants.{MissingMacroblocks, FieldPair}
 use Rattle.m2v_model.specs.declared.state.Sequence.{Sequence}
 use Rattle.m2v_model.specs.declared.state.State.{State}
 use Rattle.m2v_model.specs.Units.{Units, unit_bits}
-use Rattle.m2v_model.specs.States.{after_end, is_complete}
+use Rattle.m2v_model.specs.States.{after_end, is_complete, none_waits}
 use Rattle.m2v_model.specs.Looking.{refuse}
-use Rattle.m2v_model.specs.Streams.{Part, Among, sequence, group, picture, matrices, slice, skipped, ending, over, after, value_of, close, sequence_unit, group_unit, picture_unit, end_unit, onward, final, later_unit, known_unit, text_end}
-use Rattle.m2v_model.specs.Pictures.{Pictures, closed, closed_by, frame_after}
+use Rattle.m2v_model.specs.Streams.{Part, Among, sequence, group, picture, matrices, slice, unread_slice, skipped_unit, ending, over, after, value_of, close, no_second_field_due, sequence_unit, group_unit, picture_unit, end_unit, onward, final, later_unit, known_unit, text_end}
+use Rattle.m2v_model.specs.Pictures.{Events, closed, picture_ended, told_by}
 use Rattle.m2v_model.specs.Pieces.{begins_piece, is_end}
-use Rattle.m2v_model.specs.ByPieces.{Course, behind, unit_of, seen}
+use Rattle.m2v_model.specs.ByPieces.{Between, Course, behind, unit_read, after_part, units_read}
 use Rattle.m2v_model.proofs.StreamLaws.{known_lawful, text_end_lawful, sequence_unit_lawful, group_unit_lawful, picture_unit_lawful, end_unit_lawful, onward_lawful, final_lawful}
-use Rattle.m2v_model.proofs.FlowLaws.{part_seen, seen_once}
+use Rattle.m2v_model.proofs.FlowLaws.{part_read, read_once}
 use Rattle.m2v_model.proofs.ShiftLaws.{BeginsPiece, NoEnds, Kept, shifted, unit_shifted, unit_kept}
 
--- ---- pictures in front
+-- ---- events in front
 
 pub behind_none : (r : Course) → behind [] r ≡ r
 behind_none (Ok x) = refl
 behind_none (Err f) = refl
 
-pub behind_twice : (ps qs : Pictures) (r : Course) → behind (ps ++ qs) r ≡ behind ps (behind qs r)
-behind_twice ps qs (Ok x) = ap (λ (l : Pictures). Ok (l, x.1)) (append_assoc ps qs x.0)
+pub behind_twice : (ps qs : Events) (r : Course) → behind (ps ++ qs) r ≡ behind ps (behind qs r)
+behind_twice ps qs (Ok x) = ap (λ (l : Events). Ok (l, x.1)) (append_assoc ps qs x.0)
 behind_twice ps qs (Err f) = refl
 
 -- ---- states
@@ -47,25 +46,26 @@ KnownAt st (u ∷ us) = KnownBy st u
 
 -- a sequence header is in force behind what is read
 abbrev pub IsKnownBehind : Course → Type 0
-IsKnownBehind (Ok x) = IsKnown x.1
+IsKnownBehind (Ok x) = IsKnown (x.1).state
 IsKnownBehind (Err f) = Unit {0}
 
 pub known_at : (st : State) (us : Units) → IsKnown st → KnownAt st us
 known_at st [] k = k
 known_at st (u ∷ us) k = rw k refl
 
-known_after : (st : State) (p : Part) → IsKnown st → IsKnown (after st p)
+pub known_after : (st : State) (p : Part) → IsKnown st → IsKnown (after st p)
 unfolding after
 known_after st (sequence s) k = refl
 known_after st (group g) k = k
 known_after st (picture info extension) k = k
 known_after st (matrices m) k = k
 known_after st (slice row x) k = k
-known_after st (skipped u) k = k
+known_after st (unread_slice row u) k = k
+known_after st (skipped_unit u) k = k
 known_after st ending k = k
 known_after st over k = k
 
-known_behind : (ps : Pictures) (r : Course) → IsKnownBehind r → IsKnownBehind (behind ps r)
+known_behind : (ps : Events) (r : Course) → IsKnownBehind r → IsKnownBehind (behind ps r)
 known_behind ps (Ok x) k = k
 known_behind ps (Err f) k = tt
 
@@ -82,50 +82,60 @@ Renews (group g) = Unit {0}
 Renews (picture info extension) = Unit {0}
 Renews (matrices m) = ⊥
 Renews (slice row x) = ⊥
-Renews (skipped u) = ⊥
+Renews (unread_slice row u) = ⊥
+Renews (skipped_unit u) = ⊥
 Renews ending = Unit {0}
 Renews over = Unit {0}
 
-part_renewed : (st : State) (now : Option Samples) (m : Bool) (p : Part) (mid : Units) → Renews p → part_seen st now (m, p) mid ≡ behind (closed st now) (part_seen (after_end st) None (m, p) mid)
-unfolding after
-part_renewed st now m (sequence s) mid r = ap (behind (closed st now)) (sym (behind_none _))
-part_renewed st now m (group g) mid r = ap (behind (closed st now)) (sym (behind_none _))
-part_renewed st now m (picture info extension) mid r = ap (behind (closed st now)) (sym (behind_none _))
-part_renewed st now m (matrices x) mid r = absurd r
-part_renewed st now m (slice row x) mid r = absurd r
-part_renewed st now m (skipped u) mid r = absurd r
-part_renewed st now m ending mid r = ap (behind (closed st now)) (sym (behind_none _))
-part_renewed st now m over mid r = ap (behind (closed st now)) (sym (behind_none _))
+-- what stands where the picture that is open has ended
+abbrev pub rested : Between → Between
+rested b = record { state = after_end b.state; store = picture_ended b.state.picture b.store }
 
-all_renewed : (st : State) (now : Option Samples) (r : Result ((Bool × Part) × Units) (FaultKind × ℕ)) → ((x : Bool × Part) (mid : Units) → r ≡ good (x, mid) → Renews x.1)
-    → bind r (part_seen st now) ≡ behind (closed st now) (bind r (part_seen (after_end st) None))
+-- the picture that is open, as it is told
+abbrev pub closed_of : Between → Events
+closed_of b = closed b.state.picture b.store
+
+part_renewed : (b : Between) (m : Bool) (p : Part) (mid : Units) → Renews p → part_read b (m, p) mid ≡ behind (closed_of b) (part_read (rested b) (m, p) mid)
+unfolding after
+part_renewed b m (sequence s) mid r = behind_twice (closed_of b) _ _
+part_renewed b m (group g) mid r = behind_twice (closed_of b) _ _
+part_renewed b m (picture info extension) mid r = ap (behind (closed_of b)) (sym (behind_none _))
+part_renewed b m (matrices x) mid r = absurd r
+part_renewed b m (slice row x) mid r = absurd r
+part_renewed b m (unread_slice row u) mid r = absurd r
+part_renewed b m (skipped_unit u) mid r = absurd r
+part_renewed b m ending mid r = ap (behind (closed_of b)) (sym (behind_none _))
+part_renewed b m over mid r = ap (behind (closed_of b)) (sym (behind_none _))
+
+all_renewed : (b : Between) (r : Result ((Bool × Part) × Units) (FaultKind × ℕ)) → ((x : Bool × Part) (mid : Units) → r ≡ good (x, mid) → Renews x.1)
+    → bind r (part_read b) ≡ behind (closed_of b) (bind r (part_read (rested b)))
 unfolding bind
-all_renewed st now (Ok ((m, p), mid)) h = part_renewed st now m p mid (h (m, p) mid refl)
-all_renewed st now (Err f) h = refl
+all_renewed b (Ok ((m, p), mid)) h = part_renewed b m p mid (h (m, p) mid refl)
+all_renewed b (Err f) h = refl
 
 renews_picture : (st : State) (start : ℕ) (u : List ℕ) (t mid : Units) (x : Bool × Part) → IsKnown st → (known_unit st start 0x00 u).read t ≡ good (x, mid) → Renews x.1
 unfolding known_unit later_unit choose onward picture_unit seq done
 renews_picture st start u t mid x k e =
     let s = (onward_lawful (picture_unit_lawful st start u)).found x t mid (sym (cond-true (is_some st.sequence) _ _ k) ∙ e) in
-    subst Renews (sym (ap (λ (y : Bool × Part). y.1) s.3.0 ∙ s.2.3.3.3.3.3.0)) tt
+    subst Renews (sym (ap (λ (y : Bool × Part). y.1) s.3.0 ∙ s.2.3.3.3.3.3.3.3.0)) tt
 
 renews_sequence : (st : State) (start : ℕ) (u : List ℕ) (t mid : Units) (x : Bool × Part) → (known_unit st start 0xB3 u).read t ≡ good (x, mid) → Renews x.1
 unfolding known_unit choose onward sequence_unit seq done
 renews_sequence st start u t mid x e =
     let s = (onward_lawful (sequence_unit_lawful st start u)).found x t mid e in
-    subst Renews (sym (ap (λ (y : Bool × Part). y.1) s.3.0 ∙ s.2.3.3.3.3.3.3.0)) tt
+    subst Renews (sym (ap (λ (y : Bool × Part). y.1) s.3.0 ∙ s.2.3.3.3.3.3.3.3.0)) tt
 
 renews_end : (st : State) (start : ℕ) (u : List ℕ) (t mid : Units) (x : Bool × Part) → IsKnown st → (known_unit st start 0xB7 u).read t ≡ good (x, mid) → Renews x.1
 unfolding known_unit later_unit choose final end_unit seq done
 renews_end st start u t mid x k e =
     let s = (final_lawful (end_unit_lawful st start)).found x t mid (sym (cond-true (is_some st.sequence) _ _ k) ∙ e) in
-    subst Renews (sym (ap (λ (y : Bool × Part). y.1) s.3.0 ∙ s.2.3.0)) tt
+    subst Renews (sym (ap (λ (y : Bool × Part). y.1) s.3.0 ∙ s.2.3.3.0)) tt
 
 renews_group : (st : State) (start : ℕ) (u : List ℕ) (t mid : Units) (x : Bool × Part) → IsKnown st → (known_unit st start 0xB8 u).read t ≡ good (x, mid) → Renews x.1
 unfolding known_unit later_unit choose onward group_unit seq done
 renews_group st start u t mid x k e =
     let s = (onward_lawful (group_unit_lawful st start u)).found x t mid (sym (cond-true (is_some st.sequence) _ _ k) ∙ e) in
-    subst Renews (sym (ap (λ (y : Bool × Part). y.1) s.3.0 ∙ s.2.3.3.0)) tt
+    subst Renews (sym (ap (λ (y : Bool × Part). y.1) s.3.0 ∙ s.2.3.3.3.0)) tt
 
 -- a unit that begins a piece, from a state on: first the picture that is open ends
 abbrev Closes : State → ℕ → List ℕ → Units → ℕ → Type 0
@@ -140,7 +150,7 @@ closes_picture st start u t k =
     ]
 
 closes_sequence : (st : State) (start : ℕ) (u : List ℕ) (t : Units) → Closes st start u t 0xB3
-unfolding known_unit choose onward sequence_unit seq close rule bind
+unfolding known_unit choose onward sequence_unit seq close no_second_field_due rule bind
 closes_sequence st start u t =
     elim (cases_Bool (is_complete st.sequence st.picture)) [
       | inl on ↦ rw (on, complete_none st.sequence) refl
@@ -148,7 +158,7 @@ closes_sequence st start u t =
     ]
 
 closes_end : (st : State) (start : ℕ) (u : List ℕ) (t : Units) → IsKnown st → Closes st start u t 0xB7
-unfolding known_unit later_unit choose final end_unit seq close rule bind
+unfolding known_unit later_unit choose final end_unit seq close no_second_field_due rule bind
 closes_end st start u t k =
     elim (cases_Bool (is_complete st.sequence st.picture)) [
       | inl on ↦ rw (k, on, complete_none st.sequence) refl
@@ -156,23 +166,23 @@ closes_end st start u t k =
     ]
 
 closes_group : (st : State) (start : ℕ) (u : List ℕ) (t : Units) → IsKnown st → Closes st start u t 0xB8
-unfolding known_unit later_unit choose onward group_unit seq close rule bind
+unfolding known_unit later_unit choose onward group_unit seq close no_second_field_due rule bind
 closes_group st start u t k =
     elim (cases_Bool (is_complete st.sequence st.picture)) [
       | inl on ↦ rw (k, on, complete_none st.sequence) refl
       | inr off ↦ rw (k, off) refl
     ]
 
-closes_none : (st : State) → IsKnown st → unit_of st [] ≡ cond (is_complete st.sequence st.picture) (unit_of (after_end st) []) (Err (MissingMacroblocks, 0))
-unfolding unit_of text_end seq close rule bind
+closes_none : (st : State) → IsKnown st → unit_read st [] ≡ cond (is_complete st.sequence st.picture) (unit_read (after_end st) []) (Err (MissingMacroblocks, 0))
+unfolding unit_read text_end seq close rule bind
 closes_none st k =
     elim (cases_Bool (is_complete st.sequence st.picture)) [
       | inl on ↦ rw (k, on, complete_none st.sequence) refl
       | inr off ↦ rw (k, off) refl
     ]
 
-renews_none : (st : State) (x : Bool × Part) (mid : Units) → unit_of st [] ≡ good (x, mid) → Renews x.1
-unfolding unit_of text_end seq done
+renews_none : (st : State) (x : Bool × Part) (mid : Units) → unit_read st [] ≡ good (x, mid) → Renews x.1
+unfolding unit_read text_end seq done
 renews_none st x mid e = let s = (text_end_lawful st 0).found x [] mid e in subst Renews (sym (ap (λ (y : Bool × Part). y.1) s.3.3.0)) tt
 
 which : (value : ℕ) → begins_piece value ≡ true → (value ≡ 0x00) ⊎ ((value ≡ 0xB3) ⊎ ((value ≡ 0xB7) ⊎ (value ≡ 0xB8)))
@@ -216,43 +226,49 @@ renews_by st start value u t mid x b k e =
       ]
     ]
 
-unit_closes : (st : State) (vs : Units) → BeginsPiece vs → IsKnown st → unit_of st vs ≡ cond (is_complete st.sequence st.picture) (unit_of (after_end st) vs) (Err (MissingMacroblocks, unit_bits vs))
-unfolding unit_of
+unit_closes : (st : State) (vs : Units) → BeginsPiece vs → IsKnown st → unit_read st vs ≡ cond (is_complete st.sequence st.picture) (unit_read (after_end st) vs) (Err (MissingMacroblocks, unit_bits vs))
+unfolding unit_read
 unit_closes st [] b k = closes_none st k
 unit_closes st (v ∷ vs) b k = closes_by st (unit_bits (v ∷ vs)) (value_of v) v vs b k
 
-unit_renews : (st : State) (vs mid : Units) (x : Bool × Part) → BeginsPiece vs → IsKnown st → unit_of st vs ≡ good (x, mid) → Renews x.1
-unfolding unit_of
+unit_renews : (st : State) (vs mid : Units) (x : Bool × Part) → BeginsPiece vs → IsKnown st → unit_read st vs ≡ good (x, mid) → Renews x.1
+unfolding unit_read
 unit_renews st [] mid x b k e = renews_none st x mid e
 unit_renews st (v ∷ vs) mid x b k e = renews_by st (unit_bits (v ∷ vs)) (value_of v) v vs mid x b k e
 
-bind_closes : (c : Bool) (st : State) (now : Option Samples) (r : Result ((Bool × Part) × Units) (FaultKind × ℕ)) (f : FaultKind × ℕ) → ((x : Bool × Part) (mid : Units) → r ≡ good (x, mid) → Renews x.1)
-    → bind (cond c r (Err f)) (part_seen st now) ≡ cond c (behind (closed st now) (bind r (part_seen (after_end st) None))) (Err f)
+bind_closes : (c : Bool) (b : Between) (r : Result ((Bool × Part) × Units) (FaultKind × ℕ)) (f : FaultKind × ℕ) → ((x : Bool × Part) (mid : Units) → r ≡ good (x, mid) → Renews x.1)
+    → bind (cond c r (Err f)) (part_read b) ≡ cond c (behind (closed_of b) (bind r (part_read (rested b)))) (Err f)
 unfolding bind
-bind_closes true st now r f h = all_renewed st now r h
-bind_closes false st now r f h = refl
+bind_closes true b r f h = all_renewed b r h
+bind_closes false b r f h = refl
 
 -- where a piece begins, the picture that is open ends, and all else is read as with none open
-pub closing : (st : State) (now : Option Samples) (vs : Units) → BeginsPiece vs → IsKnown st
-    → seen st now vs ≡ cond (is_complete st.sequence st.picture) (behind (closed st now) (seen (after_end st) None vs)) (Err (MissingMacroblocks, unit_bits vs))
-closing st now vs b k =
+pub closing : (b : Between) (vs : Units) → BeginsPiece vs → IsKnown b.state
+    → units_read b vs ≡ cond (is_complete b.state.sequence b.state.picture) (behind (closed_of b) (units_read (rested b) vs)) (Err (MissingMacroblocks, unit_bits vs))
+closing b vs o k =
+    let st = b.state in
     let c = is_complete st.sequence st.picture in
-    seen_once st now vs
-    ∙ ap (λ r. bind r (part_seen st now)) (unit_closes st vs b k)
-    ∙ bind_closes c st now (unit_of (after_end st) vs) (MissingMacroblocks, unit_bits vs) (λ x mid e. unit_renews (after_end st) vs mid x b k e)
-    ∙ ap (λ r. cond c (behind (closed st now) r) (Err (MissingMacroblocks, unit_bits vs))) (sym (seen_once (after_end st) None vs))
+    read_once b vs
+    ∙ ap (λ r. bind r (part_read b)) (unit_closes st vs o k)
+    ∙ bind_closes c b (unit_read (after_end st) vs) (MissingMacroblocks, unit_bits vs) (λ x mid e. unit_renews (after_end st) vs mid x o k e)
+    ∙ ap (λ r. cond c (behind (closed_of b) r) (Err (MissingMacroblocks, unit_bits vs))) (sym (read_once (rested b) vs))
 
 -- the end of a text with no picture open
-pub over_seen : (st : State) → IsKnown st → seen (after_end st) None [] ≡ Ok ([], after_end st)
-unfolding unit_of text_end seq close rule bind done after
-over_seen st k = seen_once (after_end st) None [] ∙ rw (k, complete_none st.sequence) refl
+pub over_seen : (b : Between) → IsKnown b.state → units_read (rested b) [] ≡ Ok ([], rested b)
+unfolding unit_read text_end seq close rule bind done after
+over_seen b k = read_once (rested b) [] ∙ rw (k, complete_none b.state.sequence) refl
 
 -- the sequence end code with no picture open
-pub end_seen : (st : State) (u : List ℕ) (us : Units) → is_end (value_of u) ≡ true → IsKnown st → seen (after_end st) None (u ∷ us) ≡ Ok ([], after_end st)
-unfolding unit_of known_unit later_unit choose final end_unit seq close rule bind done after is_end
-end_seen st u us on k =
+pub end_seen : (b : Between) (u : List ℕ) (us : Units) → is_end (value_of u) ≡ true → IsKnown b.state → units_read (rested b) (u ∷ us) ≡ cond (none_waits b.state.waiting) (Ok ([], rested b)) (Err (FieldPair, unit_bits (u ∷ us)))
+unfolding unit_read known_unit later_unit choose final end_unit no_second_field_due seq close rule bind done after is_end
+end_seen b u us on k =
     let e : value_of u ≡ 0xB7 = eqb-true (value_of u) 0xB7 on in
-    seen_once (after_end st) None (u ∷ us) ∙ ap (λ (n : ℕ). bind ((known_unit (after_end st) (unit_bits (u ∷ us)) n u).read us) (part_seen (after_end st) None)) e ∙ rw (k, complete_none st.sequence) refl
+    read_once (rested b) (u ∷ us)
+    ∙ ap (λ (n : ℕ). bind ((known_unit (after_end b.state) (unit_bits (u ∷ us)) n u).read us) (part_read (rested b))) e
+    ∙ elim (cases_Bool (none_waits b.state.waiting)) [
+      | inl paired ↦ rw (k, complete_none b.state.sequence, paired) refl
+      | inr due ↦ rw (k, complete_none b.state.sequence, due) refl
+    ]
 
 -- ---- a unit before that
 
@@ -283,11 +299,11 @@ later_goes st start value u x t rest off e =
       ]
     ]
 
-sequence_known : (st : State) (start : ℕ) (u : List ℕ) (x : Bool × Part) (t rest : Units) → (onward (sequence_unit st start u)).Stands x t rest → IsKnown (after st x.1)
+pub sequence_known : (st : State) (start : ℕ) (u : List ℕ) (x : Bool × Part) (t rest : Units) → (onward (sequence_unit st start u)).Stands x t rest → IsKnown (after st x.1)
 unfolding onward sequence_unit seq done after
-sequence_known st start u x t rest e = subst (λ (p : Part). IsKnown (after st p)) (sym (ap (λ (y : Bool × Part). y.1) e.3.0 ∙ e.2.3.3.3.3.3.3.0)) refl
+sequence_known st start u x t rest e = subst (λ (p : Part). IsKnown (after st p)) (sym (ap (λ (y : Bool × Part). y.1) e.3.0 ∙ e.2.3.3.3.3.3.3.3.0)) refl
 
-known_goes : (st : State) (start : ℕ) (u : List ℕ) (x : Bool × Part) (t rest : Units) → is_end (value_of u) ≡ false → KnownBy st u → (known_unit st start (value_of u) u).Stands x t rest → (x.0 ≡ true) × IsKnown (after st x.1)
+pub known_goes : (st : State) (start : ℕ) (u : List ℕ) (x : Bool × Part) (t rest : Units) → is_end (value_of u) ≡ false → KnownBy st u → (known_unit st start (value_of u) u).Stands x t rest → (x.0 ≡ true) × IsKnown (after st x.1)
 unfolding known_unit choose
 known_goes st start u x t rest off k e =
     elim e [
@@ -305,8 +321,8 @@ record Goes (st : State) (us : Units) (x : Bool × Part) (mid : Units) : Type 0 
   no_ends : NoEnds mid
   fewer : length mid ≤ length us
 
-unit_goes : (st : State) (u : List ℕ) (us : Units) → NoEnds (u ∷ us) → KnownBy st u → (x : Bool × Part) (mid : Units) → unit_of st (u ∷ us) ≡ good (x, mid) → Goes st us x mid
-unfolding unit_of
+unit_goes : (st : State) (u : List ℕ) (us : Units) → NoEnds (u ∷ us) → KnownBy st u → (x : Bool × Part) (mid : Units) → unit_read st (u ∷ us) ≡ good (x, mid) → Goes st us x mid
+unfolding unit_read
 unit_goes st u us n k x mid e =
     let l = known_lawful st (unit_bits (u ∷ us)) (value_of u) u in
     let s = l.found x us mid e in
@@ -315,59 +331,59 @@ unit_goes st u us n k x mid e =
 
 -- ---- units, and others behind them
 
--- what is seen of units, and then what stands behind them
+-- what is read of units, and then what stands behind them
 abbrev pub split : Units → Course → Course
-split vs (Ok x) = behind x.0 (seen x.1 None vs)
+split vs (Ok x) = behind x.0 (units_read x.1 vs)
 split vs (Err f) = Err (f.0, f.1 + unit_bits vs)
 
-split_behind : (ps : Pictures) (vs : Units) (r : Course) → behind ps (split vs r) ≡ split vs (behind ps r)
-split_behind ps vs (Ok x) = sym (behind_twice ps x.0 (seen x.1 None vs))
+split_behind : (ps : Events) (vs : Units) (r : Course) → behind ps (split vs r) ≡ split vs (behind ps r)
+split_behind ps vs (Ok x) = sym (behind_twice ps x.0 (units_read x.1 vs))
 split_behind ps vs (Err f) = refl
 
-pub record Splits (st : State) (now : Option Samples) (us vs : Units) : Type 0 where
-  pub is : seen st now (us ++ vs) ≡ split vs (seen st now us)
-  pub known : IsKnownBehind (seen st now us)
+pub record Splits (b : Between) (us vs : Units) : Type 0 where
+  pub is : units_read b (us ++ vs) ≡ split vs (units_read b us)
+  pub known : IsKnownBehind (units_read b us)
 
-splits_more : (st : State) (now : Option Samples) (us vs : Units) (r : Result ((Bool × Part) × Units) (FaultKind × ℕ)) → ((x : Bool × Part) (mid : Units) → r ≡ good (x, mid) → Goes st us x mid)
-    → ((z : State) (then : Option Samples) (mid : Units) → length mid ≤ length us → NoEnds mid → KnownAt z mid → Splits z then mid vs)
-    → (bind (shifted vs r) (part_seen st now) ≡ split vs (bind r (part_seen st now))) × IsKnownBehind (bind r (part_seen st now))
+splits_more : (b : Between) (us vs : Units) (r : Result ((Bool × Part) × Units) (FaultKind × ℕ)) → ((x : Bool × Part) (mid : Units) → r ≡ good (x, mid) → Goes b.state us x mid)
+    → ((z : Between) (mid : Units) → length mid ≤ length us → NoEnds mid → KnownAt z.state mid → Splits z mid vs)
+    → (bind (shifted vs r) (part_read b) ≡ split vs (bind r (part_read b))) × IsKnownBehind (bind r (part_read b))
 unfolding bind
-splits_more st now us vs (Err f) h ih = (refl, tt)
-splits_more st now us vs (Ok ((false, p), mid)) h ih = let g = h (false, p) mid refl in let e = g.more in absurd cc
-splits_more st now us vs (Ok ((true, p), mid)) h ih =
+splits_more b us vs (Err f) h ih = (refl, tt)
+splits_more b us vs (Ok ((false, p), mid)) h ih = let g = h (false, p) mid refl in let e = g.more in absurd cc
+splits_more b us vs (Ok ((true, p), mid)) h ih =
     let g = h (true, p) mid refl in
-    let s = ih (after st p) (frame_after st now p) mid g.fewer g.no_ends (known_at (after st p) mid g.known) in
-    let ps = closed_by st now p in
-    (ap (behind ps) s.is ∙ split_behind ps vs (seen (after st p) (frame_after st now p) mid), known_behind ps _ s.known)
+    let s = ih (after_part b p) mid g.fewer g.no_ends (known_at (after b.state p) mid g.known) in
+    let ps = told_by b.state b.store p in
+    (ap (behind ps) s.is ∙ split_behind ps vs (units_read (after_part b p) mid), known_behind ps _ s.known)
 
-none_is : (c : Bool) (st : State) (ps : Pictures) (vs : Units) → cond c (behind ps (seen (after_end st) None vs)) (Err (MissingMacroblocks, unit_bits vs)) ≡ split vs (cond c (behind ps (Ok ([], after_end st))) (Err (MissingMacroblocks, 0)))
-none_is true st ps vs = ap (λ (l : Pictures). behind l (seen (after_end st) None vs)) (sym (append-nil ps))
-none_is false st ps vs = let e : unit_bits vs ≡ 0 + unit_bits vs = omega arith in ap (λ (n : ℕ). bad {T = State} {V = Pictures} (MissingMacroblocks, n)) e
+none_is : (c : Bool) (b : Between) (ps : Events) (vs : Units) → cond c (behind ps (units_read (rested b) vs)) (Err (MissingMacroblocks, unit_bits vs)) ≡ split vs (cond c (behind ps (Ok ([], rested b))) (Err (MissingMacroblocks, 0)))
+none_is true b ps vs = ap (λ (l : Events). behind l (units_read (rested b) vs)) (sym (append-nil ps))
+none_is false b ps vs = let e : unit_bits vs ≡ 0 + unit_bits vs = omega arith in ap (λ (n : ℕ). bad {T = Between} {V = Events} (MissingMacroblocks, n)) e
 
-none_known : (c : Bool) (st : State) (ps : Pictures) → IsKnown st → IsKnownBehind (cond c (behind ps (Ok ([], after_end st))) (Err (MissingMacroblocks, 0)))
-none_known true st ps k = k
-none_known false st ps k = tt
+none_known : (c : Bool) (b : Between) (ps : Events) → IsKnown b.state → IsKnownBehind (cond c (behind ps (Ok ([], rested b))) (Err (MissingMacroblocks, 0)))
+none_known true b ps k = k
+none_known false b ps k = tt
 
-none_seen : (st : State) (now : Option Samples) → IsKnown st → seen st now [] ≡ cond (is_complete st.sequence st.picture) (behind (closed st now) (Ok ([], after_end st))) (Err (MissingMacroblocks, 0))
-none_seen st now k = closing st now [] tt k ∙ ap (λ r. cond (is_complete st.sequence st.picture) (behind (closed st now) r) (Err (MissingMacroblocks, 0))) (over_seen st k)
+none_seen : (b : Between) → IsKnown b.state → units_read b [] ≡ cond (is_complete b.state.sequence b.state.picture) (behind (closed_of b) (Ok ([], rested b))) (Err (MissingMacroblocks, 0))
+none_seen b k = closing b [] tt k ∙ ap (λ r. cond (is_complete b.state.sequence b.state.picture) (behind (closed_of b) r) (Err (MissingMacroblocks, 0))) (over_seen b k)
 
-splits_none : (st : State) (now : Option Samples) (vs : Units) → BeginsPiece vs → IsKnown st → Splits st now [] vs
-splits_none st now vs b k =
-    let c = is_complete st.sequence st.picture in
+splits_none : (b : Between) (vs : Units) → BeginsPiece vs → IsKnown b.state → Splits b [] vs
+splits_none b vs o k =
+    let c = is_complete b.state.sequence b.state.picture in
     record {
-      is = closing st now vs b k ∙ none_is c st (closed st now) vs ∙ ap (split vs) (sym (none_seen st now k));
-      known = subst IsKnownBehind (sym (none_seen st now k)) (none_known c st (closed st now) k);
+      is = closing b vs o k ∙ none_is c b (closed_of b) vs ∙ ap (split vs) (sym (none_seen b k));
+      known = subst IsKnownBehind (sym (none_seen b k)) (none_known c b (closed_of b) k);
     }
 
-splits_n : (n : ℕ) (st : State) (now : Option Samples) (us vs : Units) → length us < n → BeginsPiece vs → NoEnds us → KnownAt st us → Splits st now us vs
-splits_n zero st now us vs lt b e k = absurd (omega arith)
-splits_n (suc n) st now [] vs lt b e k = splits_none st now vs b k
-splits_n (suc n) st now (u ∷ us) vs lt b e k =
-    let m = splits_more st now us vs (unit_of st (u ∷ us)) (unit_goes st u us e k) (λ z then mid fewer none known. splits_n n z then mid vs (omega arith) b none known) in
+splits_n : (n : ℕ) (b : Between) (us vs : Units) → length us < n → BeginsPiece vs → NoEnds us → KnownAt b.state us → Splits b us vs
+splits_n zero b us vs lt o e k = absurd (omega arith)
+splits_n (suc n) b [] vs lt o e k = splits_none b vs o k
+splits_n (suc n) b (u ∷ us) vs lt o e k =
+    let m = splits_more b us vs (unit_read b.state (u ∷ us)) (unit_goes b.state u us e k) (λ z mid fewer none known. splits_n n z mid vs (omega arith) o none known) in
     record {
-      is = seen_once st now (u ∷ (us ++ vs)) ∙ ap (λ r. bind r (part_seen st now)) (unit_shifted vs b st u us) ∙ m.0 ∙ ap (split vs) (sym (seen_once st now (u ∷ us)));
-      known = subst IsKnownBehind (sym (seen_once st now (u ∷ us))) m.1;
+      is = read_once b (u ∷ (us ++ vs)) ∙ ap (λ r. bind r (part_read b)) (unit_shifted vs o b.state u us) ∙ m.0 ∙ ap (split vs) (sym (read_once b (u ∷ us)));
+      known = subst IsKnownBehind (sym (read_once b (u ∷ us))) m.1;
     }
 
-pub splits : (st : State) (now : Option Samples) (us vs : Units) → BeginsPiece vs → NoEnds us → KnownAt st us → Splits st now us vs
-splits st now us vs = splits_n (suc (length us)) st now us vs (omega arith)
+pub splits : (b : Between) (us vs : Units) → BeginsPiece vs → NoEnds us → KnownAt b.state us → Splits b us vs
+splits b us vs = splits_n (suc (length us)) b us vs (omega arith)

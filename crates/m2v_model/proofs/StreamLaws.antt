@@ -4,17 +4,17 @@ use Rattle.std.proofs.lemmas.Bool.{both_ways}
 use Rattle.m2v_bits.specs.Syntax.{seq, here, done}
 use Rattle.m2v_bits.proofs.SyntaxLaws.{Lawful, done_lawful, here_lawful, rule_lawful, seq_lawful, choose_lawful, repeated_lawful, Onward}
 use Rattle.m2v_bits.proofs.LeafLaws.{bits_lawful}
-use Rattle.m2v_model.specs.declared.fault.FaultKind.TheVariants.{NoSequence, NotMpeg2, Unsupported, Truncated, Forbidden, SequenceChanged, SliceOrder, MissingMacroblocks}
+use Rattle.m2v_model.specs.declared.fault.FaultKind.TheVariants.{NoSequence, NotMpeg2, Unsupported, Truncated, Forbidden, SequenceChanged, SliceOrder, MissingMacroblocks, MissingReference, FieldPair}
 use Rattle.m2v_model.specs.declared.state.Sequence.{Sequence}
 use Rattle.m2v_model.specs.declared.state.Open.{Open}
 use Rattle.m2v_model.specs.declared.state.State.{State}
 use Rattle.m2v_model.specs.Units.{Units, unit_bits, unit_at, Next}
-use Rattle.m2v_model.specs.Faults.{Of}
-use Rattle.m2v_model.specs.Streams.{Part, Sofar, Among, value_of, close, id_at, extension_in, extension_behind, sequence_unit, group_unit, picture_unit, matrix_unit, extension_unit, slice_in, slice_unit, end_unit, onward, final, later_unit, known_unit, text_end, next_unit, unit_round, stream_at}
+use Rattle.m2v_model.specs.Faults.{InUnit}
+use Rattle.m2v_model.specs.Streams.{Part, Sofar, Among, value_of, close, no_second_field_due, id_at, extension_in, extension_behind, sequence_unit, group_unit, picture_unit, matrix_unit, extension_unit, read_slice, slice_in, slice_unit, end_unit, onward, final, later_unit, known_unit, text_end, next_unit, unit_round, units_from, stream_from, stream_at}
 use Rattle.m2v_model.proofs.UnitLaws.{unit_lawful, inside_lawful}
 use Rattle.m2v_model.proofs.LookLaws.{looking_lawful, refuse_lawful}
 use Rattle.m2v_model.proofs.SliceLaws.{slice_lawful}
-use Rattle.m2v_model.proofs.HeaderLaws.{whole_lawful, sequence_lawful, sequence_extension_lawful, group_lawful, picture_lawful, picture_extension_lawful, matrices_lawful}
+use Rattle.m2v_model.proofs.HeaderLaws.{whole_header_lawful, sequence_lawful, sequence_extension_lawful, group_lawful, picture_lawful, picture_extension_lawful, matrices_lawful}
 
 -- ---- units
 
@@ -22,18 +22,22 @@ close_lawful : (st : State) (start : ℕ) → Lawful length (close st start)
 unfolding close
 close_lawful st start = rule_lawful length _ MissingMacroblocks start
 
+due_lawful : (st : State) (start : ℕ) → Lawful length (no_second_field_due st start)
+unfolding no_second_field_due
+due_lawful st start = rule_lawful length _ FieldPair start
+
 id_lawful : (u : List ℕ) → Lawful length (id_at u)
 unfolding id_at
 id_lawful u = inside_lawful u (looking_lawful (bits_lawful Truncated 4))
 
-extension_in_lawful : {V : Type 0} {s : Of V} (own : ℕ) (u : List ℕ) (start : ℕ) → Lawful length s → Lawful length (extension_in own u start s)
+extension_in_lawful : {V : Type 0} {s : InUnit V} (own : ℕ) (u : List ℕ) (start : ℕ) → Lawful length s → Lawful length (extension_in own u start s)
 unfolding extension_in
 extension_in_lawful own u start ls =
     seq_lawful (id_lawful u) (λ id.
     seq_lawful (rule_lawful length _ NotMpeg2 start) (λ own_id.
     inside_lawful u ls))
 
-extension_behind_lawful : {V : Type 0} {s : Of V} (own : ℕ) (u : Option (List ℕ)) (start : ℕ) → Lawful length s → Lawful length (extension_behind own u start s)
+extension_behind_lawful : {V : Type 0} {s : InUnit V} (own : ℕ) (u : Option (List ℕ)) (start : ℕ) → Lawful length s → Lawful length (extension_behind own u start s)
 unfolding extension_behind
 extension_behind_lawful own None start ls = refuse_lawful length NotMpeg2 start
 extension_behind_lawful own (Some u) start ls = choose_lawful _ (extension_in_lawful own u start ls) (refuse_lawful length NotMpeg2 start)
@@ -42,35 +46,39 @@ pub sequence_unit_lawful : (st : State) (start : ℕ) (u : List ℕ) → Lawful 
 unfolding sequence_unit
 sequence_unit_lawful st start u =
     seq_lawful (close_lawful st start) (λ closed.
-    seq_lawful (inside_lawful u (whole_lawful sequence_lawful)) (λ info.
+    seq_lawful (due_lawful st start) (λ paired.
+    seq_lawful (inside_lawful u (whole_header_lawful sequence_lawful)) (λ info.
     seq_lawful (here_lawful length unit_bits) (λ next.
     seq_lawful unit_lawful (λ v.
-    seq_lawful (extension_behind_lawful 1 v next (whole_lawful (sequence_extension_lawful info))) (λ extension.
+    seq_lawful (extension_behind_lawful 1 v next (whole_header_lawful (sequence_extension_lawful info))) (λ extension.
     seq_lawful (rule_lawful length _ SequenceChanged start) (λ same.
-    done_lawful length _))))))
+    done_lawful length _)))))))
 
 pub group_unit_lawful : (st : State) (start : ℕ) (u : List ℕ) → Lawful length (group_unit st start u)
 unfolding group_unit
 group_unit_lawful st start u =
     seq_lawful (close_lawful st start) (λ closed.
-    seq_lawful (inside_lawful u (whole_lawful group_lawful)) (λ g.
-    done_lawful length _))
+    seq_lawful (due_lawful st start) (λ paired.
+    seq_lawful (inside_lawful u (whole_header_lawful group_lawful)) (λ g.
+    done_lawful length _)))
 
 pub picture_unit_lawful : (st : State) (start : ℕ) (u : List ℕ) → Lawful length (picture_unit st start u)
 unfolding picture_unit
 picture_unit_lawful st start u =
     seq_lawful (close_lawful st start) (λ closed.
-    seq_lawful (inside_lawful u (whole_lawful picture_lawful)) (λ info.
+    seq_lawful (inside_lawful u (whole_header_lawful picture_lawful)) (λ info.
     seq_lawful (here_lawful length unit_bits) (λ next.
     seq_lawful unit_lawful (λ v.
-    seq_lawful (extension_behind_lawful 8 v next (whole_lawful (picture_extension_lawful info))) (λ extension.
-    done_lawful length _)))))
+    seq_lawful (extension_behind_lawful 8 v next (whole_header_lawful (picture_extension_lawful _ info))) (λ extension.
+    seq_lawful (rule_lawful length _ FieldPair start) (λ pair.
+    seq_lawful (rule_lawful length _ MissingReference start) (λ anchor.
+    done_lawful length _)))))))
 
 matrix_unit_lawful : (st : State) (start : ℕ) (u : List ℕ) → Lawful length (matrix_unit st start u)
 unfolding matrix_unit
 matrix_unit_lawful st start u =
     seq_lawful (rule_lawful length _ Forbidden start) (λ allowed.
-    seq_lawful (inside_lawful u (whole_lawful matrices_lawful)) (λ m.
+    seq_lawful (inside_lawful u (whole_header_lawful matrices_lawful)) (λ m.
     done_lawful length _))
 
 extension_unit_lawful : (st : State) (start : ℕ) (u : List ℕ) → Lawful length (extension_unit st start u)
@@ -82,18 +90,21 @@ extension_unit_lawful st start u =
     (choose_lawful _ (refuse_lawful length Unsupported start)
     (done_lawful length _))))
 
+read_slice_lawful : (st : State) (s : Sequence) (p : Open) (row : ℕ) (u : List ℕ) → Lawful length (read_slice st s p row u)
+unfolding read_slice
+read_slice_lawful st s p row u = seq_lawful (inside_lawful u (slice_lawful _ _ row)) (λ x. done_lawful length _)
+
 slice_unit_lawful : (st : State) (s : Option Sequence) (p : Option Open) (row start : ℕ) (u : List ℕ) → Lawful length (slice_unit st s p row start u)
 unfolding slice_unit slice_in
 slice_unit_lawful st (Some s) (Some p) row start u =
     seq_lawful (rule_lawful length _ SliceOrder start) (λ order.
-    seq_lawful (inside_lawful u (slice_lawful st s p row)) (λ x.
-    done_lawful length _))
+    choose_lawful _ (done_lawful length _) (read_slice_lawful st s p row u))
 slice_unit_lawful st (Some s) None row start u = refuse_lawful length SliceOrder start
 slice_unit_lawful st None p row start u = refuse_lawful length SliceOrder start
 
 pub end_unit_lawful : (st : State) (start : ℕ) → Lawful length (end_unit st start)
 unfolding end_unit
-end_unit_lawful st start = seq_lawful (close_lawful st start) (λ closed. done_lawful length _)
+end_unit_lawful st start = seq_lawful (close_lawful st start) (λ closed. seq_lawful (due_lawful st start) (λ paired. done_lawful length _))
 
 pub onward_lawful : {s : Among Part} → Lawful length s → Lawful length (onward s)
 unfolding onward
@@ -157,6 +168,17 @@ round_onward s m t rest e =
     let x = e.3.3 in
     omega (arith, next_takes s.state x.0 e.0 e.3.0 e.1 e.3.1 x.1 e.3.2 x.2 (sym (ap (λ (y : Bool × Sofar). y.0) x.3.0)), ap length e.2.1, ap length x.3.1)
 
+pub units_lawful : (st : State) → Lawful length (units_from st)
+unfolding units_from
+units_lawful st = repeated_lawful length Truncated unit_round round_lawful round_onward _
+
+pub stream_from_lawful : (st : State) → Lawful length (stream_from st)
+unfolding stream_from
+stream_from_lawful st =
+    seq_lawful (units_lawful st) (λ s.
+    seq_lawful (rule_lawful length _ FieldPair 0) (λ paired.
+    done_lawful length _))
+
 pub stream_lawful : Lawful length stream_at
 unfolding stream_at
-stream_lawful = repeated_lawful length Truncated unit_round round_lawful round_onward _
+stream_lawful = stream_from_lawful _

@@ -1,83 +1,119 @@
--- Reading piece by piece: each piece is read as a text of its own, from the state that the pieces before it left.
-use Rattle.std.specs.Prelude.{◌≡◌, ℕ, ◌+◌, ◌-◌, ◌*◌, Bool, List, [], ◌∷◌, ◌++◌, length, Option, None, Result, Ok, Err}
-use Rattle.m2v_bits.specs.Syntax.{repeated}
-use Rattle.m2v_plane.specs.Samples.{Samples}
+-- Reading piece by piece: each piece is read as a text of its own, from what the pieces before it left.
+use Rattle.std.specs.Prelude.{◌≡◌, ℕ, ◌+◌, ◌-◌, ◌*◌, ◌≤◌, Bool, cond, List, [], ◌∷◌, ◌++◌, length, Result, Ok, Err}
 use Rattle.m2v_model.specs.declared.fault.FaultKind.{FaultKind}
-use Rattle.m2v_model.specs.declared.fault.FaultKind.TheVariants.{Truncated}
+use Rattle.m2v_model.specs.declared.fault.FaultKind.TheVariants.{FieldPair}
 use Rattle.m2v_model.specs.declared.state.State.{State}
 use Rattle.m2v_model.specs.Units.{Units, cut, unit_bits}
-use Rattle.m2v_model.specs.States.{at_first}
-use Rattle.m2v_model.specs.Streams.{Part, Sofar, Among, value_of, known_unit, text_end, unit_round}
-use Rattle.m2v_model.specs.Pictures.{Pictures, pictures_from}
-use Rattle.m2v_model.specs.Pieces.{pieces}
-use Rattle.m2v_model.specs.Pieces.{skipped as before_pieces}
-use Rattle.m2v_model.specs.Decoding.{Stream, FaultAt, pictures as pictures_of}
+use Rattle.m2v_model.specs.States.{at_first, none_waits}
+use Rattle.m2v_model.specs.Streams.{Part, Sofar, after, value_of, known_unit, text_end, units_from}
+use Rattle.m2v_model.specs.Pictures.{Events, Store, no_frames, store_after, events_from, store_from, pictures_in}
+use Rattle.m2v_model.specs.Pieces.{pieces, before_pieces}
+use Rattle.m2v_model.specs.Decoding.{Stream, FaultAt}
 
--- a stream from a state on
-unfoldable pub stream_from : State → Among Sofar
-stream_from st = repeated length Truncated unit_round (record { state = st; parts = [] })
+-- between two pieces: the headers in force and what was decoded, and the frames at hand
+pub record Between : Type 0 where
+  pub state : State
+  pub store : Store
+
+abbrev pub at_start : Between
+at_start = record { state = at_first; store = no_frames }
+
+-- what is told and what stands behind it, or the first fault and its place in bits from the first byte
+abbrev pub Course : Type 0
+Course = Result (Events × Between) (FaultKind × ℕ)
+
+-- what units that were read tell, from what stood before them
+abbrev pub read_of : Between → Sofar → Events × Between
+read_of b tree = (events_from b.state b.store tree.parts, record { state = tree.state; store = store_from b.state b.store tree.parts })
+
+-- ---- unit by unit
 
 -- one unit from a state on: its part, and whether another unit follows; without units, the text's end
-unfoldable pub unit_of : State → Units → Result ((Bool × Part) × Units) (FaultKind × ℕ)
-unit_of st [] = (text_end st 0).read []
-unit_of st (u ∷ us) = (known_unit st (unit_bits (u ∷ us)) (value_of u) u).read us
+unfoldable pub unit_read : State → Units → Result ((Bool × Part) × Units) (FaultKind × ℕ)
+unit_read st [] = (text_end st 0).read []
+unit_read st (u ∷ us) = (known_unit st (unit_bits (u ∷ us)) (value_of u) u).read us
 
--- the pictures in decoding order and the state behind them, or the first fault and its place in bits from the first byte
-abbrev pub Course : Type 0
-Course = Result (Pictures × State) (FaultKind × ℕ)
+-- what stands behind a part; a picture may be open
+abbrev pub after_part : Between → Part → Between
+after_part b p = record { state = after b.state p; store = store_after b.state b.store p }
 
--- what reading gives where a picture may be open: the pictures and the state, or the fault and what is left at it
-abbrev pub viewed : State → Option Samples → Result (Sofar × Units) (FaultKind × ℕ) → Course
-viewed st now (Ok x) = Ok (pictures_from st now (x.0).parts, (x.0).state)
-viewed st now (Err f) = Err f
+-- what reading units gives, from what stands before them, a fault with how much is left at its place
+abbrev pub course_of : Between → Result (Sofar × Units) (FaultKind × ℕ) → Course
+course_of b (Ok x) = Ok (read_of b x.0)
+course_of b (Err f) = Err f
 
--- units from a state on, and the frame at hand
-unfoldable pub seen : State → Option Samples → Units → Course
-seen st now us = viewed st now ((stream_from st).read us)
+unfoldable pub units_read : Between → Units → Course
+units_read b us = course_of b ((units_from b.state).read us)
 
--- what reading from a state gives, where the text that was read ends at a byte
-unfoldable pub told : State → ℕ → Result (Sofar × Units) (FaultKind × ℕ) → Course
-told st end (Ok x) = Ok (pictures_from st None (x.0).parts, (x.0).state)
-told st end (Err f) = Err (f.0, 8 * end - f.1)
+-- ---- piece by piece
 
--- a piece that ends at a byte, from a state on
-unfoldable pub piece_read : State → ℕ → List ℕ → Course
-piece_read st end piece = told st end ((stream_from st).read (cut 0 piece).1)
+-- the same, where the text that was read ends at a byte
+unfoldable pub told : Between → ℕ → Result (Sofar × Units) (FaultKind × ℕ) → Course
+told b end (Ok x) = Ok (read_of b x.0)
+told b end (Err f) = Err (f.0, 8 * end - f.1)
 
--- pictures, and then what follows them
-abbrev pub behind : Pictures → Course → Course
-behind ps (Ok x) = Ok (ps ++ x.0, x.1)
-behind ps (Err f) = Err f
+-- a piece that ends at a byte
+unfoldable pub piece_read : Between → ℕ → List ℕ → Course
+piece_read b end piece = told b end ((units_from b.state).read (cut 0 piece).1)
 
--- what is read first, and then what follows it from its state on
-unfoldable pub onward : Course → (State → Course) → Course
-onward (Ok x) next = behind x.0 (next x.1)
-onward (Err f) next = Err f
+-- events, and then what follows them
+abbrev pub behind : Events → Course → Course
+behind es (Ok x) = Ok (es ++ x.0, x.1)
+behind es (Err f) = Err f
+
+-- what is read first, and then what follows it
+unfoldable pub continued : Course → (Between → Course) → Course
+continued (Ok x) next = behind x.0 (next x.1)
+continued (Err f) next = Err f
 
 -- pieces, one after another; the first begins at a byte
-unfoldable pub pieces_read : State → ℕ → List (List ℕ) → Course
-pieces_read st at [] = Ok ([], st)
-pieces_read st at (p ∷ ps) = onward (piece_read st (at + length p) p) (λ next. pieces_read next (at + length p) ps)
+unfoldable pub pieces_read : Between → ℕ → List (List ℕ) → Course
+pieces_read b at [] = Ok ([], b)
+pieces_read b at (p ∷ ps) = continued (piece_read b (at + length p) p) (λ next. pieces_read next (at + length p) ps)
 
 -- where pieces end of which the first begins at a byte
 unfoldable pub end_of : ℕ → List (List ℕ) → ℕ
 end_of at [] = at
 end_of at (p ∷ ps) = end_of (at + length p) ps
 
+-- at the end of the text, at a byte, no second field is due
+abbrev pub text_ended : ℕ → Course → Course
+text_ended end (Ok x) = cond (none_waits (x.1).state.waiting) (Ok x) (Err (FieldPair, 8 * end))
+text_ended end (Err f) = Err f
+
+-- the end of the text, which is looked at behind its last piece
+abbrev pub end_read : Between → ℕ → Course
+end_read b end = text_ended end (piece_read b end [])
+
 -- all pieces of a text, and behind them its end
 unfoldable pub text_read : List ℕ → Course
 text_read text =
     let at = length (before_pieces text) in
-    onward (pieces_read at_first at (pieces text)) (λ last. piece_read last (end_of at (pieces text)) [])
+    continued (pieces_read at_start at (pieces text)) (λ last. end_read last (end_of at (pieces text)))
 
--- the text is a stream without a fault: its pictures in decoding order, and the state behind it
-pub record IsRead (text : List ℕ) (ps : Pictures) (st : State) : Type 0 where
+-- so many pictures of a piece, and the pieces behind it: one, and of the last piece one at most
+abbrev pub IsOne : ℕ → List (List ℕ) → Type 0
+IsOne n [] = n ≤ 1
+IsOne n (p ∷ later) = n ≡ 1
+
+-- pieces that are read one after another each tell one picture, and the last one at most one
+abbrev pub TellInTurn : Between → ℕ → List (List ℕ) → Type 0
+TellInTurn b at [] = Unit {0}
+TellInTurn b at (p ∷ ps) =
+    (es : Events) (next : Between) → piece_read b (at + length p) p ≡ Ok (es, next)
+    → IsOne (length (pictures_in es)) ps × TellInTurn next (at + length p) ps
+
+-- piece i of a text has picture i
+abbrev pub TellsPictures : List ℕ → Type 0
+TellsPictures text = TellInTurn at_start (length (before_pieces text)) (pieces text)
+
+-- the text is a stream without a fault: what it tells, and what stands behind it
+pub record IsRead (text : List ℕ) (es : Events) (b : Between) : Type 0 where
   pub tree : Sofar
   pub stream : Stream text tree
-  pub pictures : ps ≡ pictures_of tree.parts
-  pub state : st ≡ tree.state
+  pub told : (es, b) ≡ read_of at_start tree
 
 -- what is read of a text piece by piece is what stands in it
 pub record ByPieces (text : List ℕ) : Type 0 where
-  pub stands : (ps : Pictures) (st : State) → text_read text ≡ Ok (ps, st) → IsRead text ps st
+  pub stands : (es : Events) (b : Between) → text_read text ≡ Ok (es, b) → IsRead text es b
   pub fault : (kind : FaultKind) (place : ℕ) → text_read text ≡ Err (kind, place) → FaultAt text place kind

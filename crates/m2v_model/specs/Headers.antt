@@ -11,13 +11,12 @@ use Rattle.m2v_head.specs.declared.picture.PictureExtension.{PictureExtension}
 use Rattle.m2v_head.specs.declared.matrix.MatrixInfo.{MatrixInfo}
 use Rattle.m2v_head.specs.Headers.{sequence_at, sequence_extension_at, group_at, picture_at, picture_extension_at, matrices_at}
 use Rattle.m2v_model.specs.declared.fault.FaultKind.TheVariants.{Unsupported, Forbidden}
-use Rattle.m2v_model.specs.Faults.{Of, place, of_head}
+use Rattle.m2v_model.specs.Faults.{InUnit, bits_left, of_head}
 use Rattle.m2v_model.specs.Looking.{look, passes}
-use Rattle.m2v_model.specs.Unread.{is_read_type, is_read_sequence, is_read_structure, is_read_prediction, is_read_concealment}
 
 -- a header, and zero bits behind its last element
-unfoldable pub whole : {V : Type 0} → Of V → Of V
-whole s = do
+unfoldable pub whole_header : {V : Type 0} → InUnit V → InUnit V
+whole_header s = do
   header ← s
   end ← end_at Forbidden
   done header
@@ -34,18 +33,16 @@ size_passes test low (Some format) (Some ext) = not (nat_eq format 1) || test (s
 size_passes test low format ext = true
 
 -- the rules on a size, at its extension: it isn't 0, and not above a limit
-unfoldable pub size_at : ℕ → ℕ → Option ℕ → Option ℕ → ℕ → Of (Unit {0})
+unfoldable pub size_at : ℕ → ℕ → Option ℕ → Option ℕ → ℕ → InUnit (Unit {0})
 size_at low most format ext at = do
   some ← rule (size_passes (λ size. not (nat_eq size 0)) low format ext) Forbidden at
   rule (size_passes (λ size. nat_le size most) low format ext) Unsupported at
 
--- a sequence extension (clause 6.2.2.3) behind its sequence header: progressive_sequence stands 12 bits on,
--- chroma_format 13, horizontal_size_extension 15, vertical_size_extension 17
-unfoldable pub sequence_extension_in : SequenceInfo → Of SequenceExtension
+-- a sequence extension (clause 6.2.2.3) behind its sequence header: chroma_format stands 13 bits on,
+-- horizontal_size_extension 15, vertical_size_extension 17
+unfoldable pub sequence_extension_in : SequenceInfo → InUnit SequenceExtension
 sequence_extension_in info = do
-  at ← place
-  progressive ← look 12 1
-  read ← rule (passes is_read_sequence progressive) Unsupported (at - 12)
+  at ← bits_left
   format ← look 13 2
   horizontal ← look 15 2
   width ← size_at info.horizontal_size 1920 format horizontal (at - 15)
@@ -55,13 +52,9 @@ sequence_extension_in info = do
 
 -- ---- pictures
 
--- a picture header (clause 6.2.3): picture_coding_type stands 10 bits on
-unfoldable pub picture_in : Of PictureInfo
-picture_in = do
-  at ← place
-  kind ← look 10 3
-  read ← rule (passes is_read_type kind) Unsupported (at - 10)
-  renamed of_head picture_at
+-- a picture header (clause 6.2.3)
+unfoldable pub picture_in : InUnit PictureInfo
+picture_in = renamed of_head picture_at
 
 -- an f_code that is used is from 1 to 9 (table 7-7)
 abbrev pub is_f_code : ℕ → Bool
@@ -76,13 +69,13 @@ abbrev pub uses_backward : ℕ → Bool
 uses_backward kind = nat_eq kind 3
 
 -- the rule on an f_code that stands some bits on
-unfoldable pub f_code_at : Bool → ℕ → ℕ → Of (Unit {0})
+unfoldable pub f_code_at : Bool → ℕ → ℕ → InUnit (Unit {0})
 f_code_at used at from = do
   code ← look from 4
   rule (not used || passes is_f_code code) Forbidden (at - from)
 
 -- the rules on the four f_codes
-unfoldable pub f_codes_at : ℕ → ℕ → Of (Unit {0})
+unfoldable pub f_codes_at : ℕ → ℕ → InUnit (Unit {0})
 f_codes_at kind at = do
   concealment ← look 26 1
   forward_horizontal ← f_code_at (uses_forward kind concealment) at 4
@@ -90,28 +83,27 @@ f_codes_at kind at = do
   backward_horizontal ← f_code_at (uses_backward kind) at 12
   f_code_at (uses_backward kind) at 16
 
--- a picture coding extension (clause 6.2.3.1) behind its picture header: picture_structure stands 22 bits on,
--- frame_pred_frame_dct 25, concealment_motion_vectors 26; structure 0 is reserved
-unfoldable pub picture_extension_in : PictureInfo → Of PictureExtension
-picture_extension_in info = do
-  at ← place
+-- structure 0 is reserved, and progressive sequences have no field pictures (clause 6.3.10)
+abbrev pub is_structure : Bool → ℕ → Bool
+is_structure progressive structure = not (nat_eq structure 0) && (not progressive || nat_eq structure 3)
+
+-- a picture coding extension (clause 6.2.3.1) behind its picture header, in a progressive sequence or not:
+-- picture_structure stands 22 bits on
+unfoldable pub picture_extension_in : Bool → PictureInfo → InUnit PictureExtension
+picture_extension_in progressive info = do
+  at ← bits_left
   codes ← f_codes_at info.kind at
   structure ← look 22 2
-  some ← rule (passes (λ s. not (nat_eq s 0)) structure) Forbidden (at - 22)
-  frame ← rule (passes is_read_structure structure) Unsupported (at - 22)
-  prediction ← look 25 1
-  frames ← rule (passes is_read_prediction prediction) Unsupported (at - 25)
-  concealment ← look 26 1
-  unconcealed ← rule (passes is_read_concealment concealment) Unsupported (at - 26)
+  allowed ← rule (passes (is_structure progressive) structure) Forbidden (at - 22)
   renamed of_head picture_extension_at
 
 -- ---- the others
 
-unfoldable pub sequence_in : Of SequenceInfo
+unfoldable pub sequence_in : InUnit SequenceInfo
 sequence_in = renamed of_head sequence_at
 
-unfoldable pub group_in : Of GroupInfo
+unfoldable pub group_in : InUnit GroupInfo
 group_in = renamed of_head group_at
 
-unfoldable pub matrices_in : Of MatrixInfo
+unfoldable pub matrices_in : InUnit MatrixInfo
 matrices_in = renamed of_head matrices_at

@@ -6,8 +6,7 @@ use crate::Sequence;
 use m2v_plane::Dims;
 
 impl Sequence {
-    ghost use Rattle.m2v_model.specs.States.{width_of, height_of, columns_of, rows_of};
-    ghost use Rattle.m2v_model.specs.Pictures.{dims_of};
+    ghost use Rattle.m2v_model.specs.States.{width_of, height_of, columns_of, rows_of, dims_of};
 
     /// The width of its frames in samples (clause 6.3.3): twelve bits of the header, and those of the extension above.
     pub fn width(&self) -> u64
@@ -37,12 +36,16 @@ impl Sequence {
         (self.width() + 15) / 16
     }
 
-    /// How many macroblock rows a frame has (clause 6.3.3).
+    /// How many macroblock rows a frame has (clause 6.3.3): one that isn't progressive has two fields of equal size.
     pub fn rows(&self) -> u64
         ensures value { result ≡ rows_of self.now }
         ensures below { result < 2 ^ 30 }
     {
-        (self.height() + 15) / 16
+        if self.extension.progressive_sequence {
+            (self.height() + 15) / 16
+        } else {
+            2 * ((self.height() + 31) / 32)
+        }
     }
 
     /// The size of its frames, in samples and in macroblocks, where it is one that frames can have.

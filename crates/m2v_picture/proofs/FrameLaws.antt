@@ -1,128 +1,170 @@
--- A row that is painted and put into its frame is the frame painted: what joins slices read row by row to pictures.
-use Rattle.std.proofs.Common.{◌≡◌, ℕ, ◌+◌, ◌*◌, ◌/◌, ◌%◌, ◌<◌, ◌≤◌, Bool, true, false, ◌&&◌, cond, nat_eq, List, [], ◌∷◌, get_or, length, refl, sym, ap, ◌∙◌, arith, inl, inr, eq-eqb, mul_comm}
-use Rattle.std.proofs.lemmas.Bool.{cases_Bool, eqb-true}
-use Rattle.std.proofs.lemmas.Nat.{mod-mul-add, div-mul-add, mod_below}
-use Rattle.std.proofs.Math.Nat.{div-add-mod, div-eq_of_lt, mod-eq_of_lt}
+-- The frames at hand: what is predicted from them, and their sizes.
+use Rattle.std.proofs.Common.{◌≡◌, ℕ, zero, suc, ◌+◌, ◌<◌, Bool, true, false, ◌&&◌, not, nat_eq, List, [], ◌∷◌, refl, sym, ap, ◌∙◌, subst}
+use Rattle.std.specs.Prelude.{Option, Some, None, IsSome, IsTrue, is_some, IfSome, OnOk, Result, Ok, Err, if◌then◌else◌}
 use Rattle.m2v_plane.specs.declared.dims.Dims.{Dims}
-use Rattle.m2v_plane.specs.declared.planes.Lines.TheVariants.{Whole}
 use Rattle.m2v_plane.specs.declared.planes.Plane.{Plane}
-use Rattle.m2v_plane.specs.declared.planes.Plane.TheVariants.{Y, Cb, Cr}
-use Rattle.m2v_plane.specs.Samples.{Samples, HasRows, plane_by, plane_with_row, with_row}
-use Rattle.m2v_plane.proofs.Places.{plane_is}
-use Rattle.m2v_plane.proofs.RawVideo.{length-plane_by, plane_at}
-use Rattle.m2v_recon.specs.Macro.{plane_with, macro_sample, with_macroblock}
-use Rattle.m2v_macro.specs.States.{after}
+use Rattle.m2v_plane.specs.declared.planes.Lines.{Lines}
+use Rattle.m2v_plane.specs.declared.planes.Lines.TheVariants.{Whole, Top, Bottom}
+use Rattle.m2v_plane.specs.Sizes.{lines_of}
+use Rattle.m2v_plane.specs.Samples.{Samples, blank}
+use Rattle.m2v_plane.specs.Fields.{FieldFrames, HoldsLine, lines_there, sample_at, sample_from, or_none}
 use Rattle.m2v_macro.specs.declared.values.SliceState.{SliceState}
-use Rattle.m2v_macro.specs.declared.values.PictureContext.{PictureContext}
-use Rattle.m2v_model.specs.Slices.{Macroblock, kind_for, after_macroblock}
-use Rattle.m2v_model.specs.Pictures.{prediction_of, address_of, painted, all_painted}
-use Rattle.m2v_picture.specs.Rows.{row_painted, all_row_painted, IsRowOf, IsRow, RowInFrame}
+use Rattle.m2v_macroblock.specs.Macroblocks.{Macroblock, after_macroblock}
+use Rattle.m2v_model.specs.declared.setup.SliceSetup.{SliceSetup}
+use Rattle.m2v_model.specs.States.{is_b, dims_of}
+use Rattle.m2v_model.specs.Samples.{References, put_in_frame, skipped_painted, own_painted, painted, all_painted}
+use Rattle.m2v_model.specs.Pictures.{Store, no_references, references_by, picture_begun}
+use Rattle.m2v_model.specs.declared.state.Sequence.{Sequence}
+use Rattle.m2v_model.specs.declared.state.Open.{Open}
+use Rattle.m2v_model.specs.declared.stop.Stop.{Stop}
+use Rattle.m2v_picture.specs.declared.slices.SliceEnd.{SliceEnd}
+use Rattle.m2v_picture.specs.declared.gallery.Reading.{Reading}
+use Rattle.m2v_picture.specs.Reads.{TellsSlice}
+use Rattle.m2v_picture.specs.Conditions.{HoldsDecoded}
+use Rattle.m2v_picture.specs.Frames.{Frames, references_at, references_in, store_of, forward_top, forward_bottom, backward_frame, HaveSize, PaintsSlice}
 
--- ---- planes
+-- ---- what views show and hold
 
--- planes of the same samples
-plane_same : (lines columns : ℕ) (f g : ℕ → ℕ → ℕ) → ((r c : ℕ) → r < lines → c < columns → f r c ≡ g r c) → plane_by lines columns f ≡ plane_by lines columns g
-plane_same lines columns f g same =
-    plane_is (plane_by lines columns f) lines columns g (length-plane_by lines columns f) (λ r c lt small. plane_at lines columns f r c lt small ∙ same r c lt small)
+abbrev pub shown : Option Samples → Option Samples → Plane → Lines → ℕ → ℕ → ℕ
+shown top bottom = sample_from (record { top = or_none top; bottom = or_none bottom })
 
--- a row of a plane, put back, changes nothing
-row_kept : (lines columns side row : ℕ) (old new : List ℕ) → 0 < side → length old ≡ lines * columns → IsRowOf columns side row new old
-    → plane_with_row lines columns side Whole row old new ≡ old
-unfolding plane_with_row
-row_kept lines columns side row old new some len is =
-    sym (plane_is old lines columns _ len (λ r c lt small. elim (cases_Bool (nat_eq (r / side) row)) [
-      | inl e ↦
-          let at : r / side ≡ row = eqb-true (r / side) row e in
-          let split : row * side + r % side ≡ r = omega (arith, div-add-mod r side, mul_comm side (r / side), ap (λ x. x * side) at) in
-          rw e (sym (is (r % side) c (mod_below r side some) small ∙ ap (λ x. get_or old (x * columns + c) 0) split))
-      | inr e ↦ rw e refl
-    ]))
+abbrev pub both_shown : Option Samples → Option Samples → Option Samples → References
+both_shown top bottom back = record { forward = shown top bottom; backward = shown back back }
 
--- what a macroblock of the row changes is put over by the row
-row_over : (lines columns side row column : ℕ) (f : ℕ → ℕ → ℕ) (old new : List ℕ)
-    → plane_with_row lines columns side Whole row (plane_with lines columns side row column f old) new ≡ plane_with_row lines columns side Whole row old new
-unfolding plane_with_row plane_with
-row_over lines columns side row column f old new =
-    plane_same lines columns _ _ (λ r c lt small. elim (cases_Bool (nat_eq (r / side) row)) [
-      | inl e ↦ rw e refl
-      | inr e ↦ rw e (plane_at lines columns (λ line c. cond (nat_eq (line / side) row && nat_eq (c / side) column) (f (line % side) (c % side)) (get_or old (line * columns + c) 0)) r c lt small ∙ rw e refl)
-    ])
+abbrev told : Bool → Bool → Bool → Option Samples → Option Samples → Option Samples → References
+told b second top older newer first =
+    if b then both_shown older older newer
+    else if second then (if top then both_shown newer first None else both_shown first newer None)
+    else both_shown newer newer None
 
--- a macroblock in a row and in its frame
-row_with : (lines columns side row column : ℕ) (f : ℕ → ℕ → ℕ) (old new : List ℕ) → 0 < side → row * side + side ≤ lines → IsRowOf columns side row new old
-    → IsRowOf columns side row (plane_with side columns side 0 column f new) (plane_with lines columns side row column f old)
-unfolding plane_with
-row_with lines columns side row column f old new some fits is r c lt small =
-    let none : r / side ≡ 0 = div-eq_of_lt lt in
-    let itself : r % side ≡ r = mod-eq_of_lt lt in
-    let whole = div-mul-add row side r lt in
-    let rest = mod-mul-add row side r lt in
-    let left = plane_at side columns (λ line c. cond (nat_eq (line / side) 0 && nat_eq (c / side) column) (f (line % side) (c % side)) (get_or new (line * columns + c) 0)) r c lt small in
-    let right = plane_at lines columns (λ line c. cond (nat_eq (line / side) row && nat_eq (c / side) column) (f (line % side) (c % side)) (get_or old (line * columns + c) 0)) (row * side + r) c (omega arith) small in
-    left
-    ∙ by_case (nat_eq (r / side) 0) (nat_eq ((row * side + r) / side) row) (nat_eq (c / side) column) (eq-eqb (r / side) 0 none) (eq-eqb ((row * side + r) / side) row whole)
-    (ap (λ x. f x (c % side)) (itself ∙ sym rest)) (is r c lt small)
-    ∙ sym right
-  where
-    by_case : (a b d : Bool) → a ≡ true → b ≡ true → {x y z w : ℕ} → x ≡ y → z ≡ w → cond (a && d) x z ≡ cond (b && d) y w
-    by_case a b true ea eb same old = rw (ea, eb) same
-    by_case a b false ea eb same old = rw (ea, eb) old
+abbrev placed : Bool → Bool → Bool → Option Samples → Option Samples → Option Samples → References
+placed b second top older newer first =
+    both_shown (if b then older else if second && not top then first else newer) (if b then older else if second && top then first else newer) (if b then newer else None)
 
--- ---- frames
+told_placed : (b second top : Bool) (older newer first : Option Samples) → told b second top older newer first ≡ placed b second top older newer first
+told_placed true second top older newer first = refl
+told_placed false true true older newer first = refl
+told_placed false true false older newer first = refl
+told_placed false false top older newer first = refl
 
-samples_eq : (d : Dims) (a b e p q s : List ℕ) → a ≡ p → b ≡ q → e ≡ s
-    → record { dims = d; luma = a; cb = b; cr = e } ≡ (let z : Samples = record { dims = d; luma = p; cb = q; cr = s } in z)
-samples_eq d a b e p q s x y z = rw (x, y, z) refl
+by_told : (r : Reading) (older newer first : Option Samples) (b second top : Bool) → is_b r.kind ≡ b → r.second_field ≡ second → nat_eq r.structure 1 ≡ top
+    → references_at (Some r) older newer first ≡ told b second top older newer first
+unfolding references_by
+by_told r older newer first true second top eb es et = rw eb refl
+by_told r older newer first false true true eb es et = rw (eb, es, et) refl
+by_told r older newer first false true false eb es et = rw (eb, es, et) refl
+by_told r older newer first false false top eb es et = rw (eb, es) refl
 
--- a row that is put back changes nothing
-frame_kept : (frame : Samples) (row : ℕ) (now : Samples) → HasRows frame frame.dims.mb_rows → IsRow frame row now → with_row frame Whole row now ≡ frame
-frame_kept frame row now whole is =
-    samples_eq frame.dims _ _ _ frame.luma frame.cb frame.cr
-    (row_kept _ _ 16 row frame.luma now.luma (omega arith) whole.luma is.luma)
-    (row_kept _ _ 8 row frame.cb now.cb (omega arith) whole.cb is.cb)
-    (row_kept _ _ 8 row frame.cr now.cr (omega arith) whole.cr is.cr)
+-- the references are what views of these frames show
+pub references_are : (r : Option Reading) (older newer first : Option Samples) → references_at r older newer first
+    ≡ both_shown (forward_top r older newer first) (forward_bottom r older newer first) (backward_frame r newer)
+references_are None older newer first = refl
+references_are (Some r) older newer first =
+    by_told r older newer first (is_b r.kind) r.second_field (nat_eq r.structure 1) refl refl refl
+    ∙ told_placed (is_b r.kind) r.second_field (nat_eq r.structure 1) older newer first
 
-frame_over : (frame : Samples) (row column : ℕ) (f : Plane → ℕ → ℕ → ℕ) (now : Samples)
-    → with_row (with_macroblock frame.dims.mb_rows row column f frame) Whole row now ≡ with_row frame Whole row now
-frame_over frame row column f now =
-    samples_eq frame.dims _ _ _ _ _ _
-    (row_over _ _ 16 row column (f Y) frame.luma now.luma)
-    (row_over _ _ 8 row column (f Cb) frame.cb now.cb)
-    (row_over _ _ 8 row column (f Cr) frame.cr now.cr)
+there_more : (a b c d : Bool) (which : Lines) → (a ≡ true → c ≡ true) → (b ≡ true → d ≡ true) → lines_there a b which ≡ true → lines_there c d which ≡ true
+unfolding lines_there
+there_more true true c d Whole ac bd h = rw (ac refl, bd refl) refl
+there_more true false c d Whole ac bd h = absurd cc
+there_more false b c d Whole ac bd h = absurd cc
+there_more a b c d Top ac bd h = ac h
+there_more a b c d Bottom ac bd h = bd h
 
-frame_with : (frame : Samples) (row column : ℕ) (f : Plane → ℕ → ℕ → ℕ) (now : Samples) → row < frame.dims.mb_rows → IsRow frame row now
-    → IsRow (with_macroblock frame.dims.mb_rows row column f frame) row (with_macroblock 1 0 column f now)
-frame_with frame row column f now below is = record {
-  dims = is.dims;
-  luma = rw is.dims (row_with _ _ 16 row column (f Y) frame.luma now.luma (omega arith) (omega arith) is.luma);
-  cb = rw is.dims (row_with _ _ 8 row column (f Cb) frame.cb now.cb (omega arith) (omega arith) is.cb);
-  cr = rw is.dims (row_with _ _ 8 row column (f Cr) frame.cr now.cr (omega arith) (omega arith) is.cr);
+some_is : {A : Type 0} (o : Option A) → IsSome o → is_some o ≡ true
+some_is (Some x) h = refl
+some_is None h = absurd cc
+
+-- a view whose fields are there where they were decoded holds what is read
+pub view_holds : (s : SliceSetup) (v : FieldFrames) (top bottom : Bool) → v.dims ≡ s.dims → (top ≡ true → IsSome v.top) → (bottom ≡ true → IsSome v.bottom) → HoldsDecoded s v.dims (HoldsLine v) top bottom
+view_holds s v top bottom size has_top has_bottom = record {
+  size_is = size;
+  lines = λ plane which line there lt. (
+    there_more top bottom (is_some v.top) (is_some v.bottom) which (λ e. some_is v.top (has_top e)) (λ e. some_is v.bottom (has_bottom e)) there,
+    subst (λ (d : Dims). line < lines_of d plane which) (sym size) lt,
+  );
 }
 
--- a frame keeps its rows
-frame_whole : (frame : Samples) (row column : ℕ) (f : Plane → ℕ → ℕ → ℕ) → HasRows (with_macroblock frame.dims.mb_rows row column f frame) frame.dims.mb_rows
-unfolding plane_with
-frame_whole frame row column f = record {
-  luma = length-plane_by (16 * frame.dims.mb_rows) (16 * frame.dims.mb_width) _;
-  cb = length-plane_by (8 * frame.dims.mb_rows) (8 * frame.dims.mb_width) _;
-  cr = length-plane_by (8 * frame.dims.mb_rows) (8 * frame.dims.mb_width) _;
+-- ---- sizes
+
+skipped_size : (s : SliceSetup) (refs : References) (st : SliceState) (at n : ℕ) (now : Samples) → (skipped_painted put_in_frame s refs st at n now).dims ≡ now.dims
+unfolding skipped_painted
+skipped_size s refs st at zero now = refl
+skipped_size s refs st at (suc n) now = skipped_size s refs st (at + 1) n _
+
+-- painting keeps a frame's size
+pub painted_size : (s : SliceSetup) (refs : References) (st : SliceState) (xs : List Macroblock) (now : Samples) → (all_painted put_in_frame s refs st xs now).dims ≡ now.dims
+unfolding all_painted painted own_painted
+painted_size s refs st [] now = refl
+painted_size s refs st (x ∷ xs) now = painted_size s refs (after_macroblock s.context st x) xs (painted put_in_frame s refs st x now) ∙ skipped_size s refs st _ _ now
+
+-- ---- a slice that was read
+
+pub slice_told : (s : SliceSetup) (covered row : ℕ) (old new : List Bool) (f : Frames) (frame out : Samples) (refs : References) (result : Result SliceEnd Stop) → references_in f ≡ refs → f.current ≡ Some frame
+    → TellsSlice put_in_frame s refs covered row old frame result new out → PaintsSlice s covered row old f result new (record f { current = Some out })
+slice_told s covered row old new f frame out refs (Ok end) are is told = (
+  told.0,
+  told.1,
+  told.2,
+  told.3,
+  rw (are, is) (ap (λ (z : Samples). record f { current = Some z }) told.4),
+)
+slice_told s covered row old new f frame out refs (Err e) are is told = told
+
+same_size : (o : Option Samples) (frame : Samples) (d : Dims) → o ≡ Some frame → IfSome o (λ s. s.dims ≡ d) → frame.dims ≡ d
+same_size o frame d e h = rw e at h
+
+pub slice_size : (s : SliceSetup) (covered row : ℕ) (old new : List Bool) (f : Frames) (frame out : Samples) (refs : References) (result : Result SliceEnd Stop) (d : Dims) → HaveSize d f → f.current ≡ Some frame
+    → TellsSlice put_in_frame s refs covered row old frame result new out → OnOk result (HaveSize d (record f { current = Some out }))
+slice_size s covered row old new f frame out refs (Ok end) d h is told = record {
+  older = h.older;
+  newer = h.newer;
+  current = ap (λ (z : Samples). z.dims) told.4 ∙ painted_size s refs _ _ frame ∙ same_size f.current frame d is h.current;
+  first_field = h.first_field;
 }
+slice_size s covered row old new f frame out refs (Err e) d h is told = tt
 
--- the samples of a macroblock, wherever it stands
-abbrev samples_for : PictureContext → SliceState → Macroblock → Plane → ℕ → ℕ → ℕ
-samples_for c st x =
-    macro_sample (prediction_of c x) x.levels x.syntax.pattern (kind_for c x.syntax.kind.intra true (after c st x.syntax).quantiser) (kind_for c x.syntax.kind.intra false (after c st x.syntax).quantiser) x.syntax.dct_field
+-- ---- a picture that begins
 
--- the macroblocks of a row, painted into it and put into the frame, are those painted into the frame
-pub row_in_frame : RowInFrame
-unfolding all_row_painted all_painted row_painted painted
-row_in_frame c row st [] frame now whole below is inside = frame_kept frame row now whole is
-row_in_frame c row st (x ∷ xs) frame now whole below is inside =
-    let column = address_of c st x % c.columns in
-    let f = samples_for c st x in
-    let later = after_macroblock c st x in
-    let then : Samples = with_macroblock frame.dims.mb_rows row column f frame in
-    let rest : Samples = with_macroblock 1 0 column f now in
-    sym (frame_over frame row column f (all_row_painted c later xs rest))
-    ∙ row_in_frame c row later xs then rest (frame_whole frame row column f) below (frame_with frame row column f now below is) inside.1
-    ∙ sym (ap (λ r. all_painted c frame.dims.mb_rows later xs (with_macroblock frame.dims.mb_rows r column f frame)) inside.0)
+-- only a second field looks at the frame of its first field
+references_alike : (b : Bool) (kind structure : ℕ) (older newer first current : Option Samples) (refs : References) → is_b kind ≡ b
+    → references_by kind false structure (record { older = older; newer = newer; current = first; references = no_references })
+    ≡ references_by kind false structure (record { older = older; newer = newer; current = current; references = refs })
+unfolding references_by
+references_alike true kind structure older newer first current refs e = rw e refl
+references_alike false kind structure older newer first current refs e = rw e refl
+
+second_alike : (b top : Bool) (kind structure : ℕ) (older newer current : Option Samples) (refs : References) → is_b kind ≡ b → nat_eq structure 1 ≡ top
+    → references_by kind true structure (record { older = older; newer = newer; current = current; references = no_references })
+    ≡ references_by kind true structure (record { older = older; newer = newer; current = current; references = refs })
+unfolding references_by
+second_alike true top kind structure older newer current refs e t = rw e refl
+second_alike false true kind structure older newer current refs e t = rw (e, t) refl
+second_alike false false kind structure older newer current refs e t = rw (e, t) refl
+
+pub frame_begun : (s : Sequence) (p : Open) (f g : Frames) → p.slices_unread ≡ false → p.second_field ≡ false
+    → g ≡ record f { current = Some (blank (dims_of s) (dims_of s).mb_rows); reading = Some (record { kind = p.info.kind; second_field = p.second_field; structure = p.extension.structure }) }
+    → store_of g ≡ picture_begun (Some s) p (store_of f)
+frame_begun s p f g read first is =
+    ap store_of is ∙ rw (read, first) (λ i. record {
+      older = f.older;
+      newer = f.newer;
+      current = Some (blank (dims_of s) (dims_of s).mb_rows);
+      references = references_alike (is_b p.info.kind) p.info.kind p.extension.structure f.older f.newer f.first_field f.current (references_in f) refl i;
+    })
+
+pub second_begun : (s : Sequence) (p : Open) (f g : Frames) → p.slices_unread ≡ false → p.second_field ≡ true
+    → g ≡ record f { first_field = f.current; reading = Some (record { kind = p.info.kind; second_field = p.second_field; structure = p.extension.structure }) }
+    → store_of g ≡ picture_begun (Some s) p (store_of f)
+second_begun s p f g read second is =
+    ap store_of is ∙ rw (read, second) (λ i. record {
+      older = f.older;
+      newer = f.newer;
+      current = f.current;
+      references = second_alike (is_b p.info.kind) (nat_eq p.extension.structure 1) p.info.kind p.extension.structure f.older f.newer f.current (references_in f) refl refl i;
+    })
+
+-- a step that may fail
+pub on_ok_then : {E : Type 0} {P Q : Type 0} (r : Result (Unit {0}) E) → OnOk r P → (P → Q) → OnOk r Q
+on_ok_then (Ok x) p f = f p
+on_ok_then (Err e) p f = tt

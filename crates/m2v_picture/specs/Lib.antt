@@ -1,3 +1,3 @@
-pub mod Rows
 pub mod Conditions
 pub mod Reads
+pub mod Frames

@@ -1,25 +1,26 @@
 -- What the readers of a slice answer: what reading gives, and the samples of the tree.
-use Rattle.std.specs.Prelude.{◌≡◌, ℕ, ℤ, Bool, not, List, [], Result, Ok, Err}
+use Rattle.std.specs.Prelude.{◌≡◌, ◌⊎◌, ℕ, ◌-◌, ℤ, Bool, true, false, not, List, [], length, filter, Result, Ok, Err}
 use Rattle.m2v_bits.specs.Bits.{all_zero}
 use Rattle.m2v_plane.specs.Samples.{Samples}
 use Rattle.m2v_quant.specs.declared.kind.Levels.{Levels}
 use Rattle.m2v_recon.specs.Steps.{levels_of}
 use Rattle.m2v_macro.specs.declared.values.MacroSyntax.{MacroSyntax}
 use Rattle.m2v_macro.specs.declared.values.SliceState.{SliceState}
-use Rattle.m2v_macro.specs.declared.values.PictureContext.{PictureContext}
 use Rattle.m2v_macro.specs.Reading.{kept}
+use Rattle.m2v_macroblock.specs.Macroblocks.{Macroblock, macroblock_of, after_macroblock}
+use Rattle.m2v_macroblock.specs.Predictions.{View}
 use Rattle.m2v_model.specs.declared.fault.FaultKind.{FaultKind}
-use Rattle.m2v_model.specs.declared.state.Sequence.{Sequence}
-use Rattle.m2v_model.specs.declared.state.Open.{Open}
-use Rattle.m2v_model.specs.declared.state.State.{State}
-use Rattle.m2v_model.specs.Slices.{Macroblock, Row, Slice, macroblock_at, macroblocks_at, after_macroblock, context, slice_start, slice_at}
-use Rattle.m2v_picture.specs.declared.stop.Stop.{Stop}
-use Rattle.m2v_picture.specs.Rows.{row_painted, all_row_painted, AllInRow}
+use Rattle.m2v_model.specs.declared.fault.FaultKind.TheVariants.{VectorOutside, MissingReference}
+use Rattle.m2v_model.specs.declared.setup.SliceSetup.{SliceSetup}
+use Rattle.m2v_model.specs.Modes.{all_inside, references_decoded}
+use Rattle.m2v_model.specs.Samples.{References, Put, painted, all_painted}
+use Rattle.m2v_model.specs.Slices.{Row, Slice, macroblock_at, macroblocks_at, slice_start, slice_at, is_large, large_in}
+use Rattle.m2v_model.specs.declared.stop.Stop.{Stop}
+use Rattle.m2v_picture.specs.declared.macroblocks.Located.{Located}
+use Rattle.m2v_picture.specs.declared.macroblocks.Round.{Round}
+use Rattle.m2v_picture.specs.declared.slices.SliceEnd.{SliceEnd}
 
--- the value that stands there, or the fault and its place
-abbrev pub Tells : {V : Type 0} → Result V Stop → List Bool → Result (V × List Bool) (FaultKind × ℕ) → Type 0
-Tells (Ok v) rest read = read ≡ Ok (v, rest)
-Tells (Err e) rest read = read ≡ Err (e.kind, e.left)
+-- ---- levels
 
 -- an increment as the program keeps it
 abbrev pub TellsSum : Result ℕ Stop → Result (ℕ × List Bool) (FaultKind × ℕ) → Type 0
@@ -36,31 +37,44 @@ abbrev pub TellsBlocks : Result (Unit {0}) Stop → List Levels → List Bool �
 TellsBlocks (Ok _) levels rest read = read ≡ Ok (levels_of levels, rest)
 TellsBlocks (Err e) levels rest read = read ≡ Err (e.kind, e.left)
 
--- a macroblock and the levels of its blocks
-abbrev pub macroblock_of : MacroSyntax → List Levels → Macroblock
-macroblock_of m levels = record { syntax = m; levels = levels_of levels }
+-- ---- macroblocks
 
-abbrev pub TellsMacroblock : Result MacroSyntax Stop → List Levels → List Bool → Result (Macroblock × List Bool) (FaultKind × ℕ) → Type 0
-TellsMacroblock (Ok m) levels rest read = read ≡ Ok (macroblock_of m levels, rest)
+-- the rule on what a macroblock and those skipped before it are predicted from that is broken: that they read inside
+-- their references comes first
+abbrev pub Breaks : SliceSetup → SliceState → MacroSyntax → ℕ → Stop → Type 0
+Breaks s st m left e =
+    ((all_inside s st m ≡ false) × (e ≡ record { kind = VectorOutside; left = left }))
+    ⊎ ((all_inside s st m ≡ true) × (references_decoded s st m ≡ false) × (e ≡ record { kind = MissingReference; left = left }))
+
+-- a macroblock and the levels of its blocks
+abbrev pub TellsMacroblock : Result Located Stop → List Levels → List Bool → Result (Macroblock × List Bool) (FaultKind × ℕ) → Type 0
+TellsMacroblock (Ok x) levels rest read = read ≡ Ok (macroblock_of x.syntax levels, rest)
 TellsMacroblock (Err e) levels rest read = read ≡ Err (e.kind, e.left)
 
--- one macroblock was read and painted; whether another follows, and the state
-abbrev pub Round : PictureContext → SliceState → List Bool → Samples → Result Bool Stop → SliceState → List Bool → Samples → Type 0
-Round c st old before (Ok more) z new now =
-    (x : Macroblock) × ((macroblock_at c st).read old ≡ Ok (x, new)) × (not (all_zero new) ≡ more) × (z ≡ after_macroblock c st x) × (now ≡ row_painted c st x before)
-Round c st old before (Err e) z new now = (macroblock_at c st).read old ≡ Err (e.kind, e.left)
+-- what a picture is predicted from, as the views show it
+abbrev pub seen_by : View → View → References
+seen_by forward backward = record { forward = forward; backward = backward }
 
--- the macroblocks of a slice
-abbrev pub Macroblocks : PictureContext → ℕ → SliceState → List Bool → Samples → Result SliceState Stop → List Bool → Samples → Type 0
-Macroblocks c row st old before (Ok z) new now =
-    (s : Row) × ((macroblocks_at c (record { state = st; macroblocks = [] })).read old ≡ Ok (s, new)) × (z ≡ s.state)
-    × (now ≡ all_row_painted c st s.macroblocks before) × AllInRow c row st s.macroblocks
-Macroblocks c row st old before (Err e) new now = (macroblocks_at c (record { state = st; macroblocks = [] })).read old ≡ Err (e.kind, e.left)
+-- One macroblock was read and put, with those skipped before it: whether another follows, whether it is large, and the
+-- state.
+abbrev pub TellsRound : Put → SliceSetup → References → SliceState → List Bool → Samples → Result Round Stop → SliceState → List Bool → Samples → Type 0
+TellsRound put s refs st old before (Ok r) z new now =
+    (x : Macroblock) × ((macroblock_at s st).read old ≡ Ok (x, new)) × (not (all_zero new) ≡ r.more) × (is_large (length old - length new) ≡ r.large)
+    × (z ≡ after_macroblock s.context st x) × (now ≡ painted put s refs st x before)
+TellsRound put s refs st old before (Err e) z new now = (macroblock_at s st).read old ≡ Err (e.kind, e.left)
 
--- a slice of a row: the address behind its last macroblock, and its samples in the row
-abbrev pub TellsSlice : State → Sequence → Open → ℕ → List Bool → Samples → Result ℕ Stop → List Bool → Samples → Type 0
-TellsSlice st s p row old before (Ok covered) new now =
-    (x : Slice) × ((slice_at st s p row).read old ≡ Ok (x, new)) × (covered ≡ x.covered)
-    × (now ≡ all_row_painted (context st s p) (slice_start (context st s p) row p.covered x.info.quantiser) x.macroblocks before)
-    × AllInRow (context st s p) row (slice_start (context st s p) row p.covered x.info.quantiser) x.macroblocks
-TellsSlice st s p row old before (Err e) new now = (slice_at st s p row).read old ≡ Err (e.kind, e.left)
+-- ---- slices
+
+-- the macroblocks of a slice: the state behind the last one, and how many are large
+abbrev pub TellsRow : Put → SliceSetup → References → SliceState → List Bool → Samples → Result (SliceState × ℕ) Stop → List Bool → Samples → Type 0
+TellsRow put s refs st old before (Ok z) new now =
+    (r : Row) × ((macroblocks_at s (record { state = st; macroblocks = []; bits = [] })).read old ≡ Ok (r, new)) × (z.0 ≡ r.state)
+    × (z.1 ≡ length (filter is_large r.bits)) × (now ≡ all_painted put s refs st r.macroblocks before)
+TellsRow put s refs st old before (Err e) new now = (macroblocks_at s (record { state = st; macroblocks = []; bits = [] })).read old ≡ Err (e.kind, e.left)
+
+-- a slice of a row: the address behind its last macroblock, how many of them are large, and its samples
+abbrev pub TellsSlice : Put → SliceSetup → References → ℕ → ℕ → List Bool → Samples → Result SliceEnd Stop → List Bool → Samples → Type 0
+TellsSlice put s refs covered row old before (Ok end) new now =
+    (x : Slice) × ((slice_at s covered row).read old ≡ Ok (x, new)) × (end.covered ≡ x.covered) × (end.large ≡ large_in x)
+    × (now ≡ all_painted put s refs (slice_start s.context row covered x.info.quantiser) x.macroblocks before)
+TellsSlice put s refs covered row old before (Err e) new now = (slice_at s covered row).read old ≡ Err (e.kind, e.left)

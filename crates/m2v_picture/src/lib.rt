@@ -1,18 +1,24 @@
-//! The slices of I pictures, read and painted (clauses 6.2.4, 7.2 and 7.6.8 of ISO/IEC 13818-2): a slice header, and
-//! macroblocks with their blocks until the rest of the unit is zero, each written into its macroblock row.
+//! The slices of pictures, read and painted (clauses 6.2.4, 7.2 and 7.6 of ISO/IEC 13818-2): a slice header, and macroblocks
+//! with their blocks until the rest of the unit is zero, each predicted from references, rebuilt and put into a frame or
+//! into a macroblock row; and the frames at hand while pictures are decoded, into which slices are painted.
 #![tactic(auto)]
 
 mod blocks;
+mod gallery;
+mod gap;
 mod increments;
-mod laws;
 mod macroblocks;
 mod paint;
+mod prediction;
+mod rules;
+mod scratch;
 mod slices;
-mod state;
-mod stop;
-#[cfg(test)]
-mod tests;
+mod target;
 
-pub use laws::law_row_in_frame;
-pub use slices::read_slice;
-pub use stop::{Stop, of_block, of_head, of_macro, stopped};
+pub use gallery::{Gallery, Reading};
+pub use scratch::Scratch;
+pub use slices::{SliceEnd, read_slice};
+pub use target::Target;
+
+/// Want of memory.
+pub type Memory = std::alloc::AllocError;

@@ -1,21 +1,56 @@
-ghost use Rattle.std.specs.Prelude.{◌≡◌, ◌≤◌, All, IfOk, OnOk, IfErr, length, true};
+ghost use Rattle.std.specs.Prelude.{◌≡◌, ◌<◌, ◌≤◌, ◌+◌, ◌*◌, ℕ, All, IfOk, OnOk, IfErr, length, true, pos, ◌+ℤ◌, ◌<ℤ◌};
 ghost use Rattle.m2v_bits.specs.Syntax.{renamed};
 ghost use Rattle.m2v_quant.specs.Kinds.{IsLevel};
+ghost use Rattle.m2v_pred.specs.declared.mode.MbPlace.{MbPlace as MbPlaceOf};
 ghost use Rattle.m2v_macro.specs.Macros.{macro_at};
 ghost use Rattle.m2v_macro.specs.States.{after};
+ghost use Rattle.m2v_macro.specs.Conditions.{IsMacro};
 ghost use Rattle.m2v_model.specs.Faults as faults;
 ghost use Rattle.m2v_model.specs.Slices.{macroblock_at};
-ghost use Rattle.m2v_picture.specs.Conditions.{IsPicture, IsState, AreDc, IsInside, last_dc};
-ghost use Rattle.m2v_picture.specs.Reads.{Tells, TellsMacroblock, Round, Macroblocks};
+ghost use Rattle.m2v_model.specs.Stops.{Tells};
+ghost use Rattle.m2v_picture.specs.Conditions.{IsPicture, IsSetup, IsState, AreDc, LiesInRow, rows_in, place_in, HoldsForward, HoldsBackward, CanPaint, IsColumn, IsGap, last_dc};
+ghost use Rattle.m2v_picture.specs.Reads.{TellsMacroblock, TellsRound, TellsRow, seen_by};
 
 use crate::blocks::blocks;
-use crate::paint::paint;
-use crate::stop::{Stop, of_macro, stopped};
+use crate::gap::{Gap, column, gap_before};
+use crate::paint::{paint_gap, paint_own};
+use crate::rules::check;
+use crate::scratch::Scratch;
+use crate::target::Target;
 use m2v_bits::BitReader;
 use m2v_macro::{MacroSyntax, PictureContext, SliceState, read_macro};
 use m2v_macroblock::dc_after;
-use m2v_plane::RowSamples;
+use m2v_model::{SliceSetup, Stop, of_macro, stopped};
+use m2v_plane::RefView;
 use m2v_quant::Levels;
+
+/// A macroblock that was read, and where it stands in its row.
+#[derive(Clone, Copy, Debug, PartialEq, Eq)]
+pub struct Located {
+    pub syntax: MacroSyntax,
+    pub column: u32,
+    pub gap: Gap,
+}
+
+/// What is told of a macroblock beside its samples.
+#[derive(Clone, Copy, Debug, PartialEq, Eq)]
+pub struct Round {
+    /// Another macroblock follows.
+    pub more: bool,
+    /// It has more than 4,608 bits.
+    pub large: bool,
+}
+
+/// How many bits are left.
+#[inline(always)]
+fn bits_left(input: &BitReader) -> u64
+    ensures value { result ≡ length input.now.rest }
+    ensures within { result ≤ length input.now.text }
+{
+    // what is left is not more than the whole text
+    let _place = input.place();
+    input.left()
+}
 
 /// A macroblock's elements up to its pattern, and the state behind them.
 #[tactic(auto, unfolding(m2v_bits::specs::Syntax::renamed))]
@@ -30,9 +65,10 @@ fn elements(
     ensures exact { Tells result input.new.rest ((renamed faults.of_macro (macro_at c.now state.old)).read input.old.rest) }
     ensures text { input.new.text ≡ input.old.text }
     ensures left { IfErr result (λ e. e.left ≤ length input.old.text) }
+    ensures fits { IfOk result (λ m. IsMacro c.now state.old m) }
     ensures state { IfOk result (λ m. state.new ≡ after c.now state.old m) }
     ensures inside { IfOk result (λ m. IsState c.now row state.new) }
-    ensures place { IfOk result (λ m. IsInside c.now row state.new.address) }
+    ensures place { IfOk result (λ m. LiesInRow c.now row state.new.address) }
 {
     match read_macro(input, c, state) {
         Ok(m) => Ok(m),
@@ -41,77 +77,132 @@ fn elements(
 }
 
 /// A macroblock with the levels of its blocks. The state is that behind its elements.
-#[tactic(auto, unfolding(m2v_model::specs::Slices::macroblock_at, m2v_bits::specs::Syntax::seq, m2v_bits::specs::Syntax::bind, m2v_bits::specs::Syntax::done))]
+#[tactic(auto, unfolding(m2v_model::specs::Slices::macroblock_at, m2v_bits::specs::Syntax::here, m2v_bits::specs::Syntax::rule, m2v_bits::specs::Syntax::seq, m2v_bits::specs::Syntax::bind, m2v_bits::specs::Syntax::done))]
 fn macroblock(
     input: &mut BitReader,
-    c: &PictureContext,
+    s: &SliceSetup,
     row: u32,
     state: &mut SliceState,
     levels: &mut [Levels; 6],
-) -> Result<MacroSyntax, Stop>
-    requires picture { IsPicture c.now }
-    requires state { IsState c.now row state.old }
-    ensures exact { TellsMacroblock result levels.new input.new.rest ((macroblock_at c.now state.old).read input.old.rest) }
+) -> Result<Located, Stop>
+    requires setup { IsSetup s.now }
+    requires row { row < rows_in s.now }
+    requires state { IsState s.now.context row state.old }
+    ensures exact { TellsMacroblock result levels.new input.new.rest ((macroblock_at s.now state.old).read input.old.rest) }
     ensures text { input.new.text ≡ input.old.text }
     ensures left { IfErr result (λ e. e.left ≤ length input.old.text) }
-    ensures state { IfOk result (λ m. state.new ≡ after c.now state.old m) }
-    ensures inside { IfOk result (λ m. IsState c.now row state.new) }
-    ensures place { IfOk result (λ m. IsInside c.now row state.new.address) }
+    ensures can { IfOk result (λ x. CanPaint s.now state.old x.syntax) }
+    ensures gap { IfOk result (λ x. IsGap s.now.context row state.old x.syntax x.gap) }
+    ensures column { IfOk result (λ x. IsColumn s.now.context row state.old x.syntax x.column) }
+    ensures state { IfOk result (λ x. state.new ≡ after s.now.context state.old x.syntax) }
+    ensures inside { IfOk result (λ x. IsState s.now.context row state.new) }
+    ensures place { IfOk result (λ x. LiesInRow s.now.context row state.new.address) }
     ensures levels { OnOk result (All (λ l. All IsLevel l.at) levels.new) }
-    ensures dc { IfOk result (λ m. m.kind.intra ≡ true → AreDc c.now.extension.dc_precision (last_dc levels.new)) }
+    ensures dc { IfOk result (λ x. x.syntax.kind.intra ≡ true → AreDc s.now.context.extension.dc_precision (last_dc levels.new)) }
 {
-    let m = elements(input, c, row, state)?;
-    blocks(input, c, &m, state, levels)?;
-    Ok(m)
+    let before = *state;
+    let left = bits_left(input);
+    let syntax = elements(input, &s.context, row, state)?;
+    let gap = gap_before(&s.context, row, &before, &syntax);
+    let column = column(&s.context, row, state);
+    check(s, row, column, gap, &before, &syntax, left)?;
+    blocks(input, &s.context, &syntax, state, levels)?;
+    Ok(Located {
+        syntax,
+        column,
+        gap,
+    })
 }
 
-/// One macroblock, written into the row: whether another follows, and the state behind it.
-#[tactic(auto, unfolding(crate::specs::Rows::row_painted, m2v_macroblock::specs::Macroblocks::after_macroblock))]
-fn round(
+/// One macroblock, put with those skipped before it.
+#[tactic(auto, unfolding(m2v_model::specs::Samples::painted, m2v_macroblock::specs::Macroblocks::after_macroblock))]
+fn next_macroblock<V: RefView, T: Target>(
     input: &mut BitReader,
-    c: &PictureContext,
+    s: &SliceSetup,
     row: u32,
     state: &mut SliceState,
-    out: &mut RowSamples,
-) -> Result<bool, Stop>
-    requires picture { IsPicture c.now }
-    requires state { IsState c.now row state.old }
-    requires columns { out.old.dims.mb_width ≡ c.now.columns }
-    ensures exact { Round c.now state.old input.old.rest out.old result state.new input.new.rest out.new }
+    forward: &V,
+    backward: &V,
+    scratch: &mut Scratch,
+    out: &mut T,
+) -> Result<Round, Stop>
+    requires setup { IsSetup s.now }
+    requires row { row < rows_in s.now }
+    requires state { IsState s.now.context row state.old }
+    requires forward { HoldsForward s.now (V.size forward.now) (V.Holds forward.now) }
+    requires backward { HoldsBackward s.now (V.size backward.now) (V.Holds backward.now) }
+    requires takes { (column : ℕ) → column < s.now.context.columns → T.Takes out.old (place_in s.now row column) }
+    ensures exact { TellsRound T.placed s.now (seen_by (V.at forward.now) (V.at backward.now)) state.old input.old.rest (T.samples out.old)
+        result state.new input.new.rest (T.samples out.new) }
     ensures text { input.new.text ≡ input.old.text }
     ensures left { IfErr result (λ e. e.left ≤ length input.old.text) }
-    ensures state { IfOk result (λ more. IsState c.now row state.new) }
-    ensures place { IfOk result (λ more. IsInside c.now row state.new.address) }
-    ensures dims { out.new.dims ≡ out.old.dims }
+    ensures state { IfOk result (λ r. IsState s.now.context row state.new) }
+    ensures place { IfOk result (λ r. LiesInRow s.now.context row state.new.address) }
+    ensures further { IfOk result (λ r. state.old.address <ℤ state.new.address) }
+    ensures takes { IfOk result (λ r. (p : MbPlaceOf) → T.Takes out.old p → T.Takes out.new p) }
 {
-    let mut levels = [Levels { at: [0; 64] }; 6];
-    let m = macroblock(input, c, row, state, &mut levels)?;
-    paint(c, row, state, &m, &levels, out);
-    state.dc = dc_after(m.kind.intra, &levels, state.dc);
-    Ok(!input.rest_is_zero())
+    let before = *state;
+    let start = bits_left(input);
+    let x = macroblock(input, s, row, state, &mut scratch.levels)?;
+    let end = bits_left(input);
+    let block = &mut scratch.block;
+    paint_gap(
+        s, row, x.gap, &before, &x.syntax, forward, backward, block, out,
+    );
+    paint_own(
+        s,
+        row,
+        x.column,
+        &before,
+        state,
+        &x.syntax,
+        &scratch.levels,
+        forward,
+        backward,
+        block,
+        out,
+    );
+    state.dc = dc_after(x.syntax.kind.intra, &scratch.levels, state.dc);
+    Ok(Round {
+        more: !input.rest_is_zero(),
+        large: start.saturating_sub(end) > 4608,
+    })
 }
 
-/// Macroblocks, written into the row, until the rest of the unit is zero.
-pub fn macroblocks(
+/// Macroblocks, each put with those skipped before it, until the rest of the unit is zero. Answers the state behind the
+/// last one, and how many of them have more than 4,608 bits.
+pub fn macroblocks<V: RefView, T: Target>(
     input: &mut BitReader,
-    c: &PictureContext,
+    s: &SliceSetup,
     row: u32,
     first: SliceState,
-    out: &mut RowSamples,
-) -> Result<SliceState, Stop>
-    requires picture { IsPicture c.now }
-    requires state { IsState c.now row first }
-    requires columns { out.old.dims.mb_width ≡ c.now.columns }
-    ensures exact { Macroblocks c.now row first input.old.rest out.old result input.new.rest out.new }
+    forward: &V,
+    backward: &V,
+    scratch: &mut Scratch,
+    out: &mut T,
+) -> Result<(SliceState, u32), Stop>
+    requires setup { IsSetup s.now }
+    requires row { row < rows_in s.now }
+    requires state { IsState s.now.context row first }
+    requires start { first.address +ℤ pos 1 ≡ pos (row * s.now.context.columns) }
+    requires forward { HoldsForward s.now (V.size forward.now) (V.Holds forward.now) }
+    requires backward { HoldsBackward s.now (V.size backward.now) (V.Holds backward.now) }
+    requires takes { (column : ℕ) → column < s.now.context.columns → T.Takes out.old (place_in s.now row column) }
+    ensures exact { TellsRow T.placed s.now (seen_by (V.at forward.now) (V.at backward.now)) first input.old.rest (T.samples out.old)
+        result input.new.rest (T.samples out.new) }
     ensures left { IfErr result (λ e. e.left ≤ length input.old.text) }
-    ensures place { IfOk result (λ z. IsInside c.now row z.address) }
-    ensures dims { out.new.dims ≡ out.old.dims }
+    ensures place { IfOk result (λ z. LiesInRow s.now.context row z.0.address) }
+    ensures takes { IfOk result (λ z. (p : MbPlaceOf) → T.Takes out.old p → T.Takes out.new p) }
 {
     let mut state = first;
+    let mut large = 0;
     loop {
-        let more = round(input, c, row, &mut state, out)?;
-        if !more {
-            return Ok(state);
+        let r = next_macroblock(input, s, row, &mut state, forward, backward, scratch, out)?;
+        if r.large {
+            large += 1;
+        }
+        if !r.more {
+            return Ok((state, large));
         }
     }
 }

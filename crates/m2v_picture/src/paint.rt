@@ -1,62 +1,118 @@
-ghost use Rattle.std.specs.Prelude.{◌≡◌, ◌%◌, ◌≤◌, ◌<◌, All, nat_abs, replicate, true, false};
+ghost use Rattle.std.specs.Prelude.{◌≡◌, ℕ, ◌+◌, ◌*◌, ◌<◌, ◌≤◌, All};
 ghost use Rattle.m2v_quant.specs.Kinds.{IsLevel};
-ghost use Rattle.m2v_model.specs.Slices.{kind_for as kind_for_of};
-ghost use Rattle.m2v_recon.specs.Macro.{macro_sample, with_macroblock};
-ghost use Rattle.m2v_recon.specs.Steps.{levels_of};
-ghost use Rattle.m2v_picture.specs.Conditions.{IsPicture, IsInside};
+ghost use Rattle.m2v_pred.specs.declared.mode.MbPlace.{MbPlace as MbPlaceOf};
+ghost use Rattle.m2v_macro.specs.States.{after};
+ghost use Rattle.m2v_macroblock.specs.Macroblocks.{macroblock_of};
+ghost use Rattle.m2v_macroblock.specs.Modes.{first_skipped};
+ghost use Rattle.m2v_macroblock.specs.Predictions.{prediction_of};
+ghost use Rattle.m2v_model.specs.Samples.{skipped_painted, own_painted};
+ghost use Rattle.m2v_picture.specs.Conditions.{IsSetup, IsState, rows_in, place_in, HoldsForward, HoldsBackward, CanPaint, IsColumn, IsGap};
+ghost use Rattle.m2v_picture.specs.Reads.{seen_by};
 
-use m2v_macro::{MacroSyntax, PictureContext, SliceState};
-use m2v_macroblock::kind_for;
-use m2v_plane::RowSamples;
+use crate::gap::Gap;
+use crate::prediction::{place, predict};
+use crate::target::Target;
+use m2v_macro::{MacroSyntax, SliceState};
+use m2v_macroblock::{kind_for, mode, skipped_mode};
+use m2v_model::SliceSetup;
+use m2v_plane::RefView;
 use m2v_pred::Block16;
 use m2v_quant::Levels;
-use m2v_recon::rebuild;
+use m2v_recon::rebuild_block;
 
-/// The column of an address of the row.
-#[tactic(auto, using(crate::proofs::RowLaws::inside_size))]
-fn column(c: &PictureContext, row: u32, address: i64) -> u32
-    requires row { IsInside c.now row address }
-    requires columns { c.now.columns ≤ 120 }
-    ensures value { result ≡ nat_abs address % c.now.columns }
-    ensures below { result < c.now.columns }
+/// Puts the macroblocks of a gap: each is its prediction. `before` is the state before them.
+pub fn paint_gap<V: RefView, T: Target>(
+    s: &SliceSetup,
+    row: u32,
+    gap: Gap,
+    before: &SliceState,
+    m: &MacroSyntax,
+    forward: &V,
+    backward: &V,
+    block: &mut Block16,
+    out: &mut T,
+)
+    requires setup { IsSetup s.now }
+    requires row { row < rows_in s.now }
+    requires state { IsState s.now.context row before.now }
+    requires can { CanPaint s.now before.now m.now }
+    requires gap { IsGap s.now.context row before.now m.now gap }
+    requires forward { HoldsForward s.now (V.size forward.now) (V.Holds forward.now) }
+    requires backward { HoldsBackward s.now (V.size backward.now) (V.Holds backward.now) }
+    requires takes { (column : ℕ) → column < s.now.context.columns → T.Takes out.old (place_in s.now row column) }
+    ensures value { T.samples out.new ≡ skipped_painted T.placed s.now (seen_by (V.at forward.now) (V.at backward.now)) before.now
+        (first_skipped before.now) gap.count (T.samples out.old) }
+    ensures takes { (p : MbPlaceOf) → T.Takes out.old p → T.Takes out.new p }
 {
-    let first = u64::from(row) * u64::from(c.columns);
-    (address.unsigned_abs() - first) as u32
+    let mode = skipped_mode(&s.context, before);
+    for k in 0..gap.count {
+        let at = place(s, row, gap.column + k);
+        predict(s, &mode, at, forward, backward, block);
+        out.put(at, block);
+    }
 }
 
-/// Writes a macroblock's samples at its column of the row. `state` is that behind the macroblock's elements.
-pub fn paint(
-    c: &PictureContext,
+/// The prediction of a macroblock: samples 0 of an intra one.
+fn predict_own<V: RefView>(
+    s: &SliceSetup,
     row: u32,
+    column: u32,
+    before: &SliceState,
+    m: &MacroSyntax,
+    forward: &V,
+    backward: &V,
+    block: &mut Block16,
+)
+    requires setup { IsSetup s.now }
+    requires row { row < rows_in s.now }
+    requires can { CanPaint s.now before.now m.now }
+    requires column { IsColumn s.now.context row before.now m.now column }
+    requires forward { HoldsForward s.now (V.size forward.now) (V.Holds forward.now) }
+    requires backward { HoldsBackward s.now (V.size backward.now) (V.Holds backward.now) }
+    ensures value { block.new.at ≡ prediction_of (V.at forward.now) (V.at backward.now) s.now.context (place_in s.now row column) m.now }
+{
+    if m.kind.intra {
+        block.at.fill(0);
+        return;
+    }
+    let mode = mode(&s.context, m);
+    predict(s, &mode, place(s, row, column), forward, backward, block);
+}
+
+/// Puts a macroblock. `before` is the state before it and those skipped before it, `state` that behind its elements.
+pub fn paint_own<V: RefView, T: Target>(
+    s: &SliceSetup,
+    row: u32,
+    column: u32,
+    before: &SliceState,
     state: &SliceState,
     m: &MacroSyntax,
     levels: &[Levels; 6],
-    out: &mut RowSamples,
+    forward: &V,
+    backward: &V,
+    block: &mut Block16,
+    out: &mut T,
 )
-    requires picture { IsPicture c.now }
+    requires setup { IsSetup s.now }
+    requires row { row < rows_in s.now }
+    requires state { state.now ≡ after s.now.context before.now m.now }
     requires quantiser { (1 ≤ state.now.quantiser) × (state.now.quantiser ≤ 31) }
-    requires inside { IsInside c.now row state.now.address }
+    requires can { CanPaint s.now before.now m.now }
+    requires column { IsColumn s.now.context row before.now m.now column }
     requires levels { All (λ l. All IsLevel l.at) levels.now }
-    requires columns { out.old.dims.mb_width ≡ c.now.columns }
-    ensures value { out.new ≡ with_macroblock 1 0 (nat_abs state.now.address % c.now.columns)
-        (macro_sample (replicate 384 0) (levels_of levels.now) m.now.pattern
-        (kind_for_of c.now m.now.kind.intra true state.now.quantiser) (kind_for_of c.now m.now.kind.intra false state.now.quantiser) m.now.dct_field) out.old }
+    requires forward { HoldsForward s.now (V.size forward.now) (V.Holds forward.now) }
+    requires backward { HoldsBackward s.now (V.size backward.now) (V.Holds backward.now) }
+    requires takes { T.Takes out.old (place_in s.now row column) }
+    ensures value { T.samples out.new ≡ own_painted T.placed s.now (seen_by (V.at forward.now) (V.at backward.now)) before.now
+        (macroblock_of m.now levels.now) (T.samples out.old) }
+    ensures takes { (p : MbPlaceOf) → T.Takes out.old p → T.Takes out.new p }
 {
-    // nothing predicts an intra macroblock
-    let prediction = Block16 { at: [0; 384] };
+    predict_own(s, row, column, before, m, forward, backward, block);
     let intra = m.kind.intra;
     let kinds = [
-        kind_for(c, intra, true, state.quantiser),
-        kind_for(c, intra, false, state.quantiser),
+        kind_for(&s.context, intra, true, state.quantiser),
+        kind_for(&s.context, intra, false, state.quantiser),
     ];
-    let column = column(c, row, state.address);
-    rebuild(
-        &prediction,
-        levels,
-        m.pattern,
-        &kinds,
-        m.dct_field,
-        column,
-        out,
-    );
+    rebuild_block(block, levels, m.pattern, &kinds, m.dct_field);
+    out.put(place(s, row, column), block);
 }

@@ -1,22 +1,31 @@
 ghost use Rattle.std.specs.Prelude.{◌≡◌, ℕ, ◌+◌, ◌*◌, ◌≤◌, ◌<◌, ◌^◌, IfOk, IfErr, length, nat_abs, pos, ◌+ℤ◌};
 ghost use Rattle.m2v_bits.specs.Syntax.{renamed};
+ghost use Rattle.m2v_pred.specs.declared.mode.MbPlace.{MbPlace as MbPlaceOf};
 ghost use Rattle.m2v_head.specs.Headers as head;
 ghost use Rattle.m2v_head.specs.Fits.{SliceFits};
 ghost use Rattle.m2v_model.specs.Faults as faults;
-ghost use Rattle.m2v_model.specs.Pictures.{dims_of};
-ghost use Rattle.m2v_model.specs.States.{columns_of};
-ghost use Rattle.m2v_picture.specs.Conditions.{IsIntra};
-ghost use Rattle.m2v_picture.specs.Reads.{Tells, TellsSlice};
+ghost use Rattle.m2v_model.specs.Stops.{Tells};
+ghost use Rattle.m2v_picture.specs.Conditions.{IsSetup, rows_in, place_in, HoldsForward, HoldsBackward};
+ghost use Rattle.m2v_picture.specs.Reads.{TellsSlice, seen_by};
 
 use crate::increments::{begins_late, increment_ahead};
 use crate::macroblocks::macroblocks;
-use crate::state::context;
-use crate::stop::{Stop, of_head, stopped};
+use crate::scratch::Scratch;
+use crate::target::Target;
 use m2v_bits::BitReader;
 use m2v_head::SliceInfo;
 use m2v_macro::SliceState;
-use m2v_model::{FaultKind, Open, Sequence, State};
-use m2v_plane::RowSamples;
+use m2v_model::{FaultKind, SliceSetup, Stop, of_head, stopped};
+use m2v_plane::RefView;
+
+/// What a slice that was read leaves.
+#[derive(Clone, Copy, Debug, PartialEq, Eq)]
+pub struct SliceEnd {
+    /// The address behind its last macroblock: addresses count macroblocks in raster order, from 0.
+    pub covered: u32,
+    /// How many of its macroblocks have more than 4,608 bits.
+    pub large: u32,
+}
 
 /// A slice header.
 #[tactic(auto, unfolding(m2v_bits::specs::Syntax::renamed))]
@@ -43,46 +52,56 @@ fn unit_left(input: &BitReader) -> u64
 }
 
 /// The address behind the last macroblock.
-fn behind(last: &SliceState) -> u32
+fn address_behind(last: &SliceState) -> u32
     requires { (n : ℕ) × (n < 2 ^ 16) × (last.now.address ≡ pos n) }
     ensures { result ≡ nat_abs (last.now.address +ℤ pos 1) }
 {
     last.address.unsigned_abs() as u32 + 1
 }
 
-/// Reads a slice of an I picture, without its start code, and writes its macroblocks into their row (clauses 6.2.4
-/// and 7.6.8). The row counts from 0. Answers the address behind the last macroblock.
+/// Reads a slice of a picture, without its start code, and puts its macroblocks (clauses 6.2.4 and 7.6). `covered` is the
+/// address of the picture's next uncovered macroblock, the row counts from 0. The views hold the fields that were decoded;
+/// of the others nothing is read.
 ///
 /// # Errors
 /// The first fault in reading order, with the bits that are left at its place. A slice that begins before the next
-/// uncovered macroblock is `SliceOrder` at the unit's start code, 32 bits before the first bit; the samples of the row
-/// are then those of the macroblocks before the fault.
-pub fn read_slice(
+/// uncovered macroblock is `SliceOrder` at the unit's start code, 32 bits before the first bit; the macroblocks before the
+/// fault are put then.
+pub fn read_slice<V: RefView, T: Target>(
     input: &mut BitReader,
-    st: &State,
-    s: &Sequence,
-    p: &Open,
+    s: &SliceSetup,
+    covered: u32,
     row: u32,
-    out: &mut RowSamples,
-) -> Result<u32, Stop>
-    requires picture { IsIntra st.now s.now p.now row }
-    requires size { out.old.dims ≡ dims_of s.now }
-    ensures exact { TellsSlice st.now s.now p.now row input.old.rest out.old result input.new.rest out.new }
+    forward: &V,
+    backward: &V,
+    scratch: &mut Scratch,
+    out: &mut T,
+) -> Result<SliceEnd, Stop>
+    requires setup { IsSetup s.now }
+    requires covered { covered ≤ 2 ^ 16 }
+    requires row { row < rows_in s.now }
+    requires forward { HoldsForward s.now (V.size forward.now) (V.Holds forward.now) }
+    requires backward { HoldsBackward s.now (V.size backward.now) (V.Holds backward.now) }
+    requires takes { (column : ℕ) → column < s.now.context.columns → T.Takes out.old (place_in s.now row column) }
+    ensures exact { TellsSlice T.placed s.now (seen_by (V.at forward.now) (V.at backward.now)) covered row input.old.rest (T.samples out.old)
+        result input.new.rest (T.samples out.new) }
     ensures left { IfErr result (λ e. e.left ≤ length input.old.text + 32) }
-    ensures covered { IfOk result (λ covered. covered ≤ (row + 1) * columns_of s.now) }
-    ensures dims { out.new.dims ≡ out.old.dims }
+    ensures covered { IfOk result (λ end. end.covered ≤ (row + 1) * s.now.context.columns) }
+    ensures takes { IfOk result (λ end. (p : MbPlaceOf) → T.Takes out.old p → T.Takes out.new p) }
 {
     let unit = unit_left(input);
     let info = header(input)?;
     let increment = increment_ahead(input)?;
-    let c = context(st, s, p);
-    if !begins_late(row, c.columns, increment, p.covered) {
+    if !begins_late(row, s.context.columns, increment, covered) {
         return Err(Stop {
             kind: FaultKind::SliceOrder,
             left: unit,
         });
     }
-    let first = SliceState::at_start(&c, row, info.quantiser, p.covered);
-    let last = macroblocks(input, &c, row, first, out)?;
-    Ok(behind(&last))
+    let first = SliceState::at_start(&s.context, row, info.quantiser, covered);
+    let (last, large) = macroblocks(input, s, row, first, forward, backward, scratch, out)?;
+    Ok(SliceEnd {
+        covered: address_behind(&last),
+        large,
+    })
 }

@@ -3,7 +3,7 @@ use Rattle.std.specs.Prelude.{◌≡◌, ◌⊎◌, ℕ, suc, ◌+◌, ◌<◌, 
 use Rattle.m2v_model.specs.declared.phase.Phase.{Phase}
 use Rattle.m2v_model.specs.declared.phase.Phase.TheVariants.{Before, Headers, Picture}
 use Rattle.m2v_model.specs.Units.{cut}
-use Rattle.m2v_model.specs.Pieces.{grouped, skipped, limit, Limit, too_long, too_large, most_input, trimmed, phase_after, is_end, begins_piece}
+use Rattle.m2v_model.specs.Pieces.{grouped, before_pieces, limit, Limit, too_long, too_large, most_input, trimmed, phase_after, is_end, begins_piece}
 use Rattle.m2v_piece.specs.declared.answer.Piece.{Piece}
 use Rattle.m2v_piece.specs.declared.answer.DecodeError.{DecodeError}
 use Rattle.m2v_piece.specs.declared.answer.DecodeError.TheVariants as errors
@@ -26,7 +26,7 @@ open_pieces phase sure text = grouped phase (sure ++ (cut 0 text).0) (cut 0 text
 
 -- the place of the first of them
 unfoldable pub open_start : Phase → ℕ → List ℕ → ℕ
-open_start Before place text = place + length (skipped text)
+open_start Before place text = place + length (before_pieces text)
 open_start Headers place text = place
 open_start Picture place text = place
 

@@ -33,7 +33,7 @@ within_get bytes z i lt = get_or-append bytes (replicate z 0) 0 i lt
 pub text_length : (bytes : List ℕ) (z : ℕ) → length (text_of bytes z) ≡ length bytes + z
 text_length bytes z = length-append bytes (replicate z 0) ∙ ap (λ (n : ℕ). length bytes + n) (length-replicate z 0)
 
-both_true : (x y : Bool) → (x && y) ≡ true → (x ≡ true) × (y ≡ true)
+pub both_true : (x y : Bool) → (x && y) ≡ true → (x ≡ true) × (y ≡ true)
 both_true true true e = (refl, refl)
 both_true true false e = absurd cc
 both_true false y e = absurd cc

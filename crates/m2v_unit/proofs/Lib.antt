@@ -1,1 +1,5 @@
 pub mod Cuts
+pub mod Further
+pub mod Judged
+pub mod Ends
+pub mod Setups

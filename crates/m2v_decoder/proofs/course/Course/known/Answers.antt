@@ -1,7 +1,7 @@
 use Rattle.std.proofs.Common.{◌≡◌, true, rules}
 use Rattle.std.proofs.lemmas.Result.{err_from_is_err_and}
 use Rattle.m2v_model.specs.Streams.{value_of, slice}
-use Rattle.m2v_part.specs.Among.{is_slice}
+use Rattle.m2v_unit.specs.Among.{is_slice}
 use Rattle.m2v_decoder.proofs.ReadLaws.{slice_ok, slice_err}
 use Rattle.m2v_decoder.proofs.course.Course.known.Goals as goal
 

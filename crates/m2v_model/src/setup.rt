@@ -1,0 +1,13 @@
+use m2v_macro::PictureContext;
+use m2v_plane::Dims;
+
+/// What the headers in force say of the slices of a picture.
+#[derive(Clone, Copy, Debug, PartialEq, Eq)]
+pub struct SliceSetup {
+    /// What its macroblocks are read by.
+    pub context: PictureContext,
+    /// The size of the whole frame.
+    pub dims: Dims,
+    /// Which fields of its references were decoded: forward top, forward bottom, backward top, backward bottom.
+    pub references: [bool; 4],
+}

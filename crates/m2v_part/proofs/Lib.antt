@@ -1,3 +1,0 @@
-pub mod Further
-pub mod Judged
-pub mod Ends
