@@ -142,7 +142,7 @@ unfolding is_halved
 plain_halved true = refl
 plain_halved false = refl
 
-whole_within : (d : Decision) (view : View) (form : SearchForm) → reach form d.limits.search ≤ 15 → d.limits.search ≤ 15 → IsWithin 31 31 (vector_for d view form)
+pub whole_within : (d : Decision) (view : View) (form : SearchForm) → reach form d.limits.search ≤ 15 → d.limits.search ≤ 15 → IsWithin 31 31 (vector_for d view form)
 unfolding vector_for
 whole_within d view form down across =
     let h = vector_within d.dims (view Y) d.source d.limits.row d.limits.column form d.limits.search in
@@ -151,7 +151,7 @@ whole_within d view form down across =
       y = record { low = omega (arith, ints, h.y.low, down); high = omega (arith, ints, h.y.high, down) };
     }
 
-half_within : (d : Decision) (view : View) (form : SearchForm) → reach form d.limits.search ≤ 7 → d.limits.search ≤ 15 → IsWithin 31 15 (vector_for d view form)
+pub half_within : (d : Decision) (view : View) (form : SearchForm) → reach form d.limits.search ≤ 7 → d.limits.search ≤ 15 → IsWithin 31 15 (vector_for d view form)
 unfolding vector_for
 half_within d view form down across =
     let h = vector_within d.dims (view Y) d.source d.limits.row d.limits.column form d.limits.search in

@@ -6,3 +6,6 @@ pub mod Kept
 pub mod OwnReady
 pub mod DcKept
 pub mod Worked
+pub mod Stands
+pub mod Written
+pub mod Sums

@@ -1,5 +1,11 @@
 -- What the laws of choices say.
 use Rattle.std.specs.Prelude.{◌≡◌, ◌≤◌, true, ◌∷◌, filter, All}
+use Rattle.m2v_quant.specs.Kinds.{IsLevel}
+use Rattle.m2v_macro.specs.declared.values.SliceState.{SliceState}
+use Rattle.m2v_macro.specs.declared.values.PictureContext.{PictureContext}
+use Rattle.m2v_macro.specs.Conditions.{IsMacro}
+use Rattle.m2v_macroblock.specs.Macroblocks.{Macroblock}
+use Rattle.m2v_macroblock.specs.Conditions.{AreBlocks}
 use Rattle.m2v_search.specs.Least.{IsFirstLeast}
 use Rattle.m2v_choose.specs.Decisions.{Decision, Candidate}
 use Rattle.m2v_choose.specs.Candidates.{hold, others}
@@ -18,3 +24,9 @@ pub record IsFirstOfLeast (d : Decision) : Type 0 where
 pub record Fits (d : Decision) (x : Candidate) : Type 0 where
   pub most : bits_taken d x ≤ most_bits
   pub room : bits_taken d x ≤ d.limits.room
+
+-- a macroblock can be written: its elements can stand there, and its coded blocks have levels that blocks of their kind can have
+pub record IsWritable (c : PictureContext) (st : SliceState) (x : Macroblock) : Type 0 where
+  pub macro : IsMacro c st x.syntax
+  pub blocks : AreBlocks c st x
+  pub levels : All (All IsLevel) x.levels
