@@ -109,7 +109,7 @@ after_near m p leaves near =
     either (λ (q : Pmv). AreNear q.at) (resets m) none _ zero_near
     (all_near (entry_after m p 0 0) (entry_after m p 0 1) (entry_after m p 1 0) (entry_after m p 1 1) (entry_near m p 0 0 leaves near) (entry_near m p 0 1 leaves near) (entry_near m p 1 0 leaves near) (entry_near m p 1 1 leaves near))
 
-before_near : (c : PictureContext) (st : SliceState) (n : ℕ) → AreNear st.pmv.at → AreNear (pmv_before c st n).at
+pub before_near : (c : PictureContext) (st : SliceState) (n : ℕ) → AreNear st.pmv.at → AreNear (pmv_before c st n).at
 unfolding pmv_before LeavesNear
 before_near c st n near =
     let h = is_halved (is_field c) 0 in

@@ -9,3 +9,9 @@ pub mod Worked
 pub mod Stands
 pub mod Written
 pub mod Sums
+pub mod Tried
+pub mod Coded
+pub mod IntraCoded
+pub mod Stays
+pub mod Inside
+pub mod InsideLaws

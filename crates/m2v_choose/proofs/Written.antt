@@ -153,7 +153,7 @@ all_levels : (f : ℕ → List ℤ) → ((b : ℕ) → b < 6 → All IsLevel (f 
 all_levels f h = All-map (All IsLevel) f (range_with_len 0 6) (range_all (λ b. All IsLevel (f b)) 0 6 (λ b lt. h b lt))
 
 -- an intra block, whose DC is in its range
-intra_block : (c : PictureContext) (luma : Bool) (q : ℕ) (ls : List ℤ) → c.extension.dc_precision ≡ 0 → All IsLevel ls → IsDc 0 (slice_index_or ls 0 (pos 0))
+pub intra_block : (c : PictureContext) (luma : Bool) (q : ℕ) (ls : List ℤ) → c.extension.dc_precision ≡ 0 → All IsLevel ls → IsDc 0 (slice_index_or ls 0 (pos 0))
     → IsBlock (kind_for c true luma q) ls
 unfolding kind_for
 intra_block c luma q ls e within dc = record {
@@ -162,14 +162,14 @@ intra_block c luma q ls e within dc = record {
   some = λ no. absurd cc;
 }
 
-other_block : (c : PictureContext) (luma : Bool) (q : ℕ) (ls : List ℤ) → All IsLevel ls → ls ≢ replicate 64 (pos 0) → IsBlock (kind_for c false luma q) ls
+pub other_block : (c : PictureContext) (luma : Bool) (q : ℕ) (ls : List ℤ) → All IsLevel ls → ls ≢ replicate 64 (pos 0) → IsBlock (kind_for c false luma q) ls
 unfolding kind_for
 other_block c luma q ls within some = record { within = within; dc = λ is. absurd cc; some = λ no. some }
 
 -- ---- candidates
 
 module _ (d : Decision) (own : IsOwn d.context) (st : SliceState) (step : IsStep d.context st (increment_of d)) where
-  intra_written : (k : Coding) → IsCode k.q → (k.dct_field ≡ true → has_dct_type d ≡ true) → IsWritable d.context st (intra_by d k).macroblock
+  pub intra_written : (k : Coding) → IsCode k.q → (k.dct_field ≡ true → has_dct_type d ≡ true) → IsWritable d.context st (intra_by d k).macroblock
   unfolding intra_by levels_by intra_syntax levels_of level_at kind_for
   intra_written k code dct =
       let t = λ (b : ℕ). forward_of (differences d.source (replicate 384 0) k.dct_field b) in

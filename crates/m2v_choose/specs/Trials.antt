@@ -1,11 +1,30 @@
 -- Words of the choice's code: the blocks of a macroblock, and the best candidate so far.
-use Rattle.std.specs.Prelude.{ℕ, ◌≡◌, Bool, nat_eq, nat_lt, cond, List, map, filter, slice_index, ℤ, pos, ◌-ℤ◌, unsigned_abs}
+use Rattle.std.specs.Prelude.{ℕ, filter, IsTrue, false, not, cond, ◌&&◌, ◌≡◌, ◌⊎◌, ◌<◌, ◌≤◌, ◌+◌, ◌-◌, ◌*◌, Bool, true, nat_eq, List, [], map, slice_index, slice_index_or, if◌then◌else◌, ℤ, pos, neg_ℤ, ◌-ℤ◌, ◌≤ℤ◌, ◌<ℤ◌, unsigned_abs}
 use Rattle.std.specs.List.{range_with_len, list_all}
+use Rattle.m2v_plane.specs.declared.dims.Dims.{Dims}
+use Rattle.m2v_plane.specs.declared.planes.Lines.{Lines}
 use Rattle.m2v_quant.specs.declared.kind.BlockKind.{BlockKind}
 use Rattle.m2v_quant.specs.Quantiser.{levels_of}
 use Rattle.m2v_idct.specs.Forward.{forward_of}
 use Rattle.m2v_recon.specs.Macro.{kind_of}
-use Rattle.m2v_choose.specs.Decisions.{block_place, differences}
+use Rattle.m2v_macro.specs.declared.values.SliceState.{SliceState}
+use Rattle.m2v_macro.specs.declared.values.PictureContext.{PictureContext}
+use Rattle.m2v_macro.specs.States.{is_field, skips, pmv_before, dc_reset}
+use Rattle.m2v_macro.specs.Conditions.{IsMacro}
+use Rattle.m2v_macro.specs.declared.values.MacroSyntax.{MacroSyntax}
+use Rattle.m2v_pred.specs.Predicted.{block_by}
+use Rattle.m2v_macroblock.specs.Macroblocks.{Macroblock, macroblock_of}
+use Rattle.m2v_macroblock.specs.Conditions.{AreDc}
+use Rattle.m2v_macroblock.specs.Predictions.{View, prediction_of, sample_at}
+use Rattle.m2v_search.specs.Least.{least}
+use Rattle.m2v_search.specs.Near.{is_field as is_field_line}
+use Rattle.m2v_choose.specs.declared.values.Limits.{Limits}
+use Rattle.m2v_choose.specs.declared.values.Choice.{Choice}
+use Rattle.m2v_choose.specs.declared.trial.Best.{Best}
+use Rattle.m2v_choose.specs.declared.task.Task.{Task}
+use Rattle.m2v_choose.specs.Decisions.{Decision, Candidate, place_of, increment_of, block_place, differences}
+use Rattle.m2v_choose.specs.Choice.{bits_taken, score, fits}
+use Rattle.m2v_choose.specs.Own.{IsOwn, IsCode, IsOwnState, AreLimits}
 
 -- a block has no level but 0
 abbrev pub is_empty : List ℤ → Bool
@@ -20,7 +39,129 @@ difference_at source prediction dct_field block k =
 unfoldable pub transforms_of : List ℕ → List ℕ → Bool → List (List ℤ)
 transforms_of source prediction dct_field = map (λ block. forward_of (differences source prediction dct_field block)) (range_with_len 0 6)
 
--- their levels, by the kinds of luma and of chroma blocks
-unfoldable pub quantised_by : List ℕ → List ℕ → Bool → BlockKind → BlockKind → List (List ℤ)
-quantised_by source prediction dct_field luma chroma =
-    map (λ block. levels_of (forward_of (differences source prediction dct_field block)) (kind_of luma chroma block)) (range_with_len 0 6)
+-- levels of transforms, by the kinds of luma and of chroma blocks
+unfoldable pub quantised_by : List (List ℤ) → BlockKind → BlockKind → List (List ℤ)
+quantised_by transforms luma chroma = map (λ block. levels_of (slice_index_or transforms block []) (kind_of luma chroma block)) (range_with_len 0 6)
+
+-- ---- where a macroblock stands
+
+-- the macroblock before lies in the row before this one, or ends the row above where this one is the first of its slice
+abbrev pub IsBefore : PictureContext → SliceState → Limits → Type 0
+IsBefore c st limits =
+    ((pos (limits.row * c.columns) ≤ℤ st.address) × (st.address <ℤ pos (limits.row * c.columns + limits.column)))
+    ⊎ ((limits.first ≡ true) × (st.address ≡ pos (limits.row * c.columns) -ℤ pos 1))
+
+-- what a choice is promised of headers, state and limits
+pub record AreAsked (c : PictureContext) (st : SliceState) (limits : Limits) : Type 0 where
+  pub own : IsOwn c
+  pub state : IsOwnState st
+  pub dc : AreDc 0 st.dc
+  pub bounds : AreLimits limits
+  pub row : limits.row < 72
+  pub column : limits.column < c.columns
+  pub address : IsBefore c st limits
+
+-- a state in which a macroblock is the first of its slice, behind the predictors that it goes by
+unfoldable pub as_first : PictureContext → SliceState → ℕ → SliceState
+as_first c st increment = record {
+  quantiser = st.quantiser;
+  dc = if skips st increment then dc_reset c else st.dc;
+  pmv = pmv_before c st increment;
+  forward = st.forward;
+  backward = st.backward;
+  intra = st.intra;
+  first = true;
+  address = neg_ℤ (pos 1);
+  next = increment - 1;
+}
+
+-- the references, as they were rebuilt
+pub record References : Type 0 where
+  pub dims : Dims
+  pub forward : View
+  pub backward : View
+
+-- what is decided by references
+abbrev pub decided : References → Task → Decision
+decided r t = record {
+  dims = r.dims;
+  source = t.source.now.at;
+  forward = r.forward;
+  backward = r.backward;
+  context = t.context.now;
+  state = t.state.now;
+  limits = t.limits.now;
+}
+
+-- a task whose values are as they are asked for
+pub record IsTask (t : Task) : Type 0 where
+  pub asked : AreAsked t.context.now t.state.now t.limits.now
+  pub increment : (r : References) → t.increment ≡ increment_of (decided r t)
+  pub some : 1 ≤ t.increment
+  pub most : t.increment ≤ t.context.now.columns
+  pub first : t.first ≡ as_first t.context.now t.state.now t.increment
+
+-- ---- the best candidate so far
+
+-- what was chosen as a candidate
+abbrev pub candidate_of : Choice → Candidate
+candidate_of x = record { skip = x.skip; macroblock = macroblock_of x.syntax x.levels }
+
+-- the samples of a written macroblock as they are rebuilt, from those of its prediction
+unfoldable pub rebuilt_by : Task → List ℕ → Macroblock → List ℕ
+rebuilt_by t prediction x = block_by (sample_at t.context.now t.state.now prediction x)
+
+-- these are the samples of the prediction of a macroblock
+abbrev pub Predicts : References → Task → MacroSyntax → List ℕ → Type 0
+Predicts r t m prediction = prediction ≡ prediction_of r.forward r.backward t.context.now (place_of (decided r t)) m
+
+-- its bits and its score are those of the definition
+pub record IsRated (d : Decision) (b : Best) : Type 0 where
+  pub bits : b.choice.bits ≡ bits_taken d (candidate_of b.choice)
+  pub score_is : b.score ≡ score d (candidate_of b.choice)
+
+-- the first of least score of one and of those that fit
+unfoldable pub best_of : Decision → Candidate → List Candidate → Candidate
+best_of d best xs = least (score d) best (filter (fits d) xs)
+
+-- candidates were tried
+pub record Tried (d : Decision) (old new : Best) (xs : List Candidate) : Type 0 where
+  pub best : candidate_of new.choice ≡ best_of d (candidate_of old.choice) xs
+  pub rated : IsRated d new
+
+-- ---- codings
+
+-- dct_type stands in the picture
+abbrev pub has_types : PictureContext → Bool
+has_types c = not (is_field c) && not c.extension.frame_pred_frame_dct
+
+-- a quantiser is sent
+abbrev pub sends_code : SliceState → ℕ → Bool
+sends_code st q = not (nat_eq q st.quantiser)
+
+-- a macroblock that has a prediction, with coded blocks
+abbrev pub with_blocks : MacroSyntax → Bool → ℕ → Bool → ℕ → MacroSyntax
+with_blocks m send q dct_field pattern = record {
+  increment = m.increment;
+  kind = record { quant = send; forward = m.kind.forward; backward = m.kind.backward; pattern = true; intra = m.kind.intra };
+  form = m.form;
+  dct_field = dct_field;
+  quantiser = cond send q 0;
+  vectors = m.vectors;
+  bottom = m.bottom;
+  dmvector = m.dmvector;
+  pattern = pattern;
+}
+
+-- a macroblock that has a prediction can have coded blocks
+pub record CanCode (t : Task) (m : MacroSyntax) : Type 0 where
+  pub increment : m.increment ≡ t.increment
+  pub other : m.kind.intra ≡ false
+  pub macro : (q : ℕ) (dct_field : Bool) (pattern : ℕ) → IsCode q → (dct_field ≡ true → has_types t.context.now ≡ true) → 0 < pattern → pattern < 64
+      → IsMacro t.context.now t.first (with_blocks m (sends_code t.state.now q) q dct_field pattern)
+
+-- ---- references
+
+-- reference lines that a picture reads: a frame reads frames and fields, a field reads fields
+abbrev pub IsReference : ℕ → Lines → Type 0
+IsReference structure l = (structure ≡ 3) ⊎ IsTrue (is_field_line l)

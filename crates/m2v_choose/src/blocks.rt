@@ -1,15 +1,18 @@
 //! The blocks of a macroblock: what is transformed, the transforms, the levels, and the pattern.
 ghost use Rattle.std.specs.Prelude.{ℕ, ◌≡◌, ◌≤◌, ◌<◌, ◌+◌, ◌*◌, All, cond, pos, ◌-ℤ◌};
+ghost use Rattle.m2v_quant.specs.Kinds.{IsKind, IsLevel};
+ghost use Rattle.m2v_quant.specs.Quantiser.{levels_of as quantised};
+ghost use Rattle.m2v_recon.specs.Macro.{kind_at, kind_of};
 ghost use Rattle.m2v_idct.specs.Block.{nth};
 ghost use Rattle.m2v_idct.specs.Ranges.{IsSample, IsCoefficient};
 ghost use Rattle.m2v_idct.specs.Forward.{forward_of};
 ghost use Rattle.m2v_recon.specs.Steps.{levels_of};
 ghost use Rattle.m2v_choose.specs.Decisions.{block_place, differences as differences_of, pattern_of as pattern_in};
-ghost use Rattle.m2v_choose.specs.Trials.{is_empty as is_empty_of, difference_at, transforms_of};
+ghost use Rattle.m2v_choose.specs.Trials.{is_empty as is_empty_of, difference_at, transforms_of, quantised_by};
 
 use m2v_idct::forward;
 use m2v_pred::Block16;
-use m2v_quant::Levels;
+use m2v_quant::{BlockKind, Levels, quantise};
 
 /// Where a line of a block begins among the samples of its macroblock.
 #[inline(always)]
@@ -99,6 +102,35 @@ pub fn transform(source: &Block16, prediction: &Block16, dct_field: bool, out: &
 {
     for block in 0..6usize {
         out[block] = transform_one(source, prediction, dct_field, block);
+    }
+}
+
+/// The levels of a block.
+#[inline(always)]
+fn quantise_one(transform: &[i32; 64], kinds: &[BlockKind; 2], block: usize, out: &mut Levels)
+    requires kinds { All IsKind kinds.now }
+    requires precision { All (λ kind. kind.precision ≡ 0) kinds.now }
+    requires coefficients { All IsCoefficient transform.now }
+    ensures value { out.new.at ≡ quantised transform.now (kind_of (kind_at kinds.now 0) (kind_at kinds.now 1) block) }
+    ensures levels { All IsLevel out.new.at }
+{
+    if block < 4 {
+        quantise(transform, &kinds[0], out);
+    } else {
+        quantise(transform, &kinds[1], out);
+    }
+}
+
+/// The levels of the six blocks, by the kinds of luma and of chroma blocks.
+pub fn quantise_blocks(transforms: &[[i32; 64]; 6], kinds: &[BlockKind; 2], out: &mut [Levels; 6])
+    requires kinds { All IsKind kinds.now }
+    requires precision { All (λ kind. kind.precision ≡ 0) kinds.now }
+    requires coefficients { All (All IsCoefficient) transforms.now }
+    ensures value { levels_of out.new ≡ quantised_by transforms.now (kind_at kinds.now 0) (kind_at kinds.now 1) }
+    ensures levels { All (λ l. All IsLevel l.at) out.new }
+{
+    for block in 0..6usize {
+        quantise_one(&transforms[block], kinds, block, &mut out[block]);
     }
 }
 

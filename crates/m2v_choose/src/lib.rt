@@ -3,12 +3,16 @@
 #![tactic(auto)]
 
 mod blocks;
+mod coding;
+mod intra;
 mod laws;
 mod squares;
+mod task;
+mod trial;
 mod values;
 
 pub use laws::{
-    law_choice_dc, law_choice_fits, law_choice_leaves, law_choice_written, law_first_of_least,
+    law_choice_dc, law_choice_fits, law_choice_inside, law_choice_leaves, law_choice_written, law_first_of_least,
     law_hold_fits, law_own_ready, law_worked_rows,
 };
-pub use values::Limits;
+pub use values::{Choice, Limits};

@@ -5,16 +5,9 @@ use Rattle.std.proofs.lemmas.List.Elements.{All-from_get_or}
 use Rattle.m2v_idct.specs.Ranges.{IsCoefficient}
 use Rattle.m2v_idct.specs.Forward.{forward_of}
 use Rattle.m2v_choose.specs.Decisions.{differences}
+use Rattle.m2v_choose.proofs.Sums.{set_next}
 use Rattle.m2v_choose.specs.Trials.{transforms_of}
 use Rattle.m2v_choose.proofs.blocks.transform.Goals as goal
-
--- one more element
-set_next : {A : Type 0} (P : ℕ → A → Type 0) (xs : List A) (d : A) (n : ℕ) (v : A) → n < length xs → ((k : ℕ) → k < n → P k (get_or xs k d)) → P n v
-    → (k : ℕ) → k < n + 1 → P k (get_or (set xs n v) k d)
-set_next P xs d n v inside h here =
-    below_more (λ k. P k (get_or (set xs n v) k d)) n
-    (λ k l. let ne : k ≢ n = omega arith in rw get_or-set_other (h k l))
-    (rw get_or-set_same here)
 
 pub loop-block-preserved : goal.loop-block-preserved
 loop-block-preserved c =
