@@ -15,3 +15,5 @@ pub mod IntraCoded
 pub mod Stays
 pub mod Inside
 pub mod InsideLaws
+pub mod Better
+pub mod Predicted

@@ -3,6 +3,7 @@ use Rattle.std.specs.Prelude.{ℕ, filter, IsTrue, false, not, cond, ◌&&◌, �
 use Rattle.std.specs.List.{range_with_len, list_all}
 use Rattle.m2v_plane.specs.declared.dims.Dims.{Dims}
 use Rattle.m2v_plane.specs.declared.planes.Lines.{Lines}
+use Rattle.m2v_plane.specs.declared.planes.Plane.{Plane}
 use Rattle.m2v_quant.specs.declared.kind.BlockKind.{BlockKind}
 use Rattle.m2v_quant.specs.Quantiser.{levels_of}
 use Rattle.m2v_idct.specs.Forward.{forward_of}
@@ -11,16 +12,25 @@ use Rattle.m2v_macro.specs.declared.values.SliceState.{SliceState}
 use Rattle.m2v_macro.specs.declared.values.PictureContext.{PictureContext}
 use Rattle.m2v_macro.specs.States.{is_field, skips, pmv_before, dc_reset}
 use Rattle.m2v_macro.specs.Conditions.{IsMacro}
+use Rattle.m2v_macro.specs.Macros.{macro_of, no_vectors}
+use Rattle.m2v_macroblock.specs.Modes.{mode_of}
 use Rattle.m2v_macro.specs.declared.values.MacroSyntax.{MacroSyntax}
+use Rattle.m2v_macro.specs.declared.values.Selected.{Selected}
+use Rattle.m2v_macro.specs.declared.values.Direction.{Direction}
+use Rattle.m2v_vector.specs.Predictors.{zeros}
+use Rattle.m2v_pred.specs.declared.mode.MbPlace.{MbPlace}
+use Rattle.m2v_pred.specs.Vectors.{IsPlace, IsInside, HoldsRead}
 use Rattle.m2v_pred.specs.Predicted.{block_by}
 use Rattle.m2v_macroblock.specs.Macroblocks.{Macroblock, macroblock_of}
 use Rattle.m2v_macroblock.specs.Conditions.{AreDc}
 use Rattle.m2v_macroblock.specs.Predictions.{View, prediction_of, sample_at}
 use Rattle.m2v_search.specs.Least.{least}
-use Rattle.m2v_search.specs.Near.{is_field as is_field_line}
+use Rattle.m2v_search.specs.Near.{HasNear, is_field as is_field_line}
 use Rattle.m2v_choose.specs.declared.values.Limits.{Limits}
 use Rattle.m2v_choose.specs.declared.values.Choice.{Choice}
 use Rattle.m2v_choose.specs.declared.trial.Best.{Best}
+use Rattle.m2v_choose.specs.declared.vectors.FieldVector.{FieldVector}
+use Rattle.m2v_choose.specs.declared.vectors.Vectors.{Vectors}
 use Rattle.m2v_choose.specs.declared.task.Task.{Task}
 use Rattle.m2v_choose.specs.Decisions.{Decision, Candidate, place_of, increment_of, block_place, differences}
 use Rattle.m2v_choose.specs.Choice.{bits_taken, score, fits}
@@ -165,3 +175,47 @@ pub record CanCode (t : Task) (m : MacroSyntax) : Type 0 where
 -- reference lines that a picture reads: a frame reads frames and fields, a field reads fields
 abbrev pub IsReference : ℕ → Lines → Type 0
 IsReference structure l = (structure ≡ 3) ⊎ IsTrue (is_field_line l)
+
+-- where the macroblock lies
+abbrev pub place_for : Task → MbPlace
+place_for t = record { row = t.limits.now.row; column = t.limits.now.column; structure = t.context.now.extension.structure }
+
+-- a reference of this size can be read: the macroblock lies in it, and it holds the rows that are near
+pub record IsRead (d : Dims) (holds : Plane → Lines → ℕ → Type 0) (place : MbPlace) : Type 0 where
+  pub lies : IsPlace place d
+  pub near : (l : Lines) → IsReference place.structure l → HasNear holds d place l
+
+-- vectors as the elements of a macroblock
+abbrev pub selected_by : FieldVector → Selected
+selected_by v = record { bottom = v.bottom; vector = v.vector; dmvector = zeros }
+
+abbrev pub direction_by : Vectors → Direction
+direction_by v = record { first = selected_by v.first; second = selected_by v.second }
+
+-- references by their size and samples
+abbrev pub references_of : Dims → View → View → References
+references_of dims forward backward = record { dims = dims; forward = forward; backward = backward }
+
+-- ---- predictions
+
+-- a macroblock with a motion type and directions, without blocks
+unfoldable pub moving_syntax : ℕ → ℕ → Bool → Bool → Direction → Direction → MacroSyntax
+moving_syntax increment form has_forward has_backward forward backward =
+    macro_of increment (record { quant = false; forward = has_forward; backward = has_backward; pattern = false; intra = false })
+    form false 0 (cond has_forward forward no_vectors) (cond has_backward backward no_vectors) 0
+
+-- a macroblock's motion stays inside the references, which hold what is read
+pub record CanPredict (t : Task) (dims : Dims) (ahead behind : Plane → Lines → ℕ → Type 0) (m : MacroSyntax) : Type 0 where
+  pub some : ((mode_of t.context.now m).forward ≡ true) ⊎ ((mode_of t.context.now m).backward ≡ true)
+  pub lies : IsPlace (place_for t) dims
+  pub inside : IsInside (mode_of t.context.now m) (place_for t) dims
+  pub forward : (mode_of t.context.now m).forward ≡ true → HoldsRead ahead (mode_of t.context.now m) 0 (place_for t)
+  pub backward : (mode_of t.context.now m).backward ≡ true → HoldsRead behind (mode_of t.context.now m) 1 (place_for t)
+  pub told : (mode_of t.context.now m).backward ≡ true → m.kind.backward ≡ true
+
+-- a prediction can be tried, without blocks or only with them
+pub record CanTry (t : Task) (dims : Dims) (ahead behind : Plane → Lines → ℕ → Type 0) (m : MacroSyntax) (uncoded : Bool) : Type 0 where
+  pub code : CanCode t m
+  pub macro : uncoded ≡ true → IsMacro t.context.now t.first m
+  pub pattern : m.pattern ≡ 0
+  pub predict : CanPredict t dims ahead behind m

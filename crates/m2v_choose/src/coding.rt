@@ -26,7 +26,7 @@ pub fn has_dct_type(context: &PictureContext) -> bool
 
 /// Whether a quantiser is sent: it isn't the last one that was.
 #[inline(always)]
-fn sends(task: &Task, q: u8) -> bool
+pub fn sends(task: &Task, q: u8) -> bool
     ensures { result ≡ sends_code task.now.state.now q }
 {
     q != task.state.quantiser
@@ -43,7 +43,7 @@ pub fn second_q(q: u8) -> u8
 
 /// A macroblock that has a prediction, with coded blocks.
 #[inline(always)]
-fn with_blocks(bare: &MacroSyntax, send: bool, q: u8, dct_field: bool, pattern: u8) -> MacroSyntax
+pub fn with_blocks(bare: &MacroSyntax, send: bool, q: u8, dct_field: bool, pattern: u8) -> MacroSyntax
     ensures { result ≡ with_blocks_of bare.now send q dct_field pattern }
 {
     let mut m = *bare;

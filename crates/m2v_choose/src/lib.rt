@@ -6,10 +6,12 @@ mod blocks;
 mod coding;
 mod intra;
 mod laws;
+mod predictions;
 mod squares;
 mod task;
 mod trial;
 mod values;
+mod vectors;
 
 pub use laws::{
     law_choice_dc, law_choice_fits, law_choice_inside, law_choice_leaves, law_choice_written, law_first_of_least,
