@@ -86,7 +86,7 @@ module _ (d : Decision) (size : IsSize d.dims) (place : IsPlace (place_of d) d.d
 
 -- ---- candidates
 
-no_predictions : (d : Decision) → d.context.kind ≡ 1 → predictions d ≡ []
+pub no_predictions : (d : Decision) → d.context.kind ≡ 1 → predictions d ≡ []
 unfolding predictions
 no_predictions d e = rw e refl
 

@@ -17,3 +17,4 @@ pub mod Inside
 pub mod InsideLaws
 pub mod Better
 pub mod Predicted
+pub mod Motions

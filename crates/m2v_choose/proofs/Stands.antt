@@ -420,6 +420,33 @@ module _ (d : Decision) (own : IsOwn d.context) where
       some_kind P true xs h = All-nil P
       some_kind P false xs h = h
 
+  -- one of them
+  pub plain_told_one : d.limits.search ≤ 15 → (hf hb : Bool) → ((d.context.kind ≡ 2) × ((hf ≡ true) × (hb ≡ false))) ⊎ ((d.context.kind ≡ 3) × ((hf || hb) ≡ true))
+      → PredictionStands d.context (prediction (plain_form d.context) hf hb (plain_direction d d.forward) (plain_direction d d.backward))
+  unfolding plain_form
+  plain_told_one le hf hb kind =
+      let field = is_field d.context in
+      prediction_stands d.context own (if field then 1 else 2) hf hb (plain_direction d d.forward) (plain_direction d d.backward) kind (plain_forms field)
+      (plain_untold field d.context.extension.frame_pred_frame_dct) (plain_stands d d.forward le) (plain_stands d d.backward le)
+
+  pub fields_one : d.limits.search ≤ 15 → has_dct_type d ≡ true → (hf hb : Bool) → ((d.context.kind ≡ 2) × ((hf ≡ true) × (hb ≡ false))) ⊎ ((d.context.kind ≡ 3) × ((hf || hb) ≡ true))
+      → PredictionStands d.context (prediction 1 hf hb (field_direction d d.forward) (field_direction d d.backward))
+  fields_one le has hf hb kind =
+      let field = is_field d.context in
+      let parts = and_parts (not field) (not d.context.extension.frame_pred_frame_dct) has in
+      let frame : field ≡ false = not_true field parts.0 in
+      prediction_stands d.context own 1 hf hb (field_direction d d.forward) (field_direction d d.backward) kind (inl refl)
+      (λ e. absurd (field_told field d.context.extension.frame_pred_frame_dct has e))
+      (subst (λ (b : Bool). DirectionStands (shape_of b 1) (field_direction d d.forward)) (sym frame) (field_stands d d.forward le))
+      (subst (λ (b : Bool). DirectionStands (shape_of b 1) (field_direction d d.backward)) (sym frame) (field_stands d d.backward le))
+    where
+      not_true : (b : Bool) → not b ≡ true → b ≡ false
+      not_true true e = absurd cc
+      not_true false e = refl
+
+  pub zero_one : d.context.kind ≡ 2 → PredictionStands d.context (zero_prediction d)
+  zero_one two = zero_stands d.context own two
+
   pub still_prediction_stands : (d.context.kind ≡ 2) ⊎ (d.context.kind ≡ 3) → PredictionStands d.context (still_prediction d.context)
   unfolding still_prediction plain_form
   still_prediction_stands kind =

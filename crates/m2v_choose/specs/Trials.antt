@@ -1,5 +1,5 @@
 -- Words of the choice's code: the blocks of a macroblock, and the best candidate so far.
-use Rattle.std.specs.Prelude.{ℕ, filter, IsTrue, false, not, cond, ◌&&◌, ◌≡◌, ◌⊎◌, ◌<◌, ◌≤◌, ◌+◌, ◌-◌, ◌*◌, Bool, true, nat_eq, List, [], map, slice_index, slice_index_or, if◌then◌else◌, ℤ, pos, neg_ℤ, ◌-ℤ◌, ◌≤ℤ◌, ◌<ℤ◌, unsigned_abs}
+use Rattle.std.specs.Prelude.{ℕ, ◌≢◌, ◌||◌, filter, IsTrue, false, not, cond, ◌&&◌, ◌≡◌, ◌⊎◌, ◌<◌, ◌≤◌, ◌+◌, ◌-◌, ◌*◌, Bool, true, nat_eq, List, [], map, slice_index, slice_index_or, if◌then◌else◌, ℤ, pos, neg_ℤ, ◌-ℤ◌, ◌≤ℤ◌, ◌<ℤ◌, unsigned_abs}
 use Rattle.std.specs.List.{range_with_len, list_all}
 use Rattle.m2v_plane.specs.declared.dims.Dims.{Dims}
 use Rattle.m2v_plane.specs.declared.planes.Lines.{Lines}
@@ -219,3 +219,14 @@ pub record CanTry (t : Task) (dims : Dims) (ahead behind : Plane → Lines → �
   pub macro : uncoded ≡ true → IsMacro t.context.now t.first m
   pub pattern : m.pattern ≡ 0
   pub predict : CanPredict t dims ahead behind m
+
+-- the directions that a picture's type has with a motion type: forward in a P picture, at least one in a B picture
+abbrev pub Goes : ℕ → Bool → Bool → Type 0
+Goes kind has_forward has_backward =
+    ((kind ≡ 2) × ((has_forward ≡ true) × (has_backward ≡ false))) ⊎ ((kind ≡ 3) × ((has_forward || has_backward) ≡ true))
+
+-- the references that a picture's type has can be read, and both are of one size
+pub record AreReferences (kind : ℕ) (place : MbPlace) (forward_size backward_size : Dims) (ahead behind : Plane → Lines → ℕ → Type 0) : Type 0 where
+  pub forward : kind ≢ 1 → IsRead forward_size ahead place
+  pub backward : kind ≡ 3 → IsRead backward_size behind place
+  pub sizes : kind ≡ 3 → backward_size ≡ forward_size

@@ -6,6 +6,7 @@ mod blocks;
 mod coding;
 mod intra;
 mod laws;
+mod motion;
 mod predictions;
 mod squares;
 mod task;
