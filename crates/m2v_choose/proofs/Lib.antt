@@ -18,3 +18,4 @@ pub mod InsideLaws
 pub mod Better
 pub mod Predicted
 pub mod Motions
+pub mod Holding

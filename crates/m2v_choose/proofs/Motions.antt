@@ -113,7 +113,7 @@ unfolding moving_syntax uncoded_syntax
 zero_is t r form a b task same =
     λ i. macro_of (task.increment r i) (record { quant = false; forward = false; backward = false; pattern = false; intra = false }) (same i) false 0 no_vectors no_vectors 0
 
-still_is : (t : Task) (r : References) (form : ℕ) (hf hb : Bool) (a b : Direction) → IsTask t → form ≡ plain_form t.context.now
+pub still_is : (t : Task) (r : References) (form : ℕ) (hf hb : Bool) (a b : Direction) → IsTask t → form ≡ plain_form t.context.now
     → hf ≡ nat_eq t.context.now.kind 2 → hb ≡ nat_eq t.context.now.kind 3 → a ≡ still_vector t.context.now → b ≡ still_vector t.context.now
     → moving_syntax t.increment form hf hb a b ≡ uncoded_syntax (decided r t) (still_prediction t.context.now)
 unfolding moving_syntax uncoded_syntax still_prediction

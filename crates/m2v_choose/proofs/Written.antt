@@ -269,7 +269,7 @@ module _ (d : Decision) (own : IsOwn d.context) (st : SliceState) (step : IsStep
       All-append Writes (skip ++ intra) (flat_map (by_prediction d) (predictions d)) (All-append Writes skip intra skip_all intra_all)
       (flat_all Writes (PredictionStands d.context) (by_prediction d) (λ p h. prediction_written limits.q p h) (predictions d) (predictions_stand d own limits.search))
 
-  held_written : AreDc 0 d.state.dc → IsCode d.state.quantiser → IsWritable d.context st (record { syntax = held_intra d; levels = held_levels d })
+  pub held_written : AreDc 0 d.state.dc → IsCode d.state.quantiser → IsWritable d.context st (record { syntax = held_intra d; levels = held_levels d })
   unfolding held_levels intra_syntax
   held_written dc code =
       let m = held_intra d in

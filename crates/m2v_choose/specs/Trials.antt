@@ -230,3 +230,7 @@ pub record AreReferences (kind : ℕ) (place : MbPlace) (forward_size backward_s
   pub forward : kind ≢ 1 → IsRead forward_size ahead place
   pub backward : kind ≡ 3 → IsRead backward_size behind place
   pub sizes : kind ≡ 3 → backward_size ≡ forward_size
+
+-- in a B picture a macroblock before has told its directions, or is intra
+abbrev pub HasDirection : PictureContext → SliceState → Limits → Type 0
+HasDirection c st limits = c.kind ≡ 3 → limits.first ≡ false → (st.forward ≡ true) ⊎ ((st.backward ≡ true) ⊎ (st.intra ≡ true))

@@ -3,6 +3,7 @@
 #![tactic(auto)]
 
 mod blocks;
+mod choice;
 mod coding;
 mod intra;
 mod laws;

@@ -62,7 +62,7 @@ pub fn moving_syntax(
 }
 
 /// Predicts a macroblock by its own motion, or forward by vector 0 where it has none.
-fn predict_moving<V: RefView>(task: &Task, forward: &V, backward: &V, bare: &MacroSyntax, out: &mut Block16)
+pub fn predict_moving<V: RefView>(task: &Task, forward: &V, backward: &V, bare: &MacroSyntax, out: &mut Block16)
     requires task { IsTask task.now }
     requires code { CanCode task.now bare.now }
     requires predict { CanPredict task.now (V.size forward.now) (V.Holds forward.now) (V.Holds backward.now) bare.now }

@@ -28,6 +28,7 @@ pub fn no_levels() -> [Levels; 6]
 }
 
 /// The best candidate so far.
+#[derive(Clone, Copy)]
 pub struct Best {
     /// What is chosen with it.
     pub choice: Choice,
