@@ -19,3 +19,4 @@ pub mod Better
 pub mod Predicted
 pub mod Motions
 pub mod Holding
+pub mod Skips
