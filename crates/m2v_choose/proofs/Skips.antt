@@ -22,10 +22,13 @@ use Rattle.m2v_macroblock.specs.Modes.{zero_motion, without_motion_type, skipped
 use Rattle.m2v_search.specs.Near.{HasNear}
 use Rattle.m2v_choose.specs.declared.task.Task.{Task}
 use Rattle.m2v_choose.specs.declared.trial.Best.{Best}
-use Rattle.m2v_choose.specs.Decisions.{Decision, Candidate, place_of, skipped}
+use Rattle.m2v_choose.specs.Decisions.{Decision, increment_of, Candidate, place_of, skipped}
 use Rattle.m2v_choose.specs.Candidates.{may_skip, hold, codings, intra_by, by_prediction, predictions, others}
 use Rattle.m2v_choose.specs.Choice.{bits_taken, choice_of}
-use Rattle.m2v_choose.specs.Own.{AreNear}
+use Rattle.m2v_choose.specs.Own.{IsOwn, AreNear}
+use Rattle.m2v_choose.specs.Laws.{Fits}
+use Rattle.m2v_choose.proofs.Chosen.{choice_fits}
+use Rattle.m2v_choose.proofs.Held.{hold_fits}
 use Rattle.m2v_choose.specs.Trials.{References, decided, IsTask, IsReference, AreReferences, HasDirection, place_for, candidate_of, best_of, IsRated, Tried}
 use Rattle.m2v_choose.proofs.Stands.{first_of, second_of}
 use Rattle.m2v_choose.proofs.Stays.{SourceNear, direction_held}
@@ -150,3 +153,10 @@ module _ (d : Decision) where
 
   pub chosen_bits : (a z : Best) → candidate_of a.choice ≡ hold d → Tried d a z (others d) → z.choice.bits ≡ bits_taken d (choice_of d)
   chosen_bits a z held tried = tried.rated.bits ∙ ap (bits_taken d) (chosen a z held tried)
+
+-- ---- bits
+
+-- hold is short enough where it has room, so the choice is
+pub choice_short : (d : Decision) → IsOwn d.context → AreNear d.state.pmv.at → 1 ≤ increment_of d → increment_of d ≤ d.context.columns → bits_taken d (hold d) ≤ d.limits.room → Fits d (choice_of d)
+choice_short d own near some most room =
+    choice_fits d (record { most = omega (arith, hold_fits d own near (omega (arith, some)), most, own.columns.1); room = room })
