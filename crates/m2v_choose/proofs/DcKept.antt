@@ -38,8 +38,16 @@ after_dc : (c : PictureContext) (st : SliceState) (m : MacroSyntax) → c.extens
 unfolding after dc_behind
 after_dc c st m e own = either AreOwnDc (m.kind.intra && not (skips st m.increment)) st.dc (dc_reset c) own (reset_dc c e)
 
+pub reset_own : (c : PictureContext) → c.extension.dc_precision ≡ 0 → AreDc 0 (dc_reset c)
+unfolding AreOwnDc
+reset_own c e = reset_dc c e
+
+pub behind_dc : (c : PictureContext) (st : SliceState) (m : MacroSyntax) → c.extension.dc_precision ≡ 0 → AreDc 0 st.dc → AreDc 0 (after c st m).dc
+unfolding AreOwnDc
+behind_dc c st m e own = after_dc c st m e own
+
 -- a DC level of the encoder's quantiser is in its range
-level_dc : (f : ℤ) → IsDc 0 (dc_level f)
+pub level_dc : (f : ℤ) → IsDc 0 (dc_level f)
 unfolding dc_level
 level_dc f =
     let z = int_shr (f +ℤ pos 4) 3 in

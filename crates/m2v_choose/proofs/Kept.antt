@@ -110,7 +110,7 @@ after_near m p leaves near =
     either (λ (q : Pmv). AreNear q.at) (resets m) none _ zero_near
     (all_near (entry_after m p 0 0) (entry_after m p 0 1) (entry_after m p 1 0) (entry_after m p 1 1) (entry_near m p 0 0 leaves near) (entry_near m p 0 1 leaves near) (entry_near m p 1 0 leaves near) (entry_near m p 1 1 leaves near))
 
-before_near : (c : PictureContext) (st : SliceState) (n : ℕ) → AreNear st.pmv.at → AreNear (pmv_before c st n).at
+pub before_near : (c : PictureContext) (st : SliceState) (n : ℕ) → AreNear st.pmv.at → AreNear (pmv_before c st n).at
 unfolding pmv_before LeavesNear
 before_near c st n near =
     let h = is_halved (is_field c) 0 in
@@ -143,7 +143,7 @@ unfolding is_halved
 plain_halved true = refl
 plain_halved false = refl
 
-whole_within : (d : Decision) (view : View) (form : SearchForm) → reach form d.limits.search ≤ 15 → d.limits.search ≤ 15 → IsWithin 31 31 (vector_for d view form)
+pub whole_within : (d : Decision) (view : View) (form : SearchForm) → reach form d.limits.search ≤ 15 → d.limits.search ≤ 15 → IsWithin 31 31 (vector_for d view form)
 unfolding vector_for
 whole_within d view form down across =
     let h = vector_within d.dims (view Y) d.source d.limits.row d.limits.column form d.limits.search in
@@ -152,7 +152,7 @@ whole_within d view form down across =
       y = record { low = omega (arith, ints, h.y.low, down); high = omega (arith, ints, h.y.high, down) };
     }
 
-half_within : (d : Decision) (view : View) (form : SearchForm) → reach form d.limits.search ≤ 7 → d.limits.search ≤ 15 → IsWithin 31 15 (vector_for d view form)
+pub half_within : (d : Decision) (view : View) (form : SearchForm) → reach form d.limits.search ≤ 7 → d.limits.search ≤ 15 → IsWithin 31 15 (vector_for d view form)
 unfolding vector_for
 half_within d view form down across =
     let h = vector_within d.dims (view Y) d.source d.limits.row d.limits.column form d.limits.search in

@@ -5,3 +5,17 @@ pub mod Kept
 pub mod OwnReady
 pub mod DcKept
 pub mod Worked
+pub mod Stands
+pub mod Written
+pub mod Sums
+pub mod Tried
+pub mod Coded
+pub mod IntraCoded
+pub mod Stays
+pub mod Inside
+pub mod InsideLaws
+pub mod Better
+pub mod Predicted
+pub mod Motions
+pub mod Holding
+pub mod Skips

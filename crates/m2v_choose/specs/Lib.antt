@@ -4,3 +4,4 @@ pub mod Choice
 pub mod Own
 pub mod Laws
 pub mod Rows
+pub mod Trials

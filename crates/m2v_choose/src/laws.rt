@@ -1,15 +1,17 @@
 //! What holds of the choice of a macroblock.
-ghost use Rattle.std.specs.Prelude.{ℕ, ◌*◌, ◌<◌, ◌≤◌};
+ghost use Rattle.std.specs.Prelude.{ℕ, ◌≡◌, ◌≢◌, ◌*◌, ◌<◌, ◌≤◌, false};
+ghost use Rattle.m2v_plane.specs.Sizes.{IsSize};
+ghost use Rattle.m2v_pred.specs.Vectors.{IsPlace};
 ghost use Rattle.m2v_macro.specs.declared.values.SliceState.{SliceState};
 ghost use Rattle.m2v_macro.specs.declared.values.PictureContext.{PictureContext};
 ghost use Rattle.m2v_macro.specs.States.{at_start};
-ghost use Rattle.m2v_macro.specs.Conditions.{IsContext, IsReady};
+ghost use Rattle.m2v_macro.specs.Conditions.{IsContext, IsReady, IsStep};
 ghost use Rattle.m2v_macroblock.specs.Conditions.{AreDc};
-ghost use Rattle.m2v_choose.specs.Decisions.{Decision, increment_of};
+ghost use Rattle.m2v_choose.specs.Decisions.{Decision, increment_of, place_of};
 ghost use Rattle.m2v_choose.specs.Candidates.{hold};
 ghost use Rattle.m2v_choose.specs.Choice.{bits_taken, choice_of, state_behind};
 ghost use Rattle.m2v_choose.specs.Own.{IsOwn, AreNear, IsCode, IsOwnState, AreLimits};
-ghost use Rattle.m2v_choose.specs.Laws.{IsFirstOfLeast, Fits};
+ghost use Rattle.m2v_choose.specs.Laws.{IsFirstOfLeast, Fits, IsWritable, StaysInside};
 ghost use Rattle.m2v_choose.specs.Rows.{WorkedRows};
 
 /// The choice is the first of least score of hold and of the others that fit: none scores less, and those before it score
@@ -41,6 +43,21 @@ pub fn law_choice_leaves()
 pub fn law_choice_dc()
     ensures start { (c : PictureContext) (row q next : ℕ) → IsOwn c → AreDc 0 (at_start c row q next).dc }
     ensures choice { (d : Decision) → IsOwn d.context → AreDc 0 d.state.dc → AreDc 0 (state_behind d (choice_of d)).dc }
+{}
+
+/// A choice that isn't skipped can be written: in a state that leaves the macroblock room for its increment, with the
+/// predictors of this encoder.
+pub fn law_choice_written()
+    ensures { (d : Decision) → IsOwn d.context → IsOwnState d.state → AreLimits d.limits → AreDc 0 d.state.dc
+        → IsStep d.context d.state (increment_of d) → (choice_of d).skip ≡ false
+        → IsWritable d.context d.state (choice_of d).macroblock }
+{}
+
+/// The prediction of a choice reads nothing outside its references: by its own motion, and by that of a skipped macroblock
+/// where it is one. A picture without references has none.
+pub fn law_choice_inside()
+    ensures { (d : Decision) → IsOwn d.context → AreLimits d.limits
+        → (d.context.kind ≢ 1 → IsSize d.dims × IsPlace (place_of d) d.dims) → StaysInside d (choice_of d) }
 {}
 
 /// A slice begins with a state of this encoder, and in its pictures the headers and these states are as readers and writers of

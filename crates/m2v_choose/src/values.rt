@@ -1,3 +1,6 @@
+use m2v_macro::MacroSyntax;
+use m2v_quant::Levels;
+
 /// What the choice of a macroblock keeps to, and where the macroblock stands.
 #[derive(Clone, Copy, Debug, PartialEq, Eq)]
 pub struct Limits {
@@ -15,4 +18,17 @@ pub struct Limits {
     pub column: u32,
     /// The macroblock row of the picture, from 0.
     pub row: u32,
+}
+
+/// What was chosen for a macroblock.
+#[derive(Clone, Copy)]
+pub struct Choice {
+    /// It is skipped, and nothing is written: then the rest is blank, and 0.
+    pub skip: bool,
+    /// Its elements up to the pattern.
+    pub syntax: MacroSyntax,
+    /// The levels of its six blocks in scan order, those of blocks that aren't coded too.
+    pub levels: [Levels; 6],
+    /// How many bits all of it takes.
+    pub bits: u32,
 }

@@ -1,0 +1,234 @@
+-- Candidates that are tried: what their bits are counted by, what they score, and which is the better one.
+use Rattle.std.proofs.Common.{◌≡◌, ℕ, ◌+◌, ◌-◌, ◌*◌, ◌^◌, ◌<◌, ◌≤◌, Bool, true, false, cond, ◌&&◌, not, All, List, [], ◌∷◌, ◌++◌, filter, map, refl, ap, sym, ◌∙◌, subst, arith, ℤ, pos, neg_ℤ, ◌+ℤ◌, length}
+use Rattle.std.specs.Prelude.{nat_eq, nat_le, nat_lt, if◌then◌else◌, int_le}
+use Rattle.std.specs.List.{range_with_len, flat_map, list_all}
+use Rattle.std.proofs.lemmas.Int.{ints}
+use Rattle.std.proofs.lemmas.Bool.{and_parts, le-leb, lt-ltb, le-ltb, leb-true, ltb-true}
+use Rattle.std.proofs.lemmas.List.Sums.{AllPass-from_list_all}
+use Rattle.std.proofs.lemmas.List.Elements.{All-nil, All-cons, All-head, All-tail, All-weaker, filter-append}
+use Rattle.m2v_quant.specs.declared.kind.Levels.{Levels}
+use Rattle.m2v_quant.specs.Kinds.{IsLevel}
+use Rattle.m2v_quant.specs.Matrices.{default_matrix, intra_matrix}
+use Rattle.m2v_block.specs.Texts.{block_text}
+use Rattle.m2v_macro.specs.declared.values.MacroSyntax.{MacroSyntax}
+use Rattle.m2v_macro.specs.declared.values.SliceState.{SliceState}
+use Rattle.m2v_macro.specs.declared.values.PictureContext.{PictureContext}
+use Rattle.m2v_macro.specs.States.{skips, pmv_before, dc_reset, dc_behind, after, column, address, not_past, in_order, may_skip}
+use Rattle.m2v_macro.specs.Conditions.{IsStep, IsReady, IsAddress}
+use Rattle.m2v_macro.specs.Texts.{macro_text}
+use Rattle.m2v_recon.specs.Macro.{is_coded}
+use Rattle.m2v_recon.specs.Steps.{levels_of}
+use Rattle.m2v_macroblock.specs.Macroblocks.{Macroblock, kind_for, block_levels, predictor}
+use Rattle.m2v_macroblock.specs.Modes.{skipped_mode}
+use Rattle.m2v_macroblock.specs.Texts.{block_in_text, blocks_text, macroblock_text}
+use Rattle.m2v_macroblock.specs.Predictions.{prediction_of, sample_at}
+use Rattle.m2v_macroblock.specs.Conditions.{AreDc, IsMatrix, IsPicture}
+use Rattle.m2v_pred.specs.Predicted.{predicted, block_by}
+use Rattle.m2v_search.specs.Least.{least, better}
+use Rattle.m2v_choose.specs.declared.task.Task.{Task}
+use Rattle.m2v_choose.specs.declared.trial.Best.{Best}
+use Rattle.m2v_choose.specs.Decisions.{Decision, Candidate, place_of, increment_of, skipped, written}
+use Rattle.m2v_choose.specs.Choice.{bits_taken, candidate_at, samples_of, squared, score, fits}
+use Rattle.m2v_choose.specs.Own.{IsOwn, IsOwnState}
+use Rattle.m2v_choose.specs.Trials.{as_first, References, decided, IsTask, AreAsked, candidate_of, rebuilt_by, Predicts, IsRated, best_of, Tried}
+use Rattle.m2v_choose.proofs.Chosen.{either}
+use Rattle.m2v_choose.proofs.Kept.{before_near}
+use Rattle.m2v_choose.proofs.OwnReady.{own_context, own_ready}
+use Rattle.m2v_choose.proofs.DcKept.{reset_own}
+
+-- ---- the state in which a macroblock is the first
+
+matrix_test : ℕ → Bool
+matrix_test x = nat_le 1 x && nat_lt x (2 ^ 8)
+
+intra_passes : list_all matrix_test (default_matrix true) ≡ true
+unfolding matrix_test default_matrix intra_matrix
+intra_passes = refl
+
+other_passes : list_all matrix_test (default_matrix false) ≡ true
+unfolding matrix_test default_matrix
+other_passes = refl
+
+passes_is : (x : ℕ) → matrix_test x ≡ true → (1 ≤ x) × (x < 2 ^ 8)
+unfolding matrix_test
+passes_is x e = let h = and_parts (nat_le 1 x) (nat_lt x (2 ^ 8)) e in (leb-true 1 x h.0, ltb-true x (2 ^ 8) h.1)
+
+is_matrix : (xs : List ℕ) → list_all matrix_test xs ≡ true → IsMatrix xs
+is_matrix xs e = All-weaker (λ x. matrix_test x ≡ true) (λ x. (1 ≤ x) × (x < 2 ^ 8)) passes_is xs (AllPass-from_list_all matrix_test xs e)
+
+pub own_picture : (c : PictureContext) → IsOwn c → IsPicture c
+own_picture c own = record {
+  context = own_context c own;
+  intra = subst IsMatrix (sym own.intra) (is_matrix (default_matrix true) intra_passes);
+  non_intra = subst IsMatrix (sym own.non_intra) (is_matrix (default_matrix false) other_passes);
+}
+
+first_own : (c : PictureContext) (st : SliceState) (n : ℕ) → IsOwnState st → IsOwnState (as_first c st n)
+unfolding as_first
+first_own c st n own = record { predictors = before_near c st n own.predictors; quantiser = own.quantiser }
+
+pub first_ready : (t : Task) → IsTask t → IsReady t.context.now t.first
+first_ready t task =
+    subst (IsReady t.context.now) (sym task.first)
+    (own_ready t.context.now (as_first t.context.now t.state.now t.increment) task.asked.own (first_own t.context.now t.state.now t.increment task.asked.state))
+
+pub first_address : (t : Task) → IsTask t → IsAddress t.first.address
+unfolding as_first
+first_address t task = subst (λ (st : SliceState). IsAddress st.address) (sym task.first) (omega (arith, ints), omega (arith, ints))
+
+first_dc_of : (c : PictureContext) (st : SliceState) (n : ℕ) → IsOwn c → AreDc 0 st.dc → AreDc 0 (as_first c st n).dc
+unfolding as_first
+first_dc_of c st n own dc = either (AreDc 0) (skips st n) (dc_reset c) st.dc (reset_own c own.precision) dc
+
+pub first_dc : (t : Task) → IsTask t → AreDc t.context.now.extension.dc_precision t.first.dc
+first_dc t task =
+    let h = first_dc_of t.context.now t.state.now t.increment task.asked.own task.asked.dc in
+    subst (λ (p : ℕ). AreDc p t.first.dc) (sym task.asked.own.precision)
+    (subst (λ (st : SliceState). AreDc 0 st.dc) (sym task.first) h)
+
+-- a macroblock may stand there
+step_at_first : (c : PictureContext) (st : SliceState) (n : ℕ) → 1 ≤ n → n ≤ c.columns → IsStep c (as_first c st n) n
+unfolding as_first not_past in_order may_skip column skips
+step_at_first c st n some most =
+    let here : neg_ℤ (pos 1) +ℤ pos n ≡ pos (n - 1) = omega (arith, ints) in
+    let same : int_le (pos (n - 1)) (pos (n - 1)) ≡ true = le-leb (n - 1) (n - 1) (omega arith) in
+    let inside : nat_lt (n - 1) c.columns ≡ true = lt-ltb (n - 1) c.columns (omega arith) in
+    record {
+      some = some;
+      near = ap (λ z. int_le z (pos (n - 1))) here ∙ same;
+      order = ap (λ b. b && int_le (pos (n - 1)) (neg_ℤ (pos 1) +ℤ pos n)) inside ∙ ap (λ z. int_le (pos (n - 1)) z) here ∙ same;
+      skip = refl;
+    }
+
+pub first_step : (t : Task) (r : References) → IsTask t → IsStep t.context.now t.first (increment_of (decided r t))
+first_step t r task =
+    subst (IsStep t.context.now t.first) (task.increment r)
+    (subst (λ (st : SliceState). IsStep t.context.now st t.increment) (sym task.first) (step_at_first t.context.now t.state.now t.increment task.some task.most))
+
+-- ---- the same text
+
+same_dc : (intra skip : Bool) (dc reset : List ℤ) → (if intra && true then (if skip then reset else dc) else reset) ≡ (if intra && not skip then dc else reset)
+same_dc true true dc reset = refl
+same_dc true false dc reset = refl
+same_dc false skip dc reset = refl
+
+pub same_text : (c : PictureContext) (st : SliceState) (x : Macroblock) → macroblock_text c (as_first c st x.syntax.increment) x ≡ macroblock_text c st x
+unfolding macroblock_text macro_text block_in_text as_first after dc_behind pmv_before skips
+same_text c st x =
+    let n = x.syntax.increment in
+    let intra = x.syntax.kind.intra in
+    let quantiser = if x.syntax.kind.quant then x.syntax.quantiser else st.quantiser in
+    ap (λ (dc : List ℤ). macro_text c st x.syntax
+    ++ flat_map (λ block. if is_coded x.syntax.pattern block then
+    block_text (kind_for c intra (nat_lt block 4) quantiser) c.extension.intra_vlc_format (predictor dc x.levels block) (block_levels x.levels block)
+    else []) (range_with_len 0 6))
+    (same_dc intra (not st.first && not (nat_eq n 1)) st.dc (dc_reset c))
+
+-- ---- scores
+
+module _ (d : Decision) (x : Candidate) (old : Best) (rated : IsRated d old) where
+  -- one that doesn't fit is passed over
+  pub left_out : fits d x ≡ false → Tried d old old (x ∷ [])
+  unfolding best_of least
+  left_out e = record { best = rw e refl; rated = rated }
+
+  not_better : (b : Bool) → score d (candidate_of old.choice) ≤ score d x → candidate_of old.choice ≡ least (score d) (candidate_of old.choice) (cond b (x ∷ []) [])
+  unfolding least better
+  not_better true le = rw (le-ltb (score d x) (score d (candidate_of old.choice)) le) refl
+  not_better false le = refl
+
+  -- one that isn't better is left
+  pub kept : old.score ≤ score d x → Tried d old old (x ∷ [])
+  unfolding best_of
+  kept le = record { best = not_better (fits d x) (omega (arith, le, rated.score_is)); rated = rated }
+
+  is_better : score d x < score d (candidate_of old.choice) → x ≡ least (score d) (candidate_of old.choice) (x ∷ [])
+  unfolding least better
+  is_better lt = rw (lt-ltb (score d x) (score d (candidate_of old.choice)) lt) refl
+
+  rated_as : (new : Best) → candidate_of new.choice ≡ x → new.choice.bits ≡ bits_taken d x → new.score ≡ score d x → IsRated d new
+  rated_as new same bits points = record {
+    bits = bits ∙ ap (bits_taken d) (sym same);
+    score_is = points ∙ ap (score d) (sym same);
+  }
+
+  -- a better one is taken
+  pub taken : (new : Best) → candidate_of new.choice ≡ x → new.choice.bits ≡ bits_taken d x → new.score ≡ score d x → fits d x ≡ true → new.score < old.score → Tried d old new (x ∷ [])
+  unfolding best_of
+  taken new same bits points e lt = record {
+    best = same ∙ rw e (is_better (omega (arith, lt, points, rated.score_is)));
+    rated = rated_as new same bits points;
+  }
+
+pub fits_is : (d : Decision) (x : Candidate) (bits : ℕ) → bits ≡ bits_taken d x → (nat_le bits 4608 && nat_le bits d.limits.room) ≡ fits d x
+unfolding fits
+fits_is d x bits e = ap (λ n. nat_le n 4608 && nat_le n d.limits.room) e
+
+-- what a written macroblock scores
+pub written_score : (r : References) (t : Task) (m : MacroSyntax) (ls : List (List ℤ)) (prediction : List ℕ) → Predicts r t m prediction
+    → score (decided r t) (written m ls)
+    ≡ 8 * squared t.source.now.at (rebuilt_by t prediction (record { syntax = m; levels = ls })) + (2 * t.limits.now.q) ^ 2 * bits_taken (decided r t) (written m ls)
+unfolding score candidate_at rebuilt_by
+written_score r t m ls prediction e =
+    ap (λ (p : List ℕ). 8 * squared t.source.now.at (block_by (sample_at t.context.now t.state.now p (record { syntax = m; levels = ls }))) + (2 * t.limits.now.q) ^ 2 * bits_taken (decided r t) (written m ls)) (sym e)
+
+pub skipped_score : (r : References) (t : Task) (prediction : List ℕ)
+    → prediction ≡ block_by (predicted r.forward r.backward (skipped_mode t.context.now t.state.now) (place_of (decided r t)))
+    → score (decided r t) skipped ≡ 8 * squared t.source.now.at prediction
+unfolding score candidate_at bits_taken
+skipped_score r t prediction e =
+    let none : 8 * squared t.source.now.at prediction + (2 * t.limits.now.q) ^ 2 * 0 ≡ 8 * squared t.source.now.at prediction = omega arith in
+    ap (λ (p : List ℕ). 8 * squared t.source.now.at p + (2 * t.limits.now.q) ^ 2 * 0) (sym e) ∙ none
+
+-- ---- one list behind another
+
+least_on : {A : Type 0} (cost : A → ℕ) (best : A) (xs ys : List A) → least cost best (xs ++ ys) ≡ least cost (least cost best xs) ys
+unfolding least
+least_on cost best [] ys = refl
+least_on cost best (x ∷ xs) ys = least_on cost (better cost best x) xs ys
+
+best_on : (d : Decision) (best : Candidate) (xs ys : List Candidate) → best_of d best (xs ++ ys) ≡ best_of d (best_of d best xs) ys
+unfolding best_of
+best_on d best xs ys = ap (least (score d) best) (filter-append (fits d) xs ys) ∙ least_on (score d) best (filter (fits d) xs) (filter (fits d) ys)
+
+pub tried_on : (d : Decision) (a b c : Best) (xs ys : List Candidate) → Tried d a b xs → Tried d b c ys → Tried d a c (xs ++ ys)
+tried_on d a b c xs ys p q = record {
+  best = q.best ∙ ap (λ (x : Candidate). best_of d x ys) p.best ∙ sym (best_on d (candidate_of a.choice) xs ys);
+  rated = q.rated;
+}
+
+pub tried_none : (d : Decision) (a : Best) → IsRated d a → Tried d a a []
+unfolding best_of least
+tried_none d a rated = record { best = refl; rated = rated }
+
+-- ---- levels of blocks
+
+pub each_level : (ls : List Levels) → All (All IsLevel) (levels_of ls) → All (λ (l : Levels). All IsLevel l.at) ls
+each_level [] h = All-nil (λ (l : Levels). All IsLevel l.at)
+each_level (l ∷ ls) h = All-cons (λ (l : Levels). All IsLevel l.at) l ls (All-head (All IsLevel) l.at (levels_of ls) h) (each_level ls (All-tail (All IsLevel) l.at (levels_of ls) h))
+
+-- the score as it is computed
+pub points : (r : References) (t : Task) (m : MacroSyntax) (ls : List (List ℤ)) (prediction : List ℕ) (squares cost bits : ℕ) → Predicts r t m prediction
+    → squares ≡ squared t.source.now.at (rebuilt_by t prediction (record { syntax = m; levels = ls })) → cost ≡ (2 * t.limits.now.q) ^ 2 * bits
+    → bits ≡ bits_taken (decided r t) (written m ls) → 8 * squares + cost ≡ score (decided r t) (written m ls)
+points r t m ls prediction squares cost bits predicts e g h =
+    ap (λ (s : ℕ). 8 * s + cost) e
+    ∙ ap (λ (k : ℕ). 8 * squared t.source.now.at (rebuilt_by t prediction (record { syntax = m; levels = ls })) + k) (g ∙ ap (λ (b : ℕ). (2 * t.limits.now.q) ^ 2 * b) h)
+    ∙ sym (written_score r t m ls prediction predicts)
+
+-- bits alone cost no more
+pub cost_least : (r : References) (t : Task) (m : MacroSyntax) (ls : List (List ℤ)) (prediction : List ℕ) (cost bits : ℕ) → Predicts r t m prediction
+    → cost ≡ (2 * t.limits.now.q) ^ 2 * bits → bits ≡ bits_taken (decided r t) (written m ls) → cost ≤ score (decided r t) (written m ls)
+cost_least r t m ls prediction cost bits predicts g h =
+    let s = squared t.source.now.at (rebuilt_by t prediction (record { syntax = m; levels = ls })) in
+    let e = points r t m ls prediction s cost bits predicts refl g h in
+    omega (arith, e)
+
+-- a skipped macroblock takes no bits, so it fits
+pub skipped_fits : (d : Decision) → fits d skipped ≡ true
+unfolding fits bits_taken
+skipped_fits d = rw (le-leb 0 d.limits.room (omega arith)) refl
+
+pub skipped_bits : (d : Decision) → bits_taken d skipped ≡ 0
+unfolding bits_taken
+skipped_bits d = refl

@@ -1,0 +1,22 @@
+use Rattle.std.proofs.Common.{◌≡◌, true, refl, sym, ◌∙◌, ap}
+use Rattle.m2v_macro.specs.declared.values.MacroSyntax.{MacroSyntax}
+use Rattle.m2v_choose.specs.Candidates.{prediction}
+use Rattle.m2v_choose.specs.Trials.{references_of, direction_by, moving_syntax}
+use Rattle.m2v_choose.proofs.Motions.{moving_is, moving_backward}
+use Rattle.m2v_choose.proofs.trial.Best.try_moving.Goals as goal
+
+pub try_prediction-requires-clause-size : goal.try_prediction-requires-clause-size
+try_prediction-requires-clause-size g c = λ e.
+    c.requires.size
+    (sym (moving_backward c.args.task.now.increment c.args.form c.args.has_forward c.args.has_backward (direction_by c.args.ahead.now) (direction_by c.args.behind.now))
+    ∙ ap (λ (m : MacroSyntax). m.kind.backward) (sym c.moving_syntax-m.ensures) ∙ e)
+
+pub returns : goal.returns
+returns g c = record {
+  tried = λ f b p q rated.
+      let t = c.args.task.now in
+      let r = references_of (g.V.RefView.size c.args.forward.now) (g.V.RefView.at c.args.forward.now) (g.V.RefView.at c.args.backward.now) in
+      c.try_prediction.ensures.tried (prediction c.args.form c.args.has_forward c.args.has_backward f b)
+      (c.moving_syntax-m.ensures ∙ moving_is t r c.args.form c.args.has_forward c.args.has_backward (direction_by c.args.ahead.now) (direction_by c.args.behind.now) f b c.requires.task p q)
+      refl rated;
+}

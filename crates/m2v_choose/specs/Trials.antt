@@ -1,0 +1,252 @@
+-- Words of the choice's code: the blocks of a macroblock, and the best candidate so far.
+use Rattle.std.specs.Prelude.{ℕ, ◌≢◌, ◌||◌, filter, IsTrue, false, not, cond, ◌&&◌, ◌≡◌, ◌⊎◌, ◌<◌, ◌≤◌, ◌+◌, ◌-◌, ◌*◌, Bool, true, nat_eq, List, [], map, slice_index, slice_index_or, if◌then◌else◌, ℤ, pos, neg_ℤ, ◌-ℤ◌, ◌≤ℤ◌, ◌<ℤ◌, unsigned_abs}
+use Rattle.std.specs.List.{range_with_len, list_all}
+use Rattle.m2v_plane.specs.declared.dims.Dims.{Dims}
+use Rattle.m2v_plane.specs.declared.planes.Lines.{Lines}
+use Rattle.m2v_plane.specs.declared.planes.Plane.{Plane}
+use Rattle.m2v_quant.specs.declared.kind.BlockKind.{BlockKind}
+use Rattle.m2v_quant.specs.Quantiser.{levels_of}
+use Rattle.m2v_idct.specs.Forward.{forward_of}
+use Rattle.m2v_recon.specs.Macro.{kind_of}
+use Rattle.m2v_macro.specs.declared.values.SliceState.{SliceState}
+use Rattle.m2v_macro.specs.declared.values.PictureContext.{PictureContext}
+use Rattle.m2v_macro.specs.States.{is_field, skips, pmv_before, dc_reset}
+use Rattle.m2v_macro.specs.Conditions.{IsMacro}
+use Rattle.m2v_macro.specs.Macros.{macro_of, no_vectors}
+use Rattle.m2v_macroblock.specs.Modes.{mode_of}
+use Rattle.m2v_macro.specs.declared.values.MacroSyntax.{MacroSyntax}
+use Rattle.m2v_macro.specs.declared.values.Selected.{Selected}
+use Rattle.m2v_macro.specs.declared.values.Direction.{Direction}
+use Rattle.m2v_vector.specs.Predictors.{zeros}
+use Rattle.m2v_pred.specs.declared.mode.MbPlace.{MbPlace}
+use Rattle.m2v_pred.specs.Vectors.{IsPlace, IsInside, HoldsRead}
+use Rattle.m2v_pred.specs.Predicted.{block_by}
+use Rattle.m2v_macroblock.specs.Macroblocks.{Macroblock, macroblock_of}
+use Rattle.m2v_macroblock.specs.Conditions.{AreDc}
+use Rattle.m2v_macroblock.specs.Predictions.{View, prediction_of, sample_at}
+use Rattle.m2v_search.specs.Least.{least}
+use Rattle.m2v_search.specs.Near.{HasNear, is_field as is_field_line}
+use Rattle.m2v_choose.specs.declared.values.Limits.{Limits}
+use Rattle.m2v_choose.specs.declared.values.Choice.{Choice}
+use Rattle.m2v_choose.specs.declared.trial.Best.{Best}
+use Rattle.m2v_choose.specs.declared.vectors.FieldVector.{FieldVector}
+use Rattle.m2v_choose.specs.declared.vectors.Vectors.{Vectors}
+use Rattle.m2v_choose.specs.declared.task.Task.{Task}
+use Rattle.m2v_choose.specs.Decisions.{Decision, Candidate, place_of, increment_of, block_place, differences}
+use Rattle.m2v_choose.specs.Choice.{bits_taken, score, fits}
+use Rattle.m2v_choose.specs.Own.{IsOwn, IsCode, IsOwnState, AreLimits}
+
+-- a block has no level but 0
+abbrev pub is_empty : List ℤ → Bool
+is_empty levels = list_all (λ level. nat_eq (unsigned_abs level) 0) levels
+
+-- a difference of a block
+abbrev pub difference_at : List ℕ → List ℕ → Bool → ℕ → ℕ → ℤ
+difference_at source prediction dct_field block k =
+    pos (slice_index source (block_place dct_field block k)) -ℤ pos (slice_index prediction (block_place dct_field block k))
+
+-- the transforms of the six blocks, behind a prediction
+unfoldable pub transforms_of : List ℕ → List ℕ → Bool → List (List ℤ)
+transforms_of source prediction dct_field = map (λ block. forward_of (differences source prediction dct_field block)) (range_with_len 0 6)
+
+-- levels of transforms, by the kinds of luma and of chroma blocks
+unfoldable pub quantised_by : List (List ℤ) → BlockKind → BlockKind → List (List ℤ)
+quantised_by transforms luma chroma = map (λ block. levels_of (slice_index_or transforms block []) (kind_of luma chroma block)) (range_with_len 0 6)
+
+-- ---- where a macroblock stands
+
+-- the macroblock before lies in the row before this one, or ends the row above where this one is the first of its slice
+abbrev pub IsBefore : PictureContext → SliceState → Limits → Type 0
+IsBefore c st limits =
+    ((pos (limits.row * c.columns) ≤ℤ st.address) × (st.address <ℤ pos (limits.row * c.columns + limits.column)))
+    ⊎ ((limits.first ≡ true) × (st.address ≡ pos (limits.row * c.columns) -ℤ pos 1))
+
+-- what a choice is promised of headers, state and limits
+pub record AreAsked (c : PictureContext) (st : SliceState) (limits : Limits) : Type 0 where
+  pub own : IsOwn c
+  pub state : IsOwnState st
+  pub dc : AreDc 0 st.dc
+  pub bounds : AreLimits limits
+  pub row : limits.row < 72
+  pub column : limits.column < c.columns
+  pub address : IsBefore c st limits
+
+-- a state in which a macroblock is the first of its slice, behind the predictors that it goes by
+unfoldable pub as_first : PictureContext → SliceState → ℕ → SliceState
+as_first c st increment = record {
+  quantiser = st.quantiser;
+  dc = if skips st increment then dc_reset c else st.dc;
+  pmv = pmv_before c st increment;
+  forward = st.forward;
+  backward = st.backward;
+  intra = st.intra;
+  first = true;
+  address = neg_ℤ (pos 1);
+  next = increment - 1;
+}
+
+-- the references, as they were rebuilt
+pub record References : Type 0 where
+  pub dims : Dims
+  pub forward : View
+  pub backward : View
+
+-- what is decided by references
+abbrev pub decided : References → Task → Decision
+decided r t = record {
+  dims = r.dims;
+  source = t.source.now.at;
+  forward = r.forward;
+  backward = r.backward;
+  context = t.context.now;
+  state = t.state.now;
+  limits = t.limits.now;
+}
+
+-- a task whose values are as they are asked for
+pub record IsTask (t : Task) : Type 0 where
+  pub asked : AreAsked t.context.now t.state.now t.limits.now
+  pub increment : (r : References) → t.increment ≡ increment_of (decided r t)
+  pub some : 1 ≤ t.increment
+  pub most : t.increment ≤ t.context.now.columns
+  pub first : t.first ≡ as_first t.context.now t.state.now t.increment
+
+-- ---- the best candidate so far
+
+-- what was chosen as a candidate
+abbrev pub candidate_of : Choice → Candidate
+candidate_of x = record { skip = x.skip; macroblock = macroblock_of x.syntax x.levels }
+
+-- the samples of a written macroblock as they are rebuilt, from those of its prediction
+unfoldable pub rebuilt_by : Task → List ℕ → Macroblock → List ℕ
+rebuilt_by t prediction x = block_by (sample_at t.context.now t.state.now prediction x)
+
+-- these are the samples of the prediction of a macroblock
+abbrev pub Predicts : References → Task → MacroSyntax → List ℕ → Type 0
+Predicts r t m prediction = prediction ≡ prediction_of r.forward r.backward t.context.now (place_of (decided r t)) m
+
+-- its bits and its score are those of the definition
+pub record IsRated (d : Decision) (b : Best) : Type 0 where
+  pub bits : b.choice.bits ≡ bits_taken d (candidate_of b.choice)
+  pub score_is : b.score ≡ score d (candidate_of b.choice)
+
+-- the first of least score of one and of those that fit
+unfoldable pub best_of : Decision → Candidate → List Candidate → Candidate
+best_of d best xs = least (score d) best (filter (fits d) xs)
+
+-- candidates were tried
+pub record Tried (d : Decision) (old new : Best) (xs : List Candidate) : Type 0 where
+  pub best : candidate_of new.choice ≡ best_of d (candidate_of old.choice) xs
+  pub rated : IsRated d new
+
+-- ---- codings
+
+-- dct_type stands in the picture
+abbrev pub has_types : PictureContext → Bool
+has_types c = not (is_field c) && not c.extension.frame_pred_frame_dct
+
+-- a quantiser is sent
+abbrev pub sends_code : SliceState → ℕ → Bool
+sends_code st q = not (nat_eq q st.quantiser)
+
+-- a macroblock that has a prediction, with coded blocks
+abbrev pub with_blocks : MacroSyntax → Bool → ℕ → Bool → ℕ → MacroSyntax
+with_blocks m send q dct_field pattern = record {
+  increment = m.increment;
+  kind = record { quant = send; forward = m.kind.forward; backward = m.kind.backward; pattern = true; intra = m.kind.intra };
+  form = m.form;
+  dct_field = dct_field;
+  quantiser = cond send q 0;
+  vectors = m.vectors;
+  bottom = m.bottom;
+  dmvector = m.dmvector;
+  pattern = pattern;
+}
+
+-- a macroblock that has a prediction can have coded blocks
+pub record CanCode (t : Task) (m : MacroSyntax) : Type 0 where
+  pub increment : m.increment ≡ t.increment
+  pub other : m.kind.intra ≡ false
+  pub macro : (q : ℕ) (dct_field : Bool) (pattern : ℕ) → IsCode q → (dct_field ≡ true → has_types t.context.now ≡ true) → 0 < pattern → pattern < 64
+      → IsMacro t.context.now t.first (with_blocks m (sends_code t.state.now q) q dct_field pattern)
+
+-- ---- references
+
+-- reference lines that a picture reads: a frame reads frames and fields, a field reads fields
+abbrev pub IsReference : ℕ → Lines → Type 0
+IsReference structure l = (structure ≡ 3) ⊎ IsTrue (is_field_line l)
+
+-- where the macroblock lies
+abbrev pub place_for : Task → MbPlace
+place_for t = record { row = t.limits.now.row; column = t.limits.now.column; structure = t.context.now.extension.structure }
+
+-- a reference of this size can be read: the macroblock lies in it, and it holds the rows that are near
+pub record IsRead (d : Dims) (holds : Plane → Lines → ℕ → Type 0) (place : MbPlace) : Type 0 where
+  pub lies : IsPlace place d
+  pub near : (l : Lines) → IsReference place.structure l → HasNear holds d place l
+
+-- vectors as the elements of a macroblock
+abbrev pub selected_by : FieldVector → Selected
+selected_by v = record { bottom = v.bottom; vector = v.vector; dmvector = zeros }
+
+abbrev pub direction_by : Vectors → Direction
+direction_by v = record { first = selected_by v.first; second = selected_by v.second }
+
+-- references by their size and samples
+abbrev pub references_of : Dims → View → View → References
+references_of dims forward backward = record { dims = dims; forward = forward; backward = backward }
+
+-- ---- predictions
+
+-- a macroblock with a motion type and directions, without blocks
+unfoldable pub moving_syntax : ℕ → ℕ → Bool → Bool → Direction → Direction → MacroSyntax
+moving_syntax increment form has_forward has_backward forward backward =
+    macro_of increment (record { quant = false; forward = has_forward; backward = has_backward; pattern = false; intra = false })
+    form false 0 (cond has_forward forward no_vectors) (cond has_backward backward no_vectors) 0
+
+-- a macroblock's motion stays inside the references, which hold what is read
+pub record CanPredict (t : Task) (dims : Dims) (ahead behind : Plane → Lines → ℕ → Type 0) (m : MacroSyntax) : Type 0 where
+  pub some : ((mode_of t.context.now m).forward ≡ true) ⊎ ((mode_of t.context.now m).backward ≡ true)
+  pub lies : IsPlace (place_for t) dims
+  pub inside : IsInside (mode_of t.context.now m) (place_for t) dims
+  pub forward : (mode_of t.context.now m).forward ≡ true → HoldsRead ahead (mode_of t.context.now m) 0 (place_for t)
+  pub backward : (mode_of t.context.now m).backward ≡ true → HoldsRead behind (mode_of t.context.now m) 1 (place_for t)
+  pub told : (mode_of t.context.now m).backward ≡ true → m.kind.backward ≡ true
+
+-- a prediction can be tried, without blocks or only with them
+pub record CanTry (t : Task) (dims : Dims) (ahead behind : Plane → Lines → ℕ → Type 0) (m : MacroSyntax) (uncoded : Bool) : Type 0 where
+  pub code : CanCode t m
+  pub macro : uncoded ≡ true → IsMacro t.context.now t.first m
+  pub pattern : m.pattern ≡ 0
+  pub predict : CanPredict t dims ahead behind m
+
+-- the directions that a picture's type has with a motion type: forward in a P picture, at least one in a B picture
+abbrev pub Goes : ℕ → Bool → Bool → Type 0
+Goes kind has_forward has_backward =
+    ((kind ≡ 2) × ((has_forward ≡ true) × (has_backward ≡ false))) ⊎ ((kind ≡ 3) × ((has_forward || has_backward) ≡ true))
+
+-- the references that a picture's type has can be read, and both are of one size
+pub record AreReferences (kind : ℕ) (place : MbPlace) (forward_size backward_size : Dims) (ahead behind : Plane → Lines → ℕ → Type 0) : Type 0 where
+  pub forward : kind ≢ 1 → IsRead forward_size ahead place
+  pub backward : kind ≡ 3 → IsRead backward_size behind place
+  pub sizes : kind ≡ 3 → backward_size ≡ forward_size
+
+-- in a B picture a macroblock before has told its directions, or is intra
+abbrev pub HasDirection : PictureContext → SliceState → Limits → Type 0
+HasDirection c st limits = c.kind ≡ 3 → limits.first ≡ false → (st.forward ≡ true) ⊎ ((st.backward ≡ true) ⊎ (st.intra ≡ true))
+
+-- where a macroblock of a picture lies
+abbrev pub place_at : PictureContext → Limits → MbPlace
+place_at c limits = record { row = limits.row; column = limits.column; structure = c.extension.structure }
+
+-- a decision by its parts
+abbrev pub decision : Dims → List ℕ → View → View → PictureContext → SliceState → Limits → Decision
+decision dims source forward backward c st limits = record {
+  dims = dims;
+  source = source;
+  forward = forward;
+  backward = backward;
+  context = c;
+  state = st;
+  limits = limits;
+}

@@ -1,0 +1,165 @@
+//! The blocks of a macroblock: what is transformed, the transforms, the levels, and the pattern.
+ghost use Rattle.std.specs.Prelude.{ℕ, ◌≡◌, ◌≤◌, ◌<◌, ◌+◌, ◌*◌, All, cond, pos, ◌-ℤ◌};
+ghost use Rattle.m2v_quant.specs.Kinds.{IsKind, IsLevel};
+ghost use Rattle.m2v_quant.specs.Quantiser.{levels_of as quantised};
+ghost use Rattle.m2v_recon.specs.Macro.{kind_at, kind_of};
+ghost use Rattle.m2v_idct.specs.Block.{nth};
+ghost use Rattle.m2v_idct.specs.Ranges.{IsSample, IsCoefficient};
+ghost use Rattle.m2v_idct.specs.Forward.{forward_of};
+ghost use Rattle.m2v_recon.specs.Steps.{levels_of};
+ghost use Rattle.m2v_choose.specs.Decisions.{block_place, differences as differences_of, pattern_of as pattern_in};
+ghost use Rattle.m2v_choose.specs.Trials.{is_empty as is_empty_of, difference_at, transforms_of, quantised_by};
+
+use m2v_idct::forward;
+use m2v_pred::Block16;
+use m2v_quant::{BlockKind, Levels, quantise};
+
+/// Where a line of a block begins among the samples of its macroblock.
+#[inline(always)]
+#[tactic(auto, unfolding(crate::specs::Decisions::block_place))]
+fn line_place(dct_field: bool, block: usize, line: usize) -> usize
+    requires block { block < 6 }
+    requires line { line < 8 }
+    ensures value { (j : ℕ) → j < 8 → block_place dct_field block (8 * line + j) ≡ result + j }
+    ensures within { result + 8 ≤ 384 }
+{
+    if block >= 4 {
+        return 256 + (64 * (block - 4) + 8 * line);
+    }
+    let down = if dct_field {
+        2 * line + block / 2
+    } else {
+        8 * (block / 2) + line
+    };
+    16 * down + 8 * (block % 2)
+}
+
+/// The difference of two samples.
+#[inline(always)]
+fn difference(x: u8, y: u8) -> i32
+    ensures value { result ≡ pos x -ℤ pos y }
+    ensures sample { IsSample result }
+{
+    x as i32 - y as i32
+}
+
+/// The differences of a line of a block, put behind those of the lines before.
+#[inline(always)]
+fn put_line(
+    source: &Block16,
+    prediction: &Block16,
+    dct_field: bool,
+    block: usize,
+    line: usize,
+    out: &mut [i32; 64],
+)
+    requires block { block < 6 }
+    requires line { line < 8 }
+    requires value { (k : ℕ) → k < 8 * line → nth out.old k ≡ difference_at source.now.at prediction.now.at dct_field block k }
+    requires samples { (k : ℕ) → k < 8 * line → IsSample (nth out.old k) }
+    ensures value { (k : ℕ) → k < 8 * line + 8 → nth out.new k ≡ difference_at source.now.at prediction.now.at dct_field block k }
+    ensures samples { (k : ℕ) → k < 8 * line + 8 → IsSample (nth out.new k) }
+{
+    let from = line_place(dct_field, block, line);
+    for j in 0..8 {
+        out[8 * line + j] = difference(source.at[from + j], prediction.at[from + j]);
+    }
+}
+
+/// What is transformed of a block: the source less its prediction.
+fn differences(
+    source: &Block16,
+    prediction: &Block16,
+    dct_field: bool,
+    block: usize,
+    out: &mut [i32; 64],
+)
+    requires block { block < 6 }
+    ensures value { out.new ≡ differences_of source.now.at prediction.now.at dct_field block }
+    ensures samples { All IsSample out.new }
+{
+    for line in 0..8 {
+        put_line(source, prediction, dct_field, block, line, out);
+    }
+}
+
+/// The transform of a block's differences.
+#[inline(always)]
+fn transform_one(source: &Block16, prediction: &Block16, dct_field: bool, block: usize) -> [i32; 64]
+    requires block { block < 6 }
+    ensures value { result ≡ forward_of (differences_of source.now.at prediction.now.at dct_field block) }
+    ensures coefficients { All IsCoefficient result }
+{
+    let mut room = [0; 64];
+    differences(source, prediction, dct_field, block, &mut room);
+    forward(&room)
+}
+
+/// The transforms of the differences of the six blocks.
+pub fn transform(source: &Block16, prediction: &Block16, dct_field: bool, out: &mut [[i32; 64]; 6])
+    ensures value { out.new ≡ transforms_of source.now.at prediction.now.at dct_field }
+    ensures coefficients { All (All IsCoefficient) out.new }
+{
+    for block in 0..6usize {
+        out[block] = transform_one(source, prediction, dct_field, block);
+    }
+}
+
+/// The levels of a block.
+#[inline(always)]
+fn quantise_one(transform: &[i32; 64], kinds: &[BlockKind; 2], block: usize, out: &mut Levels)
+    requires kinds { All IsKind kinds.now }
+    requires precision { All (λ kind. kind.precision ≡ 0) kinds.now }
+    requires coefficients { All IsCoefficient transform.now }
+    ensures value { out.new.at ≡ quantised transform.now (kind_of (kind_at kinds.now 0) (kind_at kinds.now 1) block) }
+    ensures levels { All IsLevel out.new.at }
+{
+    if block < 4 {
+        quantise(transform, &kinds[0], out);
+    } else {
+        quantise(transform, &kinds[1], out);
+    }
+}
+
+/// The levels of the six blocks, by the kinds of luma and of chroma blocks.
+pub fn quantise_blocks(transforms: &[[i32; 64]; 6], kinds: &[BlockKind; 2], out: &mut [Levels; 6])
+    requires kinds { All IsKind kinds.now }
+    requires precision { All (λ kind. kind.precision ≡ 0) kinds.now }
+    requires coefficients { All (All IsCoefficient) transforms.now }
+    ensures value { levels_of out.new ≡ quantised_by transforms.now (kind_at kinds.now 0) (kind_at kinds.now 1) }
+    ensures levels { All (λ l. All IsLevel l.at) out.new }
+{
+    for block in 0..6usize {
+        quantise_one(&transforms[block], kinds, block, &mut out[block]);
+    }
+}
+
+/// Whether a block has no level but 0.
+#[inline(always)]
+fn is_empty(levels: &Levels) -> bool
+    ensures { result ≡ is_empty_of levels.now.at }
+{
+    levels.at.iter().all(|level| level.unsigned_abs() == 0)
+}
+
+/// A block's bit in the pattern.
+#[inline(always)]
+fn pattern_bit(levels: &Levels, bit: u8) -> u8
+    ensures { result ≡ cond (is_empty_of levels.now.at) 0 bit }
+{
+    if is_empty(levels) { 0 } else { bit }
+}
+
+/// The coded block pattern of levels.
+#[tactic(auto, unfolding(crate::specs::Decisions::pattern_of))]
+pub fn pattern_of(levels: &[Levels; 6]) -> u8
+    ensures value { result ≡ pattern_in (levels_of levels.now) }
+    ensures most { result < 64 }
+{
+    pattern_bit(&levels[0], 32)
+        + pattern_bit(&levels[1], 16)
+        + pattern_bit(&levels[2], 8)
+        + pattern_bit(&levels[3], 4)
+        + pattern_bit(&levels[4], 2)
+        + pattern_bit(&levels[5], 1)
+}

@@ -1,0 +1,207 @@
+//! The choice of a macroblock.
+ghost use Rattle.std.specs.Prelude.{◌≡◌, ◌≢◌, ◌≤◌, ◌<◌, ◌⊎◌, true, false, cond, IsTrue, slice_index_or, pos, replicate, [], ◌∷◌};
+ghost use Rattle.m2v_plane.specs.declared.dims.Dims.{Dims};
+ghost use Rattle.m2v_pred.specs.Vectors.{IsInside, IsPlace};
+ghost use Rattle.m2v_recon.specs.Steps.{levels_of};
+ghost use Rattle.m2v_macroblock.specs.Modes.{skipped_mode as skipped_mode_of};
+ghost use Rattle.m2v_macroblock.specs.Predictions.{View};
+ghost use Rattle.m2v_macroblock.specs.Conditions.{AreDc};
+ghost use Rattle.m2v_choose.specs.Decisions.{Decision, skipped, increment_of};
+ghost use Rattle.m2v_choose.specs.Candidates.{still_vector as still_vector_of, held_levels as held_levels_of, hold as hold_of, may_skip as may_skip_of};
+ghost use Rattle.m2v_choose.specs.Choice.{bits_taken, choice_of};
+ghost use Rattle.m2v_choose.specs.Own.{IsOwn, IsOwnState, AreLimits};
+ghost use Rattle.m2v_choose.specs.Trials.{References, decided, references_of, IsTask, IsRead, IsRated, Tried, AreReferences, IsBefore, HasDirection, decision, place_at, candidate_of, direction_by, place_for};
+
+use crate::coding::intra_syntax;
+use crate::motion::plain_form;
+use crate::predictions::{moving_syntax, predict_moving};
+use crate::task::{Task, task_of};
+use crate::trial::{Best, no_levels};
+use crate::values::{Choice, Limits};
+use crate::vectors::{FieldVector, Vectors, no_vector, place_of};
+use m2v_macro::{PictureContext, SliceState};
+use m2v_macroblock::skipped_mode;
+use m2v_plane::RefView;
+use m2v_pred::{Block16, Mode, inside, predict};
+use m2v_quant::Levels;
+
+/// Vector zero; in a field picture from the field of the same parity.
+#[inline(always)]
+fn still_vector(context: &PictureContext) -> Vectors
+    ensures { direction_by result ≡ still_vector_of context.now }
+{
+    Vectors {
+        first: FieldVector {
+            bottom: context.extension.structure == 2,
+            vector: [0, 0],
+        },
+        second: no_vector(),
+    }
+}
+
+/// A block that has a DC level alone.
+#[inline(always)]
+fn dc_block(dc: &[i32; 3], component: usize) -> Levels
+    requires { component < 3 }
+    ensures { result.at ≡ slice_index_or dc.now component (pos 0) ∷ replicate 63 (pos 0) }
+{
+    let mut levels = Levels { at: [0; 64] };
+    levels.at[0] = dc[component];
+    levels
+}
+
+/// The levels of a held intra macroblock: its DC predictors, so that all differences are 0.
+#[tactic(auto, unfolding(crate::specs::Candidates::held_levels))]
+fn held_levels(task: &Task) -> [Levels; 6]
+    requires task { IsTask task.now }
+    ensures value { (r : References) → levels_of result ≡ held_levels_of (decided r task.now) }
+{
+    let luma = dc_block(&task.first.dc, 0);
+    let blue = dc_block(&task.first.dc, 1);
+    let red = dc_block(&task.first.dc, 2);
+    [luma, luma, luma, luma, blue, red]
+}
+
+/// The macroblock as it is held in an I picture.
+fn hold_intra(task: &Task) -> Best
+    requires task { IsTask task.now }
+    requires kind { task.now.context.now.kind ≡ 1 }
+    ensures candidate { (r : References) → candidate_of result.choice ≡ hold_of (decided r task.now) }
+    ensures rated { (r : References) → IsRated (decided r task.now) result }
+{
+    let none = Block16 { at: [0; 384] };
+    let syntax = intra_syntax(task, task.state.quantiser, false);
+    let levels = held_levels(task);
+    Best::held(task, &syntax, &levels, &none)
+}
+
+/// The macroblock as it is held in a P or B picture: by vector zero, forward or backward.
+fn hold_still<V: RefView>(task: &Task, forward: &V, backward: &V) -> Best
+    requires task { IsTask task.now }
+    requires kind { (task.now.context.now.kind ≡ 2) ⊎ (task.now.context.now.kind ≡ 3) }
+    requires references { AreReferences task.now.context.now.kind (place_for task.now) (V.size forward.now) (V.size backward.now)
+        (V.Holds forward.now) (V.Holds backward.now) }
+    ensures candidate { candidate_of result.choice
+        ≡ hold_of (decided (references_of (V.size forward.now) (V.at forward.now) (V.at backward.now)) task.now) }
+    ensures rated { IsRated (decided (references_of (V.size forward.now) (V.at forward.now) (V.at backward.now)) task.now) result }
+{
+    let still = still_vector(task.context);
+    let kind = task.context.kind;
+    let form = plain_form(task.context);
+    let m = moving_syntax(task, form, kind == 2, kind == 3, &still, &still);
+    let mut prediction = Block16 { at: [0; 384] };
+    predict_moving(task, forward, backward, &m, &mut prediction);
+    Best::held(task, &m, &no_levels(), &prediction)
+}
+
+/// The macroblock as it is held: the first candidate.
+fn hold<V: RefView>(task: &Task, forward: &V, backward: &V) -> Best
+    requires task { IsTask task.now }
+    requires references { AreReferences task.now.context.now.kind (place_for task.now) (V.size forward.now) (V.size backward.now)
+        (V.Holds forward.now) (V.Holds backward.now) }
+    ensures candidate { candidate_of result.choice
+        ≡ hold_of (decided (references_of (V.size forward.now) (V.at forward.now) (V.at backward.now)) task.now) }
+    ensures rated { IsRated (decided (references_of (V.size forward.now) (V.at forward.now) (V.at backward.now)) task.now) result }
+{
+    if task.context.kind == 1 {
+        return hold_intra(task);
+    }
+    hold_still(task, forward, backward)
+}
+
+/// Whether the macroblock may be skipped: it is neither the first nor the last one of its slice, and in a B picture not
+/// behind an intra one, and only where its prediction stays inside. `mode` is that of a skipped macroblock.
+#[tactic(auto, unfolding(crate::specs::Candidates::may_skip))]
+fn may_skip<V: RefView>(task: &Task, forward: &V, mode: &Mode) -> bool
+    requires task { IsTask task.now }
+    requires mode { mode.now ≡ skipped_mode_of task.now.context.now task.now.state.now }
+    requires place { task.now.context.now.kind ≡ 3 → IsPlace (place_for task.now) (V.size forward.now) }
+    ensures value { (f b : View) → result ≡ may_skip_of (decided (references_of (V.size forward.now) f b) task.now) }
+    ensures inside { IsTrue result → task.now.context.now.kind ≡ 3
+        → IsInside (skipped_mode_of task.now.context.now task.now.state.now) (place_for task.now) (V.size forward.now) }
+{
+    if task.limits.first || task.limits.last {
+        return false;
+    }
+    if task.context.kind == 2 {
+        return true;
+    }
+    if task.context.kind != 3 || task.state.intra {
+        return false;
+    }
+    inside(mode, place_of(task), forward.dims())
+}
+
+impl Best {
+    /// Tries to skip the macroblock, where it may be skipped.
+    fn try_skip<V: RefView>(&mut self, task: &Task, forward: &V, backward: &V)
+        requires task { IsTask task.now }
+        requires direction { HasDirection task.now.context.now task.now.state.now task.now.limits.now }
+        requires references { AreReferences task.now.context.now.kind (place_for task.now) (V.size forward.now) (V.size backward.now)
+            (V.Holds forward.now) (V.Holds backward.now) }
+        ensures tried { let d = decided (references_of (V.size forward.now) (V.at forward.now) (V.at backward.now)) task.now in
+            IsRated d self.old → Tried d self.old self.new (cond (may_skip_of d) (skipped ∷ []) []) }
+    {
+        let mode = skipped_mode(task.context, task.state);
+        if !may_skip(task, forward, &mode) {
+            return;
+        }
+        let mut prediction = Block16 { at: [0; 384] };
+        predict(forward, backward, &mode, place_of(task), &mut prediction);
+        self.try_skipped(task, &prediction);
+    }
+}
+
+/// What is chosen of a macroblock: of the candidates that are short enough, the first of least score.
+fn choose_for<V: RefView>(task: &Task, forward: &V, backward: &V) -> Choice
+    requires task { IsTask task.now }
+    requires direction { HasDirection task.now.context.now task.now.state.now task.now.limits.now }
+    requires references { AreReferences task.now.context.now.kind (place_for task.now) (V.size forward.now) (V.size backward.now)
+        (V.Holds forward.now) (V.Holds backward.now) }
+    ensures value { candidate_of result
+        ≡ choice_of (decided (references_of (V.size forward.now) (V.at forward.now) (V.at backward.now)) task.now) }
+    ensures bits { let d = decided (references_of (V.size forward.now) (V.at forward.now) (V.at backward.now)) task.now in
+        result.bits ≡ bits_taken d (choice_of d) }
+{
+    let mut best = hold(task, forward, backward);
+    best.try_skip(task, forward, backward);
+    best.try_intra(task);
+    best.try_predictions(task, forward, backward);
+    best.choice
+}
+
+/// What is chosen of a macroblock (clauses 6.2.5 and 6.3.17): of all candidates that have at most 4,608 bits and at most the
+/// room, the first of least score, which weighs the squares of its samples' differences against its bits. In a P picture the
+/// forward reference is read, in a B picture both are, and both are of one size; of a view that isn't read nothing is asked.
+/// A view that is read holds the macroblock rows before, at and after the macroblock's. Takes no memory.
+pub fn choose<V: RefView>(
+    source: &Block16,
+    forward: &V,
+    backward: &V,
+    context: &PictureContext,
+    state: &SliceState,
+    limits: &Limits,
+) -> Choice
+    requires own { IsOwn context.now }
+    requires state { IsOwnState state.now }
+    requires dc { AreDc 0 state.now.dc }
+    requires direction { HasDirection context.now state.now limits.now }
+    requires address { IsBefore context.now state.now limits.now }
+    requires limits { AreLimits limits.now }
+    requires row { limits.now.row < 72 }
+    requires column { limits.now.column < context.now.columns }
+    requires forward { context.now.kind ≢ 1 → IsRead (V.size forward.now) (V.Holds forward.now) (place_at context.now limits.now) }
+    requires backward { context.now.kind ≡ 3 → IsRead (V.size backward.now) (V.Holds backward.now) (place_at context.now limits.now) }
+    requires sizes { context.now.kind ≡ 3 → V.size backward.now ≡ V.size forward.now }
+    requires room { let d = decision (V.size forward.now) source.now.at (V.at forward.now) (V.at backward.now) context.now state.now limits.now in
+        bits_taken d (hold_of d) ≤ limits.now.room }
+    ensures value { candidate_of result
+        ≡ choice_of (decision (V.size forward.now) source.now.at (V.at forward.now) (V.at backward.now) context.now state.now limits.now) }
+    ensures bits { let d = decision (V.size forward.now) source.now.at (V.at forward.now) (V.at backward.now) context.now state.now limits.now in
+        result.bits ≡ bits_taken d (choice_of d) }
+    ensures most { result.bits ≤ 4608 }
+    ensures fits { result.bits ≤ limits.now.room }
+{
+    let task = task_of(source, context, state, limits);
+    choose_for(&task, forward, backward)
+}

@@ -1,0 +1,190 @@
+//! The codings of a prediction and of an intra macroblock: quantisers and DCT types, in order.
+ghost use Rattle.std.specs.Prelude.{◌≡◌, ℕ, ◌≤◌, ◌<◌, ◌&&◌, not, nat_eq, cond, min, ◌+◌, true, false, All, [], ◌∷◌, filter, map, replicate};
+ghost use Rattle.m2v_idct.specs.Ranges.{IsCoefficient};
+ghost use Rattle.m2v_macro.specs.States.{is_field};
+ghost use Rattle.m2v_macro.specs.Macros.{no_form as no_form_of};
+ghost use Rattle.m2v_choose.specs.Decisions.{Prediction, uncoded_syntax, intra_syntax as intra_syntax_of};
+ghost use Rattle.m2v_choose.specs.Candidates.{second_q as second_q_of, codings_at, codings, samples_by, coded_by, has_block, intra_by};
+ghost use Rattle.m2v_choose.specs.Own.{IsCode};
+ghost use Rattle.m2v_choose.specs.Trials.{References, decided, IsTask, IsRated, Tried, CanCode, has_types, sends_code, with_blocks as with_blocks_of, transforms_of};
+
+use crate::blocks::{pattern_of, quantise_blocks, transform};
+use crate::task::Task;
+use crate::trial::{Best, no_levels};
+use m2v_macro::{MacroSyntax, PictureContext};
+use m2v_macroblock::kinds;
+use m2v_pred::Block16;
+use m2v_quant::Levels;
+
+/// Whether dct_type stands in the picture.
+#[inline(always)]
+pub fn has_dct_type(context: &PictureContext) -> bool
+    ensures { result ≡ has_types context.now }
+{
+    context.extension.structure == 3 && !context.extension.frame_pred_frame_dct
+}
+
+/// Whether a quantiser is sent: it isn't the last one that was.
+#[inline(always)]
+pub fn sends(task: &Task, q: u8) -> bool
+    ensures { result ≡ sends_code task.now.state.now q }
+{
+    q != task.state.quantiser
+}
+
+/// The second quantiser that is tried.
+#[inline(always)]
+pub fn second_q(q: u8) -> u8
+    requires { q ≤ 31 }
+    ensures { result ≡ second_q_of q }
+{
+    (q + 8).min(31)
+}
+
+/// A macroblock that has a prediction, with coded blocks.
+#[inline(always)]
+pub fn with_blocks(
+    bare: &MacroSyntax,
+    send: bool,
+    q: u8,
+    dct_field: bool,
+    pattern: u8,
+) -> MacroSyntax
+    ensures { result ≡ with_blocks_of bare.now send q dct_field pattern }
+{
+    let mut m = *bare;
+    m.kind.quant = send;
+    m.kind.pattern = true;
+    m.dct_field = dct_field;
+    m.quantiser = if send { q } else { 0 };
+    m.pattern = pattern;
+    m
+}
+
+/// The motion type of a macroblock without one: frame prediction in a frame picture.
+#[inline(always)]
+pub fn no_form(context: &PictureContext) -> u8
+    ensures { result ≡ no_form_of context.now }
+{
+    if context.extension.structure == 3 {
+        2
+    } else {
+        0
+    }
+}
+
+/// The elements of an intra macroblock.
+#[tactic(auto, unfolding(crate::specs::Decisions::intra_syntax))]
+pub fn intra_syntax(task: &Task, q: u8, dct_field: bool) -> MacroSyntax
+    requires task { IsTask task.now }
+    ensures value { (r : References) → result ≡ intra_syntax_of (decided r task.now) (record { q = q; dct_field = dct_field }) }
+    ensures increment { result.increment ≡ task.now.increment }
+{
+    let send = sends(task, q);
+    let mut m = MacroSyntax::blank();
+    m.increment = task.increment;
+    m.kind.quant = send;
+    m.kind.intra = true;
+    m.form = no_form(task.context);
+    m.dct_field = dct_field;
+    m.quantiser = if send { q } else { 0 };
+    m.pattern = 63;
+    m
+}
+
+/// The transforms by DCT type 1, where the picture has it.
+#[inline(always)]
+pub fn transform_fields(task: &Task, prediction: &Block16, out: &mut [[i32; 64]; 6])
+    requires coefficients { All (All IsCoefficient) out.old }
+    ensures value { has_types task.now.context.now ≡ true → out.new ≡ transforms_of task.now.source.now.at prediction.now.at true }
+    ensures coefficients { All (All IsCoefficient) out.new }
+{
+    if has_dct_type(task.context) {
+        transform(task.source, prediction, true, out);
+    }
+}
+
+impl Best {
+    /// Tries a prediction with coded blocks. `room` is for levels.
+    fn try_coding(
+        &mut self,
+        task: &Task,
+        bare: &MacroSyntax,
+        prediction: &Block16,
+        transforms: &[[i32; 64]; 6],
+        q: u8,
+        dct_field: bool,
+        room: &mut [Levels; 6],
+    )
+        requires task { IsTask task.now }
+        requires q { IsCode q }
+        requires dct { dct_field ≡ true → has_types task.now.context.now ≡ true }
+        requires bare { CanCode task.now bare.now }
+        requires coefficients { All (All IsCoefficient) transforms.now }
+        ensures tried { (r : References) (p : Prediction) → bare.now ≡ uncoded_syntax (decided r task.now) p
+            → prediction.now.at ≡ samples_by (decided r task.now) p → transforms.now ≡ transforms_of task.now.source.now.at prediction.now.at dct_field
+            → IsRated (decided r task.now) self.old
+            → Tried (decided r task.now) self.old self.new
+            (filter has_block (coded_by (decided r task.now) p (record { q = q; dct_field = dct_field }) ∷ [])) }
+    {
+        let kinds = kinds(task.context, false, q);
+        quantise_blocks(transforms, &kinds, room);
+        let pattern = pattern_of(room);
+        if pattern == 0 {
+            return;
+        }
+        let syntax = with_blocks(bare, sends(task, q), q, dct_field, pattern);
+        self.try_written(task, &syntax, room, prediction);
+    }
+
+    /// Tries a prediction by a quantiser, with both DCT types where the picture has them.
+    fn try_codings_at(
+        &mut self,
+        task: &Task,
+        bare: &MacroSyntax,
+        prediction: &Block16,
+        frame: &[[i32; 64]; 6],
+        field: &[[i32; 64]; 6],
+        q: u8,
+        room: &mut [Levels; 6],
+    )
+        requires task { IsTask task.now }
+        requires q { IsCode q }
+        requires bare { CanCode task.now bare.now }
+        requires frame { All (All IsCoefficient) frame.now }
+        requires field { All (All IsCoefficient) field.now }
+        ensures tried { (r : References) (p : Prediction) → bare.now ≡ uncoded_syntax (decided r task.now) p
+            → prediction.now.at ≡ samples_by (decided r task.now) p → frame.now ≡ transforms_of task.now.source.now.at prediction.now.at false
+            → (has_types task.now.context.now ≡ true → field.now ≡ transforms_of task.now.source.now.at prediction.now.at true)
+            → IsRated (decided r task.now) self.old
+            → Tried (decided r task.now) self.old self.new
+            (filter has_block (map (coded_by (decided r task.now) p) (codings_at (decided r task.now) q))) }
+    {
+        self.try_coding(task, bare, prediction, frame, q, false, room);
+        if has_dct_type(task.context) {
+            self.try_coding(task, bare, prediction, field, q, true, room);
+        }
+    }
+
+    /// Tries all codings of a prediction, in order.
+    pub fn try_codings(&mut self, task: &Task, bare: &MacroSyntax, prediction: &Block16)
+        requires task { IsTask task.now }
+        requires bare { CanCode task.now bare.now }
+        ensures tried { (r : References) (p : Prediction) → bare.now ≡ uncoded_syntax (decided r task.now) p
+            → prediction.now.at ≡ samples_by (decided r task.now) p → IsRated (decided r task.now) self.old
+            → Tried (decided r task.now) self.old self.new
+            (filter has_block (map (coded_by (decided r task.now) p) (codings (decided r task.now)))) }
+    {
+        let mut room = no_levels();
+        let mut frame = [[0; 64]; 6];
+        let mut field = [[0; 64]; 6];
+        transform(task.source, prediction, false, &mut frame);
+        transform_fields(task, prediction, &mut field);
+        let q = task.limits.q;
+        self.try_codings_at(task, bare, prediction, &frame, &field, q, &mut room);
+        let second = second_q(q);
+        if second != q {
+            self.try_codings_at(task, bare, prediction, &frame, &field, second, &mut room);
+        }
+    }
+}

@@ -1,0 +1,87 @@
+//! Intra macroblocks: how one is held, and the codings of one, in order.
+ghost use Rattle.std.specs.Prelude.{◌≡◌, ◌≤◌, ◌<◌, true, false, All, [], ◌∷◌, map, replicate};
+ghost use Rattle.m2v_idct.specs.Ranges.{IsCoefficient};
+ghost use Rattle.m2v_choose.specs.Candidates.{codings_at, codings, intra_by};
+ghost use Rattle.m2v_choose.specs.Own.{IsCode};
+ghost use Rattle.m2v_choose.specs.Trials.{References, decided, IsTask, IsRated, Tried, has_types, transforms_of};
+
+use crate::blocks::{quantise_blocks, transform};
+use crate::coding::{has_dct_type, intra_syntax, second_q, transform_fields};
+use crate::task::Task;
+use crate::trial::{Best, no_levels};
+use m2v_macroblock::kinds;
+use m2v_pred::Block16;
+use m2v_quant::Levels;
+
+impl Best {
+    /// Tries an intra macroblock. `none` is a prediction of zeros, `room` is for levels.
+    fn try_intra_coding(
+        &mut self,
+        task: &Task,
+        none: &Block16,
+        transforms: &[[i32; 64]; 6],
+        q: u8,
+        dct_field: bool,
+        room: &mut [Levels; 6],
+    )
+        requires task { IsTask task.now }
+        requires q { IsCode q }
+        requires dct { dct_field ≡ true → has_types task.now.context.now ≡ true }
+        requires none { none.now.at ≡ replicate 384 0 }
+        requires transforms { transforms.now ≡ transforms_of task.now.source.now.at (replicate 384 0) dct_field }
+        requires coefficients { All (All IsCoefficient) transforms.now }
+        ensures tried { (r : References) → IsRated (decided r task.now) self.old
+            → Tried (decided r task.now) self.old self.new (intra_by (decided r task.now) (record { q = q; dct_field = dct_field }) ∷ []) }
+    {
+        let kinds = kinds(task.context, true, q);
+        quantise_blocks(transforms, &kinds, room);
+        let syntax = intra_syntax(task, q, dct_field);
+        self.try_written(task, &syntax, room, none);
+    }
+
+    /// Tries an intra macroblock by a quantiser, with both DCT types where the picture has them.
+    fn try_intra_at(
+        &mut self,
+        task: &Task,
+        none: &Block16,
+        frame: &[[i32; 64]; 6],
+        field: &[[i32; 64]; 6],
+        q: u8,
+        room: &mut [Levels; 6],
+    )
+        requires task { IsTask task.now }
+        requires q { IsCode q }
+        requires none { none.now.at ≡ replicate 384 0 }
+        requires frame { frame.now ≡ transforms_of task.now.source.now.at (replicate 384 0) false }
+        requires field { has_types task.now.context.now ≡ true → field.now ≡ transforms_of task.now.source.now.at (replicate 384 0) true }
+        requires first { All (All IsCoefficient) frame.now }
+        requires second { All (All IsCoefficient) field.now }
+        ensures tried { (r : References) → IsRated (decided r task.now) self.old
+            → Tried (decided r task.now) self.old self.new (map (intra_by (decided r task.now)) (codings_at (decided r task.now) q)) }
+    {
+        self.try_intra_coding(task, none, frame, q, false, room);
+        if has_dct_type(task.context) {
+            self.try_intra_coding(task, none, field, q, true, room);
+        }
+    }
+
+    /// Tries all codings of an intra macroblock, in order.
+    pub fn try_intra(&mut self, task: &Task)
+        requires task { IsTask task.now }
+        ensures tried { (r : References) → IsRated (decided r task.now) self.old
+            → Tried (decided r task.now) self.old self.new (map (intra_by (decided r task.now)) (codings (decided r task.now))) }
+    {
+        let none = Block16 { at: [0; 384] };
+        let mut room = no_levels();
+        let mut frame = [[0; 64]; 6];
+        let mut field = [[0; 64]; 6];
+        transform(task.source, &none, false, &mut frame);
+        transform_fields(task, &none, &mut field);
+        let q = task.limits.q;
+        self.try_intra_at(task, &none, &frame, &field, q, &mut room);
+        let second = second_q(q);
+        if second != q {
+            self.try_intra_at(task, &none, &frame, &field, second, &mut room);
+        }
+    }
+}

@@ -1,0 +1,138 @@
+//! The predictions of a macroblock, in order: each without blocks where it may be, and with coded blocks.
+ghost use Rattle.std.specs.Prelude.{◌≡◌, ◌≢◌, ℕ, Bool, ◌||◌, true, false, cond, nat_eq, IsTrue, [], ◌∷◌};
+ghost use Rattle.std.specs.List.{flat_map};
+ghost use Rattle.m2v_macro.specs.declared.values.Direction.{Direction};
+ghost use Rattle.m2v_macro.specs.Conditions.{IsMacro};
+ghost use Rattle.m2v_macro.specs.Macros.{no_vectors};
+ghost use Rattle.m2v_macroblock.specs.Predictions.{prediction_of};
+ghost use Rattle.m2v_choose.specs.Decisions.{Prediction, uncoded_syntax, written, no_levels as no_levels_of};
+ghost use Rattle.m2v_choose.specs.Candidates.{prediction, predictions_by, samples_by, by_prediction};
+ghost use Rattle.m2v_choose.specs.Trials.{References, decided, references_of, IsTask, IsRead, IsRated, Tried, Predicts, CanCode, CanPredict, CanTry, direction_by, moving_syntax as moving_syntax_of, place_for};
+
+use crate::coding::{sends, with_blocks};
+use crate::task::Task;
+use crate::trial::{Best, no_levels};
+use crate::vectors::{FieldVector, Vectors, no_vector, place_of};
+use m2v_macro::MacroSyntax;
+use m2v_macroblock::mode;
+use m2v_plane::RefView;
+use m2v_pred::{Block16, predict};
+
+/// The vectors of a direction that is told, or none.
+#[inline(always)]
+fn told_vectors(told: bool, vectors: &Vectors) -> Vectors
+    ensures { direction_by result ≡ cond told (direction_by vectors.now) no_vectors }
+{
+    if told {
+        *vectors
+    } else {
+        Vectors {
+            first: no_vector(),
+            second: no_vector(),
+        }
+    }
+}
+
+/// The elements of a macroblock with a motion type and directions, without blocks.
+#[tactic(auto, unfolding(crate::specs::Trials::moving_syntax))]
+pub fn moving_syntax(
+    task: &Task,
+    form: u8,
+    has_forward: bool,
+    has_backward: bool,
+    forward: &Vectors,
+    backward: &Vectors,
+) -> MacroSyntax
+    ensures { result ≡ moving_syntax_of task.now.increment form has_forward has_backward (direction_by forward.now) (direction_by backward.now) }
+{
+    let f = told_vectors(has_forward, forward);
+    let b = told_vectors(has_backward, backward);
+    let mut m = MacroSyntax::blank();
+    m.increment = task.increment;
+    m.kind.forward = has_forward;
+    m.kind.backward = has_backward;
+    m.form = form;
+    let (ahead, behind) = (f.first.vector, b.first.vector);
+    m.vectors[0] = [ahead, behind];
+    let (ahead, behind) = (f.second.vector, b.second.vector);
+    m.vectors[1] = [ahead, behind];
+    m.bottom[0] = [f.first.bottom, b.first.bottom];
+    m.bottom[1] = [f.second.bottom, b.second.bottom];
+    m
+}
+
+/// Predicts a macroblock by its own motion, or forward by vector 0 where it has none.
+pub fn predict_moving<V: RefView>(
+    task: &Task,
+    forward: &V,
+    backward: &V,
+    bare: &MacroSyntax,
+    out: &mut Block16,
+)
+    requires task { IsTask task.now }
+    requires code { CanCode task.now bare.now }
+    requires predict { CanPredict task.now (V.size forward.now) (V.Holds forward.now) (V.Holds backward.now) bare.now }
+    requires size { bare.now.kind.backward ≡ true → V.size backward.now ≡ V.size forward.now }
+    ensures { out.new.at ≡ prediction_of (V.at forward.now) (V.at backward.now) task.now.context.now (place_for task.now) bare.now }
+{
+    let q = task.state.quantiser;
+    let coded = with_blocks(bare, sends(task, q), q, false, 63);
+    let mode = mode(task.context, &coded);
+    predict(forward, backward, &mode, place_of(task), out);
+}
+
+impl Best {
+    /// Tries a prediction without blocks, where it may be without.
+    fn try_uncoded(&mut self, task: &Task, bare: &MacroSyntax, uncoded: bool, prediction: &Block16)
+        requires task { IsTask task.now }
+        requires increment { bare.now.increment ≡ task.now.increment }
+        requires stands { uncoded ≡ true → IsMacro task.now.context.now task.now.first bare.now }
+        requires pattern { bare.now.pattern ≡ 0 }
+        ensures tried { (r : References) → Predicts r task.now bare.now prediction.now.at → IsRated (decided r task.now) self.old
+            → Tried (decided r task.now) self.old self.new (cond uncoded (written bare.now no_levels_of ∷ []) []) }
+    {
+        if uncoded {
+            self.try_written(task, bare, &no_levels(), prediction);
+        }
+    }
+
+    /// Tries a prediction that has these samples: without blocks where it may be, and all its codings.
+    fn try_predicted(
+        &mut self,
+        task: &Task,
+        bare: &MacroSyntax,
+        uncoded: bool,
+        prediction: &Block16,
+    )
+        requires task { IsTask task.now }
+        requires code { CanCode task.now bare.now }
+        requires stands { uncoded ≡ true → IsMacro task.now.context.now task.now.first bare.now }
+        requires pattern { bare.now.pattern ≡ 0 }
+        ensures tried { (r : References) (p : Prediction) → bare.now ≡ uncoded_syntax (decided r task.now) p → p.uncoded ≡ uncoded
+            → prediction.now.at ≡ samples_by (decided r task.now) p → IsRated (decided r task.now) self.old
+            → Tried (decided r task.now) self.old self.new (by_prediction (decided r task.now) p) }
+    {
+        self.try_uncoded(task, bare, uncoded, prediction);
+        self.try_codings(task, bare, prediction);
+    }
+
+    /// Tries a prediction.
+    pub fn try_prediction<V: RefView>(
+        &mut self,
+        task: &Task,
+        forward: &V,
+        backward: &V,
+        bare: &MacroSyntax,
+        uncoded: bool,
+    )
+        requires task { IsTask task.now }
+        requires can { CanTry task.now (V.size forward.now) (V.Holds forward.now) (V.Holds backward.now) bare.now uncoded }
+        requires size { bare.now.kind.backward ≡ true → V.size backward.now ≡ V.size forward.now }
+        ensures tried { (p : Prediction) → let d = decided (references_of (V.size forward.now) (V.at forward.now) (V.at backward.now)) task.now in
+            bare.now ≡ uncoded_syntax d p → p.uncoded ≡ uncoded → IsRated d self.old → Tried d self.old self.new (by_prediction d p) }
+    {
+        let mut prediction = Block16 { at: [0; 384] };
+        predict_moving(task, forward, backward, bare, &mut prediction);
+        self.try_predicted(task, bare, uncoded, &prediction);
+    }
+}
