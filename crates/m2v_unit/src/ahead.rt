@@ -4,8 +4,8 @@ ghost use Rattle.m2v_model.specs.declared.fault.FaultKind.TheVariants.{Truncated
 ghost use Rattle.m2v_model.specs.Looking.{number_from, looking};
 ghost use Rattle.m2v_model.specs.Stops.{Tells};
 
-use m2v_model::{FaultKind, Stop, stopped};
 use m2v_bits::BitReader;
+use m2v_model::{FaultKind, Stop, stopped};
 
 /// The number of n bits that stands some bits on, where the unit has it. Nothing is taken.
 #[tactic(auto, using(m2v_bits::proofs::Cursor::lengths), unfolding(m2v_model::specs::Looking::number_from))]

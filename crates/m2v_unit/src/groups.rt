@@ -4,9 +4,9 @@ ghost use Rattle.m2v_model.specs.Headers.{whole_header, group_in, matrices_in};
 ghost use Rattle.m2v_model.specs.Stops.{Tells};
 
 use crate::ahead::end;
-use m2v_model::{Stop, of_head, stopped};
 use m2v_bits::BitReader;
 use m2v_head::{GroupInfo, MatrixInfo};
+use m2v_model::{Stop, of_head, stopped};
 
 /// Reads a group header's unit behind its start code (clause 6.2.2.6).
 #[tactic(auto, unfolding(m2v_model::specs::Headers::whole_header, m2v_model::specs::Headers::group_in, m2v_bits::specs::Syntax::renamed, m2v_bits::specs::Syntax::seq, m2v_bits::specs::Syntax::bind, m2v_bits::specs::Syntax::done))]

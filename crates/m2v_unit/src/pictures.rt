@@ -7,9 +7,9 @@ ghost use Rattle.m2v_model.specs.Stops.{Tells};
 ghost use Rattle.m2v_unit.specs.Reads.{IsReadPicture};
 
 use crate::ahead::{check, end, left_of, look};
-use m2v_model::{FaultKind, Stop, of_head, stopped};
 use m2v_bits::BitReader;
 use m2v_head::{PictureExtension, PictureInfo};
+use m2v_model::{FaultKind, Stop, of_head, stopped};
 
 /// Reads a picture header's unit behind its start code (clause 6.2.3).
 #[tactic(auto, unfolding(m2v_model::specs::Headers::whole_header, m2v_model::specs::Headers::picture_in, m2v_bits::specs::Syntax::renamed, m2v_bits::specs::Syntax::seq, m2v_bits::specs::Syntax::bind, m2v_bits::specs::Syntax::done))]

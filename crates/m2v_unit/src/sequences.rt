@@ -6,9 +6,9 @@ ghost use Rattle.m2v_model.specs.Stops.{Tells};
 ghost use Rattle.m2v_unit.specs.Reads.{IsReadSequence};
 
 use crate::ahead::{check, end, left_of, look};
-use m2v_model::{FaultKind, Stop, of_head, stopped};
 use m2v_bits::BitReader;
 use m2v_head::{SequenceExtension, SequenceInfo};
+use m2v_model::{FaultKind, Stop, of_head, stopped};
 
 /// Reads a sequence header's unit behind its start code (clause 6.2.2.1).
 #[tactic(auto, unfolding(m2v_model::specs::Headers::whole_header, m2v_model::specs::Headers::sequence_in, m2v_bits::specs::Syntax::renamed, m2v_bits::specs::Syntax::seq, m2v_bits::specs::Syntax::bind, m2v_bits::specs::Syntax::done))]

@@ -12,11 +12,11 @@ use crate::groups::{group, matrices};
 use crate::pictures::{picture, picture_extension};
 use crate::reader::UnitReader;
 use crate::sequences::{sequence, sequence_extension};
-use m2v_model::Stop;
 use crate::unit::Unit;
 use m2v_head::{
     GroupInfo, MatrixInfo, PictureExtension, PictureInfo, SequenceExtension, SequenceInfo,
 };
+use m2v_model::Stop;
 
 /// A fault inside a unit, with the units that are left behind it.
 fn behind(stop: Stop, units: &UnitReader) -> Stop
