@@ -4,3 +4,4 @@ pub mod RowLaws
 pub mod Held
 pub mod Ranges
 pub mod RuleLaws
+pub mod FrameLaws

@@ -1,6 +1,6 @@
 -- Macroblocks of a row, one after another: their samples, their addresses and their states.
 use Rattle.std.proofs.Common.{◌≡◌, ℕ, ◌+◌, ◌-◌, ◌*◌, ◌/◌, ◌%◌, ◌<◌, ◌≤◌, Bool, true, false, List, [], ◌∷◌, ◌++◌, length, refl, sym, ap, ◌∙◌, subst, arith, append_assoc, inl, inr, ◌^◌, ℤ, pos, ◌+ℤ◌, ◌-ℤ◌, ◌<ℤ◌, ◌≤ℤ◌, mul-le-mul, add-mul, nat_eq, cond, length-append}
-use Rattle.std.specs.Prelude.{nat_abs, unsigned_abs, not, ◌||◌, nat_lt, int_le, filter}
+use Rattle.std.specs.Prelude.{nat_abs, unsigned_abs, not, ◌||◌, nat_lt, int_le, filter, if◌then◌else◌}
 use Rattle.std.proofs.lemmas.Int.{ints}
 use Rattle.std.proofs.lemmas.List.{append-nil}
 use Rattle.std.proofs.lemmas.List.Elements.{filter-append}
@@ -21,7 +21,7 @@ use Rattle.m2v_model.specs.declared.setup.SliceSetup.{SliceSetup}
 use Rattle.m2v_model.specs.Slices.{slice_start, begins_late, is_large}
 use Rattle.m2v_model.specs.Samples.{References, Put, painted, all_painted}
 use Rattle.m2v_picture.specs.declared.gap.Gap.{Gap}
-use Rattle.m2v_picture.specs.Conditions.{LiesInRow, IsBefore, IsState, IsPicture, AreDc, IsColumn, IsGap, place_in}
+use Rattle.m2v_picture.specs.Conditions.{LiesInRow, IsBefore, IsState, IsPicture, AreDc, IsColumn, IsGap, IsSetup, rows_in, place_in}
 
 -- the macroblocks so far: whatever follows them is painted on what they left
 abbrev pub Left : Put → SliceSetup → References → SliceState → Samples → List Macroblock → SliceState → Samples → Type 0
@@ -30,11 +30,11 @@ Left put s refs start before xs st now = (rest : List Macroblock) → all_painte
 pub left_first : (put : Put) (s : SliceSetup) (refs : References) (start : SliceState) (before : Samples) → Left put s refs start before [] start before
 left_first put s refs start before = λ rest. refl
 
-pub left_more : (put : Put) (s : SliceSetup) (refs : References) (start : SliceState) (before : Samples) (xs : List Macroblock) (st z : SliceState) (now then : Samples) (x : Macroblock)
-    → Left put s refs start before xs st now → z ≡ after_macroblock s.context st x → then ≡ painted put s refs st x now
-    → Left put s refs start before (xs ++ x ∷ []) z then
+pub left_more : (put : Put) (s : SliceSetup) (refs : References) (start : SliceState) (before : Samples) (xs : List Macroblock) (st z : SliceState) (now painted_now : Samples) (x : Macroblock)
+    → Left put s refs start before xs st now → z ≡ after_macroblock s.context st x → painted_now ≡ painted put s refs st x now
+    → Left put s refs start before (xs ++ x ∷ []) z painted_now
 unfolding all_painted
-left_more put s refs start before xs st z now then x h is told =
+left_more put s refs start before xs st z now painted_now x h is told =
     λ rest. ap (λ (l : List Macroblock). all_painted put s refs start l before) (append_assoc xs (x ∷ []) rest) ∙ h (x ∷ rest) ∙ rw (is, told) refl
 
 pub left_samples : (put : Put) (s : SliceSetup) (refs : References) (start : SliceState) (before : Samples) (xs : List Macroblock) (st : SliceState) (now : Samples)
@@ -166,3 +166,66 @@ further_on c st m z is some = rw is (omega (arith, ints, some))
 -- one macroblock more
 pub few_more : (large more columns : ℕ) (before behind : ℤ) → pos (large + columns) ≤ℤ (before +ℤ pos 1) → before <ℤ behind → more ≤ large + 1 → pos (more + columns) ≤ℤ (behind +ℤ pos 1)
 few_more large more columns before behind few further le = omega (arith, ints, few, further, le)
+
+pub large_then : (bits : List ℕ) (b large : ℕ) → large ≡ length (filter is_large bits) → is_large b ≡ true → large + 1 ≡ length (filter is_large (bits ++ b ∷ []))
+large_then bits b large is e = ap (λ n. n + 1) is ∙ sym (large_more bits b true e)
+
+pub large_else : (bits : List ℕ) (b large : ℕ) → large ≡ length (filter is_large bits) → is_large b ≡ false → large ≡ length (filter is_large (bits ++ b ∷ []))
+large_else bits b large is e = let z : large ≡ large + 0 = omega arith in z ∙ ap (λ n. n + 0) is ∙ sym (large_more bits b false e)
+
+pub one_more : (more large : ℕ) → more ≡ large + 1 → more ≤ large + 1
+one_more more large e = omega (arith, e)
+
+pub none_more : (more large : ℕ) → more ≡ large → more ≤ large + 1
+none_more more large e = omega (arith, e)
+
+pub not_more : (b : Bool) → not b ≡ true → b ≡ false
+not_more true e = absurd cc
+not_more false e = refl
+
+pub still_more : (b : Bool) → not b ≡ false → b ≡ true
+still_more true e = refl
+still_more false e = absurd cc
+
+-- ---- where a slice begins and ends
+
+pub row_ends : (s : SliceSetup) (row : ℕ) → IsSetup s → row < rows_in s → row * s.context.columns + s.context.columns ≤ 2 ^ 16
+row_ends s row h below =
+    let few : row + 1 ≤ 72 = by_rows (nat_eq s.context.extension.structure 3) below in
+    let most = mul-le-mul few h.picture.context.columns.1 in
+    let e = add-mul row 1 s.context.columns in
+    omega (arith, most, e)
+  where
+    by_rows : (whole : Bool) → row < (if whole then s.dims.mb_rows else s.dims.mb_rows / 2) → row + 1 ≤ 72
+    by_rows true lt = omega (arith, lt, h.size.mb_rows)
+    by_rows false lt = omega (arith, lt, h.size.mb_rows)
+
+pub starts_in : (s : SliceSetup) (covered row quantiser : ℕ) → IsSetup s → row < rows_in s → covered ≤ 2 ^ 16 → IsReady s.context (slice_start s.context row covered quantiser)
+    → IsState s.context row (slice_start s.context row covered quantiser)
+unfolding slice_start at_start
+starts_in s covered row quantiser h below most ready = record {
+  ready = ready;
+  dc = dc_start s.context row quantiser covered;
+  place = record { first = λ e. refl; later = λ e. absurd (false-true (sym e)); end = row_ends s row h below };
+  next = most;
+  direction = λ kind first intra. absurd (false-true (sym first));
+}
+
+pub start_address : (c : PictureContext) (covered row quantiser : ℕ) → ((slice_start c row covered quantiser).address +ℤ pos 1) ≡ pos (row * c.columns)
+unfolding slice_start at_start
+start_address c covered row quantiser = omega (arith, ints)
+
+-- what is behind an address of the row is not past the row's end
+pub covered_most : (c : PictureContext) (row covered : ℕ) (address : ℤ) → LiesInRow c row address → covered ≡ nat_abs (address +ℤ pos 1) → covered ≤ (row + 1) * c.columns
+covered_most c row covered address i is =
+    let e = add-mul row 1 c.columns in
+    let a : covered ≡ nat_abs (pos (row * c.columns + i.0) +ℤ pos 1) = rw i.2 at is in
+    omega (arith, ints, e, a, i.1)
+
+-- an address of the row is small
+pub in_row_small : (c : PictureContext) (row : ℕ) (address : ℤ) → row * c.columns + c.columns ≤ 2 ^ 16 → LiesInRow c row address → (n : ℕ) × (n < 2 ^ 16) × (address ≡ pos n)
+in_row_small c row address end i = (row * c.columns + i.0, omega (arith, end, i.1), i.2)
+
+pub first_is : (c : PictureContext) (covered row quantiser : ℕ) (first : SliceState) → first ≡ at_start c row quantiser covered → first ≡ slice_start c row covered quantiser
+unfolding slice_start
+first_is c covered row quantiser first e = e

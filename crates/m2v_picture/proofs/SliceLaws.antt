@@ -13,18 +13,18 @@ use Rattle.m2v_macroblock.specs.Macroblocks.{Macroblock}
 use Rattle.m2v_model.specs.declared.fault.FaultKind.{FaultKind}
 use Rattle.m2v_model.specs.declared.fault.FaultKind.TheVariants.{Truncated, SliceOrder}
 use Rattle.m2v_model.specs.declared.setup.SliceSetup.{SliceSetup}
-use Rattle.m2v_model.specs.Faults.{of_head, of_macro, bits_left}
+use Rattle.m2v_model.specs.Faults.{of_head, of_macro}
 use Rattle.m2v_model.specs.Looking.{looking}
 use Rattle.m2v_model.specs.Slices.{Row, with_next, macroblock_at, macroblock_round, macroblocks_at, begins_late, slice_start, unit_place, slice_at}
 use Rattle.m2v_model.proofs.SliceLaws.{macroblock_strict, round_strict}
 
 pub macroblocks_err : (s : SliceSetup) (r : Row) (t : List Bool) (f : FaultKind × ℕ) → (macroblock_at s r.state).read t ≡ bad f → (macroblocks_at s r).read t ≡ bad f
-unfolding macroblocks_at macroblock_round bits_left seq bind here
+unfolding macroblocks_at macroblock_round seq bind here
 macroblocks_err s r t f at = round_err length Truncated (macroblock_round s) (λ r. (round_strict s r).lawful) (onward (round_strict s)) r t f (rw at refl)
 
 round_is : (s : SliceSetup) (r : Row) (x : Macroblock) (t mid : List Bool) (b : Bool) → (macroblock_at s r.state).read t ≡ good (x, mid) → not (all_zero mid) ≡ b
     → (macroblock_round s r).read t ≡ good ((b, with_next s.context r x (length t - length mid)), mid)
-unfolding macroblock_round bits_left seq bind here zero_at done
+unfolding macroblock_round seq bind here zero_at done
 round_is s r x t mid b at z = rw (at, z) refl
 
 pub macroblocks_more : (s : SliceSetup) (r : Row) (x : Macroblock) (t mid : List Bool) → (macroblock_at s r.state).read t ≡ good (x, mid) → not (all_zero mid) ≡ true

@@ -22,14 +22,14 @@ pub record Frames : Type 0 where
   pub first_field : Option Samples
   pub reading : Option Reading
 
--- what a picture that is open is predicted from
-abbrev pub references_at : Frames → Option Reading → References
-references_at f None = no_references
-references_at f (Some r) =
-    references_by r.kind r.second_field r.structure (record { older = f.older; newer = f.newer; current = f.first_field; references = no_references })
+-- what a picture that is open is predicted from, by the last two anchors and the first field of its frame
+abbrev pub references_at : Option Reading → Option Samples → Option Samples → Option Samples → References
+references_at None older newer first = no_references
+references_at (Some r) older newer first =
+    references_by r.kind r.second_field r.structure (record { older = older; newer = newer; current = first; references = no_references })
 
 abbrev pub references_in : Frames → References
-references_in f = references_at f f.reading
+references_in f = references_at f.reading f.older f.newer f.first_field
 
 -- the frames as the definitions have them
 abbrev pub store_of : Frames → Store
@@ -45,24 +45,29 @@ reading_of p =
 abbrev pub none_at_hand : Frames
 none_at_hand = record { older = None; newer = None; current = None; first_field = None; reading = None }
 
--- the frame that has a field, of structure 1 or 2, of the forward reference
-abbrev pub forward_frame : Frames → ℕ → Option Reading → Option Samples
-forward_frame f field None = None
-forward_frame f field (Some r) =
-    if is_b r.kind then f.older
-    else if r.second_field && not (nat_eq r.structure field) then f.first_field else f.newer
+-- the frames that have the top and the bottom field of the forward reference: of a second P field the field of the other
+-- parity stands in the frame of its first field
+abbrev pub forward_top : Option Reading → Option Samples → Option Samples → Option Samples → Option Samples
+forward_top None older newer first = None
+forward_top (Some r) older newer first =
+    if is_b r.kind then older else if r.second_field && not (nat_eq r.structure 1) then first else newer
+
+abbrev pub forward_bottom : Option Reading → Option Samples → Option Samples → Option Samples → Option Samples
+forward_bottom None older newer first = None
+forward_bottom (Some r) older newer first =
+    if is_b r.kind then older else if r.second_field && nat_eq r.structure 1 then first else newer
 
 -- the frame that has both fields of the backward reference
-abbrev pub backward_frame : Frames → Option Reading → Option Samples
-backward_frame f None = None
-backward_frame f (Some r) = if is_b r.kind then f.newer else None
+abbrev pub backward_frame : Option Reading → Option Samples → Option Samples
+backward_frame None newer = None
+backward_frame (Some r) newer = if is_b r.kind then newer else None
 
 -- each field that was decoded stands in a frame that is there: forward top, forward bottom, backward top, backward bottom
 pub record HasReferences (decoded : List Bool) (f : Frames) : Type 0 where
-  pub forward_top : slice_index_or decoded 0 false ≡ true → IsSome (forward_frame f 1 f.reading)
-  pub forward_bottom : slice_index_or decoded 1 false ≡ true → IsSome (forward_frame f 2 f.reading)
-  pub backward_top : slice_index_or decoded 2 false ≡ true → IsSome (backward_frame f f.reading)
-  pub backward_bottom : slice_index_or decoded 3 false ≡ true → IsSome (backward_frame f f.reading)
+  pub top : slice_index_or decoded 0 false ≡ true → IsSome (forward_top f.reading f.older f.newer f.first_field)
+  pub bottom : slice_index_or decoded 1 false ≡ true → IsSome (forward_bottom f.reading f.older f.newer f.first_field)
+  pub back_top : slice_index_or decoded 2 false ≡ true → IsSome (backward_frame f.reading f.newer)
+  pub back_bottom : slice_index_or decoded 3 false ≡ true → IsSome (backward_frame f.reading f.newer)
 
 -- all frames that are there have this size
 pub record HaveSize (d : Dims) (f : Frames) : Type 0 where

@@ -7,11 +7,11 @@ ghost use Rattle.m2v_model.specs.Slices.{blocks_from};
 ghost use Rattle.m2v_picture.specs.Conditions.{IsPicture, AreDc, last_dc};
 ghost use Rattle.m2v_picture.specs.Reads.{TellsLevels, TellsBlocks};
 
-use m2v_model::{Stop, of_block, stopped};
 use m2v_bits::BitReader;
 use m2v_block::read_block;
 use m2v_macro::{MacroSyntax, PictureContext, SliceState};
 use m2v_macroblock::kind_for;
+use m2v_model::{Stop, of_block, stopped};
 use m2v_quant::{BlockKind, Levels};
 use m2v_recon::is_coded;
 

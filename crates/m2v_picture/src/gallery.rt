@@ -5,7 +5,7 @@ ghost use Rattle.m2v_plane.specs.Samples.{blank};
 ghost use Rattle.m2v_model.specs.States.{dims_of, is_frame_end};
 ghost use Rattle.m2v_model.specs.Pictures.{picture_begun, picture_ended};
 ghost use Rattle.m2v_picture.specs.Conditions.{IsSetup, rows_in};
-ghost use Rattle.m2v_picture.specs.Frames.{none_at_hand, store_of, reading_of, forward_frame, backward_frame, HasReferences, HaveSize, PaintsSlice};
+ghost use Rattle.m2v_picture.specs.Frames.{none_at_hand, store_of, reading_of, forward_top, forward_bottom, backward_frame, HasReferences, HaveSize, PaintsSlice};
 
 use crate::Memory;
 use crate::scratch::Scratch;
@@ -104,8 +104,8 @@ fn forward_view<'a>(
     requires newer { IfSome newer.now (λ f. f.dims ≡ dims) }
     requires first { IfSome first_field.now (λ f. f.dims ≡ dims) }
     ensures dims { result.dims ≡ dims }
-    ensures top { result.top ≡ forward_frame (record { older = older.now; newer = newer.now; current = None; first_field = first_field.now; reading = reading.now }) 1 reading.now }
-    ensures bottom { result.bottom ≡ forward_frame (record { older = older.now; newer = newer.now; current = None; first_field = first_field.now; reading = reading.now }) 2 reading.now }
+    ensures top { result.top ≡ forward_top reading.now older.now newer.now first_field.now }
+    ensures bottom { result.bottom ≡ forward_bottom reading.now older.now newer.now first_field.now }
 {
     match reading {
         None => FieldView::new(dims, None, None),
@@ -132,8 +132,8 @@ fn backward_view<'a>(
     requires size { IsSize dims }
     requires newer { IfSome newer.now (λ f. f.dims ≡ dims) }
     ensures dims { result.dims ≡ dims }
-    ensures top { result.top ≡ backward_frame (record { older = None; newer = newer.now; current = None; first_field = None; reading = reading.now }) reading.now }
-    ensures bottom { result.bottom ≡ backward_frame (record { older = None; newer = newer.now; current = None; first_field = None; reading = reading.now }) reading.now }
+    ensures top { result.top ≡ backward_frame reading.now newer.now }
+    ensures bottom { result.bottom ≡ backward_frame reading.now newer.now }
 {
     match reading {
         Some(r) if r.kind == 3 => FieldView::new(dims, newer.as_ref(), newer.as_ref()),
@@ -164,6 +164,31 @@ impl Gallery {
         keep(&mut self.spare, Some(frame));
     }
 
+    /// A second field begins: it is painted into a copy of its frame.
+    fn begin_second(&mut self, alloc: Global, reading: Reading) -> Result<(), Memory>
+        ensures { OnOk result (self.new ≡ record self.old { first_field = self.old.current; reading = Some reading }) }
+    {
+        let first = self.current.take();
+        self.current = match &first {
+            Some(frame) => Some(copy_of(alloc, &mut self.spare, frame)?),
+            None => None,
+        };
+        self.first_field = first;
+        self.reading = Some(reading);
+        Ok(())
+    }
+
+    /// A frame picture or a first field begins: its frame has samples 0.
+    fn begin_frame(&mut self, alloc: Global, dims: Dims, reading: Reading) -> Result<(), Memory>
+        requires { IsSize dims }
+        ensures { OnOk result (self.new ≡ record self.old { current = Some (blank dims dims.mb_rows); reading = Some reading }) }
+    {
+        keep(&mut self.spare, self.current.take());
+        self.current = Some(blank_frame(alloc, &mut self.spare, dims)?);
+        self.reading = Some(reading);
+        Ok(())
+    }
+
     /// A picture begins, behind its headers: its frame has samples 0, that of a second field those of its first field. A
     /// picture whose slices stay unread has none.
     pub fn begin(&mut self, alloc: Global, s: &Sequence, p: &Open) -> Result<(), Memory>
@@ -176,27 +201,19 @@ impl Gallery {
         ensures first { OnOk result (p.now.second_field ≡ true → p.now.slices_unread ≡ false → self.new.first_field ≡ self.old.current) }
         ensures frames { OnOk result (HaveSize (dims_of s.now) self.new) }
     {
-        let current = self.current.take();
         if p.slices_unread {
-            keep(&mut self.spare, current);
+            keep(&mut self.spare, self.current.take());
             return Ok(());
         }
-        if p.second_field {
-            self.current = match &current {
-                Some(first) => Some(copy_of(alloc, &mut self.spare, first)?),
-                None => None,
-            };
-            self.first_field = current;
-        } else {
-            keep(&mut self.spare, current);
-            self.current = Some(blank_frame(alloc, &mut self.spare, s.dims())?);
-        }
-        self.reading = Some(Reading {
+        let reading = Reading {
             kind: p.info.kind,
             second_field: p.second_field,
             structure: p.extension.structure,
-        });
-        Ok(())
+        };
+        if p.second_field {
+            return self.begin_second(alloc, reading);
+        }
+        self.begin_frame(alloc, s.dims(), reading)
     }
 
     /// Reads a slice of the picture that is open, without its start code, and paints it. `covered` is the address of the

@@ -33,7 +33,10 @@ pub fn gap_before(c: &PictureContext, row: u32, before: &SliceState, m: &MacroSy
     ensures { IsGap c.now row before.now m.now result }
 {
     if before.first || m.increment == 1 {
-        return Gap { column: 0, count: 0 };
+        return Gap {
+            column: 0,
+            count: 0,
+        };
     }
     Gap {
         column: column(c, row, before) + 1,

@@ -6,9 +6,9 @@ ghost use Rattle.m2v_model.specs.Faults as faults;
 ghost use Rattle.m2v_model.specs.Slices.{begins_late as begins_late_of};
 ghost use Rattle.m2v_picture.specs.Reads.{TellsSum};
 
-use m2v_model::{Stop, of_macro, stopped};
 use m2v_bits::BitReader;
 use m2v_macro::MacroFault;
+use m2v_model::{Stop, of_macro, stopped};
 use m2v_vlc::{Increment, read_increment};
 
 /// An escape, or the increment: whether another follows, and the sum so far. Sums are kept up to 2^32 - 1, far past

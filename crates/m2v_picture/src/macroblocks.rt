@@ -20,9 +20,9 @@ use crate::target::Target;
 use m2v_bits::BitReader;
 use m2v_macro::{MacroSyntax, PictureContext, SliceState, read_macro};
 use m2v_macroblock::dc_after;
+use m2v_model::{SliceSetup, Stop, of_macro, stopped};
 use m2v_plane::RefView;
 use m2v_quant::Levels;
-use m2v_model::{SliceSetup, Stop, of_macro, stopped};
 
 /// A macroblock that was read, and where it stands in its row.
 #[derive(Clone, Copy, Debug, PartialEq, Eq)]
@@ -77,7 +77,7 @@ fn elements(
 }
 
 /// A macroblock with the levels of its blocks. The state is that behind its elements.
-#[tactic(auto, unfolding(m2v_model::specs::Slices::macroblock_at, m2v_model::specs::Faults::bits_left, m2v_bits::specs::Syntax::here, m2v_bits::specs::Syntax::rule, m2v_bits::specs::Syntax::seq, m2v_bits::specs::Syntax::bind, m2v_bits::specs::Syntax::done))]
+#[tactic(auto, unfolding(m2v_model::specs::Slices::macroblock_at, m2v_bits::specs::Syntax::here, m2v_bits::specs::Syntax::rule, m2v_bits::specs::Syntax::seq, m2v_bits::specs::Syntax::bind, m2v_bits::specs::Syntax::done))]
 fn macroblock(
     input: &mut BitReader,
     s: &SliceSetup,
@@ -197,9 +197,7 @@ pub fn macroblocks<V: RefView, T: Target>(
     let mut state = first;
     let mut large = 0;
     loop {
-        let r = next_macroblock(
-            input, s, row, &mut state, forward, backward, scratch, out,
-        )?;
+        let r = next_macroblock(input, s, row, &mut state, forward, backward, scratch, out)?;
         if r.large {
             large += 1;
         }

@@ -99,9 +99,7 @@ pub fn read_slice<V: RefView, T: Target>(
         });
     }
     let first = SliceState::at_start(&s.context, row, info.quantiser, covered);
-    let (last, large) = macroblocks(
-        input, s, row, first, forward, backward, scratch, out,
-    )?;
+    let (last, large) = macroblocks(input, s, row, first, forward, backward, scratch, out)?;
     Ok(SliceEnd {
         covered: address_behind(&last),
         large,

@@ -39,9 +39,9 @@ loop-k-preserved g c =
     let lt = c.loop-k-test.true in
     let block = c.predict.ensures.value in
     let put = c.put.ensures.value (predicted f b c.skipped_mode-mode.result c.place-at.result) block
-        ∙ ap (λ (mode : Mode). g.T.Target.placed c.place-at.result (predicted f b mode c.place-at.result) (g.T.Target.samples c.loop-k.out)) c.skipped_mode-mode.ensures.value
-        ∙ ap (λ (at : MbPlace). g.T.Target.placed at (predicted f b (skipped_mode s.context before) at) (g.T.Target.samples c.loop-k.out))
-        (c.place-at.ensures ∙ sym (gap_place s c.args.row before c.args.m.now c.args.gap c.requires.gap k lt)) in
+    ∙ ap (λ (mode : Mode). g.T.Target.placed c.place-at.result (predicted f b mode c.place-at.result) (g.T.Target.samples c.loop-k.out)) c.skipped_mode-mode.ensures.value
+    ∙ ap (λ (at : MbPlace). g.T.Target.placed at (predicted f b (skipped_mode s.context before) at) (g.T.Target.samples c.loop-k.out))
+    (c.place-at.ensures ∙ sym (gap_place s c.args.row before c.args.m.now c.args.gap c.requires.gap k lt)) in
     record {
       samples = ap (λ (z : Samples). skipped_painted g.T.Target.placed s (seen_by f b) before (first_skipped before + (k + 1)) (c.args.gap.count - (k + 1)) z) put
           ∙ gap_painted g.T.Target.placed s (seen_by f b) before (first_skipped before) k c.args.gap.count (g.T.Target.samples c.loop-k.out) lt

@@ -6,7 +6,6 @@ use Rattle.m2v_pred.specs.Vectors.{IsInside, size_read}
 use Rattle.m2v_model.specs.Modes.{is_decoded, direction_decoded}
 use Rattle.m2v_picture.proofs.Held.{held_read, has_direction, read_size}
 use Rattle.m2v_pred.proofs.Tested.{inside_is}
-
 use Rattle.m2v_picture.proofs.prediction.predict.Goals as goal
 
 pub predict-requires-clause-inside : goal.predict-requires-clause-inside

@@ -15,5 +15,5 @@ returns c =
     let gap = c.args.gap in
     let skipped = c.gap_inside-gap_inside.ensures ∙ ap (λ (m : Mode). list_all (λ k. is_inside m (place_in s row (gap.column + k)) s.dims) (range_with_len 0 gap.count)) c.skipped_mode-skipped.ensures.value in
     let own = c.inside-own_inside.ensures.exact ∙ ap (λ (m : Mode). is_inside m c.place.result s.dims) c.mode-mode.ensures.value
-        ∙ ap (λ (at : MbPlace). is_inside (mode_of s.context c.args.m.now) at s.dims) c.place.ensures in
+    ∙ ap (λ (at : MbPlace). is_inside (mode_of s.context c.args.m.now) at s.dims) c.place.ensures in
     c.both.ensures ∙ (λ i. skipped i && own i) ∙ inside_by_columns s row c.args.column c.args.before.now c.args.m.now gap c.requires.gap c.requires.column
