@@ -1,8 +1,8 @@
 -- The headers in force and the frames at hand: that they agree behind each part.
-use Rattle.std.proofs.Common.{◌≡◌, ℕ, ◌+◌, ◌*◌, ◌≤◌, ◌^◌, Bool, true, false, List, [], ◌∷◌, Option, Some, None, is_some, inl, inr, refl, sym, ap, subst, ◌∙◌, arith}
+use Rattle.std.proofs.Common.{◌≡◌, ◌⊎◌, ℕ, ◌+◌, ◌*◌, ◌≤◌, ◌^◌, Bool, true, false, List, [], ◌∷◌, Option, Some, None, is_some, inl, inr, refl, sym, ap, subst, ◌∙◌, arith}
 use Rattle.std.specs.Prelude.{nat_eq, nat_le, nat_lt, not, ◌&&◌, ◌||◌, if◌then◌else◌, IsSome, ◌/◌}
 use Rattle.std.specs.Bool.{beq}
-use Rattle.std.proofs.lemmas.Bool.{cases_Bool, and_parts, eqb-true, leb-true, ltb-false}
+use Rattle.std.proofs.lemmas.Bool.{cases_Bool, and_parts, eqb-true, eqb-false, leb-true, ltb-false, not-true}
 use Rattle.m2v_plane.specs.declared.dims.Dims.{Dims}
 use Rattle.m2v_plane.specs.Sizes.{IsSize}
 use Rattle.m2v_plane.specs.Samples.{Samples, blank}
@@ -20,7 +20,7 @@ use Rattle.m2v_model.specs.Pictures.{Store, picture_ended, picture_begun, fresh,
 use Rattle.m2v_unit.specs.Reads.{IsReadPicture}
 use Rattle.m2v_unit.specs.Among.{AreMatrices}
 use Rattle.m2v_picture.specs.declared.gallery.Reading.{Reading}
-use Rattle.m2v_picture.specs.Frames.{Frames, none_at_hand, store_of, reading_of, forward_frame, backward_frame, HasReferences, HaveSize}
+use Rattle.m2v_picture.specs.Frames.{Frames, none_at_hand, store_of, reading_of, forward_top, forward_bottom, backward_frame, HasReferences, HaveSize}
 use Rattle.m2v_decoder.specs.Course.{IsOpen, HasFrame, FitsOpen, HaveSizes, HasFirstField, HasAnchors, AreSound}
 
 -- ---- the first field that waits
@@ -205,21 +205,27 @@ only true true e = refl
 only true false e = absurd cc
 only false y e = absurd cc
 
--- the frame of a field of the forward reference is there, where it was decoded
-forward_there : (b c : Bool) (kind structure field anchors : ℕ) (second : Bool) (older newer first : Option Samples) → is_b kind ≡ b → (second && not (nat_eq structure field)) ≡ c
-    → (2 ≤ anchors → IsSome older) → (1 ≤ anchors → IsSome newer) → (second ≡ true → IsSome first)
-    → ((nat_eq kind 2 && (nat_le 1 anchors || (second && not (nat_eq structure field)))) || (is_b kind && nat_le 2 anchors)) ≡ true
-    → IsSome (if is_b kind then older else if second && not (nat_eq structure field) then first else newer)
-forward_there true c kind structure field anchors second older newer first is other two one some h =
+-- the frame of a field of the forward reference is there, where it was decoded; the field stands in the frame of the first
+-- field, or in an anchor
+forward_there : (b c : Bool) (kind anchors : ℕ) (own : Bool) (older newer first : Option Samples) → is_b kind ≡ b → own ≡ c
+    → (2 ≤ anchors → IsSome older) → (1 ≤ anchors → IsSome newer) → (own ≡ true → IsSome first)
+    → ((nat_eq kind 2 && (nat_le 1 anchors || own)) || (is_b kind && nat_le 2 anchors)) ≡ true
+    → IsSome (if is_b kind then older else if own then first else newer)
+forward_there true c kind anchors own older newer first is other two one some h =
     let three : kind ≡ 3 = eqb-true kind 3 is in
     let le : nat_le 2 anchors ≡ true = rw three at h in
     rw is (two (leb-true 2 anchors le))
-forward_there false true kind structure field anchors second older newer first is other two one some h =
-    rw (is, other) (some (and_parts second (not (nat_eq structure field)) other).0)
-forward_there false false kind structure field anchors second older newer first is other two one some h =
+forward_there false true kind anchors own older newer first is other two one some h =
+    rw (is, other) (some other)
+forward_there false false kind anchors own older newer first is other two one some h =
     let g = rw (other, is) at h in
     let le : nat_le 1 anchors ≡ true = only (nat_eq kind 2) (nat_le 1 anchors) g in
     rw (is, other) (one (leb-true 1 anchors le))
+
+-- the second field of a frame is its top or its bottom field
+other_parity : (second : Bool) (structure : ℕ) → (second ≡ true → (structure ≡ 1) ⊎ (structure ≡ 2)) → (second && nat_eq structure 1) ≡ (second && not (nat_eq structure 2))
+other_parity false structure h = refl
+other_parity true structure h = elim (h refl) [ inl e ↦ rw e refl | inr e ↦ rw e refl ]
 
 backward_there : (b : Bool) (kind anchors : ℕ) (newer : Option Samples) → is_b kind ≡ b → (1 ≤ anchors → IsSome newer) → (is_b kind && nat_le 1 anchors) ≡ true → IsSome (if is_b kind then newer else None)
 backward_there true kind anchors newer is one h = rw is (one (leb-true 1 anchors (and_parts (is_b kind) (nat_le 1 anchors) h).1))
@@ -230,6 +236,19 @@ backward_there false kind anchors newer is one h =
 fresh_there : (w : Option FirstField) (current : Option Samples) (frame : Samples) → (is_some w ≡ true → IsSome current) → IsSome (if is_some w then current else Some frame)
 fresh_there None current frame h = refl
 fresh_there (Some w) current frame h = h refl
+
+field_structure : (n : ℕ) → (1 ≤ n) × (n ≤ 3) → nat_eq n 3 ≡ false → (n ≡ 1) ⊎ (n ≡ 2)
+field_structure n range off = elim (cases_Bool (nat_eq n 1)) [
+  | inl e ↦ inl (eqb-true n 1 e)
+  | inr e ↦
+      let one : (n ≡ 1) → ⊥ = eqb-false n 1 e in
+      let three : (n ≡ 3) → ⊥ = eqb-false n 3 off in
+      inr (grind (arith))
+]
+
+due_field : (w : Option FirstField) (info : PictureInfo) (extension : PictureExtension) → is_second_field_due w info extension ≡ true → is_some w ≡ true → is_frame extension ≡ false
+due_field None info extension due some = absurd cc
+due_field (Some w) info extension due some = not-true (is_frame extension) (and_parts (not (is_frame extension)) (not (nat_eq extension.structure w.structure) && may_follow w.kind info.kind) due).0
 
 pick_true : {A : Type 0} (b : Bool) (x y : A) → b ≡ true → (if b then x else y) ≡ x
 pick_true true x y e = refl
@@ -305,15 +324,26 @@ module _ (st : State) (s : Sequence) (info : PictureInfo) (extension : PictureEx
   abbrev reads : Reading
   reads = record { kind = info.kind; second_field = is_some st.waiting; structure = extension.structure }
 
+  fields : is_some st.waiting ≡ true → (extension.structure ≡ 1) ⊎ (extension.structure ≡ 2)
+  fields second = field_structure extension.structure (fits.1).fits.structure (due_field st.waiting info extension due second)
+
   references_there : g.reading ≡ Some reads → (2 ≤ st.anchors → IsSome g.older) → (1 ≤ st.anchors → IsSome g.newer) → (is_some st.waiting ≡ true → IsSome g.first_field) → HasReferences p.references g
   references_there is two one some =
       let second = is_some st.waiting in
-      let forward : (field : ℕ) → has_forward st info.kind extension.structure field ≡ true → IsSome (forward_frame g field g.reading) =
-      λ field on. subst (λ (x : Option Reading). IsSome (forward_frame g field x)) (sym is)
-      (forward_there (is_b info.kind) (second && not (nat_eq extension.structure field)) info.kind extension.structure field st.anchors second g.older g.newer g.first_field refl refl two one some on) in
-      let backward : (is_b info.kind && nat_le 1 st.anchors) ≡ true → IsSome (backward_frame g g.reading) =
-      λ on. subst (λ (x : Option Reading). IsSome (backward_frame g x)) (sym is) (backward_there (is_b info.kind) info.kind st.anchors g.newer refl one on) in
-      record { forward_top = forward 1; forward_bottom = forward 2; backward_top = backward; backward_bottom = backward }
+      let top_own = second && not (nat_eq extension.structure 1) in
+      let bottom_own = second && not (nat_eq extension.structure 2) in
+      let same : (second && nat_eq extension.structure 1) ≡ bottom_own = other_parity second extension.structure fields in
+      let first_there : (c : Bool) → (second && c) ≡ true → IsSome g.first_field = λ c on. some (and_parts second c on).0 in
+      let top : has_forward st info.kind extension.structure 1 ≡ true → IsSome (forward_top g.reading g.older g.newer g.first_field) =
+      λ on. subst (λ (x : Option Reading). IsSome (forward_top x g.older g.newer g.first_field)) (sym is)
+      (forward_there (is_b info.kind) top_own info.kind st.anchors top_own g.older g.newer g.first_field refl refl two one (first_there (not (nat_eq extension.structure 1))) on) in
+      let bottom : has_forward st info.kind extension.structure 2 ≡ true → IsSome (forward_bottom g.reading g.older g.newer g.first_field) =
+      λ on. subst (λ (x : Option Reading). IsSome (forward_bottom x g.older g.newer g.first_field)) (sym is)
+      (subst (λ (own : Bool). IsSome (if is_b info.kind then g.older else if own then g.first_field else g.newer)) (sym same)
+      (forward_there (is_b info.kind) bottom_own info.kind st.anchors bottom_own g.older g.newer g.first_field refl refl two one (first_there (not (nat_eq extension.structure 2))) on)) in
+      let backward : (is_b info.kind && nat_le 1 st.anchors) ≡ true → IsSome (backward_frame g.reading g.newer) =
+      λ on. subst (λ (x : Option Reading). IsSome (backward_frame x g.newer)) (sym is) (backward_there (is_b info.kind) info.kind st.anchors g.newer refl one on) in
+      record { top = top; bottom = bottom; back_top = backward; back_bottom = backward }
 
   read_begun : is_dropped ≡ false → AreSound z g
   read_begun off =

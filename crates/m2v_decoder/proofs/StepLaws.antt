@@ -30,8 +30,7 @@ use Rattle.m2v_model.proofs.EventLaws.{pictures_in-append}
 use Rattle.m2v_unit.specs.Reads.{IsReadPicture}
 use Rattle.m2v_unit.specs.Among.{AreMatrices}
 use Rattle.m2v_picture.specs.declared.slices.SliceEnd.{SliceEnd}
-use Rattle.m2v_picture.specs.declared.gallery.Reading.{Reading}
-use Rattle.m2v_picture.specs.Frames.{Frames, store_of, references_at, references_in, forward_frame, backward_frame, HasReferences, HaveSize, PaintsSlice}
+use Rattle.m2v_picture.specs.Frames.{Frames, store_of, references_in, HaveSize, PaintsSlice}
 use Rattle.m2v_decoder.specs.declared.course.Course.{Course}
 use Rattle.m2v_decoder.specs.Decoding.{decoded_of, dropped_in}
 use Rattle.m2v_decoder.specs.Course.{IsOpen, HasFrame, FitsOpen, HaveSizes, IsFresh, AreSound, IsSoundCourse, with_events, Emits, Steps, Closed, Begun, Painted}
@@ -220,28 +219,6 @@ steps_unread old new row u sound is =
 
 -- ---- slices
 
--- references don't change as their picture is painted
-references_same : (f : Frames) (current : Option Samples) (r : Option Reading) → references_at (record f { current = current }) r ≡ references_at f r
-references_same f current None = refl
-references_same f current (Some r) = refl
-
--- nor does what is known of them
-forward_same : (f : Frames) (current : Option Samples) (field : ℕ) (r : Option Reading) → forward_frame (record f { current = current }) field r ≡ forward_frame f field r
-forward_same f current field None = refl
-forward_same f current field (Some r) = refl
-
-backward_same : (f : Frames) (current : Option Samples) (r : Option Reading) → backward_frame (record f { current = current }) r ≡ backward_frame f r
-backward_same f current None = refl
-backward_same f current (Some r) = refl
-
-references_kept : (decoded : List Bool) (f : Frames) (current : Option Samples) → HasReferences decoded f → HasReferences decoded (record f { current = current })
-references_kept decoded f current h = record {
-  forward_top = λ on. subst IsSome (sym (forward_same f current 1 f.reading)) (h.forward_top on);
-  forward_bottom = λ on. subst IsSome (sym (forward_same f current 2 f.reading)) (h.forward_bottom on);
-  backward_top = λ on. subst IsSome (sym (backward_same f current f.reading)) (h.backward_top on);
-  backward_bottom = λ on. subst IsSome (sym (backward_same f current f.reading)) (h.backward_bottom on);
-}
-
 open_frames : (s : Option Sequence) (p : Open) (f : Frames) → FitsOpen (Some p) s f → IsOpen p × HasFrame p f
 open_frames (Some s) p f h = h
 open_frames None p f h = absurd h
@@ -307,9 +284,9 @@ painted old s p row u g text rest end sound known is unread below text_is h size
       large = h.3;
       most = most_covered 0 (picture_rows s p) (dims_of s).mb_width row end.covered columns high below le;
       few = few;
-      store = ap store_of now ∙ ap (λ r. record { older = f.older; newer = f.newer; current = on_frame (slice_painted old.state s p (references_in f) row x) f.current; references = r }) (references_same f _ f.reading);
+      store = ap store_of now;
       sizes = sizes_painted old.state.first s f g (subst (λ (q : Option Sequence). HaveSizes old.state.first q f) known (sound.frames).sizes) sizes;
-      frame = subst (HasFrame p) (sym now) (record { reading = frame.reading; current = λ e. some_painted _ f.current (frame.current e); decoded = λ e. references_kept p.references f _ (frame.decoded e); none = λ on. absurd cc });
+      frame = subst (HasFrame p) (sym now) (record { reading = frame.reading; current = λ e. some_painted _ f.current (frame.current e); decoded = λ e. let r = frame.decoded e in record { top = r.top; bottom = r.bottom; back_top = r.back_top; back_bottom = r.back_bottom }; none = λ on. absurd cc });
       current = there;
       state = refl;
       queue = refl;
