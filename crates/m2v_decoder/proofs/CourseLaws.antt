@@ -12,6 +12,7 @@ use Rattle.m2v_model.specs.declared.state.Open.{Open}
 use Rattle.m2v_model.specs.declared.state.State.{State}
 use Rattle.m2v_model.specs.States.{is_b, is_frame_end, after_end}
 use Rattle.m2v_model.specs.Pictures.{Picture, Pictures, Store, Events, coded_picture, pictures_in, picture_of, picture_ended, closed}
+use Rattle.m2v_model.specs.PieceNotes.{noted}
 use Rattle.m2v_picture.specs.Frames.{Frames, store_of, HaveSize}
 use Rattle.m2v_decoder.specs.declared.course.Course.{Course}
 use Rattle.m2v_decoder.specs.Decoding.{decoded_of, dropped_in}
@@ -131,7 +132,7 @@ closed_none old sound none =
       anchor = refl;
       pictures = omega arith;
       dropped = omega arith;
-      notes = notes_same _ _;
+      notes = notes_same old.code_end (noted old.notes);
       code_end = refl;
       shown = refl;
     } in

@@ -59,7 +59,8 @@ end_waits st store end e none read ends zero_left =
 -- what contracts see of a decoder
 abbrev pub seen_as : Course → Bool → Bool → Decoding
 seen_as c ended failed = record {
-  between = between_of c;
+  state = c.state;
+  frames = c.gallery;
   anchor = c.queue.anchor;
   ready = c.ready.items;
   ended = ended;

@@ -2,7 +2,7 @@
 use Rattle.std.proofs.Common.{◌≡◌, ◌⊎◌, ℕ, ◌+◌, ◌*◌, ◌≤◌, ◌^◌, Bool, true, false, List, [], ◌∷◌, Option, Some, None, is_some, inl, inr, refl, sym, ap, subst, ◌∙◌, arith}
 use Rattle.std.specs.Prelude.{nat_eq, nat_le, nat_lt, not, ◌&&◌, ◌||◌, if◌then◌else◌, IsSome, ◌/◌}
 use Rattle.std.specs.Bool.{beq}
-use Rattle.std.proofs.lemmas.Bool.{cases_Bool, and_parts, eqb-true, eqb-false, leb-true, ltb-false, not-true}
+use Rattle.std.proofs.lemmas.Bool.{cases_Bool, and_parts, eqb-true, eqb-false, leb-true, ltb-false, not-true, or_parts}
 use Rattle.m2v_plane.specs.declared.dims.Dims.{Dims}
 use Rattle.m2v_plane.specs.Sizes.{IsSize}
 use Rattle.m2v_plane.specs.Samples.{Samples, blank}
@@ -28,7 +28,7 @@ use Rattle.m2v_decoder.specs.Course.{IsOpen, HasFrame, FitsOpen, HaveSizes, HasF
 -- which first field is dropped stays as it was
 field_same : (st z : State) (w : Option FirstField) (c : Option Samples) → ((k : ℕ) → drops z k ≡ drops st k) → HasFirstField st w c → HasFirstField z w c
 field_same st z None c e h = tt
-field_same st z (Some w) c e h = λ no. h (sym (e w.kind) ∙ no)
+field_same st z (Some w) c e h = λ off. h (sym (e w.kind) ∙ off)
 
 no_field : (z : State) (w : Option FirstField) (c : Option Samples) → none_waits w ≡ true → HasFirstField z w c
 no_field z None c e = tt
@@ -36,12 +36,12 @@ no_field z (Some w) c e = absurd cc
 
 some_field : (z : State) (w : Option FirstField) (c : Option Samples) → IsSome c → HasFirstField z w c
 some_field z None c h = tt
-some_field z (Some w) c h = λ no. h
+some_field z (Some w) c h = λ off. h
 
 -- the first field of a second field that isn't dropped isn't dropped
 kept_first : (st : State) (w kind : ℕ) → may_follow w kind ≡ true → drops st kind ≡ false → drops st w ≡ false
-kept_first st w kind follows no = elim (cases_Bool (nat_eq kind w)) [
-  | inl e ↦ subst (λ (k : ℕ). drops st k ≡ false) (eqb-true kind w e) no
+kept_first st w kind follows off = elim (cases_Bool (nat_eq kind w)) [
+  | inl e ↦ subst (λ (k : ℕ). drops st k ≡ false) (eqb-true kind w e) off
   | inr e ↦
       let f = rw e at follows in
       let one : w ≡ 1 = eqb-true w 1 (and_parts (nat_eq w 1) (nat_eq kind 2) f).0 in
@@ -49,10 +49,10 @@ kept_first st w kind follows no = elim (cases_Bool (nat_eq kind w)) [
 ]
 
 waiting_there : (st : State) (w : Option FirstField) (info : PictureInfo) (extension : PictureExtension) (c : Option Samples) → is_second_field_due w info extension ≡ true → HasFirstField st w c → drops st info.kind ≡ false → is_some w ≡ true → IsSome c
-waiting_there st None info extension c due h no some = absurd cc
-waiting_there st (Some w) info extension c due h no some =
+waiting_there st None info extension c due h off some = absurd cc
+waiting_there st (Some w) info extension c due h off some =
     let rest = (and_parts (not (is_frame extension)) (not (nat_eq extension.structure w.structure) && may_follow w.kind info.kind) due).1 in
-    h (kept_first st w.kind info.kind (and_parts (not (nat_eq extension.structure w.structure)) (may_follow w.kind info.kind) rest).1 no)
+    h (kept_first st w.kind info.kind (and_parts (not (nat_eq extension.structure w.structure)) (may_follow w.kind info.kind) rest).1 off)
 
 -- ---- no picture is open
 
@@ -74,6 +74,11 @@ waits st f h none = (subst (λ (o : Option Open). HasAnchors st (picture_ended o
 
 reads_none : (st : State) (f : Frames) → AreSound st f → st.picture ≡ None → f.reading ≡ None
 reads_none st f h none = subst (λ (o : Option Open). FitsOpen o st.sequence f) none h.fits
+
+-- the frame of the first field is there, where a second field's slices are read
+pub first_at_hand : (st : State) (info : PictureInfo) (extension : PictureExtension) (f : Frames) → AreSound st f → st.picture ≡ None → is_second_field_due st.waiting info extension ≡ true
+    → (opened st info extension).second_field ≡ true → (opened st info extension).slices_unread ≡ false → IsSome f.current
+first_at_hand st info extension f h none due second read = waiting_there st st.waiting info extension f.current due (waits st f h none) (or_parts st.headers_only (drops st info.kind) read).1 second
 
 -- ---- a picture ends
 
@@ -114,12 +119,14 @@ unfolding dims_by
 same_dims first s e =
     let progressive = beq first.extension.progressive_sequence s.extension.progressive_sequence in
     let format = nat_eq first.extension.chroma_format s.extension.chroma_format in
-    let a = and_parts (nat_eq (width_of first) (width_of s)) (nat_eq (height_of first) (height_of s) && (progressive && format)) e in
-    let b = and_parts (nat_eq (height_of first) (height_of s)) (progressive && format) a.1 in
-    let c = and_parts progressive format b.1 in
-    let width = eqb-true (width_of first) (width_of s) a.0 in
-    let height = eqb-true (height_of first) (height_of s) b.0 in
-    let scan = beq_true first.extension.progressive_sequence s.extension.progressive_sequence c.0 in
+    let wide = nat_eq (width_of first) (width_of s) in
+    let high = nat_eq (height_of first) (height_of s) in
+    let a = and_parts (wide && high && progressive) format e in
+    let b = and_parts (wide && high) progressive a.0 in
+    let c = and_parts wide high b.0 in
+    let width = eqb-true (width_of first) (width_of s) c.0 in
+    let height = eqb-true (height_of first) (height_of s) c.1 in
+    let scan = beq_true first.extension.progressive_sequence s.extension.progressive_sequence b.1 in
     λ i. dims_by (width i) (height i) (scan i)
 
 none_sized : (d : Dims) → HaveSize d none_at_hand

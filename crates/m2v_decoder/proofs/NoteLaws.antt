@@ -5,10 +5,12 @@ use Rattle.std.proofs.lemmas.List.{append-nil, map-append, length-append}
 use Rattle.std.proofs.lemmas.List.Elements.{filter-append}
 use Rattle.m2v_head.specs.declared.sequence.SequenceInfo.{SequenceInfo}
 use Rattle.m2v_head.specs.declared.sequence.SequenceExtension.{SequenceExtension}
+use Rattle.m2v_head.specs.declared.group.GroupInfo.{GroupInfo}
+use Rattle.m2v_model.specs.declared.state.Sequence.{Sequence}
 use Rattle.m2v_model.specs.declared.notes.PictureNote.{PictureNote}
 use Rattle.m2v_model.specs.Pictures.{Picture, Pictures, Events, sequence_header, group_header, coded_picture, pictures_in}
 use Rattle.m2v_model.specs.Lawful.{sequences_in}
-use Rattle.m2v_model.specs.PieceNotes.{PieceNotes, header_pair, has_group, first_note}
+use Rattle.m2v_model.specs.PieceNotes.{PieceNotes, header_pair, has_group, note_of, first_note}
 use Rattle.m2v_model.proofs.EventLaws.{pictures_in-append, sequences_in-append}
 use Rattle.m2v_decoder.specs.Course.{note_or, with_events}
 
@@ -64,3 +66,32 @@ notes-append k n es fs =
 pub noted_on : (k j : ℕ) (a b c : PieceNotes) (es fs : Events) → b ≡ with_events k a es → j ≡ k → c ≡ with_events j b fs → c ≡ with_events k a (es ++ fs)
 noted_on k j a b c es fs first same second =
     second ∙ ap (λ (m : ℕ). with_events m b fs) same ∙ ap (λ (n : PieceNotes). with_events k n fs) first ∙ notes-append k a es fs
+
+pub sequence_noted : (k : ℕ) (n : PieceNotes) (s : Sequence) → record n { sequences = n.sequences ++ (s.info, s.extension) ∷ [] } ≡ with_events k n (sequence_header s ∷ [])
+unfolding has_group
+sequence_noted k n s = λ i. record {
+  sequences = n.sequences ++ (s.info, s.extension) ∷ [];
+  group = sym (or_none n.group) i;
+  picture = sym (note_none n.picture) i;
+}
+
+or_true : (b : Bool) → true ≡ (b || true)
+or_true true = refl
+or_true false = refl
+
+pub group_noted : (k : ℕ) (n : PieceNotes) (g : GroupInfo) → record n { group = true } ≡ with_events k n (group_header g ∷ [])
+unfolding has_group
+group_noted k n g = λ i. record {
+  sequences = sym (append-nil n.sequences) i;
+  group = or_true n.group i;
+  picture = sym (note_none n.picture) i;
+}
+
+-- a picture is noted where it is the first
+pub picture_noted : (k : ℕ) (n : PieceNotes) (p : Picture) (x : Option PictureNote) → x ≡ note_or n.picture (Some (note_of k p)) → record n { picture = x } ≡ with_events k n (coded_picture p ∷ [])
+unfolding has_group
+picture_noted k n p x e = λ i. record {
+  sequences = sym (append-nil n.sequences) i;
+  group = sym (or_none n.group) i;
+  picture = e i;
+}

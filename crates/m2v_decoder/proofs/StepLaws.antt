@@ -1,5 +1,5 @@
 -- What each part of the stream does to a decoder.
-use Rattle.std.proofs.Common.{◌≡◌, ℕ, ◌+◌, ◌*◌, ◌<◌, ◌≤◌, ◌^◌, ◌/◌, Bool, true, false, List, [], ◌∷◌, ◌++◌, length, Option, Some, None, is_some, option_to_list, Ok, Err, refl, sym, ap, subst, ◌∙◌, arith}
+use Rattle.std.proofs.Common.{◌≡◌, ℕ, ◌+◌, ◌*◌, ◌<◌, ◌≤◌, ◌^◌, ◌/◌, Bool, true, false, List, [], ◌∷◌, ◌++◌, length, Option, Some, None, is_some, option_to_list, Result, Ok, Err, refl, sym, ap, subst, ◌∙◌, arith}
 use Rattle.std.specs.Prelude.{nat_lt, nat_le, nat_eq, if◌then◌else◌, IsSome}
 use Rattle.std.proofs.Math.Nat.{mul-le-mul}
 use Rattle.std.proofs.lemmas.Bool.{lt-ltb, le-leb}
@@ -19,7 +19,7 @@ use Rattle.m2v_model.specs.declared.state.Open.{Open}
 use Rattle.m2v_model.specs.declared.state.State.{State}
 use Rattle.m2v_model.specs.States.{dims_of, is_frame, opened, picture_rows, slice_setup, after_sequence, after_group, after_picture, after_matrices, after_slice, after_unread_slice, with_slice, is_same_sequence, is_second_field_due, none_waits, first_or}
 use Rattle.m2v_model.specs.declared.fault.FaultKind.{FaultKind}
-use Rattle.m2v_model.specs.Units.{Units, unit_bits, body, inside}
+use Rattle.m2v_model.specs.Units.{Units, unit_bits, body, of_body, inside}
 use Rattle.m2v_model.specs.Slices.{Slice, slice_at, slice_start, large_in}
 use Rattle.m2v_model.specs.Samples.{put_in_frame, all_painted}
 use Rattle.m2v_model.specs.Streams.{after, sequence, group, picture, matrices, slice, unread_slice, skipped_unit, ending, over, slice_unit, slice_in, read_slice}
@@ -56,7 +56,7 @@ emits_none old new k notes = record {
   anchor = k.anchor;
   pictures = omega (arith, k.pictures);
   dropped = omega (arith, k.dropped);
-  notes = notes ∙ notes_same _ _;
+  notes = notes ∙ notes_same old.code_end (noted old.notes);
   code_end = k.code_end;
   shown = k.shown;
 }
@@ -102,19 +102,19 @@ sound_kept old new z f sound k low first state gallery frames = record {
 
 -- ---- parts that end a picture
 
-none_open : (old mid : Course) → Closed old mid → mid.state.picture ≡ None
+pub none_open : (old mid : Course) → Closed old mid → mid.state.picture ≡ None
 none_open old mid c = ap (λ (z : State). z.picture) c.state
 
 fresh_now : (first : Option Sequence) (s : Sequence) (a : Option Samples) → IsFresh (Some (first_or first s)) a
 fresh_now first s a = tt
 
 pub steps_sequence : (old mid new : Course) (s : Sequence) → Closed old mid → Keeps mid new → noted new.notes ≡ with_events mid.code_end (noted mid.notes) (sequence_header s ∷ []) → new.gallery ≡ mid.gallery
-    → new.state ≡ after_sequence mid.state s → AreMatrices new.state → new.queue.low_delay ≡ low_delay_of new.state.first → IsSize (dims_of s) → is_same_sequence old.state.first s ≡ true → Steps old (sequence s) new
+    → new.state ≡ after mid.state (sequence s) → AreMatrices new.state → new.queue.low_delay ≡ low_delay_of (Some (first_or mid.state.first s)) → IsSize (dims_of s) → is_same_sequence old.state.first s ≡ true → Steps old (sequence s) new
 unfolding after
-steps_sequence old mid new s c k notes gallery state matrices low size same =
+steps_sequence old mid new s c k notes gallery state without_zero low size same =
     let z = after_sequence mid.state s in
     let same_first : is_same_sequence mid.state.first s ≡ true = subst (λ (x : State). is_same_sequence x.first s ≡ true) (sym c.state) same in
-    let frames = sequenced mid.state s mid.gallery ((c.sound).frames) (none_open old mid c) size same_first (subst AreMatrices state matrices) in
+    let frames = sequenced mid.state s mid.gallery ((c.sound).frames) (none_open old mid c) size same_first (subst AreMatrices state without_zero) in
     record {
       state = state ∙ ap (λ (x : State). after_sequence x s) c.state;
       store = ap store_of gallery ∙ c.store;
@@ -122,14 +122,14 @@ steps_sequence old mid new s c k notes gallery state matrices low size same =
       sound = record {
         frames = subst (λ (x : State). AreSound x new.gallery) (sym state) (subst (AreSound z) (sym gallery) frames);
         fresh = subst (λ (x : State). IsFresh x.first new.queue.anchor) (sym state) (fresh_now mid.state.first s new.queue.anchor);
-        low = low;
+        low = low ∙ ap (λ (x : State). low_delay_of x.first) (sym state);
         counts = counts_kept mid new k c.sound;
         dropped = omega (arith, (c.sound).dropped, k.pictures, k.dropped);
       };
     }
 
 pub steps_group : (old mid new : Course) (g : GroupInfo) → Closed old mid → Keeps mid new → new.queue.low_delay ≡ mid.queue.low_delay → noted new.notes ≡ with_events mid.code_end (noted mid.notes) (group_header g ∷ [])
-    → new.gallery ≡ mid.gallery → new.state ≡ after_group mid.state g → none_waits old.state.waiting ≡ true → Steps old (group g) new
+    → new.gallery ≡ mid.gallery → new.state ≡ after mid.state (group g) → none_waits old.state.waiting ≡ true → Steps old (group g) new
 unfolding after
 steps_group old mid new g c k low notes gallery state waiting =
     let still : none_waits mid.state.waiting ≡ true = subst (λ (x : State). none_waits x.waiting ≡ true) (sym c.state) waiting in
@@ -147,7 +147,7 @@ known_sequence None e = absurd cc
 
 pub steps_picture : (old mid b new : Course) (info : PictureInfo) (extension : PictureExtension) → Closed old mid → Begun mid (opened mid.state info extension) b → PictureFits info × IsReadPicture info extension
     → is_some old.state.sequence ≡ true → is_second_field_due old.state.waiting info extension ≡ true
-    → Keeps b new → new.queue.low_delay ≡ b.queue.low_delay → noted new.notes ≡ noted b.notes → new.gallery ≡ b.gallery → new.state ≡ after_picture b.state info extension → Steps old (picture info extension) new
+    → Keeps b new → new.queue.low_delay ≡ b.queue.low_delay → noted new.notes ≡ noted b.notes → new.gallery ≡ b.gallery → new.state ≡ after b.state (picture info extension) → Steps old (picture info extension) new
 unfolding after
 steps_picture old mid b new info extension c begins fits some due k low notes gallery state =
     let at = known_sequence old.state.sequence some in
@@ -186,13 +186,13 @@ steps_over old new c = record { state = c.state; store = c.store; emits = c.emit
 -- ---- parts that don't
 
 pub steps_matrices : (old new : Course) (m : MatrixInfo) → IsSoundCourse old → Keeps old new → new.queue.low_delay ≡ old.queue.low_delay → noted new.notes ≡ noted old.notes → new.gallery ≡ old.gallery
-    → new.state ≡ after_matrices old.state m → AreMatrices new.state → Steps old (matrices m) new
+    → new.state ≡ after old.state (matrices m) → AreMatrices new.state → Steps old (matrices m) new
 unfolding after
-steps_matrices old new m sound k low notes gallery state matrices = record {
+steps_matrices old new m sound k low notes gallery state without_zero = record {
   state = state;
   store = ap store_of gallery;
   emits = emits_none old new k notes;
-  sound = sound_kept old new (after_matrices old.state m) old.gallery sound k low refl state gallery (loaded old.state m old.gallery sound.frames (subst AreMatrices state matrices));
+  sound = sound_kept old new (after_matrices old.state m) old.gallery sound k low refl state gallery (loaded old.state m old.gallery sound.frames (subst AreMatrices state without_zero));
 }
 
 pub steps_skipped : (c : Course) (u : List ℕ) → IsSoundCourse c → Steps c (skipped_unit u) c
@@ -327,13 +327,24 @@ steps_slice old mid new s p row u end sound known is h new_is =
       sound = sound_kept old last z mid.gallery sound k (ap (λ (y : Holder Samples). y.low_delay) h.queue) refl state refl frames;
     })
 
-slice_direct : (st : State) (s : Sequence) (p : Open) (row start : ℕ) (u : List ℕ) (us : Units) (x : Slice) (end : List Bool) → row < picture_rows s p → p.row ≤ row → p.slices_unread ≡ false → (slice_at (slice_setup st s p) p.covered row).read (body u) ≡ Ok (x, end)
-    → (slice_unit st (Some s) (Some p) row start u).read us ≡ Ok (slice row x, us)
-unfolding slice_unit slice_in read_slice seq bind rule choose inside done
-slice_direct st s p row start u us x end below behind off read =
+-- a slice in its unit, once its row stands
+slice_in_row : (st : State) (s : Sequence) (p : Open) (row start : ℕ) (u : List ℕ) (us : Units) → row < picture_rows s p → p.row ≤ row → p.slices_unread ≡ false
+    → (slice_unit st (Some s) (Some p) row start u).read us ≡ (read_slice st s p row u).read us
+unfolding slice_unit slice_in seq bind rule choose
+slice_in_row st s p row start u us below behind off =
     let low : nat_lt row (picture_rows s p) ≡ true = lt-ltb row (picture_rows s p) below in
     let high : nat_le p.row row ≡ true = le-leb p.row row behind in
-    rw (low, high, off, read) refl
+    rw (low, high, off) refl
+
+slice_by : (st : State) (s : Sequence) (p : Open) (row : ℕ) (u : List ℕ) (us : Units) (r : Result (Slice × List Bool) (FaultKind × ℕ)) → (slice_at (slice_setup st s p) p.covered row).read (body u) ≡ r
+    → (read_slice st s p row u).read us ≡ bind (of_body us r) (λ (x : Slice) (mid : Units). Ok (slice row x, mid))
+unfolding read_slice seq inside done
+slice_by st s p row u us r e = ap (λ (q : Result (Slice × List Bool) (FaultKind × ℕ)). bind (of_body us q) (λ (x : Slice) (mid : Units). Ok (slice row x, mid))) e
+
+slice_direct : (st : State) (s : Sequence) (p : Open) (row start : ℕ) (u : List ℕ) (us : Units) (x : Slice) (end : List Bool) → row < picture_rows s p → p.row ≤ row → p.slices_unread ≡ false → (slice_at (slice_setup st s p) p.covered row).read (body u) ≡ Ok (x, end)
+    → (slice_unit st (Some s) (Some p) row start u).read us ≡ Ok (slice row x, us)
+unfolding bind
+slice_direct st s p row start u us x end below behind off read = slice_in_row st s p row start u us below behind off ∙ slice_by st s p row u us (Ok (x, end)) read
 
 pub slice_reads : (st : State) (s : Sequence) (p : Open) (row start : ℕ) (u : List ℕ) (us : Units) (x : Slice) (end : List Bool) → st.sequence ≡ Some s → st.picture ≡ Some p → row < picture_rows s p → p.row ≤ row → p.slices_unread ≡ false
     → (slice_at (slice_setup st s p) p.covered row).read (body u) ≡ Ok (x, end) → (slice_unit st st.sequence st.picture row start u).read us ≡ Ok (slice row x, us)
@@ -356,11 +367,8 @@ unread_reads st s p row start u us known is below behind on =
 
 slice_broken : (st : State) (s : Sequence) (p : Open) (row start : ℕ) (u : List ℕ) (us : Units) (kind : FaultKind) (left : ℕ) → row < picture_rows s p → p.row ≤ row → p.slices_unread ≡ false → (slice_at (slice_setup st s p) p.covered row).read (body u) ≡ Err (kind, left)
     → (slice_unit st (Some s) (Some p) row start u).read us ≡ Err (kind, left + unit_bits us)
-unfolding slice_unit slice_in read_slice seq bind rule choose inside done
-slice_broken st s p row start u us kind left below behind off read =
-    let low : nat_lt row (picture_rows s p) ≡ true = lt-ltb row (picture_rows s p) below in
-    let high : nat_le p.row row ≡ true = le-leb p.row row behind in
-    rw (low, high, off, read) refl
+unfolding bind
+slice_broken st s p row start u us kind left below behind off read = slice_in_row st s p row start u us below behind off ∙ slice_by st s p row u us (Err (kind, left)) read
 
 pub slice_fails : (st : State) (s : Sequence) (p : Open) (row start : ℕ) (u : List ℕ) (us : Units) (kind : FaultKind) (left : ℕ) → st.sequence ≡ Some s → st.picture ≡ Some p → row < picture_rows s p → p.row ≤ row → p.slices_unread ≡ false
     → (slice_at (slice_setup st s p) p.covered row).read (body u) ≡ Err (kind, left) → (slice_unit st st.sequence st.picture row start u).read us ≡ Err (kind, left + unit_bits us)

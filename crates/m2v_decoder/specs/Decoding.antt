@@ -7,16 +7,20 @@ use Rattle.m2v_model.specs.declared.notes.Notes.{Notes}
 use Rattle.m2v_model.specs.Pictures.{Picture, Pictures, Events, pictures_in, frames_in}
 use Rattle.m2v_model.specs.PieceNotes.{noted, notes_of}
 use Rattle.m2v_model.specs.Decoding.{is_dropped}
-use Rattle.m2v_model.specs.ByPieces.{Between, at_start as nothing_read, piece_read, end_read}
+use Rattle.m2v_model.specs.declared.state.State.{State}
+use Rattle.m2v_model.specs.States.{at_first}
+use Rattle.m2v_model.specs.ByPieces.{Between, piece_read, end_read}
+use Rattle.m2v_picture.specs.Frames.{Frames, none_at_hand, store_of}
 use Rattle.m2v_piece.specs.declared.answer.Piece.{Piece}
 use Rattle.m2v_piece.specs.declared.answer.DecodeError.{DecodeError}
 use Rattle.m2v_piece.specs.declared.answer.DecodeError.TheVariants as errors
 
--- what stands between two pieces; the anchor that waits to be shown, the frames that are due before the end and weren't
+-- the headers in force and the frames at hand between two pieces; the anchor that waits to be shown, the frames that are due before the end and weren't
 -- handed out, and whether the end has come; how many pictures were decoded or dropped, how many of them dropped, and how
 -- many frames handed out; and whether a call answered an error, behind which no other may come
 pub record Decoding : Type 0 where
-  pub between : Between
+  pub state : State
+  pub frames : Frames
   pub anchor : Option Samples
   pub ready : List Samples
   pub ended : Bool
@@ -25,10 +29,15 @@ pub record Decoding : Type 0 where
   pub dropped : ℕ
   pub shown : ℕ
 
+-- what the definitions say stands between two pieces
+abbrev pub between : Decoding → Between
+between d = record { state = d.state; store = store_of d.frames }
+
 -- before the first piece
 abbrev pub at_start : Decoding
 at_start = record {
-  between = nothing_read;
+  state = at_first;
+  frames = none_at_hand;
   anchor = None;
   ready = [];
   ended = false;
@@ -69,10 +78,10 @@ pub record ShowsFrames (low : Bool) (anchor : Option Samples) (ready : List Samp
 -- a piece that begins at a byte was read, and its pictures decoded or dropped
 pub record Advanced (old : Decoding) (place : ℕ) (whole : List ℕ) (notes : Notes) (new : Decoding) : Type 0 where
   pub events : Events
-  pub read : piece_read old.between (place + length whole) whole ≡ Ok (events, new.between)
+  pub read : piece_read (between old) (place + length whole) whole ≡ Ok (events, between new)
   pub notes_are : noted notes ≡ notes_of place whole events
-  pub first : (low : Bool) → Agrees low new.between.state.first → Agrees low old.between.state.first
-  pub shows : (low : Bool) → Agrees low new.between.state.first → ShowsFrames low old.anchor old.ready (pictures_in events) new.anchor new.ready
+  pub first : (low : Bool) → Agrees low new.state.first → Agrees low old.state.first
+  pub shows : (low : Bool) → Agrees low new.state.first → ShowsFrames low old.anchor old.ready (pictures_in events) new.anchor new.ready
   pub counted : new.pictures ≡ old.pictures + length (pictures_in events)
   pub dropped : new.dropped ≡ old.dropped + dropped_in (pictures_in events)
   pub few : length (pictures_in events) ≤ length whole
@@ -82,7 +91,7 @@ pub record Advanced (old : Decoding) (place : ℕ) (whole : List ℕ) (notes : N
 
 -- why a piece that begins at a byte wasn't: its first fault; want of memory is the one free answer
 abbrev pub Refuses : Decoding → ℕ → List ℕ → DecodeError → Type 0
-Refuses old place whole (errors.Stream f) = piece_read old.between (place + length whole) whole ≡ Err (f.kind, f.place)
+Refuses old place whole (errors.Stream f) = piece_read (between old) (place + length whole) whole ≡ Err (f.kind, f.place)
 Refuses old place whole errors.Memory = Unit {0}
 Refuses old place whole errors.Read = ⊥
 Refuses old place whole errors.Write = ⊥
@@ -92,7 +101,8 @@ Refuses old place whole errors.PictureTooLarge = ⊥
 -- a frame was handed out
 pub record HandsOut (old : Decoding) (frame : Samples) (new : Decoding) : Type 0 where
   pub due : due_of old ≡ frame ∷ due_of new
-  pub between : new.between ≡ old.between
+  pub state : new.state ≡ old.state
+  pub frames : new.frames ≡ old.frames
   pub anchor : old.ended ≡ false → new.anchor ≡ old.anchor
   pub ended : new.ended ≡ old.ended
   pub failed : new.failed ≡ old.failed
@@ -106,8 +116,8 @@ whole_of p = p.bytes.items ++ replicate (p.length - vec_len p.bytes) 0
 
 -- the end of the text was read
 pub record Finished (old : Decoding) (end : ℕ) (new : Decoding) : Type 0 where
-  pub read : end_read old.between end ≡ Ok ([], new.between)
-  pub first : new.between.state.first ≡ old.between.state.first
+  pub read : end_read (between old) end ≡ Ok ([], between new)
+  pub first : new.state.first ≡ old.state.first
   pub anchor : new.anchor ≡ old.anchor
   pub ready : new.ready ≡ old.ready
   pub ended : new.ended ≡ true

@@ -1,8 +1,13 @@
-ghost use Rattle.std.specs.Prelude.{◌≡◌, ◌+◌, ◌^◌, ◌<◌, ◌≤◌, List, ℕ, OnOk, IsSome, is_some, true, false, None};
+ghost use Rattle.std.specs.Prelude.{◌≡◌, ◌+◌, ◌^◌, ◌<◌, ◌≤◌, List, ℕ, OnOk, IsSome, is_some, true, false, None, Some, if◌then◌else◌};
 ghost use Rattle.m2v_model.specs.Streams.{sequence, group, picture, matrices, ending};
+ghost use Rattle.m2v_model.specs.Pictures.{Store, picture_of};
+ghost use Rattle.m2v_model.specs.PieceNotes.{note_of};
 ghost use Rattle.m2v_unit.specs.declared.header.Header.TheVariants as headers;
 ghost use Rattle.m2v_unit.specs.Among.{HeaderFits, HeaderFollows, part_of};
-ghost use Rattle.m2v_decoder.specs.Course.{IsSoundCourse, Steps, Showed, Counted, Closed, Begun};
+ghost use Rattle.m2v_model.specs.States.{first_or};
+ghost use Rattle.m2v_model.specs.Decoding.{low_delay_of};
+ghost use Rattle.m2v_decoder.specs.Decoding.{queue_of};
+ghost use Rattle.m2v_decoder.specs.Course.{note_or as first_of, IsFresh, IsSoundCourse, Steps, Showed, Counted, Closed, Begun};
 
 use crate::Memory;
 use m2v_head::{GroupInfo, MatrixInfo, PictureExtension, PictureInfo};
@@ -29,6 +34,31 @@ pub struct Course {
     pub code_end: u64,
 }
 
+/// What is noted of a piece whose picture ends, and its picture start code ends at a bit: the first picture.
+#[tactic(auto, unfolding(m2v_model::specs::Pictures::picture_of))]
+fn note_or(noted: Option<PictureNote>, p: &Open, code_end: u64) -> Option<PictureNote>
+    ensures { (store : Store) → result ≡ first_of noted (Some (note_of code_end (picture_of p.now store))) }
+{
+    match noted {
+        Some(note) => Some(note),
+        None => Some(PictureNote {
+            info: p.info,
+            extension: p.extension,
+            code_end,
+            dropped: p.dropped,
+            first: !p.second_field,
+            crowded: crowded_by(p),
+        }),
+    }
+}
+
+/// 1 where it holds, else 0.
+fn one_if(holds: bool) -> u64
+    ensures { result ≡ (if holds then 1 else 0) }
+{
+    if holds { 1 } else { 0 }
+}
+
 impl Course {
     /// A frame that a picture ended, if there is one: it is shown at once, or held, and another one is shown in its place.
     #[tactic(auto, unfolding(m2v_order::specs::Display::handed, m2v_order::specs::Display::held_after))]
@@ -51,35 +81,46 @@ impl Course {
         ensures { Counted self.old p.now self.new }
     {
         self.pictures += 1;
-        if p.dropped {
-            self.dropped += 1;
-        }
-        if self.notes.picture.is_none() {
-            self.notes.picture = Some(PictureNote {
-                info: p.info,
-                extension: p.extension,
-                code_end: self.code_end,
-                dropped: p.dropped,
-                first: !p.second_field,
-                crowded: crowded_by(p),
-            });
-        }
+        self.dropped += one_if(p.dropped);
+        self.notes.picture = note_or(self.notes.picture, p, self.code_end);
     }
 
-    /// The picture that is open is whole.
+    /// The picture that is open ends.
+    fn end(&mut self, alloc: Global, p: &Open) -> Result<(), Memory>
+        requires sound { IsSoundCourse self.old }
+        requires counted { self.old.pictures < 2 ^ 62 }
+        requires open { self.old.state.picture ≡ Some p.now }
+        ensures { OnOk result (Closed self.old self.new) }
+    {
+        let frame = self.gallery.end(alloc, p)?;
+        self.count(p);
+        self.show(frame, p.info.kind)?;
+        self.state.picture = None;
+        Ok(())
+    }
+
+    /// The picture that is open is whole, if there is one.
     pub fn close(&mut self, alloc: Global) -> Result<(), Memory>
         requires sound { IsSoundCourse self.old }
         requires counted { self.old.pictures < 2 ^ 62 }
         ensures { OnOk result (Closed self.old self.new) }
     {
-        let Some(p) = self.state.picture else {
-            return Ok(());
-        };
-        let frame = self.gallery.end(alloc, &p)?;
-        self.count(&p);
-        self.show(frame, p.info.kind)?;
-        self.state.picture = None;
-        Ok(())
+        match self.state.picture {
+            Some(p) => self.end(alloc, &p),
+            None => Ok(()),
+        }
+    }
+
+    /// The frames on their way behind a sequence header: low_delay is that of the first one's extension.
+    fn open_queue(&mut self, s: &Sequence)
+        requires fresh { IsFresh self.old.state.first self.old.queue.anchor }
+        requires low { self.old.queue.low_delay ≡ low_delay_of self.old.state.first }
+        ensures low { self.new.queue.low_delay ≡ low_delay_of (Some (first_or self.old.state.first s.now)) }
+        ensures same { self.new ≡ record self.old { queue = queue_of self.new.queue.low_delay self.old.queue.anchor } }
+    {
+        if self.state.first.is_none() {
+            self.queue = DisplayQueue::new(s.extension.low_delay);
+        }
     }
 
     /// A sequence header with its extension.
@@ -92,9 +133,7 @@ impl Course {
     {
         self.close(alloc)?;
         self.notes.sequences.push((s.info, s.extension))?;
-        if self.state.first.is_none() {
-            self.queue = DisplayQueue::new(s.extension.low_delay);
-        }
+        self.open_queue(s);
         enter(&mut self.state, &Header::Sequence(*s));
         Ok(())
     }

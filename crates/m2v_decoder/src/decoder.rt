@@ -1,7 +1,7 @@
 ghost use Rattle.std.specs.Prelude.{◌≡◌, ◌+◌, ◌*◌, ◌≤◌, ◌^◌, [], IfOk, IfErr, OnOk, MatchOption, Ok, Err, false};
 ghost use Rattle.m2v_model.specs.ByPieces.{end_read};
 ghost use Rattle.m2v_piece.specs.Sound.{IsSoundPiece};
-ghost use Rattle.m2v_decoder.specs.Decoding.{at_start, due_of, whole_of, Advanced, Refuses, HandsOut, Finished};
+ghost use Rattle.m2v_decoder.specs.Decoding.{at_start, between, due_of, whole_of, Advanced, Refuses, HandsOut, Finished};
 
 use crate::Memory;
 use crate::course::Course;
@@ -33,11 +33,11 @@ pub struct Decoder {
 impl Model for Decoder {
     ghost use Rattle.std.specs.Prelude.{◌≡◌, false, None};
     ghost use Rattle.m2v_decoder.specs.Decoding.{Decoding};
-    ghost use Rattle.m2v_decoder.specs.Course.{between_of, IsSoundCourse};
+    ghost use Rattle.m2v_decoder.specs.Course.{IsSoundCourse};
 
     ghost Value = { Decoding };
 
-    ghost view = { λ d. record { between = between_of d.course; anchor = d.course.queue.anchor; ready = d.course.ready.items; ended = d.ended; failed = d.failed; pictures = d.course.pictures; dropped = d.course.dropped; shown = d.course.shown } };
+    ghost view = { λ d. record { state = d.course.state; frames = d.course.gallery; anchor = d.course.queue.anchor; ready = d.course.ready.items; ended = d.ended; failed = d.failed; pictures = d.course.pictures; dropped = d.course.dropped; shown = d.course.shown } };
 
     ghost invariant = { λ d. d.failed ≡ false → IsSoundCourse d.course × (d.course.state.picture ≡ None) };
 }
@@ -142,7 +142,7 @@ impl Decoder {
         requires before { self.old.ended ≡ false }
         requires length { length ≤ 2 ^ 36 }
         ensures ok { OnOk result (Finished self.old length self.new) }
-        ensures err { IfErr result (λ f. end_read self.old.between length ≡ Err (f.kind, f.place)) }
+        ensures err { IfErr result (λ f. end_read (between self.old) length ≡ Err (f.kind, f.place)) }
     {
         match text_ends(&self.course.state) {
             Ok(()) => {
