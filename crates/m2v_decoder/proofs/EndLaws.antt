@@ -1,6 +1,6 @@
 -- The end of a text, and of a piece, read from what stands before it.
 use Rattle.std.proofs.Common.{◌≡◌, ℕ, ◌+◌, ◌*◌, ◌-◌, ◌≤◌, Bool, true, false, List, [], Option, Some, None, length, subst, Ok, Err, refl, sym, ap, ◌∙◌, arith}
-use Rattle.std.specs.Prelude.{replicate, vec_len}
+use Rattle.std.specs.Prelude.{replicate, vec_len, Result, OnOk, IfErr}
 use Rattle.std.proofs.lemmas.List.{length-append, length-replicate}
 use Rattle.m2v_model.specs.declared.fault.FaultKind.{FaultKind}
 use Rattle.m2v_model.specs.declared.notes.Notes.{Notes}
@@ -55,6 +55,15 @@ pub end_waits : (st : State) (store : Store) (end : ℕ) (e : Stop) → st.pictu
 end_waits st store end e none read ends zero_left =
     let place : 8 * end - e.left ≡ 8 * end = omega (arith, zero_left) in
     ap (text_ended end) (piece_over st store end none read) ∙ ends end [] store ∙ ap (λ (n : ℕ). Err (e.kind, n)) place
+
+-- the rules at the end of the text, by the one that isn't one at a piece's end
+pub text_ok : (r : Result (Unit {0}) Stop) (st : State) → st.picture ≡ None → (text_end st 0).read [] ≡ Ok ((false, over), []) → EndsText r st → OnOk r ((store : Store) (end : ℕ) → end_read (at st store) end ≡ Ok ([], at st store))
+text_ok (Ok done) st none read ends = λ store end. end_stands st store end none read ends
+text_ok (Err e) st none read ends = tt
+
+pub text_err : (r : Result (Unit {0}) Stop) (st : State) → st.picture ≡ None → (text_end st 0).read [] ≡ Ok ((false, over), []) → EndsText r st → IfErr r (λ e. e.left ≡ 0) → IfErr r (λ e. (store : Store) (end : ℕ) → end_read (at st store) end ≡ Err (e.kind, 8 * end))
+text_err (Ok done) st none read ends left = tt
+text_err (Err e) st none read ends left = λ store end. end_waits st store end e none read ends left
 
 -- what contracts see of a decoder
 abbrev pub seen_as : Course → Bool → Bool → Decoding

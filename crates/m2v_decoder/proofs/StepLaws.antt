@@ -30,7 +30,7 @@ use Rattle.m2v_model.proofs.EventLaws.{pictures_in-append}
 use Rattle.m2v_unit.specs.Reads.{IsReadPicture}
 use Rattle.m2v_unit.specs.Among.{AreMatrices}
 use Rattle.m2v_picture.specs.declared.slices.SliceEnd.{SliceEnd}
-use Rattle.m2v_picture.specs.Frames.{Frames, store_of, references_in, HaveSize, PaintsSlice}
+use Rattle.m2v_picture.specs.Frames.{Frames, store_of, references_in, HasReferences, HaveSize, PaintsSlice}
 use Rattle.m2v_decoder.specs.declared.course.Course.{Course}
 use Rattle.m2v_decoder.specs.Decoding.{decoded_of, dropped_in}
 use Rattle.m2v_decoder.specs.Course.{IsOpen, HasFrame, FitsOpen, HaveSizes, IsFresh, AreSound, IsSoundCourse, with_events, Emits, Steps, Closed, Begun, Painted}
@@ -297,6 +297,25 @@ painted old s p row u g text rest end sound known is unread below text_is h size
       code_end = refl;
       shown = refl;
     }
+
+-- what the slices of the picture that is open are read by, as the program has it
+pub setup_sizes : (c : Course) (s : Sequence) (p : Open) (setup : SliceSetup) → IsAt c s p → setup ≡ slice_setup c.state s p → HaveSize setup.dims c.gallery
+unfolding slice_setup
+setup_sizes c s p setup at is = subst (λ (z : SliceSetup). HaveSize z.dims c.gallery) (sym is) at.sizes
+
+pub setup_references : (c : Course) (s : Sequence) (p : Open) (setup : SliceSetup) → IsAt c s p → setup ≡ slice_setup c.state s p → p.slices_unread ≡ false → HasReferences setup.references c.gallery
+unfolding slice_setup
+setup_references c s p setup at is off = subst (λ (z : SliceSetup). HasReferences z.references c.gallery) (sym is) (at.frame.decoded (sym at.open_is.unread ∙ off))
+
+pub painted_by : (old : Course) (s : Sequence) (p : Open) (setup : SliceSetup) (row : ℕ) (u : List ℕ) (g : Frames) (text rest : List Bool) (end : SliceEnd) → setup ≡ slice_setup old.state s p → IsSoundCourse old → old.state.sequence ≡ Some s → old.state.picture ≡ Some p
+    → p.slices_unread ≡ false → row < picture_rows s p → text ≡ body u → PaintsSlice setup p.covered row text old.gallery (Ok end) rest g → HaveSize setup.dims g
+    → end.covered ≤ (row + 1) * setup.context.columns → p.covered + end.large ≤ end.covered → Painted old s p row u end (record old { gallery = g })
+unfolding slice_setup
+painted_by old s p setup row u g text rest end setup_is sound known is unread below text_is h sizes le few =
+    painted old s p row u g text rest end sound known is unread below text_is
+    (subst (λ (z : SliceSetup). PaintsSlice z p.covered row text old.gallery (Ok end) rest g) setup_is h)
+    (subst (λ (z : SliceSetup). HaveSize z.dims g) setup_is sizes)
+    (subst (λ (z : SliceSetup). end.covered ≤ (row + 1) * z.context.columns) setup_is le) few
 
 pub steps_slice : (old mid new : Course) (s : Sequence) (p : Open) (row : ℕ) (u : List ℕ) (end : SliceEnd) → IsSoundCourse old → old.state.sequence ≡ Some s → old.state.picture ≡ Some p → (h : Painted old s p row u end mid)
     → new ≡ record mid { state = after_slice mid.state row end.covered end.large } → Steps old (slice row h.slice) new
