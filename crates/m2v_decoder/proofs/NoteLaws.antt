@@ -1,8 +1,8 @@
 -- What is noted of events, and of those behind them.
-use Rattle.std.proofs.Common.{◌≡◌, ℕ, ◌+◌, Bool, true, false, List, [], ◌∷◌, ◌++◌, map, length, Option, Some, None, refl, sym, ap, ◌∙◌, append_assoc}
-use Rattle.std.specs.Prelude.{◌||◌, filter}
-use Rattle.std.proofs.lemmas.List.{append-nil, map-append, length-append}
-use Rattle.std.proofs.lemmas.List.Elements.{filter-append}
+use Rattle.std.proofs.Common.{◌≡◌, ℕ, ◌+◌, ◌*◌, ◌≤◌, Bool, true, false, List, [], ◌∷◌, ◌++◌, map, length, Option, Some, None, refl, sym, ap, subst, ◌∙◌, append_assoc, arith}
+use Rattle.std.specs.Prelude.{◌||◌, nat_eq}
+use Rattle.std.proofs.lemmas.Bool.{ne_eqb}
+use Rattle.std.proofs.lemmas.List.{append-nil, map-append}
 use Rattle.m2v_head.specs.declared.sequence.SequenceInfo.{SequenceInfo}
 use Rattle.m2v_head.specs.declared.sequence.SequenceExtension.{SequenceExtension}
 use Rattle.m2v_head.specs.declared.group.GroupInfo.{GroupInfo}
@@ -10,6 +10,9 @@ use Rattle.m2v_model.specs.declared.state.Sequence.{Sequence}
 use Rattle.m2v_model.specs.declared.notes.PictureNote.{PictureNote}
 use Rattle.m2v_model.specs.Pictures.{Picture, Pictures, Events, sequence_header, group_header, coded_picture, pictures_in}
 use Rattle.m2v_model.specs.Lawful.{sequences_in}
+use Rattle.m2v_model.specs.Units.{Units, unit_bits}
+use Rattle.m2v_model.specs.Streams.{value_of}
+use Rattle.m2v_model.specs.Buffering.{before_picture}
 use Rattle.m2v_model.specs.PieceNotes.{PieceNotes, header_pair, has_group, note_of, first_note}
 use Rattle.m2v_model.proofs.EventLaws.{pictures_in-append, sequences_in-append}
 use Rattle.m2v_decoder.specs.Course.{note_or, with_events}
@@ -95,3 +98,34 @@ picture_noted k n p x e = λ i. record {
   group = sym (or_none n.group) i;
   picture = e i;
 }
+
+-- ---- the picture start code
+
+-- so many bits of units were passed, among which no picture begins
+pub record Passed (all us : Units) (bits : ℕ) : Type 0 where
+  pub is : bits + 8 * before_picture us ≡ 8 * before_picture all + 32
+  pub most : bits + unit_bits us ≤ unit_bits all + 32
+
+pub passed_none : (us : Units) → Passed us us 32
+passed_none us = record { is = omega arith; most = omega arith }
+
+pub passed_more : (all us mid : Units) (u : List ℕ) (bits more : ℕ) → Passed all us bits → us ≡ u ∷ mid → (value_of u ≡ 0 → ⊥) → more ≡ bits + 8 * length u → Passed all mid more
+unfolding before_picture
+passed_more all us mid u bits more h e off is =
+    let at = subst (λ (l : Units). Passed all l bits) e h in
+    let other : nat_eq (value_of u) 0x00 ≡ false = ne_eqb (value_of u) 0x00 off in
+    let here : before_picture (u ∷ mid) ≡ length u + before_picture mid = rw other refl in
+    record { is = omega (arith, at.is, here, is); most = omega (arith, at.most, is) }
+
+pub passed_here : (all us mid : Units) (u : List ℕ) (bits : ℕ) → Passed all us bits → us ≡ u ∷ mid → value_of u ≡ 0 → bits ≡ 8 * before_picture all + 32
+unfolding before_picture
+passed_here all us mid u bits h e on =
+    let at = subst (λ (l : Units). Passed all l bits) e h in
+    let here : before_picture (u ∷ mid) ≡ 0 = rw on refl in
+    omega (arith, at.is, here)
+
+pub passed_all : (all us : Units) (bits : ℕ) → Passed all us bits → us ≡ [] → bits ≡ 8 * before_picture all + 32
+unfolding before_picture
+passed_all all us bits h e =
+    let at = subst (λ (l : Units). Passed all l bits) e h in
+    omega (arith, at.is)

@@ -23,14 +23,20 @@ pub fn nothing_noted(alloc: Global) -> Notes
 /// picture.
 pub fn code_bits(units: &mut UnitReader) -> u64
     ensures value { result ≡ 8 * before_picture units.old + 32 }
-    ensures most { result ≤ 2 ^ 40 }
+    ensures most { result ≤ 2 ^ 41 }
 {
+    // the units have fewer than 2^40 bits
+    let _bits = units.left();
     let mut bits = 32;
-    while let Some(u) = units.next() {
-        if u.value() == 0x00 {
-            break;
+    loop {
+        match units.next() {
+            Some(u) => {
+                if u.value() == 0x00 {
+                    return bits;
+                }
+                bits += u.bits();
+            }
+            None => return bits,
         }
-        bits += u.bits();
     }
-    bits
 }
