@@ -121,10 +121,11 @@ advanced old c d us place whole notes r between queue ready pictures dropped sho
       sound = refl;
     }
 
-pub refused : (old c : Course) (us : Units) (left place at : ℕ) (kind : FaultKind) (whole : List ℕ) → units_read (between_of c) us ≡ Err (kind, left) → between_of c ≡ between_of old → us ≡ (cut 0 whole).1 → at ≡ 8 * (place + length whole) - left
+pub refused : (old c : Course) (us : Units) (left place many at : ℕ) (kind : FaultKind) (whole : List ℕ) → units_read (between_of c) us ≡ Err (kind, left) → between_of c ≡ between_of old → us ≡ (cut 0 whole).1 → length whole ≡ many → at ≡ 8 * (place + many) - left
     → piece_read (between_of old) (place + length whole) whole ≡ Err (kind, at)
-refused old c us left place at kind whole e between is where_is =
+refused old c us left place many at kind whole e between is long where_is =
     let end = place + length whole in
     piece_is (between_of old) end whole
     ∙ ap (placed end) (ap (units_read (between_of old)) (sym is) ∙ ap (λ (b : Between). units_read b us) (sym between) ∙ e)
+    ∙ ap (λ (n : ℕ). Err (kind, 8 * (place + n) - left)) long
     ∙ ap (λ (n : ℕ). Err (kind, n)) (sym where_is)

@@ -432,16 +432,18 @@ sliced_sound st s p f g row covered large crowded h known is sizes frame older n
       headers_only = h.headers_only;
       matrices = h.matrices;
       sizes = subst (λ (q : Option Sequence). HaveSizes st.first q g) (sym known) sizes;
-      fits = subst (λ (q : Option Sequence). FitsOpen (Some (moved p row covered large crowded)) q g) (sym known)
-      (record { fits = opened_as.fits; unread = opened_as.unread; dropped = opened_as.dropped; covered = most; large = few },
-      record { reading = frame.reading; current = frame.current; decoded = frame.decoded; none = frame.none });
+      fits = subst (λ (q : Option Sequence). FitsOpen (Some (moved p row covered large crowded)) q g) (sym known) (
+        record { fits = opened_as.fits; unread = opened_as.unread; dropped = opened_as.dropped; covered = most; large = few },
+        record { reading = frame.reading; current = frame.current; decoded = frame.decoded; none = frame.none },
+      );
       anchors = record { newer = a.newer; older = a.older; first_field = a.first_field };
     }
 
 fits_unread : (p : Open) (s : Option Sequence) (f : Frames) (row : ℕ) → FitsOpen (Some p) s f → FitsOpen (Some (record p { has_slice = true; row = row })) s f
-fits_unread p (Some s) f row h =
-    (record { fits = (h.0).fits; unread = (h.0).unread; dropped = (h.0).dropped; covered = (h.0).covered; large = (h.0).large },
-    record { reading = (h.1).reading; current = (h.1).current; decoded = (h.1).decoded; none = (h.1).none })
+fits_unread p (Some s) f row h = (
+  record { fits = (h.0).fits; unread = (h.0).unread; dropped = (h.0).dropped; covered = (h.0).covered; large = (h.0).large },
+  record { reading = (h.1).reading; current = (h.1).current; decoded = (h.1).decoded; none = (h.1).none },
+)
 fits_unread p None f row h = absurd h
 
 unread_by : (st : State) (o : Option Open) (f : Frames) (row : ℕ) → st.picture ≡ o → AreSound st f → AreSound (record st { picture = with_unread_slice o row }) f

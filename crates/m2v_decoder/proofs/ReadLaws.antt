@@ -20,7 +20,9 @@ use Rattle.m2v_model.specs.ByPieces.{Between, behind, unit_read, units_read, aft
 use Rattle.m2v_model.proofs.FlowLaws.{read_err, read_more, read_last, unit_less}
 use Rattle.m2v_model.proofs.SplitLaws.{behind_none, behind_twice}
 use Rattle.m2v_model.proofs.EventLaws.{pictures_in-append}
-use Rattle.m2v_unit.specs.Among.{is_slice}
+use Rattle.m2v_unit.specs.declared.header.Header.{Header}
+use Rattle.m2v_unit.specs.declared.header.Header.TheVariants as headers
+use Rattle.m2v_unit.specs.Among.{is_slice, goes_on, part_of}
 use Rattle.m2v_picture.specs.Frames.{Frames, store_of}
 use Rattle.m2v_decoder.specs.declared.course.Course.{Course}
 use Rattle.m2v_decoder.specs.declared.halt.Halt.{Halt}
@@ -60,6 +62,16 @@ unit_some st us u mid start e s = ap (λ (n : ℕ). (known_unit st n (value_of u
 pub unit_none : (st : State) (us : Units) → us ≡ [] → (text_end st 0).read [] ≡ unit_read st us
 unfolding unit_read
 unit_none st us e = sym (ap (unit_read st) e)
+
+-- behind the sequence end code no picture is open
+pub header_ends : (c d : Course) (u : List ℕ) (h : Header) → goes_on h ≡ false → Steps c (part_of u h) d → d.state.picture ≡ None
+unfolding after
+header_ends c d u (headers.Sequence s) e step = absurd cc
+header_ends c d u (headers.Group g) e step = absurd cc
+header_ends c d u (headers.Picture info extension) e step = absurd cc
+header_ends c d u (headers.Matrices m) e step = absurd cc
+header_ends c d u headers.Skipped e step = absurd cc
+header_ends c d u headers.Ending e step = ap (λ (z : State). z.picture) step.state
 
 -- ---- what a part does to the frames on their way
 

@@ -110,16 +110,13 @@ impl Decoder {
         self.failed = true;
         let zeros = piece.length - piece.bytes.len() as u64;
         self.course.notes = nothing_noted(alloc);
-        self.course.code_end =
-            8 * piece.place + code_bits(&mut UnitReader::new(&piece.bytes, zeros));
+        self.course.code_end = 8 * piece.place
+            + code_bits(&mut UnitReader::new(&piece.bytes, zeros));
         let mut units = UnitReader::new(&piece.bytes, zeros);
         match self.course.units(alloc, &mut units) {
             Ok(()) => {
                 self.failed = false;
-                Ok(mem::replace(
-                    &mut self.course.notes,
-                    nothing_noted(alloc),
-                ))
+                Ok(mem::replace(&mut self.course.notes, nothing_noted(alloc)))
             }
             Err(Halt::Memory) => Err(DecodeError::Memory),
             Err(Halt::Fault(stop)) => {

@@ -1,4 +1,4 @@
-use Rattle.std.proofs.Common.{◌≡◌, ◌+◌, ◌*◌, ◌≤◌, ◌^◌, length, ap, sym, ◌∙◌, arith}
+use Rattle.std.proofs.Common.{◌+◌, length, ap, sym, ◌∙◌, arith}
 use Rattle.m2v_decoder.proofs.NoteLaws.{passed_none, passed_more, passed_here, passed_all}
 use Rattle.m2v_decoder.proofs.notes.code_bits.Goals as goal
 

@@ -1,4 +1,3 @@
-use Rattle.std.proofs.Common.{sym}
 use Rattle.m2v_decoder.proofs.CourseLaws.{closed_none}
 use Rattle.m2v_decoder.proofs.course.Course.close.Goals as goal
 

@@ -1,4 +1,3 @@
-use Rattle.std.proofs.lemmas.Result.{on_ok_weaker}
 use Rattle.m2v_decoder.proofs.StepLaws.{steps_skipped}
 use Rattle.m2v_decoder.proofs.course.Course.enter.Goals as goal
 

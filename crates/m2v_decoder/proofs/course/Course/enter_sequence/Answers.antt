@@ -1,4 +1,4 @@
-use Rattle.std.proofs.Common.{List, [], refl, ap, sym, subst, ◌∙◌}
+use Rattle.std.proofs.Common.{List, [], ap, sym, subst, ◌∙◌}
 use Rattle.m2v_head.specs.declared.sequence.SequenceInfo.{SequenceInfo}
 use Rattle.m2v_head.specs.declared.sequence.SequenceExtension.{SequenceExtension}
 use Rattle.m2v_model.specs.Streams.{sequence, after}
