@@ -22,4 +22,3 @@ pub use matrix::MatrixInfo;
 pub use picture::{PictureExtension, PictureInfo};
 pub use sequence::{SequenceExtension, SequenceInfo};
 pub use slice::SliceInfo;
-

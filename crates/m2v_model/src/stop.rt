@@ -1,11 +1,11 @@
 ghost use Rattle.std.specs.Prelude.{◌≡◌, ◌≤◌, length};
 ghost use Rattle.m2v_model.specs.Faults as faults;
 
+use crate::fault::FaultKind;
 use m2v_bits::BitReader;
 use m2v_block::BlockFault;
 use m2v_head::HeadFault;
 use m2v_macro::MacroFault;
-use crate::fault::FaultKind;
 use m2v_vlc::CodeFault;
 
 /// A fault inside a unit: its kind, and how many bits of the unit are left at its place.

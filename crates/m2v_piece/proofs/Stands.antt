@@ -143,8 +143,20 @@ prefix_most (suc (suc (suc (suc n)))) = omega arith
 pub keeps_read : (h mid h' : Held) (chunk chunk' : List ℕ) (left left' : Option (List ℕ)) (old new : Cutting) → AtPiece h → h.ahead ≤ 3 → old.place ≡ h.place → old.unread ≡ prefix h.ahead ++ chunk
     → new.place ≡ h'.place → new.unread ≡ prefix h'.ahead ++ chunk' → Spends h chunk left mid chunk' left' → taken_by h' ≡ taken_by mid → Keeps old left new left'
 keeps_read h mid h' chunk chunk' left left' old new at few place unread place_then unread_then spends same text rest is is_then =
-    omega (arith, spends text rest is is_then, same, place, place_then, ap length unread, ap length unread_then, ap length at.sure, length-append (prefix h.ahead) chunk,
-    length-append (prefix h'.ahead) chunk', length_prefix h.ahead few, prefix_most h'.ahead)
+    omega (
+      arith,
+      spends text rest is is_then,
+      same,
+      place,
+      place_then,
+      ap length unread,
+      ap length unread_then,
+      ap length at.sure,
+      length-append (prefix h.ahead) chunk,
+      length-append (prefix h'.ahead) chunk',
+      length_prefix h.ahead few,
+      prefix_most h'.ahead,
+    )
 
 pub at_piece_fits : (h : Held) → AtPiece h → Fits h
 unfolding limit

@@ -17,4 +17,3 @@ pub use port::{NamedSink, Sink, Source};
 pub use real::{StdSink, StdSource};
 pub use sure::{SureFile, SureSink, SureSource};
 pub use whole::fill;
-

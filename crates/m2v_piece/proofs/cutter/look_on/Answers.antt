@@ -9,9 +9,11 @@ loop-stand-preserved g c =
     let left = g.S.Source.left in
     let l = c.loop-stand in
     let n = c.round.new in
-    let r : Rounded None l.hand l.chunk (left l.input) n.hand n.chunk (left n.input) = subst (λ (o : Option Stand). Rounded o l.hand l.chunk (left l.input) n.hand n.chunk (left n.input)) c.in-Ok-None.field-0-is c.in-Ok-None.ensures.ok in
-    (advanced_on c.args.hand.now l.hand c.args.chunk.now l.chunk (left c.args.input.now) (left l.input) l.invariant.0 n.hand n.chunk (left n.input) r.0, omega (arith, l.invariant.1, c.round.ensures.faults),
-    round_spends None c.args.hand.now l.hand n.hand c.args.chunk.now l.chunk n.chunk (left c.args.input.now) (left l.input) (left n.input) l.invariant.2 r c.in-Ok-None.ensures.taken)
+    let r : Rounded None l.hand l.chunk (left l.input) n.hand n.chunk (left n.input) = subst (λ (o : Option Stand). Rounded o l.hand l.chunk (left l.input) n.hand n.chunk (left n.input)) c.in-Ok-None.field-0-is c.in-Ok-None.ensures.ok in (
+      advanced_on c.args.hand.now l.hand c.args.chunk.now l.chunk (left c.args.input.now) (left l.input) l.invariant.0 n.hand n.chunk (left n.input) r.0,
+      omega (arith, l.invariant.1, c.round.ensures.faults),
+      round_spends None c.args.hand.now l.hand n.hand c.args.chunk.now l.chunk n.chunk (left c.args.input.now) (left l.input) (left n.input) l.invariant.2 r c.in-Ok-None.ensures.taken,
+    )
 
 pub returns-in-Ok-Some-clause-ok : goal.returns-in-Ok-Some-clause-ok
 returns-in-Ok-Some-clause-ok g c =
