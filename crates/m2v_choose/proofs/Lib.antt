@@ -20,3 +20,4 @@ pub mod Predicted
 pub mod Motions
 pub mod Holding
 pub mod Skips
+pub mod Asked
