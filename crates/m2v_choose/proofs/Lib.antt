@@ -21,3 +21,4 @@ pub mod Motions
 pub mod Holding
 pub mod Skips
 pub mod Asked
+pub mod Small
