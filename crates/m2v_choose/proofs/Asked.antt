@@ -7,7 +7,7 @@ use Rattle.m2v_macro.specs.declared.values.SliceState.{SliceState}
 use Rattle.m2v_macro.specs.declared.values.PictureContext.{PictureContext}
 use Rattle.m2v_macroblock.specs.Predictions.{View}
 use Rattle.m2v_choose.specs.declared.values.Limits.{Limits}
-use Rattle.m2v_choose.specs.Decisions.{Decision, increment_of}
+use Rattle.m2v_choose.specs.Decisions.{increment_of}
 use Rattle.m2v_choose.specs.Candidates.{hold}
 use Rattle.m2v_choose.specs.Choice.{bits_taken}
 use Rattle.m2v_choose.specs.Own.{IsOwn, AreNear}

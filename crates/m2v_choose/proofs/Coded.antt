@@ -1,7 +1,7 @@
 -- Codings of a prediction, as they are tried.
-use Rattle.std.proofs.Common.{◌≡◌, ◌≢◌, ℕ, zero, suc, ◌+◌, ◌<◌, ◌≤◌, Bool, true, false, cond, All, List, [], ◌∷◌, ◌++◌, filter, map, refl, ap, sym, ◌∙◌, subst, arith, ℤ, pos, replicate}
-use Rattle.std.specs.Prelude.{nat_eq, nat_lt, if◌then◌else◌, slice_index_or}
-use Rattle.std.proofs.lemmas.Bool.{lt-ltb, le-ltb}
+use Rattle.std.proofs.Common.{◌≡◌, ℕ, zero, suc, ◌<◌, Bool, true, false, cond, All, List, [], ◌∷◌, ◌++◌, filter, map, refl, ap, sym, ◌∙◌, subst, ℤ}
+use Rattle.std.specs.Prelude.{nat_eq, nat_lt, slice_index_or}
+use Rattle.std.proofs.lemmas.Bool.{lt-ltb}
 use Rattle.std.proofs.lemmas.List.{map-append}
 use Rattle.std.proofs.lemmas.List.Elements.{All-nil, All-cons, All-head, All-tail, filter-append}
 use Rattle.m2v_quant.specs.declared.kind.BlockKind.{BlockKind}
@@ -15,7 +15,7 @@ use Rattle.m2v_macro.specs.States.{after}
 use Rattle.m2v_macro.specs.Conditions.{IsMacro}
 use Rattle.m2v_pred.specs.declared.mode.MbPlace.{MbPlace}
 use Rattle.m2v_recon.specs.Macro.{is_coded, kind_at}
-use Rattle.m2v_macroblock.specs.Macroblocks.{Macroblock, kind_for, block_levels}
+use Rattle.m2v_macroblock.specs.Macroblocks.{kind_for, block_levels}
 use Rattle.m2v_macroblock.specs.Modes.{mode_of, told_mode, opposite_parity_vectors}
 use Rattle.m2v_macroblock.specs.Predictions.{View, prediction_of}
 use Rattle.m2v_choose.specs.declared.task.Task.{Task}
@@ -23,7 +23,7 @@ use Rattle.m2v_choose.specs.declared.trial.Best.{Best}
 use Rattle.m2v_choose.specs.Decisions.{Decision, Candidate, Prediction, Coding, place_of, written, levels_by, pattern_of, uncoded_syntax, coded_syntax, has_dct_type}
 use Rattle.m2v_choose.specs.Candidates.{codings_at, codings, second_q, samples_by, coded_by, has_block}
 use Rattle.m2v_choose.specs.Laws.{IsWritable}
-use Rattle.m2v_choose.specs.Trials.{References, decided, Predicts, IsRated, Tried, has_types, sends_code, with_blocks, transforms_of, quantised_by}
+use Rattle.m2v_choose.specs.Trials.{References, decided, Predicts, IsRated, Tried, sends_code, with_blocks, transforms_of, quantised_by}
 use Rattle.m2v_choose.proofs.Written.{other_block, coded_some}
 use Rattle.m2v_choose.proofs.Tried.{tried_on, tried_none}
 

@@ -1,5 +1,5 @@
-use Rattle.std.proofs.Common.{◌≡◌, ◌∙◌, sym, subst, All, arith, pos, false, replicate}
-use Rattle.std.specs.Prelude.{not, ◌&&◌, unsigned_abs, nat_lt}
+use Rattle.std.proofs.Common.{◌∙◌, sym, subst, All}
+use Rattle.std.specs.Prelude.{not, unsigned_abs, nat_lt}
 use Rattle.std.specs.List.{list_all}
 use Rattle.std.proofs.lemmas.Bool.{and_parts}
 use Rattle.m2v_quant.specs.Kinds.{IsLevel}

@@ -1,6 +1,4 @@
-use Rattle.std.proofs.Common.{◌≡◌, [], ◌∷◌, All, sym, subst, true}
-use Rattle.std.proofs.lemmas.List.Elements.{All-map}
-use Rattle.m2v_quant.specs.declared.kind.Levels.{Levels}
+use Rattle.std.proofs.Common.{true}
 use Rattle.m2v_recon.specs.Steps.{levels_of}
 use Rattle.m2v_choose.proofs.Tried.{own_picture}
 use Rattle.m2v_choose.proofs.Coded.{kinds_flat, kinds_plain}
