@@ -57,9 +57,11 @@ fn put_line(
 )
     requires block { block < 6 }
     requires line { line < 8 }
-    requires value { (k : ℕ) → k < 8 * line → nth out.old k ≡ difference_at source.now.at prediction.now.at dct_field block k }
+    requires value { (k : ℕ) → k < 8 * line
+        → nth out.old k ≡ difference_at source.now.at prediction.now.at dct_field block k }
     requires samples { (k : ℕ) → k < 8 * line → IsSample (nth out.old k) }
-    ensures value { (k : ℕ) → k < 8 * line + 8 → nth out.new k ≡ difference_at source.now.at prediction.now.at dct_field block k }
+    ensures value { (k : ℕ) → k < 8 * line + 8
+        → nth out.new k ≡ difference_at source.now.at prediction.now.at dct_field block k }
     ensures samples { (k : ℕ) → k < 8 * line + 8 → IsSample (nth out.new k) }
 {
     let from = line_place(dct_field, block, line);
@@ -89,7 +91,8 @@ fn differences(
 #[inline(always)]
 fn transform_one(source: &Block16, prediction: &Block16, dct_field: bool, block: usize) -> [i32; 64]
     requires block { block < 6 }
-    ensures value { result ≡ forward_of (differences_of source.now.at prediction.now.at dct_field block) }
+    ensures value { result ≡ forward_of
+        (differences_of source.now.at prediction.now.at dct_field block) }
     ensures coefficients { All IsCoefficient result }
 {
     let mut room = [0; 64];
@@ -118,7 +121,8 @@ fn are_below(transform: &[i32; 64], scale: u32) -> bool
 /// Whether no coefficient of a block that isn't intra reaches its scale: then it has no level, as its matrix is flat.
 #[inline(always)]
 fn has_none(transform: &[i32; 64], kind: &BlockKind) -> bool
-    ensures { result ≡ (not kind.now.intra && list_all (λ f. nat_lt (unsigned_abs f) kind.now.scale) transform.now) }
+    ensures { result ≡ (not kind.now.intra && list_all
+        (λ f. nat_lt (unsigned_abs f) kind.now.scale) transform.now) }
 {
     !kind.intra && are_below(transform, kind.scale)
 }
@@ -145,9 +149,11 @@ fn quantise_kind(transform: &[i32; 64], kind: &BlockKind, out: &mut Levels)
 fn quantise_one(transform: &[i32; 64], kinds: &[BlockKind; 2], block: usize, out: &mut Levels)
     requires kinds { All IsKind kinds.now }
     requires precision { All (λ kind. kind.precision ≡ 0) kinds.now }
-    requires plain { All (λ kind. kind.intra ≡ false → kind.matrix ≡ default_matrix false) kinds.now }
+    requires plain { All (λ kind. kind.intra ≡ false
+        → kind.matrix ≡ default_matrix false) kinds.now }
     requires coefficients { All IsCoefficient transform.now }
-    ensures value { out.new.at ≡ quantised transform.now (kind_of (kind_at kinds.now 0) (kind_at kinds.now 1) block) }
+    ensures value { out.new.at
+        ≡ quantised transform.now (kind_of (kind_at kinds.now 0) (kind_at kinds.now 1) block) }
     ensures levels { All IsLevel out.new.at }
 {
     if block < 4 {
@@ -161,9 +167,11 @@ fn quantise_one(transform: &[i32; 64], kinds: &[BlockKind; 2], block: usize, out
 pub fn quantise_blocks(transforms: &[[i32; 64]; 6], kinds: &[BlockKind; 2], out: &mut [Levels; 6])
     requires kinds { All IsKind kinds.now }
     requires precision { All (λ kind. kind.precision ≡ 0) kinds.now }
-    requires plain { All (λ kind. kind.intra ≡ false → kind.matrix ≡ default_matrix false) kinds.now }
+    requires plain { All (λ kind. kind.intra ≡ false
+        → kind.matrix ≡ default_matrix false) kinds.now }
     requires coefficients { All (All IsCoefficient) transforms.now }
-    ensures value { levels_of out.new ≡ quantised_by transforms.now (kind_at kinds.now 0) (kind_at kinds.now 1) }
+    ensures value { levels_of out.new
+        ≡ quantised_by transforms.now (kind_at kinds.now 0) (kind_at kinds.now 1) }
     ensures levels { All (λ l. All IsLevel l.at) out.new }
 {
     for block in 0..6usize {
