@@ -2,8 +2,8 @@
 -- passes first.
 use Rattle.std.specs.Prelude.{◌≡◌, ℕ, ◌≤◌, List, length, Result, Ok, Err}
 use Rattle.m2v_port.specs.Ends.{Change}
-use Rattle.m2v_model.specs.declared.state.State.{State}
-use Rattle.m2v_model.specs.Pictures.{Pictures}
+use Rattle.m2v_model.specs.Pictures.{Events}
+use Rattle.m2v_model.specs.ByPieces.{Between}
 use Rattle.m2v_model.specs.Pieces.{pieces, most_input, Limit, too_long, too_large}
 use Rattle.m2v_model.specs.Decoding.{Decodes, FaultAt, pictures}
 use Rattle.m2v_piece.specs.declared.answer.Fault.{Fault}
@@ -11,7 +11,7 @@ use Rattle.m2v_piece.specs.declared.answer.DecodeError.{DecodeError}
 use Rattle.m2v_piece.specs.declared.answer.DecodeError.TheVariants as errors
 use Rattle.m2v_piece.specs.Cutting.{Passes}
 use Rattle.m2v_decode.specs.declared.answer.Decoded.{Decoded}
-use Rattle.m2v_decode.specs.Answers.{AllFit, start_of, PiecesRead, behind, HasFault}
+use Rattle.m2v_decode.specs.Answers.{AllFit, start_of, PiecesRead, behind, HasFault, numbers_of}
 
 -- no piece of a text passes a limit, nor do the bytes before the first one
 pub record IsUnderLimits (text : List ℕ) : Type 0 where
@@ -20,24 +20,24 @@ pub record IsUnderLimits (text : List ℕ) : Type 0 where
 
 -- a piece of a text passes this limit, and those before it pass none and have no fault
 pub record IsPast (text : List ℕ) (l : Limit) : Type 0 where
-  pub pictures : Pictures
-  pub state : State
+  pub events : Events
+  pub between : Between
   pub others : List (List ℕ)
-  pub begun : PiecesRead text pictures state others
+  pub begun : PiecesRead text events between others
   pub passes : Passes (behind begun) l others
 
 -- The piece with this fault, and those before it, pass no limit; the first one begins where an input may have bytes.
 pub record IsReached (text : List ℕ) (f : Fault) : Type 0 where
   pub start : start_of text ≤ most_input
-  pub pictures : Pictures
-  pub state : State
+  pub events : Events
+  pub between : Between
   pub others : List (List ℕ)
-  pub begun : PiecesRead text pictures state others
-  pub here : HasFault state (behind begun) others f.kind f.place
+  pub begun : PiecesRead text events between others
+  pub here : HasFault between (behind begun) others f.kind f.place
 
 -- the numbers of a text that decodes
 abbrev pub counted : {text : List ℕ} {frames : List (List ℕ)} → Decodes text frames → Decoded
-counted {text} {frames} d = record { frames = length frames; pictures = length (pictures (d.tree).parts); dropped = 0 }
+counted {text} {frames} d = numbers_of (length frames) (pictures d.tree)
 
 -- the error of a limit
 abbrev pub error_of : Limit → DecodeError
