@@ -17,7 +17,7 @@ use Rattle.m2v_piece.specs.declared.answer.DecodeError.TheVariants as errors
 use Rattle.m2v_piece.specs.Cutting.{Cutting}
 use Rattle.m2v_decoder.specs.Decoding.{Decoding, at_start, between, due_of, dropped_in, Finished}
 use Rattle.m2v_decode.specs.declared.answer.Decoded.{Decoded}
-use Rattle.m2v_decode.specs.Answers.{start_of, AllFit, PiecesRead, behind, shown_by, numbers_of, IsDecoded, IsCut, Of, Fails}
+use Rattle.m2v_decode.specs.Answers.{start_of, AllFit, PiecesRead, behind, shown_by, numbers_of, IsDecoded, IsCut, Of, OfTaken, Fails}
 use Rattle.m2v_decode.specs.Progress.{raw_of, before_all, Reached, IsDone, Ends, EndFails}
 use Rattle.m2v_decode.proofs.Ordering.{shown_is, agrees}
 use Rattle.m2v_decode.proofs.Going.{progress_none, moved_cut, shown_raw, faulty_at}
@@ -53,9 +53,9 @@ module _ {S K : Type 0} (left : S → Option (List ℕ)) (input_faults : S → �
   pub nothing_read : (i0 : S) (o0 : K) → Fails (input i0 i0) (output o0 o0) errors.Memory
   nothing_read i0 o0 = moved_cut left input_faults held output_faults i0 i0 i0 o0 o0 before_all at_start [] (progress_none left input_faults held output_faults i0 o0) (moves_nothing (left i0))
 
-  decoded : (text : List ℕ) (at : ℕ) (frames : List Samples) (d n : Decoding) (o0 o1 o2 : K) (x : Decoded) → Reached text at [] frames d → d.ready ≡ [] → d.shown ≡ length frames → Finished d at n
+  decoded : (taken : ℕ) (text : List ℕ) (at : ℕ) (frames : List Samples) (d n : Decoding) (o0 o1 o2 : K) (x : Decoded) → Reached taken text at [] frames d → d.ready ≡ [] → d.shown ≡ length frames → Finished d at n
       → Grows (held o0) (raw_of frames) (held o1) → Grows (held o1) (raw_of (due_of n)) (held o2) → x ≡ record { frames = d.shown + length (due_of n); pictures = d.pictures; dropped = d.dropped } → IsDecoded text (output o0 o2) x
-  decoded text at frames d n o0 o1 o2 x r none count f grown last is =
+  decoded taken text at frames d n o0 o1 o2 x r none count f grown last is =
       let low = low_delay_of d.state.first in
       let ps : Pictures = pictures_in r.events in
       let due : due_of n ≡ option_to_list d.anchor = due_then d n at none f in
@@ -80,25 +80,26 @@ module _ {S K : Type 0} (left : S → Option (List ℕ)) (input_faults : S → �
   done_ok i0 i1 o0 o1 o2 c d x so e = record {
     bytes = so.bytes;
     moved = so.moved;
-    told = λ rest q. decoded _ c.place so.frames d e.new o0 o1 o2 x (so.told rest q) so.none so.shown e.finished so.grown e.grown e.numbers;
+    told = λ rest q. decoded _ _ c.place so.frames d e.new o0 o1 o2 x (so.told rest q) so.none so.shown e.finished so.grown e.grown e.numbers;
   }
 
-  end_cut : (text : List ℕ) (at : ℕ) (frames : List Samples) (d n : Decoding) (o0 o1 o2 : K) → Reached text at [] frames d → d.ready ≡ [] → Finished d at n → Grows (held o0) (raw_of frames) (held o1) → GrowsByPrefix (held o1) (raw_of (due_of n)) (held o2)
-      → IsCut text (output o0 o2)
-  end_cut text at frames d n o0 o1 o2 r none f grown cut = record {
+  end_cut : (bytes text : List ℕ) (at : ℕ) (frames : List Samples) (d n : Decoding) (o0 o1 o2 : K) → Reached (length bytes) text at [] frames d → d.ready ≡ [] → Finished d at n → Grows (held o0) (raw_of frames) (held o1) → GrowsByPrefix (held o1) (raw_of (due_of n)) (held o2)
+      → IsCut bytes text (output o0 o2)
+  end_cut bytes text at frames d n o0 o1 o2 r none f grown cut = record {
     events = r.events;
     between = (between d);
     others = [];
     begun = r.begun;
+    within = λ some. let within = r.within some in omega (arith, within, r.place);
     grown = subst (λ (b : List ℕ). GrowsByPrefix (held o0) b (held o2)) (sym (shown_raw (between d) r.events d.anchor frames r.shows ∙ ap (λ (t : List Samples). raw_of frames ++ raw_of t) (sym (due_then d n at none f)))) (prefix_on grown cut);
   }
 
   end_text : (i0 i1 : S) (o0 o1 o2 : K) (c : Cutting) (d n : Decoding) → IsDone (input i0 i1) (output o0 o1) c d → Finished d c.place n → GrowsByPrefix (held o1) (raw_of (due_of n)) (held o2)
-      → Of (input i0 i1) (λ text. IsCut text (output o0 o2))
+      → OfTaken (input i0 i1) (λ bytes text. IsCut bytes text (output o0 o2))
   end_text i0 i1 o0 o1 o2 c d n so f cut = record {
     bytes = so.bytes;
     moved = so.moved;
-    told = λ rest q. end_cut _ c.place so.frames d n o0 o1 o2 (so.told rest q) so.none f so.grown cut;
+    told = λ rest q. end_cut _ _ c.place so.frames d n o0 o1 o2 (so.told rest q) so.none f so.grown cut;
   }
 
   pub done_err : (i0 i1 : S) (o0 o1 o2 : K) (c : Cutting) (d : Decoding) (e : DecodeError) → output_faults o0 ≤ output_faults o1 → IsDone (input i0 i1) (output o0 o1) c d
@@ -108,7 +109,7 @@ module _ {S K : Type 0} (left : S → Option (List ℕ)) (input_faults : S → �
   done_err i0 i1 o0 o1 o2 c d (errors.Stream f) rises so why = record {
     bytes = so.bytes;
     moved = so.moved;
-    told = λ rest q. faulty_at left input_faults held output_faults _ c.place [] so.frames d o0 o2 f (so.told rest q) (subst (λ (h : Option (List ℕ)). Grows (held o0) (raw_of so.frames) h) (sym why.1) so.grown) (so.most, why.0);
+    told = λ rest q. faulty_at left input_faults held output_faults _ _ c.place [] so.frames d o0 o2 f (so.told rest q) (subst (λ (h : Option (List ℕ)). Grows (held o0) (raw_of so.frames) h) (sym why.1) so.grown) (so.most, why.0);
   }
   done_err i0 i1 o0 o1 o2 c d errors.TooLong rises so why = absurd why
   done_err i0 i1 o0 o1 o2 c d errors.PictureTooLarge rises so why = absurd why

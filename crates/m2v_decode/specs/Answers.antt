@@ -1,5 +1,5 @@
 -- What decoding a stream answers, and what stands then in input and output.
-use Rattle.std.specs.Prelude.{◌≡◌, ℕ, ◌+◌, ◌≤◌, List, [], ◌∷◌, ◌++◌, length, Some, None, Ok, Err}
+use Rattle.std.specs.Prelude.{◌≡◌, ℕ, ◌+◌, ◌<◌, ◌≤◌, List, [], ◌∷◌, ◌++◌, length, Some, None, Ok, Err}
 use Rattle.m2v_port.specs.Ends.{Change}
 use Rattle.m2v_port.specs.Port.{Moves, Grows, GrowsByPrefix}
 use Rattle.m2v_plane.specs.Raw.{raw}
@@ -84,12 +84,13 @@ pub record IsOver (text : List ℕ) (held : Change) (e : DecodeError) : Type 0 w
   pub over : PieceStops (behind begun) others e
   pub grown : Grows held.old (raw (due_before between events)) held.new
 
--- Output has grown by a prefix of the frames that whole pictures of the text show.
-pub record IsCut (text : List ℕ) (held : Change) : Type 0 where
+-- Output has grown by a prefix of the frames that the whole pictures in the first bytes of a text show.
+pub record IsCut (bytes text : List ℕ) (held : Change) : Type 0 where
   pub events : Events
   pub between : Between
   pub others : List (List ℕ)
   pub begun : PiecesRead text events between others
+  pub within : 0 < length begun.first → behind begun ≤ length bytes
   pub grown : GrowsByPrefix held.old (raw (shown_by between events)) held.new
 
 -- Some bytes of the input were read, and where the input tells its bytes, this holds of them and what is left.
@@ -98,11 +99,17 @@ pub record Of (left : Change) (Holds : List ℕ → Type 0) : Type 0 where
   pub moved : Moves left.old bytes left.new
   pub told : (rest : List ℕ) → left.new ≡ Some rest → Holds (bytes ++ rest)
 
+-- the same of the bytes that were read and of the text that they begin
+pub record OfTaken (left : Change) (Holds : List ℕ → List ℕ → Type 0) : Type 0 where
+  pub bytes : List ℕ
+  pub moved : Moves left.old bytes left.new
+  pub told : (rest : List ℕ) → left.new ≡ Some rest → Holds bytes (bytes ++ rest)
+
 -- When each error comes, and what stands then.
 abbrev pub Fails : Change → Change → DecodeError → Type 0
-Fails left held errors.Read = left.Failed × Of left (λ text. IsCut text held)
-Fails left held errors.Write = held.Failed × Of left (λ text. IsCut text held)
+Fails left held errors.Read = left.Failed × OfTaken left (λ bytes text. IsCut bytes text held)
+Fails left held errors.Write = held.Failed × OfTaken left (λ bytes text. IsCut bytes text held)
 Fails left held (errors.Stream f) = Of left (λ text. IsFaulty text held f)
 Fails left held errors.TooLong = Of left (λ text. IsOver text held errors.TooLong)
 Fails left held errors.PictureTooLarge = Of left (λ text. IsOver text held errors.PictureTooLarge)
-Fails left held errors.Memory = Of left (λ text. IsCut text held)
+Fails left held errors.Memory = OfTaken left (λ bytes text. IsCut bytes text held)

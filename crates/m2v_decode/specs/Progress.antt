@@ -1,5 +1,5 @@
 -- Decoding under way: what stands between two pieces.
-use Rattle.std.specs.Prelude.{◌≡◌, ℕ, ◌+◌, ◌≤◌, Bool, true, false, List, [], ◌++◌, length, map, Some, None, Err}
+use Rattle.std.specs.Prelude.{◌≡◌, ℕ, ◌+◌, ◌<◌, ◌≤◌, Bool, true, false, List, [], ◌++◌, length, map, Some, None, Err}
 use Rattle.m2v_port.specs.Ends.{Change}
 use Rattle.m2v_port.specs.Port.{Moves, Grows, GrowsByPrefix}
 use Rattle.m2v_plane.specs.Samples.{Samples}
@@ -42,11 +42,12 @@ pub record HasPut (old new : Decoding) : Type 0 where
   pub dropped : new.dropped ≡ old.dropped
   pub shown : new.shown ≡ old.shown + length (due_of old)
 
--- the first pieces of the text were read, and the frames due from them written
-pub record Reached (text : List ℕ) (start : ℕ) (others : List (List ℕ)) (frames : List Samples) (d : Decoding) : Type 0 where
+-- the first pieces of the text were read, which lie in its first bytes, and the frames due from them written
+pub record Reached (taken : ℕ) (text : List ℕ) (start : ℕ) (others : List (List ℕ)) (frames : List Samples) (d : Decoding) : Type 0 where
   pub events : Events
   pub begun : PiecesRead text events (between d) others
   pub place : start ≡ behind begun
+  pub within : 0 < length begun.first → start ≤ taken
   pub shows : (low : Bool) → Agrees low d.state.first → ShowsFrames low None [] (pictures_in events) d.anchor frames
   pub counted : d.pictures ≡ length (pictures_in events)
   pub dropped : d.dropped ≡ dropped_in (pictures_in events)
@@ -61,7 +62,8 @@ pub record Progress (left held : Change) (c : Cutting) (d : Decoding) : Type 0 w
   pub none : d.ready ≡ []
   pub going : d.ended ≡ false
   pub sound : d.failed ≡ false
-  pub told : (rest : List ℕ) → left.new ≡ Some rest → Reached (bytes ++ rest) (start_of_rest c rest) (left_of c rest) frames d
+  pub taken : (rest : List ℕ) → left.new ≡ Some rest → c.place + length c.unread ≤ length bytes
+  pub told : (rest : List ℕ) → left.new ≡ Some rest → Reached (length bytes) (bytes ++ rest) (start_of_rest c rest) (left_of c rest) frames d
 
 -- all pieces were read
 pub record IsDone (left held : Change) (c : Cutting) (d : Decoding) : Type 0 where
@@ -75,7 +77,7 @@ pub record IsDone (left held : Change) (c : Cutting) (d : Decoding) : Type 0 whe
   pub sound : d.failed ≡ false
   pub over : c.ended ≡ true
   pub most : c.place ≤ most_input
-  pub told : (rest : List ℕ) → left.new ≡ Some rest → Reached (bytes ++ rest) c.place [] frames d
+  pub told : (rest : List ℕ) → left.new ≡ Some rest → Reached (length bytes) (bytes ++ rest) c.place [] frames d
 
 -- the end of the text was read, and the frames due then written
 pub record Ends (old : Decoding) (end : ℕ) (d : Decoded) (held : Change) : Type 0 where
