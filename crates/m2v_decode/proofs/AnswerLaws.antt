@@ -19,8 +19,9 @@ use Rattle.m2v_piece.specs.declared.answer.DecodeError.TheVariants as errors
 use Rattle.m2v_piece.specs.Cutting.{Passes}
 use Rattle.m2v_decode.specs.declared.answer.Decoded.{Decoded}
 use Rattle.m2v_decode.specs.Answers.{Of, IsDecoded, IsFaulty, IsOver, Fails, AllFit, start_of, numbers_of}
-use Rattle.m2v_decode.specs.Complete.{IsUnderLimits, IsPast, IsReached, IsAnswered, Gives, counted, error_of}
+use Rattle.m2v_decode.specs.Complete.{IsUnderLimits, IsPast, IsReached, IsLate, IsAnswered, Gives, counted, error_of}
 use Rattle.m2v_decode.proofs.LimitLaws.{over_fault, over_over}
+use Rattle.m2v_decode.proofs.Going.{ends_behind}
 
 -- ---- under the limits
 
@@ -51,14 +52,6 @@ ends_low at [] fit le = le
 ends_low at (p ∷ ps) fit le =
     let next : (at + 0) + length p ≤ most_input = stays_low at 0 p fit.0 (omega arith) in
     ends_low (at + length p) ps fit.1 (omega arith)
-
--- pieces end no earlier than they begin
-ends_behind : (at : ℕ) (ps : List (List ℕ)) → at ≤ end_of at ps
-unfolding end_of
-ends_behind at [] = omega arith
-ends_behind at (p ∷ ps) =
-    let more : at + length p ≤ end_of (at + length p) ps = ends_behind (at + length p) ps in
-    omega arith
 
 pub rest_fits : (at : ℕ) (first others : List (List ℕ)) → AllFit at (first ++ others) → AllFit (end_of at first) others
 unfolding end_of
@@ -148,6 +141,13 @@ past_long text l held past o = elim (o.over) [
 pub past_large : (text : List ℕ) (l : Limit) (held : Change) → IsPast text l → IsOver text held errors.PictureTooLarge → l ≡ too_large
 past_large text l held past o = one_limit text l too_large past (o.begun).first o.others (o.begun).are (o.begun).fit o.over
 
+-- a piece that begins behind the input's limit is too long, and not too large
+late_large : (text : List ℕ) (held : Change) → IsLate text → IsOver text held errors.PictureTooLarge → ⊥
+late_large text held late o =
+    let low = ends_behind (start_of text) (o.begun).first in
+    let is : too_large ≡ too_long = late_limit (end_of (start_of text) (o.begun).first) (o.over).whole too_large (omega (arith, low, late)) (o.over).decides in
+    absurd cc
+
 -- a text with a piece over a limit has no frames to show
 pub past_shown : (text : List ℕ) (l : Limit) (held : Change) (n : Decoded) → IsPast text l → IsDecoded text held n → ⊥
 past_shown text l held n past i =
@@ -232,9 +232,29 @@ module _ (left held : Change) (text : List ℕ) (is : left.old ≡ Some text) wh
     by_limit (Ok n) ok err = absurd (past_shown text l held n past (of_text left (λ bytes. IsDecoded bytes held n) text is ok))
     by_limit (Err e) ok err = err_over e err
 
+  module _ (late : IsLate text) where
+    err_late : (e : DecodeError) → Why e → Gives left held (Err errors.TooLong) (Err e)
+    err_late errors.Read h = Gives.read refl h.0
+    err_late errors.Write h = Gives.write refl h.0
+    err_late errors.Memory h = Gives.memory refl
+    err_late errors.TooLong h = Gives.as_said refl
+    err_late errors.PictureTooLarge h = absurd (late_large text held late (over_of errors.PictureTooLarge h))
+    err_late (errors.Stream f) h =
+        let i = of_text left (λ bytes. IsFaulty bytes held f) text is h in
+        let start = i.start in
+        absurd (omega (arith, start, late))
+
+    by_late : (result : Result Decoded DecodeError) → IfOk result (λ n. Of left (λ bytes. IsDecoded bytes held n)) → IfErr result Why → Gives left held (Err errors.TooLong) result
+    by_late (Ok n) ok err =
+        let i = of_text left (λ bytes. IsDecoded bytes held n) text is ok in
+        let start = i.start in
+        absurd (omega (arith, start, late))
+    by_late (Err e) ok err = err_late e err
+
 pub answered : (left held : Change) (result : Result Decoded DecodeError) → IfOk result (λ n. Of left (λ bytes. IsDecoded bytes held n)) → IfErr result (Fails left held) → Tells left (IsAnswered left held result)
 answered left held result ok err = tells left (IsAnswered left held result) (λ text is. record {
   decodes = λ frames d under. by_decodes left held text is frames d under result ok err;
   faulty = λ f at r. by_fault left held text is f at r result ok err;
   over = λ l past. by_limit left held text is l past result ok err;
+  late = λ long. by_late left held text is long result ok err;
 })

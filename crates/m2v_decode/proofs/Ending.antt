@@ -8,7 +8,7 @@ use Rattle.m2v_plane.specs.Samples.{Samples}
 use Rattle.m2v_plane.specs.Raw.{raw, crop}
 use Rattle.m2v_model.specs.Pictures.{Pictures, Events, no_frames, events_from, pictures_in}
 use Rattle.m2v_model.specs.States.{at_first}
-use Rattle.m2v_model.specs.Pieces.{pieces}
+use Rattle.m2v_model.specs.Pieces.{pieces, most_input}
 use Rattle.m2v_model.specs.Decoding.{Decodes, shown, low_delay_of}
 use Rattle.m2v_model.specs.ByPieces.{Between, at_start as text_start, end_read, behind as behind_events, continued, text_read, IsRead}
 use Rattle.m2v_model.proofs.PieceLaws.{rest_read, rest_none, rest_read-append, text_rest, by_pieces}
@@ -20,7 +20,7 @@ use Rattle.m2v_decode.specs.declared.answer.Decoded.{Decoded}
 use Rattle.m2v_decode.specs.Answers.{start_of, AllFit, PiecesRead, behind, shown_by, numbers_of, IsDecoded, IsCut, Of, OfTaken, Fails}
 use Rattle.m2v_decode.specs.Progress.{raw_of, before_all, Reached, IsDone, Ends, EndFails}
 use Rattle.m2v_decode.proofs.Ordering.{shown_is, agrees}
-use Rattle.m2v_decode.proofs.Going.{progress_none, moved_cut, shown_raw, faulty_at}
+use Rattle.m2v_decode.proofs.Going.{ends_behind, progress_none, moved_cut, shown_raw, faulty_at}
 
 due_then : (d n : Decoding) (end : ℕ) → d.ready ≡ [] → Finished d end n → due_of n ≡ option_to_list d.anchor
 due_then d n end none f = rw (f.ready, f.ended, f.anchor, none) refl
@@ -53,9 +53,9 @@ module _ {S K : Type 0} (left : S → Option (List ℕ)) (input_faults : S → �
   pub nothing_read : (i0 : S) (o0 : K) → Fails (input i0 i0) (output o0 o0) errors.Memory
   nothing_read i0 o0 = moved_cut left input_faults held output_faults i0 i0 i0 o0 o0 before_all at_start [] (progress_none left input_faults held output_faults i0 o0) (moves_nothing (left i0))
 
-  decoded : (taken : ℕ) (text : List ℕ) (at : ℕ) (frames : List Samples) (d n : Decoding) (o0 o1 o2 : K) (x : Decoded) → Reached taken text at [] frames d → d.ready ≡ [] → d.shown ≡ length frames → Finished d at n
+  decoded : (taken : ℕ) (text : List ℕ) (at : ℕ) (frames : List Samples) (d n : Decoding) (o0 o1 o2 : K) (x : Decoded) → at ≤ most_input → Reached taken text at [] frames d → d.ready ≡ [] → d.shown ≡ length frames → Finished d at n
       → Grows (held o0) (raw_of frames) (held o1) → Grows (held o1) (raw_of (due_of n)) (held o2) → x ≡ record { frames = d.shown + length (due_of n); pictures = d.pictures; dropped = d.dropped } → IsDecoded text (output o0 o2) x
-  decoded taken text at frames d n o0 o1 o2 x r none count f grown last is =
+  decoded taken text at frames d n o0 o1 o2 x most r none count f grown last is =
       let low = low_delay_of d.state.first in
       let ps : Pictures = pictures_in r.events in
       let due : due_of n ≡ option_to_list d.anchor = due_then d n at none f in
@@ -70,6 +70,9 @@ module _ {S K : Type 0} (left : S → Option (List ℕ)) (input_faults : S → �
         events = r.events;
         between = (between n);
         read = read;
+        start =
+            let low = ends_behind (start_of text) (r.begun).first in
+            omega (arith, low, r.place, most);
         fit = all_fit text r.events (between d) r.begun;
         grown = subst (λ (b : List ℕ). Grows (held o0) b (held o2)) (sym (ap raw same ∙ shown_raw (between d) r.events d.anchor frames r.shows ∙ ap (λ (t : List Samples). raw_of frames ++ raw_of t) (sym due))) (grows_on grown last);
         numbers = is ∙ (λ i. record { frames = number i; pictures = r.counted i; dropped = r.dropped i });
@@ -80,7 +83,7 @@ module _ {S K : Type 0} (left : S → Option (List ℕ)) (input_faults : S → �
   done_ok i0 i1 o0 o1 o2 c d x so e = record {
     bytes = so.bytes;
     moved = so.moved;
-    told = λ rest q. decoded _ _ c.place so.frames d e.new o0 o1 o2 x (so.told rest q) so.none so.shown e.finished so.grown e.grown e.numbers;
+    told = λ rest q. decoded _ _ c.place so.frames d e.new o0 o1 o2 x so.most (so.told rest q) so.none so.shown e.finished so.grown e.grown e.numbers;
   }
 
   end_cut : (bytes text : List ℕ) (at : ℕ) (frames : List Samples) (d n : Decoding) (o0 o1 o2 : K) → Reached (length bytes) text at [] frames d → d.ready ≡ [] → Finished d at n → Grows (held o0) (raw_of frames) (held o1) → GrowsByPrefix (held o1) (raw_of (due_of n)) (held o2)
@@ -109,7 +112,7 @@ module _ {S K : Type 0} (left : S → Option (List ℕ)) (input_faults : S → �
   done_err i0 i1 o0 o1 o2 c d (errors.Stream f) rises so why = record {
     bytes = so.bytes;
     moved = so.moved;
-    told = λ rest q. faulty_at left input_faults held output_faults _ _ c.place [] so.frames d o0 o2 f (so.told rest q) (subst (λ (h : Option (List ℕ)). Grows (held o0) (raw_of so.frames) h) (sym why.1) so.grown) (so.most, why.0);
+    told = λ rest q. faulty_at left input_faults held output_faults _ _ c.place [] so.frames d o0 o2 f (so.told rest q) (subst (λ (h : Option (List ℕ)). Grows (held o0) (raw_of so.frames) h) (sym why.1) so.grown) (so.most, why.0) so.most;
   }
   done_err i0 i1 o0 o1 o2 c d errors.TooLong rises so why = absurd why
   done_err i0 i1 o0 o1 o2 c d errors.PictureTooLarge rises so why = absurd why

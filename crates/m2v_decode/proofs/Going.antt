@@ -23,6 +23,7 @@ use Rattle.m2v_piece.specs.declared.answer.DecodeError.TheVariants as errors
 use Rattle.m2v_piece.specs.Cutting.{Cutting, left_of, IsReading, PieceStops, open_start, open_pieces}
 use Rattle.m2v_piece.proofs.WholeLaws.{whole_is}
 use Rattle.m2v_piece.specs.Cutting.{start_of as start_of_rest}
+use Rattle.m2v_piece.specs.Sound.{IsSoundPiece}
 use Rattle.m2v_piece.specs.Stepping.{Handed, Stopped, NextPiece, Keeps}
 use Rattle.m2v_model.specs.declared.notes.Notes.{Notes}
 use Rattle.m2v_decoder.specs.Decoding.{Decoding, at_start, between, due_of, dropped_in, Agrees, ShowsFrames, Advanced, Refuses, whole_of}
@@ -39,6 +40,14 @@ end_more : (ps : List (List ℕ)) (at : ℕ) (p : List ℕ) → end_of at (ps ++
 unfolding end_of
 end_more [] at p = refl
 end_more (q ∷ ps) at p = end_more ps (at + length q) p
+
+-- pieces end no earlier than they begin
+pub ends_behind : (at : ℕ) (ps : List (List ℕ)) → at ≤ end_of at ps
+unfolding end_of
+ends_behind at [] = omega arith
+ends_behind at (p ∷ ps) =
+    let more : at + length p ≤ end_of (at + length p) ps = ends_behind (at + length p) ps in
+    omega arith
 
 fit_more : (ps : List (List ℕ)) (at : ℕ) (p : List ℕ) → AllFit at ps → limit (end_of at ps) 0 p ≡ None → AllFit at (ps ++ p ∷ [])
 unfolding end_of
@@ -304,12 +313,15 @@ module _ {S K : Type 0} (left : S → Option (List ℕ)) (input_faults : S → �
   cutter_stopped i0 i1 i2 o0 o1 c d errors.PictureTooLarge rose kind so s = over_text i0 i1 i2 o0 o1 c d s.bytes errors.PictureTooLarge so s.moved s.why
   cutter_stopped i0 i1 i2 o0 o1 c d errors.Memory rose kind so s = moved_cut i0 i1 i2 o0 o1 c d s.bytes so s.moved
 
-  pub faulty_at : (taken : ℕ) (text : List ℕ) (start : ℕ) (others : List (List ℕ)) (frames : List Samples) (d : Decoding) (o0 o1 : K) (f : Fault) → Reached taken text start others frames d → Grows (held o0) (raw_of frames) (held o1) → HasFault (between d) start others f.kind f.place
+  pub faulty_at : (taken : ℕ) (text : List ℕ) (start : ℕ) (others : List (List ℕ)) (frames : List Samples) (d : Decoding) (o0 o1 : K) (f : Fault) → Reached taken text start others frames d → Grows (held o0) (raw_of frames) (held o1) → HasFault (between d) start others f.kind f.place → start ≤ most_input
       → IsFaulty text (output o0 o1) f
-  faulty_at taken text start others frames d o0 o1 f r grown here =
+  faulty_at taken text start others frames d o0 o1 f r grown here le =
       let there = subst (λ (x : ℕ). HasFault (between d) x others f.kind f.place) r.place here in
       record {
         fault = faulty_text text f.kind f.place r.events (between d) others r.begun there;
+        start =
+            let low = ends_behind (start_of text) (r.begun).first in
+            omega (arith, low, r.place, le);
         events = r.events;
         between = (between d);
         others = others;
@@ -328,20 +340,20 @@ module _ {S K : Type 0} (left : S → Option (List ℕ)) (input_faults : S → �
       (subst (λ (x : ℕ). Reached (length so.bytes) (so.bytes ++ (handed.bytes ++ rest)) x (whole_of p ∷ left_of c' rest) so.frames d) (sym g.place) r', g.fits, g.length)
 
   -- the decoder refused a piece
-  pub piece_refused : (i0 i1 i2 : S) (o0 o1 : K) (c c' : Cutting) (d : Decoding) (p : Piece) (e : DecodeError) → With i0 i1 o0 o1 c d → Handed c (left i1) c' (left i2) (Some p) → c'.begun ≡ true
+  pub piece_refused : (i0 i1 i2 : S) (o0 o1 : K) (c c' : Cutting) (d : Decoding) (p : Piece) (e : DecodeError) → With i0 i1 o0 o1 c d → Handed c (left i1) c' (left i2) (Some p) → c'.begun ≡ true → IsSoundPiece p
       → Refuses d p.place (whole_of p) e → Fails (input i0 i2) (output o0 o1) e
-  piece_refused i0 i1 i2 o0 o1 c c' d p errors.Read so handed begun why = absurd why
-  piece_refused i0 i1 i2 o0 o1 c c' d p errors.Write so handed begun why = absurd why
-  piece_refused i0 i1 i2 o0 o1 c c' d p errors.TooLong so handed begun why = absurd why
-  piece_refused i0 i1 i2 o0 o1 c c' d p errors.PictureTooLarge so handed begun why = absurd why
-  piece_refused i0 i1 i2 o0 o1 c c' d p errors.Memory so handed begun why = moved_cut i0 i1 i2 o0 o1 c d handed.bytes so handed.moved
-  piece_refused i0 i1 i2 o0 o1 c c' d p (errors.Stream f) so handed begun why = record {
+  piece_refused i0 i1 i2 o0 o1 c c' d p errors.Read so handed begun sound why = absurd why
+  piece_refused i0 i1 i2 o0 o1 c c' d p errors.Write so handed begun sound why = absurd why
+  piece_refused i0 i1 i2 o0 o1 c c' d p errors.TooLong so handed begun sound why = absurd why
+  piece_refused i0 i1 i2 o0 o1 c c' d p errors.PictureTooLarge so handed begun sound why = absurd why
+  piece_refused i0 i1 i2 o0 o1 c c' d p errors.Memory so handed begun sound why = moved_cut i0 i1 i2 o0 o1 c d handed.bytes so handed.moved
+  piece_refused i0 i1 i2 o0 o1 c c' d p (errors.Stream f) so handed begun sound why = record {
     bytes = so.bytes ++ handed.bytes;
     moved = moves_on so.moved handed.moved;
     told = λ rest e.
         let g = given i0 i1 i2 o0 o1 c c' d p so handed begun rest e in
         subst (λ (t : List ℕ). IsFaulty t (output o0 o1) f) (sym (append_assoc so.bytes handed.bytes rest))
-        (faulty_at _ _ p.place (whole_of p ∷ left_of c' rest) so.frames d o0 o1 f g.0 so.grown (g.1, why));
+        (faulty_at _ _ p.place (whole_of p ∷ left_of c' rest) so.frames d o0 o1 f g.0 so.grown (g.1, why) (omega (arith, sound.end)));
   }
 
   -- a prefix of the frames due behind a piece was written

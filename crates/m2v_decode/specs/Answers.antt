@@ -59,6 +59,7 @@ pub record IsDecoded (text : List ℕ) (held : Change) (d : Decoded) : Type 0 wh
   pub events : Events
   pub between : Between
   pub read : IsRead text events between
+  pub start : start_of text ≤ most_input
   pub fit : AllFit (start_of text) (pieces text)
   pub grown : Grows held.old (raw frames) held.new
   pub numbers : d ≡ numbers_of (length frames) (pictures_in events)
@@ -67,6 +68,7 @@ pub record IsDecoded (text : List ℕ) (held : Change) (d : Decoded) : Type 0 wh
 -- it is looked at; where that is at the end, from all pieces.
 pub record IsFaulty (text : List ℕ) (held : Change) (f : Fault) : Type 0 where
   pub fault : FaultAt text f.place f.kind
+  pub start : start_of text ≤ most_input
   pub events : Events
   pub between : Between
   pub others : List (List ℕ)

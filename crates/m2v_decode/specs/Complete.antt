@@ -1,6 +1,6 @@
 -- What is answered to a text, and that no other answer comes: by its decoding, its first fault, or the limit that a piece
 -- passes first.
-use Rattle.std.specs.Prelude.{◌≡◌, ℕ, ◌≤◌, List, length, Result, Ok, Err}
+use Rattle.std.specs.Prelude.{◌≡◌, ℕ, ◌<◌, ◌≤◌, List, length, Result, Ok, Err}
 use Rattle.m2v_port.specs.Ends.{Change}
 use Rattle.m2v_model.specs.Pictures.{Events}
 use Rattle.m2v_model.specs.ByPieces.{Between}
@@ -17,6 +17,10 @@ use Rattle.m2v_decode.specs.Answers.{AllFit, start_of, PiecesRead, behind, HasFa
 pub record IsUnderLimits (text : List ℕ) : Type 0 where
   pub start : start_of text ≤ most_input
   pub pieces : AllFit (start_of text) (pieces text)
+
+-- a text of more bytes than an input may have, with no sequence header before the last of these
+abbrev pub IsLate : List ℕ → Type 0
+IsLate text = most_input < start_of text
 
 -- a piece of a text passes this limit, and those before it pass none and have no fault
 pub record IsPast (text : List ℕ) (l : Limit) : Type 0 where
@@ -52,8 +56,9 @@ pub data Gives (left held : Change) (answer result : Result Decoded DecodeError)
   memory : result ≡ Err errors.Memory → Gives left held answer result
 
 -- What is answered to a text: where it decodes under the limits its numbers; where its first fault comes before a limit that
--- fault; where a limit is passed before a fault that limit.
+-- fault; where a limit is passed before a fault that limit; and too long where no sequence header begins within the limit.
 pub record IsAnswered (left held : Change) (result : Result Decoded DecodeError) (text : List ℕ) : Type 0 where
   pub decodes : (frames : List (List ℕ)) (d : Decodes text frames) → IsUnderLimits text → Gives left held (Ok (counted d)) result
   pub faulty : (f : Fault) → FaultAt text f.place f.kind → IsReached text f → Gives left held (Err (errors.Stream f)) result
   pub over : (l : Limit) → IsPast text l → Gives left held (Err (error_of l)) result
+  pub late : IsLate text → Gives left held (Err errors.TooLong) result

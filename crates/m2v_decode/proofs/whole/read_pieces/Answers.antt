@@ -36,7 +36,7 @@ returns-in_err-piece-in-Ok-Some-clause-err g c =
     let p = err_from_is_err_and c.from_residual.result c.from_residual.ensures.1 in
     rw (p.1, p.2)
     (piece_refused g.S.Source.left g.S.Source.faults g.K.Sink.held g.K.Sink.faults _ _ _ _ _ _ _ _ _ c.in_err-piece-in-Ok-Some.field-0.0
-    c.loop-e.invariant.progress x begun c.in_err-piece-in-Ok-Some.ensures.err)
+    c.loop-e.invariant.progress x begun (rw c.in-Ok-Some.field-0-is at c.in-Ok-Some.ensures.sound) c.in_err-piece-in-Ok-Some.ensures.err)
 
 pub returns-in_err-put_due-in-Ok-Some-clause-err : goal.returns-in_err-put_due-in-Ok-Some-clause-err
 returns-in_err-put_due-in-Ok-Some-clause-err g c =
