@@ -16,6 +16,6 @@ loop-frame-preserved g c =
     let inv = c.loop-frame.invariant in
     record {
       put = subst (λ d. HasPutSome c.args.decoder.now d (change g.K.Sink.held g.K.Sink.faults c.args.output.now c.put_frame.new.output)) (sym c.recycle.ensures.same)
-      (put_more g.K.Sink.held g.K.Sink.faults _ _ _ _ _ _ _ inv.put c.in-Some.ensures c.in_ok-put_frame.ensures.grown);
+          (put_more g.K.Sink.held g.K.Sink.faults _ _ _ _ _ _ _ inv.put c.in-Some.ensures c.in_ok-put_frame.ensures.grown);
       output = stays_on inv.output c.put_frame.ensures.output;
     }
