@@ -8,9 +8,8 @@ use Rattle.m2v_port.proofs.Runs.{tells}
 use Rattle.m2v_port.specs.Port.{Grows}
 use Rattle.m2v_plane.specs.Raw.{raw}
 use Rattle.m2v_model.specs.Pieces.{limit, Limit, too_long, too_large, most_input, most_bytes, pieces}
-use Rattle.m2v_model.specs.Pictures.{Pictures, Events, pictures_in}
+use Rattle.m2v_model.specs.Pictures.{Events, pictures_in}
 use Rattle.m2v_model.specs.ByPieces.{Between, at_start, pieces_read, end_of}
-use Rattle.m2v_model.specs.Streams.{Sofar}
 use Rattle.m2v_model.specs.Decoding.{Decodes, FaultAt, pictures}
 use Rattle.m2v_model.proofs.Unique.{exactly_one}
 use Rattle.m2v_piece.specs.declared.answer.Fault.{Fault}

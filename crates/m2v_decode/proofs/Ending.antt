@@ -6,8 +6,7 @@ use Rattle.m2v_port.specs.Port.{Grows, GrowsByPrefix}
 use Rattle.m2v_port.proofs.Runs.{rose_since, moves_nothing, grows_on, prefix_on}
 use Rattle.m2v_plane.specs.Samples.{Samples}
 use Rattle.m2v_plane.specs.Raw.{raw, crop}
-use Rattle.m2v_model.specs.Pictures.{Pictures, Events, no_frames, events_from, pictures_in}
-use Rattle.m2v_model.specs.States.{at_first}
+use Rattle.m2v_model.specs.Pictures.{Pictures, Events, pictures_in}
 use Rattle.m2v_model.specs.Pieces.{pieces, most_input}
 use Rattle.m2v_model.specs.Decoding.{Decodes, shown, low_delay_of}
 use Rattle.m2v_model.specs.ByPieces.{Between, at_start as text_start, end_read, behind as behind_events, continued, text_read, IsRead}
@@ -15,9 +14,9 @@ use Rattle.m2v_model.proofs.PieceLaws.{rest_read, rest_none, rest_read-append, t
 use Rattle.m2v_piece.specs.declared.answer.DecodeError.{DecodeError}
 use Rattle.m2v_piece.specs.declared.answer.DecodeError.TheVariants as errors
 use Rattle.m2v_piece.specs.Cutting.{Cutting}
-use Rattle.m2v_decoder.specs.Decoding.{Decoding, at_start, between, due_of, dropped_in, Finished}
+use Rattle.m2v_decoder.specs.Decoding.{Decoding, at_start, between, due_of, Finished}
 use Rattle.m2v_decode.specs.declared.answer.Decoded.{Decoded}
-use Rattle.m2v_decode.specs.Answers.{start_of, AllFit, PiecesRead, behind, shown_by, numbers_of, IsDecoded, IsCut, Of, OfTaken, Fails}
+use Rattle.m2v_decode.specs.Answers.{start_of, AllFit, PiecesRead, behind, shown_by, IsDecoded, IsCut, Of, OfTaken, Fails}
 use Rattle.m2v_decode.specs.Progress.{raw_of, before_all, Reached, IsDone, Ends, EndFails}
 use Rattle.m2v_decode.proofs.Ordering.{shown_is, agrees}
 use Rattle.m2v_decode.proofs.Going.{ends_behind, progress_none, moved_cut, shown_raw, faulty_at}

@@ -14,7 +14,7 @@ use Rattle.m2v_model.specs.declared.phase.Phase.TheVariants.{Before}
 use Rattle.m2v_model.specs.Units.{Units, cut}
 use Rattle.m2v_model.specs.Pieces.{limit, grouped, most_input}
 use Rattle.m2v_model.specs.Decoding.{FaultAt, low_delay_of}
-use Rattle.m2v_model.specs.ByPieces.{Between, at_start as nothing_read, Course, piece_read, behind as behind_events, continued, pieces_read, end_read, end_of}
+use Rattle.m2v_model.specs.ByPieces.{Between, at_start as nothing_read, Course, piece_read, behind as behind_events, continued, pieces_read, end_of}
 use Rattle.m2v_model.proofs.PieceLaws.{pieces_read-append, rest_read, rest_none, rest_more, rest_read-append, text_rest, by_pieces}
 use Rattle.m2v_piece.specs.declared.answer.Piece.{Piece}
 use Rattle.m2v_piece.specs.declared.answer.Fault.{Fault}

@@ -3,7 +3,7 @@ use Rattle.std.proofs.Common.{◌≡◌, ℕ, ◌+◌, List, [], ◌∷◌, ◌+
 use Rattle.m2v_model.specs.declared.fault.FaultKind.{FaultKind}
 use Rattle.m2v_model.specs.Pictures.{Events}
 use Rattle.m2v_model.specs.Pieces.{limit, Limit}
-use Rattle.m2v_model.specs.ByPieces.{Between, Course, continued, piece_read, pieces_read, end_read, end_of}
+use Rattle.m2v_model.specs.ByPieces.{Between, Course, continued, piece_read, pieces_read, end_of}
 use Rattle.m2v_model.specs.ByPieces.{behind as put_behind}
 use Rattle.m2v_piece.specs.Cutting.{Passes}
 use Rattle.m2v_decode.specs.Answers.{AllFit, HasFault}

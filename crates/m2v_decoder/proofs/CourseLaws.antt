@@ -11,7 +11,7 @@ use Rattle.m2v_model.specs.declared.state.Sequence.{Sequence}
 use Rattle.m2v_model.specs.declared.state.Open.{Open}
 use Rattle.m2v_model.specs.declared.state.State.{State}
 use Rattle.m2v_model.specs.States.{is_b, is_frame_end, after_end}
-use Rattle.m2v_model.specs.Pictures.{Picture, Pictures, Store, Events, coded_picture, pictures_in, picture_of, picture_ended, closed}
+use Rattle.m2v_model.specs.Pictures.{Picture, Store, Events, picture_of, picture_ended, closed}
 use Rattle.m2v_model.specs.PieceNotes.{noted}
 use Rattle.m2v_picture.specs.Frames.{Frames, store_of, HaveSize}
 use Rattle.m2v_decoder.specs.declared.course.Course.{Course}
@@ -19,7 +19,7 @@ use Rattle.m2v_decoder.specs.Decoding.{decoded_of, dropped_in}
 use Rattle.m2v_decoder.specs.Course.{IsOpen, HasFrame, FitsOpen, HaveSizes, IsFresh, AreSound, IsSoundCourse, Emits, Counted, Showed, Closed, frame_list}
 use Rattle.m2v_decoder.proofs.Showing.{low_stays}
 use Rattle.m2v_decoder.proofs.NoteLaws.{notes_same}
-use Rattle.m2v_decoder.proofs.FrameLaws.{rest_same, ended, ended_none}
+use Rattle.m2v_decoder.proofs.FrameLaws.{rest_same, ended}
 
 -- ---- the frame of a picture
 

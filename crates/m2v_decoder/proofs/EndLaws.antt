@@ -1,5 +1,5 @@
 -- The end of a text, and of a piece, read from what stands before it.
-use Rattle.std.proofs.Common.{◌≡◌, ℕ, ◌+◌, ◌*◌, ◌-◌, ◌≤◌, Bool, true, false, List, [], Option, Some, None, length, subst, Ok, Err, refl, sym, ap, ◌∙◌, arith}
+use Rattle.std.proofs.Common.{◌≡◌, ℕ, ◌+◌, ◌*◌, ◌-◌, ◌≤◌, Bool, true, false, List, [], Option, None, length, subst, Ok, Err, refl, sym, ap, ◌∙◌, arith}
 use Rattle.std.specs.Prelude.{replicate, vec_len, Result, OnOk, IfErr}
 use Rattle.std.proofs.lemmas.List.{length-append, length-replicate}
 use Rattle.m2v_model.specs.declared.fault.FaultKind.{FaultKind}
@@ -8,11 +8,10 @@ use Rattle.m2v_model.specs.declared.stop.Stop.{Stop}
 use Rattle.m2v_model.specs.declared.state.Open.{Open}
 use Rattle.m2v_model.specs.declared.state.State.{State}
 use Rattle.m2v_model.specs.Units.{Units, cut}
-use Rattle.m2v_model.specs.States.{after_end}
 use Rattle.m2v_model.specs.Streams.{text_end, over, after}
 use Rattle.m2v_model.specs.Pictures.{Store, Events, closed, picture_ended, pictures_in}
 use Rattle.m2v_model.specs.Buffering.{before_picture, code_bits}
-use Rattle.m2v_model.specs.PieceNotes.{noted, notes_of, first_note}
+use Rattle.m2v_model.specs.PieceNotes.{noted, notes_of}
 use Rattle.m2v_model.specs.ByPieces.{Between, behind, unit_read, units_read, piece_read, end_read, text_ended}
 use Rattle.m2v_model.proofs.PieceLaws.{placed, piece_is, piece_none}
 use Rattle.m2v_model.proofs.FlowLaws.{read_err, read_last}

@@ -14,7 +14,7 @@ use Rattle.m2v_model.specs.Units.{Units, unit_bits}
 use Rattle.m2v_model.specs.States.{first_or}
 use Rattle.m2v_model.specs.Streams.{Part, after, value_of, sequence, group, picture, matrices, slice, unread_slice, skipped_unit, ending, over, slice_unit, later_unit, known_unit, text_end, onward}
 use Rattle.m2v_model.specs.Pictures.{Store, Pictures, Events, Event, sequence_header, group_header, pictures_in, closed, told_by}
-use Rattle.m2v_model.specs.PieceNotes.{PieceNotes, noted}
+use Rattle.m2v_model.specs.PieceNotes.{noted}
 use Rattle.m2v_model.specs.Decoding.{low_delay_of}
 use Rattle.m2v_model.specs.ByPieces.{Between, behind, unit_read, units_read, after_part}
 use Rattle.m2v_model.proofs.FlowLaws.{read_err, read_more, read_last, unit_less}
@@ -28,7 +28,7 @@ use Rattle.m2v_decoder.specs.declared.course.Course.{Course}
 use Rattle.m2v_decoder.specs.declared.halt.Halt.{Halt}
 use Rattle.m2v_decoder.specs.declared.halt.Halt.TheVariants as halts
 use Rattle.m2v_decoder.specs.Decoding.{Agrees, ShowsFrames, queue_of, decoded_of, dropped_in}
-use Rattle.m2v_decoder.specs.Course.{between_of, FitsOpen, HaveSizes, IsFresh, IsSoundCourse, with_events, Emits, Steps, Rounds, ReadAll, CourseStops}
+use Rattle.m2v_decoder.specs.Course.{between_of, FitsOpen, HaveSizes, IsSoundCourse, with_events, Emits, Steps, Rounds, ReadAll, CourseStops}
 use Rattle.m2v_decoder.proofs.NoteLaws.{notes_same, noted_on}
 use Rattle.m2v_decoder.proofs.Showing.{shows_none, shows_on, dropped-append}
 

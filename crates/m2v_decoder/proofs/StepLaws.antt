@@ -1,6 +1,6 @@
 -- What each part of the stream does to a decoder.
 use Rattle.std.proofs.Common.{◌≡◌, ℕ, ◌+◌, ◌*◌, ◌<◌, ◌≤◌, ◌^◌, ◌/◌, Bool, true, false, List, [], ◌∷◌, ◌++◌, length, Option, Some, None, is_some, option_to_list, Result, Ok, Err, refl, sym, ap, subst, ◌∙◌, arith}
-use Rattle.std.specs.Prelude.{nat_lt, nat_le, nat_eq, if◌then◌else◌, IsSome}
+use Rattle.std.specs.Prelude.{nat_lt, nat_le, if◌then◌else◌, IsSome}
 use Rattle.std.proofs.Math.Nat.{mul-le-mul}
 use Rattle.std.proofs.lemmas.Bool.{lt-ltb, le-leb}
 use Rattle.std.proofs.lemmas.List.{append-nil}
@@ -20,10 +20,10 @@ use Rattle.m2v_model.specs.declared.state.State.{State}
 use Rattle.m2v_model.specs.States.{dims_of, is_frame, opened, picture_rows, slice_setup, after_sequence, after_group, after_picture, after_matrices, after_slice, after_unread_slice, with_slice, is_same_sequence, is_second_field_due, none_waits, first_or}
 use Rattle.m2v_model.specs.declared.fault.FaultKind.{FaultKind}
 use Rattle.m2v_model.specs.Units.{Units, unit_bits, body, of_body, inside}
-use Rattle.m2v_model.specs.Slices.{Slice, slice_at, slice_start, large_in}
+use Rattle.m2v_model.specs.Slices.{Slice, slice_at, slice_start}
 use Rattle.m2v_model.specs.Samples.{put_in_frame, all_painted}
 use Rattle.m2v_model.specs.Streams.{after, sequence, group, picture, matrices, slice, unread_slice, skipped_unit, ending, over, slice_unit, slice_in, read_slice}
-use Rattle.m2v_model.specs.Pictures.{Store, Pictures, Events, Event, sequence_header, group_header, pictures_in, picture_begun, picture_ended, on_frame, slice_painted, sliced, closed}
+use Rattle.m2v_model.specs.Pictures.{Store, Pictures, Events, Event, sequence_header, group_header, pictures_in, picture_begun, picture_ended, on_frame, slice_painted, sliced}
 use Rattle.m2v_model.specs.PieceNotes.{noted}
 use Rattle.m2v_model.specs.Decoding.{low_delay_of}
 use Rattle.m2v_model.proofs.EventLaws.{pictures_in-append}
@@ -35,7 +35,7 @@ use Rattle.m2v_decoder.specs.declared.course.Course.{Course}
 use Rattle.m2v_decoder.specs.Decoding.{decoded_of, dropped_in}
 use Rattle.m2v_decoder.specs.Course.{IsOpen, HasFrame, FitsOpen, HaveSizes, IsFresh, AreSound, IsSoundCourse, with_events, Emits, Steps, Closed, Begun, Painted}
 use Rattle.m2v_decoder.proofs.NoteLaws.{notes_same, noted_on}
-use Rattle.m2v_decoder.proofs.FrameLaws.{sequenced, grouped, loaded, begun, moved, Moved, moves, sliced_sound, unread_sound}
+use Rattle.m2v_decoder.proofs.FrameLaws.{sequenced, grouped, loaded, begun, moved, moves, sliced_sound, unread_sound}
 
 -- ---- the frames on their way stay as they are
 

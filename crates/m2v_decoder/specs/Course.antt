@@ -14,8 +14,8 @@ use Rattle.m2v_model.specs.declared.notes.PictureNote.{PictureNote}
 use Rattle.m2v_model.specs.Units.{Units, unit_bits, body}
 use Rattle.m2v_model.specs.Slices.{Slice, slice_at, large_in}
 use Rattle.m2v_model.specs.Streams.{Part, after}
-use Rattle.m2v_model.specs.States.{dims_of, is_b, drops, opened, is_frame_end, slice_setup, after_end}
-use Rattle.m2v_model.specs.Pictures.{Store, Pictures, Events, pictures_in, picture_of, closed, picture_ended, picture_begun, sliced, told_by, store_after}
+use Rattle.m2v_model.specs.States.{dims_of, is_b, drops, slice_setup, after_end}
+use Rattle.m2v_model.specs.Pictures.{Store, Events, pictures_in, closed, picture_ended, picture_begun, sliced, told_by, store_after}
 use Rattle.m2v_model.specs.Lawful.{sequences_in}
 use Rattle.m2v_model.specs.PieceNotes.{PieceNotes, noted, header_pair, has_group, first_note}
 use Rattle.m2v_model.specs.Decoding.{low_delay_of}

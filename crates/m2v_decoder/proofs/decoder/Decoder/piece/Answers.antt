@@ -1,4 +1,4 @@
-use Rattle.std.proofs.Common.{◌≡◌, ◌+◌, ◌-◌, ◌*◌, ◌≤◌, ℕ, length, refl, ap, sym, ◌∙◌, arith}
+use Rattle.std.proofs.Common.{◌≡◌, ◌+◌, ◌*◌, ◌≤◌, ℕ, length, refl, ap, sym, ◌∙◌, arith}
 use Rattle.m2v_model.specs.Units.{Units}
 use Rattle.m2v_model.specs.Buffering.{before_picture}
 use Rattle.m2v_decoder.specs.declared.course.Course.{Course}
