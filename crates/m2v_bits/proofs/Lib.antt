@@ -5,3 +5,5 @@ pub mod LeafLaws
 pub mod ElementLaws
 pub mod Decisions
 pub mod Units
+pub mod Outputs
+pub mod Texts

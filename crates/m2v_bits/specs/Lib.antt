@@ -3,3 +3,4 @@ pub mod Syntax
 pub mod Leaves
 pub mod Elements
 pub mod Laws
+pub mod Outputs

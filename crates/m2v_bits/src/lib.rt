@@ -4,14 +4,13 @@
 
 mod elements;
 mod low;
+mod output;
 mod reader;
 mod start;
 mod writer;
 
 pub use elements::{check, flag, number};
+pub use output::{BitCount, BitOutput};
 pub use reader::BitReader;
 pub use start::next_start_code;
 pub use writer::BitWriter;
-
-#[cfg(test)]
-mod tests;

@@ -1,5 +1,5 @@
 -- The ranges of numbers.
-use Rattle.std.proofs.Common.{ℕ, ◌+◌, ◌^◌, ◌<◌, ◌≤◌, All, replicate, Result, Ok, Err, ℤ, pos, negsuc, ◌-ℤ◌, arith}
+use Rattle.std.proofs.Common.{◌≡◌, ℕ, ◌+◌, ◌^◌, ◌<◌, ◌≤◌, All, replicate, Result, Ok, Err, ℤ, pos, negsuc, ◌-ℤ◌, arith}
 use Rattle.std.specs.Prelude.{IfOk, unsigned_abs}
 use Rattle.std.proofs.lemmas.Int.{ints, to_z-of_z, fits_signed_from_abs}
 use mir.Syntax.{w32}
@@ -43,11 +43,15 @@ level_fits (pos n) h = record { sfits = omega (arith, ints, h.0, h.1) }
 level_fits (negsuc n) h = record { sfits = omega (arith, ints, h.0, h.1) }
 
 -- the same difference of numbers that were passed
-pub difference_passed : (precision : ℕ) (a b : ℤ) → precision ≤ 3 → IsDc precision a → IsDc precision b
-    → unsigned_abs (to_z w32 (of_z w32 (to_z w32 (of_z w32 a) -ℤ to_z w32 (of_z w32 b)))) < 2 ^ 11
-difference_passed precision a b le p q =
+pub difference_is : (precision : ℕ) (a b : ℤ) → precision ≤ 3 → IsDc precision a → IsDc precision b
+    → to_z w32 (of_z w32 (to_z w32 (of_z w32 a) -ℤ to_z w32 (of_z w32 b))) ≡ a -ℤ b
+difference_is precision a b le p q =
     let small = dc_difference precision a b le p q in
     let fits : SFits w32 (a -ℤ b) = fits_signed_from_abs w32 (a -ℤ b) (omega (arith, small)) in
     let fa = level_fits a (dc_is_level precision a le p) in
     let fb = level_fits b (dc_is_level precision b le q) in
-    rw (to_z-of_z w32 a fa, to_z-of_z w32 b fb, to_z-of_z w32 (a -ℤ b) fits) small
+    rw (to_z-of_z w32 a fa, to_z-of_z w32 b fb) (to_z-of_z w32 (a -ℤ b) fits)
+
+pub difference_passed : (precision : ℕ) (a b : ℤ) → precision ≤ 3 → IsDc precision a → IsDc precision b
+    → unsigned_abs (to_z w32 (of_z w32 (to_z w32 (of_z w32 a) -ℤ to_z w32 (of_z w32 b)))) < 2 ^ 11
+difference_passed precision a b le p q = rw (difference_is precision a b le p q) (dc_difference precision a b le p q)

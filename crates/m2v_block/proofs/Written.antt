@@ -1,5 +1,5 @@
 -- What is written, piece by piece.
-use Rattle.std.proofs.Common.{◌≡◌, ℕ, suc, ◌+◌, ◌*◌, ◌^◌, ◌<◌, ◌≤◌, Bool, true, false, ◌&&◌, List, [], ◌∷◌, ◌++◌, length, drop, get_or, ℤ, pos, refl, sym, ap, ◌∙◌, append_assoc, append-nil, arith, inl, inr}
+use Rattle.std.proofs.Common.{◌≡◌, ℕ, suc, ◌+◌, ◌*◌, ◌^◌, ◌<◌, ◌≤◌, Bool, true, false, ◌&&◌, List, [], ◌∷◌, ◌++◌, length, drop, get_or, ℤ, pos, refl, sym, ap, ◌∙◌, append_assoc, arith, inl, inr}
 use Rattle.std.specs.Prelude.{nat_eq, cond, ◌-ℤ◌, unsigned_abs}
 use Rattle.std.proofs.Math.Seq.{drop-cons}
 use Rattle.std.proofs.lemmas.Bool.{cases_Bool, eq-eqb, ne_eqb}
@@ -79,9 +79,9 @@ level_none first one run n level e none =
     let test : is_zero level ≡ true = eq-eqb (unsigned_abs level) 0 (sym e ∙ none) in
     rw test refl
 
-pub nothing_more : (w text : List Bool) (n x : ℕ) → bits_of n x ≡ text → n ≡ 0 → w ≡ w ++ text
+pub no_text : (text : List Bool) (n x : ℕ) → bits_of n x ≡ text → n ≡ 0 → [] ≡ text
 unfolding bits_of
-nothing_more w text n x e none = sym (append-nil w) ∙ ap (λ (t : List Bool). w ++ t) (sym (ap (λ (k : ℕ). bits_of k x) none) ∙ e)
+no_text text n x e none = sym (ap (λ (k : ℕ). bits_of k x) none) ∙ e
 
 pub level_most : (first one : Bool) (run : ℕ) (level : ℤ) → length (level_text first one run level) ≤ 24
 unfolding level_text
@@ -121,12 +121,11 @@ block_most kind table_one predictor levels le = elim (cases_Bool kind.intra) [
   | inr off ↦ rw off (omega (arith, pairs_most true false 0 levels))
 ]
 
-pub intra_bits_most : (one : Bool) (a b : ℕ) (levels : List ℤ) → length levels ≡ 64 → a ≤ 22 → b ≡ length (pairs_text false one 0 (drop 1 levels)) → a + b ≤ 1538
-intra_bits_most true a b levels len front back = omega (arith, pairs_most false true 0 (drop 1 levels), length-drop 1 levels)
-intra_bits_most false a b levels len front back = omega (arith, pairs_most false false 0 (drop 1 levels), length-drop 1 levels)
-
-pub other_bits_most : (b : ℕ) (levels : List ℤ) → length levels ≡ 64 → b ≡ length (pairs_text true false 0 levels) → b ≤ 1538
-other_bits_most b levels len back = omega (arith, pairs_most true false 0 levels)
+-- the text of an intra block
+pub intra_text : (kind : BlockKind) (table_one : Bool) (d predictor : ℤ) (levels : List ℤ) → kind.intra ≡ true → d ≡ get_or levels 0 (pos 0) -ℤ predictor
+    → dc_text kind.luma d ++ pairs_text false table_one 0 (drop 1 levels) ≡ block_text kind table_one predictor levels
+unfolding block_text
+intra_text kind table_one d predictor levels on e = rw (e, on) refl
 
 -- one level more
 pub next_level : (first one : Bool) (run : ℕ) (levels : List ℤ) (i : ℕ) (level : ℤ) → i < length levels → level ≡ get_or levels i (pos 0)
@@ -140,48 +139,7 @@ pub at_end : (first one : Bool) (run : ℕ) (levels : List ℤ) (i : ℕ) → le
 unfolding pairs_text
 at_end first one run levels i le = rw (drop_all i levels le) refl
 
--- ---- a round of the writer's loop
-
-pub written_more : (first next one : Bool) (run after i : ℕ) (levels : List ℤ) (level : ℤ) (w new total : List Bool) → i < length levels → level ≡ get_or levels i (pos 0)
-    → new ≡ w ++ level_text first one run level → next ≡ (first && is_zero level) → after ≡ run_after run level
-    → w ++ pairs_text first one run (drop i levels) ≡ total → new ++ pairs_text next one after (drop (i + 1) levels) ≡ total
-written_more first next one run after i levels level w new total lt e we ne ae inv =
-    rw (we, ne, ae) (append_assoc w (level_text first one run level) (pairs_text (first && is_zero level) one (run_after run level) (drop (i + 1) levels))
-    ∙ ap (λ (x : List Bool). w ++ x) (sym (next_level first one run levels i level lt e)) ∙ inv)
-
-pub room_more : (first one : Bool) (run i room all : ℕ) (levels : List ℤ) (level : ℤ) (w before text : List Bool) → i < length levels → level ≡ get_or levels i (pos 0)
-    → w ++ pairs_text first one run (drop i levels) ≡ before ++ text → room + length w ≡ all + length before → length text ≤ all → length (level_text first one run level) ≤ room
-room_more first one run i room all levels level w before text lt e inv sum enough =
-    omega (
-      arith,
-      ap length inv,
-      length-append w (pairs_text first one run (drop i levels)),
-      length-append before text,
-      ap length (next_level first one run levels i level lt e),
-      length-append (level_text first one run level) (pairs_text (first && is_zero level) one (run_after run level) (drop (i + 1) levels)),
-    )
-
-pub written_end : (first one : Bool) (run i : ℕ) (levels : List ℤ) (w new total : List Bool) → length levels ≤ i → new ≡ w ++ code_text false one End
-    → w ++ pairs_text first one run (drop i levels) ≡ total → new ≡ total
-written_end first one run i levels w new total le we inv = we ∙ ap (λ (x : List Bool). w ++ x) (sym (at_end first one run levels i le)) ∙ inv
-
-pub room_end : (first one : Bool) (run i room all : ℕ) (levels : List ℤ) (w before text : List Bool) → length levels ≤ i
-    → w ++ pairs_text first one run (drop i levels) ≡ before ++ text → room + length w ≡ all + length before → length text ≤ all → length (code_text false one End) ≤ room
-room_end first one run i room all levels w before text le inv sum enough =
-    omega (arith, ap length inv, length-append w (pairs_text first one run (drop i levels)), length-append before text, ap length (at_end first one run levels i le))
-
-pub room_left : (room all left : ℕ) (w end before text : List Bool) → w ++ end ≡ before ++ text → room + length w ≡ all + length before → left + length end ≡ room → left + length text ≡ all
-room_left room all left w end before text e sum less = omega (arith, ap length e, length-append w end, length-append before text)
-
-pub bits_more : (first next one : Bool) (run after i bits got total : ℕ) (levels : List ℤ) (level : ℤ) → i < length levels → level ≡ get_or levels i (pos 0)
-    → got ≡ length (level_text first one run level) → next ≡ (first && is_zero level) → after ≡ run_after run level
-    → bits + length (pairs_text first one run (drop i levels)) ≡ total → bits + got + length (pairs_text next one after (drop (i + 1) levels)) ≡ total
-bits_more first next one run after i bits got total levels level lt e ge ne ae inv =
-    rw (ne, ae) (omega (arith, ap length (next_level first one run levels i level lt e), length-append (level_text first one run level) (pairs_text (first && is_zero level) one (run_after run level) (drop (i + 1) levels))))
-
-pub bits_end : (first one : Bool) (run i bits got total : ℕ) (levels : List ℤ) → length levels ≤ i → got ≡ length (code_text false one End)
-    → bits + length (pairs_text first one run (drop i levels)) ≡ total → bits + got ≡ total
-bits_end first one run i bits got total levels le ge inv = omega (arith, ap length (at_end first one run levels i le))
-
-pub room_kept : (room all left : ℕ) (w new before text : List Bool) → new ≡ w ++ text → room + length w ≡ all + length before → left + length text ≡ room → left + length new ≡ all + length before
-room_kept room all left w new before text e sum less = omega (arith, ap length e, length-append w text)
+-- the same by what the run and the test are behind it
+pub next_level_is : (first next one : Bool) (run after : ℕ) (levels : List ℤ) (i : ℕ) (level : ℤ) → i < length levels → level ≡ get_or levels i (pos 0) → next ≡ (first && is_zero level) → after ≡ run_after run level
+    → pairs_text first one run (drop i levels) ≡ level_text first one run level ++ pairs_text next one after (drop (i + 1) levels)
+next_level_is first next one run after levels i level lt e ne ae = rw (ne, ae) (next_level first one run levels i level lt e)

@@ -1,9 +1,11 @@
 ghost use Rattle.std.specs.Prelude.{◌≡◌, ℕ, ◌+◌, ◌-◌, ◌<◌, ◌≤◌, ◌^◌, ◌++◌, ℤ, pos, neg_ℤ, ◌≤ℤ◌, length, unsigned_abs};
 ghost use Rattle.m2v_bits.specs.Bits.{bits_of};
+ghost use Rattle.m2v_bits.specs.Outputs.{Gains};
+ghost use Rattle.m2v_vlc.specs.Lookups.{spelled};
 ghost use Rattle.m2v_block.specs.Dc.{dc_text, size_code, size_of, number_of};
 
-use m2v_bits::BitWriter;
-use m2v_vlc::{bits_dc_chroma, bits_dc_luma, write_dc_chroma, write_dc_luma};
+use m2v_bits::{BitOutput, BitWriter};
+use m2v_vlc::{Code, code_dc_chroma, code_dc_luma};
 
 /// The size of a DC difference of this magnitude: how many bits its number has.
 #[inline(always)]
@@ -21,20 +23,30 @@ fn size(magnitude: u32) -> u8
     11
 }
 
-/// Appends the code of a size, by table B.12 for luma and table B.13 for chroma.
+/// The code of a size, by table B.12 for luma and table B.13 for chroma.
 #[inline(always)]
 #[tactic(auto, unfolding(crate::specs::Dc::size_code))]
-fn write_size(luma: bool, size: u8, out: &mut BitWriter)
-    requires known { size < 12 }
-    requires room { length (size_code luma size) ≤ out.old.room }
-    ensures written { out.new.written ≡ out.old.written ++ size_code luma size }
-    ensures room { out.new.room + length (size_code luma size) ≡ out.old.room }
+fn code_of(luma: bool, size: u8) -> Code
+    ensures spelled { spelled result ≡ size_code luma size }
+    ensures width { result.len ≤ 17 }
+    ensures fits { result.number < 2 ^ result.len }
 {
     if luma {
-        write_dc_luma(size, out);
+        code_dc_luma(size)
     } else {
-        write_dc_chroma(size, out);
+        code_dc_chroma(size)
     }
+}
+
+/// Appends the code of a size.
+#[inline(always)]
+#[tactic(auto, using(m2v_bits::proofs::Cursor::lengths))]
+fn put_size<O: BitOutput>(luma: bool, size: u8, out: &mut O)
+    requires { length (size_code luma size) ≤ O.space out.old }
+    ensures { Gains O.took O.space out.old (size_code luma size) out.new }
+{
+    let code = code_of(luma, size);
+    out.append(code.number, code.len);
 }
 
 /// The number of a difference of this size.
@@ -55,38 +67,25 @@ fn number_of(size: u8, difference: i32) -> u32
 
 /// Appends a DC difference within -2047 to 2047: the code of its size, by table B.12 for luma and table B.13 for
 /// chroma, and its number in so many bits (clause 7.2.1).
+#[inline(always)]
 #[tactic(auto, using(m2v_bits::proofs::Cursor::lengths), unfolding(crate::specs::Dc::dc_text))]
+pub fn put_dc<O: BitOutput>(difference: i32, luma: bool, out: &mut O)
+    requires range { unsigned_abs difference < 2 ^ 11 }
+    requires room { length (dc_text luma difference) ≤ O.space out.old }
+    ensures { Gains O.took O.space out.old (dc_text luma difference) out.new }
+{
+    let size = size(difference.unsigned_abs());
+    put_size(luma, size, out);
+    out.append(number_of(size, difference), size);
+}
+
+/// Appends a DC difference within -2047 to 2047: the code of its size, by table B.12 for luma and table B.13 for
+/// chroma, and its number in so many bits (clause 7.2.1).
 pub fn write_dc(difference: i32, luma: bool, out: &mut BitWriter)
     requires range { unsigned_abs difference < 2 ^ 11 }
     requires room { length (dc_text luma difference) ≤ out.old.room }
     ensures written { out.new.written ≡ out.old.written ++ dc_text luma difference }
     ensures room { out.new.room + length (dc_text luma difference) ≡ out.old.room }
 {
-    let size = size(difference.unsigned_abs());
-    write_size(luma, size, out);
-    out.put(number_of(size, difference), size);
-}
-
-/// How many bits the code of a size has.
-#[inline(always)]
-#[tactic(auto, unfolding(crate::specs::Dc::size_code))]
-fn size_bits(luma: bool, size: u8) -> u32
-    ensures { result ≡ length (size_code luma size) }
-{
-    if luma {
-        bits_dc_luma(size)
-    } else {
-        bits_dc_chroma(size)
-    }
-}
-
-/// How many bits a DC difference within -2047 to 2047 takes.
-#[tactic(auto, using(m2v_bits::proofs::Cursor::lengths, crate::proofs::Numbers::dc_length), unfolding(crate::specs::Dc::dc_text))]
-pub fn dc_bits(difference: i32, luma: bool) -> u32
-    requires { unsigned_abs difference < 2 ^ 11 }
-    ensures value { result ≡ length (dc_text luma difference) }
-    ensures most { result ≤ 22 }
-{
-    let size = size(difference.unsigned_abs());
-    size_bits(luma, size) + u32::from(size)
+    put_dc(difference, luma, out);
 }

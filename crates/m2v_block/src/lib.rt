@@ -6,8 +6,6 @@ mod dc;
 mod fault;
 mod laws;
 mod read;
-#[cfg(test)]
-mod tests;
 mod write;
 
 pub use dc::write_dc;

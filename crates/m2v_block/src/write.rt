@@ -1,13 +1,14 @@
 ghost use Rattle.std.specs.Prelude.{◌≡◌, ◌+◌, ◌^◌, ◌<◌, ◌≤◌, ◌++◌, ◌&&◌, nat_eq, Bool, true, false, length, drop, slice_index_or, All, ℤ, pos, unsigned_abs};
 ghost use Rattle.m2v_bits.specs.Syntax.{Spells};
+ghost use Rattle.m2v_bits.specs.Outputs.{Gains};
 ghost use Rattle.m2v_vlc.specs.Lookups.{spelled};
 ghost use Rattle.m2v_quant.specs.Kinds.{IsKind, IsLevel};
 ghost use Rattle.m2v_block.specs.Dc.{dc_text};
 ghost use Rattle.m2v_block.specs.Blocks.{IsDc, block_at, predictor_after};
 ghost use Rattle.m2v_block.specs.Texts.{IsBlock, code_text, twelve, escape_text, pair_text, is_zero, level_text, run_after, pairs_text, block_text};
 
-use crate::dc::{dc_bits, write_dc};
-use m2v_bits::BitWriter;
+use crate::dc::put_dc;
+use m2v_bits::{BitCount, BitOutput, BitWriter};
 use m2v_quant::{BlockKind, Levels};
 use m2v_vlc::{Code, Coefficient, code_coefficient_one, code_coefficient_zero, code_first_zero};
 
@@ -31,22 +32,12 @@ fn code_of(first: bool, one: bool, c: Coefficient) -> Code
 /// Appends a code by the table that holds there.
 #[inline(always)]
 #[tactic(auto, using(m2v_bits::proofs::Cursor::lengths))]
-fn write_code(first: bool, one: bool, c: Coefficient, out: &mut BitWriter)
-    requires { length (code_text first one c) ≤ out.old.room }
-    ensures written { out.new.written ≡ out.old.written ++ code_text first one c }
-    ensures room { out.new.room + length (code_text first one c) ≡ out.old.room }
+fn put_code<O: BitOutput>(first: bool, one: bool, c: Coefficient, out: &mut O)
+    requires { length (code_text first one c) ≤ O.space out.old }
+    ensures { Gains O.took O.space out.old (code_text first one c) out.new }
 {
     let code = code_of(first, one, c);
-    out.put(code.number, code.len);
-}
-
-/// How many bits a code has by the table that holds there, 0 where it has none.
-#[inline(always)]
-#[tactic(auto, using(m2v_bits::proofs::Cursor::lengths))]
-fn code_bits(first: bool, one: bool, c: Coefficient) -> u32
-    ensures { result ≡ length (code_text first one c) }
-{
-    u32::from(code_of(first, one, c).len)
+    out.append(code.number, code.len);
 }
 
 /// A run and a level.
@@ -126,28 +117,16 @@ fn level_code(first: bool, one: bool, run: u8, level: i32) -> Code
 /// Appends a level behind a run of zeros, where it is not 0.
 #[inline(always)]
 #[tactic(auto, using(m2v_bits::proofs::Cursor::lengths))]
-fn write_level(first: bool, one: bool, run: u8, level: i32, out: &mut BitWriter)
+fn put_level<O: BitOutput>(first: bool, one: bool, run: u8, level: i32, out: &mut O)
     requires run { run < 64 }
     requires level { IsLevel level }
-    requires room { length (level_text first one run level) ≤ out.old.room }
-    ensures written { out.new.written ≡ out.old.written ++ level_text first one run level }
-    ensures room { out.new.room + length (level_text first one run level) ≡ out.old.room }
+    requires room { length (level_text first one run level) ≤ O.space out.old }
+    ensures { Gains O.took O.space out.old (level_text first one run level) out.new }
 {
     let code = level_code(first, one, run, level);
     if code.len != 0 {
-        out.put(code.number, code.len);
+        out.append(code.number, code.len);
     }
-}
-
-/// How many bits a level takes behind a run of zeros.
-#[inline(always)]
-#[tactic(auto, using(m2v_bits::proofs::Cursor::lengths))]
-fn level_bits(first: bool, one: bool, run: u8, level: i32) -> u32
-    requires run { run < 64 }
-    requires level { IsLevel level }
-    ensures { result ≡ length (level_text first one run level) }
-{
-    u32::from(level_code(first, one, run, level).len)
 }
 
 /// The run behind a level.
@@ -174,48 +153,51 @@ fn is_first(first: bool, level: i32) -> bool
 }
 
 /// Appends the levels from a place of the scan on, and the end of the block.
-#[tactic(auto, using(m2v_bits::proofs::Cursor::lengths))]
-fn write_pairs(levels: &Levels, from: u8, first: bool, one: bool, out: &mut BitWriter)
+#[inline]
+fn put_pairs<O: BitOutput>(levels: &Levels, from: u8, first: bool, one: bool, out: &mut O)
     requires from { from ≤ 64 }
     requires levels { All IsLevel levels.now.at }
-    requires room { length (pairs_text first one 0 (drop from levels.now.at)) ≤ out.old.room }
-    ensures written { out.new.written ≡ out.old.written ++ pairs_text first one 0 (drop from levels.now.at) }
-    ensures room { out.new.room + length (pairs_text first one 0 (drop from levels.now.at)) ≡ out.old.room }
+    requires room { length (pairs_text first one 0 (drop from levels.now.at)) ≤ O.space out.old }
+    ensures { Gains O.took O.space out.old (pairs_text first one 0 (drop from levels.now.at)) out.new }
 {
     let mut none = first;
     let mut run = 0u8;
     for i in from..64u8 {
         let level = levels.at[i as usize];
-        write_level(none, one, run, level, out);
+        put_level(none, one, run, level, out);
         none = is_first(none, level);
         run = run_after(run, level);
     }
-    write_code(false, one, Coefficient::End, out);
+    put_code(false, one, Coefficient::End, out);
 }
 
-/// How many bits the levels from a place of the scan on take, with the end of the block.
-fn pairs_bits(levels: &Levels, from: u8, first: bool, one: bool) -> u32
-    requires from { from ≤ 64 }
-    requires levels { All IsLevel levels.now.at }
-    ensures value { result ≡ length (pairs_text first one 0 (drop from levels.now.at)) }
-    ensures most { result ≤ 1553 }
+/// Appends a block behind the DC predictor.
+#[inline(always)]
+#[tactic(auto, unfolding(crate::specs::Texts::block_text))]
+fn put_block<O: BitOutput>(
+    levels: &Levels,
+    kind: &BlockKind,
+    table_one: bool,
+    dc_pred: i32,
+    out: &mut O,
+)
+    requires kind { IsKind kind.now }
+    requires levels { IsBlock kind.now levels.now.at }
+    requires predictor { kind.now.intra ≡ true → IsDc kind.now.precision dc_pred }
+    requires room { length (block_text kind.now table_one dc_pred levels.now.at) ≤ O.space out.old }
+    ensures { Gains O.took O.space out.old (block_text kind.now table_one dc_pred levels.now.at) out.new }
 {
-    let mut none = first;
-    let mut run = 0u8;
-    let mut bits = 0u32;
-    for i in from..64u8 {
-        let level = levels.at[i as usize];
-        bits += level_bits(none, one, run, level);
-        none = is_first(none, level);
-        run = run_after(run, level);
+    if kind.intra {
+        put_dc(levels.at[0] - dc_pred, kind.luma, out);
+        put_pairs(levels, 1, false, table_one, out);
+    } else {
+        put_pairs(levels, 0, true, false, out);
     }
-    bits + code_bits(false, one, Coefficient::End)
 }
 
 /// Appends a block (clauses 6.2.6 and 7.2) of 64 levels in scan order: an intra DC by its difference to the predictor,
 /// each pair by its code, or by escape where its table has none, and the end of the block. `table_one` is
 /// intra_vlc_format; `dc_pred` becomes the DC level of an intra block, and stays at any other.
-#[tactic(auto, using(m2v_bits::proofs::Cursor::lengths), unfolding(crate::specs::Texts::block_text))]
 pub fn write_block(
     levels: &Levels,
     kind: &BlockKind,
@@ -232,18 +214,13 @@ pub fn write_block(
     ensures predictor { dc_pred.new ≡ predictor_after kind.now dc_pred.old levels.now.at }
     ensures spells { Spells (block_at kind.now table_one dc_pred.old) levels.now.at (block_text kind.now table_one dc_pred.old levels.now.at) }
 {
+    put_block(levels, kind, table_one, *dc_pred, out);
     if kind.intra {
-        let dc = levels.at[0];
-        write_dc(dc - *dc_pred, kind.luma, out);
-        write_pairs(levels, 1, false, table_one, out);
-        *dc_pred = dc;
-    } else {
-        write_pairs(levels, 0, true, false, out);
+        *dc_pred = levels.at[0];
     }
 }
 
 /// How many bits `write_block` takes for a block, at most 1538: 64 escaped pairs, and the end. Nothing is written.
-#[tactic(auto, using(m2v_bits::proofs::Cursor::lengths), unfolding(crate::specs::Texts::block_text))]
 pub fn block_bits(levels: &Levels, kind: &BlockKind, table_one: bool, dc_pred: i32) -> u32
     requires kind { IsKind kind.now }
     requires levels { IsBlock kind.now levels.now.at }
@@ -251,9 +228,9 @@ pub fn block_bits(levels: &Levels, kind: &BlockKind, table_one: bool, dc_pred: i
     ensures value { result ≡ length (block_text kind.now table_one dc_pred levels.now.at) }
     ensures most { result ≤ 1538 }
 {
-    if kind.intra {
-        dc_bits(levels.at[0] - dc_pred, kind.luma) + pairs_bits(levels, 1, false, table_one)
-    } else {
-        pairs_bits(levels, 0, true, false)
-    }
+    // 64 levels: the count holds their bits
+    let _levels = &levels.at;
+    let mut count = BitCount { bits: 0 };
+    put_block(levels, kind, table_one, dc_pred, &mut count);
+    count.bits
 }

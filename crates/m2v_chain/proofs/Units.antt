@@ -7,7 +7,7 @@ use Rattle.std.proofs.lemmas.List.{length-append, length-replicate, append-nil}
 use Rattle.std.proofs.lemmas.List.Elements.{All-head, All-tail, All-nil, All-cons, All-append}
 use Rattle.std.proofs.Math.Nat.{mod-eq_of_lt}
 use Rattle.m2v_bits.specs.Bits.{bits_of, number, bits, packed, start_code, to_edge, unit}
-use Rattle.m2v_bits.proofs.Bits.{length-bits_of, number-bits_of, bits_of-number}
+use Rattle.m2v_bits.proofs.Bits.{number-bits_of, bits_of-number}
 use Rattle.m2v_chain.specs.Texts.{Calm, ended, unit_bytes, IsCalm, IsTidy, Packs}
 use Rattle.m2v_bits.proofs.Units.{start_length, unit_edge, packed-append}
 use Rattle.m2v_chain.proofs.Edges.{packed_none}

@@ -1,10 +1,11 @@
 -- The first of least score among candidates.
-use Rattle.std.proofs.Common.{◌≡◌, ℕ, ◌≤◌, ◌<◌, Bool, true, false, All, List, [], ◌∷◌, filter, refl, sym, subst, arith}
-use Rattle.std.specs.Prelude.{nat_le, nat_lt, if◌then◌else◌}
+use Rattle.std.proofs.Common.{◌≡◌, ◌≤◌, Bool, true, false, All, ◌∷◌, filter, refl, subst}
+use Rattle.std.specs.Prelude.{nat_le, if◌then◌else◌}
 use Rattle.std.proofs.lemmas.Bool.{and_parts, le-leb, leb-true}
-use Rattle.std.proofs.lemmas.List.Elements.{All-cons, All-head, All-tail, All-append, All-weaker, filter_passes}
-use Rattle.m2v_search.specs.Least.{least, better, IsFirstLeast}
-use Rattle.m2v_search.proofs.Least.{first_least}
+use Rattle.std.proofs.lemmas.List.Elements.{All-tail, filter_passes}
+use Rattle.m2v_search.specs.Least.{IsFirstLeast}
+use Rattle.m2v_search.proofs.Least.{first_least, none_less}
+use Rattle.m2v_search.proofs.Products.{least_in}
 use Rattle.m2v_choose.specs.Decisions.{Decision, Candidate}
 use Rattle.m2v_choose.specs.Candidates.{hold, others}
 use Rattle.m2v_choose.specs.Choice.{bits_taken, most_bits, score, fits, candidates, choice_of}
@@ -16,22 +17,7 @@ pub either : {A : Type 0} (P : A → Type 0) (b : Bool) (x y : A) → P x → P 
 either P true x y p q = p
 either P false x y p q = q
 
--- ---- the first of least cost
-
--- what holds of all holds of it
-pub least_in : {A : Type 0} (P : A → Type 0) (cost : A → ℕ) (best : A) (xs : List A) → P best → All P xs → P (least cost best xs)
-unfolding least better
-least_in P cost best [] p h = p
-least_in P cost best (x ∷ xs) p h = least_in P cost (better cost best x) xs (either P (nat_lt (cost x) (cost best)) x best (All-head P x xs h) p) (All-tail P x xs h)
-
-module _ {A : Type 0} (cost : A → ℕ) (xs : List A) (x : A) where
-  -- none costs less
-  pub none_less : IsFirstLeast cost xs x → All (λ y. cost x ≤ cost y) xs
-  none_less h =
-      subst (λ (ys : List A). All (λ y. cost x ≤ cost y) ys) (sym h.there)
-      (All-append (λ y. cost x ≤ cost y) h.before (x ∷ h.behind)
-      (All-weaker (λ y. cost x < cost y) (λ y. cost x ≤ cost y) (λ y k. omega (arith, k)) h.before h.more)
-      (All-cons (λ y. cost x ≤ cost y) x h.behind (omega arith) h.least))
+-- ---- the first of least score
 
 chosen_all : (d : Decision) → IsFirstLeast (score d) (hold d ∷ filter (fits d) (others d)) (choice_of d)
 unfolding choice_of

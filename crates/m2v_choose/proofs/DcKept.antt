@@ -16,8 +16,9 @@ use Rattle.m2v_macroblock.specs.Conditions.{AreDc}
 use Rattle.m2v_choose.specs.Decisions.{Decision, Candidate, Prediction, Coding, skipped, written, no_levels, levels_by, intra_syntax, uncoded_syntax, coded_syntax}
 use Rattle.m2v_choose.specs.Candidates.{held_intra, held_levels, hold, still_prediction, may_skip, codings, predictions, intra_by, uncoded_by, coded_by, has_block, by_prediction, others}
 use Rattle.m2v_choose.specs.Choice.{score, fits, choice_of, state_behind}
-use Rattle.m2v_choose.proofs.Chosen.{either, least_in}
-use Rattle.m2v_choose.proofs.Reached.{flat_all}
+use Rattle.m2v_search.proofs.Products.{least_in}
+use Rattle.m2v_choose.proofs.Chosen.{either}
+use Rattle.m2v_search.proofs.Reached.{flat_all}
 
 -- what holds of each element
 all_of : {X : Type 0} (P : X → Type 0) → ((x : X) → P x) → (xs : List X) → All P xs

@@ -26,8 +26,9 @@ use Rattle.m2v_choose.specs.Decisions.{Decision, Candidate, Prediction, Coding, 
 use Rattle.m2v_choose.specs.Candidates.{selected, vector_for, sad_for, from_field, plain_direction, field_direction, plain_form, prediction, predictions_by, zero_prediction, predictions, still_vector, still_prediction, held_intra, held_levels, hold, may_skip, codings_at, codings, second_q, intra_by, uncoded_by, coded_by, has_block, by_prediction, others}
 use Rattle.m2v_choose.specs.Choice.{score, fits, choice_of, state_behind}
 use Rattle.m2v_choose.specs.Own.{AreNear, IsCode, IsOwnState, AreLimits}
-use Rattle.m2v_choose.proofs.Chosen.{either, least_in}
-use Rattle.m2v_choose.proofs.Reached.{IsUpTo, IsWithin, vector_within, flat_all}
+use Rattle.m2v_search.proofs.Products.{least_in}
+use Rattle.m2v_choose.proofs.Chosen.{either}
+use Rattle.m2v_search.proofs.Reached.{IsUpTo, IsWithin, vector_within, flat_all}
 
 -- ---- predictors
 

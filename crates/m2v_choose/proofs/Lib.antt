@@ -1,7 +1,6 @@
 pub mod Chosen
 pub mod HeldParts
 pub mod Held
-pub mod Reached
 pub mod Kept
 pub mod OwnReady
 pub mod DcKept

@@ -1,5 +1,4 @@
 pub mod Answers
-pub mod Chain
 pub mod Earlier
 pub mod Good
 pub mod Learns

@@ -1,5 +1,4 @@
 pub mod Book
-pub mod Chain
 pub mod Core
 pub mod Earlier
 pub mod Lists

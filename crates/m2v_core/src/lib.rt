@@ -12,8 +12,6 @@ mod laws;
 mod machine;
 mod needs;
 mod published;
-#[cfg(test)]
-mod tests;
 
 pub use book::{JobBook, Memory};
 pub use event::{Answer, Event, StepFault};

@@ -14,7 +14,7 @@ use Rattle.m2v_vlc.proofs.MbTypes.{type_i_length}
 use Rattle.m2v_block.specs.Dc.{dc_text}
 use Rattle.m2v_block.proofs.Numbers.{dc_length}
 use Rattle.m2v_plane.specs.Samples.{Samples}
-use Rattle.m2v_chain.proofs.Edges.{texts_more, texts_most}
+use Rattle.m2v_bits.proofs.Texts.{texts_more, texts_most}
 use Rattle.m2v_flat.specs.Flat.{level, predictor, block_text, blocks_text, end_of_block, macroblock_text, row_text, slice_unit, slices_units}
 
 pub block_length : (frame : Samples) (row column block : ℕ) → length (block_text frame row column block) ≤ 24

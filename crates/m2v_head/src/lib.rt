@@ -23,5 +23,3 @@ pub use picture::{PictureExtension, PictureInfo};
 pub use sequence::{SequenceExtension, SequenceInfo};
 pub use slice::SliceInfo;
 
-#[cfg(test)]
-mod tests;

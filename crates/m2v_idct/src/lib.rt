@@ -8,8 +8,6 @@ mod forward_dct;
 mod inverse_dct;
 mod products;
 mod terms;
-#[cfg(test)]
-mod tests;
 
 pub use forward_dct::{forward, forward_dc};
 pub use inverse_dct::{inverse, inverse_in_place};

@@ -4,8 +4,6 @@
 mod difference;
 mod lanes;
 mod mean;
-#[cfg(test)]
-mod tests;
 mod window;
 
 pub use difference::{sad16, sad16_until};

@@ -9,8 +9,6 @@ mod laws;
 mod modes;
 mod read;
 mod state;
-#[cfg(test)]
-mod tests;
 mod values;
 mod vectors;
 mod write;

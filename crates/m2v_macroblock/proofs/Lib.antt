@@ -1,4 +1,3 @@
 pub mod KindLaws
 pub mod DcLaws
 pub mod DualLaws
-pub mod BlockTexts

@@ -4,8 +4,6 @@
 
 mod blocks;
 mod modes;
-#[cfg(test)]
-mod tests;
 mod write;
 
 pub use blocks::{dc_after, kind_for, kinds};

@@ -7,8 +7,8 @@ use Rattle.std.proofs.lemmas.List.Elements.{filter-append, All-nil, All-cons, Al
 use Rattle.std.proofs.lemmas.Grind.{flat_map-append}
 use Rattle.std.proofs.lemmas.List.FromFn.{length-range_with_len}
 use Rattle.m2v_order.specs.Coding.{frames_between, in_order}
-use Rattle.m2v_order.specs.Groups.{behind}
-use Rattle.m2v_order.proofs.Orders.{range_append, frames_split, frames_one, in_order-append, behind-append}
+use Rattle.m2v_order.specs.Groups.{past_last}
+use Rattle.m2v_order.proofs.Orders.{range_append, frames_split, frames_one, in_order-append, past_last-append}
 
 -- below or equal, and not equal
 lt_or_is : (i n : ℕ) → i < n + 1 → (i ≡ n → ⊥) → i < n
@@ -61,102 +61,102 @@ module _ (p : ℕ → Bool) (from : ℕ) where
   upto_no : (n : ℕ) → p (from + n) ≡ false → upto (suc n) ≡ upto n
   upto_no n is = upto_more n ∙ rw is (append-nil (upto n))
 
-  behind_yes : (n : ℕ) → p (from + n) ≡ true → behind from (upto (suc n)) ≡ from + n + 1
-  unfolding behind
-  behind_yes n is = rw (upto_yes n is, behind-append from (upto n) ((from + n) ∷ [])) refl
+  past_last_yes : (n : ℕ) → p (from + n) ≡ true → past_last from (upto (suc n)) ≡ from + n + 1
+  unfolding past_last
+  past_last_yes n is = rw (upto_yes n is, past_last-append from (upto n) ((from + n) ∷ [])) refl
 
-  behind_no : (n : ℕ) → p (from + n) ≡ false → behind from (upto (suc n)) ≡ behind from (upto n)
-  behind_no n is = ap (behind from) (upto_no n is)
+  past_last_no : (n : ℕ) → p (from + n) ≡ false → past_last from (upto (suc n)) ≡ past_last from (upto n)
+  past_last_no n is = ap (past_last from) (upto_no n is)
 
   order_yes : (n : ℕ) → p (from + n) ≡ true
-      → in_order from (upto (suc n)) ≡ in_order from (upto n) ++ ((from + n) ∷ frames_between (behind from (upto n)) (from + n))
+      → in_order from (upto (suc n)) ≡ in_order from (upto n) ++ ((from + n) ∷ frames_between (past_last from (upto n)) (from + n))
   unfolding in_order
   order_yes n is =
-      rw (upto_yes n is, in_order-append from (upto n) ((from + n) ∷ []), append-nil (frames_between (behind from (upto n)) (from + n))) refl
+      rw (upto_yes n is, in_order-append from (upto n) ((from + n) ∷ []), append-nil (frames_between (past_last from (upto n)) (from + n))) refl
 
   order_no : (n : ℕ) → p (from + n) ≡ false → in_order from (upto (suc n)) ≡ in_order from (upto n)
   order_no n is = ap (in_order from) (upto_no n is)
 
   -- the frame behind the last anchor is among these or right behind them, and none between is an anchor
-  pub record Behind (n : ℕ) : Type 0 where
-    pub low : from ≤ behind from (upto n)
-    pub high : behind from (upto n) ≤ from + n
-    pub clear : filter p (frames_between (behind from (upto n)) (from + n)) ≡ []
+  pub record PastLast (n : ℕ) : Type 0 where
+    pub low : from ≤ past_last from (upto n)
+    pub high : past_last from (upto n) ≤ from + n
+    pub clear : filter p (frames_between (past_last from (upto n)) (from + n)) ≡ []
 
-  behind_step : (n : ℕ) (b : Bool) → p (from + n) ≡ b → Behind n → Behind (suc n)
-  behind_step n true is rec =
-      let e = behind_yes n is in
+  past_last_step : (n : ℕ) (b : Bool) → p (from + n) ≡ b → PastLast n → PastLast (suc n)
+  past_last_step n true is rec =
+      let e = past_last_yes n is in
       let d : from + suc n - (from + n + 1) ≡ 0 = omega arith in
       record { low = omega (arith, e); high = omega (arith, e); clear = rw (e, d) refl }
-  behind_step n false is rec =
-      let e = behind_no n is in
+  past_last_step n false is rec =
+      let e = past_last_no n is in
       let low = rec.low in
       let high = rec.high in
-      let more = frames_split (behind from (upto n)) (from + n) (from + suc n) high (omega arith) in
+      let more = frames_split (past_last from (upto n)) (from + n) (from + suc n) high (omega arith) in
       let one : from + suc n - (from + n) ≡ 1 = omega arith in
       record {
         low = omega (arith, e);
         high = omega (arith, e);
-        clear = rw (e, more, filter-append p (frames_between (behind from (upto n)) (from + n)) (frames_between (from + n) (from + suc n)), rec.clear, one, is) refl;
+        clear = rw (e, more, filter-append p (frames_between (past_last from (upto n)) (from + n)) (frames_between (from + n) (from + suc n)), rec.clear, one, is) refl;
       }
 
-  pub behind_is : (n : ℕ) → Behind n
-  unfolding behind
-  behind_is zero =
+  pub past_last_is : (n : ℕ) → PastLast n
+  unfolding past_last
+  past_last_is zero =
       let e : from + zero - from ≡ 0 = omega arith in
       record { low = omega arith; high = omega arith; clear = rw e refl }
-  behind_is (suc n) = behind_step n (p (from + n)) refl (behind_is n)
+  past_last_is (suc n) = past_last_step n (p (from + n)) refl (past_last_is n)
 
   -- the last anchor is at an anchor or behind it
   past_step : (n i : ℕ) (b : Bool) → p (from + n) ≡ b → from ≤ i → i < from + suc n → p i ≡ true
-      → (i < from + n → i < behind from (upto n)) → i < behind from (upto (suc n))
-  past_step n i true is low high at rec = let e = behind_yes n is in omega (arith, e)
+      → (i < from + n → i < past_last from (upto n)) → i < past_last from (upto (suc n))
+  past_step n i true is low high at rec = let e = past_last_yes n is in omega (arith, e)
   past_step n i false is low high at rec =
-      let e = behind_no n is in
+      let e = past_last_no n is in
       let before : i < from + n =
       lt_or_is i (from + n) (omega arith) (λ same. absurd (let t : true ≡ false = sym at ∙ (ap p same ∙ is) in cc)) in
       omega (arith, e, rec before)
 
-  pub past : (n i : ℕ) → from ≤ i → i < from + n → p i ≡ true → i < behind from (upto n)
+  pub past : (n i : ℕ) → from ≤ i → i < from + n → p i ≡ true → i < past_last from (upto n)
   past zero i low high at = absurd (omega arith)
   past (suc n) i low high at = past_step n i (p (from + n)) refl low high at (λ h. past n i low h at)
 
-  order_within : (n : ℕ) (b : Bool) → p (from + n) ≡ b → All (Between from (behind from (upto n))) (in_order from (upto n))
-      → All (Between from (behind from (upto (suc n)))) (in_order from (upto (suc n)))
+  order_within : (n : ℕ) (b : Bool) → p (from + n) ≡ b → All (Between from (past_last from (upto n))) (in_order from (upto n))
+      → All (Between from (past_last from (upto (suc n)))) (in_order from (upto (suc n)))
   order_within n true is rec =
-      let facts = behind_is n in
+      let facts = past_last_is n in
       let low = facts.low in
       let high = facts.high in
-      let old = behind from (upto n) in
+      let old = past_last from (upto n) in
       let d = from + n in
       let P = Between from (d + 1) in
-      rw (behind_yes n is, order_yes n is)
+      rw (past_last_yes n is, order_yes n is)
       (All-append P (in_order from (upto n)) (d ∷ frames_between old d)
       (All-weaker (Between from old) P (λ x h. (h.0, omega (arith, h.1))) (in_order from (upto n)) rec)
       (All-cons P d (frames_between old d) (omega arith, omega arith)
       (All-weaker (Between old (old + (d - old))) P (λ x h. (omega (arith, h.0), omega (arith, h.1))) (frames_between old d) (range_within old (d - old)))))
-  order_within n false is rec = rw (behind_no n is, order_no n is) rec
+  order_within n false is rec = rw (past_last_no n is, order_no n is) rec
 
   -- all frames in coding order lie between the first one and the last anchor
-  pub within : (n : ℕ) → All (Between from (behind from (upto n))) (in_order from (upto n))
+  pub within : (n : ℕ) → All (Between from (past_last from (upto n))) (in_order from (upto n))
   unfolding in_order
-  within zero = All-nil (Between from (behind from (upto zero)))
+  within zero = All-nil (Between from (past_last from (upto zero)))
   within (suc n) = order_within n (p (from + n)) refl (within n)
 
-  count_step : (n : ℕ) (b : Bool) → p (from + n) ≡ b → length (in_order from (upto n)) + from ≡ behind from (upto n)
-      → length (in_order from (upto (suc n))) + from ≡ behind from (upto (suc n))
+  count_step : (n : ℕ) (b : Bool) → p (from + n) ≡ b → length (in_order from (upto n)) + from ≡ past_last from (upto n)
+      → length (in_order from (upto (suc n))) + from ≡ past_last from (upto (suc n))
   count_step n true is rec =
-      let old = behind from (upto n) in
+      let old = past_last from (upto n) in
       let d = from + n in
-      let high = (behind_is n).high in
+      let high = (past_last_is n).high in
       let sum = length-append (in_order from (upto n)) (d ∷ frames_between old d) in
       let between = length-range_with_len old (d - old) in
-      rw (behind_yes n is, order_yes n is) (omega (arith, rec, sum, between, high))
-  count_step n false is rec = rw (behind_no n is, order_no n is) rec
+      rw (past_last_yes n is, order_yes n is) (omega (arith, rec, sum, between, high))
+  count_step n false is rec = rw (past_last_no n is, order_no n is) rec
 
   -- each frame up to the last anchor stands once
-  pub order_count : (n : ℕ) → length (in_order from (upto n)) + from ≡ behind from (upto n)
-  unfolding in_order behind
+  pub order_count : (n : ℕ) → length (in_order from (upto n)) + from ≡ past_last from (upto n)
+  unfolding in_order past_last
   order_count zero = omega arith
   order_count (suc n) = count_step n (p (from + n)) refl (order_count n)
 
@@ -172,32 +172,32 @@ module _ (p : ℕ → Bool) (from : ℕ) where
         (on_others o xs (All-tail (λ i. p i ≡ false) x xs each))
 
     last_step : (n : ℕ) (b : Bool) → p (from + n) ≡ b → (o : Option ℕ)
-        → (from < behind from (upto n) → last o (flat_map f (in_order from (upto n))) ≡ Some (behind from (upto n) - 1))
-        → from < behind from (upto (suc n)) → last o (flat_map f (in_order from (upto (suc n)))) ≡ Some (behind from (upto (suc n)) - 1)
+        → (from < past_last from (upto n) → last o (flat_map f (in_order from (upto n))) ≡ Some (past_last from (upto n) - 1))
+        → from < past_last from (upto (suc n)) → last o (flat_map f (in_order from (upto (suc n)))) ≡ Some (past_last from (upto (suc n)) - 1)
     last_step n true is o rec some =
         let old = in_order from (upto n) in
         let d = from + n in
-        let between = frames_between (behind from (upto n)) d in
+        let between = frames_between (past_last from (upto n)) d in
         let one : d + 1 - 1 ≡ d = omega arith in
-        rw (behind_yes n is, order_yes n is, one, flat_map-append f old (d ∷ between), on_more o (flat_map f old) (flat_map f (d ∷ between)), on_more (last o (flat_map f old)) (f d) (flat_map f between), on_anchor (last o (flat_map f old)) d is)
-        (on_others (Some d) between (none_pass p (behind from (upto n)) (d - behind from (upto n)) (behind_is n).clear))
+        rw (past_last_yes n is, order_yes n is, one, flat_map-append f old (d ∷ between), on_more o (flat_map f old) (flat_map f (d ∷ between)), on_more (last o (flat_map f old)) (f d) (flat_map f between), on_anchor (last o (flat_map f old)) d is)
+        (on_others (Some d) between (none_pass p (past_last from (upto n)) (d - past_last from (upto n)) (past_last_is n).clear))
     last_step n false is o rec some =
-        rw (behind_no n is, order_no n is) (rec (subst (λ b. from < b) (behind_no n is) some))
+        rw (past_last_no n is, order_no n is) (rec (subst (λ b. from < b) (past_last_no n is) some))
 
     -- the last anchor stands right before the frame behind it
-    pub last_is : (n : ℕ) (o : Option ℕ) → from < behind from (upto n) → last o (flat_map f (in_order from (upto n))) ≡ Some (behind from (upto n) - 1)
-    unfolding behind
+    pub last_is : (n : ℕ) (o : Option ℕ) → from < past_last from (upto n) → last o (flat_map f (in_order from (upto n))) ≡ Some (past_last from (upto n) - 1)
+    unfolding past_last
     last_is zero o some = absurd (omega arith)
     last_is (suc n) o some = last_step n (p (from + n)) refl o (last_is n o) some
 
 -- the coding order of frames, cut behind the last anchor below a frame
 pub split_order : (p : ℕ → Bool) (first m c : ℕ) → first ≤ m → m ≤ c
-    → (let b = behind first (filter p (frames_between first m)) in
+    → (let b = past_last first (filter p (frames_between first m)) in
     in_order first (filter p (frames_between first c)) ≡ in_order first (filter p (frames_between first m)) ++ in_order b (filter p (frames_between b c)))
 split_order p first m c low high =
     let there : first + (m - first) ≡ m = omega arith in
-    let facts = behind_is p first (m - first) in
-    let b = behind first (filter p (frames_between first m)) in
+    let facts = past_last_is p first (m - first) in
+    let b = past_last first (filter p (frames_between first m)) in
     let up : b ≤ m = omega (arith, facts.high) in
     let clear : filter p (frames_between b m) ≡ [] = subst (λ x. filter p (frames_between b x) ≡ []) there facts.clear in
     let rest : filter p (frames_between b c) ≡ filter p (frames_between m c) =

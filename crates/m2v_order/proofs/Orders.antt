@@ -6,7 +6,7 @@ use Rattle.std.proofs.lemmas.List.{append-nil, flat_map_more}
 use Rattle.std.proofs.lemmas.List.Elements.{filter-append}
 use Rattle.std.proofs.lemmas.Grind.{flat_map-append}
 use Rattle.m2v_order.specs.Coding.{frames_between, in_order}
-use Rattle.m2v_order.specs.Groups.{behind}
+use Rattle.m2v_order.specs.Groups.{past_last}
 
 pub range_append : (a m n : ℕ) → range_with_len a (m + n) ≡ range_with_len a m ++ range_with_len (a + m) n
 range_append a zero n =
@@ -43,22 +43,22 @@ pub filter_more : (p : ℕ → Bool) (from d : ℕ) → from ≤ d
 filter_more p from d low = rw (frames_more from d low) (filter-append p (frames_between from d) (d ∷ []))
 
 -- coding order in two parts
-pub in_order-append : (from : ℕ) (first more : List ℕ) → in_order from (first ++ more) ≡ in_order from first ++ in_order (behind from first) more
-unfolding in_order behind
+pub in_order-append : (from : ℕ) (first more : List ℕ) → in_order from (first ++ more) ≡ in_order from first ++ in_order (past_last from first) more
+unfolding in_order past_last
 in_order-append from [] more = refl
 in_order-append from (a ∷ first) more =
     ap (λ xs. a ∷ xs)
     (ap (λ xs. frames_between from a ++ xs) (in_order-append (a + 1) first more)
-    ∙ sym (append_assoc (frames_between from a) (in_order (a + 1) first) (in_order (behind (a + 1) first) more)))
+    ∙ sym (append_assoc (frames_between from a) (in_order (a + 1) first) (in_order (past_last (a + 1) first) more)))
 
-pub behind-append : (from : ℕ) (first more : List ℕ) → behind from (first ++ more) ≡ behind (behind from first) more
-unfolding behind
-behind-append from [] more = refl
-behind-append from (a ∷ first) more = behind-append (a + 1) first more
+pub past_last-append : (from : ℕ) (first more : List ℕ) → past_last from (first ++ more) ≡ past_last (past_last from first) more
+unfolding past_last
+past_last-append from [] more = refl
+past_last-append from (a ∷ first) more = past_last-append (a + 1) first more
 
-behind_one : (from d : ℕ) → behind from (d ∷ []) ≡ d + 1
-unfolding behind
-behind_one from d = refl
+past_last_one : (from d : ℕ) → past_last from (d ∷ []) ≡ d + 1
+unfolding past_last
+past_last_one from d = refl
 
 order_one : (from d : ℕ) → in_order from (d ∷ []) ≡ d ∷ frames_between from d
 unfolding in_order
@@ -67,22 +67,22 @@ order_one from d = ap (λ xs. d ∷ xs) (append-nil (frames_between from d))
 -- an anchor more
 pub anchor_more : {A : Type 0} (f : ℕ → List A) (p : ℕ → Bool) (first d : ℕ) → first ≤ d → p d ≡ true
     → flat_map f (in_order first (filter p (frames_between first (d + 1))))
-    ≡ (flat_map f (in_order first (filter p (frames_between first d))) ++ f d) ++ flat_map f (frames_between (behind first (filter p (frames_between first d))) d)
+    ≡ (flat_map f (in_order first (filter p (frames_between first d))) ++ f d) ++ flat_map f (frames_between (past_last first (filter p (frames_between first d))) d)
 anchor_more f p first d low is =
     let before = filter p (frames_between first d) in
     rw (
       filter_more p first d low,
       is,
       in_order-append first before (d ∷ []),
-      order_one (behind first before) d,
-      flat_map-append f (in_order first before) (d ∷ frames_between (behind first before) d),
+      order_one (past_last first before) d,
+      flat_map-append f (in_order first before) (d ∷ frames_between (past_last first before) d),
     )
-    (sym (append_assoc (flat_map f (in_order first before)) (f d) (flat_map f (frames_between (behind first before) d))))
+    (sym (append_assoc (flat_map f (in_order first before)) (f d) (flat_map f (frames_between (past_last first before) d))))
 
-pub anchor_behind : (p : ℕ → Bool) (first d : ℕ) → first ≤ d → p d ≡ true → behind first (filter p (frames_between first (d + 1))) ≡ d + 1
-anchor_behind p first d low is =
+pub past_anchor : (p : ℕ → Bool) (first d : ℕ) → first ≤ d → p d ≡ true → past_last first (filter p (frames_between first (d + 1))) ≡ d + 1
+past_anchor p first d low is =
     let before = filter p (frames_between first d) in
-    rw (filter_more p first d low, is, behind-append first before (d ∷ [])) (behind_one (behind first before) d)
+    rw (filter_more p first d low, is, past_last-append first before (d ∷ [])) (past_last_one (past_last first before) d)
 
 -- a frame more that is no anchor
 pub other_more : (p : ℕ → Bool) (first d : ℕ) → first ≤ d → p d ≡ false → filter p (frames_between first (d + 1)) ≡ filter p (frames_between first d)
@@ -93,6 +93,6 @@ pub order_none : {A : Type 0} (f : ℕ → List A) (p : ℕ → Bool) (first : �
 unfolding in_order
 order_none f p first = rw (frames_none first) refl
 
-pub behind_none : (p : ℕ → Bool) (first : ℕ) → first ≡ behind first (filter p (frames_between first first))
-unfolding behind
-behind_none p first = rw (frames_none first) refl
+pub past_last_none : (p : ℕ → Bool) (first : ℕ) → first ≡ past_last first (filter p (frames_between first first))
+unfolding past_last
+past_last_none p first = rw (frames_none first) refl

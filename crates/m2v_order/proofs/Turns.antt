@@ -7,9 +7,9 @@ use Rattle.std.proofs.lemmas.Grind.{flat_map-append}
 use Rattle.m2v_set.specs.declared.settings.Settings.{Settings}
 use Rattle.m2v_order.specs.declared.jobs.PictureJob.{PictureJob}
 use Rattle.m2v_order.specs.Coding.{Picture, is_anchor, kind_of, frames_between, anchors_between, in_order, pictures_of}
-use Rattle.m2v_order.specs.Groups.{intra_from, behind, jobs_of}
+use Rattle.m2v_order.specs.Groups.{intra_from, past_last, jobs_of}
 use Rattle.m2v_order.specs.Calls.{picture_of, last_anchor, IsFromIntra}
-use Rattle.m2v_order.proofs.Anchors.{Between, behind_is, past, within, last_is, split_order, first_anchor, filter_same, flat_map_same}
+use Rattle.m2v_order.proofs.Anchors.{Between, past_last_is, past, within, last_is, split_order, first_anchor, filter_same, flat_map_same}
 use Rattle.m2v_order.proofs.Intra.{IsGrouped, intra_low, intra_is, intra_only, intra_anchor, last_anchor_is, kind_intra, kind_other, kind_anchor, kind_b}
 use Rattle.m2v_order.proofs.Pictures.{pictures_all, last_none, last_more, last_jobs, last_others, all_flat, all_jobs, from_intra}
 
@@ -19,7 +19,7 @@ rest_of s count first = flat_map (pictures_of s count) (in_order first (anchors_
 
 -- the frame behind the last anchor below a frame
 abbrev pub next_first : Settings → ℕ → ℕ → ℕ → ℕ
-next_first s pushed first m = behind first (anchors_between s pushed first m)
+next_first s pushed first m = past_last first (anchors_between s pushed first m)
 
 -- the pictures up to that anchor
 abbrev pub turn_jobs : Settings → ℕ → ℕ → ℕ → List PictureJob
@@ -29,16 +29,16 @@ there : (first m : ℕ) → first ≤ m → first + (m - first) ≡ m
 there first m low = omega arith
 
 pub turn_low : (s : Settings) (pushed first m : ℕ) → first ≤ next_first s pushed first m
-turn_low s pushed first m = (behind_is (is_anchor s pushed) first (m - first)).low
+turn_low s pushed first m = (past_last_is (is_anchor s pushed) first (m - first)).low
 
 pub turn_high : (s : Settings) (pushed first m : ℕ) → first ≤ m → next_first s pushed first m ≤ m
 turn_high s pushed first m low =
-    let h = (behind_is (is_anchor s pushed) first (m - first)).high in omega (arith, h)
+    let h = (past_last_is (is_anchor s pushed) first (m - first)).high in omega (arith, h)
 
 pub turn_clear : (s : Settings) (pushed first m : ℕ) → first ≤ m → filter (is_anchor s pushed) (frames_between (next_first s pushed first m) m) ≡ []
 turn_clear s pushed first m low =
     subst (λ x. filter (is_anchor s pushed) (frames_between (next_first s pushed first m) x) ≡ []) (there first m low)
-    (behind_is (is_anchor s pushed) first (m - first)).clear
+    (past_last_is (is_anchor s pushed) first (m - first)).clear
 
 -- the I frame belongs to the group
 pub turn_past : (s : Settings) (pushed first m : ℕ) → IsGrouped s → intra_from s first < m → intra_from s first < next_first s pushed first m

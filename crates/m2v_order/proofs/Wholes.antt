@@ -13,7 +13,7 @@ use Rattle.m2v_set.specs.Rules.{Passes}
 use Rattle.m2v_set.proofs.Facts.{bounds}
 use Rattle.m2v_order.specs.declared.jobs.PictureJob.{PictureJob}
 use Rattle.m2v_order.specs.Coding.{is_intra, is_anchor, kind_of, frames_between, anchors_between, in_order, structures}
-use Rattle.m2v_order.specs.Groups.{Queue, first_of, intra_from, next_intra, is_due, group_anchors, behind, group_size, Group, jobs_of, anchor_before, group_of, followed, IsSoundQueue}
+use Rattle.m2v_order.specs.Groups.{Queue, first_of, intra_from, next_intra, is_due, group_anchors, past_last, group_size, Group, jobs_of, anchor_before, group_of, followed, IsSoundQueue}
 use Rattle.m2v_order.specs.Whole.{IsKind, fields_of, anchors_without, FollowsTwo, AreFollowing, IsGroupOf}
 use Rattle.m2v_order.proofs.Anchors.{Between, past, within, filter_same, flat_map_same, first_anchor, order_count, head_passes}
 use Rattle.m2v_order.proofs.Intra.{IsGrouped, intra_first, intra_is, intra_anchor, same_anchor, kind_anchor, kind_is, step_anchor}
@@ -75,9 +75,9 @@ frame_at scan (h ∷ heads) (suc i) d e lt = frame_by scan h heads i d e ∙ fra
 
 -- ---- the I frame is near
 
-behind_nil : (from : ℕ) → behind from [] ≡ from
-unfolding behind
-behind_nil from = refl
+past_last_nil : (from : ℕ) → past_last from [] ≡ from
+unfolding past_last
+past_last_nil from = refl
 
 pub intra_near : (s : Settings) (count first : ℕ) → IsGrouped s → anchors_between s count first (intra_from s first) ≡ [] → intra_from s first < first + s.step
 intra_near s count first ok clear =
@@ -88,7 +88,7 @@ intra_near s count first ok clear =
     (λ (far : first + s.step ≤ intra).
     let at = step_anchor s count first ok (omega arith) in
     let h = past p first (intra - first) (intra - s.step) (omega arith) (omega (arith, ok.step)) at in
-    let none = ap (behind first) clear ∙ behind_nil first in
+    let none = ap (past_last first) clear ∙ past_last_nil first in
     absurd (omega (arith, h, none)))
     (cases_lt intra (first + s.step))
 
@@ -221,7 +221,7 @@ same_turn s a b first m agree low =
     let same : anchors_between s a first m ≡ anchors = filter_same (is_anchor s a) (is_anchor s b) first (m - first) (λ i l h. agree i l (omega arith)) in
     let top = turn_high s b first m low in
     ap (λ (xs : List ℕ). flat_map (jobs_of s a first) (in_order first xs)) same
-    ∙ flat_map_same (jobs_of s a first) (jobs_of s b first) (Between first (behind first anchors)) (in_order first anchors) (within (is_anchor s b) first (m - first))
+    ∙ flat_map_same (jobs_of s a first) (jobs_of s b first) (Between first (past_last first anchors)) (in_order first anchors) (within (is_anchor s b) first (m - first))
     (λ i h. same_jobs s a b first i (agree i h.0 (omega (arith, h.1, top))))
 
 or_true : (b : Bool) → (b || true) ≡ true
@@ -339,7 +339,7 @@ module _ {F : Type 0} where
       ∙ ap (λ (n : ℕ). anchors_between s r.pushed (first_of q) n) same.top
       ∙ filter_same (is_anchor s r.pushed) (is_anchor s q.pushed) (first_of q) (top_of q - first_of q) (λ i l h. stay i l (omega (arith, low))) in
       let size : group_size r ≡ group_size q =
-      ap (λ (xs : List ℕ). behind (first_of r) xs - first_of r) anchors ∙ ap (λ (n : ℕ). behind n (group_anchors q) - n) same.first in
+      ap (λ (xs : List ℕ). past_last (first_of r) xs - first_of r) anchors ∙ ap (λ (n : ℕ). past_last n (group_anchors q) - n) same.first in
       let fits : group_size q ≤ length q.frames = omega (arith, sound.room, turn.high, turn.top) in
       same_group _ _ _ _ _ _
       (ap (λ (n : ℕ). take n (q.frames ++ more)) size ∙ take-append-le (group_size q) q.frames more fits)

@@ -37,14 +37,14 @@ is_due q = nat_lt 0 (length q.frames) && (q.ended || nat_lt (next_intra q) q.pus
 abbrev pub group_anchors : {F : Type 0} → Queue F → List ℕ
 group_anchors q = anchors_between q.settings q.pushed (first_of q) (min (next_intra q) q.pushed)
 
--- the frame behind the last of some anchors, or a frame where there are none
-unfoldable pub behind : ℕ → List ℕ → ℕ
-behind from [] = from
-behind from (a ∷ more) = behind (a + 1) more
+-- the frame past the last of some anchors, or a frame where there are none
+unfoldable pub past_last : ℕ → List ℕ → ℕ
+past_last from [] = from
+past_last from (a ∷ more) = past_last (a + 1) more
 
 -- the frames of the group: those up to its last anchor
 abbrev pub group_size : {F : Type 0} → Queue F → ℕ
-group_size q = behind (first_of q) (group_anchors q) - first_of q
+group_size q = past_last (first_of q) (group_anchors q) - first_of q
 
 -- a group: its frames in display order, its pictures in coding order, and the display number of the anchor that was
 -- coded before it

@@ -2,7 +2,7 @@
 ghost use Rattle.std.specs.Prelude.{◌≡◌, ℕ, ◌+◌, ◌-◌, ◌≤◌, ◌<◌, ◌^◌, ◌++◌, IfOk, OnOk};
 ghost use Rattle.std.specs.List.{flat_map};
 ghost use Rattle.m2v_order.specs.Coding.{is_anchor, is_intra, kind_of, anchors_between, frames_between, in_order};
-ghost use Rattle.m2v_order.specs.Groups.{jobs_of, behind, intra_from};
+ghost use Rattle.m2v_order.specs.Groups.{jobs_of, past_last, intra_from};
 
 use crate::Memory;
 use crate::jobs::PictureJob;
@@ -140,7 +140,7 @@ fn pictures_up_to(
     requires begun { first ≤ to }
     requires small { to < 2 ^ 32 }
     ensures pictures { IfOk result (λ p. p.0.items ≡ flat_map (jobs_of settings.now count first) (in_order first (anchors_between settings.now count first to))) }
-    ensures behind { IfOk result (λ p. p.1 ≡ behind first (anchors_between settings.now count first to)) }
+    ensures behind { IfOk result (λ p. p.1 ≡ past_last first (anchors_between settings.now count first to)) }
     ensures begun { IfOk result (λ p. first ≤ p.1) }
     ensures most { IfOk result (λ p. p.1 ≤ to) }
 {
@@ -169,9 +169,9 @@ pub(crate) fn group_pictures(
     requires begun { first ≤ to }
     requires small { to < 2 ^ 32 }
     ensures pictures { IfOk result (λ p. p.0.items ≡ flat_map (jobs_of settings.now count first) (in_order first (anchors_between settings.now count first to))) }
-    ensures size { IfOk result (λ p. p.1 ≡ behind first (anchors_between settings.now count first to) - first) }
+    ensures size { IfOk result (λ p. p.1 ≡ past_last first (anchors_between settings.now count first to) - first) }
     ensures most { IfOk result (λ p. p.1 + first ≤ to) }
 {
-    let (pictures, behind) = pictures_up_to(alloc, settings, count, first, to)?;
-    Ok((pictures, (behind - first) as usize))
+    let (pictures, after) = pictures_up_to(alloc, settings, count, first, to)?;
+    Ok((pictures, (after - first) as usize))
 }

@@ -6,8 +6,6 @@ mod display;
 mod jobs;
 mod laws;
 mod reorder;
-#[cfg(test)]
-mod tests;
 mod times;
 
 pub use display::DisplayQueue;

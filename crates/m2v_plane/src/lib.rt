@@ -8,8 +8,6 @@ mod laws;
 mod moves;
 mod planes;
 mod row;
-#[cfg(test)]
-mod tests;
 mod view;
 
 pub use dims::{Dims, bytes_of};

@@ -18,5 +18,3 @@ pub use real::{StdSink, StdSource};
 pub use sure::{SureFile, SureSink, SureSource};
 pub use whole::fill;
 
-#[cfg(test)]
-mod tests;

@@ -7,8 +7,6 @@ mod inverse;
 mod kind;
 mod matrices;
 mod scans;
-#[cfg(test)]
-mod tests;
 
 pub use forward::{dc_level, quantise};
 pub use inverse::dequantise;

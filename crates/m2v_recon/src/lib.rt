@@ -4,8 +4,6 @@
 
 mod differences;
 mod macroblock;
-#[cfg(test)]
-mod tests;
 
 pub use differences::is_coded;
 pub use macroblock::{rebuild, rebuild_block};

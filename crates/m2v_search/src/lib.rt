@@ -11,8 +11,6 @@ mod parts;
 mod passing;
 mod scan;
 mod spot;
-#[cfg(test)]
-mod tests;
 mod vector;
 mod window;
 

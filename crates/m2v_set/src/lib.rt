@@ -6,8 +6,6 @@ mod numbers;
 mod passed;
 mod rules;
 mod settings;
-#[cfg(test)]
-mod tests;
 mod unfit;
 
 pub use passed::{Passed, test_flat};

@@ -4,8 +4,6 @@
 mod account;
 mod fault;
 mod laws;
-#[cfg(test)]
-mod tests;
 
 pub use account::Account;
 pub use fault::AccountFault;

@@ -4,8 +4,6 @@
 
 mod laws;
 mod predictors;
-#[cfg(test)]
-mod tests;
 mod vectors;
 
 pub use laws::{law_round_trip, law_two_spellings};

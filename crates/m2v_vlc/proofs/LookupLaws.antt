@@ -11,7 +11,7 @@ use Rattle.m2v_bits.proofs.Bits.{length-bits_of, number-bits_of, number-append, 
 use Rattle.m2v_bits.proofs.Cursor.{length-ahead, ahead-add, ahead_take}
 use Rattle.m2v_bits.proofs.SyntaxLaws.{good, bad}
 use Rattle.m2v_vlc.specs.Codes.{Row, row, code, In, begins, row_at, is_cut, by_row, code_at, is_code, apart_all, is_free, is_within, code_of, is_single}
-use Rattle.m2v_vlc.specs.Lookups.{rows_of, IsTable, Points, code_in, is_behind}
+use Rattle.m2v_vlc.specs.Lookups.{rows_of, IsTable, Points, code_in, begins_by_number}
 use Rattle.m2v_vlc.proofs.CodeLaws.{begins_front, begins_enough, begins_by, begins_short, front_number, begins_number, code_parts, free_parts, free_in, within_in, apart_in, not_both, row_here, row_found, row_none, some_is, Reflexive, code_of_row}
 
 -- ---- the rows of a program's list
@@ -122,16 +122,16 @@ begins_is r bs lt =
           ]
     ]
 
-pub behind_is : {V : Type 0} (r : Row V) (bs : List Bool) → r.len ≤ 17 → r.number < 2 ^ r.len → is_behind (length bs) (number bs) r.number r.len ≡ begins bs (code r)
-behind_is r bs le lt = rw (le-leb r.len 17 le) (sym (begins_is r bs lt))
+pub begins_by_number_is : {V : Type 0} (r : Row V) (bs : List Bool) → r.len ≤ 17 → r.number < 2 ^ r.len → begins_by_number (length bs) (number bs) r.number r.len ≡ begins bs (code r)
+begins_by_number_is r bs le lt = rw (le-leb r.len 17 le) (sym (begins_is r bs lt))
 
-pub cut_any : {V : Type 0} (rows : List (V × ℕ × ℕ)) (bs : List Bool) → is_free (rows_of rows) ≡ true → is_within 17 (rows_of rows) ≡ true → list_any (λ e. is_behind (length bs) (number bs) e.1 e.2) rows ≡ is_cut (rows_of rows) bs
+pub cut_any : {V : Type 0} (rows : List (V × ℕ × ℕ)) (bs : List Bool) → is_free (rows_of rows) ≡ true → is_within 17 (rows_of rows) ≡ true → list_any (λ e. begins_by_number (length bs) (number bs) e.1 e.2) rows ≡ is_cut (rows_of rows) bs
 unfolding is_cut is_within
 cut_any [] bs f w = refl
 cut_any (e ∷ rows) bs f w =
     let h = free_parts (row e.0 e.1 e.2) (rows_of rows) f in
     let g = and_parts (leb e.2 17) (is_within 17 (rows_of rows)) w in
-    rw (behind_is (row e.0 e.1 e.2) bs (leb-true _ _ g.0) (code_parts (row e.0 e.1 e.2) h.0).1, cut_any rows bs h.2 g.1) refl
+    rw (begins_by_number_is (row e.0 e.1 e.2) bs (leb-true _ _ g.0) (code_parts (row e.0 e.1 e.2) h.0).1, cut_any rows bs h.2 g.1) refl
 
 -- nothing longer than 17 bits begins a code
 pub cut_long : {V : Type 0} (t : List (Row V)) (bs : List Bool) → is_within 17 t ≡ true → 17 < length bs → is_cut t bs ≡ false
@@ -142,7 +142,7 @@ cut_long (r ∷ t) bs w lt =
     rw (begins_short bs (code r) (omega (arith, length-bits_of r.len r.number, leb-true _ _ g.0)), cut_long t bs g.1 lt) refl
 
 -- whether the rest begins a code, by what the program tests
-pub cut_is : {V : Type 0} (rows : List (V × ℕ × ℕ)) (bs : List Bool) (left p : ℕ) (b : Bool) → IsTable (rows_of rows) → left ≡ length bs → p ≡ number (take left bs) → b ≡ list_any (λ e. is_behind left p e.1 e.2) rows → is_cut (rows_of rows) bs ≡ b
+pub cut_is : {V : Type 0} (rows : List (V × ℕ × ℕ)) (bs : List Bool) (left p : ℕ) (b : Bool) → IsTable (rows_of rows) → left ≡ length bs → p ≡ number (take left bs) → b ≡ list_any (λ e. begins_by_number left p e.1 e.2) rows → is_cut (rows_of rows) bs ≡ b
 cut_is {V} rows bs left p b f len is found =
     let p-is : p ≡ number bs = is ∙ ap number (take_all left bs (omega arith)) in
     sym (found ∙ rw (len, p-is) (cut_any rows bs f.free f.within))

@@ -27,5 +27,5 @@ abbrev pub spelled : Code → List Bool
 spelled c = bits_of c.len c.number
 
 -- the code x of len bits, 17 at most, begins with the number p of left bits
-abbrev pub is_behind : ℕ → ℕ → ℕ → ℕ → Bool
-is_behind left p x len = nat_le len 17 && (nat_le left len && nat_eq (x / 2 ^ (len - left)) p)
+abbrev pub begins_by_number : ℕ → ℕ → ℕ → ℕ → Bool
+begins_by_number left p x len = nat_le len 17 && (nat_le left len && nat_eq (x / 2 ^ (len - left)) p)

@@ -17,8 +17,6 @@ mod pattern_rows;
 mod rows;
 mod size;
 mod size_rows;
-#[cfg(test)]
-mod tests;
 mod values;
 mod zero_rows;
 
@@ -37,6 +35,7 @@ pub use motion::{bits_dmv, bits_motion, read_dmv, read_motion, write_dmv, write_
 pub use pattern::{bits_pattern, read_pattern, write_pattern};
 pub use rows::Code;
 pub use size::{
-    bits_dc_chroma, bits_dc_luma, read_dc_chroma, read_dc_luma, write_dc_chroma, write_dc_luma,
+    bits_dc_chroma, bits_dc_luma, code_dc_chroma, code_dc_luma, read_dc_chroma, read_dc_luma,
+    write_dc_chroma, write_dc_luma,
 };
 pub use values::{CodeFault, Coefficient, Increment, MbType};

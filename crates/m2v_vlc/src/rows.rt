@@ -2,7 +2,7 @@ ghost use Rattle.std.specs.Prelude.{◌≡◌, ◌+◌, ◌^◌, ◌<◌, ◌≤
 ghost use Rattle.std.specs.List.{list_any};
 ghost use Rattle.m2v_bits.specs.Syntax.{Gives};
 ghost use Rattle.m2v_vlc.specs.Codes.{code_at, is_cut};
-ghost use Rattle.m2v_vlc.specs.Lookups.{rows_of, IsTable, Points, code_in, is_behind, spelled};
+ghost use Rattle.m2v_vlc.specs.Lookups.{rows_of, IsTable, Points, code_in, begins_by_number, spelled};
 
 use crate::values::CodeFault;
 use m2v_bits::{BitReader, BitWriter};
@@ -18,7 +18,7 @@ pub struct Code {
 
 /// Whether the code of a row begins with the number p of `left` bits.
 fn begins_any<V: Copy>(rows: &[(V, u16, u8)], left: u8, p: u32) -> bool
-    ensures { result ≡ list_any (λ e. is_behind left p e.1 e.2) rows.now }
+    ensures { result ≡ list_any (λ e. begins_by_number left p e.1 e.2) rows.now }
 {
     rows.iter().any(|e| e.2 <= 17 && left <= e.2 && ((e.1 as u32) >> (e.2 - left)) == p)
 }

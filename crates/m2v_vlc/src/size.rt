@@ -11,7 +11,7 @@ use m2v_bits::{BitReader, BitWriter};
 
 /// The code of the size in table B.12, of no bits where there is none.
 #[inline(always)]
-fn luma_of(size: u8) -> Code
+pub fn code_dc_luma(size: u8) -> Code
     ensures spelled { spelled result ≡ dc_luma_code size }
     ensures width { result.len ≤ 17 }
     ensures fits { result.number < 2 ^ result.len }
@@ -41,7 +41,7 @@ pub fn write_dc_luma(size: u8, out: &mut BitWriter)
     ensures written { out.new.written ≡ out.old.written ++ dc_luma_code size }
     ensures room { out.new.room + length (dc_luma_code size) ≡ out.old.room }
 {
-    put_code(luma_of(size), out);
+    put_code(code_dc_luma(size), out);
 }
 
 /// How many bits the code of a size has, 0 where table B.12 has none.
@@ -49,12 +49,12 @@ pub fn write_dc_luma(size: u8, out: &mut BitWriter)
 pub fn bits_dc_luma(size: u8) -> u32
     ensures { result ≡ length (dc_luma_code size) }
 {
-    bits_of_code(luma_of(size))
+    bits_of_code(code_dc_luma(size))
 }
 
 /// The code of the size in table B.13, of no bits where there is none.
 #[inline(always)]
-fn chroma_of(size: u8) -> Code
+pub fn code_dc_chroma(size: u8) -> Code
     ensures spelled { spelled result ≡ dc_chroma_code size }
     ensures width { result.len ≤ 17 }
     ensures fits { result.number < 2 ^ result.len }
@@ -84,7 +84,7 @@ pub fn write_dc_chroma(size: u8, out: &mut BitWriter)
     ensures written { out.new.written ≡ out.old.written ++ dc_chroma_code size }
     ensures room { out.new.room + length (dc_chroma_code size) ≡ out.old.room }
 {
-    put_code(chroma_of(size), out);
+    put_code(code_dc_chroma(size), out);
 }
 
 /// How many bits the code of a size has, 0 where table B.13 has none.
@@ -92,5 +92,5 @@ pub fn write_dc_chroma(size: u8, out: &mut BitWriter)
 pub fn bits_dc_chroma(size: u8) -> u32
     ensures { result ≡ length (dc_chroma_code size) }
 {
-    bits_of_code(chroma_of(size))
+    bits_of_code(code_dc_chroma(size))
 }

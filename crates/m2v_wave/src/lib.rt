@@ -6,12 +6,8 @@
 #![tactic(auto)]
 
 mod bench;
-#[cfg(test)]
-mod books;
 mod done;
 mod run;
-#[cfg(test)]
-mod tests;
 mod worker;
 
 pub use bench::Bench;

@@ -1,7 +1,7 @@
 use Rattle.std.proofs.Common.{length, arith, ap}
 use Rattle.m2v_macroblock.specs.Macroblocks.{macroblock_of}
 use Rattle.m2v_macroblock.specs.Texts.{block_in_text}
-use Rattle.m2v_macroblock.proofs.BlockTexts.{left_none, left_length}
+use Rattle.m2v_bits.proofs.Texts.{left_none, left_length}
 use Rattle.m2v_macroblock.proofs.write.blocks_bits.Goals as goal
 
 pub loop-block-preserved : goal.loop-block-preserved

@@ -1,7 +1,7 @@
 use Rattle.std.proofs.Common.{length, ap, arith}
 use Rattle.m2v_macroblock.specs.Macroblocks.{macroblock_of}
 use Rattle.m2v_macroblock.specs.Texts.{block_in_text}
-use Rattle.m2v_macroblock.proofs.BlockTexts.{left_length, left_none, written_more, written_end}
+use Rattle.m2v_bits.proofs.Texts.{left_length, left_none, written_more, written_end}
 use Rattle.m2v_macroblock.proofs.write.write_blocks.Goals as goal
 
 pub write_one-requires-clause-room : goal.write_one-requires-clause-room

@@ -1,14 +1,14 @@
 use Rattle.std.proofs.Common.{sym, ◌∙◌, arith}
 use Rattle.m2v_order.specs.Coding.{is_anchor}
 use Rattle.m2v_order.specs.Groups.{jobs_of}
-use Rattle.m2v_order.proofs.Orders.{order_none, behind_none, anchor_more, anchor_behind, other_more}
+use Rattle.m2v_order.proofs.Orders.{order_none, past_last_none, anchor_more, past_anchor, other_more}
 use Rattle.m2v_order.proofs.coding.pictures_up_to.Goals as goal
 use Rattle.m2v_order.proofs.coding.pictures_up_to.Goals.{then-anchor_at+in_ok-push_anchor, else-anchor_at}
 
 pub loop-display-init : goal.loop-display-init
 loop-display-init c = (
   c.new-pictures.ensures.items ∙ order_none (jobs_of c.args.settings.now c.args.count c.args.first) (is_anchor c.args.settings.now c.args.count) c.args.first,
-  behind_none (is_anchor c.args.settings.now c.args.count) c.args.first,
+  past_last_none (is_anchor c.args.settings.now c.args.count) c.args.first,
   omega arith,
   omega arith,
 )
@@ -21,7 +21,7 @@ loop-display-preserved c =
       | then-anchor_at+in_ok-push_anchor w ↦ (
         rw (w.pictures-is, w.in_ok-push_anchor.ensures.ok, c.loop-display.invariant.0, c.loop-display.invariant.1)
             (sym (anchor_more jobs test c.args.first c.loop-display.display (omega arith) (sym w.if-anchor_at.ensures.value))),
-        rw w.from-is (sym (anchor_behind test c.args.first c.loop-display.display (omega arith) (sym w.if-anchor_at.ensures.value))),
+        rw w.from-is (sym (past_anchor test c.args.first c.loop-display.display (omega arith) (sym w.if-anchor_at.ensures.value))),
         omega arith,
         omega arith,
       )

@@ -3,7 +3,7 @@ use Rattle.std.specs.Int.{w32}
 use Rattle.std.proofs.lemmas.Int.{to_z-of_z}
 use Rattle.m2v_flat.specs.declared.writing.macroblocks.Predictors.{Predictors}
 use Rattle.m2v_flat.specs.Flat.{block_text}
-use Rattle.m2v_chain.proofs.Edges.{texts_most}
+use Rattle.m2v_bits.proofs.Texts.{texts_most}
 use Rattle.m2v_flat.proofs.Lengths.{block_length, six_blocks, six_lengths}
 use Rattle.m2v_flat.proofs.Predictions.{before_bytes, byte_passed, predictors_next, cb_predictor, cr_predictor}
 use Rattle.m2v_flat.proofs.writing.macroblocks.write_blocks.Goals as goal

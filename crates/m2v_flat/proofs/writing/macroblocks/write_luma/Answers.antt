@@ -4,7 +4,7 @@ use Rattle.std.specs.Int.{w32}
 use Rattle.std.proofs.lemmas.Int.{to_z-of_z}
 use Rattle.std.proofs.lemmas.List.{length-append}
 use Rattle.m2v_flat.specs.Flat.{block_text}
-use Rattle.m2v_chain.proofs.Edges.{texts_more}
+use Rattle.m2v_bits.proofs.Texts.{texts_more}
 use Rattle.m2v_flat.proofs.Lengths.{block_length}
 use Rattle.m2v_flat.proofs.Predictions.{luma_predictor, luma_byte}
 use Rattle.m2v_flat.proofs.writing.macroblocks.write_luma.Goals as goal

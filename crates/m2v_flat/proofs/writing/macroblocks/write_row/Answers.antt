@@ -3,7 +3,7 @@ use Rattle.std.specs.List.{flat_map, range_with_len}
 use Rattle.std.proofs.lemmas.List.{length-append}
 use Rattle.m2v_plane.specs.declared.dims.Dims.{Dims}
 use Rattle.m2v_flat.specs.Flat.{macroblock_text}
-use Rattle.m2v_chain.proofs.Edges.{texts_more}
+use Rattle.m2v_bits.proofs.Texts.{texts_more}
 use Rattle.m2v_flat.proofs.Lengths.{macroblock_most, row_is}
 use Rattle.m2v_flat.proofs.Predictions.{predictors_first}
 use Rattle.m2v_flat.proofs.writing.macroblocks.write_row.Goals as goal

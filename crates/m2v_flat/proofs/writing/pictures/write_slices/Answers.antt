@@ -3,7 +3,7 @@ use Rattle.std.specs.List.{flat_map, range_with_len}
 use Rattle.std.proofs.lemmas.List.{length-append}
 use Rattle.m2v_plane.specs.declared.dims.Dims.{Dims}
 use Rattle.m2v_flat.specs.Flat.{slice_unit}
-use Rattle.m2v_chain.proofs.Edges.{texts_more}
+use Rattle.m2v_bits.proofs.Texts.{texts_more}
 use Rattle.m2v_flat.proofs.Lengths.{slices_are}
 use Rattle.m2v_flat.proofs.UnitLaws.{slice_most}
 use Rattle.m2v_flat.proofs.writing.pictures.write_slices.Goals as goal
