@@ -232,7 +232,7 @@ own_reference structure true e = inl (eqb-true structure 3 e)
 own_reference structure false e = inr (subst (λ (l : Lines). IsTrue (is_field l)) (sym (own_in_field structure e)) (field_of (nat_eq structure 2)))
 
 -- a vector of one part, from the picture's own lines
-own_near : (structure : ℕ) (v : ℤ) → unsigned_abs v ≤ 32 → (unsigned_abs v ≤ 2 * part_height One Y) × (((plane : Plane) → row_lines structure plane (own_lines structure) ≡ part_height One plane) × IsReference structure (own_lines structure))
+pub own_near : (structure : ℕ) (v : ℤ) → unsigned_abs v ≤ 32 → (unsigned_abs v ≤ 2 * part_height One Y) × (((plane : Plane) → row_lines structure plane (own_lines structure) ≡ part_height One plane) × IsReference structure (own_lines structure))
 own_near structure v few = (few, ((λ plane. own_rows structure plane (nat_eq structure 3) refl), own_reference structure (nat_eq structure 3) refl))
 
 still_fits : (d : Dims) (place : MbPlace) → IsPlace place d → SourceFits d place One 0 (record { lines = own_lines place.structure; across = pos 0; down = pos 0 })
@@ -289,7 +289,7 @@ pub plain_single : (c : PictureContext) (hf hb : Bool) (at : List (List (List �
 unfolding without_motion_type
 plain_single c hf hb at = plain_single_by (nat_eq c.extension.structure 3)
 
-only_part : (part : ℕ) → part < part_count One → 0 ≡ part
+pub only_part : (part : ℕ) → part < part_count One → 0 ≡ part
 only_part part lt = omega (arith, lt)
 
 -- forward, by vector 0

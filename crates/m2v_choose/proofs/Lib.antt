@@ -18,3 +18,4 @@ pub mod Better
 pub mod Predicted
 pub mod Motions
 pub mod Holding
+pub mod Skips

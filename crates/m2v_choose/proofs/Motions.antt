@@ -187,6 +187,7 @@ module _ (t : Task) (r : References) (ahead behind : Plane → Lines → ℕ →
       moves : (t.context.now.kind ≡ 2) ⊎ (t.context.now.kind ≡ 3) → t.context.now.kind ≡ 1 → ⊥
       moves (inl e) one = omega (arith, e, one)
       moves (inr e) one = omega (arith, e, one)
+
       still_back : t.context.now.kind ≡ 3 → (l : Lines) → IsReference t.context.now.extension.structure l → HasNear behind r.dims (place_for t) l
       still_back three l is = subst (λ (x : Dims). HasNear behind x (place_for t) l) (refs.sizes three) ((refs.backward three).near l is)
 

@@ -96,8 +96,10 @@ part_true : (d : Dims) (r : Reading) (part : ℕ) → SourceStays d r.place (par
 unfolding part_inside
 part_true d r part h =
     let s = source_of_part r part in
-    rw (spans_true (lines_of d Y s.lines) (part_height (parts r) Y) (moved (part_number (parts r) Y r.place.row part) s.down) h.low_down h.high_down,
-    spans_true (columns_of d Y) 16 (moved (16 * r.place.column) s.across) h.low_across h.high_across) refl
+    rw (
+      spans_true (lines_of d Y s.lines) (part_height (parts r) Y) (moved (part_number (parts r) Y r.place.row part) s.down) h.low_down h.high_down,
+      spans_true (columns_of d Y) 16 (moved (16 * r.place.column) s.across) h.low_across h.high_across,
+    ) refl
 
 -- all parts of what is read in a direction
 pub record PartsStay (d : Dims) (place : MbPlace) (q : Parts) (source : ℕ → Source) : Type 0 where
@@ -222,9 +224,10 @@ module _ (holds : Plane → Lines → ℕ → Type 0) (d : Dims) (r : Reading) w
           let bounds = near_line n (part_height q plane) (part_height q plane * r.place.row) (in_plane plane s.down) (omega (arith, row.0, same)) (omega (arith, row.1, same))
           (plane_few q plane s.down other h.few) place.first in
           let rows = h.rows plane in
-          let times = ap (λ (k : ℕ). k * r.place.row) rows in
-          (h.near.rows plane (unsigned_abs (down_at r plane line) / 2) (omega (arith, place.last)) (omega (arith, bounds.0, rows, times)) (omega (arith, bounds.1, rows, times)),
-          h.near.rows plane ((unsigned_abs (down_at r plane line) + 1) / 2) place.last (omega (arith, bounds.0, rows, times)) (omega (arith, bounds.1, rows, times)))
+          let times = ap (λ (k : ℕ). k * r.place.row) rows in (
+            h.near.rows plane (unsigned_abs (down_at r plane line) / 2) (omega (arith, place.last)) (omega (arith, bounds.0, rows, times)) (omega (arith, bounds.1, rows, times)),
+            h.near.rows plane ((unsigned_abs (down_at r plane line) + 1) / 2) place.last (omega (arith, bounds.0, rows, times)) (omega (arith, bounds.1, rows, times)),
+          )
 
 pub direction_held : (holds : Plane → Lines → ℕ → Type 0) (d : Dims) (place : MbPlace) (mode : Mode) (direction : ℕ) (q : Parts) → parts_of mode.form place.structure ≡ q
     → (q ≡ Halves → ⊥) → is_dual mode.form ≡ false → DirectionInside mode direction place d

@@ -234,3 +234,19 @@ pub record AreReferences (kind : ℕ) (place : MbPlace) (forward_size backward_s
 -- in a B picture a macroblock before has told its directions, or is intra
 abbrev pub HasDirection : PictureContext → SliceState → Limits → Type 0
 HasDirection c st limits = c.kind ≡ 3 → limits.first ≡ false → (st.forward ≡ true) ⊎ ((st.backward ≡ true) ⊎ (st.intra ≡ true))
+
+-- where a macroblock of a picture lies
+abbrev pub place_at : PictureContext → Limits → MbPlace
+place_at c limits = record { row = limits.row; column = limits.column; structure = c.extension.structure }
+
+-- a decision by its parts
+abbrev pub decision : Dims → List ℕ → View → View → PictureContext → SliceState → Limits → Decision
+decision dims source forward backward c st limits = record {
+  dims = dims;
+  source = source;
+  forward = forward;
+  backward = backward;
+  context = c;
+  state = st;
+  limits = limits;
+}

@@ -10,7 +10,7 @@ ghost use Rattle.m2v_choose.specs.Decisions.{Decision, skipped, increment_of};
 ghost use Rattle.m2v_choose.specs.Candidates.{still_vector as still_vector_of, held_levels as held_levels_of, hold as hold_of, may_skip as may_skip_of};
 ghost use Rattle.m2v_choose.specs.Choice.{bits_taken, choice_of};
 ghost use Rattle.m2v_choose.specs.Own.{IsOwn, IsOwnState, AreLimits};
-ghost use Rattle.m2v_choose.specs.Trials.{References, decided, references_of, IsTask, IsRead, IsRated, Tried, AreReferences, IsBefore, HasDirection, candidate_of, direction_by, place_for};
+ghost use Rattle.m2v_choose.specs.Trials.{References, decided, references_of, IsTask, IsRead, IsRated, Tried, AreReferences, IsBefore, HasDirection, decision, place_at, candidate_of, direction_by, place_for};
 
 use crate::coding::intra_syntax;
 use crate::motion::plain_form;
@@ -168,4 +168,40 @@ fn choose_for<V: RefView>(task: &Task, forward: &V, backward: &V) -> Choice
     best.try_intra(task);
     best.try_predictions(task, forward, backward);
     best.choice
+}
+
+/// What is chosen of a macroblock (clauses 6.2.5 and 6.3.17): of all candidates that have at most 4,608 bits and at most the
+/// room, the first of least score, which weighs the squares of its samples' differences against its bits. In a P picture the
+/// forward reference is read, in a B picture both are, and both are of one size; of a view that isn't read nothing is asked.
+/// A view that is read holds the macroblock rows before, at and after the macroblock's. Takes no memory.
+pub fn choose<V: RefView>(
+    source: &Block16,
+    forward: &V,
+    backward: &V,
+    context: &PictureContext,
+    state: &SliceState,
+    limits: &Limits,
+) -> Choice
+    requires own { IsOwn context.now }
+    requires state { IsOwnState state.now }
+    requires dc { AreDc 0 state.now.dc }
+    requires direction { HasDirection context.now state.now limits.now }
+    requires address { IsBefore context.now state.now limits.now }
+    requires limits { AreLimits limits.now }
+    requires row { limits.now.row < 72 }
+    requires column { limits.now.column < context.now.columns }
+    requires forward { context.now.kind ≢ 1 → IsRead (V.size forward.now) (V.Holds forward.now) (place_at context.now limits.now) }
+    requires backward { context.now.kind ≡ 3 → IsRead (V.size backward.now) (V.Holds backward.now) (place_at context.now limits.now) }
+    requires sizes { context.now.kind ≡ 3 → V.size backward.now ≡ V.size forward.now }
+    requires room { let d = decision (V.size forward.now) source.now.at (V.at forward.now) (V.at backward.now) context.now state.now limits.now in
+        bits_taken d (hold_of d) ≤ limits.now.room }
+    ensures value { candidate_of result
+        ≡ choice_of (decision (V.size forward.now) source.now.at (V.at forward.now) (V.at backward.now) context.now state.now limits.now) }
+    ensures bits { let d = decision (V.size forward.now) source.now.at (V.at forward.now) (V.at backward.now) context.now state.now limits.now in
+        result.bits ≡ bits_taken d (choice_of d) }
+    ensures most { result.bits ≤ 4608 }
+    ensures fits { result.bits ≤ limits.now.room }
+{
+    let task = task_of(source, context, state, limits);
+    choose_for(&task, forward, backward)
 }

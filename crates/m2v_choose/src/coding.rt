@@ -43,7 +43,13 @@ pub fn second_q(q: u8) -> u8
 
 /// A macroblock that has a prediction, with coded blocks.
 #[inline(always)]
-pub fn with_blocks(bare: &MacroSyntax, send: bool, q: u8, dct_field: bool, pattern: u8) -> MacroSyntax
+pub fn with_blocks(
+    bare: &MacroSyntax,
+    send: bool,
+    q: u8,
+    dct_field: bool,
+    pattern: u8,
+) -> MacroSyntax
     ensures { result ≡ with_blocks_of bare.now send q dct_field pattern }
 {
     let mut m = *bare;

@@ -62,7 +62,13 @@ pub fn moving_syntax(
 }
 
 /// Predicts a macroblock by its own motion, or forward by vector 0 where it has none.
-pub fn predict_moving<V: RefView>(task: &Task, forward: &V, backward: &V, bare: &MacroSyntax, out: &mut Block16)
+pub fn predict_moving<V: RefView>(
+    task: &Task,
+    forward: &V,
+    backward: &V,
+    bare: &MacroSyntax,
+    out: &mut Block16,
+)
     requires task { IsTask task.now }
     requires code { CanCode task.now bare.now }
     requires predict { CanPredict task.now (V.size forward.now) (V.Holds forward.now) (V.Holds backward.now) bare.now }
@@ -91,7 +97,13 @@ impl Best {
     }
 
     /// Tries a prediction that has these samples: without blocks where it may be, and all its codings.
-    fn try_predicted(&mut self, task: &Task, bare: &MacroSyntax, uncoded: bool, prediction: &Block16)
+    fn try_predicted(
+        &mut self,
+        task: &Task,
+        bare: &MacroSyntax,
+        uncoded: bool,
+        prediction: &Block16,
+    )
         requires task { IsTask task.now }
         requires code { CanCode task.now bare.now }
         requires stands { uncoded ≡ true → IsMacro task.now.context.now task.now.first bare.now }

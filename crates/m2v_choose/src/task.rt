@@ -11,6 +11,7 @@ use m2v_pred::Block16;
 use m2v_vector::{Motion, Pmv};
 
 /// A macroblock that is to be decided.
+#[derive(Clone, Copy)]
 pub struct Task<'a> {
     /// Its samples in the source.
     pub source: &'a Block16,

@@ -60,13 +60,7 @@ fn search<V: RefView>(task: &Task, view: &V, form: SearchForm) -> Found
     ensures value { (r : References) → r.dims ≡ V.size view.now → record { x = result.x; y = result.y } ≡ vector_for (decided r task.now) (V.at view.now) form }
     ensures sad { (r : References) → r.dims ≡ V.size view.now → result.sad ≡ sad_for (decided r task.now) (V.at view.now) form }
 {
-    best_vector(
-        task.source,
-        view,
-        place_of(task),
-        form,
-        task.limits.search,
-    )
+    best_vector(task.source, view, place_of(task), form, task.limits.search)
 }
 
 /// The vector that was found, as one of the whole frame or of a field.

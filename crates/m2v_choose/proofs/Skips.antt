@@ -1,0 +1,162 @@
+-- A skipped macroblock's prediction.
+use Rattle.std.proofs.Common.{◌≡◌, ◌≢◌, ℕ, ◌<◌, ◌≤◌, Bool, true, false, cond, ◌&&◌, ◌||◌, not, ◌⊎◌, inl, inr, IsTrue, List, [], ◌∷◌, ◌++◌, refl, ap, sym, ◌∙◌, subst, arith, ℤ, pos, neg_ℤ}
+use Rattle.std.specs.Prelude.{nat_eq, if◌then◌else◌, unsigned_abs, map}
+use Rattle.std.specs.List.{flat_map}
+use Rattle.std.proofs.lemmas.Int.{ints}
+use Rattle.std.proofs.lemmas.Bool.{and_parts, eqb-true, true≢false}
+use Rattle.m2v_plane.specs.declared.dims.Dims.{Dims}
+use Rattle.m2v_plane.specs.declared.planes.Plane.{Plane}
+use Rattle.m2v_plane.specs.declared.planes.Lines.{Lines}
+use Rattle.m2v_vector.specs.Predictors.{zero, zeros, number_of}
+use Rattle.m2v_macro.specs.declared.values.PictureContext.{PictureContext}
+use Rattle.m2v_macro.specs.declared.values.SliceState.{SliceState}
+use Rattle.m2v_pred.specs.declared.mode.Mode.{Mode}
+use Rattle.m2v_pred.specs.declared.mode.MbPlace.{MbPlace}
+use Rattle.m2v_pred.specs.declared.source.Parts.TheVariants.{One, Halves}
+use Rattle.m2v_pred.specs.declared.source.Source.{Source}
+use Rattle.m2v_pred.specs.Motion.{own_source, own_lines, parts_of}
+use Rattle.m2v_pred.specs.Vectors.{IsPlace, IsInside, DirectionInside, HoldsRead}
+use Rattle.m2v_pred.specs.Patches.{part_count}
+use Rattle.m2v_pred.specs.Inside.{is_inside}
+use Rattle.m2v_macroblock.specs.Modes.{zero_motion, without_motion_type, skipped_mode}
+use Rattle.m2v_search.specs.Near.{HasNear}
+use Rattle.m2v_choose.specs.declared.task.Task.{Task}
+use Rattle.m2v_choose.specs.declared.trial.Best.{Best}
+use Rattle.m2v_choose.specs.Decisions.{Decision, increment_of, Candidate, place_of, skipped}
+use Rattle.m2v_choose.specs.Candidates.{may_skip, hold, codings, intra_by, by_prediction, predictions, others}
+use Rattle.m2v_choose.specs.Choice.{bits_taken, choice_of}
+use Rattle.m2v_choose.specs.Own.{IsOwn, AreNear}
+use Rattle.m2v_choose.specs.Laws.{Fits}
+use Rattle.m2v_choose.proofs.Chosen.{choice_fits}
+use Rattle.m2v_choose.proofs.Held.{hold_fits}
+use Rattle.m2v_choose.specs.Trials.{References, decided, IsTask, IsReference, AreReferences, HasDirection, place_for, candidate_of, best_of, IsRated, Tried}
+use Rattle.m2v_choose.proofs.Stands.{first_of, second_of}
+use Rattle.m2v_choose.proofs.Stays.{SourceNear, direction_held}
+use Rattle.m2v_choose.proofs.Inside.{fits_inside, fits_forward, zero_fits, plain_source, plain_parts, plain_single, only_part, own_near}
+use Rattle.m2v_choose.proofs.Tried.{tried_on, tried_none}
+
+-- what a skipped macroblock's motion reads can be read
+pub record SkipReads (kind : ℕ) (place : MbPlace) (d : Dims) (ahead behind : Plane → Lines → ℕ → Type 0) (mode : Mode) : Type 0 where
+  pub some : (mode.forward ≡ true) ⊎ (mode.backward ≡ true)
+  pub lies : IsPlace place d
+  pub inside : IsInside mode place d
+  pub forward : mode.forward ≡ true → HoldsRead ahead mode 0 place
+  pub backward : mode.backward ≡ true → HoldsRead behind mode 1 place
+  pub three : mode.backward ≡ true → kind ≡ 3
+
+-- by near predictors
+plain_held : (holds : Plane → Lines → ℕ → Type 0) (d : Dims) (place : MbPlace) (c : PictureContext) → place.structure ≡ c.extension.structure → (hf hb : Bool) (at : List (List (List ℤ))) → AreNear at
+    → ((l : Lines) → IsReference c.extension.structure l → HasNear holds d place l) → (direction : ℕ) → direction < 2
+    → DirectionInside (without_motion_type c hf hb at) direction place d → HoldsRead holds (without_motion_type c hf hb at) direction place
+plain_held holds d place c same hf hb at small near direction lt inside =
+    let mode = without_motion_type c hf hb at in
+    let s = place.structure in
+    let down = number_of at 0 direction 1 in
+    let bounds = small 0 direction 1 in
+    let few : unsigned_abs down ≤ 32 = omega (arith, ints, bounds.0, bounds.1) in
+    let h = own_near s down few in
+    let here : SourceNear holds d place One (record { lines = own_lines s; across = number_of at 0 direction 0; down = down }) =
+    record { few = h.0; rows = h.1.0; near = near (own_lines s) (subst (λ (n : ℕ). IsReference n (own_lines s)) same h.1.1) } in
+    direction_held holds d place mode direction One (subst (λ (n : ℕ). parts_of mode.form n ≡ One) (sym same) (plain_parts c hf hb at)) (λ e. absurd cc) (plain_single c hf hb at) inside
+    (λ part below. subst (λ (k : ℕ). SourceNear holds d place One (own_source mode direction s k)) (only_part part below)
+    (subst (SourceNear holds d place One) (source_at s same) here))
+  where
+    source_at : (n : ℕ) → n ≡ c.extension.structure → record { lines = own_lines n; across = number_of at 0 direction 0; down = number_of at 0 direction 1 } ≡ own_source (without_motion_type c hf hb at) direction n 0
+    source_at n e = subst (λ (k : ℕ). record { lines = own_lines k; across = number_of at 0 direction 0; down = number_of at 0 direction 1 } ≡ own_source (without_motion_type c hf hb at) direction k 0) (sym e)
+        (sym (plain_source c hf hb at direction lt))
+
+one_of : (x y : Bool) → (x || y) ≡ true → (x ≡ true) ⊎ (y ≡ true)
+one_of true y e = inl refl
+one_of false y e = inr e
+
+not_true : (b : Bool) → not b ≡ true → b ≡ false
+not_true true e = absurd cc
+not_true false e = refl
+
+module _ (t : Task) (r : References) (ahead behind : Plane → Lines → ℕ → Type 0) (task : IsTask t) (other : Dims) (refs : AreReferences t.context.now.kind (place_for t) r.dims other ahead behind) where
+  skip_two : t.context.now.kind ≡ 2 → SkipReads t.context.now.kind (place_for t) r.dims ahead behind (skipped_mode t.context.now t.state.now)
+  unfolding skipped_mode without_motion_type
+  skip_two two =
+      let read = refs.forward (λ one. omega (arith, one, two)) in
+      let fits = zero_fits (decided r t) read.lies in
+      second_of (SkipReads t.context.now.kind (place_for t) r.dims ahead behind) (nat_eq t.context.now.kind 3)
+      (without_motion_type t.context.now t.state.now.forward t.state.now.backward t.state.now.pmv.at) (zero_motion t.context.now) (rw two refl)
+      (record {
+        some = inl refl;
+        lies = read.lies;
+        inside = fits_inside r.dims (place_for t) (zero_motion t.context.now) One fits;
+        forward = λ e. fits_forward ahead r.dims (place_for t) read.near (zero_motion t.context.now) One fits e;
+        backward = λ e. absurd cc;
+        three = λ e. absurd cc;
+      })
+
+  skip_three : t.context.now.kind ≡ 3 → (t.state.now.forward ≡ true) ⊎ (t.state.now.backward ≡ true) → IsInside (skipped_mode t.context.now t.state.now) (place_for t) r.dims
+      → SkipReads t.context.now.kind (place_for t) r.dims ahead behind (skipped_mode t.context.now t.state.now)
+  unfolding skipped_mode without_motion_type
+  skip_three three some inside =
+      let read = refs.forward (λ one. omega (arith, one, three)) in
+      let c = t.context.now in
+      let st = t.state.now in
+      let near_behind = λ (l : Lines) (is : IsReference c.extension.structure l). subst (λ (x : Dims). HasNear behind x (place_for t) l) (refs.sizes three) ((refs.backward three).near l is) in
+      first_of (λ (m : Mode). IsInside m (place_for t) r.dims → SkipReads c.kind (place_for t) r.dims ahead behind m) (nat_eq c.kind 3)
+      (without_motion_type c st.forward st.backward st.pmv.at) (zero_motion c) (rw three refl)
+      (λ is. record {
+        some = some;
+        lies = read.lies;
+        inside = is;
+        forward = λ e. plain_held ahead r.dims (place_for t) c refl st.forward st.backward st.pmv.at task.asked.state.predictors read.near 0 (omega arith) (is.forward e);
+        backward = λ e. plain_held behind r.dims (place_for t) c refl st.forward st.backward st.pmv.at task.asked.state.predictors near_behind 1 (omega arith) (is.backward e);
+        three = λ e. three;
+      }) inside
+
+  pub skip_reads : may_skip (decided r t) ≡ true → HasDirection t.context.now t.state.now t.limits.now
+      → (t.context.now.kind ≡ 3 → IsInside (skipped_mode t.context.now t.state.now) (place_for t) r.dims)
+      → SkipReads t.context.now.kind (place_for t) r.dims ahead behind (skipped_mode t.context.now t.state.now)
+  unfolding may_skip
+  skip_reads may told inside =
+      let d = decided r t in
+      let stays = is_inside (skipped_mode d.context d.state) (place_of d) d.dims in
+      let h = and_parts (not d.limits.first && not d.limits.last) (nat_eq d.context.kind 2 || (nat_eq d.context.kind 3 && not d.state.intra && stays)) may in
+      let first = not_true d.limits.first (and_parts (not d.limits.first) (not d.limits.last) h.0).0 in
+      elim (one_of (nat_eq d.context.kind 2) (nat_eq d.context.kind 3 && not d.state.intra && stays) h.1) [
+        | inl two ↦ skip_two (eqb-true d.context.kind 2 two)
+        | inr is ↦
+            let k = and_parts (nat_eq d.context.kind 3) (not d.state.intra) (and_parts (nat_eq d.context.kind 3 && not d.state.intra) stays is).0 in
+            let three = eqb-true d.context.kind 3 k.0 in
+            skip_three three (moved (not_true d.state.intra k.1) (told three first)) (inside three)
+      ]
+    where
+      moved : t.state.now.intra ≡ false → (t.state.now.forward ≡ true) ⊎ ((t.state.now.backward ≡ true) ⊎ (t.state.now.intra ≡ true)) → (t.state.now.forward ≡ true) ⊎ (t.state.now.backward ≡ true)
+      moved none (inl f) = inl f
+      moved none (inr (inl b)) = inr b
+      moved none (inr (inr i)) = absurd (true≢false (sym i ∙ none))
+
+-- ---- in order
+
+module _ (d : Decision) where
+  pub skip_tried : (b : Bool) (old new : Best) → may_skip d ≡ b → b ≡ true → Tried d old new (skipped ∷ []) → Tried d old new (cond (may_skip d) (skipped ∷ []) [])
+  skip_tried b old new same e tried = first_of (Tried d old new) (may_skip d) (skipped ∷ []) [] (same ∙ e) tried
+
+  pub skip_left : (b : Bool) (old : Best) → may_skip d ≡ b → b ≡ false → IsRated d old → Tried d old old (cond (may_skip d) (skipped ∷ []) [])
+  skip_left b old same e rated = second_of (Tried d old old) (may_skip d) (skipped ∷ []) [] (same ∙ e) (tried_none d old rated)
+
+  pub others_tried : (a m n z : Best) → Tried d a m (cond (may_skip d) (skipped ∷ []) []) → Tried d m n (map (intra_by d) (codings d)) → Tried d n z (flat_map (by_prediction d) (predictions d)) → Tried d a z (others d)
+  unfolding others
+  others_tried a m n z p q s =
+      let x = cond (may_skip d) (skipped ∷ []) [] in
+      let y = map (intra_by d) (codings d) in
+      tried_on d a n z (x ++ y) (flat_map (by_prediction d) (predictions d)) (tried_on d a m n x y p q) s
+
+  pub chosen : (a z : Best) → candidate_of a.choice ≡ hold d → Tried d a z (others d) → candidate_of z.choice ≡ choice_of d
+  unfolding best_of choice_of
+  chosen a z held tried = tried.best ∙ ap (λ (x : Candidate). best_of d x (others d)) held
+
+  pub chosen_bits : (a z : Best) → candidate_of a.choice ≡ hold d → Tried d a z (others d) → z.choice.bits ≡ bits_taken d (choice_of d)
+  chosen_bits a z held tried = tried.rated.bits ∙ ap (bits_taken d) (chosen a z held tried)
+
+-- ---- bits
+
+-- hold is short enough where it has room, so the choice is
+pub choice_short : (d : Decision) → IsOwn d.context → AreNear d.state.pmv.at → 1 ≤ increment_of d → increment_of d ≤ d.context.columns → bits_taken d (hold d) ≤ d.limits.room → Fits d (choice_of d)
+choice_short d own near some most room =
+    choice_fits d (record { most = omega (arith, hold_fits d own near (omega (arith, some)), most, own.columns.1); room = room })

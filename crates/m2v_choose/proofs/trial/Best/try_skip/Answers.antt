@@ -1,0 +1,83 @@
+use Rattle.std.proofs.Common.{◌≡◌, true, ◌⊎◌, ap, sym, ◌∙◌, subst}
+use Rattle.m2v_pred.specs.declared.mode.MbPlace.{MbPlace}
+use Rattle.m2v_pred.specs.declared.mode.Mode.{Mode}
+use Rattle.m2v_pred.specs.Vectors.{IsPlace, IsInside, HoldsRead, size_read}
+use Rattle.m2v_pred.specs.Predicted.{predicted, block_by}
+use Rattle.m2v_macroblock.specs.Modes.{skipped_mode}
+use Rattle.m2v_choose.specs.Trials.{decided, references_of, place_for}
+use Rattle.m2v_choose.proofs.Predicted.{size_is}
+use Rattle.m2v_choose.proofs.Skips.{skip_reads, skip_tried, skip_left}
+use Rattle.m2v_choose.proofs.trial.Best.try_skip.Goals as goal
+
+pub returns-then-not-may_skip : goal.returns-then-not-may_skip
+returns-then-not-may_skip g c = record {
+  tried = λ rated.
+      let r = references_of (g.V.RefView.size c.args.forward.now) (g.V.RefView.at c.args.forward.now) (g.V.RefView.at c.args.backward.now) in
+      skip_left (decided r c.args.task.now) c.may_skip.result c.args.self.now (sym (c.may_skip.ensures.value (g.V.RefView.at c.args.forward.now) (g.V.RefView.at c.args.backward.now))) c.if-not-may_skip.true rated;
+}
+
+pub predict-requires-clause-some : goal.predict-requires-clause-some
+predict-requires-clause-some g c =
+    let r = references_of (g.V.RefView.size c.args.forward.now) (g.V.RefView.at c.args.forward.now) (g.V.RefView.at c.args.backward.now) in
+    let h = skip_reads c.args.task.now r (g.V.RefView.Holds c.args.forward.now) (g.V.RefView.Holds c.args.backward.now) c.requires.task (g.V.RefView.size c.args.backward.now) c.requires.references
+    (sym (c.may_skip.ensures.value (g.V.RefView.at c.args.forward.now) (g.V.RefView.at c.args.backward.now)) ∙ c.if-not-may_skip.false) c.requires.direction (c.may_skip.ensures.inside c.if-not-may_skip.false) in
+    subst (λ (m : Mode). (m.forward ≡ true) ⊎ (m.backward ≡ true)) (sym c.skipped_mode-mode.ensures.value) h.some
+
+pub predict-requires-clause-size : goal.predict-requires-clause-size
+predict-requires-clause-size g c = λ f b.
+    let r = references_of (g.V.RefView.size c.args.forward.now) (g.V.RefView.at c.args.forward.now) (g.V.RefView.at c.args.backward.now) in
+    let h = skip_reads c.args.task.now r (g.V.RefView.Holds c.args.forward.now) (g.V.RefView.Holds c.args.backward.now) c.requires.task (g.V.RefView.size c.args.backward.now) c.requires.references
+    (sym (c.may_skip.ensures.value (g.V.RefView.at c.args.forward.now) (g.V.RefView.at c.args.backward.now)) ∙ c.if-not-may_skip.false) c.requires.direction (c.may_skip.ensures.inside c.if-not-may_skip.false) in
+    c.requires.references.sizes (h.three (subst (λ (m : Mode). m.backward ≡ true) c.skipped_mode-mode.ensures.value b))
+
+pub predict-requires-clause-place : goal.predict-requires-clause-place
+predict-requires-clause-place g c =
+    let r = references_of (g.V.RefView.size c.args.forward.now) (g.V.RefView.at c.args.forward.now) (g.V.RefView.at c.args.backward.now) in
+    let h = skip_reads c.args.task.now r (g.V.RefView.Holds c.args.forward.now) (g.V.RefView.Holds c.args.backward.now) c.requires.task (g.V.RefView.size c.args.backward.now) c.requires.references
+    (sym (c.may_skip.ensures.value (g.V.RefView.at c.args.forward.now) (g.V.RefView.at c.args.backward.now)) ∙ c.if-not-may_skip.false) c.requires.direction (c.may_skip.ensures.inside c.if-not-may_skip.false) in
+    let f = g.V.RefView.size c.args.forward.now in
+    let b = g.V.RefView.size c.args.backward.now in
+    let size : size_read c.skipped_mode-mode.result f b ≡ f =
+    ap (λ (m : Mode). size_read m f b) c.skipped_mode-mode.ensures.value ∙ size_is (skipped_mode c.args.task.now.context.now c.args.task.now.state.now) f b h.some (λ e. c.requires.references.sizes (h.three e)) in
+    subst (IsPlace c.place_of.result) (sym size) (subst (λ (p : MbPlace). IsPlace p f) (sym c.place_of.ensures) h.lies)
+
+pub predict-requires-clause-inside : goal.predict-requires-clause-inside
+predict-requires-clause-inside g c =
+    let r = references_of (g.V.RefView.size c.args.forward.now) (g.V.RefView.at c.args.forward.now) (g.V.RefView.at c.args.backward.now) in
+    let h = skip_reads c.args.task.now r (g.V.RefView.Holds c.args.forward.now) (g.V.RefView.Holds c.args.backward.now) c.requires.task (g.V.RefView.size c.args.backward.now) c.requires.references
+    (sym (c.may_skip.ensures.value (g.V.RefView.at c.args.forward.now) (g.V.RefView.at c.args.backward.now)) ∙ c.if-not-may_skip.false) c.requires.direction (c.may_skip.ensures.inside c.if-not-may_skip.false) in
+    let f = g.V.RefView.size c.args.forward.now in
+    let b = g.V.RefView.size c.args.backward.now in
+    let size : size_read c.skipped_mode-mode.result f b ≡ f =
+    ap (λ (m : Mode). size_read m f b) c.skipped_mode-mode.ensures.value ∙ size_is (skipped_mode c.args.task.now.context.now c.args.task.now.state.now) f b h.some (λ e. c.requires.references.sizes (h.three e)) in
+    subst (IsInside c.skipped_mode-mode.result c.place_of.result) (sym size)
+    (subst (λ (p : MbPlace). IsInside c.skipped_mode-mode.result p f) (sym c.place_of.ensures)
+    (subst (λ (m : Mode). IsInside m (place_for c.args.task.now) f) (sym c.skipped_mode-mode.ensures.value) h.inside))
+
+pub predict-requires-clause-forward : goal.predict-requires-clause-forward
+predict-requires-clause-forward g c = λ e.
+    let r = references_of (g.V.RefView.size c.args.forward.now) (g.V.RefView.at c.args.forward.now) (g.V.RefView.at c.args.backward.now) in
+    let h = skip_reads c.args.task.now r (g.V.RefView.Holds c.args.forward.now) (g.V.RefView.Holds c.args.backward.now) c.requires.task (g.V.RefView.size c.args.backward.now) c.requires.references
+    (sym (c.may_skip.ensures.value (g.V.RefView.at c.args.forward.now) (g.V.RefView.at c.args.backward.now)) ∙ c.if-not-may_skip.false) c.requires.direction (c.may_skip.ensures.inside c.if-not-may_skip.false) in
+    let holds = g.V.RefView.Holds c.args.forward.now in
+    subst (HoldsRead holds c.skipped_mode-mode.result 0) (sym c.place_of.ensures)
+    (subst (λ (m : Mode). HoldsRead holds m 0 (place_for c.args.task.now)) (sym c.skipped_mode-mode.ensures.value) (h.forward (subst (λ (m : Mode). m.forward ≡ true) c.skipped_mode-mode.ensures.value e)))
+
+pub predict-requires-clause-backward : goal.predict-requires-clause-backward
+predict-requires-clause-backward g c = λ e.
+    let r = references_of (g.V.RefView.size c.args.forward.now) (g.V.RefView.at c.args.forward.now) (g.V.RefView.at c.args.backward.now) in
+    let h = skip_reads c.args.task.now r (g.V.RefView.Holds c.args.forward.now) (g.V.RefView.Holds c.args.backward.now) c.requires.task (g.V.RefView.size c.args.backward.now) c.requires.references
+    (sym (c.may_skip.ensures.value (g.V.RefView.at c.args.forward.now) (g.V.RefView.at c.args.backward.now)) ∙ c.if-not-may_skip.false) c.requires.direction (c.may_skip.ensures.inside c.if-not-may_skip.false) in
+    let holds = g.V.RefView.Holds c.args.backward.now in
+    subst (HoldsRead holds c.skipped_mode-mode.result 1) (sym c.place_of.ensures)
+    (subst (λ (m : Mode). HoldsRead holds m 1 (place_for c.args.task.now)) (sym c.skipped_mode-mode.ensures.value) (h.backward (subst (λ (m : Mode). m.backward ≡ true) c.skipped_mode-mode.ensures.value e)))
+
+pub returns : goal.returns
+returns g c = record {
+  tried = λ rated.
+      let r = references_of (g.V.RefView.size c.args.forward.now) (g.V.RefView.at c.args.forward.now) (g.V.RefView.at c.args.backward.now) in
+      let f = g.V.RefView.at c.args.forward.now in
+      let b = g.V.RefView.at c.args.backward.now in
+      skip_tried (decided r c.args.task.now) c.may_skip.result c.args.self.now c.try_skipped.new.self (sym (c.may_skip.ensures.value (g.V.RefView.at c.args.forward.now) (g.V.RefView.at c.args.backward.now))) c.if-not-may_skip.false
+      (c.try_skipped.ensures.tried r (c.predict.ensures.value ∙ (λ i. block_by (predicted f b (c.skipped_mode-mode.ensures.value i) (c.place_of.ensures i)))) rated);
+}
