@@ -26,7 +26,7 @@ use Rattle.m2v_choose.specs.Decisions.{Decision, Prediction, Coding, is_frame, h
 use Rattle.m2v_choose.specs.Candidates.{is_bottom, selected, one_vector, vector_for, sad_for, from_field, plain_direction, field_direction, plain_form, prediction, predictions_by, zero_prediction, predictions, still_vector, still_prediction}
 use Rattle.m2v_choose.specs.Own.{IsOwn, IsCode}
 use Rattle.m2v_choose.proofs.Chosen.{either}
-use Rattle.m2v_choose.proofs.Reached.{IsUpTo, IsWithin}
+use Rattle.m2v_search.proofs.Reached.{IsUpTo, IsWithin}
 use Rattle.m2v_choose.proofs.Kept.{whole_within, half_within}
 
 -- ---- one of two
