@@ -1,5 +1,5 @@
 -- A slice: the choices of a macroblock row from left to right, its text and its samples (clause 6.2.4).
-use Rattle.std.specs.Prelude.{ℕ, zero, suc, ◌+◌, ◌-◌, ◌*◌, ◌/◌, nat_eq, if◌then◌else◌, List, [], ◌∷◌, ◌++◌, length, None}
+use Rattle.std.specs.Prelude.{ℕ, zero, suc, ◌+◌, ◌-◌, ◌*◌, ◌/◌, Bool, nat_eq, if◌then◌else◌, List, [], ◌∷◌, ◌++◌, length, None}
 use Rattle.m2v_bits.specs.Bits.{◌⧺◌, unit}
 use Rattle.m2v_head.specs.declared.slice.SliceInfo.{SliceInfo}
 use Rattle.m2v_head.specs.Texts.{slice_text}
@@ -14,7 +14,6 @@ use Rattle.m2v_recon.specs.Macro.{with_macroblock}
 use Rattle.m2v_macroblock.specs.Macroblocks.{Macroblock}
 use Rattle.m2v_macroblock.specs.Predictions.{View}
 use Rattle.m2v_macroblock.specs.Texts.{macroblock_text}
-use Rattle.m2v_choose.specs.declared.values.Limits.{Limits}
 use Rattle.m2v_choose.specs.Decisions.{Decision, Candidate}
 use Rattle.m2v_choose.specs.Choice.{candidate_at, choice_of, state_behind}
 

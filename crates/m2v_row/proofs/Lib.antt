@@ -1,0 +1,4 @@
+pub mod Choices
+pub mod Keeps
+pub mod Fits
+pub mod AnyRow
