@@ -3,6 +3,7 @@
 #![tactic(auto)]
 
 mod laws;
+mod source;
 
 pub use laws::{
     law_slice_any_row, law_slice_chosen, law_slice_covers, law_slice_fits, law_slice_keeps,
