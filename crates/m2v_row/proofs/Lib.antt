@@ -1,4 +1,5 @@
 pub mod Choices
 pub mod Keeps
+pub mod Motions
 pub mod Fits
 pub mod AnyRow

@@ -3,6 +3,7 @@
 #![tactic(auto)]
 
 mod laws;
+mod predict;
 mod source;
 
 pub use laws::{
