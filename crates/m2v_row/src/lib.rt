@@ -3,6 +3,7 @@
 #![tactic(auto)]
 
 mod laws;
+mod macroblocks;
 mod predict;
 mod source;
 
