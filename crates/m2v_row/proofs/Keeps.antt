@@ -20,6 +20,7 @@ use Rattle.m2v_macroblock.specs.Texts.{macroblock_text}
 use Rattle.m2v_pred.specs.Inside.{is_inside}
 use Rattle.m2v_choose.specs.Decisions.{Decision, Candidate, increment_of, place_of}
 use Rattle.m2v_choose.specs.Candidates as candidates
+use Rattle.m2v_choose.specs.Candidates.{hold}
 use Rattle.m2v_choose.specs.Choice.{bits_taken, candidate_at, choice_of, state_behind}
 use Rattle.m2v_choose.specs.Own.{IsOwnState, AreLimits}
 use Rattle.m2v_choose.specs.Laws.{Fits, IsWritable}
@@ -27,7 +28,7 @@ use Rattle.m2v_macroblock.specs.Conditions.{AreDc}
 use Rattle.m2v_choose.proofs.OwnReady.{start_own}
 use Rattle.m2v_choose.proofs.DcKept.{start_dc, choice_dc}
 use Rattle.m2v_choose.proofs.Kept.{choice_leaves}
-use Rattle.m2v_choose.proofs.Held.{own_choice_fits}
+use Rattle.m2v_choose.proofs.Held.{hold_fits, own_choice_fits}
 use Rattle.m2v_choose.proofs.Written.{choice_written}
 use Rattle.m2v_row.specs.Slices.{SliceTask, Begun, room, decision, with_candidate, begun}
 use Rattle.m2v_row.specs.Laws.{IsSlice, Keeps, skipped_before}
@@ -159,6 +160,11 @@ module _ (t : SliceTask) (slice : IsSlice t) where
         most : (g < n) ⊎ ((n ≡ 0) × (g ≡ 0)) → increment_of (decision t s n) ≤ t.context.columns
         most (inl less) = omega (arith, increment_here)
         most (inr none) = omega (arith, increment_here, none.1)
+
+    pub held_here : bits_taken (decision t s n) (hold (decision t s n)) ≤ (decision t s n).limits.room
+    unfolding decision room
+    held_here =
+        omega (arith, hold_fits (decision t s n) slice.own keeps.state.predictors (omega (arith, increment_here)), increment_here, keeps.room, small)
 
     pub writable_here : (choice_of (decision t s n)).skip ≡ false → IsWritable (decision t s n).context (decision t s n).state (choice_of (decision t s n)).macroblock
     unfolding decision

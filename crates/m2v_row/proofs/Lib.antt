@@ -5,3 +5,4 @@ pub mod Motions
 pub mod AnySize
 pub mod Fits
 pub mod AnyRow
+pub mod Columns

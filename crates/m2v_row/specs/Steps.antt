@@ -12,7 +12,8 @@ use Rattle.m2v_choose.specs.Candidates.{hold}
 use Rattle.m2v_choose.specs.Choice.{bits_taken, choice_of}
 use Rattle.m2v_choose.specs.Own.{IsOwn, IsOwnState, AreLimits}
 use Rattle.m2v_choose.specs.Laws.{Fits, IsWritable}
-use Rattle.m2v_row.specs.Slices.{source_block}
+use Rattle.m2v_row.specs.declared.row.RowPlan.{RowPlan}
+use Rattle.m2v_row.specs.Slices.{SliceTask, source_block}
 use Rattle.m2v_plane.specs.declared.dims.Dims.{Dims}
 use Rattle.m2v_plane.specs.declared.planes.Plane.{Plane}
 use Rattle.m2v_plane.specs.declared.planes.Lines.{Lines}
@@ -42,6 +43,19 @@ pub record CanPredict (d : Dims) (place : MbPlace) (f b : Dims) (ahead behind : 
   pub forward_size : mode.forward ≡ true → f ≡ d
   pub backward : mode.backward ≡ true → HoldsRead behind mode 1 place
   pub backward_size : mode.backward ≡ true → b ≡ d
+
+-- the slice that is coded of these
+abbrev pub task_by : Samples → View → View → PictureContext → RowPlan → SliceTask
+task_by source forward backward c plan = record {
+  source = source;
+  forward = forward;
+  backward = backward;
+  context = c;
+  row = plan.row;
+  q = plan.q;
+  cap = plan.cap;
+  search = plan.search;
+}
 
 -- ---- a macroblock's decision
 

@@ -5,6 +5,7 @@
 mod laws;
 mod macroblocks;
 mod predict;
+mod row;
 mod source;
 
 pub use laws::{
