@@ -1,12 +1,10 @@
 -- The choice in a picture without references doesn't depend on the size of the frame.
-use Rattle.std.proofs.Common.{◌≡◌, ◌≢◌, ℕ, Bool, true, false, cond, ◌&&◌, ◌||◌, not, List, [], ◌∷◌, ◌++◌, filter, map, refl, ap, sym, ◌∙◌, subst, arith, inl, inr}
-use Rattle.std.specs.Prelude.{nat_eq, if◌then◌else◌}
-use Rattle.std.specs.List.{flat_map}
+use Rattle.std.proofs.Common.{◌≡◌, ◌≢◌, Bool, true, false, ◌&&◌, not, List, [], ◌++◌, filter, map, refl, ap, sym, ◌∙◌, inl, inr}
 use Rattle.std.proofs.lemmas.Bool.{cases_eq}
 use Rattle.m2v_plane.specs.declared.dims.Dims.{Dims}
 use Rattle.m2v_search.specs.Least.{least}
-use Rattle.m2v_choose.specs.Decisions.{Decision, Candidate, increment_of, skipped, intra_syntax, uncoded_syntax, levels_by, written, no_levels, place_of}
-use Rattle.m2v_choose.specs.Candidates.{hold, held_levels, held_intra, still_prediction, may_skip, codings, codings_at, predictions, intra_by, by_prediction, others}
+use Rattle.m2v_choose.specs.Decisions.{Decision, Candidate, increment_of, intra_syntax, uncoded_syntax, levels_by}
+use Rattle.m2v_choose.specs.Candidates.{hold, held_levels, may_skip, codings, codings_at, intra_by, others}
 use Rattle.m2v_choose.specs.Choice.{bits_taken, candidate_at, score, fits, choice_of}
 use Rattle.m2v_choose.proofs.InsideLaws.{no_predictions}
 

@@ -1,5 +1,5 @@
 -- One macroblock more of a slice.
-use Rattle.std.proofs.Common.{◌≡◌, ◌≢◌, ℕ, zero, suc, ◌+◌, ◌-◌, ◌*◌, ◌<◌, ◌≤◌, Bool, true, false, ◌⊎◌, inl, inr, List, [], ◌++◌, length, refl, ap, sym, ◌∙◌, subst, arith, ℤ, pos, ◌-ℤ◌, ◌≤ℤ◌, ◌<ℤ◌}
+use Rattle.std.proofs.Common.{◌≡◌, ℕ, zero, suc, ◌+◌, ◌-◌, ◌*◌, ◌<◌, ◌≤◌, Bool, true, false, ◌⊎◌, inl, inr, List, [], ◌++◌, length, refl, ap, sym, ◌∙◌, subst, arith}
 use Rattle.std.specs.Prelude.{nat_eq, if◌then◌else◌}
 use Rattle.std.proofs.Common.{append-nil}
 use Rattle.std.proofs.lemmas.Int.{ints}
@@ -19,7 +19,7 @@ use Rattle.m2v_choose.specs.declared.values.Limits.{Limits}
 use Rattle.m2v_choose.specs.Decisions.{Decision, Candidate, place_of}
 use Rattle.m2v_choose.specs.Choice.{candidate_at, choice_of, state_behind}
 use Rattle.m2v_choose.specs.Laws.{StaysInside}
-use Rattle.m2v_choose.specs.Trials.{IsRead, IsBefore, HasDirection}
+use Rattle.m2v_choose.specs.Trials.{IsBefore}
 use Rattle.m2v_row.specs.Slices.{SliceTask, Begun, room, decision, with_candidate, begun}
 use Rattle.m2v_row.specs.Laws.{IsSlice, Keeps}
 use Rattle.m2v_row.specs.Steps.{HasReferences, CanCode, row_place, decision_at, text_of}
@@ -138,7 +138,7 @@ module _ (t : SliceTask) (f b : Dims) (ahead behind : Plane → Lines → ℕ �
   skipped_here g k e =
       let d = decision t (begun t row n) n in
       let h = skip_where t slice n g (begun t row n) k small ((choice_there d).skip e) in
-      elim h.1.1 [ | inl two ↦ inl two | inr three ↦ inr (three.0, moved three.1 (k.direction three.0 h.0)) ]
+      elim h.1.1 [ inl two ↦ inl two | inr three ↦ inr (three.0, moved three.1 (k.direction three.0 h.0)) ]
     where
       moved : (begun t row n).state.intra ≡ false → ((begun t row n).state.forward ≡ true) ⊎ (((begun t row n).state.backward ≡ true) ⊎ ((begun t row n).state.intra ≡ true))
           → ((begun t row n).state.forward ≡ true) ⊎ ((begun t row n).state.backward ≡ true)

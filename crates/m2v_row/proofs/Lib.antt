@@ -6,3 +6,4 @@ pub mod AnySize
 pub mod Fits
 pub mod AnyRow
 pub mod Columns
+pub mod Whole

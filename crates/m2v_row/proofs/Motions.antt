@@ -1,34 +1,31 @@
 -- The motion of a choice reads what the references hold.
-use Rattle.std.proofs.Common.{◌≡◌, ◌≢◌, ℕ, ◌<◌, ◌≤◌, Bool, true, false, cond, ◌&&◌, ◌||◌, not, ◌⊎◌, inl, inr, All, List, [], ◌∷◌, ◌++◌, filter, map, refl, ap, sym, ◌∙◌, subst, arith, ℤ}
+use Rattle.std.proofs.Common.{◌≡◌, ◌≢◌, ℕ, ◌≤◌, Bool, true, false, cond, ◌⊎◌, inl, inr, All, List, [], ◌∷◌, ◌++◌, filter, map, refl, sym, subst, arith, ℤ}
 use Rattle.std.specs.Prelude.{nat_eq, if◌then◌else◌}
 use Rattle.std.specs.List.{flat_map}
 use Rattle.std.proofs.lemmas.List.Elements.{All-nil, All-cons, All-append, All-map, All-filter}
-use Rattle.std.proofs.lemmas.Bool.{and_parts, cases_lt, eqb-true, eqb-false, true≢false}
+use Rattle.std.proofs.lemmas.Bool.{cases_lt, eqb-false}
 use Rattle.m2v_vlc.specs.declared.values.MbType.{MbType}
-use Rattle.m2v_vlc.specs.Values.{has_type_i, has_type_p, has_type_b}
 use Rattle.m2v_plane.specs.declared.dims.Dims.{Dims}
 use Rattle.m2v_plane.specs.declared.planes.Plane.{Plane}
 use Rattle.m2v_plane.specs.declared.planes.Lines.{Lines}
 use Rattle.m2v_plane.specs.Sizes.{IsSize}
 use Rattle.m2v_macro.specs.declared.values.MacroSyntax.{MacroSyntax}
 use Rattle.m2v_macro.specs.declared.values.PictureContext.{PictureContext}
-use Rattle.m2v_macro.specs.declared.values.SliceState.{SliceState}
 use Rattle.m2v_macro.specs.Conditions.{has_type}
 use Rattle.m2v_pred.specs.declared.mode.Mode.{Mode}
-use Rattle.m2v_pred.specs.declared.mode.MbPlace.{MbPlace}
 use Rattle.m2v_pred.specs.declared.source.Parts.{Parts}
 use Rattle.m2v_pred.specs.declared.source.Parts.TheVariants.{One}
-use Rattle.m2v_pred.specs.Vectors.{IsPlace, IsInside, HoldsRead}
+use Rattle.m2v_pred.specs.Vectors.{IsPlace, IsInside}
 use Rattle.m2v_pred.specs.Inside.{is_inside}
 use Rattle.m2v_pred.proofs.Tested.{inside_is}
 use Rattle.m2v_macroblock.specs.Modes.{mode_of, told_mode, without_motion_type, zero_motion, skipped_mode}
 use Rattle.m2v_search.specs.Near.{HasNear}
-use Rattle.m2v_choose.specs.Decisions.{Decision, Candidate, Prediction, Coding, pattern_of, place_of, skipped, written, no_levels, levels_by, uncoded_syntax, coded_syntax, intra_syntax}
+use Rattle.m2v_choose.specs.Decisions.{Decision, Candidate, Prediction, Coding, pattern_of, place_of, skipped, written, no_levels, levels_by, uncoded_syntax, intra_syntax}
 use Rattle.m2v_choose.specs.Candidates.{held_intra, held_levels, hold, still_prediction, may_skip, codings, predictions, intra_by, uncoded_by, coded_by, has_block, samples_by, by_prediction, others}
 use Rattle.m2v_choose.specs.Choice.{score, fits, choice_of}
 use Rattle.m2v_choose.specs.Own.{IsOwn, IsOwnState, AreLimits}
-use Rattle.m2v_choose.specs.Laws.{StaysInside, IsWritable}
-use Rattle.m2v_choose.specs.Trials.{IsReference, IsRead}
+use Rattle.m2v_choose.specs.Laws.{IsWritable}
+use Rattle.m2v_choose.specs.Trials.{IsReference}
 use Rattle.m2v_search.proofs.Products.{least_in}
 use Rattle.m2v_search.proofs.Reached.{flat_all}
 use Rattle.m2v_choose.proofs.Chosen.{either}
@@ -93,7 +90,7 @@ module _ (d : Decision) where
   hold_in : (d.context.kind ≢ 1 → Fits d (still_prediction d.context)) → StaysIn d (hold d)
   unfolding hold
   hold_in fit = elim (nat_eq d.context.kind 1) as (λ b. nat_eq d.context.kind 1 ≡ b → StaysIn d (if b then written (held_intra d) (held_levels d) else written (uncoded_syntax d (still_prediction d.context)) no_levels)) [
-    true ↦ λ e. intra_in (record { q = d.state.quantiser; dct_field = false }) (held_levels d)
+    | true ↦ λ e. intra_in (record { q = d.state.quantiser; dct_field = false }) (held_levels d)
     | false ↦ λ e. uncoded_in (still_prediction d.context) (fit (eqb-false d.context.kind 1 e))
   ] refl
 
@@ -118,13 +115,17 @@ choice_stays d own limits read = elim (cases_lt d.context.kind 2) [
 -- a type that isn't intra stands in no I picture, and one with a backward direction in B pictures alone
 type_tells : (k : ℕ) (v : MbType) → has_type k v ≡ true → v.intra ≡ false → 1 ≤ k → k ≤ 3 → (k ≢ 1) × (v.backward ≡ true → k ≡ 3)
 unfolding has_type
-type_tells k v h other least most = (not_one, λ back. elim (cases_lt k 3) [
-  | inl less ↦ elim (cases_lt k 2) [ | inl few ↦ absurd (not_one (omega (arith, few, least))) | inr two ↦ absurd (not_two (omega (arith, two, less)) back) ]
-  | inr last ↦ omega (arith, last, most)
-])
+type_tells k v h other least most = (
+  not_one,
+  λ back. elim (cases_lt k 3) [
+    | inl less ↦ elim (cases_lt k 2) [ inl few ↦ absurd (not_one (omega (arith, few, least))) | inr two ↦ absurd (not_two (omega (arith, two, less)) back) ]
+    | inr last ↦ omega (arith, last, most)
+  ],
+)
   where
     not_one : k ≡ 1 → ⊥
     not_one one = let none : false ≡ true = rw (one, other) at h in absurd cc
+
     not_two : k ≡ 2 → v.backward ≡ true → ⊥
     not_two two back = let none : false ≡ true = rw (two, other, back) at h in absurd cc
 

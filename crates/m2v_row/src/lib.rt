@@ -6,8 +6,10 @@ mod laws;
 mod macroblocks;
 mod predict;
 mod row;
+mod slice;
 mod source;
 
 pub use laws::{
     law_slice_any_row, law_slice_chosen, law_slice_covers, law_slice_fits, law_slice_keeps,
 };
+pub use slice::{SliceOut, code_slice_at};

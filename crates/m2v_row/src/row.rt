@@ -30,8 +30,14 @@ fn limits_at(plan: &RowPlan, columns: u32, bits: u64, column: u32) -> Limits
     requires column { column < columns }
     requires held { bits + held_bits * (columns - 1 - column) ≤ plan.now.cap }
     ensures value { result ≡ record {
-        q = plan.now.q; search = plan.now.search; room = plan.now.cap - bits - held_bits * (columns - 1 - column);
-        first = nat_eq column 0; last = nat_eq (column + 1) columns; column = column; row = plan.now.row } }
+      q = plan.now.q;
+      search = plan.now.search;
+      room = plan.now.cap - bits - held_bits * (columns - 1 - column);
+      first = nat_eq column 0;
+      last = nat_eq (column + 1) columns;
+      column = column;
+      row = plan.now.row;
+    } }
 {
     let later = u64::from(columns - 1 - column);
     Limits {

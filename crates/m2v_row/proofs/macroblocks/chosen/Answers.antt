@@ -1,4 +1,4 @@
-use Rattle.std.proofs.Common.{◌≡◌, ℕ, ◌≤◌, List, ap, sym, ◌∙◌, subst}
+use Rattle.std.proofs.Common.{ℕ, ◌≤◌, List, ap, sym, ◌∙◌, subst}
 use Rattle.m2v_choose.specs.Candidates.{hold}
 use Rattle.m2v_choose.specs.Choice.{bits_taken, choice_of}
 use Rattle.m2v_choose.specs.Trials.{decision}

@@ -1,16 +1,14 @@
-use Rattle.std.proofs.Common.{◌≡◌, ℕ, ◌≤◌, true, false, length, ap, sym, ◌∙◌, subst, arith}
-use Rattle.m2v_plane.specs.declared.planes.Plane.{Plane}
+use Rattle.std.proofs.Common.{◌≡◌, ◌≤◌, false, ap, sym, ◌∙◌, subst, arith}
 use Rattle.m2v_pred.specs.declared.mode.MbPlace.{MbPlace}
 use Rattle.m2v_pred.specs.Predicted.{predicted}
 use Rattle.m2v_recon.specs.Macro.{with_macroblock}
 use Rattle.m2v_macroblock.specs.Modes.{mode_of, skipped_mode}
 use Rattle.m2v_macroblock.specs.Predictions.{prediction_of, sample_at}
-use Rattle.m2v_choose.specs.Decisions.{Decision, Candidate, place_of}
-use Rattle.m2v_choose.specs.Choice.{bits_taken, candidate_at, choice_of}
+use Rattle.m2v_choose.specs.Decisions.{Candidate, place_of}
+use Rattle.m2v_choose.specs.Choice.{bits_taken, candidate_at}
 use Rattle.m2v_choose.specs.Trials.{candidate_of}
 use Rattle.m2v_row.specs.Steps.{CanPredict, decision_at}
 use Rattle.m2v_row.proofs.Candidates.{written_bits, skipped_samples, written_samples}
-use Rattle.m2v_row.proofs.macroblocks.code_macroblock.Given as given
 use Rattle.m2v_row.proofs.macroblocks.code_macroblock.Goals as goal
 
 pub write_chosen-requires-clause-can : goal.write_chosen-requires-clause-can

@@ -1,10 +1,9 @@
 use Rattle.std.proofs.Common.{◌≡◌, ℕ, true, false, ap, sym, ◌∙◌, subst}
-use Rattle.m2v_plane.specs.declared.planes.Plane.{Plane}
 use Rattle.m2v_macro.specs.declared.values.SliceState.{SliceState}
 use Rattle.m2v_macro.specs.States.{after}
 use Rattle.m2v_recon.specs.Macro.{macro_sample, with_macroblock}
 use Rattle.m2v_recon.specs.Steps.{levels_of}
-use Rattle.m2v_macroblock.specs.Macroblocks.{kind_for, macroblock_of, after_macroblock}
+use Rattle.m2v_macroblock.specs.Macroblocks.{kind_for, after_macroblock}
 use Rattle.m2v_macroblock.specs.Conditions.{AreDc}
 use Rattle.m2v_macroblock.specs.Predictions.{sample_at}
 use Rattle.m2v_choose.proofs.OwnReady.{own_context, own_ready}

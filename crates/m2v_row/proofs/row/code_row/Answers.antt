@@ -1,15 +1,12 @@
-use Rattle.std.proofs.Common.{◌≡◌, ℕ, ◌+◌, ◌-◌, ◌*◌, ◌≤◌, ◌<◌, Bool, List, [], ◌++◌, length, refl, ap, sym, ◌∙◌, subst, arith, append-nil}
+use Rattle.std.proofs.Common.{◌≡◌, ◌+◌, ◌<◌, Bool, List, ◌++◌, length, refl, ap, sym, ◌∙◌, subst, arith, append-nil}
 use Rattle.std.proofs.lemmas.List.{length-append}
 use Rattle.std.proofs.Common.{append_assoc}
-use Rattle.m2v_plane.specs.declared.dims.Dims.{Dims}
 use Rattle.m2v_plane.specs.Samples.{Samples}
-use Rattle.m2v_macro.specs.declared.values.SliceState.{SliceState}
 use Rattle.m2v_recon.specs.Macro.{with_macroblock}
-use Rattle.m2v_choose.specs.declared.values.Limits.{Limits}
 use Rattle.m2v_choose.specs.Decisions.{Decision}
 use Rattle.m2v_choose.specs.Choice.{candidate_at, choice_of, state_behind}
-use Rattle.m2v_row.specs.Slices.{SliceTask, room, decision, begun}
-use Rattle.m2v_row.specs.Steps.{CanCode, decision_at, text_of, task_by}
+use Rattle.m2v_row.specs.Slices.{decision, begun}
+use Rattle.m2v_row.specs.Steps.{CanCode, text_of, task_by}
 use Rattle.m2v_row.proofs.Columns.{decision_is, long_so, short_so, row_dims, state_more, text_more, row_more, can_code}
 use Rattle.m2v_row.proofs.row.code_row.Goals as goal
 
@@ -49,8 +46,14 @@ code_macroblock-requires-clause-room g c =
     let n = c.loop-column.column in
     let s = begun t c.args.row.now n in
     let small : n < c.args.context.now.columns = omega arith in
-    omega (arith, small, c.loop-column.invariant.room, ap length c.loop-column.invariant.written ∙ length-append c.args.bits.now.written s.text,
-    short_so t c.requires.slice c.args.row.now n (omega arith), c.requires.room)
+    omega (
+      arith,
+      small,
+      c.loop-column.invariant.room,
+      ap length c.loop-column.invariant.written ∙ length-append c.args.bits.now.written s.text,
+      short_so t c.requires.slice c.args.row.now n (omega arith),
+      c.requires.room,
+    )
 
 pub loop-column-preserved : goal.loop-column-preserved
 unfolding decision

@@ -1,4 +1,4 @@
-use Rattle.std.proofs.Common.{◌≡◌, ℕ, ◌<◌, ◌+◌, ◌*◌, length, get_or}
+use Rattle.std.proofs.Common.{◌≡◌, ℕ, ◌<◌, ◌+◌, ◌*◌, get_or}
 use Rattle.m2v_plane.specs.Sizes.{side}
 use Rattle.m2v_plane.specs.Samples.{sample_in}
 use Rattle.m2v_row.proofs.source.copy_plane.Given as goal
