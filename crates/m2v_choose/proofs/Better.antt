@@ -3,12 +3,10 @@ use Rattle.std.proofs.Common.{◌≡◌, Bool, true, false, not, [], ◌∷◌, 
 use Rattle.std.specs.Prelude.{nat_lt, if◌then◌else◌}
 use Rattle.m2v_plane.specs.declared.planes.Lines.{Lines}
 use Rattle.m2v_plane.specs.declared.planes.Lines.TheVariants as lines
-use Rattle.m2v_macro.specs.declared.values.Selected.{Selected}
 use Rattle.m2v_pred.specs.Motion.{field_lines}
 use Rattle.m2v_macroblock.specs.Predictions.{View}
 use Rattle.m2v_search.specs.declared.form.SearchForm.{SearchForm}
 use Rattle.m2v_search.specs.declared.vector.Found.{Found}
-use Rattle.m2v_search.specs.Search.{Vector}
 use Rattle.m2v_choose.specs.declared.vectors.FieldVector.{FieldVector}
 use Rattle.m2v_choose.specs.Decisions.{Decision}
 use Rattle.m2v_choose.specs.Candidates.{selected, vector_for, sad_for, from_field}

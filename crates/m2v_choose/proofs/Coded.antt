@@ -1,11 +1,12 @@
 -- Codings of a prediction, as they are tried.
-use Rattle.std.proofs.Common.{◌≡◌, ◌≢◌, ℕ, zero, suc, ◌+◌, ◌<◌, ◌≤◌, Bool, true, false, cond, All, List, [], ◌∷◌, ◌++◌, filter, map, refl, ap, sym, ◌∙◌, subst, arith, ℤ, pos, replicate}
-use Rattle.std.specs.Prelude.{nat_eq, nat_lt, if◌then◌else◌, slice_index_or}
-use Rattle.std.proofs.lemmas.Bool.{lt-ltb, le-ltb}
+use Rattle.std.proofs.Common.{◌≡◌, ℕ, zero, suc, ◌<◌, Bool, true, false, cond, All, List, [], ◌∷◌, ◌++◌, filter, map, refl, ap, sym, ◌∙◌, subst, ℤ}
+use Rattle.std.specs.Prelude.{nat_eq, nat_lt, slice_index_or}
+use Rattle.std.proofs.lemmas.Bool.{lt-ltb}
 use Rattle.std.proofs.lemmas.List.{map-append}
 use Rattle.std.proofs.lemmas.List.Elements.{All-nil, All-cons, All-head, All-tail, filter-append}
 use Rattle.m2v_quant.specs.declared.kind.BlockKind.{BlockKind}
 use Rattle.m2v_quant.specs.Kinds.{IsLevel}
+use Rattle.m2v_quant.specs.Matrices.{default_matrix}
 use Rattle.m2v_block.specs.Texts.{IsBlock}
 use Rattle.m2v_macro.specs.declared.values.MacroSyntax.{MacroSyntax}
 use Rattle.m2v_macro.specs.declared.values.SliceState.{SliceState}
@@ -14,7 +15,7 @@ use Rattle.m2v_macro.specs.States.{after}
 use Rattle.m2v_macro.specs.Conditions.{IsMacro}
 use Rattle.m2v_pred.specs.declared.mode.MbPlace.{MbPlace}
 use Rattle.m2v_recon.specs.Macro.{is_coded, kind_at}
-use Rattle.m2v_macroblock.specs.Macroblocks.{Macroblock, kind_for, block_levels}
+use Rattle.m2v_macroblock.specs.Macroblocks.{kind_for, block_levels}
 use Rattle.m2v_macroblock.specs.Modes.{mode_of, told_mode, opposite_parity_vectors}
 use Rattle.m2v_macroblock.specs.Predictions.{View, prediction_of}
 use Rattle.m2v_choose.specs.declared.task.Task.{Task}
@@ -22,7 +23,7 @@ use Rattle.m2v_choose.specs.declared.trial.Best.{Best}
 use Rattle.m2v_choose.specs.Decisions.{Decision, Candidate, Prediction, Coding, place_of, written, levels_by, pattern_of, uncoded_syntax, coded_syntax, has_dct_type}
 use Rattle.m2v_choose.specs.Candidates.{codings_at, codings, second_q, samples_by, coded_by, has_block}
 use Rattle.m2v_choose.specs.Laws.{IsWritable}
-use Rattle.m2v_choose.specs.Trials.{References, decided, Predicts, IsRated, Tried, has_types, sends_code, with_blocks, transforms_of, quantised_by}
+use Rattle.m2v_choose.specs.Trials.{References, decided, Predicts, IsRated, Tried, sends_code, with_blocks, transforms_of, quantised_by}
 use Rattle.m2v_choose.proofs.Written.{other_block, coded_some}
 use Rattle.m2v_choose.proofs.Tried.{tried_on, tried_none}
 
@@ -51,6 +52,18 @@ unfolding kind_for
 kinds_plain c intra q kinds e same =
     let P = λ (kind : BlockKind). kind.precision ≡ 0 in
     subst (All P) (sym same) (All-cons P (kind_for c intra true q) (kind_for c intra false q ∷ []) e (All-cons P (kind_for c intra false q) [] e (All-nil P)))
+
+-- the matrix of blocks that aren't intra is flat
+pub kinds_flat : (c : PictureContext) (intra : Bool) (q : ℕ) (kinds : List BlockKind) → c.non_intra ≡ default_matrix false
+    → kinds ≡ kind_for c intra true q ∷ kind_for c intra false q ∷ [] → All (λ (kind : BlockKind). kind.intra ≡ false → kind.matrix ≡ default_matrix false) kinds
+unfolding kind_for
+kinds_flat c intra q kinds e same =
+    let P = λ (kind : BlockKind). kind.intra ≡ false → kind.matrix ≡ default_matrix false in
+    subst (All P) (sym same) (All-cons P (kind_for c intra true q) (kind_for c intra false q ∷ []) (flat intra) (All-cons P (kind_for c intra false q) [] (flat intra) (All-nil P)))
+  where
+    flat : (b : Bool) → b ≡ false → cond b c.intra c.non_intra ≡ default_matrix false
+    flat true is = absurd cc
+    flat false is = e
 
 -- ---- what is tried
 

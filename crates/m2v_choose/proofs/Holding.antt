@@ -1,7 +1,6 @@
 -- How a macroblock is held.
-use Rattle.std.proofs.Common.{◌≡◌, ◌≢◌, ℕ, ◌-◌, ◌<◌, Bool, true, false, cond, ◌&&◌, not, ◌⊎◌, inl, inr, List, [], ◌∷◌, ◌++◌, map, refl, ap, sym, ◌∙◌, subst, arith, ℤ, pos, replicate}
+use Rattle.std.proofs.Common.{◌≡◌, ℕ, Bool, true, false, ◌&&◌, not, ◌⊎◌, inl, inr, List, [], ◌∷◌, refl, ap, sym, ◌∙◌, subst, ℤ, pos, replicate}
 use Rattle.std.specs.Prelude.{nat_eq, if◌then◌else◌, slice_index_or}
-use Rattle.std.specs.List.{range_with_len}
 use Rattle.m2v_macro.specs.declared.values.MacroSyntax.{MacroSyntax}
 use Rattle.m2v_macro.specs.declared.values.SliceState.{SliceState}
 use Rattle.m2v_macro.specs.declared.values.Direction.{Direction}
@@ -9,7 +8,7 @@ use Rattle.m2v_macro.specs.States.{skips, dc_reset, dc_behind, after}
 use Rattle.m2v_macroblock.specs.Macroblocks.{Macroblock}
 use Rattle.m2v_macroblock.specs.Predictions.{prediction_of}
 use Rattle.m2v_choose.specs.declared.task.Task.{Task}
-use Rattle.m2v_choose.specs.Decisions.{Decision, increment_of, Candidate, Coding, place_of, written, no_levels, intra_syntax, uncoded_syntax}
+use Rattle.m2v_choose.specs.Decisions.{increment_of, Candidate, place_of, written, no_levels, intra_syntax, uncoded_syntax}
 use Rattle.m2v_choose.specs.Candidates.{plain_form, still_vector, still_prediction, held_intra, held_levels, hold}
 use Rattle.m2v_choose.specs.Laws.{IsWritable}
 use Rattle.m2v_choose.specs.Trials.{References, decided, IsTask, Predicts, as_first, AreReferences, CanTry, moving_syntax, place_for}

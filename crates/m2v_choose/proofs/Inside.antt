@@ -1,13 +1,12 @@
 -- Each candidate's prediction stays inside its references, and reads only rows that are near.
-use Rattle.std.proofs.Common.{◌≡◌, ◌≢◌, ℕ, zero, suc, ◌+◌, ◌-◌, ◌*◌, ◌/◌, ◌<◌, ◌≤◌, Bool, true, false, cond, ◌&&◌, ◌||◌, not, IsTrue, ◌⊎◌, inl, inr, All, List, [], ◌∷◌, ◌++◌, filter, map, refl, ap, sym, ◌∙◌, subst, arith, ℤ, pos, neg_ℤ, ◌≤ℤ◌}
+use Rattle.std.proofs.Common.{◌≡◌, ◌≢◌, ℕ, zero, suc, ◌*◌, ◌/◌, ◌<◌, ◌≤◌, Bool, true, false, ◌||◌, not, IsTrue, ◌⊎◌, inl, inr, List, [], ◌∷◌, filter, refl, ap, sym, ◌∙◌, subst, arith, ℤ, pos}
 use Rattle.std.specs.Prelude.{nat_eq, nat_lt, if◌then◌else◌, slice_index_or, unsigned_abs}
-use Rattle.std.specs.List.{flat_map}
 use Rattle.std.proofs.lemmas.Int.{ints}
-use Rattle.std.proofs.lemmas.Bool.{cases_lt, and_parts, eqb-true, true≢false}
-use Rattle.std.proofs.lemmas.List.Elements.{All-nil, All-cons, All-append, All-map, All-filter, filter_passes}
+use Rattle.std.proofs.lemmas.Bool.{eqb-true, true≢false}
+use Rattle.std.proofs.lemmas.List.Elements.{filter_passes}
 use Rattle.m2v_plane.specs.declared.dims.Dims.{Dims}
 use Rattle.m2v_plane.specs.declared.planes.Plane.{Plane}
-use Rattle.m2v_plane.specs.declared.planes.Plane.TheVariants.{Y, Cb, Cr}
+use Rattle.m2v_plane.specs.declared.planes.Plane.TheVariants.{Y}
 use Rattle.m2v_plane.specs.declared.planes.Lines.{Lines}
 use Rattle.m2v_plane.specs.declared.planes.Lines.TheVariants as lines
 use Rattle.m2v_plane.specs.Sizes.{side, lines_of, columns_of, IsSize}
@@ -27,9 +26,9 @@ use Rattle.m2v_pred.specs.declared.source.Parts.TheVariants.{One, Fields, Halves
 use Rattle.m2v_pred.specs.declared.source.Source.{Source}
 use Rattle.m2v_pred.specs.Motion.{parts_of, own_source, own_lines, own_field, field_lines, other_field, lines_read, vector_number, component, is_dual}
 use Rattle.m2v_pred.specs.Vectors.{IsPlace, IsInside, HoldsRead}
-use Rattle.m2v_pred.specs.Patches.{part_count, part_height, part_number}
+use Rattle.m2v_pred.specs.Patches.{part_count, part_height}
 use Rattle.m2v_pred.specs.Inside.{is_inside}
-use Rattle.m2v_macroblock.specs.Modes.{form_of, told_mode, mode_of, zero_motion, without_motion_type, own_parity, skipped_mode}
+use Rattle.m2v_macroblock.specs.Modes.{form_of, told_mode, mode_of, zero_motion, without_motion_type}
 use Rattle.m2v_macroblock.specs.Predictions.{View}
 use Rattle.m2v_search.specs.declared.form.SearchForm.{SearchForm}
 use Rattle.m2v_search.specs.declared.form.SearchForm.TheVariants.{Whole, FieldLines, FieldPicture}
@@ -37,14 +36,14 @@ use Rattle.m2v_search.specs.declared.form.BlockLines.{BlockLines}
 use Rattle.m2v_search.specs.Search.{Vector, zero_vector, block_lines, vector_sad, vector_inside, vectors_around, best_around, whole_vector, vector_of, reach}
 use Rattle.m2v_search.specs.Near.{IsFormIn, is_field, row_lines, HasNear}
 use Rattle.m2v_search.proofs.Forms.{IsSized, sized}
-use Rattle.m2v_choose.specs.Decisions.{Decision, Prediction, place_of, is_frame, has_dct_type, uncoded_syntax}
-use Rattle.m2v_choose.specs.Candidates.{is_bottom, selected, one_vector, vector_for, sad_for, from_field, plain_direction, field_direction, plain_form, prediction, predictions_by, zero_prediction, predictions, still_vector, still_prediction}
+use Rattle.m2v_choose.specs.Decisions.{Decision, place_of, is_frame, uncoded_syntax}
+use Rattle.m2v_choose.specs.Candidates.{selected, vector_for, sad_for, from_field, plain_direction, field_direction, plain_form, prediction, zero_prediction, still_vector, still_prediction}
 use Rattle.m2v_choose.specs.Trials.{IsReference}
 use Rattle.m2v_choose.proofs.Chosen.{either}
 use Rattle.m2v_search.proofs.Products.{least_in}
-use Rattle.m2v_search.proofs.Reached.{IsUpTo, IsWithin}
+use Rattle.m2v_search.proofs.Reached.{IsUpTo}
 use Rattle.m2v_choose.proofs.Kept.{whole_within, half_within}
-use Rattle.m2v_choose.proofs.Stands.{first_of, second_of, two_three}
+use Rattle.m2v_choose.proofs.Stands.{first_of, second_of}
 use Rattle.m2v_choose.proofs.Stays.{still_span, SourceStays, vector_stays, PartsStay, ModeStays, SourceNear, mode_inside, mode_is_inside, direction_held}
 
 -- ---- vectors

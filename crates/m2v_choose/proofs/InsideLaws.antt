@@ -1,19 +1,18 @@
 -- What is chosen stays inside.
-use Rattle.std.proofs.Common.{◌≡◌, ◌≢◌, ℕ, ◌≤◌, ◌<◌, Bool, true, false, cond, ◌&&◌, ◌||◌, not, ◌⊎◌, inl, inr, All, List, [], ◌∷◌, ◌++◌, filter, map, refl, ap, sym, ◌∙◌, subst, arith, ℤ}
-use Rattle.std.specs.Prelude.{nat_eq, if◌then◌else◌, replicate}
+use Rattle.std.proofs.Common.{◌≡◌, ◌≢◌, ℕ, ◌≤◌, Bool, true, false, cond, ◌&&◌, ◌||◌, not, ◌⊎◌, inl, inr, All, List, [], ◌∷◌, ◌++◌, filter, map, refl, sym, subst, arith, ℤ}
+use Rattle.std.specs.Prelude.{nat_eq, replicate}
 use Rattle.std.specs.List.{flat_map}
 use Rattle.std.proofs.lemmas.Bool.{cases_lt, and_parts, eqb-true}
-use Rattle.std.proofs.lemmas.List.Elements.{All-nil, All-cons, All-head, All-tail, All-append, All-map, All-filter, All-weaker}
+use Rattle.std.proofs.lemmas.List.Elements.{All-nil, All-cons, All-append, All-map, All-filter}
 use Rattle.m2v_plane.specs.Sizes.{IsSize}
-use Rattle.m2v_macro.specs.declared.values.MacroSyntax.{MacroSyntax}
 use Rattle.m2v_macro.specs.declared.values.Direction.{Direction}
 use Rattle.m2v_pred.specs.declared.mode.Mode.{Mode}
 use Rattle.m2v_pred.specs.declared.source.Parts.{Parts}
 use Rattle.m2v_pred.specs.declared.source.Parts.TheVariants.{One, Fields}
 use Rattle.m2v_pred.specs.Vectors.{IsPlace}
 use Rattle.m2v_pred.specs.Inside.{is_inside}
-use Rattle.m2v_macroblock.specs.Modes.{mode_of, skipped_mode, zero_motion, without_motion_type, told_mode, opposite_parity_vectors}
-use Rattle.m2v_choose.specs.Decisions.{Decision, Candidate, Prediction, Coding, place_of, has_dct_type, levels_by, pattern_of, skipped, written, no_levels, intra_syntax, uncoded_syntax, coded_syntax}
+use Rattle.m2v_macroblock.specs.Modes.{mode_of, skipped_mode, zero_motion, told_mode, opposite_parity_vectors}
+use Rattle.m2v_choose.specs.Decisions.{Decision, Prediction, Coding, place_of, has_dct_type, levels_by, pattern_of, skipped, written, no_levels, intra_syntax, uncoded_syntax, coded_syntax}
 use Rattle.m2v_choose.specs.Candidates.{plain_direction, field_direction, plain_form, prediction, predictions_by, zero_prediction, predictions, still_prediction, held_intra, held_levels, hold, may_skip, codings, samples_by, intra_by, uncoded_by, coded_by, has_block, by_prediction, others}
 use Rattle.m2v_choose.specs.Choice.{score, fits, choice_of}
 use Rattle.m2v_choose.specs.Own.{IsOwn, AreLimits}

@@ -1,8 +1,7 @@
 -- Codings of an intra macroblock, as they are tried.
-use Rattle.std.proofs.Common.{◌≡◌, ℕ, Bool, true, false, cond, All, List, [], ◌∷◌, ◌++◌, map, refl, ap, sym, ◌∙◌, subst, replicate, ℤ}
-use Rattle.std.specs.Prelude.{nat_eq, if◌then◌else◌}
+use Rattle.std.proofs.Common.{◌≡◌, ℕ, Bool, true, false, cond, List, [], ◌∷◌, ◌++◌, map, refl, ap, sym, ◌∙◌, subst, replicate, ℤ}
+use Rattle.std.specs.Prelude.{nat_eq}
 use Rattle.std.proofs.lemmas.List.{map-append}
-use Rattle.m2v_plane.specs.declared.dims.Dims.{Dims}
 use Rattle.m2v_quant.specs.declared.kind.BlockKind.{BlockKind}
 use Rattle.m2v_macro.specs.declared.values.MacroSyntax.{MacroSyntax}
 use Rattle.m2v_recon.specs.Macro.{kind_at}
@@ -14,7 +13,7 @@ use Rattle.m2v_choose.specs.Decisions.{Decision, Candidate, Coding, place_of, wr
 use Rattle.m2v_choose.specs.Candidates.{codings_at, codings, second_q, intra_by}
 use Rattle.m2v_choose.specs.Own.{IsCode}
 use Rattle.m2v_choose.specs.Laws.{IsWritable}
-use Rattle.m2v_choose.specs.Trials.{References, decided, IsTask, Predicts, IsRated, Tried, has_types, transforms_of, quantised_by}
+use Rattle.m2v_choose.specs.Trials.{References, decided, IsTask, Predicts, Tried, has_types, transforms_of, quantised_by}
 use Rattle.m2v_choose.proofs.Written.{intra_written}
 use Rattle.m2v_choose.proofs.Tried.{tried_on, first_step}
 use Rattle.m2v_choose.proofs.Coded.{same_levels}

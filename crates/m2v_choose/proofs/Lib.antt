@@ -19,3 +19,5 @@ pub mod Predicted
 pub mod Motions
 pub mod Holding
 pub mod Skips
+pub mod Asked
+pub mod Small

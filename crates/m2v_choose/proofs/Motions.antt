@@ -1,5 +1,5 @@
 -- What is searched can be tried.
-use Rattle.std.proofs.Common.{◌≡◌, ◌≢◌, ℕ, ◌≤◌, ◌<◌, Bool, true, false, cond, ◌||◌, ◌⊎◌, inl, inr, IsTrue, All, List, [], ◌∷◌, ◌++◌, refl, ap, sym, ◌∙◌, subst, arith}
+use Rattle.std.proofs.Common.{◌≡◌, ◌≢◌, ℕ, Bool, true, false, cond, ◌||◌, ◌⊎◌, inl, inr, List, [], ◌∷◌, ◌++◌, refl, ap, sym, ◌∙◌, subst, arith}
 use Rattle.std.specs.Prelude.{nat_eq, if◌then◌else◌}
 use Rattle.std.specs.List.{flat_map}
 use Rattle.std.proofs.lemmas.Bool.{eqb-true}
@@ -11,23 +11,18 @@ use Rattle.m2v_plane.specs.Sizes.{IsSize}
 use Rattle.m2v_macro.specs.declared.values.MacroSyntax.{MacroSyntax}
 use Rattle.m2v_macro.specs.declared.values.PictureContext.{PictureContext}
 use Rattle.m2v_macro.specs.declared.values.Direction.{Direction}
-use Rattle.m2v_macro.specs.Conditions.{IsMacro}
 use Rattle.m2v_macro.specs.Macros.{no_vectors, macro_of, no_form}
-use Rattle.m2v_pred.specs.declared.mode.Mode.{Mode}
-use Rattle.m2v_pred.specs.declared.mode.MbPlace.{MbPlace}
 use Rattle.m2v_pred.specs.Motion.{no_motion}
 use Rattle.m2v_pred.specs.declared.source.Parts.{Parts}
 use Rattle.m2v_pred.specs.declared.source.Parts.TheVariants.{One, Fields}
-use Rattle.m2v_pred.specs.Vectors.{IsPlace, IsInside, HoldsRead}
+use Rattle.m2v_pred.specs.Vectors.{IsPlace}
 use Rattle.m2v_macroblock.specs.Modes.{mode_of, told_mode, zero_motion, without_motion_type}
-use Rattle.m2v_macroblock.specs.Predictions.{View}
 use Rattle.m2v_search.specs.Near.{HasNear}
 use Rattle.m2v_choose.specs.declared.task.Task.{Task}
 use Rattle.m2v_choose.specs.declared.trial.Best.{Best}
-use Rattle.m2v_choose.specs.Decisions.{Decision, Candidate, Prediction, Coding, place_of, has_dct_type, uncoded_syntax, coded_syntax, increment_of}
+use Rattle.m2v_choose.specs.Decisions.{Decision, Candidate, Prediction, has_dct_type, uncoded_syntax, coded_syntax}
 use Rattle.m2v_choose.specs.Candidates.{plain_form, plain_direction, field_direction, prediction, predictions_by, zero_prediction, predictions, still_vector, still_prediction, by_prediction}
-use Rattle.m2v_choose.specs.Own.{IsOwn, IsCode}
-use Rattle.m2v_choose.specs.Trials.{References, decided, IsTask, IsRead, IsReference, AreReferences, Goes, has_types, sends_code, with_blocks, CanCode, CanPredict, CanTry, moving_syntax, place_for, IsRated, Tried}
+use Rattle.m2v_choose.specs.Trials.{References, decided, IsTask, IsReference, AreReferences, Goes, has_types, CanCode, CanTry, moving_syntax, place_for, IsRated, Tried}
 use Rattle.m2v_choose.proofs.Stands.{PredictionStands, uncoded_macro, coded_macro, first_of, second_of, plain_told_one, fields_one, zero_one, still_prediction_stands}
 use Rattle.m2v_choose.proofs.Inside.{ModeFits, fits_inside, fits_forward, fits_backward, plain_fits, fields_fit, zero_prediction_fits, still_prediction_fits}
 use Rattle.m2v_choose.proofs.InsideLaws.{no_predictions}

@@ -1,5 +1,5 @@
 -- Predictions, as they are tried.
-use Rattle.std.proofs.Common.{◌≡◌, ℕ, ◌<◌, Bool, true, false, cond, ◌||◌, ◌⊎◌, inl, inr, IsTrue, All, List, [], ◌∷◌, ◌++◌, filter, map, refl, ap, sym, ◌∙◌, subst, arith, ℤ, pos, replicate}
+use Rattle.std.proofs.Common.{◌≡◌, ℕ, Bool, true, false, cond, ◌⊎◌, inl, inr, All, List, [], ◌∷◌, ◌++◌, filter, map, refl, ap, sym, ◌∙◌, subst, arith, ℤ, pos, replicate}
 use Rattle.std.specs.Prelude.{if◌then◌else◌}
 use Rattle.std.proofs.lemmas.Int.{ints}
 use Rattle.std.proofs.lemmas.Bool.{eqb-true}
@@ -19,7 +19,7 @@ use Rattle.m2v_macroblock.specs.Modes.{mode_of, told_mode, opposite_parity_vecto
 use Rattle.m2v_macroblock.specs.Predictions.{View, prediction_of}
 use Rattle.m2v_choose.specs.declared.task.Task.{Task}
 use Rattle.m2v_choose.specs.declared.trial.Best.{Best}
-use Rattle.m2v_choose.specs.Decisions.{Decision, Candidate, Prediction, place_of, written, no_levels, uncoded_syntax}
+use Rattle.m2v_choose.specs.Decisions.{Prediction, place_of, written, no_levels, uncoded_syntax}
 use Rattle.m2v_choose.specs.Candidates.{codings, samples_by, uncoded_by, coded_by, has_block, by_prediction}
 use Rattle.m2v_choose.specs.Laws.{IsWritable}
 use Rattle.m2v_choose.specs.Trials.{References, decided, Predicts, IsRated, Tried, with_blocks}

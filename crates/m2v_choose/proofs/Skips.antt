@@ -1,22 +1,19 @@
 -- A skipped macroblock's prediction.
-use Rattle.std.proofs.Common.{◌≡◌, ◌≢◌, ℕ, ◌<◌, ◌≤◌, Bool, true, false, cond, ◌&&◌, ◌||◌, not, ◌⊎◌, inl, inr, IsTrue, List, [], ◌∷◌, ◌++◌, refl, ap, sym, ◌∙◌, subst, arith, ℤ, pos, neg_ℤ}
-use Rattle.std.specs.Prelude.{nat_eq, if◌then◌else◌, unsigned_abs, map}
+use Rattle.std.proofs.Common.{◌≡◌, ℕ, ◌<◌, ◌≤◌, Bool, true, false, cond, ◌&&◌, ◌||◌, not, ◌⊎◌, inl, inr, List, [], ◌∷◌, ◌++◌, refl, ap, sym, ◌∙◌, subst, arith, ℤ}
+use Rattle.std.specs.Prelude.{nat_eq, unsigned_abs, map}
 use Rattle.std.specs.List.{flat_map}
 use Rattle.std.proofs.lemmas.Int.{ints}
 use Rattle.std.proofs.lemmas.Bool.{and_parts, eqb-true, true≢false}
 use Rattle.m2v_plane.specs.declared.dims.Dims.{Dims}
 use Rattle.m2v_plane.specs.declared.planes.Plane.{Plane}
 use Rattle.m2v_plane.specs.declared.planes.Lines.{Lines}
-use Rattle.m2v_vector.specs.Predictors.{zero, zeros, number_of}
+use Rattle.m2v_vector.specs.Predictors.{number_of}
 use Rattle.m2v_macro.specs.declared.values.PictureContext.{PictureContext}
-use Rattle.m2v_macro.specs.declared.values.SliceState.{SliceState}
 use Rattle.m2v_pred.specs.declared.mode.Mode.{Mode}
 use Rattle.m2v_pred.specs.declared.mode.MbPlace.{MbPlace}
-use Rattle.m2v_pred.specs.declared.source.Parts.TheVariants.{One, Halves}
-use Rattle.m2v_pred.specs.declared.source.Source.{Source}
+use Rattle.m2v_pred.specs.declared.source.Parts.TheVariants.{One}
 use Rattle.m2v_pred.specs.Motion.{own_source, own_lines, parts_of}
 use Rattle.m2v_pred.specs.Vectors.{IsPlace, IsInside, DirectionInside, HoldsRead}
-use Rattle.m2v_pred.specs.Patches.{part_count}
 use Rattle.m2v_pred.specs.Inside.{is_inside}
 use Rattle.m2v_macroblock.specs.Modes.{zero_motion, without_motion_type, skipped_mode}
 use Rattle.m2v_search.specs.Near.{HasNear}
@@ -69,7 +66,7 @@ one_of : (x y : Bool) → (x || y) ≡ true → (x ≡ true) ⊎ (y ≡ true)
 one_of true y e = inl refl
 one_of false y e = inr e
 
-not_true : (b : Bool) → not b ≡ true → b ≡ false
+pub not_true : (b : Bool) → not b ≡ true → b ≡ false
 not_true true e = absurd cc
 not_true false e = refl
 

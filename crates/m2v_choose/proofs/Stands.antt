@@ -1,12 +1,11 @@
 -- Each candidate can stand in its slice: its syntax up to the blocks.
-use Rattle.std.proofs.Common.{◌≡◌, ℕ, ◌≤◌, ◌<◌, Bool, true, false, cond, ◌&&◌, ◌||◌, not, ◌⊎◌, inl, inr, All, List, [], ◌∷◌, ◌++◌, filter, map, refl, sym, subst, arith, ℤ, pos, neg_ℤ, ◌≤ℤ◌}
+use Rattle.std.proofs.Common.{◌≡◌, ℕ, ◌≤◌, ◌<◌, Bool, true, false, cond, ◌&&◌, ◌||◌, not, ◌⊎◌, inl, inr, All, List, [], ◌∷◌, ◌++◌, refl, sym, subst, arith, ℤ, pos}
 use Rattle.std.specs.Prelude.{nat_eq, nat_lt, if◌then◌else◌}
 use Rattle.std.proofs.lemmas.Bool.{cases_lt, and_parts, eqb-true}
 use Rattle.std.proofs.lemmas.Int.{ints}
 use Rattle.std.proofs.lemmas.List.Elements.{All-nil, All-cons, All-append}
 use Rattle.m2v_plane.specs.declared.planes.Lines.{Lines}
 use Rattle.m2v_plane.specs.declared.planes.Lines.TheVariants as lines
-use Rattle.m2v_vlc.specs.declared.values.MbType.{MbType}
 use Rattle.m2v_vector.specs.Predictors.{zeros, has_two, is_halved}
 use Rattle.m2v_macro.specs.declared.values.SliceState.{SliceState}
 use Rattle.m2v_macro.specs.declared.values.PictureContext.{PictureContext}
@@ -15,15 +14,15 @@ use Rattle.m2v_macro.specs.declared.values.Selected.{Selected}
 use Rattle.m2v_macro.specs.declared.values.Direction.{Direction}
 use Rattle.m2v_macro.specs.States.{is_field}
 use Rattle.m2v_macro.specs.Vectors.{shape_of, no_vector}
-use Rattle.m2v_macro.specs.Macros.{has_form, is_form, no_form, has_dct, is_concealed, f_codes_of, no_vectors}
+use Rattle.m2v_macro.specs.Macros.{has_form, is_form, no_form, has_dct, f_codes_of, no_vectors}
 use Rattle.m2v_macro.specs.Conditions.{has_type, IsStep, IsPair, IsSelected, IsDirection, IsMacro}
 use Rattle.m2v_pred.specs.Motion.{other_field, own_field}
 use Rattle.m2v_macroblock.specs.Predictions.{View}
 use Rattle.m2v_search.specs.declared.form.SearchForm.{SearchForm}
 use Rattle.m2v_search.specs.declared.form.SearchForm.TheVariants.{Whole, FieldLines, FieldPicture}
-use Rattle.m2v_search.specs.Search.{Vector, reach}
-use Rattle.m2v_choose.specs.Decisions.{Decision, Prediction, Coding, is_frame, has_dct_type, sends, intra_syntax, uncoded_syntax, coded_syntax, increment_of}
-use Rattle.m2v_choose.specs.Candidates.{is_bottom, selected, one_vector, vector_for, sad_for, from_field, plain_direction, field_direction, plain_form, prediction, predictions_by, zero_prediction, predictions, still_vector, still_prediction}
+use Rattle.m2v_search.specs.Search.{Vector}
+use Rattle.m2v_choose.specs.Decisions.{Decision, Prediction, Coding, has_dct_type, sends, intra_syntax, uncoded_syntax, coded_syntax, increment_of}
+use Rattle.m2v_choose.specs.Candidates.{is_bottom, selected, vector_for, sad_for, from_field, plain_direction, field_direction, plain_form, prediction, predictions_by, zero_prediction, predictions, still_vector, still_prediction}
 use Rattle.m2v_choose.specs.Own.{IsOwn, IsCode}
 use Rattle.m2v_choose.proofs.Chosen.{either}
 use Rattle.m2v_search.proofs.Reached.{IsUpTo, IsWithin}

@@ -1,6 +1,6 @@
 -- Where the samples lie that a vector reads.
-use Rattle.std.proofs.Common.{◌≡◌, ℕ, ◌+◌, ◌-◌, ◌*◌, ◌/◌, ◌%◌, ◌<◌, ◌≤◌, Bool, true, false, ◌&&◌, ◌||◌, not, IsTrue, refl, ap, sym, ◌∙◌, subst, arith, ℤ, pos, negsuc, neg_ℤ, ◌+ℤ◌, ◌≤ℤ◌}
-use Rattle.std.specs.Prelude.{nat_le, nat_lt, int_le, unsigned_abs}
+use Rattle.std.proofs.Common.{◌≡◌, ℕ, ◌+◌, ◌-◌, ◌*◌, ◌/◌, ◌<◌, ◌≤◌, Bool, true, false, ◌&&◌, ◌||◌, not, refl, ap, sym, ◌∙◌, subst, arith, ℤ, pos, negsuc, ◌≤ℤ◌}
+use Rattle.std.specs.Prelude.{nat_lt, int_le, unsigned_abs}
 use Rattle.std.specs.Int.RustNames.{int_div}
 use Rattle.std.proofs.lemmas.Int.{ints}
 use Rattle.std.proofs.lemmas.Bool.{and_parts, le-leb, lt-ltb, ltb-true}
@@ -8,14 +8,14 @@ use Rattle.m2v_plane.specs.declared.dims.Dims.{Dims}
 use Rattle.m2v_plane.specs.declared.planes.Plane.{Plane}
 use Rattle.m2v_plane.specs.declared.planes.Plane.TheVariants.{Y, Cb, Cr}
 use Rattle.m2v_plane.specs.declared.planes.Lines.{Lines}
-use Rattle.m2v_plane.specs.Sizes.{side, lines_of, columns_of, IsSize}
+use Rattle.m2v_plane.specs.Sizes.{side, lines_of, columns_of}
 use Rattle.m2v_pred.specs.declared.mode.MbPlace.{MbPlace}
 use Rattle.m2v_pred.specs.declared.mode.Mode.{Mode}
 use Rattle.m2v_pred.specs.declared.source.Parts.{Parts}
 use Rattle.m2v_pred.specs.declared.source.Parts.TheVariants.{One, Fields, Halves}
 use Rattle.m2v_pred.specs.declared.source.Source.{Source}
 use Rattle.m2v_pred.specs.Motion.{parts_of, part_of_line, line_number, own_source, source_of, is_dual}
-use Rattle.m2v_pred.specs.Vectors.{Reading, reading, parts, moved, in_plane, source_at, down_at, Lies, ReadsInside, DirectionInside, IsInside, HoldsLines, HoldsRead}
+use Rattle.m2v_pred.specs.Vectors.{Reading, reading, parts, moved, in_plane, source_at, down_at, ReadsInside, DirectionInside, IsInside, HoldsLines, HoldsRead}
 use Rattle.m2v_pred.specs.Patches.{part_count, part_height, part_number, source_of_part, PartInside}
 use Rattle.m2v_pred.specs.Inside.{spans, part_inside, all_parts_inside, direction_inside, is_inside}
 use Rattle.m2v_pred.proofs.Places.{moved_more, lie_all}

@@ -1,5 +1,5 @@
 -- Candidates that are tried: what their bits are counted by, what they score, and which is the better one.
-use Rattle.std.proofs.Common.{◌≡◌, ℕ, ◌+◌, ◌-◌, ◌*◌, ◌^◌, ◌<◌, ◌≤◌, Bool, true, false, cond, ◌&&◌, not, All, List, [], ◌∷◌, ◌++◌, filter, map, refl, ap, sym, ◌∙◌, subst, arith, ℤ, pos, neg_ℤ, ◌+ℤ◌, length}
+use Rattle.std.proofs.Common.{◌≡◌, ℕ, ◌+◌, ◌-◌, ◌*◌, ◌^◌, ◌<◌, ◌≤◌, Bool, true, false, cond, ◌&&◌, not, All, List, [], ◌∷◌, ◌++◌, filter, refl, ap, sym, ◌∙◌, subst, arith, ℤ, pos, neg_ℤ, ◌+ℤ◌}
 use Rattle.std.specs.Prelude.{nat_eq, nat_le, nat_lt, if◌then◌else◌, int_le}
 use Rattle.std.specs.List.{range_with_len, flat_map, list_all}
 use Rattle.std.proofs.lemmas.Int.{ints}
@@ -13,24 +13,24 @@ use Rattle.m2v_block.specs.Texts.{block_text}
 use Rattle.m2v_macro.specs.declared.values.MacroSyntax.{MacroSyntax}
 use Rattle.m2v_macro.specs.declared.values.SliceState.{SliceState}
 use Rattle.m2v_macro.specs.declared.values.PictureContext.{PictureContext}
-use Rattle.m2v_macro.specs.States.{skips, pmv_before, dc_reset, dc_behind, after, column, address, not_past, in_order, may_skip}
+use Rattle.m2v_macro.specs.States.{skips, pmv_before, dc_reset, dc_behind, after, column, not_past, in_order, may_skip}
 use Rattle.m2v_macro.specs.Conditions.{IsStep, IsReady, IsAddress}
 use Rattle.m2v_macro.specs.Texts.{macro_text}
 use Rattle.m2v_recon.specs.Macro.{is_coded}
 use Rattle.m2v_recon.specs.Steps.{levels_of}
 use Rattle.m2v_macroblock.specs.Macroblocks.{Macroblock, kind_for, block_levels, predictor}
 use Rattle.m2v_macroblock.specs.Modes.{skipped_mode}
-use Rattle.m2v_macroblock.specs.Texts.{block_in_text, blocks_text, macroblock_text}
-use Rattle.m2v_macroblock.specs.Predictions.{prediction_of, sample_at}
+use Rattle.m2v_macroblock.specs.Texts.{block_in_text, macroblock_text}
+use Rattle.m2v_macroblock.specs.Predictions.{sample_at}
 use Rattle.m2v_macroblock.specs.Conditions.{AreDc, IsMatrix, IsPicture}
 use Rattle.m2v_pred.specs.Predicted.{predicted, block_by}
 use Rattle.m2v_search.specs.Least.{least, better}
 use Rattle.m2v_choose.specs.declared.task.Task.{Task}
 use Rattle.m2v_choose.specs.declared.trial.Best.{Best}
 use Rattle.m2v_choose.specs.Decisions.{Decision, Candidate, place_of, increment_of, skipped, written}
-use Rattle.m2v_choose.specs.Choice.{bits_taken, candidate_at, samples_of, squared, score, fits}
+use Rattle.m2v_choose.specs.Choice.{bits_taken, candidate_at, squared, score, fits}
 use Rattle.m2v_choose.specs.Own.{IsOwn, IsOwnState}
-use Rattle.m2v_choose.specs.Trials.{as_first, References, decided, IsTask, AreAsked, candidate_of, rebuilt_by, Predicts, IsRated, best_of, Tried}
+use Rattle.m2v_choose.specs.Trials.{as_first, References, decided, IsTask, candidate_of, rebuilt_by, Predicts, IsRated, best_of, Tried}
 use Rattle.m2v_choose.proofs.Chosen.{either}
 use Rattle.m2v_choose.proofs.Kept.{before_near}
 use Rattle.m2v_choose.proofs.OwnReady.{own_context, own_ready}

@@ -1,6 +1,6 @@
 -- Each candidate can be written: its syntax, and the levels of its coded blocks.
-use Rattle.std.proofs.Common.{◌≡◌, ◌≢◌, ℕ, zero, suc, ◌+◌, ◌-◌, ◌*◌, ◌/◌, ◌%◌, ◌<◌, ◌≤◌, Bool, true, false, cond, ◌&&◌, not, ◌⊎◌, inl, inr, All, List, [], ◌∷◌, ◌++◌, filter, map, length, get_or, replicate, refl, ap, sym, ◌∙◌, subst, arith, ℤ, pos, negsuc, neg_ℤ, ◌≤ℤ◌, ◌+ℤ◌}
-use Rattle.std.specs.Prelude.{nat_eq, nat_lt, min, if◌then◌else◌, slice_index, slice_index_or, unsigned_abs}
+use Rattle.std.proofs.Common.{◌≡◌, ◌≢◌, ℕ, zero, suc, ◌+◌, ◌-◌, ◌*◌, ◌/◌, ◌%◌, ◌<◌, ◌≤◌, Bool, true, false, cond, ◌&&◌, ◌⊎◌, inl, inr, All, List, [], ◌∷◌, ◌++◌, filter, map, replicate, refl, ap, sym, ◌∙◌, subst, arith, ℤ, pos, negsuc}
+use Rattle.std.specs.Prelude.{nat_eq, nat_lt, min, slice_index_or, unsigned_abs}
 use Rattle.std.specs.List.{range_with_len, flat_map}
 use Rattle.std.proofs.lemmas.Int.{ints}
 use Rattle.std.proofs.lemmas.Bool.{cases_lt, ltb-true, eqb-true}
@@ -9,7 +9,6 @@ use Rattle.std.proofs.lemmas.List.Elements.{All-nil, All-cons, All-head, All-tai
 use Rattle.m2v_quant.specs.declared.kind.BlockKind.{BlockKind}
 use Rattle.m2v_quant.specs.Kinds.{IsLevel}
 use Rattle.m2v_quant.specs.Quantiser.{levels_of, level_at, ac_level, dc_level, with_sign}
-use Rattle.m2v_quant.specs.Scans.{scan_order}
 use Rattle.m2v_idct.specs.Forward.{forward_of}
 use Rattle.m2v_block.specs.Blocks.{IsDc}
 use Rattle.m2v_block.specs.Texts.{IsBlock}
@@ -17,9 +16,9 @@ use Rattle.m2v_macro.specs.declared.values.MacroSyntax.{MacroSyntax}
 use Rattle.m2v_macro.specs.declared.values.SliceState.{SliceState}
 use Rattle.m2v_macro.specs.declared.values.PictureContext.{PictureContext}
 use Rattle.m2v_macro.specs.States.{after}
-use Rattle.m2v_macro.specs.Conditions.{IsStep, IsMacro}
+use Rattle.m2v_macro.specs.Conditions.{IsStep}
 use Rattle.m2v_recon.specs.Macro.{is_coded}
-use Rattle.m2v_macroblock.specs.Macroblocks.{Macroblock, kind_for, block_levels}
+use Rattle.m2v_macroblock.specs.Macroblocks.{kind_for, block_levels}
 use Rattle.m2v_macroblock.specs.Conditions.{AreDc, AreBlocks}
 use Rattle.m2v_choose.specs.Decisions.{Decision, Candidate, Prediction, Coding, skipped, written, no_levels, has_dct_type, increment_of, differences, levels_by, pattern_of, intra_syntax, uncoded_syntax, coded_syntax}
 use Rattle.m2v_choose.specs.Candidates.{held_intra, held_levels, hold, still_prediction, may_skip, codings_at, codings, second_q, predictions, samples_by, intra_by, uncoded_by, coded_by, has_block, by_prediction, others}

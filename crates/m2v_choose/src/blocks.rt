@@ -1,5 +1,7 @@
 //! The blocks of a macroblock: what is transformed, the transforms, the levels, and the pattern.
-ghost use Rattle.std.specs.Prelude.{ℕ, ◌≡◌, ◌≤◌, ◌<◌, ◌+◌, ◌*◌, All, cond, pos, ◌-ℤ◌};
+ghost use Rattle.std.specs.Prelude.{◌&&◌, not, false, nat_lt, unsigned_abs, ℕ, ◌≡◌, ◌≤◌, ◌<◌, ◌+◌, ◌*◌, All, cond, pos, ◌-ℤ◌};
+ghost use Rattle.std.specs.List.{list_all};
+ghost use Rattle.m2v_quant.specs.Matrices.{default_matrix};
 ghost use Rattle.m2v_quant.specs.Kinds.{IsKind, IsLevel};
 ghost use Rattle.m2v_quant.specs.Quantiser.{levels_of as quantised};
 ghost use Rattle.m2v_recon.specs.Macro.{kind_at, kind_of};
@@ -55,9 +57,11 @@ fn put_line(
 )
     requires block { block < 6 }
     requires line { line < 8 }
-    requires value { (k : ℕ) → k < 8 * line → nth out.old k ≡ difference_at source.now.at prediction.now.at dct_field block k }
+    requires value { (k : ℕ) → k < 8 * line
+        → nth out.old k ≡ difference_at source.now.at prediction.now.at dct_field block k }
     requires samples { (k : ℕ) → k < 8 * line → IsSample (nth out.old k) }
-    ensures value { (k : ℕ) → k < 8 * line + 8 → nth out.new k ≡ difference_at source.now.at prediction.now.at dct_field block k }
+    ensures value { (k : ℕ) → k < 8 * line + 8
+        → nth out.new k ≡ difference_at source.now.at prediction.now.at dct_field block k }
     ensures samples { (k : ℕ) → k < 8 * line + 8 → IsSample (nth out.new k) }
 {
     let from = line_place(dct_field, block, line);
@@ -87,7 +91,8 @@ fn differences(
 #[inline(always)]
 fn transform_one(source: &Block16, prediction: &Block16, dct_field: bool, block: usize) -> [i32; 64]
     requires block { block < 6 }
-    ensures value { result ≡ forward_of (differences_of source.now.at prediction.now.at dct_field block) }
+    ensures value { result ≡ forward_of
+        (differences_of source.now.at prediction.now.at dct_field block) }
     ensures coefficients { All IsCoefficient result }
 {
     let mut room = [0; 64];
@@ -105,19 +110,56 @@ pub fn transform(source: &Block16, prediction: &Block16, dct_field: bool, out: &
     }
 }
 
+/// Whether all coefficients have a size below this.
+#[inline(always)]
+fn are_below(transform: &[i32; 64], scale: u32) -> bool
+    ensures { result ≡ list_all (λ f. nat_lt (unsigned_abs f) scale) transform.now }
+{
+    transform.iter().all(|f| f.unsigned_abs() < scale)
+}
+
+/// Whether no coefficient of a block that isn't intra reaches its scale: then it has no level, as its matrix is flat.
+#[inline(always)]
+fn has_none(transform: &[i32; 64], kind: &BlockKind) -> bool
+    ensures { result ≡ (not kind.now.intra && list_all
+        (λ f. nat_lt (unsigned_abs f) kind.now.scale) transform.now) }
+{
+    !kind.intra && are_below(transform, kind.scale)
+}
+
+/// The levels of a block of a kind.
+#[inline(always)]
+fn quantise_kind(transform: &[i32; 64], kind: &BlockKind, out: &mut Levels)
+    requires kind { IsKind kind.now }
+    requires precision { kind.now.precision ≡ 0 }
+    requires plain { kind.now.intra ≡ false → kind.now.matrix ≡ default_matrix false }
+    requires coefficients { All IsCoefficient transform.now }
+    ensures value { out.new.at ≡ quantised transform.now kind.now }
+    ensures levels { All IsLevel out.new.at }
+{
+    if has_none(transform, kind) {
+        out.at = [0; 64];
+        return;
+    }
+    quantise(transform, kind, out);
+}
+
 /// The levels of a block.
 #[inline(always)]
 fn quantise_one(transform: &[i32; 64], kinds: &[BlockKind; 2], block: usize, out: &mut Levels)
     requires kinds { All IsKind kinds.now }
     requires precision { All (λ kind. kind.precision ≡ 0) kinds.now }
+    requires plain { All (λ kind. kind.intra ≡ false
+        → kind.matrix ≡ default_matrix false) kinds.now }
     requires coefficients { All IsCoefficient transform.now }
-    ensures value { out.new.at ≡ quantised transform.now (kind_of (kind_at kinds.now 0) (kind_at kinds.now 1) block) }
+    ensures value { out.new.at
+        ≡ quantised transform.now (kind_of (kind_at kinds.now 0) (kind_at kinds.now 1) block) }
     ensures levels { All IsLevel out.new.at }
 {
     if block < 4 {
-        quantise(transform, &kinds[0], out);
+        quantise_kind(transform, &kinds[0], out);
     } else {
-        quantise(transform, &kinds[1], out);
+        quantise_kind(transform, &kinds[1], out);
     }
 }
 
@@ -125,8 +167,11 @@ fn quantise_one(transform: &[i32; 64], kinds: &[BlockKind; 2], block: usize, out
 pub fn quantise_blocks(transforms: &[[i32; 64]; 6], kinds: &[BlockKind; 2], out: &mut [Levels; 6])
     requires kinds { All IsKind kinds.now }
     requires precision { All (λ kind. kind.precision ≡ 0) kinds.now }
+    requires plain { All (λ kind. kind.intra ≡ false
+        → kind.matrix ≡ default_matrix false) kinds.now }
     requires coefficients { All (All IsCoefficient) transforms.now }
-    ensures value { levels_of out.new ≡ quantised_by transforms.now (kind_at kinds.now 0) (kind_at kinds.now 1) }
+    ensures value { levels_of out.new
+        ≡ quantised_by transforms.now (kind_at kinds.now 0) (kind_at kinds.now 1) }
     ensures levels { All (λ l. All IsLevel l.at) out.new }
 {
     for block in 0..6usize {

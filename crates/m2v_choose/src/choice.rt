@@ -66,7 +66,8 @@ fn held_levels(task: &Task) -> [Levels; 6]
 fn hold_intra(task: &Task) -> Best
     requires task { IsTask task.now }
     requires kind { task.now.context.now.kind ≡ 1 }
-    ensures candidate { (r : References) → candidate_of result.choice ≡ hold_of (decided r task.now) }
+    ensures candidate { (r : References)
+        → candidate_of result.choice ≡ hold_of (decided r task.now) }
     ensures rated { (r : References) → IsRated (decided r task.now) result }
 {
     let none = Block16 { at: [0; 384] };
@@ -79,11 +80,15 @@ fn hold_intra(task: &Task) -> Best
 fn hold_still<V: RefView>(task: &Task, forward: &V, backward: &V) -> Best
     requires task { IsTask task.now }
     requires kind { (task.now.context.now.kind ≡ 2) ⊎ (task.now.context.now.kind ≡ 3) }
-    requires references { AreReferences task.now.context.now.kind (place_for task.now) (V.size forward.now) (V.size backward.now)
+    requires references { AreReferences task.now.context.now.kind (place_for task.now)
+        (V.size forward.now) (V.size backward.now)
         (V.Holds forward.now) (V.Holds backward.now) }
     ensures candidate { candidate_of result.choice
-        ≡ hold_of (decided (references_of (V.size forward.now) (V.at forward.now) (V.at backward.now)) task.now) }
-    ensures rated { IsRated (decided (references_of (V.size forward.now) (V.at forward.now) (V.at backward.now)) task.now) result }
+        ≡ hold_of (decided (references_of (V.size forward.now) (V.at forward.now)
+        (V.at backward.now)) task.now) }
+    ensures rated { IsRated (decided
+        (references_of (V.size forward.now) (V.at forward.now) (V.at backward.now)) task.now)
+        result }
 {
     let still = still_vector(task.context);
     let kind = task.context.kind;
@@ -97,11 +102,15 @@ fn hold_still<V: RefView>(task: &Task, forward: &V, backward: &V) -> Best
 /// The macroblock as it is held: the first candidate.
 fn hold<V: RefView>(task: &Task, forward: &V, backward: &V) -> Best
     requires task { IsTask task.now }
-    requires references { AreReferences task.now.context.now.kind (place_for task.now) (V.size forward.now) (V.size backward.now)
+    requires references { AreReferences task.now.context.now.kind (place_for task.now)
+        (V.size forward.now) (V.size backward.now)
         (V.Holds forward.now) (V.Holds backward.now) }
     ensures candidate { candidate_of result.choice
-        ≡ hold_of (decided (references_of (V.size forward.now) (V.at forward.now) (V.at backward.now)) task.now) }
-    ensures rated { IsRated (decided (references_of (V.size forward.now) (V.at forward.now) (V.at backward.now)) task.now) result }
+        ≡ hold_of (decided (references_of (V.size forward.now) (V.at forward.now)
+        (V.at backward.now)) task.now) }
+    ensures rated { IsRated (decided
+        (references_of (V.size forward.now) (V.at forward.now) (V.at backward.now)) task.now)
+        result }
 {
     if task.context.kind == 1 {
         return hold_intra(task);
@@ -115,10 +124,13 @@ fn hold<V: RefView>(task: &Task, forward: &V, backward: &V) -> Best
 fn may_skip<V: RefView>(task: &Task, forward: &V, mode: &Mode) -> bool
     requires task { IsTask task.now }
     requires mode { mode.now ≡ skipped_mode_of task.now.context.now task.now.state.now }
-    requires place { task.now.context.now.kind ≡ 3 → IsPlace (place_for task.now) (V.size forward.now) }
-    ensures value { (f b : View) → result ≡ may_skip_of (decided (references_of (V.size forward.now) f b) task.now) }
+    requires place { task.now.context.now.kind ≡ 3
+        → IsPlace (place_for task.now) (V.size forward.now) }
+    ensures value { (f b : View)
+        → result ≡ may_skip_of (decided (references_of (V.size forward.now) f b) task.now) }
     ensures inside { IsTrue result → task.now.context.now.kind ≡ 3
-        → IsInside (skipped_mode_of task.now.context.now task.now.state.now) (place_for task.now) (V.size forward.now) }
+        → IsInside (skipped_mode_of task.now.context.now task.now.state.now) (place_for task.now)
+        (V.size forward.now) }
 {
     if task.limits.first || task.limits.last {
         return false;
@@ -136,11 +148,15 @@ impl Best {
     /// Tries to skip the macroblock, where it may be skipped.
     fn try_skip<V: RefView>(&mut self, task: &Task, forward: &V, backward: &V)
         requires task { IsTask task.now }
-        requires direction { HasDirection task.now.context.now task.now.state.now task.now.limits.now }
-        requires references { AreReferences task.now.context.now.kind (place_for task.now) (V.size forward.now) (V.size backward.now)
+        requires direction { HasDirection task.now.context.now task.now.state.now
+            task.now.limits.now }
+        requires references { AreReferences task.now.context.now.kind (place_for task.now)
+            (V.size forward.now) (V.size backward.now)
             (V.Holds forward.now) (V.Holds backward.now) }
-        ensures tried { let d = decided (references_of (V.size forward.now) (V.at forward.now) (V.at backward.now)) task.now in
-            IsRated d self.old → Tried d self.old self.new (cond (may_skip_of d) (skipped ∷ []) []) }
+        ensures tried { let d = decided
+            (references_of (V.size forward.now) (V.at forward.now) (V.at backward.now)) task.now in
+            IsRated d self.old → Tried d self.old self.new
+            (cond (may_skip_of d) (skipped ∷ []) []) }
     {
         let mode = skipped_mode(task.context, task.state);
         if !may_skip(task, forward, &mode) {
@@ -156,11 +172,14 @@ impl Best {
 fn choose_for<V: RefView>(task: &Task, forward: &V, backward: &V) -> Choice
     requires task { IsTask task.now }
     requires direction { HasDirection task.now.context.now task.now.state.now task.now.limits.now }
-    requires references { AreReferences task.now.context.now.kind (place_for task.now) (V.size forward.now) (V.size backward.now)
+    requires references { AreReferences task.now.context.now.kind (place_for task.now)
+        (V.size forward.now) (V.size backward.now)
         (V.Holds forward.now) (V.Holds backward.now) }
     ensures value { candidate_of result
-        ≡ choice_of (decided (references_of (V.size forward.now) (V.at forward.now) (V.at backward.now)) task.now) }
-    ensures bits { let d = decided (references_of (V.size forward.now) (V.at forward.now) (V.at backward.now)) task.now in
+        ≡ choice_of (decided (references_of (V.size forward.now) (V.at forward.now)
+        (V.at backward.now)) task.now) }
+    ensures bits { let d = decided
+        (references_of (V.size forward.now) (V.at forward.now) (V.at backward.now)) task.now in
         result.bits ≡ bits_taken d (choice_of d) }
 {
     let mut best = hold(task, forward, backward);
@@ -190,14 +209,19 @@ pub fn choose<V: RefView>(
     requires limits { AreLimits limits.now }
     requires row { limits.now.row < 72 }
     requires column { limits.now.column < context.now.columns }
-    requires forward { context.now.kind ≢ 1 → IsRead (V.size forward.now) (V.Holds forward.now) (place_at context.now limits.now) }
-    requires backward { context.now.kind ≡ 3 → IsRead (V.size backward.now) (V.Holds backward.now) (place_at context.now limits.now) }
+    requires forward { context.now.kind ≢ 1
+        → IsRead (V.size forward.now) (V.Holds forward.now) (place_at context.now limits.now) }
+    requires backward { context.now.kind ≡ 3
+        → IsRead (V.size backward.now) (V.Holds backward.now) (place_at context.now limits.now) }
     requires sizes { context.now.kind ≡ 3 → V.size backward.now ≡ V.size forward.now }
-    requires room { let d = decision (V.size forward.now) source.now.at (V.at forward.now) (V.at backward.now) context.now state.now limits.now in
+    requires room { let d = decision (V.size forward.now) source.now.at (V.at forward.now)
+        (V.at backward.now) context.now state.now limits.now in
         bits_taken d (hold_of d) ≤ limits.now.room }
     ensures value { candidate_of result
-        ≡ choice_of (decision (V.size forward.now) source.now.at (V.at forward.now) (V.at backward.now) context.now state.now limits.now) }
-    ensures bits { let d = decision (V.size forward.now) source.now.at (V.at forward.now) (V.at backward.now) context.now state.now limits.now in
+        ≡ choice_of (decision (V.size forward.now) source.now.at (V.at forward.now)
+        (V.at backward.now) context.now state.now limits.now) }
+    ensures bits { let d = decision (V.size forward.now) source.now.at (V.at forward.now)
+        (V.at backward.now) context.now state.now limits.now in
         result.bits ≡ bits_taken d (choice_of d) }
     ensures most { result.bits ≤ 4608 }
     ensures fits { result.bits ≤ limits.now.room }

@@ -77,7 +77,8 @@ pub fn no_form(context: &PictureContext) -> u8
 #[tactic(auto, unfolding(crate::specs::Decisions::intra_syntax))]
 pub fn intra_syntax(task: &Task, q: u8, dct_field: bool) -> MacroSyntax
     requires task { IsTask task.now }
-    ensures value { (r : References) → result ≡ intra_syntax_of (decided r task.now) (record { q = q; dct_field = dct_field }) }
+    ensures value { (r : References)
+        → result ≡ intra_syntax_of (decided r task.now) (record { q = q; dct_field = dct_field }) }
     ensures increment { result.increment ≡ task.now.increment }
 {
     let send = sends(task, q);
@@ -96,7 +97,8 @@ pub fn intra_syntax(task: &Task, q: u8, dct_field: bool) -> MacroSyntax
 #[inline(always)]
 pub fn transform_fields(task: &Task, prediction: &Block16, out: &mut [[i32; 64]; 6])
     requires coefficients { All (All IsCoefficient) out.old }
-    ensures value { has_types task.now.context.now ≡ true → out.new ≡ transforms_of task.now.source.now.at prediction.now.at true }
+    ensures value { has_types task.now.context.now ≡ true
+        → out.new ≡ transforms_of task.now.source.now.at prediction.now.at true }
     ensures coefficients { All (All IsCoefficient) out.new }
 {
     if has_dct_type(task.context) {
@@ -121,11 +123,14 @@ impl Best {
         requires dct { dct_field ≡ true → has_types task.now.context.now ≡ true }
         requires bare { CanCode task.now bare.now }
         requires coefficients { All (All IsCoefficient) transforms.now }
-        ensures tried { (r : References) (p : Prediction) → bare.now ≡ uncoded_syntax (decided r task.now) p
-            → prediction.now.at ≡ samples_by (decided r task.now) p → transforms.now ≡ transforms_of task.now.source.now.at prediction.now.at dct_field
+        ensures tried { (r : References) (p : Prediction)
+            → bare.now ≡ uncoded_syntax (decided r task.now) p
+            → prediction.now.at ≡ samples_by (decided r task.now) p
+            → transforms.now ≡ transforms_of task.now.source.now.at prediction.now.at dct_field
             → IsRated (decided r task.now) self.old
             → Tried (decided r task.now) self.old self.new
-            (filter has_block (coded_by (decided r task.now) p (record { q = q; dct_field = dct_field }) ∷ [])) }
+            (filter has_block (coded_by (decided r task.now) p
+            (record { q = q; dct_field = dct_field }) ∷ [])) }
     {
         let kinds = kinds(task.context, false, q);
         quantise_blocks(transforms, &kinds, room);
@@ -153,12 +158,16 @@ impl Best {
         requires bare { CanCode task.now bare.now }
         requires frame { All (All IsCoefficient) frame.now }
         requires field { All (All IsCoefficient) field.now }
-        ensures tried { (r : References) (p : Prediction) → bare.now ≡ uncoded_syntax (decided r task.now) p
-            → prediction.now.at ≡ samples_by (decided r task.now) p → frame.now ≡ transforms_of task.now.source.now.at prediction.now.at false
-            → (has_types task.now.context.now ≡ true → field.now ≡ transforms_of task.now.source.now.at prediction.now.at true)
+        ensures tried { (r : References) (p : Prediction)
+            → bare.now ≡ uncoded_syntax (decided r task.now) p
+            → prediction.now.at ≡ samples_by (decided r task.now) p
+            → frame.now ≡ transforms_of task.now.source.now.at prediction.now.at false
+            → (has_types task.now.context.now ≡ true
+            → field.now ≡ transforms_of task.now.source.now.at prediction.now.at true)
             → IsRated (decided r task.now) self.old
             → Tried (decided r task.now) self.old self.new
-            (filter has_block (map (coded_by (decided r task.now) p) (codings_at (decided r task.now) q))) }
+            (filter has_block (map (coded_by (decided r task.now) p)
+            (codings_at (decided r task.now) q))) }
     {
         self.try_coding(task, bare, prediction, frame, q, false, room);
         if has_dct_type(task.context) {
@@ -170,10 +179,13 @@ impl Best {
     pub fn try_codings(&mut self, task: &Task, bare: &MacroSyntax, prediction: &Block16)
         requires task { IsTask task.now }
         requires bare { CanCode task.now bare.now }
-        ensures tried { (r : References) (p : Prediction) → bare.now ≡ uncoded_syntax (decided r task.now) p
-            → prediction.now.at ≡ samples_by (decided r task.now) p → IsRated (decided r task.now) self.old
+        ensures tried { (r : References) (p : Prediction)
+            → bare.now ≡ uncoded_syntax (decided r task.now) p
+            → prediction.now.at ≡ samples_by (decided r task.now) p
+            → IsRated (decided r task.now) self.old
             → Tried (decided r task.now) self.old self.new
-            (filter has_block (map (coded_by (decided r task.now) p) (codings (decided r task.now)))) }
+            (filter has_block (map (coded_by (decided r task.now) p)
+            (codings (decided r task.now)))) }
     {
         let mut room = no_levels();
         let mut frame = [[0; 64]; 6];

@@ -28,10 +28,12 @@ impl Best {
         requires q { IsCode q }
         requires dct { dct_field ≡ true → has_types task.now.context.now ≡ true }
         requires none { none.now.at ≡ replicate 384 0 }
-        requires transforms { transforms.now ≡ transforms_of task.now.source.now.at (replicate 384 0) dct_field }
+        requires transforms { transforms.now
+            ≡ transforms_of task.now.source.now.at (replicate 384 0) dct_field }
         requires coefficients { All (All IsCoefficient) transforms.now }
         ensures tried { (r : References) → IsRated (decided r task.now) self.old
-            → Tried (decided r task.now) self.old self.new (intra_by (decided r task.now) (record { q = q; dct_field = dct_field }) ∷ []) }
+            → Tried (decided r task.now) self.old self.new
+            (intra_by (decided r task.now) (record { q = q; dct_field = dct_field }) ∷ []) }
     {
         let kinds = kinds(task.context, true, q);
         quantise_blocks(transforms, &kinds, room);
@@ -53,11 +55,13 @@ impl Best {
         requires q { IsCode q }
         requires none { none.now.at ≡ replicate 384 0 }
         requires frame { frame.now ≡ transforms_of task.now.source.now.at (replicate 384 0) false }
-        requires field { has_types task.now.context.now ≡ true → field.now ≡ transforms_of task.now.source.now.at (replicate 384 0) true }
+        requires field { has_types task.now.context.now ≡ true
+            → field.now ≡ transforms_of task.now.source.now.at (replicate 384 0) true }
         requires first { All (All IsCoefficient) frame.now }
         requires second { All (All IsCoefficient) field.now }
         ensures tried { (r : References) → IsRated (decided r task.now) self.old
-            → Tried (decided r task.now) self.old self.new (map (intra_by (decided r task.now)) (codings_at (decided r task.now) q)) }
+            → Tried (decided r task.now) self.old self.new
+            (map (intra_by (decided r task.now)) (codings_at (decided r task.now) q)) }
     {
         self.try_intra_coding(task, none, frame, q, false, room);
         if has_dct_type(task.context) {
@@ -69,7 +73,8 @@ impl Best {
     pub fn try_intra(&mut self, task: &Task)
         requires task { IsTask task.now }
         ensures tried { (r : References) → IsRated (decided r task.now) self.old
-            → Tried (decided r task.now) self.old self.new (map (intra_by (decided r task.now)) (codings (decided r task.now))) }
+            → Tried (decided r task.now) self.old self.new
+            (map (intra_by (decided r task.now)) (codings (decided r task.now))) }
     {
         let none = Block16 { at: [0; 384] };
         let mut room = no_levels();

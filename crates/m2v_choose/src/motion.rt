@@ -40,7 +40,8 @@ pub fn no_vectors() -> Vectors {
 #[inline(always)]
 fn plain_backward<V: RefView>(task: &Task, backward: &V) -> Vectors
     requires task { IsTask task.now }
-    requires view { task.now.context.now.kind ≡ 3 → IsRead (V.size backward.now) (V.Holds backward.now) (place_for task.now) }
+    requires view { task.now.context.now.kind ≡ 3
+        → IsRead (V.size backward.now) (V.Holds backward.now) (place_for task.now) }
     ensures value { task.now.context.now.kind ≡ 3 → (r : References) → r.dims ≡ V.size backward.now
         → direction_by result ≡ plain_direction_of (decided r task.now) (V.at backward.now) }
 {
@@ -54,7 +55,8 @@ fn plain_backward<V: RefView>(task: &Task, backward: &V) -> Vectors
 #[inline(always)]
 fn field_backward<V: RefView>(task: &Task, backward: &V) -> Vectors
     requires task { IsTask task.now }
-    requires view { task.now.context.now.kind ≡ 3 → IsRead (V.size backward.now) (V.Holds backward.now) (place_for task.now) }
+    requires view { task.now.context.now.kind ≡ 3
+        → IsRead (V.size backward.now) (V.Holds backward.now) (place_for task.now) }
     requires structure { task.now.context.now.extension.structure ≡ 3 }
     ensures value { task.now.context.now.kind ≡ 3 → (r : References) → r.dims ≡ V.size backward.now
         → direction_by result ≡ field_direction_of (decided r task.now) (V.at backward.now) }
@@ -79,12 +81,18 @@ impl Best {
         behind: &Vectors,
     )
         requires task { IsTask task.now }
-        requires can { CanTry task.now (V.size forward.now) (V.Holds forward.now) (V.Holds backward.now)
-            (moving_syntax_of task.now.increment form has_forward has_backward (direction_by ahead.now) (direction_by behind.now)) true }
+        requires can { CanTry task.now (V.size forward.now) (V.Holds forward.now)
+            (V.Holds backward.now)
+            (moving_syntax_of task.now.increment form has_forward has_backward
+            (direction_by ahead.now) (direction_by behind.now)) true }
         requires size { has_backward ≡ true → V.size backward.now ≡ V.size forward.now }
-        ensures tried { (f b : Direction) → let d = decided (references_of (V.size forward.now) (V.at forward.now) (V.at backward.now)) task.now in
-            (has_forward ≡ true → direction_by ahead.now ≡ f) → (has_backward ≡ true → direction_by behind.now ≡ b)
-            → IsRated d self.old → Tried d self.old self.new (by_prediction d (prediction form has_forward has_backward f b)) }
+        ensures tried { (f b : Direction)
+            → let d = decided (references_of (V.size forward.now) (V.at forward.now)
+            (V.at backward.now)) task.now in
+            (has_forward ≡ true → direction_by ahead.now ≡ f)
+            → (has_backward ≡ true → direction_by behind.now ≡ b)
+            → IsRated d self.old → Tried d self.old self.new
+            (by_prediction d (prediction form has_forward has_backward f b)) }
     {
         let m = moving_syntax(task, form, has_forward, has_backward, ahead, behind);
         self.try_prediction(task, forward, backward, &m, true);
@@ -102,12 +110,18 @@ impl Best {
     )
         requires task { IsTask task.now }
         requires kind { (task.now.context.now.kind ≡ 2) ⊎ (task.now.context.now.kind ≡ 3) }
-        requires can { (hf hb : Bool) → Goes task.now.context.now.kind hf hb → CanTry task.now (V.size forward.now) (V.Holds forward.now) (V.Holds backward.now)
-            (moving_syntax_of task.now.increment form hf hb (direction_by ahead.now) (direction_by behind.now)) true }
+        requires can { (hf hb : Bool) → Goes task.now.context.now.kind hf hb
+            → CanTry task.now (V.size forward.now) (V.Holds forward.now) (V.Holds backward.now)
+            (moving_syntax_of task.now.increment form hf hb (direction_by ahead.now)
+            (direction_by behind.now)) true }
         requires size { task.now.context.now.kind ≡ 3 → V.size backward.now ≡ V.size forward.now }
-        ensures tried { (f b : Direction) → let d = decided (references_of (V.size forward.now) (V.at forward.now) (V.at backward.now)) task.now in
-            direction_by ahead.now ≡ f → (task.now.context.now.kind ≡ 3 → direction_by behind.now ≡ b)
-            → IsRated d self.old → Tried d self.old self.new (flat_map (by_prediction d) (predictions_by d form f b)) }
+        ensures tried { (f b : Direction)
+            → let d = decided (references_of (V.size forward.now) (V.at forward.now)
+            (V.at backward.now)) task.now in
+            direction_by ahead.now ≡ f
+            → (task.now.context.now.kind ≡ 3 → direction_by behind.now ≡ b)
+            → IsRated d self.old → Tried d self.old self.new
+            (flat_map (by_prediction d) (predictions_by d form f b)) }
     {
         self.try_moving(task, forward, backward, form, true, false, ahead, behind);
         if task.context.kind == 2 {
@@ -120,11 +134,14 @@ impl Best {
     /// Tries the type without a direction, in a P picture.
     fn try_zero<V: RefView>(&mut self, task: &Task, forward: &V, backward: &V)
         requires task { IsTask task.now }
-        requires references { AreReferences task.now.context.now.kind (place_for task.now) (V.size forward.now) (V.size backward.now)
+        requires references { AreReferences task.now.context.now.kind (place_for task.now)
+            (V.size forward.now) (V.size backward.now)
             (V.Holds forward.now) (V.Holds backward.now) }
-        ensures tried { let d = decided (references_of (V.size forward.now) (V.at forward.now) (V.at backward.now)) task.now in
+        ensures tried { let d = decided
+            (references_of (V.size forward.now) (V.at forward.now) (V.at backward.now)) task.now in
             IsRated d self.old → Tried d self.old self.new
-            (flat_map (by_prediction d) (cond (nat_eq task.now.context.now.kind 2) (zero_prediction d ∷ []) [])) }
+            (flat_map (by_prediction d)
+            (cond (nat_eq task.now.context.now.kind 2) (zero_prediction d ∷ []) [])) }
     {
         if task.context.kind == 2 {
             let none = no_vectors();
@@ -137,11 +154,14 @@ impl Best {
     fn try_plain<V: RefView>(&mut self, task: &Task, forward: &V, backward: &V)
         requires task { IsTask task.now }
         requires kind { (task.now.context.now.kind ≡ 2) ⊎ (task.now.context.now.kind ≡ 3) }
-        requires references { AreReferences task.now.context.now.kind (place_for task.now) (V.size forward.now) (V.size backward.now)
+        requires references { AreReferences task.now.context.now.kind (place_for task.now)
+            (V.size forward.now) (V.size backward.now)
             (V.Holds forward.now) (V.Holds backward.now) }
-        ensures tried { let d = decided (references_of (V.size forward.now) (V.at forward.now) (V.at backward.now)) task.now in
+        ensures tried { let d = decided
+            (references_of (V.size forward.now) (V.at forward.now) (V.at backward.now)) task.now in
             IsRated d self.old → Tried d self.old self.new (flat_map (by_prediction d)
-            (predictions_by d (plain_form_of d.context) (plain_direction_of d d.forward) (plain_direction_of d d.backward))) }
+            (predictions_by d (plain_form_of d.context) (plain_direction_of d d.forward)
+            (plain_direction_of d d.backward))) }
     {
         let _size = forward.dims();
         let ahead = plain_direction(task, forward);
@@ -154,11 +174,15 @@ impl Best {
     fn try_fields<V: RefView>(&mut self, task: &Task, forward: &V, backward: &V)
         requires task { IsTask task.now }
         requires kind { (task.now.context.now.kind ≡ 2) ⊎ (task.now.context.now.kind ≡ 3) }
-        requires references { AreReferences task.now.context.now.kind (place_for task.now) (V.size forward.now) (V.size backward.now)
+        requires references { AreReferences task.now.context.now.kind (place_for task.now)
+            (V.size forward.now) (V.size backward.now)
             (V.Holds forward.now) (V.Holds backward.now) }
-        ensures tried { let d = decided (references_of (V.size forward.now) (V.at forward.now) (V.at backward.now)) task.now in
+        ensures tried { let d = decided
+            (references_of (V.size forward.now) (V.at forward.now) (V.at backward.now)) task.now in
             IsRated d self.old → Tried d self.old self.new (flat_map (by_prediction d)
-            (cond (has_dct_type_of d) (predictions_by d 1 (field_direction_of d d.forward) (field_direction_of d d.backward)) [])) }
+            (cond (has_dct_type_of d)
+            (predictions_by d 1 (field_direction_of d d.forward)
+            (field_direction_of d d.backward)) [])) }
     {
         if has_dct_type(task.context) {
             let _size = forward.dims();
@@ -171,10 +195,13 @@ impl Best {
     /// Tries all predictions of the picture, in order.
     pub fn try_predictions<V: RefView>(&mut self, task: &Task, forward: &V, backward: &V)
         requires task { IsTask task.now }
-        requires references { AreReferences task.now.context.now.kind (place_for task.now) (V.size forward.now) (V.size backward.now)
+        requires references { AreReferences task.now.context.now.kind (place_for task.now)
+            (V.size forward.now) (V.size backward.now)
             (V.Holds forward.now) (V.Holds backward.now) }
-        ensures tried { let d = decided (references_of (V.size forward.now) (V.at forward.now) (V.at backward.now)) task.now in
-            IsRated d self.old → Tried d self.old self.new (flat_map (by_prediction d) (predictions d)) }
+        ensures tried { let d = decided
+            (references_of (V.size forward.now) (V.at forward.now) (V.at backward.now)) task.now in
+            IsRated d self.old → Tried d self.old self.new
+            (flat_map (by_prediction d) (predictions d)) }
     {
         if task.context.kind == 1 {
             return;

@@ -43,7 +43,8 @@ pub fn moving_syntax(
     forward: &Vectors,
     backward: &Vectors,
 ) -> MacroSyntax
-    ensures { result ≡ moving_syntax_of task.now.increment form has_forward has_backward (direction_by forward.now) (direction_by backward.now) }
+    ensures { result ≡ moving_syntax_of task.now.increment form has_forward has_backward
+        (direction_by forward.now) (direction_by backward.now) }
 {
     let f = told_vectors(has_forward, forward);
     let b = told_vectors(has_backward, backward);
@@ -71,9 +72,11 @@ pub fn predict_moving<V: RefView>(
 )
     requires task { IsTask task.now }
     requires code { CanCode task.now bare.now }
-    requires predict { CanPredict task.now (V.size forward.now) (V.Holds forward.now) (V.Holds backward.now) bare.now }
+    requires predict { CanPredict task.now (V.size forward.now) (V.Holds forward.now)
+        (V.Holds backward.now) bare.now }
     requires size { bare.now.kind.backward ≡ true → V.size backward.now ≡ V.size forward.now }
-    ensures { out.new.at ≡ prediction_of (V.at forward.now) (V.at backward.now) task.now.context.now (place_for task.now) bare.now }
+    ensures { out.new.at ≡ prediction_of (V.at forward.now)
+        (V.at backward.now) task.now.context.now (place_for task.now) bare.now }
 {
     let q = task.state.quantiser;
     let coded = with_blocks(bare, sends(task, q), q, false, 63);
@@ -88,8 +91,10 @@ impl Best {
         requires increment { bare.now.increment ≡ task.now.increment }
         requires stands { uncoded ≡ true → IsMacro task.now.context.now task.now.first bare.now }
         requires pattern { bare.now.pattern ≡ 0 }
-        ensures tried { (r : References) → Predicts r task.now bare.now prediction.now.at → IsRated (decided r task.now) self.old
-            → Tried (decided r task.now) self.old self.new (cond uncoded (written bare.now no_levels_of ∷ []) []) }
+        ensures tried { (r : References) → Predicts r task.now bare.now prediction.now.at
+            → IsRated (decided r task.now) self.old
+            → Tried (decided r task.now) self.old self.new
+            (cond uncoded (written bare.now no_levels_of ∷ []) []) }
     {
         if uncoded {
             self.try_written(task, bare, &no_levels(), prediction);
@@ -108,8 +113,10 @@ impl Best {
         requires code { CanCode task.now bare.now }
         requires stands { uncoded ≡ true → IsMacro task.now.context.now task.now.first bare.now }
         requires pattern { bare.now.pattern ≡ 0 }
-        ensures tried { (r : References) (p : Prediction) → bare.now ≡ uncoded_syntax (decided r task.now) p → p.uncoded ≡ uncoded
-            → prediction.now.at ≡ samples_by (decided r task.now) p → IsRated (decided r task.now) self.old
+        ensures tried { (r : References) (p : Prediction)
+            → bare.now ≡ uncoded_syntax (decided r task.now) p → p.uncoded ≡ uncoded
+            → prediction.now.at ≡ samples_by (decided r task.now) p
+            → IsRated (decided r task.now) self.old
             → Tried (decided r task.now) self.old self.new (by_prediction (decided r task.now) p) }
     {
         self.try_uncoded(task, bare, uncoded, prediction);
@@ -126,10 +133,14 @@ impl Best {
         uncoded: bool,
     )
         requires task { IsTask task.now }
-        requires can { CanTry task.now (V.size forward.now) (V.Holds forward.now) (V.Holds backward.now) bare.now uncoded }
+        requires can { CanTry task.now (V.size forward.now) (V.Holds forward.now)
+            (V.Holds backward.now) bare.now uncoded }
         requires size { bare.now.kind.backward ≡ true → V.size backward.now ≡ V.size forward.now }
-        ensures tried { (p : Prediction) → let d = decided (references_of (V.size forward.now) (V.at forward.now) (V.at backward.now)) task.now in
-            bare.now ≡ uncoded_syntax d p → p.uncoded ≡ uncoded → IsRated d self.old → Tried d self.old self.new (by_prediction d p) }
+        ensures tried { (p : Prediction)
+            → let d = decided (references_of (V.size forward.now) (V.at forward.now)
+            (V.at backward.now)) task.now in
+            bare.now ≡ uncoded_syntax d p → p.uncoded ≡ uncoded → IsRated d self.old
+            → Tried d self.old self.new (by_prediction d p) }
     {
         let mut prediction = Block16 { at: [0; 384] };
         predict_moving(task, forward, backward, bare, &mut prediction);

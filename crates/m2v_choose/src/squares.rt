@@ -21,7 +21,8 @@ fn square(x: u8, y: u8) -> u32
 fn line_squared(source: &Block16, samples: &Block16, from: usize, side: usize) -> u32
     requires side { side ≤ 16 }
     requires within { from + side ≤ 384 }
-    ensures value { result ≡ sum_by (λ c. square_at source.now.at samples.now.at (from + c)) (range_with_len 0 side) }
+    ensures value { result ≡ sum_by (λ c. square_at source.now.at samples.now.at (from + c))
+        (range_with_len 0 side) }
     ensures most { result ≤ 1040400 }
 {
     let mut sum = 0;

@@ -93,7 +93,8 @@ fn dc_reset(context: &PictureContext) -> [i32; 3]
 #[inline(always)]
 fn dc_before(context: &PictureContext, state: &SliceState, increment: u32) -> [i32; 3]
     requires { context.now.extension.dc_precision ≤ 3 }
-    ensures { result ≡ (if skips_of state.now increment then dc_reset_of context.now else state.now.dc) }
+    ensures { result ≡ (if skips_of state.now increment then dc_reset_of context.now else
+        state.now.dc) }
 {
     if skips(state, increment) {
         return dc_reset(context);
@@ -128,7 +129,8 @@ fn increment(context: &PictureContext, state: &SliceState, limits: &Limits) -> u
     requires columns { context.now.columns ≤ 120 }
     requires column { limits.now.column < context.now.columns }
     requires address { IsBefore context.now state.now limits.now }
-    ensures value { result ≡ nat_abs (pos (limits.now.row * context.now.columns + limits.now.column) -ℤ state.now.address) }
+    ensures value { result ≡ nat_abs
+        (pos (limits.now.row * context.now.columns + limits.now.column) -ℤ state.now.address) }
     ensures some { 1 ≤ result }
     ensures most { result ≤ context.now.columns }
 {

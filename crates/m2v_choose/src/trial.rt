@@ -59,7 +59,8 @@ fn fits(limits: &Limits, bits: u32) -> bool
 fn quantiser_behind(task: &Task, syntax: &MacroSyntax) -> u8
     requires task { IsTask task.now }
     requires syntax { IsMacro task.now.context.now task.now.first syntax.now }
-    ensures value { result ≡ (if syntax.now.kind.quant then syntax.now.quantiser else task.now.state.now.quantiser) }
+    ensures value { result ≡ (if syntax.now.kind.quant then syntax.now.quantiser else
+        task.now.state.now.quantiser) }
     ensures code { (1 ≤ result) × (result ≤ 31) }
 {
     if syntax.kind.quant {
@@ -77,8 +78,10 @@ fn rebuilt_squares(
     prediction: &Block16,
 ) -> u32
     requires task { IsTask task.now }
-    requires writable { IsWritable task.now.context.now task.now.first (macroblock_of syntax.now levels.now) }
-    ensures value { result ≡ squared_of task.now.source.now.at (rebuilt_by task.now prediction.now.at (macroblock_of syntax.now levels.now)) }
+    requires writable { IsWritable task.now.context.now task.now.first
+        (macroblock_of syntax.now levels.now) }
+    ensures value { result ≡ squared_of task.now.source.now.at
+        (rebuilt_by task.now prediction.now.at (macroblock_of syntax.now levels.now)) }
     ensures most { result ≤ 49939200 }
 {
     let quantiser = quantiser_behind(task, syntax);
@@ -99,8 +102,10 @@ fn rebuilt_squares(
 fn bits_of(task: &Task, syntax: &MacroSyntax, levels: &[Levels; 6]) -> u32
     requires task { IsTask task.now }
     requires increment { syntax.now.increment ≡ task.now.increment }
-    requires writable { IsWritable task.now.context.now task.now.first (macroblock_of syntax.now levels.now) }
-    ensures value { (r : References) → result ≡ bits_taken (decided r task.now) (written syntax.now (levels_of levels.now)) }
+    requires writable { IsWritable task.now.context.now task.now.first
+        (macroblock_of syntax.now levels.now) }
+    ensures value { (r : References)
+        → result ≡ bits_taken (decided r task.now) (written syntax.now (levels_of levels.now)) }
     ensures most { result ≤ 2 ^ 22 }
 {
     macroblock_bits(syntax, levels, task.context, &task.first)
@@ -133,10 +138,12 @@ impl Best {
     )
         requires task { IsTask task.now }
         requires increment { syntax.now.increment ≡ task.now.increment }
-        requires writable { IsWritable task.now.context.now task.now.first (macroblock_of syntax.now levels.now) }
+        requires writable { IsWritable task.now.context.now task.now.first
+            (macroblock_of syntax.now levels.now) }
         ensures tried { (r : References) → Predicts r task.now syntax.now prediction.now.at
             → IsRated (decided r task.now) self.old
-            → Tried (decided r task.now) self.old self.new (written syntax.now (levels_of levels.now) ∷ []) }
+            → Tried (decided r task.now) self.old self.new
+            (written syntax.now (levels_of levels.now) ∷ []) }
     {
         let bits = bits_of(task, syntax, levels);
         if !fits(task.limits, bits) {
@@ -156,7 +163,9 @@ impl Best {
     pub fn try_skipped(&mut self, task: &Task, prediction: &Block16)
         requires task { IsTask task.now }
         ensures tried { (r : References)
-            → prediction.now.at ≡ block_by (predicted r.forward r.backward (skipped_mode task.now.context.now task.now.state.now) (place_of (decided r task.now)))
+            → prediction.now.at ≡ block_by
+            (predicted r.forward r.backward
+            (skipped_mode task.now.context.now task.now.state.now) (place_of (decided r task.now)))
             → IsRated (decided r task.now) self.old
             → Tried (decided r task.now) self.old self.new (skipped ∷ []) }
     {
@@ -177,9 +186,12 @@ impl Best {
     ) -> Best
         requires task { IsTask task.now }
         requires increment { syntax.now.increment ≡ task.now.increment }
-        requires writable { IsWritable task.now.context.now task.now.first (macroblock_of syntax.now levels.now) }
-        ensures candidate { candidate_of result.choice ≡ written syntax.now (levels_of levels.now) }
-        ensures rated { (r : References) → Predicts r task.now syntax.now prediction.now.at → IsRated (decided r task.now) result }
+        requires writable { IsWritable task.now.context.now task.now.first
+            (macroblock_of syntax.now levels.now) }
+        ensures candidate { candidate_of result.choice
+            ≡ written syntax.now (levels_of levels.now) }
+        ensures rated { (r : References) → Predicts r task.now syntax.now prediction.now.at
+            → IsRated (decided r task.now) result }
     {
         let bits = bits_of(task, syntax, levels);
         let squares = rebuilt_squares(task, syntax, levels, prediction);

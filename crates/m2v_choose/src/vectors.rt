@@ -57,8 +57,11 @@ fn search<V: RefView>(task: &Task, view: &V, form: SearchForm) -> Found
     requires task { IsTask task.now }
     requires view { IsRead (V.size view.now) (V.Holds view.now) (place_for task.now) }
     requires form { IsFormIn task.now.context.now.extension.structure form }
-    ensures value { (r : References) → r.dims ≡ V.size view.now → record { x = result.x; y = result.y } ≡ vector_for (decided r task.now) (V.at view.now) form }
-    ensures sad { (r : References) → r.dims ≡ V.size view.now → result.sad ≡ sad_for (decided r task.now) (V.at view.now) form }
+    ensures value { (r : References) → r.dims ≡ V.size view.now
+        → record { x = result.x; y = result.y }
+        ≡ vector_for (decided r task.now) (V.at view.now) form }
+    ensures sad { (r : References) → r.dims ≡ V.size view.now
+        → result.sad ≡ sad_for (decided r task.now) (V.at view.now) form }
 {
     best_vector(task.source, view, place_of(task), form, task.limits.search)
 }
@@ -110,7 +113,8 @@ fn field_picture<V: RefView>(task: &Task, view: &V, bottom: bool) -> FieldVector
     requires view { IsRead (V.size view.now) (V.Holds view.now) (place_for task.now) }
     requires structure { task.now.context.now.extension.structure ≢ 3 }
     ensures value { (r : References) → r.dims ≡ V.size view.now
-        → selected_by result ≡ from_field (decided r task.now) (V.at view.now) FieldPicture (field_lines bottom) }
+        → selected_by result ≡ from_field (decided r task.now) (V.at view.now) FieldPicture
+        (field_lines bottom) }
 {
     let same = search(
         task,
@@ -135,7 +139,8 @@ fn field_of_frame<V: RefView>(task: &Task, view: &V, bottom: bool) -> FieldVecto
     requires view { IsRead (V.size view.now) (V.Holds view.now) (place_for task.now) }
     requires structure { task.now.context.now.extension.structure ≡ 3 }
     ensures value { (r : References) → r.dims ≡ V.size view.now
-        → selected_by result ≡ from_field (decided r task.now) (V.at view.now) (FieldLines (field_lines bottom)) (field_lines bottom) }
+        → selected_by result ≡ from_field (decided r task.now) (V.at view.now)
+        (FieldLines (field_lines bottom)) (field_lines bottom) }
 {
     let target = field(bottom);
     let same = search(

@@ -1,4 +1,4 @@
-use Rattle.std.proofs.Common.{◌≡◌, ◌<◌, ℕ, ◌+◌, ◌*◌, length}
+use Rattle.std.proofs.Common.{◌≡◌, ◌<◌, ℕ, ◌*◌, length}
 use Rattle.m2v_idct.specs.Block.{nth}
 use Rattle.m2v_idct.specs.Ranges.{IsSample}
 use Rattle.m2v_choose.specs.Trials.{difference_at}

@@ -1,4 +1,4 @@
-use Rattle.std.proofs.Common.{◌≡◌, ◌<◌, ℕ, List, [], All, ℤ, length, set, get_or, map, arith, subst}
+use Rattle.std.proofs.Common.{◌≡◌, ℕ, [], All, length, get_or, map, arith, subst}
 use Rattle.std.proofs.Math.ListN.{length-set}
 use Rattle.std.proofs.lemmas.List.{length-map, get_or-map}
 use Rattle.std.proofs.lemmas.List.FromFn.{fill_by_all}

@@ -1,4 +1,4 @@
-use Rattle.std.proofs.Common.{◌≡◌, ◌<◌, ℕ, [], All, length, get_or, map}
+use Rattle.std.proofs.Common.{◌≡◌, ◌<◌, ℕ, [], All, length, get_or}
 use Rattle.m2v_quant.specs.Kinds.{IsLevel}
 use Rattle.m2v_quant.specs.Quantiser.{levels_of as quantised}
 use Rattle.m2v_recon.specs.Macro.{kind_at, kind_of}

@@ -1,4 +1,4 @@
-use Rattle.std.proofs.Common.{◌≡◌, ◌≤◌, ◌∙◌, ap, arith, subst}
+use Rattle.std.proofs.Common.{◌≡◌, ◌∙◌, ap, arith}
 use Rattle.m2v_choose.specs.Decisions.{Decision, increment_of}
 use Rattle.m2v_choose.specs.Choice.{bits_taken, choice_of}
 use Rattle.m2v_choose.specs.Laws.{Fits}

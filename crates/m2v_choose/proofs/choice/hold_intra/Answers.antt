@@ -1,4 +1,4 @@
-use Rattle.std.proofs.Common.{◌≡◌, refl, ◌∙◌}
+use Rattle.std.proofs.Common.{refl, ◌∙◌}
 use Rattle.m2v_recon.specs.Steps.{levels_of}
 use Rattle.m2v_choose.proofs.Holding.{held_writable, held_is, held_predicts}
 use Rattle.m2v_choose.proofs.choice.hold_intra.Goals as goal

@@ -1,4 +1,4 @@
-use Rattle.std.proofs.Common.{arith, ap, sym, ◌∙◌, ◌+◌, ℕ}
+use Rattle.std.proofs.Common.{arith, ◌+◌, ℕ}
 use Rattle.m2v_choose.specs.Choice.{square_at}
 use Rattle.m2v_choose.proofs.Sums.{sum_more}
 use Rattle.m2v_choose.proofs.squares.line_squared.Goals as goal

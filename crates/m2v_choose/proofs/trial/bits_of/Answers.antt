@@ -1,4 +1,4 @@
-use Rattle.std.proofs.Common.{◌≡◌, ℕ, length, ap, sym, ◌∙◌, subst}
+use Rattle.std.proofs.Common.{length, ap, sym, ◌∙◌}
 use Rattle.m2v_macro.specs.declared.values.SliceState.{SliceState}
 use Rattle.m2v_macroblock.specs.Macroblocks.{macroblock_of}
 use Rattle.m2v_macroblock.specs.Texts.{macroblock_text}

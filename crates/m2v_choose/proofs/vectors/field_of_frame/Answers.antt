@@ -1,7 +1,6 @@
-use Rattle.std.proofs.Common.{◌≡◌, ap, sym, ◌∙◌}
+use Rattle.std.proofs.Common.{◌∙◌}
 use Rattle.m2v_plane.specs.declared.planes.Lines.{Lines}
 use Rattle.m2v_pred.specs.Motion.{field_lines}
-use Rattle.m2v_search.specs.Search.{Vector}
 use Rattle.m2v_search.specs.declared.form.SearchForm.TheVariants.{FieldLines}
 use Rattle.m2v_choose.specs.Candidates.{vector_for, sad_for}
 use Rattle.m2v_choose.specs.Trials.{decided}

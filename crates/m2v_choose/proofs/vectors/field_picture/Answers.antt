@@ -1,4 +1,4 @@
-use Rattle.std.proofs.Common.{◌≡◌, ap, sym, ◌∙◌}
+use Rattle.std.proofs.Common.{ap, ◌∙◌}
 use Rattle.m2v_plane.specs.declared.planes.Lines.{Lines}
 use Rattle.m2v_search.specs.declared.form.SearchForm.TheVariants.{FieldPicture}
 use Rattle.m2v_choose.specs.Candidates.{vector_for, sad_for}

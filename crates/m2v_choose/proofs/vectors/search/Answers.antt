@@ -1,5 +1,4 @@
-use Rattle.std.proofs.Common.{◌≡◌, ap, sym, ◌∙◌}
-use Rattle.m2v_plane.specs.declared.dims.Dims.{Dims}
+use Rattle.std.proofs.Common.{sym, ◌∙◌}
 use Rattle.m2v_plane.specs.declared.planes.Plane.TheVariants.{Y}
 use Rattle.m2v_search.specs.Search.{block_lines, vector_sad, vector_of}
 use Rattle.m2v_choose.specs.Candidates.{vector_for, sad_for}

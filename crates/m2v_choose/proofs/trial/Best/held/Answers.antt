@@ -1,6 +1,5 @@
-use Rattle.std.proofs.Common.{◌≡◌, ℕ, ◌+◌, ◌*◌, ◌^◌, ap, sym, ◌∙◌, arith}
+use Rattle.std.proofs.Common.{ℕ, ◌+◌, ◌*◌, ap, ◌∙◌}
 use Rattle.m2v_recon.specs.Steps.{levels_of}
-use Rattle.m2v_choose.specs.Trials.{decided}
 use Rattle.m2v_choose.proofs.Tried.{points}
 use Rattle.m2v_choose.proofs.trial.Best.held.Goals as goal
 

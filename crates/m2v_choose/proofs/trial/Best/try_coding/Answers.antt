@@ -1,7 +1,7 @@
 use Rattle.std.proofs.lemmas.List.Elements.{All-map}
 use Rattle.m2v_quant.specs.Kinds.{IsLevel}
 use Rattle.m2v_quant.specs.declared.kind.Levels.{Levels}
-use Rattle.std.proofs.Common.{All, [], ◌∷◌, Bool, ◌≡◌, ◌<◌, ℕ, ap, sym, ◌∙◌, subst, arith}
+use Rattle.std.proofs.Common.{false, All, [], ◌∷◌, Bool, ◌≡◌, ◌<◌, ap, sym, ◌∙◌, subst, arith}
 use Rattle.m2v_recon.specs.Steps.{levels_of}
 use Rattle.m2v_choose.specs.Decisions.{written}
 use Rattle.m2v_macro.specs.declared.values.MacroSyntax.{MacroSyntax}
@@ -9,11 +9,14 @@ use Rattle.m2v_choose.specs.Decisions.{pattern_of}
 use Rattle.m2v_choose.specs.Laws.{IsWritable}
 use Rattle.m2v_choose.specs.Trials.{decided, Tried, with_blocks, sends_code, Predicts}
 use Rattle.m2v_choose.proofs.Tried.{own_picture}
-use Rattle.m2v_choose.proofs.Coded.{coded_writable, kinds_plain, predicts, coding_none, coding_some}
+use Rattle.m2v_choose.proofs.Coded.{kinds_flat, coded_writable, kinds_plain, predicts, coding_none, coding_some}
 use Rattle.m2v_choose.proofs.trial.Best.try_coding.Goals as goal
 
 pub kinds-kinds-requires-clause-picture : goal.kinds-kinds-requires-clause-picture
 kinds-kinds-requires-clause-picture c = own_picture c.args.task.now.context.now c.requires.task.asked.own
+
+pub quantise_blocks-requires-clause-plain : goal.quantise_blocks-requires-clause-plain
+quantise_blocks-requires-clause-plain c = kinds_flat c.args.task.now.context.now false c.args.q c.kinds-kinds.result c.requires.task.asked.own.non_intra c.kinds-kinds.ensures.value
 
 pub quantise_blocks-requires-clause-precision : goal.quantise_blocks-requires-clause-precision
 quantise_blocks-requires-clause-precision c = kinds_plain c.args.task.now.context.now _ c.args.q c.kinds-kinds.result c.requires.task.asked.own.precision c.kinds-kinds.ensures.value

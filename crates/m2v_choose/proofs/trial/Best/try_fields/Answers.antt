@@ -1,4 +1,4 @@
-use Rattle.std.proofs.Common.{◌≡◌, ◌≢◌, true, false, refl, sym, ◌∙◌, ap, subst, inl, inr, arith}
+use Rattle.std.proofs.Common.{◌≢◌, refl, sym, ◌∙◌, subst, inl, inr, arith}
 use Rattle.m2v_plane.specs.Sizes.{IsSize}
 use Rattle.m2v_choose.specs.Decisions.{has_dct_type}
 use Rattle.m2v_choose.specs.Candidates.{field_direction, predictions_by}

@@ -1,7 +1,7 @@
-use Rattle.std.proofs.Common.{◌≡◌, true, refl, sym, ◌∙◌, ap}
+use Rattle.std.proofs.Common.{refl, sym, ◌∙◌, ap}
 use Rattle.m2v_macro.specs.declared.values.MacroSyntax.{MacroSyntax}
 use Rattle.m2v_choose.specs.Candidates.{prediction}
-use Rattle.m2v_choose.specs.Trials.{references_of, direction_by, moving_syntax}
+use Rattle.m2v_choose.specs.Trials.{references_of, direction_by}
 use Rattle.m2v_choose.proofs.Motions.{moving_is, moving_backward}
 use Rattle.m2v_choose.proofs.trial.Best.try_moving.Goals as goal
 

@@ -1,5 +1,4 @@
-use Rattle.std.proofs.Common.{◌≡◌, ◌≢◌, ◌⊎◌, true, false, refl, sym, ◌∙◌, ap, subst, inl, inr, arith}
-use Rattle.std.proofs.lemmas.Bool.{eq-eqb, ne_eqb}
+use Rattle.std.proofs.lemmas.Bool.{ne_eqb}
 use Rattle.m2v_choose.specs.Trials.{decided, references_of}
 use Rattle.m2v_choose.proofs.Motions.{no_predictions_tried, predictions_tried}
 use Rattle.m2v_choose.proofs.trial.Best.try_predictions.Goals as goal

@@ -1,7 +1,7 @@
-use Rattle.std.proofs.Common.{◌≡◌, ℕ, ◌+◌, ◌*◌, ◌^◌, ap, sym, ◌∙◌, arith, true}
+use Rattle.std.proofs.Common.{◌≡◌, ℕ, ◌*◌, ap, sym, ◌∙◌, arith, true}
 use Rattle.m2v_recon.specs.Steps.{levels_of}
 use Rattle.m2v_choose.specs.Decisions.{skipped}
-use Rattle.m2v_choose.specs.Choice.{bits_taken, score as score_of}
+use Rattle.m2v_choose.specs.Choice.{score as score_of}
 use Rattle.m2v_choose.specs.Trials.{decided, candidate_of}
 use Rattle.m2v_choose.proofs.Tried.{kept, taken, skipped_score, skipped_fits, skipped_bits}
 use Rattle.m2v_choose.proofs.trial.Best.try_skipped.Goals as goal

@@ -1,7 +1,7 @@
-use Rattle.std.proofs.Common.{◌≡◌, ℕ, ◌+◌, ◌*◌, ◌^◌, ap, sym, ◌∙◌, arith}
+use Rattle.std.proofs.Common.{◌≡◌, ℕ, ◌+◌, ◌*◌, ap, sym, ◌∙◌, arith}
 use Rattle.m2v_recon.specs.Steps.{levels_of}
 use Rattle.m2v_choose.specs.Decisions.{written}
-use Rattle.m2v_choose.specs.Choice.{bits_taken, score as score_of}
+use Rattle.m2v_choose.specs.Choice.{score as score_of}
 use Rattle.m2v_choose.specs.Trials.{decided, candidate_of}
 use Rattle.m2v_choose.proofs.Tried.{left_out, kept, taken, fits_is, points, cost_least}
 use Rattle.m2v_choose.proofs.trial.Best.try_written.Goals as goal

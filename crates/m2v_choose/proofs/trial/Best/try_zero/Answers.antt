@@ -1,9 +1,9 @@
-use Rattle.std.proofs.Common.{◌≡◌, true, false, refl, sym, ◌∙◌, ap, subst}
+use Rattle.std.proofs.Common.{false, sym, ◌∙◌, ap, subst}
 use Rattle.std.specs.Prelude.{nat_eq, ◌∷◌, []}
 use Rattle.std.proofs.lemmas.Bool.{eq-eqb, ne_eqb, true≢false}
 use Rattle.m2v_macro.specs.declared.values.MacroSyntax.{MacroSyntax}
 use Rattle.m2v_choose.specs.Candidates.{zero_prediction}
-use Rattle.m2v_choose.specs.Trials.{decided, references_of, direction_by, moving_syntax, CanTry}
+use Rattle.m2v_choose.specs.Trials.{decided, references_of, direction_by, CanTry}
 use Rattle.m2v_choose.proofs.Motions.{zero_can, zero_is, zero_tried, nothing_tried, moving_backward, zero_bare}
 use Rattle.m2v_choose.proofs.trial.Best.try_zero.Goals as goal
 
