@@ -34,7 +34,10 @@ pub fn law_slice_covers()
 /// A slice's state and text don't depend on the row that it is begun with, nor, once all its macroblocks stand, do its
 /// samples.
 pub fn law_slice_any_row()
-    ensures state { (t : SliceTask) (a b : Samples) → IsRow t a → IsRow t b → (n : ℕ) → (begun t a n).state ≡ (begun t b n).state }
-    ensures text { (t : SliceTask) (a b : Samples) → IsRow t a → IsRow t b → (n : ℕ) → (begun t a n).text ≡ (begun t b n).text }
-    ensures row { (t : SliceTask) (a b : Samples) → IsRow t a → IsRow t b → begun t a t.source.dims.mb_width ≡ begun t b t.source.dims.mb_width }
+    ensures state { (t : SliceTask) (a b : Samples) → IsRow t a → IsRow t b → (n : ℕ)
+        → (begun t a n).state ≡ (begun t b n).state }
+    ensures text { (t : SliceTask) (a b : Samples) → IsRow t a → IsRow t b → (n : ℕ)
+        → (begun t a n).text ≡ (begun t b n).text }
+    ensures row { (t : SliceTask) (a b : Samples) → IsRow t a → IsRow t b
+        → begun t a t.source.dims.mb_width ≡ begun t b t.source.dims.mb_width }
 {}

@@ -33,10 +33,12 @@ fn chosen<V: RefView>(
     state: &SliceState,
     limits: &Limits,
 ) -> Choice
-    requires can { CanCode (decision_at source.now (V.at forward.now) (V.at backward.now) context.now state.now limits.now)
+    requires can { CanCode (decision_at source.now (V.at forward.now)
+        (V.at backward.now) context.now state.now limits.now)
         (V.size forward.now) (V.size backward.now) (V.Holds forward.now) (V.Holds backward.now) }
     ensures value { candidate_of result
-        ≡ choice_of (decision_at source.now (V.at forward.now) (V.at backward.now) context.now state.now limits.now) }
+        ≡ choice_of (decision_at source.now (V.at forward.now) (V.at backward.now) context.now
+        state.now limits.now) }
 {
     let mut block = Block16 { at: [0; 384] };
     let structure = context.extension.structure;
@@ -54,10 +56,13 @@ fn paint_skipped<V: RefView>(
     row: &mut RowSamples,
 )
     requires column { at.column < row.old.dims.mb_width }
-    requires can { (d : Dims) × CanPredict d at (V.size forward.now) (V.size backward.now) (V.Holds forward.now) (V.Holds backward.now)
+    requires can { (d : Dims)
+        × CanPredict d at (V.size forward.now) (V.size backward.now) (V.Holds forward.now)
+        (V.Holds backward.now)
         (skipped_mode_of context.now state.now) }
     ensures value { row.new ≡ with_macroblock 1 0 at.column
-        (predicted (V.at forward.now) (V.at backward.now) (skipped_mode_of context.now state.now) at) row.old }
+        (predicted (V.at forward.now) (V.at backward.now) (skipped_mode_of context.now state.now)
+        at) row.old }
 {
     let mut block = Block16 { at: [0; 384] };
     let mode = skipped_mode(context, state);
@@ -81,14 +86,22 @@ fn write_chosen<V: RefView>(
     requires dc { AreDc 0 state.old.dc }
     requires address { IsAddress state.old.address }
     requires column { at.column < row.old.dims.mb_width }
-    requires writable { IsWritable context.now state.old (macroblock_of choice.now.syntax choice.now.levels) }
+    requires writable { IsWritable context.now state.old
+        (macroblock_of choice.now.syntax choice.now.levels) }
     requires can { choice.now.syntax.kind.intra ≡ false → (d : Dims)
-        × CanPredict d at (V.size forward.now) (V.size backward.now) (V.Holds forward.now) (V.Holds backward.now)
+        × CanPredict d at (V.size forward.now) (V.size backward.now) (V.Holds forward.now)
+        (V.Holds backward.now)
         (mode_of context.now choice.now.syntax) }
-    requires room { length (text_written context.now state.old choice.now.syntax choice.now.levels) ≤ bits.old.room }
-    ensures state { state.new ≡ after_macroblock context.now state.old (macroblock_of choice.now.syntax choice.now.levels) }
-    ensures written { bits.new.written ≡ bits.old.written ++ text_written context.now state.old choice.now.syntax choice.now.levels }
-    ensures room { bits.new.room + length (text_written context.now state.old choice.now.syntax choice.now.levels) ≡ bits.old.room }
+    requires room { length (text_written context.now state.old choice.now.syntax choice.now.levels)
+        ≤ bits.old.room }
+    ensures state { state.new
+        ≡ after_macroblock context.now state.old
+        (macroblock_of choice.now.syntax choice.now.levels) }
+    ensures written { bits.new.written
+        ≡ bits.old.written ++ text_written context.now state.old choice.now.syntax
+        choice.now.levels }
+    ensures room { bits.new.room + length
+        (text_written context.now state.old choice.now.syntax choice.now.levels) ≡ bits.old.room }
     ensures row { row.new ≡ with_macroblock 1 0 at.column (sample_at context.now state.old
         (prediction_of (V.at forward.now) (V.at backward.now) context.now at choice.now.syntax)
         (macroblock_of choice.now.syntax choice.now.levels)) row.old }
@@ -126,17 +139,22 @@ pub fn code_macroblock<V: RefView>(
     bits: &mut BitWriter,
     row: &mut RowSamples,
 )
-    requires can { CanCode (decision_at source.now (V.at forward.now) (V.at backward.now) context.now state.old limits.now)
+    requires can { CanCode (decision_at source.now (V.at forward.now)
+        (V.at backward.now) context.now state.old limits.now)
         (V.size forward.now) (V.size backward.now) (V.Holds forward.now) (V.Holds backward.now) }
     requires row { row.old.dims ≡ source.now.dims }
     requires room { 4608 ≤ bits.old.room }
-    ensures state { let d = decision_at source.now (V.at forward.now) (V.at backward.now) context.now state.old limits.now in
+    ensures state { let d = decision_at source.now (V.at forward.now)
+        (V.at backward.now) context.now state.old limits.now in
         state.new ≡ state_behind d (choice_of d) }
-    ensures written { let d = decision_at source.now (V.at forward.now) (V.at backward.now) context.now state.old limits.now in
+    ensures written { let d = decision_at source.now (V.at forward.now)
+        (V.at backward.now) context.now state.old limits.now in
         bits.new.written ≡ bits.old.written ++ text_of d (choice_of d) }
-    ensures room { let d = decision_at source.now (V.at forward.now) (V.at backward.now) context.now state.old limits.now in
+    ensures room { let d = decision_at source.now (V.at forward.now)
+        (V.at backward.now) context.now state.old limits.now in
         bits.new.room + length (text_of d (choice_of d)) ≡ bits.old.room }
-    ensures row { let d = decision_at source.now (V.at forward.now) (V.at backward.now) context.now state.old limits.now in
+    ensures row { let d = decision_at source.now (V.at forward.now) (V.at backward.now) context.now
+        state.old limits.now in
         row.new ≡ with_macroblock 1 0 limits.now.column (candidate_at d (choice_of d)) row.old }
 {
     let choice = chosen(source, forward, backward, context, state, limits);

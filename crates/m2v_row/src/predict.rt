@@ -28,8 +28,11 @@ pub fn predict_by<V: RefView>(
     at: MbPlace,
     out: &mut Block16,
 )
-    requires can { (d : Dims) × CanPredict d at (V.size forward.now) (V.size backward.now) (V.Holds forward.now) (V.Holds backward.now) mode.now }
-    ensures value { out.new.at ≡ block_by (predicted (V.at forward.now) (V.at backward.now) mode.now at) }
+    requires can { (d : Dims)
+        × CanPredict d at (V.size forward.now) (V.size backward.now) (V.Holds forward.now)
+        (V.Holds backward.now) mode.now }
+    ensures value { out.new.at
+        ≡ block_by (predicted (V.at forward.now) (V.at backward.now) mode.now at) }
 {
     predict(forward, backward, mode, at, out);
 }
@@ -48,8 +51,10 @@ pub fn predict_written<V: RefView>(
     requires stands { CanStand context.now m.now }
     requires blank { out.old.at ≡ replicate 384 0 }
     requires can { m.now.kind.intra ≡ false → (d : Dims)
-        × CanPredict d at (V.size forward.now) (V.size backward.now) (V.Holds forward.now) (V.Holds backward.now) (mode_of context.now m.now) }
-    ensures value { out.new.at ≡ prediction_of (V.at forward.now) (V.at backward.now) context.now at m.now }
+        × CanPredict d at (V.size forward.now) (V.size backward.now) (V.Holds forward.now)
+        (V.Holds backward.now) (mode_of context.now m.now) }
+    ensures value { out.new.at
+        ≡ prediction_of (V.at forward.now) (V.at backward.now) context.now at m.now }
 {
     if m.kind.intra {
         return;
@@ -69,8 +74,10 @@ pub fn rebuild_written(
     requires picture { IsPicture context.now }
     requires quantiser { (1 ≤ quantiser) × (quantiser ≤ 31) }
     requires levels { All (λ l. All IsLevel l.at) levels.now }
-    ensures value { block.new.at ≡ block_by (macro_sample block.old.at (levels_of levels.now) m.now.pattern
-        (kind_for context.now m.now.kind.intra true quantiser) (kind_for context.now m.now.kind.intra false quantiser) m.now.dct_field) }
+    ensures value { block.new.at
+        ≡ block_by (macro_sample block.old.at (levels_of levels.now) m.now.pattern
+        (kind_for context.now m.now.kind.intra true quantiser)
+        (kind_for context.now m.now.kind.intra false quantiser) m.now.dct_field) }
 {
     let kinds = kinds(context, m.kind.intra, quantiser);
     rebuild_block(block, levels, m.pattern, &kinds, m.dct_field);
@@ -79,7 +86,8 @@ pub fn rebuild_written(
 /// Writes the samples of a macroblock at its column of the row.
 pub fn paint(block: &Block16, column: u32, out: &mut RowSamples)
     requires column { column < out.old.dims.mb_width }
-    ensures value { (f : Plane → ℕ → ℕ → ℕ) → block.now.at ≡ block_by f → out.new ≡ with_macroblock 1 0 column f out.old }
+    ensures value { (f : Plane → ℕ → ℕ → ℕ) → block.now.at ≡ block_by f → out.new
+        ≡ with_macroblock 1 0 column f out.old }
 {
     out.set_square(Plane::Y, column, &block.at[..256]);
     out.set_square(Plane::Cb, column, &block.at[256..320]);

@@ -61,17 +61,22 @@ pub fn code_row<V: RefView>(
     bits: &mut BitWriter,
     row: &mut RowSamples,
 )
-    requires slice { IsSlice (task_by source.now (V.at forward.now) (V.at backward.now) context.now plan.now) }
-    requires references { HasReferences context.now.kind source.now.dims (row_place context.now plan.now.row)
+    requires slice { IsSlice (task_by source.now (V.at forward.now) (V.at backward.now) context.now
+        plan.now) }
+    requires references { HasReferences context.now.kind source.now.dims
+        (row_place context.now plan.now.row)
         (V.size forward.now) (V.size backward.now) (V.Holds forward.now) (V.Holds backward.now) }
     requires header { length bits.old.written ≡ header_bits }
     requires room { 4608 * context.now.columns ≤ bits.old.room }
     requires row { row.old.dims ≡ source.now.dims }
     ensures written { bits.new.written ≡ bits.old.written
-        ++ (begun (task_by source.now (V.at forward.now) (V.at backward.now) context.now plan.now) row.old context.now.columns).text }
-    ensures room { bits.new.room + length bits.new.written ≡ bits.old.room + length bits.old.written }
+        ++ (begun (task_by source.now (V.at forward.now) (V.at backward.now) context.now plan.now)
+        row.old context.now.columns).text }
+    ensures room { bits.new.room + length bits.new.written
+        ≡ bits.old.room + length bits.old.written }
     ensures row { row.new
-        ≡ (begun (task_by source.now (V.at forward.now) (V.at backward.now) context.now plan.now) row.old context.now.columns).row }
+        ≡ (begun (task_by source.now (V.at forward.now) (V.at backward.now) context.now plan.now)
+        row.old context.now.columns).row }
 {
     let next = plan.row * context.columns;
     let mut state = SliceState::at_start(context, plan.row, plan.q, next);

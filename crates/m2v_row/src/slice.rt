@@ -52,15 +52,19 @@ fn write_slice<V: RefView>(
     bits: &mut BitWriter,
     row: &mut RowSamples,
 )
-    requires slice { IsSlice (task_by source.now (V.at forward.now) (V.at backward.now) context.now plan.now) }
-    requires references { HasReferences context.now.kind source.now.dims (row_place context.now plan.now.row)
+    requires slice { IsSlice (task_by source.now (V.at forward.now) (V.at backward.now) context.now
+        plan.now) }
+    requires references { HasReferences context.now.kind source.now.dims
+        (row_place context.now plan.now.row)
         (V.size forward.now) (V.size backward.now) (V.Holds forward.now) (V.Holds backward.now) }
     requires row { row.old.dims ≡ source.now.dims }
     requires room { bits.old.room + length bits.old.written ≡ most_bits_of context.now.columns }
     ensures text { bits.new.written
-        ≡ (slice_of (task_by source.now (V.at forward.now) (V.at backward.now) context.now plan.now)).text }
+        ≡ (slice_of (task_by source.now (V.at forward.now) (V.at backward.now) context.now
+        plan.now)).text }
     ensures row { row.new
-        ≡ (slice_of (task_by source.now (V.at forward.now) (V.at backward.now) context.now plan.now)).row }
+        ≡ (slice_of (task_by source.now (V.at forward.now) (V.at backward.now) context.now
+        plan.now)).row }
     ensures room { bits.new.room + length bits.new.written ≡ most_bits_of context.now.columns }
 {
     // the row holds whole macroblocks
@@ -87,7 +91,8 @@ impl Model for SliceOut {
 
     ghost view = { λ s. record { text = s.bits.written; row = s.row } };
 
-    ghost invariant = { λ s. (s.bits.room + length s.bits.written ≡ most_bits_of s.row.dims.mb_width) × (length s.bits.written % 8 ≡ 0) };
+    ghost invariant = { λ s. (s.bits.room + length s.bits.written
+        ≡ most_bits_of s.row.dims.mb_width) × (length s.bits.written % 8 ≡ 0) };
 }
 
 impl SliceOut {
@@ -139,15 +144,18 @@ pub fn code_slice_at<V: RefView>(
 )
     requires own { IsOwn context.now }
     requires columns { context.now.columns ≡ source.now.dims.mb_width }
-    requires row { 16 * row + 16 ≤ lines_of source.now.dims Y (own_lines context.now.extension.structure) }
+    requires row { 16 * row + 16 ≤ lines_of source.now.dims Y
+        (own_lines context.now.extension.structure) }
     requires q { IsCode q }
     requires search { search ≤ 15 }
     requires least { slice_least context.now.columns ≤ cap }
     requires whole { cap % 8 ≡ 0 }
     requires out { out.old.row.dims ≡ source.now.dims }
-    requires forward { context.now.kind ≢ 1 → IsRead (V.size forward.now) (V.Holds forward.now) (row_place context.now row) }
+    requires forward { context.now.kind ≢ 1
+        → IsRead (V.size forward.now) (V.Holds forward.now) (row_place context.now row) }
     requires forward_size { context.now.kind ≢ 1 → V.size forward.now ≡ source.now.dims }
-    requires backward { context.now.kind ≡ 3 → IsRead (V.size backward.now) (V.Holds backward.now) (row_place context.now row) }
+    requires backward { context.now.kind ≡ 3
+        → IsRead (V.size backward.now) (V.Holds backward.now) (row_place context.now row) }
     requires backward_size { context.now.kind ≡ 3 → V.size backward.now ≡ source.now.dims }
     ensures value { out.new ≡ slice_of (record {
       source = source.now;

@@ -16,7 +16,8 @@ fn copy_plane(source: &Frame, plane: Plane, lines: Lines, row: u32, column: u32,
     requires column { column < source.now.dims.mb_width }
     requires out { length out.old ≡ side plane * side plane }
     ensures value { out.new ≡ plane_by (side plane) (side plane)
-        (λ line c. sample_in source.now plane lines (side plane * row + line) (side plane * column + c)) }
+        (λ line c. sample_in source.now plane lines (side plane * row + line)
+        (side plane * column + c)) }
 {
     // the size of the frame bounds the places
     let _size = source.dims();
