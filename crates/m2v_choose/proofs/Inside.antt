@@ -39,8 +39,9 @@ use Rattle.m2v_search.proofs.Forms.{IsSized, sized}
 use Rattle.m2v_choose.specs.Decisions.{Decision, place_of, is_frame, uncoded_syntax}
 use Rattle.m2v_choose.specs.Candidates.{selected, vector_for, sad_for, from_field, plain_direction, field_direction, plain_form, prediction, zero_prediction, still_vector, still_prediction}
 use Rattle.m2v_choose.specs.Trials.{IsReference}
-use Rattle.m2v_choose.proofs.Chosen.{either, least_in}
-use Rattle.m2v_choose.proofs.Reached.{IsUpTo}
+use Rattle.m2v_choose.proofs.Chosen.{either}
+use Rattle.m2v_search.proofs.Products.{least_in}
+use Rattle.m2v_search.proofs.Reached.{IsUpTo}
 use Rattle.m2v_choose.proofs.Kept.{whole_within, half_within}
 use Rattle.m2v_choose.proofs.Stands.{first_of, second_of}
 use Rattle.m2v_choose.proofs.Stays.{still_span, SourceStays, vector_stays, PartsStay, ModeStays, SourceNear, mode_inside, mode_is_inside, direction_held}

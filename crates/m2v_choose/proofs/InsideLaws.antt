@@ -17,8 +17,9 @@ use Rattle.m2v_choose.specs.Candidates.{plain_direction, field_direction, plain_
 use Rattle.m2v_choose.specs.Choice.{score, fits, choice_of}
 use Rattle.m2v_choose.specs.Own.{IsOwn, AreLimits}
 use Rattle.m2v_choose.specs.Laws.{StaysInside}
-use Rattle.m2v_choose.proofs.Chosen.{either, least_in}
-use Rattle.m2v_choose.proofs.Reached.{flat_all}
+use Rattle.m2v_choose.proofs.Chosen.{either}
+use Rattle.m2v_search.proofs.Products.{least_in}
+use Rattle.m2v_search.proofs.Reached.{flat_all}
 use Rattle.m2v_choose.proofs.Stands.{first_of, second_of, two_three}
 use Rattle.m2v_choose.proofs.Inside.{ModeFits, fits_is_inside, zero_fits, zero_prediction_fits, plain_fits, fields_fit, still_prediction_fits}
 

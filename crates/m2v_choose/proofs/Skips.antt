@@ -42,7 +42,7 @@ pub record SkipReads (kind : ℕ) (place : MbPlace) (d : Dims) (ahead behind : P
   pub three : mode.backward ≡ true → kind ≡ 3
 
 -- by near predictors
-plain_held : (holds : Plane → Lines → ℕ → Type 0) (d : Dims) (place : MbPlace) (c : PictureContext) → place.structure ≡ c.extension.structure → (hf hb : Bool) (at : List (List (List ℤ))) → AreNear at
+pub plain_held : (holds : Plane → Lines → ℕ → Type 0) (d : Dims) (place : MbPlace) (c : PictureContext) → place.structure ≡ c.extension.structure → (hf hb : Bool) (at : List (List (List ℤ))) → AreNear at
     → ((l : Lines) → IsReference c.extension.structure l → HasNear holds d place l) → (direction : ℕ) → direction < 2
     → DirectionInside (without_motion_type c hf hb at) direction place d → HoldsRead holds (without_motion_type c hf hb at) direction place
 plain_held holds d place c same hf hb at small near direction lt inside =

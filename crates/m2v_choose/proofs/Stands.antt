@@ -25,7 +25,7 @@ use Rattle.m2v_choose.specs.Decisions.{Decision, Prediction, Coding, has_dct_typ
 use Rattle.m2v_choose.specs.Candidates.{is_bottom, selected, vector_for, sad_for, from_field, plain_direction, field_direction, plain_form, prediction, predictions_by, zero_prediction, predictions, still_vector, still_prediction}
 use Rattle.m2v_choose.specs.Own.{IsOwn, IsCode}
 use Rattle.m2v_choose.proofs.Chosen.{either}
-use Rattle.m2v_choose.proofs.Reached.{IsUpTo, IsWithin}
+use Rattle.m2v_search.proofs.Reached.{IsUpTo, IsWithin}
 use Rattle.m2v_choose.proofs.Kept.{whole_within, half_within}
 
 -- ---- one of two

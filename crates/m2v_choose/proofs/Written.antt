@@ -26,8 +26,9 @@ use Rattle.m2v_choose.specs.Choice.{score, fits, choice_of}
 use Rattle.m2v_choose.specs.Own.{IsOwn, IsCode, IsOwnState, AreLimits}
 use Rattle.m2v_choose.specs.Laws.{IsWritable}
 use Rattle.m2v_choose.specs.Trials.{is_empty}
-use Rattle.m2v_choose.proofs.Chosen.{either, least_in}
-use Rattle.m2v_choose.proofs.Reached.{flat_all, range_all}
+use Rattle.m2v_choose.proofs.Chosen.{either}
+use Rattle.m2v_search.proofs.Products.{least_in}
+use Rattle.m2v_search.proofs.Reached.{flat_all, range_all}
 use Rattle.m2v_choose.proofs.DcKept.{behind_dc, level_dc}
 use Rattle.m2v_choose.proofs.Stands.{first_of, second_of, two_three, PredictionStands, predictions_stand, still_prediction_stands, uncoded_macro, coded_macro, intra_macro}
 
