@@ -1,4 +1,4 @@
-//! Trials: the tests of the crates up to the search, in one crate above them.
+//! Trials: the tests of the crates up to the search, and of the code of a slice, in one crate above.
 //!
 //! Each module tries one crate through what it offers, on values from outside: worked examples,
 //! tables of the standard, and numbers that another program worked out. `steps` tries the
@@ -36,6 +36,8 @@ mod quant;
 mod rate;
 #[cfg(test)]
 mod recon;
+#[cfg(test)]
+mod rows;
 #[cfg(test)]
 mod search;
 #[cfg(test)]
