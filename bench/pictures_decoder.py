@@ -1,10 +1,10 @@
-"""A decoder of streams of I, P and B pictures, of frames and fields, by the rules of the standard's decoding process: what
-bench/pictures.py has its samples from. It takes streams without faults, and shares nothing with the program."""
+"""A decoder of streams of I, P and B pictures, of frames and fields, by the rules of the standard's decoding process:
+what bench/pictures.py has its samples from. It takes streams without faults, and shares nothing with the program."""
 
 from dataclasses import dataclass
 
 import pictures_writer as w
-from pictures_writer import B, BOTTOM, DUAL, FIELD, FRAME, I, OTHER, P, TOP, Predictors, vectors_in
+from pictures_writer import B, BOTTOM, DUAL, FIELD, FRAME, OTHER, P, TOP, Predictors, vectors_in
 from slices import ALTERNATE, INTRA, ZIGZAG, inverse
 
 
@@ -116,8 +116,8 @@ class Mode:
 class Prediction:
     """The references of a picture: for each direction a function from a parity to a field, and frames."""
 
-    def __init__(self, picture, top_first, fields, frames):
-        self.structure, self.top_first = picture, top_first
+    def __init__(self, structure, top_first, fields, frames):
+        self.structure, self.top_first = structure, top_first
         self.fields, self.frames = fields, frames
 
     def of(self, mode, row, column):

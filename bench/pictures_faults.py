@@ -1,5 +1,5 @@
-"""Streams of predicted pictures with a fault. A slice is given in bits up to the fault's place and from there on, so that
-the place is counted by their number; bench/pictures.py prints the cases."""
+"""Streams of predicted pictures with a fault. A slice is given in bits up to the fault's place and from there on, so
+that the place is counted by their number; bench/pictures.py prints the cases."""
 
 from pictures_writer import (B, BOTTOM, END, FRAME, I, P, TOP, Macroblock, Picture, SliceWriter, flat, group, headers,
                              sequence, slice_unit, unit)
@@ -33,7 +33,7 @@ class Faults:
         self.take(name, pieces + head + rest, kind, place, pieces, comment)
 
     def at_extension(self, name, kind, pieces, p, bits):
-        """The fault stands so many bits behind the start code of the picture coding extension, which has nine bytes."""
+        """The fault stands so many bits behind the start code of the picture coding extension of nine bytes."""
         data = headers(p)
         place = 8 * (len(pieces + data) - 9) + 32 + bits
         self.take(name, pieces + data + END, kind, place, pieces,
@@ -77,7 +77,8 @@ def elements(f):
             ('a vector that leaves its frame on the left', 'VectorOutside', '00010 0', '1 001 011 1'),
             ('a vector that leaves its frame above', 'VectorOutside', '00010 0', '1 001 1 011'),
             ('a vector that leaves its frame below', 'VectorOutside', '00010 0', '1 001 1 010'),
-            ('a vector that leaves its frame on the right', 'VectorOutside', '00010 0 1 001 1 1 1 001 1 1', '1 001 010 1'),
+            ('a vector that leaves its frame on the right', 'VectorOutside', '00010 0 1 001 1 1 1 001 1 1',
+             '1 001 010 1'),
             ('a vector outside comes before a fault of the blocks', 'VectorOutside', '00010 0',
              '1 1 011 1 01011 000000000000 1'),
             ('a vector outside comes behind the pattern', 'NoCode', '00010 0 1 1 011 1', '000000001 1')):
@@ -88,7 +89,8 @@ def elements(f):
     f.at_unit('a P picture whose last macroblock is missing, at the end of the text', 'MissingMacroblocks', pieces,
               p + unit(1, covered), b'')
     f.at_unit('a P picture without a slice, behind two frames', 'MissingMacroblocks',
-              pieces + flats(Picture(I), 3, 1, 90), p, group(0), 'The first frame was shown when the second was decoded.')
+              pieces + flats(Picture(I), 3, 1, 90), p, group(0),
+              'The first frame was shown when the second was decoded.')
     conceals = headers(Picture(I, concealment=1, f_codes=(1, 1)))
     f.at_slice('the marker behind a concealment vector', 'BadMarker', sequence(48, 16), conceals, '00010 0 1 1 1 1',
                '0 1')
@@ -118,8 +120,9 @@ def bidirectional(f):
     dropped = sequence(48, 16) + group(0) + flats(Picture(I), 3, 1, 70)
     f.at_unit('a slice past the last row in a dropped picture', 'SliceOrder', dropped, headers(p),
               unit(2, '00010 0 1 0010 1 1') + END)
-    f.at_unit('another width behind a dropped picture', 'SequenceChanged', dropped + headers(p) + unit(1, '1' * 15), b'',
-              sequence(64, 16) + END, "What stands in a dropped picture's slices, and what they cover, doesn't matter.")
+    f.at_unit('another width behind a dropped picture', 'SequenceChanged', dropped + headers(p) + unit(1, '1' * 15),
+              b'', sequence(64, 16) + END,
+              "What stands in a dropped picture's slices, and what they cover, doesn't matter.")
 
 
 def motion_types(f):
@@ -141,7 +144,8 @@ def motion_types(f):
                comment='Code 8 and residual 1 are 16, and the vertical range is -16 to 15.')
     f.at_slice('a residual that ends early comes before the range', 'Truncated', pieces, two,
                '00010 0 1 001 01 0 1 0000010110', '')
-    f.at_slice('a dual prime vector 8 with f_code 1', 'VectorRange', pieces, p, '00010 0 1 001 11 1 0', '0000010110 0 1')
+    f.at_slice('a dual prime vector 8 with f_code 1', 'VectorRange', pieces, p, '00010 0 1 001 11 1 0',
+               '0000010110 0 1')
     f.at_slice('an opposite vector of dual prime that leaves its field', 'VectorOutside', pieces,
                headers(Picture(P, f_codes=(1, 1), top_first=1, **more)), '00010 0', '1 001 11 1 0 010 11',
                comment='By vector 1 and dmvector -1 it is (1 + 1) / 2 - 1 - 1 for the top lines.')

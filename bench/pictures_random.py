@@ -1,7 +1,7 @@
 """Macroblocks that are drawn: what bench/pictures.py makes textures and whole pictures with."""
 
-from pictures_writer import BOTTOM, DUAL, FIELD, FRAME, I, OTHER, P, Macroblock, Picture, SliceWriter, headers, unit
 from pictures_decoder import opposite, scale_of
+from pictures_writer import BOTTOM, DUAL, FIELD, FRAME, I, OTHER, P, Macroblock, Picture, SliceWriter, headers, unit
 
 
 class Draw:
@@ -132,7 +132,8 @@ class Drawing:
         blocks = {i: levels_of(draw, False, 0, scale) for i in range(6) if draw.below(2)} if draw.below(3) else {}
         if not blocks and not motion:
             blocks = {draw.below(6): {0: 1}}
-        return Macroblock(**motion, skipped=skipped, code=code if blocks else None, blocks=blocks, by_escapes=by_escapes,
+        return Macroblock(**motion, skipped=skipped, code=code if blocks else None, blocks=blocks,
+                          by_escapes=by_escapes,
                           field_dct=draw.below(2) if blocks and self.frame and not p.frame_only else 0)
 
     def may_skip(self, writer, last, row, column):
