@@ -8,11 +8,8 @@ use Rattle.m2v_port.proofs.Runs.{tells}
 use Rattle.m2v_port.specs.Port.{Grows}
 use Rattle.m2v_plane.specs.Raw.{raw}
 use Rattle.m2v_model.specs.Pieces.{limit, Limit, too_long, too_large, most_input, most_bytes, pieces}
-use Rattle.m2v_model.specs.declared.state.State.{State}
-use Rattle.m2v_model.specs.Pictures.{Pictures}
-use Rattle.m2v_model.specs.ByPieces.{pieces_read, end_of}
-use Rattle.m2v_model.specs.States.{at_first}
-use Rattle.m2v_model.specs.Streams.{Sofar}
+use Rattle.m2v_model.specs.Pictures.{Events, pictures_in}
+use Rattle.m2v_model.specs.ByPieces.{Between, at_start, pieces_read, end_of}
 use Rattle.m2v_model.specs.Decoding.{Decodes, FaultAt, pictures}
 use Rattle.m2v_model.proofs.Unique.{exactly_one}
 use Rattle.m2v_piece.specs.declared.answer.Fault.{Fault}
@@ -20,9 +17,10 @@ use Rattle.m2v_piece.specs.declared.answer.DecodeError.{DecodeError}
 use Rattle.m2v_piece.specs.declared.answer.DecodeError.TheVariants as errors
 use Rattle.m2v_piece.specs.Cutting.{Passes}
 use Rattle.m2v_decode.specs.declared.answer.Decoded.{Decoded}
-use Rattle.m2v_decode.specs.Answers.{Of, IsDecoded, IsFaulty, IsOver, Fails, AllFit, start_of}
-use Rattle.m2v_decode.specs.Complete.{IsUnderLimits, IsPast, IsReached, IsAnswered, Gives, counted, error_of}
+use Rattle.m2v_decode.specs.Answers.{Of, IsDecoded, IsFaulty, IsOver, Fails, AllFit, start_of, numbers_of}
+use Rattle.m2v_decode.specs.Complete.{IsUnderLimits, IsPast, IsReached, IsLate, IsAnswered, Gives, counted, error_of}
 use Rattle.m2v_decode.proofs.LimitLaws.{over_fault, over_over}
+use Rattle.m2v_decode.proofs.Going.{ends_behind}
 
 -- ---- under the limits
 
@@ -53,14 +51,6 @@ ends_low at [] fit le = le
 ends_low at (p ∷ ps) fit le =
     let next : (at + 0) + length p ≤ most_input = stays_low at 0 p fit.0 (omega arith) in
     ends_low (at + length p) ps fit.1 (omega arith)
-
--- pieces end no earlier than they begin
-ends_behind : (at : ℕ) (ps : List (List ℕ)) → at ≤ end_of at ps
-unfolding end_of
-ends_behind at [] = omega arith
-ends_behind at (p ∷ ps) =
-    let more : at + length p ≤ end_of (at + length p) ps = ends_behind (at + length p) ps in
-    omega arith
 
 pub rest_fits : (at : ℕ) (first others : List (List ℕ)) → AllFit at (first ++ others) → AllFit (end_of at first) others
 unfolding end_of
@@ -112,9 +102,8 @@ pub shown_counted : (text : List ℕ) (frames : List (List ℕ)) (d : Decodes te
 shown_counted text frames d held n i =
     let one : i.frames ≡ frames = (exactly_one text).one_decoding i.frames frames i.decodes d in
     let tree : (i.read).tree ≡ d.tree = (exactly_one text).one_tree (i.read).tree d.tree (i.read).stream d.stream in
-    let ps : i.pictures ≡ pictures (d.tree).parts = (i.read).pictures ∙ ap (λ (t : Sofar). pictures t.parts) tree in
-    let same : record { frames = length i.frames; pictures = length i.pictures; dropped = 0 } ≡ counted d = (λ j. record { frames = length (one j); pictures = length (ps j); dropped = 0 }) in
-    i.numbers ∙ same
+    let ps : pictures_in i.events ≡ pictures d.tree = ap (λ (t : Events × Between). pictures_in t.0) (i.read).told ∙ ap pictures tree in
+    i.numbers ∙ (λ j. numbers_of (length (one j)) (ps j))
 
 pub same_fault : (text : List ℕ) (f g : Fault) → FaultAt text f.place f.kind → FaultAt text g.place g.kind → f ≡ g
 same_fault text f g a b =
@@ -151,6 +140,13 @@ past_long text l held past o = elim (o.over) [
 pub past_large : (text : List ℕ) (l : Limit) (held : Change) → IsPast text l → IsOver text held errors.PictureTooLarge → l ≡ too_large
 past_large text l held past o = one_limit text l too_large past (o.begun).first o.others (o.begun).are (o.begun).fit o.over
 
+-- a piece that begins behind the input's limit is too long, and not too large
+late_large : (text : List ℕ) (held : Change) → IsLate text → IsOver text held errors.PictureTooLarge → ⊥
+late_large text held late o =
+    let low = ends_behind (start_of text) (o.begun).first in
+    let is : too_large ≡ too_long = late_limit (end_of (start_of text) (o.begun).first) (o.over).whole too_large (omega (arith, low, late)) (o.over).decides in
+    absurd cc
+
 -- a text with a piece over a limit has no frames to show
 pub past_shown : (text : List ℕ) (l : Limit) (held : Change) (n : Decoded) → IsPast text l → IsDecoded text held n → ⊥
 past_shown text l held n past i =
@@ -159,14 +155,14 @@ past_shown text l held n past i =
 -- a limit that was passed first leaves no fault
 pub past_fault : (text : List ℕ) (l : Limit) (held : Change) (f : Fault) → IsPast text l → IsFaulty text held f → ⊥
 past_fault text l held f past i =
-    over_fault (past.begun).first (i.begun).first past.others i.others at_first (start_of text) (past.pictures, past.state) (i.pictures, i.state) l f.kind f.place
+    over_fault (past.begun).first (i.begun).first past.others i.others at_start (start_of text) (past.events, past.between) (i.events, i.between) l f.kind f.place
     (sym (past.begun).are ∙ (i.begun).are) (i.begun).fit (past.begun).read (i.begun).read past.passes i.here
 
 -- where the first fault is reached under the limits, no limit stops the decoder
-reached_over : (text : List ℕ) (l : Limit) (held : Change) (f : Fault) (first others : List (List ℕ)) (ps : Pictures) (st : State) → IsReached text f → pieces text ≡ first ++ others
-    → pieces_read at_first (start_of text) first ≡ Ok (ps, st) → Passes (end_of (start_of text) first) l others → ⊥
+reached_over : (text : List ℕ) (l : Limit) (held : Change) (f : Fault) (first others : List (List ℕ)) (ps : Events) (st : Between) → IsReached text f → pieces text ≡ first ++ others
+    → pieces_read at_start (start_of text) first ≡ Ok (ps, st) → Passes (end_of (start_of text) first) l others → ⊥
 reached_over text l held f first others ps st r are read passes =
-    over_fault first (r.begun).first others r.others at_first (start_of text) (ps, st) (r.pictures, r.state) l f.kind f.place
+    over_fault first (r.begun).first others r.others at_start (start_of text) (ps, st) (r.events, r.between) l f.kind f.place
     (sym are ∙ (r.begun).are) (r.begun).fit read (r.begun).read passes r.here
 
 reached_long : (text : List ℕ) (held : Change) (f : Fault) → IsReached text f → IsOver text held errors.TooLong → ⊥
@@ -174,11 +170,11 @@ reached_long text held f r o = elim (o.over) [
   | inl more ↦
       let low = ends_low (start_of text) (o.begun).first (o.begun).fit r.start in
       absurd (omega arith)
-  | inr passes ↦ reached_over text too_long held f (o.begun).first o.others o.pictures o.state r (o.begun).are (o.begun).read passes
+  | inr passes ↦ reached_over text too_long held f (o.begun).first o.others o.events o.between r (o.begun).are (o.begun).read passes
 ]
 
 reached_large : (text : List ℕ) (held : Change) (f : Fault) → IsReached text f → IsOver text held errors.PictureTooLarge → ⊥
-reached_large text held f r o = reached_over text too_large held f (o.begun).first o.others o.pictures o.state r (o.begun).are (o.begun).read o.over
+reached_large text held f r o = reached_over text too_large held f (o.begun).first o.others o.events o.between r (o.begun).are (o.begun).read o.over
 
 -- ---- no other answer
 
@@ -235,9 +231,29 @@ module _ (left held : Change) (text : List ℕ) (is : left.old ≡ Some text) wh
     by_limit (Ok n) ok err = absurd (past_shown text l held n past (of_text left (λ bytes. IsDecoded bytes held n) text is ok))
     by_limit (Err e) ok err = err_over e err
 
+  module _ (late : IsLate text) where
+    err_late : (e : DecodeError) → Why e → Gives left held (Err errors.TooLong) (Err e)
+    err_late errors.Read h = Gives.read refl h.0
+    err_late errors.Write h = Gives.write refl h.0
+    err_late errors.Memory h = Gives.memory refl
+    err_late errors.TooLong h = Gives.as_said refl
+    err_late errors.PictureTooLarge h = absurd (late_large text held late (over_of errors.PictureTooLarge h))
+    err_late (errors.Stream f) h =
+        let i = of_text left (λ bytes. IsFaulty bytes held f) text is h in
+        let start = i.start in
+        absurd (omega (arith, start, late))
+
+    by_late : (result : Result Decoded DecodeError) → IfOk result (λ n. Of left (λ bytes. IsDecoded bytes held n)) → IfErr result Why → Gives left held (Err errors.TooLong) result
+    by_late (Ok n) ok err =
+        let i = of_text left (λ bytes. IsDecoded bytes held n) text is ok in
+        let start = i.start in
+        absurd (omega (arith, start, late))
+    by_late (Err e) ok err = err_late e err
+
 pub answered : (left held : Change) (result : Result Decoded DecodeError) → IfOk result (λ n. Of left (λ bytes. IsDecoded bytes held n)) → IfErr result (Fails left held) → Tells left (IsAnswered left held result)
 answered left held result ok err = tells left (IsAnswered left held result) (λ text is. record {
   decodes = λ frames d under. by_decodes left held text is frames d under result ok err;
   faulty = λ f at r. by_fault left held text is f at r result ok err;
   over = λ l past. by_limit left held text is l past result ok err;
+  late = λ long. by_late left held text is long result ok err;
 })

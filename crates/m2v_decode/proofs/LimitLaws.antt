@@ -1,42 +1,41 @@
 -- A piece that passes a limit behind pieces without a fault is what stops the decoder, and nothing else does.
 use Rattle.std.proofs.Common.{◌≡◌, ℕ, ◌+◌, List, [], ◌∷◌, ◌++◌, length, Some, None, Ok, Err, refl, sym, ap, subst, ◌∙◌}
 use Rattle.m2v_model.specs.declared.fault.FaultKind.{FaultKind}
-use Rattle.m2v_model.specs.declared.state.State.{State}
-use Rattle.m2v_model.specs.Pictures.{Pictures}
+use Rattle.m2v_model.specs.Pictures.{Events}
 use Rattle.m2v_model.specs.Pieces.{limit, Limit}
-use Rattle.m2v_model.specs.ByPieces.{Course, onward, piece_read, pieces_read, end_of}
+use Rattle.m2v_model.specs.ByPieces.{Between, Course, continued, piece_read, pieces_read, end_of}
 use Rattle.m2v_model.specs.ByPieces.{behind as put_behind}
 use Rattle.m2v_piece.specs.Cutting.{Passes}
 use Rattle.m2v_decode.specs.Answers.{AllFit, HasFault}
 
 -- what is read first, and what follows it
-record Follows (c : Course) (next : State → Course) (y : Pictures × State) : Type 0 where
-  first : Pictures × State
+record Follows (c : Course) (next : Between → Course) (y : Events × Between) : Type 0 where
+  first : Events × Between
   read : c ≡ Ok first
-  last : Pictures × State
+  last : Events × Between
   others : next first.1 ≡ Ok last
   state : y.1 ≡ last.1
 
-record Behind (c : Course) (y : Pictures × State) : Type 0 where
-  last : Pictures × State
+record Behind (c : Course) (y : Events × Between) : Type 0 where
+  last : Events × Between
   read : c ≡ Ok last
   state : y.1 ≡ last.1
 
-behind_ok : (ps : Pictures) (c : Course) (y : Pictures × State) → put_behind ps c ≡ Ok y → Behind c y
+behind_ok : (ps : Events) (c : Course) (y : Events × Between) → put_behind ps c ≡ Ok y → Behind c y
 behind_ok ps (Ok x) y e =
     let same : y ≡ (ps ++ x.0, x.1) = cc in
-    record { last = x; read = refl; state = ap (λ (p : Pictures × State). p.1) same }
+    record { last = x; read = refl; state = ap (λ (p : Events × Between). p.1) same }
 behind_ok ps (Err f) y e = absurd cc
 
-follows : (c : Course) (next : State → Course) (y : Pictures × State) → onward c next ≡ Ok y → Follows c next y
-unfolding onward
+follows : (c : Course) (next : Between → Course) (y : Events × Between) → continued c next ≡ Ok y → Follows c next y
+unfolding continued
 follows (Ok x) next y e =
     let b = behind_ok x.0 (next x.1) y e in
     record { first = x; read = refl; last = b.last; others = b.read; state = b.state }
 follows (Err f) next y e = absurd cc
 
 -- no fault comes first
-pub over_fault : (first begun others left : List (List ℕ)) (st : State) (at : ℕ) (y z : Pictures × State) (l : Limit) (kind : FaultKind) (place : ℕ)
+pub over_fault : (first begun others left : List (List ℕ)) (st : Between) (at : ℕ) (y z : Events × Between) (l : Limit) (kind : FaultKind) (place : ℕ)
     → first ++ others ≡ begun ++ left → AllFit at begun → pieces_read st at first ≡ Ok y → pieces_read st at begun ≡ Ok z
     → Passes (end_of at first) l others → HasFault z.1 (end_of at begun) left kind place → ⊥
 unfolding end_of pieces_read
@@ -55,7 +54,7 @@ over_fault (q ∷ first) [] others left st at y z l kind place same fit r s p f 
     let g : HasFault z.1 at (q ∷ (first ++ others)) kind place = subst (λ (ps : List (List ℕ)). HasFault z.1 at ps kind place) (sym same) f in
     let broken : piece_read z.1 (at + length q) q ≡ Err (kind, place) = g.1 in
     let here : z ≡ ([], st) = cc in
-    let state : z.1 ≡ st = ap (λ (p : Pictures × State). p.1) here in
+    let state : z.1 ≡ st = ap (λ (p : Events × Between). p.1) here in
     let h = follows (piece_read st (at + length q) q) (λ next. pieces_read next (at + length q) first) y r in
     let read : piece_read st (at + length q) q ≡ Ok h.first = h.read in
     absurd cc
@@ -69,9 +68,9 @@ over_fault (q ∷ first) (p ∷ begun) others left st at y z l kind place same f
     let h-read : piece_read st (at + length q) q ≡ Ok h.first = h.read in
     let k-read : piece_read st (at + length q) q ≡ Ok k.first = k.read in
     let one : k.first ≡ h.first = cc in
-    let more : pieces_read (h.first).1 (at + length q) begun ≡ Ok k.last = subst (λ (x : Pictures × State). pieces_read x.1 (at + length q) begun ≡ Ok k.last) one k.others in
+    let more : pieces_read (h.first).1 (at + length q) begun ≡ Ok k.last = subst (λ (x : Events × Between). pieces_read x.1 (at + length q) begun ≡ Ok k.last) one k.others in
     let there : HasFault z.1 (end_of (at + length q) begun) left kind place = subst (λ (b : List ℕ). HasFault z.1 (end_of (at + length b) begun) left kind place) head f in
-    let g : HasFault (k.last).1 (end_of (at + length q) begun) left kind place = subst (λ (n : State). HasFault n (end_of (at + length q) begun) left kind place) k.state there in
+    let g : HasFault (k.last).1 (end_of (at + length q) begun) left kind place = subst (λ (n : Between). HasFault n (end_of (at + length q) begun) left kind place) k.state there in
     over_fault first begun others left (h.first).1 (at + length q) h.last k.last l kind place tails fits h.others more o g
 
 -- no other limit comes first

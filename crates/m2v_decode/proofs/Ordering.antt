@@ -8,7 +8,7 @@ use Rattle.m2v_plane.specs.Raw.{crop}
 use Rattle.m2v_order.specs.Display.{Holder, opening, shown as shown_step, held, handed, held_after, is_kept, frames_of, Shown, Due}
 use Rattle.m2v_order.proofs.Shows.{handed_due, handed_shown}
 use Rattle.m2v_model.specs.declared.state.Sequence.{Sequence}
-use Rattle.m2v_model.specs.Pictures.{Picture, Pictures}
+use Rattle.m2v_model.specs.Pictures.{Picture, Pictures, frames_in}
 use Rattle.m2v_model.specs.Decoding.{is_dropped, raw_frames, shown, due, low_delay_of}
 use Rattle.m2v_decoder.specs.Decoding.{frame_of, Agrees, ShowsFrames}
 
@@ -31,7 +31,7 @@ list_of_map : (o : Option Picture) → option_to_list (option_map (λ (x : Pictu
 list_of_map None = refl
 list_of_map (Some x) = refl
 
-framed_handed : (q : Holder Picture) (ps : Pictures) → handed (framed q) (map frame_of ps) ≡ map (λ (x : Picture). x.frame) (handed q ps)
+framed_handed : (q : Holder Picture) (ps : List (Picture × ℕ)) → handed (framed q) (map frame_of ps) ≡ map (λ (x : Picture). x.frame) (handed q ps)
 unfolding handed
 framed_handed q [] = refl
 framed_handed q (p ∷ ps) =
@@ -42,7 +42,7 @@ framed_handed q (p ∷ ps) =
     (ap (λ (x : Holder Samples). handed x (map frame_of ps)) (sym (framed_held q p.0 p.1 b refl)) ∙ framed_handed (held q p.0 p.1) ps)
     ∙ sym (map-append (λ (y : Picture). y.frame) (option_to_list (shown_step q p.0 p.1)) (handed (held q p.0 p.1) ps))
 
-framed_after : (q : Holder Picture) (ps : Pictures) → held_after (framed q) (map frame_of ps) ≡ framed (held_after q ps)
+framed_after : (q : Holder Picture) (ps : List (Picture × ℕ)) → held_after (framed q) (map frame_of ps) ≡ framed (held_after q ps)
 unfolding held_after
 framed_after q [] = refl
 framed_after q (p ∷ ps) =
@@ -56,23 +56,23 @@ map_map (p ∷ ps) = ap (λ (t : List (List ℕ)). crop (p.0).frame ∷ t) (map_
 pub due_is : (low : Bool) (ps : Pictures) (anchor : Option Samples) (frames : List Samples) → ShowsFrames low None [] ps anchor frames → map crop frames ≡ due low ps
 unfolding framed
 due_is low ps anchor frames s =
-    let kept = filter (is_kept is_dropped) ps in
-    ap (map crop) (s.ready_is ∙ framed_handed (opening low) kept ∙ ap (map (λ (x : Picture). x.frame)) (handed_due is_dropped low ps))
-    ∙ map_map (Due is_dropped low ps)
+    let kept = filter (is_kept is_dropped) (frames_in ps) in
+    ap (map crop) (s.ready_is ∙ framed_handed (opening low) kept ∙ ap (map (λ (x : Picture). x.frame)) (handed_due is_dropped low (frames_in ps)))
+    ∙ map_map (Due is_dropped low (frames_in ps))
 
 -- and with the last anchor those that are shown
 pub shown_is : (low : Bool) (ps : Pictures) (anchor : Option Samples) (frames : List Samples) → ShowsFrames low None [] ps anchor frames → map crop (frames ++ option_to_list anchor) ≡ shown low ps
 unfolding framed
 shown_is low ps anchor frames s =
-    let kept = filter (is_kept is_dropped) ps in
+    let kept = filter (is_kept is_dropped) (frames_in ps) in
     let last : option_to_list anchor ≡ map (λ (x : Picture). x.frame) (option_to_list (held_after (opening low) kept).anchor) =
     ap option_to_list (s.anchor_is ∙ ap (λ (x : Holder Samples). x.anchor) (framed_after (opening low) kept)) ∙ list_of_map (held_after (opening low) kept).anchor in
     ap (map crop)
     (ap (λ (x : List Samples). x ++ option_to_list anchor) (s.ready_is ∙ framed_handed (opening low) kept)
     ∙ ap (λ (x : List Samples). map (λ (y : Picture). y.frame) (handed (opening low) kept) ++ x) last
     ∙ sym (map-append (λ (y : Picture). y.frame) (handed (opening low) kept) (option_to_list (held_after (opening low) kept).anchor))
-    ∙ ap (map (λ (x : Picture). x.frame)) (handed_shown is_dropped low ps))
-    ∙ map_map (Shown is_dropped low ps)
+    ∙ ap (map (λ (x : Picture). x.frame)) (handed_shown is_dropped low (frames_in ps)))
+    ∙ map_map (Shown is_dropped low (frames_in ps))
 
 -- low_delay of the first sequence extension agrees with it
 pub agrees : (first : Option Sequence) → Agrees (low_delay_of first) first

@@ -9,7 +9,7 @@ use Rattle.m2v_plane.specs.Samples.{Samples}
 use Rattle.m2v_plane.specs.Raw.{raw, crop}
 use Rattle.m2v_piece.specs.declared.answer.DecodeError.{DecodeError}
 use Rattle.m2v_piece.specs.declared.answer.DecodeError.TheVariants as errors
-use Rattle.m2v_decoder.specs.Decoding.{Decoding, due_of, HandsOut}
+use Rattle.m2v_decoder.specs.Decoding.{Decoding, between, due_of, HandsOut}
 use Rattle.m2v_decode.specs.Progress.{raw_of, Cuts, HasPut}
 
 pub raw-append : (fs gs : List Samples) → raw_of (fs ++ gs) ≡ raw_of fs ++ raw_of gs
@@ -23,11 +23,12 @@ pub record HasPutSome (old new : Decoding) (held : Change) : Type 0 where
   pub frames : List Samples
   pub due : due_of old ≡ frames ++ due_of new
   pub grown : Grows held.old (raw_of frames) held.new
-  pub state : new.state ≡ old.state
+  pub between_is : between new ≡ between old
   pub anchor : old.ended ≡ false → new.anchor ≡ old.anchor
   pub ended : new.ended ≡ old.ended
   pub failed : new.failed ≡ old.failed
   pub pictures : new.pictures ≡ old.pictures
+  pub dropped : new.dropped ≡ old.dropped
   pub shown : new.shown ≡ old.shown + length frames
 
 pub all_due : (old new : Decoding) (held : Change) → (so : HasPutSome old new held) → due_of new ≡ [] → so.frames ≡ due_of old
@@ -36,11 +37,12 @@ all_due old new held so none = sym (so.due ∙ ap (λ (t : List Samples). so.fra
 pub put_all : (old new : Decoding) (held : Change) → HasPutSome old new held → due_of new ≡ [] → HasPut old new
 put_all old new held so none = record {
   none = none;
-  state = so.state;
+  between_is = so.between_is;
   anchor = so.anchor;
   ended = so.ended;
   failed = so.failed;
   pictures = so.pictures;
+  dropped = so.dropped;
   shown = so.shown ∙ ap (λ (t : List Samples). old.shown + length t) (all_due old new held so none);
 }
 
@@ -54,11 +56,12 @@ module _ {K : Type 0} (held : K → Option (List ℕ)) (output_faults : K → �
     frames = [];
     due = refl;
     grown = grows_by_nothing (held o0);
-    state = refl;
+    between_is = refl;
     anchor = λ going. refl;
     ended = refl;
     failed = refl;
     pictures = refl;
+    dropped = refl;
     shown = omega arith;
   }
 
@@ -68,11 +71,12 @@ module _ {K : Type 0} (held : K → Option (List ℕ)) (output_faults : K → �
     frames = so.frames ++ f ∷ [];
     due = so.due ∙ ap (λ (t : List Samples). so.frames ++ t) next.due ∙ sym (append_assoc so.frames (f ∷ []) (due_of new));
     grown = subst (λ (b : List ℕ). Grows (held o0) b (held o2)) (sym (raw_one so.frames f)) (grows_on so.grown grown);
-    state = next.state ∙ so.state;
+    between_is = (λ i. between (record new { state = next.state i; frames = next.frames i })) ∙ so.between_is;
     anchor = λ going. next.anchor (so.ended ∙ going) ∙ so.anchor going;
     ended = next.ended ∙ so.ended;
     failed = next.failed ∙ so.failed;
     pictures = next.pictures ∙ so.pictures;
+    dropped = next.dropped ∙ so.dropped;
     shown = omega (arith, next.shown, so.shown, length-append so.frames (f ∷ []));
   }
 

@@ -1,20 +1,18 @@
 -- What decoding a stream answers, and what stands then in input and output.
-use Rattle.std.specs.Prelude.{◌≡◌, ℕ, ◌+◌, ◌≤◌, List, [], ◌∷◌, ◌++◌, length, Some, None, Ok, Err}
+use Rattle.std.specs.Prelude.{◌≡◌, ℕ, ◌+◌, ◌<◌, ◌≤◌, List, [], ◌∷◌, ◌++◌, length, Some, None, Ok, Err}
 use Rattle.m2v_port.specs.Ends.{Change}
 use Rattle.m2v_port.specs.Port.{Moves, Grows, GrowsByPrefix}
 use Rattle.m2v_plane.specs.Raw.{raw}
 use Rattle.m2v_model.specs.declared.fault.FaultKind.{FaultKind}
-use Rattle.m2v_model.specs.declared.state.State.{State}
-use Rattle.m2v_model.specs.States.{at_first}
-use Rattle.m2v_model.specs.Pictures.{Pictures}
-use Rattle.m2v_model.specs.Pieces.{pieces, limit, most_input}
-use Rattle.m2v_model.specs.Pieces.{skipped as before_pieces}
+use Rattle.m2v_model.specs.Pictures.{Pictures, Events, pictures_in}
+use Rattle.m2v_model.specs.Pieces.{pieces, before_pieces, limit, most_input}
 use Rattle.m2v_model.specs.Decoding.{Decodes, FaultAt, shown, due, low_delay_of}
-use Rattle.m2v_model.specs.ByPieces.{piece_read, pieces_read, end_of, IsRead}
+use Rattle.m2v_model.specs.ByPieces.{Between, at_start, piece_read, pieces_read, end_read, end_of, IsRead}
 use Rattle.m2v_piece.specs.declared.answer.Fault.{Fault}
 use Rattle.m2v_piece.specs.declared.answer.DecodeError.{DecodeError}
 use Rattle.m2v_piece.specs.declared.answer.DecodeError.TheVariants as errors
 use Rattle.m2v_piece.specs.Cutting.{PieceStops}
+use Rattle.m2v_decoder.specs.Decoding.{dropped_in}
 use Rattle.m2v_decode.specs.declared.answer.Decoded.{Decoded}
 
 -- where the first piece of a text begins
@@ -26,69 +24,76 @@ abbrev pub AllFit : ℕ → List (List ℕ) → Type 0
 AllFit at [] = Unit {0}
 AllFit at (p ∷ ps) = (limit at 0 p ≡ None) × AllFit (at + length p) ps
 
--- the first pieces of a text: none of them passes a limit, and they stand; with their pictures and the state behind them
-pub record PiecesRead (text : List ℕ) (ps : Pictures) (st : State) (others : List (List ℕ)) : Type 0 where
+-- the first pieces of a text: none of them passes a limit, and they stand; with what they tell and what stands behind them
+pub record PiecesRead (text : List ℕ) (es : Events) (b : Between) (others : List (List ℕ)) : Type 0 where
   pub first : List (List ℕ)
   pub are : pieces text ≡ first ++ others
   pub fit : AllFit (start_of text) first
-  pub read : pieces_read at_first (start_of text) first ≡ Ok (ps, st)
+  pub read : pieces_read at_start (start_of text) first ≡ Ok (es, b)
 
 -- the place behind them
-abbrev pub behind : {text : List ℕ} {ps : Pictures} {st : State} {others : List (List ℕ)} → PiecesRead text ps st others → ℕ
-behind {text} b = end_of (start_of text) b.first
+abbrev pub behind : {text : List ℕ} {es : Events} {b : Between} {others : List (List ℕ)} → PiecesRead text es b others → ℕ
+behind {text} r = end_of (start_of text) r.first
 
 -- the next piece has the first fault; behind the last one the end of the text, which an input may have there
-abbrev pub HasFault : State → ℕ → List (List ℕ) → FaultKind → ℕ → Type 0
-HasFault st at [] kind place = (at ≤ most_input) × (piece_read st at [] ≡ Err (kind, place))
-HasFault st at (p ∷ ps) kind place = (limit at 0 p ≡ None) × (piece_read st (at + length p) p ≡ Err (kind, place))
+abbrev pub HasFault : Between → ℕ → List (List ℕ) → FaultKind → ℕ → Type 0
+HasFault b at [] kind place = (at ≤ most_input) × (end_read b at ≡ Err (kind, place))
+HasFault b at (p ∷ ps) kind place = (limit at 0 p ≡ None) × (piece_read b (at + length p) p ≡ Err (kind, place))
 
 -- the frames that the pictures of the pieces before show before the end
-abbrev pub due_before : State → Pictures → List (List ℕ)
-due_before st ps = due (low_delay_of st.first) ps
+abbrev pub due_before : Between → Events → List (List ℕ)
+due_before b es = due (low_delay_of b.state.first) (pictures_in es)
 
 -- all frames that they show
-abbrev pub shown_by : State → Pictures → List (List ℕ)
-shown_by st ps = shown (low_delay_of st.first) ps
+abbrev pub shown_by : Between → Events → List (List ℕ)
+shown_by b es = shown (low_delay_of b.state.first) (pictures_in es)
+
+-- the numbers of a stream: frames shown, pictures, and how many of these are dropped
+abbrev pub numbers_of : ℕ → Pictures → Decoded
+numbers_of frames ps = record { frames = frames; pictures = length ps; dropped = dropped_in ps }
 
 -- The text is a stream without a fault, no piece of it passes a limit, and output has grown by the frames that it shows.
 pub record IsDecoded (text : List ℕ) (held : Change) (d : Decoded) : Type 0 where
   pub frames : List (List ℕ)
   pub decodes : Decodes text frames
-  pub pictures : Pictures
-  pub state : State
-  pub read : IsRead text pictures state
+  pub events : Events
+  pub between : Between
+  pub read : IsRead text events between
+  pub start : start_of text ≤ most_input
   pub fit : AllFit (start_of text) (pieces text)
   pub grown : Grows held.old (raw frames) held.new
-  pub numbers : d ≡ record { frames = length frames; pictures = length pictures; dropped = 0 }
+  pub numbers : d ≡ numbers_of (length frames) (pictures_in events)
 
 -- The text has this first fault, and output has grown by the frames that are due from the pieces before the one in which
 -- it is looked at; where that is at the end, from all pieces.
 pub record IsFaulty (text : List ℕ) (held : Change) (f : Fault) : Type 0 where
   pub fault : FaultAt text f.place f.kind
-  pub pictures : Pictures
-  pub state : State
+  pub start : start_of text ≤ most_input
+  pub events : Events
+  pub between : Between
   pub others : List (List ℕ)
-  pub begun : PiecesRead text pictures state others
-  pub here : HasFault state (behind begun) others f.kind f.place
-  pub grown : Grows held.old (raw (due_before state pictures)) held.new
+  pub begun : PiecesRead text events between others
+  pub here : HasFault between (behind begun) others f.kind f.place
+  pub grown : Grows held.old (raw (due_before between events)) held.new
 
 -- The next piece passes a limit, or the bytes before the first one do, and output has grown by the frames that are due
 -- from the pieces before.
 pub record IsOver (text : List ℕ) (held : Change) (e : DecodeError) : Type 0 where
-  pub pictures : Pictures
-  pub state : State
+  pub events : Events
+  pub between : Between
   pub others : List (List ℕ)
-  pub begun : PiecesRead text pictures state others
+  pub begun : PiecesRead text events between others
   pub over : PieceStops (behind begun) others e
-  pub grown : Grows held.old (raw (due_before state pictures)) held.new
+  pub grown : Grows held.old (raw (due_before between events)) held.new
 
--- Output has grown by a prefix of the frames that whole pictures of the text show.
-pub record IsCut (text : List ℕ) (held : Change) : Type 0 where
-  pub pictures : Pictures
-  pub state : State
+-- Output has grown by a prefix of the frames that the whole pictures in the first bytes of a text show.
+pub record IsCut (bytes text : List ℕ) (held : Change) : Type 0 where
+  pub events : Events
+  pub between : Between
   pub others : List (List ℕ)
-  pub begun : PiecesRead text pictures state others
-  pub grown : GrowsByPrefix held.old (raw (shown_by state pictures)) held.new
+  pub begun : PiecesRead text events between others
+  pub within : 0 < length begun.first → behind begun ≤ length bytes
+  pub grown : GrowsByPrefix held.old (raw (shown_by between events)) held.new
 
 -- Some bytes of the input were read, and where the input tells its bytes, this holds of them and what is left.
 pub record Of (left : Change) (Holds : List ℕ → Type 0) : Type 0 where
@@ -96,11 +101,17 @@ pub record Of (left : Change) (Holds : List ℕ → Type 0) : Type 0 where
   pub moved : Moves left.old bytes left.new
   pub told : (rest : List ℕ) → left.new ≡ Some rest → Holds (bytes ++ rest)
 
+-- the same of the bytes that were read and of the text that they begin
+pub record OfTaken (left : Change) (Holds : List ℕ → List ℕ → Type 0) : Type 0 where
+  pub bytes : List ℕ
+  pub moved : Moves left.old bytes left.new
+  pub told : (rest : List ℕ) → left.new ≡ Some rest → Holds bytes (bytes ++ rest)
+
 -- When each error comes, and what stands then.
 abbrev pub Fails : Change → Change → DecodeError → Type 0
-Fails left held errors.Read = left.Failed × Of left (λ text. IsCut text held)
-Fails left held errors.Write = held.Failed × Of left (λ text. IsCut text held)
+Fails left held errors.Read = left.Failed × OfTaken left (λ bytes text. IsCut bytes text held)
+Fails left held errors.Write = held.Failed × OfTaken left (λ bytes text. IsCut bytes text held)
 Fails left held (errors.Stream f) = Of left (λ text. IsFaulty text held f)
 Fails left held errors.TooLong = Of left (λ text. IsOver text held errors.TooLong)
 Fails left held errors.PictureTooLarge = Of left (λ text. IsOver text held errors.PictureTooLarge)
-Fails left held errors.Memory = Of left (λ text. IsCut text held)
+Fails left held errors.Memory = OfTaken left (λ bytes text. IsCut bytes text held)

@@ -1,16 +1,16 @@
 -- Decoding under way: what stands between two pieces.
-use Rattle.std.specs.Prelude.{◌≡◌, ℕ, ◌+◌, ◌≤◌, Bool, true, false, List, [], ◌++◌, length, map, Some, None, Err}
+use Rattle.std.specs.Prelude.{◌≡◌, ℕ, ◌+◌, ◌<◌, ◌≤◌, Bool, true, false, List, [], ◌++◌, length, map, Some, None, Err}
 use Rattle.m2v_port.specs.Ends.{Change}
 use Rattle.m2v_port.specs.Port.{Moves, Grows, GrowsByPrefix}
 use Rattle.m2v_plane.specs.Samples.{Samples}
 use Rattle.m2v_plane.specs.Raw.{raw, crop}
-use Rattle.m2v_model.specs.Pictures.{Pictures}
+use Rattle.m2v_model.specs.Pictures.{Events, pictures_in}
 use Rattle.m2v_model.specs.Pieces.{most_input}
-use Rattle.m2v_model.specs.ByPieces.{piece_read}
+use Rattle.m2v_model.specs.ByPieces.{end_read}
 use Rattle.m2v_piece.specs.declared.answer.DecodeError.{DecodeError}
 use Rattle.m2v_piece.specs.declared.answer.DecodeError.TheVariants as errors
 use Rattle.m2v_piece.specs.Cutting.{Cutting, left_of, start_of as start_of_rest}
-use Rattle.m2v_decoder.specs.Decoding.{Decoding, due_of, Agrees, ShowsFrames, Finished}
+use Rattle.m2v_decoder.specs.Decoding.{Decoding, between, due_of, dropped_in, Agrees, ShowsFrames, Finished}
 use Rattle.m2v_decode.specs.declared.answer.Decoded.{Decoded}
 use Rattle.m2v_decode.specs.Answers.{PiecesRead, behind}
 
@@ -34,20 +34,23 @@ Cuts bytes held errors.Memory = GrowsByPrefix held.old bytes held.new
 -- the frames that were due were handed out
 pub record HasPut (old new : Decoding) : Type 0 where
   pub none : due_of new ≡ []
-  pub state : new.state ≡ old.state
+  pub between_is : between new ≡ between old
   pub anchor : old.ended ≡ false → new.anchor ≡ old.anchor
   pub ended : new.ended ≡ old.ended
   pub failed : new.failed ≡ old.failed
   pub pictures : new.pictures ≡ old.pictures
+  pub dropped : new.dropped ≡ old.dropped
   pub shown : new.shown ≡ old.shown + length (due_of old)
 
--- the first pieces of the text were read, and the frames due from them written
-pub record Reached (text : List ℕ) (start : ℕ) (others : List (List ℕ)) (frames : List Samples) (d : Decoding) : Type 0 where
-  pub pictures : Pictures
-  pub begun : PiecesRead text pictures d.state others
+-- the first pieces of the text were read, which lie in its first bytes, and the frames due from them written
+pub record Reached (taken : ℕ) (text : List ℕ) (start : ℕ) (others : List (List ℕ)) (frames : List Samples) (d : Decoding) : Type 0 where
+  pub events : Events
+  pub begun : PiecesRead text events (between d) others
   pub place : start ≡ behind begun
-  pub shows : (low : Bool) → Agrees low d.state.first → ShowsFrames low None [] pictures d.anchor frames
-  pub counted : d.pictures ≡ length pictures
+  pub within : 0 < length begun.first → start ≤ taken
+  pub shows : (low : Bool) → Agrees low d.state.first → ShowsFrames low None [] (pictures_in events) d.anchor frames
+  pub counted : d.pictures ≡ length (pictures_in events)
+  pub dropped : d.dropped ≡ dropped_in (pictures_in events)
 
 -- bytes were read and frames written
 pub record Progress (left held : Change) (c : Cutting) (d : Decoding) : Type 0 where
@@ -59,7 +62,8 @@ pub record Progress (left held : Change) (c : Cutting) (d : Decoding) : Type 0 w
   pub none : d.ready ≡ []
   pub going : d.ended ≡ false
   pub sound : d.failed ≡ false
-  pub told : (rest : List ℕ) → left.new ≡ Some rest → Reached (bytes ++ rest) (start_of_rest c rest) (left_of c rest) frames d
+  pub taken : (rest : List ℕ) → left.new ≡ Some rest → c.place + length c.unread ≤ length bytes
+  pub told : (rest : List ℕ) → left.new ≡ Some rest → Reached (length bytes) (bytes ++ rest) (start_of_rest c rest) (left_of c rest) frames d
 
 -- all pieces were read
 pub record IsDone (left held : Change) (c : Cutting) (d : Decoding) : Type 0 where
@@ -73,20 +77,20 @@ pub record IsDone (left held : Change) (c : Cutting) (d : Decoding) : Type 0 whe
   pub sound : d.failed ≡ false
   pub over : c.ended ≡ true
   pub most : c.place ≤ most_input
-  pub told : (rest : List ℕ) → left.new ≡ Some rest → Reached (bytes ++ rest) c.place [] frames d
+  pub told : (rest : List ℕ) → left.new ≡ Some rest → Reached (length bytes) (bytes ++ rest) c.place [] frames d
 
 -- the end of the text was read, and the frames due then written
 pub record Ends (old : Decoding) (end : ℕ) (d : Decoded) (held : Change) : Type 0 where
   pub new : Decoding
   pub finished : Finished old end new
   pub grown : Grows held.old (raw_of (due_of new)) held.new
-  pub numbers : d ≡ record { frames = old.shown + length (due_of new); pictures = old.pictures; dropped = 0 }
+  pub numbers : d ≡ record { frames = old.shown + length (due_of new); pictures = old.pictures; dropped = old.dropped }
 
 -- why not
 abbrev pub EndFails : Decoding → ℕ → Change → DecodeError → Type 0
 EndFails old end held errors.Read = ⊥
 EndFails old end held errors.Write = held.Failed × ((new : Decoding) × Finished old end new × GrowsByPrefix held.old (raw_of (due_of new)) held.new)
-EndFails old end held (errors.Stream f) = (piece_read old.state end [] ≡ Err (f.kind, f.place)) × (held.new ≡ held.old)
+EndFails old end held (errors.Stream f) = (end_read (between old) end ≡ Err (f.kind, f.place)) × (held.new ≡ held.old)
 EndFails old end held errors.TooLong = ⊥
 EndFails old end held errors.PictureTooLarge = ⊥
 EndFails old end held errors.Memory = (new : Decoding) × Finished old end new × GrowsByPrefix held.old (raw_of (due_of new)) held.new

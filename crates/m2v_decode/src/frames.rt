@@ -53,6 +53,7 @@ pub fn put_due<K: Sink>(
 {
     while let Some(frame) = decoder.due() {
         put_frame(alloc, &frame, output)?;
+        decoder.recycle(frame);
     }
     Ok(())
 }

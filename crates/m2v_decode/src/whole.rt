@@ -70,7 +70,7 @@ fn finish<K: Sink>(
     Ok(Decoded {
         frames: decoder.shown(),
         pictures: decoder.pictures(),
-        dropped: 0,
+        dropped: decoder.dropped(),
     })
 }
 

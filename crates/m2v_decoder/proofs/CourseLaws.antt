@@ -1,112 +1,144 @@
--- What the steps of a decoder keep.
-use Rattle.std.proofs.Common.{◌≡◌, ℕ, ◌+◌, Bool, true, false, List, [], ◌∷◌, ◌++◌, length, Option, Some, None, option_to_list, refl, sym, ap, subst, ◌∙◌, arith}
-use Rattle.std.specs.Prelude.{◌||◌, ◌==◌}
+-- What the end of a picture does to a decoder.
+use Rattle.std.proofs.Common.{◌≡◌, ℕ, ◌+◌, ◌≤◌, Bool, true, false, List, [], ◌∷◌, ◌++◌, length, Option, Some, None, option_to_list, refl, sym, ap, subst, ◌∙◌, arith}
+use Rattle.std.specs.Prelude.{◌||◌, ◌==◌, if◌then◌else◌, IsSome}
 use Rattle.std.proofs.lemmas.List.{append-nil, length-append}
+use Rattle.m2v_plane.specs.declared.dims.Dims.{Dims}
 use Rattle.m2v_plane.specs.Samples.{Samples}
-use Rattle.m2v_picture.specs.Conditions.{IsMatrix}
+use Rattle.m2v_plane.specs.Fields.{or_none}
 use Rattle.m2v_order.specs.Display.{Holder, shown as shown_step, held, handed, held_after}
 use Rattle.m2v_model.specs.Decoding.{low_delay_of}
 use Rattle.m2v_model.specs.declared.state.Sequence.{Sequence}
 use Rattle.m2v_model.specs.declared.state.Open.{Open}
 use Rattle.m2v_model.specs.declared.state.State.{State}
-use Rattle.m2v_model.specs.States.{after_end}
-use Rattle.m2v_model.specs.Pictures.{Pictures, type_of, closed}
+use Rattle.m2v_model.specs.States.{is_b, is_frame_end, after_end}
+use Rattle.m2v_model.specs.Pictures.{Picture, Store, Events, picture_of, picture_ended, closed}
+use Rattle.m2v_model.specs.PieceNotes.{noted}
+use Rattle.m2v_picture.specs.Frames.{Frames, store_of, HaveSize}
 use Rattle.m2v_decoder.specs.declared.course.Course.{Course}
-use Rattle.m2v_decoder.specs.Decoding.{decoded_of}
-use Rattle.m2v_decoder.specs.Course.{Fits, IsFresh, IsSoundCourse, Showed, Closed}
-use Rattle.m2v_decoder.proofs.Showing.{low_one}
+use Rattle.m2v_decoder.specs.Decoding.{decoded_of, dropped_in}
+use Rattle.m2v_decoder.specs.Course.{IsOpen, HasFrame, FitsOpen, HaveSizes, IsFresh, AreSound, IsSoundCourse, Emits, Counted, Showed, Closed, frame_list}
+use Rattle.m2v_decoder.proofs.Showing.{low_stays}
+use Rattle.m2v_decoder.proofs.NoteLaws.{notes_same}
+use Rattle.m2v_decoder.proofs.FrameLaws.{rest_same, ended}
 
-one_kept : (frame : Samples) (kind : ℕ) (b : Bool) → (kind == 3) ≡ b → decoded_of ((record { frame = frame; dropped = false }, kind) ∷ []) ≡ (frame, kind) ∷ []
-one_kept frame kind true e = rw e refl
-one_kept frame kind false e = rw e refl
+-- ---- the frame of a picture
 
-one_decoded : (frame : Samples) (kind : ℕ) → decoded_of ((record { frame = frame; dropped = false }, kind) ∷ []) ≡ (frame, kind) ∷ []
-one_decoded frame kind = one_kept frame kind (kind == 3) refl
+one_listed : (ends drop : Bool) (current frame : Option Samples) (p : Picture) → p.ends_frame ≡ ends → p.dropped ≡ drop → p.frame ≡ or_none current → frame ≡ (if ends then current else None)
+    → (drop ≡ true → (is_b p.info.kind ≡ true) × (current ≡ None)) → (drop ≡ false → IsSome current) → decoded_of (p ∷ []) ≡ frame_list frame p.info.kind
+one_listed false drop current frame p e d at is dropped there = rw (e, is) refl
+one_listed true true current frame p e d at is dropped there =
+    let b = dropped refl in
+    rw (e, is, b.1, d, b.0) refl
+one_listed true false (Some f) frame p e d at is dropped there = one_kept (is_b p.info.kind) refl
+  where
+    one_kept : (b : Bool) → is_b p.info.kind ≡ b → decoded_of (p ∷ []) ≡ frame_list frame p.info.kind
+    one_kept true b = rw (e, is, d, b, at) refl
+    one_kept false b = rw (e, is, d, b, at) refl
+one_listed true false None frame p e d at is dropped there = let some = there refl in absurd cc
 
-one_handed : (q : Holder Samples) (frame : Samples) (kind : ℕ) → handed q ((frame, kind) ∷ []) ≡ option_to_list (shown_step q frame kind)
-unfolding handed
-one_handed q frame kind = append-nil (option_to_list (shown_step q frame kind))
+-- the frame that a picture ended is the one that is told
+pub listed : (p : Open) (f : Frames) (frame : Option Samples) → IsOpen p → HasFrame p f → frame ≡ (if is_frame_end p then f.current else None) → decoded_of (picture_of p (store_of f) ∷ []) ≡ frame_list frame p.info.kind
+unfolding picture_of
+listed p f frame o h is =
+    one_listed (is_frame_end p) p.dropped f.current frame (picture_of p (store_of f)) refl refl refl is (λ on. (o.dropped on, h.none on)) h.current
 
-one_held : (q : Holder Samples) (frame : Samples) (kind : ℕ) → held_after q ((frame, kind) ∷ []) ≡ held q frame kind
-unfolding held_after
-one_held q frame kind = refl
+-- ---- counts
 
 count_by_test : (q : Holder Samples) (frame : Samples) (kind : ℕ) (b : Bool) → (q.low_delay || (kind == 3)) ≡ b
     → length (option_to_list (shown_step q frame kind)) + length (option_to_list (held q frame kind).anchor) ≡ length (option_to_list q.anchor) + 1
 unfolding shown_step held
-count_by_test q frame kind true e = rw e (omega arith)
+count_by_test q frame kind true e = rw e (omega (arith))
 count_by_test q frame kind false e = rw e refl
 
-fits_closed : (s : Option Sequence) (p : Option Open) (f : Option Samples) → Fits s p f → Fits s None None
-fits_closed (Some s) (Some p) (Some f) h = h.0
-fits_closed (Some s) None None h = h
-fits_closed None p None h = tt
-fits_closed (Some s) (Some p) None h = absurd h
-fits_closed (Some s) None (Some f) h = absurd h
-fits_closed None p (Some f) h = absurd h
+handed_few : (q : Holder Samples) (frame : Option Samples) (kind : ℕ) → length (handed q (frame_list frame kind)) + length (option_to_list (held_after q (frame_list frame kind)).anchor) ≤ length (option_to_list q.anchor) + 1
+unfolding handed held_after
+handed_few q None kind = omega arith
+handed_few q (Some f) kind =
+    let one : length (option_to_list (shown_step q f kind) ++ []) ≡ length (option_to_list (shown_step q f kind)) = ap length (append-nil (option_to_list (shown_step q f kind))) in
+    omega (arith, one, count_by_test q f kind (q.low_delay || (kind == 3)) refl)
 
-fresh_shown : (first s : Option Sequence) (p : Option Open) (f : Samples) (a b : Option Samples) → IsFresh first s a → Fits s p (Some f) → IsFresh first s b
-fresh_shown (Some first) s p f a b h fits = tt
-fresh_shown None (Some s) p f a b h fits = absurd h
-fresh_shown None None p f a b h fits = absurd fits
+one_dropped : (p : Picture) (d : Bool) → p.dropped ≡ d → dropped_in (p ∷ []) ≡ (if d then 1 else 0)
+one_dropped p true e = rw e refl
+one_dropped p false e = rw e refl
 
--- the frame that was open is shown or held
-pub closed_frame : (old mid new : Course) (frame : Samples) → IsSoundCourse old → old.canvas ≡ Some frame → mid.state ≡ after_end old.state → mid.canvas ≡ None → mid.queue ≡ old.queue → mid.ready.items ≡ old.ready.items → mid.pictures ≡ old.pictures → mid.shown ≡ old.shown
-    → Showed mid frame (type_of old.state.picture) new → Closed old new
-closed_frame old mid new frame sound is state canvas queue ready pictures shown h =
-    let kind = type_of old.state.picture in
-    let ps : Pictures = (record { frame = frame; dropped = false }, kind) ∷ [] in
-    let one : decoded_of ps ≡ (frame, kind) ∷ [] = one_decoded frame kind in
-    let last : closed old.state old.canvas ≡ ps = ap (closed old.state) is in
-    let shown_q : new.ready.items ≡ old.ready.items ++ option_to_list (shown_step old.queue frame kind) = h.ready ∙ ap (λ (x : List Samples). x ++ option_to_list (shown_step mid.queue frame kind)) ready ∙ ap (λ (q : Holder Samples). old.ready.items ++ option_to_list (shown_step q frame kind)) queue in
-    let held_q : new.queue ≡ held old.queue frame kind = h.queue ∙ ap (λ (q : Holder Samples). held q frame kind) queue in
-    let fits = subst (λ (f : Option Samples). Fits old.state.sequence old.state.picture f) is sound.fits in
-    let st : new.state ≡ after_end old.state = h.state ∙ state in
-    let none : new.canvas ≡ None = h.canvas ∙ canvas in
-    let low : new.queue.low_delay ≡ old.queue.low_delay = ap (λ (q : Holder Samples). q.low_delay) held_q ∙ low_one old.queue frame kind (old.queue.low_delay || (kind == 3)) refl in
+open_dropped : (p : Open) (store : Store) → dropped_in (picture_of p store ∷ []) ≡ (if p.dropped then 1 else 0)
+unfolding picture_of
+open_dropped p store = one_dropped (picture_of p store) p.dropped refl
+
+few_dropped : (b : Bool) → (if b then 1 else 0) ≤ 1
+few_dropped true = omega arith
+few_dropped false = omega arith
+
+-- a picture is open behind a sequence header alone
+fresh_open : (first s : Option Sequence) (p : Open) (f : Frames) (a : Option Samples) → HaveSizes first s f → FitsOpen (Some p) s f → IsFresh first a
+fresh_open (Some first) s p f a h fits = tt
+fresh_open None (Some s) p f a h fits = absurd h
+fresh_open None None p f a h fits = absurd fits
+
+opened_as : (s : Option Sequence) (p : Open) (f : Frames) → FitsOpen (Some p) s f → IsOpen p × HasFrame p f
+opened_as (Some s) p f h = h
+opened_as None p f h = absurd h
+
+-- ---- the picture that is open ends
+
+pub closed_some : (old c d : Course) (p : Open) (g : Frames) (frame : Option Samples) → IsSoundCourse old → old.state.picture ≡ Some p → store_of g ≡ picture_ended (Some p) (store_of old.gallery)
+    → frame ≡ (if is_frame_end p then old.gallery.current else None) → g.reading ≡ None → ((s : Dims) → HaveSize s old.gallery → HaveSize s g)
+    → Counted (record old { gallery = g }) p c → Showed c frame p.info.kind d → Closed old (record d { state = record d.state { picture = None } })
+closed_some old c d p g frame sound is store frame_is reading kept counted showed =
+    let f = old.gallery in
+    let st = old.state in
+    let fits = subst (λ (o : Option Open). FitsOpen o st.sequence f) is (sound.frames).fits in
+    let open_is = opened_as st.sequence p f fits in
+    let one : decoded_of (picture_of p (store_of f) ∷ []) ≡ frame_list frame p.info.kind = listed p f frame open_is.0 open_is.1 frame_is in
+    let told : Events = closed (Some p) (store_of f) in
+    let queue : c.queue ≡ old.queue = counted.queue in
+    let state : record d.state { picture = None } ≡ after_end st = ap after_end (showed.state ∙ counted.state) in
+    let gallery : d.gallery ≡ g = showed.gallery ∙ counted.gallery in
+    let ready : d.ready.items ≡ old.ready.items ++ handed old.queue (frame_list frame p.info.kind) =
+    showed.ready ∙ ap (λ (v : List Samples). v ++ handed c.queue (frame_list frame p.info.kind)) (ap (λ v. v.items) counted.ready) ∙ ap (λ (q : Holder Samples). old.ready.items ++ handed q (frame_list frame p.info.kind)) queue in
+    let holds : d.queue ≡ held_after old.queue (frame_list frame p.info.kind) = showed.queue ∙ ap (λ (q : Holder Samples). held_after q (frame_list frame p.info.kind)) queue in
+    let low : d.queue.low_delay ≡ old.queue.low_delay = ap (λ (q : Holder Samples). q.low_delay) holds ∙ low_stays old.queue (frame_list frame p.info.kind) in
+    let emits : Emits old told (record d { state = record d.state { picture = None } }) = record {
+      ready = ready ∙ ap (λ (l : List (Samples × ℕ)). old.ready.items ++ handed old.queue l) (sym one);
+      anchor = ap (λ (q : Holder Samples). q.anchor) (holds ∙ ap (held_after old.queue) (sym one));
+      pictures = showed.pictures ∙ counted.pictures;
+      dropped = showed.dropped ∙ counted.dropped ∙ ap (λ (n : ℕ). old.dropped + n) (sym (open_dropped p (store_of f)));
+      notes = showed.notes ∙ counted.notes (store_of f);
+      code_end = showed.code_end ∙ counted.code_end;
+      shown = showed.shown ∙ counted.shown;
+    } in
+    let ended_frames = ended st p f g sound.frames is store reading kept in
     record {
-      state = st;
-      canvas = none;
-      emits = record {
-        ready = shown_q ∙ ap (λ (x : List Samples). old.ready.items ++ x) (sym (one_handed old.queue frame kind) ∙ ap (handed old.queue) (sym one) ∙ ap (λ (x : Pictures). handed old.queue (decoded_of x)) (sym last));
-        anchor = ap (λ (q : Holder Samples). q.anchor) (held_q ∙ sym (one_held old.queue frame kind) ∙ ap (held_after old.queue) (sym one) ∙ ap (λ (x : Pictures). held_after old.queue (decoded_of x)) (sym last));
-        pictures = omega (arith, h.pictures, pictures, ap length last);
-        shown = h.shown ∙ shown;
-      };
-      queue = low;
+      state = state;
+      store = ap store_of gallery ∙ store ∙ sym (ap (λ (o : Option Open). picture_ended o (store_of f)) is);
+      emits = subst (λ (es : Events). Emits old es (record d { state = record d.state { picture = None } })) (sym (ap (λ (o : Option Open). closed o (store_of f)) is)) emits;
       sound = record {
-        fits = subst (λ (f : Option Samples). Fits new.state.sequence new.state.picture f) (sym none) (subst (λ (z : State). Fits z.sequence z.picture None) (sym st) (fits_closed old.state.sequence old.state.picture (Some frame) fits));
-        intra = subst (λ (z : State). IsMatrix z.intra) (sym st) sound.intra;
-        non_intra = subst (λ (z : State). IsMatrix z.non_intra) (sym st) sound.non_intra;
-        fresh = subst (λ (z : State). IsFresh z.first z.sequence new.queue.anchor) (sym st) (fresh_shown old.state.first old.state.sequence old.state.picture frame old.queue.anchor new.queue.anchor sound.fresh fits);
-        low = low ∙ sound.low ∙ ap (λ (z : State). low_delay_of z.first) (sym st);
-        counts = omega (arith, sound.counts, h.pictures, pictures, h.shown, shown, ap length shown_q, length-append old.ready.items (option_to_list (shown_step old.queue frame kind)), ap (λ (q : Holder Samples). length (option_to_list q.anchor)) held_q, count_by_test old.queue frame kind (old.queue.low_delay || (kind == 3)) refl);
+        frames = subst (λ (z : State). AreSound z d.gallery) (sym state) (subst (AreSound (after_end st)) (sym gallery) ended_frames);
+        fresh = subst (λ (z : State). IsFresh z.first d.queue.anchor) (sym state) (fresh_open st.first st.sequence p f d.queue.anchor (sound.frames).sizes fits);
+        low = low ∙ sound.low ∙ ap (λ (z : State). low_delay_of z.first) (sym state);
+        counts = omega (arith, sound.counts, showed.pictures, counted.pictures, showed.shown, counted.shown, ap length ready, length-append old.ready.items (handed old.queue (frame_list frame p.info.kind)), ap (λ (q : Holder Samples). length (option_to_list q.anchor)) holds, handed_few old.queue frame p.info.kind);
+        dropped = omega (arith, sound.dropped, showed.pictures, counted.pictures, showed.dropped, counted.dropped, few_dropped p.dropped);
       };
     }
 
--- no frame was open
-pub closed_none : (old new : Course) → IsSoundCourse old → old.canvas ≡ None → new.state ≡ after_end old.state → new.canvas ≡ None → new.queue ≡ old.queue → new.ready.items ≡ old.ready.items → new.pictures ≡ old.pictures → new.shown ≡ old.shown → Closed old new
+-- no picture was open
+pub closed_none : (old : Course) → IsSoundCourse old → old.state.picture ≡ None → Closed old old
 unfolding handed held_after
-closed_none old new sound is state canvas queue ready pictures shown =
-    let last : closed old.state old.canvas ≡ [] = ap (closed old.state) is in
-    let low : new.queue.low_delay ≡ old.queue.low_delay = ap (λ (q : Holder Samples). q.low_delay) queue in
-    let anchor : new.queue.anchor ≡ old.queue.anchor = ap (λ (q : Holder Samples). q.anchor) queue in
+closed_none old sound none =
+    let f = old.gallery in
+    let told : closed old.state.picture (store_of f) ≡ [] = ap (λ (o : Option Open). closed o (store_of f)) none in
+    let emits : Emits old [] old = record {
+      ready = sym (append-nil old.ready.items);
+      anchor = refl;
+      pictures = omega arith;
+      dropped = omega arith;
+      notes = notes_same old.code_end (noted old.notes);
+      code_end = refl;
+      shown = refl;
+    } in
     record {
-      state = state;
-      canvas = canvas;
-      emits = record {
-        ready = ready ∙ sym (append-nil old.ready.items) ∙ ap (λ (x : Pictures). old.ready.items ++ handed old.queue (decoded_of x)) (sym last);
-        anchor = anchor ∙ ap (λ (x : Pictures). (held_after old.queue (decoded_of x)).anchor) (sym last);
-        pictures = omega (arith, pictures, ap length last);
-        shown = shown;
-      };
-      queue = low;
-      sound = record {
-        fits = subst (λ (f : Option Samples). Fits new.state.sequence new.state.picture f) (sym canvas) (subst (λ (z : State). Fits z.sequence z.picture None) (sym state) (fits_closed old.state.sequence old.state.picture old.canvas sound.fits));
-        intra = subst (λ (z : State). IsMatrix z.intra) (sym state) sound.intra;
-        non_intra = subst (λ (z : State). IsMatrix z.non_intra) (sym state) sound.non_intra;
-        fresh = subst (λ (a : Option Samples). IsFresh new.state.first new.state.sequence a) (sym anchor) (subst (λ (z : State). IsFresh z.first z.sequence old.queue.anchor) (sym state) sound.fresh);
-        low = low ∙ sound.low ∙ ap (λ (z : State). low_delay_of z.first) (sym state);
-        counts = omega (arith, sound.counts, pictures, shown, ap length ready, ap (λ (a : Option Samples). length (option_to_list a)) anchor);
-      };
+      state = rest_same old.state none;
+      store = sym (ap (λ (o : Option Open). picture_ended o (store_of f)) none);
+      emits = subst (λ (es : Events). Emits old es old) (sym told) emits;
+      sound = sound;
     }

@@ -12,19 +12,25 @@ use Rattle.m2v_model.specs.declared.state.Open.{Open}
 use Rattle.m2v_model.specs.declared.state.State.{State}
 use Rattle.m2v_model.specs.Units.{Units, unit_bits}
 use Rattle.m2v_model.specs.States.{first_or}
-use Rattle.m2v_model.specs.Streams.{Part, after, value_of, sequence, group, picture, matrices, slice, skipped, ending, over, slice_unit, later_unit, known_unit, text_end, onward}
-use Rattle.m2v_model.specs.Pictures.{Pictures, closed, closed_by, frame_after}
+use Rattle.m2v_model.specs.Streams.{Part, after, value_of, sequence, group, picture, matrices, slice, unread_slice, skipped_unit, ending, over, slice_unit, later_unit, known_unit, text_end, onward}
+use Rattle.m2v_model.specs.Pictures.{Store, Pictures, Events, Event, sequence_header, group_header, pictures_in, closed, told_by}
+use Rattle.m2v_model.specs.PieceNotes.{noted}
 use Rattle.m2v_model.specs.Decoding.{low_delay_of}
-use Rattle.m2v_model.specs.ByPieces.{behind, unit_of, seen}
-use Rattle.m2v_model.proofs.FlowLaws.{seen_err, seen_more, seen_last, unit_less}
+use Rattle.m2v_model.specs.ByPieces.{Between, behind, unit_read, units_read, after_part}
+use Rattle.m2v_model.proofs.FlowLaws.{read_err, read_more, read_last, unit_less}
 use Rattle.m2v_model.proofs.SplitLaws.{behind_none, behind_twice}
-use Rattle.m2v_unit.specs.Among.{is_slice}
+use Rattle.m2v_model.proofs.EventLaws.{pictures_in-append}
+use Rattle.m2v_unit.specs.declared.header.Header.{Header}
+use Rattle.m2v_unit.specs.declared.header.Header.TheVariants as headers
+use Rattle.m2v_unit.specs.Among.{is_slice, goes_on, part_of}
+use Rattle.m2v_picture.specs.Frames.{Frames, store_of}
 use Rattle.m2v_decoder.specs.declared.course.Course.{Course}
 use Rattle.m2v_decoder.specs.declared.halt.Halt.{Halt}
 use Rattle.m2v_decoder.specs.declared.halt.Halt.TheVariants as halts
-use Rattle.m2v_decoder.specs.Decoding.{Agrees, ShowsFrames, queue_of, decoded_of}
-use Rattle.m2v_decoder.specs.Course.{Fits, IsFresh, IsSoundCourse, Emits, Steps, Rounds, ReadAll, CourseStops}
-use Rattle.m2v_decoder.proofs.Showing.{shows_none, shows_on}
+use Rattle.m2v_decoder.specs.Decoding.{Agrees, ShowsFrames, queue_of, decoded_of, dropped_in}
+use Rattle.m2v_decoder.specs.Course.{between_of, FitsOpen, HaveSizes, IsSoundCourse, with_events, Emits, Steps, Rounds, ReadAll, CourseStops}
+use Rattle.m2v_decoder.proofs.NoteLaws.{notes_same, noted_on}
+use Rattle.m2v_decoder.proofs.Showing.{shows_none, shows_on, dropped-append}
 
 -- ---- one unit
 
@@ -49,13 +55,23 @@ pub slice_err : (st : State) (start value : ℕ) (u : List ℕ) (us : Units) (f 
 unfolding onward seq bind done
 slice_err st start value u us f on read = slice_known st start value u us on ∙ rw read refl
 
-pub unit_some : (st : State) (us : Units) (u : List ℕ) (mid : Units) (start : ℕ) → us ≡ u ∷ mid → start ≡ unit_bits us → (known_unit st start (value_of u) u).read mid ≡ unit_of st us
-unfolding unit_of
-unit_some st us u mid start e s = ap (λ (n : ℕ). (known_unit st n (value_of u) u).read mid) (s ∙ ap unit_bits e) ∙ sym (ap (unit_of st) e)
+pub unit_some : (st : State) (us : Units) (u : List ℕ) (mid : Units) (start : ℕ) → us ≡ u ∷ mid → start ≡ unit_bits us → (known_unit st start (value_of u) u).read mid ≡ unit_read st us
+unfolding unit_read
+unit_some st us u mid start e s = ap (λ (n : ℕ). (known_unit st n (value_of u) u).read mid) (s ∙ ap unit_bits e) ∙ sym (ap (unit_read st) e)
 
-pub unit_none : (st : State) (us : Units) → us ≡ [] → (text_end st 0).read [] ≡ unit_of st us
-unfolding unit_of
-unit_none st us e = sym (ap (unit_of st) e)
+pub unit_none : (st : State) (us : Units) → us ≡ [] → (text_end st 0).read [] ≡ unit_read st us
+unfolding unit_read
+unit_none st us e = sym (ap (unit_read st) e)
+
+-- behind the sequence end code no picture is open
+pub header_ends : (c d : Course) (u : List ℕ) (h : Header) → goes_on h ≡ false → Steps c (part_of u h) d → d.state.picture ≡ None
+unfolding after
+header_ends c d u (headers.Sequence s) e step = absurd cc
+header_ends c d u (headers.Group g) e step = absurd cc
+header_ends c d u (headers.Picture info extension) e step = absurd cc
+header_ends c d u (headers.Matrices m) e step = absurd cc
+header_ends c d u headers.Skipped e step = absurd cc
+header_ends c d u headers.Ending e step = ap (λ (z : State). z.picture) step.state
 
 -- ---- what a part does to the frames on their way
 
@@ -70,73 +86,97 @@ agrees_before low st (group g) a = a
 agrees_before low st (picture info extension) a = a
 agrees_before low st (matrices m) a = a
 agrees_before low st (slice row x) a = a
-agrees_before low st (skipped u) a = a
+agrees_before low st (unread_slice row u) a = a
+agrees_before low st (skipped_unit u) a = a
 agrees_before low st ending a = a
 agrees_before low st over a = a
 
-closed_by_none : (st : State) (p : Part) → closed_by st None p ≡ []
-closed_by_none st (sequence s) = refl
-closed_by_none st (group g) = refl
-closed_by_none st (picture info extension) = refl
-closed_by_none st (matrices m) = refl
-closed_by_none st (slice row x) = refl
-closed_by_none st (skipped u) = refl
-closed_by_none st ending = refl
-closed_by_none st over = refl
+-- the pictures that are told at a part: one at most, where one was open
+header_pictures : (o : Option Open) (store : Store) (h : Event) → pictures_in (h ∷ []) ≡ [] → pictures_in (closed o store ++ h ∷ []) ≡ pictures_in (closed o store)
+header_pictures o store h none = pictures_in-append (closed o store) (h ∷ []) ∙ ap (λ (l : Pictures). pictures_in (closed o store) ++ l) none ∙ append-nil (pictures_in (closed o store))
 
-closed_one : (st : State) (now : Option Samples) → length (closed st now) ≤ 1
-closed_one st (Some f) = omega arith
-closed_one st None = omega arith
+closed_one : (o : Option Open) (store : Store) → length (pictures_in (closed o store)) ≤ 1
+closed_one (Some p) store = omega arith
+closed_one None store = omega arith
 
-one_closed : (st : State) (now : Option Samples) (p : Part) → length (closed_by st now p) ≤ 1
-one_closed st now (sequence s) = closed_one st now
-one_closed st now (group g) = closed_one st now
-one_closed st now (picture info extension) = closed_one st now
-one_closed st now (matrices m) = omega arith
-one_closed st now (slice row x) = omega arith
-one_closed st now (skipped u) = omega arith
-one_closed st now ending = closed_one st now
-one_closed st now over = closed_one st now
+header_one : (o : Option Open) (store : Store) (h : Event) → pictures_in (h ∷ []) ≡ [] → length (pictures_in (closed o store ++ h ∷ [])) ≤ 1
+header_one o store h none = omega (arith, ap length (header_pictures o store h none), closed_one o store)
 
-no_canvas : (s : Option Sequence) (o : Option Open) (f a : Option Samples) → IsFresh None s a → Fits s o f → f ≡ None
-no_canvas None o None a h fits = refl
-no_canvas None o (Some f) a h fits = absurd fits
-no_canvas (Some s) o f a h fits = absurd h
+one_told : (st : State) (store : Store) (p : Part) → length (pictures_in (told_by st store p)) ≤ 1
+one_told st store (sequence s) = header_one st.picture store (sequence_header s) refl
+one_told st store (group g) = header_one st.picture store (group_header g) refl
+one_told st store (picture info extension) = closed_one st.picture store
+one_told st store (matrices m) = omega arith
+one_told st store (slice row x) = omega arith
+one_told st store (unread_slice row u) = omega arith
+one_told st store (skipped_unit u) = omega arith
+one_told st store ending = closed_one st.picture store
+one_told st store over = closed_one st.picture store
 
-queue_same : (first : Option Sequence) (s : Option Sequence) (o : Option Open) (f : Option Samples) (q : Holder Samples) (low : Bool) (st : State) (p : Part) → IsFresh first s q.anchor → Fits s o f → q.low_delay ≡ low_delay_of first → Agrees low first
-    → (handed (queue_of low q.anchor) (decoded_of (closed_by st f p)) ≡ handed q (decoded_of (closed_by st f p))) × ((held_after (queue_of low q.anchor) (decoded_of (closed_by st f p))).anchor ≡ (held_after q (decoded_of (closed_by st f p))).anchor)
+closed_nothing : (o : Option Open) (store : Store) → o ≡ None → pictures_in (closed o store) ≡ []
+closed_nothing None store e = refl
+closed_nothing (Some p) store e = absurd cc
+
+none_told : (st : State) (store : Store) (p : Part) → st.picture ≡ None → pictures_in (told_by st store p) ≡ []
+none_told st store (sequence s) e = header_pictures st.picture store (sequence_header s) refl ∙ closed_nothing st.picture store e
+none_told st store (group g) e = header_pictures st.picture store (group_header g) refl ∙ closed_nothing st.picture store e
+none_told st store (picture info extension) e = closed_nothing st.picture store e
+none_told st store (matrices m) e = refl
+none_told st store (slice row x) e = refl
+none_told st store (unread_slice row u) e = refl
+none_told st store (skipped_unit u) e = refl
+none_told st store ending e = closed_nothing st.picture store e
+none_told st store over e = closed_nothing st.picture store e
+
+-- no picture is open before the first sequence header
+none_before : (s : Option Sequence) (o : Option Open) (f : Frames) → HaveSizes None s f → FitsOpen o s f → o ≡ None
+none_before s None f h fits = refl
+none_before None (Some p) f h fits = absurd fits
+none_before (Some s) (Some p) f h fits = absurd h
+
+queue_same : (first : Option Sequence) (st : State) (f : Frames) (q : Holder Samples) (low : Bool) (p : Part) → HaveSizes first st.sequence f → FitsOpen st.picture st.sequence f → q.low_delay ≡ low_delay_of first → Agrees low first
+    → (handed (queue_of low q.anchor) (decoded_of (pictures_in (told_by st (store_of f) p))) ≡ handed q (decoded_of (pictures_in (told_by st (store_of f) p))))
+    × ((held_after (queue_of low q.anchor) (decoded_of (pictures_in (told_by st (store_of f) p)))).anchor ≡ (held_after q (decoded_of (pictures_in (told_by st (store_of f) p)))).anchor)
 unfolding handed held_after
-queue_same (Some first) s o f q low st p fresh fits is agree =
+queue_same (Some first) st f q low p sizes fits is agree =
+    let es = told_by st (store_of f) p in
     let same : queue_of low q.anchor ≡ q = ap (λ (b : Bool). queue_of b q.anchor) (agree ∙ sym is) in
-    (ap (λ (x : Holder Samples). handed x (decoded_of (closed_by st f p))) same, ap (λ (x : Holder Samples). (held_after x (decoded_of (closed_by st f p))).anchor) same)
-queue_same None s o f q low st p fresh fits is agree =
-    let none : closed_by st f p ≡ [] = ap (λ (x : Option Samples). closed_by st x p) (no_canvas s o f q.anchor fresh fits) ∙ closed_by_none st p in
+    (ap (λ (x : Holder Samples). handed x (decoded_of (pictures_in es))) same, ap (λ (x : Holder Samples). (held_after x (decoded_of (pictures_in es))).anchor) same)
+queue_same None st f q low p sizes fits is agree =
+    let none : pictures_in (told_by st (store_of f) p) ≡ [] = none_told st (store_of f) p (none_before st.sequence st.picture f sizes fits) in
     (rw none refl, rw none refl)
 
-step_shows : (low : Bool) (c d : Course) (p : Part) → IsSoundCourse c → Agrees low c.state.first → Emits c (closed_by c.state c.canvas p) d → ShowsFrames low c.queue.anchor c.ready.items (closed_by c.state c.canvas p) d.queue.anchor d.ready.items
+step_shows : (low : Bool) (c d : Course) (p : Part) → IsSoundCourse c → Agrees low c.state.first → Emits c (told_by c.state (store_of c.gallery) p) d
+    → ShowsFrames low c.queue.anchor c.ready.items (pictures_in (told_by c.state (store_of c.gallery) p)) d.queue.anchor d.ready.items
 step_shows low c d p sound agree e =
-    let same = queue_same c.state.first c.state.sequence c.state.picture c.canvas c.queue low c.state p sound.fresh sound.fits sound.low agree in
+    let same = queue_same c.state.first c.state c.gallery c.queue low p (sound.frames).sizes (sound.frames).fits sound.low agree in
     record { ready_is = e.ready ∙ ap (λ (t : List Samples). c.ready.items ++ t) (sym same.0); anchor_is = e.anchor ∙ sym same.1 }
 
 -- ---- unit after unit
 
 -- some units were read
 pub record SoFar (old : Course) (us : Units) (new : Course) (mid : Units) : Type 0 where
-  pub pictures : Pictures
-  pub read : seen old.state old.canvas us ≡ behind pictures (seen new.state new.canvas mid)
+  pub events : Events
+  pub read : units_read (between_of old) us ≡ behind events (units_read (between_of new) mid)
   pub first : (low : Bool) → Agrees low new.state.first → Agrees low old.state.first
-  pub shows : (low : Bool) → Agrees low new.state.first → ShowsFrames low old.queue.anchor old.ready.items pictures new.queue.anchor new.ready.items
-  pub counted : new.pictures ≡ old.pictures + length pictures
-  pub few : length pictures + length mid ≤ length us
+  pub shows : (low : Bool) → Agrees low new.state.first → ShowsFrames low old.queue.anchor old.ready.items (pictures_in events) new.queue.anchor new.ready.items
+  pub counted : new.pictures ≡ old.pictures + length (pictures_in events)
+  pub dropped : new.dropped ≡ old.dropped + dropped_in (pictures_in events)
+  pub notes : noted new.notes ≡ with_events old.code_end (noted old.notes) events
+  pub code_end : new.code_end ≡ old.code_end
+  pub few : length (pictures_in events) + length mid ≤ length us
   pub shown : new.shown ≡ old.shown
 
 pub so_far_none : (c : Course) (us : Units) → SoFar c us c us
 so_far_none c us = record {
-  pictures = [];
-  read = sym (behind_none (seen c.state c.canvas us));
+  events = [];
+  read = sym (behind_none (units_read (between_of c) us));
   first = λ low a. a;
   shows = λ low a. shows_none low c.queue.anchor c.ready.items;
   counted = omega arith;
+  dropped = omega arith;
+  notes = notes_same c.code_end (noted c.notes);
+  code_end = refl;
   few = omega arith;
   shown = refl;
 }
@@ -144,52 +184,85 @@ so_far_none c us = record {
 agrees_step : (low : Bool) (c d : Course) (p : Part) → d.state ≡ after c.state p → Agrees low d.state.first → Agrees low c.state.first
 agrees_step low c d p state agree = agrees_before low c.state p (subst (λ (z : State). Agrees low z.first) state agree)
 
-pub so_far_more : (old c d : Course) (us mid next : Units) (more : Bool) (p : Part) → SoFar old us c mid → IsSoundCourse c → unit_of c.state mid ≡ Ok ((more, p), next) → more ≡ true → Steps c p d → SoFar old us d next
-so_far_more old c d us mid next more p so sound read on step =
-    let one = one_closed c.state c.canvas p in
-    let less = unit_less c.state mid next more p read on in
-    let now = closed_by c.state c.canvas p in
+-- what stands behind a part
+step_between : (c d : Course) (p : Part) → Steps c p d → after_part (between_of c) p ≡ between_of d
+step_between c d p step = λ i. record { state = sym step.state i; store = sym step.store i }
+
+-- what is told of the units before, and of the last one
+pub record Behind (old : Course) (before now : Events) (d : Course) : Type 0 where
+  pub first : (low : Bool) → Agrees low d.state.first → Agrees low old.state.first
+  pub shows : (low : Bool) → Agrees low d.state.first → ShowsFrames low old.queue.anchor old.ready.items (pictures_in (before ++ now)) d.queue.anchor d.ready.items
+  pub counted : d.pictures ≡ old.pictures + length (pictures_in (before ++ now))
+  pub dropped : d.dropped ≡ old.dropped + dropped_in (pictures_in (before ++ now))
+  pub notes : noted d.notes ≡ with_events old.code_end (noted old.notes) (before ++ now)
+  pub code_end : d.code_end ≡ old.code_end
+  pub shown : d.shown ≡ old.shown
+
+stepped : (old c d : Course) (us mid : Units) (p : Part) → (so : SoFar old us c mid) → IsSoundCourse c → Steps c p d → Behind old so.events (told_by c.state (store_of c.gallery) p) d
+stepped old c d us mid p so sound step =
+    let now = told_by c.state (store_of c.gallery) p in
+    let e = step.emits in
+    let ps : pictures_in (so.events ++ now) ≡ pictures_in so.events ++ pictures_in now = pictures_in-append so.events now in
     record {
-      pictures = so.pictures ++ now;
-      read =
-          so.read
-          ∙ ap (behind so.pictures) (seen_more c.state c.canvas mid next more p read on)
-          ∙ sym (behind_twice so.pictures now (seen (after c.state p) (frame_after c.state c.canvas p) next))
-          ∙ ap (behind (so.pictures ++ now)) (ap (λ (z : State). seen z (frame_after c.state c.canvas p) next) (sym step.state) ∙ ap (λ (f : Option Samples). seen d.state f next) (sym step.canvas));
       first = λ low agree. so.first low (agrees_step low c d p step.state agree);
       shows = λ low agree.
           let agree_c = agrees_step low c d p step.state agree in
-          shows_on low old.queue.anchor c.queue.anchor d.queue.anchor old.ready.items c.ready.items d.ready.items so.pictures now (so.shows low agree_c) (step_shows low c d p sound agree_c step.emits);
-      counted = omega (arith, (step.emits).pictures, so.counted, length-append so.pictures now);
-      few = omega (arith, so.few, one, less, length-append so.pictures now);
-      shown = (step.emits).shown ∙ so.shown;
+          subst (λ (l : Pictures). ShowsFrames low old.queue.anchor old.ready.items l d.queue.anchor d.ready.items) (sym ps)
+          (shows_on low old.queue.anchor c.queue.anchor d.queue.anchor old.ready.items c.ready.items d.ready.items (pictures_in so.events) (pictures_in now) (so.shows low agree_c) (step_shows low c d p sound agree_c e));
+      counted = omega (arith, e.pictures, so.counted, ap length ps, length-append (pictures_in so.events) (pictures_in now));
+      dropped = omega (arith, e.dropped, so.dropped, ap dropped_in ps, dropped-append (pictures_in so.events) (pictures_in now));
+      notes = noted_on old.code_end c.code_end (noted old.notes) (noted c.notes) (noted d.notes) so.events now so.notes so.code_end e.notes;
+      code_end = e.code_end ∙ so.code_end;
+      shown = e.shown ∙ so.shown;
     }
 
-pub all_read : (old c d : Course) (us mid next : Units) (more : Bool) (p : Part) → SoFar old us c mid → IsSoundCourse c → unit_of c.state mid ≡ Ok ((more, p), next) → more ≡ false → Steps c p d → d.canvas ≡ None → ReadAll old us d
-all_read old c d us mid next more p so sound read off step none =
-    let one = one_closed c.state c.canvas p in
-    let now = closed_by c.state c.canvas p in
-    let rest : closed (after c.state p) (frame_after c.state c.canvas p) ≡ [] = ap (closed (after c.state p)) (sym step.canvas ∙ none) in
+pub so_far_more : (old c d : Course) (us mid next : Units) (more : Bool) (p : Part) → SoFar old us c mid → IsSoundCourse c → unit_read c.state mid ≡ Ok ((more, p), next) → more ≡ true → Steps c p d → SoFar old us d next
+so_far_more old c d us mid next more p so sound read on step =
+    let one = one_told c.state (store_of c.gallery) p in
+    let less = unit_less c.state mid next more p read on in
+    let now = told_by c.state (store_of c.gallery) p in
+    let b = stepped old c d us mid p so sound step in
     record {
-      pictures = so.pictures ++ now;
+      events = so.events ++ now;
       read =
           so.read
-          ∙ ap (behind so.pictures) (seen_last c.state c.canvas mid next more p read off)
-          ∙ sym (behind_twice so.pictures now (Ok (closed (after c.state p) (frame_after c.state c.canvas p), after c.state p)))
-          ∙ ap (λ (q : Pictures). Ok ((so.pictures ++ now) ++ q, after c.state p)) rest
-          ∙ ap (λ (q : Pictures). Ok (q, after c.state p)) (append-nil (so.pictures ++ now))
-          ∙ ap (λ (z : State). Ok (so.pictures ++ now, z)) (sym step.state);
-      first = λ low agree. so.first low (agrees_step low c d p step.state agree);
-      shows = λ low agree.
-          let agree_c = agrees_step low c d p step.state agree in
-          shows_on low old.queue.anchor c.queue.anchor d.queue.anchor old.ready.items c.ready.items d.ready.items so.pictures now (so.shows low agree_c) (step_shows low c d p sound agree_c step.emits);
-      counted = omega (arith, (step.emits).pictures, so.counted, length-append so.pictures now);
-      few = omega (arith, so.few, one, length-append so.pictures now);
-      shown = (step.emits).shown ∙ so.shown;
+          ∙ ap (behind so.events) (read_more (between_of c) mid next more p read on)
+          ∙ sym (behind_twice so.events now (units_read (after_part (between_of c) p) next))
+          ∙ ap (λ (x : Between). behind (so.events ++ now) (units_read x next)) (step_between c d p step);
+      first = b.first;
+      shows = b.shows;
+      counted = b.counted;
+      dropped = b.dropped;
+      notes = b.notes;
+      code_end = b.code_end;
+      few = omega (arith, so.few, one, less, ap length (pictures_in-append so.events now), length-append (pictures_in so.events) (pictures_in now));
+      shown = b.shown;
+    }
+
+pub all_read : (old c d : Course) (us mid next : Units) (more : Bool) (p : Part) → SoFar old us c mid → IsSoundCourse c → unit_read c.state mid ≡ Ok ((more, p), next) → more ≡ false → Steps c p d → d.state.picture ≡ None → ReadAll old us d
+all_read old c d us mid next more p so sound read off step none =
+    let one = one_told c.state (store_of c.gallery) p in
+    let now = told_by c.state (store_of c.gallery) p in
+    let b = stepped old c d us mid p so sound step in
+    record {
+      events = so.events ++ now;
+      read =
+          so.read
+          ∙ ap (behind so.events) (read_last (between_of c) mid next more p read off)
+          ∙ sym (behind_twice so.events now (Ok ([], after_part (between_of c) p)))
+          ∙ ap (λ (l : Events). Ok (l, after_part (between_of c) p)) (append-nil (so.events ++ now))
+          ∙ ap (λ (x : Between). Ok (so.events ++ now, x)) (step_between c d p step);
+      first = b.first;
+      shows = b.shows;
+      counted = b.counted;
+      dropped = b.dropped;
+      notes = b.notes;
+      few = omega (arith, so.few, one, ap length (pictures_in-append so.events now), length-append (pictures_in so.events) (pictures_in now));
+      shown = b.shown;
       none = none;
       sound = step.sound;
     }
 
-pub stopped : (old c d : Course) (us mid next : Units) (h : Halt) → SoFar old us c mid → Rounds c (Err h) d next (unit_of c.state mid) → CourseStops old us h
+pub stopped : (old c d : Course) (us mid next : Units) (h : Halt) → SoFar old us c mid → Rounds c (Err h) d next (unit_read c.state mid) → CourseStops old us h
 stopped old c d us mid next halts.Memory so r = tt
-stopped old c d us mid next (halts.Fault stop) so r = so.read ∙ ap (behind so.pictures) (seen_err c.state c.canvas mid (stop.kind, stop.left) r)
+stopped old c d us mid next (halts.Fault stop) so r = so.read ∙ ap (behind so.events) (read_err (between_of c) mid (stop.kind, stop.left) r)

@@ -1,23 +1,33 @@
 -- What a display queue hands out over pictures, one list behind another.
-use Rattle.std.proofs.Common.{◌≡◌, ℕ, Bool, true, false, List, [], ◌∷◌, ◌++◌, map, Option, option_to_list, refl, sym, ap, ◌∙◌, append_assoc}
+use Rattle.std.proofs.Common.{◌≡◌, ℕ, ◌+◌, length, Bool, true, false, List, [], ◌∷◌, ◌++◌, map, Option, option_to_list, refl, sym, ap, ◌∙◌, append_assoc}
 use Rattle.std.specs.Prelude.{filter, ◌||◌, ◌==◌}
-use Rattle.std.proofs.lemmas.List.{append-nil, map-append}
+use Rattle.std.proofs.lemmas.List.{append-nil, map-append, length-append}
 use Rattle.std.proofs.lemmas.List.Elements.{filter-append}
 use Rattle.m2v_plane.specs.Samples.{Samples}
 use Rattle.m2v_order.specs.Display.{Holder, shown as shown_step, held, handed, held_after, is_kept}
-use Rattle.m2v_model.specs.Pictures.{Pictures}
+use Rattle.m2v_model.specs.Pictures.{Picture, Pictures, is_ending, typed, frames_in}
 use Rattle.m2v_model.specs.Decoding.{is_dropped}
-use Rattle.m2v_decoder.specs.Decoding.{frame_of, decoded_of, queue_of, ShowsFrames}
+use Rattle.m2v_decoder.specs.Decoding.{frame_of, decoded_of, dropped_in, queue_of, ShowsFrames}
+
+frames-append : (ps qs : Pictures) → frames_in (ps ++ qs) ≡ frames_in ps ++ frames_in qs
+frames-append ps qs = ap (map typed) (filter-append is_ending ps qs) ∙ map-append typed (filter is_ending ps) (filter is_ending qs)
 
 decoded-append : (ps qs : Pictures) → decoded_of (ps ++ qs) ≡ decoded_of ps ++ decoded_of qs
-decoded-append ps qs = ap (map frame_of) (filter-append (is_kept is_dropped) ps qs) ∙ map-append frame_of (filter (is_kept is_dropped) ps) (filter (is_kept is_dropped) qs)
+decoded-append ps qs =
+    let kept = λ (fs : List (Picture × ℕ)). filter (is_kept is_dropped) fs in
+    ap (λ (fs : List (Picture × ℕ)). map frame_of (kept fs)) (frames-append ps qs)
+    ∙ ap (map frame_of) (filter-append (is_kept is_dropped) (frames_in ps) (frames_in qs))
+    ∙ map-append frame_of (kept (frames_in ps)) (kept (frames_in qs))
+
+pub dropped-append : (ps qs : Pictures) → dropped_in (ps ++ qs) ≡ dropped_in ps + dropped_in qs
+dropped-append ps qs = ap length (filter-append is_dropped ps qs) ∙ length-append (filter is_dropped ps) (filter is_dropped qs)
 
 pub low_one : {F : Type 0} (q : Holder F) (f : F) (kind : ℕ) (b : Bool) → (q.low_delay || (kind == 3)) ≡ b → (held q f kind).low_delay ≡ q.low_delay
 unfolding held
 low_one q f kind true e = rw e refl
 low_one q f kind false e = rw e refl
 
-low_stays : {F : Type 0} (q : Holder F) (ps : List (F × ℕ)) → (held_after q ps).low_delay ≡ q.low_delay
+pub low_stays : {F : Type 0} (q : Holder F) (ps : List (F × ℕ)) → (held_after q ps).low_delay ≡ q.low_delay
 unfolding held_after
 low_stays q [] = refl
 low_stays q (p ∷ ps) = low_stays (held q p.0 p.1) ps ∙ low_one q p.0 p.1 (q.low_delay || (p.1 == 3)) refl

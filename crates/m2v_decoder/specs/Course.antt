@@ -1,142 +1,235 @@
 -- A decoder at work in a piece: what a part of the stream does to it.
-use Rattle.std.specs.Prelude.{◌≡◌, ℕ, ◌+◌, ◌^◌, ◌≤◌, true, false, List, ◌++◌, length, Bool, Option, Some, None, option_to_list, Result, Ok, Err}
+use Rattle.std.specs.Prelude.{◌≡◌, ℕ, ◌+◌, ◌^◌, ◌≤◌, true, false, ◌||◌, List, [], ◌∷◌, ◌++◌, length, map, Bool, Option, Some, None, IsSome, option_to_list, Result, Ok, Err, if◌then◌else◌}
 use Rattle.m2v_plane.specs.Sizes.{IsSize}
 use Rattle.m2v_plane.specs.Samples.{Samples}
-use Rattle.m2v_head.specs.declared.picture.PictureInfo.{PictureInfo}
-use Rattle.m2v_head.specs.declared.picture.PictureExtension.{PictureExtension}
-use Rattle.m2v_model.specs.declared.stop.Stop.{Stop}
-use Rattle.m2v_picture.specs.Conditions.{IsMatrix}
+use Rattle.m2v_head.specs.Fits.{PictureFits}
 use Rattle.m2v_order.specs.Display.{handed, held_after}
-use Rattle.m2v_order.specs.Display.{shown as shown_then, held as held_then}
 use Rattle.m2v_model.specs.declared.fault.FaultKind.{FaultKind}
+use Rattle.m2v_model.specs.declared.stop.Stop.{Stop}
 use Rattle.m2v_model.specs.declared.state.Sequence.{Sequence}
 use Rattle.m2v_model.specs.declared.state.Open.{Open}
+use Rattle.m2v_model.specs.declared.state.FirstField.{FirstField}
+use Rattle.m2v_model.specs.declared.state.State.{State}
+use Rattle.m2v_model.specs.declared.notes.PictureNote.{PictureNote}
 use Rattle.m2v_model.specs.Units.{Units, unit_bits, body}
-use Rattle.m2v_model.specs.Slices.{Slice, slice_at}
+use Rattle.m2v_model.specs.Slices.{Slice, slice_at, large_in}
 use Rattle.m2v_model.specs.Streams.{Part, after}
-use Rattle.m2v_model.specs.States.{after_end, after_picture}
-use Rattle.m2v_model.specs.Pictures.{Pictures, dims_of, opened, on_frame, slice_painted, closed, closed_by, frame_after}
+use Rattle.m2v_model.specs.States.{dims_of, is_b, drops, slice_setup, after_end}
+use Rattle.m2v_model.specs.Pictures.{Store, Events, pictures_in, closed, picture_ended, picture_begun, sliced, told_by, store_after}
+use Rattle.m2v_model.specs.Lawful.{sequences_in}
+use Rattle.m2v_model.specs.PieceNotes.{PieceNotes, noted, header_pair, has_group, first_note}
 use Rattle.m2v_model.specs.Decoding.{low_delay_of}
+use Rattle.m2v_model.specs.ByPieces.{Between, units_read}
+use Rattle.m2v_unit.specs.Reads.{IsReadPicture}
+use Rattle.m2v_unit.specs.Among.{AreMatrices}
+use Rattle.m2v_picture.specs.declared.slices.SliceEnd.{SliceEnd}
+use Rattle.m2v_picture.specs.Frames.{Frames, none_at_hand, store_of, reading_of, HasReferences, HaveSize}
 use Rattle.m2v_decoder.specs.declared.course.Course.{Course}
 use Rattle.m2v_decoder.specs.declared.halt.Halt.{Halt}
 use Rattle.m2v_decoder.specs.declared.halt.Halt.TheVariants.{Fault, Memory}
-use Rattle.m2v_model.specs.ByPieces.{seen}
-use Rattle.m2v_decoder.specs.Decoding.{Agrees, ShowsFrames, decoded_of}
+use Rattle.m2v_decoder.specs.Decoding.{Agrees, ShowsFrames, decoded_of, dropped_in}
 
--- ---- what is known of the headers in force
+-- what the definitions say of a decoder at work: the headers in force, and the frames at hand
+abbrev pub between_of : Course → Between
+between_of c = record { state = c.state; store = store_of c.gallery }
 
--- a frame of an I picture, of whose macroblocks so many were read
+-- ---- what is known between two units
+
+-- the picture that is open: one that is dropped is a B picture, and its slices stay unread
 pub record IsOpen (p : Open) : Type 0 where
-  pub kind : p.info.kind ≡ 1
-  pub structure : p.extension.structure ≡ 3
-  pub frames : p.extension.frame_pred_frame_dct ≡ true
-  pub concealment : p.extension.concealment ≡ false
-  pub precision : p.extension.dc_precision ≤ 3
+  pub fits : PictureFits p.info × IsReadPicture p.info p.extension
+  pub unread : p.slices_unread ≡ p.dropped
+  pub dropped : p.dropped ≡ true → is_b p.info.kind ≡ true
   pub covered : p.covered ≤ 2 ^ 16
+  pub large : p.large_macroblocks ≤ p.covered
 
--- a picture is open where its frame is, in a sequence with frames of that size
-abbrev pub Fits : Option Sequence → Option Open → Option Samples → Type 0
-Fits (Some s) (Some p) (Some frame) = IsSize (dims_of s) × IsOpen p × (frame.dims ≡ dims_of s)
-Fits (Some s) None None = IsSize (dims_of s)
-Fits None p None = Unit {0}
-Fits s p frame = ⊥
+-- its frame is there, and each field that it may be predicted from; one that is dropped has none
+pub record HasFrame (p : Open) (f : Frames) : Type 0 where
+  pub reading : f.reading ≡ reading_of p
+  pub current : p.dropped ≡ false → IsSome f.current
+  pub decoded : p.dropped ≡ false → HasReferences p.references f
+  pub none : p.dropped ≡ true → f.current ≡ None
+
+-- a picture is open behind a sequence header alone
+abbrev pub FitsOpen : Option Open → Option Sequence → Frames → Type 0
+FitsOpen None s f = f.reading ≡ None
+FitsOpen (Some p) (Some s) f = IsOpen p × HasFrame p f
+FitsOpen (Some p) None f = ⊥
+
+-- all frames have the size of the sequence, which doesn't change
+abbrev pub HaveSizes : Option Sequence → Option Sequence → Frames → Type 0
+HaveSizes (Some first) (Some s) f = IsSize (dims_of s) × (dims_of first ≡ dims_of s) × HaveSize (dims_of s) f
+HaveSizes None None f = f ≡ none_at_hand
+HaveSizes first s f = ⊥
+
+-- the frame of a first field that waits, and isn't dropped, is there
+abbrev pub HasFirstField : State → Option FirstField → Option Samples → Type 0
+HasFirstField st None current = Unit {0}
+HasFirstField st (Some w) current = drops st w.kind ≡ false → IsSome current
+
+-- the anchors that were counted are there
+pub record HasAnchors (st : State) (store : Store) : Type 0 where
+  pub newer : 1 ≤ st.anchors → IsSome store.newer
+  pub older : 2 ≤ st.anchors → IsSome store.older
+  pub first_field : HasFirstField st st.waiting store.current
 
 -- nothing was decoded before the first sequence header
-abbrev pub IsFresh : Option Sequence → Option Sequence → Option Samples → Type 0
-IsFresh None None None = Unit {0}
-IsFresh None sequence anchor = ⊥
-IsFresh (Some first) sequence anchor = Unit {0}
+abbrev pub IsFresh : Option Sequence → Option Samples → Type 0
+IsFresh None anchor = anchor ≡ None
+IsFresh (Some first) anchor = Unit {0}
+
+-- the headers in force and the frames at hand agree
+pub record AreSound (st : State) (f : Frames) : Type 0 where
+  pub headers_only : st.headers_only ≡ false
+  pub matrices : AreMatrices st
+  pub sizes : HaveSizes st.first st.sequence f
+  pub fits : FitsOpen st.picture st.sequence f
+  -- an anchor that is open is counted already
+  pub anchors : HasAnchors st (picture_ended st.picture (store_of f))
 
 pub record IsSoundCourse (c : Course) : Type 0 where
-  pub fits : Fits c.state.sequence c.state.picture c.canvas
-  pub intra : IsMatrix c.state.intra
-  pub non_intra : IsMatrix c.state.non_intra
-  pub fresh : IsFresh c.state.first c.state.sequence c.queue.anchor
+  pub frames : AreSound c.state c.gallery
+  pub fresh : IsFresh c.state.first c.queue.anchor
   pub low : c.queue.low_delay ≡ low_delay_of c.state.first
   pub counts : c.shown + (length c.ready.items + length (option_to_list c.queue.anchor)) ≤ c.pictures
+  pub dropped : c.dropped ≤ c.pictures
 
 -- ---- what a part does
 
--- pictures were decoded, each shown or held as display order asks
-pub record Emits (old : Course) (ps : Pictures) (new : Course) : Type 0 where
-  pub ready : new.ready.items ≡ old.ready.items ++ handed old.queue (decoded_of ps)
-  pub anchor : new.queue.anchor ≡ (held_after old.queue (decoded_of ps)).anchor
-  pub pictures : new.pictures ≡ old.pictures + length ps
+-- the first of two notes
+abbrev pub note_or : Option PictureNote → Option PictureNote → Option PictureNote
+note_or (Some note) other = Some note
+note_or None other = other
+
+-- notes with what is told then, of a piece whose picture start code ends at a bit
+abbrev pub with_events : ℕ → PieceNotes → Events → PieceNotes
+with_events code_end n es = record {
+  sequences = n.sequences ++ map header_pair (sequences_in es);
+  group = n.group || has_group es;
+  picture = note_or n.picture (first_note code_end (pictures_in es));
+}
+
+-- nothing is noted yet
+abbrev pub no_notes : PieceNotes
+no_notes = record { sequences = []; group = false; picture = None }
+
+-- headers and pictures were told, and each frame shown or held as display order asks
+pub record Emits (old : Course) (es : Events) (new : Course) : Type 0 where
+  pub ready : new.ready.items ≡ old.ready.items ++ handed old.queue (decoded_of (pictures_in es))
+  pub anchor : new.queue.anchor ≡ (held_after old.queue (decoded_of (pictures_in es))).anchor
+  pub pictures : new.pictures ≡ old.pictures + length (pictures_in es)
+  pub dropped : new.dropped ≡ old.dropped + dropped_in (pictures_in es)
+  pub notes : noted new.notes ≡ with_events old.code_end (noted old.notes) es
+  pub code_end : new.code_end ≡ old.code_end
   pub shown : new.shown ≡ old.shown
 
 -- a part was read
 pub record Steps (old : Course) (p : Part) (new : Course) : Type 0 where
   pub state : new.state ≡ after old.state p
-  pub canvas : new.canvas ≡ frame_after old.state old.canvas p
-  pub emits : Emits old (closed_by old.state old.canvas p) new
+  pub store : store_of new.gallery ≡ store_after old.state (store_of old.gallery) p
+  pub emits : Emits old (told_by old.state (store_of old.gallery) p) new
   pub sound : IsSoundCourse new
 
--- a frame was decoded: it is shown at once, or held, and another one is shown in its place
-pub record Showed (old : Course) (frame : Samples) (kind : ℕ) (new : Course) : Type 0 where
-  pub ready : new.ready.items ≡ old.ready.items ++ option_to_list (shown_then old.queue frame kind)
-  pub queue : new.queue ≡ held_then old.queue frame kind
-  pub pictures : new.pictures ≡ old.pictures + 1
+-- the frame that a picture ended, with its type
+abbrev pub frame_list : Option Samples → ℕ → List (Samples × ℕ)
+frame_list None kind = []
+frame_list (Some frame) kind = (frame, kind) ∷ []
+
+-- a frame, if there is one, is shown at once, or held and another one shown in its place
+pub record Showed (old : Course) (frame : Option Samples) (kind : ℕ) (new : Course) : Type 0 where
+  pub ready : new.ready.items ≡ old.ready.items ++ handed old.queue (frame_list frame kind)
+  pub queue : new.queue ≡ held_after old.queue (frame_list frame kind)
+  pub pictures : new.pictures ≡ old.pictures
+  pub dropped : new.dropped ≡ old.dropped
+  pub notes : noted new.notes ≡ noted old.notes
+  pub code_end : new.code_end ≡ old.code_end
   pub shown : new.shown ≡ old.shown
   pub state : new.state ≡ old.state
-  pub canvas : new.canvas ≡ old.canvas
+  pub gallery : new.gallery ≡ old.gallery
+
+-- a picture ended: it is counted, and noted where it is the first of its piece
+pub record Counted (old : Course) (p : Open) (new : Course) : Type 0 where
+  pub pictures : new.pictures ≡ old.pictures + 1
+  pub dropped : new.dropped ≡ old.dropped + (if p.dropped then 1 else 0)
+  pub notes : (store : Store) → noted new.notes ≡ with_events old.code_end (noted old.notes) (closed (Some p) store)
+  pub code_end : new.code_end ≡ old.code_end
+  pub shown : new.shown ≡ old.shown
+  pub ready : new.ready ≡ old.ready
+  pub queue : new.queue ≡ old.queue
+  pub state : new.state ≡ old.state
+  pub gallery : new.gallery ≡ old.gallery
 
 -- the picture that was open is whole
 pub record Closed (old new : Course) : Type 0 where
   pub state : new.state ≡ after_end old.state
-  pub canvas : new.canvas ≡ None
-  pub emits : Emits old (closed old.state old.canvas) new
-  pub queue : new.queue.low_delay ≡ old.queue.low_delay
+  pub store : store_of new.gallery ≡ picture_ended old.state.picture (store_of old.gallery)
+  pub emits : Emits old (closed old.state.picture (store_of old.gallery)) new
   pub sound : IsSoundCourse new
 
--- a picture header with its extension is in force, and a frame of samples 0 is open where there is a sequence
-pub record PictureBegun (old : Course) (info : PictureInfo) (extension : PictureExtension) (new : Course) : Type 0 where
-  pub state : new.state ≡ after_picture old.state info extension
-  pub canvas : new.canvas ≡ opened old.state.sequence
-  pub queue : new.queue ≡ old.queue
-  pub ready : new.ready ≡ old.ready
-  pub pictures : new.pictures ≡ old.pictures
-  pub shown : new.shown ≡ old.shown
-  pub sound : IsSoundCourse new
-
--- a slice of a row was read and painted: the address behind its last macroblock
-pub record Painted (old : Course) (s : Sequence) (p : Open) (row : ℕ) (u : List ℕ) (covered : ℕ) (new : Course) : Type 0 where
-  pub slice : Slice
-  pub end : List Bool
-  pub read : (slice_at old.state s p row).read (body u) ≡ Ok (slice, end)
-  pub covered_is : covered ≡ slice.covered
-  pub most : covered ≤ 2 ^ 16
-  pub canvas : new.canvas ≡ on_frame (slice_painted old.state (Some s) (Some p) row slice) old.canvas
-  pub size : Fits (Some s) (Some p) new.canvas
+-- the frame of a picture that begins is at hand
+pub record Begun (old : Course) (p : Open) (new : Course) : Type 0 where
+  pub store : store_of new.gallery ≡ picture_begun old.state.sequence p (store_of old.gallery)
+  pub reading : new.gallery.reading ≡ reading_of p
+  pub first_field : p.second_field ≡ true → p.slices_unread ≡ false → new.gallery.first_field ≡ old.gallery.current
+  pub sizes : HaveSizes old.state.first old.state.sequence new.gallery
   pub state : new.state ≡ old.state
   pub queue : new.queue ≡ old.queue
   pub ready : new.ready ≡ old.ready
   pub pictures : new.pictures ≡ old.pictures
+  pub dropped : new.dropped ≡ old.dropped
+  pub notes : noted new.notes ≡ noted old.notes
+  pub code_end : new.code_end ≡ old.code_end
+  pub shown : new.shown ≡ old.shown
+
+-- a slice of a row was read and painted
+pub record Painted (old : Course) (s : Sequence) (p : Open) (row : ℕ) (u : List ℕ) (end : SliceEnd) (new : Course) : Type 0 where
+  pub slice : Slice
+  pub rest : List Bool
+  pub read : (slice_at (slice_setup old.state s p) p.covered row).read (body u) ≡ Ok (slice, rest)
+  pub covered : end.covered ≡ slice.covered
+  pub large : end.large ≡ large_in slice
+  pub most : end.covered ≤ 2 ^ 16
+  pub few : p.covered + end.large ≤ end.covered
+  pub store : store_of new.gallery ≡ sliced old.state (Some s) (Some p) row slice (store_of old.gallery)
+  pub sizes : HaveSizes old.state.first (Some s) new.gallery
+  pub frame : HasFrame p new.gallery
+  pub current : IsSome new.gallery.current
+  pub state : new.state ≡ old.state
+  pub queue : new.queue ≡ old.queue
+  pub ready : new.ready ≡ old.ready
+  pub pictures : new.pictures ≡ old.pictures
+  pub dropped : new.dropped ≡ old.dropped
+  pub notes : noted new.notes ≡ noted old.notes
+  pub code_end : new.code_end ≡ old.code_end
   pub shown : new.shown ≡ old.shown
 
 -- that, or the fault in the slice
-abbrev pub Paints : Course → Sequence → Open → ℕ → List ℕ → Units → Result ℕ Stop → Course → Type 0
-Paints old s p row u units (Ok covered) new = Painted old s p row u covered new
-Paints old s p row u units (Err e) new = (left : ℕ) × ((slice_at old.state s p row).read (body u) ≡ Err (e.kind, left)) × (e.left ≡ left + unit_bits units)
+abbrev pub Paints : Course → Sequence → Open → ℕ → List ℕ → Units → Result SliceEnd Stop → Course → Type 0
+Paints old s p row u units (Ok end) new = Painted old s p row u end new
+Paints old s p row u units (Err e) new =
+    (left : ℕ) × ((slice_at (slice_setup old.state s p) p.covered row).read (body u) ≡ Err (e.kind, left)) × (e.left ≡ left + unit_bits units)
 
 -- what a round among the units answers: whether another follows
 abbrev pub Rounds : Course → Result Bool Halt → Course → Units → Result ((Bool × Part) × Units) (FaultKind × ℕ) → Type 0
-Rounds old (Ok more) new rest read = (p : Part) × (read ≡ Ok ((more, p), rest)) × Steps old p new × (more ≡ false → new.canvas ≡ None)
+Rounds old (Ok more) new rest read = (p : Part) × (read ≡ Ok ((more, p), rest)) × Steps old p new × (more ≡ false → new.state.picture ≡ None)
 Rounds old (Err Memory) new rest read = Unit {0}
 Rounds old (Err (Fault stop)) new rest read = read ≡ Err (stop.kind, stop.left)
 
 -- all units of a piece were read, and no picture is open
 pub record ReadAll (old : Course) (us : Units) (new : Course) : Type 0 where
-  pub pictures : Pictures
-  pub read : seen old.state old.canvas us ≡ Ok (pictures, new.state)
+  pub events : Events
+  pub read : units_read (between_of old) us ≡ Ok (events, between_of new)
   pub first : (low : Bool) → Agrees low new.state.first → Agrees low old.state.first
-  pub shows : (low : Bool) → Agrees low new.state.first → ShowsFrames low old.queue.anchor old.ready.items pictures new.queue.anchor new.ready.items
-  pub counted : new.pictures ≡ old.pictures + length pictures
-  pub few : length pictures ≤ length us + 1
+  pub shows : (low : Bool) → Agrees low new.state.first → ShowsFrames low old.queue.anchor old.ready.items (pictures_in events) new.queue.anchor new.ready.items
+  pub counted : new.pictures ≡ old.pictures + length (pictures_in events)
+  pub dropped : new.dropped ≡ old.dropped + dropped_in (pictures_in events)
+  pub notes : noted new.notes ≡ with_events old.code_end (noted old.notes) events
+  pub few : length (pictures_in events) ≤ length us + 1
   pub shown : new.shown ≡ old.shown
-  pub none : new.canvas ≡ None
+  pub none : new.state.picture ≡ None
   pub sound : IsSoundCourse new
 
 -- the first fault of a piece
 abbrev pub CourseStops : Course → Units → Halt → Type 0
 CourseStops old us Memory = Unit {0}
-CourseStops old us (Fault stop) = seen old.state old.canvas us ≡ Err (stop.kind, stop.left)
+CourseStops old us (Fault stop) = units_read (between_of old) us ≡ Err (stop.kind, stop.left)

@@ -1,199 +1,228 @@
-ghost use Rattle.std.specs.Prelude.{◌≡◌, ◌+◌, ◌-◌, ◌^◌, ◌<◌, List, ℕ, OnOk, true, false, None};
-ghost use Rattle.m2v_model.specs.States.{after_sequence};
-ghost use Rattle.m2v_model.specs.Streams.{sequence, group, picture, matrices};
-ghost use Rattle.m2v_model.specs.Pictures.{type_of, closed};
-ghost use Rattle.m2v_head.specs.Fits.{IsLoaded};
-ghost use Rattle.m2v_model.specs.States.{loaded_or as matrix_or};
-ghost use Rattle.m2v_picture.specs.Conditions.{IsMatrix};
+ghost use Rattle.std.specs.Prelude.{◌≡◌, ◌+◌, ◌^◌, ◌<◌, ◌≤◌, List, ℕ, OnOk, IsSome, is_some, true, false, None, Some, if◌then◌else◌};
+ghost use Rattle.m2v_model.specs.Streams.{sequence, group, picture, matrices, ending};
+ghost use Rattle.m2v_model.specs.Pictures.{Store, picture_of};
+ghost use Rattle.m2v_model.specs.PieceNotes.{note_of};
 ghost use Rattle.m2v_unit.specs.declared.header.Header.TheVariants as headers;
-ghost use Rattle.m2v_unit.specs.Among.{HeaderFits, part_of};
-ghost use Rattle.m2v_decoder.specs.Course.{IsSoundCourse, Steps, Showed, PictureBegun, Closed};
+ghost use Rattle.m2v_unit.specs.Among.{HeaderFits, HeaderFollows, part_of};
+ghost use Rattle.m2v_model.specs.States.{first_or};
+ghost use Rattle.m2v_model.specs.Decoding.{low_delay_of};
+ghost use Rattle.m2v_decoder.specs.Decoding.{queue_of};
+ghost use Rattle.m2v_decoder.specs.Course.{note_or as first_of, IsFresh, IsSoundCourse, Steps, Showed, Counted, Closed, Begun};
 
 use crate::Memory;
-use m2v_canvas::Canvas;
 use m2v_head::{GroupInfo, MatrixInfo, PictureExtension, PictureInfo};
-use m2v_model::{Open, Sequence, State};
+use m2v_model::{Notes, Open, PictureNote, Sequence, State};
 use m2v_order::DisplayQueue;
-use m2v_unit::Header;
+use m2v_picture::Gallery;
 use m2v_plane::Frame;
-use m2v_quant::default_matrix;
+use m2v_unit::{Header, crowded_by, enter, opened};
 use std::alloc::Global;
 
-/// A decoder at work: the headers in force, the frame of the picture that is open, and the frames on their way to the
-/// display.
+/// A decoder at work: the headers in force, the frames at hand, the frames on their way to the display, and what is noted
+/// of the piece that is read.
 #[derive(Drop)]
 pub struct Course {
     pub state: State,
-    pub canvas: Option<Canvas>,
+    pub gallery: Gallery,
     pub queue: DisplayQueue,
     pub ready: Vec<Frame>,
     pub pictures: u64,
+    pub dropped: u64,
     pub shown: u64,
+    pub notes: Notes,
+    /// The place behind the piece's picture start code, in bits from the first byte of the input.
+    pub code_end: u64,
 }
 
-/// picture_coding_type of the picture that is open, 0 where none is.
-fn kind_of(picture: &Option<Open>) -> u8
-    ensures { result ≡ type_of picture.now }
+/// What is noted of a piece whose picture ends, and its picture start code ends at a bit: the first picture.
+#[tactic(auto, unfolding(m2v_model::specs::Pictures::picture_of))]
+fn note_or(noted: Option<PictureNote>, p: &Open, code_end: u64) -> Option<PictureNote>
+    ensures { (store : Store) → result ≡ first_of noted (Some (note_of code_end (picture_of p.now store))) }
 {
-    match picture {
-        Some(p) => p.info.kind,
-        None => 0,
+    match noted {
+        Some(note) => Some(note),
+        None => Some(PictureNote {
+            info: p.info,
+            extension: p.extension,
+            code_end,
+            dropped: p.dropped,
+            first: !p.second_field,
+            crowded: crowded_by(p),
+        }),
     }
 }
 
-/// The matrix that is loaded, or another one.
-fn loaded_or(loaded: Option<[u8; 64]>, other: [u8; 64]) -> [u8; 64]
-    ensures value { result ≡ matrix_or loaded other }
-    ensures fits { IsLoaded loaded → IsMatrix other → IsMatrix result }
+/// 1 where it holds, else 0.
+fn one_if(holds: bool) -> u64
+    ensures { result ≡ (if holds then 1 else 0) }
 {
-    match loaded {
-        Some(matrix) => matrix,
-        None => other,
-    }
+    if holds { 1 } else { 0 }
 }
 
 impl Course {
-    /// A frame was decoded: it is shown at once, or held, and another one is shown in its place.
-    fn show(&mut self, frame: Frame, kind: u8) -> Result<(), Memory>
-        requires { self.old.pictures < 2 ^ 62 }
+    /// A frame that a picture ended, if there is one: it is shown at once, or held, and another one is shown in its place.
+    #[tactic(auto, unfolding(m2v_order::specs::Display::handed, m2v_order::specs::Display::held_after))]
+    fn show(&mut self, frame: Option<Frame>, kind: u8) -> Result<(), Memory>
         ensures { OnOk result (Showed self.old frame kind self.new) }
     {
+        let Some(frame) = frame else {
+            return Ok(());
+        };
         if let Some(due) = self.queue.decoded(frame, kind) {
             self.ready.push(due)?;
         }
-        self.pictures += 1;
         Ok(())
     }
 
-    /// The picture that is open is whole.
-    pub fn close(&mut self) -> Result<(), Memory>
+    /// Counts a picture that ends, and notes it where it is the first of its piece.
+    fn count(&mut self, p: &Open)
+        requires counted { self.old.pictures < 2 ^ 62 }
+        requires dropped { self.old.dropped ≤ self.old.pictures }
+        ensures { Counted self.old p.now self.new }
+    {
+        self.pictures += 1;
+        self.dropped += one_if(p.dropped);
+        self.notes.picture = note_or(self.notes.picture, p, self.code_end);
+    }
+
+    /// The picture that is open ends.
+    fn end(&mut self, alloc: Global, p: &Open) -> Result<(), Memory>
+        requires sound { IsSoundCourse self.old }
+        requires counted { self.old.pictures < 2 ^ 62 }
+        requires open { self.old.state.picture ≡ Some p.now }
+        ensures { OnOk result (Closed self.old self.new) }
+    {
+        let frame = self.gallery.end(alloc, p)?;
+        self.count(p);
+        self.show(frame, p.info.kind)?;
+        self.state.picture = None;
+        Ok(())
+    }
+
+    /// The picture that is open is whole, if there is one.
+    pub fn close(&mut self, alloc: Global) -> Result<(), Memory>
         requires sound { IsSoundCourse self.old }
         requires counted { self.old.pictures < 2 ^ 62 }
         ensures { OnOk result (Closed self.old self.new) }
     {
-        let kind = kind_of(&self.state.picture);
-        self.state.picture = None;
-        match self.canvas.take() {
-            Some(canvas) => self.show(canvas.into_frame(), kind),
+        match self.state.picture {
+            Some(p) => self.end(alloc, &p),
             None => Ok(()),
         }
     }
 
-    /// A sequence header with its extension is in force; the first one says how frames are shown.
-    fn begin_sequence(&mut self, s: Sequence)
-        requires fits { HeaderFits (headers.Sequence s) }
-        requires sound { IsSoundCourse self.old }
-        requires closed { self.old.canvas ≡ None }
-        ensures sound { IsSoundCourse self.new }
-        ensures state { self.new.state ≡ after_sequence self.old.state s }
-        ensures canvas { self.new.canvas ≡ None }
-        ensures anchor { self.new.queue.anchor ≡ self.old.queue.anchor }
-        ensures ready { self.new.ready ≡ self.old.ready }
-        ensures pictures { self.new.pictures ≡ self.old.pictures }
-        ensures shown { self.new.shown ≡ self.old.shown }
+    /// The frames on their way behind a sequence header: low_delay is that of the first one's extension.
+    fn open_queue(&mut self, s: &Sequence)
+        requires fresh { IsFresh self.old.state.first self.old.queue.anchor }
+        requires low { self.old.queue.low_delay ≡ low_delay_of self.old.state.first }
+        ensures low { self.new.queue.low_delay ≡ low_delay_of (Some (first_or self.old.state.first s.now)) }
+        ensures same { self.new ≡ record self.old { queue = queue_of self.new.queue.low_delay self.old.queue.anchor } }
     {
         if self.state.first.is_none() {
-            self.state.first = Some(s);
             self.queue = DisplayQueue::new(s.extension.low_delay);
         }
-        self.state.sequence = Some(s);
-        self.state.intra = loaded_or(s.info.load_intra, default_matrix(true));
-        self.state.non_intra = loaded_or(s.info.load_non_intra, default_matrix(false));
-        self.state.picture = None;
-    }
-
-    /// A picture header with its extension is in force, and its frame is open.
-    fn begin_picture(
-        &mut self,
-        alloc: Global,
-        info: PictureInfo,
-        extension: PictureExtension,
-    ) -> Result<(), Memory>
-        requires fits { HeaderFits (headers.Picture info extension) }
-        requires sound { IsSoundCourse self.old }
-        requires closed { self.old.canvas ≡ None }
-        ensures { OnOk result (PictureBegun self.old info extension self.new) }
-    {
-        self.canvas = match &self.state.sequence {
-            Some(s) => Some(Canvas::new(alloc, s)?),
-            None => None,
-        };
-        self.state.picture = Some(Open {
-            info,
-            extension,
-            begun: false,
-            row: 0,
-            covered: 0,
-        });
-        Ok(())
     }
 
     /// A sequence header with its extension.
-    fn enter_sequence(&mut self, s: Sequence) -> Result<(), Memory>
-        requires fits { HeaderFits (headers.Sequence s) }
+    fn enter_sequence(&mut self, alloc: Global, s: &Sequence) -> Result<(), Memory>
+        requires fits { HeaderFits (headers.Sequence s.now) }
+        requires follows { HeaderFollows self.old.state (headers.Sequence s.now) }
         requires sound { IsSoundCourse self.old }
         requires counted { self.old.pictures < 2 ^ 62 }
-        ensures { OnOk result (Steps self.old (sequence s) self.new) }
+        ensures { OnOk result (Steps self.old (sequence s.now) self.new) }
     {
-        self.close()?;
-        self.begin_sequence(s);
+        self.close(alloc)?;
+        self.notes.sequences.push((s.info, s.extension))?;
+        self.open_queue(s);
+        enter(&mut self.state, &Header::Sequence(*s));
         Ok(())
     }
 
     /// A group header.
-    fn enter_group(&mut self, g: GroupInfo) -> Result<(), Memory>
+    fn enter_group(&mut self, alloc: Global, g: &GroupInfo) -> Result<(), Memory>
+        requires fits { HeaderFits (headers.Group g.now) }
+        requires follows { HeaderFollows self.old.state (headers.Group g.now) }
         requires sound { IsSoundCourse self.old }
         requires counted { self.old.pictures < 2 ^ 62 }
-        ensures { OnOk result (Steps self.old (group g) self.new) }
+        ensures { OnOk result (Steps self.old (group g.now) self.new) }
     {
-        self.close()?;
-        self.state.closed_gop = g.closed_gop;
+        self.close(alloc)?;
+        self.notes.group = true;
+        enter(&mut self.state, &Header::Group(*g));
         Ok(())
+    }
+
+    /// The frame of a picture that begins, behind its headers.
+    fn begin(&mut self, alloc: Global, p: &Open) -> Result<(), Memory>
+        requires known { is_some self.old.state.sequence ≡ true }
+        requires closed { self.old.state.picture ≡ None }
+        requires sound { IsSoundCourse self.old }
+        requires first { p.now.second_field ≡ true → p.now.slices_unread ≡ false → IsSome self.old.gallery.current }
+        ensures { OnOk result (Begun self.old p.now self.new) }
+    {
+        // a picture is read behind a sequence header alone, so this doesn't come
+        let Some(s) = &self.state.sequence else {
+            return Ok(());
+        };
+        self.gallery.begin(alloc, s, p)
     }
 
     /// A picture header with its extension.
     fn enter_picture(
         &mut self,
         alloc: Global,
-        info: PictureInfo,
-        extension: PictureExtension,
+        info: &PictureInfo,
+        extension: &PictureExtension,
     ) -> Result<(), Memory>
-        requires fits { HeaderFits (headers.Picture info extension) }
+        requires fits { HeaderFits (headers.Picture info.now extension.now) }
+        requires follows { HeaderFollows self.old.state (headers.Picture info.now extension.now) }
         requires sound { IsSoundCourse self.old }
         requires counted { self.old.pictures < 2 ^ 62 }
-        ensures { OnOk result (Steps self.old (picture info extension) self.new) }
+        ensures { OnOk result (Steps self.old (picture info.now extension.now) self.new) }
     {
-        self.close()?;
-        self.begin_picture(alloc, info, extension)
+        self.close(alloc)?;
+        let p = opened(&self.state, info, extension);
+        self.begin(alloc, &p)?;
+        enter(&mut self.state, &Header::Picture(*info, *extension));
+        Ok(())
+    }
+
+    /// The sequence end code.
+    fn enter_ending(&mut self, alloc: Global) -> Result<(), Memory>
+        requires sound { IsSoundCourse self.old }
+        requires counted { self.old.pictures < 2 ^ 62 }
+        ensures { OnOk result (Steps self.old ending self.new) }
+    {
+        self.close(alloc)
     }
 
     /// A quant matrix extension.
-    fn load(&mut self, m: MatrixInfo)
-        requires fits { HeaderFits (headers.Matrices m) }
+    fn enter_matrices(&mut self, m: &MatrixInfo)
+        requires fits { HeaderFits (headers.Matrices m.now) }
         requires sound { IsSoundCourse self.old }
-        ensures { Steps self.old (matrices m) self.new }
+        ensures { Steps self.old (matrices m.now) self.new }
     {
-        self.state.intra = loaded_or(m.intra, self.state.intra);
-        self.state.non_intra = loaded_or(m.non_intra, self.state.non_intra);
+        enter(&mut self.state, &Header::Matrices(*m));
     }
 
     /// What stands in a unit that isn't a slice.
-    pub fn enter(&mut self, alloc: Global, header: Header) -> Result<(), Memory>
-        requires fits { HeaderFits header }
+    pub fn enter(&mut self, alloc: Global, header: &Header) -> Result<(), Memory>
+        requires fits { HeaderFits header.now }
+        requires follows { HeaderFollows self.old.state header.now }
         requires sound { IsSoundCourse self.old }
         requires counted { self.old.pictures < 2 ^ 62 }
-        ensures { OnOk result ((u : List ℕ) → Steps self.old (part_of u header) self.new) }
+        ensures { OnOk result ((u : List ℕ) → Steps self.old (part_of u header.now) self.new) }
     {
         match header {
-            Header::Sequence(s) => self.enter_sequence(s),
-            Header::Group(g) => self.enter_group(g),
+            Header::Sequence(s) => self.enter_sequence(alloc, s),
+            Header::Group(g) => self.enter_group(alloc, g),
             Header::Picture(info, extension) => self.enter_picture(alloc, info, extension),
             Header::Matrices(m) => {
-                self.load(m);
+                self.enter_matrices(m);
                 Ok(())
             }
             Header::Skipped => Ok(()),
-            Header::Ending => self.close(),
+            Header::Ending => self.enter_ending(alloc),
         }
     }
 }

@@ -1,25 +1,28 @@
 ghost use Rattle.std.specs.Prelude.{◌≡◌, ◌+◌, ◌*◌, ◌≤◌, ◌^◌, [], IfOk, IfErr, OnOk, MatchOption, Ok, Err, false};
-ghost use Rattle.m2v_model.specs.ByPieces.{piece_read};
+ghost use Rattle.m2v_model.specs.ByPieces.{end_read};
 ghost use Rattle.m2v_piece.specs.Sound.{IsSoundPiece};
-ghost use Rattle.m2v_decoder.specs.Decoding.{at_start, due_of, whole_of, Advanced, Refuses, HandsOut, Finished};
+ghost use Rattle.m2v_decoder.specs.Decoding.{at_start, between, due_of, whole_of, Advanced, Refuses, HandsOut, Finished};
 
 use crate::Memory;
 use crate::course::Course;
 use crate::halt::Halt;
-use m2v_model::{FaultKind, State};
+use crate::notes::{code_bits, nothing_noted};
+use crate::reading::text_ends;
+use m2v_model::Notes;
 use m2v_order::DisplayQueue;
+use m2v_picture::Gallery;
 use m2v_piece::{DecodeError, Fault, Piece};
 use m2v_plane::Frame;
-use m2v_quant::default_matrix;
-use m2v_unit::UnitReader;
+use m2v_unit::{UnitReader, first_state};
 use std::alloc::Global;
 use std::marker::Model;
+use std::mem;
 
 /// A decoder of one stream, which is handed to it piece by piece.
 ///
-/// Contracts see it as the headers in force, the anchor that waits to be shown, the frames that are due and weren't
-/// handed out, whether the end has come, whether a piece was refused, and how many pictures were decoded and frames
-/// handed out.
+/// Contracts see it as what stands between two pieces (the headers in force and the frames at hand), the anchor that waits
+/// to be shown, the frames that are due and weren't handed out, whether the end has come, whether a piece was refused, and
+/// how many pictures were read, how many of them dropped, and how many frames handed out.
 #[derive(Drop)]
 pub struct Decoder {
     course: Course,
@@ -34,9 +37,9 @@ impl Model for Decoder {
 
     ghost Value = { Decoding };
 
-    ghost view = { λ d. record { state = d.course.state; anchor = d.course.queue.anchor; ready = d.course.ready.items; ended = d.ended; failed = d.failed; pictures = d.course.pictures; shown = d.course.shown } };
+    ghost view = { λ d. record { state = d.course.state; frames = d.course.gallery; anchor = d.course.queue.anchor; ready = d.course.ready.items; ended = d.ended; failed = d.failed; pictures = d.course.pictures; dropped = d.course.dropped; shown = d.course.shown } };
 
-    ghost invariant = { λ d. d.failed ≡ false → IsSoundCourse d.course × (d.course.canvas ≡ None) };
+    ghost invariant = { λ d. d.failed ≡ false → IsSoundCourse d.course × (d.course.state.picture ≡ None) };
 }
 
 impl Decoder {
@@ -44,21 +47,16 @@ impl Decoder {
     pub fn new(alloc: Global) -> Result<Decoder, Memory>
         ensures { IfOk result (λ d. d ≡ at_start) }
     {
-        let state = State {
-            first: None,
-            sequence: None,
-            intra: default_matrix(true),
-            non_intra: default_matrix(false),
-            closed_gop: false,
-            picture: None,
-        };
         let course = Course {
-            state,
-            canvas: None,
+            state: first_state(),
+            gallery: Gallery::new(alloc),
             queue: DisplayQueue::new(false),
             ready: Vec::new(alloc),
             pictures: 0,
+            dropped: 0,
             shown: 0,
+            notes: nothing_noted(alloc),
+            code_end: 0,
         };
         Ok(Decoder {
             course,
@@ -67,11 +65,18 @@ impl Decoder {
         })
     }
 
-    /// How many pictures were decoded.
+    /// How many pictures were read, those that were dropped among them.
     pub fn pictures(&self) -> u64
         ensures { result ≡ self.now.pictures }
     {
         self.course.pictures
+    }
+
+    /// How many pictures were dropped: B pictures without their references (see `docs/BITSTREAM.md`).
+    pub fn dropped(&self) -> u64
+        ensures { result ≡ self.now.dropped }
+    {
+        self.course.dropped
     }
 
     /// How many frames were handed out.
@@ -81,26 +86,37 @@ impl Decoder {
         self.course.shown
     }
 
-    /// Reads a piece, of those of one text in order, each as a cutter hands it out.
+    /// Takes back a frame that was handed out and isn't needed any more. A later picture is painted into it, so that memory
+    /// is asked for a few times in a stream alone.
+    pub fn recycle(&mut self, frame: Frame)
+        ensures same { self.new ≡ self.old }
+    {
+        self.course.gallery.recycle(frame);
+    }
+
+    /// Reads a piece, of those of one text in order, each as a cutter hands it out. Answers what is noted of it.
     ///
     /// # Errors
     /// The first fault of the stream, where it is looked at within this piece, its end included; want of memory. No call
     /// may follow then.
-    pub fn piece(&mut self, alloc: Global, piece: &Piece) -> Result<(), DecodeError>
+    pub fn piece(&mut self, alloc: Global, piece: &Piece) -> Result<Notes, DecodeError>
         requires piece { IsSoundPiece piece.now }
         requires going { self.old.failed ≡ false }
         requires before { self.old.ended ≡ false }
         requires counted { self.old.pictures + piece.now.length ≤ 2 ^ 60 }
-        ensures ok { OnOk result (Advanced self.old (piece.now.place + piece.now.length) (whole_of piece.now) self.new) }
-        ensures err { IfErr result (Refuses self.old (piece.now.place + piece.now.length) (whole_of piece.now)) }
+        ensures ok { IfOk result (λ notes. Advanced self.old piece.now.place (whole_of piece.now) notes self.new) }
+        ensures err { IfErr result (Refuses self.old piece.now.place (whole_of piece.now)) }
     {
         self.failed = true;
         let zeros = piece.length - piece.bytes.len() as u64;
+        self.course.notes = nothing_noted(alloc);
+        self.course.code_end = 8 * piece.place
+            + code_bits(&mut UnitReader::new(&piece.bytes, zeros));
         let mut units = UnitReader::new(&piece.bytes, zeros);
         match self.course.units(alloc, &mut units) {
             Ok(()) => {
                 self.failed = false;
-                Ok(())
+                Ok(mem::replace(&mut self.course.notes, nothing_noted(alloc)))
             }
             Err(Halt::Memory) => Err(DecodeError::Memory),
             Err(Halt::Fault(stop)) => {
@@ -116,23 +132,25 @@ impl Decoder {
     /// Ends the stream, which has so many bytes.
     ///
     /// # Errors
-    /// `NoSequence`, where there was no sequence header. No call may follow then.
+    /// `NoSequence`, where there was no sequence header, and `FieldPair`, where a first field waits for its second. No call
+    /// may follow then.
     pub fn end(&mut self, length: u64) -> Result<(), Fault>
         requires going { self.old.failed ≡ false }
         requires before { self.old.ended ≡ false }
         requires length { length ≤ 2 ^ 36 }
         ensures ok { OnOk result (Finished self.old length self.new) }
-        ensures err { IfErr result (λ f. piece_read self.old.state length [] ≡ Err (f.kind, f.place)) }
+        ensures err { IfErr result (λ f. end_read (between self.old) length ≡ Err (f.kind, f.place)) }
     {
-        if self.course.state.sequence.is_none() {
-            return Err(Fault {
-                kind: FaultKind::NoSequence,
+        match text_ends(&self.course.state) {
+            Ok(()) => {
+                self.ended = true;
+                Ok(())
+            }
+            Err(stop) => Err(Fault {
+                kind: stop.kind,
                 place: 8 * length,
-            });
+            }),
         }
-        self.course.state.picture = None;
-        self.ended = true;
-        Ok(())
     }
 
     /// The next frame that is due and wasn't handed out; behind the end the last anchor too.

@@ -1,9 +1,11 @@
-//! A decoder of streams, piece by piece: it reads each piece as the definitions say, and hands out frames as they are due.
+//! A decoder of streams, piece by piece: it reads each piece as the definitions say, tells what is noted of it, and hands
+//! out frames as they are due.
 #![tactic(auto)]
 
 mod course;
 mod decoder;
 mod halt;
+mod notes;
 mod reading;
 mod slice;
 

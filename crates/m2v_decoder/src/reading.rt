@@ -1,13 +1,35 @@
-ghost use Rattle.std.specs.Prelude.{◌≡◌, ◌+◌, ◌^◌, ◌<◌, IfErr, OnOk, Ok, [], length, true, false};
-ghost use Rattle.m2v_unit.specs.Among.{is_slice as slice_stands};
+ghost use Rattle.std.specs.Prelude.{◌≡◌, ◌+◌, ◌^◌, ◌<◌, ◌*◌, ℕ, IfErr, OnOk, Ok, Err, [], length, true, false, None};
+ghost use Rattle.m2v_unit.specs.Among.{is_slice as slice_stands, goes_on as units_follow};
 ghost use Rattle.m2v_model.specs.Streams.{value_of, known_unit, text_end};
-ghost use Rattle.m2v_model.specs.ByPieces.{unit_of};
+ghost use Rattle.m2v_model.specs.Pictures.{Store};
+ghost use Rattle.m2v_model.specs.ByPieces.{unit_read, end_read};
 ghost use Rattle.m2v_decoder.specs.Course.{IsSoundCourse, Rounds, ReadAll, CourseStops};
 
 use crate::course::Course;
 use crate::halt::Halt;
-use m2v_unit::{Header, Unit, UnitReader, is_slice, read_end, read_header};
+use m2v_model::{State, Stop};
+use m2v_unit::{Header, Unit, UnitReader, is_slice, read_end, read_header, read_text_end};
 use std::alloc::Global;
+
+/// The rules at the end of the text: those at a piece's end, and that no first field waits for its second.
+pub fn text_ends(st: &State) -> Result<(), Stop>
+    requires closed { st.now.picture ≡ None }
+    ensures ok { OnOk result ((store : Store) (end : ℕ) → end_read (record { state = st.now; store = store }) end ≡ Ok ([], record { state = st.now; store = store })) }
+    ensures err { IfErr result (λ e. (store : Store) (end : ℕ) → end_read (record { state = st.now; store = store }) end ≡ Err (e.kind, 8 * end)) }
+{
+    read_end(st)?;
+    read_text_end(st)
+}
+
+/// Whether units may follow.
+fn goes_on(header: &Header) -> bool
+    ensures { result ≡ units_follow header.now }
+{
+    match header {
+        Header::Ending => false,
+        _ => true,
+    }
+}
 
 impl Course {
     /// Reads a unit that isn't a slice, and with a header the extension behind it. Answers whether units may follow.
@@ -25,9 +47,8 @@ impl Course {
         ensures { Rounds self.old result self.new units.new ((known_unit self.old.state start (value_of u.now) u.now).read units.old) }
     {
         let header = read_header(&self.state, start, u, units)?;
-        let more = !matches!(header, Header::Ending);
-        self.enter(alloc, header)?;
-        Ok(more)
+        self.enter(alloc, &header)?;
+        Ok(goes_on(&header))
     }
 
     /// Reads a unit that is there. Answers whether units may follow.
@@ -51,13 +72,13 @@ impl Course {
     }
 
     /// The end of the piece.
-    fn over(&mut self) -> Result<bool, Halt>
+    fn over(&mut self, alloc: Global) -> Result<bool, Halt>
         requires sound { IsSoundCourse self.old }
         requires counted { self.old.pictures < 2 ^ 62 }
         ensures { Rounds self.old result self.new [] ((text_end self.old.state 0).read []) }
     {
         read_end(&self.state)?;
-        self.close()?;
+        self.close(alloc)?;
         Ok(false)
     }
 
@@ -65,12 +86,12 @@ impl Course {
     fn unit(&mut self, alloc: Global, units: &mut UnitReader) -> Result<bool, Halt>
         requires sound { IsSoundCourse self.old }
         requires counted { self.old.pictures < 2 ^ 62 }
-        ensures { Rounds self.old result self.new units.new (unit_of self.old.state units.old) }
+        ensures { Rounds self.old result self.new units.new (unit_read self.old.state units.old) }
     {
         let start = units.left();
         match units.next() {
             Some(u) => self.known(alloc, start, &u, units),
-            None => self.over(),
+            None => self.over(alloc),
         }
     }
 

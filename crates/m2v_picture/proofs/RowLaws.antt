@@ -21,7 +21,7 @@ use Rattle.m2v_model.specs.declared.setup.SliceSetup.{SliceSetup}
 use Rattle.m2v_model.specs.Slices.{slice_start, begins_late, is_large}
 use Rattle.m2v_model.specs.Samples.{References, Put, painted, all_painted}
 use Rattle.m2v_picture.specs.declared.gap.Gap.{Gap}
-use Rattle.m2v_picture.specs.Conditions.{LiesInRow, IsBefore, IsState, IsPicture, AreDc, IsColumn, IsGap, IsSetup, rows_in, place_in}
+use Rattle.m2v_picture.specs.Conditions.{LiesInRow, IsBefore, IsState, IsPicture, AreDc, IsColumn, IsGap, IsSetup, rows_in, place_in, GoesOn, AreFew}
 
 -- the macroblocks so far: whatever follows them is painted on what they left
 abbrev pub Left : Put → SliceSetup → References → SliceState → Samples → List Macroblock → SliceState → Samples → Type 0
@@ -151,21 +151,55 @@ state_after c row st m h fits ready = record {
   direction = λ kind first intra. directed m.kind (rw kind at fits.kind) intra;
 }
 
+le_tested : (a b : ℤ) → int_le a b ≡ true → a ≤ℤ b
+le_tested a b e = grind (arith, ints)
+
+-- an increment goes on, and a slice doesn't begin before the next uncovered macroblock
+pub goes_on : (c : PictureContext) (st : SliceState) (m : MacroSyntax) (z : SliceState) → z ≡ after c st m → IsStep c st m.increment → GoesOn st z
+unfolding after in_order
+goes_on c st m z is step =
+    let some = step.some in
+    let late = (and_parts (nat_lt (column c st m.increment) c.columns) (not st.first || int_le (pos st.next) (address st m.increment)) step.order).1 in
+    record {
+      further = rw is (omega (arith, ints, some));
+      first = ap (λ (s : SliceState). s.first) is;
+      next = ap (λ (s : SliceState). s.next) is;
+      begins = λ e. rw is (le_tested (pos st.next) (address st m.increment) (let l = rw e at late in l));
+    }
+
 -- no more macroblocks are large than were read, and these are at most those of the row
-pub large_few : (c : PictureContext) (row : ℕ) (st : SliceState) (large : ℕ) → IsBefore c row st → pos (large + row * c.columns) ≤ℤ (st.address +ℤ pos 1) → large ≤ 2 ^ 16
-large_few c row st large h few = elim (cases_Bool st.first) [
-  | inl e ↦ let a = h.first e in omega (arith, ints, a, few)
-  | inr e ↦ let i = h.later e in let end = h.end in omega (arith, ints, i.2, i.1, few, end)
+pub large_few : (c : PictureContext) (row next : ℕ) (st : SliceState) (large : ℕ) → IsBefore c row st → AreFew next st large → large ≤ 2 ^ 16
+large_few c row next st large h few = elim (cases_Bool st.first) [
+  | inl e ↦ let none = few.none e in omega (arith, none)
+  | inr e ↦ let i = h.later e in let end = h.end in let some = few.some e in omega (arith, ints, i.2, i.1, some, end)
 ]
 
--- an increment goes on
-pub further_on : (c : PictureContext) (st : SliceState) (m : MacroSyntax) (z : SliceState) → z ≡ after c st m → 1 ≤ m.increment → st.address <ℤ z.address
-unfolding after
-further_on c st m z is some = rw is (omega (arith, ints, some))
+pub few_first : (st : SliceState) → st.first ≡ true → AreFew st.next st 0
+few_first st e = record { none = λ f. refl; some = λ f. absurd (false-true (sym f ∙ e)); next = refl }
 
 -- one macroblock more
-pub few_more : (large more columns : ℕ) (before behind : ℤ) → pos (large + columns) ≤ℤ (before +ℤ pos 1) → before <ℤ behind → more ≤ large + 1 → pos (more + columns) ≤ℤ (behind +ℤ pos 1)
-few_more large more columns before behind few further le = omega (arith, ints, few, further, le)
+pub few_more : (next : ℕ) (st z : SliceState) (large more : ℕ) → AreFew next st large → GoesOn st z → more ≤ large + 1 → AreFew next z more
+few_more next st z large more few on le = record {
+  none = λ e. absurd (false-true (sym on.first ∙ e));
+  some = λ f. elim (cases_Bool st.first) [
+    | inl e ↦
+        let none = few.none e in
+        let begins = on.begins e in
+        let same = few.next in
+        omega (arith, ints, none, begins, same, le)
+    | inr e ↦
+        let some = few.some e in
+        let further = on.further in
+        omega (arith, ints, some, further, le)
+  ];
+  next = on.next ∙ few.next;
+}
+
+-- the macroblocks of a slice that are large lie between the next uncovered macroblock and the slice's end
+pub few_covered : (next large covered : ℕ) (st : SliceState) → AreFew next st large → st.first ≡ false → covered ≡ nat_abs (st.address +ℤ pos 1) → next + large ≤ covered
+few_covered next large covered st few e is =
+    let some = few.some e in
+    omega (arith, ints, some, is)
 
 pub large_then : (bits : List ℕ) (b large : ℕ) → large ≡ length (filter is_large bits) → is_large b ≡ true → large + 1 ≡ length (filter is_large (bits ++ b ∷ []))
 large_then bits b large is e = ap (λ n. n + 1) is ∙ sym (large_more bits b true e)
@@ -211,9 +245,13 @@ starts_in s covered row quantiser h below most ready = record {
   direction = λ kind first intra. absurd (false-true (sym first));
 }
 
-pub start_address : (c : PictureContext) (covered row quantiser : ℕ) → ((slice_start c row covered quantiser).address +ℤ pos 1) ≡ pos (row * c.columns)
+pub start_first : (c : PictureContext) (covered row quantiser : ℕ) → (slice_start c row covered quantiser).first ≡ true
 unfolding slice_start at_start
-start_address c covered row quantiser = omega (arith, ints)
+start_first c covered row quantiser = refl
+
+pub start_next : (c : PictureContext) (covered row quantiser : ℕ) → (slice_start c row covered quantiser).next ≡ covered
+unfolding slice_start at_start
+start_next c covered row quantiser = refl
 
 -- what is behind an address of the row is not past the row's end
 pub covered_most : (c : PictureContext) (row covered : ℕ) (address : ℤ) → LiesInRow c row address → covered ≡ nat_abs (address +ℤ pos 1) → covered ≤ (row + 1) * c.columns

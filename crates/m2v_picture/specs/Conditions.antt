@@ -1,5 +1,5 @@
 -- What is known of what slices are read by, and of the state between two macroblocks of a slice.
-use Rattle.std.specs.Prelude.{◌≡◌, ℕ, ◌+◌, ◌*◌, ◌/◌, ◌^◌, ◌<◌, ◌≤◌, ◌||◌, ◌⊎◌, true, false, IsTrue, Bool, nat_eq, slice_index_or, if◌then◌else◌, ℤ, pos, ◌-ℤ◌}
+use Rattle.std.specs.Prelude.{◌≡◌, ℕ, ◌+◌, ◌*◌, ◌/◌, ◌^◌, ◌<◌, ◌≤◌, ◌||◌, ◌⊎◌, true, false, IsTrue, Bool, nat_eq, slice_index_or, if◌then◌else◌, ℤ, pos, ◌-ℤ◌, ◌+ℤ◌, ◌<ℤ◌, ◌≤ℤ◌}
 use Rattle.m2v_plane.specs.declared.dims.Dims.{Dims}
 use Rattle.m2v_plane.specs.declared.planes.Plane.{Plane}
 use Rattle.m2v_plane.specs.declared.planes.Lines.{Lines}
@@ -91,3 +91,18 @@ pub record IsGap (c : PictureContext) (row : ℕ) (st : SliceState) (m : MacroSy
   pub count : gap.count ≡ skipped_before st m
   pub first : 0 < gap.count → first_skipped st ≡ row * c.columns + gap.column
   pub within : 0 < gap.count → gap.column + gap.count < c.columns
+
+-- ---- how many macroblocks are large
+
+-- a macroblock more: addresses go on, and the first of a slice doesn't lie before the picture's next uncovered macroblock
+pub record GoesOn (old new : SliceState) : Type 0 where
+  pub further : old.address <ℤ new.address
+  pub first : new.first ≡ false
+  pub next : new.next ≡ old.next
+  pub begins : old.first ≡ true → pos old.next ≤ℤ new.address
+
+-- no more macroblocks of a slice are large than were read
+pub record AreFew (uncovered : ℕ) (st : SliceState) (large : ℕ) : Type 0 where
+  pub none : st.first ≡ true → large ≡ 0
+  pub some : st.first ≡ false → pos (large + uncovered) ≤ℤ (st.address +ℤ pos 1)
+  pub next : st.next ≡ uncovered

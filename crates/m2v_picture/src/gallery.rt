@@ -237,6 +237,7 @@ impl Gallery {
         ensures exact { PaintsSlice s.now covered row input.old.rest self.old result input.new.rest self.new }
         ensures left { IfErr result (λ e. e.left ≤ length input.old.text + 32) }
         ensures covered { IfOk result (λ end. end.covered ≤ (row + 1) * s.now.context.columns) }
+        ensures large { IfOk result (λ end. covered + end.large ≤ end.covered) }
         ensures frames { OnOk result (HaveSize s.now.dims self.new) }
     {
         // a picture whose slices are read has its frame, so this doesn't come

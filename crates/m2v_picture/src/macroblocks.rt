@@ -1,4 +1,4 @@
-ghost use Rattle.std.specs.Prelude.{◌≡◌, ◌<◌, ◌≤◌, ◌+◌, ◌*◌, ℕ, All, IfOk, OnOk, IfErr, length, true, pos, ◌+ℤ◌, ◌<ℤ◌};
+ghost use Rattle.std.specs.Prelude.{◌≡◌, ◌<◌, ◌≤◌, ◌+◌, ◌*◌, ℕ, All, IfOk, OnOk, IfErr, length, true, false};
 ghost use Rattle.m2v_bits.specs.Syntax.{renamed};
 ghost use Rattle.m2v_quant.specs.Kinds.{IsLevel};
 ghost use Rattle.m2v_pred.specs.declared.mode.MbPlace.{MbPlace as MbPlaceOf};
@@ -8,7 +8,7 @@ ghost use Rattle.m2v_macro.specs.Conditions.{IsMacro};
 ghost use Rattle.m2v_model.specs.Faults as faults;
 ghost use Rattle.m2v_model.specs.Slices.{macroblock_at};
 ghost use Rattle.m2v_model.specs.Stops.{Tells};
-ghost use Rattle.m2v_picture.specs.Conditions.{IsPicture, IsSetup, IsState, AreDc, LiesInRow, rows_in, place_in, HoldsForward, HoldsBackward, CanPaint, IsColumn, IsGap, last_dc};
+ghost use Rattle.m2v_picture.specs.Conditions.{IsPicture, IsSetup, IsState, AreDc, LiesInRow, rows_in, place_in, HoldsForward, HoldsBackward, CanPaint, IsColumn, IsGap, last_dc, GoesOn, AreFew};
 ghost use Rattle.m2v_picture.specs.Reads.{TellsMacroblock, TellsRound, TellsRow, seen_by};
 
 use crate::blocks::blocks;
@@ -138,7 +138,7 @@ fn next_macroblock<V: RefView, T: Target>(
     ensures left { IfErr result (λ e. e.left ≤ length input.old.text) }
     ensures state { IfOk result (λ r. IsState s.now.context row state.new) }
     ensures place { IfOk result (λ r. LiesInRow s.now.context row state.new.address) }
-    ensures further { IfOk result (λ r. state.old.address <ℤ state.new.address) }
+    ensures goes_on { IfOk result (λ r. GoesOn state.old state.new) }
     ensures takes { IfOk result (λ r. (p : MbPlaceOf) → T.Takes out.old p → T.Takes out.new p) }
 {
     let before = *state;
@@ -184,7 +184,7 @@ pub fn macroblocks<V: RefView, T: Target>(
     requires setup { IsSetup s.now }
     requires row { row < rows_in s.now }
     requires state { IsState s.now.context row first }
-    requires start { first.address +ℤ pos 1 ≡ pos (row * s.now.context.columns) }
+    requires begins { first.first ≡ true }
     requires forward { HoldsForward s.now (V.size forward.now) (V.Holds forward.now) }
     requires backward { HoldsBackward s.now (V.size backward.now) (V.Holds backward.now) }
     requires takes { (column : ℕ) → column < s.now.context.columns → T.Takes out.old (place_in s.now row column) }
@@ -192,6 +192,8 @@ pub fn macroblocks<V: RefView, T: Target>(
         result input.new.rest (T.samples out.new) }
     ensures left { IfErr result (λ e. e.left ≤ length input.old.text) }
     ensures place { IfOk result (λ z. LiesInRow s.now.context row z.0.address) }
+    ensures few { IfOk result (λ z. AreFew first.next z.0 z.1) }
+    ensures some { IfOk result (λ z. z.0.first ≡ false) }
     ensures takes { IfOk result (λ z. (p : MbPlaceOf) → T.Takes out.old p → T.Takes out.new p) }
 {
     let mut state = first;

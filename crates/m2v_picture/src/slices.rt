@@ -87,6 +87,7 @@ pub fn read_slice<V: RefView, T: Target>(
         result input.new.rest (T.samples out.new) }
     ensures left { IfErr result (λ e. e.left ≤ length input.old.text + 32) }
     ensures covered { IfOk result (λ end. end.covered ≤ (row + 1) * s.now.context.columns) }
+    ensures large { IfOk result (λ end. covered + end.large ≤ end.covered) }
     ensures takes { IfOk result (λ end. (p : MbPlaceOf) → T.Takes out.old p → T.Takes out.new p) }
 {
     let unit = unit_left(input);

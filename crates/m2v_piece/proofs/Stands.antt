@@ -1,17 +1,21 @@
 -- Where the bytes stop that are looked at for one piece.
-use Rattle.std.proofs.Common.{◌≡◌, ℕ, ◌<◌, List, [], ◌∷◌, ◌++◌, length, get_or, drop, Option, Some, None, true, Result, Ok, Err, IfErr, IsErrOf, refl, sym, ap, subst, ◌∙◌, append_assoc, arith}
+use Rattle.std.proofs.Common.{◌≡◌, ℕ, zero, suc, ◌+◌, ◌≤◌, ◌<◌, List, [], ◌∷◌, ◌++◌, length, get_or, drop, Option, Some, None, true, Result, Ok, Err, IfErr, IsErrOf, refl, sym, ap, subst, ◌∙◌, append_assoc, arith}
 use Rattle.m2v_model.specs.declared.phase.Phase.{Phase}
 use Rattle.m2v_model.specs.declared.phase.Phase.TheVariants.{Before, Headers, Picture}
 use Rattle.m2v_piece.specs.declared.answer.Piece.{Piece}
 use Rattle.m2v_piece.specs.declared.answer.DecodeError.{DecodeError}
 use Rattle.m2v_piece.specs.declared.answer.DecodeError.TheVariants as errors
 use Rattle.m2v_piece.specs.Reads.{Refilled}
-use Rattle.m2v_piece.specs.Cutting.{Held, Fits, open_pieces, open_start, pieces_behind, start_behind, PieceStops, IsReading, AtPiece, phase_for, is_begun, prefix, Cutting, IsPiece}
+use Rattle.m2v_piece.specs.Cutting.{Held, Fits, open_pieces, open_start, pieces_behind, start_behind, PieceStops, IsReading, AtPiece, phase_for, is_begun, prefix, taken_by, Cutting, IsPiece}
 use Rattle.m2v_model.specs.Pieces.{limit, grouped, piece_of}
+use Rattle.std.specs.Option.{option_map}
+use Rattle.std.proofs.lemmas.List.{length-append}
+use Rattle.m2v_port.specs.Port.{Moves}
 use Rattle.m2v_port.proofs.Runs.{moves_on}
 use Rattle.m2v_piece.specs.declared.cutter.Stand.{Stand}
 use Rattle.m2v_piece.specs.declared.cutter.Stand.TheVariants.{Boundary, Ending, Over}
-use Rattle.m2v_piece.specs.Stepping.{IsWhole, IsLast, Why, Fails, Advanced, Looked, Stood, LastOf, NextPiece}
+use Rattle.m2v_piece.specs.Stepping.{IsWhole, IsLast, Why, Fails, Advanced, Looked, Rounded, Stood, LastOf, NextPiece, Spends, Keeps}
+use Rattle.m2v_piece.proofs.Steps.{length_prefix}
 use Rattle.m2v_piece.proofs.PieceLaws.{ends_piece}
 
 -- a chunk by its first byte
@@ -114,7 +118,33 @@ module _ (h h' : Held) (chunk chunk' : List ℕ) (left left' : Option (List ℕ)
     fits = b.fits;
   }
 
+-- what is held then was taken of the text
+pub spends_on : (h h' h'' : Held) (chunk chunk' chunk'' bytes : List ℕ) (left left' left'' : Option (List ℕ)) → Spends h chunk left h' chunk' left' → Moves left' bytes left''
+    → Spends h' chunk' left' h'' chunk'' left'' → Spends h chunk left h'' chunk'' left''
+spends_on h h' h'' chunk chunk' chunk'' bytes left left' left'' a m b text rest is is_then =
+    let mid : left' ≡ Some (bytes ++ rest) = m.was ∙ ap (option_map (λ (t : List ℕ). bytes ++ t)) is_then in
+    omega (arith, a text (bytes ++ rest) is mid, b (bytes ++ rest) rest mid is_then)
+
+pub round_spends : (stand : Option Stand) (h h' h'' : Held) (chunk chunk' chunk'' : List ℕ) (left left' left'' : Option (List ℕ)) → Spends h chunk left h' chunk' left' → Rounded stand h' chunk' left' h'' chunk'' left''
+    → Spends h' chunk' left' h'' chunk'' left'' → Spends h chunk left h'' chunk'' left''
+round_spends None h h' h'' chunk chunk' chunk'' left left' left'' a r b = spends_on h h' h'' chunk chunk' chunk'' r.0.bytes left left' left'' a r.0.moved b
+round_spends (Some stand) h h' h'' chunk chunk' chunk'' left left' left'' a r b = spends_on h h' h'' chunk chunk' chunk'' r.bytes left left' left'' a r.moved b
+
+prefix_most : (n : ℕ) → length (prefix n) ≤ n
+prefix_most zero = omega arith
+prefix_most (suc zero) = omega arith
+prefix_most (suc (suc zero)) = omega arith
+prefix_most (suc (suc (suc zero))) = omega arith
+prefix_most (suc (suc (suc (suc n)))) = omega arith
+
 -- ---- of a cutter
+
+-- the bytes that are read and not handed out were taken
+pub keeps_read : (h mid h' : Held) (chunk chunk' : List ℕ) (left left' : Option (List ℕ)) (old new : Cutting) → AtPiece h → h.ahead ≤ 3 → old.place ≡ h.place → old.unread ≡ prefix h.ahead ++ chunk
+    → new.place ≡ h'.place → new.unread ≡ prefix h'.ahead ++ chunk' → Spends h chunk left mid chunk' left' → taken_by h' ≡ taken_by mid → Keeps old left new left'
+keeps_read h mid h' chunk chunk' left left' old new at few place unread place_then unread_then spends same text rest is is_then =
+    omega (arith, spends text rest is is_then, same, place, place_then, ap length unread, ap length unread_then, ap length at.sure, length-append (prefix h.ahead) chunk,
+    length-append (prefix h'.ahead) chunk', length_prefix h.ahead few, prefix_most h'.ahead)
 
 pub at_piece_fits : (h : Held) → AtPiece h → Fits h
 unfolding limit

@@ -36,11 +36,12 @@ pub stops_zero : (h : Held) (e : DecodeError) → h.ahead ≡ 2 → Fits h → L
 stops_zero h e two fits some text =
     rw (two, third_zero h.phase h.sure text, third_zero_start h.phase h.place text) (stopped h 0 [] (0 ∷ 0 ∷ text) e fits.limit some)
 
-length_prefix : (n : ℕ) → n ≤ 2 → length (prefix n) ≡ n
+pub length_prefix : (n : ℕ) → n ≤ 3 → length (prefix n) ≡ n
 length_prefix zero le = refl
 length_prefix (suc zero) le = refl
 length_prefix (suc (suc zero)) le = refl
-length_prefix (suc (suc (suc n))) le = absurd (omega arith)
+length_prefix (suc (suc (suc zero))) le = refl
+length_prefix (suc (suc (suc (suc n)))) le = absurd (omega arith)
 
 pub took_other : (h new : Held) (b : ℕ) → h.ahead ≤ 2 → nat_eq b 0 ≡ false → (h.ahead ≡ 2 → nat_eq b 1 ≡ false) → Fits h
     → new ≡ record (behind h (prefix h.ahead ++ b ∷ [])) { ahead = 0 } → limit_of h (prefix h.ahead ++ b ∷ []) ≡ None → Took h b new
@@ -50,7 +51,7 @@ took_other h new b le some one fits is none =
     (record {
       pieces = λ text. settled h.phase h.sure h.ahead b text le some one;
       start = λ text. settled_start h.phase h.place h.ahead b text le some one;
-      more = omega (arith, after_more h.phase h.place h.sure (prefix h.ahead ++ b ∷ []), length-append (prefix h.ahead) (b ∷ []), length_prefix h.ahead le);
+      more = omega (arith, after_more h.phase h.place h.sure (prefix h.ahead ++ b ∷ []), length-append (prefix h.ahead) (b ∷ []), length_prefix h.ahead (omega (arith, le)));
       onward = after_onward h.phase h.place (prefix h.ahead ++ b ∷ []);
       fits = record { limit = f.limit; none = f.none };
     })
@@ -145,6 +146,7 @@ ends_here h new three phase fits is none =
     (record {
       pieces = λ text. rw (three, phase) (ends_text h.sure text);
       place = rw phase refl;
+      more = omega (arith, three, after_more h.phase h.place h.sure (code_of 0xB7));
       some = rw phase (omega (arith, length-append h.sure (code_of 0xB7)));
       fits = record { limit = f.limit; none = f.none };
     })
@@ -185,6 +187,7 @@ finished_here h new le fits is none =
       pieces = ends_at h.phase h.sure h.ahead le ∙ same_end h.phase h.sure (prefix h.ahead);
       start = ends_start h.phase h.place h.ahead le;
       phase = refl;
+      taken = omega (arith, after_more h.phase h.place h.sure (prefix h.ahead), length_prefix h.ahead le);
       onward = after_onward h.phase h.place (prefix h.ahead);
       fits = record { limit = f.limit; none = f.none };
     })
@@ -248,6 +251,7 @@ finished_none h none fits = record {
   pieces = ap (λ (n : ℕ). open_pieces h.phase h.sure (prefix n ++ [])) none ∙ ends_at h.phase h.sure 0 (omega arith) ∙ ap (λ (x : List ℕ). grouped h.phase x []) (append-nil h.sure);
   start = ap (λ (n : ℕ). open_start h.phase h.place (prefix n ++ [])) none ∙ ends_start h.phase h.place 0 (omega arith) ∙ place_none h.phase h.place;
   phase = refl;
+  taken = refl;
   onward = omega arith;
   fits = fits;
 }

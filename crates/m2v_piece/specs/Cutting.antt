@@ -20,6 +20,10 @@ pub record Held : Type 0 where
 abbrev pub prefix : ℕ → List ℕ
 prefix n = take n (0 ∷ 0 ∷ 1 ∷ [])
 
+-- how many bytes of a text were taken up to the last one that is held
+abbrev pub taken_by : Held → ℕ
+taken_by h = h.place + (length h.sure + h.ahead)
+
 -- the pieces of a text behind bytes that the piece at hand has already
 unfoldable pub open_pieces : Phase → List ℕ → List ℕ → List (List ℕ)
 open_pieces phase sure text = grouped phase (sure ++ (cut 0 text).0) (cut 0 text).1
@@ -144,6 +148,7 @@ GoesOn Picture value = begins_piece value ≡ false
 pub record Ends (old new : Held) : Type 0 where
   pub pieces : (text : List ℕ) → pieces_behind old (0xB7 ∷ text) ≡ new.sure ∷ []
   pub place : new.place ≡ old.place
+  pub more : taken_by new ≡ suc (taken_by old)
   pub some : 1 ≤ length new.sure
   pub fits : Fits new
 
@@ -159,6 +164,7 @@ pub record Finished (old new : Held) : Type 0 where
   pub pieces : pieces_behind old [] ≡ grouped new.phase new.sure []
   pub start : start_behind old [] ≡ new.place
   pub phase : new.phase ≡ old.phase
+  pub taken : taken_by new ≡ taken_by old
   pub onward : old.place ≤ new.place
   pub fits : Fits new
 

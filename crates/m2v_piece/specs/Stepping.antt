@@ -11,7 +11,7 @@ use Rattle.m2v_piece.specs.declared.taking.Byte.{Byte}
 use Rattle.m2v_piece.specs.declared.taking.Byte.TheVariants.{Used, First, Whole, Last}
 use Rattle.m2v_piece.specs.declared.cutter.Stand.{Stand}
 use Rattle.m2v_piece.specs.declared.cutter.Stand.TheVariants.{Boundary, Ending, Over}
-use Rattle.m2v_piece.specs.Cutting.{Held, Fits, Took, FirstBegun, Ends, open_pieces, pieces_behind, start_behind, PieceStops, Cutting, left_of, start_of, IsPiece}
+use Rattle.m2v_piece.specs.Cutting.{Held, taken_by, Fits, Took, FirstBegun, Ends, open_pieces, pieces_behind, start_behind, PieceStops, Cutting, left_of, start_of, IsPiece}
 
 -- the piece at hand is whole, and stays as it is
 pub record IsWhole (old : Held) (b : ℕ) (new : Held) : Type 0 where
@@ -116,6 +116,16 @@ pub record Fails (h : Held) (chunk : List ℕ) (left left' : Option (List ℕ)) 
 abbrev pub Rounded : Option Stand → Held → List ℕ → Option (List ℕ) → Held → List ℕ → Option (List ℕ) → Type 0
 Rounded None h chunk left h' chunk' left' = Advanced h chunk left h' chunk' left' × (measure_of h' < measure_of h)
 Rounded (Some stand) h chunk left h' chunk' left' = Looked stand h chunk left h' chunk' left'
+
+-- what is held and not looked at yet, behind some bytes of a text, was taken of it
+abbrev pub Spends : Held → List ℕ → Option (List ℕ) → Held → List ℕ → Option (List ℕ) → Type 0
+Spends h chunk left h' chunk' left' =
+    (text rest : List ℕ) → left ≡ Some text → left' ≡ Some rest → (taken_by h' + length chunk') + length rest ≤ (taken_by h + length chunk) + length text
+
+-- the same of a cutter: pieces are handed out of bytes that were taken
+abbrev pub Keeps : Cutting → Option (List ℕ) → Cutting → Option (List ℕ) → Type 0
+Keeps old left new left' =
+    (text rest : List ℕ) → left ≡ Some text → left' ≡ Some rest → (new.place + length new.unread) + length rest ≤ (old.place + length old.unread) + length text
 
 -- ---- what a call of a cutter answers
 

@@ -1,8 +1,8 @@
 ghost use Rattle.std.specs.Prelude.{◌≡◌, ℕ, ◌+◌, ◌≤◌, ◌<◌, ◌^◌, ◌++◌, List, [], length, IfOk, IfSome, IfErr, OnOk, IsErrOf, Ok, Err, Some, None, true, false, IfNone};
 ghost use Rattle.m2v_port.specs.Port.{Rose};
-ghost use Rattle.m2v_piece.specs.Cutting.{Fits, PieceStops, IsReading, pieces_behind, start_behind};
+ghost use Rattle.m2v_piece.specs.Cutting.{Fits, PieceStops, IsReading, pieces_behind, start_behind, taken_by};
 ghost use Rattle.m2v_piece.specs.Sound.{IsSoundPiece, GoesOnward};
-ghost use Rattle.m2v_piece.specs.Stepping.{Reaches, Turned, Rounded, Looked, Fails, Handed, Stopped, LastOf};
+ghost use Rattle.m2v_piece.specs.Stepping.{Reaches, Turned, Rounded, Looked, Fails, Handed, Stopped, LastOf, Spends, Keeps};
 
 use crate::chunk::Chunk;
 use crate::hand::Hand;
@@ -31,6 +31,7 @@ fn turn(hand: &mut Hand, chunk: &mut Chunk) -> Result<Option<Stand>, DecodeError
     ensures ok { IfOk result (λ stand. Turned stand hand.old chunk.old hand.new chunk.new) }
     ensures err { IfErr result (λ e. (rest : List ℕ) → PieceStops (start_behind hand.old (chunk.old ++ rest)) (pieces_behind hand.old (chunk.old ++ rest)) e) }
     ensures kind { IfErr result IsReading }
+    ensures taken { OnOk result (taken_by hand.new + length chunk.new ≤ taken_by hand.old + length chunk.old) }
 {
     let b = chunk.first();
     let _held = hand.ahead();
@@ -57,6 +58,7 @@ fn turn(hand: &mut Hand, chunk: &mut Chunk) -> Result<Option<Stand>, DecodeError
 fn skim(hand: &mut Hand, chunk: &mut Chunk) -> Result<bool, DecodeError>
     requires fits { Fits hand.old }
     ensures some { result ≡ Ok true → Reaches hand.old chunk.old hand.new chunk.new }
+    ensures taken { OnOk result (taken_by hand.new + length chunk.new ≤ taken_by hand.old + length chunk.old) }
     ensures none { result ≡ Ok false → (hand.new ≡ hand.old) × (chunk.new ≡ chunk.old) }
     ensures err { IfErr result (λ e. e ≡ DecodeError.Memory) }
 {
@@ -76,6 +78,7 @@ fn advance(hand: &mut Hand, chunk: &mut Chunk) -> Result<Option<Stand>, DecodeEr
     ensures ok { IfOk result (λ stand. Turned stand hand.old chunk.old hand.new chunk.new) }
     ensures err { IfErr result (λ e. (rest : List ℕ) → PieceStops (start_behind hand.old (chunk.old ++ rest)) (pieces_behind hand.old (chunk.old ++ rest)) e) }
     ensures kind { IfErr result IsReading }
+    ensures taken { OnOk result (taken_by hand.new + length chunk.new ≤ taken_by hand.old + length chunk.old) }
 {
     match skim(hand, chunk) {
         Err(e) => Err(e),
@@ -96,6 +99,7 @@ fn round<S: Source>(
     ensures kind { IfErr result IsReading }
     ensures failed { IsErrOf result DecodeError.Read → Rose (S.faults input.old) (S.faults input.new) }
     ensures faults { S.faults input.old ≤ S.faults input.new }
+    ensures taken { OnOk result (Spends hand.old chunk.old (S.left input.old) hand.new chunk.new (S.left input.new)) }
 {
     match chunk.fill(input) {
         Err(e) => Err(e),
@@ -119,6 +123,7 @@ fn look_on<S: Source>(
     ensures kind { IfErr result IsReading }
     ensures failed { IsErrOf result DecodeError.Read → Rose (S.faults input.old) (S.faults input.new) }
     ensures faults { S.faults input.old ≤ S.faults input.new }
+    ensures taken { OnOk result (Spends hand.old chunk.old (S.left input.old) hand.new chunk.new (S.left input.new)) }
 {
     loop {
         match round(hand, chunk, input) {
@@ -136,6 +141,7 @@ fn last(hand: &mut Hand, alloc: Global) -> Result<Option<Piece>, Memory>
     ensures sound { IfOk result (λ piece. IfSome piece IsSoundPiece) }
     ensures most { OnOk result (hand.new.place ≤ 2 ^ 36) }
     ensures begun { IfOk result (λ piece. IfSome piece (λ p. hand.new.phase ≡ Phase.Headers)) }
+    ensures taken { OnOk result (taken_by hand.new ≡ taken_by hand.old) }
 {
     let _place = hand.place();
     if hand.is_empty() {
@@ -201,11 +207,13 @@ impl Cutter {
         ensures sound { IfOk result (λ piece. IfSome piece IsSoundPiece) }
         ensures onward { IfOk result (λ piece. GoesOnward piece self.old.place self.new.place) }
         ensures begun { IfOk result (λ piece. IfSome piece (λ p. self.new.begun ≡ true)) }
+        ensures taken { OnOk result (Keeps self.old (S.left input.old) self.new (S.left input.new)) }
         ensures over { IfOk result (λ piece. IfNone piece (self.new.ended ≡ true)) }
         ensures most { self.old.place ≤ 2 ^ 36 }
     {
-        // places are bounded
+        // places are bounded, and what is held of a prefix
         let _place = self.place();
+        let _held = self.hand.ahead();
         if self.ended {
             return Ok(None);
         }

@@ -4,6 +4,7 @@ use Rattle.m2v_head.specs.Fits.{SequenceFits, GroupFits, PictureFits, MatrixFits
 use Rattle.m2v_macroblock.specs.Conditions.{IsMatrix}
 use Rattle.m2v_model.specs.declared.fault.FaultKind.{FaultKind}
 use Rattle.m2v_model.specs.declared.state.State.{State}
+use Rattle.m2v_model.specs.States.{is_same_sequence, none_waits, is_second_field_due}
 use Rattle.m2v_model.specs.Units.{Units}
 use Rattle.m2v_model.specs.Pictures.{Events, Store}
 use Rattle.m2v_model.specs.ByPieces.{text_ended}
@@ -57,6 +58,16 @@ HeaderFits (Picture info extension) = PictureFits info × IsReadPicture info ext
 HeaderFits (Matrices m) = MatrixFits m
 HeaderFits Skipped = Unit {0}
 HeaderFits Ending = Unit {0}
+
+-- what the state says of a header that is read behind it: a sequence header is that of frames of the same size, a group
+-- header stands where no second field is due, and a picture is the second field where one is due
+abbrev pub HeaderFollows : State → Header → Type 0
+HeaderFollows st (Sequence s) = is_same_sequence st.first s ≡ true
+HeaderFollows st (Group g) = none_waits st.waiting ≡ true
+HeaderFollows st (Picture info extension) = (is_some st.sequence ≡ true) × (is_second_field_due st.waiting info extension ≡ true)
+HeaderFollows st (Matrices m) = Unit {0}
+HeaderFollows st Skipped = Unit {0}
+HeaderFollows st Ending = Unit {0}
 
 -- the matrices in force have no 0 (clause 6.3.11)
 abbrev pub AreMatrices : State → Type 0

@@ -1,4 +1,4 @@
-ghost use Rattle.std.specs.Prelude.{◌≡◌, ◌<◌, ◌≤◌, ◌^◌, IfOk, IfErr, List, ℕ, length, [], true, false};
+ghost use Rattle.std.specs.Prelude.{◌≡◌, ◌<◌, ◌≤◌, ◌^◌, IfOk, IfErr, List, ℕ, length, [], true, false, is_some};
 ghost use Rattle.m2v_bits.specs.Syntax.{rule};
 ghost use Rattle.m2v_model.specs.declared.fault.FaultKind.TheVariants.{MissingMacroblocks, FieldPair};
 ghost use Rattle.m2v_model.specs.Units.{Units};
@@ -8,7 +8,7 @@ ghost use Rattle.m2v_head.specs.Fits.{MatrixFits};
 ghost use Rattle.m2v_model.specs.Streams.{value_of, extension_in, extension_behind, matrices, onward, «final», over, text_end};
 ghost use Rattle.m2v_model.specs.Streams as streams;
 ghost use Rattle.m2v_unit.specs.Reads.{IsReadSequence, IsReadPicture};
-ghost use Rattle.m2v_unit.specs.Among.{TellsIn, TellsAs, is_slice as slice_stands, told, HeaderFits, EndsText};
+ghost use Rattle.m2v_unit.specs.Among.{TellsIn, TellsAs, is_slice as slice_stands, told, HeaderFits, HeaderFollows, EndsText};
 
 use crate::ahead::check;
 use crate::header::Header;
@@ -98,6 +98,7 @@ fn sequence_unit(st: &State, start: u64, u: &Unit, units: &mut UnitReader) -> Re
     ensures shorter { length units.new ≤ length units.old }
     ensures left { IfErr result (λ e. e.left < 2 ^ 41) }
     ensures fits { IfOk result HeaderFits }
+    ensures follows { IfOk result (HeaderFollows st.now) }
 {
     close(st, start)?;
     no_second_field_due(st, start)?;
@@ -118,6 +119,7 @@ fn group_unit(st: &State, start: u64, u: &Unit, units: &UnitReader) -> Result<He
         ((onward (streams.group_unit st.now start u.now)).read units.now) }
     ensures left { IfErr result (λ e. e.left < 2 ^ 41) }
     ensures fits { IfOk result HeaderFits }
+    ensures follows { IfOk result (HeaderFollows st.now) }
 {
     close(st, start)?;
     no_second_field_due(st, start)?;
@@ -177,12 +179,14 @@ fn picture_extension_behind(
 /// that is due, and that a P picture has an anchor.
 #[tactic(auto, unfolding(m2v_model::specs::Streams::picture_unit, m2v_model::specs::Streams::close, m2v_model::specs::Streams::onward, m2v_bits::specs::Syntax::seq, m2v_bits::specs::Syntax::bind, m2v_bits::specs::Syntax::here, m2v_bits::specs::Syntax::rule, m2v_bits::specs::Syntax::done))]
 fn picture_unit(st: &State, start: u64, u: &Unit, units: &mut UnitReader) -> Result<Header, Stop>
-    requires { start < 2 ^ 41 }
+    requires start { start < 2 ^ 41 }
+    requires known { is_some st.now.sequence ≡ true }
     ensures exact { TellsAs (told u.now) result units.new
         ((onward (streams.picture_unit st.now start u.now)).read units.old) }
     ensures shorter { length units.new ≤ length units.old }
     ensures left { IfErr result (λ e. e.left < 2 ^ 41) }
     ensures fits { IfOk result HeaderFits }
+    ensures follows { IfOk result (HeaderFollows st.now) }
 {
     close(st, start)?;
     let info = picture_inside(u, units)?;
@@ -220,6 +224,7 @@ fn extension_unit(st: &State, start: u64, u: &Unit, units: &UnitReader) -> Resul
         ((onward (streams.extension_unit st.now start u.now)).read units.now) }
     ensures left { IfErr result (λ e. e.left < 2 ^ 41) }
     ensures fits { IfOk result HeaderFits }
+    ensures follows { IfOk result (HeaderFollows st.now) }
 {
     let id = id_inside(u, units)?;
     if id == 1 || id == 8 {
@@ -249,6 +254,7 @@ fn end_unit(st: &State, start: u64, units: &UnitReader) -> Result<Header, Stop>
         ((«final» (streams.end_unit st.now start)).read units.now) }
     ensures left { IfErr result (λ e. e.left < 2 ^ 41) }
     ensures fits { IfOk result HeaderFits }
+    ensures follows { IfOk result (HeaderFollows st.now) }
 {
     close(st, start)?;
     no_second_field_due(st, start)?;
@@ -266,11 +272,13 @@ fn later_unit(
 ) -> Result<Header, Stop>
     requires start { start < 2 ^ 41 }
     requires header { 1 ≤ value → 0xB0 ≤ value }
+    requires known { is_some st.now.sequence ≡ true }
     ensures exact { TellsAs (told u.now) result units.new
         ((streams.later_unit st.now start value u.now).read units.old) }
     ensures shorter { length units.new ≤ length units.old }
     ensures left { IfErr result (λ e. e.left < 2 ^ 41) }
     ensures fits { IfOk result HeaderFits }
+    ensures follows { IfOk result (HeaderFollows st.now) }
 {
     match value {
         0x00 => picture_unit(st, start, u, units),
@@ -312,6 +320,7 @@ pub fn read_header(st: &State, start: u64, u: &Unit, units: &mut UnitReader) -> 
     ensures shorter { length units.new ≤ length units.old }
     ensures left { IfErr result (λ e. e.left < 2 ^ 41) }
     ensures fits { IfOk result HeaderFits }
+    ensures follows { IfOk result (HeaderFollows st.now) }
 {
     let value = u.value();
     if value == 0xB3 {

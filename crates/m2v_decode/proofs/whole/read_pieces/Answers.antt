@@ -32,32 +32,35 @@ pub returns-in_err-piece-in-Ok-Some-clause-err : goal.returns-in_err-piece-in-Ok
 returns-in_err-piece-in-Ok-Some-clause-err g c =
     let x = rw c.in-Ok-Some.field-0-is at c.in-Ok-Some.ensures.ok in
     let begun = rw c.in-Ok-Some.field-0-is at c.in-Ok-Some.ensures.begun in
+    let keeps = c.in-Ok-Some.ensures.taken in
     let p = err_from_is_err_and c.from_residual.result c.from_residual.ensures.1 in
     rw (p.1, p.2)
     (piece_refused g.S.Source.left g.S.Source.faults g.K.Sink.held g.K.Sink.faults _ _ _ _ _ _ _ _ _ c.in_err-piece-in-Ok-Some.field-0.0
-    c.loop-e.invariant.progress x begun c.in_err-piece-in-Ok-Some.ensures.err)
+    c.loop-e.invariant.progress x begun (rw c.in-Ok-Some.field-0-is at c.in-Ok-Some.ensures.sound) c.in_err-piece-in-Ok-Some.ensures.err)
 
 pub returns-in_err-put_due-in-Ok-Some-clause-err : goal.returns-in_err-put_due-in-Ok-Some-clause-err
 returns-in_err-put_due-in-Ok-Some-clause-err g c =
     let inv = c.loop-e.invariant in
     let x = rw c.in-Ok-Some.field-0-is at c.in-Ok-Some.ensures.ok in
     let begun = rw c.in-Ok-Some.field-0-is at c.in-Ok-Some.ensures.begun in
+    let keeps = c.in-Ok-Some.ensures.taken in
     let p = err_from_is_err_and c.from_residual-in_err-put_due-in-Ok-Some.result c.from_residual-in_err-put_due-in-Ok-Some.ensures.1 in
     rw (p.1, p.2)
-    (put_stopped g.S.Source.left g.S.Source.faults g.K.Sink.held g.K.Sink.faults _ _ _ _ _ _ _ _ _ _ _ c.in_err-put_due-in-Ok-Some.field-0.0 inv.output.counts
-    inv.progress x begun c.in_ok-piece-in-Ok-Some.ensures.ok c.in_err-put_due-in-Ok-Some.ensures.err)
+    (put_stopped g.S.Source.left g.S.Source.faults g.K.Sink.held g.K.Sink.faults _ _ _ _ _ _ _ _ _ _ _ _ c.in_err-put_due-in-Ok-Some.field-0.0 inv.output.counts
+    inv.progress x begun keeps c.in_ok-piece-in-Ok-Some.ensures.ok c.in_err-put_due-in-Ok-Some.ensures.err)
 
 pub loop-e-preserved : goal.loop-e-preserved
 loop-e-preserved g c =
     let inv = c.loop-e.invariant in
     let x = rw c.in-Ok-Some.field-0-is at c.in-Ok-Some.ensures.ok in
     let begun = rw c.in-Ok-Some.field-0-is at c.in-Ok-Some.ensures.begun in
+    let keeps = c.in-Ok-Some.ensures.taken in
     let sound = rw c.in-Ok-Some.field-0-is at c.in-Ok-Some.ensures.sound in
     let onward = rw c.in-Ok-Some.field-0-is at c.in-Ok-Some.ensures.onward in
     let advanced = c.in_ok-piece-in-Ok-Some.ensures.ok in
     let put = c.in_ok-put_due-in-Ok-Some.ensures.put in
     record {
-      progress = progress_more g.S.Source.left g.S.Source.faults g.K.Sink.held g.K.Sink.faults _ _ _ _ _ _ _ _ _ _ _ _ inv.progress x begun advanced put c.in_ok-put_due-in-Ok-Some.ensures.grown;
+      progress = progress_more g.S.Source.left g.S.Source.faults g.K.Sink.held g.K.Sink.faults _ _ _ _ _ _ _ _ _ _ _ _ _ inv.progress x begun keeps advanced put c.in_ok-put_due-in-Ok-Some.ensures.grown;
       cutting = c.in-Ok-Some.ensures.going;
       counted = omega (arith, inv.counted, put.pictures, advanced.counted, advanced.few, whole_length c.in-Ok-Some.piece sound, onward.0, onward.1);
       most = omega (arith, onward.1, sound.end);

@@ -6,7 +6,7 @@ use Rattle.m2v_macro.specs.declared.values.SliceState.{SliceState}
 use Rattle.m2v_model.specs.Slices.{Row, with_next, is_large}
 use Rattle.m2v_picture.specs.Reads.{seen_by}
 use Rattle.m2v_picture.proofs.SliceLaws.{macroblocks_err, macroblocks_more, macroblocks_last, macroblock_less}
-use Rattle.m2v_picture.proofs.RowLaws.{left_first, left_more, left_samples, large_few, large_then, large_else, one_more, none_more, not_more, still_more, few_more}
+use Rattle.m2v_picture.proofs.RowLaws.{left_first, left_more, left_samples, few_first, large_few, large_then, large_else, one_more, none_more, not_more, still_more, few_more}
 use Rattle.m2v_picture.proofs.macroblocks.macroblocks.Goals.{then-r, else-r}
 use Rattle.m2v_picture.proofs.macroblocks.macroblocks.Goals as goal
 
@@ -17,7 +17,7 @@ loop-r-init g c =
     record {
       macroblocks = ([], [], refl, left_first g.T.Target.placed s refs c.args.first (g.T.Target.samples c.args.out.now), refl);
       state = c.requires.state;
-      few = omega (arith, ints, c.requires.start);
+      few = few_first c.args.first c.requires.begins;
       text = refl;
       takes = λ p t. t;
     }
@@ -35,7 +35,7 @@ returns-in_err-r-clause-exact g c =
 
 pub overflow_add-large : goal.overflow_add-large
 overflow_add-large g c =
-    let few = large_few c.args.s.now.context c.args.row c.loop-r.state c.loop-r.large c.loop-r.invariant.state.place c.loop-r.invariant.few in
+    let few = large_few c.args.s.now.context c.args.row c.args.first.next c.loop-r.state c.loop-r.large c.loop-r.invariant.state.place c.loop-r.invariant.few in
     record { fits = omega (arith, few) }
 
 pub returns-then-not-r-clause-exact : goal.returns-then-not-r-clause-exact
@@ -60,6 +60,14 @@ returns-then-not-r-clause-exact g c =
       large,
       left_samples g.T.Target.placed s refs c.args.first (g.T.Target.samples c.args.out.now) z.macroblocks z.state (g.T.Target.samples c.next_macroblock.new.out) left,
     )
+
+pub returns-then-not-r-clause-few : goal.returns-then-not-r-clause-few
+returns-then-not-r-clause-few g c =
+    let most : c.if-r.large ≤ c.loop-r.large + 1 = elim c.if-r.branch [
+      | then-r w ↦ one_more c.if-r.large c.loop-r.large w.large-is
+      | else-r w ↦ none_more c.if-r.large c.loop-r.large w.large-is
+    ] in
+    few_more c.args.first.next c.loop-r.state c.next_macroblock.new.state c.loop-r.large c.if-r.large c.loop-r.invariant.few c.in_ok-r.ensures.goes_on most
 
 pub returns-then-not-r-clause-takes : goal.returns-then-not-r-clause-takes
 returns-then-not-r-clause-takes g c = λ p t. c.in_ok-r.ensures.takes p (c.loop-r.invariant.takes p t)
@@ -97,7 +105,7 @@ loop-r-preserved g c =
         large,
       );
       state = c.in_ok-r.ensures.state;
-      few = few_more c.loop-r.large c.if-r.large (c.args.row * s.context.columns) c.loop-r.state.address c.next_macroblock.new.state.address c.loop-r.invariant.few c.in_ok-r.ensures.further most;
+      few = few_more c.args.first.next c.loop-r.state c.next_macroblock.new.state c.loop-r.large c.if-r.large c.loop-r.invariant.few c.in_ok-r.ensures.goes_on most;
       text = c.in_ok-r.ensures.text ∙ c.loop-r.invariant.text;
       takes = λ p t. c.in_ok-r.ensures.takes p (c.loop-r.invariant.takes p t);
     }

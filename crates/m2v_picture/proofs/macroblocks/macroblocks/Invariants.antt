@@ -1,9 +1,9 @@
-use Rattle.std.proofs.Common.{ℕ, ◌≡◌, ◌+◌, ◌*◌, length, List, [], pos, ◌+ℤ◌, ◌≤ℤ◌}
+use Rattle.std.proofs.Common.{ℕ, ◌≡◌, length, List, []}
 use Rattle.std.specs.Prelude.{filter}
 use Rattle.m2v_pred.specs.declared.mode.MbPlace.{MbPlace}
 use Rattle.m2v_macroblock.specs.Macroblocks.{Macroblock}
 use Rattle.m2v_model.specs.Slices.{macroblocks_at, is_large}
-use Rattle.m2v_picture.specs.Conditions.{IsState}
+use Rattle.m2v_picture.specs.Conditions.{IsState, AreFew}
 use Rattle.m2v_picture.specs.Reads.{seen_by}
 use Rattle.m2v_picture.proofs.RowLaws.{Left}
 use Rattle.m2v_picture.proofs.macroblocks.macroblocks.Given as goal
@@ -15,7 +15,7 @@ invariant-loop-r g l = record {
       × Left g.T.Target.placed l.s (seen_by (g.V.RefView.at l.forward) (g.V.RefView.at l.backward)) l.fn.first (g.T.Target.samples l.fn.out) xs l.state (g.T.Target.samples l.out)
       × (l.large ≡ length (filter is_large bs));
   state : IsState l.s.context l.row l.state;
-  few : pos (l.large + l.row * l.s.context.columns) ≤ℤ (l.state.address +ℤ pos 1);
+  few : AreFew l.fn.first.next l.state l.large;
   text : l.input.text ≡ l.fn.input.text;
   takes : (p : MbPlace) → g.T.Target.Takes l.fn.out p → g.T.Target.Takes l.out p;
 }

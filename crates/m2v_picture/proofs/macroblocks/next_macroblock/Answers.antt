@@ -1,7 +1,7 @@
 use Rattle.std.proofs.Common.{sym, subst}
 use Rattle.m2v_macroblock.proofs.DcLaws.{dc_left}
 use Rattle.m2v_picture.specs.Conditions.{AreDc}
-use Rattle.m2v_picture.proofs.RowLaws.{with_dc, further_on}
+use Rattle.m2v_picture.proofs.RowLaws.{with_dc, goes_on}
 use Rattle.m2v_picture.proofs.macroblocks.next_macroblock.Goals as goal
 
 pub paint_own-requires-clause-takes : goal.paint_own-requires-clause-takes
@@ -15,9 +15,11 @@ returns-clause-state g c =
     let left = dc_left ctx c.in_ok-x.x.syntax.kind.intra c.macroblock.new.levels mid.dc told.inside.dc told.dc in
     with_dc ctx c.args.row mid c.dc_after-state.result told.inside (subst (AreDc ctx.extension.dc_precision) (sym c.dc_after-state.ensures) left)
 
-pub returns-clause-further : goal.returns-clause-further
-returns-clause-further g c =
-    further_on c.args.s.now.context c.args.state.now c.in_ok-x.x.syntax c.macroblock.new.state c.in_ok-x.ensures.state c.in_ok-x.ensures.can.fits.step.some
+pub returns-clause-goes_on : goal.returns-clause-goes_on
+returns-clause-goes_on g c =
+    let told = c.in_ok-x.ensures in
+    let on = goes_on c.args.s.now.context c.args.state.now c.in_ok-x.x.syntax c.macroblock.new.state told.state told.can.fits.step in
+    record { further = on.further; first = on.first; next = on.next; begins = on.begins }
 
 pub returns-clause-takes : goal.returns-clause-takes
 returns-clause-takes g c = λ p t. c.paint_own.ensures.takes p (c.paint_gap.ensures.takes p t)

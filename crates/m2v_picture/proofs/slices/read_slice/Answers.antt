@@ -4,10 +4,10 @@ use Rattle.std.proofs.lemmas.Result.{err_from_is_err_and}
 use Rattle.m2v_macro.specs.declared.values.SliceState.{SliceState}
 use Rattle.m2v_macro.specs.Conditions.{IsReady}
 use Rattle.m2v_model.specs.Slices.{slice_start}
-use Rattle.m2v_picture.specs.Conditions.{IsState}
+use Rattle.m2v_picture.specs.Conditions.{IsState, AreFew}
 use Rattle.m2v_picture.specs.Reads.{TellsRow, seen_by}
 use Rattle.m2v_picture.proofs.SliceLaws.{slice_no_header, slice_no_increment, slice_early, slice_broken, slice_read}
-use Rattle.m2v_picture.proofs.RowLaws.{starts_in, start_address, first_is}
+use Rattle.m2v_picture.proofs.RowLaws.{starts_in, start_first, start_next, first_is, few_covered}
 use Rattle.m2v_picture.proofs.slices.read_slice.Goals as goal
 
 pub returns-in_err-info-clause-exact : goal.returns-in_err-info-clause-exact
@@ -39,11 +39,20 @@ macroblocks-requires-clause-state g c =
     let e : first ≡ slice_start s.context row c.args.covered c.in_ok-info.info.quantiser = first_is s.context c.args.covered row c.in_ok-info.info.quantiser first c.at_start-first.ensures.value in
     subst (IsState s.context row) (sym e) (starts_in s c.args.covered row c.in_ok-info.info.quantiser c.requires.setup c.requires.row c.requires.covered (subst (IsReady s.context) e c.at_start-first.ensures.ready))
 
-pub macroblocks-requires-clause-start : goal.macroblocks-requires-clause-start
-macroblocks-requires-clause-start g c =
+pub macroblocks-requires-clause-begins : goal.macroblocks-requires-clause-begins
+macroblocks-requires-clause-begins g c =
     let s = c.args.s.now in
     let e = first_is s.context c.args.covered c.args.row c.in_ok-info.info.quantiser c.at_start-first.result c.at_start-first.ensures.value in
-    ap (λ (z : SliceState). z.address +ℤ pos 1) e ∙ start_address s.context c.args.covered c.args.row c.in_ok-info.info.quantiser
+    ap (λ (z : SliceState). z.first) e ∙ start_first s.context c.args.covered c.args.row c.in_ok-info.info.quantiser
+
+pub returns-clause-large : goal.returns-clause-large
+returns-clause-large g c =
+    let s = c.args.s.now in
+    let covered = c.args.covered in
+    let e = first_is s.context covered c.args.row c.in_ok-info.info.quantiser c.at_start-first.result c.at_start-first.ensures.value in
+    let next = ap (λ (z : SliceState). z.next) e ∙ start_next s.context covered c.args.row c.in_ok-info.info.quantiser in
+    let last = c.in_ok-last.ensures in
+    few_covered covered c.in_ok-last.large c.address_behind.result c.in_ok-last.last (subst (λ (n : ℕ). AreFew n c.in_ok-last.last c.in_ok-last.large) next last.few) last.some c.address_behind.ensures
 
 pub returns-in_err-last-clause-exact : goal.returns-in_err-last-clause-exact
 returns-in_err-last-clause-exact g c =

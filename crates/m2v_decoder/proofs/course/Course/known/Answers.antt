@@ -1,6 +1,6 @@
 use Rattle.std.proofs.Common.{◌≡◌, true, rules}
 use Rattle.std.proofs.lemmas.Result.{err_from_is_err_and}
-use Rattle.m2v_model.specs.Streams.{value_of, slice}
+use Rattle.m2v_model.specs.Streams.{value_of}
 use Rattle.m2v_unit.specs.Among.{is_slice}
 use Rattle.m2v_decoder.proofs.ReadLaws.{slice_ok, slice_err}
 use Rattle.m2v_decoder.proofs.course.Course.known.Goals as goal
@@ -15,4 +15,4 @@ pub returns : goal.returns
 returns c =
     let read = c.in_ok-slice.ensures.ok in
     let on : is_slice c.args.self.now.state (value_of c.args.u.now) ≡ true = search rules in
-    (slice _ read.0, slice_ok c.args.self.now.state c.args.start (value_of c.args.u.now) c.args.u.now c.args.units.now _ on read.1, read.2, λ e. absurd cc)
+    (read.0, slice_ok c.args.self.now.state c.args.start (value_of c.args.u.now) c.args.u.now c.args.units.now _ on read.1, read.2, λ e. absurd cc)

@@ -1,6 +1,6 @@
 use Rattle.std.proofs.Common.{sym, subst, []}
 use Rattle.m2v_model.specs.Units.{Units}
-use Rattle.m2v_model.specs.ByPieces.{unit_of}
+use Rattle.m2v_model.specs.ByPieces.{unit_read}
 use Rattle.m2v_decoder.specs.Course.{Rounds}
 use Rattle.m2v_decoder.proofs.ReadLaws.{unit_some, unit_none}
 use Rattle.m2v_decoder.proofs.course.Course.unit.Goals as goal
@@ -12,5 +12,5 @@ returns-in-Some c =
 
 pub returns-in-None : goal.returns-in-None
 returns-in-None c =
-    subst (λ (us : Units). Rounds c.args.self.now c.over.result c.over.new.self us (unit_of c.args.self.now.state c.args.units.now)) (sym c.in-None.ensures.next.1)
+    subst (λ (us : Units). Rounds c.args.self.now c.over.result c.over.new.self us (unit_read c.args.self.now.state c.args.units.now)) (sym c.in-None.ensures.next.1)
     (subst (λ r. Rounds c.args.self.now c.over.result c.over.new.self [] r) (unit_none c.args.self.now.state c.args.units.now c.in-None.ensures.next.0) c.over.ensures)
