@@ -98,9 +98,15 @@ def wanted_lines(data, fault):
 
 
 def table():
+    yield from ('', '# ---- decode: how streams of predicted pictures begin', '')
     for name, data in STREAMS:
         yield from ('stream ' + name, *unit_lines('bytes', data), '')
+    yield from ('# ---- decode: predicted pictures and their samples', '')
+    faults = False
     for name, data, fault, comment in CASES:
+        if fault and not faults:
+            faults = True
+            yield from ('# ---- decode: faults of predicted pictures. A unit stands at 8 times the bytes before it.', '')
         yield from ('# ' + line for line in comment.splitlines() if line)
         yield from ('case decode: ' + name, 'words decode', *input_lines(data), *wanted_lines(data, fault), '')
 
