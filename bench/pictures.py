@@ -106,7 +106,8 @@ def table():
     for name, data, fault, comment in CASES:
         if fault and not faults:
             faults = True
-            yield from ('# ---- decode: faults of predicted pictures. A unit stands at 8 times the bytes before it.', '')
+            yield '# ---- decode: faults of predicted pictures. A unit stands at 8 times the bytes before it.'
+            yield ''
         yield from ('# ' + line for line in comment.splitlines() if line)
         yield from ('case decode: ' + name, 'words decode', *input_lines(data), *wanted_lines(data, fault), '')
 
