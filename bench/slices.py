@@ -94,26 +94,32 @@ GREY = blocks([0] * 4, 0, 0)
 REST = '10010' * 3 + '0010' * 2
 REST_ONE = '1000110' * 3 + '000110' * 2
 
-# quantiser code 1, no intra_slice, increment 1, type intra
-slice_of('00001 0 1 1', blocks([127, 0, 0, 0], 127, 127))
-slice_of('00001 0', '1 1' + GREY, '1 1' + GREY)
-slice_of('00001 1 1 0000000 0 1 1', GREY)
-slice_of('00001 1 1 0000000 1 10101010 0 1 1', GREY)
-slice_of('00001 0 1 01 00010', GREY)
-slice_of('00001 0 1 01 00000', GREY)
-slice_of('00001 0 1 1', blocks([0] * 4, 0, 0, '0110'))
-slice_of('00001 0 011 1', GREY)
-slice_of('00001 0 1 1', GREY, '011 1', GREY)
-slice_of('00001 0 1 1', blocks([-128, -1, 0, 0], 0, 0))
-slice_of('00001 0 1 1 100', '0100 0', '011 1', escape(5, 40), '10', REST)
-samples({0: 128, 1: 2, 3: -1, 9: 40}, 2, ZIGZAG)
-slice_of('01001 0 1 1 100', '110 1', '00101 0', '1111000 1', escape(20, -7), '0110', REST_ONE)
-samples({0: 128, 1: -2, 4: 1, 14: -1, 35: -7}, 10, ALTERNATE)
 
-# the end of a sequence header from byte 11 on, with an intra matrix of which position i of the zigzag scan is 8 + 3 i,
-# and the slice with coefficients in zigzag order by this matrix
-slice_of('10000 0 1', *[format(8 + 3 * i, '08b') for i in range(64)], '0')
-loaded = [0] * 64
-for i in range(64):
-    loaded[ZIGZAG[i]] = 8 + 3 * i
-samples({0: 128, 1: 2, 3: -1, 9: 40}, 2, ZIGZAG, loaded)
+def main():
+    # quantiser code 1, no intra_slice, increment 1, type intra
+    slice_of('00001 0 1 1', blocks([127, 0, 0, 0], 127, 127))
+    slice_of('00001 0', '1 1' + GREY, '1 1' + GREY)
+    slice_of('00001 1 1 0000000 0 1 1', GREY)
+    slice_of('00001 1 1 0000000 1 10101010 0 1 1', GREY)
+    slice_of('00001 0 1 01 00010', GREY)
+    slice_of('00001 0 1 01 00000', GREY)
+    slice_of('00001 0 1 1', blocks([0] * 4, 0, 0, '0110'))
+    slice_of('00001 0 011 1', GREY)
+    slice_of('00001 0 1 1', GREY, '011 1', GREY)
+    slice_of('00001 0 1 1', blocks([-128, -1, 0, 0], 0, 0))
+    slice_of('00001 0 1 1 100', '0100 0', '011 1', escape(5, 40), '10', REST)
+    samples({0: 128, 1: 2, 3: -1, 9: 40}, 2, ZIGZAG)
+    slice_of('01001 0 1 1 100', '110 1', '00101 0', '1111000 1', escape(20, -7), '0110', REST_ONE)
+    samples({0: 128, 1: -2, 4: 1, 14: -1, 35: -7}, 10, ALTERNATE)
+
+    # the end of a sequence header from byte 11 on, with an intra matrix of which position i of the zigzag scan is
+    # 8 + 3 i, and the slice with coefficients in zigzag order by this matrix
+    slice_of('10000 0 1', *[format(8 + 3 * i, '08b') for i in range(64)], '0')
+    loaded = [0] * 64
+    for i in range(64):
+        loaded[ZIGZAG[i]] = 8 + 3 * i
+    samples({0: 128, 1: 2, 3: -1, 9: 40}, 2, ZIGZAG, loaded)
+
+
+if __name__ == '__main__':
+    main()
