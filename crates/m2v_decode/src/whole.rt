@@ -17,6 +17,7 @@ fn read_pieces<S: Source, K: Sink>(
     alloc: Global,
     cutter: &mut Cutter,
     decoder: &mut Decoder,
+    raw: &mut Vec<u8>,
     input: &mut S,
     output: &mut K,
 ) -> Result<(), DecodeError>
@@ -39,7 +40,7 @@ fn read_pieces<S: Source, K: Sink>(
             Ok(None) => return Ok(()),
             Ok(Some(piece)) => {
                 decoder.piece(alloc, &piece)?;
-                put_due(alloc, decoder, output)?;
+                put_due(alloc, decoder, raw, output)?;
             }
         }
     }
@@ -50,6 +51,7 @@ fn finish<K: Sink>(
     alloc: Global,
     end: u64,
     decoder: &mut Decoder,
+    raw: &mut Vec<u8>,
     output: &mut K,
 ) -> Result<Decoded, DecodeError>
     requires going { decoder.old.failed ≡ false }
@@ -66,7 +68,7 @@ fn finish<K: Sink>(
         Err(f) => return Err(DecodeError::Stream(f)),
         Ok(()) => {}
     }
-    put_due(alloc, decoder, output)?;
+    put_due(alloc, decoder, raw, output)?;
     Ok(Decoded {
         frames: decoder.shown(),
         pictures: decoder.pictures(),
@@ -92,8 +94,9 @@ fn by_pieces<S: Source, K: Sink>(
 {
     let mut cutter = Cutter::new(alloc)?;
     let mut decoder = Decoder::new(alloc)?;
-    read_pieces(alloc, &mut cutter, &mut decoder, input, output)?;
-    finish(alloc, cutter.end(), &mut decoder, output)
+    let mut raw = Vec::new(alloc);
+    read_pieces(alloc, &mut cutter, &mut decoder, &mut raw, input, output)?;
+    finish(alloc, cutter.end(), &mut decoder, &mut raw, output)
 }
 
 /// Decodes a stream: reads it to its end code or to the input's end, and writes the frames that it shows as raw video, in
