@@ -17,7 +17,7 @@ use Rattle.m2v_piece.specs.declared.answer.DecodeError.{DecodeError}
 use Rattle.m2v_piece.specs.declared.answer.DecodeError.TheVariants as errors
 use Rattle.m2v_piece.specs.Cutting.{Passes}
 use Rattle.m2v_decode.specs.declared.answer.Decoded.{Decoded}
-use Rattle.m2v_decode.specs.Answers.{Of, IsDecoded, IsFaulty, IsOver, Fails, AllFit, start_of, numbers_of}
+use Rattle.m2v_decode.specs.Answers.{OfText, IsDecoded, IsFaulty, IsOver, Fails, AllFit, start_of, numbers_of}
 use Rattle.m2v_decode.specs.Complete.{IsUnderLimits, IsPast, IsReached, IsLate, IsAnswered, Gives, counted, error_of}
 use Rattle.m2v_decode.proofs.LimitLaws.{over_fault, over_over}
 use Rattle.m2v_decode.proofs.Going.{ends_behind}
@@ -80,7 +80,7 @@ not_large text held o under = passes_none _ _ _ (fits_behind text (o.begun).firs
 
 -- ---- the input's bytes
 
-pub of_text : (left : Change) (Holds : List ℕ → Type 0) (text : List ℕ) → left.old ≡ Some text → Of left Holds → Holds text
+pub of_text : (left : Change) (Holds : List ℕ → Type 0) (text : List ℕ) → left.old ≡ Some text → OfText left Holds → Holds text
 of_text left Holds text is h = by_case left.new refl
   where
     by_case : (o : Option (List ℕ)) → left.new ≡ o → Holds text
@@ -183,7 +183,7 @@ module _ (left held : Change) (text : List ℕ) (is : left.old ≡ Some text) wh
   abbrev Why : DecodeError → Type 0
   Why e = Fails left held e
 
-  over_of : (e : DecodeError) → Of left (λ bytes. IsOver bytes held e) → IsOver text held e
+  over_of : (e : DecodeError) → OfText left (λ bytes. IsOver bytes held e) → IsOver text held e
   over_of e h = of_text left (λ bytes. IsOver bytes held e) text is h
 
   module _ (frames : List (List ℕ)) (d : Decodes text frames) (under : IsUnderLimits text) where
@@ -197,7 +197,7 @@ module _ (left held : Change) (text : List ℕ) (is : left.old ≡ Some text) wh
         let i = of_text left (λ bytes. IsFaulty bytes held f) text is h in
         absurd ((exactly_one text).not_both frames f.place f.kind d i.fault)
 
-    by_decodes : (result : Result Decoded DecodeError) → IfOk result (λ n. Of left (λ bytes. IsDecoded bytes held n)) → IfErr result Why → Gives left held (Ok (counted d)) result
+    by_decodes : (result : Result Decoded DecodeError) → IfOk result (λ n. OfText left (λ bytes. IsDecoded bytes held n)) → IfErr result Why → Gives left held (Ok (counted d)) result
     by_decodes (Ok n) ok err = Gives.as_said (ap Ok (shown_counted text frames d held n (of_text left (λ bytes. IsDecoded bytes held n) text is ok)))
     by_decodes (Err e) ok err = err_decodes e err
 
@@ -212,7 +212,7 @@ module _ (left held : Change) (text : List ℕ) (is : left.old ≡ Some text) wh
         let i = of_text left (λ bytes. IsFaulty bytes held g) text is h in
         Gives.as_said (ap (λ (x : Fault). Err (errors.Stream x)) (same_fault text g f i.fault at))
 
-    by_fault : (result : Result Decoded DecodeError) → IfOk result (λ n. Of left (λ bytes. IsDecoded bytes held n)) → IfErr result Why → Gives left held (Err (errors.Stream f)) result
+    by_fault : (result : Result Decoded DecodeError) → IfOk result (λ n. OfText left (λ bytes. IsDecoded bytes held n)) → IfErr result Why → Gives left held (Err (errors.Stream f)) result
     by_fault (Ok n) ok err =
         let i = of_text left (λ bytes. IsDecoded bytes held n) text is ok in
         absurd ((exactly_one text).not_both i.frames f.place f.kind i.decodes at)
@@ -227,7 +227,7 @@ module _ (left held : Change) (text : List ℕ) (is : left.old ≡ Some text) wh
     err_over errors.PictureTooLarge h = Gives.as_said (ap (λ (m : Limit). Err (error_of m)) (sym (past_large text l held past (over_of errors.PictureTooLarge h))))
     err_over (errors.Stream f) h = absurd (past_fault text l held f past (of_text left (λ bytes. IsFaulty bytes held f) text is h))
 
-    by_limit : (result : Result Decoded DecodeError) → IfOk result (λ n. Of left (λ bytes. IsDecoded bytes held n)) → IfErr result Why → Gives left held (Err (error_of l)) result
+    by_limit : (result : Result Decoded DecodeError) → IfOk result (λ n. OfText left (λ bytes. IsDecoded bytes held n)) → IfErr result Why → Gives left held (Err (error_of l)) result
     by_limit (Ok n) ok err = absurd (past_shown text l held n past (of_text left (λ bytes. IsDecoded bytes held n) text is ok))
     by_limit (Err e) ok err = err_over e err
 
@@ -243,14 +243,14 @@ module _ (left held : Change) (text : List ℕ) (is : left.old ≡ Some text) wh
         let start = i.start in
         absurd (omega (arith, start, late))
 
-    by_late : (result : Result Decoded DecodeError) → IfOk result (λ n. Of left (λ bytes. IsDecoded bytes held n)) → IfErr result Why → Gives left held (Err errors.TooLong) result
+    by_late : (result : Result Decoded DecodeError) → IfOk result (λ n. OfText left (λ bytes. IsDecoded bytes held n)) → IfErr result Why → Gives left held (Err errors.TooLong) result
     by_late (Ok n) ok err =
         let i = of_text left (λ bytes. IsDecoded bytes held n) text is ok in
         let start = i.start in
         absurd (omega (arith, start, late))
     by_late (Err e) ok err = err_late e err
 
-pub answered : (left held : Change) (result : Result Decoded DecodeError) → IfOk result (λ n. Of left (λ bytes. IsDecoded bytes held n)) → IfErr result (Fails left held) → Tells left (IsAnswered left held result)
+pub answered : (left held : Change) (result : Result Decoded DecodeError) → IfOk result (λ n. OfText left (λ bytes. IsDecoded bytes held n)) → IfErr result (Fails left held) → Tells left (IsAnswered left held result)
 answered left held result ok err = tells left (IsAnswered left held result) (λ text is. record {
   decodes = λ frames d under. by_decodes left held text is frames d under result ok err;
   faulty = λ f at r. by_fault left held text is f at r result ok err;

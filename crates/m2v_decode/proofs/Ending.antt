@@ -16,7 +16,7 @@ use Rattle.m2v_piece.specs.declared.answer.DecodeError.TheVariants as errors
 use Rattle.m2v_piece.specs.Cutting.{Cutting}
 use Rattle.m2v_decoder.specs.Decoding.{Decoding, at_start, between, due_of, Finished}
 use Rattle.m2v_decode.specs.declared.answer.Decoded.{Decoded}
-use Rattle.m2v_decode.specs.Answers.{start_of, AllFit, PiecesRead, behind, shown_by, IsDecoded, IsCut, Of, OfTaken, Fails}
+use Rattle.m2v_decode.specs.Answers.{start_of, AllFit, PiecesRead, place_behind, shown_by, IsDecoded, IsCut, OfText, OfTaken, Fails}
 use Rattle.m2v_decode.specs.Progress.{raw_of, before_all, Reached, IsDone, Ends, EndFails}
 use Rattle.m2v_decode.proofs.Ordering.{shown_is, agrees}
 use Rattle.m2v_decode.proofs.Going.{ends_behind, progress_none, moved_cut, shown_raw, faulty_at}
@@ -24,11 +24,11 @@ use Rattle.m2v_decode.proofs.Going.{ends_behind, progress_none, moved_cut, shown
 due_then : (d n : Decoding) (end : ℕ) → d.ready ≡ [] → Finished d end n → due_of n ≡ option_to_list d.anchor
 due_then d n end none f = rw (f.ready, f.ended, f.anchor, none) refl
 
-whole_read : (text : List ℕ) (es : Events) (st last : Between) → (b : PiecesRead text es st []) → end_read st (behind b) ≡ Ok ([], last) → text_read text ≡ Ok (es, last)
+whole_read : (text : List ℕ) (es : Events) (st last : Between) → (b : PiecesRead text es st []) → end_read st (place_behind b) ≡ Ok ([], last) → text_read text ≡ Ok (es, last)
 unfolding continued
 whole_read text es st last b read =
     text_rest text ∙ ap (rest_read text_start (start_of text)) (b.are) ∙ rest_read-append b.first [] text_start (start_of text)
-    ∙ rw b.read (ap (behind_events es) (rest_none st (behind b) ∙ read) ∙ ap (λ (t : Events). Ok (t, last)) (append-nil es))
+    ∙ rw b.read (ap (behind_events es) (rest_none st (place_behind b) ∙ read) ∙ ap (λ (t : Events). Ok (t, last)) (append-nil es))
 
 decodes_to : (text : List ℕ) (es : Events) (b : Between) → IsRead text es b → Decodes text (shown_by b es)
 decodes_to text es b r = record {
@@ -78,7 +78,7 @@ module _ {S K : Type 0} (left : S → Option (List ℕ)) (input_faults : S → �
       }
 
   pub done_ok : (i0 i1 : S) (o0 o1 o2 : K) (c : Cutting) (d : Decoding) (x : Decoded) → IsDone (input i0 i1) (output o0 o1) c d → Ends d c.place x (output o1 o2)
-      → Of (input i0 i1) (λ text. IsDecoded text (output o0 o2) x)
+      → OfText (input i0 i1) (λ text. IsDecoded text (output o0 o2) x)
   done_ok i0 i1 o0 o1 o2 c d x so e = record {
     bytes = so.bytes;
     moved = so.moved;

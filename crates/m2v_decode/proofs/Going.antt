@@ -27,7 +27,7 @@ use Rattle.m2v_piece.specs.Sound.{IsSoundPiece}
 use Rattle.m2v_piece.specs.Stepping.{Handed, Stopped, NextPiece, Keeps}
 use Rattle.m2v_model.specs.declared.notes.Notes.{Notes}
 use Rattle.m2v_decoder.specs.Decoding.{Decoding, at_start, between, due_of, dropped_in, Agrees, ShowsFrames, Advanced, Refuses, whole_of}
-use Rattle.m2v_decode.specs.Answers.{start_of, AllFit, PiecesRead, behind, HasFault, due_before, shown_by, IsFaulty, IsOver, IsCut, Of, OfTaken, Fails}
+use Rattle.m2v_decode.specs.Answers.{start_of, AllFit, PiecesRead, place_behind, HasFault, due_before, shown_by, IsFaulty, IsOver, IsCut, OfText, OfTaken, Fails}
 use Rattle.m2v_decode.specs.Progress.{raw_of, before_all, Cuts, HasPut, Reached, Progress, IsDone}
 use Rattle.m2v_decode.proofs.Putting.{raw-append}
 use Rattle.m2v_model.proofs.EventLaws.{pictures_in-append}
@@ -78,8 +78,8 @@ ready_none d going none = both_none d.ready _ none
 due_ready : (d : Decoding) → d.ended ≡ false → due_of d ≡ d.ready
 due_ready d going = rw going (append-nil d.ready)
 
-begun_more : (text : List ℕ) (ps qs : Events) (mid last : Between) (whole : List ℕ) (others : List (List ℕ)) → (b : PiecesRead text ps mid (whole ∷ others)) → limit (behind b) 0 whole ≡ None
-    → piece_read mid (behind b + length whole) whole ≡ Ok (qs, last) → PiecesRead text (ps ++ qs) last others
+begun_more : (text : List ℕ) (ps qs : Events) (mid last : Between) (whole : List ℕ) (others : List (List ℕ)) → (b : PiecesRead text ps mid (whole ∷ others)) → limit (place_behind b) 0 whole ≡ None
+    → piece_read mid (place_behind b + length whole) whole ≡ Ok (qs, last) → PiecesRead text (ps ++ qs) last others
 begun_more text ps qs mid last whole others b fits read = record {
   first = b.first ++ whole ∷ [];
   are = b.are ∙ sym (append_assoc b.first (whole ∷ []) others);
@@ -94,7 +94,7 @@ pub reached_more : (taken more : ℕ) (text : List ℕ) (start : ℕ) (whole : L
     → limit start 0 whole ≡ None → Advanced d start whole notes m → HasPut m n → start + length whole ≤ more → Reached more text (start + length whole) others (frames ++ due_of m) n
 unfolding begun_more
 reached_more taken more text start whole others frames d m n notes r none fits a put within =
-    let read : piece_read (between d) (behind r.begun + length whole) whole ≡ Ok (a.events, (between n)) =
+    let read : piece_read (between d) (place_behind r.begun + length whole) whole ≡ Ok (a.events, (between n)) =
     ap (λ (x : ℕ). piece_read (between d) (x + length whole) whole) (sym r.place) ∙ a.read ∙ ap (λ (z : Between). Ok (a.events, z)) (sym put.between_is) in
     let all : pictures_in (r.events ++ a.events) ≡ pictures_in r.events ++ pictures_in a.events = pictures_in-append r.events a.events in
     record {
@@ -166,14 +166,14 @@ unfolding continued
 continued_err r next f e = rw e refl
 
 -- the first fault of a text is looked at in the next piece
-faulty_text : (text : List ℕ) (kind : FaultKind) (place : ℕ) (es : Events) (st : Between) (others : List (List ℕ)) → (b : PiecesRead text es st others) → HasFault st (behind b) others kind place → FaultAt text place kind
+faulty_text : (text : List ℕ) (kind : FaultKind) (place : ℕ) (es : Events) (st : Between) (others : List (List ℕ)) → (b : PiecesRead text es st others) → HasFault st (place_behind b) others kind place → FaultAt text place kind
 unfolding continued pieces_read
 faulty_text text kind place es st [] b here = (by_pieces text).fault kind place (
     text_rest text ∙ ap (rest_read nothing_read (start_of text)) (b.are) ∙ rest_read-append b.first [] nothing_read (start_of text)
-    ∙ rw b.read (ap (behind_events es) (rest_none st (behind b) ∙ here.1)))
+    ∙ rw b.read (ap (behind_events es) (rest_none st (place_behind b) ∙ here.1)))
 faulty_text text kind place es st (p ∷ others) b here = (by_pieces text).fault kind place (
     text_rest text ∙ ap (rest_read nothing_read (start_of text)) (b.are) ∙ rest_read-append b.first (p ∷ others) nothing_read (start_of text)
-    ∙ rw b.read (ap (behind_events es) (rest_more st (behind b) p others ∙ continued_err (piece_read st (behind b + length p) p) (λ next. rest_read next (behind b + length p) others) (kind, place) here.1)))
+    ∙ rw b.read (ap (behind_events es) (rest_more st (place_behind b) p others ∙ continued_err (piece_read st (place_behind b + length p) p) (λ next. rest_read next (place_behind b + length p) others) (kind, place) here.1)))
 
 -- more bytes were taken
 reached_later : (taken more : ℕ) (text : List ℕ) (start : ℕ) (others : List (List ℕ)) (frames : List Samples) (d : Decoding) → taken ≤ more → Reached taken text start others frames d → Reached more text start others frames d
@@ -258,7 +258,7 @@ module _ {S K : Type 0} (left : S → Option (List ℕ)) (input_faults : S → �
   -- ---- where decoding stops
 
   abbrev Text : S → S → (List ℕ → Type 0) → Type 0
-  Text i0 i1 Holds = Of (input i0 i1) Holds
+  Text i0 i1 Holds = OfText (input i0 i1) Holds
 
   abbrev Cut : S → S → K → K → Type 0
   Cut i0 i1 o0 o1 = OfTaken (input i0 i1) (λ bytes text. IsCut bytes text (output o0 o1))

@@ -32,8 +32,8 @@ pub record PiecesRead (text : List ℕ) (es : Events) (b : Between) (others : Li
   pub read : pieces_read at_start (start_of text) first ≡ Ok (es, b)
 
 -- the place behind them
-abbrev pub behind : {text : List ℕ} {es : Events} {b : Between} {others : List (List ℕ)} → PiecesRead text es b others → ℕ
-behind {text} r = end_of (start_of text) r.first
+abbrev pub place_behind : {text : List ℕ} {es : Events} {b : Between} {others : List (List ℕ)} → PiecesRead text es b others → ℕ
+place_behind {text} r = end_of (start_of text) r.first
 
 -- the next piece has the first fault; behind the last one the end of the text, which an input may have there
 abbrev pub HasFault : Between → ℕ → List (List ℕ) → FaultKind → ℕ → Type 0
@@ -73,7 +73,7 @@ pub record IsFaulty (text : List ℕ) (held : Change) (f : Fault) : Type 0 where
   pub between : Between
   pub others : List (List ℕ)
   pub begun : PiecesRead text events between others
-  pub here : HasFault between (behind begun) others f.kind f.place
+  pub here : HasFault between (place_behind begun) others f.kind f.place
   pub grown : Grows held.old (raw (due_before between events)) held.new
 
 -- The next piece passes a limit, or the bytes before the first one do, and output has grown by the frames that are due
@@ -83,7 +83,7 @@ pub record IsOver (text : List ℕ) (held : Change) (e : DecodeError) : Type 0 w
   pub between : Between
   pub others : List (List ℕ)
   pub begun : PiecesRead text events between others
-  pub over : PieceStops (behind begun) others e
+  pub over : PieceStops (place_behind begun) others e
   pub grown : Grows held.old (raw (due_before between events)) held.new
 
 -- Output has grown by a prefix of the frames that the whole pictures in the first bytes of a text show.
@@ -92,11 +92,11 @@ pub record IsCut (bytes text : List ℕ) (held : Change) : Type 0 where
   pub between : Between
   pub others : List (List ℕ)
   pub begun : PiecesRead text events between others
-  pub within : 0 < length begun.first → behind begun ≤ length bytes
+  pub within : 0 < length begun.first → place_behind begun ≤ length bytes
   pub grown : GrowsByPrefix held.old (raw (shown_by between events)) held.new
 
 -- Some bytes of the input were read, and where the input tells its bytes, this holds of them and what is left.
-pub record Of (left : Change) (Holds : List ℕ → Type 0) : Type 0 where
+pub record OfText (left : Change) (Holds : List ℕ → Type 0) : Type 0 where
   pub bytes : List ℕ
   pub moved : Moves left.old bytes left.new
   pub told : (rest : List ℕ) → left.new ≡ Some rest → Holds (bytes ++ rest)
@@ -111,7 +111,7 @@ pub record OfTaken (left : Change) (Holds : List ℕ → List ℕ → Type 0) : 
 abbrev pub Fails : Change → Change → DecodeError → Type 0
 Fails left held errors.Read = left.Failed × OfTaken left (λ bytes text. IsCut bytes text held)
 Fails left held errors.Write = held.Failed × OfTaken left (λ bytes text. IsCut bytes text held)
-Fails left held (errors.Stream f) = Of left (λ text. IsFaulty text held f)
-Fails left held errors.TooLong = Of left (λ text. IsOver text held errors.TooLong)
-Fails left held errors.PictureTooLarge = Of left (λ text. IsOver text held errors.PictureTooLarge)
+Fails left held (errors.Stream f) = OfText left (λ text. IsFaulty text held f)
+Fails left held errors.TooLong = OfText left (λ text. IsOver text held errors.TooLong)
+Fails left held errors.PictureTooLarge = OfText left (λ text. IsOver text held errors.PictureTooLarge)
 Fails left held errors.Memory = OfTaken left (λ bytes text. IsCut bytes text held)

@@ -11,7 +11,7 @@ use Rattle.m2v_piece.specs.declared.answer.DecodeError.{DecodeError}
 use Rattle.m2v_piece.specs.declared.answer.DecodeError.TheVariants as errors
 use Rattle.m2v_piece.specs.Cutting.{Passes}
 use Rattle.m2v_decode.specs.declared.answer.Decoded.{Decoded}
-use Rattle.m2v_decode.specs.Answers.{AllFit, start_of, PiecesRead, behind, HasFault, numbers_of}
+use Rattle.m2v_decode.specs.Answers.{AllFit, start_of, PiecesRead, place_behind, HasFault, numbers_of}
 
 -- no piece of a text passes a limit, nor do the bytes before the first one
 pub record IsUnderLimits (text : List ℕ) : Type 0 where
@@ -28,7 +28,7 @@ pub record IsPast (text : List ℕ) (l : Limit) : Type 0 where
   pub between : Between
   pub others : List (List ℕ)
   pub begun : PiecesRead text events between others
-  pub passes : Passes (behind begun) l others
+  pub passes : Passes (place_behind begun) l others
 
 -- The piece with this fault, and those before it, pass no limit; the first one begins where an input may have bytes.
 pub record IsReached (text : List ℕ) (f : Fault) : Type 0 where
@@ -37,7 +37,7 @@ pub record IsReached (text : List ℕ) (f : Fault) : Type 0 where
   pub between : Between
   pub others : List (List ℕ)
   pub begun : PiecesRead text events between others
-  pub here : HasFault between (behind begun) others f.kind f.place
+  pub here : HasFault between (place_behind begun) others f.kind f.place
 
 -- the numbers of a text that decodes
 abbrev pub counted : {text : List ℕ} {frames : List (List ℕ)} → Decodes text frames → Decoded

@@ -12,7 +12,7 @@ use Rattle.m2v_piece.specs.declared.answer.DecodeError.TheVariants as errors
 use Rattle.m2v_piece.specs.Cutting.{Cutting, left_of, start_of as start_of_rest}
 use Rattle.m2v_decoder.specs.Decoding.{Decoding, between, due_of, dropped_in, Agrees, ShowsFrames, Finished}
 use Rattle.m2v_decode.specs.declared.answer.Decoded.{Decoded}
-use Rattle.m2v_decode.specs.Answers.{PiecesRead, behind}
+use Rattle.m2v_decode.specs.Answers.{PiecesRead, place_behind}
 
 -- frames as raw video
 abbrev pub raw_of : List Samples → List ℕ
@@ -46,7 +46,7 @@ pub record HasPut (old new : Decoding) : Type 0 where
 pub record Reached (taken : ℕ) (text : List ℕ) (start : ℕ) (others : List (List ℕ)) (frames : List Samples) (d : Decoding) : Type 0 where
   pub events : Events
   pub begun : PiecesRead text events (between d) others
-  pub place : start ≡ behind begun
+  pub place : start ≡ place_behind begun
   pub within : 0 < length begun.first → start ≤ taken
   pub shows : (low : Bool) → Agrees low d.state.first → ShowsFrames low None [] (pictures_in events) d.anchor frames
   pub counted : d.pictures ≡ length (pictures_in events)

@@ -11,7 +11,7 @@ use Rattle.m2v_piece.specs.declared.answer.Fault.{Fault}
 use Rattle.m2v_piece.specs.declared.answer.DecodeError.{DecodeError}
 use Rattle.m2v_piece.specs.declared.answer.DecodeError.TheVariants as errors
 use Rattle.m2v_decode.specs.declared.answer.Decoded.{Decoded}
-use Rattle.m2v_decode.specs.Answers.{Of, IsDecoded, IsFaulty, IsOver, Fails, AllFit, start_of}
+use Rattle.m2v_decode.specs.Answers.{OfText, IsDecoded, IsFaulty, IsOver, Fails, AllFit, start_of}
 use Rattle.m2v_decode.specs.Complete.{IsUnderLimits, IsPast, counted}
 use Rattle.m2v_decode.proofs.AnswerLaws.{not_long, not_large, of_text, shown_grown, shown_counted, same_fault, past_long, past_large, past_shown, past_fault}
 use Rattle.m2v_tool.specs.declared.outcome.Outcome.{Outcome}
@@ -36,13 +36,13 @@ decode_comes_of left held errors.Memory h = h
 -- ---- what was told
 
 module _ (r : Run) (text : List ℕ) (told : r.input.old ≡ Some text) where
-  over_of : (e : DecodeError) → Of r.input (λ bytes. IsOver bytes r.output e) → IsOver text r.output e
+  over_of : (e : DecodeError) → OfText r.input (λ bytes. IsOver bytes r.output e) → IsOver text r.output e
   over_of e c = of_text r.input (λ bytes. IsOver bytes r.output e) text told c
 
-  fault_of : (f : Fault) → Of r.input (λ bytes. IsFaulty bytes r.output f) → IsFaulty text r.output f
+  fault_of : (f : Fault) → OfText r.input (λ bytes. IsFaulty bytes r.output f) → IsFaulty text r.output f
   fault_of f c = of_text r.input (λ bytes. IsFaulty bytes r.output f) text told c
 
-  shown_of : (n : Decoded) → Of r.input (λ bytes. IsDecoded bytes r.output n) → IsDecoded text r.output n
+  shown_of : (n : Decoded) → OfText r.input (λ bytes. IsDecoded bytes r.output n) → IsDecoded text r.output n
   shown_of n c = of_text r.input (λ bytes. IsDecoded bytes r.output n) text told c
 
   past_long_at : IsOver text r.output errors.TooLong → Told TooLong r.status r.report → r.status ≡ 13 → Past r text too_long

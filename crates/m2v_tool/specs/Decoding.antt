@@ -8,7 +8,7 @@ use Rattle.m2v_model.specs.Pieces.{pieces, Limit, too_long, too_large}
 use Rattle.m2v_model.specs.Decoding.{Decodes, FaultAt}
 use Rattle.m2v_piece.specs.declared.answer.Fault.{Fault}
 use Rattle.m2v_piece.specs.declared.answer.DecodeError.TheVariants as errors
-use Rattle.m2v_decode.specs.Answers.{Of, IsDecoded, IsFaulty, IsOver, Fails, AllFit, start_of}
+use Rattle.m2v_decode.specs.Answers.{OfText, IsDecoded, IsFaulty, IsOver, Fails, AllFit, start_of}
 use Rattle.m2v_decode.specs.Complete.{IsUnderLimits, IsPast, counted, error_of}
 use Rattle.m2v_tool.specs.declared.outcome.Outcome.{Outcome}
 use Rattle.m2v_tool.specs.declared.outcome.Outcome.TheVariants as outcomes
@@ -18,7 +18,7 @@ use Rattle.m2v_tool.specs.Runs.{Run, Yields, NoneFailed, Succeeds}
 
 -- When each outcome of `decode` comes, and what stands then.
 unfoldable pub DecodeComes : Change → Change → Outcome → Type 0
-DecodeComes left held (outcomes.Shown d) = Of left (λ text. IsDecoded text held d)
+DecodeComes left held (outcomes.Shown d) = OfText left (λ text. IsDecoded text held d)
 DecodeComes left held (outcomes.Stream f) = Fails left held (errors.Stream f)
 DecodeComes left held outcomes.TooLong = Fails left held errors.TooLong
 DecodeComes left held outcomes.TooLarge = Fails left held errors.PictureTooLarge

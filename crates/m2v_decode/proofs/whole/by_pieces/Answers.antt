@@ -1,6 +1,6 @@
 use Rattle.std.proofs.lemmas.Result.{err_from_is_err_and, IfErr-weaker, IfOk-weaker}
 use Rattle.m2v_port.specs.Ends.{change}
-use Rattle.m2v_decode.specs.Answers.{Of, IsDecoded, Fails}
+use Rattle.m2v_decode.specs.Answers.{OfText, IsDecoded, Fails}
 use Rattle.m2v_decode.specs.Progress.{Ends, EndFails}
 use Rattle.m2v_decode.proofs.Ending.{nothing_read, done_ok, done_err}
 use Rattle.m2v_decode.proofs.whole.by_pieces.Goals as goal
@@ -22,7 +22,7 @@ returns-clause-ok g c =
     let output = change g.K.Sink.held g.K.Sink.faults c.args.output.now c.finish.new.output in
     IfOk-weaker c.finish.result
     (λ d. Ends c.read_pieces.new.decoder c.end.result d last)
-    (λ d. Of input (λ text. IsDecoded text output d))
+    (λ d. OfText input (λ text. IsDecoded text output d))
     (λ d ends. done_ok g.S.Source.left g.S.Source.faults g.K.Sink.held g.K.Sink.faults _ _ c.args.output.now c.read_pieces.new.output c.finish.new.output c.read_pieces.new.cutter c.read_pieces.new.decoder d c.in_ok-read_pieces.ensures.ok (rw c.end.ensures at ends))
     c.finish.ensures.ok
 
