@@ -141,7 +141,7 @@ pub past_large : (text : List ℕ) (l : Limit) (held : Change) → IsPast text l
 past_large text l held past o = one_limit text l too_large past (o.begun).first o.others (o.begun).are (o.begun).fit o.over
 
 -- a piece that begins behind the input's limit is too long, and not too large
-late_large : (text : List ℕ) (held : Change) → IsLate text → IsOver text held errors.PictureTooLarge → ⊥
+pub late_large : (text : List ℕ) (held : Change) → IsLate text → IsOver text held errors.PictureTooLarge → ⊥
 late_large text held late o =
     let low = ends_behind (start_of text) (o.begun).first in
     let is : too_large ≡ too_long = late_limit (end_of (start_of text) (o.begun).first) (o.over).whole too_large (omega (arith, low, late)) (o.over).decides in

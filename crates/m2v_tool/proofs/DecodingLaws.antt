@@ -1,5 +1,5 @@
 -- What follows from what `decode` did and what was told of it.
-use Rattle.std.proofs.Common.{◌≡◌, inl, inr, ℕ, List, Some, refl, sym, subst}
+use Rattle.std.proofs.Common.{◌≡◌, inl, inr, ℕ, ◌<◌, ◌≤◌, List, Some, refl, sym, subst, arith}
 use Rattle.m2v_port.specs.Ends.{Change}
 use Rattle.m2v_port.specs.Port.{Grows}
 use Rattle.m2v_port.proofs.Runs.{tells}
@@ -12,8 +12,8 @@ use Rattle.m2v_piece.specs.declared.answer.DecodeError.{DecodeError}
 use Rattle.m2v_piece.specs.declared.answer.DecodeError.TheVariants as errors
 use Rattle.m2v_decode.specs.declared.answer.Decoded.{Decoded}
 use Rattle.m2v_decode.specs.Answers.{OfText, IsDecoded, IsFaulty, IsOver, Fails, AllFit, start_of}
-use Rattle.m2v_decode.specs.Complete.{IsUnderLimits, IsPast, counted}
-use Rattle.m2v_decode.proofs.AnswerLaws.{not_long, not_large, of_text, shown_grown, shown_counted, same_fault, past_long, past_large, past_shown, past_fault}
+use Rattle.m2v_decode.specs.Complete.{IsUnderLimits, IsLate, IsPast, counted}
+use Rattle.m2v_decode.proofs.AnswerLaws.{not_long, not_large, of_text, shown_grown, shown_counted, same_fault, past_long, past_large, past_shown, past_fault, late_large}
 use Rattle.m2v_tool.specs.declared.outcome.Outcome.{Outcome}
 use Rattle.m2v_tool.specs.declared.outcome.Outcome.TheVariants.{Done, Shown, Usage, BadSettings, ShortFrame, NoFrames, TooManyFrames, ReadFault, WriteFault, Stream, NoMemory, TooLong, TooLarge}
 use Rattle.m2v_tool.specs.Outcomes.{outcome_after, status_of, status_unreported, line_of}
@@ -143,11 +143,35 @@ module _ (r : Run) (text : List ℕ) (told : r.input.old ≡ Some text) where
     stopped_at NoFrames c t = absurd c
     stopped_at TooManyFrames c t = absurd c
 
+  module _ (late : IsLate text) where
+    late_at : (o : Outcome) → DecodeComes r.input r.output o → Told o r.status r.report → Yields r (Past r text too_long)
+    unfolding DecodeComes status_of status_unreported
+    late_at (Shown n) c t =
+        let start = (shown_of n c).start in
+        absurd (omega (arith, start, late))
+    late_at (Stream f) c t =
+        let start = (fault_of f c).start in
+        absurd (omega (arith, start, late))
+    late_at TooLong c t =
+        let i = over_of errors.TooLong c in
+        or_memory r (Past r text too_long) 13 (refusal TooLong r.status 13 r.report t refl refl) (λ is. Yields.said (past_long_at i t is))
+    late_at TooLarge c t = absurd (late_large text r.output late (over_of errors.PictureTooLarge c))
+    late_at ReadFault c t = or_memory r (Past r text too_long) 7 (refusal ReadFault r.status 7 r.report t refl refl) (λ is. Yields.read is c.0)
+    late_at WriteFault c t = or_memory r (Past r text too_long) 8 (refusal WriteFault r.status 8 r.report t refl refl) (λ is. Yields.write is c.0)
+    late_at NoMemory c t = or_memory r (Past r text too_long) 12 (refusal NoMemory r.status 12 r.report t refl refl) (λ is. Yields.memory is)
+    late_at Usage c t = absurd c
+    late_at (Done s) c t = absurd c
+    late_at (BadSettings u) c t = absurd c
+    late_at (ShortFrame extra) c t = absurd c
+    late_at NoFrames c t = absurd c
+    late_at TooManyFrames c t = absurd c
+
 pub decode_keeps : (r : Run) (o : Outcome) → DecodeComes r.input r.output o → Told o r.status r.report → DecodeKeeps r
 decode_keeps r o c t = record {
   shown = tells r.input (λ text. (frames : List (List ℕ)) (d : Decodes text frames) → Yields r (Showed r d)) (λ text is frames d. shows_at r text is frames d o c t);
   faulty = tells r.input (λ text. (f : Fault) → FaultAt text f.place f.kind → Yields r (Refused r text f)) (λ text is f at. refuses_at r text is f o at c t);
   over = tells r.input (λ text. (l : Limit) → IsPast text l → Yields r (Past r text l)) (λ text is l past. stopped_at r text is l past o c t);
+  late = tells r.input (λ text. IsLate text → Yields r (Past r text too_long)) (λ text is late. late_at r text is late o c t);
   decoded = tells r.input (λ text. (frames : List (List ℕ)) → Decodes text frames → IsUnderLimits text → NoneFailed r → Succeeds r)
       (λ text is frames d under well. whole_shown r text is frames d under well (shows_at r text is frames d o c t));
 }

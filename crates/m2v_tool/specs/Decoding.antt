@@ -9,7 +9,7 @@ use Rattle.m2v_model.specs.Decoding.{Decodes, FaultAt}
 use Rattle.m2v_piece.specs.declared.answer.Fault.{Fault}
 use Rattle.m2v_piece.specs.declared.answer.DecodeError.TheVariants as errors
 use Rattle.m2v_decode.specs.Answers.{OfText, IsDecoded, IsFaulty, IsOver, Fails, AllFit, start_of}
-use Rattle.m2v_decode.specs.Complete.{IsUnderLimits, IsPast, counted, error_of}
+use Rattle.m2v_decode.specs.Complete.{IsUnderLimits, IsLate, IsPast, counted, error_of}
 use Rattle.m2v_tool.specs.declared.outcome.Outcome.{Outcome}
 use Rattle.m2v_tool.specs.declared.outcome.Outcome.TheVariants as outcomes
 use Rattle.m2v_tool.specs.Outcomes.{line_of}
@@ -62,9 +62,11 @@ pub data Refused (r : Run) (text : List ℕ) (f : Fault) : Type 0 where
 
 -- What is answered to `decode`: a stream that decodes is decoded to its frames, or refused where it passes a limit; one
 -- that doesn't decode is refused by its first fault, or by a limit before it; one that passes a limit before a fault is
--- refused by that limit; and one under the limits that decodes is decoded.
+-- refused by that limit; one of more bytes than an input may have, with no sequence header before the last of these, is too
+-- long; and one under the limits that decodes is decoded.
 pub record DecodeKeeps (r : Run) : Type 0 where
   pub shown : Tells r.input (λ text. (frames : List (List ℕ)) (d : Decodes text frames) → Yields r (Showed r d))
   pub faulty : Tells r.input (λ text. (f : Fault) → FaultAt text f.place f.kind → Yields r (Refused r text f))
   pub over : Tells r.input (λ text. (l : Limit) → IsPast text l → Yields r (Past r text l))
+  pub late : Tells r.input (λ text. IsLate text → Yields r (Past r text too_long))
   pub decoded : Tells r.input (λ text. (frames : List (List ℕ)) → Decodes text frames → IsUnderLimits text → NoneFailed r → Succeeds r)
