@@ -25,7 +25,6 @@ use m2v_plane::{Frame, RefView, RowSamples};
 use m2v_pred::{Block16, MbPlace};
 
 /// What is chosen of a macroblock of the source.
-#[inline(always)]
 fn chosen<V: RefView>(
     source: &Frame,
     forward: &V,
