@@ -1,0 +1,10 @@
+pub mod Firsts
+pub mod Merging
+pub mod Displaying
+pub mod Placing
+pub mod Framing
+pub mod RuleLaws
+pub mod AmountLaws
+pub mod CourseLaws
+pub mod SetupLaws
+pub mod Accounting
