@@ -1,5 +1,6 @@
 pub mod LineLaws
 pub mod WordLaws
+pub mod EndingLaws
 pub mod CodingLaws
 pub mod DecodingLaws
 pub mod RunLaws
