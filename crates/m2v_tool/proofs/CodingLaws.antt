@@ -21,13 +21,13 @@ use Rattle.m2v_flat.specs.Recon.{FlatRecon}
 use Rattle.m2v_flat.proofs.Passing.{in_bounds}
 use Rattle.m2v_model.proofs.Unique.{exactly_one}
 use Rattle.m2v_flat.proofs.Streams.{flat_decodes}
-use Rattle.m2v_tool.specs.declared.words.FlatWords.{FlatWords}
+use Rattle.m2v_tool.specs.declared.flat.FlatWords.{FlatWords}
 use Rattle.m2v_tool.specs.declared.flat.FlatOutcome.{FlatOutcome}
 use Rattle.m2v_tool.specs.declared.flat.FlatOutcome.TheVariants.{Coded, Unfit, Stopped}
 use Rattle.m2v_tool.specs.Endings.{Told, whole, cut}
 use Rattle.m2v_tool.specs.Words.{settings_of, WordsPass, WordsFail}
 use Rattle.m2v_tool.specs.Coding.{DecodesBack, FlatDone, FlatStopped, FlatComes, coding_stopped, flat_ending, AreFrames, EndInside, FlatAnswer, FlatKeeps}
-use Rattle.m2v_tool.specs.Runs.{Run, Yields, RefusedBy, NoneFailed, Succeeds}
+use Rattle.m2v_tool.specs.Runs.{Run, work_of, IsUntouched, Yields, RefusedBy, NoneFailed, Succeeds}
 use Rattle.m2v_tool.proofs.EndingLaws.{refusal, or_memory}
 
 -- ---- how many bytes an input had
@@ -190,4 +190,13 @@ module _ (r : Run) (w : FlatWords) where
     answer = tells r.input (λ bytes. Yields r (FlatAnswer r w (length bytes))) (λ bytes is. answer_at bytes is o c t);
     coded = tells r.input (λ bytes. WordsPass w → AreFrames (frame_bytes (settings_of w).dims) (length bytes) → NoneFailed r → Succeeds r)
         (λ bytes is passes frames well. whole_answer (length bytes) passes frames well (answer_at bytes is o c t));
+  }
+
+  -- where memory ran out before the words were read
+  pub flat_unread : IsUntouched (work_of r) → r.status ≡ 12 → FlatKeeps w r
+  flat_unread untouched is = record {
+    unfit = λ fails. (inr is, untouched);
+    answer = tells r.input (λ bytes. Yields r (FlatAnswer r w (length bytes))) (λ bytes told. Yields.memory is);
+    coded = tells r.input (λ bytes. WordsPass w → AreFrames (frame_bytes (settings_of w).dims) (length bytes) → NoneFailed r → Succeeds r)
+        (λ bytes told passes frames well. inr is);
   }

@@ -168,3 +168,14 @@ decode_keeps r o c t = record {
   decoded = tells r.input (λ text. (frames : List (List ℕ)) → Decodes text frames → IsUnderLimits text → NoneFailed r → Succeeds r)
       (λ text is frames d under well. whole_shown r text is frames d under well (shows_at r text is frames d o c t));
 }
+
+-- where memory ran out before the words were read
+pub decode_unread : (r : Run) → r.status ≡ 12 → DecodeKeeps r
+decode_unread r is = record {
+  shown = tells r.input (λ text. (frames : List (List ℕ)) (d : Decodes text frames) → Yields r (Showed r d)) (λ text told frames d. Yields.memory is);
+  faulty = tells r.input (λ text. (f : Fault) → FaultAt text f.place f.kind → Yields r (Refused r text f)) (λ text told f at. Yields.memory is);
+  over = tells r.input (λ text. (l : Limit) → IsPast text l → Yields r (Past r text l)) (λ text told l past. Yields.memory is);
+  late = tells r.input (λ text. IsLate text → Yields r (Past r text too_long)) (λ text told late. Yields.memory is);
+  decoded = tells r.input (λ text. (frames : List (List ℕ)) → Decodes text frames → IsUnderLimits text → NoneFailed r → Succeeds r)
+      (λ text told frames d under well. inr is);
+}

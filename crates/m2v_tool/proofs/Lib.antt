@@ -1,4 +1,5 @@
 pub mod LineLaws
+pub mod NumberLaws
 pub mod WordLaws
 pub mod EndingLaws
 pub mod CodingLaws

@@ -11,7 +11,7 @@ use Rattle.m2v_flat.specs.Flat.{Flat}
 use Rattle.m2v_flat.specs.Recon.{FlatRecon}
 use Rattle.m2v_model.specs.declared.fault.FaultKind.{FaultKind}
 use Rattle.m2v_model.specs.Decoding.{Decodes, FaultAt}
-use Rattle.m2v_tool.specs.declared.words.FlatWords.{FlatWords}
+use Rattle.m2v_tool.specs.declared.flat.FlatWords.{FlatWords}
 use Rattle.m2v_tool.specs.declared.flat.FlatOutcome.{FlatOutcome}
 use Rattle.m2v_tool.specs.declared.flat.FlatOutcome.TheVariants.{Coded, Unfit, Stopped}
 use Rattle.m2v_tool.specs.Endings.{Ending, plain, read_fault, write_fault, no_memory}

@@ -1,20 +1,21 @@
 -- What the program does for all words: a line a command in each definition.
 use Rattle.std.specs.Prelude.{ℕ, ◌≡◌, List}
-use Rattle.m2v_tool.specs.declared.words.FlatWords.{FlatWords}
-use Rattle.m2v_tool.specs.declared.words.Command.{Command}
-use Rattle.m2v_tool.specs.declared.words.Command.TheVariants as commands
+use Rattle.m2v_tool.specs.declared.flat.FlatWords.{FlatWords}
+use Rattle.m2v_tool.specs.declared.command.Command.{Command}
+use Rattle.m2v_tool.specs.declared.command.Command.TheVariants as commands
 use Rattle.m2v_tool.specs.declared.command.Outcome.{Outcome}
 use Rattle.m2v_tool.specs.declared.command.Outcome.TheVariants as outcomes
 use Rattle.m2v_tool.specs.Words.{Means, NoCommand}
 use Rattle.m2v_tool.specs.Runs.{Run, Work, work_of, IsUntouched, RefusedBy}
-use Rattle.m2v_tool.specs.Endings.{Ending, Told, usage}
+use Rattle.m2v_tool.specs.Endings.{Ending, Told, usage, no_memory}
 use Rattle.m2v_tool.specs.Coding.{FlatComes, FlatKeeps, flat_ending}
 use Rattle.m2v_tool.specs.Decoding.{DecodeComes, DecodeKeeps, decode_ending}
 
 -- When each outcome comes, and what stands then: words that mean no command are refused, and else comes what their
--- command gives.
+-- command gives. Where memory ran out before the words were read, nothing else is looked at.
 unfoldable pub Comes : List (List ℕ) → Work → Outcome → Type 0
 Comes words k outcomes.Usage = NoCommand words × IsUntouched k
+Comes words k outcomes.NoMemory = IsUntouched k
 Comes words k (outcomes.Flat o) =
     (w : FlatWords) × Means words (commands.Flat w) × FlatComes w k.input k.output o × k.recon.Unchanged
 Comes words k (outcomes.Decode o) = Means words commands.Decode × DecodeComes k.input k.output o × k.recon.Unchanged
@@ -22,6 +23,7 @@ Comes words k (outcomes.Decode o) = Means words commands.Decode × DecodeComes k
 -- the status and the line of each outcome
 unfoldable pub ending_of : Outcome → Ending
 ending_of outcomes.Usage = usage
+ending_of outcomes.NoMemory = no_memory
 ending_of (outcomes.Flat o) = flat_ending o
 ending_of (outcomes.Decode o) = decode_ending o
 

@@ -1,3 +1,4 @@
+pub mod Simple
 pub mod Words
 pub mod Endings
 pub mod Runs

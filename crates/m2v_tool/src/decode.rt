@@ -1,14 +1,23 @@
-ghost use Rattle.std.specs.Prelude.{◌≡◌, ◌≤◌, IfOk, IsTrue};
+ghost use Rattle.std.specs.Prelude.{◌≡◌, ◌≤◌, codes, map, string_bytes, IfOk, IsTrue};
 ghost use Rattle.m2v_port.specs.Ends.{change, SinkStays};
 ghost use Rattle.m2v_tool.specs.Endings.{IsReport};
+ghost use Rattle.m2v_tool.specs.Simple.{stands_alone};
 ghost use Rattle.m2v_tool.specs.Decoding.{DecodeComes, decode_ending, decoding_stopped};
 
 use crate::report::{
     Report, no_memory, read_fault, stream_fault, too_large, too_long, write_fault,
 };
+use crate::words::stands_alone;
 use m2v_decode::{DecodeError, Decoded, decode};
 use m2v_port::{Sink, Source};
 use std::alloc::{AllocError, Global};
+
+/// Whether the words behind `decode` are taken.
+pub(crate) fn decode_words(alloc: Global, words: &[String]) -> Result<bool, AllocError>
+    ensures { IfOk result (λ b. b ≡ stands_alone (codes "decode") (map string_bytes words.now)) }
+{
+    stands_alone(alloc, "decode", words)
+}
 
 /// What came of `decode`.
 #[derive(Clone, Copy, Debug, PartialEq, Eq)]

@@ -1,14 +1,66 @@
-ghost use Rattle.std.specs.Prelude.{◌≡◌, ◌≤◌, IfOk, IsTrue};
+ghost use Rattle.std.specs.Prelude.{◌≡◌, ◌≤◌, map, string_bytes, IfOk, IsTrue};
+ghost use Rattle.clap.specs.Walk.{rows_of};
+ghost use Rattle.clap.specs.Matches.{found_of};
+ghost use Rattle.clap.specs.Simple.{app_of};
 ghost use Rattle.m2v_port.specs.Ends.{change, SinkStays};
 ghost use Rattle.m2v_tool.specs.Endings.{IsReport};
+ghost use Rattle.m2v_tool.specs.Words.{flat_app, flat_meant, flat_of};
 ghost use Rattle.m2v_tool.specs.Coding.{FlatComes, coding_stopped, flat_ending};
 
 use crate::report::{Report, no_memory, read_fault, write_fault};
-use crate::words::FlatWords;
+use crate::words::{number_word, required, simple, taken};
+use clap::{ArgMatches, Command};
 use m2v_flat::{EncodeError, FlatSettings, Summary, flat};
 use m2v_port::{Sink, Source};
 use m2v_set::{Unfit, test_flat};
 use std::alloc::{AllocError, Global};
+
+/// The numbers of the words `flat W H CODE Q`, whatever they are.
+#[derive(Clone, Copy, Debug, PartialEq, Eq)]
+pub struct FlatWords {
+    /// Luma samples in a line.
+    pub width: u32,
+    /// Lines of a frame.
+    pub height: u32,
+    /// The frame rate code.
+    pub rate_code: u32,
+    /// The quantiser code.
+    pub quantiser: u32,
+}
+
+/// The words behind `flat`: W H CODE Q.
+fn flat_command<'a>(alloc: Global) -> Result<Command<'a>, AllocError>
+    ensures { IfOk result (λ c. app_of c ≡ flat_app) }
+{
+    simple(alloc, "flat")
+        .arg(number_word(alloc, "W"))?
+        .arg(number_word(alloc, "H"))?
+        .arg(number_word(alloc, "CODE"))?
+        .arg(number_word(alloc, "Q"))
+}
+
+/// The numbers of the words behind `flat`.
+#[tactic(auto, unfolding(crate::specs::Words::flat_of))]
+fn flat_of(matches: &ArgMatches) -> FlatWords
+    ensures { result ≡ flat_of (rows_of (found_of matches.now)) }
+{
+    FlatWords {
+        width: required(matches, "W"),
+        height: required(matches, "H"),
+        rate_code: required(matches, "CODE"),
+        quantiser: required(matches, "Q"),
+    }
+}
+
+/// What the words behind `flat` mean, where they are taken.
+pub(crate) fn flat_words(alloc: Global, words: &[String]) -> Result<Option<FlatWords>, AllocError>
+    ensures { IfOk result (λ w. w ≡ flat_meant (map string_bytes words.now)) }
+{
+    match taken(flat_command(alloc)?, words)? {
+        Some(matches) => Ok(Some(flat_of(&matches))),
+        None => Ok(None),
+    }
+}
 
 /// What came of `flat`.
 #[derive(Clone, Copy, Debug, PartialEq, Eq)]

@@ -3,13 +3,12 @@ ghost use Rattle.m2v_port.specs.Ends.{change, SinkStays};
 ghost use Rattle.m2v_tool.specs.Endings.{Told};
 ghost use Rattle.m2v_tool.specs.Commands.{Comes, Kept, ending_of};
 
-use crate::command::Outcome;
+use crate::command::{Command, Outcome, meaning};
 use crate::decode::decoded;
 use crate::flat::coded;
 use crate::report::Report;
-use crate::words::{Command, meaning};
 use m2v_port::{NamedSink, PortError, Sink, Source};
-use std::alloc::Global;
+use std::alloc::{AllocError, Global};
 
 /// How the program ends: its exit status.
 #[derive(Clone, Copy, Debug, PartialEq, Eq)]
@@ -36,10 +35,11 @@ fn carried_out<S: Source, K: Sink, N: NamedSink>(
     ensures output { SinkStays K.ready K.name K.faults output.old output.new }
     ensures input { S.faults input.old ≤ S.faults input.new }
 {
-    match meaning(words) {
-        Some(Command::Flat(meant)) => Outcome::Flat(coded(alloc, &meant, input, output)),
-        Some(Command::Decode) => Outcome::Decode(decoded(alloc, input, output)),
-        None => Outcome::Usage,
+    match meaning(alloc, words) {
+        Ok(Some(Command::Flat(meant))) => Outcome::Flat(coded(alloc, &meant, input, output)),
+        Ok(Some(Command::Decode)) => Outcome::Decode(decoded(alloc, input, output)),
+        Ok(None) => Outcome::Usage,
+        Err(AllocError) => Outcome::NoMemory,
     }
 }
 
