@@ -17,8 +17,10 @@ unfoldable pub Comes : List (List ℕ) → Work → Outcome → Type 0
 Comes words k outcomes.Usage = NoCommand words × IsUntouched k
 Comes words k outcomes.NoMemory = IsUntouched k
 Comes words k (outcomes.Flat o) =
-    (w : FlatWords) × Means words (commands.Flat w) × FlatComes w k.input k.output o × k.recon.Unchanged
-Comes words k (outcomes.Decode o) = Means words commands.Decode × DecodeComes k.input k.output o × k.recon.Unchanged
+    (w : FlatWords) × Means words (commands.Flat w) × FlatComes w k.input k.output o
+    × k.recon.Unchanged
+Comes words k (outcomes.Decode o) =
+    Means words commands.Decode × DecodeComes k.input k.output o × k.recon.Unchanged
 
 -- the status and the line of each outcome
 unfoldable pub ending_of : Outcome → Ending

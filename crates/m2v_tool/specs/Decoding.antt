@@ -51,11 +51,14 @@ pub record Past (r : Run) (text : List ℕ) (l : Limit) : Type 0 where
 
 -- What `decode` answers to a text that decodes: where no piece passes a limit status 0 with its frames on output and its
 -- line on report, or 8 where the report's count rose then; else a limit.
-pub data Showed (r : Run) {text : List ℕ} {frames : List (List ℕ)} (d : Decodes text frames) : Type 0 where
-  shown : r.status ≡ 0 → AllFit (start_of text) (pieces text) → Grows r.output.old (raw frames) r.output.new
+pub data Showed (r : Run) {text : List ℕ} {frames : List (List ℕ)} (d : Decodes text frames)
+    : Type 0 where
+  shown : r.status ≡ 0 → AllFit (start_of text) (pieces text)
+      → Grows r.output.old (raw frames) r.output.new
       → Grows r.report.old (line_of (shown_ending (counted d))) r.report.new → Showed r d
   unreported : r.status ≡ 8 → r.report.Failed → AllFit (start_of text) (pieces text)
-      → Grows r.output.old (raw frames) r.output.new → Told (shown_ending (counted d)) r.status r.report → Showed r d
+      → Grows r.output.old (raw frames) r.output.new
+      → Told (shown_ending (counted d)) r.status r.report → Showed r d
   past : (l : Limit) → (IsUnderLimits text → ⊥) → Past r text l → Showed r d
 
 -- What it answers to a text with this first fault: status 9 with the frames due before on output and the fault's line on
@@ -76,5 +79,5 @@ pub record DecodeKeeps (r : Run) : Type 0 where
       (f : Fault) → FaultAt text f.place f.kind → Yields r (Refused r text f))
   pub over : Tells r.input (λ text. (l : Limit) → IsPast text l → Yields r (Past r text l))
   pub late : Tells r.input (λ text. IsLate text → Yields r (Past r text too_long))
-  pub decoded : Tells r.input (λ text. (frames : List (List ℕ)) → Decodes text frames → IsUnderLimits text
-      → NoneFailed r → Succeeds r)
+  pub decoded : Tells r.input (λ text. (frames : List (List ℕ)) → Decodes text frames
+      → IsUnderLimits text → NoneFailed r → Succeeds r)

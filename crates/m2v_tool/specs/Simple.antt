@@ -1,5 +1,5 @@
--- What `clap` makes of the words behind a command's name: each command has a simple command of `clap`, without a name
--- before its words, without `--help` and without subcommands.
+-- What `clap` makes of the words behind a command's name: for each command a simple command of `clap` reads them, without
+-- help, version and subcommands.
 use Rattle.std.specs.Prelude.{ℕ, ◌≡◌, Bool, true, false, List, [], ◌∷◌, Option, Some, None, pos, codes, option_and_then, is_some, unwrap_or, if◌then◌else◌}
 use Rattle.std.specs.Str.Parse.{digits_value, without_leading_plus}
 use Rattle.clap.specs.ValueTests.{accepts}
@@ -31,7 +31,8 @@ taken a words = if is_empty (fault_of a words) then Some (matches_of a words) el
 -- the number that a text writes, a plus before it or not, where it fits 32 bits
 unfoldable pub u32_of : Text → Option ℕ
 u32_of text =
-    if accepts false (parsers.Unsigned 0 4294967295) text then Some (digits_value 10 (without_leading_plus text)) else None
+    if accepts false (parsers.Unsigned 0 4294967295) text
+    then Some (digits_value 10 (without_leading_plus text)) else None
 
 -- the number that was given under this id
 unfoldable pub number_in : Text → List Row → Option ℕ

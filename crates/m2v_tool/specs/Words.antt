@@ -14,7 +14,8 @@ use Rattle.m2v_tool.specs.Simple.{simple, number_word, taken, required, stands_a
 -- the words behind `flat`: W H CODE Q
 abbrev pub flat_app : App
 flat_app = simple (codes "flat")
-    (number_word (codes "W") ∷ number_word (codes "H") ∷ number_word (codes "CODE") ∷ number_word (codes "Q") ∷ [])
+    (number_word (codes "W") ∷ number_word (codes "H")
+    ∷ number_word (codes "CODE") ∷ number_word (codes "Q") ∷ [])
 
 -- their numbers
 unfoldable pub flat_of : List Row → FlatWords
@@ -45,7 +46,11 @@ NoCommand words = (c : Command) → Means words c → ⊥
 
 -- the settings of the flat profile that words are
 abbrev pub settings_of : FlatWords → FlatSettings
-settings_of w = record { dims = flat_dims w.width w.height; rate_code = w.rate_code; quantiser = w.quantiser }
+settings_of w = record {
+  dims = flat_dims w.width w.height;
+  rate_code = w.rate_code;
+  quantiser = w.quantiser;
+}
 
 -- whether these pass their part of the published test, and the first condition that fails
 abbrev pub WordsPass : FlatWords → Type 0

@@ -49,7 +49,8 @@ impl Outcome {
 /// What the word that names a command means with those behind it.
 fn meant_by(alloc: Global, name: &str, others: &[String]) -> Result<Option<Command>, AllocError>
     ensures found { IfOk result (λ m. IfSome m (MeansBy name.now (map string_bytes others.now))) }
-    ensures none { IfOk result (λ m. IsNone m → (c : Command) → MeansBy name.now (map string_bytes others.now) c → ⊥) }
+    ensures none { IfOk result (λ m. IsNone m
+        → (c : Command) → MeansBy name.now (map string_bytes others.now) c → ⊥) }
 {
     match name {
         "flat" => match flat_words(alloc, others)? {

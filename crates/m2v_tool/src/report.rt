@@ -131,7 +131,8 @@ fn print(alloc: Global, texts: &[&str], numbers: &[u128]) -> Result<Vec<u8>, All
 
 /// Appends number i in decimal, where there is one.
 fn push_number(line: &mut Vec<u8>, numbers: &[u128], i: usize) -> Result<(), AllocError>
-    ensures { OnOk result (line.new.items ≡ line.old.items ++ (if nat_lt i (length numbers.now) then decimal (slice_index numbers.now i) else [])) }
+    ensures { OnOk result (line.new.items ≡ line.old.items
+        ++ (if nat_lt i (length numbers.now) then decimal (slice_index numbers.now i) else [])) }
 {
     if i < numbers.len() {
         let mut buffer = Buffer::new();

@@ -53,7 +53,8 @@ fn status_unreported(report: &Report) -> u8
 /// Puts the line of an outcome on report, and gives the status.
 fn reported<E: Sink>(alloc: Global, outcome: &Outcome, report: &mut E) -> Status
     requires { IsTrue (E.ready report.old) }
-    ensures told { Told (ending_of outcome.now) result.code (change E.held E.faults report.old report.new) }
+    ensures told { Told (ending_of outcome.now) result.code
+        (change E.held E.faults report.old report.new) }
     ensures report { SinkStays E.ready E.name E.faults report.old report.new }
 {
     let Ok(own) = outcome.report(alloc) else {

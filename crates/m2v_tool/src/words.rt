@@ -16,7 +16,8 @@ pub(crate) fn taken<'a>(
     words: &'a [String],
 ) -> Result<Option<ArgMatches<'a>>, AllocError>
     requires { is_simple_and_free (app_of command) ≡ true }
-    ensures { IfOk result (λ o. option_map (λ m. rows_of (found_of m)) o ≡ taken (app_of command.entry) (map string_bytes words.now)) }
+    ensures { IfOk result (λ o. option_map (λ m. rows_of (found_of m)) o
+        ≡ taken (app_of command.entry) (map string_bytes words.now)) }
 {
     match command.try_get_matches_from(words) {
         Ok(matches) => Ok(Some(matches)),
