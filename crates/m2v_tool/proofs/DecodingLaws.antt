@@ -1,6 +1,5 @@
 -- What follows from what `decode` did and what was told of it.
-use Rattle.std.proofs.Common.{◌≡◌, inl, inr, ℕ, ◌<◌, ◌≤◌, List, Some, refl, sym, subst, arith}
-use Rattle.m2v_port.specs.Ends.{Change}
+use Rattle.std.proofs.Common.{◌≡◌, inl, inr, ℕ, List, Some, refl, sym, subst, arith}
 use Rattle.m2v_port.specs.Port.{Grows}
 use Rattle.m2v_port.proofs.Runs.{tells}
 use Rattle.m2v_plane.specs.Raw.{raw}

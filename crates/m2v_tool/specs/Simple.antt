@@ -1,6 +1,6 @@
 -- What `clap` makes of the words behind a command's name: for each command a simple command of `clap` reads them, without
 -- help, version and subcommands.
-use Rattle.std.specs.Prelude.{ℕ, ◌≡◌, Bool, true, false, List, [], ◌∷◌, Option, Some, None, pos, codes, option_and_then, is_some, unwrap_or, if◌then◌else◌}
+use Rattle.std.specs.Prelude.{ℕ, Bool, true, false, List, [], Option, Some, None, pos, option_and_then, is_some, unwrap_or, if◌then◌else◌}
 use Rattle.std.specs.Str.Parse.{digits_value, without_leading_plus}
 use Rattle.clap.specs.ValueTests.{accepts}
 use Rattle.clap.specs.Walk.{Row, Rule, Text, is_empty, one_of}

@@ -1,5 +1,5 @@
 -- The words of the commands: the first one names the command, and those behind it mean what `clap` makes of them.
-use Rattle.std.specs.Prelude.{ℕ, ◌≡◌, Bool, true, List, [], ◌∷◌, Option, Some, option_map, is_some, codes}
+use Rattle.std.specs.Prelude.{◌≡◌, true, List, [], ◌∷◌, Option, Some, option_map, codes}
 use Rattle.clap.specs.Walk.{Row, Text}
 use Rattle.clap.specs.Simple.{App}
 use Rattle.m2v_set.specs.Numbers.{flat_dims}
