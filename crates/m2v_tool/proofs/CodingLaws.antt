@@ -1,5 +1,5 @@
 -- What follows from what `flat` did and what was told of it.
-use Rattle.std.proofs.Common.{◌≡◌, ◌⊎◌, inl, inr, ℕ, suc, ◌*◌, ◌<◌, ◌≤◌, All, List, [], ◌∷◌, ◌++◌, length, Option, Some, None, IfSome, refl, sym, ap, subst, ◌∙◌, arith, length-append}
+use Rattle.std.proofs.Common.{◌≡◌, inl, inr, ℕ, suc, ◌*◌, ◌<◌, ◌≤◌, All, List, [], ◌∷◌, ◌++◌, length, Option, Some, None, IfSome, refl, sym, ap, subst, ◌∙◌, arith, length-append}
 use Rattle.std.specs.Option.{option_map}
 use Rattle.std.proofs.lemmas.Bool.{cases_lt}
 use Rattle.std.proofs.Math.Nat.{suc-mul, mul-pos, mul-le-mul_right}
@@ -10,7 +10,7 @@ use Rattle.m2v_plane.specs.declared.dims.Dims.{Dims}
 use Rattle.m2v_plane.specs.Sizes.{IsSize}
 use Rattle.m2v_plane.specs.Raw.{frame_bytes, raw}
 use Rattle.m2v_set.specs.Numbers.{flat_dims}
-use Rattle.m2v_set.specs.declared.unfit.Unfit.{Unfit}
+use Rattle.m2v_set.specs.declared.unfit.Unfit.{Unfit as Unfits}
 use Rattle.m2v_flat.specs.declared.answer.EncodeError.{EncodeError}
 use Rattle.m2v_flat.specs.declared.answer.EncodeError.TheVariants as Error
 use Rattle.m2v_flat.specs.declared.settings.FlatSettings.{FlatSettings}
@@ -21,14 +21,14 @@ use Rattle.m2v_flat.specs.Recon.{FlatRecon}
 use Rattle.m2v_flat.proofs.Passing.{in_bounds}
 use Rattle.m2v_model.proofs.Unique.{exactly_one}
 use Rattle.m2v_flat.proofs.Streams.{flat_decodes}
-use Rattle.m2v_tool.specs.declared.words.FlatWords.{FlatWords}
-use Rattle.m2v_tool.specs.declared.outcome.Outcome.{Outcome}
-use Rattle.m2v_tool.specs.declared.outcome.Outcome.TheVariants.{Done, Shown, Usage, BadSettings, ShortFrame, NoFrames, TooManyFrames, ReadFault, WriteFault, Stream, NoMemory, TooLong, TooLarge}
-use Rattle.m2v_tool.specs.Outcomes.{outcome_of, status_of, status_unreported}
-use Rattle.m2v_tool.specs.Reports.{Told, whole, cut}
+use Rattle.m2v_tool.specs.declared.flat.FlatWords.{FlatWords}
+use Rattle.m2v_tool.specs.declared.flat.FlatOutcome.{FlatOutcome}
+use Rattle.m2v_tool.specs.declared.flat.FlatOutcome.TheVariants.{Coded, Unfit, Stopped}
+use Rattle.m2v_tool.specs.Endings.{Told, whole, cut}
 use Rattle.m2v_tool.specs.Words.{settings_of, WordsPass, WordsFail}
-use Rattle.m2v_tool.specs.Coding.{DecodesBack, FlatDone, FlatStopped, FlatComes, AreFrames, EndInside, FlatAnswer, FlatKeeps}
-use Rattle.m2v_tool.specs.Runs.{Run, Yields, RefusedBy, NoneFailed, Succeeds}
+use Rattle.m2v_tool.specs.Coding.{DecodesBack, FlatDone, FlatStopped, FlatComes, coding_stopped, flat_ending, AreFrames, EndInside, FlatAnswer, FlatKeeps}
+use Rattle.m2v_tool.specs.Runs.{Run, work_of, IsUntouched, Yields, RefusedBy, NoneFailed, Succeeds}
+use Rattle.m2v_tool.proofs.EndingLaws.{refusal, or_memory}
 
 -- ---- how many bytes an input had
 
@@ -128,81 +128,49 @@ done_of w d left held summary is size passes coded =
     subst (λ (x : Dims). FlatCoded (record { dims = x; rate_code = w.rate_code; quantiser = w.quantiser }) left held summary) is coded in
     record { passes = passes; coded = c; back = decodes_back (settings_of w) c.frames (has_passed w passes (subst IsSize is size)) c.some }
 
--- ---- where the encoder stopped
-
-pub comes_of : (w : FlatWords) (left held : Change) (e : EncodeError) → FlatStopped w left held e → FlatComes w left held (outcome_of e)
-unfolding FlatComes outcome_of
-comes_of w left held Error.Read h = h
-comes_of w left held Error.Write h = h
-comes_of w left held (Error.ShortFrame extra) h = h
-comes_of w left held Error.NoFrames h = h
-comes_of w left held Error.TooManyFrames h = h
-comes_of w left held Error.Memory h = h
-
 -- ---- what was told
 
--- the status of a refusal, whether its line was put or not
-pub refusal : (o : Outcome) (status n : ℕ) (report : Change) → Told o status report → status_of o ≡ n → status_unreported o ≡ n → (status ≡ n) ⊎ (status ≡ 12)
-refusal o status n report (whole is g) a b = inl (is ∙ a)
-refusal o status n report (cut (inl is) g) a b = inr is
-refusal o status n report (cut (inr is) g) a b = inl (is.1 ∙ b)
-
--- a refusal's answer, or memory
-pub or_memory : (r : Run) (Answer : Type 0) (n : ℕ) → (r.status ≡ n) ⊎ (r.status ≡ 12) → (r.status ≡ n → Yields r Answer) → Yields r Answer
-or_memory r Answer n (inl is) f = f is
-or_memory r Answer n (inr is) f = Yields.memory is
-
 module _ (r : Run) (w : FlatWords) where
-  unfit_at : (o : Outcome) → FlatComes w r.input r.output o → Told o r.status r.report → r.recon.Unchanged → (WordsPass w → ⊥) → RefusedBy 3 r
-  unfolding FlatComes status_of status_unreported
-  unfit_at (Done s) c t k fails = absurd (fails c.passes)
-  unfit_at (BadSettings u) c t k fails = (refusal (BadSettings u) r.status 3 r.report t refl refl, c.1, c.2, k)
-  unfit_at (ShortFrame x) c t k fails = absurd (fails c.passes)
-  unfit_at NoFrames c t k fails = absurd (fails c.passes)
-  unfit_at TooManyFrames c t k fails = absurd (fails c.passes)
-  unfit_at ReadFault c t k fails = absurd (fails c.passes)
-  unfit_at WriteFault c t k fails = absurd (fails c.passes)
-  unfit_at NoMemory c t k fails = absurd (fails c.passes)
-  unfit_at Usage c t k fails = absurd c
-  unfit_at (Shown d) c t k fails = absurd c
-  unfit_at (Stream f) c t k fails = absurd c
-  unfit_at TooLong c t k fails = absurd c
-  unfit_at TooLarge c t k fails = absurd c
+  unfit_at : (o : FlatOutcome) → FlatComes w r.input r.output o → Told (flat_ending o) r.status r.report → r.recon.Unchanged → (WordsPass w → ⊥) → RefusedBy 3 r
+  unfolding FlatComes flat_ending
+  unfit_at (Coded s) c t k fails = absurd (fails c.passes)
+  unfit_at (Unfit u) c t k fails = (refusal (flat_ending (Unfit u)) r.status 3 r.report t refl refl, (c.1, c.2, k))
+  unfit_at (Stopped e) c t k fails = absurd (fails c.passes)
 
-  done_answer : (bytes : ℕ) (s : Summary) → WordsPass w → AreFrames (frame_bytes (settings_of w).dims) bytes → Told (Done s) r.status r.report → Yields r (FlatAnswer r w bytes)
-  unfolding status_of status_unreported
+  done_answer : (bytes : ℕ) (s : Summary) → WordsPass w → AreFrames (frame_bytes (settings_of w).dims) bytes → Told (flat_ending (Coded s)) r.status r.report → Yields r (FlatAnswer r w bytes)
+  unfolding flat_ending
   done_answer bytes s passes frames (whole is g) = Yields.said (FlatAnswer.ok passes frames is)
   done_answer bytes s passes frames (cut (inl is) g) = Yields.memory is
   done_answer bytes s passes frames (cut (inr is) g) = Yields.said (FlatAnswer.unreported passes frames is.0 is.1)
 
-  fails_then : (u : Unfit) → WordsFail w u → WordsPass w → ⊥
+  fails_then : (u : Unfits) → WordsFail w u → WordsPass w → ⊥
   fails_then u fails passes = cc (sym passes ∙ fails)
 
-  answer_at : (bytes : List ℕ) → r.input.old ≡ Some bytes → (o : Outcome) → FlatComes w r.input r.output o → Told o r.status r.report → Yields r (FlatAnswer r w (length bytes))
-  unfolding FlatComes FlatStops status_of status_unreported
-  answer_at bytes told (Done s) c t = done_answer (length bytes) s c.passes (done_frames (settings_of w) r.input r.output bytes s told c.coded) t
-  answer_at bytes told (BadSettings u) c t =
-      or_memory r (FlatAnswer r w (length bytes)) 3 (refusal (BadSettings u) r.status 3 r.report t refl refl) (λ is. Yields.said (FlatAnswer.unfit (fails_then u c.0) is))
-  answer_at bytes told (ShortFrame x) c t =
-      or_memory r (FlatAnswer r w (length bytes)) 4 (refusal (ShortFrame x) r.status 4 r.report t refl refl)
+  stopped_at : (bytes : List ℕ) → r.input.old ≡ Some bytes → (e : EncodeError) → FlatStopped w r.input r.output e → Told (coding_stopped e) r.status r.report
+      → Yields r (FlatAnswer r w (length bytes))
+  unfolding FlatStops coding_stopped
+  stopped_at bytes told (Error.ShortFrame x) c t =
+      or_memory r (FlatAnswer r w (length bytes)) 4 (refusal (coding_stopped (Error.ShortFrame x)) r.status 4 r.report t refl refl)
       (λ is. Yields.said (FlatAnswer.short c.passes (short_inside (settings_of w) r.input r.output bytes x told c.stops) is))
-  answer_at bytes told NoFrames c t =
-      or_memory r (FlatAnswer r w (length bytes)) 5 (refusal NoFrames r.status 5 r.report t refl refl)
+  stopped_at bytes told Error.NoFrames c t =
+      or_memory r (FlatAnswer r w (length bytes)) 5 (refusal (coding_stopped Error.NoFrames) r.status 5 r.report t refl refl)
       (λ is. Yields.said (FlatAnswer.none c.passes (none_empty r.input r.output bytes told c.stops) is))
-  answer_at bytes told TooManyFrames c t =
-      or_memory r (FlatAnswer r w (length bytes)) 6 (refusal TooManyFrames r.status 6 r.report t refl refl)
+  stopped_at bytes told Error.TooManyFrames c t =
+      or_memory r (FlatAnswer r w (length bytes)) 6 (refusal (coding_stopped Error.TooManyFrames) r.status 6 r.report t refl refl)
       (λ is. Yields.said (FlatAnswer.many c.passes (many_long (settings_of w) r.input r.output bytes told c.stops) is))
-  answer_at bytes told ReadFault c t =
-      or_memory r (FlatAnswer r w (length bytes)) 7 (refusal ReadFault r.status 7 r.report t refl refl) (λ is. Yields.read is c.stops.0)
-  answer_at bytes told WriteFault c t =
-      or_memory r (FlatAnswer r w (length bytes)) 8 (refusal WriteFault r.status 8 r.report t refl refl) (λ is. Yields.write is c.stops.0)
-  answer_at bytes told NoMemory c t =
-      or_memory r (FlatAnswer r w (length bytes)) 12 (refusal NoMemory r.status 12 r.report t refl refl) (λ is. Yields.memory is)
-  answer_at bytes told Usage c t = absurd c
-  answer_at bytes told (Shown d) c t = absurd c
-  answer_at bytes told (Stream f) c t = absurd c
-  answer_at bytes told TooLong c t = absurd c
-  answer_at bytes told TooLarge c t = absurd c
+  stopped_at bytes told Error.Read c t =
+      or_memory r (FlatAnswer r w (length bytes)) 7 (refusal (coding_stopped Error.Read) r.status 7 r.report t refl refl) (λ is. Yields.read is c.stops.0)
+  stopped_at bytes told Error.Write c t =
+      or_memory r (FlatAnswer r w (length bytes)) 8 (refusal (coding_stopped Error.Write) r.status 8 r.report t refl refl) (λ is. Yields.write is c.stops.0)
+  stopped_at bytes told Error.Memory c t =
+      or_memory r (FlatAnswer r w (length bytes)) 12 (refusal (coding_stopped Error.Memory) r.status 12 r.report t refl refl) (λ is. Yields.memory is)
+
+  answer_at : (bytes : List ℕ) → r.input.old ≡ Some bytes → (o : FlatOutcome) → FlatComes w r.input r.output o → Told (flat_ending o) r.status r.report → Yields r (FlatAnswer r w (length bytes))
+  unfolding FlatComes flat_ending
+  answer_at bytes told (Coded s) c t = done_answer (length bytes) s c.passes (done_frames (settings_of w) r.input r.output bytes s told c.coded) t
+  answer_at bytes told (Unfit u) c t =
+      or_memory r (FlatAnswer r w (length bytes)) 3 (refusal (flat_ending (Unfit u)) r.status 3 r.report t refl refl) (λ is. Yields.said (FlatAnswer.unfit (fails_then u c.0) is))
+  answer_at bytes told (Stopped e) c t = stopped_at bytes told e c t
 
   -- whole frames leave no other answer
   whole_answer : (bytes : ℕ) → WordsPass w → AreFrames (frame_bytes (settings_of w).dims) bytes → NoneFailed r → Yields r (FlatAnswer r w bytes) → Succeeds r
@@ -216,10 +184,19 @@ module _ (r : Run) (w : FlatWords) where
   whole_answer bytes passes frames well (Yields.write is f) = absurd (well.output f)
   whole_answer bytes passes frames well (Yields.memory is) = inr is
 
-  pub flat_keeps : (o : Outcome) → FlatComes w r.input r.output o → Told o r.status r.report → r.recon.Unchanged → FlatKeeps w r
+  pub flat_keeps : (o : FlatOutcome) → FlatComes w r.input r.output o → Told (flat_ending o) r.status r.report → r.recon.Unchanged → FlatKeeps w r
   flat_keeps o c t k = record {
     unfit = unfit_at o c t k;
     answer = tells r.input (λ bytes. Yields r (FlatAnswer r w (length bytes))) (λ bytes is. answer_at bytes is o c t);
     coded = tells r.input (λ bytes. WordsPass w → AreFrames (frame_bytes (settings_of w).dims) (length bytes) → NoneFailed r → Succeeds r)
         (λ bytes is passes frames well. whole_answer (length bytes) passes frames well (answer_at bytes is o c t));
+  }
+
+  -- where memory ran out before the words were read
+  pub flat_unread : IsUntouched (work_of r) → r.status ≡ 12 → FlatKeeps w r
+  flat_unread untouched is = record {
+    unfit = λ fails. (inr is, untouched);
+    answer = tells r.input (λ bytes. Yields r (FlatAnswer r w (length bytes))) (λ bytes told. Yields.memory is);
+    coded = tells r.input (λ bytes. WordsPass w → AreFrames (frame_bytes (settings_of w).dims) (length bytes) → NoneFailed r → Succeeds r)
+        (λ bytes told passes frames well. inr is);
   }

@@ -3,7 +3,7 @@ use Rattle.std.proofs.Common.{◌≡◌, ℕ, zero, suc, ◌+◌, ◌<◌, ◌�
 use Rattle.std.specs.Prelude.{codes, decimal, nat_lt, if◌then◌else◌}
 use Rattle.std.proofs.lemmas.Bool.{cases_lt, lt-ltb, le-ltb}
 use Rattle.std.proofs.lemmas.List.{append-nil}
-use Rattle.m2v_tool.specs.Outcomes.{line_text}
+use Rattle.m2v_tool.specs.Endings.{line_text}
 
 -- a text and its number, and what follows
 with_number : (t : List ℕ) (texts : List (List ℕ)) (n : ℕ) (numbers : List ℕ) → line_text (t ∷ texts) (n ∷ numbers) ≡ t ++ (decimal n ++ line_text texts numbers)

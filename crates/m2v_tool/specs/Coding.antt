@@ -1,5 +1,5 @@
 -- What `flat` does: which outcome comes, what stands in input and output then, and what is answered to an input.
-use Rattle.std.specs.Prelude.{ℕ, ◌≡◌, ◌+◌, ◌*◌, ◌<◌, ◌≤◌, List, length}
+use Rattle.std.specs.Prelude.{ℕ, ◌≡◌, ◌+◌, ◌*◌, ◌<◌, ◌≤◌, List, [], ◌∷◌, length, codes}
 use Rattle.m2v_port.specs.Ends.{Change, Tells}
 use Rattle.m2v_plane.specs.Raw.{frame_bytes}
 use Rattle.m2v_flat.specs.declared.settings.FlatSettings.{FlatSettings}
@@ -11,9 +11,10 @@ use Rattle.m2v_flat.specs.Flat.{Flat}
 use Rattle.m2v_flat.specs.Recon.{FlatRecon}
 use Rattle.m2v_model.specs.declared.fault.FaultKind.{FaultKind}
 use Rattle.m2v_model.specs.Decoding.{Decodes, FaultAt}
-use Rattle.m2v_tool.specs.declared.words.FlatWords.{FlatWords}
-use Rattle.m2v_tool.specs.declared.outcome.Outcome.{Outcome}
-use Rattle.m2v_tool.specs.declared.outcome.Outcome.TheVariants as outcomes
+use Rattle.m2v_tool.specs.declared.flat.FlatWords.{FlatWords}
+use Rattle.m2v_tool.specs.declared.flat.FlatOutcome.{FlatOutcome}
+use Rattle.m2v_tool.specs.declared.flat.FlatOutcome.TheVariants.{Coded, Unfit, Stopped}
+use Rattle.m2v_tool.specs.Endings.{Ending, plain, read_fault, write_fault, no_memory}
 use Rattle.m2v_tool.specs.Words.{settings_of, WordsPass, WordsFail}
 use Rattle.m2v_tool.specs.Runs.{Run, Yields, RefusedBy, NoneFailed, Succeeds}
 
@@ -35,20 +36,41 @@ pub record FlatStopped (w : FlatWords) (left held : Change) (e : EncodeError) : 
   pub stops : FlatStops (settings_of w) left held e
 
 -- When each outcome of `flat` comes, and what stands then.
-unfoldable pub FlatComes : FlatWords → Change → Change → Outcome → Type 0
-FlatComes w left held (outcomes.Done s) = FlatDone w left held s
-FlatComes w left held (outcomes.BadSettings u) = WordsFail w u × left.Unchanged × held.Unchanged
-FlatComes w left held (outcomes.ShortFrame extra) = FlatStopped w left held (Error.ShortFrame extra)
-FlatComes w left held outcomes.NoFrames = FlatStopped w left held Error.NoFrames
-FlatComes w left held outcomes.TooManyFrames = FlatStopped w left held Error.TooManyFrames
-FlatComes w left held outcomes.ReadFault = FlatStopped w left held Error.Read
-FlatComes w left held outcomes.WriteFault = FlatStopped w left held Error.Write
-FlatComes w left held outcomes.NoMemory = FlatStopped w left held Error.Memory
-FlatComes w left held outcomes.Usage = ⊥
-FlatComes w left held (outcomes.Shown d) = ⊥
-FlatComes w left held (outcomes.Stream f) = ⊥
-FlatComes w left held outcomes.TooLong = ⊥
-FlatComes w left held outcomes.TooLarge = ⊥
+unfoldable pub FlatComes : FlatWords → Change → Change → FlatOutcome → Type 0
+FlatComes w left held (Coded s) = FlatDone w left held s
+FlatComes w left held (Unfit u) = WordsFail w u × left.Unchanged × held.Unchanged
+FlatComes w left held (Stopped e) = FlatStopped w left held e
+
+-- the ending of raw frames that weren't coded to their end
+unfoldable pub coding_stopped : EncodeError → Ending
+coding_stopped Error.Read = read_fault
+coding_stopped Error.Write = write_fault
+coding_stopped (Error.ShortFrame extra) = record {
+  status = 4;
+  texts = codes "short frame extra " ∷ [];
+  numbers = extra ∷ [];
+}
+coding_stopped Error.NoFrames = plain 5 (codes "no frames")
+coding_stopped Error.TooManyFrames = plain 6 (codes "too many frames")
+coding_stopped Error.Memory = no_memory
+
+-- the ending of each outcome
+unfoldable pub flat_ending : FlatOutcome → Ending
+flat_ending (Coded s) = record {
+  status = 0;
+  texts = codes "frames " ∷ codes " pictures " ∷ codes " bytes " ∷ codes " stuffing " ∷ [];
+  numbers = s.frames ∷ s.pictures ∷ s.bytes ∷ s.stuffing ∷ [];
+}
+flat_ending (Unfit u) = record {
+  status = 3;
+  texts = codes "unfit rule " ∷ codes " have " ∷ codes " need " ∷ [];
+  numbers = u.rule ∷ u.have ∷ u.need ∷ [];
+}
+flat_ending (Stopped e) = coding_stopped e
+
+-- the bytes of a frame of the size that words name
+abbrev pub size_of : FlatWords → ℕ
+size_of w = frame_bytes (settings_of w).dims
 
 -- so many bytes are whole frames of a size, 1 to 999,999 of them
 pub record AreFrames (size bytes : ℕ) : Type 0 where
@@ -70,15 +92,17 @@ pub record EndInside (size bytes : ℕ) : Type 0 where
 -- input.
 pub data FlatAnswer (r : Run) (w : FlatWords) (bytes : ℕ) : Type 0 where
   unfit : (WordsPass w → ⊥) → r.status ≡ 3 → FlatAnswer r w bytes
-  ok : WordsPass w → AreFrames (frame_bytes (settings_of w).dims) bytes → r.status ≡ 0 → FlatAnswer r w bytes
-  unreported : WordsPass w → AreFrames (frame_bytes (settings_of w).dims) bytes → r.report.Failed → r.status ≡ 8 → FlatAnswer r w bytes
-  short : WordsPass w → EndInside (frame_bytes (settings_of w).dims) bytes → r.status ≡ 4 → FlatAnswer r w bytes
+  ok : WordsPass w → AreFrames (size_of w) bytes → r.status ≡ 0 → FlatAnswer r w bytes
+  unreported : WordsPass w → AreFrames (size_of w) bytes → r.report.Failed → r.status ≡ 8
+      → FlatAnswer r w bytes
+  short : WordsPass w → EndInside (size_of w) bytes → r.status ≡ 4 → FlatAnswer r w bytes
   none : WordsPass w → bytes ≡ 0 → r.status ≡ 5 → FlatAnswer r w bytes
-  many : WordsPass w → most_frames * frame_bytes (settings_of w).dims < bytes → r.status ≡ 6 → FlatAnswer r w bytes
+  many : WordsPass w → most_frames * size_of w < bytes → r.status ≡ 6 → FlatAnswer r w bytes
 
 -- What is answered to `flat`: settings that don't pass are refused, and nothing else is looked at; the status is the one
 -- that the settings and the input's bytes give; and whole frames with settings that pass are coded.
 pub record FlatKeeps (w : FlatWords) (r : Run) : Type 0 where
   pub unfit : (WordsPass w → ⊥) → RefusedBy 3 r
   pub answer : Tells r.input (λ bytes. Yields r (FlatAnswer r w (length bytes)))
-  pub coded : Tells r.input (λ bytes. WordsPass w → AreFrames (frame_bytes (settings_of w).dims) (length bytes) → NoneFailed r → Succeeds r)
+  pub coded : Tells r.input (λ bytes.
+      WordsPass w → AreFrames (size_of w) (length bytes) → NoneFailed r → Succeeds r)

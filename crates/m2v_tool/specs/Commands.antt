@@ -1,37 +1,44 @@
--- What the program does for all words: a line a command.
-use Rattle.std.specs.Prelude.{ℕ, ◌≡◌, List}
-use Rattle.m2v_port.specs.Ends.{Change}
-use Rattle.m2v_tool.specs.declared.words.Command.{Command}
-use Rattle.m2v_tool.specs.declared.words.Command.TheVariants as commands
-use Rattle.m2v_tool.specs.declared.outcome.Outcome.{Outcome}
-use Rattle.m2v_tool.specs.declared.outcome.Outcome.TheVariants as outcomes
+-- What the program does for all words: a line a command in each definition.
+use Rattle.std.specs.Prelude.{ℕ, List}
+use Rattle.m2v_tool.specs.declared.flat.FlatWords.{FlatWords}
+use Rattle.m2v_tool.specs.declared.command.Command.{Command}
+use Rattle.m2v_tool.specs.declared.command.Command.TheVariants as commands
+use Rattle.m2v_tool.specs.declared.command.Outcome.{Outcome}
+use Rattle.m2v_tool.specs.declared.command.Outcome.TheVariants as outcomes
 use Rattle.m2v_tool.specs.Words.{Means, NoCommand}
-use Rattle.m2v_tool.specs.Runs.{Run, RefusedBy}
-use Rattle.m2v_tool.specs.Coding.{FlatComes, FlatKeeps}
-use Rattle.m2v_tool.specs.Decoding.{DecodeComes, DecodeKeeps}
-use Rattle.m2v_tool.specs.Reports.{Told}
+use Rattle.m2v_tool.specs.Runs.{Run, Work, work_of, IsUntouched, RefusedBy}
+use Rattle.m2v_tool.specs.Endings.{Ending, Told, usage, no_memory}
+use Rattle.m2v_tool.specs.Coding.{FlatComes, FlatKeeps, flat_ending}
+use Rattle.m2v_tool.specs.Decoding.{DecodeComes, DecodeKeeps, decode_ending}
 
--- which outcome a command gives, and what stands then
-abbrev pub Does : Command → Change → Change → Outcome → Type 0
-Does (commands.Flat w) left held o = FlatComes w left held o
-Does commands.Decode left held o = DecodeComes left held o
+-- When each outcome comes, and what stands then: words that mean no command are refused, and else comes what their
+-- command gives. Where memory ran out before the words were read, nothing else is looked at.
+unfoldable pub Comes : List (List ℕ) → Work → Outcome → Type 0
+Comes words k outcomes.Usage = NoCommand words × IsUntouched k
+Comes words k outcomes.NoMemory = IsUntouched k
+Comes words k (outcomes.Flat o) =
+    (w : FlatWords) × Means words (commands.Flat w) × FlatComes w k.input k.output o
+    × k.recon.Unchanged
+Comes words k (outcomes.Decode o) =
+    Means words commands.Decode × DecodeComes k.input k.output o × k.recon.Unchanged
+
+-- the status and the line of each outcome
+unfoldable pub ending_of : Outcome → Ending
+ending_of outcomes.Usage = usage
+ending_of outcomes.NoMemory = no_memory
+ending_of (outcomes.Flat o) = flat_ending o
+ending_of (outcomes.Decode o) = decode_ending o
 
 -- what is answered to a command
 abbrev pub Keeps : Command → Run → Type 0
 Keeps (commands.Flat w) r = FlatKeeps w r
 Keeps commands.Decode r = DecodeKeeps r
 
--- When each outcome comes, and what stands then: words that mean no command are refused, and else comes what their
--- command gives.
-pub data Comes (words : List (List ℕ)) (left held : Change) (o : Outcome) : Type 0 where
-  refused : NoCommand words → left.Unchanged → held.Unchanged → o ≡ outcomes.Usage → Comes words left held o
-  meant : (c : Command) → Means words c → Does c left held o → Comes words left held o
-
 -- the outcome that came, and what was told of it
 pub record Ran (r : Run) : Type 0 where
   pub outcome : Outcome
-  pub comes : Comes r.words r.input r.output outcome
-  pub told : Told outcome r.status r.report
+  pub comes : Comes r.words (work_of r) outcome
+  pub told : Told (ending_of outcome) r.status r.report
 
 -- What each run keeps: which outcome came, what stands then and what was told of it; words that mean no command are
 -- refused, and nothing else is looked at; and what is answered to a command.

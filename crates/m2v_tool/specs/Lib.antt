@@ -1,6 +1,6 @@
+pub mod Simple
 pub mod Words
-pub mod Outcomes
-pub mod Reports
+pub mod Endings
 pub mod Runs
 pub mod Coding
 pub mod Decoding

@@ -11,6 +11,19 @@ pub record Run : Type 1 where
   pub report : Change
   pub status : ℕ
 
+-- what was done to the endpoints that a command works on
+pub record Work : Type 1 where
+  pub input : Change
+  pub output : Change
+  pub recon : Change
+
+abbrev pub work_of : Run → Work
+work_of r = record { input = r.input; output = r.output; recon = r.recon }
+
+-- nothing was looked at
+abbrev pub IsUntouched : Work → Type 0
+IsUntouched k = k.input.Unchanged × k.output.Unchanged × k.recon.Unchanged
+
 -- This is answered. In its place may come want of memory, and 7 or 8 where the count of input or output rose.
 pub data Yields (r : Run) (Answer : Type 0) : Type 0 where
   said : Answer → Yields r Answer
@@ -20,7 +33,7 @@ pub data Yields (r : Run) (Answer : Type 0) : Type 0 where
 
 -- Refused with this status, or by want of memory, and nothing else was looked at.
 abbrev pub RefusedBy : ℕ → Run → Type 0
-RefusedBy n r = ((r.status ≡ n) ⊎ (r.status ≡ 12)) × r.input.Unchanged × r.output.Unchanged × r.recon.Unchanged
+RefusedBy n r = ((r.status ≡ n) ⊎ (r.status ≡ 12)) × IsUntouched (work_of r)
 
 -- no endpoint of the run failed
 pub record NoneFailed (r : Run) : Type 0 where

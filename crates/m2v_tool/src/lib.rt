@@ -1,10 +1,12 @@
 //! The program: its command words, its one call `run`, and its report lines.
 #![tactic(auto)]
 
-mod line;
-mod outcome;
+mod command;
+mod decode;
+mod flat;
+mod report;
 mod top;
 mod words;
 
-pub use outcome::{Outcome, Status};
-pub use top::run;
+pub use command::Outcome;
+pub use top::{Status, run};

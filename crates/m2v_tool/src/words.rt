@@ -1,106 +1,76 @@
-ghost use Rattle.std.specs.Prelude.{◌≡◌, ◌<◌, ◌^◌, ◌↔◌, map, codes, string_bytes, IsTrue, IsFalse, IfSome, IsNone};
-ghost use Rattle.std.specs.Option.{SomeIff};
-ghost use Rattle.std.specs.Str.Parse.{IsNumeral, digits_value};
-ghost use Rattle.m2v_tool.specs.declared.words.FlatWords.{FlatWords};
-ghost use Rattle.m2v_tool.specs.Words.{IsFlat, IsNumber, NotFlat, AreNumbers, IsDecode, NotDecode, Means, NoCommand};
+ghost use Rattle.std.specs.Prelude.{◌≡◌, [], true, false, map, option_map, string_bytes, IfOk};
+ghost use Rattle.clap.specs.Walk.{rows_of, rule_of};
+ghost use Rattle.clap.specs.Matches.{found_of};
+ghost use Rattle.clap.specs.Simple.{app_of};
+ghost use Rattle.clap.specs.Faults.{is_simple_and_free};
+ghost use Rattle.m2v_tool.specs.Simple.{number_in, number_word, required, simple, stands_alone, taken};
 
-/// The numbers of the words `flat W H CODE Q`, whatever they are.
-#[derive(Clone, Copy, Debug, PartialEq, Eq)]
-pub struct FlatWords {
-    /// Luma samples in a line.
-    pub width: u32,
-    /// Lines of a frame.
-    pub height: u32,
-    /// The frame rate code.
-    pub rate_code: u32,
-    /// The quantiser code.
-    pub quantiser: u32,
-}
+use clap::error::ErrorKind;
+use clap::{Arg, ArgMatches, Command, value_parser};
+use std::alloc::{AllocError, Global};
 
-/// What words mean.
-#[derive(Clone, Copy, Debug, PartialEq, Eq)]
-pub enum Command {
-    /// Raw frames are coded by the flat profile.
-    Flat(FlatWords),
-    /// A stream is decoded.
-    Decode,
-}
-
-/// A number of decimal digits without a sign, where it fits.
-fn number(word: &str) -> Option<u32>
-    ensures { SomeIff result (IsNumeral 10 word.now × (digits_value 10 word.now < 2 ^ 32)) (digits_value 10 word.now) }
+/// What clap finds in the words, where it takes them.
+#[tactic(auto, unfolding(crate::specs::Simple::taken))]
+pub(crate) fn taken<'a>(
+    command: Command<'a>,
+    words: &'a [String],
+) -> Result<Option<ArgMatches<'a>>, AllocError>
+    requires { is_simple_and_free (app_of command) ≡ true }
+    ensures { IfOk result (λ o. option_map (λ m. rows_of (found_of m)) o
+        ≡ taken (app_of command.entry) (map string_bytes words.now)) }
 {
-    if word.starts_with('+') {
-        return None;
+    match command.try_get_matches_from(words) {
+        Ok(matches) => Ok(Some(matches)),
+        Err(error) => match error.kind() {
+            ErrorKind::OutOfMemory => Err(AllocError),
+            _ => Ok(None),
+        },
     }
-    word.parse::<u32>().ok()
 }
 
-/// Whether the word is the name of the flat profile.
-fn is_flat(word: &str) -> bool
-    ensures { IsTrue result ↔ (word.now ≡ codes "flat") }
+/// The number that was given under a name, where there is one.
+#[tactic(auto, unfolding(crate::specs::Simple::number_in))]
+pub(crate) fn number(matches: &ArgMatches, id: &str) -> Option<u32>
+    ensures { result ≡ number_in id.now (rows_of (found_of matches.now)) }
 {
-    word == "flat"
+    matches.get_one::<u32>(id)
 }
 
-/// The four numbers of the flat profile.
-fn numbers(width: &str, height: &str, code: &str, quantiser: &str) -> Option<FlatWords>
-    ensures found { IfSome result (AreNumbers width.now height.now code.now quantiser.now) }
-    ensures none { IsNone result → (w : FlatWords) → AreNumbers width.now height.now code.now quantiser.now w → ⊥ }
+/// The number of a word that is required: clap takes no words without it.
+#[tactic(auto, unfolding(crate::specs::Simple::required))]
+pub(crate) fn required(matches: &ArgMatches, id: &str) -> u32
+    ensures { result ≡ required id.now (rows_of (found_of matches.now)) }
 {
-    Some(FlatWords {
-        width: number(width)?,
-        height: number(height)?,
-        rate_code: number(code)?,
-        quantiser: number(quantiser)?,
-    })
+    number(matches, id).unwrap_or(0)
 }
 
-/// The numbers of the words `flat W H CODE Q`, four decimal numbers without a sign.
-fn flat_words(words: &[String]) -> Option<FlatWords>
-    ensures found { IfSome result (λ w. IsFlat (map string_bytes words.now) w) }
-    ensures none { IsNone result → NotFlat (map string_bytes words.now) }
+/// A command without a name before its words and without `--help`.
+pub(crate) fn simple<'a>(alloc: Global, name: &'a str) -> Command<'a>
+    ensures { app_of result ≡ simple name.entry.now [] }
 {
-    let [name, width, height, code, quantiser] = words else {
-        return None;
-    };
-    if !is_flat(name.as_str()) {
-        return None;
-    }
-    numbers(
-        width.as_str(),
-        height.as_str(),
-        code.as_str(),
-        quantiser.as_str(),
-    )
+    Command::new(alloc, name)
+        .no_binary_name(true)
+        .disable_help_flag(true)
 }
 
-/// Whether the word is the name of the decoder.
-fn is_decode(word: &str) -> bool
-    ensures { IsTrue result ↔ (word.now ≡ codes "decode") }
+/// Whether a command that has no words behind its name takes these: none, but what clap passes over.
+#[tactic(auto, unfolding(crate::specs::Simple::stands_alone))]
+pub(crate) fn stands_alone<'a>(
+    alloc: Global,
+    name: &'a str,
+    words: &'a [String],
+) -> Result<bool, AllocError>
+    ensures { IfOk result (λ b. b ≡ stands_alone name.entry.now (map string_bytes words.now)) }
 {
-    word == "decode"
+    Ok(taken(simple(alloc, name), words)?.is_some())
 }
 
-/// Whether the words are `decode` alone.
-fn decode_alone(words: &[String]) -> bool
-    ensures yes { IsTrue result → IsDecode (map string_bytes words.now) }
-    ensures no { IsFalse result → NotDecode (map string_bytes words.now) }
+/// A required word that is a number.
+pub(crate) fn number_word<'a>(alloc: Global, id: &'a str) -> Arg<'a>
+    ensures rule { rule_of result ≡ number_word id.entry.now }
+    ensures local { result.global ≡ false }
 {
-    let [name] = words else {
-        return false;
-    };
-    is_decode(name.as_str())
-}
-
-/// What the words mean: `flat W H CODE Q`, or `decode` alone.
-pub fn meaning(words: &[String]) -> Option<Command>
-    ensures found { IfSome result (Means (map string_bytes words.now)) }
-    ensures none { IsNone result → NoCommand (map string_bytes words.now) }
-{
-    if decode_alone(words) {
-        return Some(Command::Decode);
-    }
-    let meant = flat_words(words)?;
-    Some(Command::Flat(meant))
+    Arg::new(alloc, id)
+        .required(true)
+        .value_parser(value_parser!(u32))
 }

@@ -1,8 +1,24 @@
-use Rattle.m2v_tool.proofs.RunLaws.{coded_comes, decoded_comes}
+use Rattle.std.proofs.Common.{refl, ap, is_some}
+use Rattle.m2v_tool.specs.Commands.{Comes}
+use Rattle.m2v_tool.proofs.WordLaws.{means_of}
 use Rattle.m2v_tool.proofs.top.carried_out.Goals as goal
 
-pub returns-in-Some-Flat-clause-comes : goal.returns-in-Some-Flat-clause-comes
-returns-in-Some-Flat-clause-comes g c = coded_comes _ _ _ _ _ _ c.in-Some-Flat.field-0-is c.in-Some-Flat.ensures.found c.coded.ensures.comes
+pub returns-in-Ok-Some-Flat-clause-comes : goal.returns-in-Ok-Some-Flat-clause-comes
+unfolding Comes
+returns-in-Ok-Some-Flat-clause-comes g c =
+    let read = c.in-Ok-Some-Flat in
+    (_, means_of _ _ _ _ read.field-0-is read.field-0-0-is read.ensures.found, c.coded.ensures.comes, refl)
 
-pub returns-in-Some-Decode-clause-comes : goal.returns-in-Some-Decode-clause-comes
-returns-in-Some-Decode-clause-comes g c = decoded_comes _ _ _ _ _ c.in-Some-Decode.field-0-is c.in-Some-Decode.ensures.found c.decoded.ensures.comes
+pub returns-in-Ok-Some-Decode-clause-comes : goal.returns-in-Ok-Some-Decode-clause-comes
+unfolding Comes
+returns-in-Ok-Some-Decode-clause-comes g c =
+    let read = c.in-Ok-Some-Decode in
+    (means_of _ _ _ _ read.field-0-is read.field-0-0-is read.ensures.found, c.decoded.ensures.comes, refl)
+
+pub returns-in-Ok-None-clause-comes : goal.returns-in-Ok-None-clause-comes
+unfolding Comes
+returns-in-Ok-None-clause-comes g c = (c.in-Ok-None.ensures.none (ap is_some c.in-Ok-None.field-0-is), (refl, refl, refl))
+
+pub returns-in-Err-clause-comes : goal.returns-in-Err-clause-comes
+unfolding Comes
+returns-in-Err-clause-comes g c = (refl, refl, refl)

@@ -1,6 +1,6 @@
 use Rattle.std.proofs.Common.{◌≡◌, ◌++◌, map, drop}
-use Rattle.m2v_tool.specs.Outcomes.{line_text}
-use Rattle.m2v_tool.proofs.line.print.Given as goal
+use Rattle.m2v_tool.specs.Endings.{line_text}
+use Rattle.m2v_tool.proofs.report.print.Given as goal
 
 abbrev pub invariant-loop-i : goal.invariant-loop-i
 invariant-loop-i l =

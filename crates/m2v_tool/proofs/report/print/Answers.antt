@@ -1,8 +1,8 @@
 use Rattle.std.proofs.Common.{◌<◌, ◌≤◌, ◌+◌, ◌++◌, [], map, drop, length, List, ℕ, arith, sym, ap, ◌∙◌, Bor}
 use Rattle.std.proofs.lemmas.List.{length-map, get_or-map}
-use Rattle.m2v_tool.specs.Outcomes.{line_text}
+use Rattle.m2v_tool.specs.Endings.{line_text}
 use Rattle.m2v_tool.proofs.LineLaws.{number_text, line_more, line_end}
-use Rattle.m2v_tool.proofs.line.print.Goals as goal
+use Rattle.m2v_tool.proofs.report.print.Goals as goal
 
 -- the texts, without their references
 abbrev now_of : Bor (List ℕ) → List ℕ

@@ -1,0 +1,92 @@
+-- How the program ends: a status and a line on report, and what is put on report of it.
+use Rattle.std.specs.Prelude.{ℕ, ◌≡◌, ◌⊎◌, ◌==◌, List, [], ◌∷◌, ◌++◌, codes, decimal, if◌then◌else◌}
+use Rattle.m2v_port.specs.Ends.{Change}
+use Rattle.m2v_port.specs.Port.{Grows, GrowsByPrefix}
+use Rattle.m2v_model.specs.declared.fault.FaultKind.{FaultKind}
+use Rattle.m2v_model.specs.declared.fault.FaultKind.TheVariants as kinds
+use Rattle.m2v_model.specs.Pieces.{Limit, too_long, too_large}
+use Rattle.m2v_piece.specs.declared.answer.Fault.{Fault}
+use Rattle.m2v_tool.specs.declared.report.Report.{Report}
+
+-- a status, and the texts and the numbers of its line, one text before each number
+pub record Ending : Type 0 where
+  pub status : ℕ
+  pub texts : List (List ℕ)
+  pub numbers : List ℕ
+
+-- texts and numbers in turn, and a newline
+unfoldable pub line_text : List (List ℕ) → List ℕ → List ℕ
+line_text [] numbers = codes "\n"
+line_text (t ∷ texts) [] = t ++ line_text texts []
+line_text (t ∷ texts) (n ∷ numbers) = t ++ (decimal n ++ line_text texts numbers)
+
+-- its line, with the numbers in decimal without leading zeros
+unfoldable pub line_of : Ending → List ℕ
+line_of e = line_text e.texts e.numbers
+
+-- the status where the report fails: that is a write fault after success, and changes no other status
+abbrev pub status_unreported : Ending → ℕ
+status_unreported e = if e.status == 0 then 8 else e.status
+
+-- the code's report has the status and the line of an ending
+pub record IsReport (r : Report) (e : Ending) : Type 0 where
+  pub status : r.status ≡ e.status
+  pub line : r.line.items ≡ line_of e
+
+-- What is put on report of an ending, and the status. Where the report fails or memory runs out there, a prefix of the
+-- line is put.
+pub data Told (e : Ending) (status : ℕ) (report : Change) : Type 0 where
+  whole : status ≡ e.status → Grows report.old (line_of e) report.new → Told e status report
+  cut : (status ≡ 12) ⊎ (report.Failed × (status ≡ status_unreported e))
+      → GrowsByPrefix report.old (line_of e) report.new → Told e status report
+
+-- ---- the endings of several commands
+
+-- an ending without numbers
+abbrev pub plain : ℕ → List ℕ → Ending
+plain status text = record { status = status; texts = text ∷ []; numbers = [] }
+
+abbrev pub usage : Ending
+usage = plain 2 (codes "usage")
+
+abbrev pub read_fault : Ending
+read_fault = plain 7 (codes "read fault")
+
+abbrev pub write_fault : Ending
+write_fault = plain 8 (codes "write fault")
+
+abbrev pub no_memory : Ending
+no_memory = plain 12 (codes "no memory")
+
+-- of a stream that passes this limit
+unfoldable pub ending_past : Limit → Ending
+ending_past too_long = plain 13 (codes "too long")
+ending_past too_large = plain 14 (codes "picture too large")
+
+-- the name of a kind of fault
+unfoldable pub name_of : FaultKind → List ℕ
+name_of kinds.NoSequence = codes "NoSequence"
+name_of kinds.NotMpeg2 = codes "NotMpeg2"
+name_of kinds.Unsupported = codes "Unsupported"
+name_of kinds.Truncated = codes "Truncated"
+name_of kinds.NoCode = codes "NoCode"
+name_of kinds.BadMarker = codes "BadMarker"
+name_of kinds.Forbidden = codes "Forbidden"
+name_of kinds.SequenceChanged = codes "SequenceChanged"
+name_of kinds.SliceOrder = codes "SliceOrder"
+name_of kinds.MissingMacroblocks = codes "MissingMacroblocks"
+name_of kinds.SkipRule = codes "SkipRule"
+name_of kinds.VectorRange = codes "VectorRange"
+name_of kinds.VectorOutside = codes "VectorOutside"
+name_of kinds.Overrun = codes "Overrun"
+name_of kinds.DcRange = codes "DcRange"
+name_of kinds.MissingReference = codes "MissingReference"
+name_of kinds.FieldPair = codes "FieldPair"
+
+-- of a stream with this first fault
+unfoldable pub stream_fault : Fault → Ending
+stream_fault f = record {
+  status = 9;
+  texts = ((codes "stream " ++ name_of f.kind) ++ codes " at bit ") ∷ [];
+  numbers = f.place ∷ [];
+}

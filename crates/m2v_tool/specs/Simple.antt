@@ -1,0 +1,47 @@
+-- What `clap` makes of the words behind a command's name: for each command a simple command of `clap` reads them, without
+-- help, version and subcommands.
+use Rattle.std.specs.Prelude.{ℕ, Bool, true, false, List, [], Option, Some, None, pos, option_and_then, is_some, unwrap_or, if◌then◌else◌}
+use Rattle.std.specs.Str.Parse.{digits_value, without_leading_plus}
+use Rattle.clap.specs.ValueTests.{accepts}
+use Rattle.clap.specs.Walk.{Row, Rule, Text, is_empty, one_of}
+use Rattle.clap.specs.Simple.{App, matches_of, new_rule, new_shape}
+use Rattle.clap.specs.Faults.{fault_of}
+use Rattle.clap.specs.declared.builder.value_parser.ValueParser.{ValueParser}
+use Rattle.clap.specs.declared.builder.value_parser.ValueParser.TheVariants as parsers
+
+-- a simple command with these arguments
+abbrev pub simple : Text → List Rule → App
+simple name rules = record {
+  top = record (new_shape name) { rules = rules; no_binary_name = true; disable_help_flag = true };
+  subs = [];
+}
+
+-- numbers that fit 32 bits
+abbrev pub u32_parser : ValueParser
+u32_parser = parsers.Signed (pos 0) (pos 4294967295)
+
+-- a required word that is a number
+abbrev pub number_word : Text → Rule
+number_word id = record (new_rule id) { parser = Some u32_parser; required = true }
+
+-- what `clap` finds in the words, where it takes them
+unfoldable pub taken : App → List Text → Option (List Row)
+taken a words = if is_empty (fault_of a words) then Some (matches_of a words) else None
+
+-- the number that a text writes, a plus before it or not, where it fits 32 bits
+unfoldable pub u32_of : Text → Option ℕ
+u32_of text =
+    if accepts false (parsers.Unsigned 0 4294967295) text
+    then Some (digits_value 10 (without_leading_plus text)) else None
+
+-- the number that was given under this id
+unfoldable pub number_in : Text → List Row → Option ℕ
+number_in id rows = option_and_then u32_of (one_of id rows)
+
+-- the number of a word that is required: `clap` takes no words without it
+unfoldable pub required : Text → List Row → ℕ
+required id rows = unwrap_or (number_in id rows) 0
+
+-- a command that has no words behind its name takes these
+unfoldable pub stands_alone : Text → List Text → Bool
+stands_alone name words = is_some (taken (simple name []) words)

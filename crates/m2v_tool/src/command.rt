@@ -1,0 +1,77 @@
+ghost use Rattle.std.specs.Prelude.{◌≡◌, map, string_bytes, IfOk, IfSome, IsNone};
+ghost use Rattle.m2v_tool.specs.declared.command.Command.{Command};
+ghost use Rattle.m2v_tool.specs.Endings.{IsReport};
+ghost use Rattle.m2v_tool.specs.Words.{Means, MeansBy, NoCommand};
+ghost use Rattle.m2v_tool.specs.Commands.{ending_of};
+
+use crate::decode::{DecodeOutcome, decode_words};
+use crate::flat::{FlatOutcome, FlatWords, flat_words};
+use crate::report::{Report, no_memory, usage};
+use std::alloc::{AllocError, Global};
+
+/// What words mean.
+#[derive(Clone, Copy, Debug, PartialEq, Eq)]
+pub enum Command {
+    /// Raw frames are coded by the flat profile.
+    Flat(FlatWords),
+    /// A stream is decoded.
+    Decode,
+}
+
+/// What came of the words.
+#[derive(Clone, Copy, Debug, PartialEq, Eq)]
+pub enum Outcome {
+    /// The words are no command.
+    Usage,
+    /// Memory ran out before the words were read.
+    NoMemory,
+    /// What came of `flat`.
+    Flat(FlatOutcome),
+    /// What came of `decode`.
+    Decode(DecodeOutcome),
+}
+
+impl Outcome {
+    /// Its status and its line on report.
+    #[tactic(auto, unfolding(crate::specs::Commands::ending_of))]
+    pub(crate) fn report(&self, alloc: Global) -> Result<Report, AllocError>
+        ensures { IfOk result (λ r. IsReport r (ending_of self.now)) }
+    {
+        match self {
+            Outcome::Usage => usage(alloc),
+            Outcome::NoMemory => no_memory(alloc),
+            Outcome::Flat(outcome) => outcome.report(alloc),
+            Outcome::Decode(outcome) => outcome.report(alloc),
+        }
+    }
+}
+
+/// What the word that names a command means with those behind it.
+fn meant_by(alloc: Global, name: &str, others: &[String]) -> Result<Option<Command>, AllocError>
+    ensures found { IfOk result (λ m. IfSome m (MeansBy name.now (map string_bytes others.now))) }
+    ensures none { IfOk result (λ m. IsNone m
+        → (c : Command) → MeansBy name.now (map string_bytes others.now) c → ⊥) }
+{
+    match name {
+        "flat" => match flat_words(alloc, others)? {
+            Some(meant) => Ok(Some(Command::Flat(meant))),
+            None => Ok(None),
+        },
+        "decode" => {
+            let taken = decode_words(alloc, others)?;
+            Ok(taken.then_some(Command::Decode))
+        }
+        _ => Ok(None),
+    }
+}
+
+/// What the words mean: the first one names a command, and those behind it are what `clap` takes for it.
+pub(crate) fn meaning(alloc: Global, words: &[String]) -> Result<Option<Command>, AllocError>
+    ensures found { IfOk result (λ m. IfSome m (Means (map string_bytes words.now))) }
+    ensures none { IfOk result (λ m. IsNone m → NoCommand (map string_bytes words.now)) }
+{
+    match words.split_first() {
+        Some((name, others)) => meant_by(alloc, name.as_str(), others),
+        None => Ok(None),
+    }
+}

@@ -1,0 +1,142 @@
+ghost use Rattle.std.specs.Prelude.{◌≡◌, ◌++◌, [], ◌==◌, codes, decimal, map, length, nat_lt, slice_index, if◌then◌else◌, IfOk, OnOk};
+ghost use Rattle.m2v_model.specs.Pieces.{too_large, too_long};
+ghost use Rattle.m2v_tool.specs.Endings.{IsReport, ending_past, line_text, name_of, no_memory, read_fault, stream_fault, usage, write_fault};
+
+use itoa::Buffer;
+use m2v_decode::Fault;
+use m2v_model::FaultKind;
+use std::alloc::{AllocError, Global};
+
+/// What the program ends with: its status, and its line on report.
+#[derive(Drop)]
+pub struct Report {
+    /// 0 where all went well, else the number of the refusal.
+    pub(crate) status: u8,
+    /// The line, with its newline.
+    pub(crate) line: Vec<u8>,
+}
+
+impl Report {
+    /// A status, and a line of texts and numbers in turn, one text before each number.
+    pub(crate) fn new(
+        alloc: Global,
+        status: u8,
+        texts: &[&str],
+        numbers: &[u128],
+    ) -> Result<Report, AllocError>
+        ensures { IfOk result (λ r. IsReport r (record {
+          status = status;
+          texts = map (λ t. t.now) texts.now;
+          numbers = numbers.now;
+        })) }
+    {
+        let line = print(alloc, texts, numbers)?;
+        Ok(Report { status, line })
+    }
+}
+
+/// The words are no command.
+pub(crate) fn usage(alloc: Global) -> Result<Report, AllocError>
+    ensures { IfOk result (λ r. IsReport r usage) }
+{
+    Report::new(alloc, 2, &["usage"], &[])
+}
+
+/// The input failed.
+pub(crate) fn read_fault(alloc: Global) -> Result<Report, AllocError>
+    ensures { IfOk result (λ r. IsReport r read_fault) }
+{
+    Report::new(alloc, 7, &["read fault"], &[])
+}
+
+/// The output failed.
+pub(crate) fn write_fault(alloc: Global) -> Result<Report, AllocError>
+    ensures { IfOk result (λ r. IsReport r write_fault) }
+{
+    Report::new(alloc, 8, &["write fault"], &[])
+}
+
+/// Memory ran out.
+pub(crate) fn no_memory(alloc: Global) -> Result<Report, AllocError>
+    ensures { IfOk result (λ r. IsReport r no_memory) }
+{
+    Report::new(alloc, 12, &["no memory"], &[])
+}
+
+/// A byte follows the first 2^36 bytes of the stream, and no sequence end code stands before it.
+#[tactic(auto, unfolding(crate::specs::Endings::ending_past))]
+pub(crate) fn too_long(alloc: Global) -> Result<Report, AllocError>
+    ensures { IfOk result (λ r. IsReport r (ending_past too_long)) }
+{
+    Report::new(alloc, 13, &["too long"], &[])
+}
+
+/// A picture of the stream, with its headers, has more than 2,097,152 bytes.
+#[tactic(auto, unfolding(crate::specs::Endings::ending_past))]
+pub(crate) fn too_large(alloc: Global) -> Result<Report, AllocError>
+    ensures { IfOk result (λ r. IsReport r (ending_past too_large)) }
+{
+    Report::new(alloc, 14, &["picture too large"], &[])
+}
+
+/// The first fault of a stream: its kind and its place.
+#[tactic(auto, unfolding(crate::specs::Endings::stream_fault))]
+pub(crate) fn stream_fault(alloc: Global, fault: &Fault) -> Result<Report, AllocError>
+    ensures { IfOk result (λ r. IsReport r (stream_fault fault.now)) }
+{
+    let mut text = String::from_str(alloc, "stream ")?;
+    text.push_str(name_of(fault.kind))?;
+    text.push_str(" at bit ")?;
+    Report::new(alloc, 9, &[text.as_str()], &[u128::from(fault.place)])
+}
+
+/// The name of a kind of fault.
+#[tactic(auto, unfolding(crate::specs::Endings::name_of))]
+fn name_of(kind: FaultKind) -> &'static str
+    ensures { result.now ≡ name_of kind }
+{
+    match kind {
+        FaultKind::NoSequence => "NoSequence",
+        FaultKind::NotMpeg2 => "NotMpeg2",
+        FaultKind::Unsupported => "Unsupported",
+        FaultKind::Truncated => "Truncated",
+        FaultKind::NoCode => "NoCode",
+        FaultKind::BadMarker => "BadMarker",
+        FaultKind::Forbidden => "Forbidden",
+        FaultKind::SequenceChanged => "SequenceChanged",
+        FaultKind::SliceOrder => "SliceOrder",
+        FaultKind::MissingMacroblocks => "MissingMacroblocks",
+        FaultKind::SkipRule => "SkipRule",
+        FaultKind::VectorRange => "VectorRange",
+        FaultKind::VectorOutside => "VectorOutside",
+        FaultKind::Overrun => "Overrun",
+        FaultKind::DcRange => "DcRange",
+        FaultKind::MissingReference => "MissingReference",
+        FaultKind::FieldPair => "FieldPair",
+    }
+}
+
+/// Texts and numbers in turn, and a newline.
+fn print(alloc: Global, texts: &[&str], numbers: &[u128]) -> Result<Vec<u8>, AllocError>
+    ensures { IfOk result (λ l. l.items ≡ line_text (map (λ t. t.now) texts.now) numbers.now) }
+{
+    let mut line = Vec::new(alloc);
+    for (i, text) in texts.iter().enumerate() {
+        line.extend_from_slice(text.as_bytes())?;
+        push_number(&mut line, numbers, i)?;
+    }
+    line.extend_from_slice(b"\n")?;
+    Ok(line)
+}
+
+/// Appends number i in decimal, where there is one.
+fn push_number(line: &mut Vec<u8>, numbers: &[u128], i: usize) -> Result<(), AllocError>
+    ensures { OnOk result (line.new.items ≡ line.old.items
+        ++ (if nat_lt i (length numbers.now) then decimal (slice_index numbers.now i) else [])) }
+{
+    if i < numbers.len() {
+        let mut buffer = Buffer::new();
+        line.extend_from_slice(buffer.format(numbers[i]).as_bytes())?;
+    }
+    Ok(())
+}
