@@ -1,7 +1,7 @@
-"""Lines of the table of m2v_cases: reads its streams and cases, and writes bytes as it does. It shares nothing with the
-program."""
+"""Lines of the table of m2v_cases: reads its streams and cases, and writes bytes as it does."""
 
 from pathlib import Path
+from textwrap import wrap
 
 TABLE = Path(__file__).parent.parent / 'crates' / 'm2v_cases' / 'stdin'
 CHANGES = ('first', 'from', 'without', 'byte', 'put')
@@ -44,7 +44,7 @@ def read_bytes(streams, text):
 
 
 def read_table():
-    """The streams of the table by their names, and its cases by theirs: the lines of each, as pairs of key and rest."""
+    """The streams of the table by their names, and its cases by theirs, each as pairs of a key and its rest."""
     streams, cases, name, lines = {}, {}, None, []
     for line in TABLE.read_text().splitlines():
         key, _, rest = line.partition(' ')
@@ -60,6 +60,10 @@ def read_table():
         else:
             lines.append((key, rest))
     return streams, cases
+
+
+def comment_lines(text):
+    return wrap(text, 119, initial_indent='# ', subsequent_indent='# ')
 
 
 def runs(data):

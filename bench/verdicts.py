@@ -1,17 +1,18 @@
 #!/usr/bin/env python3
-"""What check is to answer of a stream without a fault: a verifier written from the rules alone, which shares nothing with
-the program. With files as arguments it prints the status and the line of each; without, the cases of m2v_cases on check,
-which stand in bench/verdicts_cases.py.
+"""What check is to answer of a stream without a fault: a verifier written from the rules alone, which shares nothing
+with the program. With files as arguments it prints the status and the line of each; without, the cases of m2v_cases
+on check, which stand in bench/verdicts_cases.py.
 
-Rules 1 to 7 are looked at on each sequence header, and count as picture 0; the others on each picture, in decoding order
-from 0. The broken rule of the least picture counts, and of those the least number, at the first place that breaks it.
+Rules 1 to 7 are looked at on each sequence header, and count as picture 0; the others on each picture, in decoding
+order from 0. The broken rule of the least picture counts, and of those the least number, at the first place that
+breaks it.
 
  1  profile_and_level is 72, 70 or 68: main profile at Main, High 1440 or High level
  2  the width is at most the level's
  3  the height is at most the level's
  4  frame_rate_code is from 1 to the level's greatest, and the two numbers that change the rate are 0
- 5  the luma samples a second are at most the level's: 720,000 times the samples of a frame, at most that rate times the
-    units of 1/720,000 s that a frame takes
+ 5  the luma samples a second are at most the level's: 720,000 times the samples of a frame are at most that rate
+    times the units of 1/720,000 s that a frame takes
  6  bit_rate is from 1 to the level's, in units of 400 bit/s
  7  vbv_buffer_size is from 1 to the level's, in units of 16,384 bits
  8  at Main level used horizontal f_codes are at most 8
@@ -23,12 +24,13 @@ from 0. The broken rule of the least picture counts, and of those the least numb
 14  in a progressive sequence frame_pred_frame_dct and progressive_frame are 1
 15  DC levels have at most 10 bits (dc_precision at most 2)
 
-f_codes are used forward in P and B pictures and with concealment vectors, and backward in B pictures. The pictures that
-are dropped count in all of these but 12.
+f_codes are used forward in P and B pictures and with concealment vectors, and backward in B pictures. The pictures
+that are dropped count in all of these but 12.
 
-The buffer is judged where no rule is broken and the first vbv_delay isn't 65535. A picture takes its own bits with the
-headers before it and the zeros behind it; the last one all that follows. It is removed at the time of the first vbv_delay
-and the intervals of the pictures before it, and till then bits come at the stream's rate, as long as there are any."""
+The buffer is judged where no rule is broken and the first vbv_delay isn't 65535. A picture takes its own bits with
+the headers before it and the zeros behind it; the last one all that follows. It is removed at the time of the first
+vbv_delay and the intervals of the pictures before it, and till then bits come at the stream's rate, as long as there
+are any."""
 
 import sys
 from dataclasses import dataclass
@@ -218,9 +220,9 @@ def luma_rate(s):
 
 
 def places(pictures, low_delay):
-    """The place of each frame in display order among the frames of its group. A frame comes behind those that are shown
-    before it: with low_delay those decoded before it; else a B frame behind all those but the anchor decoded last, which
-    still waits, and an anchor behind all those and the B frames that are decoded before the next anchor."""
+    """The place of each frame in display order among the frames of its group. A frame comes behind those that are
+    shown before it: with low_delay those decoded before it; else a B frame behind all those but the anchor decoded
+    last, which still waits, and an anchor behind all those and the B frames decoded before the next anchor."""
     found = {}
     for group in {p.group for p in pictures}:
         frames = [(p.frame, p.kind == B) for p in pictures if p.group == group and p.ends_frame]
@@ -267,10 +269,10 @@ def breaches(stream):
 # ---- the buffer
 
 def intervals(stream):
-    """The time from the removal of each picture to that of the next one, in units of 1/720,000 s. A frame picture takes
-    two fields, or three where it repeats one. With low_delay it goes by itself; else a B frame does, and an anchor takes
-    as long as the anchor before it is shown. A field takes its own time; the second one of an anchor takes one field more
-    where the anchor before repeats one."""
+    """The time from the removal of each picture to that of the next one, in units of 1/720,000 s. A frame picture
+    takes two fields, or three where it repeats one. With low_delay it goes by itself; else a B frame does, and an
+    anchor takes as long as the anchor before it is shown. A field takes its own time; the second one of an anchor
+    takes one field more where the anchor before repeats one."""
     sequence = stream.sequences[0]
     field, before, times = FIELD_UNITS[sequence.code], False, []
     for p in stream.coded:

@@ -1,10 +1,10 @@
-"""The cases of m2v_cases on check, printed by bench/verdicts.py. Streams are changes of those of the table, or put together
-by bench/pictures_writer.py; what is wanted is what the verifier there says, and of a stream with a fault what the case of
-decode on the same stream wants, but for its output."""
+"""The cases of m2v_cases on check, printed by bench/verdicts.py. Streams are changes of those of the table, or put
+together by bench/pictures_writer.py; what is wanted is what the verifier there says, and of a stream with a fault
+what the case of decode on the same stream wants, but for its output."""
 
 from pictures import ahead, lines_of, picture
 from pictures_writer import B, BOTTOM, END, I, P, TOP, Macroblock, Picture, flat, group, sequence
-from table_lines import read_bytes, read_table, stream_words
+from table_lines import comment_lines, read_bytes, read_table, stream_words
 from verdicts import Account, Parser, verdict
 
 STREAMS, TABLE = read_table()
@@ -48,9 +48,9 @@ def table():
         yield from ('stream ' + name, *lines_of('bytes', stream_words(STREAMS[name])), '')
     for name, comment, lines in CASES:
         if name is None:
-            yield from ('# ---- check: ' + comment, '')
+            yield from (*comment_lines('---- check: ' + comment), '')
             continue
-        yield from ('# ' + line for line in comment.splitlines())
+        yield from comment_lines(comment)
         yield from ('case check: ' + name, *lines, '')
 
 
@@ -103,8 +103,8 @@ def worked():
     case('a grey frame of the flat profile', '= grey', comment='Its vbv_delay is 65535: the rate is variable.')
     case('a grey frame', '= grouped')
     case('two grey frames', '= predicted')
-    case('a delay of 0', '= grouped byte 35 08 00 00', comment='The first picture is removed when its start code has come:'
-         ' 272 bits of 480, so 489600 of 864000.')
+    case('a delay of 0', '= grouped byte 35 08 00 00',
+         comment='The first picture is removed when its start code has come: 272 bits of 480, so 489600 of 864000.')
     case('a frame of two fields', '= two_fields')
     case('the headers of a sequence alone', '= grey first 22')
     case('two frames with 17602 zero bytes between', '= grey first 22 byte 7 23', '= grouped from 22 first 8',
@@ -175,12 +175,14 @@ def f_codes():
     case('f_code 6 down at High level', '= predicted byte 17 4A byte 70 6F')
     for names, levels in (('High level behind one of Main', (72, 68)), ('Main level behind one of High', (68, 72))):
         case('f_code 9 across behind a header of %s level' % names, timed(
-            b''.join(small(level=level) + group(1) + one(I) for level in levels) + one(P, 1, f_codes=(9, 1)) + END, 20000),
+            b''.join(small(level=level) + group(1) + one(I) for level in levels)
+            + one(P, 1, f_codes=(9, 1)) + END, 20000),
             comment='The last sequence header before the picture counts.')
     start = small() + group(1) + one(I) + one(P, 2)
     case('f_code 9 across, backward', timed(start + one(B, 1, f_codes=(2, 2, 9, 2)) + END, 20000))
     case('f_code 6 down, backward', timed(start + one(B, 1, f_codes=(2, 2, 2, 6)) + END, 20000))
-    case('f_codes 9 across, backward, and 6 down, forward', timed(start + one(B, 1, f_codes=(2, 6, 9, 2)) + END, 20000))
+    case('f_codes 9 across, backward, and 6 down, forward', timed(
+        start + one(B, 1, f_codes=(2, 6, 9, 2)) + END, 20000))
     case('f_codes 6 down, forward, and 7 down, backward', timed(start + one(B, 1, f_codes=(2, 6, 2, 7)) + END, 20000))
     concealing = picture(Picture(I, f_codes=(9, 1), concealment=1), [flat(128, concealment=(0, 0))])
     case('f_code 9 across with concealment vectors', timed(small() + group(1) + concealing + END, 20000))
@@ -234,7 +236,8 @@ def groups():
     case('the second field of an anchor with another temporal reference', timed(
         fields + one(P, 1, structure=TOP, **WOVEN) + one(P, 2, structure=BOTTOM, **WOVEN) + END, 15000))
     case('both fields of an anchor with another temporal reference', timed(
-        fields + pair(P, 2) + pair(B, 1) + pair(P, 2) + END, 15000), comment='Those of the last frame, which is frame 3.')
+        fields + pair(P, 2) + pair(B, 1) + pair(P, 2) + END, 15000),
+        comment='Those of the last frame, which is frame 3.')
     case('the first field of an anchor with another temporal reference', timed(
         fields + one(P, 3, structure=TOP, **WOVEN) + one(P, 2, structure=BOTTOM, precision=3, **WOVEN) + pair(B, 1)
         + END, 15000))
@@ -248,7 +251,8 @@ def groups():
 
 def crowds():
     heading('crowded rows')
-    # increment and type 2 bits, three blocks 3 + 63 * 24 + 2, two chroma blocks 4, and a luma block 5 + 24 and the rest
+    # the increment and the type have 2 bits, three blocks 3 + 63 * 24 + 2, two chroma blocks 4, and a luma block 5 + 24
+    # and the rest
     full = {i: {0: 128, **{j: 1028 for j in range(1, 64)}} for i in range(3)}
 
     def sized(rest):
@@ -271,12 +275,17 @@ def crowds():
         sequence(48, 32, progressive=0, **wide) + group(1)
         + picture(Picture(I, structure=TOP, **WOVEN), [large, large, bound], quantiser=8)
         + picture(Picture(I, structure=BOTTOM, **WOVEN), [large] * 3, quantiser=8) + END, 9000))
+    dropped = sequence(48, 16, **wide) + group(0) + picture(Picture(I, temporal=1), [flat(128)] * 3, quantiser=8)
+    case('three macroblocks of 4613 bits in a row of a dropped picture', timed(dropped + picture(
+        Picture(B, f_codes=(2,) * 4), [large] * 3, quantiser=8) + END, 9000), comment='Its slices are not read.')
+
     # in P the increment 2 behind a skipped macroblock has 3 bits, and the type 5
 
     def skipping(rest):
         behind = Macroblock(intra=True, skipped=1, blocks={**full, 3: {0: 128, 1: 1028, **rest}})
-        return timed(sequence(112, 16, **wide) + group(1) + picture(Picture(I), [flat(128)] * 7, quantiser=8) + picture(
-            Picture(P, temporal=1, f_codes=(2, 2)), [ahead(0, 0)] + [behind] * 3, quantiser=8) + END, 9000)
+        first = sequence(112, 16, **wide) + group(1) + picture(Picture(I), [flat(128)] * 7, quantiser=8)
+        return timed(first + picture(Picture(P, temporal=1, f_codes=(2, 2)), [ahead(0, 0)] + [behind] * 3, quantiser=8)
+                     + END, 9000)
     case('three macroblocks of 4609 bits with their increments', skipping({2: 1, 3: 1, 4: 1, 6: 1}),
          comment='Each stands behind a skipped one, and its increment has 3 bits.')
     case('three macroblocks of 4608 bits with their increments', skipping({j: 1 for j in range(2, 6)}))
@@ -324,7 +333,8 @@ def several():
     case('rule 15 at picture 0, and rule 1 in a sequence header behind it', timed(
         small() + group(1) + one(I, precision=3) + small(level=73) + group(1) + one(I) + END, 27189),
         comment='The rules on sequence headers count as picture 0.')
-    case('rule 1 in a sequence header behind all pictures', timed(small() + group(1) + one(I) + small(level=73), 27189))
+    case('rule 1 in a sequence header behind all pictures', timed(
+        small() + group(1) + one(I) + small(level=73), 27189))
     case('rule 1 and a fault behind it', '= predicted byte 17 9A byte 79 52',
          wanted=(9, 'stream VectorOutside at bit 630'),
          comment='The vector of one half sample to the right, whose place is counted with decode.')
@@ -350,21 +360,23 @@ def buffer():
             (2201, 'The picture takes more than can have come.'),
             (2244, 'More is held than the buffer takes, and less than the picture takes, which is looked at first.')):
         case('one frame with a long delay and %d zero bytes behind it' % zeros, late, '%d*00' % zeros, comment=comment)
-    first = '= grey first 22 byte 7 23', '= grouped from 22 first 8', '00 00 01 00 00 09 02 00', '= grouped from 38 first 18'
+    first = ('= grey first 22 byte 7 23', '= grouped from 22 first 8', '00 00 01 00 00 09 02 00',
+             '= grouped from 38 first 18')
     second = '00 00 01 00 00 51 58 0B 80', '= predicted from 65 first 15'
     for between, behind, comment in (
             (17602, 229352, 'The buffer is full when the second picture is removed, and it takes all that is held.'),
-            (17601, 229352, 'A zero byte less between: a byte more would come than the buffer takes, but the stream ends.'),
+            (17601, 229352, 'A zero byte less between: more would come than the buffer takes, but the stream ends.'),
             (17602, 229353, 'A zero byte more behind: the second picture takes a byte more than is held.'),
-            (17601, 229353, 'The same with a byte more: all that the picture takes is there, and the buffer takes less.'),
+            (17601, 229353, 'All that the second picture takes is there, and the buffer takes a byte less.'),
             (17602, 229351, 'The stream ends a byte before the buffer is full.'),
             (0, 300, 'Without the zero bytes more would come than the buffer takes, but the stream ends before.')):
         case('15 Mbit/s with %d zero bytes between two frames and %d behind' % (between, behind), *first,
              *['%d*00' % between] * (between > 0), *second, '%d*00' % behind, comment=comment)
     case('more than the buffer takes before the first of two pictures', with_delay(
-        small() + group(1) + one(I) + one(P, 1), 0, 40000), '3000*00', comment='What has come, not what is left, is held.')
-    case('variable rate and a picture that never fits', '= grey byte 8 00 00 60 08', comment='400 bit/s and a buffer of'
-         ' 16,384 bits: not judged.')
+        small() + group(1) + one(I) + one(P, 1), 0, 40000), '3000*00',
+        comment='What has come, not what is left, is held.')
+    case('variable rate and a picture that never fits', '= grey byte 8 00 00 60 08',
+         comment='400 bit/s and a buffer of 16,384 bits: not judged.')
     case('variable rate with a delay in the second picture', with_delay(small() + group(1) + one(I) + one(P, 1) + END,
                                                                         1, 100))
 
@@ -378,7 +390,8 @@ def buffer():
     case('a first delay of one tick more', with_delay(exact, 0, 20001),
          comment='All that follow are counted from it.')
 
-    heading("what counts: a picture takes the headers before it and the zeros behind it, the last one all that follows")
+    heading('what counts: a picture takes the headers before it and the zeros behind it, the last one all that'
+            ' follows')
     case('no end code', '= predicted first 80')
     case('no end code and zero bytes', '= predicted first 80', '20*00')
     case('zero bytes and an end code', '= predicted first 80', '20*00 00 00 01 B7')
@@ -405,14 +418,15 @@ def intervals():
     start = interlaced(code=4) + group(1)
     case('frames of two fields', timed(start + pair(I) + pair(P, 3) + pair(B, 1) + pair(B, 2) + END, 20000))
     case('fields and frames', timed(
-        start + pair(I) + one(P, 2, rows=2, **WOVEN) + pair(B, 1) + pair(P, 4) + one(B, 3, rows=2, **WOVEN) + END, 20000))
+        start + pair(I) + one(P, 2, rows=2, **WOVEN) + pair(B, 1) + pair(P, 4) + one(B, 3, rows=2, **WOVEN) + END,
+        20000))
     for code in (1, 2, 3, 5):
         case('frame_rate_code %d' % code, timed(
             interlaced(code=code) + group(1) + pair(I) + one(P, 1, rows=2, repeat=1) + one(P, 2, rows=2) + END, 20000))
     for code in (6, 7, 8):
         case('frame_rate_code %d at High level' % code, timed(
-            interlaced(code=code, level=68) + group(1) + pair(I) + one(P, 1, rows=2, repeat=1) + one(P, 2, rows=2) + END,
-            20000))
+            interlaced(code=code, level=68) + group(1) + pair(I) + one(P, 1, rows=2, repeat=1) + one(P, 2, rows=2)
+            + END, 20000))
     film = dict(rows=2, repeat=1)
     plain = dict(rows=2)
     case('a frame that repeats a field before two fields', timed(
@@ -447,17 +461,18 @@ def intervals():
 # ---- faults, words, endpoints
 
 FAULTS = (
-    'no byte', 'no sequence header', 'the first 12 bytes', 'a group header behind a picture header', 'chroma format 2',
-    'a start code of a system stream', 'the first 43 bytes', 'the first 39 bytes', 'a group header that ends early',
-    'no code of a coefficient', 'no code of a type in B', 'a marker of a sequence header', 'a marker of a group header',
-    'a reserved start code', 'a second sequence extension', 'width 0', 'picture structure 0', 'quantiser code 0',
-    'an escaped level of -2048', 'a sequence of another size', 'another scan', 'a slice past the last row',
-    'a slice twice', 'a macroblock too many', 'the last row missing', 'a skipped macroblock',
-    'a field vector 8 with f_code 1', 'a P picture with a vector to the right',
-    'a vector that leaves its frame on the left', 'a pair past the end of its block', 'a DC level of -1',
-    'a P picture without its I picture', 'a B picture of a closed group that goes forward', 'a first field alone',
-    'behind an I field a sequence header', 'behind a dropped B field a P field', 'a slice past the last row in a dropped'
-    ' picture', 'a fault in the second of two pictures with low delay', 'a piece one byte larger',
+    'no byte', 'no sequence header', 'the first 12 bytes', 'a group header behind a picture header',
+    'chroma format 2', 'a start code of a system stream', 'the first 43 bytes', 'the first 39 bytes',
+    'a group header that ends early', 'no code of a coefficient', 'no code of a type in B',
+    'a marker of a sequence header', 'a marker of a group header', 'a reserved start code',
+    'a second sequence extension', 'width 0', 'picture structure 0', 'quantiser code 0', 'an escaped level of -2048',
+    'a sequence of another size', 'another scan', 'a slice past the last row', 'a slice twice',
+    'a macroblock too many', 'the last row missing', 'a skipped macroblock', 'a field vector 8 with f_code 1',
+    'a P picture with a vector to the right', 'a vector that leaves its frame on the left',
+    'a pair past the end of its block', 'a DC level of -1', 'a P picture without its I picture',
+    'a B picture of a closed group that goes forward', 'a first field alone', 'behind an I field a sequence header',
+    'behind a dropped B field a P field', 'a slice past the last row in a dropped picture',
+    'a fault in the second of two pictures with low delay', 'a piece one byte larger',
     'a piece one byte larger with a fault')
 
 
@@ -469,8 +484,8 @@ def faults():
 
 def endpoints():
     heading('words and endpoints that fail')
-    for name, words in (('a word too many', 'check x'), ('the word twice', 'check check'), ('an option', 'check --workers 2'),
-                        ('with another first letter', 'Check')):
+    for name, words in (('a word too many', 'check x'), ('the word twice', 'check check'),
+                        ('an option', 'check --workers 2'), ('with another first letter', 'Check')):
         CASES.append((name, '', ['words ' + words, 'input = grouped', 'status 2', 'report usage']))
     fault, use = (7, 'read fault'), (8, '')
     case('the input fails at its first call', '= grouped', more=['fail input 1'], wanted=fault)
