@@ -251,7 +251,7 @@ def groups():
 
 def crowds():
     heading('crowded rows')
-    # the increment and the type have 2 bits, three blocks 3 + 63 * 24 + 2, two chroma blocks 4, and a luma block 5 + 24
+    # the increment and the type have 2 bits, three blocks 3 + 63 * 24 + 2, two chroma blocks 4, a luma block 5 + 24
     # and the rest
     full = {i: {0: 128, **{j: 1028 for j in range(1, 64)}} for i in range(3)}
 
