@@ -178,6 +178,8 @@ def f_codes():
             b''.join(small(level=level) + group(1) + one(I) for level in levels)
             + one(P, 1, f_codes=(9, 1)) + END, 20000),
             comment='The last sequence header before the picture counts.')
+    case('f_code 9 across before a header of Main level behind one of High level', timed(
+        small(level=68) + group(1) + one(I) + one(P, 1, f_codes=(9, 1)) + small() + group(1) + one(I) + END, 20000))
     start = small() + group(1) + one(I) + one(P, 2)
     case('f_code 9 across, backward', timed(start + one(B, 1, f_codes=(2, 2, 9, 2)) + END, 20000))
     case('f_code 6 down, backward', timed(start + one(B, 1, f_codes=(2, 2, 2, 6)) + END, 20000))
@@ -205,6 +207,9 @@ def groups():
     case('no group header', timed(small() + one(I) + one(P, 1) + END, 20000),
          comment='The frames before the first group header form one group.')
     case('no group header, and a P picture that begins at 0 again', timed(small() + one(I) + one(P) + END, 20000))
+    case('no group header, and B pictures in front, which are dropped', timed(
+        small() + one(B) + one(B, 1) + one(I, 2) + one(P, 3) + END, 15000),
+        comment='None of them is the first one behind a group header.')
     case('a group header behind frames without one', timed(
         small() + one(I) + one(P, 1) + group(1) + one(I) + one(P, 1) + END, 20000))
     case('a temporal reference of 2 in the second picture', '= predicted byte 61 93')
@@ -351,6 +356,10 @@ def buffer():
     case('the least delay that brings the first picture', with_delay(grey, 0, 468),
          comment='480 bits of 1800 units: 272 of them have come, and 800 units come in a tick.')
     case('a delay of one tick less', with_delay(grey, 0, 467))
+    twice = small() + group(1) + one(I) + small() + group(1) + one(I) + END
+    case('the least delay that brings the first picture, before a sequence header', with_delay(twice, 0, 396),
+         comment='448 bits of 1800 units: the header counts to the second picture.')
+    case('a delay of one tick less, before a sequence header', with_delay(twice, 0, 395))
     case('the second picture under', timed(small(rate=1) + group(1) + one(I) + one(P, 1) + END, 60000))
     late = with_delay(small() + group(1) + one(I), 0, 40000)
     for zeros, comment in (
@@ -434,6 +443,9 @@ def intervals():
         comment='The picture behind the second field is removed a field later.')
     case('a frame that repeats a field before two I fields and B fields', timed(
         start + one(I, **film) + pair(I, 2) + pair(B, 1) + one(P, 3, **plain) + END, 20000))
+    case('an anchor that repeats a field before B fields', timed(
+        start + one(I, **plain) + one(P, 2, **film) + pair(B, 1) + one(P, 3, **plain) + END, 20000),
+        comment='The fields of B frames take their own time.')
     case('I P B P, of which the first P and the B repeat a field', timed(
         start + one(I, **plain) + one(P, 2, **film) + one(B, 1, **film) + one(P, 3, **plain) + END, 20000))
     case('the last anchor before B pictures repeats a field', timed(
