@@ -1,18 +1,18 @@
 #!/usr/bin/env python3
-"""What encode is to write for frames whose samples are all 128: an encoder of such frames written from the rules
-alone, which shares nothing with the program. Without arguments it prints the cases of m2v_cases on encode, which
-stand in bench/encoded_cases.py; with a folder, it writes the streams of its cases there.
+"""What encode is to write: an encoder written from the rules alone, which shares nothing with the program. It prints
+the cases of m2v_cases on encode, which stand in bench/encoded_cases.py.
 
-Of such frames nothing is chosen: in an I picture each block keeps its predictor's level, 128; in a P picture each
-macroblock goes forward by the vector 0, in a B picture backward, from the same lines, without a block; and those that
-are neither first nor last in their slice are skipped there. Each other choice gives the same samples with more bits.
-So a picture's size doesn't depend on its quantiser, which stands in the headers of its slices alone, and is found by
-the plan."""
+Here stand the settings and their test, groups, headers, the buffer and the plans; how macroblocks are coded stands in
+bench/encoded_choice.py. Of frames whose samples are all 128 nothing is chosen, so that these go a way of their own:
+in an I picture each block keeps its predictor's level, 128; in a P picture each macroblock goes forward by the vector
+0, in a B picture backward, from the same lines, without a block; and those that are neither first nor last in their
+slice are skipped there. Each other choice gives the same samples with more bits. Both ways give the same streams of
+small ones."""
 
 from dataclasses import dataclass
 
-from pictures_writer import (B, BOTTOM, END, FIELD, FRAME, I, OTHER, P, TOP, Macroblock, Picture, flat, group, headers,
-                             sequence, slice_unit)
+from encoded_choice import Coder, Grey
+from pictures_writer import B, BOTTOM, END, FRAME, I, P, TOP, Picture, group, headers, sequence
 from verdicts import FIELD_UNITS, LEVELS
 
 PROFILES = {'main': 72, 'high1440': 70, 'high': 68}
@@ -172,16 +172,6 @@ class Plans:
         self.accounts.append(self.accounts[p] - 1800 * (known.bits + known.stuffing) + self.s.bits * self.jobs[p].time)
 
 
-def held(job, skipped=0):
-    """The macroblock that keeps what is there."""
-    if job.kind == I:
-        return flat(128)
-    own = (job.structure == BOTTOM,) if job.structure != FRAME else ()
-    vector = [(0, 0, *map(int, own))]
-    motion = OTHER if job.structure == FRAME else FIELD
-    return Macroblock(motion=motion, skipped=skipped, **{'forward' if job.kind == P else 'backward': vector})
-
-
 def group_header(s, jobs, number):
     first = min(job.display for job in jobs)
     if s.pulldown:
@@ -191,31 +181,33 @@ def group_header(s, jobs, number):
                  pictures)
 
 
-def picture_of(s, job, quantiser, delay):
-    """The headers of a picture, and its slices."""
+def header_of(s, job, delay):
+    """What the headers of a picture say."""
     whole = s.scan == 'progressive' or s.pulldown
     top_first = int(s.scan == 'frames' if not s.pulldown else job.display % 4 in (0, 3))
-    p = Picture(job.kind, job.structure, job.place, (2,) * 4, top_first=top_first, frame_only=int(whole),
-                alternate=int(not whole), progressive=int(whole), delay=delay,
-                repeat=int(s.pulldown and job.display % 4 in (0, 2)))
-    row = [flat(128)] * s.columns
-    if job.kind != I:
-        row = [held(job)] + [held(job, s.columns - 2)] * (s.columns > 1)
-    return headers(p) + b''.join(slice_unit(p, at, quantiser, row) for at in range(s.rows))
+    return Picture(job.kind, job.structure, job.place, (2,) * 4, top_first=top_first, frame_only=int(whole),
+                   alternate=int(not whole), progressive=int(whole), delay=delay,
+                   repeat=int(s.pulldown and job.display % 4 in (0, 2)))
 
 
 @dataclass
 class Encoded:
-    """The bytes up to the end of each group, those of the whole stream, and its numbers."""
+    """Where each group ends, the stream, its numbers, and the reconstructed frames where frames were given."""
     ends: list
     data: bytes
     pictures: int
     stuffing: int
+    frames: list
+
+    def line(self, count):
+        return 'frames %d pictures %d bytes %d stuffing %d' % (count, self.pictures, len(self.data), self.stuffing)
 
 
-def encoded(s, count):
+def encoded(s, count, frames=None):
+    """Of so many frames whose samples are all 128, or of these, as raw bytes."""
     s.numbers()
     k = s.bits
+    coder = Coder(s, frames) if frames else Grey(s)
     head = sequence(s.width, s.height, int(s.scan == 'progressive'), level=PROFILES[s.level], aspect=s.aspect,
                     code=s.rate, rate=k, buffer=s.buffer)
     data, ends, history, time = b'', [], [], 0
@@ -228,7 +220,8 @@ def encoded(s, count):
             at = 8 * len(data + start) + 32
             delay = (8 * k * s.delay + k * time - 1800 * (at - FIRST)) // (8 * k)
             cap, quantiser = plans.plan(p)
-            coded = start + picture_of(s, job, quantiser, delay)
+            p_header = header_of(s, job, delay)
+            coded = start + headers(p_header) + coder.slices(p_header, job, quantiser, cap)
             assert 8 * len(coded) <= cap
             over = plans.accounts[p] - 1800 * 8 * len(coded) + k * job.time - 1800 * s.size
             last = number == len(all_jobs) - 1 and p == len(jobs) - 1
@@ -239,12 +232,8 @@ def encoded(s, count):
         history += plans.known
         account = plans.accounts[-1]
         ends.append(len(data))
-    return Encoded(ends, data + END, sum(map(len, all_jobs)), sum(known.stuffing for known in history) // 8)
-
-
-def line_of(s, count):
-    coded = encoded(s, count)
-    return 'frames %d pictures %d bytes %d stuffing %d' % (count, coded.pictures, len(coded.data), coded.stuffing)
+    return Encoded(ends, data + END, sum(map(len, all_jobs)), sum(known.stuffing for known in history) // 8,
+                   coder.frames_shown())
 
 
 if __name__ == '__main__':

@@ -1,13 +1,12 @@
-"""The cases of m2v_cases on encode, printed by bench/encoded.py. What is wanted is what the encoder there makes of
-frames whose samples are all 128, and its test of settings; what it makes of the worked examples was held against
-them."""
+"""The cases of m2v_cases on encode, printed by bench/encoded.py. What is wanted is what the encoder there makes of the
+frames, and its test of settings; what it makes of the worked examples was held against them."""
 
-from encoded import Settings, encoded, groups_of, line_of
+from encoded import Settings, encoded, groups_of
 from pictures import lines_of
-from table_lines import comment_lines, read_table, stream_words
+from table_lines import comment_lines, read_bytes, read_table, runs, stream_words
 
 STREAMS, _ = read_table()
-CASES = []
+KNOWN, CASES = [], []
 SMALL = dict(width=16, height=16, rate=3, bits=100, buffer=1)
 TALL = dict(width=16, height=32, rate=3, bits=100, buffer=1)
 WIDE = dict(width=720, height=576, rate=3, bits=15000, buffer=112)
@@ -49,7 +48,7 @@ def wanted(s, count, extra, recon):
     if not extra:
         coded = encoded(s, count)
         held = ['recon %d*80' % (count * frame_bytes(s))] if recon else []
-        return ['report ' + line_of(s, count), *output_lines(coded.data), *held, *name]
+        return ['report ' + coded.line(count), *output_lines(coded.data), *held, *name]
     # groups whose next I frame was read whole; each ends as it would before any further frames
     whole = max(0, (count - 1) // s.group) if count else 0
     coded = encoded(s, whole * s.group + 1) if whole else None
@@ -67,12 +66,34 @@ def case(name, settings, count=1, extra=0, recon=None, more=(), comment='', word
     CASES.append((name, comment, lines + (instead if instead is not None else wanted(s, count, extra, recon))))
 
 
+def content(name, settings, frames, recon=None, comment=''):
+    """Frames in words of the table, one after another."""
+    s = Settings(**settings)
+    assert not s.unfit()
+    raw = [read_bytes(STREAMS, text) for text in frames]
+    assert all(len(frame) == frame_bytes(s) for frame in raw)
+    coded = encoded(s, len(raw), raw)
+    lines = ['words ' + words_of(settings, recon)] + ['input ' + text for text in frames]
+    lines += ['report ' + coded.line(len(raw)), *output_lines(coded.data)]
+    if recon:
+        lines += [*lines_of('recon', [[word] for word in runs(b''.join(coded.frames))]), 'recon_name ' + recon]
+    CASES.append((name, comment, lines))
+
+
 def heading(text):
     CASES.append((None, text, []))
 
 
+def known(name, *lines):
+    """A stream that cases name."""
+    STREAMS[name] = b''.join(read_bytes(STREAMS, line) for line in lines)
+    KNOWN.append((name, lines))
+
+
 def table():
-    yield ''
+    yield from ('', '# ---- encode: bytes for frames', '')
+    for name, lines in KNOWN:
+        yield from ('stream ' + name, *['bytes ' + line for line in lines], '')
     for name, comment, lines in CASES:
         if name is None:
             yield from (*comment_lines('---- encode: ' + comment), '')
@@ -155,6 +176,56 @@ def streams():
     case('a time code of a minute', {**SMALL, 'width': 2, 'height': 2, 'group': 50, 'step': 1, 'rate': 1}, 1451,
          comment='The group of frame 1450 begins 10 frames behind a minute.')
     case('a whole frame of fields', {**WIDE, 'scan': 'fields', 'search': 1}, 2)
+
+
+def contents():
+    heading('frames with content')
+    luma = ['%02X' % ((7 * c + 11 * y) % 256) for y in range(32) for c in range(16)]
+    content('two rows by two workers', {**TALL, 'workers': 2}, ['= slanted 256*80'], recon='r',
+            comment='Luma is 7 c + 11 y modulo 256 in line y and column c.')
+    assert read_bytes(STREAMS, '= slanted').hex(' ').upper().split() == luma
+    small = dict(width=48, height=48, rate=3, search=3)
+    tall = dict(width=48, height=64, rate=3, search=2)
+
+    def noise(size, *places):
+        return ['= noise from %d first %d' % (place, size) for place in places]
+
+    def edges(size, *places):
+        return ['%d*pattern from %d first %d' % (size + 100, place, size) for place in places]
+    for name, settings, frames in (
+            ('noise that moves', {**small, 'bits': 2000, 'buffer': 16}, noise(3456, 0, 1, 3, 2, 50, 51)),
+            ('noise at a low rate', {**small, 'bits': 120, 'buffer': 2}, noise(3456, 0, 1, 3, 2, 50, 51)),
+            ('edges', {**small, 'bits': 600, 'buffer': 6}, edges(3456, 0, 3, 9, 6, 12, 15, 40)),
+            ('edges in closed groups', {**small, 'bits': 600, 'buffer': 6, 'group': 4, 'step': 2, 'closed': True},
+             edges(3456, 0, 3, 9, 6, 12, 15, 40, 1, 90)),
+            ('edges with search 0', {**small, 'bits': 600, 'buffer': 6, 'search': 0}, edges(3456, 0, 3, 9, 6)),
+            ('edges with search 15', {**small, 'bits': 600, 'buffer': 6, 'search': 15}, edges(3456, 0, 30, 90)),
+            ('noise in interlaced frames', {**tall, 'bits': 2500, 'buffer': 20, 'scan': 'frames'},
+             noise(4608, 0, 1, 3, 2)),
+            ('edges in interlaced frames', {**tall, 'bits': 700, 'buffer': 7, 'search': 4, 'scan': 'frames'},
+             edges(4608, 0, 3, 9, 6, 12)),
+            ('noise in interlaced frames at a low rate', {**tall, 'bits': 160, 'buffer': 2, 'scan': 'frames'},
+             noise(4608, 0, 1, 3, 2)),
+            ('noise in fields', {**tall, 'bits': 2500, 'buffer': 20, 'scan': 'fields'}, noise(4608, 0, 1, 3, 2)),
+            ('edges in fields', {**tall, 'bits': 700, 'buffer': 7, 'search': 3, 'scan': 'fields'},
+             edges(4608, 0, 3, 9, 6, 12)),
+            ('noise in fields at a low rate', {**tall, 'bits': 160, 'buffer': 2, 'scan': 'fields'},
+             noise(4608, 0, 1, 3, 2)),
+            ('edges in film', {**tall, 'rate': 4, 'bits': 800, 'buffer': 8, 'scan': 'frames', 'pulldown': True},
+             edges(4608, 0, 3, 9, 6, 12, 15, 18)),
+            ('noise in three groups', {**small, 'bits': 1500, 'buffer': 12, 'group': 3, 'workers': 4},
+             noise(3456, 0, 1, 3, 2, 50, 51, 52, 90)),
+            ('a size that is no whole macroblocks', {**small, 'width': 34, 'height': 22, 'bits': 500, 'buffer': 5},
+             edges(1122, 0, 3, 9, 6)),
+            ('fields of 36 lines with content',
+             {**tall, 'width': 34, 'height': 36, 'bits': 900, 'buffer': 9, 'scan': 'fields'}, noise(1836, 0, 1, 3)),
+            ('interlaced frames of 36 lines with content',
+             {**tall, 'width': 34, 'height': 36, 'bits': 900, 'buffer': 9, 'scan': 'frames'}, noise(1836, 0, 1, 3)),
+            ('noise in I frames at a high rate', {**small, 'bits': 6000, 'buffer': 60, 'group': 1, 'step': 1},
+             noise(3456, 0, 1, 3, 2, 50, 51, 52, 90)),
+            ('noise in groups of three at a high rate', {**small, 'bits': 6000, 'buffer': 60, 'group': 3},
+             noise(3456, 0, 1, 3, 2, 50, 51, 52, 90))):
+        content(name, settings, frames)
 
 
 def tests():
@@ -268,5 +339,10 @@ def endpoints():
     case('each call of the input fails in turn, without a place for reconstructions', SMALL, 2, more=['each input'])
 
 
-for add in (worked, streams, tests, words, endings, endpoints):
+TEXTURED = '= interlaced_textured', '= fields_textured', '= nine_textured', '= six_textured'
+known('noise', *TEXTURED, *TEXTURED, *TEXTURED)
+known('slanted', *[' '.join('%02X' % ((7 * c + 11 * y) % 256) for y in range(first, first + 2) for c in range(16))
+                   for first in range(0, 32, 2)])
+
+for add in (worked, streams, contents, tests, words, endings, endpoints):
     add()
