@@ -211,6 +211,12 @@ def contents():
              edges(4608, 0, 3, 9, 6, 12)),
             ('noise in fields at a low rate', {**tall, 'bits': 160, 'buffer': 2, 'scan': 'fields'},
              noise(4608, 0, 1, 3, 2)),
+            ('noise where an interval brings just an emergency picture',
+             {**tall, 'bits': 60, 'buffer': 1, 'search': 0}, noise(4608, 0, 1, 3, 2, 50, 51)),
+            ('noise in interlaced frames, where an interval brings just an emergency picture',
+             {**tall, 'bits': 60, 'buffer': 1, 'scan': 'frames'}, noise(4608, 0, 1, 3, 2)),
+            ('noise in fields, where an interval brings just an emergency picture',
+             {**tall, 'bits': 86, 'buffer': 1, 'scan': 'fields'}, noise(4608, 0, 1, 3, 2)),
             ('edges in film', {**tall, 'rate': 4, 'bits': 800, 'buffer': 8, 'scan': 'frames', 'pulldown': True},
              edges(4608, 0, 3, 9, 6, 12, 15, 18)),
             ('noise in three groups', {**small, 'bits': 1500, 'buffer': 12, 'group': 3, 'workers': 4},
@@ -226,6 +232,18 @@ def contents():
             ('noise in groups of three at a high rate', {**small, 'bits': 6000, 'buffer': 60, 'group': 3},
              noise(3456, 0, 1, 3, 2, 50, 51, 52, 90))):
         content(name, settings, frames)
+    stripes = {**small, 'bits': 2000, 'buffer': 16, 'step': 1}
+    content('slanted stripes that move', stripes,
+            ['= stripes from %d first 2304 1152*80' % place for place in (0, 2, 1, 4, 1)],
+            comment='Many vectors are equally good, those of one sum of parts.')
+    for scan, height, size in (('progressive', 48, 3456), ('frames', 64, 4608), ('fields', 64, 4608)):
+        content('even frames of other levels, %s' % scan,
+                {**small, 'height': height, 'bits': 600, 'buffer': 6, 'scan': scan},
+                ['%d*%02X' % (size, level) for level in (60, 61, 118, 120, 121, 64, 63, 63, 119)],
+                comment='All vectors are equally good.')
+    content('slanted stripes that move by half a sample', stripes, [
+        '= stripes first 2304 1152*80', '= half_stripes first 2304 1152*80',
+        '= half_stripes from 2 first 2304 1152*80'])
 
 
 def tests():
@@ -341,6 +359,10 @@ def endpoints():
 
 TEXTURED = '= interlaced_textured', '= fields_textured', '= nine_textured', '= six_textured'
 known('noise', *TEXTURED, *TEXTURED, *TEXTURED)
+for name, values in (('stripes', (16, 80, 200, 120)), ('half_stripes', (48, 140, 160, 68))):
+    lines = [' '.join('%02X' % values[(x + y) % 4] for x in range(width)) for y in range(4) for width in (24, 24)]
+    known(name + '_once', *lines)
+    known(name, *['= %s_once' % name] * 13)
 known('slanted', *[' '.join('%02X' % ((7 * c + 11 * y) % 256) for y in range(first, first + 2) for c in range(16))
                    for first in range(0, 32, 2)])
 

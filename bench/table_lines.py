@@ -36,6 +36,7 @@ def read_bytes(streams, text):
             data += streams[words.pop(0)]
         elif word in CHANGES:
             count = next((i for i, w in enumerate(words) if w in CHANGES or w == '='), len(words))
+            count = count if word in ('byte', 'put') else 1
             data = changed(data, word, words[:count])
             words = words[count:]
         else:
