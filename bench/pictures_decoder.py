@@ -212,7 +212,7 @@ class SliceReader:
                         [vectors and [(*entry[direction], self.own_parity())]
                          for direction, vectors in enumerate(self.mode.directions)])
         row, column = divmod(address, self.d.columns)
-        self.d.put(row, column, self.d.prediction.of(mode, row, column), {}, 0)
+        self.d.rebuild(row, column, mode, {}, 0)
 
     def component(self, entry, direction, part, halved, both):
         f_code = self.p.f_codes[2 * direction + part]
@@ -267,10 +267,9 @@ class SliceReader:
         coded = 63 if intra else reader.code(PATTERN) if pattern else 0
         if not intra:
             self.reset_levels()
-        results = {index: inverse(self.block(index, intra)) for index in range(6) if coded & (32 >> index)}
-        samples = None if intra else self.d.prediction.of(self.mode, row, column)
+        blocks = {index: self.block(index, intra) for index in range(6) if coded & (32 >> index)}
         self.d.seen.append((p.kind, p.structure, motion if forward or backward else 0, self.mode, field_dct))
-        self.d.put(row, column, samples, results, field_dct)
+        self.d.rebuild(row, column, self.mode, blocks, field_dct)
 
     def block(self, index, intra):
         """The coefficients of a block."""
@@ -391,9 +390,13 @@ class Decoder:
             return lines_of(frames[direction], parity)
         self.prediction = Prediction(p.structure, p.top_first, fields, frames)
 
-    def put(self, row, column, samples, results, field_dct):
-        """A macroblock's samples: its prediction plus the results of its blocks."""
-        samples = samples or [[[0] * n for _ in range(n)] for n in (16, 8, 8)]
+    def rebuild(self, row, column, mode, blocks, field_dct):
+        """A macroblock's samples: its prediction, where it has one, plus the results of its blocks."""
+        results = {index: inverse(block) for index, block in blocks.items()}
+        if mode:
+            samples = self.prediction.of(mode, row, column)
+        else:
+            samples = [[[0] * n for _ in range(n)] for n in (16, 8, 8)]
         for index, block in results.items():
             for i in range(8):
                 for j in range(8):

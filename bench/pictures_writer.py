@@ -158,6 +158,8 @@ class Picture:
     table_one: int = 0
     alternate: int = 0
     progressive: int = 1
+    delay: int = 65535
+    repeat: int = 0
 
 
 def dc_bits(difference, sizes):
@@ -299,27 +301,31 @@ def matrix_bits(matrix):
     return '0' if matrix is None else '1' + ''.join(number(matrix[place], 8) for place in ZIGZAG)
 
 
-def sequence(width, height, progressive=1, low_delay=0, intra=None, non_intra=None):
-    """A sequence header and its extension: 25 frames a second."""
-    header = unit(0xB3, number(width, 12), number(height, 12), '0001 0011', number(2500, 18), '1',
-                  number(20, 10), '0', matrix_bits(intra), matrix_bits(non_intra))
-    return header + unit(0xB5, '0001', number(72, 8), str(progressive), '01 00 00', number(0, 12), '1',
-                         number(0, 8), str(low_delay), '00 00000')
+def sequence(width, height, progressive=1, low_delay=0, intra=None, non_intra=None, level=72, aspect=1, code=3,
+             rate=2500, buffer=20, n=0, d=0):
+    """A sequence header and its extension. Code 3 is 25 frames a second; the rate is in units of 400 bit/s, the buffer
+    in units of 16,384 bits."""
+    header = unit(0xB3, number(width, 12), number(height, 12), number(aspect, 4), number(code, 4),
+                  number(rate % 2 ** 18, 18), '1', number(buffer % 1024, 10), '0', matrix_bits(intra),
+                  matrix_bits(non_intra))
+    return header + unit(0xB5, '0001', number(level, 8), str(progressive), '01 00 00', number(rate >> 18, 12), '1',
+                         number(buffer >> 10, 8), str(low_delay), number(n, 2), number(d, 5))
 
 
-def group(closed):
-    return unit(0xB8, '0 00000 000000 1 000000 000000', str(closed), '0')
+def group(closed, hours=0, minutes=0, seconds=0, pictures=0):
+    return unit(0xB8, '0', number(hours, 5), number(minutes, 6), '1', number(seconds, 6), number(pictures, 6),
+                str(closed), '0')
 
 
 def headers(p):
     """A picture header and its coding extension."""
     ignored = {I: '', P: '0 111', B: '0 111 0 111'}[p.kind]
-    header = unit(0x00, number(p.temporal, 10), number(p.kind, 3), '1' * 16, ignored, '0')
+    header = unit(0x00, number(p.temporal, 10), number(p.kind, 3), number(p.delay, 16), ignored, '0')
     used = {I: 2 if p.concealment else 0, P: 2, B: 4}[p.kind]
     f_codes = (tuple(p.f_codes)[:used] + (15,) * 4)[:4]
     return header + unit(0xB5, '1000', *[number(f, 4) for f in f_codes], number(p.precision, 2),
                          number(p.structure, 2), str(p.top_first), str(p.frame_only), str(p.concealment),
-                         str(p.scale_type), str(p.table_one), str(p.alternate), '0', str(p.progressive),
+                         str(p.scale_type), str(p.table_one), str(p.alternate), str(p.repeat), str(p.progressive),
                          str(p.progressive), '0')
 
 
