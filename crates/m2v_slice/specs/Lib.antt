@@ -1,1 +1,6 @@
 pub mod Books
+pub mod Cached
+pub mod Jobs
+pub mod Conditions
+pub mod Windows
+pub mod Needs
