@@ -1,8 +1,10 @@
 -- The jobs of a book: what each makes, what others learn of it, and what learning makes of a cache.
-use Rattle.std.specs.Prelude.{ℕ, zero, suc, ◌≡◌, ◌≢◌, ◌+◌, ◌-◌, ◌*◌, ◌^◌, nat_eq, nat_le, cond, min, if◌then◌else◌, List, All, length, slice_set}
+use Rattle.std.specs.Prelude.{ℕ, zero, suc, ◌≡◌, ◌≢◌, ◌+◌, ◌-◌, ◌*◌, ◌^◌, ◌≤◌, nat_eq, nat_le, cond, min, if◌then◌else◌, List, All, length, slice_set}
+use Rattle.m2v_plane.specs.declared.dims.Dims.{Dims}
 use Rattle.m2v_plane.specs.Samples.{Samples}
-use Rattle.m2v_set.specs.Numbers.{dims_of}
+use Rattle.m2v_set.specs.Numbers.{dims_of, mb_width_of}
 use Rattle.m2v_rate.specs.Plans.{first_open}
+use Rattle.m2v_row.specs.Slices.{most_bits_of}
 use Rattle.m2v_slice.specs.declared.pieces.EncodePiece.{EncodePiece}
 use Rattle.m2v_slice.specs.declared.pieces.EncodePiece.TheVariants as piece
 use Rattle.m2v_slice.specs.declared.pieces.EncodeShared.{EncodeShared}
@@ -73,14 +75,28 @@ learned_of b j (suc k) x c = if nat_eq (part_of_job b j) 0 then with_bits x c el
 
 -- ---- what fits
 
--- a piece or a shared part is that of a plan or of a slice as the job is, and a row is for frames of the settings' size
+-- a piece or a shared part is that of a plan or of a slice as the job is; a row is for frames of the settings' size, and no
+-- text is longer than that of any slice
 unfoldable pub FitsPiece : Book → ℕ → EncodePiece → Type 0
 FitsPiece b j (piece.Plan plan ledger) = part_of_job b j ≡ 0
-FitsPiece b j (piece.Slice slice) = (part_of_job b j ≢ 0) × (slice.row.dims ≡ dims_of b.settings)
+FitsPiece b j (piece.Slice slice) =
+    (part_of_job b j ≢ 0)
+    × (slice.row.dims ≡ dims_of b.settings)
+    × (length slice.text ≤ most_bits_of (mb_width_of b.settings))
 
 unfoldable pub FitsShared : Book → ℕ → EncodeShared → Type 0
 FitsShared b j (part.Plan plan ledger) = part_of_job b j ≡ 0
 FitsShared b j (part.Slice row bits) = (part_of_job b j ≢ 0) × (row.dims ≡ dims_of b.settings)
+
+-- a shared part is that of a slice
+unfoldable pub IsSlicePart : EncodeShared → Type 0
+IsSlicePart (part.Plan plan ledger) = ⊥
+IsSlicePart (part.Slice row bits) = Unit {0}
+
+-- the row of a shared part, if it has one, is for frames of this size
+unfoldable pub HasDims : Dims → EncodeShared → Type 0
+HasDims d (part.Plan plan ledger) = Unit {0}
+HasDims d (part.Slice row bits) = d ≡ row.dims
 
 -- a cache has room for three rows of each of four reference pictures
 pub record FitsCache (b : Book) (c : Cached) : Type 0 where

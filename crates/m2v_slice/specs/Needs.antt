@@ -28,7 +28,7 @@ all_range P a n each i d lt =
     let small : i < n = omega (arith, lt, length-range_with_len a n) in
     subst P (sym (get_or-range_with_len a n i d small)) (each i small)
 
-flat_few : {X A : Type 0} (f : X → List A) (xs : List X) (k n : ℕ) → ((x : X) → length (f x) ≤ k) → length xs ≤ n → length (flat_map f xs) ≤ k * n
+pub flat_few : {X A : Type 0} (f : X → List A) (xs : List X) (k n : ℕ) → ((x : X) → length (f x) ≤ k) → length xs ≤ n → length (flat_map f xs) ≤ k * n
 flat_few f [] k n each few = omega arith
 flat_few f (x ∷ xs) k zero each few = absurd (omega arith)
 flat_few f (x ∷ xs) k (suc n) each few =

@@ -1,12 +1,20 @@
 -- The rows of reference pictures that a slice's cache holds, and the lines that a view of them holds.
-use Rattle.std.specs.Prelude.{ℕ, ◌≡◌, ◌+◌, ◌-◌, ◌*◌, ◌/◌, ◌<◌, ◌≤◌, min, List, length, slice_index, slice_index_or, Option, Some, None, IsSome}
-use Rattle.std.specs.List.{flat_map}
+use Rattle.std.specs.Prelude.{ℕ, ◌≡◌, ◌+◌, ◌-◌, ◌*◌, ◌/◌, ◌<◌, ◌≤◌, min, nat_eq, nat_lt, cond, if◌then◌else◌, List, [], ◌∷◌, map, length, slice_index, slice_index_or, Option, Some, None, IsSome}
+use Rattle.std.specs.List.{flat_map, range_with_len}
 use Rattle.m2v_plane.specs.declared.planes.Plane.{Plane}
 use Rattle.m2v_plane.specs.declared.planes.Lines.{Lines}
+use Rattle.m2v_plane.specs.declared.planes.Lines.TheVariants.{Whole, Top, Bottom}
 use Rattle.m2v_plane.specs.Sizes.{side, lines_of}
 use Rattle.m2v_plane.specs.Samples.{Samples}
 use Rattle.m2v_set.specs.Numbers.{dims_of}
-use Rattle.m2v_slice.specs.Books.{Book, rows, job_at, line_in, coded, slice_at, in_group, reference_picture, reference_pictures}
+use Rattle.m2v_slice.specs.Books.{Book, rows, job_at, line_in, coded, slice_at, in_group, plan_job, slice_job, near_rows, reference_picture, reference_pictures}
+
+-- the pictures that reference n of a picture stands in
+abbrev pub references_of : Book → ℕ → ℕ → List (Option ℕ)
+references_of b p n =
+    if nat_eq (job_at b p).structure 3
+    then reference_picture b p n Whole ∷ []
+    else reference_picture b p n Top ∷ reference_picture b p n Bottom ∷ []
 
 -- the pictures of the group that a picture refers to
 abbrev pub needed : Book → ℕ → List ℕ
@@ -18,6 +26,14 @@ first_near r = r - 1
 
 abbrev pub count_near : Book → ℕ → ℕ
 count_near b r = min (r + 2) (rows b) - (r - 1)
+
+-- the needs of a plan, and of a slice
+abbrev pub plan_needs : Book → ℕ → List ℕ
+plan_needs b p =
+    cond (nat_eq p 0) [] (plan_job b (p - 1) ∷ cond (nat_lt p 4) [] (map (slice_job b (p - 4)) (range_with_len 0 (rows b))))
+
+abbrev pub slice_needs : Book → ℕ → ℕ → List ℕ
+slice_needs b p r = plan_job b p ∷ flat_map (λ k. map (slice_job b k) (near_rows b r)) (needed b p)
 
 -- rows in a cache are the near rows of these pictures, one picture behind another
 pub record AreNearRows (b : Book) (p r : ℕ) (cached : List Samples) : Type 0 where
