@@ -14,11 +14,11 @@ use Rattle.m2v_slice.specs.Jobs.{jobs_of}
 
 -- ---- lists
 
-all_flat : {X A : Type 0} (P : A → Type 0) (f : X → List A) (xs : List X) → ((x : X) → All P (f x)) → All P (flat_map f xs)
+pub all_flat : {X A : Type 0} (P : A → Type 0) (f : X → List A) (xs : List X) → ((x : X) → All P (f x)) → All P (flat_map f xs)
 all_flat P f [] each = All-nil P
 all_flat P f (x ∷ xs) each = All-append P (f x) (flat_map f xs) (each x) (all_flat P f xs each)
 
-all_over : {X A : Type 0} (P : A → Type 0) (Q : X → Type 0) (f : X → List A) (xs : List X) → All Q xs → ((x : X) → Q x → All P (f x)) → All P (flat_map f xs)
+pub all_over : {X A : Type 0} (P : A → Type 0) (Q : X → Type 0) (f : X → List A) (xs : List X) → All Q xs → ((x : X) → Q x → All P (f x)) → All P (flat_map f xs)
 all_over P Q f [] known each = All-nil P
 all_over P Q f (x ∷ xs) known each =
     All-append P (f x) (flat_map f xs) (each x (All-head Q x xs known)) (all_over P Q f xs (All-tail Q x xs known) each)
