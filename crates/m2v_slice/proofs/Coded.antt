@@ -65,6 +65,13 @@ pub slices_count : (b : Book) (p : ℕ) → length (next_picture b (coded b p)).
 unfolding next_picture
 slices_count b p = length-map-range_with_len (λ i. slice_of (task_of b (coded b p) (length (coded b p)) (plan_of (ledger_for b (coded b p) (length (coded b p))) (length (coded b p))) i)) 0 (rows b)
 
+pub slices_are : (b : Book) (p : ℕ)
+    → (next_picture b (coded b p)).slices ≡ map (λ r. slice_of (task_of b (coded b p) p (next_picture b (coded b p)).plan r)) (range_with_len 0 (rows b))
+unfolding next_picture
+slices_are b p =
+    ap (λ (i : ℕ). map (λ r. slice_of (task_of b (coded b p) i (plan_of (ledger_for b (coded b p) (length (coded b p))) (length (coded b p))) r)) (range_with_len 0 (rows b)))
+    (count b p)
+
 -- the plan and a slice of a picture that is coded
 pub plan_is : (b : Book) (n p : ℕ) → p < n → (picture_at (coded b n) p).plan ≡ plan_of (ledger_for b (coded b p) p) p
 plan_is b n p lt = ap (λ (x : CodedPicture). x.plan) (picture_is b n p lt) ∙ next_plan b p

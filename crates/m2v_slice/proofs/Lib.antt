@@ -6,3 +6,4 @@ pub mod Lists
 pub mod Groups
 pub mod Fitting
 pub mod Steady
+pub mod Sound

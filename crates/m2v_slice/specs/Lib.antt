@@ -4,3 +4,4 @@ pub mod Jobs
 pub mod Conditions
 pub mod Windows
 pub mod Needs
+pub mod Works
