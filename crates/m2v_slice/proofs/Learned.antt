@@ -162,11 +162,11 @@ next_bits b j first rest n c is need =
     ap (λ x. learned_of b j (suc n) x d) (shared_slice b i need)
     ∙ learn_bits b j n (slice_in b i).row (length (slice_in b i).text) d is
 
-bits_more : (b : Book) (rest : List ℕ) (n : ℕ) → bits_before b rest (suc n) ≡ bits_before b rest n + length (slice_in b (get_or rest n 0)).text
+pub bits_more : (b : Book) (rest : List ℕ) (n : ℕ) → bits_before b rest (suc n) ≡ bits_before b rest n + length (slice_in b (get_or rest n 0)).text
 unfolding bits_before
 bits_more b rest n = refl
 
-bits_none : (b : Book) (rest : List ℕ) → 0 ≡ bits_before b rest 0
+pub bits_none : (b : Book) (rest : List ℕ) → 0 ≡ bits_before b rest 0
 unfolding bits_before
 bits_none b rest = refl
 

@@ -7,3 +7,5 @@ pub mod Groups
 pub mod Fitting
 pub mod Steady
 pub mod Sound
+pub mod Works
+pub mod Planned

@@ -148,7 +148,7 @@ cap_of : (b : Book) (done : List CodedPicture) (p : ℕ) (plan : Plan) (r : ℕ)
 unfolding task_of
 cap_of b done p plan r = refl
 
-next_within : (b : Book) → IsBook b → (p : ℕ) → p < length b.pictures → IsPlan b.settings (next_picture b (coded b p)).plan
+pub next_within : (b : Book) → IsBook b → (p : ℕ) → p < length b.pictures → IsPlan b.settings (next_picture b (coded b p)).plan
     → sum_by (λ (x : CodedSlice). length x.text) (next_picture b (coded b p)).slices + 416 ≤ (next_picture b (coded b p)).plan.cap
 next_within b h p lt good =
     let x = next_picture b (coded b p) in
@@ -179,7 +179,7 @@ ledger_for_is b p =
     let e : take p (coded b p) ≡ coded b p = ap (λ (k : ℕ). take k (coded b p)) (sym (count b p)) ∙ take-length (coded b p) in
     ap (ledger_with b (coded b p) (first_open p)) e
 
-same_map : {A : Type 0} (f g : ℕ → A) (n : ℕ) → ((i : ℕ) → i < n → f i ≡ g i) → map f (range_with_len 0 n) ≡ map g (range_with_len 0 n)
+pub same_map : {A : Type 0} (f g : ℕ → A) (n : ℕ) → ((i : ℕ) → i < n → f i ≡ g i) → map f (range_with_len 0 n) ≡ map g (range_with_len 0 n)
 same_map f g zero each = refl
 same_map f g (suc n) each =
     let e : n + 1 ≡ suc n = omega arith in

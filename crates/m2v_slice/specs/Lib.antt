@@ -5,3 +5,4 @@ pub mod Conditions
 pub mod Windows
 pub mod Needs
 pub mod Works
+pub mod Stands

@@ -23,7 +23,7 @@ all_over P Q f [] known each = All-nil P
 all_over P Q f (x ∷ xs) known each =
     All-append P (f x) (flat_map f xs) (each x (All-head Q x xs known)) (all_over P Q f xs (All-tail Q x xs known) each)
 
-all_range : (P : ℕ → Type 0) (a n : ℕ) → ((i : ℕ) → i < n → P (a + i)) → All P (range_with_len a n)
+pub all_range : (P : ℕ → Type 0) (a n : ℕ) → ((i : ℕ) → i < n → P (a + i)) → All P (range_with_len a n)
 all_range P a n each i d lt =
     let small : i < n = omega (arith, lt, length-range_with_len a n) in
     subst P (sym (get_or-range_with_len a n i d small)) (each i small)
