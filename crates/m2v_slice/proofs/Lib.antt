@@ -9,3 +9,4 @@ pub mod Steady
 pub mod Sound
 pub mod Works
 pub mod Planned
+pub mod Stands

@@ -64,3 +64,10 @@ abbrev pub HoldsLine : Book → ℕ → ℕ → ℕ → Plane → Lines → ℕ 
 HoldsLine b p n r plane lines line =
     (line < lines_of (dims_of b.settings) plane lines)
     × HoldsOf b p r (reference_picture b p n lines) plane lines line
+
+-- what contracts see of a window on a reference: the book, the picture, the number of the reference, and the row of the slice
+pub record Window : Type 0 where
+  pub book : Book
+  pub picture : ℕ
+  pub number : ℕ
+  pub row : ℕ
