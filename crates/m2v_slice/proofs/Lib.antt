@@ -10,3 +10,5 @@ pub mod Sound
 pub mod Works
 pub mod Planned
 pub mod Stands
+pub mod Existing
+pub mod Near

@@ -24,19 +24,19 @@ pub anchor_met : (b : Book) (lines : Lines) (q : ℕ) → is_anchor_with b lines
 anchor_met b lines q e =
     anchors_more b lines q ∙ ap (λ (xs : List ℕ). xs ++ anchors_before b lines q) (cond-true (is_anchor_with b lines q) (q ∷ []) [] e)
 
-no_anchor : (b : Book) (lines : Lines) → anchors_before b lines zero ≡ []
+pub no_anchor : (b : Book) (lines : Lines) → anchors_before b lines zero ≡ []
 unfolding anchors_before
 no_anchor b lines = refl
 
-nth_none : {A : Type 0} (n : ℕ) → nth {A = A} n [] ≡ None
+pub nth_none : {A : Type 0} (n : ℕ) → nth {A = A} n [] ≡ None
 unfolding nth
 nth_none n = refl
 
-nth_first : {A : Type 0} (x : A) (xs : List A) → nth 0 (x ∷ xs) ≡ Some x
+pub nth_first : {A : Type 0} (x : A) (xs : List A) → nth 0 (x ∷ xs) ≡ Some x
 unfolding nth
 nth_first x xs = refl
 
-nth_next : {A : Type 0} (n : ℕ) (x : A) (xs : List A) → nth (suc n) (x ∷ xs) ≡ nth n xs
+pub nth_next : {A : Type 0} (n : ℕ) (x : A) (xs : List A) → nth (suc n) (x ∷ xs) ≡ nth n xs
 unfolding nth
 nth_next n x xs = refl
 
