@@ -28,13 +28,13 @@ unfolding coded
 picture_is b zero p lt = absurd (omega arith)
 picture_is b (suc n) p lt = elim (cases_lt p n) [
   | inl below ↦
-    let at : p < length (coded b n) = omega (arith, below, count b n) in
-    get_or_append_left (coded b n) (next_picture b (coded b n) ∷ []) none p at ∙ picture_is b n p below
+      let at : p < length (coded b n) = omega (arith, below, count b n) in
+      get_or_append_left (coded b n) (next_picture b (coded b n) ∷ []) none p at ∙ picture_is b n p below
   | inr le ↦
-    let e : length (coded b n) ≡ p = omega (arith, count b n) in
-    let f : n ≡ p = omega arith in
-    subst (λ (i : ℕ). get_or (coded b n ++ next_picture b (coded b n) ∷ []) i none ≡ next_picture b (coded b p)) e
-    (get_or-append_seam (coded b n) (next_picture b (coded b n)) [] none ∙ ap (λ (i : ℕ). next_picture b (coded b i)) f)
+      let e : length (coded b n) ≡ p = omega (arith, count b n) in
+      let f : n ≡ p = omega arith in
+      subst (λ (i : ℕ). get_or (coded b n ++ next_picture b (coded b n) ∷ []) i none ≡ next_picture b (coded b p)) e
+      (get_or-append_seam (coded b n) (next_picture b (coded b n)) [] none ∙ ap (λ (i : ℕ). next_picture b (coded b i)) f)
 ]
 
 pub coded_more : (b : Book) (n : ℕ) → coded b (n + 1) ≡ coded b n ++ next_picture b (coded b n) ∷ []

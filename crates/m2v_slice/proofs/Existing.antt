@@ -38,8 +38,8 @@ one_anchor : (b : Book) (lines : Lines) (p k : ℕ) → k < p → is_anchor_with
 one_anchor b lines zero k lt is = absurd (omega arith)
 one_anchor b lines (suc p) k lt is = elim (cases_eq k p) [
   | inl e ↦
-    let here : is_anchor_with b lines p ≡ true = subst (λ (i : ℕ). is_anchor_with b lines i ≡ true) e is in
-    omega (arith, ap (λ (xs : List ℕ). length xs) (anchor_met b lines p here))
+      let here : is_anchor_with b lines p ≡ true = subst (λ (i : ℕ). is_anchor_with b lines i ≡ true) e is in
+      omega (arith, ap (λ (xs : List ℕ). length xs) (anchor_met b lines p here))
   | inr n ↦ omega (arith, one_anchor b lines p k (omega arith) is, anchors_step b lines p)
 ]
 
@@ -66,11 +66,11 @@ anchors_length : (b : Book) (lines : Lines) (p : ℕ)
     → length (anchors_before b lines (suc p)) ≡ cond {A = ℕ} (is_anchor_with b lines p) 1 0 + length (anchors_before b lines p)
 anchors_length b lines p = elim (cases_Bool (is_anchor_with b lines p)) [
   | inl e ↦
-    let one : cond {A = ℕ} (is_anchor_with b lines p) 1 0 ≡ 1 = cond-true (is_anchor_with b lines p) 1 0 e in
-    omega (arith, ap (λ (xs : List ℕ). length xs) (anchor_met b lines p e), one)
+      let one : cond {A = ℕ} (is_anchor_with b lines p) 1 0 ≡ 1 = cond-true (is_anchor_with b lines p) 1 0 e in
+      omega (arith, ap (λ (xs : List ℕ). length xs) (anchor_met b lines p e), one)
   | inr e ↦
-    let none : cond {A = ℕ} (is_anchor_with b lines p) 1 0 ≡ 0 = cond-false (is_anchor_with b lines p) 1 0 e in
-    omega (arith, ap (λ (xs : List ℕ). length xs) (anchor_skipped b lines p e), none)
+      let none : cond {A = ℕ} (is_anchor_with b lines p) 1 0 ≡ 0 = cond-false (is_anchor_with b lines p) 1 0 e in
+      omega (arith, ap (λ (xs : List ℕ). length xs) (anchor_skipped b lines p e), none)
 ]
 
 abbrev one_without : ℕ → PictureJob → ℕ
@@ -160,9 +160,11 @@ fields_at : (heads pictures : List PictureJob) → pictures ≡ flat_map (fields
 fields_at heads pictures e some kind =
     let pair = pair_at heads 0 no_job some in
     let x = ap (λ (xs : List PictureJob). get_or xs 0 no_job) e ∙ pair.0 in
-    let y = ap (λ (xs : List PictureJob). get_or xs 1 no_job) e ∙ pair.1 in
-    (ap (λ (j : PictureJob). j.structure) x, ap (λ (j : PictureJob). j.structure) y,
-    ap (λ (j : PictureJob). j.kind) y ∙ sym (ap (λ (j : PictureJob). j.kind) x) ∙ kind)
+    let y = ap (λ (xs : List PictureJob). get_or xs 1 no_job) e ∙ pair.1 in (
+      ap (λ (j : PictureJob). j.structure) x,
+      ap (λ (j : PictureJob). j.structure) y,
+      ap (λ (j : PictureJob). j.kind) y ∙ sym (ap (λ (j : PictureJob). j.kind) x) ∙ kind,
+    )
 
 begins_fields : (b : Book) (lines : Lines) (p : ℕ) → (job_at b 0).kind ≡ 1 → AreFields b → ((job_at b p).kind ≡ 1 → ⊥) → Begins b lines p
 unfolding has_lines

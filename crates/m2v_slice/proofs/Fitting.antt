@@ -9,6 +9,7 @@ use Rattle.m2v_plane.specs.Fields.{no_samples}
 use Rattle.m2v_set.specs.Numbers.{dims_of, mb_width_of}
 use Rattle.m2v_set.proofs.Facts.{bounds}
 use Rattle.m2v_rate.specs.declared.values.Plan.{Plan}
+use Rattle.m2v_core.specs.Book.{cache_after}
 use Rattle.m2v_row.specs.Slices.{CodedSlice, SliceTask, slice_of, most_bits_of}
 use Rattle.m2v_row.proofs.Whole.{slice_dims}
 use Rattle.m2v_slice.specs.declared.pieces.EncodePiece.{EncodePiece}
@@ -52,10 +53,10 @@ pub shared_dims : (b : Book) → IsBook b → (j : ℕ) → j < jobs_of b → Ha
 shared_dims b h j lt = elim (cases_eq (part_of_job b j) 0) [
   | inl e ↦ plan_has (dims_of b.settings) (shared_of b j) _ _ (shared_plan b j e)
   | inr n ↦
-    let p = picture_of_job b j in
-    let r = part_of_job b j - 1 in
-    slice_has (dims_of b.settings) (shared_of b j) (slice_in b j).row (length (slice_in b j).text) (shared_slice b j n)
-    (sym (slice_size b h (p + 1) p r (job_picture b j lt) (omega arith) (omega (arith, part_small b j, n))))
+      let p = picture_of_job b j in
+      let r = part_of_job b j - 1 in
+      slice_has (dims_of b.settings) (shared_of b j) (slice_in b j).row (length (slice_in b j).text) (shared_slice b j n)
+      (sym (slice_size b h (p + 1) p r (job_picture b j lt) (omega arith) (omega (arith, part_small b j, n))))
 ]
 
 -- the part of a need
@@ -144,3 +145,25 @@ pub text_small : (b : Book) → IsBook b → (n : ℕ) → n ≤ most_bits_of (m
 text_small b h n le =
     let size = (bounds b.settings (passes_of b h)).size in
     omega (arith, le, size.width)
+
+-- ---- a cache fits also once needs are learned
+
+step_fits : (b : Book) → IsBook b → (j at : ℕ) (c : Cached) → j < jobs_of b → at < length (needs_of b j) → FitsCache b c
+    → FitsCache b (learned_of b j at (shared_of b (slice_index (needs_of b j) at)) c)
+step_fits b h j at c lt small fits =
+    let x = shared_of b (slice_index (needs_of b j) at) in
+    let dims = need_dims b h j at x lt small refl in
+    elim (cases_eq at 0) [
+      | inl e ↦ subst (FitsCache b) (learned_first b j at x c e) (fits_plan b x c fits)
+      | inr n ↦ elim (cases_eq (part_of_job b j) 0) [
+        | inl plan ↦ subst (FitsCache b) (learned_bits b j at x c n plan) (fits_bits b x c fits)
+        | inr slice ↦ subst (FitsCache b) (learned_row b j at x c n slice) (fits_row b (at - 1) x c (omega (arith, n, small, slice_needs_few b j slice)) dims fits)
+      ]
+    ]
+
+pub after_fits : (b : Book) → IsBook b → (j n : ℕ) (c : Cached) → j < jobs_of b → n ≤ length (needs_of b j) → FitsCache b c
+    → FitsCache b (cache_after (learned_of b j) (shared_of b) (needs_of b j) n c)
+unfolding cache_after
+after_fits b h j zero c lt le fits = fits
+after_fits b h j (suc n) c lt le fits =
+    step_fits b h j n (cache_after (learned_of b j) (shared_of b) (needs_of b j) n c) lt (omega arith) (after_fits b h j n c lt (omega arith) fits)

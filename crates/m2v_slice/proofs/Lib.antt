@@ -12,3 +12,5 @@ pub mod Planned
 pub mod Stands
 pub mod Existing
 pub mod Near
+pub mod Slices
+pub mod Worked

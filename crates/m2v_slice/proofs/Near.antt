@@ -78,27 +78,28 @@ among_numbers : (b : Book) (p n q : ℕ) → Refers (job_at b p).kind n → IsAm
     → IsAmong q (flat_map in_group (flat_map (references_of b p) (cond (nat_eq (job_at b p).kind 2) (0 ∷ []) (1 ∷ 0 ∷ []))))
 among_numbers b p n q refers h = elim (cases_eq (job_at b p).kind 2) [
   | inl two ↦
-    let t = cond-true {A = List ℕ} (nat_eq (job_at b p).kind 2) (0 ∷ []) (1 ∷ 0 ∷ []) (eq-eqb (job_at b p).kind 2 two) in
-    let zero_is : n ≡ 0 = of_p n (job_at b p).kind refers two in
-    subst (λ (ns : List ℕ). IsAmong q (flat_map in_group (flat_map (references_of b p) ns))) (sym t)
-    (subst (IsAmong q) (sym (flat_map-append in_group (references_of b p 0) []))
-    (among_left q (flat_map in_group (references_of b p 0)) [] (subst (λ (m : ℕ). IsAmong q (flat_map in_group (references_of b p m))) zero_is h)))
+      let t = cond-true {A = List ℕ} (nat_eq (job_at b p).kind 2) (0 ∷ []) (1 ∷ 0 ∷ []) (eq-eqb (job_at b p).kind 2 two) in
+      let zero_is : n ≡ 0 = of_p n (job_at b p).kind refers two in
+      subst (λ (ns : List ℕ). IsAmong q (flat_map in_group (flat_map (references_of b p) ns))) (sym t)
+      (subst (IsAmong q) (sym (flat_map-append in_group (references_of b p 0) []))
+      (among_left q (flat_map in_group (references_of b p 0)) [] (subst (λ (m : ℕ). IsAmong q (flat_map in_group (references_of b p m))) zero_is h)))
   | inr other ↦
-    let t = cond-false {A = List ℕ} (nat_eq (job_at b p).kind 2) (0 ∷ []) (1 ∷ 0 ∷ []) (ne_eqb (job_at b p).kind 2 other) in
-    subst (λ (ns : List ℕ). IsAmong q (flat_map in_group (flat_map (references_of b p) ns))) (sym t)
-    (subst (IsAmong q) (sym (flat_map-append in_group (references_of b p 1) (references_of b p 0 ++ []) ∙ ap (λ (xs : List ℕ). flat_map in_group (references_of b p 1) ++ xs) (flat_map-append in_group (references_of b p 0) [])))
-    (of_b n refers h))
+      let t = cond-false {A = List ℕ} (nat_eq (job_at b p).kind 2) (0 ∷ []) (1 ∷ 0 ∷ []) (ne_eqb (job_at b p).kind 2 other) in
+      subst (λ (ns : List ℕ). IsAmong q (flat_map in_group (flat_map (references_of b p) ns))) (sym t)
+      (subst (IsAmong q) (sym (flat_map-append in_group (references_of b p 1) (references_of b p 0 ++ []) ∙ ap (λ (xs : List ℕ). flat_map in_group (references_of b p 1) ++ xs) (flat_map-append in_group (references_of b p 0) [])))
+      (of_b n refers h))
 ]
   where
     of_p : (n kind : ℕ) → Refers kind n → kind ≡ 2 → n ≡ 0
     of_p n kind (inl e) two = e
     of_p n kind (inr e) two = absurd (omega (arith, e.1, two))
+
     of_b : (n : ℕ) → Refers (job_at b p).kind n → IsAmong q (flat_map in_group (references_of b p n))
-      → IsAmong q (flat_map in_group (references_of b p 1) ++ (flat_map in_group (references_of b p 0) ++ []))
+        → IsAmong q (flat_map in_group (references_of b p 1) ++ (flat_map in_group (references_of b p 0) ++ []))
     of_b n (inl e) h = among_right q (flat_map in_group (references_of b p 1)) (flat_map in_group (references_of b p 0) ++ [])
-      (among_left q (flat_map in_group (references_of b p 0)) [] (subst (λ (m : ℕ). IsAmong q (flat_map in_group (references_of b p m))) e h))
+        (among_left q (flat_map in_group (references_of b p 0)) [] (subst (λ (m : ℕ). IsAmong q (flat_map in_group (references_of b p m))) e h))
     of_b n (inr e) h = among_left q (flat_map in_group (references_of b p 1)) (flat_map in_group (references_of b p 0) ++ [])
-      (subst (λ (m : ℕ). IsAmong q (flat_map in_group (references_of b p m))) e.0 h)
+        (subst (λ (m : ℕ). IsAmong q (flat_map in_group (references_of b p m))) e.0 h)
 
 among_needed : (b : Book) (p n q : ℕ) → ((job_at b p).kind ≡ 1 → ⊥) → Refers (job_at b p).kind n → IsAmong q (flat_map in_group (references_of b p n)) → IsAmong q (needed b p)
 unfolding reference_pictures
@@ -233,19 +234,19 @@ is_near b h p q r line plane lines lt before small is within low high =
     let inside : line < part_of lines (side plane * frame_rows_by scan height) = subst (λ (n : ℕ). line < n) (rows_of b plane lines) within in
     elim (cases_eq s 3) [
       | inl frame ↦
-        let total = rows_frames scan height s own frame in
-        let row = row_of_frame plane lines line r (rows b)
+          let total = rows_frames scan height s own frame in
+          let row = row_of_frame plane lines line r (rows b)
           (subst (λ (n : ℕ). line < part_of lines (side plane * n)) total inside)
           (subst (λ (n : ℕ). row_lines n plane lines * r ≤ line + row_lines n plane lines) frame low)
           (subst (λ (n : ℕ). line < row_lines n plane lines * r + 2 * row_lines n plane lines) frame high) in
-        subst (λ (l : ℕ). IsNear b r (l / side plane)) (sym (line_of_frame (job_at b q).structure lines line (all_frames scan s (job_at b q).structure own frame there)))
-        (near_by b r (frame_line lines line / side plane) small row.0 row.1 row.2)
+          subst (λ (l : ℕ). IsNear b r (l / side plane)) (sym (line_of_frame (job_at b q).structure lines line (all_frames scan s (job_at b q).structure own frame there)))
+          (near_by b r (frame_line lines line / side plane) small row.0 row.1 row.2)
       | inr field ↦
-        let total = rows_fields scan height s own field in
-        let row = row_of_field s plane lines line r (rows b) field (of_field s is field)
+          let total = rows_fields scan height s own field in
+          let row = row_of_field s plane lines line r (rows b) field (of_field s is field)
           (subst (λ (n : ℕ). line < part_of lines (side plane * n)) total inside) low high in
-        subst (λ (l : ℕ). IsNear b r (l / side plane)) (sym (line_of_field (job_at b q).structure lines line (other_fields scan s (job_at b q).structure own field there)))
-        (near_by b r (line / side plane) small row.0 row.1 row.2)
+          subst (λ (l : ℕ). IsNear b r (l / side plane)) (sym (line_of_field (job_at b q).structure lines line (other_fields scan s (job_at b q).structure own field there)))
+          (near_by b r (line / side plane) small row.0 row.1 row.2)
     ]
   where
     of_field : (structure : ℕ) → IsReference structure lines → (structure ≡ 3 → ⊥) → IsTrue (is_field lines)
@@ -288,6 +289,6 @@ is_read b h p n r lt small other refers = record {
   lies = place_lies b h p r lt small;
   near = λ lines is. record {
     rows = λ plane line within low high.
-      (within, holds_of b h p n r line plane lines (reference_picture b p n lines) lt small other refers is within low high refl);
+        (within, holds_of b h p n r line plane lines (reference_picture b p n lines) lt small other refers is within low high refl);
   };
 }

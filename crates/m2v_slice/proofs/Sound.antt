@@ -77,9 +77,9 @@ plans_more : (b : Book) → IsBook b → (p : ℕ) → p < length b.pictures →
 plans_more b h p lt s q small = elim (cases_lt q p) [
   | inl below ↦ subst (λ (x : CodedPicture). IsPlan b.settings x.plan) (picture_stays b p (p + 1) q below small) (s.plans q below)
   | inr past ↦
-    let e : q ≡ p = omega arith in
-    subst (λ (i : ℕ). IsPlan b.settings (picture_at (coded b (p + 1)) i).plan) (sym e)
-    (subst (λ (x : CodedPicture). IsPlan b.settings x.plan) (sym (picture_is b (p + 1) p (omega arith))) (next_good b h p lt s.ledger))
+      let e : q ≡ p = omega arith in
+      subst (λ (i : ℕ). IsPlan b.settings (picture_at (coded b (p + 1)) i).plan) (sym e)
+      (subst (λ (x : CodedPicture). IsPlan b.settings x.plan) (sym (picture_is b (p + 1) p (omega arith))) (next_good b h p lt s.ledger))
 ]
 
 known_more : (b : Book) → IsBook b → (p : ℕ) → p < length b.pictures → Sound b p → 3 ≤ p → IsLedger (ledger_at b (first_open p + 1) (p + 1))
@@ -95,11 +95,11 @@ known_more b h p lt s three =
 next_ledger : (b : Book) → IsBook b → (p : ℕ) → p < length b.pictures → Sound b p → IsLedger (ledger_at b (first_open (p + 1)) (p + 1))
 next_ledger b h p lt s = elim (cases_lt p 3) [
   | inl early ↦
-    let e : first_open p ≡ first_open (p + 1) = omega arith in
-    subst (λ (n : ℕ). IsLedger (ledger_at b n (p + 1))) e (planned b h p lt s.ledger)
+      let e : first_open p ≡ first_open (p + 1) = omega arith in
+      subst (λ (n : ℕ). IsLedger (ledger_at b n (p + 1))) e (planned b h p lt s.ledger)
   | inr three ↦
-    let e : first_open p + 1 ≡ first_open (p + 1) = omega arith in
-    subst (λ (n : ℕ). IsLedger (ledger_at b n (p + 1))) e (known_more b h p lt s three)
+      let e : first_open p + 1 ≡ first_open (p + 1) = omega arith in
+      subst (λ (n : ℕ). IsLedger (ledger_at b n (p + 1))) e (known_more b h p lt s three)
 ]
 
 sound_next : (b : Book) → IsBook b → (p : ℕ) → p < length b.pictures → Sound b p → Sound b (p + 1)

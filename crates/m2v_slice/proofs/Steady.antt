@@ -114,7 +114,7 @@ task_is b h done p plan r lt small good =
       size = subst IsSize (sym size) (size_is b.settings known);
       columns = sym (ap (λ (d : Dims). d.mb_width) size);
       row = subst (λ (d : Dims). 16 * r + 16 ≤ lines_of d Y (own_lines (job_at b p).structure)) (sym size)
-        (row_within b.settings.scan b.settings.height (job_at b p).structure r picture.structure small);
+          (row_within b.settings.scan b.settings.height (job_at b p).structure r picture.structure small);
       q = good.q;
       search = known.choice.search;
       least = least_within b.settings plan.cap r;
@@ -199,8 +199,12 @@ plans_more b p f = ap (map f) (coded_more b p) ∙ map-append f (coded b p) (nex
 pub ledger_planned : (b : Book) (n p : ℕ) → n ≤ p → ledger_at b n (p + 1) ≡ with_plan (ledger_at b n p) (next_picture b (coded b p)).plan
 unfolding ledger_with
 ledger_planned b n p le =
-    rw (sizes_stay b n (p + 1) p (omega arith) le,
-    plans_more b p (λ (x : CodedPicture). x.plan.q), plans_more b p (λ (x : CodedPicture). x.plan.cap), plans_more b p (λ (x : CodedPicture). x.plan.target)) refl
+    rw (
+      sizes_stay b n (p + 1) p (omega arith) le,
+      plans_more b p (λ (x : CodedPicture). x.plan.q),
+      plans_more b p (λ (x : CodedPicture). x.plan.cap),
+      plans_more b p (λ (x : CodedPicture). x.plan.target),
+    ) refl
 
 -- a size more is known
 pub ledger_known : (b : Book) (n p : ℕ) → ledger_at b (n + 1) p ≡ with_size (ledger_at b n p) (size_of b (coded b p) n)

@@ -111,15 +111,15 @@ rows_are b p r total c h e =
     record {
       room = omega (arith, long, h.size, e, slice_few b p r);
       row = λ i x d lt small.
-        let k = i * n + x in
-        let q = get_or (needed b p) i 0 in
-        let below : k < length (rest_of b p r) = omega (arith, times_within i (length (needed b p)) x n lt small, long) in
-        let before : q < p = needed_below b p i 0 lt in
-        let job = flat_at (near_jobs b r) n (needed b p) i x (near_length b r) lt small ∙ near_at b r q x small in
-        h.row k d below
-        ∙ ap (λ (j : ℕ). (slice_in b j).row) job
-        ∙ ap (λ (s : CodedSlice). s.row) (slice_in_is b q (first_near r + x) (near_exists b r x small))
-        ∙ ap (λ (s : CodedSlice). s.row) (slice_stays b (q + 1) p q (first_near r + x) (omega arith) before);
+          let k = i * n + x in
+          let q = get_or (needed b p) i 0 in
+          let below : k < length (rest_of b p r) = omega (arith, times_within i (length (needed b p)) x n lt small, long) in
+          let before : q < p = needed_below b p i 0 lt in
+          let job = flat_at (near_jobs b r) n (needed b p) i x (near_length b r) lt small ∙ near_at b r q x small in
+          h.row k d below
+          ∙ ap (λ (j : ℕ). (slice_in b j).row) job
+          ∙ ap (λ (s : CodedSlice). s.row) (slice_in_is b q (first_near r + x) (near_exists b r x small))
+          ∙ ap (λ (s : CodedSlice). s.row) (slice_stays b (q + 1) p q (first_near r + x) (omega arith) before);
     }
 
 abbrev IsAfter : Book → ℕ → List ℕ → Cached → Cached → Type 0
@@ -225,10 +225,10 @@ ledger_before b p l some e =
 early : (b : Book) (j p : ℕ) (c d : Cached) → p < 4 → part_of_job b j ≡ 0 → IsAfter b j (plan_needs b p) c d → HasLearnedPlan b p d
 early b j p c d lt is e = record {
   ledger = λ some.
-    let after : IsAfter b j (plan_job b (p - 1) ∷ []) c d =
+      let after : IsAfter b j (plan_job b (p - 1) ∷ []) c d =
       subst (λ (xs : List ℕ). IsAfter b j xs c d) (plan_needs_are b p some ∙ ap (λ (xs : List ℕ). plan_job b (p - 1) ∷ xs) (plan_rest_none b p lt)) e in
-    ledger_before b p d.ledger some
-    (bits_known b j p [] c d is after (λ k none. absurd (omega arith)) (λ k none. bits_zero b k none)).ledger;
+      ledger_before b p d.ledger some
+      (bits_known b j p [] c d is after (λ k none. absurd (omega arith)) (λ k none. bits_zero b k none)).ledger;
   bits = λ four. absurd (omega arith);
 }
   where
@@ -239,11 +239,11 @@ late : (b : Book) → IsBook b → (j p : ℕ) (c d : Cached) → 4 ≤ p → p 
 late b h j p c d four lt is e =
     let q = p - 4 in
     let after : IsAfter b j (plan_job b (p - 1) ∷ all_slices b q) c d =
-      subst (λ (xs : List ℕ). IsAfter b j xs c d) (plan_needs_are b p (omega arith) ∙ ap (λ (xs : List ℕ). plan_job b (p - 1) ∷ xs) (plan_rest_all b p four)) e in
+    subst (λ (xs : List ℕ). IsAfter b j xs c d) (plan_needs_are b p (omega arith) ∙ ap (λ (xs : List ℕ). plan_job b (p - 1) ∷ xs) (plan_rest_all b p four)) e in
     let long = all_length b q in
     let known = bits_known b j p (all_slices b q) c d is after
-      (λ k small. all_slice_jobs b q k (omega (arith, small, long)))
-      (λ k small. bits_few b h q k (omega arith) (omega (arith, small, long))) in
+    (λ k small. all_slice_jobs b q k (omega (arith, small, long)))
+    (λ k small. bits_few b h q k (omega arith) (omega (arith, small, long))) in
     record {
       ledger = λ some. ledger_before b p d.ledger some known.ledger;
       bits = λ again. known.bits ∙ ap (bits_before b (all_slices b q)) long ∙ bits_sum b q (rows b) (omega arith) ∙ slices_sum b p q (omega arith);

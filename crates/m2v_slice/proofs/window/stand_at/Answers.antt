@@ -20,5 +20,5 @@ returns c =
     let count : c.min.result - c.saturating_sub.result ≡ count_near c.args.book.now c.args.r = omega (arith, c.min.ensures, c.saturating_sub.ensures, c.rows-rows.ensures.value) in
     record {
       value = stands_cached c.args.book.now c.args.p c.args.r c.args.q c.args.i (c.args.i * (c.min.result - c.saturating_sub.result)) (nat_eq c.job.result.now.structure 3)
-        c.requires.place c.requires.there (ap (λ n. c.args.i * n) count) (ap (λ (j : PictureJob). nat_eq j.structure 3) c.job.ensures.value);
+          c.requires.place c.requires.there (ap (λ n. c.args.i * n) count) (ap (λ (j : PictureJob). nat_eq j.structure 3) c.job.ensures.value);
     }

@@ -12,5 +12,5 @@ returns-in-None c = record {
 pub returns-in-None-place_among : goal.returns-in-None-place_among
 returns-in-None-place_among c = record {
   value = subst (λ (o : Option ℕ). StandsFor c.args.book.now c.args.p c.args.r o Absent) (sym c.in-Some.is)
-    (stands_absent c.args.book.now c.args.p c.args.r c.in-Some.q c.needed.new.out c.needed.ensures.written c.in-None-place_among.ensures.none);
+      (stands_absent c.args.book.now c.args.p c.args.r c.in-Some.q c.needed.new.out c.needed.ensures.written c.in-None-place_among.ensures.none);
 }

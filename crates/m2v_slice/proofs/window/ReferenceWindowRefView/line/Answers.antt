@@ -11,7 +11,7 @@ pub line_before-requires-clause-some : goal.line_before-requires-clause-some
 line_before-requires-clause-some c =
     let w = c.args.self.now in
     let h = in_before w.book w.picture w.row (reference_picture w.book w.picture w.number c.args.lines) c.args.plane c.args.lines c.args.line
-      c.in-Before.ensures.value c.requires.held.1 in
+    c.in-Before.ensures.value c.requires.held.1 in
     subst (λ (o : Option Samples). IsSome o) (sym (c.before-in-Before.ensures.value ∙ ap (λ (b : Book). b.before) c.book.ensures.value)) h.some
 
 pub line_before-requires-clause-line : goal.line_before-requires-clause-line
@@ -52,8 +52,8 @@ returns-in-Before c =
     let h = in_before w.book w.picture w.row o c.args.plane c.args.lines c.args.line c.in-Before.ensures.value c.requires.held.1 in
     record {
       value = c.line_before.ensures.value
-        ∙ before_value w.book w.picture w.number c.before-in-Before.result.now c.args.plane c.args.lines c.args.line c.args.column c.args.len h.none
-        (c.before-in-Before.ensures.value ∙ ap (λ (b : Book). b.before) c.book.ensures.value);
+          ∙ before_value w.book w.picture w.number c.before-in-Before.result.now c.args.plane c.args.lines c.args.line c.args.column c.args.len h.none
+          (c.before-in-Before.ensures.value ∙ ap (λ (b : Book). b.before) c.book.ensures.value);
     }
 
 pub returns-in-Cached : goal.returns-in-Cached
@@ -63,8 +63,8 @@ returns-in-Cached c =
     let h = in_cache w.book w.picture w.row o c.in-Cached.place c.in-Cached.whole c.args.plane c.args.lines c.args.line c.in-Cached.ensures.value c.requires.held.1 in
     record {
       value = c.line_cached.ensures.value
-        ∙ held_value w.book w.picture w.row c.cache.result.now c.cache.ensures.rows c.cache.ensures.fits o c.in-Cached.place c.in-Cached.whole c.args.plane c.args.lines c.args.line h
-        w.number c.first.result c.line_among-line.result c.args.column c.args.len c.first.ensures.value c.line_among-line.ensures.value refl;
+          ∙ held_value w.book w.picture w.row c.cache.result.now c.cache.ensures.rows c.cache.ensures.fits o c.in-Cached.place c.in-Cached.whole c.args.plane c.args.lines c.args.line h
+          w.number c.first.result c.line_among-line.result c.args.column c.args.len c.first.ensures.value c.line_among-line.ensures.value refl;
     }
 
 pub returns-in-Absent : goal.returns-in-Absent
