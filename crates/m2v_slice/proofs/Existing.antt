@@ -1,8 +1,8 @@
 -- Each reference that a P or a B picture reads exists: it stands in a picture of the group, or in the anchor before it.
-use Rattle.std.proofs.Common.{◌≡◌, ℕ, zero, suc, ◌+◌, ◌-◌, ◌<◌, ◌≤◌, ◌⊎◌, Bool, true, false, cond, not, List, [], ◌∷◌, ◌++◌, length, take, drop, get_or, Option, Some, None, refl, sym, ap, subst, ◌∙◌, arith, inl, inr, drop-cons}
+use Rattle.std.proofs.Common.{◌≡◌, ℕ, zero, suc, ◌+◌, ◌<◌, ◌≤◌, ◌⊎◌, Bool, true, false, cond, not, List, [], ◌∷◌, ◌++◌, length, take, drop, get_or, Option, Some, None, refl, sym, ap, subst, ◌∙◌, arith, inl, inr, drop-cons}
 use Rattle.std.specs.Prelude.{nat_eq, ◌&&◌, ◌==◌, IsSome, is_some}
-use Rattle.std.specs.List.{count_by, flat_map}
-use Rattle.std.proofs.lemmas.Bool.{cases_Bool, cases_eq, cond-true, cond-false, eq-eqb, ne_eqb}
+use Rattle.std.specs.List.{flat_map}
+use Rattle.std.proofs.lemmas.Bool.{cases_Bool, cases_eq, cond-true, cond-false}
 use Rattle.std.proofs.lemmas.List.{take_more, take-append-drop}
 use Rattle.std.proofs.lemmas.List.Sums.{sum_by-append}
 use Rattle.m2v_plane.specs.declared.planes.Lines.{Lines}
@@ -16,8 +16,8 @@ use Rattle.m2v_order.specs.Whole.{fields_of, anchors_without, FollowsTwo}
 use Rattle.m2v_order.proofs.Wholes.{pair_at}
 use Rattle.m2v_slice.specs.Books.{Book, no_job, job_at, has_lines, anchors_before, nth, reference_picture}
 use Rattle.m2v_slice.specs.Conditions.{IsBook}
-use Rattle.m2v_slice.proofs.References.{is_anchor_with, anchor_skipped, anchor_met, no_anchor, nth_none, nth_first, nth_next}
-use Rattle.m2v_slice.proofs.Groups.{HasStructure, IsPicture, picture_is_one, from_intra}
+use Rattle.m2v_slice.proofs.References.{is_anchor_with, anchor_skipped, anchor_met, nth_first, nth_next}
+use Rattle.m2v_slice.proofs.Groups.{HasStructure, picture_is_one, from_intra}
 
 -- ---- long enough lists
 

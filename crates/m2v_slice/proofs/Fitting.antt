@@ -1,6 +1,6 @@
 -- Rows and caches are for frames of the settings' size.
-use Rattle.std.proofs.Common.{◌≡◌, ℕ, zero, suc, ◌+◌, ◌-◌, ◌*◌, ◌^◌, ◌<◌, ◌≤◌, length, get_or, refl, sym, ap, subst, ◌∙◌, arith, inl, inr}
-use Rattle.std.specs.Prelude.{All, nat_eq, cond, slice_index, slice_set, List, []}
+use Rattle.std.proofs.Common.{◌≡◌, ℕ, zero, suc, ◌+◌, ◌-◌, ◌^◌, ◌<◌, ◌≤◌, length, get_or, refl, sym, ap, subst, ◌∙◌, arith, inl, inr}
+use Rattle.std.specs.Prelude.{All, nat_eq, cond, slice_index, slice_set, List}
 use Rattle.std.proofs.lemmas.Bool.{cases_eq, cond-true, cond-false, eq-eqb, ne_eqb}
 use Rattle.std.proofs.lemmas.List.{length-set, get_or-set_same, get_or-set_other}
 use Rattle.m2v_plane.specs.declared.dims.Dims.{Dims}
@@ -10,13 +10,13 @@ use Rattle.m2v_set.specs.Numbers.{dims_of, mb_width_of}
 use Rattle.m2v_set.proofs.Facts.{bounds}
 use Rattle.m2v_rate.specs.declared.values.Plan.{Plan}
 use Rattle.m2v_core.specs.Book.{cache_after}
-use Rattle.m2v_row.specs.Slices.{CodedSlice, SliceTask, slice_of, most_bits_of}
+use Rattle.m2v_row.specs.Slices.{CodedSlice, most_bits_of}
 use Rattle.m2v_row.proofs.Whole.{slice_dims}
 use Rattle.m2v_slice.specs.declared.pieces.EncodePiece.{EncodePiece}
 use Rattle.m2v_slice.specs.declared.pieces.EncodePiece.TheVariants as piece
 use Rattle.m2v_slice.specs.declared.pieces.EncodeShared.{EncodeShared}
 use Rattle.m2v_slice.specs.declared.pieces.EncodeShared.TheVariants as part
-use Rattle.m2v_slice.specs.Books.{Book, CodedPicture, rows, job_at, coded, picture_at, task_of, slice_at, picture_of_job, part_of_job, plan_job, needs_of}
+use Rattle.m2v_slice.specs.Books.{Book, CodedPicture, rows, job_at, coded, picture_at, task_of, slice_at, picture_of_job, part_of_job, needs_of}
 use Rattle.m2v_slice.specs.Cached.{Cached}
 use Rattle.m2v_slice.specs.Conditions.{IsBook}
 use Rattle.m2v_slice.specs.Jobs.{jobs_of, shared_of, with_plan, with_bits, with_row, learned_of, HasDims, IsSlicePart, FitsPiece, FitsShared, FitsCache}

@@ -1,12 +1,8 @@
 -- What is known of a book's pictures.
-use Rattle.std.proofs.Common.{◌≡◌, ℕ, ◌+◌, ◌-◌, ◌*◌, ◌/◌, ◌<◌, ◌≤◌, ◌⊎◌, true, false, List, [], ◌∷◌, ◌++◌, length, map, get_or, Option, Some, None, refl, sym, ap, subst, ◌∙◌, arith, inl, inr}
+use Rattle.std.proofs.Common.{◌≡◌, ℕ, ◌+◌, ◌*◌, ◌/◌, ◌<◌, ◌≤◌, ◌⊎◌, [], ◌∷◌, length, get_or, refl, sym, ap, subst, ◌∙◌, arith, inl, inr}
 use Rattle.std.specs.Prelude.{All}
-use Rattle.std.specs.List.{flat_map}
 use Rattle.std.proofs.lemmas.List.Elements.{All-nil, All-cons}
-use Rattle.std.proofs.lemmas.List.{length-map}
-use Rattle.m2v_plane.specs.declared.dims.Dims.{Dims}
-use Rattle.m2v_plane.specs.declared.planes.Plane.TheVariants.{Y}
-use Rattle.m2v_plane.specs.Sizes.{IsSize, part_of, lines_of}
+use Rattle.m2v_plane.specs.Sizes.{IsSize, part_of}
 use Rattle.m2v_plane.specs.Samples.{Samples}
 use Rattle.m2v_plane.specs.Fields.{no_samples}
 use Rattle.m2v_pred.specs.Motion.{own_lines}
@@ -16,17 +12,16 @@ use Rattle.m2v_set.specs.declared.settings.Scan.TheVariants.{Progressive, Frames
 use Rattle.m2v_set.specs.Numbers.{dims_of, rows_by, frame_rows_by}
 use Rattle.m2v_set.specs.Rules.{Passes, line_step, is_progressive}
 use Rattle.m2v_set.specs.Bounds.{Bounds}
-use Rattle.m2v_set.proofs.Facts.{bounds}
 use Rattle.m2v_order.specs.declared.jobs.PictureJob.{PictureJob}
 use Rattle.m2v_order.specs.Coding.{structures}
 use Rattle.m2v_order.specs.Calls.{IsFromIntra}
 use Rattle.m2v_order.specs.Groups.{Group, Queue, first_of, group_of, IsSoundQueue}
-use Rattle.m2v_order.specs.Whole.{IsKind, fields_of, IsGroupOf}
+use Rattle.m2v_order.specs.Whole.{IsKind, fields_of}
 use Rattle.m2v_order.proofs.Queues.{grouped, top_of, Due, due_is, Turn, turn_is, group_places}
 use Rattle.m2v_order.proofs.Turns.{turn_intra}
 use Rattle.m2v_rate.specs.Plans.{Entries}
 use Rattle.m2v_slice.specs.Books.{Book, rows, no_job, job_at}
-use Rattle.m2v_slice.specs.Conditions.{IsBook, IsBegunFor}
+use Rattle.m2v_slice.specs.Conditions.{IsBook}
 use Rattle.m2v_slice.specs.Needs.{all_flat}
 
 -- ---- sizes

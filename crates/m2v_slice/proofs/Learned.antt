@@ -1,18 +1,14 @@
 -- What a cache has learned once the needs of a job are learned, whatever it held before.
-use Rattle.std.proofs.Common.{◌≡◌, ℕ, zero, suc, ◌+◌, ◌-◌, ◌*◌, ◌/◌, ◌%◌, ◌^◌, ◌<◌, ◌≤◌, true, false, cond, min, List, [], ◌∷◌, length, map, take, get_or, refl, sym, ap, subst, ◌∙◌, arith, inl, inr}
-use Rattle.std.specs.Prelude.{All, nat_eq, slice_index, slice_set, sum_by}
-use Rattle.std.specs.List.{range_with_len}
-use Rattle.std.proofs.lemmas.Bool.{cases_eq, cond-true, cond-false, eq-eqb, ne_eqb, eqb-false}
+use Rattle.std.proofs.Common.{◌≡◌, ℕ, zero, suc, ◌+◌, ◌-◌, ◌*◌, ◌/◌, ◌%◌, ◌^◌, ◌<◌, ◌≤◌, min, List, ◌∷◌, length, get_or, refl, sym, ap, subst, ◌∙◌, arith, inl, inr}
+use Rattle.std.specs.Prelude.{nat_eq, slice_set}
+use Rattle.std.proofs.lemmas.Bool.{cases_eq, cond-true, cond-false, eq-eqb, ne_eqb}
 use Rattle.std.proofs.lemmas.Nat.{div-mul-add, mod-mul-add}
-use Rattle.std.proofs.lemmas.List.{length-set, get_or-set_same, get_or-set_other, take_more}
+use Rattle.std.proofs.lemmas.List.{length-set, get_or-set_same, get_or-set_other}
 use Rattle.m2v_plane.specs.Samples.{Samples}
 use Rattle.m2v_rate.specs.declared.values.Plan.{Plan}
 use Rattle.m2v_rate.specs.Plans.{Entries, first_open}
 use Rattle.m2v_core.specs.Book.{cache_after}
 use Rattle.m2v_row.specs.Slices.{CodedSlice}
-use Rattle.m2v_slice.specs.declared.pieces.EncodePiece.{EncodePiece}
-use Rattle.m2v_slice.specs.declared.pieces.EncodePiece.TheVariants as piece
-use Rattle.m2v_slice.specs.declared.pieces.EncodeShared.{EncodeShared}
 use Rattle.m2v_slice.specs.declared.pieces.EncodeShared.TheVariants as part
 use Rattle.m2v_slice.specs.Books.{Book, rows, coded, picture_at, slice_at, ledger_with, plan_job, slice_job, picture_of_job, part_of_job}
 use Rattle.m2v_slice.specs.Cached.{Cached}

@@ -1,12 +1,12 @@
 -- Needs one behind another.
-use Rattle.std.proofs.Common.{◌≡◌, ℕ, zero, suc, ◌+◌, ◌-◌, ◌*◌, ◌<◌, ◌≤◌, List, [], ◌∷◌, ◌++◌, length, map, take, get_or, min, refl, sym, ap, subst, ◌∙◌, arith, append_assoc}
-use Rattle.std.specs.Prelude.{slice_index, All}
+use Rattle.std.proofs.Common.{◌≡◌, ℕ, suc, ◌+◌, ◌-◌, ◌<◌, ◌≤◌, List, [], ◌∷◌, ◌++◌, length, map, take, min, refl, sym, ap, subst, ◌∙◌, arith, append_assoc}
+use Rattle.std.specs.Prelude.{slice_index}
 use Rattle.std.specs.List.{range_with_len, flat_map}
 use Rattle.std.proofs.lemmas.List.{length-append, length-take}
 use Rattle.std.proofs.lemmas.List.FromFn.{length-map-range_with_len, map-range_with_len_more}
-use Rattle.m2v_slice.specs.Books.{Book, rows, plan_job, slice_job, near_rows}
-use Rattle.m2v_slice.specs.Needs.{flat_few, needed_below, needed_few}
-use Rattle.m2v_slice.specs.Windows.{needed, slice_needs, count_near}
+use Rattle.m2v_slice.specs.Books.{Book, rows, slice_job, near_rows}
+use Rattle.m2v_slice.specs.Needs.{flat_few, needed_below}
+use Rattle.m2v_slice.specs.Windows.{needed}
 
 pub one_slice_more : (b : Book) (p from i j : ℕ) (out old : List ℕ) → out ≡ old ++ map (slice_job b p) (range_with_len from i)
     → j ≡ slice_job b p (from + i) → out ++ j ∷ [] ≡ old ++ map (slice_job b p) (range_with_len from (i + 1))

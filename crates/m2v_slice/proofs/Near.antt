@@ -1,11 +1,10 @@
 -- What a slice reads of its references is held.
-use Rattle.std.proofs.Common.{◌≡◌, ◌≢◌, ℕ, zero, suc, ◌+◌, ◌-◌, ◌*◌, ◌/◌, ◌<◌, ◌≤◌, ◌⊎◌, Bool, true, false, cond, not, min, List, [], ◌∷◌, ◌++◌, length, get_or, Option, Some, None, refl, sym, ap, subst, ◌∙◌, arith, inl, inr}
-use Rattle.std.specs.Prelude.{nat_eq, slice_index, IsTrue, IsSome}
+use Rattle.std.proofs.Common.{◌≡◌, ℕ, zero, suc, ◌+◌, ◌*◌, ◌/◌, ◌<◌, ◌≤◌, ◌⊎◌, true, false, cond, List, [], ◌∷◌, ◌++◌, length, Option, Some, None, refl, sym, ap, subst, ◌∙◌, arith, inl, inr}
+use Rattle.std.specs.Prelude.{nat_eq, IsTrue}
 use Rattle.std.specs.List.{flat_map}
 use Rattle.std.proofs.lemmas.Bool.{cases_eq, cond-true, cond-false, eq-eqb, ne_eqb}
 use Rattle.std.proofs.lemmas.List.{length-append, get_or_append_left, get_or-append-add}
 use Rattle.std.proofs.lemmas.Grind.{flat_map-append}
-use Rattle.m2v_plane.specs.declared.dims.Dims.{Dims}
 use Rattle.m2v_plane.specs.declared.planes.Plane.{Plane}
 use Rattle.m2v_plane.specs.declared.planes.Plane.TheVariants.{Y, Cb, Cr}
 use Rattle.m2v_plane.specs.declared.planes.Lines.{Lines}
@@ -16,16 +15,14 @@ use Rattle.m2v_set.specs.declared.settings.Scan.TheVariants.{Progressive, Frames
 use Rattle.m2v_set.specs.Numbers.{dims_of, rows_by, frame_rows_by}
 use Rattle.m2v_set.proofs.Facts.{bounds}
 use Rattle.m2v_pred.specs.declared.mode.MbPlace.{MbPlace}
-use Rattle.m2v_pred.specs.Motion.{own_lines}
 use Rattle.m2v_pred.specs.Vectors.{IsPlace}
-use Rattle.m2v_search.specs.Near.{HasNear, row_lines, is_field}
+use Rattle.m2v_search.specs.Near.{row_lines, is_field}
 use Rattle.m2v_choose.specs.Trials.{IsReference, IsRead}
-use Rattle.m2v_slice.specs.Books.{Book, rows, job_at, has_lines, anchors_before, nth, line_in, in_group, reference_picture, reference_pictures, forward_number}
+use Rattle.m2v_slice.specs.Books.{Book, rows, job_at, has_lines, anchors_before, nth, line_in, in_group, reference_picture, reference_pictures}
 use Rattle.m2v_slice.specs.Conditions.{IsBook}
-use Rattle.m2v_slice.specs.Windows.{references_of, needed, first_near, count_near, IsAmong, IsNear, HoldsOf, HoldsLine}
+use Rattle.m2v_slice.specs.Windows.{references_of, needed, IsAmong, IsNear, HoldsOf, HoldsLine}
 use Rattle.m2v_slice.specs.Needs.{needed_below}
-use Rattle.m2v_slice.proofs.References.{is_anchor_with, anchor_skipped, anchor_met, no_anchor}
-use Rattle.m2v_slice.proofs.Groups.{HasStructure, IsPicture, picture_is_one, structure_low, row_within, passes_of}
+use Rattle.m2v_slice.proofs.Groups.{HasStructure, picture_is_one, structure_low, row_within, passes_of}
 use Rattle.m2v_slice.proofs.Existing.{reference_exists}
 
 -- ---- pictures that are needed

@@ -1,14 +1,12 @@
 -- The ledger of a plan's job, of what its cache knows.
-use Rattle.std.proofs.Common.{◌≡◌, ℕ, zero, suc, ◌+◌, ◌-◌, ◌<◌, ◌≤◌, ◌^◌, List, length, get_or, refl, sym, ap, subst, ◌∙◌, arith}
-use Rattle.std.specs.Prelude.{slice_index, sum_by}
-use Rattle.m2v_set.specs.declared.settings.Settings.{Settings}
+use Rattle.std.proofs.Common.{◌≡◌, ℕ, ◌+◌, ◌-◌, ◌<◌, ◌≤◌, ◌^◌, length, sym, ap, subst, ◌∙◌, arith}
+use Rattle.std.specs.Prelude.{slice_index}
 use Rattle.m2v_set.proofs.Facts.{bounds}
 use Rattle.m2v_order.specs.declared.jobs.PictureJob.{PictureJob}
 use Rattle.m2v_rate.specs.declared.values.Plan.{Plan}
 use Rattle.m2v_rate.specs.Plans.{Entries, first_open, plan_of, with_plan, with_size}
-use Rattle.m2v_row.specs.Slices.{CodedSlice}
 use Rattle.m2v_preface.specs.Headers.{header_bits}
-use Rattle.m2v_slice.specs.Books.{Book, CodedPicture, job_at, picture_at, size_of, next_picture, coded}
+use Rattle.m2v_slice.specs.Books.{Book, CodedPicture, job_at, picture_at, size_of, coded}
 use Rattle.m2v_slice.specs.Cached.{Cached}
 use Rattle.m2v_slice.specs.Conditions.{IsBook}
 use Rattle.m2v_slice.specs.Works.{HasLearnedPlan}

@@ -1,8 +1,8 @@
 -- How many jobs there are.
-use Rattle.std.proofs.Common.{◌≡◌, ℕ, zero, ◌+◌, ◌-◌, ◌*◌, ◌/◌, ◌<◌, ◌≤◌, cond, length, refl, sym, ap, arith, inl, inr}
+use Rattle.std.proofs.Common.{◌≡◌, ℕ, ◌+◌, ◌-◌, ◌*◌, ◌<◌, ◌≤◌, length, ap, arith, inl, inr}
 use Rattle.std.specs.Prelude.{nat_le}
-use Rattle.std.proofs.lemmas.Bool.{le-leb, leb-true, cond-true, cond-false, cases_Bool, cases_lt}
-use Rattle.m2v_slice.specs.Books.{Book, rows, picture_of_job, part_of_job}
+use Rattle.std.proofs.lemmas.Bool.{le-leb, cond-true, cond-false, cases_Bool, cases_lt}
+use Rattle.m2v_slice.specs.Books.{Book, rows, picture_of_job}
 use Rattle.m2v_slice.specs.Jobs.{jobs_of}
 use Rattle.m2v_slice.specs.Needs.{job_is}
 

@@ -1,5 +1,5 @@
 -- A slice of a picture, of what its cache knows.
-use Rattle.std.proofs.Common.{◌≡◌, ◌≢◌, ℕ, zero, suc, ◌+◌, ◌-◌, ◌*◌, ◌%◌, ◌<◌, ◌≤◌, Bool, true, false, cond, List, length, get_or, refl, sym, ap, subst, ◌∙◌, arith, inl, inr}
+use Rattle.std.proofs.Common.{◌≡◌, ◌≢◌, ℕ, ◌+◌, ◌*◌, ◌%◌, ◌<◌, ◌≤◌, length, get_or, refl, sym, ap, subst, ◌∙◌, arith, inl, inr}
 use Rattle.std.specs.Prelude.{nat_eq}
 use Rattle.std.proofs.lemmas.Bool.{cases_eq, cond-true, eq-eqb, ne_eqb}
 use Rattle.m2v_plane.specs.declared.planes.Plane.TheVariants.{Y}
@@ -8,26 +8,24 @@ use Rattle.m2v_plane.specs.Samples.{Samples}
 use Rattle.m2v_plane.specs.Fields.{no_samples}
 use Rattle.m2v_pred.specs.Motion.{own_lines}
 use Rattle.m2v_set.specs.declared.settings.Settings.{Settings}
-use Rattle.m2v_set.specs.Numbers.{dims_of, mb_width_of, slice_least, buffer_bits, least_of}
+use Rattle.m2v_set.specs.Numbers.{dims_of, mb_width_of, slice_least}
 use Rattle.m2v_order.specs.declared.jobs.PictureJob.{PictureJob}
 use Rattle.m2v_macro.specs.declared.values.PictureContext.{PictureContext}
-use Rattle.m2v_macroblock.specs.Predictions.{View}
 use Rattle.m2v_rate.specs.declared.values.Plan.{Plan}
 use Rattle.m2v_rate.specs.Plans.{slice_cap_of}
-use Rattle.m2v_choose.specs.Own.{IsCode}
 use Rattle.m2v_choose.specs.Trials.{IsRead}
 use Rattle.m2v_row.specs.Slices.{SliceTask, CodedSlice, slice_of, most_bits_of}
-use Rattle.m2v_row.specs.Laws.{IsSlice, SliceFits}
+use Rattle.m2v_row.specs.Laws.{IsSlice}
 use Rattle.m2v_row.specs.Steps.{row_place}
 use Rattle.m2v_row.proofs.Fits.{slice_fits}
 use Rattle.m2v_preface.specs.Headers.{IsJob, context_of, extension_of}
-use Rattle.m2v_slice.specs.Books.{Book, CodedPicture, rows, job_at, coded, picture_at, slice_at, forward_number, reference, task_of}
+use Rattle.m2v_slice.specs.Books.{Book, rows, job_at, coded, slice_at, forward_number, reference, task_of}
 use Rattle.m2v_slice.specs.Cached.{Cached}
 use Rattle.m2v_slice.specs.Conditions.{IsBook}
 use Rattle.m2v_slice.specs.Windows.{Window, HoldsLine}
 use Rattle.m2v_slice.specs.Works.{HasLearnedSlice}
 use Rattle.m2v_slice.proofs.Coded.{slice_is}
-use Rattle.m2v_slice.proofs.Groups.{IsPicture, picture_is_one, structure_low, source_size}
+use Rattle.m2v_slice.proofs.Groups.{picture_is_one, structure_low, source_size}
 use Rattle.m2v_slice.proofs.Steady.{IsPlan, task_is}
 use Rattle.m2v_slice.proofs.Sound.{plan_is_good}
 use Rattle.m2v_slice.proofs.Near.{Refers, is_read}

@@ -1,19 +1,17 @@
 -- The ledgers of a book are ledgers, and its plans are good, from one picture to the next.
-use Rattle.std.proofs.Common.{◌≡◌, ℕ, zero, suc, ◌+◌, ◌-◌, ◌<◌, ◌≤◌, List, [], ◌∷◌, length, map, get_or, refl, sym, ap, subst, ◌∙◌, arith, inl, inr}
-use Rattle.std.proofs.lemmas.Bool.{cases_lt, cases_eq}
+use Rattle.std.proofs.Common.{◌≡◌, ℕ, zero, suc, ◌+◌, ◌<◌, ◌≤◌, List, [], length, get_or, sym, ap, subst, ◌∙◌, arith, inl, inr}
+use Rattle.std.proofs.lemmas.Bool.{cases_lt}
 use Rattle.std.proofs.lemmas.List.{length-map, get_or-map}
 use Rattle.std.proofs.lemmas.List.FromFn.{length-map-range_with_len}
-use Rattle.std.specs.List.{range_with_len}
 use Rattle.m2v_set.specs.declared.settings.Settings.{Settings}
 use Rattle.m2v_order.specs.declared.jobs.PictureJob.{PictureJob}
-use Rattle.m2v_rate.specs.declared.values.Plan.{Plan}
-use Rattle.m2v_rate.specs.Plans.{Entries, first_open, plan_of, begun, with_plan, with_size}
+use Rattle.m2v_rate.specs.Plans.{Entries, first_open, plan_of, begun}
 use Rattle.m2v_rate.specs.Seen.{told}
-use Rattle.m2v_rate.specs.Steady.{IsSteady, IsLedger}
+use Rattle.m2v_rate.specs.Steady.{IsLedger}
 use Rattle.m2v_rate.proofs.Keeps.{planned_by, known_by}
-use Rattle.m2v_slice.specs.Books.{Book, CodedPicture, picture_at, size_of, ledger_with, ledger_for, next_picture, coded}
-use Rattle.m2v_slice.specs.Conditions.{IsBook, IsBegunFor}
-use Rattle.m2v_slice.proofs.Coded.{none, count, picture_is, picture_stays, next_plan, plan_is}
+use Rattle.m2v_slice.specs.Books.{Book, CodedPicture, picture_at, size_of, ledger_with, next_picture, coded}
+use Rattle.m2v_slice.specs.Conditions.{IsBook}
+use Rattle.m2v_slice.proofs.Coded.{none, count, picture_is, picture_stays, next_plan}
 use Rattle.m2v_slice.proofs.Steady.{IsPlan, plan_good, size_within, ledger_at, ledger_for_is, ledger_planned, ledger_known}
 
 -- ---- a ledger's parts

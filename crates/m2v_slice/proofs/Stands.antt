@@ -1,20 +1,17 @@
 -- Where the lines of a reference stand, and that they are the reference's there.
-use Rattle.std.proofs.Common.{◌≡◌, ℕ, zero, suc, ◌+◌, ◌-◌, ◌*◌, ◌/◌, ◌%◌, ◌<◌, ◌≤◌, Bool, true, false, cond, min, List, length, get_or, Option, Some, None, refl, sym, ap, subst, ◌∙◌, arith}
+use Rattle.std.proofs.Common.{◌≡◌, ℕ, suc, ◌+◌, ◌-◌, ◌*◌, ◌/◌, ◌%◌, ◌<◌, ◌≤◌, Bool, cond, List, length, get_or, Option, Some, None, refl, sym, ap, subst, ◌∙◌, arith}
 use Rattle.std.specs.Prelude.{nat_eq, slice_index, IsSome, IfSome}
 use Rattle.m2v_plane.specs.declared.dims.Dims.{Dims}
 use Rattle.m2v_plane.specs.declared.planes.Plane.{Plane}
 use Rattle.m2v_plane.specs.declared.planes.Plane.TheVariants.{Y, Cb, Cr}
 use Rattle.m2v_plane.specs.declared.planes.Lines.{Lines}
-use Rattle.m2v_plane.specs.declared.planes.Lines.TheVariants.{Whole, Top, Bottom}
 use Rattle.m2v_plane.specs.Sizes.{IsSize, side, frame_line, lines_of, columns_of}
 use Rattle.m2v_plane.specs.Samples.{Samples, sample_of, sample_in, line_part}
 use Rattle.m2v_plane.specs.Fields.{no_samples, or_none}
 use Rattle.m2v_plane.proofs.Places.{part_of-le}
 use Rattle.m2v_set.specs.Numbers.{dims_of}
-use Rattle.m2v_row.specs.Slices.{CodedSlice}
-use Rattle.m2v_slice.specs.declared.window.Stand.{Stand}
 use Rattle.m2v_slice.specs.declared.window.Stand.TheVariants.{Before, Cached, Absent}
-use Rattle.m2v_slice.specs.Books.{Book, CodedPicture, rows, job_at, line_in, coded, slice_at, reference_picture, picture_sample, reference}
+use Rattle.m2v_slice.specs.Books.{Book, job_at, line_in, coded, slice_at, reference_picture, picture_sample, reference}
 use Rattle.m2v_slice.specs.Cached as cached
 use Rattle.m2v_slice.specs.Conditions.{IsBook}
 use Rattle.m2v_slice.specs.Jobs.{FitsCache}

@@ -1,41 +1,36 @@
 -- Each slice of a book can be coded within its cap, and each size lies within the cap of its plan.
-use Rattle.std.proofs.Common.{◌≡◌, ℕ, zero, suc, ◌+◌, ◌-◌, ◌*◌, ◌/◌, ◌%◌, ◌<◌, ◌≤◌, true, false, cond, min, max, List, [], ◌∷◌, ◌++◌, length, map, take, get_or, Option, Some, None, refl, sym, ap, subst, ◌∙◌, arith, inl, inr}
-use Rattle.std.specs.Prelude.{All, nat_eq, nat_lt, sum_by, Bool}
+use Rattle.std.proofs.Common.{◌≡◌, ℕ, zero, suc, ◌+◌, ◌*◌, ◌/◌, ◌%◌, ◌<◌, ◌≤◌, true, false, cond, List, [], ◌∷◌, ◌++◌, length, map, take, Option, Some, None, refl, sym, ap, subst, ◌∙◌, arith}
+use Rattle.std.specs.Prelude.{nat_eq, nat_lt, sum_by, Bool}
 use Rattle.std.specs.List.{range_with_len}
-use Rattle.std.proofs.lemmas.Bool.{cases_lt, cond_both}
-use Rattle.std.proofs.lemmas.List.{length-append, length-map, get_or-map, map-append}
-use Rattle.std.proofs.lemmas.List.Sums.{sum_by-append, sum_by-cons}
-use Rattle.std.proofs.lemmas.List.FromFn.{length-map-range_with_len, map-range_with_len_more, sum_by-map-range_with_len_more}
+use Rattle.std.proofs.lemmas.Bool.{cond_both}
+use Rattle.std.proofs.lemmas.List.{map-append}
+use Rattle.std.proofs.lemmas.List.FromFn.{map-range_with_len_more, sum_by-map-range_with_len_more}
 use Rattle.std.proofs.Math.Seq.{take-length}
 use Rattle.m2v_plane.specs.declared.dims.Dims.{Dims}
 use Rattle.m2v_plane.specs.declared.planes.Plane.TheVariants.{Y}
 use Rattle.m2v_plane.specs.Sizes.{IsSize, lines_of}
-use Rattle.m2v_plane.specs.Samples.{Samples}
-use Rattle.m2v_plane.specs.Fields.{no_samples}
 use Rattle.m2v_pred.specs.Motion.{own_lines}
 use Rattle.m2v_set.specs.declared.settings.Settings.{Settings}
 use Rattle.m2v_set.specs.Numbers.{dims_of, buffer_bits, least_of, rows_by, slice_least, mb_width_of}
-use Rattle.m2v_set.specs.Rules.{Passes}
 use Rattle.m2v_set.specs.Bounds.{Bounds}
 use Rattle.m2v_set.proofs.Facts.{bounds}
 use Rattle.m2v_order.specs.declared.jobs.PictureJob.{PictureJob}
 use Rattle.m2v_rate.specs.declared.values.Plan.{Plan}
 use Rattle.m2v_rate.specs.declared.values.Known.{Known}
-use Rattle.m2v_rate.specs.Plans.{Entries, Low, first_open, cap_by, target_of, quantiser_by, plan_of, spare, slice_cap_of, with_plan, with_size}
-use Rattle.m2v_rate.specs.Seen.{told}
-use Rattle.m2v_rate.specs.Steady.{IsSteady, IsLedger}
+use Rattle.m2v_rate.specs.Plans.{Entries, first_open, target_of, quantiser_by, plan_of, spare, slice_cap_of, with_plan, with_size}
+use Rattle.m2v_rate.specs.Steady.{IsSteady}
 use Rattle.m2v_rate.proofs.Caps.{slices_sum}
 use Rattle.m2v_rate.proofs.Targets.{sum_more}
-use Rattle.m2v_rate.proofs.Keeps.{cap_is, planned_by, known_by, cap_least, cap_most}
+use Rattle.m2v_rate.proofs.Keeps.{cap_is, cap_least, cap_most}
 use Rattle.m2v_choose.specs.Own.{IsOwn}
-use Rattle.m2v_row.specs.Slices.{CodedSlice, SliceTask, slice_of}
-use Rattle.m2v_row.specs.Laws.{IsSlice, SliceFits}
+use Rattle.m2v_row.specs.Slices.{CodedSlice, slice_of}
+use Rattle.m2v_row.specs.Laws.{IsSlice}
 use Rattle.m2v_row.proofs.Fits.{slice_fits}
-use Rattle.m2v_preface.specs.Headers.{IsJob, begins_group, context_of, extension_of, header_bits}
-use Rattle.m2v_slice.specs.Books.{Book, CodedPicture, rows, no_job, job_at, picture_at, slice_at, size_of, ledger_with, ledger_for, task_of, next_picture, coded}
-use Rattle.m2v_slice.specs.Conditions.{IsBook, IsBegunFor}
-use Rattle.m2v_slice.proofs.Coded.{none, count, picture_is, coded_more, picture_stays, next_plan, plan_is, slice_is, slices_are}
-use Rattle.m2v_slice.proofs.Groups.{size_is, structure_low, row_within, IsPicture, passes_of, picture_is_one, source_size}
+use Rattle.m2v_preface.specs.Headers.{begins_group, context_of, extension_of, header_bits}
+use Rattle.m2v_slice.specs.Books.{Book, CodedPicture, rows, job_at, picture_at, size_of, ledger_with, ledger_for, task_of, next_picture, coded}
+use Rattle.m2v_slice.specs.Conditions.{IsBook}
+use Rattle.m2v_slice.proofs.Coded.{count, picture_is, coded_more, picture_stays, slices_are}
+use Rattle.m2v_slice.proofs.Groups.{size_is, structure_low, row_within, passes_of, picture_is_one, source_size}
 
 -- ---- plans
 

@@ -1,13 +1,13 @@
 -- What a job's work is asked for, and what it gives.
-use Rattle.std.proofs.Common.{◌≡◌, ℕ, ◌+◌, ◌-◌, ◌<◌, ◌≤◌, length, refl, sym, ap, subst, ◌∙◌, arith}
-use Rattle.m2v_set.specs.Numbers.{dims_of, mb_width_of}
+use Rattle.std.proofs.Common.{◌≡◌, ℕ, ◌+◌, ◌-◌, ◌<◌, ◌≤◌, length, sym, ap, subst, ◌∙◌, arith}
+use Rattle.m2v_set.specs.Numbers.{mb_width_of}
 use Rattle.m2v_rate.specs.declared.values.Plan.{Plan}
 use Rattle.m2v_rate.specs.Plans.{Entries, first_open}
 use Rattle.m2v_core.specs.Book.{cache_after}
 use Rattle.m2v_row.specs.Slices.{CodedSlice, most_bits_of}
 use Rattle.m2v_slice.specs.declared.pieces.EncodePiece.{EncodePiece}
 use Rattle.m2v_slice.specs.declared.pieces.EncodePiece.TheVariants as piece
-use Rattle.m2v_slice.specs.Books.{Book, rows, coded, picture_at, slice_at, ledger_with, picture_of_job, part_of_job, needs_of}
+use Rattle.m2v_slice.specs.Books.{Book, coded, picture_at, slice_at, ledger_with, picture_of_job, part_of_job, needs_of}
 use Rattle.m2v_slice.specs.Cached.{Cached}
 use Rattle.m2v_slice.specs.Conditions.{IsBook}
 use Rattle.m2v_slice.specs.Jobs.{jobs_of, value_of, shared_of, learned_of, FitsPiece, FitsCache}

@@ -1,26 +1,23 @@
 -- What a cache knows once the needs of a job are learned.
-use Rattle.std.proofs.Common.{◌≡◌, ℕ, zero, suc, ◌+◌, ◌-◌, ◌*◌, ◌^◌, ◌<◌, ◌≤◌, true, false, cond, min, List, [], ◌∷◌, ◌++◌, length, map, get_or, refl, sym, ap, subst, ◌∙◌, arith, inl, inr}
-use Rattle.std.specs.Prelude.{All, nat_eq, nat_lt, sum_by, slice_index}
+use Rattle.std.proofs.Common.{◌≡◌, ℕ, zero, suc, ◌+◌, ◌-◌, ◌*◌, ◌^◌, ◌<◌, ◌≤◌, cond, min, List, [], ◌∷◌, ◌++◌, length, map, get_or, refl, sym, ap, subst, ◌∙◌, arith, inl, inr}
+use Rattle.std.specs.Prelude.{All, nat_eq, nat_lt, sum_by}
 use Rattle.std.specs.List.{range_with_len, flat_map}
 use Rattle.std.proofs.lemmas.Bool.{cases_lt, cond-true, cond-false, eq-eqb, ne_eqb, le-ltb, lt-ltb}
 use Rattle.std.proofs.lemmas.List.{length-append, get_or_append_left, get_or-append-add}
-use Rattle.std.proofs.lemmas.List.Elements.{All-map, All-head, All-tail}
+use Rattle.std.proofs.lemmas.List.Elements.{All-map}
 use Rattle.std.proofs.lemmas.List.FromFn.{length-map-range_with_len, get_or-map-range_with_len, sum_by-map-range_with_len_more}
-use Rattle.m2v_plane.specs.Samples.{Samples}
-use Rattle.m2v_set.specs.Numbers.{buffer_bits}
 use Rattle.m2v_set.proofs.Facts.{bounds}
-use Rattle.m2v_rate.specs.declared.values.Plan.{Plan}
 use Rattle.m2v_rate.specs.Plans.{Entries, first_open}
 use Rattle.m2v_core.specs.Book.{cache_after}
 use Rattle.m2v_row.specs.Slices.{CodedSlice, slice_of}
-use Rattle.m2v_slice.specs.Books.{Book, CodedPicture, rows, plan_job, slice_job, near_rows, in_group, reference_pictures, picture_of_job, part_of_job, needs_of, picture_at, slice_at, ledger_with, next_picture, task_of, coded}
+use Rattle.m2v_slice.specs.Books.{Book, CodedPicture, rows, plan_job, slice_job, near_rows, picture_of_job, part_of_job, needs_of, picture_at, slice_at, ledger_with, next_picture, task_of, coded}
 use Rattle.m2v_slice.specs.Cached.{Cached}
 use Rattle.m2v_slice.specs.Conditions.{IsBook}
-use Rattle.m2v_slice.specs.Jobs.{jobs_of, shared_of, learned_of, FitsCache}
+use Rattle.m2v_slice.specs.Jobs.{shared_of, learned_of, FitsCache}
 use Rattle.m2v_slice.specs.Windows.{needed, first_near, count_near, plan_needs, slice_needs, AreNearRows}
 use Rattle.m2v_slice.specs.Works.{HasLearnedPlan, HasLearnedSlice}
 use Rattle.m2v_slice.specs.Needs.{all_flat, all_range, slice_few, needed_below}
-use Rattle.m2v_slice.proofs.Coded.{no_slice, picture_is, picture_stays, slice_stays, slice_is, slices_are}
+use Rattle.m2v_slice.proofs.Coded.{picture_is, slice_stays, slice_is, slices_are}
 use Rattle.m2v_slice.proofs.Learned.{IsSliceJob, slice_in, plan_in, ledger_in, plan_picture, plan_part, slice_picture, slice_part, HasRows, after_rows, bits_before, bits_more, bits_none, HasBits, after_bits}
 use Rattle.m2v_slice.proofs.Groups.{passes_of}
 use Rattle.m2v_slice.proofs.Steady.{IsPlan, same_map, next_within}

@@ -1,5 +1,5 @@
 -- The jobs of a book: what each makes, what others learn of it, and what learning makes of a cache.
-use Rattle.std.specs.Prelude.{ℕ, zero, suc, ◌≡◌, ◌≢◌, ◌+◌, ◌-◌, ◌*◌, ◌^◌, ◌≤◌, nat_eq, nat_le, cond, min, if◌then◌else◌, List, All, length, slice_set}
+use Rattle.std.specs.Prelude.{ℕ, zero, suc, ◌≡◌, ◌≢◌, ◌+◌, ◌-◌, ◌*◌, ◌^◌, ◌≤◌, nat_eq, nat_le, cond, min, if◌then◌else◌, All, length, slice_set}
 use Rattle.m2v_plane.specs.declared.dims.Dims.{Dims}
 use Rattle.m2v_plane.specs.Samples.{Samples}
 use Rattle.m2v_set.specs.Numbers.{dims_of, mb_width_of}

@@ -1,7 +1,6 @@
 -- Where the lines of a reference stand: what a window of a reference is made of.
-use Rattle.std.specs.Prelude.{ℕ, ◌≡◌, ◌+◌, ◌-◌, ◌*◌, ◌/◌, ◌<◌, ◌≤◌, Bool, nat_eq, List, length, slice_index, Option, Some, None}
+use Rattle.std.specs.Prelude.{ℕ, ◌≡◌, ◌+◌, ◌-◌, ◌*◌, ◌/◌, ◌<◌, ◌≤◌, Bool, nat_eq, length, slice_index, Option, Some, None}
 use Rattle.m2v_plane.specs.declared.planes.Plane.{Plane}
-use Rattle.m2v_plane.specs.declared.planes.Lines.{Lines}
 use Rattle.m2v_plane.specs.declared.planes.Lines.TheVariants.{Whole, Top, Bottom}
 use Rattle.m2v_plane.specs.Sizes.{side}
 use Rattle.m2v_slice.specs.declared.window.Stand.{Stand}

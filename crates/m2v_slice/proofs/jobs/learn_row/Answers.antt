@@ -1,4 +1,4 @@
-use Rattle.std.proofs.Common.{◌≡◌, get_or, sym, subst}
+use Rattle.std.proofs.Common.{get_or, sym, subst}
 use Rattle.m2v_plane.specs.Fields.{no_samples}
 use Rattle.m2v_slice.specs.Jobs.{HasDims}
 use Rattle.m2v_slice.proofs.jobs.learn_row.Goals as goal

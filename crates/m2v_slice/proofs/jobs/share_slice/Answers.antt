@@ -1,4 +1,4 @@
-use Rattle.std.proofs.Common.{◌≡◌, ap, sym, subst, ◌∙◌}
+use Rattle.std.proofs.Common.{ap, subst, ◌∙◌}
 use Rattle.m2v_plane.specs.Samples.{Samples}
 use Rattle.m2v_slice.specs.Jobs.{IsSlicePart, HasDims}
 use Rattle.m2v_slice.proofs.jobs.share_slice.Goals as goal

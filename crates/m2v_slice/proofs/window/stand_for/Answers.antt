@@ -1,4 +1,4 @@
-use Rattle.std.proofs.Common.{◌≡◌, ℕ, Option, sym, subst}
+use Rattle.std.proofs.Common.{ℕ, Option, sym, subst}
 use Rattle.m2v_slice.specs.Stands.{StandsFor}
 use Rattle.m2v_slice.specs.declared.window.Stand.TheVariants.{Before, Absent}
 use Rattle.m2v_slice.proofs.Stands.{stands_before, stands_absent}

@@ -1,6 +1,6 @@
-use Rattle.std.proofs.Common.{◌≡◌, ◌≢◌, ◌+◌, ◌*◌, ◌<◌, ◌≤◌, ℕ, length, refl, sym, ap, subst, ◌∙◌, arith}
+use Rattle.std.proofs.Common.{◌≡◌, ◌<◌, ◌≤◌, ℕ, length, sym, ap, subst, ◌∙◌}
 use Rattle.m2v_set.specs.declared.settings.Settings.{Settings}
-use Rattle.m2v_set.specs.Numbers.{dims_of, mb_width_of, least_of, buffer_bits, rows_by}
+use Rattle.m2v_set.specs.Numbers.{dims_of, mb_width_of, rows_by}
 use Rattle.m2v_order.specs.declared.jobs.PictureJob.{PictureJob}
 use Rattle.m2v_rate.specs.declared.values.Plan.{Plan}
 use Rattle.m2v_rate.specs.Plans.{slice_cap_of}
@@ -12,7 +12,7 @@ use Rattle.m2v_preface.specs.Headers.{IsJob}
 use Rattle.m2v_slice.specs.Books.{job_at, forward_number}
 use Rattle.m2v_slice.specs.Windows.{Window, HoldsLine}
 use Rattle.m2v_slice.proofs.Steady.{IsPlan}
-use Rattle.m2v_slice.proofs.Slices.{is_job, plan_known, MayCode, may_code, slice_few, by_windows}
+use Rattle.m2v_slice.proofs.Slices.{is_job, plan_known, may_code, slice_few, by_windows}
 use Rattle.m2v_slice.proofs.book.EncodeBook.code_picture_slice.Goals as goal
 
 pub picture_context-context-requires : goal.picture_context-context-requires

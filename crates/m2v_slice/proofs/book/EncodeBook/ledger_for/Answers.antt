@@ -1,6 +1,5 @@
-use Rattle.std.proofs.Common.{◌≡◌, ◌+◌, ◌-◌, ◌<◌, ◌≤◌, ◌^◌, length, refl, sym, ap, subst, ◌∙◌, arith}
-use Rattle.m2v_preface.specs.Headers.{header_bits}
-use Rattle.m2v_slice.proofs.Planned.{first_ledger, early_ledger, MayKnow, may_know}
+use Rattle.std.proofs.Common.{◌+◌, ◌∙◌, arith}
+use Rattle.m2v_slice.proofs.Planned.{first_ledger, may_know}
 use Rattle.m2v_slice.proofs.book.EncodeBook.ledger_for.Goals as goal
 
 pub returns-then-p-eq0 : goal.returns-then-p-eq0

@@ -1,4 +1,4 @@
-use Rattle.std.proofs.Common.{◌≡◌, ◌+◌, ◌-◌, ◌<◌, ◌≤◌, List, ℕ, length, sym, subst, ◌∙◌, arith}
+use Rattle.std.proofs.Common.{◌-◌, ◌≤◌, List, ℕ, length, sym, subst, arith}
 use Rattle.m2v_slice.specs.Needs.{needed_few}
 use Rattle.m2v_slice.proofs.Lists.{needs_room, needed_before}
 use Rattle.m2v_slice.proofs.book.EncodeBook.needs_of_slice.Goals as goal

@@ -1,4 +1,4 @@
-use Rattle.std.proofs.Common.{◌≡◌, ◌+◌, ◌/◌, ◌<◌, ℕ, length, sym, subst}
+use Rattle.std.proofs.Common.{◌+◌, ◌/◌, ◌<◌, ℕ, length, sym, subst}
 use Rattle.m2v_slice.proofs.Rows.{job_picture}
 use Rattle.m2v_slice.proofs.book.EncodeBook.picture_of_job.Goals as goal
 

@@ -1,5 +1,5 @@
-use Rattle.std.proofs.Common.{◌≡◌, ◌+◌, ◌<◌, ◌≤◌, length, refl, sym, ap, subst, ◌∙◌, arith}
-use Rattle.m2v_slice.proofs.Planned.{MayPlan, may_plan}
+use Rattle.std.proofs.Common.{sym, ◌∙◌, arith}
+use Rattle.m2v_slice.proofs.Planned.{may_plan}
 use Rattle.m2v_slice.proofs.book.EncodeBook.plan_picture.Goals as goal
 
 pub plan-made-requires : goal.plan-made-requires

@@ -1,5 +1,4 @@
-use Rattle.std.proofs.Common.{◌≡◌, ◌+◌, ◌<◌, ◌≤◌, length, ◌∙◌, arith}
-use Rattle.m2v_slice.specs.Books.{slice_job}
+use Rattle.std.proofs.Common.{◌+◌, ◌∙◌, arith}
 use Rattle.m2v_slice.proofs.Lists.{one_slice_more, slices_length}
 use Rattle.m2v_slice.proofs.book.EncodeBook.push_slices.Goals as goal
 

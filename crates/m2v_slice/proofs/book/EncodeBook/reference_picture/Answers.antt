@@ -1,6 +1,4 @@
-use Rattle.std.proofs.Common.{◌≡◌, ◌+◌, ◌-◌, ◌≤◌, true, false, sym, ap, subst, ◌∙◌, arith}
-use Rattle.m2v_order.specs.declared.jobs.PictureJob.{PictureJob}
-use Rattle.m2v_slice.specs.Books.{job_at}
+use Rattle.std.proofs.Common.{◌≡◌, ◌-◌, true, false, sym, ◌∙◌, arith}
 use Rattle.m2v_slice.proofs.References.{is_anchor_with, looked_past, looked_at, found_at, found_none}
 use Rattle.m2v_slice.proofs.book.EncodeBook.reference_picture.Goals as goal
 

@@ -1,4 +1,4 @@
-use Rattle.std.proofs.Common.{◌≡◌, ◌≤◌, ℕ, sym, subst, ◌∙◌}
+use Rattle.std.proofs.Common.{◌≤◌, ℕ, sym, subst}
 use Rattle.m2v_slice.proofs.Rows.{jobs_are}
 use Rattle.m2v_slice.proofs.jobs.EncodeBookJobBook.jobs.Goals as goal
 

@@ -1,5 +1,4 @@
-use Rattle.std.proofs.Common.{◌≡◌, ◌-◌, ◌<◌, ◌≤◌, length, sym, subst, ◌∙◌, arith}
-use Rattle.m2v_slice.specs.Books.{part_of_job, needs_of}
+use Rattle.std.proofs.Common.{◌-◌, ◌<◌, sym, subst, ◌∙◌, arith}
 use Rattle.m2v_slice.specs.Jobs.{FitsCache}
 use Rattle.m2v_slice.proofs.Learned.{IsSliceJob}
 use Rattle.m2v_slice.proofs.Fitting.{need_dims, slice_needs_few, fits_plan, fits_bits, fits_row, row_dims, learned_first, learned_bits, learned_row}

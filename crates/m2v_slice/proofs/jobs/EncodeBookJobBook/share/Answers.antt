@@ -1,4 +1,4 @@
-use Rattle.std.proofs.Common.{◌≡◌, sym, subst}
+use Rattle.std.proofs.Common.{sym, subst}
 use Rattle.m2v_plane.specs.declared.dims.Dims.{Dims}
 use Rattle.m2v_slice.specs.Jobs.{HasDims}
 use Rattle.m2v_slice.proofs.Fitting.{shared_slice_fits, piece_slice_fits, text_small}

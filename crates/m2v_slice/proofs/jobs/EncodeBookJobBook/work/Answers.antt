@@ -1,5 +1,5 @@
-use Rattle.std.proofs.Common.{◌≡◌, ◌+◌, ◌-◌, ◌<◌, ◌≤◌, length, refl, sym, ap, subst, ◌∙◌, arith}
-use Rattle.m2v_slice.specs.Books.{rows, part_of_job}
+use Rattle.std.proofs.Common.{◌≡◌, ◌-◌, ap, arith}
+use Rattle.m2v_slice.specs.Books.{part_of_job}
 use Rattle.m2v_slice.proofs.Fitting.{piece_slice_fits}
 use Rattle.m2v_slice.proofs.Worked.{plan_fits, fits_plan_piece, fits_slice_piece, plan_known, slice_known, plan_value, slice_place, slice_value}
 use Rattle.m2v_slice.proofs.jobs.EncodeBookJobBook.work.Goals as goal

@@ -1,6 +1,5 @@
-use Rattle.std.proofs.Common.{◌≡◌, length, sym, ap, ◌∙◌}
+use Rattle.std.proofs.Common.{length, sym, ap, ◌∙◌}
 use Rattle.m2v_plane.proofs.Places.{length-line_part}
-use Rattle.m2v_plane.specs.Samples.{line_part}
 use Rattle.m2v_slice.specs.Books.{reference, coded}
 use Rattle.m2v_slice.proofs.window.ReferenceWindowRefView.copy_line.Goals as goal
 
