@@ -156,7 +156,8 @@ impl EncodeBook {
     /// The frame that a picture is coded of.
     pub(crate) fn source(&self, p: u32) -> &Frame
         requires picture { p < length self.now.pictures }
-        ensures value { result.now ≡ slice_index_or self.now.frames (job_at self.now p).frame no_samples }
+        ensures value { result.now
+            ≡ slice_index_or self.now.frames (job_at self.now p).frame no_samples }
     {
         // what is known of a book
         let _book = self.pictures();

@@ -55,7 +55,8 @@ impl EncodeCache {
         ledger: &Ledger,
     ) -> Result<EncodeCache, Memory>
         ensures room { IfOk result (λ c. length c.rows ≡ 12) }
-        ensures size { IfOk result (λ c. All (λ (row : Samples). row.dims ≡ dims_of settings.now) c.rows) }
+        ensures size { IfOk result
+            (λ c. All (λ (row : Samples). row.dims ≡ dims_of settings.now) c.rows) }
     {
         let rows = blank_rows(alloc, settings.dims(), 12)?;
         Ok(EncodeCache {
@@ -102,7 +103,8 @@ impl EncodeCache {
 
     /// Takes a plan and the ledger that knows it, and begins to count bits.
     pub(crate) fn take_plan(&mut self, plan: &Plan, ledger: &Ledger)
-        ensures value { self.new ≡ record self.old { plan = plan.now; ledger = ledger.now; bits = 0 } }
+        ensures value { self.new
+            ≡ record self.old { plan = plan.now; ledger = ledger.now; bits = 0 } }
     {
         self.plan = *plan;
         self.ledger = *ledger;
@@ -111,7 +113,8 @@ impl EncodeCache {
 
     /// Counts the bits of a slice more.
     pub(crate) fn add_bits(&mut self, bits: u64)
-        ensures value { self.new ≡ record self.old { bits = min (self.old.bits + bits) (2 ^ 64 - 1) } }
+        ensures value { self.new
+            ≡ record self.old { bits = min (self.old.bits + bits) (2 ^ 64 - 1) } }
     {
         self.bits = self.bits.saturating_add(bits);
     }

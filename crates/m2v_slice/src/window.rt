@@ -56,8 +56,10 @@ impl<'a> Model for ReferenceWindow<'a> {
 
 /// The place of a picture among others.
 fn place_among(pictures: &NeedList, q: u32) -> Option<u32>
-    ensures some { IfSome result (λ i. (i < length pictures.now) × (slice_index pictures.now i ≡ q)) }
-    ensures none { IfNone result ((i : ℕ) → i < length pictures.now → slice_index pictures.now i ≡ q → ⊥) }
+    ensures some { IfSome result
+        (λ i. (i < length pictures.now) × (slice_index pictures.now i ≡ q)) }
+    ensures none { IfNone result
+        ((i : ℕ) → i < length pictures.now → slice_index pictures.now i ≡ q → ⊥) }
 {
     for i in 0..pictures.len() {
         if pictures.get(i) == q {
@@ -211,7 +213,8 @@ fn line_before(
     requires some { IsSome before.now }
     requires line { IfSome before.now (λ f. line < lines_of f.dims plane lines) }
     requires within { IfSome before.now (λ f. column + len ≤ columns_of f.dims plane) }
-    ensures value { result.now ≡ line_part (sample_in (or_none before.now) plane lines line) column len }
+    ensures value { result.now
+        ≡ line_part (sample_in (or_none before.now) plane lines line) column len }
 {
     match before {
         Some(frame) => frame.line(plane, lines, line, column, len),
@@ -231,11 +234,10 @@ fn line_cached(
     len: u32,
 ) -> &[u8]
     requires held { IsHeldLine cache.now place first plane line }
-    requires within { column + len
-        ≤ columns_of (slice_index_or cache.now.rows (place + (line / side plane - first)) no_samples).dims plane }
-    ensures value { result.now
-        ≡ line_part (sample_of (slice_index_or cache.now.rows (place + (line / side plane - first)) no_samples) plane
-        (line % side plane)) column len }
+    requires within { column + len ≤ columns_of (slice_index_or cache.now.rows
+        (place + (line / side plane - first)) no_samples).dims plane }
+    ensures value { result.now ≡ line_part (sample_of (slice_index_or cache.now.rows
+        (place + (line / side plane - first)) no_samples) plane (line % side plane)) column len }
 {
     let side = side_of(plane);
     cache

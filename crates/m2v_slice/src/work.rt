@@ -27,7 +27,8 @@ impl EncodeBook {
     fn ledger_for(&self, p: u32, cache: &EncodeCache) -> Ledger
         requires picture { p < length self.now.pictures }
         requires learned { HasLearnedPlan self.now p cache.now }
-        ensures value { result ≡ ledger_with self.now (coded self.now p) (first_open p) (coded self.now p) }
+        ensures value { result
+            ≡ ledger_with self.now (coded self.now p) (first_open p) (coded self.now p) }
     {
         // what is known of a book
         let _book = self.pictures();
