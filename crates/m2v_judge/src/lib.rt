@@ -1,0 +1,14 @@
+//! The rules that the verifier looks at in a stream, and the account of its buffer, picture by picture (clause 8 and Annex
+//! C of ISO/IEC 13818-2).
+#![tactic(auto)]
+
+mod broken;
+mod coded;
+mod level;
+mod picture_rules;
+mod sequence_rules;
+
+pub use broken::BrokenRule;
+pub use coded::CodedPicture;
+pub use picture_rules::{breach_before, breach_behind};
+pub use sequence_rules::sequence_breach;
