@@ -24,9 +24,12 @@ abbrev pub first_of : Breaches → Option Breach
 first_of [] = None
 first_of (b ∷ bs) = Some b
 
--- what was found is the first of these breaches, or there is none
-abbrev pub Says : Option BrokenRule → Breaches → Type 0
-Says found bs = option_map told found ≡ first_of bs
+-- what is found of some breaches: the first
+abbrev pub untold : Breach → BrokenRule
+untold b = record { rule = b.rule; picture = b.picture; have = b.have; need = b.need }
+
+abbrev pub found : Breaches → Option BrokenRule
+found bs = option_map untold (first_of bs)
 
 -- what a note tells of a picture; its samples are of no matter to the rules
 abbrev pub noted_picture : PictureNote → Picture

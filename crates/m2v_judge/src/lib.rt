@@ -6,9 +6,11 @@ mod broken;
 mod coded;
 mod level;
 mod picture_rules;
+mod places;
+mod rules;
 mod sequence_rules;
 
 pub use broken::BrokenRule;
 pub use coded::CodedPicture;
-pub use picture_rules::{breach_before, breach_behind};
-pub use sequence_rules::sequence_breach;
+pub use places::{Places, Unplaced, UnplacedFrame};
+pub use rules::Rules;
