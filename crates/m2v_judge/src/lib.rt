@@ -2,8 +2,11 @@
 //! C of ISO/IEC 13818-2).
 #![tactic(auto)]
 
+mod amounts;
 mod broken;
+mod buffer;
 mod coded;
+mod judge;
 mod level;
 mod picture_rules;
 mod places;
@@ -11,6 +14,6 @@ mod rules;
 mod sequence_rules;
 
 pub use broken::BrokenRule;
+pub use buffer::BufferFigures;
 pub use coded::CodedPicture;
-pub use places::{Places, Unplaced, UnplacedFrame};
-pub use rules::Rules;
+pub use judge::{Judge, Judgement};

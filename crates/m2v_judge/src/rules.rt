@@ -32,7 +32,7 @@ fn lesser(a: Option<BrokenRule>, b: Option<BrokenRule>) -> Option<BrokenRule>
 }
 
 /// The picture ends its frame: a frame picture or a second field.
-fn ends_frame(note: &PictureNote) -> bool
+pub fn ends_frame(note: &PictureNote) -> bool
     ensures value { result ≡ ends_frame note.now }
 {
     is_frame(&note.extension) || !note.first

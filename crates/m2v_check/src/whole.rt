@@ -1,0 +1,87 @@
+use crate::verdict::{Figures, Verdict};
+use m2v_decoder::Decoder;
+use m2v_judge::{Judge, Judgement};
+use m2v_piece::{Cutter, DecodeError};
+use m2v_port::Source;
+use std::alloc::Global;
+
+/// Takes the frames that are due, and hands them back at once: none is looked at.
+fn pass_frames(decoder: &mut Decoder) {
+    while let Some(frame) = decoder.due() {
+        decoder.recycle(frame);
+    }
+}
+
+/// Reads piece after piece, and judges each.
+fn read_pieces<S: Source>(
+    alloc: Global,
+    cutter: &mut Cutter,
+    decoder: &mut Decoder,
+    judge: &mut Judge,
+    input: &mut S,
+) -> Result<(), DecodeError> {
+    loop {
+        match cutter.next_piece(alloc, input) {
+            Err(e) => return Err(e),
+            Ok(None) => return Ok(()),
+            Ok(Some(piece)) => {
+                let notes = decoder.piece(alloc, &piece)?;
+                judge.piece(alloc, &notes, piece.place, piece.length)?;
+                pass_frames(decoder);
+            }
+        }
+    }
+}
+
+/// The verdict of a judgement, with what is counted of the stream.
+fn verdict(judgement: &Judgement, frames: u64, pictures: u64, bytes: u64) -> Verdict {
+    let counted = Figures {
+        frames,
+        pictures,
+        bytes,
+        low: 0,
+        high: 0,
+        delays: 0,
+    };
+    match judgement {
+        Judgement::Unlawful(b) => Verdict::Unlawful {
+            rule: b.rule,
+            picture: b.picture,
+            have: b.have,
+            need: b.need,
+        },
+        Judgement::Variable => Verdict::Variable(counted),
+        Judgement::Unsafe(fault) => Verdict::Buffer(*fault),
+        Judgement::Lawful(f) => Verdict::Lawful(Figures {
+            low: f.low,
+            high: f.high,
+            delays: f.delays,
+            ..counted
+        }),
+    }
+}
+
+/// Ends the stream, and judges it.
+fn finish(end: u64, decoder: &mut Decoder, judge: &mut Judge) -> Result<Verdict, DecodeError> {
+    match decoder.end(end) {
+        Err(f) => return Err(DecodeError::Stream(f)),
+        Ok(()) => {}
+    }
+    pass_frames(decoder);
+    let judgement = judge.finish()?;
+    Ok(verdict(&judgement, decoder.shown(), decoder.pictures(), judge.bytes()))
+}
+
+/// Checks a stream: reads it to its end code or to the input's end, and says whether it keeps the rules, and whether the
+/// buffer bears it.
+///
+/// # Errors
+/// The first fault of the stream; too long or too large, by the input's limits; a failed input; want of memory. Write
+/// never comes.
+pub fn check<S: Source>(alloc: Global, input: &mut S) -> Result<Verdict, DecodeError> {
+    let mut cutter = Cutter::new(alloc)?;
+    let mut decoder = Decoder::new(alloc)?;
+    let mut judge = Judge::new();
+    read_pieces(alloc, &mut cutter, &mut decoder, &mut judge, input)?;
+    finish(cutter.end(), &mut decoder, &mut judge)
+}
