@@ -1,1 +1,4 @@
 pub mod Firsts
+pub mod Merging
+pub mod Displaying
+pub mod Placing
