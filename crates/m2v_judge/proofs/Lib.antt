@@ -2,3 +2,4 @@ pub mod Firsts
 pub mod Merging
 pub mod Displaying
 pub mod Placing
+pub mod Framing

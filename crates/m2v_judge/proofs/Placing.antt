@@ -17,7 +17,7 @@ use Rattle.m2v_judge.specs.Running.{reference_breach, breach_at, field_breach, f
 use Rattle.m2v_judge.proofs.Firsts.{found_more, first_twice, first_none, of_one}
 use Rattle.m2v_judge.proofs.Displaying.{Frames, place_in, IsAbsent, AreBelow, other_number, other_above, absent_below, below_more, below-append, absent-append, place_here, place_none, place_is, shown_by, waits_by, once_order, later_order, once_shown, once_waits, later_shown, later_waits}
 
-abbrev Found : Type 0
+abbrev pub Found : Type 0
 Found = Option BrokenRule
 
 -- ---- one picture
@@ -65,7 +65,7 @@ picture_found low c all n =
 
 -- ---- frames of a group
 
-frames_one : (g : ℕ) (n : Numbered) (b : Bool) → nat_eq n.group g ≡ b → frames_of_group g (n ∷ []) ≡ (if b && n.picture.ends_frame then (n.frame, n.picture.info.kind) ∷ [] else [])
+pub frames_one : (g : ℕ) (n : Numbered) (b : Bool) → nat_eq n.group g ≡ b → frames_of_group g (n ∷ []) ≡ (if b && n.picture.ends_frame then (n.frame, n.picture.info.kind) ∷ [] else [])
 unfolding frames_of_group
 frames_one g n b e = rw e refl
 
@@ -79,7 +79,7 @@ frames-append g [] ys = refl
 frames-append g (n ∷ xs) ys = pick_more (nat_eq n.group g && n.picture.ends_frame) (n.frame, n.picture.info.kind) _ _ _ (frames-append g xs ys)
 
 -- none of the groups before
-abbrev NoEarlier : ℕ → List Numbered → Type 0
+abbrev pub NoEarlier : ℕ → List Numbered → Type 0
 NoEarlier g ns = (h : ℕ) → h < g → frames_of_group h ns ≡ []
 
 frames_other : (h : ℕ) (n : Numbered) → nat_eq n.group h ≡ false → frames_of_group h (n ∷ []) ≡ []
@@ -91,28 +91,28 @@ none_with g n ns e none h lt =
 
 -- ---- what was found so far
 
-abbrev Place : Bool → ℕ → List Numbered → ℕ → ℕ
+abbrev pub Place : Bool → ℕ → List Numbered → ℕ → ℕ
 Place low g all x = display_place x (Order low (frames_of_group g all))
 
-abbrev anchor_at : Option UnplacedFrame → Option ℕ → (ℕ → ℕ) → Found
+abbrev pub anchor_at : Option UnplacedFrame → Option ℕ → (ℕ → ℕ) → Found
 anchor_at None a P = None
 anchor_at (Some f) None P = None
 anchor_at (Some f) (Some a) P = frame_breach f (P a)
 
-abbrev pending : Places → Option ℕ → ℕ → (ℕ → ℕ) → Found
+abbrev pub pending : Places → Option ℕ → ℕ → (ℕ → ℕ) → Found
 pending o a f P = first_some o.settled (first_some (anchor_at o.anchor a P) (first_some o.later (field_breach o.begun (P f))))
 
-abbrev Matches : Option UnplacedFrame → Option ℕ → Type 0
+abbrev pub Matches : Option UnplacedFrame → Option ℕ → Type 0
 Matches None None = Unit {0}
 Matches (Some f) (Some a) = Unit {0}
 Matches None (Some a) = ⊥
 Matches (Some f) None = ⊥
 
-abbrev AnchorBelow : ℕ → Option ℕ → Type 0
+abbrev pub AnchorBelow : ℕ → Option ℕ → Type 0
 AnchorBelow f None = Unit {0}
 AnchorBelow f (Some a) = a < f
 
-abbrev AnchorAbsent : Option ℕ → List ℕ → Type 0
+abbrev pub AnchorAbsent : Option ℕ → List ℕ → Type 0
 AnchorAbsent None xs = Unit {0}
 AnchorAbsent (Some a) xs = IsAbsent a xs
 
@@ -145,13 +145,13 @@ judged_none low c = record {
 
 -- ---- the group ends
 
-waits_count : (a : Option UnplacedFrame) (w : Option ℕ) → Matches a w → length (option_to_list w) ≡ some_waits a
+pub waits_count : (a : Option UnplacedFrame) (w : Option ℕ) → Matches a w → length (option_to_list w) ≡ some_waits a
 waits_count None None m = refl
 waits_count (Some f) (Some a) m = refl
 waits_count None (Some a) m = absurd m
 waits_count (Some f) None m = absurd m
 
-waits_below : (f : ℕ) (w : Option ℕ) → AnchorBelow f w → AreBelow f (option_to_list w)
+pub waits_below : (f : ℕ) (w : Option ℕ) → AnchorBelow f w → AreBelow f (option_to_list w)
 waits_below f None b = tt
 waits_below f (Some a) b = (b, tt)
 
@@ -162,7 +162,7 @@ anchor_last shown (Some f) (Some a) xs P m b e p = ap (frame_breach f) (p a ∙ 
 anchor_last shown None (Some a) xs P m b e p = absurd m
 anchor_last shown (Some f) None xs P m b e p = absurd m
 
-ended : (low c : Bool) (done : List Numbered) (g f : ℕ) (waits : Bool) (o : Places) → Judged low c done g f waits o → (later : List Numbered) → NoEarlier g later → frames_of_group g later ≡ []
+pub ended : (low c : Bool) (done : List Numbered) (g f : ℕ) (waits : Bool) (o : Places) → Judged low c done g f waits o → (later : List Numbered) → NoEarlier g later → frames_of_group g later ≡ []
     → found (flat_map (picture_breaches low c (done ++ later)) done) ≡ all_broken o
 ended low c done g f waits o j later none here =
     let fs = frames_of_group g done in
@@ -206,7 +206,7 @@ joined None None (Some l) b x = refl
 joined None (Some a) l b x = refl
 joined (Some s) a l b x = refl
 
-one_more : (low c : Bool) (done later : List Numbered) (n : Numbered) (g f : ℕ) (waits : Bool) (o : Places) → Judged low c done g f waits o → n.group ≡ g → n.frame ≡ f → NoEarlier g later
+pub one_more : (low c : Bool) (done later : List Numbered) (n : Numbered) (g f : ℕ) (waits : Bool) (o : Places) → Judged low c done g f waits o → n.group ≡ g → n.frame ≡ f → NoEarlier g later
     → (let P = Place low g (done ++ n ∷ later) in
     found (flat_map (picture_breaches low c ((done ++ n ∷ []) ++ later)) (done ++ n ∷ []))
     ≡ first_some o.settled (first_some (anchor_at o.anchor (waits_by low (frames_of_group g done)) P) (first_some o.later (first_some (field_breach o.begun (P f)) (breach_at (unplaced c n) (P f))))))
@@ -223,11 +223,11 @@ one_more low c done later n g f waits o j eg ef none =
     ∙ (λ i. first_some (j.says (n ∷ later) (none_with g n later eg none) i) ((picture_found low c all n ∙ ap (breach_at (unplaced c n)) place) i))
     ∙ joined o.settled (anchor_at o.anchor w P) o.later (field_breach o.begun (P f)) (breach_at (unplaced c n) (P f))
 
-upto_more : (done : List Numbered) (n : Numbered) (g : ℕ) → n.group ≡ g → ((h : ℕ) → g < h → frames_of_group h done ≡ []) → (h : ℕ) → g < h → frames_of_group h (done ++ n ∷ []) ≡ []
+pub upto_more : (done : List Numbered) (n : Numbered) (g : ℕ) → n.group ≡ g → ((h : ℕ) → g < h → frames_of_group h done ≡ []) → (h : ℕ) → g < h → frames_of_group h (done ++ n ∷ []) ≡ []
 upto_more done n g e old h lt =
     frames-append h done (n ∷ []) ∙ (λ i. old h lt i ++ frames_other h n (ap (λ (x : ℕ). nat_eq x h) e ∙ other_number h g lt) i)
 
-same_group : (n : Numbered) (g : ℕ) → n.group ≡ g → nat_eq n.group g ≡ true
+pub same_group : (n : Numbered) (g : ℕ) → n.group ≡ g → nat_eq n.group g ≡ true
 same_group n g e = ap (λ (x : ℕ). nat_eq x g) e ∙ yes_same g
   where
     yes_same : (k : ℕ) → nat_eq k k ≡ true
