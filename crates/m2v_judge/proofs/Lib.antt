@@ -3,3 +3,4 @@ pub mod Merging
 pub mod Displaying
 pub mod Placing
 pub mod Framing
+pub mod RuleLaws
