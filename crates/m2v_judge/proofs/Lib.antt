@@ -4,3 +4,4 @@ pub mod Displaying
 pub mod Placing
 pub mod Framing
 pub mod RuleLaws
+pub mod AmountLaws

@@ -1,3 +1,4 @@
 pub mod Breaking
 pub mod Running
 pub mod Laws
+pub mod Holding

@@ -1,8 +1,9 @@
 // The most that the buffer holds. What arrives ends with the stream, so what is held when a picture is removed is known as
 // soon as all bits came that arrive until then: until then the picture waits in a queue, which is as long as the buffer
 // holds pictures.
-ghost use Rattle.std.specs.Prelude.{◌≡◌, ◌+◌, ◌*◌, ◌<◌, ◌≤◌, ◌^◌, ℕ, max, [], ◌∷◌, ◌++◌, OnOk};
-
+ghost use Rattle.std.specs.Prelude.{◌≡◌, ◌+◌, ◌-◌, ◌*◌, ◌<◌, ◌≤◌, ◌^◌, ℕ, max, min, nat_eq, [], ◌∷◌, ◌++◌, OnOk, IfSome, IsSome};
+ghost use Rattle.std.specs.VecDeque.{deque_len};
+ghost use Rattle.m2v_judge.specs.Holding.{cut_at, most_with, IsFirst};
 
 use std::alloc::{AllocError, Global};
 use std::collections::VecDeque;
@@ -18,13 +19,15 @@ pub struct Amount {
 impl Amount {
     /// What is held in a stream of so many bits.
     fn in_stream(&self, total: u64) -> u128
+        ensures value { result ≡ cut_at total self.now }
     {
         let rest = 1800 * u128::from(total.saturating_sub(self.removed));
         self.held.min(rest)
     }
 
-    /// All that is held came already, where the stream has so many bits so far.
+    /// All that is held came already, where so many bits of the stream came.
     fn came(&self, total: u64) -> bool
+        ensures value { result ≡ nat_eq (cut_at total self.now) self.now.held }
     {
         self.in_stream(total) == self.held
     }
@@ -40,6 +43,7 @@ pub struct Amounts {
 impl Amounts {
     /// No picture was removed.
     pub fn new(alloc: Global) -> Amounts
+        ensures value { (t : ℕ) → most_with t result.most result.waiting.items ≡ 0 }
     {
         Amounts {
             most: 0,
@@ -49,18 +53,34 @@ impl Amounts {
 
     /// A picture is removed.
     pub fn add(&mut self, amount: Amount) -> Result<(), AllocError>
+        ensures value { OnOk result ((t : ℕ) → most_with t self.new.most self.new.waiting.items
+            ≡ max (most_with t self.old.most self.old.waiting.items) (cut_at t amount)) }
     {
         self.waiting.push_back(amount)?;
         Ok(())
     }
 
-    /// So many bits of the stream came.
-    pub fn settle(&mut self, total: u64)
+    /// The picture that waits first, where so many bits of the stream came, and all came that it holds.
+    fn first_known(&self, total: u64) -> Option<Amount>
+        ensures known { IfSome result (λ a. cut_at total a ≡ a.held) }
+        ensures first { IfSome result (λ a. IsFirst a self.now.waiting.items) }
+        ensures some { IsSome result → 0 < deque_len self.now.waiting }
     {
-        while let Some(amount) = self.waiting.front() {
-            if !amount.came(total) {
-                return;
+        match self.waiting.front() {
+            Some(amount) => {
+                let amount = *amount;
+                if amount.came(total) { Some(amount) } else { None }
             }
+            None => None,
+        }
+    }
+
+    /// So many bits of the stream came: what is known of a stream that is longer is the same as before.
+    pub fn settle(&mut self, total: u64)
+        ensures value { (t : ℕ) → total ≤ t → most_with t self.new.most self.new.waiting.items
+            ≡ most_with t self.old.most self.old.waiting.items }
+    {
+        while let Some(amount) = self.first_known(total) {
             self.most = self.most.max(amount.held);
             self.waiting.pop_front();
         }
@@ -68,6 +88,7 @@ impl Amounts {
 
     /// The most that is held in a stream of so many bits.
     pub fn finish(&mut self, total: u64) -> u128
+        ensures value { result ≡ most_with total self.old.most self.old.waiting.items }
     {
         while let Some(amount) = self.waiting.pop_front() {
             self.most = self.most.max(amount.in_stream(total));

@@ -1,9 +1,10 @@
 // What the verifier keeps of a stream, piece by piece.
 use crate::broken::BrokenRule;
-use crate::buffer::{Buffer, BufferFigures, Times};
+use crate::buffer::{Buffer, BufferFigures, Setup};
 use crate::coded::CodedPicture;
 use crate::rules::Rules;
 use crate::sequence_rules::{buffer_of, rate_of};
+use crate::times::Times;
 use m2v_model::{Notes, PictureNote, Sequence};
 use m2v_vbv::AccountFault;
 use std::alloc::{AllocError, Global};
@@ -100,7 +101,11 @@ impl Judge {
                         code: first.info.frame_rate_code,
                         repeats: false,
                     };
-                    self.buffer = Some(Buffer::start(alloc, rate_of(&first), buffer_of(&first), times, p, bits, code));
+                    let setup = Setup {
+                        rate: rate_of(&first),
+                        buffer: buffer_of(&first),
+                    };
+                    self.buffer = Some(Buffer::start(alloc, &setup, times, p, bits, code));
                 }
                 None => {}
             }

@@ -6,6 +6,7 @@ mod amounts;
 mod broken;
 mod buffer;
 mod coded;
+mod course;
 mod judge;
 mod laws;
 mod level;
@@ -13,6 +14,7 @@ mod picture_rules;
 mod places;
 mod rules;
 mod sequence_rules;
+mod times;
 
 pub use broken::BrokenRule;
 pub use buffer::BufferFigures;
