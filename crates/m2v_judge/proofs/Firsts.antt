@@ -38,7 +38,7 @@ four xs ys zs ws a b c d s t r p q u v e f g =
     g ∙ (λ i. first_some (e i) (f i)) ∙ sym (first_twice (first_some a b) c d) ∙ (λ i. first_some (first_some (first_some (p i) (q i)) (u i)) (v i))
     ∙ sym (found_more ((xs ++ ys) ++ zs) ws ∙ ap (λ o. first_some o (found ws)) (found_more (xs ++ ys) zs ∙ ap (λ o. first_some o (found zs)) (found_more xs ys)))
 
-seven_found : (s : Sequence) → found (sequence_breaches (s ∷ []))
+pub seven_found : (s : Sequence) → found (sequence_breaches (s ∷ []))
     ≡ first_some (first_some (found (level_rule s)) (first_some (found (width_rule s)) (found (height_rule s))))
     (first_some (first_some (found (frame_rate_rule s)) (found (luma_rule s))) (first_some (found (rate_rule s)) (found (buffer_rule s))))
 seven_found s = simp (of_one, found_more, first_twice)

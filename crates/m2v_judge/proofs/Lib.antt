@@ -5,3 +5,6 @@ pub mod Placing
 pub mod Framing
 pub mod RuleLaws
 pub mod AmountLaws
+pub mod CourseLaws
+pub mod SetupLaws
+pub mod Accounting

@@ -62,7 +62,19 @@ pub record IsSound (c : Course) : Type 0 where
   pub bits : c.removed + c.next.bits ≤ c.total
   pub most : c.total ≤ 2 ^ 40
   pub few : c.account.removals ≤ c.pictures
+  pub least : 32 ≤ c.next.code
+  pub counted : 32 * c.pictures ≤ c.removed
   pub delays : c.delays ≤ c.pictures
+
+-- that, and then the next picture
+abbrev pub stepped : Course → Next → Course
+stepped c next = record (removed_by c.under c) { next = next; total = c.total + next.bits }
+
+-- a picture of which so many bits were read
+pub record IsNext (next : Next) : Type 0 where
+  pub least : 32 ≤ next.code
+  pub code : next.code ≤ next.bits
+  pub units : next.units < 2 ^ 20
 
 -- ---- the most that is held
 

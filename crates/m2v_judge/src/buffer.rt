@@ -1,5 +1,8 @@
 // The account of a stream's buffer (Annex C), with the most that it holds.
-use crate::amounts::Amounts;
+ghost use Rattle.std.specs.Prelude.{◌≡◌, ◌+◌, ◌*◌, ◌<◌, ◌≤◌, ◌^◌};
+ghost use Rattle.m2v_judge.specs.Holding.{IsSound};
+
+use crate::amounts::{Amount, Amounts};
 use crate::coded::CodedPicture;
 use crate::course::{Course, Next};
 use crate::times::Times;
@@ -9,9 +12,10 @@ use std::alloc::{AllocError, Global};
 /// The account of a stream.
 #[derive(Drop)]
 pub struct Buffer {
-    times: Times,
-    course: Course,
-    amounts: Amounts,
+    pub times: Times,
+    pub course: Course,
+    pub amounts: Amounts,
+    ghost sound: { IsSound course },
 }
 
 /// The figures of a buffer that bears its stream, in bits, rounded down.
@@ -42,7 +46,16 @@ impl Buffer {
         p: &CodedPicture,
         bits: u64,
         code: u64,
-    ) -> Buffer {
+    ) -> Buffer
+        requires rate { 1 ≤ setup.now.rate }
+        requires rates { setup.now.rate < 2 ^ 30 }
+        requires buffer { setup.now.buffer ≤ 2 ^ 19 }
+        requires least { 32 ≤ code }
+        requires code { code ≤ bits }
+        requires most { bits < 2 ^ 40 }
+        requires delay { p.now.note.info.vbv_delay < 2 ^ 16 }
+        ensures total { result.course.total ≡ bits }
+    {
         let delay = u64::from(p.note.info.vbv_delay);
         let units = times.next(p);
         Buffer {
@@ -67,46 +80,59 @@ impl Buffer {
         }
     }
 
-    /// Removes the next picture, whose bits all were read.
-    fn remove(&mut self) -> Result<(), AllocError> {
-        match self.course.remove() {
-            Some(amount) => self.amounts.add(amount),
-            None => Ok(()),
-        }
-    }
-
-    /// The next piece has a picture, and so many bits.
-    pub fn picture(&mut self, p: &CodedPicture, bits: u64, code: u64) -> Result<(), AllocError> {
-        self.remove()?;
+    /// The next piece has a picture, and so many bits, `code` of them up to the end of its start code.
+    pub fn picture(&mut self, p: &CodedPicture, bits: u64, code: u64) -> Result<(), AllocError>
+        requires least { 32 ≤ code }
+        requires code { code ≤ bits }
+        requires most { self.old.course.total + bits ≤ 2 ^ 40 }
+        ensures total { self.new.course.total ≡ self.old.course.total + bits }
+    {
         let units = self.times.next(p);
-        self.course.next = Next {
+        let next = Next {
             bits,
             code,
             units,
             delay: u64::from(p.note.info.vbv_delay),
         };
-        self.course.total += bits;
+        let amount = self.course.step(&next);
+        self.note(amount)?;
         self.amounts.settle(self.course.total);
         Ok(())
     }
 
+    /// Notes what was held when a picture was removed.
+    fn note(&mut self, amount: Option<Amount>) -> Result<(), AllocError>
+        ensures same { self.new.course ≡ self.old.course }
+    {
+        match amount {
+            Some(amount) => self.amounts.add(amount),
+            None => Ok(()),
+        }
+    }
+
     /// The last piece has no picture: its bits are those of the last picture.
-    pub fn more(&mut self, bits: u64) {
-        self.course.next.bits += bits;
-        self.course.total += bits;
+    pub fn more(&mut self, bits: u64)
+        requires most { self.old.course.total + bits ≤ 2 ^ 40 }
+        ensures total { self.new.course.total ≡ self.old.course.total + bits }
+    {
+        self.course.more(bits);
     }
 
     /// Ends the stream, behind the last picture. Answers the figures, or how the account fails first.
-    pub fn finish(&mut self) -> Result<Result<BufferFigures, AccountFault>, AllocError> {
-        self.remove()?;
-        match (self.course.over(), self.course.under) {
+    pub fn finish(&mut self) -> Result<Result<BufferFigures, AccountFault>, AllocError>
+        ensures same { self.new.course ≡ self.old.course }
+    {
+        let mut course = self.course;
+        let amount = course.remove();
+        self.note(amount)?;
+        match (course.over(), course.under) {
             (Some(fault), _) => Ok(Err(fault)),
             (None, Some(fault)) => Ok(Err(fault)),
             (None, None) => Ok(Ok(BufferFigures {
                 // the last picture takes all that is left of the stream
                 low: 0,
-                high: self.amounts.finish(self.course.total) / 1800,
-                delays: self.course.delays,
+                high: self.amounts.finish(course.total) / 1800,
+                delays: course.delays,
             })),
         }
     }

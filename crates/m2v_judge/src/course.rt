@@ -1,6 +1,6 @@
 // The account of a stream's buffer (Annex C), picture by picture.
 ghost use Rattle.std.specs.Prelude.{◌≡◌, ◌+◌, ◌-◌, ◌*◌, ◌<◌, ◌≤◌, ◌^◌, nat_eq, nat_le, Some, None, IsErr, ◌↔◌};
-ghost use Rattle.m2v_judge.specs.Holding.{exact_at, is_whole, delays_with, full_with, course_after, removed_by, amount_by, over_by, IsExact, IsSound};
+ghost use Rattle.m2v_judge.specs.Holding.{exact_at, is_whole, delays_with, full_with, course_after, removed_by, amount_by, over_by, IsExact, IsSound, IsNext, stepped};
 
 use crate::amounts::Amount;
 use m2v_vbv::{Account, AccountFault};
@@ -66,7 +66,6 @@ impl Course {
     fn delays_with(&self) -> u64
         requires sound { IsSound self.now }
         requires whole { self.now.under ≡ None }
-        requires few { self.now.pictures < 2 ^ 39 }
         ensures value { result ≡ delays_with self.now }
     {
         if self.pictures == 0 {
@@ -100,7 +99,6 @@ impl Course {
     /// Removes the next picture, whose bits all were read, unless one wasn't whole before. Answers what was held.
     pub fn remove(&mut self) -> Option<Amount>
         requires sound { IsSound self.old }
-        requires few { self.old.pictures < 2 ^ 39 }
         ensures value { self.new ≡ removed_by self.old.under self.old }
         ensures amount { result ≡ amount_by self.old.under self.old }
     {
@@ -114,7 +112,6 @@ impl Course {
     fn remove_whole(&mut self) -> Option<Amount>
         requires sound { IsSound self.old }
         requires whole { self.old.under ≡ None }
-        requires few { self.old.pictures < 2 ^ 39 }
         ensures value { self.new ≡ removed_by None self.old }
         ensures amount { result ≡ amount_by None self.old }
     {
@@ -137,9 +134,35 @@ impl Course {
         }
     }
 
+    /// Removes the next picture, and moves on to the one behind it. Answers what was held.
+    pub fn step(&mut self, next: &Next) -> Option<Amount>
+        requires sound { IsSound self.old }
+        requires next { IsNext next.now }
+        requires most { self.old.total + next.now.bits ≤ 2 ^ 40 }
+        ensures value { self.new ≡ stepped self.old next.now }
+        ensures amount { result ≡ amount_by self.old.under self.old }
+        ensures sound { IsSound self.new }
+    {
+        let amount = self.remove();
+        self.total += next.bits;
+        self.next = *next;
+        amount
+    }
+
+    /// More bits of the next picture were read.
+    pub fn more(&mut self, bits: u64)
+        requires sound { IsSound self.old }
+        requires most { self.old.total + bits ≤ 2 ^ 40 }
+        ensures value { self.new ≡ record self.old { total = self.old.total + bits; next = record self.old.next { bits = self.old.next.bits + bits } } }
+        ensures sound { IsSound self.new }
+    {
+        self.next.bits += bits;
+        self.total += bits;
+    }
+
     /// How the account fails by what is held, in the stream as long as it is.
     pub fn over(&self) -> Option<AccountFault>
-        requires sound { IsSound self.now }
+        requires most { self.now.total ≤ 2 ^ 40 }
         ensures value { result ≡ over_by self.now.full self.now.total }
     {
         match &self.full {

@@ -20,4 +20,4 @@ pub use broken::BrokenRule;
 pub use buffer::BufferFigures;
 pub use coded::CodedPicture;
 pub use judge::{Judge, Judgement};
-pub use laws::law_rules;
+pub use laws::{law_account, law_rules};
