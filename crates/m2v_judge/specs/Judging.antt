@@ -1,5 +1,5 @@
 -- What stands of the rules and of the account between two pieces.
-use Rattle.std.specs.Prelude.{ℕ, ◌+◌, ◌*◌, ◌^◌, ◌<◌, ◌≤◌, Bool, if◌then◌else◌, List, [], ◌∷◌, Option, Some, None}
+use Rattle.std.specs.Prelude.{ℕ, ◌+◌, ◌*◌, ◌^◌, ◌<◌, ◌≤◌, Bool, if◌then◌else◌, List, [], ◌∷◌, Option, Some, None, Result, Ok, Err, ◌/◌, max}
 use Rattle.m2v_head.specs.declared.sequence.SequenceInfo.{SequenceInfo}
 use Rattle.m2v_head.specs.declared.sequence.SequenceExtension.{SequenceExtension}
 use Rattle.m2v_model.specs.declared.state.Sequence.{Sequence}
@@ -8,6 +8,19 @@ use Rattle.m2v_model.specs.declared.notes.PictureNote.{PictureNote}
 use Rattle.m2v_judge.specs.declared.rules.Rules.{Rules}
 use Rattle.m2v_judge.specs.declared.buffer.Buffer.{Buffer}
 use Rattle.m2v_judge.specs.declared.buffer.Setup.{Setup}
+use Rattle.m2v_vbv.specs.Account.{opening}
+use Rattle.m2v_vbv.specs.declared.fault.AccountFault.{AccountFault}
+use Rattle.m2v_judge.specs.declared.broken.BrokenRule.{BrokenRule}
+use Rattle.m2v_judge.specs.declared.coded.CodedPicture.{CodedPicture}
+use Rattle.m2v_judge.specs.declared.amounts.Amount.{Amount}
+use Rattle.m2v_judge.specs.declared.times.Times.{Times}
+use Rattle.m2v_judge.specs.declared.course.Next.{Next}
+use Rattle.m2v_judge.specs.declared.course.Course.{Course}
+use Rattle.m2v_judge.specs.declared.buffer.BufferFigures.{BufferFigures}
+use Rattle.m2v_judge.specs.declared.judge.Judgement.{Judgement}
+use Rattle.m2v_judge.specs.declared.judge.Judgement.TheVariants as judgements
+use Rattle.m2v_judge.specs.Breaking.{numbered_of}
+use Rattle.m2v_judge.specs.Holding.{cut_at, most_with, amount_by, removed_by, over_by, time_behind}
 use Rattle.m2v_judge.specs.Running.{with_sequence, with_group, with_picture, coded_next}
 
 -- a picture whose start code ends within its piece, and not before the piece could have one; its vbv_delay has 16 bits
@@ -42,3 +55,61 @@ with_one r (Some s) note = with_picture r (coded_next r s note)
 abbrev pub with_note : Rules → Option PictureNote → Rules
 with_note r None = r
 with_note r (Some note) = with_one r r.sequence note
+
+-- ---- the account
+
+-- the picture that is removed next
+abbrev pub next_of : Times → CodedPicture → ℕ → ℕ → Next
+next_of times p bits code = record { bits = bits; code = code; units = time_behind times (numbered_of p); delay = p.note.info.vbv_delay }
+
+-- the account with its first picture
+abbrev pub opening_of : Setup → Times → CodedPicture → ℕ → ℕ → Course
+opening_of s times p bits code = record {
+  size = 1800 * (16384 * s.buffer);
+  account = opening (record { k = s.rate; buffer_bits = 16384 * s.buffer; s = code; delay = p.note.info.vbv_delay });
+  pictures = 0;
+  removed = 0;
+  total = bits;
+  next = next_of times p bits code;
+  delays = 0;
+  full = None;
+  under = None;
+}
+
+-- the most that is held, with what was held when one picture more was removed
+abbrev pub most_noted : ℕ → ℕ → Option Amount → ℕ
+most_noted total most None = most
+most_noted total most (Some a) = max most (cut_at total a)
+
+abbrev pub most_in : ℕ → Buffer → ℕ
+most_in total b = most_with total b.amounts.most b.amounts.waiting.items
+
+-- the figures, or how the account fails first: by what is held before by what a later picture takes
+abbrev pub finished : Option AccountFault → Option AccountFault → ℕ → ℕ → Result BufferFigures AccountFault
+finished (Some f) under most delays = Err f
+finished None (Some f) most delays = Err f
+finished None None most delays = Ok (record { low = 0; high = most / 1800; delays = delays })
+
+-- the last picture is removed
+abbrev pub last_of : Course → Course
+last_of c = removed_by c.under c
+
+abbrev pub buffer_ended : Buffer → Result BufferFigures AccountFault
+buffer_ended b =
+    let c = last_of b.course in
+    finished (over_by c.full c.total) c.under (most_noted c.total (most_in c.total b) (amount_by b.course.under b.course)) c.delays
+
+abbrev pub ended_by : Option Buffer → Result BufferFigures AccountFault
+ended_by None = Ok (record { low = 0; high = 0; delays = 0 })
+ended_by (Some b) = buffer_ended b
+
+-- ---- what is said
+
+abbrev pub said_of : Result BufferFigures AccountFault → Judgement
+said_of (Ok figures) = judgements.Lawful figures
+said_of (Err f) = judgements.Unsafe f
+
+-- a broken rule comes first, and of a stream at variable rate nothing is said of the buffer
+abbrev pub judgement_of : Option BrokenRule → Bool → Result BufferFigures AccountFault → Judgement
+judgement_of (Some b) constant buffer = judgements.Unlawful b
+judgement_of None constant buffer = if constant then said_of buffer else judgements.Variable

@@ -1,6 +1,9 @@
 // The account of a stream's buffer (Annex C), with the most that it holds.
 ghost use Rattle.std.specs.Prelude.{◌≡◌, ◌+◌, ◌*◌, ◌<◌, ◌≤◌, ◌^◌};
-ghost use Rattle.m2v_judge.specs.Holding.{IsSound};
+ghost use Rattle.std.specs.Prelude.{ℕ, OnOk, IfOk};
+ghost use Rattle.m2v_judge.specs.Holding.{IsSound, amount_by, stepped, repeats_behind};
+ghost use Rattle.m2v_judge.specs.Breaking.{numbered_of};
+ghost use Rattle.m2v_judge.specs.Judging.{next_of, opening_of, most_noted, most_in, buffer_ended};
 
 use crate::amounts::{Amount, Amounts};
 use crate::coded::CodedPicture;
@@ -55,6 +58,9 @@ impl Buffer {
         requires most { bits < 2 ^ 40 }
         requires delay { p.now.note.info.vbv_delay < 2 ^ 16 }
         ensures total { result.course.total ≡ bits }
+        ensures course { result.course ≡ opening_of setup.now times p.now bits code }
+        ensures times { result.times ≡ record times { repeats = repeats_behind times (numbered_of p.now) } }
+        ensures most { (t : ℕ) → most_in t result ≡ 0 }
     {
         let delay = u64::from(p.note.info.vbv_delay);
         let units = times.next(p);
@@ -86,6 +92,10 @@ impl Buffer {
         requires code { code ≤ bits }
         requires most { self.old.course.total + bits ≤ 2 ^ 40 }
         ensures total { self.new.course.total ≡ self.old.course.total + bits }
+        ensures course { self.new.course ≡ stepped self.old.course (next_of self.old.times p.now bits code) }
+        ensures times { self.new.times ≡ record self.old.times { repeats = repeats_behind self.old.times (numbered_of p.now) } }
+        ensures most { OnOk result ((t : ℕ) → self.new.course.total ≤ t → most_in t self.new
+            ≡ most_noted t (most_in t self.old) (amount_by self.old.course.under self.old.course)) }
     {
         let units = self.times.next(p);
         let next = Next {
@@ -103,6 +113,8 @@ impl Buffer {
     /// Notes what was held when a picture was removed.
     fn note(&mut self, amount: Option<Amount>) -> Result<(), AllocError>
         ensures same { self.new.course ≡ self.old.course }
+        ensures times { self.new.times ≡ self.old.times }
+        ensures most { OnOk result ((t : ℕ) → most_in t self.new ≡ most_noted t (most_in t self.old) amount) }
     {
         match amount {
             Some(amount) => self.amounts.add(amount),
@@ -114,6 +126,10 @@ impl Buffer {
     pub fn more(&mut self, bits: u64)
         requires most { self.old.course.total + bits ≤ 2 ^ 40 }
         ensures total { self.new.course.total ≡ self.old.course.total + bits }
+        ensures new { self.new ≡ record self.old { course = record self.old.course {
+            total = self.old.course.total + bits;
+            next = record self.old.course.next { bits = self.old.course.next.bits + bits };
+        } } }
     {
         self.course.more(bits);
     }
@@ -121,6 +137,7 @@ impl Buffer {
     /// Ends the stream, behind the last picture. Answers the figures, or how the account fails first.
     pub fn finish(&mut self) -> Result<Result<BufferFigures, AccountFault>, AllocError>
         ensures same { self.new.course ≡ self.old.course }
+        ensures value { IfOk result (λ r. r ≡ buffer_ended self.old) }
     {
         let mut course = self.course;
         let amount = course.remove();

@@ -1,7 +1,7 @@
 // What the verifier keeps of a stream, piece by piece.
-ghost use Rattle.std.specs.Prelude.{◌≡◌, ◌+◌, ◌*◌, ◌<◌, ◌≤◌, ◌^◌, IfSome, Some, None, []};
-ghost use Rattle.m2v_judge.specs.Judging.{IsPlaced, total_of, FitsSetup, with_note, noted_rules, judged_rules};
-ghost use Rattle.m2v_judge.specs.Running.{no_rules, coded_next};
+ghost use Rattle.std.specs.Prelude.{◌≡◌, ◌+◌, ◌*◌, ◌<◌, ◌≤◌, ◌^◌, IfSome, IfOk, Some, None, []};
+ghost use Rattle.m2v_judge.specs.Judging.{IsPlaced, total_of, FitsSetup, with_note, noted_rules, judged_rules, judgement_of, ended_by};
+ghost use Rattle.m2v_judge.specs.Running.{no_rules, coded_next, broken_in};
 
 use crate::broken::BrokenRule;
 use crate::buffer::{Buffer, BufferFigures, Setup};
@@ -192,6 +192,7 @@ impl Judge {
     /// What is said of the stream, where it ends here.
     pub fn finish(&mut self) -> Result<Judgement, AllocError>
         requires few { self.old.rules.pictures < 2 ^ 60 }
+        ensures value { IfOk result (λ v. v ≡ judgement_of (broken_in self.old.rules) self.old.rules.constant (ended_by self.old.buffer)) }
     {
         match self.rules.broken() {
             Some(broken) => return Ok(Judgement::Unlawful(broken)),
