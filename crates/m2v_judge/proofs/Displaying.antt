@@ -167,22 +167,24 @@ pub once_order : (low : Bool) (fs gs : Frames) (x kind : ℕ) → (low || (kind 
 unfolding handed
 once_order low fs gs x kind e =
     let rest = handed (queue_at low (waits_by low fs)) gs in
-    let last = option_to_list (waits_by low (fs ++ (x, kind) ∷ gs)) in
-    (rest ++ last,
-    ap (λ (l : List ℕ). l ++ last) (handed-append (opening low) fs ((x, kind) ∷ gs) ∙ ap (λ (q : Holder ℕ). shown_by low fs ++ handed q ((x, kind) ∷ gs)) (queue_is low fs)
-    ∙ ap (λ (l : List ℕ). shown_by low fs ++ l) (shown_at_once low (waits_by low fs) x kind gs e))
-    ∙ append_assoc (shown_by low fs) (x ∷ rest) last)
+    let last = option_to_list (waits_by low (fs ++ (x, kind) ∷ gs)) in (
+      rest ++ last,
+      ap (λ (l : List ℕ). l ++ last) (handed-append (opening low) fs ((x, kind) ∷ gs) ∙ ap (λ (q : Holder ℕ). shown_by low fs ++ handed q ((x, kind) ∷ gs)) (queue_is low fs)
+          ∙ ap (λ (l : List ℕ). shown_by low fs ++ l) (shown_at_once low (waits_by low fs) x kind gs e))
+          ∙ append_assoc (shown_by low fs) (x ∷ rest) last,
+    )
 
 pub later_order : (low : Bool) (fs gs : Frames) (x kind a : ℕ) → (low || (kind == 3)) ≡ false → waits_by low fs ≡ Some a
     → (more : List ℕ) × (shown_by low (fs ++ (x, kind) ∷ gs) ++ option_to_list (waits_by low (fs ++ (x, kind) ∷ gs)) ≡ shown_by low fs ++ a ∷ more)
 unfolding handed
 later_order low fs gs x kind a e w =
     let rest = handed (queue_at low (Some x)) gs in
-    let last = option_to_list (waits_by low (fs ++ (x, kind) ∷ gs)) in
-    (rest ++ last,
-    ap (λ (l : List ℕ). l ++ last) (handed-append (opening low) fs ((x, kind) ∷ gs) ∙ ap (λ (q : Holder ℕ). shown_by low fs ++ handed q ((x, kind) ∷ gs)) (queue_is low fs ∙ ap (queue_at low) w)
-    ∙ ap (λ (l : List ℕ). shown_by low fs ++ l) (shown_later low (Some a) x kind gs e))
-    ∙ append_assoc (shown_by low fs) (a ∷ rest) last)
+    let last = option_to_list (waits_by low (fs ++ (x, kind) ∷ gs)) in (
+      rest ++ last,
+      ap (λ (l : List ℕ). l ++ last) (handed-append (opening low) fs ((x, kind) ∷ gs) ∙ ap (λ (q : Holder ℕ). shown_by low fs ++ handed q ((x, kind) ∷ gs)) (queue_is low fs ∙ ap (queue_at low) w)
+          ∙ ap (λ (l : List ℕ). shown_by low fs ++ l) (shown_later low (Some a) x kind gs e))
+          ∙ append_assoc (shown_by low fs) (a ∷ rest) last,
+    )
 
 -- what is shown, and what waits, behind one more
 pub once_shown : (low : Bool) (fs : Frames) (x kind : ℕ) → (low || (kind == 3)) ≡ true → shown_by low (fs ++ (x, kind) ∷ []) ≡ shown_by low fs ++ x ∷ []

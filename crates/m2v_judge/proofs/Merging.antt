@@ -144,14 +144,31 @@ pairs_of ss s =
     ∷ pair_of luma_rule ss s ∷ pair_of rate_rule ss s ∷ pair_of buffer_rule ss s ∷ []
 
 ascends : (ss : List Sequence) (s : Sequence) → Ascend 1 (pairs_of ss s)
-ascends ss s =
-    (ruled_all 1 level_rule is_level ss, is_level s,
-    (ruled_all 2 width_rule is_width ss, is_width s,
-    (ruled_all 3 height_rule is_height ss, is_height s,
-    (ruled_all 4 frame_rate_rule is_frame_rate ss, is_frame_rate s,
-    (ruled_all 5 luma_rule is_luma ss, is_luma s,
-    (ruled_all 6 rate_rule is_rate ss, is_rate s,
-    (ruled_all 7 buffer_rule is_buffer ss, is_buffer s, tt)))))))
+ascends ss s = (
+  ruled_all 1 level_rule is_level ss,
+  is_level s,
+  (
+    ruled_all 2 width_rule is_width ss,
+    is_width s,
+    (
+      ruled_all 3 height_rule is_height ss,
+      is_height s,
+      (
+        ruled_all 4 frame_rate_rule is_frame_rate ss,
+        is_frame_rate s,
+        (
+          ruled_all 5 luma_rule is_luma ss,
+          is_luma s,
+          (
+            ruled_all 6 rate_rule is_rate ss,
+            is_rate s,
+            (ruled_all 7 buffer_rule is_buffer ss, is_buffer s, tt),
+          ),
+        ),
+      ),
+    ),
+  ),
+)
 
 with_one : (f : Sequence → Breaches) (ss : List Sequence) (s : Sequence) → found (flat_map f (ss ++ s ∷ [])) ≡ first_some (found (flat_map f ss)) (found (f s))
 with_one f ss s = ap found (flat_map-append f ss (s ∷ []) ∙ ap (λ (l : Breaches). flat_map f ss ++ l) (of_one f s)) ∙ found_more (flat_map f ss) (f s)

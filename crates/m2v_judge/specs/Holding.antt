@@ -70,6 +70,10 @@ pub record IsSound (c : Course) : Type 0 where
 abbrev pub stepped : Course → Next → Course
 stepped c next = record (removed_by c.under c) { next = next; total = c.total + next.bits }
 
+-- more bits of the next picture were read
+abbrev pub with_more : Course → ℕ → Course
+with_more c bits = record c { total = c.total + bits; next = record c.next { bits = c.next.bits + bits } }
+
 -- a picture of which so many bits were read
 pub record IsNext (next : Next) : Type 0 where
   pub least : 32 ≤ next.code

@@ -1,5 +1,5 @@
 -- What stands of the rules and of the account between two pieces.
-use Rattle.std.specs.Prelude.{ℕ, ◌+◌, ◌*◌, ◌^◌, ◌<◌, ◌≤◌, Bool, if◌then◌else◌, List, [], ◌∷◌, Option, Some, None, Result, Ok, Err, ◌/◌, max}
+use Rattle.std.specs.Prelude.{◌≡◌, ℕ, ◌+◌, ◌*◌, ◌^◌, ◌<◌, ◌≤◌, Bool, if◌then◌else◌, List, [], ◌∷◌, Option, Some, None, Result, Ok, Err, IsSome, false, ◌-◌, ◌/◌, max}
 use Rattle.m2v_head.specs.declared.sequence.SequenceInfo.{SequenceInfo}
 use Rattle.m2v_head.specs.declared.sequence.SequenceExtension.{SequenceExtension}
 use Rattle.m2v_model.specs.declared.state.Sequence.{Sequence}
@@ -19,8 +19,9 @@ use Rattle.m2v_judge.specs.declared.course.Course.{Course}
 use Rattle.m2v_judge.specs.declared.buffer.BufferFigures.{BufferFigures}
 use Rattle.m2v_judge.specs.declared.judge.Judgement.{Judgement}
 use Rattle.m2v_judge.specs.declared.judge.Judgement.TheVariants as judgements
-use Rattle.m2v_judge.specs.Breaking.{numbered_of}
-use Rattle.m2v_judge.specs.Holding.{cut_at, most_with, amount_by, removed_by, over_by, time_behind}
+use Rattle.m2v_model.specs.Lawful.{rate_of, buffer_of, sequence_breaches}
+use Rattle.m2v_judge.specs.Breaking.{numbered_of, found}
+use Rattle.m2v_judge.specs.Holding.{stepped, with_more, repeats_behind, cut_at, most_with, amount_by, removed_by, over_by, time_behind}
 use Rattle.m2v_judge.specs.Running.{with_sequence, with_group, with_picture, coded_next}
 
 -- a picture whose start code ends within its piece, and not before the piece could have one; its vbv_delay has 16 bits
@@ -103,6 +104,10 @@ abbrev pub ended_by : Option Buffer → Result BufferFigures AccountFault
 ended_by None = Ok (record { low = 0; high = 0; delays = 0 })
 ended_by (Some b) = buffer_ended b
 
+-- the times of a stream by its first sequence header
+abbrev pub times_of : Sequence → Times
+times_of s = record { low_delay = s.extension.low_delay; code = s.info.frame_rate_code; repeats = false }
+
 -- ---- what is said
 
 abbrev pub said_of : Result BufferFigures AccountFault → Judgement
@@ -113,3 +118,51 @@ said_of (Err f) = judgements.Unsafe f
 abbrev pub judgement_of : Option BrokenRule → Bool → Result BufferFigures AccountFault → Judgement
 judgement_of (Some b) constant buffer = judgements.Unlawful b
 judgement_of None constant buffer = if constant then said_of buffer else judgements.Variable
+
+-- ---- piece by piece
+
+-- a piece with a picture came: the account goes on with it
+pub record GoesOn (old : Buffer) (p : CodedPicture) (bits code : ℕ) (new : Buffer) : Type 0 where
+  pub course : new.course ≡ stepped old.course (next_of old.times p bits code)
+  pub times : new.times ≡ record old.times { repeats = repeats_behind old.times (numbered_of p) }
+  pub most : (t : ℕ) → new.course.total ≤ t → most_in t new ≡ most_noted t (most_in t old) (amount_by old.course.under old.course)
+
+-- the account begins, with the numbers of the first sequence header
+pub record Begins (first : Sequence) (p : CodedPicture) (bits code : ℕ) (new : Buffer) : Type 0 where
+  pub course : new.course ≡ opening_of (record { rate = rate_of first; buffer = buffer_of first }) (times_of first) p bits code
+  pub times : new.times ≡ record (times_of first) { repeats = repeats_behind (times_of first) (numbered_of p) }
+  pub most : (t : ℕ) → most_in t new ≡ 0
+
+-- a piece without a picture came
+pub record HasMore (old : Buffer) (bits : ℕ) (new : Buffer) : Type 0 where
+  pub course : new.course ≡ with_more old.course bits
+  pub times : new.times ≡ old.times
+  pub amounts : new.amounts ≡ old.amounts
+
+-- where there is an account, it has more bits of its last picture
+abbrev pub HaveMore : Option Buffer → ℕ → Option Buffer → Type 0
+HaveMore None bits new = new ≡ None
+HaveMore (Some b) bits None = ⊥
+HaveMore (Some b) bits (Some d) = HasMore b bits d
+
+-- the account of the first picture: there is one where the first sequence header breaks no rule
+abbrev pub BeginsBy : Option Sequence → CodedPicture → ℕ → ℕ → Option Buffer → Type 0
+BeginsBy None p bits code new = new ≡ None
+BeginsBy (Some first) p bits code None = IsSome (found (sequence_breaches (first ∷ [])))
+BeginsBy (Some first) p bits code (Some b) = (found (sequence_breaches (first ∷ [])) ≡ None) × Begins first p bits code b
+
+-- a picture came
+abbrev pub Accounts : Option Sequence → Option Buffer → CodedPicture → ℕ → ℕ → Option Buffer → Type 0
+Accounts first None p bits code new = (p.number ≡ 0 → BeginsBy first p bits code new) × (0 < p.number → new ≡ None)
+Accounts first (Some b) p bits code None = ⊥
+Accounts first (Some b) p bits code (Some d) = GoesOn b p bits code d
+
+-- a piece with a picture came, behind which a sequence header stands or doesn't
+abbrev pub AccountsBy : Option Sequence → Rules → Option Buffer → PictureNote → ℕ → ℕ → Option Buffer → Type 0
+AccountsBy None r b note place length new = new ≡ b
+AccountsBy (Some s) r b note place length new = Accounts r.first b (coded_next r s note) (8 * length) (note.code_end - 8 * place) new
+
+-- a piece came
+abbrev pub AccountsNote : Rules → Option Buffer → Option PictureNote → ℕ → ℕ → Option Buffer → Type 0
+AccountsNote r b None place length new = HaveMore b (8 * length) new
+AccountsNote r b (Some note) place length new = AccountsBy r.sequence r b note place length new

@@ -69,7 +69,11 @@ impl Amounts {
         match self.waiting.front() {
             Some(amount) => {
                 let amount = *amount;
-                if amount.came(total) { Some(amount) } else { None }
+                if amount.came(total) {
+                    Some(amount)
+                } else {
+                    None
+                }
             }
             None => None,
         }

@@ -1,6 +1,6 @@
 // The account of a stream's buffer (Annex C), picture by picture.
 ghost use Rattle.std.specs.Prelude.{◌≡◌, ◌+◌, ◌-◌, ◌*◌, ◌<◌, ◌≤◌, ◌^◌, nat_eq, nat_le, Some, None, IsErr, ◌↔◌};
-ghost use Rattle.m2v_judge.specs.Holding.{exact_at, is_whole, delays_with, full_with, course_after, removed_by, amount_by, over_by, IsExact, IsSound, IsNext, stepped};
+ghost use Rattle.m2v_judge.specs.Holding.{exact_at, is_whole, delays_with, full_with, course_after, removed_by, amount_by, over_by, IsExact, IsSound, IsNext, stepped, with_more};
 
 use crate::amounts::Amount;
 use m2v_vbv::{Account, AccountFault};
@@ -153,7 +153,7 @@ impl Course {
     pub fn more(&mut self, bits: u64)
         requires sound { IsSound self.old }
         requires most { self.old.total + bits ≤ 2 ^ 40 }
-        ensures value { self.new ≡ record self.old { total = self.old.total + bits; next = record self.old.next { bits = self.old.next.bits + bits } } }
+        ensures value { self.new ≡ with_more self.old bits }
         ensures sound { IsSound self.new }
     {
         self.next.bits += bits;

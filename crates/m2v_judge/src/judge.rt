@@ -1,6 +1,8 @@
 // What the verifier keeps of a stream, piece by piece.
-ghost use Rattle.std.specs.Prelude.{◌≡◌, ◌+◌, ◌*◌, ◌<◌, ◌≤◌, ◌^◌, IfSome, IfOk, Some, None, []};
-ghost use Rattle.m2v_judge.specs.Judging.{IsPlaced, total_of, FitsSetup, with_note, noted_rules, judged_rules, judgement_of, ended_by};
+ghost use Rattle.std.specs.Prelude.{◌≡◌, ◌+◌, ◌*◌, ◌<◌, ◌≤◌, ◌^◌, IfSome, IfOk, OnOk, IsSome, Some, None, [], ◌∷◌};
+ghost use Rattle.m2v_judge.specs.Judging.{IsPlaced, total_of, FitsSetup, with_note, noted_rules, judged_rules, judgement_of, ended_by, HaveMore, BeginsBy, Accounts, AccountsBy, AccountsNote};
+ghost use Rattle.m2v_model.specs.Lawful.{rate_of, buffer_of, sequence_breaches};
+ghost use Rattle.m2v_judge.specs.Breaking.{found};
 ghost use Rattle.m2v_judge.specs.Running.{no_rules, coded_next, broken_in};
 
 use crate::broken::BrokenRule;
@@ -41,6 +43,9 @@ pub struct Judge {
 /// The rate and the buffer of a sequence that breaks no rule.
 fn setup_of(s: &Sequence) -> Option<Setup>
     ensures fits { IfSome result FitsSetup }
+    ensures is { IfSome result (λ x. x ≡ record { rate = rate_of s.now; buffer = buffer_of s.now }) }
+    ensures some { IfSome result (λ x. found (sequence_breaches (s.now ∷ [])) ≡ None) }
+    ensures none { result ≡ None → IsSome (found (sequence_breaches (s.now ∷ []))) }
 {
     match sequence_breach(s) {
         Some(_) => None,
@@ -84,6 +89,7 @@ fn opened(alloc: Global, rules: &Rules, p: &CodedPicture, bits: u64, code: u64) 
     requires most { bits < 2 ^ 40 }
     requires delay { p.now.note.info.vbv_delay < 2 ^ 16 }
     ensures total { IfSome result (λ b. b.course.total ≡ bits) }
+    ensures begins { BeginsBy rules.now.first p.now bits code result }
 {
     match &rules.first {
         Some(first) => match setup_of(first) {
@@ -116,13 +122,20 @@ impl Judge {
     }
 
     /// Takes what is noted of the next piece, which begins at a byte of the input and has so many bytes.
-    pub fn piece(&mut self, alloc: Global, notes: &Notes, place: u64, length: u64) -> Result<(), AllocError>
+    pub fn piece(
+        &mut self,
+        alloc: Global,
+        notes: &Notes,
+        place: u64,
+        length: u64,
+    ) -> Result<(), AllocError>
         requires end { place + length ≤ 2 ^ 36 }
         requires bytes { self.old.bytes + length ≤ 2 ^ 36 }
         requires picture { IfSome notes.now.picture (λ n. IsPlaced n place length) }
         requires few { self.old.rules.pictures < 2 ^ 60 }
         ensures rules { self.new.rules ≡ with_note (judged_rules self.old.rules notes.now) notes.now.picture }
         ensures bytes { self.new.bytes ≡ self.old.bytes + length }
+        ensures account { OnOk result (AccountsNote (judged_rules self.old.rules notes.now) self.old.buffer notes.now.picture place length self.new.buffer) }
     {
         with_headers(&mut self.rules, notes);
         match &notes.picture {
@@ -139,6 +152,7 @@ impl Judge {
         requires bytes { self.old.bytes + length ≤ 2 ^ 36 }
         ensures rules { self.new.rules ≡ self.old.rules }
         ensures bytes { self.new.bytes ≡ self.old.bytes + length }
+        ensures more { HaveMore self.old.buffer (8 * length) self.new.buffer }
     {
         self.bytes += length;
         match &mut self.buffer {
@@ -148,13 +162,20 @@ impl Judge {
     }
 
     /// The piece has a picture.
-    fn picture(&mut self, alloc: Global, note: &PictureNote, place: u64, length: u64) -> Result<(), AllocError>
+    fn picture(
+        &mut self,
+        alloc: Global,
+        note: &PictureNote,
+        place: u64,
+        length: u64,
+    ) -> Result<(), AllocError>
         requires end { place + length ≤ 2 ^ 36 }
         requires bytes { self.old.bytes + length ≤ 2 ^ 36 }
         requires picture { IsPlaced note.now place length }
         requires few { self.old.rules.pictures < 2 ^ 60 }
         ensures rules { self.new.rules ≡ with_note self.old.rules (Some note.now) }
         ensures bytes { self.new.bytes ≡ self.old.bytes + length }
+        ensures account { OnOk result (AccountsBy self.old.rules.sequence self.old.rules self.old.buffer note.now place length self.new.buffer) }
     {
         match self.rules.coded(note) {
             None => {
@@ -169,13 +190,20 @@ impl Judge {
     }
 
     /// The account goes on with a picture, or begins with the first one.
-    fn account(&mut self, alloc: Global, p: &CodedPicture, length: u64, code: u64) -> Result<(), AllocError>
+    fn account(
+        &mut self,
+        alloc: Global,
+        p: &CodedPicture,
+        length: u64,
+        code: u64,
+    ) -> Result<(), AllocError>
         requires bytes { self.old.bytes + length ≤ 2 ^ 36 }
         requires least { 32 ≤ code }
         requires code { code ≤ 8 * length }
         requires delay { p.now.note.info.vbv_delay < 2 ^ 16 }
         ensures rules { self.new.rules ≡ self.old.rules }
         ensures bytes { self.new.bytes ≡ self.old.bytes + length }
+        ensures account { OnOk result (Accounts self.old.rules.first self.old.buffer p.now (8 * length) code self.new.buffer) }
     {
         self.bytes += length;
         match &mut self.buffer {

@@ -12,6 +12,7 @@ mod laws;
 mod level;
 mod picture_rules;
 mod places;
+mod removing;
 mod rules;
 mod sequence_rules;
 mod times;

@@ -140,7 +140,10 @@ fn progressive_rule(p: &CodedPicture) -> Option<BrokenRule>
     };
     let e = &p.note.extension;
     let progressive = e.frame_pred_frame_dct && e.progressive_frame;
-    judge(!p.sequence.extension.progressive_sequence || progressive, broken)
+    judge(
+        !p.sequence.extension.progressive_sequence || progressive,
+        broken,
+    )
 }
 
 /// The precision of DC coefficients.

@@ -38,7 +38,11 @@ fn reference_breach(number: u64, reference: u32, place: u64) -> Option<BrokenRul
         have: u128::from(reference),
         need: u128::from(place),
     };
-    if u64::from(reference) == place { None } else { Some(broken) }
+    if u64::from(reference) == place {
+        None
+    } else {
+        Some(broken)
+    }
 }
 
 impl Unplaced {

@@ -19,13 +19,7 @@ fn lesser(a: Option<BrokenRule>, b: Option<BrokenRule>) -> Option<BrokenRule>
     ensures value { result ≡ lesser a b }
 {
     match (a, b) {
-        (Some(x), Some(y)) => {
-            if y.rule < x.rule {
-                b
-            } else {
-                a
-            }
-        }
+        (Some(x), Some(y)) => { if y.rule < x.rule { b } else { a } }
         (Some(_), None) => a,
         (None, _) => b,
     }
@@ -85,8 +79,8 @@ impl Rules {
     /// Keeps what the first sequence header says.
     fn first_sequence(&mut self, s: &Sequence)
         ensures value { self.new ≡ record self.old {
-            first = Some (first_or self.old.first s.now);
-            places = record self.old.places { low_delay = low_delay_with self.old.first s.now self.old.places.low_delay };
+          first = Some (first_or self.old.first s.now);
+          places = record self.old.places { low_delay = low_delay_with self.old.first s.now self.old.places.low_delay };
         } }
     {
         match self.first {
