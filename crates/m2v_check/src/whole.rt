@@ -1,3 +1,9 @@
+ghost use Rattle.std.specs.Prelude.{◌≡◌, ◌≤◌, IfOk, IfErr, false};
+ghost use Rattle.m2v_port.specs.Ends.{change, Tells};
+ghost use Rattle.m2v_decode.specs.Answers.{OfText};
+ghost use Rattle.m2v_decode.specs.Progress.{HasPut};
+ghost use Rattle.m2v_check.specs.Answers.{IsJudged, Fails, IsAnswered};
+
 use crate::verdict::{Figures, Verdict};
 use m2v_decoder::Decoder;
 use m2v_judge::{Judge, Judgement};
@@ -6,7 +12,10 @@ use m2v_port::Source;
 use std::alloc::Global;
 
 /// Takes the frames that are due, and hands them back at once: none is looked at.
-fn pass_frames(decoder: &mut Decoder) {
+fn pass_frames(decoder: &mut Decoder)
+    requires going { decoder.old.failed ≡ false }
+    ensures put { HasPut decoder.old decoder.new }
+{
     while let Some(frame) = decoder.due() {
         decoder.recycle(frame);
     }
@@ -72,16 +81,35 @@ fn finish(end: u64, decoder: &mut Decoder, judge: &mut Judge) -> Result<Verdict,
     Ok(verdict(&judgement, decoder.shown(), decoder.pictures(), judge.bytes()))
 }
 
+/// Reads piece after piece to the end, and judges the stream there.
+fn by_pieces<S: Source>(alloc: Global, input: &mut S) -> Result<Verdict, DecodeError>
+    ensures ok { IfOk result (λ v. OfText
+        (change S.left S.faults input.old input.new) (λ text. IsJudged text v)) }
+    ensures err { IfErr result (Fails (change S.left S.faults input.old input.new)) }
+    ensures input { S.faults input.old ≤ S.faults input.new }
+{
+    let mut cutter = Cutter::new(alloc)?;
+    let mut decoder = Decoder::new(alloc)?;
+    let mut judge = Judge::new();
+    read_pieces(alloc, &mut cutter, &mut decoder, &mut judge, input)?;
+    finish(cutter.end(), &mut decoder, &mut judge)
+}
+
 /// Checks a stream: reads it to its end code or to the input's end, and says whether it keeps the rules, and whether the
 /// buffer bears it.
 ///
 /// # Errors
 /// The first fault of the stream; too long or too large, by the input's limits; a failed input; want of memory. Write
 /// never comes.
-pub fn check<S: Source>(alloc: Global, input: &mut S) -> Result<Verdict, DecodeError> {
-    let mut cutter = Cutter::new(alloc)?;
-    let mut decoder = Decoder::new(alloc)?;
-    let mut judge = Judge::new();
-    read_pieces(alloc, &mut cutter, &mut decoder, &mut judge, input)?;
-    finish(cutter.end(), &mut decoder, &mut judge)
+pub fn check<S: Source>(alloc: Global, input: &mut S) -> Result<Verdict, DecodeError>
+    ensures ok { IfOk result (λ v. OfText
+        (change S.left S.faults input.old input.new) (λ text. IsJudged text v)) }
+    ensures err { IfErr result (Fails (change S.left S.faults input.old input.new)) }
+    // A text that has a verdict, that has a first fault or that passes a limit is answered so, and by nothing else.
+    ensures answer { Tells
+        (change S.left S.faults input.old input.new) (IsAnswered
+        (change S.left S.faults input.old input.new) result) }
+    ensures input { S.faults input.old ≤ S.faults input.new }
+{
+    by_pieces(alloc, input)
 }
