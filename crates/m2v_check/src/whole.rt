@@ -78,7 +78,7 @@ fn finish(end: u64, decoder: &mut Decoder, judge: &mut Judge) -> Result<Verdict,
     }
     pass_frames(decoder);
     let judgement = judge.finish()?;
-    Ok(verdict(&judgement, decoder.shown(), decoder.pictures(), judge.bytes()))
+    Ok(verdict(&judgement, decoder.shown(), decoder.pictures(), judge.bytes))
 }
 
 /// Reads piece after piece to the end, and judges the stream there.

@@ -1,6 +1,6 @@
 -- The account as it runs, picture by picture.
-use Rattle.std.proofs.Common.{◌≡◌, ℕ, zero, suc, ◌+◌, ◌-◌, ◌*◌, ◌/◌, ◌<◌, ◌≤◌, Bool, true, false, List, [], ◌∷◌, ◌++◌, length, map, Option, Some, None, refl, sym, ap, subst, ◌∙◌, append_assoc, arith, inl, inr}
-use Rattle.std.specs.Prelude.{if◌then◌else◌, nat_eq, nat_le, nat_lt, max, min, ◌||◌}
+use Rattle.std.proofs.Common.{◌≡◌, ℕ, suc, ◌+◌, ◌-◌, ◌*◌, ◌/◌, ◌<◌, ◌≤◌, Bool, true, false, List, [], ◌∷◌, ◌++◌, length, map, Option, Some, None, refl, sym, ap, subst, ◌∙◌, append_assoc, arith, inl, inr}
+use Rattle.std.specs.Prelude.{if◌then◌else◌, nat_eq, nat_le, nat_lt, max, min}
 use Rattle.std.proofs.lemmas.Bool.{cases_Bool, leb-true, le-leb, lt-ltb, ltb-true, cases_lt, eqb-true}
 use Rattle.std.proofs.lemmas.List.{append-nil, length-append, map-append}
 use Rattle.std.proofs.lemmas.List.Sums.{sum_by_push}
@@ -10,14 +10,12 @@ use Rattle.m2v_vbv.specs.declared.fault.AccountFault.{AccountFault}
 use Rattle.m2v_vbv.specs.declared.fault.AccountFault.TheVariants.{Under, Over}
 use Rattle.m2v_vbv.proofs.Sums.{Exact, exact_push, account_push}
 use Rattle.m2v_model.specs.Buffering.{StreamAccount, unsafe_at, unsafe_from, amounts_from, greatest, exact_delay}
-use Rattle.m2v_judge.specs.declared.amounts.Amount.{Amount}
 use Rattle.m2v_judge.specs.declared.course.Next.{Next}
 use Rattle.m2v_judge.specs.declared.course.Full.{Full}
 use Rattle.m2v_judge.specs.declared.course.Course.{Course}
 use Rattle.m2v_judge.specs.Breaking.{first_some}
-use Rattle.m2v_judge.specs.Holding.{exact_at, is_whole, delays_with, full_with, course_after, course_under, over_by, cut_at}
+use Rattle.m2v_judge.specs.Holding.{exact_at, is_whole, delays_with, full_with, course_under, over_by, cut_at}
 use Rattle.m2v_judge.specs.Accounts.{removal_of, removals_of, stream_of, first_fault, fault_of, most_of, others_from, others_of, IsFull, Ran, RunsOn}
-use Rattle.m2v_judge.proofs.Firsts.{first_twice, first_none}
 
 -- ---- lists that grow
 

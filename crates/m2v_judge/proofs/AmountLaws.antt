@@ -1,5 +1,5 @@
 -- The most that is held, as pictures come and as what they hold gets known.
-use Rattle.std.proofs.Common.{◌≡◌, ℕ, ◌+◌, ◌-◌, ◌*◌, ◌≤◌, List, [], ◌∷◌, ◌++◌, refl, sym, ap, ◌∙◌, arith, drop}
+use Rattle.std.proofs.Common.{◌≡◌, ℕ, ◌-◌, ◌*◌, ◌≤◌, List, [], ◌∷◌, ◌++◌, refl, sym, ap, ◌∙◌, arith, drop}
 use Rattle.std.specs.Prelude.{max, min}
 use Rattle.m2v_judge.specs.declared.amounts.Amount.{Amount}
 use Rattle.m2v_judge.specs.Holding.{cut_at, most_with, IsFirst}

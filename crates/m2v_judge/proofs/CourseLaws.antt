@@ -1,12 +1,12 @@
 -- What stands behind the removal of a picture.
-use Rattle.std.proofs.Common.{◌≡◌, ℕ, ◌+◌, ◌-◌, ◌*◌, ◌^◌, ◌<◌, ◌≤◌, Bool, true, false, Option, Some, None, refl, sym, ap, subst, ◌∙◌, arith, inl, inr}
-use Rattle.std.specs.Prelude.{if◌then◌else◌, nat_eq, nat_le, ◌||◌}
-use Rattle.std.proofs.lemmas.Bool.{cases_Bool, leb-true}
+use Rattle.std.proofs.Common.{◌≡◌, ℕ, ◌+◌, ◌*◌, ◌^◌, ◌≤◌, Bool, true, false, Option, Some, None, refl, sym, ap, subst, arith}
+use Rattle.std.specs.Prelude.{if◌then◌else◌, nat_eq, ◌||◌}
+use Rattle.std.proofs.lemmas.Bool.{leb-true}
 use Rattle.m2v_vbv.specs.Account.{State, after}
 use Rattle.m2v_vbv.specs.declared.fault.AccountFault.{AccountFault}
 use Rattle.m2v_judge.specs.declared.course.Next.{Next}
 use Rattle.m2v_judge.specs.declared.course.Course.{Course}
-use Rattle.m2v_judge.specs.Holding.{exact_at, is_whole, delays_with, course_after, course_under, removed_by, IsExact, IsSound, IsNext, stepped}
+use Rattle.m2v_judge.specs.Holding.{exact_at, is_whole, course_after, course_under, removed_by, IsExact, IsSound, IsNext, stepped}
 
 more_time : (k t u : ℕ) → k * (t + u) ≡ k * t + k * u
 more_time k t u = omega arith

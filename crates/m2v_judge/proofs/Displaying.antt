@@ -1,9 +1,9 @@
 -- The place of a frame in display order is how many frames were shown before it.
-use Rattle.std.proofs.Common.{◌≡◌, ℕ, zero, suc, ◌+◌, ◌<◌, ◌≤◌, Bool, true, false, List, [], ◌∷◌, ◌++◌, length, map, Option, Some, None, option_to_list, refl, sym, ap, subst, ◌∙◌, append_assoc, arith, inl, inr}
+use Rattle.std.proofs.Common.{◌≡◌, ℕ, suc, ◌+◌, ◌<◌, ◌≤◌, Bool, true, false, List, [], ◌∷◌, ◌++◌, length, Option, Some, option_to_list, refl, sym, ap, ◌∙◌, append_assoc, arith, inl, inr}
 use Rattle.std.specs.Prelude.{if◌then◌else◌, nat_eq, ◌==◌, ◌&&◌, ◌||◌, not, filter}
 use Rattle.std.proofs.lemmas.Bool.{cases_Bool, eqb-true}
-use Rattle.std.proofs.lemmas.List.{append-nil, length-append}
-use Rattle.m2v_order.specs.Display.{Order, Shown, Holder, opening, shown, held, handed, held_after, is_kept, frames_of}
+use Rattle.std.proofs.lemmas.List.{append-nil}
+use Rattle.m2v_order.specs.Display.{Order, Holder, opening, shown, held, handed, held_after, is_kept, frames_of}
 use Rattle.m2v_order.proofs.Shows.{order_kept, handed_shown}
 use Rattle.m2v_model.specs.Lawful.{display_place}
 

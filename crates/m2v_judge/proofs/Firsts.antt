@@ -1,12 +1,11 @@
 -- The first of some breaches, part by part.
 use Rattle.std.proofs.Common.{◌≡◌, List, [], ◌∷◌, ◌++◌, Option, Some, None, refl, sym, ap, ◌∙◌}
-use Rattle.std.specs.Option.{option_map}
 use Rattle.std.specs.List.{flat_map}
 use Rattle.std.proofs.lemmas.List.{append-nil}
 use Rattle.m2v_model.specs.declared.state.Sequence.{Sequence}
-use Rattle.m2v_model.specs.Lawful.{Breach, Breaches, level_rule, width_rule, height_rule, frame_rate_rule, luma_rule, rate_rule, buffer_rule, sequence_breaches}
+use Rattle.m2v_model.specs.Lawful.{Breaches, level_rule, width_rule, height_rule, frame_rate_rule, luma_rule, rate_rule, buffer_rule, sequence_breaches}
 use Rattle.m2v_judge.specs.declared.broken.BrokenRule.{BrokenRule}
-use Rattle.m2v_judge.specs.Breaking.{untold, first_some, first_of, found}
+use Rattle.m2v_judge.specs.Breaking.{first_some, found}
 
 pub found_more : (xs ys : Breaches) → found (xs ++ ys) ≡ first_some (found xs) (found ys)
 found_more [] ys = refl

@@ -1,21 +1,18 @@
 -- A frame more in its group: it is shown at once, or an anchor waits.
-use Rattle.std.proofs.Common.{◌≡◌, ℕ, zero, suc, ◌+◌, ◌<◌, ◌≤◌, Bool, true, false, List, [], ◌∷◌, ◌++◌, length, Option, Some, None, option_to_list, refl, sym, ap, subst, ◌∙◌, append_assoc, arith, inl, inr}
-use Rattle.std.specs.Prelude.{if◌then◌else◌, nat_eq, ◌==◌, ◌&&◌, ◌||◌, not}
-use Rattle.std.specs.List.{flat_map}
-use Rattle.std.proofs.lemmas.Bool.{cases_Bool}
-use Rattle.std.proofs.lemmas.List.{append-nil, length-append}
+use Rattle.std.proofs.Common.{◌≡◌, ℕ, ◌+◌, ◌≤◌, Bool, true, false, List, [], ◌∷◌, ◌++◌, length, Option, Some, None, option_to_list, refl, sym, ap, subst, ◌∙◌, append_assoc, arith}
+use Rattle.std.specs.Prelude.{◌||◌}
+use Rattle.std.proofs.lemmas.List.{length-append}
 use Rattle.m2v_order.specs.Display.{Order}
-use Rattle.m2v_model.specs.States.{is_frame, is_b}
-use Rattle.m2v_model.specs.Lawful.{Numbered, display_place, frames_of_group, picture_breaches}
-use Rattle.m2v_judge.specs.declared.broken.BrokenRule.{BrokenRule}
+use Rattle.m2v_model.specs.States.{is_b}
+use Rattle.m2v_model.specs.Lawful.{Numbered, display_place, frames_of_group}
 use Rattle.m2v_judge.specs.declared.places.Unplaced.{Unplaced}
 use Rattle.m2v_judge.specs.declared.places.UnplacedFrame.{UnplacedFrame}
 use Rattle.m2v_judge.specs.declared.places.Places.{Places}
-use Rattle.m2v_judge.specs.Breaking.{first_some, found}
-use Rattle.m2v_judge.specs.Running.{breach_at, field_breach, frame_breach, anchor_breach, some_waits, waiting_in, all_broken, no_places, with_field, with_frame, group_closed, begun_with}
-use Rattle.m2v_judge.proofs.Firsts.{first_twice, first_none}
-use Rattle.m2v_judge.proofs.Displaying.{Frames, place_in, IsAbsent, AreBelow, other_number, other_above, absent_below, below_more, below-append, absent-append, place_here, place_is, shown_by, waits_by, once_order, later_order, once_shown, once_waits, later_shown, later_waits}
-use Rattle.m2v_judge.proofs.Placing.{Found, ends, unplaced, added, step, steps, frames_one, frames-append, NoEarlier, Place, anchor_at, pending, Matches, AnchorBelow, AnchorAbsent, Judged, judged_none, group_ended, one_more, upto_more, same_group, with_first, waits_count, waits_below, ended}
+use Rattle.m2v_judge.specs.Breaking.{first_some}
+use Rattle.m2v_judge.specs.Running.{frame_breach, anchor_breach, waiting_in, with_frame}
+use Rattle.m2v_judge.proofs.Firsts.{first_none}
+use Rattle.m2v_judge.proofs.Displaying.{Frames, place_in, IsAbsent, AreBelow, other_above, absent_below, below_more, below-append, absent-append, place_here, place_is, shown_by, waits_by, once_order, later_order, once_shown, once_waits, later_shown, later_waits}
+use Rattle.m2v_judge.proofs.Placing.{Found, unplaced, frames_one, frames-append, Place, anchor_at, Matches, AnchorBelow, AnchorAbsent, Judged, one_more, upto_more, same_group, waits_count, waits_below}
 
 abbrev frame_with : Places → Unplaced → UnplacedFrame
 frame_with o u = record { first = o.begun; last = u }

@@ -1,13 +1,13 @@
 -- The rules on sequence headers, header by header.
-use Rattle.std.proofs.Common.{◌≡◌, ℕ, ◌+◌, ◌*◌, ◌<◌, ◌≤◌, Bool, true, false, List, [], ◌∷◌, ◌++◌, map, Option, Some, None, refl, sym, ap, ◌∙◌, inl, inr, arith}
+use Rattle.std.proofs.Common.{◌≡◌, ℕ, ◌+◌, ◌*◌, ◌≤◌, Bool, true, false, List, [], ◌∷◌, ◌++◌, map, Option, Some, None, refl, sym, ap, ◌∙◌, inl, inr, arith}
 use Rattle.std.specs.Prelude.{if◌then◌else◌, nat_lt, nat_le}
 use Rattle.std.specs.List.{flat_map}
-use Rattle.std.proofs.lemmas.Bool.{cases_Bool, cases_lt, lt-ltb, ltb-true}
+use Rattle.std.proofs.lemmas.Bool.{cases_Bool, lt-ltb, ltb-true}
 use Rattle.std.proofs.lemmas.List.Concat.{flat_map-append}
 use Rattle.m2v_model.specs.declared.state.Sequence.{Sequence}
 use Rattle.m2v_model.specs.Lawful.{Breach, Breaches, breach, judge, at_most, within, limits_in, level_rule, width_rule, height_rule, frame_rate_rule, luma_rule, rate_rule, buffer_rule, sequence_breaches}
 use Rattle.m2v_judge.specs.declared.broken.BrokenRule.{BrokenRule}
-use Rattle.m2v_judge.specs.Breaking.{untold, first_some, first_of, found}
+use Rattle.m2v_judge.specs.Breaking.{first_some, found}
 use Rattle.m2v_judge.specs.Running.{lesser}
 use Rattle.m2v_judge.proofs.Firsts.{found_more, first_twice, first_none, of_one}
 

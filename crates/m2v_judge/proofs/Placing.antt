@@ -1,8 +1,7 @@
 -- The rules on pictures, picture by picture: what was found so far, whatever follows.
-use Rattle.std.proofs.Common.{◌≡◌, ℕ, zero, suc, ◌+◌, ◌<◌, ◌≤◌, ◌%◌, Bool, true, false, List, [], ◌∷◌, ◌++◌, length, map, Option, Some, None, option_to_list, refl, sym, ap, subst, ◌∙◌, append_assoc, arith, inl, inr}
-use Rattle.std.specs.Prelude.{if◌then◌else◌, nat_eq, ◌==◌, ◌&&◌, ◌||◌, not}
+use Rattle.std.proofs.Common.{◌≡◌, ℕ, ◌+◌, ◌<◌, ◌%◌, Bool, true, false, List, [], ◌∷◌, ◌++◌, length, Option, Some, None, option_to_list, refl, sym, ap, subst, ◌∙◌, append_assoc, arith}
+use Rattle.std.specs.Prelude.{if◌then◌else◌, nat_eq, ◌&&◌, ◌||◌, not}
 use Rattle.std.specs.List.{flat_map}
-use Rattle.std.proofs.lemmas.Bool.{cases_Bool}
 use Rattle.std.proofs.lemmas.List.{append-nil, length-append}
 use Rattle.std.proofs.lemmas.List.Concat.{flat_map-append}
 use Rattle.m2v_order.specs.Display.{Order, handed, held_after}
@@ -13,9 +12,9 @@ use Rattle.m2v_judge.specs.declared.places.Unplaced.{Unplaced}
 use Rattle.m2v_judge.specs.declared.places.UnplacedFrame.{UnplacedFrame}
 use Rattle.m2v_judge.specs.declared.places.Places.{Places}
 use Rattle.m2v_judge.specs.Breaking.{first_some, found}
-use Rattle.m2v_judge.specs.Running.{reference_breach, breach_at, field_breach, frame_breach, anchor_breach, some_waits, waiting_in, all_broken, no_places, with_field, with_frame, group_closed, begun_with}
-use Rattle.m2v_judge.proofs.Firsts.{found_more, first_twice, first_none, of_one}
-use Rattle.m2v_judge.proofs.Displaying.{Frames, place_in, IsAbsent, AreBelow, other_number, other_above, absent_below, below_more, below-append, absent-append, place_here, place_none, place_is, shown_by, waits_by, once_order, later_order, once_shown, once_waits, later_shown, later_waits}
+use Rattle.m2v_judge.specs.Running.{breach_at, field_breach, frame_breach, anchor_breach, some_waits, waiting_in, all_broken, no_places, with_field, with_frame, group_closed, begun_with}
+use Rattle.m2v_judge.proofs.Firsts.{found_more, first_none, of_one}
+use Rattle.m2v_judge.proofs.Displaying.{Frames, place_in, IsAbsent, AreBelow, other_number, other_above, absent_below, below-append, place_here, place_none, place_is, shown_by, waits_by}
 
 abbrev pub Found : Type 0
 Found = Option BrokenRule

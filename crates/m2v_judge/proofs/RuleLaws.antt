@@ -1,24 +1,22 @@
 -- The rules as they run find what is broken first.
-use Rattle.std.proofs.Common.{◌≡◌, ℕ, zero, suc, ◌+◌, ◌<◌, ◌≤◌, Bool, true, false, List, [], ◌∷◌, ◌++◌, length, Option, Some, None, refl, sym, ap, subst, ◌∙◌, append_assoc, arith, inl, inr}
-use Rattle.std.specs.Prelude.{if◌then◌else◌, nat_eq, ◌&&◌, ◌||◌, not}
+use Rattle.std.proofs.Common.{◌≡◌, ℕ, zero, suc, ◌+◌, ◌<◌, Bool, true, false, List, [], ◌∷◌, ◌++◌, Option, Some, None, refl, sym, ap, subst, ◌∙◌, append_assoc, arith, inl, inr}
+use Rattle.std.specs.Prelude.{if◌then◌else◌, nat_eq, ◌||◌, not}
 use Rattle.std.specs.List.{flat_map}
 use Rattle.std.proofs.lemmas.Bool.{cases_Bool, eqb-true}
 use Rattle.std.proofs.lemmas.List.{append-nil}
-use Rattle.m2v_order.specs.Display.{handed, held_after}
 use Rattle.m2v_model.specs.declared.state.Sequence.{Sequence}
-use Rattle.m2v_model.specs.States.{is_frame, is_b}
+use Rattle.m2v_model.specs.States.{is_b}
 use Rattle.m2v_model.specs.Pictures.{Picture, Pictures, Events, sequence_header, group_header, coded_picture, pictures_in}
 use Rattle.m2v_model.specs.PieceNotes.{note_of}
 use Rattle.m2v_model.specs.Lawful.{Numbered, numbered, all_numbered, is_variable, frames_of_group, sequences_in, sequence_breaches, picture_breaches, breaches, horizontal_rule, vertical_rule, intra_rule, crowd_rule, repeat_rule, progressive_rule, precision_rule}
-use Rattle.m2v_judge.specs.declared.broken.BrokenRule.{BrokenRule}
 use Rattle.m2v_judge.specs.declared.places.Places.{Places}
 use Rattle.m2v_judge.specs.declared.rules.Rules.{Rules}
 use Rattle.m2v_judge.specs.Breaking.{first_some, found}
-use Rattle.m2v_judge.specs.Running.{all_broken, no_places, with_field, with_frame, group_closed, begun_with, lesser, no_rules, low_delay_with, with_sequence, with_group, coded_next, constant_with, unplaced_of, placed_with, with_picture, broken_in}
+use Rattle.m2v_judge.specs.Running.{all_broken, no_places, with_field, with_frame, begun_with, lesser, no_rules, low_delay_with, with_sequence, with_group, coded_next, constant_with, unplaced_of, placed_with, with_picture}
 use Rattle.m2v_judge.specs.Laws.{with_coded, rules_after, Alternates, first_low_delay, IsFound}
 use Rattle.m2v_judge.proofs.Firsts.{found_more}
 use Rattle.m2v_judge.proofs.Merging.{header_more}
-use Rattle.m2v_judge.proofs.Placing.{Found, ends, unplaced, added, step, steps, NoEarlier, Judged, judged_none, group_ended, with_first, ended}
+use Rattle.m2v_judge.proofs.Placing.{Found, ends, unplaced, added, step, steps, Judged, judged_none, group_ended, with_first, ended}
 use Rattle.m2v_judge.proofs.Framing.{with_shown, with_anchor}
 
 -- ---- pictures one after another

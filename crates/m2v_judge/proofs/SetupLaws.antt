@@ -1,12 +1,12 @@
 -- A sequence header that breaks no rule.
-use Rattle.std.proofs.Common.{◌≡◌, ℕ, ◌+◌, ◌<◌, ◌≤◌, ◌^◌, Bool, true, false, List, [], ◌∷◌, Option, Some, None, refl, sym, ap, ◌∙◌, inl, inr, arith}
+use Rattle.std.proofs.Common.{◌≡◌, ℕ, ◌≤◌, Bool, true, false, [], ◌∷◌, Option, Some, None, refl, sym, ◌∙◌, inl, inr, arith}
 use Rattle.std.specs.Prelude.{if◌then◌else◌, nat_lt, nat_le}
-use Rattle.std.proofs.lemmas.Bool.{cases_Bool, leb-true, lt-ltb, cases_lt}
+use Rattle.std.proofs.lemmas.Bool.{leb-true, lt-ltb, cases_lt}
 use Rattle.m2v_set.specs.declared.settings.Level.{Level}
 use Rattle.m2v_set.specs.declared.settings.Level.TheVariants.{Main, High1440, High}
 use Rattle.m2v_set.specs.Numbers.{limits_of}
 use Rattle.m2v_model.specs.declared.state.Sequence.{Sequence}
-use Rattle.m2v_model.specs.Lawful.{Breach, Breaches, breach, judge, within, limits_in, level_in, rate_of, buffer_of, rate_rule, buffer_rule, sequence_breaches}
+use Rattle.m2v_model.specs.Lawful.{breach, judge, limits_in, level_in, rate_of, buffer_of, rate_rule, buffer_rule, sequence_breaches}
 use Rattle.m2v_judge.specs.declared.broken.BrokenRule.{BrokenRule}
 use Rattle.m2v_judge.specs.declared.buffer.Setup.{Setup}
 use Rattle.m2v_judge.specs.Breaking.{first_some, found}

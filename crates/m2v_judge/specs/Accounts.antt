@@ -1,10 +1,9 @@
 -- What the account as it runs says of the pictures that were removed.
-use Rattle.std.specs.Prelude.{◌≡◌, ℕ, ◌+◌, ◌*◌, ◌<◌, ◌≤◌, Bool, true, false, nat_eq, if◌then◌else◌, List, [], ◌∷◌, ◌++◌, length, map, max, Option, Some, None}
+use Rattle.std.specs.Prelude.{◌≡◌, ℕ, ◌+◌, ◌*◌, ◌<◌, ◌≤◌, true, false, nat_eq, if◌then◌else◌, List, [], ◌∷◌, ◌++◌, length, map, max, Option, Some, None}
 use Rattle.m2v_vbv.specs.Annex.{Start, Removal, removed, arrived}
-use Rattle.m2v_vbv.specs.Account.{account_of, opening}
+use Rattle.m2v_vbv.specs.Account.{account_of}
 use Rattle.m2v_vbv.specs.declared.fault.AccountFault.{AccountFault}
 use Rattle.m2v_model.specs.Buffering.{StreamAccount, unsafe_from, amounts_from, greatest, exact_delay}
-use Rattle.m2v_judge.specs.declared.amounts.Amount.{Amount}
 use Rattle.m2v_judge.specs.declared.course.Next.{Next}
 use Rattle.m2v_judge.specs.declared.course.Full.{Full}
 use Rattle.m2v_judge.specs.declared.course.Course.{Course}

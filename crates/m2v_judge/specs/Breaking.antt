@@ -1,8 +1,7 @@
 -- What is told of a broken rule, and the pictures that the rules are asked about.
-use Rattle.std.specs.Prelude.{◌≡◌, ℕ, Bool, ◌||◌, not, List, [], ◌∷◌, Option, Some, None}
+use Rattle.std.specs.Prelude.{◌||◌, not, [], ◌∷◌, Option, Some, None}
 use Rattle.std.specs.Option.{option_map}
 use Rattle.m2v_plane.specs.Fields.{or_none}
-use Rattle.m2v_model.specs.declared.state.Sequence.{Sequence}
 use Rattle.m2v_model.specs.declared.notes.PictureNote.{PictureNote}
 use Rattle.m2v_model.specs.States.{is_frame}
 use Rattle.m2v_model.specs.Pictures.{Picture}

@@ -1,5 +1,5 @@
 -- The rules as they run, picture by picture, with as little kept of a group as its display order asks for.
-use Rattle.std.specs.Prelude.{ℕ, ◌+◌, ◌%◌, Bool, true, false, ◌&&◌, ◌||◌, not, nat_eq, nat_lt, if◌then◌else◌, List, [], ◌∷◌, ◌++◌, Option, Some, None}
+use Rattle.std.specs.Prelude.{ℕ, ◌+◌, ◌%◌, Bool, true, false, ◌||◌, not, nat_eq, nat_lt, if◌then◌else◌, [], ◌∷◌, ◌++◌, Option, Some, None}
 use Rattle.m2v_model.specs.declared.state.Sequence.{Sequence}
 use Rattle.m2v_model.specs.declared.notes.PictureNote.{PictureNote}
 use Rattle.m2v_model.specs.States.{first_or, is_frame, is_b}

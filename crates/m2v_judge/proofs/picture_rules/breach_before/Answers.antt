@@ -1,5 +1,3 @@
-use Rattle.std.proofs.Common.{◌≡◌, sym, ap, ◌∙◌}
-use Rattle.m2v_judge.specs.Breaking.{first_some}
 use Rattle.m2v_judge.proofs.Firsts.{three}
 use Rattle.m2v_judge.proofs.picture_rules.breach_before.Goals as goal
 

@@ -1,4 +1,4 @@
-use Rattle.std.proofs.Common.{◌≡◌, ℕ}
+use Rattle.std.proofs.Common.{◌≡◌}
 use Rattle.std.specs.VecDeque.{deque_len}
 use Rattle.m2v_judge.specs.Holding.{most_with}
 use Rattle.m2v_judge.proofs.amounts.Amounts.finish.Given as goal
