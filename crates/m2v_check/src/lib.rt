@@ -5,7 +5,6 @@
 mod verdict;
 mod whole;
 
-
 pub use m2v_piece::{DecodeError, Fault};
 pub use m2v_vbv::AccountFault;
 pub use verdict::{Figures, Verdict};

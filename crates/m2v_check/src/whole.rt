@@ -1,7 +1,8 @@
-ghost use Rattle.std.specs.Prelude.{◌≡◌, ◌≤◌, IfOk, IfErr, false};
+ghost use Rattle.std.specs.Prelude.{◌≡◌, ◌≤◌, ◌<◌, ◌^◌, IfOk, IfErr, false};
 ghost use Rattle.m2v_port.specs.Ends.{change, Tells};
 ghost use Rattle.m2v_decode.specs.Answers.{OfText};
 ghost use Rattle.m2v_decode.specs.Progress.{HasPut};
+ghost use Rattle.m2v_check.specs.Progress.{verdict_of, Ends, EndFails};
 ghost use Rattle.m2v_check.specs.Answers.{IsJudged, Fails, IsAnswered};
 
 use crate::verdict::{Figures, Verdict};
@@ -43,7 +44,9 @@ fn read_pieces<S: Source>(
 }
 
 /// The verdict of a judgement, with what is counted of the stream.
-fn verdict(judgement: &Judgement, frames: u64, pictures: u64, bytes: u64) -> Verdict {
+fn verdict(judgement: &Judgement, frames: u64, pictures: u64, bytes: u64) -> Verdict
+    ensures value { result ≡ verdict_of judgement.now frames pictures bytes }
+{
     let counted = Figures {
         frames,
         pictures,
@@ -71,14 +74,22 @@ fn verdict(judgement: &Judgement, frames: u64, pictures: u64, bytes: u64) -> Ver
 }
 
 /// Ends the stream, and judges it.
-fn finish(end: u64, decoder: &mut Decoder, judge: &mut Judge) -> Result<Verdict, DecodeError> {
+fn finish(end: u64, decoder: &mut Decoder, judge: &mut Judge) -> Result<Verdict, DecodeError>
+    requires going { decoder.old.failed ≡ false }
+    requires before { decoder.old.ended ≡ false }
+    requires end { end ≤ 2 ^ 36 }
+    requires few { judge.old.rules.pictures < 2 ^ 60 }
+    ensures ok { IfOk result (Ends decoder.old end judge.old) }
+    ensures err { IfErr result (EndFails decoder.old end) }
+{
     match decoder.end(end) {
         Err(f) => return Err(DecodeError::Stream(f)),
         Ok(()) => {}
     }
     pass_frames(decoder);
+    let bytes = judge.bytes;
     let judgement = judge.finish()?;
-    Ok(verdict(&judgement, decoder.shown(), decoder.pictures(), judge.bytes))
+    Ok(verdict(&judgement, decoder.shown(), decoder.pictures(), bytes))
 }
 
 /// Reads piece after piece to the end, and judges the stream there.
