@@ -1,2 +1,4 @@
 pub mod OneMeaning
 pub mod AnswerLaws
+pub mod UnitGifts
+pub mod Telling
