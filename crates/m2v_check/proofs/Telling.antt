@@ -29,7 +29,7 @@ Claim = Between → Units → Events → Between → Type 0
 
 -- it holds where a part is the last one
 abbrev pub AtLast : Claim → Type 0
-AtLast Q = (b : Between) (us : Units) (p : Part) → PartFits b.state (first_value us) p → IsLast p → Q b us (told_by b.state b.store p) (after_part b p)
+AtLast Q = (b : Between) (us : Units) (p : Part) → IsLast p → Q b us (told_by b.state b.store p) (after_part b p)
 
 -- it holds in front of what it holds of
 abbrev pub InFront : Claim → Type 0
@@ -52,10 +52,11 @@ module _ (Q : Claim) (last : AtLast Q) (front : InFront Q) where
   once b us (Err f) h ih = tt
   once b us (Ok ((false, p), mid)) h ih =
       let s = h (false, p) mid refl in
-      subst (λ (es : Events). Q b us es (after_part b p)) (sym (append-nil (told_by b.state b.store p))) (last b us p s.fits (s.last refl))
+      subst (λ (es : Events). Q b us es (after_part b p)) (sym (append-nil (told_by b.state b.store p))) (last b us p (s.last refl))
   once b us (Ok ((true, p), mid)) h ih =
       let s = h (true, p) mid refl in
-      in_front b us mid p (units_read (after_part b p) mid) s.fits (s.more refl) (ih p mid refl)
+      let m = s.more refl in
+      in_front b us mid p (units_read (after_part b p) mid) m.0 m.1 (ih p mid refl)
 
   all_n : (n : ℕ) (b : Between) (us : Units) → length us < n → Holds Q b us (units_read b us)
   all_n zero b us lt = absurd (omega arith)
@@ -145,7 +146,7 @@ abbrev pub waits_before : Option FirstField → Option Open → Bool
 waits_before w None = is_some w
 waits_before w (Some p) = p.second_field
 
-record SaysOf (a : State) (o : Option Open) (es : Events) (b : State) : Type 0 where
+pub record SaysOf (a : State) (o : Option Open) (es : Events) (b : State) : Type 0 where
   pub good : IsGoodState b
   pub first : b.first ≡ first_in a.first es
   pub sequence : b.sequence ≡ last_in a.sequence es
@@ -267,27 +268,27 @@ part_says b v (unread_slice row u) h fits =
       waits = unread_waits st.waiting st.picture row;
     }
 part_says b v (skipped_unit u) h fits = record { good = h; first = refl; sequence = refl; headed = tt; delays = tt; alternates = tt; waits = refl }
-part_says b v ending h fits = says_closed b.state b.store b.state.picture h
-part_says b v over h fits = says_closed b.state b.store b.state.picture h
+part_says b v ending h fits = absurd fits
+part_says b v over h fits = absurd fits
 
--- nothing is open behind the last part
-last_closes : (st : State) (p : Part) → IsLast p → (after st p).picture ≡ None
+-- the last part ends the picture that is open
+last_says : (b : Between) (p : Part) → IsLast p → IsGoodState b.state → Says b.state (told_by b.state b.store p) (after b.state p) × ((after b.state p).picture ≡ None)
 unfolding after
-last_closes st (sequence s) l = absurd l
-last_closes st (group g) l = absurd l
-last_closes st (picture info extension) l = absurd l
-last_closes st (matrices m) l = absurd l
-last_closes st (slice row x) l = absurd l
-last_closes st (unread_slice row u) l = absurd l
-last_closes st (skipped_unit u) l = absurd l
-last_closes st ending l = refl
-last_closes st over l = refl
+last_says b (sequence s) l h = absurd l
+last_says b (group g) l h = absurd l
+last_says b (picture info extension) l h = absurd l
+last_says b (matrices m) l h = absurd l
+last_says b (slice row x) l h = absurd l
+last_says b (unread_slice row u) l h = absurd l
+last_says b (skipped_unit u) l h = absurd l
+last_says b ending l h = (says_closed b.state b.store b.state.picture h, refl)
+last_says b over l h = (says_closed b.state b.store b.state.picture h, refl)
 
 abbrev Told : Claim
 Told b us es next = IsGoodState b.state → Says b.state es next.state × (next.state.picture ≡ None)
 
 told_last : AtLast Told
-told_last b us p fits l h = (part_says b (first_value us) p h fits, last_closes b.state p l)
+told_last b us p l h = last_says b p l h
 
 told_front : InFront Told
 told_front b us mid p es next fits onward ih h =

@@ -113,7 +113,7 @@ behind_gives own (Some u) start s = choose_gives Any _ (λ on. extension_gives o
 
 -- ---- parts
 
--- what a part tells of the unit that gives it, by the value of its start code, where there is a unit
+-- a part with others behind it: what it tells of the unit that gives it, by the value of its start code, where there is a unit
 abbrev pub PartFits : State → Option ℕ → Part → Type 0
 PartFits st v (sequence s) = v ≡ Some 0xB3
 PartFits st v (group g) = v ≡ Some 0xB8
@@ -122,8 +122,8 @@ PartFits st v (matrices m) = Unit {0}
 PartFits st v (slice row x) = Unit {0}
 PartFits st v (unread_slice row u) = Unit {0}
 PartFits st v (skipped_unit u) = Unit {0}
-PartFits st v ending = Unit {0}
-PartFits st v over = Unit {0}
+PartFits st v ending = ⊥
+PartFits st v over = ⊥
 
 -- nothing follows the part
 abbrev pub IsLast : Part → Type 0
@@ -137,12 +137,12 @@ IsLast (skipped_unit u) = ⊥
 IsLast ending = Unit {0}
 IsLast over = Unit {0}
 
-abbrev LastWhere : Bool → Part → Type 0
-LastWhere true p = Unit {0}
-LastWhere false p = IsLast p
+abbrev FitsWhere : State → Option ℕ → Bool → Part → Type 0
+FitsWhere st v true p = PartFits st v p
+FitsWhere st v false p = IsLast p
 
 abbrev UnitFits : State → Option ℕ → Bool × Part → Type 0
-UnitFits st v x = PartFits st v x.1 × LastWhere x.0 x.1
+UnitFits st v x = FitsWhere st v x.0 x.1
 
 delay_in : (info : PictureInfo) (t end : List Bool) → (whole_header picture_in).Stands info t end → info.vbv_delay < 2 ^ 16
 unfolding whole_header picture_in picture_at seq done renamed bits_at
@@ -230,22 +230,11 @@ end_gives st start =
 
 onward_gives : (st : State) (v : Option ℕ) (s : Among Part) → Gives (PartFits st v) s → Gives (UnitFits st v) (onward s)
 unfolding onward
-onward_gives st v s h = seq_gives (PartFits st v) (UnitFits st v) h (λ p fits. done_gives (UnitFits st v) (true, p) (fits, tt))
-
-last_fits : (st : State) (v : Option ℕ) (p : Part) → IsLast p → PartFits st v p
-last_fits st v (sequence s) l = absurd l
-last_fits st v (group g) l = absurd l
-last_fits st v (picture info extension) l = absurd l
-last_fits st v (matrices m) l = tt
-last_fits st v (slice row x) l = tt
-last_fits st v (unread_slice row u) l = tt
-last_fits st v (skipped_unit u) l = tt
-last_fits st v ending l = tt
-last_fits st v over l = tt
+onward_gives st v s h = seq_gives (PartFits st v) (UnitFits st v) h (λ p fits. done_gives (UnitFits st v) (true, p) fits)
 
 final_gives : (st : State) (v : Option ℕ) (s : Among Part) → Gives IsLast s → Gives (UnitFits st v) (final s)
 unfolding final
-final_gives st v s h = seq_gives IsLast (UnitFits st v) h (λ p l. done_gives (UnitFits st v) (false, p) (last_fits st v p l, l))
+final_gives st v s h = seq_gives IsLast (UnitFits st v) h (λ p l. done_gives (UnitFits st v) (false, p) l)
 
 value_is : (value k : ℕ) → nat_eq value k ≡ true → Some value ≡ Some k
 value_is value k on = ap Some (eqb-true value k on)
@@ -269,7 +258,7 @@ known_gives st start u =
     let v = Some (value_of u) in
     let P = UnitFits st v in
     choose_gives P _ (λ on. onward_gives st v _ (sequence_gives st v start u (value_is (value_of u) 0xB3 on))) (λ off.
-    choose_gives P _ (λ k. later_gives st start u k) (λ none. done_gives P (true, skipped_unit u) (tt, tt)))
+    choose_gives P _ (λ k. later_gives st start u k) (λ none. done_gives P (true, skipped_unit u) tt))
 
 over_gives : (st : State) (start : ℕ) → Gives (UnitFits st None) (text_end st start)
 unfolding text_end
@@ -277,7 +266,7 @@ over_gives st start =
     let P = UnitFits st None in
     then_gives P (rule_gives _ _ start) (λ some.
     then_gives P (close_gives st start) (λ closed.
-    done_gives P (false, over) (tt, tt)))
+    done_gives P (false, over) tt))
 
 -- ---- units
 
@@ -291,13 +280,16 @@ IsOnward [] mid = ⊥
 IsOnward (u ∷ us) mid = IsBehind us mid
 
 pub record UnitSays (st : State) (us : Units) (x : Bool × Part) (mid : Units) : Type 0 where
-  pub fits : PartFits st (first_value us) x.1
-  pub more : x.0 ≡ true → IsOnward us mid
+  pub more : x.0 ≡ true → PartFits st (first_value us) x.1 × IsOnward us mid
   pub last : x.0 ≡ false → IsLast x.1
 
-last_where : (b : Bool) (p : Part) → LastWhere b p → b ≡ false → IsLast p
-last_where true p l e = absurd cc
-last_where false p l e = l
+last_where : (st : State) (v : Option ℕ) (b : Bool) (p : Part) → FitsWhere st v b p → b ≡ false → IsLast p
+last_where st v true p l e = absurd cc
+last_where st v false p l e = l
+
+fits_where : (st : State) (v : Option ℕ) (b : Bool) (p : Part) → FitsWhere st v b p → b ≡ true → PartFits st v p
+fits_where st v true p l e = l
+fits_where st v false p l e = absurd cc
 
 flag_last : (st : State) (x : Bool × Part) (t mid : Units) → (text_end st 0).Stands x t mid → x.0 ≡ false
 unfolding text_end seq done
@@ -309,8 +301,8 @@ unit_says st [] x mid e =
     let s = (text_end_lawful st 0).found x [] mid e in
     let g = (over_gives st 0).gives x [] mid s in
     let no = flag_last st x [] mid s in
-    record { fits = g.0.0; more = λ on. absurd (let d : true ≡ false = sym on ∙ no in cc); last = last_where x.0 x.1 g.0.1 }
+    record { more = λ on. absurd (let d : true ≡ false = sym on ∙ no in cc); last = last_where st None x.0 x.1 g.0 }
 unit_says st (u ∷ us) x mid e =
     let s = (known_lawful st (unit_bits (u ∷ us)) (value_of u) u).found x us mid e in
     let g = (known_gives st (unit_bits (u ∷ us)) u).gives x us mid s in
-    record { fits = g.0.0; more = λ on. g.1; last = last_where x.0 x.1 g.0.1 }
+    record { more = λ on. (fits_where st (Some (value_of u)) x.0 x.1 g.0 on, g.1); last = last_where st (Some (value_of u)) x.0 x.1 g.0 }
