@@ -5,7 +5,7 @@ use Rattle.std.proofs.lemmas.Bool.{cases_Bool}
 use Rattle.std.proofs.lemmas.List.{append-nil, map-append}
 use Rattle.std.proofs.lemmas.List.Sums.{sum_by_push}
 use Rattle.m2v_vbv.specs.Annex.{Start, Removal, removed}
-use Rattle.m2v_vbv.specs.Account.{account_of, opening}
+use Rattle.m2v_vbv.proofs.Sums.{opening_is}
 use Rattle.m2v_vbv.specs.declared.fault.AccountFault.{AccountFault}
 use Rattle.m2v_vbv.specs.declared.fault.AccountFault.TheVariants.{Under}
 use Rattle.m2v_model.specs.declared.state.Sequence.{Sequence}
@@ -138,7 +138,7 @@ runs_more start us b d bits h m =
 -- the first picture came
 pub runs_begins : (first : Sequence) (p : CodedPicture) (bits code : ℕ) (b : Buffer) → Begins first p bits code b
     → HasRun (record { k = rate_of first; buffer_bits = 16384 * buffer_of first; s = code; delay = p.note.info.vbv_delay }) [] b
-unfolding account_of unsafe_from amounts_from greatest
+unfolding unsafe_from amounts_from greatest
 runs_begins first p bits code b g =
     let start : Start = record { k = rate_of first; buffer_bits = 16384 * buffer_of first; s = code; delay = p.note.info.vbv_delay } in
     let under : b.course.under ≡ None = ap (λ (x : Course). x.under) g.course in
@@ -146,7 +146,7 @@ runs_begins first p bits code b g =
     let total : b.course.total ≡ bits = ap (λ (x : Course). x.total) g.course in
     let next : b.course.next.bits ≡ bits = ap (λ (x : Course). x.next.bits) g.course in
     let ran : Ran start [] opened = record {
-      account = refl;
+      account = opening_is start;
       exactly = omega arith;
       pictures = refl;
       removed_is = refl;

@@ -4,3 +4,5 @@ pub mod UnitGifts
 pub mod Telling
 pub mod Ordered
 pub mod Accounted
+pub mod Listed
+pub mod Concluding
