@@ -6,3 +6,4 @@ pub mod Ordered
 pub mod Accounted
 pub mod Listed
 pub mod Concluding
+pub mod Ruling
