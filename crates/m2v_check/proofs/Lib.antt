@@ -7,3 +7,4 @@ pub mod Accounted
 pub mod Listed
 pub mod Concluding
 pub mod Ruling
+pub mod Onward

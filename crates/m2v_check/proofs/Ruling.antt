@@ -1,5 +1,5 @@
 -- What the judge keeps of events, piece by piece, is what stands of all events.
-use Rattle.std.proofs.Common.{◌≡◌, ℕ, ◌+◌, ◌<◌, ◌≤◌, Bool, true, false, List, [], ◌∷◌, ◌++◌, length, map, Option, Some, None, refl, sym, ap, subst, ◌∙◌, append_assoc, arith, inl, inr}
+use Rattle.std.proofs.Common.{◌≡◌, ℕ, ◌+◌, ◌*◌, ◌<◌, ◌≤◌, Bool, true, false, List, [], ◌∷◌, ◌++◌, length, map, Option, Some, None, refl, sym, ap, subst, ◌∙◌, append_assoc, arith, inl, inr}
 use Rattle.std.specs.Prelude.{is_some, IsSome, if◌then◌else◌, nat_lt, ◌||◌, not}
 use Rattle.std.proofs.lemmas.Bool.{cases_Bool}
 use Rattle.std.proofs.lemmas.List.{append-nil}
@@ -65,7 +65,7 @@ rules-append r (coded_picture p ∷ es) fs = rules-append (with_coded r r.sequen
 
 -- ---- what the headers of a piece leave
 
-record Headed (r : Rules) (es : Events) (x : Rules) : Type 0 where
+pub record Headed (r : Rules) (es : Events) (x : Rules) : Type 0 where
   pub first : x.first ≡ first_in r.first es
   pub sequence : x.sequence ≡ last_in r.sequence es
   pub pictures : x.pictures ≡ r.pictures

@@ -100,13 +100,13 @@ abbrev pub waits_behind : Bool → Pictures → Bool
 waits_behind w [] = w
 waits_behind w (p ∷ ps) = waits_behind (not p.ends_frame) ps
 
-first-append : (o : Option Sequence) (es fs : Events) → first_in o (es ++ fs) ≡ first_in (first_in o es) fs
+pub first-append : (o : Option Sequence) (es fs : Events) → first_in o (es ++ fs) ≡ first_in (first_in o es) fs
 first-append o [] fs = refl
 first-append o (sequence_header s ∷ es) fs = first-append (Some (first_or o s)) es fs
 first-append o (group_header g ∷ es) fs = first-append o es fs
 first-append o (coded_picture p ∷ es) fs = first-append o es fs
 
-last-append : (o : Option Sequence) (es fs : Events) → last_in o (es ++ fs) ≡ last_in (last_in o es) fs
+pub last-append : (o : Option Sequence) (es fs : Events) → last_in o (es ++ fs) ≡ last_in (last_in o es) fs
 last-append o [] fs = refl
 last-append o (sequence_header s ∷ es) fs = last-append (Some s) es fs
 last-append o (group_header g ∷ es) fs = last-append o es fs
