@@ -15,19 +15,11 @@ use Rattle.m2v_decode.specs.Complete.{IsUnderLimits, IsPast, IsReached, IsLate, 
 use Rattle.m2v_decode.proofs.AnswerLaws.{of_text, passes_none, rest_fits, answered as decode_answered}
 use Rattle.m2v_check.specs.declared.verdict.Verdict.{Verdict}
 use Rattle.m2v_check.specs.Meaning.{Means}
+use Rattle.m2v_check.specs.Progress.{no_output}
 use Rattle.m2v_check.specs.Answers.{IsJudged, IsFaulty, IsOver, Fails, Gives, IsAnswered}
 use Rattle.m2v_check.proofs.OneMeaning.{decoding_in, one_meaning}
 
 -- ---- an output that isn't there
-
-abbrev pub none_held : Unit {0} → Option (List ℕ)
-none_held u = None
-
-abbrev pub none_failed : Unit {0} → ℕ
-none_failed u = 0
-
-abbrev pub no_output : Change
-no_output = change none_held none_failed tt tt
 
 over_there : (text : List ℕ) (e : DecodeError) → IsOver text e → DecodeOver text no_output e
 over_there text e o = record { events = o.events; between = o.between; others = o.others; begun = o.begun; over = o.over; grown = record { is = refl } }
@@ -37,8 +29,30 @@ faulty_there text f i =
     let r = i.reached in
     record { fault = i.fault; start = r.start; events = r.events; between = r.between; others = r.others; begun = r.begun; here = r.here; grown = record { is = refl } }
 
+-- what decoding says of a failure, without its output
+over_here : (text : List ℕ) (e : DecodeError) → DecodeOver text no_output e → IsOver text e
+over_here text e o = record { events = o.events; between = o.between; others = o.others; begun = o.begun; over = o.over }
+
+faulty_here : (text : List ℕ) (f : Fault) → DecodeFaulty text no_output f → IsFaulty text f
+faulty_here text f i = record {
+  fault = i.fault;
+  reached = record { start = i.start; events = i.events; between = i.between; others = i.others; begun = i.begun; here = i.here };
+}
+
+none_fails : no_output.Failed → ⊥
+none_fails (inl l) = omega arith
+none_fails (inr l) = omega arith
+
 text_there : (left : Change) (P Q : List ℕ → Type 0) → ((text : List ℕ) → P text → Q text) → OfText left P → OfText left Q
 text_there left P Q f h = record { bytes = h.bytes; moved = h.moved; told = λ rest e. f (h.bytes ++ rest) (h.told rest e) }
+
+pub fails_here : (left : Change) (e : DecodeError) → DecodeFails left no_output e → Fails left e
+fails_here left errors.Read h = h.0
+fails_here left errors.Write h = absurd (none_fails h.0)
+fails_here left (errors.Stream f) h = text_there left (λ t. DecodeFaulty t no_output f) (λ t. IsFaulty t f) (λ t. faulty_here t f) h
+fails_here left errors.TooLong h = text_there left (λ t. DecodeOver t no_output errors.TooLong) (λ t. IsOver t errors.TooLong) (λ t. over_here t errors.TooLong) h
+fails_here left errors.PictureTooLarge h = text_there left (λ t. DecodeOver t no_output errors.PictureTooLarge) (λ t. IsOver t errors.PictureTooLarge) (λ t. over_here t errors.PictureTooLarge) h
+fails_here left errors.Memory h = tt
 
 -- ---- no other answer
 
@@ -50,21 +64,13 @@ module _ (left : Change) (text : List ℕ) (is : left.old ≡ Some text) where
   from_there : (x e : DecodeError) → DecodeGives left no_output (Err x) (Err e) → Gives left (Err x) (Err e)
   from_there x e (DecodeGives.as_said q) = let same : e ≡ x = cc in Gives.as_said (ap Err same)
   from_there x e (DecodeGives.read q failed) = let same : e ≡ errors.Read = cc in Gives.read (ap Err same) failed
-  from_there x e (DecodeGives.write q failed) = absurd (none_rose failed)
-    where
-      none_rose : no_output.Failed → ⊥
-      none_rose (inl l) = omega arith
-      none_rose (inr l) = omega arith
+  from_there x e (DecodeGives.write q failed) = absurd (none_fails failed)
   from_there x e (DecodeGives.memory q) = let same : e ≡ errors.Memory = cc in Gives.memory (ap Err same)
 
   verdict_from : (e : DecodeError) (v : Verdict) (d : Decoded) → DecodeGives left no_output (Ok d) (Err e) → Gives left (Ok v) (Err e)
   verdict_from e v d (DecodeGives.as_said q) = absurd cc
   verdict_from e v d (DecodeGives.read q failed) = let same : e ≡ errors.Read = cc in Gives.read (ap Err same) failed
-  verdict_from e v d (DecodeGives.write q failed) = absurd (none_rose failed)
-    where
-      none_rose : no_output.Failed → ⊥
-      none_rose (inl l) = omega arith
-      none_rose (inr l) = omega arith
+  verdict_from e v d (DecodeGives.write q failed) = absurd (none_fails failed)
   verdict_from e v d (DecodeGives.memory q) = let same : e ≡ errors.Memory = cc in Gives.memory (ap Err same)
 
   by_there : (e : DecodeError) → DecodeFails left no_output e → IsAnswered left (Err e) text

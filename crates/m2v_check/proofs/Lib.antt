@@ -8,3 +8,4 @@ pub mod Listed
 pub mod Concluding
 pub mod Ruling
 pub mod Onward
+pub mod Checking

@@ -177,7 +177,7 @@ pub judge_none : (j : Judge) → j.rules ≡ no_rules → j.buffer ≡ None → 
 unfolding rules_after numbered
 judge_none j rules none bytes = record { rules = rules; bytes = bytes; account = none }
 
-none_or_one : (fs : Events) → PictureLast fs → (pictures_in fs ≡ []) ⊎ ((q : Picture) × (pictures_in fs ≡ q ∷ []))
+pub none_or_one : (fs : Events) → PictureLast fs → (pictures_in fs ≡ []) ⊎ ((q : Picture) × (pictures_in fs ≡ q ∷ []))
 none_or_one [] h = inl refl
 none_or_one (sequence_header s ∷ fs) h = none_or_one fs h
 none_or_one (group_header g ∷ fs) h = none_or_one fs h

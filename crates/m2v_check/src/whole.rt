@@ -1,8 +1,10 @@
-ghost use Rattle.std.specs.Prelude.{◌≡◌, ◌≤◌, ◌<◌, ◌^◌, IfOk, IfErr, false};
+ghost use Rattle.std.specs.Prelude.{◌≡◌, ◌≤◌, ◌<◌, ◌^◌, IfOk, IfErr, OnOk, false, None};
 ghost use Rattle.m2v_port.specs.Ends.{change, Tells};
 ghost use Rattle.m2v_decode.specs.Answers.{OfText};
-ghost use Rattle.m2v_decode.specs.Progress.{HasPut};
-ghost use Rattle.m2v_check.specs.Progress.{verdict_of, Ends, EndFails};
+ghost use Rattle.m2v_decoder.specs.Decoding.{at_start};
+ghost use Rattle.m2v_decode.specs.Progress.{before_all, HasPut, IsDone};
+ghost use Rattle.m2v_judge.specs.Running.{no_rules};
+ghost use Rattle.m2v_check.specs.Progress.{no_output, verdict_of, IsJudgedText, Ends, EndFails};
 ghost use Rattle.m2v_check.specs.Answers.{IsJudged, Fails, IsAnswered};
 
 use crate::verdict::{Figures, Verdict};
@@ -29,7 +31,21 @@ fn read_pieces<S: Source>(
     decoder: &mut Decoder,
     judge: &mut Judge,
     input: &mut S,
-) -> Result<(), DecodeError> {
+) -> Result<(), DecodeError>
+    requires cutter { cutter.old ≡ before_all }
+    requires decoder { decoder.old ≡ at_start }
+    requires rules { judge.old.rules ≡ no_rules }
+    requires none { judge.old.buffer ≡ None }
+    requires bytes { judge.old.bytes ≡ 0 }
+    ensures ok { OnOk result (IsDone
+        (change S.left S.faults input.old input.new) no_output cutter.new decoder.new) }
+    ensures judged { OnOk result (IsJudgedText
+        (change S.left S.faults input.old input.new) decoder.new judge.new) }
+    ensures most { OnOk result (cutter.new.place ≤ 2 ^ 36) }
+    ensures few { OnOk result (judge.new.rules.pictures < 2 ^ 60) }
+    ensures err { IfErr result (Fails (change S.left S.faults input.old input.new)) }
+    ensures input { S.faults input.old ≤ S.faults input.new }
+{
     loop {
         match cutter.next_piece(alloc, input) {
             Err(e) => return Err(e),

@@ -1,7 +1,7 @@
 use Rattle.std.proofs.Common.{length}
 use Rattle.m2v_decoder.specs.Decoding.{due_of}
 use Rattle.m2v_decode.proofs.Putting.{HasPutSome}
-use Rattle.m2v_check.proofs.AnswerLaws.{no_output}
+use Rattle.m2v_check.specs.Progress.{no_output}
 use Rattle.m2v_check.proofs.whole.pass_frames.Given as goal
 
 abbrev pub invariant-loop-frame : goal.invariant-loop-frame
