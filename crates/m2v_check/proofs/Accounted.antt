@@ -29,7 +29,7 @@ use Rattle.m2v_judge.proofs.Accounting.{runs_on}
 abbrev pub bits_of : List Next → ℕ
 bits_of ts = removed (removals_of ts)
 
-bits_push : (ts : List Next) (n : Next) → bits_of (ts ++ n ∷ []) ≡ bits_of ts + n.bits
+pub bits_push : (ts : List Next) (n : Next) → bits_of (ts ++ n ∷ []) ≡ bits_of ts + n.bits
 bits_push ts n = ap removed (map-append removal_of ts (n ∷ [])) ∙ sum_by_push (λ (x : Removal). x.bits) (removals_of ts) (removal_of n)
 
 -- one of these pictures isn't whole: how the account fails is known, whatever follows

@@ -69,6 +69,9 @@ piece_says d place whole notes m a good = units_say (between d) (cut 0 whole).1 
 pub shut_behind : (d : Decoding) (place : ℕ) (whole : List ℕ) (notes : Notes) (m : Decoding) → Advanced d place whole notes m → d.state.picture ≡ None → m.state.picture ≡ None
 shut_behind d place whole notes m a shut = (piece_says d place whole notes m a (good_shut d.state shut)).1
 
+pub shut_put : (m n : Decoding) → HasPut m n → m.state.picture ≡ None → n.state.picture ≡ None
+shut_put m n put shut = ap (λ (b : Between). b.state.picture) put.between_is ∙ shut
+
 note_is : (place : ℕ) (p : List ℕ) (es : Events) (notes : Notes) → noted notes ≡ notes_of place p es → notes.picture ≡ first_note (8 * place + code_bits p) (pictures_in es)
 unfolding notes_of
 note_is place p es notes e = ap (λ (n : PieceNotes). n.picture) e

@@ -9,3 +9,4 @@ pub mod Concluding
 pub mod Ruling
 pub mod Onward
 pub mod Checking
+pub mod Summing

@@ -86,6 +86,16 @@ pub times_push : (t : Times) (ns : List Numbered) (n : Numbered) → times_behin
 times_push t [] n = refl
 times_push t (m ∷ ns) n = times_push (record t { repeats = repeats_behind t m }) ns n
 
+-- all bits are those of some picture
+pub nexts_bits : (t : Times) (p : List ℕ) (ps : List (List ℕ)) (n : Numbered) (ns : List Numbered) → length (n ∷ ns) ≤ length (p ∷ ps) → removed (removals_of (nexts t (p ∷ ps) (n ∷ ns))) ≡ all_bits (p ∷ ps)
+nexts_bits t p ps n [] le = sum_by-cons (λ (x : Removal). x.bits) (removal_of (next_by t n (all_bits (p ∷ ps)) (code_bits p))) [] ∙ omega arith
+nexts_bits t p [] n (m ∷ ns) le = absurd (omega (arith, le))
+nexts_bits t p (q ∷ ps) n (m ∷ ns) le =
+    let t2 : Times = record t { repeats = repeats_behind t n } in
+    let ih = nexts_bits t2 q ps m ns (omega (arith, le)) in
+    sum_by-cons (λ (x : Removal). x.bits) (removal_of (next_by t n (bits_of_piece p) (code_bits p))) (removals_of (nexts t2 (q ∷ ps) (m ∷ ns)))
+    ∙ ap (λ (x : ℕ). bits_of_piece p + x) ih ∙ sym (sum_by-cons (λ (x : ℕ). x) (bits_of_piece p) (map bits_of_piece (q ∷ ps)))
+
 -- ---- removals
 
 pub removals_are : (t : Times) (ps : List (List ℕ)) (ns : List Numbered) → length ns ≤ length ps

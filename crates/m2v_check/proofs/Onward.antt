@@ -50,7 +50,7 @@ AccountSo (Some s) ps (n ∷ ns) (Some b) = Runs s ps n (n ∷ ns) b
 
 -- ---- without a picture
 
-first_stays : (s : Sequence) (es : Events) → first_in (Some s) es ≡ Some s
+pub first_stays : (s : Sequence) (es : Events) → first_in (Some s) es ≡ Some s
 first_stays s [] = refl
 first_stays s (sequence_header t ∷ es) = first_stays s es
 first_stays s (group_header g ∷ es) = first_stays s es
