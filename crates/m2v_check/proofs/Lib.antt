@@ -10,3 +10,4 @@ pub mod Ruling
 pub mod Onward
 pub mod Checking
 pub mod Summing
+pub mod Verdicts
