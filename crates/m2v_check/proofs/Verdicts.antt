@@ -1,6 +1,7 @@
 -- The end of the text: the verdict that is told there is the text's.
 use Rattle.std.proofs.Common.{◌≡◌, ℕ, suc, zero, ◌+◌, ◌*◌, ◌<◌, ◌≤◌, Bool, true, false, cond, List, [], ◌∷◌, ◌++◌, length, map, Option, Some, None, Result, Ok, Err, refl, sym, ap, subst, ◌∙◌, arith}
 use Rattle.std.specs.Prelude.{not, nat_eq, sum, if◌then◌else◌}
+use Rattle.std.proofs.lemmas.Bool.{ne_eqb}
 use Rattle.std.proofs.lemmas.List.{append-nil}
 use Rattle.m2v_port.specs.Ends.{Change, change}
 use Rattle.m2v_vbv.specs.declared.fault.AccountFault.{AccountFault}
@@ -46,8 +47,7 @@ use Rattle.m2v_check.specs.Progress.{none_held, none_failed, no_output, figures_
 -- ---- whether the rate is constant
 
 not_first : (n : ℕ) → 0 < n → nat_eq n 0 ≡ false
-not_first zero some = absurd (omega (arith, some))
-not_first (suc n) some = refl
+not_first n some = ne_eqb n 0 (λ e. absurd (omega (arith, some, e)))
 
 later_one : (r : Rules) (p : Picture) (es : Events) (o : Option Sequence) → 0 < r.pictures → ((x : Rules) → 0 < x.pictures → (rules_after x es).constant ≡ x.constant) → (rules_after (with_coded r o p) es).constant ≡ r.constant
 later_one r p es None some ih = ih r some
