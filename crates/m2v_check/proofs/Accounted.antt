@@ -80,11 +80,12 @@ whole_by start us b d next total true e none r bits more is most =
     let law = runs_on start us c r.0 in
     let same : d.course.under ≡ None = ap (λ (x : Course). x.under) is ∙ none in
     let whole : d.course.total ≡ total = ap (λ (x : Course). x.total) is in
-    subst (RunBy start ts d) (sym same)
-    (subst (Ran start ts) (sym is) (ran_same start ts (course_after c) next total (law.whole e)),
-     λ t le.
-         let enough : c.total ≤ t = omega (arith, whole, more, le) in
-         most t le ∙ sym (law.most t (omega (arith, enough, bits)) (most_in t b) (r.1 t enough)))
+    subst (RunBy start ts d) (sym same) (
+      subst (Ran start ts) (sym is) (ran_same start ts (course_after c) next total (law.whole e)),
+      λ t le.
+          let enough : c.total ≤ t = omega (arith, whole, more, le) in
+          most t le ∙ sym (law.most t (omega (arith, enough, bits)) (most_in t b) (r.1 t enough)),
+    )
 whole_by start us b d next total false e none r bits more is most =
     let c = b.course in
     let ts = us ++ c.next ∷ [] in
@@ -120,9 +121,10 @@ run_more : (start : Start) (us : List Next) (b d : Buffer) (bits : ℕ) (o : Opt
 run_more start us b d bits (Some f) r is same = subst (Stopped start us) (sym is) r
 run_more start us b d bits None r is same =
     let c = b.course in
-    let whole : d.course.total ≡ c.total + bits = ap (λ (x : Course). x.total) is in
-    (subst (Ran start us) (sym is) (ran_same start us c (record c.next { bits = c.next.bits + bits }) (c.total + bits) r.0),
-     λ t le. ap (λ (a : Amounts). most_with t a.most a.waiting.items) same ∙ r.1 t (omega (arith, whole, le)))
+    let whole : d.course.total ≡ c.total + bits = ap (λ (x : Course). x.total) is in (
+      subst (Ran start us) (sym is) (ran_same start us c (record c.next { bits = c.next.bits + bits }) (c.total + bits) r.0),
+      λ t le. ap (λ (a : Amounts). most_with t a.most a.waiting.items) same ∙ r.1 t (omega (arith, whole, le)),
+    )
 
 pub runs_more : (start : Start) (us : List Next) (b d : Buffer) (bits : ℕ) → HasRun start us b → HasMore b bits d → HasRun start us d
 runs_more start us b d bits h m =

@@ -31,7 +31,7 @@ by_faults a ps ns (f ∷ fs) most delays e low high d = (fs, sym e)
 
 pub said_is : (s : Sequence) (p : List ℕ) (ps : List (List ℕ)) (n : Numbered) (ns : List Numbered) → length (n ∷ ns) ≤ length (p ∷ ps) → all_bits (p ∷ ps) ≡ bits_of (nexts (times_of s) (p ∷ ps) (n ∷ ns))
     → SaidBy (account_from s.extension.low_delay s n (p ∷ ps) (n ∷ ns)) (p ∷ ps) (n ∷ ns)
-      (said_of_all (account_from s.extension.low_delay s n (p ∷ ps) (n ∷ ns)).start (all_bits (p ∷ ps)) (nexts (times_of s) (p ∷ ps) (n ∷ ns)))
+    (said_of_all (account_from s.extension.low_delay s n (p ∷ ps) (n ∷ ns)).start (all_bits (p ∷ ps)) (nexts (times_of s) (p ∷ ps) (n ∷ ns)))
 said_is s p ps n ns le bits =
     let a = account_from s.extension.low_delay s n (p ∷ ps) (n ∷ ns) in
     let ts = nexts (times_of s) (p ∷ ps) (n ∷ ns) in

@@ -101,16 +101,18 @@ rest_last false b us es next h none s = s.1 h (none refl)
 
 plain_shaped : (b c : Between) (us mid : Units) (es : Events) (next : Between) → IsOnward us mid → (b.state.picture ≡ None → c.state.picture ≡ None) → Shaped c mid es next → Shaped b us es next
 plain_shaped b c us mid es next onward keeps ih = (
-    λ h. ih.0 (seen_on us mid onward h),
-    λ h none. let r = first_on us mid onward h in rest_last r.0 c mid es next r.1 (λ off. keeps none) ih)
+  λ h. ih.0 (seen_on us mid onward h),
+  λ h none. let r = first_on us mid onward h in rest_last r.0 c mid es next r.1 (λ off. keeps none) ih,
+)
 
 header_shaped : (b c : Between) (us mid : Units) (hs es : Events) (next : Between) (v : ℕ) → IsOnward us mid → first_value us ≡ Some v → begins_piece v ≡ true → c.state.picture ≡ None
     → (PictureLast es → PictureLast (hs ++ es)) → Shaped c mid es next → Shaped b us ((closed b.state.picture b.store ++ hs) ++ es) next
 header_shaped b c us mid hs es next v onward e begins none goes ih = (
-    λ h. absurd (none_first us v e begins h),
-    λ h shut.
-        let r = first_on us mid onward h in
-        subst (λ (l : Events). PictureLast ((l ++ hs) ++ es)) (sym (closed_none b.state.picture b.store shut)) (goes (rest_last r.0 c mid es next r.1 (λ off. none) ih)))
+  λ h. absurd (none_first us v e begins h),
+  λ h shut.
+      let r = first_on us mid onward h in
+      subst (λ (l : Events). PictureLast ((l ++ hs) ++ es)) (sym (closed_none b.state.picture b.store shut)) (goes (rest_last r.0 c mid es next r.1 (λ off. none) ih)),
+)
 
 sliced_none : (o : Option Open) (row covered large : ℕ) → o ≡ None → with_slice o row covered large ≡ None
 sliced_none o row covered large e = ap (λ (p : Option Open). with_slice p row covered large) e
@@ -123,12 +125,13 @@ unfolding after begins_piece
 front_shaped b us mid (sequence s) es next fits onward ih = header_shaped b (after_part b (sequence s)) us mid (sequence_header s ∷ []) es next 0xB3 onward fits refl refl (λ h. h) ih
 front_shaped b us mid (group g) es next fits onward ih = header_shaped b (after_part b (group g)) us mid (group_header g ∷ []) es next 0xB8 onward fits refl refl (λ h. h) ih
 front_shaped b us mid (picture info extension) es next fits onward ih = (
-    λ h. absurd (none_first us 0x00 fits.0 refl h),
-    λ h shut.
-        let r = first_on us mid onward h in
-        let seen = r.2 fits.0 in
-        subst (λ (l : Events). PictureLast (l ++ es)) (sym (closed_none b.state.picture b.store shut))
-        (only_last es (ih.0 (subst (λ (s : Bool). HeadersFirst s mid) seen r.1))))
+  λ h. absurd (none_first us 0x00 fits.0 refl h),
+  λ h shut.
+      let r = first_on us mid onward h in
+      let seen = r.2 fits.0 in
+      subst (λ (l : Events). PictureLast (l ++ es)) (sym (closed_none b.state.picture b.store shut))
+      (only_last es (ih.0 (subst (λ (s : Bool). HeadersFirst s mid) seen r.1))),
+)
 front_shaped b us mid (matrices m) es next fits onward ih = plain_shaped b (after_part b (matrices m)) us mid es next onward (λ e. e) ih
 front_shaped b us mid (slice row x) es next fits onward ih = plain_shaped b (after_part b (slice row x)) us mid es next onward (λ e. sliced_none b.state.picture row x.covered (large_in x) e) ih
 front_shaped b us mid (unread_slice row u) es next fits onward ih = plain_shaped b (after_part b (unread_slice row u)) us mid es next onward (λ e. unread_none b.state.picture row e) ih
@@ -200,8 +203,8 @@ before_fits [] a h = absurd h
 before_fits (u ∷ us) a h = elim (cases_Bool (nat_eq (value_of u) 0x00)) [
   | inl on ↦ rw on (let some = a.0 in omega (arith, length-append u (joined us), some))
   | inr off ↦
-    let more = before_fits us a.3 (later u us off h) in
-    rw off (omega (arith, length-append u (joined us), more))
+      let more = before_fits us a.3 (later u us off h) in
+      rw off (omega (arith, length-append u (joined us), more))
 ]
   where
     later : (u : List ℕ) (us : Units) → nat_eq (value_of u) 0x00 ≡ false → HasPicture (u ∷ us) → HasPicture us
@@ -292,9 +295,10 @@ picture_ordered true f v vs us u begins ih h a =
     let own = are_behind (v ∷ vs) (code ∷ []) (are_code (v ∷ vs) us u a) in
     (ordered_units (v ∷ vs) (are_before (v ∷ vs) (u ∷ us) a) h, (subst IsOrdered (append-nil code) (ordered_units (code ∷ []) own tt), tt))
 picture_ordered false true v vs us u begins ih h a =
-    let phase = phase_after phases.Headers (value_of u) in
-    (ordered_units (v ∷ vs) (are_before (v ∷ vs) (u ∷ us) a) h,
-     subst (λ (l : List ℕ). AreOrdered (grouped phase l us)) (append-nil u) (ih phase u [] (phase_on [] u refl) tt (are_behind (v ∷ vs) (u ∷ us) a)))
+    let phase = phase_after phases.Headers (value_of u) in (
+      ordered_units (v ∷ vs) (are_before (v ∷ vs) (u ∷ us) a) h,
+      subst (λ (l : List ℕ). AreOrdered (grouped phase l us)) (append-nil u) (ih phase u [] (phase_on [] u refl) tt (are_behind (v ∷ vs) (u ∷ us) a)),
+    )
 picture_ordered false false v vs us u begins ih h a =
     ordered_on phases.Picture v vs us u ih tt (first-append false (v ∷ vs) (u ∷ []) h (one_plain (is_seen false (v ∷ vs)) u begins)) a
 
