@@ -1,6 +1,6 @@
 -- What the account of a buffer says at the end, from what it says of one picture more.
-use Rattle.std.proofs.Common.{◌≡◌, ℕ, ◌+◌, ◌*◌, ◌/◌, ◌≤◌, Bool, true, false, List, [], ◌∷◌, ◌++◌, length, map, Option, Some, None, Result, Ok, Err, refl, sym, ap, subst, ◌∙◌, append_assoc, arith, inl, inr}
-use Rattle.std.specs.Prelude.{max, if◌then◌else◌}
+use Rattle.std.proofs.Common.{◌≡◌, ℕ, ◌+◌, ◌*◌, ◌≤◌, Bool, true, false, List, [], ◌∷◌, ◌++◌, Option, Some, None, Result, refl, sym, ap, subst, ◌∙◌, append_assoc, arith, inl, inr}
+use Rattle.std.specs.Prelude.{if◌then◌else◌}
 use Rattle.std.proofs.lemmas.Bool.{cases_Bool}
 use Rattle.std.proofs.lemmas.List.{append-nil, map-append}
 use Rattle.std.proofs.lemmas.List.Sums.{sum_by_push}
@@ -18,8 +18,8 @@ use Rattle.m2v_judge.specs.declared.coded.CodedPicture.{CodedPicture}
 use Rattle.m2v_judge.specs.declared.course.Next.{Next}
 use Rattle.m2v_judge.specs.declared.course.Course.{Course}
 use Rattle.m2v_judge.specs.Breaking.{first_some}
-use Rattle.m2v_judge.specs.Holding.{is_whole, course_after, course_under, removed_by, amount_by, over_by, cut_at, stepped, with_more}
-use Rattle.m2v_judge.specs.Accounts.{removal_of, removals_of, fault_of, most_of, others_of, Ran, RunsOn}
+use Rattle.m2v_judge.specs.Holding.{is_whole, course_after, course_under, removed_by, amount_by, over_by, with_more}
+use Rattle.m2v_judge.specs.Accounts.{removal_of, removals_of, fault_of, most_of, others_of, Ran}
 use Rattle.m2v_judge.specs.declared.amounts.Amounts.{Amounts}
 use Rattle.m2v_judge.specs.Judging.{most_noted, most_in, finished, last_of, buffer_ended, next_of, opening_of, times_of, GoesOn, Begins, HasMore}
 use Rattle.m2v_judge.specs.Holding.{most_with}

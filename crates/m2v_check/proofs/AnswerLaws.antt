@@ -1,20 +1,17 @@
 -- What follows from what is known of an answer: a text with a cause is answered by it, and by nothing else.
-use Rattle.std.proofs.Common.{◌≡◌, inl, inr, ℕ, ◌<◌, ◌≤◌, List, ◌++◌, Option, Some, None, Result, Ok, Err, refl, sym, ap, subst, ◌∙◌, arith}
+use Rattle.std.proofs.Common.{◌≡◌, inl, inr, ℕ, List, ◌++◌, Option, Some, Result, Ok, Err, refl, ap, subst, arith}
 use Rattle.std.specs.Prelude.{IfOk, IfErr, IfSome}
-use Rattle.m2v_port.specs.Ends.{Change, Tells, change}
+use Rattle.m2v_port.specs.Ends.{Change, Tells}
 use Rattle.m2v_port.proofs.Runs.{tells}
-use Rattle.m2v_model.specs.Pieces.{Limit, pieces, most_input}
-use Rattle.m2v_model.specs.Decoding.{FaultAt}
 use Rattle.m2v_model.proofs.Unique.{exactly_one}
 use Rattle.m2v_piece.specs.declared.answer.Fault.{Fault}
 use Rattle.m2v_piece.specs.declared.answer.DecodeError.{DecodeError}
 use Rattle.m2v_piece.specs.declared.answer.DecodeError.TheVariants as errors
 use Rattle.m2v_decode.specs.declared.answer.Decoded.{Decoded}
 use Rattle.m2v_decode.specs.Answers.{OfText, AllFit, start_of, Fails as DecodeFails, IsFaulty as DecodeFaulty, IsOver as DecodeOver}
-use Rattle.m2v_decode.specs.Complete.{IsUnderLimits, IsPast, IsReached, IsLate, error_of, IsAnswered as DecodeAnswered, Gives as DecodeGives}
+use Rattle.m2v_decode.specs.Complete.{error_of, IsAnswered as DecodeAnswered, Gives as DecodeGives}
 use Rattle.m2v_decode.proofs.AnswerLaws.{of_text, passes_none, rest_fits, answered as decode_answered}
 use Rattle.m2v_check.specs.declared.verdict.Verdict.{Verdict}
-use Rattle.m2v_check.specs.Meaning.{Means}
 use Rattle.m2v_check.specs.Progress.{no_output}
 use Rattle.m2v_check.specs.Answers.{IsJudged, IsFaulty, IsOver, Fails, Gives, IsAnswered}
 use Rattle.m2v_check.proofs.OneMeaning.{decoding_in, one_meaning}

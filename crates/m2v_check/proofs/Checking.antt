@@ -1,19 +1,18 @@
 -- Piece after piece: what stands of the judge between two pieces, whatever follows.
-use Rattle.std.proofs.Common.{◌≡◌, ℕ, ◌+◌, ◌*◌, ◌<◌, ◌≤◌, ◌^◌, Bool, true, false, List, [], ◌∷◌, ◌++◌, length, map, Option, Some, None, Ok, Err, ◌⊎◌, inl, inr, refl, sym, ap, subst, ◌∙◌, append_assoc, arith}
-use Rattle.std.specs.Prelude.{is_some, IfSome, sum, if◌then◌else◌}
+use Rattle.std.proofs.Common.{◌≡◌, ℕ, ◌+◌, ◌*◌, ◌≤◌, Bool, true, false, List, [], ◌∷◌, ◌++◌, length, Option, Some, None, Ok, Err, ◌⊎◌, inl, inr, refl, sym, ap, subst, ◌∙◌, append_assoc, arith}
+use Rattle.std.specs.Prelude.{IfSome, if◌then◌else◌}
 use Rattle.std.proofs.lemmas.List.{append-nil, length-append}
 use Rattle.m2v_port.specs.Ends.{Change, change}
-use Rattle.m2v_port.specs.Port.{Moves}
 use Rattle.m2v_model.specs.declared.phase.Phase.TheVariants.{Before}
 use Rattle.m2v_model.specs.declared.state.Sequence.{Sequence}
 use Rattle.m2v_model.specs.declared.notes.Notes.{Notes}
 use Rattle.m2v_model.specs.declared.notes.PictureNote.{PictureNote}
 use Rattle.m2v_model.specs.Units.{Units, cut}
 use Rattle.m2v_model.specs.States.{at_first}
-use Rattle.m2v_model.specs.Pictures.{Picture, Pictures, Events, sequence_header, group_header, coded_picture, pictures_in}
-use Rattle.m2v_model.specs.PieceNotes.{PieceNotes, noted, notes_of, note_of, first_note}
+use Rattle.m2v_model.specs.Pictures.{Pictures, Events, sequence_header, group_header, coded_picture, pictures_in}
+use Rattle.m2v_model.specs.PieceNotes.{PieceNotes, noted, notes_of, first_note}
 use Rattle.m2v_model.specs.Pieces.{pieces, grouped}
-use Rattle.m2v_model.specs.Lawful.{Numbered, numbered, all_numbered}
+use Rattle.m2v_model.specs.Lawful.{numbered, all_numbered}
 use Rattle.m2v_model.specs.Buffering.{code_bits}
 use Rattle.m2v_model.specs.ByPieces.{Between, Course, at_start as text_start, piece_read, continued, pieces_read, units_read, end_of, IsOne, TellInTurn}
 use Rattle.m2v_model.proofs.PieceLaws.{placed, piece_is, pieces_read-append, end_of-append}
@@ -30,7 +29,7 @@ use Rattle.m2v_judge.specs.declared.judge.Judge.{Judge}
 use Rattle.m2v_judge.specs.Running.{no_rules}
 use Rattle.m2v_judge.specs.Judging.{IsPlaced}
 use Rattle.m2v_model.specs.declared.state.State.{State}
-use Rattle.m2v_check.proofs.Telling.{Says, IsGoodPicture, AreHeaded, HaveDelays, IsGoodState, last_in, says_on, says_nothing, units_say, waits_before}
+use Rattle.m2v_check.proofs.Telling.{Says, IsGoodPicture, AreHeaded, HaveDelays, IsGoodState, says_on, says_nothing, units_say, waits_before}
 use Rattle.m2v_check.proofs.Ordered.{AreOrdered, PictureLast, pieces_ordered, units_ordered, code_within}
 use Rattle.m2v_check.proofs.Onward.{JudgeSo, Onward, judge_none, judge_on, none_or_one}
 

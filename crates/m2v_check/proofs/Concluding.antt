@@ -1,13 +1,12 @@
 -- What is said of all pictures of a stream is what the standard's account says.
-use Rattle.std.proofs.Common.{◌≡◌, ℕ, ◌+◌, ◌-◌, ◌/◌, ◌<◌, ◌≤◌, List, [], ◌∷◌, ◌++◌, length, map, Option, Some, None, Result, Ok, Err, refl, sym, ap, subst, ◌∙◌, arith}
+use Rattle.std.proofs.Common.{◌≡◌, ℕ, ◌/◌, ◌<◌, ◌≤◌, List, [], ◌∷◌, length, map, Some, None, Result, Ok, Err, sym, ap, subst, ◌∙◌, arith}
 use Rattle.std.specs.Prelude.{drop}
-use Rattle.m2v_vbv.specs.Annex.{Start, Removal, removed}
+use Rattle.m2v_vbv.specs.Annex.{Removal, removed}
 use Rattle.m2v_vbv.specs.declared.fault.AccountFault.{AccountFault}
 use Rattle.m2v_model.specs.declared.state.Sequence.{Sequence}
 use Rattle.m2v_model.specs.Lawful.{Numbered}
 use Rattle.m2v_model.specs.Buffering.{StreamAccount, account_from, unsafe_from, unsafe_in, amounts_from, greatest, codes, exact_delays, exact_delays_from, other_delays, low_of, high_of}
 use Rattle.m2v_judge.specs.declared.buffer.BufferFigures.{BufferFigures as Found}
-use Rattle.m2v_judge.specs.declared.course.Next.{Next}
 use Rattle.m2v_judge.specs.declared.times.Times.{Times}
 use Rattle.m2v_judge.specs.Accounts.{removals_of, stream_of, first_fault, most_of, others_of}
 use Rattle.m2v_judge.specs.Judging.{finished, times_of}

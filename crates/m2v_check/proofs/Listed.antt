@@ -1,20 +1,16 @@
 -- The account of a stream by its pieces and pictures, as lists: what is removed, and what is said of it.
-use Rattle.std.proofs.Common.{◌≡◌, ℕ, suc, ◌+◌, ◌-◌, ◌*◌, ◌/◌, ◌<◌, ◌≤◌, Bool, List, [], ◌∷◌, ◌++◌, length, map, Option, Some, None, Result, Ok, Err, refl, sym, ap, subst, ◌∙◌, append_assoc, arith}
-use Rattle.std.specs.Prelude.{sum, min, max, drop, nat_eq, if◌then◌else◌}
+use Rattle.std.proofs.Common.{◌≡◌, ℕ, ◌+◌, ◌-◌, ◌*◌, ◌/◌, ◌<◌, ◌≤◌, List, [], ◌∷◌, ◌++◌, length, map, refl, sym, ap, ◌∙◌, arith}
+use Rattle.std.specs.Prelude.{sum, min, drop, nat_eq, if◌then◌else◌}
 use Rattle.std.proofs.lemmas.List.{map-append}
 use Rattle.std.proofs.lemmas.List.Sums.{sum_by_push, sum_by-cons}
-use Rattle.m2v_vbv.specs.Annex.{Start, Removal, removed, arrived, Held}
+use Rattle.m2v_vbv.specs.Annex.{Start, Removal, removed, Held}
 use Rattle.m2v_vbv.specs.declared.fault.AccountFault.{AccountFault}
-use Rattle.m2v_model.specs.declared.state.Sequence.{Sequence}
 use Rattle.m2v_model.specs.Lawful.{Numbered}
-use Rattle.m2v_model.specs.Buffering.{StreamAccount, BufferFigures, bits_of_piece, code_bits, codes, sizes, intervals, joined_removals, account_from, unsafe_at, unsafe_from, unsafe_in, amounts_from, least, low_of, high_of, greatest, exact_delay, exact_delays_from, exact_delays, other_delays, figures_of, first_code}
+use Rattle.m2v_model.specs.Buffering.{StreamAccount, bits_of_piece, code_bits, codes, sizes, intervals, joined_removals, unsafe_at, unsafe_from, amounts_from, least, low_of, exact_delay, exact_delays_from, other_delays}
 use Rattle.m2v_judge.specs.declared.course.Next.{Next}
 use Rattle.m2v_judge.specs.declared.times.Times.{Times}
-use Rattle.m2v_judge.specs.declared.buffer.BufferFigures.{BufferFigures as Found}
 use Rattle.m2v_judge.specs.Holding.{time_behind, repeats_behind}
-use Rattle.m2v_judge.specs.Accounts.{removal_of, removals_of, stream_of, first_fault, fault_of, most_of, others_from, others_of}
-use Rattle.m2v_judge.specs.Judging.{finished, times_of}
-use Rattle.m2v_check.proofs.Accounted.{said_of_all}
+use Rattle.m2v_judge.specs.Accounts.{removal_of, removals_of, others_from, others_of}
 
 -- ---- pictures that are removed
 

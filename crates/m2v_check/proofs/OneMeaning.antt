@@ -1,17 +1,14 @@
 -- A text has one verdict.
-use Rattle.std.proofs.Common.{◌≡◌, ℕ, Bool, true, false, List, length, map, refl, sym, ap, ◌∙◌}
-use Rattle.std.specs.Prelude.{sum}
-use Rattle.m2v_model.specs.Pieces.{pieces}
+use Rattle.std.proofs.Common.{◌≡◌, ℕ, Bool, true, false, List, length, refl, sym, ap, ◌∙◌}
 use Rattle.m2v_model.specs.Streams.{Sofar}
 use Rattle.m2v_model.specs.Decoding.{Stream, Decodes, events, pictures, frames_of}
-use Rattle.m2v_model.specs.Lawful.{Breach, Lawful, Broken, breach, is_variable, all_numbered}
-use Rattle.m2v_model.specs.Buffering.{BufferFigures, HasFigures}
+use Rattle.m2v_model.specs.Lawful.{Breach, breach, is_variable, all_numbered}
 use Rattle.m2v_model.proofs.Unique.{exactly_one}
 use Rattle.m2v_model.proofs.VerdictLaws.{one_verdict}
 use Rattle.m2v_check.specs.declared.verdict.Figures.{Figures}
 use Rattle.m2v_check.specs.declared.verdict.Verdict.{Verdict}
 use Rattle.m2v_check.specs.declared.verdict.Verdict.TheVariants as verdicts
-use Rattle.m2v_check.specs.Meaning.{HasCounts, HasRate, buffer_figures, IsLawful, IsVariable, IsUnsafe, Means}
+use Rattle.m2v_check.specs.Meaning.{HasCounts, HasRate, buffer_figures, Means}
 
 one_tree : (text : List ℕ) (a b : Sofar) → Stream text a → Stream text b → a ≡ b
 one_tree text = (exactly_one text).one_tree

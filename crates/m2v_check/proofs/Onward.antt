@@ -1,14 +1,14 @@
 -- What the judge keeps of the pieces so far, and of one piece more.
-use Rattle.std.proofs.Common.{◌≡◌, ℕ, suc, ◌+◌, ◌-◌, ◌*◌, ◌<◌, ◌≤◌, Bool, true, false, List, [], ◌∷◌, ◌++◌, length, map, Option, Some, None, ◌⊎◌, refl, sym, ap, subst, ◌∙◌, arith, inl, inr}
-use Rattle.std.specs.Prelude.{sum, is_some, IsSome, ◌||◌, not, if◌then◌else◌}
-use Rattle.std.proofs.lemmas.List.{length-append, append-nil, map-append}
+use Rattle.std.proofs.Common.{◌≡◌, ℕ, ◌+◌, ◌-◌, ◌*◌, ◌<◌, ◌≤◌, Bool, true, false, List, [], ◌∷◌, ◌++◌, length, map, Option, Some, None, ◌⊎◌, refl, sym, ap, subst, ◌∙◌, arith, inl, inr}
+use Rattle.std.specs.Prelude.{sum, is_some, IsSome, ◌||◌, not}
+use Rattle.std.proofs.lemmas.List.{map-append}
 use Rattle.std.proofs.lemmas.List.Sums.{sum_by_push}
 use Rattle.m2v_vbv.specs.Annex.{Start}
 use Rattle.m2v_model.specs.declared.state.Sequence.{Sequence}
 use Rattle.m2v_model.specs.declared.notes.Notes.{Notes}
 use Rattle.m2v_model.specs.declared.notes.PictureNote.{PictureNote}
 use Rattle.m2v_model.specs.States.{is_frame, first_or}
-use Rattle.m2v_model.specs.Pictures.{Picture, Pictures, Events, sequence_header, group_header, coded_picture, pictures_in}
+use Rattle.m2v_model.specs.Pictures.{Picture, Events, sequence_header, group_header, coded_picture, pictures_in}
 use Rattle.m2v_model.specs.PieceNotes.{PieceNotes, noted, notes_of, note_of, first_note}
 use Rattle.m2v_model.specs.Lawful.{Numbered, numbered, all_numbered, sequence_breaches, rate_of, buffer_of}
 use Rattle.m2v_model.specs.Buffering.{bits_of_piece, code_bits, first_code}
@@ -20,10 +20,10 @@ use Rattle.m2v_judge.specs.declared.course.Next.{Next}
 use Rattle.m2v_judge.specs.declared.course.Course.{Course}
 use Rattle.m2v_judge.specs.declared.times.Times.{Times}
 use Rattle.m2v_judge.specs.Breaking.{found, numbered_of}
-use Rattle.m2v_judge.specs.Holding.{time_behind, repeats_behind, with_more, stepped}
+use Rattle.m2v_judge.specs.Holding.{time_behind, repeats_behind}
 use Rattle.m2v_judge.specs.Running.{no_rules, coded_next}
 use Rattle.m2v_judge.specs.Laws.{rules_after, Alternates}
-use Rattle.m2v_judge.specs.Judging.{judged_rules, with_note, times_of, next_of, GoesOn, Begins, HasMore, HaveMore, BeginsBy, Accounts, AccountsBy, AccountsNote}
+use Rattle.m2v_judge.specs.Judging.{judged_rules, with_note, times_of, GoesOn, Begins, HasMore, HaveMore, BeginsBy, Accounts, AccountsBy, AccountsNote}
 use Rattle.m2v_check.proofs.Telling.{first_in, last_in, AreHeaded, first-append}
 use Rattle.m2v_check.proofs.Ordered.{PictureLast}
 use Rattle.m2v_check.proofs.Accounted.{HasRun, runs_goes, runs_more, runs_begins}

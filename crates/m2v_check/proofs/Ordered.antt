@@ -1,24 +1,23 @@
 -- A piece tells its headers before its picture, and a picture only where one of its units is a picture.
-use Rattle.std.proofs.Common.{◌≡◌, ℕ, ◌+◌, ◌*◌, ◌≤◌, Bool, true, false, List, [], ◌∷◌, ◌++◌, length, take, Option, Some, None, Ok, ◌⊎◌, inl, inr, refl, sym, ap, subst, ◌∙◌, append_assoc, arith, All}
-use Rattle.std.specs.Prelude.{nat_eq, if◌then◌else◌, ◌||◌}
-use Rattle.std.proofs.lemmas.Bool.{cases_Bool, eqb-true, ne_eqb}
+use Rattle.std.proofs.Common.{◌≡◌, ℕ, ◌+◌, ◌*◌, ◌≤◌, Bool, true, false, List, [], ◌∷◌, ◌++◌, length, take, Option, Some, None, Ok, ◌⊎◌, inl, inr, refl, sym, ap, subst, ◌∙◌, append_assoc, arith}
+use Rattle.std.specs.Prelude.{nat_eq, if◌then◌else◌}
+use Rattle.std.proofs.lemmas.Bool.{cases_Bool, eqb-true}
 use Rattle.std.proofs.lemmas.List.{append-nil, length-append}
 use Rattle.m2v_model.specs.declared.phase.Phase.{Phase}
 use Rattle.m2v_model.specs.declared.phase.Phase.TheVariants as phases
-use Rattle.m2v_model.specs.declared.state.State.{State}
 use Rattle.m2v_model.specs.declared.state.Open.{Open}
 use Rattle.m2v_model.specs.Units.{Units, cut, joined, AreUnits}
-use Rattle.m2v_model.specs.States.{with_slice, with_unread_slice, after_end}
+use Rattle.m2v_model.specs.States.{with_slice, with_unread_slice}
 use Rattle.m2v_model.specs.Slices.{large_in}
-use Rattle.m2v_model.specs.Streams.{Part, sequence, group, picture, matrices, slice, unread_slice, skipped_unit, ending, over, after, value_of}
-use Rattle.m2v_model.specs.Pictures.{Store, Picture, Pictures, Events, sequence_header, group_header, coded_picture, pictures_in, closed, told_by}
-use Rattle.m2v_model.specs.Pieces.{phase_after, begins_piece, is_end, piece_of, grouped, pieces}
+use Rattle.m2v_model.specs.Streams.{sequence, group, picture, matrices, slice, unread_slice, skipped_unit, ending, over, after, value_of}
+use Rattle.m2v_model.specs.Pictures.{Store, Events, sequence_header, group_header, coded_picture, pictures_in, closed}
+use Rattle.m2v_model.specs.Pieces.{phase_after, begins_piece, piece_of, grouped, pieces}
 use Rattle.m2v_model.specs.Buffering.{before_picture, code_bits}
 use Rattle.m2v_model.specs.ByPieces.{Between, after_part, units_read}
 use Rattle.m2v_model.proofs.CutLaws.{cut_cuts, cut_units, joined-append, are_before, are_behind, are_code}
-use Rattle.m2v_model.proofs.PieceLaws.{IsOpen, open_after, piece_whole, value_code}
+use Rattle.m2v_model.proofs.PieceLaws.{piece_whole}
 use Rattle.m2v_model.proofs.EventLaws.{pictures_in-append}
-use Rattle.m2v_check.proofs.UnitGifts.{PartFits, IsLast, IsOnward, IsBehind, first_value}
+use Rattle.m2v_check.proofs.UnitGifts.{IsOnward, first_value}
 use Rattle.m2v_check.proofs.Telling.{AtLast, InFront, by_units}
 
 -- ---- headers before the picture

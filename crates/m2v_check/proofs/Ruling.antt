@@ -1,6 +1,6 @@
 -- What the judge keeps of events, piece by piece, is what stands of all events.
-use Rattle.std.proofs.Common.{◌≡◌, ℕ, ◌+◌, ◌*◌, ◌<◌, ◌≤◌, Bool, true, false, List, [], ◌∷◌, ◌++◌, length, map, Option, Some, None, refl, sym, ap, subst, ◌∙◌, append_assoc, arith, inl, inr}
-use Rattle.std.specs.Prelude.{is_some, IsSome, if◌then◌else◌, nat_lt, ◌||◌, not}
+use Rattle.std.proofs.Common.{◌≡◌, ℕ, ◌+◌, ◌*◌, ◌≤◌, Bool, true, false, List, [], ◌∷◌, ◌++◌, length, map, Option, Some, None, refl, sym, ap, subst, ◌∙◌, arith, inl, inr}
+use Rattle.std.specs.Prelude.{IsSome, if◌then◌else◌, nat_lt}
 use Rattle.std.proofs.lemmas.Bool.{cases_Bool}
 use Rattle.std.proofs.lemmas.List.{append-nil}
 use Rattle.m2v_head.specs.declared.sequence.SequenceInfo.{SequenceInfo}
@@ -8,14 +8,13 @@ use Rattle.m2v_head.specs.declared.sequence.SequenceExtension.{SequenceExtension
 use Rattle.m2v_model.specs.declared.state.Sequence.{Sequence}
 use Rattle.m2v_model.specs.declared.notes.Notes.{Notes}
 use Rattle.m2v_model.specs.declared.notes.PictureNote.{PictureNote}
-use Rattle.m2v_model.specs.States.{first_or, is_frame}
-use Rattle.m2v_model.specs.Pictures.{Picture, Pictures, Events, sequence_header, group_header, coded_picture, pictures_in}
+use Rattle.m2v_model.specs.States.{first_or}
+use Rattle.m2v_model.specs.Pictures.{Picture, Events, sequence_header, group_header, coded_picture, pictures_in}
 use Rattle.m2v_model.specs.PieceNotes.{PieceNotes, noted, notes_of, note_of, first_note, has_group, header_pair}
 use Rattle.m2v_model.specs.Lawful.{Numbered, numbered, all_numbered, sequences_in, sequence_breaches}
 use Rattle.m2v_model.specs.Buffering.{code_bits}
 use Rattle.m2v_judge.specs.declared.rules.Rules.{Rules}
 use Rattle.m2v_judge.specs.declared.broken.BrokenRule.{BrokenRule}
-use Rattle.m2v_judge.specs.declared.coded.CodedPicture.{CodedPicture}
 use Rattle.m2v_judge.specs.Breaking.{found, first_some}
 use Rattle.m2v_judge.specs.Running.{no_rules, with_sequence, with_group, with_picture, coded_next, lesser, broken_in, all_broken}
 use Rattle.m2v_judge.specs.Laws.{rules_after, with_coded}

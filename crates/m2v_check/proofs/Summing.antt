@@ -1,6 +1,6 @@
 -- All pieces were judged: what that says of the text.
-use Rattle.std.proofs.Common.{◌≡◌, ℕ, ◌+◌, ◌<◌, ◌≤◌, Bool, true, false, List, [], ◌∷◌, ◌++◌, length, map, Option, Some, None, Result, Ok, Err, refl, sym, ap, subst, ◌∙◌, arith}
-use Rattle.std.specs.Prelude.{IsSome, sum, drop}
+use Rattle.std.proofs.Common.{◌≡◌, ℕ, ◌≤◌, List, [], ◌∷◌, length, map, Option, Some, None, Result, Ok, Err, refl, sym, ap, subst, ◌∙◌, arith}
+use Rattle.std.specs.Prelude.{IsSome, sum}
 use Rattle.std.proofs.lemmas.List.{append-nil}
 use Rattle.m2v_vbv.specs.declared.fault.AccountFault.{AccountFault}
 use Rattle.m2v_model.specs.declared.state.Sequence.{Sequence}
@@ -8,18 +8,16 @@ use Rattle.m2v_model.specs.Pictures.{Events, sequence_header, group_header, code
 use Rattle.m2v_model.specs.Pieces.{pieces}
 use Rattle.m2v_model.specs.Decoding.{low_delay_of}
 use Rattle.m2v_model.specs.ByPieces.{at_start as text_start, pieces_read}
-use Rattle.m2v_model.specs.Lawful.{Numbered, numbered, all_numbered, sequence_breaches}
-use Rattle.m2v_model.specs.Buffering.{StreamAccount, BufferFigures, account_by, account_from, figures_of, unsafe_in}
+use Rattle.m2v_model.specs.Lawful.{Numbered, all_numbered, sequence_breaches}
+use Rattle.m2v_model.specs.Buffering.{StreamAccount, account_by, account_from, figures_of}
 use Rattle.m2v_decoder.specs.Decoding.{Decoding, between}
 use Rattle.m2v_decode.specs.Answers.{start_of}
 use Rattle.m2v_judge.specs.declared.judge.Judge.{Judge}
 use Rattle.m2v_judge.specs.declared.buffer.Buffer.{Buffer}
 use Rattle.m2v_judge.specs.declared.buffer.BufferFigures.{BufferFigures as Found}
-use Rattle.m2v_judge.specs.declared.course.Next.{Next}
-use Rattle.m2v_judge.specs.declared.rules.Rules.{Rules}
 use Rattle.m2v_judge.specs.Breaking.{found}
-use Rattle.m2v_judge.specs.Running.{no_rules, broken_in}
-use Rattle.m2v_judge.specs.Laws.{rules_after, first_low_delay}
+use Rattle.m2v_judge.specs.Running.{broken_in}
+use Rattle.m2v_judge.specs.Laws.{first_low_delay}
 use Rattle.m2v_judge.specs.Judging.{ended_by, times_of}
 use Rattle.m2v_check.specs.Progress.{IsSaid, IsAllJudged}
 use Rattle.m2v_check.proofs.Telling.{first_in}
@@ -27,7 +25,7 @@ use Rattle.m2v_check.proofs.Accounted.{bits_of, bits_push, said_of_all, ended_is
 use Rattle.m2v_check.proofs.Listed.{nexts, all_bits, nexts_bits}
 use Rattle.m2v_check.proofs.Concluding.{SaidBy, said_is}
 use Rattle.m2v_check.proofs.Ruling.{first_breaks}
-use Rattle.m2v_check.proofs.Onward.{AccountSo, Runs, start_by, first_stays}
+use Rattle.m2v_check.proofs.Onward.{AccountSo, Runs, first_stays}
 use Rattle.m2v_check.proofs.Checking.{JudgedSoFar}
 
 first_low : (es : Events) → first_low_delay es ≡ low_delay_of (first_in None es)

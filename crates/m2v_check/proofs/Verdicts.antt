@@ -1,9 +1,9 @@
 -- The end of the text: the verdict that is told there is the text's.
-use Rattle.std.proofs.Common.{◌≡◌, ℕ, suc, zero, ◌+◌, ◌*◌, ◌<◌, ◌≤◌, Bool, true, false, cond, List, [], ◌∷◌, ◌++◌, length, map, Option, Some, None, Result, Ok, Err, refl, sym, ap, subst, ◌∙◌, arith}
+use Rattle.std.proofs.Common.{◌≡◌, ℕ, ◌+◌, ◌*◌, ◌<◌, Bool, true, false, cond, List, [], ◌∷◌, ◌++◌, length, map, Option, Some, None, Result, Ok, Err, refl, sym, ap, subst, ◌∙◌, arith}
 use Rattle.std.specs.Prelude.{not, nat_eq, sum, if◌then◌else◌}
 use Rattle.std.proofs.lemmas.Bool.{ne_eqb}
 use Rattle.std.proofs.lemmas.List.{append-nil}
-use Rattle.m2v_port.specs.Ends.{Change, change}
+use Rattle.m2v_port.specs.Ends.{change}
 use Rattle.m2v_vbv.specs.declared.fault.AccountFault.{AccountFault}
 use Rattle.m2v_model.specs.declared.state.Sequence.{Sequence}
 use Rattle.m2v_model.specs.declared.fault.FaultKind.{FaultKind}
@@ -13,10 +13,10 @@ use Rattle.m2v_model.specs.PieceNotes.{note_of}
 use Rattle.m2v_model.specs.Pieces.{pieces}
 use Rattle.m2v_model.specs.Streams.{Sofar}
 use Rattle.m2v_model.specs.States.{none_waits}
-use Rattle.m2v_model.specs.Decoding.{Stream, Decodes, events, pictures, frames_of, low_delay_of}
+use Rattle.m2v_model.specs.Decoding.{Stream, events, pictures, frames_of, low_delay_of}
 use Rattle.m2v_model.specs.ByPieces.{Between, Course, at_start as text_start, pieces_read, units_read, text_ended, end_read, end_of, text_read, behind, continued, IsRead}
-use Rattle.m2v_model.specs.Lawful.{Breach, Breaches, Numbered, Lawful, Broken, breach, breaches, breaches_of, numbered, all_numbered, is_variable}
-use Rattle.m2v_model.specs.Buffering.{StreamAccount, BufferFigures, account_by, account_in, unsafe_in, figures_of, figures_in, Safe, FirstUnsafe, HasFigures}
+use Rattle.m2v_model.specs.Lawful.{Breaches, breach, breaches, breaches_of, numbered, all_numbered, is_variable}
+use Rattle.m2v_model.specs.Buffering.{account_by, account_in}
 use Rattle.m2v_model.proofs.Unique.{exactly_one}
 use Rattle.m2v_model.proofs.PieceLaws.{placed, piece_none, rest_read, rest_none, rest_read-append, text_rest, by_pieces}
 use Rattle.m2v_piece.specs.Cutting.{Cutting}
@@ -25,8 +25,8 @@ use Rattle.m2v_piece.specs.declared.answer.DecodeError.TheVariants as errors
 use Rattle.m2v_check.proofs.AnswerLaws.{fails_here}
 use Rattle.m2v_decoder.specs.Decoding.{Decoding, between, due_of, Finished}
 use Rattle.m2v_decode.specs.declared.answer.Decoded.{Decoded}
-use Rattle.m2v_decode.specs.Answers.{OfText, AllFit, PiecesRead, start_of, place_behind, IsDecoded}
-use Rattle.m2v_decode.specs.Progress.{IsDone, Ends as DecodeEnds}
+use Rattle.m2v_decode.specs.Answers.{OfText, start_of, IsDecoded}
+use Rattle.m2v_decode.specs.Progress.{IsDone}
 use Rattle.m2v_decode.proofs.Going.{moved_some}
 use Rattle.m2v_decode.proofs.Ending.{done_ok, done_err}
 use Rattle.m2v_judge.specs.declared.rules.Rules.{Rules}
@@ -38,11 +38,10 @@ use Rattle.m2v_judge.specs.Running.{no_rules, with_sequence, with_group, with_pi
 use Rattle.m2v_judge.specs.Laws.{rules_after, with_coded, first_low_delay}
 use Rattle.m2v_judge.specs.Judging.{judgement_of, ended_by}
 use Rattle.m2v_judge.proofs.RuleLaws.{is_found}
-use Rattle.m2v_check.specs.declared.verdict.Figures.{Figures}
 use Rattle.m2v_check.specs.declared.verdict.Verdict.{Verdict}
-use Rattle.m2v_check.specs.Meaning.{HasCounts, HasRate, IsLawful, IsVariable, IsUnsafe, Means, buffer_figures}
+use Rattle.m2v_check.specs.Meaning.{HasCounts, Means}
 use Rattle.m2v_check.specs.Answers.{IsJudged, Fails}
-use Rattle.m2v_check.specs.Progress.{none_held, none_failed, no_output, figures_found, IsSaid, IsAllJudged, IsJudgedText, verdict_of, said, Ends, EndFails}
+use Rattle.m2v_check.specs.Progress.{none_held, none_failed, no_output, IsSaid, IsAllJudged, IsJudgedText, verdict_of, said, Ends, EndFails}
 
 -- ---- whether the rate is constant
 

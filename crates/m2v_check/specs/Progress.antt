@@ -1,5 +1,5 @@
 -- Checking under way: what the judge knows when all pieces were read, the end of the text, and the verdict that is told there.
-use Rattle.std.specs.Prelude.{◌≡◌, ℕ, ◌+◌, Bool, false, List, [], ◌∷◌, Option, Some, None, length, map, sum, Result, Ok, Err}
+use Rattle.std.specs.Prelude.{◌≡◌, ℕ, ◌+◌, false, List, [], ◌∷◌, Option, Some, None, length, map, sum, Result, Ok, Err}
 use Rattle.m2v_port.specs.Ends.{Change, change}
 use Rattle.m2v_model.specs.Pictures.{Events, pictures_in}
 use Rattle.m2v_model.specs.Pieces.{pieces}

@@ -1,5 +1,5 @@
-use Rattle.std.proofs.Common.{None, refl, subst, sym}
-use Rattle.m2v_decode.proofs.Putting.{HasPutSome, put_more, put_all}
+use Rattle.std.proofs.Common.{refl, subst, sym}
+use Rattle.m2v_decode.proofs.Putting.{HasPutSome, put_more}
 use Rattle.m2v_check.specs.Progress.{no_output, none_held, none_failed}
 use Rattle.m2v_check.proofs.whole.pass_frames.Goals as goal
 
