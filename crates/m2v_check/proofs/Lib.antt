@@ -1,0 +1,13 @@
+pub mod OneMeaning
+pub mod AnswerLaws
+pub mod UnitGifts
+pub mod Telling
+pub mod Ordered
+pub mod Accounted
+pub mod Listed
+pub mod Concluding
+pub mod Ruling
+pub mod Onward
+pub mod Checking
+pub mod Summing
+pub mod Verdicts

@@ -1,0 +1,142 @@
+ghost use Rattle.std.specs.Prelude.{◌≡◌, ◌≤◌, ◌<◌, ◌^◌, IfOk, IfErr, OnOk, false, None};
+ghost use Rattle.m2v_port.specs.Ends.{change, Tells};
+ghost use Rattle.m2v_decode.specs.Answers.{OfText};
+ghost use Rattle.m2v_decoder.specs.Decoding.{at_start};
+ghost use Rattle.m2v_decode.specs.Progress.{before_all, HasPut, IsDone};
+ghost use Rattle.m2v_judge.specs.Running.{no_rules};
+ghost use Rattle.m2v_check.specs.Progress.{no_output, verdict_of, IsJudgedText, Ends, EndFails};
+ghost use Rattle.m2v_check.specs.Answers.{IsJudged, Fails, IsAnswered};
+
+use crate::verdict::{Figures, Verdict};
+use m2v_decoder::Decoder;
+use m2v_judge::{Judge, Judgement};
+use m2v_piece::{Cutter, DecodeError};
+use m2v_port::Source;
+use std::alloc::Global;
+
+/// Takes the frames that are due, and hands them back at once: none is looked at.
+fn pass_frames(decoder: &mut Decoder)
+    requires going { decoder.old.failed ≡ false }
+    ensures put { HasPut decoder.old decoder.new }
+{
+    while let Some(frame) = decoder.due() {
+        decoder.recycle(frame);
+    }
+}
+
+/// Reads piece after piece, and judges each.
+fn read_pieces<S: Source>(
+    alloc: Global,
+    cutter: &mut Cutter,
+    decoder: &mut Decoder,
+    judge: &mut Judge,
+    input: &mut S,
+) -> Result<(), DecodeError>
+    requires cutter { cutter.old ≡ before_all }
+    requires decoder { decoder.old ≡ at_start }
+    requires rules { judge.old.rules ≡ no_rules }
+    requires none { judge.old.buffer ≡ None }
+    requires bytes { judge.old.bytes ≡ 0 }
+    ensures ok { OnOk result (IsDone
+        (change S.left S.faults input.old input.new) no_output cutter.new decoder.new) }
+    ensures judged { OnOk result (IsJudgedText
+        (change S.left S.faults input.old input.new) decoder.new judge.new) }
+    ensures most { OnOk result (cutter.new.place ≤ 2 ^ 36) }
+    ensures few { OnOk result (judge.new.rules.pictures < 2 ^ 60) }
+    ensures err { IfErr result (Fails (change S.left S.faults input.old input.new)) }
+    ensures input { S.faults input.old ≤ S.faults input.new }
+{
+    loop {
+        match cutter.next_piece(alloc, input) {
+            Err(e) => return Err(e),
+            Ok(None) => return Ok(()),
+            Ok(Some(piece)) => {
+                let notes = decoder.piece(alloc, &piece)?;
+                judge.piece(alloc, &notes, piece.place, piece.length)?;
+                pass_frames(decoder);
+            }
+        }
+    }
+}
+
+/// The verdict of a judgement, with what is counted of the stream.
+fn verdict(judgement: &Judgement, frames: u64, pictures: u64, bytes: u64) -> Verdict
+    ensures value { result ≡ verdict_of judgement.now frames pictures bytes }
+{
+    let counted = Figures {
+        frames,
+        pictures,
+        bytes,
+        low: 0,
+        high: 0,
+        delays: 0,
+    };
+    match judgement {
+        Judgement::Unlawful(b) => Verdict::Unlawful {
+            rule: b.rule,
+            picture: b.picture,
+            have: b.have,
+            need: b.need,
+        },
+        Judgement::Variable => Verdict::Variable(counted),
+        Judgement::Unsafe(fault) => Verdict::Buffer(*fault),
+        Judgement::Lawful(f) => Verdict::Lawful(Figures {
+            low: f.low,
+            high: f.high,
+            delays: f.delays,
+            ..counted
+        }),
+    }
+}
+
+/// Ends the stream, and judges it.
+fn finish(end: u64, decoder: &mut Decoder, judge: &mut Judge) -> Result<Verdict, DecodeError>
+    requires going { decoder.old.failed ≡ false }
+    requires before { decoder.old.ended ≡ false }
+    requires end { end ≤ 2 ^ 36 }
+    requires few { judge.old.rules.pictures < 2 ^ 60 }
+    ensures ok { IfOk result (Ends decoder.old end judge.old) }
+    ensures err { IfErr result (EndFails decoder.old end) }
+{
+    match decoder.end(end) {
+        Err(f) => return Err(DecodeError::Stream(f)),
+        Ok(()) => {}
+    }
+    pass_frames(decoder);
+    let bytes = judge.bytes;
+    let judgement = judge.finish()?;
+    Ok(verdict(&judgement, decoder.shown(), decoder.pictures(), bytes))
+}
+
+/// Reads piece after piece to the end, and judges the stream there.
+fn by_pieces<S: Source>(alloc: Global, input: &mut S) -> Result<Verdict, DecodeError>
+    ensures ok { IfOk result (λ v. OfText
+        (change S.left S.faults input.old input.new) (λ text. IsJudged text v)) }
+    ensures err { IfErr result (Fails (change S.left S.faults input.old input.new)) }
+    ensures input { S.faults input.old ≤ S.faults input.new }
+{
+    let mut cutter = Cutter::new(alloc)?;
+    let mut decoder = Decoder::new(alloc)?;
+    let mut judge = Judge::new();
+    read_pieces(alloc, &mut cutter, &mut decoder, &mut judge, input)?;
+    finish(cutter.end(), &mut decoder, &mut judge)
+}
+
+/// Checks a stream: reads it to its end code or to the input's end, and says whether it keeps the rules, and whether the
+/// buffer bears it.
+///
+/// # Errors
+/// The first fault of the stream; too long or too large, by the input's limits; a failed input; want of memory. Write
+/// never comes.
+pub fn check<S: Source>(alloc: Global, input: &mut S) -> Result<Verdict, DecodeError>
+    ensures ok { IfOk result (λ v. OfText
+        (change S.left S.faults input.old input.new) (λ text. IsJudged text v)) }
+    ensures err { IfErr result (Fails (change S.left S.faults input.old input.new)) }
+    // A text that has a verdict, that has a first fault or that passes a limit is answered so, and by nothing else.
+    ensures answer { Tells
+        (change S.left S.faults input.old input.new) (IsAnswered
+        (change S.left S.faults input.old input.new) result) }
+    ensures input { S.faults input.old ≤ S.faults input.new }
+{
+    by_pieces(alloc, input)
+}
