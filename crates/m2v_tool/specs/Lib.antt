@@ -1,5 +1,6 @@
 pub mod Simple
 pub mod Words
+pub mod EncodeWords
 pub mod Endings
 pub mod Runs
 pub mod Coding
