@@ -5,4 +5,5 @@ pub mod Endings
 pub mod Runs
 pub mod Coding
 pub mod Decoding
+pub mod Checking
 pub mod Commands

@@ -3,6 +3,7 @@ ghost use Rattle.m2v_port.specs.Ends.{change, SinkStays};
 ghost use Rattle.m2v_tool.specs.Endings.{Told};
 ghost use Rattle.m2v_tool.specs.Commands.{Comes, Kept, ending_of};
 
+use crate::check::judged;
 use crate::command::{Command, Outcome, meaning};
 use crate::decode::decoded;
 use crate::flat::coded;
@@ -43,6 +44,7 @@ fn carried_out<R: Threads + Wait + Sync, S: Source, K: Sink, N: NamedSink, G: Ga
     match meaning(alloc, words) {
         Ok(Some(Command::Flat(meant))) => Outcome::Flat(coded(alloc, &meant, input, output)),
         Ok(Some(Command::Decode)) => Outcome::Decode(decoded(alloc, input, output)),
+        Ok(Some(Command::Check)) => Outcome::Check(judged(alloc, input)),
         Ok(None) => Outcome::Usage,
         Err(AllocError) => Outcome::NoMemory,
     }
