@@ -12,13 +12,18 @@ use case::Case;
 use std::alloc::Global;
 use std::io;
 use std::process::ExitCode;
+use std::sync::Wait;
+use std::thread::Threads;
 use table::read_cases;
 use verdict::first_mistake;
 
 /// Runs a case and prints a line on it. Answers whether it gave what is wanted.
-fn told(rt: &(impl Print + Alloc<A = Global>), case: &Case) -> anyhow::Result<bool> {
+fn told<R: Threads + Wait + Sync + Print + Alloc<A = Global>>(
+    rt: &R,
+    case: &Case,
+) -> anyhow::Result<bool> {
     let name = case.name.as_str();
-    match first_mistake(rt.alloc(), case)? {
+    match first_mistake(rt, rt.alloc(), case)? {
         None => {
             println!(rt; "ok {name}")?;
             Ok(true)

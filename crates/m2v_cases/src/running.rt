@@ -2,9 +2,12 @@
 ghost use Rattle.std.specs.Prelude.{IsFalse, is_some};
 
 use crate::case::Failing;
+use m2v_board::OpenGate;
 use m2v_port::{MemoryFile, MemorySink, MemorySource};
 use m2v_tool::run;
 use std::alloc::{AllocError, Global};
+use std::sync::Wait;
+use std::thread::Threads;
 
 /// What came of a run.
 #[derive(Drop)]
@@ -28,16 +31,23 @@ struct Endpoints {
 }
 
 /// The status of words.
-fn status_of(alloc: Global, words: &[String], endpoints: &mut Endpoints) -> u8
+fn status_of<R: Threads + Wait + Sync>(
+    rt: &R,
+    alloc: Global,
+    words: &[String],
+    endpoints: &mut Endpoints,
+) -> u8
     requires { IsFalse (is_some endpoints.old.recon.name) }
 {
     let status = run(
+        rt,
         alloc,
         words,
         &mut endpoints.input,
         &mut endpoints.output,
         &mut endpoints.recon,
         &mut endpoints.report,
+        &OpenGate,
     );
     status.code
 }
@@ -60,7 +70,8 @@ fn answer_of(alloc: Global, status: u8, endpoints: &Endpoints) -> Result<Answer,
 }
 
 /// Runs words on an input.
-pub(crate) fn ran(
+pub(crate) fn ran<R: Threads + Wait + Sync>(
+    rt: &R,
     alloc: Global,
     words: &[String],
     input: &[u8],
@@ -72,6 +83,6 @@ pub(crate) fn ran(
         recon: MemoryFile::new(alloc, Vec::new(alloc)),
         report: MemorySink::new(alloc, failing.report.to_vec(alloc)?),
     };
-    let status = status_of(alloc, words, &mut endpoints);
+    let status = status_of(rt, alloc, words, &mut endpoints);
     answer_of(alloc, status, &endpoints)
 }

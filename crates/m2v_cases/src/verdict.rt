@@ -3,6 +3,8 @@ use crate::case::{Case, Endpoint, Extent, Failing, Wanted};
 use crate::running::{Answer, ran};
 use std::alloc::{AllocError, Global};
 use std::fmt;
+use std::sync::Wait;
+use std::thread::Threads;
 
 /// More calls than a run of a case makes.
 const MANY_CALLS: u64 = 100_000;
@@ -113,7 +115,8 @@ fn mistake_of(
 
 /// Runs a case once for each call of an endpoint, which fails, and once more with a call that isn't made. A case that
 /// makes as many calls as none should is a mistake too.
-fn mistake_at_a_fault(
+fn mistake_at_a_fault<R: Threads + Wait + Sync>(
+    rt: &R,
     alloc: Global,
     case: &Case,
     endpoint: Endpoint,
@@ -121,7 +124,7 @@ fn mistake_at_a_fault(
     for call in 1..MANY_CALLS {
         let mut failing = Failing::none(alloc);
         failing.of(endpoint).push(call)?;
-        let answer = ran(alloc, &case.words, &case.input, &failing)?;
+        let answer = ran(rt, alloc, &case.words, &case.input, &failing)?;
         let right = if answer.failed {
             is_wanted_at_a_fault(&case.wanted, endpoint, &answer)
         } else {
@@ -135,17 +138,21 @@ fn mistake_at_a_fault(
             return Ok(None);
         }
     }
-    let answer = ran(alloc, &case.words, &case.input, &Failing::none(alloc))?;
+    let answer = ran(rt, alloc, &case.words, &case.input, &Failing::none(alloc))?;
     let failing = Some((endpoint, MANY_CALLS));
     Ok(Some(mistake_of(alloc, &case.wanted, &answer, failing)?))
 }
 
 /// Runs a case: none where it gives what is wanted, else the first run that doesn't.
-pub(crate) fn first_mistake(alloc: Global, case: &Case) -> Result<Option<Mistake>, AllocError> {
+pub(crate) fn first_mistake<R: Threads + Wait + Sync>(
+    rt: &R,
+    alloc: Global,
+    case: &Case,
+) -> Result<Option<Mistake>, AllocError> {
     if let Some(endpoint) = case.each {
-        return mistake_at_a_fault(alloc, case, endpoint);
+        return mistake_at_a_fault(rt, alloc, case, endpoint);
     }
-    let answer = ran(alloc, &case.words, &case.input, &case.failing)?;
+    let answer = ran(rt, alloc, &case.words, &case.input, &case.failing)?;
     if is_wanted(&case.wanted, &answer) {
         return Ok(None);
     }

@@ -1,6 +1,7 @@
 //! The program `puckerledge`: it makes the real endpoints, calls `run`, and ends with its status.
 #![tactic(auto)]
 
+use m2v_board::OpenGate;
 use m2v_port::{FileSink, StdSink, StdSource};
 use m2v_tool::run;
 use std::alloc::Global;
@@ -26,12 +27,14 @@ fn main(rt: HostRuntime) -> ExitCode {
     let mut recon = FileSink::new(rt);
     let mut report = StdSink::new(rt.stderr());
     let status = run(
+        &rt,
         rt.alloc(),
         &words,
         &mut input,
         &mut output,
         &mut recon,
         &mut report,
+        &OpenGate,
     );
     ExitCode::from(status.code)
 }

@@ -4,4 +4,5 @@ pub mod WordLaws
 pub mod EndingLaws
 pub mod CodingLaws
 pub mod DecodingLaws
+pub mod CheckingLaws
 pub mod RunLaws

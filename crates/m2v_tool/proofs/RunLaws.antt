@@ -1,20 +1,18 @@
 -- What follows from the outcome that came and what was told of it.
-use Rattle.std.proofs.Common.{inr, refl, subst}
-use Rattle.m2v_tool.specs.declared.flat.FlatWords.{FlatWords}
+use Rattle.std.proofs.Common.{◌≡◌, inr, refl, subst}
 use Rattle.m2v_tool.specs.declared.command.Command.{Command}
 use Rattle.m2v_tool.specs.declared.command.Command.TheVariants as commands
 use Rattle.m2v_tool.specs.declared.command.Outcome.{Outcome}
-use Rattle.m2v_tool.specs.declared.command.Outcome.TheVariants.{Usage, NoMemory, Flat, Decode}
+use Rattle.m2v_tool.specs.declared.command.Outcome.TheVariants.{Usage, NoMemory, Flat, Decode, Check}
 use Rattle.m2v_tool.specs.Endings.{Told}
 use Rattle.m2v_tool.specs.Words.{Means, NoCommand}
-use Rattle.m2v_tool.specs.Runs.{Run, RefusedBy, work_of}
-use Rattle.m2v_tool.specs.Coding.{FlatComes, FlatKeeps}
-use Rattle.m2v_tool.specs.Decoding.{DecodeKeeps}
+use Rattle.m2v_tool.specs.Runs.{Run, RefusedBy, IsUntouched, work_of}
 use Rattle.m2v_tool.specs.Commands.{Comes, ending_of, Keeps, Kept}
-use Rattle.m2v_tool.proofs.WordLaws.{one_meaning, not_both}
+use Rattle.m2v_tool.proofs.WordLaws.{one_meaning}
 use Rattle.m2v_tool.proofs.EndingLaws.{refusal, memory_told}
 use Rattle.m2v_tool.proofs.CodingLaws.{flat_keeps, flat_unread}
 use Rattle.m2v_tool.proofs.DecodingLaws.{decode_keeps, decode_unread}
+use Rattle.m2v_tool.proofs.CheckingLaws.{check_keeps, check_unread}
 
 module _ (r : Run) where
   refused_by : (o : Outcome) → Comes r.words (work_of r) o → Told (ending_of o) r.status r.report → NoCommand r.words → RefusedBy 2 r
@@ -23,25 +21,25 @@ module _ (r : Run) where
   refused_by NoMemory c t none = (inr (memory_told r.status r.report t), c)
   refused_by (Flat o) c t none = absurd (none (commands.Flat c.0) c.1)
   refused_by (Decode o) c t none = absurd (none commands.Decode c.0)
+  refused_by (Check o) c t none = absurd (none commands.Check c.0)
 
-  flat_by : (o : Outcome) → Comes r.words (work_of r) o → Told (ending_of o) r.status r.report → (w : FlatWords) → Means r.words (commands.Flat w) → FlatKeeps w r
+  -- where memory ran out before the words were read
+  unread_by : IsUntouched (work_of r) → r.status ≡ 12 → (c : Command) → Keeps c r
+  unread_by untouched is (commands.Flat w) = flat_unread r w untouched is
+  unread_by untouched is commands.Decode = decode_unread r is
+  unread_by untouched is commands.Check = check_unread r is
+
+  -- the words mean the command whose outcome came, and no other one
+  same_keeps : (c d : Command) → Means r.words c → Means r.words d → Keeps c r → Keeps d r
+  same_keeps c d means others keeps = subst (λ (x : Command). Keeps x r) (one_meaning r.words c d means others) keeps
+
+  keeps_by : (o : Outcome) → Comes r.words (work_of r) o → Told (ending_of o) r.status r.report → (d : Command) → Means r.words d → Keeps d r
   unfolding Comes ending_of
-  flat_by Usage c t w means = absurd (c.0 (commands.Flat w) means)
-  flat_by NoMemory c t w means = flat_unread r w c (memory_told r.status r.report t)
-  flat_by (Flat o) c t w means =
-      flat_keeps r w o (subst (λ (x : FlatWords). FlatComes x r.input r.output o) (one_meaning r.words c.0 w c.1 means) c.2) t c.3
-  flat_by (Decode o) c t w means = absurd (not_both r.words w means c.0)
-
-  decode_by : (o : Outcome) → Comes r.words (work_of r) o → Told (ending_of o) r.status r.report → Means r.words commands.Decode → DecodeKeeps r
-  unfolding Comes ending_of
-  decode_by Usage c t means = absurd (c.0 commands.Decode means)
-  decode_by NoMemory c t means = decode_unread r (memory_told r.status r.report t)
-  decode_by (Flat o) c t means = absurd (not_both r.words c.0 c.1 means)
-  decode_by (Decode o) c t means = decode_keeps r o c.1 t
-
-  keeps_by : (o : Outcome) → Comes r.words (work_of r) o → Told (ending_of o) r.status r.report → (c : Command) → Means r.words c → Keeps c r
-  keeps_by o comes t (commands.Flat w) means = flat_by o comes t w means
-  keeps_by o comes t commands.Decode means = decode_by o comes t means
+  keeps_by Usage c t d means = absurd (c.0 d means)
+  keeps_by NoMemory c t d means = unread_by c (memory_told r.status r.report t) d
+  keeps_by (Flat o) c t d means = same_keeps (commands.Flat c.0) d c.1 means (flat_keeps r c.0 o c.2 t c.3)
+  keeps_by (Decode o) c t d means = same_keeps commands.Decode d c.0 means (decode_keeps r o c.1 t)
+  keeps_by (Check o) c t d means = same_keeps commands.Check d c.0 means (check_keeps r o c.1 t)
 
 pub kept_by : (r : Run) (o : Outcome) → Comes r.words (work_of r) o → Told (ending_of o) r.status r.report → Kept r
 kept_by r o comes t = record {

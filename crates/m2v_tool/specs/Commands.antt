@@ -10,6 +10,7 @@ use Rattle.m2v_tool.specs.Runs.{Run, Work, work_of, IsUntouched, RefusedBy}
 use Rattle.m2v_tool.specs.Endings.{Ending, Told, usage, no_memory}
 use Rattle.m2v_tool.specs.Coding.{FlatComes, FlatKeeps, flat_ending}
 use Rattle.m2v_tool.specs.Decoding.{DecodeComes, DecodeKeeps, decode_ending}
+use Rattle.m2v_tool.specs.Checking.{CheckComes, CheckKeeps, check_ending}
 
 -- When each outcome comes, and what stands then: words that mean no command are refused, and else comes what their
 -- command gives. Where memory ran out before the words were read, nothing else is looked at.
@@ -21,6 +22,8 @@ Comes words k (outcomes.Flat o) =
     × k.recon.Unchanged
 Comes words k (outcomes.Decode o) =
     Means words commands.Decode × DecodeComes k.input k.output o × k.recon.Unchanged
+Comes words k (outcomes.Check o) =
+    Means words commands.Check × CheckComes k.input o × k.output.Unchanged × k.recon.Unchanged
 
 -- the status and the line of each outcome
 unfoldable pub ending_of : Outcome → Ending
@@ -28,11 +31,13 @@ ending_of outcomes.Usage = usage
 ending_of outcomes.NoMemory = no_memory
 ending_of (outcomes.Flat o) = flat_ending o
 ending_of (outcomes.Decode o) = decode_ending o
+ending_of (outcomes.Check o) = check_ending o
 
 -- what is answered to a command
 abbrev pub Keeps : Command → Run → Type 0
 Keeps (commands.Flat w) r = FlatKeeps w r
 Keeps commands.Decode r = DecodeKeeps r
+Keeps commands.Check r = CheckKeeps r
 
 -- the outcome that came, and what was told of it
 pub record Ran (r : Run) : Type 0 where

@@ -4,6 +4,7 @@ ghost use Rattle.m2v_tool.specs.Endings.{IsReport};
 ghost use Rattle.m2v_tool.specs.Words.{Means, MeansBy, NoCommand};
 ghost use Rattle.m2v_tool.specs.Commands.{ending_of};
 
+use crate::check::{CheckOutcome, check_words};
 use crate::decode::{DecodeOutcome, decode_words};
 use crate::flat::{FlatOutcome, FlatWords, flat_words};
 use crate::report::{Report, no_memory, usage};
@@ -16,6 +17,8 @@ pub enum Command {
     Flat(FlatWords),
     /// A stream is decoded.
     Decode,
+    /// A stream is judged.
+    Check,
 }
 
 /// What came of the words.
@@ -29,6 +32,8 @@ pub enum Outcome {
     Flat(FlatOutcome),
     /// What came of `decode`.
     Decode(DecodeOutcome),
+    /// What came of `check`.
+    Check(CheckOutcome),
 }
 
 impl Outcome {
@@ -42,6 +47,7 @@ impl Outcome {
             Outcome::NoMemory => no_memory(alloc),
             Outcome::Flat(outcome) => outcome.report(alloc),
             Outcome::Decode(outcome) => outcome.report(alloc),
+            Outcome::Check(outcome) => outcome.report(alloc),
         }
     }
 }
@@ -60,6 +66,10 @@ fn meant_by(alloc: Global, name: &str, others: &[String]) -> Result<Option<Comma
         "decode" => {
             let taken = decode_words(alloc, others)?;
             Ok(taken.then_some(Command::Decode))
+        }
+        "check" => {
+            let taken = check_words(alloc, others)?;
+            Ok(taken.then_some(Command::Check))
         }
         _ => Ok(None),
     }

@@ -61,9 +61,9 @@ impl DecodeOutcome {
     }
 }
 
-/// The report of a decoder that stopped.
+/// The report of a decoder that stopped, or of a verifier.
 #[tactic(auto, unfolding(crate::specs::Decoding::decoding_stopped))]
-fn stopped(alloc: Global, error: &DecodeError) -> Result<Report, AllocError>
+pub(crate) fn stopped(alloc: Global, error: &DecodeError) -> Result<Report, AllocError>
     ensures { IfOk result (λ r. IsReport r (decoding_stopped error.now)) }
 {
     match error {

@@ -1,10 +1,14 @@
 //! The program: its command words, its one call `run`, and its report lines.
 #![tactic(auto)]
 
+mod check;
 mod command;
 mod decode;
+mod encode;
 mod flat;
 mod report;
+#[cfg(test)]
+mod tests;
 mod top;
 mod words;
 

@@ -3,12 +3,16 @@ ghost use Rattle.m2v_port.specs.Ends.{change, SinkStays};
 ghost use Rattle.m2v_tool.specs.Endings.{Told};
 ghost use Rattle.m2v_tool.specs.Commands.{Comes, Kept, ending_of};
 
+use crate::check::judged;
 use crate::command::{Command, Outcome, meaning};
 use crate::decode::decoded;
 use crate::flat::coded;
 use crate::report::Report;
+use m2v_board::Gate;
 use m2v_port::{NamedSink, PortError, Sink, Source};
 use std::alloc::{AllocError, Global};
+use std::sync::Wait;
+use std::thread::Threads;
 
 /// How the program ends: its exit status.
 #[derive(Clone, Copy, Debug, PartialEq, Eq)]
@@ -18,12 +22,14 @@ pub struct Status {
 }
 
 /// Does what the words say, all but the report.
-fn carried_out<S: Source, K: Sink, N: NamedSink>(
+fn carried_out<R: Threads + Wait + Sync, S: Source, K: Sink, N: NamedSink, G: Gate + Sync>(
+    _rt: &R,
     alloc: Global,
     words: &[String],
     input: &mut S,
     output: &mut K,
     _recon: &mut N,
+    _gate: &G,
 ) -> Outcome
     requires { IsTrue (K.ready output.old) }
     ensures comes { Comes (map string_bytes words.now) (record {
@@ -38,6 +44,7 @@ fn carried_out<S: Source, K: Sink, N: NamedSink>(
     match meaning(alloc, words) {
         Ok(Some(Command::Flat(meant))) => Outcome::Flat(coded(alloc, &meant, input, output)),
         Ok(Some(Command::Decode)) => Outcome::Decode(decoded(alloc, input, output)),
+        Ok(Some(Command::Check)) => Outcome::Check(judged(alloc, input)),
         Ok(None) => Outcome::Usage,
         Err(AllocError) => Outcome::NoMemory,
     }
@@ -73,14 +80,17 @@ fn reported<E: Sink>(alloc: Global, outcome: &Outcome, report: &mut E) -> Status
 /// `words` are those behind the program's name. `flat W H CODE Q` codes the raw frames of `input`, 1 to 999,999 of them,
 /// each W by H samples, to `output` by the flat profile, with the frame rate code CODE and the quantiser code Q.
 /// `decode` decodes the stream of `input` (ISO/IEC 13818-2) and writes the frames that it shows to `output` as raw
-/// video, in display order. `recon` isn't used yet.
-pub fn run<S: Source, K: Sink, N: NamedSink, E: Sink>(
+/// video, in display order. `rt`, `gate` and `recon` are for commands that have workers or write reconstructions, and
+/// aren't used yet.
+pub fn run<R: Threads + Wait + Sync, S: Source, K: Sink, N: NamedSink, E: Sink, G: Gate + Sync>(
+    rt: &R,
     alloc: Global,
     words: &[String],
     input: &mut S,
     output: &mut K,
     recon: &mut N,
     report: &mut E,
+    gate: &G,
 ) -> Status
     requires output { IsTrue (K.ready output.old) }
     requires recon { IsFalse (N.ready recon.old) }
@@ -98,6 +108,6 @@ pub fn run<S: Source, K: Sink, N: NamedSink, E: Sink>(
     ensures report { SinkStays E.ready E.name E.faults report.old report.new }
     ensures input { S.faults input.old ≤ S.faults input.new }
 {
-    let outcome = carried_out(alloc, words, input, output, recon);
+    let outcome = carried_out(rt, alloc, words, input, output, recon, gate);
     reported(alloc, &outcome, report)
 }

@@ -22,3 +22,9 @@ returns-in-Ok-None-clause-comes g c = (c.in-Ok-None.ensures.none (ap is_some c.i
 pub returns-in-Err-clause-comes : goal.returns-in-Err-clause-comes
 unfolding Comes
 returns-in-Err-clause-comes g c = (refl, refl, refl)
+
+pub returns-in-Ok-Some-Check-clause-comes : goal.returns-in-Ok-Some-Check-clause-comes
+unfolding Comes
+returns-in-Ok-Some-Check-clause-comes g c =
+    let read = c.in-Ok-Some-Check in
+    (means_of _ _ _ _ read.field-0-is read.field-0-0-is read.ensures.found, c.judged.ensures.comes, refl, refl)
