@@ -18,7 +18,8 @@ use Rattle.m2v_check.specs.declared.verdict.Verdict.TheVariants as verdicts
 use Rattle.m2v_check.specs.Meaning.{IsLawful, IsVariable, Means}
 use Rattle.m2v_check.specs.Answers.{IsJudged, IsFaulty, IsOver, Fails, Gives, IsAnswered}
 use Rattle.m2v_check.proofs.OneMeaning.{decoding_in, one_meaning}
-use Rattle.m2v_check.proofs.AnswerLaws.{no_output, answered}
+use Rattle.m2v_check.specs.Progress.{no_output}
+use Rattle.m2v_check.proofs.AnswerLaws.{answered}
 use Rattle.m2v_tool.specs.declared.check.CheckOutcome.{CheckOutcome}
 use Rattle.m2v_tool.specs.declared.check.CheckOutcome.TheVariants.{Judged, Stopped}
 use Rattle.m2v_tool.specs.Endings.{Ending, Told, whole, cut, stream_fault, ending_past}
