@@ -1,5 +1,5 @@
 -- A group whose jobs are done: what it adds to the stream and to the recon, and what stands behind it.
-use Rattle.std.specs.Prelude.{ℕ, ◌≡◌, ◌+◌, ◌*◌, ◌≤◌, Bool, false, List, map, length, Option, None}
+use Rattle.std.specs.Prelude.{ℕ, ◌≡◌, ◌+◌, ◌*◌, ◌<◌, ◌≤◌, Bool, All, List, map, length, Option, None}
 use Rattle.std.specs.List.{range_with_len, flat_map}
 use Rattle.m2v_plane.specs.Raw.{crop}
 use Rattle.m2v_plane.specs.Samples.{Samples}
@@ -47,6 +47,7 @@ pub record IsDone (b : Book) (s : Settings) (list : List PictureJob) (frame_coun
   pub settings : s ≡ b.settings
   pub pictures : list ≡ b.pictures
   pub few : length b.pictures ≤ 126
+  pub early : All (λ (j : PictureJob). j.display < 1000000) b.pictures
   pub frames : frame_count ≡ length b.frames
   pub most : length b.frames ≤ 63
   pub lines : row_count ≡ rows b

@@ -1,6 +1,8 @@
 //! A group whose jobs are done.
 ghost use Rattle.std.specs.Prelude.{◌≡◌, ◌+◌, ◌-◌, ◌*◌, ◌^◌, ◌<◌, ◌≤◌, length, slice_index};
+ghost use Rattle.m2v_preface.specs.Headers.{IsJob};
 ghost use Rattle.m2v_slice.specs.Books.{rows, job_at, slice_at, size_of, ledger_with};
+ghost use Rattle.m2v_slice.specs.Conditions.{IsBook};
 ghost use Rattle.m2v_encode.specs.Groups.{all_coded, whole_ledger};
 
 use m2v_order::PictureJob;
@@ -22,8 +24,10 @@ pub(crate) struct DoneGroup {
 }
 
 impl Model for DoneGroup {
-    ghost use Rattle.m2v_slice.specs.Books.{Book};
-    ghost use Rattle.m2v_encode.specs.Groups.{IsDone};
+    ghost use Rattle.m2v_preface.specs.Headers.{IsJob};
+ghost use Rattle.m2v_slice.specs.Books.{Book};
+    ghost use Rattle.m2v_slice.specs.Conditions.{IsBook};
+ghost use Rattle.m2v_encode.specs.Groups.{IsDone};
 
     ghost Value = { Book };
 
@@ -56,7 +60,9 @@ impl DoneGroup {
     /// How many pictures it has.
     pub(crate) fn pictures(&self) -> u32
         ensures value { result ≡ length self.now.pictures }
+        ensures some { 1 ≤ result }
         ensures most { result ≤ 126 }
+        ensures book { IsBook self.now }
     {
         self.pictures.len() as u32
     }
@@ -81,6 +87,8 @@ impl DoneGroup {
     pub(crate) fn job(&self, p: u32) -> &PictureJob
         requires picture { p < length self.now.pictures }
         ensures value { result.now ≡ job_at self.now p }
+        ensures job { IsJob result.now }
+        ensures early { result.now.display < 1000000 }
     {
         &self.pictures[p as usize]
     }
@@ -106,15 +114,29 @@ impl DoneGroup {
         }
     }
 
+    /// The bits of a slice of a picture.
+    fn slice_bits(&self, p: u32, r: u32) -> u64
+        requires picture { p < length self.now.pictures }
+        requires row { r < rows self.now }
+        ensures value { result ≡ length (slice_at (all_coded self.now) p r).text }
+        ensures most { result < 2 ^ 32 }
+    {
+        // a book's slices are short
+        let _book = self.pictures();
+        8 * self.slice(p, r).bytes().len() as u64
+    }
+
     /// The bits of a picture with its headers, without the zero bytes behind it.
     pub(crate) fn size(&self, p: u32) -> u64
         requires picture { p < length self.now.pictures }
         ensures value { result ≡ size_of self.now (all_coded self.now) p }
         ensures most { result < 2 ^ 32 }
     {
+        // the plans of a book's pictures are good
+        let _book = self.pictures();
         let mut bits = header_bits(self.job(p));
         for r in 0..self.rows() {
-            bits += 8 * self.slice(p, r).bytes().len() as u64;
+            bits += self.slice_bits(p, r);
         }
         bits
     }

@@ -104,7 +104,7 @@ impl Coder {
         ensures begun { OnOk result (self.new.ledger ≡ begun self.old.ledger
             (map (λ (j : PictureJob). j.kind) pictures.now)
             (intervals_of self.old.settings before pictures.now)) }
-        ensures rest { OnOk result (self.new ≡ record self.old { ledger = self.new.ledger }) }
+        ensures rest { self.new ≡ record self.old { ledger = self.new.ledger } }
     {
         let times = intervals(alloc, &self.settings, before, pictures)?;
         let kinds = kinds_of(alloc, pictures)?;

@@ -1,5 +1,5 @@
 //! The pictures of a group, written one behind another.
-ghost use Rattle.std.specs.Prelude.{◌≡◌, ◌+◌, ◌-◌, ◌*◌, ◌/◌, ◌%◌, ◌^◌, ◌<◌, ◌≤◌, Bool, IsTrue, IfErr, OnOk, OnErr, IfOk, length, replicate, slice_index, nat_eq, ◌&&◌, if◌then◌else◌};
+ghost use Rattle.std.specs.Prelude.{◌≡◌, ◌+◌, ◌-◌, ◌*◌, ◌/◌, ◌%◌, ◌^◌, ◌<◌, ◌≤◌, Bool, IsTrue, IfErr, OnOk, OnErr, IfOk, length, replicate, slice_index, nat_eq, ◌&&◌, if◌then◌else◌, false};
 ghost use Rattle.m2v_bits.specs.Bits.{bits, packed};
 ghost use Rattle.m2v_port.specs.Ends.{change, SinkStays};
 ghost use Rattle.m2v_port.specs.Port.{Grows};
@@ -51,6 +51,19 @@ pub(crate) fn put_text<K: Sink>(bytes: &[u8], output: &mut K) -> Result<(), Enco
     put_bytes(bytes, output)
 }
 
+/// Writes a few zero bytes.
+fn put_some_zeros<K: Sink>(count: usize, output: &mut K) -> Result<(), EncodeError>
+    requires few { count ≤ 512 }
+    requires output { IsTrue (K.ready output.old) }
+    ensures grown { OnOk result (Grows (K.held output.old) (replicate count 0) (K.held output.new)) }
+    ensures err { IfErr result (PutStops (replicate count 0)
+        (change K.held K.faults output.old output.new)) }
+    ensures output { SinkStays K.ready K.name K.faults output.old output.new }
+{
+    let zeros = [0u8; ZEROS];
+    put_bytes(&zeros[..count], output)
+}
+
 /// Writes zero bytes.
 fn put_zeros<K: Sink>(count: u64, output: &mut K) -> Result<(), EncodeError>
     requires output { IsTrue (K.ready output.old) }
@@ -59,11 +72,10 @@ fn put_zeros<K: Sink>(count: u64, output: &mut K) -> Result<(), EncodeError>
         (change K.held K.faults output.old output.new)) }
     ensures output { SinkStays K.ready K.name K.faults output.old output.new }
 {
-    let zeros = [0u8; ZEROS];
     let mut left = count;
     while left > 0 {
         let n = left.min(ZEROS as u64);
-        put_bytes(&zeros[..n as usize], output)?;
+        put_some_zeros(n as usize, output)?;
         left -= n;
     }
     Ok(())
@@ -141,7 +153,8 @@ impl DoneGroup {
         ensures bytes { result % 8 ≡ 0 }
         ensures small { result < 2 ^ 40 }
     {
-        if ends && p + 1 == self.pictures() {
+        let count = self.pictures();
+        if ends && p + 1 == count {
             return 0;
         }
         account.stuffing(size, self.time(p))
@@ -169,12 +182,15 @@ impl DoneGroup {
             (K.held output.new)) }
         ensures sent { OnOk result (Sent total.old total.new
             (size_of self.now (all_coded self.now) p) (zeros_of ledger.now ends p)) }
+        ensures most { OnOk result (total.new.bytes ≤ total.old.bytes + 2 ^ 21) }
         ensures err { IfErr result (PutStops
             (packed (picture_text self.now (all_coded self.now) ledger.now ends (8 * total.old.bytes) p))
             (change K.held K.faults output.old output.new)) }
         ensures room { 384 ≤ headers.new.room + length headers.new.written }
         ensures output { SinkStays K.ready K.name K.faults output.old output.new }
     {
+        // a book's ledger is steady
+        let _book = self.pictures();
         let account = account_before(ledger, p);
         let size = self.size(p);
         let zeros = self.zeros_behind(p, ends, account, size);
@@ -209,6 +225,10 @@ impl DoneGroup {
             ≡ 8 * total.old.bytes + length (group_text self.now ends (8 * total.old.bytes))) }
         ensures stuffing { OnOk result (8 * total.new.stuffing
             ≡ 8 * total.old.stuffing + zeros_sum ledger.now ends (length self.now.pictures)) }
+        ensures place { OnOk result (ends ≡ false → IsPlace self.now.settings
+            (account_at ledger.now (length self.now.pictures)) (8 * total.new.bytes)) }
+        ensures most { OnOk result (total.new.bytes ≤ total.old.bytes + 2 ^ 21 * length self.now.pictures) }
+        ensures within { OnOk result (total.new.stuffing + total.old.bytes ≤ total.old.stuffing + total.new.bytes) }
         ensures err { IfErr result (PutStops (packed (group_text self.now ends (8 * total.old.bytes)))
             (change K.held K.faults output.old output.new)) }
         ensures room { 384 ≤ headers.new.room + length headers.new.written }
