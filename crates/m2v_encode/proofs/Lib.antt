@@ -3,3 +3,8 @@ pub mod Puts
 pub mod Places
 pub mod PictureTexts
 pub mod Books
+pub mod PictureLaws
+pub mod Fronts
+pub mod Covering
+pub mod Rebuilding
+pub mod Anchors

@@ -48,13 +48,13 @@ zeros_edge : (zeros : ℕ) → zeros % 8 ≡ 0 → IsEdge (replicate zeros false
 zeros_edge zeros whole = ap (λ (n : ℕ). n % 8) (length-replicate zeros false) ∙ whole
 
 -- so many zero bytes: those so far, the next ones, and those behind them
-pub zeros_split : (count left n : ℕ) → left ≤ count → n ≤ left → replicate count 0 ≡ replicate (count - left) 0 ++ (replicate n 0 ++ replicate (left - n) 0)
-zeros_split count left n le less =
-    let e : count ≡ count - left + left = omega (arith, le) in
+pub zeros_split : (all left n : ℕ) → left ≤ all → n ≤ left → replicate {A = ℕ} all 0 ≡ replicate (all - left) 0 ++ (replicate n 0 ++ replicate (left - n) 0)
+zeros_split all left n le less =
+    let e : all ≡ all - left + left = omega (arith, le) in
     let f : left ≡ n + (left - n) = omega (arith, less) in
-    ap (λ (k : ℕ). replicate k 0) e
-    ∙ sym (replicate-append-replicate (count - left) left 0)
-    ∙ ap (λ (xs : List ℕ). replicate (count - left) 0 ++ xs) (ap (λ (k : ℕ). replicate k 0) f ∙ sym (replicate-append-replicate n (left - n) 0))
+    ap (λ (k : ℕ). replicate {A = ℕ} k 0) e
+    ∙ sym (replicate-append-replicate (all - left) left 0)
+    ∙ ap (λ (xs : List ℕ). replicate (all - left) 0 ++ xs) (ap (λ (k : ℕ). replicate {A = ℕ} k 0) f ∙ sym (replicate-append-replicate n (left - n) 0))
 
 -- ---- slices
 
@@ -105,7 +105,7 @@ slices_all b p lt =
 
 -- ---- pictures
 
-header_whole : (job : PictureJob) → header_bits job % 8 ≡ 0
+pub header_whole : (job : PictureJob) → header_bits job % 8 ≡ 0
 unfolding header_bits
 header_whole job = cond_both (begins_group job) _ _ (λ (n : ℕ). n % 8 ≡ 0) (λ e. refl)
     (λ e. cond_both (nat_eq job.kind 1) _ _ (λ (n : ℕ). n % 8 ≡ 0) (λ f. refl) (λ f. refl))

@@ -1,20 +1,15 @@
 -- Frames made of the rows of pictures, one picture after another.
-use Rattle.std.specs.Prelude.{ℕ, zero, suc, ◌-◌, ◌+◌, nat_eq, if◌then◌else◌, length}
-use Rattle.m2v_plane.specs.declared.planes.Lines.{Lines}
-use Rattle.m2v_plane.specs.declared.planes.Lines.TheVariants.{Whole, Top, Bottom}
+use Rattle.std.specs.Prelude.{ℕ, zero, suc, nat_eq, if◌then◌else◌}
 use Rattle.m2v_plane.specs.Samples.{Samples, blank, with_row}
 use Rattle.m2v_set.specs.Numbers.{dims_of}
+use Rattle.m2v_pred.specs.Motion.{own_lines}
 use Rattle.m2v_slice.specs.Books.{Book, rows, job_at, slice_at}
 use Rattle.m2v_encode.specs.Groups.{all_coded}
-
--- the lines of a frame that a picture of a structure has
-unfoldable pub lines_by : ℕ → Lines
-lines_by structure = if nat_eq structure 1 then Top else if nat_eq structure 2 then Bottom else Whole
 
 -- the first n rows of a picture in its frame
 unfoldable pub rows_in : Book → ℕ → ℕ → Samples → Samples
 rows_in b p zero frame = frame
-rows_in b p (suc n) frame = with_row (rows_in b p n frame) (lines_by (job_at b p).structure) n (slice_at (all_coded b) p n).row
+rows_in b p (suc n) frame = with_row (rows_in b p n frame) (own_lines (job_at b p).structure) n (slice_at (all_coded b) p n).row
 
 abbrev pub with_rows : Book → ℕ → Samples → Samples
 with_rows b p frame = rows_in b p (rows b) frame

@@ -7,27 +7,16 @@ ghost use Rattle.m2v_set.specs.Numbers.{dims_of};
 ghost use Rattle.m2v_slice.specs.Books.{job_at};
 ghost use Rattle.m2v_stream.specs.Streams.{frame_of, anchor_frame};
 ghost use Rattle.m2v_encode.specs.Groups.{all_coded, group_shown, anchor_behind};
-ghost use Rattle.m2v_encode.specs.Rebuilt.{with_rows, lines_by};
+ghost use Rattle.m2v_encode.specs.Rebuilt.{with_rows};
 ghost use Rattle.m2v_encode.specs.Steps.{PutStops};
 
 use crate::answer::EncodeError;
 use crate::done::DoneGroup;
 use crate::pictures::put_bytes;
-use m2v_plane::{Frame, Lines, Memory};
+use m2v_plane::{Frame, Memory};
 use m2v_port::Sink;
+use m2v_pred::own_lines;
 use std::alloc::Global;
-
-/// The lines of a frame that a picture of a structure has.
-#[tactic(auto, unfolding(crate::specs::Rebuilt::lines_by))]
-fn lines_of(structure: u8) -> Lines
-    ensures value { result ≡ lines_by structure }
-{
-    match structure {
-        1 => Lines::Top,
-        2 => Lines::Bottom,
-        _ => Lines::Whole,
-    }
-}
 
 impl DoneGroup {
     /// Takes the rows of a picture into its frame.
@@ -36,7 +25,9 @@ impl DoneGroup {
         requires size { frame.old.dims ≡ dims_of self.now.settings }
         ensures value { frame.new ≡ with_rows self.now p frame.old }
     {
-        let lines = lines_of(self.job(p).structure);
+        // the rows of a book are for its frames
+        let _book = self.pictures();
+        let lines = own_lines(self.job(p).structure);
         for r in 0..self.rows() {
             frame.set_row(lines, r, self.slice(p, r).row());
         }
@@ -47,6 +38,8 @@ impl DoneGroup {
         requires frame { k < length self.now.frames }
         ensures value { IfOk result (λ f. f ≡ frame_of self.now (all_coded self.now) k) }
     {
+        // each frame of a book has its pictures
+        let _book = self.pictures();
         let mut frame = Frame::blank(alloc, self.settings().dims())?;
         for p in 0..self.pictures() {
             if self.job(p).frame == k {
@@ -85,6 +78,8 @@ impl DoneGroup {
             (change K.held K.faults recon.old recon.new)) }
         ensures recon { SinkStays K.ready K.name K.faults recon.old recon.new }
     {
+        // the first picture of a book is an anchor
+        let _book = self.pictures();
         let last = self.last_anchor();
         let mut anchor = None;
         for k in 0..self.frames() {

@@ -40,6 +40,17 @@ pub(crate) struct Coder {
     pub(crate) total: Summary,
 }
 
+/// The same pictures once more.
+fn copy_of(alloc: Global, pictures: &[PictureJob]) -> Result<Vec<PictureJob>, Memory>
+    ensures value { IfOk result (λ v. v.items ≡ pictures.now) }
+{
+    let mut copied = Vec::new(alloc);
+    for i in 0..pictures.len() {
+        copied.push(pictures[i])?;
+    }
+    Ok(copied)
+}
+
 /// The types of pictures.
 fn kinds_of(alloc: Global, pictures: &[PictureJob]) -> Result<Vec<u8>, Memory>
     ensures value { IfOk result (λ v. v.items ≡ map (λ (j : PictureJob). j.kind) pictures.now) }
@@ -124,13 +135,14 @@ impl Coder {
         requires few { IsFew self.old.total }
         requires group { IsGroupOf self.old.settings (handed group) }
         requires sizes { All (λ (f : Samples). f.dims ≡ dims_of self.old.settings) group.frames.items }
+        requires early { All (λ (j : PictureJob). j.display < 1000000) group.pictures.items }
         ensures value { IfOk result (λ d. d ≡ book_by self.old (handed group)) }
         ensures settings { self.new.settings ≡ self.old.settings }
         ensures total { self.new.total ≡ self.old.total }
         ensures raw { self.new.raw ≡ self.old.raw }
         ensures headers { self.new.headers ≡ self.old.headers }
     {
-        let pictures = group.pictures.to_vec(alloc)?;
+        let pictures = copy_of(alloc, &group.pictures)?;
         let frames = group.frames.len() as u32;
         let rows = rows_of(&self.settings);
         let times = self.begin_group(alloc, group.before, &pictures)?;
@@ -171,6 +183,7 @@ impl Coder {
         requires few { IsFew self.old.total }
         requires group { IsGroupOf self.old.settings (handed group) }
         requires sizes { All (λ (f : Samples). f.dims ≡ dims_of self.old.settings) group.frames.items }
+        requires early { All (λ (j : PictureJob). j.display < 1000000) group.pictures.items }
         requires output { IsTrue (K.ready output.old) }
         requires recon { IsTrue (N.ready recon.old) }
         ensures coded { OnOk result (GroupCoded self.old self.new (book_by self.old (handed group)) ends

@@ -219,7 +219,7 @@ impl DoneGroup {
         requires output { IsTrue (K.ready output.old) }
         ensures grown { OnOk result (Grows (K.held output.old)
             (packed (group_text self.now ends (8 * total.old.bytes))) (K.held output.new)) }
-        ensures frames { total.new.frames ≡ total.old.frames }
+        ensures frames { OnOk result (total.new.frames ≡ total.old.frames) }
         ensures pictures { OnOk result (total.new.pictures ≡ total.old.pictures + length self.now.pictures) }
         ensures bytes { OnOk result (8 * total.new.bytes
             ≡ 8 * total.old.bytes + length (group_text self.now ends (8 * total.old.bytes))) }
@@ -234,7 +234,8 @@ impl DoneGroup {
         ensures room { 384 ≤ headers.new.room + length headers.new.written }
         ensures output { SinkStays K.ready K.name K.faults output.old output.new }
     {
-        for p in 0..self.pictures() {
+        let count = self.pictures();
+        for p in 0..count {
             self.put_picture(p, ends, ledger, headers, total, output)?;
         }
         Ok(())

@@ -1,7 +1,7 @@
 use Rattle.std.proofs.Common.{◌≡◌, ◌∙◌, ◌+◌, ◌-◌, ◌++◌, ℕ, List, ap, sym, arith}
 use Rattle.std.proofs.lemmas.Result.{err_from_is_err_and}
 use Rattle.m2v_bits.specs.Bits.{packed}
-use Rattle.m2v_port.proofs.Runs.{stays_on, grows_on}
+use Rattle.m2v_port.proofs.Runs.{stays_here, stays_on, grows_on, grows_by_nothing}
 use Rattle.m2v_row.specs.Slices.{CodedSlice}
 use Rattle.m2v_slice.specs.Books.{rows}
 use Rattle.m2v_encode.specs.Groups.{slices_text}
@@ -31,3 +31,7 @@ loop-r-preserved g c =
           (grows_on inv.grown c.in_ok-put_text.ensures.grown);
       output = stays_on inv.output c.put_text.ensures.output;
     }
+
+pub loop-r-init : goal.loop-r-init
+unfolding packed
+loop-r-init g c = record { grown = grows_by_nothing (g.K.Sink.held c.args.output.now); output = stays_here c.requires.output }
