@@ -1,13 +1,16 @@
 -- The last anchor of a group, and the frames that are shown.
-use Rattle.std.proofs.Common.{◌≡◌, ℕ, zero, suc, ◌+◌, ◌-◌, ◌<◌, ◌≤◌, inl, inr, Bool, true, false, cond, List, [], ◌∷◌, ◌++◌, length, map, drop, get_or, Option, Some, None, refl, sym, ap, subst, ◌∙◌, arith, append_assoc}
+use Rattle.std.proofs.Common.{◌≡◌, ℕ, zero, suc, ◌+◌, ◌-◌, ◌*◌, ◌/◌, ◌<◌, ◌≤◌, inl, inr, Bool, true, false, cond, List, [], ◌∷◌, ◌++◌, length, map, drop, get_or, Option, Some, None, refl, sym, ap, subst, ◌∙◌, arith, append_assoc}
 use Rattle.std.specs.Prelude.{nat_eq, nat_lt, is_some, IfSome}
 use Rattle.std.specs.List.{range_with_len, flat_map}
-use Rattle.std.proofs.lemmas.Bool.{cond-true, cond-false, cases_lt, cases_Bool, lt-ltb, le-ltb}
-use Rattle.std.proofs.lemmas.List.{append-nil, map-append, drop-cons, drop-length}
+use Rattle.std.proofs.lemmas.Bool.{cond-true, cond-false, cases_lt, cases_eq, cases_Bool, lt-ltb, le-ltb}
+use Rattle.std.proofs.lemmas.List.{append-nil, length-append}
+use Rattle.std.proofs.Math.Nat.{mul_comm}
+use Rattle.std.proofs.Math.Seq.{drop-cons, drop-length}
 use Rattle.std.proofs.lemmas.List.Concat.{flat_map-append}
 use Rattle.std.proofs.lemmas.List.FromFn.{map-range_with_len_more}
 use Rattle.m2v_plane.specs.Samples.{Samples}
-use Rattle.m2v_plane.specs.Raw.{raw, crop}
+use Rattle.m2v_plane.specs.Raw.{raw, crop, shown, frame_bytes, chroma_height, chroma_width}
+use Rattle.m2v_plane.proofs.RawVideo.{length-shown}
 use Rattle.m2v_set.specs.Numbers.{dims_of}
 use Rattle.m2v_order.specs.declared.jobs.PictureJob.{PictureJob}
 use Rattle.m2v_slice.specs.Books.{Book, job_at, no_job}
@@ -22,7 +25,10 @@ use Rattle.m2v_encode.proofs.PictureLaws.{first_kind}
 pub anchor_more : (b : Book) (p : ℕ) (last : Option ℕ) → p < length b.pictures
     → anchor_frame last (drop p b.pictures) ≡ anchor_frame (cond (nat_eq (job_at b p).kind 3) last (Some (job_at b p).frame)) (drop (p + 1) b.pictures)
 unfolding anchor_frame
-anchor_more b p last lt = ap (anchor_frame last) (drop-cons b.pictures p no_job lt)
+anchor_more b p last lt =
+    let e : suc p ≡ p + 1 = omega arith in
+    ap (anchor_frame last) (drop-cons b.pictures p no_job lt)
+    ∙ ap (λ (n : ℕ). anchor_frame (cond (nat_eq (job_at b p).kind 3) last (Some (job_at b p).frame)) (drop n b.pictures)) e
 
 pub anchor_end : (b : Book) (p : ℕ) (last : Option ℕ) → p ≡ length b.pictures → anchor_frame last (drop p b.pictures) ≡ last
 unfolding anchor_frame
@@ -63,14 +69,17 @@ kept b None n = None
 kept b (Some a) n = cond (nat_lt a n) (Some (frame_of b (all_coded b) a)) None
 
 pub kept_none : (b : Book) (o : Option ℕ) → kept b o 0 ≡ None
+unfolding kept
 kept_none b None = refl
-kept_none b (Some a) = refl
+kept_none b (Some a) = cond-false (nat_lt a 0) _ _ (le-ltb a 0 (omega arith))
 
 pub kept_here : (b : Book) (o : Option ℕ) (k : ℕ) (f : Samples) → o ≡ Some k → f ≡ frame_of b (all_coded b) k → Some f ≡ kept b o (k + 1)
+unfolding kept
 kept_here b o k f is same =
     ap Some same ∙ sym (cond-true (nat_lt k (k + 1)) _ _ (lt-ltb k (k + 1) (omega arith))) ∙ ap (λ (x : Option ℕ). kept b x (k + 1)) (sym is)
 
 kept_past : (b : Book) (a k : ℕ) → (a ≡ k → ⊥) → kept b (Some a) k ≡ kept b (Some a) (k + 1)
+unfolding kept
 kept_past b a k other = ap (λ (t : Bool). cond t (Some (frame_of b (all_coded b) a)) None) (same_test a k other)
   where
     same_test : (a k : ℕ) → (a ≡ k → ⊥) → nat_lt a k ≡ nat_lt a (k + 1)
@@ -83,11 +92,29 @@ kept_past b a k other = ap (λ (t : Bool). cond t (Some (frame_of b (all_coded b
     ]
 
 pub kept_more : (b : Book) (o : Option ℕ) (k : ℕ) → (o ≡ Some k → ⊥) → kept b o k ≡ kept b o (k + 1)
+unfolding kept
 kept_more b None k other = refl
 kept_more b (Some a) k other = kept_past b a k (λ e. other (ap Some e))
 
+-- one frame more
+pub kept_next : (b : Book) (o : Option ℕ) (k : ℕ) (f : Samples) (anchor next : Option Samples) → anchor ≡ kept b o k → f ≡ frame_of b (all_coded b) k
+    → (o ≡ Some k → next ≡ Some f) → ((o ≡ Some k → ⊥) → next ≡ anchor) → next ≡ kept b o (k + 1)
+kept_next b None k f anchor next before same here past = past none_some ∙ before ∙ kept_more b None k none_some
+  where
+    none_some : None ≡ Some k → ⊥
+    none_some e = absurd cc
+kept_next b (Some a) k f anchor next before same here past = elim (cases_eq a k) [
+  | inl e ↦ here (ap Some e) ∙ kept_here b (Some a) k f (ap Some e) same
+  | inr other ↦
+    let not_here : Some a ≡ Some k → ⊥ = λ e. other (some_is a k e) in
+    past not_here ∙ before ∙ kept_more b (Some a) k not_here
+]
+  where
+    some_is : (a k : ℕ) → Some a ≡ Some k → a ≡ k
+    some_is a k e = cc
+
 pub kept_all : (b : Book) → IsBook b → (o : Option ℕ) (n : ℕ) → o ≡ anchor_frame None b.pictures → n ≡ length b.frames → kept b o n ≡ anchor_behind b
-unfolding frame_or
+unfolding frame_or kept
 kept_all b h o n is all =
     let there = anchor_is b h in
     ap (λ (x : Option ℕ). kept b x n) (is ∙ there.is)
@@ -124,3 +151,16 @@ shown_split b n (suc k) is =
     let two = crop (frame_of b (all_coded b) (n + 1)) in
     (two ++ next.0,
       next.1 ∙ ap (λ (t : List ℕ). t ++ (two ++ next.0)) (shown_more b n) ∙ append_assoc (raw (frames_shown b n)) one (two ++ next.0))
+
+pub shown_size : (b : Book) (k : ℕ) → length (crop (frame_of b (all_coded b) k)) ≡ frame_bytes (dims_of b.settings)
+unfolding frame_of
+shown_size b k = crop_size (frame_of b (all_coded b) k)
+  where
+    crop_size : (s : Samples) → length (crop s) ≡ frame_bytes s.dims
+    crop_size s =
+        let y = shown (16 * s.dims.mb_width) s.dims.height s.dims.width s.luma in
+        let u = shown (8 * s.dims.mb_width) (chroma_height s.dims) (chroma_width s.dims) s.cb in
+        let v = shown (8 * s.dims.mb_width) (chroma_height s.dims) (chroma_width s.dims) s.cr in
+        omega (arith, length-append y (u ++ v), length-append u v, length-shown (16 * s.dims.mb_width) s.dims.height s.dims.width s.luma,
+          length-shown (8 * s.dims.mb_width) (chroma_height s.dims) (chroma_width s.dims) s.cb, length-shown (8 * s.dims.mb_width) (chroma_height s.dims) (chroma_width s.dims) s.cr,
+          mul_comm s.dims.height s.dims.width, mul_comm (chroma_height s.dims) (chroma_width s.dims))

@@ -3,7 +3,7 @@ use Rattle.std.proofs.Common.{◌≡◌, ℕ, zero, suc, ◌+◌, ◌-◌, ◌<�
 use Rattle.std.specs.Prelude.{nat_eq, ◌&&◌, filter}
 use Rattle.std.specs.List.{range_with_len, flat_map}
 use Rattle.std.proofs.lemmas.Bool.{cond-true, cases_lt, cases_Bool, and_from}
-use Rattle.std.proofs.lemmas.List.{length-append, get_or-append_right}
+use Rattle.std.proofs.lemmas.List.{length-append, get_or_append_left}
 use Rattle.std.proofs.lemmas.Grind.{flat_map-append}
 use Rattle.std.proofs.Math.Seq.{get_or-append_seam}
 use Rattle.m2v_plane.specs.declared.planes.Lines.{Lines}
@@ -31,14 +31,17 @@ Ascends from [] = Unit {0}
 Ascends from (a ∷ more) = (from ≤ a) × Ascends (a + 1) more
 
 lower : (from to : ℕ) (xs : List ℕ) → from ≤ to → Ascends to xs → Ascends from xs
+unfolding Ascends
 lower from to [] le up = tt
 lower from to (a ∷ more) le up = (omega (arith, le, up.0), up.1)
 
 by_filter : (p : ℕ → Bool) (from : ℕ) (xs : List ℕ) (t : Bool) → Ascends (from + 1) (filter p xs) → p from ≡ t → Ascends from (cond t (from ∷ filter p xs) (filter p xs))
+unfolding Ascends
 by_filter p from xs true up e = (omega arith, up)
 by_filter p from xs false up e = lower from (from + 1) (filter p xs) (omega arith) up
 
 ascends : (p : ℕ → Bool) (n from : ℕ) → Ascends from (filter p (range_with_len from n))
+unfolding Ascends
 ascends p zero from = tt
 ascends p (suc n) from = by_filter p from (range_with_len (from + 1) n) (p from) (ascends p n (from + 1)) refl
 
@@ -63,7 +66,7 @@ between_has from to i low high = record {
 }
 
 order_has : (from : ℕ) (xs : List ℕ) (i : ℕ) → Ascends from xs → from ≤ i → i < past_last from xs → Has i (in_order from xs)
-unfolding in_order past_last
+unfolding in_order past_last Ascends
 order_has from [] i up low high = absurd (omega (arith, low, high))
 order_has from (a ∷ more) i up low high = elim (cases_lt i a) [
   | inl below ↦ has_behind i (a ∷ []) (frames_between from a ++ in_order (a + 1) more) (has_before i (frames_between from a) (in_order (a + 1) more) (between_has from a i low below))
@@ -95,9 +98,9 @@ there_behind front jobs back k lines t =
     }
   where
     placed : (front jobs back : List PictureJob) (i : ℕ) → i < length jobs → get_or (front ++ (jobs ++ back)) (length front + i) no_job ≡ get_or jobs i no_job
-    placed [] [] back i lt = absurd (omega (arith, lt))
-    placed [] (j ∷ jobs) back zero lt = refl
-    placed [] (j ∷ jobs) back (suc i) lt = placed [] jobs back i (omega (arith, lt))
+    placed [] jobs back i lt =
+        let e : 0 + i ≡ i = omega arith in
+        ap (λ (n : ℕ). get_or (jobs ++ back) n no_job) e ∙ get_or_append_left jobs back no_job i lt
     placed (f ∷ front) jobs back i lt =
         let e : length (f ∷ front) + i ≡ suc (length front + i) = omega arith in
         ap (λ (n : ℕ). get_or (f ∷ (front ++ (jobs ++ back))) n no_job) e ∙ placed front jobs back i lt

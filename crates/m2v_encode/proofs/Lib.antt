@@ -8,3 +8,4 @@ pub mod Fronts
 pub mod Covering
 pub mod Rebuilding
 pub mod Anchors
+pub mod GroupLaws

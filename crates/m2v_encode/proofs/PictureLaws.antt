@@ -36,7 +36,7 @@ use Rattle.m2v_encode.proofs.PictureTexts.{header_whole, slices_edge, slices_all
 
 -- ---- the ledger
 
-whole_settings : (b : Book) → IsBook b → (whole_ledger b).settings ≡ b.settings
+pub whole_settings : (b : Book) → IsBook b → (whole_ledger b).settings ≡ b.settings
 whole_settings b h = ap (λ (l : Entries). l.settings) (sym (whole_is b)) ∙ ledger_settings b h (length b.pictures) (length b.pictures)
 
 pub whole_kinds : (b : Book) → IsBook b → length (whole_ledger b).kinds ≡ length b.pictures

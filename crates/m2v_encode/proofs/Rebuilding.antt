@@ -52,11 +52,11 @@ by_test : (t : Bool) (a b x y : ℕ) → a ≡ b → x ≡ y → cond t a x ≡ 
 by_test true a b x y e f = e
 by_test false a b x y e f = f
 
-blank_plane : (lines columns : ℕ) → replicate (lines * columns) 0 ≡ plane_by lines columns (λ r c. 0)
+blank_plane : (lines columns : ℕ) → replicate {A = ℕ} (lines * columns) 0 ≡ plane_by lines columns (λ r c. 0)
 blank_plane lines columns =
-    plane_is (replicate (lines * columns) 0) lines columns (λ r c. 0) (length-replicate (lines * columns) 0) (λ r c lt small. default_zero (lines * columns) (r * columns + c))
+    plane_is (replicate {A = ℕ} (lines * columns) 0) lines columns (λ r c. 0) (length-replicate {A = ℕ} (lines * columns) 0) (λ r c lt small. default_zero (lines * columns) (r * columns + c))
   where
-    default_zero : (n i : ℕ) → get_or (replicate n 0) i 0 ≡ 0
+    default_zero : (n i : ℕ) → get_or (replicate {A = ℕ} n 0) i 0 ≡ 0
     default_zero zero i = refl
     default_zero (suc n) zero = refl
     default_zero (suc n) (suc i) = default_zero n i
@@ -67,7 +67,7 @@ blank_is d =
 
 -- ---- rows of one picture
 
-row_sample : Lines → Samples → View
+abbrev row_sample : Lines → Samples → View
 row_sample which row plane line column = sample_of row plane (number_among which line % side plane) column
 
 plane_row : (lines columns height row : ℕ) (which : Lines) (f g : ℕ → ℕ → ℕ) (new : List ℕ)
@@ -122,7 +122,7 @@ by_place true q n x y = elim (cases_eq q n) [
 
 none_yet : (a : Bool) (q x y : ℕ) → cond (a && nat_lt q 0) x y ≡ y
 none_yet false q x y = refl
-none_yet true q x y = refl
+none_yet true q x y = cond-false (nat_lt q 0) _ _ (le-ltb q 0 (omega arith))
 
 rows_upto : (b : Book) → IsBook b → (p : ℕ) (f : View) (n : ℕ) → p < length b.pictures → n ≤ rows b
     → rows_in b p n (frame_by (dims_of b.settings) f) ≡ frame_by (dims_of b.settings) (upto b p n f)
@@ -187,7 +187,7 @@ rows_all b h p f lt =
 -- ---- picture by picture
 
 -- a sample of a picture, if there is one
-sample_from : Book → Option ℕ → Plane → Lines → ℕ → ℕ → ℕ
+abbrev sample_from : Book → Option ℕ → Plane → Lines → ℕ → ℕ → ℕ
 sample_from b None plane lines line column = 0
 sample_from b (Some p) plane lines line column = picture_sample b (all_coded b) (Some p) plane lines line column
 
@@ -197,7 +197,7 @@ so_far b k n plane line column =
     (sample_from b (picture_with b k Top n) plane Top (line / 2) column)
     (sample_from b (picture_with b k Bottom n) plane Bottom (line / 2) column)
 
-zero_both : (t : Bool) → cond t 0 0 ≡ 0
+zero_both : (t : Bool) → ◌≡◌ {A = ℕ} (cond t 0 0) 0
 zero_both true = refl
 zero_both false = refl
 
@@ -344,7 +344,7 @@ rows_more b p n f g h is new =
     new ∙ ap (λ (x : Samples). with_row x (own_lines (job_at b p).structure) n (slice_at (all_coded b) p n).row) is
     ∙ ap (λ (m : ℕ). rows_in b p m f) (let e : suc n ≡ n + 1 = omega arith in e)
 
-pub rebuilt_is : (b : Book) → IsBook b → (k n : ℕ) → n ≤ length b.pictures → rebuilt_by b k n ≡ frame_by (dims_of b.settings) (so_far b k n)
+rebuilt_is : (b : Book) → IsBook b → (k n : ℕ) → n ≤ length b.pictures → rebuilt_by b k n ≡ frame_by (dims_of b.settings) (so_far b k n)
 unfolding rebuilt_by picture_with
 rebuilt_is b h k zero le =
     blank_is (dims_of b.settings)
@@ -379,6 +379,7 @@ passed_more b k n f is other =
 
 some_sample : (b : Book) (o : Option ℕ) (q : ℕ) (plane : Plane) (lines : Lines) (l column : ℕ) → o ≡ Some q
     → sample_from b o plane lines l column ≡ picture_sample b (all_coded b) o plane lines l column
+unfolding picture_sample
 some_sample b o q plane lines l column e =
     ap (λ (x : Option ℕ). sample_from b x plane lines l column) e ∙ sym (ap (λ (x : Option ℕ). picture_sample b (all_coded b) x plane lines l column) e)
 

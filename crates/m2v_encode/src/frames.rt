@@ -1,5 +1,5 @@
 //! The frames of a group as a decoder rebuilds them.
-ghost use Rattle.std.specs.Prelude.{◌≡◌, ◌*◌, ◌<◌, ◌≤◌, IsTrue, IfOk, IfErr, OnOk, None, length};
+ghost use Rattle.std.specs.Prelude.{◌≡◌, ◌*◌, ◌<◌, ◌≤◌, IsTrue, IfOk, IfErr, OnOk, Some, None, true, false, length, nat_eq, if◌then◌else◌};
 ghost use Rattle.m2v_port.specs.Ends.{change, SinkStays};
 ghost use Rattle.m2v_port.specs.Port.{Grows};
 ghost use Rattle.m2v_plane.specs.Raw.{frame_bytes, raw, crop};
@@ -13,10 +13,35 @@ ghost use Rattle.m2v_encode.specs.Steps.{PutStops};
 use crate::answer::EncodeError;
 use crate::done::DoneGroup;
 use crate::pictures::put_bytes;
+use m2v_order::PictureJob;
 use m2v_plane::{Frame, Memory};
 use m2v_port::Sink;
 use m2v_pred::own_lines;
 use std::alloc::Global;
+
+/// The place of the last anchor's frame behind one picture more.
+fn anchor_after(last: Option<u32>, job: &PictureJob) -> Option<u32>
+    ensures value { result ≡ (if nat_eq job.now.kind 3 then last else Some job.now.frame) }
+{
+    if job.kind == 3 { last } else { Some(job.frame) }
+}
+
+/// The last anchor's frame, if it was met so far or is this one, frame k.
+fn anchor_with(last: Option<u32>, k: u32, frame: Frame, anchor: Option<Frame>) -> Option<Frame>
+    ensures here { last ≡ Some k → result ≡ Some frame }
+    ensures before { (last ≡ Some k → ⊥) → result ≡ anchor }
+{
+    match last {
+        Some(place) => {
+            if place == k {
+                Some(frame)
+            } else {
+                anchor
+            }
+        }
+        None => anchor,
+    }
+}
 
 impl DoneGroup {
     /// Takes the rows of a picture into its frame.
@@ -33,6 +58,18 @@ impl DoneGroup {
         }
     }
 
+    /// Takes the rows of a picture into frame k, where it is a picture of that frame.
+    fn take_picture(&self, p: u32, k: u32, frame: &mut Frame)
+        requires picture { p < length self.now.pictures }
+        requires size { frame.old.dims ≡ dims_of self.now.settings }
+        ensures here { nat_eq (job_at self.now p).frame k ≡ true → frame.new ≡ with_rows self.now p frame.old }
+        ensures other { nat_eq (job_at self.now p).frame k ≡ false → frame.new ≡ frame.old }
+    {
+        if self.job(p).frame == k {
+            self.take_rows(p, frame);
+        }
+    }
+
     /// A frame of the group as a decoder rebuilds it.
     fn rebuilt(&self, alloc: Global, k: u32) -> Result<Frame, Memory>
         requires frame { k < length self.now.frames }
@@ -42,9 +79,7 @@ impl DoneGroup {
         let _book = self.pictures();
         let mut frame = Frame::blank(alloc, self.settings().dims())?;
         for p in 0..self.pictures() {
-            if self.job(p).frame == k {
-                self.take_rows(p, &mut frame);
-            }
+            self.take_picture(p, k, &mut frame);
         }
         Ok(frame)
     }
@@ -55,10 +90,7 @@ impl DoneGroup {
     {
         let mut last = None;
         for p in 0..self.pictures() {
-            let job = self.job(p);
-            if job.kind != 3 {
-                last = Some(job.frame);
-            }
+            last = anchor_after(last, self.job(p));
         }
         last
     }
@@ -88,9 +120,7 @@ impl DoneGroup {
             };
             frame.crop_into(buffer);
             put_bytes(buffer, recon)?;
-            if last == Some(k) {
-                anchor = Some(frame);
-            }
+            anchor = anchor_with(last, k, frame, anchor);
         }
         Ok(anchor)
     }

@@ -201,6 +201,8 @@ impl Coder {
         let Ok(done) = self.do_jobs(rt, alloc, group, gate) else {
             return Err(EncodeError::Memory);
         };
+        // a group that is done has its book
+        let _book = done.pictures();
         self.ledger = done.ledger();
         done.put_pictures(
             ends,
