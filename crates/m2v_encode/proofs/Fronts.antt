@@ -266,6 +266,11 @@ front_is s frames groups q passes h some =
     ∙ coded_behind s (at_start s) groups (group_of e) (groups_from m (after_group e)) in
     subst (Front (groups_begun s (at_start s) groups)) (sym is) (front_all s (groups_begun s (at_start s) groups) (group_of e ∷ groups_from m (after_group e)))
 
+-- of no frames nothing is coded
+pub front_start : (s : Settings) → Front (groups_begun s (at_start s) []) (coded_all s [])
+unfolding groups_begun coded_all groups_from groups_coded
+front_start s = front_none (at_start s)
+
 -- behind a group that is due before the end, frames are left
 pub left_some : (q : Queue Samples) → Passes q.settings → IsSoundQueue q → q.ended ≡ false → is_due q ≡ true → 0 < length (after_group q).frames
 left_some q passes sound going is =

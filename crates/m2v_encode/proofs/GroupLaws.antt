@@ -19,7 +19,9 @@ use Rattle.m2v_encode.specs.declared.answer.EncodeError.{EncodeError}
 use Rattle.m2v_encode.specs.declared.answer.EncodeError.TheVariants.{Read, Write, ShortFrame, NoFrames, TooManyFrames, Memory}
 use Rattle.m2v_encode.specs.declared.group.Coder.{Coder}
 use Rattle.m2v_encode.specs.Groups.{whole_ledger, group_text, group_shown, anchor_behind, IsPlace}
-use Rattle.m2v_encode.specs.Steps.{PutStops, GroupStops, GoesOn, book_by}
+use Rattle.m2v_stream.specs.Streams.{zeros_sum}
+use Rattle.m2v_encode.specs.declared.answer.Summary.{Summary}
+use Rattle.m2v_encode.specs.Steps.{PutStops, GroupStops, GroupCoded, GoesOn, book_by}
 use Rattle.m2v_encode.proofs.Pieces.{whole_ledger_is}
 use Rattle.m2v_encode.proofs.PictureLaws.{whole_settings, whole_kinds, whole_sizes}
 use Rattle.m2v_encode.proofs.Anchors.{anchor_some, anchor_size}
@@ -53,6 +55,40 @@ module _ {K N : Type 0} (held : K → Option (List ℕ)) (output_faults : K → 
   group_recon NoFrames b ends at o0 o1 r0 r1 grown h = absurd h
   group_recon TooManyFrames b ends at o0 o1 r0 r1 grown h = absurd h
   group_recon Memory b ends at o0 o1 r0 r1 grown h = (grows_by_all grown, h)
+
+  pub group_output_by : (e : EncodeError) (b d : Book) (ends : Bool) (at from : ℕ) (o0 o1 : K) (r : N) → d ≡ b → from ≡ at
+      → PutStops (packed (group_text d ends from)) (change held output_faults o0 o1) e → GroupStops b ends at (change held output_faults o0 o1) (change kept recon_faults r r) e
+  group_output_by e b d ends at from o0 o1 r is same h =
+      group_output e b ends at o0 o1 r
+      (subst (λ (x : Book). PutStops (packed (group_text x ends at)) (change held output_faults o0 o1) e) is
+      (subst (λ (n : ℕ). PutStops (packed (group_text d ends n)) (change held output_faults o0 o1) e) same h))
+
+  pub group_recon_by : (e : EncodeError) (b d : Book) (ends : Bool) (at from : ℕ) (o0 o1 : K) (r0 r1 : N) → d ≡ b → from ≡ at
+      → Grows (held o0) (packed (group_text d ends from)) (held o1) → PutStops (raw (group_shown d)) (change kept recon_faults r0 r1) e
+      → GroupStops b ends at (change held output_faults o0 o1) (change kept recon_faults r0 r1) e
+  group_recon_by e b d ends at from o0 o1 r0 r1 is same grown h =
+      group_recon e b ends at o0 o1 r0 r1
+      (subst (λ (x : Book). Grows (held o0) (packed (group_text x ends at)) (held o1)) is
+      (subst (λ (n : ℕ). Grows (held o0) (packed (group_text d ends n)) (held o1)) same grown))
+      (subst (λ (x : Book). PutStops (raw (group_shown x)) (change kept recon_faults r0 r1) e) is h)
+
+-- all of a group was written
+pub coded_by : (c d : Coder) (b : Book) (ends : Bool) (t : Summary) (l : Entries) (held recon : Change) → t ≡ c.total → l ≡ whole_ledger b
+    → Grows held.old (packed (group_text b ends (8 * t.bytes))) held.new → Grows recon.old (raw (group_shown b)) recon.new
+    → d.settings ≡ c.settings → d.ledger ≡ l → d.before ≡ anchor_behind b → d.total.frames ≡ t.frames
+    → d.total.pictures ≡ t.pictures + length b.pictures → 8 * d.total.bytes ≡ 8 * t.bytes + length (group_text b ends (8 * t.bytes))
+    → 8 * d.total.stuffing ≡ 8 * t.stuffing + zeros_sum l ends (length b.pictures) → GroupCoded c d b ends held recon
+coded_by c d b ends t l held recon is same grown shown settings ledger before frames pictures bytes stuffing = record {
+  grown = subst (λ (x : Summary). Grows held.old (packed (group_text b ends (8 * x.bytes))) held.new) is grown;
+  shown = shown;
+  settings = settings;
+  ledger = ledger ∙ same;
+  before = before;
+  frames = frames ∙ ap (λ (x : Summary). x.frames) is;
+  pictures = pictures ∙ ap (λ (x : Summary). x.pictures + length b.pictures) is;
+  bytes = bytes ∙ ap (λ (x : Summary). 8 * x.bytes + length (group_text b ends (8 * x.bytes))) is;
+  stuffing = stuffing ∙ ap (λ (x : Summary). 8 * x.stuffing + zeros_sum l ends (length b.pictures)) is ∙ ap (λ (x : Entries). 8 * c.total.stuffing + zeros_sum x ends (length b.pictures)) same;
+}
 
 -- ---- what stands
 

@@ -9,3 +9,5 @@ pub mod Covering
 pub mod Rebuilding
 pub mod Anchors
 pub mod GroupLaws
+pub mod Progress
+pub mod Due

@@ -1,6 +1,6 @@
 -- The steps of coding a raw input: what stands after some frames, and what a step does.
 use Rattle.std.specs.Prelude.{ℕ, ◌≡◌, ◌+◌, ◌*◌, ◌<◌, ◌≤◌, ◌^◌, ◌⊎◌, Bool, true, false, List, [], ◌++◌, map, length, vec_len, IfSome, is_some}
-use Rattle.m2v_bits.specs.Bits.{packed}
+use Rattle.m2v_bits.specs.Bits.{packed, start_code}
 use Rattle.m2v_port.specs.Ends.{Change}
 use Rattle.m2v_port.specs.Port.{Moves, MovesFewer, IsAtEnd, Grows, GrowsByPrefix}
 use Rattle.m2v_plane.specs.Raw.{frame_bytes, raw, pad}
@@ -184,3 +184,39 @@ pub record SoFar (s : Settings) (c : Coder) (q : Queue Samples) (left held recon
 pub record DueCoded (old new : Coder) (before after : Queue Samples) (held recon : Change) : Type 0 where
   pub due : is_due before ≡ true → (after ≡ after_group before) × GroupCoded old new (book_by old (group_of before)) false held recon
   pub rest : is_due before ≡ false → (after ≡ before) × ((new ≡ old) × ((held.new ≡ held.old) × (recon.new ≡ recon.old)))
+
+-- why the group that is due wasn't coded
+unfoldable pub DueStops : Coder → Queue Samples → Change → Change → EncodeError → Type 0
+DueStops c q held recon e =
+    ((is_due q ≡ true) × GroupStops (book_by c (group_of q)) false (8 * c.total.bytes) held recon e)
+    ⊎ ((e ≡ Memory) × ((held.new ≡ held.old) × (recon.new ≡ recon.old)))
+
+-- ---- the end
+
+-- the bytes of the last group, and of the sequence end code
+abbrev pub end_bytes : Book → ℕ → List ℕ
+end_bytes b at = packed (group_text b true at ++ start_code 0xB7)
+
+-- the last group and the end code were written
+pub record EndCoded (c : Coder) (b : Book) (held recon : Change) (t : Summary) : Type 0 where
+  pub grown : Grows held.old (end_bytes b (8 * c.total.bytes)) held.new
+  pub shown : Grows recon.old (raw (group_shown b)) recon.new
+  pub frames : t.frames ≡ c.total.frames
+  pub pictures : t.pictures ≡ c.total.pictures + length b.pictures
+  pub bytes : 8 * t.bytes ≡ 8 * c.total.bytes + length (group_text b true (8 * c.total.bytes)) + 32
+  pub stuffing : 8 * t.stuffing ≡ 8 * c.total.stuffing + zeros_sum (whole_ledger b) true (length b.pictures)
+
+-- output and recon have each grown by a prefix of what the end brings
+pub record EndCut (c : Coder) (b : Book) (held recon : Change) : Type 0 where
+  pub grown : GrowsByPrefix held.old (end_bytes b (8 * c.total.bytes)) held.new
+  pub shown : GrowsByPrefix recon.old (raw (group_shown b)) recon.new
+
+-- why the stream wasn't ended; the queue is that of all frames
+unfoldable pub EndStops : Coder → Queue Samples → Change → Change → EncodeError → Type 0
+EndStops c q held recon Read = ⊥
+EndStops c q held recon Write = (held.Failed ⊎ recon.Failed) × ((is_due q ≡ true) × EndCut c (book_by c (group_of q)) held recon)
+EndStops c q held recon (ShortFrame extra) = ⊥
+EndStops c q held recon NoFrames = (is_due q ≡ false) × (held.Unchanged × recon.Unchanged)
+EndStops c q held recon TooManyFrames = ⊥
+EndStops c q held recon Memory =
+    ((is_due q ≡ true) × EndCut c (book_by c (group_of q)) held recon) ⊎ (held.Unchanged × ((held.new ≡ held.old) × (recon.Unchanged × (recon.new ≡ recon.old))))

@@ -1,6 +1,6 @@
 //! The encoder: raw frames to a stream of the Main profile (ISO/IEC 13818-2), group by group, by workers.
 //!
-//! [`encode`] reads frame after frame, and codes a group of pictures as soon as the next I frame has been read whole, or the
+//! [`encode_to`] reads frame after frame, and codes a group of pictures as soon as the next I frame has been read whole, or the
 //! input has ended. Each group is a book of jobs, which as many workers do as are wanted; what is written is the same for
 //! every number of them.
 #![tactic(auto)]
@@ -14,3 +14,4 @@ mod pictures;
 mod reading;
 
 pub use answer::{EncodeError, Summary};
+pub use encode::encode_to;
