@@ -11,3 +11,4 @@ pub mod Anchors
 pub mod GroupLaws
 pub mod Progress
 pub mod Due
+pub mod Ends

@@ -33,7 +33,7 @@ use Rattle.m2v_encode.proofs.Fronts.{handed_none, handed_push, handed_group, beg
 -- ---- bytes and bits
 
 -- the bytes of a text begin with those of its front
-packed_front : (a b : List Bool) → (rest : List ℕ) × (packed (a ++ b) ≡ packed a ++ rest)
+pub packed_front : (a b : List Bool) → (rest : List ℕ) × (packed (a ++ b) ≡ packed a ++ rest)
 unfolding packed
 packed_front (x1 ∷ x2 ∷ x3 ∷ x4 ∷ x5 ∷ x6 ∷ x7 ∷ x8 ∷ a) b =
     let rec = packed_front a b in
@@ -62,7 +62,7 @@ bytes_by (x1 ∷ x2 ∷ x3 ∷ x4 ∷ x5 ∷ []) e = absurd (omega (arith, e))
 bytes_by (x1 ∷ x2 ∷ x3 ∷ x4 ∷ x5 ∷ x6 ∷ []) e = absurd (omega (arith, e))
 bytes_by (x1 ∷ x2 ∷ x3 ∷ x4 ∷ x5 ∷ x6 ∷ x7 ∷ []) e = absurd (omega (arith, e))
 
-prefix_by : (h0 h1 : Option (List ℕ)) (part all rest : List ℕ) → all ≡ part ++ rest → GrowsByPrefix h0 part h1 → GrowsByPrefix h0 all h1
+pub prefix_by : (h0 h1 : Option (List ℕ)) (part all rest : List ℕ) → all ≡ part ++ rest → GrowsByPrefix h0 part h1 → GrowsByPrefix h0 all h1
 prefix_by h0 h1 part all rest is grown = subst (λ (b : List ℕ). GrowsByPrefix h0 b h1) (sym is) (prefix_of_more grown rest)
 
 -- ---- frames
