@@ -86,9 +86,9 @@ kept_past b a k other = ap (λ (t : Bool). cond t (Some (frame_of b (all_coded b
     same_test a k other = elim (cases_lt a k) [
       | inl lt ↦ lt-ltb a k lt ∙ sym (lt-ltb a (k + 1) (omega (arith, lt)))
       | inr le ↦ elim (cases_lt a (k + 1)) [
-          | inl next ↦ absurd (other (omega (arith, le, next)))
-          | inr past ↦ le-ltb a k le ∙ sym (le-ltb a (k + 1) past)
-        ]
+        | inl next ↦ absurd (other (omega (arith, le, next)))
+        | inr past ↦ le-ltb a k le ∙ sym (le-ltb a (k + 1) past)
+      ]
     ]
 
 pub kept_more : (b : Book) (o : Option ℕ) (k : ℕ) → (o ≡ Some k → ⊥) → kept b o k ≡ kept b o (k + 1)
@@ -106,8 +106,8 @@ kept_next b None k f anchor next before same here past = past none_some ∙ befo
 kept_next b (Some a) k f anchor next before same here past = elim (cases_eq a k) [
   | inl e ↦ here (ap Some e) ∙ kept_here b (Some a) k f (ap Some e) same
   | inr other ↦
-    let not_here : Some a ≡ Some k → ⊥ = λ e. other (some_is a k e) in
-    past not_here ∙ before ∙ kept_more b (Some a) k not_here
+      let not_here : Some a ≡ Some k → ⊥ = λ e. other (some_is a k e) in
+      past not_here ∙ before ∙ kept_more b (Some a) k not_here
 ]
   where
     some_is : (a k : ℕ) → Some a ≡ Some k → a ≡ k
@@ -141,16 +141,18 @@ shown_more b n =
 pub shown_split : (b : Book) (n k : ℕ) → n + 1 + k ≡ length b.frames
     → (rest : List ℕ) × (raw (group_shown b) ≡ raw (frames_shown b n) ++ (crop (frame_of b (all_coded b) n) ++ rest))
 shown_split b n zero is =
-    let e : length b.frames ≡ n + 1 = omega (arith, is) in
-    ([],
+    let e : length b.frames ≡ n + 1 = omega (arith, is) in (
+      [],
       ap (λ (m : ℕ). raw (frames_shown b m)) e ∙ shown_more b n
-      ∙ ap (λ (t : List ℕ). raw (frames_shown b n) ++ t) (sym (append-nil (crop (frame_of b (all_coded b) n)))))
+          ∙ ap (λ (t : List ℕ). raw (frames_shown b n) ++ t) (sym (append-nil (crop (frame_of b (all_coded b) n)))),
+    )
 shown_split b n (suc k) is =
     let next = shown_split b (n + 1) k (omega (arith, is)) in
     let one = crop (frame_of b (all_coded b) n) in
-    let two = crop (frame_of b (all_coded b) (n + 1)) in
-    (two ++ next.0,
-      next.1 ∙ ap (λ (t : List ℕ). t ++ (two ++ next.0)) (shown_more b n) ∙ append_assoc (raw (frames_shown b n)) one (two ++ next.0))
+    let two = crop (frame_of b (all_coded b) (n + 1)) in (
+      two ++ next.0,
+      next.1 ∙ ap (λ (t : List ℕ). t ++ (two ++ next.0)) (shown_more b n) ∙ append_assoc (raw (frames_shown b n)) one (two ++ next.0),
+    )
 
 pub shown_size : (b : Book) (k : ℕ) → length (crop (frame_of b (all_coded b) k)) ≡ frame_bytes (dims_of b.settings)
 unfolding frame_of
@@ -161,6 +163,13 @@ shown_size b k = crop_size (frame_of b (all_coded b) k)
         let y = shown (16 * s.dims.mb_width) s.dims.height s.dims.width s.luma in
         let u = shown (8 * s.dims.mb_width) (chroma_height s.dims) (chroma_width s.dims) s.cb in
         let v = shown (8 * s.dims.mb_width) (chroma_height s.dims) (chroma_width s.dims) s.cr in
-        omega (arith, length-append y (u ++ v), length-append u v, length-shown (16 * s.dims.mb_width) s.dims.height s.dims.width s.luma,
-          length-shown (8 * s.dims.mb_width) (chroma_height s.dims) (chroma_width s.dims) s.cb, length-shown (8 * s.dims.mb_width) (chroma_height s.dims) (chroma_width s.dims) s.cr,
-          mul_comm s.dims.height s.dims.width, mul_comm (chroma_height s.dims) (chroma_width s.dims))
+        omega (
+          arith,
+          length-append y (u ++ v),
+          length-append u v,
+          length-shown (16 * s.dims.mb_width) s.dims.height s.dims.width s.luma,
+          length-shown (8 * s.dims.mb_width) (chroma_height s.dims) (chroma_width s.dims) s.cb,
+          length-shown (8 * s.dims.mb_width) (chroma_height s.dims) (chroma_width s.dims) s.cr,
+          mul_comm s.dims.height s.dims.width,
+          mul_comm (chroma_height s.dims) (chroma_width s.dims),
+        )

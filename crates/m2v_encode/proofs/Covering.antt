@@ -71,11 +71,11 @@ order_has from [] i up low high = absurd (omega (arith, low, high))
 order_has from (a ∷ more) i up low high = elim (cases_lt i a) [
   | inl below ↦ has_behind i (a ∷ []) (frames_between from a ++ in_order (a + 1) more) (has_before i (frames_between from a) (in_order (a + 1) more) (between_has from a i low below))
   | inr past ↦ elim (cases_lt a i) [
-      | inl above ↦ has_behind i (a ∷ []) (frames_between from a ++ in_order (a + 1) more) (has_behind i (frames_between from a) (in_order (a + 1) more) (order_has (a + 1) more i up.1 (omega (arith, above)) high))
-      | inr same ↦
+    | inl above ↦ has_behind i (a ∷ []) (frames_between from a ++ in_order (a + 1) more) (has_behind i (frames_between from a) (in_order (a + 1) more) (order_has (a + 1) more i up.1 (omega (arith, above)) high))
+    | inr same ↦
         let e : a ≡ i = omega (arith, past, same) in
         record { before = []; after = frames_between from a ++ in_order (a + 1) more; is = ap (λ (x : ℕ). x ∷ (frames_between from a ++ in_order (a + 1) more)) e }
-    ]
+  ]
 ]
 
 -- ---- pictures
@@ -143,14 +143,14 @@ with_some b k lines zero p lt frame has = absurd (omega (arith, lt))
 with_some b k lines (suc n) p lt frame has = elim (cases_Bool (nat_eq (job_at b n).frame k && has_lines (job_at b n).structure lines)) [
   | inl here ↦ (n, cond-true _ _ _ here)
   | inr other ↦ elim (cases_lt p n) [
-      | inl below ↦ let rec = with_some b k lines n p below frame has in (rec.0, cond_rest _ _ _ other ∙ rec.1)
-      | inr last ↦
+    | inl below ↦ let rec = with_some b k lines n p below frame has in (rec.0, cond_rest _ _ _ other ∙ rec.1)
+    | inr last ↦
         let e : p ≡ n = omega (arith, lt, last) in
         absurd (both_ways (nat_eq (job_at b n).frame k && has_lines (job_at b n).structure lines) other
-          (and_from (nat_eq (job_at b n).frame k) (has_lines (job_at b n).structure lines)
-            (eq-eqb (job_at b n).frame k (ap (λ (i : ℕ). (job_at b i).frame) (sym e) ∙ frame))
-            (ap (λ (i : ℕ). has_lines (job_at b i).structure lines) (sym e) ∙ has)))
-    ]
+        (and_from (nat_eq (job_at b n).frame k) (has_lines (job_at b n).structure lines)
+        (eq-eqb (job_at b n).frame k (ap (λ (i : ℕ). (job_at b i).frame) (sym e) ∙ frame))
+        (ap (λ (i : ℕ). has_lines (job_at b i).structure lines) (sym e) ∙ has)))
+  ]
 ]
   where
     cond_rest : (t : Bool) (x y : Option ℕ) → t ≡ false → cond t x y ≡ y

@@ -40,5 +40,70 @@ end_group c q g held recon NoFrames due is h = absurd h
 end_group c q g held recon TooManyFrames due is h = absurd h
 end_group c q g held recon Memory due is h = inl (due, subst (λ (x : Group Samples). EndCut c (book_by c x) held recon) is (cut_by c (book_by c g) held recon h.0 h.1))
 
+pub end_group_by : (c : Coder) (q r : Queue Samples) (g : Group Samples) (held recon : Change) (e : EncodeError) → q ≡ r → is_due q ≡ true → g ≡ group_of q
+    → GroupStops (book_by c g) true (8 * c.total.bytes) held recon e → EndStops c r held recon e
+end_group_by c q r g held recon e same due is h = subst (λ (x : Queue Samples). EndStops c x held recon e) same (end_group c q g held recon e due is h)
+
 end_edge : (c d : Coder) (b : Book) (held recon : Change) → GroupCoded c d b true held recon → IsEdge (group_text b true (8 * c.total.bytes))
 end_edge c d b held recon coded = omega (arith, coded.bytes)
+
+pub none_false : (t : Bool) → (t ≡ true → ⊥) → t ≡ false
+none_false true n = absurd (n refl)
+none_false false n = refl
+
+module _ {K N : Type 0} (held : K → Option (List ℕ)) (output_faults : K → ℕ) (kept : N → Option (List ℕ)) (recon_faults : N → ℕ) where
+  end_is : (c d : Coder) (b : Book) (o0 o1 : K) (r0 r1 : N) (bytes : List ℕ) → bytes ≡ packed (start_code 0xB7) → GroupCoded c d b true (change held output_faults o0 o1) (change kept recon_faults r0 r1)
+      → packed (group_text b true (8 * c.total.bytes)) ++ bytes ≡ end_bytes b (8 * c.total.bytes)
+  end_is c d b o0 o1 r0 r1 bytes is coded =
+      let g = group_text b true (8 * c.total.bytes) in
+      let edge : IsEdge g = omega (arith, coded.bytes) in
+      ap (λ (t : List ℕ). packed g ++ t) is ∙ sym (packed-append g (start_code 0xB7) edge)
+
+  put_cut : (c d : Coder) (b : Book) (o0 o1 o2 : K) (r0 r1 : N) (bytes : List ℕ) → bytes ≡ packed (start_code 0xB7)
+      → GroupCoded c d b true (change held output_faults o0 o1) (change kept recon_faults r0 r1) → GrowsByPrefix (held o1) bytes (held o2)
+      → EndCut c b (change held output_faults o0 o2) (change kept recon_faults r0 r1)
+  put_cut c d b o0 o1 o2 r0 r1 bytes is coded last = record {
+    grown = subst (λ (t : List ℕ). GrowsByPrefix (held o0) t (held o2)) (end_is c d b o0 o1 r0 r1 bytes is coded) (prefix_on coded.grown last);
+    shown = grows_by_all coded.shown;
+  }
+
+  -- the end code stopped
+  pub end_put : (c d : Coder) (q : Queue Samples) (g : Group Samples) (o0 o1 o2 : K) (r0 r1 : N) (bytes : List ℕ) (e : EncodeError) → is_due q ≡ true → g ≡ group_of q → bytes ≡ packed (start_code 0xB7)
+      → output_faults o0 ≤ output_faults o1 → GroupCoded c d (book_by c g) true (change held output_faults o0 o1) (change kept recon_faults r0 r1)
+      → PutStops bytes (change held output_faults o1 o2) e → EndStops c q (change held output_faults o0 o2) (change kept recon_faults r0 r1) e
+  unfolding PutStops EndStops
+  end_put c d q g o0 o1 o2 r0 r1 bytes Read due is same le coded h = absurd h
+  end_put c d q g o0 o1 o2 r0 r1 bytes Write due is same le coded h =
+      (inl (rose_since le h.0), (due, subst (λ (x : Group Samples). EndCut c (book_by c x) (change held output_faults o0 o2) (change kept recon_faults r0 r1)) is (put_cut c d (book_by c g) o0 o1 o2 r0 r1 bytes same coded h.1)))
+  end_put c d q g o0 o1 o2 r0 r1 bytes (ShortFrame extra) due is same le coded h = absurd h
+  end_put c d q g o0 o1 o2 r0 r1 bytes NoFrames due is same le coded h = absurd h
+  end_put c d q g o0 o1 o2 r0 r1 bytes TooManyFrames due is same le coded h = absurd h
+  end_put c d q g o0 o1 o2 r0 r1 bytes Memory due is same le coded h =
+      inl (due, subst (λ (x : Group Samples). EndCut c (book_by c x) (change held output_faults o0 o2) (change kept recon_faults r0 r1)) is (put_cut c d (book_by c g) o0 o1 o2 r0 r1 bytes same coded h))
+
+  -- all was written
+  pub end_all : (c d : Coder) (q : Queue Samples) (g : Group Samples) (o0 o1 o2 : K) (r0 r1 : N) (bytes : List ℕ) (t : Summary) → g ≡ group_of q → bytes ≡ packed (start_code 0xB7)
+      → GroupCoded c d (book_by c g) true (change held output_faults o0 o1) (change kept recon_faults r0 r1) → Grows (held o1) bytes (held o2)
+      → t ≡ record d.total { bytes = d.total.bytes + 4 } → EndCoded c (book_by c (group_of q)) (change held output_faults o0 o2) (change kept recon_faults r0 r1) t
+  end_all c d q g o0 o1 o2 r0 r1 bytes t is same coded last total =
+      subst (λ (x : Group Samples). EndCoded c (book_by c x) (change held output_faults o0 o2) (change kept recon_faults r0 r1) t) is (record {
+        grown = subst (λ (z : List ℕ). Grows (held o0) z (held o2)) (end_is c d (book_by c g) o0 o1 r0 r1 bytes same coded) (grows_on coded.grown last);
+        shown = coded.shown;
+        frames = ap (λ (x : Summary). x.frames) total ∙ coded.frames;
+        pictures = ap (λ (x : Summary). x.pictures) total ∙ coded.pictures;
+        bytes = omega (arith, ap (λ (x : Summary). x.bytes) total, coded.bytes);
+        stuffing = ap (λ (x : Summary). 8 * x.stuffing) total ∙ coded.stuffing;
+      })
+
+  pub end_put_by : (c d : Coder) (q r : Queue Samples) (g : Group Samples) (o0 o1 o2 : K) (r0 r1 : N) (bytes : List ℕ) (e : EncodeError) → q ≡ r → is_due q ≡ true → g ≡ group_of q → bytes ≡ packed (start_code 0xB7)
+      → output_faults o0 ≤ output_faults o1 → GroupCoded c d (book_by c g) true (change held output_faults o0 o1) (change kept recon_faults r0 r1)
+      → PutStops bytes (change held output_faults o1 o2) e → EndStops c r (change held output_faults o0 o2) (change kept recon_faults r0 r1) e
+  end_put_by c d q r g o0 o1 o2 r0 r1 bytes e queue due is same le coded h =
+      subst (λ (x : Queue Samples). EndStops c x (change held output_faults o0 o2) (change kept recon_faults r0 r1) e) queue (end_put c d q g o0 o1 o2 r0 r1 bytes e due is same le coded h)
+
+  pub end_all_by : (c d : Coder) (q r : Queue Samples) (g : Group Samples) (o0 o1 o2 : K) (r0 r1 : N) (bytes : List ℕ) (t : Summary) → q ≡ r → g ≡ group_of q → bytes ≡ packed (start_code 0xB7)
+      → GroupCoded c d (book_by c g) true (change held output_faults o0 o1) (change kept recon_faults r0 r1) → Grows (held o1) bytes (held o2)
+      → t ≡ record d.total { bytes = d.total.bytes + 4 } → EndCoded c (book_by c (group_of r)) (change held output_faults o0 o2) (change kept recon_faults r0 r1) t
+  end_all_by c d q r g o0 o1 o2 r0 r1 bytes t queue is same coded last total =
+      subst (λ (x : Queue Samples). EndCoded c (book_by c (group_of x)) (change held output_faults o0 o2) (change kept recon_faults r0 r1) t) queue
+      (end_all c d q g o0 o1 o2 r0 r1 bytes t is same coded last total)

@@ -179,14 +179,14 @@ ended_one : (q : Queue Samples) → Passes q.settings → IsSoundQueue (after_en
 unfolding is_due
 ended_one q passes sound is rest = elim (cases_lt 0 (length (after_group (after_end q)).frames)) [
   | inl some ↦
-    let e = after_end q in
-    let ok = grouped q.settings passes in
-    let due = due_is e is in
-    let turn = turn_is e ok sound due in
-    let next = has_next e ok turn some in
-    absurd (is_false (nat_lt 0 (length q.frames) && (q.ended || nat_lt (next_intra q) q.pushed)) rest
+      let e = after_end q in
+      let ok = grouped q.settings passes in
+      let due = due_is e is in
+      let turn = turn_is e ok sound due in
+      let next = has_next e ok turn some in
+      absurd (is_false (nat_lt 0 (length q.frames) && (q.ended || nat_lt (next_intra q) q.pushed)) rest
       (and_from (nat_lt 0 (length q.frames)) (q.ended || nat_lt (next_intra q) q.pushed) (lt-ltb 0 (length q.frames) due.some)
-        (ap (λ (t : Bool). q.ended || t) (lt-ltb (next_intra q) q.pushed next) ∙ or_true q.ended)))
+      (ap (λ (t : Bool). q.ended || t) (lt-ltb (next_intra q) q.pushed next) ∙ or_true q.ended)))
   | inr none ↦ omega (arith, none)
 ]
   where
@@ -281,6 +281,6 @@ left_some q passes sound going is =
     elim (cases_lt 0 (length (after_group q).frames)) [
       | inl some ↦ some
       | inr none ↦
-        let zero_pushed = next.none (omega (arith, none)) going in
-        omega (arith, zero_pushed, turn.past, turn.low, turn.high, turn.top)
+          let zero_pushed = next.none (omega (arith, none)) going in
+          omega (arith, zero_pushed, turn.past, turn.low, turn.high, turn.top)
     ]

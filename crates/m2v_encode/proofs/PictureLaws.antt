@@ -200,18 +200,20 @@ pub pictures_split : (b : Book) → IsBook b → (l : Entries) (ends : Bool) (at
     → (rest : List ℕ) × (packed (pictures_text b (all_coded b) l ends at (length b.pictures))
     ≡ packed (pictures_text b (all_coded b) l ends at n) ++ (packed (picture_text b (all_coded b) l ends here n) ++ rest))
 pictures_split b h l ends at n zero here is place =
-    let e : length b.pictures ≡ n + 1 = omega (arith, is) in
-    ([],
+    let e : length b.pictures ≡ n + 1 = omega (arith, is) in (
+      [],
       ap (λ (m : ℕ). packed (pictures_text b (all_coded b) l ends at m)) e ∙ bytes_more b h l ends at n here (omega (arith, is)) place
-      ∙ ap (λ (xs : List ℕ). packed (pictures_text b (all_coded b) l ends at n) ++ xs) (sym (append-nil (packed (picture_text b (all_coded b) l ends here n)))))
+          ∙ ap (λ (xs : List ℕ). packed (pictures_text b (all_coded b) l ends at n) ++ xs) (sym (append-nil (packed (picture_text b (all_coded b) l ends here n)))),
+    )
 pictures_split b h l ends at n (suc k) here is place =
     let there = at + length (pictures_text b (all_coded b) l ends at (n + 1)) in
     let next = pictures_split b h l ends at (n + 1) k there (omega (arith, is)) refl in
     let front = packed (pictures_text b (all_coded b) l ends at n) in
     let one = packed (picture_text b (all_coded b) l ends here n) in
-    let two = packed (picture_text b (all_coded b) l ends there (n + 1)) in
-    (two ++ next.0,
-      next.1 ∙ ap (λ (xs : List ℕ). xs ++ (two ++ next.0)) (bytes_more b h l ends at n here (omega (arith, is)) place) ∙ append_assoc front one (two ++ next.0))
+    let two = packed (picture_text b (all_coded b) l ends there (n + 1)) in (
+      two ++ next.0,
+      next.1 ∙ ap (λ (xs : List ℕ). xs ++ (two ++ next.0)) (bytes_more b h l ends at n here (omega (arith, is)) place) ∙ append_assoc front one (two ++ next.0),
+    )
 
 -- how long they are with one more
 pub length_more : (b : Book) → IsBook b → (l : Entries) (ends : Bool) (at n : ℕ) → n < length b.pictures

@@ -84,17 +84,19 @@ slices_more b p n lt small =
 pub slices_split : (b : Book) (p n k : ℕ) → p < length b.pictures → n + 1 + k ≡ rows b
     → (rest : List ℕ) × (packed (slices_text b p (rows b)) ≡ packed (slices_text b p n) ++ (packed (slice_at (all_coded b) p n).text ++ rest))
 slices_split b p n zero lt is =
-    let e : rows b ≡ n + 1 = omega (arith, is) in
-    ([],
+    let e : rows b ≡ n + 1 = omega (arith, is) in (
+      [],
       ap (λ (m : ℕ). packed (slices_text b p m)) e ∙ slices_more b p n lt (omega (arith, is))
-      ∙ ap (λ (xs : List ℕ). packed (slices_text b p n) ++ xs) (sym (append-nil (packed (slice_at (all_coded b) p n).text))))
+          ∙ ap (λ (xs : List ℕ). packed (slices_text b p n) ++ xs) (sym (append-nil (packed (slice_at (all_coded b) p n).text))),
+    )
 slices_split b p n (suc k) lt is =
     let next = slices_split b p (n + 1) k lt (omega (arith, is)) in
     let here = packed (slices_text b p n) in
     let one = packed (slice_at (all_coded b) p n).text in
-    let two = packed (slice_at (all_coded b) p (n + 1)).text in
-    (two ++ next.0,
-      next.1 ∙ ap (λ (xs : List ℕ). xs ++ (two ++ next.0)) (slices_more b p n lt (omega (arith, is))) ∙ append_assoc here one (two ++ next.0))
+    let two = packed (slice_at (all_coded b) p (n + 1)).text in (
+      two ++ next.0,
+      next.1 ∙ ap (λ (xs : List ℕ). xs ++ (two ++ next.0)) (slices_more b p n lt (omega (arith, is))) ∙ append_assoc here one (two ++ next.0),
+    )
 
 -- the text of all slices
 pub slices_all : (b : Book) (p : ℕ) → p < length b.pictures
@@ -139,5 +141,11 @@ picture_length b h l ends at p lt =
     let head = header_units b.settings (job_at b p) (delay_at l (job_at b p) p at) in
     let slices = flat_map (λ (x : CodedSlice). x.text) (picture_at (all_coded b) p).slices in
     let tail = replicate (zeros_of l ends p) false in
-    omega (arith, length-append head (slices ++ tail), length-append slices tail, length-replicate (zeros_of l ends p) false,
-      length-flat_map (λ (x : CodedSlice). x.text) (picture_at (all_coded b) p).slices, header_length b.settings (job_at b p) (delay_at l (job_at b p) p at) (job_is b h p lt))
+    omega (
+      arith,
+      length-append head (slices ++ tail),
+      length-append slices tail,
+      length-replicate (zeros_of l ends p) false,
+      length-flat_map (λ (x : CodedSlice). x.text) (picture_at (all_coded b) p).slices,
+      header_length b.settings (job_at b p) (delay_at l (job_at b p) p at) (job_is b h p lt),
+    )

@@ -127,7 +127,7 @@ coded_by s frames x b ends at e edge =
 
 -- The input's states are i0, i1 and so on, the output's o0, o1, and recon's r0, r1.
 module _ {S K N : Type 0} (left : S → Option (List ℕ)) (input_faults : S → ℕ) (held : K → Option (List ℕ)) (output_faults : K → ℕ)
-  (kept : N → Option (List ℕ)) (recon_faults : N → ℕ) where
+    (kept : N → Option (List ℕ)) (recon_faults : N → ℕ) where
   abbrev input : S → S → Change
   input = change left input_faults
 
@@ -231,21 +231,21 @@ module _ {S K N : Type 0} (left : S → Option (List ℕ)) (input_faults : S →
   so_far_due s c d q r i0 i1 o0 o1 o2 r0 r1 r2 passes sound some far due = elim (cases_Bool (is_due q)) [
     | inl is ↦ let g = due.due is in so_far_group s c d q r i0 i1 o0 o1 o2 r0 r1 r2 passes sound is some far g.0 g.1
     | inr none ↦
-      let same = due.rest none in
-      subst (λ (y : Queue Samples). SoFar s d y (input i0 i1) (output o0 o2) (recon r0 r2)) (sym same.0)
-      (subst (λ (y : Coder). SoFar s y q (input i0 i1) (output o0 o2) (recon r0 r2)) (sym same.1.0) (record {
-        frames = far.frames;
-        groups = far.groups;
-        count = far.count;
-        whole = far.whole;
-        moved = far.moved;
-        handed = far.handed;
-        settings = far.settings;
-        stands = far.stands;
-        grown = subst (λ (h : Option (List ℕ)). Grows (held o0) (packed (groups_begun s (at_start s) far.groups).text) h) (sym same.1.1.0) far.grown;
-        shown = subst (λ (h : Option (List ℕ)). Grows (kept r0) (raw (groups_begun s (at_start s) far.groups).shown) h) (sym same.1.1.1) far.shown;
-        unwritten = λ zero_frames. absurd (omega (arith, zero_frames, far.count, some));
-      }))
+        let same = due.rest none in
+        subst (λ (y : Queue Samples). SoFar s d y (input i0 i1) (output o0 o2) (recon r0 r2)) (sym same.0)
+        (subst (λ (y : Coder). SoFar s y q (input i0 i1) (output o0 o2) (recon r0 r2)) (sym same.1.0) (record {
+          frames = far.frames;
+          groups = far.groups;
+          count = far.count;
+          whole = far.whole;
+          moved = far.moved;
+          handed = far.handed;
+          settings = far.settings;
+          stands = far.stands;
+          grown = subst (λ (h : Option (List ℕ)). Grows (held o0) (packed (groups_begun s (at_start s) far.groups).text) h) (sym same.1.1.0) far.grown;
+          shown = subst (λ (h : Option (List ℕ)). Grows (kept r0) (raw (groups_begun s (at_start s) far.groups).shown) h) (sym same.1.1.1) far.shown;
+          unwritten = λ zero_frames. absurd (omega (arith, zero_frames, far.count, some));
+        }))
   ]
 
   -- ---- where it stops
@@ -320,13 +320,15 @@ module _ {S K N : Type 0} (left : S → Option (List ℕ)) (input_faults : S →
       → 0 < frame_bytes (dims_of s) → is_due q ≡ false → input_faults i0 ≤ input_faults i1
       → SoFar s c q (input i0 i1) (output o0 o1) (recon r0 r1) → FrameStops s (input i1 i2) e → Stops s (input i0 i2) (output o0 o1) (recon r0 r1) e
   unfolding FrameStops Stops
-  frame_stopped s c q i0 i1 i2 o0 o1 r0 r1 Read passes sound few some rest since far h =
-      (rose_since since h.0, record {
-        frames = far.frames;
-        part = h.1.part;
-        begun = begun_here s c q h.1.part i0 i1 i2 o0 o1 r0 r1 (omega (arith, few)) rest far h.1.moved;
-        less = h.1.fewer;
-      })
+  frame_stopped s c q i0 i1 i2 o0 o1 r0 r1 Read passes sound few some rest since far h = (
+    rose_since since h.0,
+    record {
+      frames = far.frames;
+      part = h.1.part;
+      begun = begun_here s c q h.1.part i0 i1 i2 o0 o1 r0 r1 (omega (arith, few)) rest far h.1.moved;
+      less = h.1.fewer;
+    },
+  )
   frame_stopped s c q i0 i1 i2 o0 o1 r0 r1 Write passes sound few some rest since far h = absurd h
   frame_stopped s c q i0 i1 i2 o0 o1 r0 r1 (ShortFrame extra) passes sound few some rest since far h = record {
     frames = far.frames;
@@ -412,8 +414,17 @@ module _ {S K N : Type 0} (left : S → Option (List ℕ)) (input_faults : S →
       let whole : Coded s far.frames ≡ packed x.text ++ packed (g ++ start_code 0xB7) = coded_by s far.frames x b true at e edge in
       let shown : raw (Recon s far.frames) ≡ raw x.shown ++ raw (group_shown b) = ap (λ (y : Progress). raw y.shown) e ∙ raw_both x.shown (group_shown b) in
       let bytes : t.bytes ≡ length (Coded s far.frames) =
-      omega (arith, ap length whole, length-append (packed x.text) (packed (g ++ start_code 0xB7)), bytes_by x.text edge,
-        bytes_by (g ++ start_code 0xB7) (omega (arith, length-append g (start_code 0xB7), start_length 0xB7, coded.bytes)), length-append g (start_code 0xB7), start_length 0xB7, coded.bytes, st.bytes) in
+      omega (
+        arith,
+        ap length whole,
+        length-append (packed x.text) (packed (g ++ start_code 0xB7)),
+        bytes_by x.text edge,
+        bytes_by (g ++ start_code 0xB7) (omega (arith, length-append g (start_code 0xB7), start_length 0xB7, coded.bytes)),
+        length-append g (start_code 0xB7),
+        start_length 0xB7,
+        coded.bytes,
+        st.bytes,
+      ) in
       let zero_bytes : t.stuffing ≡ (coded_all s far.frames).zeros / 8 = omega (arith, coded.stuffing, st.stuffing, ap (λ (y : Progress). y.zeros) e) in
       let count : t.frames ≡ length far.frames = coded.frames ∙ sym far.count in
       let pictures : t.pictures ≡ (coded_all s far.frames).pictures = omega (arith, coded.pictures, st.pictures, ap (λ (y : Progress). y.pictures) e) in
@@ -511,13 +522,15 @@ module _ {S K N : Type 0} (left : S → Option (List ℕ)) (input_faults : S →
       → 0 < frame_bytes (dims_of s) → is_due q ≡ false → input_faults i0 ≤ input_faults i1
       → SoFar s c q (input i0 i1) (output o0 o1) (recon r0 r1) → ReadStops 1 (input i1 i2) e → Stops s (input i0 i2) (output o0 o1) (recon r0 r1) e
   unfolding ReadStops Stops
-  look_stopped s c q i0 i1 i2 o0 o1 r0 r1 Read passes sound few some rest since far h =
-      (rose_since since h.0, record {
-        frames = far.frames;
-        part = h.1.part;
-        begun = begun_here s c q h.1.part i0 i1 i2 o0 o1 r0 r1 few rest far h.1.moved;
-        less = omega (arith, h.1.fewer, some);
-      })
+  look_stopped s c q i0 i1 i2 o0 o1 r0 r1 Read passes sound few some rest since far h = (
+    rose_since since h.0,
+    record {
+      frames = far.frames;
+      part = h.1.part;
+      begun = begun_here s c q h.1.part i0 i1 i2 o0 o1 r0 r1 few rest far h.1.moved;
+      less = omega (arith, h.1.fewer, some);
+    },
+  )
   look_stopped s c q i0 i1 i2 o0 o1 r0 r1 Write passes sound few some rest since far h = absurd h
   look_stopped s c q i0 i1 i2 o0 o1 r0 r1 (ShortFrame extra) passes sound few some rest since far h = absurd h
   look_stopped s c q i0 i1 i2 o0 o1 r0 r1 NoFrames passes sound few some rest since far h = absurd h

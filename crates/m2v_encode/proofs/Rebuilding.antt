@@ -107,11 +107,11 @@ by_place false q n x y = refl
 by_place true q n x y = elim (cases_eq q n) [
   | inl e ↦ cond-true (nat_eq q n) _ _ (eq-eqb q n e) ∙ ap x (sym e) ∙ sym (cond-true (nat_lt q (suc n)) _ _ (lt-ltb q (suc n) (omega (arith, e))))
   | inr other ↦ cond-false (nat_eq q n) _ _ (ne_eqb q n other) ∙ elim (cases_lt q n) [
-      | inl lt ↦ cond-true (nat_lt q n) _ _ (lt-ltb q n lt) ∙ sym (cond-true (nat_lt q (suc n)) _ _ (lt-ltb q (suc n) (omega (arith, lt))))
-      | inr le ↦
+    | inl lt ↦ cond-true (nat_lt q n) _ _ (lt-ltb q n lt) ∙ sym (cond-true (nat_lt q (suc n)) _ _ (lt-ltb q (suc n) (omega (arith, lt))))
+    | inr le ↦
         let past : suc n ≤ q = above q n le other in
         cond-false (nat_lt q n) _ _ (le-ltb q n le) ∙ sym (cond-false (nat_lt q (suc n)) _ _ (le-ltb q (suc n) past))
-    ]
+  ]
 ]
   where
     above : (q n : ℕ) → n ≤ q → (q ≡ n → ⊥) → suc n ≤ q
@@ -265,13 +265,13 @@ of_frame : (b : Book) (k n : ℕ) (plane : Plane) (line column : ℕ) → nat_eq
 unfolding has_lines
 of_frame b k n plane line column frame e = elim (cases_Bool (even line)) [
   | inl yes_even ↦
-    hit b k n plane Top line column (so_far b k n) frame (ap (λ (s : ℕ). has_lines s Top) e) (ap (λ (s : ℕ). is_among (own_lines s) line) e)
-    (ap (λ (s : ℕ). line_in s Top (line / 2)) e ∙ even_line line yes_even ∙ sym (ap (λ (s : ℕ). number_among (own_lines s) line) e))
-    ∙ sym (before_even b k (suc n) plane line column yes_even)
+      hit b k n plane Top line column (so_far b k n) frame (ap (λ (s : ℕ). has_lines s Top) e) (ap (λ (s : ℕ). is_among (own_lines s) line) e)
+      (ap (λ (s : ℕ). line_in s Top (line / 2)) e ∙ even_line line yes_even ∙ sym (ap (λ (s : ℕ). number_among (own_lines s) line) e))
+      ∙ sym (before_even b k (suc n) plane line column yes_even)
   | inr not_even ↦
-    hit b k n plane Bottom line column (so_far b k n) frame (ap (λ (s : ℕ). has_lines s Bottom) e) (ap (λ (s : ℕ). is_among (own_lines s) line) e)
-    (ap (λ (s : ℕ). line_in s Bottom (line / 2)) e ∙ (odd_line line not_even).0 ∙ sym (ap (λ (s : ℕ). number_among (own_lines s) line) e))
-    ∙ sym (before_odd b k (suc n) plane line column not_even)
+      hit b k n plane Bottom line column (so_far b k n) frame (ap (λ (s : ℕ). has_lines s Bottom) e) (ap (λ (s : ℕ). is_among (own_lines s) line) e)
+      (ap (λ (s : ℕ). line_in s Bottom (line / 2)) e ∙ (odd_line line not_even).0 ∙ sym (ap (λ (s : ℕ). number_among (own_lines s) line) e))
+      ∙ sym (before_odd b k (suc n) plane line column not_even)
 ]
 
 -- a top field
@@ -280,13 +280,13 @@ of_top : (b : Book) (k n : ℕ) (plane : Plane) (line column : ℕ) → nat_eq (
 unfolding has_lines
 of_top b k n plane line column frame e = elim (cases_Bool (even line)) [
   | inl yes_even ↦
-    hit b k n plane Top line column (so_far b k n) frame (ap (λ (s : ℕ). has_lines s Top) e) (ap (λ (s : ℕ). is_among (own_lines s) line) e ∙ yes_even)
-    (ap (λ (s : ℕ). line_in s Top (line / 2)) e ∙ sym (ap (λ (s : ℕ). number_among (own_lines s) line) e))
-    ∙ sym (before_even b k (suc n) plane line column yes_even)
+      hit b k n plane Top line column (so_far b k n) frame (ap (λ (s : ℕ). has_lines s Top) e) (ap (λ (s : ℕ). is_among (own_lines s) line) e ∙ yes_even)
+      (ap (λ (s : ℕ). line_in s Top (line / 2)) e ∙ sym (ap (λ (s : ℕ). number_among (own_lines s) line) e))
+      ∙ sym (before_even b k (suc n) plane line column yes_even)
   | inr not_even ↦
-    miss b k n plane Bottom line column (so_far b k n) frame (ap (λ (s : ℕ). has_lines s Bottom) e) (ap (λ (s : ℕ). is_among (own_lines s) line) e ∙ not_even)
-    (before_odd b k n plane line column not_even)
-    ∙ sym (before_odd b k (suc n) plane line column not_even)
+      miss b k n plane Bottom line column (so_far b k n) frame (ap (λ (s : ℕ). has_lines s Bottom) e) (ap (λ (s : ℕ). is_among (own_lines s) line) e ∙ not_even)
+      (before_odd b k n plane line column not_even)
+      ∙ sym (before_odd b k (suc n) plane line column not_even)
 ]
 
 -- a bottom field
@@ -295,13 +295,13 @@ of_bottom : (b : Book) (k n : ℕ) (plane : Plane) (line column : ℕ) → nat_e
 unfolding has_lines
 of_bottom b k n plane line column frame e = elim (cases_Bool (even line)) [
   | inl yes_even ↦
-    miss b k n plane Top line column (so_far b k n) frame (ap (λ (s : ℕ). has_lines s Top) e) (ap (λ (s : ℕ). is_among (own_lines s) line) e ∙ even_among line yes_even)
-    (before_even b k n plane line column yes_even)
-    ∙ sym (before_even b k (suc n) plane line column yes_even)
+      miss b k n plane Top line column (so_far b k n) frame (ap (λ (s : ℕ). has_lines s Top) e) (ap (λ (s : ℕ). is_among (own_lines s) line) e ∙ even_among line yes_even)
+      (before_even b k n plane line column yes_even)
+      ∙ sym (before_even b k (suc n) plane line column yes_even)
   | inr not_even ↦
-    hit b k n plane Bottom line column (so_far b k n) frame (ap (λ (s : ℕ). has_lines s Bottom) e) (ap (λ (s : ℕ). is_among (own_lines s) line) e ∙ odd_among line not_even)
-    (ap (λ (s : ℕ). line_in s Bottom (line / 2)) e ∙ sym (ap (λ (s : ℕ). number_among (own_lines s) line) e))
-    ∙ sym (before_odd b k (suc n) plane line column not_even)
+      hit b k n plane Bottom line column (so_far b k n) frame (ap (λ (s : ℕ). has_lines s Bottom) e) (ap (λ (s : ℕ). is_among (own_lines s) line) e ∙ odd_among line not_even)
+      (ap (λ (s : ℕ). line_in s Bottom (line / 2)) e ∙ sym (ap (λ (s : ℕ). number_among (own_lines s) line) e))
+      ∙ sym (before_odd b k (suc n) plane line column not_even)
 ]
 
 by_structure : (scan : Scan) (n : ℕ) → HasStructure scan n → (n ≡ 3) ⊎ ((n ≡ 1) ⊎ (n ≡ 2))
@@ -354,14 +354,14 @@ rebuilt_is b h k (suc n) le =
     let rec = rebuilt_is b h k n (omega (arith, le)) in
     elim (cases_Bool (nat_eq (job_at b n).frame k)) [
       | inl here ↦
-        cond-true (nat_eq (job_at b n).frame k) _ _ here
-        ∙ ap (with_rows b n) rec
-        ∙ rows_all b h n (so_far b k n) (omega (arith, le))
-        ∙ frame_same d (with_picture b n (so_far b k n)) (so_far b k (suc n)) (λ plane r c small less. one_more b h k n plane r c (omega (arith, le)) here)
+          cond-true (nat_eq (job_at b n).frame k) _ _ here
+          ∙ ap (with_rows b n) rec
+          ∙ rows_all b h n (so_far b k n) (omega (arith, le))
+          ∙ frame_same d (with_picture b n (so_far b k n)) (so_far b k (suc n)) (λ plane r c small less. one_more b h k n plane r c (omega (arith, le)) here)
       | inr other ↦
-        cond-false (nat_eq (job_at b n).frame k) _ _ other
-        ∙ rec
-        ∙ frame_same d (so_far b k n) (so_far b k (suc n)) (λ plane r c small less. other_more b k n plane r c other)
+          cond-false (nat_eq (job_at b n).frame k) _ _ other
+          ∙ rec
+          ∙ frame_same d (so_far b k n) (so_far b k (suc n)) (λ plane r c small less. other_more b k n plane r c other)
     ]
 
 pub rebuilt_size : (b : Book) → IsBook b → (k n : ℕ) → n ≤ length b.pictures → (rebuilt_by b k n).dims ≡ dims_of b.settings

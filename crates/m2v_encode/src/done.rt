@@ -25,9 +25,9 @@ pub(crate) struct DoneGroup {
 
 impl Model for DoneGroup {
     ghost use Rattle.m2v_preface.specs.Headers.{IsJob};
-ghost use Rattle.m2v_slice.specs.Books.{Book};
+    ghost use Rattle.m2v_slice.specs.Books.{Book};
     ghost use Rattle.m2v_slice.specs.Conditions.{IsBook};
-ghost use Rattle.m2v_encode.specs.Groups.{IsDone};
+    ghost use Rattle.m2v_encode.specs.Groups.{IsDone};
 
     ghost Value = { Book };
 

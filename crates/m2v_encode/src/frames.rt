@@ -32,13 +32,7 @@ fn anchor_with(last: Option<u32>, k: u32, frame: Frame, anchor: Option<Frame>) -
     ensures before { (last ≡ Some k → ⊥) → result ≡ anchor }
 {
     match last {
-        Some(place) => {
-            if place == k {
-                Some(frame)
-            } else {
-                anchor
-            }
-        }
+        Some(place) => { if place == k { Some(frame) } else { anchor } }
         None => anchor,
     }
 }

@@ -163,12 +163,7 @@ impl Coder {
 
     /// Codes a group of the settings, and writes its bytes to output and its frames to recon. `ends` tells that it is the
     /// last one of the stream.
-    pub(crate) fn code_group<
-        R: Threads + Wait + Sync,
-        K: Sink,
-        N: Sink,
-        G: Gate + Sync,
-    >(
+    pub(crate) fn code_group<R: Threads + Wait + Sync, K: Sink, N: Sink, G: Gate + Sync>(
         &mut self,
         rt: &R,
         alloc: Global,

@@ -12,11 +12,11 @@ use Rattle.m2v_encode.proofs.Due.{same_group, before_is, early_is, after_some, n
 use Rattle.m2v_encode.proofs.group.Coder.code_due.Goals as goal
 
 pub code_group-requires-clause-going : goal.code_group-requires-clause-going
-code_group-requires-clause-going g c =
+code_group-requires-clause-going g c = λ κs l.
     subst (λ (o : Option ℕ). GoesOn c.args.self.now (is_some o)) (sym (before_is c.args.queue.now c.in-Ok-Some.group.before (rw c.in-Ok-Some.field-0-is at c.in-Ok-Some.ensures.before))) c.requires.going
 
 pub code_group-requires-clause-early : goal.code_group-requires-clause-early
-code_group-requires-clause-early g c =
+code_group-requires-clause-early g c = λ κs l.
     early_is c.args.queue.now c.in-Ok-Some.group.pictures.items c.in-Ok-Some.group.frames.items c.requires.sound c.requires.pushed (rw c.in-Ok-Some.field-0-is at c.in-Ok-Some.ensures.frames) (rw c.in-Ok-Some.field-0-is at c.in-Ok-Some.ensures.places)
 
 pub returns-in-Ok-Some-clause-coded : goal.returns-in-Ok-Some-clause-coded
@@ -25,8 +25,10 @@ returns-in-Ok-Some-clause-coded g c =
     let due = (rw c.in-Ok-Some.field-0-is at c.in-Ok-Some.ensures.due).0 refl in
     on_ok_weaker c.code_group.result
     (λ coded. record {
-      due = λ is. ((rw c.in-Ok-Some.field-0-is at c.in-Ok-Some.ensures.rest),
-        subst (λ (x : Group Samples). GroupCoded c.args.self.now c.code_group.new.self (book_by c.args.self.now x) false (change g.K.Sink.held g.K.Sink.faults c.args.output.now c.code_group.new.output) (change g.N.Sink.held g.N.Sink.faults c.args.recon.now c.code_group.new.recon)) same coded);
+      due = λ is. (
+        (rw c.in-Ok-Some.field-0-is at c.in-Ok-Some.ensures.rest),
+        subst (λ (x : Group Samples). GroupCoded c.args.self.now c.code_group.new.self (book_by c.args.self.now x) false (change g.K.Sink.held g.K.Sink.faults c.args.output.now c.code_group.new.output) (change g.N.Sink.held g.N.Sink.faults c.args.recon.now c.code_group.new.recon)) same coded,
+      );
       rest = λ none. absurd (not_both (is_due c.args.queue.now) due none);
     })
     c.code_group.ensures.coded
