@@ -1,6 +1,6 @@
 -- What stands before the slices of the encoder's pictures: the field values of its headers (clauses 6.2.2 and 6.2.3), their
 -- text and its length, and the context in which the slices of a picture are coded.
-use Rattle.std.specs.Prelude.{ℕ, ◌≡◌, ◌+◌, ◌-◌, ◌*◌, ◌/◌, ◌%◌, ◌<◌, ◌≤◌, ◌^◌, Bool, true, false, not, ◌&&◌, ◌||◌, nat_eq, cond, if◌then◌else◌, List, [], ◌∷◌, length, None}
+use Rattle.std.specs.Prelude.{ℕ, ◌+◌, ◌-◌, ◌*◌, ◌/◌, ◌%◌, ◌<◌, ◌≤◌, Bool, true, false, not, ◌&&◌, ◌||◌, nat_eq, cond, if◌then◌else◌, List, [], ◌∷◌, None}
 use Rattle.m2v_bits.specs.Bits.{unit, ◌⧺◌}
 use Rattle.m2v_quant.specs.Matrices.{default_matrix}
 use Rattle.m2v_head.specs.declared.sequence.SequenceInfo.{SequenceInfo}

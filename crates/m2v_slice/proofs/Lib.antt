@@ -1,0 +1,16 @@
+pub mod Coded
+pub mod Learned
+pub mod References
+pub mod Rows
+pub mod Lists
+pub mod Groups
+pub mod Fitting
+pub mod Steady
+pub mod Sound
+pub mod Works
+pub mod Planned
+pub mod Stands
+pub mod Existing
+pub mod Near
+pub mod Slices
+pub mod Worked

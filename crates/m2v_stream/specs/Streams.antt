@@ -1,5 +1,5 @@
 -- The coded stream of raw frames, and the frames that a decoder makes of it. No word here speaks of workers.
-use Rattle.std.specs.Prelude.{ℕ, zero, suc, ◌+◌, ◌-◌, ◌*◌, ◌/◌, ◌%◌, Bool, true, false, ◌&&◌, nat_eq, cond, if◌then◌else◌, List, [], ◌∷◌, ◌++◌, map, length, replicate, slice_index, Option, Some, None}
+use Rattle.std.specs.Prelude.{ℕ, zero, suc, ◌+◌, ◌*◌, ◌/◌, ◌%◌, Bool, true, false, ◌&&◌, nat_eq, cond, if◌then◌else◌, List, [], ◌∷◌, ◌++◌, map, length, replicate, slice_index, Option, Some, None}
 use Rattle.std.specs.List.{range_with_len, flat_map}
 use Rattle.m2v_bits.specs.Bits.{packed, start_code, ◌⧺◌}
 use Rattle.m2v_plane.specs.declared.dims.Dims.{Dims}

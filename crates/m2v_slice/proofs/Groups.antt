@@ -1,0 +1,155 @@
+-- What is known of a book's pictures.
+use Rattle.std.proofs.Common.{◌≡◌, ℕ, ◌+◌, ◌*◌, ◌/◌, ◌<◌, ◌≤◌, ◌⊎◌, [], ◌∷◌, length, get_or, refl, sym, ap, subst, ◌∙◌, arith, inl, inr}
+use Rattle.std.specs.Prelude.{All}
+use Rattle.std.proofs.lemmas.List.Elements.{All-nil, All-cons}
+use Rattle.m2v_plane.specs.Sizes.{IsSize, part_of}
+use Rattle.m2v_plane.specs.Samples.{Samples}
+use Rattle.m2v_plane.specs.Fields.{no_samples}
+use Rattle.m2v_pred.specs.Motion.{own_lines}
+use Rattle.m2v_set.specs.declared.settings.Settings.{Settings}
+use Rattle.m2v_set.specs.declared.settings.Scan.{Scan}
+use Rattle.m2v_set.specs.declared.settings.Scan.TheVariants.{Progressive, Frames, Fields}
+use Rattle.m2v_set.specs.Numbers.{dims_of, rows_by, frame_rows_by}
+use Rattle.m2v_set.specs.Rules.{Passes, line_step, is_progressive}
+use Rattle.m2v_set.specs.Bounds.{Bounds}
+use Rattle.m2v_order.specs.declared.jobs.PictureJob.{PictureJob}
+use Rattle.m2v_order.specs.Coding.{structures}
+use Rattle.m2v_order.specs.Calls.{IsFromIntra}
+use Rattle.m2v_order.specs.Groups.{Group, Queue, first_of, group_of, IsSoundQueue}
+use Rattle.m2v_order.specs.Whole.{IsKind, fields_of}
+use Rattle.m2v_order.proofs.Queues.{grouped, top_of, Due, due_is, Turn, turn_is, group_places}
+use Rattle.m2v_order.proofs.Turns.{turn_intra}
+use Rattle.m2v_rate.specs.Plans.{Entries}
+use Rattle.m2v_slice.specs.Books.{Book, rows, no_job, job_at}
+use Rattle.m2v_slice.specs.Conditions.{IsBook}
+use Rattle.m2v_slice.specs.Needs.{all_flat}
+
+-- ---- sizes
+
+rows_bounds : (scan : Scan) (height : ℕ) → height ≤ 1152
+    → ((height + 15) / 16 ≤ frame_rows_by scan height) × (frame_rows_by scan height ≤ 72) × (rows_by scan height ≤ 72)
+unfolding frame_rows_by rows_by
+rows_bounds Progressive height low = (omega arith, omega arith, omega arith)
+rows_bounds Frames height low = (omega arith, omega arith, omega arith)
+rows_bounds Fields height low = (omega arith, omega arith, omega arith)
+
+step_some : (scan : Scan) → 2 ≤ line_step scan
+unfolding is_progressive
+step_some Progressive = omega arith
+step_some Frames = omega arith
+step_some Fields = omega arith
+
+pub size_is : (s : Settings) → Bounds s → IsSize (dims_of s)
+unfolding dims_of
+size_is s h =
+    let rows = rows_bounds s.scan s.height h.size.height in
+    record {
+      wide = omega (arith, h.size.wide);
+      width = h.size.width;
+      tall = omega (arith, h.size.tall, step_some s.scan);
+      height = h.size.height;
+      mb_width = refl;
+      covered = rows.0;
+      mb_rows = rows.1;
+    }
+
+pub rows_few : (b : Book) → Bounds b.settings → rows b ≤ 72
+rows_few b h = (rows_bounds b.settings.scan b.settings.height h.size.height).2
+
+-- ---- structures
+
+-- a picture of a frame, or of one of its fields, as the scan is
+abbrev pub HasStructure : Scan → ℕ → Type 0
+HasStructure Progressive structure = structure ≡ 3
+HasStructure Frames structure = structure ≡ 3
+HasStructure Fields structure = (structure ≡ 1) ⊎ (structure ≡ 2)
+
+structures_of : (scan : Scan) (h : PictureJob) → All (λ (j : PictureJob). HasStructure scan j.structure) (fields_of scan h)
+unfolding structures
+structures_of Progressive h =
+    All-cons (λ (j : PictureJob). HasStructure Progressive j.structure) (record h { structure = 3 }) [] refl (All-nil _)
+structures_of Frames h =
+    All-cons (λ (j : PictureJob). HasStructure Frames j.structure) (record h { structure = 3 }) [] refl (All-nil _)
+structures_of Fields h =
+    All-cons (λ (j : PictureJob). HasStructure Fields j.structure) (record h { structure = 1 }) (record h { structure = 2 } ∷ []) (inl refl)
+    (All-cons (λ (j : PictureJob). HasStructure Fields j.structure) (record h { structure = 2 }) [] (inr refl) (All-nil _))
+
+pub structure_low : (scan : Scan) (n : ℕ) → HasStructure scan n → (1 ≤ n) × (n ≤ 3)
+structure_low Progressive n e = (omega arith, omega arith)
+structure_low Frames n e = (omega arith, omega arith)
+structure_low Fields n (inl e) = (omega arith, omega arith)
+structure_low Fields n (inr e) = (omega arith, omega arith)
+
+rows_whole : (n m r total : ℕ) → n ≡ 3 → r < m → m ≡ total → 16 * r + 16 ≤ part_of (own_lines n) (16 * total)
+rows_whole n m r total e lt same = rw e (omega (arith, lt, same))
+
+rows_field : (n m r : ℕ) → (n ≡ 1) ⊎ (n ≡ 2) → r < m → 16 * r + 16 ≤ part_of (own_lines n) (16 * (2 * m))
+rows_field n m r (inl e) lt = rw e (omega (arith, lt))
+rows_field n m r (inr e) lt = rw e (omega (arith, lt))
+
+-- a row of a picture lies within its lines
+pub row_within : (scan : Scan) (height n r : ℕ) → HasStructure scan n → r < rows_by scan height
+    → 16 * r + 16 ≤ part_of (own_lines n) (16 * frame_rows_by scan height)
+unfolding rows_by frame_rows_by
+row_within Progressive height n r is lt = rows_whole n ((height + 15) / 16) r ((height + 15) / 16) is lt refl
+row_within Frames height n r is lt = rows_whole n (2 * ((height + 31) / 32)) r (2 * ((height + 31) / 32)) is lt refl
+row_within Fields height n r is lt = rows_field n ((height + 31) / 32) r is lt
+
+-- ---- a book's pictures
+
+-- what is known of a picture
+pub record IsPicture (b : Book) (p : ℕ) : Type 0 where
+  pub kind : IsKind (job_at b p)
+  pub structure : HasStructure b.settings.scan (job_at b p).structure
+  pub frame : (job_at b p).frame < length b.frames
+  pub display : (job_at b p).frame ≤ (job_at b p).display
+
+pub passes_of : (b : Book) → IsBook b → Passes b.settings
+passes_of b h =
+    let e : b.ledger.settings ≡ b.settings = ap (λ (l : Entries). l.settings) h.ledger.begun ∙ h.ledger.settings in
+    subst Passes e h.ledger.ledger.steady.begun.passes
+
+abbrev group_in : (b : Book) → IsBook b → Group Samples
+group_in b h = record { frames = b.frames; pictures = b.pictures; before = h.last }
+
+-- the turn of the queue that handed the group out
+turn_of : (b : Book) (h : IsBook b) → Turn h.group.queue
+turn_of b h =
+    let q = h.group.queue in
+    let passes : Passes q.settings = subst Passes (sym h.group.settings) (passes_of b h) in
+    turn_is q (grouped q.settings passes) h.group.sound (due_is q h.group.due)
+
+abbrev IsPlaced : ℕ → ℕ → PictureJob → Type 0
+IsPlaced first count j = (j.display ≡ first + j.frame) × (j.frame < count)
+
+places_of : (b : Book) (h : IsBook b) → All (IsPlaced (first_of h.group.queue) (length b.frames)) b.pictures
+places_of b h =
+    subst (λ (g : Group Samples). All (IsPlaced (first_of h.group.queue) (length g.frames)) g.pictures) (sym h.group.is)
+    (group_places h.group.queue h.group.sound (turn_of b h))
+
+pub picture_is_one : (b : Book) → IsBook b → (p : ℕ) → p < length b.pictures → IsPicture b p
+picture_is_one b h p lt =
+    let place = places_of b h p no_job lt in
+    let all = all_flat (λ (j : PictureJob). HasStructure b.settings.scan j.structure) (fields_of b.settings.scan) h.group.heads (structures_of b.settings.scan) in
+    record {
+      kind = h.group.kinds p no_job lt;
+      structure = subst (All (λ (j : PictureJob). HasStructure b.settings.scan j.structure)) (sym h.group.fields) all p no_job lt;
+      frame = place.1;
+      display = omega (arith, place.0);
+    }
+
+begins : (q : Queue Samples) → Passes q.settings → IsSoundQueue q → Due q → Turn q → IsFromIntra (group_of q).pictures
+unfolding group_of
+begins q passes sound due turn =
+    turn_intra q.settings q.pushed (first_of q) (top_of q) (grouped q.settings passes) turn.near turn.next (sound.clear due.some)
+
+-- the group begins with an I picture
+pub from_intra : (b : Book) → IsBook b → IsFromIntra b.pictures
+from_intra b h =
+    let q = h.group.queue in
+    let passes : Passes q.settings = subst Passes (sym h.group.settings) (passes_of b h) in
+    subst (λ (g : Group Samples). IsFromIntra g.pictures) (sym h.group.is) (begins q passes h.group.sound (due_is q h.group.due) (turn_of b h))
+
+-- the source of a picture is of the settings' size
+pub source_size : (b : Book) → IsBook b → (p : ℕ) → p < length b.pictures → (get_or b.frames (job_at b p).frame no_samples).dims ≡ dims_of b.settings
+source_size b h p lt = h.sizes (job_at b p).frame no_samples (picture_is_one b h p lt).frame

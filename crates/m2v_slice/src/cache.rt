@@ -1,0 +1,138 @@
+//! What a worker keeps of the jobs that it learned of.
+ghost use Rattle.std.specs.Prelude.{◌≡◌, ◌+◌, ◌-◌, ◌^◌, ◌<◌, ◌≤◌, All, IfOk, length, min, slice_index_or, slice_set};
+ghost use Rattle.m2v_plane.specs.Sizes.{IsSize};
+ghost use Rattle.m2v_plane.specs.Samples.{Samples};
+ghost use Rattle.m2v_plane.specs.Fields.{no_samples};
+ghost use Rattle.m2v_set.specs.Numbers.{dims_of};
+
+use m2v_core::Memory;
+use m2v_plane::{Dims, RowSamples};
+use m2v_rate::{Ledger, Plan};
+use m2v_set::Passed;
+use std::alloc::Global;
+use std::marker::Model;
+
+/// What a worker keeps of the jobs that it learned of: a plan and the ledger that knows it, the bits of the slices that it
+/// learned of behind the plan, and rows of reference pictures. [`EncodeBook`](crate::EncodeBook) makes it.
+#[derive(Drop)]
+pub struct EncodeCache {
+    plan: Plan,
+    ledger: Ledger,
+    bits: u64,
+    rows: Vec<RowSamples>,
+}
+
+impl Model for EncodeCache {
+    ghost use Rattle.std.specs.Prelude.{◌≤◌, length};
+    ghost use Rattle.m2v_slice.specs.Cached.{Cached};
+
+    ghost Value = { Cached };
+
+    ghost view = { λ c. record { plan = c.plan; ledger = c.ledger; bits = c.bits; rows = c.rows.items } };
+
+    ghost invariant = { λ c. length c.rows.items ≤ 12 };
+}
+
+/// So many rows of samples 0.
+fn blank_rows(alloc: Global, dims: Dims, count: u32) -> Result<Vec<RowSamples>, Memory>
+    requires size { IsSize dims }
+    ensures count { IfOk result (λ v. length v.items ≡ count) }
+    ensures size { IfOk result (λ v. All (λ (row : Samples). row.dims ≡ dims) v.items) }
+{
+    let mut rows = Vec::new(alloc);
+    for _i in 0..count {
+        let row = RowSamples::blank(alloc, dims)?;
+        rows.push(row)?;
+    }
+    Ok(rows)
+}
+
+impl EncodeCache {
+    /// A cache with rows of samples 0, which has learned nothing yet.
+    pub(crate) fn blank(
+        alloc: Global,
+        settings: &Passed,
+        ledger: &Ledger,
+    ) -> Result<EncodeCache, Memory>
+        ensures room { IfOk result (λ c. length c.rows ≡ 12) }
+        ensures size { IfOk result
+            (λ c. All (λ (row : Samples). row.dims ≡ dims_of settings.now) c.rows) }
+    {
+        let rows = blank_rows(alloc, settings.dims(), 12)?;
+        Ok(EncodeCache {
+            plan: Plan {
+                q: 0,
+                cap: 0,
+                target: 0,
+            },
+            ledger: *ledger,
+            bits: 0,
+            rows,
+        })
+    }
+
+    /// The plan that it has learned.
+    pub(crate) fn plan(&self) -> &Plan
+        ensures value { result.now ≡ self.now.plan }
+    {
+        &self.plan
+    }
+
+    /// The ledger that knows the plan.
+    pub(crate) fn ledger(&self) -> &Ledger
+        ensures value { result.now ≡ self.now.ledger }
+    {
+        &self.ledger
+    }
+
+    /// The bits of slices that were counted.
+    pub(crate) fn bits(&self) -> u64
+        ensures value { result ≡ self.now.bits }
+    {
+        self.bits
+    }
+
+    /// A row of a reference picture.
+    #[inline(always)]
+    pub(crate) fn row(&self, k: u32) -> &RowSamples
+        requires place { k < length self.now.rows }
+        ensures value { result.now ≡ slice_index_or self.now.rows k no_samples }
+    {
+        &self.rows[k as usize]
+    }
+
+    /// Takes a plan and the ledger that knows it, and begins to count bits.
+    pub(crate) fn take_plan(&mut self, plan: &Plan, ledger: &Ledger)
+        ensures value { self.new
+            ≡ record self.old { plan = plan.now; ledger = ledger.now; bits = 0 } }
+    {
+        self.plan = *plan;
+        self.ledger = *ledger;
+        self.bits = 0;
+    }
+
+    /// Counts the bits of a slice more.
+    pub(crate) fn add_bits(&mut self, bits: u64)
+        ensures value { self.new
+            ≡ record self.old { bits = min (self.old.bits + bits) (2 ^ 64 - 1) } }
+    {
+        self.bits = self.bits.saturating_add(bits);
+    }
+
+    /// Takes a row in its place.
+    pub(crate) fn set_row(&mut self, k: u32, row: &RowSamples)
+        requires place { k < length self.old.rows }
+        requires same { row.now.dims ≡ (slice_index_or self.old.rows k no_samples).dims }
+        ensures value { self.new ≡ record self.old { rows = slice_set self.old.rows k row.now } }
+    {
+        self.rows[k as usize].copy_from(row);
+    }
+
+    /// How many rows of reference pictures it has room for, at most 12: three for each of at most four pictures.
+    pub fn rows(&self) -> u32
+        ensures value { result ≡ length self.now.rows }
+        ensures most { result ≤ 12 }
+    {
+        self.rows.len() as u32
+    }
+}

@@ -1,0 +1,22 @@
+//! What jobs make, and what others learn of them.
+use m2v_plane::RowSamples;
+use m2v_rate::{Ledger, Plan};
+use m2v_row::SliceOut;
+
+/// What a job makes.
+#[derive(Drop)]
+pub enum EncodePiece {
+    /// The plan of a picture, and the ledger that knows it.
+    Plan { plan: Plan, ledger: Ledger },
+    /// A slice.
+    Slice { out: SliceOut },
+}
+
+/// What other jobs learn of a job.
+#[derive(Drop)]
+pub enum EncodeShared {
+    /// The plan of a picture, and the ledger that knows it.
+    Plan { plan: Plan, ledger: Ledger },
+    /// The samples of a slice, and how many bits it has.
+    Slice { row: RowSamples, bits: u64 },
+}
