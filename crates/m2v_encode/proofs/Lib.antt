@@ -12,3 +12,4 @@ pub mod GroupLaws
 pub mod Progress
 pub mod Due
 pub mod Ends
+pub mod Loop

@@ -1,6 +1,6 @@
 -- Frame after frame: what stands after one more, and where coding stops.
-use Rattle.std.proofs.Common.{◌≡◌, ℕ, zero, suc, ◌+◌, ◌-◌, ◌*◌, ◌/◌, ◌<◌, ◌≤◌, ◌⊎◌, inl, inr, Bool, true, false, List, [], ◌∷◌, ◌++◌, length, Option, Some, None, refl, sym, subst, ap, ◌∙◌, arith, append_assoc}
-use Rattle.std.specs.Prelude.{All, nat_lt, ◌&&◌, ◌||◌}
+use Rattle.std.proofs.Common.{◌≡◌, ℕ, zero, suc, ◌+◌, ◌-◌, ◌*◌, ◌/◌, ◌<◌, ◌≤◌, ◌⊎◌, inl, inr, Bool, true, false, List, [], ◌∷◌, ◌++◌, length, Option, Some, None, Result, Ok, Err, refl, sym, subst, ap, ◌∙◌, arith, append_assoc}
+use Rattle.std.specs.Prelude.{All, OnOk, IfOk, IfErr, nat_lt, ◌&&◌, ◌||◌}
 use Rattle.std.proofs.Math.Nat.{mul-pos}
 use Rattle.std.proofs.lemmas.Bool.{cases_Bool, cases_lt, lt-ltb, and_from}
 use Rattle.std.proofs.lemmas.List.{length-append, append-nil}
@@ -17,7 +17,7 @@ use Rattle.m2v_set.specs.declared.settings.Settings.{Settings}
 use Rattle.m2v_set.specs.Numbers.{dims_of}
 use Rattle.m2v_set.specs.Rules.{Passes}
 use Rattle.m2v_order.specs.Groups.{Queue, Group, opening, next_intra, is_due, group_of, after_push, after_end, after_group, IsSoundQueue}
-use Rattle.m2v_order.proofs.Queues.{due_is}
+use Rattle.m2v_order.proofs.Queues.{due_is, sound_end}
 use Rattle.m2v_rate.specs.Plans.{fresh}
 use Rattle.m2v_slice.specs.Books.{Book}
 use Rattle.m2v_stream.specs.Streams.{Progress, at_start, book_of, group_coded, groups_begun, zeros_sum, coded_all, coded_begun, Coded, Recon, CodedBegun, ReconBegun}
@@ -548,3 +548,46 @@ module _ {S K N : Type 0} (left : S → Option (List ℕ)) (input_faults : S →
     begun = begun_here s c q (next ∷ []) i0 i1 i2 o0 o1 r0 r1 (omega (arith, all)) rest far moved;
     all = far.count ∙ all;
   }
+
+  -- ---- as the loop asks for it
+
+  -- the input has ended, and nothing else changed
+  pub so_far_same : (s : Settings) (c d : Coder) (q r : Queue Samples) (i0 i1 : S) (o0 o1 : K) (r0 r1 : N) → SoFar s c q (input i0 i1) (output o0 o1) (recon r0 r1)
+      → d ≡ record c { raw = d.raw; total = d.total } → d.total ≡ c.total → r ≡ q → SoFar s d r (input i0 i1) (output o0 o1) (recon r0 r1)
+  so_far_same s c d q r i0 i1 o0 o1 r0 r1 far rest total same =
+      let st = far.stands in
+      record {
+        frames = far.frames;
+        groups = far.groups;
+        count = far.count ∙ sym (ap (λ (t : Summary). t.frames) total);
+        whole = far.whole;
+        moved = far.moved;
+        handed = subst (HandedOut s far.frames far.groups) (sym same) far.handed;
+        settings = ap (λ (x : Coder). x.settings) rest ∙ far.settings;
+        stands = record {
+          ledger = ap (λ (x : Coder). x.ledger) rest ∙ st.ledger;
+          before = ap (λ (x : Coder). x.before) rest ∙ st.before;
+          pictures = ap (λ (t : Summary). t.pictures) total ∙ st.pictures;
+          bytes = ap (λ (t : Summary). 8 * t.bytes) total ∙ st.bytes;
+          stuffing = ap (λ (t : Summary). 8 * t.stuffing) total ∙ st.stuffing;
+        };
+        grown = far.grown;
+        shown = far.shown;
+        unwritten = far.unwritten;
+      }
+
+  pub all_ended : (s : Settings) (c : Coder) (q : Queue Samples) (i0 i1 i2 : S) (o0 o1 o2 : K) (r0 r1 r2 : N) (result : Result Summary EncodeError) → Passes s → IsSoundQueue q → is_due q ≡ false
+      → c.total.frames ≤ most_frames → SoFar s c q (input i0 i1) (output o0 o1) (recon r0 r1) → Moves (left i1) [] (left i2) → IsAtEnd (left i2)
+      → OnOk result (is_due (after_end q) ≡ true) → IfOk result (EndCoded c (book_by c (group_of (after_end q))) (output o1 o2) (recon r1 r2))
+      → IfOk result (AllCoded s (input i0 i2) (output o0 o2) (recon r0 r2))
+  all_ended s c q i0 i1 i2 o0 o1 o2 r0 r1 r2 (Ok t) passes sound rest few far moved end is coded =
+      ended s c q i0 i1 i2 o0 o1 o2 r0 r1 r2 t passes rest (sound_end q sound) is (due_frames s c q i0 i1 o0 o1 r0 r1 far (sound_end q sound) is) few far moved end coded
+  all_ended s c q i0 i1 i2 o0 o1 o2 r0 r1 r2 (Err e) passes sound rest few far moved end is coded = tt
+
+  pub all_stopped : (s : Settings) (c : Coder) (q : Queue Samples) (i0 i1 i2 : S) (o0 o1 o2 : K) (r0 r1 r2 : N) (result : Result Summary EncodeError) → Passes s → IsSoundQueue q → is_due q ≡ false
+      → c.total.frames ≤ most_frames → 0 < frame_bytes (dims_of s) → output_faults o0 ≤ output_faults o1 → recon_faults r0 ≤ recon_faults r1
+      → SoFar s c q (input i0 i1) (output o0 o1) (recon r0 r1) → Moves (left i1) [] (left i2) → IsAtEnd (left i2)
+      → IfErr result (EndStops c (after_end q) (output o1 o2) (recon r1 r2)) → IfErr result (Stops s (input i0 i2) (output o0 o2) (recon r0 r2))
+  all_stopped s c q i0 i1 i2 o0 o1 o2 r0 r1 r2 (Ok t) passes sound rest few size fo fr far moved end stops = tt
+  all_stopped s c q i0 i1 i2 o0 o1 o2 r0 r1 r2 (Err e) passes sound rest few size fo fr far moved end stops =
+      end_stopped s c q i0 i1 i2 o0 o1 o2 r0 r1 r2 e passes rest sound (sound_end q sound) few size fo fr far moved end stops

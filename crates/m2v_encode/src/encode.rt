@@ -213,6 +213,8 @@ impl Coder {
         ensures recon { SinkStays N.ready N.name N.faults recon.old recon.new }
         ensures input { S.faults input.old ≤ S.faults input.new }
     {
+        // the settings pass
+        let _known = self.settings.settings();
         for _number in 0..MOST {
             if !self.next_frame(alloc, input, queue)? {
                 return self.finish(rt, alloc, queue, output, recon, gate);
