@@ -13,3 +13,4 @@ pub mod Progress
 pub mod Due
 pub mod Ends
 pub mod Loop
+pub mod WithoutRecon

@@ -549,6 +549,21 @@ module _ {S K N : Type 0} (left : S → Option (List ℕ)) (input_faults : S →
     all = far.count ∙ all;
   }
 
+  -- no memory was left before a byte was read
+  pub not_begun : (s : Settings) (i : S) (o : K) (r : N) → 0 < frame_bytes (dims_of s) → Stops s (input i i) (output o o) (recon r r) Memory
+  unfolding Stops
+  not_begun s i o r size = record {
+    frames = [];
+    part = [];
+    most = omega arith;
+    whole = All-nil (λ (x : List ℕ). length x ≡ frame_bytes (dims_of s));
+    less = size;
+    moved = moves_nothing (left i);
+    grown = prefix_by (held o) (held o) [] (Coded s []) (Coded s []) refl (grows_by_all (grows_by_nothing (held o)));
+    shown = prefix_by (kept r) (kept r) [] (raw (Recon s [])) (raw (Recon s [])) refl (grows_by_all (grows_by_nothing (kept r)));
+    unwritten = λ none. (refl, refl);
+  }
+
   -- ---- as the loop asks for it
 
   -- the input has ended, and nothing else changed

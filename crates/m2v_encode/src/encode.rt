@@ -213,7 +213,7 @@ impl Coder {
         ensures recon { SinkStays N.ready N.name N.faults recon.old recon.new }
         ensures input { S.faults input.old ≤ S.faults input.new }
     {
-        // the settings pass
+        // the settings pass, so a frame has bytes
         let _known = self.settings.settings();
         for _number in 0..MOST {
             if !self.next_frame(alloc, input, queue)? {
@@ -255,6 +255,8 @@ pub fn encode_to<R: Threads + Wait + Sync, S: Source, K: Sink, N: Sink, G: Gate 
     ensures recon { SinkStays N.ready N.name N.faults recon.old recon.new }
     ensures input { S.faults input.old ≤ S.faults input.new }
 {
+    // the settings pass, so a frame has bytes
+    let _known = settings.settings();
     let Ok(mut coder) = Coder::new(alloc, settings) else {
         return Err(EncodeError::Memory);
     };
