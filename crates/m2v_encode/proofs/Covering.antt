@@ -1,23 +1,22 @@
 -- Each frame of a group has its pictures.
-use Rattle.std.proofs.Common.{◌≡◌, ℕ, zero, suc, ◌+◌, ◌-◌, ◌<◌, ◌≤◌, inl, inr, Bool, true, false, not, cond, List, [], ◌∷◌, ◌++◌, length, map, get_or, Option, Some, None, refl, sym, ap, subst, ◌∙◌, arith, append_assoc, eq-eqb}
+use Rattle.std.proofs.Common.{◌≡◌, ℕ, zero, suc, ◌+◌, ◌-◌, ◌<◌, ◌≤◌, inl, inr, Bool, true, false, cond, List, [], ◌∷◌, ◌++◌, length, map, get_or, Option, Some, refl, sym, ap, subst, ◌∙◌, arith, append_assoc, eq-eqb}
 use Rattle.std.specs.Prelude.{nat_eq, ◌&&◌, filter}
 use Rattle.std.specs.List.{range_with_len, flat_map}
 use Rattle.std.proofs.lemmas.Bool.{cond-true, cases_lt, cases_Bool, and_from}
 use Rattle.std.proofs.lemmas.List.{length-append, get_or_append_left}
 use Rattle.std.proofs.lemmas.Grind.{flat_map-append}
-use Rattle.std.proofs.Math.Seq.{get_or-append_seam}
 use Rattle.m2v_plane.specs.declared.planes.Lines.{Lines}
-use Rattle.m2v_plane.specs.declared.planes.Lines.TheVariants.{Whole, Top, Bottom}
+use Rattle.m2v_plane.specs.declared.planes.Lines.TheVariants.{Top, Bottom}
 use Rattle.m2v_plane.specs.Samples.{Samples}
 use Rattle.m2v_set.specs.declared.settings.Settings.{Settings}
 use Rattle.m2v_set.specs.declared.settings.Scan.{Scan}
 use Rattle.m2v_set.specs.declared.settings.Scan.TheVariants.{Progressive, Frames, Fields}
 use Rattle.m2v_set.specs.Rules.{Passes}
 use Rattle.m2v_order.specs.declared.jobs.PictureJob.{PictureJob}
-use Rattle.m2v_order.specs.Coding.{is_anchor, kind_of, frames_between, anchors_between, in_order, structures}
-use Rattle.m2v_order.specs.Groups.{Queue, Group, first_of, group_anchors, group_size, group_of, jobs_of, past_last, IsSoundQueue, is_due}
+use Rattle.m2v_order.specs.Coding.{is_anchor, kind_of, frames_between, in_order, structures}
+use Rattle.m2v_order.specs.Groups.{Queue, Group, first_of, group_anchors, group_of, jobs_of, past_last, IsSoundQueue, is_due}
 use Rattle.m2v_order.proofs.Queues.{grouped, due_is, turn_is, group_length}
-use Rattle.m2v_order.proofs.Orders.{frames_split, frames_one, frames_more}
+use Rattle.m2v_order.proofs.Orders.{frames_split, frames_one}
 use Rattle.m2v_slice.specs.Books.{Book, job_at, no_job, has_lines}
 use Rattle.m2v_slice.specs.Conditions.{IsBook}
 use Rattle.m2v_slice.proofs.Groups.{passes_of}

@@ -1,8 +1,7 @@
 -- The end of the stream: the last group, and the end code.
-use Rattle.std.proofs.Common.{◌≡◌, ℕ, ◌+◌, ◌*◌, ◌≤◌, ◌⊎◌, inl, inr, Bool, true, false, List, [], ◌∷◌, ◌++◌, length, Option, refl, sym, ap, subst, ◌∙◌, arith}
-use Rattle.std.proofs.lemmas.List.{length-append}
+use Rattle.std.proofs.Common.{◌≡◌, ℕ, ◌+◌, ◌*◌, ◌≤◌, inl, Bool, true, false, List, [], ◌∷◌, ◌++◌, Option, refl, sym, ap, subst, ◌∙◌, arith}
 use Rattle.m2v_bits.specs.Bits.{packed, number, bits_of, start_code, IsEdge}
-use Rattle.m2v_bits.proofs.Units.{packed-append, start_length}
+use Rattle.m2v_bits.proofs.Units.{packed-append}
 use Rattle.m2v_port.specs.Ends.{Change, change}
 use Rattle.m2v_port.specs.Port.{Grows, GrowsByPrefix}
 use Rattle.m2v_port.proofs.Runs.{rose_since, prefix_on, grows_on, grows_by_all}

@@ -1,15 +1,15 @@
 -- The groups of all frames: those that were handed out stand in front, whatever follows.
-use Rattle.std.proofs.Common.{◌≡◌, ℕ, zero, suc, ◌+◌, ◌-◌, ◌<◌, ◌≤◌, Bool, true, false, cond, inl, inr, List, [], ◌∷◌, ◌++◌, length, map, take, drop, refl, sym, ap, subst, ◌∙◌, arith, append_assoc}
+use Rattle.std.proofs.Common.{◌≡◌, ℕ, zero, suc, ◌+◌, ◌-◌, ◌<◌, ◌≤◌, Bool, true, false, inl, inr, List, [], ◌∷◌, ◌++◌, length, map, take, drop, refl, sym, ap, subst, ◌∙◌, arith, append_assoc}
 use Rattle.std.specs.Prelude.{nat_lt, ◌&&◌, ◌||◌}
 use Rattle.std.proofs.lemmas.Bool.{cond-true, cond-false, cases_lt, lt-ltb, and_from}
-use Rattle.std.proofs.lemmas.List.{length-append, append-nil, map-append, length-map, length-drop, drop-append-le, take-append-drop, take-append-le}
+use Rattle.std.proofs.lemmas.List.{length-append, append-nil, map-append, length-drop, drop-append-le, take-append-drop, take-append-le}
 use Rattle.std.proofs.Math.Seq.{drop-append_seam}
 use Rattle.m2v_plane.specs.Raw.{pad}
 use Rattle.m2v_plane.specs.Samples.{Samples}
 use Rattle.m2v_set.specs.declared.settings.Settings.{Settings}
 use Rattle.m2v_set.specs.Numbers.{dims_of}
 use Rattle.m2v_set.specs.Rules.{Passes}
-use Rattle.m2v_order.specs.Groups.{Queue, Group, opening, first_of, next_intra, is_due, group_size, group_of, after_push, after_end, after_group, followed, IsSoundQueue}
+use Rattle.m2v_order.specs.Groups.{Queue, Group, opening, next_intra, is_due, group_size, group_of, after_push, after_end, after_group, followed, IsSoundQueue}
 use Rattle.m2v_order.proofs.Queues.{grouped, due_is, turn_is, group_length, group_some, has_next, sound_next}
 use Rattle.m2v_order.proofs.Wholes.{group_stays, due_stays}
 use Rattle.m2v_stream.specs.Streams.{Progress, at_start, group_coded, groups_begun, groups_coded, groups_from, waiting, coded_all, coded_begun}

@@ -1,16 +1,15 @@
 -- The main loop: where it begins, and the queue from frame to frame.
-use Rattle.std.proofs.Common.{◌≡◌, ℕ, ◌+◌, ◌-◌, ◌*◌, ◌<◌, ◌≤◌, ◌⊎◌, inl, inr, Bool, true, false, List, [], ◌∷◌, length, drop, Option, Some, None, refl, sym, subst, ap, ◌∙◌, arith}
-use Rattle.std.specs.Prelude.{IfSome, is_some, nat_lt, ◌&&◌, ◌||◌}
+use Rattle.std.proofs.Common.{◌≡◌, ℕ, ◌+◌, ◌*◌, ◌<◌, ◌≤◌, inl, inr, Bool, true, false, length, Option, None, refl, sym, subst, ap, ◌∙◌, arith}
+use Rattle.std.specs.Prelude.{IfSome, is_some, nat_lt, ◌||◌}
 use Rattle.std.proofs.lemmas.Bool.{cases_Bool, cases_lt, lt-ltb, and_from}
-use Rattle.std.proofs.lemmas.List.{length-append}
 use Rattle.m2v_port.specs.Ends.{Change}
 use Rattle.m2v_plane.specs.Raw.{pad}
 use Rattle.m2v_plane.specs.Samples.{Samples}
 use Rattle.m2v_set.specs.declared.settings.Settings.{Settings}
 use Rattle.m2v_set.specs.Numbers.{dims_of}
 use Rattle.m2v_set.specs.Rules.{Passes}
-use Rattle.m2v_order.specs.Groups.{Queue, Group, opening, first_of, intra_from, next_intra, is_due, group_of, anchor_before, after_push, after_end, after_group, IsSoundQueue}
-use Rattle.m2v_order.proofs.Queues.{grouped, push_first, sound_push, sound_next, Turn, due_is, turn_is, next_is}
+use Rattle.m2v_order.specs.Groups.{Queue, opening, first_of, intra_from, next_intra, is_due, group_of, anchor_before, after_push, after_group, IsSoundQueue}
+use Rattle.m2v_order.proofs.Queues.{grouped, push_first, sound_push, sound_next, due_is, turn_is, next_is}
 use Rattle.m2v_order.proofs.Wholes.{group_is}
 use Rattle.m2v_rate.specs.Plans.{Entries, account_at, fresh}
 use Rattle.m2v_rate.specs.Steady.{IsLedger}
@@ -18,7 +17,7 @@ use Rattle.m2v_rate.proofs.Streams.{fresh_begun}
 use Rattle.m2v_encode.specs.declared.answer.Summary.{Summary}
 use Rattle.m2v_encode.specs.declared.group.Coder.{Coder}
 use Rattle.m2v_encode.specs.Groups.{IsPlace}
-use Rattle.m2v_encode.specs.Steps.{FrameRead, DueCoded, GoesOn, book_by}
+use Rattle.m2v_encode.specs.Steps.{FrameRead, DueCoded, GoesOn}
 use Rattle.m2v_encode.proofs.Due.{not_both}
 use Rattle.m2v_encode.proofs.Ends.{none_false}
 
@@ -99,9 +98,9 @@ due_once q f passes sound going rest is again =
     elim ((due_is (after_group p) again).next) [
       | inl ended ↦ not_both q.ended ended going
       | inr next ↦ elim (cases_lt 0 (length q.frames)) [
-          | inl frames ↦ omega (arith, rest_high q rest frames, same, behind, next, some)
-          | inr none ↦ omega (arith, sound.none (omega (arith, none)) going, same, behind, next, some)
-        ]
+        | inl frames ↦ omega (arith, rest_high q rest frames, same, behind, next, some)
+        | inr none ↦ omega (arith, sound.none (omega (arith, none)) going, same, behind, next, some)
+      ]
     ]
 
 pub sound_read : (s : Settings) (q p : Queue Samples) (left : Change) → Passes s → q.settings ≡ s → IsSoundQueue q → q.ended ≡ false → FrameRead s q p left → IsSoundQueue p
@@ -130,8 +129,8 @@ turned_group s q p c d left held recon passes e sound going rest read is due =
     record {
       sound = sound_next p ok (due_is p is) turn;
       rest = none_false (is_due (after_group p)) (λ again.
-      due_once q f (subst Passes (sym e) passes) sound going rest (subst (λ (x : Queue Samples). is_due x ≡ true) read.pushed is)
-      (subst (λ (x : Queue Samples). is_due (after_group x) ≡ true) read.pushed again));
+          due_once q f (subst Passes (sym e) passes) sound going rest (subst (λ (x : Queue Samples). is_due x ≡ true) read.pushed is)
+          (subst (λ (x : Queue Samples). is_due (after_group x) ≡ true) read.pushed again));
       settings = group.settings;
       frames = group.frames;
       pictures = omega (arith, group.pictures, few, turn.left, turn.past, turn.low, sp.room);

@@ -1,7 +1,7 @@
 -- A picture as it is sent: what is held when it is due, its zero bytes, its delay and its parts.
-use Rattle.std.proofs.Common.{◌≡◌, ℕ, zero, suc, ◌+◌, ◌-◌, ◌*◌, ◌/◌, ◌%◌, ◌^◌, ◌<◌, ◌≤◌, ◌⊎◌, inl, inr, Bool, true, false, not, cond, List, [], ◌∷◌, ◌++◌, length, replicate, map, get_or, refl, sym, ap, subst, ◌∙◌, arith, append_assoc}
-use Rattle.std.specs.Prelude.{nat_eq, ◌&&◌, sum_by, slice_index, All}
-use Rattle.std.specs.List.{range_with_len, flat_map}
+use Rattle.std.proofs.Common.{◌≡◌, ℕ, zero, suc, ◌+◌, ◌-◌, ◌*◌, ◌/◌, ◌%◌, ◌^◌, ◌<◌, ◌≤◌, ◌⊎◌, inl, inr, Bool, true, false, not, cond, List, [], ◌∷◌, ◌++◌, length, replicate, get_or, refl, sym, ap, subst, ◌∙◌, arith, append_assoc}
+use Rattle.std.specs.Prelude.{nat_eq, ◌&&◌, slice_index}
+use Rattle.std.specs.List.{flat_map}
 use Rattle.std.proofs.lemmas.Bool.{cond_both, cases_Bool, cond-true, cond-false, and_parts, eqb-true}
 use Rattle.std.proofs.lemmas.List.{length-append, append-nil}
 use Rattle.std.proofs.lemmas.List.Concat.{length-flat_map}
@@ -19,7 +19,6 @@ use Rattle.m2v_order.specs.Coding.{structures}
 use Rattle.m2v_order.specs.Calls.{IsFromIntra}
 use Rattle.m2v_order.specs.Whole.{fields_of}
 use Rattle.m2v_rate.specs.Plans.{Entries, account_at}
-use Rattle.m2v_rate.specs.Steady.{IsSteady}
 use Rattle.m2v_rate.proofs.Lows.{buffer_at, held_least, held_most, size_whole}
 use Rattle.m2v_row.specs.Slices.{CodedSlice}
 use Rattle.m2v_preface.specs.Headers.{header_units, header_bits, bits_to_code, begins_group}

@@ -1,25 +1,24 @@
 -- The texts of a group's pictures: their parts end at edges of bytes, and their lengths.
-use Rattle.std.proofs.Common.{◌≡◌, ℕ, zero, suc, ◌+◌, ◌-◌, ◌*◌, ◌/◌, ◌%◌, ◌<◌, ◌≤◌, Bool, true, false, cond, if◌then◌else◌, List, [], ◌∷◌, ◌++◌, length, replicate, map, get_or, refl, sym, ap, subst, ◌∙◌, arith, append_assoc}
-use Rattle.std.specs.Prelude.{nat_eq, ◌&&◌, sum_by}
+use Rattle.std.proofs.Common.{◌≡◌, ℕ, zero, suc, ◌+◌, ◌-◌, ◌*◌, ◌/◌, ◌%◌, ◌<◌, ◌≤◌, Bool, false, List, [], ◌∷◌, ◌++◌, length, replicate, refl, sym, ap, subst, ◌∙◌, arith, append_assoc}
+use Rattle.std.specs.Prelude.{nat_eq}
 use Rattle.std.specs.List.{range_with_len, flat_map}
 use Rattle.std.proofs.lemmas.Bool.{cond_both}
 use Rattle.std.proofs.lemmas.List.{length-append, append-nil, replicate-append-replicate, length-replicate}
 use Rattle.std.proofs.lemmas.List.Concat.{length-flat_map}
 use Rattle.std.proofs.lemmas.List.Folds.{flat_map-map}
-use Rattle.m2v_bits.specs.Bits.{packed, number, IsEdge, unit, bits}
+use Rattle.m2v_bits.specs.Bits.{packed, number, IsEdge}
 use Rattle.m2v_bits.proofs.Units.{unit_edge, edge-append, packed-append}
 use Rattle.m2v_bits.proofs.Texts.{texts_more}
-use Rattle.m2v_vbv.specs.Account.{stuffing_of}
 use Rattle.m2v_order.specs.declared.jobs.PictureJob.{PictureJob}
-use Rattle.m2v_rate.specs.Plans.{Entries, account_at}
+use Rattle.m2v_rate.specs.Plans.{Entries}
 use Rattle.m2v_row.specs.Slices.{CodedSlice, SliceTask, slice_of}
-use Rattle.m2v_preface.specs.Headers.{IsJob, header_units, header_bits, bits_to_code, begins_group}
+use Rattle.m2v_preface.specs.Headers.{header_units, header_bits, begins_group}
 use Rattle.m2v_preface.proofs.TextLengths.{header_length}
-use Rattle.m2v_slice.specs.Books.{Book, CodedPicture, rows, job_at, coded, picture_at, slice_at, size_of, task_of}
+use Rattle.m2v_slice.specs.Books.{Book, rows, job_at, picture_at, slice_at, size_of}
 use Rattle.m2v_slice.specs.Conditions.{IsBook}
-use Rattle.m2v_slice.proofs.Coded.{count, slice_is}
-use Rattle.m2v_stream.specs.Streams.{zeros_of, delay_at, picture_text, pictures_text, zeros_sum}
-use Rattle.m2v_encode.specs.Groups.{all_coded, whole_ledger, slices_text, IsPlace}
+use Rattle.m2v_slice.proofs.Coded.{slice_is}
+use Rattle.m2v_stream.specs.Streams.{zeros_of, delay_at, picture_text}
+use Rattle.m2v_encode.specs.Groups.{all_coded, slices_text}
 use Rattle.m2v_encode.proofs.Pieces.{slices_by, job_is}
 
 -- ---- zero bytes

@@ -1,9 +1,8 @@
 -- The pieces of a book's jobs, its pictures, and the ledger that knows all sizes.
 use Rattle.std.proofs.Common.{◌≡◌, ℕ, zero, suc, ◌+◌, ◌-◌, ◌*◌, ◌%◌, ◌^◌, ◌<◌, ◌≤◌, List, [], ◌∷◌, length, map, get_or, refl, sym, ap, subst, ◌∙◌, arith}
-use Rattle.std.specs.Prelude.{All, slice_index, sum_by}
+use Rattle.std.specs.Prelude.{slice_index, sum_by}
 use Rattle.std.specs.List.{range_with_len}
 use Rattle.std.proofs.lemmas.List.FromFn.{fill_by_all, sum_by-map-range_with_len_more}
-use Rattle.m2v_set.specs.Numbers.{buffer_bits}
 use Rattle.m2v_order.specs.declared.jobs.PictureJob.{PictureJob}
 use Rattle.m2v_rate.specs.declared.values.Plan.{Plan}
 use Rattle.m2v_rate.specs.Plans.{Entries, first_open, with_size}
@@ -11,17 +10,17 @@ use Rattle.m2v_rate.specs.Steady.{IsLedger}
 use Rattle.m2v_rate.proofs.Keeps.{known_by}
 use Rattle.m2v_rate.proofs.Steps.{interval_small}
 use Rattle.m2v_set.proofs.Facts.{bounds}
-use Rattle.m2v_row.specs.Slices.{CodedSlice, most_bits_of}
+use Rattle.m2v_row.specs.Slices.{CodedSlice}
 use Rattle.m2v_preface.specs.Headers.{IsJob, header_bits}
 use Rattle.m2v_slice.specs.declared.pieces.EncodePiece.{EncodePiece}
 use Rattle.m2v_slice.specs.declared.pieces.EncodePiece.TheVariants as piece
 use Rattle.m2v_slice.specs.Books.{Book, CodedPicture, rows, job_at, no_job, coded, picture_at, slice_at, slice_job, plan_job, size_of}
 use Rattle.m2v_slice.specs.Conditions.{IsBook}
 use Rattle.m2v_slice.specs.Jobs.{value_of, slice_piece, plan_piece}
-use Rattle.m2v_slice.proofs.Coded.{count, none, no_slice, picture_is, slices_count, slice_stays}
+use Rattle.m2v_slice.proofs.Coded.{count, no_slice, picture_is, slices_count, slice_stays}
 use Rattle.m2v_slice.proofs.Learned.{plan_picture, plan_part, slice_picture, slice_part, value_plan, value_slice}
 use Rattle.m2v_slice.proofs.Groups.{passes_of, picture_is_one, structure_low}
-use Rattle.m2v_slice.proofs.Steady.{ledger_at, IsPlan, size_within, ledger_known}
+use Rattle.m2v_slice.proofs.Steady.{ledger_at, size_within, ledger_known}
 use Rattle.m2v_slice.proofs.Sound.{ledger_kinds, ledger_caps, ledger_sizes, ledger_cap, ledger_none, sound, planned, plan_is_good}
 use Rattle.m2v_encode.specs.Groups.{all_coded, whole_ledger}
 

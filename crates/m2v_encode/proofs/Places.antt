@@ -1,11 +1,11 @@
 -- Where a picture stands in the stream, and its delay.
-use Rattle.std.proofs.Common.{◌≡◌, ℕ, suc, ◌+◌, ◌-◌, ◌*◌, ◌/◌, ◌<◌, ◌≤◌, get_or, length, refl, sym, ap, subst, ◌∙◌, arith}
+use Rattle.std.proofs.Common.{◌≡◌, ℕ, suc, ◌+◌, ◌-◌, ◌*◌, ◌<◌, ◌≤◌, get_or, length, ap, subst, ◌∙◌, arith}
 use Rattle.m2v_set.specs.declared.settings.Settings.{Settings}
 use Rattle.m2v_set.specs.Numbers.{delay_of, buffer_bits}
 use Rattle.m2v_vbv.specs.Annex.{Start}
 use Rattle.m2v_vbv.specs.Account.{State, after, arriving, stuffing_of}
-use Rattle.m2v_rate.specs.Plans.{Entries, account_at, start_of, income}
-use Rattle.m2v_rate.specs.Steady.{IsLedger, IsSteady}
+use Rattle.m2v_rate.specs.Plans.{Entries, account_at, income}
+use Rattle.m2v_rate.specs.Steady.{IsSteady}
 use Rattle.m2v_rate.proofs.Lows.{left_whole, rate_at, buffer_at, gain_high, size_whole}
 use Rattle.m2v_encode.specs.Groups.{IsPlace}
 

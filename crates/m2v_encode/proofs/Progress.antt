@@ -1,7 +1,6 @@
 -- Frame after frame: what stands after one more, and where coding stops.
-use Rattle.std.proofs.Common.{◌≡◌, ℕ, zero, suc, ◌+◌, ◌-◌, ◌*◌, ◌/◌, ◌<◌, ◌≤◌, ◌⊎◌, inl, inr, Bool, true, false, List, [], ◌∷◌, ◌++◌, length, Option, Some, None, Result, Ok, Err, refl, sym, subst, ap, ◌∙◌, arith, append_assoc}
-use Rattle.std.specs.Prelude.{All, OnOk, IfOk, IfErr, nat_lt, ◌&&◌, ◌||◌}
-use Rattle.std.proofs.Math.Nat.{mul-pos}
+use Rattle.std.proofs.Common.{◌≡◌, ℕ, ◌+◌, ◌*◌, ◌/◌, ◌<◌, ◌≤◌, ◌⊎◌, inl, inr, Bool, true, false, List, [], ◌∷◌, ◌++◌, length, Option, None, Result, Ok, Err, refl, sym, subst, ap, ◌∙◌, arith, append_assoc}
+use Rattle.std.specs.Prelude.{OnOk, IfOk, IfErr, nat_lt, ◌&&◌, ◌||◌}
 use Rattle.std.proofs.lemmas.Bool.{cases_Bool, cases_lt, lt-ltb, and_from}
 use Rattle.std.proofs.lemmas.List.{length-append, append-nil}
 use Rattle.std.proofs.lemmas.List.Concat.{flat_map-append}
@@ -9,7 +8,7 @@ use Rattle.std.proofs.lemmas.List.Elements.{All-append, All-cons, All-nil}
 use Rattle.m2v_bits.specs.Bits.{packed, number, start_code, IsEdge}
 use Rattle.m2v_bits.proofs.Units.{packed-append, start_length}
 use Rattle.m2v_port.specs.Ends.{Change, change}
-use Rattle.m2v_port.specs.Port.{Moves, MovesFewer, IsAtEnd, Grows, GrowsByPrefix}
+use Rattle.m2v_port.specs.Port.{Moves, IsAtEnd, Grows, GrowsByPrefix}
 use Rattle.m2v_port.proofs.Runs.{rose_since, moves_on, moves_nothing, grows_on, grows_by_nothing, grows_by_all, prefix_on, prefix_of_more}
 use Rattle.m2v_plane.specs.Raw.{frame_bytes, raw, pad}
 use Rattle.m2v_plane.specs.Samples.{Samples}
@@ -20,14 +19,14 @@ use Rattle.m2v_order.specs.Groups.{Queue, Group, opening, next_intra, is_due, gr
 use Rattle.m2v_order.proofs.Queues.{due_is, sound_end}
 use Rattle.m2v_rate.specs.Plans.{fresh}
 use Rattle.m2v_slice.specs.Books.{Book}
-use Rattle.m2v_stream.specs.Streams.{Progress, at_start, book_of, group_coded, groups_begun, zeros_sum, coded_all, coded_begun, Coded, Recon, CodedBegun, ReconBegun}
+use Rattle.m2v_stream.specs.Streams.{Progress, at_start, book_of, group_coded, groups_begun, zeros_sum, coded_all, Coded, Recon}
 use Rattle.m2v_encode.specs.declared.answer.Summary.{Summary}
 use Rattle.m2v_encode.specs.declared.answer.EncodeError.{EncodeError}
 use Rattle.m2v_encode.specs.declared.answer.EncodeError.TheVariants.{Read, Write, ShortFrame, NoFrames, TooManyFrames, Memory}
 use Rattle.m2v_encode.specs.declared.group.Coder.{Coder}
 use Rattle.m2v_encode.specs.Answers.{AreWhole, most_frames, AllCoded, Unended, CutOff, Stops}
 use Rattle.m2v_encode.specs.Groups.{whole_ledger, group_text, group_shown, anchor_behind}
-use Rattle.m2v_encode.specs.Steps.{FrameRead, NoneRead, FrameStops, ReadStops, book_by, GroupCoded, GroupStops, DueCoded, DueStops, EndCoded, EndCut, EndStops, HandedOut, Stands, SoFar}
+use Rattle.m2v_encode.specs.Steps.{FrameRead, FrameStops, ReadStops, book_by, GroupCoded, GroupStops, DueCoded, DueStops, EndCoded, EndCut, EndStops, HandedOut, Stands, SoFar}
 use Rattle.m2v_encode.proofs.Fronts.{handed_none, handed_push, handed_group, begun_is, begun_behind, all_is, Front, front_is, front_start, left_some}
 
 -- ---- bytes and bits

@@ -1,9 +1,8 @@
 -- Bytes put one after another: what is held then, and where it stops.
-use Rattle.std.proofs.Common.{◌≡◌, ℕ, ◌≤◌, List, [], ◌∷◌, ◌++◌, Option, refl, sym, ap, subst, ◌∙◌, arith, append_assoc}
-use Rattle.std.proofs.lemmas.List.{append-nil}
-use Rattle.m2v_port.specs.Ends.{Change, change}
+use Rattle.std.proofs.Common.{◌≡◌, ℕ, ◌≤◌, List, [], ◌++◌, Option, sym, subst, arith}
+use Rattle.m2v_port.specs.Ends.{change}
 use Rattle.m2v_port.specs.Port.{Grows, GrowsByPrefix}
-use Rattle.m2v_port.proofs.Runs.{rose_since, prefix_on, prefix_of_more, grows_on, grows_by_nothing}
+use Rattle.m2v_port.proofs.Runs.{rose_since, prefix_on, prefix_of_more, grows_by_nothing}
 use Rattle.m2v_encode.specs.declared.answer.EncodeError.{EncodeError}
 use Rattle.m2v_encode.specs.declared.answer.EncodeError.TheVariants.{Read, Write, ShortFrame, NoFrames, TooManyFrames, Memory}
 use Rattle.m2v_encode.specs.Steps.{PutStops}

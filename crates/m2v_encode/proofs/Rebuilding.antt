@@ -1,23 +1,22 @@
 -- A frame made of the rows of its pictures is the frame that a decoder rebuilds.
-use Rattle.std.proofs.Common.{◌≡◌, ℕ, zero, suc, ◌+◌, ◌-◌, ◌*◌, ◌/◌, ◌%◌, ◌<◌, ◌≤◌, ◌⊎◌, inl, inr, Bool, true, false, not, cond, List, [], ◌∷◌, ◌++◌, length, replicate, map, get_or, Option, Some, None, refl, sym, ap, subst, ◌∙◌, arith, eq-eqb}
-use Rattle.std.specs.Prelude.{nat_eq, nat_lt, ◌&&◌, slice_index, All}
+use Rattle.std.proofs.Common.{◌≡◌, ℕ, zero, suc, ◌+◌, ◌*◌, ◌/◌, ◌%◌, ◌<◌, ◌≤◌, ◌⊎◌, inl, inr, Bool, true, false, cond, List, length, replicate, get_or, Option, Some, None, refl, sym, ap, subst, ◌∙◌, arith, eq-eqb}
+use Rattle.std.specs.Prelude.{nat_eq, nat_lt, ◌&&◌}
 use Rattle.std.proofs.lemmas.Bool.{cond-true, cond-false, cases_Bool, cases_eq, cases_lt, lt-ltb, le-ltb, ne_eqb, eqb-true, eqb-false}
-use Rattle.std.proofs.lemmas.List.{get_or-replicate, length-replicate}
+use Rattle.std.proofs.lemmas.List.{length-replicate}
 use Rattle.m2v_plane.specs.declared.dims.Dims.{Dims}
 use Rattle.m2v_plane.specs.declared.planes.Plane.{Plane}
 use Rattle.m2v_plane.specs.declared.planes.Plane.TheVariants.{Y, Cb, Cr}
 use Rattle.m2v_plane.specs.declared.planes.Lines.{Lines}
-use Rattle.m2v_plane.specs.declared.planes.Lines.TheVariants.{Whole, Top, Bottom}
-use Rattle.m2v_plane.specs.Sizes.{side, columns_of, frame_line}
+use Rattle.m2v_plane.specs.declared.planes.Lines.TheVariants.{Top, Bottom}
+use Rattle.m2v_plane.specs.Sizes.{side, columns_of}
 use Rattle.m2v_plane.specs.Samples.{Samples, plane_by, sample_of, blank, is_among, number_among, with_row, plane_with_row}
 use Rattle.m2v_plane.proofs.Places.{plane_is}
 use Rattle.m2v_plane.proofs.RawVideo.{plane_at, length-plane_by}
 use Rattle.m2v_set.specs.declared.settings.Scan.{Scan}
 use Rattle.m2v_set.specs.declared.settings.Scan.TheVariants.{Progressive, Frames, Fields}
-use Rattle.m2v_set.specs.declared.settings.Settings.{Settings}
 use Rattle.m2v_set.specs.Numbers.{dims_of, rows_by, frame_rows_by}
 use Rattle.m2v_pred.specs.Motion.{own_lines}
-use Rattle.m2v_slice.specs.Books.{Book, CodedPicture, rows, job_at, slice_at, coded, has_lines, line_in, picture_sample}
+use Rattle.m2v_slice.specs.Books.{Book, rows, job_at, slice_at, has_lines, line_in, picture_sample}
 use Rattle.m2v_slice.specs.Conditions.{IsBook}
 use Rattle.m2v_slice.proofs.Coded.{count}
 use Rattle.m2v_slice.proofs.Groups.{HasStructure, picture_is_one}

@@ -1,5 +1,5 @@
 -- What holds of a recon that keeps nothing holds where there is none.
-use Rattle.std.proofs.Common.{◌≡◌, ℕ, ◌<◌, ◌⊎◌, inl, inr, List, ◌∷◌, [], Option, None, length, refl}
+use Rattle.std.proofs.Common.{ℕ, ◌⊎◌, inl, inr, List, ◌∷◌, [], Option, None, refl}
 use Rattle.m2v_port.specs.Ends.{Change}
 use Rattle.m2v_port.specs.Port.{Grows, GrowsByPrefix}
 use Rattle.m2v_set.specs.declared.settings.Settings.{Settings}
@@ -52,12 +52,15 @@ unshown_cut s left held recon h = record {
 
 pub unshown_stops : (s : Settings) (left held recon : Change) (e : EncodeError) → (recon.Failed → ⊥) → Stops s left held recon e → Stops s left held unshown e
 unfolding Stops
-unshown_stops s left held recon Read never h = (h.0, record {
-  frames = h.1.frames;
-  part = h.1.part;
-  begun = unshown_begun s left held recon h.1.frames h.1.part h.1.begun;
-  less = h.1.less;
-})
+unshown_stops s left held recon Read never h = (
+  h.0,
+  record {
+    frames = h.1.frames;
+    part = h.1.part;
+    begun = unshown_begun s left held recon h.1.frames h.1.part h.1.begun;
+    less = h.1.less;
+  },
+)
 unshown_stops s left held recon Write never h = (by_side h.0, unshown_cut s left held recon h.1)
   where
     by_side : held.Failed ⊎ recon.Failed → held.Failed ⊎ ⊥

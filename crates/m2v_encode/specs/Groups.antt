@@ -8,7 +8,6 @@ use Rattle.m2v_set.specs.Numbers.{delay_of}
 use Rattle.m2v_vbv.specs.Account.{State}
 use Rattle.m2v_order.specs.declared.jobs.PictureJob.{PictureJob}
 use Rattle.m2v_rate.specs.Plans.{Entries, start_of}
-use Rattle.m2v_row.specs.Slices.{CodedSlice}
 use Rattle.m2v_slice.specs.Books.{Book, CodedPicture, rows, slice_at, coded, ledger_behind}
 use Rattle.m2v_slice.specs.Conditions.{IsBook}
 use Rattle.m2v_slice.specs.Jobs.{jobs_of}

@@ -8,12 +8,12 @@ use Rattle.m2v_plane.specs.Samples.{Samples}
 use Rattle.m2v_set.specs.declared.settings.Settings.{Settings}
 use Rattle.m2v_set.specs.Numbers.{dims_of}
 use Rattle.m2v_order.specs.declared.jobs.PictureJob.{PictureJob}
-use Rattle.m2v_order.specs.Groups.{Queue, Group, first_of, is_due, group_of, anchor_before, after_push, after_group, followed, IsSoundQueue}
+use Rattle.m2v_order.specs.Groups.{Queue, Group, is_due, group_of, after_push, after_group, followed}
 use Rattle.m2v_order.specs.Times.{intervals_of}
-use Rattle.m2v_rate.specs.Plans.{Entries, account_at, begun}
+use Rattle.m2v_rate.specs.Plans.{account_at, begun}
 use Rattle.m2v_rate.specs.Steady.{IsLedger}
 use Rattle.m2v_slice.specs.Books.{Book}
-use Rattle.m2v_stream.specs.Streams.{Progress, at_start, groups_begun, groups_from, waiting, zeros_of, zeros_sum}
+use Rattle.m2v_stream.specs.Streams.{Progress, at_start, groups_begun, groups_from, waiting, zeros_sum}
 use Rattle.m2v_encode.specs.declared.answer.Summary.{Summary}
 use Rattle.m2v_encode.specs.declared.answer.EncodeError.{EncodeError}
 use Rattle.m2v_encode.specs.declared.answer.EncodeError.TheVariants.{Read, Write, ShortFrame, NoFrames, TooManyFrames, Memory}

@@ -1,4 +1,4 @@
-use Rattle.std.proofs.Common.{List, ℕ, OnOk, sym, subst, replicate, arith}
+use Rattle.std.proofs.Common.{List, ℕ, OnOk, subst}
 use Rattle.std.specs.Prelude.{IfErr}
 use Rattle.std.proofs.lemmas.List.{take-replicate}
 use Rattle.m2v_port.specs.Ends.{change}

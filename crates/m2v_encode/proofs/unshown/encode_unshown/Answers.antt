@@ -1,6 +1,5 @@
 use Rattle.std.proofs.Common.{arith, inl, inr}
 use Rattle.std.proofs.lemmas.Result.{IfOk-weaker, IfErr-weaker}
-use Rattle.m2v_port.specs.Ends.{change}
 use Rattle.m2v_encode.proofs.WithoutRecon.{unshown_coded, unshown_stops}
 use Rattle.m2v_encode.proofs.unshown.encode_unshown.Goals as goal
 

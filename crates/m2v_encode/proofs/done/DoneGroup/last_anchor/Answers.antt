@@ -1,4 +1,4 @@
-use Rattle.std.proofs.Common.{◌≡◌, ◌∙◌, ◌+◌, sym, ap, None, Some, Option, ℕ, List, drop, arith, cond}
+use Rattle.std.proofs.Common.{◌∙◌, ◌+◌, sym, ap, Some, Option, ℕ, drop, arith, cond}
 use Rattle.std.specs.Prelude.{nat_eq}
 use Rattle.m2v_order.specs.declared.jobs.PictureJob.{PictureJob}
 use Rattle.m2v_stream.specs.Streams.{anchor_frame}

@@ -1,6 +1,5 @@
-use Rattle.std.proofs.Common.{◌≡◌, ◌∙◌, ◌-◌, ◌*◌, ◌+◌, ℕ, ap, length, arith}
+use Rattle.std.proofs.Common.{◌∙◌, ◌-◌, ◌*◌, ◌+◌, ℕ, ap}
 use Rattle.m2v_slice.specs.Jobs.{value_of}
-use Rattle.m2v_slice.specs.Books.{Book}
 use Rattle.m2v_encode.proofs.Pieces.{is_ledger, no_slice_there}
 use Rattle.m2v_encode.proofs.done.DoneGroup.planned.Goals as goal
 

@@ -1,13 +1,12 @@
-use Rattle.std.proofs.Common.{◌≡◌, ◌∙◌, ◌+◌, ◌-◌, ◌++◌, ℕ, List, length, sym, ap, refl, subst, arith}
+use Rattle.std.proofs.Common.{◌≡◌, ◌∙◌, ◌+◌, ◌-◌, ◌++◌, ℕ, List, length, sym, ap, subst, arith}
 use Rattle.std.proofs.lemmas.Result.{err_from_is_err_and}
 use Rattle.m2v_plane.specs.declared.dims.Dims.{Dims}
 use Rattle.m2v_plane.specs.Samples.{Samples}
 use Rattle.m2v_plane.specs.Raw.{frame_bytes, raw, crop}
-use Rattle.m2v_set.specs.Numbers.{dims_of}
 use Rattle.m2v_stream.specs.Streams.{frame_of}
 use Rattle.m2v_port.specs.Port.{GrowsByPrefix}
 use Rattle.m2v_port.proofs.Runs.{stays_here, stays_on, grows_on, grows_by_nothing, grows_by_all, prefix_of_more}
-use Rattle.m2v_encode.specs.Groups.{all_coded, frames_shown, group_shown}
+use Rattle.m2v_encode.specs.Groups.{all_coded, frames_shown}
 use Rattle.m2v_encode.specs.Steps.{PutStops}
 use Rattle.m2v_encode.proofs.Puts.{put_then, put_same, grown_by}
 use Rattle.m2v_encode.proofs.Anchors.{kept_none, kept_next, kept_all, shown_more, shown_split, shown_size}

@@ -1,4 +1,4 @@
-use Rattle.std.proofs.Common.{◌≡◌, ◌∙◌, ◌+◌, ap, length, arith}
+use Rattle.std.proofs.Common.{ap, length, arith}
 use Rattle.std.proofs.lemmas.List.{length-append}
 use Rattle.m2v_preface.proofs.TextLengths.{header_length}
 use Rattle.m2v_preface.specs.Headers.{header_units}

@@ -1,11 +1,9 @@
-use Rattle.std.proofs.Common.{◌≡◌, ◌∙◌, ◌+◌, ◌-◌, ◌*◌, ◌/◌, ◌≤◌, ◌<◌, ◌⊎◌, inl, inr, ◌++◌, ℕ, List, [], length, replicate, refl, ap, sym, subst, arith}
+use Rattle.std.proofs.Common.{◌∙◌, ◌+◌, ◌-◌, ◌*◌, ◌<◌, inl, length, refl, ap, sym, arith}
 use Rattle.std.proofs.lemmas.Result.{err_from_is_err_and}
 use Rattle.m2v_bits.specs.Bits.{packed}
 use Rattle.m2v_port.proofs.Runs.{grows_on, grows_by_nothing, stays_here, stays_on}
-use Rattle.m2v_port.specs.Port.{Grows}
-use Rattle.m2v_rate.specs.Plans.{account_at}
 use Rattle.m2v_stream.specs.Streams.{pictures_text, zeros_sum}
-use Rattle.m2v_encode.specs.Groups.{all_coded, IsPlace}
+use Rattle.m2v_encode.specs.Groups.{all_coded}
 use Rattle.m2v_encode.proofs.Puts.{put_then, grown_by}
 use Rattle.m2v_encode.proofs.PictureLaws.{begun_at, begun_more, bytes_more, pictures_split, length_more, zeros_more, place_more}
 use Rattle.m2v_encode.proofs.done.DoneGroup.put_pictures.Goals as goal

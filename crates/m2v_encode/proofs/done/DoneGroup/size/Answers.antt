@@ -1,4 +1,4 @@
-use Rattle.std.proofs.Common.{◌≡◌, ◌∙◌, ◌<◌, ℕ, sym, ap, subst, arith}
+use Rattle.std.proofs.Common.{◌≡◌, ◌∙◌, ap, arith}
 use Rattle.m2v_slice.specs.Books.{rows}
 use Rattle.m2v_encode.proofs.Pieces.{bits_so_far, bits_more, bits_all, size_small}
 use Rattle.m2v_encode.proofs.done.DoneGroup.size.Goals as goal

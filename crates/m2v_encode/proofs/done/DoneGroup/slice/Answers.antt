@@ -1,4 +1,3 @@
-use Rattle.std.proofs.Common.{◌≡◌}
 use Rattle.m2v_encode.proofs.Pieces.{is_slice, no_plan_there}
 use Rattle.m2v_encode.proofs.done.DoneGroup.slice.Goals as goal
 

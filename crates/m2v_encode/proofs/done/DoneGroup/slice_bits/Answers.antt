@@ -1,4 +1,4 @@
-use Rattle.std.proofs.Common.{◌≡◌, ◌∙◌, ◌+◌, ◌*◌, ◌<◌, ◌^◌, sym, ap, subst, length, arith}
+use Rattle.std.proofs.Common.{◌∙◌, sym, ap, length, arith}
 use Rattle.m2v_bits.proofs.Cursor.{length-bits}
 use Rattle.m2v_row.specs.Slices.{CodedSlice}
 use Rattle.m2v_encode.proofs.Pieces.{slice_small}

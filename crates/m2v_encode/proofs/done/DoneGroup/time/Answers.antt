@@ -1,4 +1,4 @@
-use Rattle.std.proofs.Common.{◌∙◌, ◌≡◌, ◌<◌, ◌^◌, ℕ, sym, subst, ap, List, get_or, length, arith}
+use Rattle.std.proofs.Common.{◌∙◌, ◌<◌, ◌^◌, ℕ, sym, subst, ap, List, get_or, arith}
 use Rattle.m2v_encode.proofs.Pieces.{time_small, times_count, get_or_same}
 use Rattle.m2v_encode.proofs.done.DoneGroup.time.Goals as goal
 

@@ -1,24 +1,18 @@
-use Rattle.std.proofs.Common.{arith, refl, ap, subst, sym, Ok, ◌≡◌, ◌≤◌, ◌<◌, ◌∙◌, ◌+◌, ◌*◌, ℕ, [], ◌∷◌, length, false, true}
-use Rattle.std.proofs.lemmas.Result.{err_from_is_err_and, IfErr-weaker}
+use Rattle.std.proofs.Common.{arith, refl, ap, subst, sym, Ok, ◌∙◌, [], ◌∷◌, length}
+use Rattle.std.proofs.lemmas.Result.{err_from_is_err_and}
 use Rattle.std.proofs.lemmas.List.{length-append}
-use Rattle.m2v_port.specs.Ends.{change}
 use Rattle.m2v_port.proofs.Runs.{stays_here, stays_on}
-use Rattle.m2v_plane.specs.Raw.{frame_bytes, pad}
+use Rattle.m2v_plane.specs.Raw.{pad}
 use Rattle.m2v_plane.specs.Samples.{Samples}
-use Rattle.m2v_set.specs.declared.settings.Settings.{Settings}
 use Rattle.m2v_set.specs.Numbers.{dims_of}
-use Rattle.m2v_set.specs.Rules.{Passes}
-use Rattle.m2v_order.specs.Groups.{Queue, opening, is_due, group_of, after_end, IsSoundQueue}
-use Rattle.m2v_order.proofs.Queues.{sound_opening, sound_end}
+use Rattle.m2v_order.specs.Groups.{Queue, is_due, IsSoundQueue}
+use Rattle.m2v_order.proofs.Queues.{sound_opening}
 use Rattle.m2v_slice.proofs.Groups.{size_is}
 use Rattle.m2v_encode.specs.declared.answer.Summary.{Summary}
 use Rattle.m2v_encode.specs.declared.group.Coder.{Coder}
-use Rattle.m2v_encode.specs.Answers.{AllCoded, Stops}
-use Rattle.m2v_encode.specs.Steps.{FrameRead, NoneRead, EndCoded, EndStops, SoFar, book_by}
 use Rattle.m2v_encode.proofs.Due.{some_bytes}
 use Rattle.m2v_encode.proofs.Loop.{goes_fresh, opening_rest, sound_read, turned}
 use Rattle.m2v_encode.proofs.Progress.{so_far_none, so_far_read, so_far_due, so_far_same, frame_stopped, due_stopped, all_ended, all_stopped, look_stopped, went_on}
-use Rattle.m2v_encode.proofs.group.Coder.code_all.Given
 use Rattle.m2v_encode.proofs.group.Coder.code_all.Goals as goal
 
 pub loop-number-init : goal.loop-number-init

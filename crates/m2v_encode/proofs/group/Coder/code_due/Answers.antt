@@ -1,9 +1,8 @@
-use Rattle.std.proofs.Common.{arith, refl, subst, ap, sym, ◌∙◌, ◌≡◌, ◌*◌, ℕ, Option, Bool, true, false, inl, inr}
+use Rattle.std.proofs.Common.{refl, subst, sym, ◌∙◌, ◌*◌, ℕ, Option, false, inl, inr}
 use Rattle.std.specs.Prelude.{is_some}
 use Rattle.std.proofs.lemmas.Result.{on_ok_weaker, IfErr-weaker}
 use Rattle.m2v_port.specs.Ends.{change}
 use Rattle.m2v_plane.specs.Samples.{Samples}
-use Rattle.m2v_set.specs.declared.settings.Settings.{Settings}
 use Rattle.m2v_set.specs.Rules.{Passes}
 use Rattle.m2v_order.specs.Groups.{Group, is_due, group_of}
 use Rattle.m2v_order.specs.Whole.{handed}

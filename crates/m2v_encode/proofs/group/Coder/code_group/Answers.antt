@@ -1,8 +1,6 @@
-use Rattle.std.proofs.Common.{◌≡◌, ◌∙◌, ◌+◌, ◌*◌, ℕ, refl, sym, ap, subst, length}
-use Rattle.std.specs.Prelude.{is_some}
+use Rattle.std.proofs.Common.{◌∙◌, ◌+◌, ◌*◌, refl, sym, ap, subst, length}
 use Rattle.std.proofs.lemmas.Result.{err_from_is_err_and}
 use Rattle.m2v_port.specs.Ends.{change}
-use Rattle.m2v_vbv.specs.Account.{State}
 use Rattle.m2v_rate.specs.Plans.{Entries, account_at}
 use Rattle.m2v_order.specs.Whole.{handed}
 use Rattle.m2v_slice.specs.Books.{Book}

@@ -1,5 +1,4 @@
-use Rattle.std.proofs.Common.{◌≡◌, ◌∙◌, ◌+◌, ◌*◌, ℕ, List, Option, length, map, refl, sym, ap, subst, arith}
-use Rattle.m2v_plane.specs.Samples.{Samples}
+use Rattle.std.proofs.Common.{◌≡◌, ◌∙◌, ◌+◌, ◌*◌, List, length, map, sym, ap, subst, arith}
 use Rattle.m2v_set.specs.declared.settings.Settings.{Settings}
 use Rattle.m2v_set.specs.Numbers.{rows_by}
 use Rattle.m2v_order.specs.declared.jobs.PictureJob.{PictureJob}

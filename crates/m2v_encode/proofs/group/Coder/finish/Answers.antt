@@ -1,12 +1,12 @@
-use Rattle.std.proofs.Common.{arith, refl, subst, ap, sym, ◌∙◌, ◌≡◌, ◌*◌, ◌<◌, ℕ, Option, Bool, true, false, inl, inr}
+use Rattle.std.proofs.Common.{refl, subst, ap, sym, ◌∙◌, ◌≡◌, ◌<◌, ℕ, Option, true, false, inr}
 use Rattle.std.specs.Prelude.{is_some}
 use Rattle.std.proofs.lemmas.Result.{err_from_is_err_and}
 use Rattle.m2v_port.specs.Ends.{change}
 use Rattle.m2v_plane.specs.Samples.{Samples}
-use Rattle.m2v_order.specs.Groups.{Queue, Group, is_due, group_of, first_of, anchor_before, after_end, IsSoundQueue}
+use Rattle.m2v_order.specs.Groups.{Queue, is_due, group_of, first_of, anchor_before, after_end, IsSoundQueue}
 use Rattle.m2v_order.specs.Whole.{handed}
 use Rattle.m2v_order.proofs.Queues.{sound_end}
-use Rattle.m2v_encode.specs.Steps.{GoesOn, EndStops, EndCoded, book_by}
+use Rattle.m2v_encode.specs.Steps.{GoesOn, EndStops}
 use Rattle.m2v_encode.proofs.Due.{same_group, before_is, early_is, not_both}
 use Rattle.m2v_encode.proofs.Ends.{end_code, end_group_by, end_put_by, end_all_by, none_false}
 use Rattle.m2v_encode.proofs.group.Coder.finish.Goals as goal
