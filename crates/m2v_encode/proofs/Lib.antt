@@ -1,0 +1,16 @@
+pub mod Pieces
+pub mod Puts
+pub mod Places
+pub mod PictureTexts
+pub mod Books
+pub mod PictureLaws
+pub mod Fronts
+pub mod Covering
+pub mod Rebuilding
+pub mod Anchors
+pub mod GroupLaws
+pub mod Progress
+pub mod Due
+pub mod Ends
+pub mod Loop
+pub mod WithoutRecon

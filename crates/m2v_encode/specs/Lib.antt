@@ -1,1 +1,4 @@
 pub mod Answers
+pub mod Groups
+pub mod Rebuilt
+pub mod Steps

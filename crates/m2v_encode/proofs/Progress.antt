@@ -1,0 +1,607 @@
+-- Frame after frame: what stands after one more, and where coding stops.
+use Rattle.std.proofs.Common.{◌≡◌, ℕ, ◌+◌, ◌*◌, ◌/◌, ◌<◌, ◌≤◌, ◌⊎◌, inl, inr, Bool, true, false, List, [], ◌∷◌, ◌++◌, length, Option, None, Result, Ok, Err, refl, sym, subst, ap, ◌∙◌, arith, append_assoc}
+use Rattle.std.specs.Prelude.{OnOk, IfOk, IfErr, nat_lt, ◌&&◌, ◌||◌}
+use Rattle.std.proofs.lemmas.Bool.{cases_Bool, cases_lt, lt-ltb, and_from}
+use Rattle.std.proofs.lemmas.List.{length-append, append-nil}
+use Rattle.std.proofs.lemmas.List.Concat.{flat_map-append}
+use Rattle.std.proofs.lemmas.List.Elements.{All-append, All-cons, All-nil}
+use Rattle.m2v_bits.specs.Bits.{packed, number, start_code, IsEdge}
+use Rattle.m2v_bits.proofs.Units.{packed-append, start_length}
+use Rattle.m2v_port.specs.Ends.{Change, change}
+use Rattle.m2v_port.specs.Port.{Moves, IsAtEnd, Grows, GrowsByPrefix}
+use Rattle.m2v_port.proofs.Runs.{rose_since, moves_on, moves_nothing, grows_on, grows_by_nothing, grows_by_all, prefix_on, prefix_of_more}
+use Rattle.m2v_plane.specs.Raw.{frame_bytes, raw, pad}
+use Rattle.m2v_plane.specs.Samples.{Samples}
+use Rattle.m2v_set.specs.declared.settings.Settings.{Settings}
+use Rattle.m2v_set.specs.Numbers.{dims_of}
+use Rattle.m2v_set.specs.Rules.{Passes}
+use Rattle.m2v_order.specs.Groups.{Queue, Group, opening, next_intra, is_due, group_of, after_push, after_end, after_group, IsSoundQueue}
+use Rattle.m2v_order.proofs.Queues.{due_is, sound_end}
+use Rattle.m2v_rate.specs.Plans.{fresh}
+use Rattle.m2v_slice.specs.Books.{Book}
+use Rattle.m2v_stream.specs.Streams.{Progress, at_start, book_of, group_coded, groups_begun, zeros_sum, coded_all, Coded, Recon}
+use Rattle.m2v_encode.specs.declared.answer.Summary.{Summary}
+use Rattle.m2v_encode.specs.declared.answer.EncodeError.{EncodeError}
+use Rattle.m2v_encode.specs.declared.answer.EncodeError.TheVariants.{Read, Write, ShortFrame, NoFrames, TooManyFrames, Memory}
+use Rattle.m2v_encode.specs.declared.group.Coder.{Coder}
+use Rattle.m2v_encode.specs.Answers.{AreWhole, most_frames, AllCoded, Unended, CutOff, Stops}
+use Rattle.m2v_encode.specs.Groups.{whole_ledger, group_text, group_shown, anchor_behind}
+use Rattle.m2v_encode.specs.Steps.{FrameRead, FrameStops, ReadStops, book_by, GroupCoded, GroupStops, DueCoded, DueStops, EndCoded, EndCut, EndStops, HandedOut, Stands, SoFar}
+use Rattle.m2v_encode.proofs.Fronts.{handed_none, handed_push, handed_group, begun_is, begun_behind, all_is, Front, front_is, front_start, left_some}
+
+-- ---- bytes and bits
+
+-- the bytes of a text begin with those of its front
+pub packed_front : (a b : List Bool) → (rest : List ℕ) × (packed (a ++ b) ≡ packed a ++ rest)
+unfolding packed
+packed_front (x1 ∷ x2 ∷ x3 ∷ x4 ∷ x5 ∷ x6 ∷ x7 ∷ x8 ∷ a) b =
+    let rec = packed_front a b in
+    (rec.0, ap (λ (t : List ℕ). number (x1 ∷ x2 ∷ x3 ∷ x4 ∷ x5 ∷ x6 ∷ x7 ∷ x8 ∷ []) ∷ t) rec.1)
+packed_front [] b = (packed b, refl)
+packed_front (x1 ∷ []) b = (packed (x1 ∷ b), refl)
+packed_front (x1 ∷ x2 ∷ []) b = (packed (x1 ∷ x2 ∷ b), refl)
+packed_front (x1 ∷ x2 ∷ x3 ∷ []) b = (packed (x1 ∷ x2 ∷ x3 ∷ b), refl)
+packed_front (x1 ∷ x2 ∷ x3 ∷ x4 ∷ []) b = (packed (x1 ∷ x2 ∷ x3 ∷ x4 ∷ b), refl)
+packed_front (x1 ∷ x2 ∷ x3 ∷ x4 ∷ x5 ∷ []) b = (packed (x1 ∷ x2 ∷ x3 ∷ x4 ∷ x5 ∷ b), refl)
+packed_front (x1 ∷ x2 ∷ x3 ∷ x4 ∷ x5 ∷ x6 ∷ []) b = (packed (x1 ∷ x2 ∷ x3 ∷ x4 ∷ x5 ∷ x6 ∷ b), refl)
+packed_front (x1 ∷ x2 ∷ x3 ∷ x4 ∷ x5 ∷ x6 ∷ x7 ∷ []) b = (packed (x1 ∷ x2 ∷ x3 ∷ x4 ∷ x5 ∷ x6 ∷ x7 ∷ b), refl)
+
+edge_by : (t : List Bool) (bytes : ℕ) → 8 * bytes ≡ length t → IsEdge t
+edge_by t bytes is = omega (arith, is)
+
+bytes_by : (t : List Bool) → IsEdge t → 8 * length (packed t) ≡ length t
+unfolding packed
+bytes_by (x1 ∷ x2 ∷ x3 ∷ x4 ∷ x5 ∷ x6 ∷ x7 ∷ x8 ∷ t) e = omega (arith, bytes_by t (omega (arith, e)))
+bytes_by [] e = refl
+bytes_by (x1 ∷ []) e = absurd (omega (arith, e))
+bytes_by (x1 ∷ x2 ∷ []) e = absurd (omega (arith, e))
+bytes_by (x1 ∷ x2 ∷ x3 ∷ []) e = absurd (omega (arith, e))
+bytes_by (x1 ∷ x2 ∷ x3 ∷ x4 ∷ []) e = absurd (omega (arith, e))
+bytes_by (x1 ∷ x2 ∷ x3 ∷ x4 ∷ x5 ∷ []) e = absurd (omega (arith, e))
+bytes_by (x1 ∷ x2 ∷ x3 ∷ x4 ∷ x5 ∷ x6 ∷ []) e = absurd (omega (arith, e))
+bytes_by (x1 ∷ x2 ∷ x3 ∷ x4 ∷ x5 ∷ x6 ∷ x7 ∷ []) e = absurd (omega (arith, e))
+
+pub prefix_by : (h0 h1 : Option (List ℕ)) (part all rest : List ℕ) → all ≡ part ++ rest → GrowsByPrefix h0 part h1 → GrowsByPrefix h0 all h1
+prefix_by h0 h1 part all rest is grown = subst (λ (b : List ℕ). GrowsByPrefix h0 b h1) (sym is) (prefix_of_more grown rest)
+
+-- ---- frames
+
+raw_more : (frames : List (List ℕ)) (f : List ℕ) → raw (frames ++ f ∷ []) ≡ raw frames ++ f
+raw_more frames f = flat_map-append (λ (x : List ℕ). x) frames (f ∷ []) ∙ ap (λ (t : List ℕ). raw frames ++ t) (append-nil f)
+
+raw_both : (xs ys : List (List ℕ)) → raw (xs ++ ys) ≡ raw xs ++ raw ys
+raw_both xs ys = flat_map-append (λ (x : List ℕ). x) xs ys
+
+whole_more : (s : Settings) (frames : List (List ℕ)) (f : List ℕ) → AreWhole s frames → length f ≡ frame_bytes (dims_of s) → AreWhole s (frames ++ f ∷ [])
+whole_more s frames f whole is =
+    let P = λ (x : List ℕ). length x ≡ frame_bytes (dims_of s) in
+    All-append P frames (f ∷ []) whole (All-cons P f [] is (All-nil P))
+
+moved_more : (l0 l1 l2 : Option (List ℕ)) (frames : List (List ℕ)) (f : List ℕ) → Moves l0 (raw frames) l1 → Moves l1 f l2 → Moves l0 (raw (frames ++ f ∷ [])) l2
+moved_more l0 l1 l2 frames f first second = subst (λ (b : List ℕ). Moves l0 b l2) (sym (raw_more frames f)) (moves_on first second)
+
+raw_none : (frames : List (List ℕ)) → length frames ≡ 0 → raw frames ≡ []
+raw_none [] none = refl
+raw_none (f ∷ frames) none = absurd (omega (arith, none))
+
+no_part : (l0 l1 : Option (List ℕ)) (bytes : List ℕ) → Moves l0 bytes l1 → Moves l0 (bytes ++ []) l1
+no_part l0 l1 bytes moved = subst (λ (b : List ℕ). Moves l0 b l1) (sym (append-nil bytes)) moved
+
+then_nothing : (l0 l1 l2 : Option (List ℕ)) (bytes : List ℕ) → Moves l0 bytes l1 → Moves l1 [] l2 → Moves l0 bytes l2
+then_nothing l0 l1 l2 bytes first second = subst (λ (b : List ℕ). Moves l0 b l2) (append-nil bytes) (moves_on first second)
+
+-- ---- one group more
+
+-- behind a group that begins at a bit of the stream
+abbrev progress_by : Progress → Book → Bool → ℕ → Progress
+progress_by x b ends at = record {
+  text = x.text ++ group_text b ends at;
+  ledger = whole_ledger b;
+  before = anchor_behind b;
+  shown = x.shown ++ group_shown b;
+  pictures = x.pictures + length b.pictures;
+  zeros = x.zeros + zeros_sum (whole_ledger b) ends (length b.pictures);
+}
+
+progress_is : (s : Settings) (x : Progress) (g : Group Samples) (ends : Bool) → group_coded s x g ends ≡ progress_by x (book_of s x g) ends (length x.text)
+unfolding group_coded
+progress_is s x g ends = refl
+
+book_is : (s : Settings) (x : Progress) (c : Coder) (g : Group Samples) → Stands x c → c.settings ≡ s → book_of s x g ≡ book_by c g
+book_is s x c g st e = rw (st.ledger, st.before, e) refl
+
+coded_is : (s : Settings) (x : Progress) (c : Coder) (g : Group Samples) (ends : Bool) → Stands x c → c.settings ≡ s
+    → group_coded s x g ends ≡ progress_by x (book_by c g) ends (8 * c.total.bytes)
+coded_is s x c g ends st e =
+    progress_is s x g ends
+    ∙ ap (λ (b : Book). progress_by x b ends (length x.text)) (book_is s x c g st e)
+    ∙ ap (progress_by x (book_by c g) ends) (sym st.bytes)
+
+-- the stream whose last group is this one
+coded_by : (s : Settings) (frames : List (List ℕ)) (x : Progress) (b : Book) (ends : Bool) (at : ℕ) → coded_all s frames ≡ progress_by x b ends at → IsEdge x.text
+    → Coded s frames ≡ packed x.text ++ packed (group_text b ends at ++ start_code 0xB7)
+coded_by s frames x b ends at e edge =
+    let g = group_text b ends at in
+    ap (λ (y : Progress). packed (y.text ++ start_code 0xB7)) e ∙ ap packed (append_assoc x.text g (start_code 0xB7)) ∙ packed-append x.text (g ++ start_code 0xB7) edge
+
+-- The input's states are i0, i1 and so on, the output's o0, o1, and recon's r0, r1.
+module _ {S K N : Type 0} (left : S → Option (List ℕ)) (input_faults : S → ℕ) (held : K → Option (List ℕ)) (output_faults : K → ℕ)
+    (kept : N → Option (List ℕ)) (recon_faults : N → ℕ) where
+  abbrev input : S → S → Change
+  input = change left input_faults
+
+  abbrev output : K → K → Change
+  output = change held output_faults
+
+  abbrev recon : N → N → Change
+  recon = change kept recon_faults
+
+  -- ---- so far
+
+  pub so_far_none : (s : Settings) (c : Coder) (q : Queue Samples) (i0 : S) (o0 : K) (r0 : N) → c.settings ≡ s → c.ledger ≡ fresh c.settings → c.before ≡ None
+      → c.total ≡ record { frames = 0; pictures = 0; bytes = 0; stuffing = 0 } → q ≡ opening c.settings → SoFar s c q (input i0 i0) (output o0 o0) (recon r0 r0)
+  unfolding groups_begun packed
+  so_far_none s c q i0 o0 r0 e ledger before total queue = record {
+    frames = [];
+    groups = [];
+    count = sym (ap (λ (t : Summary). t.frames) total);
+    whole = All-nil (λ (x : List ℕ). length x ≡ frame_bytes (dims_of s));
+    moved = moves_nothing (left i0);
+    handed = subst (HandedOut s [] []) (sym (queue ∙ ap (λ (x : Settings). opening x) e)) (handed_none s);
+    settings = e;
+    stands = record {
+      ledger = ledger ∙ ap fresh e;
+      before = before;
+      pictures = ap (λ (t : Summary). t.pictures) total;
+      bytes = ap (λ (t : Summary). 8 * t.bytes) total;
+      stuffing = ap (λ (t : Summary). 8 * t.stuffing) total;
+    };
+    grown = grows_by_nothing (held o0);
+    shown = grows_by_nothing (kept r0);
+    unwritten = λ none. (refl, refl);
+  }
+
+  -- a frame more waits
+  pub so_far_read : (s : Settings) (c d : Coder) (q r : Queue Samples) (i0 i1 i2 : S) (o0 o1 : K) (r0 r1 : N)
+      → SoFar s c q (input i0 i1) (output o0 o1) (recon r0 r1) → FrameRead s q r (input i1 i2)
+      → d.settings ≡ c.settings → d.ledger ≡ c.ledger → d.before ≡ c.before → d.total ≡ record c.total { frames = c.total.frames + 1 }
+      → SoFar s d r (input i0 i2) (output o0 o1) (recon r0 r1)
+  so_far_read s c d q r i0 i1 i2 o0 o1 r0 r1 far next settings ledger before total =
+      let f = next.frame in
+      let st = far.stands in
+      record {
+        frames = far.frames ++ f ∷ [];
+        groups = far.groups;
+        count = omega (arith, length-append far.frames (f ∷ []), far.count, ap (λ (t : Summary). t.frames) total);
+        whole = whole_more s far.frames f far.whole next.whole;
+        moved = moved_more (left i0) (left i1) (left i2) far.frames f far.moved next.moved;
+        handed = handed_push s far.frames far.groups q r f far.handed next.pushed;
+        settings = settings ∙ far.settings;
+        stands = record {
+          ledger = ledger ∙ st.ledger;
+          before = before ∙ st.before;
+          pictures = ap (λ (t : Summary). t.pictures) total ∙ st.pictures;
+          bytes = ap (λ (t : Summary). 8 * t.bytes) total ∙ st.bytes;
+          stuffing = ap (λ (t : Summary). 8 * t.stuffing) total ∙ st.stuffing;
+        };
+        grown = far.grown;
+        shown = far.shown;
+        unwritten = λ none. absurd (omega (arith, none, length-append far.frames (f ∷ [])));
+      }
+
+  -- the group that was due is coded
+  so_far_group : (s : Settings) (c d : Coder) (q r : Queue Samples) (i0 i1 : S) (o0 o1 o2 : K) (r0 r1 r2 : N) → Passes s → IsSoundQueue q → is_due q ≡ true → 0 < c.total.frames
+      → SoFar s c q (input i0 i1) (output o0 o1) (recon r0 r1) → r ≡ after_group q → GroupCoded c d (book_by c (group_of q)) false (output o1 o2) (recon r1 r2)
+      → SoFar s d r (input i0 i1) (output o0 o2) (recon r0 r2)
+  so_far_group s c d q r i0 i1 o0 o1 o2 r0 r1 r2 passes sound is some far after group =
+      let st = far.stands in
+      let x = groups_begun s (at_start s) far.groups in
+      let b = book_by c (group_of q) in
+      let at = 8 * c.total.bytes in
+      let e : groups_begun s (at_start s) (far.groups ++ group_of q ∷ []) ≡ progress_by x b false at =
+      begun_behind s (at_start s) far.groups (group_of q) ∙ coded_is s x c (group_of q) false st far.settings in
+      let bytes : packed (progress_by x b false at).text ≡ packed x.text ++ packed (group_text b false at) = packed-append x.text (group_text b false at) (edge_by x.text c.total.bytes st.bytes) in
+      let here : Stands (progress_by x b false at) d = record {
+        ledger = group.ledger;
+        before = group.before;
+        pictures = omega (arith, group.pictures, st.pictures);
+        bytes = omega (arith, group.bytes, st.bytes, length-append x.text (group_text b false at));
+        stuffing = omega (arith, group.stuffing, st.stuffing);
+      } in
+      record {
+        frames = far.frames;
+        groups = far.groups ++ group_of q ∷ [];
+        count = far.count ∙ sym group.frames;
+        whole = far.whole;
+        moved = far.moved;
+        handed = handed_group s far.frames far.groups q r passes sound is far.handed after;
+        settings = group.settings ∙ far.settings;
+        stands = subst (λ (y : Progress). Stands y d) (sym e) here;
+        grown = subst (λ (y : Progress). Grows (held o0) (packed y.text) (held o2)) (sym e)
+            (subst (λ (t : List ℕ). Grows (held o0) t (held o2)) (sym bytes) (grows_on far.grown group.grown));
+        shown = subst (λ (y : Progress). Grows (kept r0) (raw y.shown) (kept r2)) (sym e)
+            (subst (λ (t : List ℕ). Grows (kept r0) t (kept r2)) (sym (raw_both x.shown (group_shown b))) (grows_on far.shown group.shown));
+        unwritten = λ none. absurd (omega (arith, none, far.count, some));
+      }
+
+  pub so_far_due : (s : Settings) (c d : Coder) (q r : Queue Samples) (i0 i1 : S) (o0 o1 o2 : K) (r0 r1 r2 : N) → Passes s → IsSoundQueue q → 0 < c.total.frames
+      → SoFar s c q (input i0 i1) (output o0 o1) (recon r0 r1) → DueCoded c d q r (output o1 o2) (recon r1 r2)
+      → SoFar s d r (input i0 i1) (output o0 o2) (recon r0 r2)
+  so_far_due s c d q r i0 i1 o0 o1 o2 r0 r1 r2 passes sound some far due = elim (cases_Bool (is_due q)) [
+    | inl is ↦ let g = due.due is in so_far_group s c d q r i0 i1 o0 o1 o2 r0 r1 r2 passes sound is some far g.0 g.1
+    | inr none ↦
+        let same = due.rest none in
+        subst (λ (y : Queue Samples). SoFar s d y (input i0 i1) (output o0 o2) (recon r0 r2)) (sym same.0)
+        (subst (λ (y : Coder). SoFar s y q (input i0 i1) (output o0 o2) (recon r0 r2)) (sym same.1.0) (record {
+          frames = far.frames;
+          groups = far.groups;
+          count = far.count;
+          whole = far.whole;
+          moved = far.moved;
+          handed = far.handed;
+          settings = far.settings;
+          stands = far.stands;
+          grown = subst (λ (h : Option (List ℕ)). Grows (held o0) (packed (groups_begun s (at_start s) far.groups).text) h) (sym same.1.1.0) far.grown;
+          shown = subst (λ (h : Option (List ℕ)). Grows (kept r0) (raw (groups_begun s (at_start s) far.groups).shown) h) (sym same.1.1.1) far.shown;
+          unwritten = λ zero_frames. absurd (omega (arith, zero_frames, far.count, some));
+        }))
+  ]
+
+  -- ---- where it stops
+
+  -- what stands is what the groups bring that were handed out
+  begun_here : (s : Settings) (c : Coder) (q : Queue Samples) (part : List ℕ) (i0 i1 i2 : S) (o0 o1 : K) (r0 r1 : N) → c.total.frames ≤ most_frames → is_due q ≡ false
+      → (far : SoFar s c q (input i0 i1) (output o0 o1) (recon r0 r1)) → Moves (left i1) part (left i2)
+      → Unended s (input i0 i2) (output o0 o1) (recon r0 r1) far.frames part
+  begun_here s c q part i0 i1 i2 o0 o1 r0 r1 few rest far moved =
+      let e = begun_is s far.frames far.groups q far.handed rest in
+      record {
+        most = omega (arith, few, far.count);
+        whole = far.whole;
+        moved = moves_on far.moved moved;
+        grown = subst (λ (y : Progress). Grows (held o0) (packed y.text) (held o1)) (sym e) far.grown;
+        shown = subst (λ (y : Progress). Grows (kept r0) (raw y.shown) (kept r1)) (sym e) far.shown;
+        unwritten = far.unwritten;
+      }
+
+  -- the stream of some frames begins with the groups that were handed out, and so do the frames that are shown
+  front_bytes : (s : Settings) (frames : List (List ℕ)) (x : Progress) → Front x (coded_all s frames)
+      → ((rest : List ℕ) × (Coded s frames ≡ packed x.text ++ rest)) × ((rest : List ℕ) × (raw (Recon s frames) ≡ raw x.shown ++ rest))
+  front_bytes s frames x front =
+      let more = packed_front x.text (front.bits ++ start_code 0xB7) in (
+        (more.0, ap (λ (t : List Bool). packed (t ++ start_code 0xB7)) front.text ∙ ap packed (append_assoc x.text front.bits (start_code 0xB7)) ∙ more.1),
+        (raw front.frames, ap raw front.shown ∙ raw_both x.shown front.frames),
+      )
+
+  -- output and recon hold a prefix of what the groups bring that stand in front of the stream
+  cut_here : (s : Settings) (frames : List (List ℕ)) (part : List ℕ) (x : Progress) (i0 i2 : S) (o0 o2 : K) (r0 r2 : N) → length frames ≤ most_frames
+      → AreWhole s frames → length part < frame_bytes (dims_of s) → Moves (left i0) (raw frames ++ part) (left i2) → Front x (coded_all s frames)
+      → GrowsByPrefix (held o0) (packed x.text) (held o2) → GrowsByPrefix (kept r0) (raw x.shown) (kept r2)
+      → (length frames ≡ 0 → (o2 ≡ o0) × (r2 ≡ r0))
+      → CutOff s (input i0 i2) (output o0 o2) (recon r0 r2)
+  cut_here s frames part x i0 i2 o0 o2 r0 r2 few whole less moved front grown shown none =
+      let bytes = front_bytes s frames x front in
+      record {
+        frames = frames;
+        part = part;
+        most = few;
+        whole = whole;
+        less = less;
+        moved = moved;
+        grown = prefix_by (held o0) (held o2) (packed x.text) (Coded s frames) bytes.0.0 bytes.0.1 grown;
+        shown = prefix_by (kept r0) (kept r2) (raw x.shown) (raw (Recon s frames)) bytes.1.0 bytes.1.1 shown;
+        unwritten = none;
+      }
+
+  front_begun : (s : Settings) (frames : List (List ℕ)) (groups : List (Group Samples)) (q : Queue Samples) → Passes s → HandedOut s frames groups q → IsSoundQueue q
+      → Front (groups_begun s (at_start s) groups) (coded_all s frames)
+  front_begun s frames groups q passes h sound = elim (cases_lt 0 (length q.frames)) [
+    | inl some ↦ front_is s frames groups q passes h some
+    | inr none ↦ front_empty s frames groups q h (omega (arith, sound.none (omega (arith, none)) h.going, h.pushed))
+  ]
+    where
+      front_empty : (s : Settings) (frames : List (List ℕ)) (groups : List (Group Samples)) (q : Queue Samples) → HandedOut s frames groups q → length frames ≡ 0
+          → Front (groups_begun s (at_start s) groups) (coded_all s frames)
+      front_empty s [] [] q h none = front_start s
+      front_empty s [] (g ∷ groups) q h none = absurd (omega (arith, h.count))
+      front_empty s (f ∷ frames) groups q h none = absurd (omega (arith, none))
+
+  -- the input failed or memory ran out before the next frame was there
+  lost_here : (s : Settings) (c : Coder) (q : Queue Samples) (part : List ℕ) (i0 i1 i2 : S) (o0 o1 : K) (r0 r1 : N) → Passes s → IsSoundQueue q → c.total.frames ≤ most_frames
+      → SoFar s c q (input i0 i1) (output o0 o1) (recon r0 r1) → Moves (left i1) part (left i2) → length part < frame_bytes (dims_of s)
+      → CutOff s (input i0 i2) (output o0 o1) (recon r0 r1)
+  lost_here s c q part i0 i1 i2 o0 o1 r0 r1 passes sound few far moved less =
+      cut_here s far.frames part (groups_begun s (at_start s) far.groups) i0 i2 o0 o1 r0 r1 (omega (arith, few, far.count)) far.whole less (moves_on far.moved moved)
+      (front_begun s far.frames far.groups q passes far.handed sound) (grows_by_all far.grown) (grows_by_all far.shown) far.unwritten
+
+  -- the next frame does not wait
+  pub frame_stopped : (s : Settings) (c : Coder) (q : Queue Samples) (i0 i1 i2 : S) (o0 o1 : K) (r0 r1 : N) (e : EncodeError) → Passes s → IsSoundQueue q → c.total.frames < most_frames
+      → 0 < frame_bytes (dims_of s) → is_due q ≡ false → input_faults i0 ≤ input_faults i1
+      → SoFar s c q (input i0 i1) (output o0 o1) (recon r0 r1) → FrameStops s (input i1 i2) e → Stops s (input i0 i2) (output o0 o1) (recon r0 r1) e
+  unfolding FrameStops Stops
+  frame_stopped s c q i0 i1 i2 o0 o1 r0 r1 Read passes sound few some rest since far h = (
+    rose_since since h.0,
+    record {
+      frames = far.frames;
+      part = h.1.part;
+      begun = begun_here s c q h.1.part i0 i1 i2 o0 o1 r0 r1 (omega (arith, few)) rest far h.1.moved;
+      less = h.1.fewer;
+    },
+  )
+  frame_stopped s c q i0 i1 i2 o0 o1 r0 r1 Write passes sound few some rest since far h = absurd h
+  frame_stopped s c q i0 i1 i2 o0 o1 r0 r1 (ShortFrame extra) passes sound few some rest since far h = record {
+    frames = far.frames;
+    part = h.part;
+    begun = begun_here s c q h.part i0 i1 i2 o0 o1 r0 r1 (omega (arith, few)) rest far h.moved;
+    fewer = omega (arith, few, far.count);
+    count = h.count;
+    some = h.some;
+    less = h.less;
+    end = h.end;
+  }
+  frame_stopped s c q i0 i1 i2 o0 o1 r0 r1 NoFrames passes sound few some rest since far h = absurd h
+  frame_stopped s c q i0 i1 i2 o0 o1 r0 r1 TooManyFrames passes sound few some rest since far h = absurd h
+  frame_stopped s c q i0 i1 i2 o0 o1 r0 r1 Memory passes sound few some rest since far (inl h) =
+      lost_here s c q h.part i0 i1 i2 o0 o1 r0 r1 passes sound (omega (arith, few)) far h.moved h.fewer
+  frame_stopped s c q i0 i1 i2 o0 o1 r0 r1 Memory passes sound few some rest since far (inr h) =
+      let f = h.frame in
+      let more = handed_push s far.frames far.groups q (after_push q (pad (dims_of s) f)) f far.handed refl in
+      let long = length-append far.frames (f ∷ []) in
+      cut_here s (far.frames ++ f ∷ []) [] (groups_begun s (at_start s) far.groups) i0 i2 o0 o1 r0 r1 (omega (arith, few, far.count, long)) (whole_more s far.frames f far.whole h.whole) some
+      (no_part (left i0) (left i2) (raw (far.frames ++ f ∷ [])) (moved_more (left i0) (left i1) (left i2) far.frames f far.moved h.moved))
+      (front_is s (far.frames ++ f ∷ []) far.groups (after_push q (pad (dims_of s) f)) passes more (omega (arith, length-append q.frames (pad (dims_of s) f ∷ []))))
+      (grows_by_all far.grown) (grows_by_all far.shown) (λ none. absurd (omega (arith, none, long)))
+
+  -- a group was cut off
+  group_cut : (s : Settings) (c : Coder) (q : Queue Samples) (i0 i1 : S) (o0 o1 o2 : K) (r0 r1 r2 : N) → Passes s → IsSoundQueue q → is_due q ≡ true → 0 < c.total.frames → c.total.frames ≤ most_frames
+      → 0 < frame_bytes (dims_of s) → SoFar s c q (input i0 i1) (output o0 o1) (recon r0 r1)
+      → GrowsByPrefix (held o1) (packed (group_text (book_by c (group_of q)) false (8 * c.total.bytes))) (held o2)
+      → GrowsByPrefix (kept r1) (raw (group_shown (book_by c (group_of q)))) (kept r2) → CutOff s (input i0 i1) (output o0 o2) (recon r0 r2)
+  group_cut s c q i0 i1 o0 o1 o2 r0 r1 r2 passes sound is some few size far grown shown =
+      let st = far.stands in
+      let x = groups_begun s (at_start s) far.groups in
+      let b = book_by c (group_of q) in
+      let at = 8 * c.total.bytes in
+      let e : groups_begun s (at_start s) (far.groups ++ group_of q ∷ []) ≡ progress_by x b false at =
+      begun_behind s (at_start s) far.groups (group_of q) ∙ coded_is s x c (group_of q) false st far.settings in
+      let bytes : packed (progress_by x b false at).text ≡ packed x.text ++ packed (group_text b false at) = packed-append x.text (group_text b false at) (edge_by x.text c.total.bytes st.bytes) in
+      let pass : Passes q.settings = subst Passes (sym far.handed.settings) passes in
+      let front = front_is s far.frames (far.groups ++ group_of q ∷ []) (after_group q) passes (handed_group s far.frames far.groups q (after_group q) passes sound is far.handed refl) (left_some q pass sound far.handed.going is) in
+      cut_here s far.frames [] (progress_by x b false at) i0 i1 o0 o2 r0 r2 (omega (arith, few, far.count)) far.whole size (no_part (left i0) (left i1) (raw far.frames) far.moved)
+      (subst (λ (y : Progress). Front y (coded_all s far.frames)) e front)
+      (subst (λ (t : List ℕ). GrowsByPrefix (held o0) t (held o2)) (sym bytes) (prefix_on far.grown grown))
+      (subst (λ (t : List ℕ). GrowsByPrefix (kept r0) t (kept r2)) (sym (raw_both x.shown (group_shown b))) (prefix_on far.shown shown))
+      (λ none. absurd (omega (arith, none, far.count, some)))
+
+  pub due_stopped : (s : Settings) (c : Coder) (q : Queue Samples) (i0 i1 : S) (o0 o1 o2 : K) (r0 r1 r2 : N) (e : EncodeError) → Passes s → IsSoundQueue q → 0 < c.total.frames → c.total.frames ≤ most_frames
+      → 0 < frame_bytes (dims_of s) → output_faults o0 ≤ output_faults o1 → recon_faults r0 ≤ recon_faults r1
+      → SoFar s c q (input i0 i1) (output o0 o1) (recon r0 r1) → DueStops c q (output o1 o2) (recon r1 r2) e → Stops s (input i0 i1) (output o0 o2) (recon r0 r2) e
+  unfolding DueStops GroupStops Stops
+  due_stopped s c q i0 i1 o0 o1 o2 r0 r1 r2 Read passes sound some few size fo fr far (inl h) = absurd h.1
+  due_stopped s c q i0 i1 o0 o1 o2 r0 r1 r2 Write passes sound some few size fo fr far (inl h) =
+      (by_side h.1.0, group_cut s c q i0 i1 o0 o1 o2 r0 r1 r2 passes sound h.0 some few size far h.1.1.0 h.1.1.1)
+    where
+      by_side : (output o1 o2).Failed ⊎ (recon r1 r2).Failed → (output o0 o2).Failed ⊎ (recon r0 r2).Failed
+      by_side (inl f) = inl (rose_since fo f)
+      by_side (inr f) = inr (rose_since fr f)
+  due_stopped s c q i0 i1 o0 o1 o2 r0 r1 r2 (ShortFrame extra) passes sound some few size fo fr far (inl h) = absurd h.1
+  due_stopped s c q i0 i1 o0 o1 o2 r0 r1 r2 NoFrames passes sound some few size fo fr far (inl h) = absurd h.1
+  due_stopped s c q i0 i1 o0 o1 o2 r0 r1 r2 TooManyFrames passes sound some few size fo fr far (inl h) = absurd h.1
+  due_stopped s c q i0 i1 o0 o1 o2 r0 r1 r2 Memory passes sound some few size fo fr far (inl h) =
+      group_cut s c q i0 i1 o0 o1 o2 r0 r1 r2 passes sound h.0 some few size far h.1.0 h.1.1
+  due_stopped s c q i0 i1 o0 o1 o2 r0 r1 r2 e passes sound some few size fo fr far (inr h) =
+      subst (Stops s (input i0 i1) (output o0 o2) (recon r0 r2)) (sym h.0)
+      (cut_here s far.frames [] (groups_begun s (at_start s) far.groups) i0 i1 o0 o2 r0 r2 (omega (arith, few, far.count)) far.whole size (no_part (left i0) (left i1) (raw far.frames) far.moved)
+      (front_begun s far.frames far.groups q passes far.handed sound)
+      (subst (λ (t : Option (List ℕ)). GrowsByPrefix (held o0) (packed (groups_begun s (at_start s) far.groups).text) t) (sym h.1.0) (grows_by_all far.grown))
+      (subst (λ (t : Option (List ℕ)). GrowsByPrefix (kept r0) (raw (groups_begun s (at_start s) far.groups).shown) t) (sym h.1.1) (grows_by_all far.shown))
+      (λ none. absurd (omega (arith, none, far.count, some))))
+
+  -- ---- the end
+
+  pub ended : (s : Settings) (c : Coder) (q : Queue Samples) (i0 i1 i2 : S) (o0 o1 o2 : K) (r0 r1 r2 : N) (t : Summary) → Passes s → is_due q ≡ false → IsSoundQueue (after_end q) → is_due (after_end q) ≡ true
+      → 0 < c.total.frames → c.total.frames ≤ most_frames → SoFar s c q (input i0 i1) (output o0 o1) (recon r0 r1) → Moves (left i1) [] (left i2) → IsAtEnd (left i2)
+      → EndCoded c (book_by c (group_of (after_end q))) (output o1 o2) (recon r1 r2) t → AllCoded s (input i0 i2) (output o0 o2) (recon r0 r2) t
+  ended s c q i0 i1 i2 o0 o1 o2 r0 r1 r2 t passes rest sound is some few far moved end coded =
+      let st = far.stands in
+      let x = groups_begun s (at_start s) far.groups in
+      let b = book_by c (group_of (after_end q)) in
+      let at = 8 * c.total.bytes in
+      let g = group_text b true at in
+      let e : coded_all s far.frames ≡ progress_by x b true at = all_is s far.frames far.groups q passes far.handed rest sound is ∙ coded_is s x c (group_of (after_end q)) true st far.settings in
+      let edge : IsEdge x.text = edge_by x.text c.total.bytes st.bytes in
+      let whole : Coded s far.frames ≡ packed x.text ++ packed (g ++ start_code 0xB7) = coded_by s far.frames x b true at e edge in
+      let shown : raw (Recon s far.frames) ≡ raw x.shown ++ raw (group_shown b) = ap (λ (y : Progress). raw y.shown) e ∙ raw_both x.shown (group_shown b) in
+      let bytes : t.bytes ≡ length (Coded s far.frames) =
+      omega (
+        arith,
+        ap length whole,
+        length-append (packed x.text) (packed (g ++ start_code 0xB7)),
+        bytes_by x.text edge,
+        bytes_by (g ++ start_code 0xB7) (omega (arith, length-append g (start_code 0xB7), start_length 0xB7, coded.bytes)),
+        length-append g (start_code 0xB7),
+        start_length 0xB7,
+        coded.bytes,
+        st.bytes,
+      ) in
+      let zero_bytes : t.stuffing ≡ (coded_all s far.frames).zeros / 8 = omega (arith, coded.stuffing, st.stuffing, ap (λ (y : Progress). y.zeros) e) in
+      let count : t.frames ≡ length far.frames = coded.frames ∙ sym far.count in
+      let pictures : t.pictures ≡ (coded_all s far.frames).pictures = omega (arith, coded.pictures, st.pictures, ap (λ (y : Progress). y.pictures) e) in
+      record {
+        frames = far.frames;
+        some = omega (arith, some, far.count);
+        most = omega (arith, few, far.count);
+        whole = far.whole;
+        moved = then_nothing (left i0) (left i1) (left i2) (raw far.frames) far.moved moved;
+        end = end;
+        grown = subst (λ (z : List ℕ). Grows (held o0) z (held o2)) (sym whole) (grows_on far.grown coded.grown);
+        shown = subst (λ (z : List ℕ). Grows (kept r0) z (kept r2)) (sym shown) (grows_on far.shown coded.shown);
+        numbers = same_summary t.frames _ t.pictures _ t.bytes _ t.stuffing _ count pictures bytes zero_bytes;
+      }
+    where
+      same_summary : (a x b y c z d w : ℕ) → a ≡ x → b ≡ y → c ≡ z → d ≡ w
+          → (let s : Summary = record { frames = a; pictures = b; bytes = c; stuffing = d } in let t : Summary = record { frames = x; pictures = y; bytes = z; stuffing = w } in s ≡ t)
+      same_summary a x b y c z d w e f g h = rw (e, f, g, h) refl
+
+  -- the end was cut off
+  end_cut : (s : Settings) (c : Coder) (q : Queue Samples) (i0 i1 i2 : S) (o0 o1 o2 : K) (r0 r1 r2 : N) → Passes s → is_due q ≡ false → IsSoundQueue (after_end q) → is_due (after_end q) ≡ true
+      → 0 < c.total.frames → c.total.frames ≤ most_frames → 0 < frame_bytes (dims_of s) → SoFar s c q (input i0 i1) (output o0 o1) (recon r0 r1) → Moves (left i1) [] (left i2)
+      → EndCut c (book_by c (group_of (after_end q))) (output o1 o2) (recon r1 r2) → CutOff s (input i0 i2) (output o0 o2) (recon r0 r2)
+  end_cut s c q i0 i1 i2 o0 o1 o2 r0 r1 r2 passes rest sound is some few size far moved cut =
+      let st = far.stands in
+      let x = groups_begun s (at_start s) far.groups in
+      let b = book_by c (group_of (after_end q)) in
+      let at = 8 * c.total.bytes in
+      let e : coded_all s far.frames ≡ progress_by x b true at = all_is s far.frames far.groups q passes far.handed rest sound is ∙ coded_is s x c (group_of (after_end q)) true st far.settings in
+      let whole = coded_by s far.frames x b true at e (edge_by x.text c.total.bytes st.bytes) in
+      let shown : raw (Recon s far.frames) ≡ raw x.shown ++ raw (group_shown b) = ap (λ (y : Progress). raw y.shown) e ∙ raw_both x.shown (group_shown b) in
+      record {
+        frames = far.frames;
+        part = [];
+        most = omega (arith, few, far.count);
+        whole = far.whole;
+        less = size;
+        moved = no_part (left i0) (left i2) (raw far.frames) (then_nothing (left i0) (left i1) (left i2) (raw far.frames) far.moved moved);
+        grown = subst (λ (z : List ℕ). GrowsByPrefix (held o0) z (held o2)) (sym whole) (prefix_on far.grown cut.grown);
+        shown = subst (λ (z : List ℕ). GrowsByPrefix (kept r0) z (kept r2)) (sym shown) (prefix_on far.shown cut.shown);
+        unwritten = λ none. absurd (omega (arith, none, far.count, some));
+      }
+
+  -- where a group is left at the end, frames were read
+  due_frames : (s : Settings) (c : Coder) (q : Queue Samples) (i0 i1 : S) (o0 o1 : K) (r0 r1 : N) → SoFar s c q (input i0 i1) (output o0 o1) (recon r0 r1) → IsSoundQueue (after_end q)
+      → is_due (after_end q) ≡ true → 0 < c.total.frames
+  due_frames s c q i0 i1 o0 o1 r0 r1 far sound is = omega (arith, (due_is (after_end q) is).some, sound.room, far.handed.pushed, far.count)
+
+  no_frames : (s : Settings) (c : Coder) (q : Queue Samples) (i0 i1 : S) (o0 o1 : K) (r0 r1 : N) → (far : SoFar s c q (input i0 i1) (output o0 o1) (recon r0 r1)) → IsSoundQueue q
+      → is_due (after_end q) ≡ false → length far.frames ≡ 0
+  unfolding is_due
+  no_frames s c q i0 i1 o0 o1 r0 r1 far sound rest = elim (cases_lt 0 (length q.frames)) [
+    | inl some ↦ absurd (is_false (nat_lt 0 (length q.frames) && (true || nat_lt (next_intra (after_end q)) q.pushed)) rest (and_from (nat_lt 0 (length q.frames)) (true || nat_lt (next_intra (after_end q)) q.pushed) (lt-ltb 0 (length q.frames) some) refl))
+    | inr none ↦ omega (arith, sound.none (omega (arith, none)) far.handed.going, far.handed.pushed)
+  ]
+    where
+      is_false : (b : Bool) → b ≡ false → b ≡ true → ⊥
+      is_false true e f = absurd cc
+      is_false false e f = absurd cc
+
+  pub end_stopped : (s : Settings) (c : Coder) (q : Queue Samples) (i0 i1 i2 : S) (o0 o1 o2 : K) (r0 r1 r2 : N) (e : EncodeError) → Passes s → is_due q ≡ false → IsSoundQueue q → IsSoundQueue (after_end q)
+      → c.total.frames ≤ most_frames → 0 < frame_bytes (dims_of s) → output_faults o0 ≤ output_faults o1 → recon_faults r0 ≤ recon_faults r1
+      → SoFar s c q (input i0 i1) (output o0 o1) (recon r0 r1) → Moves (left i1) [] (left i2) → IsAtEnd (left i2)
+      → EndStops c (after_end q) (output o1 o2) (recon r1 r2) e → Stops s (input i0 i2) (output o0 o2) (recon r0 r2) e
+  unfolding EndStops Stops
+  end_stopped s c q i0 i1 i2 o0 o1 o2 r0 r1 r2 Read passes rest sound ending few size fo fr far moved end h = absurd h
+  end_stopped s c q i0 i1 i2 o0 o1 o2 r0 r1 r2 Write passes rest sound ending few size fo fr far moved end h =
+      (by_side h.0, end_cut s c q i0 i1 i2 o0 o1 o2 r0 r1 r2 passes rest ending h.1.0 (due_frames s c q i0 i1 o0 o1 r0 r1 far ending h.1.0) few size far moved h.1.1)
+    where
+      by_side : (output o1 o2).Failed ⊎ (recon r1 r2).Failed → (output o0 o2).Failed ⊎ (recon r0 r2).Failed
+      by_side (inl f) = inl (rose_since fo f)
+      by_side (inr f) = inr (rose_since fr f)
+  end_stopped s c q i0 i1 i2 o0 o1 o2 r0 r1 r2 (ShortFrame extra) passes rest sound ending few size fo fr far moved end h = absurd h
+  end_stopped s c q i0 i1 i2 o0 o1 o2 r0 r1 r2 NoFrames passes rest sound ending few size fo fr far moved end h =
+      let none = no_frames s c q i0 i1 o0 o1 r0 r1 far sound h.0 in
+      let same = far.unwritten none in
+      record {
+        moved = then_nothing (left i0) (left i1) (left i2) [] (subst (λ (b : List ℕ). Moves (left i0) b (left i1)) (raw_none far.frames none) far.moved) moved;
+        end = end;
+        same = (h.1.0 ∙ same.0, h.1.1 ∙ same.1);
+      }
+  end_stopped s c q i0 i1 i2 o0 o1 o2 r0 r1 r2 TooManyFrames passes rest sound ending few size fo fr far moved end h = absurd h
+  end_stopped s c q i0 i1 i2 o0 o1 o2 r0 r1 r2 Memory passes rest sound ending few size fo fr far moved end (inl h) =
+      end_cut s c q i0 i1 i2 o0 o1 o2 r0 r1 r2 passes rest ending h.0 (due_frames s c q i0 i1 o0 o1 r0 r1 far ending h.0) few size far moved h.1
+  end_stopped s c q i0 i1 i2 o0 o1 o2 r0 r1 r2 Memory passes rest sound ending few size fo fr far moved end (inr h) =
+      cut_here s far.frames [] (groups_begun s (at_start s) far.groups) i0 i2 o0 o2 r0 r2 (omega (arith, few, far.count)) far.whole size
+      (no_part (left i0) (left i2) (raw far.frames) (then_nothing (left i0) (left i1) (left i2) (raw far.frames) far.moved moved))
+      (front_begun s far.frames far.groups q passes far.handed sound)
+      (subst (λ (t : Option (List ℕ)). GrowsByPrefix (held o0) (packed (groups_begun s (at_start s) far.groups).text) t) (sym h.1.0) (grows_by_all far.grown))
+      (subst (λ (t : Option (List ℕ)). GrowsByPrefix (kept r0) (raw (groups_begun s (at_start s) far.groups).shown) t) (sym h.1.1.1) (grows_by_all far.shown))
+      (λ none. let same = far.unwritten none in (h.0 ∙ same.0, h.1.1.0 ∙ same.1))
+
+  -- a byte behind the last frame was looked for in vain
+  pub look_stopped : (s : Settings) (c : Coder) (q : Queue Samples) (i0 i1 i2 : S) (o0 o1 : K) (r0 r1 : N) (e : EncodeError) → Passes s → IsSoundQueue q → c.total.frames ≤ most_frames
+      → 0 < frame_bytes (dims_of s) → is_due q ≡ false → input_faults i0 ≤ input_faults i1
+      → SoFar s c q (input i0 i1) (output o0 o1) (recon r0 r1) → ReadStops 1 (input i1 i2) e → Stops s (input i0 i2) (output o0 o1) (recon r0 r1) e
+  unfolding ReadStops Stops
+  look_stopped s c q i0 i1 i2 o0 o1 r0 r1 Read passes sound few some rest since far h = (
+    rose_since since h.0,
+    record {
+      frames = far.frames;
+      part = h.1.part;
+      begun = begun_here s c q h.1.part i0 i1 i2 o0 o1 r0 r1 few rest far h.1.moved;
+      less = omega (arith, h.1.fewer, some);
+    },
+  )
+  look_stopped s c q i0 i1 i2 o0 o1 r0 r1 Write passes sound few some rest since far h = absurd h
+  look_stopped s c q i0 i1 i2 o0 o1 r0 r1 (ShortFrame extra) passes sound few some rest since far h = absurd h
+  look_stopped s c q i0 i1 i2 o0 o1 r0 r1 NoFrames passes sound few some rest since far h = absurd h
+  look_stopped s c q i0 i1 i2 o0 o1 r0 r1 TooManyFrames passes sound few some rest since far h = absurd h
+  look_stopped s c q i0 i1 i2 o0 o1 r0 r1 Memory passes sound few some rest since far h =
+      lost_here s c q h.part i0 i1 i2 o0 o1 r0 r1 passes sound few far h.moved (omega (arith, h.fewer, some))
+
+  -- a byte is there
+  pub went_on : (s : Settings) (c : Coder) (q : Queue Samples) (next : ℕ) (i0 i1 i2 : S) (o0 o1 : K) (r0 r1 : N) → c.total.frames ≡ most_frames → is_due q ≡ false
+      → SoFar s c q (input i0 i1) (output o0 o1) (recon r0 r1) → Moves (left i1) (next ∷ []) (left i2) → Stops s (input i0 i2) (output o0 o1) (recon r0 r1) TooManyFrames
+  unfolding Stops
+  went_on s c q next i0 i1 i2 o0 o1 r0 r1 all rest far moved = record {
+    frames = far.frames;
+    next = next;
+    begun = begun_here s c q (next ∷ []) i0 i1 i2 o0 o1 r0 r1 (omega (arith, all)) rest far moved;
+    all = far.count ∙ all;
+  }
+
+  -- no memory was left before a byte was read
+  pub not_begun : (s : Settings) (i : S) (o : K) (r : N) → 0 < frame_bytes (dims_of s) → Stops s (input i i) (output o o) (recon r r) Memory
+  unfolding Stops
+  not_begun s i o r size = record {
+    frames = [];
+    part = [];
+    most = omega arith;
+    whole = All-nil (λ (x : List ℕ). length x ≡ frame_bytes (dims_of s));
+    less = size;
+    moved = moves_nothing (left i);
+    grown = prefix_by (held o) (held o) [] (Coded s []) (Coded s []) refl (grows_by_all (grows_by_nothing (held o)));
+    shown = prefix_by (kept r) (kept r) [] (raw (Recon s [])) (raw (Recon s [])) refl (grows_by_all (grows_by_nothing (kept r)));
+    unwritten = λ none. (refl, refl);
+  }
+
+  -- ---- as the loop asks for it
+
+  -- the input has ended, and nothing else changed
+  pub so_far_same : (s : Settings) (c d : Coder) (q r : Queue Samples) (i0 i1 : S) (o0 o1 : K) (r0 r1 : N) → SoFar s c q (input i0 i1) (output o0 o1) (recon r0 r1)
+      → d ≡ record c { raw = d.raw; total = d.total } → d.total ≡ c.total → r ≡ q → SoFar s d r (input i0 i1) (output o0 o1) (recon r0 r1)
+  so_far_same s c d q r i0 i1 o0 o1 r0 r1 far rest total same =
+      let st = far.stands in
+      record {
+        frames = far.frames;
+        groups = far.groups;
+        count = far.count ∙ sym (ap (λ (t : Summary). t.frames) total);
+        whole = far.whole;
+        moved = far.moved;
+        handed = subst (HandedOut s far.frames far.groups) (sym same) far.handed;
+        settings = ap (λ (x : Coder). x.settings) rest ∙ far.settings;
+        stands = record {
+          ledger = ap (λ (x : Coder). x.ledger) rest ∙ st.ledger;
+          before = ap (λ (x : Coder). x.before) rest ∙ st.before;
+          pictures = ap (λ (t : Summary). t.pictures) total ∙ st.pictures;
+          bytes = ap (λ (t : Summary). 8 * t.bytes) total ∙ st.bytes;
+          stuffing = ap (λ (t : Summary). 8 * t.stuffing) total ∙ st.stuffing;
+        };
+        grown = far.grown;
+        shown = far.shown;
+        unwritten = far.unwritten;
+      }
+
+  pub all_ended : (s : Settings) (c : Coder) (q : Queue Samples) (i0 i1 i2 : S) (o0 o1 o2 : K) (r0 r1 r2 : N) (result : Result Summary EncodeError) → Passes s → IsSoundQueue q → is_due q ≡ false
+      → c.total.frames ≤ most_frames → SoFar s c q (input i0 i1) (output o0 o1) (recon r0 r1) → Moves (left i1) [] (left i2) → IsAtEnd (left i2)
+      → OnOk result (is_due (after_end q) ≡ true) → IfOk result (EndCoded c (book_by c (group_of (after_end q))) (output o1 o2) (recon r1 r2))
+      → IfOk result (AllCoded s (input i0 i2) (output o0 o2) (recon r0 r2))
+  all_ended s c q i0 i1 i2 o0 o1 o2 r0 r1 r2 (Ok t) passes sound rest few far moved end is coded =
+      ended s c q i0 i1 i2 o0 o1 o2 r0 r1 r2 t passes rest (sound_end q sound) is (due_frames s c q i0 i1 o0 o1 r0 r1 far (sound_end q sound) is) few far moved end coded
+  all_ended s c q i0 i1 i2 o0 o1 o2 r0 r1 r2 (Err e) passes sound rest few far moved end is coded = tt
+
+  pub all_stopped : (s : Settings) (c : Coder) (q : Queue Samples) (i0 i1 i2 : S) (o0 o1 o2 : K) (r0 r1 r2 : N) (result : Result Summary EncodeError) → Passes s → IsSoundQueue q → is_due q ≡ false
+      → c.total.frames ≤ most_frames → 0 < frame_bytes (dims_of s) → output_faults o0 ≤ output_faults o1 → recon_faults r0 ≤ recon_faults r1
+      → SoFar s c q (input i0 i1) (output o0 o1) (recon r0 r1) → Moves (left i1) [] (left i2) → IsAtEnd (left i2)
+      → IfErr result (EndStops c (after_end q) (output o1 o2) (recon r1 r2)) → IfErr result (Stops s (input i0 i2) (output o0 o2) (recon r0 r2))
+  all_stopped s c q i0 i1 i2 o0 o1 o2 r0 r1 r2 (Ok t) passes sound rest few size fo fr far moved end stops = tt
+  all_stopped s c q i0 i1 i2 o0 o1 o2 r0 r1 r2 (Err e) passes sound rest few size fo fr far moved end stops =
+      end_stopped s c q i0 i1 i2 o0 o1 o2 r0 r1 r2 e passes rest sound (sound_end q sound) few size fo fr far moved end stops

@@ -1,0 +1,54 @@
+use Rattle.std.proofs.Common.{◌≡◌, ◌∙◌, ◌+◌, ◌*◌, List, length, map, sym, ap, subst, arith}
+use Rattle.m2v_set.specs.declared.settings.Settings.{Settings}
+use Rattle.m2v_set.specs.Numbers.{rows_by}
+use Rattle.m2v_order.specs.declared.jobs.PictureJob.{PictureJob}
+use Rattle.m2v_order.specs.Times.{intervals_of}
+use Rattle.m2v_order.specs.Whole.{handed}
+use Rattle.m2v_rate.specs.Plans.{Entries, begun}
+use Rattle.m2v_slice.specs.Books.{Book, rows}
+use Rattle.m2v_slice.specs.Conditions.{IsBook, IsBegunFor}
+use Rattle.m2v_slice.specs.Jobs.{jobs_of}
+use Rattle.m2v_encode.specs.declared.group.Coder.{Coder}
+use Rattle.m2v_encode.proofs.Books.{begun_for, same_book, done_is}
+use Rattle.m2v_encode.proofs.group.Coder.do_jobs.Goals as goal
+
+pub for_group-requires-clause-ledger : goal.for_group-requires-clause-ledger
+for_group-requires-clause-ledger g c =
+    let b0 = c.args.self.now in
+    let rest = c.begin_group.ensures.rest in
+    let settings = ap (λ (x : Coder). x.settings) rest in
+    let pics = c.deref-2.ensures.value ∙ c.in_ok-pictures.ensures.value ∙ c.deref.ensures.value in
+    let ledger = c.in_ok-times.ensures.begun ∙ ap (λ (js : List PictureJob). begun b0.ledger (map (λ (j : PictureJob). j.kind) js) (intervals_of b0.settings c.args.group.before js)) pics in
+    let going = c.requires.going in
+    subst (λ (s : Settings). IsBegunFor s (handed c.args.group) c.begin_group.new.self.ledger) (sym settings)
+    (begun_for b0.settings (handed c.args.group) b0.ledger c.begin_group.new.self.ledger going.settings going.ledger going.known
+    (omega (arith, going.removals, c.requires.few.pictures)) c.requires.group.pictures ledger)
+
+pub invariant_of-result : goal.invariant_of-result
+invariant_of-result g c =
+    let b0 = c.args.self.now in
+    let rest = c.begin_group.ensures.rest in
+    let settings = ap (λ (x : Coder). x.settings) rest in
+    let pics = c.deref-2.ensures.value ∙ c.in_ok-pictures.ensures.value ∙ c.deref.ensures.value in
+    let ledger = c.in_ok-times.ensures.begun ∙ ap (λ (js : List PictureJob). begun b0.ledger (map (λ (j : PictureJob). j.kind) js) (intervals_of b0.settings c.args.group.before js)) pics in
+    let is = c.run_jobs-done.ensures ∙ c.in_ok-book.ensures.value in
+    done_is c.run_jobs-done.result c.begin_group.new.self.settings c.args.group.frames.items c.args.group.pictures.items c.take-before.result c.begin_group.new.self.ledger
+    c.in_ok-pictures.pictures.items c.len-frames.result c.rows_of-rows.result c.in_ok-times.times.items is
+    (subst IsBook (sym c.run_jobs-done.ensures) c.in_ok-book.ensures.book)
+    (subst (λ (b : Book). jobs_of b ≡ length b.pictures * (rows b + 1)) (sym c.run_jobs-done.ensures) c.in_ok-book.ensures.jobs)
+    (c.in_ok-pictures.ensures.value ∙ c.deref.ensures.value)
+    (omega (arith, c.len-frames.ensures, c.args.group.frames.ok.0))
+    (c.rows_of-rows.ensures.value ∙ ap (λ (s : Settings). rows_by s.scan s.height) (sym settings))
+    (c.in_ok-times.ensures.times ∙ ap (intervals_of b0.settings c.args.group.before) pics ∙ sym (ap (λ (l : Entries). l.intervals) ledger))
+    c.requires.early
+
+pub returns-clause-value : goal.returns-clause-value
+returns-clause-value g c =
+    let b0 = c.args.self.now in
+    let rest = c.begin_group.ensures.rest in
+    let settings = ap (λ (x : Coder). x.settings) rest in
+    let pics = c.deref-2.ensures.value ∙ c.in_ok-pictures.ensures.value ∙ c.deref.ensures.value in
+    let ledger = c.in_ok-times.ensures.begun ∙ ap (λ (js : List PictureJob). begun b0.ledger (map (λ (j : PictureJob). j.kind) js) (intervals_of b0.settings c.args.group.before js)) pics in
+    c.run_jobs-done.ensures ∙ c.in_ok-book.ensures.value
+    ∙ same_book c.begin_group.new.self.settings b0.settings c.args.group.frames.items c.args.group.pictures.items c.take-before.result b0.before c.begin_group.new.self.ledger _
+    settings (c.take-before.ensures.value ∙ ap (λ (x : Coder). x.before) rest) ledger

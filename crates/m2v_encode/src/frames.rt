@@ -1,0 +1,121 @@
+//! The frames of a group as a decoder rebuilds them.
+ghost use Rattle.std.specs.Prelude.{◌≡◌, ◌*◌, ◌<◌, ◌≤◌, IsTrue, IfOk, IfErr, OnOk, Some, None, true, false, length, nat_eq, if◌then◌else◌};
+ghost use Rattle.m2v_port.specs.Ends.{change, SinkStays};
+ghost use Rattle.m2v_port.specs.Port.{Grows};
+ghost use Rattle.m2v_plane.specs.Raw.{frame_bytes, raw, crop};
+ghost use Rattle.m2v_set.specs.Numbers.{dims_of};
+ghost use Rattle.m2v_slice.specs.Books.{job_at};
+ghost use Rattle.m2v_stream.specs.Streams.{frame_of, anchor_frame};
+ghost use Rattle.m2v_encode.specs.Groups.{all_coded, group_shown, anchor_behind};
+ghost use Rattle.m2v_encode.specs.Rebuilt.{with_rows};
+ghost use Rattle.m2v_encode.specs.Steps.{PutStops};
+
+use crate::answer::EncodeError;
+use crate::done::DoneGroup;
+use crate::pictures::put_bytes;
+use m2v_order::PictureJob;
+use m2v_plane::{Frame, Memory};
+use m2v_port::Sink;
+use m2v_pred::own_lines;
+use std::alloc::Global;
+
+/// The place of the last anchor's frame behind one picture more.
+fn anchor_after(last: Option<u32>, job: &PictureJob) -> Option<u32>
+    ensures value { result ≡ (if nat_eq job.now.kind 3 then last else Some job.now.frame) }
+{
+    if job.kind == 3 { last } else { Some(job.frame) }
+}
+
+/// The last anchor's frame, if it was met so far or is this one, frame k.
+fn anchor_with(last: Option<u32>, k: u32, frame: Frame, anchor: Option<Frame>) -> Option<Frame>
+    ensures here { last ≡ Some k → result ≡ Some frame }
+    ensures before { (last ≡ Some k → ⊥) → result ≡ anchor }
+{
+    match last {
+        Some(place) => { if place == k { Some(frame) } else { anchor } }
+        None => anchor,
+    }
+}
+
+impl DoneGroup {
+    /// Takes the rows of a picture into its frame.
+    fn take_rows(&self, p: u32, frame: &mut Frame)
+        requires picture { p < length self.now.pictures }
+        requires size { frame.old.dims ≡ dims_of self.now.settings }
+        ensures value { frame.new ≡ with_rows self.now p frame.old }
+    {
+        // the rows of a book are for its frames
+        let _book = self.pictures();
+        let lines = own_lines(self.job(p).structure);
+        for r in 0..self.rows() {
+            frame.set_row(lines, r, self.slice(p, r).row());
+        }
+    }
+
+    /// Takes the rows of a picture into frame k, where it is a picture of that frame.
+    fn take_picture(&self, p: u32, k: u32, frame: &mut Frame)
+        requires picture { p < length self.now.pictures }
+        requires size { frame.old.dims ≡ dims_of self.now.settings }
+        ensures here { nat_eq (job_at self.now p).frame k ≡ true → frame.new ≡ with_rows self.now p frame.old }
+        ensures other { nat_eq (job_at self.now p).frame k ≡ false → frame.new ≡ frame.old }
+    {
+        if self.job(p).frame == k {
+            self.take_rows(p, frame);
+        }
+    }
+
+    /// A frame of the group as a decoder rebuilds it.
+    fn rebuilt(&self, alloc: Global, k: u32) -> Result<Frame, Memory>
+        requires frame { k < length self.now.frames }
+        ensures value { IfOk result (λ f. f ≡ frame_of self.now (all_coded self.now) k) }
+    {
+        // each frame of a book has its pictures
+        let _book = self.pictures();
+        let mut frame = Frame::blank(alloc, self.settings().dims())?;
+        for p in 0..self.pictures() {
+            self.take_picture(p, k, &mut frame);
+        }
+        Ok(frame)
+    }
+
+    /// The place of the frame of the last anchor in coding order.
+    fn last_anchor(&self) -> Option<u32>
+        ensures value { result ≡ anchor_frame None self.now.pictures }
+    {
+        let mut last = None;
+        for p in 0..self.pictures() {
+            last = anchor_after(last, self.job(p));
+        }
+        last
+    }
+
+    /// Writes all frames of the group in display order, as raw frames by way of one buffer, and gives that of the last anchor.
+    pub(crate) fn put_frames<K: Sink>(
+        &self,
+        alloc: Global,
+        buffer: &mut [u8],
+        recon: &mut K,
+    ) -> Result<Option<Frame>, EncodeError>
+        requires buffer { length buffer.old ≡ frame_bytes (dims_of self.now.settings) }
+        requires recon { IsTrue (K.ready recon.old) }
+        ensures grown { OnOk result (Grows (K.held recon.old) (raw (group_shown self.now)) (K.held recon.new)) }
+        ensures anchor { IfOk result (λ f. f ≡ anchor_behind self.now) }
+        ensures err { IfErr result (PutStops (raw (group_shown self.now))
+            (change K.held K.faults recon.old recon.new)) }
+        ensures recon { SinkStays K.ready K.name K.faults recon.old recon.new }
+    {
+        // the first picture of a book is an anchor
+        let _book = self.pictures();
+        let last = self.last_anchor();
+        let mut anchor = None;
+        for k in 0..self.frames() {
+            let Ok(frame) = self.rebuilt(alloc, k) else {
+                return Err(EncodeError::Memory);
+            };
+            frame.crop_into(buffer);
+            put_bytes(buffer, recon)?;
+            anchor = anchor_with(last, k, frame, anchor);
+        }
+        Ok(anchor)
+    }
+}

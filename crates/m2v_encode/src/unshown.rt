@@ -1,0 +1,56 @@
+//! Raw frames to a stream alone: no frames are shown.
+ghost use Rattle.std.specs.Prelude.{◌≤◌, true, None, IsTrue, IfOk, IfErr};
+ghost use Rattle.m2v_port.specs.Ends.{change, SinkStays};
+ghost use Rattle.m2v_encode.specs.Answers.{AllCoded, Stops, unshown};
+
+use crate::answer::{EncodeError, Summary};
+use crate::encode::encode_to;
+use m2v_board::Gate;
+use m2v_port::{PortError, Sink, Source};
+use m2v_set::Passed;
+use std::alloc::Global;
+use std::sync::Wait;
+use std::thread::Threads;
+
+/// A sink that drops what is put. No call of it fails.
+#[derive(Drop)]
+struct Unshown;
+
+impl Sink for Unshown {
+    ghost held = { λ _. None };
+
+    ghost faults = { λ _. 0 };
+
+    ghost ready = { λ _. true };
+
+    ghost name = { λ _. None };
+
+    fn put(&mut self, _piece: &[u8]) -> Result<(), PortError> {
+        Ok(())
+    }
+}
+
+/// Codes as [`encode_to`] does, where no recon is wanted: then only the input and the output fail.
+pub fn encode_unshown<R: Threads + Wait + Sync, S: Source, K: Sink, G: Gate + Sync>(
+    rt: &R,
+    alloc: Global,
+    settings: &Passed,
+    input: &mut S,
+    output: &mut K,
+    gate: &G,
+) -> Result<Summary, EncodeError>
+    requires output { IsTrue (K.ready output.old) }
+    // All frames of the input were coded.
+    ensures ok { IfOk result (AllCoded settings.now
+        (change S.left S.faults input.old input.new)
+        (change K.held K.faults output.old output.new) unshown) }
+    // When each error comes, and what stands then.
+    ensures err { IfErr result (Stops settings.now
+        (change S.left S.faults input.old input.new)
+        (change K.held K.faults output.old output.new) unshown) }
+    ensures output { SinkStays K.ready K.name K.faults output.old output.new }
+    ensures input { S.faults input.old ≤ S.faults input.new }
+{
+    let mut recon = Unshown;
+    encode_to(rt, alloc, settings, input, output, &mut recon, gate)
+}
