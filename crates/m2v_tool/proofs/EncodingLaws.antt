@@ -13,7 +13,7 @@ use Rattle.m2v_set.specs.declared.unfit.Unfit.{Unfit}
 use Rattle.m2v_set.specs.Numbers.{dims_of}
 use Rattle.m2v_set.specs.declared.settings.Scan.{Scan}
 use Rattle.m2v_set.specs.declared.settings.Scan.TheVariants.{Progressive, Frames, Fields}
-use Rattle.m2v_set.specs.Rules.{Passes, FirstUnfit, line_step}
+use Rattle.m2v_set.specs.Rules.{Passes, FirstUnfit, is_progressive, line_step}
 use Rattle.m2v_set.proofs.Facts.{bounds}
 use Rattle.m2v_encode.specs.declared.answer.Summary.{Summary}
 use Rattle.m2v_encode.specs.declared.answer.EncodeError.{EncodeError}
@@ -62,6 +62,7 @@ many_long s left held recon bytes is e =
     omega (arith, long, total, length-append (raw e.frames) (e.next ∷ []))
 
 least_step : (scan : Scan) → 1 ≤ line_step scan
+unfolding is_progressive
 least_step Progressive = let some : 1 ≤ 2 = omega arith in some
 least_step Frames = let some : 1 ≤ 4 = omega arith in some
 least_step Fields = let some : 1 ≤ 4 = omega arith in some
