@@ -25,7 +25,7 @@ use Rattle.m2v_tool.specs.declared.encode.EncodeOutcome.TheVariants.{Coded, Unfi
 use Rattle.m2v_tool.specs.Endings.{Told, whole, cut, unfit_ending}
 use Rattle.m2v_tool.specs.EncodeWords.{Meant}
 use Rattle.m2v_tool.specs.Coding.{AreFrames, EndInside}
-use Rattle.m2v_tool.specs.Encoding.{opened, recon_by, Shut, frame_size, EncodeDone, EncodeStopped, EncodeShut, EncodeComes, encoding_stopped, unopened_ending, encoded_ending, encode_ending, EncodeAnswer, EncodeKeeps}
+use Rattle.m2v_tool.specs.Encoding.{opened, recon_by, Shut, frame_size, EncodeStopped, EncodeShut, EncodeComes, encoding_stopped, unopened_ending, encoded_ending, encode_ending, EncodeAnswer, EncodeKeeps}
 use Rattle.m2v_tool.specs.Runs.{Run, Work, work_of, IsUntouched, Yields, RefusedBy, NoneFailed, Succeeds}
 use Rattle.m2v_tool.proofs.EndingLaws.{refusal, or_memory}
 use Rattle.m2v_tool.proofs.CodingLaws.{frames_length, all_read, long_by, not_inside, not_empty, not_many}

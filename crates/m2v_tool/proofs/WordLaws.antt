@@ -1,12 +1,12 @@
 -- What words mean, and that they have one meaning.
-use Rattle.std.proofs.Common.{◌≡◌, ℕ, arith, get_or, List, [], ◌∷◌, Option, Some, IfSome, refl, ap, subst, sym, ◌∙◌}
+use Rattle.std.proofs.Common.{◌≡◌, ℕ, arith, get_or, List, [], ◌∷◌, Option, Some, IfSome, ap, subst, sym, ◌∙◌}
 use Rattle.std.specs.Prelude.{codes}
 use Rattle.clap.specs.Walk.{Text}
 use Rattle.m2v_tool.specs.declared.flat.FlatWords.{FlatWords}
 use Rattle.m2v_tool.specs.declared.encode.EncodeWords.{EncodeWords}
 use Rattle.m2v_tool.specs.declared.command.Command.{Command}
 use Rattle.m2v_tool.specs.declared.command.Command.TheVariants.{Flat, Encode, Decode, Check}
-use Rattle.m2v_tool.specs.EncodeWords.{Meant, words_of}
+use Rattle.m2v_tool.specs.EncodeWords.{words_of}
 use Rattle.m2v_tool.specs.Words.{Means}
 
 -- the word that names a command

@@ -1,12 +1,10 @@
 -- What `encode` does: which outcome comes, what stands in input, output and recon then, and what is answered to an input.
-use Rattle.std.specs.Prelude.{ℕ, ◌≡◌, ◌*◌, ◌<◌, IsTrue, IsFalse, IfSome, List, [], ◌∷◌, Option, Some, None, length, codes}
+use Rattle.std.specs.Prelude.{ℕ, ◌≡◌, ◌*◌, ◌<◌, IsTrue, IsFalse, IfSome, [], ◌∷◌, Option, Some, None, length, codes}
 use Rattle.clap.specs.Walk.{Text}
 use Rattle.m2v_port.specs.Ends.{Change, Tells}
 use Rattle.m2v_port.specs.declared.error.PortError.{PortError}
 use Rattle.m2v_port.specs.declared.error.PortError.TheVariants as calls
 use Rattle.m2v_plane.specs.Raw.{frame_bytes}
-use Rattle.m2v_set.specs.declared.unfit.Unfit.{Unfit}
-use Rattle.m2v_set.specs.declared.settings.Settings.{Settings}
 use Rattle.m2v_set.specs.Numbers.{dims_of}
 use Rattle.m2v_set.specs.Rules.{Passes, FirstUnfit}
 use Rattle.m2v_encode.specs.declared.answer.Summary.{Summary}
@@ -18,7 +16,7 @@ use Rattle.m2v_tool.specs.declared.encode.EncodeOutcome.{EncodeOutcome}
 use Rattle.m2v_tool.specs.declared.encode.EncodeOutcome.TheVariants.{Coded, Unfit as NotFit, Unopened, Stopped}
 use Rattle.m2v_tool.specs.Endings.{Ending, read_fault, write_fault, no_memory, unfit_ending, short_frame, no_frames, too_many_frames}
 use Rattle.m2v_tool.specs.EncodeWords.{Meant}
-use Rattle.m2v_tool.specs.Runs.{Run, Work, Place, Yields, RefusedBy, NoneFailed, Succeeds}
+use Rattle.m2v_tool.specs.Runs.{Run, Work, Yields, RefusedBy, NoneFailed, Succeeds}
 use Rattle.m2v_tool.specs.Coding.{AreFrames, EndInside}
 
 -- ---- recon
