@@ -33,8 +33,10 @@ flat_meant words = option_map flat_of (taken flat_app words)
 -- what a word that names a command means with those behind it: a line a command
 abbrev pub MeansBy : Text → List Text → Command → Type 0
 MeansBy name others (Flat w) = (name ≡ codes "flat") × (flat_meant others ≡ Some w)
-MeansBy name others Decode = (name ≡ codes "decode") × (stands_alone (codes "decode") others ≡ true)
-MeansBy name others Check = (name ≡ codes "check") × (stands_alone (codes "check") others ≡ true)
+MeansBy name others Decode =
+    (name ≡ codes "decode") × (stands_alone (codes "decode") others ≡ true)
+MeansBy name others Check =
+    (name ≡ codes "check") × (stands_alone (codes "check") others ≡ true)
 
 -- what words mean as a command
 abbrev pub Means : List Text → Command → Type 0
