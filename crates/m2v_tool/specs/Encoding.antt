@@ -10,8 +10,7 @@ use Rattle.m2v_set.specs.Rules.{Passes, FirstUnfit}
 use Rattle.m2v_encode.specs.declared.answer.Summary.{Summary}
 use Rattle.m2v_encode.specs.declared.answer.EncodeError.{EncodeError}
 use Rattle.m2v_encode.specs.declared.answer.EncodeError.TheVariants as errors
-use Rattle.m2v_encode.specs.Answers.{AllCoded, Stops, most_frames}
-use Rattle.m2v_encode.specs.Places.{no_place}
+use Rattle.m2v_encode.specs.Answers.{AllCoded, Stops, most_frames, unshown}
 use Rattle.m2v_tool.specs.declared.encode.EncodeOutcome.{EncodeOutcome}
 use Rattle.m2v_tool.specs.declared.encode.EncodeOutcome.TheVariants.{Coded, Unfit as NotFit, Unopened, Stopped}
 use Rattle.m2v_tool.specs.Endings.{Ending, read_fault, write_fault, no_memory, unfit_ending, short_frame, no_frames, too_many_frames}
@@ -28,7 +27,7 @@ opened c = record { old = c.old; new = c.new; Failed = c.Failed; Unchanged = c.n
 -- where no name is given nothing is done to it
 abbrev pub recon_by : Option Text → Change → Change
 recon_by (Some name) c = opened c
-recon_by None c = no_place
+recon_by None c = unshown
 
 -- it is open under the name that is given; where none is, it is as it was, its count too
 abbrev pub Stands : Option Text → Work → Type 0

@@ -1,7 +1,5 @@
-ghost use Rattle.std.specs.Prelude.{◌≡◌, ◌≤◌, ◌++◌, Some, None, map, option_map, string_bytes, codes, IfOk, IfErr, IsTrue, IsFalse};
+ghost use Rattle.std.specs.Prelude.{◌≡◌, ◌≤◌, ◌++◌, Some, None, map, option_map, string_bytes, codes, IfOk, IsTrue, IsFalse};
 ghost use Rattle.m2v_port.specs.Ends.{change, SinkStays};
-ghost use Rattle.m2v_encode.specs.Answers.{AllCoded, Stops};
-ghost use Rattle.m2v_encode.specs.Places.{no_place};
 ghost use Rattle.m2v_tool.specs.Endings.{IsReport};
 ghost use Rattle.m2v_tool.specs.Encoding.{EncodeComes, encode_ending, encoded_ending, encoding_stopped, unopened_ending};
 ghost use Rattle.clap.specs.Walk.{first_of, rows_of};
@@ -19,7 +17,7 @@ use crate::words::{
 };
 use clap::{ArgMatches, Command};
 use m2v_board::Gate;
-use m2v_encode::{EncodeError, Summary, encode};
+use m2v_encode::{EncodeError, Summary, encode_to, encode_unshown};
 use m2v_port::{NamedSink, PortError, Sink, Source};
 use m2v_set::{Level, Passed, Scan, Settings, Unfit};
 use std::alloc::{AllocError, Global};
@@ -252,58 +250,6 @@ fn stopped(alloc: Global, error: &EncodeError) -> Result<Report, AllocError>
     }
 }
 
-/// Codes the raw frames of the input, and writes no reconstructions.
-fn coded_alone<'a, R: Threads + Wait + Sync, S: Source, K: Sink, G: Gate + Sync>(
-    rt: &R,
-    alloc: Global,
-    passed: &Passed,
-    input: &mut S,
-    output: &'a mut K,
-    gate: &G,
-) -> Result<Summary, EncodeError>
-    requires { IsTrue (K.ready output.old) }
-    ensures ok { IfOk result (AllCoded passed.now
-        (change S.left S.faults input.old input.new)
-        (change K.held K.faults output.old output.new)
-        no_place) }
-    ensures err { IfErr result (Stops passed.now
-        (change S.left S.faults input.old input.new)
-        (change K.held K.faults output.old output.new)
-        no_place) }
-    ensures output { SinkStays K.ready K.name K.faults output.old output.new }
-    ensures input { S.faults input.old ≤ S.faults input.new }
-{
-    let none: Option<&'a mut K> = None;
-    encode(rt, alloc, passed, input, output, none, gate)
-}
-
-/// Codes the raw frames of the input, and writes reconstructions.
-fn coded_beside<R: Threads + Wait + Sync, S: Source, K: Sink, N: NamedSink, G: Gate + Sync>(
-    rt: &R,
-    alloc: Global,
-    passed: &Passed,
-    input: &mut S,
-    output: &mut K,
-    recon: &mut N,
-    gate: &G,
-) -> Result<Summary, EncodeError>
-    requires output { IsTrue (K.ready output.old) }
-    requires recon { IsTrue (N.ready recon.old) }
-    ensures ok { IfOk result (AllCoded passed.now
-        (change S.left S.faults input.old input.new)
-        (change K.held K.faults output.old output.new)
-        (change N.held N.faults recon.old recon.new)) }
-    ensures err { IfErr result (Stops passed.now
-        (change S.left S.faults input.old input.new)
-        (change K.held K.faults output.old output.new)
-        (change N.held N.faults recon.old recon.new)) }
-    ensures recon { SinkStays N.ready N.name N.faults recon.old recon.new }
-    ensures output { SinkStays K.ready K.name K.faults output.old output.new }
-    ensures input { S.faults input.old ≤ S.faults input.new }
-{
-    encode(rt, alloc, passed, input, output, Some(recon), gate)
-}
-
 /// Codes the raw frames of the input, where no reconstructions are wanted.
 fn encoded_alone<R: Threads + Wait + Sync, S: Source, K: Sink, N: NamedSink, G: Gate + Sync>(
     rt: &R,
@@ -327,7 +273,7 @@ fn encoded_alone<R: Threads + Wait + Sync, S: Source, K: Sink, N: NamedSink, G: 
 {
     // it tells contracts that the settings pass
     let _passes = passed.settings();
-    match coded_alone(rt, alloc, passed, input, output, gate) {
+    match encode_unshown(rt, alloc, passed, input, output, gate) {
         Ok(summary) => EncodeOutcome::Coded(summary),
         Err(error) => EncodeOutcome::Stopped(error),
     }
@@ -362,7 +308,7 @@ fn encoded_beside<R: Threads + Wait + Sync, S: Source, K: Sink, N: NamedSink, G:
         Ok(()) => {}
         Err(error) => return EncodeOutcome::Unopened(error),
     }
-    match coded_beside(rt, alloc, passed, input, output, recon, gate) {
+    match encode_to(rt, alloc, passed, input, output, recon, gate) {
         Ok(summary) => EncodeOutcome::Coded(summary),
         Err(error) => EncodeOutcome::Stopped(error),
     }
