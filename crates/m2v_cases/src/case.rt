@@ -6,6 +6,8 @@ use std::alloc::Global;
 pub(crate) enum Endpoint {
     Input,
     Output,
+    /// The place for reconstructions: the call that opens it is its first one.
+    Recon,
     Report,
 }
 
@@ -14,6 +16,7 @@ pub(crate) enum Endpoint {
 pub(crate) struct Failing {
     pub(crate) input: Vec<u64>,
     pub(crate) output: Vec<u64>,
+    pub(crate) recon: Vec<u64>,
     pub(crate) report: Vec<u64>,
 }
 
@@ -23,6 +26,7 @@ impl Failing {
         Failing {
             input: Vec::new(alloc),
             output: Vec::new(alloc),
+            recon: Vec::new(alloc),
             report: Vec::new(alloc),
         }
     }
@@ -32,6 +36,7 @@ impl Failing {
         match endpoint {
             Endpoint::Input => &mut self.input,
             Endpoint::Output => &mut self.output,
+            Endpoint::Recon => &mut self.recon,
             Endpoint::Report => &mut self.report,
         }
     }
@@ -56,6 +61,10 @@ pub(crate) struct Wanted {
     pub(crate) extent: Extent,
     /// The number that `sum_of` gives of the output, where it is looked at.
     pub(crate) sum: Option<u32>,
+    /// What the place for reconstructions holds.
+    pub(crate) recon: Vec<u8>,
+    /// The name under which it is open.
+    pub(crate) recon_name: Option<String>,
     pub(crate) report: Vec<u8>,
 }
 
@@ -85,6 +94,8 @@ impl Case {
                 output: Vec::new(alloc),
                 extent: Extent::Whole,
                 sum: None,
+                recon: Vec::new(alloc),
+                recon_name: None,
                 report: Vec::new(alloc),
             },
         }

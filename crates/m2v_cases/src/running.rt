@@ -15,8 +15,10 @@ pub(crate) struct Answer {
     pub(crate) status: u8,
     pub(crate) output: Vec<u8>,
     pub(crate) report: Vec<u8>,
-    /// Whether the place for reconstructions was opened or holds something.
-    pub(crate) recon: bool,
+    /// What the place for reconstructions holds.
+    pub(crate) recon: Vec<u8>,
+    /// The name under which it is open.
+    pub(crate) recon_name: Option<String>,
     /// Whether a call of an endpoint failed.
     pub(crate) failed: bool,
 }
@@ -55,17 +57,21 @@ fn status_of<R: Threads + Wait + Sync>(
 /// What stands in the endpoints.
 fn answer_of(alloc: Global, status: u8, endpoints: &Endpoints) -> Result<Answer, AllocError> {
     let (output, report) = (endpoints.output.held(), endpoints.report.held());
-    let opened = endpoints.recon.name().is_some();
-    let held = !endpoints.recon.held().is_empty();
+    let recon_name = match endpoints.recon.name() {
+        Some(name) => Some(String::from_str(alloc, name)?),
+        None => None,
+    };
     let input_failed = endpoints.input.faults() > 0;
     let output_failed = endpoints.output.faults() > 0;
+    let recon_failed = endpoints.recon.faults() > 0;
     let report_failed = endpoints.report.faults() > 0;
     Ok(Answer {
         status,
         output: output.to_vec(alloc)?,
         report: report.to_vec(alloc)?,
-        recon: opened || held,
-        failed: input_failed || output_failed || report_failed,
+        recon: endpoints.recon.held().to_vec(alloc)?,
+        recon_name,
+        failed: input_failed || output_failed || recon_failed || report_failed,
     })
 }
 
@@ -80,7 +86,7 @@ pub(crate) fn ran<R: Threads + Wait + Sync>(
     let mut endpoints = Endpoints {
         input: MemorySource::new(input.to_vec(alloc)?, failing.input.to_vec(alloc)?),
         output: MemorySink::new(alloc, failing.output.to_vec(alloc)?),
-        recon: MemoryFile::new(alloc, Vec::new(alloc)),
+        recon: MemoryFile::new(alloc, failing.recon.to_vec(alloc)?),
         report: MemorySink::new(alloc, failing.report.to_vec(alloc)?),
     };
     let status = status_of(rt, alloc, words, &mut endpoints);

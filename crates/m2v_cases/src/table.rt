@@ -68,6 +68,7 @@ fn endpoint_of(word: &str) -> Result<Endpoint, Problem> {
     match word {
         "input" => Ok(Endpoint::Input),
         "output" => Ok(Endpoint::Output),
+        "recon" => Ok(Endpoint::Recon),
         "report" => Ok(Endpoint::Report),
         _ => Err(Problem::NoEndpoint),
     }
@@ -93,6 +94,7 @@ impl Case {
                 let call = call.parse::<u64>().map_err(|_| Problem::NoNumber)?;
                 self.failing.of(endpoint_of(endpoint)?).push(call)?;
             }
+            "recon_name" => self.wanted.recon_name = Some(String::from_str(alloc, rest)?),
             _ => return self.take_wanted(key, rest),
         }
         Ok(())
@@ -121,7 +123,8 @@ impl Case {
 }
 
 impl Table {
-    /// Takes a line of bytes: more of the last stream, or of the last case's input or output.
+    /// Takes a line of bytes: more of the last stream, or of what the last case says of input, output or the place for
+    /// reconstructions.
     fn take_bytes(&mut self, alloc: Global, key: &str, rest: &str) -> Result<(), Problem> {
         let bytes = bytes_of(alloc, &self.streams, rest)?;
         if key == "bytes" {
@@ -130,11 +133,12 @@ impl Table {
             return Ok(());
         }
         let case = self.cases.last_mut().ok_or(Problem::NoCase)?;
-        if key == "input" {
-            case.input.extend_from_slice(&bytes)?;
-        } else {
-            case.wanted.output.extend_from_slice(&bytes)?;
-        }
+        let into = match key {
+            "input" => &mut case.input,
+            "recon" => &mut case.wanted.recon,
+            _ => &mut case.wanted.output,
+        };
+        into.extend_from_slice(&bytes)?;
         Ok(())
     }
 
@@ -150,7 +154,7 @@ impl Table {
             "case" => self
                 .cases
                 .push(Case::begin(alloc, String::from_str(alloc, rest)?))?,
-            "bytes" | "input" | "output" => self.take_bytes(alloc, key, rest)?,
+            "bytes" | "input" | "output" | "recon" => self.take_bytes(alloc, key, rest)?,
             _ => {
                 let case = self.cases.last_mut().ok_or(Problem::NoCase)?;
                 case.take_run(alloc, key, rest)?;

@@ -67,31 +67,69 @@ fn is_output(wanted: &Wanted, output: &[u8]) -> bool {
     }
 }
 
+/// Whether a name is the one that is wanted.
+fn is_name(wanted: Option<&str>, name: Option<&str>) -> bool {
+    match (wanted, name) {
+        (Some(a), Some(b)) => a == b,
+        (None, None) => true,
+        _ => false,
+    }
+}
+
+/// A name, where there is one.
+fn name_in(name: &Option<String>) -> Option<&str> {
+    match name {
+        Some(name) => Some(name.as_str()),
+        None => None,
+    }
+}
+
+/// Whether the place for reconstructions is as it is wanted.
+fn is_recon(wanted: &Wanted, answer: &Answer) -> bool {
+    answer.recon.as_slice() == wanted.recon.as_slice()
+        && is_name(name_in(&wanted.recon_name), name_in(&answer.recon_name))
+}
+
+/// Whether it holds the first ones of the wanted bytes, and is open as it is wanted; where its own first call failed it
+/// isn't open.
+fn is_recon_at_a_fault(wanted: &Wanted, endpoint: Endpoint, call: u64, answer: &Answer) -> bool {
+    let shut = endpoint == Endpoint::Recon && call == 1;
+    let name = if shut {
+        None
+    } else {
+        name_in(&wanted.recon_name)
+    };
+    wanted.recon.as_slice().starts_with(&answer.recon) && is_name(name, name_in(&answer.recon_name))
+}
+
 /// Whether a run gave what is wanted.
 fn is_wanted(wanted: &Wanted, answer: &Answer) -> bool {
     answer.status == wanted.status
         && answer.report.as_slice() == wanted.report.as_slice()
         && is_output(wanted, &answer.output)
-        && !answer.recon
+        && is_recon(wanted, answer)
 }
 
 /// Whether a run of which a call failed gave what such a run may give: a read fault or a write fault with a prefix of the
-/// wanted output. Where a report fails, the status is that of a refusal, or a write fault after success, and a prefix of
-/// the line stands.
-fn is_wanted_at_a_fault(wanted: &Wanted, endpoint: Endpoint, answer: &Answer) -> bool {
-    let begun = wanted.output.as_slice().starts_with(&answer.output);
+/// wanted output and of the wanted reconstructions. Where a report fails, the status is that of a refusal, or a write fault
+/// after success, and a prefix of the line stands.
+fn is_wanted_at_a_fault(wanted: &Wanted, endpoint: Endpoint, call: u64, answer: &Answer) -> bool {
+    let begun = wanted.output.as_slice().starts_with(&answer.output)
+        && is_recon_at_a_fault(wanted, endpoint, call, answer);
     let report = answer.report.as_slice();
-    let fits = match endpoint {
+    match endpoint {
         Endpoint::Input => answer.status == 7 && report == b"read fault\n".as_slice() && begun,
-        Endpoint::Output => answer.status == 8 && report == b"write fault\n".as_slice() && begun,
+        Endpoint::Output | Endpoint::Recon => answer.status == 8
+            && report == b"write fault\n".as_slice()
+            && begun,
         Endpoint::Report => {
             let status = if wanted.status == 0 { 8 } else { wanted.status };
             answer.status == status
                 && wanted.report.as_slice().starts_with(report)
                 && is_output(wanted, &answer.output)
+                && is_recon(wanted, answer)
         }
-    };
-    fits && !answer.recon
+    }
 }
 
 /// What a run gave in place of what is wanted.
@@ -126,7 +164,7 @@ fn mistake_at_a_fault<R: Threads + Wait + Sync>(
         failing.of(endpoint).push(call)?;
         let answer = ran(rt, alloc, &case.words, &case.input, &failing)?;
         let right = if answer.failed {
-            is_wanted_at_a_fault(&case.wanted, endpoint, &answer)
+            is_wanted_at_a_fault(&case.wanted, endpoint, call, &answer)
         } else {
             is_wanted(&case.wanted, &answer)
         };

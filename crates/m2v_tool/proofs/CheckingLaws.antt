@@ -1,5 +1,5 @@
 -- What follows from what `check` did and what was told of it.
-use Rattle.std.proofs.Common.{◌≡◌, inl, inr, ℕ, List, Some, Option, Result, Ok, Err, refl, ap, subst}
+use Rattle.std.proofs.Common.{◌≡◌, inl, inr, ℕ, List, Some, Option, Result, Ok, Err, refl, subst}
 use Rattle.std.specs.Prelude.{IfSome}
 use Rattle.m2v_port.specs.Ends.{Tells}
 use Rattle.m2v_port.proofs.Runs.{tells}

@@ -24,7 +24,7 @@ use Rattle.m2v_flat.proofs.Streams.{flat_decodes}
 use Rattle.m2v_tool.specs.declared.flat.FlatWords.{FlatWords}
 use Rattle.m2v_tool.specs.declared.flat.FlatOutcome.{FlatOutcome}
 use Rattle.m2v_tool.specs.declared.flat.FlatOutcome.TheVariants.{Coded, Unfit, Stopped}
-use Rattle.m2v_tool.specs.Endings.{Told, whole, cut}
+use Rattle.m2v_tool.specs.Endings.{Told, whole, cut, unfit_ending}
 use Rattle.m2v_tool.specs.Words.{settings_of, WordsPass, WordsFail}
 use Rattle.m2v_tool.specs.Coding.{DecodesBack, FlatDone, FlatStopped, FlatComes, coding_stopped, flat_ending, AreFrames, EndInside, FlatAnswer, FlatKeeps}
 use Rattle.m2v_tool.specs.Runs.{Run, work_of, IsUntouched, Yields, RefusedBy, NoneFailed, Succeeds}
@@ -32,7 +32,7 @@ use Rattle.m2v_tool.proofs.EndingLaws.{refusal, or_memory}
 
 -- ---- how many bytes an input had
 
-frames_length : (size : ℕ) (frames : List (List ℕ)) → All (λ (f : List ℕ). length f ≡ size) frames → length (raw frames) ≡ length frames * size
+pub frames_length : (size : ℕ) (frames : List (List ℕ)) → All (λ (f : List ℕ). length f ≡ size) frames → length (raw frames) ≡ length frames * size
 frames_length size [] each = omega arith
 frames_length size (f ∷ frames) each =
     let first : length f ≡ size = each 0 f (omega arith) in
@@ -40,10 +40,10 @@ frames_length size (f ∷ frames) each =
     omega (arith, length-append f (raw frames), first, others, suc-mul (length frames) size)
 
 -- what was read to the end is the input, where it is told
-all_read : (left : Change) (bytes xs : List ℕ) → left.old ≡ Some bytes → Moves left.old xs left.new → IsAtEnd left.new → xs ≡ bytes
+pub all_read : (left : Change) (bytes xs : List ℕ) → left.old ≡ Some bytes → Moves left.old xs left.new → IsAtEnd left.new → xs ≡ bytes
 all_read left bytes xs is m end = subst (λ (o : Option (List ℕ)). IfSome o (λ all. xs ≡ all)) is (moved_all m end)
 
-long_by : (left : Change) (bytes xs : List ℕ) → left.old ≡ Some bytes → Moves left.old xs left.new → length xs ≤ length bytes
+pub long_by : (left : Change) (bytes xs : List ℕ) → left.old ≡ Some bytes → Moves left.old xs left.new → length xs ≤ length bytes
 long_by left bytes xs is m = by_case left.new refl
   where
     by_case : (o : Option (List ℕ)) → left.new ≡ o → length xs ≤ length bytes
@@ -90,7 +90,7 @@ some_bytes w passes =
     let some : 0 < w.width * w.height = mul-pos (omega (arith, bounds.width_least)) (omega (arith, bounds.height_least)) in
     omega arith
 
-not_inside : (size bytes : ℕ) → AreFrames size bytes → EndInside size bytes → ⊥
+pub not_inside : (size bytes : ℕ) → AreFrames size bytes → EndInside size bytes → ⊥
 not_inside size bytes a b = elim (cases_lt b.frames a.frames) [
   | inl fewer ↦
       let next : suc b.frames ≤ a.frames = omega arith in
@@ -98,12 +98,12 @@ not_inside size bytes a b = elim (cases_lt b.frames a.frames) [
   | inr more ↦ omega (arith, a.are, b.are, b.some, mul-le-mul_right size more)
 ]
 
-not_empty : (size bytes : ℕ) → 0 < size → AreFrames size bytes → bytes ≡ 0 → ⊥
+pub not_empty : (size bytes : ℕ) → 0 < size → AreFrames size bytes → bytes ≡ 0 → ⊥
 not_empty size bytes some a is =
     let least : 0 < a.frames * size = mul-pos (omega (arith, a.some)) some in
     omega (arith, a.are, is)
 
-not_many : (size bytes : ℕ) → AreFrames size bytes → most_frames * size < bytes → ⊥
+pub not_many : (size bytes : ℕ) → AreFrames size bytes → most_frames * size < bytes → ⊥
 not_many size bytes a more = omega (arith, a.are, mul-le-mul_right size a.most)
 
 -- ---- what the stream decodes to
@@ -132,7 +132,7 @@ done_of w d left held summary is size passes coded =
 
 module _ (r : Run) (w : FlatWords) where
   unfit_at : (o : FlatOutcome) → FlatComes w r.input r.output o → Told (flat_ending o) r.status r.report → r.recon.Unchanged → (WordsPass w → ⊥) → RefusedBy 3 r
-  unfolding FlatComes flat_ending
+  unfolding FlatComes flat_ending unfit_ending
   unfit_at (Coded s) c t k fails = absurd (fails c.passes)
   unfit_at (Unfit u) c t k fails = (refusal (flat_ending (Unfit u)) r.status 3 r.report t refl refl, (c.1, c.2, k))
   unfit_at (Stopped e) c t k fails = absurd (fails c.passes)
@@ -166,7 +166,7 @@ module _ (r : Run) (w : FlatWords) where
       or_memory r (FlatAnswer r w (length bytes)) 12 (refusal (coding_stopped Error.Memory) r.status 12 r.report t refl refl) (λ is. Yields.memory is)
 
   answer_at : (bytes : List ℕ) → r.input.old ≡ Some bytes → (o : FlatOutcome) → FlatComes w r.input r.output o → Told (flat_ending o) r.status r.report → Yields r (FlatAnswer r w (length bytes))
-  unfolding FlatComes flat_ending
+  unfolding FlatComes flat_ending unfit_ending
   answer_at bytes told (Coded s) c t = done_answer (length bytes) s c.passes (done_frames (settings_of w) r.input r.output bytes s told c.coded) t
   answer_at bytes told (Unfit u) c t =
       or_memory r (FlatAnswer r w (length bytes)) 3 (refusal (flat_ending (Unfit u)) r.status 3 r.report t refl refl) (λ is. Yields.said (FlatAnswer.unfit (fails_then u c.0) is))

@@ -5,4 +5,5 @@ pub mod EndingLaws
 pub mod CodingLaws
 pub mod DecodingLaws
 pub mod CheckingLaws
+pub mod EncodingLaws
 pub mod RunLaws

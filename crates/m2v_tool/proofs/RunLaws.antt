@@ -3,7 +3,9 @@ use Rattle.std.proofs.Common.{◌≡◌, inr, refl, subst}
 use Rattle.m2v_tool.specs.declared.command.Command.{Command}
 use Rattle.m2v_tool.specs.declared.command.Command.TheVariants as commands
 use Rattle.m2v_tool.specs.declared.command.Outcome.{Outcome}
-use Rattle.m2v_tool.specs.declared.command.Outcome.TheVariants.{Usage, NoMemory, Flat, Decode, Check}
+use Rattle.m2v_tool.specs.declared.command.Outcome.TheVariants.{Usage, NoMemory, Flat, Encode, Decode, Check}
+use Rattle.m2v_tool.specs.EncodeWords.{Meant, words_of}
+use Rattle.m2v_tool.specs.Encoding.{EncodeKeeps}
 use Rattle.m2v_tool.specs.Endings.{Told}
 use Rattle.m2v_tool.specs.Words.{Means, NoCommand}
 use Rattle.m2v_tool.specs.Runs.{Run, RefusedBy, IsUntouched, work_of}
@@ -11,6 +13,7 @@ use Rattle.m2v_tool.specs.Commands.{Comes, ending_of, Keeps, Kept}
 use Rattle.m2v_tool.proofs.WordLaws.{one_meaning}
 use Rattle.m2v_tool.proofs.EndingLaws.{refusal, memory_told}
 use Rattle.m2v_tool.proofs.CodingLaws.{flat_keeps, flat_unread}
+use Rattle.m2v_tool.proofs.EncodingLaws.{encode_keeps, encode_unread}
 use Rattle.m2v_tool.proofs.DecodingLaws.{decode_keeps, decode_unread}
 use Rattle.m2v_tool.proofs.CheckingLaws.{check_keeps, check_unread}
 
@@ -20,24 +23,28 @@ module _ (r : Run) where
   refused_by Usage c t none = (refusal (ending_of Usage) r.status 2 r.report t refl refl, c.1)
   refused_by NoMemory c t none = (inr (memory_told r.status r.report t), c)
   refused_by (Flat o) c t none = absurd (none (commands.Flat c.0) c.1)
+  refused_by (Encode o) c t none = absurd (none (commands.Encode c.0) c.1)
   refused_by (Decode o) c t none = absurd (none commands.Decode c.0)
   refused_by (Check o) c t none = absurd (none commands.Check c.0)
 
   -- where memory ran out before the words were read
   unread_by : IsUntouched (work_of r) → r.status ≡ 12 → (c : Command) → Keeps c r
   unread_by untouched is (commands.Flat w) = flat_unread r w untouched is
+  unread_by untouched is (commands.Encode w) = encode_unread r (words_of w) untouched is
   unread_by untouched is commands.Decode = decode_unread r is
   unread_by untouched is commands.Check = check_unread r is
 
   -- the words mean the command whose outcome came, and no other one
   same_keeps : (c d : Command) → Means r.words c → Means r.words d → Keeps c r → Keeps d r
-  same_keeps c d means others keeps = subst (λ (x : Command). Keeps x r) (one_meaning r.words c d means others) keeps
+  same_keeps c d means others keeps =
+      one_meaning (λ (x : Command). Keeps x r) (λ v w same k. subst (λ (m : Meant). EncodeKeeps m r) same k) r.words c d means others keeps
 
   keeps_by : (o : Outcome) → Comes r.words (work_of r) o → Told (ending_of o) r.status r.report → (d : Command) → Means r.words d → Keeps d r
   unfolding Comes ending_of
   keeps_by Usage c t d means = absurd (c.0 d means)
   keeps_by NoMemory c t d means = unread_by c (memory_told r.status r.report t) d
   keeps_by (Flat o) c t d means = same_keeps (commands.Flat c.0) d c.1 means (flat_keeps r c.0 o c.2 t c.3)
+  keeps_by (Encode o) c t d means = same_keeps (commands.Encode c.0) d c.1 means (encode_keeps r (words_of c.0) o c.2 t)
   keeps_by (Decode o) c t d means = same_keeps commands.Decode d c.0 means (decode_keeps r o c.1 t)
   keeps_by (Check o) c t d means = same_keeps commands.Check d c.0 means (check_keeps r o c.1 t)
 

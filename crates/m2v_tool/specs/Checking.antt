@@ -6,14 +6,13 @@ use Rattle.m2v_vbv.specs.declared.fault.AccountFault.TheVariants.{Under, Over}
 use Rattle.m2v_model.specs.Pieces.{Limit, too_long}
 use Rattle.m2v_model.specs.Decoding.{FaultAt}
 use Rattle.m2v_piece.specs.declared.answer.Fault.{Fault}
-use Rattle.m2v_piece.specs.declared.answer.DecodeError.{DecodeError}
 use Rattle.m2v_decode.specs.Answers.{OfText}
 use Rattle.m2v_decode.specs.Complete.{IsUnderLimits, IsReached, IsLate, IsPast, error_of}
 use Rattle.m2v_check.specs.declared.verdict.Figures.{Figures}
 use Rattle.m2v_check.specs.declared.verdict.Verdict.{Verdict}
 use Rattle.m2v_check.specs.declared.verdict.Verdict.TheVariants as verdicts
 use Rattle.m2v_check.specs.Meaning.{IsLawful, IsVariable, Means}
-use Rattle.m2v_check.specs.Answers.{IsJudged, IsFaulty, IsOver, Fails}
+use Rattle.m2v_check.specs.Answers.{IsJudged, IsOver, Fails}
 use Rattle.m2v_tool.specs.declared.check.CheckOutcome.{CheckOutcome}
 use Rattle.m2v_tool.specs.declared.check.CheckOutcome.TheVariants.{Judged, Stopped}
 use Rattle.m2v_tool.specs.Endings.{Ending, Told, stream_fault, ending_past}

@@ -14,7 +14,7 @@ use Rattle.m2v_model.specs.Decoding.{Decodes, FaultAt}
 use Rattle.m2v_tool.specs.declared.flat.FlatWords.{FlatWords}
 use Rattle.m2v_tool.specs.declared.flat.FlatOutcome.{FlatOutcome}
 use Rattle.m2v_tool.specs.declared.flat.FlatOutcome.TheVariants.{Coded, Unfit, Stopped}
-use Rattle.m2v_tool.specs.Endings.{Ending, plain, read_fault, write_fault, no_memory}
+use Rattle.m2v_tool.specs.Endings.{Ending, read_fault, write_fault, no_memory, unfit_ending, short_frame, no_frames, too_many_frames}
 use Rattle.m2v_tool.specs.Words.{settings_of, WordsPass, WordsFail}
 use Rattle.m2v_tool.specs.Runs.{Run, Yields, RefusedBy, NoneFailed, Succeeds}
 
@@ -45,13 +45,9 @@ FlatComes w left held (Stopped e) = FlatStopped w left held e
 unfoldable pub coding_stopped : EncodeError → Ending
 coding_stopped Error.Read = read_fault
 coding_stopped Error.Write = write_fault
-coding_stopped (Error.ShortFrame extra) = record {
-  status = 4;
-  texts = codes "short frame extra " ∷ [];
-  numbers = extra ∷ [];
-}
-coding_stopped Error.NoFrames = plain 5 (codes "no frames")
-coding_stopped Error.TooManyFrames = plain 6 (codes "too many frames")
+coding_stopped (Error.ShortFrame extra) = short_frame extra
+coding_stopped Error.NoFrames = no_frames
+coding_stopped Error.TooManyFrames = too_many_frames
 coding_stopped Error.Memory = no_memory
 
 -- the ending of each outcome
@@ -61,11 +57,7 @@ flat_ending (Coded s) = record {
   texts = codes "frames " ∷ codes " pictures " ∷ codes " bytes " ∷ codes " stuffing " ∷ [];
   numbers = s.frames ∷ s.pictures ∷ s.bytes ∷ s.stuffing ∷ [];
 }
-flat_ending (Unfit u) = record {
-  status = 3;
-  texts = codes "unfit rule " ∷ codes " have " ∷ codes " need " ∷ [];
-  numbers = u.rule ∷ u.have ∷ u.need ∷ [];
-}
+flat_ending (Unfit u) = unfit_ending u
 flat_ending (Stopped e) = coding_stopped e
 
 -- the bytes of a frame of the size that words name

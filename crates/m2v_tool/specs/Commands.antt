@@ -1,6 +1,7 @@
 -- What the program does for all words: a line a command in each definition.
 use Rattle.std.specs.Prelude.{ℕ, List}
 use Rattle.m2v_tool.specs.declared.flat.FlatWords.{FlatWords}
+use Rattle.m2v_tool.specs.declared.encode.EncodeWords.{EncodeWords}
 use Rattle.m2v_tool.specs.declared.command.Command.{Command}
 use Rattle.m2v_tool.specs.declared.command.Command.TheVariants as commands
 use Rattle.m2v_tool.specs.declared.command.Outcome.{Outcome}
@@ -9,6 +10,8 @@ use Rattle.m2v_tool.specs.Words.{Means, NoCommand}
 use Rattle.m2v_tool.specs.Runs.{Run, Work, work_of, IsUntouched, RefusedBy}
 use Rattle.m2v_tool.specs.Endings.{Ending, Told, usage, no_memory}
 use Rattle.m2v_tool.specs.Coding.{FlatComes, FlatKeeps, flat_ending}
+use Rattle.m2v_tool.specs.EncodeWords.{words_of}
+use Rattle.m2v_tool.specs.Encoding.{EncodeComes, EncodeKeeps, encode_ending}
 use Rattle.m2v_tool.specs.Decoding.{DecodeComes, DecodeKeeps, decode_ending}
 use Rattle.m2v_tool.specs.Checking.{CheckComes, CheckKeeps, check_ending}
 
@@ -20,6 +23,8 @@ Comes words k outcomes.NoMemory = IsUntouched k
 Comes words k (outcomes.Flat o) =
     (w : FlatWords) × Means words (commands.Flat w) × FlatComes w k.input k.output o
     × k.recon.Unchanged
+Comes words k (outcomes.Encode o) =
+    (w : EncodeWords) × Means words (commands.Encode w) × EncodeComes (words_of w) k o
 Comes words k (outcomes.Decode o) =
     Means words commands.Decode × DecodeComes k.input k.output o × k.recon.Unchanged
 Comes words k (outcomes.Check o) =
@@ -30,12 +35,14 @@ unfoldable pub ending_of : Outcome → Ending
 ending_of outcomes.Usage = usage
 ending_of outcomes.NoMemory = no_memory
 ending_of (outcomes.Flat o) = flat_ending o
+ending_of (outcomes.Encode o) = encode_ending o
 ending_of (outcomes.Decode o) = decode_ending o
 ending_of (outcomes.Check o) = check_ending o
 
 -- what is answered to a command
 abbrev pub Keeps : Command → Run → Type 0
 Keeps (commands.Flat w) r = FlatKeeps w r
+Keeps (commands.Encode w) r = EncodeKeeps (words_of w) r
 Keeps commands.Decode r = DecodeKeeps r
 Keeps commands.Check r = CheckKeeps r
 

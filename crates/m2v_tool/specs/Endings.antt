@@ -2,6 +2,7 @@
 use Rattle.std.specs.Prelude.{ℕ, ◌≡◌, ◌⊎◌, ◌==◌, List, [], ◌∷◌, ◌++◌, codes, decimal, if◌then◌else◌}
 use Rattle.m2v_port.specs.Ends.{Change}
 use Rattle.m2v_port.specs.Port.{Grows, GrowsByPrefix}
+use Rattle.m2v_set.specs.declared.unfit.Unfit.{Unfit}
 use Rattle.m2v_model.specs.declared.fault.FaultKind.{FaultKind}
 use Rattle.m2v_model.specs.declared.fault.FaultKind.TheVariants as kinds
 use Rattle.m2v_model.specs.Pieces.{Limit, too_long, too_large}
@@ -57,6 +58,28 @@ write_fault = plain 8 (codes "write fault")
 
 abbrev pub no_memory : Ending
 no_memory = plain 12 (codes "no memory")
+
+-- settings that don't pass: the first condition that fails
+unfoldable pub unfit_ending : Unfit → Ending
+unfit_ending u = record {
+  status = 3;
+  texts = codes "unfit rule " ∷ codes " have " ∷ codes " need " ∷ [];
+  numbers = u.rule ∷ u.have ∷ u.need ∷ [];
+}
+
+-- raw frames that end inside one, of which there are so many bytes; that are none; and of which there are too many
+abbrev pub short_frame : ℕ → Ending
+short_frame extra = record {
+  status = 4;
+  texts = codes "short frame extra " ∷ [];
+  numbers = extra ∷ [];
+}
+
+abbrev pub no_frames : Ending
+no_frames = plain 5 (codes "no frames")
+
+abbrev pub too_many_frames : Ending
+too_many_frames = plain 6 (codes "too many frames")
 
 -- of a stream that passes this limit
 unfoldable pub ending_past : Limit → Ending

@@ -6,4 +6,5 @@ pub mod Runs
 pub mod Coding
 pub mod Decoding
 pub mod Checking
+pub mod Encoding
 pub mod Commands

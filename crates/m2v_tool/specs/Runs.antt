@@ -1,6 +1,11 @@
 -- A run of the program, as it is seen from outside.
-use Rattle.std.specs.Prelude.{ℕ, ◌≡◌, ◌⊎◌, List}
+use Rattle.std.specs.Prelude.{ℕ, ◌≡◌, ◌⊎◌, Bool, List, Option}
 use Rattle.m2v_port.specs.Ends.{Change}
+
+-- how the place for reconstructions stands in the end: whether it is open, and the name that it tells
+pub record Place : Type 0 where
+  pub ready : Bool
+  pub name : Option (List ℕ)
 
 -- the words, what the run did to each endpoint, and the status
 pub record Run : Type 1 where
@@ -8,6 +13,7 @@ pub record Run : Type 1 where
   pub input : Change
   pub output : Change
   pub recon : Change
+  pub place : Place
   pub report : Change
   pub status : ℕ
 
@@ -16,9 +22,10 @@ pub record Work : Type 1 where
   pub input : Change
   pub output : Change
   pub recon : Change
+  pub place : Place
 
 abbrev pub work_of : Run → Work
-work_of r = record { input = r.input; output = r.output; recon = r.recon }
+work_of r = record { input = r.input; output = r.output; recon = r.recon; place = r.place }
 
 -- nothing was looked at
 abbrev pub IsUntouched : Work → Type 0

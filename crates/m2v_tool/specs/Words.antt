@@ -8,7 +8,8 @@ use Rattle.m2v_set.specs.declared.unfit.Unfit.{Unfit}
 use Rattle.m2v_flat.specs.declared.settings.FlatSettings.{FlatSettings}
 use Rattle.m2v_tool.specs.declared.flat.FlatWords.{FlatWords}
 use Rattle.m2v_tool.specs.declared.command.Command.{Command}
-use Rattle.m2v_tool.specs.declared.command.Command.TheVariants.{Flat, Decode, Check}
+use Rattle.m2v_tool.specs.declared.command.Command.TheVariants.{Flat, Encode, Decode, Check}
+use Rattle.m2v_tool.specs.EncodeWords.{encode_meant, words_of}
 use Rattle.m2v_tool.specs.Simple.{simple, number_word, taken, required, stands_alone}
 
 -- the words behind `flat`: W H CODE Q
@@ -33,8 +34,12 @@ flat_meant words = option_map flat_of (taken flat_app words)
 -- what a word that names a command means with those behind it: a line a command
 abbrev pub MeansBy : Text → List Text → Command → Type 0
 MeansBy name others (Flat w) = (name ≡ codes "flat") × (flat_meant others ≡ Some w)
-MeansBy name others Decode = (name ≡ codes "decode") × (stands_alone (codes "decode") others ≡ true)
-MeansBy name others Check = (name ≡ codes "check") × (stands_alone (codes "check") others ≡ true)
+MeansBy name others (Encode w) =
+    (name ≡ codes "encode") × (encode_meant others ≡ Some (words_of w))
+MeansBy name others Decode =
+    (name ≡ codes "decode") × (stands_alone (codes "decode") others ≡ true)
+MeansBy name others Check =
+    (name ≡ codes "check") × (stands_alone (codes "check") others ≡ true)
 
 -- what words mean as a command
 abbrev pub Means : List Text → Command → Type 0

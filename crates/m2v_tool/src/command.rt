@@ -6,15 +6,18 @@ ghost use Rattle.m2v_tool.specs.Commands.{ending_of};
 
 use crate::check::{CheckOutcome, check_words};
 use crate::decode::{DecodeOutcome, decode_words};
+use crate::encode::{EncodeOutcome, EncodeWords, encode_words};
 use crate::flat::{FlatOutcome, FlatWords, flat_words};
 use crate::report::{Report, no_memory, usage};
 use std::alloc::{AllocError, Global};
 
 /// What words mean.
-#[derive(Clone, Copy, Debug, PartialEq, Eq)]
+#[derive(Debug, Drop)]
 pub enum Command {
     /// Raw frames are coded by the flat profile.
     Flat(FlatWords),
+    /// Raw frames are coded.
+    Encode(EncodeWords),
     /// A stream is decoded.
     Decode,
     /// A stream is judged.
@@ -30,6 +33,8 @@ pub enum Outcome {
     NoMemory,
     /// What came of `flat`.
     Flat(FlatOutcome),
+    /// What came of `encode`.
+    Encode(EncodeOutcome),
     /// What came of `decode`.
     Decode(DecodeOutcome),
     /// What came of `check`.
@@ -46,6 +51,7 @@ impl Outcome {
             Outcome::Usage => usage(alloc),
             Outcome::NoMemory => no_memory(alloc),
             Outcome::Flat(outcome) => outcome.report(alloc),
+            Outcome::Encode(outcome) => outcome.report(alloc),
             Outcome::Decode(outcome) => outcome.report(alloc),
             Outcome::Check(outcome) => outcome.report(alloc),
         }
@@ -61,6 +67,10 @@ fn meant_by(alloc: Global, name: &str, others: &[String]) -> Result<Option<Comma
     match name {
         "flat" => match flat_words(alloc, others)? {
             Some(meant) => Ok(Some(Command::Flat(meant))),
+            None => Ok(None),
+        },
+        "encode" => match encode_words(alloc, others)? {
+            Some(meant) => Ok(Some(Command::Encode(meant))),
             None => Ok(None),
         },
         "decode" => {

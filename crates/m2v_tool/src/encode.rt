@@ -1,17 +1,28 @@
-ghost use Rattle.std.specs.Prelude.{◌≡◌, ◌++◌, map, option_map, string_bytes, codes, IfOk};
+ghost use Rattle.std.specs.Prelude.{◌≡◌, ◌≤◌, ◌++◌, Some, None, map, option_map, string_bytes, codes, IfOk, IsTrue, IsFalse};
+ghost use Rattle.m2v_port.specs.Ends.{change, SinkStays};
+ghost use Rattle.m2v_tool.specs.Endings.{IsReport};
+ghost use Rattle.m2v_tool.specs.Encoding.{EncodeComes, encode_ending, encoded_ending, encoding_stopped, unopened_ending};
 ghost use Rattle.clap.specs.Walk.{first_of, rows_of};
 ghost use Rattle.clap.specs.Matches.{found_of};
 ghost use Rattle.clap.specs.Simple.{app_of};
 ghost use Rattle.m2v_tool.specs.Simple.{simple};
 ghost use Rattle.m2v_tool.specs.EncodeWords.{encode_app, encode_meant, needed, numbers, level_in, level_named, meant_of, scan_in, scan_named, settings_of, words_of};
 
+use crate::report::{
+    Report, no_frames, no_memory, read_fault, short_frame, too_many_frames, unfit, write_fault,
+};
 use crate::words::{
     flag, flag_option, number, number_option, number_or, required, required_option, simple, taken,
     text, text_option, text_or, with,
 };
 use clap::{ArgMatches, Command};
-use m2v_set::{Level, Scan, Settings};
+use m2v_board::Gate;
+use m2v_encode::{EncodeError, Summary, encode_to, encode_unshown};
+use m2v_port::{NamedSink, PortError, Sink, Source};
+use m2v_set::{Level, Passed, Scan, Settings, Unfit};
 use std::alloc::{AllocError, Global};
+use std::sync::Wait;
+use std::thread::Threads;
 
 /// What the words behind `encode` say.
 #[derive(Debug, Drop)]
@@ -164,5 +175,176 @@ pub(crate) fn encode_words(
     match taken(encode_command(alloc)?, words)? {
         Some(matches) => meant_of(alloc, &matches),
         None => Ok(None),
+    }
+}
+
+/// What came of `encode`.
+#[derive(Clone, Copy, Debug, PartialEq, Eq)]
+pub enum EncodeOutcome {
+    /// Raw frames were coded.
+    Coded(Summary),
+    /// The settings don't pass the published test: the first condition that fails.
+    Unfit(Unfit),
+    /// The place for reconstructions wasn't opened.
+    Unopened(PortError),
+    /// Coding stopped.
+    Stopped(EncodeError),
+}
+
+impl EncodeOutcome {
+    /// Its status and its line on report.
+    #[tactic(auto, unfolding(crate::specs::Encoding::encode_ending))]
+    pub(crate) fn report(&self, alloc: Global) -> Result<Report, AllocError>
+        ensures { IfOk result (λ r. IsReport r (encode_ending self.now)) }
+    {
+        match self {
+            EncodeOutcome::Coded(summary) => told(alloc, summary),
+            EncodeOutcome::Unfit(first) => unfit(alloc, first),
+            EncodeOutcome::Unopened(error) => unopened(alloc, *error),
+            EncodeOutcome::Stopped(error) => stopped(alloc, error),
+        }
+    }
+}
+
+/// The report of a stream that was coded.
+#[tactic(auto, unfolding(crate::specs::Encoding::encoded_ending))]
+fn told(alloc: Global, summary: &Summary) -> Result<Report, AllocError>
+    ensures { IfOk result (λ r. IsReport r (encoded_ending summary.now)) }
+{
+    Report::new(
+        alloc,
+        0,
+        &["frames ", " pictures ", " bytes ", " stuffing "],
+        &[
+            u128::from(summary.frames),
+            u128::from(summary.pictures),
+            u128::from(summary.bytes),
+            u128::from(summary.stuffing),
+        ],
+    )
+}
+
+/// The report of a place that wasn't opened.
+#[tactic(auto, unfolding(crate::specs::Encoding::unopened_ending))]
+fn unopened(alloc: Global, error: PortError) -> Result<Report, AllocError>
+    ensures { IfOk result (λ r. IsReport r (unopened_ending error)) }
+{
+    match error {
+        PortError::Failed => write_fault(alloc),
+        PortError::Memory => no_memory(alloc),
+    }
+}
+
+/// The report of an encoder that stopped.
+#[tactic(auto, unfolding(crate::specs::Encoding::encoding_stopped))]
+fn stopped(alloc: Global, error: &EncodeError) -> Result<Report, AllocError>
+    ensures { IfOk result (λ r. IsReport r (encoding_stopped error.now)) }
+{
+    match error {
+        EncodeError::Read => read_fault(alloc),
+        EncodeError::Write => write_fault(alloc),
+        EncodeError::ShortFrame { extra } => short_frame(alloc, *extra),
+        EncodeError::NoFrames => no_frames(alloc),
+        EncodeError::TooManyFrames => too_many_frames(alloc),
+        EncodeError::Memory => no_memory(alloc),
+    }
+}
+
+/// Codes the raw frames of the input, where no reconstructions are wanted.
+fn encoded_alone<R: Threads + Wait + Sync, S: Source, K: Sink, N: NamedSink, G: Gate + Sync>(
+    rt: &R,
+    alloc: Global,
+    passed: &Passed,
+    input: &mut S,
+    output: &mut K,
+    _recon: &mut N,
+    gate: &G,
+) -> EncodeOutcome
+    requires { IsTrue (K.ready output.old) }
+    ensures comes { EncodeComes (record { settings = passed.now; recon = None }) (record {
+      input = change S.left S.faults input.old input.new;
+      output = change K.held K.faults output.old output.new;
+      recon = change N.held N.faults _recon.old _recon.new;
+      place = record { ready = N.ready _recon.new; name = N.name _recon.new };
+    }) result }
+    ensures recon { _recon.new ≡ _recon.old }
+    ensures output { SinkStays K.ready K.name K.faults output.old output.new }
+    ensures input { S.faults input.old ≤ S.faults input.new }
+{
+    // it tells contracts that the settings pass
+    let _passes = passed.settings();
+    match encode_unshown(rt, alloc, passed, input, output, gate) {
+        Ok(summary) => EncodeOutcome::Coded(summary),
+        Err(error) => EncodeOutcome::Stopped(error),
+    }
+}
+
+/// Opens the place for reconstructions under this name, and codes the raw frames of the input.
+fn encoded_beside<R: Threads + Wait + Sync, S: Source, K: Sink, N: NamedSink, G: Gate + Sync>(
+    rt: &R,
+    alloc: Global,
+    passed: &Passed,
+    name: &str,
+    input: &mut S,
+    output: &mut K,
+    recon: &mut N,
+    gate: &G,
+) -> EncodeOutcome
+    requires output { IsTrue (K.ready output.old) }
+    requires recon { IsFalse (N.ready recon.old) }
+    ensures comes { EncodeComes (record { settings = passed.now; recon = Some name.now }) (record {
+      input = change S.left S.faults input.old input.new;
+      output = change K.held K.faults output.old output.new;
+      recon = change N.held N.faults recon.old recon.new;
+      place = record { ready = N.ready recon.new; name = N.name recon.new };
+    }) result }
+    ensures recon { N.faults recon.old ≤ N.faults recon.new }
+    ensures output { SinkStays K.ready K.name K.faults output.old output.new }
+    ensures input { S.faults input.old ≤ S.faults input.new }
+{
+    // it tells contracts that the settings pass
+    let _passes = passed.settings();
+    match recon.open(name) {
+        Ok(()) => {}
+        Err(error) => return EncodeOutcome::Unopened(error),
+    }
+    match encode_to(rt, alloc, passed, input, output, recon, gate) {
+        Ok(summary) => EncodeOutcome::Coded(summary),
+        Err(error) => EncodeOutcome::Stopped(error),
+    }
+}
+
+/// Codes the raw frames of the input.
+pub(crate) fn encoded<R: Threads + Wait + Sync, S: Source, K: Sink, N: NamedSink, G: Gate + Sync>(
+    rt: &R,
+    alloc: Global,
+    meant: &EncodeWords,
+    input: &mut S,
+    output: &mut K,
+    recon: &mut N,
+    gate: &G,
+) -> EncodeOutcome
+    requires output { IsTrue (K.ready output.old) }
+    requires recon { IsFalse (N.ready recon.old) }
+    ensures comes { EncodeComes (words_of meant.now) (record {
+      input = change S.left S.faults input.old input.new;
+      output = change K.held K.faults output.old output.new;
+      recon = change N.held N.faults recon.old recon.new;
+      place = record { ready = N.ready recon.new; name = N.name recon.new };
+    }) result }
+    ensures recon { N.faults recon.old ≤ N.faults recon.new }
+    ensures output { SinkStays K.ready K.name K.faults output.old output.new }
+    ensures input { S.faults input.old ≤ S.faults input.new }
+{
+    let passed = match meant.settings.test() {
+        Ok(passed) => passed,
+        Err(first) => return EncodeOutcome::Unfit(first),
+    };
+    match &meant.recon {
+        Some(name) => {
+            let name = name.as_str();
+            encoded_beside(rt, alloc, &passed, name, input, output, recon, gate)
+        }
+        None => encoded_alone(rt, alloc, &passed, input, output, recon, gate),
     }
 }

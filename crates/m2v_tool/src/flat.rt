@@ -7,7 +7,9 @@ ghost use Rattle.m2v_tool.specs.Endings.{IsReport};
 ghost use Rattle.m2v_tool.specs.Words.{flat_app, flat_meant, flat_of};
 ghost use Rattle.m2v_tool.specs.Coding.{FlatComes, coding_stopped, flat_ending};
 
-use crate::report::{Report, no_memory, read_fault, write_fault};
+use crate::report::{
+    Report, no_frames, no_memory, read_fault, short_frame, too_many_frames, unfit, write_fault,
+};
 use crate::words::{number_word, required, simple, taken};
 use clap::{ArgMatches, Command};
 use m2v_flat::{EncodeError, FlatSettings, Summary, flat};
@@ -113,12 +115,7 @@ impl FlatOutcome {
                     u128::from(n.stuffing),
                 ],
             ),
-            FlatOutcome::Unfit(u) => Report::new(
-                alloc,
-                3,
-                &["unfit rule ", " have ", " need "],
-                &[u128::from(u.rule), u.have, u.need],
-            ),
+            FlatOutcome::Unfit(first) => unfit(alloc, first),
             FlatOutcome::Stopped(error) => stopped(alloc, error),
         }
     }
@@ -132,11 +129,9 @@ fn stopped(alloc: Global, error: &EncodeError) -> Result<Report, AllocError>
     match error {
         EncodeError::Read => read_fault(alloc),
         EncodeError::Write => write_fault(alloc),
-        EncodeError::ShortFrame { extra } => {
-            Report::new(alloc, 4, &["short frame extra "], &[u128::from(*extra)])
-        }
-        EncodeError::NoFrames => Report::new(alloc, 5, &["no frames"], &[]),
-        EncodeError::TooManyFrames => Report::new(alloc, 6, &["too many frames"], &[]),
+        EncodeError::ShortFrame { extra } => short_frame(alloc, *extra),
+        EncodeError::NoFrames => no_frames(alloc),
+        EncodeError::TooManyFrames => too_many_frames(alloc),
         EncodeError::Memory => no_memory(alloc),
     }
 }

@@ -1,10 +1,11 @@
 ghost use Rattle.std.specs.Prelude.{◌≡◌, ◌++◌, [], ◌==◌, codes, decimal, map, length, nat_lt, slice_index, if◌then◌else◌, IfOk, OnOk};
 ghost use Rattle.m2v_model.specs.Pieces.{too_large, too_long};
-ghost use Rattle.m2v_tool.specs.Endings.{IsReport, ending_past, line_text, name_of, no_memory, read_fault, stream_fault, usage, write_fault};
+ghost use Rattle.m2v_tool.specs.Endings.{IsReport, ending_past, line_text, name_of, no_frames, no_memory, read_fault, short_frame, stream_fault, too_many_frames, unfit_ending, usage, write_fault};
 
 use itoa::Buffer;
 use m2v_decode::Fault;
 use m2v_model::FaultKind;
+use m2v_set::Unfit;
 use std::alloc::{AllocError, Global};
 
 /// What the program ends with: its status, and its line on report.
@@ -61,6 +62,40 @@ pub(crate) fn no_memory(alloc: Global) -> Result<Report, AllocError>
     ensures { IfOk result (λ r. IsReport r no_memory) }
 {
     Report::new(alloc, 12, &["no memory"], &[])
+}
+
+/// The settings don't pass: the first condition that fails.
+#[tactic(auto, unfolding(crate::specs::Endings::unfit_ending))]
+pub(crate) fn unfit(alloc: Global, unfit: &Unfit) -> Result<Report, AllocError>
+    ensures { IfOk result (λ r. IsReport r (unfit_ending unfit.now)) }
+{
+    Report::new(
+        alloc,
+        3,
+        &["unfit rule ", " have ", " need "],
+        &[u128::from(unfit.rule), unfit.have, unfit.need],
+    )
+}
+
+/// Raw frames end inside one, of which these many bytes are there.
+pub(crate) fn short_frame(alloc: Global, extra: u64) -> Result<Report, AllocError>
+    ensures { IfOk result (λ r. IsReport r (short_frame extra)) }
+{
+    Report::new(alloc, 4, &["short frame extra "], &[u128::from(extra)])
+}
+
+/// There are no raw frames.
+pub(crate) fn no_frames(alloc: Global) -> Result<Report, AllocError>
+    ensures { IfOk result (λ r. IsReport r no_frames) }
+{
+    Report::new(alloc, 5, &["no frames"], &[])
+}
+
+/// A byte follows raw frame 999,999.
+pub(crate) fn too_many_frames(alloc: Global) -> Result<Report, AllocError>
+    ensures { IfOk result (λ r. IsReport r too_many_frames) }
+{
+    Report::new(alloc, 6, &["too many frames"], &[])
 }
 
 /// A byte follows the first 2^36 bytes of the stream, and no sequence end code stands before it.

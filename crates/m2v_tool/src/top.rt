@@ -6,6 +6,7 @@ ghost use Rattle.m2v_tool.specs.Commands.{Comes, Kept, ending_of};
 use crate::check::judged;
 use crate::command::{Command, Outcome, meaning};
 use crate::decode::decoded;
+use crate::encode::encoded;
 use crate::flat::coded;
 use crate::report::Report;
 use m2v_board::Gate;
@@ -23,26 +24,31 @@ pub struct Status {
 
 /// Does what the words say, all but the report.
 fn carried_out<R: Threads + Wait + Sync, S: Source, K: Sink, N: NamedSink, G: Gate + Sync>(
-    _rt: &R,
+    rt: &R,
     alloc: Global,
     words: &[String],
     input: &mut S,
     output: &mut K,
-    _recon: &mut N,
-    _gate: &G,
+    recon: &mut N,
+    gate: &G,
 ) -> Outcome
-    requires { IsTrue (K.ready output.old) }
+    requires output { IsTrue (K.ready output.old) }
+    requires recon { IsFalse (N.ready recon.old) }
     ensures comes { Comes (map string_bytes words.now) (record {
       input = change S.left S.faults input.old input.new;
       output = change K.held K.faults output.old output.new;
-      recon = change N.held N.faults _recon.old _recon.new;
+      recon = change N.held N.faults recon.old recon.new;
+      place = record { ready = N.ready recon.new; name = N.name recon.new };
     }) result }
-    ensures recon { _recon.new ≡ _recon.old }
+    ensures recon { N.faults recon.old ≤ N.faults recon.new }
     ensures output { SinkStays K.ready K.name K.faults output.old output.new }
     ensures input { S.faults input.old ≤ S.faults input.new }
 {
     match meaning(alloc, words) {
         Ok(Some(Command::Flat(meant))) => Outcome::Flat(coded(alloc, &meant, input, output)),
+        Ok(Some(Command::Encode(meant))) => {
+            Outcome::Encode(encoded(rt, alloc, &meant, input, output, recon, gate))
+        }
         Ok(Some(Command::Decode)) => Outcome::Decode(decoded(alloc, input, output)),
         Ok(Some(Command::Check)) => Outcome::Check(judged(alloc, input)),
         Ok(None) => Outcome::Usage,
@@ -80,8 +86,10 @@ fn reported<E: Sink>(alloc: Global, outcome: &Outcome, report: &mut E) -> Status
 /// `words` are those behind the program's name. `flat W H CODE Q` codes the raw frames of `input`, 1 to 999,999 of them,
 /// each W by H samples, to `output` by the flat profile, with the frame rate code CODE and the quantiser code Q.
 /// `decode` decodes the stream of `input` (ISO/IEC 13818-2) and writes the frames that it shows to `output` as raw
-/// video, in display order. `rt`, `gate` and `recon` are for commands that have workers or write reconstructions, and
-/// aren't used yet.
+/// video, in display order. `check` says of the stream of `input` whether it keeps the rules of its level, and whether the
+/// decoder's buffer bears it. `encode` codes the raw frames of `input` to `output` by its options, with workers that `rt`
+/// runs and `gate` lets in; where its words name a file, `recon` is opened under this name, and gets the frames that the
+/// stream decodes to.
 pub fn run<R: Threads + Wait + Sync, S: Source, K: Sink, N: NamedSink, E: Sink, G: Gate + Sync>(
     rt: &R,
     alloc: Global,
@@ -100,10 +108,11 @@ pub fn run<R: Threads + Wait + Sync, S: Source, K: Sink, N: NamedSink, E: Sink, 
       input = change S.left S.faults input.old input.new;
       output = change K.held K.faults output.old output.new;
       recon = change N.held N.faults recon.old recon.new;
+      place = record { ready = N.ready recon.new; name = N.name recon.new };
       report = change E.held E.faults report.old report.new;
       status = result.code;
     }) }
-    ensures recon { recon.new ≡ recon.old }
+    ensures recon { N.faults recon.old ≤ N.faults recon.new }
     ensures output { SinkStays K.ready K.name K.faults output.old output.new }
     ensures report { SinkStays E.ready E.name E.faults report.old report.new }
     ensures input { S.faults input.old ≤ S.faults input.new }

@@ -28,3 +28,9 @@ unfolding Comes
 returns-in-Ok-Some-Check-clause-comes g c =
     let read = c.in-Ok-Some-Check in
     (means_of _ _ _ _ read.field-0-is read.field-0-0-is read.ensures.found, c.judged.ensures.comes, refl, refl)
+
+pub returns-in-Ok-Some-Encode-clause-comes : goal.returns-in-Ok-Some-Encode-clause-comes
+unfolding Comes
+returns-in-Ok-Some-Encode-clause-comes g c =
+    let read = c.in-Ok-Some-Encode in
+    (_, means_of _ _ _ _ read.field-0-is read.field-0-0-is read.ensures.found, c.encoded.ensures.comes)

@@ -1,0 +1,255 @@
+-- What follows from what `encode` did and what was told of it.
+use Rattle.std.proofs.Common.{◌≡◌, inl, inr, ℕ, ◌*◌, ◌<◌, ◌≤◌, ◌++◌, List, [], ◌∷◌, length, Option, Some, None, refl, sym, ap, subst, ◌∙◌, arith, length-append}
+use Rattle.std.proofs.Math.Nat.{mul-pos}
+use Rattle.std.specs.Prelude.{IsFalse}
+use Rattle.m2v_port.specs.Ends.{Change, change}
+use Rattle.m2v_port.specs.Port.{Grows, GrowsByPrefix}
+use Rattle.m2v_port.specs.declared.error.PortError.{PortError}
+use Rattle.m2v_port.specs.declared.error.PortError.TheVariants as calls
+use Rattle.m2v_port.proofs.Runs.{tells, rose_since}
+use Rattle.m2v_plane.specs.Raw.{frame_bytes, raw}
+use Rattle.m2v_set.specs.declared.settings.Settings.{Settings}
+use Rattle.m2v_set.specs.declared.unfit.Unfit.{Unfit}
+use Rattle.m2v_set.specs.Numbers.{dims_of}
+use Rattle.m2v_set.specs.declared.settings.Scan.{Scan}
+use Rattle.m2v_set.specs.declared.settings.Scan.TheVariants.{Progressive, Frames, Fields}
+use Rattle.m2v_set.specs.Rules.{Passes, FirstUnfit, is_progressive, line_step}
+use Rattle.m2v_set.proofs.Facts.{bounds}
+use Rattle.m2v_encode.specs.declared.answer.Summary.{Summary}
+use Rattle.m2v_encode.specs.declared.answer.EncodeError.{EncodeError}
+use Rattle.m2v_encode.specs.declared.answer.EncodeError.TheVariants as errors
+use Rattle.m2v_encode.specs.Answers.{AllCoded, Stops, Unended, CutOff, EndedShort, WasEmpty, WentOn, most_frames}
+use Rattle.m2v_stream.specs.Streams.{Recon, ReconBegun}
+use Rattle.m2v_tool.specs.declared.encode.EncodeOutcome.{EncodeOutcome}
+use Rattle.m2v_tool.specs.declared.encode.EncodeOutcome.TheVariants.{Coded, Unfit as NotFit, Unopened, Stopped}
+use Rattle.m2v_tool.specs.Endings.{Told, whole, cut, unfit_ending}
+use Rattle.m2v_tool.specs.EncodeWords.{Meant}
+use Rattle.m2v_tool.specs.Coding.{AreFrames, EndInside}
+use Rattle.m2v_tool.specs.Encoding.{opened, recon_by, Shut, frame_size, EncodeStopped, EncodeShut, EncodeComes, encoding_stopped, unopened_ending, encoded_ending, encode_ending, EncodeAnswer, EncodeKeeps}
+use Rattle.m2v_tool.specs.Runs.{Run, Work, work_of, IsUntouched, Yields, RefusedBy, NoneFailed, Succeeds}
+use Rattle.m2v_tool.proofs.EndingLaws.{refusal, or_memory}
+use Rattle.m2v_tool.proofs.CodingLaws.{frames_length, all_read, long_by, not_inside, not_empty, not_many}
+
+-- ---- how many bytes an input had
+
+done_frames : (s : Settings) (left held recon : Change) (bytes : List ℕ) (summary : Summary) → left.old ≡ Some bytes → AllCoded s left held recon summary
+    → AreFrames (frame_bytes (dims_of s)) (length bytes)
+done_frames s left held recon bytes summary is c =
+    let all : raw c.frames ≡ bytes = all_read left bytes (raw c.frames) is c.moved c.end in
+    record { frames = length c.frames; some = c.some; most = c.most; are = ap length (sym all) ∙ frames_length (frame_bytes (dims_of s)) c.frames c.whole }
+
+short_inside : (s : Settings) (left held recon : Change) (bytes : List ℕ) (extra : ℕ) → left.old ≡ Some bytes → EndedShort s left held recon extra
+    → EndInside (frame_bytes (dims_of s)) (length bytes)
+short_inside s left held recon bytes extra is e =
+    let all : raw e.frames ++ e.part ≡ bytes = all_read left bytes (raw e.frames ++ e.part) is e.begun.moved e.end in
+    record {
+      frames = length e.frames;
+      extra = extra;
+      fewer = e.fewer;
+      some = e.some;
+      less = e.less;
+      are = omega (arith, ap length all, length-append (raw e.frames) e.part, frames_length (frame_bytes (dims_of s)) e.frames e.begun.whole, e.count);
+    }
+
+none_empty : (left held recon : Change) (bytes : List ℕ) → left.old ≡ Some bytes → WasEmpty left held recon → length bytes ≡ 0
+none_empty left held recon bytes is e = let all : [] ≡ bytes = all_read left bytes [] is e.moved e.end in ap length (sym all)
+
+many_long : (s : Settings) (left held recon : Change) (bytes : List ℕ) → left.old ≡ Some bytes → WentOn s left held recon → most_frames * frame_bytes (dims_of s) < length bytes
+many_long s left held recon bytes is e =
+    let size = frame_bytes (dims_of s) in
+    let long = long_by left bytes (raw e.frames ++ e.next ∷ []) is e.begun.moved in
+    let total : length (raw e.frames) ≡ most_frames * size = frames_length size e.frames e.begun.whole ∙ ap (λ (n : ℕ). n * size) e.all in
+    omega (arith, long, total, length-append (raw e.frames) (e.next ∷ []))
+
+least_step : (scan : Scan) → 1 ≤ line_step scan
+unfolding is_progressive
+least_step Progressive = let some : 1 ≤ 2 = omega arith in some
+least_step Frames = let some : 1 ≤ 4 = omega arith in some
+least_step Fields = let some : 1 ≤ 4 = omega arith in some
+
+some_bytes : (s : Settings) → Passes s → 0 < frame_bytes (dims_of s)
+unfolding dims_of
+some_bytes s passes =
+    let size = (bounds s passes).size in
+    let some : 0 < s.width * s.height = mul-pos (omega (arith, size.wide)) (omega (arith, size.tall, least_step s.scan)) in
+    omega arith
+
+-- ---- what was told
+
+module _ (r : Run) (m : Meant) where
+  unfit_at : (o : EncodeOutcome) → EncodeComes m (work_of r) o → Told (encode_ending o) r.status r.report → (Passes m.settings → ⊥) → RefusedBy 3 r
+  unfolding EncodeComes encode_ending unfit_ending
+  unfit_at (Coded s) c t fails = absurd (fails c.passes)
+  unfit_at (NotFit u) c t fails = (refusal (encode_ending (NotFit u)) r.status 3 r.report t refl refl, (c.1, c.2, c.3))
+  unfit_at (Unopened e) c t fails = absurd (fails c.passes)
+  unfit_at (Stopped e) c t fails = absurd (fails c.passes)
+
+  done_answer : (bytes : ℕ) (s : Summary) → Passes m.settings → AreFrames (frame_size m) bytes → Told (encoded_ending s) r.status r.report → Yields r (EncodeAnswer r m bytes)
+  unfolding encoded_ending
+  done_answer bytes s passes frames (whole is g) = Yields.said (EncodeAnswer.ok passes frames is)
+  done_answer bytes s passes frames (cut (inl is) g) = Yields.memory is
+  done_answer bytes s passes frames (cut (inr is) g) = Yields.said (EncodeAnswer.unreported passes frames is.0 is.1)
+
+  fails_then : (u : Unfit) → FirstUnfit m.settings u → Passes m.settings → ⊥
+  fails_then u fails passes = cc (sym passes ∙ fails)
+
+  -- the count of recon rose
+  recon_rose : (bytes : ℕ) → Passes m.settings → r.status ≡ 8 → (recon_by m.recon r.recon).Failed → Yields r (EncodeAnswer r m bytes)
+  recon_rose bytes passes is failed = by_name m.recon failed
+    where
+      by_name : (o : Option (List ℕ)) → (recon_by o r.recon).Failed → Yields r (EncodeAnswer r m bytes)
+      by_name (Some name) f = Yields.said (EncodeAnswer.recon passes f is)
+      by_name None f = absurd f
+
+  stopped_at : (bytes : List ℕ) → r.input.old ≡ Some bytes → (e : EncodeError) → EncodeStopped m (work_of r) e → Told (encoding_stopped e) r.status r.report
+      → Yields r (EncodeAnswer r m (length bytes))
+  unfolding Stops encoding_stopped
+  stopped_at bytes told (errors.ShortFrame x) c t =
+      or_memory r (EncodeAnswer r m (length bytes)) 4 (refusal (encoding_stopped (errors.ShortFrame x)) r.status 4 r.report t refl refl)
+      (λ is. Yields.said (EncodeAnswer.short c.passes (short_inside m.settings r.input r.output (recon_by m.recon r.recon) bytes x told c.stops) is))
+  stopped_at bytes told errors.NoFrames c t =
+      or_memory r (EncodeAnswer r m (length bytes)) 5 (refusal (encoding_stopped errors.NoFrames) r.status 5 r.report t refl refl)
+      (λ is. Yields.said (EncodeAnswer.none c.passes (none_empty r.input r.output (recon_by m.recon r.recon) bytes told c.stops) is))
+  stopped_at bytes told errors.TooManyFrames c t =
+      or_memory r (EncodeAnswer r m (length bytes)) 6 (refusal (encoding_stopped errors.TooManyFrames) r.status 6 r.report t refl refl)
+      (λ is. Yields.said (EncodeAnswer.many c.passes (many_long m.settings r.input r.output (recon_by m.recon r.recon) bytes told c.stops) is))
+  stopped_at bytes told errors.Read c t =
+      or_memory r (EncodeAnswer r m (length bytes)) 7 (refusal (encoding_stopped errors.Read) r.status 7 r.report t refl refl) (λ is. Yields.read is c.stops.0)
+  stopped_at bytes told errors.Write c t =
+      or_memory r (EncodeAnswer r m (length bytes)) 8 (refusal (encoding_stopped errors.Write) r.status 8 r.report t refl refl)
+      (λ is. elim c.stops.0 [
+        | inl output ↦ Yields.write is output
+        | inr recon ↦ recon_rose (length bytes) c.passes is recon
+      ])
+  stopped_at bytes told errors.Memory c t =
+      or_memory r (EncodeAnswer r m (length bytes)) 12 (refusal (encoding_stopped errors.Memory) r.status 12 r.report t refl refl) (λ is. Yields.memory is)
+
+  shut_at : (bytes : ℕ) (e : PortError) → EncodeShut m (work_of r) e → Told (unopened_ending e) r.status r.report → Yields r (EncodeAnswer r m bytes)
+  unfolding unopened_ending
+  shut_at bytes calls.Failed c t =
+      or_memory r (EncodeAnswer r m bytes) 8 (refusal (unopened_ending calls.Failed) r.status 8 r.report t refl refl)
+      (λ is. Yields.said (EncodeAnswer.recon c.passes c.shut.0 is))
+  shut_at bytes calls.Memory c t =
+      or_memory r (EncodeAnswer r m bytes) 12 (refusal (unopened_ending calls.Memory) r.status 12 r.report t refl refl) (λ is. Yields.memory is)
+
+  answer_at : (bytes : List ℕ) → r.input.old ≡ Some bytes → (o : EncodeOutcome) → EncodeComes m (work_of r) o → Told (encode_ending o) r.status r.report
+      → Yields r (EncodeAnswer r m (length bytes))
+  unfolding EncodeComes encode_ending unfit_ending
+  answer_at bytes told (Coded s) c t =
+      done_answer (length bytes) s c.passes (done_frames m.settings r.input r.output (recon_by m.recon r.recon) bytes s told c.coded) t
+  answer_at bytes told (NotFit u) c t =
+      or_memory r (EncodeAnswer r m (length bytes)) 3 (refusal (encode_ending (NotFit u)) r.status 3 r.report t refl refl)
+      (λ is. Yields.said (EncodeAnswer.unfit (fails_then u c.0) is))
+  answer_at bytes told (Unopened e) c t = shut_at (length bytes) e c t
+  answer_at bytes told (Stopped e) c t = stopped_at bytes told e c t
+
+  -- whole frames leave no other answer
+  whole_answer : (bytes : ℕ) → 0 < frame_size m → Passes m.settings → AreFrames (frame_size m) bytes → NoneFailed r → (r.recon.Failed → ⊥) → Yields r (EncodeAnswer r m bytes) → Succeeds r
+  whole_answer bytes some passes frames well sound (Yields.said (EncodeAnswer.unfit fails is)) = absurd (fails passes)
+  whole_answer bytes some passes frames well sound (Yields.said (EncodeAnswer.ok p f is)) = inl is
+  whole_answer bytes some passes frames well sound (Yields.said (EncodeAnswer.unreported p f g is)) = absurd (well.report g)
+  whole_answer bytes some passes frames well sound (Yields.said (EncodeAnswer.short p f is)) = absurd (not_inside (frame_size m) bytes frames f)
+  whole_answer bytes some passes frames well sound (Yields.said (EncodeAnswer.none p f is)) = absurd (not_empty (frame_size m) bytes some frames f)
+  whole_answer bytes some passes frames well sound (Yields.said (EncodeAnswer.many p f is)) = absurd (not_many (frame_size m) bytes frames f)
+  whole_answer bytes some passes frames well sound (Yields.said (EncodeAnswer.recon p f is)) = absurd (sound f)
+  whole_answer bytes some passes frames well sound (Yields.read is f) = absurd (well.input f)
+  whole_answer bytes some passes frames well sound (Yields.write is f) = absurd (well.output f)
+  whole_answer bytes some passes frames well sound (Yields.memory is) = inr is
+
+  pub encode_keeps : (o : EncodeOutcome) → EncodeComes m (work_of r) o → Told (encode_ending o) r.status r.report → EncodeKeeps m r
+  encode_keeps o c t = record {
+    unfit = unfit_at o c t;
+    answer = tells r.input (λ bytes. Yields r (EncodeAnswer r m (length bytes))) (λ bytes is. answer_at bytes is o c t);
+    coded = tells r.input (λ bytes. Passes m.settings → AreFrames (frame_size m) (length bytes) → NoneFailed r → (r.recon.Failed → ⊥) → Succeeds r)
+        (λ bytes is passes frames well sound. whole_answer (length bytes) (some_bytes m.settings passes) passes frames well sound (answer_at bytes is o c t));
+  }
+
+  -- where memory ran out before the words were read
+  pub encode_unread : IsUntouched (work_of r) → r.status ≡ 12 → EncodeKeeps m r
+  encode_unread untouched is = record {
+    unfit = λ fails. (inr is, untouched);
+    answer = tells r.input (λ bytes. Yields r (EncodeAnswer r m (length bytes))) (λ bytes told. Yields.memory is);
+    coded = tells r.input (λ bytes. Passes m.settings → AreFrames (frame_size m) (length bytes) → NoneFailed r → (r.recon.Failed → ⊥) → Succeeds r)
+        (λ bytes told passes frames well sound. inr is);
+  }
+
+-- a place that wasn't opened
+pub shut_of : (e : PortError) (k : Work) → (e ≡ calls.Failed → k.recon.Failed) → IsFalse k.place.ready → k.recon.new ≡ k.recon.old → k.input.Unchanged → k.output.Unchanged → Shut e k
+shut_of calls.Failed k rose shut same input output = (rose refl, shut, same, input, output)
+shut_of calls.Memory k rose shut same input output = (shut, same, input, output)
+
+-- ---- what was done to a place since it was opened counts as done to it since before
+
+module _ {N : Type 0} (held : N → Option (List ℕ)) (faults : N → ℕ) (n0 n1 n2 : N) (same : held n1 ≡ held n0) (le : faults n0 ≤ faults n1) where
+  grown_from : (bytes : List ℕ) → Grows (held n1) bytes (held n2) → Grows (held n0) bytes (held n2)
+  grown_from bytes g = subst (λ (o : Option (List ℕ)). Grows o bytes (held n2)) same g
+
+  prefix_from : (bytes : List ℕ) → GrowsByPrefix (held n1) bytes (held n2) → GrowsByPrefix (held n0) bytes (held n2)
+  prefix_from bytes g = subst (λ (o : Option (List ℕ)). GrowsByPrefix o bytes (held n2)) same g
+
+  same_from : (A B : Type 0) → (A → B × (n2 ≡ n1)) → A → B × (held n2 ≡ held n0)
+  same_from A B f a = let u = f a in (u.0, ap held u.1 ∙ same)
+
+  pub coded_from : (s : Settings) (left output : Change) (summary : Summary) → AllCoded s left output (change held faults n1 n2) summary
+      → AllCoded s left output (opened (change held faults n0 n2)) summary
+  coded_from s left output summary c = record {
+    frames = c.frames;
+    some = c.some;
+    most = c.most;
+    whole = c.whole;
+    moved = c.moved;
+    end = c.end;
+    grown = c.grown;
+    shown = grown_from (raw (Recon s c.frames)) c.shown;
+    numbers = c.numbers;
+  }
+
+  unended_from : (s : Settings) (left output : Change) (frames : List (List ℕ)) (part : List ℕ) → Unended s left output (change held faults n1 n2) frames part
+      → Unended s left output (opened (change held faults n0 n2)) frames part
+  unended_from s left output frames part u = record {
+    most = u.most;
+    whole = u.whole;
+    moved = u.moved;
+    grown = u.grown;
+    shown = grown_from (raw (ReconBegun s frames)) u.shown;
+    unwritten = same_from (length frames ≡ 0) output.Unchanged u.unwritten;
+  }
+
+  cut_from : (s : Settings) (left output : Change) → CutOff s left output (change held faults n1 n2) → CutOff s left output (opened (change held faults n0 n2))
+  cut_from s left output u = record {
+    frames = u.frames;
+    part = u.part;
+    most = u.most;
+    whole = u.whole;
+    less = u.less;
+    moved = u.moved;
+    grown = u.grown;
+    shown = prefix_from (raw (Recon s u.frames)) u.shown;
+    unwritten = same_from (length u.frames ≡ 0) output.Unchanged u.unwritten;
+  }
+
+  pub stops_from : (s : Settings) (left output : Change) (e : EncodeError) → Stops s left output (change held faults n1 n2) e
+      → Stops s left output (opened (change held faults n0 n2)) e
+  unfolding Stops
+  stops_from s left output errors.Read c =
+      let i = c.1 in
+      (c.0, record { frames = i.frames; part = i.part; begun = unended_from s left output i.frames i.part i.begun; less = i.less })
+  stops_from s left output errors.Write c = (elim c.0 [ inl o ↦ inl o | inr n ↦ inr (rose_since le n) ], cut_from s left output c.1)
+  stops_from s left output (errors.ShortFrame extra) c = record {
+    frames = c.frames;
+    part = c.part;
+    begun = unended_from s left output c.frames c.part c.begun;
+    fewer = c.fewer;
+    count = c.count;
+    some = c.some;
+    less = c.less;
+    end = c.end;
+  }
+  stops_from s left output errors.NoFrames c = record { moved = c.moved; end = c.end; same = (c.same.0, ap held c.same.1 ∙ same) }
+  stops_from s left output errors.TooManyFrames c = record {
+    frames = c.frames;
+    next = c.next;
+    begun = unended_from s left output c.frames (c.next ∷ []) c.begun;
+    all = c.all;
+  }
+  stops_from s left output errors.Memory c = cut_from s left output c

@@ -1,0 +1,132 @@
+-- What `encode` does: which outcome comes, what stands in input, output and recon then, and what is answered to an input.
+use Rattle.std.specs.Prelude.{ℕ, ◌≡◌, ◌*◌, ◌<◌, IsTrue, IsFalse, IfSome, [], ◌∷◌, Option, Some, None, length, codes}
+use Rattle.clap.specs.Walk.{Text}
+use Rattle.m2v_port.specs.Ends.{Change, Tells}
+use Rattle.m2v_port.specs.declared.error.PortError.{PortError}
+use Rattle.m2v_port.specs.declared.error.PortError.TheVariants as calls
+use Rattle.m2v_plane.specs.Raw.{frame_bytes}
+use Rattle.m2v_set.specs.Numbers.{dims_of}
+use Rattle.m2v_set.specs.Rules.{Passes, FirstUnfit}
+use Rattle.m2v_encode.specs.declared.answer.Summary.{Summary}
+use Rattle.m2v_encode.specs.declared.answer.EncodeError.{EncodeError}
+use Rattle.m2v_encode.specs.declared.answer.EncodeError.TheVariants as errors
+use Rattle.m2v_encode.specs.Answers.{AllCoded, Stops, most_frames, unshown}
+use Rattle.m2v_tool.specs.declared.encode.EncodeOutcome.{EncodeOutcome}
+use Rattle.m2v_tool.specs.declared.encode.EncodeOutcome.TheVariants.{Coded, Unfit as NotFit, Unopened, Stopped}
+use Rattle.m2v_tool.specs.Endings.{Ending, read_fault, write_fault, no_memory, unfit_ending, short_frame, no_frames, too_many_frames}
+use Rattle.m2v_tool.specs.EncodeWords.{Meant}
+use Rattle.m2v_tool.specs.Runs.{Run, Work, Yields, RefusedBy, NoneFailed, Succeeds}
+use Rattle.m2v_tool.specs.Coding.{AreFrames, EndInside}
+
+-- ---- recon
+
+-- what was done to recon: it counts as it was where it holds what it held
+abbrev pub opened : Change → Change
+opened c = record { old = c.old; new = c.new; Failed = c.Failed; Unchanged = c.new ≡ c.old }
+
+-- where no name is given nothing is done to it
+abbrev pub recon_by : Option Text → Change → Change
+recon_by (Some name) c = opened c
+recon_by None c = unshown
+
+-- it is open under the name that is given; where none is, it is as it was, its count too
+abbrev pub Stands : Option Text → Work → Type 0
+Stands (Some name) k = IsTrue k.place.ready × IfSome k.place.name (λ told. told ≡ name)
+Stands None k = k.recon.Unchanged
+
+-- it wasn't opened, and nothing else was looked at
+abbrev pub Shut : PortError → Work → Type 0
+Shut calls.Failed k =
+    k.recon.Failed × IsFalse k.place.ready × (k.recon.new ≡ k.recon.old)
+    × k.input.Unchanged × k.output.Unchanged
+Shut calls.Memory k =
+    IsFalse k.place.ready × (k.recon.new ≡ k.recon.old)
+    × k.input.Unchanged × k.output.Unchanged
+
+-- ---- outcomes
+
+-- The settings pass, the input was coded, and recon, where a name is given, is open under it and has grown by what the
+-- stream decodes to.
+pub record EncodeDone (m : Meant) (k : Work) (summary : Summary) : Type 0 where
+  pub passes : Passes m.settings
+  pub coded : AllCoded m.settings k.input k.output (recon_by m.recon k.recon) summary
+  pub stands : Stands m.recon k
+
+-- The settings pass, and coding stopped.
+pub record EncodeStopped (m : Meant) (k : Work) (e : EncodeError) : Type 0 where
+  pub passes : Passes m.settings
+  pub stops : Stops m.settings k.input k.output (recon_by m.recon k.recon) e
+  pub stands : Stands m.recon k
+
+-- The settings pass, and recon wasn't opened.
+pub record EncodeShut (m : Meant) (k : Work) (e : PortError) : Type 0 where
+  pub passes : Passes m.settings
+  pub named : (m.recon ≡ None) → ⊥
+  pub shut : Shut e k
+
+-- When each outcome of `encode` comes, and what stands then.
+unfoldable pub EncodeComes : Meant → Work → EncodeOutcome → Type 0
+EncodeComes m k (Coded s) = EncodeDone m k s
+EncodeComes m k (NotFit u) =
+    FirstUnfit m.settings u × k.input.Unchanged × k.output.Unchanged × k.recon.Unchanged
+EncodeComes m k (Unopened e) = EncodeShut m k e
+EncodeComes m k (Stopped e) = EncodeStopped m k e
+
+-- ---- statuses and lines
+
+-- of raw frames that weren't coded to their end
+unfoldable pub encoding_stopped : EncodeError → Ending
+encoding_stopped errors.Read = read_fault
+encoding_stopped errors.Write = write_fault
+encoding_stopped (errors.ShortFrame extra) = short_frame extra
+encoding_stopped errors.NoFrames = no_frames
+encoding_stopped errors.TooManyFrames = too_many_frames
+encoding_stopped errors.Memory = no_memory
+
+-- of a place that wasn't opened
+unfoldable pub unopened_ending : PortError → Ending
+unopened_ending calls.Failed = write_fault
+unopened_ending calls.Memory = no_memory
+
+-- of a stream with these numbers
+unfoldable pub encoded_ending : Summary → Ending
+encoded_ending s = record {
+  status = 0;
+  texts = codes "frames " ∷ codes " pictures " ∷ codes " bytes " ∷ codes " stuffing " ∷ [];
+  numbers = s.frames ∷ s.pictures ∷ s.bytes ∷ s.stuffing ∷ [];
+}
+
+-- of each outcome
+unfoldable pub encode_ending : EncodeOutcome → Ending
+encode_ending (Coded s) = encoded_ending s
+encode_ending (NotFit u) = unfit_ending u
+encode_ending (Unopened e) = unopened_ending e
+encode_ending (Stopped e) = encoding_stopped e
+
+-- ---- answers
+
+-- the bytes of a frame
+abbrev pub frame_size : Meant → ℕ
+frame_size m = frame_bytes (dims_of m.settings)
+
+-- The status that `encode` gives by its words and the number of input's bytes: the first cause in the order settings,
+-- opening of recon, input. In its place may come 8 where the count of recon rose.
+pub data EncodeAnswer (r : Run) (m : Meant) (bytes : ℕ) : Type 0 where
+  unfit : (Passes m.settings → ⊥) → r.status ≡ 3 → EncodeAnswer r m bytes
+  ok : Passes m.settings → AreFrames (frame_size m) bytes → r.status ≡ 0 → EncodeAnswer r m bytes
+  unreported : Passes m.settings → AreFrames (frame_size m) bytes → r.report.Failed
+      → r.status ≡ 8 → EncodeAnswer r m bytes
+  short : Passes m.settings → EndInside (frame_size m) bytes → r.status ≡ 4
+      → EncodeAnswer r m bytes
+  none : Passes m.settings → bytes ≡ 0 → r.status ≡ 5 → EncodeAnswer r m bytes
+  many : Passes m.settings → most_frames * frame_size m < bytes → r.status ≡ 6
+      → EncodeAnswer r m bytes
+  recon : Passes m.settings → r.recon.Failed → r.status ≡ 8 → EncodeAnswer r m bytes
+
+-- What is answered to `encode`: settings that don't pass are refused, and nothing else is looked at; the status is the
+-- one that the settings and the input's bytes give; and whole frames with settings that pass are coded.
+pub record EncodeKeeps (m : Meant) (r : Run) : Type 0 where
+  pub unfit : (Passes m.settings → ⊥) → RefusedBy 3 r
+  pub answer : Tells r.input (λ bytes. Yields r (EncodeAnswer r m (length bytes)))
+  pub coded : Tells r.input (λ bytes. Passes m.settings → AreFrames (frame_size m) (length bytes)
+      → NoneFailed r → (r.recon.Failed → ⊥) → Succeeds r)
