@@ -1,0 +1,177 @@
+//! The encoder's workers, held at a gate: two rows of a picture are made beside each other, and a row of a picture before the
+//! last row of the picture that it refers to. A run on one thread, in whatever order, gives the gate up; and so does one whose
+//! workers come to the gate before or behind the work. What the gate was told is held against the slices in the output.
+#![tactic(auto)]
+
+mod gate;
+mod slices;
+
+ghost use Rattle.std.specs.Prelude.{IsFalse, is_some};
+
+use gate::Meeting;
+use m2v_port::{MemoryFile, MemorySink, MemorySource};
+use m2v_tool::run;
+use slices::slice_bits;
+use std::alloc::{AllocError, Global};
+use std::process::ExitCode;
+use std::sync::Wait;
+use std::thread::Threads;
+
+/// The words of an encoder with two workers, for pictures of one macroblock in a row; their height follows.
+const WORDS: [&str; 12] = [
+    "encode",
+    "--width",
+    "16",
+    "--rate",
+    "3",
+    "--bits",
+    "100",
+    "--buffer",
+    "1",
+    "--workers",
+    "2",
+    "--height",
+];
+
+/// A run that is held at a gate.
+struct Held {
+    name: &'static str,
+    height: &'static str,
+    lines: u32,
+    frames: u32,
+    /// The job that is held in front of its work until the other one is done, with its picture and its row from 1.
+    held: (u32, usize, u8),
+    other: (u32, usize, u8),
+    /// Whether the other one waits for it too.
+    meet: bool,
+}
+
+/// Two frames of four rows, and one of two. A picture's first job is its plan, and its slices follow from the top.
+const RUNS: [Held; 2] = [
+    Held {
+        name: "two rows of a picture are made beside each other",
+        height: "32",
+        lines: 32,
+        frames: 1,
+        held: (1, 0, 1),
+        other: (2, 0, 2),
+        meet: true,
+    },
+    Held {
+        name: "a row is made before the last row of the picture before",
+        height: "64",
+        lines: 64,
+        frames: 2,
+        held: (4, 0, 4),
+        other: (7, 1, 2),
+        meet: false,
+    },
+];
+
+/// The words of a run.
+fn words_of(alloc: Global, height: &str) -> Result<Vec<String>, AllocError> {
+    let mut words = Vec::new(alloc);
+    for word in WORDS.iter() {
+        words.push(String::from_str(alloc, word)?)?;
+    }
+    words.push(String::from_str(alloc, height)?)?;
+    Ok(words)
+}
+
+/// A frame of 16 columns: luma 7 c + 11 y modulo 256 in column c of line y, chroma 128.
+fn push_frame(input: &mut Vec<u8>, lines: u32) -> Result<(), AllocError> {
+    for y in 0..lines {
+        for c in 0..16u32 {
+            let luma = c.wrapping_mul(7).wrapping_add(y.wrapping_mul(11));
+            input.push((luma % 256) as u8)?;
+        }
+    }
+    for _ in 0..lines.wrapping_mul(8) {
+        input.push(128)?;
+    }
+    Ok(())
+}
+
+/// So many frames.
+fn frames_of(alloc: Global, lines: u32, frames: u32) -> Result<Vec<u8>, AllocError> {
+    let mut input = Vec::new(alloc);
+    for _ in 0..frames {
+        push_frame(&mut input, lines)?;
+    }
+    Ok(input)
+}
+
+/// The endpoints of a run.
+#[derive(Drop)]
+struct Endpoints {
+    input: MemorySource,
+    output: MemorySink,
+    recon: MemoryFile,
+    report: MemorySink,
+}
+
+/// Runs words, and gives the status.
+fn status_of<R: Threads + Wait + Sync>(
+    rt: &R,
+    alloc: Global,
+    words: &[String],
+    endpoints: &mut Endpoints,
+    gate: &Meeting,
+) -> u8
+    requires { IsFalse (is_some endpoints.old.recon.name) }
+{
+    let status = run(
+        rt,
+        alloc,
+        words,
+        &mut endpoints.input,
+        &mut endpoints.output,
+        &mut endpoints.recon,
+        &mut endpoints.report,
+        gate,
+    );
+    status.code
+}
+
+/// Whether the gate was told the bits of the two slices, and not given up.
+fn is_met(run: &Held, gate: &Meeting, stream: &[u8]) -> bool {
+    let held = slice_bits(stream, run.held.1, run.held.2);
+    let other = slice_bits(stream, run.other.1, run.other.2);
+    !gate.is_given_up()
+        && held > 0
+        && other > 0
+        && gate.held_told() == held
+        && gate.other_told() == other
+}
+
+/// Runs the encoder held at the gate: whether it made the other job's slice meanwhile.
+fn is_right<R: Threads + Wait + Sync>(
+    rt: &R,
+    alloc: Global,
+    run: &Held,
+) -> Result<bool, AllocError> {
+    let words = words_of(alloc, run.height)?;
+    let mut endpoints = Endpoints {
+        input: MemorySource::new(frames_of(alloc, run.lines, run.frames)?, Vec::new(alloc)),
+        output: MemorySink::new(alloc, Vec::new(alloc)),
+        recon: MemoryFile::new(alloc, Vec::new(alloc)),
+        report: MemorySink::new(alloc, Vec::new(alloc)),
+    };
+    let gate = Meeting::new(run.held.0, run.other.0, run.meet);
+    let status = status_of(rt, alloc, &words, &mut endpoints, &gate);
+    Ok(status == 0 && is_met(run, &gate, endpoints.output.held()))
+}
+
+fn main(rt: HostRuntime) -> anyhow::Result<ExitCode> {
+    let mut code = ExitCode::SUCCESS;
+    for run in RUNS.iter() {
+        let name = run.name;
+        if is_right(&rt, rt.alloc(), run)? {
+            println!(rt; "ok {name}")?;
+        } else {
+            println!(rt; "WRONG {name}")?;
+            code = ExitCode::FAILURE;
+        }
+    }
+    Ok(code)
+}
