@@ -232,6 +232,9 @@ def contents():
             ('noise in groups of three at a high rate', {**small, 'bits': 6000, 'buffer': 60, 'group': 3},
              noise(3456, 0, 1, 3, 2, 50, 51, 52, 90))):
         content(name, settings, frames)
+        # one group of each scan by one worker and by four
+        if name in ('noise that moves', 'noise in interlaced frames', 'noise in fields'):
+            content(name + ', by four workers', {**settings, 'workers': 4}, frames)
     stripes = {**small, 'bits': 2000, 'buffer': 16, 'step': 1}
     content('slanted stripes that move', stripes,
             ['= stripes from %d first 2304 1152*80' % place for place in (0, 2, 1, 4, 1)],

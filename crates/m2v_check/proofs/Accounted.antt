@@ -1,7 +1,7 @@
 -- What the account of a buffer says at the end, from what it says of one picture more.
 use Rattle.std.proofs.Common.{◌≡◌, ℕ, ◌+◌, ◌*◌, ◌≤◌, Bool, true, false, List, [], ◌∷◌, ◌++◌, Option, Some, None, Result, refl, sym, ap, subst, ◌∙◌, append_assoc, arith, inl, inr}
-use Rattle.std.specs.Prelude.{if◌then◌else◌}
-use Rattle.std.proofs.lemmas.Bool.{cases_Bool}
+use Rattle.std.specs.Prelude.{◌-◌, ◌<◌, nat_lt, min, is_some, if◌then◌else◌}
+use Rattle.std.proofs.lemmas.Bool.{cases_Bool, cases_lt, lt-ltb, ltb-true}
 use Rattle.std.proofs.lemmas.List.{append-nil, map-append}
 use Rattle.std.proofs.lemmas.List.Sums.{sum_by_push}
 use Rattle.m2v_vbv.specs.Annex.{Start, Removal, removed}
@@ -17,8 +17,9 @@ use Rattle.m2v_judge.specs.declared.buffer.BufferFigures.{BufferFigures}
 use Rattle.m2v_judge.specs.declared.coded.CodedPicture.{CodedPicture}
 use Rattle.m2v_judge.specs.declared.course.Next.{Next}
 use Rattle.m2v_judge.specs.declared.course.Course.{Course}
+use Rattle.m2v_judge.specs.declared.course.Full.{Full}
 use Rattle.m2v_judge.specs.Breaking.{first_some}
-use Rattle.m2v_judge.specs.Holding.{is_whole, course_after, course_under, removed_by, amount_by, over_by, with_more}
+use Rattle.m2v_judge.specs.Holding.{is_whole, course_after, course_under, removed_by, amount_by, full_with, over_by, is_over, with_more}
 use Rattle.m2v_judge.specs.Accounts.{removal_of, removals_of, fault_of, most_of, others_of, Ran}
 use Rattle.m2v_judge.specs.declared.amounts.Amounts.{Amounts}
 use Rattle.m2v_judge.specs.Judging.{most_noted, most_in, finished, last_of, buffer_ended, next_of, opening_of, times_of, GoesOn, Begins, HasMore}
@@ -38,7 +39,7 @@ Stopped start us c = (t : ℕ) → bits_of us ≤ t → (more : List Next) → f
 
 -- these pictures were removed, or one of them isn't whole
 abbrev pub RunBy : Start → List Next → Buffer → Option AccountFault → Type 0
-RunBy start us b None = Ran start us b.course × ((t : ℕ) → b.course.total ≤ t → most_in t b ≡ most_of start t us)
+RunBy start us b None = Ran start us b.course × (is_over b.course ≡ false → (t : ℕ) → b.course.total ≤ t → most_in t b ≡ most_of start t us)
 RunBy start us b (Some f) = Stopped start us b.course
 
 pub record HasRun (start : Start) (us : List Next) (b : Buffer) : Type 0 where
@@ -57,6 +58,28 @@ ran_same start ts c next total r = record {
   delays = r.delays;
 }
 
+-- ---- what is over stays so
+
+not_less : (a b : ℕ) → b ≤ a → nat_lt a b ≡ false
+not_less a b l = elim (cases_Bool (nat_lt a b)) [
+  | inl on ↦ let m = ltb-true a b on in absurd (omega arith)
+  | inr off ↦ off
+]
+
+over_less : (f : Option Full) (t u : ℕ) → t ≤ u → is_some (over_by f u) ≡ false → is_some (over_by f t) ≡ false
+over_less None t u le e = refl
+over_less (Some f) t u le e = elim (cases_lt (1800 * f.account.start.buffer_bits) (min f.account.held (1800 * (t - f.removed)))) [
+  | inl l ↦
+      let more : 1800 * f.account.start.buffer_bits < min f.account.held (1800 * (u - f.removed)) = omega (arith, l, le) in
+      let on : is_some (over_by (Some f) u) ≡ true = rw (lt-ltb _ _ more) refl in
+      absurd (let d : true ≡ false = sym on ∙ e in cc)
+  | inr m ↦ rw (not_less _ _ m) refl
+]
+
+over_stays : (f g : Option Full) (t u : ℕ) → t ≤ u → is_some (over_by (first_some f g) u) ≡ false → is_some (over_by f t) ≡ false
+over_stays None g t u le e = refl
+over_stays (Some f) g t u le e = over_less (Some f) t u le e
+
 -- ---- one picture more
 
 more_stops : (start : Start) (us : List Next) (n : Next) (c : Course) → Stopped start us c → Stopped start (us ++ n ∷ []) c
@@ -73,7 +96,7 @@ noted_by w c = if w then Some (record { held = c.account.held; removed = c.remov
 
 -- none wasn't whole before
 whole_by : (start : Start) (us : List Next) (b d : Buffer) (next : Next) (total : ℕ) (w : Bool) → is_whole b.course ≡ w → b.course.under ≡ None → RunBy start us b None → b.course.total ≡ bits_of us + b.course.next.bits
-    → b.course.total ≤ total → d.course ≡ record (gone_by w b.course) { next = next; total = total } → ((t : ℕ) → d.course.total ≤ t → most_in t d ≡ most_noted t (most_in t b) (noted_by w b.course)) → RunBy start (us ++ b.course.next ∷ []) d d.course.under
+    → b.course.total ≤ total → d.course ≡ record (gone_by w b.course) { next = next; total = total } → (is_over d.course ≡ false → (t : ℕ) → d.course.total ≤ t → most_in t d ≡ most_noted t (most_in t b) (noted_by w b.course)) → RunBy start (us ++ b.course.next ∷ []) d d.course.under
 whole_by start us b d next total true e none r bits more is most =
     let c = b.course in
     let ts = us ++ c.next ∷ [] in
@@ -82,9 +105,11 @@ whole_by start us b d next total true e none r bits more is most =
     let whole : d.course.total ≡ total = ap (λ (x : Course). x.total) is in
     subst (RunBy start ts d) (sym same) (
       subst (Ran start ts) (sym is) (ran_same start ts (course_after c) next total (law.whole e)),
-      λ t le.
+      λ bears t le.
           let enough : c.total ≤ t = omega (arith, whole, more, le) in
-          most t le ∙ sym (law.most t (omega (arith, enough, bits)) (most_in t b) (r.1 t enough)),
+          let full : is_some (over_by (full_with c) total) ≡ false = sym (ap is_over is) ∙ bears in
+          let before = over_stays c.full _ c.total total more full in
+          most bears t le ∙ sym (law.most t (omega (arith, enough, bits)) (most_in t b) (r.1 before t enough)),
     )
 whole_by start us b d next total false e none r bits more is most =
     let c = b.course in
@@ -95,7 +120,7 @@ whole_by start us b d next total false e none r bits more is most =
     subst (RunBy start ts d) (sym under) (subst (Stopped start ts) (sym is) stopped)
 
 run_on : (start : Start) (us : List Next) (b d : Buffer) (next : Next) (total : ℕ) (o : Option AccountFault) → b.course.under ≡ o → RunBy start us b o → b.course.total ≡ bits_of us + b.course.next.bits
-    → b.course.total ≤ total → d.course ≡ record (removed_by o b.course) { next = next; total = total } → ((t : ℕ) → d.course.total ≤ t → most_in t d ≡ most_noted t (most_in t b) (amount_by o b.course)) → RunBy start (us ++ b.course.next ∷ []) d d.course.under
+    → b.course.total ≤ total → d.course ≡ record (removed_by o b.course) { next = next; total = total } → (is_over d.course ≡ false → (t : ℕ) → d.course.total ≤ t → most_in t d ≡ most_noted t (most_in t b) (amount_by o b.course)) → RunBy start (us ++ b.course.next ∷ []) d d.course.under
 run_on start us b d next total (Some f) e r bits more is most =
     let c = b.course in
     let ts = us ++ c.next ∷ [] in
@@ -123,7 +148,9 @@ run_more start us b d bits None r is same =
     let c = b.course in
     let whole : d.course.total ≡ c.total + bits = ap (λ (x : Course). x.total) is in (
       subst (Ran start us) (sym is) (ran_same start us c (record c.next { bits = c.next.bits + bits }) (c.total + bits) r.0),
-      λ t le. ap (λ (a : Amounts). most_with t a.most a.waiting.items) same ∙ r.1 t (omega (arith, whole, le)),
+      λ bears t le.
+          let before = over_less c.full c.total (c.total + bits) (omega arith) (sym (ap is_over is) ∙ bears) in
+          ap (λ (a : Amounts). most_with t a.most a.waiting.items) same ∙ r.1 before t (omega (arith, whole, le)),
     )
 
 pub runs_more : (start : Start) (us : List Next) (b d : Buffer) (bits : ℕ) → HasRun start us b → HasMore b bits d → HasRun start us d
@@ -158,7 +185,7 @@ runs_begins first p bits code b g =
       delays = refl;
     } in
     record {
-      run = subst (RunBy start [] b) (sym under) (subst (Ran start []) (sym g.course) ran, λ t le. g.most t);
+      run = subst (RunBy start [] b) (sym under) (subst (Ran start []) (sym g.course) ran, λ bears t le. g.most t);
       total = omega (arith, total, next);
     }
 
@@ -187,9 +214,13 @@ end_whole start us b true e none r bits =
     let ran = law.whole e in
     let all : bits_of ts ≤ c.total = omega (arith, bits_push us c.next, bits) in
     let fault = sym (ran.fault c.total all) in
-    let most = sym (law.most c.total (omega (arith, bits)) (most_in c.total b) (r.1 c.total (omega arith))) in
-    let delays = ran.delays in
-    λ i. finished (fault i) (none i) (most i) (delays i)
+    let most = λ bears. sym (law.most c.total (omega (arith, bits)) (most_in c.total b) (r.1 (over_stays c.full _ c.total c.total (omega arith) bears) c.total (omega arith))) in
+    by_over (over_by (full_with c) c.total) (fault_of start c.total ts) c.under (most_noted c.total (most_in c.total b) (noted_by true c)) (most_of start c.total ts)
+    (delays_with c) (others_of start ts) fault none most ran.delays
+  where
+    by_over : (o p u : Option AccountFault) (m n k l : ℕ) → o ≡ p → u ≡ None → (is_some o ≡ false → m ≡ n) → k ≡ l → finished o u m k ≡ figures_by p n l
+    by_over (Some f) p u m n k l e un same ek = ap (λ (x : Option AccountFault). figures_by x n l) e
+    by_over None p u m n k l e un same ek = let held = same refl in λ i. finished (e i) (un i) (held i) (ek i)
 end_whole start us b false e none r bits =
     let c = b.course in
     let ts = us ++ c.next ∷ [] in

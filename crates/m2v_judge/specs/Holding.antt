@@ -1,5 +1,5 @@
 -- The account as it runs, picture by picture.
-use Rattle.std.specs.Prelude.{◌≡◌, ℕ, ◌+◌, ◌-◌, ◌*◌, ◌/◌, ◌<◌, ◌≤◌, ◌^◌, max, min, Bool, not, ◌&&◌, ◌||◌, nat_eq, nat_le, nat_lt, if◌then◌else◌, List, [], ◌∷◌, Option, Some, None}
+use Rattle.std.specs.Prelude.{◌≡◌, ℕ, ◌+◌, ◌-◌, ◌*◌, ◌/◌, ◌<◌, ◌≤◌, ◌^◌, max, min, Bool, not, ◌&&◌, ◌||◌, nat_eq, nat_le, nat_lt, is_some, if◌then◌else◌, List, [], ◌∷◌, Option, Some, None}
 use Rattle.m2v_vbv.specs.Account.{State, after, arriving}
 use Rattle.m2v_vbv.specs.declared.fault.AccountFault.{AccountFault}
 use Rattle.m2v_vbv.specs.declared.fault.AccountFault.TheVariants.{Under, Over}
@@ -102,6 +102,10 @@ over_by None total = None
 over_by (Some f) total =
     let have = min f.account.held (1800 * (total - f.removed)) in
     if nat_lt (1800 * f.account.start.buffer_bits) have then Some (Over f.account.removals have (1800 * f.account.start.buffer_bits)) else None
+
+-- the account fails by what is held, however long the stream is
+abbrev pub is_over : Course → Bool
+is_over c = is_some (over_by c.full c.total)
 
 -- ---- times
 

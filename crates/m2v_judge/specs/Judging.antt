@@ -21,7 +21,7 @@ use Rattle.m2v_judge.specs.declared.judge.Judgement.{Judgement}
 use Rattle.m2v_judge.specs.declared.judge.Judgement.TheVariants as judgements
 use Rattle.m2v_model.specs.Lawful.{rate_of, buffer_of, sequence_breaches}
 use Rattle.m2v_judge.specs.Breaking.{numbered_of, found}
-use Rattle.m2v_judge.specs.Holding.{stepped, with_more, repeats_behind, cut_at, most_with, amount_by, removed_by, over_by, time_behind}
+use Rattle.m2v_judge.specs.Holding.{stepped, with_more, repeats_behind, cut_at, most_with, amount_by, removed_by, over_by, is_over, time_behind}
 use Rattle.m2v_judge.specs.Running.{with_sequence, with_group, with_picture, coded_next}
 
 -- a picture whose start code ends within its piece, and not before the piece could have one; its vbv_delay has 16 bits
@@ -121,11 +121,11 @@ judgement_of None constant buffer = if constant then said_of buffer else judgeme
 
 -- ---- piece by piece
 
--- a piece with a picture came: the account goes on with it
+-- a piece with a picture came: the account goes on with it; what is held is kept as long as the account may bear it
 pub record GoesOn (old : Buffer) (p : CodedPicture) (bits code : ℕ) (new : Buffer) : Type 0 where
   pub course : new.course ≡ stepped old.course (next_of old.times p bits code)
   pub times : new.times ≡ record old.times { repeats = repeats_behind old.times (numbered_of p) }
-  pub most : (t : ℕ) → new.course.total ≤ t → most_in t new ≡ most_noted t (most_in t old) (amount_by old.course.under old.course)
+  pub most : is_over new.course ≡ false → (t : ℕ) → new.course.total ≤ t → most_in t new ≡ most_noted t (most_in t old) (amount_by old.course.under old.course)
 
 -- the account begins, with the numbers of the first sequence header
 pub record Begins (first : Sequence) (p : CodedPicture) (bits code : ℕ) (new : Buffer) : Type 0 where

@@ -1,7 +1,7 @@
 // How the account goes on, piece by piece.
 ghost use Rattle.std.specs.Prelude.{◌≡◌, ◌+◌, ◌*◌, ◌<◌, ◌≤◌, ◌^◌};
-ghost use Rattle.std.specs.Prelude.{ℕ, OnOk, IfOk};
-ghost use Rattle.m2v_judge.specs.Holding.{amount_by, stepped, repeats_behind, with_more};
+ghost use Rattle.std.specs.Prelude.{ℕ, OnOk, IfOk, false};
+ghost use Rattle.m2v_judge.specs.Holding.{amount_by, is_over, stepped, repeats_behind, with_more};
 ghost use Rattle.m2v_judge.specs.Breaking.{numbered_of};
 ghost use Rattle.m2v_judge.specs.Judging.{next_of, opening_of, most_noted, most_in, buffer_ended};
 
@@ -68,7 +68,8 @@ impl Buffer {
         ensures total { self.new.course.total ≡ self.old.course.total + bits }
         ensures course { self.new.course ≡ stepped self.old.course (next_of self.old.times p.now bits code) }
         ensures times { self.new.times ≡ record self.old.times { repeats = repeats_behind self.old.times (numbered_of p.now) } }
-        ensures most { OnOk result ((t : ℕ) → self.new.course.total ≤ t → most_in t self.new
+        ensures most { OnOk result (is_over self.new.course ≡ false
+            → (t : ℕ) → self.new.course.total ≤ t → most_in t self.new
             ≡ most_noted t (most_in t self.old) (amount_by self.old.course.under self.old.course)) }
     {
         let units = self.times.next(p);
@@ -79,9 +80,15 @@ impl Buffer {
             delay: u64::from(p.note.info.vbv_delay),
         };
         let amount = self.course.step(&next);
-        self.note(amount)?;
-        self.amounts.settle(self.course.total);
-        Ok(())
+        match self.course.over() {
+            // the account fails, whatever follows: no figure will be asked for
+            Some(_) => Ok(()),
+            None => {
+                self.note(amount)?;
+                self.amounts.settle(self.course.total);
+                Ok(())
+            }
+        }
     }
 
     /// Notes what was held when a picture was removed.
