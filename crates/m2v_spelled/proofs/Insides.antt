@@ -4,7 +4,7 @@ use Rattle.std.specs.Prelude.{nat_eq, nat_abs, ◌+ℤ◌, if◌then◌else◌}
 use Rattle.std.specs.List.{list_all, range_with_len}
 use Rattle.std.proofs.lemmas.Int.{ints}
 use Rattle.std.proofs.lemmas.Nat.{div-mul-add, mod-mul-add}
-use Rattle.std.proofs.lemmas.Bool.{and_from}
+use Rattle.std.proofs.lemmas.Bool.{and_from, ne_eqb}
 use Rattle.m2v_plane.specs.declared.dims.Dims.{Dims}
 use Rattle.m2v_pred.specs.declared.mode.Mode.{Mode}
 use Rattle.m2v_pred.specs.declared.mode.MbPlace.{MbPlace}
@@ -81,4 +81,4 @@ module _ (c : PictureContext) (st : SliceState) (m : MacroSyntax) (row column sk
     where
       none_or : (n : ℕ) → n ≤ skipped → (nat_eq n 0 || is_decoded s.references c.extension.structure (skipped_mode c st)) ≡ true
       none_or zero le = refl
-      none_or (suc n) le = before (omega (arith, le))
+      none_or (suc n) le = ap (λ (b : Bool). b || is_decoded s.references c.extension.structure (skipped_mode c st)) (ne_eqb (suc n) 0 (λ e. omega (arith, e))) ∙ before (omega (arith, le))

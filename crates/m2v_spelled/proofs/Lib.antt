@@ -1,3 +1,4 @@
 pub mod Levels
 pub mod Decoded
 pub mod Insides
+pub mod Macroblocks
