@@ -1,1 +1,1 @@
-use Rattle.m2v_spelled.proofs.Macroblocks.{written_spells}
+use Rattle.m2v_spelled.proofs.Slices.{Slices_none}
