@@ -4,3 +4,7 @@ pub mod Insides
 pub mod Macroblocks
 pub mod Rounds
 pub mod Slices
+pub mod CalmSyntax
+pub mod CalmBlocks
+pub mod CalmMacros
+pub mod CalmSlices

@@ -179,7 +179,7 @@ module _ (t : SliceTask) (slice : IsSlice t) (references : List Bool) (decoded :
   so_far zero le = so_far_none
   so_far (suc n) le = so_far_more n (omega (arith, le)) (so_far n (omega (arith, le)))
 
-  rounds_stand : (columns z : ℕ) → columns ≡ t.context.columns
+  pub rounds_stand : (columns z : ℕ) → columns ≡ t.context.columns
       → Rounds (macroblock_round (setup_of t references)) (row_at t row 0) (row_at t row columns) ((begun t row columns).text ++ replicate z false) (replicate z false)
   rounds_stand zero z e = absurd (omega (arith, e, slice.own.columns.0))
   rounds_stand (suc n) z e = all_stand n (omega (arith, e)) (so_far n (omega (arith, e))) (last_written t slice row n e) z
