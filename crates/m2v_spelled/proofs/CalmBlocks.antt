@@ -1,10 +1,9 @@
 -- Blocks have no long run of zeros.
-use Rattle.std.proofs.Common.{◌≡◌, ℕ, zero, suc, ◌+◌, ◌<◌, ◌≤◌, Bool, true, false, cond, List, [], ◌∷◌, ◌++◌, refl, arith, ℤ, pos}
-use Rattle.std.specs.Prelude.{nat_eq, nat_le, nat_lt, not, ◌&&◌, ◌+ℤ◌, length}
+use Rattle.std.proofs.Common.{◌≡◌, ℕ, zero, suc, ◌+◌, ◌<◌, Bool, true, false, cond, refl, arith, ℤ, pos}
+use Rattle.std.specs.Prelude.{nat_eq, nat_le, nat_lt, ◌&&◌, ◌+ℤ◌, length}
 use Rattle.std.specs.List.{list_all}
-use Rattle.std.proofs.lemmas.Bool.{and_parts, leb-true, eqb-false}
+use Rattle.std.proofs.lemmas.Bool.{leb-true}
 use Rattle.m2v_bits.specs.Bits.{bits_of}
-use Rattle.m2v_bits.specs.Syntax.{done}
 use Rattle.m2v_vlc.specs.declared.values.CodeFault.TheVariants as codes
 use Rattle.m2v_vlc.specs.declared.values.Coefficient.{Coefficient}
 use Rattle.m2v_vlc.specs.declared.values.Coefficient.TheVariants.{End, Escape, Pair}
@@ -14,7 +13,7 @@ use Rattle.m2v_quant.specs.declared.kind.BlockKind.{BlockKind}
 use Rattle.m2v_block.specs.declared.fault.BlockFault.TheVariants.{Overrun, ForbiddenLevel, DcRange}
 use Rattle.m2v_block.specs.Faults.{of_code, cut}
 use Rattle.m2v_block.specs.Blocks.{Scan, difference, is_dc, size_at, dc_at, placed, escaped, is_allowed, coefficient_at, code_from, pair_at, pairs_at, opened, first_at, block_at}
-use Rattle.m2v_spelled.proofs.CalmSyntax.{Calmly, Any, calmly_to, done_calm, here_calm, rule_calm, seq_calm, choose_calm, renamed_calm, bits_calm, number_calm, repeated_calm, is_calm, row_calm, code_calm}
+use Rattle.m2v_spelled.proofs.CalmSyntax.{Calmly, Any, done_calm, here_calm, rule_calm, seq_calm, choose_calm, renamed_calm, bits_calm, number_calm, repeated_calm, is_calm, row_calm, code_calm}
 
 -- ---- the DC level
 

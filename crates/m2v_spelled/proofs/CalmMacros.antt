@@ -1,8 +1,8 @@
 -- Macroblocks whose vectors have f_codes of at most 2 have no long run of zeros.
-use Rattle.std.proofs.Common.{◌≡◌, ℕ, zero, suc, ◌+◌, ◌-◌, ◌<◌, ◌≤◌, Bool, true, false, cond, inl, inr, List, [], ◌∷◌, ◌++◌, refl, sym, ap, ◌∙◌, arith, ℤ, pos}
-use Rattle.std.specs.Prelude.{nat_eq, nat_lt, not, ◌&&◌, ◌||◌, length, replicate, slice_index, slice_index_or, if◌then◌else◌}
+use Rattle.std.proofs.Common.{◌≡◌, ℕ, zero, suc, ◌+◌, ◌-◌, ◌<◌, ◌≤◌, Bool, true, false, cond, List, refl, arith, ℤ, pos}
+use Rattle.std.specs.Prelude.{nat_eq, not, ◌||◌, length, slice_index, slice_index_or}
 use Rattle.std.specs.List.{list_all}
-use Rattle.std.proofs.lemmas.Bool.{and_parts, eqb-true, eqb-false, cases_Bool}
+use Rattle.std.proofs.lemmas.Bool.{eqb-true, eqb-false}
 use Rattle.m2v_bits.specs.Bits.{bits_of}
 use Rattle.m2v_bits.specs.Syntax.{done}
 use Rattle.m2v_bits.specs.Elements as elements
@@ -15,18 +15,14 @@ use Rattle.m2v_vlc.specs.Values.{has_type_i, has_type_p, has_type_b}
 use Rattle.m2v_vector.specs.declared.predictors.Pmv.{Pmv}
 use Rattle.m2v_vector.specs.Vectors.{scale, half, joined}
 use Rattle.m2v_vector.specs.Predictors.{pair_of}
-use Rattle.m2v_macro.specs.declared.fault.MacroFault.{MacroFault}
 use Rattle.m2v_macro.specs.declared.fault.MacroFault.TheVariants.{SliceOrder, MissingMacroblocks, SkipRule, QuantZero, PatternZero, BadMotionType, VectorRange, Marker}
-use Rattle.m2v_macro.specs.declared.values.MacroSyntax.{MacroSyntax}
 use Rattle.m2v_macro.specs.declared.values.SliceState.{SliceState}
 use Rattle.m2v_macro.specs.declared.values.PictureContext.{PictureContext}
 use Rattle.m2v_macro.specs.declared.values.Shape.{Shape}
-use Rattle.m2v_macro.specs.declared.values.Selected.{Selected}
-use Rattle.m2v_macro.specs.declared.values.Direction.{Direction}
 use Rattle.m2v_macro.specs.Faults.{of_code, cut, flag_at, look_at, ahead_at}
 use Rattle.m2v_macro.specs.States.{is_field, not_past, in_order, may_skip, pmv_before}
 use Rattle.m2v_macro.specs.Vectors.{shape_of, has_residual, component_at, dm_at, is_half_vector, vertical_at, vector_at, selected_at, no_vector, vectors_at, direction_at}
-use Rattle.m2v_macro.specs.Macros.{added, round_at, increment_from, allowed_at, step_at, kind_at, has_form, is_form, no_form, told_form_at, form_at, has_dct, dct_at, told_quantiser_at, quantiser_at, is_concealed, f_codes_of, told_marker_at, marker_at, zero_pattern, told_pattern_at, pattern_at, directions_at, macro_at}
+use Rattle.m2v_macro.specs.Macros.{added, round_at, increment_from, allowed_at, step_at, kind_at, has_form, is_form, no_form, told_form_at, form_at, has_dct, dct_at, told_quantiser_at, quantiser_at, is_concealed, f_codes_of, told_marker_at, marker_at, told_pattern_at, pattern_at, directions_at, macro_at}
 use Rattle.m2v_macro.specs.Conditions.{has_type, is_used}
 use Rattle.m2v_macro.proofs.Types.{in_i, in_p, in_b}
 use Rattle.m2v_macro.proofs.Ready.{used_forward, used_backward}

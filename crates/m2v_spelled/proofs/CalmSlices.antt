@@ -1,20 +1,17 @@
 -- No start code stands inside a slice of the encoder.
-use Rattle.std.proofs.Common.{◌≡◌, ℕ, zero, suc, ◌+◌, ◌-◌, ◌*◌, ◌<◌, ◌≤◌, Bool, true, false, cond, not, ◌||◌, inl, inr, List, [], ◌∷◌, ◌++◌, length, refl, sym, ap, subst, ◌∙◌, arith, append-nil, ℤ, pos}
-use Rattle.std.specs.Prelude.{nat_eq, nat_lt, replicate, slice_index}
+use Rattle.std.proofs.Common.{◌≡◌, ℕ, zero, suc, ◌+◌, ◌≤◌, Bool, true, false, cond, not, inl, inr, List, [], ◌∷◌, ◌++◌, length, refl, sym, ap, subst, ◌∙◌, arith, append-nil, ℤ, pos}
+use Rattle.std.specs.Prelude.{nat_lt, replicate, slice_index}
 use Rattle.std.proofs.lemmas.Bool.{cases_lt}
-use Rattle.m2v_bits.specs.Bits.{all_zero}
-use Rattle.m2v_bits.specs.Syntax.{done, Rounds}
 use Rattle.m2v_head.specs.Texts.{slice_text}
 use Rattle.m2v_plane.specs.Samples.{blank}
-use Rattle.m2v_block.specs.Blocks.{block_at}
 use Rattle.m2v_macro.specs.declared.values.MacroSyntax.{MacroSyntax}
 use Rattle.m2v_macro.specs.declared.values.SliceState.{SliceState}
 use Rattle.m2v_macro.specs.declared.values.PictureContext.{PictureContext}
 use Rattle.m2v_macro.specs.States.{after}
-use Rattle.m2v_macro.specs.Macros.{f_codes_of, macro_at}
+use Rattle.m2v_macro.specs.Macros.{f_codes_of}
 use Rattle.m2v_macro.specs.Conditions.{is_used}
 use Rattle.m2v_recon.specs.Macro.{is_coded}
-use Rattle.m2v_macroblock.specs.Macroblocks.{Macroblock, kind_for, predictor}
+use Rattle.m2v_macroblock.specs.Macroblocks.{kind_for, predictor}
 use Rattle.m2v_choose.specs.Own.{IsOwn}
 use Rattle.m2v_row.specs.Slices.{SliceTask, begun, slice_info}
 use Rattle.m2v_row.specs.Laws.{IsSlice}
@@ -25,9 +22,9 @@ use Rattle.m2v_model.specs.Faults.{of_block, of_macro}
 use Rattle.m2v_model.specs.Modes.{all_inside, references_decoded}
 use Rattle.m2v_model.specs.Slices.{Row, block_in, blocks_from, macroblock_at, macroblock_round}
 use Rattle.m2v_chain.specs.Texts.{Calm, IsCalm}
-use Rattle.m2v_chain.proofs.Calm.{calm_more, calm_less, calm_then, calm_any, calm_end}
+use Rattle.m2v_chain.proofs.Calm.{calm_less, calm_then, calm_any, calm_end}
 use Rattle.m2v_spelled.specs.Slices.{AreDecoded, setup_of, slice_body}
-use Rattle.m2v_spelled.proofs.CalmSyntax.{Front, Calmly, Any, calmly_to, done_calm, here_calm, zero_calm, rule_calm, seq_calm, choose_calm, renamed_calm, rounds_front}
+use Rattle.m2v_spelled.proofs.CalmSyntax.{Calmly, Any, calmly_to, done_calm, here_calm, zero_calm, rule_calm, seq_calm, choose_calm, renamed_calm, rounds_front}
 use Rattle.m2v_spelled.proofs.CalmBlocks.{block_calm}
 use Rattle.m2v_spelled.proofs.CalmMacros.{AreShort, HasShort, macro_calm}
 use Rattle.m2v_spelled.proofs.Slices.{rounds_stand}

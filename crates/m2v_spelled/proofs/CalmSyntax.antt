@@ -1,5 +1,5 @@
 -- Whatever stands by a syntax takes a text without a long run of zeros.
-use Rattle.std.proofs.Common.{◌≡◌, ℕ, zero, suc, ◌+◌, ◌^◌, ◌<◌, ◌≤◌, Bool, true, false, cond, inl, inr, List, [], ◌∷◌, ◌++◌, length, refl, sym, ap, ◌∙◌, subst, arith, append_assoc}
+use Rattle.std.proofs.Common.{◌≡◌, ℕ, zero, suc, ◌+◌, ◌<◌, ◌≤◌, Bool, true, false, cond, inl, inr, List, [], ◌∷◌, ◌++◌, sym, ap, ◌∙◌, subst, arith, append_assoc}
 use Rattle.std.specs.Prelude.{◌&&◌}
 use Rattle.std.specs.List.{list_all}
 use Rattle.std.proofs.lemmas.Bool.{and_parts, leb-true}
@@ -156,8 +156,7 @@ unfolding code_at
 code_calm {V = V} cut none table k m test e = record {
   stands = λ v t rest h.
       let r = h.0 in
-      let both = and_parts (test r.value) (is_calm k (code r) (m r.value)) (passes (row_calm k m test) table r e h.1) in
-      (
+      let both = and_parts (test r.value) (is_calm k (code r) (m r.value)) (passes (row_calm k m test) table r e h.1) in (
         subst (λ (x : V). test x ≡ true) h.2 both.0,
         record { text = code r; is = h.3; calm = subst (λ (x : V). Calm k (code r) (m x)) h.2 (calm_by (code r) k (m r.value) both.1) },
       );

@@ -1,6 +1,6 @@
 -- What macroblocks are predicted from was decoded, where the picture's references were.
-use Rattle.std.proofs.Common.{◌≡◌, ◌≢◌, ℕ, ◌+◌, ◌<◌, ◌≤◌, Bool, true, false, ◌&&◌, ◌||◌, not, List, ◌⊎◌, inl, inr, refl, sym, ap, ◌∙◌, subst, arith}
-use Rattle.std.specs.Prelude.{nat_eq, slice_index_or, if◌then◌else◌}
+use Rattle.std.proofs.Common.{◌≡◌, ◌≢◌, ℕ, ◌≤◌, Bool, true, false, ◌||◌, not, List, ◌⊎◌, inl, inr, refl, ap, ◌∙◌, arith}
+use Rattle.std.specs.Prelude.{nat_eq, slice_index_or}
 use Rattle.std.proofs.lemmas.Bool.{cases_lt, and_from}
 use Rattle.m2v_vlc.specs.declared.values.MbType.{MbType}
 use Rattle.m2v_plane.specs.declared.planes.Lines.{Lines}
@@ -13,7 +13,7 @@ use Rattle.m2v_macro.specs.Conditions.{has_type}
 use Rattle.m2v_pred.specs.declared.mode.Mode.{Mode}
 use Rattle.m2v_pred.specs.Motion.{is_dual, parts_of, lines_read, other_field, own_field}
 use Rattle.m2v_pred.specs.Patches.{part_count}
-use Rattle.m2v_macroblock.specs.Modes.{mode_of, told_mode, without_motion_type, zero_motion, skipped_mode}
+use Rattle.m2v_macroblock.specs.Modes.{mode_of, told_mode, without_motion_type, skipped_mode}
 use Rattle.m2v_model.specs.Modes.{part_decoded, direction_decoded, is_decoded}
 use Rattle.m2v_spelled.specs.Slices.{AreDecoded}
 

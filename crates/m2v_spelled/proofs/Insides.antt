@@ -1,12 +1,10 @@
 -- What a macroblock, and those that are skipped before it, are predicted from lies inside the references.
-use Rattle.std.proofs.Common.{◌≡◌, ℕ, zero, suc, ◌+◌, ◌-◌, ◌*◌, ◌/◌, ◌%◌, ◌<◌, ◌≤◌, Bool, true, false, ◌&&◌, ◌||◌, not, refl, sym, ap, ◌∙◌, subst, arith, ℤ, pos, ◌-ℤ◌}
-use Rattle.std.specs.Prelude.{nat_eq, nat_abs, ◌+ℤ◌, if◌then◌else◌}
+use Rattle.std.proofs.Common.{◌≡◌, ℕ, zero, suc, ◌+◌, ◌-◌, ◌*◌, ◌/◌, ◌%◌, ◌<◌, ◌≤◌, Bool, true, false, ◌&&◌, ◌||◌, not, refl, sym, ap, ◌∙◌, subst, arith, pos, ◌-ℤ◌}
+use Rattle.std.specs.Prelude.{nat_eq, if◌then◌else◌}
 use Rattle.std.specs.List.{list_all, range_with_len}
 use Rattle.std.proofs.lemmas.Int.{ints}
 use Rattle.std.proofs.lemmas.Nat.{div-mul-add, mod-mul-add}
 use Rattle.std.proofs.lemmas.Bool.{and_from, ne_eqb}
-use Rattle.m2v_plane.specs.declared.dims.Dims.{Dims}
-use Rattle.m2v_pred.specs.declared.mode.Mode.{Mode}
 use Rattle.m2v_pred.specs.declared.mode.MbPlace.{MbPlace}
 use Rattle.m2v_pred.specs.Inside.{is_inside}
 use Rattle.m2v_macro.specs.declared.values.MacroSyntax.{MacroSyntax}
@@ -32,7 +30,7 @@ place_is c row column at lt e =
     λ i. spot c (r i) (k i)
 
 -- a macroblock of a column, before which so many are skipped
-pub record Stands (c : PictureContext) (st : SliceState) (m : MacroSyntax) (row column skipped : ℕ) : Type 0 where
+pub record StandsAt (c : PictureContext) (st : SliceState) (m : MacroSyntax) (row column skipped : ℕ) : Type 0 where
   pub small : column < c.columns
   pub few : skipped ≤ column
   pub address : st.address ≡ pos (row * c.columns + column) -ℤ pos (skipped + 1)
@@ -47,7 +45,7 @@ skipped_most false increment skipped e = later (not (nat_eq increment 1))
     later true = omega (arith, e)
     later false = omega arith
 
-module _ (c : PictureContext) (st : SliceState) (m : MacroSyntax) (row column skipped : ℕ) (h : Stands c st m row column skipped) where
+module _ (c : PictureContext) (st : SliceState) (m : MacroSyntax) (row column skipped : ℕ) (h : StandsAt c st m row column skipped) where
   pub skipped_few : skipped_before st m ≤ skipped
   unfolding skips
   skipped_few = skipped_most st.first m.increment skipped h.increment

@@ -4,7 +4,7 @@ use Rattle.std.specs.Prelude.{nat_eq, nat_lt, slice_index_or, unsigned_abs}
 use Rattle.std.specs.List.{range_with_len, flat_map, list_all}
 use Rattle.std.proofs.lemmas.Int.{ints}
 use Rattle.std.proofs.lemmas.Bool.{and_parts, eqb-true, eqb-false}
-use Rattle.std.proofs.lemmas.List.{length-map, length-replicate}
+use Rattle.std.proofs.lemmas.List.{length-map}
 use Rattle.std.proofs.lemmas.List.FromFn.{get_or-map-range_with_len}
 use Rattle.std.proofs.lemmas.List.Elements.{All-nil, All-cons, All-append, All-map, All-filter}
 use Rattle.m2v_quant.specs.declared.kind.BlockKind.{BlockKind}
@@ -13,7 +13,7 @@ use Rattle.m2v_idct.specs.Forward.{forward_of}
 use Rattle.m2v_macro.specs.declared.values.MacroSyntax.{MacroSyntax}
 use Rattle.m2v_macro.specs.States.{after}
 use Rattle.m2v_recon.specs.Macro.{is_coded}
-use Rattle.m2v_macroblock.specs.Macroblocks.{Macroblock, kind_for, block_levels}
+use Rattle.m2v_macroblock.specs.Macroblocks.{kind_for, block_levels}
 use Rattle.m2v_macroblock.specs.Conditions.{AreLevels}
 use Rattle.m2v_search.proofs.Products.{least_in}
 use Rattle.m2v_search.proofs.Reached.{flat_all}
@@ -21,12 +21,9 @@ use Rattle.m2v_choose.specs.Decisions.{Decision, Candidate, Prediction, Coding, 
 use Rattle.m2v_choose.specs.Candidates.{held_intra, held_levels, hold, still_prediction, may_skip, codings, predictions, intra_by, uncoded_by, coded_by, has_block, samples_by, by_prediction, others}
 use Rattle.m2v_choose.specs.Choice.{score, fits, choice_of}
 use Rattle.m2v_choose.specs.Trials.{is_empty}
+use Rattle.m2v_choose.proofs.Chosen.{either}
 
--- ---- one of two, and what holds of all
-
-pub either : {A : Type 0} (P : A → Type 0) (b : Bool) (x y : A) → P x → P y → P (cond b x y)
-either P true x y p q = p
-either P false x y p q = q
+-- ---- what holds of all
 
 all_of : {X : Type 0} (P : X → Type 0) → ((x : X) → P x) → (xs : List X) → All P xs
 all_of P h [] = All-nil P
@@ -104,7 +101,7 @@ zeros_are (z ∷ ls) e =
     let rest = zeros_are ls h.1 in
     λ i. here i ∷ rest i
 
-pub uncoded_zeros : (ls : List (List ℤ)) (b : ℕ) → b < 6 → length (block_levels ls b) ≡ 64 → is_coded (pattern_of ls) b ≡ false → block_levels ls b ≡ replicate 64 (pos 0)
+uncoded_zeros : (ls : List (List ℤ)) (b : ℕ) → b < 6 → length (block_levels ls b) ≡ 64 → is_coded (pattern_of ls) b ≡ false → block_levels ls b ≡ replicate 64 (pos 0)
 unfolding empty
 uncoded_zeros ls b lt whole e = zeros_are (block_levels ls b) (uncoded_empty ls b lt e) ∙ ap (λ (n : ℕ). replicate n (pos 0)) whole
 

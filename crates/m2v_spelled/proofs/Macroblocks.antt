@@ -1,7 +1,5 @@
 -- A macroblock that is written is read again, with those that are skipped before it.
-use Rattle.std.proofs.Common.{◌≡◌, ℕ, zero, suc, ◌+◌, ◌-◌, ◌*◌, ◌<◌, ◌≤◌, ◌^◌, Bool, true, false, All, ◌⊎◌, inl, inr, List, length, replicate, refl, sym, ap, ◌∙◌, subst, arith, pos, ◌-ℤ◌}
-use Rattle.std.specs.Prelude.{if◌then◌else◌}
-use Rattle.std.proofs.lemmas.Int.{ints}
+use Rattle.std.proofs.Common.{◌≡◌, ℕ, suc, ◌+◌, ◌<◌, ◌≤◌, Bool, true, false, All, ◌⊎◌, inl, inr, List, refl, sym, ap, ◌∙◌, subst, arith}
 use Rattle.std.proofs.lemmas.Bool.{cases_lt}
 use Rattle.std.proofs.lemmas.List.Elements.{All-replicate}
 use Rattle.m2v_bits.specs.Syntax.{Spells}
@@ -11,16 +9,16 @@ use Rattle.m2v_plane.specs.Samples.{Samples}
 use Rattle.m2v_pred.specs.Inside.{is_inside}
 use Rattle.m2v_macro.specs.declared.values.SliceState.{SliceState}
 use Rattle.m2v_macro.specs.declared.values.PictureContext.{PictureContext}
-use Rattle.m2v_macroblock.specs.Conditions.{IsPicture, IsMatrix, AreDc}
+use Rattle.m2v_macroblock.specs.Conditions.{IsPicture, AreDc}
 use Rattle.m2v_macroblock.specs.Modes.{skipped_mode, mode_of}
 use Rattle.m2v_macroblock.specs.Texts.{macroblock_text}
-use Rattle.m2v_choose.specs.Decisions.{Decision, Candidate, increment_of, place_of}
+use Rattle.m2v_choose.specs.Decisions.{Decision, Candidate, place_of}
 use Rattle.m2v_choose.specs.Choice.{choice_of}
 use Rattle.m2v_choose.specs.Own.{IsOwn}
 use Rattle.m2v_choose.specs.Laws.{StaysInside}
 use Rattle.m2v_choose.proofs.OwnReady.{own_context, own_ready}
 use Rattle.m2v_row.specs.Slices.{SliceTask, Begun, decision, begun}
-use Rattle.m2v_row.specs.Laws.{IsSlice, IsChosen, Keeps}
+use Rattle.m2v_row.specs.Laws.{IsSlice, Keeps}
 use Rattle.m2v_row.proofs.Choices.{choice_there}
 use Rattle.m2v_row.proofs.Keeps.{increment_is}
 use Rattle.m2v_row.proofs.Fits.{chosen}
@@ -29,8 +27,8 @@ use Rattle.m2v_model.specs.Written.{CanBeWritten}
 use Rattle.m2v_model.proofs.MacroblockSpellings.{macroblock_spells}
 use Rattle.m2v_spelled.specs.Slices.{AreDecoded, setup_of}
 use Rattle.m2v_spelled.proofs.Levels.{choice_levels}
-use Rattle.m2v_spelled.proofs.Decoded.{MayRead, decoded_by, mode_may, skipped_may}
-use Rattle.m2v_spelled.proofs.Insides.{Stands, spot, inside_all, decoded_all}
+use Rattle.m2v_spelled.proofs.Decoded.{decoded_by, mode_may, skipped_may}
+use Rattle.m2v_spelled.proofs.Insides.{StandsAt, spot, inside_all, decoded_all}
 
 -- ---- the picture
 
@@ -42,7 +40,7 @@ flat_weights : All IsWeight (default_matrix false)
 unfolding default_matrix
 flat_weights = All-replicate IsWeight 64 16 (omega arith, omega arith)
 
-pub own_picture : (c : PictureContext) → IsOwn c → IsPicture c
+own_picture : (c : PictureContext) → IsOwn c → IsPicture c
 own_picture c own = record {
   context = own_context c own;
   intra = subst (All IsWeight) (sym own.intra) weights;
@@ -85,8 +83,8 @@ more_inside t s z n skipped before same e stays = record {
 
 module _ (t : SliceTask) (slice : IsSlice t) (references : List Bool) (decoded : AreDecoded t.context.kind references) (row : Samples) (n skipped : ℕ) (small : n < t.context.columns)
     (keeps : Keeps t n skipped (begun t row n)) (skips : SkipsInside t (begun t row n) n skipped) (told : (choice_of (decision t (begun t row n) n)).skip ≡ false) where
-  -- the macroblock
-  stands_here : Stands t.context (begun t row n).state (choice_of (decision t (begun t row n) n)).macroblock.syntax t.row n skipped
+  -- where it stands
+  stands_here : StandsAt t.context (begun t row n).state (choice_of (decision t (begun t row n) n)).macroblock.syntax t.row n skipped
   stands_here = record {
     small = small;
     few = few keeps.within;

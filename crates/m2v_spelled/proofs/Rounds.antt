@@ -1,5 +1,5 @@
 -- Macroblocks as rounds, one behind another, until the rest is zero.
-use Rattle.std.proofs.Common.{◌≡◌, ℕ, zero, suc, ◌+◌, ◌-◌, ◌/◌, ◌%◌, ◌<◌, ◌≤◌, Bool, true, false, not, List, [], ◌∷◌, ◌++◌, length, replicate, refl, sym, ap, ◌∙◌, subst, arith, append_assoc}
+use Rattle.std.proofs.Common.{◌≡◌, ℕ, zero, suc, ◌+◌, ◌-◌, ◌/◌, ◌%◌, ◌<◌, Bool, true, false, not, List, [], ◌∷◌, ◌++◌, length, replicate, refl, sym, ap, ◌∙◌, subst, arith, append_assoc}
 use Rattle.std.proofs.lemmas.List.{length-append}
 use Rattle.std.proofs.Math.Nat.{mod-lt}
 use Rattle.m2v_bits.specs.Bits.{bits_of, all_zero}
@@ -21,7 +21,7 @@ use Rattle.m2v_model.specs.Slices.{Row, with_next, macroblock_at, macroblock_rou
 
 -- ---- a macroblock has a bit that is 1
 
-pub front_one : (t u : List Bool) → all_zero t ≡ false → all_zero (t ++ u) ≡ false
+front_one : (t u : List Bool) → all_zero t ≡ false → all_zero (t ++ u) ≡ false
 unfolding all_zero
 front_one [] u e = absurd cc
 front_one (true ∷ t) u e = refl

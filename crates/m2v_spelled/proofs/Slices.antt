@@ -1,12 +1,10 @@
 -- A slice of the encoder stands in its unit.
-use Rattle.std.proofs.Common.{◌≡◌, ℕ, zero, suc, ◌+◌, ◌-◌, ◌*◌, ◌<◌, ◌≤◌, Bool, true, false, ◌⊎◌, inl, inr, List, [], ◌∷◌, ◌++◌, length, replicate, filter, refl, sym, ap, subst, ◌∙◌, arith, append_assoc, append-nil, ℤ, pos, ◌+ℤ◌, ◌-ℤ◌}
-use Rattle.std.specs.Prelude.{nat_abs, if◌then◌else◌}
+use Rattle.std.proofs.Common.{◌≡◌, ℕ, zero, suc, ◌+◌, ◌*◌, ◌<◌, ◌≤◌, Bool, true, false, inl, inr, List, [], ◌∷◌, ◌++◌, length, replicate, filter, refl, sym, ap, subst, ◌∙◌, arith, append_assoc, ℤ, pos, ◌+ℤ◌, ◌-ℤ◌}
+use Rattle.std.specs.Prelude.{nat_abs}
 use Rattle.std.proofs.lemmas.Int.{ints}
 use Rattle.std.proofs.lemmas.Bool.{lt-ltb, le-ltb}
 use Rattle.std.proofs.lemmas.List.Elements.{filter-append}
-use Rattle.m2v_bits.specs.Bits.{all_zero}
 use Rattle.m2v_bits.specs.Syntax.{seq, done, here, rule, renamed, repeated, Rounds, Spells}
-use Rattle.m2v_head.specs.declared.slice.SliceInfo.{SliceInfo}
 use Rattle.m2v_head.specs.Texts.{slice_text}
 use Rattle.m2v_head.specs.Fits.{SliceFits}
 use Rattle.m2v_head.proofs.Spellings.{slice_spells}
@@ -19,15 +17,13 @@ use Rattle.m2v_macro.specs.Texts.{increment_text}
 use Rattle.m2v_macro.proofs.Spellings.{increments_spell}
 use Rattle.m2v_macroblock.specs.Macroblocks.{Macroblock, after_macroblock}
 use Rattle.m2v_macroblock.specs.Texts.{macroblock_text}
-use Rattle.m2v_choose.specs.Decisions.{increment_of}
 use Rattle.m2v_choose.specs.Choice.{choice_of}
-use Rattle.m2v_row.specs.Slices.{SliceTask, Begun, decision, with_candidate, begun, slice_info}
+use Rattle.m2v_row.specs.Slices.{SliceTask, decision, with_candidate, begun, slice_info}
 use Rattle.m2v_row.specs.Laws.{IsSlice, Keeps, skipped_before}
 use Rattle.m2v_row.proofs.Candidates.{written_bits}
 use Rattle.m2v_row.proofs.Choices.{choice_there}
 use Rattle.m2v_row.proofs.Keeps.{increment_is, skip_where, keeps}
 use Rattle.m2v_row.proofs.Fits.{chosen, last_written}
-use Rattle.m2v_model.specs.declared.setup.SliceSetup.{SliceSetup}
 use Rattle.m2v_model.specs.Looking.{looking}
 use Rattle.m2v_model.specs.Slices.{Row, with_next, macroblock_at, macroblock_round, macroblocks_at, slice_start, begins_late, unit_place, slice_at, is_large, large_in}
 use Rattle.m2v_spelled.specs.Slices.{AreDecoded, setup_of, slice_body, slice_read, macroblock_bits}
