@@ -1,1 +1,10 @@
-
+pub mod Levels
+pub mod Decoded
+pub mod Insides
+pub mod Macroblocks
+pub mod Rounds
+pub mod Slices
+pub mod CalmSyntax
+pub mod CalmBlocks
+pub mod CalmMacros
+pub mod CalmSlices
