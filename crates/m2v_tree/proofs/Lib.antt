@@ -1,2 +1,4 @@
+pub mod CalmHeaders
+pub mod Headers
 pub mod States
 pub mod Turns
