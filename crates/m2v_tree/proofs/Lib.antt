@@ -1,4 +1,7 @@
 pub mod CalmHeaders
 pub mod Headers
+pub mod Pictures
+pub mod Slices
 pub mod States
 pub mod Turns
+pub mod Zeros
