@@ -1,5 +1,6 @@
 pub mod CalmHeaders
 pub mod Headers
+pub mod PictureChains
 pub mod Pictures
 pub mod Slices
 pub mod States

@@ -64,7 +64,7 @@ picture_bytes job delay = unit_bytes 0x00 (picture_text (picture_of job delay))
 abbrev pub coding_bytes : Settings → PictureJob → List ℕ
 coding_bytes s job = unit_bytes 0xB5 (picture_extension_text (extension_of s job))
 
-sequence_reads : (s : Settings) (st : known.State) → InSize s → InChoice s → is_complete st.sequence st.picture ≡ true → none_waits st.waiting ≡ true → is_same_sequence st.first (sequence_by s) ≡ true
+pub sequence_reads : (s : Settings) (st : known.State) → InSize s → InChoice s → is_complete st.sequence st.picture ≡ true → none_waits st.waiting ≡ true → is_same_sequence st.first (sequence_by s) ≡ true
     → Reads st (sequence (sequence_by s)) (sequence_bytes s) (extension_bytes s ∷ [])
 unfolding known_unit onward sequence_unit close no_second_field_due extension_behind choose rule here unit_at seq done
 sequence_reads s st h c complete paired same = record {
@@ -113,7 +113,7 @@ sequence_reads s st h c complete paired same = record {
       );
 }
 
-group_reads : (s : Settings) (closed : Bool) (anchors display : ℕ) (waits : Option FirstField) → none_waits waits ≡ true
+pub group_reads : (s : Settings) (closed : Bool) (anchors display : ℕ) (waits : Option FirstField) → none_waits waits ≡ true
     → Reads (state_with s closed anchors waits None) (group (group_from s display)) (group_bytes s display) []
 unfolding known_unit later_unit onward group_unit close no_second_field_due choose rule seq done
 group_reads s closed anchors display waits paired = record {
@@ -171,7 +171,7 @@ coding_here b h p delay lt =
     subst (λ (x : Bool). (whole_header (picture_extension_in x (picture_of (job_at b p) delay))).Stands (extension_of b.settings (job_at b p)) (ended (picture_extension_text (extension_of b.settings (job_at b p)))) []) (sym (progressive_is b.settings))
     (coding_stands b.settings (job_at b p) delay (job_is b h p lt) (picture_is_one b h p lt).structure)
 
-picture_reads : (b : Book) → IsBook b → (closed : Bool) (before p delay : ℕ) (open_one : Option Open) → IsCounted b before → p < length b.pictures → delay < 65536
+pub picture_reads : (b : Book) → IsBook b → (closed : Bool) (before p delay : ℕ) (open_one : Option Open) → IsCounted b before → p < length b.pictures → delay < 65536
     → is_complete (Some (sequence_by b.settings)) open_one ≡ true
     → Reads (state_before b closed before p open_one) (picture (picture_of (job_at b p) delay) (extension_of b.settings (job_at b p))) (picture_bytes (job_at b p) delay) (coding_bytes b.settings (job_at b p) ∷ [])
 unfolding known_unit later_unit onward picture_unit close extension_behind choose rule here unit_at seq done
