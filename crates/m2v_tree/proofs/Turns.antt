@@ -4,6 +4,8 @@ use Rattle.std.specs.Prelude.{nat_eq, nat_lt, if◌then◌else◌, count_by, is_
 use Rattle.std.specs.List.{flat_map}
 use Rattle.std.proofs.lemmas.Bool.{cases_Bool, cases_eq, eq-eqb, ne_eqb}
 use Rattle.std.proofs.lemmas.List.Sums.{count_by_more_no, count_by_more_yes, sum_by-cons}
+use Rattle.std.proofs.Math.Seq.{take-length}
+use Rattle.m2v_preface.specs.Headers.{begins_group}
 use Rattle.m2v_set.specs.declared.settings.Scan.{Scan}
 use Rattle.m2v_set.specs.declared.settings.Scan.TheVariants.{Progressive, Frames, Fields}
 use Rattle.m2v_order.specs.declared.jobs.PictureJob.{PictureJob}
@@ -238,3 +240,61 @@ anchors_before_b b h before p c lt e =
           let before_one = c.some (h.before ∙ some) in
           omega (arith, are, one, before_one)
     ]
+
+-- a whole group has an anchor
+frames_some : (heads : List PictureJob) → (get_or (flat_map (fields_of Frames) heads) 0 no_job).kind ≡ 1 → 0 < length (flat_map (fields_of Frames) heads)
+    → 1 ≤ anchors_without 1 (flat_map (fields_of Frames) heads)
+unfolding structures
+frames_some [] e lt = absurd (omega (arith, lt))
+frames_some (h ∷ more) e lt =
+    let x : PictureJob = record h { structure = 3 } in
+    let xs = flat_map (fields_of Frames) more in
+    omega (arith, count_more x xs, counted x e refl)
+
+fields_some : (heads : List PictureJob) → (get_or (flat_map (fields_of Fields) heads) 0 no_job).kind ≡ 1 → 0 < length (flat_map (fields_of Fields) heads)
+    → 1 ≤ anchors_without 1 (flat_map (fields_of Fields) heads)
+unfolding structures
+fields_some [] e lt = absurd (omega (arith, lt))
+fields_some (h ∷ more) e lt =
+    let x : PictureJob = record h { structure = 1 } in
+    let y : PictureJob = record h { structure = 2 } in
+    let xs = flat_map (fields_of Fields) more in
+    omega (arith, count_more x (y ∷ xs), count_more y xs, counted y e refl)
+
+abbrev HasSome : List PictureJob → Type 0
+HasSome jobs = (get_or jobs 0 no_job).kind ≡ 1 → 0 < length jobs → 1 ≤ anchors_without 1 jobs
+
+scan_some : (scan : Scan) (heads : List PictureJob) → HasSome (flat_map (fields_of scan) heads)
+scan_some Progressive heads = subst HasSome (sym (same_scan heads)) (frames_some heads)
+scan_some Frames heads = frames_some heads
+scan_some Fields heads = fields_some heads
+
+-- how many anchors stand behind a group
+pub anchors_end : (b : Book) → IsBook b → (before : ℕ) → IsCounted b before → (1 ≤ anchors_behind before b (length b.pictures)) × (anchors_behind before b (length b.pictures) ≤ 2)
+anchors_end b h before c =
+    let some = h.group.picture in
+    let one = subst HasSome (sym h.group.fields) (scan_some b.settings.scan h.group.heads) (first_kind b h) (omega (arith, some)) in
+    let all : anchors_without 1 (take (length b.pictures) b.pictures) ≡ anchors_without 1 b.pictures = ap (anchors_without 1) (take-length b.pictures) in
+    let are = anchors_are before b (length b.pictures) c.most (omega arith) in
+    (omega (arith, one, all, are), omega (arith, are))
+
+-- ---- the first picture
+
+head_structure : (scan : Scan) (heads : List PictureJob) → 0 < length heads → nat_eq (get_or (flat_map (fields_of scan) heads) 0 no_job).structure 2 ≡ false
+unfolding structures
+head_structure scan [] some = absurd (omega (arith, some))
+head_structure Progressive (h ∷ more) some = refl
+head_structure Frames (h ∷ more) some = refl
+head_structure Fields (h ∷ more) some = refl
+
+begins_by : (job : PictureJob) → job.kind ≡ 1 → nat_eq job.structure 2 ≡ false → begins_group job ≡ true
+unfolding begins_group
+begins_by job kind structure = ap (λ (n : ℕ). nat_eq n 1 && not (nat_eq job.structure 2)) kind ∙ ap not structure
+
+-- a group begins with the headers of a group
+pub first_begins : (b : Book) → IsBook b → begins_group (job_at b 0) ≡ true
+first_begins b h =
+    let some = h.group.frame in
+    begins_by (job_at b 0) (first_kind b h)
+    (ap (λ (xs : List PictureJob). nat_eq (get_or xs 0 no_job).structure 2) h.group.fields
+    ∙ head_structure b.settings.scan h.group.heads (omega (arith, h.group.each, some)))
