@@ -5,5 +5,6 @@ pub mod PictureChains
 pub mod Pictures
 pub mod Slices
 pub mod States
+pub mod Streams
 pub mod Turns
 pub mod Zeros
