@@ -1,8 +1,10 @@
 pub mod CalmHeaders
 pub mod Groups
 pub mod Headers
+pub mod Ledgers
 pub mod PictureChains
 pub mod Pictures
+pub mod Places
 pub mod Slices
 pub mod States
 pub mod Streams

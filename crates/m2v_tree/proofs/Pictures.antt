@@ -151,7 +151,7 @@ group_reads s closed anchors display waits paired = record {
       );
 }
 
-job_is : (b : Book) → IsBook b → (p : ℕ) → p < length b.pictures → IsJob (job_at b p)
+pub job_is : (b : Book) → IsBook b → (p : ℕ) → p < length b.pictures → IsJob (job_at b p)
 job_is b h p lt =
     let x = picture_is_one b h p lt in
     record {
