@@ -210,7 +210,7 @@ group_holds : (law : Spelled) (s : Settings) (x : Progress) (g : Group Samples) 
 group_holds law s x g ends may =
     pictures_hold law (book_of s x g) may.book (length g.pictures) (ledger_of s x g) ends (length x.text) (length g.pictures) (omega arith) (omega arith)
 
-group_text_is : (s : Settings) (x : Progress) (g : Group Samples) (ends : Bool)
+pub group_text_is : (s : Settings) (x : Progress) (g : Group Samples) (ends : Bool)
     → (group_coded s x g ends).text ≡ x.text ++ pictures_text (book_of s x g) (done_of s x g) (ledger_of s x g) ends (length x.text) (length g.pictures)
 unfolding group_coded
 group_text_is s x g ends = refl

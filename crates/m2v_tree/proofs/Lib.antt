@@ -1,4 +1,5 @@
 pub mod CalmHeaders
+pub mod Follows
 pub mod Groups
 pub mod Headers
 pub mod Ledgers

@@ -4,6 +4,7 @@ use Rattle.m2v_bits.specs.Bits.{bits_of, number, start_code, unit, packed}
 use Rattle.m2v_bits.specs.Syntax.{seq, done, here, rule, choose, Rounds, last}
 use Rattle.m2v_plane.specs.Samples.{Samples}
 use Rattle.m2v_set.specs.declared.settings.Settings.{Settings}
+use Rattle.m2v_set.specs.Rules.{Passes}
 use Rattle.m2v_order.specs.Groups.{Group}
 use Rattle.m2v_stream.specs.Streams.{Progress, at_start, groups_coded, coded_all, Coded}
 use Rattle.m2v_model.specs.declared.state.Open.{Open}
@@ -21,6 +22,7 @@ use Rattle.m2v_tree.specs.Trees.{sequence_by, groups_of, groups_parts, state_beh
 use Rattle.m2v_tree.specs.States.{state_with}
 use Rattle.m2v_tree.proofs.Zeros.{padded_cuts}
 use Rattle.m2v_tree.proofs.Slices.{Spelled}
+use Rattle.m2v_tree.proofs.Follows.{stream_follows, stream_some}
 use Rattle.m2v_tree.proofs.Groups.{IsBetween, Between, AllFollow, groups_units, groups_read, groups_add}
 
 -- ---- the state behind parts
@@ -109,9 +111,9 @@ coded_is : (s : Settings) (frames : List (List ℕ)) → coded_all s frames ≡ 
 unfolding coded_all
 coded_is s frames = refl
 
-stream_some : (law : Spelled) (s : Settings) (frames : List (List ℕ)) (g : Group Samples) (more : List (Group Samples)) → groups_of s frames ≡ g ∷ more
+stream_with : (law : Spelled) (s : Settings) (frames : List (List ℕ)) (g : Group Samples) (more : List (Group Samples)) → groups_of s frames ≡ g ∷ more
     → AllFollow s (at_start s) (groups_of s frames) → Stream (Coded s frames) (tree_of s frames)
-stream_some law s frames g more is all =
+stream_with law s frames g more is all =
     let x = at_start s in
     let read : Between s at_first (groups_parts s x (groups_of s frames)) (groups_units s x (groups_of s frames)) =
     subst (λ (gs : List (Group Samples)). Between s at_first (groups_parts s x gs) (groups_units s x gs)) (sym is)
@@ -135,4 +137,8 @@ stream_of_groups law s frames some all = by_list (groups_of s frames) refl
   where
     by_list : (gs : List (Group Samples)) → groups_of s frames ≡ gs → Stream (Coded s frames) (tree_of s frames)
     by_list [] e = absurd (omega (arith, ap length e, some))
-    by_list (g ∷ more) e = stream_some law s frames g more e all
+    by_list (g ∷ more) e = stream_with law s frames g more e all
+
+-- the stream of some frames is read as its tree
+pub stream_stands : (law : Spelled) (s : Settings) (frames : List (List ℕ)) → Passes s → 1 ≤ length frames → length frames ≤ 999999 → Stream (Coded s frames) (tree_of s frames)
+stream_stands law s frames passes some few = stream_of_groups law s frames (stream_some s frames some) (stream_follows s frames passes few)
