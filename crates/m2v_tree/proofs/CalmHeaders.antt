@@ -1,7 +1,6 @@
 -- No prefix of a start code stands in the headers of the encoder's stream.
-use Rattle.std.proofs.Common.{◌≡◌, ℕ, zero, suc, ◌+◌, ◌*◌, ◌/◌, ◌%◌, ◌^◌, ◌<◌, ◌≤◌, Bool, true, false, ◌||◌, cond, List, [], ◌∷◌, ◌++◌, length, replicate, refl, sym, ap, subst, ◌∙◌, arith}
-use Rattle.std.specs.Prelude.{nat_eq, if◌then◌else◌}
-use Rattle.std.proofs.lemmas.List.{length-append, length-replicate}
+use Rattle.std.proofs.Common.{◌≡◌, ℕ, suc, ◌+◌, ◌%◌, ◌^◌, ◌<◌, ◌≤◌, Bool, true, false, List, [], ◌∷◌, ◌++◌, length, replicate, refl, sym, subst, arith}
+use Rattle.std.proofs.lemmas.List.{length-replicate}
 use Rattle.m2v_bits.specs.Bits.{bits_of, to_edge}
 use Rattle.m2v_bits.proofs.Bits.{length-bits_of}
 use Rattle.m2v_head.specs.Texts.{sequence_text, sequence_extension_text, rates_text, group_text, picture_text, directions_text, picture_extension_text, flags_text, composite_text, loaded_text}
@@ -9,14 +8,13 @@ use Rattle.m2v_head.specs.declared.sequence.SequenceExtension.{SequenceExtension
 use Rattle.m2v_set.specs.declared.settings.Settings.{Settings}
 use Rattle.m2v_set.specs.declared.settings.Level.{Level}
 use Rattle.m2v_set.specs.declared.settings.Level.TheVariants.{Main, High1440, High}
-use Rattle.m2v_set.specs.declared.settings.Scan.{Scan}
 use Rattle.m2v_set.specs.Bounds.{InSize, InChoice}
 use Rattle.m2v_set.specs.Rules.{is_progressive}
 use Rattle.m2v_order.specs.declared.jobs.PictureJob.{PictureJob}
-use Rattle.m2v_preface.specs.Headers.{profile_of, sequence_of, sequence_extension_of, group_from, picture_of, extension_of, IsJob}
+use Rattle.m2v_preface.specs.Headers.{profile_of, sequence_of, sequence_extension_of, group_from, picture_of, extension_of}
 use Rattle.m2v_preface.proofs.TextLengths.{sequence_extension_length, picture_length}
 use Rattle.m2v_chain.specs.Texts.{Calm, ended, IsCalm}
-use Rattle.m2v_chain.proofs.Calm.{calm_then, calm_less, calm_more, calm_any, calm_one, some_one, calm_end, calm_whole}
+use Rattle.m2v_chain.proofs.Calm.{calm_then, calm_any, calm_one, some_one, calm_end, calm_whole}
 use Rattle.m2v_tree.proofs.Headers.{plain, plain_is, size_bounds, by_kind}
 
 -- ---- sequences

@@ -1,6 +1,6 @@
 -- The groups of a queue follow one another: each has a book, and stands at its place.
-use Rattle.std.proofs.Common.{◌≡◌, ℕ, zero, suc, ◌+◌, ◌-◌, ◌*◌, ◌^◌, ◌<◌, ◌≤◌, Bool, true, false, cond, inl, inr, List, [], ◌∷◌, ◌++◌, length, map, take, drop, get_or, Option, Some, None, refl, sym, ap, subst, ◌∙◌, arith}
-use Rattle.std.specs.Prelude.{All, is_some, IfSome, nat_eq, nat_lt, ◌&&◌, ◌||◌, if◌then◌else◌}
+use Rattle.std.proofs.Common.{◌≡◌, ℕ, zero, suc, ◌+◌, ◌-◌, ◌*◌, ◌^◌, ◌<◌, ◌≤◌, Bool, true, false, cond, inl, inr, List, [], ◌∷◌, ◌++◌, length, map, take, get_or, Option, Some, None, refl, sym, ap, subst, ◌∙◌, arith}
+use Rattle.std.specs.Prelude.{All, is_some, IfSome, nat_eq, nat_lt}
 use Rattle.std.proofs.lemmas.Bool.{cases_Bool, cond-true, cond-false, cond_both, ne_eqb, lt-ltb, and_from}
 use Rattle.std.proofs.lemmas.List.{length-map, length-append, map-append}
 use Rattle.std.proofs.lemmas.List.Elements.{All-nil, All-cons, All-take, All-drop}
@@ -11,7 +11,7 @@ use Rattle.m2v_set.specs.declared.settings.Settings.{Settings}
 use Rattle.m2v_set.specs.Numbers.{IsInterval, dims_of}
 use Rattle.m2v_set.specs.Rules.{Passes}
 use Rattle.m2v_order.specs.declared.jobs.PictureJob.{PictureJob}
-use Rattle.m2v_order.specs.Groups.{Queue, Group, opening, first_of, group_size, is_due, group_of, anchor_before, after_push, after_end, after_group, IsSoundQueue}
+use Rattle.m2v_order.specs.Groups.{Queue, Group, first_of, group_size, is_due, group_of, anchor_before, after_push, after_group, IsSoundQueue}
 use Rattle.m2v_order.specs.Times.{intervals_of, anchor_after, interval_behind}
 use Rattle.m2v_order.specs.Whole.{IsGroupOf}
 use Rattle.m2v_order.proofs.Queues.{grouped, sound_opening, sound_push, sound_end, due_is, turn_is, sound_next}
@@ -21,7 +21,7 @@ use Rattle.m2v_rate.specs.Steady.{IsLedger}
 use Rattle.m2v_rate.proofs.Keeps.{begins_steady}
 use Rattle.m2v_rate.proofs.Lows.{removals_at}
 use Rattle.m2v_rate.proofs.Streams.{fresh_begun}
-use Rattle.m2v_slice.specs.Books.{Book, no_job, job_at, ledger_with}
+use Rattle.m2v_slice.specs.Books.{Book, no_job, ledger_with}
 use Rattle.m2v_slice.specs.Conditions.{IsBook, IsBegunFor}
 use Rattle.m2v_stream.specs.Streams.{Progress, at_start, book_of, group_coded, groups_from, waiting, frame_of, frame_or, anchor_frame, pictures_text}
 use Rattle.m2v_tree.specs.Trees.{groups_of}

@@ -1,7 +1,7 @@
 -- Pictures one behind another, and groups one behind another.
-use Rattle.std.proofs.Common.{◌≡◌, ℕ, zero, suc, ◌+◌, ◌-◌, ◌*◌, ◌<◌, ◌≤◌, ◌⊎◌, Bool, true, false, List, [], ◌∷◌, ◌++◌, length, Option, Some, None, inl, inr, refl, sym, ap, subst, ◌∙◌, arith, append_assoc}
+use Rattle.std.proofs.Common.{◌≡◌, ℕ, zero, suc, ◌+◌, ◌<◌, ◌≤◌, ◌⊎◌, Bool, true, false, List, [], ◌∷◌, ◌++◌, length, Option, Some, None, inl, inr, refl, sym, ap, subst, ◌∙◌, arith, append_assoc}
 use Rattle.std.specs.Prelude.{is_some}
-use Rattle.std.proofs.lemmas.List.{length-append, append-nil}
+use Rattle.std.proofs.lemmas.List.{append-nil}
 use Rattle.m2v_plane.specs.Samples.{Samples}
 use Rattle.m2v_set.specs.declared.settings.Settings.{Settings}
 use Rattle.m2v_order.specs.Groups.{Group}
@@ -19,7 +19,7 @@ use Rattle.m2v_model.specs.Streams.{Part}
 use Rattle.m2v_chain.specs.Chains.{Chain, nothing}
 use Rattle.m2v_chain.proofs.Chains.{chain_then}
 use Rattle.m2v_chain.proofs.Units.{packs_none}
-use Rattle.m2v_tree.specs.Trees.{sequence_by, picture_parts, pictures_parts, group_parts, groups_parts}
+use Rattle.m2v_tree.specs.Trees.{sequence_by, pictures_parts, group_parts, groups_parts}
 use Rattle.m2v_tree.specs.States.{state_with, open_at, waiting_behind, anchors_behind}
 use Rattle.m2v_tree.proofs.Turns.{IsCounted, none_behind, anchors_end, first_begins}
 use Rattle.m2v_tree.proofs.States.{state_before, state_at, references_at, complete_at, first_sequence}

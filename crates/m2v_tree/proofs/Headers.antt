@@ -1,5 +1,5 @@
 -- The headers of the encoder's stream stand in their units.
-use Rattle.std.proofs.Common.{◌≡◌, ◌≢◌, ℕ, zero, suc, ◌+◌, ◌-◌, ◌*◌, ◌/◌, ◌%◌, ◌^◌, ◌<◌, ◌≤◌, Bool, true, false, not, ◌&&◌, ◌||◌, cond, List, [], ◌∷◌, ◌++◌, length, drop, replicate, Some, inl, inr, refl, sym, ap, subst, ◌∙◌, arith}
+use Rattle.std.proofs.Common.{◌≡◌, ℕ, zero, suc, ◌+◌, ◌/◌, ◌%◌, ◌^◌, ◌<◌, ◌≤◌, Bool, true, false, not, ◌||◌, cond, List, [], ◌++◌, length, drop, replicate, Some, inl, inr, refl, sym, ap, subst, ◌∙◌, arith}
 use Rattle.std.specs.Prelude.{nat_eq, nat_le, if◌then◌else◌}
 use Rattle.std.proofs.lemmas.Bool.{ne_eqb, le-leb, cond_both}
 use Rattle.std.proofs.lemmas.Nat.{mod_below}
@@ -24,7 +24,7 @@ use Rattle.m2v_preface.specs.Headers.{profile_of, sequence_of, sequence_extensio
 use Rattle.m2v_slice.proofs.Groups.{HasStructure}
 use Rattle.m2v_model.specs.declared.fault.FaultKind.TheVariants.{Truncated}
 use Rattle.m2v_model.specs.Faults.{InUnit}
-use Rattle.m2v_model.specs.Looking.{number_from, look, looking, passes}
+use Rattle.m2v_model.specs.Looking.{number_from, look, looking}
 use Rattle.m2v_model.specs.Units.{Units, inside}
 use Rattle.m2v_model.specs.Headers.{whole_header, size_of, size_at, sequence_in, sequence_extension_in, group_in, picture_in, is_structure, f_code_at, f_codes_at, picture_extension_in}
 use Rattle.m2v_model.specs.Streams.{id_at, extension_in}

@@ -1,7 +1,6 @@
 -- The ledger of a group that is coded.
-use Rattle.std.proofs.Common.{◌≡◌, ℕ, zero, suc, ◌+◌, ◌-◌, ◌*◌, ◌<◌, ◌≤◌, List, length, get_or, refl, sym, ap, subst, ◌∙◌, arith}
+use Rattle.std.proofs.Common.{◌≡◌, ℕ, zero, suc, ◌+◌, ◌-◌, ◌<◌, ◌≤◌, List, length, get_or, sym, ap, subst, ◌∙◌, arith}
 use Rattle.std.proofs.lemmas.List.FromFn.{get_or-map-range_with_len}
-use Rattle.m2v_set.specs.declared.settings.Settings.{Settings}
 use Rattle.m2v_rate.specs.Plans.{Entries, first_open}
 use Rattle.m2v_rate.specs.Steady.{IsLedger}
 use Rattle.m2v_rate.proofs.Keeps.{known_by}

@@ -1,8 +1,8 @@
 -- A picture with its headers and slices: its parts are read from its units, and its text has these units.
-use Rattle.std.proofs.Common.{◌≡◌, ℕ, zero, suc, ◌+◌, ◌-◌, ◌*◌, ◌/◌, ◌%◌, ◌<◌, ◌≤◌, ◌⊎◌, Bool, true, false, cond, not, List, [], ◌∷◌, ◌++◌, length, map, replicate, Option, Some, None, inl, inr, refl, sym, ap, subst, ◌∙◌, arith, append_assoc}
+use Rattle.std.proofs.Common.{◌≡◌, ℕ, zero, suc, ◌+◌, ◌-◌, ◌*◌, ◌/◌, ◌%◌, ◌<◌, ◌≤◌, Bool, true, false, cond, not, List, [], ◌∷◌, ◌++◌, length, map, replicate, Option, Some, None, inl, inr, refl, sym, ap, subst, ◌∙◌, arith, append_assoc}
 use Rattle.std.specs.Prelude.{nat_eq, ◌&&◌, slice_index}
 use Rattle.std.specs.List.{range_with_len, flat_map}
-use Rattle.std.proofs.lemmas.Bool.{cases_Bool, cond_both, and_parts}
+use Rattle.std.proofs.lemmas.Bool.{cond_both, and_parts}
 use Rattle.std.proofs.lemmas.List.{append-nil}
 use Rattle.std.proofs.lemmas.List.Folds.{flat_map-map}
 use Rattle.m2v_bits.specs.Bits.{unit}
@@ -22,7 +22,7 @@ use Rattle.m2v_rate.specs.declared.values.Plan.{Plan}
 use Rattle.m2v_rate.specs.Plans.{Entries, account_at}
 use Rattle.m2v_row.specs.Slices.{CodedSlice, slice_of}
 use Rattle.m2v_preface.specs.Headers.{sequence_of, sequence_extension_of, group_from, picture_of, extension_of, begins_group, group_units, picture_units, header_units}
-use Rattle.m2v_slice.specs.Books.{Book, CodedPicture, rows, job_at, picture_at, coded, next_picture, task_of}
+use Rattle.m2v_slice.specs.Books.{Book, CodedPicture, rows, job_at, picture_at, coded, task_of}
 use Rattle.m2v_slice.specs.Conditions.{IsBook}
 use Rattle.m2v_slice.proofs.Coded.{picture_is, slices_are, next_plan}
 use Rattle.m2v_slice.proofs.Groups.{passes_of, picture_is_one, rows_few}
@@ -33,13 +33,13 @@ use Rattle.m2v_model.specs.declared.state.State.{State}
 use Rattle.m2v_model.specs.Units.{Units}
 use Rattle.m2v_model.specs.States.{is_complete, none_waits, is_same_sequence}
 use Rattle.m2v_model.specs.Streams.{Part, sequence, group, picture, after}
-use Rattle.m2v_chain.specs.Texts.{unit_bytes, Packs}
+use Rattle.m2v_chain.specs.Texts.{Packs}
 use Rattle.m2v_chain.specs.Chains.{Reads, Chain, nothing, link}
 use Rattle.m2v_chain.proofs.Chains.{chain_then}
 use Rattle.m2v_chain.proofs.Units.{packs_none, packs_unit, packs_append}
 use Rattle.m2v_spelled.specs.Slices.{slice_body}
-use Rattle.m2v_tree.specs.Trees.{sequence_by, header_parts, task_at, slice_parts, picture_parts}
-use Rattle.m2v_tree.specs.States.{state_with, waiting_behind, anchors_behind}
+use Rattle.m2v_tree.specs.Trees.{sequence_by, header_parts, task_at, picture_parts}
+use Rattle.m2v_tree.specs.States.{waiting_behind, anchors_behind}
 use Rattle.m2v_tree.proofs.Turns.{IsCounted, IsTurn, turn_at}
 use Rattle.m2v_tree.proofs.States.{next_sequence, next_group, same_sequence, state_before, state_at, header_after}
 use Rattle.m2v_tree.proofs.CalmHeaders.{sequence_calm, sequence_extension_calm, group_calm, picture_calm, coding_calm}

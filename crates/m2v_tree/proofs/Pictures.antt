@@ -1,51 +1,29 @@
 -- The headers and slices of a picture, one behind another.
-use Rattle.std.proofs.Common.{◌≡◌, ℕ, zero, suc, ◌+◌, ◌-◌, ◌*◌, ◌/◌, ◌%◌, ◌<◌, ◌≤◌, Bool, true, false, cond, not, List, [], ◌∷◌, ◌++◌, length, map, replicate, Option, Some, None, inl, inr, refl, sym, ap, subst, ◌∙◌, arith, append_assoc}
-use Rattle.std.specs.Prelude.{nat_eq, is_some, ◌&&◌}
-use Rattle.std.specs.List.{range_with_len, flat_map}
-use Rattle.std.proofs.lemmas.Bool.{cases_Bool, cond_both}
-use Rattle.std.proofs.lemmas.List.{append-nil}
-use Rattle.std.proofs.lemmas.List.Folds.{flat_map-map}
-use Rattle.m2v_bits.specs.Bits.{unit}
+use Rattle.std.proofs.Common.{◌≡◌, ℕ, ◌<◌, Bool, true, List, [], ◌∷◌, length, Option, Some, None, inl, inr, refl, sym, subst, arith}
 use Rattle.m2v_bits.specs.Syntax.{seq, done, here, rule, choose}
-use Rattle.m2v_bits.proofs.Texts.{texts_more}
 use Rattle.m2v_head.specs.Texts.{sequence_text, sequence_extension_text, group_text, picture_text, picture_extension_text}
 use Rattle.m2v_set.specs.declared.settings.Settings.{Settings}
 use Rattle.m2v_set.specs.Bounds.{InSize, InChoice}
 use Rattle.m2v_set.specs.Rules.{is_progressive}
-use Rattle.m2v_set.proofs.Facts.{bounds}
-use Rattle.m2v_vbv.specs.Account.{State, stuffing_of}
 use Rattle.m2v_order.specs.declared.jobs.PictureJob.{PictureJob}
-use Rattle.m2v_rate.specs.declared.values.Plan.{Plan}
-use Rattle.m2v_rate.specs.Plans.{Entries, account_at}
-use Rattle.m2v_row.specs.Slices.{CodedSlice, slice_of}
-use Rattle.m2v_preface.specs.Headers as preface
-use Rattle.m2v_preface.specs.Headers.{sequence_of, sequence_extension_of, group_from, picture_of, extension_of, begins_group, group_units, picture_units, header_units, IsJob}
-use Rattle.m2v_slice.specs.Books.{Book, CodedPicture, rows, job_at, picture_at, coded, next_picture, task_of}
+use Rattle.m2v_preface.specs.Headers.{sequence_of, sequence_extension_of, group_from, picture_of, extension_of, IsJob}
+use Rattle.m2v_slice.specs.Books.{Book, job_at}
 use Rattle.m2v_slice.specs.Conditions.{IsBook}
-use Rattle.m2v_slice.proofs.Coded.{picture_is, slices_are, next_plan}
-use Rattle.m2v_slice.proofs.Groups.{HasStructure, structure_low, picture_is_one, passes_of, rows_few}
-use Rattle.m2v_stream.specs.Streams as stream
-use Rattle.m2v_stream.specs.Streams.{zeros_of, delay_at}
+use Rattle.m2v_slice.proofs.Groups.{structure_low, picture_is_one}
 use Rattle.m2v_model.specs.declared.state.FirstField.{FirstField}
 use Rattle.m2v_model.specs.declared.state.Open.{Open}
 use Rattle.m2v_model.specs.declared.state.State as known
-use Rattle.m2v_model.specs.Units.{Units, unit_at, unit_bits}
+use Rattle.m2v_model.specs.Units.{unit_at, unit_bits}
 use Rattle.m2v_model.specs.Headers.{whole_header, sequence_in, sequence_extension_in, group_in, picture_in, picture_extension_in}
 use Rattle.m2v_model.specs.States.{is_complete, none_waits, is_same_sequence}
-use Rattle.m2v_model.specs.Streams.{Part, sequence, group, picture, after, close, no_second_field_due, extension_behind, sequence_unit, group_unit, picture_unit, onward, later_unit, known_unit}
-use Rattle.m2v_chain.specs.Texts.{ended, unit_bytes, Packs}
-use Rattle.m2v_chain.specs.Chains.{Reads, Chain, nothing, link}
-use Rattle.m2v_chain.proofs.Chains.{chain_then}
-use Rattle.m2v_chain.proofs.Units.{packs_none, packs_unit, packs_append}
-use Rattle.m2v_spelled.specs.Slices.{slice_body}
-use Rattle.m2v_tree.specs.Trees.{sequence_by, header_parts, task_at, slice_parts, picture_parts}
-use Rattle.m2v_tree.specs.States.{state_with, waiting_behind, anchors_behind}
-use Rattle.m2v_tree.proofs.Turns.{IsCounted, IsTurn, turn_at}
-use Rattle.m2v_tree.proofs.States.{next_sequence, next_group, state_before, state_at, header_after, due_at, anchored_at}
+use Rattle.m2v_model.specs.Streams.{sequence, group, picture, close, no_second_field_due, extension_behind, sequence_unit, group_unit, picture_unit, onward, later_unit, known_unit}
+use Rattle.m2v_chain.specs.Texts.{ended, unit_bytes}
+use Rattle.m2v_chain.specs.Chains.{Reads}
+use Rattle.m2v_tree.specs.Trees.{sequence_by}
+use Rattle.m2v_tree.specs.States.{state_with}
+use Rattle.m2v_tree.proofs.Turns.{IsCounted}
+use Rattle.m2v_tree.proofs.States.{state_before, due_at, anchored_at}
 use Rattle.m2v_tree.proofs.Headers.{inside_stands, extension_in_stands, sequence_stands, extension_stands, sequence_id, group_stands, picture_stands, coding_stands, picture_id}
-use Rattle.m2v_tree.proofs.CalmHeaders.{sequence_calm, sequence_extension_calm, group_calm, picture_calm, coding_calm}
-use Rattle.m2v_tree.proofs.Zeros.{padded, Holds, holds_packs, holds_append, holds_zeros}
-use Rattle.m2v_tree.proofs.Slices.{Spelled, slice_bytes, task_slice, rows_chain}
 
 -- ---- headers
 

@@ -1,6 +1,6 @@
 -- Where the pictures of a group stand in the stream, and that their delays fit their 16 bits.
-use Rattle.std.proofs.Common.{◌≡◌, ℕ, zero, suc, ◌+◌, ◌-◌, ◌*◌, ◌/◌, ◌<◌, ◌≤◌, ◌⊎◌, inl, inr, Bool, true, false, cond, List, [], ◌++◌, length, replicate, get_or, refl, sym, ap, subst, ◌∙◌, arith}
-use Rattle.std.specs.Prelude.{nat_eq, ◌&&◌, sum_by}
+use Rattle.std.proofs.Common.{◌≡◌, ℕ, zero, suc, ◌+◌, ◌-◌, ◌*◌, ◌/◌, ◌<◌, ◌≤◌, ◌⊎◌, inl, inr, Bool, true, false, cond, ◌++◌, length, replicate, get_or, refl, sym, ap, subst, ◌∙◌, arith}
+use Rattle.std.specs.Prelude.{nat_eq, ◌&&◌}
 use Rattle.std.specs.List.{flat_map}
 use Rattle.std.proofs.lemmas.Bool.{cases_Bool, cond-true, cond-false, and_parts, eqb-true}
 use Rattle.std.proofs.lemmas.List.{length-append, length-replicate}
@@ -18,7 +18,7 @@ use Rattle.m2v_rate.proofs.Lows.{left_whole, rate_at, buffer_at, gain_high, size
 use Rattle.m2v_row.specs.Slices.{CodedSlice}
 use Rattle.m2v_preface.specs.Headers.{header_units, header_bits, bits_to_code, begins_group}
 use Rattle.m2v_preface.proofs.TextLengths.{header_length}
-use Rattle.m2v_slice.specs.Books.{Book, rows, job_at, picture_at, size_of}
+use Rattle.m2v_slice.specs.Books.{Book, job_at, picture_at, size_of}
 use Rattle.m2v_slice.specs.Conditions.{IsBook}
 use Rattle.m2v_slice.proofs.Groups.{passes_of}
 use Rattle.m2v_stream.specs.Streams.{zeros_of, delay_at, picture_text, pictures_text}

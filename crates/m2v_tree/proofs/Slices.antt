@@ -1,17 +1,16 @@
 -- The slices of a picture are read from their units.
-use Rattle.std.proofs.Common.{◌≡◌, ℕ, zero, suc, ◌+◌, ◌-◌, ◌*◌, ◌<◌, ◌≤◌, Bool, true, false, List, [], ◌∷◌, ◌++◌, length, map, replicate, Option, Some, inl, inr, refl, sym, ap, subst, ◌∙◌, arith}
-use Rattle.std.specs.Prelude.{nat_eq, nat_le, nat_lt}
+use Rattle.std.proofs.Common.{◌≡◌, ℕ, zero, suc, ◌+◌, ◌-◌, ◌*◌, ◌<◌, ◌≤◌, Bool, false, List, [], ◌∷◌, ◌++◌, length, map, replicate, inl, inr, refl, sym, ap, subst, ◌∙◌, arith}
+use Rattle.std.specs.Prelude.{nat_le, nat_lt}
 use Rattle.std.specs.List.{range_with_len}
 use Rattle.std.proofs.lemmas.Bool.{ne_eqb, le-leb, lt-ltb, and_from}
 use Rattle.std.proofs.lemmas.List.FromFn.{map-range_with_len_more}
 use Rattle.m2v_bits.specs.Syntax.{seq, done, rule, choose}
 use Rattle.m2v_set.specs.Numbers.{mb_width_of}
 use Rattle.m2v_set.proofs.Facts.{bounds}
-use Rattle.m2v_rate.specs.declared.values.Plan.{Plan}
 use Rattle.m2v_rate.specs.Plans.{plan_of}
 use Rattle.m2v_row.specs.Slices.{SliceTask}
 use Rattle.m2v_row.specs.Laws.{IsSlice}
-use Rattle.m2v_preface.specs.Headers.{context_of, extension_of}
+use Rattle.m2v_preface.specs.Headers.{context_of}
 use Rattle.m2v_slice.specs.Books.{Book, rows, job_at, coded, ledger_for, task_of}
 use Rattle.m2v_slice.specs.Conditions.{IsBook}
 use Rattle.m2v_slice.proofs.Coded.{plan_is}
@@ -19,7 +18,6 @@ use Rattle.m2v_slice.proofs.Groups.{rows_few, passes_of}
 use Rattle.m2v_slice.proofs.Steady.{IsPlan, task_is}
 use Rattle.m2v_slice.proofs.Sound.{plan_is_good}
 use Rattle.m2v_model.specs.declared.setup.SliceSetup.{SliceSetup}
-use Rattle.m2v_model.specs.declared.state.State.{State}
 use Rattle.m2v_model.specs.Units.{Units}
 use Rattle.m2v_model.specs.States.{picture_rows, slice_setup}
 use Rattle.m2v_model.specs.Slices.{slice_at, large_in}

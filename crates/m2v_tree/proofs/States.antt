@@ -1,8 +1,8 @@
 -- The states behind headers, slices and pictures of a group.
-use Rattle.std.proofs.Common.{◌≡◌, ◌≢◌, ℕ, zero, suc, ◌+◌, ◌-◌, ◌*◌, ◌/◌, ◌%◌, ◌<◌, ◌≤◌, ◌⊎◌, inl, inr, Bool, true, false, not, ◌&&◌, ◌||◌, List, [], ◌∷◌, length, get_or, Option, Some, None, refl, sym, ap, subst, ◌∙◌, arith}
+use Rattle.std.proofs.Common.{◌≡◌, ◌≢◌, ℕ, zero, suc, ◌+◌, ◌-◌, ◌*◌, ◌/◌, ◌<◌, ◌≤◌, inl, inr, Bool, true, false, not, ◌&&◌, ◌||◌, List, length, Option, Some, None, refl, sym, ap, ◌∙◌, arith}
 use Rattle.std.specs.Prelude.{nat_eq, nat_lt, nat_le, if◌then◌else◌, is_some}
 use Rattle.std.specs.Bool.{beq}
-use Rattle.std.proofs.lemmas.Bool.{cases_Bool, cases_eq, cases_lt, eq-eqb, ne_eqb, le-leb, lt-ltb, le-ltb}
+use Rattle.std.proofs.lemmas.Bool.{cases_eq, eq-eqb, ne_eqb, le-leb, lt-ltb}
 use Rattle.std.proofs.Math.Nat.{mul_comm}
 use Rattle.m2v_head.specs.declared.group.GroupInfo.{GroupInfo}
 use Rattle.m2v_head.specs.declared.picture.PictureInfo.{PictureInfo}
@@ -14,25 +14,21 @@ use Rattle.m2v_set.specs.declared.settings.Scan.TheVariants.{Progressive, Frames
 use Rattle.m2v_set.specs.Numbers.{dims_of, mb_width_of, rows_by, frame_rows_by}
 use Rattle.m2v_set.specs.Rules.{is_progressive}
 use Rattle.m2v_order.specs.declared.jobs.PictureJob.{PictureJob}
-use Rattle.m2v_preface.specs.Headers.{sequence_of, sequence_extension_of, group_from, picture_of, extension_of, context_of}
-use Rattle.m2v_row.specs.Slices.{SliceTask}
-use Rattle.m2v_slice.specs.Books.{Book, CodedPicture, rows, job_at, task_of}
+use Rattle.m2v_preface.specs.Headers.{sequence_of, sequence_extension_of, picture_of, extension_of, context_of}
+use Rattle.m2v_slice.specs.Books.{Book, rows, job_at, task_of}
 use Rattle.m2v_slice.specs.Conditions.{IsBook}
 use Rattle.m2v_slice.proofs.Groups.{HasStructure, picture_is_one, source_size}
-use Rattle.m2v_rate.specs.declared.values.Plan.{Plan}
-use Rattle.m2v_model.specs.declared.state.Sequence.{Sequence}
 use Rattle.m2v_model.specs.declared.state.FirstField.{FirstField}
 use Rattle.m2v_model.specs.declared.state.Open.{Open}
 use Rattle.m2v_model.specs.declared.state.State.{State}
-use Rattle.m2v_model.specs.declared.setup.SliceSetup.{SliceSetup}
 use Rattle.m2v_model.specs.States as model
 use Rattle.m2v_model.specs.States.{at_first, one_anchor_more, columns_of, rows_of, picture_rows, is_frame, drops, references_for, with_slice, is_complete, none_waits, is_second_field_due, has_anchor, is_same_sequence, slice_setup}
-use Rattle.m2v_model.specs.Slices.{Slice, large_in}
+use Rattle.m2v_model.specs.Slices.{large_in}
 use Rattle.m2v_model.specs.Streams.{sequence, group, picture, slice, after}
 use Rattle.m2v_spelled.specs.Slices.{slice_read, setup_of, AreDecoded}
 use Rattle.m2v_tree.specs.Trees.{sequence_by, task_at}
 use Rattle.m2v_tree.specs.States.{state_with, open_at, waiting_behind, anchors_behind}
-use Rattle.m2v_tree.proofs.Turns.{IsTurn, turn_at, none_behind, IsCounted, anchor_before_p, anchors_before_b}
+use Rattle.m2v_tree.proofs.Turns.{IsTurn, turn_at, IsCounted, anchor_before_p, anchors_before_b}
 
 -- ---- sizes
 
@@ -97,11 +93,6 @@ shown_open info extension second references has row covered = record {
   large_macroblocks = 0;
   crowded_row = 0;
 }
-
-pub open_is : (s : Settings) (job : PictureJob) (delay : ℕ) (references : List Bool) (n : ℕ)
-    → open_at s job delay references n ≡ shown_open (picture_of job delay) (extension_of s job) (nat_eq job.structure 2) references (nat_lt 0 n) (n - 1) (n * mb_width_of s)
-unfolding open_at
-open_is s job delay references n = refl
 
 pub covered_is : (s : Settings) (job : PictureJob) (delay : ℕ) (references : List Bool) (n : ℕ) → (open_at s job delay references n).covered ≡ n * mb_width_of s
 unfolding open_at

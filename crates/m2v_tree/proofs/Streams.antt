@@ -1,6 +1,6 @@
 -- The whole stream: its groups, and the sequence end code.
-use Rattle.std.proofs.Common.{◌≡◌, ℕ, ◌+◌, ◌<◌, ◌≤◌, Bool, true, false, List, [], ◌∷◌, ◌++◌, length, Option, Some, None, inl, inr, refl, sym, ap, subst, ◌∙◌, arith, append_assoc}
-use Rattle.m2v_bits.specs.Bits.{bits_of, number, start_code, unit, packed}
+use Rattle.std.proofs.Common.{◌≡◌, ℕ, ◌<◌, ◌≤◌, Bool, true, false, List, [], ◌∷◌, ◌++◌, length, Option, Some, None, inl, inr, refl, sym, ap, subst, ◌∙◌, arith}
+use Rattle.m2v_bits.specs.Bits.{bits_of, start_code, unit, packed}
 use Rattle.m2v_bits.specs.Syntax.{seq, done, here, rule, choose, Rounds, last}
 use Rattle.m2v_plane.specs.Samples.{Samples}
 use Rattle.m2v_set.specs.declared.settings.Settings.{Settings}

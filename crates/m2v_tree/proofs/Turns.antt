@@ -1,8 +1,8 @@
 -- First and second fields take turns, and how many anchors stand before a picture of a group.
 use Rattle.std.proofs.Common.{◌≡◌, ℕ, zero, suc, ◌+◌, ◌<◌, ◌≤◌, ◌⊎◌, inl, inr, Bool, true, false, not, ◌&&◌, cond, List, [], ◌∷◌, ◌++◌, length, take, drop, get_or, min, Option, Some, None, refl, sym, ap, subst, ◌∙◌, arith}
-use Rattle.std.specs.Prelude.{nat_eq, nat_lt, if◌then◌else◌, count_by, is_some, All}
+use Rattle.std.specs.Prelude.{nat_eq, if◌then◌else◌, count_by, is_some}
 use Rattle.std.specs.List.{flat_map}
-use Rattle.std.proofs.lemmas.Bool.{cases_Bool, cases_eq, eq-eqb, ne_eqb}
+use Rattle.std.proofs.lemmas.Bool.{cases_Bool}
 use Rattle.std.proofs.lemmas.List.Sums.{count_by_more_no, count_by_more_yes, sum_by-cons}
 use Rattle.std.proofs.Math.Seq.{take-length}
 use Rattle.m2v_preface.specs.Headers.{begins_group}
@@ -223,9 +223,6 @@ anchor_before_p b h before p c lt n =
 none_or : {A : Type 0} (o : Option A) → (o ≡ None) ⊎ (is_some o ≡ true)
 none_or None = inl refl
 none_or (Some x) = inr refl
-
-none_is : {A : Type 0} (o : Option A) → o ≡ None → is_some o ≡ false
-none_is o e = ap is_some e
 
 -- a B picture has two
 pub anchors_before_b : (b : Book) → IsBook b → (before p : ℕ) → IsCounted b before → p < length b.pictures → (job_at b p).kind ≡ 3 → 2 ≤ anchors_behind before b p

@@ -1,13 +1,12 @@
 -- Units with zero bytes behind them, as they stand behind the last slice of a picture: texts are cut into them too.
-use Rattle.std.proofs.Common.{◌≡◌, ℕ, zero, suc, ◌+◌, ◌-◌, ◌*◌, ◌%◌, ◌/◌, ◌<◌, ◌≤◌, Bool, true, false, inl, inr, List, [], ◌∷◌, ◌++◌, length, drop, replicate, refl, sym, ap, subst, ◌∙◌, arith, append_assoc}
+use Rattle.std.proofs.Common.{◌≡◌, ℕ, zero, suc, ◌+◌, ◌-◌, ◌*◌, ◌%◌, ◌<◌, ◌≤◌, Bool, true, false, inl, inr, List, [], ◌∷◌, ◌++◌, length, drop, replicate, refl, sym, ap, subst, ◌∙◌, arith, append_assoc}
 use Rattle.std.specs.Prelude.{nat_eq, ◌&&◌, All}
-use Rattle.std.specs.List.{flat_map}
 use Rattle.std.proofs.lemmas.Bool.{cases_lt}
 use Rattle.std.proofs.lemmas.List.{length-append, append-nil, replicate-append-replicate, length-replicate}
 use Rattle.std.proofs.lemmas.List.Concat.{flat_map-append}
 use Rattle.std.proofs.lemmas.List.Elements.{All-head, All-tail, All-nil, All-cons, All-append}
 use Rattle.std.proofs.Math.Seq.{drop-append-add}
-use Rattle.m2v_bits.specs.Bits.{bits_of, number, bits, packed, unit, to_edge, IsEdge}
+use Rattle.m2v_bits.specs.Bits.{bits_of, number, bits, packed, unit, to_edge}
 use Rattle.m2v_bits.proofs.Units.{unit_edge, packed-append}
 use Rattle.m2v_model.specs.Faults.{InUnit}
 use Rattle.m2v_model.specs.Units.{begins_code, joined, Clear, AreUnits, Cuts, Units, inside}
