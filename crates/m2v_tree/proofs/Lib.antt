@@ -1,1 +1,13 @@
-
+pub mod CalmHeaders
+pub mod Follows
+pub mod Groups
+pub mod Headers
+pub mod Ledgers
+pub mod PictureChains
+pub mod Pictures
+pub mod Places
+pub mod Slices
+pub mod States
+pub mod Streams
+pub mod Turns
+pub mod Zeros

@@ -15,7 +15,7 @@ use Rattle.m2v_tree.specs.Trees.{sequence_by}
 -- once the sequence header was read: whether the group is closed, how many anchors were decoded, the first field that
 -- waits, and the picture that is open
 abbrev pub state_with : Settings → Bool → ℕ → Option FirstField → Option Open → State
-state_with s closed anchors waiting open = record {
+state_with s closed anchors waiting current = record {
   first = Some (sequence_by s);
   sequence = Some (sequence_by s);
   intra = default_matrix true;
@@ -24,7 +24,7 @@ state_with s closed anchors waiting open = record {
   anchors = anchors;
   waiting = waiting;
   headers_only = false;
-  picture = open;
+  picture = current;
 }
 
 -- a picture of which the first n slices were read; it has these references
