@@ -19,14 +19,15 @@ use Rattle.m2v_flat.specs.Answers.{FlatCoded, FlatStops, HasPassed, most_frames,
 use Rattle.m2v_flat.specs.Flat.{Flat}
 use Rattle.m2v_flat.specs.Recon.{FlatRecon}
 use Rattle.m2v_flat.proofs.Passing.{in_bounds}
-use Rattle.m2v_model.proofs.Unique.{exactly_one}
+use Rattle.m2v_shown.specs.Laws.{DecodesTo}
+use Rattle.m2v_shown.proofs.Decodes.{decoded_to}
 use Rattle.m2v_flat.proofs.Streams.{flat_decodes}
 use Rattle.m2v_tool.specs.declared.flat.FlatWords.{FlatWords}
 use Rattle.m2v_tool.specs.declared.flat.FlatOutcome.{FlatOutcome}
 use Rattle.m2v_tool.specs.declared.flat.FlatOutcome.TheVariants.{Coded, Unfit, Stopped}
 use Rattle.m2v_tool.specs.Endings.{Told, whole, cut, unfit_ending}
 use Rattle.m2v_tool.specs.Words.{settings_of, WordsPass, WordsFail}
-use Rattle.m2v_tool.specs.Coding.{DecodesBack, FlatDone, FlatStopped, FlatComes, coding_stopped, flat_ending, AreFrames, EndInside, FlatAnswer, FlatKeeps}
+use Rattle.m2v_tool.specs.Coding.{FlatDone, FlatStopped, FlatComes, coding_stopped, flat_ending, AreFrames, EndInside, FlatAnswer, FlatKeeps}
 use Rattle.m2v_tool.specs.Runs.{Run, work_of, IsUntouched, Yields, RefusedBy, NoneFailed, Succeeds}
 use Rattle.m2v_tool.proofs.EndingLaws.{refusal, or_memory}
 
@@ -108,14 +109,9 @@ not_many size bytes a more = omega (arith, a.are, mul-le-mul_right size a.most)
 
 -- ---- what the stream decodes to
 
-decodes_back : (s : FlatSettings) (frames : List (List ℕ)) → HasPassed s → 1 ≤ length frames → DecodesBack s frames
+decodes_back : (s : FlatSettings) (frames : List (List ℕ)) → HasPassed s → 1 ≤ length frames → DecodesTo (Flat s frames) (FlatRecon s frames)
 decodes_back s frames passed some =
-    let d = flat_decodes s frames passed some in
-    record {
-      decodes = d;
-      only = λ shown e. (exactly_one (Flat s frames)).one_decoding shown (FlatRecon s frames) e d;
-      sound = λ place kind f. (exactly_one (Flat s frames)).not_both (FlatRecon s frames) place kind d f;
-    }
+    decoded_to (Flat s frames) (FlatRecon s frames) (flat_decodes s frames passed some)
 
 has_passed : (w : FlatWords) → WordsPass w → IsSize (flat_dims w.width w.height) → HasPassed (settings_of w)
 has_passed w passes size = record { passes = passes; dims = refl; size = size }

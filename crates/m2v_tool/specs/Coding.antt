@@ -9,8 +9,7 @@ use Rattle.m2v_flat.specs.declared.answer.EncodeError.TheVariants as Error
 use Rattle.m2v_flat.specs.Answers.{FlatCoded, FlatStops, most_frames}
 use Rattle.m2v_flat.specs.Flat.{Flat}
 use Rattle.m2v_flat.specs.Recon.{FlatRecon}
-use Rattle.m2v_model.specs.declared.fault.FaultKind.{FaultKind}
-use Rattle.m2v_model.specs.Decoding.{Decodes, FaultAt}
+use Rattle.m2v_shown.specs.Laws.{DecodesTo}
 use Rattle.m2v_tool.specs.declared.flat.FlatWords.{FlatWords}
 use Rattle.m2v_tool.specs.declared.flat.FlatOutcome.{FlatOutcome}
 use Rattle.m2v_tool.specs.declared.flat.FlatOutcome.TheVariants.{Coded, Unfit, Stopped}
@@ -18,17 +17,11 @@ use Rattle.m2v_tool.specs.Endings.{Ending, read_fault, write_fault, no_memory, u
 use Rattle.m2v_tool.specs.Words.{settings_of, WordsPass, WordsFail}
 use Rattle.m2v_tool.specs.Runs.{Run, Yields, RefusedBy, NoneFailed, Succeeds}
 
--- The stream of these frames decodes to the frames that it stands for and to nothing else, and no fault stands in it.
-pub record DecodesBack (s : FlatSettings) (frames : List (List ℕ)) : Type 0 where
-  pub decodes : Decodes (Flat s frames) (FlatRecon s frames)
-  pub only : (shown : List (List ℕ)) → Decodes (Flat s frames) shown → shown ≡ FlatRecon s frames
-  pub sound : (place : ℕ) (kind : FaultKind) → FaultAt (Flat s frames) place kind → ⊥
-
 -- The settings pass, the input was coded, and what output has grown by decodes.
 pub record FlatDone (w : FlatWords) (left held : Change) (summary : Summary) : Type 0 where
   pub passes : WordsPass w
   pub coded : FlatCoded (settings_of w) left held summary
-  pub back : DecodesBack (settings_of w) coded.frames
+  pub back : DecodesTo (Flat (settings_of w) coded.frames) (FlatRecon (settings_of w) coded.frames)
 
 -- The settings pass, and coding stopped.
 pub record FlatStopped (w : FlatWords) (left held : Change) (e : EncodeError) : Type 0 where
