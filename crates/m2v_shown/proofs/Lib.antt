@@ -1,2 +1,5 @@
+pub mod Reading
+pub mod Squares
+pub mod Painted
 pub mod Order
 pub mod Coding
