@@ -1,5 +1,5 @@
 //! What holds of what a decoder shows of the encoder's tree.
-ghost use Rattle.std.specs.Prelude.{ℕ, suc, ◌≡◌, ◌*◌, ◌≤◌, ◌<◌, Bool, false, not, List, map, filter, Option};
+ghost use Rattle.std.specs.Prelude.{ℕ, suc, ◌≡◌, ◌*◌, ◌≤◌, ◌<◌, Bool, false, not, List, length, map, filter, Option};
 ghost use Rattle.std.specs.List.{range_with_len};
 ghost use Rattle.m2v_plane.specs.declared.planes.Plane.{Plane};
 ghost use Rattle.m2v_plane.specs.Samples.{Samples};
@@ -10,8 +10,13 @@ ghost use Rattle.m2v_order.specs.Groups.{past_last};
 ghost use Rattle.m2v_order.specs.Display.{is_b, Shown, frames_of};
 ghost use Rattle.m2v_row.specs.Slices.{SliceTask};
 ghost use Rattle.m2v_row.specs.Laws.{IsSlice};
+ghost use Rattle.m2v_slice.specs.Books.{Book, rows, job_at, coded};
+ghost use Rattle.m2v_slice.specs.Conditions.{IsBook};
+ghost use Rattle.m2v_stream.specs.Streams.{frame_of};
 ghost use Rattle.m2v_model.specs.Samples.{References};
 ghost use Rattle.m2v_chain.specs.Painting.{IsPainted, lines_in};
+ghost use Rattle.m2v_tree.specs.Trees.{task_at};
+ghost use Rattle.m2v_shown.specs.Rows.{rows_in, fresh_of};
 ghost use Rattle.m2v_shown.specs.Showing.{ShowAll};
 ghost use Rattle.m2v_shown.specs.Views.{AreReferencesOf, HasRowOf, slice_in};
 
@@ -36,4 +41,22 @@ pub fn law_slice_painted()
         → IsSlice t → AreReferencesOf t refs → HasRowOf t at
         → IsPainted (lines_in t.context) t.source.dims (t.row * t.context.columns) at now
         → IsPainted (lines_in t.context) t.source.dims (suc t.row * t.context.columns) at (slice_in t references refs now) }
+{}
+
+/// The slices of a picture, painted one after another by references that show what they were coded by, are its frame: of a
+/// frame picture into a frame of zeros, and of two field pictures the second one's into what the first one leaves.
+pub fn law_frame_painted()
+    ensures whole { (b : Book) (p : ℕ) (references : List Bool) (refs : References) → IsBook b
+        → p < length b.pictures → (job_at b p).structure ≡ 3
+        → ((r : ℕ) → r < rows b → AreReferencesOf (task_at b p r) refs)
+        → rows_in (λ r. task_at b p r) references refs (rows b) (fresh_of b)
+        ≡ frame_of b (coded b (length b.pictures)) (job_at b p).frame }
+    ensures fields { (b : Book) (p q : ℕ) (first second : List Bool) (refs others : References) → IsBook b
+        → p < length b.pictures → q < length b.pictures
+        → (job_at b p).structure ≡ 1 → (job_at b q).structure ≡ 2 → (job_at b p).frame ≡ (job_at b q).frame
+        → ((r : ℕ) → r < rows b → AreReferencesOf (task_at b p r) refs)
+        → ((r : ℕ) → r < rows b → AreReferencesOf (task_at b q r) others)
+        → rows_in (λ r. task_at b q r) second others (rows b)
+        (rows_in (λ r. task_at b p r) first refs (rows b) (fresh_of b))
+        ≡ frame_of b (coded b (length b.pictures)) (job_at b p).frame }
 {}
