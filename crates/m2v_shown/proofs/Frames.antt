@@ -109,7 +109,7 @@ module _ (b : Book) (done : List CodedPicture) (p : ℕ) (plane : Plane) (line c
       bottom_is (number_among (own_lines (job_at b p).structure) line) (bottom_odd line odd) (only false (ap (λ (s : ℕ). has_lines s Bottom) is))
       (ap (λ (s : ℕ). line_in s Bottom (line / 2)) is ∙ ap (λ (s : ℕ). number_among (own_lines s) line) (sym is))
 
-  own_is : (scan : Scan) → HasStructure scan (job_at b p).structure
+  pub own_is : (scan : Scan) → HasStructure scan (job_at b p).structure
       → ((top : Bool) → has_lines (job_at b p).structure (lines_by top) ≡ true → picture_with b (job_at b p).frame (lines_by top) (length done) ≡ Some p)
       → is_among (own_lines (job_at b p).structure) line ≡ true
       → samples_of b done (job_at b p).frame plane line column ≡ at_number (number_among (own_lines (job_at b p).structure) line)
@@ -136,7 +136,7 @@ module _ (b : Book) (h : IsBook b) (p : ℕ) (lt : p < length b.pictures) where
   unfolding task_of
   own_dims r = source_size b h p lt
 
-  only_here : (top : Bool) → has_lines (job_at b p).structure (lines_by top) ≡ true → picture_with b (job_at b p).frame (lines_by top) (length (coded b (length b.pictures))) ≡ Some p
+  pub only_here : (top : Bool) → has_lines (job_at b p).structure (lines_by top) ≡ true → picture_with b (job_at b p).frame (lines_by top) (length (coded b (length b.pictures))) ≡ Some p
   only_here top has =
       ap (λ (n : ℕ). picture_with b (job_at b p).frame (lines_by top) n) (count b (length b.pictures))
       ∙ only_one b h p top has (length b.pictures) lt (omega arith)
@@ -146,7 +146,7 @@ module _ (b : Book) (h : IsBook b) (p : ℕ) (lt : p < length b.pictures) where
       slice_is b (length b.pictures) p r lt small
       ∙ ap (λ (x : Plan). slice_of (task_of b (coded b p) p x r)) (plan_is b (length b.pictures) p lt)
 
-  slice_is_one : (r : ℕ) → r < rows b → IsSlice (task_at b p r)
+  pub slice_is_one : (r : ℕ) → r < rows b → IsSlice (task_at b p r)
   slice_is_one r small =
       let good = subst (IsPlan b.settings) (plan_is b (length b.pictures) p lt) (plan_is_good b h (length b.pictures) p lt (omega arith)) in
       task_is b h (coded b p) p (plan_of (ledger_for b (coded b p) p) p) r lt small good
@@ -186,7 +186,7 @@ whole_rows Frames height structure is three = refl
 whole_rows Fields height structure (inl one) three = absurd (omega (arith, one, three))
 whole_rows Fields height structure (inr two) three = absurd (omega (arith, two, three))
 
-half_rows : (scan : Scan) (height structure : ℕ) → HasStructure scan structure → structure ≤ 2 → frame_rows_by scan height ≡ 2 * rows_by scan height
+pub half_rows : (scan : Scan) (height structure : ℕ) → HasStructure scan structure → structure ≤ 2 → frame_rows_by scan height ≡ 2 * rows_by scan height
 unfolding rows_by frame_rows_by
 half_rows Progressive height structure three small = absurd (omega (arith, three, small))
 half_rows Frames height structure three small = absurd (omega (arith, three, small))

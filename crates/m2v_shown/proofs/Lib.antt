@@ -6,3 +6,6 @@ pub mod Only
 pub mod Frames
 pub mod Order
 pub mod Coding
+pub mod Shapes
+pub mod Views
+pub mod References

@@ -1,3 +1,4 @@
 pub mod Views
 pub mod Rows
 pub mod Showing
+pub mod Stores

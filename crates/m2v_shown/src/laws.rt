@@ -1,5 +1,5 @@
 //! What holds of what a decoder shows of the encoder's tree.
-ghost use Rattle.std.specs.Prelude.{ℕ, suc, ◌≡◌, ◌*◌, ◌≤◌, ◌<◌, Bool, false, not, List, length, map, filter, Option};
+ghost use Rattle.std.specs.Prelude.{ℕ, suc, ◌≡◌, ◌*◌, ◌≤◌, ◌<◌, Bool, false, not, nat_eq, List, length, map, filter, Option};
 ghost use Rattle.std.specs.List.{range_with_len};
 ghost use Rattle.m2v_plane.specs.declared.planes.Plane.{Plane};
 ghost use Rattle.m2v_plane.specs.Samples.{Samples};
@@ -17,6 +17,8 @@ ghost use Rattle.m2v_model.specs.Samples.{References};
 ghost use Rattle.m2v_chain.specs.Painting.{IsPainted, lines_in};
 ghost use Rattle.m2v_tree.specs.Trees.{task_at};
 ghost use Rattle.m2v_shown.specs.Rows.{rows_in, fresh_of};
+ghost use Rattle.m2v_model.specs.Pictures.{Store, references_by};
+ghost use Rattle.m2v_shown.specs.Stores.{HoldsBefore};
 ghost use Rattle.m2v_shown.specs.Showing.{ShowAll};
 ghost use Rattle.m2v_shown.specs.Views.{AreReferencesOf, HasRowOf, slice_in};
 
@@ -59,4 +61,13 @@ pub fn law_frame_painted()
         → rows_in (λ r. task_at b q r) second others (rows b)
         (rows_in (λ r. task_at b p r) first refs (rows b) (fresh_of b))
         ≡ frame_of b (coded b (length b.pictures)) (job_at b p).frame }
+{}
+
+/// Before a picture of a group a decoder has at hand what it was coded by: where it holds the last two anchors as they were
+/// rebuilt, and before a second field the first one, the picture's references show the same inside the frame.
+pub fn law_references()
+    ensures { (b : Book) (older : Option Samples) (p r : ℕ) (store : Store) → IsBook b → p < length b.pictures
+        → HoldsBefore b older p store
+        → AreReferencesOf (task_at b p r)
+        (references_by (job_at b p).kind (nat_eq (job_at b p).structure 2) (job_at b p).structure store) }
 {}

@@ -4,4 +4,4 @@
 
 mod laws;
 
-pub use laws::{law_display_order, law_frame_painted, law_slice_painted};
+pub use laws::{law_display_order, law_frame_painted, law_slice_painted, law_references};
