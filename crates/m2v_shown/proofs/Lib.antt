@@ -9,3 +9,9 @@ pub mod Coding
 pub mod Shapes
 pub mod Views
 pub mod References
+pub mod TreeTurns
+pub mod TreeStates
+pub mod Large
+pub mod Runs
+pub mod Heads
+pub mod Steps

@@ -155,7 +155,7 @@ shows_by b v w o u lines e f s = subst (λ (x : Option Samples). ShowsOf b (pict
 
 -- ---- what a picture leaves
 
-ends_is : (b : Book) (q structure : ℕ) → nat_eq (job_at b q).kind 3 ≡ false → (job_at b q).structure ≡ structure → nat_eq structure 1 ≡ false → ends_anchor b q ≡ true
+pub ends_is : (b : Book) (q structure : ℕ) → nat_eq (job_at b q).kind 3 ≡ false → (job_at b q).structure ≡ structure → nat_eq structure 1 ≡ false → ends_anchor b q ≡ true
 ends_is b q structure k s e = rw (k, s, e) refl
 
 pub b_ends_none : (b : Book) (q : ℕ) → nat_eq (job_at b q).kind 3 ≡ true → ends_anchor b q ≡ false
@@ -169,7 +169,7 @@ first_ends_none b q s = by_kind (nat_eq (job_at b q).kind 3)
     by_kind false = rw s refl
 
 module _ (b : Book) (older : Option Samples) (q : ℕ) where
-  newer_ended : ends_anchor b q ≡ true → newer_behind b (suc q) ≡ Some (frame_in b (job_at b q).frame)
+  pub newer_ended : ends_anchor b q ≡ true → newer_behind b (suc q) ≡ Some (frame_in b (job_at b q).frame)
   unfolding newer_behind
   newer_ended e = ap (λ (t : Bool). cond t (Some (frame_in b (job_at b q).frame)) (newer_behind b q)) e
 
@@ -177,7 +177,7 @@ module _ (b : Book) (older : Option Samples) (q : ℕ) where
   unfolding newer_behind
   newer_kept e = ap (λ (t : Bool). cond t (Some (frame_in b (job_at b q).frame)) (newer_behind b q)) e
 
-  older_ended : ends_anchor b q ≡ true → older_behind b older (suc q) ≡ newer_behind b q
+  pub older_ended : ends_anchor b q ≡ true → older_behind b older (suc q) ≡ newer_behind b q
   unfolding older_behind
   older_ended e = ap (λ (t : Bool). cond t (newer_behind b q) (older_behind b older q)) e
 
@@ -321,7 +321,7 @@ first_free b q one (inl s) = s.0
 first_free b q one (inr (inl s)) = s.0
 first_free b q one (inr (inr s)) = let two = s.1.structure in absurd (omega (arith, one, two))
 
-true_false : (t : Bool) → t ≡ true → t ≡ false → ⊥
+pub true_false : (t : Bool) → t ≡ true → t ≡ false → ⊥
 true_false true e f = absurd cc
 true_false false e f = absurd cc
 

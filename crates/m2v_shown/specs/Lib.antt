@@ -2,3 +2,4 @@ pub mod Views
 pub mod Rows
 pub mod Showing
 pub mod Stores
+pub mod Runs
