@@ -15,3 +15,5 @@ pub mod Large
 pub mod Runs
 pub mod Heads
 pub mod Steps
+pub mod Groups
+pub mod TreeLedgers
