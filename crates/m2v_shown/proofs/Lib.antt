@@ -17,3 +17,6 @@ pub mod Heads
 pub mod Steps
 pub mod Groups
 pub mod TreeLedgers
+pub mod TreeFollows
+pub mod Mapped
+pub mod Streams

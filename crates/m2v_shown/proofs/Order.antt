@@ -16,7 +16,7 @@ frames_first : (a b : ℕ) → a + 1 ≤ b → frames_between a b ≡ a ∷ fram
 frames_first a b le = let e : b - a ≡ suc (b - (a + 1)) = omega (arith, le) in rw e refl
 
 module _ {F : Type 0} where
-  handed_append : (ps qs : List (F × ℕ)) (q : Holder F) → handed q (ps ++ qs) ≡ handed q ps ++ handed (held_after q ps) qs
+  pub handed_append : (ps qs : List (F × ℕ)) (q : Holder F) → handed q (ps ++ qs) ≡ handed q ps ++ handed (held_after q ps) qs
   unfolding handed held_after
   handed_append [] qs q = refl
   handed_append (p ∷ ps) qs q =
@@ -24,24 +24,24 @@ module _ {F : Type 0} where
       ap (λ xs. first ++ xs) (handed_append ps qs (held q p.0 p.1))
       ∙ sym (append_assoc first (handed (held q p.0 p.1) ps) (handed (held_after (held q p.0 p.1) ps) qs))
 
-  held_append : (ps qs : List (F × ℕ)) (q : Holder F) → held_after q (ps ++ qs) ≡ held_after (held_after q ps) qs
+  pub held_append : (ps qs : List (F × ℕ)) (q : Holder F) → held_after q (ps ++ qs) ≡ held_after (held_after q ps) qs
   unfolding held_after
   held_append [] qs q = refl
   held_append (p ∷ ps) qs q = held_append ps qs (held q p.0 p.1)
 
-  handed_anchor : (h : Option F) (p : F × ℕ) (ps : List (F × ℕ)) → is_b p ≡ false → handed (holding h) (p ∷ ps) ≡ option_to_list h ++ handed (holding (Some p.0)) ps
+  pub handed_anchor : (h : Option F) (p : F × ℕ) (ps : List (F × ℕ)) → is_b p ≡ false → handed (holding h) (p ∷ ps) ≡ option_to_list h ++ handed (holding (Some p.0)) ps
   unfolding handed shown held
   handed_anchor h p ps e = rw e refl
 
-  held_anchor : (h : Option F) (p : F × ℕ) (ps : List (F × ℕ)) → is_b p ≡ false → held_after (holding h) (p ∷ ps) ≡ held_after (holding (Some p.0)) ps
+  pub held_anchor : (h : Option F) (p : F × ℕ) (ps : List (F × ℕ)) → is_b p ≡ false → held_after (holding h) (p ∷ ps) ≡ held_after (holding (Some p.0)) ps
   unfolding held_after held
   held_anchor h p ps e = rw e refl
 
-  handed_b : (h : Option F) (p : F × ℕ) (ps : List (F × ℕ)) → is_b p ≡ true → handed (holding h) (p ∷ ps) ≡ p.0 ∷ handed (holding h) ps
+  pub handed_b : (h : Option F) (p : F × ℕ) (ps : List (F × ℕ)) → is_b p ≡ true → handed (holding h) (p ∷ ps) ≡ p.0 ∷ handed (holding h) ps
   unfolding handed shown held
   handed_b h p ps e = rw e refl
 
-  held_b : (h : Option F) (p : F × ℕ) (ps : List (F × ℕ)) → is_b p ≡ true → held_after (holding h) (p ∷ ps) ≡ held_after (holding h) ps
+  pub held_b : (h : Option F) (p : F × ℕ) (ps : List (F × ℕ)) → is_b p ≡ true → held_after (holding h) (p ∷ ps) ≡ held_after (holding h) ps
   unfolding held_after held
   held_b h p ps e = rw e refl
 
@@ -181,7 +181,7 @@ module _ {F : Type 0} where
   kept_step dropped p xs ys false true e same = ap (λ zs. p ∷ zs) same
   kept_step dropped p xs ys false false e same = ap (λ zs. p ∷ zs) same
 
-  all_kept : (dropped : F → Bool) (ps : List (F × ℕ)) → All (λ (p : F × ℕ). dropped p.0 ≡ false) ps → filter (is_kept dropped) ps ≡ ps
+  pub all_kept : (dropped : F → Bool) (ps : List (F × ℕ)) → All (λ (p : F × ℕ). dropped p.0 ≡ false) ps → filter (is_kept dropped) ps ≡ ps
   all_kept dropped [] all = refl
   all_kept dropped (p ∷ ps) all =
       let P = λ (p : F × ℕ). dropped p.0 ≡ false in

@@ -12,10 +12,11 @@ ghost use Rattle.m2v_row.specs.Slices.{SliceTask};
 ghost use Rattle.m2v_row.specs.Laws.{IsSlice};
 ghost use Rattle.m2v_slice.specs.Books.{Book, rows, job_at, coded};
 ghost use Rattle.m2v_slice.specs.Conditions.{IsBook};
-ghost use Rattle.m2v_stream.specs.Streams.{frame_of};
+ghost use Rattle.m2v_stream.specs.Streams.{frame_of, Recon};
 ghost use Rattle.m2v_model.specs.Samples.{References};
 ghost use Rattle.m2v_chain.specs.Painting.{IsPainted, lines_in};
-ghost use Rattle.m2v_tree.specs.Trees.{task_at};
+ghost use Rattle.m2v_model.specs.Decoding.{frames_of as shown_by};
+ghost use Rattle.m2v_tree.specs.Trees.{task_at, tree_of};
 ghost use Rattle.m2v_shown.specs.Rows.{rows_in, fresh_of};
 ghost use Rattle.m2v_model.specs.Pictures.{Store, references_by};
 ghost use Rattle.m2v_shown.specs.Stores.{HoldsBefore};
@@ -70,4 +71,10 @@ pub fn law_references()
         → HoldsBefore b older p store
         → AreReferencesOf (task_at b p r)
         (references_by (job_at b p).kind (nat_eq (job_at b p).structure 2) (job_at b p).structure store) }
+{}
+
+/// A decoder shows the reconstructions of the raw frames, in display order: all of them, and nothing else.
+pub fn law_shown()
+    ensures { (s : Settings) (frames : List (List ℕ)) → Passes s → 1 ≤ length frames
+        → length frames ≤ 999999 → shown_by (tree_of s frames) ≡ Recon s frames }
 {}
