@@ -1,5 +1,5 @@
 -- The coding order of all frames is shown in display order.
-use Rattle.std.proofs.Common.{◌≡◌, ℕ, ◌-◌, ◌≤◌, Bool, true, false, not, List, map, refl, sym, ap, ◌∙◌, arith, None, [], ◌∷◌, subst}
+use Rattle.std.proofs.Common.{◌≡◌, ℕ, ◌-◌, ◌≤◌, Bool, true, false, not, List, map, refl, arith, None, [], ◌∷◌, subst}
 use Rattle.std.specs.Prelude.{All, ◌<◌}
 use Rattle.std.specs.List.{range_with_len}
 use Rattle.std.proofs.lemmas.List.Elements.{All-nil, All-cons, All-head, All-tail}

@@ -1,24 +1,22 @@
 -- The slices of a book's pictures, painted, give the frames of the group.
-use Rattle.std.proofs.Common.{◌≡◌, ℕ, ◌+◌, ◌*◌, ◌/◌, ◌%◌, ◌<◌, ◌≤◌, ◌⊎◌, inl, inr, Bool, true, false, cond, List, length, Option, Some, refl, sym, ap, subst, ◌∙◌, arith}
+use Rattle.std.proofs.Common.{◌≡◌, ℕ, ◌+◌, ◌*◌, ◌/◌, ◌%◌, ◌<◌, ◌≤◌, inl, inr, Bool, true, false, List, length, Option, Some, refl, sym, ap, subst, ◌∙◌, arith}
 use Rattle.std.specs.Prelude.{nat_eq}
 use Rattle.std.proofs.lemmas.Bool.{cond-true, cond-false, cases_Bool, cases_lt, eqb-true, eqb-false}
-use Rattle.m2v_plane.specs.declared.dims.Dims.{Dims}
 use Rattle.m2v_plane.specs.declared.planes.Plane.{Plane}
 use Rattle.m2v_plane.specs.declared.planes.Lines.{Lines}
 use Rattle.m2v_plane.specs.declared.planes.Lines.TheVariants.{Whole, Top, Bottom}
-use Rattle.m2v_plane.specs.Sizes.{side, columns_of}
-use Rattle.m2v_plane.specs.Samples.{Samples, blank, sample_of, is_among, number_among}
+use Rattle.m2v_plane.specs.Sizes.{side}
+use Rattle.m2v_plane.specs.Samples.{blank, sample_of, is_among, number_among}
 use Rattle.m2v_pred.specs.Motion.{own_lines}
-use Rattle.m2v_set.specs.declared.settings.Settings.{Settings}
 use Rattle.m2v_set.specs.declared.settings.Scan.{Scan}
 use Rattle.m2v_set.specs.declared.settings.Scan.TheVariants.{Progressive, Frames, Fields}
 use Rattle.m2v_set.specs.Numbers.{dims_of, rows_by, frame_rows_by}
 use Rattle.m2v_rate.specs.Plans.{plan_of}
 use Rattle.m2v_rate.specs.declared.values.Plan.{Plan}
-use Rattle.m2v_row.specs.Slices.{SliceTask, CodedSlice, slice_of}
+use Rattle.m2v_row.specs.Slices.{CodedSlice, slice_of}
 use Rattle.m2v_row.specs.Laws.{IsSlice}
 use Rattle.m2v_preface.specs.Headers.{context_of, extension_of}
-use Rattle.m2v_slice.specs.Books.{Book, CodedPicture, rows, job_at, slice_at, picture_at, has_lines, line_in, picture_sample, ledger_for, task_of, coded}
+use Rattle.m2v_slice.specs.Books.{Book, CodedPicture, rows, job_at, slice_at, has_lines, line_in, picture_sample, ledger_for, task_of, coded}
 use Rattle.m2v_slice.specs.Conditions.{IsBook}
 use Rattle.m2v_slice.proofs.Coded.{count, slice_is, plan_is}
 use Rattle.m2v_slice.proofs.Groups.{HasStructure, picture_is_one, source_size}
@@ -26,7 +24,7 @@ use Rattle.m2v_slice.proofs.Steady.{IsPlan, task_is}
 use Rattle.m2v_slice.proofs.Sound.{plan_is_good}
 use Rattle.m2v_stream.specs.Streams.{picture_with, frame_of}
 use Rattle.m2v_model.specs.Samples.{References}
-use Rattle.m2v_chain.specs.Painting.{IsPainted, lines_in}
+use Rattle.m2v_chain.specs.Painting.{lines_in}
 use Rattle.m2v_tree.specs.Trees.{task_at}
 use Rattle.m2v_shown.specs.Views.{AreReferencesOf, HasRowOf}
 use Rattle.m2v_shown.specs.Rows.{rows_in, IsRowOf, samples_of}

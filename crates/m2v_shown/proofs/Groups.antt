@@ -1,9 +1,9 @@
 -- A group is shown in display order.
-use Rattle.std.proofs.Common.{◌≡◌, ℕ, zero, suc, ◌+◌, ◌-◌, ◌<◌, ◌≤◌, inl, inr, Bool, true, false, not, ◌&&◌, cond, List, [], ◌∷◌, ◌++◌, length, map, take, filter, get_or, Option, Some, None, refl, sym, ap, subst, ◌∙◌, arith}
-use Rattle.std.specs.Prelude.{nat_eq, if◌then◌else◌}
+use Rattle.std.proofs.Common.{◌≡◌, ℕ, zero, suc, ◌+◌, ◌-◌, ◌<◌, ◌≤◌, inl, inr, Bool, true, false, cond, List, [], ◌∷◌, ◌++◌, length, map, take, get_or, Option, Some, None, refl, sym, ap, subst, ◌∙◌, arith}
+use Rattle.std.specs.Prelude.{nat_eq}
 use Rattle.std.specs.List.{range_with_len, flat_map}
 use Rattle.std.proofs.lemmas.Bool.{cases_Bool, eqb-true}
-use Rattle.std.proofs.lemmas.List.{append-nil, map-append}
+use Rattle.std.proofs.lemmas.List.{append-nil}
 use Rattle.std.proofs.lemmas.Grind.{flat_map-append}
 use Rattle.std.proofs.Math.Seq.{take-suc, take-length}
 use Rattle.m2v_plane.specs.Samples.{Samples}
@@ -14,19 +14,19 @@ use Rattle.m2v_set.specs.declared.settings.Scan.TheVariants.{Progressive, Frames
 use Rattle.m2v_set.specs.Rules.{Passes}
 use Rattle.m2v_order.specs.declared.jobs.PictureJob.{PictureJob}
 use Rattle.m2v_order.specs.Coding.{is_anchor, kind_of, frames_between, in_order, structures}
-use Rattle.m2v_order.specs.Groups.{Queue, Group, first_of, next_intra, group_anchors, group_of, jobs_of, past_last}
+use Rattle.m2v_order.specs.Groups.{Queue, Group, first_of, group_anchors, group_of, jobs_of, past_last}
 use Rattle.m2v_order.proofs.Queues.{grouped, due_is, turn_is, group_length}
 use Rattle.m2v_slice.specs.Books.{Book, no_job, job_at, coded}
 use Rattle.m2v_slice.specs.Conditions.{IsBook}
 use Rattle.m2v_slice.proofs.Groups.{passes_of}
-use Rattle.m2v_stream.specs.Streams.{frame_of, frame_or, anchor_frame}
+use Rattle.m2v_stream.specs.Streams.{frame_or, anchor_frame}
 use Rattle.m2v_shown.specs.Showing.{ShowAll}
 use Rattle.m2v_shown.specs.Stores.{frame_in, newer_behind}
 use Rattle.m2v_shown.specs.Runs.{raw_behind}
 use Rattle.m2v_shown.proofs.Order.{run_shown}
 use Rattle.m2v_shown.proofs.Coding.{b_is}
-use Rattle.m2v_shown.proofs.Shapes.{waits, previous, IsSecond, Shape, shape_at}
-use Rattle.m2v_shown.proofs.Views.{newer_kept, newer_ended, ends_is, b_ends_none, first_ends_none, first_free, true_false}
+use Rattle.m2v_shown.proofs.Shapes.{waits, previous, Shape, shape_at}
+use Rattle.m2v_shown.proofs.Views.{newer_kept, newer_ended, ends_is, b_ends_none, first_free, true_false}
 
 -- ---- the raw frames that a group ends
 
@@ -104,8 +104,8 @@ module _ (b : Book) (h : IsBook b) where
       let anchors = group_anchors queue in
       let f = shown_frame b queue.settings queue.pushed first in
       let g = λ (k : ℕ). crop (frame_in b k) in
-      let run = run_shown f (is_anchor queue.settings queue.pushed) first _ before (λ i. b_is queue.settings queue.pushed (grouped queue.settings queue_passes) i) in
       let none : first + 0 ≡ first = omega arith in
+      let run = run_shown f (is_anchor queue.settings queue.pushed) first _ before (λ i. b_is queue.settings queue.pushed (grouped queue.settings queue_passes) i) in
       let out : map (λ (i : ℕ). (f i).0) (frames_between first (past_last first anchors)) ≡ map g (range_with_len 0 (length b.frames)) =
       ap (λ (n : ℕ). map (λ (i : ℕ). (f i).0) (range_with_len first n)) count_is
       ∙ ap (λ (a : ℕ). map (λ (i : ℕ). (f i).0) (range_with_len a (length b.frames))) (sym none)

@@ -1,13 +1,12 @@
 -- The headers of a picture, and the whole picture.
-use Rattle.std.proofs.Common.{◌≡◌, ℕ, zero, suc, ◌+◌, ◌-◌, ◌*◌, ◌<◌, ◌≤◌, Bool, true, false, cond, List, [], ◌∷◌, ◌++◌, length, Option, Some, None, refl, sym, ap, subst, ◌∙◌, arith}
-use Rattle.std.specs.Prelude.{nat_eq, if◌then◌else◌}
+use Rattle.std.proofs.Common.{◌≡◌, ℕ, ◌-◌, ◌<◌, Bool, true, false, cond, List, [], ◌∷◌, ◌++◌, length, Option, Some, None, refl, sym, ap, subst, ◌∙◌, arith}
+use Rattle.std.specs.Prelude.{nat_eq}
 use Rattle.std.proofs.lemmas.Bool.{cond-false}
 use Rattle.std.proofs.lemmas.List.{append-nil}
 use Rattle.m2v_plane.specs.declared.dims.Dims.{Dims}
 use Rattle.m2v_plane.specs.Samples.{Samples, blank}
 use Rattle.m2v_head.specs.declared.group.GroupInfo.{GroupInfo}
 use Rattle.m2v_preface.specs.Headers.{begins_group, group_from, picture_of, extension_of}
-use Rattle.m2v_set.specs.Numbers.{dims_of}
 use Rattle.m2v_rate.specs.Plans.{Entries}
 use Rattle.m2v_slice.specs.Books.{Book, rows, job_at}
 use Rattle.m2v_slice.specs.Conditions.{IsBook}
@@ -17,11 +16,11 @@ use Rattle.m2v_model.specs.declared.state.State.{State}
 use Rattle.m2v_model.specs.States as model
 use Rattle.m2v_model.specs.States.{opened}
 use Rattle.m2v_model.specs.Samples.{References}
-use Rattle.m2v_model.specs.Streams.{Part, sequence, group, picture, slice, after}
-use Rattle.m2v_model.specs.Pictures.{Store, Pictures, Events, references_by, references_of, fresh, sequence_header, pictures_in, closed, picture_ended, picture_begun}
+use Rattle.m2v_model.specs.Streams.{Part, sequence, group, picture, after}
+use Rattle.m2v_model.specs.Pictures.{Store, Pictures, references_by, references_of, fresh, sequence_header, pictures_in, closed, picture_ended, picture_begun}
 use Rattle.m2v_model.proofs.EventLaws.{pictures_in-append}
 use Rattle.m2v_tree.specs.Trees.{sequence_by, header_parts, task_at, slice_parts, picture_parts}
-use Rattle.m2v_tree.specs.States.{state_with, open_at, waiting_behind, anchors_behind}
+use Rattle.m2v_tree.specs.States.{open_at, waiting_behind, anchors_behind}
 use Rattle.m2v_shown.specs.Rows.{rows_in, fresh_of}
 use Rattle.m2v_shown.specs.Runs.{Goes, pending, settled, store_with}
 use Rattle.m2v_shown.proofs.TreeTurns.{IsCounted}

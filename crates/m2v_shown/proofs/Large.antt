@@ -1,11 +1,11 @@
 -- No macroblock of the encoder's slices is large.
-use Rattle.std.proofs.Common.{◌≡◌, ℕ, zero, suc, ◌<◌, ◌≤◌, Bool, true, false, cond, List, [], ◌∷◌, ◌++◌, length, filter, refl, sym, ap, subst, ◌∙◌, arith}
+use Rattle.std.proofs.Common.{◌≡◌, ℕ, zero, suc, ◌<◌, ◌≤◌, Bool, true, false, cond, List, [], ◌∷◌, ◌++◌, length, filter, refl, ap, subst, ◌∙◌, arith}
 use Rattle.std.specs.Prelude.{nat_lt, All}
 use Rattle.std.proofs.lemmas.Bool.{le-ltb}
 use Rattle.std.proofs.lemmas.List.Elements.{All-nil, All-cons, All-append, All-head, All-tail}
 use Rattle.m2v_plane.specs.Samples.{Samples, blank}
 use Rattle.m2v_macroblock.specs.Texts.{macroblock_text}
-use Rattle.m2v_choose.specs.Decisions.{Decision, Candidate}
+use Rattle.m2v_choose.specs.Decisions.{Decision}
 use Rattle.m2v_choose.specs.Choice.{choice_of}
 use Rattle.m2v_row.specs.Slices.{SliceTask, decision, begun}
 use Rattle.m2v_row.specs.Laws.{IsSlice}

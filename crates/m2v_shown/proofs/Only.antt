@@ -2,7 +2,7 @@
 use Rattle.std.proofs.Common.{◌≡◌, ℕ, zero, suc, ◌+◌, ◌-◌, ◌<◌, ◌≤◌, inl, inr, Bool, true, false, cond, List, [], ◌∷◌, ◌++◌, length, map, get_or, Option, Some, refl, sym, ap, subst, ◌∙◌, arith, eq-eqb}
 use Rattle.std.specs.Prelude.{nat_eq, ◌&&◌, filter, All}
 use Rattle.std.specs.List.{range_with_len, flat_map}
-use Rattle.std.proofs.lemmas.Bool.{cond-true, cond-false, cases_lt, cases_Bool, and_from, and_parts, eqb-true}
+use Rattle.std.proofs.lemmas.Bool.{cond-true, cases_lt, and_from, eqb-true}
 use Rattle.std.proofs.lemmas.List.Elements.{All-nil, All-cons, All-append, All-weaker, All-head, All-tail}
 use Rattle.m2v_plane.specs.declared.planes.Lines.{Lines}
 use Rattle.m2v_plane.specs.declared.planes.Lines.TheVariants.{Top, Bottom}
@@ -39,17 +39,19 @@ at_least low (x ∷ xs) d = All-cons (λ (y : ℕ). low ≤ y) x xs d.0.0 (at_le
 range_distinct : (n from low : ℕ) → low ≤ from → Distinct low (range_with_len from n)
 unfolding Distinct
 range_distinct zero from low le = tt
-range_distinct (suc n) from low le =
-    ((le, All-weaker (Between (from + 1) (from + 1 + n)) (λ (y : ℕ). from ≡ y → ⊥) (λ y h e. let l = h.0 in omega (arith, l, e)) (range_with_len (from + 1) n) (range_within (from + 1) n)),
-    range_distinct n (from + 1) low (omega (arith, le)))
+range_distinct (suc n) from low le = (
+  (le, All-weaker (Between (from + 1) (from + 1 + n)) (λ (y : ℕ). from ≡ y → ⊥) (λ y h e. let l = h.0 in omega (arith, l, e)) (range_with_len (from + 1) n) (range_within (from + 1) n)),
+  range_distinct n (from + 1) low (omega (arith, le)),
+)
 
 joined : (low mid : ℕ) (xs ys : List ℕ) → low ≤ mid → Distinct low xs → All (λ (x : ℕ). x < mid) xs → Distinct mid ys → Distinct low (xs ++ ys)
 unfolding Distinct
 joined low mid [] ys le d below e = lower low mid ys le e
 joined low mid (x ∷ xs) ys le d below e =
-    let small : x < mid = All-head (λ (y : ℕ). y < mid) x xs below in
-    ((d.0.0, All-append (λ (y : ℕ). x ≡ y → ⊥) xs ys d.0.1 (All-weaker (λ (y : ℕ). mid ≤ y) (λ (y : ℕ). x ≡ y → ⊥) (λ y h same. omega (arith, h, same, small)) ys (at_least mid ys e))),
-    joined low mid xs ys le d.1 (All-tail (λ (y : ℕ). y < mid) x xs below) e)
+    let small : x < mid = All-head (λ (y : ℕ). y < mid) x xs below in (
+      (d.0.0, All-append (λ (y : ℕ). x ≡ y → ⊥) xs ys d.0.1 (All-weaker (λ (y : ℕ). mid ≤ y) (λ (y : ℕ). x ≡ y → ⊥) (λ y h same. omega (arith, h, same, small)) ys (at_least mid ys e))),
+      joined low mid xs ys le d.1 (All-tail (λ (y : ℕ). y < mid) x xs below) e,
+    )
 
 -- numbers that rise, from one on
 Ascends : ℕ → List ℕ → Type 0
@@ -80,12 +82,16 @@ order_distinct from (a ∷ more) up =
     let between = frames_between from a in
     let rest = in_order (a + 1) more in
     let later : Distinct (a + 1) rest = order_distinct (a + 1) more up.1 in
-    let inside = range_within from (a - from) in
-    ((low, All-append (λ (y : ℕ). a ≡ y → ⊥) between rest
-    (All-weaker (Between from (from + (a - from))) (λ (y : ℕ). a ≡ y → ⊥) (λ y h e. let less = h.1 in omega (arith, less, e, low)) between inside)
-    (All-weaker (λ (y : ℕ). a + 1 ≤ y) (λ (y : ℕ). a ≡ y → ⊥) (λ y h e. omega (arith, h, e)) rest (at_least (a + 1) rest later))),
-    joined from (a + 1) between rest (omega (arith, low)) (range_distinct (a - from) from from (omega arith))
-    (All-weaker (Between from (from + (a - from))) (λ (x : ℕ). x < a + 1) (λ x h. let less = h.1 in omega (arith, less, low)) between inside) later)
+    let inside = range_within from (a - from) in (
+      (
+        low,
+        All-append (λ (y : ℕ). a ≡ y → ⊥) between rest
+            (All-weaker (Between from (from + (a - from))) (λ (y : ℕ). a ≡ y → ⊥) (λ y h e. let less = h.1 in omega (arith, less, e, low)) between inside)
+            (All-weaker (λ (y : ℕ). a + 1 ≤ y) (λ (y : ℕ). a ≡ y → ⊥) (λ y h e. omega (arith, h, e)) rest (at_least (a + 1) rest later)),
+      ),
+      joined from (a + 1) between rest (omega (arith, low)) (range_distinct (a - from) from from (omega arith))
+          (All-weaker (Between from (from + (a - from))) (λ (x : ℕ). x < a + 1) (λ x h. let less = h.1 in omega (arith, less, low)) between inside) later,
+    )
 
 -- ---- pictures, none of which has another's lines
 
@@ -118,10 +124,12 @@ own_apart : (scan : Scan) (f : ℕ → PictureJob) → ((n : ℕ) → (f n).stru
 unfolding structures AllApart Apart
 own_apart Progressive f is = (All-nil (Apart (f 3)), tt)
 own_apart Frames f is = (All-nil (Apart (f 3)), tt)
-own_apart Fields f is =
-    (All-cons (Apart (f 1)) (f 2) []
-    (λ top e a b. fields_apart top (ap (λ (n : ℕ). has_lines n (lines_by top)) (sym (is 1)) ∙ a) (ap (λ (n : ℕ). has_lines n (lines_by top)) (sym (is 2)) ∙ b))
-    (All-nil (Apart (f 1))), (All-nil (Apart (f 2)), tt))
+own_apart Fields f is = (
+  All-cons (Apart (f 1)) (f 2) []
+      (λ top e a b. fields_apart top (ap (λ (n : ℕ). has_lines n (lines_by top)) (sym (is 1)) ∙ a) (ap (λ (n : ℕ). has_lines n (lines_by top)) (sym (is 2)) ∙ b))
+      (All-nil (Apart (f 1))),
+  (All-nil (Apart (f 2)), tt),
+)
 
 module _ (s : Settings) (pushed first : ℕ) where
   abbrev jobs : ℕ → List PictureJob

@@ -1,9 +1,9 @@
 -- Frames in coding order are shown in display order.
-use Rattle.std.proofs.Common.{◌≡◌, ℕ, zero, suc, ◌+◌, ◌-◌, ◌<◌, ◌≤◌, Bool, true, false, cond, not, List, [], ◌∷◌, ◌++◌, map, filter, refl, sym, ap, subst, ◌∙◌, arith, append_assoc, Option, Some, None, option_to_list}
+use Rattle.std.proofs.Common.{◌≡◌, ℕ, zero, suc, ◌+◌, ◌-◌, ◌≤◌, Bool, true, false, cond, not, List, [], ◌∷◌, ◌++◌, map, filter, refl, sym, ap, subst, ◌∙◌, arith, append_assoc, Option, Some, None, option_to_list}
 use Rattle.std.specs.Prelude.{All, ◌&&◌}
 use Rattle.std.specs.List.{range_with_len}
 use Rattle.std.proofs.lemmas.List.{append-nil, map-append}
-use Rattle.std.proofs.lemmas.List.Elements.{All-nil, All-cons, All-head, All-tail, All-map}
+use Rattle.std.proofs.lemmas.List.Elements.{All-nil, All-cons, All-head, All-tail}
 use Rattle.m2v_order.specs.Coding.{frames_between, in_order}
 use Rattle.m2v_order.specs.Groups.{past_last}
 use Rattle.m2v_order.specs.Display.{is_b, is_kept, Shown, Holder, shown, held, handed, held_after, frames_of}
@@ -130,12 +130,14 @@ module _ {F : Type 0} where
     earlier from [] e ok = tt
     earlier from (a ∷ more) e ok =
         let low = ok.0.low in
-        let P = λ (i : ℕ). is_b (f i) ≡ true in
-        (record {
-          low = omega (arith, low);
-          anchor = ok.0.anchor;
-          others = subst (All P) (sym (frames_first from a low)) (All-cons P from (frames_between (from + 1) a) e ok.0.others);
-        }, ok.1)
+        let P = λ (i : ℕ). is_b (f i) ≡ true in (
+          record {
+            low = omega (arith, low);
+            anchor = ok.0.anchor;
+            others = subst (All P) (sym (frames_first from a low)) (All-cons P from (frames_between (from + 1) a) e ok.0.others);
+          },
+          ok.1,
+        )
 
     module _ (p : ℕ → Bool) (same : (i : ℕ) → is_b (f i) ≡ not (p i)) where
       anchor_step : (from : ℕ) (xs : List ℕ) (b : Bool) → p from ≡ b → AreAnchors f (from + 1) (filter p xs) → AreAnchors f from (cond b (from ∷ filter p xs) (filter p xs))

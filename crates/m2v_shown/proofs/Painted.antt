@@ -1,29 +1,26 @@
 -- The macroblocks of a slice, painted one after another, are its row.
-use Rattle.std.proofs.Common.{◌≡◌, ◌≢◌, ℕ, zero, suc, ◌+◌, ◌-◌, ◌*◌, ◌/◌, ◌%◌, ◌<◌, ◌≤◌, Bool, true, false, ◌&&◌, not, cond, ◌⊎◌, inl, inr, List, [], ◌∷◌, ◌++◌, refl, sym, ap, subst, ◌∙◌, arith, ℤ, pos, ◌+ℤ◌, ◌-ℤ◌}
-use Rattle.std.specs.Prelude.{nat_eq, nat_abs, if◌then◌else◌, replicate}
+use Rattle.std.proofs.Common.{◌≡◌, ◌≢◌, ℕ, zero, suc, ◌+◌, ◌-◌, ◌*◌, ◌<◌, ◌≤◌, Bool, true, false, ◌&&◌, not, cond, ◌⊎◌, inl, inr, List, [], ◌∷◌, ◌++◌, refl, sym, ap, subst, ◌∙◌, arith, pos, ◌-ℤ◌}
+use Rattle.std.specs.Prelude.{nat_eq, nat_abs, replicate}
 use Rattle.std.proofs.lemmas.Int.{ints}
 use Rattle.std.proofs.lemmas.Bool.{cases_lt, ne_eqb, eqb-true}
 use Rattle.std.proofs.lemmas.Nat.{div-mul-add, mod-mul-add}
-use Rattle.m2v_plane.specs.declared.dims.Dims.{Dims}
 use Rattle.m2v_plane.specs.declared.planes.Plane.{Plane}
 use Rattle.m2v_plane.specs.declared.planes.Plane.TheVariants.{Y}
-use Rattle.m2v_plane.specs.declared.planes.Lines.{Lines}
 use Rattle.m2v_plane.specs.Sizes.{side}
 use Rattle.m2v_plane.specs.Samples.{Samples, blank}
 use Rattle.m2v_pred.specs.declared.mode.Mode.{Mode}
 use Rattle.m2v_pred.specs.declared.mode.MbPlace.{MbPlace}
 use Rattle.m2v_pred.specs.Vectors.{IsPlace}
 use Rattle.m2v_pred.specs.Predicted.{predicted}
-use Rattle.m2v_macro.specs.declared.values.MacroSyntax.{MacroSyntax}
 use Rattle.m2v_macro.specs.declared.values.SliceState.{SliceState}
 use Rattle.m2v_macro.specs.declared.values.PictureContext.{PictureContext}
 use Rattle.m2v_macro.specs.States.{address, skips, at_start, after}
 use Rattle.m2v_macroblock.specs.Macroblocks.{Macroblock, after_macroblock}
 use Rattle.m2v_macroblock.specs.Modes.{place_of, address_of, skipped_before, first_skipped, skipped_mode, mode_of}
-use Rattle.m2v_macroblock.specs.Predictions.{View, prediction_of, sample_at}
+use Rattle.m2v_macroblock.specs.Predictions.{prediction_of, sample_at}
 use Rattle.m2v_choose.specs.Decisions.{Decision, Candidate, increment_of}
 use Rattle.m2v_choose.specs.Decisions as decisions
-use Rattle.m2v_choose.specs.Choice.{candidate_at, choice_of, state_behind}
+use Rattle.m2v_choose.specs.Choice.{choice_of}
 use Rattle.m2v_row.specs.Slices.{SliceTask, Begun, decision, with_candidate, begun}
 use Rattle.m2v_row.specs.Laws.{IsSlice, Keeps}
 use Rattle.m2v_row.specs.Steps.{HasReferences, CanPredict, CanCode, row_place}
@@ -34,10 +31,10 @@ use Rattle.m2v_row.proofs.Columns.{can_code}
 use Rattle.m2v_model.specs.declared.setup.SliceSetup.{SliceSetup}
 use Rattle.m2v_model.specs.Slices.{slice_start}
 use Rattle.m2v_model.specs.Samples.{References, put_in_frame, all_painted}
-use Rattle.m2v_chain.specs.Painting.{IsPainted, lines_in, LiesIn, skipped_sample, own_sample, IsPartOf, ArePartsOf, after_macroblocks}
+use Rattle.m2v_chain.specs.Painting.{IsPainted, lines_in, LiesIn, skipped_sample, IsPartOf, ArePartsOf, after_macroblocks}
 use Rattle.m2v_chain.proofs.Painting.{all_more}
 use Rattle.m2v_spelled.specs.Slices.{setup_of, slice_read}
-use Rattle.m2v_shown.specs.Views.{AgreeInside, AreReferencesOf, HasRowOf}
+use Rattle.m2v_shown.specs.Views.{AreReferencesOf, HasRowOf}
 use Rattle.m2v_shown.proofs.Reading.{predicted_same, block_same}
 use Rattle.m2v_shown.proofs.Squares.{so_far, decided, lies_at}
 

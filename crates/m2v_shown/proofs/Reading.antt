@@ -1,11 +1,10 @@
 -- Views that show the same inside a frame predict the same, where predictions stay inside.
-use Rattle.std.proofs.Common.{◌≡◌, ℕ, ◌+◌, ◌*◌, ◌/◌, ◌%◌, ◌<◌, Bool, true, false, inl, inr, ◌⊎◌, List, ◌++◌, refl, sym, ap, ◌∙◌, arith}
-use Rattle.std.specs.Prelude.{IsTrue, unsigned_abs, nat_eq, cond, ◌&&◌, if◌then◌else◌}
-use Rattle.std.proofs.lemmas.Bool.{cases_lt, eqb-true}
+use Rattle.std.proofs.Common.{◌≡◌, ℕ, ◌+◌, ◌/◌, ◌%◌, ◌<◌, Bool, true, false, inl, inr, ◌⊎◌, ◌++◌, refl, ◌∙◌, arith}
+use Rattle.std.specs.Prelude.{unsigned_abs, nat_eq, cond, ◌&&◌, if◌then◌else◌}
+use Rattle.std.proofs.lemmas.Bool.{eqb-true}
 use Rattle.m2v_plane.specs.declared.dims.Dims.{Dims}
 use Rattle.m2v_plane.specs.declared.planes.Plane.{Plane}
 use Rattle.m2v_plane.specs.declared.planes.Plane.TheVariants.{Y, Cb, Cr}
-use Rattle.m2v_plane.specs.declared.planes.Lines.{Lines}
 use Rattle.m2v_plane.specs.Sizes.{side, lines_of, columns_of}
 use Rattle.m2v_plane.specs.Samples.{plane_by}
 use Rattle.m2v_plane.proofs.Places.{plane_is}
@@ -15,7 +14,7 @@ use Rattle.m2v_pred.specs.declared.mode.Form.TheVariants.{Frame, Field, Half, Du
 use Rattle.m2v_pred.specs.declared.mode.Mode.{Mode}
 use Rattle.m2v_pred.specs.declared.mode.MbPlace.{MbPlace}
 use Rattle.m2v_pred.specs.Motion.{lines_read, field_lines, own_lines, own_field, other_field, is_bottom, is_dual, source_of, own_source, opposite_source, part_of_line}
-use Rattle.m2v_pred.specs.Vectors.{Reading, reading, parts, source_at, down_at, across_at, Lies, ReadsInside, DirectionInside, IsInside}
+use Rattle.m2v_pred.specs.Vectors.{Reading, reading, parts, source_at, down_at, across_at, ReadsInside, DirectionInside, IsInside}
 use Rattle.m2v_pred.specs.Predicted.{interpolated, is_half, sample_read, from_direction, predicted, block_by}
 use Rattle.m2v_pred.proofs.Planes.{plane_inside}
 use Rattle.m2v_macroblock.specs.Predictions.{View}

@@ -1,6 +1,6 @@
 -- What the frames at hand give a picture as references shows what it was coded by.
-use Rattle.std.proofs.Common.{◌≡◌, ◌≢◌, ℕ, zero, suc, ◌+◌, ◌*◌, ◌/◌, ◌%◌, ◌<◌, ◌≤◌, inl, inr, Bool, true, false, cond, List, [], ◌∷◌, length, get_or, Option, Some, None, refl, sym, ap, subst, ◌∙◌, arith, mul_comm}
-use Rattle.std.specs.Prelude.{nat_eq, if◌then◌else◌, All}
+use Rattle.std.proofs.Common.{◌≡◌, ◌≢◌, ℕ, zero, suc, ◌+◌, ◌*◌, ◌/◌, ◌%◌, ◌<◌, ◌≤◌, inl, inr, Bool, true, false, cond, List, [], ◌∷◌, length, get_or, Option, refl, sym, ap, subst, ◌∙◌, arith, mul_comm}
+use Rattle.std.specs.Prelude.{nat_eq, All}
 use Rattle.std.proofs.lemmas.Bool.{cases_Bool, eqb-true, eqb-false}
 use Rattle.std.proofs.lemmas.List.Elements.{All-nil, All-cons, All-head, All-tail, All-weaker}
 use Rattle.std.proofs.Math.Nat.{div-lt_iff_lt-mul}
@@ -9,17 +9,17 @@ use Rattle.m2v_plane.specs.declared.planes.Plane.{Plane}
 use Rattle.m2v_plane.specs.declared.planes.Plane.TheVariants.{Y, Cb, Cr}
 use Rattle.m2v_plane.specs.declared.planes.Lines.{Lines}
 use Rattle.m2v_plane.specs.declared.planes.Lines.TheVariants.{Whole, Top, Bottom}
-use Rattle.m2v_plane.specs.Sizes.{side, lines_of, columns_of, frame_line}
+use Rattle.m2v_plane.specs.Sizes.{side, lines_of, columns_of}
 use Rattle.m2v_plane.specs.Samples.{Samples, sample_of, plane_of, number_among}
 use Rattle.m2v_plane.specs.Fields.{or_none, sample_from}
 use Rattle.m2v_plane.proofs.Places.{among, numbered, line_fits}
 use Rattle.m2v_set.specs.declared.settings.Scan.{Scan}
 use Rattle.m2v_set.specs.declared.settings.Scan.TheVariants.{Progressive, Frames, Fields}
-use Rattle.m2v_set.specs.Numbers.{dims_of, rows_by, frame_rows_by}
+use Rattle.m2v_set.specs.Numbers.{dims_of}
 use Rattle.m2v_macroblock.specs.Predictions.{View}
 use Rattle.m2v_choose.specs.Trials.{IsReference}
 use Rattle.m2v_preface.specs.Headers.{context_of, extension_of}
-use Rattle.m2v_slice.specs.Books.{Book, CodedPicture, rows, job_at, slice_at, line_in, anchors_before, nth, picture_sample, reference, forward_number, task_of, coded}
+use Rattle.m2v_slice.specs.Books.{Book, rows, job_at, line_in, anchors_before, nth, picture_sample, reference, forward_number, task_of, coded}
 use Rattle.m2v_slice.specs.Conditions.{IsBook}
 use Rattle.m2v_slice.proofs.Coded.{slice_stays}
 use Rattle.m2v_slice.proofs.Groups.{HasStructure, picture_is_one, source_size}
@@ -30,10 +30,10 @@ use Rattle.m2v_chain.specs.Painting.{HasPart, IsPainted}
 use Rattle.m2v_tree.specs.Trees.{task_at}
 use Rattle.m2v_shown.specs.Views.{AgreeInside, AreReferencesOf}
 use Rattle.m2v_shown.specs.Rows.{samples_of}
-use Rattle.m2v_shown.specs.Stores.{newer_behind, older_behind, FieldWaits, HoldsBefore}
-use Rattle.m2v_shown.proofs.Shapes.{waits, previous, IsSecond, Shape, shape_at, first_intra}
+use Rattle.m2v_shown.specs.Stores.{newer_behind, older_behind, HoldsBefore}
+use Rattle.m2v_shown.proofs.Shapes.{waits, IsSecond, Shape, shape_at, first_intra}
 use Rattle.m2v_shown.proofs.Frames.{half_rows}
-use Rattle.m2v_shown.proofs.Views.{ShowsOf, Readable, Views, views_at, HasOwn, own_sample, is_anchor_with, met, passed, anchor_is, other_is, newer_kept, older_kept, first_ends_none, b_ends_none, first_free, no_whole, top_has, bottom_has, first_of, nothing_before}
+use Rattle.m2v_shown.proofs.Views.{ShowsOf, Readable, views_at, own_sample, is_anchor_with, met, passed, anchor_is, other_is, newer_kept, older_kept, first_ends_none, b_ends_none, first_free, no_whole, top_has, bottom_has, first_of, nothing_before}
 
 -- ---- samples of pictures coded so far
 

@@ -1,36 +1,26 @@
 -- Parts of a picture, one behind another, and what they do to the frames at hand.
-use Rattle.std.proofs.Common.{◌≡◌, ℕ, zero, suc, ◌+◌, ◌*◌, ◌<◌, ◌≤◌, Bool, true, false, cond, List, [], ◌∷◌, ◌++◌, length, map, Option, Some, None, refl, sym, ap, subst, ◌∙◌, arith, append_assoc}
-use Rattle.std.specs.Prelude.{nat_eq, if◌then◌else◌}
+use Rattle.std.proofs.Common.{◌≡◌, ℕ, zero, suc, ◌+◌, ◌*◌, ◌<◌, ◌≤◌, Bool, List, [], ◌∷◌, ◌++◌, length, map, refl, sym, ap, subst, ◌∙◌, arith, append_assoc}
 use Rattle.std.specs.List.{range_with_len}
-use Rattle.std.proofs.lemmas.Bool.{cond-false}
 use Rattle.std.proofs.lemmas.List.{append-nil, map-append}
-use Rattle.m2v_head.specs.declared.group.GroupInfo.{GroupInfo}
-use Rattle.m2v_plane.specs.Samples.{Samples, blank}
-use Rattle.m2v_plane.specs.declared.dims.Dims.{Dims}
-use Rattle.m2v_set.specs.Numbers.{mb_width_of, dims_of}
+use Rattle.m2v_plane.specs.Samples.{Samples}
+use Rattle.m2v_set.specs.Numbers.{mb_width_of}
 use Rattle.m2v_order.proofs.Orders.{range_append}
-use Rattle.m2v_preface.specs.Headers.{begins_group, group_from, picture_of, extension_of, context_of}
-use Rattle.m2v_row.specs.Slices.{SliceTask}
+use Rattle.m2v_preface.specs.Headers.{context_of}
 use Rattle.m2v_slice.specs.Books.{Book, rows, job_at, task_of}
 use Rattle.m2v_slice.specs.Conditions.{IsBook}
-use Rattle.m2v_model.specs.declared.state.Open.{Open}
 use Rattle.m2v_model.specs.declared.state.State.{State}
-use Rattle.m2v_model.specs.declared.setup.SliceSetup.{SliceSetup}
-use Rattle.m2v_model.specs.States as model
-use Rattle.m2v_model.specs.States.{slice_setup, opened}
 use Rattle.m2v_model.specs.Slices.{slice_start}
 use Rattle.m2v_model.specs.Samples.{References, put_in_frame, all_painted}
-use Rattle.m2v_model.specs.Streams.{Part, sequence, group, picture, slice, after}
-use Rattle.m2v_model.specs.Pictures.{Store, Pictures, Events, references_by, references_of, slice_painted, fresh, sequence_header, pictures_in, closed, picture_ended, picture_begun, told_by, store_after, events_from, store_from}
+use Rattle.m2v_model.specs.Streams.{Part, slice, after}
+use Rattle.m2v_model.specs.Pictures.{Store, Pictures, Events, slice_painted, pictures_in, told_by, store_after, events_from, store_from}
 use Rattle.m2v_model.proofs.EventLaws.{pictures_in-append}
-use Rattle.m2v_spelled.specs.Slices.{setup_of, slice_read}
-use Rattle.m2v_tree.specs.Trees.{sequence_by, header_parts, task_at, slice_parts, state_behind}
-use Rattle.m2v_tree.specs.States.{state_with, open_at, waiting_behind, anchors_behind}
+use Rattle.m2v_spelled.specs.Slices.{slice_read}
+use Rattle.m2v_tree.specs.Trees.{sequence_by, task_at, slice_parts, state_behind}
+use Rattle.m2v_tree.specs.States.{open_at}
 use Rattle.m2v_shown.specs.Views.{slice_in}
-use Rattle.m2v_shown.specs.Rows.{rows_in, fresh_of}
-use Rattle.m2v_shown.specs.Runs.{Goes, pending, settled, store_with}
-use Rattle.m2v_shown.proofs.TreeTurns.{IsCounted}
-use Rattle.m2v_shown.proofs.TreeStates.{dims_are, state_before, state_at, references_at, covered_is, read_is, next_group, header_after, slice_after, setup_at}
+use Rattle.m2v_shown.specs.Rows.{rows_in}
+use Rattle.m2v_shown.specs.Runs.{Goes, store_with}
+use Rattle.m2v_shown.proofs.TreeStates.{state_at, references_at, covered_is, slice_after, setup_at}
 use Rattle.m2v_shown.proofs.Frames.{slice_is_one}
 use Rattle.m2v_shown.proofs.Large.{no_large}
 

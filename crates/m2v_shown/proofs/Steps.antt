@@ -1,15 +1,15 @@
 -- One picture more of a group: what a decoder has at hand behind it, and what it has told.
-use Rattle.std.proofs.Common.{◌≡◌, ℕ, zero, suc, ◌+◌, ◌*◌, ◌<◌, ◌≤◌, ◌⊎◌, inl, inr, Bool, true, false, not, ◌||◌, cond, List, [], ◌∷◌, ◌++◌, length, map, filter, Option, Some, None, refl, sym, ap, subst, ◌∙◌, arith, append_assoc}
-use Rattle.std.specs.Prelude.{nat_eq, if◌then◌else◌, All}
-use Rattle.std.proofs.lemmas.Bool.{cases_Bool, eqb-true}
+use Rattle.std.proofs.Common.{◌≡◌, ℕ, zero, suc, ◌+◌, ◌*◌, ◌<◌, ◌≤◌, inl, inr, Bool, true, false, ◌||◌, cond, List, [], ◌∷◌, ◌++◌, length, map, filter, Option, Some, None, refl, sym, ap, subst, ◌∙◌, arith, append_assoc}
+use Rattle.std.specs.Prelude.{nat_eq, All}
+use Rattle.std.proofs.lemmas.Bool.{cases_Bool}
 use Rattle.std.proofs.lemmas.List.{append-nil, map-append}
 use Rattle.std.proofs.lemmas.List.Elements.{All-nil, All-cons, All-append, filter-append}
-use Rattle.m2v_plane.specs.declared.planes.Lines.TheVariants.{Whole, Top, Bottom}
+use Rattle.m2v_plane.specs.declared.planes.Lines.TheVariants.{Top, Bottom}
 use Rattle.m2v_plane.specs.Samples.{Samples}
 use Rattle.m2v_plane.specs.Raw.{crop}
 use Rattle.m2v_pred.specs.Motion.{own_lines}
 use Rattle.m2v_set.specs.Numbers.{dims_of}
-use Rattle.m2v_preface.specs.Headers.{begins_group, picture_of, extension_of}
+use Rattle.m2v_preface.specs.Headers.{picture_of, extension_of}
 use Rattle.m2v_rate.specs.Plans.{Entries}
 use Rattle.m2v_slice.specs.Books.{Book, CodedPicture, rows, job_at, coded}
 use Rattle.m2v_slice.specs.Conditions.{IsBook}
@@ -23,19 +23,19 @@ use Rattle.m2v_model.specs.Streams.{Part}
 use Rattle.m2v_model.specs.Pictures.{Store, Picture, Pictures, no_references, picture_ended, is_ending, typed, frames_in}
 use Rattle.m2v_model.specs.Pictures as pictures
 use Rattle.m2v_chain.specs.Painting.{IsPainted}
-use Rattle.m2v_tree.specs.Trees.{sequence_by, task_at, picture_parts, pictures_parts}
-use Rattle.m2v_tree.specs.States.{state_with, open_at, waiting_behind, anchors_behind}
+use Rattle.m2v_tree.specs.Trees.{task_at, picture_parts, pictures_parts}
+use Rattle.m2v_tree.specs.States.{open_at, waiting_behind, anchors_behind}
 use Rattle.m2v_shown.specs.Views.{AreReferencesOf}
 use Rattle.m2v_shown.specs.Rows.{rows_in, fresh_of, samples_of}
 use Rattle.m2v_shown.specs.Stores.{frame_in, newer_behind, older_behind, FieldWaits, HoldsBefore}
 use Rattle.m2v_shown.specs.Runs.{Goes, pending, settled, store_with, raw_of, raw_in, raw_behind}
-use Rattle.m2v_shown.proofs.Shapes.{waits, IsSecond, Shape, shape_at}
+use Rattle.m2v_shown.proofs.Shapes.{waits, Shape, shape_at}
 use Rattle.m2v_shown.proofs.Frames.{frame_rebuilt, is_row, half_rows}
 use Rattle.m2v_shown.proofs.Rows.{field_painted, fields_painted}
 use Rattle.m2v_shown.proofs.Views.{newer_kept, older_kept, newer_ended, older_ended, ends_is, b_ends_none, first_ends_none, true_false}
 use Rattle.m2v_shown.proofs.References.{references_are}
 use Rattle.m2v_shown.proofs.TreeTurns.{IsCounted}
-use Rattle.m2v_shown.proofs.TreeStates.{state_before, state_at, references_at, next_sequence}
+use Rattle.m2v_shown.proofs.TreeStates.{state_at, references_at, next_sequence}
 use Rattle.m2v_shown.proofs.Runs.{goes_on, goes_none}
 use Rattle.m2v_shown.proofs.Heads.{Ready, BeginsWith, refs_at, picture_goes}
 

@@ -1,8 +1,8 @@
 -- The whole stream is shown as its reconstructions.
-use Rattle.std.proofs.Common.{◌≡◌, ℕ, zero, suc, ◌+◌, ◌<◌, ◌≤◌, ◌⊎◌, inl, inr, Bool, true, false, not, ◌&&◌, cond, List, [], ◌∷◌, ◌++◌, length, map, filter, get_or, Option, Some, None, refl, sym, ap, subst, ◌∙◌, arith, append_assoc}
+use Rattle.std.proofs.Common.{◌≡◌, ℕ, zero, suc, ◌≤◌, ◌⊎◌, inl, inr, Bool, true, false, not, ◌&&◌, cond, List, [], ◌∷◌, ◌++◌, length, map, filter, get_or, Option, Some, None, refl, sym, ap, subst, ◌∙◌, arith, append_assoc}
 use Rattle.std.specs.Prelude.{nat_eq, is_some, All}
 use Rattle.std.specs.List.{range_with_len}
-use Rattle.std.proofs.lemmas.List.{append-nil, map-append}
+use Rattle.std.proofs.lemmas.List.{map-append}
 use Rattle.std.proofs.lemmas.List.Elements.{All-append, filter-append}
 use Rattle.m2v_plane.specs.Samples.{Samples}
 use Rattle.m2v_plane.specs.Raw.{crop}
@@ -10,24 +10,22 @@ use Rattle.m2v_set.specs.declared.settings.Settings.{Settings}
 use Rattle.m2v_set.specs.Rules.{Passes}
 use Rattle.m2v_order.specs.declared.jobs.PictureJob.{PictureJob}
 use Rattle.m2v_order.specs.Groups.{Group}
-use Rattle.m2v_order.specs.Display.{Shown}
 use Rattle.m2v_preface.specs.Headers.{begins_group, sequence_extension_of}
 use Rattle.m2v_slice.specs.Books.{Book, no_job, job_at, coded, ledger_behind}
 use Rattle.m2v_slice.specs.Conditions.{IsBook}
-use Rattle.m2v_stream.specs.Streams.{Progress, at_start, book_of, group_coded, groups_coded, coded_all, Recon, frame_of, frame_or, anchor_frame}
-use Rattle.m2v_model.specs.declared.state.Sequence.{Sequence}
+use Rattle.m2v_stream.specs.Streams.{Progress, at_start, book_of, group_coded, groups_coded, coded_all, Recon}
 use Rattle.m2v_model.specs.declared.state.FirstField.{FirstField}
 use Rattle.m2v_model.specs.declared.state.Open.{Open}
 use Rattle.m2v_model.specs.declared.state.State.{State}
 use Rattle.m2v_model.specs.States.{at_first}
-use Rattle.m2v_model.specs.Streams.{Part, Sofar, sequence, ending, after}
-use Rattle.m2v_model.specs.Pictures.{Store, Picture, Pictures, no_frames, is_ending, typed, frames_in, pictures_in, events_from}
+use Rattle.m2v_model.specs.Streams.{sequence, ending, after}
+use Rattle.m2v_model.specs.Pictures.{Store, Picture, Pictures, no_frames, is_ending, typed, frames_in}
 use Rattle.m2v_model.specs.Decoding as decoding
 use Rattle.m2v_model.specs.Decoding.{is_dropped, low_delay_of}
 use Rattle.m2v_tree.specs.Trees.{sequence_by, group_parts, groups_parts, groups_of, state_behind, tree_of}
 use Rattle.m2v_tree.specs.States.{state_with, waiting_behind, anchors_behind}
 use Rattle.m2v_shown.specs.Showing.{ShowAll}
-use Rattle.m2v_shown.specs.Stores.{frame_in, newer_behind}
+use Rattle.m2v_shown.specs.Stores.{frame_in}
 use Rattle.m2v_shown.specs.Runs.{Goes, pending, settled, raw_of, raw_in, raw_behind}
 use Rattle.m2v_shown.proofs.Order.{shown_on}
 use Rattle.m2v_shown.proofs.Mapped.{made_shown}
@@ -38,7 +36,7 @@ use Rattle.m2v_shown.proofs.TreeStates.{state_before, first_sequence, next_seque
 use Rattle.m2v_shown.proofs.TreeFollows.{AllBooks, stream_books, stream_some}
 use Rattle.m2v_shown.proofs.Runs.{goes_on, goes_one}
 use Rattle.m2v_shown.proofs.Heads.{Ready}
-use Rattle.m2v_shown.proofs.Steps.{NoneDropped, Upto, pictures_shown}
+use Rattle.m2v_shown.proofs.Steps.{NoneDropped, pictures_shown}
 use Rattle.m2v_shown.proofs.Groups.{group_shown, last_anchor_is}
 
 -- ---- between groups

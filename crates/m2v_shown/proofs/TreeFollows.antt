@@ -16,14 +16,14 @@ use Rattle.m2v_order.specs.Times.{intervals_of, anchor_after, interval_behind}
 use Rattle.m2v_order.specs.Whole.{IsGroupOf}
 use Rattle.m2v_order.proofs.Queues.{grouped, sound_opening, sound_push, sound_end, due_is, turn_is, sound_next}
 use Rattle.m2v_order.proofs.Wholes.{group_is}
-use Rattle.m2v_rate.specs.Plans.{Entries, account_at, fresh, begun}
+use Rattle.m2v_rate.specs.Plans.{Entries, fresh, begun}
 use Rattle.m2v_rate.specs.Steady.{IsLedger}
 use Rattle.m2v_rate.proofs.Keeps.{begins_steady}
 use Rattle.m2v_rate.proofs.Lows.{removals_at}
 use Rattle.m2v_rate.proofs.Streams.{fresh_begun}
 use Rattle.m2v_slice.specs.Books.{Book, no_job, ledger_with}
 use Rattle.m2v_slice.specs.Conditions.{IsBook, IsBegunFor}
-use Rattle.m2v_stream.specs.Streams.{Progress, at_start, book_of, group_coded, groups_from, waiting, frame_of, frame_or, anchor_frame, pictures_text}
+use Rattle.m2v_stream.specs.Streams.{Progress, at_start, book_of, group_coded, groups_from, waiting, frame_of, frame_or, anchor_frame}
 use Rattle.m2v_tree.specs.Trees.{groups_of}
 use Rattle.m2v_shown.proofs.TreeTurns.{first_kind}
 use Rattle.m2v_shown.proofs.TreeLedgers.{all_coded, whole_ledger, whole_ledger_is, whole_settings, whole_kinds, whole_sizes}

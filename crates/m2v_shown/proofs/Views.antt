@@ -1,8 +1,7 @@
 -- What the frames at hand show is what the pictures were coded by.
-use Rattle.std.proofs.Common.{◌≡◌, ◌≢◌, ℕ, zero, suc, ◌+◌, ◌*◌, ◌/◌, ◌%◌, ◌<◌, ◌≤◌, ◌⊎◌, inl, inr, Bool, true, false, not, ◌&&◌, cond, List, [], ◌∷◌, ◌++◌, length, get_or, All, Option, Some, None, refl, sym, ap, subst, ◌∙◌, arith}
+use Rattle.std.proofs.Common.{◌≡◌, ℕ, zero, suc, ◌*◌, ◌/◌, ◌%◌, ◌<◌, ◌≤◌, ◌⊎◌, inl, inr, Bool, true, false, not, ◌&&◌, cond, List, [], ◌∷◌, ◌++◌, length, Option, Some, None, refl, sym, ap, subst, ◌∙◌, arith}
 use Rattle.std.specs.Prelude.{nat_eq, if◌then◌else◌}
-use Rattle.std.proofs.lemmas.Bool.{cases_Bool, eqb-true, eqb-false, ne_eqb}
-use Rattle.std.proofs.lemmas.List.Elements.{All-nil, All-cons, All-head, All-tail, All-weaker}
+use Rattle.std.proofs.lemmas.Bool.{cases_Bool, eqb-true}
 use Rattle.m2v_plane.specs.declared.dims.Dims.{Dims}
 use Rattle.m2v_plane.specs.declared.planes.Plane.{Plane}
 use Rattle.m2v_plane.specs.declared.planes.Plane.TheVariants.{Y, Cb, Cr}
@@ -10,7 +9,7 @@ use Rattle.m2v_plane.specs.declared.planes.Lines.{Lines}
 use Rattle.m2v_plane.specs.declared.planes.Lines.TheVariants.{Whole, Top, Bottom}
 use Rattle.m2v_plane.specs.Sizes.{side, lines_of, columns_of, frame_line}
 use Rattle.m2v_plane.specs.Samples.{Samples, sample_of, sample_in, is_among, number_among}
-use Rattle.m2v_plane.specs.Fields.{or_none, sample_from}
+use Rattle.m2v_plane.specs.Fields.{sample_from}
 use Rattle.m2v_plane.proofs.Places.{among, numbered}
 use Rattle.m2v_plane.proofs.RawVideo.{plane_at}
 use Rattle.m2v_pred.specs.Motion.{own_lines}
@@ -18,9 +17,8 @@ use Rattle.m2v_set.specs.declared.settings.Scan.{Scan}
 use Rattle.m2v_set.specs.declared.settings.Scan.TheVariants.{Progressive, Frames, Fields}
 use Rattle.m2v_set.specs.Numbers.{dims_of}
 use Rattle.m2v_macroblock.specs.Predictions.{View}
-use Rattle.m2v_slice.specs.Books.{Book, CodedPicture, rows, job_at, slice_at, has_lines, line_in, anchors_before, nth, picture_sample, coded}
+use Rattle.m2v_slice.specs.Books.{Book, job_at, slice_at, has_lines, line_in, anchors_before, nth, picture_sample, coded}
 use Rattle.m2v_slice.specs.Conditions.{IsBook}
-use Rattle.m2v_slice.proofs.Coded.{slice_stays}
 use Rattle.m2v_slice.proofs.Groups.{HasStructure, picture_is_one}
 use Rattle.m2v_stream.specs.Streams.{frame_of}
 use Rattle.m2v_model.specs.Pictures as pictures

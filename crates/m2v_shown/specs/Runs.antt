@@ -1,5 +1,5 @@
 -- Parts one behind another, and what they do to the frames at hand.
-use Rattle.std.specs.Prelude.{ℕ, zero, suc, ◌≡◌, List, [], ◌∷◌, ◌++◌, map, nat_eq, if◌then◌else◌, Option, Some}
+use Rattle.std.specs.Prelude.{ℕ, zero, suc, ◌≡◌, List, [], ◌∷◌, ◌++◌, map, nat_eq, if◌then◌else◌, Some}
 use Rattle.m2v_plane.specs.Samples.{Samples}
 use Rattle.m2v_plane.specs.Raw.{crop}
 use Rattle.m2v_slice.specs.Books.{Book, job_at}

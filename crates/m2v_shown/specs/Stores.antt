@@ -2,7 +2,7 @@
 use Rattle.std.specs.Prelude.{ℕ, zero, suc, ◌≡◌, ◌*◌, Bool, not, ◌&&◌, nat_eq, length, if◌then◌else◌, Option, Some}
 use Rattle.m2v_plane.specs.declared.planes.Lines.TheVariants.{Top}
 use Rattle.m2v_plane.specs.Samples.{Samples}
-use Rattle.m2v_set.specs.Numbers.{dims_of, mb_width_of}
+use Rattle.m2v_set.specs.Numbers.{dims_of}
 use Rattle.m2v_slice.specs.Books.{Book, rows, job_at, coded}
 use Rattle.m2v_stream.specs.Streams.{frame_of}
 use Rattle.m2v_model.specs.Pictures.{Store}

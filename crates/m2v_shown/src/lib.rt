@@ -4,4 +4,6 @@
 
 mod laws;
 
-pub use laws::{law_display_order, law_frame_painted, law_references, law_shown, law_slice_painted};
+pub use laws::{
+    law_display_order, law_frame_painted, law_references, law_shown, law_slice_painted,
+};
