@@ -119,9 +119,6 @@ module _ (b : Book) (done : List CodedPicture) (p : ℕ) (plane : Plane) (line c
 -- ---- the slices of a picture
 
 module _ (b : Book) (h : IsBook b) (p : ℕ) (lt : p < length b.pictures) where
-  abbrev all : List CodedPicture
-  all = coded b (length b.pictures)
-
   own_structure : (r : ℕ) → (task_at b p r).context.extension.structure ≡ (job_at b p).structure
   unfolding task_of context_of extension_of
   own_structure r = refl

@@ -172,10 +172,6 @@ module _ {F : Type 0} where
     held = held_append ps qs (holding h) ∙ ap (λ q. held_after q qs) x.held ∙ y.held;
   }
 
-  pub shown_none : (h : Option F) → ShowAll h [] []
-  unfolding handed held_after
-  shown_none h = record { behind = h; shown = sym (append-nil (option_to_list h)); held = refl }
-
   -- ---- what is shown of a whole list
 
   kept_step : (dropped : F → Bool) (p : F × ℕ) (xs ys : List (F × ℕ)) (d b : Bool) → d ≡ false → xs ≡ ys → cond (not (b && d)) (p ∷ xs) xs ≡ p ∷ ys

@@ -145,12 +145,6 @@ module _ (t : SliceTask) (references : List Bool) (refs : References) (at : Plan
       }
 
   module _ (n : ℕ) (small : n < t.context.columns) where
-    abbrev d : Decision
-    d = decided t n
-
-    abbrev x : Candidate
-    x = choice_of (decided t n)
-
     can : CanCode (decided t n) t.source.dims t.source.dims (λ plane lines line. Ahead) (λ plane lines line. Behind)
     can = can_code t t.source.dims t.source.dims (λ plane lines line. Ahead) (λ plane lines line. Behind) slice there (blank t.source.dims 1) n small
 

@@ -186,10 +186,6 @@ group_order : (s : Settings) (x : Progress) (g : Group Samples) (all : Pictures)
 group_order s x g all h raw before =
     subst (λ (ps : List (List ℕ × ℕ)). ShowAll before ps (group_out s x g)) (sym raw) (group_shown (book_of s x g) h before)
 
-before_same : (s : Settings) (x : Progress) (g : Group Samples) (a c : Bool) → (group_coded s x g a).before ≡ (group_coded s x g c).before
-unfolding group_coded
-before_same s x g a c = refl
-
 groups_gone : (s : Settings) (g : Group Samples) (more : List (Group Samples)) (x : Progress) (st : State) (store : Store) → AllBooks s x (g ∷ more) → Stands s x st store → GroupsGone s x (g ∷ more) st store
 unfolding groups_parts groups_coded AllBooks
 groups_gone s g [] x st store h stands =
