@@ -1,0 +1,5 @@
+pub mod Views
+pub mod Rows
+pub mod Showing
+pub mod Stores
+pub mod Runs
