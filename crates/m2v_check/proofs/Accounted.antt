@@ -19,7 +19,7 @@ use Rattle.m2v_judge.specs.declared.course.Next.{Next}
 use Rattle.m2v_judge.specs.declared.course.Course.{Course}
 use Rattle.m2v_judge.specs.declared.course.Full.{Full}
 use Rattle.m2v_judge.specs.Breaking.{first_some}
-use Rattle.m2v_judge.specs.Holding.{is_whole, course_after, course_under, removed_by, amount_by, full_with, over_by, is_over, with_more}
+use Rattle.m2v_judge.specs.Holding.{is_whole, course_after, course_under, removed_by, amount_by, delays_with, full_with, over_by, is_over, with_more}
 use Rattle.m2v_judge.specs.Accounts.{removal_of, removals_of, fault_of, most_of, others_of, Ran}
 use Rattle.m2v_judge.specs.declared.amounts.Amounts.{Amounts}
 use Rattle.m2v_judge.specs.Judging.{most_noted, most_in, finished, last_of, buffer_ended, next_of, opening_of, times_of, GoesOn, Begins, HasMore}

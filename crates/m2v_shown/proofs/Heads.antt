@@ -23,8 +23,8 @@ use Rattle.m2v_tree.specs.Trees.{sequence_by, header_parts, task_at, slice_parts
 use Rattle.m2v_tree.specs.States.{open_at, waiting_behind, anchors_behind}
 use Rattle.m2v_shown.specs.Rows.{rows_in, fresh_of}
 use Rattle.m2v_shown.specs.Runs.{Goes, pending, settled, store_with}
-use Rattle.m2v_shown.proofs.TreeTurns.{IsCounted}
-use Rattle.m2v_shown.proofs.TreeStates.{dims_are, state_before, state_at, references_at, read_is, next_group, header_after}
+use Rattle.m2v_tree.proofs.Turns.{IsCounted}
+use Rattle.m2v_tree.proofs.States.{dims_are, state_before, state_at, references_at, read_is, next_group, header_after}
 use Rattle.m2v_shown.proofs.Runs.{goes_on, goes_one, slices_go}
 
 -- a state in which picture p of a group can follow

@@ -9,14 +9,12 @@ pub mod Coding
 pub mod Shapes
 pub mod Views
 pub mod References
-pub mod TreeTurns
-pub mod TreeStates
 pub mod Large
 pub mod Runs
 pub mod Heads
 pub mod Steps
 pub mod Groups
-pub mod TreeLedgers
-pub mod TreeFollows
+pub mod Books
 pub mod Mapped
 pub mod Streams
+pub mod Decodes

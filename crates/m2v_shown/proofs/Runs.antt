@@ -20,7 +20,7 @@ use Rattle.m2v_tree.specs.States.{open_at}
 use Rattle.m2v_shown.specs.Views.{slice_in}
 use Rattle.m2v_shown.specs.Rows.{rows_in}
 use Rattle.m2v_shown.specs.Runs.{Goes, store_with}
-use Rattle.m2v_shown.proofs.TreeStates.{state_at, references_at, covered_is, slice_after, setup_at}
+use Rattle.m2v_tree.proofs.States.{state_at, references_at, covered_is, slice_after, setup_at}
 use Rattle.m2v_shown.proofs.Frames.{slice_is_one}
 use Rattle.m2v_shown.proofs.Large.{no_large}
 

@@ -34,8 +34,8 @@ use Rattle.m2v_shown.proofs.Frames.{frame_rebuilt, is_row, half_rows}
 use Rattle.m2v_shown.proofs.Rows.{field_painted, fields_painted}
 use Rattle.m2v_shown.proofs.Views.{newer_kept, older_kept, newer_ended, older_ended, ends_is, b_ends_none, first_ends_none, true_false}
 use Rattle.m2v_shown.proofs.References.{references_are}
-use Rattle.m2v_shown.proofs.TreeTurns.{IsCounted}
-use Rattle.m2v_shown.proofs.TreeStates.{state_at, references_at, next_sequence}
+use Rattle.m2v_tree.proofs.Turns.{IsCounted}
+use Rattle.m2v_tree.proofs.States.{state_at, references_at, next_sequence}
 use Rattle.m2v_shown.proofs.Runs.{goes_on, goes_none}
 use Rattle.m2v_shown.proofs.Heads.{Ready, BeginsWith, refs_at, picture_goes}
 

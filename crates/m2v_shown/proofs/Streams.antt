@@ -31,9 +31,10 @@ use Rattle.m2v_shown.proofs.Order.{shown_on}
 use Rattle.m2v_shown.proofs.Mapped.{made_shown}
 use Rattle.m2v_shown.proofs.Shapes.{waits}
 use Rattle.m2v_shown.proofs.Views.{true_false}
-use Rattle.m2v_shown.proofs.TreeTurns.{IsCounted, none_behind, anchors_end, first_begins}
-use Rattle.m2v_shown.proofs.TreeStates.{state_before, first_sequence, next_sequence}
-use Rattle.m2v_shown.proofs.TreeFollows.{AllBooks, stream_books, stream_some}
+use Rattle.m2v_tree.proofs.Turns.{IsCounted, none_behind, anchors_end, first_begins}
+use Rattle.m2v_tree.proofs.States.{state_before, first_sequence, next_sequence}
+use Rattle.m2v_tree.proofs.Follows.{stream_some}
+use Rattle.m2v_shown.proofs.Books.{AllBooks, stream_books}
 use Rattle.m2v_shown.proofs.Runs.{goes_on, goes_one}
 use Rattle.m2v_shown.proofs.Heads.{Ready}
 use Rattle.m2v_shown.proofs.Steps.{NoneDropped, pictures_shown}

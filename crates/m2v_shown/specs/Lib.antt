@@ -3,3 +3,4 @@ pub mod Rows
 pub mod Showing
 pub mod Stores
 pub mod Runs
+pub mod Laws

@@ -12,7 +12,7 @@ ghost use Rattle.m2v_row.specs.Slices.{SliceTask};
 ghost use Rattle.m2v_row.specs.Laws.{IsSlice};
 ghost use Rattle.m2v_slice.specs.Books.{Book, rows, job_at, coded};
 ghost use Rattle.m2v_slice.specs.Conditions.{IsBook};
-ghost use Rattle.m2v_stream.specs.Streams.{frame_of, Recon};
+ghost use Rattle.m2v_stream.specs.Streams.{frame_of, Coded, Recon};
 ghost use Rattle.m2v_model.specs.Samples.{References};
 ghost use Rattle.m2v_chain.specs.Painting.{IsPainted, lines_in};
 ghost use Rattle.m2v_model.specs.Decoding.{frames_of as shown_by};
@@ -21,6 +21,7 @@ ghost use Rattle.m2v_shown.specs.Rows.{rows_in, fresh_of};
 ghost use Rattle.m2v_model.specs.Pictures.{Store, references_by};
 ghost use Rattle.m2v_shown.specs.Stores.{HoldsBefore};
 ghost use Rattle.m2v_shown.specs.Showing.{ShowAll};
+ghost use Rattle.m2v_shown.specs.Laws.{DecodesTo};
 ghost use Rattle.m2v_shown.specs.Views.{AreReferencesOf, HasRowOf, slice_in};
 
 /// Frames in coding order are shown in display order, and none is dropped: all frames of a stream, and any run of anchors,
@@ -83,4 +84,10 @@ pub fn law_references()
 pub fn law_shown()
     ensures { (s : Settings) (frames : List (List ℕ)) → Passes s → 1 ≤ length frames
         → length frames ≤ 999999 → shown_by (tree_of s frames) ≡ Recon s frames }
+{}
+
+/// The stream of raw frames decodes to their reconstructions in display order and to nothing else, and no fault stands in it.
+pub fn law_encoded_decodes()
+    ensures { (s : Settings) (frames : List (List ℕ)) → Passes s → 1 ≤ length frames
+        → length frames ≤ 999999 → DecodesTo (Coded s frames) (Recon s frames) }
 {}

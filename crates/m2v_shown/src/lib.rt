@@ -5,5 +5,6 @@
 mod laws;
 
 pub use laws::{
-    law_display_order, law_frame_painted, law_references, law_shown, law_slice_painted,
+    law_display_order, law_encoded_decodes, law_frame_painted, law_references, law_shown,
+    law_slice_painted,
 };
