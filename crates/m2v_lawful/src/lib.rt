@@ -3,4 +3,4 @@
 
 mod laws;
 
-pub use laws::law_lawful_headers;
+pub use laws::{law_lawful_headers, law_references};
