@@ -3,3 +3,5 @@ pub mod Pictures
 pub mod Order
 pub mod Runs
 pub mod Places
+pub mod Jobs
+pub mod Groups

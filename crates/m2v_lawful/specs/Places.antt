@@ -1,9 +1,9 @@
 -- The pictures of a group with the numbers of their frames.
-use Rattle.std.specs.Prelude.{ℕ, ◌≡◌, ◌+◌, cond, List, [], ◌∷◌}
+use Rattle.std.specs.Prelude.{ℕ, ◌≡◌, ◌+◌, cond, List, [], ◌∷◌, ◌++◌}
 use Rattle.m2v_set.specs.declared.settings.Settings.{Settings}
 use Rattle.m2v_order.specs.declared.jobs.PictureJob.{PictureJob}
-use Rattle.m2v_order.specs.Display.{Order}
-use Rattle.m2v_model.specs.Lawful.{Numbered, display_place}
+use Rattle.m2v_order.specs.Groups.{Group}
+use Rattle.m2v_model.specs.Lawful.{Numbered}
 use Rattle.m2v_lawful.specs.Own.{ends, IsOwnPicture}
 
 -- the number of the frame behind a picture, whose own has this number
@@ -28,3 +28,16 @@ AreOwn s group frame [] (n ∷ ns) = ⊥
 AreOwn s group frame (job ∷ jobs) [] = ⊥
 AreOwn s group frame (job ∷ jobs) (n ∷ ns) =
     (IsOwnPicture s job n × ((n.group ≡ group) × (n.frame ≡ frame))) × AreOwn s group (behind frame job) jobs ns
+
+-- the number of the frame behind pictures, the first of which belongs to a frame of this number
+unfoldable pub behind_all : ℕ → List PictureJob → ℕ
+behind_all frame [] = frame
+behind_all frame (job ∷ jobs) = behind_all (behind frame job) jobs
+
+-- numbered pictures are those of groups one behind another, the first of which has these numbers of its group and of its
+-- first frame
+unfoldable pub AreOwnGroups : {F : Type 0} → Settings → ℕ → ℕ → List (Group F) → List Numbered → Type 0
+AreOwnGroups s group frame [] ns = ns ≡ []
+AreOwnGroups s group frame (g ∷ gs) ns =
+    (own : List Numbered) × ((rest : List Numbered) × ((ns ≡ own ++ rest)
+    × (AreOwn s group frame g.pictures own × AreOwnGroups s (group + 1) (behind_all frame g.pictures) gs rest)))

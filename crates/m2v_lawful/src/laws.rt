@@ -1,5 +1,5 @@
 //! What holds of the encoder's headers by the rules that the verifier looks at.
-ghost use Rattle.std.specs.Prelude.{ℕ, ◌≡◌, Bool, false, All, List, []};
+ghost use Rattle.std.specs.Prelude.{ℕ, ◌≡◌, Bool, ◌++◌, false, nat_eq, All, List, []};
 ghost use Rattle.m2v_set.specs.declared.settings.Settings.{Settings};
 ghost use Rattle.m2v_set.specs.Rules.{Passes};
 ghost use Rattle.m2v_order.specs.declared.jobs.PictureJob.{PictureJob};
@@ -8,9 +8,9 @@ ghost use Rattle.m2v_order.specs.Groups.{Group};
 ghost use Rattle.m2v_order.specs.Whole.{IsGroupOf};
 ghost use Rattle.m2v_preface.specs.Headers.{IsJob};
 ghost use Rattle.m2v_model.specs.declared.state.Sequence.{Sequence};
-ghost use Rattle.m2v_model.specs.Lawful.{Numbered, sequence_breaches, display_place};
+ghost use Rattle.m2v_model.specs.Lawful.{Numbered, sequence_breaches, picture_breaches, display_place};
 ghost use Rattle.m2v_lawful.specs.Own.{own_sequence, IsOwnPicture, FitsScan, BreaksNone};
-ghost use Rattle.m2v_lawful.specs.Places.{frames_from, HavePlaces};
+ghost use Rattle.m2v_lawful.specs.Places.{frames_from, HavePlaces, AreOwn};
 
 /// For settings that pass, the encoder's sequence headers keep to the level's bounds, and each of its pictures to the rules
 /// on pictures by themselves.
@@ -22,8 +22,14 @@ pub fn law_lawful_headers()
 {}
 
 /// Of the pictures of a group, whose frames are numbered in coding order from any number on, each has the place of its frame
-/// in the group's display order as that of its frame in the group.
+/// in the group's display order as that of its frame in the group; so the numbered pictures of a group, among those of
+/// others, break no rule.
 pub fn law_references<F>()
-    ensures { (s : Settings) (g : Group F) (base : ℕ) → Passes s → IsGroupOf s g
+    ensures places { (s : Settings) (g : Group F) (base : ℕ) → Passes s → IsGroupOf s g
         → HavePlaces (λ frame. display_place frame (Order false (frames_from base g.pictures))) base g.pictures }
+    ensures group { (s : Settings) (constant : Bool) (g : Group F) (group frame : ℕ)
+        (before ns later : List Numbered) → Passes s → IsGroupOf s g → AreOwn s group frame g.pictures ns
+        → All (λ (n : Numbered). nat_eq n.group group ≡ false) before
+        → All (λ (n : Numbered). nat_eq n.group group ≡ false) later
+        → All (λ (n : Numbered). picture_breaches false constant (before ++ (ns ++ later)) n ≡ []) ns }
 {}

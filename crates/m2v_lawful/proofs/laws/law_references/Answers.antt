@@ -1,5 +1,6 @@
 use Rattle.m2v_lawful.proofs.Places.{group_shown}
+use Rattle.m2v_lawful.proofs.Groups.{group_none}
 use Rattle.m2v_lawful.proofs.laws.law_references.Goals as goal
 
 pub returns : goal.returns
-returns g c = group_shown
+returns g c = record { places = group_shown; group = group_none }
