@@ -5,3 +5,4 @@ pub mod Runs
 pub mod Places
 pub mod Jobs
 pub mod Groups
+pub mod Streams

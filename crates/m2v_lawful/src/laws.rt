@@ -8,9 +8,10 @@ ghost use Rattle.m2v_order.specs.Groups.{Group};
 ghost use Rattle.m2v_order.specs.Whole.{IsGroupOf};
 ghost use Rattle.m2v_preface.specs.Headers.{IsJob};
 ghost use Rattle.m2v_model.specs.declared.state.Sequence.{Sequence};
-ghost use Rattle.m2v_model.specs.Lawful.{Numbered, sequence_breaches, picture_breaches, display_place};
+ghost use Rattle.m2v_model.specs.Pictures.{Events};
+ghost use Rattle.m2v_model.specs.Lawful.{Numbered, sequence_breaches, picture_breaches, display_place, sequences_in, all_numbered, breaches};
 ghost use Rattle.m2v_lawful.specs.Own.{own_sequence, IsOwnPicture, FitsScan, BreaksNone};
-ghost use Rattle.m2v_lawful.specs.Places.{frames_from, HavePlaces, AreOwn};
+ghost use Rattle.m2v_lawful.specs.Places.{frames_from, HavePlaces, AreOwn, AreOwnGroups};
 
 /// For settings that pass, the encoder's sequence headers keep to the level's bounds, and each of its pictures to the rules
 /// on pictures by themselves.
@@ -23,7 +24,7 @@ pub fn law_lawful_headers()
 
 /// Of the pictures of a group, whose frames are numbered in coding order from any number on, each has the place of its frame
 /// in the group's display order as that of its frame in the group; so the numbered pictures of a group, among those of
-/// others, break no rule.
+/// others, break no rule; and a stream of such groups breaks none.
 pub fn law_references<F>()
     ensures places { (s : Settings) (g : Group F) (base : ℕ) → Passes s → IsGroupOf s g
         → HavePlaces (λ frame. display_place frame (Order false (frames_from base g.pictures))) base g.pictures }
@@ -32,4 +33,8 @@ pub fn law_references<F>()
         → All (λ (n : Numbered). nat_eq n.group group ≡ false) before
         → All (λ (n : Numbered). nat_eq n.group group ≡ false) later
         → All (λ (n : Numbered). picture_breaches false constant (before ++ (ns ++ later)) n ≡ []) ns }
+    ensures stream { (s : Settings) (gs : List (Group F)) (es : Events) → Passes s
+        → All (λ (g : Group F). IsGroupOf s g) gs
+        → All (λ (t : Sequence). t ≡ own_sequence s) (sequences_in es)
+        → AreOwnGroups s 1 0 gs (all_numbered es) → breaches false es ≡ [] }
 {}
