@@ -34,7 +34,7 @@ own_step group frame job n ns fs here last number kind rest = rw (here, last, nu
 
 kind_is : (s : Settings) (job : PictureJob) (n : Numbered) → IsOwnPicture s job n → n.picture.info.kind ≡ job.kind
 unfolding picture_of
-kind_is s job n own = ap (λ i. i.kind) own.info
+kind_is s job n own = ap (λ i. i.kind) own.picture.info
 
 own_frames : (s : Settings) (group frame : ℕ) (jobs : List PictureJob) (ns : List Numbered) → AreOwn s group frame jobs ns
     → frames_of_group group ns ≡ frames_from frame jobs
@@ -43,7 +43,7 @@ own_frames s group frame [] [] own = refl
 own_frames s group frame [] (n ∷ ns) own = absurd own
 own_frames s group frame (job ∷ jobs) [] own = absurd own
 own_frames s group frame (job ∷ jobs) (n ∷ ns) own =
-    own_step group frame job n ns (frames_from (behind frame job) jobs) (eq-eqb n.group group own.0.1.0) own.0.0.ends_frame own.0.1.1
+    own_step group frame job n ns (frames_from (behind frame job) jobs) (eq-eqb n.group group own.0.1.0) own.0.0.picture.ends_frame own.0.1.1
     (kind_is s job n own.0.0) (own_frames s group (behind frame job) jobs ns own.1)
 
 abbrev IsOther : ℕ → Numbered → Type 0
@@ -88,7 +88,7 @@ reference_own : (s : Settings) (job : PictureJob) (all : List Numbered) (n : Num
 unfolding reference_rule picture_of
 reference_own s job all n own few place =
     let below : job.frame < 1024 = omega (arith, few) in
-    rw (place, mod-eq_of_lt below, own.info) (judge_none _ _ (eq-eqb job.frame job.frame refl))
+    rw (place, mod-eq_of_lt below, own.picture.info) (judge_none _ _ (eq-eqb job.frame job.frame refl))
 
 module _ (s : Settings) (constant : Bool) (passes : Passes s) (all : List Numbered) where
   abbrev Lawful : Numbered → Type 0

@@ -6,3 +6,5 @@ pub mod Places
 pub mod Jobs
 pub mod Groups
 pub mod Streams
+pub mod Begins
+pub mod Numbers

@@ -79,37 +79,37 @@ module _ (s : Settings) (job : PictureJob) (n : Numbered) (own : IsOwnPicture s 
   unfolding horizontal_rule picture_of extension_of
   horizontal_none =
       let least = horizontal_least (level_in n.sequence) in
-      rw (own.info, own.extension) (codes_none job 8 n.number (most_horizontal (level_in n.sequence)) is (omega (arith, least)))
+      rw (own.picture.info, own.picture.extension) (codes_none job 8 n.number (most_horizontal (level_in n.sequence)) is (omega (arith, least)))
 
   vertical_none : vertical_rule n ≡ []
   unfolding vertical_rule picture_of extension_of
   vertical_none =
-      rw (own.info, own.extension) (codes_none job 9 n.number (cond {A = ℕ} (nat_eq job.structure 3) 5 4) is (vertical_least (nat_eq job.structure 3)))
+      rw (own.picture.info, own.picture.extension) (codes_none job 9 n.number (cond {A = ℕ} (nat_eq job.structure 3) 5 4) is (vertical_least (nat_eq job.structure 3)))
 
   intra_none : intra_rule n ≡ []
   unfolding intra_rule picture_of begins_group
-  intra_none = rw (own.info, own.first) (judge_none _ _ (intra_test (nat_eq job.kind 1) (not (nat_eq job.structure 2))))
+  intra_none = rw (own.picture.info, own.first) (judge_none _ _ (intra_test (nat_eq job.kind 1) (not (nat_eq job.structure 2))))
 
   crowd_none : crowd_rule n ≡ []
   unfolding crowd_rule
-  crowd_none = rw own.crowded (most_none 12 n.number 0 2 (omega arith))
+  crowd_none = rw own.picture.crowded (most_none 12 n.number 0 2 (omega arith))
 
   repeat_none : (constant : Bool) → Passes s → FitsScan s.scan job → repeat_rule constant n ≡ []
   unfolding repeat_rule extension_of sequence_extension_of repeats is_film
   repeat_none constant passes fits =
       let pulldown = (bounds s passes).pulldown in
-      rw (own.extension, own.sequence)
+      rw (own.picture.extension, own.sequence)
       (judge_none _ _
       (repeat_test constant (nat_eq (job.display % 2) 0) s.pulldown (is_progressive s.scan) (nat_eq job.structure 3)
       (λ on. no_progressive s.scan (pulldown.scan on)) (λ on. whole_frame s.scan job fits (pulldown.scan on))))
 
   progressive_none : progressive_rule n ≡ []
   unfolding progressive_rule extension_of sequence_extension_of is_film
-  progressive_none = rw (own.extension, own.sequence) (judge_none _ _ (progressive_test (is_progressive s.scan) s.pulldown))
+  progressive_none = rw (own.picture.extension, own.sequence) (judge_none _ _ (progressive_test (is_progressive s.scan) s.pulldown))
 
   precision_none : precision_rule n ≡ []
   unfolding precision_rule extension_of
-  precision_none = rw own.extension (most_none 15 n.number 0 2 (omega arith))
+  precision_none = rw own.picture.extension (most_none 15 n.number 0 2 (omega arith))
 
 pub picture_keeps : (s : Settings) (job : PictureJob) (n : Numbered) (constant : Bool) → Passes s → IsJob job → FitsScan s.scan job
     → IsOwnPicture s job n → BreaksNone constant n

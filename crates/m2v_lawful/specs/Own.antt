@@ -6,6 +6,7 @@ use Rattle.m2v_set.specs.declared.settings.Scan.TheVariants.{Progressive, Frames
 use Rattle.m2v_order.specs.declared.jobs.PictureJob.{PictureJob}
 use Rattle.m2v_preface.specs.Headers.{sequence_of, sequence_extension_of, picture_of, extension_of, begins_group}
 use Rattle.m2v_model.specs.declared.state.Sequence.{Sequence}
+use Rattle.m2v_model.specs.Pictures.{Picture}
 use Rattle.m2v_model.specs.Lawful.{Numbered, horizontal_rule, vertical_rule, intra_rule, crowd_rule, repeat_rule, progressive_rule, precision_rule}
 
 -- the sequence header and its extension
@@ -16,18 +17,23 @@ own_sequence s = record { info = sequence_of s; extension = sequence_extension_o
 abbrev pub ends : PictureJob → Bool
 ends job = nat_eq job.structure 3 || nat_eq job.structure 2
 
--- a numbered picture is that of a job: its headers, with a delay that doesn't say that the rate is variable, no row with
--- too many large macroblocks, and its place in its frame and its group
-pub record IsOwnPicture (s : Settings) (job : PictureJob) (n : Numbered) : Type 0 where
-  pub sequence : n.sequence ≡ own_sequence s
+-- a picture is that of a job: its headers, with a delay that doesn't say that the rate is variable, no row with too many
+-- large macroblocks, and its place in its frame
+pub record IsPictureOf (s : Settings) (job : PictureJob) (p : Picture) : Type 0 where
   pub delay : ℕ
   pub constant : nat_eq delay 65535 ≡ false
-  pub info : n.picture.info ≡ picture_of job delay
-  pub extension : n.picture.extension ≡ extension_of s job
-  pub crowded : n.picture.crowded_row ≡ 0
-  pub begins_frame : n.picture.begins_frame ≡ not (nat_eq job.structure 2)
-  pub ends_frame : n.picture.ends_frame ≡ ends job
+  pub info : p.info ≡ picture_of job delay
+  pub extension : p.extension ≡ extension_of s job
+  pub crowded : p.crowded_row ≡ 0
+  pub begins_frame : p.begins_frame ≡ not (nat_eq job.structure 2)
+  pub ends_frame : p.ends_frame ≡ ends job
+
+-- a numbered picture is that of a job, behind the encoder's sequence header, and the first one behind a group header where
+-- its job begins a group
+pub record IsOwnPicture (s : Settings) (job : PictureJob) (n : Numbered) : Type 0 where
+  pub sequence : n.sequence ≡ own_sequence s
   pub first : n.first_in_group ≡ begins_group job
+  pub picture : IsPictureOf s job n.picture
 
 -- frames that aren't shot as fields are coded as frame pictures
 abbrev pub FitsScan : Scan → PictureJob → Type 0

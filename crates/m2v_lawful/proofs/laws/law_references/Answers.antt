@@ -1,3 +1,5 @@
+use Rattle.m2v_lawful.proofs.Begins.{group_begins}
+use Rattle.m2v_lawful.specs.Told.{told_all}
 use Rattle.m2v_lawful.proofs.Places.{group_shown}
 use Rattle.m2v_lawful.proofs.Groups.{group_none}
 use Rattle.m2v_lawful.proofs.Streams.{stream_none}
