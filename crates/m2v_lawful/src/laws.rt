@@ -1,17 +1,19 @@
 //! What holds of the encoder's headers by the rules that the verifier looks at.
-ghost use Rattle.std.specs.Prelude.{ℕ, ◌≡◌, Bool, ◌++◌, false, nat_eq, All, List, []};
+ghost use Rattle.std.specs.Prelude.{ℕ, ◌≡◌, Bool, ◌++◌, false, nat_eq, All, List, [], map};
 ghost use Rattle.m2v_set.specs.declared.settings.Settings.{Settings};
 ghost use Rattle.m2v_set.specs.Rules.{Passes};
 ghost use Rattle.m2v_order.specs.declared.jobs.PictureJob.{PictureJob};
 ghost use Rattle.m2v_order.specs.Display.{Order};
 ghost use Rattle.m2v_order.specs.Groups.{Group};
+ghost use Rattle.m2v_order.specs.Calls.{jobs_in};
 ghost use Rattle.m2v_order.specs.Whole.{IsGroupOf};
 ghost use Rattle.m2v_preface.specs.Headers.{IsJob};
 ghost use Rattle.m2v_model.specs.declared.state.Sequence.{Sequence};
-ghost use Rattle.m2v_model.specs.Pictures.{Events};
+ghost use Rattle.m2v_model.specs.Pictures.{Picture, Events};
 ghost use Rattle.m2v_model.specs.Lawful.{Numbered, sequence_breaches, picture_breaches, display_place, sequences_in, all_numbered, breaches};
 ghost use Rattle.m2v_lawful.specs.Own.{own_sequence, IsOwnPicture, FitsScan, BreaksNone};
 ghost use Rattle.m2v_lawful.specs.Places.{frames_from, HavePlaces, AreOwn, AreOwnGroups};
+ghost use Rattle.m2v_lawful.specs.Told.{told_all, IsMade};
 
 /// For settings that pass, the encoder's sequence headers keep to the level's bounds, and each of its pictures to the rules
 /// on pictures by themselves.
@@ -24,7 +26,8 @@ pub fn law_lawful_headers()
 
 /// Of the pictures of a group, whose frames are numbered in coding order from any number on, each has the place of its frame
 /// in the group's display order as that of its frame in the group; so the numbered pictures of a group, among those of
-/// others, break no rule; and a stream of such groups breaks none.
+/// others, break no rule; and a stream of such groups breaks none,
+/// nor does what is told of the jobs of groups and their pictures.
 pub fn law_references<F>()
     ensures places { (s : Settings) (g : Group F) (base : ℕ) → Passes s → IsGroupOf s g
         → HavePlaces (λ frame. display_place frame (Order false (frames_from base g.pictures))) base g.pictures }
@@ -37,4 +40,7 @@ pub fn law_references<F>()
         → All (λ (g : Group F). IsGroupOf s g) gs
         → All (λ (t : Sequence). t ≡ own_sequence s) (sequences_in es)
         → AreOwnGroups s 1 0 gs (all_numbered es) → breaches false es ≡ [] }
+    ensures told { (s : Settings) (gs : List (Group F)) (made : List (PictureJob × Picture)) → Passes s
+        → All (λ (g : Group F). IsGroupOf s g) gs → All (IsMade s) made
+        → map (λ (m : PictureJob × Picture). m.0) made ≡ jobs_in gs → breaches false (told_all s made) ≡ [] }
 {}
