@@ -1,10 +1,9 @@
 -- Groups of the encoder, as numbered pictures, break no rule.
-use Rattle.std.proofs.Common.{◌≡◌, ℕ, zero, suc, ◌+◌, ◌<◌, ◌≤◌, ◌%◌, Bool, true, false, cond, List, [], ◌∷◌, ◌++◌, refl, sym, ap, subst, ◌∙◌, arith, append_assoc}
+use Rattle.std.proofs.Common.{◌≡◌, ℕ, ◌<◌, Bool, true, false, cond, List, [], ◌∷◌, ◌++◌, refl, ap, ◌∙◌, arith}
 use Rattle.std.specs.Prelude.{All, ◌&&◌, nat_eq}
-use Rattle.std.specs.List.{flat_map}
 use Rattle.std.proofs.lemmas.Bool.{eq-eqb}
 use Rattle.std.proofs.lemmas.List.{append-nil}
-use Rattle.std.proofs.lemmas.List.Elements.{All-nil, All-cons, All-append, All-head, All-tail, All-weaker}
+use Rattle.std.proofs.lemmas.List.Elements.{All-nil, All-cons, All-head, All-tail}
 use Rattle.std.proofs.Math.Nat.{mod-eq_of_lt}
 use Rattle.m2v_set.specs.declared.settings.Settings.{Settings}
 use Rattle.m2v_set.specs.Rules.{Passes}
@@ -12,14 +11,11 @@ use Rattle.m2v_order.specs.declared.jobs.PictureJob.{PictureJob}
 use Rattle.m2v_order.specs.Display.{Order}
 use Rattle.m2v_order.specs.Groups.{Group}
 use Rattle.m2v_order.specs.Whole.{IsGroupOf}
-use Rattle.m2v_order.proofs.Intra.{test_other}
 use Rattle.m2v_preface.specs.Headers.{picture_of}
-use Rattle.m2v_model.specs.declared.state.Sequence.{Sequence}
-use Rattle.m2v_model.specs.Pictures.{Events}
-use Rattle.m2v_model.specs.Lawful.{Numbered, frames_of_group, display_place, place_in_group, reference_rule, picture_breaches, sequences_in, all_numbered, is_variable, breaches}
-use Rattle.m2v_lawful.specs.Own.{own_sequence, ends, IsOwnPicture}
-use Rattle.m2v_lawful.specs.Places.{behind, frames_from, HavePlaces, AreOwn, behind_all, AreOwnGroups}
-use Rattle.m2v_lawful.proofs.Sequences.{judge_none, flat_none, sequences_none}
+use Rattle.m2v_model.specs.Lawful.{Numbered, frames_of_group, display_place, place_in_group, reference_rule, picture_breaches}
+use Rattle.m2v_lawful.specs.Own.{ends, IsOwnPicture}
+use Rattle.m2v_lawful.specs.Places.{behind, frames_from, HavePlaces, AreOwn}
+use Rattle.m2v_lawful.proofs.Sequences.{judge_none}
 use Rattle.m2v_lawful.proofs.Pictures.{picture_keeps, picture_none}
 use Rattle.m2v_lawful.proofs.Places.{group_shown}
 use Rattle.m2v_lawful.proofs.Jobs.{IsFit, group_fits}

@@ -1,5 +1,5 @@
 -- The pictures of a group keep to what the rules ask of jobs.
-use Rattle.std.proofs.Common.{◌≡◌, ℕ, ◌+◌, ◌-◌, ◌<◌, ◌≤◌, true, List, [], ◌∷◌, ◌++◌, length, map, refl, sym, ap, subst, ◌∙◌, arith}
+use Rattle.std.proofs.Common.{◌≡◌, ℕ, ◌+◌, ◌<◌, ◌≤◌, List, [], ◌∷◌, length, refl, sym, subst, arith}
 use Rattle.std.specs.Prelude.{All}
 use Rattle.std.specs.List.{flat_map}
 use Rattle.std.proofs.lemmas.List.Elements.{All-nil, All-cons, All-append, All-head, All-tail}
@@ -9,7 +9,7 @@ use Rattle.m2v_set.specs.declared.settings.Scan.TheVariants.{Progressive, Frames
 use Rattle.m2v_set.specs.Rules.{Passes}
 use Rattle.m2v_order.specs.declared.jobs.PictureJob.{PictureJob}
 use Rattle.m2v_order.specs.Coding.{structures}
-use Rattle.m2v_order.specs.Groups.{Group, group_of, first_of}
+use Rattle.m2v_order.specs.Groups.{Group, first_of}
 use Rattle.m2v_order.specs.Whole.{IsKind, fields_of, IsGroupOf}
 use Rattle.m2v_order.proofs.Queues.{grouped, due_is, turn_is, group_places}
 use Rattle.m2v_preface.specs.Headers.{IsJob}

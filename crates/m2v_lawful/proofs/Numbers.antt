@@ -1,8 +1,7 @@
 -- What is told of the encoder's groups, numbered.
-use Rattle.std.proofs.Common.{◌≡◌, ℕ, ◌+◌, Bool, true, false, cond, List, [], ◌∷◌, ◌++◌, map, refl, sym, ap, subst, ◌∙◌, arith, Option, Some, None}
+use Rattle.std.proofs.Common.{◌≡◌, ℕ, ◌+◌, Bool, true, false, cond, List, [], ◌∷◌, ◌++◌, map, refl, sym, ap, subst, ◌∙◌, Option, Some, None}
 use Rattle.std.specs.Prelude.{All, ◌-◌}
-use Rattle.std.specs.List.{flat_map}
-use Rattle.std.proofs.lemmas.List.Elements.{All-nil, All-cons, All-append, All-head, All-tail}
+use Rattle.std.proofs.lemmas.List.Elements.{All-nil, All-cons, All-head, All-tail}
 use Rattle.m2v_set.specs.declared.settings.Settings.{Settings}
 use Rattle.m2v_set.specs.Rules.{Passes}
 use Rattle.m2v_order.specs.declared.jobs.PictureJob.{PictureJob}
@@ -12,10 +11,10 @@ use Rattle.m2v_order.specs.Whole.{IsGroupOf}
 use Rattle.m2v_preface.specs.Headers.{begins_group, group_from}
 use Rattle.m2v_model.specs.declared.state.Sequence.{Sequence}
 use Rattle.m2v_model.specs.Pictures.{Picture, Events, sequence_header, group_header, coded_picture}
-use Rattle.m2v_model.specs.Lawful.{Numbered, numbered, sequences_in, all_numbered, breaches}
-use Rattle.m2v_lawful.specs.Own.{own_sequence, ends, IsPictureOf, IsOwnPicture}
+use Rattle.m2v_model.specs.Lawful.{Numbered, numbered, sequences_in, breaches}
+use Rattle.m2v_lawful.specs.Own.{own_sequence}
 use Rattle.m2v_lawful.specs.Places.{behind, AreOwn, behind_all, AreOwnGroups}
-use Rattle.m2v_lawful.specs.Told.{told, told_all, IsMade}
+use Rattle.m2v_lawful.specs.Told.{told_all, IsMade}
 use Rattle.m2v_lawful.proofs.Begins.{GoesOn, Begins, group_begins}
 use Rattle.m2v_lawful.proofs.Streams.{stream_none}
 
@@ -58,15 +57,15 @@ module _ (s : Settings) where
   begins_by made q first group number frame es false e = absurd cc
 
   -- numbered pictures of jobs, and what is numbered behind them
-  record Front (q : Option Sequence) (before : ℕ) (first : Bool) (group number frame : ℕ) (made rest : List Made) : Type 0 where
+  record Front (q : Option Sequence) (before : ℕ) (first : Bool) (group number frame : ℕ) (made rest : List Made) (jobs : List PictureJob) : Type 0 where
     pub own : List Numbered
     pub next : ℕ
     pub is : numbered q before first number frame (told_all s (made ++ rest))
-        ≡ own ++ numbered (Some (own_sequence s)) group false next (behind_all frame (jobs_of_all made)) (told_all s rest)
-    pub are : AreOwn s group frame (jobs_of_all made) own
+        ≡ own ++ numbered (Some (own_sequence s)) group false next (behind_all frame jobs) (told_all s rest)
+    pub are : AreOwn s group frame jobs own
 
   goes : (group number frame : ℕ) (made rest : List Made) → All (IsMade s) made → All GoesOn (jobs_of_all made)
-      → Front (Some (own_sequence s)) group false group number frame made rest
+      → Front (Some (own_sequence s)) group false group number frame made rest (jobs_of_all made)
   unfolding AreOwn behind_all
   goes group number frame [] rest is on = record { own = []; next = number; is = refl; are = tt }
   goes group number frame (m ∷ made) rest is on =
@@ -84,7 +83,7 @@ module _ (s : Settings) where
       }
 
   one_group : (q : Option Sequence) (first : Bool) (group number frame : ℕ) (made rest : List Made) → All (IsMade s) made → Begins (jobs_of_all made)
-      → Front q group first (group + 1) number frame made rest
+      → Front q group first (group + 1) number frame made rest (jobs_of_all made)
   unfolding AreOwn behind_all
   one_group q first group number frame [] rest is begins = let e = begins.is in absurd cc
   one_group q first group number frame (m ∷ made) rest is begins =
@@ -140,6 +139,23 @@ module _ (s : Settings) where
   all_back [] ys all = all
   all_back (x ∷ xs) ys all = all_back xs ys (All-tail (IsMade s) x (xs ++ ys) all)
 
+  groups_step : {F : Type 0} (g : Group F) (gs : List (Group F)) (made here rest : List Made) (q : Option Sequence) (first : Bool) (group number frame : ℕ)
+      → made ≡ here ++ rest → (y : Front q group first (group + 1) number frame here rest g.pictures)
+      → AreOwnGroups s (group + 1 + 1) (behind_all frame g.pictures) gs
+      (numbered (Some (own_sequence s)) (group + 1) false y.next (behind_all frame g.pictures) (told_all s rest))
+      → AreOwnGroups s (group + 1) frame (g ∷ gs) (numbered q group first number frame (told_all s made))
+  unfolding AreOwnGroups
+  groups_step g gs made here rest q first group number frame split y more = (
+    y.own,
+    (
+      numbered (Some (own_sequence s)) (group + 1) false y.next (behind_all frame g.pictures) (told_all s rest),
+      (
+        ap (λ xs. numbered q group first number frame (told_all s xs)) split ∙ y.is,
+        (y.are, more),
+      ),
+    ),
+  )
+
   groups_own : {F : Type 0} (gs : List (Group F)) (made : List Made) (q : Option Sequence) (first : Bool) (group number frame : ℕ) → Passes s
       → All (λ (g : Group F). IsGroupOf s g) gs → All (IsMade s) made → jobs_of_all made ≡ jobs_in gs
       → AreOwnGroups s (group + 1) frame gs (numbered q group first number frame (told_all s made))
@@ -151,19 +167,11 @@ module _ (s : Settings) where
       let x = split_at made g.pictures (jobs_in gs) e in
       let all : All (IsMade s) (x.here ++ x.rest) = subst (All (IsMade s)) x.is is in
       let begins : Begins (jobs_of_all x.here) = subst Begins (sym x.first) (group_begins s g passes (All-head P g gs are)) in
-      let y = one_group q first group number frame x.here x.rest (all_front x.here x.rest all) begins in
-      let next = behind_all frame g.pictures in
-      let later = numbered (Some (own_sequence s)) (group + 1) false y.next next (told_all s x.rest) in
-      let same : behind_all frame (jobs_of_all x.here) ≡ next = ap (behind_all frame) x.first in
-      (y.own, (later, (
-        ap (λ xs. numbered q group first number frame (told_all s xs)) x.is
-        ∙ y.is
-        ∙ ap (λ k. y.own ++ numbered (Some (own_sequence s)) (group + 1) false y.next k (told_all s x.rest)) same,
-        (
-          subst (λ jobs. AreOwn s (group + 1) frame jobs y.own) x.first y.are,
-          groups_own gs x.rest (Some (own_sequence s)) false (group + 1) y.next next passes (All-tail P g gs are) (all_back x.here x.rest all) x.second,
-        ),
-      )))
+      let y = subst (Front q group first (group + 1) number frame x.here x.rest) x.first
+      (one_group q first group number frame x.here x.rest (all_front x.here x.rest all) begins) in
+      groups_step g gs made x.here x.rest q first group number frame x.is y
+      (groups_own gs x.rest (Some (own_sequence s)) false (group + 1) y.next (behind_all frame g.pictures) passes (All-tail P g gs are)
+      (all_back x.here x.rest all) x.second)
 
   -- ---- the sequence headers
 

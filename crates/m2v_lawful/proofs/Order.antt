@@ -1,9 +1,9 @@
 -- Frames in coding order are shown in display order.
-use Rattle.std.proofs.Common.{◌≡◌, ℕ, zero, suc, ◌+◌, ◌-◌, ◌<◌, ◌≤◌, Bool, true, false, cond, not, List, [], ◌∷◌, ◌++◌, map, filter, refl, sym, ap, subst, ◌∙◌, arith, append_assoc, Option, Some, None, option_to_list}
+use Rattle.std.proofs.Common.{◌≡◌, ℕ, zero, suc, ◌+◌, ◌-◌, ◌≤◌, Bool, true, false, cond, not, List, [], ◌∷◌, ◌++◌, map, filter, refl, sym, ap, subst, ◌∙◌, arith, append_assoc, Option, Some, None, option_to_list}
 use Rattle.std.specs.Prelude.{All, ◌&&◌}
 use Rattle.std.specs.List.{range_with_len}
 use Rattle.std.proofs.lemmas.List.{append-nil, map-append}
-use Rattle.std.proofs.lemmas.List.Elements.{All-nil, All-cons, All-head, All-tail, All-map}
+use Rattle.std.proofs.lemmas.List.Elements.{All-nil, All-cons, All-head, All-tail}
 use Rattle.m2v_order.specs.Coding.{frames_between, in_order}
 use Rattle.m2v_order.specs.Groups.{past_last}
 use Rattle.m2v_order.specs.Display.{is_b, is_kept, Shown, Holder, shown, held, handed, held_after, frames_of}
@@ -130,12 +130,14 @@ module _ {F : Type 0} where
     earlier from [] e ok = tt
     earlier from (a ∷ more) e ok =
         let low = ok.0.low in
-        let P = λ (i : ℕ). is_b (f i) ≡ true in
-        (record {
-          low = omega (arith, low);
-          anchor = ok.0.anchor;
-          others = subst (All P) (sym (frames_first from a low)) (All-cons P from (frames_between (from + 1) a) e ok.0.others);
-        }, ok.1)
+        let P = λ (i : ℕ). is_b (f i) ≡ true in (
+          record {
+            low = omega (arith, low);
+            anchor = ok.0.anchor;
+            others = subst (All P) (sym (frames_first from a low)) (All-cons P from (frames_between (from + 1) a) e ok.0.others);
+          },
+          ok.1,
+        )
 
     module _ (p : ℕ → Bool) (same : (i : ℕ) → is_b (f i) ≡ not (p i)) where
       anchor_step : (from : ℕ) (xs : List ℕ) (b : Bool) → p from ≡ b → AreAnchors f (from + 1) (filter p xs) → AreAnchors f from (cond b (from ∷ filter p xs) (filter p xs))
@@ -155,24 +157,6 @@ module _ {F : Type 0} where
       → (let anchors = filter p (range_with_len from n) in
       ShowAll before (map f (in_order from anchors)) (map (λ i. (f i).0) (frames_between from (past_last from anchors))))
   run_shown f p from n before same = anchors_shown f from (filter p (range_with_len from n)) before (tested_anchors f p same from n)
-
-  -- ---- one run behind another
-
-  pub shown_on : (h : Option F) (ps qs : List (F × ℕ)) (out more : List F) (x : ShowAll h ps out) → ShowAll x.behind qs more → ShowAll h (ps ++ qs) (out ++ more)
-  shown_on h ps qs out more x y = record {
-    behind = y.behind;
-    shown = ap (λ xs. xs ++ option_to_list y.behind) (handed_append ps qs (holding h) ∙ ap (λ q. handed (holding h) ps ++ handed q qs) x.held)
-        ∙ append_assoc (handed (holding h) ps) (handed (holding x.behind) qs) (option_to_list y.behind)
-        ∙ ap (λ xs. handed (holding h) ps ++ xs) y.shown
-        ∙ sym (append_assoc (handed (holding h) ps) (option_to_list x.behind) more)
-        ∙ ap (λ xs. xs ++ more) x.shown
-        ∙ append_assoc (option_to_list h) out more;
-    held = held_append ps qs (holding h) ∙ ap (λ q. held_after q qs) x.held ∙ y.held;
-  }
-
-  pub shown_none : (h : Option F) → ShowAll h [] []
-  unfolding handed held_after
-  shown_none h = record { behind = h; shown = sym (append-nil (option_to_list h)); held = refl }
 
   -- ---- what is shown of a whole list
 

@@ -1,19 +1,18 @@
 -- A picture of the encoder breaks none of the rules on pictures by themselves.
-use Rattle.std.proofs.Common.{◌≡◌, ℕ, zero, suc, ◌+◌, ◌%◌, ◌≤◌, Bool, true, false, cond, not, List, [], ◌∷◌, ◌++◌, refl, sym, ap, ◌∙◌, subst, arith, ⊎_elim}
+use Rattle.std.proofs.Common.{◌≡◌, ℕ, zero, suc, ◌%◌, ◌≤◌, Bool, true, false, cond, not, List, [], ◌++◌, refl, ap, subst, arith}
 use Rattle.std.specs.Prelude.{◌&&◌, ◌||◌, nat_eq}
 use Rattle.m2v_set.specs.declared.settings.Settings.{Settings}
 use Rattle.m2v_set.specs.declared.settings.Level.{Level}
 use Rattle.m2v_set.specs.declared.settings.Level.TheVariants.{Main, High1440, High}
 use Rattle.m2v_set.specs.declared.settings.Scan.{Scan}
-use Rattle.m2v_set.specs.declared.settings.Scan.TheVariants.{Progressive, Frames, Fields}
+use Rattle.m2v_set.specs.declared.settings.Scan.TheVariants.{Frames}
 use Rattle.m2v_set.specs.Rules.{Passes, is_progressive}
 use Rattle.m2v_set.proofs.Facts.{bounds}
 use Rattle.m2v_order.specs.declared.jobs.PictureJob.{PictureJob}
 use Rattle.m2v_order.specs.Times.{repeats}
-use Rattle.m2v_preface.specs.Headers.{sequence_of, sequence_extension_of, picture_of, extension_of, begins_group, is_film, IsJob}
-use Rattle.m2v_model.specs.declared.state.Sequence.{Sequence}
-use Rattle.m2v_model.specs.Lawful.{Breach, Breaches, judge, at_most, Numbered, most_horizontal, level_in, f_code_of, f_code_rule, horizontal_rule, vertical_rule, intra_rule, crowd_rule, repeat_rule, progressive_rule, precision_rule, reference_rule, picture_breaches}
-use Rattle.m2v_lawful.specs.Own.{own_sequence, IsOwnPicture, FitsScan, BreaksNone}
+use Rattle.m2v_preface.specs.Headers.{sequence_extension_of, picture_of, extension_of, begins_group, is_film, IsJob}
+use Rattle.m2v_model.specs.Lawful.{Breaches, at_most, Numbered, most_horizontal, level_in, horizontal_rule, vertical_rule, intra_rule, crowd_rule, repeat_rule, progressive_rule, precision_rule, reference_rule, picture_breaches}
+use Rattle.m2v_lawful.specs.Own.{IsOwnPicture, FitsScan, BreaksNone}
 use Rattle.m2v_lawful.proofs.Sequences.{judge_none, most_none}
 
 -- a type is one of three

@@ -1,5 +1,5 @@
 -- The places of a group's pictures.
-use Rattle.std.proofs.Common.{◌≡◌, ℕ, zero, suc, ◌+◌, ◌-◌, ◌<◌, ◌≤◌, Bool, true, false, cond, not, List, [], ◌∷◌, ◌++◌, map, refl, sym, ap, subst, ◌∙◌, arith, None}
+use Rattle.std.proofs.Common.{◌≡◌, ℕ, zero, suc, ◌+◌, ◌-◌, ◌<◌, ◌≤◌, Bool, true, false, not, List, [], ◌∷◌, ◌++◌, map, refl, sym, ap, subst, ◌∙◌, arith, None}
 use Rattle.std.specs.Prelude.{All, filter}
 use Rattle.std.specs.List.{range_with_len, flat_map}
 use Rattle.std.proofs.lemmas.List.Elements.{All-nil, All-cons, All-head, All-tail, All-weaker}
@@ -8,18 +8,18 @@ use Rattle.m2v_set.specs.declared.settings.Scan.{Scan}
 use Rattle.m2v_set.specs.declared.settings.Scan.TheVariants.{Progressive, Frames, Fields}
 use Rattle.m2v_set.specs.Rules.{Passes}
 use Rattle.m2v_order.specs.declared.jobs.PictureJob.{PictureJob}
-use Rattle.m2v_order.specs.Coding.{is_anchor, kind_of, frames_between, anchors_between, in_order, structures}
+use Rattle.m2v_order.specs.Coding.{is_anchor, kind_of, frames_between, in_order, structures}
 use Rattle.m2v_order.specs.Groups.{past_last, jobs_of, Group, group_of, first_of}
 use Rattle.m2v_order.specs.Display.{is_b, Order, frames_of}
 use Rattle.m2v_order.specs.Whole.{IsGroupOf}
-use Rattle.m2v_order.proofs.Anchors.{Between, within, past_last_is}
+use Rattle.m2v_order.proofs.Anchors.{Between, within}
 use Rattle.m2v_order.proofs.Intra.{IsGrouped, kind_anchor, kind_b}
 use Rattle.m2v_order.proofs.Pictures.{job_by}
 use Rattle.m2v_order.proofs.Queues.{grouped, top_of}
 use Rattle.m2v_order.proofs.Shows.{order_kept}
 use Rattle.m2v_model.specs.Lawful.{display_place}
 use Rattle.m2v_lawful.specs.Showing.{AreAnchors}
-use Rattle.m2v_lawful.specs.Places.{behind, frames_from, HavePlaces}
+use Rattle.m2v_lawful.specs.Places.{frames_from, HavePlaces}
 use Rattle.m2v_lawful.proofs.Order.{run_shown, tested_anchors, all_kept, all_shown}
 use Rattle.m2v_lawful.proofs.Runs.{coded_at, at_one, order_at, place_is}
 

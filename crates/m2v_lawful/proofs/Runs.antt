@@ -1,6 +1,6 @@
 -- Where frames in coding order stand, and their places in display order.
-use Rattle.std.proofs.Common.{◌≡◌, ℕ, zero, suc, ◌+◌, ◌-◌, ◌<◌, ◌≤◌, Bool, true, false, cond, not, List, [], ◌∷◌, ◌++◌, map, ltb, refl, sym, ap, subst, ◌∙◌, arith, ⊎_elim}
-use Rattle.std.specs.Prelude.{All, nat_eq}
+use Rattle.std.proofs.Common.{◌≡◌, ℕ, zero, suc, ◌+◌, ◌-◌, ◌<◌, ◌≤◌, cond, List, [], ◌∷◌, ◌++◌, map, ltb, refl, sym, ap, ◌∙◌, arith, ⊎_elim}
+use Rattle.std.specs.Prelude.{All}
 use Rattle.std.specs.List.{range_with_len}
 use Rattle.std.proofs.lemmas.Bool.{lt-ltb, le-ltb, cases_lt, cases_eq, eq-eqb}
 use Rattle.std.proofs.lemmas.List.{map-append}
@@ -12,7 +12,7 @@ use Rattle.m2v_order.proofs.Anchors.{Between, range_within}
 use Rattle.m2v_order.proofs.Intra.{test_other}
 use Rattle.m2v_order.proofs.Orders.{range_append}
 use Rattle.m2v_model.specs.Lawful.{display_place}
-use Rattle.m2v_lawful.specs.Showing.{IsAnchorFrom, AreAnchors}
+use Rattle.m2v_lawful.specs.Showing.{AreAnchors}
 use Rattle.m2v_lawful.proofs.Order.{past_low}
 
 -- the place in coding order of a frame, by anchors from one on, of which the first stands at a place: the frames before an

@@ -11,7 +11,7 @@ use Rattle.m2v_order.specs.Whole.{IsGroupOf}
 use Rattle.m2v_order.proofs.Intra.{test_other}
 use Rattle.m2v_model.specs.declared.state.Sequence.{Sequence}
 use Rattle.m2v_model.specs.Pictures.{Events}
-use Rattle.m2v_model.specs.Lawful.{Numbered, picture_breaches, sequence_breaches, sequences_in, all_numbered, is_variable, breaches}
+use Rattle.m2v_model.specs.Lawful.{Numbered, picture_breaches, sequences_in, all_numbered, is_variable, breaches}
 use Rattle.m2v_lawful.specs.Own.{own_sequence}
 use Rattle.m2v_lawful.specs.Places.{behind, AreOwn, behind_all, AreOwnGroups}
 use Rattle.m2v_lawful.proofs.Sequences.{flat_none, sequences_none}

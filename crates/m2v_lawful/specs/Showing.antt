@@ -1,5 +1,5 @@
 -- What is shown of frames in coding order.
-use Rattle.std.specs.Prelude.{ℕ, ◌≡◌, ◌≤◌, ◌+◌, Bool, true, false, List, [], ◌∷◌, ◌++◌, All, Option, option_to_list}
+use Rattle.std.specs.Prelude.{ℕ, ◌≡◌, ◌≤◌, ◌+◌, true, false, List, [], ◌∷◌, ◌++◌, All, Option, option_to_list}
 use Rattle.m2v_order.specs.Coding.{frames_between}
 use Rattle.m2v_order.specs.Display.{is_b, Holder, handed, held_after}
 

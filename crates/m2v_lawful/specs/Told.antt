@@ -7,7 +7,7 @@ use Rattle.m2v_preface.specs.Headers.{begins_group, group_from}
 use Rattle.m2v_model.specs.Pictures.{Picture, Events, sequence_header, group_header, coded_picture}
 use Rattle.m2v_lawful.specs.Own.{own_sequence, IsPictureOf}
 
--- what is told of a job and its picture
+-- what is told of a job and its picture: in front of the first one of a group its headers
 abbrev pub told : Settings → PictureJob × Picture → Events
 told s made =
     cond (begins_group made.0) (sequence_header (own_sequence s) ∷ group_header (group_from s (made.0.display - made.0.frame)) ∷ []) []
@@ -17,5 +17,6 @@ told s made =
 abbrev pub told_all : Settings → List (PictureJob × Picture) → Events
 told_all s made = flat_map (told s) made
 
+-- a picture is that of its job
 abbrev pub IsMade : Settings → PictureJob × Picture → Type 0
 IsMade s made = IsPictureOf s made.0 made.1
