@@ -1,0 +1,4 @@
+pub mod Own
+pub mod Showing
+pub mod Places
+pub mod Told
