@@ -11,9 +11,8 @@ use Rattle.m2v_order.specs.declared.jobs.PictureJob.{PictureJob}
 use Rattle.m2v_order.specs.Groups.{Group}
 use Rattle.m2v_order.specs.Times.{intervals_of, anchor_after, interval_behind}
 use Rattle.m2v_rate.specs.Plans.{Entries, begun}
-use Rattle.m2v_rate.specs.Steady.{IsLedger}
+use Rattle.m2v_rate.specs.Steady.{IsBegun, IsLedger}
 use Rattle.m2v_rate.proofs.Keeps.{begins_steady}
-use Rattle.m2v_slice.specs.Conditions.{IsBegunFor}
 
 times_length : (s : Settings) (last : Option ℕ) (jobs : List PictureJob) → length (intervals_of s last jobs) ≡ length jobs
 unfolding intervals_of
@@ -31,15 +30,14 @@ times_are s last (job ∷ more) =
     All-cons (IsInterval s) (interval_behind s last job) (intervals_of s (anchor_after last job) more) (behind_is s last job) (times_are s (anchor_after last job) more)
 
 -- the ledger of the next group
-pub begun_for : (s : Settings) (g : Group Samples) (from l : Entries) → from.settings ≡ s → IsLedger from
+pub begun_ledger : (s : Settings) (g : Group Samples) (from : Entries) → from.settings ≡ s → IsBegun from
     → from.account.removals + length from.kinds < 2 ^ 39 → length g.pictures ≤ 126
-    → l ≡ begun from (map (λ (j : PictureJob). j.kind) g.pictures) (intervals_of s g.before g.pictures) → IsBegunFor s g l
-begun_for s g from l settings h removals few is =
+    → IsLedger (begun from (map (λ (j : PictureJob). j.kind) g.pictures) (intervals_of s g.before g.pictures))
+begun_ledger s g from settings h removals few =
     let kinds = map (λ (j : PictureJob). j.kind) g.pictures in
     let times = intervals_of s g.before g.pictures in
-    let x = begun from kinds times in
     let count = length-map g.pictures (λ (j : PictureJob). j.kind) in
-    let here : IsLedger x = begins_steady from (length from.kinds) x h.steady.begun (omega arith) (record {
+    begins_steady from (length from.kinds) (begun from kinds times) h (omega arith) (record {
       settings = refl;
       account = refl;
       few = omega (arith, few, count);
@@ -50,5 +48,4 @@ begun_for s g from l settings h removals few is =
       caps = refl;
       targets = refl;
       removals = removals;
-    }) in
-    record { from = from; settings = settings; begun = is; ledger = subst IsLedger (sym is) here }
+    })
