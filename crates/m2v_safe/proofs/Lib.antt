@@ -5,3 +5,6 @@ pub mod Anchors
 pub mod Stands
 pub mod Groups
 pub mod Texts
+pub mod Delays
+pub mod Bounds
+pub mod Streams

@@ -112,7 +112,7 @@ abbrev pub HaveBooks : Settings → Progress → List (Group Samples) → Type 0
 HaveBooks s x [] = Unit {0}
 HaveBooks s x (g ∷ more) = HasBook s x g × HaveBooks s (group_coded s x g false) more
 
-from_due : (n : ℕ) (q : Queue Samples) → is_due q ≡ true → groups_from (suc n) q ≡ group_of q ∷ groups_from n (after_group q)
+pub from_due : (n : ℕ) (q : Queue Samples) → is_due q ≡ true → groups_from (suc n) q ≡ group_of q ∷ groups_from n (after_group q)
 unfolding groups_from
 from_due n q is = cond-true (is_due q) _ _ is
 

@@ -22,6 +22,7 @@ use Rattle.m2v_slice.specs.Conditions.{IsBook}
 use Rattle.m2v_stream.specs.Streams.{Progress, at_start, book_of, group_coded, groups_begun, zeros_of, delay_at, picture_text, pictures_text}
 use Rattle.m2v_safe.specs.Removals.{coded_of, ledger_of, seen_of, groups_seen, begun_by, begins_at, removed_before}
 use Rattle.m2v_safe.proofs.Whole.{job_is, whole_kinds, size_at}
+use Rattle.m2v_safe.proofs.Closed.{seen_length}
 use Rattle.m2v_safe.proofs.Stands.{HasBook, HaveBooks}
 use Rattle.m2v_safe.proofs.Groups.{group_closed, behind}
 
@@ -63,7 +64,7 @@ picture_bits b h ends at p lt goes =
     more (inl less) = inl (omega (arith, less, whole_kinds b h))
     more (inr e) = inr e
 
-removed_more : (c : Entries) (n : ℕ) → removed (group_removals c (n + 1)) ≡ removed (group_removals c n) + (removal_at c n).bits
+pub removed_more : (c : Entries) (n : ℕ) → removed (group_removals c (n + 1)) ≡ removed (group_removals c n) + (removal_at c n).bits
 removed_more c n = sum_by-map-range_with_len_more (λ (r : Removal). r.bits) (removal_at c) 0 n n (omega arith)
 
 -- some pictures, without the last of all
@@ -90,7 +91,7 @@ pictures_bits b h ends at (suc p) le goes =
 
 -- ---- groups
 
-text_of : (s : Settings) (x : Progress) (g : Group Samples) (ends : Bool)
+pub text_of : (s : Settings) (x : Progress) (g : Group Samples) (ends : Bool)
     → (let b = book_of s x g in (group_coded s x g ends).text ≡ x.text ++ pictures_text b (coded_of b) (ledger_of b) ends (length x.text) (length b.pictures))
 unfolding group_coded
 text_of s x g ends = refl
@@ -109,7 +110,7 @@ group_bits s x g h =
       ap (λ (l : Entries). removed (group_removals l (length g.pictures))) (group_closed s x g h),
     )
 
-removed_both : (xs ys : List Removal) → removed (xs ++ ys) ≡ removed xs + removed ys
+pub removed_both : (xs ys : List Removal) → removed (xs ++ ys) ≡ removed xs + removed ys
 removed_both xs ys = sum_by-append (λ (r : Removal). r.bits) xs ys
 
 -- what stands behind groups, none of which is the last of the stream
@@ -126,6 +127,9 @@ behind_groups s (g ∷ more) x h =
     let rec = behind_groups s more y h.1 in
     let same = behind s x g h.0 in
     let gs = groups_seen s y more in
+    let b = book_of s x g in
+    let text : length (groups_begun s x (g ∷ more)).text ≡ length (groups_begun s y more).text = refl in
+    let all : removed (sent x.ledger (groups_seen s x (g ∷ more))) ≡ removed (group_removals c (length (seen_of b)) ++ sent c gs) = refl in
     record {
       ledger = rec.ledger ∙ ap (λ (l : Entries). after_groups l gs) (sym same);
       bits = omega (
@@ -133,6 +137,9 @@ behind_groups s (g ∷ more) x h =
         rec.bits,
         group_bits s x g h.0,
         ap (λ (l : Entries). removed (sent l gs)) same,
-        removed_both (group_removals c (length g.pictures)) (sent c gs),
+        removed_both (group_removals c (length (seen_of b))) (sent c gs),
+        ap (λ (n : ℕ). removed (group_removals c n)) (seen_length b),
+        text,
+        all,
       );
     }

@@ -4,11 +4,12 @@ use Rattle.std.specs.List.{range_with_len}
 use Rattle.m2v_plane.specs.Samples.{Samples}
 use Rattle.m2v_set.specs.declared.settings.Settings.{Settings}
 use Rattle.m2v_vbv.specs.Annex.{Removal}
+use Rattle.m2v_order.specs.declared.jobs.PictureJob.{PictureJob}
 use Rattle.m2v_order.specs.Groups.{Group}
 use Rattle.m2v_rate.specs.Plans.{Entries, fresh}
 use Rattle.m2v_rate.specs.Safety.{Picture, closed, group_removals, after_groups, sent}
 use Rattle.m2v_slice.specs.Books.{Book, CodedPicture, coded, picture_at, job_at, size_of, ledger_behind}
-use Rattle.m2v_stream.specs.Streams.{Progress, at_start, book_of, group_coded, groups_begun, groups_from, waiting, pictures_text}
+use Rattle.m2v_stream.specs.Streams.{Progress, at_start, book_of, group_coded, groups_begun, groups_from, waiting, delay_at, pictures_text}
 
 -- the pictures of a book, and the ledger that knows them all
 abbrev pub coded_of : Book → List CodedPicture
@@ -45,12 +46,21 @@ Seen s frames = groups_seen s (at_start s) (groups_of s frames)
 abbrev pub begun_by : Settings → List (Group Samples) → Progress
 begun_by s earlier = groups_begun s (at_start s) earlier
 
+-- picture p of a group
+abbrev pub job_of : Settings → List (Group Samples) → Group Samples → ℕ → PictureJob
+job_of s earlier g p = job_at (book_of s (begun_by s earlier) g) p
+
 -- the bit at which the headers of picture p of a group begin; `ends` tells that the group is the last one
 abbrev pub begins_at : Settings → List (Group Samples) → Group Samples → Bool → ℕ → ℕ
 begins_at s earlier g ends p =
     let x = begun_by s earlier in
     let b = book_of s x g in
     length x.text + length (pictures_text b (coded_of b) (ledger_of b) ends (length x.text) p)
+
+-- the vbv_delay in its headers
+abbrev pub delay_told : Settings → List (Group Samples) → Group Samples → Bool → ℕ → ℕ
+delay_told s earlier g ends p =
+    delay_at (ledger_of (book_of s (begun_by s earlier) g)) (job_of s earlier g p) p (begins_at s earlier g ends p)
 
 -- the pictures that are removed before picture p of a group
 abbrev pub removed_before : Settings → List (Group Samples) → Group Samples → ℕ → List Removal
