@@ -1,5 +1,5 @@
 -- The encoder's stream as its buffer's account sees it: the pictures of its groups, and where each of them begins.
-use Rattle.std.specs.Prelude.{ℕ, ◌+◌, Bool, true, false, List, [], ◌∷◌, ◌++◌, map, length, slice_index}
+use Rattle.std.specs.Prelude.{ℕ, ◌≡◌, ◌+◌, ◌<◌, Bool, true, false, List, [], ◌∷◌, ◌++◌, map, length, slice_index}
 use Rattle.std.specs.List.{range_with_len}
 use Rattle.m2v_plane.specs.Samples.{Samples}
 use Rattle.m2v_set.specs.declared.settings.Settings.{Settings}
@@ -46,7 +46,13 @@ Seen s frames = groups_seen s (at_start s) (groups_of s frames)
 abbrev pub begun_by : Settings → List (Group Samples) → Progress
 begun_by s earlier = groups_begun s (at_start s) earlier
 
--- picture p of a group
+-- picture p of a group that stands behind earlier ones in the stream of these frames
+pub record IsIn (s : Settings) (frames : List (List ℕ)) (earlier : List (Group Samples)) (g : Group Samples) (p : ℕ)
+    : Type 0 where
+  pub later : List (Group Samples)
+  pub groups : groups_of s frames ≡ earlier ++ g ∷ later
+  pub picture : p < length g.pictures
+
 abbrev pub job_of : Settings → List (Group Samples) → Group Samples → ℕ → PictureJob
 job_of s earlier g p = job_at (book_of s (begun_by s earlier) g) p
 

@@ -17,17 +17,17 @@ pub returns-clause-sizes : goal.returns-clause-sizes
 returns-clause-sizes c = stream_bits
 
 pub returns-clause-places : goal.returns-clause-places
-returns-clause-places c = λ s frames earlier g later ends p passes few is lt.
-    place_is s earlier g ends p lt (placed s frames earlier g later passes few is)
+returns-clause-places c = λ s frames earlier g ends p passes few is.
+    place_is s earlier g ends p is.picture (placed s frames earlier g is.later passes few is.groups)
 
 pub returns-clause-delay : goal.returns-clause-delay
-returns-clause-delay c = λ s frames earlier g later ends p passes few is lt.
-    delay_exact s earlier g ends p passes lt (placed s frames earlier g later passes few is)
+returns-clause-delay c = λ s frames earlier g ends p passes few is.
+    delay_exact s earlier g ends p passes is.picture (placed s frames earlier g is.later passes few is.groups)
 
 pub returns-clause-small : goal.returns-clause-small
-returns-clause-small c = λ s frames earlier g later ends p passes few is lt.
-    delay_small s earlier g ends p passes lt (placed s frames earlier g later passes few is)
+returns-clause-small c = λ s frames earlier g ends p passes few is.
+    delay_small s earlier g ends p passes is.picture (placed s frames earlier g is.later passes few is.groups)
 
 pub returns-clause-first : goal.returns-clause-first
-returns-clause-first c = λ s frames g later ends passes few is.
-    delay_first s g ends passes (placed s frames [] g later passes few is)
+returns-clause-first c = λ s frames g ends passes few is.
+    delay_first s g ends passes (placed s frames [] g is.later passes few is.groups)
