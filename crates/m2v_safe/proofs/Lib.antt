@@ -8,3 +8,5 @@ pub mod Texts
 pub mod Delays
 pub mod Bounds
 pub mod Streams
+pub mod Flat
+pub mod Exact

@@ -28,7 +28,7 @@ use Rattle.m2v_safe.proofs.Texts.{picture_length, pictures_bits, group_bits, rem
 
 -- ---- the last group
 
-zeros_none : (l : Entries) (p : ℕ) → p + 1 ≡ length l.kinds → zeros_of l true p ≡ 0
+pub zeros_none : (l : Entries) (p : ℕ) → p + 1 ≡ length l.kinds → zeros_of l true p ≡ 0
 zeros_none l p e = cond-true (nat_eq (p + 1) (length l.kinds)) _ _ (eq-eqb (p + 1) (length l.kinds) e)
 
 last_bits : (b : Book) → IsBook b → (at p : ℕ) → p + 1 ≡ length b.pictures
