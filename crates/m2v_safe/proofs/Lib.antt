@@ -10,3 +10,4 @@ pub mod Bounds
 pub mod Streams
 pub mod Flat
 pub mod Exact
+pub mod Begins

@@ -115,13 +115,16 @@ due s frames some =
     let q = waiting s frames true in
     ap (λ (t : Bool). t && (true || nat_lt (next_intra q) q.pushed)) (lt-ltb 0 (length q.frames) (omega (arith, some, length-map frames (pad (dims_of s)))))
 
-some_group : (s : Settings) (frames : List (List ℕ)) → 1 ≤ length frames → 0 < length (groups_of s frames)
-some_group s frames some =
+pub first_group : (s : Settings) (frames : List (List ℕ)) → 1 ≤ length frames
+    → (let q = waiting s frames true in groups_of s frames ≡ group_of q ∷ groups_from (length frames - 1) (after_group q))
+first_group s frames some =
     let q = waiting s frames true in
     let n = length frames - 1 in
     let e : length frames ≡ suc n = omega (arith, some) in
-    let is : groups_of s frames ≡ group_of q ∷ groups_from n (after_group q) = ap (λ (k : ℕ). groups_from k q) e ∙ from_due n q (due s frames some) in
-    omega (arith, ap length is)
+    ap (λ (k : ℕ). groups_from k q) e ∙ from_due n q (due s frames some)
+
+some_group : (s : Settings) (frames : List (List ℕ)) → 1 ≤ length frames → 0 < length (groups_of s frames)
+some_group s frames some = omega (arith, ap length (first_group s frames some))
 
 pub stream_bits : (s : Settings) (frames : List (List ℕ)) → Passes s → 1 ≤ length frames → length frames ≤ 999999
     → length ((coded_all s frames).text ⧺ start_code 0xB7) ≡ removed (removals (fresh s) (Seen s frames))

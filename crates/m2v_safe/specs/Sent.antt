@@ -3,6 +3,7 @@ use Rattle.std.specs.Prelude.{ℕ, ◌≡◌, ◌+◌, ◌-◌, ◌*◌, ◌/◌
 use Rattle.std.specs.List.{range_with_len}
 use Rattle.m2v_plane.specs.Samples.{Samples}
 use Rattle.m2v_set.specs.declared.settings.Settings.{Settings}
+use Rattle.m2v_set.specs.Numbers.{delay_of}
 use Rattle.m2v_vbv.specs.Annex.{Start, Removal, removed}
 use Rattle.m2v_vbv.specs.Account.{arriving, account_of}
 use Rattle.m2v_order.specs.Groups.{Group}
@@ -53,6 +54,11 @@ groups_sent s x (g ∷ (h ∷ later)) =
 -- the pictures of the stream of raw frames
 abbrev pub Sent : Settings → List (List ℕ) → List SentPicture
 Sent s frames = groups_sent s (at_start s) (groups_of s frames)
+
+-- the first picture of all: its start code ends behind 272 bits, and it has the delay of the settings
+pub record Begins (s : Settings) (x : SentPicture) : Type 0 where
+  pub code : x.code ≡ 272
+  pub delay : x.delay ≡ delay_of s
 
 -- a picture behind these removals has the exact delay, in 16 bits that aren't all set
 abbrev pub IsExact : Start → List Removal → SentPicture → Type 0
