@@ -11,3 +11,4 @@ pub mod Streams
 pub mod Flat
 pub mod Exact
 pub mod Begins
+pub mod Units

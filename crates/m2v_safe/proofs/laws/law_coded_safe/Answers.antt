@@ -1,7 +1,4 @@
 use Rattle.std.proofs.Common.{[]}
-use Rattle.m2v_safe.proofs.Flat.{stream_sent}
-use Rattle.m2v_safe.proofs.Exact.{stream_exact}
-use Rattle.m2v_safe.proofs.Begins.{stream_begins}
 use Rattle.m2v_rate.proofs.Streams.{stream_safe}
 use Rattle.m2v_safe.specs.Removals.{Seen}
 use Rattle.m2v_safe.proofs.Groups.{all_coded}
