@@ -1,0 +1,51 @@
+-- The ledger with which a group begins, as it follows what is coded.
+use Rattle.std.proofs.Common.{◌≡◌, ℕ, ◌+◌, ◌*◌, ◌^◌, ◌<◌, ◌≤◌, List, [], ◌∷◌, length, map, Option, inl, inr, refl, sym, ap, subst, ◌∙◌, arith}
+use Rattle.std.specs.Prelude.{All}
+use Rattle.std.proofs.lemmas.Bool.{cond_both}
+use Rattle.std.proofs.lemmas.List.{length-map}
+use Rattle.std.proofs.lemmas.List.Elements.{All-nil, All-cons}
+use Rattle.m2v_plane.specs.Samples.{Samples}
+use Rattle.m2v_set.specs.declared.settings.Settings.{Settings}
+use Rattle.m2v_set.specs.Numbers.{IsInterval}
+use Rattle.m2v_order.specs.declared.jobs.PictureJob.{PictureJob}
+use Rattle.m2v_order.specs.Groups.{Group}
+use Rattle.m2v_order.specs.Times.{intervals_of, anchor_after, interval_behind}
+use Rattle.m2v_rate.specs.Plans.{Entries, begun}
+use Rattle.m2v_rate.specs.Steady.{IsBegun, IsLedger}
+use Rattle.m2v_rate.proofs.Keeps.{begins_steady}
+
+times_length : (s : Settings) (last : Option ℕ) (jobs : List PictureJob) → length (intervals_of s last jobs) ≡ length jobs
+unfolding intervals_of
+times_length s last [] = refl
+times_length s last (job ∷ more) = omega (arith, times_length s (anchor_after last job) more)
+
+behind_is : (s : Settings) (last : Option ℕ) (job : PictureJob) → IsInterval s (interval_behind s last job)
+unfolding interval_behind
+behind_is s last job = cond_both _ _ _ (IsInterval s) (λ e. inr refl) (λ e. inl refl)
+
+times_are : (s : Settings) (last : Option ℕ) (jobs : List PictureJob) → All (IsInterval s) (intervals_of s last jobs)
+unfolding intervals_of
+times_are s last [] = All-nil (IsInterval s)
+times_are s last (job ∷ more) =
+    All-cons (IsInterval s) (interval_behind s last job) (intervals_of s (anchor_after last job) more) (behind_is s last job) (times_are s (anchor_after last job) more)
+
+-- the ledger of the next group
+pub begun_ledger : (s : Settings) (g : Group Samples) (from : Entries) → from.settings ≡ s → IsBegun from
+    → from.account.removals + length from.kinds < 2 ^ 39 → length g.pictures ≤ 126
+    → IsLedger (begun from (map (λ (j : PictureJob). j.kind) g.pictures) (intervals_of s g.before g.pictures))
+begun_ledger s g from settings h removals few =
+    let kinds = map (λ (j : PictureJob). j.kind) g.pictures in
+    let times = intervals_of s g.before g.pictures in
+    let count = length-map g.pictures (λ (j : PictureJob). j.kind) in
+    begins_steady from (length from.kinds) (begun from kinds times) h (omega arith) (record {
+      settings = refl;
+      account = refl;
+      few = omega (arith, few, count);
+      timed = times_length s g.before g.pictures ∙ sym count;
+      times = subst (λ (t : Settings). All (IsInterval t) times) (sym settings) (times_are s g.before g.pictures);
+      sizes = refl;
+      quantisers = refl;
+      caps = refl;
+      targets = refl;
+      removals = removals;
+    })

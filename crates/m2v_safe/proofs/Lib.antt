@@ -1,0 +1,14 @@
+pub mod Books
+pub mod Whole
+pub mod Closed
+pub mod Anchors
+pub mod Stands
+pub mod Groups
+pub mod Texts
+pub mod Delays
+pub mod Bounds
+pub mod Streams
+pub mod Flat
+pub mod Exact
+pub mod Begins
+pub mod Units
