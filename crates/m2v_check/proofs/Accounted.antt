@@ -214,7 +214,7 @@ end_whole start us b true e none r bits =
     let ran = law.whole e in
     let all : bits_of ts ≤ c.total = omega (arith, bits_push us c.next, bits) in
     let fault = sym (ran.fault c.total all) in
-    let most = λ bears. sym (law.most c.total (omega (arith, bits)) (most_in c.total b) (r.1 (over_stays c.full _ c.total c.total (omega arith) bears) c.total (omega arith))) in
+    let most : is_some (over_by (full_with c) c.total) ≡ false → most_noted c.total (most_in c.total b) (noted_by true c) ≡ most_of start c.total ts = λ bears. sym (law.most c.total (omega (arith, bits)) (most_in c.total b) (r.1 (over_stays c.full _ c.total c.total (omega arith) bears) c.total (omega arith))) in
     by_over (over_by (full_with c) c.total) (fault_of start c.total ts) c.under (most_noted c.total (most_in c.total b) (noted_by true c)) (most_of start c.total ts)
     (delays_with c) (others_of start ts) fault none most ran.delays
   where
