@@ -1,6 +1,6 @@
 -- Each picture that is sent has the exact delay behind the removals of those before it.
 use Rattle.std.proofs.Common.{◌≡◌, ℕ, zero, suc, ◌+◌, ◌-◌, ◌<◌, ◌≤◌, ◌⊎◌, inl, inr, Bool, true, false, List, [], ◌∷◌, ◌++◌, length, map, refl, sym, ap, subst, ◌∙◌, arith, append_assoc}
-use Rattle.std.proofs.lemmas.List.{append-nil, map-append}
+use Rattle.std.proofs.lemmas.List.{append-nil}
 use Rattle.m2v_plane.specs.Samples.{Samples}
 use Rattle.m2v_set.specs.declared.settings.Settings.{Settings}
 use Rattle.m2v_set.specs.Rules.{Passes}
@@ -9,7 +9,7 @@ use Rattle.m2v_order.specs.Groups.{Group}
 use Rattle.m2v_rate.specs.Plans.{Entries, fresh, start_of}
 use Rattle.m2v_rate.specs.Safety.{Picture, closed, group_removals, after_groups, sent}
 use Rattle.m2v_stream.specs.Streams.{Progress, at_start, book_of, group_coded, groups_begun}
-use Rattle.m2v_safe.specs.Removals.{ledger_of, seen_of, groups_seen, groups_of, begun_by, removed_before}
+use Rattle.m2v_safe.specs.Removals.{seen_of, groups_seen, groups_of, begun_by, removed_before}
 use Rattle.m2v_safe.specs.Sent.{SentPicture, removal_of, sent_at, group_sent, groups_sent, Sent, IsExact, AreExact}
 use Rattle.m2v_safe.proofs.Closed.{seen_length}
 use Rattle.m2v_safe.proofs.Delays.{IsPlaced, placed, delay_exact}

@@ -1,4 +1,4 @@
-use Rattle.std.proofs.Common.{sym, subst, ap, ◌∙◌, List}
+use Rattle.std.proofs.Common.{subst, ap, ◌∙◌, List}
 use Rattle.m2v_vbv.specs.Annex.{Removal, removed, Safe}
 use Rattle.m2v_rate.specs.Plans.{start_of}
 use Rattle.m2v_rate.proofs.Streams.{stream_safe}
