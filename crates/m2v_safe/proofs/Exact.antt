@@ -55,7 +55,7 @@ sent_more l (k ∷ gs) g =
 -- ---- a group
 
 -- what is removed before picture p, by the pictures that are sent
-before_is : (s : Settings) (earlier : List (Group Samples)) (g : Group Samples) (ends : Bool) (p : ℕ) → p ≤ length g.pictures → (p < length g.pictures) ⊎ (ends ≡ false)
+pub before_is : (s : Settings) (earlier : List (Group Samples)) (g : Group Samples) (ends : Bool) (p : ℕ) → p ≤ length g.pictures → (p < length g.pictures) ⊎ (ends ≡ false)
     → IsPlaced s earlier g
     → removed_before s earlier g p ≡ sent (fresh s) (groups_seen s (at_start s) earlier)
     ++ map removal_of (group_sent (book_of s (begun_by s earlier) g) ends (length (begun_by s earlier).text) p)

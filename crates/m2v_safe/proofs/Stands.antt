@@ -15,7 +15,7 @@ use Rattle.m2v_order.specs.Whole.{IsGroupOf}
 use Rattle.m2v_order.proofs.Intra.{intra_first}
 use Rattle.m2v_order.proofs.Queues.{grouped, due_is, turn_is, sound_next, true_false}
 use Rattle.m2v_order.proofs.Wholes.{group_is}
-use Rattle.m2v_rate.specs.Plans.{Entries, begun}
+use Rattle.m2v_rate.specs.Plans.{Entries}
 use Rattle.m2v_rate.specs.Steady.{IsBegun}
 use Rattle.m2v_rate.proofs.Lows.{removals_at}
 use Rattle.m2v_rate.proofs.Streams.{fresh_begun}

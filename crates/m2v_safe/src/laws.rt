@@ -16,7 +16,7 @@ ghost use Rattle.m2v_preface.specs.Headers.{bits_to_code};
 ghost use Rattle.m2v_stream.specs.Streams.{coded_all};
 ghost use Rattle.m2v_safe.specs.Removals.{Seen, IsIn, groups_of, job_of, begins_at, delay_told};
 ghost use Rattle.m2v_safe.specs.Removals.{removed_before};
-ghost use Rattle.m2v_safe.specs.Sent.{SentPicture, Sent, Begins, removal_of, AreExact};
+ghost use Rattle.m2v_safe.specs.Sent.{SentPicture, Sent, StandsAt, Begins, removal_of, AreExact};
 
 /// The encoder's stream never breaks the decoder's buffer, with settings that pass and at most
 /// 999,999 frames.
@@ -53,10 +53,10 @@ pub fn law_coded_safe()
 
 /// The same by the pictures as they are sent, one behind another: by their texts alone.
 ///
-/// They are what is removed, and their bits are those of the stream with its end code. The first
-/// picture start code ends behind 272 bits, with the delay of the settings in its header; each
-/// picture has the exact delay behind those before it; and the times behind them are those of
-/// the groups.
+/// They are what is removed, and their bits are those of the stream with its end code; those in
+/// front of a picture are what is removed before it. The first picture start code ends behind 272
+/// bits, with the delay of the settings in its header; each picture has the exact delay behind
+/// those before it; and the times behind them are those of the groups.
 pub fn law_coded_sent()
     ensures removals { (s : Settings) (frames : List (List ℕ)) → Passes s → length frames ≤ 999999
         → removals (fresh s) (Seen s frames) ≡ map removal_of (Sent s frames) }
@@ -65,6 +65,9 @@ pub fn law_coded_sent()
     ensures sizes { (s : Settings) (frames : List (List ℕ)) → Passes s → 1 ≤ length frames
         → length frames ≤ 999999 → length ((coded_all s frames).text ⧺ start_code 0xB7)
         ≡ removed (map removal_of (Sent s frames)) }
+    ensures at { (s : Settings) (frames : List (List ℕ)) (earlier : List (Group Samples))
+        (g : Group Samples) (p : ℕ) → Passes s → length frames ≤ 999999
+        → IsIn s frames earlier g p → StandsAt s frames earlier g p }
     ensures begins { (s : Settings) (frames : List (List ℕ)) → Passes s → 1 ≤ length frames
         → length frames ≤ 999999 → (x : SentPicture) × (later : List SentPicture)
         × (Sent s frames ≡ x ∷ later) × Begins s x }
