@@ -21,9 +21,11 @@ use Rattle.m2v_safe.proofs.Flat.{group_more, group_is}
 exact_append : (start : Start) (xs ys : List SentPicture) (before : List Removal) → AreExact start before xs → AreExact start (before ++ map removal_of xs) ys
     → AreExact start before (xs ++ ys)
 exact_append start [] ys before first second = subst (λ (rs : List Removal). AreExact start rs ys) (append-nil before) second
-exact_append start (x ∷ xs) ys before first second =
-    (first.0, exact_append start xs ys (before ++ removal_of x ∷ []) first.1
-    (subst (λ (rs : List Removal). AreExact start rs ys) (sym (append_assoc before (removal_of x ∷ []) (map removal_of xs))) second))
+exact_append start (x ∷ xs) ys before first second = (
+  first.0,
+  exact_append start xs ys (before ++ removal_of x ∷ []) first.1
+      (subst (λ (rs : List Removal). AreExact start rs ys) (sym (append_assoc before (removal_of x ∷ []) (map removal_of xs))) second),
+)
 
 exact_push : (start : Start) (xs : List SentPicture) (x : SentPicture) (before : List Removal) → AreExact start before xs → IsExact start (before ++ map removal_of xs) x
     → AreExact start before (xs ++ x ∷ [])

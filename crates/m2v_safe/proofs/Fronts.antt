@@ -1,5 +1,5 @@
 -- The pictures in front of one are those that are removed before it.
-use Rattle.std.proofs.Common.{◌≡◌, ℕ, zero, suc, ◌+◌, ◌-◌, ◌<◌, ◌≤◌, ◌⊎◌, inl, inr, Bool, true, false, List, [], ◌∷◌, ◌++◌, length, map, refl, sym, ap, subst, ◌∙◌, arith, append_assoc}
+use Rattle.std.proofs.Common.{◌≡◌, ℕ, suc, ◌+◌, ◌-◌, ◌<◌, ◌≤◌, inl, inr, Bool, true, false, List, [], ◌∷◌, ◌++◌, length, map, refl, sym, ap, ◌∙◌, arith, append_assoc}
 use Rattle.std.specs.List.{range_with_len}
 use Rattle.std.proofs.lemmas.Bool.{cases_lt}
 use Rattle.std.proofs.lemmas.List.{map-append}
@@ -9,16 +9,15 @@ use Rattle.m2v_set.specs.Rules.{Passes}
 use Rattle.m2v_vbv.specs.Annex.{Removal}
 use Rattle.m2v_order.specs.Groups.{Group}
 use Rattle.m2v_order.proofs.Orders.{range_append}
-use Rattle.m2v_rate.specs.Plans.{Entries, fresh}
+use Rattle.m2v_rate.specs.Plans.{Entries}
 use Rattle.m2v_rate.specs.Safety.{closed, group_removals, sent}
 use Rattle.m2v_slice.specs.Books.{Book}
-use Rattle.m2v_slice.specs.Conditions.{IsBook}
 use Rattle.m2v_stream.specs.Streams.{Progress, at_start, book_of, group_coded, groups_begun}
-use Rattle.m2v_safe.specs.Removals.{seen_of, groups_seen, groups_of, begun_by, removed_before, IsIn}
-use Rattle.m2v_safe.specs.Sent.{SentPicture, removal_of, sent_at, group_sent, groups_sent, Sent, StandsAt}
-use Rattle.m2v_safe.proofs.Stands.{HasBook, HaveBooks}
+use Rattle.m2v_safe.specs.Removals.{seen_of, groups_seen, begun_by, IsIn}
+use Rattle.m2v_safe.specs.Sent.{SentPicture, removal_of, sent_at, group_sent, groups_sent, StandsAt}
+use Rattle.m2v_safe.proofs.Stands.{HaveBooks}
 use Rattle.m2v_safe.proofs.Groups.{behind}
-use Rattle.m2v_safe.proofs.Delays.{IsPlaced, placed, delay_exact}
+use Rattle.m2v_safe.proofs.Delays.{placed, delay_exact}
 use Rattle.m2v_safe.proofs.Flat.{whole_group}
 use Rattle.m2v_safe.proofs.Exact.{before_is}
 

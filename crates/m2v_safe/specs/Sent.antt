@@ -1,4 +1,4 @@
--- The pictures of the encoder's stream as they are sent, by their texts alone.
+-- The pictures of the encoder's stream as they are sent, by what their texts tell.
 use Rattle.std.specs.Prelude.{ℕ, ◌≡◌, ◌+◌, ◌-◌, ◌*◌, ◌/◌, ◌≤◌, Bool, true, false, List, [], ◌∷◌, ◌++◌, map, length, slice_index}
 use Rattle.std.specs.List.{range_with_len}
 use Rattle.m2v_plane.specs.Samples.{Samples}
