@@ -1,5 +1,5 @@
 -- Each group leaves a reconstruction of its last anchor.
-use Rattle.std.proofs.Common.{◌≡◌, ℕ, zero, suc, ◌<◌, ◌≤◌, Bool, true, false, cond, List, [], ◌∷◌, length, get_or, Option, Some, None, refl, sym, ap, subst, ◌∙◌, arith}
+use Rattle.std.proofs.Common.{◌≡◌, ℕ, ◌<◌, Bool, true, false, cond, List, [], ◌∷◌, length, get_or, Option, Some, None, refl, sym, ap, subst, ◌∙◌, arith}
 use Rattle.std.specs.Prelude.{nat_eq, not, ◌&&◌, is_some, IfSome}
 use Rattle.std.specs.List.{flat_map}
 use Rattle.std.proofs.lemmas.Bool.{cond-true}
@@ -16,7 +16,7 @@ use Rattle.m2v_order.proofs.Intra.{test_other}
 use Rattle.m2v_preface.specs.Headers.{begins_group, bits_to_code, header_bits}
 use Rattle.m2v_slice.specs.Books.{Book, job_at, no_job}
 use Rattle.m2v_slice.specs.Conditions.{IsBook}
-use Rattle.m2v_slice.proofs.Groups.{picture_is_one, from_intra}
+use Rattle.m2v_slice.proofs.Groups.{from_intra}
 use Rattle.m2v_stream.specs.Streams.{frame_of, frame_or, anchor_frame}
 use Rattle.m2v_safe.specs.Removals.{coded_of}
 

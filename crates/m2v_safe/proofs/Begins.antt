@@ -1,5 +1,5 @@
 -- The first picture that is sent.
-use Rattle.std.proofs.Common.{◌≡◌, ℕ, zero, suc, ◌+◌, ◌-◌, ◌<◌, ◌≤◌, Bool, true, false, List, [], ◌∷◌, ◌++◌, length, map, refl, sym, ap, subst, ◌∙◌, arith}
+use Rattle.std.proofs.Common.{◌≡◌, ℕ, zero, suc, ◌+◌, ◌-◌, ◌<◌, ◌≤◌, Bool, true, false, List, [], ◌∷◌, ◌++◌, length, map, refl, ap, ◌∙◌, arith}
 use Rattle.std.specs.List.{range_with_len}
 use Rattle.m2v_plane.specs.Samples.{Samples}
 use Rattle.m2v_set.specs.declared.settings.Settings.{Settings}
@@ -8,7 +8,6 @@ use Rattle.m2v_order.specs.Groups.{Group, group_of, after_group}
 use Rattle.m2v_slice.specs.Books.{Book}
 use Rattle.m2v_slice.specs.Conditions.{IsBook}
 use Rattle.m2v_stream.specs.Streams.{at_start, book_of, group_coded, groups_begun, groups_from, waiting}
-use Rattle.m2v_safe.specs.Removals.{groups_of, begun_by}
 use Rattle.m2v_safe.specs.Sent.{SentPicture, sent_at, group_sent, groups_sent, Sent, Begins}
 use Rattle.m2v_safe.proofs.Anchors.{first_code}
 use Rattle.m2v_safe.proofs.Delays.{IsPlaced, placed}

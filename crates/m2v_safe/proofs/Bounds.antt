@@ -1,24 +1,23 @@
 -- Each delay has its 16 bits, and the first one is the one that is set.
-use Rattle.std.proofs.Common.{◌≡◌, ℕ, zero, suc, ◌+◌, ◌-◌, ◌*◌, ◌/◌, ◌<◌, ◌≤◌, inl, inr, Bool, List, [], ◌∷◌, ◌++◌, length, refl, sym, ap, subst, ◌∙◌, arith}
+use Rattle.std.proofs.Common.{◌≡◌, ℕ, zero, suc, ◌+◌, ◌*◌, ◌/◌, ◌<◌, ◌≤◌, Bool, List, [], length, refl, sym, ap, subst, ◌∙◌, arith}
 use Rattle.std.proofs.Math.Nat.{div-le_of_le-mul, mul-div_cancel_left}
-use Rattle.std.proofs.lemmas.List.FromFn.{sum_by-map-range_with_len_more}
 use Rattle.m2v_plane.specs.Samples.{Samples}
 use Rattle.m2v_set.specs.declared.settings.Settings.{Settings}
 use Rattle.m2v_set.specs.Numbers.{buffer_bits, delay_of}
 use Rattle.m2v_set.specs.Rules.{Passes}
 use Rattle.m2v_set.proofs.Facts.{bounds}
-use Rattle.m2v_vbv.specs.Annex.{Start, Removal, removed, held_endless}
+use Rattle.m2v_vbv.specs.Annex.{Removal, removed, held_endless}
 use Rattle.m2v_vbv.specs.Account.{State, arriving, account_of}
 use Rattle.m2v_order.specs.Groups.{Group}
-use Rattle.m2v_rate.specs.Plans.{Entries, account_at, fresh, start_of}
+use Rattle.m2v_rate.specs.Plans.{Entries, fresh, start_of}
 use Rattle.m2v_rate.specs.Safety.{closed, removal_at, group_removals, after_groups, sent}
 use Rattle.m2v_rate.proofs.Streams.{delay_is}
 use Rattle.m2v_rate.proofs.Lows.{held_most}
-use Rattle.m2v_preface.specs.Headers.{bits_to_code, header_bits}
-use Rattle.m2v_slice.specs.Books.{Book, job_at, size_of}
+use Rattle.m2v_preface.specs.Headers.{bits_to_code}
+use Rattle.m2v_slice.specs.Books.{Book, job_at}
 use Rattle.m2v_slice.specs.Conditions.{IsBook}
 use Rattle.m2v_stream.specs.Streams.{at_start, book_of, delay_at}
-use Rattle.m2v_safe.specs.Removals.{coded_of, ledger_of, seen_of, groups_seen, begun_by, begins_at, removed_before}
+use Rattle.m2v_safe.specs.Removals.{ledger_of, seen_of, groups_seen, begun_by, begins_at, removed_before}
 use Rattle.m2v_safe.proofs.Whole.{whole_ledger, whole_settings, whole_kinds, size_at}
 use Rattle.m2v_safe.proofs.Anchors.{first_code}
 use Rattle.m2v_safe.proofs.Texts.{removed_more, removed_both}

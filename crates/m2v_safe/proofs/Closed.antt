@@ -1,6 +1,6 @@
 -- The ledger behind a group is the closed ledger of its pictures, which are coded by its plans.
-use Rattle.std.proofs.Common.{◌≡◌, ℕ, zero, suc, ◌+◌, ◌-◌, ◌<◌, ◌≤◌, List, [], ◌∷◌, length, map, get_or, refl, sym, ap, subst, ◌∙◌, arith}
-use Rattle.std.specs.Prelude.{All, slice_index}
+use Rattle.std.proofs.Common.{◌≡◌, ℕ, ◌+◌, ◌<◌, ◌≤◌, List, length, map, get_or, refl, sym, ap, subst, ◌∙◌, arith}
+use Rattle.std.specs.Prelude.{slice_index}
 use Rattle.std.specs.List.{range_with_len}
 use Rattle.std.proofs.lemmas.List.{length-map, get_or-map}
 use Rattle.std.proofs.lemmas.List.FromFn.{fill_by_all, get_or-map-range_with_len, length-map-range_with_len}
@@ -11,11 +11,10 @@ use Rattle.m2v_rate.specs.Plans.{Entries, first_open, plan_of, begun}
 use Rattle.m2v_rate.specs.Seen.{told, Agree}
 use Rattle.m2v_rate.specs.Safety.{Picture, closed, IsCoded}
 use Rattle.m2v_rate.proofs.Same.{plan_same}
-use Rattle.m2v_slice.specs.Books.{Book, CodedPicture, job_at, no_job, coded, picture_at, size_of, ledger_with, ledger_for}
+use Rattle.m2v_slice.specs.Books.{Book, CodedPicture, no_job, coded, picture_at, size_of, ledger_with}
 use Rattle.m2v_slice.specs.Conditions.{IsBook}
 use Rattle.m2v_slice.proofs.Coded.{none, count, picture_stays, plan_is}
 use Rattle.m2v_slice.proofs.Steady.{ledger_at, ledger_for_is, sizes_stay}
-use Rattle.m2v_slice.proofs.Sound.{ledger_settings}
 use Rattle.m2v_safe.specs.Removals.{coded_of, ledger_of, seen_at, seen_of}
 use Rattle.m2v_safe.proofs.Whole.{size_room, times_count}
 

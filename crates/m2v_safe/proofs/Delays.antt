@@ -1,23 +1,20 @@
 -- Where each picture begins, and that its delay is the exact one.
-use Rattle.std.proofs.Common.{◌≡◌, ℕ, zero, suc, ◌+◌, ◌-◌, ◌*◌, ◌/◌, ◌<◌, ◌≤◌, ◌⊎◌, inl, inr, Bool, false, List, [], ◌∷◌, ◌++◌, length, refl, sym, ap, subst, ◌∙◌, arith}
+use Rattle.std.proofs.Common.{◌≡◌, ℕ, ◌+◌, ◌*◌, ◌/◌, ◌<◌, ◌≤◌, inl, Bool, false, List, [], ◌∷◌, ◌++◌, length, sym, ap, subst, ◌∙◌, arith}
 use Rattle.m2v_plane.specs.Samples.{Samples}
 use Rattle.m2v_set.specs.declared.settings.Settings.{Settings}
-use Rattle.m2v_set.specs.Numbers.{buffer_bits, delay_of}
 use Rattle.m2v_set.specs.Rules.{Passes}
-use Rattle.m2v_set.proofs.Facts.{bounds}
-use Rattle.m2v_vbv.specs.Annex.{Start, Removal, removed, held_endless}
+use Rattle.m2v_vbv.specs.Annex.{removed}
 use Rattle.m2v_vbv.specs.Account.{State, arriving, account_of}
 use Rattle.m2v_order.specs.Groups.{Group}
 use Rattle.m2v_rate.specs.Plans.{Entries, account_at, fresh, start_of}
-use Rattle.m2v_rate.specs.Safety.{Picture, closed, IsCoded, AreCoded, group_removals, after_groups, sent, Keeps}
-use Rattle.m2v_rate.proofs.Streams.{account_is, keeps_after, delay_is}
-use Rattle.m2v_preface.specs.Headers.{bits_to_code, header_bits}
-use Rattle.m2v_slice.specs.Books.{Book, job_at}
+use Rattle.m2v_rate.specs.Safety.{closed, IsCoded, AreCoded, group_removals, after_groups, sent}
+use Rattle.m2v_rate.proofs.Streams.{account_is}
+use Rattle.m2v_preface.specs.Headers.{bits_to_code}
+use Rattle.m2v_slice.specs.Books.{job_at}
 use Rattle.m2v_stream.specs.Streams.{Progress, at_start, book_of, group_coded, groups_begun, delay_at}
 use Rattle.m2v_safe.specs.Removals.{ledger_of, seen_of, groups_seen, groups_of, begun_by, begins_at, removed_before}
 use Rattle.m2v_safe.proofs.Whole.{whole_settings}
 use Rattle.m2v_safe.proofs.Closed.{seen_length}
-use Rattle.m2v_safe.proofs.Anchors.{first_code}
 use Rattle.m2v_safe.proofs.Stands.{HasBook, HaveBooks, have_books}
 use Rattle.m2v_safe.proofs.Groups.{group_coded_is, group_closed, are_coded}
 use Rattle.m2v_safe.proofs.Texts.{pictures_bits, removed_both, behind_groups}

@@ -1,6 +1,6 @@
 -- Each picture that is sent has the exact delay behind the removals of those before it.
 use Rattle.std.proofs.Common.{◌≡◌, ℕ, zero, suc, ◌+◌, ◌-◌, ◌<◌, ◌≤◌, ◌⊎◌, inl, inr, Bool, true, false, List, [], ◌∷◌, ◌++◌, length, map, refl, sym, ap, subst, ◌∙◌, arith, append_assoc}
-use Rattle.std.proofs.lemmas.List.{append-nil, map-append}
+use Rattle.std.proofs.lemmas.List.{append-nil}
 use Rattle.m2v_plane.specs.Samples.{Samples}
 use Rattle.m2v_set.specs.declared.settings.Settings.{Settings}
 use Rattle.m2v_set.specs.Rules.{Passes}
@@ -9,7 +9,7 @@ use Rattle.m2v_order.specs.Groups.{Group}
 use Rattle.m2v_rate.specs.Plans.{Entries, fresh, start_of}
 use Rattle.m2v_rate.specs.Safety.{Picture, closed, group_removals, after_groups, sent}
 use Rattle.m2v_stream.specs.Streams.{Progress, at_start, book_of, group_coded, groups_begun}
-use Rattle.m2v_safe.specs.Removals.{ledger_of, seen_of, groups_seen, groups_of, begun_by, removed_before}
+use Rattle.m2v_safe.specs.Removals.{seen_of, groups_seen, groups_of, begun_by, removed_before}
 use Rattle.m2v_safe.specs.Sent.{SentPicture, removal_of, sent_at, group_sent, groups_sent, Sent, IsExact, AreExact}
 use Rattle.m2v_safe.proofs.Closed.{seen_length}
 use Rattle.m2v_safe.proofs.Delays.{IsPlaced, placed, delay_exact}
@@ -21,9 +21,11 @@ use Rattle.m2v_safe.proofs.Flat.{group_more, group_is}
 exact_append : (start : Start) (xs ys : List SentPicture) (before : List Removal) → AreExact start before xs → AreExact start (before ++ map removal_of xs) ys
     → AreExact start before (xs ++ ys)
 exact_append start [] ys before first second = subst (λ (rs : List Removal). AreExact start rs ys) (append-nil before) second
-exact_append start (x ∷ xs) ys before first second =
-    (first.0, exact_append start xs ys (before ++ removal_of x ∷ []) first.1
-    (subst (λ (rs : List Removal). AreExact start rs ys) (sym (append_assoc before (removal_of x ∷ []) (map removal_of xs))) second))
+exact_append start (x ∷ xs) ys before first second = (
+  first.0,
+  exact_append start xs ys (before ++ removal_of x ∷ []) first.1
+      (subst (λ (rs : List Removal). AreExact start rs ys) (sym (append_assoc before (removal_of x ∷ []) (map removal_of xs))) second),
+)
 
 exact_push : (start : Start) (xs : List SentPicture) (x : SentPicture) (before : List Removal) → AreExact start before xs → IsExact start (before ++ map removal_of xs) x
     → AreExact start before (xs ++ x ∷ [])
@@ -55,7 +57,7 @@ sent_more l (k ∷ gs) g =
 -- ---- a group
 
 -- what is removed before picture p, by the pictures that are sent
-before_is : (s : Settings) (earlier : List (Group Samples)) (g : Group Samples) (ends : Bool) (p : ℕ) → p ≤ length g.pictures → (p < length g.pictures) ⊎ (ends ≡ false)
+pub before_is : (s : Settings) (earlier : List (Group Samples)) (g : Group Samples) (ends : Bool) (p : ℕ) → p ≤ length g.pictures → (p < length g.pictures) ⊎ (ends ≡ false)
     → IsPlaced s earlier g
     → removed_before s earlier g p ≡ sent (fresh s) (groups_seen s (at_start s) earlier)
     ++ map removal_of (group_sent (book_of s (begun_by s earlier) g) ends (length (begun_by s earlier).text) p)

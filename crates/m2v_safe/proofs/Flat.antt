@@ -1,28 +1,25 @@
 -- The pictures as they are sent are those that are removed, and each has the exact delay.
-use Rattle.std.proofs.Common.{◌≡◌, ℕ, zero, suc, ◌+◌, ◌-◌, ◌*◌, ◌/◌, ◌<◌, ◌≤◌, ◌⊎◌, inl, inr, Bool, true, false, List, [], ◌∷◌, ◌++◌, length, map, refl, sym, ap, subst, ◌∙◌, arith, append_assoc}
+use Rattle.std.proofs.Common.{◌≡◌, ℕ, zero, suc, ◌+◌, ◌-◌, ◌<◌, ◌≤◌, ◌⊎◌, inl, inr, Bool, true, false, List, [], ◌∷◌, ◌++◌, length, map, refl, sym, ap, subst, ◌∙◌, arith}
 use Rattle.std.specs.Prelude.{slice_index}
-use Rattle.std.specs.List.{range_with_len}
-use Rattle.std.proofs.lemmas.List.{append-nil, map-append}
+use Rattle.std.proofs.lemmas.List.{map-append}
 use Rattle.std.proofs.lemmas.List.FromFn.{map-range_with_len_more}
 use Rattle.m2v_plane.specs.Samples.{Samples}
 use Rattle.m2v_set.specs.declared.settings.Settings.{Settings}
 use Rattle.m2v_set.specs.Rules.{Passes}
-use Rattle.m2v_vbv.specs.Annex.{Start, Removal, removed}
+use Rattle.m2v_vbv.specs.Annex.{Removal}
 use Rattle.m2v_order.specs.Groups.{Group}
-use Rattle.m2v_rate.specs.Plans.{Entries, fresh, start_of}
-use Rattle.m2v_rate.specs.Safety.{Picture, closed, removal_at, ending_at, group_removals, removals, after_groups, sent}
-use Rattle.m2v_slice.specs.Books.{Book, ledger_with, size_of}
+use Rattle.m2v_rate.specs.Plans.{Entries, fresh}
+use Rattle.m2v_rate.specs.Safety.{closed, removal_at, ending_at, group_removals, removals}
+use Rattle.m2v_slice.specs.Books.{Book, ledger_with}
 use Rattle.m2v_slice.specs.Conditions.{IsBook}
-use Rattle.m2v_stream.specs.Streams.{Progress, at_start, book_of, group_coded, groups_begun, picture_text}
-use Rattle.m2v_safe.specs.Removals.{coded_of, ledger_of, seen_of, groups_seen, groups_of, begun_by, removed_before, Seen}
-use Rattle.m2v_safe.specs.Sent.{SentPicture, removal_of, place_at, sent_at, group_sent, groups_sent, Sent, IsExact, AreExact}
+use Rattle.m2v_stream.specs.Streams.{Progress, at_start, book_of, group_coded}
+use Rattle.m2v_safe.specs.Removals.{ledger_of, seen_of, groups_seen, groups_of, Seen}
+use Rattle.m2v_safe.specs.Sent.{removal_of, place_at, sent_at, group_sent, groups_sent, Sent}
 use Rattle.m2v_safe.proofs.Whole.{whole_kinds, size_at}
 use Rattle.m2v_safe.proofs.Closed.{seen_length}
 use Rattle.m2v_safe.proofs.Stands.{HasBook, HaveBooks, have_books}
 use Rattle.m2v_safe.proofs.Groups.{group_closed, behind}
 use Rattle.m2v_safe.proofs.Texts.{picture_length, picture_bits}
-use Rattle.m2v_safe.proofs.Delays.{IsPlaced, placed, delay_exact}
-use Rattle.m2v_safe.proofs.Bounds.{delay_small}
 use Rattle.m2v_safe.proofs.Streams.{zeros_none}
 
 -- ---- removals

@@ -1,12 +1,12 @@
 -- All groups of a stream are coded by their plans.
-use Rattle.std.proofs.Common.{◌≡◌, ℕ, ◌<◌, ◌≤◌, false, List, [], ◌∷◌, ◌++◌, length, refl, sym, ap, subst, ◌∙◌, arith}
+use Rattle.std.proofs.Common.{◌≡◌, ℕ, ◌≤◌, false, List, [], ◌∷◌, length, sym, ap, subst, ◌∙◌}
 use Rattle.m2v_plane.specs.Samples.{Samples}
 use Rattle.m2v_set.specs.declared.settings.Settings.{Settings}
 use Rattle.m2v_set.specs.Rules.{Passes}
 use Rattle.m2v_order.specs.Groups.{Group}
 use Rattle.m2v_rate.specs.Plans.{Entries, fresh}
-use Rattle.m2v_rate.specs.Safety.{Picture, closed, IsCoded, AreCoded, after_groups}
-use Rattle.m2v_stream.specs.Streams.{Progress, at_start, book_of, group_coded, groups_begun}
+use Rattle.m2v_rate.specs.Safety.{closed, IsCoded, AreCoded}
+use Rattle.m2v_stream.specs.Streams.{Progress, at_start, book_of, group_coded}
 use Rattle.m2v_safe.specs.Removals.{ledger_of, seen_of, groups_seen, Seen}
 use Rattle.m2v_safe.proofs.Closed.{is_coded, closed_is}
 use Rattle.m2v_safe.proofs.Stands.{HasBook, HaveBooks, have_books, ledger_next}

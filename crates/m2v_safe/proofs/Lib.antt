@@ -12,3 +12,4 @@ pub mod Flat
 pub mod Exact
 pub mod Begins
 pub mod Units
+pub mod Fronts

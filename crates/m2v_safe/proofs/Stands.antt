@@ -1,5 +1,5 @@
 -- What stands before each group of a stream, and that the groups have books.
-use Rattle.std.proofs.Common.{◌≡◌, ℕ, zero, suc, ◌+◌, ◌-◌, ◌*◌, ◌^◌, ◌<◌, ◌≤◌, Bool, true, false, inl, inr, List, [], ◌∷◌, ◌++◌, length, map, Option, refl, sym, ap, subst, ◌∙◌, arith}
+use Rattle.std.proofs.Common.{◌≡◌, ℕ, zero, suc, ◌+◌, ◌*◌, ◌^◌, ◌<◌, ◌≤◌, Bool, true, false, inl, inr, List, [], ◌∷◌, length, Option, refl, sym, ap, subst, ◌∙◌, arith}
 use Rattle.std.specs.Prelude.{All, is_some, IfSome}
 use Rattle.std.proofs.lemmas.Bool.{cond-true, cond-false, cases_Bool}
 use Rattle.std.proofs.lemmas.List.{length-map}
@@ -9,22 +9,20 @@ use Rattle.m2v_plane.specs.Samples.{Samples}
 use Rattle.m2v_set.specs.declared.settings.Settings.{Settings}
 use Rattle.m2v_set.specs.Numbers.{dims_of}
 use Rattle.m2v_set.specs.Rules.{Passes}
-use Rattle.m2v_order.specs.declared.jobs.PictureJob.{PictureJob}
 use Rattle.m2v_order.specs.Coding.{anchors_between}
-use Rattle.m2v_order.specs.Times.{intervals_of}
 use Rattle.m2v_order.specs.Groups.{Queue, Group, first_of, intra_from, anchor_before, is_due, group_size, group_of, after_group, IsSoundQueue}
 use Rattle.m2v_order.specs.Whole.{IsGroupOf}
 use Rattle.m2v_order.proofs.Intra.{intra_first}
-use Rattle.m2v_order.proofs.Queues.{grouped, Turn, due_is, turn_is, sound_next, true_false}
+use Rattle.m2v_order.proofs.Queues.{grouped, due_is, turn_is, sound_next, true_false}
 use Rattle.m2v_order.proofs.Wholes.{group_is}
-use Rattle.m2v_rate.specs.Plans.{Entries, account_at, fresh, begun}
+use Rattle.m2v_rate.specs.Plans.{Entries}
 use Rattle.m2v_rate.specs.Steady.{IsBegun}
 use Rattle.m2v_rate.proofs.Lows.{removals_at}
 use Rattle.m2v_rate.proofs.Streams.{fresh_begun}
-use Rattle.m2v_slice.specs.Books.{Book, ledger_with}
+use Rattle.m2v_slice.specs.Books.{ledger_with}
 use Rattle.m2v_slice.specs.Conditions.{IsBook}
 use Rattle.m2v_stream.specs.Streams.{Progress, at_start, book_of, group_coded, groups_from, waiting}
-use Rattle.m2v_safe.specs.Removals.{coded_of, ledger_of, groups_of}
+use Rattle.m2v_safe.specs.Removals.{ledger_of, groups_of}
 use Rattle.m2v_safe.proofs.Books.{begun_ledger}
 use Rattle.m2v_safe.proofs.Whole.{whole_ledger, whole_settings, whole_kinds}
 use Rattle.m2v_safe.proofs.Anchors.{anchor_behind, anchor_some, anchor_size, before_none, before_some}

@@ -1,9 +1,8 @@
 -- The bits of the whole stream are those that are removed.
-use Rattle.std.proofs.Common.{◌≡◌, ℕ, zero, suc, ◌+◌, ◌-◌, ◌<◌, ◌≤◌, inl, inr, Bool, true, false, cond, List, [], ◌∷◌, ◌++◌, length, map, refl, sym, ap, subst, ◌∙◌, arith}
-use Rattle.std.specs.Prelude.{nat_eq, nat_lt, ◌&&◌, ◌||◌, slice_index}
+use Rattle.std.proofs.Common.{◌≡◌, ℕ, suc, ◌+◌, ◌-◌, ◌<◌, ◌≤◌, inl, Bool, true, false, List, [], ◌∷◌, ◌++◌, length, refl, sym, ap, ◌∙◌, arith}
+use Rattle.std.specs.Prelude.{nat_eq, nat_lt, ◌&&◌, ◌||◌}
 use Rattle.std.proofs.lemmas.Bool.{cond-true, eq-eqb, lt-ltb}
 use Rattle.std.proofs.lemmas.List.{length-append, length-map}
-use Rattle.std.proofs.lemmas.List.Sums.{sum_by-append}
 use Rattle.m2v_bits.specs.Bits.{start_code, ◌⧺◌}
 use Rattle.m2v_bits.proofs.Units.{start_length}
 use Rattle.m2v_plane.specs.Raw.{pad}
@@ -12,10 +11,9 @@ use Rattle.m2v_set.specs.declared.settings.Settings.{Settings}
 use Rattle.m2v_set.specs.Numbers.{dims_of}
 use Rattle.m2v_set.specs.Rules.{Passes}
 use Rattle.m2v_vbv.specs.Annex.{Removal, removed}
-use Rattle.m2v_vbv.specs.Account.{stuffing_of}
-use Rattle.m2v_order.specs.Groups.{Queue, Group, is_due, next_intra, group_of, after_group}
-use Rattle.m2v_rate.specs.Plans.{Entries, account_at, fresh}
-use Rattle.m2v_rate.specs.Safety.{Picture, closed, removal_at, ending_at, group_removals, removals}
+use Rattle.m2v_order.specs.Groups.{Group, is_due, next_intra, group_of, after_group}
+use Rattle.m2v_rate.specs.Plans.{Entries, fresh}
+use Rattle.m2v_rate.specs.Safety.{closed, ending_at, group_removals, removals}
 use Rattle.m2v_slice.specs.Books.{Book}
 use Rattle.m2v_slice.specs.Conditions.{IsBook}
 use Rattle.m2v_stream.specs.Streams.{Progress, at_start, book_of, group_coded, groups_coded, groups_from, waiting, coded_all, zeros_of, picture_text, pictures_text}

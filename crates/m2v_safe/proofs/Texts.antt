@@ -1,7 +1,7 @@
 -- The bits of the text are those that are removed.
-use Rattle.std.proofs.Common.{◌≡◌, ℕ, zero, suc, ◌+◌, ◌-◌, ◌<◌, ◌≤◌, ◌⊎◌, inl, inr, Bool, true, false, cond, List, [], ◌∷◌, ◌++◌, length, map, replicate, get_or, refl, sym, ap, subst, ◌∙◌, arith}
+use Rattle.std.proofs.Common.{◌≡◌, ℕ, zero, suc, ◌+◌, ◌<◌, ◌≤◌, ◌⊎◌, inl, inr, Bool, false, cond, List, [], ◌∷◌, ◌++◌, length, replicate, refl, sym, ap, ◌∙◌, arith}
 use Rattle.std.specs.Prelude.{nat_eq, ◌&&◌, slice_index}
-use Rattle.std.specs.List.{range_with_len, flat_map}
+use Rattle.std.specs.List.{flat_map}
 use Rattle.std.proofs.lemmas.Bool.{cases_Bool, cond-false, and_parts, eqb-true}
 use Rattle.std.proofs.lemmas.List.{length-append, length-replicate}
 use Rattle.std.proofs.lemmas.List.Concat.{length-flat_map}
@@ -12,15 +12,15 @@ use Rattle.m2v_set.specs.declared.settings.Settings.{Settings}
 use Rattle.m2v_vbv.specs.Annex.{Removal, removed}
 use Rattle.m2v_vbv.specs.Account.{stuffing_of}
 use Rattle.m2v_order.specs.Groups.{Group}
-use Rattle.m2v_rate.specs.Plans.{Entries, account_at, fresh}
-use Rattle.m2v_rate.specs.Safety.{Picture, closed, removal_at, group_removals, after_groups, sent}
+use Rattle.m2v_rate.specs.Plans.{Entries, account_at}
+use Rattle.m2v_rate.specs.Safety.{closed, removal_at, group_removals, after_groups, sent}
 use Rattle.m2v_row.specs.Slices.{CodedSlice}
 use Rattle.m2v_preface.specs.Headers.{header_units}
 use Rattle.m2v_preface.proofs.TextLengths.{header_length}
 use Rattle.m2v_slice.specs.Books.{Book, job_at, picture_at, size_of}
 use Rattle.m2v_slice.specs.Conditions.{IsBook}
-use Rattle.m2v_stream.specs.Streams.{Progress, at_start, book_of, group_coded, groups_begun, zeros_of, delay_at, picture_text, pictures_text}
-use Rattle.m2v_safe.specs.Removals.{coded_of, ledger_of, seen_of, groups_seen, begun_by, begins_at, removed_before}
+use Rattle.m2v_stream.specs.Streams.{Progress, book_of, group_coded, groups_begun, zeros_of, delay_at, picture_text, pictures_text}
+use Rattle.m2v_safe.specs.Removals.{coded_of, ledger_of, seen_of, groups_seen}
 use Rattle.m2v_safe.proofs.Whole.{job_is, whole_kinds, size_at}
 use Rattle.m2v_safe.proofs.Closed.{seen_length}
 use Rattle.m2v_safe.proofs.Stands.{HasBook, HaveBooks}

@@ -1,6 +1,6 @@
 -- The times behind the pictures that are sent.
-use Rattle.std.proofs.Common.{◌≡◌, ℕ, zero, suc, ◌+◌, ◌-◌, ◌<◌, ◌≤◌, Bool, true, false, List, [], ◌∷◌, ◌++◌, length, map, get_or, refl, sym, ap, subst, ◌∙◌, arith}
-use Rattle.std.specs.List.{range_with_len, flat_map}
+use Rattle.std.proofs.Common.{◌≡◌, ℕ, ◌+◌, ◌-◌, ◌≤◌, Bool, true, false, List, [], ◌∷◌, ◌++◌, length, map, get_or, refl, sym, ap, ◌∙◌, arith}
+use Rattle.std.specs.List.{flat_map}
 use Rattle.std.proofs.lemmas.List.{append-nil, map-append, length-map, get_or-map}
 use Rattle.std.proofs.lemmas.List.FromFn.{fill_by_all, get_or-map-range_with_len, length-map-range_with_len}
 use Rattle.m2v_plane.specs.Samples.{Samples}
@@ -14,7 +14,7 @@ use Rattle.m2v_stream.specs.Streams.{Progress, at_start, book_of, group_coded}
 use Rattle.m2v_safe.specs.Removals.{groups_of}
 use Rattle.m2v_safe.specs.Sent.{SentPicture, sent_at, group_sent, groups_sent, Sent}
 use Rattle.m2v_safe.proofs.Whole.{times_count}
-use Rattle.m2v_safe.proofs.Stands.{HasBook, HaveBooks, have_books}
+use Rattle.m2v_safe.proofs.Stands.{HaveBooks, have_books}
 use Rattle.m2v_safe.proofs.Flat.{group_more}
 
 abbrev units_of : List SentPicture → List ℕ

@@ -1,20 +1,19 @@
 -- The ledger that knows all sizes of a book, and its pictures.
-use Rattle.std.proofs.Common.{◌≡◌, ℕ, zero, suc, ◌+◌, ◌-◌, ◌*◌, ◌<◌, ◌≤◌, [], ◌∷◌, length, map, get_or, refl, sym, ap, subst, ◌∙◌, arith}
+use Rattle.std.proofs.Common.{◌≡◌, ℕ, zero, suc, ◌+◌, ◌-◌, ◌<◌, ◌≤◌, length, get_or, sym, ap, subst, ◌∙◌, arith}
 use Rattle.std.specs.Prelude.{nat_eq, slice_index, sum_by}
-use Rattle.std.specs.List.{range_with_len}
 use Rattle.std.proofs.lemmas.Bool.{cond_both}
 use Rattle.std.proofs.lemmas.List.FromFn.{get_or-map-range_with_len}
 use Rattle.m2v_order.specs.declared.jobs.PictureJob.{PictureJob}
-use Rattle.m2v_rate.specs.Plans.{Entries, first_open, with_size}
+use Rattle.m2v_rate.specs.Plans.{Entries, first_open}
 use Rattle.m2v_rate.specs.Steady.{IsLedger}
 use Rattle.m2v_rate.proofs.Keeps.{known_by}
 use Rattle.m2v_row.specs.Slices.{CodedSlice}
 use Rattle.m2v_preface.specs.Headers.{IsJob, header_bits, begins_group}
-use Rattle.m2v_slice.specs.Books.{Book, CodedPicture, rows, job_at, coded, picture_at, size_of, ledger_with}
+use Rattle.m2v_slice.specs.Books.{Book, CodedPicture, job_at, coded, picture_at, size_of, ledger_with}
 use Rattle.m2v_slice.specs.Conditions.{IsBook}
 use Rattle.m2v_slice.proofs.Coded.{count, picture_is}
 use Rattle.m2v_slice.proofs.Groups.{picture_is_one, structure_low}
-use Rattle.m2v_slice.proofs.Steady.{IsPlan, ledger_at, size_within, next_within, ledger_known}
+use Rattle.m2v_slice.proofs.Steady.{IsPlan, ledger_at, next_within, ledger_known}
 use Rattle.m2v_slice.proofs.Sound.{ledger_settings, ledger_kinds, ledger_caps, ledger_sizes, ledger_cap, ledger_none, sound, planned, plan_is_good}
 use Rattle.m2v_safe.specs.Removals.{coded_of, ledger_of}
 

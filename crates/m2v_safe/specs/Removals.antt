@@ -53,10 +53,11 @@ pub record IsIn (s : Settings) (frames : List (List ℕ)) (earlier : List (Group
   pub groups : groups_of s frames ≡ earlier ++ g ∷ later
   pub picture : p < length g.pictures
 
+-- that picture
 abbrev pub job_of : Settings → List (Group Samples) → Group Samples → ℕ → PictureJob
 job_of s earlier g p = job_at (book_of s (begun_by s earlier) g) p
 
--- the bit at which the headers of picture p of a group begin; `ends` tells that the group is the last one
+-- the bit at which its headers begin; `ends` tells that the group is the last one
 abbrev pub begins_at : Settings → List (Group Samples) → Group Samples → Bool → ℕ → ℕ
 begins_at s earlier g ends p =
     let x = begun_by s earlier in
@@ -68,7 +69,7 @@ abbrev pub delay_told : Settings → List (Group Samples) → Group Samples → 
 delay_told s earlier g ends p =
     delay_at (ledger_of (book_of s (begun_by s earlier) g)) (job_of s earlier g p) p (begins_at s earlier g ends p)
 
--- the pictures that are removed before picture p of a group
+-- the pictures that are removed before it
 abbrev pub removed_before : Settings → List (Group Samples) → Group Samples → ℕ → List Removal
 removed_before s earlier g p =
     let before = groups_seen s (at_start s) earlier in

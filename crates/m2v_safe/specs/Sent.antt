@@ -1,4 +1,4 @@
--- The pictures of the encoder's stream as they are sent, by their texts alone.
+-- The pictures of the encoder's stream as they are sent, by what their texts tell.
 use Rattle.std.specs.Prelude.{ℕ, ◌≡◌, ◌+◌, ◌-◌, ◌*◌, ◌/◌, ◌≤◌, Bool, true, false, List, [], ◌∷◌, ◌++◌, map, length, slice_index}
 use Rattle.std.specs.List.{range_with_len}
 use Rattle.m2v_plane.specs.Samples.{Samples}
@@ -10,7 +10,7 @@ use Rattle.m2v_order.specs.Groups.{Group}
 use Rattle.m2v_preface.specs.Headers.{bits_to_code}
 use Rattle.m2v_slice.specs.Books.{Book, job_at}
 use Rattle.m2v_stream.specs.Streams.{Progress, at_start, book_of, group_coded, delay_at, picture_text, pictures_text}
-use Rattle.m2v_safe.specs.Removals.{coded_of, ledger_of, groups_of}
+use Rattle.m2v_safe.specs.Removals.{coded_of, ledger_of, groups_of, job_of, delay_told, removed_before}
 
 -- a picture: its bits, from its headers up to those of the next one, which of these go up to and with its picture start
 -- code, the time behind it, and its vbv_delay
@@ -54,6 +54,18 @@ groups_sent s x (g ∷ (h ∷ later)) =
 -- the pictures of the stream of raw frames
 abbrev pub Sent : Settings → List (List ℕ) → List SentPicture
 Sent s frames = groups_sent s (at_start s) (groups_of s frames)
+
+-- where picture p of a group that stands behind earlier ones is sent: behind these pictures, which are those that are
+-- removed before it
+pub record StandsAt (s : Settings) (frames : List (List ℕ)) (earlier : List (Group Samples)) (g : Group Samples) (p : ℕ)
+    : Type 0 where
+  pub before : List SentPicture
+  pub picture : SentPicture
+  pub later : List SentPicture
+  pub sent : Sent s frames ≡ before ++ picture ∷ later
+  pub removals : map removal_of before ≡ removed_before s earlier g p
+  pub code : picture.code ≡ bits_to_code (job_of s earlier g p)
+  pub delay : (ends : Bool) → picture.delay ≡ delay_told s earlier g ends p
 
 -- the first picture of all: its start code ends behind 272 bits, and it has the delay of the settings
 pub record Begins (s : Settings) (x : SentPicture) : Type 0 where

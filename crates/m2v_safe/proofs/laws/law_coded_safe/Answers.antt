@@ -1,4 +1,4 @@
-use Rattle.std.proofs.Common.{[]}
+use Rattle.std.proofs.Common.{[], sym}
 use Rattle.m2v_rate.proofs.Streams.{stream_safe}
 use Rattle.m2v_safe.specs.Removals.{Seen}
 use Rattle.m2v_safe.proofs.Groups.{all_coded}
@@ -9,6 +9,10 @@ use Rattle.m2v_safe.proofs.laws.law_coded_safe.Goals as goal
 
 pub returns-clause-coded : goal.returns-clause-coded
 returns-clause-coded c = λ s frames passes few. all_coded s frames passes few
+
+pub returns-clause-ledgers : goal.returns-clause-ledgers
+returns-clause-ledgers c = λ s frames earlier g p passes few is.
+    sym (placed s frames earlier g is.later passes few is.groups).closes
 
 pub returns-clause-safe : goal.returns-clause-safe
 returns-clause-safe c = λ s frames passes few. stream_safe s (Seen s frames) passes (all_coded s frames passes few)

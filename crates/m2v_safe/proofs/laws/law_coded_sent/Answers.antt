@@ -1,4 +1,4 @@
-use Rattle.std.proofs.Common.{sym, subst, ap, ◌∙◌, List}
+use Rattle.std.proofs.Common.{subst, ap, ◌∙◌, List}
 use Rattle.m2v_vbv.specs.Annex.{Removal, removed, Safe}
 use Rattle.m2v_rate.specs.Plans.{start_of}
 use Rattle.m2v_rate.proofs.Streams.{stream_safe}
@@ -7,6 +7,7 @@ use Rattle.m2v_safe.proofs.Groups.{all_coded}
 use Rattle.m2v_safe.proofs.Streams.{stream_bits}
 use Rattle.m2v_safe.proofs.Flat.{stream_sent}
 use Rattle.m2v_safe.proofs.Exact.{stream_exact}
+use Rattle.m2v_safe.proofs.Fronts.{stream_at}
 use Rattle.m2v_safe.proofs.Begins.{stream_begins}
 use Rattle.m2v_safe.proofs.Units.{stream_units}
 use Rattle.m2v_safe.proofs.laws.law_coded_sent.Goals as goal
@@ -21,6 +22,9 @@ returns-clause-safe c = λ s frames passes few.
 pub returns-clause-sizes : goal.returns-clause-sizes
 returns-clause-sizes c = λ s frames passes some few.
     stream_bits s frames passes some few ∙ ap (λ (rs : List Removal). removed rs) (stream_sent s frames passes few)
+
+pub returns-clause-at : goal.returns-clause-at
+returns-clause-at c = stream_at
 
 pub returns-clause-begins : goal.returns-clause-begins
 returns-clause-begins c = stream_begins
