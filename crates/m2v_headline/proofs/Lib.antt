@@ -1,0 +1,4 @@
+pub mod Groupings
+pub mod PictureUnits
+pub mod Streams
+pub mod Told
