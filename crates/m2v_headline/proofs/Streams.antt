@@ -67,18 +67,21 @@ groups_start s (g ∷ h ∷ more) x some all = starts_append (in_group units_at 
 
 -- ---- the bytes of pictures
 
-abbrev bytes_at : Told (List ℕ)
+abbrev pub bytes_at : Told (List ℕ)
 bytes_at b done l ends at p = packed (picture_text b done l ends at p)
+
+pub packed_are : (s : Settings) (groups : List (Group Samples)) (x : Progress) → AllFollow s x groups → map packed (in_groups picture_text s x groups) ≡ in_groups bytes_at s x groups
+packed_are s groups x all = groups_give packed picture_text bytes_at (λ b h l ends at p lt. refl) s groups x all
 
 bytes_are : (law : Spelled) (s : Settings) (groups : List (Group Samples)) (x : Progress) → AllFollow s x groups
     → map packed (in_groups picture_text s x groups) ≡ map joined (in_groups units_at s x groups)
 bytes_are law s groups x all =
-    groups_give packed picture_text bytes_at (λ b h l ends at p lt. refl) s groups x all
+    packed_are s groups x all
     ∙ sym (groups_give joined units_at bytes_at (λ b h l ends at p lt. sym (picture_text_holds law b h l ends (length b.pictures) p at lt lt).bytes) s groups x all)
 
 -- ---- the stream
 
-coded_is : (s : Settings) (frames : List (List ℕ)) → coded_all s frames ≡ groups_coded s (at_start s) (groups_of s frames)
+pub coded_is : (s : Settings) (frames : List (List ℕ)) → coded_all s frames ≡ groups_coded s (at_start s) (groups_of s frames)
 unfolding coded_all
 coded_is s frames = refl
 

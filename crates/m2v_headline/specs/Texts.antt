@@ -59,3 +59,9 @@ place_at b done l ends at p = at + bits_to_code (job_at b p)
 
 abbrev pub code_places : Settings → List (List ℕ) → List ℕ
 code_places s frames = in_stream place_at s frames
+
+-- the sizes of the pictures, of which the last one has the 32 bits of the sequence end code too
+unfoldable pub with_end : List ℕ → List ℕ
+with_end [] = []
+with_end (x ∷ []) = (x + 32) ∷ []
+with_end (x ∷ y ∷ ys) = x ∷ with_end (y ∷ ys)
