@@ -1,5 +1,5 @@
 -- What the pieces of the stream take, and where their start codes end.
-use Rattle.std.proofs.Common.{◌≡◌, ℕ, zero, suc, ◌+◌, ◌*◌, ◌<◌, ◌≤◌, Bool, true, false, List, [], ◌∷◌, ◌++◌, length, map, sum, refl, sym, ap, subst, ◌∙◌, arith}
+use Rattle.std.proofs.Common.{◌≡◌, ℕ, zero, suc, ◌+◌, ◌<◌, ◌≤◌, Bool, true, false, List, [], ◌∷◌, ◌++◌, length, map, sum, refl, sym, ap, subst, ◌∙◌, arith}
 use Rattle.std.specs.List.{range_with_len}
 use Rattle.std.proofs.lemmas.Bool.{cond-true}
 use Rattle.std.proofs.lemmas.List.{map-append, length-append}
@@ -13,7 +13,7 @@ use Rattle.m2v_order.specs.declared.jobs.PictureJob.{PictureJob}
 use Rattle.m2v_order.specs.Groups.{Group}
 use Rattle.m2v_preface.specs.Headers.{begins_group, bits_to_code}
 use Rattle.m2v_slice.specs.Books.{job_at}
-use Rattle.m2v_stream.specs.Streams.{Progress, at_start, group_coded, groups_coded, coded_all, Coded, book_of, picture_text}
+use Rattle.m2v_stream.specs.Streams.{Progress, at_start, group_coded, groups_coded, coded_all, Coded, book_of}
 use Rattle.m2v_model.specs.Units.{cut}
 use Rattle.m2v_model.specs.Pieces.{pieces}
 use Rattle.m2v_model.specs.Buffering.{sizes, before_picture, bits_of_piece, code_bits, codes, first_code}
@@ -22,7 +22,7 @@ use Rattle.m2v_tree.proofs.Turns.{first_begins}
 use Rattle.m2v_tree.proofs.Slices.{Spelled}
 use Rattle.m2v_tree.proofs.Follows.{stream_follows, stream_some}
 use Rattle.m2v_tree.proofs.Groups.{MayFollow, AllFollow}
-use Rattle.m2v_headline.specs.Texts.{in_group, in_groups, bits_at, code_at, place_at, picture_texts, picture_bits, picture_codes, code_places, with_end}
+use Rattle.m2v_headline.specs.Texts.{in_group, in_groups, bits_at, code_at, picture_texts, picture_bits, picture_codes, code_places, with_end}
 use Rattle.m2v_headline.proofs.Told.{groups_give}
 use Rattle.m2v_headline.proofs.Streams.{coded_is, bytes_at, packed_are, pieces_are}
 use Rattle.m2v_headline.proofs.Lengths.{piece_bits, piece_code}

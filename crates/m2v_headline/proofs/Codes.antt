@@ -1,14 +1,14 @@
 -- Where the start codes of the pictures end in the stream.
-use Rattle.std.proofs.Common.{◌≡◌, ℕ, zero, suc, ◌+◌, ◌*◌, ◌%◌, ◌<◌, ◌≤◌, Bool, true, false, List, [], ◌∷◌, ◌++◌, length, map, refl, sym, ap, subst, ◌∙◌, arith, append_assoc}
+use Rattle.std.proofs.Common.{◌≡◌, ℕ, zero, suc, ◌+◌, ◌<◌, ◌≤◌, Bool, true, false, List, [], ◌∷◌, ◌++◌, length, map, refl, sym, ap, ◌∙◌, arith}
 use Rattle.std.specs.List.{range_with_len}
-use Rattle.std.proofs.lemmas.List.{append-nil, length-append}
+use Rattle.std.proofs.lemmas.List.{length-append}
 use Rattle.m2v_bits.specs.Bits.{packed}
 use Rattle.m2v_plane.specs.Samples.{Samples}
 use Rattle.m2v_set.specs.declared.settings.Settings.{Settings}
 use Rattle.m2v_order.specs.Groups.{Group}
 use Rattle.m2v_rate.specs.Plans.{Entries}
 use Rattle.m2v_preface.specs.Headers.{bits_to_code}
-use Rattle.m2v_slice.specs.Books.{Book, CodedPicture, job_at, coded}
+use Rattle.m2v_slice.specs.Books.{Book, job_at, coded}
 use Rattle.m2v_slice.specs.Conditions.{IsBook}
 use Rattle.m2v_stream.specs.Streams.{Progress, group_coded, groups_coded, picture_text, pictures_text, book_of}
 use Rattle.m2v_model.specs.Buffering.{bits_of_piece, code_bits, codes}

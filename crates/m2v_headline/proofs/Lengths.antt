@@ -1,20 +1,20 @@
 -- The bits of each piece, and where the start code of its picture ends in it.
-use Rattle.std.proofs.Common.{◌≡◌, ℕ, zero, suc, ◌+◌, ◌-◌, ◌*◌, ◌%◌, ◌/◌, ◌<◌, ◌≤◌, Bool, true, false, cond, List, [], ◌∷◌, ◌++◌, length, map, replicate, refl, sym, ap, subst, ◌∙◌, arith}
-use Rattle.std.specs.List.{range_with_len, flat_map}
-use Rattle.std.proofs.lemmas.List.{append-nil, length-append, length-replicate}
+use Rattle.std.proofs.Common.{◌≡◌, ℕ, ◌+◌, ◌-◌, ◌*◌, ◌/◌, ◌<◌, Bool, true, false, cond, List, [], ◌∷◌, ◌++◌, length, replicate, refl, ap, ◌∙◌, arith}
+use Rattle.std.specs.List.{flat_map}
+use Rattle.std.proofs.lemmas.List.{length-append, length-replicate}
 use Rattle.std.proofs.lemmas.List.Concat.{length-flat_map}
-use Rattle.m2v_bits.specs.Bits.{packed, start_code, to_edge, unit, IsEdge}
+use Rattle.m2v_bits.specs.Bits.{packed, start_code, to_edge, IsEdge}
 use Rattle.m2v_head.specs.Texts.{sequence_text, sequence_extension_text, group_text}
 use Rattle.m2v_set.specs.declared.settings.Settings.{Settings}
 use Rattle.m2v_order.specs.declared.jobs.PictureJob.{PictureJob}
 use Rattle.m2v_rate.specs.Plans.{Entries}
 use Rattle.m2v_row.specs.Slices.{CodedSlice}
-use Rattle.m2v_preface.specs.Headers.{sequence_of, sequence_extension_of, group_from, header_units, header_bits, bits_to_code, begins_group}
+use Rattle.m2v_preface.specs.Headers.{sequence_of, sequence_extension_of, group_from, header_units, bits_to_code, begins_group}
 use Rattle.m2v_preface.proofs.TextLengths.{header_length, sequence_length, sequence_extension_length, group_length}
-use Rattle.m2v_slice.specs.Books.{Book, CodedPicture, job_at, picture_at, size_of, coded}
+use Rattle.m2v_slice.specs.Books.{Book, job_at, picture_at, coded}
 use Rattle.m2v_slice.specs.Conditions.{IsBook}
 use Rattle.m2v_stream.specs.Streams.{zeros_of, delay_at, picture_text}
-use Rattle.m2v_model.specs.Units.{Units, cut, joined}
+use Rattle.m2v_model.specs.Units.{Units, cut}
 use Rattle.m2v_model.specs.Buffering.{before_picture, bits_of_piece, code_bits}
 use Rattle.m2v_model.proofs.CutLaws.{are_before, cut_units}
 use Rattle.m2v_chain.specs.Texts.{ended, unit_bytes}
@@ -22,7 +22,7 @@ use Rattle.m2v_tree.proofs.Zeros.{padded_cuts}
 use Rattle.m2v_tree.proofs.Slices.{Spelled}
 use Rattle.m2v_tree.proofs.Pictures.{job_is, sequence_bytes, extension_bytes, group_bytes, picture_bytes, coding_bytes}
 use Rattle.m2v_tree.proofs.PictureChains.{header_bytes, slices_bytes, picture_units_of, picture_text_holds}
-use Rattle.m2v_headline.specs.Texts.{bits_at, code_at}
+use Rattle.m2v_headline.specs.Texts.{bits_at}
 use Rattle.m2v_headline.proofs.Streams.{end_bytes, end_packs}
 
 -- ---- bytes of texts

@@ -1,23 +1,20 @@
 -- The units of a picture are a piece, and that of the first picture of a group begins the stream's first piece.
-use Rattle.std.proofs.Common.{◌≡◌, ℕ, zero, suc, ◌+◌, ◌-◌, ◌*◌, ◌%◌, ◌/◌, ◌<◌, ◌≤◌, Bool, true, false, cond, List, [], ◌∷◌, ◌++◌, length, map, take, replicate, refl, sym, ap, subst, ◌∙◌, arith, append_assoc}
-use Rattle.std.specs.Prelude.{All, slice_index, nat_eq, ◌||◌}
+use Rattle.std.proofs.Common.{◌≡◌, ℕ, zero, suc, ◌+◌, ◌-◌, ◌/◌, ◌<◌, ◌≤◌, Bool, true, false, cond, List, [], ◌∷◌, ◌++◌, map, refl, sym, subst, arith}
+use Rattle.std.specs.Prelude.{All}
 use Rattle.std.specs.List.{range_with_len}
-use Rattle.std.proofs.lemmas.Bool.{cases_Bool, ne_eqb}
-use Rattle.std.proofs.lemmas.List.{append-nil, length-append, length-replicate}
+use Rattle.std.proofs.lemmas.Bool.{ne_eqb}
 use Rattle.std.proofs.lemmas.List.Elements.{All-nil, All-cons, All-append}
-use Rattle.m2v_bits.specs.Bits.{bits_of, number, packed, start_code, to_edge, unit, IsEdge}
 use Rattle.m2v_set.specs.declared.settings.Settings.{Settings}
 use Rattle.m2v_set.proofs.Facts.{bounds}
 use Rattle.m2v_order.specs.declared.jobs.PictureJob.{PictureJob}
 use Rattle.m2v_rate.specs.Plans.{Entries}
 use Rattle.m2v_preface.specs.Headers.{begins_group}
-use Rattle.m2v_slice.specs.Books.{Book, CodedPicture, rows, job_at, coded}
+use Rattle.m2v_slice.specs.Books.{Book, rows, job_at}
 use Rattle.m2v_slice.specs.Conditions.{IsBook}
 use Rattle.m2v_slice.proofs.Groups.{rows_few, passes_of}
 use Rattle.m2v_stream.specs.Streams.{zeros_of, delay_at}
 use Rattle.m2v_model.specs.Units.{Units}
 use Rattle.m2v_model.specs.Pieces.{begins_piece, is_end}
-use Rattle.m2v_chain.specs.Texts.{unit_bytes}
 use Rattle.m2v_tree.proofs.Turns.{first_begins}
 use Rattle.m2v_tree.proofs.Zeros.{padded}
 use Rattle.m2v_tree.proofs.Slices.{slice_bytes}

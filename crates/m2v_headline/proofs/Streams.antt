@@ -1,18 +1,15 @@
 -- The pieces of the stream are the pictures of its groups, and the sequence end code.
-use Rattle.std.proofs.Common.{◌≡◌, ℕ, zero, suc, ◌+◌, ◌<◌, ◌≤◌, Bool, true, false, List, [], ◌∷◌, ◌++◌, length, map, take, refl, sym, ap, subst, ◌∙◌, arith, append_assoc}
-use Rattle.std.specs.Prelude.{All, slice_index}
+use Rattle.std.proofs.Common.{◌≡◌, ℕ, zero, suc, ◌+◌, ◌<◌, ◌≤◌, Bool, true, false, List, [], ◌∷◌, ◌++◌, length, map, take, refl, sym, ap, subst, ◌∙◌, arith}
+use Rattle.std.specs.Prelude.{slice_index}
 use Rattle.std.specs.List.{range_with_len}
 use Rattle.m2v_bits.specs.Bits.{bits_of, number, packed, start_code, unit}
 use Rattle.m2v_plane.specs.Samples.{Samples}
 use Rattle.m2v_set.specs.declared.settings.Settings.{Settings}
 use Rattle.m2v_set.specs.Rules.{Passes}
 use Rattle.m2v_order.specs.Groups.{Group}
-use Rattle.m2v_rate.specs.Plans.{Entries}
-use Rattle.m2v_slice.specs.Books.{Book, CodedPicture, coded}
-use Rattle.m2v_slice.specs.Conditions.{IsBook}
 use Rattle.m2v_stream.specs.Streams.{Progress, at_start, group_coded, groups_coded, coded_all, Coded, picture_text, pictures_text, book_of}
 use Rattle.m2v_model.specs.declared.phase.Phase.TheVariants.{Before}
-use Rattle.m2v_model.specs.Units.{Units, Cuts, cut, joined}
+use Rattle.m2v_model.specs.Units.{Units, Cuts, joined}
 use Rattle.m2v_model.specs.Pieces.{grouped, is_end, pieces}
 use Rattle.m2v_model.proofs.CutLaws.{cuts_is}
 use Rattle.m2v_chain.specs.Texts.{unit_bytes, Packs}
@@ -24,8 +21,8 @@ use Rattle.m2v_tree.proofs.Slices.{Spelled}
 use Rattle.m2v_tree.proofs.PictureChains.{picture_units_of, picture_text_holds}
 use Rattle.m2v_tree.proofs.Follows.{stream_follows, stream_some}
 use Rattle.m2v_tree.proofs.Groups.{MayFollow, AllFollow, done_of, ledger_of, groups_units, groups_add}
-use Rattle.m2v_headline.specs.Texts.{in_group, in_groups, in_stream, picture_texts}
-use Rattle.m2v_headline.proofs.Groupings.{IsPiece, IsFirst, Starts, starts_append, all_of, pieces_all}
+use Rattle.m2v_headline.specs.Texts.{in_group, in_groups, picture_texts}
+use Rattle.m2v_headline.proofs.Groupings.{IsPiece, Starts, starts_append, pieces_all}
 use Rattle.m2v_headline.proofs.PictureUnits.{picture_piece, picture_first}
 use Rattle.m2v_headline.proofs.Told.{Told, groups_give, groups_hold, units_at, groups_all}
 
