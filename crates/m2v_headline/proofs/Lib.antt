@@ -1,0 +1,7 @@
+pub mod Accounts
+pub mod Codes
+pub mod Groupings
+pub mod Lengths
+pub mod PictureUnits
+pub mod Streams
+pub mod Told

@@ -1,0 +1,46 @@
+//! What the pieces of the encoder's stream are, and what they take.
+ghost use Rattle.std.specs.Prelude.{ℕ, ◌≡◌, ◌≤◌, ◌+◌, List, [], ◌∷◌, ◌++◌, map, length, sum};
+ghost use Rattle.m2v_bits.specs.Bits.{packed, start_code};
+ghost use Rattle.m2v_set.specs.declared.settings.Settings.{Settings};
+ghost use Rattle.m2v_set.specs.Rules.{Passes};
+ghost use Rattle.m2v_stream.specs.Streams.{Coded, coded_all};
+ghost use Rattle.m2v_model.specs.Pieces.{pieces};
+ghost use Rattle.m2v_model.specs.Buffering.{sizes, bits_of_piece, code_bits, codes, first_code};
+ghost use Rattle.m2v_headline.specs.Texts.{picture_texts, picture_bits, picture_codes, code_places};
+ghost use Rattle.m2v_headline.specs.Texts.{with_end};
+
+use m2v_spelled::{law_slice_calm, law_slice_reads};
+
+/// The pieces of the stream of raw frames are its pictures in coding order, each with its headers, its slices and the zero
+/// bytes behind them, and then the sequence end code. Each picture takes the bits of these, the last one the end code too,
+/// and its start code ends 272 bits behind its first bit where it begins a group, and else 32.
+pub fn law_pieces()
+    ensures pictures { (s : Settings) (frames : List (List ℕ)) → Passes s → 1 ≤ length frames
+        → length frames ≤ 999999
+        → pieces (Coded s frames) ≡ map packed (picture_texts s frames) ++ packed (start_code 0xB7) ∷ [] }
+    ensures bits { (s : Settings) (frames : List (List ℕ)) → Passes s → 1 ≤ length frames
+        → length frames ≤ 999999
+        → map bits_of_piece (pieces (Coded s frames)) ≡ picture_bits s frames ++ 32 ∷ [] }
+    ensures count { (s : Settings) (frames : List (List ℕ))
+        → length (picture_bits s frames) ≡ (coded_all s frames).pictures }
+    ensures taken { (s : Settings) (frames : List (List ℕ)) → Passes s → 1 ≤ length frames
+        → length frames ≤ 999999
+        → sizes (coded_all s frames).pictures (map bits_of_piece (pieces (Coded s frames)))
+        ≡ with_end (picture_bits s frames) }
+    ensures total { (s : Settings) (frames : List (List ℕ)) → Passes s → 1 ≤ length frames
+        → length frames ≤ 999999
+        → sum (map bits_of_piece (pieces (Coded s frames))) ≡ length (coded_all s frames).text + 32 }
+    ensures starts { (s : Settings) (frames : List (List ℕ)) → Passes s → 1 ≤ length frames
+        → length frames ≤ 999999
+        → map code_bits (pieces (Coded s frames)) ≡ picture_codes s frames ++ 64 ∷ [] }
+    ensures first { (s : Settings) (frames : List (List ℕ)) → Passes s → 1 ≤ length frames
+        → length frames ≤ 999999
+        → first_code (pieces (Coded s frames)) ≡ 272 }
+    ensures places { (s : Settings) (frames : List (List ℕ)) → Passes s → 1 ≤ length frames
+        → length frames ≤ 999999
+        → codes 0 (pieces (Coded s frames))
+        ≡ code_places s frames ++ (length (coded_all s frames).text + 64) ∷ [] }
+{
+    law_slice_calm();
+    law_slice_reads();
+}
