@@ -46,6 +46,7 @@ picture_texts s frames = in_stream picture_text s frames
 abbrev pub bits_at : Book → List CodedPicture → Entries → Bool → ℕ → ℕ → ℕ
 bits_at b done l ends at p = size_of b done p + zeros_of l ends p
 
+-- those of all pictures
 abbrev pub picture_bits : Settings → List (List ℕ) → List ℕ
 picture_bits s frames = in_stream bits_at s frames
 
@@ -53,13 +54,15 @@ picture_bits s frames = in_stream bits_at s frames
 abbrev pub code_at : Book → List CodedPicture → Entries → Bool → ℕ → ℕ → ℕ
 code_at b done l ends at p = bits_to_code (job_at b p)
 
+-- that of all pictures
 abbrev pub picture_codes : Settings → List (List ℕ) → List ℕ
 picture_codes s frames = in_stream code_at s frames
 
--- where the start code of a picture ends in the stream
+-- where the start code of a picture ends in the stream, its headers beginning at a bit
 abbrev pub place_at : Book → List CodedPicture → Entries → Bool → ℕ → ℕ → ℕ
 place_at b done l ends at p = at + bits_to_code (job_at b p)
 
+-- that of all start codes
 abbrev pub code_places : Settings → List (List ℕ) → List ℕ
 code_places s frames = in_stream place_at s frames
 
@@ -71,6 +74,7 @@ groups_taken s x (g ∷ []) =
     map (value_at bits_at s x g true) (range_with_len 0 last) ++ (value_at bits_at s x g true last + 32) ∷ []
 groups_taken s x (g ∷ h ∷ more) = in_group bits_at s x g false ++ groups_taken s (group_coded s x g false) (h ∷ more)
 
+-- those of the stream of raw frames
 abbrev pub Taken : Settings → List (List ℕ) → List ℕ
 Taken s frames = groups_taken s (at_start s) (groups_of s frames)
 

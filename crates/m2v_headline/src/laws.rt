@@ -7,8 +7,8 @@ ghost use Rattle.m2v_set.specs.Rules.{Passes};
 ghost use Rattle.m2v_stream.specs.Streams.{Coded, coded_all};
 ghost use Rattle.m2v_model.specs.Pieces.{pieces};
 ghost use Rattle.m2v_model.specs.Buffering.{sizes, bits_of_piece, code_bits, codes, first_code};
-ghost use Rattle.m2v_headline.specs.Texts.{picture_texts, picture_bits, picture_codes, code_places};
-ghost use Rattle.m2v_headline.specs.Texts.{Taken, ends_of};
+ghost use Rattle.m2v_headline.specs.Texts.{picture_texts, picture_bits, picture_codes};
+ghost use Rattle.m2v_headline.specs.Texts.{code_places, Taken, ends_of};
 
 use m2v_spelled::{law_slice_calm, law_slice_reads};
 
@@ -16,13 +16,14 @@ use m2v_spelled::{law_slice_calm, law_slice_reads};
 /// its slices and the zero bytes behind them, and then the sequence end code.
 ///
 /// The pictures' texts one behind another are all that is coded. A picture takes the bits of its
-/// headers, its slices and the zero bits behind them, and the last one the end code too. Its start
-/// code ends 272 bits behind its first bit where it begins a group, as the first one does, and else
-/// 32; in the stream that is behind the bits of the pictures before it.
+/// headers, its slices and the zero bits behind them, and the last one the end code too. Of these
+/// 272 go up to the end of its start code where it begins a group, as the first one does, and else
+/// 32; so many bits behind those of the pictures before it the start code ends in the stream.
 pub fn law_pieces()
     ensures pictures { (s : Settings) (frames : List (List ℕ)) → Passes s → 1 ≤ length frames
         → length frames ≤ 999999
-        → pieces (Coded s frames) ≡ map packed (picture_texts s frames) ++ packed (start_code 0xB7) ∷ [] }
+        → pieces (Coded s frames)
+        ≡ map packed (picture_texts s frames) ++ packed (start_code 0xB7) ∷ [] }
     ensures whole { (s : Settings) (frames : List (List ℕ))
         → flat_map (λ (t : List Bool). t) (picture_texts s frames) ≡ (coded_all s frames).text }
     ensures lengths { (s : Settings) (frames : List (List ℕ)) → Passes s → 1 ≤ length frames
@@ -39,7 +40,8 @@ pub fn law_pieces()
         ≡ Taken s frames }
     ensures total { (s : Settings) (frames : List (List ℕ)) → Passes s → 1 ≤ length frames
         → length frames ≤ 999999
-        → sum (map bits_of_piece (pieces (Coded s frames))) ≡ length (coded_all s frames).text + 32 }
+        → sum (map bits_of_piece (pieces (Coded s frames)))
+        ≡ length (coded_all s frames).text + 32 }
     ensures starts { (s : Settings) (frames : List (List ℕ)) → Passes s → 1 ≤ length frames
         → length frames ≤ 999999
         → map code_bits (pieces (Coded s frames)) ≡ picture_codes s frames ++ 64 ∷ [] }
