@@ -13,7 +13,7 @@ use Rattle.m2v_order.specs.declared.jobs.PictureJob.{PictureJob}
 use Rattle.m2v_order.specs.Groups.{Group}
 use Rattle.m2v_preface.specs.Headers.{begins_group, bits_to_code}
 use Rattle.m2v_slice.specs.Books.{job_at}
-use Rattle.m2v_stream.specs.Streams.{Progress, at_start, group_coded, groups_coded, coded_all, Coded, book_of}
+use Rattle.m2v_stream.specs.Streams.{Progress, at_start, group_coded, groups_coded, coded_all, Coded, book_of, picture_text}
 use Rattle.m2v_model.specs.Units.{cut}
 use Rattle.m2v_model.specs.Pieces.{pieces}
 use Rattle.m2v_model.specs.Buffering.{sizes, before_picture, bits_of_piece, code_bits, codes, first_code}
@@ -22,10 +22,11 @@ use Rattle.m2v_tree.proofs.Turns.{first_begins}
 use Rattle.m2v_tree.proofs.Slices.{Spelled}
 use Rattle.m2v_tree.proofs.Follows.{stream_follows, stream_some}
 use Rattle.m2v_tree.proofs.Groups.{MayFollow, AllFollow}
-use Rattle.m2v_headline.specs.Texts.{in_group, in_groups, bits_at, code_at, picture_texts, picture_bits, picture_codes, code_places, with_end}
+use Rattle.m2v_headline.specs.Texts.{in_group, in_groups, bits_at, code_at, picture_texts, picture_bits, picture_codes, code_places, Taken, ends_of}
 use Rattle.m2v_headline.proofs.Told.{groups_give}
 use Rattle.m2v_headline.proofs.Streams.{coded_is, bytes_at, packed_are, pieces_are}
-use Rattle.m2v_headline.proofs.Lengths.{piece_bits, piece_code}
+use Rattle.m2v_headline.proofs.Lengths.{picture_length, piece_bits, piece_code}
+use Rattle.m2v_headline.proofs.Ends.{sizes_are, groups_end}
 use Rattle.m2v_headline.proofs.Codes.{bits_of_all, bits_append, bits_one, codes_append, codes_one, groups_bits, groups_codes}
 
 -- ---- the last piece
@@ -44,13 +45,6 @@ end_code = refl
 
 -- ---- lists
 
--- the last picture takes all that stands behind it
-sizes_are : (xs : List ℕ) → sizes (length xs) (xs ++ 32 ∷ []) ≡ with_end xs
-unfolding sizes with_end
-sizes_are [] = refl
-sizes_are (x ∷ []) = let e : sum (x ∷ 32 ∷ []) ≡ x + 32 = omega arith in ap (λ (n : ℕ). n ∷ []) e
-sizes_are (x ∷ y ∷ ys) = ap (λ (ns : List ℕ). x ∷ ns) (sizes_are (y ∷ ys))
-
 abbrev IsHead : List ℕ → Type 0
 IsHead [] = ⊥
 IsHead (c ∷ cs) = c ≡ 272
@@ -62,6 +56,12 @@ head_append (x ∷ xs) ys h = h
 first_head : (ps : List (List ℕ)) (e : List ℕ) → IsHead (map code_bits ps) → first_code (ps ++ e ∷ []) ≡ 272
 first_head [] e h = absurd h
 first_head (p ∷ ps) e h = h
+
+-- start codes by the bits of pieces, and where it ends in each
+codes_by : (ps : List (List ℕ)) (at : ℕ) → codes at ps ≡ ends_of at (map bits_of_piece ps) (map code_bits ps)
+unfolding codes ends_of
+codes_by [] at = refl
+codes_by (p ∷ ps) at = ap (λ (cs : List ℕ). (at + code_bits p) ∷ cs) (codes_by ps (at + bits_of_piece p))
 
 -- the bits of pieces are their sum
 sum_is : (ps : List (List ℕ)) → sum (map bits_of_piece ps) ≡ bits_of_all ps
@@ -139,15 +139,21 @@ module _ (law : Spelled) (s : Settings) (frames : List (List ℕ)) (passes : Pas
   codes_here : map code_bits (in_groups bytes_at s (at_start s) (groups_of s frames)) ≡ picture_codes s frames
   codes_here = groups_give code_bits bytes_at code_at (λ b h l ends at p lt. piece_code law b h l ends at p lt) s (groups_of s frames) (at_start s) follow
 
-  pub bits_are : map bits_of_piece (pieces (Coded s frames)) ≡ picture_bits s frames ++ 32 ∷ []
-  bits_are = numbers bits_of_piece (picture_bits s frames) 32
-      (groups_give bits_of_piece bytes_at bits_at (λ b h l ends at p lt. piece_bits law b h l ends at p lt) s (groups_of s frames) (at_start s) follow) end_bits
+  bits_here : map bits_of_piece (in_groups bytes_at s (at_start s) (groups_of s frames)) ≡ picture_bits s frames
+  bits_here = groups_give bits_of_piece bytes_at bits_at (λ b h l ends at p lt. piece_bits law b h l ends at p lt) s (groups_of s frames) (at_start s) follow
 
-  pub sizes_of_all : sizes (coded_all s frames).pictures (map bits_of_piece (pieces (Coded s frames))) ≡ with_end (picture_bits s frames)
-  sizes_of_all =
+  pub bits_are : map bits_of_piece (pieces (Coded s frames)) ≡ picture_bits s frames ++ 32 ∷ []
+  bits_are = numbers bits_of_piece (picture_bits s frames) 32 bits_here end_bits
+
+  pub taken_is : sizes (coded_all s frames).pictures (map bits_of_piece (pieces (Coded s frames))) ≡ Taken s frames
+  taken_is =
       ap (λ (n : ℕ). sizes n (map bits_of_piece (pieces (Coded s frames)))) (sym (pictures_counted s frames))
       ∙ ap (sizes (length (picture_bits s frames))) bits_are
       ∙ sizes_are (picture_bits s frames)
+      ∙ groups_end s (groups_of s frames) (at_start s) follow
+
+  pub lengths_are : map length (picture_texts s frames) ≡ picture_bits s frames
+  lengths_are = groups_give length picture_text bits_at (λ b h l ends at p lt. picture_length b h l ends at p lt) s (groups_of s frames) (at_start s) follow
 
   pub total_is : sum (map bits_of_piece (pieces (Coded s frames))) ≡ length (coded_all s frames).text + 32
   total_is =
@@ -163,6 +169,15 @@ module _ (law : Spelled) (s : Settings) (frames : List (List ℕ)) (passes : Pas
 
   pub codes_are : map code_bits (pieces (Coded s frames)) ≡ picture_codes s frames ++ 64 ∷ []
   codes_are = numbers code_bits (picture_codes s frames) 64 codes_here end_code
+
+  -- each start code ends behind the bits of the pictures before it, and its own
+  pub sums_are : code_places s frames ≡ ends_of 0 (picture_bits s frames) (picture_codes s frames)
+  sums_are =
+      let ps = in_groups bytes_at s (at_start s) (groups_of s frames) in
+      sym (groups_codes law s (groups_of s frames) (at_start s) follow)
+      ∙ codes_by ps 0
+      ∙ ap (λ (bs : List ℕ). ends_of 0 bs (map code_bits ps)) bits_here
+      ∙ ap (ends_of 0 (picture_bits s frames)) codes_here
 
   pub first_is : first_code (pieces (Coded s frames)) ≡ 272
   first_is =

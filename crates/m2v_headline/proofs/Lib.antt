@@ -1,7 +1,9 @@
 pub mod Accounts
 pub mod Codes
+pub mod Ends
 pub mod Groupings
 pub mod Lengths
 pub mod PictureUnits
 pub mod Streams
 pub mod Told
+pub mod Wholes

@@ -11,13 +11,12 @@ use Rattle.m2v_order.specs.Groups.{Group}
 use Rattle.m2v_rate.specs.Plans.{Entries}
 use Rattle.m2v_slice.specs.Books.{Book, CodedPicture, coded}
 use Rattle.m2v_slice.specs.Conditions.{IsBook}
-use Rattle.m2v_stream.specs.Streams.{Progress, group_coded, pictures_text}
+use Rattle.m2v_stream.specs.Streams.{Progress, book_of, group_coded, pictures_text}
 use Rattle.m2v_model.specs.Units.{Units}
 use Rattle.m2v_tree.proofs.PictureChains.{picture_units_of}
 use Rattle.m2v_tree.proofs.Groups.{MayFollow, AllFollow, done_of, ledger_of, pictures_units, group_units_of, groups_units}
 use Rattle.m2v_headline.specs.Texts.{in_group, in_groups}
 use Rattle.m2v_headline.proofs.Groupings.{all_of, all_of_append}
-use Rattle.m2v_stream.specs.Streams.{book_of}
 
 -- ---- numbers in turn
 
@@ -49,8 +48,8 @@ Gives h f g =
     → h (f b (coded b (length b.pictures)) l ends at p) ≡ g b (coded b (length b.pictures)) l ends at p
 
 -- something holds of a value, of each picture
-abbrev pub Holds_of : {A : Type 0} → (A → Type 0) → Told A → Type 0
-Holds_of P f =
+abbrev pub HoldsOf : {A : Type 0} → (A → Type 0) → Told A → Type 0
+HoldsOf P f =
     (b : Book) → IsBook b → (l : Entries) (ends : Bool) (at p : ℕ) → p < length b.pictures
     → P (f b (coded b (length b.pictures)) l ends at p)
 
@@ -75,7 +74,7 @@ groups_give {A} {C} h f g gives s (a ∷ c ∷ more) x all =
     ∙ ap (λ (t : List C). t ++ map h (in_groups f s (group_coded s x a false) (c ∷ more))) (group_gives h f g gives s x a false all.0)
     ∙ ap (λ (t : List C). in_group g s x a false ++ t) (groups_give h f g gives s (c ∷ more) (group_coded s x a false) all.1)
 
-group_holds : {A : Type 0} (P : A → Type 0) (f : Told A) → Holds_of P f → (s : Settings) (x : Progress) (group : Group Samples) (ends : Bool) → MayFollow s x group ends
+group_holds : {A : Type 0} (P : A → Type 0) (f : Told A) → HoldsOf P f → (s : Settings) (x : Progress) (group : Group Samples) (ends : Bool) → MayFollow s x group ends
     → All P (in_group f s x group ends)
 unfolding in_group
 group_holds P f holds s x group ends may =
@@ -85,7 +84,7 @@ group_holds P f holds s x group ends may =
     let at = λ (p : ℕ). length x.text + length (pictures_text b done l ends (length x.text) p) in
     all_range P (λ p. f b done l ends (at p) p) 0 (length group.pictures) (λ p lt. holds b may.book l ends (at p) p (omega (arith, lt)))
 
-pub groups_hold : {A : Type 0} (P : A → Type 0) (f : Told A) → Holds_of P f → (s : Settings) (groups : List (Group Samples)) (x : Progress) → AllFollow s x groups
+pub groups_hold : {A : Type 0} (P : A → Type 0) (f : Told A) → HoldsOf P f → (s : Settings) (groups : List (Group Samples)) (x : Progress) → AllFollow s x groups
     → All P (in_groups f s x groups)
 unfolding in_groups AllFollow
 groups_hold P f holds s [] x all = All-nil P

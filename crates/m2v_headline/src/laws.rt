@@ -1,23 +1,34 @@
 //! What the pieces of the encoder's stream are, and what they take.
-ghost use Rattle.std.specs.Prelude.{ℕ, ◌≡◌, ◌≤◌, ◌+◌, List, [], ◌∷◌, ◌++◌, map, length, sum};
+ghost use Rattle.std.specs.Prelude.{ℕ, ◌≡◌, ◌≤◌, ◌+◌, Bool, List, [], ◌∷◌, ◌++◌, map, length, sum};
+ghost use Rattle.std.specs.List.{flat_map};
 ghost use Rattle.m2v_bits.specs.Bits.{packed, start_code};
 ghost use Rattle.m2v_set.specs.declared.settings.Settings.{Settings};
 ghost use Rattle.m2v_set.specs.Rules.{Passes};
 ghost use Rattle.m2v_stream.specs.Streams.{Coded, coded_all};
 ghost use Rattle.m2v_model.specs.Pieces.{pieces};
 ghost use Rattle.m2v_model.specs.Buffering.{sizes, bits_of_piece, code_bits, codes, first_code};
-ghost use Rattle.m2v_headline.specs.Texts.{picture_texts, picture_bits, picture_codes, code_places};
-ghost use Rattle.m2v_headline.specs.Texts.{with_end};
+ghost use Rattle.m2v_headline.specs.Texts.{picture_texts, picture_bits, picture_codes};
+ghost use Rattle.m2v_headline.specs.Texts.{code_places, Taken, ends_of};
 
 use m2v_spelled::{law_slice_calm, law_slice_reads};
 
-/// The pieces of the stream of raw frames are its pictures in coding order, each with its headers, its slices and the zero
-/// bytes behind them, and then the sequence end code. Each picture takes the bits of these, the last one the end code too,
-/// and its start code ends 272 bits behind its first bit where it begins a group, and else 32.
+/// The pieces of the stream of raw frames are its pictures in coding order, each with its headers,
+/// its slices and the zero bytes behind them, and then the sequence end code.
+///
+/// The pictures' texts one behind another are all that is coded. A picture takes the bits of its
+/// headers, its slices and the zero bits behind them, and the last one the end code too. Of these
+/// 272 go up to the end of its start code where it begins a group, as the first one does, and else
+/// 32; so many bits behind those of the pictures before it the start code ends in the stream.
 pub fn law_pieces()
     ensures pictures { (s : Settings) (frames : List (List ℕ)) → Passes s → 1 ≤ length frames
         → length frames ≤ 999999
-        → pieces (Coded s frames) ≡ map packed (picture_texts s frames) ++ packed (start_code 0xB7) ∷ [] }
+        → pieces (Coded s frames)
+        ≡ map packed (picture_texts s frames) ++ packed (start_code 0xB7) ∷ [] }
+    ensures whole { (s : Settings) (frames : List (List ℕ))
+        → flat_map (λ (t : List Bool). t) (picture_texts s frames) ≡ (coded_all s frames).text }
+    ensures lengths { (s : Settings) (frames : List (List ℕ)) → Passes s → 1 ≤ length frames
+        → length frames ≤ 999999
+        → map length (picture_texts s frames) ≡ picture_bits s frames }
     ensures bits { (s : Settings) (frames : List (List ℕ)) → Passes s → 1 ≤ length frames
         → length frames ≤ 999999
         → map bits_of_piece (pieces (Coded s frames)) ≡ picture_bits s frames ++ 32 ∷ [] }
@@ -26,10 +37,11 @@ pub fn law_pieces()
     ensures taken { (s : Settings) (frames : List (List ℕ)) → Passes s → 1 ≤ length frames
         → length frames ≤ 999999
         → sizes (coded_all s frames).pictures (map bits_of_piece (pieces (Coded s frames)))
-        ≡ with_end (picture_bits s frames) }
+        ≡ Taken s frames }
     ensures total { (s : Settings) (frames : List (List ℕ)) → Passes s → 1 ≤ length frames
         → length frames ≤ 999999
-        → sum (map bits_of_piece (pieces (Coded s frames))) ≡ length (coded_all s frames).text + 32 }
+        → sum (map bits_of_piece (pieces (Coded s frames)))
+        ≡ length (coded_all s frames).text + 32 }
     ensures starts { (s : Settings) (frames : List (List ℕ)) → Passes s → 1 ≤ length frames
         → length frames ≤ 999999
         → map code_bits (pieces (Coded s frames)) ≡ picture_codes s frames ++ 64 ∷ [] }
@@ -40,6 +52,9 @@ pub fn law_pieces()
         → length frames ≤ 999999
         → codes 0 (pieces (Coded s frames))
         ≡ code_places s frames ++ (length (coded_all s frames).text + 64) ∷ [] }
+    ensures sums { (s : Settings) (frames : List (List ℕ)) → Passes s → 1 ≤ length frames
+        → length frames ≤ 999999
+        → code_places s frames ≡ ends_of 0 (picture_bits s frames) (picture_codes s frames) }
 {
     law_slice_calm();
     law_slice_reads();
