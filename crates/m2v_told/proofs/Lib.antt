@@ -1,0 +1,5 @@
+pub mod Runs
+pub mod Heads
+pub mod Steps
+pub mod Good
+pub mod Streams
