@@ -3,3 +3,4 @@ pub mod Heads
 pub mod Steps
 pub mod Good
 pub mod Streams
+pub mod Lawful

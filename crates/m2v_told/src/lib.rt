@@ -4,4 +4,4 @@
 
 mod laws;
 
-pub use laws::law_told;
+pub use laws::{law_encoded_lawful, law_told};
