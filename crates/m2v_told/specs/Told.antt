@@ -1,0 +1,29 @@
+-- What the stream of raw frames tells.
+use Rattle.std.specs.Prelude.{ℕ, ◌≡◌, List, map, All}
+use Rattle.m2v_set.specs.declared.settings.Settings.{Settings}
+use Rattle.m2v_order.specs.declared.jobs.PictureJob.{PictureJob}
+use Rattle.m2v_order.specs.Calls.{jobs_in}
+use Rattle.m2v_model.specs.Pictures.{Picture}
+use Rattle.m2v_model.specs.Decoding.{events}
+use Rattle.m2v_tree.specs.Trees.{groups_of, tree_of}
+use Rattle.m2v_lawful.specs.Told.{told_all, IsMade}
+use Rattle.m2v_safe.specs.Sent.{SentPicture, Sent}
+
+-- a job with a picture
+abbrev pub Made : Type 0
+Made = PictureJob × Picture
+
+abbrev pub job_in : Made → PictureJob
+job_in m = m.0
+
+abbrev pub delay_in : Made → ℕ
+delay_in m = m.1.info.vbv_delay
+
+-- the stream tells the jobs of its groups, each with a picture that is its own and has the delay of the one that is sent,
+-- one behind another
+pub record TellsJobs (s : Settings) (frames : List (List ℕ)) : Type 0 where
+  pub made : List Made
+  pub told : events (tree_of s frames) ≡ told_all s made
+  pub are : All (IsMade s) made
+  pub jobs : map job_in made ≡ jobs_in (groups_of s frames)
+  pub delays : map delay_in made ≡ map (λ (x : SentPicture). x.delay) (Sent s frames)
