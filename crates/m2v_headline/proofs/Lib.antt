@@ -3,5 +3,6 @@ pub mod Codes
 pub mod Groupings
 pub mod Lengths
 pub mod PictureUnits
+pub mod SentPictures
 pub mod Streams
 pub mod Told
