@@ -6,3 +6,4 @@ pub mod PictureUnits
 pub mod SentPictures
 pub mod Streams
 pub mod Told
+pub mod ToldAccounts

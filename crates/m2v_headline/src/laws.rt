@@ -8,6 +8,9 @@ ghost use Rattle.m2v_model.specs.Pieces.{pieces};
 ghost use Rattle.m2v_model.specs.Buffering.{sizes, bits_of_piece, code_bits, codes, first_code};
 ghost use Rattle.m2v_headline.specs.Texts.{picture_texts, picture_bits, picture_codes, code_places};
 ghost use Rattle.m2v_headline.specs.Texts.{with_end};
+ghost use Rattle.m2v_model.specs.Lawful.{Numbered};
+ghost use Rattle.m2v_model.specs.Buffering.{unsafe_in};
+ghost use Rattle.m2v_headline.specs.Accounts.{AreTold, account_told};
 
 use m2v_spelled::{law_slice_calm, law_slice_reads};
 
@@ -40,6 +43,18 @@ pub fn law_pieces()
         → length frames ≤ 999999
         → codes 0 (pieces (Coded s frames))
         ≡ code_places s frames ++ (length (coded_all s frames).text + 64) ∷ [] }
+{
+    law_slice_calm();
+    law_slice_reads();
+}
+
+/// The account that a verifier makes of these bytes is safe, with pictures that are as many as are coded, the first of which
+/// has the delay of the settings, and behind which the times of their groups go by: each of them is whole in the buffer when
+/// it is removed, and the buffer takes what is held then.
+pub fn law_account()
+    ensures safe { (s : Settings) (frames : List (List ℕ)) (ns : List Numbered) → Passes s
+        → 1 ≤ length frames → length frames ≤ 999999 → AreTold s frames ns
+        → unsafe_in (account_told s frames ns) ≡ [] }
 {
     law_slice_calm();
     law_slice_reads();
