@@ -25,7 +25,7 @@ range_more {A} f n =
     let e : suc n ≡ n + 1 = omega arith in
     ap (λ (k : ℕ). map f (range_with_len 0 k)) e ∙ map-range_with_len_more f 0 n n (omega arith)
 
-maps_range : {A C : Type 0} (h : A → C) (f : ℕ → A) (g : ℕ → C) (from n : ℕ) → ((p : ℕ) → p < from + n → h (f p) ≡ g p) → map h (map f (range_with_len from n)) ≡ map g (range_with_len from n)
+pub maps_range : {A C : Type 0} (h : A → C) (f : ℕ → A) (g : ℕ → C) (from n : ℕ) → ((p : ℕ) → p < from + n → h (f p) ≡ g p) → map h (map f (range_with_len from n)) ≡ map g (range_with_len from n)
 maps_range h f g from zero each = refl
 maps_range {A} {C} h f g from (suc n) each =
     ap (λ (c : C). c ∷ map h (map f (range_with_len (from + 1) n))) (each from (omega arith))

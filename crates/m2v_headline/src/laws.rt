@@ -7,8 +7,16 @@ ghost use Rattle.m2v_set.specs.Rules.{Passes};
 ghost use Rattle.m2v_stream.specs.Streams.{Coded, coded_all};
 ghost use Rattle.m2v_model.specs.Pieces.{pieces};
 ghost use Rattle.m2v_model.specs.Buffering.{sizes, bits_of_piece, code_bits, codes, first_code};
+<<<<<<< HEAD
 ghost use Rattle.m2v_headline.specs.Texts.{picture_texts, picture_bits, picture_codes};
 ghost use Rattle.m2v_headline.specs.Texts.{code_places, Taken, ends_of};
+=======
+ghost use Rattle.m2v_headline.specs.Texts.{picture_texts, picture_bits, picture_codes, code_places};
+ghost use Rattle.m2v_headline.specs.Texts.{with_end};
+ghost use Rattle.m2v_model.specs.Lawful.{Numbered};
+ghost use Rattle.m2v_model.specs.Buffering.{unsafe_in};
+ghost use Rattle.m2v_headline.specs.Accounts.{AreTold, account_told};
+>>>>>>> d4be53d7c4441ad989de4f5b775188f96c7f720d
 
 use m2v_spelled::{law_slice_calm, law_slice_reads};
 
@@ -55,6 +63,18 @@ pub fn law_pieces()
     ensures sums { (s : Settings) (frames : List (List ℕ)) → Passes s → 1 ≤ length frames
         → length frames ≤ 999999
         → code_places s frames ≡ ends_of 0 (picture_bits s frames) (picture_codes s frames) }
+{
+    law_slice_calm();
+    law_slice_reads();
+}
+
+/// The account that a verifier makes of these bytes is safe, with pictures that are as many as are coded, the first of which
+/// has the delay of the settings, and behind which the times of their groups go by: each of them is whole in the buffer when
+/// it is removed, and the buffer takes what is held then.
+pub fn law_account()
+    ensures safe { (s : Settings) (frames : List (List ℕ)) (ns : List Numbered) → Passes s
+        → 1 ≤ length frames → length frames ≤ 999999 → AreTold s frames ns
+        → unsafe_in (account_told s frames ns) ≡ [] }
 {
     law_slice_calm();
     law_slice_reads();

@@ -4,4 +4,4 @@
 
 mod laws;
 
-pub use laws::law_pieces;
+pub use laws::{law_account, law_pieces};
