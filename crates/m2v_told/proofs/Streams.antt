@@ -216,8 +216,14 @@ no_delay : (s : Settings) (st : State) → IsBetween s st → low_delay_of (afte
 unfolding after sequence_extension_of
 no_delay s st x = ap (λ (z : State). low_delay_of (after z ending).first) x.is
 
--- what the stream tells, and that it has no low_delay
+-- the first sequence header is that of the settings
+first_is : (s : Settings) (st : State) → IsBetween s st → (after st ending).first ≡ Some (sequence_by s)
+unfolding after
+first_is s st x = ap (λ (z : State). (after z ending).first) x.is
+
+-- what the stream tells, its first sequence header, and that it has no low_delay
 pub record StreamTold (s : Settings) (frames : List (List ℕ)) : Type 0 where
+  pub first : (tree_of s frames).state.first ≡ Some (sequence_by s)
   pub jobs : TellsJobs s frames
   pub low : low_delay_of (tree_of s frames).state.first ≡ false
 
@@ -231,6 +237,7 @@ told_by_groups s frames g more is good =
     let last = tells_one gone.end gone.left ending (after gone.end ending) (closed gone.end.picture gone.left) refl refl in
     let whole = tells_on at_first gone.end (after gone.end ending) no_frames gone.left _ parts (ending ∷ []) gone.es (closed gone.end.picture gone.left) gone.tells last in
     record {
+      first = ap (λ (z : State). z.first) whole.state ∙ first_is s gone.end gone.between;
       jobs = record { made = gone.made; told = whole.events ∙ gone.known; are = gone.are; jobs = gone.jobs; delays = gone.delays };
       low = ap (λ (z : State). low_delay_of z.first) whole.state ∙ no_delay s gone.end gone.between;
     }
