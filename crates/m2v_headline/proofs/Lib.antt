@@ -12,3 +12,4 @@ pub mod Wholes
 =======
 pub mod ToldAccounts
 >>>>>>> d4be53d7c4441ad989de4f5b775188f96c7f720d
+pub mod Headline

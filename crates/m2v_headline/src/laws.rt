@@ -16,6 +16,7 @@ ghost use Rattle.m2v_headline.specs.Texts.{with_end};
 ghost use Rattle.m2v_model.specs.Lawful.{Numbered};
 ghost use Rattle.m2v_model.specs.Buffering.{unsafe_in};
 ghost use Rattle.m2v_headline.specs.Accounts.{AreTold, account_told};
+ghost use Rattle.m2v_headline.specs.Laws.{Headline};
 >>>>>>> d4be53d7c4441ad989de4f5b775188f96c7f720d
 
 use m2v_spelled::{law_slice_calm, law_slice_reads};
@@ -79,3 +80,11 @@ pub fn law_account()
     law_slice_calm();
     law_slice_reads();
 }
+
+/// The stream of raw frames, of settings that pass, decodes to their reconstructions in display order and to nothing else, and
+/// no fault stands in it; it breaks no rule of its level; and each of its pictures is whole in the decoder's buffer when it is
+/// removed, and the buffer takes what is held then.
+pub fn law_headline()
+    ensures { (s : Settings) (frames : List (List ℕ)) → Passes s → 1 ≤ length frames
+        → length frames ≤ 999999 → Headline s frames }
+{}

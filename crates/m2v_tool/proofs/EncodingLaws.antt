@@ -19,11 +19,11 @@ use Rattle.m2v_encode.specs.declared.answer.Summary.{Summary}
 use Rattle.m2v_encode.specs.declared.answer.EncodeError.{EncodeError}
 use Rattle.m2v_encode.specs.declared.answer.EncodeError.TheVariants as errors
 use Rattle.m2v_encode.specs.Answers.{AllCoded, Stops, Unended, CutOff, EndedShort, WasEmpty, WentOn, most_frames}
-use Rattle.m2v_stream.specs.Streams.{Coded, Recon, ReconBegun}
-use Rattle.m2v_shown.specs.Laws.{DecodesTo}
-use Rattle.m2v_shown.proofs.Decodes.{decodes_to}
+use Rattle.m2v_stream.specs.Streams.{Recon, ReconBegun}
+use Rattle.m2v_headline.specs.Laws.{Headline}
+use Rattle.m2v_headline.proofs.Headline.{headline}
 use Rattle.m2v_tool.specs.declared.encode.EncodeOutcome.{EncodeOutcome}
-use Rattle.m2v_tool.specs.declared.encode.EncodeOutcome.TheVariants.{Coded as Done, Unfit as NotFit, Unopened, Stopped}
+use Rattle.m2v_tool.specs.declared.encode.EncodeOutcome.TheVariants.{Coded, Unfit as NotFit, Unopened, Stopped}
 use Rattle.m2v_tool.specs.Endings.{Told, whole, cut, unfit_ending}
 use Rattle.m2v_tool.specs.EncodeWords.{Meant}
 use Rattle.m2v_tool.specs.Coding.{AreFrames, EndInside}
@@ -76,17 +76,16 @@ some_bytes s passes =
     let some : 0 < s.width * s.height = mul-pos (omega (arith, size.wide)) (omega (arith, size.tall, least_step s.scan)) in
     omega arith
 
--- what was written decodes to its frames
-pub shows_back : (s : Settings) (left held recon : Change) (summary : Summary) → Passes s → (c : AllCoded s left held recon summary)
-    → DecodesTo (Coded s c.frames) (Recon s c.frames)
-shows_back s left held recon summary passes c = decodes_to s c.frames passes c.some c.most
+-- what was written decodes to its frames, is lawful, and keeps the buffer
+pub keeps : (s : Settings) (left held recon : Change) (summary : Summary) → Passes s → (c : AllCoded s left held recon summary) → Headline s c.frames
+keeps s left held recon summary passes c = headline s c.frames passes c.some c.most
 
 -- ---- what was told
 
 module _ (r : Run) (m : Meant) where
   unfit_at : (o : EncodeOutcome) → EncodeComes m (work_of r) o → Told (encode_ending o) r.status r.report → (Passes m.settings → ⊥) → RefusedBy 3 r
   unfolding EncodeComes encode_ending unfit_ending
-  unfit_at (Done s) c t fails = absurd (fails c.passes)
+  unfit_at (Coded s) c t fails = absurd (fails c.passes)
   unfit_at (NotFit u) c t fails = (refusal (encode_ending (NotFit u)) r.status 3 r.report t refl refl, (c.1, c.2, c.3))
   unfit_at (Unopened e) c t fails = absurd (fails c.passes)
   unfit_at (Stopped e) c t fails = absurd (fails c.passes)
@@ -142,7 +141,7 @@ module _ (r : Run) (m : Meant) where
   answer_at : (bytes : List ℕ) → r.input.old ≡ Some bytes → (o : EncodeOutcome) → EncodeComes m (work_of r) o → Told (encode_ending o) r.status r.report
       → Yields r (EncodeAnswer r m (length bytes))
   unfolding EncodeComes encode_ending unfit_ending
-  answer_at bytes told (Done s) c t =
+  answer_at bytes told (Coded s) c t =
       done_answer (length bytes) s c.passes (done_frames m.settings r.input r.output (recon_by m.recon r.recon) bytes s told c.coded) t
   answer_at bytes told (NotFit u) c t =
       or_memory r (EncodeAnswer r m (length bytes)) 3 (refusal (encode_ending (NotFit u)) r.status 3 r.report t refl refl)

@@ -11,10 +11,9 @@ use Rattle.m2v_encode.specs.declared.answer.Summary.{Summary}
 use Rattle.m2v_encode.specs.declared.answer.EncodeError.{EncodeError}
 use Rattle.m2v_encode.specs.declared.answer.EncodeError.TheVariants as errors
 use Rattle.m2v_encode.specs.Answers.{AllCoded, Stops, most_frames, unshown}
-use Rattle.m2v_stream.specs.Streams.{Coded, Recon}
-use Rattle.m2v_shown.specs.Laws.{DecodesTo}
+use Rattle.m2v_headline.specs.Laws.{Headline}
 use Rattle.m2v_tool.specs.declared.encode.EncodeOutcome.{EncodeOutcome}
-use Rattle.m2v_tool.specs.declared.encode.EncodeOutcome.TheVariants.{Coded as Done, Unfit as NotFit, Unopened, Stopped}
+use Rattle.m2v_tool.specs.declared.encode.EncodeOutcome.TheVariants.{Coded, Unfit as NotFit, Unopened, Stopped}
 use Rattle.m2v_tool.specs.Endings.{Ending, read_fault, write_fault, no_memory, unfit_ending, short_frame, no_frames, too_many_frames}
 use Rattle.m2v_tool.specs.EncodeWords.{Meant}
 use Rattle.m2v_tool.specs.Runs.{Run, Work, Yields, RefusedBy, NoneFailed, Succeeds}
@@ -47,12 +46,12 @@ Shut calls.Memory k =
 
 -- ---- outcomes
 
--- The settings pass, and the input was coded; what output has grown by decodes to the frames by which recon has grown,
--- where a name is given and it is open under it, and to nothing else, and no fault stands in it.
+-- The settings pass, and the input was coded; recon, where a name is given, is open under it. What output has grown by
+-- decodes to the frames by which recon has grown, and to nothing else; it is lawful, and keeps the decoder's buffer.
 pub record EncodeDone (m : Meant) (k : Work) (summary : Summary) : Type 0 where
   pub passes : Passes m.settings
   pub coded : AllCoded m.settings k.input k.output (recon_by m.recon k.recon) summary
-  pub back : DecodesTo (Coded m.settings coded.frames) (Recon m.settings coded.frames)
+  pub headline : Headline m.settings coded.frames
   pub stands : Stands m.recon k
 
 -- The settings pass, and coding stopped.
@@ -69,7 +68,7 @@ pub record EncodeShut (m : Meant) (k : Work) (e : PortError) : Type 0 where
 
 -- When each outcome of `encode` comes, and what stands then.
 unfoldable pub EncodeComes : Meant → Work → EncodeOutcome → Type 0
-EncodeComes m k (Done s) = EncodeDone m k s
+EncodeComes m k (Coded s) = EncodeDone m k s
 EncodeComes m k (NotFit u) =
     FirstUnfit m.settings u × k.input.Unchanged × k.output.Unchanged × k.recon.Unchanged
 EncodeComes m k (Unopened e) = EncodeShut m k e
@@ -101,7 +100,7 @@ encoded_ending s = record {
 
 -- of each outcome
 unfoldable pub encode_ending : EncodeOutcome → Ending
-encode_ending (Done s) = encoded_ending s
+encode_ending (Coded s) = encoded_ending s
 encode_ending (NotFit u) = unfit_ending u
 encode_ending (Unopened e) = unopened_ending e
 encode_ending (Stopped e) = encoding_stopped e

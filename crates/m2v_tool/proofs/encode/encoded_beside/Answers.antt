@@ -1,7 +1,7 @@
 use Rattle.std.proofs.Common.{◌≡◌, ℕ, List, Option, IfSome, Err, refl, ap, sym, subst}
 use Rattle.m2v_port.specs.Ends.{change}
 use Rattle.m2v_tool.specs.Encoding.{EncodeComes}
-use Rattle.m2v_tool.proofs.EncodingLaws.{coded_from, stops_from, shut_of, shows_back}
+use Rattle.m2v_tool.proofs.EncodingLaws.{coded_from, stops_from, shut_of, keeps}
 use Rattle.m2v_tool.proofs.encode.encoded_beside.Goals as goal
 
 pub returns-in-Err-clause-comes : goal.returns-in-Err-clause-comes
@@ -28,7 +28,7 @@ returns-in-Ok-encode_to-clause-comes g c =
     record {
       passes = c.settings-passes.ensures.passes;
       coded = coded;
-      back = shows_back c.args.passed.now _ _ _ _ c.settings-passes.ensures.passes coded;
+      headline = keeps c.args.passed.now _ _ _ _ c.settings-passes.ensures.passes coded;
       stands = (stays.is_ready, subst (λ (o : Option (List ℕ)). IfSome o (λ told. told ≡ c.args.name.now)) (sym stays.keeps_name) c.in-Ok.ensures.name);
     }
 
