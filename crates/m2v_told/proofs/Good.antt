@@ -60,15 +60,15 @@ module _ (s : Settings) (frames : List (List ℕ)) (passes : Passes s) (few : le
 
 -- ---- groups of a queue
 
-from_due : (n : ℕ) (q : Queue Samples) → is_due q ≡ true → groups_from (suc n) q ≡ group_of q ∷ groups_from n (after_group q)
+pub from_due : (n : ℕ) (q : Queue Samples) → is_due q ≡ true → groups_from (suc n) q ≡ group_of q ∷ groups_from n (after_group q)
 unfolding groups_from
 from_due n q is = cond-true (is_due q) _ _ is
 
-from_rest : (n : ℕ) (q : Queue Samples) → is_due q ≡ false → groups_from (suc n) q ≡ []
+pub from_rest : (n : ℕ) (q : Queue Samples) → is_due q ≡ false → groups_from (suc n) q ≡ []
 unfolding groups_from
 from_rest n q is = cond-false (is_due q) _ _ is
 
-from_zero : (q : Queue Samples) → groups_from 0 q ≡ []
+pub from_zero : (q : Queue Samples) → groups_from 0 q ≡ []
 unfolding groups_from
 from_zero q = refl
 
@@ -112,7 +112,7 @@ sound_front s frames (suc n) passes le =
     (subst (λ (q : Queue Samples). IsSoundQueue q) (sym (wait_more s (take n frames) f))
     (sound_push (waiting s (take n frames) false) (pad d f) (grouped s passes) rec refl))
 
-sound_waiting : (s : Settings) (frames : List (List ℕ)) → Passes s → IsSoundQueue (waiting s frames true)
+pub sound_waiting : (s : Settings) (frames : List (List ℕ)) → Passes s → IsSoundQueue (waiting s frames true)
 sound_waiting s frames passes =
     sound_end (waiting s frames false)
     (subst (λ (xs : List (List ℕ)). IsSoundQueue (waiting s xs false)) (take-length frames) (sound_front s frames (length frames) passes (omega arith)))

@@ -4,3 +4,7 @@ pub mod Steps
 pub mod Good
 pub mod Streams
 pub mod Lawful
+pub mod Times
+pub mod Numbers
+pub mod Intervals
+pub mod Account

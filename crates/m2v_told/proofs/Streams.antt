@@ -1,5 +1,5 @@
 -- What the groups of a stream tell, and the whole stream.
-use Rattle.std.proofs.Common.{◌≡◌, ℕ, zero, suc, ◌+◌, ◌-◌, ◌<◌, ◌≤◌, ◌⊎◌, inl, inr, Bool, true, false, not, ◌&&◌, List, [], ◌∷◌, ◌++◌, length, map, take, get_or, Option, None, refl, sym, ap, subst, ◌∙◌, arith, append_assoc}
+use Rattle.std.proofs.Common.{◌≡◌, ℕ, zero, suc, ◌+◌, ◌-◌, ◌<◌, ◌≤◌, ◌⊎◌, inl, inr, Bool, true, false, not, ◌&&◌, List, [], ◌∷◌, ◌++◌, length, map, take, get_or, Option, Some, None, refl, sym, ap, subst, ◌∙◌, arith, append_assoc}
 use Rattle.std.specs.Prelude.{nat_eq, is_some, All}
 use Rattle.std.specs.List.{range_with_len}
 use Rattle.std.proofs.lemmas.Grind.{flat_map-append}
@@ -211,21 +211,15 @@ groups_told s g (k ∷ more) x st store good stands =
 
 -- ---- the stream
 
--- the first sequence header has no low_delay
-no_delay : (s : Settings) (st : State) → IsBetween s st → low_delay_of (after st ending).first ≡ false
-unfolding after sequence_extension_of
-no_delay s st x = ap (λ (z : State). low_delay_of (after z ending).first) x.is
-
--- the first sequence header is that of the settings
+-- the first sequence header is the encoder's
 first_is : (s : Settings) (st : State) → IsBetween s st → (after st ending).first ≡ Some (sequence_by s)
 unfolding after
 first_is s st x = ap (λ (z : State). (after z ending).first) x.is
 
--- what the stream tells, its first sequence header, and that it has no low_delay
+-- what the stream tells, and its first sequence header
 pub record StreamTold (s : Settings) (frames : List (List ℕ)) : Type 0 where
-  pub first : (tree_of s frames).state.first ≡ Some (sequence_by s)
   pub jobs : TellsJobs s frames
-  pub low : low_delay_of (tree_of s frames).state.first ≡ false
+  pub first : (tree_of s frames).state.first ≡ Some (sequence_by s)
 
 told_by_groups : (s : Settings) (frames : List (List ℕ)) (g : Group Samples) (more : List (Group Samples)) → groups_of s frames ≡ g ∷ more → AreGood s (at_start s) (groups_of s frames)
     → StreamTold s frames
@@ -237,9 +231,8 @@ told_by_groups s frames g more is good =
     let last = tells_one gone.end gone.left ending (after gone.end ending) (closed gone.end.picture gone.left) refl refl in
     let whole = tells_on at_first gone.end (after gone.end ending) no_frames gone.left _ parts (ending ∷ []) gone.es (closed gone.end.picture gone.left) gone.tells last in
     record {
-      first = ap (λ (z : State). z.first) whole.state ∙ first_is s gone.end gone.between;
       jobs = record { made = gone.made; told = whole.events ∙ gone.known; are = gone.are; jobs = gone.jobs; delays = gone.delays };
-      low = ap (λ (z : State). low_delay_of z.first) whole.state ∙ no_delay s gone.end gone.between;
+      first = ap (λ (z : State). z.first) whole.state ∙ first_is s gone.end gone.between;
     }
 
 pub stream_told : (s : Settings) (frames : List (List ℕ)) → Passes s → 1 ≤ length frames → length frames ≤ 999999 → StreamTold s frames

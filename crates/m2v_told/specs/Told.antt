@@ -1,11 +1,13 @@
 -- What the stream of raw frames tells.
-use Rattle.std.specs.Prelude.{ℕ, ◌≡◌, List, map, All}
+use Rattle.std.specs.Prelude.{ℕ, ◌≡◌, List, map, All, Some}
 use Rattle.m2v_set.specs.declared.settings.Settings.{Settings}
 use Rattle.m2v_order.specs.declared.jobs.PictureJob.{PictureJob}
 use Rattle.m2v_order.specs.Calls.{jobs_in}
 use Rattle.m2v_model.specs.Pictures.{Picture}
 use Rattle.m2v_model.specs.Decoding.{events}
+use Rattle.m2v_model.specs.Lawful.{Numbered, all_numbered}
 use Rattle.m2v_tree.specs.Trees.{groups_of, tree_of}
+use Rattle.m2v_lawful.specs.Own.{own_sequence}
 use Rattle.m2v_lawful.specs.Told.{told_all, IsMade}
 use Rattle.m2v_safe.specs.Sent.{SentPicture, Sent}
 
@@ -19,6 +21,9 @@ job_in m = m.0
 abbrev pub delay_in : Made → ℕ
 delay_in m = m.1.info.vbv_delay
 
+abbrev pub number_delay : Numbered → ℕ
+number_delay n = n.picture.info.vbv_delay
+
 -- the stream tells the jobs of its groups, each with a picture that is its own and has the delay of the one that is sent,
 -- one behind another
 pub record TellsJobs (s : Settings) (frames : List (List ℕ)) : Type 0 where
@@ -27,3 +32,14 @@ pub record TellsJobs (s : Settings) (frames : List (List ℕ)) : Type 0 where
   pub are : All (IsMade s) made
   pub jobs : map job_in made ≡ jobs_in (groups_of s frames)
   pub delays : map delay_in made ≡ map (λ (x : SentPicture). x.delay) (Sent s frames)
+
+-- the pictures that the stream tells, numbered
+abbrev pub numbers_of : Settings → List (List ℕ) → List Numbered
+numbers_of s frames = all_numbered (events (tree_of s frames))
+
+-- the first sequence header is the encoder's; the numbered pictures stand behind such headers, and have the delays of the
+-- pictures that are sent
+pub record TellsNumbers (s : Settings) (frames : List (List ℕ)) : Type 0 where
+  pub first : (tree_of s frames).state.first ≡ Some (own_sequence s)
+  pub sequences : All (λ (n : Numbered). n.sequence ≡ own_sequence s) (numbers_of s frames)
+  pub delays : map number_delay (numbers_of s frames) ≡ map (λ (x : SentPicture). x.delay) (Sent s frames)
