@@ -7,3 +7,4 @@ pub mod SentPictures
 pub mod Streams
 pub mod Told
 pub mod ToldAccounts
+pub mod ToldDelays

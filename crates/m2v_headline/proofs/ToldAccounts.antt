@@ -86,7 +86,7 @@ module _ (law : Spelled) (s : Settings) (frames : List (List ℕ)) (passes : Pas
       omega (arith, length-append (coded_all s frames).text (start_code 0xB7), code_length) in
       total_is law s frames passes some few ∙ total ∙ sent
 
-  sizes_sent : (ns : List Numbered) → AreTold s frames ns → sizes (length ns) (map bits_of_piece (pieces (Coded s frames))) ≡ bits_of_sent (Sent s frames)
+  pub sizes_sent : (ns : List Numbered) → AreTold s frames ns → sizes (length ns) (map bits_of_piece (pieces (Coded s frames))) ≡ bits_of_sent (Sent s frames)
   sizes_sent ns told =
       ap (λ (n : ℕ). sizes n (map bits_of_piece (pieces (Coded s frames)))) told.count
       ∙ sizes_of_all law s frames passes some few
