@@ -1,13 +1,11 @@
 -- No picture has another delay than the exact one of the account.
-use Rattle.std.proofs.Common.{◌≡◌, ℕ, zero, suc, ◌+◌, ◌*◌, ◌/◌, ◌≤◌, Bool, List, [], ◌∷◌, ◌++◌, length, map, refl, sym, ap, subst, ◌∙◌, arith, Some}
-use Rattle.std.specs.Prelude.{nat_eq, if◌then◌else◌}
+use Rattle.std.proofs.Common.{◌≡◌, ℕ, ◌+◌, ◌≤◌, List, [], ◌∷◌, ◌++◌, length, map, refl, sym, ap, subst, ◌∙◌, arith, Some}
 use Rattle.std.proofs.lemmas.Bool.{eq-eqb}
 use Rattle.std.proofs.lemmas.List.{length-map}
 use Rattle.std.proofs.lemmas.List.Sums.{sum_by-append}
 use Rattle.m2v_set.specs.declared.settings.Settings.{Settings}
 use Rattle.m2v_set.specs.Rules.{Passes}
 use Rattle.m2v_vbv.specs.Annex.{Start, Removal, removed}
-use Rattle.m2v_vbv.specs.Account.{arriving, account_of}
 use Rattle.m2v_rate.specs.Plans.{start_of}
 use Rattle.m2v_stream.specs.Streams.{Coded, at_start}
 use Rattle.m2v_model.specs.Pieces.{pieces}

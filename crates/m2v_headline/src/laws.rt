@@ -1,4 +1,4 @@
-//! What the pieces of the encoder's stream are, and what they take.
+//! What the pieces of the encoder's stream are, what they take, and that the account that is made of them is safe.
 ghost use Rattle.std.specs.Prelude.{ℕ, ◌≡◌, ◌≤◌, ◌+◌, List, [], ◌∷◌, ◌++◌, map, length, sum};
 ghost use Rattle.std.specs.Prelude.{Some};
 ghost use Rattle.m2v_bits.specs.Bits.{packed, start_code};

@@ -1,5 +1,5 @@
-//! The pieces of the encoder's stream, as its buffer's account sees them, and what each of them takes. Definitions, and what
-//! holds of them.
+//! What the pieces of the encoder's stream are, as its buffer's account sees them, what each of them takes, and that this
+//! account is safe. Definitions, and what holds of them.
 #![tactic(auto)]
 
 mod laws;
