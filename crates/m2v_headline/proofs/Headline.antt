@@ -16,8 +16,9 @@ use Rattle.m2v_tree.specs.Trees.{groups_of, tree_of}
 use Rattle.m2v_tree.proofs.Follows.{stream_follows}
 use Rattle.m2v_tree.proofs.Streams.{stream_stands}
 use Rattle.m2v_shown.proofs.Decodes.{spelled, decodes_to}
-use Rattle.m2v_told.specs.Told.{number_delay}
+use Rattle.m2v_told.specs.Told.{number_delay, numbers_of}
 use Rattle.m2v_told.proofs.Streams.{stream_told}
+use Rattle.m2v_told.proofs.Account.{tells_numbers, stream_intervals}
 use Rattle.m2v_told.proofs.Lawful.{encoded_lawful}
 use Rattle.m2v_headline.specs.Texts.{picture_bits, with_end}
 use Rattle.m2v_headline.specs.Accounts.{AreTold, account_told, delay_in}
@@ -32,13 +33,9 @@ with_end_length [] = refl
 with_end_length (x ∷ []) = refl
 with_end_length (x ∷ y ∷ ys) = ap suc (with_end_length (y ∷ ys))
 
--- the pictures that a stream tells, numbered
-abbrev numbers_of : Settings → List (List ℕ) → List Numbered
-numbers_of s frames = all_numbered (events (tree_of s frames))
-
 module _ (s : Settings) (frames : List (List ℕ)) (passes : Passes s) (some : 1 ≤ length frames) (few : length frames ≤ 999999) where
   delays : map number_delay (numbers_of s frames) ≡ map (λ (x : SentPicture). x.delay) (Sent s frames)
-  delays = {!!}
+  delays = (tells_numbers s frames passes some few).delays
 
   count : length (numbers_of s frames) ≡ (coded_all s frames).pictures
   count =
@@ -62,7 +59,7 @@ module _ (s : Settings) (frames : List (List ℕ)) (passes : Passes s) (some : 1
       head ∙ begins.3.delay
 
   told : AreTold s frames (numbers_of s frames)
-  told = record { count = count; first = first; times = {!!} }
+  told = record { count = count; first = first; times = stream_intervals s frames passes some few }
 
   account_same : account_in (Coded s frames) (tree_of s frames) ≡ account_told s frames (numbers_of s frames)
   unfolding sequence_extension_of

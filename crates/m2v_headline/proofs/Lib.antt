@@ -1,15 +1,13 @@
-pub mod Accounts
+pub mod Groupings
+pub mod PictureUnits
+pub mod Told
+pub mod Streams
+pub mod Lengths
 pub mod Codes
 pub mod Ends
-pub mod Groupings
-pub mod Lengths
-pub mod PictureUnits
-pub mod SentPictures
-pub mod Streams
-pub mod Told
-<<<<<<< HEAD
 pub mod Wholes
-=======
+pub mod Accounts
+pub mod SentPictures
 pub mod ToldAccounts
->>>>>>> d4be53d7c4441ad989de4f5b775188f96c7f720d
+pub mod ToldDelays
 pub mod Headline

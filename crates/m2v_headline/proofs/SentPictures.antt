@@ -1,5 +1,5 @@
 -- The pictures as they are sent take what the pieces take, and have the same start codes.
-use Rattle.std.proofs.Common.{◌≡◌, ℕ, zero, suc, ◌+◌, ◌-◌, ◌<◌, ◌≤◌, Bool, true, false, List, [], ◌∷◌, ◌++◌, length, map, refl, sym, ap, ◌∙◌, arith}
+use Rattle.std.proofs.Common.{◌≡◌, ℕ, suc, ◌+◌, ◌-◌, ◌<◌, ◌≤◌, Bool, true, false, List, [], ◌∷◌, ◌++◌, length, map, refl, sym, ap, ◌∙◌, arith}
 use Rattle.std.specs.List.{range_with_len}
 use Rattle.std.proofs.lemmas.List.{map-append, length-append}
 use Rattle.std.proofs.lemmas.List.FromFn.{length-map-range_with_len}
@@ -9,7 +9,7 @@ use Rattle.m2v_order.specs.Groups.{Group}
 use Rattle.m2v_preface.specs.Headers.{bits_to_code}
 use Rattle.m2v_slice.specs.Books.{Book, job_at}
 use Rattle.m2v_slice.specs.Conditions.{IsBook}
-use Rattle.m2v_stream.specs.Streams.{Progress, group_coded, pictures_text, book_of}
+use Rattle.m2v_stream.specs.Streams.{Progress, group_coded, book_of}
 use Rattle.m2v_safe.specs.Removals.{coded_of, ledger_of}
 use Rattle.m2v_safe.specs.Sent.{SentPicture, place_at, sent_at, group_sent, groups_sent}
 use Rattle.m2v_tree.proofs.Groups.{MayFollow, AllFollow}

@@ -1,10 +1,9 @@
 -- The account that a verifier makes of the stream is that of the pictures as they are sent.
-use Rattle.std.proofs.Common.{◌≡◌, ℕ, zero, suc, ◌+◌, ◌*◌, ◌/◌, ◌%◌, ◌<◌, ◌≤◌, Bool, true, false, List, [], ◌∷◌, ◌++◌, length, map, sum, refl, sym, ap, subst, ◌∙◌, arith, Option, Some, None}
-use Rattle.std.proofs.lemmas.List.{length-append, length-map}
+use Rattle.std.proofs.Common.{◌≡◌, ℕ, ◌+◌, ◌*◌, ◌≤◌, false, List, [], ◌∷◌, length, map, sum, refl, sym, ap, subst, ◌∙◌, arith, Some}
+use Rattle.std.proofs.lemmas.List.{length-append}
 use Rattle.std.proofs.lemmas.Nat.{div-add-mod'}
 use Rattle.m2v_bits.specs.Bits.{bits_of, start_code, ◌⧺◌}
 use Rattle.m2v_set.specs.declared.settings.Settings.{Settings}
-use Rattle.m2v_set.specs.Numbers.{delay_of}
 use Rattle.m2v_set.specs.Rules.{Passes}
 use Rattle.m2v_vbv.specs.Annex.{Start, Removal, removed, Safe}
 use Rattle.m2v_rate.specs.Plans.{start_of}
@@ -12,10 +11,9 @@ use Rattle.m2v_preface.specs.Headers.{sequence_of, sequence_extension_of}
 use Rattle.m2v_stream.specs.Streams.{Coded, coded_all, at_start}
 use Rattle.m2v_model.specs.Pieces.{pieces}
 use Rattle.m2v_model.specs.Lawful.{Numbered, rate_of, buffer_of}
-use Rattle.m2v_model.specs.Buffering.{StreamAccount, intervals, sizes, bits_of_piece, first_code, joined_removals, removals, unsafe_in}
+use Rattle.m2v_model.specs.Buffering.{StreamAccount, intervals, sizes, bits_of_piece, joined_removals, removals, unsafe_in}
 use Rattle.m2v_model.proofs.VerdictLaws.{judged_by_all}
-use Rattle.m2v_safe.specs.Sent.{SentPicture, Sent, removal_of, Begins}
-use Rattle.m2v_safe.proofs.Exact.{stream_exact}
+use Rattle.m2v_safe.specs.Sent.{SentPicture, Sent, removal_of}
 use Rattle.m2v_safe.proofs.Begins.{stream_begins}
 use Rattle.m2v_safe.proofs.Units.{stream_units}
 use Rattle.m2v_safe.proofs.Flat.{stream_sent}
@@ -26,10 +24,9 @@ use Rattle.m2v_rate.proofs.Streams.{stream_safe}
 use Rattle.m2v_tree.specs.Trees.{sequence_by, groups_of}
 use Rattle.m2v_tree.proofs.Slices.{Spelled}
 use Rattle.m2v_tree.proofs.Follows.{stream_follows}
-use Rattle.m2v_headline.specs.Texts.{picture_bits, with_end}
-use Rattle.m2v_headline.specs.Accounts.{AreTold, account_told, delay_in}
+use Rattle.m2v_headline.specs.Accounts.{AreTold, account_told}
 use Rattle.m2v_headline.proofs.Accounts.{sizes_of_all, total_is, first_is}
-use Rattle.m2v_headline.proofs.SentPictures.{bits_of_sent, codes_of_sent, groups_take}
+use Rattle.m2v_headline.proofs.SentPictures.{bits_of_sent, groups_take}
 
 -- ---- the sequence header
 
@@ -86,7 +83,7 @@ module _ (law : Spelled) (s : Settings) (frames : List (List ℕ)) (passes : Pas
       omega (arith, length-append (coded_all s frames).text (start_code 0xB7), code_length) in
       total_is law s frames passes some few ∙ total ∙ sent
 
-  sizes_sent : (ns : List Numbered) → AreTold s frames ns → sizes (length ns) (map bits_of_piece (pieces (Coded s frames))) ≡ bits_of_sent (Sent s frames)
+  pub sizes_sent : (ns : List Numbered) → AreTold s frames ns → sizes (length ns) (map bits_of_piece (pieces (Coded s frames))) ≡ bits_of_sent (Sent s frames)
   sizes_sent ns told =
       ap (λ (n : ℕ). sizes n (map bits_of_piece (pieces (Coded s frames)))) told.count
       ∙ sizes_of_all law s frames passes some few

@@ -1,23 +1,20 @@
-//! What the pieces of the encoder's stream are, and what they take.
-ghost use Rattle.std.specs.Prelude.{ℕ, ◌≡◌, ◌≤◌, ◌+◌, Bool, List, [], ◌∷◌, ◌++◌, map, length, sum};
+//! What the pieces of the encoder's stream are, and what they take; that the account that is made of them is safe; and the
+//! headline.
+ghost use Rattle.std.specs.Prelude.{ℕ, ◌≡◌, ◌≤◌, ◌+◌, Bool, List, [], ◌∷◌, ◌++◌, map, length, sum, Some};
 ghost use Rattle.std.specs.List.{flat_map};
 ghost use Rattle.m2v_bits.specs.Bits.{packed, start_code};
 ghost use Rattle.m2v_set.specs.declared.settings.Settings.{Settings};
 ghost use Rattle.m2v_set.specs.Rules.{Passes};
 ghost use Rattle.m2v_stream.specs.Streams.{Coded, coded_all};
 ghost use Rattle.m2v_model.specs.Pieces.{pieces};
+ghost use Rattle.m2v_model.specs.Lawful.{Numbered};
 ghost use Rattle.m2v_model.specs.Buffering.{sizes, bits_of_piece, code_bits, codes, first_code};
-<<<<<<< HEAD
+ghost use Rattle.m2v_model.specs.Buffering.{StreamAccount, unsafe_in, exact_delays, other_delays};
+ghost use Rattle.m2v_safe.specs.Sent.{SentPicture, Sent};
 ghost use Rattle.m2v_headline.specs.Texts.{picture_texts, picture_bits, picture_codes};
 ghost use Rattle.m2v_headline.specs.Texts.{code_places, Taken, ends_of};
-=======
-ghost use Rattle.m2v_headline.specs.Texts.{picture_texts, picture_bits, picture_codes, code_places};
-ghost use Rattle.m2v_headline.specs.Texts.{with_end};
-ghost use Rattle.m2v_model.specs.Lawful.{Numbered};
-ghost use Rattle.m2v_model.specs.Buffering.{unsafe_in};
-ghost use Rattle.m2v_headline.specs.Accounts.{AreTold, account_told};
+ghost use Rattle.m2v_headline.specs.Accounts.{AreTold, account_told, delay_in};
 ghost use Rattle.m2v_headline.specs.Laws.{Headline};
->>>>>>> d4be53d7c4441ad989de4f5b775188f96c7f720d
 
 use m2v_spelled::{law_slice_calm, law_slice_reads};
 
@@ -71,11 +68,17 @@ pub fn law_pieces()
 
 /// The account that a verifier makes of these bytes is safe, with pictures that are as many as are coded, the first of which
 /// has the delay of the settings, and behind which the times of their groups go by: each of them is whole in the buffer when
-/// it is removed, and the buffer takes what is held then.
+/// it is removed, and the buffer takes what is held then. Where the others have the delays too with which they are sent, no
+/// delay differs from the exact one of that account.
 pub fn law_account()
     ensures safe { (s : Settings) (frames : List (List ℕ)) (ns : List Numbered) → Passes s
         → 1 ≤ length frames → length frames ≤ 999999 → AreTold s frames ns
         → unsafe_in (account_told s frames ns) ≡ [] }
+    ensures delays { (s : Settings) (frames : List (List ℕ)) (ns : List Numbered) → Passes s
+        → 1 ≤ length frames → length frames ≤ 999999 → AreTold s frames ns
+        → map delay_in ns ≡ map (λ (x : SentPicture). x.delay) (Sent s frames)
+        → (a : StreamAccount) → account_told s frames ns ≡ Some a
+        → other_delays ns (exact_delays (pieces (Coded s frames)) a) ≡ 0 }
 {
     law_slice_calm();
     law_slice_reads();
