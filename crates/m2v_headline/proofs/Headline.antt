@@ -20,10 +20,11 @@ use Rattle.m2v_told.specs.Told.{number_delay, numbers_of}
 use Rattle.m2v_told.proofs.Streams.{stream_told}
 use Rattle.m2v_told.proofs.Account.{tells_numbers, stream_intervals}
 use Rattle.m2v_told.proofs.Lawful.{encoded_lawful}
-use Rattle.m2v_headline.specs.Texts.{picture_bits, with_end}
+use Rattle.m2v_headline.specs.Texts.{picture_bits}
 use Rattle.m2v_headline.specs.Accounts.{AreTold, account_told, delay_in}
 use Rattle.m2v_headline.specs.Laws.{Headline}
 use Rattle.m2v_headline.proofs.Accounts.{pictures_counted}
+use Rattle.m2v_headline.proofs.Ends.{with_end}
 use Rattle.m2v_headline.proofs.SentPictures.{bits_of_sent, groups_take}
 use Rattle.m2v_headline.proofs.ToldAccounts.{all_safe}
 

@@ -13,7 +13,8 @@ use Rattle.m2v_stream.specs.Streams.{Progress, group_coded, book_of}
 use Rattle.m2v_safe.specs.Removals.{coded_of, ledger_of}
 use Rattle.m2v_safe.specs.Sent.{SentPicture, place_at, sent_at, group_sent, groups_sent}
 use Rattle.m2v_tree.proofs.Groups.{MayFollow, AllFollow}
-use Rattle.m2v_headline.specs.Texts.{in_group, in_groups, bits_at, code_at, with_end}
+use Rattle.m2v_headline.specs.Texts.{in_group, in_groups, bits_at, code_at}
+use Rattle.m2v_headline.proofs.Ends.{with_end}
 use Rattle.m2v_headline.proofs.Told.{range_more, maps_range}
 use Rattle.m2v_headline.proofs.Lengths.{picture_length}
 

@@ -25,7 +25,8 @@ use Rattle.m2v_tree.specs.Trees.{sequence_by, groups_of}
 use Rattle.m2v_tree.proofs.Slices.{Spelled}
 use Rattle.m2v_tree.proofs.Follows.{stream_follows}
 use Rattle.m2v_headline.specs.Accounts.{AreTold, account_told}
-use Rattle.m2v_headline.proofs.Accounts.{sizes_of_all, total_is, first_is}
+use Rattle.m2v_headline.proofs.Accounts.{taken_is, total_is, first_is}
+use Rattle.m2v_headline.proofs.Ends.{groups_end}
 use Rattle.m2v_headline.proofs.SentPictures.{bits_of_sent, groups_take}
 
 -- ---- the sequence header
@@ -86,7 +87,8 @@ module _ (law : Spelled) (s : Settings) (frames : List (List ℕ)) (passes : Pas
   pub sizes_sent : (ns : List Numbered) → AreTold s frames ns → sizes (length ns) (map bits_of_piece (pieces (Coded s frames))) ≡ bits_of_sent (Sent s frames)
   sizes_sent ns told =
       ap (λ (n : ℕ). sizes n (map bits_of_piece (pieces (Coded s frames)))) told.count
-      ∙ sizes_of_all law s frames passes some few
+      ∙ taken_is law s frames passes some few
+      ∙ sym (groups_end s (groups_of s frames) (at_start s) (stream_follows s frames passes few))
       ∙ sym (groups_take s (groups_of s frames) (at_start s) (stream_follows s frames passes few))
 
   removals_told : (ns : List Numbered) → AreTold s frames ns
