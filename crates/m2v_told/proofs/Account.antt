@@ -20,7 +20,7 @@ use Rattle.m2v_tree.proofs.Follows.{stream_some}
 use Rattle.m2v_lawful.specs.Own.{own_sequence, FitsScan}
 use Rattle.m2v_lawful.specs.Told.{told_all, IsMade}
 use Rattle.m2v_lawful.proofs.Jobs.{IsFit, group_fits}
-use Rattle.m2v_lawful.proofs.Begins.{Begins, group_begins}
+use Rattle.m2v_lawful.proofs.Begins.{group_begins}
 use Rattle.m2v_safe.specs.Sent.{SentPicture, Sent}
 use Rattle.m2v_told.specs.Told.{Made, job_in, delay_in, numbers_of, TellsNumbers}
 use Rattle.m2v_told.proofs.Good.{are_groups}

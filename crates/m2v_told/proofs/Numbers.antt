@@ -1,15 +1,14 @@
 -- The pictures that the stream tells, numbered.
-use Rattle.std.proofs.Common.{◌≡◌, ℕ, ◌+◌, ◌-◌, Bool, true, false, cond, List, [], ◌∷◌, ◌++◌, map, Option, Some, None, refl, sym, ap, subst, ◌∙◌}
+use Rattle.std.proofs.Common.{◌≡◌, ℕ, ◌+◌, ◌-◌, Bool, true, false, cond, List, [], ◌∷◌, ◌++◌, map, Some, None, refl}
 use Rattle.std.specs.Prelude.{All}
 use Rattle.std.proofs.lemmas.List.Elements.{All-nil, All-cons}
 use Rattle.m2v_set.specs.declared.settings.Settings.{Settings}
 use Rattle.m2v_order.specs.declared.jobs.PictureJob.{PictureJob}
 use Rattle.m2v_preface.specs.Headers.{begins_group, group_from}
-use Rattle.m2v_model.specs.declared.state.Sequence.{Sequence}
 use Rattle.m2v_model.specs.Pictures.{Events, sequence_header, group_header, coded_picture}
 use Rattle.m2v_model.specs.Lawful.{Numbered, numbered}
 use Rattle.m2v_lawful.specs.Own.{own_sequence}
-use Rattle.m2v_lawful.specs.Told.{told, told_all}
+use Rattle.m2v_lawful.specs.Told.{told_all}
 use Rattle.m2v_told.specs.Told.{Made, delay_in, number_delay}
 
 -- numbered pictures are those of jobs, each behind the encoder's sequence header
