@@ -11,19 +11,21 @@ use Rattle.m2v_lawful.specs.Own.{own_sequence}
 use Rattle.m2v_lawful.specs.Told.{told_all, IsMade}
 use Rattle.m2v_safe.specs.Sent.{SentPicture, Sent}
 
--- a job with a picture
+-- a job with a picture, and its parts
 abbrev pub Made : Type 0
 Made = PictureJob × Picture
 
 abbrev pub job_in : Made → PictureJob
 job_in m = m.0
 
-abbrev pub delay_in : Made → ℕ
-delay_in m = m.1.info.vbv_delay
-
 abbrev pub picture_in : Made → Picture
 picture_in m = m.1
 
+-- the vbv_delay that its picture tells
+abbrev pub delay_in : Made → ℕ
+delay_in m = m.1.info.vbv_delay
+
+-- the picture that is numbered, and its vbv_delay
 abbrev pub number_picture : Numbered → Picture
 number_picture n = n.picture
 
