@@ -18,15 +18,14 @@ use Rattle.m2v_model.specs.Buffering.{intervals}
 use Rattle.m2v_tree.specs.Trees.{groups_of, tree_of}
 use Rattle.m2v_tree.proofs.Follows.{stream_some}
 use Rattle.m2v_lawful.specs.Own.{own_sequence, FitsScan}
-use Rattle.m2v_lawful.specs.Told.{told_all, IsMade}
+use Rattle.m2v_lawful.specs.Told.{told_all}
 use Rattle.m2v_lawful.proofs.Jobs.{IsFit, group_fits}
-use Rattle.m2v_lawful.proofs.Begins.{Begins, group_begins}
-use Rattle.m2v_safe.specs.Sent.{SentPicture, Sent}
-use Rattle.m2v_told.specs.Told.{Made, job_in, delay_in, numbers_of, TellsNumbers}
+use Rattle.m2v_lawful.proofs.Begins.{group_begins}
+use Rattle.m2v_told.specs.Told.{Made, job_in, TellsJobs, numbers_of, TellsNumbers}
 use Rattle.m2v_told.proofs.Good.{are_groups}
 use Rattle.m2v_told.proofs.Streams.{stream_told}
 use Rattle.m2v_told.proofs.Times.{stream_times}
-use Rattle.m2v_told.proofs.Numbers.{AreNumbers, numbers_are, own_sequences, own_delays}
+use Rattle.m2v_told.proofs.Numbers.{AreNumbers, numbers_are, own_sequences, own_delays, own_pictures}
 use Rattle.m2v_told.proofs.Intervals.{own_times}
 
 -- ---- the jobs of a stream
@@ -63,14 +62,11 @@ leads s (g ∷ gs) made passes some are e =
 
 -- ---- the pictures of a stream
 
--- they are numbered, as the pictures of jobs with these delays
+-- they are numbered, as the pictures of jobs
 record AreTold (s : Settings) (frames : List (List ℕ)) : Type 0 where
-  made : List Made
-  are : All (IsMade s) made
-  jobs : map job_in made ≡ jobs_in (groups_of s frames)
-  delays : map delay_in made ≡ map (λ (x : SentPicture). x.delay) (Sent s frames)
+  tells : TellsJobs s frames
   first : (tree_of s frames).state.first ≡ Some (own_sequence s)
-  numbers : AreNumbers s made (numbers_of s frames)
+  numbers : AreNumbers s tells.made (numbers_of s frames)
 
 are_told : (s : Settings) (frames : List (List ℕ)) → Passes s → 1 ≤ length frames → length frames ≤ 999999 → AreTold s frames
 are_told s frames passes some few =
@@ -80,10 +76,7 @@ are_told s frames passes some few =
     let numbers : AreNumbers s t.made (all_numbered (told_all s t.made)) =
     subst (λ (made : List Made). AreNumbers s made (all_numbered (told_all s made))) (sym l.is) (numbers_are s l.first l.more l.begins) in
     record {
-      made = t.made;
-      are = t.are;
-      jobs = t.jobs;
-      delays = t.delays;
+      tells = t;
       first = x.first;
       numbers = subst (λ (es : Events). AreNumbers s t.made (all_numbered es)) (sym t.told) numbers;
     }
@@ -94,17 +87,22 @@ none_repeats s = refl
 
 pub tells_numbers : (s : Settings) (frames : List (List ℕ)) → Passes s → 1 ≤ length frames → length frames ≤ 999999 → TellsNumbers s frames
 tells_numbers s frames passes some few =
-    let t = are_told s frames passes some few in
+    let x = are_told s frames passes some few in
+    let made = x.tells.made in
     record {
-      first = t.first;
-      sequences = own_sequences s t.made (numbers_of s frames) t.numbers;
-      delays = own_delays s t.made (numbers_of s frames) t.numbers ∙ t.delays;
+      tells = x.tells;
+      pictures = own_pictures s made (numbers_of s frames) x.numbers;
+      first = x.first;
+      sequences = own_sequences s made (numbers_of s frames) x.numbers;
+      delays = own_delays s made (numbers_of s frames) x.numbers ∙ x.tells.delays;
     }
 
 pub stream_intervals : (s : Settings) (frames : List (List ℕ)) → Passes s → 1 ≤ length frames → length frames ≤ 999999
     → intervals false s.rate_code false (numbers_of s frames) ≡ flat_map (λ (g : Group Samples). intervals_of s g.before g.pictures) (groups_of s frames)
 stream_intervals s frames passes some few =
-    let t = are_told s frames passes some few in
-    own_times s passes t.made (numbers_of s frames) None false (none_repeats s) t.numbers t.are (subst (All (FitsScan s.scan)) (sym t.jobs) (jobs_fit s (groups_of s frames) passes (are_groups s frames passes)))
+    let x = are_told s frames passes some few in
+    let t = x.tells in
+    let fit = subst (All (FitsScan s.scan)) (sym t.jobs) (jobs_fit s (groups_of s frames) passes (are_groups s frames passes)) in
+    own_times s passes t.made (numbers_of s frames) None false (none_repeats s) x.numbers t.are fit
     ∙ ap (intervals_of s None) t.jobs
     ∙ sym (stream_times s frames passes)

@@ -2,7 +2,7 @@
 use Rattle.std.proofs.Common.{◌≡◌, ℕ, zero, suc, ◌+◌, ◌<◌, ◌≤◌, Bool, true, false, inl, inr, List, [], ◌∷◌, ◌++◌, length, map, take, get_or, refl, sym, ap, subst, ◌∙◌, arith, append_assoc}
 use Rattle.std.specs.Prelude.{All}
 use Rattle.std.proofs.lemmas.Bool.{cases_Bool, cond-true, cond-false}
-use Rattle.std.proofs.lemmas.List.{append-nil, length-append, map-append}
+use Rattle.std.proofs.lemmas.List.{length-append, map-append}
 use Rattle.std.proofs.lemmas.List.Elements.{All-nil, All-cons}
 use Rattle.std.proofs.Math.Seq.{take-suc, take-length}
 use Rattle.m2v_plane.specs.Samples.{Samples}
@@ -49,8 +49,7 @@ module _ (s : Settings) (frames : List (List ℕ)) (passes : Passes s) (few : le
   good_from [] earlier is = tt
   good_from (g ∷ later) earlier is =
       let h = placed s frames earlier g later passes few is in
-      let rest = good_from later (earlier ++ g ∷ []) (is ∙ sym (append_assoc earlier (g ∷ []) later)) in
-      (
+      let rest = good_from later (earlier ++ g ∷ []) (is ∙ sym (append_assoc earlier (g ∷ []) later)) in (
         record { book = h.here.book; small = λ ends p lt. delay_small s earlier g ends p passes lt h },
         subst (λ (x : Progress). AreGood s x later) (begun_more s earlier g (at_start s)) rest,
       )

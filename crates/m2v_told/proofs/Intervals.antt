@@ -1,5 +1,5 @@
 -- The times between the removals of the pictures that the stream tells are those of its jobs.
-use Rattle.std.proofs.Common.{◌≡◌, ℕ, ◌+◌, ◌*◌, ◌%◌, Bool, true, false, not, ◌&&◌, ◌||◌, cond, List, [], ◌∷◌, ◌++◌, map, Option, Some, None, refl, sym, ap, subst, ◌∙◌}
+use Rattle.std.proofs.Common.{◌≡◌, ℕ, ◌%◌, Bool, true, false, not, ◌&&◌, ◌||◌, cond, List, [], ◌∷◌, map, Option, Some, None, refl, sym, ap, subst, ◌∙◌}
 use Rattle.std.specs.Prelude.{All, nat_eq}
 use Rattle.std.proofs.lemmas.List.Elements.{All-head, All-tail}
 use Rattle.m2v_set.specs.declared.settings.Settings.{Settings}
@@ -9,11 +9,10 @@ use Rattle.m2v_set.specs.Numbers.{field_time, frame_time, film_time, picture_tim
 use Rattle.m2v_set.specs.Rules.{Passes, is_progressive}
 use Rattle.m2v_set.proofs.Facts.{bounds}
 use Rattle.m2v_order.specs.declared.jobs.PictureJob.{PictureJob}
-use Rattle.m2v_order.specs.Times.{repeats, repeats_last, interval_behind, anchor_after, intervals_of}
+use Rattle.m2v_order.specs.Times.{repeats, repeats_last, interval_behind, intervals_of}
 use Rattle.m2v_preface.specs.Headers.{picture_of, extension_of, sequence_extension_of}
 use Rattle.m2v_model.specs.Lawful.{Numbered}
 use Rattle.m2v_model.specs.Buffering.{time_shown, intervals}
-use Rattle.m2v_model.specs.Buffering as buffering
 use Rattle.m2v_lawful.specs.Own.{FitsScan, own_sequence, ends, IsPictureOf}
 use Rattle.m2v_lawful.specs.Told.{IsMade}
 use Rattle.m2v_told.specs.Told.{Made, job_in}

@@ -1,16 +1,15 @@
 -- The pictures that the stream tells, numbered.
-use Rattle.std.proofs.Common.{◌≡◌, ℕ, ◌+◌, ◌-◌, Bool, true, false, cond, List, [], ◌∷◌, ◌++◌, map, Option, Some, None, refl, sym, ap, subst, ◌∙◌}
+use Rattle.std.proofs.Common.{◌≡◌, ℕ, ◌+◌, ◌-◌, Bool, true, false, cond, List, [], ◌∷◌, ◌++◌, map, Some, None, refl}
 use Rattle.std.specs.Prelude.{All}
 use Rattle.std.proofs.lemmas.List.Elements.{All-nil, All-cons}
 use Rattle.m2v_set.specs.declared.settings.Settings.{Settings}
 use Rattle.m2v_order.specs.declared.jobs.PictureJob.{PictureJob}
 use Rattle.m2v_preface.specs.Headers.{begins_group, group_from}
-use Rattle.m2v_model.specs.declared.state.Sequence.{Sequence}
 use Rattle.m2v_model.specs.Pictures.{Events, sequence_header, group_header, coded_picture}
 use Rattle.m2v_model.specs.Lawful.{Numbered, numbered}
 use Rattle.m2v_lawful.specs.Own.{own_sequence}
-use Rattle.m2v_lawful.specs.Told.{told, told_all}
-use Rattle.m2v_told.specs.Told.{Made, delay_in, number_delay}
+use Rattle.m2v_lawful.specs.Told.{told_all}
+use Rattle.m2v_told.specs.Told.{Made, picture_in, delay_in, number_picture, number_delay}
 
 -- numbered pictures are those of jobs, each behind the encoder's sequence header
 abbrev pub AreNumbers : Settings → List Made → List Numbered → Type 0
@@ -59,3 +58,9 @@ module _ (s : Settings) where
   own_delays [] (n ∷ ns) are = absurd are
   own_delays (m ∷ made) [] are = absurd are
   own_delays (m ∷ made) (n ∷ ns) are = (λ i. (are.0.1 i).info.vbv_delay ∷ own_delays made ns are.1 i)
+
+  pub own_pictures : (made : List Made) (ns : List Numbered) → AreNumbers s made ns → map number_picture ns ≡ map picture_in made
+  own_pictures [] [] are = refl
+  own_pictures [] (n ∷ ns) are = absurd are
+  own_pictures (m ∷ made) [] are = absurd are
+  own_pictures (m ∷ made) (n ∷ ns) are = (λ i. are.0.1 i ∷ own_pictures made ns are.1 i)

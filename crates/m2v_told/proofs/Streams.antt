@@ -1,5 +1,5 @@
 -- What the groups of a stream tell, and the whole stream.
-use Rattle.std.proofs.Common.{◌≡◌, ℕ, zero, suc, ◌+◌, ◌-◌, ◌<◌, ◌≤◌, ◌⊎◌, inl, inr, Bool, true, false, not, ◌&&◌, List, [], ◌∷◌, ◌++◌, length, map, take, get_or, Option, Some, None, refl, sym, ap, subst, ◌∙◌, arith, append_assoc}
+use Rattle.std.proofs.Common.{◌≡◌, ℕ, suc, ◌-◌, ◌≤◌, ◌⊎◌, inl, inr, Bool, true, false, not, ◌&&◌, List, [], ◌∷◌, ◌++◌, length, map, get_or, Option, Some, None, refl, sym, ap, subst, ◌∙◌, arith, append_assoc}
 use Rattle.std.specs.Prelude.{nat_eq, is_some, All}
 use Rattle.std.specs.List.{range_with_len}
 use Rattle.std.proofs.lemmas.Grind.{flat_map-append}
@@ -12,7 +12,7 @@ use Rattle.m2v_set.specs.Rules.{Passes}
 use Rattle.m2v_order.specs.declared.jobs.PictureJob.{PictureJob}
 use Rattle.m2v_order.specs.Groups.{Group}
 use Rattle.m2v_order.specs.Calls.{jobs_in}
-use Rattle.m2v_preface.specs.Headers.{begins_group, sequence_extension_of}
+use Rattle.m2v_preface.specs.Headers.{begins_group}
 use Rattle.m2v_slice.specs.Books.{Book, no_job, job_at}
 use Rattle.m2v_slice.specs.Conditions.{IsBook}
 use Rattle.m2v_stream.specs.Streams.{Progress, at_start, book_of, group_coded}
@@ -22,8 +22,7 @@ use Rattle.m2v_model.specs.declared.state.State.{State}
 use Rattle.m2v_model.specs.States.{at_first}
 use Rattle.m2v_model.specs.Streams.{sequence, ending, after}
 use Rattle.m2v_model.specs.Pictures.{Store, Events, no_frames, closed}
-use Rattle.m2v_model.specs.Decoding.{low_delay_of}
-use Rattle.m2v_tree.specs.Trees.{sequence_by, group_parts, groups_parts, groups_of, state_behind, tree_of}
+use Rattle.m2v_tree.specs.Trees.{sequence_by, group_parts, groups_parts, groups_of, tree_of}
 use Rattle.m2v_tree.specs.States.{state_with, waiting_behind, anchors_behind}
 use Rattle.m2v_tree.proofs.Turns.{IsCounted, none_behind, anchors_end, first_begins}
 use Rattle.m2v_tree.proofs.States.{state_before, first_sequence, next_sequence}
@@ -32,7 +31,7 @@ use Rattle.m2v_shown.proofs.Heads.{Ready}
 use Rattle.m2v_shown.proofs.Views.{true_false}
 use Rattle.m2v_lawful.specs.Told.{told, told_all, IsMade}
 use Rattle.m2v_safe.specs.Removals.{coded_of, ledger_of}
-use Rattle.m2v_safe.specs.Sent.{SentPicture, sent_at, group_sent, groups_sent, Sent}
+use Rattle.m2v_safe.specs.Sent.{SentPicture, sent_at, group_sent, groups_sent}
 use Rattle.m2v_told.specs.Told.{Made, job_in, delay_in, TellsJobs}
 use Rattle.m2v_told.proofs.Runs.{Tells, tells_on, tells_one}
 use Rattle.m2v_told.proofs.Steps.{range_more, delay_from, pictures_told}

@@ -1,7 +1,7 @@
 -- The times behind the pictures of groups, which follow one another as the anchors do.
-use Rattle.std.proofs.Common.{◌≡◌, ℕ, zero, suc, ◌+◌, ◌-◌, ◌<◌, ◌≤◌, Bool, true, inl, inr, cond, List, [], ◌∷◌, ◌++◌, length, map, Option, Some, None, refl, sym, ap, subst, ◌∙◌, arith}
+use Rattle.std.proofs.Common.{◌≡◌, ℕ, zero, suc, ◌-◌, ◌<◌, true, inl, inr, List, [], ◌∷◌, ◌++◌, length, map, Option, Some, None, refl, sym, ap, subst, ◌∙◌, arith}
 use Rattle.std.specs.List.{flat_map}
-use Rattle.std.proofs.lemmas.Bool.{cases_Bool, cond-true, cond-false}
+use Rattle.std.proofs.lemmas.Bool.{cases_Bool}
 use Rattle.std.proofs.lemmas.List.{length-map}
 use Rattle.m2v_plane.specs.Samples.{Samples}
 use Rattle.m2v_plane.specs.Raw.{pad}
@@ -13,7 +13,7 @@ use Rattle.m2v_order.specs.Groups.{Queue, Group, first_of, anchor_before, is_due
 use Rattle.m2v_order.specs.Calls.{jobs_in, last_anchor}
 use Rattle.m2v_order.specs.Times.{interval_behind, anchor_after, intervals_of}
 use Rattle.m2v_order.proofs.Intra.{test_other}
-use Rattle.m2v_order.proofs.Turns.{next_first, turn_jobs, turn_last}
+use Rattle.m2v_order.proofs.Turns.{next_first, turn_last}
 use Rattle.m2v_order.proofs.Queues.{grouped, top_of, due_is, Turn, turn_is, sound_next}
 use Rattle.m2v_stream.specs.Streams.{groups_from, waiting}
 use Rattle.m2v_safe.specs.Removals.{groups_of}
@@ -72,8 +72,7 @@ behind_by s (suc n) q last passes same sound is = elim (cases_Bool (is_due q)) [
       let ok = grouped q.settings pass in
       let due = due_is q now in
       let turn = turn_is q ok sound due in
-      subst (AreBehind last) (sym (from_due n q now))
-      (
+      subst (AreBehind last) (sym (from_due n q now)) (
         before_is q ∙ is,
         behind_by s n (after_group q) (last_anchor last (group_of q).pictures) passes same (sound_next q ok due turn) (sym (next_before s q last pass turn)),
       )

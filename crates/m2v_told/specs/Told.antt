@@ -11,15 +11,23 @@ use Rattle.m2v_lawful.specs.Own.{own_sequence}
 use Rattle.m2v_lawful.specs.Told.{told_all, IsMade}
 use Rattle.m2v_safe.specs.Sent.{SentPicture, Sent}
 
--- a job with a picture
+-- a job with a picture, and its parts
 abbrev pub Made : Type 0
 Made = PictureJob × Picture
 
 abbrev pub job_in : Made → PictureJob
 job_in m = m.0
 
+abbrev pub picture_in : Made → Picture
+picture_in m = m.1
+
+-- the vbv_delay that its picture tells
 abbrev pub delay_in : Made → ℕ
 delay_in m = m.1.info.vbv_delay
+
+-- the picture that is numbered, and its vbv_delay
+abbrev pub number_picture : Numbered → Picture
+number_picture n = n.picture
 
 abbrev pub number_delay : Numbered → ℕ
 number_delay n = n.picture.info.vbv_delay
@@ -37,9 +45,11 @@ pub record TellsJobs (s : Settings) (frames : List (List ℕ)) : Type 0 where
 abbrev pub numbers_of : Settings → List (List ℕ) → List Numbered
 numbers_of s frames = all_numbered (events (tree_of s frames))
 
--- the first sequence header is the encoder's; the numbered pictures stand behind such headers, and have the delays of the
--- pictures that are sent
+-- the first sequence header is the encoder's; the numbered pictures are those of the jobs, stand behind such headers, and
+-- have the delays of the pictures that are sent
 pub record TellsNumbers (s : Settings) (frames : List (List ℕ)) : Type 0 where
+  pub tells : TellsJobs s frames
+  pub pictures : map number_picture (numbers_of s frames) ≡ map picture_in tells.made
   pub first : (tree_of s frames).state.first ≡ Some (own_sequence s)
   pub sequences : All (λ (n : Numbered). n.sequence ≡ own_sequence s) (numbers_of s frames)
   pub delays : map number_delay (numbers_of s frames) ≡ map (λ (x : SentPicture). x.delay) (Sent s frames)
