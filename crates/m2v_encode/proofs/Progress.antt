@@ -24,6 +24,7 @@ use Rattle.m2v_encode.specs.declared.answer.Summary.{Summary}
 use Rattle.m2v_encode.specs.declared.answer.EncodeError.{EncodeError}
 use Rattle.m2v_encode.specs.declared.answer.EncodeError.TheVariants.{Read, Write, ShortFrame, NoFrames, TooManyFrames, Memory}
 use Rattle.m2v_encode.specs.declared.group.Coder.{Coder}
+use Rattle.m2v_headline.proofs.Headline.{headline}
 use Rattle.m2v_encode.specs.Answers.{AreWhole, most_frames, AllCoded, Unended, CutOff, Stops}
 use Rattle.m2v_encode.specs.Groups.{whole_ledger, group_text, group_shown, anchor_behind}
 use Rattle.m2v_encode.specs.Steps.{FrameRead, FrameStops, ReadStops, book_by, GroupCoded, GroupStops, DueCoded, DueStops, EndCoded, EndCut, EndStops, HandedOut, Stands, SoFar}
@@ -437,6 +438,7 @@ module _ {S K N : Type 0} (left : S → Option (List ℕ)) (input_faults : S →
         grown = subst (λ (z : List ℕ). Grows (held o0) z (held o2)) (sym whole) (grows_on far.grown coded.grown);
         shown = subst (λ (z : List ℕ). Grows (kept r0) z (kept r2)) (sym shown) (grows_on far.shown coded.shown);
         numbers = same_summary t.frames _ t.pictures _ t.bytes _ t.stuffing _ count pictures bytes zero_bytes;
+        headline = headline s far.frames passes (omega (arith, some, far.count)) (omega (arith, few, far.count));
       }
     where
       same_summary : (a x b y c z d w : ℕ) → a ≡ x → b ≡ y → c ≡ z → d ≡ w

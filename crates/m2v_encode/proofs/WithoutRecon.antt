@@ -25,6 +25,7 @@ unshown_coded s left held recon t h = record {
   grown = h.grown;
   shown = grows_none _;
   numbers = h.numbers;
+  headline = h.headline;
 }
 
 unshown_begun : (s : Settings) (left held recon : Change) (frames : List (List ℕ)) (part : List ℕ) → Unended s left held recon frames part → Unended s left held unshown frames part

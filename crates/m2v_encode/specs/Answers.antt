@@ -6,6 +6,7 @@ use Rattle.m2v_plane.specs.Raw.{frame_bytes, raw}
 use Rattle.m2v_set.specs.declared.settings.Settings.{Settings}
 use Rattle.m2v_set.specs.Numbers.{dims_of}
 use Rattle.m2v_stream.specs.Streams.{coded_all, Coded, Recon, CodedBegun, ReconBegun}
+use Rattle.m2v_headline.specs.Laws.{Headline}
 use Rattle.m2v_encode.specs.declared.answer.Summary.{Summary}
 use Rattle.m2v_encode.specs.declared.answer.EncodeError.{EncodeError}
 use Rattle.m2v_encode.specs.declared.answer.EncodeError.TheVariants.{Read, Write, ShortFrame, NoFrames, TooManyFrames, Memory}
@@ -27,7 +28,8 @@ numbers_of s frames = record {
   stuffing = (coded_all s frames).zeros / 8;
 }
 
--- The input was whole frames, one at least; the whole stream was written, and recon has the frames that it decodes to.
+-- The input was whole frames, one at least; the whole stream was written, and recon has the frames that it decodes to. The
+-- stream is lawful, and keeps the decoder's buffer.
 pub record AllCoded (s : Settings) (left held recon : Change) (summary : Summary) : Type 0 where
   pub frames : List (List ℕ)
   pub some : 1 ≤ length frames
@@ -38,6 +40,7 @@ pub record AllCoded (s : Settings) (left held recon : Change) (summary : Summary
   pub grown : Grows held.old (Coded s frames) held.new
   pub shown : Grows recon.old (raw (Recon s frames)) recon.new
   pub numbers : summary ≡ numbers_of s frames
+  pub headline : Headline s frames
 
 -- Some whole frames were read and then a part of the next; output and recon have grown by the groups whose next I frame
 -- was read whole. Where no frame was read they are as they were, their counts too.

@@ -20,8 +20,6 @@ use Rattle.m2v_encode.specs.declared.answer.EncodeError.{EncodeError}
 use Rattle.m2v_encode.specs.declared.answer.EncodeError.TheVariants as errors
 use Rattle.m2v_encode.specs.Answers.{AllCoded, Stops, Unended, CutOff, EndedShort, WasEmpty, WentOn, most_frames}
 use Rattle.m2v_stream.specs.Streams.{Recon, ReconBegun}
-use Rattle.m2v_headline.specs.Laws.{Headline}
-use Rattle.m2v_headline.proofs.Headline.{headline}
 use Rattle.m2v_tool.specs.declared.encode.EncodeOutcome.{EncodeOutcome}
 use Rattle.m2v_tool.specs.declared.encode.EncodeOutcome.TheVariants.{Coded, Unfit as NotFit, Unopened, Stopped}
 use Rattle.m2v_tool.specs.Endings.{Told, whole, cut, unfit_ending}
@@ -75,10 +73,6 @@ some_bytes s passes =
     let size = (bounds s passes).size in
     let some : 0 < s.width * s.height = mul-pos (omega (arith, size.wide)) (omega (arith, size.tall, least_step s.scan)) in
     omega arith
-
--- what was written decodes to its frames, is lawful, and keeps the buffer
-pub keeps : (s : Settings) (left held recon : Change) (summary : Summary) → Passes s → (c : AllCoded s left held recon summary) → Headline s c.frames
-keeps s left held recon summary passes c = headline s c.frames passes c.some c.most
 
 -- ---- what was told
 
@@ -208,6 +202,7 @@ module _ {N : Type 0} (held : N → Option (List ℕ)) (faults : N → ℕ) (n0 
     grown = c.grown;
     shown = grown_from (raw (Recon s c.frames)) c.shown;
     numbers = c.numbers;
+    headline = c.headline;
   }
 
   unended_from : (s : Settings) (left output : Change) (frames : List (List ℕ)) (part : List ℕ) → Unended s left output (change held faults n1 n2) frames part

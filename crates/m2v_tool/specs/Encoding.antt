@@ -11,7 +11,6 @@ use Rattle.m2v_encode.specs.declared.answer.Summary.{Summary}
 use Rattle.m2v_encode.specs.declared.answer.EncodeError.{EncodeError}
 use Rattle.m2v_encode.specs.declared.answer.EncodeError.TheVariants as errors
 use Rattle.m2v_encode.specs.Answers.{AllCoded, Stops, most_frames, unshown}
-use Rattle.m2v_headline.specs.Laws.{Headline}
 use Rattle.m2v_tool.specs.declared.encode.EncodeOutcome.{EncodeOutcome}
 use Rattle.m2v_tool.specs.declared.encode.EncodeOutcome.TheVariants.{Coded, Unfit as NotFit, Unopened, Stopped}
 use Rattle.m2v_tool.specs.Endings.{Ending, read_fault, write_fault, no_memory, unfit_ending, short_frame, no_frames, too_many_frames}
@@ -46,12 +45,11 @@ Shut calls.Memory k =
 
 -- ---- outcomes
 
--- The settings pass, and the input was coded; recon, where a name is given, is open under it. What output has grown by
--- decodes to the frames by which recon has grown, and to nothing else; it is lawful, and keeps the decoder's buffer.
+-- The settings pass, and the input was coded; recon, where a name is given, is open under it and has grown by what the
+-- stream decodes to.
 pub record EncodeDone (m : Meant) (k : Work) (summary : Summary) : Type 0 where
   pub passes : Passes m.settings
   pub coded : AllCoded m.settings k.input k.output (recon_by m.recon k.recon) summary
-  pub headline : Headline m.settings coded.frames
   pub stands : Stands m.recon k
 
 -- The settings pass, and coding stopped.

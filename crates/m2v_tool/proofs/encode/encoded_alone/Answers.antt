@@ -1,16 +1,10 @@
 use Rattle.std.proofs.Common.{refl}
 use Rattle.m2v_tool.specs.Encoding.{EncodeComes}
-use Rattle.m2v_tool.proofs.EncodingLaws.{keeps}
 use Rattle.m2v_tool.proofs.encode.encoded_alone.Goals as goal
 
 pub returns-in-Ok-clause-comes : goal.returns-in-Ok-clause-comes
 unfolding EncodeComes
-returns-in-Ok-clause-comes g c = record {
-  passes = c.settings-passes.ensures.passes;
-  coded = c.in-Ok.ensures.ok;
-  headline = keeps c.args.passed.now _ _ _ _ c.settings-passes.ensures.passes c.in-Ok.ensures.ok;
-  stands = refl;
-}
+returns-in-Ok-clause-comes g c = record { passes = c.settings-passes.ensures.passes; coded = c.in-Ok.ensures.ok; stands = refl }
 
 pub returns-in-Err-clause-comes : goal.returns-in-Err-clause-comes
 unfolding EncodeComes

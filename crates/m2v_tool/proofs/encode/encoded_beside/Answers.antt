@@ -1,7 +1,7 @@
 use Rattle.std.proofs.Common.{◌≡◌, ℕ, List, Option, IfSome, Err, refl, ap, sym, subst}
 use Rattle.m2v_port.specs.Ends.{change}
 use Rattle.m2v_tool.specs.Encoding.{EncodeComes}
-use Rattle.m2v_tool.proofs.EncodingLaws.{coded_from, stops_from, shut_of, keeps}
+use Rattle.m2v_tool.proofs.EncodingLaws.{coded_from, stops_from, shut_of}
 use Rattle.m2v_tool.proofs.encode.encoded_beside.Goals as goal
 
 pub returns-in-Err-clause-comes : goal.returns-in-Err-clause-comes
@@ -23,12 +23,10 @@ pub returns-in-Ok-encode_to-clause-comes : goal.returns-in-Ok-encode_to-clause-c
 unfolding EncodeComes
 returns-in-Ok-encode_to-clause-comes g c =
     let stays = c.encode_to.ensures.recon in
-    let coded = coded_from g.N.Sink.held g.N.Sink.faults c.args.recon.now c.open.new.self c.encode_to.new.recon c.open.ensures.same c.open.ensures.faults
-    c.args.passed.now _ _ _ c.in-Ok-encode_to.ensures.ok in
     record {
       passes = c.settings-passes.ensures.passes;
-      coded = coded;
-      headline = keeps c.args.passed.now _ _ _ _ c.settings-passes.ensures.passes coded;
+      coded = coded_from g.N.Sink.held g.N.Sink.faults c.args.recon.now c.open.new.self c.encode_to.new.recon c.open.ensures.same c.open.ensures.faults
+          c.args.passed.now _ _ _ c.in-Ok-encode_to.ensures.ok;
       stands = (stays.is_ready, subst (λ (o : Option (List ℕ)). IfSome o (λ told. told ≡ c.args.name.now)) (sym stays.keeps_name) c.in-Ok.ensures.name);
     }
 
