@@ -1,2 +1,3 @@
 pub mod FrameLaws
 pub mod SourceLaws
+pub mod CodedLaws
