@@ -1,8 +1,8 @@
 -- The source of the frames of a seed, over plain numbers.
-use Rattle.std.proofs.Common.{◌≡◌, ℕ, zero, suc, ◌+◌, ◌-◌, ◌*◌, ◌/◌, ◌%◌, ◌^◌, ◌<◌, ◌≤◌, Bool, true, false, refl, ap, sym, ◌∙◌, arith, nat_lt, cond, min}
+use Rattle.std.proofs.Common.{◌≡◌, ℕ, suc, ◌+◌, ◌-◌, ◌*◌, ◌/◌, ◌%◌, ◌^◌, ◌<◌, ◌≤◌, refl, ap, sym, ◌∙◌, arith, cond}
 use Rattle.std.proofs.lemmas.Bool.{lt-ltb, le-ltb}
 use Rattle.m2v_make.specs.Frames.{state_behind, luma, number_at}
-use Rattle.m2v_make.specs.Source.{all_size, frame_size, chroma_byte, byte_in, byte_at, draws_before}
+use Rattle.m2v_make.specs.Source.{chroma_byte, byte_in, byte_at, draws_before}
 
 pub draws_none : (seed : ℕ) → seed ≡ state_behind seed (draws_before 0)
 unfolding draws_before state_behind

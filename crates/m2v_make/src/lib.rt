@@ -6,5 +6,5 @@ mod ends;
 mod generated;
 mod whole;
 
-pub use answer::{MakeError, Made};
+pub use answer::{Made, MakeError};
 pub use whole::make;

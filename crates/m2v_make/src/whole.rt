@@ -8,7 +8,7 @@ ghost use Rattle.m2v_encode.specs.Answers.{numbers_of};
 ghost use Rattle.m2v_make.specs.Frames.{generated};
 ghost use Rattle.m2v_make.specs.Making.{make_settings, stream_of, Makes, MakeStops};
 
-use crate::answer::{MakeError, Made};
+use crate::answer::{Made, MakeError};
 use crate::ends::{Lent, Unwanted};
 use crate::generated::Generated;
 use m2v_board::Gate;
