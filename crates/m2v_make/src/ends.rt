@@ -1,5 +1,5 @@
 //! Where the stream is read again from, and where its frames go to.
-ghost use Rattle.std.specs.Prelude.{◌≡◌, List, ℕ, length, take, min, Some, None, true, ◌++◌, IfOk, Ok};
+ghost use Rattle.std.specs.Prelude.{◌≡◌, Some, None, true};
 
 use m2v_port::{PortError, Sink, Source};
 use std::marker::Model;

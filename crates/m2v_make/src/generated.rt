@@ -1,5 +1,5 @@
 //! The frames of a seed as raw bytes, made as they are asked for.
-ghost use Rattle.std.specs.Prelude.{◌≡◌, ◌<◌, ◌≤◌, ◌+◌, ◌*◌, ◌^◌, ◌/◌, ◌%◌, ◌-◌, length, take, IfOk, Ok, min, Some};
+ghost use Rattle.std.specs.Prelude.{◌≡◌, ◌<◌, ◌+◌, ◌*◌, ◌/◌, ◌%◌, ◌^◌, Some};
 ghost use Rattle.m2v_make.specs.Source.{all_size, chroma_byte, byte_at, left_of};
 
 use m2v_port::{PortError, Source};
@@ -28,7 +28,8 @@ fn drawn(state: u64) -> u64
 fn luma_byte(t: u32, k: u32, state: u64) -> u8
     requires frame { t < 48 }
     requires place { k < 25344 }
-    ensures value { result ≡ (3 * (k % 176) + 2 * (k / 176) + 5 * t) % 128 + 32 + state / 2 ^ 56 / 16 }
+    ensures value { result ≡ (3 * (k % 176) + 2 * (k / 176) + 5 * t) % 128 + 32
+        + state / 2 ^ 56 / 16 }
 {
     let draw = (state / (1 << 56)) as u32;
     ((3 * (k % 176) + 2 * (k / 176) + 5 * t) % 128 + 32 + draw / 16) as u8
@@ -49,7 +50,7 @@ fn chroma_byte(t: u32, k: u32) -> u8
 
 /// A source of the frames of a seed. No read of it fails.
 #[derive(Drop)]
-pub struct Generated {
+pub(crate) struct Generated {
     seed: u64,
     state: u64,
     place: u32,
@@ -69,7 +70,7 @@ impl Model for Generated {
 
 impl Generated {
     /// A source of which all bytes are left.
-    pub fn new(seed: u64) -> Generated
+    pub(crate) fn new(seed: u64) -> Generated
         ensures { result ≡ record { seed = seed; place = 0 } }
     {
         Generated {
