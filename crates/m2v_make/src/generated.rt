@@ -65,7 +65,8 @@ impl Model for Generated {
 
     ghost view = { λ g. record { seed = g.seed; place = g.place } };
 
-    ghost invariant = { λ g. (g.place ≤ all_size) × (g.state ≡ state_behind g.seed (draws_before g.place)) };
+    ghost invariant = { λ g. (g.place ≤ all_size)
+        × (g.state ≡ state_behind g.seed (draws_before g.place)) };
 }
 
 impl Generated {
