@@ -1,0 +1,115 @@
+-- The bytes of the frames of a seed, by their places.
+use Rattle.std.proofs.Common.{◌≡◌, ℕ, zero, suc, ◌+◌, ◌-◌, ◌*◌, ◌/◌, ◌%◌, ◌<◌, ◌≤◌, List, [], ◌∷◌, ◌++◌, length, get_or, slice_set, take, drop, map, refl, ap, sym, ◌∙◌, arith, cond, zero-mul, inl, inr, append_assoc}
+use Rattle.std.proofs.Math.Nat.{suc-mul}
+use Rattle.std.proofs.lemmas.Bool.{cases_lt, lt-ltb, le-ltb}
+use Rattle.std.proofs.lemmas.Nat.{mod_below}
+use Rattle.std.specs.List.{range_with_len}
+use Rattle.std.proofs.lemmas.List.{get_or-append_right, get_or_append_left, length-append, drop_more, drop_all, take_more_set}
+use Rattle.std.proofs.lemmas.List.FromFn.{get_or-map-range_with_len}
+use Rattle.m2v_plane.specs.Samples.{plane_by}
+use Rattle.m2v_plane.specs.Raw.{raw}
+use Rattle.m2v_plane.proofs.RawVideo.{length-plane_by}
+use Rattle.m2v_make.specs.Frames.{luma, cb, cr, frame, generated}
+use Rattle.m2v_make.specs.Source.{Generation, frame_size, all_size, cb_byte, cr_byte, chroma_byte, byte_in, byte_at, left_of}
+
+-- the bytes of frames of one size
+pub frames_length : (f : ℕ → List ℕ) (m : ℕ) → ((t : ℕ) → length (f t) ≡ m) → (n a : ℕ) → length (raw (map f (range_with_len a n))) ≡ n * m
+frames_length f m len zero a = sym (zero-mul m)
+frames_length f m len (suc n) a =
+    omega (arith, length-append (f a) (raw (map f (range_with_len (a + 1) n))), len a, frames_length f m len n (a + 1), suc-mul n m)
+
+-- one byte of them
+pub frames_at : (f : ℕ → List ℕ) (m : ℕ) → ((t : ℕ) → length (f t) ≡ m) → (n a i k j : ℕ) → i < n → k < m → j ≡ i * m + k
+    → get_or (raw (map f (range_with_len a n))) j 0 ≡ get_or (f (a + i)) k 0
+frames_at f m len zero a i k j lt small is = absurd (omega arith)
+frames_at f m len (suc n) a zero k j lt small is =
+    let here : j ≡ k = omega (arith, is, zero-mul m) in
+    get_or_append_left (f a) (raw (map f (range_with_len (a + 1) n))) 0 j (omega (arith, len a, here))
+    ∙ ap (λ x. get_or (f a) x 0) here ∙ ap (λ t. get_or (f t) k 0) (omega arith)
+frames_at f m len (suc n) a (suc i) k j lt small is =
+    get_or-append_right (f a) (raw (map f (range_with_len (a + 1) n))) m j 0 (len a) (omega (arith, is, suc-mul i m))
+    ∙ frames_at f m len n (a + 1) i k (j - m) (omega arith) small (omega (arith, is, suc-mul i m))
+    ∙ ap (λ t. get_or (f t) k 0) (omega arith)
+
+-- a sample of a plane by its place
+pub plane_get : (lines columns : ℕ) (at : ℕ → ℕ → ℕ) (k : ℕ) → k < lines * columns → get_or (plane_by lines columns at) k 0 ≡ at (k / columns) (k % columns)
+unfolding plane_by
+plane_get lines columns at k lt = get_or-map-range_with_len (λ (k : ℕ). at (k / columns) (k % columns)) 0 (lines * columns) k k 0 lt (omega arith)
+
+-- ---- the frames of a seed
+
+pub frame_length : (seed t : ℕ) → length (frame seed t) ≡ frame_size
+unfolding frame
+frame_length seed t =
+    let y = plane_by 144 176 (luma seed t) in
+    let blue = plane_by 72 88 (cb t) in
+    let red = plane_by 72 88 (cr t) in
+    omega (arith, length-append y (blue ++ red), length-append blue red, length-plane_by 144 176 (luma seed t), length-plane_by 72 88 (cb t), length-plane_by 72 88 (cr t))
+
+chroma_get : (t k : ℕ) → k < 12672 → get_or (plane_by 72 88 (cb t) ++ plane_by 72 88 (cr t)) k 0 ≡ chroma_byte t k
+unfolding chroma_byte
+chroma_get t k lt =
+    let blue = plane_by 72 88 (cb t) in
+    let red = plane_by 72 88 (cr t) in
+    elim (cases_lt k 6336) [
+      | inl below ↦
+          get_or_append_left blue red 0 k (omega (arith, length-plane_by 72 88 (cb t))) ∙ plane_get 72 88 (cb t) k below
+          ∙ sym (ap (λ b. cond b (cb_byte t k) (cr_byte t (k - 6336))) (lt-ltb k 6336 below))
+      | inr above ↦
+          get_or-append_right blue red 6336 k 0 (length-plane_by 72 88 (cb t)) above ∙ plane_get 72 88 (cr t) (k - 6336) (omega arith)
+          ∙ sym (ap (λ b. cond b (cb_byte t k) (cr_byte t (k - 6336))) (le-ltb k 6336 above))
+    ]
+
+pub frame_get : (seed t k : ℕ) → k < frame_size → get_or (frame seed t) k 0 ≡ byte_in seed t k
+unfolding frame byte_in
+frame_get seed t k lt =
+    let y = plane_by 144 176 (luma seed t) in
+    let others = plane_by 72 88 (cb t) ++ plane_by 72 88 (cr t) in
+    elim (cases_lt k 25344) [
+      | inl below ↦
+          get_or_append_left y others 0 k (omega (arith, length-plane_by 144 176 (luma seed t))) ∙ plane_get 144 176 (luma seed t) k below
+          ∙ sym (ap (λ b. cond b (luma seed t (k / 176) (k % 176)) (chroma_byte t (k - 25344))) (lt-ltb k 25344 below))
+      | inr above ↦
+          get_or-append_right y others 25344 k 0 (length-plane_by 144 176 (luma seed t)) above ∙ chroma_get t (k - 25344) (omega arith)
+          ∙ sym (ap (λ b. cond b (luma seed t (k / 176) (k % 176)) (chroma_byte t (k - 25344))) (le-ltb k 25344 above))
+    ]
+
+pub all_length : (seed : ℕ) → length (raw (generated seed)) ≡ all_size
+unfolding generated
+all_length seed = frames_length (frame seed) frame_size (frame_length seed) 48 0
+
+pub all_at : (seed p : ℕ) → p < all_size → get_or (raw (generated seed)) p 0 ≡ byte_at seed p
+unfolding generated byte_at
+all_at seed p lt =
+    let small : p % frame_size < frame_size = mod_below p frame_size (omega arith) in
+    frames_at (frame seed) frame_size (frame_length seed) 48 0 (p / frame_size) (p % frame_size) p (omega arith) small (omega arith)
+    ∙ ap (λ t. get_or (frame seed t) (p % frame_size) 0) (omega arith) ∙ frame_get seed (p / frame_size) (p % frame_size) small
+
+-- ---- what a source has left
+
+abbrev pub next_of : Generation → Generation
+next_of g = record g { place = g.place + 1 }
+
+pub left_more : (g : Generation) → g.place < all_size → left_of g ≡ byte_at g.seed g.place ∷ left_of (next_of g)
+unfolding left_of
+left_more g lt =
+    let bytes = raw (generated g.seed) in
+    drop_more bytes g.place 0 (omega (arith, all_length g.seed))
+    ∙ ap (λ x. x ∷ drop (g.place + 1) bytes) (all_at g.seed g.place lt)
+
+pub left_none : (g : Generation) → all_size ≤ g.place → left_of g ≡ []
+unfolding left_of
+left_none g le = drop_all g.place (raw (generated g.seed)) (omega (arith, all_length g.seed))
+
+pub left_all : (seed : ℕ) → left_of (record { seed = seed; place = 0 }) ≡ raw (generated seed)
+unfolding left_of
+left_all seed = refl
+
+-- one byte more in the buffer
+pub taken_more : (all buf : List ℕ) (at : ℕ) (g : Generation) → all ≡ take at buf ++ left_of g → at < length buf → g.place < all_size
+    → all ≡ take (at + 1) (slice_set buf at (byte_at g.seed g.place)) ++ left_of (next_of g)
+taken_more all buf at g is lt more =
+    let x = byte_at g.seed g.place in
+    is ∙ ap (λ xs. take at buf ++ xs) (left_more g more)
+    ∙ sym (append_assoc (take at buf) (x ∷ []) (left_of (next_of g)))
+    ∙ ap (λ xs. xs ++ left_of (next_of g)) (sym (take_more_set buf at x lt))

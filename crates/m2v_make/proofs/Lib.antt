@@ -1,0 +1,4 @@
+pub mod FrameLaws
+pub mod SourceLaws
+pub mod CodedLaws
+pub mod SettingsLaws
