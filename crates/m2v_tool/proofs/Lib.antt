@@ -6,4 +6,5 @@ pub mod CodingLaws
 pub mod DecodingLaws
 pub mod CheckingLaws
 pub mod EncodingLaws
+pub mod MakingLaws
 pub mod RunLaws

@@ -14,6 +14,7 @@ use Rattle.m2v_tool.specs.EncodeWords.{words_of}
 use Rattle.m2v_tool.specs.Encoding.{EncodeComes, EncodeKeeps, encode_ending}
 use Rattle.m2v_tool.specs.Decoding.{DecodeComes, DecodeKeeps, decode_ending}
 use Rattle.m2v_tool.specs.Checking.{CheckComes, CheckKeeps, check_ending}
+use Rattle.m2v_tool.specs.Making.{MakeComes, MakeKeeps, make_ending}
 
 -- When each outcome comes, and what stands then: words that mean no command are refused, and else comes what their
 -- command gives. Where memory ran out before the words were read, nothing else is looked at.
@@ -29,6 +30,9 @@ Comes words k (outcomes.Decode o) =
     Means words commands.Decode × DecodeComes k.input k.output o × k.recon.Unchanged
 Comes words k (outcomes.Check o) =
     Means words commands.Check × CheckComes k.input o × k.output.Unchanged × k.recon.Unchanged
+Comes words k (outcomes.Make o) =
+    (seed : ℕ) × Means words (commands.Make seed) × MakeComes seed k.output o
+    × k.input.Unchanged × k.recon.Unchanged
 
 -- the status and the line of each outcome
 unfoldable pub ending_of : Outcome → Ending
@@ -38,6 +42,7 @@ ending_of (outcomes.Flat o) = flat_ending o
 ending_of (outcomes.Encode o) = encode_ending o
 ending_of (outcomes.Decode o) = decode_ending o
 ending_of (outcomes.Check o) = check_ending o
+ending_of (outcomes.Make o) = make_ending o
 
 -- what is answered to a command
 abbrev pub Keeps : Command → Run → Type 0
@@ -45,6 +50,7 @@ Keeps (commands.Flat w) r = FlatKeeps w r
 Keeps (commands.Encode w) r = EncodeKeeps (words_of w) r
 Keeps commands.Decode r = DecodeKeeps r
 Keeps commands.Check r = CheckKeeps r
+Keeps (commands.Make seed) r = MakeKeeps r
 
 -- the outcome that came, and what was told of it
 pub record Ran (r : Run) : Type 0 where

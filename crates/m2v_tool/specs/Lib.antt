@@ -7,4 +7,5 @@ pub mod Coding
 pub mod Decoding
 pub mod Checking
 pub mod Encoding
+pub mod Making
 pub mod Commands

@@ -8,6 +8,7 @@ use crate::check::{CheckOutcome, check_words};
 use crate::decode::{DecodeOutcome, decode_words};
 use crate::encode::{EncodeOutcome, EncodeWords, encode_words};
 use crate::flat::{FlatOutcome, FlatWords, flat_words};
+use crate::make::{MakeOutcome, make_words};
 use crate::report::{Report, no_memory, usage};
 use std::alloc::{AllocError, Global};
 
@@ -22,6 +23,8 @@ pub enum Command {
     Decode,
     /// A stream is judged.
     Check,
+    /// The stream of a seed is made.
+    Make(u64),
 }
 
 /// What came of the words.
@@ -39,6 +42,8 @@ pub enum Outcome {
     Decode(DecodeOutcome),
     /// What came of `check`.
     Check(CheckOutcome),
+    /// What came of `make`.
+    Make(MakeOutcome),
 }
 
 impl Outcome {
@@ -54,6 +59,7 @@ impl Outcome {
             Outcome::Encode(outcome) => outcome.report(alloc),
             Outcome::Decode(outcome) => outcome.report(alloc),
             Outcome::Check(outcome) => outcome.report(alloc),
+            Outcome::Make(outcome) => outcome.report(alloc),
         }
     }
 }
@@ -81,6 +87,10 @@ fn meant_by(alloc: Global, name: &str, others: &[String]) -> Result<Option<Comma
             let taken = check_words(alloc, others)?;
             Ok(taken.then_some(Command::Check))
         }
+        "make" => match make_words(alloc, others)? {
+            Some(seed) => Ok(Some(Command::Make(seed))),
+            None => Ok(None),
+        },
         _ => Ok(None),
     }
 }

@@ -6,6 +6,7 @@ mod command;
 mod decode;
 mod encode;
 mod flat;
+mod make;
 mod report;
 #[cfg(test)]
 mod tests;

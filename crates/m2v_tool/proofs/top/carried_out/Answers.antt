@@ -34,3 +34,9 @@ unfolding Comes
 returns-in-Ok-Some-Encode-clause-comes g c =
     let read = c.in-Ok-Some-Encode in
     (_, means_of _ _ _ _ read.field-0-is read.field-0-0-is read.ensures.found, c.encoded.ensures.comes)
+
+pub returns-in-Ok-Some-Make-clause-comes : goal.returns-in-Ok-Some-Make-clause-comes
+unfolding Comes
+returns-in-Ok-Some-Make-clause-comes g c =
+    let read = c.in-Ok-Some-Make in
+    (_, means_of _ _ _ _ read.field-0-is read.field-0-0-is read.ensures.found, c.made.ensures.comes, refl, refl)

@@ -1,0 +1,86 @@
+-- What `make` does: its words, which outcome comes, and what is answered.
+use Rattle.std.specs.Prelude.{ℕ, ◌≡◌, ◌⊎◌, true, false, List, [], ◌∷◌, Option, Some, None, codes, option_map, option_and_then, unwrap_or, if◌then◌else◌}
+use Rattle.std.specs.Str.Parse.{digits_value, without_leading_plus}
+use Rattle.clap.specs.ValueTests.{accepts}
+use Rattle.clap.specs.Walk.{Row, Rule, Text, one_of}
+use Rattle.clap.specs.Simple.{App, new_rule}
+use Rattle.clap.specs.declared.builder.value_parser.ValueParser.{ValueParser}
+use Rattle.clap.specs.declared.builder.value_parser.ValueParser.TheVariants as parsers
+use Rattle.m2v_port.specs.Ends.{Change}
+use Rattle.m2v_make.specs.declared.answer.Made.{Made}
+use Rattle.m2v_make.specs.declared.answer.MakeError.{MakeError}
+use Rattle.m2v_make.specs.declared.answer.MakeError.TheVariants as errors
+use Rattle.m2v_make.specs.Making.{Makes, MakeStops}
+use Rattle.m2v_tool.specs.declared.make.MakeOutcome.{MakeOutcome}
+use Rattle.m2v_tool.specs.declared.make.MakeOutcome.TheVariants.{Done, Stopped}
+use Rattle.m2v_tool.specs.Simple.{simple, taken}
+use Rattle.m2v_tool.specs.Endings.{Ending, write_fault, no_memory}
+use Rattle.m2v_tool.specs.Runs.{Run, Succeeds}
+
+-- ---- words
+
+-- numbers that fit 64 bits
+abbrev pub u64_parser : ValueParser
+u64_parser = parsers.Unsigned 0 18446744073709551615
+
+-- the word behind `make`: a seed
+abbrev pub seed_word : Rule
+seed_word = record (new_rule (codes "SEED")) { parser = Some u64_parser; required = true }
+
+abbrev pub make_app : App
+make_app = simple (codes "make") (seed_word ∷ [])
+
+-- the number that a text writes, a plus before it or not, where it fits 64 bits
+unfoldable pub u64_of : Text → Option ℕ
+u64_of text =
+    if accepts false u64_parser text
+    then Some (digits_value 10 (without_leading_plus text)) else None
+
+-- the seed that was given: `clap` takes no words without it
+unfoldable pub seed_in : List Row → ℕ
+seed_in rows = unwrap_or (option_and_then u64_of (one_of (codes "SEED") rows)) 0
+
+-- what the words behind `make` mean, where `clap` takes them
+unfoldable pub make_meant : List Text → Option ℕ
+make_meant words = option_map seed_in (taken make_app words)
+
+-- ---- outcomes
+
+-- When each outcome of `make` comes, and what stands then.
+unfoldable pub MakeComes : ℕ → Change → MakeOutcome → Type 0
+MakeComes seed held (Done own made) = (own ≡ seed) × Makes seed held made
+MakeComes seed held (Stopped e) = MakeStops seed held e
+
+-- ---- statuses and lines
+
+-- of a stream with these numbers
+unfoldable pub made_ending : ℕ → Made → Ending
+made_ending seed m = record {
+  status = 0;
+  texts = codes "make seed " ∷ codes " frames 48 bytes " ∷ codes " stuffing "
+      ∷ codes " low " ∷ codes " high " ∷ codes " delays " ∷ [];
+  numbers = seed ∷ m.bytes ∷ m.stuffing ∷ m.low ∷ m.high ∷ m.delays ∷ [];
+}
+
+-- of a stream that wasn't made
+unfoldable pub making_stopped : MakeError → Ending
+making_stopped errors.Write = write_fault
+making_stopped errors.Memory = no_memory
+
+-- of each outcome
+unfoldable pub make_ending : MakeOutcome → Ending
+make_ending (Done seed made) = made_ending seed made
+make_ending (Stopped e) = making_stopped e
+
+-- ---- answers
+
+-- The status that `make` gives: success, a write fault where the count of output or report rose, or want of memory.
+pub data MakeAnswer (r : Run) : Type 0 where
+  ok : r.status ≡ 0 → MakeAnswer r
+  write : r.output.Failed ⊎ r.report.Failed → r.status ≡ 8 → MakeAnswer r
+  memory : r.status ≡ 12 → MakeAnswer r
+
+-- What is answered to `make`: one of these; and a stream is made where neither count rose, but for want of memory.
+pub record MakeKeeps (r : Run) : Type 0 where
+  pub answer : MakeAnswer r
+  pub made : (r.output.Failed → ⊥) → (r.report.Failed → ⊥) → Succeeds r
