@@ -1,16 +1,16 @@
 -- The pictures of the flat stream, numbered, break no rule.
-use Rattle.std.proofs.Common.{◌≡◌, ℕ, zero, suc, ◌+◌, ◌-◌, ◌%◌, ◌<◌, ◌≤◌, Bool, true, false, not, List, [], ◌∷◌, ◌++◌, length, map, Some, refl, sym, ap, ◌∙◌, arith, ⊎_elim}
-use Rattle.std.specs.Prelude.{All, filter, nat_eq}
+use Rattle.std.proofs.Common.{◌≡◌, ℕ, zero, suc, ◌+◌, ◌-◌, ◌%◌, ◌<◌, ◌≤◌, Bool, true, false, List, [], ◌∷◌, length, map, Some, refl, ap, ◌∙◌, arith, ⊎_elim}
+use Rattle.std.specs.Prelude.{All}
 use Rattle.std.specs.List.{flat_map}
 use Rattle.std.proofs.lemmas.Bool.{eq-eqb, ne_eqb, cases_eq}
 use Rattle.std.proofs.lemmas.List.Elements.{All-nil, All-cons, All-head, All-tail}
-use Rattle.m2v_order.specs.Display.{is_b, anchors, b_after, from_anchor, Order}
+use Rattle.m2v_order.specs.Display.{anchors, b_after, from_anchor, Order}
 use Rattle.m2v_flat.specs.declared.settings.FlatSettings.{FlatSettings}
 use Rattle.m2v_flat.specs.Tree.{sequence_of}
 use Rattle.m2v_flat.proofs.Orders.{IsAnchor}
-use Rattle.m2v_model.specs.Pictures.{coded_picture, Events}
+use Rattle.m2v_model.specs.Pictures.{coded_picture}
 use Rattle.m2v_model.specs.Lawful.{Numbered, numbered, horizontal_rule, vertical_rule, intra_rule, frames_of_group, display_place, place_in_group, reference_rule, crowd_rule, repeat_rule, progressive_rule, precision_rule, picture_breaches}
-use Rattle.m2v_flat_lawful.specs.Told.{decoded, decoded_from, counted, counted_from, intra_from}
+use Rattle.m2v_flat_lawful.specs.Told.{decoded_from, counted, counted_from, intra_from}
 use Rattle.m2v_flat_lawful.proofs.Sequences.{judge_none, most_none}
 
 -- ---- the pictures, numbered

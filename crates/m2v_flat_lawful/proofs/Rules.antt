@@ -1,5 +1,5 @@
 -- What the flat stream tells breaks no rule.
-use Rattle.std.proofs.Common.{◌≡◌, ℕ, ◌+◌, Bool, not, List, [], ◌∷◌, ◌++◌, map, Some, refl, ap, ◌∙◌}
+use Rattle.std.proofs.Common.{◌≡◌, ℕ, ◌+◌, Bool, not, List, [], ◌∷◌, ◌++◌, map, refl, ap, ◌∙◌}
 use Rattle.std.specs.List.{flat_map}
 use Rattle.m2v_flat.specs.declared.settings.FlatSettings.{FlatSettings}
 use Rattle.m2v_flat.specs.Answers.{HasPassed}

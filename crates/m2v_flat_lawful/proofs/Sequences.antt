@@ -1,10 +1,10 @@
 -- The sequence header of settings that passed keeps to the bounds of main level.
-use Rattle.std.proofs.Common.{◌≡◌, ℕ, ◌+◌, ◌*◌, ◌≤◌, Bool, true, [], ◌∷◌, refl, sym, ◌∙◌, arith}
+use Rattle.std.proofs.Common.{◌≡◌, ℕ, ◌*◌, ◌≤◌, Bool, true, [], ◌∷◌, refl, sym, ◌∙◌, arith}
 use Rattle.std.proofs.lemmas.Bool.{le-leb, le-ltb, leb-true}
 use Rattle.m2v_set.specs.declared.settings.Scan.TheVariants.{Progressive}
 use Rattle.m2v_set.specs.declared.settings.Level.TheVariants.{Main}
 use Rattle.m2v_set.specs.Numbers.{limits_of, frame_time}
-use Rattle.m2v_set.specs.Rules.{is_progressive, frame_rules, quantiser_rules, FlatPasses}
+use Rattle.m2v_set.specs.Rules.{is_progressive, frame_rules, FlatPasses}
 use Rattle.m2v_set.proofs.Judged.{flat_in_turn}
 use Rattle.m2v_set.proofs.Facts.{and_then-first, all_hold}
 use Rattle.m2v_flat.specs.declared.settings.FlatSettings.{FlatSettings}

@@ -5,9 +5,11 @@ ghost use Rattle.m2v_flat.specs.Flat.{Flat};
 ghost use Rattle.m2v_flat.specs.Answers.{HasPassed};
 ghost use Rattle.m2v_model.specs.Lawful.{Lawful};
 
-/// The stream of the flat profile has no fault, and it breaks none of the rules on levels, headers and pictures.
+/// The stream of the flat profile has no fault, and breaks none of the rules on levels, headers and
+/// pictures.
 ///
 /// It holds for every number of frames from 1 on, whatever bytes they have.
 pub fn law_flat_lawful()
-    ensures { (s : FlatSettings) (frames : List (List ℕ)) → HasPassed s → 1 ≤ length frames → Lawful (Flat s frames) }
+    ensures { (s : FlatSettings) (frames : List (List ℕ)) → HasPassed s
+        → 1 ≤ length frames → Lawful (Flat s frames) }
 {}

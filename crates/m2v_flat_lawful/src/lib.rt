@@ -1,4 +1,5 @@
-//! The flat profile's stream breaks none of the verifier's rules. Definitions and lemmas, with the law that they give.
+//! The flat profile's stream breaks none of the verifier's rules. Definitions and lemmas, with the
+//! law that they give.
 #![tactic(auto)]
 
 mod laws;
