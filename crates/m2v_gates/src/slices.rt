@@ -10,11 +10,12 @@ fn is_code(stream: &[u8], at: usize) -> bool {
 
 /// The first start code at a byte or behind it; the end of the stream where there is none.
 fn next_code(stream: &[u8], from: usize) -> usize {
-    let mut at = from;
-    while at < stream.len() && !is_code(stream, at) {
-        at = at.saturating_add(1);
+    for at in from..stream.len() {
+        if is_code(stream, at) {
+            return at;
+        }
     }
-    at
+    stream.len()
 }
 
 /// The value of the start code at a byte.
@@ -25,17 +26,17 @@ fn value_at(stream: &[u8], at: usize) -> Option<u8> {
 /// How many bits the slice of a row has, counted from 1, in the picture of a number, counted from 0: with its start code, up
 /// to the next one. 0 where there is none.
 pub(crate) fn slice_bits(stream: &[u8], picture: usize, row: u8) -> u64 {
-    let mut at = next_code(stream, 0);
     let mut pictures = 0usize;
-    while at < stream.len() {
-        let end = next_code(stream, at.saturating_add(3));
-        let value = value_at(stream, at);
-        if value == Some(0) {
-            pictures = pictures.saturating_add(1);
-        } else if value == Some(row) && pictures == picture.saturating_add(1) {
-            return (end.saturating_sub(at) as u64).saturating_mul(8);
+    for at in 0..stream.len() {
+        if is_code(stream, at) {
+            let value = value_at(stream, at);
+            if value == Some(0) {
+                pictures = pictures.saturating_add(1);
+            } else if value == Some(row) && pictures == picture.saturating_add(1) {
+                let end = next_code(stream, at.saturating_add(3));
+                return (end.saturating_sub(at) as u64).saturating_mul(8);
+            }
         }
-        at = end;
     }
     0
 }

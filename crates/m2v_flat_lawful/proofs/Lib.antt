@@ -1,0 +1,5 @@
+pub mod Events
+pub mod Sequences
+pub mod Pictures
+pub mod Rules
+pub mod Streams
