@@ -1,6 +1,7 @@
 //! The encoder's workers, held at a gate: two rows of a picture are made beside each other, and a row of a picture before the
 //! last row of the picture that it refers to. A run on one thread, in whatever order, gives the gate up; and so does one whose
-//! workers come to the gate before or behind the work. What the gate was told is held against the slices in the output.
+//! workers come to the gate before or behind the work. What the gate was told is held against the slices in the output. And
+//! two runs of `make` of one seed are held against each other.
 #![tactic(auto)]
 
 mod gate;
@@ -9,6 +10,7 @@ mod slices;
 ghost use Rattle.std.specs.Prelude.{IsFalse, is_some};
 
 use gate::Meeting;
+use m2v_board::{Gate, OpenGate};
 use m2v_port::{MemoryFile, MemorySink, MemorySource};
 use m2v_tool::run;
 use slices::slice_bits;
@@ -111,12 +113,12 @@ struct Endpoints {
 }
 
 /// Runs words, and gives the status.
-fn status_of<R: Threads + Wait + Sync>(
+fn status_of<R: Threads + Wait + Sync, G: Gate + Sync>(
     rt: &R,
     alloc: Global,
     words: &[String],
     endpoints: &mut Endpoints,
-    gate: &Meeting,
+    gate: &G,
 ) -> u8
     requires { IsFalse (is_some endpoints.old.recon.name) }
 {
@@ -162,16 +164,70 @@ fn is_right<R: Threads + Wait + Sync>(
     Ok(status == 0 && is_met(run, &gate, endpoints.output.held()))
 }
 
-fn main(rt: HostRuntime) -> anyhow::Result<ExitCode> {
-    let mut code = ExitCode::SUCCESS;
-    for run in RUNS.iter() {
-        let name = run.name;
-        if is_right(&rt, rt.alloc(), run)? {
-            println!(rt; "ok {name}")?;
-        } else {
-            println!(rt; "WRONG {name}")?;
-            code = ExitCode::FAILURE;
-        }
+/// What stands on output and on report behind `make` of a seed.
+#[derive(Drop)]
+struct Made {
+    output: Vec<u8>,
+    report: Vec<u8>,
+}
+
+/// Runs `make 1`: none where its status isn't 0.
+fn made<R: Threads + Wait + Sync>(rt: &R, alloc: Global) -> Result<Option<Made>, AllocError> {
+    let mut words = Vec::new(alloc);
+    words.push(String::from_str(alloc, "make")?)?;
+    words.push(String::from_str(alloc, "1")?)?;
+    let mut endpoints = Endpoints {
+        input: MemorySource::new(Vec::new(alloc), Vec::new(alloc)),
+        output: MemorySink::new(alloc, Vec::new(alloc)),
+        recon: MemoryFile::new(alloc, Vec::new(alloc)),
+        report: MemorySink::new(alloc, Vec::new(alloc)),
+    };
+    if status_of(rt, alloc, &words, &mut endpoints, &OpenGate) != 0 {
+        return Ok(None);
     }
-    Ok(code)
+    Ok(Some(Made {
+        output: endpoints.output.held().to_vec(alloc)?,
+        report: endpoints.report.held().to_vec(alloc)?,
+    }))
+}
+
+/// Whether two runs of `make 1` give one stream and one line.
+fn is_made_twice<R: Threads + Wait + Sync>(rt: &R, alloc: Global) -> Result<bool, AllocError> {
+    match (made(rt, alloc)?, made(rt, alloc)?) {
+        (Some(first), Some(second)) => Ok(
+            !first.output.is_empty()
+                && first.output.as_slice() == second.output.as_slice()
+                && first.report.as_slice() == second.report.as_slice()
+                && first
+                    .report
+                    .as_slice()
+                    .starts_with(b"make seed 1 frames 48 bytes ".as_slice()),
+        ),
+        _ => Ok(false),
+    }
+}
+
+/// Prints a line on a run, and answers whether it was right.
+fn told<R: Print>(rt: &R, name: &str, right: bool) -> anyhow::Result<bool> {
+    if right {
+        println!(rt; "ok {name}")?;
+    } else {
+        println!(rt; "WRONG {name}")?;
+    }
+    Ok(right)
+}
+
+fn main(rt: HostRuntime) -> anyhow::Result<ExitCode> {
+    let mut all = true;
+    for run in RUNS.iter() {
+        let right = is_right(&rt, rt.alloc(), run)?;
+        all = told(&rt, run.name, right)? && all;
+    }
+    let right = is_made_twice(&rt, rt.alloc())?;
+    all = told(&rt, "two runs of make give one stream", right)? && all;
+    Ok(if all {
+        ExitCode::SUCCESS
+    } else {
+        ExitCode::FAILURE
+    })
 }
