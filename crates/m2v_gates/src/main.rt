@@ -166,13 +166,13 @@ fn is_right<R: Threads + Wait + Sync>(
 
 /// What stands on output and on report behind `make` of a seed.
 #[derive(Drop)]
-struct Made {
+struct Written {
     output: Vec<u8>,
     report: Vec<u8>,
 }
 
 /// Runs `make 1`: none where its status isn't 0.
-fn made<R: Threads + Wait + Sync>(rt: &R, alloc: Global) -> Result<Option<Made>, AllocError> {
+fn made<R: Threads + Wait + Sync>(rt: &R, alloc: Global) -> Result<Option<Written>, AllocError> {
     let mut words = Vec::new(alloc);
     words.push(String::from_str(alloc, "make")?)?;
     words.push(String::from_str(alloc, "1")?)?;
@@ -185,7 +185,7 @@ fn made<R: Threads + Wait + Sync>(rt: &R, alloc: Global) -> Result<Option<Made>,
     if status_of(rt, alloc, &words, &mut endpoints, &OpenGate) != 0 {
         return Ok(None);
     }
-    Ok(Some(Made {
+    Ok(Some(Written {
         output: endpoints.output.held().to_vec(alloc)?,
         report: endpoints.report.held().to_vec(alloc)?,
     }))
