@@ -230,7 +230,7 @@ impl Coder {
 
 /// Codes the frames of a raw input, up to 999,999 of them, with settings that passed; the stream goes to output, and the
 /// frames that a decoder makes of it go to recon, in display order.
-pub fn encode_to<R: Threads + Wait + Sync, S: Source, K: Sink, N: Sink, G: Gate + Sync>(
+pub(crate) fn encode_to<R: Threads + Wait + Sync, S: Source, K: Sink, N: Sink, G: Gate + Sync>(
     rt: &R,
     alloc: Global,
     settings: &Passed,

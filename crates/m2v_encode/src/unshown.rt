@@ -31,7 +31,7 @@ impl Sink for Unshown {
 }
 
 /// Codes as [`encode_to`] does, where no recon is wanted: then only the input and the output fail.
-pub fn encode_unshown<R: Threads + Wait + Sync, S: Source, K: Sink, G: Gate + Sync>(
+pub(crate) fn encode_unshown<R: Threads + Wait + Sync, S: Source, K: Sink, G: Gate + Sync>(
     rt: &R,
     alloc: Global,
     settings: &Passed,

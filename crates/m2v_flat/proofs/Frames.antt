@@ -20,6 +20,7 @@ use Rattle.m2v_model.specs.Pictures.{Store, no_frames, slice_painted, Picture, P
 use Rattle.m2v_order.specs.Display.{Shown}
 use Rattle.m2v_model.specs.Decoding.{is_dropped, raw_frames, shown}
 use Rattle.m2v_chain.proofs.Painting.{blank_painted}
+use Rattle.m2v_flat.specs.Told.{decoded, decoded_from}
 use Rattle.m2v_flat.specs.Tree.{flat_setup, flat_row, flat_rows, flat_macroblocks, state_before, sequence_of, open_picture, state_with, state_in, pictures_parts, stream_parts}
 use Rattle.m2v_flat.proofs.Painting.{HasSamples, all_samples, row_has}
 use Rattle.m2v_flat.proofs.Slices.{start_is}
@@ -75,23 +76,6 @@ rows_has s anchors number (suc n) row store source now rest h same is has =
     ∙ rows_has s anchors number n (row + 1) store source then rest h same (omega arith) more
 
 -- ---- pictures
-
--- a frame as a decoded I picture
-abbrev decoded : FlatSettings → ℕ → List ℕ → Picture
-decoded s number raw = record {
-  info = flat_picture number;
-  extension = flat_picture_extension;
-  begins_frame = true;
-  ends_frame = true;
-  dropped = false;
-  crowded_row = 0;
-  frame = recon_frame s.quantiser (pad s.dims raw);
-}
-
--- frames as pictures that are numbered from a number on
-unfoldable decoded_from : FlatSettings → ℕ → List (List ℕ) → Pictures
-decoded_from s number [] = []
-decoded_from s number (raw ∷ frames) = decoded s number raw ∷ decoded_from s (number + 1) frames
 
 -- what is told of a whole picture
 picture_is : (s : FlatSettings) (columns number row : ℕ) (raw : List ℕ) (store : Store) → picture_of (open_picture columns number row) (with_current store (recon_frame s.quantiser (pad s.dims raw))) ≡ decoded s number raw
@@ -171,7 +155,7 @@ unfolding after
 first_state s = refl
 
 -- what the stream's parts tell
-parts_are : (s : FlatSettings) (frames : List (List ℕ)) → IsFlat s → events_from at_first no_frames (stream_parts s frames) ≡ sequence_header (sequence_of s) ∷ map coded_picture (decoded_from s 0 frames)
+pub parts_are : (s : FlatSettings) (frames : List (List ℕ)) → IsFlat s → events_from at_first no_frames (stream_parts s frames) ≡ sequence_header (sequence_of s) ∷ map coded_picture (decoded_from s 0 frames)
 unfolding events_from
 parts_are s frames h =
     ap (λ (es : Events). sequence_header (sequence_of s) ∷ es)

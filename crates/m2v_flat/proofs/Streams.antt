@@ -1,5 +1,5 @@
 -- The flat stream stands in its bytes, and decodes to the frames that it stands for.
-use Rattle.std.proofs.Common.{◌≡◌, ℕ, ◌+◌, ◌≤◌, true, false, List, [], ◌∷◌, ◌++◌, length, Option, Some, None, inl, inr, refl, sym, subst, arith}
+use Rattle.std.proofs.Common.{◌≡◌, ℕ, ◌+◌, ◌≤◌, true, false, List, [], ◌∷◌, ◌++◌, length, Option, Some, None, inl, inr, refl, sym, ap, subst, ◌∙◌, arith}
 use Rattle.m2v_bits.specs.Bits.{bits_of, number, start_code, unit}
 use Rattle.m2v_bits.specs.Syntax.{seq, done, here, rule, choose, Rounds, last}
 use Rattle.m2v_head.specs.Texts.{sequence_text, sequence_extension_text, picture_text, picture_extension_text, slice_text}
@@ -14,7 +14,8 @@ use Rattle.m2v_model.specs.declared.state.State.{State}
 use Rattle.m2v_model.specs.Units.{Units, unit_at, unit_bits}
 use Rattle.m2v_model.specs.States.{at_first, none_waits}
 use Rattle.m2v_model.specs.Streams.{Part, Sofar, sequence, ending, after, close, no_second_field_due, end_unit, final, later_unit, known_unit, next_unit, unit_round, stream_at}
-use Rattle.m2v_model.specs.Decoding.{Decodes}
+use Rattle.m2v_model.specs.Pictures.{no_frames, events_from, pictures_in}
+use Rattle.m2v_model.specs.Decoding.{Stream, Decodes, low_delay_of, shown}
 use Rattle.m2v_flat.specs.Tree.{sequence_of, state_with, pictures_parts, stream_parts}
 use Rattle.m2v_chain.specs.Texts.{unit_bytes, Packs}
 use Rattle.m2v_chain.proofs.Units.{packs_none, packs_unit, packs_append, packs_map, cuts_of}
@@ -118,9 +119,14 @@ stream_stands s frames anchors open_one h whole_one c =
     (end_stands s anchors open_one (sequence (sequence_of s) ∷ pictures_parts s 0 frames) whole_one))
     (none_due s anchors open_one)
 
-decodes_some : (s : FlatSettings) (raw : List ℕ) (frames : List (List ℕ)) → IsFlat s → Decodes (Flat s (raw ∷ frames)) (FlatRecon s (raw ∷ frames))
-unfolding after
-decodes_some s raw frames h =
+-- the stream of some frames, read whole: its tree stands in its bytes, and has the stream's parts
+pub record FlatTree (s : FlatSettings) (frames : List (List ℕ)) : Type 0 where
+  pub tree : Sofar
+  pub stream : Stream (Flat s frames) tree
+  pub parts : tree.parts ≡ stream_parts s frames
+
+some_tree : (s : FlatSettings) (raw : List ℕ) (frames : List (List ℕ)) → IsFlat s → FlatTree s (raw ∷ frames)
+some_tree s raw frames h =
     let ends = pictures_chain s (raw ∷ frames) 0 0 None h refl in
     record {
       tree = tree_of s ends.counted ends.end (raw ∷ frames);
@@ -131,10 +137,21 @@ decodes_some s raw frames h =
         cuts = cuts_of (flat_text s (raw ∷ frames)) (stream_bytes s (raw ∷ frames)) (stream_packs s raw frames h);
         stands = stream_stands s (raw ∷ frames) ends.counted ends.end h ends.whole ends.chain;
       };
-      shown = parts_show s (raw ∷ frames) false h;
+      parts = refl;
     }
+
+pub flat_tree : (s : FlatSettings) (frames : List (List ℕ)) → HasPassed s → 1 ≤ length frames → FlatTree s frames
+flat_tree s [] passed some = absurd (omega arith)
+flat_tree s (raw ∷ frames) passed some = some_tree s raw frames (is_flat s passed)
 
 -- the stream of some frames decodes to the frames that it stands for
 pub flat_decodes : (s : FlatSettings) (frames : List (List ℕ)) → HasPassed s → 1 ≤ length frames → Decodes (Flat s frames) (FlatRecon s frames)
-flat_decodes s [] passed some = absurd (omega arith)
-flat_decodes s (raw ∷ frames) passed some = decodes_some s raw frames (is_flat s passed)
+flat_decodes s frames passed some =
+    let x = flat_tree s frames passed some in
+    let low = low_delay_of x.tree.state.first in
+    record {
+      tree = x.tree;
+      stream = x.stream;
+      shown = parts_show s frames low (is_flat s passed)
+          ∙ ap (λ (ps : List Part). shown low (pictures_in (events_from at_first no_frames ps))) (sym x.parts);
+    }

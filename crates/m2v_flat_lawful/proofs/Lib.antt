@@ -1,4 +1,3 @@
-pub mod Events
 pub mod Sequences
 pub mod Pictures
 pub mod Rules

@@ -10,7 +10,8 @@ use Rattle.m2v_flat.specs.Tree.{sequence_of}
 use Rattle.m2v_flat.proofs.Orders.{IsAnchor}
 use Rattle.m2v_model.specs.Pictures.{coded_picture}
 use Rattle.m2v_model.specs.Lawful.{Numbered, numbered, horizontal_rule, vertical_rule, intra_rule, frames_of_group, display_place, place_in_group, reference_rule, crowd_rule, repeat_rule, progressive_rule, precision_rule, picture_breaches}
-use Rattle.m2v_flat_lawful.specs.Told.{decoded_from, counted, counted_from, intra_from}
+use Rattle.m2v_flat.specs.Told.{decoded_from}
+use Rattle.m2v_flat_lawful.specs.Told.{counted, counted_from, intra_from}
 use Rattle.m2v_flat_lawful.proofs.Sequences.{judge_none, most_none}
 
 -- ---- the pictures, numbered

@@ -9,8 +9,9 @@ use Rattle.m2v_model.specs.declared.state.Sequence.{Sequence}
 use Rattle.m2v_model.specs.States.{at_first}
 use Rattle.m2v_model.specs.Pictures.{Events, no_frames, sequence_header, coded_picture, events_from}
 use Rattle.m2v_model.specs.Lawful.{Numbered, numbered, sequence_breaches, picture_breaches, sequences_in, all_numbered, is_variable, breaches}
-use Rattle.m2v_flat_lawful.specs.Told.{decoded_from, counted_from}
-use Rattle.m2v_flat_lawful.proofs.Events.{parts_are}
+use Rattle.m2v_flat.specs.Told.{decoded_from}
+use Rattle.m2v_flat_lawful.specs.Told.{counted_from}
+use Rattle.m2v_flat.proofs.Frames.{parts_are}
 use Rattle.m2v_flat_lawful.proofs.Sequences.{sequence_none}
 use Rattle.m2v_flat_lawful.proofs.Pictures.{counted_are, pictures_none}
 

@@ -1,143 +1,23 @@
 -- The flat stream stands in its bytes, and what it tells breaks no rule.
-use Rattle.std.proofs.Common.{◌≡◌, ℕ, ◌+◌, ◌≤◌, true, false, List, [], ◌∷◌, ◌++◌, length, Option, Some, None, inl, inr, refl, sym, subst, arith}
-use Rattle.m2v_bits.specs.Bits.{bits_of, number, start_code, unit}
-use Rattle.m2v_bits.specs.Syntax.{seq, done, here, rule, choose, Rounds, last}
-use Rattle.m2v_head.specs.Texts.{sequence_text, sequence_extension_text, picture_text, picture_extension_text, slice_text}
-use Rattle.m2v_plane.specs.Samples.{Samples}
-use Rattle.m2v_plane.specs.Raw.{pad}
+use Rattle.std.proofs.Common.{ℕ, ◌≤◌, List, length, ap, ◌∙◌}
 use Rattle.m2v_flat.specs.declared.settings.FlatSettings.{FlatSettings}
 use Rattle.m2v_flat.specs.Answers.{HasPassed}
-use Rattle.m2v_flat.specs.Flat.{flat_sequence, flat_sequence_extension, flat_picture, flat_picture_extension, flat_slice, row_text, slice_unit, slices_units, sequence_units, picture_units, pictures_from, flat_text, Flat}
-use Rattle.m2v_model.specs.declared.state.Open.{Open}
-use Rattle.m2v_model.specs.declared.state.State.{State}
-use Rattle.m2v_model.specs.Units.{Units, unit_at, unit_bits}
-use Rattle.m2v_model.specs.States.{at_first, none_waits}
-use Rattle.m2v_model.specs.Streams.{Part, Sofar, sequence, ending, after, close, no_second_field_due, end_unit, final, later_unit, known_unit, next_unit, unit_round, stream_at}
+use Rattle.m2v_flat.specs.Flat.{Flat}
+use Rattle.m2v_flat.proofs.Streams.{flat_tree}
+use Rattle.m2v_model.specs.Streams.{Part}
 use Rattle.m2v_model.specs.Decoding.{low_delay_of}
-use Rattle.m2v_model.specs.Lawful.{Lawful}
-use Rattle.m2v_flat.specs.Tree.{sequence_of, state_with, pictures_parts, stream_parts}
-use Rattle.m2v_chain.specs.Texts.{unit_bytes, Packs}
-use Rattle.m2v_chain.proofs.Units.{packs_none, packs_unit, packs_append, packs_map, cuts_of}
-use Rattle.m2v_chain.proofs.Calm.{calm_end}
-use Rattle.m2v_flat.proofs.CalmTexts.{sequence_calm, sequence_extension_calm, picture_calm, picture_extension_calm, slice_calm}
-use Rattle.m2v_chain.specs.Chains.{Chain, link}
-use Rattle.m2v_chain.proofs.Chains.{rounds_of, stream_of}
-use Rattle.m2v_flat.proofs.Pictures.{IsFlat, is_flat, IsWhole, sequence_bytes, extension_bytes, picture_bytes, coding_bytes, slice_bytes, rows_bytes, pictures_bytes, sequence_reads, pictures_chain}
-use Rattle.m2v_flat.proofs.Frames.{first_state}
+use Rattle.m2v_model.specs.States.{at_first}
+use Rattle.m2v_model.specs.Pictures.{no_frames, events_from}
+use Rattle.m2v_model.specs.Lawful.{Lawful, breaches}
 use Rattle.m2v_flat_lawful.proofs.Rules.{parts_none}
-
--- ---- the stream is cut into its units
-
-abbrev end_bytes : List ℕ
-end_bytes = unit_bytes 0xB7 []
-
-abbrev stream_bytes : FlatSettings → List (List ℕ) → Units
-stream_bytes s frames = sequence_bytes s ∷ extension_bytes ∷ (pictures_bytes s 0 frames ++ end_bytes ∷ [])
-
-end_is : unit 0xB7 [] ≡ start_code 0xB7
-unfolding bits_of
-end_is = refl
-
-end_packs : Packs (start_code 0xB7) (end_bytes ∷ [])
-end_packs = subst (λ (t : List _). Packs t (end_bytes ∷ [])) end_is (packs_unit 0xB7 [] (omega arith) (calm_end [] (omega arith)))
-
-sequence_packs : (s : FlatSettings) → IsFlat s → Packs (sequence_units s) (sequence_bytes s ∷ extension_bytes ∷ [])
-unfolding sequence_units
-sequence_packs s h =
-    packs_append _ _ (sequence_bytes s ∷ []) (extension_bytes ∷ [])
-    (packs_unit 0xB3 (sequence_text (flat_sequence s)) (omega arith) (sequence_calm s h.width.0 (omega (arith, h.width.1)) h.height.0 (omega (arith, h.height.1))))
-    (packs_unit 0xB5 (sequence_extension_text flat_sequence_extension) (omega arith) sequence_extension_calm)
-
-rows_pack : (quantiser : ℕ) (frame : Samples) → frame.dims.mb_rows ≤ 36 → Packs (slices_units quantiser frame) (rows_bytes quantiser frame 0 frame.dims.mb_rows)
-unfolding slices_units slice_unit
-rows_pack quantiser frame few =
-    packs_map (slice_unit quantiser frame) (slice_bytes quantiser frame) 0 frame.dims.mb_rows
-    (λ row lt. packs_unit (row + 1) (slice_text (flat_slice quantiser) ++ row_text frame row) (omega arith) (slice_calm quantiser frame row))
-
-pictures_pack : (s : FlatSettings) (frames : List (List ℕ)) (number : ℕ) → IsFlat s → Packs (pictures_from s number frames) (pictures_bytes s number frames)
-unfolding pictures_from pictures_bytes picture_units
-pictures_pack s [] number h = packs_none
-pictures_pack s (raw ∷ frames) number h =
-    let frame = pad s.dims raw in
-    packs_append _ _ (picture_bytes number ∷ coding_bytes ∷ rows_bytes s.quantiser frame 0 s.dims.mb_rows) (pictures_bytes s (number + 1) frames)
-    (packs_append _ _ (picture_bytes number ∷ []) (coding_bytes ∷ rows_bytes s.quantiser frame 0 s.dims.mb_rows)
-    (packs_unit 0x00 (picture_text (flat_picture number)) (omega arith) (picture_calm number))
-    (packs_append _ _ (coding_bytes ∷ []) (rows_bytes s.quantiser frame 0 s.dims.mb_rows)
-    (packs_unit 0xB5 (picture_extension_text flat_picture_extension) (omega arith) picture_extension_calm)
-    (rows_pack s.quantiser frame h.rows.1)))
-    (pictures_pack s frames (number + 1) h)
-
-stream_packs : (s : FlatSettings) (raw : List ℕ) (frames : List (List ℕ)) → IsFlat s → Packs (flat_text s (raw ∷ frames)) (stream_bytes s (raw ∷ frames))
-unfolding flat_text
-stream_packs s raw frames h =
-    packs_append _ _ (sequence_bytes s ∷ extension_bytes ∷ []) (pictures_bytes s 0 (raw ∷ frames) ++ end_bytes ∷ []) (sequence_packs s h)
-    (packs_append _ _ (pictures_bytes s 0 (raw ∷ frames)) (end_bytes ∷ []) (pictures_pack s (raw ∷ frames) 0 h) end_packs)
-
--- ---- the stream stands in its units
-
--- the sequence end code ends it
-end_stands : (s : FlatSettings) (anchors : ℕ) (open_one : Option Open) (parts : List Part) → IsWhole s open_one
-    → Rounds unit_round (record { state = state_with s anchors open_one; parts = parts }) (record { state = after (state_with s anchors open_one) ending; parts = parts ++ ending ∷ [] }) (end_bytes ∷ []) []
-unfolding unit_round next_unit known_unit later_unit final end_unit close no_second_field_due choose rule here unit_at seq done
-end_stands s anchors open_one parts whole_one =
-    let us = end_bytes ∷ [] in
-    last (
-      unit_bits us,
-      us,
-      (refl, refl),
-      (
-        Some end_bytes,
-        [],
-        refl,
-        (
-          (false, ending),
-          [],
-          inr (refl, inl (refl, inr (refl, inr (refl, inr (refl, inr (refl, inl (refl, (ending, [], (tt, [], (whole_one, refl), (tt, [], (refl, refl), (refl, refl))), (refl, refl))))))))),
-          (refl, refl),
-        ),
-      ),
-    )
-
-abbrev tree_of : FlatSettings → ℕ → Option Open → List (List ℕ) → Sofar
-tree_of s anchors open_one frames = record { state = after (state_with s anchors open_one) ending; parts = stream_parts s frames }
-
--- behind the end no second field is due
-none_due : (s : FlatSettings) (anchors : ℕ) (open_one : Option Open) → none_waits (after (state_with s anchors open_one) ending).waiting ≡ true
-unfolding after
-none_due s anchors open_one = refl
-
-parts_chain : (s : FlatSettings) (frames : List (List ℕ)) (anchors : ℕ) (open_one : Option Open) → IsFlat s → Chain (state_with s 0 None) (pictures_parts s 0 frames) (pictures_bytes s 0 frames) (state_with s anchors open_one)
-    → Chain at_first (sequence (sequence_of s) ∷ pictures_parts s 0 frames) (sequence_bytes s ∷ extension_bytes ∷ pictures_bytes s 0 frames) (state_with s anchors open_one)
-parts_chain s frames anchors open_one h c =
-    link (sequence_reads s h) (subst (λ (st : State). Chain st (pictures_parts s 0 frames) (pictures_bytes s 0 frames) (state_with s anchors open_one)) (sym (first_state s)) c)
-
-stream_stands : (s : FlatSettings) (frames : List (List ℕ)) (anchors : ℕ) (open_one : Option Open) → IsFlat s → IsWhole s open_one → Chain (state_with s 0 None) (pictures_parts s 0 frames) (pictures_bytes s 0 frames) (state_with s anchors open_one)
-    → stream_at.Stands (tree_of s anchors open_one frames) (stream_bytes s frames) []
-stream_stands s frames anchors open_one h whole_one c =
-    stream_of (stream_bytes s frames) [] (tree_of s anchors open_one frames)
-    (rounds_of (parts_chain s frames anchors open_one h c) [] (end_bytes ∷ []) [] (tree_of s anchors open_one frames)
-    (end_stands s anchors open_one (sequence (sequence_of s) ∷ pictures_parts s 0 frames) whole_one))
-    (none_due s anchors open_one)
-
-lawful_some : (s : FlatSettings) (raw : List ℕ) (frames : List (List ℕ)) → HasPassed s → Lawful (Flat s (raw ∷ frames))
-unfolding after
-lawful_some s raw frames passed =
-    let h = is_flat s passed in
-    let ends = pictures_chain s (raw ∷ frames) 0 0 None h refl in
-    let tree = tree_of s ends.counted ends.end (raw ∷ frames) in
-    record {
-      tree = tree;
-      stream = record {
-        front = [];
-        units = stream_bytes s (raw ∷ frames);
-        rest = [];
-        cuts = cuts_of (flat_text s (raw ∷ frames)) (stream_bytes s (raw ∷ frames)) (stream_packs s raw frames h);
-        stands = stream_stands s (raw ∷ frames) ends.counted ends.end h ends.whole ends.chain;
-      };
-      lawful = parts_none s (low_delay_of tree.state.first) (raw ∷ frames) passed;
-    }
 
 -- the stream of some frames has no fault, and breaks no rule
 pub flat_lawful : (s : FlatSettings) (frames : List (List ℕ)) → HasPassed s → 1 ≤ length frames → Lawful (Flat s frames)
-flat_lawful s [] passed some = absurd (omega arith)
-flat_lawful s (raw ∷ frames) passed some = lawful_some s raw frames passed
+flat_lawful s frames passed some =
+    let x = flat_tree s frames passed some in
+    let low = low_delay_of x.tree.state.first in
+    record {
+      tree = x.tree;
+      stream = x.stream;
+      lawful = ap (λ (ps : List Part). breaches low (events_from at_first no_frames ps)) x.parts ∙ parts_none s low frames passed;
+    }

@@ -1,7 +1,7 @@
 //! The encoder's workers, held at a gate: two rows of a picture are made beside each other, and a row of a picture before the
 //! last row of the picture that it refers to. A run on one thread, in whatever order, gives the gate up; and so does one whose
 //! workers come to the gate before or behind the work. What the gate was told is held against the slices in the output. And
-//! two runs of `make` of one seed are held against each other.
+//! two runs of `make` of one seed are held against each other, and against runs in which a call of an endpoint fails.
 #![tactic(auto)]
 
 mod gate;
@@ -164,47 +164,83 @@ fn is_right<R: Threads + Wait + Sync>(
     Ok(status == 0 && is_met(run, &gate, endpoints.output.held()))
 }
 
-/// What stands on output and on report behind `make` of a seed.
+/// What a run of `make` comes to: its status, and what stands on output and on report.
 #[derive(Drop)]
 struct Written {
+    status: u8,
     output: Vec<u8>,
     report: Vec<u8>,
 }
 
-/// Runs `make 1`: none where its status isn't 0.
-fn made<R: Threads + Wait + Sync>(rt: &R, alloc: Global) -> Result<Option<Written>, AllocError> {
+/// Runs `make 1` on an output and a report whose calls with these numbers fail.
+fn made<R: Threads + Wait + Sync>(
+    rt: &R,
+    alloc: Global,
+    output: Vec<u64>,
+    report: Vec<u64>,
+) -> Result<Written, AllocError> {
     let mut words = Vec::new(alloc);
     words.push(String::from_str(alloc, "make")?)?;
     words.push(String::from_str(alloc, "1")?)?;
     let mut endpoints = Endpoints {
         input: MemorySource::new(Vec::new(alloc), Vec::new(alloc)),
-        output: MemorySink::new(alloc, Vec::new(alloc)),
+        output: MemorySink::new(alloc, output),
         recon: MemoryFile::new(alloc, Vec::new(alloc)),
-        report: MemorySink::new(alloc, Vec::new(alloc)),
+        report: MemorySink::new(alloc, report),
     };
-    if status_of(rt, alloc, &words, &mut endpoints, &OpenGate) != 0 {
-        return Ok(None);
-    }
-    Ok(Some(Written {
+    let status = status_of(rt, alloc, &words, &mut endpoints, &OpenGate);
+    Ok(Written {
+        status,
         output: endpoints.output.held().to_vec(alloc)?,
         report: endpoints.report.held().to_vec(alloc)?,
-    }))
+    })
+}
+
+/// Whether two runs give one stream and one line, with status 0.
+fn are_equal(first: &Written, second: &Written) -> bool {
+    first.status == 0
+        && second.status == 0
+        && first.output.as_slice() == second.output.as_slice()
+        && first.report.as_slice() == second.report.as_slice()
 }
 
 /// Whether two runs of `make 1` give one stream and one line.
 fn is_made_twice<R: Threads + Wait + Sync>(rt: &R, alloc: Global) -> Result<bool, AllocError> {
-    match (made(rt, alloc)?, made(rt, alloc)?) {
-        (Some(first), Some(second)) => Ok(
-            !first.output.is_empty()
-                && first.output.as_slice() == second.output.as_slice()
-                && first.report.as_slice() == second.report.as_slice()
-                && first
-                    .report
-                    .as_slice()
-                    .starts_with(b"make seed 1 frames 48 bytes ".as_slice()),
-        ),
-        _ => Ok(false),
-    }
+    let first = made(rt, alloc, Vec::new(alloc), Vec::new(alloc))?;
+    let second = made(rt, alloc, Vec::new(alloc), Vec::new(alloc))?;
+    Ok(
+        are_equal(&first, &second)
+            && !first.output.is_empty()
+            && first
+                .report
+                .as_slice()
+                .starts_with(b"make seed 1 frames 48 bytes ".as_slice()),
+    )
+}
+
+/// Whether each call of the output and of the report of `make 1` that fails in turn is told by status 8: behind one of the
+/// output the stream's first bytes stand there, behind one of the report all of them. Each endpoint has one call, so the
+/// second one isn't made.
+fn is_told_failing<R: Threads + Wait + Sync>(rt: &R, alloc: Global) -> Result<bool, AllocError> {
+    let whole = made(rt, alloc, Vec::new(alloc), Vec::new(alloc))?;
+    let unwritten = made(rt, alloc, vec![in alloc; 1]?, Vec::new(alloc))?;
+    let unreported = made(rt, alloc, Vec::new(alloc), vec![in alloc; 1]?)?;
+    let behind = made(rt, alloc, vec![in alloc; 2]?, vec![in alloc; 2]?)?;
+    Ok(
+        unwritten.status == 8
+            && whole
+                .output
+                .as_slice()
+                .starts_with(unwritten.output.as_slice())
+            && unwritten.output.len() < whole.output.len()
+            && unreported.status == 8
+            && unreported.output.as_slice() == whole.output.as_slice()
+            && whole
+                .report
+                .as_slice()
+                .starts_with(unreported.report.as_slice())
+            && are_equal(&whole, &behind),
+    )
 }
 
 /// Prints a line on a run, and answers whether it was right.
@@ -225,6 +261,8 @@ fn main(rt: HostRuntime) -> anyhow::Result<ExitCode> {
     }
     let right = is_made_twice(&rt, rt.alloc())?;
     all = told(&rt, "two runs of make give one stream", right)? && all;
+    let right = is_told_failing(&rt, rt.alloc())?;
+    all = told(&rt, "each call that fails in a run of make is told", right)? && all;
     Ok(if all {
         ExitCode::SUCCESS
     } else {

@@ -1,6 +1,5 @@
 pub mod Sequences
 pub mod Pictures
-pub mod Order
 pub mod Runs
 pub mod Places
 pub mod Jobs

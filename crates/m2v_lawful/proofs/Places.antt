@@ -18,9 +18,9 @@ use Rattle.m2v_order.proofs.Pictures.{job_by}
 use Rattle.m2v_order.proofs.Queues.{grouped, top_of}
 use Rattle.m2v_order.proofs.Shows.{order_kept}
 use Rattle.m2v_model.specs.Lawful.{display_place}
-use Rattle.m2v_lawful.specs.Showing.{AreAnchors}
+use Rattle.m2v_shown.specs.Showing.{AreAnchors}
 use Rattle.m2v_lawful.specs.Places.{frames_from, HavePlaces}
-use Rattle.m2v_lawful.proofs.Order.{run_shown, tested_anchors, all_kept, all_shown}
+use Rattle.m2v_shown.proofs.Order.{run_shown, tested_anchors, all_kept, all_shown}
 use Rattle.m2v_lawful.proofs.Runs.{coded_at, at_one, order_at, place_is}
 
 -- the B frames are those that are no anchors

@@ -12,8 +12,8 @@ use Rattle.m2v_order.proofs.Anchors.{Between, range_within}
 use Rattle.m2v_order.proofs.Intra.{test_other}
 use Rattle.m2v_order.proofs.Orders.{range_append}
 use Rattle.m2v_model.specs.Lawful.{display_place}
-use Rattle.m2v_lawful.specs.Showing.{AreAnchors}
-use Rattle.m2v_lawful.proofs.Order.{past_low}
+use Rattle.m2v_shown.specs.Showing.{AreAnchors}
+use Rattle.m2v_shown.proofs.Order.{past_low}
 
 -- the place in coding order of a frame, by anchors from one on, of which the first stands at a place: the frames before an
 -- anchor stand behind it

@@ -1,4 +1,3 @@
 pub mod Own
-pub mod Showing
 pub mod Places
 pub mod Told

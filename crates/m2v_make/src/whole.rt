@@ -14,8 +14,8 @@ use crate::generated::Generated;
 use m2v_board::Gate;
 use m2v_check::{Figures, Verdict, check};
 use m2v_decode::decode;
-use m2v_encode::{Summary, encode_unshown};
-use m2v_port::{PortError, Sink, SureSink};
+use m2v_encode::{Summary, encode};
+use m2v_port::{PortError, Sink, SureFile, SureSink};
 use m2v_set::{Level, Scan, Settings};
 use std::alloc::Global;
 use std::sync::Wait;
@@ -61,7 +61,7 @@ fn coded<R: Threads + Wait + Sync, G: Gate + Sync>(
         return None;
     };
     let mut frames = Generated::new(seed);
-    match encode_unshown(rt, alloc, &settings, &mut frames, stream, gate) {
+    match encode::<R, Generated, SureSink, SureFile, G>(rt, alloc, &settings, &mut frames, stream, None, gate) {
         Ok(summary) => Some(summary),
         Err(_) => None,
     }

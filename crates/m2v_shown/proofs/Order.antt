@@ -63,7 +63,7 @@ module _ {F : Type 0} where
     held_others h (x ∷ xs) all =
         held_b h (f x) (map f xs) (All-head (λ i. is_b (f i) ≡ true) x xs all) ∙ held_others h xs (All-tail (λ i. is_b (f i) ≡ true) x xs all)
 
-    past_low : (from : ℕ) (anchors : List ℕ) → AreAnchors f from anchors → from ≤ past_last from anchors
+    pub past_low : (from : ℕ) (anchors : List ℕ) → AreAnchors f from anchors → from ≤ past_last from anchors
     unfolding past_last AreAnchors
     past_low from [] ok = omega arith
     past_low from (a ∷ more) ok = let rest = past_low (a + 1) more ok.1 in omega (arith, rest, ok.0.low)

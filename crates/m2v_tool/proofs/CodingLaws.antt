@@ -22,6 +22,7 @@ use Rattle.m2v_flat.proofs.Passing.{in_bounds}
 use Rattle.m2v_shown.specs.Laws.{DecodesTo}
 use Rattle.m2v_shown.proofs.Decodes.{decoded_to}
 use Rattle.m2v_flat.proofs.Streams.{flat_decodes}
+use Rattle.m2v_flat_lawful.proofs.Streams.{flat_lawful}
 use Rattle.m2v_tool.specs.declared.flat.FlatWords.{FlatWords}
 use Rattle.m2v_tool.specs.declared.flat.FlatOutcome.{FlatOutcome}
 use Rattle.m2v_tool.specs.declared.flat.FlatOutcome.TheVariants.{Coded, Unfit, Stopped}
@@ -122,7 +123,13 @@ pub done_of : (w : FlatWords) (d : Dims) (left held : Change) (summary : Summary
 done_of w d left held summary is size passes coded =
     let c : FlatCoded (settings_of w) left held summary =
     subst (λ (x : Dims). FlatCoded (record { dims = x; rate_code = w.rate_code; quantiser = w.quantiser }) left held summary) is coded in
-    record { passes = passes; coded = c; back = decodes_back (settings_of w) c.frames (has_passed w passes (subst IsSize is size)) c.some }
+    let h = has_passed w passes (subst IsSize is size) in
+    record {
+      passes = passes;
+      coded = c;
+      back = decodes_back (settings_of w) c.frames h c.some;
+      lawful = flat_lawful (settings_of w) c.frames h c.some;
+    }
 
 -- ---- what was told
 

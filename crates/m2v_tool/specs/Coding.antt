@@ -9,6 +9,7 @@ use Rattle.m2v_flat.specs.declared.answer.EncodeError.TheVariants as Error
 use Rattle.m2v_flat.specs.Answers.{FlatCoded, FlatStops, most_frames}
 use Rattle.m2v_flat.specs.Flat.{Flat}
 use Rattle.m2v_flat.specs.Recon.{FlatRecon}
+use Rattle.m2v_model.specs.Lawful.{Lawful}
 use Rattle.m2v_shown.specs.Laws.{DecodesTo}
 use Rattle.m2v_tool.specs.declared.flat.FlatWords.{FlatWords}
 use Rattle.m2v_tool.specs.declared.flat.FlatOutcome.{FlatOutcome}
@@ -17,11 +18,12 @@ use Rattle.m2v_tool.specs.Endings.{Ending, read_fault, write_fault, no_memory, u
 use Rattle.m2v_tool.specs.Words.{settings_of, WordsPass, WordsFail}
 use Rattle.m2v_tool.specs.Runs.{Run, Yields, RefusedBy, NoneFailed, Succeeds}
 
--- The settings pass, the input was coded, and what output has grown by decodes.
+-- The settings pass, the input was coded, and what output has grown by decodes and is lawful.
 pub record FlatDone (w : FlatWords) (left held : Change) (summary : Summary) : Type 0 where
   pub passes : WordsPass w
   pub coded : FlatCoded (settings_of w) left held summary
   pub back : DecodesTo (Flat (settings_of w) coded.frames) (FlatRecon (settings_of w) coded.frames)
+  pub lawful : Lawful (Flat (settings_of w) coded.frames)
 
 -- The settings pass, and coding stopped.
 pub record FlatStopped (w : FlatWords) (left held : Change) (e : EncodeError) : Type 0 where

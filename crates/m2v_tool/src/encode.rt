@@ -17,8 +17,8 @@ use crate::words::{
 };
 use clap::{ArgMatches, Command};
 use m2v_board::Gate;
-use m2v_encode::{EncodeError, Summary, encode_to, encode_unshown};
-use m2v_port::{NamedSink, PortError, Sink, Source};
+use m2v_encode::{EncodeError, Summary, encode};
+use m2v_port::{NamedSink, PortError, Sink, Source, SureFile};
 use m2v_set::{Level, Passed, Scan, Settings, Unfit};
 use std::alloc::{AllocError, Global};
 use std::sync::Wait;
@@ -273,7 +273,7 @@ fn encoded_alone<R: Threads + Wait + Sync, S: Source, K: Sink, N: NamedSink, G: 
 {
     // it tells contracts that the settings pass
     let _passes = passed.settings();
-    match encode_unshown(rt, alloc, passed, input, output, gate) {
+    match encode::<R, S, K, SureFile, G>(rt, alloc, passed, input, output, None, gate) {
         Ok(summary) => EncodeOutcome::Coded(summary),
         Err(error) => EncodeOutcome::Stopped(error),
     }
@@ -308,7 +308,7 @@ fn encoded_beside<R: Threads + Wait + Sync, S: Source, K: Sink, N: NamedSink, G:
         Ok(()) => {}
         Err(error) => return EncodeOutcome::Unopened(error),
     }
-    match encode_to(rt, alloc, passed, input, output, recon, gate) {
+    match encode(rt, alloc, passed, input, output, Some(recon), gate) {
         Ok(summary) => EncodeOutcome::Coded(summary),
         Err(error) => EncodeOutcome::Stopped(error),
     }

@@ -19,24 +19,24 @@ returns-in-Err-clause-comes g c = record {
       (λ e. c.in-Err.ensures.failed (ap Err e)) c.in-Err.ensures.err c.in-Err.ensures.same refl refl;
 }
 
-pub returns-in-Ok-encode_to-clause-comes : goal.returns-in-Ok-encode_to-clause-comes
+pub returns-in-Ok-encode-clause-comes : goal.returns-in-Ok-encode-clause-comes
 unfolding EncodeComes
-returns-in-Ok-encode_to-clause-comes g c =
-    let stays = c.encode_to.ensures.recon in
+returns-in-Ok-encode-clause-comes g c =
+    let stays = c.encode.ensures.recon in
     record {
       passes = c.settings-passes.ensures.passes;
-      coded = coded_from g.N.Sink.held g.N.Sink.faults c.args.recon.now c.open.new.self c.encode_to.new.recon c.open.ensures.same c.open.ensures.faults
-          c.args.passed.now _ _ _ c.in-Ok-encode_to.ensures.ok;
+      coded = coded_from g.N.Sink.held g.N.Sink.faults c.args.recon.now c.open.new.self c.encode.new.recon c.open.ensures.same c.open.ensures.faults
+          c.args.passed.now _ _ _ c.in-Ok-encode.ensures.ok;
       stands = (stays.is_ready, subst (λ (o : Option (List ℕ)). IfSome o (λ told. told ≡ c.args.name.now)) (sym stays.keeps_name) c.in-Ok.ensures.name);
     }
 
-pub returns-in-Err-encode_to-clause-comes : goal.returns-in-Err-encode_to-clause-comes
+pub returns-in-Err-encode-clause-comes : goal.returns-in-Err-encode-clause-comes
 unfolding EncodeComes
-returns-in-Err-encode_to-clause-comes g c =
-    let stays = c.encode_to.ensures.recon in
+returns-in-Err-encode-clause-comes g c =
+    let stays = c.encode.ensures.recon in
     record {
       passes = c.settings-passes.ensures.passes;
-      stops = stops_from g.N.Sink.held g.N.Sink.faults c.args.recon.now c.open.new.self c.encode_to.new.recon c.open.ensures.same c.open.ensures.faults
-          c.args.passed.now _ _ c.in-Err-encode_to.error c.in-Err-encode_to.ensures.err;
+      stops = stops_from g.N.Sink.held g.N.Sink.faults c.args.recon.now c.open.new.self c.encode.new.recon c.open.ensures.same c.open.ensures.faults
+          c.args.passed.now _ _ c.in-Err-encode.error c.in-Err-encode.ensures.err;
       stands = (stays.is_ready, subst (λ (o : Option (List ℕ)). IfSome o (λ told. told ≡ c.args.name.now)) (sym stays.keeps_name) c.in-Ok.ensures.name);
     }
