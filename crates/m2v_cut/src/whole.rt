@@ -1,0 +1,42 @@
+ghost use Rattle.std.specs.Prelude.{◌≤◌, IsTrue, IfOk, IfErr};
+ghost use Rattle.m2v_port.specs.Ends.{change, Tells, SinkStays};
+ghost use Rattle.m2v_decode.specs.Answers.{OfText};
+ghost use Rattle.m2v_cut.specs.Answers.{IsCutOut, Fails, Gives, answer_to};
+
+use crate::answer::{CutError, CutSummary};
+use m2v_port::{Sink, Source};
+use std::alloc::Global;
+
+/// Cuts whole groups out of a stream: so many from group `from` on, which are numbered from 0 by their group headers, or
+/// those that are there, behind the last sequence header before them and with an end code behind them. Where a picture
+/// stands before them the first group's header tells that its link to it is broken; all other bytes are copied.
+///
+/// # Errors
+/// No such group, with its number and how many there are; a group that needs pictures or headers before it, with the
+/// place of its header; both write nothing. Too long or too large, by the input's limits, with what was copied of the
+/// pieces before; a failed endpoint and want of memory, with a prefix of the cut.
+pub fn cut<S: Source, K: Sink>(
+    alloc: Global,
+    from: u32,
+    count: u32,
+    input: &mut S,
+    output: &mut K,
+) -> Result<CutSummary, CutError>
+    requires count { 1 ≤ count }
+    requires output { IsTrue (K.ready output.old) }
+    ensures ok { IfOk result (λ s. OfText
+        (change S.left S.faults input.old input.new) (λ text. IsCutOut text from count
+        (change K.held K.faults output.old output.new) s)) }
+    ensures err { IfErr result (Fails from count
+        (change S.left S.faults input.old input.new)
+        (change K.held K.faults output.old output.new)) }
+    // Each text has one answer, and nothing else is answered.
+    ensures answer { Tells
+        (change S.left S.faults input.old input.new) (λ text. Gives
+        (change S.left S.faults input.old input.new)
+        (change K.held K.faults output.old output.new) (answer_to text from count) result) }
+    ensures output { SinkStays K.ready K.name K.faults output.old output.new }
+    ensures input { S.faults input.old ≤ S.faults input.new }
+{
+    Err(CutError::Memory)
+}

@@ -1,0 +1,7 @@
+//! The groups of a stream, numbered by their group headers, and the text of a cut: whole groups of it as they stand,
+//! behind the last sequence header before them. Definitions, and what holds of them.
+#![tactic(auto)]
+
+mod laws;
+
+pub use laws::law_worked_rows;
