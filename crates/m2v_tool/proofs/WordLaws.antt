@@ -1,103 +1,133 @@
 -- What words mean, and that they have one meaning.
-use Rattle.std.proofs.Common.{◌≡◌, ℕ, arith, get_or, List, [], ◌∷◌, Option, Some, IfSome, ap, subst, sym, ◌∙◌}
-use Rattle.std.specs.Prelude.{codes}
+use Rattle.std.proofs.Common.{◌≡◌, ℕ, List, [], ◌∷◌, Option, Some, IfSome, true, refl, ap, subst, sym, ◌∙◌}
+use Rattle.std.specs.Prelude.{codes, if◌then◌else◌}
+use Rattle.std.specs.Str.{bytes_eq}
 use Rattle.clap.specs.Walk.{Text}
 use Rattle.m2v_tool.specs.declared.flat.FlatWords.{FlatWords}
 use Rattle.m2v_tool.specs.declared.encode.EncodeWords.{EncodeWords}
+use Rattle.m2v_tool.specs.declared.cut.CutWords.{CutWords}
 use Rattle.m2v_tool.specs.declared.command.Command.{Command}
-use Rattle.m2v_tool.specs.declared.command.Command.TheVariants.{Flat, Encode, Decode, Check, Make}
-use Rattle.m2v_tool.specs.EncodeWords.{words_of}
-use Rattle.m2v_tool.specs.Words.{Means}
+use Rattle.m2v_tool.specs.declared.command.Command.TheVariants.{Flat, Encode, Decode, Check, Make, Cut}
+use Rattle.m2v_tool.specs.EncodeWords.{encode_meant, words_of}
+use Rattle.m2v_tool.specs.Making.{make_meant}
+use Rattle.m2v_tool.specs.Cutting.{cut_meant}
+use Rattle.m2v_tool.specs.Words.{Means, flat_meant}
 
--- the word that names a command
-abbrev word_of : Command → Text
-word_of (Flat w) = codes "flat"
-word_of (Encode w) = codes "encode"
-word_of Decode = codes "decode"
-word_of Check = codes "check"
-word_of (Make seed) = codes "make"
+-- ---- commands by their kind: a line a command in each definition
 
-named : (name : Text) (others : List Text) (c : Command) → Means (name ∷ others) c → name ≡ word_of c
-named name others (Flat w) means = means.0
-named name others (Encode w) means = means.0
-named name others Decode means = means.0
-named name others Check means = means.0
-named name others (Make seed) means = means.0
+data Kind : Type 0 where
+  flats : Kind
+  encodes : Kind
+  decodes : Kind
+  checks : Kind
+  makes : Kind
+  cuts : Kind
 
--- the words that name two commands differ
-flat_encode : codes "flat" ≡ codes "encode" → ⊥
-flat_encode same = cc
+kind_of : Command → Kind
+kind_of (Flat w) = flats
+kind_of (Encode w) = encodes
+kind_of Decode = decodes
+kind_of Check = checks
+kind_of (Make seed) = makes
+kind_of (Cut w) = cuts
 
-flat_decode : codes "flat" ≡ codes "decode" → ⊥
-flat_decode same = cc
+-- the kind by the word that names the command
+kind_named : Text → Kind
+kind_named name =
+    if bytes_eq name (codes "flat") then flats
+    else if bytes_eq name (codes "encode") then encodes
+    else if bytes_eq name (codes "decode") then decodes
+    else if bytes_eq name (codes "check") then checks
+    else if bytes_eq name (codes "make") then makes
+    else cuts
 
-flat_check : codes "flat" ≡ codes "check" → ⊥
-flat_check same = cc
+by_name : (name : Text) (others : List Text) (c : Command) → Means (name ∷ others) c → kind_named name ≡ kind_of c
+by_name name others (Flat w) m = ap kind_named m.0
+by_name name others (Encode w) m = ap kind_named m.0
+by_name name others Decode m = ap kind_named m.0
+by_name name others Check m = ap kind_named m.0
+by_name name others (Make seed) m = ap kind_named m.0
+by_name name others (Cut w) m = ap kind_named m.0
 
-encode_decode : codes "encode" ≡ codes "decode" → ⊥
-encode_decode same =
-    let first : 101 ≡ 100 = ap (λ (l : List ℕ). get_or l 0 0) same in
-    omega (arith, first)
+-- what the words of a command say
+abbrev Payload : Kind → Type 0
+Payload flats = FlatWords
+Payload encodes = EncodeWords
+Payload decodes = Unit {0}
+Payload checks = Unit {0}
+Payload makes = ℕ
+Payload cuts = CutWords
 
-encode_check : codes "encode" ≡ codes "check" → ⊥
-encode_check same = cc
+abbrev payload : (c : Command) → Payload (kind_of c)
+payload (Flat w) = w
+payload (Encode w) = w
+payload Decode = tt
+payload Check = tt
+payload (Make seed) = seed
+payload (Cut w) = w
 
-decode_check : codes "decode" ≡ codes "check" → ⊥
-decode_check same = cc
+-- the command that says it
+abbrev command_of : (k : Kind) → Payload k → Command
+command_of flats w = Flat w
+command_of encodes w = Encode w
+command_of decodes u = Decode
+command_of checks u = Check
+command_of makes seed = Make seed
+command_of cuts w = Cut w
 
-flat_make : codes "flat" ≡ codes "make" → ⊥
-flat_make same = let first : 102 ≡ 109 = ap (λ (l : List ℕ). get_or l 0 0) same in omega (arith, first)
+again : (c : Command) → command_of (kind_of c) (payload c) ≡ c
+again (Flat w) = refl
+again (Encode w) = refl
+again Decode = refl
+again Check = refl
+again (Make seed) = refl
+again (Cut w) = refl
 
-encode_make : codes "encode" ≡ codes "make" → ⊥
-encode_make same = let first : 101 ≡ 109 = ap (λ (l : List ℕ). get_or l 0 0) same in omega (arith, first)
+-- the words say it
+abbrev Says : (k : Kind) → List Text → Payload k → Type 0
+Says flats others w = flat_meant others ≡ Some w
+Says encodes others w = encode_meant others ≡ Some (words_of w)
+Says decodes others u = Unit {0}
+Says checks others u = Unit {0}
+Says makes others seed = make_meant others ≡ Some seed
+Says cuts others w = cut_meant others ≡ Some w
 
-decode_make : codes "decode" ≡ codes "make" → ⊥
-decode_make same = let first : 100 ≡ 109 = ap (λ (l : List ℕ). get_or l 0 0) same in omega (arith, first)
+said : (name : Text) (others : List Text) (c : Command) → Means (name ∷ others) c → Says (kind_of c) others (payload c)
+said name others (Flat w) m = m.1
+said name others (Encode w) m = m.1
+said name others Decode m = tt
+said name others Check m = tt
+said name others (Make seed) m = m.1
+said name others (Cut w) m = m.1
 
-check_make : codes "check" ≡ codes "make" → ⊥
-check_make same = let first : 99 ≡ 109 = ap (λ (l : List ℕ). get_or l 0 0) same in omega (arith, first)
+-- ---- one meaning
+
+one_some : {T : Type 0} (o : Option T) (x y : T) → o ≡ Some x → o ≡ Some y → x ≡ y
+one_some o x y f g =
+    let same : Some x ≡ Some y = sym f ∙ g in
+    cc
 
 -- What holds of a command that words mean holds of each one that they mean, where it speaks of what the words say alone.
 module _ (P : Command → Type 0) (alike : (v w : EncodeWords) → words_of v ≡ words_of w → P (Encode v) → P (Encode w)) where
-  by_word : (name : Text) (others : List Text) (c d : Command) → Means (name ∷ others) c → Means (name ∷ others) d → word_of c ≡ word_of d → P c → P d
-  by_word name others (Flat v) (Flat w) f g same p =
-      let some : Some v ≡ Some w = sym f.1 ∙ g.1 in
-      let one : v ≡ w = cc in
-      subst (λ (x : FlatWords). P (Flat x)) one p
-  by_word name others (Flat v) (Encode w) f g same p = absurd (flat_encode same)
-  by_word name others (Flat v) Decode f g same p = absurd (flat_decode same)
-  by_word name others (Flat v) Check f g same p = absurd (flat_check same)
-  by_word name others (Flat v) (Make n) f g same p = absurd (flat_make same)
-  by_word name others (Encode v) (Flat w) f g same p = absurd (flat_encode (sym same))
-  by_word name others (Encode v) (Encode w) f g same p =
-      let some : Some (words_of v) ≡ Some (words_of w) = sym f.1 ∙ g.1 in
-      let one : words_of v ≡ words_of w = cc in
-      alike v w one p
-  by_word name others (Encode v) Decode f g same p = absurd (encode_decode same)
-  by_word name others (Encode v) Check f g same p = absurd (encode_check same)
-  by_word name others (Encode v) (Make n) f g same p = absurd (encode_make same)
-  by_word name others Decode (Flat w) f g same p = absurd (flat_decode (sym same))
-  by_word name others Decode (Encode w) f g same p = absurd (encode_decode (sym same))
-  by_word name others Decode Decode f g same p = p
-  by_word name others Decode Check f g same p = absurd (decode_check same)
-  by_word name others Decode (Make n) f g same p = absurd (decode_make same)
-  by_word name others Check (Flat w) f g same p = absurd (flat_check (sym same))
-  by_word name others Check (Encode w) f g same p = absurd (encode_check (sym same))
-  by_word name others Check Decode f g same p = absurd (decode_check (sym same))
-  by_word name others Check Check f g same p = p
-  by_word name others Check (Make n) f g same p = absurd (check_make same)
-  by_word name others (Make n) (Flat w) f g same p = absurd (flat_make (sym same))
-  by_word name others (Make n) (Encode w) f g same p = absurd (encode_make (sym same))
-  by_word name others (Make n) Decode f g same p = absurd (decode_make (sym same))
-  by_word name others (Make n) Check f g same p = absurd (check_make (sym same))
-  by_word name others (Make n) (Make m) f g same p =
-      let some : Some n ≡ Some m = sym f.1 ∙ g.1 in
-      let one : n ≡ m = cc in
-      subst (λ (x : ℕ). P (Make x)) one p
+  one_payload : (k : Kind) (others : List Text) (x y : Payload k) → Says k others x → Says k others y → P (command_of k x) → P (command_of k y)
+  one_payload flats others x y f g p = subst (λ (w : FlatWords). P (Flat w)) (one_some _ x y f g) p
+  one_payload encodes others x y f g p = alike x y (one_some _ (words_of x) (words_of y) f g) p
+  one_payload decodes others x y f g p = p
+  one_payload checks others x y f g p = p
+  one_payload makes others x y f g p = subst (λ (n : ℕ). P (Make n)) (one_some _ x y f g) p
+  one_payload cuts others x y f g p = subst (λ (w : CutWords). P (Cut w)) (one_some _ x y f g) p
+
+  one_kind : (k j : Kind) (others : List Text) → k ≡ j → (x : Payload k) (y : Payload j) → Says k others x → Says j others y → P (command_of k x) → P (command_of j y)
+  one_kind k j others same =
+      subst (λ (i : Kind). (x : Payload k) (y : Payload i) → Says k others x → Says i others y → P (command_of k x) → P (command_of i y)) same
+      (one_payload k others)
 
   pub one_meaning : (words : List Text) (c d : Command) → Means words c → Means words d → P c → P d
   one_meaning [] c d f g p = absurd f
-  one_meaning (name ∷ others) c d f g p = by_word name others c d f g (sym (named name others c f) ∙ named name others d g) p
+  one_meaning (name ∷ others) c d f g p =
+      subst P (again d)
+      (one_kind (kind_of c) (kind_of d) others (sym (by_name name others c f) ∙ by_name name others d g) (payload c) (payload d)
+      (said name others c f) (said name others d g) (subst P (sym (again c)) p))
 
 -- the command that was read
 pub means_of : (words : List Text) (read : Option Command) (c d : Command) → read ≡ Some c → c ≡ d → IfSome read (Means words) → Means words d

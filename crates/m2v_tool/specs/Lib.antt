@@ -9,3 +9,4 @@ pub mod Checking
 pub mod Encoding
 pub mod Making
 pub mod Commands
+pub mod Cutting

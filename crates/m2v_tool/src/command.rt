@@ -5,6 +5,7 @@ ghost use Rattle.m2v_tool.specs.Words.{Means, MeansBy, NoCommand};
 ghost use Rattle.m2v_tool.specs.Commands.{ending_of};
 
 use crate::check::{CheckOutcome, check_words};
+use crate::cut::{CutOutcome, CutWords, cut_words};
 use crate::decode::{DecodeOutcome, decode_words};
 use crate::encode::{EncodeOutcome, EncodeWords, encode_words};
 use crate::flat::{FlatOutcome, FlatWords, flat_words};
@@ -25,6 +26,8 @@ pub enum Command {
     Check,
     /// The stream of a seed is made.
     Make(u64),
+    /// Groups of a stream are copied.
+    Cut(CutWords),
 }
 
 /// What came of the words.
@@ -44,6 +47,8 @@ pub enum Outcome {
     Check(CheckOutcome),
     /// What came of `make`.
     Make(MakeOutcome),
+    /// What came of `cut`.
+    Cut(CutOutcome),
 }
 
 impl Outcome {
@@ -60,6 +65,7 @@ impl Outcome {
             Outcome::Decode(outcome) => outcome.report(alloc),
             Outcome::Check(outcome) => outcome.report(alloc),
             Outcome::Make(outcome) => outcome.report(alloc),
+            Outcome::Cut(outcome) => outcome.report(alloc),
         }
     }
 }
@@ -89,6 +95,10 @@ fn meant_by(alloc: Global, name: &str, others: &[String]) -> Result<Option<Comma
         }
         "make" => match make_words(alloc, others)? {
             Some(seed) => Ok(Some(Command::Make(seed))),
+            None => Ok(None),
+        },
+        "cut" => match cut_words(alloc, others)? {
+            Some(meant) => Ok(Some(Command::Cut(meant))),
             None => Ok(None),
         },
         _ => Ok(None),

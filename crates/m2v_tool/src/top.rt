@@ -5,6 +5,7 @@ ghost use Rattle.m2v_tool.specs.Commands.{Comes, Kept, ending_of};
 
 use crate::check::judged;
 use crate::command::{Command, Outcome, meaning};
+use crate::cut::cut_out;
 use crate::decode::decoded;
 use crate::encode::encoded;
 use crate::flat::coded;
@@ -53,6 +54,7 @@ fn carried_out<R: Threads + Wait + Sync, S: Source, K: Sink, N: NamedSink, G: Ga
         Ok(Some(Command::Decode)) => Outcome::Decode(decoded(alloc, input, output)),
         Ok(Some(Command::Check)) => Outcome::Check(judged(alloc, input)),
         Ok(Some(Command::Make(seed))) => Outcome::Make(made(rt, alloc, seed, output, gate)),
+        Ok(Some(Command::Cut(meant))) => Outcome::Cut(cut_out(alloc, &meant, input, output)),
         Ok(None) => Outcome::Usage,
         Err(AllocError) => Outcome::NoMemory,
     }
@@ -89,9 +91,10 @@ fn reported<E: Sink>(alloc: Global, outcome: &Outcome, report: &mut E) -> Status
 /// each W by H samples, to `output` by the flat profile, with the frame rate code CODE and the quantiser code Q.
 /// `decode` decodes the stream of `input` (ISO/IEC 13818-2) and writes the frames that it shows to `output` as raw
 /// video, in display order. `check` says of the stream of `input` whether it keeps the rules of its level, and whether the
-/// decoder's buffer bears it. `make SEED` writes a large lawful stream of a seed. `encode` codes the raw frames of `input` to `output` by its options, with workers that `rt`
-/// runs and `gate` lets in; where its words name a file, `recon` is opened under this name, and gets the frames that the
-/// stream decodes to.
+/// decoder's buffer bears it. `make SEED` writes a large lawful stream of a seed. `encode` codes the raw frames of `input`
+/// to `output` by its options, with workers that `rt` runs and `gate` lets in; where its words name a file, `recon` is
+/// opened under this name, and gets the frames that the stream decodes to. `cut FROM COUNT` copies whole groups of the
+/// stream of `input` to `output`, so many from number FROM on.
 pub fn run<R: Threads + Wait + Sync, S: Source, K: Sink, N: NamedSink, E: Sink, G: Gate + Sync>(
     rt: &R,
     alloc: Global,

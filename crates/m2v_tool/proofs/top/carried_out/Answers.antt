@@ -40,3 +40,9 @@ unfolding Comes
 returns-in-Ok-Some-Make-clause-comes g c =
     let read = c.in-Ok-Some-Make in
     (_, means_of _ _ _ _ read.field-0-is read.field-0-0-is read.ensures.found, c.made.ensures.comes, refl, refl)
+
+pub returns-in-Ok-Some-Cut-clause-comes : goal.returns-in-Ok-Some-Cut-clause-comes
+unfolding Comes
+returns-in-Ok-Some-Cut-clause-comes g c =
+    let read = c.in-Ok-Some-Cut in
+    (_, means_of _ _ _ _ read.field-0-is read.field-0-0-is read.ensures.found, c.cut_out.ensures.comes, refl)
