@@ -12,6 +12,7 @@ pub mod References
 pub mod Large
 pub mod Runs
 pub mod Heads
+pub mod Between
 pub mod Steps
 pub mod Groups
 pub mod Books

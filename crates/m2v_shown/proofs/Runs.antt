@@ -26,17 +26,17 @@ use Rattle.m2v_shown.proofs.Large.{no_large}
 
 -- ---- one run behind another
 
-state_on : (st : State) (ps qs : List Part) → state_behind st (ps ++ qs) ≡ state_behind (state_behind st ps) qs
+pub state_on : (st : State) (ps qs : List Part) → state_behind st (ps ++ qs) ≡ state_behind (state_behind st ps) qs
 unfolding state_behind
 state_on st [] qs = refl
 state_on st (p ∷ ps) qs = state_on (after st p) ps qs
 
-store_on : (st : State) (store : Store) (ps qs : List Part) → store_from st store (ps ++ qs) ≡ store_from (state_behind st ps) (store_from st store ps) qs
+pub store_on : (st : State) (store : Store) (ps qs : List Part) → store_from st store (ps ++ qs) ≡ store_from (state_behind st ps) (store_from st store ps) qs
 unfolding state_behind store_from
 store_on st store [] qs = refl
 store_on st store (p ∷ ps) qs = store_on (after st p) (store_after st store p) ps qs
 
-events_on : (st : State) (store : Store) (ps qs : List Part) → events_from st store (ps ++ qs) ≡ events_from st store ps ++ events_from (state_behind st ps) (store_from st store ps) qs
+pub events_on : (st : State) (store : Store) (ps qs : List Part) → events_from st store (ps ++ qs) ≡ events_from st store ps ++ events_from (state_behind st ps) (store_from st store ps) qs
 unfolding state_behind store_from events_from
 events_on st store [] qs = refl
 events_on st store (p ∷ ps) qs =
@@ -66,6 +66,15 @@ unfolding state_behind store_from events_from
 goes_one st store p end left told a b c = record { state = a; frames = b; pictures = ap pictures_in (append-nil (told_by st store p)) ∙ c }
 
 -- ---- slices
+
+-- one slice more
+pub parts_more : (b : Book) (p n : ℕ) → slice_parts b p (suc n) ≡ slice_parts b p n ++ slice n (slice_read (task_at b p n)) ∷ []
+parts_more b p n =
+    let f = λ (r : ℕ). slice r (slice_read (task_at b p r)) in
+    let e : suc n ≡ n + 1 = omega arith in
+    ap (λ (k : ℕ). map f (range_with_len 0 k)) e ∙ ap (map f) (range_append 0 n 1)
+    ∙ ap (λ (k : ℕ). map f (range_with_len 0 n ++ k ∷ [])) (let z : 0 + n ≡ n = omega arith in z)
+    ∙ map-append f (range_with_len 0 n) (n ∷ [])
 
 module _ (b : Book) (h : IsBook b) (closed_one : Bool) (before p delay : ℕ) (lt : p < length b.pictures) where
   task_row : (n : ℕ) → n ≡ (task_at b p n).row
@@ -100,14 +109,6 @@ module _ (b : Book) (h : IsBook b) (closed_one : Bool) (before p delay : ℕ) (l
       (slice_after b closed_one before p delay n (no_large (task_at b p n) (slice_is_one b h p lt n small)))
       (ap (λ (x : Samples). store_with store x refs) (painted_is n refs frame)) refl
 
-  parts_more : (n : ℕ) → slice_parts b p (suc n) ≡ slice_parts b p n ++ slice n (slice_read (task_at b p n)) ∷ []
-  parts_more n =
-      let f = λ (r : ℕ). slice r (slice_read (task_at b p r)) in
-      let e : suc n ≡ n + 1 = omega arith in
-      ap (λ (k : ℕ). map f (range_with_len 0 k)) e ∙ ap (map f) (range_append 0 n 1)
-      ∙ ap (λ (k : ℕ). map f (range_with_len 0 n ++ k ∷ [])) (let z : 0 + n ≡ n = omega arith in z)
-      ∙ map-append f (range_with_len 0 n) (n ∷ [])
-
   pub slices_go : (n : ℕ) (store : Store) (refs : References) (frame : Samples) → n ≤ rows b
       → Goes (state_at b closed_one before p delay 0) (store_with store frame refs) (slice_parts b p n)
       (state_at b closed_one before p delay n) (store_with store (rows_in (λ r. task_at b p r) (references_at b closed_one before p) refs n frame) refs) []
@@ -117,5 +118,5 @@ module _ (b : Book) (h : IsBook b) (closed_one : Bool) (before p delay : ℕ) (l
       let tasks = λ (r : ℕ). task_at b p r in
       let list = references_at b closed_one before p in
       let now = rows_in tasks list refs n frame in
-      subst (λ (ps : List Part). Goes (state_at b closed_one before p delay 0) (store_with store frame refs) ps (state_at b closed_one before p delay (suc n)) (store_with store (slice_in (task_at b p n) list refs now) refs) []) (sym (parts_more n))
+      subst (λ (ps : List Part). Goes (state_at b closed_one before p delay 0) (store_with store frame refs) ps (state_at b closed_one before p delay (suc n)) (store_with store (slice_in (task_at b p n) list refs now) refs) []) (sym (parts_more b p n))
       (goes_on _ _ _ _ _ _ _ _ [] [] (slices_go n store refs frame (omega (arith, le))) (slice_goes n store refs now (omega (arith, le))))

@@ -119,7 +119,7 @@ unfolding raw_behind
 raw_more b p t e = ap (λ (u : Bool). raw_behind b p ++ cond u [] ((crop (frame_in b (job_at b p).frame), (job_at b p).kind) ∷ [])) e
 
 -- a picture's last state lets the next one follow
-next_ready : (b : Book) (closed_one : Bool) (before p delay : ℕ) → Ready b before (suc p) (state_at b closed_one before p delay (rows b))
+pub next_ready : (b : Book) (closed_one : Bool) (before p delay : ℕ) → Ready b before (suc p) (state_at b closed_one before p delay (rows b))
 next_ready b closed_one before p delay = record {
   behind = (closed_one, next_sequence b.settings closed_one (anchors_behind before b (suc p)) (waiting_behind b (suc p)) (Some (whole b closed_one before p delay)));
   plain = λ e. (closed_one, (Some (whole b closed_one before p delay), refl));

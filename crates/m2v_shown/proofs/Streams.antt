@@ -36,63 +36,16 @@ use Rattle.m2v_tree.proofs.States.{state_before, first_sequence, next_sequence}
 use Rattle.m2v_tree.proofs.Follows.{stream_some}
 use Rattle.m2v_shown.proofs.Books.{AllBooks, stream_books}
 use Rattle.m2v_shown.proofs.Runs.{goes_on, goes_one}
-use Rattle.m2v_shown.proofs.Heads.{Ready}
+use Rattle.m2v_shown.proofs.Between.{IsBetween, Begins, begins_at, past_end, known_on}
 use Rattle.m2v_shown.proofs.Steps.{NoneDropped, pictures_shown}
 use Rattle.m2v_shown.proofs.Groups.{group_shown, last_anchor_is}
 
 -- ---- between groups
 
--- a state behind groups, with so many anchors
-record IsBetween (s : Settings) (st : State) : Type 0 where
-  closed_one : Bool
-  anchors : ℕ
-  open_one : Option Open
-  is : st ≡ state_with s closed_one anchors None open_one
-  one : 1 ≤ anchors
-  most : anchors ≤ 2
-
 -- where a group begins: at first, or behind others, with the last anchor at hand
 record Stands (s : Settings) (x : Progress) (st : State) (store : Store) : Type 0 where
   last : (settled st store).newer ≡ x.before
   state : ((x.before ≡ None) × (st ≡ at_first)) ⊎ IsBetween s st
-
-record Begins (b : Book) (st : State) : Type 0 where
-  before : ℕ
-  counted : IsCounted b before
-  ready : Ready b before 0 st
-
-start_is : (b : Book) (closed_one : Bool) (before : ℕ) (open_one : Option Open) → state_with b.settings closed_one before None open_one ≡ state_before b closed_one before 0 open_one
-unfolding waiting_behind anchors_behind
-start_is b closed_one before open_one = refl
-
-begins_at : (b : Book) → IsBook b → (st : State) → ((b.before ≡ None) × (st ≡ at_first)) ⊎ IsBetween b.settings st → Begins b st
-begins_at b h st (inl x) = record {
-  before = 0;
-  counted = record { most = omega arith; some = λ e. absurd (true_false (is_some b.before) e (ap is_some x.0)) };
-  ready = record {
-    behind = (false, ap (λ (z : State). after z (sequence (sequence_by b.settings))) x.1 ∙ first_sequence b.settings ∙ start_is b false 0 None);
-    plain = λ e. absurd (true_false (begins_group (job_at b 0)) (first_begins b h) e);
-  };
-}
-begins_at b h st (inr x) = record {
-  before = x.anchors;
-  counted = record { most = x.most; some = λ e. x.one };
-  ready = record {
-    behind = (
-      x.closed_one,
-      ap (λ (z : State). after z (sequence (sequence_by b.settings))) x.is ∙ next_sequence b.settings x.closed_one x.anchors None x.open_one ∙ start_is b x.closed_one x.anchors None,
-    );
-    plain = λ e. absurd (true_false (begins_group (job_at b 0)) (first_begins b h) e);
-  };
-}
-
-none_there : (xs : List PictureJob) → get_or xs (length xs) no_job ≡ no_job
-none_there [] = refl
-none_there (x ∷ xs) = none_there xs
-
-past_end : (b : Book) → begins_group (job_at b (length b.pictures)) ≡ false
-unfolding begins_group
-past_end b = ap (λ (j : PictureJob). nat_eq j.kind 1 && not (nat_eq j.structure 2)) (none_there b.pictures)
 
 free_by : (t : Bool) (f : FirstField) → cond t (Some f) None ≡ None → t ≡ false
 free_by true f e = absurd cc
@@ -156,10 +109,6 @@ raw_append xs ys =
 
 frames_append : (xs ys : Pictures) → frames_in (xs ++ ys) ≡ frames_in xs ++ frames_in ys
 frames_append xs ys = ap (map typed) (filter-append is_ending xs ys) ∙ map-append typed (filter is_ending xs) (filter is_ending ys)
-
-known_on : (t u p q w a c : Pictures) → t ++ q ≡ p ++ a → u ++ w ≡ q ++ c → (t ++ u) ++ w ≡ p ++ (a ++ c)
-known_on t u p q w a c e f =
-    append_assoc t u w ∙ ap (λ (xs : Pictures). t ++ xs) f ∙ sym (append_assoc t q c) ∙ ap (λ (xs : Pictures). xs ++ c) e ∙ append_assoc p a c
 
 record GroupsGone (s : Settings) (x : Progress) (groups : List (Group Samples)) (st : State) (store : Store) : Type 0 where
   end : State

@@ -11,6 +11,7 @@ use Rattle.m2v_model.specs.Pictures.{Store, Events, told_by, store_after, events
 use Rattle.m2v_spelled.specs.Slices.{slice_read}
 use Rattle.m2v_tree.specs.Trees.{task_at, slice_parts, state_behind}
 use Rattle.m2v_tree.proofs.States.{state_at, slice_after}
+use Rattle.m2v_shown.proofs.Runs.{state_on, store_on, events_on, parts_more}
 use Rattle.m2v_shown.proofs.Frames.{slice_is_one}
 use Rattle.m2v_shown.proofs.Large.{no_large}
 
@@ -21,25 +22,6 @@ pub record Tells (st : State) (store : Store) (parts : List Part) (end : State) 
   pub events : events_from st store parts ≡ es
 
 -- ---- one run behind another
-
-state_on : (st : State) (ps qs : List Part) → state_behind st (ps ++ qs) ≡ state_behind (state_behind st ps) qs
-unfolding state_behind
-state_on st [] qs = refl
-state_on st (p ∷ ps) qs = state_on (after st p) ps qs
-
-store_on : (st : State) (store : Store) (ps qs : List Part) → store_from st store (ps ++ qs) ≡ store_from (state_behind st ps) (store_from st store ps) qs
-unfolding state_behind store_from
-store_on st store [] qs = refl
-store_on st store (p ∷ ps) qs = store_on (after st p) (store_after st store p) ps qs
-
-events_on : (st : State) (store : Store) (ps qs : List Part) → events_from st store (ps ++ qs) ≡ events_from st store ps ++ events_from (state_behind st ps) (store_from st store ps) qs
-unfolding state_behind store_from events_from
-events_on st store [] qs = refl
-events_on st store (p ∷ ps) qs =
-    let told = told_by st store p in
-    let next = after st p in
-    let left = store_after st store p in
-    ap (λ (es : Events). told ++ es) (events_on next left ps qs) ∙ sym (append_assoc told (events_from next left ps) (events_from (state_behind next ps) (store_from next left ps) qs))
 
 pub tells_on : (a b c : State) (s t u : Store) (ps qs : List Part) (es fs : Events) → Tells a s ps b t es → Tells b t qs c u fs → Tells a s (ps ++ qs) c u (es ++ fs)
 tells_on a b c s t u ps qs es fs x y = record {
@@ -67,14 +49,6 @@ module _ (b : Book) (h : IsBook b) (closed_one : Bool) (before p delay : ℕ) (l
     pub left : Store
     pub tells : Tells (state_at b closed_one before p delay 0) store parts (state_at b closed_one before p delay n) left []
 
-  parts_more : (n : ℕ) → slice_parts b p (suc n) ≡ slice_parts b p n ++ slice n (slice_read (task_at b p n)) ∷ []
-  parts_more n =
-      let f = λ (r : ℕ). slice r (slice_read (task_at b p r)) in
-      let e : suc n ≡ n + 1 = omega arith in
-      ap (λ (k : ℕ). map f (range_with_len 0 k)) e ∙ ap (map f) (range_append 0 n 1)
-      ∙ ap (λ (k : ℕ). map f (range_with_len 0 n ++ k ∷ [])) (let z : 0 + n ≡ n = omega arith in z)
-      ∙ map-append f (range_with_len 0 n) (n ∷ [])
-
   pub slices_quiet : (n : ℕ) (store : Store) → n ≤ rows b → Quiet store (slice_parts b p n) n
   slices_quiet zero store le = record { left = store; tells = tells_none (state_at b closed_one before p delay 0) store }
   slices_quiet (suc n) store le =
@@ -82,5 +56,5 @@ module _ (b : Book) (h : IsBook b) (closed_one : Bool) (before p delay : ℕ) (l
       let part = slice n (slice_read (task_at b p n)) in
       let one = tells_one (state_at b closed_one before p delay n) rec.left part (state_at b closed_one before p delay (suc n)) []
       (slice_after b closed_one before p delay n (no_large (task_at b p n) (slice_is_one b h p lt n (omega (arith, le))))) refl in
-      subst (λ (ps : List Part). Quiet store ps (suc n)) (sym (parts_more n))
+      subst (λ (ps : List Part). Quiet store ps (suc n)) (sym (parts_more b p n))
       (record { left = _; tells = tells_on _ _ _ _ _ _ _ _ [] [] rec.tells one })

@@ -24,6 +24,7 @@ use Rattle.m2v_tree.specs.States.{open_at, waiting_behind, anchors_behind}
 use Rattle.m2v_tree.proofs.Turns.{IsCounted}
 use Rattle.m2v_tree.proofs.States.{state_at, references_at, next_sequence}
 use Rattle.m2v_shown.proofs.Heads.{Ready}
+use Rattle.m2v_shown.proofs.Steps.{next_ready}
 use Rattle.m2v_lawful.specs.Own.{IsPictureOf}
 use Rattle.m2v_lawful.specs.Told.{told, told_all, IsMade}
 use Rattle.m2v_told.specs.Told.{Made, job_in, delay_in}
@@ -82,15 +83,6 @@ pub record Upto (b : Book) (before : ℕ) (delay : ℕ → ℕ) (start : State) 
   pub are : All (IsMade b.settings) made
   pub jobs : map job_in made ≡ take p b.pictures
   pub delays : map delay_in made ≡ map delay (range_with_len 0 p)
-
--- a picture's last state lets the next one follow
-next_ready : (b : Book) (closed_one : Bool) (before p delay : ℕ) → Ready b before (suc p) (state_at b closed_one before p delay (rows b))
-next_ready b closed_one before p delay =
-    let o = open_at b.settings (job_at b p) delay (references_at b closed_one before p) (rows b) in
-    record {
-      behind = (closed_one, next_sequence b.settings closed_one (anchors_behind before b (suc p)) (waiting_behind b (suc p)) (Some o));
-      plain = λ e. (closed_one, (Some o, refl));
-    }
 
 one_more : (b : Book) → IsBook b → (before : ℕ) → IsCounted b before → (delay : ℕ → ℕ) (start : State) (first : Store) (parts : List Part) (p : ℕ) → p < length b.pictures
     → (l : Entries) (at : ℕ) → delay p ≡ delay_at l (job_at b p) p at → delay p ≤ 65534 → Upto b before delay start first parts p

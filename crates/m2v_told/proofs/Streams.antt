@@ -27,7 +27,7 @@ use Rattle.m2v_tree.specs.States.{state_with, waiting_behind, anchors_behind}
 use Rattle.m2v_tree.proofs.Turns.{IsCounted, none_behind, anchors_end, first_begins}
 use Rattle.m2v_tree.proofs.States.{state_before, first_sequence, next_sequence}
 use Rattle.m2v_tree.proofs.Follows.{stream_some}
-use Rattle.m2v_shown.proofs.Heads.{Ready}
+use Rattle.m2v_shown.proofs.Between.{IsBetween, Begins, begins_at, past_end, known_on}
 use Rattle.m2v_shown.proofs.Views.{true_false}
 use Rattle.m2v_lawful.specs.Told.{told, told_all, IsMade}
 use Rattle.m2v_safe.specs.Removals.{coded_of, ledger_of}
@@ -39,56 +39,9 @@ use Rattle.m2v_told.proofs.Good.{IsGood, AreGood, are_good}
 
 -- ---- between groups
 
--- a state behind groups, with so many anchors
-record IsBetween (s : Settings) (st : State) : Type 0 where
-  closed_one : Bool
-  anchors : ℕ
-  open_one : Option Open
-  is : st ≡ state_with s closed_one anchors None open_one
-  one : 1 ≤ anchors
-  most : anchors ≤ 2
-
 -- where a group begins: at first, or behind others
 abbrev Stands : Settings → Progress → State → Type 0
 Stands s x st = ((x.before ≡ None) × (st ≡ at_first)) ⊎ IsBetween s st
-
-record Begins (b : Book) (st : State) : Type 0 where
-  before : ℕ
-  counted : IsCounted b before
-  ready : Ready b before 0 st
-
-start_is : (b : Book) (closed_one : Bool) (before : ℕ) (open_one : Option Open) → state_with b.settings closed_one before None open_one ≡ state_before b closed_one before 0 open_one
-unfolding waiting_behind anchors_behind
-start_is b closed_one before open_one = refl
-
-begins_at : (b : Book) → IsBook b → (st : State) → ((b.before ≡ None) × (st ≡ at_first)) ⊎ IsBetween b.settings st → Begins b st
-begins_at b h st (inl x) = record {
-  before = 0;
-  counted = record { most = omega arith; some = λ e. absurd (true_false (is_some b.before) e (ap is_some x.0)) };
-  ready = record {
-    behind = (false, ap (λ (z : State). after z (sequence (sequence_by b.settings))) x.1 ∙ first_sequence b.settings ∙ start_is b false 0 None);
-    plain = λ e. absurd (true_false (begins_group (job_at b 0)) (first_begins b h) e);
-  };
-}
-begins_at b h st (inr x) = record {
-  before = x.anchors;
-  counted = record { most = x.most; some = λ e. x.one };
-  ready = record {
-    behind = (
-      x.closed_one,
-      ap (λ (z : State). after z (sequence (sequence_by b.settings))) x.is ∙ next_sequence b.settings x.closed_one x.anchors None x.open_one ∙ start_is b x.closed_one x.anchors None,
-    );
-    plain = λ e. absurd (true_false (begins_group (job_at b 0)) (first_begins b h) e);
-  };
-}
-
-none_there : (xs : List PictureJob) → get_or xs (length xs) no_job ≡ no_job
-none_there [] = refl
-none_there (x ∷ xs) = none_there xs
-
-past_end : (b : Book) → begins_group (job_at b (length b.pictures)) ≡ false
-unfolding begins_group
-past_end b = ap (λ (j : PictureJob). nat_eq j.kind 1 && not (nat_eq j.structure 2)) (none_there b.pictures)
 
 -- ---- one group
 
@@ -142,10 +95,6 @@ group_told s x g ends st store good stands =
     }
 
 -- ---- groups
-
-known_on : (t u p q w a c : Events) → t ++ q ≡ p ++ a → u ++ w ≡ q ++ c → (t ++ u) ++ w ≡ p ++ (a ++ c)
-known_on t u p q w a c e f =
-    append_assoc t u w ∙ ap (λ (xs : Events). t ++ xs) f ∙ sym (append_assoc t q c) ∙ ap (λ (xs : Events). xs ++ c) e ∙ append_assoc p a c
 
 record GroupsTold (s : Settings) (x : Progress) (groups : List (Group Samples)) (st : State) (store : Store) : Type 0 where
   end : State
