@@ -1,0 +1,8 @@
+use Rattle.std.proofs.Common.{refl}
+use Rattle.m2v_y4m.proofs.Rows.{opens}
+use Rattle.m2v_y4m.specs.Answers.{IsAnswered, PackStops}
+use Rattle.m2v_y4m.specs.Sources.{IsOpen}
+use Rattle.m2v_y4m.proofs.laws.law_worked_rows.Goals as goal
+
+pub returns : goal.returns
+returns c = λ n. refl

@@ -1,0 +1,9 @@
+pub mod Answers
+pub mod Frames
+pub mod Header
+pub mod Reading
+pub mod Rows
+pub mod Rules
+pub mod Sources
+pub mod Texts
+pub mod Writing

@@ -1,0 +1,32 @@
+-- Reading a YUV4MPEG2 text: what is read ahead, and what a step does.
+use Rattle.std.specs.Prelude.{ℕ, ◌≡◌, ◌<◌, ◌≤◌, List, ◌++◌, length, Option, IfSome}
+use Rattle.m2v_port.specs.Port.{Moves, IsAtEnd}
+use Rattle.m2v_y4m.specs.declared.words.Seen.{Seen}
+
+-- how many bytes are read ahead at most
+abbrev pub most_ahead : ℕ
+most_ahead = 4096
+
+-- what is held grew by so many bytes that went from the front of what was left
+pub record Refilled (n : ℕ) (held : List ℕ) (left : Option (List ℕ)) (held_then : List ℕ) (left_then : Option (List ℕ)) : Type 0 where
+  pub bytes : List ℕ
+  pub count : length bytes ≡ n
+  pub moved : Moves left bytes left_then
+  pub grown : held_then ≡ held ++ bytes
+
+-- the parameters that were read are within their bounds
+pub record IsSeen (s : Seen) : Type 0 where
+  pub width : IfSome s.width (λ n. (1 ≤ n) × (n ≤ 1920))
+  pub height : IfSome s.height (λ n. (1 ≤ n) × (n ≤ 1152))
+  pub rate : IfSome s.rate (λ code. (1 ≤ code) × (code ≤ 8))
+
+-- what was read is held still, behind what was held before
+pub record Held (held : List ℕ) (left : Option (List ℕ)) (held_then : List ℕ) (left_then : Option (List ℕ)) : Type 0 where
+  pub bytes : List ℕ
+  pub moved : Moves left bytes left_then
+  pub grown : held_then ≡ held ++ bytes
+
+-- and a longest line is held, or all that was left
+pub record Gathered (held : List ℕ) (left : Option (List ℕ)) (held_then : List ℕ) (left_then : Option (List ℕ)) : Type 0 where
+  pub read : Held held left held_then left_then
+  pub all : length held_then < 1024 → IsAtEnd left_then

@@ -1,0 +1,90 @@
+-- A YUV4MPEG2 text as a source of the raw bytes of its frames.
+use Rattle.std.specs.Prelude.{ℕ, ◌≡◌, ◌+◌, ◌*◌, ◌==◌, List, [], ◌∷◌, ◌++◌, drop, Option, Some, None, option_map, IfSome, if◌then◌else◌}
+use Rattle.m2v_port.specs.Port.{Moves}
+use Rattle.m2v_y4m.specs.declared.answer.Y4mFault.{Y4mFault}
+use Rattle.m2v_y4m.specs.declared.answer.Y4mKind.{Y4mKind}
+use Rattle.m2v_y4m.specs.declared.answer.Y4mKind.TheVariants.{Magic, Line, Field, Size, Rate, Interlace, Chroma, Frame}
+use Rattle.m2v_y4m.specs.declared.header.Y4mHeader.{Y4mHeader}
+use Rattle.m2v_y4m.specs.Texts.{onward}
+use Rattle.m2v_y4m.specs.Frames.{Coming, broken, in_frame, frames_from, size_of, Begins}
+
+-- What is known of the text behind its header line: the header; the bytes that were read and not given yet, and the place
+-- of the first; how many bytes of the frame at hand are still to come, 0 before a frame line, and the place of its line;
+-- and the fault, once a frame line broke the text.
+pub record Standing : Type 0 where
+  pub header : Y4mHeader
+  pub unread : List ℕ
+  pub place : ℕ
+  pub rest : ℕ
+  pub line : ℕ
+  pub fault : Option Y4mFault
+
+-- what comes of the bytes that weren't given yet, where no fault was found so far
+unfoldable pub coming_at : ℕ → ℕ → ℕ → ℕ → List ℕ → Coming
+coming_at size line rest place text =
+    if rest == 0 then frames_from size place text
+    else in_frame size line rest text (frames_from size (onward place rest) (drop rest text))
+
+-- what comes, where this text follows what was read
+abbrev pub unless_broken : Option Y4mFault → Coming → Coming
+unless_broken None coming = coming
+unless_broken (Some fault) coming = broken fault
+
+unfoldable pub coming : Standing → List ℕ → Coming
+coming s text = unless_broken s.fault (coming_at (size_of s.header) s.line s.rest s.place (s.unread ++ text))
+
+-- a kind by number
+abbrev pub kind_number : Y4mKind → ℕ
+kind_number Magic = 0
+kind_number Line = 1
+kind_number Field = 2
+kind_number Size = 3
+kind_number Rate = 4
+kind_number Interlace = 5
+kind_number Chroma = 6
+kind_number Frame = 7
+
+-- A fault as one number that is no byte, another one for each fault.
+unfoldable pub mark : Y4mFault → ℕ
+mark fault = 256 + (8 * fault.place + kind_number fault.kind)
+
+-- What is left of a source: the raw bytes that come, and behind them, where the text is broken, the mark of its fault, which
+-- no read moves. So a source of a broken text is never at its end, and whoever reads to the end has read a whole text.
+abbrev pub marked : Option Y4mFault → List ℕ
+marked None = []
+marked (Some fault) = mark fault ∷ []
+
+unfoldable pub left_of : Coming → List ℕ
+left_of c = c.raw ++ marked c.fault
+
+-- the same where the source behind it tells its bytes
+abbrev pub comes_of : Standing → Option (List ℕ) → Option Coming
+comes_of s left = option_map (λ text. coming s text) left
+
+abbrev pub fault_to_come : Standing → Option (List ℕ) → Option (Option Y4mFault)
+fault_to_come s left = option_map (λ text. (coming s text).fault) left
+
+abbrev pub told_left : Standing → Option (List ℕ) → Option (List ℕ)
+told_left s left = option_map (λ text. left_of (coming s text)) left
+
+-- a source over another one: what is known of the text, the other source, and how many reads a fault has failed
+pub record Opened (S : Type 0) : Type 0 where
+  pub text : Standing
+  pub inner : S
+  pub failed : ℕ
+
+-- Bytes went from the front of what was left.
+pub record Took (old new : Option (List ℕ)) : Type 0 where
+  pub bytes : List ℕ
+  pub moved : Moves old bytes new
+
+-- this text begins with the header line that was read, and what comes behind it is what comes of the source now
+pub record OpensWith (s : Standing) (left : Option (List ℕ)) (text : List ℕ) : Type 0 where
+  pub coming : Coming
+  pub begins : Begins text s.header coming
+  pub comes : comes_of s left ≡ Some coming
+
+-- the header line was read
+pub record IsOpen (old : Option (List ℕ)) (s : Standing) (new : Option (List ℕ)) : Type 0 where
+  pub unbroken : s.fault ≡ None
+  pub opens : IfSome old (OpensWith s new)

@@ -1,0 +1,213 @@
+ghost use Rattle.std.specs.Prelude.{◌≡◌, ◌⊎◌, ◌+◌, ◌<◌, ◌≤◌, [], length, take, IfOk, IfErr, OnOk, OnErr, IsErrOf, Ok, Err, Some, None, IsTrue, is_some};
+ghost use Rattle.m2v_port.specs.Ends.{change};
+ghost use Rattle.m2v_port.specs.Port.{Rose, Moves, IsAtEnd};
+ghost use Rattle.m2v_y4m.specs.Frames.{size_of};
+ghost use Rattle.m2v_y4m.specs.Rules.{IsHeader};
+ghost use Rattle.m2v_y4m.specs.Sources.{Standing, IsOpen, told_left, fault_to_come};
+ghost use Rattle.m2v_y4m.specs.Reading.{Gathered, Held};
+ghost use Rattle.m2v_y4m.specs.Answers.{OpenStops};
+
+use crate::answer::{Y4mError, Y4mFault, Y4mKind};
+use crate::chunk::Chunk;
+use crate::header::{Y4mHeader, frame_size};
+use crate::lines::frame_line;
+use crate::opening::read_opening;
+use m2v_port::{PortError, Source};
+use std::alloc::Global;
+use std::marker::Model;
+
+/// The most bytes of a line, with its newline.
+const LINE: usize = 1024;
+
+/// What was read of a text, as far as it matters for what comes.
+#[derive(Drop)]
+pub(crate) struct Reader {
+    header: Y4mHeader,
+    size: usize,
+    chunk: Chunk,
+    place: u64,
+    rest: usize,
+    line: u64,
+    fault: Option<Y4mFault>,
+}
+
+impl Model for Reader {
+    ghost use Rattle.std.specs.Prelude.{◌≡◌, ◌≤◌};
+    ghost use Rattle.m2v_y4m.specs.Frames.{size_of};
+    ghost use Rattle.m2v_y4m.specs.Rules.{IsHeader};
+    ghost use Rattle.m2v_y4m.specs.Sources.{Standing};
+
+    ghost Value = { Standing };
+
+    ghost view = { λ r. record { header = r.header; unread = r.chunk; place = r.place; rest = r.rest; line = r.line; fault = r.fault } };
+
+    ghost invariant = { λ r. IsHeader r.header × (r.size ≡ size_of r.header) × (r.rest ≤ r.size) };
+}
+
+/// Reads on until the bytes of a longest line are there, or the text ends.
+fn gather<S: Source>(chunk: &mut Chunk, inner: &mut S) -> Result<(), PortError>
+    ensures ok { OnOk result (Gathered chunk.old (S.left inner.old) chunk.new (S.left inner.new)) }
+    ensures err { OnErr result (Held chunk.old (S.left inner.old) chunk.new (S.left inner.new)) }
+    ensures failed { IsErrOf result PortError.Failed → Rose (S.faults inner.old) (S.faults inner.new) }
+    ensures faults { S.faults inner.old ≤ S.faults inner.new }
+{
+    while chunk.len() < LINE {
+        if chunk.more(inner)? == 0 {
+            break;
+        }
+    }
+    Ok(())
+}
+
+impl Reader {
+    /// Reads the header line.
+    pub(crate) fn open<S: Source>(alloc: Global, inner: &mut S) -> Result<Reader, Y4mError>
+        ensures opened { IfOk result (λ r. IsOpen (S.left inner.old) r (S.left inner.new)) }
+        ensures header { IfOk result (λ r. IsHeader r.header) }
+        ensures err { IfErr result (OpenStops (change S.left S.faults inner.old inner.new)) }
+        ensures faults { S.faults inner.old ≤ S.faults inner.new }
+    {
+        let Ok(mut chunk) = Chunk::new(alloc) else {
+            return Err(Y4mError::Memory);
+        };
+        match gather(&mut chunk, inner) {
+            Ok(()) => Reader::over(chunk),
+            Err(PortError::Failed) => Err(Y4mError::Read),
+            Err(PortError::Memory) => Err(Y4mError::Memory),
+        }
+    }
+
+    /// Begins behind the header line, the bytes of which were read.
+    fn over(chunk: Chunk) -> Result<Reader, Y4mError>
+    {
+        match read_opening(chunk.bytes()) {
+            Ok(opening) => {
+                let mut chunk = chunk;
+                chunk.pass(opening.length);
+                Ok(Reader {
+                    header: opening.header,
+                    size: frame_size(&opening.header),
+                    chunk,
+                    place: opening.length as u64,
+                    rest: 0,
+                    line: 0,
+                    fault: None,
+                })
+            }
+            Err(fault) => Err(Y4mError::Y4m(fault)),
+        }
+    }
+
+    /// What the header line says.
+    pub(crate) fn header(&self) -> &Y4mHeader
+        ensures value { result.now ≡ self.now.header }
+        ensures within { IsHeader self.now.header }
+    {
+        &self.header
+    }
+
+    /// The fault of the frame line that broke the text, once it was found.
+    pub(crate) fn fault(&self) -> Option<Y4mFault>
+        ensures value { result ≡ self.now.fault }
+    {
+        self.fault
+    }
+
+    /// The bytes of a raw frame.
+    pub(crate) fn size(&self) -> usize
+        ensures value { result ≡ size_of self.now.header }
+    {
+        self.size
+    }
+
+    /// The text is broken here.
+    fn break_at(&mut self, kind: Y4mKind, place: u64) -> PortError
+    {
+        self.fault = Some(Y4mFault { kind, place });
+        PortError::Failed
+    }
+
+    /// Reads a frame line. Answers whether there is one: none is at the end.
+    fn next_line<S: Source>(&mut self, inner: &mut S) -> Result<bool, PortError>
+    {
+        gather(&mut self.chunk, inner)?;
+        if self.chunk.len() == 0 {
+            return Ok(false);
+        }
+        match frame_line(self.chunk.bytes()) {
+            Ok(length) => {
+                self.chunk.pass(length);
+                self.line = self.place;
+                self.place = self.place.saturating_add(length as u64);
+                self.rest = self.size;
+                Ok(true)
+            }
+            Err(kind) => Err(self.break_at(kind, self.place)),
+        }
+    }
+
+    /// So many bytes of the frame were given.
+    fn advance(&mut self, n: usize)
+    {
+        self.rest -= n;
+        self.place = self.place.saturating_add(n as u64);
+    }
+
+    /// Gives bytes of the frame that were read ahead.
+    fn give_held(&mut self, buf: &mut [u8]) -> usize
+    {
+        let n = buf.len().min(self.rest).min(self.chunk.len());
+        buf[..n].copy_from_slice(&self.chunk.bytes()[..n]);
+        self.chunk.pass(n);
+        self.advance(n);
+        n
+    }
+
+    /// Reads bytes of the frame, of which none was read ahead.
+    fn give_read<S: Source>(&mut self, inner: &mut S, buf: &mut [u8]) -> Result<usize, PortError>
+    {
+        let most = buf.len().min(self.rest);
+        let n = inner.read(&mut buf[..most])?;
+        if n == 0 && self.rest == self.size {
+            return Err(self.break_at(Y4mKind::Frame, self.line));
+        }
+        self.advance(n);
+        Ok(n)
+    }
+
+    /// Gives bytes of the frame.
+    fn give<S: Source>(&mut self, inner: &mut S, buf: &mut [u8]) -> Result<usize, PortError>
+    {
+        if self.chunk.len() > 0 {
+            return Ok(self.give_held(buf));
+        }
+        self.give_read(inner, buf)
+    }
+
+    /// Gives raw bytes of frames, as a source does. It fails where the input does, and from a fault of the text on.
+    pub(crate) fn read<S: Source>(&mut self, inner: &mut S, buf: &mut [u8]) -> Result<usize, PortError>
+        ensures fault { fault_to_come self.new (S.left inner.new) ≡ fault_to_come self.old (S.left inner.old) }
+        ensures header { self.new.header ≡ self.old.header }
+        ensures zero { result ≡ Ok 0 → 0 < length buf.old → IsAtEnd (S.left inner.new) }
+        ensures unread { result ≡ Ok 0 → 0 < length buf.old → self.new.unread ≡ [] }
+        ensures unbroken { OnOk result (self.new.fault ≡ None) }
+        ensures broken { IsTrue (is_some self.old.fault) → result ≡ Err PortError.Failed }
+        ensures within { IfOk result (λ n. n ≤ length buf.old) }
+        ensures moved { IfOk result (λ n. Moves (told_left self.old (S.left inner.old)) (take n buf.new) (told_left self.new (S.left inner.new))) }
+        ensures end { result ≡ Ok 0 → 0 < length buf.old → IsAtEnd (told_left self.old (S.left inner.old)) }
+        ensures err { OnErr result (told_left self.new (S.left inner.new) ≡ told_left self.old (S.left inner.old)) }
+        ensures failed { IsErrOf result PortError.Failed → Rose (S.faults inner.old) (S.faults inner.new) ⊎ IsTrue (is_some self.new.fault) }
+        ensures faults { S.faults inner.old ≤ S.faults inner.new }
+    {
+        if self.fault.is_some() {
+            return Err(PortError::Failed);
+        }
+        if buf.len() == 0 {
+            return Ok(0);
+        }
+        if self.rest == 0 && !self.next_line(inner)? {
+            return Ok(0);
+        }
+        self.give(inner, buf)
+    }
+}
