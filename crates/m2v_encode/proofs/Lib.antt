@@ -3,6 +3,7 @@ pub mod Puts
 pub mod Places
 pub mod PictureTexts
 pub mod Books
+pub mod Bytes
 pub mod PictureLaws
 pub mod Fronts
 pub mod Covering

@@ -334,6 +334,7 @@ module _ {S K N : Type 0} (left : S → Option (List ℕ)) (input_faults : S →
     frames = far.frames;
     part = h.part;
     begun = begun_here s c q h.part i0 i1 i2 o0 o1 r0 r1 (omega (arith, few)) rest far h.moved;
+    bytes = h.bytes;
     fewer = omega (arith, few, far.count);
     count = h.count;
     some = h.some;
@@ -541,12 +542,13 @@ module _ {S K N : Type 0} (left : S → Option (List ℕ)) (input_faults : S →
 
   -- a byte is there
   pub went_on : (s : Settings) (c : Coder) (q : Queue Samples) (next : ℕ) (i0 i1 i2 : S) (o0 o1 : K) (r0 r1 : N) → c.total.frames ≡ most_frames → is_due q ≡ false
-      → SoFar s c q (input i0 i1) (output o0 o1) (recon r0 r1) → Moves (left i1) (next ∷ []) (left i2) → Stops s (input i0 i2) (output o0 o1) (recon r0 r1) TooManyFrames
+      → SoFar s c q (input i0 i1) (output o0 o1) (recon r0 r1) → (next < 256) × Moves (left i1) (next ∷ []) (left i2) → Stops s (input i0 i2) (output o0 o1) (recon r0 r1) TooManyFrames
   unfolding Stops
   went_on s c q next i0 i1 i2 o0 o1 r0 r1 all rest far moved = record {
     frames = far.frames;
     next = next;
-    begun = begun_here s c q (next ∷ []) i0 i1 i2 o0 o1 r0 r1 (omega (arith, all)) rest far moved;
+    begun = begun_here s c q (next ∷ []) i0 i1 i2 o0 o1 r0 r1 (omega (arith, all)) rest far moved.1;
+    byte = moved.0;
     all = far.count ∙ all;
   }
 

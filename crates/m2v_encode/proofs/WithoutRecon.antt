@@ -71,6 +71,7 @@ unshown_stops s left held recon (ShortFrame extra) never h = record {
   frames = h.frames;
   part = h.part;
   begun = unshown_begun s left held recon h.frames h.part h.begun;
+  bytes = h.bytes;
   fewer = h.fewer;
   count = h.count;
   some = h.some;
@@ -82,6 +83,7 @@ unshown_stops s left held recon TooManyFrames never h = record {
   frames = h.frames;
   next = h.next;
   begun = unshown_begun s left held recon h.frames (h.next ∷ []) h.begun;
+  byte = h.byte;
   all = h.all;
 }
 unshown_stops s left held recon Memory never h = unshown_cut s left held recon h

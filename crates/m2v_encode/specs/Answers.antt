@@ -70,6 +70,7 @@ pub record EndedShort (s : Settings) (left held recon : Change) (extra : ℕ) : 
   pub frames : List (List ℕ)
   pub part : List ℕ
   pub begun : Unended s left held recon frames part
+  pub bytes : All (λ b. b < 256) part
   pub fewer : length frames < most_frames
   pub count : length part ≡ extra
   pub some : 0 < extra
@@ -87,6 +88,7 @@ pub record WentOn (s : Settings) (left held recon : Change) : Type 0 where
   pub frames : List (List ℕ)
   pub next : ℕ
   pub begun : Unended s left held recon frames (next ∷ [])
+  pub byte : next < 256
   pub all : length frames ≡ most_frames
 
 -- The input failed inside a frame, or before one.

@@ -1,5 +1,5 @@
 -- The steps of coding a raw input: what stands after some frames, and what a step does.
-use Rattle.std.specs.Prelude.{ℕ, ◌≡◌, ◌+◌, ◌*◌, ◌<◌, ◌≤◌, ◌^◌, ◌⊎◌, Bool, true, false, List, [], ◌++◌, map, length, vec_len, IfSome, is_some}
+use Rattle.std.specs.Prelude.{ℕ, ◌≡◌, ◌+◌, ◌*◌, ◌<◌, ◌≤◌, ◌^◌, ◌⊎◌, Bool, true, false, List, [], ◌++◌, map, length, vec_len, IfSome, All, is_some}
 use Rattle.m2v_bits.specs.Bits.{packed, start_code}
 use Rattle.m2v_port.specs.Ends.{Change}
 use Rattle.m2v_port.specs.Port.{Moves, MovesFewer, IsAtEnd, Grows, GrowsByPrefix}
@@ -126,6 +126,7 @@ pub record NoneRead (old new : Queue Samples) (left : Change) : Type 0 where
 -- the input ended inside the next frame
 pub record FrameShort (s : Settings) (left : Change) (extra : ℕ) : Type 0 where
   pub part : List ℕ
+  pub bytes : All (λ b. b < 256) part
   pub moved : Moves left.old part left.new
   pub count : length part ≡ extra
   pub some : 0 < extra

@@ -1,5 +1,5 @@
 //! Raw frames to a stream.
-ghost use Rattle.std.specs.Prelude.{◌≡◌, ℕ, ◌+◌, ◌*◌, ◌^◌, ◌≤◌, ◌<◌, true, false, None, IsTrue, IfOk, IfErr, OnOk, Ok, length, take, is_some};
+ghost use Rattle.std.specs.Prelude.{◌≡◌, ℕ, ◌+◌, ◌*◌, ◌^◌, ◌≤◌, ◌<◌, true, false, None, IsTrue, IfOk, IfErr, OnOk, Ok, length, take, All, is_some};
 ghost use Rattle.m2v_port.specs.Ends.{change, SinkStays};
 ghost use Rattle.m2v_port.specs.Port.{Moves, IsAtEnd};
 ghost use Rattle.m2v_plane.specs.Raw.{frame_bytes, pad};
@@ -34,6 +34,7 @@ impl Coder {
         requires room { HasRoom self.old }
         ensures within { IfOk result (λ n. n ≤ frame_bytes (dims_of self.old.settings)) }
         ensures moved { IfOk result (λ n. Moves (S.left input.old) (take n self.new.raw.items) (S.left input.new)) }
+        ensures bytes { All (λ b. b < 256) self.new.raw.items }
         ensures end { IfOk result (λ n. n < frame_bytes (dims_of self.old.settings) → IsAtEnd (S.left input.new)) }
         ensures err { IfErr result (ReadStops (frame_bytes (dims_of self.old.settings))
             (change S.left S.faults input.old input.new)) }

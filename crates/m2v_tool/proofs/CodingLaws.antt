@@ -92,21 +92,27 @@ some_bytes w passes =
     let some : 0 < w.width * w.height = mul-pos (omega (arith, bounds.width_least)) (omega (arith, bounds.height_least)) in
     omega arith
 
-pub not_inside : (size bytes : ℕ) → AreFrames size bytes → EndInside size bytes → ⊥
-not_inside size bytes a b = elim (cases_lt b.frames a.frames) [
+pub not_inside_of : (size bytes frames : ℕ) → bytes ≡ frames * size → EndInside size bytes → ⊥
+not_inside_of size bytes frames are b = elim (cases_lt b.frames frames) [
   | inl fewer ↦
-      let next : suc b.frames ≤ a.frames = omega arith in
-      omega (arith, a.are, b.are, b.less, mul-le-mul_right size next, suc-mul b.frames size)
-  | inr more ↦ omega (arith, a.are, b.are, b.some, mul-le-mul_right size more)
+      let next : suc b.frames ≤ frames = omega arith in
+      omega (arith, are, b.are, b.less, mul-le-mul_right size next, suc-mul b.frames size)
+  | inr more ↦ omega (arith, are, b.are, b.some, mul-le-mul_right size more)
 ]
+
+pub not_inside : (size bytes : ℕ) → AreFrames size bytes → EndInside size bytes → ⊥
+not_inside size bytes a b = not_inside_of size bytes a.frames a.are b
 
 pub not_empty : (size bytes : ℕ) → 0 < size → AreFrames size bytes → bytes ≡ 0 → ⊥
 not_empty size bytes some a is =
     let least : 0 < a.frames * size = mul-pos (omega (arith, a.some)) some in
     omega (arith, a.are, is)
 
+pub not_many_of : (size bytes frames : ℕ) → frames ≤ most_frames → bytes ≡ frames * size → most_frames * size < bytes → ⊥
+not_many_of size bytes frames most are more = omega (arith, are, mul-le-mul_right size most)
+
 pub not_many : (size bytes : ℕ) → AreFrames size bytes → most_frames * size < bytes → ⊥
-not_many size bytes a more = omega (arith, a.are, mul-le-mul_right size a.most)
+not_many size bytes a more = not_many_of size bytes a.frames a.most a.are more
 
 -- ---- what the stream decodes to
 

@@ -240,6 +240,7 @@ module _ {N : Type 0} (held : N → Option (List ℕ)) (faults : N → ℕ) (n0 
     frames = c.frames;
     part = c.part;
     begun = unended_from s left output c.frames c.part c.begun;
+    bytes = c.bytes;
     fewer = c.fewer;
     count = c.count;
     some = c.some;
@@ -251,6 +252,7 @@ module _ {N : Type 0} (held : N → Option (List ℕ)) (faults : N → ℕ) (n0 
     frames = c.frames;
     next = c.next;
     begun = unended_from s left output c.frames (c.next ∷ []) c.begun;
+    byte = c.byte;
     all = c.all;
   }
   stops_from s left output errors.Memory c = cut_from s left output c

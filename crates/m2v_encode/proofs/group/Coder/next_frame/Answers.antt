@@ -1,5 +1,6 @@
 use Rattle.std.proofs.Common.{arith, refl, subst, ap, ◌∙◌, ◌≡◌, ◌<◌, ℕ, List, length, take, inr}
 use Rattle.std.proofs.lemmas.List.{length-take-le, take_all}
+use Rattle.std.proofs.lemmas.List.Elements.{All-take}
 use Rattle.std.proofs.lemmas.Result.{err_from_is_err_and}
 use Rattle.m2v_port.specs.Port.{Moves}
 use Rattle.m2v_plane.specs.declared.dims.Dims.{Dims}
@@ -32,6 +33,7 @@ returns-then-read-len-clause-err g c =
     let less : c.in_ok-read.read < frame_bytes (dims_of c.args.self.now.settings) = omega (arith, size, c.len.ensures) in
     record {
       part = take c.in_ok-read.read c.read.new.self.raw.items;
+      bytes = All-take (λ (b : ℕ). b < 256) c.in_ok-read.read c.read.new.self.raw.items c.read.ensures.bytes;
       moved = c.in_ok-read.ensures.moved;
       count = length-take-le c.in_ok-read.read c.read.new.self.raw.items (omega (arith, c.len.ensures));
       some = omega arith;
