@@ -6,8 +6,8 @@
 #![tactic(auto)]
 
 mod answer;
+mod coding;
 mod done;
-mod encode;
 mod frames;
 mod group;
 mod pictures;

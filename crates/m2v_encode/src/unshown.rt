@@ -4,7 +4,7 @@ ghost use Rattle.m2v_port.specs.Ends.{change, SinkStays};
 ghost use Rattle.m2v_encode.specs.Answers.{AllCoded, Stops, unshown};
 
 use crate::answer::{EncodeError, Summary};
-use crate::encode::encode_to;
+use crate::coding::encode_to;
 use m2v_board::Gate;
 use m2v_port::{PortError, Sink, Source};
 use m2v_set::Passed;

@@ -5,7 +5,7 @@ ghost use Rattle.m2v_encode.specs.Answers.{AllCoded, Stops};
 ghost use Rattle.m2v_encode.specs.Places.{Beside, PlaceStays};
 
 use crate::answer::{EncodeError, Summary};
-use crate::encode::encode_to;
+use crate::coding::encode_to;
 use crate::unshown::encode_unshown;
 use m2v_board::Gate;
 use m2v_port::{NamedSink, Sink, Source};

@@ -4,6 +4,7 @@ pub mod WordLaws
 pub mod EndingLaws
 pub mod CodingLaws
 pub mod CuttingLaws
+pub mod PackingLaws
 pub mod DecodingLaws
 pub mod CheckingLaws
 pub mod EncodingLaws

@@ -3,7 +3,7 @@ use Rattle.std.proofs.Common.{◌≡◌, inr, refl, subst}
 use Rattle.m2v_tool.specs.declared.command.Command.{Command}
 use Rattle.m2v_tool.specs.declared.command.Command.TheVariants as commands
 use Rattle.m2v_tool.specs.declared.command.Outcome.{Outcome}
-use Rattle.m2v_tool.specs.declared.command.Outcome.TheVariants.{Usage, NoMemory, Flat, Encode, Decode, Check, Make, Cut}
+use Rattle.m2v_tool.specs.declared.command.Outcome.TheVariants.{Usage, NoMemory, Flat, Encode, Decode, Check, Make, Cut, Pack, Unpack}
 use Rattle.m2v_tool.specs.EncodeWords.{Meant, words_of}
 use Rattle.m2v_tool.specs.Encoding.{EncodeKeeps}
 use Rattle.m2v_tool.specs.Endings.{Told}
@@ -18,6 +18,7 @@ use Rattle.m2v_tool.proofs.DecodingLaws.{decode_keeps, decode_unread}
 use Rattle.m2v_tool.proofs.CheckingLaws.{check_keeps, check_unread}
 use Rattle.m2v_tool.proofs.MakingLaws.{make_keeps, make_unread}
 use Rattle.m2v_tool.proofs.CuttingLaws.{cut_keeps, cut_unread}
+use Rattle.m2v_tool.proofs.PackingLaws.{pack_keeps, pack_unread, unpack_keeps, unpack_unread}
 
 module _ (r : Run) where
   refused_by : (o : Outcome) → Comes r.words (work_of r) o → Told (ending_of o) r.status r.report → NoCommand r.words → RefusedBy 2 r
@@ -30,6 +31,8 @@ module _ (r : Run) where
   refused_by (Check o) c t none = absurd (none commands.Check c.0)
   refused_by (Make o) c t none = absurd (none (commands.Make c.0) c.1)
   refused_by (Cut o) c t none = absurd (none (commands.Cut c.0) c.1)
+  refused_by (Pack o) c t none = absurd (none (commands.Pack c.0) c.1)
+  refused_by (Unpack o) c t none = absurd (none commands.Unpack c.0)
 
   -- where memory ran out before the words were read
   unread_by : IsUntouched (work_of r) → r.status ≡ 12 → (c : Command) → Keeps c r
@@ -39,6 +42,8 @@ module _ (r : Run) where
   unread_by untouched is commands.Check = check_unread r is
   unread_by untouched is (commands.Make seed) = make_unread r is
   unread_by untouched is (commands.Cut w) = cut_unread r w untouched is
+  unread_by untouched is (commands.Pack h) = pack_unread r h untouched is
+  unread_by untouched is commands.Unpack = unpack_unread r is
 
   -- the words mean the command whose outcome came, and no other one
   same_keeps : (c d : Command) → Means r.words c → Means r.words d → Keeps c r → Keeps d r
@@ -55,6 +60,8 @@ module _ (r : Run) where
   keeps_by (Check o) c t d means = same_keeps commands.Check d c.0 means (check_keeps r o c.1 t)
   keeps_by (Make o) c t d means = same_keeps (commands.Make c.0) d c.1 means (make_keeps r c.0 o c.2 t)
   keeps_by (Cut o) c t d means = same_keeps (commands.Cut c.0) d c.1 means (cut_keeps r c.0 o c.2 t c.3)
+  keeps_by (Pack o) c t d means = same_keeps (commands.Pack c.0) d c.1 means (pack_keeps r c.0 o c.2 t c.3)
+  keeps_by (Unpack o) c t d means = same_keeps commands.Unpack d c.0 means (unpack_keeps r o c.1 t)
 
 pub kept_by : (r : Run) (o : Outcome) → Comes r.words (work_of r) o → Told (ending_of o) r.status r.report → Kept r
 kept_by r o comes t = record {

@@ -3,14 +3,16 @@ use Rattle.std.proofs.Common.{◌≡◌, ℕ, List, [], ◌∷◌, Option, Some,
 use Rattle.std.specs.Prelude.{codes, if◌then◌else◌}
 use Rattle.std.specs.Str.{bytes_eq}
 use Rattle.clap.specs.Walk.{Text}
+use Rattle.m2v_y4m.specs.declared.header.Y4mHeader.{Y4mHeader}
 use Rattle.m2v_tool.specs.declared.flat.FlatWords.{FlatWords}
 use Rattle.m2v_tool.specs.declared.encode.EncodeWords.{EncodeWords}
 use Rattle.m2v_tool.specs.declared.cut.CutWords.{CutWords}
 use Rattle.m2v_tool.specs.declared.command.Command.{Command}
-use Rattle.m2v_tool.specs.declared.command.Command.TheVariants.{Flat, Encode, Decode, Check, Make, Cut}
+use Rattle.m2v_tool.specs.declared.command.Command.TheVariants.{Flat, Encode, Decode, Check, Make, Cut, Pack, Unpack}
 use Rattle.m2v_tool.specs.EncodeWords.{encode_meant, words_of}
 use Rattle.m2v_tool.specs.Making.{make_meant}
 use Rattle.m2v_tool.specs.Cutting.{cut_meant}
+use Rattle.m2v_tool.specs.Packing.{pack_meant}
 use Rattle.m2v_tool.specs.Words.{Means, flat_meant}
 
 -- ---- commands by their kind: a line a command in each definition
@@ -22,6 +24,8 @@ data Kind : Type 0 where
   checks : Kind
   makes : Kind
   cuts : Kind
+  packs : Kind
+  unpacks : Kind
 
 kind_of : Command → Kind
 kind_of (Flat w) = flats
@@ -30,6 +34,8 @@ kind_of Decode = decodes
 kind_of Check = checks
 kind_of (Make seed) = makes
 kind_of (Cut w) = cuts
+kind_of (Pack h) = packs
+kind_of Unpack = unpacks
 
 -- the kind by the word that names the command
 kind_named : Text → Kind
@@ -39,7 +45,9 @@ kind_named name =
     else if bytes_eq name (codes "decode") then decodes
     else if bytes_eq name (codes "check") then checks
     else if bytes_eq name (codes "make") then makes
-    else cuts
+    else if bytes_eq name (codes "cut") then cuts
+    else if bytes_eq name (codes "pack") then packs
+    else unpacks
 
 by_name : (name : Text) (others : List Text) (c : Command) → Means (name ∷ others) c → kind_named name ≡ kind_of c
 by_name name others (Flat w) m = ap kind_named m.0
@@ -48,6 +56,8 @@ by_name name others Decode m = ap kind_named m.0
 by_name name others Check m = ap kind_named m.0
 by_name name others (Make seed) m = ap kind_named m.0
 by_name name others (Cut w) m = ap kind_named m.0
+by_name name others (Pack h) m = ap kind_named m.0
+by_name name others Unpack m = ap kind_named m.0
 
 -- what the words of a command say
 abbrev Payload : Kind → Type 0
@@ -57,6 +67,8 @@ Payload decodes = Unit {0}
 Payload checks = Unit {0}
 Payload makes = ℕ
 Payload cuts = CutWords
+Payload packs = Y4mHeader
+Payload unpacks = Unit {0}
 
 abbrev payload : (c : Command) → Payload (kind_of c)
 payload (Flat w) = w
@@ -65,6 +77,8 @@ payload Decode = tt
 payload Check = tt
 payload (Make seed) = seed
 payload (Cut w) = w
+payload (Pack h) = h
+payload Unpack = tt
 
 -- the command that says it
 abbrev command_of : (k : Kind) → Payload k → Command
@@ -74,6 +88,8 @@ command_of decodes u = Decode
 command_of checks u = Check
 command_of makes seed = Make seed
 command_of cuts w = Cut w
+command_of packs h = Pack h
+command_of unpacks u = Unpack
 
 again : (c : Command) → command_of (kind_of c) (payload c) ≡ c
 again (Flat w) = refl
@@ -82,6 +98,8 @@ again Decode = refl
 again Check = refl
 again (Make seed) = refl
 again (Cut w) = refl
+again (Pack h) = refl
+again Unpack = refl
 
 -- the words say it
 abbrev Says : (k : Kind) → List Text → Payload k → Type 0
@@ -91,6 +109,8 @@ Says decodes others u = Unit {0}
 Says checks others u = Unit {0}
 Says makes others seed = make_meant others ≡ Some seed
 Says cuts others w = cut_meant others ≡ Some w
+Says packs others h = pack_meant others ≡ Some h
+Says unpacks others u = Unit {0}
 
 said : (name : Text) (others : List Text) (c : Command) → Means (name ∷ others) c → Says (kind_of c) others (payload c)
 said name others (Flat w) m = m.1
@@ -99,6 +119,8 @@ said name others Decode m = tt
 said name others Check m = tt
 said name others (Make seed) m = m.1
 said name others (Cut w) m = m.1
+said name others (Pack h) m = m.1
+said name others Unpack m = tt
 
 -- ---- one meaning
 
@@ -116,6 +138,8 @@ module _ (P : Command → Type 0) (alike : (v w : EncodeWords) → words_of v �
   one_payload checks others x y f g p = p
   one_payload makes others x y f g p = subst (λ (n : ℕ). P (Make n)) (one_some _ x y f g) p
   one_payload cuts others x y f g p = subst (λ (w : CutWords). P (Cut w)) (one_some _ x y f g) p
+  one_payload packs others x y f g p = subst (λ (h : Y4mHeader). P (Pack h)) (one_some _ x y f g) p
+  one_payload unpacks others x y f g p = p
 
   one_kind : (k j : Kind) (others : List Text) → k ≡ j → (x : Payload k) (y : Payload j) → Says k others x → Says j others y → P (command_of k x) → P (command_of j y)
   one_kind k j others same =

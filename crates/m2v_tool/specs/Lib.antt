@@ -10,3 +10,4 @@ pub mod Encoding
 pub mod Making
 pub mod Commands
 pub mod Cutting
+pub mod Packing

@@ -10,7 +10,10 @@ use crate::decode::{DecodeOutcome, decode_words};
 use crate::encode::{EncodeOutcome, EncodeWords, encode_words};
 use crate::flat::{FlatOutcome, FlatWords, flat_words};
 use crate::make::{MakeOutcome, make_words};
+use crate::pack::{PackOutcome, pack_words};
 use crate::report::{Report, no_memory, usage};
+use crate::unpack::{UnpackOutcome, unpack_words};
+use m2v_y4m::Y4mHeader;
 use std::alloc::{AllocError, Global};
 
 /// What words mean.
@@ -28,6 +31,10 @@ pub enum Command {
     Make(u64),
     /// Groups of a stream are copied.
     Cut(CutWords),
+    /// Raw frames are packed into a YUV4MPEG2 text of this header.
+    Pack(Y4mHeader),
+    /// A YUV4MPEG2 text is unpacked.
+    Unpack,
 }
 
 /// What came of the words.
@@ -49,6 +56,10 @@ pub enum Outcome {
     Make(MakeOutcome),
     /// What came of `cut`.
     Cut(CutOutcome),
+    /// What came of `pack`.
+    Pack(PackOutcome),
+    /// What came of `unpack`.
+    Unpack(UnpackOutcome),
 }
 
 impl Outcome {
@@ -66,6 +77,8 @@ impl Outcome {
             Outcome::Check(outcome) => outcome.report(alloc),
             Outcome::Make(outcome) => outcome.report(alloc),
             Outcome::Cut(outcome) => outcome.report(alloc),
+            Outcome::Pack(outcome) => outcome.report(alloc),
+            Outcome::Unpack(outcome) => outcome.report(alloc),
         }
     }
 }
@@ -101,6 +114,14 @@ fn meant_by(alloc: Global, name: &str, others: &[String]) -> Result<Option<Comma
             Some(meant) => Ok(Some(Command::Cut(meant))),
             None => Ok(None),
         },
+        "pack" => match pack_words(alloc, others)? {
+            Some(header) => Ok(Some(Command::Pack(header))),
+            None => Ok(None),
+        },
+        "unpack" => {
+            let taken = unpack_words(alloc, others)?;
+            Ok(taken.then_some(Command::Unpack))
+        }
         _ => Ok(None),
     }
 }

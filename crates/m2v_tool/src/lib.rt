@@ -8,10 +8,12 @@ mod decode;
 mod encode;
 mod flat;
 mod make;
+mod pack;
 mod report;
 #[cfg(test)]
 mod tests;
 mod top;
+mod unpack;
 mod words;
 
 pub use command::Outcome;

@@ -10,7 +10,9 @@ use crate::decode::decoded;
 use crate::encode::encoded;
 use crate::flat::coded;
 use crate::make::made;
+use crate::pack::packed_frames;
 use crate::report::Report;
+use crate::unpack::unpacked;
 use m2v_board::Gate;
 use m2v_port::{NamedSink, PortError, Sink, Source};
 use std::alloc::{AllocError, Global};
@@ -55,6 +57,10 @@ fn carried_out<R: Threads + Wait + Sync, S: Source, K: Sink, N: NamedSink, G: Ga
         Ok(Some(Command::Check)) => Outcome::Check(judged(alloc, input)),
         Ok(Some(Command::Make(seed))) => Outcome::Make(made(rt, alloc, seed, output, gate)),
         Ok(Some(Command::Cut(meant))) => Outcome::Cut(cut_out(alloc, &meant, input, output)),
+        Ok(Some(Command::Pack(header))) => {
+            Outcome::Pack(packed_frames(alloc, &header, input, output))
+        }
+        Ok(Some(Command::Unpack)) => Outcome::Unpack(unpacked(alloc, input, output)),
         Ok(None) => Outcome::Usage,
         Err(AllocError) => Outcome::NoMemory,
     }
@@ -94,7 +100,8 @@ fn reported<E: Sink>(alloc: Global, outcome: &Outcome, report: &mut E) -> Status
 /// decoder's buffer bears it. `make SEED` writes a large lawful stream of a seed. `encode` codes the raw frames of `input`
 /// to `output` by its options, with workers that `rt` runs and `gate` lets in; where its words name a file, `recon` is
 /// opened under this name, and gets the frames that the stream decodes to. `cut FROM COUNT` copies whole groups of the
-/// stream of `input` to `output`, so many from number FROM on.
+/// stream of `input` to `output`, so many from number FROM on. `pack W H CODE` writes the raw frames of `input` as a
+/// YUV4MPEG2 text, and `unpack` the frames of such a text as raw video.
 pub fn run<R: Threads + Wait + Sync, S: Source, K: Sink, N: NamedSink, E: Sink, G: Gate + Sync>(
     rt: &R,
     alloc: Global,
