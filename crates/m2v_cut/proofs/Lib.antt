@@ -1,3 +1,4 @@
 mod Scans
 mod Going
 mod Putting
+mod Shapes

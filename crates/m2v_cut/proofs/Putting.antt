@@ -11,7 +11,8 @@ use Rattle.m2v_piece.specs.Sound.{IsSoundPiece}
 use Rattle.m2v_decoder.specs.Decoding.{whole_of}
 use Rattle.m2v_cut.specs.declared.answer.CutError.{CutError}
 use Rattle.m2v_cut.specs.declared.answer.CutError.TheVariants as errors
-use Rattle.m2v_cut.specs.Progress.{Cuts, part}
+use Rattle.m2v_group.specs.Groups.{with_broken_link}
+use Rattle.m2v_cut.specs.Progress.{Cuts, part, head_of}
 
 -- The output's states are o0, o1 and so on.
 module _ {K : Type 0} (held : K → Option (List ℕ)) (output_faults : K → ℕ) where
@@ -111,3 +112,30 @@ part_written p from to lo hi bottom top kept now sound le within is k a b c d =
     let d' : top ≡ max to n = d ∙ ap (λ (x : ℕ). max to x) len in
     (λ i. take (b' i - a' i) (drop (a' i) (is i)) ++ replicate (d' i - c' i) 0)
     ∙ sym (part_is from to p.bytes.items (p.length - vec_len p.bytes) le (omega (arith, sound.kept, k, len)))
+
+-- ---- the first piece with another byte in its group header
+
+pub rest_part : (from : ℕ) (whole : List ℕ) → part from (length whole) whole ≡ drop from whole
+rest_part from whole = take_all (length whole - from) (drop from whole) (omega (arith, length-drop from whole))
+
+module _ {K : Type 0} (held : K → Option (List ℕ)) (output_faults : K → ℕ) where
+  -- the byte wasn't written
+  pub byte_cut : (o0 o1 o2 : K) (whole : List ℕ) (sequence header : ℕ) (behind : Bool) (byte : ℕ) (e : CutError) → behind ≡ true → byte ≡ with_broken_link (slice_index whole (header + 7)) → output_faults o0 ≤ output_faults o1
+      → Grows (held o0) (part sequence (header + 7) whole) (held o1) → Cuts (byte ∷ []) (change held output_faults o1 o2) e → Cuts (head_of whole sequence header behind) (change held output_faults o0 o2) e
+  byte_cut o0 o1 o2 whole sequence header behind byte e on is le grown cut =
+      let front : List ℕ = part sequence (header + 7) whole in
+      let rest : List ℕ = drop (header + 8) whole in
+      let all : (front ++ byte ∷ []) ++ rest ≡ head_of whole sequence header behind = append_assoc front (byte ∷ []) rest ∙ ap (λ (b : ℕ). front ++ b ∷ rest) is ∙ rw on refl in
+      subst (λ (b : List ℕ). Cuts b (change held output_faults o0 o2) e) all
+      (cuts_more held output_faults o0 o2 (front ++ byte ∷ []) rest e (cuts_on held output_faults o0 o1 o2 front (byte ∷ []) e le grown cut))
+
+  -- the bytes behind it weren't written whole
+  pub rest_cut : (o0 o1 o2 o3 : K) (whole : List ℕ) (sequence header end : ℕ) (behind : Bool) (byte : ℕ) (e : CutError) → behind ≡ true → byte ≡ with_broken_link (slice_index whole (header + 7)) → end ≡ length whole → output_faults o0 ≤ output_faults o2
+      → Grows (held o0) (part sequence (header + 7) whole) (held o1) → Grows (held o1) (byte ∷ []) (held o2) → Cuts (part (header + 8) end whole) (change held output_faults o2 o3) e → Cuts (head_of whole sequence header behind) (change held output_faults o0 o3) e
+  rest_cut o0 o1 o2 o3 whole sequence header end behind byte e on is length_is le grown next cut =
+      let front : List ℕ = part sequence (header + 7) whole in
+      let rest : List ℕ = drop (header + 8) whole in
+      let all : (front ++ byte ∷ []) ++ rest ≡ head_of whole sequence header behind = append_assoc front (byte ∷ []) rest ∙ ap (λ (b : ℕ). front ++ b ∷ rest) is ∙ rw on refl in
+      subst (λ (b : List ℕ). Cuts b (change held output_faults o0 o3) e) all
+      (cuts_on held output_faults o0 o2 o3 (front ++ byte ∷ []) rest e le (grows_on grown next)
+      (subst (λ (b : List ℕ). Cuts b (change held output_faults o2 o3) e) (ap (λ (n : ℕ). part (header + 8) n whole) length_is ∙ rest_part (header + 8) whole) cut))
