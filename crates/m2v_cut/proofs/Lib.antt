@@ -2,3 +2,4 @@ mod Scans
 mod Going
 mod Putting
 mod Shapes
+mod Fulls

@@ -52,6 +52,7 @@ pub record Split (p : List ℕ) (ps : List (List ℕ)) (us rest : Units) : Type 
   pub at_end : AreEnds ends
   pub shape : Shape vs
   pub follows : Follows ps shape.tail ends
+  pub apart : (shape.tail ≡ [] → ⊥) → ends ≡ []
   pub begins : BeginsPiece vs
 
 -- pieces are those of a stream's units
@@ -115,14 +116,14 @@ picture_more ws u p off =
 cut_all : (ws : Units) → AreUnits ws → cut 0 (joined ws) ≡ ([], ws)
 cut_all ws h = cuts_is (joined ws) [] ws (record { whole = refl; front_clear = λ i le lt. absurd (omega arith); are_units = h })
 
-shape_of : (phase : Phase) (ws : Units) → InPhase phase ws → Shape ws
+abbrev shape_of : (phase : Phase) (ws : Units) → InPhase phase ws → Shape ws
 shape_of Before ws p = absurd p
 shape_of Headers ws p = record { heads = ws; tail = []; is = sym (append-nil ws); none = p; pictured = tt }
 shape_of Picture ws p = p.0
 
 -- the last piece, without an end code or with it
-last_split : (phase : Phase) (ws ends : Units) → InPhase phase ws → NoEnds ws → AreEnds ends → BeginsPiece ws → AreUnits (ws ++ ends) → Splits (joined (ws ++ ends) ∷ []) (ws ++ [])
-last_split phase ws ends p n e b h =
+last_split : (phase : Phase) (ws ends : Units) (p : InPhase phase ws) → NoEnds ws → AreEnds ends → (((shape_of phase ws p).tail ≡ [] → ⊥) → ends ≡ []) → BeginsPiece ws → AreUnits (ws ++ ends) → Splits (joined (ws ++ ends) ∷ []) (ws ++ [])
+last_split phase ws ends p n e apart b h =
     ([], record {
         vs = ws;
         ends = ends;
@@ -133,6 +134,7 @@ last_split phase ws ends p n e b h =
         at_end = e;
         shape = shape_of phase ws p;
         follows = tt;
+        apart = apart;
         begins = b;
       }, refl)
 
@@ -149,6 +151,7 @@ one_split ws us q qs p n b h others =
         at_end = tt;
         shape = p.0;
         follows = (p.1, refl);
+        apart = λ some. refl;
         begins = b;
       }, others)
 
@@ -174,7 +177,7 @@ headers_go : (c : Bool) (v : List ℕ) (vs us : Units) (u : List ℕ) → is_end
 headers_go true v vs us u is ih p n b h =
     let code = take 4 u in
     let e : joined ((v ∷ vs) ++ code ∷ []) ≡ joined (v ∷ vs) ++ code = joined-append (v ∷ vs) (code ∷ []) ∙ ap (λ (l : List ℕ). joined (v ∷ vs) ++ l) (append-nil code) in
-    (joined (v ∷ vs) ++ code, [], refl, subst (λ (l : List ℕ). Splits (l ∷ []) ((v ∷ vs) ++ [])) e (last_split Headers (v ∷ vs) (code ∷ []) p n (ap is_end (value_code u) ∙ is, refl) b (are_code (v ∷ vs) us u h)))
+    (joined (v ∷ vs) ++ code, [], refl, subst (λ (l : List ℕ). Splits (l ∷ []) ((v ∷ vs) ++ [])) e (last_split Headers (v ∷ vs) (code ∷ []) p n (ap is_end (value_code u) ∙ is, refl) (λ some. absurd (some refl)) b (are_code (v ∷ vs) us u h)))
 headers_go false v vs us u is ih p n b h = goes_on (phase_after Headers (value_of u)) v vs us u ih (header_more (v ∷ vs) u p) is n b h
 
 picture_begins : (v : List ℕ) (vs us : Units) (u : List ℕ) → Held us → InPhase Picture (v ∷ vs) → begins_piece (value_of u) ≡ true → is_end (value_of u) ≡ false → NoEnds (v ∷ vs) → begins_piece (value_of v) ≡ true → AreUnits (v ∷ (vs ++ u ∷ us))
@@ -194,7 +197,7 @@ unfolding has_picture
 picture_goes true d v vs us u is begins ih p n b h =
     let code = take 4 u in
     let one : AreUnits (code ∷ []) = are_behind (v ∷ vs) (code ∷ []) (are_code (v ∷ vs) us u h) in
-    let last : Splits (code ∷ []) [] = subst (λ (l : List ℕ). Splits (l ∷ []) []) (append-nil code) (last_split Headers [] (code ∷ []) refl tt (ap is_end (value_code u) ∙ is, refl) tt one) in
+    let last : Splits (code ∷ []) [] = subst (λ (l : List ℕ). Splits (l ∷ []) []) (append-nil code) (last_split Headers [] (code ∷ []) refl tt (ap is_end (value_code u) ∙ is, refl) (λ some. absurd (some refl)) tt one) in
     (joined (v ∷ vs), code ∷ [], refl, one_split (v ∷ vs) [] code [] p n b (are_before (v ∷ vs) (u ∷ us) h) last)
 picture_goes false true v vs us u is begins ih p n b h = picture_begins v vs us u ih p begins is n b h
 picture_goes false false v vs us u is begins ih p n b h = goes_on Picture v vs us u ih (picture_more (v ∷ vs) u p begins) is n b h
@@ -202,7 +205,7 @@ picture_goes false false v vs us u is begins ih p n b h = goes_on Picture v vs u
 last_some : (phase : Phase) (v : List ℕ) (vs : Units) → InPhase phase (v ∷ vs) → NoEnds (v ∷ vs) → begins_piece (value_of v) ≡ true → AreUnits (v ∷ (vs ++ [])) → AreSome (piece_of (joined (v ∷ vs))) ((v ∷ vs) ++ [])
 last_some phase v vs p n b h =
     let ws = v ∷ vs in
-    let one : Splits (joined ws ∷ []) (ws ++ []) = subst (λ (l : Units). Splits (joined l ∷ []) (ws ++ [])) (append-nil ws) (last_split phase ws [] p n tt b h) in
+    let one : Splits (joined ws ∷ []) (ws ++ []) = subst (λ (l : Units). Splits (joined l ∷ []) (ws ++ [])) (append-nil ws) (last_split phase ws [] p n tt (λ some. refl) b h) in
     subst (λ (l : List (List ℕ)). AreSome l (ws ++ [])) (sym (piece_whole v vs (are_before ws [] h))) (joined ws, [], refl, one)
 
 all_held : (us : Units) → Held us
@@ -237,3 +240,21 @@ text_split (u ∷ us) h = first_split _ us u refl h (text_split us h.3)
 -- the pieces of a text are those of its stream's units
 pub pieces_split : (text : List ℕ) → Splits (pieces text) (stream_units text)
 pieces_split text = text_split (cut 0 text).1 (cut_cuts text).are_units
+
+-- a stream begins with a sequence header
+abbrev pub BeginsSequence : Units → Type 0
+BeginsSequence [] = Unit {0}
+BeginsSequence (u ∷ us) = is_sequence u ≡ true
+
+first_begins : (c : Bool) (u : List ℕ) (us : Units) → is_sequence u ≡ c → BeginsSequence (to_end (from_sequence us)) → BeginsSequence (to_end (if c then u ∷ us else from_sequence us))
+unfolding to_end
+first_begins true u us is ih = rw (sequence_goes (value_of u) is) is
+first_begins false u us is ih = ih
+
+sequence_first : (us : Units) → BeginsSequence (to_end (from_sequence us))
+unfolding from_sequence to_end
+sequence_first [] = tt
+sequence_first (u ∷ us) = first_begins _ u us refl (sequence_first us)
+
+pub begins_sequence : (text : List ℕ) → BeginsSequence (stream_units text)
+begins_sequence text = sequence_first (cut 0 text).1
