@@ -3,3 +3,4 @@ mod Going
 mod Putting
 mod Shapes
 mod Fulls
+mod Places
