@@ -1,1 +1,5 @@
+mod ChunkLaws
+mod FrameLaws
+mod LineLaws
+mod Steps
 mod Rows

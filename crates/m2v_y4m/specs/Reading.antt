@@ -1,7 +1,9 @@
 -- Reading a YUV4MPEG2 text: what is read ahead, and what a step does.
-use Rattle.std.specs.Prelude.{ℕ, ◌≡◌, ◌<◌, ◌≤◌, List, ◌++◌, length, Option, IfSome}
+use Rattle.std.specs.Prelude.{ℕ, ◌≡◌, ◌<◌, ◌≤◌, List, ◌++◌, length, Option, None, IfSome, option_map}
 use Rattle.m2v_port.specs.Port.{Moves, IsAtEnd}
 use Rattle.m2v_y4m.specs.declared.words.Seen.{Seen}
+use Rattle.m2v_y4m.specs.Frames.{Coming}
+use Rattle.m2v_y4m.specs.Sources.{Standing}
 
 -- how many bytes are read ahead at most
 abbrev pub most_ahead : ℕ
@@ -30,3 +32,12 @@ pub record Held (held : List ℕ) (left : Option (List ℕ)) (held_then : List �
 pub record Gathered (held : List ℕ) (left : Option (List ℕ)) (held_then : List ℕ) (left_then : Option (List ℕ)) : Type 0 where
   pub read : Held held left held_then left_then
   pub all : length held_then < 1024 → IsAtEnd left_then
+
+-- bytes went from the front of the raw bytes to come, where these are told
+pub record Gave (old : Option Coming) (bytes : List ℕ) (new : Option Coming) : Type 0 where
+  pub was : old ≡ option_map (λ c. record { raw = bytes ++ c.raw; fault = c.fault }) new
+
+-- Inside a frame, which isn't broken.
+pub record IsInside (s : Standing) : Type 0 where
+  pub some : 1 ≤ s.rest
+  pub unbroken : s.fault ≡ None

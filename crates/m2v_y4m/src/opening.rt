@@ -5,7 +5,7 @@ ghost use Rattle.m2v_y4m.specs.Rules.{IsHeader};
 
 use crate::answer::{Y4mFault, Y4mKind};
 use crate::header::Y4mHeader;
-use crate::lines::{begins, line_length};
+use crate::lines::{begins, find_byte, line_length};
 use crate::words::{Seen, with_word};
 
 /// A header line.
@@ -22,7 +22,7 @@ fn word_end(line: &[u8], at: usize) -> usize
     ensures least { at ≤ result }
     ensures most { result ≤ length line.now }
 {
-    match line[at..].iter().position(|b| *b == b' ') {
+    match find_byte(&line[at..], b' ') {
         Some(n) => at + n,
         None => line.len(),
     }
@@ -58,6 +58,7 @@ fn read_words(line: &[u8]) -> Result<Seen, Y4mFault>
     Ok(seen)
 }
 
+#[tactic(auto, unfolding(crate::specs::Header::header_of))]
 /// The header of the parameters; None where W, H or F is missing.
 fn header_of(seen: &Seen) -> Option<Y4mHeader>
     requires seen { IsSeen seen.now }
@@ -75,6 +76,7 @@ fn header_of(seen: &Seen) -> Option<Y4mHeader>
     }
 }
 
+#[tactic(auto, unfolding(crate::specs::Header::opening))]
 /// The header line of a text, of which the bytes of a longest line are there or all.
 pub(crate) fn read_opening(text: &[u8]) -> Result<Opening, Y4mFault>
     ensures value { result ≡ opening text.now }
