@@ -1,5 +1,7 @@
 mod ChunkLaws
 mod FrameLaws
 mod LineLaws
+mod SizeLaws
 mod Steps
+mod WordLaws
 mod Rows

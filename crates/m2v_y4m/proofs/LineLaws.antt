@@ -16,6 +16,12 @@ take_all zero (x ∷ xs) le = absurd (omega arith)
 take_all (suc n) [] le = refl
 take_all (suc n) (x ∷ xs) le = ap (λ l. x ∷ l) (take_all n xs (omega arith))
 
+pub drop_all : (n : ℕ) (xs : List ℕ) → length xs ≤ n → drop n xs ≡ []
+drop_all zero [] le = refl
+drop_all zero (x ∷ xs) le = absurd (omega arith)
+drop_all (suc n) [] le = refl
+drop_all (suc n) (x ∷ xs) le = drop_all n xs (omega arith)
+
 pub take_least : (n : ℕ) (xs : List ℕ) → take (min (length xs) n) xs ≡ take n xs
 take_least n xs = by_order (grind arith)
   where

@@ -1,4 +1,4 @@
-ghost use Rattle.std.specs.Prelude.{◌≡◌, ◌⊎◌, ◌+◌, ◌-◌, ◌<◌, ◌≤◌, [], length, take, drop, true, false, IfOk, IfErr, OnOk, OnErr, IsErrOf, Ok, Err, Some, None, IsTrue, is_some};
+ghost use Rattle.std.specs.Prelude.{◌≡◌, ◌⊎◌, ◌+◌, ◌-◌, ◌<◌, ◌≤◌, [], length, take, drop, true, false, IfOk, IfErr, OnOk, OnErr, IsErrOf, Ok, Err, Some, None, IsTrue, IsFalse, is_some};
 ghost use Rattle.m2v_port.specs.Ends.{change};
 ghost use Rattle.m2v_port.specs.Port.{Rose, Moves, IsAtEnd};
 ghost use Rattle.m2v_y4m.specs.Frames.{size_of};
@@ -6,7 +6,7 @@ ghost use Rattle.m2v_y4m.specs.Rules.{IsHeader};
 ghost use Rattle.m2v_y4m.specs.Sources.{Standing, IsOpen, comes_of, told_left, fault_to_come};
 ghost use Rattle.m2v_y4m.specs.Texts.{onward};
 ghost use Rattle.m2v_y4m.specs.Header.{opening};
-ghost use Rattle.m2v_y4m.specs.Reading.{Gathered, Held, Gave, IsInside};
+ghost use Rattle.m2v_y4m.specs.Reading.{Held, Gave, IsInside, TookLine, BrokeLine};
 ghost use Rattle.m2v_y4m.specs.Answers.{OpenStops};
 
 use crate::answer::{Y4mError, Y4mFault, Y4mKind};
@@ -48,8 +48,8 @@ impl Model for Reader {
 
 /// Reads on until the bytes of a longest line are there, or the text ends.
 fn gather<S: Source>(chunk: &mut Chunk, inner: &mut S) -> Result<(), PortError>
-    ensures ok { OnOk result (Gathered chunk.old (S.left inner.old) chunk.new (S.left inner.new)) }
-    ensures err { OnErr result (Held chunk.old (S.left inner.old) chunk.new (S.left inner.new)) }
+    ensures held { Held chunk.old (S.left inner.old) chunk.new (S.left inner.new) }
+    ensures all { OnOk result (length chunk.new < 1024 → IsAtEnd (S.left inner.new)) }
     ensures failed { IsErrOf result PortError.Failed → Rose (S.faults inner.old) (S.faults inner.new) }
     ensures faults { S.faults inner.old ≤ S.faults inner.new }
 {
@@ -171,25 +171,73 @@ impl Reader {
         ensures failed { IsErrOf result PortError.Failed → Rose (S.faults inner.old) (S.faults inner.new) ⊎ IsTrue (is_some self.new.fault) }
         ensures faults { S.faults inner.old ≤ S.faults inner.new }
     {
-        gather(&mut self.chunk, inner)?;
-        if self.chunk.len() == 0 {
+        self.look_ahead(inner)?;
+        if self.is_drained() {
             return Ok(false);
         }
+        self.take_line()?;
+        Ok(true)
+    }
+
+    /// Whether no byte was read ahead.
+    fn is_drained(&self) -> bool
+        ensures none { IsTrue result → self.now.unread ≡ [] }
+        ensures some { IsFalse result → 1 ≤ length self.now.unread }
+    {
+        self.chunk.len() == 0
+    }
+
+    /// Reads on until the bytes of a longest line are there, or the text ends.
+    fn look_ahead<S: Source>(&mut self, inner: &mut S) -> Result<(), PortError>
+        ensures same { comes_of self.new (S.left inner.new) ≡ comes_of self.old (S.left inner.old) }
+        ensures else_same { self.new ≡ record self.old { unread = self.new.unread } }
+        ensures ahead { OnOk result (length self.new.unread < 1024 → IsAtEnd (S.left inner.new)) }
+        ensures failed { IsErrOf result PortError.Failed → Rose (S.faults inner.old) (S.faults inner.new) }
+        ensures faults { S.faults inner.old ≤ S.faults inner.new }
+    {
+        gather(&mut self.chunk, inner)
+    }
+
+    /// Takes the frame line that was read ahead.
+    fn take_line(&mut self) -> Result<(), PortError>
+        ensures took { OnOk result (TookLine self.old self.new) }
+        ensures broke { OnErr result (BrokeLine self.old self.new) }
+        ensures failed { IfErr result (λ e. e ≡ PortError.Failed) }
+        ensures some { 1 ≤ size_of self.old.header }
+    {
+        let _size = frame_size(&self.header);
         match frame_line(self.chunk.bytes()) {
             Ok(length) => {
                 self.chunk.pass(length);
                 self.line = self.place;
                 self.place = self.place.saturating_add(length as u64);
                 self.rest = self.size;
-                Ok(true)
+                Ok(())
             }
             Err(kind) => Err(self.break_at(kind, self.place)),
         }
     }
 
+    /// The text ends inside a frame: that breaks it where no byte of the frame was there.
+    fn end_inside(&mut self) -> Result<usize, PortError>
+        ensures ok { OnOk result ((self.new ≡ self.old) × (self.old.rest < size_of self.old.header)) }
+        ensures zero { IfOk result (λ n. n ≡ 0) }
+        ensures err { OnErr result ((self.new ≡ record self.old { fault = Some (record { kind = Y4mKind.Frame; place = self.old.line }) })
+            × (self.old.rest ≡ size_of self.old.header)) }
+        ensures failed { IfErr result (λ e. e ≡ PortError.Failed) }
+        ensures some { 1 ≤ size_of self.old.header }
+    {
+        let _size = frame_size(&self.header);
+        if self.rest == self.size {
+            return Err(self.break_at(Y4mKind::Frame, self.line));
+        }
+        Ok(0)
+    }
+
     /// So many bytes of the frame were given.
     fn advance(&mut self, n: usize)
         requires within { n ≤ self.old.rest }
+        ensures most { self.old.rest ≤ size_of self.old.header }
         ensures value { self.new ≡ record self.old { rest = self.old.rest - n; place = onward self.old.place n } }
     {
         self.rest -= n;
@@ -202,6 +250,7 @@ impl Reader {
         requires some { 0 < length self.old.unread }
         requires room { 0 < length buf.old }
         ensures least { 0 < result }
+        ensures most { self.old.rest ≤ size_of self.old.header }
         ensures rest { result ≤ self.old.rest }
         ensures ahead { result ≤ length self.old.unread }
         ensures within { result ≤ length buf.old }
@@ -232,8 +281,8 @@ impl Reader {
         ensures faults { S.faults inner.old ≤ S.faults inner.new }
     {
         let n = read_part(inner, buf, self.rest)?;
-        if n == 0 && self.rest == self.size {
-            return Err(self.break_at(Y4mKind::Frame, self.line));
+        if n == 0 {
+            return self.end_inside();
         }
         self.advance(n);
         Ok(n)
