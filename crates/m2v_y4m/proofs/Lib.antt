@@ -1,1 +1,7 @@
+mod ChunkLaws
+mod FrameLaws
+mod LineLaws
+mod SizeLaws
+mod Steps
+mod WordLaws
 mod Rows
