@@ -24,7 +24,7 @@ from collections import Counter
 from concurrent.futures import ThreadPoolExecutor
 from pathlib import Path
 
-from pictures_writer import FRAME, I, P, Picture, headers, sequence
+from pictures_writer import ESCAPED_INCREMENT, FRAME, I, INCREMENT, Picture, headers, sequence
 
 KIND = (r'(NoSequence|NotMpeg2|Unsupported|Truncated|NoCode|BadMarker|Forbidden|SequenceChanged|SliceOrder|'
         r'MissingMacroblocks|SkipRule|VectorRange|VectorOutside|Overrun|DcRange|MissingReference|FieldPair)')
@@ -129,7 +129,7 @@ def streams(program, folder):
     subprocess.run([sys.executable, Path(__file__).with_name('pictures.py'), folder], stdout=subprocess.DEVNULL, check=True)
     found = [path.read_bytes() for path in sorted(Path(folder).iterdir()) if path.suffix == '.m2v']
     for scan in ('progressive', 'frames', 'fields'):
-        words = '--width 64 --height 64 --rate 3 --bits 400 --buffer 10 --search 4 --scan'.split() + [scan]
+        words = '--width 64 --height 64 --rate 3 --bits 1000 --buffer 15 --search 4 --scan'.split() + [scan]
         done = subprocess.run([program, 'encode', *words], input=raw(64, 64, 9), capture_output=True, check=True)
         found.append(done.stdout)
     return [data for data in found if 40 < len(data) < 60000]
@@ -157,7 +157,7 @@ def dear():
     first = '1' + '1' + grey + chroma
     row = b''
     for column in range(120):
-        increment = ESCAPES(column + 1)
+        increment = increment_code(column + 1)
         row += b'\0\0\1\x01' + bits('01000' + '0' + increment + '1' + grey + chroma)
     tiny = b''.join(row.replace(b'\0\0\1\x01', b'\0\0\1' + bytes([r + 1])) for r in range(72))
     escapes = '1' + '1' + ('100' + ''.join('000001' + '000000' + '011111111111' for _ in range(63)) + '10') * 4 + (
@@ -170,13 +170,12 @@ def dear():
         'a sequence header before each picture, 16 by 16': of_a_megabyte(b'', small + intra(0) + plain),
         'pictures of one macroblock, 16 by 16': of_a_megabyte(small, intra(0) + plain),
         'escapes for all coefficients, 16 by 16': of_a_megabyte(small, intra(0) + longest),
-        'user data without end, 16 by 16': of_a_megabyte(small + intra(0), b'\0\0\1\xb2') [:-4] + plain + END,
+        'user data without end, 16 by 16': of_a_megabyte(small + intra(0), b'\0\0\1\xb2')[:-4] + plain + END,
         'group headers without pictures, 16 by 16': of_a_megabyte(small, b'\0\0\1\xb8\0\x08\0\0'),
     }
 
 
-def ESCAPES(increment):
-    from pictures_writer import ESCAPED_INCREMENT, INCREMENT
+def increment_code(increment):
     text = ''
     while increment > 33:
         text, increment = text + ESCAPED_INCREMENT, increment - 33
