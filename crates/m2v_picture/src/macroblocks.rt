@@ -19,7 +19,7 @@ use crate::scratch::Scratch;
 use crate::target::Target;
 use m2v_bits::BitReader;
 use m2v_macro::{MacroSyntax, PictureContext, SliceState, read_macro};
-use m2v_macroblock::dc_after;
+use m2v_macroblock::{dc_after, kinds};
 use m2v_model::{SliceSetup, Stop, of_macro, stopped};
 use m2v_plane::RefView;
 use m2v_quant::Levels;
@@ -106,7 +106,8 @@ fn macroblock(
     let gap = gap_before(&s.context, row, &before, &syntax);
     let column = column(&s.context, row, state);
     check(s, row, column, gap, &before, &syntax, left)?;
-    blocks(input, &s.context, &syntax, state, levels)?;
+    let kinds = kinds(&s.context, syntax.kind.intra, state.quantiser);
+    blocks(input, &s.context, &syntax, state, &kinds, levels)?;
     Ok(Located {
         syntax,
         column,
