@@ -175,6 +175,21 @@ fn groups(levels: &Levels) -> u8
     if is_empty(levels, 32, 32) { 4 } else { 8 }
 }
 
+/// The coefficients of four levels more.
+#[inline(always)]
+fn put_four(levels: &Levels, kind: &BlockKind, from: u8, out: &mut [i32; 64], parity: u32) -> u32
+    requires kind { IsKind kind.now }
+    requires levels { All IsLevel levels.now.at }
+    requires from { from ≤ 60 }
+    requires before { IsUpTo levels.now.at kind.now from out.old parity }
+    ensures { IsUpTo levels.now.at kind.now (from + 4) out.new result }
+{
+    let one = put_level(levels, kind, from, out, parity);
+    let two = put_level(levels, kind, from + 1, out, one);
+    let three = put_level(levels, kind, from + 2, out, two);
+    put_level(levels, kind, from + 3, out, three)
+}
+
 /// The coefficients of eight levels more.
 #[inline(always)]
 fn put_group(levels: &Levels, kind: &BlockKind, from: u8, out: &mut [i32; 64], parity: u32) -> u32
@@ -187,11 +202,8 @@ fn put_group(levels: &Levels, kind: &BlockKind, from: u8, out: &mut [i32; 64], p
     if is_empty(levels, from, 8) {
         return parity;
     }
-    let mut sum = parity;
-    for j in 0..8 {
-        sum = put_level(levels, kind, from + j, out, sum);
-    }
-    sum
+    let half = put_four(levels, kind, from, out, parity);
+    put_four(levels, kind, from + 4, out, half)
 }
 
 /// The coefficients of levels before mismatch control, and the parity of their sum. Most levels are 0, and stand in
