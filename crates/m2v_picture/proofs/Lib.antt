@@ -5,3 +5,4 @@ pub mod Held
 pub mod Ranges
 pub mod RuleLaws
 pub mod FrameLaws
+pub mod BlockLaws

@@ -186,6 +186,10 @@ pub gap_over : (put : Put) (s : SliceSetup) (refs : References) (st : SliceState
 unfolding skipped_painted
 gap_over put s refs st at k count now le = let e : count - k ≡ 0 = omega (arith, le) in rw e refl
 
+pub gap_none : (put : Put) (s : SliceSetup) (refs : References) (st : SliceState) (at count : ℕ) (now : Samples) → count ≡ 0 → skipped_painted put s refs st at count now ≡ now
+unfolding skipped_painted
+gap_none put s refs st at count now e = rw e refl
+
 -- the prediction of a macroblock that isn't intra
 pub own_prediction : (f b : View) (c : PictureContext) (at : MbPlace) (m : MacroSyntax) → m.kind.intra ≡ false → prediction_of f b c at m ≡ block_by (predicted f b (mode_of c m) at)
 unfolding prediction_of

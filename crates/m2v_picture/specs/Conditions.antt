@@ -1,10 +1,13 @@
 -- What is known of what slices are read by, and of the state between two macroblocks of a slice.
-use Rattle.std.specs.Prelude.{◌≡◌, ℕ, ◌+◌, ◌*◌, ◌/◌, ◌^◌, ◌<◌, ◌≤◌, ◌||◌, ◌⊎◌, true, false, IsTrue, Bool, nat_eq, slice_index_or, if◌then◌else◌, ℤ, pos, ◌-ℤ◌, ◌+ℤ◌, ◌<ℤ◌, ◌≤ℤ◌}
+use Rattle.std.specs.Prelude.{◌≡◌, ℕ, ◌+◌, ◌*◌, ◌/◌, ◌^◌, ◌<◌, ◌≤◌, ◌||◌, ◌⊎◌, true, false, IsTrue, Bool, nat_eq, List, [], ◌∷◌, All, slice_index_or, if◌then◌else◌, ℤ, pos, ◌-ℤ◌, ◌+ℤ◌, ◌<ℤ◌, ◌≤ℤ◌}
 use Rattle.m2v_plane.specs.declared.dims.Dims.{Dims}
 use Rattle.m2v_plane.specs.declared.planes.Plane.{Plane}
 use Rattle.m2v_plane.specs.declared.planes.Lines.{Lines}
 use Rattle.m2v_plane.specs.Sizes.{IsSize, lines_of}
 use Rattle.m2v_plane.specs.Fields.{lines_there}
+use Rattle.m2v_quant.specs.declared.kind.BlockKind.{BlockKind}
+use Rattle.m2v_quant.specs.Kinds.{IsKind, IsLevel}
+use Rattle.m2v_block.specs.Blocks.{IsDc}
 use Rattle.m2v_macro.specs.declared.values.MacroSyntax.{MacroSyntax}
 use Rattle.m2v_macro.specs.declared.values.SliceState.{SliceState}
 use Rattle.m2v_macro.specs.declared.values.PictureContext.{PictureContext}
@@ -15,6 +18,7 @@ use Rattle.m2v_pred.specs.declared.mode.Mode.{Mode}
 use Rattle.m2v_pred.specs.declared.mode.MbPlace.{MbPlace}
 use Rattle.m2v_pred.specs.Vectors.{IsPlace}
 use Rattle.m2v_pred.specs.Inside.{is_inside}
+use Rattle.m2v_macroblock.specs.Macroblocks.{kind_for}
 use Rattle.m2v_macroblock.specs.Modes.{address_of, skipped_before, first_skipped}
 use Rattle.m2v_model.specs.Modes.{is_decoded, all_inside, references_decoded}
 use Rattle.m2v_picture.specs.declared.gap.Gap.{Gap}
@@ -71,6 +75,18 @@ pub record CanPaint (s : SliceSetup) (st : SliceState) (m : MacroSyntax) : Type 
   pub fits : IsMacro s.context st m
   pub inside : all_inside s st m ≡ true
   pub decoded : references_decoded s st m ≡ true
+
+-- ---- blocks
+
+-- what a macroblock's luma blocks and its chroma blocks are coded with, by the state behind its elements
+pub record AreKinds (c : PictureContext) (m : MacroSyntax) (st : SliceState) (kinds : List BlockKind) : Type 0 where
+  pub value : kinds ≡ kind_for c m.kind.intra true st.quantiser ∷ kind_for c m.kind.intra false st.quantiser ∷ []
+  pub each : All IsKind kinds
+
+-- the levels of a block of a macroblock are in their ranges
+pub record AreFine (c : PictureContext) (m : MacroSyntax) (levels : List ℤ) : Type 0 where
+  pub levels_are : All IsLevel levels
+  pub dc : m.kind.intra ≡ true → IsDc c.extension.dc_precision (slice_index_or levels 0 (pos 0))
 
 -- ---- predictions
 

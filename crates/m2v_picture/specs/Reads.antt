@@ -1,5 +1,5 @@
 -- What the readers of a slice answer: what reading gives, and the samples of the tree.
-use Rattle.std.specs.Prelude.{◌≡◌, ◌⊎◌, ℕ, ◌-◌, ℤ, Bool, true, false, not, List, [], length, filter, Result, Ok, Err}
+use Rattle.std.specs.Prelude.{◌≡◌, ◌⊎◌, ℕ, ◌-◌, ℤ, Bool, true, false, not, List, [], ◌∷◌, ◌++◌, length, filter, Result, Ok, Err}
 use Rattle.m2v_bits.specs.Bits.{all_zero}
 use Rattle.m2v_plane.specs.Samples.{Samples}
 use Rattle.m2v_quant.specs.declared.kind.Levels.{Levels}
@@ -31,6 +31,11 @@ TellsSum (Err e) read = read ≡ Err (e.kind, e.left)
 abbrev pub TellsLevels : Result (Unit {0}) Stop → List ℤ → List Bool → Result (List ℤ × List Bool) (FaultKind × ℕ) → Type 0
 TellsLevels (Ok _) levels rest read = read ≡ Ok (levels, rest)
 TellsLevels (Err e) levels rest read = read ≡ Err (e.kind, e.left)
+
+-- the levels of one of a macroblock's blocks, behind those before it
+abbrev pub TellsBlock : Result (Unit {0}) Stop → List (List ℤ) → List (List ℤ) → List Bool → Result (List ℤ × List Bool) (FaultKind × ℕ) → Type 0
+TellsBlock (Ok _) before now rest read = (own : List ℤ) × (read ≡ Ok (own, rest)) × (now ≡ before ++ own ∷ [])
+TellsBlock (Err e) before now rest read = read ≡ Err (e.kind, e.left)
 
 -- the levels of a macroblock's blocks
 abbrev pub TellsBlocks : Result (Unit {0}) Stop → List Levels → List Bool → Result (List (List ℤ) × List Bool) (FaultKind × ℕ) → Type 0

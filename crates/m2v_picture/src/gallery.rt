@@ -282,11 +282,12 @@ impl Gallery {
         if p.info.kind == 3 {
             return Ok(self.current.take());
         }
+        // the anchor before the last one isn't needed any more: the copy takes its place
+        keep(&mut self.spare, self.older.take());
         let shown = match &self.current {
             Some(frame) => Some(copy_of(alloc, &mut self.spare, frame)?),
             None => None,
         };
-        keep(&mut self.spare, self.older.take());
         self.older = self.newer.take();
         self.newer = self.current.take();
         Ok(shown)

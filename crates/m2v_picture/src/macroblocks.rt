@@ -5,6 +5,7 @@ ghost use Rattle.m2v_pred.specs.declared.mode.MbPlace.{MbPlace as MbPlaceOf};
 ghost use Rattle.m2v_macro.specs.Macros.{macro_at};
 ghost use Rattle.m2v_macro.specs.States.{after};
 ghost use Rattle.m2v_macro.specs.Conditions.{IsMacro};
+ghost use Rattle.m2v_macroblock.specs.Modes.{mode_of};
 ghost use Rattle.m2v_model.specs.Faults as faults;
 ghost use Rattle.m2v_model.specs.Slices.{macroblock_at};
 ghost use Rattle.m2v_model.specs.Stops.{Tells};
@@ -19,15 +20,17 @@ use crate::scratch::Scratch;
 use crate::target::Target;
 use m2v_bits::BitReader;
 use m2v_macro::{MacroSyntax, PictureContext, SliceState, read_macro};
-use m2v_macroblock::dc_after;
+use m2v_macroblock::{dc_after, kinds, mode};
 use m2v_model::{SliceSetup, Stop, of_macro, stopped};
 use m2v_plane::RefView;
+use m2v_pred::Mode;
 use m2v_quant::Levels;
 
-/// A macroblock that was read, and where it stands in its row.
+/// A macroblock that was read, how it is predicted, and where it stands in its row.
 #[derive(Clone, Copy, Debug, PartialEq, Eq)]
 pub struct Located {
     pub syntax: MacroSyntax,
+    pub mode: Mode,
     pub column: u32,
     pub gap: Gap,
 }
@@ -94,6 +97,7 @@ fn macroblock(
     ensures can { IfOk result (λ x. CanPaint s.now state.old x.syntax) }
     ensures gap { IfOk result (λ x. IsGap s.now.context row state.old x.syntax x.gap) }
     ensures column { IfOk result (λ x. IsColumn s.now.context row state.old x.syntax x.column) }
+    ensures mode { IfOk result (λ x. x.mode ≡ mode_of s.now.context x.syntax) }
     ensures state { IfOk result (λ x. state.new ≡ after s.now.context state.old x.syntax) }
     ensures inside { IfOk result (λ x. IsState s.now.context row state.new) }
     ensures place { IfOk result (λ x. LiesInRow s.now.context row state.new.address) }
@@ -105,10 +109,13 @@ fn macroblock(
     let syntax = elements(input, &s.context, row, state)?;
     let gap = gap_before(&s.context, row, &before, &syntax);
     let column = column(&s.context, row, state);
-    check(s, row, column, gap, &before, &syntax, left)?;
-    blocks(input, &s.context, &syntax, state, levels)?;
+    let mode = mode(&s.context, &syntax);
+    check(s, row, column, gap, &before, &syntax, &mode, left)?;
+    let kinds = kinds(&s.context, syntax.kind.intra, state.quantiser);
+    blocks(input, &s.context, &syntax, state, &kinds, levels)?;
     Ok(Located {
         syntax,
+        mode,
         column,
         gap,
     })
@@ -156,6 +163,7 @@ fn next_macroblock<V: RefView, T: Target>(
         &before,
         state,
         &x.syntax,
+        &x.mode,
         &scratch.levels,
         forward,
         backward,

@@ -3,7 +3,7 @@ ghost use Rattle.m2v_quant.specs.Kinds.{IsLevel};
 ghost use Rattle.m2v_pred.specs.declared.mode.MbPlace.{MbPlace as MbPlaceOf};
 ghost use Rattle.m2v_macro.specs.States.{after};
 ghost use Rattle.m2v_macroblock.specs.Macroblocks.{macroblock_of};
-ghost use Rattle.m2v_macroblock.specs.Modes.{first_skipped};
+ghost use Rattle.m2v_macroblock.specs.Modes.{first_skipped, mode_of};
 ghost use Rattle.m2v_macroblock.specs.Predictions.{prediction_of};
 ghost use Rattle.m2v_model.specs.Samples.{skipped_painted, own_painted};
 ghost use Rattle.m2v_picture.specs.Conditions.{IsSetup, IsState, rows_in, place_in, HoldsForward, HoldsBackward, CanPaint, IsColumn, IsGap};
@@ -13,10 +13,10 @@ use crate::gap::Gap;
 use crate::prediction::{place, predict};
 use crate::target::Target;
 use m2v_macro::{MacroSyntax, SliceState};
-use m2v_macroblock::{kind_for, mode, skipped_mode};
+use m2v_macroblock::{kind_for, skipped_mode};
 use m2v_model::SliceSetup;
 use m2v_plane::RefView;
-use m2v_pred::Block16;
+use m2v_pred::{Block16, Mode};
 use m2v_quant::Levels;
 use m2v_recon::rebuild_block;
 
@@ -44,6 +44,9 @@ pub fn paint_gap<V: RefView, T: Target>(
         (first_skipped before.now) gap.count (T.samples out.old) }
     ensures takes { (p : MbPlaceOf) → T.Takes out.old p → T.Takes out.new p }
 {
+    if gap.count == 0 {
+        return;
+    }
     let mode = skipped_mode(&s.context, before);
     for k in 0..gap.count {
         let at = place(s, row, gap.column + k);
@@ -52,13 +55,14 @@ pub fn paint_gap<V: RefView, T: Target>(
     }
 }
 
-/// The prediction of a macroblock: samples 0 of an intra one.
+/// The prediction of a macroblock by its mode: samples 0 of an intra one.
 fn predict_own<V: RefView>(
     s: &SliceSetup,
     row: u32,
     column: u32,
     before: &SliceState,
     m: &MacroSyntax,
+    mode: &Mode,
     forward: &V,
     backward: &V,
     block: &mut Block16,
@@ -66,6 +70,7 @@ fn predict_own<V: RefView>(
     requires setup { IsSetup s.now }
     requires row { row < rows_in s.now }
     requires can { CanPaint s.now before.now m.now }
+    requires mode { mode.now ≡ mode_of s.now.context m.now }
     requires column { IsColumn s.now.context row before.now m.now column }
     requires forward { HoldsForward s.now (V.size forward.now) (V.Holds forward.now) }
     requires backward { HoldsBackward s.now (V.size backward.now) (V.Holds backward.now) }
@@ -75,11 +80,11 @@ fn predict_own<V: RefView>(
         block.at.fill(0);
         return;
     }
-    let mode = mode(&s.context, m);
-    predict(s, &mode, place(s, row, column), forward, backward, block);
+    predict(s, mode, place(s, row, column), forward, backward, block);
 }
 
-/// Puts a macroblock. `before` is the state before it and those skipped before it, `state` that behind its elements.
+/// Puts a macroblock. `before` is the state before it and those skipped before it, `state` that behind its elements,
+/// `mode` how it is predicted.
 pub fn paint_own<V: RefView, T: Target>(
     s: &SliceSetup,
     row: u32,
@@ -87,6 +92,7 @@ pub fn paint_own<V: RefView, T: Target>(
     before: &SliceState,
     state: &SliceState,
     m: &MacroSyntax,
+    mode: &Mode,
     levels: &[Levels; 6],
     forward: &V,
     backward: &V,
@@ -98,6 +104,7 @@ pub fn paint_own<V: RefView, T: Target>(
     requires state { state.now ≡ after s.now.context before.now m.now }
     requires quantiser { (1 ≤ state.now.quantiser) × (state.now.quantiser ≤ 31) }
     requires can { CanPaint s.now before.now m.now }
+    requires mode { mode.now ≡ mode_of s.now.context m.now }
     requires column { IsColumn s.now.context row before.now m.now column }
     requires levels { All (λ l. All IsLevel l.at) levels.now }
     requires forward { HoldsForward s.now (V.size forward.now) (V.Holds forward.now) }
@@ -107,7 +114,7 @@ pub fn paint_own<V: RefView, T: Target>(
         (macroblock_of m.now levels.now) (T.samples out.old) }
     ensures takes { (p : MbPlaceOf) → T.Takes out.old p → T.Takes out.new p }
 {
-    predict_own(s, row, column, before, m, forward, backward, block);
+    predict_own(s, row, column, before, m, mode, forward, backward, block);
     let intra = m.kind.intra;
     let kinds = [
         kind_for(&s.context, intra, true, state.quantiser),

@@ -4,14 +4,14 @@ ghost use Rattle.m2v_plane.specs.Fields.{lines_there as lines_there_of};
 ghost use Rattle.m2v_pred.specs.Inside.{is_inside};
 ghost use Rattle.m2v_macro.specs.Conditions.{IsMacro};
 ghost use Rattle.m2v_model.specs.Modes.{part_decoded as part_decoded_of, direction_decoded as direction_decoded_of, is_decoded as is_decoded_of, all_inside, references_decoded};
-ghost use Rattle.m2v_macroblock.specs.Modes.{skipped_mode as skipped_mode_of};
+ghost use Rattle.m2v_macroblock.specs.Modes.{skipped_mode as skipped_mode_of, mode_of};
 ghost use Rattle.m2v_picture.specs.Conditions.{IsSetup, rows_in, place_in, IsColumn, IsGap, CanPaint};
 ghost use Rattle.m2v_picture.specs.Reads.{Breaks};
 
 use crate::gap::Gap;
 use crate::prediction::place;
 use m2v_macro::{MacroSyntax, SliceState};
-use m2v_macroblock::{mode, skipped_mode};
+use m2v_macroblock::skipped_mode;
 use m2v_model::{FaultKind, SliceSetup, Stop};
 use m2v_plane::Lines;
 use m2v_pred::{Form, Mode, inside, lines_read, other_field, own_field, part_count};
@@ -72,7 +72,7 @@ fn is_decoded(references: &[bool; 4], structure: u8, mode: &Mode) -> bool
         && (!mode.backward || direction_decoded([behind_top, behind_bottom], mode, 1, structure))
 }
 
-/// Whether the predictions of the macroblocks of a gap read inside their references.
+/// Whether the predictions of the macroblocks of a gap by a mode read inside their references.
 fn gap_inside(s: &SliceSetup, row: u32, mode: &Mode, gap: Gap) -> bool
     requires setup { IsSetup s.now }
     requires row { row < rows_in s.now }
@@ -85,6 +85,22 @@ fn gap_inside(s: &SliceSetup, row: u32, mode: &Mode, gap: Gap) -> bool
         }
     }
     true
+}
+
+/// Whether the predictions of the macroblocks of a gap read inside their references. Most gaps are empty.
+#[inline(always)]
+fn skipped_inside(s: &SliceSetup, row: u32, gap: Gap, before: &SliceState) -> bool
+    requires setup { IsSetup s.now }
+    requires row { row < rows_in s.now }
+    requires within { 0 < gap.count → gap.column + gap.count < s.now.context.columns }
+    ensures { result ≡ list_all (λ k. is_inside (skipped_mode_of s.now.context before.now) (place_in s.now row (gap.column + k)) s.now.dims)
+        (range_with_len 0 gap.count) }
+{
+    if gap.count == 0 {
+        return true;
+    }
+    let mode = skipped_mode(&s.context, before);
+    gap_inside(s, row, &mode, gap)
 }
 
 /// Whether both hold.
@@ -103,18 +119,18 @@ fn are_inside(
     gap: Gap,
     before: &SliceState,
     m: &MacroSyntax,
+    mode: &Mode,
 ) -> bool
     requires setup { IsSetup s.now }
     requires row { row < rows_in s.now }
     requires fits { IsMacro s.now.context before.now m.now }
+    requires mode { mode.now ≡ mode_of s.now.context m.now }
     requires gap { IsGap s.now.context row before.now m.now gap }
     requires column { IsColumn s.now.context row before.now m.now column }
     ensures { result ≡ all_inside s.now before.now m.now }
 {
-    let skipped = skipped_mode(&s.context, before);
-    let mode = mode(&s.context, m);
-    let gap_inside = gap_inside(s, row, &skipped, gap);
-    let own_inside = inside(&mode, place(s, row, column), s.dims);
+    let gap_inside = skipped_inside(s, row, gap, before);
+    let own_inside = inside(mode, place(s, row, column), s.dims);
     both(gap_inside, own_inside)
 }
 
@@ -132,20 +148,27 @@ fn gap_decoded(s: &SliceSetup, gap: Gap, before: &SliceState) -> bool
 
 /// Whether the fields that a macroblock and those skipped before it are predicted from were decoded.
 #[tactic(auto, unfolding(m2v_model::specs::Modes::references_decoded))]
-fn are_decoded(s: &SliceSetup, row: u32, gap: Gap, before: &SliceState, m: &MacroSyntax) -> bool
+fn are_decoded(
+    s: &SliceSetup,
+    row: u32,
+    gap: Gap,
+    before: &SliceState,
+    m: &MacroSyntax,
+    mode: &Mode,
+) -> bool
     requires setup { IsSetup s.now }
     requires fits { IsMacro s.now.context before.now m.now }
+    requires mode { mode.now ≡ mode_of s.now.context m.now }
     requires gap { IsGap s.now.context row before.now m.now gap }
     ensures { result ≡ references_decoded s.now before.now m.now }
 {
-    let mode = mode(&s.context, m);
     let gap_decoded = gap_decoded(s, gap, before);
-    let own_decoded = is_decoded(&s.references, s.context.extension.structure, &mode);
+    let own_decoded = is_decoded(&s.references, s.context.extension.structure, mode);
     both(gap_decoded, own_decoded)
 }
 
 /// What a macroblock and those skipped before it are predicted from lies inside its references, and was decoded. The place
-/// of a fault is the macroblock's first bit, where `left` bits are left.
+/// of a fault is the macroblock's first bit, where `left` bits are left. `mode` is the macroblock's.
 ///
 /// # Errors
 /// `VectorOutside` of any of them before `MissingReference` of any of them.
@@ -156,23 +179,25 @@ pub fn check(
     gap: Gap,
     before: &SliceState,
     m: &MacroSyntax,
+    mode: &Mode,
     left: u64,
 ) -> Result<(), Stop>
     requires setup { IsSetup s.now }
     requires row { row < rows_in s.now }
     requires fits { IsMacro s.now.context before.now m.now }
+    requires mode { mode.now ≡ mode_of s.now.context m.now }
     requires gap { IsGap s.now.context row before.now m.now gap }
     requires column { IsColumn s.now.context row before.now m.now column }
     ensures held { IfOk result (λ done. CanPaint s.now before.now m.now) }
     ensures broken { IfErr result (Breaks s.now before.now m.now left) }
 {
-    if !are_inside(s, row, column, gap, before, m) {
+    if !are_inside(s, row, column, gap, before, m, mode) {
         return Err(Stop {
             kind: FaultKind::VectorOutside,
             left,
         });
     }
-    if !are_decoded(s, row, gap, before, m) {
+    if !are_decoded(s, row, gap, before, m, mode) {
         return Err(Stop {
             kind: FaultKind::MissingReference,
             left,

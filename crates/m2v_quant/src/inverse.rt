@@ -1,4 +1,4 @@
-ghost use Rattle.std.specs.Prelude.{◌≡◌, ◌+◌, ◌*◌, ◌/◌, ◌%◌, ◌^◌, ◌<◌, ◌≤◌, ◌∷◌, [], cond, min, slice_index, slice_index_or, slice_set, ◌-◌, IsTrue, ℕ, All, ℤ, pos, ◌*ℤ◌, unsigned_abs, nat_eq, if◌then◌else◌, map};
+ghost use Rattle.std.specs.Prelude.{◌≡◌, ◌+◌, ◌*◌, ◌/◌, ◌%◌, ◌^◌, ◌<◌, ◌≤◌, ◌∷◌, [], cond, min, slice_index, slice_index_or, slice_set, ◌-◌, IsTrue, ℕ, All, ℤ, pos, ◌*ℤ◌, unsigned_abs, nat_eq, if◌then◌else◌, map, replicate};
 ghost use Rattle.std.specs.List.{range_with_len};
 ghost use Rattle.m2v_quant.specs.Kinds.{IsKind, IsLevel, IsCoefficient};
 ghost use Rattle.m2v_quant.specs.Quantiser.{with_sign};
@@ -76,20 +76,22 @@ fn dc(precision: u8, level: i32) -> i32
     kept(level, (8u32 >> precision) * level.unsigned_abs())
 }
 
-/// The coefficient of a raster place before mismatch control, by its level.
+/// The coefficient of a raster place before mismatch control, by its level. Whether the block is intra is the kind's, once
+/// more: what is known where it is called needs no test here.
 #[inline(always)]
 #[tactic(auto, unfolding(crate::specs::Coefficients::saturated_of))]
-fn coefficient(kind: &BlockKind, place: u8, level: i32) -> i32
+fn coefficient(kind: &BlockKind, intra: bool, place: u8, level: i32) -> i32
     requires kind { IsKind kind.now }
+    requires intra { kind.now.intra ≡ intra }
     requires place { place < 64 }
     requires level { IsLevel level }
     ensures value { result ≡ saturated_of kind.now place level }
     ensures within { IsCoefficient result }
 {
-    if kind.intra && place == 0 {
+    if intra && place == 0 {
         return dc(kind.precision, level);
     }
-    ac(kind.intra, step(kind, place), level)
+    ac(intra, step(kind, place), level)
 }
 
 /// The parity of a sum with one more number.
@@ -120,9 +122,19 @@ fn turned(coefficient: i32) -> i32
 
 /// The place of one level more, and the parity with it.
 #[inline(always)]
-fn put_coefficient(level: i32, kind: &BlockKind, i: u8, out: &mut [i32; 64], parity: u32) -> u32
+fn put_coefficient(
+    level: i32,
+    kind: &BlockKind,
+    intra: bool,
+    alternate: bool,
+    i: u8,
+    out: &mut [i32; 64],
+    parity: u32,
+) -> u32
     requires level { IsLevel level }
     requires kind { IsKind kind.now }
+    requires intra { kind.now.intra ≡ intra }
+    requires alternate { kind.now.alternate ≡ alternate }
     requires i { i < 64 }
     requires parity { parity < 2 }
     ensures value { out.new ≡ slice_set out.old (slice_index (scan_order kind.now.alternate) i)
@@ -131,16 +143,26 @@ fn put_coefficient(level: i32, kind: &BlockKind, i: u8, out: &mut [i32; 64], par
     ensures parity { result
         ≡ (parity + unsigned_abs (saturated_of kind.now (slice_index (scan_order kind.now.alternate) i) level)) % 2 }
 {
-    let place = scan(kind.alternate, i);
-    let c = coefficient(kind, place, level);
+    let place = scan(alternate, i);
+    let c = coefficient(kind, intra, place, level);
     out[place as usize] = c;
     parity_with(parity, c)
 }
 
 /// The coefficients of one level more.
 #[inline(always)]
-fn put_level(levels: &Levels, kind: &BlockKind, i: u8, out: &mut [i32; 64], parity: u32) -> u32
+fn put_level(
+    levels: &Levels,
+    kind: &BlockKind,
+    intra: bool,
+    alternate: bool,
+    i: u8,
+    out: &mut [i32; 64],
+    parity: u32,
+) -> u32
     requires kind { IsKind kind.now }
+    requires intra { kind.now.intra ≡ intra }
+    requires alternate { kind.now.alternate ≡ alternate }
     requires levels { All IsLevel levels.now.at }
     requires i { i < 64 }
     requires before { IsUpTo levels.now.at kind.now i out.old parity }
@@ -150,7 +172,7 @@ fn put_level(levels: &Levels, kind: &BlockKind, i: u8, out: &mut [i32; 64], pari
     if level == 0 {
         return parity;
     }
-    put_coefficient(level, kind, i, out, parity)
+    put_coefficient(level, kind, intra, alternate, i, out, parity)
 }
 
 /// Whether so many levels are 0, from one on.
@@ -175,10 +197,45 @@ fn groups(levels: &Levels) -> u8
     if is_empty(levels, 32, 32) { 4 } else { 8 }
 }
 
+/// The coefficients of four levels more.
+#[inline(always)]
+fn put_four(
+    levels: &Levels,
+    kind: &BlockKind,
+    intra: bool,
+    alternate: bool,
+    from: u8,
+    out: &mut [i32; 64],
+    parity: u32,
+) -> u32
+    requires kind { IsKind kind.now }
+    requires intra { kind.now.intra ≡ intra }
+    requires alternate { kind.now.alternate ≡ alternate }
+    requires levels { All IsLevel levels.now.at }
+    requires from { from ≤ 60 }
+    requires before { IsUpTo levels.now.at kind.now from out.old parity }
+    ensures { IsUpTo levels.now.at kind.now (from + 4) out.new result }
+{
+    let one = put_level(levels, kind, intra, alternate, from, out, parity);
+    let two = put_level(levels, kind, intra, alternate, from + 1, out, one);
+    let three = put_level(levels, kind, intra, alternate, from + 2, out, two);
+    put_level(levels, kind, intra, alternate, from + 3, out, three)
+}
+
 /// The coefficients of eight levels more.
 #[inline(always)]
-fn put_group(levels: &Levels, kind: &BlockKind, from: u8, out: &mut [i32; 64], parity: u32) -> u32
+fn put_group(
+    levels: &Levels,
+    kind: &BlockKind,
+    intra: bool,
+    alternate: bool,
+    from: u8,
+    out: &mut [i32; 64],
+    parity: u32,
+) -> u32
     requires kind { IsKind kind.now }
+    requires intra { kind.now.intra ≡ intra }
+    requires alternate { kind.now.alternate ≡ alternate }
     requires levels { All IsLevel levels.now.at }
     requires from { from ≤ 56 }
     requires before { IsUpTo levels.now.at kind.now from out.old parity }
@@ -187,11 +244,65 @@ fn put_group(levels: &Levels, kind: &BlockKind, from: u8, out: &mut [i32; 64], p
     if is_empty(levels, from, 8) {
         return parity;
     }
-    let mut sum = parity;
-    for j in 0..8 {
-        sum = put_level(levels, kind, from + j, out, sum);
+    let half = put_four(levels, kind, intra, alternate, from, out, parity);
+    put_four(levels, kind, intra, alternate, from + 4, out, half)
+}
+
+/// The coefficients of so many groups of eight levels, where all of the block are 0 yet. Whether the block is intra and
+/// goes by the alternate scan is the kind's, once more, so that neither is asked at each level.
+#[inline(always)]
+fn put_groups(
+    levels: &Levels,
+    kind: &BlockKind,
+    intra: bool,
+    alternate: bool,
+    end: u8,
+    out: &mut [i32; 64],
+) -> u32
+    requires kind { IsKind kind.now }
+    requires intra { kind.now.intra ≡ intra }
+    requires alternate { kind.now.alternate ≡ alternate }
+    requires levels { All IsLevel levels.now.at }
+    requires end { end ≤ 8 }
+    requires zeros { out.old ≡ replicate 64 (pos 0) }
+    ensures { IsUpTo levels.now.at kind.now (8 * end) out.new result }
+{
+    let mut parity = 0;
+    for group in 0..end {
+        parity = put_group(levels, kind, intra, alternate, 8 * group, out, parity);
     }
-    sum
+    parity
+}
+
+/// The same, by the kind's scan.
+#[inline(always)]
+fn put_by_scan(levels: &Levels, kind: &BlockKind, intra: bool, end: u8, out: &mut [i32; 64]) -> u32
+    requires kind { IsKind kind.now }
+    requires intra { kind.now.intra ≡ intra }
+    requires levels { All IsLevel levels.now.at }
+    requires end { end ≤ 8 }
+    requires zeros { out.old ≡ replicate 64 (pos 0) }
+    ensures { IsUpTo levels.now.at kind.now (8 * end) out.new result }
+{
+    if kind.alternate {
+        return put_groups(levels, kind, intra, true, end, out);
+    }
+    put_groups(levels, kind, intra, false, end, out)
+}
+
+/// The same, by what the kind says.
+#[inline(always)]
+fn put_by_kind(levels: &Levels, kind: &BlockKind, end: u8, out: &mut [i32; 64]) -> u32
+    requires kind { IsKind kind.now }
+    requires levels { All IsLevel levels.now.at }
+    requires end { end ≤ 8 }
+    requires zeros { out.old ≡ replicate 64 (pos 0) }
+    ensures { IsUpTo levels.now.at kind.now (8 * end) out.new result }
+{
+    if kind.intra {
+        return put_by_scan(levels, kind, true, end, out);
+    }
+    put_by_scan(levels, kind, false, end, out)
 }
 
 /// The coefficients of levels before mismatch control, and the parity of their sum. Most levels are 0, and stand in
@@ -205,12 +316,8 @@ fn saturate(levels: &Levels, kind: &BlockKind, out: &mut [i32; 64]) -> u32
     ensures within { All IsCoefficient out.new }
 {
     *out = [0; 64];
-    let mut parity = 0;
     let end = groups(levels);
-    for group in 0..end {
-        parity = put_group(levels, kind, 8 * group, out, parity);
-    }
-    parity
+    put_by_kind(levels, kind, end, out)
 }
 
 /// The 64 coefficients of a block in raster order, each from -2048 to 2047, of its levels (clauses 7.3 and 7.4):

@@ -7,8 +7,13 @@ use Rattle.m2v_macroblock.specs.Modes.{skipped_mode, first_skipped}
 use Rattle.m2v_model.specs.Samples.{skipped_painted}
 use Rattle.m2v_picture.specs.Reads.{seen_by}
 use Rattle.m2v_picture.specs.Conditions.{CanPredict, place_in}
-use Rattle.m2v_picture.proofs.RuleLaws.{gap_can, gap_some, gap_place, gap_painted, gap_over, in_gap}
+use Rattle.m2v_picture.proofs.RuleLaws.{gap_can, gap_some, gap_place, gap_painted, gap_over, gap_none, in_gap}
 use Rattle.m2v_picture.proofs.paint.paint_gap.Goals as goal
+
+pub returns-then-gap-eq0-clause-value : goal.returns-then-gap-eq0-clause-value
+returns-then-gap-eq0-clause-value g c =
+    let refs = seen_by (g.V.RefView.at c.args.forward.now) (g.V.RefView.at c.args.backward.now) in
+    sym (gap_none g.T.Target.placed c.args.s.now refs c.args.before.now (first_skipped c.args.before.now) c.args.gap.count (g.T.Target.samples c.args.out.now) (search rules))
 
 pub predict-requires-clause-can : goal.predict-requires-clause-can
 predict-requires-clause-can g c =

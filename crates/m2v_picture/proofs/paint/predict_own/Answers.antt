@@ -18,8 +18,8 @@ predict-requires-clause-can g c =
     let m = c.args.m.now in
     let some = own_some s c.args.before.now m c.if-m.false in
     let can = own_can s c.args.row c.args.column c.args.before.now m c.requires.setup c.requires.row c.requires.can c.requires.column some in
-    subst (λ (at : MbPlace). CanPredict s c.mode-mode.result at) (sym c.place.ensures)
-    (subst (λ (mode : Mode). CanPredict s mode (place_in s c.args.row c.args.column)) (sym c.mode-mode.ensures.value) can)
+    subst (λ (at : MbPlace). CanPredict s c.args.mode.now at) (sym c.place.ensures)
+    (subst (λ (mode : Mode). CanPredict s mode (place_in s c.args.row c.args.column)) (sym c.requires.mode) can)
 
 pub returns : goal.returns
 returns g c =
@@ -28,7 +28,7 @@ returns g c =
     let b = g.V.RefView.at c.args.backward.now in
     record {
       value = c.predict.ensures.value
-          ∙ ap (λ (mode : Mode). block_by (predicted f b mode c.place.result)) c.mode-mode.ensures.value
+          ∙ ap (λ (mode : Mode). block_by (predicted f b mode c.place.result)) c.requires.mode
           ∙ ap (λ (at : MbPlace). block_by (predicted f b (mode_of s.context c.args.m.now) at)) c.place.ensures
           ∙ sym (own_prediction f b s.context (place_in s c.args.row c.args.column) c.args.m.now c.if-m.false);
     }
