@@ -57,16 +57,6 @@ fn eight_lanes(block: &[u8], window: &[u8], from: usize, stride: usize) -> u32x1
     plus(upper, lower)
 }
 
-/// How far eight lines of a block lie from eight lines of a window.
-#[inline(always)]
-fn eight_at(block: &[u8], window: &[u8], from: usize, stride: usize) -> u32
-    requires block { length block.now ≡ 128 }
-    requires within { from + 7 * stride + 16 ≤ length window.now }
-    ensures sum { result ≡ sad block.now (lines_at 8 window.now from stride) }
-{
-    total(eight_lanes(block, window, from, stride))
-}
-
 /// How far sixteen lines of a block lie from sixteen lines of a window.
 #[inline(always)]
 fn sixteen_at(block: &[u8], window: &[u8], from: usize, stride: usize) -> u32
@@ -142,9 +132,6 @@ pub fn sad_at_until(
     // a search passes over most places by bounds; of the others few end early, so all lines are summed before the test
     if lines == 16 {
         return below(sixteen_at(block, window, place, stride), limit);
-    }
-    if lines == 8 {
-        return below(eight_at(block, window, place, stride), limit);
     }
     fours_until(block, lines, window, place, stride, limit)
 }
