@@ -143,3 +143,31 @@ at_end first one run levels i le = rw (drop_all i levels le) refl
 pub next_level_is : (first next one : Bool) (run after : ℕ) (levels : List ℤ) (i : ℕ) (level : ℤ) → i < length levels → level ≡ get_or levels i (pos 0) → next ≡ (first && is_zero level) → after ≡ run_after run level
     → pairs_text first one run (drop i levels) ≡ level_text first one run level ++ pairs_text next one after (drop (i + 1) levels)
 next_level_is first next one run after levels i level lt e ne ae = rw (ne, ae) (next_level first one run levels i level lt e)
+
+and_zero : (first b : Bool) → b ≡ true → first ≡ (first && b)
+and_zero true b e = sym e
+and_zero false b e = refl
+
+and_none : (first b : Bool) → b ≡ false → false ≡ (first && b)
+and_none true b e = sym e
+and_none false b e = refl
+
+-- one level more, which is 0
+pub next_zero : (first one : Bool) (run : ℕ) (levels : List ℤ) (i n : ℕ) (level : ℤ) → i < length levels → level ≡ get_or levels i (pos 0) → n ≡ unsigned_abs level → n ≡ 0
+    → pairs_text first one run (drop i levels) ≡ [] ++ pairs_text first one (run + 1) (drop (i + 1) levels)
+unfolding level_text run_after
+next_zero first one run levels i n level lt e is none =
+    let test : is_zero level ≡ true = eq-eqb (unsigned_abs level) 0 (sym is ∙ none) in
+    let text : level_text first one run level ≡ [] = rw test refl in
+    let after : run + 1 ≡ run_after run level = rw test refl in
+    next_level_is first first one run (run + 1) levels i level lt e (and_zero first (is_zero level) test) after
+    ∙ ap (λ (t : List Bool). t ++ pairs_text first one (run + 1) (drop (i + 1) levels)) text
+
+-- one level more, which isn't
+pub next_some : (first one : Bool) (run : ℕ) (levels : List ℤ) (i n : ℕ) (level : ℤ) → i < length levels → level ≡ get_or levels i (pos 0) → n ≡ unsigned_abs level → (n ≡ 0 → ⊥)
+    → pairs_text first one run (drop i levels) ≡ level_text first one run level ++ pairs_text false one 0 (drop (i + 1) levels)
+unfolding run_after
+next_some first one run levels i n level lt e is some =
+    let test : is_zero level ≡ false = ne_eqb (unsigned_abs level) 0 (λ z. some (is ∙ z)) in
+    let after : 0 ≡ run_after run level = rw test refl in
+    next_level_is first false one run 0 levels i level lt e (and_none first (is_zero level) test) after
