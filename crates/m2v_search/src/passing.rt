@@ -10,34 +10,46 @@ use crate::difference::spot_sad_until;
 use crate::parts::{Parts, block_parts, line_bounds, lowest, part_sums};
 use crate::spot::{Best, Span, Spot};
 
+/// The best place so far, and below what another one must lie to be better: its difference and a limit, the lower of both.
+#[derive(Clone, Copy)]
+struct SoFar {
+    best: Best,
+    below: u32,
+}
+
 /// The better of the best so far and one place more, of which a bound is known, as long as they lie below a limit.
 #[inline(always)]
 fn tried_below(
     block: &[u8],
     count: usize,
     window: &[u8],
-    best: Best,
+    so_far: SoFar,
     spot: Spot,
     bound: u32,
     limit: u32,
-) -> Best
+) -> SoFar
     requires count { (count ≡ 8) ⊎ (count ≡ 16) }
     requires block { length block.now ≡ 16 * count }
     requires window { length window.now ≡ 2304 }
     requires y { spot.y + 2 * count ≤ 96 }
     requires x { spot.x ≤ 64 }
     requires bound { bound ≤ spot_sad block.now count window.now spot }
-    requires known { best.sad ≡ spot_sad block.now count window.now best.spot }
-    ensures spot { result.spot ≡ better (cut limit (spot_sad block.now count window.now)) best.spot spot }
-    ensures sad { result.sad ≡ spot_sad block.now count window.now result.spot }
+    requires known { so_far.best.sad ≡ spot_sad block.now count window.now so_far.best.spot }
+    requires below { so_far.below ≡ min so_far.best.sad limit }
+    ensures spot { result.best.spot
+        ≡ better (cut limit (spot_sad block.now count window.now)) so_far.best.spot spot }
+    ensures sad { result.best.sad ≡ spot_sad block.now count window.now result.best.spot }
+    ensures below { result.below ≡ min result.best.sad limit }
 {
-    let limit = lower(best.sad, limit);
-    if limit <= bound {
-        return best;
+    if so_far.below <= bound {
+        return so_far;
     }
-    match spot_sad_until(block, count, window, spot, limit) {
-        Some(sad) => Best { spot, sad },
-        None => best,
+    match spot_sad_until(block, count, window, spot, so_far.below) {
+        Some(sad) => SoFar {
+            best: Best { spot, sad },
+            below: sad,
+        },
+        None => so_far,
     }
 }
 
@@ -75,13 +87,16 @@ fn passed_line(
         (map (λ x. record { y = 2 * y; x = 2 * x }) (range_with_len columns.first (columns.end - columns.first))) }
     ensures sad { result.sad ≡ spot_sad block.now count window.now result.spot }
 {
-    let mut best = best;
+    let mut so_far = SoFar {
+        best,
+        below: lower(best.sad, limit),
+    };
     for x in columns.first..columns.end {
         let bound = u32::from(bounds[(x - columns.first) as usize]);
         let spot = Spot { y: 2 * y, x: 2 * x };
-        best = tried_below(block, count, window, best, spot, bound, limit);
+        so_far = tried_below(block, count, window, so_far, spot, bound, limit);
     }
-    best
+    so_far.best
 }
 
 /// The same, where the line is passed over as a whole if no bound of it lies below the best so far.
