@@ -17,6 +17,9 @@ struct SoFar {
     below: u32,
 }
 
+/// Differences of a line at which a place is near: four a sample.
+const NEAR: u32 = 64;
+
 /// The better of the best so far and one place more, of which a bound is known, as long as they lie below a limit.
 #[inline(always)]
 fn tried_below(
@@ -254,6 +257,40 @@ fn limit_by(
     }
 }
 
+/// A limit as that of `limit_by`, of the most likely place. Where the known place is near, no other lies much below it, and
+/// no likely one is looked for.
+fn limit_for(
+    block: &[u8],
+    count: usize,
+    window: &[u8],
+    sums: &[u16],
+    parts: &Parts,
+    lines: Span,
+    columns: Span,
+    best: Best,
+) -> u32
+    requires count { (count ≡ 8) ⊎ (count ≡ 16) }
+    requires block { length block.now ≡ 16 * count }
+    requires window { length window.now ≡ 2304 }
+    requires sums { length sums.now ≡ 2304 }
+    requires most { (i : ℕ) → slice_index sums.now i ≤ 16320 }
+    requires small { HasSmall parts.now }
+    requires lines { lines.first < lines.end }
+    requires columns { columns.first < columns.end }
+    requires few { columns.end ≤ columns.first + 32 }
+    requires y { lines.end + count ≤ 49 }
+    requires x { columns.end ≤ 33 }
+    requires known { best.sad ≡ spot_sad block.now count window.now best.spot }
+    ensures enough { (spot_sad block.now count window.now best.spot ≤ result)
+        ⊎ (spot_sad block.now count window.now (least (spot_sad block.now count window.now) best.spot (spots 2 lines columns)) < result) }
+{
+    if best.sad < NEAR * count as u32 {
+        return best.sad;
+    }
+    let place = likely(sums, count, parts, lines, columns);
+    limit_by(block, count, window, lines, columns, place, best)
+}
+
 /// The best of a place and of those in some lines and columns in whole samples, line by line and from left to right.
 pub fn best_by_bounds(
     block: &[u8],
@@ -279,8 +316,7 @@ pub fn best_by_bounds(
     let mut sums = [0; 2304];
     part_sums(window, 48, &mut sums);
     let parts = block_parts(block, count);
-    let place = likely(&sums, count, &parts, lines, columns);
-    let limit = limit_by(block, count, window, lines, columns, place, best);
+    let limit = limit_for(block, count, window, &sums, &parts, lines, columns, best);
     passed(
         block, count, window, &sums, &parts, lines, columns, limit, best,
     )
