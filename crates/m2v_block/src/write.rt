@@ -9,7 +9,7 @@ ghost use Rattle.m2v_block.specs.Texts.{IsBlock, code_text, twelve, escape_text,
 
 use crate::dc::put_dc;
 use m2v_bits::{BitCount, BitOutput, BitWriter};
-use m2v_quant::{BlockKind, Levels};
+use m2v_quant::{BlockKind, Levels, groups};
 use m2v_vlc::{Code, Coefficient, code_coefficient_one, code_coefficient_zero, code_first_zero};
 
 /// The code by the table that holds there, of no bits where it has none.
@@ -139,7 +139,8 @@ fn put_pairs<O: BitOutput>(levels: &Levels, from: u8, first: bool, one: bool, ou
 {
     let mut none = first;
     let mut run = 0u8;
-    for i in from..64u8 {
+    let end = 8 * groups(levels);
+    for i in from..end {
         let level = levels.at[i as usize];
         // most levels are 0, and lengthen the run alone
         if level.unsigned_abs() == 0 {
