@@ -1,9 +1,9 @@
 -- What is written, piece by piece.
-use Rattle.std.proofs.Common.{◌≡◌, ℕ, suc, ◌+◌, ◌*◌, ◌^◌, ◌<◌, ◌≤◌, Bool, true, false, ◌&&◌, List, [], ◌∷◌, ◌++◌, length, drop, get_or, ℤ, pos, refl, sym, ap, ◌∙◌, append_assoc, arith, inl, inr}
+use Rattle.std.proofs.Common.{◌≡◌, ℕ, suc, ◌+◌, ◌-◌, ◌*◌, ◌^◌, ◌<◌, ◌≤◌, Bool, true, false, ◌&&◌, List, [], ◌∷◌, ◌++◌, length, drop, get_or, ℤ, pos, refl, sym, ap, ◌∙◌, append_assoc, arith, inl, inr}
 use Rattle.std.specs.Prelude.{nat_eq, cond, ◌-ℤ◌, unsigned_abs}
 use Rattle.std.proofs.Math.Seq.{drop-cons}
 use Rattle.std.proofs.lemmas.Bool.{cases_Bool, eq-eqb, ne_eqb}
-use Rattle.std.proofs.lemmas.List.{length-append, length-drop, drop_all}
+use Rattle.std.proofs.lemmas.List.{length-append, length-drop, drop_all, get_or-drop}
 use Rattle.m2v_bits.specs.Bits.{bits_of}
 use Rattle.m2v_bits.proofs.Bits.{length-bits_of}
 use Rattle.m2v_bits.proofs.Cursor.{bits_of-join}
@@ -135,11 +135,55 @@ next_level first one run levels i level lt e =
     let next : i + 1 ≡ suc i = omega arith in
     rw (drop-cons levels i (pos 0) lt, next, e) refl
 
-pub at_end : (first one : Bool) (run : ℕ) (levels : List ℤ) (i : ℕ) → length levels ≤ i → pairs_text first one run (drop i levels) ≡ code_text false one End
-unfolding pairs_text
-at_end first one run levels i le = rw (drop_all i levels le) refl
-
 -- the same by what the run and the test are behind it
 pub next_level_is : (first next one : Bool) (run after : ℕ) (levels : List ℤ) (i : ℕ) (level : ℤ) → i < length levels → level ≡ get_or levels i (pos 0) → next ≡ (first && is_zero level) → after ≡ run_after run level
     → pairs_text first one run (drop i levels) ≡ level_text first one run level ++ pairs_text next one after (drop (i + 1) levels)
 next_level_is first next one run after levels i level lt e ne ae = rw (ne, ae) (next_level first one run levels i level lt e)
+
+and_zero : (first b : Bool) → b ≡ true → first ≡ (first && b)
+and_zero true b e = sym e
+and_zero false b e = refl
+
+and_none : (first b : Bool) → b ≡ false → false ≡ (first && b)
+and_none true b e = sym e
+and_none false b e = refl
+
+-- one level more, which is 0
+pub next_zero : (first one : Bool) (run : ℕ) (levels : List ℤ) (i n : ℕ) (level : ℤ) → i < length levels → level ≡ get_or levels i (pos 0) → n ≡ unsigned_abs level → n ≡ 0
+    → pairs_text first one run (drop i levels) ≡ [] ++ pairs_text first one (run + 1) (drop (i + 1) levels)
+unfolding level_text run_after
+next_zero first one run levels i n level lt e is none =
+    let test : is_zero level ≡ true = eq-eqb (unsigned_abs level) 0 (sym is ∙ none) in
+    let text : level_text first one run level ≡ [] = rw test refl in
+    let after : run + 1 ≡ run_after run level = rw test refl in
+    next_level_is first first one run (run + 1) levels i level lt e (and_zero first (is_zero level) test) after
+    ∙ ap (λ (t : List Bool). t ++ pairs_text first one (run + 1) (drop (i + 1) levels)) text
+
+-- one level more, which isn't
+pub next_some : (first one : Bool) (run : ℕ) (levels : List ℤ) (i n : ℕ) (level : ℤ) → i < length levels → level ≡ get_or levels i (pos 0) → n ≡ unsigned_abs level → (n ≡ 0 → ⊥)
+    → pairs_text first one run (drop i levels) ≡ level_text first one run level ++ pairs_text false one 0 (drop (i + 1) levels)
+unfolding run_after
+next_some first one run levels i n level lt e is some =
+    let test : is_zero level ≡ false = ne_eqb (unsigned_abs level) 0 (λ z. some (is ∙ z)) in
+    let after : 0 ≡ run_after run level = rw test refl in
+    next_level_is first false one run 0 levels i level lt e (and_none first (is_zero level) test) after
+
+-- levels that are all 0 have no bits but the end
+pub zeros_text : (first one : Bool) (run : ℕ) (levels : List ℤ) → ((k : ℕ) → k < length levels → get_or levels k (pos 0) ≡ pos 0)
+    → pairs_text first one run levels ≡ code_text false one End
+unfolding pairs_text level_text
+zeros_text first one run [] z = refl
+zeros_text first one run (level ∷ levels) z =
+    let none : level ≡ pos 0 = z 0 (omega arith) in
+    rw none (zeros_text (first && true) one (run_after run (pos 0)) levels (λ k lt. z (suc k) (omega arith)))
+
+pub at_zeros : (first one : Bool) (run : ℕ) (levels : List ℤ) (i : ℕ) → ((k : ℕ) → i ≤ k → k < length levels → get_or levels k (pos 0) ≡ pos 0)
+    → pairs_text first one run (drop i levels) ≡ code_text false one End
+at_zeros first one run levels i z =
+    zeros_text first one run (drop i levels) (λ k lt. get_or-drop i levels k (pos 0) ∙ z (i + k) (omega arith) (omega (arith, length-drop i levels, lt)))
+
+-- a level behind the groups that hold all others
+pub behind_groups : (levels : List ℤ) (n k : ℕ) → ((j : ℕ) → j < 64 - 8 * n → get_or levels (8 * n + j) (pos 0) ≡ pos 0) → 8 * n ≤ k → k < 64 → get_or levels k (pos 0) ≡ pos 0
+behind_groups levels n k z le lt =
+    let place : k ≡ 8 * n + (k - 8 * n) = omega arith in
+    ap (λ (i : ℕ). get_or levels i (pos 0)) place ∙ z (k - 8 * n) (omega arith)

@@ -5,11 +5,11 @@ ghost use Rattle.m2v_vlc.specs.Lookups.{spelled};
 ghost use Rattle.m2v_quant.specs.Kinds.{IsKind, IsLevel};
 ghost use Rattle.m2v_block.specs.Dc.{dc_text};
 ghost use Rattle.m2v_block.specs.Blocks.{IsDc, block_at, predictor_after};
-ghost use Rattle.m2v_block.specs.Texts.{IsBlock, code_text, twelve, escape_text, pair_text, is_zero, level_text, run_after, pairs_text, block_text};
+ghost use Rattle.m2v_block.specs.Texts.{IsBlock, code_text, twelve, escape_text, pair_text, level_text, pairs_text, block_text};
 
 use crate::dc::put_dc;
 use m2v_bits::{BitCount, BitOutput, BitWriter};
-use m2v_quant::{BlockKind, Levels};
+use m2v_quant::{BlockKind, Levels, groups};
 use m2v_vlc::{Code, Coefficient, code_coefficient_one, code_coefficient_zero, code_first_zero};
 
 /// The code by the table that holds there, of no bits where it has none.
@@ -129,29 +129,6 @@ fn put_level<O: BitOutput>(first: bool, one: bool, run: u8, level: i32, out: &mu
     }
 }
 
-/// The run behind a level.
-#[inline(always)]
-#[tactic(auto, unfolding(crate::specs::Texts::run_after))]
-fn run_after(run: u8, level: i32) -> u8
-    requires { run < 64 }
-    ensures value { result ≡ run_after run level }
-    ensures most { result ≤ run + 1 }
-{
-    if level.unsigned_abs() == 0 {
-        run + 1
-    } else {
-        0
-    }
-}
-
-/// Whether no pair was written yet.
-#[inline(always)]
-fn is_first(first: bool, level: i32) -> bool
-    ensures { result ≡ (first && is_zero level) }
-{
-    first && level.unsigned_abs() == 0
-}
-
 /// Appends the levels from a place of the scan on, and the end of the block.
 #[inline]
 fn put_pairs<O: BitOutput>(levels: &Levels, from: u8, first: bool, one: bool, out: &mut O)
@@ -162,11 +139,17 @@ fn put_pairs<O: BitOutput>(levels: &Levels, from: u8, first: bool, one: bool, ou
 {
     let mut none = first;
     let mut run = 0u8;
-    for i in from..64u8 {
+    let end = 8 * groups(levels);
+    for i in from..end {
         let level = levels.at[i as usize];
+        // most levels are 0, and lengthen the run alone
+        if level.unsigned_abs() == 0 {
+            run += 1;
+            continue;
+        }
         put_level(none, one, run, level, out);
-        none = is_first(none, level);
-        run = run_after(run, level);
+        none = false;
+        run = 0;
     }
     put_code(false, one, Coefficient::End, out);
 }

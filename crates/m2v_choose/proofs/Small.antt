@@ -1,12 +1,9 @@
 -- Blocks that have no level: no coefficient reaches the scale.
-use Rattle.std.proofs.Common.{◌≡◌, ℕ, zero, suc, ◌+◌, ◌*◌, ◌/◌, ◌<◌, ◌≤◌, Bool, true, false, ◌&&◌, All, List, [], ◌∷◌, replicate, refl, ap, sym, ◌∙◌, arith, ℤ, pos, negsuc, neg_ℤ}
+use Rattle.std.proofs.Common.{◌≡◌, ℕ, ◌+◌, ◌*◌, ◌/◌, ◌<◌, ◌≤◌, Bool, true, false, ◌&&◌, List, replicate, refl, ap, sym, ◌∙◌, arith, ℤ, pos, negsuc, neg_ℤ}
 use Rattle.std.specs.Prelude.{nat_eq, nat_lt, min, if◌then◌else◌, slice_index, slice_index_or, unsigned_abs}
-use Rattle.std.specs.List.{list_all}
 use Rattle.std.proofs.lemmas.Bool.{ltb-true}
 use Rattle.std.proofs.lemmas.List.{get_or-replicate}
 use Rattle.std.proofs.lemmas.List.FromFn.{fill_by_all}
-use Rattle.std.proofs.lemmas.List.Sums.{AllPass-from_list_all}
-use Rattle.std.proofs.lemmas.List.Elements.{All-head, All-tail}
 use Rattle.std.proofs.Math.Nat.{div-eq_of_lt}
 use Rattle.m2v_vlc.proofs.ValueLaws.{below, agree}
 use Rattle.m2v_quant.specs.declared.kind.BlockKind.{BlockKind}
@@ -39,29 +36,21 @@ no_level scale step z e lt =
     let none : (16 * unsigned_abs z + 0) / step ≡ 0 = div-eq_of_lt less in
     none_signed z (min ((16 * unsigned_abs z + 0) / step) 2047) (omega (arith, none))
 
-each_small : (scale : ℕ) (f : List ℤ) (p : ℕ) → 1 ≤ scale → list_all (λ z. nat_lt (unsigned_abs z) scale) f ≡ true → unsigned_abs (slice_index_or f p (pos 0)) < scale
-each_small scale f p some e = at f p (AllPass-from_list_all (λ z. nat_lt (unsigned_abs z) scale) f e)
-  where
-    at : (xs : List ℤ) (k : ℕ) → All (λ z. nat_lt (unsigned_abs z) scale ≡ true) xs → unsigned_abs (slice_index_or xs k (pos 0)) < scale
-    at [] k h = omega (arith, some)
-    at (x ∷ xs) zero h = ltb-true (unsigned_abs x) scale (All-head (λ z. nat_lt (unsigned_abs z) scale ≡ true) x xs h)
-    at (x ∷ xs) (suc k) h = at xs k (All-tail (λ z. nat_lt (unsigned_abs z) scale ≡ true) x xs h)
-
 flat : (p : ℕ) → p < 64 → slice_index (default_matrix false) p ≡ 16
 unfolding default_matrix
 flat p lt = get_or-replicate 64 p 16 0 lt
 
 small_at : (f : List ℤ) (kind : BlockKind) (i : ℕ) → i < 64 → 1 ≤ kind.scale → kind.intra ≡ false → kind.matrix ≡ default_matrix false
-    → list_all (λ z. nat_lt (unsigned_abs z) kind.scale) f ≡ true → level_at f kind i ≡ pos 0
+    → ((k : ℕ) → k < 64 → unsigned_abs (slice_index_or f k (pos 0)) < kind.scale) → level_at f kind i ≡ pos 0
 unfolding level_at
 small_at f kind i lt some other plain e =
     let p = slice_index (scan_order kind.alternate) i in
     let step : slice_index kind.matrix p * kind.scale ≡ 16 * kind.scale = ap (λ (m : ℕ). m * kind.scale) (ap (λ (m : List ℕ). slice_index m p) plain ∙ flat p (scan_below kind.alternate i lt)) in
     (λ k. if other k && nat_eq i 0 then dc_level (slice_index_or f 0 (pos 0)) else ac_level (other k) (slice_index kind.matrix p * kind.scale) (slice_index_or f p (pos 0)))
-    ∙ no_level kind.scale (slice_index kind.matrix p * kind.scale) (slice_index_or f p (pos 0)) step (each_small kind.scale f p some e)
+    ∙ no_level kind.scale (slice_index kind.matrix p * kind.scale) (slice_index_or f p (pos 0)) step (e p (scan_below kind.alternate i lt))
 
 pub no_levels_at : (f : List ℤ) (kind : BlockKind) → 1 ≤ kind.scale → kind.intra ≡ false → kind.matrix ≡ default_matrix false
-    → list_all (λ z. nat_lt (unsigned_abs z) kind.scale) f ≡ true → replicate 64 (pos 0) ≡ levels_of f kind
+    → ((k : ℕ) → k < 64 → unsigned_abs (slice_index_or f k (pos 0)) < kind.scale) → replicate 64 (pos 0) ≡ levels_of f kind
 unfolding levels_of
 no_levels_at f kind some other plain e =
     fill_by_all (level_at f kind) (replicate 64 (pos 0)) 64 (pos 0) refl

@@ -1,5 +1,5 @@
 //! The blocks of a macroblock: what is transformed, the transforms, the levels, and the pattern.
-ghost use Rattle.std.specs.Prelude.{◌&&◌, not, false, nat_lt, unsigned_abs, ℕ, ◌≡◌, ◌≤◌, ◌<◌, ◌+◌, ◌*◌, All, cond, pos, ◌-ℤ◌};
+ghost use Rattle.std.specs.Prelude.{IsTrue, slice_index_or, false, unsigned_abs, ℕ, ◌≡◌, ◌≤◌, ◌<◌, ◌+◌, ◌*◌, All, cond, pos, ◌-ℤ◌};
 ghost use Rattle.std.specs.List.{list_all};
 ghost use Rattle.m2v_quant.specs.Matrices.{default_matrix};
 ghost use Rattle.m2v_quant.specs.Kinds.{IsKind, IsLevel};
@@ -110,19 +110,34 @@ pub fn transform(source: &Block16, prediction: &Block16, dct_field: bool, out: &
     }
 }
 
-/// Whether all coefficients have a size below this.
+/// The larger of two numbers.
+#[inline(always)]
+fn larger(a: u32, b: u32) -> u32
+    ensures one { a ≤ result }
+    ensures other { b ≤ result }
+{
+    if a < b { b } else { a }
+}
+
+/// Whether all coefficients have a size below this. All are looked at, by lanes, and none ends the loop.
 #[inline(always)]
 fn are_below(transform: &[i32; 64], scale: u32) -> bool
-    ensures { result ≡ list_all (λ f. nat_lt (unsigned_abs f) scale) transform.now }
+    ensures { IsTrue result → (k : ℕ) → k < 64
+        → unsigned_abs (slice_index_or transform.now k (pos 0)) < scale }
 {
-    transform.iter().all(|f| f.unsigned_abs() < scale)
+    let mut most = 0;
+    for k in 0..64 {
+        most = larger(most, transform[k].unsigned_abs());
+    }
+    most < scale
 }
 
 /// Whether no coefficient of a block that isn't intra reaches its scale: then it has no level, as its matrix is flat.
 #[inline(always)]
 fn has_none(transform: &[i32; 64], kind: &BlockKind) -> bool
-    ensures { result ≡ (not kind.now.intra && list_all
-        (λ f. nat_lt (unsigned_abs f) kind.now.scale) transform.now) }
+    ensures other { IsTrue result → kind.now.intra ≡ false }
+    ensures small { IsTrue result → (k : ℕ) → k < 64
+        → unsigned_abs (slice_index_or transform.now k (pos 0)) < kind.now.scale }
 {
     !kind.intra && are_below(transform, kind.scale)
 }

@@ -1,4 +1,4 @@
-ghost use Rattle.std.specs.Prelude.{◌≡◌, ◌≢◌, true, false, IsTrue, [], ◌∷◌, pos, ◌-ℤ◌, ◌≤◌};
+ghost use Rattle.std.specs.Prelude.{◌≡◌, ◌≢◌, true, false, IsTrue, [], ◌∷◌, pos, ◌-ℤ◌, ◌≤◌, ◌<◌};
 ghost use Rattle.m2v_quant.specs.Matrices.{default_matrix as default_matrix_of};
 ghost use Rattle.m2v_macroblock.specs.Conditions.{AreDc};
 ghost use Rattle.m2v_choose.specs.Own.{IsOwn, IsOwnState};
@@ -82,14 +82,16 @@ fn b_picture() -> PictureContext
 }
 
 // The state before a macroblock of the first row: at the start of the slice, or behind a macroblock with zero vectors.
-fn before(context: &PictureContext, column: u32) -> SliceState
-    requires { IsOwn context.now }
+fn before(context: &PictureContext, column: u32, q: u8) -> SliceState
+    requires own { IsOwn context.now }
+    requires least { 1 ≤ q }
+    requires most { q ≤ 31 }
     ensures state { IsOwnState result }
     ensures dc { AreDc 0 result.dc }
     ensures address { result.address ≡ pos column -ℤ pos 1 }
     ensures direction { column ≢ 0 → result.forward ≡ true }
 {
-    let mut state = SliceState::at_start(context, 0, 8, 0);
+    let mut state = SliceState::at_start(context, 0, q, 0);
     if column > 0 {
         state.first = false;
         state.forward = true;
@@ -115,6 +117,22 @@ fn chosen(
 ) -> Option<Choice>
     requires { IsOwn context.now }
 {
+    chosen_by(8, source, references, context, column, room)
+}
+
+// The same by another quantiser.
+fn chosen_by(
+    q: u8,
+    source: &Block16,
+    references: [&Frame; 2],
+    context: &PictureContext,
+    column: u32,
+    room: u64,
+) -> Option<Choice>
+    requires own { IsOwn context.now }
+    requires least { 1 ≤ q }
+    requires most { q ≤ 31 }
+{
     let [forward, backward] = references;
     let size = forward.dims();
     if !are_same(backward.dims(), size) || column >= size.mb_width || size.mb_rows == 0 {
@@ -123,9 +141,9 @@ fn chosen(
     if context.extension.structure != 3 || column >= context.columns || room < 31 {
         return None;
     }
-    let state = before(context, column);
+    let state = before(context, column, q);
     let limits = Limits {
-        q: 8,
+        q,
         search: 4,
         room,
         first: column == 0,
@@ -268,5 +286,101 @@ fn follows_fields(alloc: Global) -> Result<bool, AllocError> {
 #[test]
 fn fields_that_move_apart_are_followed(rt: HostRuntime) -> Result<(), AllocError> {
     assert!(rt; follows_fields(rt.alloc())?);
+    Ok(())
+}
+
+// A sample of noise around 128, of which the values lie within `strength` of each other.
+fn noise(i: usize, strength: usize) -> u8
+    requires i { i < 384 }
+    requires strength { strength ≤ 256 }
+{
+    let value = (i * 7919 + 13) * (i * 104729 + 7) / 256 % 256;
+    (value * strength / 256 + (128 - strength / 2)) as u8
+}
+
+// Noise of this strength, coded in an I picture.
+fn coded_noise(alloc: Global, q: u8, strength: usize) -> Result<Option<Choice>, AllocError>
+    requires least { 1 ≤ q }
+    requires most { q ≤ 31 }
+    requires strength { strength ≤ 256 }
+{
+    let none = frame(alloc, Some(0))?;
+    let mut block = Block16 { at: [0; 384] };
+    for i in 0..384 {
+        block.at[i] = noise(i, strength);
+    }
+    Ok(chosen_by(q, &block, [&none, &none], &i_picture(), 0, 4608))
+}
+
+// Whether a choice is intra with these first levels of its first and its last block, and so many bits.
+fn is_intra(
+    choice: Option<Choice>,
+    first: [i32; 6],
+    last: [i32; 6],
+    quantiser: Option<u8>,
+    bits: u32,
+) -> bool {
+    let Some(x) = choice else {
+        return false;
+    };
+    for i in 0..6 {
+        if x.levels[0].at[i] != first[i] || x.levels[5].at[i] != last[i] {
+            return false;
+        }
+    }
+    let sent = if x.syntax.kind.quant {
+        Some(x.syntax.quantiser)
+    } else {
+        None
+    };
+    !x.skip && x.syntax.kind.intra && sent == quantiser && x.bits == bits
+}
+
+// The values of these three tests are printed by bench/encoded_noise.py, whose choice is written from the rules alone. The loudest
+// noise has 4,899 bits by quantiser 1, more than a macroblock may have, so the second quantiser is taken, and sent.
+#[test]
+fn noise_by_quantiser_1_that_is_too_long_takes_the_second(
+    rt: HostRuntime,
+) -> Result<(), AllocError> {
+    let choice = coded_noise(rt.alloc(), 1, 256)?;
+    assert!(rt;
+        is_intra(
+            choice,
+            [112, -3, 2, -3, -4, 1],
+            [106, -1, 2, -1, 2, 5],
+            Some(9),
+            1732
+        )
+    );
+    Ok(())
+}
+
+#[test]
+fn noise_by_quantiser_1_keeps_large_levels(rt: HostRuntime) -> Result<(), AllocError> {
+    let choice = coded_noise(rt.alloc(), 1, 128)?;
+    assert!(rt;
+        is_intra(
+            choice,
+            [120, -12, 10, -13, -19, 3],
+            [117, -5, 7, -3, 7, 21],
+            None,
+            3794
+        )
+    );
+    Ok(())
+}
+
+#[test]
+fn noise_by_quantiser_31_keeps_few_levels(rt: HostRuntime) -> Result<(), AllocError> {
+    let choice = coded_noise(rt.alloc(), 31, 256)?;
+    assert!(rt;
+        is_intra(
+            choice,
+            [112, -1, 1, -1, -1, 0],
+            [106, 0, 0, 0, 0, 1],
+            None,
+            745
+        )
+    );
     Ok(())
 }

@@ -128,3 +128,23 @@ pub sad_all : (xs w : List ℕ) (n k p s t : ℕ) → 1 ≤ n → length xs ≡ 
 sad_all xs w n k p s t some len fits all so =
     let same : length xs ≡ length (lines_at n w p s) = len ∙ sym (length-lines_at n w p s fits) in
     so ∙ summed_all xs (lines_at n w p s) (16 * k) same (omega (arith, len))
+
+-- the sum over twice as many lines
+pub sad_two : (m : ℕ) (xs w : List ℕ) (p s q a b : ℕ) → length xs ≡ 16 * (m + m) → p + (m + m - 1) * s + 16 ≤ length w → q ≡ p + m * s
+    → a ≡ sad (take (16 * m) (drop 0 xs)) (lines_at m w p s) → b ≡ sad (take (16 * m) (drop (16 * m) xs)) (lines_at m w q s)
+    → a + b ≡ sad xs (lines_at (m + m) w p s)
+sad_two m xs w p s q a b len fits place ea eb =
+    let ys = lines_at (m + m) w p s in
+    let start : p + 0 * s ≡ p = omega arith in
+    let upper : take (16 * m) (drop 0 ys) ≡ lines_at m w p s = lines_part 0 m (m + m) w p s (omega arith) fits ∙ ap (λ k. lines_at m w k s) start in
+    let lower : take (16 * m) (drop (16 * m) ys) ≡ lines_at m w q s =
+    lines_part m m (m + m) w p s (omega arith) fits ∙ ap (λ k. lines_at m w k s) (sym place) in
+    let none : 16 * m - 0 ≡ 16 * m = omega arith in
+    let rest : 16 * (m + m) - 16 * m ≡ 16 * m = omega arith in
+    let one = sad_step xs ys 0 (16 * m) 0 a (omega arith) refl
+    (ea ∙ ap (sad (take (16 * m) (drop 0 xs))) (sym upper) ∙ ap (λ k. sad (take k (drop 0 xs)) (take k (drop 0 ys))) (sym none)) in
+    let two = sad_step xs ys (16 * m) (16 * (m + m)) a b (omega arith) (omega (arith, one))
+    (eb ∙ ap (sad (take (16 * m) (drop (16 * m) xs))) (sym lower)
+    ∙ ap (λ k. sad (take k (drop (16 * m) xs)) (take k (drop (16 * m) ys))) (sym rest)) in
+    let same : length xs ≡ length ys = len ∙ sym (length-lines_at (m + m) w p s fits) in
+    two ∙ summed_all xs ys (16 * (m + m)) same (omega (arith, len))

@@ -1,3 +1,4 @@
 pub mod Tables
 pub mod Reconstruction
 pub mod Scanned
+mod Zeros

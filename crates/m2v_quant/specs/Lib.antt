@@ -4,3 +4,4 @@ pub mod Kinds
 pub mod Coefficients
 pub mod Matrices
 pub mod Quantiser
+pub mod Marks

@@ -1,6 +1,7 @@
-ghost use Rattle.std.specs.Prelude.{◌≡◌, ◌+◌, ◌*◌, ◌/◌, ◌<◌, ◌≤◌, cond, min, All, ℤ, pos, neg_ℤ, ◌≤ℤ◌, ◌+ℤ◌};
+ghost use Rattle.std.specs.Prelude.{◌≡◌, ◌+◌, ◌*◌, ◌/◌, ◌<◌, ◌≤◌, cond, min, slice_index, slice_index_or, All, ℤ, pos, neg_ℤ, ◌≤ℤ◌, ◌+ℤ◌};
 ghost use Rattle.std.specs.Int.{int_shr, int_max, int_min};
 ghost use Rattle.m2v_quant.specs.Kinds.{IsKind, IsLevel, IsTransformed};
+ghost use Rattle.m2v_quant.specs.Marks.{AreMarks};
 ghost use Rattle.m2v_quant.specs.Quantiser.{dc_level, with_sign, ac_level, level_at, levels_of};
 
 use crate::inverse::step;
@@ -95,21 +96,65 @@ fn ac_level(intra: bool, step: u32, f: i32) -> i32
     signed(f, ac_size(intra, step, f.unsigned_abs()))
 }
 
+/// 0 where a coefficient that is no intra DC has the level 0.
+#[inline(always)]
+fn mark(intra: bool, step: u32, f: i32) -> u32
+    requires least { 1 ≤ step }
+    requires most { step ≤ 28560 }
+    requires range { IsTransformed f }
+    ensures none { result ≡ 0 → ac_level intra step f ≡ pos 0 }
+{
+    if 16 * f.unsigned_abs() + half(intra, step) < step {
+        0
+    } else {
+        1
+    }
+}
+
+/// Marks the raster places at which a level other than 0 may stand: 0 where none does.
+#[inline(always)]
+fn mark_all(f: &[i32; 64], kind: &BlockKind, marks: &mut [u32; 64])
+    requires kind { IsKind kind.now }
+    requires coefficients { All IsTransformed f.now }
+    ensures { AreMarks f.now kind.now marks.new }
+{
+    for p in 0..64u8 {
+        marks[p as usize] = mark(kind.intra, step(kind, p), f[p as usize]);
+    }
+}
+
+/// The level of a position of the scan that is no intra DC.
+#[inline(always)]
+fn marked_level(f: &[i32; 64], kind: &BlockKind, place: u8, marks: &[u32; 64]) -> i32
+    requires kind { IsKind kind.now }
+    requires coefficients { All IsTransformed f.now }
+    requires place { place < 64 }
+    requires marks { AreMarks f.now kind.now marks.now }
+    ensures value { result ≡ ac_level kind.now.intra (slice_index kind.now.matrix place * kind.now.scale)
+        (slice_index_or f.now place (pos 0)) }
+    ensures within { IsLevel result }
+{
+    if marks[place as usize] == 0 {
+        return 0;
+    }
+    ac_level(kind.intra, step(kind, place), f[place as usize])
+}
+
 /// The level of a position of the scan.
 #[inline(always)]
 #[tactic(auto, unfolding(crate::specs::Quantiser::level_at))]
-fn level(f: &[i32; 64], kind: &BlockKind, i: u8) -> i32
+fn level(f: &[i32; 64], kind: &BlockKind, i: u8, marks: &[u32; 64]) -> i32
     requires kind { IsKind kind.now }
     requires coefficients { All IsTransformed f.now }
     requires position { i < 64 }
+    requires marks { AreMarks f.now kind.now marks.now }
     ensures value { result ≡ level_at f.now kind.now i }
     ensures within { IsLevel result }
 {
     if kind.intra && i == 0 {
         return dc_level(f[0]);
     }
-    let place = scan(kind.alternate, i);
-    ac_level(kind.intra, step(kind, place), f[place as usize])
+    marked_level(f, kind, scan(kind.alternate, i), marks)
 }
 
 /// The 64 levels of a block in scan order, each from -2047 to 2047, of its coefficients in raster order, each from -4096
@@ -121,7 +166,10 @@ pub fn quantise(f: &[i32; 64], kind: &BlockKind, out: &mut Levels)
     ensures value { out.new.at ≡ levels_of f.now kind.now }
     ensures levels { All IsLevel out.new.at }
 {
+    // most levels are 0: by lanes it is found which
+    let mut marks = [0; 64];
+    mark_all(f, kind, &mut marks);
     for i in 0..64u8 {
-        out.at[i as usize] = level(f, kind, i);
+        out.at[i as usize] = level(f, kind, i, &marks);
     }
 }

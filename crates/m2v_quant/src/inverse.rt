@@ -188,12 +188,15 @@ fn is_empty(levels: &Levels, from: u8, count: u8) -> bool
     bits == 0
 }
 
-/// How many groups of eight levels hold all that aren't 0, or some more.
+/// How many groups of eight levels hold all that aren't 0, or some more: 2, 4 or 8.
 #[inline(always)]
-fn groups(levels: &Levels) -> u8
+pub fn groups(levels: &Levels) -> u8
     ensures within { result ≤ 8 }
     ensures zeros { (j : ℕ) → j < 64 - 8 * result → slice_index_or levels.now.at (8 * result + j) (pos 0) ≡ pos 0 }
 {
+    if is_empty(levels, 16, 48) {
+        return 2;
+    }
     if is_empty(levels, 32, 32) { 4 } else { 8 }
 }
 

@@ -9,7 +9,7 @@ mod matrices;
 mod scans;
 
 pub use forward::{dc_level, quantise};
-pub use inverse::dequantise;
+pub use inverse::{dequantise, groups};
 pub use kind::{BlockKind, Levels};
 pub use matrices::default_matrix;
 pub use scans::{scale_of, scan};

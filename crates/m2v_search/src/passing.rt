@@ -10,34 +10,49 @@ use crate::difference::spot_sad_until;
 use crate::parts::{Parts, block_parts, line_bounds, lowest, part_sums};
 use crate::spot::{Best, Span, Spot};
 
+/// The best place so far, and below what another one must lie to be better: its difference and a limit, the lower of both.
+#[derive(Clone, Copy)]
+struct SoFar {
+    best: Best,
+    below: u32,
+}
+
+/// Differences of a line at which a place is near: four a sample.
+const NEAR: u32 = 64;
+
 /// The better of the best so far and one place more, of which a bound is known, as long as they lie below a limit.
 #[inline(always)]
 fn tried_below(
     block: &[u8],
     count: usize,
     window: &[u8],
-    best: Best,
+    so_far: SoFar,
     spot: Spot,
     bound: u32,
     limit: u32,
-) -> Best
+) -> SoFar
     requires count { (count ≡ 8) ⊎ (count ≡ 16) }
     requires block { length block.now ≡ 16 * count }
     requires window { length window.now ≡ 2304 }
     requires y { spot.y + 2 * count ≤ 96 }
     requires x { spot.x ≤ 64 }
     requires bound { bound ≤ spot_sad block.now count window.now spot }
-    requires known { best.sad ≡ spot_sad block.now count window.now best.spot }
-    ensures spot { result.spot ≡ better (cut limit (spot_sad block.now count window.now)) best.spot spot }
-    ensures sad { result.sad ≡ spot_sad block.now count window.now result.spot }
+    requires known { so_far.best.sad ≡ spot_sad block.now count window.now so_far.best.spot }
+    requires below { so_far.below ≡ min so_far.best.sad limit }
+    ensures spot { result.best.spot
+        ≡ better (cut limit (spot_sad block.now count window.now)) so_far.best.spot spot }
+    ensures sad { result.best.sad ≡ spot_sad block.now count window.now result.best.spot }
+    ensures below { result.below ≡ min result.best.sad limit }
 {
-    let limit = lower(best.sad, limit);
-    if limit <= bound {
-        return best;
+    if so_far.below <= bound {
+        return so_far;
     }
-    match spot_sad_until(block, count, window, spot, limit) {
-        Some(sad) => Best { spot, sad },
-        None => best,
+    match spot_sad_until(block, count, window, spot, so_far.below) {
+        Some(sad) => SoFar {
+            best: Best { spot, sad },
+            below: sad,
+        },
+        None => so_far,
     }
 }
 
@@ -75,13 +90,16 @@ fn passed_line(
         (map (λ x. record { y = 2 * y; x = 2 * x }) (range_with_len columns.first (columns.end - columns.first))) }
     ensures sad { result.sad ≡ spot_sad block.now count window.now result.spot }
 {
-    let mut best = best;
+    let mut so_far = SoFar {
+        best,
+        below: lower(best.sad, limit),
+    };
     for x in columns.first..columns.end {
         let bound = u32::from(bounds[(x - columns.first) as usize]);
         let spot = Spot { y: 2 * y, x: 2 * x };
-        best = tried_below(block, count, window, best, spot, bound, limit);
+        so_far = tried_below(block, count, window, so_far, spot, bound, limit);
     }
-    best
+    so_far.best
 }
 
 /// The same, where the line is passed over as a whole if no bound of it lies below the best so far.
@@ -239,6 +257,40 @@ fn limit_by(
     }
 }
 
+/// A limit as that of `limit_by`, of the most likely place. Where the known place is near, no other lies much below it, and
+/// no likely one is looked for.
+fn limit_for(
+    block: &[u8],
+    count: usize,
+    window: &[u8],
+    sums: &[u16],
+    parts: &Parts,
+    lines: Span,
+    columns: Span,
+    best: Best,
+) -> u32
+    requires count { (count ≡ 8) ⊎ (count ≡ 16) }
+    requires block { length block.now ≡ 16 * count }
+    requires window { length window.now ≡ 2304 }
+    requires sums { length sums.now ≡ 2304 }
+    requires most { (i : ℕ) → slice_index sums.now i ≤ 16320 }
+    requires small { HasSmall parts.now }
+    requires lines { lines.first < lines.end }
+    requires columns { columns.first < columns.end }
+    requires few { columns.end ≤ columns.first + 32 }
+    requires y { lines.end + count ≤ 49 }
+    requires x { columns.end ≤ 33 }
+    requires known { best.sad ≡ spot_sad block.now count window.now best.spot }
+    ensures enough { (spot_sad block.now count window.now best.spot ≤ result)
+        ⊎ (spot_sad block.now count window.now (least (spot_sad block.now count window.now) best.spot (spots 2 lines columns)) < result) }
+{
+    if best.sad < NEAR * count as u32 {
+        return best.sad;
+    }
+    let place = likely(sums, count, parts, lines, columns);
+    limit_by(block, count, window, lines, columns, place, best)
+}
+
 /// The best of a place and of those in some lines and columns in whole samples, line by line and from left to right.
 pub fn best_by_bounds(
     block: &[u8],
@@ -264,8 +316,7 @@ pub fn best_by_bounds(
     let mut sums = [0; 2304];
     part_sums(window, 48, &mut sums);
     let parts = block_parts(block, count);
-    let place = likely(&sums, count, &parts, lines, columns);
-    let limit = limit_by(block, count, window, lines, columns, place, best);
+    let limit = limit_for(block, count, window, &sums, &parts, lines, columns, best);
     passed(
         block, count, window, &sums, &parts, lines, columns, limit, best,
     )

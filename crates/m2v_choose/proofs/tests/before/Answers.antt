@@ -8,31 +8,31 @@ use Rattle.m2v_choose.proofs.OwnReady.{start_own}
 use Rattle.m2v_choose.proofs.DcKept.{start_dc}
 use Rattle.m2v_choose.proofs.tests.before.Goals as goal
 
-state_own : (c : PictureContext) (st : SliceState) → st ≡ at_start c 0 8 0 → IsOwnState st
-state_own c st e = subst IsOwnState (sym e) (start_own c 0 8 0 (omega arith, omega arith))
+state_own : (c : PictureContext) (st : SliceState) (q : ℕ) → 1 ≤ q → q ≤ 31 → st ≡ at_start c 0 q 0 → IsOwnState st
+state_own c st q least most e = subst IsOwnState (sym e) (start_own c 0 q 0 (least, most))
 
-state_dc : (c : PictureContext) (st : SliceState) → IsOwn c → st ≡ at_start c 0 8 0 → AreDc 0 st.dc
-state_dc c st own e = subst (λ (s : SliceState). AreDc 0 s.dc) (sym e) (start_dc c 0 8 0 own.precision)
+state_dc : (c : PictureContext) (st : SliceState) (q : ℕ) → IsOwn c → st ≡ at_start c 0 q 0 → AreDc 0 st.dc
+state_dc c st q own e = subst (λ (s : SliceState). AreDc 0 s.dc) (sym e) (start_dc c 0 q 0 own.precision)
 
-state_address : (c : PictureContext) (st : SliceState) (column : ℕ) → column ≤ 0 → st ≡ at_start c 0 8 0 → st.address ≡ pos column -ℤ pos 1
+state_address : (c : PictureContext) (st : SliceState) (q column : ℕ) → column ≤ 0 → st ≡ at_start c 0 q 0 → st.address ≡ pos column -ℤ pos 1
 unfolding at_start
-state_address c st column none e =
+state_address c st q column none e =
     let none_before : 0 * c.columns ≡ column = omega (arith, none) in
     ap (λ (s : SliceState). s.address) e ∙ ap (λ (n : ℕ). pos n -ℤ pos 1) none_before
 
 pub returns-then-column-gt0-clause-state : goal.returns-then-column-gt0-clause-state
 returns-then-column-gt0-clause-state c =
-    let h = state_own c.args.context.now c.at_start-state.result c.at_start-state.ensures.value in
+    let h = state_own c.args.context.now c.at_start-state.result c.args.q c.requires.least c.requires.most c.at_start-state.ensures.value in
     record { predictors = h.predictors; quantiser = h.quantiser }
 
 pub returns-then-column-gt0-clause-dc : goal.returns-then-column-gt0-clause-dc
-returns-then-column-gt0-clause-dc c = state_dc c.args.context.now c.at_start-state.result c.requires c.at_start-state.ensures.value
+returns-then-column-gt0-clause-dc c = state_dc c.args.context.now c.at_start-state.result c.args.q c.requires.own c.at_start-state.ensures.value
 
 pub returns-else-column-gt0-clause-state : goal.returns-else-column-gt0-clause-state
-returns-else-column-gt0-clause-state c = state_own c.args.context.now c.at_start-state.result c.at_start-state.ensures.value
+returns-else-column-gt0-clause-state c = state_own c.args.context.now c.at_start-state.result c.args.q c.requires.least c.requires.most c.at_start-state.ensures.value
 
 pub returns-else-column-gt0-clause-dc : goal.returns-else-column-gt0-clause-dc
-returns-else-column-gt0-clause-dc c = state_dc c.args.context.now c.at_start-state.result c.requires c.at_start-state.ensures.value
+returns-else-column-gt0-clause-dc c = state_dc c.args.context.now c.at_start-state.result c.args.q c.requires.own c.at_start-state.ensures.value
 
 pub returns-else-column-gt0-clause-address : goal.returns-else-column-gt0-clause-address
-returns-else-column-gt0-clause-address c = state_address c.args.context.now c.at_start-state.result c.args.column c.if-column-gt0.false c.at_start-state.ensures.value
+returns-else-column-gt0-clause-address c = state_address c.args.context.now c.at_start-state.result c.args.q c.args.column c.if-column-gt0.false c.at_start-state.ensures.value

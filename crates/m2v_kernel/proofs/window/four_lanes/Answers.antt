@@ -1,14 +1,13 @@
 use Rattle.std.proofs.Common.{take, drop, arith, ap, ◌∙◌}
 use Rattle.m2v_kernel.specs.Sums.{sad}
 use Rattle.m2v_kernel.proofs.Windows.{sad_four}
-use Rattle.m2v_kernel.proofs.window.four_at.Goals as goal
+use Rattle.m2v_kernel.proofs.window.four_lanes.Goals as goal
 
 pub returns-clause-sum : goal.returns-clause-sum
 returns-clause-sum c =
     let b = c.args.block.now in
     omega (
       arith,
-      c.total.ensures,
       c.plus.ensures.sum,
       c.plus-2.ensures.sum,
       c.plus-3.ensures.sum,

@@ -3,7 +3,7 @@ use Rattle.std.proofs.lemmas.Bool.{true≢false}
 use Rattle.m2v_kernel.specs.Sums.{lines_at}
 use Rattle.m2v_kernel.proofs.Steps.{part_le_sad}
 use Rattle.m2v_kernel.proofs.Windows.{sad_lines, sad_all}
-use Rattle.m2v_kernel.proofs.window.sad_at_until.Goals as goal
+use Rattle.m2v_kernel.proofs.window.fours_until.Goals as goal
 
 pub returns-then-sum-limit-clause-none : goal.returns-then-sum-limit-clause-none
 returns-then-sum-limit-clause-none c =

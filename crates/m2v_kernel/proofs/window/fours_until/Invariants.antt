@@ -2,7 +2,7 @@ use Rattle.std.proofs.Common.{◌≡◌, ◌≤◌, ◌<◌, ◌-◌, ◌*◌, �
 use Rattle.std.specs.List.{sum}
 use Rattle.std.specs.Simd.Lanes.{zip2}
 use Rattle.m2v_kernel.specs.Sums.{apart, lines_at}
-use Rattle.m2v_kernel.proofs.window.sad_at_until.Given as goal
+use Rattle.m2v_kernel.proofs.window.fours_until.Given as goal
 
 abbrev pub invariant-loop-line : goal.invariant-loop-line
 invariant-loop-line l =

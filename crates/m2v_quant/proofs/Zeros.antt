@@ -1,0 +1,17 @@
+-- Coefficients whose level is 0.
+use Rattle.std.proofs.Common.{◌≡◌, ℕ, ◌+◌, ◌*◌, ◌/◌, ◌<◌, Bool, ap, arith, ℤ, pos, negsuc, neg_ℤ}
+use Rattle.std.specs.Prelude.{cond, min, unsigned_abs}
+use Rattle.std.proofs.Math.Nat.{div-eq_of_lt}
+use Rattle.m2v_quant.specs.Quantiser.{ac_level, with_sign}
+
+none_signed : (z : ℤ) (n : ℕ) → n ≡ 0 → with_sign z n ≡ pos 0
+unfolding with_sign
+none_signed (pos a) n e = ap (λ (k : ℕ). pos k) e
+none_signed (negsuc a) n e = ap (λ (k : ℕ). neg_ℤ (pos k)) e
+
+-- a coefficient that doesn't reach the step
+pub no_level : (intra : Bool) (step : ℕ) (z : ℤ) → 16 * unsigned_abs z + cond intra (step / 2) 0 < step → ac_level intra step z ≡ pos 0
+unfolding ac_level
+no_level intra step z less =
+    let none : (16 * unsigned_abs z + cond intra (step / 2) 0) / step ≡ 0 = div-eq_of_lt less in
+    none_signed z (min ((16 * unsigned_abs z + cond intra (step / 2) 0) / step) 2047) (omega (arith, none))
