@@ -4,3 +4,4 @@ mod Putting
 mod Shapes
 mod Fulls
 mod Places
+mod Lefts

@@ -46,6 +46,7 @@ pub fn zeros_of(piece: &Piece) -> u64
 pub fn units<'a>(piece: &'a Piece) -> UnitReader<'a>
     requires { IsSoundPiece piece.now }
     ensures value { result ≡ units_in (whole_of piece.now) }
+    ensures bits { unit_bits result ≤ 8 * piece.now.length }
 {
     UnitReader::new(&piece.bytes, zeros_of(piece))
 }
