@@ -4,7 +4,7 @@ ghost use Rattle.m2v_port.specs.Ends.{change, SinkStays};
 ghost use Rattle.m2v_port.specs.Port.{Grows};
 ghost use Rattle.m2v_piece.specs.Sound.{IsSoundPiece};
 ghost use Rattle.m2v_decoder.specs.Decoding.{whole_of};
-ghost use Rattle.m2v_cut.specs.Progress.{Cuts, bytes_of, HasPut};
+ghost use Rattle.m2v_cut.specs.Progress.{Cuts, bytes_of, HasPut, RestPut, RestFails};
 
 use crate::answer::CutError;
 use crate::find::reading;
@@ -58,7 +58,22 @@ pub fn put_rest<S: Source, K: Sink>(
     copied: &mut Copied,
     input: &mut S,
     output: &mut K,
-) -> Result<(), CutError> {
+) -> Result<(), CutError>
+    requires going { cutter.old.failed ≡ false }
+    requires begun { cutter.old.begun ≡ true }
+    requires few { copied.old.groups ≤ most }
+    requires room { copied.old.bytes ≤ cutter.old.place }
+    requires output { IsTrue (K.ready output.old) }
+    ensures put { OnOk result (RestPut most copied.old copied.new
+        (change S.left S.faults input.old input.new)
+        (change K.held K.faults output.old output.new) cutter.old cutter.new) }
+    ensures room { OnOk result (copied.new.bytes ≤ 2 ^ 36) }
+    ensures err { IfErr result (RestFails most copied.old.groups
+        (change S.left S.faults input.old input.new)
+        (change K.held K.faults output.old output.new) cutter.old) }
+    ensures output { SinkStays K.ready K.name K.faults output.old output.new }
+    ensures input { S.faults input.old ≤ S.faults input.new }
+{
     loop {
         match cutter.next_piece(alloc, input) {
             Err(e) => return Err(reading(e)),

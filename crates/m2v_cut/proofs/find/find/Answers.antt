@@ -53,6 +53,8 @@ returns-then-number-groups-clause-ok g c =
       progress = progress_more g.S.Source.left g.S.Source.faults _ _ _ _ _ inv.finding.first c.in-Ok-Some.piece inv.finding.progress x begun c.in-Ok-Some.ensures.taken;
       place = next_place g.S.Source.left g.S.Source.faults _ _ _ _ c.in-Ok-Some.piece x begun;
       most = omega (arith, onward.1, sound.end);
+      going = c.in-Ok-Some.ensures.going;
+      begun = begun;
     }
 
 pub loop-e-preserved : goal.loop-e-preserved
