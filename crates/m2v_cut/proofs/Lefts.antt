@@ -79,7 +79,7 @@ start_told n us rest u total left bits s less is t l b sequence header long firs
 
 -- ---- a piece without its end code
 
-end_less : (us : Units) → unit_bits (to_end us) ≤ unit_bits us
+pub end_less : (us : Units) → unit_bits (to_end us) ≤ unit_bits us
 unfolding to_end
 end_less [] = omega arith
 end_less (u ∷ us) = elim (cases_Bool (is_end (value_of u))) [

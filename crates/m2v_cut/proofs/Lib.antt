@@ -5,3 +5,4 @@ mod Shapes
 mod Fulls
 mod Places
 mod Lefts
+mod Onwards
