@@ -6,3 +6,4 @@ mod Fulls
 mod Places
 mod Lefts
 mod Onwards
+mod Takings
