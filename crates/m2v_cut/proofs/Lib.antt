@@ -7,3 +7,4 @@ mod Places
 mod Lefts
 mod Onwards
 mod Takings
+mod Intras
