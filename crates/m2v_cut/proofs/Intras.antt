@@ -1,5 +1,5 @@
 -- A group's first frame, by the pieces that are looked at.
-use Rattle.std.proofs.Common.{◌≡◌, ℕ, zero, suc, ◌+◌, ◌<◌, ◌≤◌, Bool, true, false, List, [], ◌∷◌, ◌++◌, length, Option, Some, None, inl, inr, refl, sym, ap, subst, ◌∙◌, append_assoc, arith}
+use Rattle.std.proofs.Common.{◌≡◌, ◌⊎◌, ℕ, zero, suc, ◌+◌, ◌<◌, ◌≤◌, Bool, true, false, List, [], ◌∷◌, ◌++◌, length, Option, Some, None, inl, inr, refl, sym, ap, subst, ◌∙◌, append_assoc, arith}
 use Rattle.std.specs.Prelude.{nat_eq, nat_le, not, ◌&&◌, ◌||◌, if◌then◌else◌}
 use Rattle.std.proofs.lemmas.Bool.{cases_Bool, eqb-true}
 use Rattle.std.proofs.lemmas.List.{append-nil}
@@ -134,3 +134,96 @@ intra_some (h ∷ heads) u us none few on =
       | inl group ↦ absurd (omega (arith, headers_one h heads group, few))
       | inr off ↦ rw (off, p.0) (intra_some heads u us p.1 (sym (headers_other h heads off) ∙ few) on)
     ]
+
+-- the first frame, by its first picture and by that of the pieces behind
+abbrev pub frame_of : (ℕ → Bool) → (ℕ → Bool) → Bool
+frame_of one next = one 3 || (one 1 && next 2 || one 2 && next 1)
+
+frame_none : (next : ℕ → Bool) (one : ℕ → Bool) → ((s : ℕ) → one s ≡ false) → false ≡ frame_of one next
+frame_none next one off = λ i. sym (off 3) i || ((sym (off 1) i) && next 2 || (sym (off 2) i) && next 1)
+
+-- of a piece's units from behind a group header on, and the pieces behind
+pub intra_is : (heads tail z : Units) → has_picture heads ≡ false → IsPictured tail → (tail ≡ [] → z ≡ [])
+    → begins_intra (coded_pictures (before_group 0 (heads ++ (tail ++ z)))) ≡ frame_of (λ s. is_first s (first_picture (heads ++ (tail ++ z)))) (λ s. is_first s (first_picture z))
+unfolding first_picture
+intra_is heads [] z none p last =
+    let e : z ≡ [] = last refl in
+    let off : first_picture (heads ++ z) ≡ None = ap (λ (l : Units). first_picture (heads ++ l)) e ∙ headers_none heads none in
+    intra_none (heads ++ z) off ∙ frame_none (λ s. is_first s (first_picture z)) (λ s. is_first s (first_picture (heads ++ z))) (λ s. ap (is_first s) off)
+  where
+    headers_none : (xs : Units) → has_picture xs ≡ false → first_picture (xs ++ []) ≡ None
+    headers_none xs none = elim (cases_Bool (nat_eq (group_headers xs) 0)) [
+      | inl few ↦ first_behind xs [] none (eqb-true (group_headers xs) 0 few)
+      | inr some ↦ first_none xs [] none (some_or_none (group_headers xs) (λ n. let t : nat_eq (group_headers xs) 0 ≡ true = rw n refl in absurd cc))
+    ]
+intra_is heads (u ∷ ss) z none p last = elim (cases_Bool (nat_eq (group_headers heads) 0)) [
+  | inl few ↦
+      let n = eqb-true (group_headers heads) 0 few in
+      let here : first_picture (heads ++ u ∷ (ss ++ z)) ≡ Some (u, next_unit (ss ++ z)) = first_behind heads (u ∷ (ss ++ z)) none n ∙ rw (no_group u p.0, p.0) refl in
+      let q = none_begin ss p.1 in
+      let later : first_picture (ss ++ z) ≡ first_picture z = first_behind ss z q.0 q.1.1 in
+      intra_some heads u (ss ++ z) none n p.0
+      ∙ (λ i. frame_of (λ s. is_first s (sym here i)) (λ s. is_first s (later i)))
+  | inr some ↦
+      let less : 0 < group_headers heads = some_or_none (group_headers heads) (λ n. let t : nat_eq (group_headers heads) 0 ≡ true = rw n refl in absurd cc) in
+      let off : first_picture (heads ++ u ∷ (ss ++ z)) ≡ None = first_none heads (u ∷ (ss ++ z)) none less in
+      intra_none (heads ++ u ∷ (ss ++ z)) off ∙ frame_none (λ s. is_first s (first_picture z)) (λ s. is_first s (first_picture (heads ++ u ∷ (ss ++ z)))) (λ s. ap (is_first s) off)
+]
+
+-- ---- by the numbers that are looked at
+
+-- where no second piece was read: the picture is no field, or nothing stands behind
+pub frame_alone : (intra : Bool) (structure : ℕ) (next : ℕ → Bool) → (((nat_eq structure 1 || nat_eq structure 2) ≡ false) ⊎ ((s : ℕ) → next s ≡ false))
+    → frame_of (λ s. intra && nat_eq structure s) next ≡ (intra && nat_eq structure 3)
+frame_alone intra structure next (inl off) =
+    let p = or_false (nat_eq structure 1) (nat_eq structure 2) off in
+    (λ i. (intra && nat_eq structure 3) || ((intra && p.0 i) && next 2 || (intra && p.1 i) && next 1)) ∙ by_case intra (nat_eq structure 3) (next 1) (next 2)
+  where
+    by_case : (a b c d : Bool) → ((a && b) || ((a && false) && d || (a && false) && c)) ≡ (a && b)
+    by_case true true c d = refl
+    by_case true false c d = refl
+    by_case false b c d = refl
+frame_alone intra structure next (inr none) =
+    (λ i. (intra && nat_eq structure 3) || ((intra && nat_eq structure 1) && none 2 i || (intra && nat_eq structure 2) && none 1 i)) ∙ by_case intra (nat_eq structure 3) (nat_eq structure 1) (nat_eq structure 2)
+  where
+    by_case : (a b c d : Bool) → ((a && b) || ((a && c) && false || (a && d) && false)) ≡ (a && b)
+    by_case true true c d = refl
+    by_case true false true true = refl
+    by_case true false true false = refl
+    by_case true false false true = refl
+    by_case true false false false = refl
+    by_case false b c d = refl
+
+-- behind a field the other one
+pub frame_second : (intra : Bool) (structure : ℕ) (intra2 : Bool) (structure2 : ℕ) → (nat_eq structure 1 || nat_eq structure 2) ≡ true
+    → frame_of (λ s. intra && nat_eq structure s) (λ s. intra2 && nat_eq structure2 s) ≡ (intra && (intra2 && ((nat_eq structure2 1 || nat_eq structure2 2) && not (nat_eq structure2 structure))))
+frame_second intra structure intra2 structure2 field = elim (cases_Bool (nat_eq structure 1)) [
+  | inl one ↦
+      let e = eqb-true structure 1 one in
+      subst (λ (s : ℕ). frame_of (λ k. intra && nat_eq s k) (λ k. intra2 && nat_eq structure2 k) ≡ (intra && (intra2 && ((nat_eq structure2 1 || nat_eq structure2 2) && not (nat_eq structure2 s))))) (sym e)
+      (first intra intra2 (nat_eq structure2 1) (nat_eq structure2 2) (apart structure2))
+  | inr off ↦
+      let e = eqb-true structure 2 (second (nat_eq structure 1) (nat_eq structure 2) off field) in
+      subst (λ (s : ℕ). frame_of (λ k. intra && nat_eq s k) (λ k. intra2 && nat_eq structure2 k) ≡ (intra && (intra2 && ((nat_eq structure2 1 || nat_eq structure2 2) && not (nat_eq structure2 s))))) (sym e)
+      (other intra intra2 (nat_eq structure2 1) (nat_eq structure2 2) (apart structure2))
+]
+  where
+    second : (a b : Bool) → a ≡ false → (a || b) ≡ true → b ≡ true
+    second true b off on = absurd cc
+    second false b off on = on
+    apart : (n : ℕ) → nat_eq n 1 ≡ true → nat_eq n 2 ≡ false
+    apart n on = ap (λ (x : ℕ). nat_eq x 2) (eqb-true n 1 on)
+    first : (a b c d : Bool) → (c ≡ true → d ≡ false) → ((a && false) || ((a && true) && (b && d) || (a && false) && (b && c))) ≡ (a && (b && ((c || d) && not c)))
+    first false b c d x = refl
+    first true false c d x = refl
+    first true true true true x = x refl
+    first true true true false x = refl
+    first true true false true x = refl
+    first true true false false x = refl
+    other : (a b c d : Bool) → (c ≡ true → d ≡ false) → ((a && false) || ((a && false) && (b && d) || (a && true) && (b && c))) ≡ (a && (b && ((c || d) && not d)))
+    other false b c d x = refl
+    other true false c d x = refl
+    other true true true true x = x refl
+    other true true true false x = refl
+    other true true false true x = refl
+    other true true false false x = refl

@@ -1,5 +1,5 @@
 -- Pieces that are read behind others.
-use Rattle.std.proofs.Common.{◌≡◌, ℕ, ◌+◌, ◌<◌, ◌≤◌, Bool, true, false, List, [], ◌∷◌, ◌++◌, length, Option, Some, None, refl, sym, ap, subst, ◌∙◌, append_assoc, arith}
+use Rattle.std.proofs.Common.{◌≡◌, ℕ, ◌+◌, ◌<◌, ◌≤◌, Bool, true, false, List, [], ◌∷◌, ◌++◌, length, Option, Some, None, inl, inr, refl, sym, ap, subst, ◌∙◌, append_assoc, arith}
 use Rattle.std.specs.Prelude.{if◌then◌else◌}
 use Rattle.std.proofs.lemmas.List.{append-nil, length-append}
 use Rattle.m2v_port.specs.Ends.{Change, change}
@@ -23,6 +23,9 @@ use Rattle.m2v_cut.specs.declared.answer.CutError.TheVariants as errors
 use Rattle.m2v_cut.specs.declared.copy.Copied.{Copied}
 use Rattle.m2v_cut.specs.Answers.{units_of, groups_of}
 use Rattle.m2v_cut.specs.Progress.{Led, Onward, ReadOn, RestPut, RestRead, RestCut, RestStops, RestFails, PutEnds, HasPut, Cuts, bytes_of, all_bytes, all_groups, all_lengths, reading_error}
+use Rattle.m2v_piece.specs.Sound.{IsSoundPiece}
+use Rattle.m2v_cut.specs.declared.look.FirstPicture.{FirstPicture}
+use Rattle.m2v_cut.specs.Starts.{is_field_number, Second, SecondFails}
 use Rattle.m2v_cut.proofs.Going.{start_place, groups_more, end_more, fit_more}
 use Rattle.m2v_cut.proofs.Lefts.{end_less}
 
@@ -215,3 +218,23 @@ module _ {S K : Type 0} (left : S → Option (List ℕ)) (input_faults : S → �
   put_stopped most old now i0 i1 i2 o0 o1 o2 c0 c c' p errors.TooLong le so handed begun keeps cut = absurd cut.1
   put_stopped most old now i0 i1 i2 o0 o1 o2 c0 c c' p errors.PictureTooLarge le so handed begun keeps cut = absurd cut.1
   put_stopped most old now i0 i1 i2 o0 o1 o2 c0 c c' p errors.Memory le so handed begun keeps cut = piece_cut most old now i0 i1 i2 o0 o1 o2 c0 c c' p so handed begun keeps cut.0 cut.1
+
+-- ---- a second piece
+
+pub second_stopped : {S : Type 0} (left : S → Option (List ℕ)) (faults : S → ℕ) (i0 i1 : S) (c : Cutting) (e : DecodeError) → c.begun ≡ true → (e ≡ reading.Read → (change left faults i0 i1).Failed) → IsReading e → Stopped c (left i0) (left i1) e
+    → SecondFails (change left faults i0 i1) c (reading_error e)
+second_stopped left faults i0 i1 c reading.Read begun rose kind s = (rose refl, record { between = left i0; then_is = c; onward = onward_none (left i0) c begun; bytes = s.bytes; moved = s.moved })
+second_stopped left faults i0 i1 c reading.Write begun rose kind s = absurd kind
+second_stopped left faults i0 i1 c (reading.Stream f) begun rose kind s = absurd kind
+second_stopped left faults i0 i1 c reading.TooLong begun rose kind s = record { read = record { between = left i0; then_is = c; onward = onward_none (left i0) c begun; bytes = s.bytes; moved = s.moved }; over = s.why }
+second_stopped left faults i0 i1 c reading.PictureTooLarge begun rose kind s = record { read = record { between = left i0; then_is = c; onward = onward_none (left i0) c begun; bytes = s.bytes; moved = s.moved }; over = s.why }
+second_stopped left faults i0 i1 c reading.Memory begun rose kind s = record { between = left i0; then_is = c; onward = onward_none (left i0) c begun; bytes = s.bytes; moved = s.moved }
+
+pub no_second : (f : FirstPicture) (old : Option (List ℕ)) (c : Cutting) → c.begun ≡ true → is_field_number f.structure ≡ false → Second f old old c c None
+no_second f old c begun off = record { onward = onward_none old c begun; is = inl off }
+
+pub second_over : (f : FirstPicture) (old new : Option (List ℕ)) (c c' : Cutting) → c.begun ≡ true → Handed c old c' new None → c'.ended ≡ true → Keeps c old c' new → Second f old new c c' None
+second_over f old new c c' begun handed over keeps = record { onward = onward_over old old new c c c' [] (onward_none old c begun) handed over keeps; is = inr (λ rest e. ended_left c' rest over) }
+
+pub second_more : (f : FirstPicture) (old new : Option (List ℕ)) (c c' : Cutting) (p : Piece) → c.begun ≡ true → is_field_number f.structure ≡ true → Handed c old c' new (Some p) → c'.begun ≡ true → Keeps c old c' new → IsSoundPiece p → Second f old new c c' (Some p)
+second_more f old new c c' p begun on handed after keeps sound = record { onward = onward_more old old new c c c' [] p (onward_none old c begun) handed after keeps; is = (on, sound) }

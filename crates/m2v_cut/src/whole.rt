@@ -1,34 +1,17 @@
-ghost use Rattle.std.specs.Prelude.{◌≡◌, ◌≤◌, false, IsTrue, IfOk, IfErr};
+ghost use Rattle.std.specs.Prelude.{◌≤◌, IsTrue, IfOk, IfErr};
 ghost use Rattle.m2v_port.specs.Ends.{change, Tells, SinkStays};
 ghost use Rattle.m2v_decode.specs.Answers.{OfText};
 ghost use Rattle.m2v_cut.specs.Answers.{IsCutOut, Fails, Gives, answer_to};
 
 use crate::answer::{CutError, CutSummary};
 use crate::copy::{Copied, put_next, put_rest};
-use crate::find::{Found, find, reading};
+use crate::find::{Found, find};
 use crate::put::{put, put_first};
-use crate::start::{Start, cuttable, is_field, start_in};
-use m2v_piece::{Cutter, Piece};
+use crate::second::second_piece;
+use crate::start::{cuttable, start_in};
+use m2v_piece::Cutter;
 use m2v_port::{Sink, Source};
 use std::alloc::Global;
-
-/// The next piece, where a group's first picture is one field.
-fn second_piece<S: Source>(
-    alloc: Global,
-    start: Start,
-    cutter: &mut Cutter,
-    input: &mut S,
-) -> Result<Option<Piece>, CutError>
-    requires going { cutter.old.failed ≡ false }
-{
-    if !is_field(start.first) {
-        return Ok(None);
-    }
-    match cutter.next_piece(alloc, input) {
-        Ok(piece) => Ok(piece),
-        Err(e) => Err(reading(e)),
-    }
-}
 
 /// The sequence end code.
 const END_CODE: [u8; 4] = [0x00, 0x00, 0x01, 0xB7];
@@ -43,7 +26,7 @@ fn cut_from<S: Source, K: Sink>(
     output: &mut K,
 ) -> Result<CutSummary, CutError> {
     let start = start_in(&found.piece, found.number);
-    let second = second_piece(alloc, start, cutter, input)?;
+    let second = second_piece(alloc, start.first, cutter, input)?;
     let Some(sequence) = cuttable(start, &second) else {
         return Err(CutError::NotCuttable {
             place: 8 * (found.piece.place + start.header),
