@@ -1,4 +1,4 @@
-use Rattle.std.proofs.Common.{List, ℕ, ◌∙◌, ap, refl, sym, subst, ◌+◌, arith}
+use Rattle.std.proofs.Common.{List, ℕ, subst, ◌+◌, arith}
 use Rattle.std.proofs.lemmas.Result.{err_from_is_err_and}
 use Rattle.m2v_port.specs.Ends.{change}
 use Rattle.m2v_port.specs.Port.{Grows}

@@ -1,4 +1,4 @@
-use Rattle.std.proofs.Common.{◌≡◌, ◌≤◌, ◌-◌, ◌^◌, true, false}
+use Rattle.std.proofs.Common.{◌≡◌, ◌≤◌, ◌-◌, ◌^◌, false}
 use Rattle.m2v_port.specs.Ends.{change, SinkStays}
 use Rattle.m2v_cut.proofs.Onwards.{PuttingOn}
 use Rattle.m2v_cut.proofs.copy.put_rest.Given as goal

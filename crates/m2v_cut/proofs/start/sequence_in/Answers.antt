@@ -1,4 +1,4 @@
-use Rattle.std.proofs.Common.{◌∙◌, ap, sym, refl, subst, ℕ}
+use Rattle.std.proofs.Common.{◌∙◌, ap}
 use Rattle.m2v_model.specs.Units.{unit_bits}
 use Rattle.m2v_cut.proofs.Lefts.{left_less, left_place, sequence_behind}
 use Rattle.m2v_cut.proofs.start.sequence_in.Goals as goal
