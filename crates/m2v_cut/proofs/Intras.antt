@@ -211,8 +211,10 @@ frame_second intra structure intra2 structure2 field = elim (cases_Bool (nat_eq 
     second : (a b : Bool) → a ≡ false → (a || b) ≡ true → b ≡ true
     second true b off on = absurd cc
     second false b off on = on
+
     apart : (n : ℕ) → nat_eq n 1 ≡ true → nat_eq n 2 ≡ false
     apart n on = ap (λ (x : ℕ). nat_eq x 2) (eqb-true n 1 on)
+
     first : (a b c d : Bool) → (c ≡ true → d ≡ false) → ((a && false) || ((a && true) && (b && d) || (a && false) && (b && c))) ≡ (a && (b && ((c || d) && not c)))
     first false b c d x = refl
     first true false c d x = refl
@@ -220,6 +222,7 @@ frame_second intra structure intra2 structure2 field = elim (cases_Bool (nat_eq 
     first true true true false x = refl
     first true true false true x = refl
     first true true false false x = refl
+
     other : (a b c d : Bool) → (c ≡ true → d ≡ false) → ((a && false) || ((a && false) && (b && d) || (a && true) && (b && c))) ≡ (a && (b && ((c || d) && not d)))
     other false b c d x = refl
     other true false c d x = refl
