@@ -161,6 +161,7 @@ up_before (u ∷ us) ys some =
     or_true : (b : Bool) → (b || true) ≡ true
     or_true true = refl
     or_true false = refl
+
     off : (b : Bool) (x : Units) → (if b && not true then [] else x) ≡ x
     off true x = refl
     off false x = refl
@@ -256,6 +257,7 @@ last_later (u ∷ us) ys off on =
     or_none : (b : Bool) → (b || false) ≡ b
     or_none true = refl
     or_none false = refl
+
     later : (a b : Bool) → (a && not b) ≡ false → (a || b) ≡ true → b ≡ true
     later true true x y = refl
     later true false x y = absurd cc
@@ -271,6 +273,7 @@ last_behind_all (u ∷ us) ys on =
     or_true : (b : Bool) → (b || true) ≡ true
     or_true true = refl
     or_true false = refl
+
     off : (a : Bool) (x y : Units) → (if a && false then x else y) ≡ y
     off true x y = refl
     off false x y = refl

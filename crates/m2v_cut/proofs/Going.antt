@@ -29,12 +29,12 @@ use Rattle.m2v_cut.specs.Progress.{Reached, Progress, IsFound, Stops, StopsBefor
 
 -- ---- lists of pieces
 
-end_more : (ps : List (List ℕ)) (at : ℕ) (p : List ℕ) → end_of at (ps ++ p ∷ []) ≡ end_of at ps + length p
+pub end_more : (ps : List (List ℕ)) (at : ℕ) (p : List ℕ) → end_of at (ps ++ p ∷ []) ≡ end_of at ps + length p
 unfolding end_of
 end_more [] at p = refl
 end_more (q ∷ ps) at p = end_more ps (at + length q) p
 
-fit_more : (ps : List (List ℕ)) (at : ℕ) (p : List ℕ) → AllFit at ps → limit (end_of at ps) 0 p ≡ None → AllFit at (ps ++ p ∷ [])
+pub fit_more : (ps : List (List ℕ)) (at : ℕ) (p : List ℕ) → AllFit at ps → limit (end_of at ps) 0 p ≡ None → AllFit at (ps ++ p ∷ [])
 unfolding end_of
 fit_more [] at p fit next = (next, tt)
 fit_more (q ∷ ps) at p fit next = (fit.0, fit_more ps (at + length q) p fit.1 next)

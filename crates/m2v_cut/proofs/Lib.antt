@@ -4,3 +4,7 @@ mod Putting
 mod Shapes
 mod Fulls
 mod Places
+mod Lefts
+mod Onwards
+mod Takings
+mod Intras

@@ -41,14 +41,14 @@ from_here : (u : List ℕ) (us : Units) → is_group u ≡ true → from_group 0
 unfolding from_group
 from_here u us on = rw on refl
 
-headers_other : (u : List ℕ) (us : Units) → is_group u ≡ false → group_headers (u ∷ us) ≡ group_headers us
+pub headers_other : (u : List ℕ) (us : Units) → is_group u ≡ false → group_headers (u ∷ us) ≡ group_headers us
 unfolding group_headers
 headers_other u us off = rw off (none (group_headers us))
   where
     none : (n : ℕ) → 0 + n ≡ n
     none n = omega arith
 
-headers_one : (u : List ℕ) (us : Units) → is_group u ≡ true → group_headers (u ∷ us) ≡ suc (group_headers us)
+pub headers_one : (u : List ℕ) (us : Units) → is_group u ≡ true → group_headers (u ∷ us) ≡ suc (group_headers us)
 unfolding group_headers
 headers_one u us on = rw on (one (group_headers us))
   where
@@ -222,7 +222,7 @@ first_none (x ∷ xs) ys none some =
     ]
 
 -- the unit behind a picture, up to the next group header or not
-next_same : (structure : ℕ) (u : List ℕ) (rest : Units) → is_intra_of structure (u, next_unit (before_group 0 rest)) ≡ is_intra_of structure (u, next_unit rest)
+pub next_same : (structure : ℕ) (u : List ℕ) (rest : Units) → is_intra_of structure (u, next_unit (before_group 0 rest)) ≡ is_intra_of structure (u, next_unit rest)
 unfolding before_group
 next_same structure u [] = refl
 next_same structure u (r ∷ rest) = elim (cases_Bool (is_group r)) [

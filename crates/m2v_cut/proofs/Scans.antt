@@ -46,6 +46,7 @@ last_more (v ∷ us) u off on =
     by_case : (b : Bool) → (b || false) ≡ b
     by_case true = refl
     by_case false = refl
+
     later : (a b : Bool) → (a && not b) ≡ false → (a || b) ≡ true → b ≡ true
     later true true x y = refl
     later true false x y = absurd cc
@@ -61,6 +62,7 @@ last_here (v ∷ us) u on =
     by_case : (b : Bool) → (b || true) ≡ true
     by_case true = refl
     by_case false = refl
+
     off : (a : Bool) (x y : Units) → (if a && false then x else y) ≡ y
     off true x y = refl
     off false x y = refl

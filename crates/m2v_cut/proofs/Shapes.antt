@@ -102,14 +102,16 @@ pictured_more (t ∷ tail) u p some off = (p.0, begin_more tail u p.1 off)
 
 picture_more : (ws : Units) (u : List ℕ) → InPhase Picture ws → begins_piece (value_of u) ≡ false → InPhase Picture (ws ++ u ∷ [])
 picture_more ws u p off =
-    let s : Shape ws = p.0 in
-    (record {
+    let s : Shape ws = p.0 in (
+      record {
         heads = s.heads;
         tail = s.tail ++ u ∷ [];
         is = ap (λ (l : Units). l ++ u ∷ []) s.is ∙ append_assoc s.heads s.tail (u ∷ []);
         none = s.none;
         pictured = pictured_more s.tail u s.pictured p.1 off;
-      }, some_tail s.tail u)
+      },
+      some_tail s.tail u,
+    )
 
 -- ---- pieces
 
@@ -123,37 +125,43 @@ shape_of Picture ws p = p.0
 
 -- the last piece, without an end code or with it
 last_split : (phase : Phase) (ws ends : Units) (p : InPhase phase ws) → NoEnds ws → AreEnds ends → (((shape_of phase ws p).tail ≡ [] → ⊥) → ends ≡ []) → BeginsPiece ws → AreUnits (ws ++ ends) → Splits (joined (ws ++ ends) ∷ []) (ws ++ [])
-last_split phase ws ends p n e apart b h =
-    ([], record {
-        vs = ws;
-        ends = ends;
-        is = refl;
-        units = cut_all (ws ++ ends) h;
-        whole = refl;
-        no_ends = n;
-        at_end = e;
-        shape = shape_of phase ws p;
-        follows = tt;
-        apart = apart;
-        begins = b;
-      }, refl)
+last_split phase ws ends p n e apart b h = (
+  [],
+  record {
+    vs = ws;
+    ends = ends;
+    is = refl;
+    units = cut_all (ws ++ ends) h;
+    whole = refl;
+    no_ends = n;
+    at_end = e;
+    shape = shape_of phase ws p;
+    follows = tt;
+    apart = apart;
+    begins = b;
+  },
+  refl,
+)
 
 -- a piece and others behind it
 one_split : (ws us : Units) (q : List ℕ) (qs : List (List ℕ)) → InPhase Picture ws → NoEnds ws → BeginsPiece ws → AreUnits ws → Splits (q ∷ qs) us → Splits (joined ws ∷ q ∷ qs) (ws ++ us)
-one_split ws us q qs p n b h others =
-    (us, record {
-        vs = ws;
-        ends = [];
-        is = refl;
-        units = cut_all ws h ∙ ap (λ (l : Units). ([], l)) (sym (append-nil ws));
-        whole = ap joined (sym (append-nil ws));
-        no_ends = n;
-        at_end = tt;
-        shape = p.0;
-        follows = (p.1, refl);
-        apart = λ some. refl;
-        begins = b;
-      }, others)
+one_split ws us q qs p n b h others = (
+  us,
+  record {
+    vs = ws;
+    ends = [];
+    is = refl;
+    units = cut_all ws h ∙ ap (λ (l : Units). ([], l)) (sym (append-nil ws));
+    whole = ap joined (sym (append-nil ws));
+    no_ends = n;
+    at_end = tt;
+    shape = p.0;
+    follows = (p.1, refl);
+    apart = λ some. refl;
+    begins = b;
+  },
+  others,
+)
 
 -- some pieces follow behind a piece that has begun
 abbrev AreSome : List (List ℕ) → Units → Type 0
@@ -187,9 +195,12 @@ picture_begins v vs us u ih p on off n b h =
     let phase = phase_after Headers (value_of u) in
     let q = ih phase u [] (header_more [] u refl) (off, tt) on (are_behind (v ∷ vs) (u ∷ us) h) in
     let q' : AreSome (grouped phase u us) (u ∷ to_end us) = subst (λ (l : List ℕ). AreSome (grouped phase l us) (u ∷ to_end us)) (append-nil u) q in
-    let others : Splits (q'.0 ∷ q'.1) (u ∷ to_end us) = subst (λ (l : List (List ℕ)). Splits l (u ∷ to_end us)) q'.2 q'.3 in
-    (joined (v ∷ vs), grouped phase u us, refl,
-        subst (λ (l : List (List ℕ)). Splits (joined (v ∷ vs) ∷ l) ((v ∷ vs) ++ u ∷ to_end us)) (sym q'.2) (one_split (v ∷ vs) (u ∷ to_end us) q'.0 q'.1 p n b (are_before (v ∷ vs) (u ∷ us) h) others))
+    let others : Splits (q'.0 ∷ q'.1) (u ∷ to_end us) = subst (λ (l : List (List ℕ)). Splits l (u ∷ to_end us)) q'.2 q'.3 in (
+      joined (v ∷ vs),
+      grouped phase u us,
+      refl,
+      subst (λ (l : List (List ℕ)). Splits (joined (v ∷ vs) ∷ l) ((v ∷ vs) ++ u ∷ to_end us)) (sym q'.2) (one_split (v ∷ vs) (u ∷ to_end us) q'.0 q'.1 p n b (are_before (v ∷ vs) (u ∷ us) h) others),
+    )
 
 picture_goes : (c d : Bool) (v : List ℕ) (vs us : Units) (u : List ℕ) → is_end (value_of u) ≡ c → begins_piece (value_of u) ≡ d → Held us → InPhase Picture (v ∷ vs) → NoEnds (v ∷ vs) → begins_piece (value_of v) ≡ true → AreUnits (v ∷ (vs ++ u ∷ us))
     → AreSome (if c then joined (v ∷ vs) ∷ take 4 u ∷ [] else if d then joined (v ∷ vs) ∷ grouped (phase_after Headers (value_of u)) u us else grouped Picture (joined (v ∷ vs) ++ u) us) ((v ∷ vs) ++ (if c then [] else u ∷ to_end us))

@@ -66,7 +66,7 @@ to_frame n (p ∷ ps) =
 abbrev pub needed : List ℕ → ℕ → ℕ → List (List ℕ)
 needed text from count =
     if nat_lt from (groups_in text) then
-      if is_standalone text from then to_group (from + count) (pieces text) else to_frame from (pieces text)
+    if is_standalone text from then to_group (from + count) (pieces text) else to_frame from (pieces text)
     else pieces text
 
 -- ---- limits
@@ -90,8 +90,8 @@ limit_of text ps = if nat_lt most_input (start_of text) then Some too_long else 
 abbrev pub unlimited : List ℕ → ℕ → ℕ → Result CutSummary CutError
 unlimited text from count =
     if nat_lt from (groups_in text) then
-      if is_standalone text from then Ok (record { groups = groups_chosen text from count; bytes = length (cut_text text from count) })
-      else Err (errors.NotCuttable (group_place text from))
+    if is_standalone text from then Ok (record { groups = groups_chosen text from count; bytes = length (cut_text text from count) })
+    else Err (errors.NotCuttable (group_place text from))
     else Err (errors.NoGroup (groups_in text) (from + 1))
 
 abbrev pub by_limit : Option Limit → Result CutSummary CutError → Result CutSummary CutError

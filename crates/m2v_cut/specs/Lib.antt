@@ -1,3 +1,4 @@
 pub mod Answers
 pub mod Looks
 pub mod Progress
+pub mod Starts

@@ -1,5 +1,5 @@
 -- Cutting under way: the pieces that were read, and what was written of them.
-use Rattle.std.specs.Prelude.{◌≡◌, ℕ, ◌+◌, ◌-◌, ◌<◌, ◌≤◌, Bool, true, false, List, [], ◌∷◌, ◌++◌, length, take, drop, slice_index, Some, None, if◌then◌else◌}
+use Rattle.std.specs.Prelude.{◌≡◌, ℕ, ◌+◌, ◌-◌, ◌<◌, ◌≤◌, Bool, true, false, List, [], ◌∷◌, ◌++◌, length, take, drop, slice_index, Option, Some, None, if◌then◌else◌}
 use Rattle.m2v_port.specs.Ends.{Change}
 use Rattle.m2v_port.specs.Port.{Moves, Grows, GrowsByPrefix}
 use Rattle.m2v_model.specs.Units.{joined}
@@ -9,6 +9,7 @@ use Rattle.m2v_piece.specs.declared.answer.DecodeError.{DecodeError}
 use Rattle.m2v_piece.specs.declared.answer.DecodeError.TheVariants as reading
 use Rattle.m2v_piece.specs.Cutting.{Cutting, PieceStops, left_of, start_of as start_of_rest}
 use Rattle.m2v_piece.specs.Sound.{IsSoundPiece}
+use Rattle.m2v_piece.specs.Stepping.{Keeps}
 use Rattle.m2v_decoder.specs.Decoding.{whole_of}
 use Rattle.m2v_decode.specs.Answers.{OfText, OfTaken, AllFit, start_of}
 use Rattle.m2v_group.specs.Groups.{groups_in, with_broken_link}
@@ -85,6 +86,8 @@ pub record IsFound (from : ℕ) (left : Change) (c : Cutting) (f : Found) : Type
   pub progress : Progress left c (first ++ whole_of f.piece ∷ [])
   pub place : (rest : List ℕ) → left.new ≡ Some rest → f.piece.place + length (whole_of f.piece) ≡ start_of_rest c rest
   pub most : c.place ≤ most_input
+  pub going : c.failed ≡ false
+  pub begun : c.begun ≡ true
 
 -- the pieces that were read pass no limit, and the next one does, or the bytes before the first one
 pub record Stops (text : List ℕ) (first : List (List ℕ)) (e : DecodeError) : Type 0 where
@@ -133,3 +136,78 @@ abbrev pub HasPut : Bool → List ℕ → ℕ → Copied → Copied → Change �
 HasPut true whole most old new held =
     (new ≡ record { groups = old.groups + groups_of whole; bytes = old.bytes + length (joined (units_of whole)) }) × (new.groups ≤ most) × Grows held.old (bytes_of whole) held.new
 HasPut false whole most old new held = (new ≡ old) × (most < old.groups + groups_of whole) × (held.new ≡ held.old)
+
+-- how many bytes of pieces are copied
+abbrev pub all_lengths : List (List ℕ) → ℕ
+all_lengths [] = 0
+all_lengths (p ∷ ps) = length (joined (units_of p)) + all_lengths ps
+
+-- pieces that lead from one place to another pass no limit
+pub record Led (start : ℕ) (pieces read : List (List ℕ)) (end : ℕ) (others : List (List ℕ)) : Type 0 where
+  pub are : pieces ≡ read ++ others
+  pub fit : AllFit start read
+  pub place : end ≡ end_of start read
+
+-- a cutter handed these pieces out, from one state on
+pub record Onward (old new : Option (List ℕ)) (c c' : Cutting) (read : List (List ℕ)) : Type 0 where
+  pub bytes : List ℕ
+  pub moved : Moves old bytes new
+  pub keeps : Keeps c old c' new
+  pub told : (rest : List ℕ) → new ≡ Some rest → Led (start_of_rest c (bytes ++ rest)) (left_of c (bytes ++ rest)) read (start_of_rest c' rest) (left_of c' rest)
+  pub at : (rest : List ℕ) → new ≡ Some rest → start_of_rest c' rest ≡ c'.place
+
+-- why the pieces of a cut end
+abbrev pub PutEnds : List (List ℕ) → ℕ → ℕ → ℕ → (List ℕ → List (List ℕ)) → Option (List ℕ) → Type 0
+-- none is left
+PutEnds [] most groups chosen others new = (groups ≤ most) × (chosen ≡ groups) × ((rest : List ℕ) → new ≡ Some rest → others rest ≡ [])
+-- the next one holds the header of the group behind the cut
+PutEnds (q ∷ qs) most groups chosen others new = (qs ≡ []) × (groups ≤ most) × (most < groups + groups_of q) × (chosen ≡ most)
+
+-- the pieces that were left of a cut were written
+pub record RestPut (most : ℕ) (old new : Copied) (left held : Change) (c c' : Cutting) : Type 0 where
+  pub mids : List (List ℕ)
+  pub last : List (List ℕ)
+  pub onward : Onward left.old left.new c c' (mids ++ last)
+  pub grown : Grows held.old (all_bytes mids) held.new
+  pub bytes : new.bytes ≡ old.bytes + all_lengths mids
+  pub ends : PutEnds last most (old.groups + all_groups mids) new.groups (left_of c') left.new
+
+-- these were read, and then bytes of which nothing came
+pub record ReadOn (old new : Option (List ℕ)) (c : Cutting) (read : List (List ℕ)) : Type 0 where
+  pub between : Option (List ℕ)
+  pub then_is : Cutting
+  pub onward : Onward old between c then_is read
+  pub bytes : List ℕ
+  pub moved : Moves between bytes new
+
+-- the source failed or memory ran out behind pieces that were written
+pub record RestRead (most groups : ℕ) (left held : Change) (c : Cutting) : Type 0 where
+  pub mids : List (List ℕ)
+  pub few : groups + all_groups mids ≤ most
+  pub read : ReadOn left.old left.new c mids
+  pub grown : Grows held.old (all_bytes mids) held.new
+
+-- of pieces that were read only a prefix was written
+pub record RestCut (most groups : ℕ) (left held : Change) (c : Cutting) : Type 0 where
+  pub mids : List (List ℕ)
+  pub few : groups + all_groups mids ≤ most
+  pub read : ReadOn left.old left.new c mids
+  pub grown : GrowsByPrefix held.old (all_bytes mids) held.new
+
+-- a limit is passed behind pieces that were written
+pub record RestStops (most groups : ℕ) (left held : Change) (c : Cutting) (e : DecodeError) : Type 0 where
+  pub mids : List (List ℕ)
+  pub few : groups + all_groups mids ≤ most
+  pub read : ReadOn left.old left.new c mids
+  pub grown : Grows held.old (all_bytes mids) held.new
+  pub over : (rest : List ℕ) → left.new ≡ Some rest → PieceStops (start_of_rest read.then_is (read.bytes ++ rest)) (left_of read.then_is (read.bytes ++ rest)) e
+
+-- why the rest of a cut wasn't written
+abbrev pub RestFails : ℕ → ℕ → Change → Change → Cutting → CutError → Type 0
+RestFails most groups left held c errors.Read = left.Failed × RestRead most groups left held c
+RestFails most groups left held c errors.Write = held.Failed × RestCut most groups left held c
+RestFails most groups left held c (errors.NoGroup have need) = ⊥
+RestFails most groups left held c (errors.NotCuttable place) = ⊥
+RestFails most groups left held c errors.TooLong = RestStops most groups left held c reading.TooLong
+RestFails most groups left held c errors.PictureTooLarge = RestStops most groups left held c reading.PictureTooLarge
+RestFails most groups left held c errors.Memory = RestCut most groups left held c

@@ -4,7 +4,8 @@ ghost use Rattle.m2v_port.specs.Ends.{change, SinkStays};
 ghost use Rattle.m2v_port.specs.Port.{Grows};
 ghost use Rattle.m2v_piece.specs.Sound.{IsSoundPiece};
 ghost use Rattle.m2v_decoder.specs.Decoding.{whole_of};
-ghost use Rattle.m2v_cut.specs.Progress.{Cuts, bytes_of, HasPut};
+ghost use Rattle.m2v_cut.specs.Answers.{groups_of};
+ghost use Rattle.m2v_cut.specs.Progress.{Cuts, bytes_of, HasPut, RestPut, RestFails};
 
 use crate::answer::CutError;
 use crate::find::reading;
@@ -35,8 +36,8 @@ pub fn put_next<K: Sink>(
     requires output { IsTrue (K.ready output.old) }
     ensures put { IfOk result (λ written. HasPut written (whole_of piece.now) most copied.old copied.new
         (change K.held K.faults output.old output.new)) }
-    ensures err { IfErr result (Cuts (bytes_of (whole_of piece.now))
-        (change K.held K.faults output.old output.new)) }
+    ensures err { IfErr result (λ e. (copied.old.groups + groups_of (whole_of piece.now) ≤ most)
+        × Cuts (bytes_of (whole_of piece.now)) (change K.held K.faults output.old output.new) e) }
     ensures output { SinkStays K.ready K.name K.faults output.old output.new }
 {
     let counted = count(&mut units(piece));
@@ -58,7 +59,23 @@ pub fn put_rest<S: Source, K: Sink>(
     copied: &mut Copied,
     input: &mut S,
     output: &mut K,
-) -> Result<(), CutError> {
+) -> Result<(), CutError>
+    requires going { cutter.old.failed ≡ false }
+    requires begun { cutter.old.begun ≡ true }
+    requires few { copied.old.groups ≤ most }
+    requires room { copied.old.bytes ≤ cutter.old.place }
+    requires low { cutter.old.place ≤ 2 ^ 36 }
+    requires output { IsTrue (K.ready output.old) }
+    ensures put { OnOk result (RestPut most copied.old copied.new
+        (change S.left S.faults input.old input.new)
+        (change K.held K.faults output.old output.new) cutter.old cutter.new) }
+    ensures room { OnOk result (copied.new.bytes ≤ 2 ^ 36) }
+    ensures err { IfErr result (RestFails most copied.old.groups
+        (change S.left S.faults input.old input.new)
+        (change K.held K.faults output.old output.new) cutter.old) }
+    ensures output { SinkStays K.ready K.name K.faults output.old output.new }
+    ensures input { S.faults input.old ≤ S.faults input.new }
+{
     loop {
         match cutter.next_piece(alloc, input) {
             Err(e) => return Err(reading(e)),

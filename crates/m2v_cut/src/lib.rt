@@ -8,6 +8,7 @@ mod copy;
 mod find;
 mod look;
 mod put;
+mod second;
 mod start;
 mod whole;
 

@@ -14,9 +14,13 @@ use m2v_unit::{Unit, UnitReader};
 
 /// The values of units: a picture, the sequence header, an extension, the sequence end code and a group header.
 const PICTURE: u8 = 0x00;
+
 const SEQUENCE: u8 = 0xB3;
+
 const EXTENSION: u8 = 0xB5;
+
 const END: u8 = 0xB7;
+
 const GROUP: u8 = 0xB8;
 
 /// What is counted in a piece: its group headers, and its bits without the sequence end code.
@@ -46,6 +50,7 @@ pub fn zeros_of(piece: &Piece) -> u64
 pub fn units<'a>(piece: &'a Piece) -> UnitReader<'a>
     requires { IsSoundPiece piece.now }
     ensures value { result ≡ units_in (whole_of piece.now) }
+    ensures bits { unit_bits result ≤ 8 * piece.now.length }
 {
     UnitReader::new(&piece.bytes, zeros_of(piece))
 }

@@ -57,7 +57,10 @@ pub fn put_part<K: Sink>(piece: &Piece, from: u64, to: u64, output: &mut K) -> R
     ensures output { SinkStays K.ready K.name K.faults output.old output.new }
 {
     let kept = piece.bytes.len() as u64;
-    put(&piece.bytes[from.min(kept) as usize..to.min(kept) as usize], output)?;
+    put(
+        &piece.bytes[from.min(kept) as usize..to.min(kept) as usize],
+        output,
+    )?;
     put_zeros(to.max(kept) - from.max(kept), output)
 }
 

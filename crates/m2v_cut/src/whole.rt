@@ -7,7 +7,8 @@ use crate::answer::{CutError, CutSummary};
 use crate::copy::{Copied, put_next, put_rest};
 use crate::find::{Found, find};
 use crate::put::{put, put_first};
-use crate::start::{cuttable, second_piece, start_in};
+use crate::second::second_piece;
+use crate::start::{cuttable, start_in};
 use m2v_piece::Cutter;
 use m2v_port::{Sink, Source};
 use std::alloc::Global;
@@ -25,7 +26,7 @@ fn cut_from<S: Source, K: Sink>(
     output: &mut K,
 ) -> Result<CutSummary, CutError> {
     let start = start_in(&found.piece, found.number);
-    let second = second_piece(alloc, start, cutter, input)?;
+    let second = second_piece(alloc, start.first, cutter, input)?;
     let Some(sequence) = cuttable(start, &second) else {
         return Err(CutError::NotCuttable {
             place: 8 * (found.piece.place + start.header),

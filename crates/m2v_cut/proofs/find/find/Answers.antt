@@ -1,9 +1,8 @@
-use Rattle.std.proofs.Common.{[], ◌∙◌, Err, refl, sym, ap, subst, arith}
+use Rattle.std.proofs.Common.{[], Err, refl, sym, ap, subst, arith}
 use Rattle.m2v_port.proofs.Runs.{rose_since}
-use Rattle.m2v_cut.specs.declared.answer.CutError.{CutError}
 use Rattle.m2v_port.specs.Ends.{change}
 use Rattle.m2v_cut.specs.Progress.{FindFails}
-use Rattle.m2v_cut.proofs.Going.{Finding, progress_none, progress_more, next_place, find_stopped, find_none, finding_more}
+use Rattle.m2v_cut.proofs.Going.{progress_none, progress_more, next_place, find_stopped, find_none, finding_more}
 use Rattle.m2v_cut.proofs.find.find.Goals as goal
 
 pub loop-e-init : goal.loop-e-init
@@ -53,6 +52,8 @@ returns-then-number-groups-clause-ok g c =
       progress = progress_more g.S.Source.left g.S.Source.faults _ _ _ _ _ inv.finding.first c.in-Ok-Some.piece inv.finding.progress x begun c.in-Ok-Some.ensures.taken;
       place = next_place g.S.Source.left g.S.Source.faults _ _ _ _ c.in-Ok-Some.piece x begun;
       most = omega (arith, onward.1, sound.end);
+      going = c.in-Ok-Some.ensures.going;
+      begun = begun;
     }
 
 pub loop-e-preserved : goal.loop-e-preserved

@@ -1,4 +1,4 @@
-use Rattle.std.proofs.Common.{List, ℕ, subst, sym, ◌∙◌, ap}
+use Rattle.std.proofs.Common.{subst, ◌∙◌, ap}
 use Rattle.m2v_model.specs.Units.{Units, unit_bits}
 use Rattle.m2v_cut.proofs.Scans.{Passed, passed_none, passed_more, passed_all, passed_end}
 use Rattle.m2v_cut.proofs.look.last_sequence.Goals as goal

@@ -1,4 +1,4 @@
-use Rattle.std.proofs.Common.{refl, sym, subst, List, ℕ, max}
+use Rattle.std.proofs.Common.{refl, subst, List, ℕ, max}
 use Rattle.std.proofs.lemmas.Result.{err_from_is_err_and, on_ok_weaker, IfErr-weaker}
 use Rattle.m2v_port.specs.Port.{Grows}
 use Rattle.m2v_port.specs.Ends.{change}

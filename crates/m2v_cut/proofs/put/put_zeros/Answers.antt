@@ -1,4 +1,4 @@
-use Rattle.std.proofs.Common.{rules, arith, subst, List, ℕ}
+use Rattle.std.proofs.Common.{arith, subst, List, ℕ}
 use Rattle.std.proofs.lemmas.Result.{err_from_is_err_and}
 use Rattle.m2v_port.specs.Port.{Grows}
 use Rattle.m2v_port.specs.Ends.{change}

@@ -1,4 +1,4 @@
-use Rattle.std.proofs.Common.{◌≡◌, ◌-◌, ◌≤◌, replicate}
+use Rattle.std.proofs.Common.{◌-◌, ◌≤◌, replicate}
 use Rattle.m2v_port.specs.Ends.{SinkStays}
 use Rattle.m2v_port.specs.Port.{Grows}
 use Rattle.m2v_cut.proofs.put.put_zeros.Given as goal
