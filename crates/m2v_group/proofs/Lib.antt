@@ -1,1 +1,4 @@
 mod Worked
+pub mod Intra
+pub mod Shows
+pub mod Alike

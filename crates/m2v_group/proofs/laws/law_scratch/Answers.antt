@@ -1,0 +1,6 @@
+use Rattle.std.proofs.Common.{refl}
+use Rattle.m2v_group.proofs.Shows.{beside_shown}
+use Rattle.m2v_group.proofs.laws.law_scratch.Goals as goal
+
+pub returns : goal.returns
+returns c = let a = beside_shown in refl
