@@ -2,3 +2,5 @@ mod Worked
 pub mod Intra
 pub mod Shows
 pub mod Alike
+pub mod Counted
+pub mod Held
