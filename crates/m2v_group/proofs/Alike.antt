@@ -66,6 +66,7 @@ pub record IsLeftSlice (w c : State) (u : List ℕ) (p q : Part) : Type 0 where
   pub own_is : w.picture ≡ Some own
   pub other_is : c.picture ≡ Some other
   pub left : IsLeftOut own other
+  pub read : own.slices_unread ≡ false
 
 -- a part of the whole, and that of the cut
 abbrev pub PartsAlike : State → State → List ℕ → Part → Part → Type 0
@@ -285,7 +286,7 @@ left_slice w c s p q row start u own other left y t rest (v, mid, order, inr h) 
     let x = h.1.0 in
     let end : rest ≡ mid = h.1.3.1 ∙ h.1.2.0 in (
       unread_slice row u,
-      inr (record { row = row; x = x; own = p; other = q; whole = h.1.3.0; cut = refl; own_is = own; other_is = other; left = left }),
+      inr (record { row = row; x = x; own = p; other = q; whole = h.1.3.0; cut = refl; own_is = own; other_is = other; left = left; read = h.0 }),
       (v, mid, (in_order, order.1), inl (left.unread, (refl, end))),
     )
 

@@ -4,3 +4,4 @@ pub mod Shows
 pub mod Alike
 pub mod Counted
 pub mod Held
+pub mod Steps
