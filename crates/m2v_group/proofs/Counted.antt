@@ -19,16 +19,17 @@ is_left_kind changed anchors kind = changed && (is_b kind && not (nat_le 2 ancho
 abbrev IsOpenGroup : Bool → Bool → Option FirstField → Type 0
 IsOpenGroup fresh closed waiting = (closed ≡ false) ⊎ ((fresh ≡ true) ⊎ ((f : FirstField) × (waiting ≡ Some f) × (is_b f.kind ≡ false)))
 
--- The anchors of the whole and of the cut, and what their last group headers say: where the cut's first group header wasn't
+-- The anchors of the whole and of the cut, and what their last group headers say, behind that of the chosen group (ready) or
+-- before it: where the cut's first group header wasn't
 -- changed they are the same; else the cut has none, then one, and then both have two at least.
-pub data Reach (changed fresh : Bool) (whole cut : ℕ) (group own : Bool) (waiting : Option FirstField) : Type 0 where
-  as_whole : changed ≡ false → whole ≡ cut → group ≡ own → Reach changed fresh whole cut group own waiting
-  none_yet : changed ≡ true → cut ≡ 0 → own ≡ false → ((f : FirstField) → waiting ≡ Some f → f.kind ≡ 1) → Reach changed fresh whole cut group own waiting
-  one_yet : changed ≡ true → cut ≡ 1 → nat_le 1 whole ≡ true → IsOpenGroup fresh own waiting → Reach changed fresh whole cut group own waiting
-  two_both : changed ≡ true → cut ≡ 2 → whole ≡ 2 → Reach changed fresh whole cut group own waiting
+pub data Reach (ready changed fresh : Bool) (whole cut : ℕ) (group own : Bool) (waiting : Option FirstField) : Type 0 where
+  as_whole : changed ≡ false → whole ≡ cut → (ready ≡ true → group ≡ own) → Reach ready changed fresh whole cut group own waiting
+  none_yet : changed ≡ true → cut ≡ 0 → (ready ≡ true → own ≡ false) → ((f : FirstField) → waiting ≡ Some f → f.kind ≡ 1) → Reach ready changed fresh whole cut group own waiting
+  one_yet : changed ≡ true → cut ≡ 1 → nat_le 1 whole ≡ true → IsOpenGroup fresh own waiting → Reach ready changed fresh whole cut group own waiting
+  two_both : changed ≡ true → cut ≡ 2 → whole ≡ 2 → Reach ready changed fresh whole cut group own waiting
 
-abbrev pub Reaches : Bool → Bool → State → State → Type 0
-Reaches changed fresh w c = Reach changed fresh w.anchors c.anchors w.closed_gop c.closed_gop c.waiting
+abbrev pub Reaches : Bool → Bool → Bool → State → State → Type 0
+Reaches ready changed fresh w c = Reach ready changed fresh w.anchors c.anchors w.closed_gop c.closed_gop c.waiting
 
 -- what holds of the next picture: the first behind a group header is I, and so are those of the cut's first frame
 pub record Fits (changed fresh : Bool) (anchors kind : ℕ) : Type 0 where
@@ -47,11 +48,11 @@ and_false false = refl
 
 -- ---- the anchor that a picture needs
 
-pub anchor_kept : (changed fresh : Bool) (w c : State) (info : PictureInfo) → w.waiting ≡ c.waiting → Reaches changed fresh w c → Fits changed fresh c.anchors info.kind → has_anchor w info ≡ true → has_anchor c info ≡ true
-anchor_kept changed fresh w c info waits (as_whole off same closed) fits h = subst (λ (n : ℕ). (not (nat_eq info.kind 2) || (is_some c.waiting || nat_le 1 n)) ≡ true) same (subst (λ (f : Option FirstField). (not (nat_eq info.kind 2) || (is_some f || nat_le 1 w.anchors)) ≡ true) waits h)
-anchor_kept changed fresh w c info waits (none_yet on none own intra) fits h = subst (λ (n : ℕ). (not (nat_eq n 2) || (is_some c.waiting || nat_le 1 c.anchors)) ≡ true) (sym (fits.first_intra on none)) refl
-anchor_kept changed fresh w c info waits (one_yet on one some own) fits h = subst (λ (n : ℕ). (not (nat_eq info.kind 2) || (is_some c.waiting || nat_le 1 n)) ≡ true) (sym one) (rw (or_true (is_some c.waiting)) (or_true (not (nat_eq info.kind 2))))
-anchor_kept changed fresh w c info waits (two_both on two both) fits h = subst (λ (n : ℕ). (not (nat_eq info.kind 2) || (is_some c.waiting || nat_le 1 n)) ≡ true) (sym two) (rw (or_true (is_some c.waiting)) (or_true (not (nat_eq info.kind 2))))
+pub anchor_kept : (ready changed fresh : Bool) (w c : State) (info : PictureInfo) → w.waiting ≡ c.waiting → Reaches ready changed fresh w c → Fits changed fresh c.anchors info.kind → has_anchor w info ≡ true → has_anchor c info ≡ true
+anchor_kept ready changed fresh w c info waits (as_whole off same closed) fits h = subst (λ (n : ℕ). (not (nat_eq info.kind 2) || (is_some c.waiting || nat_le 1 n)) ≡ true) same (subst (λ (f : Option FirstField). (not (nat_eq info.kind 2) || (is_some f || nat_le 1 w.anchors)) ≡ true) waits h)
+anchor_kept ready changed fresh w c info waits (none_yet on none own intra) fits h = subst (λ (n : ℕ). (not (nat_eq n 2) || (is_some c.waiting || nat_le 1 c.anchors)) ≡ true) (sym (fits.first_intra on none)) refl
+anchor_kept ready changed fresh w c info waits (one_yet on one some own) fits h = subst (λ (n : ℕ). (not (nat_eq info.kind 2) || (is_some c.waiting || nat_le 1 n)) ≡ true) (sym one) (rw (or_true (is_some c.waiting)) (or_true (not (nat_eq info.kind 2))))
+anchor_kept ready changed fresh w c info waits (two_both on two both) fits h = subst (λ (n : ℕ). (not (nat_eq info.kind 2) || (is_some c.waiting || nat_le 1 n)) ≡ true) (sym two) (rw (or_true (is_some c.waiting)) (or_true (not (nat_eq info.kind 2))))
 
 -- ---- the picture that begins
 
@@ -185,24 +186,24 @@ begun_early fresh w c info extension false b waits headers one some own fits due
     ∙ early_references w.anchors (is_some c.waiting) false info.kind extension.structure b refl some
     ∙ ap (λ (n : ℕ). references_by n (is_some c.waiting) info.kind extension.structure) (sym one))
 
-pub begun : (changed fresh : Bool) (w c : State) (info : PictureInfo) (extension : PictureExtension) → w.waiting ≡ c.waiting → w.headers_only ≡ c.headers_only → Reaches changed fresh w c → Fits changed fresh c.anchors info.kind → is_second_field_due c.waiting info extension ≡ true
+pub begun : (ready changed fresh : Bool) (w c : State) (info : PictureInfo) (extension : PictureExtension) → w.waiting ≡ c.waiting → w.headers_only ≡ c.headers_only → ready ≡ true → Reaches ready changed fresh w c → Fits changed fresh c.anchors info.kind → is_second_field_due c.waiting info extension ≡ true
     → BegunAs (is_left_kind changed c.anchors info.kind) (opened w info extension) (opened c info extension)
-begun changed fresh w c info extension waits headers (as_whole off same closed) fits due =
+begun ready changed fresh w c info extension waits headers is (as_whole off same closed) fits due =
     subst (λ (b : Bool). BegunAs (b && (is_b info.kind && not (nat_le 2 c.anchors))) (opened w info extension) (opened c info extension)) (sym off)
     (same_begun w c info extension waits headers
-    (ap (λ (n : ℕ). drops_by n w.closed_gop info.kind) same ∙ ap (λ (g : Bool). drops_by c.anchors g info.kind) closed)
+    (ap (λ (n : ℕ). drops_by n w.closed_gop info.kind) same ∙ ap (λ (g : Bool). drops_by c.anchors g info.kind) (closed is))
     (ap (λ (f : Option FirstField). references_by w.anchors (is_some f) info.kind extension.structure) waits ∙ ap (λ (n : ℕ). references_by n (is_some c.waiting) info.kind extension.structure) same))
-begun changed fresh w c info extension waits headers (none_yet on none own intra) fits due =
+begun ready changed fresh w c info extension waits headers is (none_yet on none own intra) fits due =
     let one = fits.first_intra on none in
     let other = not_b info.kind one in
     subst (λ (b : Bool). BegunAs b (opened w info extension) (opened c info extension)) (sym (left_false changed false info.kind (nat_le 2 c.anchors) other refl))
     (same_begun w c info extension waits headers (early_drops w.anchors c.anchors w.closed_gop c.closed_gop false info.kind other refl)
     (ap (λ (n : ℕ). references_by w.anchors (is_some w.waiting) n extension.structure) one ∙ ap (λ (n : ℕ). references_by c.anchors (is_some c.waiting) n extension.structure) (sym one)))
-begun changed fresh w c info extension waits headers (one_yet on one some own) fits due =
+begun ready changed fresh w c info extension waits headers is (one_yet on one some own) fits due =
     let h = begun_early fresh w c info extension _ refl waits headers one some own (subst (λ (b : Bool). Fits b fresh c.anchors info.kind) on fits) due in
     subst (λ (b : Bool). BegunAs (b && (is_b info.kind && not (nat_le 2 c.anchors))) (opened w info extension) (opened c info extension)) (sym on)
     (subst (λ (n : ℕ). BegunAs (is_b info.kind && not (nat_le 2 n)) (opened w info extension) (opened c info extension)) (sym one) h)
-begun changed fresh w c info extension waits headers (two_both on two both) fits due =
+begun ready changed fresh w c info extension waits headers is (two_both on two both) fits due =
     let off : is_left_kind changed c.anchors info.kind ≡ false = ap (λ (n : ℕ). changed && (is_b info.kind && not (nat_le 2 n))) two ∙ ap (λ (b : Bool). changed && b) (and_false (is_b info.kind)) ∙ and_false changed in
     let same = both ∙ sym two in
     subst (λ (b : Bool). BegunAs b (opened w info extension) (opened c info extension)) (sym off)
@@ -238,33 +239,41 @@ no_waiting info extension f e = absurd cc
 own_waiting : (info : PictureInfo) (extension : PictureExtension) (f : FirstField) → waiting_by false info extension ≡ Some f → f.kind ≡ info.kind
 own_waiting info extension f e = let same : record { kind = info.kind; structure = extension.structure } ≡ f = cc in ap (λ (x : FirstField). x.kind) (sym same)
 
-pub reached : (changed fresh ends b : Bool) (w c : State) (info : PictureInfo) (extension : PictureExtension) → is_b info.kind ≡ b → Reaches changed fresh w c → Fits changed fresh c.anchors info.kind → is_second_field_due c.waiting info extension ≡ true
-    → Reach changed false (anchors_by ends b w.anchors) (anchors_by ends b c.anchors) w.closed_gop c.closed_gop (waiting_by ends info extension)
-reached changed fresh ends b w c info extension e (as_whole off same closed) fits due = as_whole off (ap (anchors_by ends b) same) closed
-reached changed fresh ends true w c info extension e (none_yet on none own intra) fits due = let wrong = sym e ∙ not_b info.kind (fits.first_intra on none) in absurd cc
-reached changed fresh true false w c info extension e (none_yet on none own intra) fits due = one_yet on (ap one_anchor_more none) (more_than_none w.anchors) (inl own)
-reached changed fresh false false w c info extension e (none_yet on none own intra) fits due = none_yet on none own (λ f is. own_waiting info extension f is ∙ fits.first_intra on none)
-reached changed fresh true true w c info extension e (one_yet on one some own) fits due =
+pub reached : (ready changed fresh ends b : Bool) (w c : State) (info : PictureInfo) (extension : PictureExtension) → is_b info.kind ≡ b → ready ≡ true → Reaches ready changed fresh w c → Fits changed fresh c.anchors info.kind → is_second_field_due c.waiting info extension ≡ true
+    → Reach ready changed false (anchors_by ends b w.anchors) (anchors_by ends b c.anchors) w.closed_gop c.closed_gop (waiting_by ends info extension)
+reached ready changed fresh ends b w c info extension e is (as_whole off same closed) fits due = as_whole off (ap (anchors_by ends b) same) closed
+reached ready changed fresh ends true w c info extension e is (none_yet on none own intra) fits due = let wrong = sym e ∙ not_b info.kind (fits.first_intra on none) in absurd cc
+reached ready changed fresh true false w c info extension e is (none_yet on none own intra) fits due = one_yet on (ap one_anchor_more none) (more_than_none w.anchors) (inl (own is))
+reached ready changed fresh false false w c info extension e is (none_yet on none own intra) fits due = none_yet on none own (λ f waits. own_waiting info extension f waits ∙ fits.first_intra on none)
+reached ready changed fresh true true w c info extension e is (one_yet on one some own) fits due =
     one_yet on one some (inl (open_for_b fresh c.closed_gop c.waiting changed info extension own (subst (λ (n : ℕ). Fits changed fresh n info.kind) one fits) due e))
-reached changed fresh false true w c info extension e (one_yet on one some own) fits due =
+reached ready changed fresh false true w c info extension e is (one_yet on one some own) fits due =
     one_yet on one some (inl (open_for_b fresh c.closed_gop c.waiting changed info extension own (subst (λ (n : ℕ). Fits changed fresh n info.kind) one fits) due e))
-reached changed fresh true false w c info extension e (one_yet on one some own) fits due = two_both on (ap one_anchor_more one) (more_than_one w.anchors some)
-reached changed fresh false false w c info extension e (one_yet on one some own) fits due = one_yet on one some (inr (inr (record { kind = info.kind; structure = extension.structure }, refl, e)))
-reached changed fresh true true w c info extension e (two_both on two both) fits due = two_both on two both
-reached changed fresh false true w c info extension e (two_both on two both) fits due = two_both on two both
-reached changed fresh true false w c info extension e (two_both on two both) fits due = two_both on (ap one_anchor_more two) (ap one_anchor_more both)
-reached changed fresh false false w c info extension e (two_both on two both) fits due = two_both on two both
+reached ready changed fresh true false w c info extension e is (one_yet on one some own) fits due = two_both on (ap one_anchor_more one) (more_than_one w.anchors some)
+reached ready changed fresh false false w c info extension e is (one_yet on one some own) fits due = one_yet on one some (inr (inr (record { kind = info.kind; structure = extension.structure }, refl, e)))
+reached ready changed fresh true true w c info extension e is (two_both on two both) fits due = two_both on two both
+reached ready changed fresh false true w c info extension e is (two_both on two both) fits due = two_both on two both
+reached ready changed fresh true false w c info extension e is (two_both on two both) fits due = two_both on (ap one_anchor_more two) (ap one_anchor_more both)
+reached ready changed fresh false false w c info extension e is (two_both on two both) fits due = two_both on two both
 
 -- behind a group header that both have
-pub grouped : (changed fresh : Bool) (w c : State) (g : GroupInfo) → Reaches changed fresh w c → (changed ≡ true → c.anchors ≡ 0 → ⊥) → Reach changed true w.anchors c.anchors g.closed_gop g.closed_gop c.waiting
-grouped changed fresh w c g (as_whole off same closed) some = as_whole off same refl
-grouped changed fresh w c g (none_yet on none own intra) some = absurd (some on none)
-grouped changed fresh w c g (one_yet on one more own) some = one_yet on one more (inr (inl refl))
-grouped changed fresh w c g (two_both on two both) some = two_both on two both
+pub grouped : (ready changed fresh : Bool) (w c : State) (g : GroupInfo) → Reaches ready changed fresh w c → (ready ≡ true → changed ≡ true → c.anchors ≡ 0 → ⊥) → Reach ready changed true w.anchors c.anchors g.closed_gop g.closed_gop c.waiting
+grouped ready changed fresh w c g (as_whole off same closed) some = as_whole off same (λ r. refl)
+grouped ready changed fresh w c g (none_yet on none own intra) some = none_yet on none (λ r. absurd (some r on none)) intra
+grouped ready changed fresh w c g (one_yet on one more own) some = one_yet on one more (inr (inl refl))
+grouped ready changed fresh w c g (two_both on two both) some = two_both on two both
 
 -- a picture of another type than I has a last anchor that both have
-pub last_known : (changed fresh : Bool) (w c : State) (kind : ℕ) → Reaches changed fresh w c → Fits changed fresh c.anchors kind → ((not changed || nat_le 1 c.anchors) ≡ true) ⊎ (kind ≡ 1)
-last_known changed fresh w c kind (as_whole off same closed) fits = inl (rw off refl)
-last_known changed fresh w c kind (none_yet on none own intra) fits = inr (fits.first_intra on none)
-last_known changed fresh w c kind (one_yet on one some own) fits = inl (rw (one, on) refl)
-last_known changed fresh w c kind (two_both on two both) fits = inl (rw (two, on) refl)
+pub last_known : (ready changed fresh : Bool) (w c : State) (kind : ℕ) → Reaches ready changed fresh w c → Fits changed fresh c.anchors kind → ((not changed || nat_le 1 c.anchors) ≡ true) ⊎ (kind ≡ 1)
+last_known ready changed fresh w c kind (as_whole off same closed) fits = inl (rw off refl)
+last_known ready changed fresh w c kind (none_yet on none own intra) fits = inr (fits.first_intra on none)
+last_known ready changed fresh w c kind (one_yet on one some own) fits = inl (rw (one, on) refl)
+last_known ready changed fresh w c kind (two_both on two both) fits = inl (rw (two, on) refl)
+
+-- the chosen group's header, which is changed in the cut or isn't
+pub opened_group : (changed fresh : Bool) (w c : State) (g h : GroupInfo) → Reaches false changed fresh w c → (changed ≡ false → g.closed_gop ≡ h.closed_gop) → (changed ≡ true → h.closed_gop ≡ false)
+    → Reach true changed true w.anchors c.anchors g.closed_gop h.closed_gop c.waiting
+opened_group changed fresh w c g h (as_whole off same closed) kept is_open = as_whole off same (λ r. kept off)
+opened_group changed fresh w c g h (none_yet on none own intra) kept is_open = none_yet on none (λ r. is_open on) intra
+opened_group changed fresh w c g h (one_yet on one some own) kept is_open = one_yet on one some (inl (is_open on))
+opened_group changed fresh w c g h (two_both on two both) kept is_open = two_both on two both
