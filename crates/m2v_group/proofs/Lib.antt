@@ -5,3 +5,4 @@ pub mod Alike
 pub mod Counted
 pub mod Held
 pub mod Steps
+pub mod Runs

@@ -62,7 +62,7 @@ anchor_there ready changed fresh k w c sw sc ending b f known = tt
 anchor_there ready changed fresh k w c sw sc over b f known = tt
 
 -- what is told of a part in both, before what is told behind it
-abbrev ToldBeside : Bool → ℕ → ℕ → Events → Events → Type 0
+abbrev pub ToldBeside : Bool → ℕ → ℕ → Events → Events → Type 0
 ToldBeside changed k next es fs = (ps qs : Pictures) → AreBeside changed next ps qs → AreBeside changed k (pictures_in es ++ ps) (pictures_in fs ++ qs)
 
 -- both behind a part
