@@ -6,3 +6,4 @@ pub mod Counted
 pub mod Held
 pub mod Steps
 pub mod Runs
+pub mod Heads
