@@ -1,8 +1,8 @@
 -- What stands in headers at known places, and group headers whose last two bits are others.
 use Rattle.std.proofs.Common.{◌≡◌, ℕ, zero, suc, ◌+◌, ◌*◌, ◌/◌, ◌%◌, ◌<◌, ◌≤◌, ◌^◌, Bool, true, false, leb, List, [], ◌∷◌, ◌++◌, length, take, drop, Some, refl, sym, ap, subst, ◌∙◌, append_assoc, arith}
-use Rattle.std.specs.Prelude.{nat_eq, slice_index}
+use Rattle.std.specs.Prelude.{nat_eq, slice_index, ◌==◌}
 use Rattle.std.proofs.lemmas.Bool.{leb-true, leb-false, le-leb, lt-leb}
-use Rattle.std.proofs.lemmas.List.{length-append, take_at}
+use Rattle.std.proofs.lemmas.List.{length-append, take_at, drop_at}
 use Rattle.std.proofs.Math.Seq.{drop-append-add}
 use Rattle.std.proofs.Math.Nat.{mod-eq_of_lt}
 use Rattle.m2v_bits.specs.Bits.{bits_of, bits, all_zero}
@@ -254,3 +254,73 @@ group_bits g t end h =
       long = omega (arith, a.long, b.long, c.long, d.long, e.long, f.long, length-append a.text (b.text ++ (c.text ++ (d.text ++ (e.text ++ f.text)))), length-append b.text (c.text ++ (d.text ++ (e.text ++ f.text))), length-append c.text (d.text ++ (e.text ++ f.text)), length-append d.text (e.text ++ f.text), length-append e.text f.text);
       again = subst (λ (m : List Bool). (whole_header group_in).Stands (record g { closed_gop = false; broken_link = true }) m []) (gathered (false ∷ true ∷ rest)) again;
     }
+
+-- ---- the changed byte
+
+byte_bits : (b : ℕ) → bits_of 8 b ≡ (b / 128 % 2 == 1) ∷ (b / 64 % 2 == 1) ∷ (b / 32 % 2 == 1) ∷ bits_of 5 b
+unfolding bits_of
+byte_bits b = refl
+
+broken_bits : (b : ℕ) → bits_of 8 (with_broken_link b) ≡ (b / 128 % 2 == 1) ∷ false ∷ true ∷ bits_of 5 b
+broken_bits b =
+    let n = with_broken_link b in
+    let high : n / 128 ≡ b / 128 = omega arith in
+    let closed : n / 64 % 2 ≡ 0 = omega arith in
+    let broken : n / 32 % 2 ≡ 1 = omega arith in
+    let low : n % 32 ≡ b % 32 = omega arith in
+    let five : bits_of 5 n ≡ bits_of 5 b = sym (bits_of-mod 5 n) ∙ ap (bits_of 5) low ∙ bits_of-mod 5 b in
+    byte_bits n
+    ∙ ap (λ (x : ℕ). (x % 2 == 1) ∷ (n / 64 % 2 == 1) ∷ (n / 32 % 2 == 1) ∷ bits_of 5 n) high
+    ∙ ap (λ (x : ℕ). (b / 128 % 2 == 1) ∷ (x == 1) ∷ (n / 32 % 2 == 1) ∷ bits_of 5 n) closed
+    ∙ ap (λ (x : ℕ). (b / 128 % 2 == 1) ∷ false ∷ (x == 1) ∷ bits_of 5 n) broken
+    ∙ ap (λ (l : List Bool). (b / 128 % 2 == 1) ∷ false ∷ true ∷ l) five
+
+-- behind a front of the same length
+same_front : (a b : List Bool) (c d e f : Bool) (s t : List Bool) → length a ≡ 25 → length b ≡ 25 → a ++ c ∷ d ∷ s ≡ b ++ e ∷ f ∷ t → (a ≡ b) × (s ≡ t)
+same_front a b c d e f s t la lb h =
+    let front : a ≡ b = sym (take_at a (c ∷ d ∷ s) 25 la) ∙ ap (take 25) h ∙ take_at b (e ∷ f ∷ t) 25 lb in
+    let tail : c ∷ d ∷ s ≡ e ∷ f ∷ t = sym (drop_at a (c ∷ d ∷ s) 25 la) ∙ ap (drop 25) h ∙ drop_at b (e ∷ f ∷ t) 25 lb in
+    (front, ap (drop 2) tail)
+
+abbrev three_bytes : ℕ → ℕ → ℕ → List Bool
+three_bytes a b c = bits_of 8 a ++ (bits_of 8 b ++ bits_of 8 c)
+
+three_long : (a b c : ℕ) → length (three_bytes a b c) ≡ 24
+three_long a b c = omega (arith, length-append (bits_of 8 a) (bits_of 8 b ++ bits_of 8 c), length-append (bits_of 8 b) (bits_of 8 c), length-bits_of 8 a, length-bits_of 8 b, length-bits_of 8 c)
+
+four_bytes : (a b c d : ℕ) (bs : List ℕ) → bits (a ∷ b ∷ c ∷ d ∷ bs) ≡ three_bytes a b c ++ (bits_of 8 d ++ bits bs)
+four_bytes a b c d bs = sym (append_assoc (bits_of 8 a) (bits_of 8 b ++ bits_of 8 c) (bits_of 8 d ++ bits bs) ∙ ap (λ (l : List Bool). bits_of 8 a ++ l) (append_assoc (bits_of 8 b) (bits_of 8 c) (bits_of 8 d ++ bits bs)))
+
+-- the bits of a changed header
+changed_bits : (a b c d : ℕ) (bs : List ℕ) (front : List Bool) (x y : Bool) (rest : List Bool) → bits (a ∷ b ∷ c ∷ d ∷ bs) ≡ front ++ x ∷ y ∷ rest → length front ≡ 25 → bits (a ∷ b ∷ c ∷ with_broken_link d ∷ bs) ≡ front ++ false ∷ true ∷ rest
+changed_bits a b c d bs front x y rest e long =
+    let v = three_bytes a b c in
+    let top = (d / 128 % 2 == 1) in
+    let z = bits_of 5 d ++ bits bs in
+    let own = v ++ top ∷ [] in
+    let ownlong : length own ≡ 25 = omega (arith, length-append v (top ∷ []), three_long a b c) in
+    let old : own ++ (d / 64 % 2 == 1) ∷ (d / 32 % 2 == 1) ∷ z ≡ front ++ x ∷ y ∷ rest = append_assoc v (top ∷ []) ((d / 64 % 2 == 1) ∷ (d / 32 % 2 == 1) ∷ z) ∙ ap (λ (l : List Bool). v ++ (l ++ bits bs)) (sym (byte_bits d)) ∙ sym (four_bytes a b c d bs) ∙ e in
+    let same = same_front own front (d / 64 % 2 == 1) (d / 32 % 2 == 1) x y z rest ownlong long old in
+    four_bytes a b c (with_broken_link d) bs
+    ∙ ap (λ (l : List Bool). v ++ (l ++ bits bs)) (broken_bits d)
+    ∙ sym (append_assoc v (top ∷ []) (false ∷ true ∷ z))
+    ∙ ap (λ (l : List Bool). l ++ false ∷ true ∷ z) same.0
+    ∙ ap (λ (l : List Bool). front ++ false ∷ true ∷ l) same.1
+
+-- a header with so many bytes, as it is changed
+header_changed : (u : List ℕ) (front : List Bool) (x y : Bool) (rest : List Bool) → 8 ≤ length u → body u ≡ front ++ x ∷ y ∷ rest → length front ≡ 25 → body (broken_header u) ≡ front ++ false ∷ true ∷ rest
+header_changed (u0 ∷ u1 ∷ u2 ∷ u3 ∷ a ∷ b ∷ c ∷ d ∷ bs) front x y rest le e long = changed_bits a b c d bs front x y rest e long
+header_changed [] front x y rest le e long = absurd (omega arith)
+header_changed (a ∷ []) front x y rest le e long = absurd (omega arith)
+header_changed (a ∷ b ∷ []) front x y rest le e long = absurd (omega arith)
+header_changed (a ∷ b ∷ c ∷ []) front x y rest le e long = absurd (omega arith)
+header_changed (a ∷ b ∷ c ∷ d ∷ []) front x y rest le e long = absurd (omega arith)
+header_changed (a ∷ b ∷ c ∷ d ∷ f ∷ []) front x y rest le e long = absurd (omega arith)
+header_changed (a ∷ b ∷ c ∷ d ∷ f ∷ g ∷ []) front x y rest le e long = absurd (omega arith)
+header_changed (a ∷ b ∷ c ∷ d ∷ f ∷ g ∷ h ∷ []) front x y rest le e long = absurd (omega arith)
+
+-- a group header that is changed says that its group isn't closed, and all else that it said
+pub broken_stands : (u : List ℕ) (g : GroupInfo) (end : List Bool) → 8 ≤ length u → (whole_header group_in).Stands g (body u) end → (whole_header group_in).Stands (record g { closed_gop = false; broken_link = true }) (body (broken_header u)) []
+broken_stands u g end le h =
+    let b = group_bits g (body u) end h in
+    subst (λ (t : List Bool). (whole_header group_in).Stands (record g { closed_gop = false; broken_link = true }) t []) (sym (header_changed u b.front b.closed b.broken b.rest le b.is b.long)) b.again
