@@ -7,3 +7,6 @@ pub mod Held
 pub mod Steps
 pub mod Runs
 pub mod Heads
+pub mod Parts
+pub mod Lists
+pub mod Leads

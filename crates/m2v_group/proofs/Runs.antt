@@ -100,7 +100,7 @@ run_then (step e r) s = step e (run_then r s)
 
 -- ---- no unit
 
-none_ends : (st : State) (x : Bool × Part) (mid : Units) → unit_read st [] ≡ good (x, mid) → x.0 ≡ false
+pub none_ends : (st : State) (x : Bool × Part) (mid : Units) → unit_read st [] ≡ good (x, mid) → x.0 ≡ false
 unfolding unit_read text_end seq done
 none_ends st x mid e = ap (λ (y : Bool × Part). y.0) ((text_end_lawful st 0).found x [] mid e).3.3.0
 
