@@ -10,3 +10,4 @@ pub mod Heads
 pub mod Parts
 pub mod Lists
 pub mod Leads
+pub mod Told
