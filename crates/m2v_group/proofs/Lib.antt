@@ -11,3 +11,4 @@ pub mod Parts
 pub mod Lists
 pub mod Leads
 pub mod Told
+pub mod Tens
