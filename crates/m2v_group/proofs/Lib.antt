@@ -12,3 +12,4 @@ pub mod Lists
 pub mod Leads
 pub mod Told
 pub mod Tens
+pub mod Texts
