@@ -13,3 +13,5 @@ pub mod Leads
 pub mod Told
 pub mod Tens
 pub mod Texts
+pub mod Start
+pub mod Core
