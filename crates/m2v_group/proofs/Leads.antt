@@ -197,7 +197,7 @@ other_pictures (skipped_unit u) ps o h = h
 other_pictures ending ps o h = absurd o
 other_pictures over ps o h = absurd o
 
-pictures_step : (u : List ℕ) (us mid : Units) (p : Part) (ps : List Part) → PartOf u us p mid → has_picture (u ∷ us) ≡ false → (has_picture mid ≡ false → NoPictures ps) → NoPictures (p ∷ ps)
+pub pictures_step : (u : List ℕ) (us mid : Units) (p : Part) (ps : List Part) → PartOf u us p mid → has_picture (u ∷ us) ≡ false → (has_picture mid ≡ false → NoPictures ps) → NoPictures (p ∷ ps)
 unfolding has_picture
 pictures_step u us mid p ps (of_sequence v on e value) h ih =
     let behind : has_picture (v ∷ mid) ≡ false = ap has_picture (sym e) ∙ (or_parts (is_picture u) (has_picture us) h).1 in

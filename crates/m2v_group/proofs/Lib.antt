@@ -15,3 +15,4 @@ pub mod Tens
 pub mod Texts
 pub mod Start
 pub mod Core
+pub mod Between

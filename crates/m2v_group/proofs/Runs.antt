@@ -136,7 +136,7 @@ abbrev pub KnownThere : State → Units → Type 0
 KnownThere st [] = Unit {0}
 KnownThere st (u ∷ us) = KnownBy st u
 
-known_there : (st : State) (us : Units) → IsKnown st → KnownThere st us
+pub known_there : (st : State) (us : Units) → IsKnown st → KnownThere st us
 known_there st [] k = tt
 known_there st (u ∷ us) k = rw k refl
 
