@@ -76,18 +76,18 @@ final_waits st (skipped_unit u) f = absurd f
 final_waits st ending f = refl
 final_waits st over f = refl
 
-no_picture_first : (u : List ℕ) (us : Units) → (has_picture (u ∷ us) ≡ false) ⊎ (is_end (value_of u) ≡ true) → is_picture u ≡ false
-unfolding has_picture is_end
-no_picture_first u us (inl n) = (or_parts (is_picture u) (has_picture us) n).0
-no_picture_first u us (inr on) = ap (λ (n : ℕ). nat_eq n 0x00) (eqb-true (value_of u) 0xB7 on)
+-- the first unit, where there is one, is no picture
+abbrev pub OtherFirst : Units → Type 0
+OtherFirst [] = Unit {0}
+OtherFirst (u ∷ us) = is_picture u ≡ false
 
 -- no second field is due where a piece begins that isn't a picture, or at the end
-pub paired_end : {st z : State} {us rest : Units} {ps : List Part} → Ends st us ps z rest → BeginsPiece us → (has_picture us ≡ false) ⊎ Behind us → IsKnown st → none_waits z.waiting ≡ true → none_waits st.waiting ≡ true
+pub paired_end : {st z : State} {us rest : Units} {ps : List Part} → Ends st us ps z rest → BeginsPiece us → OtherFirst us → IsKnown st → none_waits z.waiting ≡ true → none_waits st.waiting ≡ true
 unfolding has_picture
 paired_end {st} {us = []} {rest = rest} (finish {p = p} e) b n k w = ap none_waits (sym (final_waits st p (final_part st [] rest p e))) ∙ w
 paired_end {st} {us = []} (going {mid = mid} {p = p} e later) b n k w = absurd (nothing_read st p mid e)
-paired_end {st} {us = u ∷ us} {rest = rest} (finish {p = p} e) b n k w = paired_there st u us rest (false, p) b (no_picture_first u us n) k e
-paired_end {st} {us = u ∷ us} (going {mid = mid} {p = p} e later) b n k w = paired_there st u us mid (true, p) b (no_picture_first u us n) k e
+paired_end {st} {us = u ∷ us} {rest = rest} (finish {p = p} e) b n k w = paired_there st u us rest (false, p) b n k e
+paired_end {st} {us = u ∷ us} (going {mid = mid} {p = p} e later) b n k w = paired_there st u us mid (true, p) b n k e
 
 -- ---- header units up to the next group
 

@@ -16,3 +16,5 @@ pub mod Texts
 pub mod Start
 pub mod Core
 pub mod Between
+pub mod Law
+pub mod Decodes

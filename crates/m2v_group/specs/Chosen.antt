@@ -1,6 +1,6 @@
 -- What a cut shows: the pictures of the groups that were chosen, each with the samples that it has in the whole stream,
 -- without those B pictures that refer to a frame that was cut off.
-use Rattle.std.specs.Prelude.{◌≡◌, ℕ, zero, suc, Bool, true, false, ◌&&◌, not, nat_le, if◌then◌else◌, List, [], ◌∷◌, ◌++◌, Option, Some, None}
+use Rattle.std.specs.Prelude.{◌≡◌, ◌≤◌, ℕ, zero, suc, Bool, true, false, ◌&&◌, not, nat_le, if◌then◌else◌, List, [], ◌∷◌, ◌++◌, Option, Some, None}
 use Rattle.std.specs.List.{flat_map}
 use Rattle.m2v_model.specs.declared.state.Sequence.{Sequence}
 use Rattle.m2v_model.specs.Units.{joined}
@@ -79,10 +79,10 @@ BeginIntra es = flat_map intra_rule (all_numbered es) ≡ []
 abbrev pub EndClear : List ℕ → Type 0
 EndClear bytes = (front : List ℕ) → bytes ≡ front ++ 0x00 ∷ 0x00 ∷ 0x01 ∷ [] → ⊥
 
--- of a stream without a fault, whose groups begin with I pictures, a group that stands alone is cut out as a stream without
--- a fault that shows the frames that it has in the whole
+-- of a stream without a fault, whose groups begin with I pictures, groups from one on that stands alone are cut out as a
+-- stream without a fault, which shows the frames that they have in the whole
 abbrev pub CutDecodes : List ℕ → ℕ → ℕ → Type 0
 CutDecodes text from count =
-    (tree : Sofar) → Stream text tree → BeginIntra (events tree) → is_standalone text from ≡ true
+    (tree : Sofar) → Stream text tree → 1 ≤ count → BeginIntra (events tree) → is_standalone text from ≡ true
     → EndClear (joined (cut_units from count (stream_units text)))
     → Decodes (cut_text text from count) (cut_frames text from count (events tree))
