@@ -90,7 +90,7 @@ first_lead u us h = elim (either _ _ h) [
   | inr y ↦ elim (either _ _ y) [ inl x ↦ let f = fields_lead 1 2 u us x in (f.0, inr f.1) | inr x ↦ let f = fields_lead 2 1 u us x in (f.0, inr f.1) ]
 ]
 
-none_begins : begins_intra [] ≡ true → ⊥
+pub none_begins : begins_intra [] ≡ true → ⊥
 unfolding begins_intra
 none_begins e = absurd cc
 
