@@ -1,10 +1,8 @@
 -- A unit is read behind a cut as in the whole stream; but slices of a picture that is left out stay unread.
-use Rattle.std.proofs.Common.{◌≡◌, ℕ, Bool, true, false, List, [], ◌∷◌, Option, Some, None, ◌⊎◌, inl, inr, refl, sym, ap, subst, ◌∙◌}
-use Rattle.std.specs.Prelude.{nat_eq, nat_lt, nat_le, is_some, not, ◌&&◌, ◌||◌, ◌-◌, if◌then◌else◌}
-use Rattle.std.proofs.lemmas.Bool.{cases_Bool, both_ways, eqb-true}
-use Rattle.m2v_bits.specs.Syntax.{done, seq, here, rule, choose}
-use Rattle.m2v_head.specs.declared.group.GroupInfo.{GroupInfo}
-use Rattle.m2v_head.specs.declared.picture.PictureInfo.{PictureInfo}
+use Rattle.std.proofs.Common.{◌≡◌, ℕ, Bool, true, false, List, Option, Some, None, ◌⊎◌, inl, inr, refl, sym, ap, subst, ◌∙◌}
+use Rattle.std.specs.Prelude.{nat_eq, nat_lt, nat_le, is_some, not, ◌&&◌, ◌-◌}
+use Rattle.std.proofs.lemmas.Bool.{eqb-true}
+use Rattle.m2v_bits.specs.Syntax.{done, seq, rule, choose}
 use Rattle.m2v_head.specs.declared.picture.PictureExtension.{PictureExtension}
 use Rattle.m2v_model.specs.declared.setup.SliceSetup.{SliceSetup}
 use Rattle.m2v_model.specs.declared.state.Sequence.{Sequence}
@@ -13,12 +11,12 @@ use Rattle.m2v_model.specs.declared.state.FirstField.{FirstField}
 use Rattle.m2v_model.specs.declared.state.State.{State}
 use Rattle.m2v_model.specs.declared.fault.FaultKind.{FaultKind}
 use Rattle.m2v_model.specs.declared.fault.FaultKind.TheVariants.{SliceOrder}
-use Rattle.m2v_model.specs.Units.{Units, unit_at, unit_bits, body, inside}
+use Rattle.m2v_model.specs.Units.{Units, body, inside}
 use Rattle.m2v_model.specs.Looking.{refuse}
 use Rattle.m2v_model.specs.Headers.{whole_header, picture_extension_in}
 use Rattle.m2v_model.specs.Slices.{Slice, slice_at, slice_start, large_in}
 use Rattle.m2v_model.specs.States.{is_b, picture_rows, is_complete, takes_matrices, is_same_sequence, is_progressive, none_waits, is_second_field_due, has_anchor, opened, slice_setup, first_or, loaded_or, with_slice, with_unread_slice}
-use Rattle.m2v_model.specs.Streams.{Part, Among, sequence, group, picture, matrices, slice, unread_slice, skipped_unit, ending, over, after, value_of, close, no_second_field_due, extension_behind, sequence_unit, group_unit, picture_unit, matrix_unit, extension_unit, read_slice, slice_in, slice_unit, end_unit, onward, final, later_unit, known_unit}
+use Rattle.m2v_model.specs.Streams.{Part, Among, sequence, group, picture, matrices, slice, unread_slice, skipped_unit, ending, over, after, close, no_second_field_due, extension_behind, sequence_unit, group_unit, picture_unit, matrix_unit, extension_unit, read_slice, slice_in, slice_unit, end_unit, onward, final, later_unit, known_unit}
 use Rattle.m2v_group.proofs.Intra.{AreStill, slice_still}
 
 -- ---- states

@@ -1,7 +1,7 @@
 -- The pictures of the chosen groups among what is told of the whole stream.
-use Rattle.std.proofs.Common.{◌≡◌, ℕ, zero, suc, ◌+◌, ◌≤◌, Bool, true, false, List, [], ◌∷◌, ◌++◌, length, Option, Some, None, ◌⊎◌, inl, inr, refl, sym, ap, subst, ◌∙◌, append_assoc, append-nil, arith}
-use Rattle.std.specs.Prelude.{nat_eq, is_some, not, ◌&&◌, ◌||◌}
-use Rattle.std.proofs.lemmas.Bool.{cases_Bool, both_ways, eqb-true, cond-true}
+use Rattle.std.proofs.Common.{◌≡◌, ℕ, ◌+◌, ◌≤◌, Bool, true, false, List, [], ◌∷◌, ◌++◌, Option, Some, None, inl, refl, sym, ap, subst, ◌∙◌, append_assoc, append-nil, arith}
+use Rattle.std.specs.Prelude.{nat_eq, is_some}
+use Rattle.std.proofs.lemmas.Bool.{both_ways, eqb-true, cond-true}
 use Rattle.m2v_bits.specs.Syntax.{seq, done, choose}
 use Rattle.m2v_bits.proofs.SyntaxLaws.{good}
 use Rattle.m2v_head.specs.declared.group.GroupInfo.{GroupInfo}
@@ -9,24 +9,24 @@ use Rattle.m2v_model.specs.declared.state.Open.{Open}
 use Rattle.m2v_model.specs.declared.state.State.{State}
 use Rattle.m2v_model.specs.Units.{Units, unit_bits}
 use Rattle.m2v_model.specs.States.{none_waits}
-use Rattle.m2v_model.specs.Streams.{Part, Among, sequence, group, picture, matrices, slice, unread_slice, skipped_unit, ending, over, after, value_of, end_unit, group_unit, onward, final, later_unit, known_unit}
-use Rattle.m2v_model.specs.Pictures.{Store, Pictures, Events, sequence_header, group_header, pictures_in, closed, told_by, store_after, events_from, store_from}
+use Rattle.m2v_model.specs.Streams.{Part, Among, sequence, group, picture, matrices, slice, unread_slice, skipped_unit, ending, over, after, value_of, onward, final, later_unit, known_unit}
+use Rattle.m2v_model.specs.Pictures.{Store, Pictures, Events, sequence_header, group_header, pictures_in, closed, store_after, events_from, store_from}
 use Rattle.m2v_model.specs.Pieces.{is_end, begins_piece}
 use Rattle.m2v_model.specs.ByPieces.{unit_read}
 use Rattle.m2v_model.proofs.EventLaws.{pictures_in-append}
 use Rattle.m2v_model.proofs.StreamLaws.{end_unit_lawful, group_unit_lawful, onward_lawful, final_lawful}
 use Rattle.m2v_model.proofs.ShiftLaws.{BeginsPiece, NoEnds}
-use Rattle.m2v_model.proofs.SplitLaws.{IsKnown, known_after}
+use Rattle.m2v_model.proofs.SplitLaws.{IsKnown}
 use Rattle.m2v_group.specs.Groups.{is_picture, is_sequence, is_group, has_picture, group_headers}
 use Rattle.m2v_group.specs.Chosen.{before_header}
-use Rattle.m2v_group.proofs.Runs.{Run, stop, step, Ends, finish, going, none_ends, IsSplit, split, KnownThere, known_there}
-use Rattle.m2v_group.proofs.Parts.{IsOther, PartOf, of_sequence, of_group, of_picture, of_other, part_of}
-use Rattle.m2v_group.proofs.Lists.{Behind, behind_begins, or_parts}
-use Rattle.m2v_group.proofs.Leads.{NoPictures, no_pictures, groups_of, groups_counted}
+use Rattle.m2v_group.proofs.Runs.{Run, stop, step, Ends, finish, going, none_ends, split, known_there}
+use Rattle.m2v_group.proofs.Parts.{PartOf, of_sequence, of_group, of_picture, of_other, part_of}
+use Rattle.m2v_group.proofs.Lists.{Behind}
+use Rattle.m2v_group.proofs.Leads.{NoPictures, no_pictures, groups_counted}
 use Rattle.m2v_group.proofs.Told.{events_then, headers_in, headers_then, headers_told, before_there, before_all}
 use Rattle.m2v_group.proofs.Tens.{IsFinal, final_part, final_told, quiet, run_known}
 use Rattle.m2v_group.proofs.Start.{paired_there}
-use Rattle.m2v_group.proofs.Core.{FirstRead, first_read}
+use Rattle.m2v_group.proofs.Core.{first_read}
 
 -- ---- the end code, and group headers
 

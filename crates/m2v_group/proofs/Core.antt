@@ -1,7 +1,7 @@
 -- A cut is read without a fault, and its pictures are those of the whole, but for those that are left out.
-use Rattle.std.proofs.Common.{◌≡◌, ℕ, zero, suc, ◌+◌, ◌≤◌, Bool, true, false, List, [], ◌∷◌, ◌++◌, length, Option, Some, None, ◌⊎◌, inl, inr, refl, sym, ap, subst, ◌∙◌, append_assoc, append-nil, arith}
-use Rattle.std.specs.Prelude.{nat_eq, is_some, not, ◌&&◌, ◌||◌}
-use Rattle.std.proofs.lemmas.Bool.{cases_Bool, both_ways, eqb-true}
+use Rattle.std.proofs.Common.{◌≡◌, ℕ, ◌≤◌, Bool, true, false, List, [], ◌∷◌, ◌++◌, length, Option, Some, None, refl, sym, ap, subst, ◌∙◌, append_assoc}
+use Rattle.std.specs.Prelude.{is_some}
+use Rattle.std.proofs.lemmas.Bool.{eqb-true}
 use Rattle.m2v_bits.specs.Syntax.{Rounds, seq, done, rule, repeated}
 use Rattle.m2v_bits.proofs.SyntaxLaws.{good}
 use Rattle.m2v_head.specs.declared.group.GroupInfo.{GroupInfo}
@@ -11,24 +11,22 @@ use Rattle.m2v_model.specs.declared.state.FirstField.{FirstField}
 use Rattle.m2v_model.specs.declared.state.State.{State}
 use Rattle.m2v_model.specs.Units.{Units}
 use Rattle.m2v_model.specs.States.{at_first, is_complete, is_same_sequence, none_waits}
-use Rattle.m2v_model.specs.Streams.{Part, Sofar, sequence, group, picture, ending, after, value_of, unit_round, units_from, stream_from, stream_at}
-use Rattle.m2v_model.specs.Pictures.{Store, Pictures, Events, sequence_header, group_header, no_frames, pictures_in, closed, picture_ended, told_by, store_after, events_from, store_from}
-use Rattle.m2v_model.specs.Pieces.{is_end, begins_piece}
+use Rattle.m2v_model.specs.Streams.{Part, Sofar, sequence, group, ending, after, value_of, unit_round, units_from, stream_from, stream_at}
+use Rattle.m2v_model.specs.Pictures.{Store, Pictures, Events, group_header, no_frames, pictures_in, closed, picture_ended, store_after, events_from, store_from}
+use Rattle.m2v_model.specs.Pieces.{begins_piece}
 use Rattle.m2v_model.specs.ByPieces.{unit_read}
 use Rattle.m2v_model.proofs.EventLaws.{pictures_in-append}
-use Rattle.m2v_model.proofs.ShiftLaws.{BeginsPiece}
 use Rattle.m2v_model.proofs.SplitLaws.{IsKnown, known_after}
-use Rattle.m2v_group.specs.Groups.{is_picture, is_sequence, is_group, has_picture, broken_header, end_code}
+use Rattle.m2v_group.specs.Groups.{is_sequence, is_group, has_picture, end_code}
 use Rattle.m2v_group.proofs.Shows.{AreBeside}
-use Rattle.m2v_group.proofs.Alike.{AreAlike, closes}
+use Rattle.m2v_group.proofs.Alike.{closes}
 use Rattle.m2v_group.proofs.Held.{closed_beside}
 use Rattle.m2v_group.proofs.Steps.{AreBoth, group_both}
-use Rattle.m2v_group.proofs.Runs.{Run, stop, step, Ends, AllFit, RunsBoth, runs_both, run_before, run_then, rounds_by, last_round, none_ends}
-use Rattle.m2v_group.proofs.Parts.{PartOf, of_sequence, of_group, of_picture, of_other, part_of}
-use Rattle.m2v_group.proofs.Leads.{LeadUnits, Leads, leads_of, NoPictures, no_pictures}
-use Rattle.m2v_group.proofs.Told.{events_then, store_then}
-use Rattle.m2v_group.proofs.Tens.{TenHolds, all_fit, none_fit, IsQuiet, quiet, first_kept, headers_kept, run_known}
-use Rattle.m2v_group.proofs.Start.{IsSequence, sequence_start, start_both, header_by, info_by, header_value, IsGroup, group_start, end_read}
+use Rattle.m2v_group.proofs.Runs.{Run, stop, step, AllFit, runs_both, run_before, run_then, rounds_by, last_round}
+use Rattle.m2v_group.proofs.Leads.{LeadUnits, Leads, leads_of, no_pictures}
+use Rattle.m2v_group.proofs.Told.{events_then}
+use Rattle.m2v_group.proofs.Tens.{TenHolds, all_fit, none_fit, quiet, first_kept, run_known}
+use Rattle.m2v_group.proofs.Start.{sequence_start, start_both, header_by, info_by, header_value, group_start, end_read}
 
 -- ---- first units
 

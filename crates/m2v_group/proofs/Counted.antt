@@ -1,6 +1,6 @@
 -- The anchors of the whole stream and those of a cut, and which pictures the cut leaves out.
-use Rattle.std.proofs.Common.{◌≡◌, ℕ, zero, suc, ◌+◌, ◌≤◌, Bool, true, false, List, [], ◌∷◌, Option, Some, None, ◌⊎◌, inl, inr, refl, sym, ap, subst, ◌∙◌, arith}
-use Rattle.std.specs.Prelude.{nat_eq, nat_lt, nat_le, is_some, not, ◌&&◌, ◌||◌, if◌then◌else◌}
+use Rattle.std.proofs.Common.{◌≡◌, ℕ, zero, suc, ◌≤◌, Bool, true, false, List, [], ◌∷◌, Option, Some, None, ◌⊎◌, inl, inr, refl, sym, ap, subst, ◌∙◌, arith}
+use Rattle.std.specs.Prelude.{nat_eq, nat_le, is_some, not, ◌&&◌, ◌||◌, if◌then◌else◌}
 use Rattle.std.proofs.lemmas.Bool.{cases_Bool, both_ways, eqb-true, le-ltb}
 use Rattle.m2v_head.specs.declared.group.GroupInfo.{GroupInfo}
 use Rattle.m2v_head.specs.declared.picture.PictureInfo.{PictureInfo}
@@ -8,8 +8,8 @@ use Rattle.m2v_head.specs.declared.picture.PictureExtension.{PictureExtension}
 use Rattle.m2v_model.specs.declared.state.Open.{Open}
 use Rattle.m2v_model.specs.declared.state.FirstField.{FirstField}
 use Rattle.m2v_model.specs.declared.state.State.{State}
-use Rattle.m2v_model.specs.States.{is_b, is_frame, is_frame_end, has_anchor, drops, references_for, opened, one_anchor_more, may_follow, is_second_field_due}
-use Rattle.m2v_group.proofs.Alike.{IsLeftOut, AreAlike}
+use Rattle.m2v_model.specs.States.{is_b, is_frame, has_anchor, drops, references_for, opened, one_anchor_more, may_follow, is_second_field_due}
+use Rattle.m2v_group.proofs.Alike.{IsLeftOut}
 
 -- a picture of a type is left out, behind so many anchors of the cut
 abbrev pub is_left_kind : Bool → ℕ → ℕ → Bool

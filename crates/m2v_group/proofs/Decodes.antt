@@ -1,34 +1,33 @@
 -- A cut of a stream decodes to the frames of its groups.
-use Rattle.std.proofs.Common.{◌≡◌, ℕ, zero, suc, ◌+◌, ◌≤◌, Bool, true, false, List, [], ◌∷◌, ◌++◌, length, Option, Some, None, ◌⊎◌, inl, inr, refl, sym, ap, subst, ◌∙◌, append_assoc, append-nil, arith}
-use Rattle.std.specs.Prelude.{nat_eq, nat_le, is_some, not, ◌&&◌, ◌||◌, if◌then◌else◌}
+use Rattle.std.proofs.Common.{◌≡◌, ℕ, zero, suc, ◌+◌, ◌≤◌, Bool, true, false, List, [], ◌∷◌, ◌++◌, length, Option, Some, None, refl, sym, ap, subst, ◌∙◌, append_assoc, append-nil, arith}
+use Rattle.std.specs.Prelude.{nat_eq, not, ◌&&◌, ◌||◌, if◌then◌else◌}
 use Rattle.std.specs.List.{flat_map}
-use Rattle.std.proofs.lemmas.Bool.{cases_Bool, both_ways, eqb-true, leb-true}
-use Rattle.m2v_bits.specs.Syntax.{seq, done, rule, repeated, Rounds}
+use Rattle.std.proofs.lemmas.Bool.{eqb-true, leb-true}
+use Rattle.m2v_bits.specs.Syntax.{seq, done, rule, repeated}
 use Rattle.m2v_bits.proofs.SyntaxLaws.{good}
 use Rattle.m2v_model.specs.declared.state.Sequence.{Sequence}
 use Rattle.m2v_model.specs.declared.state.State.{State}
 use Rattle.m2v_model.specs.Units.{Units, cut, joined, AreUnits, Cuts}
 use Rattle.m2v_model.specs.States.{at_first, none_waits}
-use Rattle.m2v_model.specs.Streams.{Part, Sofar, sequence, after, value_of, unit_round, units_from, stream_from, stream_at}
-use Rattle.m2v_model.specs.Pictures.{Store, Pictures, Events, sequence_header, no_frames, pictures_in, events_from, store_after, told_by}
-use Rattle.m2v_model.specs.Decoding.{Stream, Decodes, events, pictures, frames_of, low_delay_of, shown}
+use Rattle.m2v_model.specs.Streams.{Part, Sofar, sequence, after, value_of, units_from, stream_from, stream_at}
+use Rattle.m2v_model.specs.Pictures.{Pictures, Events, no_frames, events_from, store_after}
+use Rattle.m2v_model.specs.Decoding.{Decodes, events, pictures, frames_of, low_delay_of, shown}
 use Rattle.m2v_model.specs.Lawful.{numbered, all_numbered, intra_rule}
 use Rattle.m2v_model.specs.Pieces.{is_end, begins_piece}
 use Rattle.m2v_model.specs.ByPieces.{unit_read}
 use Rattle.m2v_model.proofs.CutLaws.{cut_cuts, cuts_is, are_behind}
 use Rattle.m2v_model.proofs.ShiftLaws.{BeginsPiece, NoEnds}
 use Rattle.m2v_group.specs.Groups.{is_picture, is_sequence, is_group, has_picture, has_sequence, group_headers, from_sequence, to_end, stream_units, before_group, from_group, from_last_sequence, up_to_piece, up_to_group, first_groups, broken_header, behind_cut, cut_units, end_code, cut_text, coded_pictures, begins_intra, stands_alone, is_standalone}
-use Rattle.m2v_group.specs.Chosen.{before_header, from_header, group_pictures, last_sequence, left_in, cut_frames, BeginIntra, EndClear, CutDecodes}
-use Rattle.m2v_group.proofs.Shows.{AreBeside, beside_shown}
+use Rattle.m2v_group.specs.Chosen.{before_header, group_pictures, last_sequence, left_in, cut_frames, BeginIntra, EndClear, CutDecodes}
+use Rattle.m2v_group.proofs.Shows.{beside_shown}
 use Rattle.m2v_group.proofs.Runs.{Ends, finish, going, ended, none_ends}
-use Rattle.m2v_group.proofs.Lists.{Behind, behind_begins, or_parts, and_parts, picture_append, headers_append, no_ends_parts, ended_units, group_parts, group_found, fewer_groups, HasLast, last_found, piece_parts, first_sequence}
+use Rattle.m2v_group.proofs.Lists.{Behind, behind_begins, or_parts, and_parts, picture_append, headers_append, no_ends_parts, ended_units, group_parts, group_found, fewer_groups, last_found, piece_parts, first_sequence}
 use Rattle.m2v_group.proofs.Leads.{LeadUnits, lead_units, lead_front, none_begins, is_first_sequence}
 use Rattle.m2v_group.proofs.Told.{TenEvents, ten_events}
 use Rattle.m2v_group.proofs.Tens.{final_part, final_told}
 use Rattle.m2v_group.proofs.Texts.{are_changed, are_cut}
 use Rattle.m2v_group.proofs.Texts as texts
 use Rattle.m2v_group.proofs.Start.{sequence_start, header_by}
-use Rattle.m2v_group.proofs.Core.{IsCut}
 use Rattle.m2v_group.proofs.Between.{OtherFirst, Next}
 use Rattle.m2v_group.proofs.Law.{skip, Parted, CutOf, cut_of}
 

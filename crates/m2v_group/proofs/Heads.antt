@@ -1,12 +1,12 @@
 -- What stands in headers at known places, and group headers whose last two bits are others.
-use Rattle.std.proofs.Common.{◌≡◌, ℕ, zero, suc, ◌+◌, ◌*◌, ◌/◌, ◌%◌, ◌<◌, ◌≤◌, ◌^◌, Bool, true, false, leb, List, [], ◌∷◌, ◌++◌, length, take, drop, Some, refl, sym, ap, subst, ◌∙◌, append_assoc, arith}
-use Rattle.std.specs.Prelude.{nat_eq, slice_index, ◌==◌}
+use Rattle.std.proofs.Common.{◌≡◌, ℕ, ◌+◌, ◌/◌, ◌%◌, ◌<◌, ◌≤◌, ◌^◌, Bool, true, false, leb, List, [], ◌∷◌, ◌++◌, length, take, drop, Some, refl, sym, ap, subst, ◌∙◌, append_assoc, arith}
+use Rattle.std.specs.Prelude.{◌==◌}
 use Rattle.std.proofs.lemmas.Bool.{leb-true, leb-false, le-leb, lt-leb}
 use Rattle.std.proofs.lemmas.List.{length-append, take_at, drop_at}
 use Rattle.std.proofs.Math.Seq.{drop-append-add}
 use Rattle.std.proofs.Math.Nat.{mod-eq_of_lt}
 use Rattle.m2v_bits.specs.Bits.{bits_of, bits, all_zero}
-use Rattle.m2v_bits.specs.Syntax.{Syntax, seq, here, rule, done, renamed}
+use Rattle.m2v_bits.specs.Syntax.{seq, here, rule, done, renamed}
 use Rattle.m2v_bits.specs.Leaves.{bits_at, end_at}
 use Rattle.m2v_bits.specs.Elements as elements
 use Rattle.m2v_bits.proofs.Bits.{length-bits_of, number-bits_of, bits_of-mod}
@@ -237,9 +237,13 @@ group_bits g t end h =
       record g { closed_gop = false; broken_link = true },
       rest,
       (
-        p0.0, n1, a.again n1,
+        p0.0,
+        n1,
+        a.again n1,
         (
-          p1.0, n2, b.again n2,
+          p1.0,
+          n2,
+          b.again n2,
           (p2.0, n3, c.again n3, (p3.0, n4, d.again n4, (p4.0, n5, e.again n5, (p5.0, false ∷ true ∷ rest, f.again (false ∷ true ∷ rest), (false, true ∷ rest, zero_flag (true ∷ rest), (true, rest, one_flag rest, (ap (λ (i : GroupInfo). record i { closed_gop = false; broken_link = true }) (info ∙ made), refl))))))),
         ),
       ),

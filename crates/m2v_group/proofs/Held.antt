@@ -1,7 +1,7 @@
 -- The frames at hand in the whole stream, and those in a cut.
-use Rattle.std.proofs.Common.{◌≡◌, ℕ, zero, suc, ◌+◌, ◌≤◌, Bool, true, false, List, [], ◌∷◌, ◌++◌, Option, Some, None, ◌⊎◌, inl, inr, refl, sym, ap, subst, ◌∙◌, arith}
-use Rattle.std.specs.Prelude.{nat_eq, nat_lt, nat_le, is_some, not, ◌&&◌, ◌||◌, if◌then◌else◌}
-use Rattle.std.proofs.lemmas.Bool.{cases_Bool, both_ways, eqb-true, le-leb}
+use Rattle.std.proofs.Common.{◌≡◌, ℕ, zero, suc, ◌+◌, Bool, true, false, ◌++◌, Option, Some, None, ◌⊎◌, inl, inr, refl, sym, ap, subst, ◌∙◌, arith}
+use Rattle.std.specs.Prelude.{nat_eq, nat_le, is_some, not, ◌&&◌, ◌||◌, if◌then◌else◌}
+use Rattle.std.proofs.lemmas.Bool.{cases_Bool, eqb-true, le-leb}
 use Rattle.m2v_plane.specs.Samples.{Samples, blank}
 use Rattle.m2v_head.specs.declared.picture.PictureInfo.{PictureInfo}
 use Rattle.m2v_head.specs.declared.picture.PictureExtension.{PictureExtension}
@@ -13,12 +13,11 @@ use Rattle.m2v_model.specs.declared.state.State.{State}
 use Rattle.m2v_model.specs.States.{dims_of, is_b, is_frame, is_frame_end, crowded_by, one_anchor_more, is_second_field_due, opened, slice_setup, with_slice, with_unread_slice}
 use Rattle.m2v_model.specs.Slices.{Slice, slice_start}
 use Rattle.m2v_model.specs.Samples.{References, put_in_frame, all_painted}
-use Rattle.m2v_model.specs.Pictures.{Store, frame_of, no_view, no_references, second_field_of, references_by, references_of, slice_painted, Picture, Pictures, picture_of, pictures_in, closed, picture_ended, picture_begun, fresh, on_frame, sliced}
-use Rattle.m2v_group.specs.Chosen.{anchors_behind}
+use Rattle.m2v_model.specs.Pictures.{Store, no_references, references_by, references_of, slice_painted, Pictures, picture_of, pictures_in, closed, picture_ended, picture_begun, on_frame, sliced}
 use Rattle.m2v_group.proofs.Shows.{Beside, AreBeside}
 use Rattle.m2v_group.proofs.Intra.{AreStill, all_same}
 use Rattle.m2v_group.proofs.Alike.{IsLeftOut, AreAlike, setup_same}
-use Rattle.m2v_group.proofs.Counted.{is_left_kind, Fits, BegunAs, anchors_by, b_follows}
+use Rattle.m2v_group.proofs.Counted.{is_left_kind, BegunAs, anchors_by, b_follows}
 
 -- the last anchor, or the one before it, is the same in both
 abbrev IsKnown : Bool → ℕ → ℕ → Type 0
@@ -223,7 +222,7 @@ begin_held changed w c info extension (Some s) sw sc some waits due begun known 
       older = λ h. a.1 ∙ r.older h ∙ sym b.1;
       «open» = (
         begun_held changed _ c.anchors p q s sw sc refl begun r.newer r.older
-        (λ left on. current_same changed c.anchors c.waiting info extension sw sc r due left (is_some c.waiting) refl (sym second ∙ on)) known,
+            (λ left on. current_same changed c.anchors c.waiting info extension sw sc r due left (is_some c.waiting) refl (sym second ∙ on)) known,
         link,
       );
     }

@@ -1,11 +1,10 @@
 -- A slice of an I picture is painted without references: each macroblock is intra, and none is skipped.
-use Rattle.std.proofs.Common.{◌≡◌, ℕ, Bool, true, false, List, [], ◌∷◌, ◌++◌, ◌⊎◌, inl, inr, refl, sym, ap, subst, ◌∙◌, append_assoc, append-nil}
+use Rattle.std.proofs.Common.{◌≡◌, ℕ, Bool, true, false, List, [], ◌∷◌, ◌++◌, inl, inr, refl, sym, ap, subst, ◌∙◌, append_assoc}
 use Rattle.std.specs.Prelude.{nat_eq, ◌||◌, ◌&&◌, not}
-use Rattle.std.proofs.lemmas.Bool.{cases_Bool, both_ways}
-use Rattle.m2v_bits.specs.Syntax.{seq, here, done, rule, choose, renamed, repeated, Rounds, last, more}
+use Rattle.m2v_bits.specs.Syntax.{seq, done, rule, choose, renamed, repeated, Rounds, last, more}
 use Rattle.m2v_vlc.specs.declared.values.MbType.{MbType}
 use Rattle.m2v_vlc.specs.Tables.{type_i}
-use Rattle.m2v_vlc.specs.Codes.{In, code_at}
+use Rattle.m2v_vlc.specs.Codes.{code_at}
 use Rattle.m2v_plane.specs.Samples.{Samples}
 use Rattle.m2v_macro.specs.declared.values.MacroSyntax.{MacroSyntax}
 use Rattle.m2v_macro.specs.declared.values.SliceState.{SliceState}
@@ -16,7 +15,7 @@ use Rattle.m2v_macroblock.specs.Macroblocks.{Macroblock, after_macroblock}
 use Rattle.m2v_macroblock.specs.Predictions.{prediction_of}
 use Rattle.m2v_model.specs.declared.setup.SliceSetup.{SliceSetup}
 use Rattle.m2v_model.specs.Samples.{Put, References, skipped_painted, own_painted, painted, all_painted}
-use Rattle.m2v_model.specs.Slices.{Row, Slice, macroblock_at, macroblock_round, macroblocks_at, slice_start, unit_place, slice_at}
+use Rattle.m2v_model.specs.Slices.{Row, Slice, macroblock_at, macroblock_round, macroblocks_at, slice_start, slice_at}
 
 -- intra, and behind no skipped macroblock
 abbrev IsStill : SliceState → MacroSyntax → Type 0

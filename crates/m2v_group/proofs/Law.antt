@@ -1,8 +1,8 @@
 -- The law of a cut.
-use Rattle.std.proofs.Common.{◌≡◌, ℕ, zero, suc, ◌+◌, ◌≤◌, Bool, true, false, List, [], ◌∷◌, ◌++◌, length, Option, Some, None, ◌⊎◌, inl, inr, refl, sym, ap, subst, ◌∙◌, append_assoc, append-nil, arith}
-use Rattle.std.specs.Prelude.{nat_eq, is_some, not, ◌&&◌, ◌||◌, if◌then◌else◌}
-use Rattle.std.proofs.lemmas.Bool.{cases_Bool, both_ways, eqb-true}
-use Rattle.m2v_bits.specs.Syntax.{seq, done, rule, choose, repeated}
+use Rattle.std.proofs.Common.{◌≡◌, ℕ, ◌+◌, ◌≤◌, Bool, true, false, List, [], ◌∷◌, ◌++◌, length, Option, Some, None, ◌⊎◌, inl, inr, refl, sym, ap, subst, ◌∙◌, append_assoc, arith}
+use Rattle.std.specs.Prelude.{nat_eq, is_some, ◌||◌}
+use Rattle.std.proofs.lemmas.Bool.{both_ways, eqb-true}
+use Rattle.m2v_bits.specs.Syntax.{done, choose}
 use Rattle.m2v_bits.proofs.SyntaxLaws.{good, good_is}
 use Rattle.m2v_head.specs.declared.group.GroupInfo.{GroupInfo}
 use Rattle.m2v_model.specs.declared.fault.FaultKind.{FaultKind}
@@ -11,20 +11,20 @@ use Rattle.m2v_model.specs.declared.state.Open.{Open}
 use Rattle.m2v_model.specs.declared.state.State.{State}
 use Rattle.m2v_model.specs.Units.{Units}
 use Rattle.m2v_model.specs.States.{at_first, none_waits}
-use Rattle.m2v_model.specs.Streams.{Part, Sofar, sequence, group, skipped_unit, after, value_of, known_unit}
-use Rattle.m2v_model.specs.Pictures.{Store, Pictures, Events, sequence_header, group_header, coded_picture, no_frames, pictures_in, closed, picture_ended, told_by, store_after, events_from, store_from}
-use Rattle.m2v_model.specs.Pieces.{is_end, begins_piece}
+use Rattle.m2v_model.specs.Streams.{Part, sequence, group, skipped_unit, after, value_of, known_unit}
+use Rattle.m2v_model.specs.Pictures.{Store, Pictures, Events, sequence_header, group_header, coded_picture, no_frames, pictures_in, closed, picture_ended, store_after, events_from, store_from}
+use Rattle.m2v_model.specs.Pieces.{begins_piece}
 use Rattle.m2v_model.specs.ByPieces.{unit_read}
 use Rattle.m2v_model.proofs.ShiftLaws.{BeginsPiece, NoEnds}
 use Rattle.m2v_model.proofs.SplitLaws.{IsKnown, known_after}
 use Rattle.m2v_group.specs.Groups.{is_picture, is_sequence, is_group, has_picture, has_sequence, group_headers, from_sequence}
 use Rattle.m2v_group.specs.Chosen.{before_header, from_header, last_sequence}
-use Rattle.m2v_group.proofs.Runs.{Run, stop, step, Ends, finish, going, IsSplit, split, KnownThere, none_ends}
+use Rattle.m2v_group.proofs.Runs.{Run, stop, step, Ends, finish, going, split, KnownThere, none_ends}
 use Rattle.m2v_group.proofs.Parts.{PartOf, of_sequence, of_group, of_picture, of_other, part_of}
 use Rattle.m2v_group.proofs.Lists.{Behind, or_parts, headers_append}
 use Rattle.m2v_group.proofs.Leads.{LeadUnits, NoPictures, NoSequences, no_pictures, no_sequences, pictures_step, groups_of, groups_counted, is_first_sequence}
-use Rattle.m2v_group.proofs.Told.{events_then, store_then, headers_in, headers_then, headers_told, from_there, before_there, last_then, last_kept, TenEvents}
-use Rattle.m2v_group.proofs.Tens.{TenHolds, ten_parts, ten_front, quiet, IsQuiet, headers_kept, run_known}
+use Rattle.m2v_group.proofs.Told.{events_then, headers_in, headers_then, headers_told, from_there, before_there, last_then, last_kept, TenEvents}
+use Rattle.m2v_group.proofs.Tens.{TenHolds, ten_parts, ten_front, quiet, headers_kept, run_known}
 use Rattle.m2v_group.proofs.Start.{IsSequence, sequence_start, header_by, complete_there}
 use Rattle.m2v_group.proofs.Core.{FirstRead, first_read, IsCut, Whole, cut_read, chosen_pictures, store_at}
 use Rattle.m2v_group.proofs.Between.{OtherFirst, paired_end, Next, pictures_between}

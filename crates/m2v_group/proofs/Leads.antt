@@ -1,20 +1,18 @@
 -- What the parts of a run are, by the units that were read.
-use Rattle.std.proofs.Common.{◌≡◌, ℕ, zero, suc, ◌+◌, Bool, true, false, List, [], ◌∷◌, ◌++◌, Option, Some, None, ◌⊎◌, inl, inr, refl, sym, ap, subst, ◌∙◌, arith}
-use Rattle.std.specs.Prelude.{nat_eq, not, is_some, ◌&&◌, ◌||◌, if◌then◌else◌}
-use Rattle.std.proofs.lemmas.Bool.{cases_Bool, both_ways, eqb-true}
+use Rattle.std.proofs.Common.{◌≡◌, ℕ, ◌+◌, Bool, true, false, List, [], ◌∷◌, ◌++◌, Option, Some, ◌⊎◌, inl, inr, refl, sym, ap, subst, ◌∙◌, arith}
+use Rattle.std.specs.Prelude.{nat_eq, ◌&&◌, ◌||◌}
+use Rattle.std.proofs.lemmas.Bool.{both_ways, eqb-true}
 use Rattle.m2v_bits.proofs.SyntaxLaws.{good}
-use Rattle.m2v_head.specs.declared.picture.PictureInfo.{PictureInfo}
 use Rattle.m2v_head.specs.declared.picture.PictureExtension.{PictureExtension}
 use Rattle.m2v_model.specs.declared.state.State.{State}
 use Rattle.m2v_model.specs.Units.{Units, body}
 use Rattle.m2v_model.specs.Looking.{number_from}
-use Rattle.m2v_model.specs.States.{is_b, is_frame}
+use Rattle.m2v_model.specs.States.{is_frame}
 use Rattle.m2v_model.specs.Streams.{Part, sequence, group, picture, matrices, slice, unread_slice, skipped_unit, ending, over, after, value_of}
 use Rattle.m2v_model.specs.ByPieces.{unit_read}
 use Rattle.m2v_model.proofs.SplitLaws.{IsKnown, known_after}
 use Rattle.m2v_group.specs.Groups.{is_picture, is_sequence, is_group, has_picture, has_sequence, group_headers, before_group, is_number, is_intra, is_coding_extension, structure_of, next_unit, coded_pictures, is_intra_of, begins_with, begins_intra}
-use Rattle.m2v_group.proofs.Counted.{Fits, anchors_by}
-use Rattle.m2v_group.proofs.Runs.{Run, stop, step, AllFit, none_ends}
+use Rattle.m2v_group.proofs.Runs.{Run, stop, step, none_ends}
 use Rattle.m2v_group.proofs.Parts.{IsOther, PartOf, of_sequence, of_group, of_picture, of_other, part_of}
 use Rattle.m2v_group.proofs.Lists.{or_parts, and_parts}
 

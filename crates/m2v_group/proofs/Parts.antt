@@ -1,5 +1,5 @@
 -- Which part a unit is, and which units are left behind it.
-use Rattle.std.proofs.Common.{◌≡◌, ℕ, Bool, true, false, List, [], ◌∷◌, Option, Some, None, ◌⊎◌, inl, inr, refl, sym, ap, subst, ◌∙◌}
+use Rattle.std.proofs.Common.{◌≡◌, ℕ, Bool, true, false, List, ◌∷◌, Option, Some, None, ◌⊎◌, inl, inr, refl, sym, ap, subst, ◌∙◌}
 use Rattle.std.specs.Prelude.{nat_eq, nat_le, is_some, ◌-◌}
 use Rattle.std.proofs.lemmas.Bool.{cases_Bool, both_ways, eqb-true}
 use Rattle.m2v_bits.specs.Syntax.{done, seq, here, rule, choose}
@@ -14,7 +14,7 @@ use Rattle.m2v_model.specs.Units.{Units, Next, unit_at, unit_bits, body, inside}
 use Rattle.m2v_model.specs.Looking.{refuse, number_from}
 use Rattle.m2v_model.specs.Faults.{InUnit}
 use Rattle.m2v_model.specs.Headers.{whole_header, group_in}
-use Rattle.m2v_model.specs.Streams.{Part, Among, sequence, group, picture, matrices, slice, unread_slice, skipped_unit, ending, over, value_of, close, no_second_field_due, id_at, extension_in, extension_behind, sequence_unit, group_unit, picture_unit, matrix_unit, extension_unit, read_slice, slice_in, slice_unit, end_unit, onward, final, later_unit, known_unit}
+use Rattle.m2v_model.specs.Streams.{Part, Among, sequence, group, picture, matrices, slice, unread_slice, skipped_unit, ending, over, value_of, close, no_second_field_due, id_at, extension_in, extension_behind, sequence_unit, group_unit, picture_unit, matrix_unit, extension_unit, read_slice, slice_in, slice_unit, onward, final, later_unit, known_unit}
 use Rattle.m2v_model.specs.ByPieces.{unit_read}
 use Rattle.m2v_bits.proofs.SyntaxLaws.{good}
 use Rattle.m2v_model.proofs.StreamLaws.{known_lawful}

@@ -1,15 +1,14 @@
 -- Units that are read one after another in the whole stream, and the same units behind a cut.
-use Rattle.std.proofs.Common.{◌≡◌, ℕ, zero, suc, ◌<◌, Bool, true, false, List, [], ◌∷◌, ◌++◌, Option, Some, None, Result, Ok, Err, ◌⊎◌, inl, inr, refl, sym, ap, subst, ◌∙◌, append_assoc, append-nil}
-use Rattle.std.specs.Prelude.{nat_eq, is_some, ◌||◌, if◌then◌else◌}
-use Rattle.std.proofs.lemmas.Bool.{cases_Bool, both_ways, cond-false}
-use Rattle.m2v_bits.specs.Syntax.{bind, seq, done, rule, choose, Rounds, last, more}
-use Rattle.m2v_bits.proofs.SyntaxLaws.{good, bad, good_is}
+use Rattle.std.proofs.Common.{◌≡◌, ℕ, Bool, true, false, List, [], ◌∷◌, ◌++◌, Some, None, Result, Ok, Err, inl, inr, refl, sym, ap, subst, ◌∙◌, append_assoc, append-nil}
+use Rattle.std.specs.Prelude.{is_some, ◌||◌, if◌then◌else◌}
+use Rattle.m2v_bits.specs.Syntax.{bind, seq, done, Rounds, last, more}
+use Rattle.m2v_bits.proofs.SyntaxLaws.{good, good_is}
 use Rattle.m2v_model.specs.declared.fault.FaultKind.{FaultKind}
 use Rattle.m2v_model.specs.declared.state.FirstField.{FirstField}
 use Rattle.m2v_model.specs.declared.state.State.{State}
 use Rattle.m2v_model.specs.Units.{Units, unit_bits}
 use Rattle.m2v_model.specs.States.{is_b, is_frame}
-use Rattle.m2v_model.specs.Streams.{Part, Sofar, sequence, group, picture, matrices, slice, unread_slice, skipped_unit, ending, over, after, value_of, text_end, known_unit, unit_round}
+use Rattle.m2v_model.specs.Streams.{Part, Sofar, sequence, group, picture, matrices, slice, unread_slice, skipped_unit, ending, over, after, value_of, text_end, unit_round}
 use Rattle.m2v_model.specs.Pictures.{Store, Pictures, Events, pictures_in, told_by, store_after, events_from, store_from}
 use Rattle.m2v_model.specs.ByPieces.{unit_read}
 use Rattle.m2v_model.specs.Pieces.{is_end}
@@ -19,7 +18,7 @@ use Rattle.m2v_model.proofs.ShiftLaws.{BeginsPiece, NoEnds, Kept, shifted, unit_
 use Rattle.m2v_model.proofs.SplitLaws.{IsKnown, KnownBy, known_goes}
 use Rattle.m2v_model.proofs.EventLaws.{pictures_in-append}
 use Rattle.m2v_group.proofs.Shows.{AreBeside}
-use Rattle.m2v_group.proofs.Alike.{IsLeftSlice, PartsAlike, Knows, HasAnchor, known_follows}
+use Rattle.m2v_group.proofs.Alike.{IsLeftSlice, PartsAlike, known_follows}
 use Rattle.m2v_group.proofs.Counted.{Fits, anchors_by}
 use Rattle.m2v_group.proofs.Steps.{AreBoth, FitsPart, fresh_after, anchor_there, ToldBeside, Stepped, steps}
 

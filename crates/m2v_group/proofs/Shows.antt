@@ -1,9 +1,8 @@
 -- A dropped picture and one that isn't there show the same: nothing.
-use Rattle.std.proofs.Common.{◌≡◌, ℕ, zero, suc, Bool, true, false, List, [], ◌∷◌, ◌++◌, map, filter, inl, inr, refl, sym, ap, subst, ◌∙◌}
-use Rattle.std.specs.Prelude.{◌==◌, nat_eq, nat_le, not, ◌&&◌, if◌then◌else◌}
-use Rattle.std.proofs.lemmas.Bool.{cases_Bool}
+use Rattle.std.proofs.Common.{◌≡◌, ℕ, zero, suc, Bool, true, false, List, [], ◌∷◌, ◌++◌, map, filter, refl, sym, ap, subst, ◌∙◌}
+use Rattle.std.specs.Prelude.{nat_le, not, ◌&&◌, if◌then◌else◌}
 use Rattle.std.proofs.lemmas.List.Elements.{filter-append}
-use Rattle.m2v_order.specs.Display.{is_b, is_reference, anchors, b_after, from_anchor, Order, is_kept, Shown}
+use Rattle.m2v_order.specs.Display.{is_b, anchors, b_after, from_anchor, Order, is_kept, Shown}
 use Rattle.m2v_model.specs.States as states
 use Rattle.m2v_model.specs.Pictures.{Picture, Pictures, is_ending, typed, frames_in}
 use Rattle.m2v_model.specs.Decoding.{is_dropped, raw_frames, shown}

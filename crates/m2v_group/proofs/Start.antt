@@ -1,13 +1,12 @@
 -- Where a cut begins: its sequence header and the header of its first group; and where it ends.
-use Rattle.std.proofs.Common.{◌≡◌, ℕ, zero, suc, ◌≤◌, Bool, true, false, List, [], ◌∷◌, ◌++◌, length, Option, Some, None, Result, Ok, Err, ◌⊎◌, inl, inr, refl, sym, ap, subst, ◌∙◌, arith}
-use Rattle.std.specs.Prelude.{nat_eq, is_some, not, ◌&&◌, ◌||◌, cond}
+use Rattle.std.proofs.Common.{◌≡◌, ℕ, ◌≤◌, Bool, true, false, List, [], ◌∷◌, length, Option, Some, None, Ok, Err, inl, inr, refl, sym, ap, subst, ◌∙◌, arith}
+use Rattle.std.specs.Prelude.{nat_eq, is_some, ◌&&◌, cond}
 use Rattle.std.specs.Bool.{beq}
 use Rattle.std.proofs.lemmas.Bool.{cases_Bool, both_ways, eqb-true, cond-true}
-use Rattle.m2v_bits.specs.Syntax.{done, seq, here, rule, choose}
+use Rattle.m2v_bits.specs.Syntax.{done, seq, rule, choose}
 use Rattle.m2v_bits.proofs.SyntaxLaws.{good}
 use Rattle.m2v_head.specs.declared.group.GroupInfo.{GroupInfo}
 use Rattle.m2v_model.specs.declared.state.Sequence.{Sequence}
-use Rattle.m2v_model.specs.declared.state.Open.{Open}
 use Rattle.m2v_model.specs.declared.state.FirstField.{FirstField}
 use Rattle.m2v_model.specs.declared.state.State.{State}
 use Rattle.m2v_model.specs.Units.{Units, unit_bits, body, inside}
@@ -16,8 +15,8 @@ use Rattle.m2v_model.specs.States.{at_first, is_complete, is_same_sequence, none
 use Rattle.m2v_model.specs.Streams.{Part, Among, sequence, group, ending, after, value_of, close, no_second_field_due, sequence_unit, group_unit, end_unit, onward, final, later_unit, known_unit}
 use Rattle.m2v_model.specs.Pictures.{Store, Events, no_frames, told_by}
 use Rattle.m2v_model.specs.declared.fault.FaultKind.{FaultKind}
-use Rattle.m2v_model.specs.ByPieces.{Between, Course, unit_read, units_read, behind, after_part}
-use Rattle.m2v_model.specs.Pieces.{is_end, begins_piece}
+use Rattle.m2v_model.specs.ByPieces.{Course, unit_read, units_read, behind, after_part}
+use Rattle.m2v_model.specs.Pieces.{begins_piece}
 use Rattle.m2v_model.proofs.StreamLaws.{known_lawful, sequence_unit_lawful, group_unit_lawful, end_unit_lawful, onward_lawful, final_lawful}
 use Rattle.m2v_model.proofs.FlowLaws.{read_more, read_last}
 use Rattle.m2v_model.proofs.ShiftLaws.{BeginsPiece}

@@ -1,10 +1,9 @@
 -- One part more of the whole stream and of a cut.
-use Rattle.std.proofs.Common.{◌≡◌, ℕ, Bool, true, false, List, [], ◌∷◌, ◌++◌, Option, Some, None, ◌⊎◌, inl, inr, refl, sym, ap, subst, ◌∙◌, append_assoc, append-nil}
-use Rattle.std.specs.Prelude.{nat_eq, is_some, ◌||◌, if◌then◌else◌}
+use Rattle.std.proofs.Common.{◌≡◌, ℕ, Bool, true, false, List, [], ◌∷◌, ◌++◌, Option, Some, inl, inr, refl, sym, ap, subst, ◌∙◌, append-nil}
+use Rattle.std.specs.Prelude.{is_some, ◌||◌}
 use Rattle.m2v_head.specs.declared.group.GroupInfo.{GroupInfo}
 use Rattle.m2v_head.specs.declared.picture.PictureInfo.{PictureInfo}
 use Rattle.m2v_head.specs.declared.picture.PictureExtension.{PictureExtension}
-use Rattle.m2v_model.specs.declared.setup.SliceSetup.{SliceSetup}
 use Rattle.m2v_model.specs.declared.state.Sequence.{Sequence}
 use Rattle.m2v_model.specs.declared.state.Open.{Open}
 use Rattle.m2v_model.specs.declared.state.FirstField.{FirstField}
@@ -15,9 +14,9 @@ use Rattle.m2v_model.specs.Streams.{Part, sequence, group, picture, matrices, sl
 use Rattle.m2v_model.specs.Pictures.{Store, Pictures, Events, sequence_header, group_header, pictures_in, closed, picture_ended, picture_begun, told_by, store_after, sliced}
 use Rattle.m2v_model.proofs.EventLaws.{pictures_in-append}
 use Rattle.m2v_group.proofs.Shows.{AreBeside}
-use Rattle.m2v_group.proofs.Alike.{IsLeftOut, OpenAlike, AreAlike, IsLeftSlice, PartsAlike, Knows, HasAnchor, BeginAlike, after_alike}
+use Rattle.m2v_group.proofs.Alike.{IsLeftOut, OpenAlike, AreAlike, IsLeftSlice, PartsAlike, Knows, HasAnchor, after_alike}
 use Rattle.m2v_group.proofs.Counted.{is_left_kind, Reaches, Reach, Fits, BegunAs, begun, anchors_by, waiting_by, reached, grouped, last_known, anchor_kept, opened_group}
-use Rattle.m2v_group.proofs.Held.{AreHeld, AreRested, rested, still_held, begin_held, closed_beside, slice_held, left_slice_held, unread_held}
+use Rattle.m2v_group.proofs.Held.{AreHeld, rested, still_held, begin_held, closed_beside, slice_held, left_slice_held, unread_held}
 
 -- the whole and the cut, behind the same parts; ready: the header of the chosen group is among them; fresh: no picture came since the last group header
 pub record AreBoth (ready changed fresh : Bool) (k : ℕ) (w c : State) (sw sc : Store) : Type 0 where

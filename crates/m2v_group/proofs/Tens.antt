@@ -1,31 +1,25 @@
 -- The rule that groups begin with I pictures, on parts; parts without pictures; and where a stream ends.
-use Rattle.std.proofs.Common.{◌≡◌, ℕ, zero, suc, ◌+◌, ◌≤◌, Bool, true, false, List, [], ◌∷◌, ◌++◌, Option, Some, None, ◌⊎◌, inl, inr, refl, sym, ap, subst, ◌∙◌, append_assoc, append-nil, arith}
-use Rattle.std.specs.Prelude.{nat_eq, nat_le, nat_lt, not, is_some, ◌&&◌, ◌||◌, ◌-◌, if◌then◌else◌}
-use Rattle.std.proofs.lemmas.Bool.{cases_Bool, both_ways, eqb-true}
-use Rattle.m2v_bits.specs.Syntax.{done, seq, rule, choose}
+use Rattle.std.proofs.Common.{◌≡◌, ℕ, zero, suc, ◌+◌, Bool, true, false, List, [], ◌∷◌, ◌++◌, Option, Some, None, inl, inr, refl, sym, ap, subst, ◌∙◌, append_assoc, append-nil, arith}
+use Rattle.std.specs.Prelude.{nat_eq, nat_lt, ◌||◌, if◌then◌else◌}
+use Rattle.std.proofs.lemmas.Bool.{cases_Bool}
+use Rattle.m2v_bits.specs.Syntax.{done, seq, choose}
 use Rattle.m2v_bits.proofs.SyntaxLaws.{good}
 use Rattle.m2v_model.specs.declared.state.Sequence.{Sequence}
 use Rattle.m2v_model.specs.declared.state.Open.{Open}
-use Rattle.m2v_model.specs.declared.state.FirstField.{FirstField}
 use Rattle.m2v_model.specs.declared.state.State.{State}
-use Rattle.m2v_model.specs.States.{is_b, is_frame, with_slice, with_unread_slice, crowded_by, opened, first_or}
+use Rattle.m2v_model.specs.States.{is_b, is_frame, with_slice, with_unread_slice, first_or}
 use Rattle.m2v_model.specs.Units.{Units, unit_bits}
 use Rattle.m2v_model.specs.Looking.{refuse}
 use Rattle.m2v_model.specs.Slices.{Slice, large_in}
-use Rattle.m2v_model.specs.Streams.{Part, Among, sequence, group, picture, matrices, slice, unread_slice, skipped_unit, ending, over, after, value_of, close, no_second_field_due, end_unit, onward, final, later_unit, known_unit, text_end}
-use Rattle.m2v_model.specs.Pictures.{Store, Picture, Pictures, Events, sequence_header, group_header, coded_picture, picture_of, pictures_in, closed, picture_ended, told_by, store_after, events_from, store_from, sliced}
-use Rattle.m2v_model.specs.Pieces.{is_end, begins_piece}
+use Rattle.m2v_model.specs.Streams.{Part, Among, sequence, group, picture, matrices, slice, unread_slice, skipped_unit, ending, over, after, value_of, end_unit, onward, final, later_unit, known_unit, text_end}
+use Rattle.m2v_model.specs.Pictures.{Store, Pictures, Events, sequence_header, group_header, picture_of, pictures_in, closed, picture_ended, told_by, store_after, events_from, store_from, sliced}
 use Rattle.m2v_model.specs.ByPieces.{unit_read}
 use Rattle.m2v_model.proofs.StreamLaws.{known_lawful, text_end_lawful}
 use Rattle.m2v_model.proofs.EventLaws.{pictures_in-append}
-use Rattle.m2v_model.proofs.ShiftLaws.{BeginsPiece, NoEnds}
 use Rattle.m2v_model.proofs.SplitLaws.{IsKnown, known_after}
-use Rattle.m2v_group.specs.Groups.{is_picture, is_sequence, is_group, has_picture}
-use Rattle.m2v_group.proofs.Counted.{Fits, anchors_by}
-use Rattle.m2v_group.proofs.Runs.{Run, stop, step, Ends, finish, going, AllFit, none_ends}
-use Rattle.m2v_group.proofs.Parts.{IsOther, PartOf, of_sequence, of_group, of_picture, of_other, part_of}
-use Rattle.m2v_group.proofs.Lists.{Behind, or_parts}
-use Rattle.m2v_group.proofs.Leads.{NoPictures, Leads, no_pictures}
+use Rattle.m2v_group.proofs.Counted.{anchors_by}
+use Rattle.m2v_group.proofs.Runs.{Run, stop, step, Ends, finish, going, AllFit}
+use Rattle.m2v_group.proofs.Leads.{NoPictures, Leads}
 use Rattle.m2v_group.proofs.Told.{TenEvents}
 
 -- ---- where a stream ends
@@ -204,7 +198,7 @@ more_anchors true zero e = absurd cc
 more_anchors true (suc n) e = absurd (some_more n e)
   where
     some_more : (n : ℕ) → anchors_by true false (suc n) ≡ 0 → ⊥
-    some_more n e = elim (cases_Bool (nat_lt (suc n) 2)) [ inl on ↦ let h : suc n + 1 ≡ 0 = sym (rw on refl) ∙ e in absurd (omega (arith, h)) | inr off ↦ let h : 2 ≡ 0 = sym (rw off refl) ∙ e in absurd cc ]
+    some_more n e = elim (cases_Bool (nat_lt (suc n) 2)) [ inl on ↦ let h : suc n + 1 ≡ 0 = sym (rw on refl) ∙ e in absurd (omega (arith, h)) | inr off ↦ let h : 2 ≡ 0 = sym (rw off refl) ∙ e in absurd (omega (arith, h)) ]
 more_anchors false n e = (refl, e)
 
 same_anchors : (ends : Bool) (n : ℕ) → anchors_by ends true n ≡ 0 → n ≡ 0
@@ -235,12 +229,12 @@ all_fit changed fresh anchors second (picture info extension ∷ ps) t l =
     let ends = is_frame extension || second in (
       (refl, record { fresh_intra = t.0; first_intra = λ on none. (l on none).0 }),
       all_fit changed false (anchors_by ends (is_b info.kind) anchors) (if ends then false else true) ps t.1 (λ on none.
-      let before = none_before ends (is_b info.kind) anchors none in
-      let h = l on before in
-      let b : is_b info.kind ≡ false = ap is_b h.0 in
-      let still = (more_anchors ends anchors (ap (λ (x : Bool). anchors_by ends x anchors) (sym b) ∙ none)).0 in
-      let both = or_false (is_frame extension) second still in
-      waits_still ends ps still (h.1 both.1 both.0)),
+          let before = none_before ends (is_b info.kind) anchors none in
+          let h = l on before in
+          let b : is_b info.kind ≡ false = ap is_b h.0 in
+          let still = (more_anchors ends anchors (ap (λ (x : Bool). anchors_by ends x anchors) (sym b) ∙ none)).0 in
+          let both = or_false (is_frame extension) second still in
+          waits_still ends ps still (h.1 both.1 both.0)),
     )
 all_fit changed fresh anchors second (matrices m ∷ ps) t l = all_fit changed fresh anchors second ps t l
 all_fit changed fresh anchors second (slice row x ∷ ps) t l = all_fit changed fresh anchors second ps t l

@@ -1,24 +1,19 @@
 -- What is told of groups: where their headers stand among the events, and what stands between them.
-use Rattle.std.proofs.Common.{◌≡◌, ℕ, zero, suc, ◌+◌, ◌≤◌, Bool, true, false, List, [], ◌∷◌, ◌++◌, Option, Some, None, ◌⊎◌, inl, inr, refl, sym, ap, subst, ◌∙◌, append_assoc, append-nil, arith}
-use Rattle.std.specs.Prelude.{nat_eq, not, is_some, ◌&&◌, ◌||◌, if◌then◌else◌}
+use Rattle.std.proofs.Common.{◌≡◌, ℕ, zero, suc, ◌+◌, ◌≤◌, Bool, true, false, List, [], ◌∷◌, ◌++◌, Option, Some, None, refl, sym, ap, ◌∙◌, append_assoc, arith}
+use Rattle.std.specs.Prelude.{nat_eq, not, ◌||◌, if◌then◌else◌}
 use Rattle.std.specs.List.{flat_map}
-use Rattle.std.proofs.lemmas.Bool.{cases_Bool, both_ways, eqb-true}
-use Rattle.m2v_bits.specs.Syntax.{done, seq, rule, choose}
-use Rattle.m2v_bits.proofs.SyntaxLaws.{good}
+use Rattle.std.proofs.lemmas.Bool.{eqb-true}
 use Rattle.m2v_head.specs.declared.group.GroupInfo.{GroupInfo}
 use Rattle.m2v_model.specs.declared.state.Sequence.{Sequence}
 use Rattle.m2v_model.specs.declared.state.Open.{Open}
 use Rattle.m2v_model.specs.declared.state.State.{State}
-use Rattle.m2v_model.specs.States.{with_slice, crowded_by, opened}
 use Rattle.m2v_model.specs.Units.{Units}
-use Rattle.m2v_model.specs.Slices.{Slice, large_in}
 use Rattle.m2v_model.specs.Streams.{Part, sequence, group, picture, matrices, slice, unread_slice, skipped_unit, ending, over, after}
-use Rattle.m2v_model.specs.Pictures.{Store, Picture, Pictures, Event, Events, sequence_header, group_header, coded_picture, picture_of, pictures_in, closed, picture_ended, told_by, store_after, events_from, store_from, sliced}
-use Rattle.m2v_model.specs.Lawful.{Numbered, Breach, Breaches, judge, breach, numbered, intra_rule, all_numbered}
-use Rattle.m2v_model.proofs.EventLaws.{pictures_in-append}
+use Rattle.m2v_model.specs.Pictures.{Store, Event, Events, sequence_header, group_header, coded_picture, closed, told_by, store_after, events_from, store_from}
+use Rattle.m2v_model.specs.Lawful.{Breach, Breaches, judge, numbered, intra_rule}
 use Rattle.m2v_group.specs.Chosen.{is_header, before_header, from_header, last_sequence}
-use Rattle.m2v_group.proofs.Runs.{Run, stop, step, Ends, finish, going}
-use Rattle.m2v_group.proofs.Leads.{NoPictures, NoSequences, groups_of}
+use Rattle.m2v_group.proofs.Runs.{Run, stop, step}
+use Rattle.m2v_group.proofs.Leads.{NoSequences, groups_of}
 
 -- ---- events, and those behind them
 
