@@ -18,3 +18,4 @@ pub mod Core
 pub mod Between
 pub mod Law
 pub mod Decodes
+pub mod Lawful

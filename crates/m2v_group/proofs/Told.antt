@@ -178,7 +178,7 @@ TenEvents fresh (sequence_header s ∷ es) = TenEvents fresh es
 TenEvents fresh (group_header g ∷ es) = TenEvents true es
 TenEvents fresh (coded_picture p ∷ es) = (fresh ≡ true → p.info.kind ≡ 1) × TenEvents false es
 
-none_left : (a b : Breaches) → a ++ b ≡ [] → (a ≡ []) × (b ≡ [])
+pub none_left : (a b : Breaches) → a ++ b ≡ [] → (a ≡ []) × (b ≡ [])
 none_left [] b e = (refl, e)
 none_left (x ∷ a) b e = absurd cc
 

@@ -8,7 +8,7 @@ use Rattle.m2v_model.specs.States.{is_b, one_anchor_more}
 use Rattle.m2v_model.specs.Streams.{Sofar}
 use Rattle.m2v_model.specs.Pictures.{Picture, Pictures, Event, Events, sequence_header, group_header, coded_picture, pictures_in}
 use Rattle.m2v_model.specs.Decoding.{Stream, Decodes, events, low_delay_of, shown}
-use Rattle.m2v_model.specs.Lawful.{all_numbered, intra_rule}
+use Rattle.m2v_model.specs.Lawful.{all_numbered, intra_rule, Lawful}
 use Rattle.m2v_group.specs.Groups.{has_picture, stream_units, before_group, cut_units, cut_text, is_standalone}
 
 -- ---- the pictures of groups
@@ -86,3 +86,9 @@ CutDecodes text from count =
     (tree : Sofar) → Stream text tree → 1 ≤ count → BeginIntra (events tree) → is_standalone text from ≡ true
     → EndClear (joined (cut_units from count (stream_units text)))
     → Decodes (cut_text text from count) (cut_frames text from count (events tree))
+
+-- the same of a lawful stream
+abbrev pub LawfulCutDecodes : List ℕ → ℕ → ℕ → Type 0
+LawfulCutDecodes text from count =
+    (l : Lawful text) → 1 ≤ count → is_standalone text from ≡ true → EndClear (joined (cut_units from count (stream_units text)))
+    → Decodes (cut_text text from count) (cut_frames text from count (events l.tree))

@@ -1,6 +1,6 @@
 //! What holds of cuts.
 ghost use Rattle.std.specs.Prelude.{ℕ, List};
-ghost use Rattle.m2v_group.specs.Chosen.{CutDecodes};
+ghost use Rattle.m2v_group.specs.Chosen.{CutDecodes, LawfulCutDecodes};
 ghost use Rattle.m2v_group.specs.Worked.{WorkedRows};
 
 /// Groups of a stream without a fault, whose groups begin with I pictures, are cut out from one on that stands alone: the
@@ -9,6 +9,11 @@ ghost use Rattle.m2v_group.specs.Worked.{WorkedRows};
 /// sequence extension gives, but for the B frames before the second anchor where pictures were cut off before it.
 pub fn law_cut_decodes()
     ensures { (text : List ℕ) (from count : ℕ) → CutDecodes text from count }
+{}
+
+/// The same of each lawful stream: its groups begin with I pictures.
+pub fn law_lawful_cut()
+    ensures { (text : List ℕ) (from count : ℕ) → LawfulCutDecodes text from count }
 {}
 
 /// The cuts of a stream of two groups are those that were written by hand.
