@@ -2,13 +2,8 @@
 """Cases of hostile use: prints those that stand behind a line of stars of their own in the table of m2v_cases.
 
 The table of changes of a grey frame's stream, as `check` is to answer it, each place counted in bits by the rules;
-where `decode` is asked the same, its cases stand further up, and the two must say the same fault. Then `make`, whose
-stream comes from bench/encoded.py, an encoder by the rules alone: it takes some minutes, so its numbers stand here;
-with the word make as argument they are computed anew and compared."""
+where `decode` is asked the same, its cases stand further up, and the two must say the same fault."""
 
-import sys
-
-from encoded import Settings, encoded
 from table_lines import comment_lines, read_table
 
 SLICE = 'without 39..47 put 39 00 00 01 01 '
@@ -35,11 +30,10 @@ CHANGES = [
     ('a slice twice', 'put 48 00 00 01 01 0B 94 A5 22 20', 'SliceOrder at bit 384'),
     ('a reserved start code', 'put 22 00 00 01 B0', 'Forbidden at bit 176'),
     ('a pair past the end of its block', SLICE + '0B 80 FE 00 20', 'Overrun at bit 355'),
-    ('a DC level of -1', SLICE + '0B FD FE', 'DcRange at bit 352'),
+    ('a DC level of -1 in the first block', SLICE + '0B FD FE', 'DcRange at bit 352'),
     ('a piece as large as it may be', 'put 39 00 00 01 B2 2097100*FF', 'variable frames 1 pictures 1 bytes 2097156'),
     ('a piece one byte larger', 'put 39 00 00 01 B2 2097101*FF', None),
 ]
-SEED, BYTES, STUFFING, SUM = 1, 0, 0, 0
 
 
 def answer(said):
@@ -67,32 +61,5 @@ def changes(cases):
             yield from ['', 'case check: ' + name, 'words check', 'input ' + text, *answer(said)]
 
 
-def generated(seed):
-    """The frames of make."""
-    x, frames = seed, []
-    for t in range(48):
-        luma = bytearray()
-        for y in range(144):
-            for c in range(176):
-                x = (x * 6364136223846793005 + 1442695040888963407) % 2 ** 64
-                luma.append((3 * c + 2 * y + 5 * t) % 128 + 32 + (x >> 56) // 16)
-        blue = bytes((c + t) % 64 + 96 for y in range(72) for c in range(88))
-        red = bytes((y + 2 * t) % 64 + 96 for y in range(72) for c in range(88))
-        frames.append(bytes(luma) + blue + red)
-    return frames
-
-
-def made():
-    frames = generated(SEED)
-    coded = encoded(Settings(176, 144, 3, 1000, 15, search=7, scan='frames'), len(frames), frames)
-    total = 0
-    for byte in coded.data:
-        total = (31 * total + byte) % 2 ** 32
-    return len(coded.data), coded.stuffing, total
-
-
 if __name__ == '__main__':
-    if sys.argv[1:] == ['make']:
-        assert made() == (BYTES, STUFFING, SUM), made()
-    else:
-        print('\n'.join(changes(read_table()[1])).rstrip())
+    print('\n'.join(changes(read_table()[1])).rstrip())
