@@ -62,4 +62,4 @@ def changes(cases):
 
 
 if __name__ == '__main__':
-    print('\n'.join(changes(read_table()[1])).rstrip())
+    print('\n'.join(changes(read_table('hostile.py')[1])).rstrip())

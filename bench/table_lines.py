@@ -44,10 +44,13 @@ def read_bytes(streams, text):
     return data
 
 
-def read_table():
-    """The streams of the table by their names, and its cases by theirs, each as pairs of a key and its rest."""
+def read_table(script=None):
+    """The streams of the table by their names, and its cases by theirs, each as pairs of a key and its rest; where a
+    script is named, those before what it prints."""
     streams, cases, name, lines = {}, {}, None, []
     for line in TABLE.read_text().splitlines():
+        if script and line.startswith('# *****') and script in line:
+            break
         key, _, rest = line.partition(' ')
         if not line or key == '#' or line.startswith('#'):
             continue
