@@ -8,11 +8,11 @@ use Rattle.m2v_y4m.specs.declared.answer.Y4mKind.{Y4mKind}
 use Rattle.m2v_y4m.specs.declared.answer.Y4mKind.TheVariants.{Frame}
 use Rattle.m2v_y4m.specs.declared.header.Y4mHeader.{Y4mHeader}
 use Rattle.m2v_y4m.specs.Texts.{onward}
-use Rattle.m2v_y4m.specs.Header.{fault_at}
-use Rattle.m2v_y4m.specs.Frames.{Coming, nothing, broken, frame_line, frames_from, size_of}
-use Rattle.m2v_y4m.specs.Sources.{Standing, coming_at, coming, comes_of, left_of, told_left, marked}
+use Rattle.m2v_y4m.specs.Header.{fault_at, opening}
+use Rattle.m2v_y4m.specs.Frames.{Coming, nothing, broken, frame_line, frames_from, size_of, Begins}
+use Rattle.m2v_y4m.specs.Sources.{Standing, coming_at, coming, comes_of, left_of, told_left, marked, Took, IsOpen, OpensWith}
 use Rattle.m2v_y4m.specs.Reading.{Held, Gave, TookLine, BrokeLine}
-use Rattle.m2v_y4m.proofs.LineLaws.{Seen, frame_line_seen, take_all, drop_all}
+use Rattle.m2v_y4m.proofs.LineLaws.{Seen, frame_line_seen, opening_seen, opening_seen, take_all, drop_all}
 use Rattle.m2v_y4m.proofs.FrameLaws.{with_front, from_none, coming_broken, coming_line, coming_unbegun, coming_ended, coming_on, at_edge}
 
 -- what stands of a text that isn't broken
@@ -209,3 +209,46 @@ pub looked : (s was : Standing) (u : List ℕ) (left left_then : Option (List �
     → comes_of (record s { unread = u }) left_then ≡ comes_of was left
 looked s was u left left_then is held =
     sym (ap (λ x. comes_of x left) (sym is) ∙ comes_held s held.bytes left left_then held.moved ∙ ap (λ l. comes_of (record s { unread = l }) left_then) (sym held.grown))
+
+-- ---- opening
+
+pub took_held : (left left_then : Option (List ℕ)) (u : List ℕ) → Held [] left u left_then → Took left left_then
+took_held left left_then u held = record { bytes = held.bytes; moved = held.moved }
+
+-- what the text is, where it is told
+told_text : (left left_then : Option (List ℕ)) (u : List ℕ) (Holds : List ℕ → Type 0) → Held [] left u left_then
+    → ((r : List ℕ) → left_then ≡ Some r → Holds (u ++ r)) → IfSome left Holds
+told_text left left_then u Holds held each = subst (λ o. IfSome o Holds) (sym was) (by_case left_then refl)
+  where
+    was : left ≡ option_map (λ rest. u ++ rest) left_then
+    was = held.moved.was ∙ ap (λ l. option_map (λ rest. l ++ rest) left_then) (sym held.grown)
+
+    by_case : (o : Option (List ℕ)) → left_then ≡ o → IfSome (option_map (λ rest. u ++ rest) o) Holds
+    by_case None is = tt
+    by_case (Some r) is = each r is
+
+comes_behind : (s : Standing) (u r : List ℕ) → s.unread ≡ drop s.place u → s.place ≤ length u → s.rest ≡ 0 → s.fault ≡ None
+    → coming s r ≡ frames_from (size_of s.header) s.place (drop s.place (u ++ r))
+unfolding coming coming_at
+comes_behind s u r unread within edge none = rw (none, edge) (ap (frames_from (size_of s.header) s.place) (ap (λ l. l ++ r) unread ∙ sym (drop-append-le s.place u r within)))
+
+pub opened : (s : Standing) (u : List ℕ) (left left_then : Option (List ℕ)) → Held [] left u left_then → (length u < 1024 → IsAtEnd left_then)
+    → opening u ≡ Ok (record { header = s.header; length = s.place }) → s.unread ≡ drop s.place u → s.place ≤ length u → s.rest ≡ 0 → s.fault ≡ None
+    → IsOpen left s left_then
+opened s u left left_then held all opens unread within edge none = record {
+  unbroken = none;
+  opens = told_text left left_then u (OpensWith s left_then) held (λ r told. record {
+    coming = coming s r;
+    begins = record {
+      length = s.place;
+      opens = opening_seen u r (seen_in u r left_then all told) ∙ opens;
+      comes = comes_behind s u r unread within edge none;
+    };
+    comes = ap (comes_of s) told;
+  });
+}
+
+pub not_opened : (fault : Y4mFault) (u : List ℕ) (left left_then : Option (List ℕ)) → Held [] left u left_then → (length u < 1024 → IsAtEnd left_then)
+    → opening u ≡ Err fault → IfSome left (λ text. opening text ≡ Err fault)
+not_opened fault u left left_then held all bad =
+    told_text left left_then u (λ text. opening text ≡ Err fault) held (λ r told. opening_seen u r (seen_in u r left_then all told) ∙ bad)

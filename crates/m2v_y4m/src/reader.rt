@@ -309,6 +309,25 @@ impl Reader {
         self.give_read(inner, buf)
     }
 
+    /// Reads a frame line where one is to come. Answers whether a frame is at hand: none is at the end.
+    fn enter<S: Source>(&mut self, inner: &mut S) -> Result<bool, PortError>
+        requires unbroken { self.old.fault ≡ None }
+        ensures same { comes_of self.new (S.left inner.new) ≡ comes_of self.old (S.left inner.old) }
+        ensures header { self.new.header ≡ self.old.header }
+        ensures inside { result ≡ Ok true → IsInside self.new }
+        ensures unbroken { OnOk result (self.new.fault ≡ None) }
+        ensures unread { result ≡ Ok false → self.new.unread ≡ [] }
+        ensures end { result ≡ Ok false → IsAtEnd (S.left inner.new) }
+        ensures over { result ≡ Ok false → IsAtEnd (told_left self.new (S.left inner.new)) }
+        ensures failed { IsErrOf result PortError.Failed → Rose (S.faults inner.old) (S.faults inner.new) ⊎ IsTrue (is_some self.new.fault) }
+        ensures faults { S.faults inner.old ≤ S.faults inner.new }
+    {
+        if self.rest == 0 {
+            return self.next_line(inner);
+        }
+        Ok(true)
+    }
+
     /// Gives raw bytes of frames, as a source does. It fails where the input does, and from a fault of the text on.
     pub(crate) fn read<S: Source>(&mut self, inner: &mut S, buf: &mut [u8]) -> Result<usize, PortError>
         ensures fault { fault_to_come self.new (S.left inner.new) ≡ fault_to_come self.old (S.left inner.old) }
@@ -330,9 +349,10 @@ impl Reader {
         if buf.len() == 0 {
             return Ok(0);
         }
-        if self.rest == 0 && !self.next_line(inner)? {
-            return Ok(0);
+        match self.enter(inner) {
+            Ok(true) => self.give(inner, buf),
+            Ok(false) => Ok(0),
+            Err(e) => Err(e),
         }
-        self.give(inner, buf)
     }
 }
