@@ -4,4 +4,5 @@ mod LineLaws
 mod SizeLaws
 mod Steps
 mod WordLaws
+mod Packs
 mod Rows

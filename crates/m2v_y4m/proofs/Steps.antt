@@ -1,5 +1,5 @@
 -- What the steps of reading a text do to what comes of it.
-use Rattle.std.proofs.Common.{◌≡◌, ◌⊎◌, inl, inr, ℕ, suc, ◌+◌, ◌-◌, ◌<◌, ◌≤◌, List, [], ◌∷◌, ◌++◌, length, take, drop, refl, sym, ◌∙◌, ap, arith, Option, Some, None, IfSome, Result, Ok, Err, OnOk, OnErr, subst, append_assoc, length-append}
+use Rattle.std.proofs.Common.{◌≡◌, ◌⊎◌, inl, inr, ℕ, suc, ◌+◌, ◌-◌, ◌<◌, ◌≤◌, List, [], ◌∷◌, ◌++◌, length, take, drop, refl, sym, ◌∙◌, ap, arith, Option, Some, None, IfSome, Result, Ok, Err, OnOk, OnErr, IfOk, subst, append_assoc, length-append}
 use Rattle.std.specs.Prelude.{option_map}
 use Rattle.std.proofs.lemmas.List.{drop-append-le, take-append-le, append-nil}
 use Rattle.m2v_port.specs.Port.{Moves, IsAtEnd}
@@ -252,3 +252,15 @@ pub not_opened : (fault : Y4mFault) (u : List ℕ) (left left_then : Option (Lis
     → opening u ≡ Err fault → IfSome left (λ text. opening text ≡ Err fault)
 not_opened fault u left left_then held all bad =
     told_text left left_then u (λ text. opening text ≡ Err fault) held (λ r told. opening_seen u r (seen_in u r left_then all told) ∙ bad)
+
+-- ---- reading
+
+pub read_gave : {E : Type 0} (r : Result ℕ E) (before after : Option Coming) (buf : List ℕ) (new : Option Coming) → after ≡ before
+    → IfOk r (λ n. Gave after (take n buf) new) → IfOk r (λ n. Gave before (take n buf) new)
+read_gave (Ok n) before after buf new same gave = subst (λ o. Gave o (take n buf) new) same gave
+read_gave (Err e) before after buf new same gave = tt
+
+pub read_moved : {E : Type 0} (r : Result ℕ E) (s t : Standing) (left left_then : Option (List ℕ)) (buf : List ℕ)
+    → IfOk r (λ n. Gave (comes_of s left) (take n buf) (comes_of t left_then)) → IfOk r (λ n. Moves (told_left s left) (take n buf) (told_left t left_then))
+read_moved (Ok n) s t left left_then buf gave = gave_moves s t (take n buf) left left_then gave
+read_moved (Err e) s t left left_then buf gave = tt

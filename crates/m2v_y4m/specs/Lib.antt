@@ -1,6 +1,7 @@
 pub mod Answers
 pub mod Frames
 pub mod Header
+pub mod Packing
 pub mod Reading
 pub mod Rows
 pub mod Rules

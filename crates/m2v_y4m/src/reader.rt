@@ -330,7 +330,10 @@ impl Reader {
 
     /// Gives raw bytes of frames, as a source does. It fails where the input does, and from a fault of the text on.
     pub(crate) fn read<S: Source>(&mut self, inner: &mut S, buf: &mut [u8]) -> Result<usize, PortError>
+        ensures gave { IfOk result (λ n. Gave (comes_of self.old (S.left inner.old)) (take n buf.new) (comes_of self.new (S.left inner.new))) }
+        ensures same { OnErr result (comes_of self.new (S.left inner.new) ≡ comes_of self.old (S.left inner.old)) }
         ensures fault { fault_to_come self.new (S.left inner.new) ≡ fault_to_come self.old (S.left inner.old) }
+        ensures broke { self.new.fault ≡ None → self.old.fault ≡ None }
         ensures header { self.new.header ≡ self.old.header }
         ensures zero { result ≡ Ok 0 → 0 < length buf.old → IsAtEnd (S.left inner.new) }
         ensures unread { result ≡ Ok 0 → 0 < length buf.old → self.new.unread ≡ [] }
