@@ -1,13 +1,13 @@
 -- Packing frame after frame: what stands after one more, and where it stops.
-use Rattle.std.proofs.Common.{◌≡◌, ℕ, ◌+◌, ◌*◌, ◌<◌, ◌≤◌, List, [], ◌∷◌, ◌++◌, length, Option, refl, sym, subst, ap, ◌∙◌, arith, inl, inr}
-use Rattle.std.proofs.Math.Nat.{mul-suc}
+use Rattle.std.proofs.Common.{◌≡◌, ℕ, ◌+◌, ◌*◌, ◌<◌, ◌≤◌, List, [], ◌∷◌, ◌++◌, length, Option, refl, sym, subst, ap, ap₂, ◌∙◌, arith, inl, inr}
+use Rattle.std.proofs.Math.Nat.{suc-mul}
 use Rattle.std.specs.List.{flat_map}
 use Rattle.std.proofs.lemmas.List.{length-append, append-nil, append_assoc}
 use Rattle.std.proofs.lemmas.List.Concat.{flat_map-append}
 use Rattle.std.proofs.lemmas.List.Elements.{All-append, All-cons, All-nil, All-head, All-tail}
 use Rattle.m2v_port.specs.Ends.{Change, change}
 use Rattle.m2v_port.specs.Port.{Moves, IsAtEnd, Grows, GrowsByPrefix}
-use Rattle.m2v_port.proofs.Runs.{rose_since, moves_on, moves_nothing, grows_on, grows_by_nothing, grows_by_all, prefix_on, prefix_of_more}
+use Rattle.m2v_port.proofs.Runs.{rose_since, moves_on, moves_nothing, grows_on, grows_by_nothing, grows_by_all, grows_by_none, prefix_on}
 use Rattle.m2v_plane.specs.Raw.{raw}
 use Rattle.m2v_y4m.specs.declared.header.Y4mHeader.{Y4mHeader}
 use Rattle.m2v_y4m.specs.declared.answer.PackSummary.{PackSummary}
@@ -50,11 +50,19 @@ then_nothing bytes l0 l1 l2 first second = subst (λ (b : List ℕ). Moves l0 b 
 
 -- the bytes of so many frames of one size
 texts_size : (size : ℕ) (h : Y4mHeader) (frames : List (List ℕ)) → size ≡ size_of h → AreWhole h frames → length (flat_map frame_text frames) ≡ length frames * (6 + size)
-texts_size size h [] is whole = refl
+texts_size size h [] is whole = omega arith
 texts_size size h (f ∷ frames) is whole =
     let P = λ (x : List ℕ). length x ≡ size_of h in
     let here : length f ≡ size_of h = All-head P f frames whole in
-    omega (arith, length-append (frame_text f) (flat_map frame_text frames), texts_size size h frames is (All-tail P f frames whole), here, is)
+    let behind = texts_size size h frames is (All-tail P f frames whole) in
+    rw (suc-mul (length frames) (6 + size)) (omega (arith, length-append (frame_text f) (flat_map frame_text frames), behind, here, is))
+
+total_size : (h : Y4mHeader) (frames : List (List ℕ)) (number size bytes : ℕ) → size ≡ size_of h → bytes ≡ length (header_text h) → length frames ≡ number
+    → AreWhole h frames → bytes + number * (6 + size) ≡ length (y4m_text h frames)
+unfolding y4m_text
+total_size h frames number size bytes same line count whole =
+    ap₂ (λ a b. a + b) line (ap (λ n. n * (6 + size)) (sym count) ∙ sym (texts_size size h frames same whole))
+    ∙ sym (length-append (header_text h) (flat_map frame_text frames))
 
 -- The input's states are i0, i1 and so on, the output's o0, o1.
 module _ {S K : Type 0} (left : S → Option (List ℕ)) (input_faults : S → ℕ) (held : K → Option (List ℕ)) (output_faults : K → ℕ) where
@@ -135,18 +143,17 @@ module _ {S K : Type 0} (left : S → Option (List ℕ)) (input_faults : S → �
       lost_here h number lost.moved.part i0 i1 i2 o0 o1 o2 (omega arith) before lost.moved.moved lost.moved.fewer lost.same
   stopped h number i0 i1 i2 o0 o1 o2 Memory some small reads puts before (inr cut) = cut_here h number i0 i1 i2 o0 o1 o2 some small before cut
 
-  pub ended : (h : Y4mHeader) (number size bytes : ℕ) (i0 i1 i2 : S) (o0 o1 : K) (summary : PackSummary) → number ≤ most_frames → size ≡ size_of h → bytes ≡ length (header_text h)
-      → SoFar h number (input i0 i1) (output o0 o1) → Moves (left i1) [] (left i2) → IsAtEnd (left i2)
-      → summary ≡ record { frames = number; bytes = bytes + number * (6 + size) } → Packed h (input i0 i2) (output o0 o1) summary
-  unfolding y4m_text
-  ended h number size bytes i0 i1 i2 o0 o1 summary small same line before moved end is = record {
+  pub ended : (h : Y4mHeader) (number size bytes : ℕ) (i0 i1 i2 : S) (o0 o1 o2 : K) (summary : PackSummary) → number ≤ most_frames → size ≡ size_of h → bytes ≡ length (header_text h)
+      → SoFar h number (input i0 i1) (output o0 o1) → Moves (left i1) [] (left i2) → IsAtEnd (left i2) → held o2 ≡ held o1
+      → summary ≡ record { frames = number; bytes = bytes + number * (6 + size) } → Packed h (input i0 i2) (output o0 o2) summary
+  ended h number size bytes i0 i1 i2 o0 o1 o2 summary small same line before moved end stays is = record {
     frames = before.frames;
     most = omega (arith, before.count);
     whole = before.whole;
     moved = then_nothing (raw before.frames) (left i0) (left i1) (left i2) before.moved moved;
     end = end;
-    grown = before.grown;
-    numbers = is ∙ rw (sym before.count, line, texts_size size h before.frames same before.whole, length-append (header_text h) (flat_map frame_text before.frames)) ?;
+    grown = subst (λ (x : Option (List ℕ)). Grows (held o0) (y4m_text h before.frames) x) (sym stays) before.grown;
+    numbers = is ∙ ap₂ (λ n b. record { frames = n; bytes = b }) (sym before.count) (total_size h before.frames number size bytes same line before.count before.whole);
   }
 
   pub went_on : (h : Y4mHeader) (number byte : ℕ) (i0 i1 i2 : S) (o0 o1 : K) → number ≡ most_frames
@@ -180,6 +187,11 @@ module _ {S K : Type 0} (left : S → Option (List ℕ)) (input_faults : S → �
     moved = moves_nothing (left i0);
     grown = subst (λ (b : List ℕ). GrowsByPrefix (held o0) b (held o1)) (is ∙ sym (text_none h)) s;
   }
+
+  -- nothing was written
+  pub not_begun : (h : Y4mHeader) (i0 : S) (o0 : K) → 1 ≤ size_of h → PackStops h (input i0 i0) (output o0 o0) Memory
+  unfolding PackStops
+  not_begun h i0 o0 some = line_part h (header_text h) i0 o0 o0 some refl (grows_by_none (header_text h))
 
   -- the header line wasn't written whole
   pub line_cut : (h : Y4mHeader) (bytes : List ℕ) (i0 : S) (o0 o1 : K) (e : EncodeFault) → 1 ≤ size_of h → bytes ≡ header_text h
