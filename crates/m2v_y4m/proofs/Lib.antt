@@ -5,4 +5,5 @@ mod SizeLaws
 mod Steps
 mod WordLaws
 mod Packs
+mod Unpacks
 mod Rows

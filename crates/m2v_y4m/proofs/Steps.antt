@@ -1,7 +1,8 @@
 -- What the steps of reading a text do to what comes of it.
 use Rattle.std.proofs.Common.{◌≡◌, ◌⊎◌, inl, inr, ℕ, suc, ◌+◌, ◌-◌, ◌<◌, ◌≤◌, List, [], ◌∷◌, ◌++◌, length, take, drop, refl, sym, ◌∙◌, ap, arith, Option, Some, None, IfSome, Result, Ok, Err, OnOk, OnErr, IfOk, subst, append_assoc, length-append}
 use Rattle.std.specs.Prelude.{option_map}
-use Rattle.std.proofs.lemmas.List.{drop-append-le, take-append-le, append-nil}
+use Rattle.std.proofs.lemmas.List.{drop-append-le, take-append-le, length-take-le, append-nil}
+use Rattle.std.proofs.Math.Seq.{take-append-add}
 use Rattle.m2v_port.specs.Port.{Moves, IsAtEnd}
 use Rattle.m2v_y4m.specs.declared.answer.Y4mFault.{Y4mFault}
 use Rattle.m2v_y4m.specs.declared.answer.Y4mKind.{Y4mKind}
@@ -11,7 +12,7 @@ use Rattle.m2v_y4m.specs.Texts.{onward}
 use Rattle.m2v_y4m.specs.Header.{fault_at, opening}
 use Rattle.m2v_y4m.specs.Frames.{Coming, nothing, broken, frame_line, frames_from, size_of, Begins}
 use Rattle.m2v_y4m.specs.Sources.{Standing, coming_at, coming, comes_of, left_of, told_left, marked, Took, IsOpen, OpensWith}
-use Rattle.m2v_y4m.specs.Reading.{Held, Gave, TookLine, BrokeLine}
+use Rattle.m2v_y4m.specs.Reading.{Held, Gave, IsOver, IsBroken, TookLine, BrokeLine}
 use Rattle.m2v_y4m.proofs.LineLaws.{Seen, frame_line_seen, opening_seen, opening_seen, take_all, drop_all}
 use Rattle.m2v_y4m.proofs.FrameLaws.{with_front, from_none, coming_broken, coming_line, coming_unbegun, coming_ended, coming_on, at_edge}
 
@@ -264,3 +265,40 @@ pub read_moved : {E : Type 0} (r : Result ℕ E) (s t : Standing) (left left_the
     → IfOk r (λ n. Gave (comes_of s left) (take n buf) (comes_of t left_then)) → IfOk r (λ n. Moves (told_left s left) (take n buf) (told_left t left_then))
 read_moved (Ok n) s t left left_then buf gave = gave_moves s t (take n buf) left left_then gave
 read_moved (Err e) s t left left_then buf gave = tt
+
+-- ---- all that comes
+
+nothing_left : (raw : List ℕ) (fault : Option Y4mFault) → raw ++ marked fault ≡ [] → ◌≡◌ {A = Coming} (record { raw = raw; fault = fault }) nothing
+nothing_left [] None e = refl
+nothing_left [] (Some f) e = absurd (cc)
+nothing_left (b ∷ raw) fault e = absurd (cc)
+
+pub is_over : (s : Standing) (left : Option (List ℕ)) → IsAtEnd (told_left s left) → IsOver (comes_of s left)
+unfolding left_of
+is_over s left end = by_case (comes_of s left) end
+  where
+    by_case : (o : Option Coming) → IsAtEnd (option_map left_of o) → IsOver o
+    by_case None e = tt
+    by_case (Some c) e = nothing_left c.raw c.fault e
+
+pub is_broken : (s : Standing) (f : Y4mFault) (left : Option (List ℕ)) → s.fault ≡ Some f → IsBroken f (comes_of s left)
+unfolding coming
+is_broken s f None is = tt
+is_broken s f (Some r) is = rw is refl
+
+pub gave_on : (old between new : Option Coming) (xs ys : List ℕ) → Gave old xs between → Gave between ys new → Gave old (xs ++ ys) new
+gave_on old between new xs ys first second = record { was = first.was ∙ ap (option_map (with_front xs)) second.was ∙ joined new }
+  where
+    joined : (o : Option Coming) → option_map (with_front xs) (option_map (with_front ys) o) ≡ option_map (with_front (xs ++ ys)) o
+    joined None = refl
+    joined (Some c) = ap (λ l. Some (record { raw = l; fault = c.fault })) (sym (append_assoc xs ys c.raw))
+
+take_into : (buf got rest : List ℕ) (filled n : ℕ) → filled ≤ length buf → n ≤ length got → take (filled + n) (take filled buf ++ (got ++ rest)) ≡ take filled buf ++ take n got
+take_into buf got rest filled n fits within =
+    let is : length (take filled buf) ≡ filled = length-take-le filled buf fits in
+    ap (λ k. take (k + n) (take filled buf ++ (got ++ rest))) (sym is) ∙ take-append-add (take filled buf) (got ++ rest) n ∙ ap (λ l. take filled buf ++ l) (take-append-le n got rest within)
+
+pub gave_into : (old between new : Option Coming) (buf got rest : List ℕ) (filled n : ℕ) → filled ≤ length buf → n ≤ length got
+    → Gave old (take filled buf) between → Gave between (take n got) new → Gave old (take (filled + n) (take filled buf ++ (got ++ rest))) new
+gave_into old between new buf got rest filled n fits within first second =
+    subst (λ l. Gave old l new) (sym (take_into buf got rest filled n fits within)) (gave_on old between new (take filled buf) (take n got) first second)

@@ -1,5 +1,6 @@
 pub mod Answers
 pub mod Frames
+pub mod Giving
 pub mod Header
 pub mod Packing
 pub mod Reading

@@ -6,7 +6,7 @@ ghost use Rattle.m2v_y4m.specs.Rules.{IsHeader};
 ghost use Rattle.m2v_y4m.specs.Sources.{Standing, IsOpen, comes_of, told_left, fault_to_come};
 ghost use Rattle.m2v_y4m.specs.Texts.{onward};
 ghost use Rattle.m2v_y4m.specs.Header.{opening};
-ghost use Rattle.m2v_y4m.specs.Reading.{Held, Gave, IsInside, TookLine, BrokeLine};
+ghost use Rattle.m2v_y4m.specs.Reading.{Held, Gave, IsInside, IsOver, TookLine, BrokeLine};
 ghost use Rattle.m2v_y4m.specs.Answers.{OpenStops};
 
 use crate::answer::{Y4mError, Y4mFault, Y4mKind};
@@ -144,7 +144,10 @@ impl Reader {
     /// The bytes of a raw frame.
     pub(crate) fn size(&self) -> usize
         ensures value { result ≡ size_of self.now.header }
+        ensures some { 1 ≤ result }
+        ensures most { result ≤ 3317760 }
     {
+        let _size = frame_size(&self.header);
         self.size
     }
 
@@ -337,6 +340,7 @@ impl Reader {
         ensures header { self.new.header ≡ self.old.header }
         ensures zero { result ≡ Ok 0 → 0 < length buf.old → IsAtEnd (S.left inner.new) }
         ensures unread { result ≡ Ok 0 → 0 < length buf.old → self.new.unread ≡ [] }
+        ensures over { result ≡ Ok 0 → 0 < length buf.old → IsOver (comes_of self.new (S.left inner.new)) }
         ensures unbroken { OnOk result (self.new.fault ≡ None) }
         ensures broken { IsTrue (is_some self.old.fault) → result ≡ Err PortError.Failed }
         ensures within { IfOk result (λ n. n ≤ length buf.old) }
