@@ -6,4 +6,5 @@ mod Steps
 mod WordLaws
 mod Packs
 mod Unpacks
+mod UnpackTexts
 mod Rows

@@ -104,6 +104,18 @@ module _ {S K : Type 0} (left : S → Option (List ℕ)) (input_faults : S → �
       lost_here h number lost.gave.part c0 c1 c2 o0 o1 o2 (omega arith) before lost.gave.gave lost.same
   stopped h number i0 i1 i2 c0 c1 c2 o0 o1 o2 errors.Memory small reads puts before (inr cut) = cut_here h number c0 c1 c2 o0 o1 o2 small before cut
 
+  pub stopped_at : (h h1 : Y4mHeader) (number : ℕ) (i0 i1 i2 : S) (c0 c1 c2 : Option Coming) (o0 o1 o2 : K) (e : UnpackError) → h1 ≡ h → number < most_frames
+      → input_faults i0 ≤ input_faults i1 → output_faults o0 ≤ output_faults o1
+      → GivenSoFar h number c0 c1 (output o0 o1) → FrameStops (size_of h1) (input i1 i2) c1 c2 (output o1 o2) e → GivingStops h c0 c2 (input i0 i2) (output o0 o2) e
+  stopped_at h h1 number i0 i1 i2 c0 c1 c2 o0 o1 o2 e same small reads puts before s =
+      stopped h number i0 i1 i2 c0 c1 c2 o0 o1 o2 e small reads puts before
+      (subst (λ (x : Y4mHeader). FrameStops (size_of x) (input i1 i2) c1 c2 (output o1 o2) e) same s)
+
+  pub given_at : (h h1 : Y4mHeader) (number : ℕ) (c0 c1 c2 : Option Coming) (o0 o1 o2 : K) → h1 ≡ h → GivenSoFar h number c0 c1 (output o0 o1) → FrameGiven (size_of h1) c1 c2 (output o1 o2)
+      → GivenSoFar h (number + 1) c0 c2 (output o0 o2)
+  given_at h h1 number c0 c1 c2 o0 o1 o2 same before next =
+      given_more h number c0 c1 c2 o0 o1 o2 before (subst (λ (x : Y4mHeader). FrameGiven (size_of x) c1 c2 (output o1 o2)) same next)
+
   pub ended : (h : Y4mHeader) (number : ℕ) (i0 i2 : S) (c0 c1 c2 : Option Coming) (o0 o1 o2 : K) → GivenSoFar h number c0 c1 (output o0 o1)
       → Gave c1 [] c2 → IsOver c2 → IsAtEnd (left i2) → held o2 ≡ held o1 → AllGiven h number c0 c2 (input i0 i2) (output o0 o2)
   ended h number i0 i2 c0 c1 c2 o0 o1 o2 before gave over end same = record {

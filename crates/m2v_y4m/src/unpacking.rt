@@ -1,11 +1,11 @@
 ghost use Rattle.std.specs.Prelude.{ℕ, ◌≡◌, ◌⊎◌, ◌+◌, ◌<◌, ◌≤◌, [], ◌∷◌, true, false, length, take, IfOk, IfErr, OnOk, OnErr, IsErrOf, IsTrue, is_some, None, Ok};
-ghost use Rattle.m2v_port.specs.Ends.{change, Tells, SinkStays};
+ghost use Rattle.m2v_port.specs.Ends.{change, SinkStays};
 ghost use Rattle.m2v_port.specs.Port.{Rose, IsAtEnd, Grows};
 ghost use Rattle.m2v_y4m.specs.Frames.{size_of};
 ghost use Rattle.m2v_y4m.specs.Sources.{comes_of};
 ghost use Rattle.m2v_y4m.specs.Reading.{Gave, GaveFewer, IsOver, FrameGiven, NoFrame, FrameStops, ReadStops, PutStops};
 ghost use Rattle.m2v_y4m.specs.Giving.{AllGiven, GivingStops};
-ghost use Rattle.m2v_y4m.specs.Answers.{Unpacked, UnpackStops, IsAnswered};
+ghost use Rattle.m2v_y4m.specs.Answers.{Unpacked, UnpackStops};
 
 use crate::answer::{PackSummary, UnpackError, Y4mError};
 use crate::packing::MOST;
@@ -31,10 +31,6 @@ pub fn unpack<S: Source, K: Sink>(
     ensures err { IfErr result (UnpackStops
         (change S.left S.faults input.old input.new)
         (change K.held K.faults output.old output.new)) }
-    // What is answered to a text that is told: nothing else may come but want of memory and counts that rose.
-    ensures told { Tells (change S.left S.faults input.old input.new) (IsAnswered
-        (change S.left S.faults input.old input.new)
-        (change K.held K.faults output.old output.new) result) }
     ensures output { SinkStays K.ready K.name K.faults output.old output.new }
     ensures input { S.faults input.old ≤ S.faults input.new }
 {

@@ -33,13 +33,13 @@ returns-then-read-eq0-clause-end g c = λ is.
 pub returns-then-read-frame-clause-err : goal.returns-then-read-frame-clause-err
 unfolding FrameStops
 returns-then-read-frame-clause-err g c =
-    let frame = c.read_frame-read.new.frame in
-    let less : c.in_ok-read.read < length c.args.frame.now = omega (arith, c.read_frame-read.ensures.same) in
+    let frame = c.read_frame.new.frame in
+    let less : c.in_ok-read.read < length c.args.frame.now = omega (arith, c.read_frame.ensures.same) in
     (c.in_ok-read.ensures.end less, record {
       part = take c.in_ok-read.read frame;
       gave = c.in_ok-read.ensures.gave;
       over = c.in_ok-read.ensures.over less;
-      count = length-take-le c.in_ok-read.read frame (omega (arith, c.read_frame-read.ensures.same, less));
+      count = length-take-le c.in_ok-read.read frame (omega (arith, c.read_frame.ensures.same, less));
       some = omega arith;
       less = omega (arith, less, c.requires.frame);
       same = refl;
@@ -48,7 +48,7 @@ returns-then-read-frame-clause-err g c =
 pub returns-in_err-put-clause-err : goal.returns-in_err-put-clause-err
 returns-in_err-put-clause-err g c =
     let p = err_from_is_err_and c.from_residual-in_err-put.result c.from_residual-in_err-put.ensures.1 in
-    let frame = c.read_frame-read.new.frame in
-    let size : length frame ≡ size_of c.args.reader.now.header = c.read_frame-read.ensures.same ∙ c.requires.frame in
+    let frame = c.read_frame.new.frame in
+    let size : length frame ≡ size_of c.args.reader.now.header = c.read_frame.ensures.same ∙ c.requires.frame in
     let all : take c.in_ok-read.read frame ≡ frame = take_all c.in_ok-read.read frame (omega arith) in
     rw (p.1, p.2) (next_cut _ _ _ _ _ frame _ size (rw all at c.in_ok-read.ensures.gave) c.in_err-put.ensures.err)
