@@ -4,4 +4,7 @@ mod LineLaws
 mod SizeLaws
 mod Steps
 mod WordLaws
+mod Packs
+mod Unpacks
+mod UnpackTexts
 mod Rows

@@ -1,12 +1,15 @@
 -- Lines and words at the front of a text, whatever follows.
 use Rattle.std.proofs.Common.{◌≡◌, ◌⊎◌, inl, inr, ℕ, zero, suc, ◌+◌, ◌-◌, ◌<◌, ◌≤◌, min, Bool, true, false, cond, ◌==◌, ◌&&◌, ◌||◌, List, [], ◌∷◌, ◌++◌, length, take, drop, get_or, refl, sym, ◌∙◌, ap, arith, Option, Some, None, Result, Ok, Err, subst, IsTrue, nat_lt}
 use Rattle.std.specs.Prelude.{codes, position, if◌then◌else◌}
-use Rattle.std.proofs.lemmas.List.{take-append-le, take_rest, length-take-le, append-nil, get_or_append_left, take-take}
+use Rattle.std.proofs.lemmas.List.{take-append-le, length-take, length-take-le, append-nil, get_or_append_left, take-take}
 use Rattle.std.proofs.Math.Seq.{take-length}
 use Rattle.m2v_y4m.specs.declared.answer.Y4mFault.{Y4mFault}
+use Rattle.std.specs.List.{position_or_len}
+use Rattle.std.proofs.lemmas.Bool.Decides.{nat_tests}
 use Rattle.m2v_y4m.specs.declared.answer.Y4mKind.{Y4mKind}
+use Rattle.m2v_y4m.specs.declared.answer.Y4mKind.TheVariants.{Magic}
 use Rattle.m2v_y4m.specs.Texts.{line_length, begins}
-use Rattle.m2v_y4m.specs.Header.{opening, opening_at, magic}
+use Rattle.m2v_y4m.specs.Header.{opening, opening_at, opening_with, with_words, none_seen, words_from, fault_at, magic}
 use Rattle.m2v_y4m.specs.Frames.{frame_line, frame_line_at, frame_word}
 
 -- all of a list that is short enough
@@ -56,3 +59,27 @@ frame_line_seen u r seen = rw (line_seen u r seen) (by_length (line_length u))
     by_length : (o : Option ℕ) → frame_line_at (u ++ r) o ≡ frame_line_at u o
     by_length None = refl
     by_length (Some n) = rw (begins_seen frame_word u r (omega arith) seen) refl
+
+-- what was found stands within
+found_within : (k m n : ℕ) (b : Bool) → nat_lt k m ≡ b → cond b (Some k) None ≡ Some n → n < m
+found_within k m n true t eq =
+    let less : k < m = grind (arith, nat_tests) in
+    let same : k ≡ n = cc in
+    omega (arith, less, same)
+found_within k m n false t eq = absurd (cc)
+
+-- a line ends within the text
+pub line_within : (text : List ℕ) (n : ℕ) → line_length text ≡ Some n → n < length text
+unfolding line_length
+line_within text n is =
+    let within = found_within (position_or_len (λ b. b == 10) (take 1024 text)) (length (take 1024 text)) n _ refl is in
+    omega (arith, within, length-take 1024 text)
+
+pub opening_seen : (u r : List ℕ) → Seen u r → opening (u ++ r) ≡ opening u
+unfolding opening
+opening_seen u r seen = rw (begins_seen magic u r (omega arith) seen, line_seen u r seen)
+    (ap (λ o. if begins magic u then o else Err (fault_at Magic 0)) (by_length (line_length u) refl))
+  where
+    by_length : (o : Option ℕ) → line_length u ≡ o → opening_at (u ++ r) o ≡ opening_at u o
+    by_length None is = refl
+    by_length (Some n) is = ap (λ l. opening_with n (with_words none_seen 10 (words_from 10 l))) (take-append-le n u r (omega (arith, line_within u n is)))

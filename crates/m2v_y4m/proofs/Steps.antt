@@ -1,18 +1,19 @@
 -- What the steps of reading a text do to what comes of it.
-use Rattle.std.proofs.Common.{◌≡◌, ◌⊎◌, inl, inr, ℕ, suc, ◌+◌, ◌-◌, ◌<◌, ◌≤◌, List, [], ◌∷◌, ◌++◌, length, take, drop, refl, sym, ◌∙◌, ap, arith, Option, Some, None, IfSome, Result, Ok, Err, OnOk, OnErr, subst, append_assoc, length-append}
+use Rattle.std.proofs.Common.{◌≡◌, ◌⊎◌, inl, inr, ℕ, suc, ◌+◌, ◌-◌, ◌<◌, ◌≤◌, List, [], ◌∷◌, ◌++◌, length, take, drop, refl, sym, ◌∙◌, ap, arith, Option, Some, None, IfSome, Result, Ok, Err, OnOk, OnErr, IfOk, subst, append_assoc, length-append}
 use Rattle.std.specs.Prelude.{option_map}
-use Rattle.std.proofs.lemmas.List.{drop-append-le, take-append-le, append-nil}
+use Rattle.std.proofs.lemmas.List.{drop-append-le, take-append-le, length-take-le, append-nil}
+use Rattle.std.proofs.Math.Seq.{take-append-add}
 use Rattle.m2v_port.specs.Port.{Moves, IsAtEnd}
 use Rattle.m2v_y4m.specs.declared.answer.Y4mFault.{Y4mFault}
 use Rattle.m2v_y4m.specs.declared.answer.Y4mKind.{Y4mKind}
 use Rattle.m2v_y4m.specs.declared.answer.Y4mKind.TheVariants.{Frame}
 use Rattle.m2v_y4m.specs.declared.header.Y4mHeader.{Y4mHeader}
 use Rattle.m2v_y4m.specs.Texts.{onward}
-use Rattle.m2v_y4m.specs.Header.{fault_at}
-use Rattle.m2v_y4m.specs.Frames.{Coming, nothing, broken, frame_line, frames_from, size_of}
-use Rattle.m2v_y4m.specs.Sources.{Standing, coming_at, coming, comes_of, left_of, told_left, marked}
-use Rattle.m2v_y4m.specs.Reading.{Held, Gave, TookLine, BrokeLine}
-use Rattle.m2v_y4m.proofs.LineLaws.{Seen, frame_line_seen, take_all, drop_all}
+use Rattle.m2v_y4m.specs.Header.{fault_at, opening}
+use Rattle.m2v_y4m.specs.Frames.{Coming, nothing, broken, frame_line, frames_from, size_of, Begins}
+use Rattle.m2v_y4m.specs.Sources.{Standing, coming_at, coming, comes_of, left_of, told_left, marked, Took, IsOpen, OpensWith}
+use Rattle.m2v_y4m.specs.Reading.{Held, Gave, IsOver, IsBroken, TookLine, BrokeLine}
+use Rattle.m2v_y4m.proofs.LineLaws.{Seen, frame_line_seen, opening_seen, opening_seen, take_all, drop_all}
 use Rattle.m2v_y4m.proofs.FrameLaws.{with_front, from_none, coming_broken, coming_line, coming_unbegun, coming_ended, coming_on, at_edge}
 
 -- what stands of a text that isn't broken
@@ -209,3 +210,95 @@ pub looked : (s was : Standing) (u : List ℕ) (left left_then : Option (List �
     → comes_of (record s { unread = u }) left_then ≡ comes_of was left
 looked s was u left left_then is held =
     sym (ap (λ x. comes_of x left) (sym is) ∙ comes_held s held.bytes left left_then held.moved ∙ ap (λ l. comes_of (record s { unread = l }) left_then) (sym held.grown))
+
+-- ---- opening
+
+pub took_held : (left left_then : Option (List ℕ)) (u : List ℕ) → Held [] left u left_then → Took left left_then
+took_held left left_then u held = record { bytes = held.bytes; moved = held.moved }
+
+-- what the text is, where it is told
+told_text : (left left_then : Option (List ℕ)) (u : List ℕ) (Holds : List ℕ → Type 0) → Held [] left u left_then
+    → ((r : List ℕ) → left_then ≡ Some r → Holds (u ++ r)) → IfSome left Holds
+told_text left left_then u Holds held each = subst (λ o. IfSome o Holds) (sym was) (by_case left_then refl)
+  where
+    was : left ≡ option_map (λ rest. u ++ rest) left_then
+    was = held.moved.was ∙ ap (λ l. option_map (λ rest. l ++ rest) left_then) (sym held.grown)
+
+    by_case : (o : Option (List ℕ)) → left_then ≡ o → IfSome (option_map (λ rest. u ++ rest) o) Holds
+    by_case None is = tt
+    by_case (Some r) is = each r is
+
+comes_behind : (s : Standing) (u r : List ℕ) → s.unread ≡ drop s.place u → s.place ≤ length u → s.rest ≡ 0 → s.fault ≡ None
+    → coming s r ≡ frames_from (size_of s.header) s.place (drop s.place (u ++ r))
+unfolding coming coming_at
+comes_behind s u r unread within edge none = rw (none, edge) (ap (frames_from (size_of s.header) s.place) (ap (λ l. l ++ r) unread ∙ sym (drop-append-le s.place u r within)))
+
+pub opened : (s : Standing) (u : List ℕ) (left left_then : Option (List ℕ)) → Held [] left u left_then → (length u < 1024 → IsAtEnd left_then)
+    → opening u ≡ Ok (record { header = s.header; length = s.place }) → s.unread ≡ drop s.place u → s.place ≤ length u → s.rest ≡ 0 → s.fault ≡ None
+    → IsOpen left s left_then
+opened s u left left_then held all opens unread within edge none = record {
+  unbroken = none;
+  opens = told_text left left_then u (OpensWith s left_then) held (λ r told. record {
+    coming = coming s r;
+    begins = record {
+      length = s.place;
+      opens = opening_seen u r (seen_in u r left_then all told) ∙ opens;
+      comes = comes_behind s u r unread within edge none;
+    };
+    comes = ap (comes_of s) told;
+  });
+}
+
+pub not_opened : (fault : Y4mFault) (u : List ℕ) (left left_then : Option (List ℕ)) → Held [] left u left_then → (length u < 1024 → IsAtEnd left_then)
+    → opening u ≡ Err fault → IfSome left (λ text. opening text ≡ Err fault)
+not_opened fault u left left_then held all bad =
+    told_text left left_then u (λ text. opening text ≡ Err fault) held (λ r told. opening_seen u r (seen_in u r left_then all told) ∙ bad)
+
+-- ---- reading
+
+pub read_gave : {E : Type 0} (r : Result ℕ E) (before after : Option Coming) (buf : List ℕ) (new : Option Coming) → after ≡ before
+    → IfOk r (λ n. Gave after (take n buf) new) → IfOk r (λ n. Gave before (take n buf) new)
+read_gave (Ok n) before after buf new same gave = subst (λ o. Gave o (take n buf) new) same gave
+read_gave (Err e) before after buf new same gave = tt
+
+pub read_moved : {E : Type 0} (r : Result ℕ E) (s t : Standing) (left left_then : Option (List ℕ)) (buf : List ℕ)
+    → IfOk r (λ n. Gave (comes_of s left) (take n buf) (comes_of t left_then)) → IfOk r (λ n. Moves (told_left s left) (take n buf) (told_left t left_then))
+read_moved (Ok n) s t left left_then buf gave = gave_moves s t (take n buf) left left_then gave
+read_moved (Err e) s t left left_then buf gave = tt
+
+-- ---- all that comes
+
+nothing_left : (raw : List ℕ) (fault : Option Y4mFault) → raw ++ marked fault ≡ [] → ◌≡◌ {A = Coming} (record { raw = raw; fault = fault }) nothing
+nothing_left [] None e = refl
+nothing_left [] (Some f) e = absurd (cc)
+nothing_left (b ∷ raw) fault e = absurd (cc)
+
+pub is_over : (s : Standing) (left : Option (List ℕ)) → IsAtEnd (told_left s left) → IsOver (comes_of s left)
+unfolding left_of
+is_over s left end = by_case (comes_of s left) end
+  where
+    by_case : (o : Option Coming) → IsAtEnd (option_map left_of o) → IsOver o
+    by_case None e = tt
+    by_case (Some c) e = nothing_left c.raw c.fault e
+
+pub is_broken : (s : Standing) (f : Y4mFault) (left : Option (List ℕ)) → s.fault ≡ Some f → IsBroken f (comes_of s left)
+unfolding coming
+is_broken s f None is = tt
+is_broken s f (Some r) is = rw is refl
+
+pub gave_on : (old between new : Option Coming) (xs ys : List ℕ) → Gave old xs between → Gave between ys new → Gave old (xs ++ ys) new
+gave_on old between new xs ys first second = record { was = first.was ∙ ap (option_map (with_front xs)) second.was ∙ joined new }
+  where
+    joined : (o : Option Coming) → option_map (with_front xs) (option_map (with_front ys) o) ≡ option_map (with_front (xs ++ ys)) o
+    joined None = refl
+    joined (Some c) = ap (λ l. Some (record { raw = l; fault = c.fault })) (sym (append_assoc xs ys c.raw))
+
+take_into : (buf got rest : List ℕ) (filled n : ℕ) → filled ≤ length buf → n ≤ length got → take (filled + n) (take filled buf ++ (got ++ rest)) ≡ take filled buf ++ take n got
+take_into buf got rest filled n fits within =
+    let is : length (take filled buf) ≡ filled = length-take-le filled buf fits in
+    ap (λ k. take (k + n) (take filled buf ++ (got ++ rest))) (sym is) ∙ take-append-add (take filled buf) (got ++ rest) n ∙ ap (λ l. take filled buf ++ l) (take-append-le n got rest within)
+
+pub gave_into : (old between new : Option Coming) (buf got rest : List ℕ) (filled n : ℕ) → filled ≤ length buf → n ≤ length got
+    → Gave old (take filled buf) between → Gave between (take n got) new → Gave old (take (filled + n) (take filled buf ++ (got ++ rest))) new
+gave_into old between new buf got rest filled n fits within first second =
+    subst (λ l. Gave old l new) (sym (take_into buf got rest filled n fits within)) (gave_on old between new (take filled buf) (take n got) first second)

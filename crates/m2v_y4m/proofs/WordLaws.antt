@@ -17,6 +17,13 @@ space b = b == 32
 abbrev pub others : ℕ → List ℕ → List (List ℕ)
 others k text = if nat_lt k (length text) then words (drop (k + 1) text) else []
 
+less_suc : (k n : ℕ) → nat_lt (suc k) (suc n) ≡ nat_lt k n
+less_suc k n = by_test (nat_lt k n) refl
+  where
+    by_test : (b : Bool) → nat_lt k n ≡ b → nat_lt (suc k) (suc n) ≡ nat_lt k n
+    by_test true is = rw is (grind (arith, nat_tests))
+    by_test false is = rw is (grind (arith, nat_tests))
+
 pub words_step : (text : List ℕ) → words text ≡ take (position_or_len space text) text ∷ others (position_or_len space text) text
 unfolding words
 words_step [] = refl
@@ -24,11 +31,13 @@ words_step (b ∷ text) = by_test (b == 32) refl (words_step text)
   where
     by_test : (is : Bool) → (b == 32) ≡ is → words text ≡ take (position_or_len space text) text ∷ others (position_or_len space text) text
         → with_byte b (words text) ≡ take (position_or_len space (b ∷ text)) (b ∷ text) ∷ others (position_or_len space (b ∷ text)) (b ∷ text)
-    by_test true is split = ap (with_byte b) split ∙ rw is (ap (λ l. [] ∷ l) (sym split))
+    by_test true is split =
+        let some : nat_lt 0 (suc (length text)) ≡ true = grind (arith, nat_tests) in
+        ap (with_byte b) split ∙ rw (is, some) (ap (λ l. [] ∷ l) (sym split))
     by_test false is split =
         let one : 1 + position_or_len space text ≡ suc (position_or_len space text) = omega arith in
         let next : suc (position_or_len space text) + 1 ≡ suc (position_or_len space text + 1) = omega arith in
-        ap (with_byte b) split ∙ rw (is, one, next) refl
+        ap (with_byte b) split ∙ rw (is, one, next, less_suc (position_or_len space text) (length text)) refl
 
 others_from : (line : List ℕ) (at e k : ℕ) → e ≡ at + k → at ≤ length line → others k (drop at line) ≡ words_from (e + 1) line
 others_from line at e k is fits = by_test (nat_lt k (length (drop at line))) refl

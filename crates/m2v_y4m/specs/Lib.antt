@@ -1,6 +1,8 @@
 pub mod Answers
 pub mod Frames
+pub mod Giving
 pub mod Header
+pub mod Packing
 pub mod Reading
 pub mod Rows
 pub mod Rules

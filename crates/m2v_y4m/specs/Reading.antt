@@ -1,11 +1,17 @@
 -- Reading a YUV4MPEG2 text: what is read ahead, and what a step does.
-use Rattle.std.specs.Prelude.{ℕ, ◌≡◌, ◌≤◌, List, ◌++◌, length, drop, Option, Some, None, IfSome, option_map, Result, Ok, Err}
-use Rattle.m2v_port.specs.Port.{Moves}
+use Rattle.std.specs.Prelude.{ℕ, ◌≡◌, ◌⊎◌, ◌<◌, ◌≤◌, List, [], ◌++◌, length, drop, Option, Some, None, IfSome, option_map, Result, Ok, Err}
+use Rattle.m2v_port.specs.Port.{Moves, IsAtEnd, Grows, GrowsByPrefix}
+use Rattle.m2v_port.specs.Ends.{Change}
+use Rattle.m2v_plane.specs.Raw.{raw}
+use Rattle.m2v_y4m.specs.declared.answer.Y4mFault.{Y4mFault}
+use Rattle.m2v_y4m.specs.declared.answer.UnpackError.{UnpackError}
+use Rattle.m2v_y4m.specs.declared.answer.UnpackError.TheVariants as errors
+use Rattle.m2v_y4m.specs.declared.header.Y4mHeader.{Y4mHeader}
 use Rattle.m2v_y4m.specs.declared.words.Seen.{Seen}
 use Rattle.m2v_y4m.specs.declared.answer.Y4mKind.{Y4mKind}
 use Rattle.m2v_y4m.specs.Texts.{onward}
 use Rattle.m2v_y4m.specs.Header.{fault_at}
-use Rattle.m2v_y4m.specs.Frames.{Coming, frame_line, size_of}
+use Rattle.m2v_y4m.specs.Frames.{Coming, nothing, broken, frame_line, size_of, AreWhole}
 use Rattle.m2v_y4m.specs.Sources.{Standing}
 
 -- how many bytes are read ahead at most
@@ -52,3 +58,89 @@ pub record BrokeLine (s t : Standing) : Type 0 where
   pub kind : Y4mKind
   pub is : frame_line s.unread ≡ Err kind
   pub after : t ≡ record s { fault = Some (fault_at kind s.place) }
+
+-- ---- frame by frame
+
+-- fewer than so many raw bytes were given
+pub record GaveFewer (old : Option Coming) (bound : ℕ) (new : Option Coming) : Type 0 where
+  pub part : List ℕ
+  pub fewer : length part < bound
+  pub gave : Gave old part new
+
+-- nothing comes any more, where that is told
+abbrev pub IsOver : Option Coming → Type 0
+IsOver c = IfSome c (λ c. c ≡ nothing)
+
+-- nothing comes but this fault
+abbrev pub IsBroken : Y4mFault → Option Coming → Type 0
+IsBroken fault c = IfSome c (λ c. c ≡ broken fault)
+
+-- So many frames were given, and written.
+pub record GivenSoFar (header : Y4mHeader) (number : ℕ) (old new : Option Coming) (held : Change) : Type 0 where
+  pub frames : List (List ℕ)
+  pub count : length frames ≡ number
+  pub whole : AreWhole header frames
+  pub gave : Gave old (raw frames) new
+  pub grown : Grows held.old (raw frames) held.new
+
+-- the next frame was given, and written
+pub record FrameGiven (size : ℕ) (old new : Option Coming) (held : Change) : Type 0 where
+  pub frame : List ℕ
+  pub whole : length frame ≡ size
+  pub gave : Gave old frame new
+  pub grown : Grows held.old frame held.new
+
+-- the next frame was given, and a prefix of it written
+pub record FrameCut (size : ℕ) (old new : Option Coming) (held : Change) : Type 0 where
+  pub frame : List ℕ
+  pub whole : length frame ≡ size
+  pub gave : Gave old frame new
+  pub grown : GrowsByPrefix held.old frame held.new
+
+-- no frame was left
+pub record NoFrame (old new : Option Coming) (held : Change) : Type 0 where
+  pub gave : Gave old [] new
+  pub over : IsOver new
+  pub same : held.new ≡ held.old
+
+-- the text ended inside the next frame
+pub record FrameShort (size : ℕ) (old new : Option Coming) (held : Change) (extra : ℕ) : Type 0 where
+  pub part : List ℕ
+  pub gave : Gave old part new
+  pub over : IsOver new
+  pub count : length part ≡ extra
+  pub some : 0 < extra
+  pub less : extra < size
+  pub same : held.new ≡ held.old
+
+-- reading the next frame failed
+pub record FrameLost (size : ℕ) (old new : Option Coming) (held : Change) : Type 0 where
+  pub gave : GaveFewer old size new
+  pub same : held.new ≡ held.old
+
+-- why a next frame wasn't unpacked
+unfoldable pub FrameStops : ℕ → Change → Option Coming → Option Coming → Change → UnpackError → Type 0
+FrameStops size left old new held errors.Read = left.Failed × FrameLost size old new held
+FrameStops size left old new held errors.Write = held.Failed × FrameCut size old new held
+FrameStops size left old new held (errors.ShortFrame extra) = IsAtEnd left.new × FrameShort size old new held extra
+FrameStops size left old new held errors.TooManyFrames = ⊥
+FrameStops size left old new held (errors.Y4m fault) = IsBroken fault new × FrameLost size old new held
+FrameStops size left old new held errors.Memory = FrameLost size old new held ⊎ FrameCut size old new held
+
+-- why so many raw bytes weren't read
+unfoldable pub ReadStops : ℕ → Change → Option Coming → Option Coming → UnpackError → Type 0
+ReadStops size left old new errors.Read = left.Failed × GaveFewer old size new
+ReadStops size left old new errors.Write = ⊥
+ReadStops size left old new (errors.ShortFrame extra) = ⊥
+ReadStops size left old new errors.TooManyFrames = ⊥
+ReadStops size left old new (errors.Y4m fault) = IsBroken fault new × GaveFewer old size new
+ReadStops size left old new errors.Memory = GaveFewer old size new
+
+-- why some bytes weren't written
+unfoldable pub PutStops : List ℕ → Change → UnpackError → Type 0
+PutStops bytes held errors.Read = ⊥
+PutStops bytes held errors.Write = held.Failed × GrowsByPrefix held.old bytes held.new
+PutStops bytes held (errors.ShortFrame extra) = ⊥
+PutStops bytes held errors.TooManyFrames = ⊥
+PutStops bytes held (errors.Y4m fault) = ⊥
+PutStops bytes held errors.Memory = GrowsByPrefix held.old bytes held.new

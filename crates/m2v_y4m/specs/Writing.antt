@@ -8,14 +8,12 @@ use Rattle.m2v_y4m.specs.Header.{rate_frames, rate_seconds}
 abbrev pub scan_text : Bool → List ℕ
 scan_text top = if top then codes " It" else codes " Ip"
 
--- a rate in lowest terms
-abbrev pub rate_text : ℕ → List ℕ
-rate_text code = decimal (slice_index rate_frames (code - 1)) ++ (codes ":" ++ decimal (slice_index rate_seconds (code - 1)))
-
+-- the header line, with the rate in lowest terms
 unfoldable pub header_text : Y4mHeader → List ℕ
 header_text h =
-    codes "YUV4MPEG2 W" ++ (decimal h.width ++ (codes " H" ++ (decimal h.height ++ (codes " F" ++ (rate_text h.rate_code ++ (scan_text h.top
-    ++ codes " A0:0 C420mpeg2\n"))))))
+    codes "YUV4MPEG2 W" ++ (decimal h.width ++ (codes " H" ++ (decimal h.height
+    ++ (codes " F" ++ (decimal (slice_index rate_frames (h.rate_code - 1)) ++ (codes ":" ++ (decimal (slice_index rate_seconds (h.rate_code - 1))
+    ++ (scan_text h.top ++ codes " A0:0 C420mpeg2\n"))))))))
 
 -- a frame behind its line
 abbrev pub frame_text : List ℕ → List ℕ

@@ -6,7 +6,7 @@ ghost use Rattle.m2v_y4m.specs.Rules.{IsHeader};
 ghost use Rattle.m2v_y4m.specs.Sources.{Standing, IsOpen, comes_of, told_left, fault_to_come};
 ghost use Rattle.m2v_y4m.specs.Texts.{onward};
 ghost use Rattle.m2v_y4m.specs.Header.{opening};
-ghost use Rattle.m2v_y4m.specs.Reading.{Held, Gave, IsInside, TookLine, BrokeLine};
+ghost use Rattle.m2v_y4m.specs.Reading.{Held, Gave, IsInside, IsOver, TookLine, BrokeLine};
 ghost use Rattle.m2v_y4m.specs.Answers.{OpenStops};
 
 use crate::answer::{Y4mError, Y4mFault, Y4mKind};
@@ -144,7 +144,10 @@ impl Reader {
     /// The bytes of a raw frame.
     pub(crate) fn size(&self) -> usize
         ensures value { result ≡ size_of self.now.header }
+        ensures some { 1 ≤ result }
+        ensures most { result ≤ 3317760 }
     {
+        let _size = frame_size(&self.header);
         self.size
     }
 
@@ -309,12 +312,35 @@ impl Reader {
         self.give_read(inner, buf)
     }
 
+    /// Reads a frame line where one is to come. Answers whether a frame is at hand: none is at the end.
+    fn enter<S: Source>(&mut self, inner: &mut S) -> Result<bool, PortError>
+        requires unbroken { self.old.fault ≡ None }
+        ensures same { comes_of self.new (S.left inner.new) ≡ comes_of self.old (S.left inner.old) }
+        ensures header { self.new.header ≡ self.old.header }
+        ensures inside { result ≡ Ok true → IsInside self.new }
+        ensures unbroken { OnOk result (self.new.fault ≡ None) }
+        ensures unread { result ≡ Ok false → self.new.unread ≡ [] }
+        ensures end { result ≡ Ok false → IsAtEnd (S.left inner.new) }
+        ensures over { result ≡ Ok false → IsAtEnd (told_left self.new (S.left inner.new)) }
+        ensures failed { IsErrOf result PortError.Failed → Rose (S.faults inner.old) (S.faults inner.new) ⊎ IsTrue (is_some self.new.fault) }
+        ensures faults { S.faults inner.old ≤ S.faults inner.new }
+    {
+        if self.rest == 0 {
+            return self.next_line(inner);
+        }
+        Ok(true)
+    }
+
     /// Gives raw bytes of frames, as a source does. It fails where the input does, and from a fault of the text on.
     pub(crate) fn read<S: Source>(&mut self, inner: &mut S, buf: &mut [u8]) -> Result<usize, PortError>
+        ensures gave { IfOk result (λ n. Gave (comes_of self.old (S.left inner.old)) (take n buf.new) (comes_of self.new (S.left inner.new))) }
+        ensures same { OnErr result (comes_of self.new (S.left inner.new) ≡ comes_of self.old (S.left inner.old)) }
         ensures fault { fault_to_come self.new (S.left inner.new) ≡ fault_to_come self.old (S.left inner.old) }
+        ensures broke { self.new.fault ≡ None → self.old.fault ≡ None }
         ensures header { self.new.header ≡ self.old.header }
         ensures zero { result ≡ Ok 0 → 0 < length buf.old → IsAtEnd (S.left inner.new) }
         ensures unread { result ≡ Ok 0 → 0 < length buf.old → self.new.unread ≡ [] }
+        ensures over { result ≡ Ok 0 → 0 < length buf.old → IsOver (comes_of self.new (S.left inner.new)) }
         ensures unbroken { OnOk result (self.new.fault ≡ None) }
         ensures broken { IsTrue (is_some self.old.fault) → result ≡ Err PortError.Failed }
         ensures within { IfOk result (λ n. n ≤ length buf.old) }
@@ -330,9 +356,10 @@ impl Reader {
         if buf.len() == 0 {
             return Ok(0);
         }
-        if self.rest == 0 && !self.next_line(inner)? {
-            return Ok(0);
+        match self.enter(inner) {
+            Ok(true) => self.give(inner, buf),
+            Ok(false) => Ok(0),
+            Err(e) => Err(e),
         }
-        self.give(inner, buf)
     }
 }

@@ -1,6 +1,11 @@
-ghost use Rattle.std.specs.Prelude.{◌≡◌, ◌+◌, ◌<◌, ◌≤◌, length, take, drop, IfOk, IfErr, IsTrue, Ok};
-ghost use Rattle.m2v_port.specs.Ends.{change, Tells, SinkStays};
-ghost use Rattle.m2v_y4m.specs.Answers.{Unpacked, UnpackStops, IsAnswered};
+ghost use Rattle.std.specs.Prelude.{ℕ, ◌≡◌, ◌⊎◌, ◌+◌, ◌<◌, ◌≤◌, [], ◌∷◌, true, false, length, take, IfOk, IfErr, OnOk, OnErr, IsErrOf, IsTrue, is_some, None, Ok};
+ghost use Rattle.m2v_port.specs.Ends.{change, SinkStays};
+ghost use Rattle.m2v_port.specs.Port.{Rose, IsAtEnd, Grows};
+ghost use Rattle.m2v_y4m.specs.Frames.{size_of};
+ghost use Rattle.m2v_y4m.specs.Sources.{comes_of};
+ghost use Rattle.m2v_y4m.specs.Reading.{Gave, GaveFewer, IsOver, FrameGiven, NoFrame, FrameStops, ReadStops, PutStops};
+ghost use Rattle.m2v_y4m.specs.Giving.{AllGiven, GivingStops};
+ghost use Rattle.m2v_y4m.specs.Answers.{Unpacked, UnpackStops};
 
 use crate::answer::{PackSummary, UnpackError, Y4mError};
 use crate::packing::MOST;
@@ -26,10 +31,6 @@ pub fn unpack<S: Source, K: Sink>(
     ensures err { IfErr result (UnpackStops
         (change S.left S.faults input.old input.new)
         (change K.held K.faults output.old output.new)) }
-    // What is answered to a text that is told: nothing else may come but want of memory and counts that rose.
-    ensures told { Tells (change S.left S.faults input.old input.new) (IsAnswered
-        (change S.left S.faults input.old input.new)
-        (change K.held K.faults output.old output.new) result) }
     ensures output { SinkStays K.ready K.name K.faults output.old output.new }
     ensures input { S.faults input.old ≤ S.faults input.new }
 {
@@ -56,17 +57,47 @@ fn unpack_frames<S: Source, K: Sink>(
     input: &mut S,
     output: &mut K,
 ) -> Result<u64, UnpackError>
+    requires frame { length frame.old ≡ size_of reader.old.header }
+    requires some { 1 ≤ length frame.old }
+    requires unbroken { reader.old.fault ≡ None }
+    requires output { IsTrue (K.ready output.old) }
+    ensures ok { IfOk result (λ n. AllGiven reader.old.header n
+        (comes_of reader.old (S.left input.old)) (comes_of reader.new (S.left input.new))
+        (change S.left S.faults input.old input.new) (change K.held K.faults output.old output.new)) }
+    ensures most { IfOk result (λ n. n ≤ 999999) }
+    ensures err { IfErr result (GivingStops reader.old.header
+        (comes_of reader.old (S.left input.old)) (comes_of reader.new (S.left input.new))
+        (change S.left S.faults input.old input.new) (change K.held K.faults output.old output.new)) }
+    ensures same { length frame.new ≡ length frame.old }
+    ensures output { SinkStays K.ready K.name K.faults output.old output.new }
+    ensures input { S.faults input.old ≤ S.faults input.new }
 {
+    let _size = reader.size();
     for number in 0..MOST {
         if !next(reader, frame, input, output)? {
             return Ok(number);
         }
     }
-    let mut byte = [0u8];
-    if read_frame(reader, &mut byte, input)? > 0 {
+    if goes_on(reader, input)? {
         return Err(UnpackError::TooManyFrames);
     }
     Ok(MOST)
+}
+
+/// Whether a raw byte is left; it is read.
+fn goes_on<S: Source>(reader: &mut Reader, input: &mut S) -> Result<bool, UnpackError>
+    requires unbroken { reader.old.fault ≡ None }
+    ensures more { result ≡ Ok true → (byte : ℕ) × Gave (comes_of reader.old (S.left input.old)) (byte ∷ []) (comes_of reader.new (S.left input.new)) }
+    ensures none { result ≡ Ok false → Gave (comes_of reader.old (S.left input.old)) [] (comes_of reader.new (S.left input.new)) }
+    ensures over { result ≡ Ok false → IsOver (comes_of reader.new (S.left input.new)) }
+    ensures end { result ≡ Ok false → IsAtEnd (S.left input.new) }
+    ensures err { IfErr result (ReadStops 1 (change S.left S.faults input.old input.new)
+        (comes_of reader.old (S.left input.old)) (comes_of reader.new (S.left input.new))) }
+    ensures header { reader.new.header ≡ reader.old.header }
+    ensures input { S.faults input.old ≤ S.faults input.new }
+{
+    let mut byte = [0u8];
+    Ok(read_frame(reader, &mut byte, input)? > 0)
 }
 
 /// Reads the next frame and writes it. Answers whether there is one.
@@ -76,6 +107,25 @@ fn next<S: Source, K: Sink>(
     input: &mut S,
     output: &mut K,
 ) -> Result<bool, UnpackError>
+    requires frame { length frame.old ≡ size_of reader.old.header }
+    requires some { 1 ≤ length frame.old }
+    requires unbroken { reader.old.fault ≡ None }
+    requires output { IsTrue (K.ready output.old) }
+    ensures given { result ≡ Ok true → FrameGiven (size_of reader.old.header)
+        (comes_of reader.old (S.left input.old)) (comes_of reader.new (S.left input.new))
+        (change K.held K.faults output.old output.new) }
+    ensures none { result ≡ Ok false → NoFrame
+        (comes_of reader.old (S.left input.old)) (comes_of reader.new (S.left input.new))
+        (change K.held K.faults output.old output.new) }
+    ensures end { result ≡ Ok false → IsAtEnd (S.left input.new) }
+    ensures err { IfErr result (FrameStops (size_of reader.old.header) (change S.left S.faults input.old input.new)
+        (comes_of reader.old (S.left input.old)) (comes_of reader.new (S.left input.new))
+        (change K.held K.faults output.old output.new)) }
+    ensures unbroken { OnOk result (reader.new.fault ≡ None) }
+    ensures same { length frame.new ≡ length frame.old }
+    ensures header { reader.new.header ≡ reader.old.header }
+    ensures output { SinkStays K.ready K.name K.faults output.old output.new }
+    ensures input { S.faults input.old ≤ S.faults input.new }
 {
     let read = read_frame(reader, frame, input)?;
     if read == 0 {
@@ -94,6 +144,17 @@ fn read_frame<S: Source>(
     frame: &mut [u8],
     input: &mut S,
 ) -> Result<usize, UnpackError>
+    requires unbroken { reader.old.fault ≡ None }
+    ensures within { IfOk result (λ n. n ≤ length frame.old) }
+    ensures gave { IfOk result (λ n. Gave (comes_of reader.old (S.left input.old)) (take n frame.new) (comes_of reader.new (S.left input.new))) }
+    ensures end { IfOk result (λ n. n < length frame.old → IsAtEnd (S.left input.new)) }
+    ensures over { IfOk result (λ n. n < length frame.old → IsOver (comes_of reader.new (S.left input.new))) }
+    ensures unbroken { OnOk result (reader.new.fault ≡ None) }
+    ensures err { IfErr result (ReadStops (length frame.old) (change S.left S.faults input.old input.new)
+        (comes_of reader.old (S.left input.old)) (comes_of reader.new (S.left input.new))) }
+    ensures same { length frame.new ≡ length frame.old }
+    ensures header { reader.new.header ≡ reader.old.header }
+    ensures input { S.faults input.old ≤ S.faults input.new }
 {
     match read_whole(reader, frame, input) {
         Ok(read) => Ok(read),
@@ -111,6 +172,17 @@ fn read_whole<S: Source>(
     buf: &mut [u8],
     input: &mut S,
 ) -> Result<usize, PortError>
+    requires unbroken { reader.old.fault ≡ None }
+    ensures within { IfOk result (λ n. n ≤ length buf.old) }
+    ensures gave { IfOk result (λ n. Gave (comes_of reader.old (S.left input.old)) (take n buf.new) (comes_of reader.new (S.left input.new))) }
+    ensures end { IfOk result (λ n. n < length buf.old → IsAtEnd (S.left input.new)) }
+    ensures over { IfOk result (λ n. n < length buf.old → IsOver (comes_of reader.new (S.left input.new))) }
+    ensures unbroken { OnOk result (reader.new.fault ≡ None) }
+    ensures err { OnErr result (GaveFewer (comes_of reader.old (S.left input.old)) (length buf.old) (comes_of reader.new (S.left input.new))) }
+    ensures failed { IsErrOf result PortError.Failed → Rose (S.faults input.old) (S.faults input.new) ⊎ IsTrue (is_some reader.new.fault) }
+    ensures same { length buf.new ≡ length buf.old }
+    ensures header { reader.new.header ≡ reader.old.header }
+    ensures input { S.faults input.old ≤ S.faults input.new }
 {
     let mut filled = 0;
     while filled < buf.len() {
@@ -126,6 +198,9 @@ fn read_whole<S: Source>(
 /// Puts bytes.
 fn put<K: Sink>(bytes: &[u8], output: &mut K) -> Result<(), UnpackError>
     requires output { IsTrue (K.ready output.old) }
+    ensures grown { OnOk result (Grows (K.held output.old) bytes.now (K.held output.new)) }
+    ensures err { IfErr result (PutStops bytes.now (change K.held K.faults output.old output.new)) }
+    ensures output { SinkStays K.ready K.name K.faults output.old output.new }
 {
     match output.put(bytes) {
         Ok(()) => Ok(()),

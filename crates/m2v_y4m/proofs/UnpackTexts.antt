@@ -1,0 +1,206 @@
+-- What was given of a text, as what the text is.
+use Rattle.std.proofs.Common.{◌≡◌, ◌⊎◌, inl, inr, ℕ, zero, suc, ◌+◌, ◌-◌, ◌*◌, ◌<◌, ◌≤◌, ◌==◌, ◌&&◌, Bool, true, false, nat_lt, List, [], ◌∷◌, ◌++◌, length, take, drop, Option, Some, None, IfSome, Result, Ok, Err, refl, sym, subst, ap, ap₂, ◌∙◌, arith}
+use Rattle.std.specs.Prelude.{if◌then◌else◌, option_map}
+use Rattle.std.proofs.Math.Nat.{suc-mul}
+use Rattle.std.proofs.lemmas.List.{append-nil, append_assoc, length-append, length-take-le}
+use Rattle.std.proofs.lemmas.List.Elements.{All-head, All-tail}
+use Rattle.m2v_port.specs.Ends.{Change, change}
+use Rattle.m2v_port.specs.Port.{IsAtEnd, Grows, GrowsByPrefix}
+use Rattle.m2v_port.proofs.Runs.{rose_since}
+use Rattle.m2v_plane.specs.Raw.{raw}
+use Rattle.m2v_y4m.specs.declared.answer.Y4mFault.{Y4mFault}
+use Rattle.m2v_y4m.specs.declared.answer.Y4mKind.{Y4mKind}
+use Rattle.m2v_y4m.specs.declared.answer.PackSummary.{PackSummary}
+use Rattle.m2v_y4m.specs.declared.header.Y4mHeader.{Y4mHeader}
+use Rattle.m2v_y4m.specs.declared.answer.UnpackError.{UnpackError}
+use Rattle.m2v_y4m.specs.declared.answer.UnpackError.TheVariants as errors
+use Rattle.std.proofs.lemmas.Bool.Decides.{nat_tests}
+use Rattle.m2v_y4m.specs.declared.answer.Y4mKind.TheVariants.{Frame}
+use Rattle.m2v_y4m.specs.Texts.{onward}
+use Rattle.m2v_y4m.specs.Header.{fault_at}
+use Rattle.m2v_y4m.specs.Frames.{Coming, nothing, broken, in_frame, at_line, in_steps, frames_from, frame_line, Begins, AreWhole, size_of, Y4m, EndsShort}
+use Rattle.m2v_y4m.specs.Sources.{Standing, comes_of, OpensWith, IsOpen}
+use Rattle.m2v_y4m.specs.Answers.{most_frames, Gives, Unpacked, UnpackedPart, UnpackEndedShort, UnpackWentOn, UnpackBroken, UnpackStops}
+use Rattle.m2v_y4m.specs.Reading.{Gave, IsOver, IsBroken, GivenSoFar}
+use Rattle.m2v_y4m.specs.Giving.{AllGiven, GivenPart, GivenBefore, GivenBroken, GivingStops}
+use Rattle.m2v_y4m.proofs.FrameLaws.{with_front}
+
+value : Option Coming → Coming
+value None = nothing
+value (Some c) = c
+
+-- all that comes of a text, from what was given of it and what comes then
+with_coming : (bytes : List ℕ) (c1 : Option Coming) (coming k : Coming) → Gave (Some coming) bytes c1 → IfSome c1 (λ c. c ≡ k) → coming ≡ with_front bytes k
+unfolding value
+with_coming bytes None coming k gave is = absurd (cc)
+with_coming bytes (Some c) coming k gave is = ap value gave.was ∙ ap (with_front bytes) is
+
+gives_first : (bytes : List ℕ) (c1 : Option Coming) (coming : Coming) → Gave (Some coming) bytes c1 → (rest : List ℕ) × (coming.raw ≡ bytes ++ rest)
+unfolding value
+gives_first bytes None coming gave = absurd (cc)
+gives_first bytes (Some c) coming gave = (c.raw, ap (λ o. (value o).raw) gave.was)
+
+-- what holds of a text by the header line that was read
+tells_with : (s : Standing) (left0 left1 : Option (List ℕ)) (Holds : List ℕ → Type 0) → IfSome left0 (OpensWith s left1)
+    → ((text : List ℕ) (coming : Coming) → Begins text s.header coming → comes_of s left1 ≡ Some coming → Holds text) → IfSome left0 Holds
+tells_with s None left1 Holds opens each = tt
+tells_with s (Some text) left1 Holds opens each = each text opens.coming opens.begins opens.comes
+
+module _ (s : Standing) (left0 left1 : Option (List ℕ)) (opens : IfSome left0 (OpensWith s left1)) (c1 : Option Coming) (bytes : List ℕ) (gave : Gave (comes_of s left1) bytes c1) where
+  gave_of : (coming : Coming) → comes_of s left1 ≡ Some coming → Gave (Some coming) bytes c1
+  gave_of coming is = subst (λ o. Gave o bytes c1) is gave
+
+  pub text_begins : (k : Coming) → IfSome c1 (λ c. c ≡ k) → IfSome left0 (λ text. Begins text s.header (with_front bytes k))
+  text_begins k over = tells_with s left0 left1 (λ text. Begins text s.header (with_front bytes k)) opens
+      (λ text coming begins is. subst (λ c. Begins text s.header c) (with_coming bytes c1 coming k (gave_of coming is) over) begins)
+
+  pub text_gives : IfSome left0 (λ text. Gives text s.header bytes)
+  text_gives = tells_with s left0 left1 (λ text. Gives text s.header bytes) opens
+      (λ text coming begins is. let first = gives_first bytes c1 coming (gave_of coming is) in
+        record { coming = coming; rest = first.0; begins = begins; is = first.1 })
+
+if_told : (o : Option (List ℕ)) (P Q : List ℕ → Type 0) → ((t : List ℕ) → P t → Q t) → IfSome o P → IfSome o Q
+if_told None P Q weaker is = tt
+if_told (Some t) P Q weaker is = weaker t is
+
+-- ---- conversions
+
+raw_size : (size : ℕ) (h : Y4mHeader) (frames : List (List ℕ)) → size ≡ size_of h → AreWhole h frames → length (raw frames) ≡ length frames * size
+raw_size size h [] is whole = omega arith
+raw_size size h (f ∷ frames) is whole =
+    let P = λ (x : List ℕ). length x ≡ size_of h in
+    let here : length f ≡ size_of h = All-head P f frames whole in
+    let behind = raw_size size h frames is (All-tail P f frames whole) in
+    rw (suc-mul (length frames) size) (omega (arith, length-append f (raw frames), behind, here, is))
+
+pub all_unpacked : (s : Standing) (left1 : Option (List ℕ)) (left left_then held : Change) (c1 : Option Coming) (number : ℕ) (summary : PackSummary)
+    → IfSome left.old (OpensWith s left1) → number ≤ most_frames → AllGiven s.header number (comes_of s left1) c1 left_then held → left_then.new ≡ left.new
+    → summary ≡ record { frames = number; bytes = number * size_of s.header } → Unpacked left held summary
+all_unpacked s left1 left left_then held c1 number summary opens small given same is =
+    let so_far = given.given in
+    record {
+      header = s.header;
+      frames = so_far.frames;
+      most = omega (arith, so_far.count);
+      whole = so_far.whole;
+      text = if_told left.old (λ t. Begins t s.header (with_front (raw so_far.frames) nothing)) (λ t. Y4m t s.header so_far.frames)
+          (λ t begins. record { whole = so_far.whole; begins = subst (λ l. Begins t s.header (record { raw = l; fault = None })) (append-nil (raw so_far.frames)) begins })
+          (text_begins s left.old left1 opens c1 (raw so_far.frames) so_far.gave nothing given.over);
+      end = subst IsAtEnd same given.end;
+      grown = so_far.grown;
+      numbers = is ∙ ap₂ (λ n b. record { frames = n; bytes = b }) (sym so_far.count)
+          (ap (λ n. n * size_of s.header) (sym so_far.count) ∙ sym (raw_size (size_of s.header) s.header so_far.frames refl so_far.whole));
+    }
+
+-- ---- where a text is broken, whole frames stand before it
+
+abbrev WholeBefore : ℕ → Coming → Type 0
+WholeBefore size c = (c.fault ≡ None) ⊎ ((k : ℕ) × (length c.raw ≡ k * size))
+
+in_frame_whole : (size line : ℕ) (text : List ℕ) (behind : Coming) → WholeBefore size behind → WholeBefore size (in_frame size line size text behind)
+unfolding in_frame
+in_frame_whole size line text behind whole = by_none (length text == 0 && size == size)
+  where
+    by_less : (b : Bool) → nat_lt (length text) size ≡ b
+        → WholeBefore size (if b then record { raw = text; fault = None } else record { raw = take size text ++ behind.raw; fault = behind.fault })
+    by_less true is = inl refl
+    by_less false is = of_behind whole
+      where
+        of_behind : WholeBefore size behind → WholeBefore size (record { raw = take size text ++ behind.raw; fault = behind.fault })
+        of_behind (inl none) = inl none
+        of_behind (inr multiple) =
+            let most : size ≤ length text = grind (arith, nat_tests) in
+            inr (suc multiple.0, length-append (take size text) behind.raw ∙ rw (suc-mul multiple.0 size) (omega (arith, length-take-le size text most, multiple.1)))
+
+    by_none : (b : Bool) → WholeBefore size (if b then broken (fault_at Frame line) else (if nat_lt (length text) size then record { raw = text; fault = None } else record { raw = take size text ++ behind.raw; fault = behind.fault }))
+    by_none true = inr (0, omega arith)
+    by_none false = by_less (nat_lt (length text) size) refl
+
+steps_whole : (steps size place : ℕ) (text : List ℕ) → WholeBefore size (in_steps steps size place text)
+unfolding in_steps at_line
+steps_whole zero size place text = inl refl
+steps_whole (suc steps) size place [] = inl refl
+steps_whole (suc steps) size place (b ∷ text) = by_line (frame_line (b ∷ text)) (λ n. steps_whole steps size (onward (onward place n) size) (drop (n + size) (b ∷ text)))
+  where
+    by_line : (r : Result ℕ Y4mKind) → ((n : ℕ) → WholeBefore size (in_steps steps size (onward (onward place n) size) (drop (n + size) (b ∷ text))))
+        → WholeBefore size (at_line size place (b ∷ text) r (λ n. in_steps steps size (onward (onward place n) size) (drop (n + size) (b ∷ text))))
+    by_line (Err kind) behind = inr (0, omega arith)
+    by_line (Ok n) behind = in_frame_whole size place (drop n (b ∷ text)) _ (behind n)
+
+part_none : (n k p size : ℕ) → n * size + p ≡ k * size → p < size → p ≡ 0
+part_none zero zero p size is less = omega (arith, is)
+part_none zero (suc k) p size is less = absurd (omega (arith, is, suc-mul k size))
+part_none (suc n) zero p size is less = absurd (omega (arith, is, suc-mul n size))
+part_none (suc n) (suc k) p size is less = part_none n k p size (omega (arith, is, suc-mul n size, suc-mul k size)) less
+
+no_bytes : (part : List ℕ) → length part ≡ 0 → part ≡ []
+no_bytes [] is = refl
+no_bytes (b ∷ part) is = absurd (omega arith)
+
+-- a fault stands behind whole frames
+behind_frames : (text : List ℕ) (h : Y4mHeader) (frames : List (List ℕ)) (part : List ℕ) (fault : Y4mFault) → AreWhole h frames → length part < size_of h
+    → Begins text h (with_front (raw frames ++ part) (broken fault)) → Begins text h (record { raw = raw frames; fault = Some fault })
+unfolding frames_from
+behind_frames text h frames part fault whole less begins =
+    by_whole (subst (WholeBefore (size_of h)) (sym begins.comes) (steps_whole _ (size_of h) _ _))
+  where
+    by_whole : WholeBefore (size_of h) (with_front (raw frames ++ part) (broken fault)) → Begins text h (record { raw = raw frames; fault = Some fault })
+    by_whole (inl none) = absurd (cc)
+    by_whole (inr multiple) =
+        let count : length frames * size_of h + length part ≡ multiple.0 * size_of h =
+            omega (arith, sym multiple.1, ap length (append-nil (raw frames ++ part)), length-append (raw frames) part, raw_size (size_of h) h frames refl whole) in
+        let none : part ≡ [] = no_bytes part (part_none (length frames) multiple.0 (length part) (size_of h) count less) in
+        subst (λ l. Begins text h (record { raw = l; fault = Some fault })) (append-nil (raw frames ++ part) ∙ ap (λ l. raw frames ++ l) none ∙ append-nil (raw frames)) begins
+
+gives_less : (text : List ℕ) (h : Y4mHeader) (xs ys : List ℕ) → Gives text h (xs ++ ys) → Gives text h xs
+gives_less text h xs ys gives = record { coming = gives.coming; rest = ys ++ gives.rest; begins = gives.begins; is = gives.is ∙ append_assoc xs ys gives.rest }
+
+module _ {S K : Type 0} (left : S → Option (List ℕ)) (input_faults : S → ℕ) (held : K → Option (List ℕ)) (output_faults : K → ℕ) where
+  part_unpacked : (s : Standing) (i0 i1 i2 : S) (o0 o1 : K) (c1 : Option Coming) → IfSome (left i0) (OpensWith s (left i1))
+      → GivenPart s.header (comes_of s (left i1)) c1 (change held output_faults o0 o1) → UnpackedPart (change left input_faults i0 i2) (change held output_faults o0 o1)
+  part_unpacked s i0 i1 i2 o0 o1 c1 opens given = UnpackedPart.opened s.header given.frames given.most given.whole
+      (if_told (left i0) (λ t. Gives t s.header (raw given.frames ++ given.part)) (λ t. Gives t s.header (raw given.frames)) (λ t. gives_less t s.header (raw given.frames) given.part)
+      (text_gives s (left i0) (left i1) opens c1 (raw given.frames ++ given.part) given.gave))
+      given.grown
+
+  pub unpack_stops : (s : Standing) (i0 i1 i2 : S) (o0 o1 : K) (c1 : Option Coming) (e : UnpackError) → IfSome (left i0) (OpensWith s (left i1)) → input_faults i0 ≤ input_faults i1
+      → GivingStops s.header (comes_of s (left i1)) c1 (change left input_faults i1 i2) (change held output_faults o0 o1) e
+      → UnpackStops (change left input_faults i0 i2) (change held output_faults o0 o1) e
+  unfolding GivingStops UnpackStops
+  unpack_stops s i0 i1 i2 o0 o1 c1 errors.Read opens reads g = (rose_since reads g.0, part_unpacked s i0 i1 i2 o0 o1 c1 opens g.1)
+  unpack_stops s i0 i1 i2 o0 o1 c1 errors.Write opens reads g = (g.0, part_unpacked s i0 i1 i2 o0 o1 c1 opens g.1)
+  unpack_stops s i0 i1 i2 o0 o1 c1 (errors.ShortFrame extra) opens reads g =
+      let short = g.1 in
+      record {
+        header = s.header;
+        frames = short.frames;
+        fewer = short.fewer;
+        whole = short.before.whole;
+        text = if_told (left i0) (λ t. Begins t s.header (with_front (raw short.frames ++ short.part) nothing)) (λ t. EndsShort t s.header short.frames extra)
+            (λ t begins. record {
+              part = short.part;
+              whole = short.before.whole;
+              count = short.count;
+              some = short.some;
+              less = short.less;
+              begins = subst (λ l. Begins t s.header (record { raw = l; fault = None })) (append-nil (raw short.frames ++ short.part)) begins;
+            })
+            (text_begins s (left i0) (left i1) opens c1 (raw short.frames ++ short.part) short.before.gave nothing short.over);
+        end = g.0;
+        grown = short.before.grown;
+      }
+  unpack_stops s i0 i1 i2 o0 o1 c1 errors.TooManyFrames opens reads g = record {
+    header = s.header;
+    frames = g.frames;
+    next = g.next;
+    all = g.all;
+    whole = g.before.whole;
+    text = text_gives s (left i0) (left i1) opens c1 (raw g.frames ++ g.next ∷ []) g.before.gave;
+    grown = g.before.grown;
+  }
+  unpack_stops s i0 i1 i2 o0 o1 c1 (errors.Y4m fault) opens reads g = UnpackBroken.behind s.header g.frames g.most g.before.whole
+      (if_told (left i0) (λ t. Begins t s.header (with_front (raw g.frames ++ g.part) (broken fault))) (λ t. Begins t s.header (record { raw = raw g.frames; fault = Some fault }))
+      (λ t begins. behind_frames t s.header g.frames g.part fault g.before.whole g.less begins)
+      (text_begins s (left i0) (left i1) opens c1 (raw g.frames ++ g.part) g.before.gave (broken fault) g.broken))
+      g.before.grown
+  unpack_stops s i0 i1 i2 o0 o1 c1 errors.Memory opens reads g = part_unpacked s i0 i1 i2 o0 o1 c1 opens g

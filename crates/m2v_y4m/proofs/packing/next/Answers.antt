@@ -1,0 +1,44 @@
+use Rattle.std.proofs.Common.{arith, refl, subst, ap, ◌∙◌, ◌≡◌, ◌<◌, ◌≤◌, ◌+◌, ◌-◌, ◌++◌, ℕ, List, length, take, drop, length-drop, sym}
+use Rattle.std.specs.Prelude.{codes}
+use Rattle.std.proofs.lemmas.List.{length-take-le, take-append-drop}
+use Rattle.std.proofs.lemmas.Result.{err_from_is_err_and}
+use Rattle.m2v_port.specs.Port.{Moves}
+use Rattle.m2v_y4m.specs.Frames.{size_of}
+use Rattle.m2v_y4m.specs.Packing.{FrameStops}
+use Rattle.m2v_y4m.proofs.LineLaws.{take_all}
+use Rattle.m2v_y4m.proofs.Packs.{next_lost, next_cut}
+use Rattle.m2v_y4m.proofs.packing.next.Goals as goal
+
+pub returns-in_err-read-clause-err : goal.returns-in_err-read-clause-err
+returns-in_err-read-clause-err g c =
+    let p = err_from_is_err_and c.from_residual.result c.from_residual.ensures.1 in
+    let size : length c.args.text.now - 6 ≡ size_of c.args.header.now = omega (arith, c.requires.text.room) in
+    let stops = rw size at c.in_err-read.ensures.err in
+    rw (p.1, p.2) (next_lost _ _ _ _ refl stops)
+
+pub returns-then-read-size-clause-err : goal.returns-then-read-size-clause-err
+unfolding FrameStops
+returns-then-read-size-clause-err g c =
+    let text = c.read_behind_line.new.text in
+    let less : c.in_ok-read.read < size_of c.args.header.now = omega (arith, c.frame_size-size.ensures.value) in
+    record {
+      part = take c.in_ok-read.read (drop 6 text);
+      moved = c.in_ok-read.ensures.moved;
+      count = length-take-le c.in_ok-read.read (drop 6 text) (omega (arith, length-drop 6 text, c.requires.text.room, c.read_behind_line.ensures.same, less));
+      some = omega arith;
+      less = less;
+      end = c.in_ok-read.ensures.end (omega (arith, less, c.requires.text.room));
+      same = refl;
+    }
+
+pub returns-in_err-put-clause-err : goal.returns-in_err-put-clause-err
+returns-in_err-put-clause-err g c =
+    let p = err_from_is_err_and c.from_residual-in_err-put.result c.from_residual-in_err-put.ensures.1 in
+    let text = c.read_behind_line.new.text in
+    let size : length (drop 6 text) ≡ size_of c.args.header.now = omega (arith, length-drop 6 text, c.requires.text.room, c.read_behind_line.ensures.same) in
+    let all : take c.in_ok-read.read (drop 6 text) ≡ drop 6 text = take_all c.in_ok-read.read (drop 6 text) (omega (arith, size, c.frame_size-size.ensures.value)) in
+    let is : text ≡ codes "FRAME\n" ++ drop 6 text = sym (take-append-drop 6 text) ∙ ap (λ l. l ++ drop 6 text) (c.read_behind_line.ensures.front ∙ c.requires.text.line) in
+    rw (p.1, p.2)
+    (next_cut _ _ _ (drop 6 text) text _ size
+    (subst (λ (b : List ℕ). Moves (g.S.Source.left c.args.input.now) b (g.S.Source.left c.read_behind_line.new.input)) all c.in_ok-read.ensures.moved)
+    is c.in_err-put.ensures.err)

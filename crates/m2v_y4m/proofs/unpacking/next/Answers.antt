@@ -1,0 +1,54 @@
+use Rattle.std.proofs.Common.{arith, refl, subst, ap, ◌∙◌, ◌≡◌, ◌<◌, ◌≤◌, [], ℕ, List, length, take, sym}
+use Rattle.std.proofs.lemmas.List.{length-take-le}
+use Rattle.std.proofs.lemmas.Result.{err_from_is_err_and}
+use Rattle.m2v_y4m.specs.Frames.{size_of}
+use Rattle.m2v_y4m.specs.Sources.{comes_of}
+use Rattle.m2v_y4m.specs.Reading.{Gave, FrameStops}
+use Rattle.m2v_y4m.proofs.LineLaws.{take_all}
+use Rattle.m2v_y4m.proofs.Unpacks.{next_lost, next_cut}
+use Rattle.m2v_y4m.proofs.unpacking.next.Goals as goal
+
+pub returns-in_err-read-clause-err : goal.returns-in_err-read-clause-err
+returns-in_err-read-clause-err g c =
+    let p = err_from_is_err_and c.from_residual.result c.from_residual.ensures.1 in
+    let stops = rw c.requires.frame at c.in_err-read.ensures.err in
+    rw (p.1, p.2) (next_lost _ _ _ _ _ _ refl stops)
+
+pub returns-then-read-eq0-clause-none : goal.returns-then-read-eq0-clause-none
+returns-then-read-eq0-clause-none g c = λ is.
+    let none : c.in_ok-read.read ≡ 0 = omega arith in
+    let some : 1 ≤ length c.args.frame.now = c.requires.some in
+    record {
+      gave = rw none at c.in_ok-read.ensures.gave;
+      over = c.in_ok-read.ensures.over (omega (arith, none, some));
+      same = refl;
+    }
+
+pub returns-then-read-eq0-clause-end : goal.returns-then-read-eq0-clause-end
+returns-then-read-eq0-clause-end g c = λ is.
+    let none : c.in_ok-read.read ≡ 0 = omega arith in
+    let some : 1 ≤ length c.args.frame.now = c.requires.some in
+    c.in_ok-read.ensures.end (omega (arith, none, some))
+
+pub returns-then-read-frame-clause-err : goal.returns-then-read-frame-clause-err
+unfolding FrameStops
+returns-then-read-frame-clause-err g c =
+    let frame = c.read_frame.new.frame in
+    let less : c.in_ok-read.read < length c.args.frame.now = omega (arith, c.read_frame.ensures.same) in
+    (c.in_ok-read.ensures.end less, record {
+      part = take c.in_ok-read.read frame;
+      gave = c.in_ok-read.ensures.gave;
+      over = c.in_ok-read.ensures.over less;
+      count = length-take-le c.in_ok-read.read frame (omega (arith, c.read_frame.ensures.same, less));
+      some = omega arith;
+      less = omega (arith, less, c.requires.frame);
+      same = refl;
+    })
+
+pub returns-in_err-put-clause-err : goal.returns-in_err-put-clause-err
+returns-in_err-put-clause-err g c =
+    let p = err_from_is_err_and c.from_residual-in_err-put.result c.from_residual-in_err-put.ensures.1 in
+    let frame = c.read_frame.new.frame in
+    let size : length frame ≡ size_of c.args.reader.now.header = c.read_frame.ensures.same ∙ c.requires.frame in
+    let all : take c.in_ok-read.read frame ≡ frame = take_all c.in_ok-read.read frame (omega arith) in
+    rw (p.1, p.2) (next_cut _ _ _ _ _ frame _ size (rw all at c.in_ok-read.ensures.gave) c.in_err-put.ensures.err)
