@@ -211,3 +211,8 @@ RestFails most groups left held c (errors.NotCuttable place) = ⊥
 RestFails most groups left held c errors.TooLong = RestStops most groups left held c reading.TooLong
 RestFails most groups left held c errors.PictureTooLarge = RestStops most groups left held c reading.PictureTooLarge
 RestFails most groups left held c errors.Memory = RestCut most groups left held c
+
+-- a piece that may be there was written, unless it holds the header of the group behind the cut
+abbrev pub SecondPut : Bool → List (List ℕ) → ℕ → Copied → Copied → Change → Type 0
+SecondPut written [] most old new held = (written ≡ true) × (new ≡ old) × (held.new ≡ held.old)
+SecondPut written (w ∷ ws) most old new held = HasPut written w most old new held

@@ -1,11 +1,12 @@
 //! Pieces of a cut, one after another.
-ghost use Rattle.std.specs.Prelude.{◌≡◌, ◌+◌, ◌*◌, ◌^◌, ◌≤◌, ◌<◌, ◌++◌, length, IsTrue, IfOk, IfErr, OnOk, true, false};
+ghost use Rattle.std.specs.Prelude.{◌≡◌, ◌+◌, ◌*◌, ◌^◌, ◌≤◌, ◌<◌, ◌++◌, length, IsTrue, IfOk, IfErr, IfSome, OnOk, true, false};
 ghost use Rattle.m2v_port.specs.Ends.{change, SinkStays};
 ghost use Rattle.m2v_port.specs.Port.{Grows};
 ghost use Rattle.m2v_piece.specs.Sound.{IsSoundPiece};
 ghost use Rattle.m2v_decoder.specs.Decoding.{whole_of};
 ghost use Rattle.m2v_cut.specs.Answers.{groups_of};
-ghost use Rattle.m2v_cut.specs.Progress.{Cuts, bytes_of, HasPut, RestPut, RestFails};
+ghost use Rattle.m2v_cut.specs.Progress.{Cuts, bytes_of, all_bytes, all_groups, HasPut, SecondPut, RestPut, RestFails};
+ghost use Rattle.m2v_cut.specs.Starts.{piece_list};
 
 use crate::answer::CutError;
 use crate::find::reading;
@@ -49,6 +50,28 @@ pub fn put_next<K: Sink>(
     copied.groups += counted.groups;
     copied.bytes += bytes;
     Ok(true)
+}
+
+/// Writes a piece that may be there, as `put_next` does.
+pub fn put_second<K: Sink>(
+    second: &Option<Piece>,
+    most: u64,
+    copied: &mut Copied,
+    output: &mut K,
+) -> Result<bool, CutError>
+    requires second { IfSome second.now (λ p. IsSoundPiece p × (copied.old.bytes + p.length < 2 ^ 60)) }
+    requires few { copied.old.groups ≤ most }
+    requires output { IsTrue (K.ready output.old) }
+    ensures put { IfOk result (λ written. SecondPut written (piece_list second.now) most
+        copied.old copied.new (change K.held K.faults output.old output.new)) }
+    ensures err { IfErr result (λ e. (copied.old.groups + all_groups (piece_list second.now) ≤ most)
+        × Cuts (all_bytes (piece_list second.now)) (change K.held K.faults output.old output.new) e) }
+    ensures output { SinkStays K.ready K.name K.faults output.old output.new }
+{
+    match second {
+        None => Ok(true),
+        Some(piece) => put_next(piece, most, copied, output),
+    }
 }
 
 /// Writes the pieces that are left, up to the one that holds the header of the group behind so many.

@@ -4,7 +4,7 @@ ghost use Rattle.m2v_decode.specs.Answers.{OfText};
 ghost use Rattle.m2v_cut.specs.Answers.{IsCutOut, Fails, Gives, answer_to};
 
 use crate::answer::{CutError, CutSummary};
-use crate::copy::{Copied, put_next, put_rest};
+use crate::copy::{Copied, put_rest, put_second};
 use crate::find::{Found, find};
 use crate::put::{put, put_first};
 use crate::second::second_piece;
@@ -34,10 +34,11 @@ fn cut_from<S: Source, K: Sink>(
     };
     let bytes = put_first(&found.piece, sequence, start.header, found.behind, output)?;
     let mut copied = Copied { groups: 1, bytes };
-    if let Some(piece) = second {
-        put_next(&piece, u64::from(count), &mut copied, output)?;
+    if put_second(&second, u64::from(count), &mut copied, output)? {
+        put_rest(alloc, u64::from(count), cutter, &mut copied, input, output)?;
+    } else {
+        copied.groups = u64::from(count);
     }
-    put_rest(alloc, u64::from(count), cutter, &mut copied, input, output)?;
     put(&END_CODE, output)?;
     Ok(CutSummary {
         groups: copied.groups,
