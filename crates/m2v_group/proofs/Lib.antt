@@ -19,3 +19,4 @@ pub mod Between
 pub mod Law
 pub mod Decodes
 pub mod Lawful
+pub mod Lifted

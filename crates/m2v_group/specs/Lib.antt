@@ -1,3 +1,4 @@
 pub mod Groups
 pub mod Worked
 pub mod Chosen
+pub mod Lifted

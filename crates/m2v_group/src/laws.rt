@@ -1,6 +1,7 @@
 //! What holds of cuts.
 ghost use Rattle.std.specs.Prelude.{ℕ, List};
 ghost use Rattle.m2v_group.specs.Chosen.{CutDecodes, LawfulCutDecodes};
+ghost use Rattle.m2v_group.specs.Lifted.{SecondGroup};
 ghost use Rattle.m2v_group.specs.Worked.{WorkedRows};
 
 /// Groups of a stream without a fault, whose groups begin with I pictures, are cut out from one on that stands alone: the
@@ -19,4 +20,10 @@ pub fn law_lawful_cut()
 /// The cuts of a stream of two groups are those that were written by hand.
 pub fn law_worked_rows()
     ensures { WorkedRows }
+{}
+
+/// The law can be met: a stream of two groups that is given byte by byte is lawful, and its second group, cut out, decodes
+/// to the frame that it has in the whole.
+pub fn law_second_group()
+    ensures { SecondGroup }
 {}

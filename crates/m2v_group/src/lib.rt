@@ -4,4 +4,4 @@
 
 mod laws;
 
-pub use laws::{law_cut_decodes, law_lawful_cut, law_worked_rows};
+pub use laws::{law_cut_decodes, law_lawful_cut, law_second_group, law_worked_rows};
