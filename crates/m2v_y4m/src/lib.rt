@@ -15,6 +15,7 @@ mod words;
 
 pub use answer::{EncodeFault, PackSummary, UnpackError, Y4mError, Y4mFault, Y4mKind};
 pub use header::Y4mHeader;
+pub use laws::law_worked_rows;
 pub use packing::pack;
 pub use source::Y4mSource;
 pub use unpacking::unpack;
