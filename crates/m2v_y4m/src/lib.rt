@@ -10,6 +10,8 @@ mod opening;
 mod packing;
 mod reader;
 mod source;
+#[cfg(test)]
+mod tests;
 mod unpacking;
 mod words;
 
