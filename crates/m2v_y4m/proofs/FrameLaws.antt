@@ -45,8 +45,8 @@ enough (suc s) (suc t) size place [] ls lt = refl
 enough (suc s) (suc t) size place (b ∷ text) ls lt =
     line_same size place (b ∷ text) (frame_line (b ∷ text)) _ _
     (λ n is. let some = line_some (b ∷ text) n is in
-        enough s t size (onward (onward place n) size) (drop (n + size) (b ∷ text))
-        (omega (arith, length-drop (n + size) (b ∷ text), some)) (omega (arith, length-drop (n + size) (b ∷ text), some)))
+    enough s t size (onward (onward place n) size) (drop (n + size) (b ∷ text))
+    (omega (arith, length-drop (n + size) (b ∷ text), some)) (omega (arith, length-drop (n + size) (b ∷ text), some)))
 
 -- at the end of a text nothing comes
 pub from_none : (size place : ℕ) → frames_from size place [] ≡ nothing
@@ -61,7 +61,7 @@ from_line size place [] some = absurd (omega arith)
 from_line size place (b ∷ text) some =
     line_same size place (b ∷ text) (frame_line (b ∷ text)) _ _
     (λ n is. enough (length text) (length (drop (n + size) (b ∷ text))) size (onward (onward place n) size) (drop (n + size) (b ∷ text))
-        (omega (arith, length-drop (n + size) (b ∷ text), line_some (b ∷ text) n is)) (omega arith))
+    (omega (arith, length-drop (n + size) (b ∷ text), line_some (b ∷ text) n is)) (omega arith))
 
 -- ---- states
 
@@ -142,7 +142,6 @@ in_frame_later size line rest n text behind some less most fits = by_end (nat_lt
         rw (is, not_empty, not_whole, later, and_false (length (drop n text) == 0))
         (ap (λ raw. record { raw = raw; fault = behind.fault }) (ap (λ l. l ++ behind.raw) split ∙ append_assoc (take n text) (take (rest - n) (drop n text)) behind.raw))
 
-
 onward_more : (place n m : ℕ) → onward (onward place n) m ≡ onward place (n + m)
 onward_more place n m = omega arith
 
@@ -169,6 +168,6 @@ coming_on size line rest place n text some within most fits = by_end (n == rest)
         let edge : (rest - n == 0) ≡ false = grind (arith, nat_tests) in
         let sum : n + (rest - n) ≡ rest = omega arith in
         let behind : frames_from size (onward place rest) (drop rest text) ≡ frames_from size (onward (onward place n) (rest - n)) (drop (rest - n) (drop n text)) =
-            ap₂ (frames_from size) (ap (onward place) (sym sum) ∙ sym (onward_more place n (rest - n))) (ap (λ k. drop k text) (sym sum) ∙ sym (drop-drop (rest - n) n text)) in
+        ap₂ (frames_from size) (ap (onward place) (sym sum) ∙ sym (onward_more place n (rest - n))) (ap (λ k. drop k text) (sym sum) ∙ sym (drop-drop (rest - n) n text)) in
         rw (not_edge, edge) (in_frame_later size line rest n text _ some other most fits
         ∙ ap (λ next. with_front (take n text) (in_frame size line (rest - n) (drop n text) next)) behind)

@@ -116,4 +116,3 @@ frames_third = refl
 pub frames_no : frames_from 6 40 ([]) ≡ record { raw = []; fault = None }
 unfolding frame_line in_frame at_line in_steps frames_from line_length begins
 frames_no = refl
-

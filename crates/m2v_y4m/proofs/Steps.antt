@@ -129,7 +129,7 @@ pub gives_held : (s : Standing) (n : ℕ) (got : List ℕ) (left : Option (List 
 gives_held s n got left none some within most fits is =
     subst (λ l. Gave (comes_of s left) l (comes_of (record s { unread = drop n s.unread; rest = s.rest - n; place = onward s.place n }) left)) (sym is)
     (subst (λ f. Gave (comes_of (record s { fault = f }) left) (take n s.unread)
-        (comes_of (record s { unread = drop n s.unread; rest = s.rest - n; place = onward s.place n; fault = f }) left)) (sym none)
+    (comes_of (record s { unread = drop n s.unread; rest = s.rest - n; place = onward s.place n; fault = f }) left)) (sym none)
     (gave_held s.header s.line s.rest s.place n s.unread left some within most fits))
 
 -- what was read now
@@ -146,8 +146,10 @@ gives_read s n bytes left left_then none empty some within most count moves =
     let all : take n bytes ≡ bytes = take_all n bytes (omega arith) in
     let rest : drop n bytes ≡ s.unread = drop_all n bytes (omega arith) ∙ sym empty in
     let gave = gives_held after n bytes left_then none some within most (omega arith) (sym all) in
-    record { was = moved_on s bytes left left_then empty moves ∙ gave.was
-        ∙ ap (λ u. option_map (with_front bytes) (comes_of (record s { unread = u; rest = s.rest - n; place = onward s.place n }) left_then)) rest }
+    record {
+      was = moved_on s bytes left left_then empty moves ∙ gave.was
+          ∙ ap (λ u. option_map (with_front bytes) (comes_of (record s { unread = u; rest = s.rest - n; place = onward s.place n }) left_then)) rest;
+    }
 
 pub ends_unbegun : (s : Standing) (left left_then : Option (List ℕ)) → s.fault ≡ None → s.unread ≡ [] → s.rest ≡ size_of s.header → 1 ≤ size_of s.header
     → Moves left [] left_then → IsAtEnd left_then

@@ -57,7 +57,7 @@ module _ (s : Standing) (left0 left1 : Option (List ℕ)) (opens : IfSome left0 
   pub text_gives : IfSome left0 (λ text. Gives text s.header bytes)
   text_gives = tells_with s left0 left1 (λ text. Gives text s.header bytes) opens
       (λ text coming begins is. let first = gives_first bytes c1 coming (gave_of coming is) in
-        record { coming = coming; rest = first.0; begins = begins; is = first.1 })
+      record { coming = coming; rest = first.0; begins = begins; is = first.1 })
 
 if_told : (o : Option (List ℕ)) (P Q : List ℕ → Type 0) → ((t : List ℕ) → P t → Q t) → IfSome o P → IfSome o Q
 if_told None P Q weaker is = tt
@@ -148,7 +148,7 @@ behind_frames text h frames part fault whole less begins =
     by_whole (inl none) = absurd (cc)
     by_whole (inr multiple) =
         let count : length frames * size_of h + length part ≡ multiple.0 * size_of h =
-            omega (arith, sym multiple.1, ap length (append-nil (raw frames ++ part)), length-append (raw frames) part, raw_size (size_of h) h frames refl whole) in
+        omega (arith, sym multiple.1, ap length (append-nil (raw frames ++ part)), length-append (raw frames) part, raw_size (size_of h) h frames refl whole) in
         let none : part ≡ [] = no_bytes part (part_none (length frames) multiple.0 (length part) (size_of h) count less) in
         subst (λ l. Begins text h (record { raw = l; fault = Some fault })) (append-nil (raw frames ++ part) ∙ ap (λ l. raw frames ++ l) none ∙ append-nil (raw frames)) begins
 

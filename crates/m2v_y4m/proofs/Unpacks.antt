@@ -81,16 +81,19 @@ module _ {S K : Type 0} (left : S → Option (List ℕ)) (input_faults : S → �
   stopped h number i0 i1 i2 c0 c1 c2 o0 o1 o2 errors.Read small reads puts before s =
       (rose_since reads s.0, lost_here h number s.1.gave.part c0 c1 c2 o0 o1 o2 (omega arith) before s.1.gave.gave s.1.same)
   stopped h number i0 i1 i2 c0 c1 c2 o0 o1 o2 errors.Write small reads puts before s = (rose_since puts s.0, cut_here h number c0 c1 c2 o0 o1 o2 small before s.1)
-  stopped h number i0 i1 i2 c0 c1 c2 o0 o1 o2 (errors.ShortFrame extra) small reads puts before s = (s.0, record {
-    frames = before.frames;
-    part = s.1.part;
-    before = before_here h number s.1.part c0 c1 c2 o0 o1 o2 before s.1.gave s.1.same;
-    over = s.1.over;
-    fewer = omega (arith, before.count);
-    count = s.1.count;
-    some = s.1.some;
-    less = s.1.less;
-  })
+  stopped h number i0 i1 i2 c0 c1 c2 o0 o1 o2 (errors.ShortFrame extra) small reads puts before s = (
+    s.0,
+    record {
+      frames = before.frames;
+      part = s.1.part;
+      before = before_here h number s.1.part c0 c1 c2 o0 o1 o2 before s.1.gave s.1.same;
+      over = s.1.over;
+      fewer = omega (arith, before.count);
+      count = s.1.count;
+      some = s.1.some;
+      less = s.1.less;
+    },
+  )
   stopped h number i0 i1 i2 c0 c1 c2 o0 o1 o2 errors.TooManyFrames small reads puts before s = absurd s
   stopped h number i0 i1 i2 c0 c1 c2 o0 o1 o2 (errors.Y4m fault) small reads puts before s = record {
     frames = before.frames;

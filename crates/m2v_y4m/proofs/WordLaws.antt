@@ -94,4 +94,3 @@ none_found p xs is = by_test (nat_lt (position_or_len p xs) (length xs)) refl is
     by_test : (b : Bool) → nat_lt (position_or_len p xs) (length xs) ≡ b → cond b (Some (position_or_len p xs)) None ≡ None → length xs ≡ position_or_len p xs
     by_test true e gone = absurd (cc)
     by_test false e gone = let most = prefix_len-le-length (λ x. not (p x)) xs in omega_of e most
-

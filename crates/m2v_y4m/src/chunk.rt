@@ -39,11 +39,7 @@ fn move_to_front(bytes: &mut [u8], at: usize, end: usize)
 }
 
 /// Reads into the room behind so many bytes. Answers how many bytes were read: 0 at the end.
-fn read_behind<S: Source>(
-    inner: &mut S,
-    bytes: &mut [u8],
-    held: usize,
-) -> Result<usize, PortError>
+fn read_behind<S: Source>(inner: &mut S, bytes: &mut [u8], held: usize) -> Result<usize, PortError>
     requires room { held < length bytes.old }
     ensures within { IfOk result (λ n. held + n ≤ length bytes.old) }
     ensures same { length bytes.new ≡ length bytes.old }

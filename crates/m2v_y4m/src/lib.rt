@@ -10,11 +10,14 @@ mod opening;
 mod packing;
 mod reader;
 mod source;
+#[cfg(test)]
+mod tests;
 mod unpacking;
 mod words;
 
 pub use answer::{EncodeFault, PackSummary, UnpackError, Y4mError, Y4mFault, Y4mKind};
 pub use header::Y4mHeader;
+pub use laws::law_worked_rows;
 pub use packing::pack;
 pub use source::Y4mSource;
 pub use unpacking::unpack;

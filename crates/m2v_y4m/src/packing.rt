@@ -105,7 +105,10 @@ fn header_line(alloc: Global, header: &Y4mHeader) -> Result<String, Memory>
 {
     let (frames, seconds) = rate_of_code(header.rate_code);
     let scan = scan_text(header.top);
-    format!(in alloc; "YUV4MPEG2 W{} H{} F{}:{}{} A0:0 C420mpeg2\n", header.width, header.height, frames, seconds, scan)
+    format!(in alloc;
+        "YUV4MPEG2 W{} H{} F{}:{}{} A0:0 C420mpeg2\n",
+        header.width, header.height, frames, seconds, scan
+    )
 }
 
 /// The parameter of the interlacing.

@@ -332,7 +332,11 @@ impl Reader {
     }
 
     /// Gives raw bytes of frames, as a source does. It fails where the input does, and from a fault of the text on.
-    pub(crate) fn read<S: Source>(&mut self, inner: &mut S, buf: &mut [u8]) -> Result<usize, PortError>
+    pub(crate) fn read<S: Source>(
+        &mut self,
+        inner: &mut S,
+        buf: &mut [u8],
+    ) -> Result<usize, PortError>
         ensures gave { IfOk result (λ n. Gave (comes_of self.old (S.left inner.old)) (take n buf.new) (comes_of self.new (S.left inner.new))) }
         ensures same { OnErr result (comes_of self.new (S.left inner.new) ≡ comes_of self.old (S.left inner.old)) }
         ensures fault { fault_to_come self.new (S.left inner.new) ≡ fault_to_come self.old (S.left inner.old) }

@@ -40,13 +40,14 @@ pub fn unpack<S: Source, K: Sink>(
         Err(Y4mError::Y4m(fault)) => return Err(UnpackError::Y4m(fault)),
         Err(Y4mError::Memory) => return Err(UnpackError::Memory),
     };
-    let Ok(mut frame) = vec![in alloc; 0u8; reader.size()] else {
+    let size = reader.size();
+    let Ok(mut frame) = vec![in alloc; 0u8; size] else {
         return Err(UnpackError::Memory);
     };
     let frames = unpack_frames(&mut reader, &mut frame, input, output)?;
     Ok(PackSummary {
         frames,
-        bytes: frames * frame.len() as u64,
+        bytes: frames * size as u64,
     })
 }
 

@@ -158,7 +158,11 @@ fn top(value: &[u8]) -> Result<bool, Y4mKind>
 fn chroma(value: &[u8]) -> Result<bool, Y4mKind>
     ensures value { result ≡ chroma_of value.now }
 {
-    if value == b"420".as_slice() || value == b"420jpeg".as_slice() || value == b"420mpeg2".as_slice() || value == b"420paldv".as_slice() {
+    if value == b"420".as_slice()
+        || value == b"420jpeg".as_slice()
+        || value == b"420mpeg2".as_slice()
+        || value == b"420paldv".as_slice()
+    {
         return Ok(true);
     }
     Err(Y4mKind::Chroma)

@@ -34,16 +34,18 @@ pub returns-then-read-frame-clause-err : goal.returns-then-read-frame-clause-err
 unfolding FrameStops
 returns-then-read-frame-clause-err g c =
     let frame = c.read_frame.new.frame in
-    let less : c.in_ok-read.read < length c.args.frame.now = omega (arith, c.read_frame.ensures.same) in
-    (c.in_ok-read.ensures.end less, record {
-      part = take c.in_ok-read.read frame;
-      gave = c.in_ok-read.ensures.gave;
-      over = c.in_ok-read.ensures.over less;
-      count = length-take-le c.in_ok-read.read frame (omega (arith, c.read_frame.ensures.same, less));
-      some = omega arith;
-      less = omega (arith, less, c.requires.frame);
-      same = refl;
-    })
+    let less : c.in_ok-read.read < length c.args.frame.now = omega (arith, c.read_frame.ensures.same) in (
+      c.in_ok-read.ensures.end less,
+      record {
+        part = take c.in_ok-read.read frame;
+        gave = c.in_ok-read.ensures.gave;
+        over = c.in_ok-read.ensures.over less;
+        count = length-take-le c.in_ok-read.read frame (omega (arith, c.read_frame.ensures.same, less));
+        some = omega arith;
+        less = omega (arith, less, c.requires.frame);
+        same = refl;
+      },
+    )
 
 pub returns-in_err-put-clause-err : goal.returns-in_err-put-clause-err
 returns-in_err-put-clause-err g c =

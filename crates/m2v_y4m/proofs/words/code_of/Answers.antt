@@ -16,8 +16,8 @@ unfolding code_of
 found n d at small before here =
     let p = is_rate n d in
     let is : position_or_len p (range_with_len 0 8) ≡ at = position_or_len_is p (range_with_len 0 8) at 0 (omega arith)
-        (λ k lt. ap p (get_or-range_with_len 0 8 k 0 (omega arith) ∙ zero-add k) ∙ before k lt)
-        (λ lt. ap p (get_or-range_with_len 0 8 at 0 (omega arith) ∙ zero-add at) ∙ here) in
+    (λ k lt. ap p (get_or-range_with_len 0 8 k 0 (omega arith) ∙ zero-add k) ∙ before k lt)
+    (λ lt. ap p (get_or-range_with_len 0 8 at 0 (omega arith) ∙ zero-add at) ∙ here) in
     let less : nat_lt at 8 ≡ true = grind (arith, nat_tests) in
     rw (is, less) refl
 
