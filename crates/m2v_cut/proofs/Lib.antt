@@ -8,3 +8,4 @@ mod Lefts
 mod Onwards
 mod Takings
 mod Intras
+mod Firsts

@@ -1,5 +1,5 @@
 -- Pieces that are read behind others.
-use Rattle.std.proofs.Common.{◌≡◌, ℕ, ◌+◌, ◌<◌, ◌≤◌, Bool, true, false, List, [], ◌∷◌, ◌++◌, length, Option, Some, None, inl, inr, refl, sym, ap, subst, ◌∙◌, append_assoc, arith}
+use Rattle.std.proofs.Common.{◌≡◌, ◌⊎◌, ℕ, ◌+◌, ◌<◌, ◌≤◌, Bool, true, false, List, [], ◌∷◌, ◌++◌, length, Option, Some, None, inl, inr, refl, sym, ap, subst, ◌∙◌, append_assoc, arith}
 use Rattle.std.specs.Prelude.{if◌then◌else◌}
 use Rattle.std.proofs.lemmas.List.{append-nil, length-append}
 use Rattle.m2v_port.specs.Ends.{Change, change}
@@ -57,13 +57,18 @@ led_more start end pieces read others w l fits = record {
 
 -- ---- pieces that are read
 
-pub onward_none : (old : Option (List ℕ)) (c : Cutting) → c.begun ≡ true → Onward old old c c []
+-- a cutter is at a piece, or at the end
+settled_place : (c : Cutting) (rest : List ℕ) → (c.begun ≡ true) ⊎ (c.ended ≡ true) → start_of_rest c rest ≡ c.place
+settled_place c rest (inl begun) = start_place c rest begun
+settled_place c rest (inr over) = rw over refl
+
+pub onward_none : (old : Option (List ℕ)) (c : Cutting) → (c.begun ≡ true) ⊎ (c.ended ≡ true) → Onward old old c c []
 onward_none old c begun = record {
   bytes = [];
   moved = moves_nothing old;
   keeps = λ text rest a b. let e : Some text ≡ Some rest = sym a ∙ b in let same : text ≡ rest = cc in omega (arith, ap length same);
   told = λ rest e. led_none (start_of_rest c rest) (left_of c rest);
-  at = λ rest e. start_place c rest begun;
+  at = λ rest e. settled_place c rest begun;
 }
 
 keeps_on : (old mid new : Option (List ℕ)) (c0 c c' : Cutting) (bytes : List ℕ) → Keeps c0 old c mid → Moves mid bytes new → Keeps c mid c' new → Keeps c0 old c' new
@@ -129,7 +134,7 @@ module _ {S K : Type 0} (left : S → Option (List ℕ)) (input_faults : S → �
   abbrev output : K → K → Change
   output = change held output_faults
 
-  pub put_none : (most : ℕ) (old : Copied) (i0 : S) (o0 : K) (c : Cutting) → c.begun ≡ true → old.groups ≤ most → PuttingOn most old old (input i0 i0) (output o0 o0) c c
+  pub put_none : (most : ℕ) (old : Copied) (i0 : S) (o0 : K) (c : Cutting) → (c.begun ≡ true) ⊎ (c.ended ≡ true) → old.groups ≤ most → PuttingOn most old old (input i0 i0) (output o0 o0) c c
   put_none most old i0 o0 c begun few = record {
     mids = [];
     onward = onward_none (left i0) c begun;
@@ -223,18 +228,18 @@ module _ {S K : Type 0} (left : S → Option (List ℕ)) (input_faults : S → �
 
 pub second_stopped : {S : Type 0} (left : S → Option (List ℕ)) (faults : S → ℕ) (i0 i1 : S) (c : Cutting) (e : DecodeError) → c.begun ≡ true → (e ≡ reading.Read → (change left faults i0 i1).Failed) → IsReading e → Stopped c (left i0) (left i1) e
     → SecondFails (change left faults i0 i1) c (reading_error e)
-second_stopped left faults i0 i1 c reading.Read begun rose kind s = (rose refl, record { between = left i0; then_is = c; onward = onward_none (left i0) c begun; bytes = s.bytes; moved = s.moved })
+second_stopped left faults i0 i1 c reading.Read begun rose kind s = (rose refl, record { between = left i0; then_is = c; onward = onward_none (left i0) c (inl begun); bytes = s.bytes; moved = s.moved })
 second_stopped left faults i0 i1 c reading.Write begun rose kind s = absurd kind
 second_stopped left faults i0 i1 c (reading.Stream f) begun rose kind s = absurd kind
-second_stopped left faults i0 i1 c reading.TooLong begun rose kind s = record { read = record { between = left i0; then_is = c; onward = onward_none (left i0) c begun; bytes = s.bytes; moved = s.moved }; over = s.why }
-second_stopped left faults i0 i1 c reading.PictureTooLarge begun rose kind s = record { read = record { between = left i0; then_is = c; onward = onward_none (left i0) c begun; bytes = s.bytes; moved = s.moved }; over = s.why }
-second_stopped left faults i0 i1 c reading.Memory begun rose kind s = record { between = left i0; then_is = c; onward = onward_none (left i0) c begun; bytes = s.bytes; moved = s.moved }
+second_stopped left faults i0 i1 c reading.TooLong begun rose kind s = record { read = record { between = left i0; then_is = c; onward = onward_none (left i0) c (inl begun); bytes = s.bytes; moved = s.moved }; over = s.why }
+second_stopped left faults i0 i1 c reading.PictureTooLarge begun rose kind s = record { read = record { between = left i0; then_is = c; onward = onward_none (left i0) c (inl begun); bytes = s.bytes; moved = s.moved }; over = s.why }
+second_stopped left faults i0 i1 c reading.Memory begun rose kind s = record { between = left i0; then_is = c; onward = onward_none (left i0) c (inl begun); bytes = s.bytes; moved = s.moved }
 
 pub no_second : (f : FirstPicture) (old : Option (List ℕ)) (c : Cutting) → c.begun ≡ true → is_field_number f.structure ≡ false → Second f old old c c None
-no_second f old c begun off = record { onward = onward_none old c begun; is = inl off }
+no_second f old c begun off = record { onward = onward_none old c (inl begun); is = inl off }
 
 pub second_over : (f : FirstPicture) (old new : Option (List ℕ)) (c c' : Cutting) → c.begun ≡ true → Handed c old c' new None → c'.ended ≡ true → Keeps c old c' new → Second f old new c c' None
-second_over f old new c c' begun handed over keeps = record { onward = onward_over old old new c c c' [] (onward_none old c begun) handed over keeps; is = inr (λ rest e. ended_left c' rest over) }
+second_over f old new c c' begun handed over keeps = record { onward = onward_over old old new c c c' [] (onward_none old c (inl begun)) handed over keeps; is = inr (λ rest e. ended_left c' rest over) }
 
 pub second_more : (f : FirstPicture) (old new : Option (List ℕ)) (c c' : Cutting) (p : Piece) → c.begun ≡ true → is_field_number f.structure ≡ true → Handed c old c' new (Some p) → c'.begun ≡ true → Keeps c old c' new → IsSoundPiece p → Second f old new c c' (Some p)
-second_more f old new c c' p begun on handed after keeps sound = record { onward = onward_more old old new c c c' [] p (onward_none old c begun) handed after keeps; is = (on, sound) }
+second_more f old new c c' p begun on handed after keeps sound = record { onward = onward_more old old new c c c' [] p (onward_none old c (inl begun)) handed after keeps; is = (on, sound) }

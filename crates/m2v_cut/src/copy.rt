@@ -1,5 +1,5 @@
 //! Pieces of a cut, one after another.
-ghost use Rattle.std.specs.Prelude.{◌≡◌, ◌+◌, ◌*◌, ◌^◌, ◌≤◌, ◌<◌, ◌++◌, length, IsTrue, IfOk, IfErr, IfSome, OnOk, true, false};
+ghost use Rattle.std.specs.Prelude.{◌≡◌, ◌⊎◌, ◌+◌, ◌*◌, ◌^◌, ◌≤◌, ◌<◌, ◌++◌, length, IsTrue, IfOk, IfErr, IfSome, OnOk, true, false};
 ghost use Rattle.m2v_port.specs.Ends.{change, SinkStays};
 ghost use Rattle.m2v_port.specs.Port.{Grows};
 ghost use Rattle.m2v_piece.specs.Sound.{IsSoundPiece};
@@ -84,7 +84,7 @@ pub fn put_rest<S: Source, K: Sink>(
     output: &mut K,
 ) -> Result<(), CutError>
     requires going { cutter.old.failed ≡ false }
-    requires begun { cutter.old.begun ≡ true }
+    requires begun { (cutter.old.begun ≡ true) ⊎ (cutter.old.ended ≡ true) }
     requires few { copied.old.groups ≤ most }
     requires room { copied.old.bytes ≤ cutter.old.place }
     requires low { cutter.old.place ≤ 2 ^ 36 }

@@ -1,5 +1,5 @@
 //! The second piece of a group's first frame.
-ghost use Rattle.std.specs.Prelude.{◌≡◌, ◌≤◌, ◌^◌, true, false, IfOk, IfErr, OnOk};
+ghost use Rattle.std.specs.Prelude.{◌≡◌, ◌⊎◌, ◌+◌, ◌≤◌, ◌^◌, true, false, IfOk, IfErr, IfSome, OnOk};
 ghost use Rattle.m2v_port.specs.Ends.{change};
 ghost use Rattle.m2v_cut.specs.Starts.{Second, SecondFails};
 
@@ -26,6 +26,8 @@ pub fn second_piece<S: Source>(
     ensures err { IfErr result (SecondFails
         (change S.left S.faults input.old input.new) cutter.old) }
     ensures going { OnOk result (cutter.new.failed ≡ false) }
+    ensures begun { OnOk result ((cutter.new.begun ≡ true) ⊎ (cutter.new.ended ≡ true)) }
+    ensures room { IfOk result (λ p. IfSome p (λ q. cutter.old.place + q.length ≤ cutter.new.place)) }
     ensures low { OnOk result (cutter.new.place ≤ 2 ^ 36) }
     ensures onward { OnOk result (cutter.old.place ≤ cutter.new.place) }
     ensures input { S.faults input.old ≤ S.faults input.new }

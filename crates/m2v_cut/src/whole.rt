@@ -1,7 +1,9 @@
-ghost use Rattle.std.specs.Prelude.{◌≤◌, IsTrue, IfOk, IfErr};
+ghost use Rattle.std.specs.Prelude.{◌≡◌, ◌+◌, ◌^◌, ◌≤◌, ◌<◌, true, false, length, IsTrue, IfOk, IfErr};
 ghost use Rattle.m2v_port.specs.Ends.{change, Tells, SinkStays};
 ghost use Rattle.m2v_decode.specs.Answers.{OfText};
-ghost use Rattle.m2v_cut.specs.Answers.{IsCutOut, Fails, Gives, answer_to};
+ghost use Rattle.m2v_piece.specs.Sound.{IsSoundPiece};
+ghost use Rattle.m2v_decoder.specs.Decoding.{whole_of};
+ghost use Rattle.m2v_cut.specs.Answers.{IsCutOut, Fails, Gives, answer_to, groups_of};
 
 use crate::answer::{CutError, CutSummary};
 use crate::copy::{Copied, put_rest, put_second};
@@ -24,7 +26,18 @@ fn cut_from<S: Source, K: Sink>(
     cutter: &mut Cutter,
     input: &mut S,
     output: &mut K,
-) -> Result<CutSummary, CutError> {
+) -> Result<CutSummary, CutError>
+    requires count { 1 ≤ count }
+    requires piece { IsSoundPiece found.piece }
+    requires here { found.number < groups_of (whole_of found.piece) }
+    requires place { found.piece.place + length (whole_of found.piece) ≤ cutter.old.place }
+    requires going { cutter.old.failed ≡ false }
+    requires begun { cutter.old.begun ≡ true }
+    requires low { cutter.old.place ≤ 2 ^ 36 }
+    requires output { IsTrue (K.ready output.old) }
+    ensures output { SinkStays K.ready K.name K.faults output.old output.new }
+    ensures input { S.faults input.old ≤ S.faults input.new }
+{
     let start = start_in(&found.piece, found.number);
     let second = second_piece(alloc, start.first, cutter, input)?;
     let Some(sequence) = cuttable(start, &second) else {
