@@ -1,0 +1,6 @@
+mod Scans
+mod Going
+mod Putting
+mod Shapes
+mod Fulls
+mod Places

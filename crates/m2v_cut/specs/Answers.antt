@@ -1,19 +1,20 @@
 -- What is answered to a text, which pieces of it are read for that, and what stands on output then.
-use Rattle.std.specs.Prelude.{◌≡◌, ◌⊎◌, ℕ, ◌+◌, ◌-◌, ◌<◌, ◌≤◌, Bool, false, ◌&&◌, ◌||◌, nat_lt, List, [], ◌∷◌, ◌++◌, length, drop, Option, Some, None, Result, Ok, Err, if◌then◌else◌}
+use Rattle.std.specs.Prelude.{◌≡◌, ◌⊎◌, ℕ, ◌+◌, ◌-◌, ◌<◌, ◌≤◌, Bool, false, ◌||◌, nat_eq, nat_lt, List, [], ◌∷◌, ◌++◌, length, drop, Option, Some, None, Result, Ok, Err, if◌then◌else◌}
 use Rattle.m2v_port.specs.Ends.{Change}
 use Rattle.m2v_port.specs.Port.{Moves, Grows, GrowsByPrefix}
 use Rattle.m2v_model.specs.Units.{Units, cut, joined}
 use Rattle.m2v_model.specs.Pieces.{pieces, limit, Limit, too_long, too_large, most_input}
 use Rattle.m2v_decode.specs.Answers.{OfText, OfTaken, start_of}
-use Rattle.m2v_group.specs.Groups.{is_picture, is_group, group_headers, groups_in, from_group, group_place, is_standalone, cut_units, cut_text, groups_chosen, stream_units, end_code, next_unit, is_coding_extension, structure_of, is_number}
+use Rattle.m2v_group.specs.Groups.{is_picture, is_group, group_headers, groups_in, from_group, group_place, is_standalone, cut_units, cut_text, groups_chosen, stream_units, end_code, next_unit, is_intra, is_coding_extension, structure_of, to_end}
 use Rattle.m2v_cut.specs.declared.answer.CutError.{CutError}
 use Rattle.m2v_cut.specs.declared.answer.CutError.TheVariants as errors
 use Rattle.m2v_cut.specs.declared.answer.CutSummary.{CutSummary}
 
 -- ---- which pieces are read
 
+-- the units of a piece, without the sequence end code
 abbrev pub units_of : List ℕ → Units
-units_of piece = (cut 0 piece).1
+units_of piece = to_end (cut 0 piece).1
 
 -- how many group headers a piece has
 abbrev pub groups_of : List ℕ → ℕ
@@ -29,10 +30,23 @@ unfoldable pub first_picture : Units → Option (List ℕ × List ℕ)
 first_picture [] = None
 first_picture (u ∷ us) = if is_group u then None else if is_picture u then Some (u, next_unit us) else first_picture us
 
--- a picture is one field, by its picture coding extension
+-- the type of a picture is I
+abbrev pub has_intra : Option (List ℕ × List ℕ) → Bool
+has_intra None = false
+has_intra (Some p) = is_intra p.0
+
+abbrev pub or_none : Option ℕ → ℕ
+or_none None = 0
+or_none (Some n) = n
+
+-- the structure of a picture, by the picture coding extension right behind it; 0 where there is none
+abbrev pub picture_structure : Option (List ℕ × List ℕ) → ℕ
+picture_structure None = 0
+picture_structure (Some p) = if is_coding_extension p.1 then or_none (structure_of p.1) else 0
+
+-- a picture is one field
 abbrev pub is_field : Option (List ℕ × List ℕ) → Bool
-is_field None = false
-is_field (Some p) = is_coding_extension p.1 && (is_number 1 (structure_of p.1) || is_number 2 (structure_of p.1))
+is_field p = nat_eq (picture_structure p) 1 || nat_eq (picture_structure p) 2
 
 -- the first of some pieces, where it is looked at
 abbrev pub first_if : Bool → List (List ℕ) → List (List ℕ)

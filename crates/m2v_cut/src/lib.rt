@@ -4,6 +4,11 @@
 #![tactic(auto)]
 
 mod answer;
+mod copy;
+mod find;
+mod look;
+mod put;
+mod start;
 mod whole;
 
 pub use answer::{CutError, CutSummary};

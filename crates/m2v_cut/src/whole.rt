@@ -4,8 +4,45 @@ ghost use Rattle.m2v_decode.specs.Answers.{OfText};
 ghost use Rattle.m2v_cut.specs.Answers.{IsCutOut, Fails, Gives, answer_to};
 
 use crate::answer::{CutError, CutSummary};
+use crate::copy::{Copied, put_next, put_rest};
+use crate::find::{Found, find};
+use crate::put::{put, put_first};
+use crate::start::{cuttable, second_piece, start_in};
+use m2v_piece::Cutter;
 use m2v_port::{Sink, Source};
 use std::alloc::Global;
+
+/// The sequence end code.
+const END_CODE: [u8; 4] = [0x00, 0x00, 0x01, 0xB7];
+
+/// Cuts groups out from one on that was found.
+fn cut_from<S: Source, K: Sink>(
+    alloc: Global,
+    found: Found,
+    count: u32,
+    cutter: &mut Cutter,
+    input: &mut S,
+    output: &mut K,
+) -> Result<CutSummary, CutError> {
+    let start = start_in(&found.piece, found.number);
+    let second = second_piece(alloc, start, cutter, input)?;
+    let Some(sequence) = cuttable(start, &second) else {
+        return Err(CutError::NotCuttable {
+            place: 8 * (found.piece.place + start.header),
+        });
+    };
+    let bytes = put_first(&found.piece, sequence, start.header, found.behind, output)?;
+    let mut copied = Copied { groups: 1, bytes };
+    if let Some(piece) = second {
+        put_next(&piece, u64::from(count), &mut copied, output)?;
+    }
+    put_rest(alloc, u64::from(count), cutter, &mut copied, input, output)?;
+    put(&END_CODE, output)?;
+    Ok(CutSummary {
+        groups: copied.groups,
+        bytes: copied.bytes + 4,
+    })
+}
 
 /// Cuts whole groups out of a stream: so many from group `from` on, which are numbered from 0 by their group headers, or
 /// those that are there, behind the last sequence header before them and with an end code behind them. Where a picture
@@ -38,5 +75,7 @@ pub fn cut<S: Source, K: Sink>(
     ensures output { SinkStays K.ready K.name K.faults output.old output.new }
     ensures input { S.faults input.old ≤ S.faults input.new }
 {
-    Err(CutError::Memory)
+    let mut cutter = Cutter::new(alloc)?;
+    let found = find(alloc, from, &mut cutter, input)?;
+    cut_from(alloc, found, count, &mut cutter, input, output)
 }

@@ -34,7 +34,7 @@ impl Coder {
         requires room { HasRoom self.old }
         ensures within { IfOk result (λ n. n ≤ frame_bytes (dims_of self.old.settings)) }
         ensures moved { IfOk result (λ n. Moves (S.left input.old) (take n self.new.raw.items) (S.left input.new)) }
-        ensures bytes { All (λ b. b < 256) self.new.raw.items }
+        ensures bytes { IfOk result (λ n. All (λ b. b < 256) self.new.raw.items) }
         ensures end { IfOk result (λ n. n < frame_bytes (dims_of self.old.settings) → IsAtEnd (S.left input.new)) }
         ensures err { IfErr result (ReadStops (frame_bytes (dims_of self.old.settings))
             (change S.left S.faults input.old input.new)) }

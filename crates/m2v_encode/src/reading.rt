@@ -17,16 +17,17 @@ fn are_bytes(bytes: &[u8])
 pub(crate) fn read_bytes<S: Source>(input: &mut S, raw: &mut [u8]) -> Result<usize, EncodeError>
     ensures within { IfOk result (λ n. n ≤ length raw.old) }
     ensures moved { IfOk result (λ n. Moves (S.left input.old) (take n raw.new) (S.left input.new)) }
-    ensures bytes { All (λ b. b < 256) raw.new }
+    ensures bytes { IfOk result (λ n. All (λ b. b < 256) raw.new) }
     ensures end { IfOk result (λ n. n < length raw.old → IsAtEnd (S.left input.new)) }
     ensures err { IfErr result (ReadStops (length raw.old)
         (change S.left S.faults input.old input.new)) }
     ensures input { S.faults input.old ≤ S.faults input.new }
 {
-    let filled = fill(input, raw);
-    are_bytes(raw);
-    match filled {
-        Ok(read) => Ok(read),
+    match fill(input, raw) {
+        Ok(read) => {
+            are_bytes(raw);
+            Ok(read)
+        }
         Err(PortError::Failed) => Err(EncodeError::Read),
         Err(PortError::Memory) => Err(EncodeError::Memory),
     }
@@ -41,10 +42,11 @@ pub(crate) fn goes_on<S: Source>(input: &mut S) -> Result<bool, EncodeError>
     ensures input { S.faults input.old ≤ S.faults input.new }
 {
     let mut byte = [0u8];
-    let filled = fill(input, &mut byte);
-    are_bytes(&byte);
-    match filled {
-        Ok(read) => Ok(read > 0),
+    match fill(input, &mut byte) {
+        Ok(read) => {
+            are_bytes(&byte);
+            Ok(read > 0)
+        }
         Err(PortError::Failed) => Err(EncodeError::Read),
         Err(PortError::Memory) => Err(EncodeError::Memory),
     }

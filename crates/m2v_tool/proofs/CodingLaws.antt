@@ -28,7 +28,8 @@ use Rattle.m2v_tool.specs.declared.flat.FlatOutcome.{FlatOutcome}
 use Rattle.m2v_tool.specs.declared.flat.FlatOutcome.TheVariants.{Coded, Unfit, Stopped}
 use Rattle.m2v_tool.specs.Endings.{Told, whole, cut, unfit_ending}
 use Rattle.m2v_tool.specs.Words.{settings_of, WordsPass, WordsFail}
-use Rattle.m2v_tool.specs.Coding.{FlatDone, FlatStopped, FlatComes, coding_stopped, flat_ending, AreFrames, EndInside, FlatAnswer, FlatKeeps}
+use Rattle.m2v_tool.specs.Coding.{FlatDone, FlatStopped, FlatComes, coding_stopped, flat_ending, FlatAnswer, FlatKeeps}
+use Rattle.m2v_tool.specs.Inputs.{AreFrames, EndInside}
 use Rattle.m2v_tool.specs.Runs.{Run, work_of, IsUntouched, Yields, RefusedBy, NoneFailed, Succeeds}
 use Rattle.m2v_tool.proofs.EndingLaws.{refusal, or_memory}
 

@@ -24,7 +24,7 @@ use Rattle.m2v_tool.specs.declared.encode.EncodeOutcome.{EncodeOutcome}
 use Rattle.m2v_tool.specs.declared.encode.EncodeOutcome.TheVariants.{Coded, Unfit as NotFit, Unopened, Stopped}
 use Rattle.m2v_tool.specs.Endings.{Told, whole, cut, unfit_ending}
 use Rattle.m2v_tool.specs.EncodeWords.{Meant}
-use Rattle.m2v_tool.specs.Coding.{AreFrames, EndInside}
+use Rattle.m2v_tool.specs.Inputs.{AreFrames, EndInside}
 use Rattle.m2v_tool.specs.Encoding.{opened, recon_by, Shut, frame_size, EncodeStopped, EncodeShut, EncodeComes, encoding_stopped, unopened_ending, encoded_ending, encode_ending, EncodeAnswer, EncodeKeeps}
 use Rattle.m2v_tool.specs.Runs.{Run, Work, work_of, IsUntouched, Yields, RefusedBy, NoneFailed, Succeeds}
 use Rattle.m2v_tool.proofs.EndingLaws.{refusal, or_memory}

@@ -22,8 +22,8 @@ use Rattle.m2v_tool.specs.declared.pack.PackOutcome.TheVariants as packs
 use Rattle.m2v_tool.specs.declared.unpack.UnpackOutcome.{UnpackOutcome}
 use Rattle.m2v_tool.specs.declared.unpack.UnpackOutcome.TheVariants as unpacks
 use Rattle.m2v_tool.specs.Endings.{Ending, Told, whole, cut, line_of, unfit_ending, short_frame, too_many_frames}
-use Rattle.m2v_tool.specs.Coding.{EndInside}
-use Rattle.m2v_tool.specs.Packing.{PackComes, AreFew, packed_ending, packing_stopped, unpacking_stopped, pack_ending, unpack_ending, y4m_fault, PackAnswer, PackKeeps, UnpackComes, numbers_of, UnpackDone, Says, UnpackKeeps}
+use Rattle.m2v_tool.specs.Inputs.{AreFew, EndInside}
+use Rattle.m2v_tool.specs.Packing.{PackComes, packed_ending, packing_stopped, unpacking_stopped, pack_ending, unpack_ending, y4m_fault, PackAnswer, PackKeeps, UnpackComes, numbers_of, UnpackDone, Says, UnpackKeeps}
 use Rattle.m2v_tool.specs.Runs.{Run, work_of, IsUntouched, Yields, RefusedBy, NoneFailed, Succeeds}
 use Rattle.m2v_tool.proofs.EndingLaws.{refusal, or_memory}
 use Rattle.m2v_tool.proofs.CodingLaws.{frames_length, all_read, long_by, not_inside_of, not_many_of}

@@ -38,7 +38,7 @@ use Rattle.m2v_tool.specs.declared.encode_y4m.Y4mOutcome.{Y4mOutcome}
 use Rattle.m2v_tool.specs.declared.encode_y4m.Y4mOutcome.TheVariants.{Unread, Encoded, Broken}
 use Rattle.m2v_tool.specs.Endings.{Told, whole, cut, unfit_ending}
 use Rattle.m2v_tool.specs.EncodeWords.{Meant}
-use Rattle.m2v_tool.specs.Coding.{AreFrames, EndInside}
+use Rattle.m2v_tool.specs.Inputs.{AreFrames, EndInside}
 use Rattle.m2v_tool.specs.Encoding.{recon_by, Shut, frame_size, EncodeStopped, EncodeShut, EncodeComes, encoding_stopped, unopened_ending, encoded_ending, encode_ending, EncodeAnswer, EncodeKeeps}
 use Rattle.m2v_tool.specs.Packing.{Says, y4m_fault}
 use Rattle.m2v_tool.specs.Y4mWords.{with_header}

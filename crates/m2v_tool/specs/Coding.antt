@@ -16,6 +16,7 @@ use Rattle.m2v_tool.specs.declared.flat.FlatOutcome.{FlatOutcome}
 use Rattle.m2v_tool.specs.declared.flat.FlatOutcome.TheVariants.{Coded, Unfit, Stopped}
 use Rattle.m2v_tool.specs.Endings.{Ending, read_fault, write_fault, no_memory, unfit_ending, short_frame, no_frames, too_many_frames}
 use Rattle.m2v_tool.specs.Words.{settings_of, WordsPass, WordsFail}
+use Rattle.m2v_tool.specs.Inputs.{AreFrames, EndInside}
 use Rattle.m2v_tool.specs.Runs.{Run, Yields, RefusedBy, NoneFailed, Succeeds}
 
 -- The settings pass, the input was coded, and what output has grown by decodes and is lawful.
@@ -58,22 +59,6 @@ flat_ending (Stopped e) = coding_stopped e
 -- the bytes of a frame of the size that words name
 abbrev pub size_of : FlatWords → ℕ
 size_of w = frame_bytes (settings_of w).dims
-
--- so many bytes are whole frames of a size, 1 to 999,999 of them
-pub record AreFrames (size bytes : ℕ) : Type 0 where
-  pub frames : ℕ
-  pub some : 1 ≤ frames
-  pub most : frames ≤ most_frames
-  pub are : bytes ≡ frames * size
-
--- so many bytes end inside one of the frames that an input may have
-pub record EndInside (size bytes : ℕ) : Type 0 where
-  pub frames : ℕ
-  pub extra : ℕ
-  pub fewer : frames < most_frames
-  pub some : 0 < extra
-  pub less : extra < size
-  pub are : bytes ≡ frames * size + extra
 
 -- The status that `flat` gives by its words and the number of input's bytes: the first cause in the order settings,
 -- input.

@@ -16,7 +16,7 @@ use Rattle.m2v_tool.specs.declared.encode.EncodeOutcome.TheVariants.{Coded, Unfi
 use Rattle.m2v_tool.specs.Endings.{Ending, read_fault, write_fault, no_memory, unfit_ending, short_frame, no_frames, too_many_frames}
 use Rattle.m2v_tool.specs.EncodeWords.{Meant}
 use Rattle.m2v_tool.specs.Runs.{Run, Work, Yields, RefusedBy, NoneFailed, Succeeds}
-use Rattle.m2v_tool.specs.Coding.{AreFrames, EndInside}
+use Rattle.m2v_tool.specs.Inputs.{AreFrames, EndInside}
 
 -- ---- recon
 

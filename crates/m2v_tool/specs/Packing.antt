@@ -26,7 +26,7 @@ use Rattle.m2v_tool.specs.declared.unpack.UnpackOutcome.{UnpackOutcome}
 use Rattle.m2v_tool.specs.declared.unpack.UnpackOutcome.TheVariants as unpacks
 use Rattle.m2v_tool.specs.Simple.{simple, number_word, flag_option, required, flag, taken}
 use Rattle.m2v_tool.specs.Endings.{Ending, Told, line_of, read_fault, write_fault, no_memory, unfit_ending, short_frame, too_many_frames}
-use Rattle.m2v_tool.specs.Coding.{EndInside}
+use Rattle.m2v_tool.specs.Inputs.{AreFew, EndInside}
 use Rattle.m2v_tool.specs.Runs.{Run, Yields, RefusedBy, NoneFailed, Succeeds}
 
 -- ---- words
@@ -113,12 +113,6 @@ PackComes h left held (packs.Packed s) = Passes h × Packed h left held s
 PackComes h left held (packs.Unfit u) =
     (judged (header_rules h) ≡ Err u) × left.Unchanged × held.Unchanged
 PackComes h left held (packs.Stopped e) = Passes h × PackStops h left held e
-
--- so many bytes are whole frames of a size, up to 999,999 of them
-pub record AreFew (size bytes : ℕ) : Type 0 where
-  pub frames : ℕ
-  pub most : frames ≤ most_frames
-  pub are : bytes ≡ frames * size
 
 -- The status that `pack` gives by its words and the number of input's bytes.
 pub data PackAnswer (r : Run) (h : Y4mHeader) (bytes : ℕ) : Type 0 where

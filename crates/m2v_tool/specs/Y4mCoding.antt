@@ -20,7 +20,7 @@ use Rattle.m2v_tool.specs.declared.encode_y4m.Y4mOutcome.TheVariants.{Unread, En
 use Rattle.m2v_tool.specs.Endings.{Ending, Told, read_fault, no_memory}
 use Rattle.m2v_tool.specs.EncodeWords.{Meant}
 use Rattle.m2v_tool.specs.Y4mWords.{with_header}
-use Rattle.m2v_tool.specs.Coding.{AreFrames, EndInside}
+use Rattle.m2v_tool.specs.Inputs.{AreFrames, EndInside}
 use Rattle.m2v_tool.specs.Encoding.{EncodeComes, Stands, encode_ending, frame_size, recon_by}
 use Rattle.m2v_tool.specs.Packing.{Says, y4m_fault}
 use Rattle.m2v_tool.specs.Runs.{Run, Work, Yields, NoneFailed, Succeeds}

@@ -1,2 +1,8 @@
 pub mod Comings
+mod ChunkLaws
+mod FrameLaws
+mod LineLaws
+mod SizeLaws
+mod Steps
+mod WordLaws
 mod Rows

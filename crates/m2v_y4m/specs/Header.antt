@@ -1,5 +1,6 @@
 -- The header line of a YUV4MPEG2 text: its magic and its parameters, or its first fault.
 use Rattle.std.specs.Prelude.{ℕ, ◌+◌, ◌*◌, ◌==◌, suc, Bool, true, false, ◌&&◌, ◌||◌, nat_le, List, [], ◌∷◌, length, take, drop, position, Option, Some, None, is_some, option_map, Result, Ok, Err, codes, slice_index, if◌then◌else◌}
+use Rattle.std.specs.List.{range_with_len}
 use Rattle.std.specs.Cmp.Lexicographic.{pointwise}
 use Rattle.m2v_y4m.specs.declared.answer.Y4mFault.{Y4mFault}
 use Rattle.m2v_y4m.specs.declared.answer.Y4mKind.{Y4mKind}
@@ -22,7 +23,7 @@ is_rate n d i = n * slice_index rate_seconds i == slice_index rate_frames i * d
 
 -- the code of the rate that n frames in d seconds are
 unfoldable pub code_of : ℕ → ℕ → Option ℕ
-code_of n d = option_map suc (position (is_rate n d) (0 ∷ 1 ∷ 2 ∷ 3 ∷ 4 ∷ 5 ∷ 6 ∷ 7 ∷ []))
+code_of n d = option_map (λ i. i + 1) (position (is_rate n d) (range_with_len 0 8))
 
 -- no parameter was read yet
 abbrev pub none_seen : Seen

@@ -62,10 +62,10 @@ abbrev pub comes_of : Standing → Option (List ℕ) → Option Coming
 comes_of s left = option_map (λ text. coming s text) left
 
 abbrev pub fault_to_come : Standing → Option (List ℕ) → Option (Option Y4mFault)
-fault_to_come s left = option_map (λ text. (coming s text).fault) left
+fault_to_come s left = option_map (λ c. c.fault) (comes_of s left)
 
 abbrev pub told_left : Standing → Option (List ℕ) → Option (List ℕ)
-told_left s left = option_map (λ text. left_of (coming s text)) left
+told_left s left = option_map left_of (comes_of s left)
 
 -- a source over another one: what is known of the text, the other source, and how many reads a fault has failed
 pub record Opened (S : Type 0) : Type 0 where

@@ -74,8 +74,11 @@ impl Y4mHeader {
 }
 
 /// The bytes of a raw frame.
+#[tactic(auto, using(crate::proofs::SizeLaws::size_some))]
 pub(crate) fn frame_size(header: &Y4mHeader) -> usize
     requires header { IsHeader header.now }
+    ensures some { 1 ≤ result }
+    ensures most { result ≤ 3317760 }
     ensures value { result ≡ size_of header.now }
 {
     bytes_of(Dims {

@@ -1,11 +1,12 @@
-ghost use Rattle.std.specs.Prelude.{◌≡◌, ◌+◌, ◌<◌, ◌≤◌, length, take, drop, IfOk, IfSome};
+ghost use Rattle.std.specs.Prelude.{◌≡◌, ◌+◌, ◌<◌, ◌≤◌, ◌==◌, length, take, drop, IfOk, IfSome};
+ghost use Rattle.std.specs.List.{position_or_len};
 ghost use Rattle.m2v_y4m.specs.Header.{opening, with_words, words_from, none_seen, header_of};
 ghost use Rattle.m2v_y4m.specs.Reading.{IsSeen};
 ghost use Rattle.m2v_y4m.specs.Rules.{IsHeader};
 
 use crate::answer::{Y4mFault, Y4mKind};
 use crate::header::Y4mHeader;
-use crate::lines::{begins, line_length};
+use crate::lines::{begins, find_byte, line_length};
 use crate::words::{Seen, with_word};
 
 /// A header line.
@@ -16,16 +17,24 @@ pub(crate) struct Opening {
     pub length: usize,
 }
 
-/// Where the word that begins at a place ends: at the next space, or with the line.
+/// The bytes of a word, up to the first space or to the end.
+fn word_length(rest: &[u8]) -> usize
+    ensures value { result ≡ position_or_len (λ b. b == 32) rest.now }
+    ensures most { result ≤ length rest.now }
+{
+    match find_byte(rest, b' ') {
+        Some(n) => n,
+        None => rest.len(),
+    }
+}
+
+/// Where the word that begins at a place ends.
 fn word_end(line: &[u8], at: usize) -> usize
     requires within { at ≤ length line.now }
-    ensures least { at ≤ result }
+    ensures value { result ≡ at + position_or_len (λ b. b == 32) (drop at line.now) }
     ensures most { result ≤ length line.now }
 {
-    match line[at..].iter().position(|b| *b == b' ') {
-        Some(n) => at + n,
-        None => line.len(),
-    }
+    at + word_length(&line[at..])
 }
 
 /// The parameters of a header line without its newline, from its tenth byte on.
@@ -58,6 +67,7 @@ fn read_words(line: &[u8]) -> Result<Seen, Y4mFault>
     Ok(seen)
 }
 
+#[tactic(auto, unfolding(crate::specs::Header::header_of))]
 /// The header of the parameters; None where W, H or F is missing.
 fn header_of(seen: &Seen) -> Option<Y4mHeader>
     requires seen { IsSeen seen.now }
@@ -75,6 +85,7 @@ fn header_of(seen: &Seen) -> Option<Y4mHeader>
     }
 }
 
+#[tactic(auto, unfolding(crate::specs::Header::opening))]
 /// The header line of a text, of which the bytes of a longest line are there or all.
 pub(crate) fn read_opening(text: &[u8]) -> Result<Opening, Y4mFault>
     ensures value { result ≡ opening text.now }

@@ -1,10 +1,12 @@
-ghost use Rattle.std.specs.Prelude.{◌≡◌, ◌⊎◌, ◌+◌, ◌<◌, ◌≤◌, [], length, take, IfOk, IfErr, OnOk, OnErr, IsErrOf, Ok, Err, Some, None, IsTrue, is_some};
+ghost use Rattle.std.specs.Prelude.{◌≡◌, ◌⊎◌, ◌+◌, ◌-◌, ◌<◌, ◌≤◌, [], length, take, drop, true, false, IfOk, IfErr, OnOk, OnErr, IsErrOf, Ok, Err, Some, None, IsTrue, IsFalse, is_some};
 ghost use Rattle.m2v_port.specs.Ends.{change};
 ghost use Rattle.m2v_port.specs.Port.{Rose, Moves, IsAtEnd};
 ghost use Rattle.m2v_y4m.specs.Frames.{size_of};
 ghost use Rattle.m2v_y4m.specs.Rules.{IsHeader};
-ghost use Rattle.m2v_y4m.specs.Sources.{Standing, IsOpen, told_left, fault_to_come};
-ghost use Rattle.m2v_y4m.specs.Reading.{Gathered, Held};
+ghost use Rattle.m2v_y4m.specs.Sources.{Standing, IsOpen, comes_of, told_left, fault_to_come};
+ghost use Rattle.m2v_y4m.specs.Texts.{onward};
+ghost use Rattle.m2v_y4m.specs.Header.{opening};
+ghost use Rattle.m2v_y4m.specs.Reading.{Held, Gave, IsInside, TookLine, BrokeLine};
 ghost use Rattle.m2v_y4m.specs.Answers.{OpenStops};
 
 use crate::answer::{Y4mError, Y4mFault, Y4mKind};
@@ -46,8 +48,8 @@ impl Model for Reader {
 
 /// Reads on until the bytes of a longest line are there, or the text ends.
 fn gather<S: Source>(chunk: &mut Chunk, inner: &mut S) -> Result<(), PortError>
-    ensures ok { OnOk result (Gathered chunk.old (S.left inner.old) chunk.new (S.left inner.new)) }
-    ensures err { OnErr result (Held chunk.old (S.left inner.old) chunk.new (S.left inner.new)) }
+    ensures held { Held chunk.old (S.left inner.old) chunk.new (S.left inner.new) }
+    ensures all { OnOk result (length chunk.new < 1024 → IsAtEnd (S.left inner.new)) }
     ensures failed { IsErrOf result PortError.Failed → Rose (S.faults inner.old) (S.faults inner.new) }
     ensures faults { S.faults inner.old ≤ S.faults inner.new }
 {
@@ -57,6 +59,22 @@ fn gather<S: Source>(chunk: &mut Chunk, inner: &mut S) -> Result<(), PortError>
         }
     }
     Ok(())
+}
+
+/// Reads into the front of a buffer, so many bytes at most.
+fn read_part<S: Source>(inner: &mut S, buf: &mut [u8], most: usize) -> Result<usize, PortError>
+    requires room { 0 < length buf.old }
+    requires some { 1 ≤ most }
+    ensures within { IfOk result (λ n. n ≤ length buf.old) }
+    ensures most { IfOk result (λ n. n ≤ most) }
+    ensures moved { IfOk result (λ n. Moves (S.left inner.old) (take n buf.new) (S.left inner.new)) }
+    ensures end { result ≡ Ok 0 → IsAtEnd (S.left inner.new) }
+    ensures err { OnErr result (S.left inner.new ≡ S.left inner.old) }
+    ensures failed { IsErrOf result PortError.Failed → Rose (S.faults inner.old) (S.faults inner.new) }
+    ensures faults { S.faults inner.old ≤ S.faults inner.new }
+{
+    let n = buf.len().min(most);
+    inner.read(&mut buf[..n])
 }
 
 impl Reader {
@@ -71,14 +89,24 @@ impl Reader {
             return Err(Y4mError::Memory);
         };
         match gather(&mut chunk, inner) {
-            Ok(()) => Reader::over(chunk),
+            Ok(()) => match Reader::over(chunk) {
+                Ok(reader) => Ok(reader),
+                Err(fault) => Err(Y4mError::Y4m(fault)),
+            },
             Err(PortError::Failed) => Err(Y4mError::Read),
             Err(PortError::Memory) => Err(Y4mError::Memory),
         }
     }
 
     /// Begins behind the header line, the bytes of which were read.
-    fn over(chunk: Chunk) -> Result<Reader, Y4mError>
+    fn over(chunk: Chunk) -> Result<Reader, Y4mFault>
+        ensures value { IfOk result (λ r. opening chunk ≡ Ok (record { header = r.header; length = r.place })) }
+        ensures unread { IfOk result (λ r. r.unread ≡ drop r.place chunk) }
+        ensures within { IfOk result (λ r. r.place ≤ length chunk) }
+        ensures before { IfOk result (λ r. r.rest ≡ 0) }
+        ensures unbroken { IfOk result (λ r. r.fault ≡ None) }
+        ensures header { IfOk result (λ r. IsHeader r.header) }
+        ensures err { IfErr result (λ fault. opening chunk ≡ Err fault) }
     {
         match read_opening(chunk.bytes()) {
             Ok(opening) => {
@@ -94,7 +122,7 @@ impl Reader {
                     fault: None,
                 })
             }
-            Err(fault) => Err(Y4mError::Y4m(fault)),
+            Err(fault) => Err(fault),
         }
     }
 
@@ -122,6 +150,8 @@ impl Reader {
 
     /// The text is broken here.
     fn break_at(&mut self, kind: Y4mKind, place: u64) -> PortError
+        ensures failed { result ≡ PortError.Failed }
+        ensures value { self.new ≡ record self.old { fault = Some (record { kind = kind; place = place }) } }
     {
         self.fault = Some(Y4mFault { kind, place });
         PortError::Failed
@@ -129,25 +159,86 @@ impl Reader {
 
     /// Reads a frame line. Answers whether there is one: none is at the end.
     fn next_line<S: Source>(&mut self, inner: &mut S) -> Result<bool, PortError>
+        requires before { self.old.rest ≡ 0 }
+        requires unbroken { self.old.fault ≡ None }
+        ensures same { comes_of self.new (S.left inner.new) ≡ comes_of self.old (S.left inner.old) }
+        ensures header { self.new.header ≡ self.old.header }
+        ensures inside { result ≡ Ok true → IsInside self.new }
+        ensures unbroken { OnOk result (self.new.fault ≡ None) }
+        ensures unread { result ≡ Ok false → self.new.unread ≡ [] }
+        ensures end { result ≡ Ok false → IsAtEnd (S.left inner.new) }
+        ensures over { result ≡ Ok false → IsAtEnd (told_left self.new (S.left inner.new)) }
+        ensures failed { IsErrOf result PortError.Failed → Rose (S.faults inner.old) (S.faults inner.new) ⊎ IsTrue (is_some self.new.fault) }
+        ensures faults { S.faults inner.old ≤ S.faults inner.new }
     {
-        gather(&mut self.chunk, inner)?;
-        if self.chunk.len() == 0 {
+        self.look_ahead(inner)?;
+        if self.is_drained() {
             return Ok(false);
         }
+        self.take_line()?;
+        Ok(true)
+    }
+
+    /// Whether no byte was read ahead.
+    fn is_drained(&self) -> bool
+        ensures none { IsTrue result → self.now.unread ≡ [] }
+        ensures some { IsFalse result → 1 ≤ length self.now.unread }
+    {
+        self.chunk.len() == 0
+    }
+
+    /// Reads on until the bytes of a longest line are there, or the text ends.
+    fn look_ahead<S: Source>(&mut self, inner: &mut S) -> Result<(), PortError>
+        ensures same { comes_of self.new (S.left inner.new) ≡ comes_of self.old (S.left inner.old) }
+        ensures else_same { self.new ≡ record self.old { unread = self.new.unread } }
+        ensures ahead { OnOk result (length self.new.unread < 1024 → IsAtEnd (S.left inner.new)) }
+        ensures failed { IsErrOf result PortError.Failed → Rose (S.faults inner.old) (S.faults inner.new) }
+        ensures faults { S.faults inner.old ≤ S.faults inner.new }
+    {
+        gather(&mut self.chunk, inner)
+    }
+
+    /// Takes the frame line that was read ahead.
+    fn take_line(&mut self) -> Result<(), PortError>
+        ensures took { OnOk result (TookLine self.old self.new) }
+        ensures broke { OnErr result (BrokeLine self.old self.new) }
+        ensures failed { IfErr result (λ e. e ≡ PortError.Failed) }
+        ensures some { 1 ≤ size_of self.old.header }
+    {
+        let _size = frame_size(&self.header);
         match frame_line(self.chunk.bytes()) {
             Ok(length) => {
                 self.chunk.pass(length);
                 self.line = self.place;
                 self.place = self.place.saturating_add(length as u64);
                 self.rest = self.size;
-                Ok(true)
+                Ok(())
             }
             Err(kind) => Err(self.break_at(kind, self.place)),
         }
     }
 
+    /// The text ends inside a frame: that breaks it where no byte of the frame was there.
+    fn end_inside(&mut self) -> Result<usize, PortError>
+        ensures ok { OnOk result ((self.new ≡ self.old) × (self.old.rest < size_of self.old.header)) }
+        ensures zero { IfOk result (λ n. n ≡ 0) }
+        ensures err { OnErr result ((self.new ≡ record self.old { fault = Some (record { kind = Y4mKind.Frame; place = self.old.line }) })
+            × (self.old.rest ≡ size_of self.old.header)) }
+        ensures failed { IfErr result (λ e. e ≡ PortError.Failed) }
+        ensures some { 1 ≤ size_of self.old.header }
+    {
+        let _size = frame_size(&self.header);
+        if self.rest == self.size {
+            return Err(self.break_at(Y4mKind::Frame, self.line));
+        }
+        Ok(0)
+    }
+
     /// So many bytes of the frame were given.
     fn advance(&mut self, n: usize)
+        requires within { n ≤ self.old.rest }
+        ensures most { self.old.rest ≤ size_of self.old.header }
+        ensures value { self.new ≡ record self.old { rest = self.old.rest - n; place = onward self.old.place n } }
     {
         self.rest -= n;
         self.place = self.place.saturating_add(n as u64);
@@ -155,6 +246,16 @@ impl Reader {
 
     /// Gives bytes of the frame that were read ahead.
     fn give_held(&mut self, buf: &mut [u8]) -> usize
+        requires inside { IsInside self.old }
+        requires some { 0 < length self.old.unread }
+        requires room { 0 < length buf.old }
+        ensures least { 0 < result }
+        ensures most { self.old.rest ≤ size_of self.old.header }
+        ensures rest { result ≤ self.old.rest }
+        ensures ahead { result ≤ length self.old.unread }
+        ensures within { result ≤ length buf.old }
+        ensures given { take result buf.new ≡ take result self.old.unread }
+        ensures value { self.new ≡ record self.old { unread = drop result self.old.unread; rest = self.old.rest - result; place = onward self.old.place result } }
     {
         let n = buf.len().min(self.rest).min(self.chunk.len());
         buf[..n].copy_from_slice(&self.chunk.bytes()[..n]);
@@ -165,11 +266,23 @@ impl Reader {
 
     /// Reads bytes of the frame, of which none was read ahead.
     fn give_read<S: Source>(&mut self, inner: &mut S, buf: &mut [u8]) -> Result<usize, PortError>
+        requires none { self.old.unread ≡ [] }
+        requires inside { IsInside self.old }
+        requires room { 0 < length buf.old }
+        ensures within { IfOk result (λ n. n ≤ length buf.old) }
+        ensures gave { IfOk result (λ n. Gave (comes_of self.old (S.left inner.old)) (take n buf.new) (comes_of self.new (S.left inner.new))) }
+        ensures same { OnErr result (comes_of self.new (S.left inner.new) ≡ comes_of self.old (S.left inner.old)) }
+        ensures header { self.new.header ≡ self.old.header }
+        ensures unbroken { OnOk result (self.new.fault ≡ None) }
+        ensures unread { result ≡ Ok 0 → self.new.unread ≡ [] }
+        ensures end { result ≡ Ok 0 → IsAtEnd (S.left inner.new) }
+        ensures over { result ≡ Ok 0 → IsAtEnd (told_left self.new (S.left inner.new)) }
+        ensures failed { IsErrOf result PortError.Failed → Rose (S.faults inner.old) (S.faults inner.new) ⊎ IsTrue (is_some self.new.fault) }
+        ensures faults { S.faults inner.old ≤ S.faults inner.new }
     {
-        let most = buf.len().min(self.rest);
-        let n = inner.read(&mut buf[..most])?;
-        if n == 0 && self.rest == self.size {
-            return Err(self.break_at(Y4mKind::Frame, self.line));
+        let n = read_part(inner, buf, self.rest)?;
+        if n == 0 {
+            return self.end_inside();
         }
         self.advance(n);
         Ok(n)
@@ -177,6 +290,18 @@ impl Reader {
 
     /// Gives bytes of the frame.
     fn give<S: Source>(&mut self, inner: &mut S, buf: &mut [u8]) -> Result<usize, PortError>
+        requires inside { IsInside self.old }
+        requires room { 0 < length buf.old }
+        ensures within { IfOk result (λ n. n ≤ length buf.old) }
+        ensures gave { IfOk result (λ n. Gave (comes_of self.old (S.left inner.old)) (take n buf.new) (comes_of self.new (S.left inner.new))) }
+        ensures same { OnErr result (comes_of self.new (S.left inner.new) ≡ comes_of self.old (S.left inner.old)) }
+        ensures header { self.new.header ≡ self.old.header }
+        ensures unbroken { OnOk result (self.new.fault ≡ None) }
+        ensures unread { result ≡ Ok 0 → self.new.unread ≡ [] }
+        ensures end { result ≡ Ok 0 → IsAtEnd (S.left inner.new) }
+        ensures over { result ≡ Ok 0 → IsAtEnd (told_left self.new (S.left inner.new)) }
+        ensures failed { IsErrOf result PortError.Failed → Rose (S.faults inner.old) (S.faults inner.new) ⊎ IsTrue (is_some self.new.fault) }
+        ensures faults { S.faults inner.old ≤ S.faults inner.new }
     {
         if self.chunk.len() > 0 {
             return Ok(self.give_held(buf));

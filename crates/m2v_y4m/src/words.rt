@@ -5,6 +5,7 @@ ghost use Rattle.m2v_y4m.specs.Header.{code_of, is_rate, rate_frames, rate_secon
 ghost use Rattle.m2v_y4m.specs.Reading.{IsSeen};
 
 use crate::answer::Y4mKind;
+use crate::lines::find_byte;
 
 /// The parameters of a header that were read.
 #[derive(Clone, Copy)]
@@ -43,6 +44,7 @@ fn are_digits(text: &[u8]) -> bool
     text.iter().all(|b| b'0' <= *b && *b <= b'9')
 }
 
+#[tactic(auto, unfolding(crate::specs::Texts::number_of))]
 /// A number of 1 to so many decimal digits.
 fn number(most: usize, text: &[u8]) -> Option<u64>
     requires most { most ≤ 10 }
@@ -74,6 +76,7 @@ fn size(most: u64, value: &[u8]) -> Result<u32, Y4mKind>
     }
 }
 
+#[tactic(auto, unfolding(crate::specs::Header::rate_frames, crate::specs::Header::rate_seconds))]
 /// Whether so many frames in so many seconds are this rate of the table.
 fn is_rate(frames: u64, seconds: u64, at: usize) -> bool
     requires frames { frames < 10 ^ 10 }
@@ -84,6 +87,7 @@ fn is_rate(frames: u64, seconds: u64, at: usize) -> bool
     frames * RATE_SECONDS[at] == RATE_FRAMES[at] * seconds
 }
 
+#[tactic(auto, unfolding(crate::specs::Header::code_of))]
 /// The code of the rate that so many frames in so many seconds are.
 fn code_of(frames: u64, seconds: u64) -> Option<u32>
     requires frames { frames < 10 ^ 10 }
@@ -122,18 +126,20 @@ fn rate_by(frames: Option<u64>, seconds: Option<u64>) -> Result<u32, Y4mKind>
     }
 }
 
+#[tactic(auto, unfolding(crate::specs::Header::rate_of))]
 /// The code of a rate: two numbers of 1 to 10 digits with a colon between them.
 fn rate(value: &[u8]) -> Result<u32, Y4mKind>
     ensures value { result ≡ rate_of value.now }
     ensures least { IfOk result (λ code. 1 ≤ code) }
     ensures most { IfOk result (λ code. code ≤ 8) }
 {
-    match value.iter().position(|b| *b == b':') {
+    match find_byte(value, b':') {
         None => Err(Y4mKind::Field),
         Some(at) => rate_by(number(10, &value[..at]), number(10, &value[at + 1..])),
     }
 }
 
+#[tactic(auto, unfolding(crate::specs::Header::top_of))]
 /// Whether the top field is said to come first.
 fn top(value: &[u8]) -> Result<bool, Y4mKind>
     ensures value { result ≡ top_of value.now }
@@ -147,6 +153,7 @@ fn top(value: &[u8]) -> Result<bool, Y4mKind>
     Err(Y4mKind::Interlace)
 }
 
+#[tactic(auto, unfolding(crate::specs::Header::chroma_of))]
 /// A sampling of 8 bits and 4:2:0.
 fn chroma(value: &[u8]) -> Result<bool, Y4mKind>
     ensures value { result ≡ chroma_of value.now }
@@ -157,6 +164,7 @@ fn chroma(value: &[u8]) -> Result<bool, Y4mKind>
     Err(Y4mKind::Chroma)
 }
 
+#[tactic(auto, unfolding(crate::specs::Header::parameter))]
 /// What a parameter of this letter adds.
 fn with_parameter(seen: &Seen, letter: u8, value: &[u8]) -> Result<Seen, Y4mKind>
     requires seen { IsSeen seen.now }
@@ -193,6 +201,7 @@ fn with_parameter(seen: &Seen, letter: u8, value: &[u8]) -> Result<Seen, Y4mKind
     Ok(more)
 }
 
+#[tactic(auto, unfolding(crate::specs::Header::with_word))]
 /// What the next word adds.
 pub(crate) fn with_word(seen: &Seen, word: &[u8]) -> Result<Seen, Y4mKind>
     requires seen { IsSeen seen.now }
@@ -205,6 +214,7 @@ pub(crate) fn with_word(seen: &Seen, word: &[u8]) -> Result<Seen, Y4mKind>
     with_parameter(seen, word[0], &word[1..])
 }
 
+#[tactic(auto, unfolding(crate::specs::Header::rate_frames, crate::specs::Header::rate_seconds))]
 /// The rate of a code in lowest terms: so many frames in so many seconds.
 pub(crate) fn rate_of_code(code: u32) -> (u64, u64)
     requires least { 1 ≤ code }

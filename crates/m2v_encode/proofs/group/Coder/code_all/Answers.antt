@@ -130,7 +130,7 @@ pub returns-then-branch-clause-err : goal.returns-then-branch-clause-err
 returns-then-branch-clause-err g c =
     let inv = c.loop-number.invariant in
     let more = c.in_ok-goes_on.ensures.more (ap Ok c.if-branch.true) in
-    went_on g.S.Source.left g.S.Source.faults g.K.Sink.held g.K.Sink.faults g.N.Sink.held g.N.Sink.faults _ c.loop-number.self c.loop-number.queue more.0 _ _ _ _ _ _ _ (omega (arith, inv.frames)) inv.rest inv.so_far more.1
+    went_on g.S.Source.left g.S.Source.faults g.K.Sink.held g.K.Sink.faults g.N.Sink.held g.N.Sink.faults _ c.loop-number.self c.loop-number.queue more.0 _ _ _ _ _ _ _ (omega (arith, inv.frames)) inv.rest inv.so_far (more.1, more.2)
 
 -- the input had the most frames and ended behind them
 pub returns-clause-ok : goal.returns-clause-ok

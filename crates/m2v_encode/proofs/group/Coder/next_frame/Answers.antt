@@ -33,7 +33,7 @@ returns-then-read-len-clause-err g c =
     let less : c.in_ok-read.read < frame_bytes (dims_of c.args.self.now.settings) = omega (arith, size, c.len.ensures) in
     record {
       part = take c.in_ok-read.read c.read.new.self.raw.items;
-      bytes = All-take (λ (b : ℕ). b < 256) c.in_ok-read.read c.read.new.self.raw.items c.read.ensures.bytes;
+      bytes = All-take (λ (b : ℕ). b < 256) c.in_ok-read.read c.read.new.self.raw.items c.in_ok-read.ensures.bytes;
       moved = c.in_ok-read.ensures.moved;
       count = length-take-le c.in_ok-read.read c.read.new.self.raw.items (omega (arith, c.len.ensures));
       some = omega arith;

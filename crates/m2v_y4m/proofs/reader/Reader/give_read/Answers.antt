@@ -1,0 +1,22 @@
+use Rattle.std.proofs.Common.{◌≡◌, arith, ap, Ok, length, take, refl}
+use Rattle.std.proofs.lemmas.List.{length-take-le}
+use Rattle.m2v_y4m.specs.Sources.{Standing}
+use Rattle.m2v_y4m.proofs.Steps.{ended_same, ended_over, gives_read}
+use Rattle.m2v_y4m.proofs.reader.Reader.give_read.Goals as goal
+
+pub returns-then-n-eq0-clause-same : goal.returns-then-n-eq0-clause-same
+returns-then-n-eq0-clause-same g c =
+    let none : c.in_ok-n.n ≡ 0 = omega arith in
+    let moved = rw none at c.in_ok-n.ensures.moved in
+    ended_same c.end_inside.result c.args.self.now _ _ _ c.requires.inside.unbroken c.requires.none c.end_inside.ensures.some moved (c.in_ok-n.ensures.end (ap Ok none)) c.end_inside.ensures.err
+
+pub returns-then-n-eq0-clause-over : goal.returns-then-n-eq0-clause-over
+returns-then-n-eq0-clause-over g c =
+    let none : c.in_ok-n.n ≡ 0 = omega arith in
+    λ is. ended_over c.end_inside.result c.args.self.now _ _ 0 c.requires.inside.unbroken c.requires.none (c.in_ok-n.ensures.end (ap Ok none)) c.end_inside.ensures.ok is
+
+pub returns-clause-gave : goal.returns-clause-gave
+returns-clause-gave g c =
+    let e = c.in_ok-n.ensures in
+    rw c.advance.ensures.value (gives_read c.args.self.now c.in_ok-n.n _ _ _ c.requires.inside.unbroken c.requires.none (omega arith) (omega (arith, e.most, ap (λ (s : Standing). s.rest) c.self.view_is)) c.advance.ensures.most
+    (length-take-le c.in_ok-n.n c.read_part.new.buf (omega (arith, e.within, c.read_part.auto))) e.moved)

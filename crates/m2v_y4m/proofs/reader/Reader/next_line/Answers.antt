@@ -1,0 +1,24 @@
+use Rattle.std.proofs.Common.{◌≡◌, ◌≤◌, ap, ◌∙◌, arith, length}
+use Rattle.m2v_y4m.specs.Sources.{Standing}
+use Rattle.m2v_y4m.specs.Frames.{size_of}
+use Rattle.m2v_y4m.proofs.Steps.{edge_over, took_line, broke_line}
+use Rattle.m2v_y4m.proofs.reader.Reader.next_line.Goals as goal
+
+pub returns-then-is_drained-clause-over : goal.returns-then-is_drained-clause-over
+returns-then-is_drained-clause-over g c = λ same.
+    let e = c.in_ok-look_ahead.ensures in
+    let empty = c.if-is_drained.ensures.none tt in
+    edge_over c.look_ahead.new.self _ (ap (λ (s : Standing). s.rest) e.else_same ∙ c.requires.before) (ap (λ (s : Standing). s.fault) e.else_same ∙ c.requires.unbroken)
+    empty (e.ahead (omega (arith, ap length empty)))
+
+pub returns-in_err-take_line-clause-same : goal.returns-in_err-take_line-clause-same
+returns-in_err-take_line-clause-same g c =
+    let e = c.in_ok-look_ahead.ensures in
+    broke_line c.look_ahead.new.self _ _ (ap (λ (s : Standing). s.rest) e.else_same ∙ c.requires.before) (ap (λ (s : Standing). s.fault) e.else_same ∙ c.requires.unbroken)
+    (c.if-is_drained.ensures.some tt) e.ahead c.in_err-take_line.ensures.broke ∙ e.same
+
+pub returns-clause-same : goal.returns-clause-same
+returns-clause-same g c =
+    let e = c.in_ok-look_ahead.ensures in
+    took_line c.look_ahead.new.self _ _ (ap (λ (s : Standing). s.rest) e.else_same ∙ c.requires.before) (ap (λ (s : Standing). s.fault) e.else_same ∙ c.requires.unbroken)
+    c.take_line.ensures.some (c.if-is_drained.ensures.some tt) e.ahead c.in_ok-take_line.ensures.took ∙ e.same
