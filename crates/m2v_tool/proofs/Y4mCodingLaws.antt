@@ -1,6 +1,7 @@
 -- What follows from what `encode-y4m` did and what was told of it.
-use Rattle.std.proofs.Common.{◌≡◌, ◌⊎◌, inl, inr, ℕ, zero, suc, ◌+◌, ◌*◌, ◌<◌, ◌≤◌, All, List, [], ◌∷◌, ◌++◌, length, take, drop, Option, Some, None, IfSome, Result, Ok, Err, refl, sym, ap, subst, ◌∙◌, arith, length-append, append_assoc}
+use Rattle.std.proofs.Common.{◌≡◌, ◌⊎◌, inl, inr, ℕ, zero, suc, ◌+◌, ◌*◌, ◌<◌, ◌≤◌, All, List, [], ◌∷◌, ◌++◌, length, take, drop, Option, Some, None, IfSome, Result, Ok, Err, refl, sym, ap, ap₂, subst, ◌∙◌, arith, length-append, append_assoc}
 use Rattle.std.specs.Option.{option_map}
+use Rattle.std.specs.Prelude.{⊤}
 use Rattle.std.proofs.lemmas.List.{append-nil}
 use Rattle.std.proofs.lemmas.List.Elements.{All-drop}
 use Rattle.std.proofs.lemmas.Bool.{cases_lt}
@@ -21,7 +22,7 @@ use Rattle.m2v_set.specs.declared.unfit.Unfit.{Unfit}
 use Rattle.m2v_encode.specs.declared.answer.Summary.{Summary}
 use Rattle.m2v_encode.specs.declared.answer.EncodeError.{EncodeError}
 use Rattle.m2v_encode.specs.declared.answer.EncodeError.TheVariants as errors
-use Rattle.m2v_encode.specs.Answers.{AllCoded, Stops, FailedInside, EndedShort, WasEmpty, WentOn, most_frames}
+use Rattle.m2v_encode.specs.Answers.{AllCoded, Stops, Unended, CutOff, FailedInside, EndedShort, WasEmpty, WentOn, most_frames}
 use Rattle.m2v_y4m.specs.declared.answer.Y4mFault.{Y4mFault}
 use Rattle.m2v_y4m.specs.declared.answer.Y4mError.{Y4mError}
 use Rattle.m2v_y4m.specs.declared.answer.Y4mError.TheVariants as opening_errors
@@ -39,11 +40,11 @@ use Rattle.m2v_tool.specs.declared.encode_y4m.Y4mOutcome.TheVariants.{Unread, En
 use Rattle.m2v_tool.specs.Endings.{Told, whole, cut, unfit_ending}
 use Rattle.m2v_tool.specs.EncodeWords.{Meant}
 use Rattle.m2v_tool.specs.Inputs.{AreFrames, EndInside}
-use Rattle.m2v_tool.specs.Encoding.{recon_by, Shut, frame_size, EncodeStopped, EncodeShut, EncodeComes, encoding_stopped, unopened_ending, encoded_ending, encode_ending, EncodeAnswer, EncodeKeeps}
+use Rattle.m2v_tool.specs.Encoding.{recon_by, Shut, Stands, frame_size, EncodeStopped, EncodeShut, EncodeComes, encoding_stopped, unopened_ending, encoded_ending, encode_ending, EncodeAnswer, EncodeKeeps}
 use Rattle.m2v_tool.specs.Packing.{Says, y4m_fault}
 use Rattle.m2v_tool.specs.Y4mWords.{with_header}
-use Rattle.m2v_tool.specs.Y4mCoding.{Behind, frames_change, frames_work, TextEncoded, TextBroken, Y4mComes, unread_ending, y4m_ending, Y4mAnswer, Y4mKeeps}
-use Rattle.m2v_tool.specs.Runs.{Run, Work, work_of, IsUntouched, Yields, RefusedBy, NoneFailed, Succeeds}
+use Rattle.m2v_tool.specs.Y4mCoding.{Behind, frames_change, frames_work, TextEncoded, TextBroken, BrokenOff, Y4mComes, unread_ending, y4m_ending, Y4mAnswer, Y4mKeeps}
+use Rattle.m2v_tool.specs.Runs.{Run, Work, Place, work_of, IsUntouched, Yields, RefusedBy, NoneFailed, Succeeds}
 use Rattle.m2v_tool.proofs.EndingLaws.{refusal, or_memory}
 use Rattle.m2v_tool.proofs.CodingLaws.{frames_length, all_read, long_by, not_inside, not_inside_of, not_empty, not_many}
 use Rattle.m2v_tool.proofs.EncodingLaws.{least_step}
@@ -228,7 +229,7 @@ behind_told input text told b =
 not_both : (text : List ℕ) (h : Y4mHeader) (c : Coming) (f : Y4mFault) → Begins text h c → opening text ≡ Err f → ⊥
 not_both text h c f begins is =
     let both : Ok (record { header = h; length = begins.length }) ≡ Err f = sym begins.opens ∙ is in
-    cc
+    absurd (cc both)
 
 module _ (r : Run) (text : List ℕ) (told : r.input.old ≡ Some text) where
   -- a header line that wasn't read
@@ -430,3 +431,158 @@ module _ (r : Run) (m : Meant) where
     answer = tells r.input AnswerKept (λ text told bytes h c begins. Yields.memory is);
     coded = tells r.input CodedKept (λ text told bytes h c begins passes none frames well sound. inr is);
   }
+
+-- ---- the frames as they were read
+
+-- What was done to the frames, told by another count of faults and with another word for what is unchanged, neither of
+-- which stands in what came, but where reading failed.
+module _ (x y : Option (List ℕ)) (F G U : Type 0) (output recon : Change) where
+  abbrev by_source : Change
+  by_source = record { old = x; new = y; Failed = F; Unchanged = U }
+
+  abbrev by_text : Change
+  by_text = record { old = x; new = y; Failed = G; Unchanged = ⊤ }
+
+  unended_read : (s : Settings) (frames : List (List ℕ)) (part : List ℕ) → Unended s by_source output recon frames part → Unended s by_text output recon frames part
+  unended_read s frames part u = record { most = u.most; whole = u.whole; moved = u.moved; grown = u.grown; shown = u.shown; unwritten = u.unwritten }
+
+  cut_read : (s : Settings) → CutOff s by_source output recon → CutOff s by_text output recon
+  cut_read s u = record {
+    frames = u.frames;
+    part = u.part;
+    most = u.most;
+    whole = u.whole;
+    less = u.less;
+    moved = u.moved;
+    grown = u.grown;
+    shown = u.shown;
+    unwritten = u.unwritten;
+  }
+
+  pub inside_read : (s : Settings) → FailedInside s by_source output recon → FailedInside s by_text output recon
+  inside_read s i = record { frames = i.frames; part = i.part; begun = unended_read s i.frames i.part i.begun; less = i.less }
+
+  stops_read : (s : Settings) (e : EncodeError) → (e ≡ errors.Read → F → G) → Stops s by_source output recon e → Stops s by_text output recon e
+  unfolding Stops
+  stops_read s errors.Read failed c = (failed refl c.0, inside_read s c.1)
+  stops_read s errors.Write failed c = (c.0, cut_read s c.1)
+  stops_read s (errors.ShortFrame extra) failed c = record {
+    frames = c.frames;
+    part = c.part;
+    begun = unended_read s c.frames c.part c.begun;
+    bytes = c.bytes;
+    fewer = c.fewer;
+    count = c.count;
+    some = c.some;
+    less = c.less;
+    end = c.end;
+  }
+  stops_read s errors.NoFrames failed c = record { moved = c.moved; end = c.end; same = c.same }
+  stops_read s errors.TooManyFrames failed c = record {
+    frames = c.frames;
+    next = c.next;
+    begun = unended_read s c.frames (c.next ∷ []) c.begun;
+    byte = c.byte;
+    all = c.all;
+  }
+  stops_read s errors.Memory failed c = cut_read s c
+
+  coded_read : (s : Settings) (summary : Summary) → AllCoded s by_source output recon summary → AllCoded s by_text output recon summary
+  coded_read s summary a = record {
+    frames = a.frames;
+    some = a.some;
+    most = a.most;
+    whole = a.whole;
+    moved = a.moved;
+    end = a.end;
+    grown = a.grown;
+    shown = a.shown;
+    numbers = a.numbers;
+    headline = a.headline;
+  }
+
+module _ (x y : Option (List ℕ)) (F G U : Type 0) (output recon : Change) (place : Place) where
+  abbrev work_by_source : Work
+  work_by_source = record { input = by_source x y F G U output recon; output = output; recon = recon; place = place }
+
+  abbrev work_by_text : Work
+  work_by_text = record { input = by_text x y F G U output recon; output = output; recon = recon; place = place }
+
+  shut_read : (e : PortError) → Shut e work_by_source → Shut e work_by_text
+  shut_read calls.Failed c = (c.0, c.1, c.2, tt, c.4)
+  shut_read calls.Memory c = (c.0, c.1, tt, c.3)
+
+  stands_read : (o : Option (List ℕ)) → Stands o work_by_source → Stands o work_by_text
+  stands_read (Some name) c = c
+  stands_read None c = c
+
+  pub comes_read : (m : Meant) (o : EncodeOutcome) → (o ≡ Stopped errors.Read → F → G) → EncodeComes m work_by_source o → EncodeComes m work_by_text o
+  unfolding EncodeComes
+  comes_read m (Coded s) failed c = record {
+    passes = c.passes;
+    coded = coded_read x y F G U output (recon_by m.recon recon) m.settings s c.coded;
+    stands = stands_read m.recon c.stands;
+  }
+  comes_read m (NotFit u) failed c = (c.0, tt, c.2, c.3)
+  comes_read m (Unopened e) failed c = record { passes = c.passes; named = c.named; shut = shut_read e c.shut }
+  comes_read m (Stopped e) failed c = record {
+    passes = c.passes;
+    stops = stops_read x y F G U output (recon_by m.recon recon) m.settings e (λ is. failed (ap Stopped is)) c.stops;
+    stands = stands_read m.recon c.stands;
+  }
+
+  -- reading failed, and what is left then is known
+  pub broken_read : (m : Meant) (f : Y4mFault) → IfSome y (λ rest. rest ≡ mark f ∷ []) → EncodeComes m work_by_source (Stopped errors.Read) → BrokenOff m work_by_text f
+  unfolding EncodeComes Stops
+  broken_read m f left c = record {
+    passes = c.passes;
+    inside = inside_read x y F G U output (recon_by m.recon recon) m.settings c.stops.1;
+    stands = stands_read m.recon c.stands;
+    left = left;
+  }
+
+-- ---- the text that broke off
+
+-- What is left is the mark of a fault, which is no byte: so that fault is the text's first one, behind what was read.
+pub first_fault : (text : List ℕ) (h : Y4mHeader) (c : Coming) (old new : Option (List ℕ)) (bytes : List ℕ) (f : Y4mFault) → All (λ b. b < 256) text → Begins text h c
+    → old ≡ Some (left_of c) → Moves old bytes new → IfSome new (λ rest. rest ≡ mark f ∷ []) → Begins text h (record { raw = bytes; fault = Some f })
+first_fault text h c old new bytes f all begins told moved left =
+    subst (Begins text h) (by_fault c.fault refl) begins
+  where
+    by_new : (o : Option (List ℕ)) → new ≡ o → IfSome o (λ rest. rest ≡ mark f ∷ []) → left_of c ≡ bytes ++ mark f ∷ []
+    by_new None is l =
+        let gone : Some (left_of c) ≡ None = sym told ∙ moved.was ∙ ap (option_map (λ rest. bytes ++ rest)) is in
+        absurd (cc gone)
+    by_new (Some rest) is l =
+        let same : Some (left_of c) ≡ Some (bytes ++ rest) = sym told ∙ moved.was ∙ ap (option_map (λ rest. bytes ++ rest)) is in
+        let inner : left_of c ≡ bytes ++ rest = cc same in
+        inner ∙ ap (λ (r : List ℕ). bytes ++ r) l
+
+    is_left : left_of c ≡ bytes ++ mark f ∷ []
+    is_left = by_new new refl left
+
+    raw_bytes : All (λ b. b < 256) c.raw
+    raw_bytes =
+        subst (λ (x : Coming). All (λ b. b < 256) x.raw) (sym begins.comes)
+        (comes_all (λ b. b < 256) (size_of h) begins.length (drop begins.length text) (All-drop (λ b. b < 256) begins.length text all))
+
+    one_end : (xs ys : List ℕ) (m n : ℕ) → xs ++ m ∷ [] ≡ ys ++ n ∷ [] → (xs ≡ ys) × (m ≡ n)
+    one_end [] [] m n is = (refl, cc is)
+    one_end [] (y ∷ []) m n is = absurd (cc is)
+    one_end [] (y ∷ z ∷ ys) m n is = absurd (cc is)
+    one_end (x ∷ []) [] m n is = absurd (cc is)
+    one_end (x ∷ z ∷ xs) [] m n is = absurd (cc is)
+    one_end (x ∷ xs) (y ∷ ys) m n is =
+        let first : x ≡ y = cc is in
+        let others : xs ++ m ∷ [] ≡ ys ++ n ∷ [] = cc is in
+        let same = one_end xs ys m n others in
+        (ap₂ (λ (b : ℕ) (l : List ℕ). b ∷ l) first same.0, same.1)
+
+    by_fault : (o : Option Y4mFault) → c.fault ≡ o → c ≡ record { raw = bytes; fault = Some f }
+    by_fault None is =
+        let last : mark f < 256 = holds_last (λ b. b < 256) bytes (mark f) (subst (All (λ b. b < 256)) (sym (left_none c is) ∙ is_left) raw_bytes) in
+        absurd (omega (arith, last, no_byte f))
+    by_fault (Some g) is =
+        let same = one_end c.raw bytes (mark g) (mark f) (sym (left_some c g is) ∙ is_left) in
+        let fault : c.fault ≡ Some f = is ∙ ap Some (one_mark g f same.1) in
+        ap₂ (λ (raw : List ℕ) (fault : Option Y4mFault). record { raw = raw; fault = fault }) same.0 fault
