@@ -6,8 +6,8 @@ use Rattle.std.proofs.lemmas.List.{append-nil}
 use Rattle.std.proofs.lemmas.List.Elements.{All-drop}
 use Rattle.std.proofs.lemmas.Bool.{cases_lt}
 use Rattle.std.proofs.Math.Nat.{suc-mul, mul-le-mul_left, mul-le-mul_right}
-use Rattle.m2v_port.specs.Ends.{Change, Tells}
-use Rattle.m2v_port.specs.Port.{Moves, IsAtEnd}
+use Rattle.m2v_port.specs.Ends.{Change, Tells, change}
+use Rattle.m2v_port.specs.Port.{Moves, IsAtEnd, Rose}
 use Rattle.m2v_port.specs.declared.error.PortError.{PortError}
 use Rattle.m2v_port.specs.declared.error.PortError.TheVariants as calls
 use Rattle.m2v_port.proofs.Runs.{tells}
@@ -30,7 +30,7 @@ use Rattle.m2v_y4m.specs.declared.header.Y4mHeader.{Y4mHeader}
 use Rattle.m2v_y4m.specs.declared.opening.Opening.{Opening}
 use Rattle.m2v_y4m.specs.Header.{opening}
 use Rattle.m2v_y4m.specs.Frames.{Coming, Begins, behind_header, frames_from, size_of}
-use Rattle.m2v_y4m.specs.Sources.{left_of, mark, marked}
+use Rattle.m2v_y4m.specs.Sources.{Opened, left_of, mark, marked, told_left, coming, coming_at, unless_broken}
 use Rattle.m2v_y4m.specs.Answers.{OpenStops}
 use Rattle.m2v_y4m.proofs.Comings.{whole_before, comes_all, no_byte, one_mark}
 use Rattle.m2v_tool.specs.declared.encode.EncodeOutcome.{EncodeOutcome}
@@ -43,7 +43,7 @@ use Rattle.m2v_tool.specs.Inputs.{AreFrames, EndInside}
 use Rattle.m2v_tool.specs.Encoding.{recon_by, Shut, Stands, frame_size, EncodeStopped, EncodeShut, EncodeComes, encoding_stopped, unopened_ending, encoded_ending, encode_ending, EncodeAnswer, EncodeKeeps}
 use Rattle.m2v_tool.specs.Packing.{Says, y4m_fault}
 use Rattle.m2v_tool.specs.Y4mWords.{with_header}
-use Rattle.m2v_tool.specs.Y4mCoding.{Behind, frames_change, frames_work, TextEncoded, TextBroken, BrokenOff, Y4mComes, unread_ending, y4m_ending, Y4mAnswer, Y4mKeeps}
+use Rattle.m2v_tool.specs.Y4mCoding.{Behind, frames_change, frames_work, TextEncoded, TextBroken, BrokenOff, FramesCome, read_behind, Y4mComes, unread_ending, y4m_ending, Y4mAnswer, Y4mKeeps}
 use Rattle.m2v_tool.specs.Runs.{Run, Work, Place, work_of, IsUntouched, Yields, RefusedBy, NoneFailed, Succeeds}
 use Rattle.m2v_tool.proofs.EndingLaws.{refusal, or_memory}
 use Rattle.m2v_tool.proofs.CodingLaws.{frames_length, all_read, long_by, not_inside, not_inside_of, not_empty, not_many}
@@ -586,3 +586,36 @@ first_fault text h c old new bytes f all begins told moved left =
         let same = one_end c.raw bytes (mark g) (mark f) (sym (left_some c g is) ∙ is_left) in
         let fault : c.fault ≡ Some f = is ∙ ap Some (one_mark g f same.1) in
         ap₂ (λ (raw : List ℕ) (fault : Option Y4mFault). record { raw = raw; fault = fault }) same.0 fault
+
+-- ---- reads that failed
+
+-- no read was failed by a fault, before or after
+unfailed_rose : (a b c d : ℕ) → c ≡ 0 → d ≡ 0 → Rose (a + c) (b + d) → Rose a b
+unfailed_rose a b c d none after (inl less) = inl (omega (arith, less, none, after))
+unfailed_rose a b c d none after (inr last) = inr (omega (arith, last, after))
+
+module _ {S : Type 0} (left : S → Option (List ℕ)) (faults : S → ℕ) (a b : Opened S) (output recon : Change) (place : Place) (m : Meant) where
+  abbrev given : Work
+  given = record { input = change (λ (s : Opened S). told_left s.text (left s.inner)) (λ (s : Opened S). faults s.inner + s.failed) a b; output = output; recon = recon; place = place }
+
+  abbrev known : Work
+  known = record { input = read_behind left faults a b; output = output; recon = recon; place = place }
+
+  -- What came of the source came of the frames, where reading didn't fail or no fault was found.
+  pub encoded_read : (o : EncodeOutcome) → a.failed ≡ 0 → (o ≡ Stopped errors.Read → b.failed ≡ 0) → EncodeComes m given o → FramesCome m known (Encoded o)
+  unfolding FramesCome
+  encoded_read o none after c =
+      comes_read (told_left a.text (left a.inner)) (told_left b.text (left b.inner)) (Rose (faults a.inner + a.failed) (faults b.inner + b.failed)) (Rose (faults a.inner) (faults b.inner)) (b ≡ a)
+      output recon place m o (λ is rose. unfailed_rose (faults a.inner) (faults b.inner) a.failed b.failed none (after is) rose) c
+
+  -- Nothing is left of a source that found a fault but the fault's mark.
+  pub mark_left : (o : Option (List ℕ)) (f : Y4mFault) → b.text.fault ≡ Some f → IfSome (told_left b.text o) (λ rest. rest ≡ mark f ∷ [])
+  unfolding coming left_of
+  mark_left None f is = tt
+  mark_left (Some text) f is = ap (λ (x : Option Y4mFault). left_of (unless_broken x (coming_at (size_of b.text.header) b.text.line b.text.rest b.text.place (b.text.unread ++ text)))) is
+
+  pub broken_read_off : (f : Y4mFault) (o : EncodeOutcome) → b.text.fault ≡ Some f → o ≡ Stopped errors.Read → EncodeComes m given o → FramesCome m known (Broken f)
+  unfolding FramesCome
+  broken_read_off f o is stopped c =
+      broken_read (told_left a.text (left a.inner)) (told_left b.text (left b.inner)) (Rose (faults a.inner + a.failed) (faults b.inner + b.failed)) (Rose (faults a.inner) (faults b.inner)) (b ≡ a)
+      output recon place m f (mark_left (left b.inner) f is) (subst (λ (x : EncodeOutcome). EncodeComes m given x) stopped c)

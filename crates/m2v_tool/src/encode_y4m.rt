@@ -116,6 +116,24 @@ fn with_header(meant: EncodeWords, header: &Y4mHeader) -> EncodeWords
     }
 }
 
+/// Whether coding stopped since a read failed.
+fn stopped_reading(outcome: &EncodeOutcome) -> bool
+    ensures yes { IsTrue result → outcome.now ≡ EncodeOutcome.Stopped EncodeError.Read }
+    ensures no { IsFalse result → outcome.now ≡ EncodeOutcome.Stopped EncodeError.Read → ⊥ }
+{
+    match outcome {
+        EncodeOutcome::Stopped(error) => match error {
+            EncodeError::Read => true,
+            EncodeError::Write
+            | EncodeError::ShortFrame { .. }
+            | EncodeError::NoFrames
+            | EncodeError::TooManyFrames
+            | EncodeError::Memory => false,
+        },
+        EncodeOutcome::Coded(_) | EncodeOutcome::Unfit(_) | EncodeOutcome::Unopened(_) => false,
+    }
+}
+
 /// Codes the frames behind the header line. A read that fails at the text's first fault ends it as that fault.
 fn coded_behind<R: Threads + Wait + Sync, S: Source, K: Sink, N: NamedSink, G: Gate + Sync>(
     rt: &R,
@@ -139,9 +157,12 @@ fn coded_behind<R: Threads + Wait + Sync, S: Source, K: Sink, N: NamedSink, G: G
     ensures output { SinkStays K.ready K.name K.faults output.old output.new }
 {
     let outcome = encoded(rt, alloc, meant, source, output, recon, gate);
-    match (outcome, source.fault()) {
-        (EncodeOutcome::Stopped(EncodeError::Read), Some(fault)) => Y4mOutcome::Broken(fault),
-        _ => Y4mOutcome::Encoded(outcome),
+    if !stopped_reading(&outcome) {
+        return Y4mOutcome::Encoded(outcome);
+    }
+    match source.fault() {
+        Some(fault) => Y4mOutcome::Broken(fault),
+        None => Y4mOutcome::Encoded(outcome),
     }
 }
 
