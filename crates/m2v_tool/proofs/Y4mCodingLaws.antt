@@ -153,12 +153,15 @@ module _ (s : Settings) (c : Coming) (left output recon : Change) (told : left.o
       many = frames_length (frame_bytes (dims_of s)) a.frames a.whole
 
       by_fault : (o : Option Y4mFault) → c.fault ≡ o → (c.fault ≡ None) × AreFrames (frame_bytes (dims_of s)) (length c.raw)
-      by_fault None is = (is, record {
-        frames = length a.frames;
-        some = a.some;
-        most = a.most;
-        are = ap length (sym (left_none c is) ∙ sym all) ∙ many;
-      })
+      by_fault None is = (
+        is,
+        record {
+          frames = length a.frames;
+          some = a.some;
+          most = a.most;
+          are = ap length (sym (left_none c is) ∙ sym all) ∙ many;
+        },
+      )
       by_fault (Some f) is =
           let w = are f is in
           let total : length (raw a.frames) ≡ length c.raw + 1 = ap length (all ∙ left_some c f is) ∙ length-append c.raw (mark f ∷ []) in
@@ -168,15 +171,17 @@ module _ (s : Settings) (c : Coming) (left output recon : Change) (told : left.o
   short_inside extra e =
       let all : raw e.frames ++ e.part ≡ left_of c = all_read left (left_of c) (raw e.frames ++ e.part) told e.begun.moved e.end in
       let none : c.fault ≡ None = unmarked e.frames e.part all (omega (arith, e.some, e.count)) e.bytes in
-      let long : length (raw e.frames ++ e.part) ≡ length c.raw = ap length (all ∙ left_none c none) in
-      (none, record {
-        frames = length e.frames;
-        extra = extra;
-        fewer = e.fewer;
-        some = e.some;
-        less = e.less;
-        are = omega (arith, long, length-append (raw e.frames) e.part, frames_length (frame_bytes (dims_of s)) e.frames e.begun.whole, e.count);
-      })
+      let long : length (raw e.frames ++ e.part) ≡ length c.raw = ap length (all ∙ left_none c none) in (
+        none,
+        record {
+          frames = length e.frames;
+          extra = extra;
+          fewer = e.fewer;
+          some = e.some;
+          less = e.less;
+          are = omega (arith, long, length-append (raw e.frames) e.part, frames_length (frame_bytes (dims_of s)) e.frames e.begun.whole, e.count);
+        },
+      )
 
   none_empty : WasEmpty left output recon → (c.fault ≡ None) × (length c.raw ≡ 0)
   none_empty e = by_fault c.fault refl
@@ -247,8 +252,8 @@ module _ (r : Run) (text : List ℕ) (told : r.input.old ≡ Some text) where
     unread_says e c t =
         unread_at (Told (y4m_fault f) r.status r.report) e c t
         (λ g other told. let both : Err g ≡ Err f = sym other ∙ is in
-            let same : g ≡ f = cc in
-            Yields.said (subst (λ (x : Y4mFault). Told (y4m_fault x) r.status r.report) same told))
+        let same : g ≡ f = cc in
+        Yields.said (subst (λ (x : Y4mFault). Told (y4m_fault x) r.status r.report) same told))
 
     not_behind : Behind r.input → ⊥
     not_behind b = let come = behind_told r.input text told b in not_both text b.header come.0 f come.1 is

@@ -10,9 +10,7 @@ ghost use Rattle.m2v_tool.specs.Y4mCoding.{FramesCome, Y4mComes, read_behind, un
 use crate::encode::{EncodeOutcome, EncodeWords, encoded, meant_of};
 use crate::report::{Report, no_memory, read_fault};
 use crate::unpack::y4m_fault;
-use crate::words::{
-    flag_option, number_option, required_option, simple, taken, text_option, with,
-};
+use crate::words::{flag_option, number_option, required_option, simple, taken, text_option, with};
 use clap::Command;
 use m2v_board::Gate;
 use m2v_encode::EncodeError;
@@ -51,10 +49,7 @@ fn y4m_command<'a>(alloc: Global) -> Result<Command<'a>, AllocError>
 }
 
 /// What the words behind `encode-y4m` mean, where they are taken; the sizes and the rate are 0 in it.
-pub(crate) fn y4m_words(
-    alloc: Global,
-    words: &[String],
-) -> Result<Option<EncodeWords>, AllocError>
+pub(crate) fn y4m_words(alloc: Global, words: &[String]) -> Result<Option<EncodeWords>, AllocError>
     ensures { IfOk result (λ w. option_map words_of w ≡ y4m_meant (map string_bytes words.now)) }
 {
     match taken(y4m_command(alloc)?, words)? {
