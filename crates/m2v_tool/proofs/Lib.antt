@@ -3,11 +3,9 @@ pub mod NumberLaws
 pub mod WordLaws
 pub mod EndingLaws
 pub mod CodingLaws
-pub mod CuttingLaws
 pub mod PackingLaws
 pub mod DecodingLaws
 pub mod CheckingLaws
 pub mod EncodingLaws
-pub mod Y4mCodingLaws
 pub mod MakingLaws
 pub mod RunLaws

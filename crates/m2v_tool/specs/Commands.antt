@@ -3,7 +3,6 @@ use Rattle.std.specs.Prelude.{ℕ, List}
 use Rattle.m2v_tool.specs.declared.flat.FlatWords.{FlatWords}
 use Rattle.m2v_tool.specs.declared.encode.EncodeWords.{EncodeWords}
 use Rattle.m2v_y4m.specs.declared.header.Y4mHeader.{Y4mHeader}
-use Rattle.m2v_tool.specs.declared.cut.CutWords.{CutWords}
 use Rattle.m2v_tool.specs.declared.command.Command.{Command}
 use Rattle.m2v_tool.specs.declared.command.Command.TheVariants as commands
 use Rattle.m2v_tool.specs.declared.command.Outcome.{Outcome}
@@ -17,9 +16,7 @@ use Rattle.m2v_tool.specs.Encoding.{EncodeComes, EncodeKeeps, encode_ending}
 use Rattle.m2v_tool.specs.Decoding.{DecodeComes, DecodeKeeps, decode_ending}
 use Rattle.m2v_tool.specs.Checking.{CheckComes, CheckKeeps, check_ending}
 use Rattle.m2v_tool.specs.Making.{MakeComes, MakeKeeps, make_ending}
-use Rattle.m2v_tool.specs.Cutting.{CutComes, CutKeeps, cut_ending}
 use Rattle.m2v_tool.specs.Packing.{PackComes, PackKeeps, pack_ending, UnpackComes, UnpackKeeps, unpack_ending}
-use Rattle.m2v_tool.specs.Y4mCoding.{Y4mComes, Y4mKeeps, y4m_ending}
 
 -- When each outcome comes, and what stands then: words that mean no command are refused, and else comes what their
 -- command gives. Where memory ran out before the words were read, nothing else is looked at.
@@ -38,16 +35,11 @@ Comes words k (outcomes.Check o) =
 Comes words k (outcomes.Make o) =
     (seed : ℕ) × Means words (commands.Make seed) × MakeComes seed k.output o
     × k.input.Unchanged × k.recon.Unchanged
-Comes words k (outcomes.Cut o) =
-    (w : CutWords) × Means words (commands.Cut w) × CutComes w k.input k.output o
-    × k.recon.Unchanged
 Comes words k (outcomes.Pack o) =
     (h : Y4mHeader) × Means words (commands.Pack h) × PackComes h k.input k.output o
     × k.recon.Unchanged
 Comes words k (outcomes.Unpack o) =
     Means words commands.Unpack × UnpackComes k.input k.output o × k.recon.Unchanged
-Comes words k (outcomes.EncodeY4m o) =
-    (w : EncodeWords) × Means words (commands.EncodeY4m w) × Y4mComes (words_of w) k o
 
 -- the status and the line of each outcome
 unfoldable pub ending_of : Outcome → Ending
@@ -58,10 +50,8 @@ ending_of (outcomes.Encode o) = encode_ending o
 ending_of (outcomes.Decode o) = decode_ending o
 ending_of (outcomes.Check o) = check_ending o
 ending_of (outcomes.Make o) = make_ending o
-ending_of (outcomes.Cut o) = cut_ending o
 ending_of (outcomes.Pack o) = pack_ending o
 ending_of (outcomes.Unpack o) = unpack_ending o
-ending_of (outcomes.EncodeY4m o) = y4m_ending o
 
 -- what is answered to a command
 abbrev pub Keeps : Command → Run → Type 0
@@ -70,10 +60,8 @@ Keeps (commands.Encode w) r = EncodeKeeps (words_of w) r
 Keeps commands.Decode r = DecodeKeeps r
 Keeps commands.Check r = CheckKeeps r
 Keeps (commands.Make seed) r = MakeKeeps r
-Keeps (commands.Cut w) r = CutKeeps w r
 Keeps (commands.Pack h) r = PackKeeps h r
 Keeps commands.Unpack r = UnpackKeeps r
-Keeps (commands.EncodeY4m w) r = Y4mKeeps (words_of w) r
 
 -- the outcome that came, and what was told of it
 pub record Ran (r : Run) : Type 0 where

@@ -10,7 +10,4 @@ pub mod Checking
 pub mod Encoding
 pub mod Making
 pub mod Commands
-pub mod Cutting
 pub mod Packing
-pub mod Y4mWords
-pub mod Y4mCoding

@@ -5,10 +5,8 @@ ghost use Rattle.m2v_tool.specs.Words.{Means, MeansBy, NoCommand};
 ghost use Rattle.m2v_tool.specs.Commands.{ending_of};
 
 use crate::check::{CheckOutcome, check_words};
-use crate::cut::{CutOutcome, CutWords, cut_words};
 use crate::decode::{DecodeOutcome, decode_words};
 use crate::encode::{EncodeOutcome, EncodeWords, encode_words};
-use crate::encode_y4m::{Y4mOutcome, y4m_words};
 use crate::flat::{FlatOutcome, FlatWords, flat_words};
 use crate::make::{MakeOutcome, make_words};
 use crate::pack::{PackOutcome, pack_words};
@@ -30,14 +28,10 @@ pub enum Command {
     Check,
     /// The stream of a seed is made.
     Make(u64),
-    /// Groups of a stream are copied.
-    Cut(CutWords),
     /// Raw frames are packed into a YUV4MPEG2 text of this header.
     Pack(Y4mHeader),
     /// A YUV4MPEG2 text is unpacked.
     Unpack,
-    /// The frames of a YUV4MPEG2 text are coded; the text has the sizes and the rate.
-    EncodeY4m(EncodeWords),
 }
 
 /// What came of the words.
@@ -57,14 +51,10 @@ pub enum Outcome {
     Check(CheckOutcome),
     /// What came of `make`.
     Make(MakeOutcome),
-    /// What came of `cut`.
-    Cut(CutOutcome),
     /// What came of `pack`.
     Pack(PackOutcome),
     /// What came of `unpack`.
     Unpack(UnpackOutcome),
-    /// What came of `encode-y4m`.
-    EncodeY4m(Y4mOutcome),
 }
 
 impl Outcome {
@@ -81,10 +71,8 @@ impl Outcome {
             Outcome::Decode(outcome) => outcome.report(alloc),
             Outcome::Check(outcome) => outcome.report(alloc),
             Outcome::Make(outcome) => outcome.report(alloc),
-            Outcome::Cut(outcome) => outcome.report(alloc),
             Outcome::Pack(outcome) => outcome.report(alloc),
             Outcome::Unpack(outcome) => outcome.report(alloc),
-            Outcome::EncodeY4m(outcome) => outcome.report(alloc),
         }
     }
 }
@@ -116,10 +104,6 @@ fn meant_by(alloc: Global, name: &str, others: &[String]) -> Result<Option<Comma
             Some(seed) => Ok(Some(Command::Make(seed))),
             None => Ok(None),
         },
-        "cut" => match cut_words(alloc, others)? {
-            Some(meant) => Ok(Some(Command::Cut(meant))),
-            None => Ok(None),
-        },
         "pack" => match pack_words(alloc, others)? {
             Some(header) => Ok(Some(Command::Pack(header))),
             None => Ok(None),
@@ -128,10 +112,6 @@ fn meant_by(alloc: Global, name: &str, others: &[String]) -> Result<Option<Comma
             let taken = unpack_words(alloc, others)?;
             Ok(taken.then_some(Command::Unpack))
         }
-        "encode-y4m" => match y4m_words(alloc, others)? {
-            Some(meant) => Ok(Some(Command::EncodeY4m(meant))),
-            None => Ok(None),
-        },
         _ => Ok(None),
     }
 }

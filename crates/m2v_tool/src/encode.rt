@@ -149,10 +149,7 @@ fn recon_in(alloc: Global, matches: &ArgMatches) -> Result<Option<String>, Alloc
 
 /// What was found in the words behind `encode`.
 #[tactic(auto, unfolding(crate::specs::EncodeWords::meant_of))]
-pub(crate) fn meant_of(
-    alloc: Global,
-    matches: &ArgMatches,
-) -> Result<Option<EncodeWords>, AllocError>
+fn meant_of(alloc: Global, matches: &ArgMatches) -> Result<Option<EncodeWords>, AllocError>
     ensures { IfOk result (λ w. option_map words_of w ≡ meant_of (rows_of (found_of matches.now))) }
 {
     let Some(scan) = scan_in(matches) else {

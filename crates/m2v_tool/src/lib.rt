@@ -3,10 +3,8 @@
 
 mod check;
 mod command;
-mod cut;
 mod decode;
 mod encode;
-mod encode_y4m;
 mod flat;
 mod make;
 mod pack;

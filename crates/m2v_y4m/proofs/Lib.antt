@@ -1,4 +1,3 @@
-pub mod Comings
 mod ChunkLaws
 mod FrameLaws
 mod LineLaws

@@ -41,12 +41,6 @@ returns-in-Ok-Some-Make-clause-comes g c =
     let read = c.in-Ok-Some-Make in
     (_, means_of _ _ _ _ read.field-0-is read.field-0-0-is read.ensures.found, c.made.ensures.comes, refl, refl)
 
-pub returns-in-Ok-Some-Cut-clause-comes : goal.returns-in-Ok-Some-Cut-clause-comes
-unfolding Comes
-returns-in-Ok-Some-Cut-clause-comes g c =
-    let read = c.in-Ok-Some-Cut in
-    (_, means_of _ _ _ _ read.field-0-is read.field-0-0-is read.ensures.found, c.cut_out.ensures.comes, refl)
-
 pub returns-in-Ok-Some-Pack-clause-comes : goal.returns-in-Ok-Some-Pack-clause-comes
 unfolding Comes
 returns-in-Ok-Some-Pack-clause-comes g c =
@@ -58,9 +52,3 @@ unfolding Comes
 returns-in-Ok-Some-Unpack-clause-comes g c =
     let read = c.in-Ok-Some-Unpack in
     (means_of _ _ _ _ read.field-0-is read.field-0-0-is read.ensures.found, c.unpacked.ensures.comes, refl)
-
-pub returns-in-Ok-Some-EncodeY4m-clause-comes : goal.returns-in-Ok-Some-EncodeY4m-clause-comes
-unfolding Comes
-returns-in-Ok-Some-EncodeY4m-clause-comes g c =
-    let read = c.in-Ok-Some-EncodeY4m in
-    (_, means_of _ _ _ _ read.field-0-is read.field-0-0-is read.ensures.found, c.encoded_text.ensures.comes)
