@@ -1,12 +1,11 @@
 -- What comes of a text: how it goes on behind a line, and behind some bytes of a frame.
-use Rattle.std.proofs.Common.{◌≡◌, ◌⊎◌, inl, inr, ℕ, zero, suc, ◌+◌, ◌-◌, ◌^◌, ◌<◌, ◌≤◌, ◌==◌, min, Bool, true, false, cond, ◌&&◌, List, [], ◌∷◌, ◌++◌, length, take, drop, refl, sym, ◌∙◌, ap, ap₂, arith, Option, Some, None, Result, Ok, Err, subst, nat_lt, append_assoc, length-append, length-drop}
-use Rattle.std.specs.Prelude.{if◌then◌else◌, position, codes}
-use Rattle.std.proofs.lemmas.List.{drop-drop, take-append-drop, length-take-le, append-nil}
+use Rattle.std.proofs.Common.{◌≡◌, ℕ, zero, suc, ◌+◌, ◌-◌, ◌<◌, ◌≤◌, ◌==◌, Bool, true, false, ◌&&◌, List, [], ◌∷◌, ◌++◌, length, take, drop, refl, sym, ◌∙◌, ap, ap₂, arith, Option, Some, None, Result, Ok, Err, nat_lt, append_assoc, length-drop}
+use Rattle.std.specs.Prelude.{if◌then◌else◌}
+use Rattle.std.proofs.lemmas.List.{drop-drop, take-append-drop}
 use Rattle.std.proofs.lemmas.Bool.Decides.{nat_tests}
 use Rattle.std.proofs.Math.Seq.{take-add}
-use Rattle.m2v_y4m.specs.declared.answer.Y4mFault.{Y4mFault}
 use Rattle.m2v_y4m.specs.declared.answer.Y4mKind.{Y4mKind}
-use Rattle.m2v_y4m.specs.declared.answer.Y4mKind.TheVariants.{Line, Frame}
+use Rattle.m2v_y4m.specs.declared.answer.Y4mKind.TheVariants.{Frame}
 use Rattle.m2v_y4m.specs.Texts.{line_length, begins, onward}
 use Rattle.m2v_y4m.specs.Header.{fault_at}
 use Rattle.m2v_y4m.specs.Frames.{Coming, nothing, broken, in_frame, frame_line, frame_line_at, frame_word, at_line, in_steps, frames_from}

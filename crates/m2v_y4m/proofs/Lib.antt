@@ -7,4 +7,5 @@ mod WordLaws
 mod Packs
 mod Unpacks
 mod UnpackTexts
+mod Answering
 mod Rows

@@ -1,12 +1,10 @@
 -- Lines and words at the front of a text, whatever follows.
-use Rattle.std.proofs.Common.{◌≡◌, ◌⊎◌, inl, inr, ℕ, zero, suc, ◌+◌, ◌-◌, ◌<◌, ◌≤◌, min, Bool, true, false, cond, ◌==◌, ◌&&◌, ◌||◌, List, [], ◌∷◌, ◌++◌, length, take, drop, get_or, refl, sym, ◌∙◌, ap, arith, Option, Some, None, Result, Ok, Err, subst, IsTrue, nat_lt}
-use Rattle.std.specs.Prelude.{codes, position, if◌then◌else◌}
-use Rattle.std.proofs.lemmas.List.{take-append-le, length-take, length-take-le, append-nil, get_or_append_left, take-take}
+use Rattle.std.proofs.Common.{◌≡◌, ◌⊎◌, inl, inr, ℕ, zero, suc, ◌<◌, ◌≤◌, min, Bool, true, false, cond, ◌==◌, List, [], ◌∷◌, ◌++◌, length, take, drop, refl, sym, ◌∙◌, ap, arith, Option, Some, None, Err, nat_lt}
+use Rattle.std.specs.Prelude.{position, if◌then◌else◌}
+use Rattle.std.proofs.lemmas.List.{take-append-le, length-take, append-nil, get_or_append_left}
 use Rattle.std.proofs.Math.Seq.{take-length}
-use Rattle.m2v_y4m.specs.declared.answer.Y4mFault.{Y4mFault}
 use Rattle.std.specs.List.{position_or_len}
 use Rattle.std.proofs.lemmas.Bool.Decides.{nat_tests}
-use Rattle.m2v_y4m.specs.declared.answer.Y4mKind.{Y4mKind}
 use Rattle.m2v_y4m.specs.declared.answer.Y4mKind.TheVariants.{Magic}
 use Rattle.m2v_y4m.specs.Texts.{line_length, begins}
 use Rattle.m2v_y4m.specs.Header.{opening, opening_at, opening_with, with_words, none_seen, words_from, fault_at, magic}

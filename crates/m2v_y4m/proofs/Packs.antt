@@ -7,7 +7,7 @@ use Rattle.std.proofs.lemmas.List.Concat.{flat_map-append}
 use Rattle.std.proofs.lemmas.List.Elements.{All-append, All-cons, All-nil, All-head, All-tail}
 use Rattle.m2v_port.specs.Ends.{Change, change}
 use Rattle.m2v_port.specs.Port.{Moves, IsAtEnd, Grows, GrowsByPrefix}
-use Rattle.m2v_port.proofs.Runs.{rose_since, moves_on, moves_nothing, grows_on, grows_by_nothing, grows_by_all, grows_by_none, prefix_on}
+use Rattle.m2v_port.proofs.Runs.{rose_since, moves_on, moves_nothing, grows_on, grows_by_all, grows_by_none, prefix_on}
 use Rattle.m2v_plane.specs.Raw.{raw}
 use Rattle.m2v_y4m.specs.declared.header.Y4mHeader.{Y4mHeader}
 use Rattle.m2v_y4m.specs.declared.answer.PackSummary.{PackSummary}
@@ -16,7 +16,7 @@ use Rattle.m2v_y4m.specs.declared.answer.EncodeFault.TheVariants.{Read, Write, S
 use Rattle.m2v_y4m.specs.Frames.{AreWhole, size_of}
 use Rattle.m2v_y4m.specs.Writing.{header_text, frame_text, y4m_text}
 use Rattle.m2v_y4m.specs.Answers.{most_frames, Packed, PackedBefore, PackedPart, PackStops}
-use Rattle.m2v_y4m.specs.Packing.{SoFar, FramePacked, FrameCut, NoFrame, FrameStops, ReadStops, PutStops}
+use Rattle.m2v_y4m.specs.Packing.{SoFar, FramePacked, FrameCut, FrameStops, ReadStops, PutStops}
 
 pub raw_more : (frames : List (List ℕ)) (f : List ℕ) → raw (frames ++ f ∷ []) ≡ raw frames ++ f
 raw_more frames f = flat_map-append (λ (x : List ℕ). x) frames (f ∷ []) ∙ ap (λ (t : List ℕ). raw frames ++ t) (append-nil f)

@@ -1,13 +1,10 @@
 -- Texts of which it is known what they say.
-use Rattle.std.proofs.Common.{◌≡◌, ℕ, List, [], ◌∷◌, ◌++◌, length, Option, Some, None, Result, Ok, Err, refl, false, true}
-use Rattle.std.specs.Prelude.{codes, drop}
-use Rattle.m2v_y4m.specs.declared.answer.Y4mFault.{Y4mFault}
+use Rattle.std.proofs.Common.{◌≡◌, [], ◌∷◌, ◌++◌, length, Some, None, Ok, Err, refl}
+use Rattle.std.specs.Prelude.{codes}
 use Rattle.m2v_y4m.specs.declared.answer.Y4mKind.TheVariants.{Magic, Line, Field, Size, Rate, Interlace, Chroma, Frame}
-use Rattle.m2v_y4m.specs.declared.header.Y4mHeader.{Y4mHeader}
 use Rattle.m2v_y4m.specs.Texts.{line_length, begins, words, number_of}
 use Rattle.m2v_y4m.specs.Header.{opening, fault_at, with_words, with_word, parameter, rate_of, code_of, rate_frames, rate_seconds, top_of, chroma_of, header_of}
-use Rattle.m2v_y4m.specs.Frames.{Coming, frame_line, in_frame, at_line, in_steps, frames_from, behind_header}
-use Rattle.m2v_y4m.specs.Writing.{header_text, y4m_text}
+use Rattle.m2v_y4m.specs.Frames.{frame_line, in_frame, at_line, in_steps, frames_from, behind_header}
 use Rattle.m2v_y4m.specs.Rows.{grey, small, grey_text}
 
 bytes : length grey_text ≡ 52

@@ -1,7 +1,7 @@
 -- What the steps of reading a text do to what comes of it.
-use Rattle.std.proofs.Common.{◌≡◌, ◌⊎◌, inl, inr, ℕ, suc, ◌+◌, ◌-◌, ◌<◌, ◌≤◌, List, [], ◌∷◌, ◌++◌, length, take, drop, refl, sym, ◌∙◌, ap, arith, Option, Some, None, IfSome, Result, Ok, Err, OnOk, OnErr, IfOk, subst, append_assoc, length-append}
+use Rattle.std.proofs.Common.{◌≡◌, ◌⊎◌, inl, inr, ℕ, ◌+◌, ◌-◌, ◌<◌, ◌≤◌, List, [], ◌∷◌, ◌++◌, length, take, drop, refl, sym, ◌∙◌, ap, arith, Option, Some, None, IfSome, Result, Ok, Err, OnOk, OnErr, IfOk, subst, append_assoc, length-append}
 use Rattle.std.specs.Prelude.{option_map}
-use Rattle.std.proofs.lemmas.List.{drop-append-le, take-append-le, length-take-le, append-nil}
+use Rattle.std.proofs.lemmas.List.{drop-append-le, take-append-le, length-take-le}
 use Rattle.std.proofs.Math.Seq.{take-append-add}
 use Rattle.m2v_port.specs.Port.{Moves, IsAtEnd}
 use Rattle.m2v_y4m.specs.declared.answer.Y4mFault.{Y4mFault}
@@ -10,7 +10,7 @@ use Rattle.m2v_y4m.specs.declared.answer.Y4mKind.TheVariants.{Frame}
 use Rattle.m2v_y4m.specs.declared.header.Y4mHeader.{Y4mHeader}
 use Rattle.m2v_y4m.specs.Texts.{onward}
 use Rattle.m2v_y4m.specs.Header.{fault_at, opening}
-use Rattle.m2v_y4m.specs.Frames.{Coming, nothing, broken, frame_line, frames_from, size_of, Begins}
+use Rattle.m2v_y4m.specs.Frames.{Coming, nothing, frame_line, frames_from, size_of}
 use Rattle.m2v_y4m.specs.Sources.{Standing, coming_at, coming, comes_of, left_of, told_left, marked, Took, IsOpen, OpensWith}
 use Rattle.m2v_y4m.specs.Reading.{Held, Gave, IsOver, IsBroken, TookLine, BrokeLine}
 use Rattle.m2v_y4m.proofs.LineLaws.{Seen, frame_line_seen, opening_seen, opening_seen, take_all, drop_all}

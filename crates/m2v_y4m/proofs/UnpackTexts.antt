@@ -1,11 +1,11 @@
 -- What was given of a text, as what the text is.
-use Rattle.std.proofs.Common.{◌≡◌, ◌⊎◌, inl, inr, ℕ, zero, suc, ◌+◌, ◌-◌, ◌*◌, ◌<◌, ◌≤◌, ◌==◌, ◌&&◌, Bool, true, false, nat_lt, List, [], ◌∷◌, ◌++◌, length, take, drop, Option, Some, None, IfSome, Result, Ok, Err, refl, sym, subst, ap, ap₂, ◌∙◌, arith}
-use Rattle.std.specs.Prelude.{if◌then◌else◌, option_map}
+use Rattle.std.proofs.Common.{◌≡◌, ◌⊎◌, inl, inr, ℕ, zero, suc, ◌+◌, ◌*◌, ◌<◌, ◌≤◌, ◌==◌, ◌&&◌, Bool, true, false, nat_lt, List, [], ◌∷◌, ◌++◌, length, take, drop, Option, Some, None, IfSome, Result, Ok, Err, refl, sym, subst, ap, ap₂, ◌∙◌, arith}
+use Rattle.std.specs.Prelude.{if◌then◌else◌}
 use Rattle.std.proofs.Math.Nat.{suc-mul}
 use Rattle.std.proofs.lemmas.List.{append-nil, append_assoc, length-append, length-take-le}
 use Rattle.std.proofs.lemmas.List.Elements.{All-head, All-tail}
 use Rattle.m2v_port.specs.Ends.{Change, change}
-use Rattle.m2v_port.specs.Port.{IsAtEnd, Grows, GrowsByPrefix}
+use Rattle.m2v_port.specs.Port.{IsAtEnd}
 use Rattle.m2v_port.proofs.Runs.{rose_since}
 use Rattle.m2v_plane.specs.Raw.{raw}
 use Rattle.m2v_y4m.specs.declared.answer.Y4mFault.{Y4mFault}
@@ -19,10 +19,10 @@ use Rattle.m2v_y4m.specs.declared.answer.Y4mKind.TheVariants.{Frame}
 use Rattle.m2v_y4m.specs.Texts.{onward}
 use Rattle.m2v_y4m.specs.Header.{fault_at}
 use Rattle.m2v_y4m.specs.Frames.{Coming, nothing, broken, in_frame, at_line, in_steps, frames_from, frame_line, Begins, AreWhole, size_of, Y4m, EndsShort}
-use Rattle.m2v_y4m.specs.Sources.{Standing, comes_of, OpensWith, IsOpen}
-use Rattle.m2v_y4m.specs.Answers.{most_frames, Gives, Unpacked, UnpackedPart, UnpackEndedShort, UnpackWentOn, UnpackBroken, UnpackStops}
-use Rattle.m2v_y4m.specs.Reading.{Gave, IsOver, IsBroken, GivenSoFar}
-use Rattle.m2v_y4m.specs.Giving.{AllGiven, GivenPart, GivenBefore, GivenBroken, GivingStops}
+use Rattle.m2v_y4m.specs.Sources.{Standing, comes_of, OpensWith}
+use Rattle.m2v_y4m.specs.Answers.{most_frames, Gives, Unpacked, UnpackedPart, UnpackBroken, UnpackStops}
+use Rattle.m2v_y4m.specs.Reading.{Gave}
+use Rattle.m2v_y4m.specs.Giving.{AllGiven, GivenPart, GivingStops}
 use Rattle.m2v_y4m.proofs.FrameLaws.{with_front}
 
 value : Option Coming → Coming
@@ -65,7 +65,7 @@ if_told (Some t) P Q weaker is = weaker t is
 
 -- ---- conversions
 
-raw_size : (size : ℕ) (h : Y4mHeader) (frames : List (List ℕ)) → size ≡ size_of h → AreWhole h frames → length (raw frames) ≡ length frames * size
+pub raw_size : (size : ℕ) (h : Y4mHeader) (frames : List (List ℕ)) → size ≡ size_of h → AreWhole h frames → length (raw frames) ≡ length frames * size
 raw_size size h [] is whole = omega arith
 raw_size size h (f ∷ frames) is whole =
     let P = λ (x : List ℕ). length x ≡ size_of h in
@@ -74,13 +74,14 @@ raw_size size h (f ∷ frames) is whole =
     rw (suc-mul (length frames) size) (omega (arith, length-append f (raw frames), behind, here, is))
 
 pub all_unpacked : (s : Standing) (left1 : Option (List ℕ)) (left left_then held : Change) (c1 : Option Coming) (number : ℕ) (summary : PackSummary)
-    → IfSome left.old (OpensWith s left1) → number ≤ most_frames → AllGiven s.header number (comes_of s left1) c1 left_then held → left_then.new ≡ left.new
+    → 1 ≤ size_of s.header → IfSome left.old (OpensWith s left1) → number ≤ most_frames → AllGiven s.header number (comes_of s left1) c1 left_then held → left_then.new ≡ left.new
     → summary ≡ record { frames = number; bytes = number * size_of s.header } → Unpacked left held summary
-all_unpacked s left1 left left_then held c1 number summary opens small given same is =
+all_unpacked s left1 left left_then held c1 number summary some opens small given same is =
     let so_far = given.given in
     record {
       header = s.header;
       frames = so_far.frames;
+      size = some;
       most = omega (arith, so_far.count);
       whole = so_far.whole;
       text = if_told left.old (λ t. Begins t s.header (with_front (raw so_far.frames) nothing)) (λ t. Y4m t s.header so_far.frames)

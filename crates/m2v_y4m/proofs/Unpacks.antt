@@ -1,18 +1,17 @@
 -- Unpacking frame after frame: what stands after one more, and where it stops.
-use Rattle.std.proofs.Common.{◌≡◌, ℕ, ◌+◌, ◌<◌, ◌≤◌, List, [], ◌∷◌, ◌++◌, length, Option, refl, sym, subst, ap, ◌∙◌, arith, inl, inr}
+use Rattle.std.proofs.Common.{◌≡◌, ℕ, ◌+◌, ◌<◌, ◌≤◌, List, [], ◌∷◌, ◌++◌, length, Option, refl, sym, subst, arith, inl, inr}
 use Rattle.std.proofs.lemmas.List.{append-nil}
 use Rattle.std.proofs.lemmas.List.Elements.{All-nil}
 use Rattle.m2v_port.specs.Ends.{Change, change}
 use Rattle.m2v_port.specs.Port.{IsAtEnd, Grows, GrowsByPrefix}
 use Rattle.m2v_port.proofs.Runs.{rose_since, grows_on, grows_by_nothing, grows_by_all, prefix_on}
 use Rattle.m2v_plane.specs.Raw.{raw}
-use Rattle.m2v_y4m.specs.declared.answer.Y4mFault.{Y4mFault}
 use Rattle.m2v_y4m.specs.declared.header.Y4mHeader.{Y4mHeader}
 use Rattle.m2v_y4m.specs.declared.answer.UnpackError.{UnpackError}
 use Rattle.m2v_y4m.specs.declared.answer.UnpackError.TheVariants as errors
-use Rattle.m2v_y4m.specs.Frames.{Coming, AreWhole, size_of}
+use Rattle.m2v_y4m.specs.Frames.{Coming, size_of}
 use Rattle.m2v_y4m.specs.Answers.{most_frames}
-use Rattle.m2v_y4m.specs.Reading.{Gave, GaveFewer, IsOver, IsBroken, GivenSoFar, FrameGiven, FrameCut, NoFrame, FrameStops, ReadStops, PutStops}
+use Rattle.m2v_y4m.specs.Reading.{Gave, IsOver, GivenSoFar, FrameGiven, FrameCut, FrameStops, ReadStops, PutStops}
 use Rattle.m2v_y4m.specs.Giving.{AllGiven, GivenPart, GivenBefore, GivingStops}
 use Rattle.m2v_y4m.proofs.Steps.{gave_none, gave_on}
 use Rattle.m2v_y4m.proofs.Packs.{raw_more, whole_more, count_more}

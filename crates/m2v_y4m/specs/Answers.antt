@@ -1,7 +1,7 @@
 -- What packing and unpacking answer, and what stands then in input and output.
-use Rattle.std.specs.Prelude.{ℕ, ◌≡◌, ◌⊎◌, ◌<◌, ◌≤◌, List, [], ◌∷◌, ◌++◌, length, Option, Some, None, Result, Ok, Err, IfSome}
+use Rattle.std.specs.Prelude.{ℕ, ◌≡◌, ◌⊎◌, ◌<◌, ◌≤◌, List, [], ◌∷◌, ◌++◌, length, Some, Result, Ok, Err}
 use Rattle.m2v_port.specs.Ends.{Change, Tells}
-use Rattle.m2v_port.specs.Port.{Rose, Moves, IsAtEnd, Grows, GrowsByPrefix}
+use Rattle.m2v_port.specs.Port.{Moves, IsAtEnd, Grows, GrowsByPrefix}
 use Rattle.m2v_plane.specs.Raw.{raw}
 use Rattle.m2v_y4m.specs.declared.answer.PackSummary.{PackSummary}
 use Rattle.m2v_y4m.specs.declared.answer.Y4mFault.{Y4mFault}
@@ -13,7 +13,7 @@ use Rattle.m2v_y4m.specs.declared.answer.UnpackError.{UnpackError}
 use Rattle.m2v_y4m.specs.declared.answer.UnpackError.TheVariants as errors
 use Rattle.m2v_y4m.specs.declared.header.Y4mHeader.{Y4mHeader}
 use Rattle.m2v_y4m.specs.Header.{opening}
-use Rattle.m2v_y4m.specs.Frames.{Coming, Begins, AreWhole, size_of, Y4m, EndsShort, FirstFault}
+use Rattle.m2v_y4m.specs.Frames.{Coming, Begins, AreWhole, size_of, Y4m, EndsShort}
 use Rattle.m2v_y4m.specs.Writing.{y4m_text}
 use Rattle.m2v_y4m.specs.Sources.{Took}
 
@@ -97,6 +97,7 @@ pub record Gives (text : List ℕ) (header : Y4mHeader) (bytes : List ℕ) : Typ
 pub record Unpacked (left held : Change) (summary : PackSummary) : Type 0 where
   pub header : Y4mHeader
   pub frames : List (List ℕ)
+  pub size : 1 ≤ size_of header
   pub most : length frames ≤ most_frames
   pub whole : AreWhole header frames
   pub text : Tells left (λ text. Y4m text header frames)

@@ -1,5 +1,5 @@
 -- The header line of a YUV4MPEG2 text: its magic and its parameters, or its first fault.
-use Rattle.std.specs.Prelude.{ℕ, ◌+◌, ◌*◌, ◌==◌, suc, Bool, true, false, ◌&&◌, ◌||◌, nat_le, List, [], ◌∷◌, length, take, drop, position, Option, Some, None, is_some, option_map, Result, Ok, Err, codes, slice_index, if◌then◌else◌}
+use Rattle.std.specs.Prelude.{ℕ, ◌+◌, ◌*◌, ◌==◌, Bool, true, false, ◌&&◌, ◌||◌, nat_le, List, [], ◌∷◌, length, take, drop, position, Option, Some, None, option_map, Result, Ok, Err, codes, slice_index, if◌then◌else◌}
 use Rattle.std.specs.List.{range_with_len}
 use Rattle.std.specs.Cmp.Lexicographic.{pointwise}
 use Rattle.m2v_y4m.specs.declared.answer.Y4mFault.{Y4mFault}

@@ -1,5 +1,5 @@
 -- Reading a YUV4MPEG2 text: what is read ahead, and what a step does.
-use Rattle.std.specs.Prelude.{ℕ, ◌≡◌, ◌⊎◌, ◌<◌, ◌≤◌, List, [], ◌++◌, length, drop, Option, Some, None, IfSome, option_map, Result, Ok, Err}
+use Rattle.std.specs.Prelude.{ℕ, ◌≡◌, ◌⊎◌, ◌<◌, ◌≤◌, List, [], ◌++◌, length, drop, Option, Some, None, IfSome, option_map, Ok, Err}
 use Rattle.m2v_port.specs.Port.{Moves, IsAtEnd, Grows, GrowsByPrefix}
 use Rattle.m2v_port.specs.Ends.{Change}
 use Rattle.m2v_plane.specs.Raw.{raw}

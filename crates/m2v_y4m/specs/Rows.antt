@@ -1,10 +1,9 @@
 -- Texts of which it is known what they say.
-use Rattle.std.specs.Prelude.{ℕ, ◌≡◌, List, [], ◌∷◌, ◌++◌, replicate, Option, Some, None, Result, Ok, Err, codes, false}
-use Rattle.m2v_y4m.specs.declared.answer.Y4mFault.{Y4mFault}
+use Rattle.std.specs.Prelude.{ℕ, ◌≡◌, List, [], ◌∷◌, ◌++◌, replicate, Some, None, Ok, Err, codes, false}
 use Rattle.m2v_y4m.specs.declared.answer.Y4mKind.TheVariants.{Magic, Line, Field, Size, Rate, Interlace, Chroma, Frame}
 use Rattle.m2v_y4m.specs.declared.header.Y4mHeader.{Y4mHeader}
 use Rattle.m2v_y4m.specs.Header.{opening, fault_at}
-use Rattle.m2v_y4m.specs.Frames.{Coming, frames_from, behind_header}
+use Rattle.m2v_y4m.specs.Frames.{frames_from, behind_header}
 
 -- six bytes 128, a frame of two lines of two
 abbrev pub grey : List ℕ

@@ -1,5 +1,5 @@
 -- The condition on the numbers of a header that is written, as conditions in order under rule 8.
-use Rattle.std.specs.Prelude.{ℕ, ◌≡◌, ◌≤◌, List, [], ◌∷◌, Ok}
+use Rattle.std.specs.Prelude.{◌≡◌, ◌≤◌, List, [], ◌∷◌, Ok}
 use Rattle.m2v_set.specs.Rules.{Condition, at_least, at_most, judged}
 use Rattle.m2v_y4m.specs.declared.header.Y4mHeader.{Y4mHeader}
 

@@ -1,11 +1,11 @@
 ghost use Rattle.std.specs.Prelude.{ℕ, ◌≡◌, ◌⊎◌, ◌+◌, ◌<◌, ◌≤◌, [], ◌∷◌, true, false, length, take, IfOk, IfErr, OnOk, OnErr, IsErrOf, IsTrue, is_some, None, Ok};
-ghost use Rattle.m2v_port.specs.Ends.{change, SinkStays};
+ghost use Rattle.m2v_port.specs.Ends.{change, SinkStays, Tells};
 ghost use Rattle.m2v_port.specs.Port.{Rose, IsAtEnd, Grows};
 ghost use Rattle.m2v_y4m.specs.Frames.{size_of};
 ghost use Rattle.m2v_y4m.specs.Sources.{comes_of};
 ghost use Rattle.m2v_y4m.specs.Reading.{Gave, GaveFewer, IsOver, FrameGiven, NoFrame, FrameStops, ReadStops, PutStops};
 ghost use Rattle.m2v_y4m.specs.Giving.{AllGiven, GivingStops};
-ghost use Rattle.m2v_y4m.specs.Answers.{Unpacked, UnpackStops};
+ghost use Rattle.m2v_y4m.specs.Answers.{IsAnswered, Unpacked, UnpackStops};
 
 use crate::answer::{PackSummary, UnpackError, Y4mError};
 use crate::packing::MOST;
@@ -18,6 +18,31 @@ use std::alloc::Global;
 /// Each frame is read whole and written before the next one is read; memory is that of one frame, whatever their number.
 /// A text without frames writes nothing.
 pub fn unpack<S: Source, K: Sink>(
+    alloc: Global,
+    input: &mut S,
+    output: &mut K,
+) -> Result<PackSummary, UnpackError>
+    requires output { IsTrue (K.ready output.old) }
+    // The text was read to its end, and all its frames were written.
+    ensures ok { IfOk result (Unpacked
+        (change S.left S.faults input.old input.new)
+        (change K.held K.faults output.old output.new)) }
+    // When each error comes, and what stands then.
+    ensures err { IfErr result (UnpackStops
+        (change S.left S.faults input.old input.new)
+        (change K.held K.faults output.old output.new)) }
+    // What is answered to a text that is told: nothing else may come but want of memory and counts that rose.
+    ensures told { Tells (change S.left S.faults input.old input.new) (IsAnswered
+        (change S.left S.faults input.old input.new)
+        (change K.held K.faults output.old output.new) result) }
+    ensures output { SinkStays K.ready K.name K.faults output.old output.new }
+    ensures input { S.faults input.old ≤ S.faults input.new }
+{
+    unpack_text(alloc, input, output)
+}
+
+/// The same, by what each answer means alone.
+fn unpack_text<S: Source, K: Sink>(
     alloc: Global,
     input: &mut S,
     output: &mut K,

@@ -1,4 +1,4 @@
-use Rattle.std.proofs.Common.{arith, length, drop, sym, ◌∙◌}
+use Rattle.std.proofs.Common.{arith, sym, ◌∙◌}
 use Rattle.m2v_y4m.proofs.WordLaws.{words_broken, words_on, words_end}
 use Rattle.m2v_y4m.proofs.opening.read_words.Goals as goal
 

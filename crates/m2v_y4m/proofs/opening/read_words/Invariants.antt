@@ -1,4 +1,4 @@
-use Rattle.std.proofs.Common.{◌≡◌, ◌≤◌, ◌+◌, ◌-◌, length}
+use Rattle.std.proofs.Common.{◌≡◌, ◌+◌, ◌-◌, length}
 use Rattle.m2v_y4m.specs.Header.{with_words, words_from, none_seen}
 use Rattle.m2v_y4m.specs.Reading.{IsSeen}
 use Rattle.m2v_y4m.proofs.opening.read_words.Given as goal

@@ -1,6 +1,6 @@
-use Rattle.std.proofs.Common.{arith, refl, ap, Ok, ◌≡◌, ◌≤◌, ◌∙◌, ◌+◌, ◌*◌, ℕ, length, sym}
+use Rattle.std.proofs.Common.{arith, refl, ap, Ok, ◌≡◌, ◌∙◌, ◌+◌, ◌*◌, ℕ, length}
 use Rattle.std.proofs.lemmas.Result.{err_from_is_err_and}
-use Rattle.m2v_port.proofs.Runs.{stays_here, stays_on, moves_nothing}
+use Rattle.m2v_port.proofs.Runs.{stays_on}
 use Rattle.m2v_y4m.specs.Frames.{size_of}
 use Rattle.m2v_y4m.proofs.SizeLaws.{size_some}
 use Rattle.m2v_y4m.proofs.Packs.{so_far_none, so_far_more, stopped, ended, went_on, look_stopped, line_cut}

@@ -1,4 +1,4 @@
-use Rattle.std.proofs.Common.{◌≡◌, ◌≤◌}
+use Rattle.std.proofs.Common.{◌≤◌}
 use Rattle.m2v_port.specs.Ends.{change, SinkStays}
 use Rattle.m2v_y4m.specs.Packing.{IsRoom, SoFar}
 use Rattle.m2v_y4m.proofs.packing.pack_all.Given as goal

@@ -1,9 +1,8 @@
-use Rattle.std.proofs.Common.{arith, refl, subst, ap, ◌∙◌, ◌≡◌, ◌<◌, ◌≤◌, [], ℕ, List, length, take, sym}
+use Rattle.std.proofs.Common.{arith, refl, ◌∙◌, ◌≡◌, ◌<◌, ◌≤◌, length, take}
 use Rattle.std.proofs.lemmas.List.{length-take-le}
 use Rattle.std.proofs.lemmas.Result.{err_from_is_err_and}
 use Rattle.m2v_y4m.specs.Frames.{size_of}
-use Rattle.m2v_y4m.specs.Sources.{comes_of}
-use Rattle.m2v_y4m.specs.Reading.{Gave, FrameStops}
+use Rattle.m2v_y4m.specs.Reading.{FrameStops}
 use Rattle.m2v_y4m.proofs.LineLaws.{take_all}
 use Rattle.m2v_y4m.proofs.Unpacks.{next_lost, next_cut}
 use Rattle.m2v_y4m.proofs.unpacking.next.Goals as goal

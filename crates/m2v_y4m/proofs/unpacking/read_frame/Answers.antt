@@ -1,6 +1,5 @@
 use Rattle.std.proofs.Common.{◌≡◌, ◌⊎◌, inl, inr, ap, Err, sym, ◌∙◌, Option, None, IsTrue, subst}
 use Rattle.std.specs.Prelude.{is_some}
-use Rattle.m2v_port.specs.Port.{Rose}
 use Rattle.m2v_y4m.specs.declared.answer.Y4mFault.{Y4mFault}
 use Rattle.m2v_y4m.specs.Reading.{ReadStops}
 use Rattle.m2v_y4m.proofs.Steps.{is_broken}

@@ -1,39 +1,11 @@
-use Rattle.std.proofs.Common.{arith, refl, ap, ◌≡◌, ◌≤◌, ◌∙◌, ◌*◌, ℕ, length}
-use Rattle.std.proofs.lemmas.Result.{err_from_is_err_and}
+use Rattle.m2v_port.proofs.Runs.{tells}
 use Rattle.m2v_port.specs.Ends.{change}
-use Rattle.m2v_y4m.specs.Answers.{UnpackStops, OpenStops, UnpackedPart, UnpackBroken}
-use Rattle.m2v_y4m.proofs.UnpackTexts.{all_unpacked, unpack_stops}
+use Rattle.m2v_y4m.specs.Answers.{IsAnswered}
+use Rattle.m2v_y4m.proofs.Answering.{answered}
 use Rattle.m2v_y4m.proofs.unpacking.unpack.Goals as goal
 
-pub returns-in-Err-Read-clause-err : goal.returns-in-Err-Read-clause-err
-unfolding UnpackStops OpenStops
-returns-in-Err-Read-clause-err g c = ((rw c.in-Err-Read.field-0-is at c.in-Err-Read.ensures.err).0, UnpackedPart.unopened refl)
-
-pub returns-in-Err-Y4m-clause-err : goal.returns-in-Err-Y4m-clause-err
-unfolding UnpackStops OpenStops
-returns-in-Err-Y4m-clause-err g c =
-    let e = rw c.in-Err-Y4m.field-0-is at c.in-Err-Y4m.ensures.err in
-    rw c.in-Err-Y4m.field-0-is (UnpackBroken.in_header e.0 refl)
-
-pub returns-in-Err-Memory-clause-err : goal.returns-in-Err-Memory-clause-err
-unfolding UnpackStops
-returns-in-Err-Memory-clause-err g c = UnpackedPart.unopened refl
-
-pub returns-in_default-clause-err : goal.returns-in_default-clause-err
-unfolding UnpackStops
-returns-in_default-clause-err g c = UnpackedPart.unopened refl
-
-pub returns-in_err-frames-clause-err : goal.returns-in_err-frames-clause-err
-returns-in_err-frames-clause-err g c =
-    let p = err_from_is_err_and c.from_residual.result c.from_residual.ensures.1 in
-    rw (p.1, p.2) (unpack_stops g.S.Source.left g.S.Source.faults g.K.Sink.held g.K.Sink.faults c.in-Ok.reader c.args.input.now c.open.new.inner c.unpack_frames.new.input _ _ _ _
-    c.in-Ok.ensures.opened.opens c.open.ensures.faults c.in_err-frames.ensures.err)
-
-pub returns-clause-ok : goal.returns-clause-ok
-returns-clause-ok g c =
-    let e = c.in_ok-frames.ensures in
-    all_unpacked c.in-Ok.reader _ (change g.S.Source.left g.S.Source.faults c.args.input.now c.unpack_frames.new.input)
-    (change g.S.Source.left g.S.Source.faults c.open.new.inner c.unpack_frames.new.input)
-    (change g.K.Sink.held g.K.Sink.faults c.args.output.now c.unpack_frames.new.output) _ c.in_ok-frames.frames _
-    c.in-Ok.ensures.opened.opens e.most e.ok refl
-    (ap (λ (n : ℕ). record { frames = c.in_ok-frames.frames; bytes = c.in_ok-frames.frames * n }) c.size-size.ensures.value)
+pub returns-clause-told : goal.returns-clause-told
+returns-clause-told g c =
+    let left = change g.S.Source.left g.S.Source.faults c.args.input.now c.unpack_text.new.input in
+    let held = change g.K.Sink.held g.K.Sink.faults c.args.output.now c.unpack_text.new.output in
+    tells left (IsAnswered left held c.unpack_text.result) (λ text is. answered left held text is c.unpack_text.result c.unpack_text.ensures.ok c.unpack_text.ensures.err)

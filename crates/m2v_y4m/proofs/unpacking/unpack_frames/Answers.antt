@@ -1,7 +1,6 @@
-use Rattle.std.proofs.Common.{arith, refl, ap, Ok, ◌≡◌, ◌≤◌, ◌∙◌, length, sym}
+use Rattle.std.proofs.Common.{arith, ap, Ok, ◌≤◌, ◌∙◌}
 use Rattle.std.proofs.lemmas.Result.{err_from_is_err_and}
 use Rattle.m2v_port.proofs.Runs.{stays_on}
-use Rattle.m2v_y4m.specs.declared.header.Y4mHeader.{Y4mHeader}
 use Rattle.m2v_y4m.specs.Frames.{size_of}
 use Rattle.m2v_y4m.proofs.Unpacks.{given_at, stopped_at, went_on, look_stopped}
 use Rattle.m2v_y4m.proofs.unpacking.unpack_frames.Goals as goal

@@ -1,4 +1,4 @@
-use Rattle.std.proofs.Common.{◌≡◌, ◌≤◌, ◌+◌, ◌-◌, ◌∙◌, sym, ap, arith, length, take, drop}
+use Rattle.std.proofs.Common.{◌≡◌, ◌-◌, ◌∙◌, sym, ap, arith, length, take, drop}
 use Rattle.m2v_y4m.proofs.ChunkLaws.{refilled}
 use Rattle.m2v_y4m.proofs.chunk.Chunk.more.Goals as goal
 

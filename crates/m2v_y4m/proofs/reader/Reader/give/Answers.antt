@@ -1,4 +1,3 @@
-use Rattle.std.proofs.Common.{arith}
 use Rattle.m2v_y4m.proofs.Steps.{gives_held}
 use Rattle.m2v_y4m.proofs.reader.Reader.give.Goals as goal
 

@@ -1,4 +1,4 @@
-use Rattle.std.proofs.Common.{◌≡◌, arith, ap, Ok, length, take, refl}
+use Rattle.std.proofs.Common.{◌≡◌, arith, ap, Ok}
 use Rattle.std.proofs.lemmas.List.{length-take-le}
 use Rattle.m2v_y4m.specs.Sources.{Standing}
 use Rattle.m2v_y4m.proofs.Steps.{ended_same, ended_over, gives_read}

@@ -1,6 +1,5 @@
-use Rattle.std.proofs.Common.{refl, ◌≡◌, ◌≤◌, ap, ◌∙◌, arith, length}
+use Rattle.std.proofs.Common.{refl, ap, ◌∙◌, arith, length}
 use Rattle.m2v_y4m.specs.Sources.{Standing}
-use Rattle.m2v_y4m.specs.Frames.{size_of}
 use Rattle.m2v_y4m.proofs.Steps.{edge_over, took_line, broke_line}
 use Rattle.m2v_y4m.proofs.reader.Reader.next_line.Goals as goal
 

@@ -1,7 +1,6 @@
-use Rattle.std.proofs.Common.{◌≡◌, [], ap, Err, refl, sym}
+use Rattle.std.proofs.Common.{[], ap, Err}
 use Rattle.m2v_port.proofs.Runs.{moves_nothing}
 use Rattle.m2v_y4m.specs.Answers.{OpenStops}
-use Rattle.m2v_y4m.specs.Reading.{Held}
 use Rattle.m2v_y4m.proofs.Steps.{opened, not_opened, took_held}
 use Rattle.m2v_y4m.proofs.reader.Reader.open.Goals as goal
 
