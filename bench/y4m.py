@@ -105,14 +105,16 @@ def pack(w, h, code, top, raw):
     return 0, f"frames {frames} bytes {len(text)}", text
 
 
-def show(name, words, data, answer, each=()):
+def show(name, words, data, answer, each=None):
     status, line, out = answer
+    if each:
+        name += f", each call of the {each} fails in turn"
     print(f"case {name}\nwords {words}")
     for key, value in (("input", data),):
         for k in range(0, len(value), 40):
             print(key, value[k:k + 40].hex(" ").upper())
-    for endpoint in each:
-        print("each", endpoint)
+    if each:
+        print("each", each)
     if status:
         print("status", status)
     print("report", line)
@@ -169,8 +171,9 @@ def texts():
 
 
 def main():
-    print("# ---- pack and unpack: bench/y4m.py\n")
-    show("pack: a grey frame", "pack 2 2 3", GREY, pack(2, 2, 3, False, GREY), ("input", "output", "report"))
+    print("# ---- pack and unpack\n")
+    for each in (None, "input", "output", "report"):
+        show("pack: a grey frame", "pack 2 2 3", GREY, pack(2, 2, 3, False, GREY), each)
     show("pack: the top field first", "pack 2 2 3 --top", GREY, pack(2, 2, 3, True, GREY))
     show("pack: no frames", "pack 2 2 3", b"", pack(2, 2, 3, False, b""))
     show("pack: two frames", "pack 1 1 8", bytes(range(6)), pack(1, 1, 8, False, bytes(range(6))))
@@ -181,7 +184,9 @@ def main():
     for w, h, code in ((0, 2, 3), (1921, 2, 3), (2, 0, 3), (2, 1153, 3), (2, 2, 0), (2, 2, 9), (0, 0, 0)):
         show(f"pack: unfit {w} {h} {code}", f"pack {w} {h} {code}", GREY, pack(w, h, code, False, GREY))
     for number, (name, text) in enumerate(texts()):
-        show("unpack: " + name, "unpack", text, unpack(text), ("input", "output", "report") if number < 2 else ())
+        for each in (None, "input", "output", "report") if number < 2 else (None,):
+            show("unpack: " + name, "unpack", text, unpack(text), each)
 
 
-main()
+if __name__ == "__main__":
+    main()
