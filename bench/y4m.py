@@ -183,6 +183,9 @@ def main():
         show(f"pack: {extra} bytes", "pack 2 2 3", bytes(extra), pack(2, 2, 3, False, bytes(extra)))
     for w, h, code in ((0, 2, 3), (1921, 2, 3), (2, 0, 3), (2, 1153, 3), (2, 2, 0), (2, 2, 9), (0, 0, 0)):
         show(f"pack: unfit {w} {h} {code}", f"pack {w} {h} {code}", GREY, pack(w, h, code, False, GREY))
+    for words in ("pack", "pack 2 2", "pack 2 2 x", "pack 2 2 3 4", "pack 2 2 3 --bottom", "pack 2 2 3 --top --top",
+                  "unpack x", "unpack --top"):
+        show("words: " + words, words, GREY, (2, "usage", b""))
     for number, (name, text) in enumerate(texts()):
         for each in (None, "input", "output", "report") if number < 2 else (None,):
             show("unpack: " + name, "unpack", text, unpack(text), each)
