@@ -50,10 +50,10 @@ def drawn(stream, title):
            'font-size="12">' % (WIDTH, HEIGHT, WIDTH, HEIGHT))
     yield '<rect width="%d" height="%d" fill="#fff"/>' % (WIDTH, HEIGHT)
     yield text(LEFT, 20, title, more=' font-size="14"')
-    for name, words_of in (('size', 'buffer, %d bits' % size), ('none', 'empty')):
+    for name, x, up, words_of in (('size', WIDTH - RIGHT, 4, 'buffer, %d bits' % size), ('none', LEFT - 6, -4, 'empty')):
         (a, b) = level[name]
         yield '<polyline points="%s %s" fill="none" stroke="#999" stroke-dasharray="4 3"/>' % (a, b)
-        yield text(WIDTH - RIGHT, float(a.split(',')[1]) - 4, words_of, 'end', ' fill="#666"')
+        yield text(x, float(a.split(',')[1]) - up, words_of, 'end', ' fill="#666"')
     yield '<polyline points="%s" fill="none" stroke="#1a5fb4" stroke-width="1.4"/>' % ' '.join(places)
     for number, (held, taken) in enumerate(zip(account.held, account.taken)):
         if taken > held or held > account.size:
