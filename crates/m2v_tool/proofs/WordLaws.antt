@@ -24,7 +24,7 @@ data Kind : Type 0 where
   packs : Kind
   unpacks : Kind
 
-kind_of : Command → Kind
+abbrev kind_of : Command → Kind
 kind_of (Flat w) = flats
 kind_of (Encode w) = encodes
 kind_of Decode = decodes
@@ -34,7 +34,7 @@ kind_of (Pack h) = packs
 kind_of Unpack = unpacks
 
 -- the kind by the word that names the command
-kind_named : Text → Kind
+abbrev kind_named : Text → Kind
 kind_named name =
     if bytes_eq name (codes "flat") then flats
     else if bytes_eq name (codes "encode") then encodes

@@ -116,8 +116,9 @@ pub(crate) fn packed_frames<S: Source, K: Sink>(
     ensures output { SinkStays K.ready K.name K.faults output.old output.new }
     ensures input { S.faults input.old ≤ S.faults input.new }
 {
-    if let Err(first) = header.test() {
-        return PackOutcome::Unfit(first);
+    match header.test() {
+        Ok(()) => {}
+        Err(first) => return PackOutcome::Unfit(first),
     }
     match pack(alloc, header, input, output) {
         Ok(summary) => PackOutcome::Packed(summary),

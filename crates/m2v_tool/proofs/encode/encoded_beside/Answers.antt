@@ -25,7 +25,7 @@ returns-in-Ok-encode-clause-comes g c =
     let stays = c.encode.ensures.recon in
     record {
       passes = c.settings-passes.ensures.passes;
-      coded = coded_from g.N.Sink.held g.N.Sink.faults c.args.recon.now c.open.new.self c.encode.new.recon c.open.ensures.same c.open.ensures.faults
+      coded = coded_from g.N.Sink.held g.N.Sink.faults c.args.recon.now c.open.new.self c.encode.new.recon.0 c.open.ensures.same c.open.ensures.faults
           c.args.passed.now _ _ _ c.in-Ok-encode.ensures.ok;
       stands = (stays.is_ready, subst (λ (o : Option (List ℕ)). IfSome o (λ told. told ≡ c.args.name.now)) (sym stays.keeps_name) c.in-Ok.ensures.name);
     }
@@ -36,7 +36,7 @@ returns-in-Err-encode-clause-comes g c =
     let stays = c.encode.ensures.recon in
     record {
       passes = c.settings-passes.ensures.passes;
-      stops = stops_from g.N.Sink.held g.N.Sink.faults c.args.recon.now c.open.new.self c.encode.new.recon c.open.ensures.same c.open.ensures.faults
+      stops = stops_from g.N.Sink.held g.N.Sink.faults c.args.recon.now c.open.new.self c.encode.new.recon.0 c.open.ensures.same c.open.ensures.faults
           c.args.passed.now _ _ c.in-Err-encode.error c.in-Err-encode.ensures.err;
       stands = (stays.is_ready, subst (λ (o : Option (List ℕ)). IfSome o (λ told. told ≡ c.args.name.now)) (sym stays.keeps_name) c.in-Ok.ensures.name);
     }
