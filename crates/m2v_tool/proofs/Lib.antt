@@ -3,6 +3,7 @@ pub mod NumberLaws
 pub mod WordLaws
 pub mod EndingLaws
 pub mod CodingLaws
+pub mod CuttingLaws
 pub mod PackingLaws
 pub mod DecodingLaws
 pub mod CheckingLaws

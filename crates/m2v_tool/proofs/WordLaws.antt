@@ -6,10 +6,12 @@ use Rattle.clap.specs.Walk.{Text}
 use Rattle.m2v_y4m.specs.declared.header.Y4mHeader.{Y4mHeader}
 use Rattle.m2v_tool.specs.declared.flat.FlatWords.{FlatWords}
 use Rattle.m2v_tool.specs.declared.encode.EncodeWords.{EncodeWords}
+use Rattle.m2v_tool.specs.declared.cut.CutWords.{CutWords}
 use Rattle.m2v_tool.specs.declared.command.Command.{Command}
-use Rattle.m2v_tool.specs.declared.command.Command.TheVariants.{Flat, Encode, Decode, Check, Make, Pack, Unpack}
+use Rattle.m2v_tool.specs.declared.command.Command.TheVariants.{Flat, Encode, Decode, Check, Make, Cut, Pack, Unpack}
 use Rattle.m2v_tool.specs.EncodeWords.{encode_meant, words_of}
 use Rattle.m2v_tool.specs.Making.{make_meant}
+use Rattle.m2v_tool.specs.Cutting.{cut_meant}
 use Rattle.m2v_tool.specs.Packing.{pack_meant}
 use Rattle.m2v_tool.specs.Words.{Means, flat_meant}
 
@@ -21,6 +23,7 @@ data Kind : Type 0 where
   decodes : Kind
   checks : Kind
   makes : Kind
+  cuts : Kind
   packs : Kind
   unpacks : Kind
 
@@ -30,6 +33,7 @@ kind_of (Encode w) = encodes
 kind_of Decode = decodes
 kind_of Check = checks
 kind_of (Make seed) = makes
+kind_of (Cut w) = cuts
 kind_of (Pack h) = packs
 kind_of Unpack = unpacks
 
@@ -41,6 +45,7 @@ kind_named name =
     else if bytes_eq name (codes "decode") then decodes
     else if bytes_eq name (codes "check") then checks
     else if bytes_eq name (codes "make") then makes
+    else if bytes_eq name (codes "cut") then cuts
     else if bytes_eq name (codes "pack") then packs
     else unpacks
 
@@ -50,6 +55,7 @@ by_name name others (Encode w) m = ap kind_named m.0
 by_name name others Decode m = ap kind_named m.0
 by_name name others Check m = ap kind_named m.0
 by_name name others (Make seed) m = ap kind_named m.0
+by_name name others (Cut w) m = ap kind_named m.0
 by_name name others (Pack h) m = ap kind_named m.0
 by_name name others Unpack m = ap kind_named m.0
 
@@ -60,6 +66,7 @@ Payload encodes = EncodeWords
 Payload decodes = Unit {0}
 Payload checks = Unit {0}
 Payload makes = ℕ
+Payload cuts = CutWords
 Payload packs = Y4mHeader
 Payload unpacks = Unit {0}
 
@@ -69,6 +76,7 @@ payload (Encode w) = w
 payload Decode = tt
 payload Check = tt
 payload (Make seed) = seed
+payload (Cut w) = w
 payload (Pack h) = h
 payload Unpack = tt
 
@@ -79,6 +87,7 @@ command_of encodes w = Encode w
 command_of decodes u = Decode
 command_of checks u = Check
 command_of makes seed = Make seed
+command_of cuts w = Cut w
 command_of packs h = Pack h
 command_of unpacks u = Unpack
 
@@ -88,6 +97,7 @@ again (Encode w) = refl
 again Decode = refl
 again Check = refl
 again (Make seed) = refl
+again (Cut w) = refl
 again (Pack h) = refl
 again Unpack = refl
 
@@ -98,6 +108,7 @@ Says encodes others w = encode_meant others ≡ Some (words_of w)
 Says decodes others u = Unit {0}
 Says checks others u = Unit {0}
 Says makes others seed = make_meant others ≡ Some seed
+Says cuts others w = cut_meant others ≡ Some w
 Says packs others h = pack_meant others ≡ Some h
 Says unpacks others u = Unit {0}
 
@@ -107,6 +118,7 @@ said name others (Encode w) m = m.1
 said name others Decode m = tt
 said name others Check m = tt
 said name others (Make seed) m = m.1
+said name others (Cut w) m = m.1
 said name others (Pack h) m = m.1
 said name others Unpack m = tt
 
@@ -125,6 +137,7 @@ module _ (P : Command → Type 0) (alike : (v w : EncodeWords) → words_of v �
   one_payload decodes others x y f g p = p
   one_payload checks others x y f g p = p
   one_payload makes others x y f g p = subst (λ (n : ℕ). P (Make n)) (one_some _ x y f g) p
+  one_payload cuts others x y f g p = subst (λ (w : CutWords). P (Cut w)) (one_some _ x y f g) p
   one_payload packs others x y f g p = subst (λ (h : Y4mHeader). P (Pack h)) (one_some _ x y f g) p
   one_payload unpacks others x y f g p = p
 

@@ -3,6 +3,7 @@ use Rattle.std.specs.Prelude.{ℕ, List}
 use Rattle.m2v_tool.specs.declared.flat.FlatWords.{FlatWords}
 use Rattle.m2v_tool.specs.declared.encode.EncodeWords.{EncodeWords}
 use Rattle.m2v_y4m.specs.declared.header.Y4mHeader.{Y4mHeader}
+use Rattle.m2v_tool.specs.declared.cut.CutWords.{CutWords}
 use Rattle.m2v_tool.specs.declared.command.Command.{Command}
 use Rattle.m2v_tool.specs.declared.command.Command.TheVariants as commands
 use Rattle.m2v_tool.specs.declared.command.Outcome.{Outcome}
@@ -16,6 +17,7 @@ use Rattle.m2v_tool.specs.Encoding.{EncodeComes, EncodeKeeps, encode_ending}
 use Rattle.m2v_tool.specs.Decoding.{DecodeComes, DecodeKeeps, decode_ending}
 use Rattle.m2v_tool.specs.Checking.{CheckComes, CheckKeeps, check_ending}
 use Rattle.m2v_tool.specs.Making.{MakeComes, MakeKeeps, make_ending}
+use Rattle.m2v_tool.specs.Cutting.{CutComes, CutKeeps, cut_ending}
 use Rattle.m2v_tool.specs.Packing.{PackComes, PackKeeps, pack_ending, UnpackComes, UnpackKeeps, unpack_ending}
 
 -- When each outcome comes, and what stands then: words that mean no command are refused, and else comes what their
@@ -35,6 +37,9 @@ Comes words k (outcomes.Check o) =
 Comes words k (outcomes.Make o) =
     (seed : ℕ) × Means words (commands.Make seed) × MakeComes seed k.output o
     × k.input.Unchanged × k.recon.Unchanged
+Comes words k (outcomes.Cut o) =
+    (w : CutWords) × Means words (commands.Cut w) × CutComes w k.input k.output o
+    × k.recon.Unchanged
 Comes words k (outcomes.Pack o) =
     (h : Y4mHeader) × Means words (commands.Pack h) × PackComes h k.input k.output o
     × k.recon.Unchanged
@@ -50,6 +55,7 @@ ending_of (outcomes.Encode o) = encode_ending o
 ending_of (outcomes.Decode o) = decode_ending o
 ending_of (outcomes.Check o) = check_ending o
 ending_of (outcomes.Make o) = make_ending o
+ending_of (outcomes.Cut o) = cut_ending o
 ending_of (outcomes.Pack o) = pack_ending o
 ending_of (outcomes.Unpack o) = unpack_ending o
 
@@ -60,6 +66,7 @@ Keeps (commands.Encode w) r = EncodeKeeps (words_of w) r
 Keeps commands.Decode r = DecodeKeeps r
 Keeps commands.Check r = CheckKeeps r
 Keeps (commands.Make seed) r = MakeKeeps r
+Keeps (commands.Cut w) r = CutKeeps w r
 Keeps (commands.Pack h) r = PackKeeps h r
 Keeps commands.Unpack r = UnpackKeeps r
 

@@ -10,4 +10,5 @@ pub mod Checking
 pub mod Encoding
 pub mod Making
 pub mod Commands
+pub mod Cutting
 pub mod Packing

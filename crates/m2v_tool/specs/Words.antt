@@ -8,9 +8,10 @@ use Rattle.m2v_set.specs.declared.unfit.Unfit.{Unfit}
 use Rattle.m2v_flat.specs.declared.settings.FlatSettings.{FlatSettings}
 use Rattle.m2v_tool.specs.declared.flat.FlatWords.{FlatWords}
 use Rattle.m2v_tool.specs.declared.command.Command.{Command}
-use Rattle.m2v_tool.specs.declared.command.Command.TheVariants.{Flat, Encode, Decode, Check, Make, Pack, Unpack}
+use Rattle.m2v_tool.specs.declared.command.Command.TheVariants.{Flat, Encode, Decode, Check, Make, Cut, Pack, Unpack}
 use Rattle.m2v_tool.specs.EncodeWords.{encode_meant, words_of}
 use Rattle.m2v_tool.specs.Making.{make_meant}
+use Rattle.m2v_tool.specs.Cutting.{cut_meant}
 use Rattle.m2v_tool.specs.Packing.{pack_meant}
 use Rattle.m2v_tool.specs.Simple.{simple, number_word, taken, required, stands_alone}
 
@@ -43,6 +44,7 @@ MeansBy name others Decode =
 MeansBy name others Check =
     (name ≡ codes "check") × (stands_alone (codes "check") others ≡ true)
 MeansBy name others (Make seed) = (name ≡ codes "make") × (make_meant others ≡ Some seed)
+MeansBy name others (Cut w) = (name ≡ codes "cut") × (cut_meant others ≡ Some w)
 MeansBy name others (Pack h) = (name ≡ codes "pack") × (pack_meant others ≡ Some h)
 MeansBy name others Unpack =
     (name ≡ codes "unpack") × (stands_alone (codes "unpack") others ≡ true)

@@ -5,6 +5,7 @@ ghost use Rattle.m2v_tool.specs.Words.{Means, MeansBy, NoCommand};
 ghost use Rattle.m2v_tool.specs.Commands.{ending_of};
 
 use crate::check::{CheckOutcome, check_words};
+use crate::cut::{CutOutcome, CutWords, cut_words};
 use crate::decode::{DecodeOutcome, decode_words};
 use crate::encode::{EncodeOutcome, EncodeWords, encode_words};
 use crate::flat::{FlatOutcome, FlatWords, flat_words};
@@ -28,6 +29,8 @@ pub enum Command {
     Check,
     /// The stream of a seed is made.
     Make(u64),
+    /// Groups of a stream are copied.
+    Cut(CutWords),
     /// Raw frames are packed into a YUV4MPEG2 text of this header.
     Pack(Y4mHeader),
     /// A YUV4MPEG2 text is unpacked.
@@ -51,6 +54,8 @@ pub enum Outcome {
     Check(CheckOutcome),
     /// What came of `make`.
     Make(MakeOutcome),
+    /// What came of `cut`.
+    Cut(CutOutcome),
     /// What came of `pack`.
     Pack(PackOutcome),
     /// What came of `unpack`.
@@ -71,6 +76,7 @@ impl Outcome {
             Outcome::Decode(outcome) => outcome.report(alloc),
             Outcome::Check(outcome) => outcome.report(alloc),
             Outcome::Make(outcome) => outcome.report(alloc),
+            Outcome::Cut(outcome) => outcome.report(alloc),
             Outcome::Pack(outcome) => outcome.report(alloc),
             Outcome::Unpack(outcome) => outcome.report(alloc),
         }
@@ -102,6 +108,10 @@ fn meant_by(alloc: Global, name: &str, others: &[String]) -> Result<Option<Comma
         }
         "make" => match make_words(alloc, others)? {
             Some(seed) => Ok(Some(Command::Make(seed))),
+            None => Ok(None),
+        },
+        "cut" => match cut_words(alloc, others)? {
+            Some(meant) => Ok(Some(Command::Cut(meant))),
             None => Ok(None),
         },
         "pack" => match pack_words(alloc, others)? {

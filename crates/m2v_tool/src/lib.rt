@@ -3,6 +3,7 @@
 
 mod check;
 mod command;
+mod cut;
 mod decode;
 mod encode;
 mod flat;

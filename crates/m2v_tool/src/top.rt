@@ -5,6 +5,7 @@ ghost use Rattle.m2v_tool.specs.Commands.{Comes, Kept, ending_of};
 
 use crate::check::judged;
 use crate::command::{Command, Outcome, meaning};
+use crate::cut::cut_out;
 use crate::decode::decoded;
 use crate::encode::encoded;
 use crate::flat::coded;
@@ -55,6 +56,7 @@ fn carried_out<R: Threads + Wait + Sync, S: Source, K: Sink, N: NamedSink, G: Ga
         Ok(Some(Command::Decode)) => Outcome::Decode(decoded(alloc, input, output)),
         Ok(Some(Command::Check)) => Outcome::Check(judged(alloc, input)),
         Ok(Some(Command::Make(seed))) => Outcome::Make(made(rt, alloc, seed, output, gate)),
+        Ok(Some(Command::Cut(meant))) => Outcome::Cut(cut_out(alloc, &meant, input, output)),
         Ok(Some(Command::Pack(header))) => {
             Outcome::Pack(packed_frames(alloc, &header, input, output))
         }
@@ -97,7 +99,8 @@ fn reported<E: Sink>(alloc: Global, outcome: &Outcome, report: &mut E) -> Status
 /// video, in display order. `check` says of the stream of `input` whether it keeps the rules of its level, and whether the
 /// decoder's buffer bears it. `make SEED` writes a large lawful stream of a seed. `encode` codes the raw frames of `input`
 /// to `output` by its options, with workers that `rt` runs and `gate` lets in; where its words name a file, `recon` is
-/// opened under this name, and gets the frames that the stream decodes to. `pack W H CODE` writes the raw frames of `input` as a
+/// opened under this name, and gets the frames that the stream decodes to. `cut FROM COUNT` copies whole groups of the
+/// stream of `input` to `output`, so many from number FROM on. `pack W H CODE` writes the raw frames of `input` as a
 /// YUV4MPEG2 text, and `unpack` the frames of such a text as raw video.
 pub fn run<R: Threads + Wait + Sync, S: Source, K: Sink, N: NamedSink, E: Sink, G: Gate + Sync>(
     rt: &R,

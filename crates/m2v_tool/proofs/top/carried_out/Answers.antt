@@ -52,3 +52,9 @@ unfolding Comes
 returns-in-Ok-Some-Unpack-clause-comes g c =
     let read = c.in-Ok-Some-Unpack in
     (means_of _ _ _ _ read.field-0-is read.field-0-0-is read.ensures.found, c.unpacked.ensures.comes, refl)
+
+pub returns-in-Ok-Some-Cut-clause-comes : goal.returns-in-Ok-Some-Cut-clause-comes
+unfolding Comes
+returns-in-Ok-Some-Cut-clause-comes g c =
+    let read = c.in-Ok-Some-Cut in
+    (_, means_of _ _ _ _ read.field-0-is read.field-0-0-is read.ensures.found, c.cut_out.ensures.comes, refl)
