@@ -6,6 +6,8 @@ use Rattle.m2v_port.proofs.Runs.{tells}
 use Rattle.m2v_decode.specs.Answers.{OfText}
 use Rattle.m2v_decode.proofs.AnswerLaws.{of_text}
 use Rattle.m2v_group.specs.Groups.{cut_text}
+use Rattle.m2v_group.specs.Chosen.{CutDecodes}
+use Rattle.m2v_group.proofs.Decodes.{cut_law}
 use Rattle.m2v_cut.specs.declared.answer.CutSummary.{CutSummary}
 use Rattle.m2v_cut.specs.declared.answer.CutError.{CutError}
 use Rattle.m2v_cut.specs.declared.answer.CutError.TheVariants as errors
@@ -71,12 +73,16 @@ module _ (r : Run) (w : CutWords) where
     cut_as s a is well (Yields.write eight f) = absurd (well.output f)
     cut_as s a is well (Yields.memory twelve) = inr twelve
 
+  decodes_by : Tells r.input (λ text. CutDecodes text w.from w.count)
+  decodes_by = tells r.input (λ text. CutDecodes text w.from w.count) (λ text told. cut_law text w.from w.count)
+
   pub cut_keeps : (o : CutOutcome) → CutComes w r.input r.output o → Told (cut_ending o) r.status r.report → r.recon.Unchanged → CutKeeps w r
   cut_keeps o c t k = record {
     unfit = unfit_at o c t k;
     answer = λ some. tells r.input (λ text. Yields r (CutAnswer r w text (answer_to text w.from w.count))) (λ text told. answer_at text told o some c t);
     cut = λ some. tells r.input (λ text. (s : CutSummary) → answer_to text w.from w.count ≡ Ok s → NoneFailed r → Succeeds r)
         (λ text told s is well. cut_as text told s (answer_to text w.from w.count) is well (answer_at text told o some c t));
+    decodes = decodes_by;
   }
 
   -- where memory ran out before the words were read
@@ -85,4 +91,5 @@ module _ (r : Run) (w : CutWords) where
     unfit = λ none. (inr is, untouched);
     answer = λ some. tells r.input (λ text. Yields r (CutAnswer r w text (answer_to text w.from w.count))) (λ text told. Yields.memory is);
     cut = λ some. tells r.input (λ text. (s : CutSummary) → answer_to text w.from w.count ≡ Ok s → NoneFailed r → Succeeds r) (λ text told s a well. inr is);
+    decodes = decodes_by;
   }

@@ -8,6 +8,7 @@ use Rattle.m2v_set.specs.declared.unfit.Unfit.{Unfit}
 use Rattle.m2v_model.specs.Pieces.{too_long, too_large}
 use Rattle.m2v_decode.specs.Answers.{OfText}
 use Rattle.m2v_group.specs.Groups.{cut_text}
+use Rattle.m2v_group.specs.Chosen.{CutDecodes}
 use Rattle.m2v_cut.specs.declared.answer.CutSummary.{CutSummary}
 use Rattle.m2v_cut.specs.declared.answer.CutError.{CutError}
 use Rattle.m2v_cut.specs.declared.answer.CutError.TheVariants as errors
@@ -99,10 +100,11 @@ pub data CutAnswer (r : Run) (w : CutWords) (text : List ℕ) : Result CutSummar
   refused : {e : CutError} → Told (cutting_stopped e) r.status r.report → CutAnswer r w text (Err e)
 
 -- What is answered to `cut`: no group is asked for, and nothing else is looked at; a text is answered by its one answer;
--- and a group that is there and stands alone, under the limits, is cut out.
+-- a group that is there and stands alone, under the limits, is cut out; and what the text of the cut decodes to.
 pub record CutKeeps (w : CutWords) (r : Run) : Type 0 where
   pub unfit : w.count ≡ 0 → RefusedBy 3 r
   pub answer : 1 ≤ w.count
       → Tells r.input (λ text. Yields r (CutAnswer r w text (answer_to text w.from w.count)))
   pub cut : 1 ≤ w.count → Tells r.input (λ text. (s : CutSummary)
       → answer_to text w.from w.count ≡ Ok s → NoneFailed r → Succeeds r)
+  pub decodes : Tells r.input (λ text. CutDecodes text w.from w.count)

@@ -1,0 +1,141 @@
+-- Bytes that are written one part after another.
+use Rattle.std.proofs.Common.{◌≡◌, ℕ, zero, suc, ◌+◌, ◌-◌, ◌<◌, ◌≤◌, Bool, true, false, List, [], ◌∷◌, ◌++◌, length, take, drop, replicate, min, max, Option, Some, None, refl, sym, ap, subst, ◌∙◌, append_assoc, inl, inr, arith}
+use Rattle.std.specs.Prelude.{slice_index, vec_len}
+use Rattle.std.proofs.lemmas.Bool.{cases_lt}
+use Rattle.std.proofs.lemmas.List.{append-nil, length-append, take-append-le, drop-append-le, take-replicate, drop-replicate, length-replicate, replicate-append-replicate, take_all, drop_all, length-drop}
+use Rattle.m2v_port.specs.Ends.{Change, change}
+use Rattle.m2v_port.specs.Port.{Grows, GrowsByPrefix}
+use Rattle.m2v_port.proofs.Runs.{rose_since, grows_on, prefix_on, prefix_of_more}
+use Rattle.m2v_piece.specs.declared.answer.Piece.{Piece}
+use Rattle.m2v_piece.specs.Sound.{IsSoundPiece}
+use Rattle.m2v_decoder.specs.Decoding.{whole_of}
+use Rattle.m2v_cut.specs.declared.answer.CutError.{CutError}
+use Rattle.m2v_cut.specs.declared.answer.CutError.TheVariants as errors
+use Rattle.m2v_group.specs.Groups.{with_broken_link}
+use Rattle.m2v_cut.specs.Progress.{Cuts, part, head_of}
+
+-- The output's states are o0, o1 and so on.
+module _ {K : Type 0} (held : K → Option (List ℕ)) (output_faults : K → ℕ) where
+  abbrev output : K → K → Change
+  output = change held output_faults
+
+  -- more was to be written
+  pub cuts_more : (o0 o1 : K) (bytes more : List ℕ) (e : CutError) → Cuts bytes (output o0 o1) e → Cuts (bytes ++ more) (output o0 o1) e
+  cuts_more o0 o1 bytes more errors.Read cut = absurd cut
+  cuts_more o0 o1 bytes more errors.Write cut = (cut.0, prefix_of_more cut.1 more)
+  cuts_more o0 o1 bytes more (errors.NoGroup have need) cut = absurd cut
+  cuts_more o0 o1 bytes more (errors.NotCuttable place) cut = absurd cut
+  cuts_more o0 o1 bytes more errors.TooLong cut = absurd cut
+  cuts_more o0 o1 bytes more errors.PictureTooLarge cut = absurd cut
+  cuts_more o0 o1 bytes more errors.Memory cut = prefix_of_more cut more
+
+  -- some was written before
+  pub cuts_on : (o0 o1 o2 : K) (bytes more : List ℕ) (e : CutError) → output_faults o0 ≤ output_faults o1 → Grows (held o0) bytes (held o1) → Cuts more (output o1 o2) e → Cuts (bytes ++ more) (output o0 o2) e
+  cuts_on o0 o1 o2 bytes more errors.Read le grown cut = absurd cut
+  cuts_on o0 o1 o2 bytes more errors.Write le grown cut = (rose_since le cut.0, prefix_on grown cut.1)
+  cuts_on o0 o1 o2 bytes more (errors.NoGroup have need) le grown cut = absurd cut
+  cuts_on o0 o1 o2 bytes more (errors.NotCuttable place) le grown cut = absurd cut
+  cuts_on o0 o1 o2 bytes more errors.TooLong le grown cut = absurd cut
+  cuts_on o0 o1 o2 bytes more errors.PictureTooLarge le grown cut = absurd cut
+  cuts_on o0 o1 o2 bytes more errors.Memory le grown cut = prefix_on grown cut
+
+  -- zero bytes, of which some were written
+  pub zeros_on : (o0 o1 o2 : K) (zeros left n : ℕ) → n ≤ left → left ≤ zeros → Grows (held o0) (replicate (zeros - left) 0) (held o1) → Grows (held o1) (replicate n 0) (held o2) → Grows (held o0) (replicate (zeros - (left - n)) 0) (held o2)
+  zeros_on o0 o1 o2 zeros left n le less grown next =
+      let e : (zeros - left) + n ≡ zeros - (left - n) = omega arith in
+      subst (λ (b : List ℕ). Grows (held o0) b (held o2)) (replicate-append-replicate (zeros - left) n 0 ∙ ap (λ (k : ℕ). replicate k 0) e) (grows_on grown next)
+
+  pub zeros_cut : (o0 o1 o2 : K) (zeros left n : ℕ) (e : CutError) → n ≤ left → left ≤ zeros → output_faults o0 ≤ output_faults o1 → Grows (held o0) (replicate (zeros - left) 0) (held o1) → Cuts (replicate n 0) (output o1 o2) e → Cuts (replicate zeros 0) (output o0 o2) e
+  zeros_cut o0 o1 o2 zeros left n e le less faults grown cut =
+      let q : ((zeros - left) + n) + (left - n) ≡ zeros = omega arith in
+      subst (λ (b : List ℕ). Cuts b (output o0 o2) e) (replicate-append-replicate ((zeros - left) + n) (left - n) 0 ∙ ap (λ (k : ℕ). replicate k 0) q)
+      (cuts_more o0 o2 (replicate ((zeros - left) + n) 0) (replicate (left - n) 0) e
+      (subst (λ (b : List ℕ). Cuts b (output o0 o2) e) (replicate-append-replicate (zeros - left) n 0) (cuts_on o0 o1 o2 (replicate (zeros - left) 0) (replicate n 0) e faults grown cut)))
+
+pub of_buffer : (n most : ℕ) → n ≤ most → take {A = ℕ} n (replicate most 0) ≡ replicate n 0
+of_buffer n most le = take-replicate n most 0 le
+
+-- ---- a part of bytes with zero bytes behind them
+
+drop_behind : (n : ℕ) (xs ys : List ℕ) → length xs ≤ n → drop n (xs ++ ys) ≡ drop (n - length xs) ys
+drop_behind n [] ys le = let e : n ≡ n - 0 = omega arith in ap (λ (k : ℕ). drop k ys) e
+drop_behind zero (x ∷ xs) ys le = absurd (omega arith)
+drop_behind (suc n) (x ∷ xs) ys le =
+    let e : n - length xs ≡ suc n - suc (length xs) = omega arith in
+    drop_behind n xs ys (omega arith) ∙ ap (λ (k : ℕ). drop k ys) e
+
+take_behind : (n : ℕ) (xs ys : List ℕ) → length xs ≤ n → take n (xs ++ ys) ≡ xs ++ take (n - length xs) ys
+take_behind n [] ys le = let e : n ≡ n - 0 = omega arith in ap (λ (k : ℕ). take k ys) e
+take_behind zero (x ∷ xs) ys le = absurd (omega arith)
+take_behind (suc n) (x ∷ xs) ys le =
+    let e : n - length xs ≡ suc n - suc (length xs) = omega arith in
+    ap (λ (t : List ℕ). x ∷ t) (take_behind n xs ys (omega arith) ∙ ap (λ (k : ℕ). xs ++ take k ys) e)
+
+-- the same numbers, written otherwise
+renumbered : (bs : List ℕ) (a a' b b' c c' : ℕ) → a ≡ a' → b ≡ b' → c ≡ c' → take (a - b) (drop b bs) ++ replicate c 0 ≡ take (a' - b') (drop b' bs) ++ replicate c' 0
+renumbered bs a a' b b' c c' p q r = λ i. take (p i - q i) (drop (q i) bs) ++ replicate (r i) 0
+
+part_is : (from to : ℕ) (bs : List ℕ) (z : ℕ) → from ≤ to → to ≤ length bs + z
+    → part from to (bs ++ replicate z 0) ≡ take (min to (length bs) - min from (length bs)) (drop (min from (length bs)) bs) ++ replicate (max to (length bs) - max from (length bs)) 0
+part_is from to bs z le within = elim (cases_lt (length bs) to) [
+  | inr low ↦
+      ap (take (to - from)) (drop-append-le from bs (replicate z 0) (omega arith))
+      ∙ take-append-le (to - from) (drop from bs) (replicate z 0) (omega (arith, length-drop from bs))
+      ∙ sym (append-nil (take (to - from) (drop from bs)))
+      ∙ renumbered bs to (min to (length bs)) from (min from (length bs)) 0 (max to (length bs) - max from (length bs)) (omega arith) (omega arith) (omega arith)
+  | inl high ↦ elim (cases_lt (length bs) from) [
+    | inr mid ↦
+        ap (take (to - from)) (drop-append-le from bs (replicate z 0) (omega arith))
+        ∙ take_behind (to - from) (drop from bs) (replicate z 0) (omega (arith, length-drop from bs))
+        ∙ ap (λ (t : List ℕ). t ++ take ((to - from) - length (drop from bs)) (replicate z 0)) (sym (take_all (length bs - from) (drop from bs) (omega (arith, length-drop from bs))))
+        ∙ ap (λ (t : List ℕ). take (length bs - from) (drop from bs) ++ t) (take-replicate ((to - from) - length (drop from bs)) z 0 (omega (arith, length-drop from bs)))
+        ∙ renumbered bs (length bs) (min to (length bs)) from (min from (length bs)) ((to - from) - length (drop from bs)) (max to (length bs) - max from (length bs)) (omega arith) (omega arith) (omega (arith, length-drop from bs))
+    | inl far ↦
+        let none : min to (length bs) - min from (length bs) ≡ 0 = omega arith in
+        ap (take (to - from)) (drop_behind from bs (replicate z 0) (omega arith) ∙ drop-replicate (from - length bs) z 0)
+        ∙ take-replicate (to - from) (z - (from - length bs)) 0 (omega arith)
+        ∙ ap (λ (k : ℕ). take k (drop (min from (length bs)) bs) ++ replicate (to - from) 0) (sym none)
+        ∙ ap (λ (k : ℕ). take (min to (length bs) - min from (length bs)) (drop (min from (length bs)) bs) ++ replicate k 0) (omega arith)
+  ]
+]
+
+-- a part of a piece, as it is written
+pub part_written : (p : Piece) (from to lo hi bottom top kept : ℕ) (now : List ℕ) → IsSoundPiece p → from ≤ to → to ≤ p.length → now ≡ p.bytes.items → kept ≡ vec_len p.bytes
+    → lo ≡ min from kept → hi ≡ min to kept → bottom ≡ max from kept → top ≡ max to kept
+    → take (hi - lo) (drop lo now) ++ replicate (top - bottom) 0 ≡ part from to (whole_of p)
+part_written p from to lo hi bottom top kept now sound le within is k a b c d =
+    let n = length p.bytes.items in
+    let len : kept ≡ n = omega (arith, k, p.bytes.ok.0) in
+    let a' : lo ≡ min from n = a ∙ ap (λ (x : ℕ). min from x) len in
+    let b' : hi ≡ min to n = b ∙ ap (λ (x : ℕ). min to x) len in
+    let c' : bottom ≡ max from n = c ∙ ap (λ (x : ℕ). max from x) len in
+    let d' : top ≡ max to n = d ∙ ap (λ (x : ℕ). max to x) len in
+    (λ i. take (b' i - a' i) (drop (a' i) (is i)) ++ replicate (d' i - c' i) 0)
+    ∙ sym (part_is from to p.bytes.items (p.length - vec_len p.bytes) le (omega (arith, sound.kept, k, len)))
+
+-- ---- the first piece with another byte in its group header
+
+pub rest_part : (from : ℕ) (whole : List ℕ) → part from (length whole) whole ≡ drop from whole
+rest_part from whole = take_all (length whole - from) (drop from whole) (omega (arith, length-drop from whole))
+
+module _ {K : Type 0} (held : K → Option (List ℕ)) (output_faults : K → ℕ) where
+  -- the byte wasn't written
+  pub byte_cut : (o0 o1 o2 : K) (whole : List ℕ) (sequence header : ℕ) (behind : Bool) (byte : ℕ) (e : CutError) → behind ≡ true → byte ≡ with_broken_link (slice_index whole (header + 7)) → output_faults o0 ≤ output_faults o1
+      → Grows (held o0) (part sequence (header + 7) whole) (held o1) → Cuts (byte ∷ []) (change held output_faults o1 o2) e → Cuts (head_of whole sequence header behind) (change held output_faults o0 o2) e
+  byte_cut o0 o1 o2 whole sequence header behind byte e on is le grown cut =
+      let front : List ℕ = part sequence (header + 7) whole in
+      let rest : List ℕ = drop (header + 8) whole in
+      let all : (front ++ byte ∷ []) ++ rest ≡ head_of whole sequence header behind = append_assoc front (byte ∷ []) rest ∙ ap (λ (b : ℕ). front ++ b ∷ rest) is ∙ rw on refl in
+      subst (λ (b : List ℕ). Cuts b (change held output_faults o0 o2) e) all
+      (cuts_more held output_faults o0 o2 (front ++ byte ∷ []) rest e (cuts_on held output_faults o0 o1 o2 front (byte ∷ []) e le grown cut))
+
+  -- the bytes behind it weren't written whole
+  pub rest_cut : (o0 o1 o2 o3 : K) (whole : List ℕ) (sequence header end : ℕ) (behind : Bool) (byte : ℕ) (e : CutError) → behind ≡ true → byte ≡ with_broken_link (slice_index whole (header + 7)) → end ≡ length whole → output_faults o0 ≤ output_faults o2
+      → Grows (held o0) (part sequence (header + 7) whole) (held o1) → Grows (held o1) (byte ∷ []) (held o2) → Cuts (part (header + 8) end whole) (change held output_faults o2 o3) e → Cuts (head_of whole sequence header behind) (change held output_faults o0 o3) e
+  rest_cut o0 o1 o2 o3 whole sequence header end behind byte e on is length_is le grown next cut =
+      let front : List ℕ = part sequence (header + 7) whole in
+      let rest : List ℕ = drop (header + 8) whole in
+      let all : (front ++ byte ∷ []) ++ rest ≡ head_of whole sequence header behind = append_assoc front (byte ∷ []) rest ∙ ap (λ (b : ℕ). front ++ b ∷ rest) is ∙ rw on refl in
+      subst (λ (b : List ℕ). Cuts b (change held output_faults o0 o3) e) all
+      (cuts_on held output_faults o0 o2 o3 (front ++ byte ∷ []) rest e le (grows_on grown next)
+      (subst (λ (b : List ℕ). Cuts b (change held output_faults o2 o3) e) (ap (λ (n : ℕ). part (header + 8) n whole) length_is ∙ rest_part (header + 8) whole) cut))

@@ -1,0 +1,5 @@
+pub mod Answers
+pub mod Behind
+pub mod Looks
+pub mod Progress
+pub mod Starts
