@@ -78,7 +78,11 @@ impl CutOutcome {
                 &[u128::from(n.groups), u128::from(n.bytes)],
             ),
             CutOutcome::NoneAsked => {
-                let none_asked = Unfit { rule: 9, have: 0, need: 1 };
+                let none_asked = Unfit {
+                    rule: 9,
+                    have: 0,
+                    need: 1,
+                };
                 unfit(alloc, &none_asked)
             }
             CutOutcome::Stopped(error) => stopped(alloc, error),
