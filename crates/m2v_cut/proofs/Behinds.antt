@@ -1,5 +1,6 @@
 -- The pieces behind a group's first one.
-use Rattle.std.proofs.Common.{◌≡◌, ◌⊎◌, ℕ, ◌+◌, ◌≤◌, ◌<◌, Bool, true, false, List, [], ◌∷◌, ◌++◌, length, Option, Some, None, inl, inr, refl, sym, ap, subst, ◌∙◌, append_assoc, arith}
+use Rattle.std.proofs.Common.{◌≡◌, ◌⊎◌, ℕ, ◌+◌, ◌≤◌, ◌<◌, Bool, true, false, List, [], ◌∷◌, ◌++◌, length, Option, Some, None, Result, Ok, Err, inl, inr, refl, sym, ap, subst, ◌∙◌, append_assoc, arith}
+use Rattle.std.specs.Prelude.{IfErr, OnOk}
 use Rattle.std.proofs.lemmas.List.{append-nil}
 use Rattle.m2v_port.specs.Ends.{Change, change}
 use Rattle.m2v_port.specs.Port.{Moves, Grows, GrowsByPrefix}
@@ -19,6 +20,16 @@ use Rattle.m2v_cut.specs.Starts.{piece_list}
 use Rattle.m2v_cut.specs.Behind.{BehindPut, BehindCut, BehindStops, BehindFails}
 use Rattle.m2v_cut.proofs.Joins.{groups_on, bytes_on}
 use Rattle.m2v_cut.proofs.Onwards.{onward_none}
+
+-- ---- answers that are handed on
+
+pub on_ok_weaker : {T E P Q : Type 0} (result : Result T E) → (P → Q) → OnOk result P → OnOk result Q
+on_ok_weaker (Ok x) f p = f p
+on_ok_weaker (Err e) f p = tt
+
+pub if_err_weaker : {T E : Type 0} {P Q : E → Type 0} (result : Result T E) → ((e : E) → P e → Q e) → IfErr result P → IfErr result Q
+if_err_weaker (Ok x) f p = tt
+if_err_weaker (Err e) f p = f e p
 
 -- what writing the second piece did
 pub record Begun (before : List (List ℕ)) (old mid : Copied) (held : Change) : Type 0 where

@@ -112,7 +112,7 @@ unfolding first_picture
 frame_is heads tail z ends f second later none pictured last apart at_end s looked l =
     intra_is heads tail z none pictured last
     ∙ frame_numbers (λ k. is_first k (first_picture (heads ++ (tail ++ z)))) (λ k. is_first k (first_picture z)) f.intra f.structure
-        (λ k. first_same (suc k) heads tail z ends none pictured last apart at_end (splits_begin later z s) ∙ looked_number k (first_picture (heads ++ (tail ++ ends))) f looked)
+    (λ k. first_same (suc k) heads tail z ends none pictured last apart at_end (splits_begin later z s) ∙ looked_number k (first_picture (heads ++ (tail ++ ends))) f looked)
     ∙ by_second second l
   where
     by_second : (o : Option Piece) → LooksAt o f later → frame_of (λ k. f.intra && nat_eq f.structure k) (λ k. is_first k (first_picture z)) ≡ is_intra_frame f o
@@ -125,7 +125,7 @@ frame_is heads tail z ends f second later none pictured last apart at_end s look
         let found : Option (List ℕ × List ℕ) = first_picture us in
         let t : Splits (whole_of p ∷ m.1.0) z = subst (λ (ps : List (List ℕ)). Splits ps z) m.1.1 s in
         next_numbers (λ k. f.intra && nat_eq f.structure k) (λ k. is_first k (first_picture z)) (has_intra found) (picture_structure found)
-            (λ k. second_same (suc k) (whole_of p) m.1.0 z t ∙ first_numbers k found)
+        (λ k. second_same (suc k) (whole_of p) m.1.0 z t ∙ first_numbers k found)
         ∙ frame_second f.intra f.structure (has_intra found) (picture_structure found) m.0
 
 -- ---- a group's piece behind others
@@ -219,15 +219,15 @@ decided from n us first w later start second a begins is looks =
     let long : start.long ≡ nat_le 8 (length o.head) = is.long ∙ ap is_long behind ∙ is_long_head (from_group n one.vs) one.ends o.head (o.heads ++ shape.tail) o.is in
     let after : drop 1 (from_group n (cut 0 w).1) ≡ o.heads ++ (shape.tail ++ one.ends) = ap (drop 1) behind ∙ ap (λ (l : Units). drop 1 (l ++ one.ends)) o.is ∙ append_assoc o.heads shape.tail one.ends in
     let frame = frame_is o.heads shape.tail a.rest one.ends start.first second later o.none shape.pictured (none_behind later a.rest shape.tail one.ends one.follows a.others) one.apart one.at_end a.others
-        (subst (λ (l : Units). IsLooked (first_picture l) start.first) after is.first) looks in
+    (subst (λ (l : Units). IsLooked (first_picture l) start.first) after is.first) looks in
     let all : from_group from us ≡ o.head ∷ (o.heads ++ (shape.tail ++ a.rest)) = st.behind ∙ ap (λ (l : Units). l ++ a.rest) o.is ∙ ap (λ (l : Units). o.head ∷ l) (append_assoc o.heads shape.tail a.rest) in
     let text : us ≡ a.front ++ (one.vs ++ a.rest) = a.is ∙ ap (λ (l : Units). a.front ++ l) one.is in
     let place : IsSequencePlace start.sequence (cut 0 w).1 (before_group n one.vs) (from_group n (cut 0 w).1) = subst (λ (l : Units). IsSequencePlace start.sequence (cut 0 w).1 l (from_group n (cut 0 w).1)) before is.sequence in
     (λ i. stands_alone (st.before i) (all i))
     ∙ (λ i. not (has_picture (from_last_sequence (a.front ++ before_group n one.vs))) && (sym long i && frame i))
     ∙ by_sequence (has_picture (from_last_sequence (a.front ++ before_group n one.vs))) (start.long && is_intra_frame start.first second) start.sequence
-        (λ on. alone_before n a.front one.vs shape a.here (there start.sequence (cut 0 w).1 (before_group n one.vs) (from_group n (cut 0 w).1) place on))
-        (λ off. sequence_behind_picture n first a.front one.vs a.rest a.fulls (subst BeginsSequence text begins) a.here (missing start.sequence (cut 0 w).1 (before_group n one.vs) (from_group n (cut 0 w).1) place off))
+    (λ on. alone_before n a.front one.vs shape a.here (there start.sequence (cut 0 w).1 (before_group n one.vs) (from_group n (cut 0 w).1) place on))
+    (λ off. sequence_behind_picture n first a.front one.vs a.rest a.fulls (subst BeginsSequence text begins) a.here (missing start.sequence (cut 0 w).1 (before_group n one.vs) (from_group n (cut 0 w).1) place off))
   where
     there : (q : Option ℕ) (us b f : Units) → IsSequencePlace q us b f → is_some q ≡ true → has_sequence b ≡ true
     there None us b f p on = absurd cc

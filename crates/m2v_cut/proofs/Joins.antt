@@ -74,8 +74,8 @@ module _ {S : Type 0} (left : S → Option (List ℕ)) (input_faults : S → ℕ
   pub progress_on : (i0 i1 i2 : S) (c c' : Cutting) (first read : List (List ℕ)) → Progress (input i0 i1) c first → Onward (left i1) (left i2) c c' read → Progress (input i0 i2) c' (first ++ read)
   progress_on i0 i1 i2 c c' first read so on =
       let taken : (rest : List ℕ) → left i2 ≡ Some rest → c'.place + length c'.unread ≤ length (so.bytes ++ on.bytes) = λ rest e.
-          let mid = moved_some (left i1) (left i2) on.bytes rest on.moved e in
-          omega (arith, on.keeps (on.bytes ++ rest) rest mid e, so.taken (on.bytes ++ rest) mid, length-append on.bytes rest, length-append so.bytes on.bytes) in
+      let mid = moved_some (left i1) (left i2) on.bytes rest on.moved e in
+      omega (arith, on.keeps (on.bytes ++ rest) rest mid e, so.taken (on.bytes ++ rest) mid, length-append on.bytes rest, length-append so.bytes on.bytes) in
       record {
         bytes = so.bytes ++ on.bytes;
         moved = moves_on so.moved on.moved;

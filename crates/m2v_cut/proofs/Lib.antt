@@ -16,3 +16,9 @@ mod Limits
 mod Prefixes
 mod Finals
 mod Behinds
+mod Outcomes
+mod Parts
+mod Wholes
+mod Refusals
+mod Seconds
+mod Stops

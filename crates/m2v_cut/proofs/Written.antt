@@ -32,19 +32,19 @@ head_is xs ss h rs true long =
     let m : (length xs + length ss) + 8 ≡ length xs + (length ss + 8) = omega arith in
     let k : ((length xs + length ss) + 7) - length xs ≡ length ss + 7 = omega arith in
     let front : part (length xs) ((length xs + length ss) + 7) (xs ++ (ss ++ (h ++ rs))) ≡ ss ++ take 7 h =
-        (λ i. take (k i) (drop-append_seam xs (ss ++ (h ++ rs)) i))
-        ∙ take-append-add ss (h ++ rs) 7
-        ∙ ap (λ (l : List ℕ). ss ++ l) (take-append-le 7 h rs (omega (arith, long))) in
+    (λ i. take (k i) (drop-append_seam xs (ss ++ (h ++ rs)) i))
+    ∙ take-append-add ss (h ++ rs) 7
+    ∙ ap (λ (l : List ℕ). ss ++ l) (take-append-le 7 h rs (omega (arith, long))) in
     let byte : slice_index (xs ++ (ss ++ (h ++ rs))) ((length xs + length ss) + 7) ≡ slice_index h 7 =
-        ap (slice_index (xs ++ (ss ++ (h ++ rs)))) n
-        ∙ get_or-append-add xs (ss ++ (h ++ rs)) (length ss + 7) 0
-        ∙ get_or-append-add ss (h ++ rs) 7 0
-        ∙ get_or_append_left h rs 0 7 (omega (arith, long)) in
+    ap (slice_index (xs ++ (ss ++ (h ++ rs)))) n
+    ∙ get_or-append-add xs (ss ++ (h ++ rs)) (length ss + 7) 0
+    ∙ get_or-append-add ss (h ++ rs) 7 0
+    ∙ get_or_append_left h rs 0 7 (omega (arith, long)) in
     let back : drop ((length xs + length ss) + 8) (xs ++ (ss ++ (h ++ rs))) ≡ drop 8 h ++ rs =
-        ap (λ (i : ℕ). drop i (xs ++ (ss ++ (h ++ rs)))) m
-        ∙ drop-append-add xs (ss ++ (h ++ rs)) (length ss + 8)
-        ∙ drop-append-add ss (h ++ rs) 8
-        ∙ drop-append-le 8 h rs long in
+    ap (λ (i : ℕ). drop i (xs ++ (ss ++ (h ++ rs)))) m
+    ∙ drop-append-add xs (ss ++ (h ++ rs)) (length ss + 8)
+    ∙ drop-append-add ss (h ++ rs) 8
+    ∙ drop-append-le 8 h rs long in
     (λ i. front i ++ with_broken_link (byte i) ∷ back i)
     ∙ append_assoc ss (take 7 h) (with_broken_link (slice_index h 7) ∷ (drop 8 h ++ rs))
     ∙ ap (λ (l : List ℕ). ss ++ l) (sym (append_assoc (take 7 h) (with_broken_link (slice_index h 7) ∷ drop 8 h) rs))
@@ -176,15 +176,15 @@ written from n count us first w later start second sequence bytes a r is can pic
     let empty : joined one.ends ≡ [] = ap joined r.none in
     let parts : one.vs ≡ l.front ++ (ls ++ from_group n one.vs) = o.whole ∙ ap (λ (x : Units). x ++ from_group n one.vs) l.is ∙ append_assoc l.front ls (from_group n one.vs) in
     let all : (cut 0 w).1 ≡ l.front ++ (ls ++ from_group n (cut 0 w).1) =
-        wu ∙ ap (λ (x : Units). x ++ one.ends) parts ∙ append_assoc l.front (ls ++ from_group n one.vs) one.ends
-        ∙ ap (λ (x : Units). l.front ++ x) (append_assoc ls (from_group n one.vs) one.ends ∙ ap (λ (x : Units). ls ++ x) (sym behind)) in
+    wu ∙ ap (λ (x : Units). x ++ one.ends) parts ∙ append_assoc l.front (ls ++ from_group n one.vs) one.ends
+    ∙ ap (λ (x : Units). l.front ++ x) (append_assoc ls (from_group n one.vs) one.ends ∙ ap (λ (x : Units). ls ++ x) (sym behind)) in
     let q = places l.front ls [] [] (cut 0 w).1 (from_last_sequence (before_group n (cut 0 w).1)) (from_group n (cut 0 w).1) sequence start.header all (ap from_last_sequence before) at.1 is.header in
     let whole : w ≡ joined l.front ++ (joined ls ++ (o.head ++ joined hr)) =
-        one.whole ∙ ap (λ (x : Units). joined (one.vs ++ x)) r.none ∙ ap joined (append-nil one.vs ∙ parts) ∙ joined-append l.front (ls ++ from_group n one.vs)
-        ∙ ap (λ (x : List ℕ). joined l.front ++ x) (joined-append ls (from_group n one.vs) ∙ ap (λ (x : Units). joined ls ++ joined x) o.is) in
+    one.whole ∙ ap (λ (x : Units). joined (one.vs ++ x)) r.none ∙ ap joined (append-nil one.vs ∙ parts) ∙ joined-append l.front (ls ++ from_group n one.vs)
+    ∙ ap (λ (x : List ℕ). joined l.front ++ x) (joined-append ls (from_group n one.vs) ∙ ap (λ (x : Units). joined ls ++ joined x) o.is) in
     let flag : has_picture (a.front ++ bs) ≡ are_some first = picture-append a.front bs ∙ (λ i. fulls_picture first a.front a.fulls i || o.before i) ∙ or_false (are_some first) in
     let chosen : behind_cut (a.front ++ bs) (from_group n one.vs ++ picks.taken) ≡ (if are_some first then broken_header o.head else o.head) ∷ (hr ++ picks.taken) =
-        ap (λ (x : Units). behind_cut (a.front ++ bs) (x ++ picks.taken)) o.is ∙ chosen_byte (a.front ++ bs) (are_some first) o.head (hr ++ picks.taken) flag in
+    ap (λ (x : Units). behind_cut (a.front ++ bs) (x ++ picks.taken)) o.is ∙ chosen_byte (a.front ++ bs) (are_some first) o.head (hr ++ picks.taken) flag in
     let header : List ℕ = if are_some first then broken_header o.head else o.head in
     ap joined (cut_taken from count n us a.front one.vs a.rest (from_group n one.vs ++ picks.taken) st on picks.is ∙ ap (λ (x : Units). ls ++ x) chosen)
     ∙ joined-append ls (header ∷ (hr ++ picks.taken))

@@ -4,6 +4,7 @@
 #![tactic(auto)]
 
 mod answer;
+mod behind;
 mod copy;
 mod find;
 mod look;

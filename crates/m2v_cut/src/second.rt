@@ -1,7 +1,7 @@
 //! The second piece of a group's first frame.
 ghost use Rattle.std.specs.Prelude.{◌≡◌, ◌⊎◌, ◌+◌, ◌≤◌, ◌^◌, true, false, IfOk, IfErr, IfSome, OnOk};
 ghost use Rattle.m2v_port.specs.Ends.{change};
-ghost use Rattle.m2v_cut.specs.Starts.{Second, SecondFails};
+ghost use Rattle.m2v_cut.specs.Starts.{Second, SecondFails, is_field_number};
 
 use crate::answer::CutError;
 use crate::find::reading;
@@ -25,6 +25,7 @@ pub fn second_piece<S: Source>(
         cutter.old cutter.new) }
     ensures err { IfErr result (SecondFails
         (change S.left S.faults input.old input.new) cutter.old) }
+    ensures field { IfErr result (λ e. is_field_number picture.structure ≡ true) }
     ensures going { OnOk result (cutter.new.failed ≡ false) }
     ensures begun { OnOk result ((cutter.new.begun ≡ true) ⊎ (cutter.new.ended ≡ true)) }
     ensures room { IfOk result (λ p. IfSome p (λ q. cutter.old.place + q.length ≤ cutter.new.place)) }

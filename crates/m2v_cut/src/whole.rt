@@ -1,12 +1,15 @@
-ghost use Rattle.std.specs.Prelude.{◌≡◌, ◌+◌, ◌^◌, ◌≤◌, ◌<◌, true, false, length, IsTrue, IfOk, IfErr};
+ghost use Rattle.std.specs.Prelude.{◌≡◌, ℕ, ◌+◌, ◌^◌, ◌≤◌, ◌<◌, true, false, length, IsTrue, IfOk, IfErr};
 ghost use Rattle.m2v_port.specs.Ends.{change, Tells, SinkStays};
 ghost use Rattle.m2v_decode.specs.Answers.{OfText};
 ghost use Rattle.m2v_piece.specs.Sound.{IsSoundPiece};
 ghost use Rattle.m2v_decoder.specs.Decoding.{whole_of};
+ghost use Rattle.m2v_group.specs.Chosen.{CutDecodes};
 ghost use Rattle.m2v_cut.specs.Answers.{IsCutOut, Fails, Gives, answer_to, groups_of};
+ghost use Rattle.m2v_cut.specs.Progress.{IsFound};
 
 use crate::answer::{CutError, CutSummary};
-use crate::copy::{Copied, put_rest, put_second};
+use crate::behind::put_behind;
+use crate::copy::Copied;
 use crate::find::{Found, find};
 use crate::put::{put, put_first};
 use crate::second::second_piece;
@@ -35,6 +38,17 @@ fn cut_from<S: Source, K: Sink>(
     requires begun { cutter.old.begun ≡ true }
     requires low { cutter.old.place ≤ 2 ^ 36 }
     requires output { IsTrue (K.ready output.old) }
+    // Whatever was read up to the group.
+    ensures ok { (from : ℕ) (first : S)
+        → IsFound from (change S.left S.faults first input.old) cutter.old found
+        → IfOk result (λ s. OfText
+        (change S.left S.faults first input.new) (λ text. IsCutOut text from count
+        (change K.held K.faults output.old output.new) s)) }
+    ensures err { (from : ℕ) (first : S) → S.faults first ≤ S.faults input.old
+        → IsFound from (change S.left S.faults first input.old) cutter.old found
+        → IfErr result (Fails from count
+        (change S.left S.faults first input.new)
+        (change K.held K.faults output.old output.new)) }
     ensures output { SinkStays K.ready K.name K.faults output.old output.new }
     ensures input { S.faults input.old ≤ S.faults input.new }
 {
@@ -47,16 +61,44 @@ fn cut_from<S: Source, K: Sink>(
     };
     let bytes = put_first(&found.piece, sequence, start.header, found.behind, output)?;
     let mut copied = Copied { groups: 1, bytes };
-    if put_second(&second, u64::from(count), &mut copied, output)? {
-        put_rest(alloc, u64::from(count), cutter, &mut copied, input, output)?;
-    } else {
-        copied.groups = u64::from(count);
-    }
+    put_behind(
+        alloc,
+        &second,
+        u64::from(count),
+        cutter,
+        &mut copied,
+        input,
+        output,
+    )?;
     put(&END_CODE, output)?;
     Ok(CutSummary {
         groups: copied.groups,
         bytes: copied.bytes + 4,
     })
+}
+
+/// Reads up to a group and cuts out from it on.
+fn cut_group<S: Source, K: Sink>(
+    alloc: Global,
+    from: u32,
+    count: u32,
+    input: &mut S,
+    output: &mut K,
+) -> Result<CutSummary, CutError>
+    requires count { 1 ≤ count }
+    requires output { IsTrue (K.ready output.old) }
+    ensures ok { IfOk result (λ s. OfText
+        (change S.left S.faults input.old input.new) (λ text. IsCutOut text from count
+        (change K.held K.faults output.old output.new) s)) }
+    ensures err { IfErr result (Fails from count
+        (change S.left S.faults input.old input.new)
+        (change K.held K.faults output.old output.new)) }
+    ensures output { SinkStays K.ready K.name K.faults output.old output.new }
+    ensures input { S.faults input.old ≤ S.faults input.new }
+{
+    let mut cutter = Cutter::new(alloc)?;
+    let found = find(alloc, from, &mut cutter, input)?;
+    cut_from(alloc, found, count, &mut cutter, input, output)
 }
 
 /// Cuts whole groups out of a stream: so many from group `from` on, which are numbered from 0 by their group headers, or
@@ -87,10 +129,11 @@ pub fn cut<S: Source, K: Sink>(
         (change S.left S.faults input.old input.new) (λ text. Gives
         (change S.left S.faults input.old input.new)
         (change K.held K.faults output.old output.new) (answer_to text from count) result) }
+    // What the text of the cut decodes to.
+    ensures decodes { Tells
+        (change S.left S.faults input.old input.new) (λ text. CutDecodes text from count) }
     ensures output { SinkStays K.ready K.name K.faults output.old output.new }
     ensures input { S.faults input.old ≤ S.faults input.new }
 {
-    let mut cutter = Cutter::new(alloc)?;
-    let found = find(alloc, from, &mut cutter, input)?;
-    cut_from(alloc, found, count, &mut cutter, input, output)
+    cut_group(alloc, from, count, input, output)
 }
