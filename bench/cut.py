@@ -244,7 +244,16 @@ def endpoints():
     case('each call of the input fails in turn, where there is no group', TWO, 5, 1, more=['each input'])
 
 
+def words():
+    for line in ('cut', 'cut 1', 'cut x 1', 'cut 1 x', 'cut 1 1 1', 'cut 4294967296 1', 'cut 0 4294967296', 'cut 0 1 --top'):
+        print()
+        print('case words: ' + line)
+        print('words ' + line)
+        print('status 2')
+        print('report usage')
+
+
 if __name__ == '__main__':
     print('# ***** what follows is what bench/cut.py prints')
-    for add in (worked, headers, frames, ends, endpoints):
+    for add in (worked, headers, frames, ends, endpoints, words):
         add()
