@@ -2,7 +2,7 @@ use Rattle.std.proofs.Common.{refl, arith}
 use Rattle.m2v_tool.specs.Cutting.{CutComes}
 use Rattle.m2v_tool.proofs.cut.cut_out.Goals as goal
 
-pub returns-then-meant-eq0-clause-comes : goal.returns-then-count-eq0-clause-comes
+pub returns-then-meant-eq0-clause-comes : goal.returns-then-meant-eq0-clause-comes
 unfolding CutComes
 returns-then-meant-eq0-clause-comes g c = (omega arith, refl, refl)
 
