@@ -11,12 +11,13 @@ folder=${2:-/tmp/y4m}
 mkdir -p "$folder"
 cd "$folder"
 
-# name, size, rate, its code, ffmpeg's filter, the flag of pack
+# name, size, rate, its code, ffmpeg's filter, the flag of pack, ffmpeg's words on the order of fields
 clip() {
     local name=$1 size=$2 rate=$3 code=$4 filter=$5
     local width=${size%x*} height=${size#*x}
-    ffmpeg -v error -y -f lavfi -i "testsrc2=size=$size:rate=$rate:duration=1,$filter" -pix_fmt yuv420p -f rawvideo "$name.yuv"
-    ffmpeg -v error -y -f lavfi -i "testsrc2=size=$size:rate=$rate:duration=1,$filter" -pix_fmt yuv420p -strict -1 -f yuv4mpegpipe "$name.y4m"
+    ffmpeg -v error -y -f lavfi -i "testsrc=size=$size:rate=$rate:duration=1,$filter" -pix_fmt yuv420p -f rawvideo "$name.yuv"
+    # shellcheck disable=SC2086
+    ffmpeg -v error -y -f lavfi -i "testsrc=size=$size:rate=$rate:duration=1,$filter" -pix_fmt yuv420p ${7:-} -strict -1 -f yuv4mpegpipe "$name.y4m"
     echo "$name: $(head -n 1 "$name.y4m")"
     "$program" unpack < "$name.y4m" > "$name.unpacked" 2> "$name.line"
     cmp "$name.yuv" "$name.unpacked"
@@ -28,6 +29,6 @@ clip() {
 }
 
 clip progressive 720x576 25 3 null
-clip interlaced 720x576 25 3 setfield=tff --top
+clip interlaced 720x576 25 3 setfield=tff --top '-field_order tt'
 clip film 720x480 24000/1001 1 null
 clip odd 33x17 30 5 null
