@@ -10,8 +10,7 @@ use m2v_port::{PortError, Source, fill};
 /// What stands in a slice of bytes is bytes, which no list says of itself.
 fn are_bytes(bytes: &[u8])
     ensures { All (λ b. b < 256) bytes.now }
-{
-}
+{}
 
 /// Reads bytes of the next frame until they are all there or the input ends, and says how many there are.
 pub(crate) fn read_bytes<S: Source>(input: &mut S, raw: &mut [u8]) -> Result<usize, EncodeError>

@@ -61,7 +61,15 @@ fn coded<R: Threads + Wait + Sync, G: Gate + Sync>(
         return None;
     };
     let mut frames = Generated::new(seed);
-    match encode::<R, Generated, SureSink, SureFile, G>(rt, alloc, &settings, &mut frames, stream, None, gate) {
+    match encode::<R, Generated, SureSink, SureFile, G>(
+        rt,
+        alloc,
+        &settings,
+        &mut frames,
+        stream,
+        None,
+        gate,
+    ) {
         Ok(summary) => Some(summary),
         Err(_) => None,
     }
