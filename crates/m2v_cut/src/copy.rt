@@ -35,7 +35,8 @@ pub fn put_next<K: Sink>(
     requires few { copied.old.groups ≤ most }
     requires room { copied.old.bytes + piece.now.length < 2 ^ 60 }
     requires output { IsTrue (K.ready output.old) }
-    ensures put { IfOk result (λ written. HasPut written (whole_of piece.now) most copied.old copied.new
+    ensures put { IfOk result (λ written. HasPut written
+        (whole_of piece.now) most copied.old copied.new
         (change K.held K.faults output.old output.new)) }
     ensures err { IfErr result (λ e. (copied.old.groups + groups_of (whole_of piece.now) ≤ most)
         × Cuts (bytes_of (whole_of piece.now)) (change K.held K.faults output.old output.new) e) }
@@ -59,13 +60,16 @@ pub fn put_second<K: Sink>(
     copied: &mut Copied,
     output: &mut K,
 ) -> Result<bool, CutError>
-    requires second { IfSome second.now (λ p. IsSoundPiece p × (copied.old.bytes + p.length < 2 ^ 60)) }
+    requires second { IfSome second.now (λ p. IsSoundPiece p
+        × (copied.old.bytes + p.length < 2 ^ 60)) }
     requires few { copied.old.groups ≤ most }
     requires output { IsTrue (K.ready output.old) }
     ensures put { IfOk result (λ written. SecondPut written (piece_list second.now) most
         copied.old copied.new (change K.held K.faults output.old output.new)) }
-    ensures err { IfErr result (λ e. (copied.old.groups + all_groups (piece_list second.now) ≤ most)
-        × Cuts (all_bytes (piece_list second.now)) (change K.held K.faults output.old output.new) e) }
+    ensures err { IfErr result (λ e.
+        (copied.old.groups + all_groups (piece_list second.now) ≤ most)
+        × Cuts (all_bytes (piece_list second.now))
+        (change K.held K.faults output.old output.new) e) }
     ensures output { SinkStays K.ready K.name K.faults output.old output.new }
 {
     match second {

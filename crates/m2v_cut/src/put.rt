@@ -31,8 +31,10 @@ pub fn put<K: Sink>(bytes: &[u8], output: &mut K) -> Result<(), CutError>
 /// Writes zero bytes, by way of a buffer.
 fn put_zeros<K: Sink>(zeros: u64, output: &mut K) -> Result<(), CutError>
     requires output { IsTrue (K.ready output.old) }
-    ensures grown { OnOk result (Grows (K.held output.old) (replicate zeros 0) (K.held output.new)) }
-    ensures err { IfErr result (Cuts (replicate zeros 0) (change K.held K.faults output.old output.new)) }
+    ensures grown { OnOk result (Grows (K.held output.old) (replicate zeros 0)
+        (K.held output.new)) }
+    ensures err { IfErr result (Cuts (replicate zeros 0)
+        (change K.held K.faults output.old output.new)) }
     ensures output { SinkStays K.ready K.name K.faults output.old output.new }
 {
     let buffer = [0u8; MOST];
@@ -51,7 +53,8 @@ pub fn put_part<K: Sink>(piece: &Piece, from: u64, to: u64, output: &mut K) -> R
     requires ordered { from ≤ to }
     requires within { to ≤ piece.now.length }
     requires output { IsTrue (K.ready output.old) }
-    ensures grown { OnOk result (Grows (K.held output.old) (part from to (whole_of piece.now)) (K.held output.new)) }
+    ensures grown { OnOk result (Grows (K.held output.old) (part from to (whole_of piece.now))
+        (K.held output.new)) }
     ensures err { IfErr result (Cuts (part from to (whole_of piece.now))
         (change K.held K.faults output.old output.new)) }
     ensures output { SinkStays K.ready K.name K.faults output.old output.new }

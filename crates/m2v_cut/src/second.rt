@@ -28,7 +28,8 @@ pub fn second_piece<S: Source>(
     ensures field { IfErr result (λ e. is_field_number picture.structure ≡ true) }
     ensures going { OnOk result (cutter.new.failed ≡ false) }
     ensures begun { OnOk result ((cutter.new.begun ≡ true) ⊎ (cutter.new.ended ≡ true)) }
-    ensures room { IfOk result (λ p. IfSome p (λ q. cutter.old.place + q.length ≤ cutter.new.place)) }
+    ensures room { IfOk result (λ p. IfSome p
+        (λ q. cutter.old.place + q.length ≤ cutter.new.place)) }
     ensures low { OnOk result (cutter.new.place ≤ 2 ^ 36) }
     ensures onward { OnOk result (cutter.old.place ≤ cutter.new.place) }
     ensures input { S.faults input.old ≤ S.faults input.new }

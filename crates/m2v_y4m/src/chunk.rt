@@ -25,7 +25,8 @@ impl Model for Chunk {
 
     ghost view = { λ c. drop c.at (take c.filled c.bytes.items) };
 
-    ghost invariant = { λ c. (c.at ≤ c.filled) × (c.filled ≤ length c.bytes.items) × (length c.bytes.items ≡ most_ahead) };
+    ghost invariant = { λ c. (c.at ≤ c.filled) × (c.filled ≤ length c.bytes.items)
+        × (length c.bytes.items ≡ most_ahead) };
 }
 
 /// Moves the bytes from one place up to another to the front.
@@ -44,10 +45,12 @@ fn read_behind<S: Source>(inner: &mut S, bytes: &mut [u8], held: usize) -> Resul
     ensures within { IfOk result (λ n. held + n ≤ length bytes.old) }
     ensures same { length bytes.new ≡ length bytes.old }
     ensures front { take held bytes.new ≡ take held bytes.old }
-    ensures moved { IfOk result (λ n. Moves (S.left inner.old) (take n (drop held bytes.new)) (S.left inner.new)) }
+    ensures moved { IfOk result (λ n. Moves (S.left inner.old) (take n (drop held bytes.new))
+        (S.left inner.new)) }
     ensures end { result ≡ Ok 0 → IsAtEnd (S.left inner.new) }
     ensures err { OnErr result (S.left inner.new ≡ S.left inner.old) }
-    ensures failed { IsErrOf result PortError.Failed → Rose (S.faults inner.old) (S.faults inner.new) }
+    ensures failed { IsErrOf result PortError.Failed
+        → Rose (S.faults inner.old) (S.faults inner.new) }
     ensures faults { S.faults inner.old ≤ S.faults inner.new }
 {
     inner.read(&mut bytes[held..])
@@ -67,10 +70,12 @@ fn read_on<S: Source>(
     ensures within { IfOk result (λ n. end - at + n ≤ length bytes.old) }
     ensures same { length bytes.new ≡ length bytes.old }
     ensures front { take (end - at) bytes.new ≡ drop at (take end bytes.old) }
-    ensures moved { IfOk result (λ n. Moves (S.left inner.old) (take n (drop (end - at) bytes.new)) (S.left inner.new)) }
+    ensures moved { IfOk result (λ n. Moves (S.left inner.old) (take n (drop (end - at) bytes.new))
+        (S.left inner.new)) }
     ensures end { result ≡ Ok 0 → IsAtEnd (S.left inner.new) }
     ensures err { OnErr result (S.left inner.new ≡ S.left inner.old) }
-    ensures failed { IsErrOf result PortError.Failed → Rose (S.faults inner.old) (S.faults inner.new) }
+    ensures failed { IsErrOf result PortError.Failed
+        → Rose (S.faults inner.old) (S.faults inner.new) }
     ensures faults { S.faults inner.old ≤ S.faults inner.new }
 {
     move_to_front(bytes, at, end);
@@ -115,11 +120,13 @@ impl Chunk {
     /// Reads more bytes behind those that there are, where there is room. Answers how many: 0 at the end.
     pub(crate) fn more<S: Source>(&mut self, inner: &mut S) -> Result<usize, PortError>
         requires room { length self.old < most_ahead }
-        ensures read { IfOk result (λ n. Refilled n self.old (S.left inner.old) self.new (S.left inner.new)) }
+        ensures read { IfOk result (λ n. Refilled n self.old (S.left inner.old) self.new
+            (S.left inner.new)) }
         ensures end { result ≡ Ok 0 → IsAtEnd (S.left inner.new) }
         ensures err { OnErr result (S.left inner.new ≡ S.left inner.old) }
         ensures same { OnErr result (self.new ≡ self.old) }
-        ensures failed { IsErrOf result PortError.Failed → Rose (S.faults inner.old) (S.faults inner.new) }
+        ensures failed { IsErrOf result PortError.Failed
+            → Rose (S.faults inner.old) (S.faults inner.new) }
         ensures faults { S.faults inner.old ≤ S.faults inner.new }
     {
         let held = self.filled - self.at;

@@ -38,7 +38,8 @@ pub(crate) fn begins(word: &[u8], text: &[u8]) -> bool
 
 /// Whether a space or a newline stands there.
 fn ends_word(text: &[u8], at: usize) -> bool
-    ensures value { result ≡ (slice_index_or text.now at 0 == 32 || slice_index_or text.now at 0 == 10) }
+    ensures value { result
+        ≡ (slice_index_or text.now at 0 == 32 || slice_index_or text.now at 0 == 10) }
 {
     match text.get(at) {
         Some(b) => *b == b' ' || *b == b'\n',

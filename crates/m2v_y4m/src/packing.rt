@@ -89,7 +89,8 @@ fn pack_all<S: Source, K: Sink>(
 fn summary_of(line: &[u8], text: &[u8], frames: u64) -> PackSummary
     requires text { length text.now ≤ 3317766 }
     requires frames { frames ≤ 999999 }
-    ensures value { result ≡ record { frames = frames; bytes = length line.now + frames * length text.now } }
+    ensures value { result
+        ≡ record { frames = frames; bytes = length line.now + frames * length text.now } }
 {
     PackSummary {
         frames,
@@ -149,11 +150,14 @@ fn next<S: Source, K: Sink>(
     requires output { IsTrue (K.ready output.old) }
     ensures text { IsRoom header.now text.new }
     ensures packed { result ≡ Ok true → FramePacked (size_of header.now)
-        (change S.left S.faults input.old input.new) (change K.held K.faults output.old output.new) }
+        (change S.left S.faults input.old input.new)
+        (change K.held K.faults output.old output.new) }
     ensures none { result ≡ Ok false → NoFrame
-        (change S.left S.faults input.old input.new) (change K.held K.faults output.old output.new) }
+        (change S.left S.faults input.old input.new)
+        (change K.held K.faults output.old output.new) }
     ensures err { IfErr result (FrameStops (size_of header.now)
-        (change S.left S.faults input.old input.new) (change K.held K.faults output.old output.new)) }
+        (change S.left S.faults input.old input.new)
+        (change K.held K.faults output.old output.new)) }
     ensures output { SinkStays K.ready K.name K.faults output.old output.new }
     ensures input { S.faults input.old ≤ S.faults input.new }
 {
@@ -175,9 +179,11 @@ fn read_behind_line<S: Source>(text: &mut [u8], input: &mut S) -> Result<usize, 
     ensures front { take 6 text.new ≡ take 6 text.old }
     ensures same { length text.new ≡ length text.old }
     ensures within { IfOk result (λ n. 6 + n ≤ length text.old) }
-    ensures moved { IfOk result (λ n. Moves (S.left input.old) (take n (drop 6 text.new)) (S.left input.new)) }
+    ensures moved { IfOk result (λ n. Moves (S.left input.old) (take n (drop 6 text.new))
+        (S.left input.new)) }
     ensures end { IfOk result (λ n. 6 + n < length text.old → IsAtEnd (S.left input.new)) }
-    ensures err { IfErr result (ReadStops (length text.old - 6) (change S.left S.faults input.old input.new)) }
+    ensures err { IfErr result (ReadStops (length text.old - 6)
+        (change S.left S.faults input.old input.new)) }
     ensures input { S.faults input.old ≤ S.faults input.new }
 {
     read_frame(&mut text[LINE..], input)
@@ -186,9 +192,11 @@ fn read_behind_line<S: Source>(text: &mut [u8], input: &mut S) -> Result<usize, 
 /// Reads bytes of the next frame until they are all there or the input ends, and says how many there are.
 fn read_frame<S: Source>(frame: &mut [u8], input: &mut S) -> Result<usize, EncodeFault>
     ensures within { IfOk result (λ n. n ≤ length frame.old) }
-    ensures moved { IfOk result (λ n. Moves (S.left input.old) (take n frame.new) (S.left input.new)) }
+    ensures moved { IfOk result (λ n. Moves (S.left input.old) (take n frame.new)
+        (S.left input.new)) }
     ensures end { IfOk result (λ n. n < length frame.old → IsAtEnd (S.left input.new)) }
-    ensures err { IfErr result (ReadStops (length frame.old) (change S.left S.faults input.old input.new)) }
+    ensures err { IfErr result (ReadStops (length frame.old)
+        (change S.left S.faults input.old input.new)) }
     ensures input { S.faults input.old ≤ S.faults input.new }
 {
     match fill(input, frame) {
@@ -200,8 +208,10 @@ fn read_frame<S: Source>(frame: &mut [u8], input: &mut S) -> Result<usize, Encod
 
 /// Whether a byte is left; it is read.
 fn goes_on<S: Source>(input: &mut S) -> Result<bool, EncodeFault>
-    ensures more { result ≡ Ok true → (byte : ℕ) × Moves (S.left input.old) (byte ∷ []) (S.left input.new) }
-    ensures none { result ≡ Ok false → Moves (S.left input.old) [] (S.left input.new) × IsAtEnd (S.left input.new) }
+    ensures more { result ≡ Ok true → (byte : ℕ)
+        × Moves (S.left input.old) (byte ∷ []) (S.left input.new) }
+    ensures none { result ≡ Ok false → Moves (S.left input.old) [] (S.left input.new)
+        × IsAtEnd (S.left input.new) }
     ensures err { IfErr result (ReadStops 1 (change S.left S.faults input.old input.new)) }
     ensures input { S.faults input.old ≤ S.faults input.new }
 {

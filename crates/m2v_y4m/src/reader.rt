@@ -41,16 +41,25 @@ impl Model for Reader {
 
     ghost Value = { Standing };
 
-    ghost view = { λ r. record { header = r.header; unread = r.chunk; place = r.place; rest = r.rest; line = r.line; fault = r.fault } };
+    ghost view = { λ r. record {
+      header = r.header;
+      unread = r.chunk;
+      place = r.place;
+      rest = r.rest;
+      line = r.line;
+      fault = r.fault;
+    } };
 
-    ghost invariant = { λ r. IsHeader r.header × (r.size ≡ size_of r.header) × (r.rest ≤ r.size) };
+    ghost invariant = { λ r. IsHeader r.header × (r.size ≡ size_of r.header)
+        × (r.rest ≤ r.size) };
 }
 
 /// Reads on until the bytes of a longest line are there, or the text ends.
 fn gather<S: Source>(chunk: &mut Chunk, inner: &mut S) -> Result<(), PortError>
     ensures held { Held chunk.old (S.left inner.old) chunk.new (S.left inner.new) }
     ensures all { OnOk result (length chunk.new < 1024 → IsAtEnd (S.left inner.new)) }
-    ensures failed { IsErrOf result PortError.Failed → Rose (S.faults inner.old) (S.faults inner.new) }
+    ensures failed { IsErrOf result PortError.Failed
+        → Rose (S.faults inner.old) (S.faults inner.new) }
     ensures faults { S.faults inner.old ≤ S.faults inner.new }
 {
     while chunk.len() < LINE {
@@ -67,10 +76,12 @@ fn read_part<S: Source>(inner: &mut S, buf: &mut [u8], most: usize) -> Result<us
     requires some { 1 ≤ most }
     ensures within { IfOk result (λ n. n ≤ length buf.old) }
     ensures most { IfOk result (λ n. n ≤ most) }
-    ensures moved { IfOk result (λ n. Moves (S.left inner.old) (take n buf.new) (S.left inner.new)) }
+    ensures moved { IfOk result (λ n. Moves (S.left inner.old) (take n buf.new)
+        (S.left inner.new)) }
     ensures end { result ≡ Ok 0 → IsAtEnd (S.left inner.new) }
     ensures err { OnErr result (S.left inner.new ≡ S.left inner.old) }
-    ensures failed { IsErrOf result PortError.Failed → Rose (S.faults inner.old) (S.faults inner.new) }
+    ensures failed { IsErrOf result PortError.Failed
+        → Rose (S.faults inner.old) (S.faults inner.new) }
     ensures faults { S.faults inner.old ≤ S.faults inner.new }
 {
     let n = buf.len().min(most);
@@ -100,7 +111,8 @@ impl Reader {
 
     /// Begins behind the header line, the bytes of which were read.
     fn over(chunk: Chunk) -> Result<Reader, Y4mFault>
-        ensures value { IfOk result (λ r. opening chunk ≡ Ok (record { header = r.header; length = r.place })) }
+        ensures value { IfOk result (λ r. opening chunk
+            ≡ Ok (record { header = r.header; length = r.place })) }
         ensures unread { IfOk result (λ r. r.unread ≡ drop r.place chunk) }
         ensures within { IfOk result (λ r. r.place ≤ length chunk) }
         ensures before { IfOk result (λ r. r.rest ≡ 0) }
@@ -154,7 +166,10 @@ impl Reader {
     /// The text is broken here.
     fn break_at(&mut self, kind: Y4mKind, place: u64) -> PortError
         ensures failed { result ≡ PortError.Failed }
-        ensures value { self.new ≡ record self.old { fault = Some (record { kind = kind; place = place }) } }
+        ensures value { self.new ≡ record self.old {
+          fault = Some
+              (record { kind = kind; place = place });
+        } }
     {
         self.fault = Some(Y4mFault { kind, place });
         PortError::Failed
@@ -164,14 +179,16 @@ impl Reader {
     fn next_line<S: Source>(&mut self, inner: &mut S) -> Result<bool, PortError>
         requires before { self.old.rest ≡ 0 }
         requires unbroken { self.old.fault ≡ None }
-        ensures same { comes_of self.new (S.left inner.new) ≡ comes_of self.old (S.left inner.old) }
+        ensures same { comes_of self.new (S.left inner.new)
+            ≡ comes_of self.old (S.left inner.old) }
         ensures header { self.new.header ≡ self.old.header }
         ensures inside { result ≡ Ok true → IsInside self.new }
         ensures unbroken { OnOk result (self.new.fault ≡ None) }
         ensures unread { result ≡ Ok false → self.new.unread ≡ [] }
         ensures end { result ≡ Ok false → IsAtEnd (S.left inner.new) }
         ensures over { result ≡ Ok false → IsAtEnd (told_left self.new (S.left inner.new)) }
-        ensures failed { IsErrOf result PortError.Failed → Rose (S.faults inner.old) (S.faults inner.new) ⊎ IsTrue (is_some self.new.fault) }
+        ensures failed { IsErrOf result PortError.Failed
+            → Rose (S.faults inner.old) (S.faults inner.new) ⊎ IsTrue (is_some self.new.fault) }
         ensures faults { S.faults inner.old ≤ S.faults inner.new }
     {
         self.look_ahead(inner)?;
@@ -192,10 +209,12 @@ impl Reader {
 
     /// Reads on until the bytes of a longest line are there, or the text ends.
     fn look_ahead<S: Source>(&mut self, inner: &mut S) -> Result<(), PortError>
-        ensures same { comes_of self.new (S.left inner.new) ≡ comes_of self.old (S.left inner.old) }
+        ensures same { comes_of self.new (S.left inner.new)
+            ≡ comes_of self.old (S.left inner.old) }
         ensures else_same { self.new ≡ record self.old { unread = self.new.unread } }
         ensures ahead { OnOk result (length self.new.unread < 1024 → IsAtEnd (S.left inner.new)) }
-        ensures failed { IsErrOf result PortError.Failed → Rose (S.faults inner.old) (S.faults inner.new) }
+        ensures failed { IsErrOf result PortError.Failed
+            → Rose (S.faults inner.old) (S.faults inner.new) }
         ensures faults { S.faults inner.old ≤ S.faults inner.new }
     {
         gather(&mut self.chunk, inner)
@@ -223,9 +242,14 @@ impl Reader {
 
     /// The text ends inside a frame: that breaks it where no byte of the frame was there.
     fn end_inside(&mut self) -> Result<usize, PortError>
-        ensures ok { OnOk result ((self.new ≡ self.old) × (self.old.rest < size_of self.old.header)) }
+        ensures ok { OnOk result ((self.new ≡ self.old)
+            × (self.old.rest < size_of self.old.header)) }
         ensures zero { IfOk result (λ n. n ≡ 0) }
-        ensures err { OnErr result ((self.new ≡ record self.old { fault = Some (record { kind = Y4mKind.Frame; place = self.old.line }) })
+        ensures err { OnErr result ((self.new
+            ≡ record self.old {
+              fault = Some
+                  (record { kind = Y4mKind.Frame; place = self.old.line });
+            })
             × (self.old.rest ≡ size_of self.old.header)) }
         ensures failed { IfErr result (λ e. e ≡ PortError.Failed) }
         ensures some { 1 ≤ size_of self.old.header }
@@ -241,7 +265,8 @@ impl Reader {
     fn advance(&mut self, n: usize)
         requires within { n ≤ self.old.rest }
         ensures most { self.old.rest ≤ size_of self.old.header }
-        ensures value { self.new ≡ record self.old { rest = self.old.rest - n; place = onward self.old.place n } }
+        ensures value { self.new
+            ≡ record self.old { rest = self.old.rest - n; place = onward self.old.place n } }
     {
         self.rest -= n;
         self.place = self.place.saturating_add(n as u64);
@@ -258,7 +283,12 @@ impl Reader {
         ensures ahead { result ≤ length self.old.unread }
         ensures within { result ≤ length buf.old }
         ensures given { take result buf.new ≡ take result self.old.unread }
-        ensures value { self.new ≡ record self.old { unread = drop result self.old.unread; rest = self.old.rest - result; place = onward self.old.place result } }
+        ensures value { self.new
+            ≡ record self.old {
+              unread = drop result self.old.unread;
+              rest = self.old.rest - result;
+              place = onward self.old.place result;
+            } }
     {
         let n = buf.len().min(self.rest).min(self.chunk.len());
         buf[..n].copy_from_slice(&self.chunk.bytes()[..n]);
@@ -273,14 +303,17 @@ impl Reader {
         requires inside { IsInside self.old }
         requires room { 0 < length buf.old }
         ensures within { IfOk result (λ n. n ≤ length buf.old) }
-        ensures gave { IfOk result (λ n. Gave (comes_of self.old (S.left inner.old)) (take n buf.new) (comes_of self.new (S.left inner.new))) }
-        ensures same { OnErr result (comes_of self.new (S.left inner.new) ≡ comes_of self.old (S.left inner.old)) }
+        ensures gave { IfOk result (λ n. Gave (comes_of self.old (S.left inner.old))
+            (take n buf.new) (comes_of self.new (S.left inner.new))) }
+        ensures same { OnErr result (comes_of self.new (S.left inner.new)
+            ≡ comes_of self.old (S.left inner.old)) }
         ensures header { self.new.header ≡ self.old.header }
         ensures unbroken { OnOk result (self.new.fault ≡ None) }
         ensures unread { result ≡ Ok 0 → self.new.unread ≡ [] }
         ensures end { result ≡ Ok 0 → IsAtEnd (S.left inner.new) }
         ensures over { result ≡ Ok 0 → IsAtEnd (told_left self.new (S.left inner.new)) }
-        ensures failed { IsErrOf result PortError.Failed → Rose (S.faults inner.old) (S.faults inner.new) ⊎ IsTrue (is_some self.new.fault) }
+        ensures failed { IsErrOf result PortError.Failed
+            → Rose (S.faults inner.old) (S.faults inner.new) ⊎ IsTrue (is_some self.new.fault) }
         ensures faults { S.faults inner.old ≤ S.faults inner.new }
     {
         let n = read_part(inner, buf, self.rest)?;
@@ -296,14 +329,17 @@ impl Reader {
         requires inside { IsInside self.old }
         requires room { 0 < length buf.old }
         ensures within { IfOk result (λ n. n ≤ length buf.old) }
-        ensures gave { IfOk result (λ n. Gave (comes_of self.old (S.left inner.old)) (take n buf.new) (comes_of self.new (S.left inner.new))) }
-        ensures same { OnErr result (comes_of self.new (S.left inner.new) ≡ comes_of self.old (S.left inner.old)) }
+        ensures gave { IfOk result (λ n. Gave (comes_of self.old (S.left inner.old))
+            (take n buf.new) (comes_of self.new (S.left inner.new))) }
+        ensures same { OnErr result (comes_of self.new (S.left inner.new)
+            ≡ comes_of self.old (S.left inner.old)) }
         ensures header { self.new.header ≡ self.old.header }
         ensures unbroken { OnOk result (self.new.fault ≡ None) }
         ensures unread { result ≡ Ok 0 → self.new.unread ≡ [] }
         ensures end { result ≡ Ok 0 → IsAtEnd (S.left inner.new) }
         ensures over { result ≡ Ok 0 → IsAtEnd (told_left self.new (S.left inner.new)) }
-        ensures failed { IsErrOf result PortError.Failed → Rose (S.faults inner.old) (S.faults inner.new) ⊎ IsTrue (is_some self.new.fault) }
+        ensures failed { IsErrOf result PortError.Failed
+            → Rose (S.faults inner.old) (S.faults inner.new) ⊎ IsTrue (is_some self.new.fault) }
         ensures faults { S.faults inner.old ≤ S.faults inner.new }
     {
         if self.chunk.len() > 0 {
@@ -315,14 +351,16 @@ impl Reader {
     /// Reads a frame line where one is to come. Answers whether a frame is at hand: none is at the end.
     fn enter<S: Source>(&mut self, inner: &mut S) -> Result<bool, PortError>
         requires unbroken { self.old.fault ≡ None }
-        ensures same { comes_of self.new (S.left inner.new) ≡ comes_of self.old (S.left inner.old) }
+        ensures same { comes_of self.new (S.left inner.new)
+            ≡ comes_of self.old (S.left inner.old) }
         ensures header { self.new.header ≡ self.old.header }
         ensures inside { result ≡ Ok true → IsInside self.new }
         ensures unbroken { OnOk result (self.new.fault ≡ None) }
         ensures unread { result ≡ Ok false → self.new.unread ≡ [] }
         ensures end { result ≡ Ok false → IsAtEnd (S.left inner.new) }
         ensures over { result ≡ Ok false → IsAtEnd (told_left self.new (S.left inner.new)) }
-        ensures failed { IsErrOf result PortError.Failed → Rose (S.faults inner.old) (S.faults inner.new) ⊎ IsTrue (is_some self.new.fault) }
+        ensures failed { IsErrOf result PortError.Failed
+            → Rose (S.faults inner.old) (S.faults inner.new) ⊎ IsTrue (is_some self.new.fault) }
         ensures faults { S.faults inner.old ≤ S.faults inner.new }
     {
         if self.rest == 0 {
@@ -337,21 +375,29 @@ impl Reader {
         inner: &mut S,
         buf: &mut [u8],
     ) -> Result<usize, PortError>
-        ensures gave { IfOk result (λ n. Gave (comes_of self.old (S.left inner.old)) (take n buf.new) (comes_of self.new (S.left inner.new))) }
-        ensures same { OnErr result (comes_of self.new (S.left inner.new) ≡ comes_of self.old (S.left inner.old)) }
-        ensures fault { fault_to_come self.new (S.left inner.new) ≡ fault_to_come self.old (S.left inner.old) }
+        ensures gave { IfOk result (λ n. Gave (comes_of self.old (S.left inner.old))
+            (take n buf.new) (comes_of self.new (S.left inner.new))) }
+        ensures same { OnErr result (comes_of self.new (S.left inner.new)
+            ≡ comes_of self.old (S.left inner.old)) }
+        ensures fault { fault_to_come self.new (S.left inner.new)
+            ≡ fault_to_come self.old (S.left inner.old) }
         ensures broke { self.new.fault ≡ None → self.old.fault ≡ None }
         ensures header { self.new.header ≡ self.old.header }
         ensures zero { result ≡ Ok 0 → 0 < length buf.old → IsAtEnd (S.left inner.new) }
         ensures unread { result ≡ Ok 0 → 0 < length buf.old → self.new.unread ≡ [] }
-        ensures over { result ≡ Ok 0 → 0 < length buf.old → IsOver (comes_of self.new (S.left inner.new)) }
+        ensures over { result ≡ Ok 0 → 0 < length buf.old
+            → IsOver (comes_of self.new (S.left inner.new)) }
         ensures unbroken { OnOk result (self.new.fault ≡ None) }
         ensures broken { IsTrue (is_some self.old.fault) → result ≡ Err PortError.Failed }
         ensures within { IfOk result (λ n. n ≤ length buf.old) }
-        ensures moved { IfOk result (λ n. Moves (told_left self.old (S.left inner.old)) (take n buf.new) (told_left self.new (S.left inner.new))) }
-        ensures end { result ≡ Ok 0 → 0 < length buf.old → IsAtEnd (told_left self.old (S.left inner.old)) }
-        ensures err { OnErr result (told_left self.new (S.left inner.new) ≡ told_left self.old (S.left inner.old)) }
-        ensures failed { IsErrOf result PortError.Failed → Rose (S.faults inner.old) (S.faults inner.new) ⊎ IsTrue (is_some self.new.fault) }
+        ensures moved { IfOk result (λ n. Moves (told_left self.old (S.left inner.old))
+            (take n buf.new) (told_left self.new (S.left inner.new))) }
+        ensures end { result ≡ Ok 0 → 0 < length buf.old
+            → IsAtEnd (told_left self.old (S.left inner.old)) }
+        ensures err { OnErr result (told_left self.new (S.left inner.new)
+            ≡ told_left self.old (S.left inner.old)) }
+        ensures failed { IsErrOf result PortError.Failed
+            → Rose (S.faults inner.old) (S.faults inner.new) ⊎ IsTrue (is_some self.new.fault) }
         ensures faults { S.faults inner.old ≤ S.faults inner.new }
     {
         if self.fault.is_some() {

@@ -31,7 +31,8 @@ impl<S> Model for Y4mSource<S> {
     ghost view = { λ s. record { text = s.reader; inner = s.inner; failed = s.failed } };
 
     // Reads are failed by a fault alone, and the read that finds it fails.
-    ghost invariant = { λ s. (s.reader.fault ≡ None → s.failed ≡ 0) × (IsTrue (is_some s.reader.fault) → 0 < s.failed) };
+    ghost invariant = { λ s. (s.reader.fault ≡ None → s.failed ≡ 0)
+        × (IsTrue (is_some s.reader.fault) → 0 < s.failed) };
 }
 
 impl<S: Source> Y4mSource<S> {
@@ -81,7 +82,8 @@ impl<S: Source> Source for Y4mSource<S> {
 
     fn read(&mut self, buf: &mut [u8]) -> Result<usize, PortError>
         // No read changes what fault comes, or the header.
-        ensures fault { fault_to_come self.new.text (S.left self.new.inner) ≡ fault_to_come self.old.text (S.left self.old.inner) }
+        ensures fault { fault_to_come self.new.text (S.left self.new.inner)
+            ≡ fault_to_come self.old.text (S.left self.old.inner) }
         ensures header { self.new.text.header ≡ self.old.text.header }
         // It answers 0 for a buffer that isn't empty only at the end of a text that no frame line broke.
         ensures zero { result ≡ Ok 0 → 0 < length buf.old → IsAtEnd (S.left self.new.inner) }
@@ -92,11 +94,17 @@ impl<S: Source> Source for Y4mSource<S> {
         ensures inner { S.faults self.old.inner ≤ S.faults self.new.inner }
         // the meanings of every source
         ensures within { IfOk result (λ n. n ≤ length buf.old) }
-        ensures moved { IfOk result (λ n. Moves (told_left self.old.text (S.left self.old.inner)) (take n buf.new) (told_left self.new.text (S.left self.new.inner))) }
-        ensures end { result ≡ Ok 0 → 0 < length buf.old → IsAtEnd (told_left self.old.text (S.left self.old.inner)) }
-        ensures err { OnErr result (told_left self.new.text (S.left self.new.inner) ≡ told_left self.old.text (S.left self.old.inner)) }
-        ensures failed { IsErrOf result PortError.Failed → Rose (S.faults self.old.inner + self.old.failed) (S.faults self.new.inner + self.new.failed) }
-        ensures faults { S.faults self.old.inner + self.old.failed ≤ S.faults self.new.inner + self.new.failed }
+        ensures moved { IfOk result (λ n. Moves (told_left self.old.text (S.left self.old.inner))
+            (take n buf.new) (told_left self.new.text (S.left self.new.inner))) }
+        ensures end { result ≡ Ok 0 → 0 < length buf.old
+            → IsAtEnd (told_left self.old.text (S.left self.old.inner)) }
+        ensures err { OnErr result (told_left self.new.text (S.left self.new.inner)
+            ≡ told_left self.old.text (S.left self.old.inner)) }
+        ensures failed { IsErrOf result PortError.Failed
+            → Rose (S.faults self.old.inner + self.old.failed)
+            (S.faults self.new.inner + self.new.failed) }
+        ensures faults { S.faults self.old.inner + self.old.failed
+            ≤ S.faults self.new.inner + self.new.failed }
     {
         match self.reader.read(&mut self.inner, buf) {
             Ok(n) => Ok(n),

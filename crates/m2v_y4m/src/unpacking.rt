@@ -89,11 +89,13 @@ fn unpack_frames<S: Source, K: Sink>(
     requires output { IsTrue (K.ready output.old) }
     ensures ok { IfOk result (λ n. AllGiven reader.old.header n
         (comes_of reader.old (S.left input.old)) (comes_of reader.new (S.left input.new))
-        (change S.left S.faults input.old input.new) (change K.held K.faults output.old output.new)) }
+        (change S.left S.faults input.old input.new)
+        (change K.held K.faults output.old output.new)) }
     ensures most { IfOk result (λ n. n ≤ 999999) }
     ensures err { IfErr result (GivingStops reader.old.header
         (comes_of reader.old (S.left input.old)) (comes_of reader.new (S.left input.new))
-        (change S.left S.faults input.old input.new) (change K.held K.faults output.old output.new)) }
+        (change S.left S.faults input.old input.new)
+        (change K.held K.faults output.old output.new)) }
     ensures same { length frame.new ≡ length frame.old }
     ensures output { SinkStays K.ready K.name K.faults output.old output.new }
     ensures input { S.faults input.old ≤ S.faults input.new }
@@ -113,8 +115,11 @@ fn unpack_frames<S: Source, K: Sink>(
 /// Whether a raw byte is left; it is read.
 fn goes_on<S: Source>(reader: &mut Reader, input: &mut S) -> Result<bool, UnpackError>
     requires unbroken { reader.old.fault ≡ None }
-    ensures more { result ≡ Ok true → (byte : ℕ) × Gave (comes_of reader.old (S.left input.old)) (byte ∷ []) (comes_of reader.new (S.left input.new)) }
-    ensures none { result ≡ Ok false → Gave (comes_of reader.old (S.left input.old)) [] (comes_of reader.new (S.left input.new)) }
+    ensures more { result ≡ Ok true → (byte : ℕ)
+        × Gave (comes_of reader.old (S.left input.old)) (byte ∷ [])
+        (comes_of reader.new (S.left input.new)) }
+    ensures none { result ≡ Ok false → Gave (comes_of reader.old (S.left input.old)) []
+        (comes_of reader.new (S.left input.new)) }
     ensures over { result ≡ Ok false → IsOver (comes_of reader.new (S.left input.new)) }
     ensures end { result ≡ Ok false → IsAtEnd (S.left input.new) }
     ensures err { IfErr result (ReadStops 1 (change S.left S.faults input.old input.new)
@@ -144,7 +149,8 @@ fn next<S: Source, K: Sink>(
         (comes_of reader.old (S.left input.old)) (comes_of reader.new (S.left input.new))
         (change K.held K.faults output.old output.new) }
     ensures end { result ≡ Ok false → IsAtEnd (S.left input.new) }
-    ensures err { IfErr result (FrameStops (size_of reader.old.header) (change S.left S.faults input.old input.new)
+    ensures err { IfErr result (FrameStops (size_of reader.old.header)
+        (change S.left S.faults input.old input.new)
         (comes_of reader.old (S.left input.old)) (comes_of reader.new (S.left input.new))
         (change K.held K.faults output.old output.new)) }
     ensures unbroken { OnOk result (reader.new.fault ≡ None) }
@@ -172,11 +178,14 @@ fn read_frame<S: Source>(
 ) -> Result<usize, UnpackError>
     requires unbroken { reader.old.fault ≡ None }
     ensures within { IfOk result (λ n. n ≤ length frame.old) }
-    ensures gave { IfOk result (λ n. Gave (comes_of reader.old (S.left input.old)) (take n frame.new) (comes_of reader.new (S.left input.new))) }
+    ensures gave { IfOk result (λ n. Gave (comes_of reader.old (S.left input.old))
+        (take n frame.new) (comes_of reader.new (S.left input.new))) }
     ensures end { IfOk result (λ n. n < length frame.old → IsAtEnd (S.left input.new)) }
-    ensures over { IfOk result (λ n. n < length frame.old → IsOver (comes_of reader.new (S.left input.new))) }
+    ensures over { IfOk result (λ n. n < length frame.old
+        → IsOver (comes_of reader.new (S.left input.new))) }
     ensures unbroken { OnOk result (reader.new.fault ≡ None) }
-    ensures err { IfErr result (ReadStops (length frame.old) (change S.left S.faults input.old input.new)
+    ensures err { IfErr result (ReadStops (length frame.old)
+        (change S.left S.faults input.old input.new)
         (comes_of reader.old (S.left input.old)) (comes_of reader.new (S.left input.new))) }
     ensures same { length frame.new ≡ length frame.old }
     ensures header { reader.new.header ≡ reader.old.header }
@@ -200,12 +209,16 @@ fn read_whole<S: Source>(
 ) -> Result<usize, PortError>
     requires unbroken { reader.old.fault ≡ None }
     ensures within { IfOk result (λ n. n ≤ length buf.old) }
-    ensures gave { IfOk result (λ n. Gave (comes_of reader.old (S.left input.old)) (take n buf.new) (comes_of reader.new (S.left input.new))) }
+    ensures gave { IfOk result (λ n. Gave (comes_of reader.old (S.left input.old)) (take n buf.new)
+        (comes_of reader.new (S.left input.new))) }
     ensures end { IfOk result (λ n. n < length buf.old → IsAtEnd (S.left input.new)) }
-    ensures over { IfOk result (λ n. n < length buf.old → IsOver (comes_of reader.new (S.left input.new))) }
+    ensures over { IfOk result (λ n. n < length buf.old
+        → IsOver (comes_of reader.new (S.left input.new))) }
     ensures unbroken { OnOk result (reader.new.fault ≡ None) }
-    ensures err { OnErr result (GaveFewer (comes_of reader.old (S.left input.old)) (length buf.old) (comes_of reader.new (S.left input.new))) }
-    ensures failed { IsErrOf result PortError.Failed → Rose (S.faults input.old) (S.faults input.new) ⊎ IsTrue (is_some reader.new.fault) }
+    ensures err { OnErr result (GaveFewer (comes_of reader.old (S.left input.old)) (length buf.old)
+        (comes_of reader.new (S.left input.new))) }
+    ensures failed { IsErrOf result PortError.Failed
+        → Rose (S.faults input.old) (S.faults input.new) ⊎ IsTrue (is_some reader.new.fault) }
     ensures same { length buf.new ≡ length buf.old }
     ensures header { reader.new.header ≡ reader.old.header }
     ensures input { S.faults input.old ≤ S.faults input.new }
