@@ -67,7 +67,8 @@ fn best_whole(
     requires wide { area.right ≤ 48 }
     requires middle { best.spot ≡ middle count }
     requires known { best.sad ≡ spot_sad block.now count window.now best.spot }
-    ensures spot { result.spot ≡ whole_spot (spot_sad block.now count window.now) count area across down }
+    ensures spot { result.spot ≡ whole_spot (spot_sad block.now count window.now) count area across
+        down }
     ensures sad { result.sad ≡ spot_sad block.now count window.now result.spot }
     ensures near { IsNear count area (2 * across) (2 * down) result.spot }
 {
@@ -95,7 +96,8 @@ fn best_half(
     requires wide { area.right ≤ 48 }
     requires near { IsNear count area across down best.spot }
     requires known { best.sad ≡ spot_sad block.now count window.now best.spot }
-    ensures spot { result.spot ≡ half_spot (spot_sad block.now count window.now) count area best.spot }
+    ensures spot { result.spot ≡ half_spot (spot_sad block.now count window.now) count area
+        best.spot }
     ensures sad { result.sad ≡ spot_sad block.now count window.now result.spot }
     ensures near { IsNear count area (across + 1) (down + 1) result.spot }
 {

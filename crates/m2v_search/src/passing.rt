@@ -64,7 +64,8 @@ fn lower(a: u32, b: u32) -> u32
     if a < b { a } else { b }
 }
 
-/// The best of a place and of those in some columns of a line, as long as they lie below a limit.
+/// The best of a place and of those in some columns of a line, as long as they lie below a limit. The line is passed over as
+/// a whole if no bound of it lies below the best so far.
 #[inline(always)]
 fn passed_line(
     block: &[u8],
@@ -84,55 +85,26 @@ fn passed_line(
     requires few { columns.end ≤ columns.first + 32 }
     requires x { columns.end ≤ 33 }
     requires bounds { (x : ℕ) → columns.first ≤ x → x < columns.end
-        → slice_index bounds.now (x - columns.first) ≤ spot_sad block.now count window.now (record { y = 2 * y; x = 2 * x }) }
+        → slice_index bounds.now (x - columns.first) ≤ spot_sad block.now count window.now
+        (record { y = 2 * y; x = 2 * x }) }
     requires known { best.sad ≡ spot_sad block.now count window.now best.spot }
     ensures spot { result.spot ≡ least (cut limit (spot_sad block.now count window.now)) best.spot
-        (map (λ x. record { y = 2 * y; x = 2 * x }) (range_with_len columns.first (columns.end - columns.first))) }
+        (map (λ x. record { y = 2 * y; x = 2 * x })
+        (range_with_len columns.first (columns.end - columns.first))) }
     ensures sad { result.sad ≡ spot_sad block.now count window.now result.spot }
 {
-    let mut so_far = SoFar {
-        best,
-        below: lower(best.sad, limit),
-    };
+    let least = u32::from(lowest(bounds));
+    let below = lower(best.sad, limit);
+    if below <= least {
+        return best;
+    }
+    let mut so_far = SoFar { best, below };
     for x in columns.first..columns.end {
         let bound = u32::from(bounds[(x - columns.first) as usize]);
         let spot = Spot { y: 2 * y, x: 2 * x };
         so_far = tried_below(block, count, window, so_far, spot, bound, limit);
     }
     so_far.best
-}
-
-/// The same, where the line is passed over as a whole if no bound of it lies below the best so far.
-#[inline(always)]
-fn line_by_bounds(
-    block: &[u8],
-    count: usize,
-    window: &[u8],
-    y: u32,
-    columns: Span,
-    bounds: &[u16; 32],
-    limit: u32,
-    best: Best,
-) -> Best
-    requires count { (count ≡ 8) ⊎ (count ≡ 16) }
-    requires block { length block.now ≡ 16 * count }
-    requires window { length window.now ≡ 2304 }
-    requires y { y + count ≤ 48 }
-    requires some { columns.first ≤ columns.end }
-    requires few { columns.end ≤ columns.first + 32 }
-    requires x { columns.end ≤ 33 }
-    requires bounds { (x : ℕ) → columns.first ≤ x → x < columns.end
-        → slice_index bounds.now (x - columns.first) ≤ spot_sad block.now count window.now (record { y = 2 * y; x = 2 * x }) }
-    requires known { best.sad ≡ spot_sad block.now count window.now best.spot }
-    ensures spot { result.spot ≡ least (cut limit (spot_sad block.now count window.now)) best.spot
-        (map (λ x. record { y = 2 * y; x = 2 * x }) (range_with_len columns.first (columns.end - columns.first))) }
-    ensures sad { result.sad ≡ spot_sad block.now count window.now result.spot }
-{
-    let least = u32::from(lowest(bounds));
-    if lower(best.sad, limit) <= least {
-        return best;
-    }
-    passed_line(block, count, window, y, columns, bounds, limit, best)
 }
 
 /// The best of a place and of those in some lines and columns, line by line and from left to right, as long as they lie
@@ -168,7 +140,7 @@ fn passed(
     let mut best = best;
     for y in lines.first..lines.end {
         let bounds = line_bounds(sums, count, (48 * y + columns.first) as usize, parts);
-        best = line_by_bounds(block, count, window, y, columns, &bounds, limit, best);
+        best = passed_line(block, count, window, y, columns, &bounds, limit, best);
     }
     best
 }
@@ -245,7 +217,8 @@ fn limit_by(
     requires right { place.x < columns.end }
     requires known { best.sad ≡ spot_sad block.now count window.now best.spot }
     ensures enough { (spot_sad block.now count window.now best.spot ≤ result)
-        ⊎ (spot_sad block.now count window.now (least (spot_sad block.now count window.now) best.spot (spots 2 lines columns)) < result) }
+        ⊎ (spot_sad block.now count window.now
+        (least (spot_sad block.now count window.now) best.spot (spots 2 lines columns)) < result) }
 {
     let spot = Spot {
         y: 2 * place.y,
@@ -282,7 +255,8 @@ fn limit_for(
     requires x { columns.end ≤ 33 }
     requires known { best.sad ≡ spot_sad block.now count window.now best.spot }
     ensures enough { (spot_sad block.now count window.now best.spot ≤ result)
-        ⊎ (spot_sad block.now count window.now (least (spot_sad block.now count window.now) best.spot (spots 2 lines columns)) < result) }
+        ⊎ (spot_sad block.now count window.now
+        (least (spot_sad block.now count window.now) best.spot (spots 2 lines columns)) < result) }
 {
     if best.sad < NEAR * count as u32 {
         return best.sad;

@@ -45,7 +45,8 @@ fn scan_line(
     requires x { unit * columns.end ≤ 64 + unit }
     requires known { best.sad ≡ spot_sad block.now count window.now best.spot }
     ensures spot { result.spot ≡ least (spot_sad block.now count window.now) best.spot
-        (map (λ x. record { y = unit * y; x = unit * x }) (range_with_len columns.first (columns.end - columns.first))) }
+        (map (λ x. record { y = unit * y; x = unit * x })
+        (range_with_len columns.first (columns.end - columns.first))) }
     ensures sad { result.sad ≡ spot_sad block.now count window.now result.spot }
 {
     let mut best = best;

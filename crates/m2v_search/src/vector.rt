@@ -53,10 +53,12 @@ pub fn best_vector<V: RefView>(
     requires search { search ≤ 15 }
     requires place { IsPlace at (V.size view.now) }
     requires form { IsFormIn at.structure form }
-    requires near { HasNear (V.Holds view.now) (V.size view.now) at (block_lines form at.row).lines }
+    requires near { HasNear (V.Holds view.now) (V.size view.now) at
+        (block_lines form at.row).lines }
     ensures value { record { x = result.x; y = result.y }
         ≡ vector_of (V.size view.now) (V.at view.now Y) source.now.at at.row at.column form search }
-    ensures sad { result.sad ≡ vector_sad (V.at view.now Y) source.now.at (block_lines form at.row) at.column
+    ensures sad { result.sad ≡ vector_sad (V.at view.now Y) source.now.at (block_lines form at.row)
+        at.column
         (record { x = result.x; y = result.y }) }
     ensures inside { vector_inside (V.size view.now) (block_lines form at.row) at.column
         (record { x = result.x; y = result.y }) ≡ true }
