@@ -50,7 +50,8 @@ pub fn check<'a, F: Copy>(
     fault: F,
 ) -> Result<(), F>
     requires { start.now.text ≡ input.old.text }
-    ensures exact { Gives result input.new.rest ((rule holds fault (length start.now.rest)).read input.old.rest) }
+    ensures exact { Gives result input.new.rest
+        ((rule holds fault (length start.now.rest)).read input.old.rest) }
     ensures held { IfOk result (λ done. holds ≡ true) }
     ensures text { input.new.text ≡ input.old.text }
 {

@@ -21,9 +21,14 @@ impl<'a> Model for BitReader<'a> {
 
     ghost Value = { Unread };
 
-    ghost view = { λ r. record { text = padded (bits r.bytes.now) r.zeros; place = r.place; rest = drop r.place (padded (bits r.bytes.now) r.zeros) } };
+    ghost view = { λ r. record {
+      text = padded (bits r.bytes.now) r.zeros;
+      place = r.place;
+      rest = drop r.place (padded (bits r.bytes.now) r.zeros);
+    } };
 
-    ghost invariant = { λ r. (r.place ≤ 8 * length r.bytes.now + r.zeros) × (8 * length r.bytes.now + r.zeros < 2 ^ 63) };
+    ghost invariant = { λ r. (r.place ≤ 8 * length r.bytes.now + r.zeros)
+        × (8 * length r.bytes.now + r.zeros < 2 ^ 63) };
 }
 
 /// The byte at i, or 0 past the end.
@@ -88,7 +93,11 @@ impl<'a> BitReader<'a> {
     /// A reader at the first bit of bytes behind which so many zero bits end the text, fewer than 2^63 bits in all.
     pub fn with_zeros(bytes: &'a [u8], zeros: u64) -> BitReader<'a>
         requires { 8 * length bytes.now + zeros < 2 ^ 63 }
-        ensures { result ≡ record { text = padded (bits bytes.now) zeros; place = 0; rest = padded (bits bytes.now) zeros } }
+        ensures { result ≡ record {
+          text = padded (bits bytes.now) zeros;
+          place = 0;
+          rest = padded (bits bytes.now) zeros;
+        } }
     {
         BitReader {
             bytes,
@@ -145,7 +154,8 @@ impl<'a> BitReader<'a> {
         requires { n ≤ 32 }
         ensures none { IsNone result ↔ (length self.old.rest < n) }
         ensures stays { IsNone result → self.new ≡ self.old }
-        ensures some { IfSome result (λ v. (self.new ≡ past n self.old) × (v ≡ number (take n self.old.rest))) }
+        ensures some { IfSome result (λ v. (self.new ≡ past n self.old)
+            × (v ≡ number (take n self.old.rest))) }
         ensures below { IfSome result (λ v. v < 2 ^ n) }
     {
         if self.left() < n as u64 {

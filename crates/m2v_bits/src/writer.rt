@@ -21,9 +21,14 @@ impl Model for BitWriter {
 
     ghost Value = { Written };
 
-    ghost view = { λ w. record { written = bits (take w.used w.buf.items) ++ bits_of w.held w.pending; room = 8 * length w.buf.items - (8 * w.used + w.held) } };
+    ghost view = { λ w. record {
+      written = bits (take w.used w.buf.items)
+          ++ bits_of w.held w.pending;
+      room = 8 * length w.buf.items - (8 * w.used + w.held);
+    } };
 
-    ghost invariant = { λ w. (w.held < 8) × (8 * w.used + w.held ≤ 8 * length w.buf.items) × (w.pending < 2 ^ w.held) × (length w.buf.items < 2 ^ 60) };
+    ghost invariant = { λ w. (w.held < 8) × (8 * w.used + w.held ≤ 8 * length w.buf.items)
+        × (w.pending < 2 ^ w.held) × (length w.buf.items < 2 ^ 60) };
 }
 
 /// Writes the whole bytes that held bits fill, byte by byte, and gives the place after them.
@@ -34,7 +39,8 @@ fn spill_near_end(buf: &mut Vec<u8>, mut at: usize, acc: u64, held: u8) -> usize
     requires room { at + held / 8 ≤ length buf.old.items }
     ensures place { result ≡ at + held / 8 }
     ensures len { length buf.new.items ≡ length buf.old.items }
-    ensures written { bits (take result buf.new.items) ++ bits_of (held % 8) acc ≡ bits (take at buf.old.items) ++ bits_of held acc }
+    ensures written { bits (take result buf.new.items) ++ bits_of (held % 8) acc
+        ≡ bits (take at buf.old.items) ++ bits_of held acc }
 {
     let mut left = held;
     while left >= 8 {
@@ -60,7 +66,8 @@ fn raised(acc: u64, held: u8) -> u64
 fn put_four(buf: &mut Vec<u8>, at: usize, word: u64)
     requires { at + 4 ≤ length buf.old.items }
     ensures len { length buf.new.items ≡ length buf.old.items }
-    ensures written { bits (take (at + 4) buf.new.items) ++ bits_of 8 word ≡ bits (take at buf.old.items) ++ bits_of 40 word }
+    ensures written { bits (take (at + 4) buf.new.items) ++ bits_of 8 word
+        ≡ bits (take at buf.old.items) ++ bits_of 40 word }
 {
     buf[at] = low(word >> 32, 8) as u8;
     buf[at + 1] = low(word >> 24, 8) as u8;
@@ -77,7 +84,8 @@ fn spill(buf: &mut Vec<u8>, at: usize, acc: u64, held: u8) -> usize
     requires room { at + held / 8 ≤ length buf.old.items }
     ensures place { result ≡ at + held / 8 }
     ensures len { length buf.new.items ≡ length buf.old.items }
-    ensures written { bits (take result buf.new.items) ++ bits_of (held % 8) acc ≡ bits (take at buf.old.items) ++ bits_of held acc }
+    ensures written { bits (take result buf.new.items) ++ bits_of (held % 8) acc
+        ≡ bits (take at buf.old.items) ++ bits_of held acc }
 {
     if buf.len() - at < 4 {
         return spill_near_end(buf, at, acc, held);
@@ -154,7 +162,8 @@ impl BitWriter {
 
     /// Zero bits up to the edge of a byte.
     pub fn align(&mut self)
-        ensures written { self.new.written ≡ self.old.written ++ replicate (to_edge (length self.old.written)) false }
+        ensures written { self.new.written ≡ self.old.written
+            ++ replicate (to_edge (length self.old.written)) false }
         ensures room { self.new.room + to_edge (length self.old.written) ≡ self.old.room }
     {
         let n = (8 - self.held) % 8;

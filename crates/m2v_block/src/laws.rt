@@ -17,5 +17,6 @@ pub fn law_round_trip()
     ensures { (kind : BlockKind) (table_one : Bool) (predictor : ℤ) (levels : List ℤ)
         (rest : List Bool) → IsKind kind → IsBlock kind levels
         → (kind.intra ≡ true → IsDc kind.precision predictor) → length levels ≡ 64
-        → (block_at kind table_one predictor).read (block_text kind table_one predictor levels ++ rest) ≡ Ok (levels, rest) }
+        → (block_at kind table_one predictor).read (block_text kind table_one predictor levels
+        ++ rest) ≡ Ok (levels, rest) }
 {}

@@ -66,7 +66,8 @@ fn is_dc(precision: u8, level: i32) -> bool
 fn dc(input: &mut BitReader, luma: bool, precision: u8, predictor: i32) -> Result<i32, BlockFault>
     requires precision { precision ≤ 3 }
     requires predictor { IsDc precision predictor }
-    ensures exact { Gives result input.new.rest ((dc_at luma precision predictor).read input.old.rest) }
+    ensures exact { Gives result input.new.rest
+        ((dc_at luma precision predictor).read input.old.rest) }
     ensures text { input.new.text ≡ input.old.text }
     ensures range { IfOk result (λ v. IsDc precision v) }
 {
@@ -94,10 +95,15 @@ fn placed<'a>(
     requires level { IsLevel level }
     requires text { start.now.text ≡ input.old.text }
     requires levels { All IsLevel out.old.at }
-    ensures exact { GivesScan result out.new.at input.new.rest ((placed (length start.now.rest) run level (record { filled = filled; levels = out.old.at })).read input.old.rest) }
+    ensures exact { GivesScan result out.new.at input.new.rest
+        ((placed (length start.now.rest) run level (record {
+          filled = filled;
+          levels = out.old.at;
+        })).read input.old.rest) }
     ensures text { input.new.text ≡ input.old.text }
     ensures within { IfOk result (λ x. (filled ≤ x.1) × (x.1 ≤ 64)) }
-    ensures dc { 0 < filled → slice_index_or out.new.at 0 (pos 0) ≡ slice_index_or out.old.at 0 (pos 0) }
+    ensures dc { 0 < filled → slice_index_or out.new.at 0 (pos 0)
+        ≡ slice_index_or out.old.at 0 (pos 0) }
     ensures levels { All IsLevel out.new.at }
 {
     let at = filled + run as usize;
@@ -161,10 +167,13 @@ fn coefficient<'a>(
     requires range { IsCoefficient c }
     requires text { start.now.text ≡ input.old.text }
     requires levels { All IsLevel out.old.at }
-    ensures exact { GivesScan result out.new.at input.new.rest ((coefficient_at (length start.now.rest) (record { filled = filled; levels = out.old.at }) c).read input.old.rest) }
+    ensures exact { GivesScan result out.new.at input.new.rest
+        ((coefficient_at (length start.now.rest) (record { filled = filled; levels = out.old.at })
+        c).read input.old.rest) }
     ensures text { input.new.text ≡ input.old.text }
     ensures within { IfOk result (λ x. (filled ≤ x.1) × (x.1 ≤ 64)) }
-    ensures dc { 0 < filled → slice_index_or out.new.at 0 (pos 0) ≡ slice_index_or out.old.at 0 (pos 0) }
+    ensures dc { 0 < filled → slice_index_or out.new.at 0 (pos 0)
+        ≡ slice_index_or out.old.at 0 (pos 0) }
     ensures levels { All IsLevel out.new.at }
 {
     if let Coefficient::Pair { run, level } = c {
@@ -191,10 +200,12 @@ fn pair(
 ) -> Result<(bool, usize), BlockFault>
     requires filled { filled ≤ 64 }
     requires levels { All IsLevel out.old.at }
-    ensures exact { GivesScan result out.new.at input.new.rest ((pair_at one (record { filled = filled; levels = out.old.at })).read input.old.rest) }
+    ensures exact { GivesScan result out.new.at input.new.rest
+        ((pair_at one (record { filled = filled; levels = out.old.at })).read input.old.rest) }
     ensures text { input.new.text ≡ input.old.text }
     ensures within { IfOk result (λ x. (filled ≤ x.1) × (x.1 ≤ 64)) }
-    ensures dc { 0 < filled → slice_index_or out.new.at 0 (pos 0) ≡ slice_index_or out.old.at 0 (pos 0) }
+    ensures dc { 0 < filled → slice_index_or out.new.at 0 (pos 0)
+        ≡ slice_index_or out.old.at 0 (pos 0) }
     ensures levels { All IsLevel out.new.at }
 {
     let start = input.fork();
@@ -207,10 +218,12 @@ fn pair(
 fn pairs(input: &mut BitReader, one: bool, from: usize, out: &mut Levels) -> Result<(), BlockFault>
     requires filled { from ≤ 64 }
     requires levels { All IsLevel out.old.at }
-    ensures exact { GivesEnd result out.new.at input.new.rest ((pairs_at one (record { filled = from; levels = out.old.at })).read input.old.rest) }
+    ensures exact { GivesEnd result out.new.at input.new.rest
+        ((pairs_at one (record { filled = from; levels = out.old.at })).read input.old.rest) }
     ensures text { input.new.text ≡ input.old.text }
     ensures levels { All IsLevel out.new.at }
-    ensures dc { 0 < from → slice_index_or out.new.at 0 (pos 0) ≡ slice_index_or out.old.at 0 (pos 0) }
+    ensures dc { 0 < from → slice_index_or out.new.at 0 (pos 0)
+        ≡ slice_index_or out.old.at 0 (pos 0) }
 {
     let mut filled = from;
     loop {
@@ -228,7 +241,8 @@ fn pairs(input: &mut BitReader, one: bool, from: usize, out: &mut Levels) -> Res
 fn first(input: &mut BitReader, kind: &BlockKind, predictor: i32) -> Result<i32, BlockFault>
     requires kind { IsKind kind.now }
     requires predictor { kind.now.intra ≡ true → IsDc kind.now.precision predictor }
-    ensures exact { Gives result input.new.rest ((first_at kind.now predictor).read input.old.rest) }
+    ensures exact { Gives result input.new.rest
+        ((first_at kind.now predictor).read input.old.rest) }
     ensures text { input.new.text ≡ input.old.text }
     ensures range { IfOk result (λ v. IsLevel v) }
     ensures dc { kind.now.intra ≡ true → IfOk result (λ v. IsDc kind.now.precision v) }
@@ -276,9 +290,11 @@ pub fn read_block(
 ) -> Result<(), BlockFault>
     requires kind { IsKind kind.now }
     requires predictor { kind.now.intra ≡ true → IsDc kind.now.precision dc_pred.old }
-    ensures exact { GivesLevels result out.new.at input.new.rest ((block_at kind.now table_one dc_pred.old).read input.old.rest) }
+    ensures exact { GivesLevels result out.new.at input.new.rest
+        ((block_at kind.now table_one dc_pred.old).read input.old.rest) }
     ensures text { input.new.text ≡ input.old.text }
-    ensures predictor { IfOk result (λ _. dc_pred.new ≡ predictor_after kind.now dc_pred.old out.new.at) }
+    ensures predictor { IfOk result (λ _. dc_pred.new ≡ predictor_after kind.now dc_pred.old
+        out.new.at) }
     ensures same { OnErr result (dc_pred.new ≡ dc_pred.old) }
     ensures levels { All IsLevel out.new.at }
     ensures dc { kind.now.intra ≡ true → IsDc kind.now.precision dc_pred.new }

@@ -135,7 +135,8 @@ fn put_pairs<O: BitOutput>(levels: &Levels, from: u8, first: bool, one: bool, ou
     requires from { from ≤ 64 }
     requires levels { All IsLevel levels.now.at }
     requires room { length (pairs_text first one 0 (drop from levels.now.at)) ≤ O.space out.old }
-    ensures { Gains O.took O.space out.old (pairs_text first one 0 (drop from levels.now.at)) out.new }
+    ensures { Gains O.took O.space out.old (pairs_text first one 0 (drop from levels.now.at))
+        out.new }
 {
     let mut none = first;
     let mut run = 0u8;
@@ -168,7 +169,8 @@ pub fn put_block<O: BitOutput>(
     requires levels { IsBlock kind.now levels.now.at }
     requires predictor { kind.now.intra ≡ true → IsDc kind.now.precision dc_pred }
     requires room { length (block_text kind.now table_one dc_pred levels.now.at) ≤ O.space out.old }
-    ensures { Gains O.took O.space out.old (block_text kind.now table_one dc_pred levels.now.at) out.new }
+    ensures { Gains O.took O.space out.old (block_text kind.now table_one dc_pred levels.now.at)
+        out.new }
 {
     if kind.intra {
         put_dc(levels.at[0] - dc_pred, kind.luma, out);
@@ -191,11 +193,15 @@ pub fn write_block(
     requires kind { IsKind kind.now }
     requires levels { IsBlock kind.now levels.now.at }
     requires predictor { kind.now.intra ≡ true → IsDc kind.now.precision dc_pred.old }
-    requires room { length (block_text kind.now table_one dc_pred.old levels.now.at) ≤ out.old.room }
-    ensures written { out.new.written ≡ out.old.written ++ block_text kind.now table_one dc_pred.old levels.now.at }
-    ensures room { out.new.room + length (block_text kind.now table_one dc_pred.old levels.now.at) ≡ out.old.room }
+    requires room { length (block_text kind.now table_one dc_pred.old levels.now.at)
+        ≤ out.old.room }
+    ensures written { out.new.written ≡ out.old.written ++ block_text kind.now table_one dc_pred.old
+        levels.now.at }
+    ensures room { out.new.room + length (block_text kind.now table_one dc_pred.old levels.now.at)
+        ≡ out.old.room }
     ensures predictor { dc_pred.new ≡ predictor_after kind.now dc_pred.old levels.now.at }
-    ensures spells { Spells (block_at kind.now table_one dc_pred.old) levels.now.at (block_text kind.now table_one dc_pred.old levels.now.at) }
+    ensures spells { Spells (block_at kind.now table_one dc_pred.old) levels.now.at
+        (block_text kind.now table_one dc_pred.old levels.now.at) }
 {
     put_block(levels, kind, table_one, *dc_pred, out);
     if kind.intra {

@@ -16,5 +16,6 @@ use std::alloc::Global;
 pub struct Board<B: JobBook> {
     pub(crate) table: Table<Option<Box<Post<B>>>, View, About<B>, Ruling<B>, Global>,
     pub(crate) jobs: u32,
-    ghost sized: { (table.shared.table_id.words ≡ jobs + 1) × (table.shared.table_id.slots ≡ jobs) × (table.shared.key.jobs ≡ jobs) },
+    ghost sized: { (table.shared.table_id.words ≡ jobs + 1) × (table.shared.table_id.slots ≡ jobs)
+        × (table.shared.key.jobs ≡ jobs) },
 }

@@ -19,7 +19,8 @@ impl<B: JobBook> Board<B> {
         requires into { IsPassOf self.now into.old }
         requires other { IsPassOf self.now other }
         requires done { (i : ℕ) → slot_of other i ≡ None }
-        ensures pass { IsPassOf self.now into.new × (view into.new ≡ both (view into.old) (view other)) }
+        ensures pass { IsPassOf self.now into.new
+            × (view into.new ≡ both (view into.old) (view other)) }
         ensures slots { (i : ℕ) → slot_of into.new i ≡ slot_of into.old i }
     {
         let (seat, ended) = other.into_parts();
@@ -35,10 +36,13 @@ impl<B: JobBook> Board<B> {
     pub fn close(self, pass: Pass<B>, into: &mut Vec<Box<Post<B>>>)
         requires pass { IsPassOf self pass }
         requires all { (view pass).passes ≡ workers_of self }
-        requires published { ((j : ℕ) → j < jobs_of self → Contains (view pass).published j) ⊎ ((0 < past (jobs_of self) (view pass).drawn) × ((j : ℕ) → slot_of pass j ≡ None)) }
+        requires published { ((j : ℕ) → j < jobs_of self → Contains (view pass).published j)
+            ⊎ ((0 < past (jobs_of self) (view pass).drawn) × ((j : ℕ) → slot_of pass j ≡ None)) }
         requires room { (vec_len into.old ≡ 0) × (jobs_of self ≤ vec_capacity into.old) }
         ensures count { vec_len into.new ≡ jobs_of self }
-        ensures ready { (j : ℕ) (d : _) → j < jobs_of self → IsReady (B.value (book_of self)) (B.shared (book_of self)) j (slice_index_or into.new.items j d).value }
+        ensures ready { (j : ℕ) (d : _) → j < jobs_of self
+            → IsReady (B.value (book_of self)) (B.shared (book_of self)) j
+            (slice_index_or into.new.items j d).value }
     {
         let Board { table, jobs } = self;
         let (seat, _) = pass.into_parts();

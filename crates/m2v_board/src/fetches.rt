@@ -30,9 +30,13 @@ impl<B: JobBook> Board<B> {
         requires stands { 0 < seat.old.me.0.passes }
         requires free { seat.old.me.0.holds ≡ None }
         requires job { j < jobs_of self.now }
-        requires told { (i : ℕ) (x : _) → Has (IsReady (B.value (book_of self.now)) (B.shared (book_of self.now))) i x → W.is_so i x }
+        requires told { (i : ℕ) (x : _)
+            → Has (IsReady (B.value (book_of self.now)) (B.shared (book_of self.now))) i x
+            → W.is_so i x }
         ensures same { seat.new.table_id ≡ seat.old.table_id }
-        ensures lent { MatchBool result ((x : _) × W.is_so j x × (seat.new.me ≡ (borrow seat.old.me.0 j, (j, x) ∷ seat.old.me.1))) (seat.new.me ≡ seat.old.me) }
+        ensures lent { MatchBool result ((x : _) × W.is_so j x
+            × (seat.new.me ≡ (borrow seat.old.me.0 j, (j, x) ∷ seat.old.me.1)))
+            (seat.new.me ≡ seat.old.me) }
     {
         self.table
             .shared
@@ -48,7 +52,9 @@ impl<B: JobBook> Board<B> {
         requires free { seat.old.me.0.holds ≡ None }
         requires job { j < jobs_of self.now }
         ensures same { seat.new.table_id ≡ seat.old.table_id }
-        ensures lent { (x : _) × Has (IsReady (B.value (book_of self.now)) (B.shared (book_of self.now))) j x × (seat.new.me ≡ (borrow seat.old.me.0 j, (j, x) ∷ seat.old.me.1)) }
+        ensures lent { (x : _)
+            × Has (IsReady (B.value (book_of self.now)) (B.shared (book_of self.now))) j x
+            × (seat.new.me ≡ (borrow seat.old.me.0 j, (j, x) ∷ seat.old.me.1)) }
     {
         let mut turns = 0;
         for _ in rt.forever() {
@@ -72,7 +78,8 @@ impl<B: JobBook> Board<B> {
         requires job { j < jobs_of self.now }
         requires holds { seat.old.me.0.holds ≡ Some j }
         requires out { seat.old.me.1 ≡ (j, None) ∷ rest seat.old.me.1 }
-        requires ready { IsReady (B.value (book_of self.now)) (B.shared (book_of self.now)) j post.value }
+        requires ready { IsReady (B.value (book_of self.now)) (B.shared (book_of self.now)) j
+            post.value }
         ensures same { seat.new.table_id ≡ seat.old.table_id }
         ensures given { seat.new.me ≡ (give_back seat.old.me.0, rest seat.old.me.1) }
     {
@@ -100,7 +107,8 @@ impl<B: JobBook> Board<B> {
         requires at { at < length (B.needs book.now j) }
         requires need { need ≡ slice_index (B.needs book.now j) at }
         requires cache { B.fits_cache book.now cache.old }
-        ensures pass { IsPassOf self.now pass.new × (view pass.new ≡ give_back (borrow (view pass.old) need)) }
+        ensures pass { IsPassOf self.now pass.new
+            × (view pass.new ≡ give_back (borrow (view pass.old) need)) }
         ensures slots { (i : ℕ) → slot_of pass.new i ≡ slot_of pass.old i }
         ensures fits { B.fits_cache book.now cache.new }
         ensures learned { cache.new ≡ B.learned book.now j at (B.shared book.now need) cache.old }

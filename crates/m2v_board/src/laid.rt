@@ -36,10 +36,12 @@ pub(crate) fn wrapped<T: Drop>(alloc: Global, values: Vec<T>) -> Result<Vec<Opti
 pub(crate) fn emptied<T>(mut closed: Closed<Option<T>, Global>, count: u32, into: &mut Vec<T>)
     requires full { IsFull closed.slots }
     requires count { slots_len closed.slots ≡ count }
-    requires values { (j : ℕ) → j < count → (b : T) × (get_elem? (slots_items closed.slots) j ≡ some (Some b)) }
+    requires values { (j : ℕ) → j < count → (b : T)
+        × (get_elem? (slots_items closed.slots) j ≡ some (Some b)) }
     requires room { (vec_len into.old ≡ 0) × (count ≤ vec_capacity into.old) }
     ensures count { vec_len into.new ≡ count }
-    ensures items { (j : ℕ) (d : T) → j < count → get_elem? (slots_items closed.slots) j ≡ some (Some (slice_index_or into.new.items j d)) }
+    ensures items { (j : ℕ) (d : T) → j < count → get_elem? (slots_items closed.slots) j
+        ≡ some (Some (slice_index_or into.new.items j d)) }
 {
     for j in 0..count {
         into.push_reserved(closed.take(j as usize).unwrap());
@@ -85,7 +87,8 @@ pub(crate) fn bring<S, V>(seat: &mut Seat<S, V>, queue: &mut VecDeque<u32>, j: u
     requires once { (i : ℕ) → times i queue.old.items ≤ 1 }
     requires there { 0 < times j queue.old.items }
     ensures same { (seat.new.table_id ≡ seat.old.table_id) × (seat.new.me.0 ≡ seat.old.me.0) }
-    ensures first { (x : S) × (slot_at seat.old.me.1 j ≡ Some x) × (seat.new.me.1 ≡ (j, x) ∷ rest seat.new.me.1) }
+    ensures first { (x : S) × (slot_at seat.old.me.1 j ≡ Some x)
+        × (seat.new.me.1 ≡ (j, x) ∷ rest seat.new.me.1) }
     ensures slots { (i : ℕ) → slot_at seat.new.me.1 i ≡ slot_at seat.old.me.1 i }
     ensures order { jobs_in seat.new.me.1 ≡ queue.new.items }
     ensures times { (i : ℕ) → times i queue.new.items ≡ times i queue.old.items }

@@ -45,10 +45,14 @@ impl<B: JobBook> Board<B> {
         workers: u32,
     ) -> Result<(Board<B>, Vec<Pass<B>>), Memory>
         requires count { length posts.items ≡ B.jobs book.now }
-        requires blank { (j : ℕ) (d : _) → j < B.jobs book.now → IsBlank (B.fits_piece book.now) (B.fits_shared book.now) j (slice_index_or posts.items j d).value }
+        requires blank { (j : ℕ) (d : _) → j < B.jobs book.now
+            → IsBlank (B.fits_piece book.now) (B.fits_shared book.now) j
+            (slice_index_or posts.items j d).value }
         requires workers { (0 < workers) × (workers ≤ 16) }
-        ensures board { IfOk result (λ r. (book_of r.0 ≡ book.now) × (jobs_of r.0 ≡ B.jobs book.now) × (workers_of r.0 ≡ workers)) }
-        ensures passes { IfOk result (λ r. (vec_len r.1 ≡ workers) × All (λ p. IsNew r.0 p) r.1.items) }
+        ensures board { IfOk result (λ r. (book_of r.0 ≡ book.now) × (jobs_of r.0 ≡ B.jobs book.now)
+            × (workers_of r.0 ≡ workers)) }
+        ensures passes { IfOk result (λ r. (vec_len r.1 ≡ workers)
+            × All (λ p. IsNew r.0 p) r.1.items) }
     {
         let jobs = book.jobs();
         let words = zeros(alloc, jobs)?;
@@ -92,11 +96,14 @@ impl<B: JobBook> Board<B> {
         mut rooms: Vec<VecDeque<u32>>,
         passes: &mut Vec<Pass<B>>,
     )
-        requires seat { (seat.table_id ≡ self.now.table.shared.table_id) × (seat.me ≡ (first_view (jobs_of self.now) (vec_len rooms + 1), [])) }
-        requires rooms { IsRoom (jobs_of self.now) first × All (λ q. IsRoom (jobs_of self.now) q) rooms.items }
+        requires seat { (seat.table_id ≡ self.now.table.shared.table_id)
+            × (seat.me ≡ (first_view (jobs_of self.now) (vec_len rooms + 1), [])) }
+        requires rooms { IsRoom (jobs_of self.now) first
+            × All (λ q. IsRoom (jobs_of self.now) q) rooms.items }
         requires empty { vec_len passes.old ≡ 0 }
         requires space { vec_len rooms + 1 ≤ vec_capacity passes.old }
-        ensures { (vec_len passes.new ≡ vec_len rooms + 1) × All (λ p. IsNew self.now p) passes.new.items }
+        ensures { (vec_len passes.new ≡ vec_len rooms + 1)
+            × All (λ p. IsNew self.now p) passes.new.items }
     {
         while let Some(queue) = rooms.pop() {
             passes.push_reserved(self.another(&mut seat, queue));

@@ -23,7 +23,8 @@ pub struct Pass<B: JobBook> {
     ghost at_rest: { seat.me.0.holds ≡ None },
     ghost drew_past: { ended ≡ nat_lt 0 (past seat.me.0.jobs seat.me.0.drawn) },
     ghost order: { jobs_in seat.me.1 ≡ queue.items },
-    ghost tally: { (i : ℕ) → times i queue.items + times i seat.me.0.published ≡ (if nat_lt i seat.me.0.jobs then times i seat.me.0.drawn else 0) },
+    ghost tally: { (i : ℕ) → times i queue.items + times i seat.me.0.published
+        ≡ (if nat_lt i seat.me.0.jobs then times i seat.me.0.drawn else 0) },
     ghost once: { (i : ℕ) → times i queue.items ≤ 1 },
     ghost room: { seat.me.0.jobs ≤ deque_capacity queue },
 }

@@ -75,7 +75,9 @@ pub trait JobBook {
     fn work(&self, j: u32, cache: &Self::Cache, out: &mut Self::Piece)
         requires job { j < jobs self.now }
         requires fits { fits_piece self.now j out.old }
-        requires learned { (c : Self.Cache) × fits_cache self.now c × (cache.now ≡ cache_after (learned self.now j) (shared self.now) (needs self.now j) (length (needs self.now j)) c) }
+        requires learned { (c : Self.Cache) × fits_cache self.now c
+            × (cache.now ≡ cache_after (learned self.now j) (shared self.now) (needs self.now j)
+            (length (needs self.now j)) c) }
         ensures fits { fits_piece self.now j out.new }
         ensures value { out.new ≡ value self.now j };
 
@@ -106,7 +108,8 @@ pub trait JobBook {
     // calls. So where they hold of proper books alone, `jobs` is guarded: it is 0 of all other values.
 
     // Each need is a lower job.
-    ghost needs_are_below: { (book : Self) (j : ℕ) → j < jobs book → All (λ i. i < j) (needs book j) };
+    ghost needs_are_below: { (book : Self) (j : ℕ) → j < jobs book
+        → All (λ i. i < j) (needs book j) };
 
     // A need list has room for all of them.
     ghost needs_are_few: { (book : Self) (j : ℕ) → j < jobs book → length (needs book j) ≤ 160 };

@@ -14,8 +14,17 @@ use crate::book::JobBook;
 /// is done exactly where the job is published, and then with the value of the job. An event that
 /// is refused changes nothing.
 pub fn law_good<B: JobBook>()
-    ensures good { (book : B) (workers : ℕ) (events : List Event) → Good (B.value book) (run (B.value book) (B.needs book) (opening (B.jobs book) workers) events) }
-    ensures stays { (book : B) (s : State B.Piece) (events : List Event) (j : ℕ) (p : B.Piece) → published_at s j ≡ Some p → published_at (run (B.value book) (B.needs book) s events) j ≡ Some p }
-    ensures fetched { (book : B) (workers : ℕ) (events : List Event) (w j : ℕ) → w < workers → let s = run (B.value book) (B.needs book) (opening (B.jobs book) workers) events in (answer (B.needs book) s (Fetch w j) ≡ Ok Done) ↔ (published_at s j ≡ Some (B.value book j)) }
-    ensures refused { (book : B) (s : State B.Piece) (event : Event) (fault : StepFault) → answer (B.needs book) s event ≡ Err fault → after (B.value book) (B.needs book) s event ≡ s }
+    ensures good { (book : B) (workers : ℕ) (events : List Event)
+        → Good (B.value book) (run (B.value book) (B.needs book) (opening (B.jobs book) workers)
+        events) }
+    ensures stays { (book : B) (s : State B.Piece) (events : List Event) (j : ℕ) (p : B.Piece)
+        → published_at s j ≡ Some p → published_at (run (B.value book) (B.needs book) s events) j
+        ≡ Some p }
+    ensures fetched { (book : B) (workers : ℕ) (events : List Event) (w j : ℕ) → w < workers
+        → let s = run (B.value book) (B.needs book) (opening (B.jobs book) workers) events in
+        (answer (B.needs book) s (Fetch w j) ≡ Ok Done)
+        ↔ (published_at s j ≡ Some (B.value book j)) }
+    ensures refused { (book : B) (s : State B.Piece) (event : Event) (fault : StepFault)
+        → answer (B.needs book) s event ≡ Err fault → after (B.value book) (B.needs book) s event
+        ≡ s }
 {}

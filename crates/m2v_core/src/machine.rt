@@ -30,9 +30,23 @@ pub struct Core<B: JobBook> {
 impl<B: JobBook> Model for Core<B> {
     ghost Value = { Machine B B.Piece };
 
-    ghost view = { λ c. record { book = c.of.value; state = record { jobs = c.jobs; next = c.next; claimed = lists c.claimed.items; published = c.published.items } } };
+    ghost view = { λ c. record {
+      book = c.of.value;
+      state = record {
+        jobs = c.jobs;
+        next = c.next;
+        claimed = lists c.claimed.items;
+        published = c.published.items;
+      };
+    } };
 
-    ghost invariant = { λ c. IsSoundCore (B.jobs c.of.value) (B.value c.of.value) (B.fits_piece c.of.value) record { jobs = c.jobs; next = c.next; claimed = lists c.claimed.items; published = c.published.items } };
+    ghost invariant = { λ c. IsSoundCore (B.jobs c.of.value) (B.value c.of.value)
+        (B.fits_piece c.of.value) record {
+          jobs = c.jobs;
+          next = c.next;
+          claimed = lists c.claimed.items;
+          published = c.published.items;
+        } };
 }
 
 impl<B: JobBook> Drop for Core<B> {
@@ -50,7 +64,10 @@ impl<B: JobBook> Drop for Core<B> {
 impl<B: JobBook> Core<B> {
     /// A core over the book, with nothing drawn. Fails only for want of memory.
     pub fn for_book(alloc: Global, book: &B, workers: u32) -> Result<Core<B>, Memory>
-        ensures { IfOk result (λ c. c ≡ record { book = book.now; state = opening (B.jobs book.now) workers }) }
+        ensures { IfOk result (λ c. c ≡ record {
+          book = book.now;
+          state = opening (B.jobs book.now) workers;
+        }) }
     {
         let jobs = book.jobs();
         let claimed = no_claims(alloc, workers)?;
@@ -75,10 +92,12 @@ impl<B: JobBook> Core<B> {
     pub fn step(&mut self, alloc: Global, book: &B, event: Event) -> Result<Answer, StepFault>
         requires book { self.old.book ≡ book.now }
         ensures book { self.new.book ≡ self.old.book }
-        ensures stepped { Stepped (B.value book.now) (B.needs book.now) self.old.state event result self.new.state }
+        ensures stepped { Stepped (B.value book.now) (B.needs book.now) self.old.state event result
+            self.new.state }
         ensures same { OnErr result (self.new.state ≡ self.old.state) }
         ensures good { Good (B.value book.now) self.new.state }
-        ensures memory { (worker job : ℕ) → event ≡ Event.Fetch worker job → result ≢ Err StepFault.Memory }
+        ensures memory { (worker job : ℕ) → event ≡ Event.Fetch worker job
+            → result ≢ Err StepFault.Memory }
     {
         // The check reads the invariant where a field is used.
         let _of = &self.of;
@@ -92,7 +111,8 @@ impl<B: JobBook> Core<B> {
     #[tactic(auto, using(crate::proofs::Answers::claims), unfolding(crate::specs::Core::answer, crate::specs::Core::after))]
     fn claim(&mut self, worker: u32) -> Result<Answer, StepFault>
         ensures book { self.new.book ≡ self.old.book }
-        ensures stepped { Stepped (B.value self.old.book) (B.needs self.old.book) self.old.state (Claim worker) result self.new.state }
+        ensures stepped { Stepped (B.value self.old.book) (B.needs self.old.book) self.old.state
+            (Claim worker) result self.new.state }
     {
         let workers = self.claimed.len() as u64;
         if worker as u64 >= workers {
@@ -146,7 +166,8 @@ impl<B: JobBook> Core<B> {
     ) -> Result<Answer, StepFault>
         requires { self.old.book ≡ book.now }
         ensures book { self.new.book ≡ self.old.book }
-        ensures stepped { Stepped (B.value self.old.book) (B.needs self.old.book) self.old.state (Publish worker job) result self.new.state }
+        ensures stepped { Stepped (B.value self.old.book) (B.needs self.old.book) self.old.state
+            (Publish worker job) result self.new.state }
     {
         let workers = self.claimed.len() as u64;
         if worker as u64 >= workers {
@@ -190,7 +211,8 @@ impl<B: JobBook> Core<B> {
         requires needs { needs.now ≡ B.needs book.now job }
         requires none_missing { missing self.old.state needs.now ≡ None }
         ensures book { self.new.book ≡ self.old.book }
-        ensures done { OnOk result (self.new.state ≡ publish (B.value self.old.book) self.old.state job) }
+        ensures done { OnOk result (self.new.state ≡ publish (B.value self.old.book) self.old.state
+            job) }
         ensures memory { OnErr result (self.new.state ≡ self.old.state) }
     {
         let piece = computed(
@@ -238,7 +260,8 @@ fn claims_of(claimed: &[Vec<u32>], worker: u32) -> &[u32]
 // Puts a job behind those that one worker claimed.
 fn note(claimed: &mut Vec<Vec<u32>>, worker: u32, job: u32) -> Result<(), Memory>
     requires { worker < vec_len claimed.old }
-    ensures done { OnOk result (lists claimed.new.items ≡ slice_set (lists claimed.old.items) worker (slice_index_or (lists claimed.old.items) worker [] ++ job ∷ [])) }
+    ensures done { OnOk result (lists claimed.new.items ≡ slice_set (lists claimed.old.items) worker
+        (slice_index_or (lists claimed.old.items) worker [] ++ job ∷ [])) }
     ensures same { OnErr result (lists claimed.new.items ≡ lists claimed.old.items) }
 {
     match claimed[worker as usize].push(job) {

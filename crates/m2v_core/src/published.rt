@@ -32,14 +32,16 @@ fn is_claimed(claims: &[u32], j: u32) -> bool
 
 // Whether the job is one of those claimed, and not published.
 pub(crate) fn is_open<T>(claims: &[u32], published: &[Option<T>], j: u32) -> bool
-    ensures { result ≡ (list_any (λ i. i == j) claims.now && not (is_some (slice_index_or published.now j None))) }
+    ensures { result ≡ (list_any (λ i. i == j) claims.now && not
+        (is_some (slice_index_or published.now j None))) }
 {
     is_claimed(claims, j) && !is_published(published, j)
 }
 
 // How many of the jobs claimed are not published.
 pub(crate) fn count_open<T>(claims: &[u32], published: &[Option<T>]) -> u64
-    ensures { result ≡ count_by (λ j. not (is_some (slice_index_or published.now j None))) claims.now }
+    ensures { result ≡ count_by (λ j. not (is_some (slice_index_or published.now j None)))
+        claims.now }
 {
     claims
         .iter()
@@ -69,11 +71,14 @@ fn learn_need<B: JobBook>(
     requires need { need ≡ slice_index (B.needs book.now j) at }
     requires job_of_need { need < B.jobs book.now }
     requires there { is_some (slice_index_or published.now need None) ≡ true }
-    requires value { (p : B.Piece) → slice_index_or published.now need None ≡ Some p → p ≡ B.value book.now need }
-    requires fits { (p : B.Piece) → slice_index_or published.now need None ≡ Some p → B.fits_piece book.now need p }
+    requires value { (p : B.Piece) → slice_index_or published.now need None ≡ Some p
+        → p ≡ B.value book.now need }
+    requires fits { (p : B.Piece) → slice_index_or published.now need None ≡ Some p
+        → B.fits_piece book.now need p }
     requires cache { B.fits_cache book.now cache.old }
     ensures fits { OnOk result (B.fits_cache book.now cache.new) }
-    ensures learned { OnOk result (cache.new ≡ B.learned book.now j at (B.shared book.now need) cache.old) }
+    ensures learned { OnOk result (cache.new ≡ B.learned book.now j at (B.shared book.now need)
+        cache.old) }
 {
     let Some(Some(piece)) = published.get(need as usize) else {
         unreachable!()
@@ -95,9 +100,12 @@ pub(crate) fn computed<B: JobBook>(
     requires job { j < B.jobs book.now }
     requires needs { needs.now ≡ B.needs book.now j }
     requires count { length published.now ≡ B.jobs book.now }
-    requires none_missing { find (λ i. not (is_some (slice_index_or published.now i None))) needs.now ≡ None }
-    requires value { (i : ℕ) (p : B.Piece) → slice_index_or published.now i None ≡ Some p → p ≡ B.value book.now i }
-    requires fits { (i : ℕ) (p : B.Piece) → slice_index_or published.now i None ≡ Some p → B.fits_piece book.now i p }
+    requires none_missing { find (λ i. not (is_some (slice_index_or published.now i None)))
+        needs.now ≡ None }
+    requires value { (i : ℕ) (p : B.Piece) → slice_index_or published.now i None ≡ Some p
+        → p ≡ B.value book.now i }
+    requires fits { (i : ℕ) (p : B.Piece) → slice_index_or published.now i None ≡ Some p
+        → B.fits_piece book.now i p }
     ensures value { IfOk result (λ p. p ≡ B.value book.now j) }
     ensures fits { IfOk result (λ p. B.fits_piece book.now j p) }
 {

@@ -55,7 +55,9 @@ pub fn put_due<K: Sink>(
     requires going { decoder.old.failed ≡ false }
     requires output { IsTrue (K.ready output.old) }
     ensures put { OnOk result (HasPut decoder.old decoder.new) }
-    ensures grown { OnOk result (Grows (K.held output.old) (frames_raw (map crop (due_of decoder.old))) (K.held output.new)) }
+    ensures grown { OnOk result
+        (Grows (K.held output.old) (frames_raw (map crop (due_of decoder.old)))
+        (K.held output.new)) }
     ensures err { IfErr result (Cuts (frames_raw (map crop (due_of decoder.old)))
         (change K.held K.faults output.old output.new)) }
     ensures output { SinkStays K.ready K.name K.faults output.old output.new }

@@ -37,7 +37,8 @@ pub struct Course {
 /// What is noted of a piece whose picture ends, and its picture start code ends at a bit: the first picture.
 #[tactic(auto, unfolding(m2v_model::specs::Pictures::picture_of))]
 fn note_or(noted: Option<PictureNote>, p: &Open, code_end: u64) -> Option<PictureNote>
-    ensures { (store : Store) → result ≡ first_of noted (Some (note_of code_end (picture_of p.now store))) }
+    ensures { (store : Store)
+        → result ≡ first_of noted (Some (note_of code_end (picture_of p.now store))) }
 {
     match noted {
         Some(note) => Some(note),
@@ -115,8 +116,10 @@ impl Course {
     fn open_queue(&mut self, s: &Sequence)
         requires fresh { IsFresh self.old.state.first self.old.queue.anchor }
         requires low { self.old.queue.low_delay ≡ low_delay_of self.old.state.first }
-        ensures low { self.new.queue.low_delay ≡ low_delay_of (Some (first_or self.old.state.first s.now)) }
-        ensures same { self.new ≡ record self.old { queue = queue_of self.new.queue.low_delay self.old.queue.anchor } }
+        ensures low { self.new.queue.low_delay
+            ≡ low_delay_of (Some (first_or self.old.state.first s.now)) }
+        ensures same { self.new
+            ≡ record self.old { queue = queue_of self.new.queue.low_delay self.old.queue.anchor } }
     {
         if self.state.first.is_none() {
             self.queue = DisplayQueue::new(s.extension.low_delay);
@@ -157,7 +160,8 @@ impl Course {
         requires known { is_some self.old.state.sequence ≡ true }
         requires closed { self.old.state.picture ≡ None }
         requires sound { IsSoundCourse self.old }
-        requires first { p.now.second_field ≡ true → p.now.slices_unread ≡ false → IsSome self.old.gallery.current }
+        requires first { p.now.second_field ≡ true → p.now.slices_unread ≡ false
+            → IsSome self.old.gallery.current }
         ensures { OnOk result (Begun self.old p.now self.new) }
     {
         // a picture is read behind a sequence header alone, so this doesn't come

@@ -37,9 +37,20 @@ impl Model for Decoder {
 
     ghost Value = { Decoding };
 
-    ghost view = { λ d. record { state = d.course.state; frames = d.course.gallery; anchor = d.course.queue.anchor; ready = d.course.ready.items; ended = d.ended; failed = d.failed; pictures = d.course.pictures; dropped = d.course.dropped; shown = d.course.shown } };
+    ghost view = { λ d. record {
+      state = d.course.state;
+      frames = d.course.gallery;
+      anchor = d.course.queue.anchor;
+      ready = d.course.ready.items;
+      ended = d.ended;
+      failed = d.failed;
+      pictures = d.course.pictures;
+      dropped = d.course.dropped;
+      shown = d.course.shown;
+    } };
 
-    ghost invariant = { λ d. d.failed ≡ false → IsSoundCourse d.course × (d.course.state.picture ≡ None) };
+    ghost invariant = { λ d. d.failed ≡ false → IsSoundCourse d.course
+        × (d.course.state.picture ≡ None) };
 }
 
 impl Decoder {
@@ -104,7 +115,8 @@ impl Decoder {
         requires going { self.old.failed ≡ false }
         requires before { self.old.ended ≡ false }
         requires counted { self.old.pictures + piece.now.length ≤ 2 ^ 60 }
-        ensures ok { IfOk result (λ notes. Advanced self.old piece.now.place (whole_of piece.now) notes self.new) }
+        ensures ok { IfOk result (λ notes. Advanced self.old piece.now.place (whole_of piece.now)
+            notes self.new) }
         ensures err { IfErr result (Refuses self.old piece.now.place (whole_of piece.now)) }
     {
         self.failed = true;
@@ -139,7 +151,8 @@ impl Decoder {
         requires before { self.old.ended ≡ false }
         requires length { length ≤ 2 ^ 36 }
         ensures ok { OnOk result (Finished self.old length self.new) }
-        ensures err { IfErr result (λ f. end_read (between self.old) length ≡ Err (f.kind, f.place)) }
+        ensures err { IfErr result (λ f. end_read (between self.old) length
+            ≡ Err (f.kind, f.place)) }
     {
         match text_ends(&self.course.state) {
             Ok(()) => {
@@ -156,7 +169,8 @@ impl Decoder {
     /// The next frame that is due and wasn't handed out; behind the end the last anchor too.
     pub fn due(&mut self) -> Option<Frame>
         requires going { self.old.failed ≡ false }
-        ensures { MatchOption result ((due_of self.old ≡ []) × (self.new ≡ self.old)) (λ frame. HandsOut self.old frame self.new) }
+        ensures { MatchOption result ((due_of self.old ≡ []) × (self.new ≡ self.old))
+            (λ frame. HandsOut self.old frame self.new) }
     {
         // no more frames are handed out than pictures were decoded
         let _pictures = self.course.pictures;

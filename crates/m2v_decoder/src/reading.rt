@@ -14,8 +14,11 @@ use std::alloc::Global;
 /// The rules at the end of the text: those at a piece's end, and that no first field waits for its second.
 pub fn text_ends(st: &State) -> Result<(), Stop>
     requires closed { st.now.picture ≡ None }
-    ensures ok { OnOk result ((store : Store) (end : ℕ) → end_read (record { state = st.now; store = store }) end ≡ Ok ([], record { state = st.now; store = store })) }
-    ensures err { IfErr result (λ e. (store : Store) (end : ℕ) → end_read (record { state = st.now; store = store }) end ≡ Err (e.kind, 8 * end)) }
+    ensures ok { OnOk result ((store : Store) (end : ℕ)
+        → end_read (record { state = st.now; store = store }) end
+        ≡ Ok ([], record { state = st.now; store = store })) }
+    ensures err { IfErr result (λ e. (store : Store) (end : ℕ)
+        → end_read (record { state = st.now; store = store }) end ≡ Err (e.kind, 8 * end)) }
 {
     read_end(st)?;
     read_text_end(st)
@@ -44,7 +47,8 @@ impl Course {
         requires counted { self.old.pictures < 2 ^ 62 }
         requires start { start < 2 ^ 41 }
         requires header { slice_stands self.old.state (value_of u.now) ≡ false }
-        ensures { Rounds self.old result self.new units.new ((known_unit self.old.state start (value_of u.now) u.now).read units.old) }
+        ensures { Rounds self.old result self.new units.new
+            ((known_unit self.old.state start (value_of u.now) u.now).read units.old) }
     {
         let header = read_header(&self.state, start, u, units)?;
         self.enter(alloc, &header)?;
@@ -62,7 +66,8 @@ impl Course {
         requires sound { IsSoundCourse self.old }
         requires counted { self.old.pictures < 2 ^ 62 }
         requires start { start < 2 ^ 41 }
-        ensures { Rounds self.old result self.new units.new ((known_unit self.old.state start (value_of u.now) u.now).read units.old) }
+        ensures { Rounds self.old result self.new units.new
+            ((known_unit self.old.state start (value_of u.now) u.now).read units.old) }
     {
         if !is_slice(&self.state, u) {
             return self.header(alloc, start, u, units);

@@ -13,8 +13,11 @@ use m2v_unit::{Unit, UnitReader, enter_slice, enter_unread_slice, picture_rows, 
 /// that of the slice before it.
 #[tactic(auto, unfolding(m2v_model::specs::Streams::slice_unit, m2v_model::specs::Streams::slice_in, m2v_model::specs::Looking::refuse, m2v_bits::specs::Syntax::seq, m2v_bits::specs::Syntax::bind, m2v_bits::specs::Syntax::rule))]
 fn place(st: &State, row: u32, start: u64) -> Result<(Sequence, Open), Stop>
-    ensures ok { IfOk result (λ x. (st.now.sequence ≡ Some x.0) × (st.now.picture ≡ Some x.1) × (row < rows_in x.0 x.1) × (x.1.row ≤ row)) }
-    ensures err { IfErr result (λ e. (u : List ℕ) (us : Units) → (slice_unit st.now st.now.sequence st.now.picture row start u).read us ≡ Err (e.kind, e.left)) }
+    ensures ok { IfOk result (λ x. (st.now.sequence ≡ Some x.0) × (st.now.picture ≡ Some x.1)
+        × (row < rows_in x.0 x.1) × (x.1.row ≤ row)) }
+    ensures err { IfErr result (λ e. (u : List ℕ) (us : Units)
+        → (slice_unit st.now st.now.sequence st.now.picture row start u).read us
+        ≡ Err (e.kind, e.left)) }
 {
     let order = Stop {
         kind: FaultKind::SliceOrder,
@@ -76,8 +79,13 @@ impl Course {
         requires sound { IsSoundCourse self.old }
         requires value { 1 ≤ value_of u.now }
         requires start { start < 2 ^ 41 }
-        ensures ok { OnOk result ((x : Part) × ((slice_unit self.old.state self.old.state.sequence self.old.state.picture (value_of u.now - 1) start u.now).read units.now ≡ Ok (x, units.now)) × Steps self.old x self.new) }
-        ensures err { IfErr result (λ e. (slice_unit self.old.state self.old.state.sequence self.old.state.picture (value_of u.now - 1) start u.now).read units.now ≡ Err (e.kind, e.left)) }
+        ensures ok { OnOk result ((x : Part)
+            × ((slice_unit self.old.state self.old.state.sequence self.old.state.picture
+            (value_of u.now - 1) start u.now).read units.now ≡ Ok (x, units.now))
+            × Steps self.old x self.new) }
+        ensures err { IfErr result
+            (λ e. (slice_unit self.old.state self.old.state.sequence self.old.state.picture
+            (value_of u.now - 1) start u.now).read units.now ≡ Err (e.kind, e.left)) }
     {
         let row = u32::from(u.value()) - 1;
         let (s, p) = place(&self.state, row, start)?;

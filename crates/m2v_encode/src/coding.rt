@@ -33,9 +33,11 @@ impl Coder {
     fn read<S: Source>(&mut self, input: &mut S) -> Result<usize, EncodeError>
         requires room { HasRoom self.old }
         ensures within { IfOk result (λ n. n ≤ frame_bytes (dims_of self.old.settings)) }
-        ensures moved { IfOk result (λ n. Moves (S.left input.old) (take n self.new.raw.items) (S.left input.new)) }
+        ensures moved { IfOk result (λ n. Moves (S.left input.old) (take n self.new.raw.items)
+            (S.left input.new)) }
         ensures bytes { IfOk result (λ n. All (λ b. b < 256) self.new.raw.items) }
-        ensures end { IfOk result (λ n. n < frame_bytes (dims_of self.old.settings) → IsAtEnd (S.left input.new)) }
+        ensures end { IfOk result (λ n. n < frame_bytes (dims_of self.old.settings)
+            → IsAtEnd (S.left input.new)) }
         ensures err { IfErr result (ReadStops (frame_bytes (dims_of self.old.settings))
             (change S.left S.faults input.old input.new)) }
         ensures room { HasRoom self.new }
@@ -52,8 +54,11 @@ impl Coder {
         requires going { queue.old.ended ≡ false }
         requires few { queue.old.pushed < 999999 }
         requires frames { self.old.total.frames < 999999 }
-        ensures pushed { OnOk result (queue.new ≡ after_push queue.old (pad (dims_of self.old.settings) self.old.raw.items)) }
-        ensures counted { OnOk result (self.new.total ≡ record self.old.total { frames = self.old.total.frames + 1 }) }
+        ensures pushed { OnOk result
+            (queue.new ≡ after_push queue.old
+            (pad (dims_of self.old.settings) self.old.raw.items)) }
+        ensures counted { OnOk result
+            (self.new.total ≡ record self.old.total { frames = self.old.total.frames + 1 }) }
         ensures rest { self.new ≡ record self.old { total = self.new.total } }
     {
         let mut frame = Frame::blank(alloc, self.settings.dims())?;
@@ -130,7 +135,8 @@ impl Coder {
             (change K.held K.faults output.old output.new)
             (change N.held N.faults recon.old recon.new)) }
         ensures room { HasRoom self.new }
-        ensures going { OnOk result (GoesOn self.new (is_some (anchor_before (first_of queue.new)))) }
+        ensures going { OnOk result
+            (GoesOn self.new (is_some (anchor_before (first_of queue.new)))) }
         ensures few { OnOk result ((self.new.total.bytes ≤ 2 ^ 21 * self.new.total.pictures)
             × (self.new.total.stuffing ≤ self.new.total.bytes)) }
         ensures output { SinkStays K.ready K.name K.faults output.old output.new }
@@ -162,7 +168,8 @@ impl Coder {
         requires output { IsTrue (K.ready output.old) }
         requires recon { IsTrue (N.ready recon.old) }
         ensures some { OnOk result (is_due (after_end queue.old) ≡ true) }
-        ensures coded { IfOk result (EndCoded self.old (book_by self.old (group_of (after_end queue.old)))
+        ensures coded { IfOk result
+            (EndCoded self.old (book_by self.old (group_of (after_end queue.old)))
             (change K.held K.faults output.old output.new)
             (change N.held N.faults recon.old recon.new)) }
         ensures err { IfErr result (EndStops self.old (after_end queue.old)
@@ -198,7 +205,12 @@ impl Coder {
         requires room { HasRoom self.old }
         requires ledger { self.old.ledger ≡ fresh self.old.settings }
         requires before { self.old.before ≡ None }
-        requires total { self.old.total ≡ record { frames = 0; pictures = 0; bytes = 0; stuffing = 0 } }
+        requires total { self.old.total ≡ record {
+          frames = 0;
+          pictures = 0;
+          bytes = 0;
+          stuffing = 0;
+        } }
         requires queue { queue.old ≡ opening self.old.settings }
         requires output { IsTrue (K.ready output.old) }
         requires recon { IsTrue (N.ready recon.old) }

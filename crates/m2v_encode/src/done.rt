@@ -33,7 +33,8 @@ impl Model for DoneGroup {
 
     ghost view = { λ g. g.done };
 
-    ghost invariant = { λ g. IsDone g.done g.settings g.pictures.items g.frames g.rows g.times.items };
+    ghost invariant = { λ g. IsDone g.done g.settings g.pictures.items g.frames g.rows
+        g.times.items };
 }
 
 impl Drop for DoneGroup {
@@ -143,7 +144,8 @@ impl DoneGroup {
 
     /// The ledger that knows all plans, and all sizes but those of the last three pictures before the last, and its own.
     fn planned(&self) -> Ledger
-        ensures value { result ≡ ledger_with self.now (all_coded self.now) (length self.now.pictures - 4) (all_coded self.now) }
+        ensures value { result ≡ ledger_with self.now (all_coded self.now)
+            (length self.now.pictures - 4) (all_coded self.now) }
     {
         let last = self.pictures() - 1;
         match self.done.piece(last * (self.rows + 1)) {

@@ -56,7 +56,8 @@ impl DoneGroup {
     fn take_picture(&self, p: u32, k: u32, frame: &mut Frame)
         requires picture { p < length self.now.pictures }
         requires size { frame.old.dims ≡ dims_of self.now.settings }
-        ensures here { nat_eq (job_at self.now p).frame k ≡ true → frame.new ≡ with_rows self.now p frame.old }
+        ensures here { nat_eq (job_at self.now p).frame k ≡ true
+            → frame.new ≡ with_rows self.now p frame.old }
         ensures other { nat_eq (job_at self.now p).frame k ≡ false → frame.new ≡ frame.old }
     {
         if self.job(p).frame == k {
@@ -98,7 +99,8 @@ impl DoneGroup {
     ) -> Result<Option<Frame>, EncodeError>
         requires buffer { length buffer.old ≡ frame_bytes (dims_of self.now.settings) }
         requires recon { IsTrue (K.ready recon.old) }
-        ensures grown { OnOk result (Grows (K.held recon.old) (raw (group_shown self.now)) (K.held recon.new)) }
+        ensures grown { OnOk result (Grows (K.held recon.old) (raw (group_shown self.now))
+            (K.held recon.new)) }
         ensures anchor { IfOk result (λ f. f ≡ anchor_behind self.now) }
         ensures err { IfErr result (PutStops (raw (group_shown self.now))
             (change K.held K.faults recon.old recon.new)) }

@@ -82,7 +82,12 @@ impl Coder {
         ensures room { IfOk result HasRoom }
         ensures ledger { IfOk result (λ c. c.ledger ≡ fresh settings.now) }
         ensures before { IfOk result (λ c. c.before ≡ None) }
-        ensures total { IfOk result (λ c. c.total ≡ record { frames = 0; pictures = 0; bytes = 0; stuffing = 0 }) }
+        ensures total { IfOk result (λ c. c.total ≡ record {
+          frames = 0;
+          pictures = 0;
+          bytes = 0;
+          stuffing = 0;
+        }) }
     {
         Ok(Coder {
             settings: *settings,
@@ -111,7 +116,8 @@ impl Coder {
         requires some { 1 ≤ length pictures.now }
         requires most { length pictures.now ≤ 126 }
         requires kinds { All (λ (j : PictureJob). (1 ≤ j.kind) × (j.kind ≤ 3)) pictures.now }
-        ensures times { IfOk result (λ v. v.items ≡ intervals_of self.old.settings before pictures.now) }
+        ensures times { IfOk result
+            (λ v. v.items ≡ intervals_of self.old.settings before pictures.now) }
         ensures begun { OnOk result (self.new.ledger ≡ begun self.old.ledger
             (map (λ (j : PictureJob). j.kind) pictures.now)
             (intervals_of self.old.settings before pictures.now)) }
@@ -134,7 +140,8 @@ impl Coder {
         requires going { GoesOn self.old (is_some group.before) }
         requires few { IsFew self.old.total }
         requires group { IsGroupOf self.old.settings (handed group) }
-        requires sizes { All (λ (f : Samples). f.dims ≡ dims_of self.old.settings) group.frames.items }
+        requires sizes { All (λ (f : Samples). f.dims ≡ dims_of self.old.settings)
+            group.frames.items }
         requires early { All (λ (j : PictureJob). j.display < 1000000) group.pictures.items }
         ensures value { IfOk result (λ d. d ≡ book_by self.old (handed group)) }
         ensures settings { self.new.settings ≡ self.old.settings }
@@ -177,19 +184,23 @@ impl Coder {
         requires going { GoesOn self.old (is_some group.before) }
         requires few { IsFew self.old.total }
         requires group { IsGroupOf self.old.settings (handed group) }
-        requires sizes { All (λ (f : Samples). f.dims ≡ dims_of self.old.settings) group.frames.items }
+        requires sizes { All (λ (f : Samples). f.dims ≡ dims_of self.old.settings)
+            group.frames.items }
         requires early { All (λ (j : PictureJob). j.display < 1000000) group.pictures.items }
         requires output { IsTrue (K.ready output.old) }
         requires recon { IsTrue (N.ready recon.old) }
-        ensures coded { OnOk result (GroupCoded self.old self.new (book_by self.old (handed group)) ends
+        ensures coded { OnOk result (GroupCoded self.old self.new (book_by self.old (handed group))
+            ends
             (change K.held K.faults output.old output.new)
             (change N.held N.faults recon.old recon.new)) }
-        ensures err { IfErr result (GroupStops (book_by self.old (handed group)) ends (8 * self.old.total.bytes)
+        ensures err { IfErr result
+            (GroupStops (book_by self.old (handed group)) ends (8 * self.old.total.bytes)
             (change K.held K.faults output.old output.new)
             (change N.held N.faults recon.old recon.new)) }
         ensures room { HasRoom self.new }
         ensures going { OnOk result (ends ≡ false → GoesOn self.new true) }
-        ensures few { OnOk result ((self.new.total.bytes ≤ 2 ^ 21 * self.new.total.pictures) × (self.new.total.stuffing ≤ self.new.total.bytes)) }
+        ensures few { OnOk result ((self.new.total.bytes ≤ 2 ^ 21 * self.new.total.pictures)
+            × (self.new.total.stuffing ≤ self.new.total.bytes)) }
         ensures output { SinkStays K.ready K.name K.faults output.old output.new }
         ensures recon { SinkStays N.ready N.name N.faults recon.old recon.new }
     {

@@ -43,7 +43,8 @@ pub(crate) fn put_bytes<K: Sink>(bytes: &[u8], output: &mut K) -> Result<(), Enc
 /// Writes the bytes of a text.
 pub(crate) fn put_text<K: Sink>(bytes: &[u8], output: &mut K) -> Result<(), EncodeError>
     requires output { IsTrue (K.ready output.old) }
-    ensures grown { OnOk result (Grows (K.held output.old) (packed (bits bytes.now)) (K.held output.new)) }
+    ensures grown { OnOk result
+        (Grows (K.held output.old) (packed (bits bytes.now)) (K.held output.new)) }
     ensures err { IfErr result (PutStops (packed (bits bytes.now))
         (change K.held K.faults output.old output.new)) }
     ensures output { SinkStays K.ready K.name K.faults output.old output.new }
@@ -55,7 +56,8 @@ pub(crate) fn put_text<K: Sink>(bytes: &[u8], output: &mut K) -> Result<(), Enco
 fn put_some_zeros<K: Sink>(count: usize, output: &mut K) -> Result<(), EncodeError>
     requires few { count ≤ 512 }
     requires output { IsTrue (K.ready output.old) }
-    ensures grown { OnOk result (Grows (K.held output.old) (replicate count 0) (K.held output.new)) }
+    ensures grown { OnOk result
+        (Grows (K.held output.old) (replicate count 0) (K.held output.new)) }
     ensures err { IfErr result (PutStops (replicate count 0)
         (change K.held K.faults output.old output.new)) }
     ensures output { SinkStays K.ready K.name K.faults output.old output.new }
@@ -67,7 +69,8 @@ fn put_some_zeros<K: Sink>(count: usize, output: &mut K) -> Result<(), EncodeErr
 /// Writes zero bytes.
 fn put_zeros<K: Sink>(count: u64, output: &mut K) -> Result<(), EncodeError>
     requires output { IsTrue (K.ready output.old) }
-    ensures grown { OnOk result (Grows (K.held output.old) (replicate count 0) (K.held output.new)) }
+    ensures grown { OnOk result
+        (Grows (K.held output.old) (replicate count 0) (K.held output.new)) }
     ensures err { IfErr result (PutStops (replicate count 0)
         (change K.held K.faults output.old output.new)) }
     ensures output { SinkStays K.ready K.name K.faults output.old output.new }
@@ -110,11 +113,13 @@ impl DoneGroup {
         requires output { IsTrue (K.ready output.old) }
         ensures grown { OnOk result (Grows (K.held output.old)
             (packed (header_units self.now.settings (job_at self.now p)
-            ((account.held - 1800 * bits_to_code (job_at self.now p)) / (8 * self.now.settings.bits))))
+            ((account.held - 1800 * bits_to_code (job_at self.now p)) /
+            (8 * self.now.settings.bits))))
             (K.held output.new)) }
         ensures err { IfErr result (PutStops
             (packed (header_units self.now.settings (job_at self.now p)
-            ((account.held - 1800 * bits_to_code (job_at self.now p)) / (8 * self.now.settings.bits))))
+            ((account.held - 1800 * bits_to_code (job_at self.now p)) /
+            (8 * self.now.settings.bits))))
             (change K.held K.faults output.old output.new)) }
         ensures room { 384 ≤ headers.new.room + length headers.new.written }
         ensures output { SinkStays K.ready K.name K.faults output.old output.new }
@@ -174,17 +179,20 @@ impl DoneGroup {
         requires ledger { ledger.now ≡ whole_ledger self.now }
         requires place { IsPlace self.now.settings (account_at ledger.now p) (8 * total.old.bytes) }
         requires begun { 272 ≤ 8 * total.old.bytes + bits_to_code (job_at self.now p) }
-        requires few { (total.old.pictures < 2 ^ 40) × (total.old.bytes < 2 ^ 60) × (total.old.stuffing < 2 ^ 60) }
+        requires few { (total.old.pictures < 2 ^ 40) × (total.old.bytes < 2 ^ 60)
+            × (total.old.stuffing < 2 ^ 60) }
         requires room { 384 ≤ headers.old.room + length headers.old.written }
         requires output { IsTrue (K.ready output.old) }
         ensures grown { OnOk result (Grows (K.held output.old)
-            (packed (picture_text self.now (all_coded self.now) ledger.now ends (8 * total.old.bytes) p))
+            (packed (picture_text self.now (all_coded self.now) ledger.now ends
+            (8 * total.old.bytes) p))
             (K.held output.new)) }
         ensures sent { OnOk result (Sent total.old total.new
             (size_of self.now (all_coded self.now) p) (zeros_of ledger.now ends p)) }
         ensures most { OnOk result (total.new.bytes ≤ total.old.bytes + 2 ^ 21) }
         ensures err { IfErr result (PutStops
-            (packed (picture_text self.now (all_coded self.now) ledger.now ends (8 * total.old.bytes) p))
+            (packed (picture_text self.now (all_coded self.now) ledger.now ends
+            (8 * total.old.bytes) p))
             (change K.held K.faults output.old output.new)) }
         ensures room { 384 ≤ headers.new.room + length headers.new.written }
         ensures output { SinkStays K.ready K.name K.faults output.old output.new }
@@ -214,22 +222,27 @@ impl DoneGroup {
     ) -> Result<(), EncodeError>
         requires ledger { ledger.now ≡ whole_ledger self.now }
         requires place { IsPlace self.now.settings (account_at ledger.now 0) (8 * total.old.bytes) }
-        requires few { (total.old.pictures < 2 ^ 32) × (total.old.bytes < 2 ^ 59) × (total.old.stuffing < 2 ^ 59) }
+        requires few { (total.old.pictures < 2 ^ 32) × (total.old.bytes < 2 ^ 59)
+            × (total.old.stuffing < 2 ^ 59) }
         requires room { 384 ≤ headers.old.room + length headers.old.written }
         requires output { IsTrue (K.ready output.old) }
         ensures grown { OnOk result (Grows (K.held output.old)
             (packed (group_text self.now ends (8 * total.old.bytes))) (K.held output.new)) }
         ensures frames { OnOk result (total.new.frames ≡ total.old.frames) }
-        ensures pictures { OnOk result (total.new.pictures ≡ total.old.pictures + length self.now.pictures) }
+        ensures pictures { OnOk result (total.new.pictures ≡ total.old.pictures
+            + length self.now.pictures) }
         ensures bytes { OnOk result (8 * total.new.bytes
             ≡ 8 * total.old.bytes + length (group_text self.now ends (8 * total.old.bytes))) }
         ensures stuffing { OnOk result (8 * total.new.stuffing
             ≡ 8 * total.old.stuffing + zeros_sum ledger.now ends (length self.now.pictures)) }
         ensures place { OnOk result (ends ≡ false → IsPlace self.now.settings
             (account_at ledger.now (length self.now.pictures)) (8 * total.new.bytes)) }
-        ensures most { OnOk result (total.new.bytes ≤ total.old.bytes + 2 ^ 21 * length self.now.pictures) }
-        ensures within { OnOk result (total.new.stuffing + total.old.bytes ≤ total.old.stuffing + total.new.bytes) }
-        ensures err { IfErr result (PutStops (packed (group_text self.now ends (8 * total.old.bytes)))
+        ensures most { OnOk result
+            (total.new.bytes ≤ total.old.bytes + 2 ^ 21 * length self.now.pictures) }
+        ensures within { OnOk result (total.new.stuffing + total.old.bytes ≤ total.old.stuffing
+            + total.new.bytes) }
+        ensures err { IfErr result
+            (PutStops (packed (group_text self.now ends (8 * total.old.bytes)))
             (change K.held K.faults output.old output.new)) }
         ensures room { 384 ≤ headers.new.room + length headers.new.written }
         ensures output { SinkStays K.ready K.name K.faults output.old output.new }

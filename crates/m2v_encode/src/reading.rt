@@ -15,7 +15,8 @@ fn are_bytes(bytes: &[u8])
 /// Reads bytes of the next frame until they are all there or the input ends, and says how many there are.
 pub(crate) fn read_bytes<S: Source>(input: &mut S, raw: &mut [u8]) -> Result<usize, EncodeError>
     ensures within { IfOk result (λ n. n ≤ length raw.old) }
-    ensures moved { IfOk result (λ n. Moves (S.left input.old) (take n raw.new) (S.left input.new)) }
+    ensures moved { IfOk result
+        (λ n. Moves (S.left input.old) (take n raw.new) (S.left input.new)) }
     ensures bytes { IfOk result (λ n. All (λ b. b < 256) raw.new) }
     ensures end { IfOk result (λ n. n < length raw.old → IsAtEnd (S.left input.new)) }
     ensures err { IfErr result (ReadStops (length raw.old)
@@ -36,7 +37,8 @@ pub(crate) fn read_bytes<S: Source>(input: &mut S, raw: &mut [u8]) -> Result<usi
 pub(crate) fn goes_on<S: Source>(input: &mut S) -> Result<bool, EncodeError>
     ensures more { result ≡ Ok true → (byte : ℕ) × (byte < 256)
         × Moves (S.left input.old) (byte ∷ []) (S.left input.new) }
-    ensures none { result ≡ Ok false → Moves (S.left input.old) [] (S.left input.new) × IsAtEnd (S.left input.new) }
+    ensures none { result ≡ Ok false → Moves (S.left input.old) [] (S.left input.new)
+        × IsAtEnd (S.left input.new) }
     ensures err { IfErr result (ReadStops 1 (change S.left S.faults input.old input.new)) }
     ensures input { S.faults input.old ≤ S.faults input.new }
 {

@@ -9,5 +9,6 @@ ghost use Rattle.m2v_model.specs.Decoding.{Decodes};
 ///
 /// It holds for every number of frames from 1 on, whatever bytes they have.
 pub fn law_flat_decodes()
-    ensures { (s : FlatSettings) (frames : List (List ℕ)) → HasPassed s → 1 ≤ length frames → Decodes (Flat s frames) (FlatRecon s frames) }
+    ensures { (s : FlatSettings) (frames : List (List ℕ)) → HasPassed s → 1 ≤ length frames
+        → Decodes (Flat s frames) (FlatRecon s frames) }
 {}

@@ -50,7 +50,8 @@ impl Coder {
     /// Codes the frame that was read, frame n; the bits are those that it brings.
     fn code(&mut self, number: u64)
         requires ready { IsReady self.old }
-        ensures written { self.new.out.written ≡ frame_units self.old.settings number (pad self.old.settings.dims self.old.raw.items) }
+        ensures written { self.new.out.written ≡ frame_units self.old.settings number
+            (pad self.old.settings.dims self.old.raw.items) }
         ensures edge { length self.new.out.written % 8 ≡ 0 }
         ensures ready { IsReady self.new }
         ensures settings { self.new.settings ≡ self.old.settings }
@@ -64,8 +65,10 @@ impl Coder {
     fn read<S: Source>(&mut self, input: &mut S) -> Result<usize, EncodeError>
         requires ready { IsReady self.old }
         ensures within { IfOk result (λ n. n ≤ frame_bytes self.old.settings.dims) }
-        ensures moved { IfOk result (λ n. Moves (S.left input.old) (take n self.new.raw.items) (S.left input.new)) }
-        ensures end { IfOk result (λ n. n < frame_bytes self.old.settings.dims → IsAtEnd (S.left input.new)) }
+        ensures moved { IfOk result (λ n. Moves (S.left input.old) (take n self.new.raw.items)
+            (S.left input.new)) }
+        ensures end { IfOk result (λ n. n < frame_bytes self.old.settings.dims
+            → IsAtEnd (S.left input.new)) }
         ensures err { IfErr result (ReadStops (frame_bytes self.old.settings.dims)
             (change S.left S.faults input.old input.new)) }
         ensures ready { IsReady self.new }
@@ -84,7 +87,8 @@ impl Coder {
         requires ready { IsReady self.now }
         requires edge { length self.now.out.written % 8 ≡ 0 }
         requires output { IsTrue (K.ready output.old) }
-        ensures grown { OnOk result (Grows (K.held output.old) (packed self.now.out.written) (K.held output.new)) }
+        ensures grown { OnOk result (Grows (K.held output.old) (packed self.now.out.written)
+            (K.held output.new)) }
         ensures size { IfOk result (λ n. n ≡ length (packed self.now.out.written)) }
         ensures most { IfOk result (λ n. n ≤ 32784) }
         ensures err { IfErr result (PutStops (packed self.now.out.written)
@@ -109,7 +113,8 @@ impl Coder {
         requires ready { IsReady self.old }
         requires output { IsTrue (K.ready output.old) }
         ensures coded { IfOk result (λ o. MatchOption o
-            (NextNone (change S.left S.faults input.old input.new) (change K.held K.faults output.old output.new))
+            (NextNone (change S.left S.faults input.old input.new)
+            (change K.held K.faults output.old output.new))
             (λ n. NextCoded self.old.settings number n
             (change S.left S.faults input.old input.new)
             (change K.held K.faults output.old output.new))) }
@@ -145,8 +150,14 @@ impl Coder {
         requires bytes { bytes < 2 ^ 63 }
         requires output { IsTrue (K.ready output.old) }
         ensures some { OnOk result (0 < frames) }
-        ensures grown { OnOk result (Grows (K.held output.old) (packed (start_code 0xB7)) (K.held output.new)) }
-        ensures numbers { IfOk result (λ s. s ≡ record { frames = frames; pictures = frames; bytes = bytes + length (packed (start_code 0xB7)); stuffing = 0 }) }
+        ensures grown { OnOk result
+            (Grows (K.held output.old) (packed (start_code 0xB7)) (K.held output.new)) }
+        ensures numbers { IfOk result (λ s. s ≡ record {
+          frames = frames;
+          pictures = frames;
+          bytes = bytes + length (packed (start_code 0xB7));
+          stuffing = 0;
+        }) }
         ensures err { IfErr result (EndStops frames
             (change K.held K.faults output.old output.new)) }
         ensures output { SinkStays K.ready K.name K.faults output.old output.new }
@@ -198,8 +209,10 @@ impl Coder {
 
 /// Whether a byte is left; it is read.
 fn goes_on<S: Source>(input: &mut S) -> Result<bool, EncodeError>
-    ensures more { result ≡ Ok true → (byte : ℕ) × Moves (S.left input.old) (byte ∷ []) (S.left input.new) }
-    ensures none { result ≡ Ok false → Moves (S.left input.old) [] (S.left input.new) × IsAtEnd (S.left input.new) }
+    ensures more { result ≡ Ok true → (byte : ℕ)
+        × Moves (S.left input.old) (byte ∷ []) (S.left input.new) }
+    ensures none { result ≡ Ok false → Moves (S.left input.old) [] (S.left input.new)
+        × IsAtEnd (S.left input.new) }
     ensures err { IfErr result (ReadStops 1 (change S.left S.faults input.old input.new)) }
     ensures input { S.faults input.old ≤ S.faults input.new }
 {

@@ -17,10 +17,12 @@ pub fn law_one_value()
 /// What is written of a header spells it, and is read back as it, whatever follows.
 pub fn law_round_trip()
     ensures sequence { RoundTrip sequence_at SequenceFits sequence_text }
-    ensures sequence_extension { RoundTrip sequence_extension_at SequenceExtensionFits sequence_extension_text }
+    ensures sequence_extension { RoundTrip sequence_extension_at SequenceExtensionFits
+        sequence_extension_text }
     ensures group { RoundTrip group_at GroupFits group_text }
     ensures picture { RoundTrip picture_at PictureFits picture_text }
-    ensures picture_extension { RoundTrip picture_extension_at PictureExtensionFits picture_extension_text }
+    ensures picture_extension { RoundTrip picture_extension_at PictureExtensionFits
+        picture_extension_text }
     ensures matrices { RoundTrip matrices_at MatrixFits matrices_text }
     ensures slice { RoundTrip slice_at SliceFits slice_text }
 {}

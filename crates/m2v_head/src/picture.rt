@@ -128,7 +128,8 @@ fn kind(input: &mut BitReader) -> Result<u8, HeadFault>
 /// Reads what the header has of a direction, which is nothing where the picture's type doesn't have it.
 #[tactic(auto, unfolding(m2v_bits::specs::Syntax::choose, m2v_bits::specs::Syntax::done))]
 fn direction(input: &mut BitReader, told: bool) -> Result<(bool, u8), HeadFault>
-    ensures exact { Gives result input.new.rest ((choose told vectors_at (done (false, 0))).read input.old.rest) }
+    ensures exact { Gives result input.new.rest
+        ((choose told vectors_at (done (false, 0))).read input.old.rest) }
     ensures f_code { IfOk result (λ x. x.1 < 2 ^ 3) }
     ensures untold { IfOk result (λ x. told ≡ false → (x.0 ≡ false) × (x.1 ≡ 0)) }
     ensures text { input.new.text ≡ input.old.text }

@@ -37,9 +37,12 @@ impl SliceInfo {
     #[tactic(auto, using(m2v_bits::proofs::Cursor::lengths), unfolding(crate::specs::Texts::intra_slice_text))]
     fn write_intra_slice(&self, out: &mut BitWriter)
         requires fits { SliceFits self.now }
-        requires room { length (intra_slice_text self.now.intra_slice self.now.reserved) ≤ out.old.room }
-        ensures written { out.new.written ≡ out.old.written ++ intra_slice_text self.now.intra_slice self.now.reserved }
-        ensures room { out.new.room + length (intra_slice_text self.now.intra_slice self.now.reserved) ≡ out.old.room }
+        requires room { length (intra_slice_text self.now.intra_slice self.now.reserved)
+            ≤ out.old.room }
+        ensures written { out.new.written ≡ out.old.written ++ intra_slice_text self.now.intra_slice
+            self.now.reserved }
+        ensures room { out.new.room
+            + length (intra_slice_text self.now.intra_slice self.now.reserved) ≡ out.old.room }
     {
         if let Some(intra_slice) = self.intra_slice {
             put_flag(out, true);
@@ -69,7 +72,8 @@ impl SliceInfo {
 /// What stands behind the flag: intra_slice and seven reserved bits where it is set.
 #[tactic(auto, unfolding(m2v_bits::specs::Syntax::choose, m2v_bits::specs::Syntax::done))]
 fn intra_part(input: &mut BitReader, told: bool) -> Result<(Option<bool>, u8), HeadFault>
-    ensures exact { Gives result input.new.rest ((choose told intra_slice_at (done (None, 0))).read input.old.rest) }
+    ensures exact { Gives result input.new.rest
+        ((choose told intra_slice_at (done (None, 0))).read input.old.rest) }
     ensures reserved { IfOk result (λ x. x.1 < 2 ^ 7) }
     ensures untold { IfOk result (λ x. IfNone x.0 (x.1 ≡ 0)) }
     ensures text { input.new.text ≡ input.old.text }

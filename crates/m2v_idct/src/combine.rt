@@ -29,7 +29,8 @@ pub fn combine_terms(t: &Terms, n: u32) -> [i32; 8]
     requires e6 { Within 82000000 t.now.e6 }
     requires p { Within 82000000 t.now.p }
     requires m { Within 82000000 t.now.m }
-    ensures { result ≡ combine t.now.a1 t.now.a7 t.now.a5 t.now.a3 t.now.e2 t.now.e6 t.now.p t.now.m n }
+    ensures { result ≡ combine t.now.a1 t.now.a7 t.now.a5 t.now.a3 t.now.e2 t.now.e6 t.now.p t.now.m
+        n }
 {
     join_parts(even_part(t), odd_part(t), n)
 }

@@ -157,7 +157,8 @@ fn transform_columns(block: &mut [i32; 64])
 fn transform_column(block: &mut [i32; 64], x: usize)
     requires x { x < 8 }
     requires within { (k : ℕ) → k < 8 → Within 160000 (at block.old k x) }
-    ensures column { (k : ℕ) → k < 8 → nth block.new (8 * k + x) ≡ clip (nth (column (λ j. at block.old j x)) k) }
+    ensures column { (k : ℕ) → k < 8 → nth block.new (8 * k + x)
+        ≡ clip (nth (column (λ j. at block.old j x)) k) }
     ensures rest { (i : ℕ) → ((k : ℕ) → k < 8 → i ≢ 8 * k + x) → nth block.new i ≡ nth block.old i }
 {
     let left = column_at(block, x);

@@ -43,7 +43,10 @@ pub struct Judge {
 /// The rate and the buffer of a sequence that breaks no rule.
 fn setup_of(s: &Sequence) -> Option<Setup>
     ensures fits { IfSome result FitsSetup }
-    ensures is { IfSome result (λ x. x ≡ record { rate = rate_of s.now; buffer = buffer_of s.now }) }
+    ensures is { IfSome result (λ x. x ≡ record {
+      rate = rate_of s.now;
+      buffer = buffer_of s.now;
+    }) }
     ensures some { IfSome result (λ x. found (sequence_breaches (s.now ∷ [])) ≡ None) }
     ensures none { result ≡ None → IsSome (found (sequence_breaches (s.now ∷ []))) }
 {
@@ -133,9 +136,12 @@ impl Judge {
         requires bytes { self.old.bytes + length ≤ 2 ^ 36 }
         requires picture { IfSome notes.now.picture (λ n. IsPlaced n place length) }
         requires few { self.old.rules.pictures < 2 ^ 60 }
-        ensures rules { self.new.rules ≡ with_note (judged_rules self.old.rules notes.now) notes.now.picture }
+        ensures rules { self.new.rules ≡ with_note (judged_rules self.old.rules notes.now)
+            notes.now.picture }
         ensures bytes { self.new.bytes ≡ self.old.bytes + length }
-        ensures account { OnOk result (AccountsNote (judged_rules self.old.rules notes.now) self.old.buffer notes.now.picture place length self.new.buffer) }
+        ensures account { OnOk result
+            (AccountsNote (judged_rules self.old.rules notes.now) self.old.buffer notes.now.picture
+            place length self.new.buffer) }
     {
         with_headers(&mut self.rules, notes);
         match &notes.picture {
@@ -175,7 +181,9 @@ impl Judge {
         requires few { self.old.rules.pictures < 2 ^ 60 }
         ensures rules { self.new.rules ≡ with_note self.old.rules (Some note.now) }
         ensures bytes { self.new.bytes ≡ self.old.bytes + length }
-        ensures account { OnOk result (AccountsBy self.old.rules.sequence self.old.rules self.old.buffer note.now place length self.new.buffer) }
+        ensures account { OnOk result
+            (AccountsBy self.old.rules.sequence self.old.rules self.old.buffer note.now place length
+            self.new.buffer) }
     {
         match self.rules.coded(note) {
             None => {
@@ -203,7 +211,9 @@ impl Judge {
         requires delay { p.now.note.info.vbv_delay < 2 ^ 16 }
         ensures rules { self.new.rules ≡ self.old.rules }
         ensures bytes { self.new.bytes ≡ self.old.bytes + length }
-        ensures account { OnOk result (Accounts self.old.rules.first self.old.buffer p.now (8 * length) code self.new.buffer) }
+        ensures account { OnOk result
+            (Accounts self.old.rules.first self.old.buffer p.now (8 * length) code
+            self.new.buffer) }
     {
         self.bytes += length;
         match &mut self.buffer {
@@ -220,7 +230,9 @@ impl Judge {
     /// What is said of the stream, where it ends here.
     pub fn finish(&mut self) -> Result<Judgement, AllocError>
         requires few { self.old.rules.pictures < 2 ^ 60 }
-        ensures value { IfOk result (λ v. v ≡ judgement_of (broken_in self.old.rules) self.old.rules.constant (ended_by self.old.buffer)) }
+        ensures value { IfOk result
+            (λ v. v ≡ judgement_of (broken_in self.old.rules) self.old.rules.constant
+            (ended_by self.old.buffer)) }
     {
         match self.rules.broken() {
             Some(broken) => return Ok(Judgement::Unlawful(broken)),

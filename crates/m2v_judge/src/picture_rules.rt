@@ -157,7 +157,9 @@ fn precision_rule(p: &CodedPicture) -> Option<BrokenRule>
 
 /// The first rule before that on temporal_reference that a picture breaks.
 pub fn breach_before(p: &CodedPicture) -> Option<BrokenRule>
-    ensures value { result ≡ found (horizontal_rule (numbered_of p.now) ++ vertical_rule (numbered_of p.now) ++ intra_rule (numbered_of p.now)) }
+    ensures value { result
+        ≡ found (horizontal_rule (numbered_of p.now) ++ vertical_rule (numbered_of p.now)
+        ++ intra_rule (numbered_of p.now)) }
 {
     let first = horizontal_rule(p);
     let tail = either(vertical_rule(p), intra_rule(p));
@@ -166,7 +168,8 @@ pub fn breach_before(p: &CodedPicture) -> Option<BrokenRule>
 
 /// The first rule behind that on temporal_reference that a picture breaks, where the rate is constant or isn't.
 pub fn breach_behind(constant: bool, p: &CodedPicture) -> Option<BrokenRule>
-    ensures value { result ≡ found (crowd_rule (numbered_of p.now) ++ repeat_rule constant (numbered_of p.now)
+    ensures value { result
+        ≡ found (crowd_rule (numbered_of p.now) ++ repeat_rule constant (numbered_of p.now)
         ++ progressive_rule (numbered_of p.now) ++ precision_rule (numbered_of p.now)) }
 {
     let first = either(crowd_rule(p), repeat_rule(constant, p));

@@ -33,7 +33,8 @@ impl Buffer {
         requires delay { p.now.note.info.vbv_delay < 2 ^ 16 }
         ensures total { result.course.total ≡ bits }
         ensures course { result.course ≡ opening_of setup.now times p.now bits code }
-        ensures times { result.times ≡ record times { repeats = repeats_behind times (numbered_of p.now) } }
+        ensures times { result.times
+            ≡ record times { repeats = repeats_behind times (numbered_of p.now) } }
         ensures most { (t : ℕ) → most_in t result ≡ 0 }
     {
         let delay = u64::from(p.note.info.vbv_delay);
@@ -66,8 +67,13 @@ impl Buffer {
         requires code { code ≤ bits }
         requires most { self.old.course.total + bits ≤ 2 ^ 40 }
         ensures total { self.new.course.total ≡ self.old.course.total + bits }
-        ensures course { self.new.course ≡ stepped self.old.course (next_of self.old.times p.now bits code) }
-        ensures times { self.new.times ≡ record self.old.times { repeats = repeats_behind self.old.times (numbered_of p.now) } }
+        ensures course { self.new.course
+            ≡ stepped self.old.course (next_of self.old.times p.now bits code) }
+        ensures times { self.new.times
+            ≡ record self.old.times {
+              repeats = repeats_behind self.old.times
+                  (numbered_of p.now);
+            } }
         ensures most { OnOk result (is_over self.new.course ≡ false
             → (t : ℕ) → self.new.course.total ≤ t → most_in t self.new
             ≡ most_noted t (most_in t self.old) (amount_by self.old.course.under self.old.course)) }
@@ -95,7 +101,8 @@ impl Buffer {
     fn note(&mut self, amount: Option<Amount>) -> Result<(), AllocError>
         ensures same { self.new.course ≡ self.old.course }
         ensures times { self.new.times ≡ self.old.times }
-        ensures most { OnOk result ((t : ℕ) → most_in t self.new ≡ most_noted t (most_in t self.old) amount) }
+        ensures most { OnOk result ((t : ℕ) → most_in t self.new
+            ≡ most_noted t (most_in t self.old) amount) }
     {
         match amount {
             Some(amount) => self.amounts.add(amount),

@@ -80,7 +80,10 @@ impl Rules {
     fn first_sequence(&mut self, s: &Sequence)
         ensures value { self.new ≡ record self.old {
           first = Some (first_or self.old.first s.now);
-          places = record self.old.places { low_delay = low_delay_with self.old.first s.now self.old.places.low_delay };
+          places = record self.old.places {
+            low_delay = low_delay_with self.old.first s.now
+                self.old.places.low_delay;
+          };
         } }
     {
         match self.first {
@@ -101,7 +104,8 @@ impl Rules {
 
     /// The picture that comes next, where a sequence header came before it.
     pub fn coded(&self, note: &PictureNote) -> Option<CodedPicture>
-        ensures value { result ≡ option_map (λ s. coded_next self.now s note.now) self.now.sequence }
+        ensures value { result ≡ option_map (λ s. coded_next self.now s note.now)
+            self.now.sequence }
     {
         match self.sequence {
             Some(sequence) => Some(CodedPicture {
@@ -148,7 +152,8 @@ impl Rules {
     /// The group before ends, where the picture is the first of its own.
     fn begin(&mut self, first_in_group: bool)
         requires few { self.old.places.shown < 2 ^ 60 }
-        ensures value { self.new ≡ record self.old { places = begun_with first_in_group self.old.places } }
+        ensures value { self.new
+            ≡ record self.old { places = begun_with first_in_group self.old.places } }
         ensures few { self.new.places.shown ≤ self.old.places.shown }
     {
         if first_in_group {
@@ -159,7 +164,8 @@ impl Rules {
     /// The picture's frame has a place, or waits for it.
     fn place(&mut self, note: &PictureNote, p: Unplaced)
         requires few { self.old.places.shown < 2 ^ 60 }
-        ensures value { self.new ≡ record self.old { places = placed_with note.now self.old.places p } }
+        ensures value { self.new
+            ≡ record self.old { places = placed_with note.now self.old.places p } }
         ensures few { self.new.places.shown ≤ self.old.places.shown + 1 }
     {
         if ends_frame(note) {

@@ -75,7 +75,8 @@ fn height_rule(s: &Sequence) -> Option<BrokenRule>
 
 /// frame_rate_code.
 fn code_rule(s: &Sequence) -> Option<BrokenRule>
-    ensures value { result ≡ found (within 4 0 s.now.info.frame_rate_code 1 (limits_in s.now).codes) }
+    ensures value { result
+        ≡ found (within 4 0 s.now.info.frame_rate_code 1 (limits_in s.now).codes) }
 {
     let most = bounds_of(s).codes;
     let code = s.info.frame_rate_code;
@@ -84,7 +85,8 @@ fn code_rule(s: &Sequence) -> Option<BrokenRule>
 
 /// The two numbers that change the frame rate are 0.
 fn change_rule(s: &Sequence) -> Option<BrokenRule>
-    ensures value { result ≡ found (at_most 4 0 (32 * s.now.extension.rate_n + s.now.extension.rate_d) 0) }
+    ensures value { result
+        ≡ found (at_most 4 0 (32 * s.now.extension.rate_n + s.now.extension.rate_d) 0) }
 {
     let n = s.extension.rate_n;
     let d = s.extension.rate_d;

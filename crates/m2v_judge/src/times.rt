@@ -58,7 +58,9 @@ impl Times {
 
     /// A field is repeated in the time behind a frame picture.
     fn repeated(&self, anchor: bool, p: &CodedPicture) -> bool
-        ensures value { result ≡ (if anchor && not self.now.low_delay then self.now.repeats else repeats (numbered_of p.now)) }
+        ensures value { result
+            ≡ (if anchor && not self.now.low_delay then self.now.repeats else repeats
+            (numbered_of p.now)) }
     {
         if anchor && !self.low_delay {
             self.repeats
@@ -71,7 +73,8 @@ impl Times {
     pub fn next(&mut self, p: &CodedPicture) -> u64
         ensures value { result ≡ time_behind self.old (numbered_of p.now) }
         ensures most { result < 2 ^ 20 }
-        ensures new { self.new ≡ record self.old { repeats = repeats_behind self.old (numbered_of p.now) } }
+        ensures new { self.new
+            ≡ record self.old { repeats = repeats_behind self.old (numbered_of p.now) } }
     {
         let time = self.behind(p);
         if !is_b(&p.note.info) && ends_frame(&p.note) {

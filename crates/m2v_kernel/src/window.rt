@@ -93,7 +93,8 @@ fn fours_until(
     requires fours { lines % 4 ≡ 0 }
     requires whole { length block.now ≡ 16 * lines }
     requires within { place + (lines - 1) * stride + 16 ≤ length window.now }
-    ensures none { IsNone result ↔ (limit ≤ sad block.now (lines_at lines window.now place stride)) }
+    ensures none { IsNone result
+        ↔ (limit ≤ sad block.now (lines_at lines window.now place stride)) }
     ensures some { IfSome result (λ s. s ≡ sad block.now (lines_at lines window.now place stride)) }
 {
     let mut sum = 0;
@@ -126,7 +127,8 @@ pub fn sad_at_until(
     requires fours { lines % 4 ≡ 0 }
     requires whole { length block.now ≡ 16 * lines }
     requires within { place + (lines - 1) * stride + 16 ≤ length window.now }
-    ensures none { IsNone result ↔ (limit ≤ sad block.now (lines_at lines window.now place stride)) }
+    ensures none { IsNone result
+        ↔ (limit ≤ sad block.now (lines_at lines window.now place stride)) }
     ensures some { IfSome result (λ s. s ≡ sad block.now (lines_at lines window.now place stride)) }
 {
     // a search passes over most places by bounds; of the others few end early, so all lines are summed before the test

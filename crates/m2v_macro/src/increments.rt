@@ -15,7 +15,8 @@ use m2v_vlc::{Increment, read_increment};
 #[inline(always)]
 #[tactic(auto, unfolding(crate::specs::Macros::round_at, crate::specs::Macros::added, m2v_bits::specs::Syntax::seq, m2v_bits::specs::Syntax::bind, m2v_bits::specs::Syntax::renamed, m2v_bits::specs::Syntax::done))]
 fn round(input: &mut BitReader, sum: u32) -> Result<(bool, u32), MacroFault>
-    ensures exact { (n : ℕ) → sum ≡ kept n → GivesRound result input.new.rest ((round_at n).read input.old.rest) }
+    ensures exact { (n : ℕ) → sum ≡ kept n
+        → GivesRound result input.new.rest ((round_at n).read input.old.rest) }
     ensures text { input.new.text ≡ input.old.text }
     ensures some { IfOk result (λ x. 0 < x.1) }
 {
@@ -71,7 +72,8 @@ pub fn column(context: &PictureContext, state: &SliceState, increment: u32) -> u
 #[inline(always)]
 fn not_before(state: &SliceState, increment: u32) -> bool
     requires { IsAddress state.now.address }
-    ensures { result ≡ (not state.now.first || int_le (pos state.now.next) (address state.now increment)) }
+    ensures { result ≡ (not state.now.first || int_le (pos state.now.next)
+        (address state.now increment)) }
 {
     !state.first || i64::from(state.next) <= state.address + i64::from(increment)
 }
@@ -120,7 +122,8 @@ fn allowed<'a>(
     requires some { 0 < increment }
     requires columns { (1 ≤ context.now.columns) × (context.now.columns ≤ 120) }
     requires address { IsAddress state.now.address }
-    ensures exact { Gives result input.new.rest ((allowed_at context.now state.now (length start.now.rest) increment).read input.old.rest) }
+    ensures exact { Gives result input.new.rest
+        ((allowed_at context.now state.now (length start.now.rest) increment).read input.old.rest) }
     ensures text { input.new.text ≡ input.old.text }
     ensures step { IfOk result (λ v. IsStep context.now state.now v) }
     ensures small { IfOk result (λ v. v < 2 ^ 20) }
@@ -144,7 +147,8 @@ pub fn step(
     requires context { IsContext context.now }
     requires address { IsAddress state.now.address }
     requires next { state.now.next ≤ 2 ^ 16 }
-    ensures exact { Gives result input.new.rest ((step_at context.now state.now).read input.old.rest) }
+    ensures exact { Gives result input.new.rest
+        ((step_at context.now state.now).read input.old.rest) }
     ensures text { input.new.text ≡ input.old.text }
     ensures step { IfOk result (λ v. IsStep context.now state.now v) }
     ensures small { IfOk result (λ v. v < 2 ^ 20) }

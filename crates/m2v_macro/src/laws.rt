@@ -17,11 +17,13 @@ pub fn law_one_reading()
 
 /// What is written of a macroblock is read back as it, whatever follows.
 pub fn law_round_trip()
-    ensures { (c : PictureContext) (st : SliceState) (m : MacroSyntax) (rest : List Bool) → IsContext c → IsReady c st → IsMacro c st m
+    ensures { (c : PictureContext) (st : SliceState) (m : MacroSyntax) (rest : List Bool)
+        → IsContext c → IsReady c st → IsMacro c st m
         → (macro_at c st).read (macro_text c st m ++ rest) ≡ Ok (m, rest) }
 {}
 
 /// A component of a vector whose difference is `16 f` or `-16 f` may be spelled either way.
 pub fn law_two_texts()
-    ensures { (f_code : ℕ) (predictor : ℤ) → 1 ≤ f_code → IsVector (scale f_code) predictor → TwoTexts f_code predictor }
+    ensures { (f_code : ℕ) (predictor : ℤ) → 1 ≤ f_code → IsVector (scale f_code) predictor
+        → TwoTexts f_code predictor }
 {}

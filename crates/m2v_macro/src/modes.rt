@@ -83,8 +83,10 @@ fn told_form(input: &mut BitReader, kind: u8) -> Result<u8, MacroFault>
 pub fn form(input: &mut BitReader, context: &PictureContext, kind: MbType) -> Result<u8, MacroFault>
     ensures exact { Gives result input.new.rest ((form_at context.now kind).read input.old.rest) }
     ensures text { input.new.text ≡ input.old.text }
-    ensures known { has_form_of context.now kind ≡ true → IfOk result (λ v. (is_form_of context.now.kind v ≡ true) × (v < 4)) }
-    ensures none { has_form_of context.now kind ≡ false → IfOk result (λ v. v ≡ no_form context.now) }
+    ensures known { has_form_of context.now kind ≡ true
+        → IfOk result (λ v. (is_form_of context.now.kind v ≡ true) × (v < 4)) }
+    ensures none { has_form_of context.now kind ≡ false
+        → IfOk result (λ v. v ≡ no_form context.now) }
 {
     if has_form(context, kind) {
         return told_form(input, context.kind);
@@ -215,7 +217,8 @@ pub fn pattern(input: &mut BitReader, kind: MbType) -> Result<u8, MacroFault>
     ensures exact { Gives result input.new.rest ((pattern_at kind).read input.old.rest) }
     ensures text { input.new.text ≡ input.old.text }
     ensures intra { kind.intra ≡ true → IfOk result (λ v. v ≡ 63) }
-    ensures known { kind.intra ≡ false → kind.pattern ≡ true → IfOk result (λ v. (0 < v) × (v < 64)) }
+    ensures known { kind.intra ≡ false → kind.pattern ≡ true
+        → IfOk result (λ v. (0 < v) × (v < 64)) }
     ensures none { kind.intra ≡ false → kind.pattern ≡ false → IfOk result (λ v. v ≡ 0) }
 {
     if kind.intra {

@@ -44,7 +44,14 @@ fn made(
     vectors: &MacroSyntax,
     pattern: u8,
 ) -> MacroSyntax
-    ensures { result ≡ record vectors.now { increment = increment; kind = kind; form = form; dct_field = dct_field; quantiser = quantiser; pattern = pattern } }
+    ensures { result ≡ record vectors.now {
+      increment = increment;
+      kind = kind;
+      form = form;
+      dct_field = dct_field;
+      quantiser = quantiser;
+      pattern = pattern;
+    } }
 {
     let mut m = copied(vectors);
     m.increment = increment;
@@ -68,12 +75,19 @@ fn directions(
 ) -> Result<(Direction, Direction), MacroFault>
     requires context { IsContext context.now }
     requires kind { has_type context.now.kind kind ≡ true }
-    requires forward { is_used context.now 0 ≡ true → ArePredictors (f_codes_of context.now 0) pmv.now 0 }
-    requires backward { is_used context.now 1 ≡ true → ArePredictors (f_codes_of context.now 1) pmv.now 1 }
-    ensures exact { Gives result input.new.rest ((directions_at context.now kind form pmv.now).read input.old.rest) }
+    requires forward { is_used context.now 0 ≡ true
+        → ArePredictors (f_codes_of context.now 0) pmv.now 0 }
+    requires backward { is_used context.now 1 ≡ true
+        → ArePredictors (f_codes_of context.now 1) pmv.now 1 }
+    ensures exact { Gives result input.new.rest
+        ((directions_at context.now kind form pmv.now).read input.old.rest) }
     ensures text { input.new.text ≡ input.old.text }
-    ensures forward { IfOk result (λ x. IsDirection (kind.forward || is_concealed_of context.now kind) (shape_as (is_field_of context.now) form) (f_codes_of context.now 0) x.0) }
-    ensures backward { IfOk result (λ x. IsDirection kind.backward (shape_as (is_field_of context.now) form) (f_codes_of context.now 1) x.1) }
+    ensures forward { IfOk result
+        (λ x. IsDirection (kind.forward || is_concealed_of context.now kind)
+        (shape_as (is_field_of context.now) form) (f_codes_of context.now 0) x.0) }
+    ensures backward { IfOk result
+        (λ x. IsDirection kind.backward (shape_as (is_field_of context.now) form)
+        (f_codes_of context.now 1) x.1) }
 {
     let shape = shape_of(is_field(context), form);
     let codes = &context.extension.f_code;
@@ -95,7 +109,8 @@ fn macroblock(
     requires state { IsReady context.now state.now }
     requires address { IsAddress state.now.address }
     requires next { state.now.next ≤ 2 ^ 16 }
-    ensures exact { Gives result input.new.rest ((macro_at context.now state.now).read input.old.rest) }
+    ensures exact { Gives result input.new.rest
+        ((macro_at context.now state.now).read input.old.rest) }
     ensures text { input.new.text ≡ input.old.text }
     ensures fits { IfOk result (λ m. IsMacro context.now state.now m) }
 {
@@ -129,7 +144,8 @@ pub fn read_macro(
     requires state { IsReady context.now state.old }
     requires address { IsAddress state.old.address }
     requires next { state.old.next ≤ 2 ^ 16 }
-    ensures exact { Gives result input.new.rest ((macro_at context.now state.old).read input.old.rest) }
+    ensures exact { Gives result input.new.rest
+        ((macro_at context.now state.old).read input.old.rest) }
     ensures text { input.new.text ≡ input.old.text }
     ensures fits { IfOk result (λ m. IsMacro context.now state.old m) }
     ensures state { IfOk result (λ m. state.new ≡ after context.now state.old m) }

@@ -109,7 +109,8 @@ fn quantiser_behind(state: &SliceState, m: &MacroSyntax) -> u8
 #[inline(always)]
 fn pmv_behind(context: &PictureContext, state: &SliceState, m: &MacroSyntax) -> Pmv
     requires { AreSmall m.now.vectors }
-    ensures { result ≡ predictors_after (motion_of context.now m.now) (pmv_before_of context.now state.now m.now.increment) }
+    ensures { result ≡ predictors_after (motion_of context.now m.now)
+        (pmv_before_of context.now state.now m.now.increment) }
 {
     let motion = motion(context, m);
     pmv_before(context, state, m.increment).after(&motion)

@@ -44,7 +44,9 @@ pub fn has_residual(f_code: u8, code: i8) -> bool
 fn residual(input: &mut BitReader, f_code: u8, code: i8) -> Result<u32, MacroFault>
     requires least { 1 ≤ f_code }
     requires most { f_code ≤ 9 }
-    ensures exact { Gives result input.new.rest ((choose (has_residual_of f_code code) (bits_at cut (f_code - 1)) (done 0)).read input.old.rest) }
+    ensures exact { Gives result input.new.rest
+        ((choose (has_residual_of f_code code) (bits_at cut (f_code - 1)) (done 0)).read
+        input.old.rest) }
     ensures text { input.new.text ≡ input.old.text }
     ensures below { IfOk result (λ v. v < scale f_code) }
     ensures none { IfOk result (λ v. code ≡ pos 0 → v ≡ 0) }
@@ -62,7 +64,8 @@ fn component(input: &mut BitReader, f_code: u8, predictor: i32) -> Result<i32, M
     requires least { 1 ≤ f_code }
     requires most { f_code ≤ 9 }
     requires predictor { IsVector (scale f_code) predictor }
-    ensures exact { Gives result input.new.rest ((component_at f_code predictor).read input.old.rest) }
+    ensures exact { Gives result input.new.rest
+        ((component_at f_code predictor).read input.old.rest) }
     ensures text { input.new.text ≡ input.old.text }
     ensures within { IfOk result (λ v. IsVector (scale f_code) v) }
 {
@@ -119,7 +122,8 @@ fn vertical(
     requires least { 1 ≤ f_code }
     requires most { f_code ≤ 9 }
     requires predictor { IsVector (scale f_code) predictor }
-    ensures exact { Gives result input.new.rest ((vertical_at halved f_code predictor).read input.old.rest) }
+    ensures exact { Gives result input.new.rest
+        ((vertical_at halved f_code predictor).read input.old.rest) }
     ensures text { input.new.text ≡ input.old.text }
     ensures within { IfOk result (λ v. IsVector (scale f_code) v) }
     ensures half { halved ≡ true → IfOk result (λ v. IsHalf (scale f_code) v) }
@@ -143,7 +147,8 @@ fn vector(
     requires scales { AreScales f_code.now }
     requires predictor { IsPair f_code.now predictor.now }
     requires bit { shape.now.bit ≡ false → bottom ≡ false }
-    ensures exact { Gives result input.new.rest ((vector_at shape.now f_code.now predictor.now bottom).read input.old.rest) }
+    ensures exact { Gives result input.new.rest
+        ((vector_at shape.now f_code.now predictor.now bottom).read input.old.rest) }
     ensures text { input.new.text ≡ input.old.text }
     ensures selected { IfOk result (λ s. IsSelected shape.now f_code.now s) }
 {
@@ -162,7 +167,8 @@ fn vector(
 #[inline(always)]
 #[tactic(auto, unfolding(m2v_bits::specs::Syntax::choose, m2v_bits::specs::Syntax::done))]
 fn bit(input: &mut BitReader, told: bool) -> Result<bool, MacroFault>
-    ensures exact { Gives result input.new.rest ((choose told flag_at (done false)).read input.old.rest) }
+    ensures exact { Gives result input.new.rest
+        ((choose told flag_at (done false)).read input.old.rest) }
     ensures text { input.new.text ≡ input.old.text }
     ensures none { IfOk result (λ v. told ≡ false → v ≡ false) }
 {
@@ -183,7 +189,8 @@ fn selected(
 ) -> Result<Selected, MacroFault>
     requires scales { AreScales f_code.now }
     requires predictor { IsPair f_code.now predictor.now }
-    ensures exact { Gives result input.new.rest ((selected_at shape.now f_code.now predictor.now).read input.old.rest) }
+    ensures exact { Gives result input.new.rest
+        ((selected_at shape.now f_code.now predictor.now).read input.old.rest) }
     ensures text { input.new.text ≡ input.old.text }
     ensures selected { IfOk result (λ s. IsSelected shape.now f_code.now s) }
 {
@@ -214,7 +221,9 @@ fn second(
 ) -> Result<Selected, MacroFault>
     requires scales { AreScales f_code.now }
     requires predictor { IsPair f_code.now predictor.now }
-    ensures exact { Gives result input.new.rest ((choose shape.now.two (selected_at shape.now f_code.now predictor.now) (done no_vector_of)).read input.old.rest) }
+    ensures exact { Gives result input.new.rest
+        ((choose shape.now.two (selected_at shape.now f_code.now predictor.now)
+        (done no_vector_of)).read input.old.rest) }
     ensures text { input.new.text ≡ input.old.text }
     ensures two { shape.now.two ≡ true → IfOk result (λ s. IsSelected shape.now f_code.now s) }
     ensures one { shape.now.two ≡ false → IfOk result (λ s. s ≡ no_vector_of) }
@@ -238,7 +247,8 @@ fn vectors(
     requires scales { AreScales f_code.now }
     requires predictors { ArePredictors f_code.now pmv.now direction }
     requires direction { direction < 2 }
-    ensures exact { Gives result input.new.rest ((vectors_at shape.now f_code.now pmv.now direction).read input.old.rest) }
+    ensures exact { Gives result input.new.rest
+        ((vectors_at shape.now f_code.now pmv.now direction).read input.old.rest) }
     ensures text { input.new.text ≡ input.old.text }
     ensures told { IfOk result (λ d. IsDirection true shape.now f_code.now d) }
 {
@@ -261,7 +271,8 @@ pub fn direction(
     requires scales { told ≡ true → AreScales f_code.now }
     requires predictors { told ≡ true → ArePredictors f_code.now pmv.now direction }
     requires direction { direction < 2 }
-    ensures exact { Gives result input.new.rest ((direction_at told shape.now f_code.now pmv.now direction).read input.old.rest) }
+    ensures exact { Gives result input.new.rest
+        ((direction_at told shape.now f_code.now pmv.now direction).read input.old.rest) }
     ensures text { input.new.text ≡ input.old.text }
     ensures known { IfOk result (λ d. IsDirection told shape.now f_code.now d) }
 {

@@ -125,8 +125,10 @@ fn put_directions<O: BitOutput>(
 )
     requires context { IsContext context.now }
     requires fits { IsMacro context.now state.now m.now }
-    requires forward { is_used context.now 0 ≡ true → ArePredictors (f_codes_of context.now 0) pmv.now 0 }
-    requires backward { is_used context.now 1 ≡ true → ArePredictors (f_codes_of context.now 1) pmv.now 1 }
+    requires forward { is_used context.now 0 ≡ true
+        → ArePredictors (f_codes_of context.now 0) pmv.now 0 }
+    requires backward { is_used context.now 1 ≡ true
+        → ArePredictors (f_codes_of context.now 1) pmv.now 1 }
     requires room { length (directions_text context.now pmv.now m.now) ≤ O.space out.old }
     ensures { Gains O.took O.space out.old (directions_text context.now pmv.now m.now) out.new }
 {
@@ -175,7 +177,8 @@ pub fn write_macro(
     requires room { length (macro_text context.now state.old m.now) ≤ out.old.room }
     ensures written { out.new.written ≡ out.old.written ++ macro_text context.now state.old m.now }
     ensures room { out.new.room + length (macro_text context.now state.old m.now) ≡ out.old.room }
-    ensures spells { Spells (macro_at context.now state.old) m.now (macro_text context.now state.old m.now) }
+    ensures spells { Spells (macro_at context.now state.old) m.now
+        (macro_text context.now state.old m.now) }
     ensures state { state.new ≡ after context.now state.old m.now }
     ensures ready { IsReady context.now state.new }
 {

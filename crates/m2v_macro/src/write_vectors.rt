@@ -38,8 +38,10 @@ fn put_part<O: BitOutput>(
     requires scales { AreScales f_code.now }
     requires predictor { IsPair f_code.now predictor.now }
     requires selected { IsSelected shape.now f_code.now s.now }
-    requires room { length (part_text shape.now f_code.now predictor.now s.now k) ≤ O.space out.old }
-    ensures { Gains O.took O.space out.old (part_text shape.now f_code.now predictor.now s.now k) out.new }
+    requires room { length (part_text shape.now f_code.now predictor.now s.now k)
+        ≤ O.space out.old }
+    ensures { Gains O.took O.space out.old (part_text shape.now f_code.now predictor.now s.now k)
+        out.new }
 {
     let above = predictor_at(shape, predictor, k);
     put_component(f_code[k], above, s.vector[k], out);
@@ -58,8 +60,10 @@ fn put_vector<O: BitOutput>(
     requires scales { AreScales f_code.now }
     requires predictor { IsPair f_code.now predictor.now }
     requires selected { IsSelected shape.now f_code.now s.now }
-    requires room { length (vector_text shape.now f_code.now predictor.now s.now) ≤ O.space out.old }
-    ensures { Gains O.took O.space out.old (vector_text shape.now f_code.now predictor.now s.now) out.new }
+    requires room { length (vector_text shape.now f_code.now predictor.now s.now)
+        ≤ O.space out.old }
+    ensures { Gains O.took O.space out.old (vector_text shape.now f_code.now predictor.now s.now)
+        out.new }
 {
     put_part(shape, f_code, predictor, s, 0, out);
     put_part(shape, f_code, predictor, s, 1, out);
@@ -89,8 +93,10 @@ fn put_selected<O: BitOutput>(
     requires scales { AreScales f_code.now }
     requires predictor { IsPair f_code.now predictor.now }
     requires selected { IsSelected shape.now f_code.now s.now }
-    requires room { length (selected_text shape.now f_code.now predictor.now s.now) ≤ O.space out.old }
-    ensures { Gains O.took O.space out.old (selected_text shape.now f_code.now predictor.now s.now) out.new }
+    requires room { length (selected_text shape.now f_code.now predictor.now s.now)
+        ≤ O.space out.old }
+    ensures { Gains O.took O.space out.old (selected_text shape.now f_code.now predictor.now s.now)
+        out.new }
 {
     put_bit(shape.bit, s.bottom, out);
     put_vector(shape, f_code, predictor, s, out);
@@ -109,8 +115,10 @@ fn put_second<O: BitOutput>(
     requires scales { AreScales f_code.now }
     requires predictor { IsPair f_code.now predictor.now }
     requires selected { shape.now.two ≡ true → IsSelected shape.now f_code.now s.now }
-    requires room { length (second_text shape.now f_code.now predictor.now s.now) ≤ O.space out.old }
-    ensures { Gains O.took O.space out.old (second_text shape.now f_code.now predictor.now s.now) out.new }
+    requires room { length (second_text shape.now f_code.now predictor.now s.now)
+        ≤ O.space out.old }
+    ensures { Gains O.took O.space out.old (second_text shape.now f_code.now predictor.now s.now)
+        out.new }
 {
     if shape.two {
         put_selected(shape, f_code, predictor, s, out);
@@ -132,8 +140,10 @@ pub fn put_direction<O: BitOutput>(
     requires predictors { told ≡ true → ArePredictors f_code.now pmv.now direction }
     requires direction { direction < 2 }
     requires known { IsDirection told shape.now f_code.now d.now }
-    requires room { length (direction_text told shape.now f_code.now pmv.now direction d.now) ≤ O.space out.old }
-    ensures { Gains O.took O.space out.old (direction_text told shape.now f_code.now pmv.now direction d.now) out.new }
+    requires room { length (direction_text told shape.now f_code.now pmv.now direction d.now)
+        ≤ O.space out.old }
+    ensures { Gains O.took O.space out.old
+        (direction_text told shape.now f_code.now pmv.now direction d.now) out.new }
 {
     if told {
         put_selected(shape, f_code, &pmv.at[0][direction], &d.first, out);

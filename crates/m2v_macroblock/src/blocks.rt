@@ -39,7 +39,8 @@ pub fn kind_for(context: &PictureContext, intra: bool, luma: bool, quantiser: u8
 pub fn kinds(context: &PictureContext, intra: bool, quantiser: u8) -> [BlockKind; 2]
     requires picture { IsPicture context.now }
     requires quantiser { (1 ≤ quantiser) × (quantiser ≤ 31) }
-    ensures value { result ≡ kind_for_of context.now intra true quantiser ∷ kind_for_of context.now intra false quantiser ∷ [] }
+    ensures value { result ≡ kind_for_of context.now intra true quantiser ∷ kind_for_of context.now
+        intra false quantiser ∷ [] }
     ensures kinds { All IsKind result }
 {
     let luma = kind_for(context, intra, true, quantiser);

@@ -115,7 +115,8 @@ fn opposite_parity_vectors(context: &PictureContext, m: &MacroSyntax) -> [[i32; 
 #[inline(always)]
 fn opposite(context: &PictureContext, m: &MacroSyntax) -> [[i32; 2]; 2]
     requires dual { m.now.form ≡ 3 → IsDual m.now }
-    ensures { result ≡ (if nat_eq m.now.form 3 then opposite_parity_vectors_of context.now m.now else zeros ∷ zeros ∷ []) }
+    ensures { result ≡ (if nat_eq m.now.form 3 then opposite_parity_vectors_of context.now m.now
+        else zeros ∷ zeros ∷ []) }
 {
     if m.form == 3 {
         return opposite_parity_vectors(context, m);

@@ -27,8 +27,10 @@ fn put_one<O: BitOutput>(
     requires block { block < 6 }
     requires picture { IsPicture context.now }
     requires blocks { AreWritable context.now state.now (macroblock_of x.now levels.now) }
-    requires room { length (block_in_text context.now state.now (macroblock_of x.now levels.now) block) ≤ O.space out.old }
-    ensures { Gains O.took O.space out.old (block_in_text context.now state.now (macroblock_of x.now levels.now) block) out.new }
+    requires room { length (block_in_text context.now state.now (macroblock_of x.now levels.now)
+        block) ≤ O.space out.old }
+    ensures { Gains O.took O.space out.old
+        (block_in_text context.now state.now (macroblock_of x.now levels.now) block) out.new }
 {
     if is_coded(x.pattern, block as u32) {
         let kind = kind_for(context, x.kind.intra, block < 4, state.quantiser);
@@ -48,8 +50,10 @@ fn put_blocks<O: BitOutput>(
 )
     requires picture { IsPicture context.now }
     requires blocks { AreWritable context.now state.now (macroblock_of x.now levels.now) }
-    requires room { length (blocks_text context.now state.now (macroblock_of x.now levels.now) 0 6) ≤ O.space out.old }
-    ensures { Gains O.took O.space out.old (blocks_text context.now state.now (macroblock_of x.now levels.now) 0 6) out.new }
+    requires room { length (blocks_text context.now state.now (macroblock_of x.now levels.now) 0 6)
+        ≤ O.space out.old }
+    ensures { Gains O.took O.space out.old
+        (blocks_text context.now state.now (macroblock_of x.now levels.now) 0 6) out.new }
 {
     for block in 0..6usize {
         put_one(x, levels, context, state, block, out);
@@ -73,7 +77,8 @@ fn put_macroblock<O: BitOutput>(
     requires blocks { AreBlocks context.now state.now (macroblock_of x.now levels.now) }
     requires behind { behind.now ≡ after context.now state.now x.now }
     requires room { length (text_written context.now state.now x.now levels.now) ≤ O.space out.old }
-    ensures { Gains O.took O.space out.old (text_written context.now state.now x.now levels.now) out.new }
+    ensures { Gains O.took O.space out.old (text_written context.now state.now x.now levels.now)
+        out.new }
 {
     put_macro(x, context, state, out);
     put_blocks(x, levels, context, behind, out);
@@ -97,9 +102,12 @@ pub fn write_macroblock(
     requires fits { IsMacro context.now state.old x.now }
     requires blocks { AreBlocks context.now state.old (macroblock_of x.now levels.now) }
     requires room { length (text_written context.now state.old x.now levels.now) ≤ out.old.room }
-    ensures written { out.new.written ≡ out.old.written ++ text_written context.now state.old x.now levels.now }
-    ensures room { out.new.room + length (text_written context.now state.old x.now levels.now) ≡ out.old.room }
-    ensures state { state.new ≡ after_macroblock context.now state.old (macroblock_of x.now levels.now) }
+    ensures written { out.new.written ≡ out.old.written ++ text_written context.now state.old x.now
+        levels.now }
+    ensures room { out.new.room + length (text_written context.now state.old x.now levels.now)
+        ≡ out.old.room }
+    ensures state { state.new ≡ after_macroblock context.now state.old
+        (macroblock_of x.now levels.now) }
     ensures ready { IsReady context.now state.new }
     ensures dc { AreDc context.now.extension.dc_precision state.new.dc }
 {

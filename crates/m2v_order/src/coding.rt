@@ -65,7 +65,8 @@ fn push_frame(
     requires step { 1 ≤ settings.now.step }
     requires begun { first ≤ display }
     requires small { display < 2 ^ 32 }
-    ensures ok { OnOk result (pictures.new.items ≡ pictures.old.items ++ jobs_of settings.now count first display) }
+    ensures ok { OnOk result (pictures.new.items ≡ pictures.old.items ++ jobs_of settings.now count
+        first display) }
 {
     let job = |structure: u8| PictureJob {
         frame: (display - first) as u32,
@@ -97,7 +98,8 @@ fn push_between(
     requires begun { first ≤ from }
     requires order { from ≤ to }
     requires small { to < 2 ^ 32 }
-    ensures ok { OnOk result (pictures.new.items ≡ pictures.old.items ++ flat_map (jobs_of settings.now count first) (frames_between from to)) }
+    ensures ok { OnOk result (pictures.new.items ≡ pictures.old.items
+        ++ flat_map (jobs_of settings.now count first) (frames_between from to)) }
 {
     for display in from..to {
         push_frame(settings, count, first, display, pictures)?;
@@ -120,7 +122,9 @@ fn push_anchor(
     requires begun { first ≤ from }
     requires order { from ≤ anchor }
     requires small { anchor < 2 ^ 32 }
-    ensures ok { OnOk result (pictures.new.items ≡ (pictures.old.items ++ jobs_of settings.now count first anchor) ++ flat_map (jobs_of settings.now count first) (frames_between from anchor)) }
+    ensures ok { OnOk result (pictures.new.items
+        ≡ (pictures.old.items ++ jobs_of settings.now count first anchor)
+        ++ flat_map (jobs_of settings.now count first) (frames_between from anchor)) }
 {
     push_frame(settings, count, first, anchor, pictures)?;
     push_between(settings, count, first, from, anchor, pictures)
@@ -139,8 +143,10 @@ fn pictures_up_to(
     requires step { 1 ≤ settings.now.step }
     requires begun { first ≤ to }
     requires small { to < 2 ^ 32 }
-    ensures pictures { IfOk result (λ p. p.0.items ≡ flat_map (jobs_of settings.now count first) (in_order first (anchors_between settings.now count first to))) }
-    ensures behind { IfOk result (λ p. p.1 ≡ past_last first (anchors_between settings.now count first to)) }
+    ensures pictures { IfOk result (λ p. p.0.items ≡ flat_map (jobs_of settings.now count first)
+        (in_order first (anchors_between settings.now count first to))) }
+    ensures behind { IfOk result
+        (λ p. p.1 ≡ past_last first (anchors_between settings.now count first to)) }
     ensures begun { IfOk result (λ p. first ≤ p.1) }
     ensures most { IfOk result (λ p. p.1 ≤ to) }
 {
@@ -168,8 +174,10 @@ pub(crate) fn group_pictures(
     requires step { 1 ≤ settings.now.step }
     requires begun { first ≤ to }
     requires small { to < 2 ^ 32 }
-    ensures pictures { IfOk result (λ p. p.0.items ≡ flat_map (jobs_of settings.now count first) (in_order first (anchors_between settings.now count first to))) }
-    ensures size { IfOk result (λ p. p.1 ≡ past_last first (anchors_between settings.now count first to) - first) }
+    ensures pictures { IfOk result (λ p. p.0.items ≡ flat_map (jobs_of settings.now count first)
+        (in_order first (anchors_between settings.now count first to))) }
+    ensures size { IfOk result
+        (λ p. p.1 ≡ past_last first (anchors_between settings.now count first to) - first) }
     ensures most { IfOk result (λ p. p.1 + first ≤ to) }
 {
     let (pictures, after) = pictures_up_to(alloc, settings, count, first, to)?;

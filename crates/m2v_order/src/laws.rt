@@ -47,7 +47,8 @@ pub fn law_groups<F>()
         → (calls (begun s) cs).groups ≡ earlier ++ g ∷ later → IsGroup earlier g }
     ensures handed { (s : Settings) (cs : List (Call F)) → Passes s
         → All (λ (g : Group F). IsGroupOf s g) (calls (begun s) cs).groups }
-    ensures sound { (s : Settings) (cs : List (Call F)) → Passes s → IsSoundQueue (calls (begun s) cs).now }
+    ensures sound { (s : Settings) (cs : List (Call F)) → Passes s
+        → IsSoundQueue (calls (begun s) cs).now }
     ensures stays { (q : Queue F) (more : List F) (ended : Bool) → Passes q.settings
         → IsSoundQueue q → q.ended ≡ false → is_due q ≡ true
         → (is_due (followed q more ended) ≡ true)

@@ -35,9 +35,20 @@ impl Model for Reorder {
 
     ghost Value = { Queue Samples };
 
-    ghost view = { λ r. record { settings = r.passed; pushed = r.pushed; frames = r.frames.items; ended = r.ended } };
+    ghost view = { λ r. record {
+      settings = r.passed;
+      pushed = r.pushed;
+      frames = r.frames.items;
+      ended = r.ended;
+    } };
 
-    ghost invariant = { λ r. IsSoundQueue (record { settings = r.passed; pushed = r.pushed; frames = r.frames.items; ended = r.ended }) × (r.pushed < 1000000) × All (λ (f : Samples). f.dims ≡ dims_of r.passed) r.frames.items };
+    ghost invariant = { λ r. IsSoundQueue (record {
+      settings = r.passed;
+      pushed = r.pushed;
+      frames = r.frames.items;
+      ended = r.ended;
+    }) × (r.pushed < 1000000)
+        × All (λ (f : Samples). f.dims ≡ dims_of r.passed) r.frames.items };
 }
 
 impl Reorder {
@@ -85,13 +96,19 @@ impl Reorder {
     #[tactic(auto, unfolding(crate::specs::Groups::group_of, crate::specs::Groups::anchor_before))]
     pub fn next_group(&mut self, alloc: Global) -> Result<Option<GroupJobs>, Memory>
         ensures due { IfOk result (λ o. IsSome o ↔ IsTrue (is_due self.old)) }
-        ensures frames { IfOk result (λ o. IfSome o (λ g. g.frames.items ≡ (group_of self.old).frames)) }
-        ensures pictures { IfOk result (λ o. IfSome o (λ g. g.pictures.items ≡ (group_of self.old).pictures)) }
+        ensures frames { IfOk result
+            (λ o. IfSome o (λ g. g.frames.items ≡ (group_of self.old).frames)) }
+        ensures pictures { IfOk result
+            (λ o. IfSome o (λ g. g.pictures.items ≡ (group_of self.old).pictures)) }
         ensures before { IfOk result (λ o. IfSome o (λ g. g.before ≡ (group_of self.old).before)) }
         ensures group { IfOk result (λ o. IfSome o (λ g. IsGroupOf self.old.settings (handed g))) }
         ensures nonempty { IfOk result (λ o. IfSome o (λ g. 0 < length g.frames.items)) }
-        ensures places { IfOk result (λ o. IfSome o (λ g. All (λ (j : PictureJob). (j.display ≡ first_of self.old + j.frame) × (j.frame < length g.frames.items)) g.pictures.items)) }
-        ensures size { IfOk result (λ o. IfSome o (λ g. All (λ (f : Samples). f.dims ≡ dims_of self.old.settings) g.frames.items)) }
+        ensures places { IfOk result
+            (λ o. IfSome o (λ g. All (λ (j : PictureJob). (j.display ≡ first_of self.old + j.frame)
+            × (j.frame < length g.frames.items)) g.pictures.items)) }
+        ensures size { IfOk result
+            (λ o. IfSome o (λ g. All (λ (f : Samples). f.dims ≡ dims_of self.old.settings)
+            g.frames.items)) }
         ensures rest { IfOk result (λ o. OnSome o (self.new ≡ after_group self.old)) }
         ensures same { IfOk result (λ o. IfNone o (self.new ≡ self.old)) }
         ensures memory { OnErr result (self.new ≡ self.old) }

@@ -37,11 +37,13 @@ fn coded_block(
 ) -> Result<(), Stop>
     requires kind { IsKind kind.now }
     requires predictor { kind.now.intra ≡ true → IsDc kind.now.precision predictor }
-    ensures exact { TellsLevels result out.new.at input.new.rest ((renamed faults.of_block (block_at kind.now table_one predictor)).read input.old.rest) }
+    ensures exact { TellsLevels result out.new.at input.new.rest
+        ((renamed faults.of_block (block_at kind.now table_one predictor)).read input.old.rest) }
     ensures text { input.new.text ≡ input.old.text }
     ensures left { IfErr result (λ e. e.left ≤ length input.old.text) }
     ensures levels { All IsLevel out.new.at }
-    ensures dc { OnOk result (kind.now.intra ≡ true → IsDc kind.now.precision (slice_index_or out.new.at 0 (pos 0))) }
+    ensures dc { OnOk result (kind.now.intra ≡ true
+        → IsDc kind.now.precision (slice_index_or out.new.at 0 (pos 0))) }
 {
     let mut dc = predictor;
     match read_block(input, kind, table_one, &mut dc, out) {
@@ -63,11 +65,13 @@ fn block(
     requires kind { IsKind kind.now }
     requires predictor { kind.now.intra ≡ true → IsDc kind.now.precision predictor }
     ensures exact { TellsLevels result out.new.at input.new.rest
-        ((choose coded (renamed faults.of_block (block_at kind.now table_one predictor)) (done (replicate 64 (pos 0)))).read input.old.rest) }
+        ((choose coded (renamed faults.of_block (block_at kind.now table_one predictor))
+        (done (replicate 64 (pos 0)))).read input.old.rest) }
     ensures text { input.new.text ≡ input.old.text }
     ensures left { IfErr result (λ e. e.left ≤ length input.old.text) }
     ensures levels { All IsLevel out.new.at }
-    ensures dc { OnOk result (kind.now.intra ≡ true → IsDc kind.now.precision (slice_index_or out.new.at 0 (pos 0))) }
+    ensures dc { OnOk result (kind.now.intra ≡ true
+        → IsDc kind.now.precision (slice_index_or out.new.at 0 (pos 0))) }
 {
     if coded {
         return coded_block(input, kind, table_one, predictor, out);
@@ -106,7 +110,8 @@ fn next_block(
     requires kinds { AreKinds c.now m.now state.now kinds.now }
     requires dc { AreDc c.now.extension.dc_precision state.now.dc }
     requires before { All (AreFine c.now m.now) (take k (levels_of out.old)) }
-    ensures exact { TellsBlock result (take k (levels_of out.old)) (take (k + 1) (levels_of out.new)) input.new.rest
+    ensures exact { TellsBlock result (take k (levels_of out.old))
+        (take (k + 1) (levels_of out.new)) input.new.rest
         ((block_in c.now m.now state.now k (take k (levels_of out.old))).read input.old.rest) }
     ensures text { input.new.text ≡ input.old.text }
     ensures left { IfErr result (λ e. e.left ≤ length input.old.text) }
@@ -131,11 +136,13 @@ pub fn blocks(
 ) -> Result<(), Stop>
     requires kinds { AreKinds c.now m.now state.now kinds.now }
     requires dc { AreDc c.now.extension.dc_precision state.now.dc }
-    ensures exact { TellsBlocks result out.new input.new.rest ((blocks_from c.now m.now state.now 0 6 []).read input.old.rest) }
+    ensures exact { TellsBlocks result out.new input.new.rest
+        ((blocks_from c.now m.now state.now 0 6 []).read input.old.rest) }
     ensures text { input.new.text ≡ input.old.text }
     ensures left { IfErr result (λ e. e.left ≤ length input.old.text) }
     ensures levels { OnOk result (All (λ l. All IsLevel l.at) out.new) }
-    ensures dc { OnOk result (m.now.kind.intra ≡ true → AreDc c.now.extension.dc_precision (last_dc out.new)) }
+    ensures dc { OnOk result (m.now.kind.intra ≡ true
+        → AreDc c.now.extension.dc_precision (last_dc out.new)) }
 {
     for k in 0..6usize {
         next_block(input, c, m, state, kinds, k, out)?;

@@ -48,7 +48,13 @@ impl Model for Gallery {
 
     ghost Value = { Frames };
 
-    ghost view = { λ g. record { older = g.older; newer = g.newer; current = g.current; first_field = g.first_field; reading = g.reading } };
+    ghost view = { λ g. record {
+      older = g.older;
+      newer = g.newer;
+      current = g.current;
+      first_field = g.first_field;
+      reading = g.reading;
+    } };
 }
 
 /// A frame of a size: a spare one, or a new one. Its samples are any.
@@ -105,7 +111,8 @@ fn forward_view<'a>(
     requires first { IfSome first_field.now (λ f. f.dims ≡ dims) }
     ensures dims { result.dims ≡ dims }
     ensures top { result.top ≡ forward_top reading.now older.now newer.now first_field.now }
-    ensures bottom { result.bottom ≡ forward_bottom reading.now older.now newer.now first_field.now }
+    ensures bottom { result.bottom ≡ forward_bottom reading.now older.now newer.now
+        first_field.now }
 {
     match reading {
         None => FieldView::new(dims, None, None),
@@ -166,7 +173,10 @@ impl Gallery {
 
     /// A second field begins: it is painted into a copy of its frame.
     fn begin_second(&mut self, alloc: Global, reading: Reading) -> Result<(), Memory>
-        ensures { OnOk result (self.new ≡ record self.old { first_field = self.old.current; reading = Some reading }) }
+        ensures { OnOk result (self.new ≡ record self.old {
+          first_field = self.old.current;
+          reading = Some reading;
+        }) }
     {
         let first = self.current.take();
         self.current = match &first {
@@ -181,7 +191,11 @@ impl Gallery {
     /// A frame picture or a first field begins: its frame has samples 0.
     fn begin_frame(&mut self, alloc: Global, dims: Dims, reading: Reading) -> Result<(), Memory>
         requires { IsSize dims }
-        ensures { OnOk result (self.new ≡ record self.old { current = Some (blank dims dims.mb_rows); reading = Some reading }) }
+        ensures { OnOk result
+            (self.new ≡ record self.old {
+              current = Some (blank dims dims.mb_rows);
+              reading = Some reading;
+            }) }
     {
         keep(&mut self.spare, self.current.take());
         self.current = Some(blank_frame(alloc, &mut self.spare, dims)?);
@@ -195,10 +209,13 @@ impl Gallery {
         requires size { IsSize (dims_of s.now) }
         requires frames { HaveSize (dims_of s.now) self.old }
         requires closed { self.old.reading ≡ None }
-        requires first { p.now.second_field ≡ true → p.now.slices_unread ≡ false → IsSome self.old.current }
-        ensures value { OnOk result (store_of self.new ≡ picture_begun (Some s.now) p.now (store_of self.old)) }
+        requires first { p.now.second_field ≡ true → p.now.slices_unread ≡ false
+            → IsSome self.old.current }
+        ensures value { OnOk result (store_of self.new
+            ≡ picture_begun (Some s.now) p.now (store_of self.old)) }
         ensures reading { OnOk result (self.new.reading ≡ reading_of p.now) }
-        ensures first { OnOk result (p.now.second_field ≡ true → p.now.slices_unread ≡ false → self.new.first_field ≡ self.old.current) }
+        ensures first { OnOk result (p.now.second_field ≡ true → p.now.slices_unread ≡ false
+            → self.new.first_field ≡ self.old.current) }
         ensures frames { OnOk result (HaveSize (dims_of s.now) self.new) }
     {
         if p.slices_unread {
@@ -234,7 +251,8 @@ impl Gallery {
         requires frames { HaveSize s.now.dims self.old }
         requires current { IsSome self.old.current }
         requires decoded { HasReferences s.now.references self.old }
-        ensures exact { PaintsSlice s.now covered row input.old.rest self.old result input.new.rest self.new }
+        ensures exact { PaintsSlice s.now covered row input.old.rest self.old result input.new.rest
+            self.new }
         ensures left { IfErr result (λ e. e.left ≤ length input.old.text + 32) }
         ensures covered { IfOk result (λ end. end.covered ≤ (row + 1) * s.now.context.columns) }
         ensures large { IfOk result (λ end. covered + end.large ≤ end.covered) }
@@ -269,8 +287,10 @@ impl Gallery {
 
     /// The picture that is open ends. Answers the frame that it ends, for the display: that of an anchor is a copy.
     pub fn end(&mut self, alloc: Global, p: &Open) -> Result<Option<Frame>, Memory>
-        ensures value { OnOk result (store_of self.new ≡ picture_ended (Some p.now) (store_of self.old)) }
-        ensures frame { IfOk result (λ f. f ≡ (if is_frame_end p.now then self.old.current else None)) }
+        ensures value { OnOk result (store_of self.new
+            ≡ picture_ended (Some p.now) (store_of self.old)) }
+        ensures frame { IfOk result
+            (λ f. f ≡ (if is_frame_end p.now then self.old.current else None)) }
         ensures closed { OnOk result (self.new.reading ≡ None) }
         ensures frames { OnOk result ((d : DimsOf) → HaveSize d self.old → HaveSize d self.new) }
     {

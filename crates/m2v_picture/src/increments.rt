@@ -15,7 +15,8 @@ use m2v_vlc::{Increment, read_increment};
 /// each row's end.
 #[tactic(auto, unfolding(m2v_macro::specs::Macros::round_at, m2v_macro::specs::Macros::added, m2v_bits::specs::Syntax::seq, m2v_bits::specs::Syntax::bind, m2v_bits::specs::Syntax::renamed, m2v_bits::specs::Syntax::done))]
 fn step(input: &mut BitReader, sum: u32) -> Result<(bool, u32), MacroFault>
-    ensures exact { (n : ℕ) → sum ≡ kept n → GivesRound result input.new.rest ((round_at n).read input.old.rest) }
+    ensures exact { (n : ℕ) → sum ≡ kept n
+        → GivesRound result input.new.rest ((round_at n).read input.old.rest) }
     ensures text { input.new.text ≡ input.old.text }
 {
     let code = read_increment(input)?;
@@ -57,7 +58,8 @@ pub fn increment_ahead(input: &BitReader) -> Result<u32, Stop>
 /// Whether a slice whose first increment is this doesn't begin before the next uncovered macroblock.
 pub fn begins_late(row: u32, columns: u32, increment: u32, covered: u32) -> bool
     requires columns { columns ≤ 120 }
-    ensures { (n : ℕ) → increment ≡ kept n → covered ≤ 2 ^ 16 → result ≡ begins_late_of (row * columns) n covered }
+    ensures { (n : ℕ) → increment ≡ kept n → covered ≤ 2 ^ 16
+        → result ≡ begins_late_of (row * columns) n covered }
 {
     u64::from(covered) < u64::from(row) * u64::from(columns) + u64::from(increment)
 }

@@ -65,7 +65,8 @@ fn elements(
 ) -> Result<MacroSyntax, Stop>
     requires picture { IsPicture c.now }
     requires state { IsState c.now row state.old }
-    ensures exact { Tells result input.new.rest ((renamed faults.of_macro (macro_at c.now state.old)).read input.old.rest) }
+    ensures exact { Tells result input.new.rest
+        ((renamed faults.of_macro (macro_at c.now state.old)).read input.old.rest) }
     ensures text { input.new.text ≡ input.old.text }
     ensures left { IfErr result (λ e. e.left ≤ length input.old.text) }
     ensures fits { IfOk result (λ m. IsMacro c.now state.old m) }
@@ -91,7 +92,8 @@ fn macroblock(
     requires setup { IsSetup s.now }
     requires row { row < rows_in s.now }
     requires state { IsState s.now.context row state.old }
-    ensures exact { TellsMacroblock result levels.new input.new.rest ((macroblock_at s.now state.old).read input.old.rest) }
+    ensures exact { TellsMacroblock result levels.new input.new.rest
+        ((macroblock_at s.now state.old).read input.old.rest) }
     ensures text { input.new.text ≡ input.old.text }
     ensures left { IfErr result (λ e. e.left ≤ length input.old.text) }
     ensures can { IfOk result (λ x. CanPaint s.now state.old x.syntax) }
@@ -102,7 +104,8 @@ fn macroblock(
     ensures inside { IfOk result (λ x. IsState s.now.context row state.new) }
     ensures place { IfOk result (λ x. LiesInRow s.now.context row state.new.address) }
     ensures levels { OnOk result (All (λ l. All IsLevel l.at) levels.new) }
-    ensures dc { IfOk result (λ x. x.syntax.kind.intra ≡ true → AreDc s.now.context.extension.dc_precision (last_dc levels.new)) }
+    ensures dc { IfOk result (λ x. x.syntax.kind.intra ≡ true
+        → AreDc s.now.context.extension.dc_precision (last_dc levels.new)) }
 {
     let before = *state;
     let left = bits_left(input);
@@ -138,8 +141,10 @@ fn next_macroblock<V: RefView, T: Target>(
     requires state { IsState s.now.context row state.old }
     requires forward { HoldsForward s.now (V.size forward.now) (V.Holds forward.now) }
     requires backward { HoldsBackward s.now (V.size backward.now) (V.Holds backward.now) }
-    requires takes { (column : ℕ) → column < s.now.context.columns → T.Takes out.old (place_in s.now row column) }
-    ensures exact { TellsRound T.placed s.now (seen_by (V.at forward.now) (V.at backward.now)) state.old input.old.rest (T.samples out.old)
+    requires takes { (column : ℕ) → column < s.now.context.columns
+        → T.Takes out.old (place_in s.now row column) }
+    ensures exact { TellsRound T.placed s.now (seen_by (V.at forward.now) (V.at backward.now))
+        state.old input.old.rest (T.samples out.old)
         result state.new input.new.rest (T.samples out.new) }
     ensures text { input.new.text ≡ input.old.text }
     ensures left { IfErr result (λ e. e.left ≤ length input.old.text) }
@@ -195,8 +200,10 @@ pub fn macroblocks<V: RefView, T: Target>(
     requires begins { first.first ≡ true }
     requires forward { HoldsForward s.now (V.size forward.now) (V.Holds forward.now) }
     requires backward { HoldsBackward s.now (V.size backward.now) (V.Holds backward.now) }
-    requires takes { (column : ℕ) → column < s.now.context.columns → T.Takes out.old (place_in s.now row column) }
-    ensures exact { TellsRow T.placed s.now (seen_by (V.at forward.now) (V.at backward.now)) first input.old.rest (T.samples out.old)
+    requires takes { (column : ℕ) → column < s.now.context.columns
+        → T.Takes out.old (place_in s.now row column) }
+    ensures exact { TellsRow T.placed s.now (seen_by (V.at forward.now) (V.at backward.now)) first
+        input.old.rest (T.samples out.old)
         result input.new.rest (T.samples out.new) }
     ensures left { IfErr result (λ e. e.left ≤ length input.old.text) }
     ensures place { IfOk result (λ z. LiesInRow s.now.context row z.0.address) }

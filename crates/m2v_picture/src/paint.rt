@@ -39,8 +39,10 @@ pub fn paint_gap<V: RefView, T: Target>(
     requires gap { IsGap s.now.context row before.now m.now gap }
     requires forward { HoldsForward s.now (V.size forward.now) (V.Holds forward.now) }
     requires backward { HoldsBackward s.now (V.size backward.now) (V.Holds backward.now) }
-    requires takes { (column : ℕ) → column < s.now.context.columns → T.Takes out.old (place_in s.now row column) }
-    ensures value { T.samples out.new ≡ skipped_painted T.placed s.now (seen_by (V.at forward.now) (V.at backward.now)) before.now
+    requires takes { (column : ℕ) → column < s.now.context.columns
+        → T.Takes out.old (place_in s.now row column) }
+    ensures value { T.samples out.new
+        ≡ skipped_painted T.placed s.now (seen_by (V.at forward.now) (V.at backward.now)) before.now
         (first_skipped before.now) gap.count (T.samples out.old) }
     ensures takes { (p : MbPlaceOf) → T.Takes out.old p → T.Takes out.new p }
 {
@@ -74,7 +76,8 @@ fn predict_own<V: RefView>(
     requires column { IsColumn s.now.context row before.now m.now column }
     requires forward { HoldsForward s.now (V.size forward.now) (V.Holds forward.now) }
     requires backward { HoldsBackward s.now (V.size backward.now) (V.Holds backward.now) }
-    ensures value { block.new.at ≡ prediction_of (V.at forward.now) (V.at backward.now) s.now.context (place_in s.now row column) m.now }
+    ensures value { block.new.at ≡ prediction_of (V.at forward.now) (V.at backward.now)
+        s.now.context (place_in s.now row column) m.now }
 {
     if m.kind.intra {
         block.at.fill(0);
@@ -110,7 +113,8 @@ pub fn paint_own<V: RefView, T: Target>(
     requires forward { HoldsForward s.now (V.size forward.now) (V.Holds forward.now) }
     requires backward { HoldsBackward s.now (V.size backward.now) (V.Holds backward.now) }
     requires takes { T.Takes out.old (place_in s.now row column) }
-    ensures value { T.samples out.new ≡ own_painted T.placed s.now (seen_by (V.at forward.now) (V.at backward.now)) before.now
+    ensures value { T.samples out.new
+        ≡ own_painted T.placed s.now (seen_by (V.at forward.now) (V.at backward.now)) before.now
         (macroblock_of m.now levels.now) (T.samples out.old) }
     ensures takes { (p : MbPlaceOf) → T.Takes out.old p → T.Takes out.new p }
 {

@@ -30,7 +30,8 @@ pub fn predict<V: RefView>(
     requires can { CanPredict s.now mode.now at }
     requires forward { HoldsForward s.now (V.size forward.now) (V.Holds forward.now) }
     requires backward { HoldsBackward s.now (V.size backward.now) (V.Holds backward.now) }
-    ensures value { block.new.at ≡ block_by (predicted (V.at forward.now) (V.at backward.now) mode.now at) }
+    ensures value { block.new.at
+        ≡ block_by (predicted (V.at forward.now) (V.at backward.now) mode.now at) }
 {
     predict_by(forward, backward, mode, at, block);
 }

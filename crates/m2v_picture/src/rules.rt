@@ -40,7 +40,8 @@ fn part_decoded(
 ) -> bool
     requires direction { direction < 2 }
     requires part { part < 2 }
-    ensures { result ≡ part_decoded_of (slice_index_or fields 0 false) (slice_index_or fields 1 false) mode.now direction structure part }
+    ensures { result ≡ part_decoded_of (slice_index_or fields 0 false)
+        (slice_index_or fields 1 false) mode.now direction structure part }
 {
     let own = lines_there(
         fields[0],
@@ -55,7 +56,8 @@ fn part_decoded(
 #[tactic(auto, unfolding(m2v_model::specs::Modes::direction_decoded))]
 fn direction_decoded(fields: [bool; 2], mode: &Mode, direction: usize, structure: u8) -> bool
     requires direction { direction < 2 }
-    ensures { result ≡ direction_decoded_of (slice_index_or fields 0 false) (slice_index_or fields 1 false) mode.now direction structure }
+    ensures { result ≡ direction_decoded_of (slice_index_or fields 0 false)
+        (slice_index_or fields 1 false) mode.now direction structure }
 {
     part_decoded(fields, mode, direction, structure, 0)
         && (part_count(mode.form, structure) == 1
@@ -77,7 +79,8 @@ fn gap_inside(s: &SliceSetup, row: u32, mode: &Mode, gap: Gap) -> bool
     requires setup { IsSetup s.now }
     requires row { row < rows_in s.now }
     requires within { 0 < gap.count → gap.column + gap.count < s.now.context.columns }
-    ensures { result ≡ list_all (λ k. is_inside mode.now (place_in s.now row (gap.column + k)) s.now.dims) (range_with_len 0 gap.count) }
+    ensures { result ≡ list_all (λ k. is_inside mode.now (place_in s.now row (gap.column + k))
+        s.now.dims) (range_with_len 0 gap.count) }
 {
     for k in 0..gap.count {
         if !inside(mode, place(s, row, gap.column + k), s.dims) {
@@ -93,7 +96,8 @@ fn skipped_inside(s: &SliceSetup, row: u32, gap: Gap, before: &SliceState) -> bo
     requires setup { IsSetup s.now }
     requires row { row < rows_in s.now }
     requires within { 0 < gap.count → gap.column + gap.count < s.now.context.columns }
-    ensures { result ≡ list_all (λ k. is_inside (skipped_mode_of s.now.context before.now) (place_in s.now row (gap.column + k)) s.now.dims)
+    ensures { result ≡ list_all (λ k. is_inside (skipped_mode_of s.now.context before.now)
+        (place_in s.now row (gap.column + k)) s.now.dims)
         (range_with_len 0 gap.count) }
 {
     if gap.count == 0 {
@@ -137,7 +141,8 @@ fn are_inside(
 /// Whether the fields that the macroblocks of a gap are predicted from were decoded.
 fn gap_decoded(s: &SliceSetup, gap: Gap, before: &SliceState) -> bool
     ensures { result ≡ (nat_eq gap.count 0
-        || is_decoded_of s.now.references s.now.context.extension.structure (skipped_mode_of s.now.context before.now)) }
+        || is_decoded_of s.now.references s.now.context.extension.structure
+        (skipped_mode_of s.now.context before.now)) }
 {
     if gap.count == 0 {
         return true;

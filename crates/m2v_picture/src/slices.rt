@@ -30,7 +30,8 @@ pub struct SliceEnd {
 /// A slice header.
 #[tactic(auto, unfolding(m2v_bits::specs::Syntax::renamed))]
 fn header(input: &mut BitReader) -> Result<SliceInfo, Stop>
-    ensures exact { Tells result input.new.rest ((renamed faults.of_head head.slice_at).read input.old.rest) }
+    ensures exact { Tells result input.new.rest
+        ((renamed faults.of_head head.slice_at).read input.old.rest) }
     ensures text { input.new.text ≡ input.old.text }
     ensures left { IfErr result (λ e. e.left ≤ length input.old.text) }
     ensures fits { IfOk result SliceFits }
@@ -82,8 +83,10 @@ pub fn read_slice<V: RefView, T: Target>(
     requires row { row < rows_in s.now }
     requires forward { HoldsForward s.now (V.size forward.now) (V.Holds forward.now) }
     requires backward { HoldsBackward s.now (V.size backward.now) (V.Holds backward.now) }
-    requires takes { (column : ℕ) → column < s.now.context.columns → T.Takes out.old (place_in s.now row column) }
-    ensures exact { TellsSlice T.placed s.now (seen_by (V.at forward.now) (V.at backward.now)) covered row input.old.rest (T.samples out.old)
+    requires takes { (column : ℕ) → column < s.now.context.columns
+        → T.Takes out.old (place_in s.now row column) }
+    ensures exact { TellsSlice T.placed s.now (seen_by (V.at forward.now) (V.at backward.now))
+        covered row input.old.rest (T.samples out.old)
         result input.new.rest (T.samples out.new) }
     ensures left { IfErr result (λ e. e.left ≤ length input.old.text + 32) }
     ensures covered { IfOk result (λ end. end.covered ≤ (row + 1) * s.now.context.columns) }

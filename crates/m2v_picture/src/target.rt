@@ -22,7 +22,8 @@ pub trait Target {
     /// Puts the samples of a macroblock.
     fn put(&mut self, at: MbPlace, block: &Block16)
         requires takes { Takes self.old at }
-        ensures value { (f : Plane → ℕ → ℕ → ℕ) → block.now.at ≡ block_by f → samples self.new ≡ placed at f (samples self.old) }
+        ensures value { (f : Plane → ℕ → ℕ → ℕ) → block.now.at ≡ block_by f → samples self.new
+            ≡ placed at f (samples self.old) }
         ensures takes { (p : MbPlace) → Takes self.old p → Takes self.new p };
 }
 

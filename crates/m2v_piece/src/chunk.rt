@@ -25,7 +25,8 @@ impl Model for Chunk {
 
     ghost view = { λ c. drop c.at (take c.filled c.bytes.items) };
 
-    ghost invariant = { λ c. (c.at ≤ c.filled) × (c.filled ≤ length c.bytes.items) × (0 < length c.bytes.items) };
+    ghost invariant = { λ c. (c.at ≤ c.filled) × (c.filled ≤ length c.bytes.items)
+        × (0 < length c.bytes.items) };
 }
 
 /// Reads into a buffer that isn't empty. Answers how many bytes were read, 0 at the end.
@@ -33,10 +34,12 @@ impl Model for Chunk {
 fn read_into<S: Source>(input: &mut S, buf: &mut [u8]) -> Result<usize, DecodeError>
     requires { 0 < length buf.old }
     ensures within { IfOk result (λ n. n ≤ length buf.old) }
-    ensures moved { IfOk result (λ n. Moves (S.left input.old) (take n buf.new) (S.left input.new)) }
+    ensures moved { IfOk result
+        (λ n. Moves (S.left input.old) (take n buf.new) (S.left input.new)) }
     ensures end { result ≡ Ok 0 → IsAtEnd (S.left input.new) }
     ensures err { OnErr result (S.left input.new ≡ S.left input.old) }
-    ensures failed { IsErrOf result DecodeError.Read → Rose (S.faults input.old) (S.faults input.new) }
+    ensures failed { IsErrOf result DecodeError.Read
+        → Rose (S.faults input.old) (S.faults input.new) }
     ensures only { IfErr result (λ e. (e ≡ DecodeError.Read) ⊎ (e ≡ DecodeError.Memory)) }
     ensures faults { S.faults input.old ≤ S.faults input.new }
 {
@@ -96,7 +99,8 @@ impl Chunk {
         ensures moved { IfOk result (λ n. Moves (S.left input.old) self.new (S.left input.new)) }
         ensures end { result ≡ Ok 0 → IsAtEnd (S.left input.new) }
         ensures err { OnErr result (S.left input.new ≡ S.left input.old) }
-        ensures failed { IsErrOf result DecodeError.Read → Rose (S.faults input.old) (S.faults input.new) }
+        ensures failed { IsErrOf result DecodeError.Read
+            → Rose (S.faults input.old) (S.faults input.new) }
         ensures only { IfErr result (λ e. (e ≡ DecodeError.Read) ⊎ (e ≡ DecodeError.Memory)) }
         ensures faults { S.faults input.old ≤ S.faults input.new }
     {
@@ -109,11 +113,13 @@ impl Chunk {
 
     /// Reads on where no byte is left. Answers whether there is one.
     pub fn fill<S: Source>(&mut self, input: &mut S) -> Result<bool, DecodeError>
-        ensures read { IfOk result (λ some. Refilled self.old (S.left input.old) self.new (S.left input.new)) }
+        ensures read { IfOk result (λ some. Refilled self.old (S.left input.old) self.new
+            (S.left input.new)) }
         ensures some { result ≡ Ok true → 0 < length self.new }
         ensures end { result ≡ Ok false → (self.new ≡ []) × IsAtEnd (S.left input.new) }
         ensures err { OnErr result (S.left input.new ≡ S.left input.old) }
-        ensures failed { IsErrOf result DecodeError.Read → Rose (S.faults input.old) (S.faults input.new) }
+        ensures failed { IsErrOf result DecodeError.Read
+            → Rose (S.faults input.old) (S.faults input.new) }
         ensures only { IfErr result (λ e. (e ≡ DecodeError.Read) ⊎ (e ≡ DecodeError.Memory)) }
         ensures faults { S.faults input.old ≤ S.faults input.new }
     {

@@ -29,9 +29,12 @@ fn turn(hand: &mut Hand, chunk: &mut Chunk) -> Result<Option<Stand>, DecodeError
     requires some { 0 < length chunk.old }
     requires fits { Fits hand.old }
     ensures ok { IfOk result (λ stand. Turned stand hand.old chunk.old hand.new chunk.new) }
-    ensures err { IfErr result (λ e. (rest : List ℕ) → PieceStops (start_behind hand.old (chunk.old ++ rest)) (pieces_behind hand.old (chunk.old ++ rest)) e) }
+    ensures err { IfErr result (λ e. (rest : List ℕ)
+        → PieceStops (start_behind hand.old (chunk.old ++ rest))
+        (pieces_behind hand.old (chunk.old ++ rest)) e) }
     ensures kind { IfErr result IsReading }
-    ensures taken { OnOk result (taken_by hand.new + length chunk.new ≤ taken_by hand.old + length chunk.old) }
+    ensures taken { OnOk result (taken_by hand.new + length chunk.new ≤ taken_by hand.old
+        + length chunk.old) }
 {
     let b = chunk.first();
     let _held = hand.ahead();
@@ -58,7 +61,8 @@ fn turn(hand: &mut Hand, chunk: &mut Chunk) -> Result<Option<Stand>, DecodeError
 fn skim(hand: &mut Hand, chunk: &mut Chunk) -> Result<bool, DecodeError>
     requires fits { Fits hand.old }
     ensures some { result ≡ Ok true → Reaches hand.old chunk.old hand.new chunk.new }
-    ensures taken { OnOk result (taken_by hand.new + length chunk.new ≤ taken_by hand.old + length chunk.old) }
+    ensures taken { OnOk result (taken_by hand.new + length chunk.new ≤ taken_by hand.old
+        + length chunk.old) }
     ensures none { result ≡ Ok false → (hand.new ≡ hand.old) × (chunk.new ≡ chunk.old) }
     ensures err { IfErr result (λ e. e ≡ DecodeError.Memory) }
 {
@@ -76,9 +80,12 @@ fn advance(hand: &mut Hand, chunk: &mut Chunk) -> Result<Option<Stand>, DecodeEr
     requires some { 0 < length chunk.old }
     requires fits { Fits hand.old }
     ensures ok { IfOk result (λ stand. Turned stand hand.old chunk.old hand.new chunk.new) }
-    ensures err { IfErr result (λ e. (rest : List ℕ) → PieceStops (start_behind hand.old (chunk.old ++ rest)) (pieces_behind hand.old (chunk.old ++ rest)) e) }
+    ensures err { IfErr result (λ e. (rest : List ℕ)
+        → PieceStops (start_behind hand.old (chunk.old ++ rest))
+        (pieces_behind hand.old (chunk.old ++ rest)) e) }
     ensures kind { IfErr result IsReading }
-    ensures taken { OnOk result (taken_by hand.new + length chunk.new ≤ taken_by hand.old + length chunk.old) }
+    ensures taken { OnOk result (taken_by hand.new + length chunk.new ≤ taken_by hand.old
+        + length chunk.old) }
 {
     match skim(hand, chunk) {
         Err(e) => Err(e),
@@ -94,12 +101,15 @@ fn round<S: Source>(
     input: &mut S,
 ) -> Result<Option<Stand>, DecodeError>
     requires fits { Fits hand.old }
-    ensures ok { IfOk result (λ stand. Rounded stand hand.old chunk.old (S.left input.old) hand.new chunk.new (S.left input.new)) }
+    ensures ok { IfOk result (λ stand. Rounded stand hand.old chunk.old (S.left input.old) hand.new
+        chunk.new (S.left input.new)) }
     ensures err { IfErr result (Fails hand.old chunk.old (S.left input.old) (S.left input.new)) }
     ensures kind { IfErr result IsReading }
-    ensures failed { IsErrOf result DecodeError.Read → Rose (S.faults input.old) (S.faults input.new) }
+    ensures failed { IsErrOf result DecodeError.Read
+        → Rose (S.faults input.old) (S.faults input.new) }
     ensures faults { S.faults input.old ≤ S.faults input.new }
-    ensures taken { OnOk result (Spends hand.old chunk.old (S.left input.old) hand.new chunk.new (S.left input.new)) }
+    ensures taken { OnOk result (Spends hand.old chunk.old (S.left input.old) hand.new chunk.new
+        (S.left input.new)) }
 {
     match chunk.fill(input) {
         Err(e) => Err(e),
@@ -118,12 +128,15 @@ fn look_on<S: Source>(
     input: &mut S,
 ) -> Result<Stand, DecodeError>
     requires fits { Fits hand.old }
-    ensures ok { IfOk result (λ stand. Looked stand hand.old chunk.old (S.left input.old) hand.new chunk.new (S.left input.new)) }
+    ensures ok { IfOk result (λ stand. Looked stand hand.old chunk.old (S.left input.old) hand.new
+        chunk.new (S.left input.new)) }
     ensures err { IfErr result (Fails hand.old chunk.old (S.left input.old) (S.left input.new)) }
     ensures kind { IfErr result IsReading }
-    ensures failed { IsErrOf result DecodeError.Read → Rose (S.faults input.old) (S.faults input.new) }
+    ensures failed { IsErrOf result DecodeError.Read
+        → Rose (S.faults input.old) (S.faults input.new) }
     ensures faults { S.faults input.old ≤ S.faults input.new }
-    ensures taken { OnOk result (Spends hand.old chunk.old (S.left input.old) hand.new chunk.new (S.left input.new)) }
+    ensures taken { OnOk result (Spends hand.old chunk.old (S.left input.old) hand.new chunk.new
+        (S.left input.new)) }
 {
     loop {
         match round(hand, chunk, input) {
@@ -169,7 +182,13 @@ impl Model for Cutter {
 
     ghost Value = { Cutting };
 
-    ghost view = { λ c. record { place = c.hand.place; unread = prefix c.hand.ahead ++ c.chunk; begun = is_begun c.hand.phase; ended = c.ended; failed = c.failed } };
+    ghost view = { λ c. record {
+      place = c.hand.place;
+      unread = prefix c.hand.ahead ++ c.chunk;
+      begun = is_begun c.hand.phase;
+      ended = c.ended;
+      failed = c.failed;
+    } };
 
     ghost invariant = { λ c. c.failed ≡ false → c.ended ≡ false → AtPiece c.hand };
 }
@@ -177,7 +196,13 @@ impl Model for Cutter {
 impl Cutter {
     /// A cutter that has read nothing.
     pub fn new(alloc: Global) -> Result<Cutter, Memory>
-        ensures { IfOk result (λ c. c ≡ record { place = 0; unread = []; begun = false; ended = false; failed = false }) }
+        ensures { IfOk result (λ c. c ≡ record {
+          place = 0;
+          unread = [];
+          begun = false;
+          ended = false;
+          failed = false;
+        }) }
     {
         Ok(Cutter {
             hand: Hand::new(alloc),
@@ -202,12 +227,14 @@ impl Cutter {
         ensures going { OnOk result (self.new.failed ≡ false) }
         ensures err { IfErr result (Stopped self.old (S.left input.old) (S.left input.new)) }
         ensures kind { IfErr result IsReading }
-        ensures failed { IsErrOf result DecodeError.Read → Rose (S.faults input.old) (S.faults input.new) }
+        ensures failed { IsErrOf result DecodeError.Read
+            → Rose (S.faults input.old) (S.faults input.new) }
         ensures faults { S.faults input.old ≤ S.faults input.new }
         ensures sound { IfOk result (λ piece. IfSome piece IsSoundPiece) }
         ensures onward { IfOk result (λ piece. GoesOnward piece self.old.place self.new.place) }
         ensures begun { IfOk result (λ piece. IfSome piece (λ p. self.new.begun ≡ true)) }
-        ensures taken { OnOk result (Keeps self.old (S.left input.old) self.new (S.left input.new)) }
+        ensures taken { OnOk result
+            (Keeps self.old (S.left input.old) self.new (S.left input.new)) }
         ensures over { IfOk result (λ piece. IfNone piece (self.new.ended ≡ true)) }
         ensures most { self.old.place ≤ 2 ^ 36 }
     {

@@ -40,9 +40,16 @@ impl Model for Hand {
 
     ghost Value = { Held };
 
-    ghost view = { λ h. record { phase = h.phase; place = h.place; sure = h.bytes.items ++ replicate h.zeros 0; ahead = h.ahead } };
+    ghost view = { λ h. record {
+      phase = h.phase;
+      place = h.place;
+      sure = h.bytes.items ++ replicate h.zeros 0;
+      ahead = h.ahead;
+    } };
 
-    ghost invariant = { λ h. (h.ahead ≤ 3) × (h.place + (length h.bytes.items + h.zeros) ≤ 2 ^ 36) × (zeros_last h.bytes.items ≡ 0) × (h.phase ≡ Before → length h.bytes.items + h.zeros ≡ 0) × (h.phase ≡ Picture → 1 ≤ length h.bytes.items + h.zeros) };
+    ghost invariant = { λ h. (h.ahead ≤ 3) × (h.place + (length h.bytes.items + h.zeros) ≤ 2 ^ 36)
+        × (zeros_last h.bytes.items ≡ 0) × (h.phase ≡ Before → length h.bytes.items + h.zeros ≡ 0)
+        × (h.phase ≡ Picture → 1 ≤ length h.bytes.items + h.zeros) };
 }
 
 /// Appends so many zero bytes, and a byte.
@@ -241,9 +248,11 @@ impl Hand {
         requires ahead { self.old.ahead ≤ 2 }
         requires some { nat_eq b 0 ≡ false }
         requires none { self.old.ahead ≡ 2 → nat_eq b 1 ≡ false }
-        ensures ok { OnOk result (self.new ≡ record (behind self.old (prefix self.old.ahead ++ b ∷ [])) { ahead = 0 }) }
+        ensures ok { OnOk result
+            (self.new ≡ record (behind self.old (prefix self.old.ahead ++ b ∷ [])) { ahead = 0 }) }
         ensures fits { OnOk result (limit_of self.old (prefix self.old.ahead ++ b ∷ []) ≡ None) }
-        ensures err { IfErr result (LimitErr (limit_of self.old (prefix self.old.ahead ++ b ∷ []))) }
+        ensures err { IfErr result
+            (LimitErr (limit_of self.old (prefix self.old.ahead ++ b ∷ []))) }
     {
         let ahead = self.ahead as usize;
         if ahead == 0 {
@@ -314,7 +323,8 @@ impl Hand {
 
     /// A start code that belongs to the piece: its four bytes are sure.
     fn code(&mut self, value: u8) -> Result<(), DecodeError>
-        ensures ok { OnOk result (self.new ≡ record (behind self.old (code_of value)) { ahead = 0 }) }
+        ensures ok { OnOk result
+            (self.new ≡ record (behind self.old (code_of value)) { ahead = 0 }) }
         ensures fits { OnOk result (limit_of self.old (code_of value) ≡ None) }
         ensures err { IfErr result (LimitErr (limit_of self.old (code_of value))) }
     {
@@ -365,7 +375,8 @@ impl Hand {
     pub fn finish(&mut self) -> Result<(), DecodeError>
         requires fits { Fits self.old }
         ensures ok { OnOk result (Finished self.old self.new) }
-        ensures err { IfErr result (λ e. PieceStops (start_behind self.old []) (pieces_behind self.old []) e) }
+        ensures err { IfErr result
+            (λ e. PieceStops (start_behind self.old []) (pieces_behind self.old []) e) }
     {
         let ahead = self.ahead as usize;
         if ahead > 0 {
@@ -380,7 +391,12 @@ impl Hand {
     pub fn hand_out(&mut self, alloc: Global) -> Result<Piece, Memory>
         requires fits { Fits self.old }
         ensures piece { IfOk result (λ p. IsPiece p self.old.place self.old.sure) }
-        ensures next { OnOk result (self.new ≡ record { phase = Phase.Headers; place = self.old.place + length self.old.sure; sure = []; ahead = self.old.ahead }) }
+        ensures next { OnOk result (self.new ≡ record {
+          phase = Phase.Headers;
+          place = self.old.place + length self.old.sure;
+          sure = [];
+          ahead = self.old.ahead;
+        }) }
         ensures sound { IfOk result (λ p. 1 ≤ length self.old.sure → IsSoundPiece p) }
         ensures most { OnOk result (self.new.place ≤ 2 ^ 36) }
     {

@@ -27,9 +27,14 @@ impl<'a> Model for FieldView<'a> {
 
     ghost Value = { FieldFrames };
 
-    ghost view = { λ v. record { dims = v.dims; top = option_map (λ f. f.now) v.top; bottom = option_map (λ f. f.now) v.bottom } };
+    ghost view = { λ v. record {
+      dims = v.dims;
+      top = option_map (λ f. f.now) v.top;
+      bottom = option_map (λ f. f.now) v.bottom;
+    } };
 
-    ghost invariant = { λ v. IsSize v.dims × IfSome v.top (λ f. f.now.dims ≡ v.dims) × IfSome v.bottom (λ f. f.now.dims ≡ v.dims) };
+    ghost invariant = { λ v. IsSize v.dims × IfSome v.top (λ f. f.now.dims ≡ v.dims)
+        × IfSome v.bottom (λ f. f.now.dims ≡ v.dims) };
 }
 
 impl<'a> FieldView<'a> {
@@ -59,7 +64,8 @@ fn lent<'b>(
     requires some { IsSome frame.now }
     requires line { IfSome frame.now (λ f. line < lines_of f.now.dims plane lines) }
     requires within { IfSome frame.now (λ f. column + len ≤ columns_of f.now.dims plane) }
-    ensures value { IfSome frame.now (λ f. result.now ≡ line_part (sample_in f.now plane lines line) column len) }
+    ensures value { IfSome frame.now (λ f. result.now ≡ line_part (sample_in f.now plane lines line)
+        column len) }
 {
     match frame {
         Some(frame) => frame.line(plane, lines, line, column, len),

@@ -28,9 +28,19 @@ impl Model for Frame {
 
     ghost Value = { Samples };
 
-    ghost view = { λ f. record { dims = f.dims; luma = f.luma.items; cb = f.cb.items; cr = f.cr.items } };
+    ghost view = { λ f. record {
+      dims = f.dims;
+      luma = f.luma.items;
+      cb = f.cb.items;
+      cr = f.cr.items;
+    } };
 
-    ghost invariant = { λ f. IsSize f.dims × HasRows (record { dims = f.dims; luma = f.luma.items; cb = f.cb.items; cr = f.cr.items }) f.dims.mb_rows };
+    ghost invariant = { λ f. IsSize f.dims × HasRows (record {
+      dims = f.dims;
+      luma = f.luma.items;
+      cb = f.cb.items;
+      cr = f.cr.items;
+    }) f.dims.mb_rows };
 }
 
 impl Frame {
@@ -183,7 +193,8 @@ impl Frame {
         requires column { column < self.old.dims.mb_width }
         requires samples { length samples.now ≡ side plane * side plane }
         ensures value { self.new
-            ≡ with_square self.old.dims.mb_rows self.old plane lines row column (square_of (side plane) samples.now) }
+            ≡ with_square self.old.dims.mb_rows self.old plane lines row column
+            (square_of (side plane) samples.now) }
     {
         let (total, columns) = (self.dims.mb_rows as usize, self.dims.mb_width as usize);
         let (row, column) = (row as usize, column as usize);
@@ -216,7 +227,8 @@ impl Frame {
     #[inline(always)]
     fn plane(&self, plane: Plane) -> &[u8]
         ensures value { result.now ≡ plane_of self.now plane }
-        ensures whole { length result.now ≡ side plane * self.now.dims.mb_rows * columns_of self.now.dims plane }
+        ensures whole { length result.now ≡ side plane * self.now.dims.mb_rows * columns_of
+            self.now.dims plane }
     {
         match plane {
             Plane::Y => &self.luma,

@@ -15,5 +15,6 @@ pub fn law_crop_pad(dims: &Dims, bytes: &[u8])
 /// Cutting raw video of whole frames into its frames loses nothing.
 pub fn law_raw_cut(dims: &Dims, bytes: &[u8])
     requires size { IsSize dims.now }
-    ensures same { (n : ℕ) → length bytes.now ≡ n * frame_bytes dims.now → raw (cut dims.now bytes.now) ≡ bytes.now }
+    ensures same { (n : ℕ) → length bytes.now ≡ n * frame_bytes dims.now
+        → raw (cut dims.now bytes.now) ≡ bytes.now }
 {}

@@ -12,7 +12,8 @@ use std::simd::prelude::*;
 fn pad_line(out: &mut [u8], line: &[u8])
     requires some { 1 ≤ length line.now }
     requires room { length line.now ≤ length out.old }
-    ensures value { (k : ℕ) → k < length out.old → slice_index out.new k ≡ slice_index line.now (min k (length line.now - 1)) }
+    ensures value { (k : ℕ) → k < length out.old → slice_index out.new k
+        ≡ slice_index line.now (min k (length line.now - 1)) }
 {
     let last = line[line.len() - 1];
     out[..line.len()].copy_from_slice(line);
@@ -89,7 +90,8 @@ pub fn set_rows(
     requires some { 1 ≤ height }
     requires total { total ≤ 2 ^ 12 }
     requires columns { columns ≤ 2 ^ 12 }
-    ensures value { plane.new ≡ plane_with_row total columns height lines row plane.old samples.now }
+    ensures value { plane.new ≡ plane_with_row total columns height lines row plane.old
+        samples.now }
 {
     for line in 0..height {
         let at = line_start(lines, row * height + line, total, columns);
@@ -139,7 +141,8 @@ pub fn set_square(
     requires samples { length samples.now ≡ side * side }
     requires total { total ≤ 2 ^ 12 }
     requires columns { columns ≤ 2 ^ 12 }
-    ensures value { plane.new ≡ plane_with_square total columns side lines row column (square_of side samples.now) plane.old }
+    ensures value { plane.new ≡ plane_with_square total columns side lines row column
+        (square_of side samples.now) plane.old }
 {
     for line in 0..side {
         let at = line_start(lines, row * side + line, total, columns) + side * column;

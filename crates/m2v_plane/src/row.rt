@@ -26,9 +26,19 @@ impl Model for RowSamples {
 
     ghost Value = { Samples };
 
-    ghost view = { λ r. record { dims = r.dims; luma = r.luma.items; cb = r.cb.items; cr = r.cr.items } };
+    ghost view = { λ r. record {
+      dims = r.dims;
+      luma = r.luma.items;
+      cb = r.cb.items;
+      cr = r.cr.items;
+    } };
 
-    ghost invariant = { λ r. IsSize r.dims × HasRows (record { dims = r.dims; luma = r.luma.items; cb = r.cb.items; cr = r.cr.items }) 1 };
+    ghost invariant = { λ r. IsSize r.dims × HasRows (record {
+      dims = r.dims;
+      luma = r.luma.items;
+      cb = r.cb.items;
+      cr = r.cr.items;
+    }) 1 };
 }
 
 impl RowSamples {
@@ -129,7 +139,8 @@ impl RowSamples {
     pub fn set_square(&mut self, plane: Plane, column: u32, samples: &[u8])
         requires column { column < self.old.dims.mb_width }
         requires samples { length samples.now ≡ side plane * side plane }
-        ensures value { self.new ≡ with_square 1 self.old plane Whole 0 column (square_of (side plane) samples.now) }
+        ensures value { self.new ≡ with_square 1 self.old plane Whole 0 column
+            (square_of (side plane) samples.now) }
     {
         let columns = self.dims.mb_width as usize;
         let (lines, column) = (Lines::Whole, column as usize);

@@ -21,7 +21,8 @@ impl Model for CallList {
     ghost view = { λ c. record { fail = c.fail.items; made = c.made; failed = c.failed } };
 
     // No number is counted twice: those still to come stand in the list beside those that failed.
-    ghost invariant = { λ c. c.failed + count_by (λ number. nat_lt c.made number) c.fail.items ≤ vec_len c.fail };
+    ghost invariant = { λ c. c.failed + count_by (λ number. nat_lt c.made number) c.fail.items
+        ≤ vec_len c.fail };
 }
 
 impl CallList {

@@ -119,7 +119,8 @@ impl Sink for MemorySink {
 
     // A put that fails, or has no memory, appends nothing.
     fn put(&mut self, piece: &[u8]) -> Result<(), PortError>
-        ensures held { self.new.held ≡ (if is_ok result then self.old.held ++ piece.now else self.old.held) }
+        ensures held { self.new.held
+            ≡ (if is_ok result then self.old.held ++ piece.now else self.old.held) }
         ensures failed { IsErrOf result PortError.Failed ↔ IsTrue (next_fails self.old.calls) }
         ensures calls { self.new.calls ≡ after_call self.old.calls }
     {
@@ -193,7 +194,8 @@ impl Sink for MemoryFile {
     // A put that fails, or has no memory, appends nothing.
     fn put(&mut self, piece: &[u8]) -> Result<(), PortError>
         requires { IsTrue (is_some self.old.name) }
-        ensures held { self.new.held ≡ (if is_ok result then self.old.held ++ piece.now else self.old.held) }
+        ensures held { self.new.held
+            ≡ (if is_ok result then self.old.held ++ piece.now else self.old.held) }
         ensures name { self.new.name ≡ self.old.name }
         ensures failed { IsErrOf result PortError.Failed ↔ IsTrue (next_fails self.old.calls) }
         ensures calls { self.new.calls ≡ after_call self.old.calls }

@@ -23,7 +23,8 @@ pub trait Source {
         ensures end { result ≡ Ok 0 → 0 < length buf.old → IsAtEnd (left self.old) }
 
         ensures err { OnErr result (left self.new ≡ left self.old) }
-        ensures failed { IsErrOf result PortError.Failed → Rose (faults self.old) (faults self.new) }
+        ensures failed { IsErrOf result PortError.Failed
+            → Rose (faults self.old) (faults self.new) }
         ensures faults { faults self.old ≤ faults self.new };
 }
 
@@ -59,7 +60,8 @@ pub trait Sink {
         ensures err { OnErr result (GrowsByPrefix (held self.old) piece.now (held self.new)) }
         ensures ready { IsTrue (ready self.new) }
         ensures name { name self.new ≡ name self.old }
-        ensures failed { IsErrOf result PortError.Failed → Rose (faults self.old) (faults self.new) }
+        ensures failed { IsErrOf result PortError.Failed
+            → Rose (faults self.old) (faults self.new) }
         ensures faults { faults self.old ≤ faults self.new };
 }
 
@@ -74,6 +76,7 @@ pub trait NamedSink: Sink {
         ensures err { OnErr result (IsFalse (Self.ready self.new)) }
         ensures unnamed { OnErr result (Self.name self.new ≡ Self.name self.old) }
         ensures same { Self.held self.new ≡ Self.held self.old }
-        ensures failed { IsErrOf result PortError.Failed → Rose (Self.faults self.old) (Self.faults self.new) }
+        ensures failed { IsErrOf result PortError.Failed
+            → Rose (Self.faults self.old) (Self.faults self.new) }
         ensures faults { Self.faults self.old ≤ Self.faults self.new };
 }

@@ -163,7 +163,8 @@ impl Sink for SureFile {
 
     fn put(&mut self, piece: &[u8]) -> Result<(), PortError>
         requires { IsTrue (is_some self.old.name) }
-        ensures held { self.new.held ≡ (if is_ok result then self.old.held ++ piece.now else self.old.held) }
+        ensures held { self.new.held
+            ≡ (if is_ok result then self.old.held ++ piece.now else self.old.held) }
         ensures name { self.new.name ≡ self.old.name }
         ensures memory { IsOkUnless result PortError.Memory }
     {

@@ -9,10 +9,12 @@ use crate::{PortError, Source};
 #[tactic(auto, using(crate::proofs::Runs::runs))]
 pub fn fill<S: Source>(input: &mut S, buf: &mut [u8]) -> Result<usize, PortError>
     ensures within { IfOk result (λ n. n ≤ length buf.old) }
-    ensures moved { IfOk result (λ n. Moves (S.left input.old) (take n buf.new) (S.left input.new)) }
+    ensures moved { IfOk result
+        (λ n. Moves (S.left input.old) (take n buf.new) (S.left input.new)) }
     ensures end { IfOk result (λ n. n < length buf.old → IsAtEnd (S.left input.new)) }
     ensures err { OnErr result (MovesFewer (S.left input.old) (length buf.old) (S.left input.new)) }
-    ensures failed { IsErrOf result PortError.Failed → Rose (S.faults input.old) (S.faults input.new) }
+    ensures failed { IsErrOf result PortError.Failed
+        → Rose (S.faults input.old) (S.faults input.new) }
     ensures faults { S.faults input.old ≤ S.faults input.new }
 {
     let mut filled = 0;

@@ -124,7 +124,8 @@ fn write_picture_units(settings: &Passed, job: &PictureJob, delay: u32, out: &mu
     requires delay { delay < 65536 }
     requires edge { length out.old.written % 8 ≡ 0 }
     requires room { 144 ≤ out.old.room }
-    ensures written { out.new.written ≡ out.old.written ++ picture_units settings.now job.now delay }
+    ensures written { out.new.written ≡ out.old.written ++ picture_units settings.now job.now
+        delay }
     ensures room { out.new.room + length (picture_units settings.now job.now delay) ≡ out.old.room }
     ensures edge { length out.new.written % 8 ≡ 0 }
 {
@@ -140,7 +141,8 @@ fn write_group_where(settings: &Passed, job: &PictureJob, out: &mut BitWriter)
     requires edge { length out.old.written % 8 ≡ 0 }
     requires room { 240 ≤ out.old.room }
     ensures written { out.new.written ≡ out.old.written
-        ++ cond (begins_group job.now) (group_units settings.now (job.now.display - job.now.frame)) [] }
+        ++ cond (begins_group job.now) (group_units settings.now (job.now.display - job.now.frame))
+        [] }
     ensures room { out.new.room + cond (begins_group job.now) 240 0 ≡ out.old.room }
     ensures edge { length out.new.written % 8 ≡ 0 }
 {

@@ -130,7 +130,8 @@ fn marked_level(f: &[i32; 64], kind: &BlockKind, place: u8, marks: &[u32; 64]) -
     requires coefficients { All IsTransformed f.now }
     requires place { place < 64 }
     requires marks { AreMarks f.now kind.now marks.now }
-    ensures value { result ≡ ac_level kind.now.intra (slice_index kind.now.matrix place * kind.now.scale)
+    ensures value { result
+        ≡ ac_level kind.now.intra (slice_index kind.now.matrix place * kind.now.scale)
         (slice_index_or f.now place (pos 0)) }
     ensures within { IsLevel result }
 {

@@ -141,7 +141,8 @@ fn put_coefficient(
         (saturated_of kind.now (slice_index (scan_order kind.now.alternate) i) level) }
     ensures within { slice_index (scan_order kind.now.alternate) i < 64 }
     ensures parity { result
-        ≡ (parity + unsigned_abs (saturated_of kind.now (slice_index (scan_order kind.now.alternate) i) level)) % 2 }
+        ≡ (parity + unsigned_abs
+        (saturated_of kind.now (slice_index (scan_order kind.now.alternate) i) level)) % 2 }
 {
     let place = scan(alternate, i);
     let c = coefficient(kind, intra, place, level);
@@ -179,7 +180,8 @@ fn put_level(
 #[inline(always)]
 fn is_empty(levels: &Levels, from: u8, count: u8) -> bool
     requires { from + count ≤ 64 }
-    ensures { IsTrue result → (j : ℕ) → j < count → slice_index_or levels.now.at (from + j) (pos 0) ≡ pos 0 }
+    ensures { IsTrue result → (j : ℕ) → j < count → slice_index_or levels.now.at (from + j) (pos 0)
+        ≡ pos 0 }
 {
     let mut bits = 0;
     for j in 0..count {
@@ -192,7 +194,8 @@ fn is_empty(levels: &Levels, from: u8, count: u8) -> bool
 #[inline(always)]
 pub fn groups(levels: &Levels) -> u8
     ensures within { result ≤ 8 }
-    ensures zeros { (j : ℕ) → j < 64 - 8 * result → slice_index_or levels.now.at (8 * result + j) (pos 0) ≡ pos 0 }
+    ensures zeros { (j : ℕ) → j < 64 - 8 * result
+        → slice_index_or levels.now.at (8 * result + j) (pos 0) ≡ pos 0 }
 {
     if is_empty(levels, 16, 48) {
         return 2;
@@ -315,7 +318,8 @@ fn saturate(levels: &Levels, kind: &BlockKind, out: &mut [i32; 64]) -> u32
     requires kind { IsKind kind.now }
     requires levels { All IsLevel levels.now.at }
     ensures value { out.new ≡ map (saturated_at levels.now.at kind.now) (range_with_len 0 64) }
-    ensures parity { result ≡ unsigned_abs (coefficient_sum 64 (saturated_at levels.now.at kind.now)) % 2 }
+    ensures parity { result
+        ≡ unsigned_abs (coefficient_sum 64 (saturated_at levels.now.at kind.now)) % 2 }
     ensures within { All IsCoefficient out.new }
 {
     *out = [0; 64];

@@ -74,9 +74,11 @@ fn add_eight(samples: &mut [u8], from: usize, intra: bool, values: &[i32; 64], a
     requires values { All IsSample values.now }
     ensures within { (j : ℕ) → j < 8
         → slice_index samples.new (from + j)
-        ≡ clamped (pos (cond intra 0 (slice_index samples.old (from + j))) +ℤ nth values.now (at + j)) }
+        ≡ clamped (pos (cond intra 0 (slice_index samples.old (from + j))) +ℤ nth values.now
+        (at + j)) }
     ensures before { (i : ℕ) → i < from → slice_index samples.new i ≡ slice_index samples.old i }
-    ensures behind { (i : ℕ) → from + 8 ≤ i → slice_index samples.new i ≡ slice_index samples.old i }
+    ensures behind { (i : ℕ) → from + 8 ≤ i → slice_index samples.new i
+        ≡ slice_index samples.old i }
 {
     for j in 0..8 {
         samples[from + j] = sum(base(intra, samples[from + j]), values[at + j]);
@@ -89,8 +91,10 @@ fn add_block(samples: &mut [u8], dct_field: bool, block: usize, intra: bool, val
     requires samples { length samples.old ≡ 256 }
     requires block { block < 4 }
     requires values { All IsSample values.now }
-    ensures lines { (k j : ℕ) → k < 8 → j < 8 → slice_index samples.new (luma_place dct_field block k + j)
-        ≡ clamped (pos (cond intra 0 (slice_index samples.old (luma_place dct_field block k + j))) +ℤ nth values.now (8 * k + j)) }
+    ensures lines { (k j : ℕ) → k < 8 → j < 8
+        → slice_index samples.new (luma_place dct_field block k + j)
+        ≡ clamped (pos (cond intra 0 (slice_index samples.old (luma_place dct_field block k + j)))
+        +ℤ nth values.now (8 * k + j)) }
     ensures rest { (i : ℕ) → ((k j : ℕ) → k < 8 → j < 8 → i ≢ luma_place dct_field block k + j)
         → slice_index samples.new i ≡ slice_index samples.old i }
 {
@@ -120,8 +124,10 @@ fn add_coded(
     requires block { block < 4 }
     requires kind { IsKind kind.now }
     requires levels { All IsLevel levels.now.at }
-    ensures lines { (k j : ℕ) → k < 8 → j < 8 → slice_index samples.new (luma_place dct_field block k + j)
-        ≡ rebuilt coded levels.now.at kind.now (8 * k + j) (slice_index samples.old (luma_place dct_field block k + j)) }
+    ensures lines { (k j : ℕ) → k < 8 → j < 8
+        → slice_index samples.new (luma_place dct_field block k + j)
+        ≡ rebuilt coded levels.now.at kind.now (8 * k + j)
+        (slice_index samples.old (luma_place dct_field block k + j)) }
     ensures rest { (i : ℕ) → ((k j : ℕ) → k < 8 → j < 8 → i ≢ luma_place dct_field block k + j)
         → slice_index samples.new i ≡ slice_index samples.old i }
 {
@@ -147,8 +153,10 @@ pub fn add_luma(
     requires levels { All (λ l. All IsLevel l.at) levels.now }
     ensures value { (l c : ℕ) → l < 16 → c < 16 → slice_index samples.new (16 * l + c)
         ≡ clamped (
-        pos (cond (is_alone pattern (kind_at kinds.now 0) (kind_at kinds.now 1) (block_of dct_field Y l c)) 0 (slice_index samples.old (16 * l + c)))
-        +ℤ residual (levels_of levels.now) pattern (kind_at kinds.now 0) (kind_at kinds.now 1) (block_of dct_field Y l c)) }
+        pos (cond (is_alone pattern (kind_at kinds.now 0) (kind_at kinds.now 1)
+        (block_of dct_field Y l c)) 0 (slice_index samples.old (16 * l + c)))
+        +ℤ residual (levels_of levels.now) pattern (kind_at kinds.now 0) (kind_at kinds.now 1)
+        (block_of dct_field Y l c)) }
 {
     for block in 0..4 {
         let coded = is_coded(pattern, block as u32);
@@ -170,7 +178,8 @@ fn add_all(samples: &mut [u8], intra: bool, values: &[i32; 64])
     requires samples { length samples.old ≡ 64 }
     requires values { All IsSample values.now }
     ensures { (i : ℕ) → i < 64
-        → slice_index samples.new i ≡ clamped (pos (cond intra 0 (slice_index samples.old i)) +ℤ nth values.now i) }
+        → slice_index samples.new i
+        ≡ clamped (pos (cond intra 0 (slice_index samples.old i)) +ℤ nth values.now i) }
 {
     for i in 0..64 {
         samples[i] = sum(base(intra, samples[i]), values[i]);
@@ -189,7 +198,8 @@ pub fn add_chroma(
     requires samples { length samples.old ≡ 64 }
     requires kind { IsKind kind.now }
     requires levels { All IsLevel levels.now.at }
-    ensures value { (i : ℕ) → i < 64 → slice_index samples.new i ≡ rebuilt coded levels.now.at kind.now i (slice_index samples.old i) }
+    ensures value { (i : ℕ) → i < 64 → slice_index samples.new i
+        ≡ rebuilt coded levels.now.at kind.now i (slice_index samples.old i) }
 {
     if !coded {
         return;

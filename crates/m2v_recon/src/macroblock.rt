@@ -29,12 +29,16 @@ fn rebuild_planes(
     requires levels { All (λ l. All IsLevel l.at) levels.now }
     ensures luma { (l c : ℕ) → l < 16 → c < 16 → slice_index luma.new (16 * l + c)
         ≡ clamped (
-        pos (cond (is_alone pattern (kind_at kinds.now 0) (kind_at kinds.now 1) (block_of dct_field Y l c)) 0 (slice_index luma.old (16 * l + c)))
-        +ℤ residual (levels_of levels.now) pattern (kind_at kinds.now 0) (kind_at kinds.now 1) (block_of dct_field Y l c)) }
+        pos (cond (is_alone pattern (kind_at kinds.now 0) (kind_at kinds.now 1)
+        (block_of dct_field Y l c)) 0 (slice_index luma.old (16 * l + c)))
+        +ℤ residual (levels_of levels.now) pattern (kind_at kinds.now 0) (kind_at kinds.now 1)
+        (block_of dct_field Y l c)) }
     ensures blue { (i : ℕ) → i < 64 → slice_index blue.new i
-        ≡ rebuilt (is_coded pattern 4) (level_list levels.now 4) (kind_at kinds.now 1) i (slice_index blue.old i) }
+        ≡ rebuilt (is_coded pattern 4) (level_list levels.now 4) (kind_at kinds.now 1) i
+        (slice_index blue.old i) }
     ensures red { (i : ℕ) → i < 64 → slice_index red.new i
-        ≡ rebuilt (is_coded pattern 5) (level_list levels.now 5) (kind_at kinds.now 1) i (slice_index red.old i) }
+        ≡ rebuilt (is_coded pattern 5) (level_list levels.now 5) (kind_at kinds.now 1) i
+        (slice_index red.old i) }
 {
     if pattern == 0 {
         return;
@@ -61,7 +65,8 @@ pub fn rebuild_block(
     requires kinds { All IsKind kinds.now }
     requires levels { All (λ l. All IsLevel l.at) levels.now }
     ensures value { block.new.at ≡ block_by
-        (macro_sample block.old.at (levels_of levels.now) pattern (kind_at kinds.now 0) (kind_at kinds.now 1) dct_field) }
+        (macro_sample block.old.at (levels_of levels.now) pattern (kind_at kinds.now 0)
+        (kind_at kinds.now 1) dct_field) }
 {
     let (luma, chroma) = block.at.split_at_mut(256);
     let (blue, red) = chroma.split_at_mut(64);
@@ -83,7 +88,8 @@ pub fn rebuild(
     requires levels { All (λ l. All IsLevel l.at) levels.now }
     requires column { column < out.old.dims.mb_width }
     ensures value { out.new ≡ with_macroblock 1 0 column
-        (macro_sample pred.now.at (levels_of levels.now) pattern (kind_at kinds.now 0) (kind_at kinds.now 1) dct_field) out.old }
+        (macro_sample pred.now.at (levels_of levels.now) pattern (kind_at kinds.now 0)
+        (kind_at kinds.now 1) dct_field) out.old }
 {
     let mut block = *pred;
     rebuild_block(&mut block, levels, pattern, kinds, dct_field);

@@ -49,9 +49,21 @@ impl Model for EncodeBook {
 
     ghost Value = { Book };
 
-    ghost view = { λ b. record { settings = b.settings; frames = b.frames.items; pictures = b.pictures.items; before = b.before; ledger = b.ledger } };
+    ghost view = { λ b. record {
+      settings = b.settings;
+      frames = b.frames.items;
+      pictures = b.pictures.items;
+      before = b.before;
+      ledger = b.ledger;
+    } };
 
-    ghost invariant = { λ b. IsBook (record { settings = b.settings; frames = b.frames.items; pictures = b.pictures.items; before = b.before; ledger = b.ledger }) };
+    ghost invariant = { λ b. IsBook (record {
+      settings = b.settings;
+      frames = b.frames.items;
+      pictures = b.pictures.items;
+      before = b.before;
+      ledger = b.ledger;
+    }) };
 }
 
 impl EncodeBook {

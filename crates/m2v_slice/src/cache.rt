@@ -28,7 +28,12 @@ impl Model for EncodeCache {
 
     ghost Value = { Cached };
 
-    ghost view = { λ c. record { plan = c.plan; ledger = c.ledger; bits = c.bits; rows = c.rows.items } };
+    ghost view = { λ c. record {
+      plan = c.plan;
+      ledger = c.ledger;
+      bits = c.bits;
+      rows = c.rows.items;
+    } };
 
     ghost invariant = { λ c. length c.rows.items ≤ 12 };
 }

@@ -51,7 +51,8 @@ impl<'a> Model for ReferenceWindow<'a> {
 
     ghost view = { λ w. record { book = w.book.now; picture = w.p; number = w.n; row = w.r } };
 
-    ghost invariant = { λ w. IsWindow w.book.now w.cache.now w.p w.n w.r w.first w.whole w.top w.bottom };
+    ghost invariant = { λ w. IsWindow w.book.now w.cache.now w.p w.n w.r w.first w.whole w.top
+        w.bottom };
 }
 
 /// The place of a picture among others.

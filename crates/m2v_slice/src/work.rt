@@ -54,7 +54,8 @@ impl EncodeBook {
         requires learned { HasLearnedPlan self.now p cache.now }
         ensures plan { plan_out.new ≡ (picture_at (coded self.now (p + 1)) p).plan }
         ensures ledger { ledger_out.new
-            ≡ ledger_with self.now (coded self.now (p + 1)) (first_open p) (coded self.now (p + 1)) }
+            ≡ ledger_with self.now (coded self.now (p + 1)) (first_open p)
+            (coded self.now (p + 1)) }
     {
         // what is known of a book
         let _book = self.pictures();

@@ -22,7 +22,8 @@ pub fn law_told()
         → length frames ≤ 999999 → TellsNumbers s frames }
     ensures intervals { (s : Settings) (frames : List (List ℕ)) → Passes s → 1 ≤ length frames
         → length frames ≤ 999999 → intervals false s.rate_code false (numbers_of s frames)
-        ≡ flat_map (λ (g : Group Samples). intervals_of s g.before g.pictures) (groups_of s frames) }
+        ≡ flat_map (λ (g : Group Samples). intervals_of s g.before g.pictures)
+        (groups_of s frames) }
 {}
 
 /// The stream of raw frames is one without a fault, and breaks none of the verifier's rules.

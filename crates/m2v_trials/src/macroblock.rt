@@ -57,7 +57,8 @@ fn start(context: &PictureContext) -> SliceState
 
 // Six blocks of the DC level 128.
 fn grey() -> [Levels; 6]
-    ensures { (kind : BlockKind) (block : ℕ) → block < 6 → IsBlock kind (block_levels (levels_of result) block) }
+    ensures { (kind : BlockKind) (block : ℕ) → block < 6
+        → IsBlock kind (block_levels (levels_of result) block) }
 {
     let mut at = [0; 64];
     at[0] = 128;

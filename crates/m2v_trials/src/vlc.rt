@@ -59,7 +59,13 @@ fn is_free_of_one(p: u32) -> bool {
 
 /// The type of these flags.
 fn kind(quant: bool, forward: bool, backward: bool, pattern: bool, intra: bool) -> MbType
-    ensures { result ≡ record { quant = quant; forward = forward; backward = backward; pattern = pattern; intra = intra } }
+    ensures { result ≡ record {
+      quant = quant;
+      forward = forward;
+      backward = backward;
+      pattern = pattern;
+      intra = intra;
+    } }
 {
     MbType {
         quant,

@@ -22,7 +22,8 @@ impl<'a> Model for UnitReader<'a> {
 
     ghost view = { λ r. units_in (text_of r.bytes.now r.zeros) };
 
-    ghost invariant = { λ r. (length r.bytes.now + r.zeros ≤ 2 ^ 36) × IsZeroEnded r.bytes.now r.zeros × BeginsUnit r.bytes.now r.zeros };
+    ghost invariant = { λ r. (length r.bytes.now + r.zeros ≤ 2 ^ 36)
+        × IsZeroEnded r.bytes.now r.zeros × BeginsUnit r.bytes.now r.zeros };
 }
 
 impl<'a> UnitReader<'a> {

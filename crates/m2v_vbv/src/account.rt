@@ -28,11 +28,31 @@ impl Model for Account {
 
     ghost Value = { State };
 
-    ghost view = { λ a. record { start = record { k = a.k; buffer_bits = a.buffer_bits; s = a.s; delay = a.delay }; removals = a.removals; time = a.time; held = a.held } };
+    ghost view = { λ a. record {
+      start = record {
+        k = a.k;
+        buffer_bits = a.buffer_bits;
+        s = a.s;
+        delay = a.delay;
+      };
+      removals = a.removals;
+      time = a.time;
+      held = a.held;
+    } };
 
-    ghost invariant = { λ a. (1 ≤ a.k) × (a.k < 2 ^ 30) × (a.buffer_bits ≤ 2 ^ 33) × (a.s < 2 ^ 40) × (a.delay < 2 ^ 16) × (a.removals ≤ 2 ^ 40) × (a.time ≤ 2 ^ 20 * a.removals) × (a.held ≤ 2 ^ 52 + 2 ^ 50 * a.removals) };
+    ghost invariant = { λ a. (1 ≤ a.k) × (a.k < 2 ^ 30) × (a.buffer_bits ≤ 2 ^ 33) × (a.s < 2 ^ 40)
+        × (a.delay < 2 ^ 16) × (a.removals ≤ 2 ^ 40) × (a.time ≤ 2 ^ 20 * a.removals)
+        × (a.held ≤ 2 ^ 52 + 2 ^ 50 * a.removals) };
 
-    ghost inverse = { λ v. record { k = v.start.k; buffer_bits = v.start.buffer_bits; s = v.start.s; delay = v.start.delay; removals = v.removals; time = v.time; held = v.held } };
+    ghost inverse = { λ v. record {
+      k = v.start.k;
+      buffer_bits = v.start.buffer_bits;
+      s = v.start.s;
+      delay = v.start.delay;
+      removals = v.removals;
+      time = v.time;
+      held = v.held;
+    } };
 }
 
 impl Account {
@@ -45,7 +65,12 @@ impl Account {
         requires buffer { buffer_bits ≤ 2 ^ 33 }
         requires begin { s < 2 ^ 40 }
         requires wait { delay < 2 ^ 16 }
-        ensures value { result ≡ opening (record { k = k; buffer_bits = buffer_bits; s = s; delay = delay }) }
+        ensures value { result ≡ opening (record {
+          k = k;
+          buffer_bits = buffer_bits;
+          s = s;
+          delay = delay;
+        }) }
     {
         let held = 1800 * u128::from(s) + 8 * u128::from(k) * u128::from(delay);
         Account {
@@ -75,7 +100,8 @@ impl Account {
         requires few { self.old.removals < 2 ^ 40 }
         ensures refused { IsErr result ↔ (self.old.held < 1800 * bits) }
         ensures ok { OnOk result (self.new ≡ after self.old bits units) }
-        ensures under { IfErr result (λ e. e ≡ AccountFault.Under self.old.removals self.old.held (1800 * bits)) }
+        ensures under { IfErr result (λ e. e ≡ AccountFault.Under self.old.removals self.old.held
+            (1800 * bits)) }
         ensures err { OnErr result (self.new ≡ self.old) }
     {
         let need = 1800 * u128::from(bits);
@@ -95,8 +121,11 @@ impl Account {
     /// Looks whether the buffer takes what is held, of a stream with so many bits that aren't removed.
     pub fn judge(&self, rest: u64) -> Result<(), AccountFault>
         requires rest { rest < 2 ^ 42 }
-        ensures refused { IsErr result ↔ (1800 * self.now.start.buffer_bits < min self.now.held (1800 * rest)) }
-        ensures over { IfErr result (λ e. e ≡ AccountFault.Over self.now.removals (min self.now.held (1800 * rest)) (1800 * self.now.start.buffer_bits)) }
+        ensures refused { IsErr result
+            ↔ (1800 * self.now.start.buffer_bits < min self.now.held (1800 * rest)) }
+        ensures over { IfErr result
+            (λ e. e ≡ AccountFault.Over self.now.removals (min self.now.held (1800 * rest))
+            (1800 * self.now.start.buffer_bits)) }
     {
         let have = self.held.min(1800 * u128::from(rest));
         let size = 1800 * u128::from(self.buffer_bits);
@@ -125,7 +154,8 @@ impl Account {
         ensures enough { LeavesRoom self.now (bits + result) units }
         ensures fewest { (z : ℕ) → z % 8 ≡ 0 → LeavesRoom self.now (bits + z) units → result ≤ z }
         ensures small { result < 2 ^ 40 }
-        ensures held { self.now.start.k * units + 14400 ≤ 1800 * self.now.start.buffer_bits → 1800 * (bits + result) ≤ self.now.held }
+        ensures held { self.now.start.k * units + 14400 ≤ 1800 * self.now.start.buffer_bits
+            → 1800 * (bits + result) ≤ self.now.held }
         ensures tight { self.now.start.k * units + 14400 ≤ 1800 * self.now.start.buffer_bits
             → 0 < result → IsTight self.now bits result units }
     {
@@ -139,7 +169,8 @@ impl Account {
     pub fn delay(&self, pos: u64) -> u64
         requires place { pos < 2 ^ 42 }
         requires begun { self.now.start.s ≤ pos }
-        requires arrives { 1800 * (pos - self.now.start.s) ≤ 8 * self.now.start.k * self.now.start.delay + self.now.start.k * self.now.time }
+        requires arrives { 1800 * (pos - self.now.start.s)
+            ≤ 8 * self.now.start.k * self.now.start.delay + self.now.start.k * self.now.time }
         ensures value { result ≡ arriving self.now pos / (8 * self.now.start.k) }
     {
         let rate = u128::from(self.k);

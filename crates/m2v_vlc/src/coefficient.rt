@@ -78,7 +78,8 @@ fn zero_at(input: &BitReader) -> u8
 /// Where no code stands there the reader stays.
 #[inline(always)]
 pub fn read_coefficient_zero(input: &mut BitReader) -> Result<Coefficient, CodeFault>
-    ensures exact { Gives result input.new.rest ((code_at CodeFault.Truncated CodeFault.NoCode coefficient_zero).read input.old.rest) }
+    ensures exact { Gives result input.new.rest
+        ((code_at CodeFault.Truncated CodeFault.NoCode coefficient_zero).read input.old.rest) }
     ensures text { input.new.text ≡ input.old.text }
     ensures same { OnErr result (input.new ≡ input.old) }
     ensures range { IfOk result (λ v. IsCoefficient v) }
@@ -137,7 +138,8 @@ fn one_at(input: &BitReader) -> u8
 /// Where no code stands there the reader stays.
 #[inline(always)]
 pub fn read_coefficient_one(input: &mut BitReader) -> Result<Coefficient, CodeFault>
-    ensures exact { Gives result input.new.rest ((code_at CodeFault.Truncated CodeFault.NoCode coefficient_one).read input.old.rest) }
+    ensures exact { Gives result input.new.rest
+        ((code_at CodeFault.Truncated CodeFault.NoCode coefficient_one).read input.old.rest) }
     ensures text { input.new.text ≡ input.old.text }
     ensures same { OnErr result (input.new ≡ input.old) }
     ensures range { IfOk result (λ v. IsCoefficient v) }

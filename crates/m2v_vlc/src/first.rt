@@ -45,7 +45,8 @@ pub fn code_first_zero(value: Coefficient) -> Code
 /// Where no code stands there the reader stays.
 #[inline(always)]
 pub fn read_first_zero(input: &mut BitReader) -> Result<Coefficient, CodeFault>
-    ensures exact { Gives result input.new.rest ((code_at CodeFault.Truncated CodeFault.NoCode first_zero).read input.old.rest) }
+    ensures exact { Gives result input.new.rest
+        ((code_at CodeFault.Truncated CodeFault.NoCode first_zero).read input.old.rest) }
     ensures text { input.new.text ≡ input.old.text }
     ensures same { OnErr result (input.new ≡ input.old) }
     ensures range { IfOk result (λ v. IsFirst v) }

@@ -36,7 +36,8 @@ pub fn code_increment(value: Increment) -> Code
 /// Where no code stands there the reader stays.
 #[inline(always)]
 pub fn read_increment(input: &mut BitReader) -> Result<Increment, CodeFault>
-    ensures exact { Gives result input.new.rest ((code_at CodeFault.Truncated CodeFault.NoCode increment).read input.old.rest) }
+    ensures exact { Gives result input.new.rest
+        ((code_at CodeFault.Truncated CodeFault.NoCode increment).read input.old.rest) }
     ensures text { input.new.text ≡ input.old.text }
     ensures same { OnErr result (input.new ≡ input.old) }
     ensures range { IfOk result (λ v. IsIncrement v) }

@@ -49,7 +49,8 @@ pub fn code_type_i(value: MbType) -> Code
 /// Where no code stands there the reader stays.
 #[inline(always)]
 pub fn read_type_i(input: &mut BitReader) -> Result<MbType, CodeFault>
-    ensures exact { Gives result input.new.rest ((code_at CodeFault.Truncated CodeFault.NoCode type_i).read input.old.rest) }
+    ensures exact { Gives result input.new.rest
+        ((code_at CodeFault.Truncated CodeFault.NoCode type_i).read input.old.rest) }
     ensures text { input.new.text ≡ input.old.text }
     ensures same { OnErr result (input.new ≡ input.old) }
 {
@@ -91,7 +92,8 @@ pub fn code_type_p(value: MbType) -> Code
 /// Where no code stands there the reader stays.
 #[inline(always)]
 pub fn read_type_p(input: &mut BitReader) -> Result<MbType, CodeFault>
-    ensures exact { Gives result input.new.rest ((code_at CodeFault.Truncated CodeFault.NoCode type_p).read input.old.rest) }
+    ensures exact { Gives result input.new.rest
+        ((code_at CodeFault.Truncated CodeFault.NoCode type_p).read input.old.rest) }
     ensures text { input.new.text ≡ input.old.text }
     ensures same { OnErr result (input.new ≡ input.old) }
 {
@@ -133,7 +135,8 @@ pub fn code_type_b(value: MbType) -> Code
 /// Where no code stands there the reader stays.
 #[inline(always)]
 pub fn read_type_b(input: &mut BitReader) -> Result<MbType, CodeFault>
-    ensures exact { Gives result input.new.rest ((code_at CodeFault.Truncated CodeFault.NoCode type_b).read input.old.rest) }
+    ensures exact { Gives result input.new.rest
+        ((code_at CodeFault.Truncated CodeFault.NoCode type_b).read input.old.rest) }
     ensures text { input.new.text ≡ input.old.text }
     ensures same { OnErr result (input.new ≡ input.old) }
 {

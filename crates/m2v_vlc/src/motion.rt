@@ -55,7 +55,8 @@ pub fn code_motion(value: i8) -> Code
 /// Where no code stands there the reader stays.
 #[inline(always)]
 pub fn read_motion(input: &mut BitReader) -> Result<i8, CodeFault>
-    ensures exact { Gives result input.new.rest ((code_at CodeFault.Truncated CodeFault.NoCode motion).read input.old.rest) }
+    ensures exact { Gives result input.new.rest
+        ((code_at CodeFault.Truncated CodeFault.NoCode motion).read input.old.rest) }
     ensures text { input.new.text ≡ input.old.text }
     ensures same { OnErr result (input.new ≡ input.old) }
     ensures range { IfOk result (λ v. (minus 16 ≤ℤ v) × (v ≤ℤ pos 16)) }
@@ -99,7 +100,8 @@ pub fn code_dmv(value: i8) -> Code
 /// Where no code stands there the reader stays.
 #[inline(always)]
 pub fn read_dmv(input: &mut BitReader) -> Result<i8, CodeFault>
-    ensures exact { Gives result input.new.rest ((code_at CodeFault.Truncated CodeFault.NoCode dmv).read input.old.rest) }
+    ensures exact { Gives result input.new.rest
+        ((code_at CodeFault.Truncated CodeFault.NoCode dmv).read input.old.rest) }
     ensures text { input.new.text ≡ input.old.text }
     ensures same { OnErr result (input.new ≡ input.old) }
     ensures range { IfOk result (λ v. (minus 1 ≤ℤ v) × (v ≤ℤ pos 1)) }

@@ -32,7 +32,8 @@ pub fn code_pattern(pattern: u8) -> Code
 /// Where no code stands there the reader stays.
 #[inline(always)]
 pub fn read_pattern(input: &mut BitReader) -> Result<u8, CodeFault>
-    ensures exact { Gives result input.new.rest ((code_at CodeFault.Truncated CodeFault.NoCode block_pattern).read input.old.rest) }
+    ensures exact { Gives result input.new.rest
+        ((code_at CodeFault.Truncated CodeFault.NoCode block_pattern).read input.old.rest) }
     ensures text { input.new.text ≡ input.old.text }
     ensures same { OnErr result (input.new ≡ input.old) }
     ensures pattern { IfOk result (λ v. (0 < v) × (v < 64)) }

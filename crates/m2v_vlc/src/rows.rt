@@ -27,7 +27,8 @@ fn begins_any<V: Copy>(rows: &[(V, u16, u8)], left: u8, p: u32) -> bool
 #[cold]
 fn fault<V: Copy>(rows: &[(V, u16, u8)], input: &BitReader) -> CodeFault
     requires { IsTable (rows_of rows.now) }
-    ensures { result ≡ cond (is_cut (rows_of rows.now) input.now.rest) CodeFault.Truncated CodeFault.NoCode }
+    ensures { result ≡ cond (is_cut (rows_of rows.now) input.now.rest) CodeFault.Truncated
+        CodeFault.NoCode }
 {
     let left = input.left();
     if left > 17 {
@@ -50,7 +51,8 @@ pub fn read_row<V: Copy>(
 ) -> Result<V, CodeFault>
     requires table { IsTable (rows_of rows.now) }
     requires points { Points (rows_of rows.now) i input.old.rest }
-    ensures exact { Gives result input.new.rest ((code_at CodeFault.Truncated CodeFault.NoCode (rows_of rows.now)).read input.old.rest) }
+    ensures exact { Gives result input.new.rest
+        ((code_at CodeFault.Truncated CodeFault.NoCode (rows_of rows.now)).read input.old.rest) }
     ensures text { input.new.text ≡ input.old.text }
     ensures same { OnErr result (input.new ≡ input.old) }
 {

@@ -24,7 +24,8 @@ pub fn code_dc_luma(size: u8) -> Code
 /// Where no code stands there the reader stays.
 #[inline(always)]
 pub fn read_dc_luma(input: &mut BitReader) -> Result<u8, CodeFault>
-    ensures exact { Gives result input.new.rest ((code_at CodeFault.Truncated CodeFault.NoCode dc_luma).read input.old.rest) }
+    ensures exact { Gives result input.new.rest
+        ((code_at CodeFault.Truncated CodeFault.NoCode dc_luma).read input.old.rest) }
     ensures text { input.new.text ≡ input.old.text }
     ensures same { OnErr result (input.new ≡ input.old) }
     ensures size { IfOk result (λ v. v < 12) }
@@ -67,7 +68,8 @@ pub fn code_dc_chroma(size: u8) -> Code
 /// Where no code stands there the reader stays.
 #[inline(always)]
 pub fn read_dc_chroma(input: &mut BitReader) -> Result<u8, CodeFault>
-    ensures exact { Gives result input.new.rest ((code_at CodeFault.Truncated CodeFault.NoCode dc_chroma).read input.old.rest) }
+    ensures exact { Gives result input.new.rest
+        ((code_at CodeFault.Truncated CodeFault.NoCode dc_chroma).read input.old.rest) }
     ensures text { input.new.text ≡ input.old.text }
     ensures same { OnErr result (input.new ≡ input.old) }
     ensures size { IfOk result (λ v. v < 12) }

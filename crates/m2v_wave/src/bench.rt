@@ -46,7 +46,8 @@ impl<B: JobBook> Bench<B> {
 // A post of the job that nothing has written yet.
 fn blank_post<B: JobBook>(alloc: Global, book: &B, j: u32) -> Result<Box<Post<B>>, Memory>
     requires { j < B.jobs book.now }
-    ensures { IfOk result (λ b. IsBlank (B.fits_piece book.now) (B.fits_shared book.now) j b.value) }
+    ensures { IfOk result (λ b. IsBlank (B.fits_piece book.now) (B.fits_shared book.now) j
+        b.value) }
 {
     let piece = book.blank_piece(alloc, j)?;
     let shared = book.blank_shared(alloc, j)?;
@@ -67,7 +68,9 @@ pub(crate) fn blank_posts<B: JobBook>(
 ) -> Result<Vec<Box<Post<B>>>, Memory>
     requires { jobs ≡ B.jobs book.now }
     ensures count { IfOk result (λ v. length v.items ≡ jobs) }
-    ensures blank { IfOk result (λ v. (j : ℕ) (d : _) → j < jobs → IsBlank (B.fits_piece book.now) (B.fits_shared book.now) j (slice_index_or v.items j d).value) }
+    ensures blank { IfOk result (λ v. (j : ℕ) (d : _) → j < jobs
+        → IsBlank (B.fits_piece book.now) (B.fits_shared book.now) j
+        (slice_index_or v.items j d).value) }
 {
     let mut posts = Vec::new(alloc);
     for j in 0..jobs {
@@ -100,7 +103,8 @@ fn hire<B: JobBook>(
     requires passes { All (λ p. IsNew board.now p) passes.items }
     requires caches { All (B.fits_cache book.now) caches.items }
     requires count { vec_len caches ≡ vec_len passes }
-    requires room { (vec_len crew.old ≡ 0) × (vec_len passes ≤ vec_capacity crew.old) × (vec_len passes ≤ 16) }
+    requires room { (vec_len crew.old ≡ 0) × (vec_len passes ≤ vec_capacity crew.old)
+        × (vec_len passes ≤ 16) }
     ensures count { vec_len crew.new ≡ vec_len passes }
     ensures idle { All (λ w. CanWork B.jobs B.fits_cache book.now board.now w) crew.new.items }
 {

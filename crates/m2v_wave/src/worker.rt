@@ -57,7 +57,8 @@ fn learn_all<R: Wait, B: JobBook>(
     ensures slots { (i : ℕ) → slot_of pass.new i ≡ slot_of pass.old i }
     ensures borrowed { All (λ i. Contains (view pass.new).borrowed i) (B.needs book.now j) }
     ensures fits { B.fits_cache book.now cache.new }
-    ensures learned { cache.new ≡ cache_after (B.learned book.now j) (B.shared book.now) (B.needs book.now j) (length (B.needs book.now j)) cache.old }
+    ensures learned { cache.new ≡ cache_after (B.learned book.now j) (B.shared book.now)
+        (B.needs book.now j) (length (B.needs book.now j)) cache.old }
 {
     let mut needs = NeedList::new();
     book.needs(j, &mut needs);
@@ -69,7 +70,9 @@ fn learn_all<R: Wait, B: JobBook>(
 // Makes a blank post ready, and answers what the gate is told of it.
 fn fill<B: JobBook>(book: &B, cache: &B::Cache, j: u32, post: &mut Post<B>) -> u64
     requires job { j < B.jobs book.now }
-    requires learned { (c : _) × B.fits_cache book.now c × (cache.now ≡ cache_after (B.learned book.now j) (B.shared book.now) (B.needs book.now j) (length (B.needs book.now j)) c) }
+    requires learned { (c : _) × B.fits_cache book.now c
+        × (cache.now ≡ cache_after (B.learned book.now j) (B.shared book.now) (B.needs book.now j)
+        (length (B.needs book.now j)) c) }
     requires blank { IsBlank (B.fits_piece book.now) (B.fits_shared book.now) j post.old }
     ensures ready { IsReady (B.value book.now) (B.shared book.now) j post.new }
     ensures told { result ≡ B.told book.now j }
@@ -102,7 +105,8 @@ pub(crate) fn work_one<R: Wait, B: JobBook, G: Gate>(
     requires pass { IsPassOf board.now pass.old }
     requires job { j < B.jobs book.now }
     requires cache { B.fits_cache book.now cache.old }
-    requires slot { (x : _) × (slot_of pass.old j ≡ Some x) × Has (IsBlank (B.fits_piece (book_of board.now)) (B.fits_shared (book_of board.now))) j x }
+    requires slot { (x : _) × (slot_of pass.old j ≡ Some x)
+        × Has (IsBlank (B.fits_piece (book_of board.now)) (B.fits_shared (book_of board.now))) j x }
     ensures pass { IsPassOf board.now pass.new × ((view pass.new).passes ≡ (view pass.old).passes) }
     ensures shown { slot_of pass.new j ≡ None }
     ensures others { (i : ℕ) → i ≢ j → slot_of pass.new i ≡ slot_of pass.old i }

@@ -96,7 +96,8 @@ fn difference(level: i32, predictor: i32) -> i32
 fn write_dc_block(difference: i32, luma: bool, out: &mut BitWriter)
     requires range { unsigned_abs difference < 2 ^ 11 }
     requires room { 24 ≤ out.old.room }
-    ensures written { out.new.written ≡ out.old.written ++ (dc_text luma difference ++ end_of_block) }
+    ensures written { out.new.written
+        ≡ out.old.written ++ (dc_text luma difference ++ end_of_block) }
     ensures room { out.new.room + (length (dc_text luma difference) + 2) ≡ out.old.room }
 {
     write_dc(difference, luma, out);

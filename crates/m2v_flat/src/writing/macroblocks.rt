@@ -38,8 +38,10 @@ fn write_luma(frame: &Frame, row: u32, column: u32, before: i32, out: &mut BitWr
     requires before { before ≡ (predictors frame.now row column).luma }
     requires room { 96 ≤ out.old.room }
     ensures value { result ≡ level frame.now row column 3 }
-    ensures written { out.new.written ≡ out.old.written ++ flat_map (block_text frame.now row column) (range_with_len 0 4) }
-    ensures room { out.new.room + length (flat_map (block_text frame.now row column) (range_with_len 0 4)) ≡ out.old.room }
+    ensures written { out.new.written
+        ≡ out.old.written ++ flat_map (block_text frame.now row column) (range_with_len 0 4) }
+    ensures room { out.new.room
+        + length (flat_map (block_text frame.now row column) (range_with_len 0 4)) ≡ out.old.room }
 {
     let mut before = before;
     for block in 0..4 {

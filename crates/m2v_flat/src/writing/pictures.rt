@@ -61,8 +61,10 @@ fn write_picture(settings: &FlatSettings, number: u64, frame: &Frame, out: &mut 
     requires width { frame.now.dims.mb_width ≤ 45 }
     requires edge { length out.old.written % 8 ≡ 0 }
     requires room { 261760 ≤ out.old.room }
-    ensures written { out.new.written ≡ out.old.written ++ picture_units settings.now number frame.now }
-    ensures room { out.new.room + length (picture_units settings.now number frame.now) ≡ out.old.room }
+    ensures written { out.new.written ≡ out.old.written ++ picture_units settings.now number
+        frame.now }
+    ensures room { out.new.room + length (picture_units settings.now number frame.now)
+        ≡ out.old.room }
     ensures edge { length out.new.written % 8 ≡ 0 }
 {
     write_picture_header(number, out);
@@ -78,7 +80,8 @@ fn write_first(settings: &FlatSettings, number: u64, out: &mut BitWriter)
     requires code { settings.now.rate_code < 2 ^ 4 }
     requires edge { length out.old.written % 8 ≡ 0 }
     requires room { 256 ≤ out.old.room }
-    ensures written { out.new.written ≡ out.old.written ++ (if nat_eq number 0 then sequence_units settings.now else []) }
+    ensures written { out.new.written
+        ≡ out.old.written ++ (if nat_eq number 0 then sequence_units settings.now else []) }
     ensures room { out.new.room + length out.new.written ≡ out.old.room + length out.old.written }
     ensures enough { out.old.room ≤ out.new.room + 256 }
     ensures edge { length out.new.written % 8 ≡ 0 }
@@ -99,7 +102,8 @@ pub fn write_frame(settings: &FlatSettings, number: u64, frame: &Frame, out: &mu
     requires columns { frame.now.dims.mb_width ≤ 45 }
     requires edge { length out.old.written % 8 ≡ 0 }
     requires room { 262016 ≤ out.old.room }
-    ensures written { out.new.written ≡ out.old.written ++ frame_units settings.now number frame.now }
+    ensures written { out.new.written ≡ out.old.written ++ frame_units settings.now number
+        frame.now }
     ensures room { out.new.room + length out.new.written ≡ out.old.room + length out.old.written }
     ensures edge { length out.new.written % 8 ≡ 0 }
 {

@@ -58,8 +58,10 @@ fn write_sequence_header(settings: &FlatSettings, out: &mut BitWriter)
     requires code { settings.now.rate_code < 2 ^ 4 }
     requires edge { length out.old.written % 8 ≡ 0 }
     requires room { 128 ≤ out.old.room }
-    ensures written { out.new.written ≡ out.old.written ++ unit 0xB3 (sequence_text (flat_sequence settings.now)) }
-    ensures room { out.new.room + length (unit 0xB3 (sequence_text (flat_sequence settings.now))) ≡ out.old.room }
+    ensures written { out.new.written
+        ≡ out.old.written ++ unit 0xB3 (sequence_text (flat_sequence settings.now)) }
+    ensures room { out.new.room + length (unit 0xB3 (sequence_text (flat_sequence settings.now)))
+        ≡ out.old.room }
     ensures edge { length out.new.written % 8 ≡ 0 }
 {
     write_start_code(0xB3, out);
@@ -83,8 +85,10 @@ fn write_sequence_header(settings: &FlatSettings, out: &mut BitWriter)
 fn write_sequence_extension(out: &mut BitWriter)
     requires edge { length out.old.written % 8 ≡ 0 }
     requires room { 128 ≤ out.old.room }
-    ensures written { out.new.written ≡ out.old.written ++ unit 0xB5 (sequence_extension_text flat_sequence_extension) }
-    ensures room { out.new.room + length (unit 0xB5 (sequence_extension_text flat_sequence_extension)) ≡ out.old.room }
+    ensures written { out.new.written
+        ≡ out.old.written ++ unit 0xB5 (sequence_extension_text flat_sequence_extension) }
+    ensures room { out.new.room
+        + length (unit 0xB5 (sequence_extension_text flat_sequence_extension)) ≡ out.old.room }
     ensures edge { length out.new.written % 8 ≡ 0 }
 {
     write_start_code(0xB5, out);
@@ -97,8 +101,10 @@ fn write_sequence_extension(out: &mut BitWriter)
 pub fn write_picture_header(number: u64, out: &mut BitWriter)
     requires edge { length out.old.written % 8 ≡ 0 }
     requires room { 128 ≤ out.old.room }
-    ensures written { out.new.written ≡ out.old.written ++ unit 0x00 (picture_text (flat_picture number)) }
-    ensures room { out.new.room + length (unit 0x00 (picture_text (flat_picture number))) ≡ out.old.room }
+    ensures written { out.new.written
+        ≡ out.old.written ++ unit 0x00 (picture_text (flat_picture number)) }
+    ensures room { out.new.room + length (unit 0x00 (picture_text (flat_picture number)))
+        ≡ out.old.room }
     ensures edge { length out.new.written % 8 ≡ 0 }
 {
     write_start_code(0x00, out);
@@ -120,8 +126,10 @@ pub fn write_picture_header(number: u64, out: &mut BitWriter)
 pub fn write_picture_extension(out: &mut BitWriter)
     requires edge { length out.old.written % 8 ≡ 0 }
     requires room { 128 ≤ out.old.room }
-    ensures written { out.new.written ≡ out.old.written ++ unit 0xB5 (picture_extension_text flat_picture_extension) }
-    ensures room { out.new.room + length (unit 0xB5 (picture_extension_text flat_picture_extension)) ≡ out.old.room }
+    ensures written { out.new.written
+        ≡ out.old.written ++ unit 0xB5 (picture_extension_text flat_picture_extension) }
+    ensures room { out.new.room + length (unit 0xB5 (picture_extension_text flat_picture_extension))
+        ≡ out.old.room }
     ensures edge { length out.new.written % 8 ≡ 0 }
 {
     write_start_code(0xB5, out);
