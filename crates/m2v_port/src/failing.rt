@@ -49,6 +49,10 @@ impl Source for MemorySource {
 
     ghost faults = { λ s. s.calls.failed };
 
+    ghost behind = { λ s. s.calls.failed };
+
+    ghost lenders = { λ _. [] };
+
     // As many bytes as are left and fit. The rest of the buffer stays, and all of it after an error.
     fn read(&mut self, buf: &mut [u8]) -> Result<usize, PortError>
         ensures value { result ≡ (if next_fails self.old.calls then Err PortError.Failed

@@ -1,5 +1,5 @@
 // The endpoints of the program: what their calls do, and what they never do.
-ghost use Rattle.std.specs.Prelude.{◌≡◌, ◌<◌, ◌≤◌, List, ℕ, Bool, Option, length, take, IfOk, OnOk, OnErr, IfSome, IsErrOf, IsTrue, IsFalse, Ok};
+ghost use Rattle.std.specs.Prelude.{◌≡◌, ◌<◌, ◌≤◌, List, ◌∷◌, ℕ, Bool, Option, length, take, IfOk, OnOk, OnErr, IfSome, IsErrOf, IsTrue, IsFalse, Ok};
 ghost use Rattle.m2v_port.specs.Port.{Rose, Moves, IsAtEnd, Grows, GrowsByPrefix};
 
 use crate::PortError;
@@ -11,6 +11,14 @@ pub trait Source {
 
     /// How often the source has failed: a count that never falls.
     ghost faults: { Self → ℕ };
+
+    /// How often the endpoint behind it has failed, where it reads from another source: a count that never falls. It is
+    /// `faults` where nothing is behind.
+    ghost behind: { Self → ℕ };
+
+    /// The references through which it reads, the outermost first, by their ghost names. No read changes them, so that
+    /// a source that was lent to it is still the one that it reads from.
+    ghost lenders: { Self → List ℕ };
 
     /// Moves bytes from the front of what is left to the front of the buffer, and answers how many. After an
     /// error, be it a fault or want of memory, nothing was moved. What stands in the buffer behind the moved
@@ -25,7 +33,9 @@ pub trait Source {
         ensures err { OnErr result (left self.new ≡ left self.old) }
         ensures failed { IsErrOf result PortError.Failed
             → Rose (faults self.old) (faults self.new) }
-        ensures faults { faults self.old ≤ faults self.new };
+        ensures faults { faults self.old ≤ faults self.new }
+        ensures behind { behind self.old ≤ behind self.new }
+        ensures lenders { lenders self.new ≡ lenders self.old };
 }
 
 // A source that is lent is a source: what is read of it is gone from the one that it points to.
@@ -33,6 +43,10 @@ impl<S: Source> Source for &mut S {
     ghost left = { λ s. S.left s.now };
 
     ghost faults = { λ s. S.faults s.now };
+
+    ghost behind = { λ s. S.behind s.now };
+
+    ghost lenders = { λ s. s.ghost_name ∷ S.lenders s.now };
 
     fn read(&mut self, buf: &mut [u8]) -> Result<usize, PortError> {
         (**self).read(buf)

@@ -1,6 +1,6 @@
 // The standard streams: a trusted edge. No clause can say which bytes the system gives or takes, so these tell
 // nothing of them, and a body that moves none would meet the contracts too. The tests look at that.
-ghost use Rattle.std.specs.Prelude.{◌≡◌, ◌≤◌, length, IfOk, true, None};
+ghost use Rattle.std.specs.Prelude.{◌≡◌, ◌≤◌, [], length, IfOk, true, None};
 ghost use Rattle.m2v_port.specs.Port.{Rose};
 
 use crate::{PortError, Sink, Source};
@@ -47,6 +47,10 @@ impl<I: Read> Source for StdSource<I> {
     ghost left = { λ _. None };
 
     ghost faults = { λ s. s };
+
+    ghost behind = { λ s. s };
+
+    ghost lenders = { λ _. [] };
 
     fn read(&mut self, buf: &mut [u8]) -> Result<usize, PortError> {
         match read_retrying(&mut self.input, buf) {

@@ -38,6 +38,10 @@ impl Source for SureSource {
 
     ghost faults = { λ _. 0 };
 
+    ghost behind = { λ _. 0 };
+
+    ghost lenders = { λ _. [] };
+
     // As many bytes as are left and fit. The rest of the buffer stays.
     fn read(&mut self, buf: &mut [u8]) -> Result<usize, PortError>
         ensures value { result ≡ Ok (min (length buf.old) (length self.old)) }

@@ -1,5 +1,5 @@
 // Reading in wholes: a source gives as few bytes in a call as it likes.
-ghost use Rattle.std.specs.Prelude.{◌<◌, ◌≤◌, length, take, IfOk, OnErr, IsErrOf};
+ghost use Rattle.std.specs.Prelude.{◌≡◌, ◌<◌, ◌≤◌, length, take, IfOk, OnErr, IsErrOf};
 ghost use Rattle.m2v_port.specs.Port.{Rose, Moves, MovesFewer, IsAtEnd};
 
 use crate::{PortError, Source};
@@ -16,6 +16,8 @@ pub fn fill<S: Source>(input: &mut S, buf: &mut [u8]) -> Result<usize, PortError
     ensures failed { IsErrOf result PortError.Failed
         → Rose (S.faults input.old) (S.faults input.new) }
     ensures faults { S.faults input.old ≤ S.faults input.new }
+    ensures behind { S.behind input.old ≤ S.behind input.new }
+    ensures lenders { S.lenders input.new ≡ S.lenders input.old }
 {
     let mut filled = 0;
     while filled < buf.len() {

@@ -1,4 +1,4 @@
-use Rattle.std.proofs.Common.{arith, ◌≤◌, length}
+use Rattle.std.proofs.Common.{arith, ◌∙◌, ◌≤◌, length}
 use Rattle.m2v_port.proofs.Runs.{moves_into, length_into}
 use Rattle.m2v_port.proofs.whole.fill.Goals as goal
 
@@ -11,4 +11,6 @@ loop-filled-preserved g c =
       within = length_into c.loop-filled.buf c.read.new.buf _ c.loop-filled.filled c.in_ok-n.n so_far.within within;
       moved = moves_into c.loop-filled.buf c.read.new.buf _ c.loop-filled.filled c.in_ok-n.n so_far.within within so_far.moved read.moved;
       faults = omega (arith, so_far.faults, read.faults);
+      behind = omega (arith, so_far.behind, read.behind);
+      lenders = read.lenders ∙ so_far.lenders;
     }

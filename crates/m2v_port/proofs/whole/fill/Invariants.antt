@@ -1,4 +1,4 @@
-use Rattle.std.proofs.Common.{◌-◌, ◌≤◌, length, take}
+use Rattle.std.proofs.Common.{◌≡◌, ◌-◌, ◌≤◌, length, take}
 use Rattle.m2v_port.specs.Port.{Moves}
 use Rattle.m2v_port.proofs.whole.fill.Given as goal
 
@@ -8,6 +8,8 @@ invariant-loop-filled g l =
       within : l.filled ≤ length l.buf;
       moved : Moves (g.S.Source.left l.initial.input) (take l.filled l.buf) (g.S.Source.left l.input);
       faults : g.S.Source.faults l.initial.input ≤ g.S.Source.faults l.input;
+      behind : g.S.Source.behind l.initial.input ≤ g.S.Source.behind l.input;
+      lenders : g.S.Source.lenders l.input ≡ g.S.Source.lenders l.initial.input;
     }
 
 abbrev pub decreases-loop-filled : goal.decreases-loop-filled
