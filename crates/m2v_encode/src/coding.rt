@@ -43,6 +43,8 @@ impl Coder {
         ensures room { HasRoom self.new }
         ensures rest { self.new ≡ record self.old { raw = self.new.raw } }
         ensures input { S.faults input.old ≤ S.faults input.new }
+        ensures behind { S.behind input.old ≤ S.behind input.new }
+        ensures lenders { S.lenders input.new ≡ S.lenders input.old }
     {
         read_bytes(input, &mut self.raw)
     }
@@ -94,6 +96,8 @@ impl Coder {
             (change S.left S.faults input.old input.new)) }
         ensures room { HasRoom self.new }
         ensures input { S.faults input.old ≤ S.faults input.new }
+        ensures behind { S.behind input.old ≤ S.behind input.new }
+        ensures lenders { S.lenders input.new ≡ S.lenders input.old }
     {
         // a frame has bytes
         let _size = self.settings.dims();
@@ -225,6 +229,8 @@ impl Coder {
         ensures output { SinkStays K.ready K.name K.faults output.old output.new }
         ensures recon { SinkStays N.ready N.name N.faults recon.old recon.new }
         ensures input { S.faults input.old ≤ S.faults input.new }
+        ensures behind { S.behind input.old ≤ S.behind input.new }
+        ensures lenders { S.lenders input.new ≡ S.lenders input.old }
     {
         // the settings pass, so a frame has bytes
         let _known = self.settings.settings();
@@ -267,6 +273,8 @@ pub(crate) fn encode_to<R: Threads + Wait + Sync, S: Source, K: Sink, N: Sink, G
     ensures output { SinkStays K.ready K.name K.faults output.old output.new }
     ensures recon { SinkStays N.ready N.name N.faults recon.old recon.new }
     ensures input { S.faults input.old ≤ S.faults input.new }
+    ensures behind { S.behind input.old ≤ S.behind input.new }
+    ensures lenders { S.lenders input.new ≡ S.lenders input.old }
 {
     // the settings pass, so a frame has bytes
     let _known = settings.settings();

@@ -22,6 +22,8 @@ pub(crate) fn read_bytes<S: Source>(input: &mut S, raw: &mut [u8]) -> Result<usi
     ensures err { IfErr result (ReadStops (length raw.old)
         (change S.left S.faults input.old input.new)) }
     ensures input { S.faults input.old ≤ S.faults input.new }
+    ensures behind { S.behind input.old ≤ S.behind input.new }
+    ensures lenders { S.lenders input.new ≡ S.lenders input.old }
 {
     match fill(input, raw) {
         Ok(read) => {
@@ -41,6 +43,8 @@ pub(crate) fn goes_on<S: Source>(input: &mut S) -> Result<bool, EncodeError>
         × IsAtEnd (S.left input.new) }
     ensures err { IfErr result (ReadStops 1 (change S.left S.faults input.old input.new)) }
     ensures input { S.faults input.old ≤ S.faults input.new }
+    ensures behind { S.behind input.old ≤ S.behind input.new }
+    ensures lenders { S.lenders input.new ≡ S.lenders input.old }
 {
     let mut byte = [0u8];
     match fill(input, &mut byte) {

@@ -1,5 +1,5 @@
 //! Raw frames to a stream alone: no frames are shown.
-ghost use Rattle.std.specs.Prelude.{◌≤◌, true, None, IsTrue, IfOk, IfErr};
+ghost use Rattle.std.specs.Prelude.{◌≡◌, ◌≤◌, true, None, IsTrue, IfOk, IfErr};
 ghost use Rattle.m2v_port.specs.Ends.{change, SinkStays};
 ghost use Rattle.m2v_encode.specs.Answers.{AllCoded, Stops, unshown};
 
@@ -50,6 +50,8 @@ pub(crate) fn encode_unshown<R: Threads + Wait + Sync, S: Source, K: Sink, G: Ga
         (change K.held K.faults output.old output.new) unshown) }
     ensures output { SinkStays K.ready K.name K.faults output.old output.new }
     ensures input { S.faults input.old ≤ S.faults input.new }
+    ensures behind { S.behind input.old ≤ S.behind input.new }
+    ensures lenders { S.lenders input.new ≡ S.lenders input.old }
 {
     let mut recon = Unshown;
     encode_to(rt, alloc, settings, input, output, &mut recon, gate)

@@ -1,5 +1,5 @@
 //! The one call of the encoder, with or without a place for reconstructions.
-ghost use Rattle.std.specs.Prelude.{◌≤◌, IsTrue, IfOk, IfErr, IfSome};
+ghost use Rattle.std.specs.Prelude.{◌≡◌, ◌≤◌, IsTrue, IfOk, IfErr, IfSome};
 ghost use Rattle.m2v_port.specs.Ends.{change, SinkStays};
 ghost use Rattle.m2v_encode.specs.Answers.{AllCoded, Stops};
 ghost use Rattle.m2v_encode.specs.Places.{Beside, PlaceStays};
@@ -40,6 +40,8 @@ pub fn encode<R: Threads + Wait + Sync, S: Source, K: Sink, N: NamedSink, G: Gat
     ensures output { SinkStays K.ready K.name K.faults output.old output.new }
     ensures recon { PlaceStays N.ready N.name N.faults recon.entry recon.exit }
     ensures input { S.faults input.old ≤ S.faults input.new }
+    ensures behind { S.behind input.old ≤ S.behind input.new }
+    ensures lenders { S.lenders input.new ≡ S.lenders input.old }
 {
     match recon {
         Some(place) => encode_to(rt, alloc, settings, input, output, place, gate),

@@ -1,5 +1,5 @@
 //! Where the stream is read again from, and where its frames go to.
-ghost use Rattle.std.specs.Prelude.{◌≡◌, Some, None, true};
+ghost use Rattle.std.specs.Prelude.{[], ◌≡◌, Some, None, true};
 
 use m2v_port::{PortError, Sink, Source};
 use std::marker::Model;
@@ -32,6 +32,10 @@ impl<'a> Source for Lent<'a> {
     ghost left = { λ s. Some s };
 
     ghost faults = { λ _. 0 };
+
+    ghost behind = { λ _. 0 };
+
+    ghost lenders = { λ _. [] };
 
     // As many bytes as are left and fit.
     fn read(&mut self, buf: &mut [u8]) -> Result<usize, PortError> {

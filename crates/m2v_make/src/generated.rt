@@ -1,5 +1,5 @@
 //! The frames of a seed as raw bytes, made as they are asked for.
-ghost use Rattle.std.specs.Prelude.{◌≡◌, ◌<◌, ◌+◌, ◌*◌, ◌/◌, ◌%◌, ◌^◌, Some};
+ghost use Rattle.std.specs.Prelude.{[], ◌≡◌, ◌<◌, ◌+◌, ◌*◌, ◌/◌, ◌%◌, ◌^◌, Some};
 ghost use Rattle.m2v_make.specs.Source.{all_size, chroma_byte, byte_at, left_of};
 
 use m2v_port::{PortError, Source};
@@ -102,6 +102,10 @@ impl Source for Generated {
     ghost left = { λ g. Some (left_of g) };
 
     ghost faults = { λ _. 0 };
+
+    ghost behind = { λ _. 0 };
+
+    ghost lenders = { λ _. [] };
 
     // As many bytes as are left and fit.
     fn read(&mut self, buf: &mut [u8]) -> Result<usize, PortError> {

@@ -61,7 +61,7 @@ many_long s left held recon bytes is e =
     let total : length (raw e.frames) ≡ most_frames * size = frames_length size e.frames e.begun.whole ∙ ap (λ (n : ℕ). n * size) e.all in
     omega (arith, long, total, length-append (raw e.frames) (e.next ∷ []))
 
-least_step : (scan : Scan) → 1 ≤ line_step scan
+pub least_step : (scan : Scan) → 1 ≤ line_step scan
 unfolding is_progressive
 least_step Progressive = let some : 1 ≤ 2 = omega arith in some
 least_step Frames = let some : 1 ≤ 4 = omega arith in some

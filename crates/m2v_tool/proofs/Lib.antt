@@ -8,5 +8,6 @@ pub mod PackingLaws
 pub mod DecodingLaws
 pub mod CheckingLaws
 pub mod EncodingLaws
+pub mod Y4mCodingLaws
 pub mod MakingLaws
 pub mod RunLaws

@@ -3,9 +3,10 @@ use Rattle.std.proofs.Common.{◌≡◌, inr, refl, subst}
 use Rattle.m2v_tool.specs.declared.command.Command.{Command}
 use Rattle.m2v_tool.specs.declared.command.Command.TheVariants as commands
 use Rattle.m2v_tool.specs.declared.command.Outcome.{Outcome}
-use Rattle.m2v_tool.specs.declared.command.Outcome.TheVariants.{Usage, NoMemory, Flat, Encode, Decode, Check, Make, Cut, Pack, Unpack}
+use Rattle.m2v_tool.specs.declared.command.Outcome.TheVariants.{Usage, NoMemory, Flat, Encode, Decode, Check, Make, Cut, Pack, Unpack, EncodeY4m}
 use Rattle.m2v_tool.specs.EncodeWords.{Meant, words_of}
 use Rattle.m2v_tool.specs.Encoding.{EncodeKeeps}
+use Rattle.m2v_tool.specs.Y4mCoding.{Y4mKeeps}
 use Rattle.m2v_tool.specs.Endings.{Told}
 use Rattle.m2v_tool.specs.Words.{Means, NoCommand}
 use Rattle.m2v_tool.specs.Runs.{Run, RefusedBy, IsUntouched, work_of}
@@ -14,6 +15,7 @@ use Rattle.m2v_tool.proofs.WordLaws.{one_meaning}
 use Rattle.m2v_tool.proofs.EndingLaws.{refusal, memory_told}
 use Rattle.m2v_tool.proofs.CodingLaws.{flat_keeps, flat_unread}
 use Rattle.m2v_tool.proofs.EncodingLaws.{encode_keeps, encode_unread}
+use Rattle.m2v_tool.proofs.Y4mCodingLaws.{y4m_keeps, y4m_unread}
 use Rattle.m2v_tool.proofs.DecodingLaws.{decode_keeps, decode_unread}
 use Rattle.m2v_tool.proofs.CheckingLaws.{check_keeps, check_unread}
 use Rattle.m2v_tool.proofs.MakingLaws.{make_keeps, make_unread}
@@ -33,6 +35,7 @@ module _ (r : Run) where
   refused_by (Cut o) c t none = absurd (none (commands.Cut c.0) c.1)
   refused_by (Pack o) c t none = absurd (none (commands.Pack c.0) c.1)
   refused_by (Unpack o) c t none = absurd (none commands.Unpack c.0)
+  refused_by (EncodeY4m o) c t none = absurd (none (commands.EncodeY4m c.0) c.1)
 
   -- where memory ran out before the words were read
   unread_by : IsUntouched (work_of r) → r.status ≡ 12 → (c : Command) → Keeps c r
@@ -44,11 +47,13 @@ module _ (r : Run) where
   unread_by untouched is (commands.Cut w) = cut_unread r w untouched is
   unread_by untouched is (commands.Pack h) = pack_unread r h untouched is
   unread_by untouched is commands.Unpack = unpack_unread r is
+  unread_by untouched is (commands.EncodeY4m w) = y4m_unread r (words_of w) untouched is
 
   -- the words mean the command whose outcome came, and no other one
   same_keeps : (c d : Command) → Means r.words c → Means r.words d → Keeps c r → Keeps d r
   same_keeps c d means others keeps =
-      one_meaning (λ (x : Command). Keeps x r) (λ v w same k. subst (λ (m : Meant). EncodeKeeps m r) same k) r.words c d means others keeps
+      one_meaning (λ (x : Command). Keeps x r) (λ v w same k. subst (λ (m : Meant). EncodeKeeps m r) same k)
+      (λ v w same k. subst (λ (m : Meant). Y4mKeeps m r) same k) r.words c d means others keeps
 
   keeps_by : (o : Outcome) → Comes r.words (work_of r) o → Told (ending_of o) r.status r.report → (d : Command) → Means r.words d → Keeps d r
   unfolding Comes ending_of
@@ -62,6 +67,7 @@ module _ (r : Run) where
   keeps_by (Cut o) c t d means = same_keeps (commands.Cut c.0) d c.1 means (cut_keeps r c.0 o c.2 t c.3)
   keeps_by (Pack o) c t d means = same_keeps (commands.Pack c.0) d c.1 means (pack_keeps r c.0 o c.2 t c.3)
   keeps_by (Unpack o) c t d means = same_keeps commands.Unpack d c.0 means (unpack_keeps r o c.1 t)
+  keeps_by (EncodeY4m o) c t d means = same_keeps (commands.EncodeY4m c.0) d c.1 means (y4m_keeps r (words_of c.0) o c.2 t)
 
 pub kept_by : (r : Run) (o : Outcome) → Comes r.words (work_of r) o → Told (ending_of o) r.status r.report → Kept r
 kept_by r o comes t = record {

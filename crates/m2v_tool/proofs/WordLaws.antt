@@ -8,11 +8,12 @@ use Rattle.m2v_tool.specs.declared.flat.FlatWords.{FlatWords}
 use Rattle.m2v_tool.specs.declared.encode.EncodeWords.{EncodeWords}
 use Rattle.m2v_tool.specs.declared.cut.CutWords.{CutWords}
 use Rattle.m2v_tool.specs.declared.command.Command.{Command}
-use Rattle.m2v_tool.specs.declared.command.Command.TheVariants.{Flat, Encode, Decode, Check, Make, Cut, Pack, Unpack}
+use Rattle.m2v_tool.specs.declared.command.Command.TheVariants.{Flat, Encode, Decode, Check, Make, Cut, Pack, Unpack, EncodeY4m}
 use Rattle.m2v_tool.specs.EncodeWords.{encode_meant, words_of}
 use Rattle.m2v_tool.specs.Making.{make_meant}
 use Rattle.m2v_tool.specs.Cutting.{cut_meant}
 use Rattle.m2v_tool.specs.Packing.{pack_meant}
+use Rattle.m2v_tool.specs.Y4mWords.{y4m_meant}
 use Rattle.m2v_tool.specs.Words.{Means, flat_meant}
 
 -- ---- commands by their kind: a line a command in each definition
@@ -26,6 +27,7 @@ data Kind : Type 0 where
   cuts : Kind
   packs : Kind
   unpacks : Kind
+  codes_texts : Kind
 
 abbrev kind_of : Command → Kind
 kind_of (Flat w) = flats
@@ -36,6 +38,7 @@ kind_of (Make seed) = makes
 kind_of (Cut w) = cuts
 kind_of (Pack h) = packs
 kind_of Unpack = unpacks
+kind_of (EncodeY4m w) = codes_texts
 
 -- the kind by the word that names the command
 abbrev kind_named : Text → Kind
@@ -47,7 +50,8 @@ kind_named name =
     else if bytes_eq name (codes "make") then makes
     else if bytes_eq name (codes "cut") then cuts
     else if bytes_eq name (codes "pack") then packs
-    else unpacks
+    else if bytes_eq name (codes "unpack") then unpacks
+    else codes_texts
 
 by_name : (name : Text) (others : List Text) (c : Command) → Means (name ∷ others) c → kind_named name ≡ kind_of c
 by_name name others (Flat w) m = ap kind_named m.0
@@ -58,6 +62,7 @@ by_name name others (Make seed) m = ap kind_named m.0
 by_name name others (Cut w) m = ap kind_named m.0
 by_name name others (Pack h) m = ap kind_named m.0
 by_name name others Unpack m = ap kind_named m.0
+by_name name others (EncodeY4m w) m = ap kind_named m.0
 
 -- what the words of a command say
 abbrev Payload : Kind → Type 0
@@ -69,6 +74,7 @@ Payload makes = ℕ
 Payload cuts = CutWords
 Payload packs = Y4mHeader
 Payload unpacks = Unit {0}
+Payload codes_texts = EncodeWords
 
 abbrev payload : (c : Command) → Payload (kind_of c)
 payload (Flat w) = w
@@ -79,6 +85,7 @@ payload (Make seed) = seed
 payload (Cut w) = w
 payload (Pack h) = h
 payload Unpack = tt
+payload (EncodeY4m w) = w
 
 -- the command that says it
 abbrev command_of : (k : Kind) → Payload k → Command
@@ -90,6 +97,7 @@ command_of makes seed = Make seed
 command_of cuts w = Cut w
 command_of packs h = Pack h
 command_of unpacks u = Unpack
+command_of codes_texts w = EncodeY4m w
 
 again : (c : Command) → command_of (kind_of c) (payload c) ≡ c
 again (Flat w) = refl
@@ -100,6 +108,7 @@ again (Make seed) = refl
 again (Cut w) = refl
 again (Pack h) = refl
 again Unpack = refl
+again (EncodeY4m w) = refl
 
 -- the words say it
 abbrev Says : (k : Kind) → List Text → Payload k → Type 0
@@ -111,6 +120,7 @@ Says makes others seed = make_meant others ≡ Some seed
 Says cuts others w = cut_meant others ≡ Some w
 Says packs others h = pack_meant others ≡ Some h
 Says unpacks others u = Unit {0}
+Says codes_texts others w = y4m_meant others ≡ Some (words_of w)
 
 said : (name : Text) (others : List Text) (c : Command) → Means (name ∷ others) c → Says (kind_of c) others (payload c)
 said name others (Flat w) m = m.1
@@ -121,6 +131,7 @@ said name others (Make seed) m = m.1
 said name others (Cut w) m = m.1
 said name others (Pack h) m = m.1
 said name others Unpack m = tt
+said name others (EncodeY4m w) m = m.1
 
 -- ---- one meaning
 
@@ -130,7 +141,8 @@ one_some o x y f g =
     cc
 
 -- What holds of a command that words mean holds of each one that they mean, where it speaks of what the words say alone.
-module _ (P : Command → Type 0) (alike : (v w : EncodeWords) → words_of v ≡ words_of w → P (Encode v) → P (Encode w)) where
+module _ (P : Command → Type 0) (alike : (v w : EncodeWords) → words_of v ≡ words_of w → P (Encode v) → P (Encode w))
+    (alike_text : (v w : EncodeWords) → words_of v ≡ words_of w → P (EncodeY4m v) → P (EncodeY4m w)) where
   one_payload : (k : Kind) (others : List Text) (x y : Payload k) → Says k others x → Says k others y → P (command_of k x) → P (command_of k y)
   one_payload flats others x y f g p = subst (λ (w : FlatWords). P (Flat w)) (one_some _ x y f g) p
   one_payload encodes others x y f g p = alike x y (one_some _ (words_of x) (words_of y) f g) p
@@ -140,6 +152,7 @@ module _ (P : Command → Type 0) (alike : (v w : EncodeWords) → words_of v �
   one_payload cuts others x y f g p = subst (λ (w : CutWords). P (Cut w)) (one_some _ x y f g) p
   one_payload packs others x y f g p = subst (λ (h : Y4mHeader). P (Pack h)) (one_some _ x y f g) p
   one_payload unpacks others x y f g p = p
+  one_payload codes_texts others x y f g p = alike_text x y (one_some _ (words_of x) (words_of y) f g) p
 
   one_kind : (k j : Kind) (others : List Text) → k ≡ j → (x : Payload k) (y : Payload j) → Says k others x → Says j others y → P (command_of k x) → P (command_of j y)
   one_kind k j others same =

@@ -18,6 +18,7 @@ use Rattle.m2v_tool.specs.Decoding.{DecodeComes, DecodeKeeps, decode_ending}
 use Rattle.m2v_tool.specs.Checking.{CheckComes, CheckKeeps, check_ending}
 use Rattle.m2v_tool.specs.Making.{MakeComes, MakeKeeps, make_ending}
 use Rattle.m2v_tool.specs.Cutting.{CutComes, CutKeeps, cut_ending}
+use Rattle.m2v_tool.specs.Y4mCoding.{Y4mComes, Y4mKeeps, y4m_ending}
 use Rattle.m2v_tool.specs.Packing.{PackComes, PackKeeps, pack_ending, UnpackComes, UnpackKeeps, unpack_ending}
 
 -- When each outcome comes, and what stands then: words that mean no command are refused, and else comes what their
@@ -45,6 +46,8 @@ Comes words k (outcomes.Pack o) =
     × k.recon.Unchanged
 Comes words k (outcomes.Unpack o) =
     Means words commands.Unpack × UnpackComes k.input k.output o × k.recon.Unchanged
+Comes words k (outcomes.EncodeY4m o) =
+    (w : EncodeWords) × Means words (commands.EncodeY4m w) × Y4mComes (words_of w) k o
 
 -- the status and the line of each outcome
 unfoldable pub ending_of : Outcome → Ending
@@ -58,6 +61,7 @@ ending_of (outcomes.Make o) = make_ending o
 ending_of (outcomes.Cut o) = cut_ending o
 ending_of (outcomes.Pack o) = pack_ending o
 ending_of (outcomes.Unpack o) = unpack_ending o
+ending_of (outcomes.EncodeY4m o) = y4m_ending o
 
 -- what is answered to a command
 abbrev pub Keeps : Command → Run → Type 0
@@ -69,6 +73,7 @@ Keeps (commands.Make seed) r = MakeKeeps r
 Keeps (commands.Cut w) r = CutKeeps w r
 Keeps (commands.Pack h) r = PackKeeps h r
 Keeps commands.Unpack r = UnpackKeeps r
+Keeps (commands.EncodeY4m w) r = Y4mKeeps (words_of w) r
 
 -- the outcome that came, and what was told of it
 pub record Ran (r : Run) : Type 0 where

@@ -12,3 +12,5 @@ pub mod Making
 pub mod Commands
 pub mod Cutting
 pub mod Packing
+pub mod Y4mWords
+pub mod Y4mCoding

@@ -8,11 +8,12 @@ use Rattle.m2v_set.specs.declared.unfit.Unfit.{Unfit}
 use Rattle.m2v_flat.specs.declared.settings.FlatSettings.{FlatSettings}
 use Rattle.m2v_tool.specs.declared.flat.FlatWords.{FlatWords}
 use Rattle.m2v_tool.specs.declared.command.Command.{Command}
-use Rattle.m2v_tool.specs.declared.command.Command.TheVariants.{Flat, Encode, Decode, Check, Make, Cut, Pack, Unpack}
+use Rattle.m2v_tool.specs.declared.command.Command.TheVariants.{Flat, Encode, Decode, Check, Make, Cut, Pack, Unpack, EncodeY4m}
 use Rattle.m2v_tool.specs.EncodeWords.{encode_meant, words_of}
 use Rattle.m2v_tool.specs.Making.{make_meant}
 use Rattle.m2v_tool.specs.Cutting.{cut_meant}
 use Rattle.m2v_tool.specs.Packing.{pack_meant}
+use Rattle.m2v_tool.specs.Y4mWords.{y4m_meant}
 use Rattle.m2v_tool.specs.Simple.{simple, number_word, taken, required, stands_alone}
 
 -- the words behind `flat`: W H CODE Q
@@ -48,6 +49,8 @@ MeansBy name others (Cut w) = (name ≡ codes "cut") × (cut_meant others ≡ So
 MeansBy name others (Pack h) = (name ≡ codes "pack") × (pack_meant others ≡ Some h)
 MeansBy name others Unpack =
     (name ≡ codes "unpack") × (stands_alone (codes "unpack") others ≡ true)
+MeansBy name others (EncodeY4m w) =
+    (name ≡ codes "encode-y4m") × (y4m_meant others ≡ Some (words_of w))
 
 -- what words mean as a command
 abbrev pub Means : List Text → Command → Type 0

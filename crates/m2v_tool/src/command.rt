@@ -8,6 +8,7 @@ use crate::check::{CheckOutcome, check_words};
 use crate::cut::{CutOutcome, CutWords, cut_words};
 use crate::decode::{DecodeOutcome, decode_words};
 use crate::encode::{EncodeOutcome, EncodeWords, encode_words};
+use crate::encode_y4m::{Y4mOutcome, y4m_words};
 use crate::flat::{FlatOutcome, FlatWords, flat_words};
 use crate::make::{MakeOutcome, make_words};
 use crate::pack::{PackOutcome, pack_words};
@@ -35,6 +36,8 @@ pub enum Command {
     Pack(Y4mHeader),
     /// A YUV4MPEG2 text is unpacked.
     Unpack,
+    /// The frames of a YUV4MPEG2 text are coded; the text has the sizes and the rate.
+    EncodeY4m(EncodeWords),
 }
 
 /// What came of the words.
@@ -60,6 +63,8 @@ pub enum Outcome {
     Pack(PackOutcome),
     /// What came of `unpack`.
     Unpack(UnpackOutcome),
+    /// What came of `encode-y4m`.
+    EncodeY4m(Y4mOutcome),
 }
 
 impl Outcome {
@@ -79,6 +84,7 @@ impl Outcome {
             Outcome::Cut(outcome) => outcome.report(alloc),
             Outcome::Pack(outcome) => outcome.report(alloc),
             Outcome::Unpack(outcome) => outcome.report(alloc),
+            Outcome::EncodeY4m(outcome) => outcome.report(alloc),
         }
     }
 }
@@ -122,6 +128,10 @@ fn meant_by(alloc: Global, name: &str, others: &[String]) -> Result<Option<Comma
             let taken = unpack_words(alloc, others)?;
             Ok(taken.then_some(Command::Unpack))
         }
+        "encode-y4m" => match y4m_words(alloc, others)? {
+            Some(meant) => Ok(Some(Command::EncodeY4m(meant))),
+            None => Ok(None),
+        },
         _ => Ok(None),
     }
 }

@@ -149,7 +149,10 @@ fn recon_in(alloc: Global, matches: &ArgMatches) -> Result<Option<String>, Alloc
 
 /// What was found in the words behind `encode`.
 #[tactic(auto, unfolding(crate::specs::EncodeWords::meant_of))]
-fn meant_of(alloc: Global, matches: &ArgMatches) -> Result<Option<EncodeWords>, AllocError>
+pub(crate) fn meant_of(
+    alloc: Global,
+    matches: &ArgMatches,
+) -> Result<Option<EncodeWords>, AllocError>
     ensures { IfOk result (λ w. option_map words_of w ≡ meant_of (rows_of (found_of matches.now))) }
 {
     let Some(scan) = scan_in(matches) else {
@@ -270,6 +273,8 @@ fn encoded_alone<R: Threads + Wait + Sync, S: Source, K: Sink, N: NamedSink, G: 
     ensures recon { _recon.new ≡ _recon.old }
     ensures output { SinkStays K.ready K.name K.faults output.old output.new }
     ensures input { S.faults input.old ≤ S.faults input.new }
+    ensures behind { S.behind input.old ≤ S.behind input.new }
+    ensures lenders { S.lenders input.new ≡ S.lenders input.old }
 {
     // it tells contracts that the settings pass
     let _passes = passed.settings();
@@ -301,6 +306,8 @@ fn encoded_beside<R: Threads + Wait + Sync, S: Source, K: Sink, N: NamedSink, G:
     ensures recon { N.faults recon.old ≤ N.faults recon.new }
     ensures output { SinkStays K.ready K.name K.faults output.old output.new }
     ensures input { S.faults input.old ≤ S.faults input.new }
+    ensures behind { S.behind input.old ≤ S.behind input.new }
+    ensures lenders { S.lenders input.new ≡ S.lenders input.old }
 {
     // it tells contracts that the settings pass
     let _passes = passed.settings();
@@ -335,6 +342,8 @@ pub(crate) fn encoded<R: Threads + Wait + Sync, S: Source, K: Sink, N: NamedSink
     ensures recon { N.faults recon.old ≤ N.faults recon.new }
     ensures output { SinkStays K.ready K.name K.faults output.old output.new }
     ensures input { S.faults input.old ≤ S.faults input.new }
+    ensures behind { S.behind input.old ≤ S.behind input.new }
+    ensures lenders { S.lenders input.new ≡ S.lenders input.old }
 {
     let passed = match meant.settings.test() {
         Ok(passed) => passed,

@@ -6,6 +6,7 @@ mod command;
 mod cut;
 mod decode;
 mod encode;
+mod encode_y4m;
 mod flat;
 mod make;
 mod pack;

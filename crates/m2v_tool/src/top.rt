@@ -8,6 +8,7 @@ use crate::command::{Command, Outcome, meaning};
 use crate::cut::cut_out;
 use crate::decode::decoded;
 use crate::encode::encoded;
+use crate::encode_y4m::encoded_text;
 use crate::flat::coded;
 use crate::make::made;
 use crate::pack::packed_frames;
@@ -61,6 +62,9 @@ fn carried_out<R: Threads + Wait + Sync, S: Source, K: Sink, N: NamedSink, G: Ga
             Outcome::Pack(packed_frames(alloc, &header, input, output))
         }
         Ok(Some(Command::Unpack)) => Outcome::Unpack(unpacked(alloc, input, output)),
+        Ok(Some(Command::EncodeY4m(meant))) => {
+            Outcome::EncodeY4m(encoded_text(rt, alloc, meant, input, output, recon, gate))
+        }
         Ok(None) => Outcome::Usage,
         Err(AllocError) => Outcome::NoMemory,
     }
@@ -101,7 +105,8 @@ fn reported<E: Sink>(alloc: Global, outcome: &Outcome, report: &mut E) -> Status
 /// to `output` by its options, with workers that `rt` runs and `gate` lets in; where its words name a file, `recon` is
 /// opened under this name, and gets the frames that the stream decodes to. `cut FROM COUNT` copies whole groups of the
 /// stream of `input` to `output`, so many from number FROM on. `pack W H CODE` writes the raw frames of `input` as a
-/// YUV4MPEG2 text, and `unpack` the frames of such a text as raw video.
+/// YUV4MPEG2 text, and `unpack` the frames of such a text as raw video. `encode-y4m` codes the frames of such a text as
+/// `encode` does, with the sizes and the rate of its header.
 pub fn run<R: Threads + Wait + Sync, S: Source, K: Sink, N: NamedSink, E: Sink, G: Gate + Sync>(
     rt: &R,
     alloc: Global,

@@ -1,3 +1,4 @@
+pub mod Comings
 mod ChunkLaws
 mod FrameLaws
 mod LineLaws

@@ -67,10 +67,9 @@ fault_to_come s left = option_map (λ c. c.fault) (comes_of s left)
 abbrev pub told_left : Standing → Option (List ℕ) → Option (List ℕ)
 told_left s left = option_map left_of (comes_of s left)
 
--- a source over another one: what is known of the text, the other source, and how many reads a fault has failed
-pub record Opened (S : Type 0) : Type 0 where
-  pub text : Standing
-  pub inner : S
+-- what was read of a text: where it stands, and how many reads a fault has failed
+pub record Reading : Type 0 where
+  pub at : Standing
   pub failed : ℕ
 
 -- Bytes went from the front of what was left.

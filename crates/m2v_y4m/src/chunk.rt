@@ -52,6 +52,7 @@ fn read_behind<S: Source>(inner: &mut S, bytes: &mut [u8], held: usize) -> Resul
     ensures failed { IsErrOf result PortError.Failed
         → Rose (S.faults inner.old) (S.faults inner.new) }
     ensures faults { S.faults inner.old ≤ S.faults inner.new }
+    ensures lenders { S.lenders inner.new ≡ S.lenders inner.old }
 {
     inner.read(&mut bytes[held..])
 }
@@ -77,6 +78,7 @@ fn read_on<S: Source>(
     ensures failed { IsErrOf result PortError.Failed
         → Rose (S.faults inner.old) (S.faults inner.new) }
     ensures faults { S.faults inner.old ≤ S.faults inner.new }
+    ensures lenders { S.lenders inner.new ≡ S.lenders inner.old }
 {
     move_to_front(bytes, at, end);
     read_behind(inner, bytes, end - at)
@@ -128,6 +130,7 @@ impl Chunk {
         ensures failed { IsErrOf result PortError.Failed
             → Rose (S.faults inner.old) (S.faults inner.new) }
         ensures faults { S.faults inner.old ≤ S.faults inner.new }
+        ensures lenders { S.lenders inner.new ≡ S.lenders inner.old }
     {
         let held = self.filled - self.at;
         let answer = read_on(inner, &mut self.bytes, self.at, self.filled);

@@ -12,6 +12,7 @@ mod reader;
 mod source;
 #[cfg(test)]
 mod tests;
+mod text;
 mod unpacking;
 mod words;
 
@@ -20,4 +21,5 @@ pub use header::Y4mHeader;
 pub use laws::law_worked_rows;
 pub use packing::pack;
 pub use source::Y4mSource;
+pub use text::Y4mText;
 pub use unpacking::unpack;

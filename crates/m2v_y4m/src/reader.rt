@@ -61,6 +61,7 @@ fn gather<S: Source>(chunk: &mut Chunk, inner: &mut S) -> Result<(), PortError>
     ensures failed { IsErrOf result PortError.Failed
         → Rose (S.faults inner.old) (S.faults inner.new) }
     ensures faults { S.faults inner.old ≤ S.faults inner.new }
+    ensures lenders { S.lenders inner.new ≡ S.lenders inner.old }
 {
     while chunk.len() < LINE {
         if chunk.more(inner)? == 0 {
@@ -83,6 +84,7 @@ fn read_part<S: Source>(inner: &mut S, buf: &mut [u8], most: usize) -> Result<us
     ensures failed { IsErrOf result PortError.Failed
         → Rose (S.faults inner.old) (S.faults inner.new) }
     ensures faults { S.faults inner.old ≤ S.faults inner.new }
+    ensures lenders { S.lenders inner.new ≡ S.lenders inner.old }
 {
     let n = buf.len().min(most);
     inner.read(&mut buf[..n])
@@ -95,6 +97,7 @@ impl Reader {
         ensures header { IfOk result (λ r. IsHeader r.header) }
         ensures err { IfErr result (OpenStops (change S.left S.faults inner.old inner.new)) }
         ensures faults { S.faults inner.old ≤ S.faults inner.new }
+        ensures lenders { S.lenders inner.new ≡ S.lenders inner.old }
     {
         let Ok(mut chunk) = Chunk::new(alloc) else {
             return Err(Y4mError::Memory);
@@ -190,6 +193,7 @@ impl Reader {
         ensures failed { IsErrOf result PortError.Failed
             → Rose (S.faults inner.old) (S.faults inner.new) ⊎ IsTrue (is_some self.new.fault) }
         ensures faults { S.faults inner.old ≤ S.faults inner.new }
+        ensures lenders { S.lenders inner.new ≡ S.lenders inner.old }
     {
         self.look_ahead(inner)?;
         if self.is_drained() {
@@ -216,6 +220,7 @@ impl Reader {
         ensures failed { IsErrOf result PortError.Failed
             → Rose (S.faults inner.old) (S.faults inner.new) }
         ensures faults { S.faults inner.old ≤ S.faults inner.new }
+        ensures lenders { S.lenders inner.new ≡ S.lenders inner.old }
     {
         gather(&mut self.chunk, inner)
     }
@@ -297,34 +302,7 @@ impl Reader {
         n
     }
 
-    /// Reads bytes of the frame, of which none was read ahead.
-    fn give_read<S: Source>(&mut self, inner: &mut S, buf: &mut [u8]) -> Result<usize, PortError>
-        requires none { self.old.unread ≡ [] }
-        requires inside { IsInside self.old }
-        requires room { 0 < length buf.old }
-        ensures within { IfOk result (λ n. n ≤ length buf.old) }
-        ensures gave { IfOk result (λ n. Gave (comes_of self.old (S.left inner.old))
-            (take n buf.new) (comes_of self.new (S.left inner.new))) }
-        ensures same { OnErr result (comes_of self.new (S.left inner.new)
-            ≡ comes_of self.old (S.left inner.old)) }
-        ensures header { self.new.header ≡ self.old.header }
-        ensures unbroken { OnOk result (self.new.fault ≡ None) }
-        ensures unread { result ≡ Ok 0 → self.new.unread ≡ [] }
-        ensures end { result ≡ Ok 0 → IsAtEnd (S.left inner.new) }
-        ensures over { result ≡ Ok 0 → IsAtEnd (told_left self.new (S.left inner.new)) }
-        ensures failed { IsErrOf result PortError.Failed
-            → Rose (S.faults inner.old) (S.faults inner.new) ⊎ IsTrue (is_some self.new.fault) }
-        ensures faults { S.faults inner.old ≤ S.faults inner.new }
-    {
-        let n = read_part(inner, buf, self.rest)?;
-        if n == 0 {
-            return self.end_inside();
-        }
-        self.advance(n);
-        Ok(n)
-    }
-
-    /// Gives bytes of the frame.
+    /// Gives bytes of the frame: those that were read ahead, or else some that are read now.
     fn give<S: Source>(&mut self, inner: &mut S, buf: &mut [u8]) -> Result<usize, PortError>
         requires inside { IsInside self.old }
         requires room { 0 < length buf.old }
@@ -341,11 +319,17 @@ impl Reader {
         ensures failed { IsErrOf result PortError.Failed
             → Rose (S.faults inner.old) (S.faults inner.new) ⊎ IsTrue (is_some self.new.fault) }
         ensures faults { S.faults inner.old ≤ S.faults inner.new }
+        ensures lenders { S.lenders inner.new ≡ S.lenders inner.old }
     {
-        if self.chunk.len() > 0 {
+        if !self.is_drained() {
             return Ok(self.give_held(buf));
         }
-        self.give_read(inner, buf)
+        let n = read_part(inner, buf, self.rest)?;
+        if n == 0 {
+            return self.end_inside();
+        }
+        self.advance(n);
+        Ok(n)
     }
 
     /// Reads a frame line where one is to come. Answers whether a frame is at hand: none is at the end.
@@ -362,6 +346,7 @@ impl Reader {
         ensures failed { IsErrOf result PortError.Failed
             → Rose (S.faults inner.old) (S.faults inner.new) ⊎ IsTrue (is_some self.new.fault) }
         ensures faults { S.faults inner.old ≤ S.faults inner.new }
+        ensures lenders { S.lenders inner.new ≡ S.lenders inner.old }
     {
         if self.rest == 0 {
             return self.next_line(inner);
@@ -399,6 +384,7 @@ impl Reader {
         ensures failed { IsErrOf result PortError.Failed
             → Rose (S.faults inner.old) (S.faults inner.new) ⊎ IsTrue (is_some self.new.fault) }
         ensures faults { S.faults inner.old ≤ S.faults inner.new }
+        ensures lenders { S.lenders inner.new ≡ S.lenders inner.old }
     {
         if self.fault.is_some() {
             return Err(PortError::Failed);

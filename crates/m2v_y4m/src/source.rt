@@ -1,119 +1,99 @@
-ghost use Rattle.std.specs.Prelude.{◌≡◌, ◌+◌, ◌<◌, ◌≤◌, [], length, take, IfOk, IfErr, OnOk, OnErr, IsErrOf, Ok, Err, Some, None, IsTrue, is_some};
+ghost use Rattle.std.specs.Prelude.{◌≡◌, ◌+◌, ◌<◌, ◌≤◌, [], length, take, IfOk, IfErr, OnOk, OnErr, IsErrOf, Ok, Err, None, IsTrue, is_some};
 ghost use Rattle.m2v_port.specs.Ends.{change};
 ghost use Rattle.m2v_port.specs.Port.{Rose, Moves, IsAtEnd};
 ghost use Rattle.m2v_y4m.specs.Rules.{IsHeader};
-ghost use Rattle.m2v_y4m.specs.Sources.{Opened, IsOpen, told_left, fault_to_come};
+ghost use Rattle.m2v_y4m.specs.Sources.{IsOpen, told_left, fault_to_come};
 ghost use Rattle.m2v_y4m.specs.Answers.{OpenStops};
 
 use crate::answer::{Y4mError, Y4mFault};
 use crate::header::Y4mHeader;
-use crate::reader::Reader;
+use crate::text::Y4mText;
 use m2v_port::{PortError, Source};
 use std::alloc::Global;
-use std::marker::Model;
 
 /// A YUV4MPEG2 text as a source of the raw bytes of its frames, over a source of the text.
-///
-/// Contracts see what was read of the text and what comes, the source behind it, and how many reads a fault has failed.
 #[derive(Drop)]
 pub struct Y4mSource<S> {
-    reader: Reader,
-    inner: S,
-    failed: u64,
-}
-
-impl<S> Model for Y4mSource<S> {
-    ghost use Rattle.std.specs.Prelude.{◌≡◌, ◌<◌, None, is_some, IsTrue, IsFalse};
-    ghost use Rattle.m2v_y4m.specs.Sources.{Opened};
-
-    ghost Value = { Opened S };
-
-    ghost view = { λ s. record { text = s.reader; inner = s.inner; failed = s.failed } };
-
-    // Reads are failed by a fault alone, and the read that finds it fails.
-    ghost invariant = { λ s. (s.reader.fault ≡ None → s.failed ≡ 0)
-        × (IsTrue (is_some s.reader.fault) → 0 < s.failed) };
+    /// What was read of the text.
+    pub text: Y4mText,
+    /// Where the rest of it comes from. It stands open, so that a caller who lends its own source knows it again.
+    pub inner: S,
 }
 
 impl<S: Source> Y4mSource<S> {
     /// Reads the header line. After an error the source is given back.
     pub fn open(alloc: Global, inner: S) -> Result<Y4mSource<S>, (S, Y4mError)>
-        ensures opened { IfOk result (λ s. IsOpen (S.left inner) s.text (S.left s.inner)) }
-        ensures header { IfOk result (λ s. IsHeader s.text.header) }
-        ensures none { IfOk result (λ s. s.failed ≡ 0) }
+        ensures opened { IfOk result (λ s. IsOpen (S.left inner) s.text.at (S.left s.inner)) }
+        ensures header { IfOk result (λ s. IsHeader s.text.at.header) }
+        ensures none { IfOk result (λ s. s.text.failed ≡ 0) }
         ensures faults { IfOk result (λ s. S.faults inner ≤ S.faults s.inner) }
+        ensures lenders { IfOk result (λ s. S.lenders s.inner ≡ S.lenders inner) }
         // When each error comes.
         ensures err { IfErr result (λ e. OpenStops (change S.left S.faults inner e.0) e.1) }
         ensures after { IfErr result (λ e. S.faults inner ≤ S.faults e.0) }
+        ensures given_back { IfErr result (λ e. S.lenders e.0 ≡ S.lenders inner) }
     {
         let mut inner = inner;
-        match Reader::open(alloc, &mut inner) {
-            Ok(reader) => Ok(Y4mSource {
-                reader,
-                inner,
-                failed: 0,
-            }),
+        match Y4mText::open(alloc, &mut inner) {
+            Ok(text) => Ok(Y4mSource { text, inner }),
             Err(e) => Err((inner, e)),
         }
     }
 
     /// What the header line says.
     pub fn header(&self) -> &Y4mHeader
-        ensures value { result.now ≡ self.now.text.header }
-        ensures within { IsHeader self.now.text.header }
+        ensures value { result.now ≡ self.now.text.at.header }
+        ensures within { IsHeader self.now.text.at.header }
     {
-        self.reader.header()
+        self.text.header()
     }
 
     /// The fault of the frame line that broke the text, once it was found.
     pub fn fault(&self) -> Option<Y4mFault>
-        ensures value { result ≡ self.now.text.fault }
-        ensures none { result ≡ None → self.now.failed ≡ 0 }
+        ensures value { result ≡ self.now.text.at.fault }
+        ensures none { result ≡ None → self.now.text.failed ≡ 0 }
     {
-        self.reader.fault()
+        self.text.fault()
     }
 }
 
 impl<S: Source> Source for Y4mSource<S> {
     // The raw bytes that come, and behind them the mark of the fault that comes.
-    ghost left = { λ s. told_left s.text (S.left s.inner) };
+    ghost left = { λ s. told_left s.text.at (S.left s.inner) };
 
-    ghost faults = { λ s. S.faults s.inner + s.failed };
+    ghost faults = { λ s. S.faults s.inner + s.text.failed };
+
+    ghost behind = { λ s. S.faults s.inner };
+
+    ghost lenders = { λ s. S.lenders s.inner };
 
     fn read(&mut self, buf: &mut [u8]) -> Result<usize, PortError>
         // No read changes what fault comes, or the header.
-        ensures fault { fault_to_come self.new.text (S.left self.new.inner)
-            ≡ fault_to_come self.old.text (S.left self.old.inner) }
-        ensures header { self.new.text.header ≡ self.old.text.header }
+        ensures fault { fault_to_come self.new.text.at (S.left self.new.inner)
+            ≡ fault_to_come self.old.text.at (S.left self.old.inner) }
+        ensures header { self.new.text.at.header ≡ self.old.text.at.header }
         // It answers 0 for a buffer that isn't empty only at the end of a text that no frame line broke.
         ensures zero { result ≡ Ok 0 → 0 < length buf.old → IsAtEnd (S.left self.new.inner) }
-        ensures unread { result ≡ Ok 0 → 0 < length buf.old → self.new.text.unread ≡ [] }
-        ensures unbroken { OnOk result (self.new.text.fault ≡ None) }
+        ensures unread { result ≡ Ok 0 → 0 < length buf.old → self.new.text.at.unread ≡ [] }
+        ensures unbroken { OnOk result (self.new.text.at.fault ≡ None) }
         // Each read fails once a fault was found.
-        ensures broken { IsTrue (is_some self.old.text.fault) → result ≡ Err PortError.Failed }
-        ensures inner { S.faults self.old.inner ≤ S.faults self.new.inner }
+        ensures broken { IsTrue (is_some self.old.text.at.fault) → result ≡ Err PortError.Failed }
         // the meanings of every source
         ensures within { IfOk result (λ n. n ≤ length buf.old) }
-        ensures moved { IfOk result (λ n. Moves (told_left self.old.text (S.left self.old.inner))
-            (take n buf.new) (told_left self.new.text (S.left self.new.inner))) }
+        ensures moved { IfOk result (λ n. Moves (told_left self.old.text.at (S.left self.old.inner))
+            (take n buf.new) (told_left self.new.text.at (S.left self.new.inner))) }
         ensures end { result ≡ Ok 0 → 0 < length buf.old
-            → IsAtEnd (told_left self.old.text (S.left self.old.inner)) }
-        ensures err { OnErr result (told_left self.new.text (S.left self.new.inner)
-            ≡ told_left self.old.text (S.left self.old.inner)) }
+            → IsAtEnd (told_left self.old.text.at (S.left self.old.inner)) }
+        ensures err { OnErr result (told_left self.new.text.at (S.left self.new.inner)
+            ≡ told_left self.old.text.at (S.left self.old.inner)) }
         ensures failed { IsErrOf result PortError.Failed
-            → Rose (S.faults self.old.inner + self.old.failed)
-            (S.faults self.new.inner + self.new.failed) }
-        ensures faults { S.faults self.old.inner + self.old.failed
-            ≤ S.faults self.new.inner + self.new.failed }
+            → Rose (S.faults self.old.inner + self.old.text.failed)
+            (S.faults self.new.inner + self.new.text.failed) }
+        ensures faults { S.faults self.old.inner + self.old.text.failed
+            ≤ S.faults self.new.inner + self.new.text.failed }
+        ensures behind { S.faults self.old.inner ≤ S.faults self.new.inner }
+        ensures lenders { S.lenders self.new.inner ≡ S.lenders self.old.inner }
     {
-        match self.reader.read(&mut self.inner, buf) {
-            Ok(n) => Ok(n),
-            Err(e) => {
-                if self.reader.fault().is_some() {
-                    self.failed = self.failed.saturating_add(1);
-                }
-                Err(e)
-            }
-        }
+        self.text.read(&mut self.inner, buf)
     }
 }

@@ -58,3 +58,9 @@ unfolding Comes
 returns-in-Ok-Some-Cut-clause-comes g c =
     let read = c.in-Ok-Some-Cut in
     (_, means_of _ _ _ _ read.field-0-is read.field-0-0-is read.ensures.found, c.cut_out.ensures.comes, refl)
+
+pub returns-in-Ok-Some-EncodeY4m-clause-comes : goal.returns-in-Ok-Some-EncodeY4m-clause-comes
+unfolding Comes
+returns-in-Ok-Some-EncodeY4m-clause-comes g c =
+    let read = c.in-Ok-Some-EncodeY4m in
+    (_, means_of _ _ _ _ read.field-0-is read.field-0-0-is read.ensures.found, c.encoded_text.ensures.comes)

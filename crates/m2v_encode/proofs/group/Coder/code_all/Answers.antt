@@ -33,6 +33,8 @@ loop-number-init g c =
       output = stays_here c.requires.output;
       recon = stays_here c.requires.recon;
       input = omega arith;
+      behind = omega arith;
+      lenders = refl;
     }
 
 pub returns-in_err-next_frame-clause-err : goal.returns-in_err-next_frame-clause-err
@@ -117,6 +119,8 @@ loop-number-preserved g c =
       output = stays_on inv.output c.code_due.ensures.output;
       recon = stays_on inv.recon c.code_due.ensures.recon;
       input = omega (arith, inv.input, c.next_frame.ensures.input);
+      behind = omega (arith, inv.behind, c.next_frame.ensures.behind);
+      lenders = c.next_frame.ensures.lenders ∙ inv.lenders;
     }
 
 pub returns-in_err-goes_on-clause-err : goal.returns-in_err-goes_on-clause-err

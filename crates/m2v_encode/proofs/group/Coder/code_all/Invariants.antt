@@ -23,4 +23,6 @@ invariant-loop-number g l = record {
   output : SinkStays g.K.Sink.ready g.K.Sink.name g.K.Sink.faults l.fn.output l.output;
   recon : SinkStays g.N.Sink.ready g.N.Sink.name g.N.Sink.faults l.fn.recon l.recon;
   input : g.S.Source.faults l.fn.input ≤ g.S.Source.faults l.input;
+  behind : g.S.Source.behind l.fn.input ≤ g.S.Source.behind l.input;
+  lenders : g.S.Source.lenders l.input ≡ g.S.Source.lenders l.fn.input;
 }
