@@ -1,99 +1,30 @@
 -- What stands in headers at known places, and group headers whose last two bits are others.
-use Rattle.std.proofs.Common.{◌≡◌, ℕ, ◌+◌, ◌/◌, ◌%◌, ◌<◌, ◌≤◌, ◌^◌, Bool, true, false, leb, List, [], ◌∷◌, ◌++◌, length, take, drop, Some, refl, sym, ap, subst, ◌∙◌, append_assoc, arith}
+use Rattle.std.proofs.Common.{◌≡◌, ℕ, ◌/◌, ◌%◌, ◌≤◌, Bool, true, false, List, [], ◌∷◌, ◌++◌, length, take, drop, Some, refl, sym, ap, subst, ◌∙◌, append_assoc, arith}
 use Rattle.std.specs.Prelude.{◌==◌}
-use Rattle.std.proofs.lemmas.Bool.{leb-true, leb-false, le-leb, lt-leb}
 use Rattle.std.proofs.lemmas.List.{length-append, take_at, drop_at}
-use Rattle.std.proofs.Math.Seq.{drop-append-add}
-use Rattle.std.proofs.Math.Nat.{mod-eq_of_lt}
 use Rattle.m2v_bits.specs.Bits.{bits_of, bits, all_zero}
 use Rattle.m2v_bits.specs.Syntax.{seq, here, rule, done, renamed}
 use Rattle.m2v_bits.specs.Leaves.{bits_at, end_at}
 use Rattle.m2v_bits.specs.Elements as elements
-use Rattle.m2v_bits.proofs.Bits.{length-bits_of, number-bits_of, bits_of-mod}
+use Rattle.m2v_bits.proofs.Bits.{length-bits_of, bits_of-mod}
 use Rattle.m2v_head.specs.declared.group.GroupInfo.{GroupInfo}
 use Rattle.m2v_head.specs.declared.picture.PictureInfo.{PictureInfo}
 use Rattle.m2v_head.specs.declared.picture.PictureExtension.{PictureExtension}
-use Rattle.m2v_head.specs.Elements.{Header, number_at, flag_at, marker_at, id_at, some_at}
-use Rattle.m2v_head.specs.Headers.{kind_at, picture_at, f_codes_at, picture_extension_at, group_at}
+use Rattle.m2v_head.specs.Elements.{Header, number_at, flag_at, marker_at}
+use Rattle.m2v_head.specs.Headers.{kind_at, picture_at, picture_extension_at, group_at}
 use Rattle.m2v_model.specs.Units.{body}
 use Rattle.m2v_model.specs.Looking.{number_from, look}
 use Rattle.m2v_model.specs.Headers.{whole_header, picture_in, picture_extension_in, group_in, f_code_at}
 use Rattle.m2v_model.specs.Headers as looks
+use Rattle.m2v_unit.proofs.Further.{skip_more, number_is, id_skips, some_is, f_codes_ahead}
 use Rattle.m2v_group.specs.Groups.{with_broken_link, broken_header}
-
--- ---- numbers further on
-
-record Skips (k : ℕ) (t mid : List Bool) : Type 0 where
-  on : (from n : ℕ) → number_from (k + from) n t ≡ number_from from n mid
-
-record IsAt (n v : ℕ) (t mid : List Bool) : Type 0 where
-  number : number_from 0 n t ≡ Some v
-  skips : Skips n t mid
-
-skip_more : {a b : ℕ} {t mid rest : List Bool} → Skips a t mid → Skips b mid rest → Skips (a + b) t rest
-skip_more {a} {b} {t} {mid} {rest} p q = record {
-  on = λ from n.
-      let e : (a + b) + from ≡ a + (b + from) = omega arith in
-      ap (λ x. number_from x n t) e ∙ p.on (b + from) n ∙ q.on from n;
-}
-
-same_by : (k x y : ℕ) (b : Bool) → leb x y ≡ b → leb (k + x) (k + y) ≡ b
-same_by k x y true e = le-leb _ _ (omega (arith, leb-true x y e))
-same_by k x y false e = lt-leb _ _ (omega (arith, leb-false x y e))
-
-same_leb : (k x y : ℕ) → leb (k + x) (k + y) ≡ leb x y
-same_leb k x y = same_by k x y (leb x y) refl
-
-bits_skip : (k v : ℕ) (t : List Bool) → Skips k (bits_of k v ++ t) t
-unfolding number_from
-bits_skip k v t = record {
-  on = λ from n.
-      let len : length (bits_of k v ++ t) ≡ k + length t = length-append (bits_of k v) t ∙ ap (λ x. x + length t) (length-bits_of k v) in
-      let dropped : drop (k + from) (bits_of k v ++ t) ≡ drop from t = ap (λ x. drop (x + from) (bits_of k v ++ t)) (sym (length-bits_of k v)) ∙ drop-append-add (bits_of k v) t from in
-      let e : (k + from) + n ≡ k + (from + n) = omega arith in
-      rw (len, dropped, e, same_leb k (from + n) (length t)) refl;
-}
-
-bits_first : (n v : ℕ) (t : List Bool) → v < 2 ^ n → number_from 0 n (bits_of n v ++ t) ≡ Some v
-unfolding number_from
-bits_first n v t below =
-    let e : 0 + n ≡ n = omega arith in
-    let long : leb n (length (bits_of n v ++ t)) ≡ true = le-leb _ _ (omega (arith, length-append (bits_of n v) t, length-bits_of n v)) in
-    rw (e, long, take_at (bits_of n v) t n (length-bits_of n v), number-bits_of n v, mod-eq_of_lt below) refl
-
-number_is : (n v : ℕ) (t mid : List Bool) → (number_at n).Stands v t mid → IsAt n v t mid
-unfolding bits_at
-number_is n v t mid st = rw st.1 (record { number = bits_first n v mid st.0; skips = bits_skip n v mid })
-
--- an element between the same points, told by other names
-framed : {n v w : ℕ} {t start end mid : List Bool} → start ≡ t → w ≡ v → mid ≡ end → IsAt n v start end → IsAt n w t mid
-framed {n} {v} {w} {t} {start} {end} {mid} a b c p =
-    subst (λ x. IsAt n w x mid) a (subst (λ x. IsAt n x start mid) (sym b) (subst (λ x. IsAt n v start x) (sym c) p))
-
-id_skips : (own : ℕ) (x : Unit {0}) (t mid : List Bool) → (id_at own).Stands x t mid → Skips 4 t mid
-unfolding id_at seq here rule
-id_skips own x t mid st = (framed st.2.1 refl st.3.3.1 (number_is 4 st.3.0 st.1 st.3.1 st.3.2)).skips
-
-some_is : (field n v : ℕ) (t mid : List Bool) → (some_at field n).Stands v t mid → IsAt n v t mid
-unfolding some_at seq here rule done
-some_is field n v t mid st = framed st.2.1 st.3.3.3.0 (st.3.3.3.1 ∙ st.3.3.2.1) (number_is n st.3.0 st.1 st.3.1 st.3.2)
-
-f_codes_skip : (v : List (List ℕ)) (t mid : List Bool) → f_codes_at.Stands v t mid → Skips 16 t mid
-unfolding f_codes_at seq done
-f_codes_skip v t mid st =
-    let a = number_is 4 st.0 t st.1 st.2 in
-    let b = number_is 4 st.3.0 st.1 st.3.1 st.3.2 in
-    let c = number_is 4 st.3.3.0 st.3.1 st.3.3.1 st.3.3.2 in
-    let d = number_is 4 st.3.3.3.0 st.3.3.1 st.3.3.3.1 st.3.3.3.2 in
-    subst (Skips 16 t) (sym st.3.3.3.3.1) (skip_more (skip_more (skip_more a.skips b.skips) c.skips) d.skips)
 
 -- ---- pictures
 
 kind_is : (v : ℕ) (t mid : List Bool) → kind_at.Stands v t mid → number_from 0 3 t ≡ Some v
 unfolding kind_at seq here rule done
 kind_is v t mid st =
-    let e : v ≡ st.3.0 = st.3.3.3.3.0 in
-    let n = (framed {mid = st.3.1} st.2.1 e refl (number_is 3 st.3.0 st.1 st.3.1 st.3.2)).number in n
+    ap (number_from 0 3) (sym st.2.1) ∙ (number_is 3 st.3.0 st.1 st.3.1 st.3.2).number ∙ ap Some (sym st.3.3.3.3.0)
 
 -- picture_coding_type stands 10 bits on
 pub kind_seen : (info : PictureInfo) (t end : List Bool) → (whole_header picture_in).Stands info t end → number_from 10 3 t ≡ Some info.kind
@@ -109,7 +40,7 @@ extension_seen : (e : PictureExtension) (t mid : List Bool) → picture_extensio
 unfolding picture_extension_at seq done
 extension_seen e t mid p =
     let a = id_skips 8 p.0 t p.1 p.2 in
-    let b = f_codes_skip p.3.0 p.1 p.3.1 p.3.2 in
+    let b = (f_codes_ahead p.3.0 p.1 p.3.1 p.3.2).skips in
     let c = number_is 2 p.3.3.0 p.3.1 p.3.3.1 p.3.3.2 in
     let d = some_is 7 2 p.3.3.3.0 p.3.3.1 p.3.3.3.1 p.3.3.3.2 in
     let told : p.3.3.3.0 ≡ e.structure = sym (ap (λ (x : PictureExtension). x.structure) p.3.3.3.3.3.3.3.3.3.3.3.3.3.3.0) in
