@@ -10,7 +10,7 @@ use Rattle.m2v_port.specs.Ends.{Change, Tells, change}
 use Rattle.m2v_port.specs.Port.{Moves, IsAtEnd, Rose}
 use Rattle.m2v_port.specs.declared.error.PortError.{PortError}
 use Rattle.m2v_port.specs.declared.error.PortError.TheVariants as calls
-use Rattle.m2v_port.proofs.Runs.{tells}
+use Rattle.m2v_port.proofs.Runs.{tells, rose_since}
 use Rattle.m2v_plane.specs.Raw.{raw, frame_bytes}
 use Rattle.m2v_set.specs.declared.settings.Settings.{Settings}
 use Rattle.m2v_set.specs.declared.settings.Scan.{Scan}
@@ -31,7 +31,7 @@ use Rattle.m2v_y4m.specs.declared.opening.Opening.{Opening}
 use Rattle.m2v_y4m.specs.Header.{opening}
 use Rattle.m2v_y4m.specs.Frames.{Coming, Begins, behind_header, frames_from, size_of}
 use Rattle.m2v_y4m.specs.Rules.{IsHeader}
-use Rattle.m2v_y4m.specs.Sources.{Standing, Reading, OpensWith, left_of, mark, marked, told_left, coming, coming_at, unless_broken}
+use Rattle.m2v_y4m.specs.Sources.{Standing, Reading, IsOpen, OpensWith, left_of, mark, marked, told_left, coming, coming_at, unless_broken}
 use Rattle.m2v_y4m.specs.Answers.{OpenStops}
 use Rattle.m2v_y4m.proofs.Comings.{whole_before, comes_all, no_byte, one_mark}
 use Rattle.m2v_tool.specs.declared.encode.EncodeOutcome.{EncodeOutcome}
@@ -677,3 +677,14 @@ module _ (i n x y : Option (List ℕ)) (F G U : Type 0) (output recon : Change) 
       stands = stands_read x y F G ⊤ output recon place m.recon c.stands;
       first = first_of i (raw c.inside.frames ++ c.inside.part) f opens c.inside.begun.moved c.left;
     }
+
+-- the same by the states of the input: before the header line was read, behind it, and behind the frames
+pub text_answer : {S : Type 0} (left : S → Option (List ℕ)) (faults : S → ℕ) (first before after last : S) (at now : Standing) (output recon : Change) (place : Place) (m w : Meant) (h : Y4mHeader) (o : Y4mOutcome)
+    → last ≡ after → h ≡ at.header → w ≡ with_header h m → IsHeader at.header → IsOpen (left first) at (left before) → faults first ≤ faults before
+    → FramesCome w (record { input = read_behind left faults at before now after; output = output; recon = recon; place = place }) o
+    → Y4mComes m (record { input = change left faults first last; output = output; recon = recon; place = place }) o
+text_answer left faults first before after last at now output recon place m w h o same says meant header opens less comes =
+    text_comes (left first) (left last) (told_left at (left before)) (told_left now (left after)) (Rose (faults before) (faults after)) (Rose (faults first) (faults last)) (last ≡ first)
+    output recon place m h (λ rose. subst (λ (n : ℕ). Rose (faults first) n) (sym (ap faults same)) (rose_since less rose)) (subst IsHeader (sym says) header)
+    (subst (λ (x : Y4mHeader). IfSome (left first) (Opens x (told_left at (left before)))) (sym says) (opens_text (left first) (left before) at opens.opens)) o
+    (subst (λ (x : Meant). FramesCome x (record { input = read_behind left faults at before now after; output = output; recon = recon; place = place }) o) meant comes)

@@ -1,7 +1,5 @@
 -- What `make` does: its words, which outcome comes, and what is answered.
-use Rattle.std.specs.Prelude.{ℕ, ◌≡◌, ◌⊎◌, true, false, List, [], ◌∷◌, Option, Some, None, codes, option_map, option_and_then, unwrap_or, if◌then◌else◌}
-use Rattle.std.specs.Str.Parse.{digits_value, without_leading_plus}
-use Rattle.clap.specs.ValueTests.{accepts}
+use Rattle.std.specs.Prelude.{ℕ, ◌≡◌, ◌⊎◌, true, false, List, [], ◌∷◌, Option, Some, None, codes, option_map, option_and_then, unwrap_or}
 use Rattle.clap.specs.Walk.{Row, Rule, Text, one_of}
 use Rattle.clap.specs.Simple.{App, new_rule}
 use Rattle.clap.specs.declared.builder.value_parser.ValueParser.{ValueParser}
@@ -13,7 +11,7 @@ use Rattle.m2v_make.specs.declared.answer.MakeError.TheVariants as errors
 use Rattle.m2v_make.specs.Making.{Makes, MakeStops}
 use Rattle.m2v_tool.specs.declared.make.MakeOutcome.{MakeOutcome}
 use Rattle.m2v_tool.specs.declared.make.MakeOutcome.TheVariants.{Done, Stopped}
-use Rattle.m2v_tool.specs.Simple.{simple, taken}
+use Rattle.m2v_tool.specs.Simple.{simple, taken, unsigned}
 use Rattle.m2v_tool.specs.Endings.{Ending, write_fault, no_memory}
 use Rattle.m2v_tool.specs.Runs.{Run, Succeeds}
 
@@ -30,15 +28,9 @@ seed_word = record (new_rule (codes "SEED")) { parser = Some u64_parser; require
 abbrev pub make_app : App
 make_app = simple (codes "make") (seed_word ∷ [])
 
--- the number that a text writes, a plus before it or not, where it fits 64 bits
-unfoldable pub u64_of : Text → Option ℕ
-u64_of text =
-    if accepts false u64_parser text
-    then Some (digits_value 10 (without_leading_plus text)) else None
-
 -- the seed that was given: `clap` takes no words without it
 unfoldable pub seed_in : List Row → ℕ
-seed_in rows = unwrap_or (option_and_then u64_of (one_of (codes "SEED") rows)) 0
+seed_in rows = unwrap_or (option_and_then (unsigned 18446744073709551615) (one_of (codes "SEED") rows)) 0
 
 -- what the words behind `make` mean, where `clap` takes them
 unfoldable pub make_meant : List Text → Option ℕ

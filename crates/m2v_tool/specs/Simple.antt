@@ -43,15 +43,15 @@ flag_option id = record (new_rule id) { long = Some id; action = Some SetTrue }
 unfoldable pub taken : App → List Text → Option (List Row)
 taken a words = if is_empty (fault_of a words) then Some (matches_of a words) else None
 
--- the number that a text writes, a plus before it or not, where it fits 32 bits
-unfoldable pub u32_of : Text → Option ℕ
-u32_of text =
-    if accepts false (parsers.Unsigned 0 4294967295) text
+-- the number that a text writes, a plus before it or not, up to a greatest one
+unfoldable pub unsigned : ℕ → Text → Option ℕ
+unsigned most text =
+    if accepts false (parsers.Unsigned 0 most) text
     then Some (digits_value 10 (without_leading_plus text)) else None
 
--- the number that was given under this id
+-- the number of 32 bits that was given under this id
 unfoldable pub number_in : Text → List Row → Option ℕ
-number_in id rows = option_and_then u32_of (one_of id rows)
+number_in id rows = option_and_then (unsigned 4294967295) (one_of id rows)
 
 -- the number of a word that is required: `clap` takes no words without it
 unfoldable pub required : Text → List Row → ℕ
