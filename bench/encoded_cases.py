@@ -91,6 +91,8 @@ def known(name, *lines):
 
 
 def table():
+    for add in (worked, streams, contents, tests, words, endings, endpoints):
+        add()
     yield from ('', '# ---- encode: bytes for frames', '')
     for name, lines in KNOWN:
         yield from ('stream ' + name, *['bytes ' + line for line in lines], '')
@@ -368,6 +370,3 @@ for name, values in (('stripes', (16, 80, 200, 120)), ('half_stripes', (48, 140,
     known(name, *['= %s_once' % name] * 13)
 known('slanted', *[' '.join('%02X' % ((7 * c + 11 * y) % 256) for y in range(first, first + 2) for c in range(16))
                    for first in range(0, 32, 2)])
-
-for add in (worked, streams, contents, tests, words, endings, endpoints):
-    add()
