@@ -5,7 +5,7 @@ from encoded import Settings, encoded, groups_of
 from pictures import lines_of
 from table_lines import comment_lines, read_bytes, read_table, runs, stream_words
 
-STREAMS, _ = read_table()
+STREAMS, _ = read_table('bench/encoded.py')
 KNOWN, CASES = [], []
 SMALL = dict(width=16, height=16, rate=3, bits=100, buffer=1)
 TALL = dict(width=16, height=32, rate=3, bits=100, buffer=1)

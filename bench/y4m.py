@@ -212,6 +212,8 @@ def main():
     for number, (name, text) in enumerate(texts()):
         for each in (None, "input", "output", "report") if number < 2 else (None,):
             show("unpack: " + name, "unpack", text, unpack(text), each)
+    import y4m_cases
+    print("\n".join(y4m_cases.table()))
 
 
 if __name__ == "__main__":
