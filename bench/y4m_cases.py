@@ -297,7 +297,7 @@ def words():
 
 def frame_faults():
     heading('frame lines. The groups stand whose next I frame was read whole.')
-    case('parameters of frame lines', PLAIN, HEAD, b'FRAME Ip\n' + GREY, b'FRAME It  XFRAME x\n' + GREY, FRAME,
+    case('parameters of frame lines', PLAIN, HEAD, b'FRAME Ip\n' + GREY, b'FRAME It XFRAME x\n' + GREY, FRAME,
          b'FRAME W17 H0\n' + GREY)
     case('frame lines of many lengths', PLAIN, HEAD, FRAME,
          *[b'FRAME ' + b'x' * length + b'\n' + GREY for length in (1, 249, 635, 636, 1016, 1017, 640, 1)])
