@@ -5,7 +5,7 @@ from encoded import Settings, encoded, groups_of
 from pictures import lines_of
 from table_lines import comment_lines, read_bytes, read_table, runs, stream_words
 
-STREAMS, _ = read_table()
+STREAMS, _ = read_table('bench/encoded.py')
 KNOWN, CASES = [], []
 SMALL = dict(width=16, height=16, rate=3, bits=100, buffer=1)
 TALL = dict(width=16, height=32, rate=3, bits=100, buffer=1)
@@ -91,6 +91,8 @@ def known(name, *lines):
 
 
 def table():
+    for add in (worked, streams, contents, tests, words, endings, endpoints):
+        add()
     yield from ('', '# ---- encode: bytes for frames', '')
     for name, lines in KNOWN:
         yield from ('stream ' + name, *['bytes ' + line for line in lines], '')
@@ -368,6 +370,3 @@ for name, values in (('stripes', (16, 80, 200, 120)), ('half_stripes', (48, 140,
     known(name, *['= %s_once' % name] * 13)
 known('slanted', *[' '.join('%02X' % ((7 * c + 11 * y) % 256) for y in range(first, first + 2) for c in range(16))
                    for first in range(0, 32, 2)])
-
-for add in (worked, streams, contents, tests, words, endings, endpoints):
-    add()

@@ -1,14 +1,15 @@
 #!/usr/bin/env python3
-"""Cases of `pack` and `unpack`, in the form of crates/m2v_cases/stdin: what a reader and a writer of YUV4MPEG2 answer that were
-written from the rules alone and share nothing with the program. Prints them on standard output."""
+"""Cases of `pack`, `unpack` and `encode-y4m`, in the form of crates/m2v_cases/stdin: what a reader and a writer of YUV4MPEG2
+answer that were written from the rules alone and share nothing with the program. Prints them on standard output; those of
+`encode-y4m` stand in bench/y4m_cases.py."""
 from fractions import Fraction
 
 RATES = {1: (24000, 1001), 2: (24, 1), 3: (25, 1), 4: (30000, 1001), 5: (30, 1), 6: (50, 1), 7: (60000, 1001), 8: (60, 1)}
 
 
 class Fault(Exception):
-    def __init__(self, kind, place, raw=b""):
-        self.kind, self.place, self.raw = kind, place, raw
+    def __init__(self, kind, place):
+        self.kind, self.place = kind, place
 
 
 def size_of(w, h):
@@ -31,8 +32,13 @@ def digits(word, most):
     return 1 <= len(word) <= most and all(48 <= b <= 57 for b in word)
 
 
+def rate_code(n, d):
+    """The code of a rate; None where it has none."""
+    return next((code for code, rate in RATES.items() if d and Fraction(n, d) == Fraction(*rate)), None)
+
+
 def header(text):
-    """Width, height and the length of the header line."""
+    """Width, height, rate code and the length of the header line."""
     if not is_word(text, 0, b"YUV4MPEG2"):
         raise Fault("Magic", 0)
     line = line_at(text, 0)
@@ -52,9 +58,9 @@ def header(text):
             n, colon, d = value.partition(b":")
             if not colon or not digits(n, 10) or not digits(d, 10):
                 raise Fault("Field", at)
-            if int(d) == 0 or Fraction(int(n), int(d)) not in [Fraction(*r) for r in RATES.values()]:
+            seen[letter] = rate_code(int(n), int(d))
+            if seen[letter] is None:
                 raise Fault("Rate", at)
-            seen[letter] = value
         elif letter == b"I":
             if value not in (b"p", b"t", b"?"):
                 raise Fault("Interlace", at)
@@ -66,15 +72,13 @@ def header(text):
         at += len(word) + 1
     if any(k not in seen for k in (b"W", b"H", b"F")):
         raise Fault("Field", len(line))
-    return seen[b"W"], seen[b"H"], len(line) + 1
+    return seen[b"W"], seen[b"H"], seen[b"F"], len(line) + 1
 
 
-def unpack(text):
-    """The status, the line and the output of `unpack`."""
-    raw = b""
+def frames_behind(text, at, size):
+    """The whole frames behind a header line, the bytes of a frame in which the text ends, and the first fault."""
+    frames = []
     try:
-        w, h, at = header(text)
-        size = size_of(w, h)
         while at < len(text):
             line = line_at(text, at)
             if not is_word(text, at, b"FRAME") or at + len(line) + 1 == len(text):
@@ -82,12 +86,31 @@ def unpack(text):
             at += len(line) + 1
             part = text[at:at + size]
             if len(part) < size:
-                return 4, f"short frame extra {len(part)}", raw
-            raw += part
+                return frames, len(part), None
+            frames.append(part)
             at += size
-        return 0, f"frames {len(raw) // size} bytes {len(raw)}", raw
+        return frames, 0, None
     except Fault as f:
-        return 15, f"y4m fault {f.kind} at byte {f.place}", raw
+        return frames, 0, f
+
+
+def told(fault):
+    return f"y4m fault {fault.kind} at byte {fault.place}"
+
+
+def unpack(text):
+    """The status, the line and the output of `unpack`."""
+    try:
+        w, h, _, at = header(text)
+    except Fault as f:
+        return 15, told(f), b""
+    frames, extra, fault = frames_behind(text, at, size_of(w, h))
+    raw = b"".join(frames)
+    if fault:
+        return 15, told(fault), raw
+    if extra:
+        return 4, f"short frame extra {extra}", raw
+    return 0, f"frames {len(frames)} bytes {len(raw)}", raw
 
 
 def pack(w, h, code, top, raw):
@@ -189,6 +212,8 @@ def main():
     for number, (name, text) in enumerate(texts()):
         for each in (None, "input", "output", "report") if number < 2 else (None,):
             show("unpack: " + name, "unpack", text, unpack(text), each)
+    import y4m_cases
+    print("\n".join(y4m_cases.table()))
 
 
 if __name__ == "__main__":
