@@ -1,5 +1,5 @@
 -- What is read of what `clap` found in the words.
-use Rattle.std.proofs.Common.{◌≡◌, ℕ, ◌+◌, ◌^◌, Bool, true, false, List, Option, Some, None, Result, Ok, Err, refl, ap, sym, ◌∙◌, arith}
+use Rattle.std.proofs.Common.{◌≡◌, ℕ, ◌+◌, ◌^◌, ◌<◌, Bool, true, false, List, Option, Some, None, Result, Ok, Err, refl, ap, sym, ◌∙◌, arith}
 use Rattle.std.specs.Prelude.{option_and_then, option_map}
 use Rattle.std.specs.Str.Parse.{ParsesUnsigned}
 use Rattle.clap.specs.Matches.{ReadsOne}
@@ -10,12 +10,12 @@ use Rattle.clap.specs.declared.builder.value_parser.ValueParser.TheVariants as p
 use Rattle.clap.proofs.ValueTestLemmas.{accepts-Accepts, Accepts-accepts}
 use Rattle.m2v_tool.specs.Simple.{taken, unsigned}
 
-module _ (width most : ℕ) (fits : 2 ^ width ≡ most + 1) (E : Type 0) (G : Text → Result ℕ E → Type 0) (only : (u : Text) (x : Result ℕ E) → G u x → ParsesUnsigned width 10 u x) where
+module _ (width most : ℕ) (fits : 2 ^ width ≡ most + 1) (small : most < 2 ^ 64) (E : Type 0) (G : Text → Result ℕ E → Type 0) (only : (u : Text) (x : Result ℕ E) → G u x → ParsesUnsigned width 10 u x) where
   text_read : (t : Text) (r : Option ℕ) → ReadsOne G t r → r ≡ unsigned most t
   unfolding unsigned
   text_read t (Some v) read =
       let p = only t (Ok v) read in
-      rw (Accepts-accepts false (parsers.Unsigned 0 most) t (p.0.0, omega (arith, p.0.1, fits), omega arith, omega (arith, p.0.1, fits))) (ap Some p.1)
+      rw (Accepts-accepts false (parsers.Unsigned 0 most) t (p.0.0, omega (arith, p.0.1, fits, small), omega arith, omega (arith, p.0.1, fits))) (ap Some p.1)
   text_read t None read = by_case (accepts false (parsers.Unsigned 0 most) t) refl
     where
       by_case : (b : Bool) → accepts false (parsers.Unsigned 0 most) t ≡ b → None ≡ unsigned most t

@@ -27,13 +27,12 @@ use Rattle.m2v_y4m.specs.declared.answer.Y4mFault.{Y4mFault}
 use Rattle.m2v_y4m.specs.declared.answer.Y4mError.{Y4mError}
 use Rattle.m2v_y4m.specs.declared.answer.Y4mError.TheVariants as opening_errors
 use Rattle.m2v_y4m.specs.declared.header.Y4mHeader.{Y4mHeader}
-use Rattle.m2v_y4m.specs.declared.opening.Opening.{Opening}
 use Rattle.m2v_y4m.specs.Header.{opening}
 use Rattle.m2v_y4m.specs.Frames.{Coming, Begins, behind_header, frames_from, size_of}
 use Rattle.m2v_y4m.specs.Rules.{IsHeader}
 use Rattle.m2v_y4m.specs.Sources.{Standing, Reading, IsOpen, OpensWith, left_of, mark, marked, told_left, coming, coming_at, unless_broken}
 use Rattle.m2v_y4m.specs.Answers.{OpenStops}
-use Rattle.m2v_y4m.proofs.Comings.{whole_before, comes_all, no_byte, one_mark}
+use Rattle.m2v_y4m.proofs.Comings.{one_beginning, whole_before, comes_all, no_byte, one_mark}
 use Rattle.m2v_tool.specs.declared.encode.EncodeOutcome.{EncodeOutcome}
 use Rattle.m2v_tool.specs.declared.encode.EncodeOutcome.TheVariants.{Coded, Unfit as NotFit, Unopened, Stopped}
 use Rattle.m2v_tool.specs.declared.encode_y4m.Y4mOutcome.{Y4mOutcome}
@@ -71,13 +70,6 @@ one_all P b holds zero d less = holds
 one_all P b holds (suc k) d less = absurd (omega arith)
 
 -- ---- what comes behind a header
-
--- a text begins with one header, and one thing comes behind it
-one_beginning : (text : List ℕ) (g h : Y4mHeader) (c d : Coming) → Begins text g c → Begins text h d → (g ≡ h) × (c ≡ d)
-one_beginning text g h c d a b =
-    let both : Ok (record { header = g; length = a.length }) ≡ Ok (record { header = h; length = b.length }) = sym a.opens ∙ b.opens in
-    let same : record { header = g; length = a.length } ≡ record { header = h; length = b.length } = cc in
-    (ap (λ (o : Opening). o.header) same, a.comes ∙ ap (λ (o : Opening). behind_header o text) same ∙ sym b.comes)
 
 -- raw bytes in front of a fault are whole frames
 abbrev AreWhole : ℕ → Coming → Type 0
@@ -655,8 +647,12 @@ module _ (i n x y : Option (List ℕ)) (F G U : Type 0) (output recon : Change) 
   its_frames = record { input = record { old = x; new = y; Failed = F; Unchanged = ⊤ }; output = output; recon = recon; place = place }
 
   module _ (failed : F → G) (header : IsHeader h) (opens : IfSome i (Opens h x)) where
-    behind_text : Behind text_work.input
+    abbrev behind_text : Behind text_work.input
     behind_text = record { header = h; within = header; old = x; new = y; text = opens }
+
+    text_stands : (o : Option (List ℕ)) → Stands o its_frames → Stands o text_work
+    text_stands (Some name) c = c
+    text_stands None c = c
 
     first_of : (o : Option (List ℕ)) (bytes : List ℕ) (f : Y4mFault) → IfSome o (Opens h x) → Moves x bytes y → IfSome y (λ rest. rest ≡ mark f ∷ [])
         → IfSome o (λ text. All (λ b. b < 256) text → Begins text h (record { raw = bytes; fault = Some f }))
@@ -664,7 +660,7 @@ module _ (i n x y : Option (List ℕ)) (F G U : Type 0) (output recon : Change) 
     first_of (Some text) bytes f o moved left = λ all. first_fault text h o.0 x y bytes f all o.1 o.2 moved left
 
     pub text_comes : (o : Y4mOutcome) → FramesCome (with_header h m) its_frames o → Y4mComes m text_work o
-    unfolding FramesCome Y4mComes
+    unfolding FramesCome Y4mComes inside_read
     text_comes (Unread e) c = absurd c
     text_comes (Encoded o) c = record {
       behind = behind_text;
@@ -674,7 +670,7 @@ module _ (i n x y : Option (List ℕ)) (F G U : Type 0) (output recon : Change) 
       behind = behind_text;
       passes = c.passes;
       inside = inside_read x y F G ⊤ output (recon_by m.recon recon) (with_header h m).settings c.inside;
-      stands = stands_read x y F G ⊤ output recon place m.recon c.stands;
+      stands = text_stands m.recon c.stands;
       first = first_of i (raw c.inside.frames ++ c.inside.part) f opens c.inside.begun.moved c.left;
     }
 

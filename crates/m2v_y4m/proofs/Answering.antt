@@ -12,8 +12,9 @@ use Rattle.m2v_y4m.specs.declared.answer.UnpackError.TheVariants as errors
 use Rattle.m2v_y4m.specs.declared.header.Y4mHeader.{Y4mHeader}
 use Rattle.m2v_y4m.specs.Header.{opening}
 use Rattle.m2v_y4m.specs.declared.opening.Opening.{Opening}
-use Rattle.m2v_y4m.specs.Frames.{Coming, Begins, AreWhole, size_of, behind_header, Y4m, EndsShort}
+use Rattle.m2v_y4m.specs.Frames.{Coming, Begins, AreWhole, size_of, Y4m, EndsShort}
 use Rattle.m2v_y4m.specs.Answers.{most_frames, Gives, Unpacked, UnpackEndedShort, UnpackWentOn, UnpackBroken, UnpackStops, Hindered, IsAnswered}
+use Rattle.m2v_y4m.proofs.Comings.{one_beginning}
 use Rattle.m2v_y4m.proofs.UnpackTexts.{raw_size}
 
 -- ---- numbers of frames
@@ -48,9 +49,6 @@ too_short n size p rest few less is =
 told_of : (left : Change) (Holds : List ℕ → Type 0) (text : List ℕ) → left.old ≡ Some text → Tells left Holds → Holds text
 told_of left Holds text is h = subst (λ (o : Option (List ℕ)). IfSome o Holds) is h
 
-one_ok : (r : Result Opening Y4mFault) (x y : Opening) → r ≡ Ok x → r ≡ Ok y → x ≡ y
-one_ok r x y f g = let e = sym f ∙ g in cc
-
 one_err : (r : Result Opening Y4mFault) (x y : Y4mFault) → r ≡ Err x → r ≡ Err y → x ≡ y
 one_err r x y f g = let e = sym f ∙ g in cc
 
@@ -64,18 +62,13 @@ one_fault : (f g : Y4mFault) → Some f ≡ Some g → f ≡ g
 one_fault f g e = cc
 
 module _ (text : List ℕ) where
-  same_begin : (h k : Y4mHeader) (c d : Coming) → Begins text h c → Begins text k d → (h ≡ k) × (c ≡ d)
-  same_begin h k c d a b =
-      let e = one_ok (opening text) (record { header = h; length = a.length }) (record { header = k; length = b.length }) a.opens b.opens in
-      (ap (λ (o : Opening). o.header) e, a.comes ∙ ap (λ (o : Opening). behind_header o text) e ∙ sym b.comes)
-
   unopened : (h : Y4mHeader) (c : Coming) (f : Y4mFault) → Begins text h c → opening text ≡ Err f → ⊥
   unopened h c f a is = not_both (opening text) (record { header = h; length = a.length }) f a.opens is
 
   -- whole texts have the same frames, as bytes and in number
   same_frames : (h k : Y4mHeader) (fs gs : List (List ℕ)) → 1 ≤ size_of h → Y4m text h fs → Y4m text k gs → (raw fs ≡ raw gs) × (length fs ≡ length gs)
   same_frames h k fs gs some a b =
-      let e = same_begin h k _ _ a.begins b.begins in
+      let e = one_beginning text h k _ _ a.begins b.begins in
       let bytes : raw fs ≡ raw gs = ap (λ (c : Coming). c.raw) e.1 in
       let one = raw_size (size_of h) h fs refl a.whole in
       let other = raw_size (size_of h) k gs (ap size_of e.0) b.whole in
@@ -84,7 +77,7 @@ module _ (text : List ℕ) where
   -- a text that ends inside a frame is no whole one, and ends so in one way
   not_short : (h k : Y4mHeader) (fs gs : List (List ℕ)) (extra : ℕ) → Y4m text h fs → EndsShort text k gs extra → ⊥
   not_short h k fs gs extra a b =
-      let e = same_begin k h _ _ b.begins a.begins in
+      let e = one_beginning text k h _ _ b.begins a.begins in
       let bytes : raw gs ++ b.part ≡ raw fs = ap (λ (c : Coming). c.raw) e.1 in
       let one = raw_size (size_of k) h fs (ap size_of e.0) a.whole in
       let other = raw_size (size_of k) k gs refl b.whole in
@@ -94,7 +87,7 @@ module _ (text : List ℕ) where
 
   same_short : (h k : Y4mHeader) (fs gs : List (List ℕ)) (extra more : ℕ) → EndsShort text h fs extra → EndsShort text k gs more → extra ≡ more
   same_short h k fs gs extra more a b =
-      let e = same_begin h k _ _ a.begins b.begins in
+      let e = one_beginning text h k _ _ a.begins b.begins in
       let bytes : raw fs ++ a.part ≡ raw gs ++ b.part = ap (λ (c : Coming). c.raw) e.1 in
       let size : size_of h ≡ size_of k = ap size_of e.0 in
       let one = raw_size (size_of h) h fs refl a.whole in
@@ -106,7 +99,7 @@ module _ (text : List ℕ) where
   goes_on : (h k : Y4mHeader) (gs : List (List ℕ)) (next : ℕ) (c : Coming) (m : Gives text k (raw gs ++ next ∷ [])) → AreWhole k gs → length gs ≡ most_frames
       → Begins text h c → length c.raw ≡ most_frames * size_of h + 1 + length m.rest
   goes_on h k gs next c m whole all b =
-      let e = same_begin h k _ _ b m.begins in
+      let e = one_beginning text h k _ _ b m.begins in
       let bytes : c.raw ≡ (raw gs ++ next ∷ []) ++ m.rest = ap (λ (d : Coming). d.raw) e.1 ∙ m.is in
       let frames = raw_size (size_of h) k gs (ap size_of e.0) whole ∙ ap (λ (n : ℕ). n * size_of h) all in
       omega (arith, ap length bytes, length-append (raw gs ++ next ∷ []) m.rest, length-append (raw gs) (next ∷ []), frames)
@@ -124,10 +117,10 @@ module _ (text : List ℕ) where
 
   -- a text that is broken behind frames is none of the others, and is broken so in one way
   no_fault : (h k : Y4mHeader) (xs ys : List ℕ) (f : Y4mFault) → Begins text h (record { raw = xs; fault = None }) → Begins text k (record { raw = ys; fault = Some f }) → ⊥
-  no_fault h k xs ys f a b = some_none f (ap (λ (c : Coming). c.fault) (same_begin h k _ _ a b).1)
+  no_fault h k xs ys f a b = some_none f (ap (λ (c : Coming). c.fault) (one_beginning text h k _ _ a b).1)
 
   same_fault : (h k : Y4mHeader) (xs ys : List ℕ) (f g : Y4mFault) → Begins text h (record { raw = xs; fault = Some f }) → Begins text k (record { raw = ys; fault = Some g }) → f ≡ g
-  same_fault h k xs ys f g a b = one_fault f g (ap (λ (c : Coming). c.fault) (same_begin h k _ _ a b).1)
+  same_fault h k xs ys f g a b = one_fault f g (ap (λ (c : Coming). c.fault) (one_beginning text h k _ _ a b).1)
 
 -- ---- answers
 

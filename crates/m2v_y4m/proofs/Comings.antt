@@ -1,6 +1,6 @@
 -- What comes of a text behind its header: whole frames in front of a fault, and bytes where the text is bytes. And each fault
 -- has a mark of its own, which is no byte.
-use Rattle.std.proofs.Common.{◌≡◌, ℕ, zero, suc, ◌+◌, ◌*◌, ◌<◌, ◌≤◌, ◌==◌, ◌&&◌, cond, All, Bool, true, false, nat_lt, List, [], ◌∷◌, ◌++◌, length, take, drop, Option, Some, None, Result, Ok, Err, refl, sym, ◌∙◌, ap, ap₂, subst, arith, length-append}
+use Rattle.std.proofs.Common.{◌≡◌, ℕ, zero, suc, ◌+◌, ◌*◌, ◌<◌, ◌≤◌, ◌==◌, ◌&&◌, All, Bool, true, false, nat_lt, List, [], ◌∷◌, ◌++◌, length, take, drop, Some, None, Result, Ok, Err, refl, sym, ◌∙◌, ap, ap₂, arith, length-append}
 use Rattle.std.specs.Prelude.{if◌then◌else◌}
 use Rattle.std.proofs.lemmas.List.{length-take-le}
 use Rattle.std.proofs.lemmas.List.Elements.{All-append, All-take, All-drop}
@@ -8,10 +8,23 @@ use Rattle.std.proofs.lemmas.Bool.Decides.{nat_tests}
 use Rattle.m2v_y4m.specs.declared.answer.Y4mFault.{Y4mFault}
 use Rattle.m2v_y4m.specs.declared.answer.Y4mKind.{Y4mKind}
 use Rattle.m2v_y4m.specs.declared.answer.Y4mKind.TheVariants.{Magic, Line, Field, Size, Rate, Interlace, Chroma, Frame}
+use Rattle.m2v_y4m.specs.declared.header.Y4mHeader.{Y4mHeader}
+use Rattle.m2v_y4m.specs.declared.opening.Opening.{Opening}
 use Rattle.m2v_y4m.specs.Texts.{onward}
-use Rattle.m2v_y4m.specs.Header.{fault_at}
-use Rattle.m2v_y4m.specs.Frames.{Coming, nothing, broken, in_frame, frame_line, at_line, in_steps, frames_from}
+use Rattle.m2v_y4m.specs.Header.{fault_at, opening}
+use Rattle.m2v_y4m.specs.Frames.{Coming, Begins, behind_header, broken, in_frame, frame_line, at_line, in_steps, frames_from}
 use Rattle.m2v_y4m.specs.Sources.{mark, kind_number}
+
+-- ---- what comes behind a header
+
+one_ok : (r : Result Opening Y4mFault) (x y : Opening) → r ≡ Ok x → r ≡ Ok y → x ≡ y
+one_ok r x y f g = let e = sym f ∙ g in cc
+
+-- A text begins with one header, and one thing comes behind it.
+pub one_beginning : (text : List ℕ) (h k : Y4mHeader) (c d : Coming) → Begins text h c → Begins text k d → (h ≡ k) × (c ≡ d)
+one_beginning text h k c d a b =
+    let e = one_ok (opening text) (record { header = h; length = a.length }) (record { header = k; length = b.length }) a.opens b.opens in
+    (ap (λ (o : Opening). o.header) e, a.comes ∙ ap (λ (o : Opening). behind_header o text) e ∙ sym b.comes)
 
 -- ---- whole frames
 

@@ -1,6 +1,11 @@
-use Rattle.std.proofs.Common.{rules}
+use Rattle.std.proofs.Common.{rules, refl}
+use Rattle.m2v_tool.specs.Y4mCoding.{Y4mComes}
 use Rattle.m2v_tool.proofs.Y4mCodingLaws.{text_answer}
 use Rattle.m2v_tool.proofs.encode_y4m.encoded_text.Goals as goal
+
+pub returns-in-Err-clause-comes : goal.returns-in-Err-clause-comes
+unfolding Y4mComes
+returns-in-Err-clause-comes g c = (c.in-Err.ensures.err, refl, refl)
 
 pub returns-clause-comes : goal.returns-clause-comes
 returns-clause-comes g c =
