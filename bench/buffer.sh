@@ -18,7 +18,7 @@ raw 176 144 50
 coded() {
     local stream=$1
     shift
-    "$program" encode --width 176 --height 144 --bits 1500 --buffer 20 "$@" < "$clip" > "$stream.m2v" 2> "$stream.line"
+    "$program" encode --width 176 --height 144 --bits 1500 --buffer 20 "$@" < "$clip" > "$stream.m2v" 2> "$stream.line" || told "$stream.line"
 }
 
 # draw STREAM PICTURE TITLE

@@ -29,7 +29,7 @@ clip() {
 own() {
     names+=("own_$1")
     [ -s "own_$1.m2v" ] || "$program" encode --width 720 --height 576 --rate 3 --bits 15000 --buffer 112 --scan "$1" \
-        < "$clip" > "own_$1.m2v" 2> own.line
+        < "$clip" > "own_$1.m2v" 2> own.line || told own.line
 }
 
 if has ffmpeg; then
@@ -53,12 +53,12 @@ by_mpeg2dec() { mpeg2dec -c -o null "$1.m2v" > mpeg2dec.log 2>&1; }
 by_check() {
     local status=0
     "$program" check < "$1.m2v" 2> "$1.verdict" || status=$?
-    case $status in 0 | 10 | 11) ;; *) return "$status" ;; esac
+    case $status in 0 | 10 | 11) ;; *) told "$1.verdict" ;; esac
 }
 
 declare -A speeds counts
 for name in "${names[@]}"; do
-    "$program" decode < "$name.m2v" > "$name.yuv" 2> "$name.line"
+    "$program" decode < "$name.m2v" > "$name.yuv" 2> "$name.line" || told "$name.line"
     frames=$(cut -d' ' -f2 "$name.line")
     said="$name: $(cat "$name.line")"
     for tool in decode check ffmpeg mpeg2dec; do

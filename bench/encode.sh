@@ -24,12 +24,12 @@ words() {
 }
 ours() {
     # shellcheck disable=SC2046
-    "$program" $(words "$3") < "$1" > "$2" 2> "$2.line"
+    "$program" $(words "$3") < "$1" > "$2" 2> "$2.line" || told "$2.line"
 }
 
 # What a stream decodes to, beside the clip: its PSNR and its bytes.
 figures() {
-    "$program" decode < "$1" > shown.yuv 2> shown.line
+    "$program" decode < "$1" > shown.yuv 2> shown.line || told shown.line
     psnr=$(python3 "$bench/distance.py" shown.yuv "$clip")
     psnr="${psnr% *} dB"
     bytes=$(stat -c %s "$1")
@@ -43,7 +43,7 @@ by_us() {
         one=$scan$mbits-1.m2v
         cmp "$one" "$stream"
     done
-    "$program" check < "$one" 2> check.line
+    "$program" check < "$one" 2> check.line || told check.line
     if has ffmpeg; then ffmpeg -v error -i "$one" -f null - < /dev/null; fi
     if has mpeg2dec; then mpeg2dec -o null "$one" > mpeg2dec.log 2>&1; fi
     figures "$one"

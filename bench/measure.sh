@@ -54,6 +54,12 @@ instructions() {
         awk -v frames="$frames" '/Collected :/ { printf "%.1f\n", $NF / frames / 1e6 }'
 }
 
+# told FILE: says what stands there, the line of a call that failed, and fails.
+told() {
+    cat "$1" >&2
+    return 1
+}
+
 # row CELL ..: a line of a table; cells that are left empty weren't measured.
 row() {
     local cell
