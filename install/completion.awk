@@ -12,8 +12,9 @@
     options[command] = options[command] named(cell[1])
 }
 # a command that has the options of another one, but for those that are named behind
-command != "" && match($0, /options of `[a-z0-9-]+`/) {
-    source[command] = substr($0, RSTART + 12, RLENGTH - 13)
+command != "" && match($0, /options (are those )?of `[a-z0-9-]+`/) {
+    split(substr($0, RSTART, RLENGTH), cell, /`/)
+    source[command] = cell[2]
     rest = substr($0, RSTART + RLENGTH)
     sub(/[.;:].*/, "", rest)
     without[command] = named(rest) " "
