@@ -1,58 +1,89 @@
 #!/usr/bin/env bash
-# Decodes clips of another encoder: how far the frames are from those of ffmpeg, and how many instructions a frame takes,
-# beside mpeg2dec without lanes. It wants ffmpeg, mpeg2dec, valgrind and python3.
+# Decodes and checks clips, and prints a table: frames a second and instructions a frame of `decode` and `check`, beside
+# ffmpeg and mpeg2dec without lanes, each the least and the most over the clips. What `decode` shows must have as many frames
+# as ffmpeg shows; standard error has a line a clip, with the largest difference of a sample from ffmpeg's frames. The clips
+# are ffmpeg's; where it isn't installed, two that `encode` makes. It wants python3; mpeg2dec and valgrind are left out where
+# they aren't installed.
 #
 #     bench/decode.sh PROGRAM [FOLDER]
 #
 # PROGRAM is the built program (crates/m2v_main/out/m2v_main, after one call of ./puckerledge). Clips and outputs stay in
 # FOLDER, /tmp/clips where none is given.
 set -eu
-program=$(realpath "$1")
-folder=${2:-/tmp/clips}
-mkdir -p "$folder"
-cd "$folder"
+# shellcheck source=bench/measure.sh
+. "$(dirname "$(realpath "$0")")/measure.sh"
+begin "$1" "${2:-/tmp/clips}"
+tell_missing ffmpeg mpeg2dec valgrind
 
 # A clip of one second of 720 by 576 samples: its name, the source's rate and filter, and the encoder's words.
+names=()
 clip() {
     local name=$1 rate=$2 filter=$3
     shift 3
+    names+=("$name")
     [ -s "$name.m2v" ] || ffmpeg -v error -y -f lavfi \
         -i "testsrc2=size=720x576:rate=$rate:duration=1,noise=alls=12:allf=t$filter" \
         -pix_fmt yuv420p -c:v mpeg2video -maxrate 15M -bufsize 1835k "$@" "$name.m2v"
 }
 
-clip progressive 25 "" -b:v 6M -g 12 -bf 2
-clip interlaced 50 ",interlace" -flags +ildct+ilme -b:v 6M -g 12 -bf 2
-clip intra 25 "" -b:v 15M -g 1
-clip tables 25 "" -b:v 6M -g 12 -bf 2 -intra_vlc 1 -alternate_scan 1 -non_linear_quant 1 -qmax 28 -dc 10
-clip bottom 50 ",interlace=scan=bff" -flags +ildct+ilme -top 0 -b:v 6M -g 12 -bf 2
-clip closed 25 "" -flags +cgop -sc_threshold 1000000000 -b:v 6M -g 12 -bf 2
-
-# The largest difference of a sample in each frame.
-compare='
-import sys
-ours, theirs = (open(name, "rb").read() for name in sys.argv[1:3])
-size = 720 * 576 * 3 // 2
-assert len(ours) == len(theirs), (len(ours), len(theirs))
-frames = [(ours[k : k + size], theirs[k : k + size]) for k in range(0, len(ours), size)]
-most = [max(abs(a - b) for a, b in zip(x, y)) if x != y else 0 for x, y in frames]
-print("differences", *most)
-'
-
-# The instructions of a command that reads a clip.
-instructions() {
-    local clip=$1
-    shift
-    valgrind --tool=callgrind --callgrind-out-file=/dev/null "$@" 2>&1 > /dev/null < "$clip" | sed -n 's/.*Collected : //p'
+own() {
+    names+=("own_$1")
+    [ -s "own_$1.m2v" ] || "$program" encode --width 720 --height 576 --rate 3 --bits 15000 --buffer 112 --scan "$1" \
+        < "$clip" > "own_$1.m2v" 2> own.line || told own.line
 }
 
-for name in progressive interlaced intra tables bottom closed; do
-    "$program" decode < "$name.m2v" > "$name.yuv" 2> "$name.line"
-    ffmpeg -v error -y -i "$name.m2v" -f rawvideo -pix_fmt yuv420p "$name.ref"
+if has ffmpeg; then
+    clip progressive 25 "" -b:v 6M -g 12 -bf 2
+    clip interlaced 50 ",interlace" -flags +ildct+ilme -b:v 6M -g 12 -bf 2
+    clip intra 25 "" -b:v 15M -g 1
+    clip tables 25 "" -b:v 6M -g 12 -bf 2 -intra_vlc 1 -alternate_scan 1 -non_linear_quant 1 -qmax 28 -dc 10
+    clip bottom 50 ",interlace=scan=bff" -flags +ildct+ilme -top 0 -b:v 6M -g 12 -bf 2
+    clip closed 25 "" -flags +cgop -sc_threshold 1000000000 -b:v 6M -g 12 -bf 2
+else
+    raw 720 576 25
+    own progressive
+    own frames
+fi
+
+# The tools, each on a clip, with frames that go nowhere.
+by_decode() { "$program" decode < "$1.m2v" > /dev/null 2> "$1.line"; }
+by_ffmpeg() { ffmpeg -v error -y -threads 1 -i "$1.m2v" -f rawvideo -pix_fmt yuv420p /dev/null < /dev/null; }
+by_mpeg2dec() { mpeg2dec -c -o null "$1.m2v" > mpeg2dec.log 2>&1; }
+# another encoder's clip may break a rule or the buffer
+by_check() {
+    local status=0
+    "$program" check < "$1.m2v" 2> "$1.verdict" || status=$?
+    case $status in 0 | 10 | 11) ;; *) told "$1.verdict" ;; esac
+}
+
+declare -A speeds counts
+for name in "${names[@]}"; do
+    "$program" decode < "$name.m2v" > "$name.yuv" 2> "$name.line" || told "$name.line"
     frames=$(cut -d' ' -f2 "$name.line")
-    echo "$name: $(cat "$name.line")"
-    python3 -c "$compare" "$name.yuv" "$name.ref"
-    ours=$(instructions "$name.m2v" "$program" decode)
-    theirs=$(instructions "$name.m2v" mpeg2dec -c -o null "$name.m2v")
-    echo "instructions a frame $((ours / frames)), mpeg2dec -c $((theirs / frames))"
+    said="$name: $(cat "$name.line")"
+    for tool in decode check ffmpeg mpeg2dec; do
+        case $tool in decode | check) ;; *) has $tool || continue ;; esac
+        speeds[$tool]+=" $(speed "$frames" "by_$tool" "$name")"
+    done
+    if has ffmpeg; then
+        ffmpeg -v error -y -i "$name.m2v" -f rawvideo -pix_fmt yuv420p "$name.ref" < /dev/null
+        apart=$(python3 "$bench/distance.py" "$name.yuv" "$name.ref")
+        said+=", largest difference from ffmpeg ${apart#* }"
+    fi
+    echo "$said, check: $(cat "$name.verdict")" >&2
+    counts[decode]+=" $(instructions "$frames" "$name.m2v" "$program" decode)"
+    counts[check]+=" $(instructions "$frames" "$name.m2v" "$program" check)"
+    if has mpeg2dec; then counts[mpeg2dec]+=" $(instructions "$frames" "$name.m2v" mpeg2dec -c -o null "$name.m2v")"; fi
 done
+
+# The least and the most of some numbers.
+range() {
+    tr ' ' '\n' <<< "$1" | sed "/^$none*$/d" | sort -g | sed -n '1p;$p' | uniq | paste -s -d- | sed 's/-/ to /'
+}
+
+echo "| | frames a second | million instructions a frame |"
+echo "|---|---|---|"
+row "\`decode\`" "$(range "${speeds[decode]}")" "$(range "${counts[decode]}")"
+row "\`check\`" "$(range "${speeds[check]}")" "$(range "${counts[check]}")"
+if has ffmpeg; then row "ffmpeg, one thread" "$(range "${speeds[ffmpeg]}")" ""; fi
+if has mpeg2dec; then row "\`mpeg2dec -c\`" "$(range "${speeds[mpeg2dec]}")" "$(range "${counts[mpeg2dec]}")"; fi

@@ -1,23 +1,48 @@
-# Makes a completion for bash, on standard output, of the commands and options that docs/COMMANDS.md has.
+# Makes a completion, on standard output, of the commands and options that docs/COMMANDS.md has: for bash, or for the shell
+# that `-v shell=` names, zsh or fish.
 /^## [a-z]/ {
     command = $2
     commands = commands " " command
     next
 }
 /^## / { command = "" }
+# a table of options
 /^\| `--/ && command != "" {
     split($0, cell, / \| /)
-    text = cell[1]
+    options[command] = options[command] named(cell[1])
+}
+# a command that has the options of another one, but for those that are named behind
+command != "" && match($0, /options (are those )?of `[a-z0-9-]+`/) {
+    split(substr($0, RSTART, RLENGTH), cell, /`/)
+    source[command] = cell[2]
+    rest = substr($0, RSTART + RLENGTH)
+    sub(/[.;:].*/, "", rest)
+    without[command] = named(rest) " "
+}
+# the options that a text names, each behind a space
+function named(text,   all) {
     while (match(text, /`--[a-z0-9-]+/)) {
-        options[command] = options[command] " " substr(text, RSTART + 1, RLENGTH - 1)
+        all = all " " substr(text, RSTART + 1, RLENGTH - 1)
         text = substr(text, RSTART + RLENGTH)
     }
+    return all
 }
 END {
+    commands = substr(commands, 2)
+    for (name in source) {
+        count = split(options[source[name]], words, " ")
+        for (i = 1; i <= count; i++)
+            if (index(without[name], " " words[i] " ") == 0) options[name] = options[name] " " words[i]
+    }
+    if (shell == "zsh") zsh()
+    else if (shell == "fish") fish()
+    else bash()
+}
+function bash() {
     print "_puckerledge() {"
     print "    local word=${COMP_WORDS[COMP_CWORD]}"
     print "    if [ \"$COMP_CWORD\" = 1 ]; then"
-    print "        mapfile -t COMPREPLY < <(compgen -W '" substr(commands, 2) "' -- \"$word\")"
+    print "        mapfile -t COMPREPLY < <(compgen -W '" commands "' -- \"$word\")"
     print "        return"
     print "    fi"
     print "    case ${COMP_WORDS[1]} in"
@@ -26,4 +51,23 @@ END {
     print "    esac"
     print "}"
     print "complete -o default -F _puckerledge puckerledge"
+}
+function zsh() {
+    print "#compdef puckerledge"
+    print "if (( CURRENT == 2 )); then"
+    print "    compadd -- " commands
+    print "    return"
+    print "fi"
+    print "case $words[2] in"
+    for (name in options) print "    " name ") compadd --" options[name] " ;;"
+    print "esac"
+    print "_files"
+}
+function fish(   i, count, words) {
+    print "complete -c puckerledge -n __fish_use_subcommand -f -a '" commands "'"
+    for (name in options) {
+        count = split(options[name], words, " ")
+        for (i = 1; i <= count; i++)
+            print "complete -c puckerledge -n '__fish_seen_subcommand_from " name "' -l " substr(words[i], 3)
+    }
 }

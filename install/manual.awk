@@ -1,4 +1,5 @@
-# Turns docs/COMMANDS.md into a page for man, on standard output: headings, paragraphs, tables and examples as they stand.
+# Turns docs/COMMANDS.md into a page for man, on standard output: headings, paragraphs, tables and examples as they stand,
+# but for the folder before the program's name, since the page is read where the program is installed.
 function escaped(text) {
     gsub(/\\/, "\\e", text)
     gsub(/-/, "\\-", text)
@@ -21,6 +22,7 @@ function trimmed(text) {
     sub(/ +$/, "", text)
     return text
 }
+{ gsub(/\.\/puckerledge/, "puckerledge") }
 BEGIN {
     print ".TH PUCKERLEDGE 1"
     print ".SH NAME"
