@@ -1,11 +1,8 @@
 -- What follows from what `cut` did and what was told of it.
-use Rattle.std.proofs.Common.{◌≡◌, inl, inr, ℕ, ◌≤◌, List, Option, Some, Result, Ok, Err, IfSome, refl, sym, subst, arith}
+use Rattle.std.proofs.Common.{◌≡◌, inl, inr, ℕ, ◌≤◌, List, Some, Result, Ok, Err, refl, sym, subst, arith}
 use Rattle.m2v_port.specs.Ends.{Tells}
-use Rattle.m2v_port.specs.Port.{Grows}
 use Rattle.m2v_port.proofs.Runs.{tells}
-use Rattle.m2v_decode.specs.Answers.{OfText}
 use Rattle.m2v_decode.proofs.AnswerLaws.{of_text}
-use Rattle.m2v_group.specs.Groups.{cut_text}
 use Rattle.m2v_group.specs.Chosen.{CutDecodes}
 use Rattle.m2v_group.proofs.Decodes.{cut_law}
 use Rattle.m2v_cut.specs.declared.answer.CutSummary.{CutSummary}
@@ -15,7 +12,7 @@ use Rattle.m2v_cut.specs.Answers.{IsCutOut, IsRefused, IsOver, Fails, answer_to}
 use Rattle.m2v_tool.specs.declared.cut.CutWords.{CutWords}
 use Rattle.m2v_tool.specs.declared.cut.CutOutcome.{CutOutcome}
 use Rattle.m2v_tool.specs.declared.cut.CutOutcome.TheVariants.{Done, NoneAsked, Stopped}
-use Rattle.m2v_tool.specs.Endings.{Ending, Told, whole, cut, unfit_ending}
+use Rattle.m2v_tool.specs.Endings.{Told, whole, cut, unfit_ending}
 use Rattle.m2v_tool.specs.Cutting.{CutComes, none_asked, cutting_stopped, cut_out_ending, cut_ending, CutAnswer, CutKeeps}
 use Rattle.m2v_tool.specs.Runs.{Run, work_of, IsUntouched, Yields, RefusedBy, NoneFailed, Succeeds}
 use Rattle.m2v_tool.proofs.EndingLaws.{refusal, or_memory}

@@ -1,6 +1,5 @@
 -- What follows from what `make` did and what was told of it.
 use Rattle.std.proofs.Common.{◌≡◌, inl, inr, ℕ, refl}
-use Rattle.m2v_port.specs.Ends.{Change}
 use Rattle.m2v_make.specs.declared.answer.Made.{Made}
 use Rattle.m2v_make.specs.declared.answer.MakeError.{MakeError}
 use Rattle.m2v_make.specs.declared.answer.MakeError.TheVariants as errors

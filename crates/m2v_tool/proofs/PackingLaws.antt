@@ -16,12 +16,12 @@ use Rattle.m2v_y4m.specs.declared.answer.Y4mFault.{Y4mFault}
 use Rattle.m2v_y4m.specs.Rules.{header_rules, Passes}
 use Rattle.m2v_y4m.specs.Header.{opening}
 use Rattle.m2v_y4m.specs.Frames.{size_of, AreWhole, Y4m, EndsShort, Begins}
-use Rattle.m2v_y4m.specs.Answers.{most_frames, Packed, PackStops, PackEndedShort, PackWentOn, UnpackStops, Hindered, FramesAnswered, ErrorAnswered, Gives, IsAnswered}
+use Rattle.m2v_y4m.specs.Answers.{most_frames, Packed, PackStops, PackEndedShort, PackWentOn, Hindered, FramesAnswered, ErrorAnswered, Gives, IsAnswered}
 use Rattle.m2v_tool.specs.declared.pack.PackOutcome.{PackOutcome}
 use Rattle.m2v_tool.specs.declared.pack.PackOutcome.TheVariants as packs
 use Rattle.m2v_tool.specs.declared.unpack.UnpackOutcome.{UnpackOutcome}
 use Rattle.m2v_tool.specs.declared.unpack.UnpackOutcome.TheVariants as unpacks
-use Rattle.m2v_tool.specs.Endings.{Ending, Told, whole, cut, line_of, unfit_ending, short_frame, too_many_frames}
+use Rattle.m2v_tool.specs.Endings.{Told, whole, cut, line_of, unfit_ending, short_frame, too_many_frames}
 use Rattle.m2v_tool.specs.Inputs.{AreFew, EndInside}
 use Rattle.m2v_tool.specs.Packing.{PackComes, packed_ending, packing_stopped, unpacking_stopped, pack_ending, unpack_ending, y4m_fault, PackAnswer, PackKeeps, UnpackComes, numbers_of, UnpackDone, Says, UnpackKeeps}
 use Rattle.m2v_tool.specs.Runs.{Run, work_of, IsUntouched, Yields, RefusedBy, NoneFailed, Succeeds}

@@ -1,20 +1,18 @@
 -- What follows from what `encode-y4m` did and what was told of it.
-use Rattle.std.proofs.Common.{◌≡◌, ◌⊎◌, inl, inr, ℕ, zero, suc, ◌+◌, ◌*◌, ◌<◌, ◌≤◌, All, List, [], ◌∷◌, ◌++◌, length, take, drop, Option, Some, None, IfSome, Result, Ok, Err, refl, sym, ap, ap₂, subst, ◌∙◌, arith, length-append, append_assoc}
+use Rattle.std.proofs.Common.{◌≡◌, ◌⊎◌, inl, inr, ℕ, zero, suc, ◌+◌, ◌*◌, ◌<◌, ◌≤◌, All, List, [], ◌∷◌, ◌++◌, length, drop, Option, Some, None, IfSome, Ok, Err, refl, sym, ap, ap₂, subst, ◌∙◌, arith, length-append}
 use Rattle.std.specs.Option.{option_map}
 use Rattle.std.specs.Prelude.{⊤}
 use Rattle.std.proofs.lemmas.List.{append-nil}
 use Rattle.std.proofs.lemmas.List.Elements.{All-drop}
 use Rattle.std.proofs.lemmas.Bool.{cases_lt}
 use Rattle.std.proofs.Math.Nat.{suc-mul, mul-le-mul_left, mul-le-mul_right}
-use Rattle.m2v_port.specs.Ends.{Change, Tells, change}
-use Rattle.m2v_port.specs.Port.{Moves, IsAtEnd, Rose}
+use Rattle.m2v_port.specs.Ends.{Change, change}
+use Rattle.m2v_port.specs.Port.{Moves, Rose}
 use Rattle.m2v_port.specs.declared.error.PortError.{PortError}
 use Rattle.m2v_port.specs.declared.error.PortError.TheVariants as calls
 use Rattle.m2v_port.proofs.Runs.{tells, rose_since}
 use Rattle.m2v_plane.specs.Raw.{raw, frame_bytes}
 use Rattle.m2v_set.specs.declared.settings.Settings.{Settings}
-use Rattle.m2v_set.specs.declared.settings.Scan.{Scan}
-use Rattle.m2v_set.specs.declared.settings.Scan.TheVariants.{Progressive, Frames, Fields}
 use Rattle.m2v_set.specs.Numbers.{dims_of}
 use Rattle.m2v_set.proofs.Facts.{bounds}
 use Rattle.m2v_set.specs.Rules.{Passes, FirstUnfit}
@@ -28,7 +26,7 @@ use Rattle.m2v_y4m.specs.declared.answer.Y4mError.{Y4mError}
 use Rattle.m2v_y4m.specs.declared.answer.Y4mError.TheVariants as opening_errors
 use Rattle.m2v_y4m.specs.declared.header.Y4mHeader.{Y4mHeader}
 use Rattle.m2v_y4m.specs.Header.{opening}
-use Rattle.m2v_y4m.specs.Frames.{Coming, Begins, behind_header, frames_from, size_of}
+use Rattle.m2v_y4m.specs.Frames.{Coming, Begins, size_of}
 use Rattle.m2v_y4m.specs.Rules.{IsHeader}
 use Rattle.m2v_y4m.specs.Sources.{Standing, Reading, IsOpen, OpensWith, left_of, mark, marked, told_left, coming, coming_at, unless_broken}
 use Rattle.m2v_y4m.specs.Answers.{OpenStops}
@@ -40,13 +38,13 @@ use Rattle.m2v_tool.specs.declared.encode_y4m.Y4mOutcome.TheVariants.{Unread, En
 use Rattle.m2v_tool.specs.Endings.{Told, whole, cut, unfit_ending}
 use Rattle.m2v_tool.specs.EncodeWords.{Meant}
 use Rattle.m2v_tool.specs.Inputs.{AreFrames, EndInside}
-use Rattle.m2v_tool.specs.Encoding.{recon_by, Shut, Stands, frame_size, EncodeStopped, EncodeShut, EncodeComes, encoding_stopped, unopened_ending, encoded_ending, encode_ending, EncodeAnswer, EncodeKeeps}
+use Rattle.m2v_tool.specs.Encoding.{recon_by, Shut, Stands, frame_size, EncodeStopped, EncodeShut, EncodeComes, encoding_stopped, unopened_ending, encoded_ending, encode_ending}
 use Rattle.m2v_tool.specs.Packing.{Says, y4m_fault}
 use Rattle.m2v_tool.specs.Y4mWords.{with_header}
-use Rattle.m2v_tool.specs.Y4mCoding.{Behind, frames_change, frames_work, TextEncoded, TextBroken, BrokenOff, FramesCome, read_behind, Y4mComes, unread_ending, y4m_ending, Y4mAnswer, Y4mKeeps}
-use Rattle.m2v_tool.specs.Runs.{Run, Work, Place, work_of, IsUntouched, Yields, RefusedBy, NoneFailed, Succeeds}
+use Rattle.m2v_tool.specs.Y4mCoding.{Behind, frames_change, frames_work, BrokenOff, FramesCome, read_behind, Y4mComes, unread_ending, y4m_ending, Y4mAnswer, Y4mKeeps}
+use Rattle.m2v_tool.specs.Runs.{Run, Work, Place, work_of, IsUntouched, Yields, NoneFailed, Succeeds}
 use Rattle.m2v_tool.proofs.EndingLaws.{refusal, or_memory}
-use Rattle.m2v_tool.proofs.CodingLaws.{frames_length, all_read, long_by, not_inside, not_inside_of, not_empty, not_many}
+use Rattle.m2v_tool.proofs.CodingLaws.{frames_length, all_read, not_inside, not_empty, not_many}
 use Rattle.m2v_tool.proofs.EncodingLaws.{least_step}
 
 -- ---- what a list ends in

@@ -6,7 +6,6 @@ use Rattle.m2v_port.specs.Ends.{Change, Tells}
 use Rattle.m2v_port.specs.Port.{Grows}
 use Rattle.m2v_plane.specs.Raw.{raw}
 use Rattle.m2v_set.specs.Rules.{judged}
-use Rattle.m2v_set.specs.declared.unfit.Unfit.{Unfit}
 use Rattle.m2v_y4m.specs.declared.header.Y4mHeader.{Y4mHeader}
 use Rattle.m2v_y4m.specs.declared.answer.PackSummary.{PackSummary}
 use Rattle.m2v_y4m.specs.declared.answer.EncodeFault.{EncodeFault}
