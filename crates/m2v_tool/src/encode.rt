@@ -5,8 +5,8 @@ ghost use Rattle.m2v_tool.specs.Encoding.{EncodeComes, encode_ending, encoded_en
 ghost use Rattle.clap.specs.Walk.{first_of, rows_of};
 ghost use Rattle.clap.specs.Matches.{found_of};
 ghost use Rattle.clap.specs.Simple.{app_of};
-ghost use Rattle.m2v_tool.specs.Simple.{simple};
-ghost use Rattle.m2v_tool.specs.EncodeWords.{encode_app, encode_meant, needed, numbers, level_in, level_named, meant_of, scan_in, scan_named, settings_of, words_of};
+ghost use Rattle.m2v_tool.specs.Simple.{simple, with_rules};
+ghost use Rattle.m2v_tool.specs.EncodeWords.{encode_app, encode_meant, needed, numbers, others, level_in, level_named, meant_of, scan_in, scan_named, settings_of, words_of};
 
 use crate::report::{
     Report, no_frames, no_memory, read_fault, short_frame, too_many_frames, unfit, write_fault,
@@ -111,11 +111,10 @@ fn with_needed<'a>(alloc: Global) -> Result<Command<'a>, AllocError>
     with(command, required_option(alloc, "buffer"))
 }
 
-/// The command with all numbers.
-fn with_numbers<'a>(alloc: Global) -> Result<Command<'a>, AllocError>
-    ensures { IfOk result (λ c. app_of c ≡ simple (codes "encode") (needed ++ numbers)) }
+/// The command with the numbers that may be given.
+fn with_numbers<'a>(alloc: Global, command: Command<'a>) -> Result<Command<'a>, AllocError>
+    ensures { IfOk result (λ c. app_of c ≡ with_rules (app_of command.entry) numbers) }
 {
-    let command = with_needed(alloc)?;
     let command = with(command, number_option(alloc, "delay"))?;
     let command = with(command, number_option(alloc, "group"))?;
     let command = with(command, number_option(alloc, "step"))?;
@@ -124,16 +123,27 @@ fn with_numbers<'a>(alloc: Global) -> Result<Command<'a>, AllocError>
     with(command, number_option(alloc, "workers"))
 }
 
-/// The options behind `encode`.
-fn encode_command<'a>(alloc: Global) -> Result<Command<'a>, AllocError>
-    ensures { IfOk result (λ c. app_of c ≡ encode_app) }
+/// The command with all options that needn't be given.
+pub(crate) fn with_options<'a>(
+    alloc: Global,
+    command: Command<'a>,
+) -> Result<Command<'a>, AllocError>
+    ensures { IfOk result (λ c. app_of c ≡ with_rules (app_of command.entry) (numbers ++ others)) }
 {
-    let command = with_numbers(alloc)?;
+    let command = with_numbers(alloc, command)?;
     let command = with(command, text_option(alloc, "scan"))?;
     let command = with(command, text_option(alloc, "level"))?;
     let command = with(command, flag_option(alloc, "closed"))?;
     let command = with(command, flag_option(alloc, "pulldown"))?;
     with(command, text_option(alloc, "recon"))
+}
+
+/// The options behind `encode`.
+fn encode_command<'a>(alloc: Global) -> Result<Command<'a>, AllocError>
+    ensures { IfOk result (λ c. app_of c ≡ encode_app) }
+{
+    let command = with_needed(alloc)?;
+    with_options(alloc, command)
 }
 
 /// The name of the file for reconstructions, where one was given.

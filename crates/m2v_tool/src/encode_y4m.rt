@@ -1,16 +1,15 @@
-ghost use Rattle.std.specs.Prelude.{◌≡◌, ◌≤◌, ◌++◌, map, option_map, string_bytes, codes, IfOk, IsTrue, IsFalse};
+ghost use Rattle.std.specs.Prelude.{◌≡◌, ◌≤◌, map, option_map, string_bytes, IfOk, IsTrue, IsFalse};
 ghost use Rattle.clap.specs.Simple.{app_of};
 ghost use Rattle.m2v_port.specs.Ends.{change, SinkStays};
 ghost use Rattle.m2v_tool.specs.Endings.{IsReport};
-ghost use Rattle.m2v_tool.specs.Simple.{simple};
-ghost use Rattle.m2v_tool.specs.EncodeWords.{numbers, words_of};
-ghost use Rattle.m2v_tool.specs.Y4mWords.{with_header, y4m_app, y4m_meant, y4m_needed};
+ghost use Rattle.m2v_tool.specs.EncodeWords.{words_of};
+ghost use Rattle.m2v_tool.specs.Y4mWords.{with_header, y4m_app, y4m_meant};
 ghost use Rattle.m2v_tool.specs.Y4mCoding.{FramesCome, Y4mComes, read_behind, unread_ending, y4m_ending};
 
-use crate::encode::{EncodeOutcome, EncodeWords, encoded, meant_of};
+use crate::encode::{EncodeOutcome, EncodeWords, encoded, meant_of, with_options};
 use crate::report::{Report, no_memory, read_fault};
 use crate::unpack::y4m_fault;
-use crate::words::{flag_option, number_option, required_option, simple, taken, text_option, with};
+use crate::words::{required_option, simple, taken, with};
 use clap::Command;
 use m2v_board::Gate;
 use m2v_encode::EncodeError;
@@ -21,31 +20,14 @@ use std::alloc::{AllocError, Global};
 use std::sync::Wait;
 use std::thread::Threads;
 
-/// The command with all numbers; the sizes and the rate come from the text.
-fn y4m_numbers<'a>(alloc: Global) -> Result<Command<'a>, AllocError>
-    ensures { IfOk result (λ c. app_of c ≡ simple (codes "encode-y4m") (y4m_needed ++ numbers)) }
+/// The options behind `encode-y4m`; the sizes and the rate come from the text.
+fn y4m_command<'a>(alloc: Global) -> Result<Command<'a>, AllocError>
+    ensures { IfOk result (λ c. app_of c ≡ y4m_app) }
 {
     let command = simple(alloc, "encode-y4m");
     let command = with(command, required_option(alloc, "bits"))?;
     let command = with(command, required_option(alloc, "buffer"))?;
-    let command = with(command, number_option(alloc, "delay"))?;
-    let command = with(command, number_option(alloc, "group"))?;
-    let command = with(command, number_option(alloc, "step"))?;
-    let command = with(command, number_option(alloc, "search"))?;
-    let command = with(command, number_option(alloc, "aspect"))?;
-    with(command, number_option(alloc, "workers"))
-}
-
-/// The options behind `encode-y4m`.
-fn y4m_command<'a>(alloc: Global) -> Result<Command<'a>, AllocError>
-    ensures { IfOk result (λ c. app_of c ≡ y4m_app) }
-{
-    let command = y4m_numbers(alloc)?;
-    let command = with(command, text_option(alloc, "scan"))?;
-    let command = with(command, text_option(alloc, "level"))?;
-    let command = with(command, flag_option(alloc, "closed"))?;
-    let command = with(command, flag_option(alloc, "pulldown"))?;
-    with(command, text_option(alloc, "recon"))
+    with_options(alloc, command)
 }
 
 /// What the words behind `encode-y4m` mean, where they are taken; the sizes and the rate are 0 in it.
