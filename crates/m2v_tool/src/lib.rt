@@ -11,8 +11,6 @@ mod flat;
 mod make;
 mod pack;
 mod report;
-#[cfg(test)]
-mod tests;
 mod top;
 mod unpack;
 mod words;
