@@ -18,10 +18,12 @@ four=$clip
 raw 720 576 "$frames"
 tell_missing ffmpeg mpeg2enc mpeg2dec valgrind
 
-# ours INPUT STREAM WORKERS, with the rate and the scan at hand
+# words WORKERS: those of `encode`, by the rate and the scan at hand.
 words() {
     echo encode --width 720 --height 576 --rate 3 --bits $((mbits * 2500)) --buffer 112 --search 15 --scan "$scan" --workers "$1"
 }
+
+# ours INPUT STREAM WORKERS
 ours() {
     # shellcheck disable=SC2046
     "$program" $(words "$3") < "$1" > "$2" 2> "$2.line" || told "$2.line"
@@ -36,11 +38,10 @@ figures() {
 }
 
 by_us() {
-    local workers stream one cells=()
+    local workers stream one=$scan$mbits-1.m2v cells=()
     for workers in 1 2 4; do
         stream=$scan$mbits-$workers.m2v
         cells+=("$(speed "$frames" ours "$clip" "$stream" "$workers")")
-        one=$scan$mbits-1.m2v
         cmp "$one" "$stream"
     done
     "$program" check < "$one" 2> check.line || told check.line

@@ -1,5 +1,5 @@
 # shellcheck shell=bash
-# What encode.sh and decode.sh measure by; they source it.
+# What the scripts that measure have in common; they source it.
 bench=$(dirname "$(realpath "${BASH_SOURCE[0]}")")
 # what stands in a cell that isn't measured
 none=–

@@ -9,13 +9,12 @@
 #
 # PROGRAM is the built program. The clips stay in FOLDER, /tmp/y4m where none is given.
 set -eu -o pipefail
-program=$(realpath "$1")
-folder=${2:-/tmp/y4m}
+# shellcheck source=bench/measure.sh
+. "$(dirname "$(realpath "$0")")/measure.sh"
 for tool in ffmpeg python3; do
-    command -v "$tool" > /dev/null || { echo "bench/y4m.sh: there is no $tool" >&2; exit 1; }
+    has "$tool" || { echo "bench/y4m.sh: there is no $tool" >&2; exit 1; }
 done
-mkdir -p "$folder"
-cd "$folder"
+begin "$1" "${2:-/tmp/y4m}"
 
 # the clip of which the last call of clip spoke, by ffmpeg: its words on the output
 source_to() {
@@ -44,16 +43,9 @@ clip() {
     echo "  pack: $(cat "$name.line"), read by ffmpeg as the same frames"
 }
 
-# The largest difference of a sample between two files of frames.
-compare='
-import sys
-ours, theirs = (open(name, "rb").read() for name in sys.argv[1:3])
-assert len(ours) == len(theirs), (len(ours), len(theirs))
-print("  ffmpeg plays it, the largest difference of a sample is", max(abs(a - b) for a, b in zip(ours, theirs)))
-'
-
 # Codes the clip with these options.
 coded() {
+    local apart
     "$program" encode --width "$width" --height "$height" --rate "$code" "$@" --recon "$name.kept" < "$name.yuv" > "$name.m2v" 2> "$name.line"
     text_to - | "$program" encode-y4m "$@" --recon "$name.text.kept" > "$name.text.m2v" 2> "$name.text.line"
     cmp "$name.m2v" "$name.text.m2v"
@@ -64,7 +56,8 @@ coded() {
     ffmpeg -v error -y -i "$name.text.m2v" -f rawvideo -pix_fmt yuv420p "$name.played" 2> "$name.words"
     cat "$name.words"
     [ ! -s "$name.words" ]
-    python3 -c "$compare" "$name.kept" "$name.played"
+    apart=$(python3 "$bench/distance.py" "$name.kept" "$name.played")
+    echo "  ffmpeg plays it, the largest difference of a sample is ${apart#* }"
     # shellcheck disable=SC2086
     "$program" decode < "$name.text.m2v" 2> "$name.decoded" | "$program" pack "$width" "$height" "$code" $flag 2> "$name.line" \
         | ffmpeg -v error -y -i - -f rawvideo "$name.back"
