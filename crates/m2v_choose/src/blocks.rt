@@ -12,7 +12,7 @@ ghost use Rattle.m2v_recon.specs.Steps.{levels_of};
 ghost use Rattle.m2v_choose.specs.Decisions.{block_place, differences as differences_of, pattern_of as pattern_in};
 ghost use Rattle.m2v_choose.specs.Trials.{is_empty as is_empty_of, difference_at, transforms_of, quantised_by};
 
-use m2v_idct::forward;
+use m2v_idct::forward_in_place;
 use m2v_pred::Block16;
 use m2v_quant::{BlockKind, Levels, quantise};
 
@@ -89,15 +89,20 @@ fn differences(
 
 /// The transform of a block's differences.
 #[inline(always)]
-fn transform_one(source: &Block16, prediction: &Block16, dct_field: bool, block: usize) -> [i32; 64]
+fn transform_one(
+    source: &Block16,
+    prediction: &Block16,
+    dct_field: bool,
+    block: usize,
+    out: &mut [i32; 64],
+)
     requires block { block < 6 }
-    ensures value { result ≡ forward_of
+    ensures value { out.new ≡ forward_of
         (differences_of source.now.at prediction.now.at dct_field block) }
-    ensures coefficients { All IsCoefficient result }
+    ensures coefficients { All IsCoefficient out.new }
 {
-    let mut room = [0; 64];
-    differences(source, prediction, dct_field, block, &mut room);
-    forward(&room)
+    differences(source, prediction, dct_field, block, out);
+    forward_in_place(out);
 }
 
 /// The transforms of the differences of the six blocks.
@@ -106,7 +111,7 @@ pub fn transform(source: &Block16, prediction: &Block16, dct_field: bool, out: &
     ensures coefficients { All (All IsCoefficient) out.new }
 {
     for block in 0..6usize {
-        out[block] = transform_one(source, prediction, dct_field, block);
+        transform_one(source, prediction, dct_field, block, &mut out[block]);
     }
 }
 

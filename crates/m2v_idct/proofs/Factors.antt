@@ -41,9 +41,3 @@ next_within k s p hs hp = (omega (arith, ints, hs, hp), omega (arith, ints, hs, 
 
 pub sum_within : (k : ℕ) (s p : ℤ) → k < 4 → Within (2097152 * k) s → Within 2097152 p → Within 8400000 (s +ℤ p)
 sum_within k s p l hs hp = (omega (arith, ints, hs, hp), omega (arith, ints, hs, hp))
-
-pub next_wide_within : (k : ℕ) (s p : ℤ) → Within (68812800000 * k) s → Within 68812800000 p → Within (68812800000 * (k + 1)) (s +ℤ p)
-next_wide_within k s p hs hp = (omega (arith, ints, hs, hp), omega (arith, ints, hs, hp))
-
-pub wide_sum_within : (k : ℕ) (s p : ℤ) → k < 4 → Within (68812800000 * k) s → Within 68812800000 p → Within 300000000000 (s +ℤ p)
-wide_sum_within k s p l hs hp = (omega (arith, ints, hs, hp), omega (arith, ints, hs, hp))

@@ -2,6 +2,7 @@ pub mod Blocks
 pub mod Bounds
 pub mod Factors
 pub mod ForwardSums
+pub mod Parts
 pub mod Passed
 pub mod Places
 pub mod Projections

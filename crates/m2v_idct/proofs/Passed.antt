@@ -4,17 +4,13 @@ use Rattle.std.proofs.Common.{◌<◌, ◌≤◌, ◌^◌, ◌≡◌, ℕ, All, 
 use Rattle.std.specs.Int.{int_shr}
 use Rattle.std.proofs.lemmas.Int.{ints, to_z-of_z}
 use lib.Signed.{mag}
-use mir.Syntax.{w32, w64}
+use mir.Syntax.{w32}
 use mir.Val.{SFits, to_z, of_z}
-use Rattle.m2v_idct.specs.Ranges.{IsCoefficient, IsDoubleSum, Within}
+use Rattle.m2v_idct.specs.Ranges.{IsCoefficient, Within}
 
 pub fits : (n : ℕ) (z : ℤ) → n < 2 ^ 31 → Within n z → SFits w32 z
 fits n (pos a) small h = record { sfits = omega (arith, ints, h.0, h.1) }
 fits n (negsuc a) small h = record { sfits = omega (arith, ints, h.0, h.1) }
-
-pub fits_wide : (n : ℕ) (z : ℤ) → n < 2 ^ 63 → Within n z → SFits w64 z
-fits_wide n (pos a) small h = record { sfits = omega (arith, ints, h.0, h.1) }
-fits_wide n (negsuc a) small h = record { sfits = omega (arith, ints, h.0, h.1) }
 
 pub passed : (n : ℕ) (z : ℤ) → n < 2 ^ 31 → Within n z → to_z w32 (of_z w32 z) ≡ z
 passed n z small h = to_z-of_z w32 z (fits n z small h)
@@ -42,6 +38,3 @@ read_within n m xs i small le inside h = passed_within n m (get_or xs i (pos 0))
 
 pub coefficient_within : (z : ℤ) → IsCoefficient z → Within 2048 z
 coefficient_within z h = (omega (arith, ints, h), omega (arith, ints, h))
-
-pub passed_double : (r z : ℤ) → r ≡ z → IsDoubleSum z → IsDoubleSum (to_z w64 (of_z w64 r))
-passed_double r z e h = (omega (arith, ints, e, h), omega (arith, ints, e, h))

@@ -50,15 +50,3 @@ pub fn put_row(rows: &mut [i32; 64], y: usize, results: &[i32; 8])
         rows[8 * y + k] = results[k];
     }
 }
-
-// Writes column x.
-#[inline(always)]
-pub fn put_column(out: &mut [i32; 64], x: usize, results: &[i32; 8])
-    requires { x < 8 }
-    ensures column { (k : ℕ) → k < 8 → nth out.new (8 * k + x) ≡ nth results.now k }
-    ensures rest { (i : ℕ) → ((k : ℕ) → k < 8 → i ≢ 8 * k + x) → nth out.new i ≡ nth out.old i }
-{
-    for k in 0..8 {
-        out[8 * k + x] = results[k];
-    }
-}

@@ -4,8 +4,8 @@ ghost use Rattle.m2v_idct.specs.Forward.{forward_at, forward_of, projection, pro
 ghost use Rattle.m2v_idct.specs.Ranges.{IsCoefficient, IsDoubleSum, IsSample, Within};
 ghost use Rattle.m2v_idct.specs.Sums.{sum_below};
 
-use crate::block::{column_at, put_column, put_row, row_at};
-use crate::products::{differences, product_sum, sums, wide_product_sum};
+use crate::block::{column_at, put_row};
+use crate::products::{differences, product_sum, rounded_sum, sums};
 
 // Each cosine's first four values, times 4096. From the other end those with an even number are the
 // same, and those with an odd number have the other sign.
@@ -36,11 +36,20 @@ pub fn forward(f: &[i32; 64]) -> [i32; 64]
     ensures value { result ≡ forward_of f.now }
     ensures coefficients { All IsCoefficient result }
 {
+    let mut block = *f;
+    forward_in_place(&mut block);
+    block
+}
+
+/// The same, written over the samples.
+pub fn forward_in_place(block: &mut [i32; 64])
+    requires { All IsSample block.old }
+    ensures value { block.new ≡ forward_of block.old }
+    ensures coefficients { All IsCoefficient block.new }
+{
     let mut columns = [0; 64];
-    transform_columns(f, &mut columns);
-    let mut out = [0; 64];
-    transform_rows(&columns, &mut out);
-    out
+    transform_columns(block, &mut columns);
+    transform_rows(&columns, block);
 }
 
 /// The first coefficient of the forward transform alone, from -2048 to 2047: eight times the mean of
@@ -53,26 +62,26 @@ pub fn forward_dc(f: &[i32; 64]) -> i32
     round(scaled_sum(sum_of(f)))
 }
 
+// The projections of each column, one column behind another, so that the lanes of the next step stand side by side.
 #[inline(always)]
 fn transform_columns(f: &[i32; 64], columns: &mut [i32; 64])
     requires { All IsSample f.now }
     ensures { (v x : ℕ) → v < 8 → x < 8
-        → nth columns.new (8 * v + x) ≡ projection v (λ y. at f.now y x) }
+        → nth columns.new (8 * x + v) ≡ projection v (λ y. at f.now y x) }
 {
     for x in 0..8 {
-        put_column(columns, x, &column_sums(&column_at(f, x)));
+        put_row(columns, x, &column_sums(&column_at(f, x)));
     }
 }
 
 #[inline(always)]
 fn transform_rows(columns: &[i32; 64], out: &mut [i32; 64])
-    requires within { All (Within 8400000) columns.now }
-    requires sums { (v u : ℕ) → v < 8 → u < 8 → IsDoubleSum (projection u (at columns.now v)) }
+    requires { All (Within 8400000) columns.now }
     ensures { (v u : ℕ) → v < 8 → u < 8
-        → nth out.new (8 * v + u) ≡ rounded (projection u (at columns.now v)) }
+        → nth out.new (8 * v + u) ≡ rounded (projection u (λ x. at columns.now x v)) }
 {
     for v in 0..8 {
-        put_row(out, v, &row_coefficients(&row_at(columns, v)));
+        put_row(out, v, &row_coefficients(&column_at(columns, v)));
     }
 }
 
@@ -99,21 +108,20 @@ fn column_sums(f: &[i32; 8]) -> [i32; 8]
 // The coefficients of eight sums of products with the cosines down the block.
 #[inline(always)]
 fn row_coefficients(c: &[i32; 8]) -> [i32; 8]
-    requires within { All (Within 8400000) c.now }
-    requires sums { (u : ℕ) → u < 8 → IsDoubleSum (projection u (nth c.now)) }
+    requires { All (Within 8400000) c.now }
     ensures { result ≡ map rounded (projections (nth c.now)) }
 {
     let even = sums(c);
     let odd = differences(c);
     [
-        round(wide_product_sum(&COSINES_0, &even)),
-        round(wide_product_sum(&COSINES_1, &odd)),
-        round(wide_product_sum(&COSINES_2, &even)),
-        round(wide_product_sum(&COSINES_3, &odd)),
-        round(wide_product_sum(&COSINES_4, &even)),
-        round(wide_product_sum(&COSINES_5, &odd)),
-        round(wide_product_sum(&COSINES_6, &even)),
-        round(wide_product_sum(&COSINES_7, &odd)),
+        rounded_sum(&COSINES_0, &even),
+        rounded_sum(&COSINES_1, &odd),
+        rounded_sum(&COSINES_2, &even),
+        rounded_sum(&COSINES_3, &odd),
+        rounded_sum(&COSINES_4, &even),
+        rounded_sum(&COSINES_5, &odd),
+        rounded_sum(&COSINES_6, &even),
+        rounded_sum(&COSINES_7, &odd),
     ]
 }
 

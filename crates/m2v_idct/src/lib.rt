@@ -9,5 +9,5 @@ mod inverse_dct;
 mod products;
 mod terms;
 
-pub use forward_dct::{forward, forward_dc};
+pub use forward_dct::{forward, forward_dc, forward_in_place};
 pub use inverse_dct::{inverse, inverse_in_place};

@@ -1,5 +1,6 @@
-ghost use Rattle.std.specs.Prelude.{◌≡◌, All, ◌+ℤ◌, ◌-ℤ◌, ◌*ℤ◌, ◌∷◌, []};
+ghost use Rattle.std.specs.Prelude.{◌≡◌, All, ◌+ℤ◌, ◌-ℤ◌, ◌*ℤ◌, ◌≤ℤ◌, ◌∷◌, [], pos};
 ghost use Rattle.m2v_idct.specs.Block.{nth};
+ghost use Rattle.m2v_idct.specs.Forward.{rounded};
 ghost use Rattle.m2v_idct.specs.Ranges.{Within};
 ghost use Rattle.m2v_idct.specs.Sums.{sum_below};
 
@@ -43,23 +44,82 @@ pub fn product_sum(c: &[i32; 4], d: &[i32; 4]) -> i32
     sum
 }
 
-// The sum of the products of cosines and sums of such products.
+// The part of a number above its low twelve bits.
 #[inline(always)]
-pub fn wide_product_sum(c: &[i32; 4], d: &[i32; 4]) -> i64
-    requires c { All (Within 4096) c.now }
-    requires d { All (Within 16800000) d.now }
-    ensures { result ≡ sum_below 4 (λ k. nth c.now k *ℤ nth d.now k) }
+fn high_part(d: i32) -> i32
+    requires { Within 16800000 d }
+    ensures low { (pos 4096 *ℤ result) ≤ℤ d }
+    ensures high { d ≤ℤ (pos 4096 *ℤ result +ℤ pos 4095) }
+    ensures within { Within 4200 result }
 {
-    let mut sum = 0;
-    for k in 0..4 {
-        sum += wide_product(c[k], d[k]);
-    }
-    sum
+    d >> 12
+}
+
+// What that leaves.
+#[inline(always)]
+fn low_part(d: i32, high: i32) -> i32
+    requires low { (pos 4096 *ℤ high) ≤ℤ d }
+    requires high { d ≤ℤ (pos 4096 *ℤ high +ℤ pos 4095) }
+    ensures value { d ≡ pos 4096 *ℤ high +ℤ result }
+    ensures within { Within 4200 result }
+{
+    d - high * 4096
+}
+
+// What the low part of a sum adds to the high one, with the half that rounds.
+#[inline(always)]
+fn carry(low: i32) -> i32
+    requires { Within 69000000 low }
+    ensures low { (pos 4096 *ℤ result) ≤ℤ (low +ℤ pos 33554432) }
+    ensures high { (low +ℤ pos 33554432) ≤ℤ (pos 4096 *ℤ result +ℤ pos 4095) }
+    ensures within { Within 26000 result }
+{
+    (low + (1 << 25)) >> 12
 }
 
 #[inline(always)]
-fn wide_product(c: i32, d: i32) -> i64
-    ensures { result ≡ c *ℤ d }
+fn with_carry(high: i32, carry: i32) -> i32
+    requires high { Within 69000000 high }
+    requires carry { Within 26000 carry }
+    ensures value { result ≡ high +ℤ carry }
+    ensures within { Within 69100000 result }
 {
-    i64::from(c) * i64::from(d)
+    high + carry
+}
+
+// A high part in the scale of coefficients.
+#[inline(always)]
+fn scaled_down(high: i32) -> i32
+    ensures low { (pos 16384 *ℤ result) ≤ℤ high }
+    ensures high { high ≤ℤ (pos 16384 *ℤ result +ℤ pos 16383) }
+{
+    high >> 14
+}
+
+// A sum in two parts in the scale of coefficients, to the nearest.
+#[inline(always)]
+fn round_parts(high: i32, low: i32) -> i32
+    requires high { Within 69000000 high }
+    requires low { Within 69000000 low }
+    ensures { result ≡ rounded (pos 4096 *ℤ high +ℤ low) }
+{
+    scaled_down(with_carry(high, carry(low)))
+}
+
+// The sum of the products of cosines and sums of such products, in the scale of coefficients, to the nearest. The sum
+// doesn't fit 32 bits, and eight lanes of 32 are faster than one product of 64: so it is made in two parts.
+#[inline(always)]
+pub fn rounded_sum(c: &[i32; 4], d: &[i32; 4]) -> i32
+    requires c { All (Within 4096) c.now }
+    requires d { All (Within 16800000) d.now }
+    ensures { result ≡ rounded (sum_below 4 (λ k. nth c.now k *ℤ nth d.now k)) }
+{
+    let mut high = 0;
+    let mut low = 0;
+    for k in 0..4 {
+        let above = high_part(d[k]);
+        high += c[k] * above;
+        low += c[k] * low_part(d[k], above);
+    }
+    round_parts(high, low)
 }
