@@ -2,5 +2,6 @@ pub mod Numbers
 pub mod Ranges
 pub mod BlockLaws
 pub mod Written
+mod Marking
 pub mod DcSpellings
 pub mod Spellings

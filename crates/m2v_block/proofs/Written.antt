@@ -1,9 +1,9 @@
 -- What is written, piece by piece.
-use Rattle.std.proofs.Common.{◌≡◌, ℕ, suc, ◌+◌, ◌-◌, ◌*◌, ◌^◌, ◌<◌, ◌≤◌, Bool, true, false, ◌&&◌, List, [], ◌∷◌, ◌++◌, length, drop, get_or, ℤ, pos, refl, sym, ap, ◌∙◌, append_assoc, arith, inl, inr}
+use Rattle.std.proofs.Common.{◌≡◌, ℕ, zero, suc, ◌+◌, ◌*◌, ◌^◌, ◌<◌, ◌≤◌, Bool, true, false, ◌&&◌, List, [], ◌∷◌, ◌++◌, length, drop, get_or, ℤ, pos, refl, sym, ap, ◌∙◌, append_assoc, arith, inl, inr}
 use Rattle.std.specs.Prelude.{nat_eq, cond, ◌-ℤ◌, unsigned_abs}
 use Rattle.std.proofs.Math.Seq.{drop-cons}
 use Rattle.std.proofs.lemmas.Bool.{cases_Bool, eq-eqb, ne_eqb}
-use Rattle.std.proofs.lemmas.List.{length-append, length-drop, drop_all, get_or-drop}
+use Rattle.std.proofs.lemmas.List.{length-append, length-drop, get_or-drop}
 use Rattle.m2v_bits.specs.Bits.{bits_of}
 use Rattle.m2v_bits.proofs.Bits.{length-bits_of}
 use Rattle.m2v_bits.proofs.Cursor.{bits_of-join}
@@ -71,17 +71,6 @@ pair_most first one run level = elim (cases_Bool (nat_eq (length (code_text firs
   | inl none ↦ rw none (omega (arith, escape_is first one run level))
   | inr some ↦ rw some (omega (arith, code_most first one (Pair run level)))
 ]
-
--- a level of 0 has no bits
-pub level_none : (first one : Bool) (run n : ℕ) (level : ℤ) → n ≡ unsigned_abs level → n ≡ 0 → bits_of 0 0 ≡ level_text first one run level
-unfolding level_text bits_of
-level_none first one run n level e none =
-    let test : is_zero level ≡ true = eq-eqb (unsigned_abs level) 0 (sym e ∙ none) in
-    rw test refl
-
-pub no_text : (text : List Bool) (n x : ℕ) → bits_of n x ≡ text → n ≡ 0 → [] ≡ text
-unfolding bits_of
-no_text text n x e none = sym (ap (λ (k : ℕ). bits_of k x) none) ∙ e
 
 pub level_most : (first one : Bool) (run : ℕ) (level : ℤ) → length (level_text first one run level) ≤ 24
 unfolding level_text
@@ -159,14 +148,34 @@ next_zero first one run levels i n level lt e is none =
     next_level_is first first one run (run + 1) levels i level lt e (and_zero first (is_zero level) test) after
     ∙ ap (λ (t : List Bool). t ++ pairs_text first one (run + 1) (drop (i + 1) levels)) text
 
--- one level more, which isn't
-pub next_some : (first one : Bool) (run : ℕ) (levels : List ℤ) (i n : ℕ) (level : ℤ) → i < length levels → level ≡ get_or levels i (pos 0) → n ≡ unsigned_abs level → (n ≡ 0 → ⊥)
-    → pairs_text first one run (drop i levels) ≡ level_text first one run level ++ pairs_text false one 0 (drop (i + 1) levels)
-unfolding run_after
-next_some first one run levels i n level lt e is some =
-    let test : is_zero level ≡ false = ne_eqb (unsigned_abs level) 0 (λ z. some (is ∙ z)) in
-    let after : 0 ≡ run_after run level = rw test refl in
-    next_level_is first false one run 0 levels i level lt e (and_none first (is_zero level) test) after
+-- levels that are 0 lengthen the run
+pass_zeros : (first one : Bool) (run : ℕ) (levels : List ℤ) (i d : ℕ) → i + d ≤ length levels → ((j : ℕ) → j < d → get_or levels (i + j) (pos 0) ≡ pos 0)
+    → pairs_text first one run (drop i levels) ≡ pairs_text first one (run + d) (drop (i + d) levels)
+pass_zeros first one run levels i zero le z =
+    let a : run ≡ run + 0 = omega arith in
+    let b : i ≡ i + 0 = omega arith in
+    λ k. pairs_text first one (a k) (drop (b k) levels)
+pass_zeros first one run levels i (suc d) le z =
+    let a : run + d + 1 ≡ run + suc d = omega arith in
+    let b : i + d + 1 ≡ i + suc d = omega arith in
+    pass_zeros first one run levels i d (omega arith) (λ j lt. z j (omega arith))
+    ∙ next_zero first one (run + d) levels (i + d) 0 (get_or levels (i + d) (pos 0)) (omega arith) refl (sym (ap unsigned_abs (z d (omega arith)))) refl
+    ∙ (λ k. pairs_text first one (a k) (drop (b k) levels))
+
+-- a run of zeros and a level that isn't
+pub next_pair : (first one : Bool) (levels : List ℤ) (i d : ℕ) (level : ℤ) → i + d < length levels → ((j : ℕ) → j < d → get_or levels (i + j) (pos 0) ≡ pos 0)
+    → level ≡ get_or levels (i + d) (pos 0) → is_zero (get_or levels (i + d) (pos 0)) ≡ false
+    → pairs_text first one 0 (drop i levels) ≡ pair_text first one d level ++ pairs_text false one 0 (drop (i + d + 1) levels)
+unfolding level_text run_after
+next_pair first one levels i d level lt z e some =
+    let test : is_zero level ≡ false = ap is_zero e ∙ some in
+    let text : level_text first one d level ≡ pair_text first one d level = rw test refl in
+    let after : 0 ≡ run_after d level = rw test refl in
+    let run : 0 + d ≡ d = omega arith in
+    pass_zeros first one 0 levels i d (omega arith) z
+    ∙ ap (λ (r : ℕ). pairs_text first one r (drop (i + d) levels)) run
+    ∙ next_level_is first false one d 0 levels (i + d) level lt e (and_none first (is_zero level) test) after
+    ∙ ap (λ (t : List Bool). t ++ pairs_text false one 0 (drop (i + d + 1) levels)) text
 
 -- levels that are all 0 have no bits but the end
 pub zeros_text : (first one : Bool) (run : ℕ) (levels : List ℤ) → ((k : ℕ) → k < length levels → get_or levels k (pos 0) ≡ pos 0)
@@ -181,9 +190,3 @@ pub at_zeros : (first one : Bool) (run : ℕ) (levels : List ℤ) (i : ℕ) → 
     → pairs_text first one run (drop i levels) ≡ code_text false one End
 at_zeros first one run levels i z =
     zeros_text first one run (drop i levels) (λ k lt. get_or-drop i levels k (pos 0) ∙ z (i + k) (omega arith) (omega (arith, length-drop i levels, lt)))
-
--- a level behind the groups that hold all others
-pub behind_groups : (levels : List ℤ) (n k : ℕ) → ((j : ℕ) → j < 64 - 8 * n → get_or levels (8 * n + j) (pos 0) ≡ pos 0) → 8 * n ≤ k → k < 64 → get_or levels k (pos 0) ≡ pos 0
-behind_groups levels n k z le lt =
-    let place : k ≡ 8 * n + (k - 8 * n) = omega arith in
-    ap (λ (i : ℕ). get_or levels i (pos 0)) place ∙ z (k - 8 * n) (omega arith)

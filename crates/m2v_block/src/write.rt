@@ -1,16 +1,18 @@
-ghost use Rattle.std.specs.Prelude.{◌≡◌, ◌+◌, ◌^◌, ◌<◌, ◌≤◌, ◌++◌, ◌&&◌, nat_eq, Bool, true, false, length, drop, slice_index_or, All, ℤ, pos, unsigned_abs};
+ghost use Rattle.std.specs.Prelude.{◌≡◌, ℕ, ◌+◌, ◌^◌, ◌<◌, ◌≤◌, ◌++◌, Bool, true, false, length, drop, slice_index_or, All, ℤ, pos};
 ghost use Rattle.m2v_bits.specs.Syntax.{Spells};
 ghost use Rattle.m2v_bits.specs.Outputs.{Gains};
 ghost use Rattle.m2v_vlc.specs.Lookups.{spelled};
 ghost use Rattle.m2v_quant.specs.Kinds.{IsKind, IsLevel};
 ghost use Rattle.m2v_block.specs.Dc.{dc_text};
 ghost use Rattle.m2v_block.specs.Blocks.{IsDc, block_at, predictor_after};
-ghost use Rattle.m2v_block.specs.Texts.{IsBlock, code_text, twelve, escape_text, pair_text, level_text, pairs_text, block_text};
+ghost use Rattle.m2v_block.specs.Texts.{IsBlock, code_text, twelve, escape_text, pair_text, is_zero, pairs_text, block_text};
+ghost use Rattle.m2v_block.specs.Marked.{AreMarked};
 
 use crate::dc::put_dc;
 use m2v_bits::{BitCount, BitOutput, BitWriter};
-use m2v_quant::{BlockKind, Levels, groups};
+use m2v_quant::{BlockKind, Levels};
 use m2v_vlc::{Code, Coefficient, code_coefficient_one, code_coefficient_zero, code_first_zero};
+use std::simd::prelude::*;
 
 /// The code by the table that holds there, of no bits where it has none.
 #[inline(always)]
@@ -98,39 +100,70 @@ fn pair_code(first: bool, one: bool, run: u8, level: i32) -> Code
     code
 }
 
-/// The code of a level behind a run of zeros, of no bits where it is 0 too.
-#[inline(always)]
-#[tactic(auto, unfolding(crate::specs::Texts::level_text))]
-fn level_code(first: bool, one: bool, run: u8, level: i32) -> Code
-    requires run { run < 64 }
-    requires level { IsLevel level }
-    ensures spelled { spelled result ≡ level_text first one run level }
-    ensures width { result.len ≤ 24 }
-    ensures fits { result.number < 2 ^ result.len }
-{
-    if level.unsigned_abs() == 0 {
-        return Code { number: 0, len: 0 };
-    }
-    pair_code(first, one, run, level)
-}
-
-/// Appends a level behind a run of zeros, where it is not 0.
+/// Appends a level that isn't 0 behind a run of zeros.
 #[inline(always)]
 #[tactic(auto, using(m2v_bits::proofs::Cursor::lengths))]
-fn put_level<O: BitOutput>(first: bool, one: bool, run: u8, level: i32, out: &mut O)
+fn put_pair<O: BitOutput>(first: bool, one: bool, run: u8, level: i32, out: &mut O)
     requires run { run < 64 }
     requires level { IsLevel level }
-    requires room { length (level_text first one run level) ≤ O.space out.old }
-    ensures { Gains O.took O.space out.old (level_text first one run level) out.new }
+    requires room { length (pair_text first one run level) ≤ O.space out.old }
+    ensures { Gains O.took O.space out.old (pair_text first one run level) out.new }
 {
-    let code = level_code(first, one, run, level);
-    if code.len != 0 {
-        out.append(code.number, code.len);
-    }
+    let code = pair_code(first, one, run, level);
+    out.append(code.number, code.len);
 }
 
-/// Appends the levels from a place of the scan on, and the end of the block.
-#[inline]
+/// One bit a level, the lowest bit for the first one: 1 where the level isn't 0.
+#[inline(always)]
+fn marks(levels: &Levels) -> u64
+    requires { All IsLevel levels.now.at }
+    ensures { AreMarked levels.now.at 0 result }
+{
+    i32x64::from_slice(&levels.at)
+        .simd_ne(i32x64::splat(0))
+        .to_bitmask()
+}
+
+/// The same from a place of the scan on.
+#[inline(always)]
+fn marks_from(levels: &Levels, from: u8) -> u64
+    requires from { from ≤ 64 }
+    requires levels { All IsLevel levels.now.at }
+    ensures { AreMarked levels.now.at from result }
+{
+    let _levels = &levels.at;
+    if from == 64 {
+        return 0;
+    }
+    marks(levels) >> from
+}
+
+/// How many levels from this place on are 0, before one that isn't.
+#[inline(always)]
+fn run_at(levels: &Levels, at: u8, rest: u64) -> u8
+    requires some { 0 < rest }
+    requires marks { AreMarked levels.now.at at rest }
+    ensures within { at + result < 64 }
+    ensures zeros { (j : ℕ) → j < result → slice_index_or levels.now.at (at + j) (pos 0) ≡ pos 0 }
+    ensures some { is_zero (slice_index_or levels.now.at (at + result) (pos 0)) ≡ false }
+{
+    let _levels = &levels.at;
+    rest.trailing_zeros() as u8
+}
+
+/// The marks of what stands behind a run and its level.
+#[inline(always)]
+fn marks_behind(_levels: &Levels, _at: u8, rest: u64, run: u8) -> u64
+    requires run { run < 64 }
+    requires marks { AreMarked _levels.now.at _at rest }
+    ensures { AreMarked _levels.now.at (_at + run + 1) result }
+{
+    (rest >> run) >> 1
+}
+
+/// Appends the levels from a place of the scan on, and the end of the block. Most levels are 0: by lanes it is found which
+/// aren't.
+#[inline(always)]
 fn put_pairs<O: BitOutput>(levels: &Levels, from: u8, first: bool, one: bool, out: &mut O)
     requires from { from ≤ 64 }
     requires levels { All IsLevel levels.now.at }
@@ -139,18 +172,14 @@ fn put_pairs<O: BitOutput>(levels: &Levels, from: u8, first: bool, one: bool, ou
         out.new }
 {
     let mut none = first;
-    let mut run = 0u8;
-    let end = 8 * groups(levels);
-    for i in from..end {
-        let level = levels.at[i as usize];
-        // most levels are 0, and lengthen the run alone
-        if level.unsigned_abs() == 0 {
-            run += 1;
-            continue;
-        }
-        put_level(none, one, run, level, out);
+    let mut at = from;
+    let mut rest = marks_from(levels, from);
+    while rest != 0 {
+        let run = run_at(levels, at, rest);
+        put_pair(none, one, run, levels.at[(at + run) as usize], out);
         none = false;
-        run = 0;
+        rest = marks_behind(levels, at, rest, run);
+        at = at + run + 1;
     }
     put_code(false, one, Coefficient::End, out);
 }

@@ -2,3 +2,4 @@ pub mod Tables
 pub mod Reconstruction
 pub mod Scanned
 mod Zeros
+mod Placed

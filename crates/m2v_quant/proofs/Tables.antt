@@ -26,7 +26,7 @@ same_scales = refl
 pub entry_passes : (p : ℕ → Bool) (xs : List ℕ) (i : ℕ) → list_all p xs ≡ true → i < length xs → p (get_or xs i 0) ≡ true
 entry_passes p xs i all lt = elim (cases_Bool (p (get_or xs i 0))) [ inl is ↦ is | inr not ↦ absurd (both_ways _ (list_all_at p xs i 0 lt not) all) ]
 
-abbrev place_test : ℕ → Bool
+abbrev pub place_test : ℕ → Bool
 place_test x = nat_lt x 64
 
 pub zigzag_place : (b : Bool) (i r : ℕ) → b ≡ false → i < 64 → r ≡ slice_index ZIGZAG i → r ≡ slice_index (scan_order b) i

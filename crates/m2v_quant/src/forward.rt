@@ -1,12 +1,12 @@
-ghost use Rattle.std.specs.Prelude.{◌≡◌, ◌+◌, ◌*◌, ◌/◌, ◌<◌, ◌≤◌, cond, min, slice_index, slice_index_or, All, ℤ, pos, neg_ℤ, ◌≤ℤ◌, ◌+ℤ◌};
+ghost use Rattle.std.specs.Prelude.{◌≡◌, ◌+◌, ◌*◌, ◌/◌, ◌<◌, ◌≤◌, cond, min, slice_index, slice_index_or, replicate, ℕ, IsTrue, true, false, All, ℤ, pos, neg_ℤ, ◌≤ℤ◌, ◌+ℤ◌};
 ghost use Rattle.std.specs.Int.{int_shr, int_max, int_min};
 ghost use Rattle.m2v_quant.specs.Kinds.{IsKind, IsLevel, IsTransformed};
-ghost use Rattle.m2v_quant.specs.Marks.{AreMarks};
-ghost use Rattle.m2v_quant.specs.Quantiser.{dc_level, with_sign, ac_level, level_at, levels_of};
+ghost use Rattle.m2v_quant.specs.Marks.{level_of_place, AreMarks, ArePlaced};
+ghost use Rattle.m2v_quant.specs.Quantiser.{dc_level, with_sign, ac_level, levels_of};
 
 use crate::inverse::step;
 use crate::kind::{BlockKind, Levels};
-use crate::scans::scan;
+use crate::positions::position;
 
 /// An eighth, to the nearest.
 #[inline(always)]
@@ -111,51 +111,192 @@ fn mark(intra: bool, step: u32, f: i32) -> u32
     }
 }
 
-/// Marks the raster places at which a level other than 0 may stand: 0 where none does.
+/// Marks the raster places at which a level other than 0 may stand, as if none were an intra DC: 0 where none does.
 #[inline(always)]
-fn mark_all(f: &[i32; 64], kind: &BlockKind, marks: &mut [u32; 64])
+fn mark_all(f: &[i32; 64], kind: &BlockKind, intra: bool, marks: &mut [u32; 64])
     requires kind { IsKind kind.now }
+    requires intra { kind.now.intra ≡ intra }
     requires coefficients { All IsTransformed f.now }
     ensures { AreMarks f.now kind.now marks.new }
 {
     for p in 0..64u8 {
-        marks[p as usize] = mark(kind.intra, step(kind, p), f[p as usize]);
+        marks[p as usize] = mark(intra, step(kind, p), f[p as usize]);
     }
 }
 
-/// The level of a position of the scan that is no intra DC.
+/// The level of a raster place that is no intra DC.
 #[inline(always)]
-fn marked_level(f: &[i32; 64], kind: &BlockKind, place: u8, marks: &[u32; 64]) -> i32
+fn place_level(f: &[i32; 64], kind: &BlockKind, intra: bool, place: u8) -> i32
     requires kind { IsKind kind.now }
+    requires intra { kind.now.intra ≡ intra }
+    requires coefficients { All IsTransformed f.now }
+    requires place { place < 64 }
+    ensures value { result ≡ level_of_place f.now kind.now place }
+    ensures within { IsLevel result }
+{
+    ac_level(intra, step(kind, place), f[place as usize])
+}
+
+/// The level of one raster place more. Whether the block is intra and goes by the alternate scan is the kind's, once more,
+/// so that neither is asked at each place.
+#[inline(always)]
+fn put_place(
+    f: &[i32; 64],
+    kind: &BlockKind,
+    intra: bool,
+    alternate: bool,
+    place: u8,
+    marks: &[u32; 64],
+    levels: &mut [i32; 64],
+)
+    requires kind { IsKind kind.now }
+    requires intra { kind.now.intra ≡ intra }
+    requires alternate { kind.now.alternate ≡ alternate }
     requires coefficients { All IsTransformed f.now }
     requires place { place < 64 }
     requires marks { AreMarks f.now kind.now marks.now }
-    ensures value { result
-        ≡ ac_level kind.now.intra (slice_index kind.now.matrix place * kind.now.scale)
-        (slice_index_or f.now place (pos 0)) }
-    ensures within { IsLevel result }
+    requires before { ArePlaced place f.now kind.now levels.old }
+    ensures { ArePlaced (place + 1) f.now kind.now levels.new }
 {
     if marks[place as usize] == 0 {
-        return 0;
+        return;
     }
-    ac_level(kind.intra, step(kind, place), f[place as usize])
+    levels[position(alternate, place) as usize] = place_level(f, kind, intra, place);
 }
 
-/// The level of a position of the scan.
+/// Whether eight marks are 0, from one on.
 #[inline(always)]
-#[tactic(auto, unfolding(crate::specs::Quantiser::level_at))]
-fn level(f: &[i32; 64], kind: &BlockKind, i: u8, marks: &[u32; 64]) -> i32
-    requires kind { IsKind kind.now }
-    requires coefficients { All IsTransformed f.now }
-    requires position { i < 64 }
-    requires marks { AreMarks f.now kind.now marks.now }
-    ensures value { result ≡ level_at f.now kind.now i }
-    ensures within { IsLevel result }
+fn is_unmarked(marks: &[u32; 64], from: u8) -> bool
+    requires { from ≤ 56 }
+    ensures { IsTrue result → (j : ℕ) → j < 8 → slice_index marks.now (from + j) ≡ 0 }
 {
-    if kind.intra && i == 0 {
-        return dc_level(f[0]);
+    let mut bits = 0;
+    for j in 0..8u8 {
+        bits |= marks[(from + j) as usize];
     }
-    marked_level(f, kind, scan(kind.alternate, i), marks)
+    bits == 0
+}
+
+/// The levels of four raster places more.
+#[inline(always)]
+fn put_four(
+    f: &[i32; 64],
+    kind: &BlockKind,
+    intra: bool,
+    alternate: bool,
+    from: u8,
+    marks: &[u32; 64],
+    levels: &mut [i32; 64],
+)
+    requires kind { IsKind kind.now }
+    requires intra { kind.now.intra ≡ intra }
+    requires alternate { kind.now.alternate ≡ alternate }
+    requires coefficients { All IsTransformed f.now }
+    requires from { from ≤ 60 }
+    requires marks { AreMarks f.now kind.now marks.now }
+    requires before { ArePlaced from f.now kind.now levels.old }
+    ensures { ArePlaced (from + 4) f.now kind.now levels.new }
+{
+    put_place(f, kind, intra, alternate, from, marks, levels);
+    put_place(f, kind, intra, alternate, from + 1, marks, levels);
+    put_place(f, kind, intra, alternate, from + 2, marks, levels);
+    put_place(f, kind, intra, alternate, from + 3, marks, levels);
+}
+
+/// The levels of one row of the block more.
+#[inline(always)]
+fn put_row(
+    f: &[i32; 64],
+    kind: &BlockKind,
+    intra: bool,
+    alternate: bool,
+    from: u8,
+    marks: &[u32; 64],
+    levels: &mut [i32; 64],
+)
+    requires kind { IsKind kind.now }
+    requires intra { kind.now.intra ≡ intra }
+    requires alternate { kind.now.alternate ≡ alternate }
+    requires coefficients { All IsTransformed f.now }
+    requires from { from ≤ 56 }
+    requires marks { AreMarks f.now kind.now marks.now }
+    requires before { ArePlaced from f.now kind.now levels.old }
+    ensures { ArePlaced (from + 8) f.now kind.now levels.new }
+{
+    if is_unmarked(marks, from) {
+        return;
+    }
+    put_four(f, kind, intra, alternate, from, marks, levels);
+    put_four(f, kind, intra, alternate, from + 4, marks, levels);
+}
+
+/// The levels of all rows, as if none were an intra DC.
+#[inline(always)]
+fn put_rows(
+    f: &[i32; 64],
+    kind: &BlockKind,
+    intra: bool,
+    alternate: bool,
+    marks: &[u32; 64],
+    levels: &mut [i32; 64],
+)
+    requires kind { IsKind kind.now }
+    requires intra { kind.now.intra ≡ intra }
+    requires alternate { kind.now.alternate ≡ alternate }
+    requires coefficients { All IsTransformed f.now }
+    requires marks { AreMarks f.now kind.now marks.now }
+    requires zeros { levels.old ≡ replicate 64 (pos 0) }
+    ensures { ArePlaced 64 f.now kind.now levels.new }
+{
+    for row in 0..8u8 {
+        put_row(f, kind, intra, alternate, 8 * row, marks, levels);
+    }
+}
+
+/// The same where nothing is marked yet, by the kind's scan.
+#[inline(always)]
+fn put_by_scan(f: &[i32; 64], kind: &BlockKind, intra: bool, levels: &mut [i32; 64])
+    requires kind { IsKind kind.now }
+    requires intra { kind.now.intra ≡ intra }
+    requires coefficients { All IsTransformed f.now }
+    requires zeros { levels.old ≡ replicate 64 (pos 0) }
+    ensures { ArePlaced 64 f.now kind.now levels.new }
+{
+    // most levels are 0: by lanes it is found which
+    let mut marks = [0; 64];
+    mark_all(f, kind, intra, &mut marks);
+    if kind.alternate {
+        put_rows(f, kind, intra, true, &marks, levels);
+    } else {
+        put_rows(f, kind, intra, false, &marks, levels);
+    }
+}
+
+/// The levels of an intra block, where all are 0 yet.
+#[inline(always)]
+fn put_intra(f: &[i32; 64], kind: &BlockKind, levels: &mut [i32; 64])
+    requires kind { IsKind kind.now }
+    requires intra { kind.now.intra ≡ true }
+    requires coefficients { All IsTransformed f.now }
+    requires zeros { levels.old ≡ replicate 64 (pos 0) }
+    ensures value { levels.new ≡ levels_of f.now kind.now }
+    ensures levels { All IsLevel levels.new }
+{
+    put_by_scan(f, kind, true, levels);
+    levels[0] = dc_level(f[0]);
+}
+
+/// The levels of any other block, where all are 0 yet.
+#[inline(always)]
+fn put_other(f: &[i32; 64], kind: &BlockKind, levels: &mut [i32; 64])
+    requires kind { IsKind kind.now }
+    requires intra { kind.now.intra ≡ false }
+    requires coefficients { All IsTransformed f.now }
+    requires zeros { levels.old ≡ replicate 64 (pos 0) }
+    ensures value { levels.new ≡ levels_of f.now kind.now }
+    ensures levels { All IsLevel levels.new }
+{
+    put_by_scan(f, kind, false, levels);
 }
 
 /// The 64 levels of a block in scan order, each from -2047 to 2047, of its coefficients in raster order, each from -4096
@@ -167,10 +308,10 @@ pub fn quantise(f: &[i32; 64], kind: &BlockKind, out: &mut Levels)
     ensures value { out.new.at ≡ levels_of f.now kind.now }
     ensures levels { All IsLevel out.new.at }
 {
-    // most levels are 0: by lanes it is found which
-    let mut marks = [0; 64];
-    mark_all(f, kind, &mut marks);
-    for i in 0..64u8 {
-        out.at[i as usize] = level(f, kind, i, &marks);
+    out.at = [0; 64];
+    if kind.intra {
+        put_intra(f, kind, &mut out.at);
+    } else {
+        put_other(f, kind, &mut out.at);
     }
 }

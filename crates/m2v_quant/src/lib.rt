@@ -6,6 +6,7 @@ mod forward;
 mod inverse;
 mod kind;
 mod matrices;
+mod positions;
 mod scans;
 
 pub use forward::{dc_level, quantise};

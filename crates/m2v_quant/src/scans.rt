@@ -23,7 +23,7 @@ static SCALES: [u8; 31] = [
 
 /// What a table holds at i.
 #[inline(always)]
-fn entry(table: &[u8], i: u8) -> u8
+pub fn entry(table: &[u8], i: u8) -> u8
     requires { i < length table.now }
     ensures { result ≡ slice_index table.now i }
 {
