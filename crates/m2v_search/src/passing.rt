@@ -4,10 +4,11 @@ ghost use Rattle.std.specs.Prelude.{ℕ, ◌≡◌, ◌+◌, ◌-◌, ◌*◌, �
 ghost use Rattle.std.specs.List.{range_with_len};
 ghost use Rattle.m2v_search.specs.Least.{better, least};
 ghost use Rattle.m2v_search.specs.Spots.{spot_sad, spots};
-ghost use Rattle.m2v_search.specs.Bounds.{cut, HasSmall, IsBound, AreParts, part_sum};
+ghost use Rattle.m2v_search.specs.Bounds.{cut};
 
 use crate::difference::spot_sad_until;
-use crate::parts::{Parts, block_parts, line_bounds, lowest, part_sums};
+use crate::parts::{block_parts, lowest};
+use crate::sliding::all_bounds;
 use crate::spot::{Best, Span, Spot};
 
 /// The best place so far, and below what another one must lie to be better: its difference and a limit, the lower of both.
@@ -73,7 +74,7 @@ fn passed_line(
     window: &[u8],
     y: u32,
     columns: Span,
-    bounds: &[u16; 32],
+    bounds: &[u16],
     limit: u32,
     best: Best,
 ) -> Best
@@ -82,10 +83,10 @@ fn passed_line(
     requires window { length window.now ≡ 2304 }
     requires y { y + count ≤ 48 }
     requires some { columns.first ≤ columns.end }
-    requires few { columns.end ≤ columns.first + 32 }
-    requires x { columns.end ≤ 33 }
+    requires x { columns.end ≤ 32 }
+    requires len { length bounds.now ≡ 32 }
     requires bounds { (x : ℕ) → columns.first ≤ x → x < columns.end
-        → slice_index bounds.now (x - columns.first) ≤ spot_sad block.now count window.now
+        → slice_index bounds.now x ≤ spot_sad block.now count window.now
         (record { y = 2 * y; x = 2 * x }) }
     requires known { best.sad ≡ spot_sad block.now count window.now best.spot }
     ensures spot { result.spot ≡ least (cut limit (spot_sad block.now count window.now)) best.spot
@@ -100,11 +101,23 @@ fn passed_line(
     }
     let mut so_far = SoFar { best, below };
     for x in columns.first..columns.end {
-        let bound = u32::from(bounds[(x - columns.first) as usize]);
+        let bound = u32::from(bounds[x as usize]);
         let spot = Spot { y: 2 * y, x: 2 * x };
         so_far = tried_below(block, count, window, so_far, spot, bound, limit);
     }
     so_far.best
+}
+
+/// The bounds of a line of the window.
+#[inline(always)]
+fn line_of(bounds: &[u16; 1024], y: u32) -> &[u16]
+    requires { y < 32 }
+    ensures len { length result.now ≡ 32 }
+    ensures value { (k : ℕ) → k < 32
+        → slice_index result.now k ≡ slice_index bounds.now (32 * y + k) }
+{
+    let from = 32 * y as usize;
+    &bounds[from..from + 32]
 }
 
 /// The best of a place and of those in some lines and columns, line by line and from left to right, as long as they lie
@@ -113,8 +126,7 @@ fn passed(
     block: &[u8],
     count: usize,
     window: &[u8],
-    sums: &[u16],
-    parts: &Parts,
+    bounds: &[u16; 1024],
     lines: Span,
     columns: Span,
     limit: u32,
@@ -123,15 +135,13 @@ fn passed(
     requires count { (count ≡ 8) ⊎ (count ≡ 16) }
     requires block { length block.now ≡ 16 * count }
     requires window { length window.now ≡ 2304 }
-    requires sums { length sums.now ≡ 2304 }
-    requires most { (i : ℕ) → slice_index sums.now i ≤ 16320 }
-    requires small { HasSmall parts.now }
-    requires bound { IsBound block.now count window.now (slice_index sums.now) parts.now }
+    requires bound { (y x : ℕ) → lines.first ≤ y → y < lines.end
+        → columns.first ≤ x → x < columns.end → slice_index bounds.now (32 * y + x)
+        ≤ spot_sad block.now count window.now (record { y = 2 * y; x = 2 * x }) }
     requires lines { lines.first ≤ lines.end }
     requires columns { columns.first ≤ columns.end }
-    requires few { columns.end ≤ columns.first + 32 }
-    requires y { lines.end + count ≤ 49 }
-    requires x { columns.end ≤ 33 }
+    requires y { lines.end ≤ 2 * count }
+    requires x { columns.end ≤ 32 }
     requires known { best.sad ≡ spot_sad block.now count window.now best.spot }
     ensures spot { result.spot ≡ least (cut limit (spot_sad block.now count window.now)) best.spot
         (spots 2 lines columns) }
@@ -139,61 +149,64 @@ fn passed(
 {
     let mut best = best;
     for y in lines.first..lines.end {
-        let bounds = line_bounds(sums, count, (48 * y + columns.first) as usize, parts);
-        best = passed_line(block, count, window, y, columns, &bounds, limit, best);
+        let line = line_of(bounds, y);
+        best = passed_line(block, count, window, y, columns, line, limit, best);
     }
     best
 }
 
-/// The place of the least of the first n bounds.
+/// The line of the lowest bound.
 #[inline(always)]
-fn least_bound(bounds: &[u16; 32], n: usize) -> usize
-    requires some { 1 ≤ n }
-    requires most { n ≤ 32 }
-    ensures { result < n }
+fn lowest_line(bounds: &[u16; 1024], lines: Span) -> u32
+    requires some { lines.first < lines.end }
+    requires end { lines.end ≤ 32 }
+    ensures top { lines.first ≤ result }
+    ensures bottom { result < lines.end }
 {
-    let mut at = 0;
-    for k in 1..n {
-        if bounds[k] < bounds[at] {
-            at = k;
+    let mut at = lines.first;
+    let mut least = u16::MAX;
+    for y in lines.first..lines.end {
+        let low = lowest(line_of(bounds, y));
+        if low < least {
+            least = low;
+            at = y;
         }
     }
     at
 }
 
-/// A place among some lines and columns: one of the least bound.
-fn likely(sums: &[u16], count: usize, parts: &Parts, lines: Span, columns: Span) -> Spot
-    requires count { (count ≡ 8) ⊎ (count ≡ 16) }
-    requires sums { length sums.now ≡ 2304 }
-    requires most { (i : ℕ) → slice_index sums.now i ≤ 16320 }
-    requires small { HasSmall parts.now }
+/// The column of the least bound of a line.
+#[inline(always)]
+fn least_column(bounds: &[u16], columns: Span) -> u32
+    requires len { length bounds.now ≡ 32 }
+    requires some { columns.first < columns.end }
+    requires end { columns.end ≤ 32 }
+    ensures left { columns.first ≤ result }
+    ensures right { result < columns.end }
+{
+    let mut at = columns.first;
+    for x in columns.first..columns.end {
+        if bounds[x as usize] < bounds[at as usize] {
+            at = x;
+        }
+    }
+    at
+}
+
+/// A place among some lines and columns: one of a low bound.
+fn likely(bounds: &[u16; 1024], lines: Span, columns: Span) -> Spot
     requires lines { lines.first < lines.end }
     requires columns { columns.first < columns.end }
-    requires few { columns.end ≤ columns.first + 32 }
-    requires y { lines.end + count ≤ 49 }
-    requires x { columns.end ≤ 33 }
+    requires y { lines.end ≤ 32 }
+    requires x { columns.end ≤ 32 }
     ensures top { lines.first ≤ result.y }
     ensures bottom { result.y < lines.end }
     ensures left { columns.first ≤ result.x }
     ensures right { result.x < columns.end }
 {
-    let mut spot = Spot {
-        y: lines.first,
-        x: columns.first,
-    };
-    let mut least = u16::MAX;
-    for y in lines.first..lines.end {
-        let bounds = line_bounds(sums, count, (48 * y + columns.first) as usize, parts);
-        if lowest(&bounds) < least {
-            let at = least_bound(&bounds, (columns.end - columns.first) as usize);
-            least = bounds[at];
-            spot = Spot {
-                y,
-                x: columns.first + at as u32,
-            };
-        }
-    }
-    spot
+    let y = lowest_line(bounds, lines);
+    let x = least_column(line_of(bounds, y), columns);
+    Spot { y, x }
 }
 
 /// A limit below which the best place lies, or which is the difference at the one that is known.
@@ -236,8 +249,7 @@ fn limit_for(
     block: &[u8],
     count: usize,
     window: &[u8],
-    sums: &[u16],
-    parts: &Parts,
+    bounds: &[u16; 1024],
     lines: Span,
     columns: Span,
     best: Best,
@@ -245,14 +257,10 @@ fn limit_for(
     requires count { (count ≡ 8) ⊎ (count ≡ 16) }
     requires block { length block.now ≡ 16 * count }
     requires window { length window.now ≡ 2304 }
-    requires sums { length sums.now ≡ 2304 }
-    requires most { (i : ℕ) → slice_index sums.now i ≤ 16320 }
-    requires small { HasSmall parts.now }
     requires lines { lines.first < lines.end }
     requires columns { columns.first < columns.end }
-    requires few { columns.end ≤ columns.first + 32 }
-    requires y { lines.end + count ≤ 49 }
-    requires x { columns.end ≤ 33 }
+    requires y { lines.end ≤ 2 * count }
+    requires x { columns.end ≤ 32 }
     requires known { best.sad ≡ spot_sad block.now count window.now best.spot }
     ensures enough { (spot_sad block.now count window.now best.spot ≤ result)
         ⊎ (spot_sad block.now count window.now
@@ -261,7 +269,7 @@ fn limit_for(
     if best.sad < NEAR * count as u32 {
         return best.sad;
     }
-    let place = likely(sums, count, parts, lines, columns);
+    let place = likely(bounds, lines, columns);
     limit_by(block, count, window, lines, columns, place, best)
 }
 
@@ -279,19 +287,16 @@ pub fn best_by_bounds(
     requires window { length window.now ≡ 2304 }
     requires lines { lines.first < lines.end }
     requires columns { columns.first < columns.end }
-    requires few { columns.end ≤ columns.first + 32 }
-    requires y { lines.end + count ≤ 49 }
-    requires x { columns.end ≤ 33 }
+    requires y { lines.end ≤ 2 * count }
+    requires x { columns.end ≤ 32 }
     requires known { best.sad ≡ spot_sad block.now count window.now best.spot }
     ensures spot { result.spot ≡ least (spot_sad block.now count window.now) best.spot
         (spots 2 lines columns) }
     ensures sad { result.sad ≡ spot_sad block.now count window.now result.spot }
 {
-    let mut sums = [0; 2304];
-    part_sums(window, 48, &mut sums);
     let parts = block_parts(block, count);
-    let limit = limit_for(block, count, window, &sums, &parts, lines, columns, best);
-    passed(
-        block, count, window, &sums, &parts, lines, columns, limit, best,
-    )
+    let mut bounds = [0; 1024];
+    all_bounds(window, count, lines, &parts, &mut bounds);
+    let limit = limit_for(block, count, window, &bounds, lines, columns, best);
+    passed(block, count, window, &bounds, lines, columns, limit, best)
 }
