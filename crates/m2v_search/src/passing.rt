@@ -1,6 +1,6 @@
 //! The search in whole samples. A place whose bound is no less than the best so far is passed over without a look at its
 //! samples, and the most likely place is looked at first, so that the best so far is low from the start.
-ghost use Rattle.std.specs.Prelude.{ℕ, ◌≡◌, ◌+◌, ◌-◌, ◌*◌, ◌≤◌, ◌<◌, ◌⊎◌, min, length, map, slice_index};
+ghost use Rattle.std.specs.Prelude.{ℕ, ◌≡◌, ◌+◌, ◌-◌, ◌*◌, ◌/◌, ◌≤◌, ◌<◌, ◌⊎◌, min, length, map, slice_index};
 ghost use Rattle.std.specs.List.{range_with_len};
 ghost use Rattle.m2v_search.specs.Least.{better, least};
 ghost use Rattle.m2v_search.specs.Spots.{spot_sad, spots};
@@ -65,8 +65,80 @@ fn lower(a: u32, b: u32) -> u32
     if a < b { a } else { b }
 }
 
+/// A number that is at most each of eight bounds.
+#[inline(always)]
+fn lowest_eight(bounds: &[u16], from: u32) -> u32
+    requires len { length bounds.now ≡ 32 }
+    requires fits { from + 8 ≤ 32 }
+    ensures least { (x : ℕ) → from ≤ x → x < from + 8 → result ≤ slice_index bounds.now x }
+{
+    let mut least = u16::MAX;
+    for x in from..from + 8 {
+        least = least.min(bounds[x as usize]);
+    }
+    u32::from(least)
+}
+
+/// The best so far and those in some columns of a line, as long as they lie below a limit. The columns are among eight that
+/// are passed over as a whole if no bound of them lies below the best so far.
+#[inline(always)]
+fn passed_eight(
+    block: &[u8],
+    count: usize,
+    window: &[u8],
+    y: u32,
+    columns: Span,
+    bounds: &[u16],
+    limit: u32,
+    so_far: SoFar,
+) -> SoFar
+    requires count { (count ≡ 8) ⊎ (count ≡ 16) }
+    requires block { length block.now ≡ 16 * count }
+    requires window { length window.now ≡ 2304 }
+    requires y { y + count ≤ 48 }
+    requires some { columns.first < columns.end }
+    requires x { columns.end ≤ 32 }
+    requires eight { columns.end ≤ columns.first / 8 * 8 + 8 }
+    requires len { length bounds.now ≡ 32 }
+    requires bounds { (x : ℕ) → columns.first ≤ x → x < columns.end
+        → slice_index bounds.now x ≤ spot_sad block.now count window.now
+        (record { y = 2 * y; x = 2 * x }) }
+    requires known { so_far.best.sad ≡ spot_sad block.now count window.now so_far.best.spot }
+    requires below { so_far.below ≡ min so_far.best.sad limit }
+    ensures spot { result.best.spot
+        ≡ least (cut limit (spot_sad block.now count window.now)) so_far.best.spot
+        (map (λ x. record { y = 2 * y; x = 2 * x })
+        (range_with_len columns.first (columns.end - columns.first))) }
+    ensures sad { result.best.sad ≡ spot_sad block.now count window.now result.best.spot }
+    ensures below { result.below ≡ min result.best.sad limit }
+{
+    let least = lowest_eight(bounds, columns.first / 8 * 8);
+    if so_far.below <= least {
+        return so_far;
+    }
+    let mut so_far = so_far;
+    for x in columns.first..columns.end {
+        let bound = u32::from(bounds[x as usize]);
+        let spot = Spot { y: 2 * y, x: 2 * x };
+        so_far = tried_below(block, count, window, so_far, spot, bound, limit);
+    }
+    so_far
+}
+
+/// Where the eight columns end in which a column lies, or where all end.
+#[inline(always)]
+fn end_of_eight(x: u32, end: u32) -> u32
+    requires before { x < end }
+    requires few { end ≤ 32 }
+    ensures more { x < result }
+    ensures most { result ≤ end }
+    ensures eight { result ≤ x / 8 * 8 + 8 }
+{
+    (x / 8 * 8 + 8).min(end)
+}
+
 /// The best of a place and of those in some columns of a line, as long as they lie below a limit. The line is passed over as
-/// a whole if no bound of it lies below the best so far.
+/// a whole if no bound of it lies below the best so far, and else by eight columns.
 #[inline(always)]
 fn passed_line(
     block: &[u8],
@@ -100,10 +172,12 @@ fn passed_line(
         return best;
     }
     let mut so_far = SoFar { best, below };
-    for x in columns.first..columns.end {
-        let bound = u32::from(bounds[x as usize]);
-        let spot = Spot { y: 2 * y, x: 2 * x };
-        so_far = tried_below(block, count, window, so_far, spot, bound, limit);
+    let mut x = columns.first;
+    while x < columns.end {
+        let end = end_of_eight(x, columns.end);
+        let eight = Span { first: x, end };
+        so_far = passed_eight(block, count, window, y, eight, bounds, limit, so_far);
+        x = end;
     }
     so_far.best
 }

@@ -6,7 +6,7 @@ use Rattle.m2v_search.proofs.difference.half_sad_until.Goals as goal
 pub returns : goal.returns
 unfolding spot_sad
 returns c =
-    let e = ap (sad c.args.block.now) c.half_lines-lines.ensures.value in
+    let e = ap (sad c.args.block.now) c.half_lines.ensures.value in
     record {
       none = subst (λ (n : ℕ). IsNone c.sad16_until.result ↔ (c.args.limit ≤ n)) e c.sad16_until.ensures.none;
       some = subst (λ (n : ℕ). IfSome c.sad16_until.result (λ s. s ≡ n)) e c.sad16_until.ensures.some;
