@@ -4,7 +4,7 @@ ghost use Rattle.m2v_search.specs.Spots.{spot_sad};
 
 use crate::half::half_lines;
 use crate::spot::Spot;
-use m2v_kernel::{sad_at_until, sad16_until};
+use m2v_kernel::sad_at_until;
 
 /// The sum of differences at a place, or None where it is at least `limit`.
 #[inline(always)]
@@ -34,7 +34,7 @@ pub fn spot_sad_until(
 /// The same between samples.
 #[inline(never)]
 fn half_sad_until(block: &[u8], count: usize, window: &[u8], spot: Spot, limit: u32) -> Option<u32>
-    requires count { count ≤ 16 }
+    requires count { (count ≡ 8) ⊎ (count ≡ 16) }
     requires block { length block.now ≡ 16 * count }
     requires window { length window.now ≡ 2304 }
     requires y { spot.y + 2 * count ≤ 96 }
@@ -44,7 +44,7 @@ fn half_sad_until(block: &[u8], count: usize, window: &[u8], spot: Spot, limit: 
 {
     let mut lines = [0; 256];
     half_lines(window, count, spot, &mut lines);
-    sad16_until(block, &lines[..16 * count], limit)
+    sad_at_until(block, count, &lines, 0, 16, limit)
 }
 
 /// The sum of differences at whole samples.
