@@ -1,10 +1,10 @@
 //! The difference of a block at a place of the window.
-ghost use Rattle.std.specs.Prelude.{◌≡◌, ◌+◌, ◌*◌, ◌≤◌, ◌⊎◌, ◌↔◌, IsNone, IfSome, length};
+ghost use Rattle.std.specs.Prelude.{◌≡◌, ◌+◌, ◌*◌, ◌%◌, ◌≤◌, ◌⊎◌, ◌↔◌, IsNone, IfSome, length};
 ghost use Rattle.m2v_search.specs.Spots.{spot_sad};
 
 use crate::half::half_lines;
 use crate::spot::Spot;
-use m2v_kernel::{sad_at_until, sad16, sad16_until};
+use m2v_kernel::sad_at_until;
 
 /// The sum of differences at a place, or None where it is at least `limit`.
 #[inline(always)]
@@ -34,7 +34,7 @@ pub fn spot_sad_until(
 /// The same between samples.
 #[inline(never)]
 fn half_sad_until(block: &[u8], count: usize, window: &[u8], spot: Spot, limit: u32) -> Option<u32>
-    requires count { count ≤ 16 }
+    requires count { (count ≡ 8) ⊎ (count ≡ 16) }
     requires block { length block.now ≡ 16 * count }
     requires window { length window.now ≡ 2304 }
     requires y { spot.y + 2 * count ≤ 96 }
@@ -42,19 +42,25 @@ fn half_sad_until(block: &[u8], count: usize, window: &[u8], spot: Spot, limit: 
     ensures none { IsNone result ↔ (limit ≤ spot_sad block.now count window.now spot) }
     ensures some { IfSome result (λ s. s ≡ spot_sad block.now count window.now spot) }
 {
-    let lines = half_lines(window, count, spot);
-    sad16_until(block, &lines[..16 * count], limit)
+    let mut lines = [0; 256];
+    half_lines(window, count, spot, &mut lines);
+    sad_at_until(block, count, &lines, 0, 16, limit)
 }
 
-/// The sum of differences at a place.
+/// The sum of differences at whole samples.
 pub fn sad_of(block: &[u8], count: usize, window: &[u8], spot: Spot) -> u32
-    requires count { count ≤ 16 }
+    requires count { (count ≡ 8) ⊎ (count ≡ 16) }
     requires block { length block.now ≡ 16 * count }
     requires window { length window.now ≡ 2304 }
     requires y { spot.y + 2 * count ≤ 96 }
     requires x { spot.x ≤ 64 }
+    requires line { spot.y % 2 ≡ 0 }
+    requires column { spot.x % 2 ≡ 0 }
     ensures value { result ≡ spot_sad block.now count window.now spot }
 {
-    let lines = half_lines(window, count, spot);
-    sad16(block, &lines[..16 * count])
+    // no sum is as large as this limit
+    match spot_sad_until(block, count, window, spot, u32::MAX) {
+        Some(sad) => sad,
+        None => u32::MAX,
+    }
 }

@@ -10,6 +10,7 @@ mod laws;
 mod parts;
 mod passing;
 mod scan;
+mod sliding;
 mod spot;
 mod vector;
 mod window;

@@ -1,13 +1,14 @@
 //! The search in whole samples. A place whose bound is no less than the best so far is passed over without a look at its
 //! samples, and the most likely place is looked at first, so that the best so far is low from the start.
-ghost use Rattle.std.specs.Prelude.{ℕ, ◌≡◌, ◌+◌, ◌-◌, ◌*◌, ◌≤◌, ◌<◌, ◌⊎◌, min, length, map, slice_index};
+ghost use Rattle.std.specs.Prelude.{ℕ, ◌≡◌, ◌+◌, ◌-◌, ◌*◌, ◌/◌, ◌≤◌, ◌<◌, ◌⊎◌, min, length, map, slice_index};
 ghost use Rattle.std.specs.List.{range_with_len};
 ghost use Rattle.m2v_search.specs.Least.{better, least};
 ghost use Rattle.m2v_search.specs.Spots.{spot_sad, spots};
-ghost use Rattle.m2v_search.specs.Bounds.{cut, HasSmall, IsBound, AreParts, part_sum};
+ghost use Rattle.m2v_search.specs.Bounds.{cut};
 
 use crate::difference::spot_sad_until;
-use crate::parts::{Parts, block_parts, line_bounds, lowest, part_sums};
+use crate::parts::{block_parts, lowest};
+use crate::sliding::all_bounds;
 use crate::spot::{Best, Span, Spot};
 
 /// The best place so far, and below what another one must lie to be better: its difference and a limit, the lower of both.
@@ -64,8 +65,80 @@ fn lower(a: u32, b: u32) -> u32
     if a < b { a } else { b }
 }
 
+/// A number that is at most each of eight bounds.
+#[inline(always)]
+fn lowest_eight(bounds: &[u16], from: u32) -> u32
+    requires len { length bounds.now ≡ 32 }
+    requires fits { from + 8 ≤ 32 }
+    ensures least { (x : ℕ) → from ≤ x → x < from + 8 → result ≤ slice_index bounds.now x }
+{
+    let mut least = u16::MAX;
+    for x in from..from + 8 {
+        least = least.min(bounds[x as usize]);
+    }
+    u32::from(least)
+}
+
+/// The best so far and those in some columns of a line, as long as they lie below a limit. The columns are among eight that
+/// are passed over as a whole if no bound of them lies below the best so far.
+#[inline(always)]
+fn passed_eight(
+    block: &[u8],
+    count: usize,
+    window: &[u8],
+    y: u32,
+    columns: Span,
+    bounds: &[u16],
+    limit: u32,
+    so_far: SoFar,
+) -> SoFar
+    requires count { (count ≡ 8) ⊎ (count ≡ 16) }
+    requires block { length block.now ≡ 16 * count }
+    requires window { length window.now ≡ 2304 }
+    requires y { y + count ≤ 48 }
+    requires some { columns.first < columns.end }
+    requires x { columns.end ≤ 32 }
+    requires eight { columns.end ≤ columns.first / 8 * 8 + 8 }
+    requires len { length bounds.now ≡ 32 }
+    requires bounds { (x : ℕ) → columns.first ≤ x → x < columns.end
+        → slice_index bounds.now x ≤ spot_sad block.now count window.now
+        (record { y = 2 * y; x = 2 * x }) }
+    requires known { so_far.best.sad ≡ spot_sad block.now count window.now so_far.best.spot }
+    requires below { so_far.below ≡ min so_far.best.sad limit }
+    ensures spot { result.best.spot
+        ≡ least (cut limit (spot_sad block.now count window.now)) so_far.best.spot
+        (map (λ x. record { y = 2 * y; x = 2 * x })
+        (range_with_len columns.first (columns.end - columns.first))) }
+    ensures sad { result.best.sad ≡ spot_sad block.now count window.now result.best.spot }
+    ensures below { result.below ≡ min result.best.sad limit }
+{
+    let least = lowest_eight(bounds, columns.first / 8 * 8);
+    if so_far.below <= least {
+        return so_far;
+    }
+    let mut so_far = so_far;
+    for x in columns.first..columns.end {
+        let bound = u32::from(bounds[x as usize]);
+        let spot = Spot { y: 2 * y, x: 2 * x };
+        so_far = tried_below(block, count, window, so_far, spot, bound, limit);
+    }
+    so_far
+}
+
+/// Where the eight columns end in which a column lies, or where all end.
+#[inline(always)]
+fn end_of_eight(x: u32, end: u32) -> u32
+    requires before { x < end }
+    requires few { end ≤ 32 }
+    ensures more { x < result }
+    ensures most { result ≤ end }
+    ensures eight { result ≤ x / 8 * 8 + 8 }
+{
+    (x / 8 * 8 + 8).min(end)
+}
+
 /// The best of a place and of those in some columns of a line, as long as they lie below a limit. The line is passed over as
-/// a whole if no bound of it lies below the best so far.
+/// a whole if no bound of it lies below the best so far, and else by eight columns.
 #[inline(always)]
 fn passed_line(
     block: &[u8],
@@ -73,7 +146,7 @@ fn passed_line(
     window: &[u8],
     y: u32,
     columns: Span,
-    bounds: &[u16; 32],
+    bounds: &[u16],
     limit: u32,
     best: Best,
 ) -> Best
@@ -82,10 +155,10 @@ fn passed_line(
     requires window { length window.now ≡ 2304 }
     requires y { y + count ≤ 48 }
     requires some { columns.first ≤ columns.end }
-    requires few { columns.end ≤ columns.first + 32 }
-    requires x { columns.end ≤ 33 }
+    requires x { columns.end ≤ 32 }
+    requires len { length bounds.now ≡ 32 }
     requires bounds { (x : ℕ) → columns.first ≤ x → x < columns.end
-        → slice_index bounds.now (x - columns.first) ≤ spot_sad block.now count window.now
+        → slice_index bounds.now x ≤ spot_sad block.now count window.now
         (record { y = 2 * y; x = 2 * x }) }
     requires known { best.sad ≡ spot_sad block.now count window.now best.spot }
     ensures spot { result.spot ≡ least (cut limit (spot_sad block.now count window.now)) best.spot
@@ -99,12 +172,26 @@ fn passed_line(
         return best;
     }
     let mut so_far = SoFar { best, below };
-    for x in columns.first..columns.end {
-        let bound = u32::from(bounds[(x - columns.first) as usize]);
-        let spot = Spot { y: 2 * y, x: 2 * x };
-        so_far = tried_below(block, count, window, so_far, spot, bound, limit);
+    let mut x = columns.first;
+    while x < columns.end {
+        let end = end_of_eight(x, columns.end);
+        let eight = Span { first: x, end };
+        so_far = passed_eight(block, count, window, y, eight, bounds, limit, so_far);
+        x = end;
     }
     so_far.best
+}
+
+/// The bounds of a line of the window.
+#[inline(always)]
+fn line_of(bounds: &[u16; 1024], y: u32) -> &[u16]
+    requires { y < 32 }
+    ensures len { length result.now ≡ 32 }
+    ensures value { (k : ℕ) → k < 32
+        → slice_index result.now k ≡ slice_index bounds.now (32 * y + k) }
+{
+    let from = 32 * y as usize;
+    &bounds[from..from + 32]
 }
 
 /// The best of a place and of those in some lines and columns, line by line and from left to right, as long as they lie
@@ -113,8 +200,7 @@ fn passed(
     block: &[u8],
     count: usize,
     window: &[u8],
-    sums: &[u16],
-    parts: &Parts,
+    bounds: &[u16; 1024],
     lines: Span,
     columns: Span,
     limit: u32,
@@ -123,15 +209,13 @@ fn passed(
     requires count { (count ≡ 8) ⊎ (count ≡ 16) }
     requires block { length block.now ≡ 16 * count }
     requires window { length window.now ≡ 2304 }
-    requires sums { length sums.now ≡ 2304 }
-    requires most { (i : ℕ) → slice_index sums.now i ≤ 16320 }
-    requires small { HasSmall parts.now }
-    requires bound { IsBound block.now count window.now (slice_index sums.now) parts.now }
+    requires bound { (y x : ℕ) → lines.first ≤ y → y < lines.end
+        → columns.first ≤ x → x < columns.end → slice_index bounds.now (32 * y + x)
+        ≤ spot_sad block.now count window.now (record { y = 2 * y; x = 2 * x }) }
     requires lines { lines.first ≤ lines.end }
     requires columns { columns.first ≤ columns.end }
-    requires few { columns.end ≤ columns.first + 32 }
-    requires y { lines.end + count ≤ 49 }
-    requires x { columns.end ≤ 33 }
+    requires y { lines.end ≤ 2 * count }
+    requires x { columns.end ≤ 32 }
     requires known { best.sad ≡ spot_sad block.now count window.now best.spot }
     ensures spot { result.spot ≡ least (cut limit (spot_sad block.now count window.now)) best.spot
         (spots 2 lines columns) }
@@ -139,61 +223,64 @@ fn passed(
 {
     let mut best = best;
     for y in lines.first..lines.end {
-        let bounds = line_bounds(sums, count, (48 * y + columns.first) as usize, parts);
-        best = passed_line(block, count, window, y, columns, &bounds, limit, best);
+        let line = line_of(bounds, y);
+        best = passed_line(block, count, window, y, columns, line, limit, best);
     }
     best
 }
 
-/// The place of the least of the first n bounds.
+/// The line of the lowest bound.
 #[inline(always)]
-fn least_bound(bounds: &[u16; 32], n: usize) -> usize
-    requires some { 1 ≤ n }
-    requires most { n ≤ 32 }
-    ensures { result < n }
+fn lowest_line(bounds: &[u16; 1024], lines: Span) -> u32
+    requires some { lines.first < lines.end }
+    requires end { lines.end ≤ 32 }
+    ensures top { lines.first ≤ result }
+    ensures bottom { result < lines.end }
 {
-    let mut at = 0;
-    for k in 1..n {
-        if bounds[k] < bounds[at] {
-            at = k;
+    let mut at = lines.first;
+    let mut least = u16::MAX;
+    for y in lines.first..lines.end {
+        let low = lowest(line_of(bounds, y));
+        if low < least {
+            least = low;
+            at = y;
         }
     }
     at
 }
 
-/// A place among some lines and columns: one of the least bound.
-fn likely(sums: &[u16], count: usize, parts: &Parts, lines: Span, columns: Span) -> Spot
-    requires count { (count ≡ 8) ⊎ (count ≡ 16) }
-    requires sums { length sums.now ≡ 2304 }
-    requires most { (i : ℕ) → slice_index sums.now i ≤ 16320 }
-    requires small { HasSmall parts.now }
+/// The column of the least bound of a line.
+#[inline(always)]
+fn least_column(bounds: &[u16], columns: Span) -> u32
+    requires len { length bounds.now ≡ 32 }
+    requires some { columns.first < columns.end }
+    requires end { columns.end ≤ 32 }
+    ensures left { columns.first ≤ result }
+    ensures right { result < columns.end }
+{
+    let mut at = columns.first;
+    for x in columns.first..columns.end {
+        if bounds[x as usize] < bounds[at as usize] {
+            at = x;
+        }
+    }
+    at
+}
+
+/// A place among some lines and columns: one of a low bound.
+fn likely(bounds: &[u16; 1024], lines: Span, columns: Span) -> Spot
     requires lines { lines.first < lines.end }
     requires columns { columns.first < columns.end }
-    requires few { columns.end ≤ columns.first + 32 }
-    requires y { lines.end + count ≤ 49 }
-    requires x { columns.end ≤ 33 }
+    requires y { lines.end ≤ 32 }
+    requires x { columns.end ≤ 32 }
     ensures top { lines.first ≤ result.y }
     ensures bottom { result.y < lines.end }
     ensures left { columns.first ≤ result.x }
     ensures right { result.x < columns.end }
 {
-    let mut spot = Spot {
-        y: lines.first,
-        x: columns.first,
-    };
-    let mut least = u16::MAX;
-    for y in lines.first..lines.end {
-        let bounds = line_bounds(sums, count, (48 * y + columns.first) as usize, parts);
-        if lowest(&bounds) < least {
-            let at = least_bound(&bounds, (columns.end - columns.first) as usize);
-            least = bounds[at];
-            spot = Spot {
-                y,
-                x: columns.first + at as u32,
-            };
-        }
-    }
-    spot
+    let y = lowest_line(bounds, lines);
+    let x = least_column(line_of(bounds, y), columns);
+    Spot { y, x }
 }
 
 /// A limit below which the best place lies, or which is the difference at the one that is known.
@@ -236,8 +323,7 @@ fn limit_for(
     block: &[u8],
     count: usize,
     window: &[u8],
-    sums: &[u16],
-    parts: &Parts,
+    bounds: &[u16; 1024],
     lines: Span,
     columns: Span,
     best: Best,
@@ -245,14 +331,10 @@ fn limit_for(
     requires count { (count ≡ 8) ⊎ (count ≡ 16) }
     requires block { length block.now ≡ 16 * count }
     requires window { length window.now ≡ 2304 }
-    requires sums { length sums.now ≡ 2304 }
-    requires most { (i : ℕ) → slice_index sums.now i ≤ 16320 }
-    requires small { HasSmall parts.now }
     requires lines { lines.first < lines.end }
     requires columns { columns.first < columns.end }
-    requires few { columns.end ≤ columns.first + 32 }
-    requires y { lines.end + count ≤ 49 }
-    requires x { columns.end ≤ 33 }
+    requires y { lines.end ≤ 2 * count }
+    requires x { columns.end ≤ 32 }
     requires known { best.sad ≡ spot_sad block.now count window.now best.spot }
     ensures enough { (spot_sad block.now count window.now best.spot ≤ result)
         ⊎ (spot_sad block.now count window.now
@@ -261,7 +343,7 @@ fn limit_for(
     if best.sad < NEAR * count as u32 {
         return best.sad;
     }
-    let place = likely(sums, count, parts, lines, columns);
+    let place = likely(bounds, lines, columns);
     limit_by(block, count, window, lines, columns, place, best)
 }
 
@@ -279,19 +361,16 @@ pub fn best_by_bounds(
     requires window { length window.now ≡ 2304 }
     requires lines { lines.first < lines.end }
     requires columns { columns.first < columns.end }
-    requires few { columns.end ≤ columns.first + 32 }
-    requires y { lines.end + count ≤ 49 }
-    requires x { columns.end ≤ 33 }
+    requires y { lines.end ≤ 2 * count }
+    requires x { columns.end ≤ 32 }
     requires known { best.sad ≡ spot_sad block.now count window.now best.spot }
     ensures spot { result.spot ≡ least (spot_sad block.now count window.now) best.spot
         (spots 2 lines columns) }
     ensures sad { result.sad ≡ spot_sad block.now count window.now result.spot }
 {
-    let mut sums = [0; 2304];
-    part_sums(window, 48, &mut sums);
     let parts = block_parts(block, count);
-    let limit = limit_for(block, count, window, &sums, &parts, lines, columns, best);
-    passed(
-        block, count, window, &sums, &parts, lines, columns, limit, best,
-    )
+    let mut bounds = [0; 1024];
+    all_bounds(window, count, lines, &parts, &mut bounds);
+    let limit = limit_for(block, count, window, &bounds, lines, columns, best);
+    passed(block, count, window, &bounds, lines, columns, limit, best)
 }

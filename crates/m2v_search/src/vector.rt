@@ -68,7 +68,8 @@ pub fn best_vector<V: RefView>(
     let lines = block_lines(form, at.row);
     let area = area_of(dims, &lines, at.column);
     let own = own_lines(source, &lines);
-    let window = samples_around(view, &lines, at.column, area);
+    let mut window = [0; 2304];
+    samples_around(view, &lines, at.column, area, &mut window);
     let block = &own[..16 * lines.count as usize];
     let best = best_spot(
         block,

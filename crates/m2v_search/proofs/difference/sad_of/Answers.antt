@@ -1,8 +1,9 @@
-use Rattle.std.proofs.Common.{ap, ◌∙◌}
-use Rattle.m2v_kernel.specs.Sums.{sad}
-use Rattle.m2v_search.specs.Spots.{spot_sad}
+use Rattle.std.proofs.Common.{◌*◌, arith, refl}
+use Rattle.m2v_search.proofs.Bounded.{spot_most}
 use Rattle.m2v_search.proofs.difference.sad_of.Goals as goal
 
-pub returns : goal.returns
-unfolding spot_sad
-returns c = record { value = c.sad16.ensures.value ∙ ap (sad c.args.block.now) c.half_lines-lines.ensures.value }
+pub returns-in-None : goal.returns-in-None
+returns-in-None c =
+    let most = spot_most c.args.block.now c.args.window.now c.args.count (16 * c.args.count) c.args.spot c.requires.block refl
+    (λ i. omega (arith, c.type_inv.block i)) (λ i. omega (arith, c.type_inv.window i)) c.requires.line c.requires.column in
+    absurd (omega (arith, most, c.in-None.ensures.none.0 refl))

@@ -1,0 +1,10 @@
+use Rattle.std.proofs.Common.{◌≡◌, ℕ, ◌<◌, ◌+◌, ◌*◌, get_or}
+use Rattle.m2v_search.specs.Bounds.{column_sum, part_sum}
+use Rattle.m2v_search.proofs.Slides.{AreBegun}
+use Rattle.m2v_search.proofs.sliding.all_bounds.Given as goal
+
+abbrev pub invariant-loop-line : goal.invariant-loop-line
+invariant-loop-line l = record {
+  columns : (k : ℕ) → k < 48 → get_or l.columns k 0 ≡ column_sum 48 (λ i. get_or l.window i 0) (48 * l.line + k);
+  bounds : AreBegun (part_sum 48 (λ i. get_or l.window i 0)) l.parts l.first l.end l.lower l.line l.bounds;
+}
