@@ -235,6 +235,38 @@ fn pairs(input: &mut BitReader, one: bool, from: usize, out: &mut Levels) -> Res
     }
 }
 
+/// Reads the pairs behind the DC level of an intra block: which table holds is asked once.
+#[inline(always)]
+fn intra_pairs(input: &mut BitReader, one: bool, out: &mut Levels) -> Result<(), BlockFault>
+    requires levels { All IsLevel out.old.at }
+    ensures exact { GivesEnd result out.new.at input.new.rest
+        ((pairs_at one (record { filled = 1; levels = out.old.at })).read input.old.rest) }
+    ensures text { input.new.text ≡ input.old.text }
+    ensures levels { All IsLevel out.new.at }
+    ensures dc { slice_index_or out.new.at 0 (pos 0) ≡ slice_index_or out.old.at 0 (pos 0) }
+{
+    if one {
+        return pairs(input, true, 1, out);
+    }
+    pairs(input, false, 1, out)
+}
+
+/// Reads all pairs of a block that is not intra. The first of them goes by itself: none behind it can be the first.
+#[inline(always)]
+fn all_pairs(input: &mut BitReader, out: &mut Levels) -> Result<(), BlockFault>
+    requires levels { All IsLevel out.old.at }
+    ensures exact { GivesEnd result out.new.at input.new.rest
+        ((pairs_at false (record { filled = 0; levels = out.old.at })).read input.old.rest) }
+    ensures text { input.new.text ≡ input.old.text }
+    ensures levels { All IsLevel out.new.at }
+{
+    let (more, next) = pair(input, false, 0, out)?;
+    if !more {
+        return Ok(());
+    }
+    pairs(input, false, next, out)
+}
+
 /// The DC level of an intra block, and 0 for another.
 #[inline(always)]
 #[tactic(auto, unfolding(crate::specs::Blocks::first_at, m2v_bits::specs::Syntax::choose, m2v_bits::specs::Syntax::done))]
@@ -303,9 +335,9 @@ pub fn read_block(
     let dc = first(input, kind, *dc_pred)?;
     open(dc, out);
     if kind.intra {
-        pairs(input, table_one, 1, out)?;
+        intra_pairs(input, table_one, out)?;
         *dc_pred = dc;
         return Ok(());
     }
-    pairs(input, false, 0, out)
+    all_pairs(input, out)
 }

@@ -220,7 +220,3 @@ all_read levels kind out parity len out_len h =
 -- no bit is set in a number joined with another
 pub joined_zero : (a b : ℕ) → bit_or a b ≡ 0 → (a ≡ 0) × (b ≡ 0)
 joined_zero a b e = (omega (arith, e, le_or_l a b), omega (arith, e, le_or_r a b))
-
-pub size_zero : (z : ℤ) → unsigned_abs z ≡ 0 → z ≡ pos 0
-size_zero (pos n) e = ap pos e
-size_zero (negsuc n) e = absurd (omega arith)

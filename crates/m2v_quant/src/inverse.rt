@@ -185,7 +185,7 @@ fn is_empty(levels: &Levels, from: u8, count: u8) -> bool
 {
     let mut bits = 0;
     for j in 0..count {
-        bits |= levels.at[(from + j) as usize].unsigned_abs();
+        bits |= levels.at[(from + j) as usize].cast_unsigned();
     }
     bits == 0
 }

@@ -1,4 +1,5 @@
 ghost use Rattle.std.specs.Prelude.{◌≡◌, ◌+◌, ◌^◌, ◌<◌, ◌≤◌, ◌++◌, length, OnErr, IfOk};
+ghost use Rattle.m2v_bits.specs.Bits.{ahead, number};
 ghost use Rattle.m2v_bits.specs.Syntax.{Gives};
 ghost use Rattle.m2v_vlc.specs.Codes.{code_at};
 ghost use Rattle.m2v_vlc.specs.Coefficients.{coefficient_zero, coefficient_zero_code, coefficient_one, coefficient_one_code, IsCoefficient};
@@ -65,7 +66,20 @@ fn zero_at(input: &BitReader) -> u8
     let p = input.peek(17);
     if p >= 2048 {
         at(&ZERO_BY_9, (p >> 8) - 8)
-    } else if p >= 512 {
+    } else {
+        long_zero_at(input, p)
+    }
+}
+
+/// The same where five zero bits stand first.
+#[cold]
+#[inline(never)]
+fn long_zero_at(input: &BitReader, p: u32) -> u8
+    requires value { p ≡ number (ahead 17 input.now.rest) }
+    requires long { p < 2048 }
+    ensures { Points coefficient_zero result input.now.rest }
+{
+    if p >= 512 {
         at(&ZERO_BY_13, (p >> 4) - 32)
     } else {
         at(&ZERO_BY_17, p)
@@ -125,7 +139,20 @@ fn one_at(input: &BitReader) -> u8
     let p = input.peek(17);
     if p >= 2048 {
         at(&ONE_BY_9, (p >> 8) - 8)
-    } else if p >= 512 {
+    } else {
+        long_one_at(input, p)
+    }
+}
+
+/// The same where five zero bits stand first.
+#[cold]
+#[inline(never)]
+fn long_one_at(input: &BitReader, p: u32) -> u8
+    requires value { p ≡ number (ahead 17 input.now.rest) }
+    requires long { p < 2048 }
+    ensures { Points coefficient_one result input.now.rest }
+{
+    if p >= 512 {
         at(&ONE_BY_13, (p >> 4) - 32)
     } else {
         at(&ONE_BY_17, p)

@@ -57,7 +57,8 @@ pub fn read_row<V: Copy>(
     ensures same { OnErr result (input.new ≡ input.old) }
 {
     if (i as usize) < rows.len() {
-        let row = rows[i as usize];
+        // by place: a row that is copied whole is taken apart by shifts
+        let row = &rows[i as usize];
         if (row.2 as u64) <= input.left() {
             input.skip(row.2);
             return Ok(row.0);
