@@ -125,19 +125,21 @@ first_alone g h x lt =
 row_zero : (g : ℕ → ℤ) → ((k : ℕ) → k < 8 → g k ≡ pos 0) → (x : ℕ) → x < 8 → get_or (row g) x (pos 0) ≡ pos 0
 row_zero g h x lt = first_alone g (λ k _ l. h k l) x lt ∙ ap (λ z. pos 8 *ℤ z) (h 0 (omega arith))
 
+-- a row of zeros but for a 1 at its end
+pub row_last : (g : ℕ → ℤ) → ((k : ℕ) → k < 7 → g k ≡ pos 0) → g 7 ≡ pos 1 → row g ≡ pos 2 ∷ negsuc 5 ∷ pos 9 ∷ negsuc 10 ∷ pos 11 ∷ negsuc 8 ∷ pos 6 ∷ negsuc 1 ∷ []
+row_last g h one =
+    let e0 = h 0 (omega arith) in let e1 = h 1 (omega arith) in let e2 = h 2 (omega arith) in let e3 = h 3 (omega arith) in
+    let e4 = h 4 (omega arith) in let e5 = h 5 (omega arith) in let e6 = h 6 (omega arith) in
+    listed g ∙ ap (λ zs. row (λ k. get_or zs k (pos 0))) (λ i. e0 i ∷ e1 i ∷ e2 i ∷ e3 i ∷ e4 i ∷ e5 i ∷ e6 i ∷ one i ∷ []) ∙ last_row
+  where
+    listed : (f : ℕ → ℤ) → row f ≡ row (λ k. get_or (f 0 ∷ f 1 ∷ f 2 ∷ f 3 ∷ f 4 ∷ f 5 ∷ f 6 ∷ f 7 ∷ []) k (pos 0))
+    listed f = row_same f (λ k. get_or (f 0 ∷ f 1 ∷ f 2 ∷ f 3 ∷ f 4 ∷ f 5 ∷ f 6 ∷ f 7 ∷ []) k (pos 0)) (λ k l. sym (listed_at f k l))
+
 last_within : (g : ℕ → ℤ) → ((k : ℕ) → k < 7 → g k ≡ pos 0) → (g 7 ≡ pos 0) ⊎ (g 7 ≡ pos 1) → (x : ℕ) → x < 8 → Within 11 (get_or (row g) x (pos 0))
 last_within g h (inl none) x lt =
     subst (Within 11) (sym (row_zero g (λ k l. elim (cases_lt k 7) [ inl less ↦ h k less | inr more ↦ let e : k ≡ 7 = omega arith in ap g e ∙ none ]) x lt))
     (omega (arith, ints), omega (arith, ints))
-last_within g h (inr one) x lt =
-    let e0 = h 0 (omega arith) in let e1 = h 1 (omega arith) in let e2 = h 2 (omega arith) in let e3 = h 3 (omega arith) in
-    let e4 = h 4 (omega arith) in let e5 = h 5 (omega arith) in let e6 = h 6 (omega arith) in
-    let same : row g ≡ pos 2 ∷ negsuc 5 ∷ pos 9 ∷ negsuc 10 ∷ pos 11 ∷ negsuc 8 ∷ pos 6 ∷ negsuc 1 ∷ [] =
-    listed g ∙ ap (λ zs. row (λ k. get_or zs k (pos 0))) (λ i. e0 i ∷ e1 i ∷ e2 i ∷ e3 i ∷ e4 i ∷ e5 i ∷ e6 i ∷ one i ∷ []) ∙ last_row in
-    subst (λ zs. Within 11 (get_or zs x (pos 0))) (sym same) (last_small x (pos 0) lt)
-  where
-    listed : (f : ℕ → ℤ) → row f ≡ row (λ k. get_or (f 0 ∷ f 1 ∷ f 2 ∷ f 3 ∷ f 4 ∷ f 5 ∷ f 6 ∷ f 7 ∷ []) k (pos 0))
-    listed f = row_same f (λ k. get_or (f 0 ∷ f 1 ∷ f 2 ∷ f 3 ∷ f 4 ∷ f 5 ∷ f 6 ∷ f 7 ∷ []) k (pos 0)) (λ k l. sym (listed_at f k l))
+last_within g h (inr one) x lt = subst (λ zs. Within 11 (get_or zs x (pos 0))) (sym (row_last g h one)) (last_small x (pos 0) lt)
 
 pub mean_everywhere : (b : List ℤ) (q : ℤ) → ((k : ℕ) → 1 ≤ k → k < 63 → get_or b k (pos 0) ≡ pos 0)
     → (get_or b 63 (pos 0) ≡ pos 0) ⊎ (get_or b 63 (pos 0) ≡ pos 1) → IsFar (get_or b 0 (pos 0)) q
