@@ -1,0 +1,71 @@
+-- What is known of a picture's headers, and of the piece in which its slices stand.
+use Rattle.std.specs.Prelude.{◌≡◌, ℕ, ◌+◌, ◌-◌, ◌*◌, ◌<◌, ◌≤◌, Bool, true, false, nat_eq, if◌then◌else◌, List, [], ◌∷◌, ◌++◌, All, length, map, take, drop, replicate, vec_len, Option, Some, None}
+use Rattle.m2v_unit.specs.Texts.{units_in}
+use Rattle.m2v_model.specs.declared.fault.FaultKind.{FaultKind}
+use Rattle.m2v_model.specs.declared.fault.FaultKind.TheVariants.{FieldPair}
+use Rattle.m2v_model.specs.declared.setup.SliceSetup.{SliceSetup}
+use Rattle.m2v_model.specs.Units.{Units, unit_bits}
+use Rattle.m2v_model.specs.Streams.{value_of}
+use Rattle.m2v_piece.specs.declared.answer.Piece.{Piece}
+use Rattle.m2v_piece.specs.declared.answer.Fault.{Fault}
+use Rattle.m2v_piece.specs.Sound.{IsSoundPiece}
+use Rattle.m2v_picture.specs.Conditions.{IsSetup, rows_in}
+use Rattle.m2v_rows.specs.declared.opened.Opened.{Opened}
+use Rattle.m2v_rows.specs.declared.opened.SliceUnit.{SliceUnit}
+use Rattle.m2v_rows.specs.Rows.{Unread, Slices}
+
+abbrev pub setup_of : Opened → SliceSetup
+setup_of o = record { context = o.context; dims = o.dims; references = o.references }
+
+-- all bytes of a piece, the zero bytes that end it among them
+abbrev pub bytes_of : Piece → List ℕ
+bytes_of p = p.bytes.items ++ replicate (p.length - vec_len p.bytes) 0
+
+-- a slice as it stands in the piece
+abbrev pub unread : Piece → SliceUnit → Unread
+unread p u = record { row = u.row; unit = take u.length (drop (u.place - p.place) (bytes_of p)); end = u.place + u.length }
+
+abbrev pub slices_of : Piece → Opened → Slices
+slices_of p o = map (unread p) o.slices.items
+
+-- ---- where the picture ends
+
+-- the bits from the sequence end code on, or none
+unfoldable pub from_end_code : Units → ℕ
+from_end_code [] = 0
+from_end_code (u ∷ us) = if nat_eq (value_of u) 0xB7 then unit_bits (u ∷ us) else from_end_code us
+
+-- at the sequence end code, or else where the piece ends, in bits from the input's first byte
+abbrev pub closing : Piece → ℕ
+closing p = 8 * (p.place + p.length) - from_end_code (units_in (bytes_of p))
+
+-- a field that waits for its second is found at the end code, behind the rule that no macroblock is missing; any other
+-- fault is found before the picture ends
+abbrev pub is_found_closing : FaultKind → Bool
+is_found_closing FieldPair = true
+is_found_closing _ = false
+
+-- the place where the picture ends, where that is reached
+abbrev pub ending_by : Option Fault → ℕ → Option ℕ
+ending_by None end = Some end
+ending_by (Some f) end = if is_found_closing f.kind then Some end else None
+
+abbrev pub ending : Piece → Opened → Option ℕ
+ending p o = ending_by o.fault (closing p)
+
+-- ---- what is known
+
+-- a slice stands in the piece, its start code among the bytes that are kept
+pub record StandsIn (p : Piece) (u : SliceUnit) : Type 0 where
+  pub behind : p.place ≤ u.place
+  pub code : 4 ≤ u.length
+  pub kept : u.place - p.place + 4 ≤ vec_len p.bytes
+  pub end : u.place + u.length ≤ p.place + p.length
+
+-- what was read of the headers of a piece
+pub record IsOpened (p : Piece) (o : Opened) : Type 0 where
+  pub piece : IsSoundPiece p
+  pub setup : IsSetup (setup_of o)
+  pub rows : o.rows ≡ rows_in (setup_of o)
+  pub slices : All (StandsIn p) o.slices.items
+  pub in_rows : All (λ u. u.row < o.rows) o.slices.items

@@ -1,0 +1,11 @@
+//! The macroblock rows of a picture, each read by itself and in any order: what is read of a picture's headers, and the
+//! slices of one row, painted into that row.
+#![tactic(auto)]
+
+mod closing;
+mod opened;
+mod row;
+mod slice;
+
+pub use opened::{Opened, SliceUnit};
+pub use row::read_row;
