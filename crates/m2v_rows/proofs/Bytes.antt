@@ -1,9 +1,8 @@
 -- A part of a piece's bytes, of which zero bytes at the end aren't kept.
-use Rattle.std.proofs.Common.{◌≡◌, ℕ, ◌+◌, ◌-◌, ◌*◌, ◌≤◌, ◌<◌, List, [], ◌++◌, length, take, drop, replicate, arith, ap, sym, refl, ◌∙◌, subst, ◌⊎◌, inl, inr}
+use Rattle.std.proofs.Common.{◌≡◌, ℕ, ◌+◌, ◌-◌, ◌*◌, ◌≤◌, ◌<◌, List, ◌++◌, length, take, drop, replicate, arith, ap, sym, ◌∙◌, ◌⊎◌, inl, inr}
 use Rattle.std.proofs.Math.Seq.{take-append-add}
 use Rattle.std.proofs.lemmas.Bool.{cases_lt}
 use Rattle.std.proofs.lemmas.List.{append-nil, length-drop, length-take-le, take-append-le, drop-append-le, take_all, take-replicate}
-use Rattle.m2v_bits.specs.Bits.{bits}
 use Rattle.m2v_bits.proofs.Cursor.{length-bits}
 use Rattle.m2v_model.specs.Units.{body}
 use Rattle.m2v_unit.specs.Texts.{text_of}

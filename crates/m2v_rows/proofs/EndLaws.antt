@@ -1,5 +1,5 @@
 -- The bits of units from the sequence end code on.
-use Rattle.std.proofs.Common.{◌≡◌, ℕ, true, false, List, [], ◌∷◌, ap, sym, ◌∙◌, refl}
+use Rattle.std.proofs.Common.{◌≡◌, ℕ, List, [], ◌∷◌, ap, sym, ◌∙◌}
 use Rattle.std.specs.Prelude.{Bool, nat_eq, if◌then◌else◌}
 use Rattle.std.proofs.lemmas.Bool.{false_from_ne_true, eqb-true}
 use Rattle.m2v_model.specs.Units.{Units, unit_bits}

@@ -2,3 +2,5 @@ pub mod Bytes
 pub mod EndLaws
 pub mod OwnLaws
 pub mod WholeRow
+pub mod Starts
+pub mod ByRowLaws

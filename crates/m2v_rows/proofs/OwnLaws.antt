@@ -1,6 +1,6 @@
 -- Slices read and painted one behind another, and those of a row among the slices of a piece.
-use Rattle.std.proofs.Common.{◌≡◌, ℕ, ◌+◌, ◌*◌, ◌/◌, ◌^◌, ◌<◌, ◌≤◌, true, false, List, [], ◌∷◌, ◌++◌, length, take, drop, map, get_or, ap, sym, refl, ◌∙◌, arith, subst}
-use Rattle.std.specs.Prelude.{Bool, Option, Result, Ok, Err, nat_eq, nat_lt, cond}
+use Rattle.std.proofs.Common.{◌≡◌, ℕ, ◌+◌, ◌*◌, ◌/◌, ◌^◌, ◌<◌, ◌≤◌, true, false, List, [], ◌∷◌, ◌++◌, length, take, drop, map, get_or, ap, sym, refl, ◌∙◌, arith}
+use Rattle.std.specs.Prelude.{Bool, Option, Result, Ok, Err, nat_eq, cond}
 use Rattle.std.specs.Result.{result_err}
 use Rattle.std.specs.List.{filter}
 use Rattle.std.proofs.Math.Nat.{mul-le-mul}

@@ -1,12 +1,12 @@
 -- What is told of a row by what was read of its slices.
-use Rattle.std.proofs.Common.{◌≡◌, ℕ, ◌+◌, ◌*◌, true, false, List, [], ap, sym, refl, ◌∙◌, subst}
-use Rattle.std.specs.Prelude.{Bool, Option, Some, None, Result, Ok, Err, nat_eq, if◌then◌else◌}
+use Rattle.std.proofs.Common.{◌≡◌, ℕ, ◌+◌, true, false, List, [], ap, sym, ◌∙◌}
+use Rattle.std.specs.Prelude.{Bool, Option, Some, None, Ok, Err, nat_eq, if◌then◌else◌}
 use Rattle.std.proofs.lemmas.Bool.{eq-eqb, eqb-true, false_from_ne_true}
 use Rattle.m2v_plane.specs.Samples.{Samples}
 use Rattle.m2v_model.specs.declared.setup.SliceSetup.{SliceSetup}
 use Rattle.m2v_model.specs.Samples.{References, put_in_row}
 use Rattle.m2v_piece.specs.declared.answer.Fault.{Fault}
-use Rattle.m2v_rows.specs.Rows.{Slices, Placed, Begun, Read, first_of, below, row_read, missing, covering, row_fault, slices_painted}
+use Rattle.m2v_rows.specs.Rows.{Slices, Begun, Read, first_of, below, row_read, missing, covering, row_fault, slices_painted}
 use Rattle.m2v_rows.specs.Reads.{TellsOwn, TellsRow, as_placed}
 
 -- two readings of the same
@@ -43,8 +43,8 @@ pub told_missing : (s : SliceSetup) (refs : References) (row : ℕ) (us : Slices
 unfolding row_fault
 told_missing s refs row us end old mid now covered None t ne e = (
   ap (covering s row (below row us) end) t.1
-  ∙ covered_by s row (below row us) end t.0 covered false (false_from_ne_true (nat_eq covered (first_of s (row + 1))) (λ q. ne (eqb-true covered (first_of s (row + 1)) q)))
-  ∙ sym e,
+      ∙ covered_by s row (below row us) end t.0 covered false (false_from_ne_true (nat_eq covered (first_of s (row + 1))) (λ q. ne (eqb-true covered (first_of s (row + 1)) q)))
+      ∙ sym e,
   λ xs f. absurd (ne (same_read t.0 xs covered (first_of s (row + 1)) (row_read s row us) t.1 f).1),
 )
 told_missing s refs row us end old mid now covered (Some f) t ne e =

@@ -3,9 +3,11 @@
 #![tactic(auto)]
 
 mod closing;
+mod laws;
 mod opened;
 mod row;
 mod slice;
 
+pub use laws::law_by_rows;
 pub use opened::{Opened, SliceUnit};
 pub use row::read_row;

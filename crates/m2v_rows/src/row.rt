@@ -111,7 +111,17 @@ pub fn read_row<V: RefView>(
             if covered == (row + 1) * s.context.columns {
                 return None;
             }
-            missing(opened, piece, &s, row, covered, forward, backward, &mut scratch, out)
+            missing(
+                opened,
+                piece,
+                &s,
+                row,
+                covered,
+                forward,
+                backward,
+                &mut scratch,
+                out,
+            )
         }
     }
 }

@@ -83,7 +83,9 @@ pub fn paint<V: RefView>(
     ensures wide { IfOk result (λ end. IsWide s.now out.new) }
 {
     let mut bits = body_of(piece, u);
-    match read_slice(&mut bits, s, covered, u.row, forward, backward, scratch, out) {
+    match read_slice(
+        &mut bits, s, covered, u.row, forward, backward, scratch, out,
+    ) {
         Ok(end) => Ok(end.covered),
         Err(e) => Err(Fault {
             kind: e.kind,

@@ -1,4 +1,4 @@
-use Rattle.std.proofs.Common.{◌≡◌, ◌∙◌, sym}
+use Rattle.std.proofs.Common.{◌∙◌, sym}
 use Rattle.m2v_rows.proofs.EndLaws.{end_here, end_later, end_none}
 use Rattle.m2v_rows.proofs.closing.from_end_code.Goals as goal
 

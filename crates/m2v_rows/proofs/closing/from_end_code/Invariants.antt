@@ -1,4 +1,4 @@
-use Rattle.std.proofs.Common.{◌≡◌, ◌<◌, ◌^◌, length}
+use Rattle.std.proofs.Common.{◌≡◌, length}
 use Rattle.m2v_rows.specs.Opened.{from_end_code as from_end_code_of}
 use Rattle.m2v_rows.proofs.closing.from_end_code.Given as goal
 

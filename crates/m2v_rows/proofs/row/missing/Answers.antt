@@ -1,7 +1,6 @@
-use Rattle.std.proofs.Common.{◌≡◌, ℕ, ◌∙◌, List, [], ◌∷◌, Ok, Err, refl, ap, sym, arith, map, drop, ◌+◌}
-use Rattle.std.specs.Prelude.{Result, Option}
+use Rattle.std.proofs.Common.{◌∙◌, List, ap, sym, map, drop, ◌+◌}
 use Rattle.m2v_rows.specs.declared.opened.SliceUnit.{SliceUnit}
-use Rattle.m2v_rows.specs.Rows.{Unread, Slices, Placed, below, missing}
+use Rattle.m2v_rows.specs.Rows.{Slices, below, missing}
 use Rattle.m2v_rows.specs.Opened.{unread, ending}
 use Rattle.m2v_rows.proofs.OwnLaws.{below_found, error_told}
 use Rattle.m2v_rows.proofs.row.missing.Goals as goal

@@ -1,16 +1,13 @@
-use Rattle.std.proofs.Common.{◌≡◌, ℕ, ◌+◌, ◌*◌, ◌≤◌, ◌∙◌, List, [], ◌∷◌, ◌++◌, Ok, Err, refl, ap, sym, subst, arith, take, map, get_or}
+use Rattle.std.proofs.Common.{ℕ, ◌+◌, ◌*◌, ◌≤◌, ◌∙◌, List, [], ◌∷◌, ◌++◌, Ok, refl, ap, sym, subst, arith, map, get_or}
 use Rattle.std.proofs.lemmas.Result.{err_from_is_err_and}
-use Rattle.std.proofs.lemmas.List.{take_all}
 use Rattle.m2v_plane.specs.Samples.{Samples}
 use Rattle.m2v_model.specs.Samples.{put_in_row}
 use Rattle.m2v_picture.specs.Reads.{seen_by}
 use Rattle.m2v_rows.specs.declared.opened.SliceUnit.{SliceUnit}
-use Rattle.m2v_rows.specs.Rows.{Unread, Begun, Read, first_of, own, slices_read, begun_painted, slices_painted}
+use Rattle.m2v_rows.specs.Rows.{Begun, Read, first_of, own, slices_read, begun_painted, slices_painted}
 use Rattle.m2v_rows.specs.Reads.{IsWide}
 use Rattle.m2v_rows.specs.Opened.{unread}
 use Rattle.m2v_rows.proofs.OwnLaws.{own_more, own_fails, taken_read, painted_snoc}
-use Rattle.std.proofs.lemmas.Bool.{false_from_ne_true, eqb-true}
-use Rattle.std.specs.Prelude.{nat_eq}
 use Rattle.m2v_rows.proofs.row.read_own.Goals as goal
 use Rattle.m2v_rows.proofs.row.read_own.Goals.{then-u-row+in_ok-covered, else-u-row}
 
@@ -42,19 +39,19 @@ loop-u-preserved g c =
     let inv = c.loop-u.invariant in
     elim c.if-u-row.branch [
       | then-u-row+in_ok-covered w ↦
-        let t = w.in_ok-covered.ensures.exact in
-        let own_row = w.if-u-row.true in
-        let x : Begun = record { row = (f (get_or items i (record { row = 0; place = 0; length = 0 }))).row; before = c.loop-u.covered; slice = t.0 } in
-        record {
-          read = (
-            inv.read.0 ++ x ∷ [],
-            own_more s now c.args.row f items i _ inv.read.0 c.loop-u.covered t.0 c.loop-u-test.true own_row inv.read.1 t.1 ∙ ap (λ (n : ℕ). Ok (inv.read.0 ++ x ∷ [], n)) (sym (w.covered-is ∙ t.2)),
-            w.out-is ∙ t.3 ∙ ap (λ (o : Samples). begun_painted put_in_row s refs o x) inv.read.2 ∙ sym (painted_snoc put_in_row s refs c.args.out.now inv.read.0 x),
-          );
-          covered = subst (λ (n : ℕ). n ≤ (c.args.row + 1) * s.context.columns) (sym w.covered-is)
-              (subst (λ (r : ℕ). w.in_ok-covered.covered ≤ (r + 1) * s.context.columns) own_row w.in_ok-covered.ensures.covered);
-          wide = subst (IsWide s) (sym w.out-is) w.in_ok-covered.ensures.wide;
-        }
+          let t = w.in_ok-covered.ensures.exact in
+          let own_row = w.if-u-row.true in
+          let x : Begun = record { row = (f (get_or items i (record { row = 0; place = 0; length = 0 }))).row; before = c.loop-u.covered; slice = t.0 } in
+          record {
+            read = (
+              inv.read.0 ++ x ∷ [],
+              own_more s now c.args.row f items i _ inv.read.0 c.loop-u.covered t.0 c.loop-u-test.true own_row inv.read.1 t.1 ∙ ap (λ (n : ℕ). Ok (inv.read.0 ++ x ∷ [], n)) (sym (w.covered-is ∙ t.2)),
+              w.out-is ∙ t.3 ∙ ap (λ (o : Samples). begun_painted put_in_row s refs o x) inv.read.2 ∙ sym (painted_snoc put_in_row s refs c.args.out.now inv.read.0 x),
+            );
+            covered = subst (λ (n : ℕ). n ≤ (c.args.row + 1) * s.context.columns) (sym w.covered-is)
+                (subst (λ (r : ℕ). w.in_ok-covered.covered ≤ (r + 1) * s.context.columns) own_row w.in_ok-covered.ensures.covered);
+            wide = subst (IsWide s) (sym w.out-is) w.in_ok-covered.ensures.wide;
+          }
       | else-u-row w ↦ record {
         read = (inv.read.0, taken_read s now c.args.row f items i _ c.loop-u-test.true w.if-u-row.false ∙ inv.read.1 ∙ ap (λ (n : ℕ). Ok (inv.read.0, n)) (sym w.covered-is), w.out-is ∙ inv.read.2);
         covered = subst (λ (n : ℕ). n ≤ (c.args.row + 1) * s.context.columns) (sym w.covered-is) inv.covered;

@@ -1,8 +1,7 @@
-use Rattle.std.proofs.Common.{◌≡◌, ℕ, ◌+◌, ◌*◌, ◌∙◌, Ok, Err, sym, subst}
+use Rattle.std.proofs.Common.{subst}
 use Rattle.std.specs.Prelude.{Some, None}
 use Rattle.m2v_model.specs.declared.setup.SliceSetup.{SliceSetup}
 use Rattle.m2v_picture.specs.Reads.{seen_by}
-use Rattle.m2v_rows.specs.Rows.{first_of}
 use Rattle.m2v_rows.specs.Opened.{slices_of, ending}
 use Rattle.m2v_rows.specs.Reads.{TellsRow}
 use Rattle.m2v_rows.proofs.WholeRow.{told_whole, told_fault, told_missing}

@@ -1,8 +1,7 @@
-use Rattle.std.proofs.Common.{◌≡◌, ℕ, ◌+◌, ◌-◌, ◌*◌, ◌∙◌, List, Bool, length, ap, sym, arith}
+use Rattle.std.proofs.Common.{ℕ, ◌-◌, ◌*◌, ◌∙◌, List, length, ap, sym, arith}
 use Rattle.std.specs.Prelude.{vec_len}
 use Rattle.m2v_bits.specs.Bits.{Unread, bits, padded}
 use Rattle.m2v_model.specs.Units.{body}
-use Rattle.m2v_unit.specs.Texts.{text_of}
 use Rattle.m2v_unit.proofs.Cuts.{body_is}
 use Rattle.m2v_rows.proofs.Bytes.{unit_is, body_long}
 use Rattle.m2v_rows.proofs.slice.body_of.Goals as goal

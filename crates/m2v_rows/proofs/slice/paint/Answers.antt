@@ -1,6 +1,6 @@
-use Rattle.std.proofs.Common.{rules, ◌≡◌, ℕ, ◌+◌, ◌-◌, ◌*◌, ◌∙◌, List, Bool, Ok, Err, ap, arith}
-use Rattle.m2v_model.specs.Slices.{Slice, slice_at}
-use Rattle.m2v_rows.specs.Rows.{slice_read, placed_by}
+use Rattle.std.proofs.Common.{rules, List, Bool, ap}
+use Rattle.m2v_model.specs.Slices.{slice_at}
+use Rattle.m2v_rows.specs.Rows.{slice_read}
 use Rattle.m2v_rows.specs.Opened.{unread}
 use Rattle.m2v_rows.proofs.slice.paint.Goals as goal
 
