@@ -83,7 +83,7 @@ split_at low rows r (u ∷ us) o = elim (cases_lt u.row r) [
 
 -- ---- reading behind slices that were read
 
-with_front : List Begun → Read → Read
+unfoldable pub with_front : List Begun → Read → Read
 with_front xs (Ok x) = Ok (xs ++ x.0, x.1)
 with_front xs (Err f) = Err f
 
@@ -96,18 +96,18 @@ front_step s xs zs row covered us (Ok x) before =
     ap (λ (l : List Begun). slices_read s (Ok (l, x.covered)) us) (append_assoc xs zs (b ∷ [])) ∙ before (zs ++ b ∷ []) x.covered
 front_step s xs zs row covered us (Err f) before = slices_stopped s f us ∙ sym (ap (with_front xs) (slices_stopped s f us))
 
-prefixed : (s : SliceSetup) (xs zs : List Begun) (covered : ℕ) (us : Slices) → slices_read s (Ok (xs ++ zs, covered)) us ≡ with_front xs (slices_read s (Ok (zs, covered)) us)
+pub prefixed : (s : SliceSetup) (xs zs : List Begun) (covered : ℕ) (us : Slices) → slices_read s (Ok (xs ++ zs, covered)) us ≡ with_front xs (slices_read s (Ok (zs, covered)) us)
 unfolding slices_read with_front
 prefixed s xs zs covered [] = refl
 prefixed s xs zs covered (u ∷ us) = front_step s xs zs u.row covered us (slice_read s covered u) (λ ys n. prefixed s xs ys n us)
 
 -- ---- how far a row's slices reach
 
-IsOwn : ℕ → Slices → Type 0
+unfoldable pub IsOwn : ℕ → Slices → Type 0
 IsOwn row [] = Unit {0}
 IsOwn row (u ∷ us) = (u.row ≡ row) × IsOwn row us
 
-own_is : (row : ℕ) (us : Slices) → IsOwn row (own row us)
+pub own_is : (row : ℕ) (us : Slices) → IsOwn row (own row us)
 unfolding IsOwn
 own_is row [] = tt
 own_is row (u ∷ us) = elim (eqb_tells u.row row) [

@@ -4,3 +4,5 @@ pub mod OwnLaws
 pub mod WholeRow
 pub mod Starts
 pub mod ByRowLaws
+pub mod InFrame
+pub mod Together

@@ -1,5 +1,5 @@
 -- A slice that is read begins at the next uncovered macroblock, and so not in a row below it; and ends in its own row.
-use Rattle.std.proofs.Common.{◌≡◌, ℕ, ◌+◌, ◌*◌, ◌^◌, ◌≤◌, Bool, true, false, List, [], ◌∷◌, inl, inr, refl, sym, ap, subst, ◌∙◌, arith, ℤ, pos, ◌+ℤ◌, ◌-ℤ◌, ◌≤ℤ◌}
+use Rattle.std.proofs.Common.{◌≡◌, ℕ, ◌+◌, ◌*◌, ◌^◌, ◌≤◌, Bool, true, false, List, [], ◌∷◌, ◌++◌, inl, inr, refl, sym, ap, subst, ◌∙◌, arith, ℤ, pos, ◌+ℤ◌, ◌-ℤ◌, ◌≤ℤ◌}
 use Rattle.std.specs.Prelude.{nat_le, ◌&&◌, int_le, nat_abs, Result, Ok, Err}
 use Rattle.std.proofs.lemmas.Bool.{leb-true}
 use Rattle.std.proofs.lemmas.Int.{ints}
@@ -87,27 +87,29 @@ macroblock_step : (s : SliceSetup) (st : SliceState) (x : Macroblock) (t rest : 
 unfolding macroblock_at seq done renamed
 macroblock_step s st x t rest h = subst (λ (y : Macroblock). IsStep s.context st y.syntax.increment) (sym h.3.3.3.3.3.0) (macro_step s.context st h.3.0 h.1 h.3.1 h.3.2)
 
-record Adds (s : SliceSetup) (r z : Row) : Type 0 where
-  x : Macroblock
-  step : IsStep s.context r.state x.syntax.increment
-  state : z.state ≡ after_macroblock s.context r.state x
+-- what a round adds
+pub record Adds (s : SliceSetup) (r z : Row) : Type 0 where
+  pub x : Macroblock
+  pub step : IsStep s.context r.state x.syntax.increment
+  pub state : z.state ≡ after_macroblock s.context r.state x
+  pub macroblocks : z.macroblocks ≡ r.macroblocks ++ x ∷ []
 
-round_adds : (s : SliceSetup) (r z : Row) (b : Bool) (t rest : List Bool) → (macroblock_round s r).Stands (b, z) t rest → Adds s r z
+pub round_adds : (s : SliceSetup) (r z : Row) (b : Bool) (t rest : List Bool) → (macroblock_round s r).Stands (b, z) t rest → Adds s r z
 unfolding macroblock_round seq done
 round_adds s r z b t rest h =
     let is = ap (λ (y : Bool × Row). y.1) h.3.3.3.3.0 in
-    record { x = h.3.0; step = macroblock_step s r.state h.3.0 h.1 h.3.1 h.3.2; state = ap (λ (y : Row). y.state) is }
+    record { x = h.3.0; step = macroblock_step s r.state h.3.0 h.1 h.3.1 h.3.2; state = ap (λ (y : Row). y.state) is; macroblocks = ap (λ (y : Row). y.macroblocks) is }
 
 in_row : (s : SliceSetup) (row : ℕ) (r z : Row) → IsBefore s.context row r.state → Adds s r z → LiesInRow s.context row z.state.address
 unfolding after_macroblock
 in_row s row r z before a =
     subst (λ (st : SliceState). LiesInRow s.context row st.address) (sym a.state) (place_after s.context row r.state a.x.syntax before a.step)
 
-first_false : (s : SliceSetup) (r z : Row) → Adds s r z → z.state.first ≡ false
+pub first_false : (s : SliceSetup) (r z : Row) → Adds s r z → z.state.first ≡ false
 unfolding after_macroblock after
 first_false s r z a = ap (λ (st : SliceState). st.first) a.state
 
-before_next : (s : SliceSetup) (row : ℕ) (r z : Row) → IsBefore s.context row r.state → Adds s r z → IsBefore s.context row z.state
+pub before_next : (s : SliceSetup) (row : ℕ) (r z : Row) → IsBefore s.context row r.state → Adds s r z → IsBefore s.context row z.state
 before_next s row r z before a = record {
   first = λ e. absurd (false_true (sym (first_false s r z a) ∙ e));
   later = λ e. in_row s row r z before a;
@@ -127,14 +129,14 @@ first_round s r z t rest (more {m = m} h later) = let a = round_adds s r m true 
 
 -- ---- slices
 
-start_before : (c : PictureContext) (row covered quantiser : ℕ) → (row + 1) * c.columns ≤ 2 ^ 16 → IsBefore c row (slice_start c row covered quantiser)
+pub start_before : (c : PictureContext) (row covered quantiser : ℕ) → (row + 1) * c.columns ≤ 2 ^ 16 → IsBefore c row (slice_start c row covered quantiser)
 unfolding slice_start at_start
 start_before c row covered quantiser le = record { first = λ e. refl; later = λ e. absurd (false_true (sym e)); end = omega (arith, le) }
   where
     false_true : false ≡ true → ⊥
     false_true p = cc
 
-le_tested : (a b : ℤ) → int_le a b ≡ true → a ≤ℤ b
+pub le_tested : (a b : ℤ) → int_le a b ≡ true → a ≤ℤ b
 le_tested a b e = grind (arith, ints)
 
 begins_at : (c : PictureContext) (row covered quantiser n : ℕ) → IsStep c (slice_start c row covered quantiser) n → row * c.columns ≤ covered
@@ -160,7 +162,7 @@ stands_ends s covered row x t rest le h =
     omega (arith, ints, is, lies.1)
 
 -- what is read stands
-read_slice_is : (s : SliceSetup) (u : Unread) (covered : ℕ) (x : Slice) (r : Result (Slice × List Bool) Placed) → (slice_at s covered u.row).read (body u.unit) ≡ r → placed_by u.end r ≡ Ok x
+pub read_slice_is : (s : SliceSetup) (u : Unread) (covered : ℕ) (x : Slice) (r : Result (Slice × List Bool) Placed) → (slice_at s covered u.row).read (body u.unit) ≡ r → placed_by u.end r ≡ Ok x
     → (rest : List Bool) × (slice_at s covered u.row).Stands x (body u.unit) rest
 read_slice_is s u covered x (Ok z) e f = (z.1, subst (λ (y : Slice). (slice_at s covered u.row).Stands y (body u.unit) z.1) (ap (read_or z.0) f) ((slice_lawful s covered u.row).found z.0 (body u.unit) z.1 e))
   where

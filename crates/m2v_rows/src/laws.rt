@@ -1,13 +1,22 @@
 //! What holds of a picture that is read row by row.
-ghost use Rattle.std.specs.Prelude.{ℕ};
+ghost use Rattle.std.specs.Prelude.{ℕ, ◌<◌};
 ghost use Rattle.m2v_model.specs.declared.setup.SliceSetup.{SliceSetup};
+ghost use Rattle.m2v_model.specs.Samples.{References};
 ghost use Rattle.m2v_picture.specs.Conditions.{IsSetup, rows_in};
 ghost use Rattle.m2v_rows.specs.Rows.{Slices};
 ghost use Rattle.m2v_rows.specs.ByRows.{AreOrdered, ByRows};
+ghost use Rattle.m2v_rows.specs.InFrames.{RowInFrame};
 
 /// The slices of a picture that are read one behind another have no fault and leave no macroblock out, where each row that
 /// is read by itself has no fault; and else their first fault is that of the first row that has one.
 pub fn law_by_rows()
     ensures { (s : SliceSetup) (us : Slices) (end : ℕ) → IsSetup s → AreOrdered 0 (rows_in s) us
         → ByRows s (rows_in s) us end }
+{}
+
+/// The samples of a row that is read by itself, whatever they were before, are those that its slices give a frame, where
+/// they cover the row: set into the frame, of a field picture as the row of its field, they make it the same.
+pub fn law_row_in_frame()
+    ensures { (s : SliceSetup) (refs : References) (row : ℕ) (us : Slices) → IsSetup s
+        → row < rows_in s → RowInFrame s refs row us }
 {}

@@ -8,6 +8,6 @@ mod opened;
 mod row;
 mod slice;
 
-pub use laws::law_by_rows;
+pub use laws::{law_by_rows, law_row_in_frame};
 pub use opened::{Opened, SliceUnit};
 pub use row::read_row;
