@@ -1,5 +1,4 @@
 pub mod Bytes
-pub mod EndLaws
 pub mod OwnLaws
 pub mod WholeRow
 pub mod Starts

@@ -1,11 +1,6 @@
 -- What is known of a picture's headers, and of the piece in which its slices stand.
-use Rattle.std.specs.Prelude.{◌≡◌, ℕ, ◌+◌, ◌-◌, ◌*◌, ◌<◌, ◌≤◌, Bool, true, false, nat_eq, if◌then◌else◌, List, [], ◌∷◌, ◌++◌, All, map, take, drop, replicate, vec_len, Option, Some, None}
-use Rattle.m2v_unit.specs.Texts.{units_in}
-use Rattle.m2v_model.specs.declared.fault.FaultKind.{FaultKind}
-use Rattle.m2v_model.specs.declared.fault.FaultKind.TheVariants.{FieldPair}
+use Rattle.std.specs.Prelude.{◌≡◌, ℕ, ◌+◌, ◌-◌, ◌*◌, ◌<◌, ◌≤◌, List, ◌++◌, All, map, take, drop, replicate, vec_len, Option, Some, None}
 use Rattle.m2v_model.specs.declared.setup.SliceSetup.{SliceSetup}
-use Rattle.m2v_model.specs.Units.{Units, unit_bits}
-use Rattle.m2v_model.specs.Streams.{value_of}
 use Rattle.m2v_piece.specs.declared.answer.Piece.{Piece}
 use Rattle.m2v_piece.specs.declared.answer.Fault.{Fault}
 use Rattle.m2v_piece.specs.Sound.{IsSoundPiece}
@@ -28,30 +23,14 @@ unread p u = record { row = u.row; unit = take u.length (drop (u.place - p.place
 abbrev pub slices_of : Piece → Opened → Slices
 slices_of p o = map (unread p) o.slices.items
 
--- ---- where the picture ends
-
--- the bits from the sequence end code on, or none
-unfoldable pub from_end_code : Units → ℕ
-from_end_code [] = 0
-from_end_code (u ∷ us) = if nat_eq (value_of u) 0xB7 then unit_bits (u ∷ us) else from_end_code us
-
--- at the sequence end code, or else where the piece ends, in bits from the input's first byte
-abbrev pub closing : Piece → ℕ
-closing p = 8 * (p.place + p.length) - from_end_code (units_in (bytes_of p))
-
--- a field that waits for its second is found at the end code, behind the rule that no macroblock is missing; any other
--- fault is found before the picture ends
-abbrev pub is_found_closing : FaultKind → Bool
-is_found_closing FieldPair = true
-is_found_closing _ = false
-
--- the place where the picture ends, where that is reached
+-- the place where the picture ends, in bits from the input's first byte, where that is reached: a piece ends with its
+-- picture, if no fault stands before
 abbrev pub ending_by : Option Fault → ℕ → Option ℕ
 ending_by None end = Some end
-ending_by (Some f) end = if is_found_closing f.kind then Some end else None
+ending_by (Some f) end = None
 
 abbrev pub ending : Piece → Opened → Option ℕ
-ending p o = ending_by o.fault (closing p)
+ending p o = ending_by o.fault (8 * (p.place + p.length))
 
 -- ---- what is known
 

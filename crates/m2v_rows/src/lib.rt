@@ -2,7 +2,6 @@
 //! slices of one row, painted into that row.
 #![tactic(auto)]
 
-mod closing;
 mod laws;
 mod opened;
 mod row;

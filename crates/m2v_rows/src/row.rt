@@ -1,18 +1,30 @@
 //! One macroblock row of a picture.
 ghost use Rattle.std.specs.Prelude.{◌≡◌, ◌+◌, ◌*◌, ◌^◌, ◌<◌, ◌≤◌, IfOk};
+ghost use Rattle.m2v_piece.specs.Sound.{IsSoundPiece};
 ghost use Rattle.m2v_picture.specs.Conditions.{HoldsForward, HoldsBackward};
 ghost use Rattle.m2v_picture.specs.Reads.{seen_by};
 ghost use Rattle.m2v_rows.specs.Rows.{missing as missing_of, below};
 ghost use Rattle.m2v_rows.specs.Opened.{IsOpened, setup_of, slices_of, ending as ending_of};
 ghost use Rattle.m2v_rows.specs.Reads.{IsWide, TellsOwn, TellsRow, as_placed};
 
-use crate::closing::ending;
 use crate::opened::Opened;
 use crate::slice::paint;
 use m2v_model::{FaultKind, SliceSetup};
 use m2v_picture::Scratch;
 use m2v_piece::{Fault, Piece};
 use m2v_plane::{RefView, RowSamples};
+
+/// The place where the picture ends, if that is reached.
+#[inline(always)]
+fn ending(piece: &Piece, opened: &Opened) -> Option<u64>
+    requires { IsSoundPiece piece.now }
+    ensures { result ≡ ending_of piece.now opened.now }
+{
+    match opened.fault {
+        None => Some(8 * (piece.place + piece.length)),
+        Some(_) => None,
+    }
+}
 
 /// Reads the slices of a row, and paints them. Answers how many macroblocks of the picture are covered behind them.
 fn read_own<V: RefView>(
