@@ -1,9 +1,10 @@
 -- What is known of a picture's headers, and of the piece in which its slices stand.
-use Rattle.std.specs.Prelude.{◌≡◌, ℕ, ◌+◌, ◌-◌, ◌*◌, ◌<◌, ◌≤◌, List, ◌++◌, All, map, take, drop, replicate, vec_len, Option, Some, None}
+use Rattle.std.specs.Prelude.{◌≡◌, ℕ, ◌+◌, ◌-◌, ◌*◌, ◌<◌, ◌≤◌, All, map, take, drop, vec_len, Option, Some, None}
 use Rattle.m2v_model.specs.declared.setup.SliceSetup.{SliceSetup}
 use Rattle.m2v_piece.specs.declared.answer.Piece.{Piece}
 use Rattle.m2v_piece.specs.declared.answer.Fault.{Fault}
 use Rattle.m2v_piece.specs.Sound.{IsSoundPiece}
+use Rattle.m2v_unit.specs.Texts.{text_of}
 use Rattle.m2v_picture.specs.Conditions.{IsSetup, rows_in}
 use Rattle.m2v_rows.specs.declared.opened.Opened.{Opened}
 use Rattle.m2v_rows.specs.declared.opened.SliceUnit.{SliceUnit}
@@ -12,13 +13,13 @@ use Rattle.m2v_rows.specs.Rows.{Unread, Slices}
 abbrev pub setup_of : Opened → SliceSetup
 setup_of o = record { context = o.context; dims = o.dims; references = o.references }
 
--- all bytes of a piece, the zero bytes that end it among them
-abbrev pub bytes_of : Piece → List ℕ
-bytes_of p = p.bytes.items ++ replicate (p.length - vec_len p.bytes) 0
-
 -- a slice as it stands in the piece
 abbrev pub unread : Piece → SliceUnit → Unread
-unread p u = record { row = u.row; unit = take u.length (drop (u.place - p.place) (bytes_of p)); end = u.place + u.length }
+unread p u = record {
+  row = u.row;
+  unit = take u.length (drop (u.place - p.place) (text_of p.bytes.items (p.length - vec_len p.bytes)));
+  end = u.place + u.length;
+}
 
 abbrev pub slices_of : Piece → Opened → Slices
 slices_of p o = map (unread p) o.slices.items
