@@ -1,5 +1,5 @@
 -- Coefficients of the first levels alone: one level more, a level that is 0, eight of them.
-use Rattle.std.proofs.Common.{◌≡◌, ◌≢◌, ℕ, zero, suc, ◌+◌, ◌-◌, ◌*◌, ◌/◌, ◌%◌, ◌^◌, ◌<◌, ◌≤◌, Bool, true, false, refl, ap, sym, ◌∙◌, arith, List, length, map, take, get_or, set, replicate, get_or-set_other, get_or-set_same, ℤ, pos, negsuc, ◌+ℤ◌, inl, inr}
+use Rattle.std.proofs.Common.{◌≡◌, ◌≢◌, ℕ, zero, suc, ◌+◌, ◌-◌, ◌*◌, ◌/◌, ◌%◌, ◌^◌, ◌<◌, ◌≤◌, Bool, true, false, refl, ap, sym, ◌∙◌, arith, List, length, map, take, get_or, set, replicate, get_or-set_other, get_or-set_same, ℤ, pos, ◌+ℤ◌, inl, inr}
 use Rattle.std.specs.Prelude.{unsigned_abs, slice_index, if◌then◌else◌, ◌*ℤ◌, neg_ℤ, All}
 use Rattle.std.specs.Int.{int_max, int_min}
 use Rattle.std.specs.Int.RustNames.{int_div}

@@ -272,33 +272,6 @@ fn put_by_scan(f: &[i32; 64], kind: &BlockKind, intra: bool, levels: &mut [i32; 
     }
 }
 
-/// The levels of an intra block, where all are 0 yet.
-#[inline(always)]
-fn put_intra(f: &[i32; 64], kind: &BlockKind, levels: &mut [i32; 64])
-    requires kind { IsKind kind.now }
-    requires intra { kind.now.intra ≡ true }
-    requires coefficients { All IsTransformed f.now }
-    requires zeros { levels.old ≡ replicate 64 (pos 0) }
-    ensures value { levels.new ≡ levels_of f.now kind.now }
-    ensures levels { All IsLevel levels.new }
-{
-    put_by_scan(f, kind, true, levels);
-    levels[0] = dc_level(f[0]);
-}
-
-/// The levels of any other block, where all are 0 yet.
-#[inline(always)]
-fn put_other(f: &[i32; 64], kind: &BlockKind, levels: &mut [i32; 64])
-    requires kind { IsKind kind.now }
-    requires intra { kind.now.intra ≡ false }
-    requires coefficients { All IsTransformed f.now }
-    requires zeros { levels.old ≡ replicate 64 (pos 0) }
-    ensures value { levels.new ≡ levels_of f.now kind.now }
-    ensures levels { All IsLevel levels.new }
-{
-    put_by_scan(f, kind, false, levels);
-}
-
 /// The 64 levels of a block in scan order, each from -2047 to 2047, of its coefficients in raster order, each from -4096
 /// to 4095. Precision is 0.
 pub fn quantise(f: &[i32; 64], kind: &BlockKind, out: &mut Levels)
@@ -310,8 +283,9 @@ pub fn quantise(f: &[i32; 64], kind: &BlockKind, out: &mut Levels)
 {
     out.at = [0; 64];
     if kind.intra {
-        put_intra(f, kind, &mut out.at);
+        put_by_scan(f, kind, true, &mut out.at);
+        out.at[0] = dc_level(f[0]);
     } else {
-        put_other(f, kind, &mut out.at);
+        put_by_scan(f, kind, false, &mut out.at);
     }
 }

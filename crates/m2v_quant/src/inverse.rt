@@ -192,7 +192,7 @@ fn is_empty(levels: &Levels, from: u8, count: u8) -> bool
 
 /// How many groups of eight levels hold all that aren't 0, or some more: 2, 4 or 8.
 #[inline(always)]
-pub fn groups(levels: &Levels) -> u8
+fn groups(levels: &Levels) -> u8
     ensures within { result ≤ 8 }
     ensures zeros { (j : ℕ) → j < 64 - 8 * result
         → slice_index_or levels.now.at (8 * result + j) (pos 0) ≡ pos 0 }

@@ -10,7 +10,7 @@ mod positions;
 mod scans;
 
 pub use forward::{dc_level, quantise};
-pub use inverse::{dequantise, groups};
+pub use inverse::dequantise;
 pub use kind::{BlockKind, Levels};
 pub use matrices::default_matrix;
 pub use scans::{scale_of, scan};

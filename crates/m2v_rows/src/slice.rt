@@ -13,6 +13,7 @@ use m2v_model::SliceSetup;
 use m2v_picture::{Scratch, read_slice};
 use m2v_piece::{Fault, Piece};
 use m2v_plane::{RefView, RowSamples};
+use m2v_unit::Unit;
 
 /// The bytes of a slice that the piece keeps: all but zero bytes that end the piece.
 fn kept<'a>(piece: &'a Piece, u: &SliceUnit) -> &'a [u8]
@@ -33,14 +34,6 @@ fn kept<'a>(piece: &'a Piece, u: &SliceUnit) -> &'a [u8]
     }
 }
 
-/// The bytes behind a start code.
-fn behind_code(bytes: &[u8]) -> &[u8]
-    requires { 4 ≤ length bytes.now }
-    ensures { result.now ≡ drop 4 bytes.now }
-{
-    bytes.split_at(4).1
-}
-
 /// The bits of a slice behind its start code.
 fn body_of<'a>(piece: &'a Piece, u: &SliceUnit) -> BitReader<'a>
     requires sound { IsSoundPiece piece.now }
@@ -51,7 +44,7 @@ fn body_of<'a>(piece: &'a Piece, u: &SliceUnit) -> BitReader<'a>
 {
     let bytes = kept(piece, u);
     let zeros = u.length - bytes.len() as u64;
-    BitReader::with_zeros(behind_code(bytes), 8 * zeros)
+    Unit::new(bytes, zeros).body()
 }
 
 /// Reads a slice, where so many macroblocks of the picture are covered, and paints it into its row. Answers how many are

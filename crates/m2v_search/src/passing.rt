@@ -65,18 +65,15 @@ fn lower(a: u32, b: u32) -> u32
     if a < b { a } else { b }
 }
 
-/// A number that is at most each of eight bounds.
+/// A number that is at most each of eight bounds of a line, from one on.
 #[inline(always)]
 fn lowest_eight(bounds: &[u16], from: u32) -> u32
     requires len { length bounds.now ≡ 32 }
     requires fits { from + 8 ≤ 32 }
     ensures least { (x : ℕ) → from ≤ x → x < from + 8 → result ≤ slice_index bounds.now x }
 {
-    let mut least = u16::MAX;
-    for x in from..from + 8 {
-        least = least.min(bounds[x as usize]);
-    }
-    u32::from(least)
+    let from = from as usize;
+    u32::from(lowest(&bounds[from..from + 8]))
 }
 
 /// The best so far and those in some columns of a line, as long as they lie below a limit. The columns are among eight that

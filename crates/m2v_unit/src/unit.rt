@@ -28,7 +28,7 @@ impl<'a> Model for Unit<'a> {
 
 impl<'a> Unit<'a> {
     /// A unit of these bytes and of so many zero bytes.
-    pub(crate) fn new(bytes: &'a [u8], zeros: u64) -> Unit<'a>
+    pub fn new(bytes: &'a [u8], zeros: u64) -> Unit<'a>
         requires code { 4 ≤ length bytes.now }
         requires most { length bytes.now + zeros ≤ 2 ^ 36 }
         ensures { result ≡ text_of bytes.now zeros }

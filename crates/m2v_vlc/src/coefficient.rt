@@ -1,5 +1,4 @@
-ghost use Rattle.std.specs.Prelude.{◌≡◌, ◌+◌, ◌^◌, ◌<◌, ◌≤◌, ◌++◌, length, OnErr, IfOk};
-ghost use Rattle.m2v_bits.specs.Bits.{ahead, number};
+ghost use Rattle.std.specs.Prelude.{◌≡◌, ◌+◌, ◌-◌, ◌/◌, ◌^◌, ◌<◌, ◌≤◌, ◌++◌, length, slice_index, OnErr, IfOk};
 ghost use Rattle.m2v_bits.specs.Syntax.{Gives};
 ghost use Rattle.m2v_vlc.specs.Codes.{code_at};
 ghost use Rattle.m2v_vlc.specs.Coefficients.{coefficient_zero, coefficient_zero_code, coefficient_one, coefficient_one_code, IsCoefficient};
@@ -58,6 +57,21 @@ pub fn code_coefficient_zero(value: Coefficient) -> Code
     row_code(&ZERO_ROWS, coefficient_row(value))
 }
 
+/// The row that 17 bits point to, five zero bits first, by a table of 13 bits and one of 17.
+#[cold]
+#[inline(never)]
+fn long_at(by_13: &[u8; 96], by_17: &[u8; 512], p: u32) -> u8
+    requires { p < 2048 }
+    ensures middle { 512 ≤ p → result ≡ slice_index by_13.now (p / 16 - 32) }
+    ensures last { p < 512 → result ≡ slice_index by_17.now p }
+{
+    if p >= 512 {
+        at(by_13, (p >> 4) - 32)
+    } else {
+        at(by_17, p)
+    }
+}
+
 /// The row of the coefficient at the reader in table B.14, 255 for none.
 #[inline(always)]
 fn zero_at(input: &BitReader) -> u8
@@ -67,22 +81,7 @@ fn zero_at(input: &BitReader) -> u8
     if p >= 2048 {
         at(&ZERO_BY_9, (p >> 8) - 8)
     } else {
-        long_zero_at(input, p)
-    }
-}
-
-/// The same where five zero bits stand first.
-#[cold]
-#[inline(never)]
-fn long_zero_at(input: &BitReader, p: u32) -> u8
-    requires value { p ≡ number (ahead 17 input.now.rest) }
-    requires long { p < 2048 }
-    ensures { Points coefficient_zero result input.now.rest }
-{
-    if p >= 512 {
-        at(&ZERO_BY_13, (p >> 4) - 32)
-    } else {
-        at(&ZERO_BY_17, p)
+        long_at(&ZERO_BY_13, &ZERO_BY_17, p)
     }
 }
 
@@ -140,22 +139,7 @@ fn one_at(input: &BitReader) -> u8
     if p >= 2048 {
         at(&ONE_BY_9, (p >> 8) - 8)
     } else {
-        long_one_at(input, p)
-    }
-}
-
-/// The same where five zero bits stand first.
-#[cold]
-#[inline(never)]
-fn long_one_at(input: &BitReader, p: u32) -> u8
-    requires value { p ≡ number (ahead 17 input.now.rest) }
-    requires long { p < 2048 }
-    ensures { Points coefficient_one result input.now.rest }
-{
-    if p >= 512 {
-        at(&ONE_BY_13, (p >> 4) - 32)
-    } else {
-        at(&ONE_BY_17, p)
+        long_at(&ONE_BY_13, &ONE_BY_17, p)
     }
 }
 
