@@ -1,4 +1,4 @@
-use Rattle.std.proofs.Common.{ℕ, ◌≡◌, ◌+◌, ◌*◌, ◌/◌, get_or, ap, ◌∙◌, arith}
+use Rattle.std.proofs.Common.{◌≡◌, ◌+◌, ◌*◌, ◌/◌, get_or, ap, ◌∙◌, arith}
 use Rattle.m2v_pred.specs.Predicted.{interpolated}
 use Rattle.m2v_search.specs.Spots.{sample_at, lines_from}
 use Rattle.m2v_search.proofs.Halves.{lines_put, front_is, both_is}
