@@ -6,14 +6,14 @@ ghost use Rattle.m2v_decoder.specs.Decoding.{at_start, between, due_of, whole_of
 use crate::Memory;
 use crate::course::Course;
 use crate::halt::Halt;
-use crate::notes::{code_bits, nothing_noted};
+use crate::notes::nothing_noted;
 use crate::reading::text_ends;
 use m2v_model::Notes;
 use m2v_order::DisplayQueue;
 use m2v_picture::Gallery;
 use m2v_piece::{DecodeError, Fault, Piece};
 use m2v_plane::Frame;
-use m2v_unit::{UnitReader, first_state};
+use m2v_unit::{UnitReader, code_bits, first_state};
 use std::alloc::Global;
 use std::marker::Model;
 use std::mem;

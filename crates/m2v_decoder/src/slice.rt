@@ -1,39 +1,12 @@
-ghost use Rattle.std.specs.Prelude.{◌≡◌, ◌+◌, ◌-◌, ◌*◌, ◌^◌, ◌<◌, ◌≤◌, List, ℕ, IfOk, IfErr, IfSome, OnOk, Ok, Err, Some, true, false};
-ghost use Rattle.m2v_model.specs.Units.{Units};
+ghost use Rattle.std.specs.Prelude.{◌≡◌, ◌+◌, ◌-◌, ◌*◌, ◌^◌, ◌<◌, ◌≤◌, List, ℕ, IfErr, OnOk, Ok, Err, Some, true, false};
 ghost use Rattle.m2v_model.specs.States.{picture_rows as rows_in};
 ghost use Rattle.m2v_model.specs.Streams.{Part, value_of, slice_unit, unread_slice};
 ghost use Rattle.m2v_decoder.specs.Course.{IsSoundCourse, Steps, Paints};
 
 use crate::course::Course;
-use m2v_model::{FaultKind, Open, Sequence, State, Stop};
+use m2v_model::{Open, Sequence, Stop};
 use m2v_picture::SliceEnd;
-use m2v_unit::{Unit, UnitReader, enter_slice, enter_unread_slice, picture_rows, slice_setup};
-
-/// The sequence and the picture in which a slice of a row may stand: its row is neither past the last one nor above
-/// that of the slice before it.
-#[tactic(auto, unfolding(m2v_model::specs::Streams::slice_unit, m2v_model::specs::Streams::slice_in, m2v_model::specs::Looking::refuse, m2v_bits::specs::Syntax::seq, m2v_bits::specs::Syntax::bind, m2v_bits::specs::Syntax::rule))]
-fn place(st: &State, row: u32, start: u64) -> Result<(Sequence, Open), Stop>
-    ensures ok { IfOk result (λ x. (st.now.sequence ≡ Some x.0) × (st.now.picture ≡ Some x.1)
-        × (row < rows_in x.0 x.1) × (x.1.row ≤ row)) }
-    ensures err { IfErr result (λ e. (u : List ℕ) (us : Units)
-        → (slice_unit st.now st.now.sequence st.now.picture row start u).read us
-        ≡ Err (e.kind, e.left)) }
-{
-    let order = Stop {
-        kind: FaultKind::SliceOrder,
-        left: start,
-    };
-    let Some(s) = st.sequence else {
-        return Err(order);
-    };
-    let Some(p) = st.picture else {
-        return Err(order);
-    };
-    if u64::from(row) < picture_rows(&s, &p) && p.row <= row {
-        return Ok((s, p));
-    }
-    Err(order)
-}
+use m2v_unit::{Unit, UnitReader, enter_slice, enter_unread_slice, slice_place, slice_setup};
 
 impl Course {
     /// Reads a slice of a row of the picture that is open, and paints it into its frame.
@@ -88,7 +61,7 @@ impl Course {
             (value_of u.now - 1) start u.now).read units.now ≡ Err (e.kind, e.left)) }
     {
         let row = u32::from(u.value()) - 1;
-        let (s, p) = place(&self.state, row, start)?;
+        let (s, p) = slice_place(&self.state, row, start)?;
         if p.slices_unread {
             self.pass_over(row);
             return Ok(());

@@ -1,5 +1,5 @@
 -- What is known of a picture's headers, and of the piece in which its slices stand.
-use Rattle.std.specs.Prelude.{◌≡◌, ℕ, ◌+◌, ◌-◌, ◌*◌, ◌<◌, ◌≤◌, All, map, take, drop, vec_len, Option, Some, None}
+use Rattle.std.specs.Prelude.{◌≡◌, ℕ, ◌+◌, ◌-◌, ◌*◌, ◌<◌, ◌≤◌, List, All, map, take, drop, vec_len, Option, Some, None}
 use Rattle.m2v_model.specs.declared.setup.SliceSetup.{SliceSetup}
 use Rattle.m2v_piece.specs.declared.answer.Piece.{Piece}
 use Rattle.m2v_piece.specs.declared.answer.Fault.{Fault}
@@ -13,11 +13,15 @@ use Rattle.m2v_rows.specs.Rows.{Unread, Slices}
 abbrev pub setup_of : Opened → SliceSetup
 setup_of o = record { context = o.context; dims = o.dims; references = o.references }
 
+-- the bytes of a piece, all zero bytes at its end among them
+abbrev pub whole_of : Piece → List ℕ
+whole_of p = text_of p.bytes.items (p.length - vec_len p.bytes)
+
 -- a slice as it stands in the piece
 abbrev pub unread : Piece → SliceUnit → Unread
 unread p u = record {
   row = u.row;
-  unit = take u.length (drop (u.place - p.place) (text_of p.bytes.items (p.length - vec_len p.bytes)));
+  unit = take u.length (drop (u.place - p.place) (whole_of p));
   end = u.place + u.length;
 }
 

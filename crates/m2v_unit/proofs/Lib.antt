@@ -3,3 +3,4 @@ pub mod Further
 pub mod Judged
 pub mod Ends
 pub mod Setups
+pub mod Passed

@@ -6,6 +6,7 @@
 
 mod ahead;
 mod changes;
+mod codes;
 mod groups;
 mod header;
 mod headers;
@@ -13,18 +14,21 @@ mod pictures;
 mod reader;
 mod search;
 mod sequences;
+mod slices;
 mod state;
 mod unit;
 mod units;
 
 pub use ahead::id_ahead;
 pub use changes::{enter, enter_slice, enter_unread_slice, first_state};
+pub use codes::code_bits;
 pub use groups::{group, matrices};
 pub use header::Header;
 pub use headers::{is_slice, read_end, read_header, read_text_end};
 pub use pictures::{picture, picture_extension};
 pub use reader::UnitReader;
 pub use sequences::{sequence, sequence_extension};
+pub use slices::slice_place;
 pub use state::{
     anchors_after, crowded_by, has_anchor, is_complete, is_progressive, is_same_sequence,
     is_second_field_due, opened, picture_rows, slice_setup, takes_matrices, waiting_after,

@@ -1,6 +1,6 @@
 use Rattle.std.proofs.Common.{length}
-use Rattle.m2v_decoder.proofs.NoteLaws.{Passed}
-use Rattle.m2v_decoder.proofs.notes.code_bits.Given as goal
+use Rattle.m2v_unit.proofs.Passed.{Passed}
+use Rattle.m2v_unit.proofs.codes.code_bits.Given as goal
 
 abbrev pub invariant-loop-u : goal.invariant-loop-u
 invariant-loop-u l = Passed l.fn.units l.units l.bits

@@ -1,6 +1,6 @@
 use Rattle.std.proofs.Common.{◌+◌, length, ap, sym, ◌∙◌, arith}
-use Rattle.m2v_decoder.proofs.NoteLaws.{passed_none, passed_more, passed_here, passed_all}
-use Rattle.m2v_decoder.proofs.notes.code_bits.Goals as goal
+use Rattle.m2v_unit.proofs.Passed.{passed_none, passed_more, passed_here, passed_all}
+use Rattle.m2v_unit.proofs.codes.code_bits.Goals as goal
 
 pub loop-u-init : goal.loop-u-init
 loop-u-init c = passed_none c.args.units.now
