@@ -1,9 +1,9 @@
 ghost use Rattle.std.specs.Prelude.{◌≡◌, ◌+◌, ◌*◌, ◌≤◌, ◌<◌, ◌^◌, IfOk, IfErr, IfSome, OnOk, IsSome, length, true, false, Some, None, if◌then◌else◌};
-ghost use Rattle.m2v_plane.specs.Sizes.{IsSize};
+ghost use Rattle.m2v_plane.specs.Sizes.{IsSize, part_of};
 ghost use Rattle.m2v_plane.specs.declared.dims.Dims.{Dims as DimsOf};
-ghost use Rattle.m2v_plane.specs.Samples.{blank};
+ghost use Rattle.m2v_plane.specs.Samples.{blank, with_row};
 ghost use Rattle.m2v_model.specs.States.{dims_of, is_frame_end};
-ghost use Rattle.m2v_model.specs.Pictures.{picture_begun, picture_ended};
+ghost use Rattle.m2v_model.specs.Pictures.{on_frame, picture_begun, picture_ended};
 ghost use Rattle.m2v_picture.specs.Conditions.{IsSetup, rows_in};
 ghost use Rattle.m2v_picture.specs.Frames.{none_at_hand, store_of, reading_of, forward_top, forward_bottom, backward_frame, HasReferences, HaveSize, PaintsSlice};
 
@@ -12,7 +12,7 @@ use crate::scratch::Scratch;
 use crate::slices::{SliceEnd, read_slice};
 use m2v_bits::BitReader;
 use m2v_model::{FaultKind, Open, Sequence, SliceSetup, Stop};
-use m2v_plane::{Dims, FieldView, Frame};
+use m2v_plane::{Dims, FieldView, Frame, Lines, RowSamples};
 use std::alloc::Global;
 use std::marker::Model;
 
@@ -283,6 +283,21 @@ impl Gallery {
             &mut self.scratch,
             frame,
         )
+    }
+
+    /// Sets a macroblock row into the frame of the picture that is open, of a field picture a row of its field: one that was
+    /// painted by itself.
+    pub fn set_row(&mut self, lines: Lines, row: u32, samples: &RowSamples)
+        requires row { IfSome self.old.current
+            (λ f. 16 * row + 16 ≤ part_of lines (16 * f.dims.mb_rows)) }
+        requires same { IfSome self.old.current (λ f. samples.now.dims ≡ f.dims) }
+        ensures { self.new ≡ record self.old {
+          current = on_frame (λ f. with_row f lines row samples.now) self.old.current;
+        } }
+    {
+        if let Some(frame) = &mut self.current {
+            frame.set_row(lines, row, samples);
+        }
     }
 
     /// The picture that is open ends. Answers the frame that it ends, for the display: that of an anchor is a copy.
