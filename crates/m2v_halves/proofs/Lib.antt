@@ -1,1 +1,3 @@
 pub mod OnePictureLaws
+pub mod Holding
+pub mod Behind
