@@ -1,3 +1,4 @@
 pub mod OnePictureLaws
 pub mod Holding
 pub mod Behind
+pub mod Before
