@@ -2,3 +2,5 @@ pub mod OnePictureLaws
 pub mod Holding
 pub mod Behind
 pub mod Before
+pub mod Painting
+pub mod Later
