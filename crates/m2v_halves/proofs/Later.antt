@@ -48,11 +48,10 @@ pub record Rest (z : State) (s : Sequence) (o : Open) (store : Store) (end : ℕ
   pub final_is : stopped_from st parts ≡ skim_at (loaded z intra non_intra) s (reached o has_slice row)
   -- no matrices are loaded behind a slice
   pub kept : o.has_slice ≡ true → (intra ≡ z.intra) × (non_intra ≡ z.non_intra)
-  pub slices : Slices
-  pub are : (now : Slices) → slices_by end now r ≡ now ++ slices
-  pub ordered : AreOrdered o.row (picture_rows s o) slices
+  pub are : (now : Slices) → slices_by end now r ≡ now ++ slices_by end [] r
+  pub ordered : AreOrdered o.row (picture_rows s o) (slices_by end [] r)
   pub told : Tells end (slice_setup (loaded z intra non_intra) s o) (loaded z intra non_intra) s o store fault
-      (slices_read (slice_setup (loaded z intra non_intra) s o) (Ok ([], o.covered)) slices)
+      (slices_read (slice_setup (loaded z intra non_intra) s o) (Ok ([], o.covered)) (slices_by end [] r))
       (placed end (units_read (at_open z s o store) us))
 
 -- ---- one unit
@@ -75,7 +74,6 @@ fault_rest z s o store end us f e n = record {
   row = o.row;
   final_is = refl;
   kept = λ has. (refl, refl);
-  slices = [];
   are = λ now. sym (append-nil now);
   ordered = tt;
   told = ap (placed end) (read_err (at_open z s o store) us f (alike_at z s o us (Err f) n e));
@@ -91,7 +89,6 @@ over_rest z s o store end us rest e unread n = record {
   row = o.row;
   final_is = refl;
   kept = λ has. (refl, refl);
-  slices = [];
   are = λ now. sym (append-nil now);
   ordered = tt;
   told = ends end z s o store us rest unread (alike_at z s o us (Ok ((false, over), rest)) n e).1;
@@ -118,7 +115,6 @@ matrices_rest z s o store end us mid m ps fault e later n h =
       row = h.row;
       final_is = h.final_is;
       kept = λ has. absurd (both_ways _ a.2 has);
-      slices = h.slices;
       are = h.are;
       ordered = h.ordered;
       told = subst (Tells end _ _ s o store fault _) (ap (placed end) (sym (matrices_read z s o store us mid (tail_of us) m a.1 a.3))) h.told;
@@ -143,7 +139,6 @@ skipped_rest z s o store end us mid u ps fault e later n h =
       row = h.row;
       final_is = h.final_is;
       kept = h.kept;
-      slices = h.slices;
       are = h.are;
       ordered = h.ordered;
       told = subst (Tells end _ _ s o store fault _) (ap (placed end) (sym (skipped_read z s o store us mid (tail_of us) u a.1 a.2))) h.told;
@@ -168,22 +163,20 @@ record Settled (z : State) (s : Sequence) (o : Open) (store : Store) (end : ℕ)
   has_slice : Bool
   row : ℕ
   final_is : stopped_from st parts ≡ skim_at z s (reached o has_slice row)
-  slices : Slices
-  are : (now : Slices) → slices_by end now r ≡ now ++ slices
-  ordered : AreOrdered o.row (picture_rows s o) slices
-  told : Tells end (slice_setup z s o) z s o store fault (slices_read (slice_setup z s o) (Ok ([], o.covered)) slices) (placed end (units_read (at_open z s o store) us))
+  are : (now : Slices) → slices_by end now r ≡ now ++ slices_by end [] r
+  ordered : AreOrdered o.row (picture_rows s o) (slices_by end [] r)
+  told : Tells end (slice_setup z s o) z s o store fault (slices_read (slice_setup z s o) (Ok ([], o.covered)) (slices_by end [] r)) (placed end (units_read (at_open z s o store) us))
 
 settled : {z : State} {s : Sequence} {o : Open} {store : Store} {end : ℕ} {us : Units} {parts : List Part} {fault : Option (FaultKind × ℕ)} {st : State} {r : FrontRead st us parts fault}
     → Rest z s o store end us parts fault st r → o.has_slice ≡ true → Settled z s o store end us parts fault st r
 settled {z} {s} {o} {store} {end} {us} {parts} {fault} {st} {r} h has =
     let k = h.kept has in
     let Final = λ (i n : List ℕ). stopped_from st parts ≡ skim_at (loaded z i n) s (reached o h.has_slice h.row) in
-    let Told = λ (i n : List ℕ). Tells end (slice_setup (loaded z i n) s o) (loaded z i n) s o store fault (slices_read (slice_setup (loaded z i n) s o) (Ok ([], o.covered)) h.slices) (placed end (units_read (at_open z s o store) us)) in
+    let Told = λ (i n : List ℕ). Tells end (slice_setup (loaded z i n) s o) (loaded z i n) s o store fault (slices_read (slice_setup (loaded z i n) s o) (Ok ([], o.covered)) (slices_by end [] r)) (placed end (units_read (at_open z s o store) us)) in
     record {
       has_slice = h.has_slice;
       row = h.row;
       final_is = subst (Final z.intra) k.1 (subst (λ (i : List ℕ). Final i h.non_intra) k.0 h.final_is);
-      slices = h.slices;
       are = h.are;
       ordered = h.ordered;
       told = subst (Told z.intra) k.1 (subst (λ (i : List ℕ). Told i h.non_intra) k.0 h.told);
@@ -250,3 +243,68 @@ slice_tells z s o store end us mid t row u fault vs (Err f) same own e h =
     let read = slice_first setup end o.covered row u mid vs (Err f) own ∙ slices_stopped setup g vs in
     let course = ap (placed end) (read_err (at_open z s o store) us (f.0, f.1 + unit_bits t) e) ∙ ap (λ (n : ℕ). bad {T = Between} {V = Events} (f.0, n)) (same_place end f.1 mid t same) in
     subst (λ (y : Read). Tells end setup z s o store fault y (placed end (units_read (at_open z s o store) us))) (sym read) course
+
+without_unread : (b : Bool) (row : ℕ) (u : List ℕ) (t : Units) (r : Outcome) → b ≡ false → cond b (Ok ((true, unread_slice row u), t)) r ≡ r
+without_unread true row u t r e = absurd cc
+without_unread false row u t r e = refl
+
+slice_rest : (z : State) (s : Sequence) (o : Open) (store : Store) (end : ℕ) (us mid : Units) (row : ℕ) (u : List ℕ) (ps : List Part) (fault : Option (FaultKind × ℕ))
+    (e : unit_read (skim_at z s o) us ≡ Ok ((true, unread_slice row u), mid)) (later : FrontRead (after (skim_at z s o) (unread_slice row u)) mid ps fault) → o.slices_unread ≡ false → NoneBegins us
+    → ((covered large crowded : ℕ) (store2 : Store) → Rest z s (sliced_open o row covered large crowded) store2 end mid ps fault (after (skim_at z s o) (unread_slice row u)) later)
+    → Rest z s o store end us (unread_slice row u ∷ ps) fault (skim_at z s o) (more e later)
+unfolding after stopped_from slices_by with_part slice_setup
+slice_rest z s o store end us mid row u ps fault e later unread n h =
+    let a = alike_at z s o us (Ok ((true, unread_slice row u), mid)) n e in
+    let own = (slice_at (slice_setup z s o) o.covered row).read (body u) in
+    let whole : unit_read (open_at z s o) us ≡ slice_told row (tail_of us) own = a.4 ∙ without_unread o.slices_unread row u (tail_of us) (slice_told row (tail_of us) own) unread in
+    let first = settled (h 0 0 0 store) refl in
+    let v = unread_at end row u mid in
+    let vs = slices_by end [] later in
+    let all : v ∷ vs ≡ slices_by end (v ∷ []) later = sym (first.are (v ∷ [])) in
+    record {
+      intra = z.intra;
+      non_intra = z.non_intra;
+      has_slice = first.has_slice;
+      row = first.row;
+      final_is = first.final_is;
+      kept = λ has. (refl, refl);
+      are = λ now. first.are (now ++ v ∷ []) ∙ append_assoc now (v ∷ []) vs ∙ ap (λ (l : Slices). now ++ l) all;
+      ordered = subst (AreOrdered o.row (picture_rows s o)) all (a.3, a.2, first.ordered);
+      told = subst (λ (l : Slices). Tells end (slice_setup z s o) z s o store fault (slices_read (slice_setup z s o) (Ok ([], o.covered)) l) (placed end (units_read (at_open z s o store) us))) all
+      (slice_tells z s o store end us mid (tail_of us) row u fault vs own a.1 refl whole (λ x large crowded. (settled (h x.covered large crowded (frames_behind (slice_setup z s o) (begun_at o row x) store)) refl).told));
+    }
+
+-- ---- all units
+
+never_one : {P : Type 0} → true ≡ false → P
+never_one e = absurd cc
+
+pub rest : (z : State) (s : Sequence) (o : Open) (store : Store) (end : ℕ) (us : Units) (parts : List Part) (fault : Option (FaultKind × ℕ)) (r : FrontRead (skim_at z s o) us parts fault) → o.slices_unread ≡ false → NoneBegins us
+    → Rest z s o store end us parts fault (skim_at z s o) r
+unfolding after
+rest z s o store end us parts fault (faulty {f = f} e) unread n = fault_rest z s o store end us f e n
+rest z s o store end us parts fault (final_unit {rest = last} {p = over} e) unread n = over_rest z s o store end us last e unread n
+rest z s o store end us parts fault (final_unit {rest = last} {p = sequence x} e) unread n = absurd (alike_at z s o us (Ok ((false, sequence x), last)) n e)
+rest z s o store end us parts fault (final_unit {rest = last} {p = group g} e) unread n = absurd (alike_at z s o us (Ok ((false, group g), last)) n e)
+rest z s o store end us parts fault (final_unit {rest = last} {p = picture info extension} e) unread n = absurd (alike_at z s o us (Ok ((false, picture info extension), last)) n e)
+rest z s o store end us parts fault (final_unit {rest = last} {p = matrices m} e) unread n = never_one (sym (alike_at z s o us (Ok ((false, matrices m), last)) n e).0)
+rest z s o store end us parts fault (final_unit {rest = last} {p = slice row x} e) unread n = absurd (alike_at z s o us (Ok ((false, slice row x), last)) n e)
+rest z s o store end us parts fault (final_unit {rest = last} {p = unread_slice row u} e) unread n = never_one (sym (alike_at z s o us (Ok ((false, unread_slice row u), last)) n e).0)
+rest z s o store end us parts fault (final_unit {rest = last} {p = skipped_unit u} e) unread n = never_one (sym (alike_at z s o us (Ok ((false, skipped_unit u), last)) n e).0)
+rest z s o store end us parts fault (final_unit {rest = last} {p = ending} e) unread n = absurd (alike_at z s o us (Ok ((false, ending), last)) n e)
+rest z s o store end us parts fault (more {mid = mid} {p = sequence x} e later) unread n = absurd (alike_at z s o us (Ok ((true, sequence x), mid)) n e)
+rest z s o store end us parts fault (more {mid = mid} {p = group g} e later) unread n = absurd (alike_at z s o us (Ok ((true, group g), mid)) n e)
+rest z s o store end us parts fault (more {mid = mid} {p = picture info extension} e later) unread n = absurd (alike_at z s o us (Ok ((true, picture info extension), mid)) n e)
+rest z s o store end us parts fault (more {mid = mid} {p = slice row x} e later) unread n = absurd (alike_at z s o us (Ok ((true, slice row x), mid)) n e)
+rest z s o store end us parts fault (more {mid = mid} {p = ending} e later) unread n = absurd (alike_at z s o us (Ok ((true, ending), mid)) n e)
+rest z s o store end us parts fault (more {mid = mid} {p = over} e later) unread n = never_one (alike_at z s o us (Ok ((true, over), mid)) n e).0
+rest z s o store end us parts fault (more {mid = mid} {p = matrices m} {ps = ps} e later) unread n =
+    let a = alike_at z s o us (Ok ((true, matrices m), mid)) n e in
+    matrices_rest z s o store end us mid m ps fault e later n (rest (after_matrices z m) s o store end mid ps fault later unread (none_behind us mid n a.1))
+rest z s o store end us parts fault (more {mid = mid} {p = skipped_unit u} {ps = ps} e later) unread n =
+    let a = alike_at z s o us (Ok ((true, skipped_unit u), mid)) n e in
+    skipped_rest z s o store end us mid u ps fault e later n (rest z s o store end mid ps fault later unread (none_behind us mid n a.1))
+rest z s o store end us parts fault (more {mid = mid} {p = unread_slice row u} {ps = ps} e later) unread n =
+    let a = alike_at z s o us (Ok ((true, unread_slice row u), mid)) n e in
+    slice_rest z s o store end us mid row u ps fault e later unread n
+    (λ covered large crowded store2. rest z s (sliced_open o row covered large crowded) store2 end mid ps fault later unread (none_behind us mid n a.1))
