@@ -56,10 +56,10 @@ pub record Rest (z : State) (s : Sequence) (o : Open) (store : Store) (end : ℕ
 
 -- ---- one unit
 
-alike_at : (z : State) (s : Sequence) (o : Open) (us : Units) (r : Outcome) → NoneBegins us → unit_read (skim_at z s o) us ≡ r → Alike z s o (tail_of us) r (unit_read (open_at z s o) us)
+pub alike_at : (z : State) (s : Sequence) (o : Open) (us : Units) (r : Outcome) → NoneBegins us → unit_read (skim_at z s o) us ≡ r → Alike z s o (tail_of us) r (unit_read (open_at z s o) us)
 alike_at z s o us r n e = subst (λ (x : Outcome). Alike z s o (tail_of us) x (unit_read (open_at z s o) us)) e (unit_alike z s o us n)
 
-none_behind : (us mid : Units) → NoneBegins us → mid ≡ tail_of us → NoneBegins mid
+pub none_behind : (us mid : Units) → NoneBegins us → mid ≡ tail_of us → NoneBegins mid
 none_behind [] mid n e = subst NoneBegins (sym e) tt
 none_behind (u ∷ us) mid n e = subst NoneBegins (sym e) n.1
 
@@ -276,7 +276,7 @@ slice_rest z s o store end us mid row u ps fault e later unread n h =
 
 -- ---- all units
 
-never_one : {P : Type 0} → true ≡ false → P
+pub never_one : {P : Type 0} → true ≡ false → P
 never_one e = absurd cc
 
 pub rest : (z : State) (s : Sequence) (o : Open) (store : Store) (end : ℕ) (us : Units) (parts : List Part) (fault : Option (FaultKind × ℕ)) (r : FrontRead (skim_at z s o) us parts fault) → o.slices_unread ≡ false → NoneBegins us

@@ -4,3 +4,4 @@ pub mod Behind
 pub mod Before
 pub mod Painting
 pub mod Later
+pub mod Dropped
