@@ -89,7 +89,7 @@ FirstPart q m (skipped_unit u) mid = (m ≡ true) × HasOnePicture mid
 FirstPart q m ending mid = m ≡ false
 FirstPart q m over mid = m ≡ false
 
-abbrev First : Option Sequence → Bool × Part → Units → Type 0
+abbrev pub First : Option Sequence → Bool × Part → Units → Type 0
 First q x mid = FirstPart q x.0 x.1 mid
 
 none_tail : (u : List ℕ) (us : Units) → NoneBegins (u ∷ us) → NoneBegins us

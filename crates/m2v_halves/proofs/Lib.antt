@@ -5,3 +5,4 @@ pub mod Before
 pub mod Painting
 pub mod Later
 pub mod Dropped
+pub mod Opening
