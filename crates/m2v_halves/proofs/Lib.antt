@@ -6,3 +6,4 @@ pub mod Painting
 pub mod Later
 pub mod Dropped
 pub mod Opening
+pub mod RowFaults
