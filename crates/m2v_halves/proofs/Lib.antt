@@ -7,3 +7,4 @@ pub mod Later
 pub mod Dropped
 pub mod Opening
 pub mod RowFaults
+pub mod Together
