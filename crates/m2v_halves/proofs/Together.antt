@@ -108,3 +108,92 @@ picture_told b z s o has_slice row us es unread none xs n read =
       state = refl;
       store = ap (λ (g : Store). picture_ended (Some o) (frames_painted setup xs g)) begun;
     }
+
+-- ---- the record of the law
+
+by_its_rows : (b : Between) (end : ℕ) (piece : List ℕ) (z : State) (s : Sequence) (o : Open) (has_slice : Bool) (row : ℕ) (us : Slices) (fault : Option (FaultKind × ℕ)) (es : Events) (r : Course)
+    → IsSize (dims_of s) → o.slices_unread ≡ false → pictures_in es ≡ [] → AreOrdered 0 (picture_rows s o) us → piece_read b end piece ≡ behind es r
+    → Tells end (slice_setup z s o) z s o (picture_begun (Some s) o b.store) fault (picture_read (slice_setup z s o) us) r
+    → ByItsRows b end piece (skim_at z s (reached o has_slice row)) us fault s (unread_of (reached o has_slice row))
+unfolding slice_setup
+by_its_rows b end piece z s o has_slice row us fault es r size unread no_pictures ordered whole told =
+    let setup = slice_setup z s o in
+    let store = picture_begun (Some s) o b.store in
+    let law = λ (e : ℕ). by_rows setup (rows_in setup) us e (λ k lt. addresses setup k size refl lt) ordered in
+    record {
+      ordered = ordered;
+      row = λ k f lt none e. whole ∙ ap (behind es) (row_course end setup z s o store fault us r law told k f lt none e);
+      headers = λ f none e. whole ∙ ap (behind es) (headers_course end setup z s o store fault us r law told f none e);
+      whole = λ none e.
+          let c = whole_course end setup z s o store fault us r law told none e in
+          (_, _, whole ∙ ap (behind es) c.closes.1, picture_told b z s o has_slice row us es unread no_pictures c.slices c.closes.0 c.read);
+    }
+
+placed_behind : (end : ℕ) (es : Events) (r : Course) → placed end (behind es r) ≡ behind es (placed end r)
+placed_behind end es (Ok x) = refl
+placed_behind end es (Err f) = refl
+
+open_is : (o p : Open) → Some o ≡ Some p → o ≡ p
+open_is o p e = cc
+
+sequence_is : (s t : Sequence) → Some s ≡ Some t → s ≡ t
+sequence_is s t e = cc
+
+-- where a picture opens whose slices are read
+opens_rows : (w : State) (store : Store) (end : ℕ) (piece : List ℕ) (parts : List Part) (fault : Option (FaultKind × ℕ)) (st : State) (r : FrontRead st (cut 0 piece).1 parts fault)
+    → Opens w store end (cut 0 piece).1 parts fault st r → (s : Sequence) (o : Open) → (stopped_from st parts).sequence ≡ Some s → (stopped_from st parts).picture ≡ Some o
+    → ByItsRows (record { state = w; store = store }) end piece (stopped_from st parts) (slices_by end [] r) fault s o
+opens_rows w store end piece parts fault st r a s o in_force is_open =
+    let b : Between = record { state = w; store = store } in
+    let h = rest a.z a.s a.o (picture_begun (Some a.s) a.o store) end a.mid a.later_parts fault a.later a.read a.begins in
+    let z = loaded a.z h.intra h.non_intra in
+    let own = reached a.o h.has_slice h.row in
+    let us = slices_by end [] a.later in
+    let final = a.final_is ∙ h.final_is in
+    let course = placed end (units_read (at_open a.z a.s a.o (picture_begun (Some a.s) a.o store)) a.mid) in
+    let whole = piece_is b end piece ∙ ap (placed end) a.told ∙ placed_behind end a.es (units_read (at_open a.z a.s a.o (picture_begun (Some a.s) a.o store)) a.mid) in
+    let told = subst (λ (n : ℕ). Tells end (slice_setup z a.s a.o) z a.s a.o (picture_begun (Some a.s) a.o store) fault (slices_read (slice_setup z a.s a.o) (Ok ([], n)) us) course) a.covered h.told in
+    let ordered = subst (λ (n : ℕ). AreOrdered n (picture_rows a.s a.o) us) a.row h.ordered in
+    let law = by_its_rows b end piece z a.s a.o h.has_slice h.row us fault a.es course a.size a.read a.no_pictures ordered whole told in
+    let same_sequence = sequence_is a.s s (sym (ap (λ (x : State). x.sequence) final) ∙ in_force) in
+    let same_open = open_is (unread_of own) o (sym (ap (λ (x : State). x.picture) final) ∙ is_open) in
+    subst (λ (x : Sequence). ByItsRows b end piece (stopped_from st parts) (slices_by end [] r) fault x o) same_sequence
+    (subst (λ (x : Open). ByItsRows b end piece (stopped_from st parts) (slices_by end [] r) fault a.s x) same_open
+    (subst (λ (x : State). ByItsRows b end piece x (slices_by end [] r) fault a.s (unread_of own)) (sym final)
+    (subst (λ (l : Slices). ByItsRows b end piece (skim_at z a.s own) l fault a.s (unread_of own)) (sym (a.are [])) law)))
+
+opens_kept : (w : State) (store : Store) (end : ℕ) (us : Units) (parts : List Part) (fault : Option (FaultKind × ℕ)) (st : State) (r : FrontRead st us parts fault)
+    → Opens w store end us parts fault st r → ReadsNone (stopped_from st parts).picture → ⊥
+opens_kept w store end us parts fault st r a none =
+    let h = rest a.z a.s a.o (picture_begun (Some a.s) a.o store) end a.mid a.later_parts fault a.later a.read a.begins in
+    let drop : a.o.dropped ≡ true = subst (λ (x : State). ReadsNone x.picture) (a.final_is ∙ h.final_is) none in
+    both_ways _ a.kept drop
+
+halves_by : (w : State) (store : Store) (p : Piece) (f : Front w p) → Either w store (end_of p) (cut 0 (whole_of p)).1 f.parts f.fault (record w { headers_only = true }) f.read → Halves (record { state = w; store = store }) p f
+halves_by w store p f (inl a) =
+    let b : Between = record { state = w; store = store } in
+    record {
+      headers = λ none. piece_is b (end_of p) (whole_of p) ∙ ap (placed (end_of p)) a.told ∙ told_placed b (end_of p) f.parts f.fault;
+      rows = λ s o in_force is_open kept. absurd (both_ways _ kept (subst ReadsNone is_open a.none));
+    }
+halves_by w store p f (inr a) = record {
+  headers = λ none. absurd (opens_kept w store (end_of p) (cut 0 (whole_of p)).1 f.parts f.fault _ f.read a none);
+  rows = λ s o in_force is_open kept. opens_rows w store (end_of p) (whole_of p) f.parts f.fault _ f.read a s o in_force is_open;
+}
+
+halves_at : (z : State) (store : Store) (h : Bool) (open_picture : Option Open) (p : Piece) (f : Front (record z { headers_only = h; picture = open_picture }) p) → h ≡ false → open_picture ≡ None → HasSize z.sequence → HasOnePicture (cut 0 (whole_of p)).1
+    → Halves (record { state = record z { headers_only = h; picture = open_picture }; store = store }) p f
+halves_at z store false None p f on none size one =
+    halves_by (shut z z.sequence false) store p f (either z z.sequence store (end_of p) (cut 0 (whole_of p)).1 f.parts f.fault f.read one size)
+halves_at z store false (Some o) p f on none size one = absurd (cc none)
+halves_at z store true open_picture p f on none size one = absurd (cc on)
+
+has_size : (first q : Option Sequence) → HaveOneSize first q → HasSize q
+has_size first None h = tt
+has_size (Some first) (Some s) h = h.0
+has_size None (Some s) h = absurd h
+
+-- the law of halves
+pub halves : (b : Between) (p : Piece) (f : Front b.state p) → b.state.headers_only ≡ false → IsBetween b.state → HasOnePicture (cut 0 (whole_of p)).1 → Halves b p f
+halves b p f all between one =
+    halves_at b.state b.store b.state.headers_only b.state.picture p f all between.closed (has_size b.state.first b.state.sequence between.size) one
