@@ -1,6 +1,6 @@
 -- A unit before a picture's headers, read with slices unread and read whole.
-use Rattle.std.proofs.Common.{◌≡◌, ℕ, ◌-◌, Bool, true, false, cond, List, [], ◌∷◌, Option, Some, None, Result, Ok, Err, refl, sym, ap, subst, ◌∙◌}
-use Rattle.std.specs.Prelude.{nat_eq, is_some}
+use Rattle.std.proofs.Common.{◌≡◌, ℕ, ◌-◌, Bool, true, false, List, [], ◌∷◌, Option, Some, None, refl, sym, subst, ◌∙◌}
+use Rattle.std.specs.Prelude.{is_some}
 use Rattle.std.proofs.lemmas.Bool.{eqb-true}
 use Rattle.m2v_bits.specs.Syntax.{seq, here, rule, renamed, done}
 use Rattle.m2v_bits.specs.Leaves.{bits_at}
@@ -10,15 +10,12 @@ use Rattle.m2v_head.specs.declared.sequence.SequenceInfo.{SequenceInfo}
 use Rattle.m2v_head.specs.declared.sequence.SequenceExtension.{SequenceExtension}
 use Rattle.m2v_head.specs.Headers as head
 use Rattle.m2v_head.specs.Fits.{SequenceExtensionFits}
-use Rattle.m2v_model.specs.declared.fault.FaultKind.{FaultKind}
 use Rattle.m2v_model.specs.declared.state.Sequence.{Sequence}
 use Rattle.m2v_model.specs.declared.state.State.{State}
 use Rattle.m2v_model.specs.Units.{Units, unit_bits, body}
 use Rattle.m2v_model.specs.States.{dims_of}
-use Rattle.m2v_model.specs.Faults.{InUnit}
 use Rattle.m2v_model.specs.Headers.{whole_header, sequence_extension_in}
-use Rattle.m2v_model.specs.Looking.{refuse}
-use Rattle.m2v_model.specs.Streams.{Part, sequence, group, picture, matrices, slice, unread_slice, skipped_unit, ending, over, Among, value_of, id_at, sequence_unit, group_unit, picture_unit, matrix_unit, extension_unit, read_slice, slice_in, slice_unit, end_unit, close, no_second_field_due, onward, final, later_unit, known_unit, text_end}
+use Rattle.m2v_model.specs.Streams.{Part, sequence, group, picture, matrices, slice, unread_slice, skipped_unit, ending, over, value_of, id_at, sequence_unit, group_unit, picture_unit, matrix_unit, extension_unit, slice_unit, end_unit, close, no_second_field_due, onward, final, later_unit, known_unit, text_end}
 use Rattle.m2v_model.specs.ByPieces.{unit_read}
 use Rattle.m2v_model.proofs.HeaderLaws.{whole_header_lawful, sequence_extension_lawful}
 use Rattle.m2v_unit.specs.Reads.{IsReadSequence}

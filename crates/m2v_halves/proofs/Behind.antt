@@ -1,16 +1,16 @@
 -- A unit behind a picture's headers, read with slices unread and read whole.
-use Rattle.std.proofs.Common.{◌≡◌, ℕ, ◌+◌, ◌-◌, ◌<◌, ◌≤◌, Bool, true, false, cond, List, [], ◌∷◌, Option, Some, None, Result, Ok, Err, refl, sym, ap, subst, ◌∙◌}
+use Rattle.std.proofs.Common.{◌≡◌, ℕ, ◌+◌, ◌-◌, ◌<◌, ◌≤◌, Bool, true, false, cond, List, [], ◌∷◌, Some, Result, Ok, Err, refl, sym, subst}
 use Rattle.std.specs.Prelude.{nat_eq, nat_lt, nat_le, ◌&&◌, not}
 use Rattle.std.proofs.lemmas.Bool.{both_ways, eqb-true, ltb-true, leb-true}
-use Rattle.m2v_bits.specs.Syntax.{Syntax, bind, seq, rule, done, choose}
+use Rattle.m2v_bits.specs.Syntax.{bind, seq, rule, done, choose}
 use Rattle.m2v_bits.proofs.SyntaxLaws.{good, bad}
 use Rattle.m2v_model.specs.declared.fault.FaultKind.{FaultKind}
-use Rattle.m2v_model.specs.declared.fault.FaultKind.TheVariants.{Forbidden, Unsupported, SliceOrder, MissingMacroblocks}
+use Rattle.m2v_model.specs.declared.fault.FaultKind.TheVariants.{SliceOrder, MissingMacroblocks}
 use Rattle.m2v_model.specs.declared.state.Sequence.{Sequence}
 use Rattle.m2v_model.specs.declared.state.Open.{Open}
 use Rattle.m2v_model.specs.declared.state.State.{State}
 use Rattle.m2v_model.specs.Units.{Units, unit_bits, body, of_body, inside}
-use Rattle.m2v_model.specs.States.{picture_rows, slice_setup, is_complete, takes_matrices}
+use Rattle.m2v_model.specs.States.{picture_rows, slice_setup, is_complete}
 use Rattle.m2v_model.specs.Slices.{Slice, slice_at}
 use Rattle.m2v_model.specs.Looking.{refuse}
 use Rattle.m2v_model.specs.Streams.{Part, sequence, group, picture, matrices, slice, unread_slice, skipped_unit, ending, over, Among, value_of, id_at, matrix_unit, extension_unit, read_slice, slice_in, slice_unit, close, onward, later_unit, known_unit, text_end}

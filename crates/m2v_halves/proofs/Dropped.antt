@@ -1,6 +1,5 @@
 -- A piece in which no slice is read: the whole and its headers have the same parts.
-use Rattle.std.proofs.Common.{◌≡◌, ℕ, ◌-◌, ◌*◌, Bool, true, false, cond, List, [], ◌∷◌, ◌++◌, Option, Some, None, Result, Ok, Err, refl, sym, ap, subst, ◌∙◌}
-use Rattle.std.specs.Prelude.{◌||◌}
+use Rattle.std.proofs.Common.{◌≡◌, ℕ, Bool, true, false, cond, List, [], ◌∷◌, Option, Some, None, Ok, Err, refl, sym, ap, subst, ◌∙◌}
 use Rattle.m2v_model.specs.declared.fault.FaultKind.{FaultKind}
 use Rattle.m2v_model.specs.declared.fault.FaultKind.TheVariants.{MissingMacroblocks}
 use Rattle.m2v_model.specs.declared.state.Sequence.{Sequence}
@@ -14,10 +13,10 @@ use Rattle.m2v_model.specs.ByPieces.{Between, Course, behind, read_of, units_rea
 use Rattle.m2v_model.specs.HeadersOnly.{FrontRead, faulty, final_unit, more}
 use Rattle.m2v_model.proofs.FlowLaws.{read_err, read_more, read_last}
 use Rattle.m2v_model.proofs.PieceLaws.{placed}
-use Rattle.m2v_headers.specs.Headers.{stopped_from}
+use Rattle.m2v_headers.specs.Headers.{stopped_from, fault_at}
 use Rattle.m2v_halves.specs.OnePicture.{NoneBegins}
 use Rattle.m2v_halves.specs.Halves.{ReadsNone, state_behind, parts_told}
-use Rattle.m2v_halves.proofs.Behind.{Outcome, open_at, skim_at, slice_told, whole_slice}
+use Rattle.m2v_halves.proofs.Behind.{Outcome, open_at, skim_at}
 use Rattle.m2v_halves.proofs.Painting.{at_open}
 use Rattle.m2v_halves.proofs.Later.{reached, alike_at, none_behind, never_one}
 
@@ -26,7 +25,7 @@ abbrev pub course_told : Between → List Part → Option (FaultKind × ℕ) →
 course_told b parts None = Ok (read_of b (record { state = state_behind b.state parts; parts = parts }))
 course_told b parts (Some f) = Err f
 
-pub told_placed : (b : Between) (end : ℕ) (parts : List Part) (fault : Option (FaultKind × ℕ)) → placed end (course_told b parts fault) ≡ parts_told b end parts fault
+pub told_placed : (b : Between) (end : ℕ) (parts : List Part) (fault : Option (FaultKind × ℕ)) → placed end (course_told b parts fault) ≡ parts_told b parts (fault_at end fault)
 told_placed b end parts None = refl
 told_placed b end parts (Some f) = refl
 

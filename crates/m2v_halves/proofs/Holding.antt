@@ -1,14 +1,12 @@
 -- What holds of what a syntax among units reads.
-use Rattle.std.proofs.Common.{◌≡◌, ℕ, Bool, true, false, List, [], ◌∷◌, Option, Some, None, Result, Ok, Err, refl, sym, ap, subst}
-use Rattle.std.specs.Prelude.{nat_eq}
+use Rattle.std.proofs.Common.{◌≡◌, ℕ, Bool, true, false, List, [], ◌∷◌, Option, Some, None, Result, Ok, Err, refl, subst}
 use Rattle.m2v_bits.specs.Syntax.{bind, seq, here, rule, done, choose}
-use Rattle.m2v_bits.proofs.SyntaxLaws.{good, bad}
+use Rattle.m2v_bits.proofs.SyntaxLaws.{good}
 use Rattle.m2v_model.specs.declared.fault.FaultKind.{FaultKind}
-use Rattle.m2v_model.specs.declared.fault.FaultKind.TheVariants.{NotMpeg2}
 use Rattle.m2v_model.specs.Units.{Units, unit_at, unit_bits, body, of_body, inside}
 use Rattle.m2v_model.specs.Faults.{InUnit}
 use Rattle.m2v_model.specs.Looking.{refuse}
-use Rattle.m2v_model.specs.Streams.{Among, Part, value_of, id_at, extension_in, extension_behind, onward, final}
+use Rattle.m2v_model.specs.Streams.{Among, Part, id_at, extension_in, extension_behind, onward, final}
 
 -- a fact on the value that was read, with the units behind it
 abbrev pub OfRead : {V : Type 0} → (V → Units → Type 0) → Result (V × Units) (FaultKind × ℕ) → Type 0

@@ -1,21 +1,21 @@
 -- Reading on behind a picture's headers: what is told of units as a whole, by what reading with slices unread gives.
-use Rattle.std.proofs.Common.{◌≡◌, ℕ, ◌+◌, ◌-◌, ◌*◌, ◌/◌, ◌<◌, ◌≤◌, Bool, true, false, cond, List, [], ◌∷◌, ◌++◌, length, Option, Some, None, Result, Ok, Err, inl, inr, refl, sym, ap, subst, ◌∙◌, append_assoc, arith}
+use Rattle.std.proofs.Common.{◌≡◌, ℕ, ◌+◌, ◌-◌, ◌*◌, ◌/◌, Bool, true, false, cond, List, [], ◌∷◌, ◌++◌, Option, Some, None, Result, Ok, Err, inl, inr, refl, sym, ap, subst, ◌∙◌, append_assoc, arith}
 use Rattle.std.specs.Prelude.{nat_eq}
-use Rattle.std.proofs.lemmas.Bool.{cases_Bool, eqb-true, both_ways, cond-false}
+use Rattle.std.proofs.lemmas.Bool.{cases_Bool, eqb-true, both_ways}
 use Rattle.std.proofs.lemmas.List.{append-nil}
-use Rattle.m2v_bits.proofs.SyntaxLaws.{good, bad}
+use Rattle.m2v_bits.proofs.SyntaxLaws.{bad}
 use Rattle.m2v_head.specs.declared.matrix.MatrixInfo.{MatrixInfo}
 use Rattle.m2v_model.specs.declared.fault.FaultKind.{FaultKind}
 use Rattle.m2v_model.specs.declared.setup.SliceSetup.{SliceSetup}
 use Rattle.m2v_model.specs.declared.state.Sequence.{Sequence}
 use Rattle.m2v_model.specs.declared.state.Open.{Open}
 use Rattle.m2v_model.specs.declared.state.State.{State}
-use Rattle.m2v_model.specs.Units.{Units, unit_bits, body, joined}
+use Rattle.m2v_model.specs.Units.{Units, unit_bits, body}
 use Rattle.m2v_model.specs.States.{picture_rows, slice_setup, with_slice, crowded_by, after_matrices}
 use Rattle.m2v_model.specs.Slices.{Slice, slice_at, large_in}
 use Rattle.m2v_model.specs.Streams.{Part, sequence, group, picture, matrices, slice, unread_slice, skipped_unit, ending, over, after}
 use Rattle.m2v_model.specs.Pictures.{Store, Events, picture_of, slice_painted}
-use Rattle.m2v_model.specs.ByPieces.{Between, Course, units_read, unit_read, after_part}
+use Rattle.m2v_model.specs.ByPieces.{Between, Course, units_read, unit_read}
 use Rattle.m2v_model.specs.HeadersOnly.{FrontRead, faulty, final_unit, more}
 use Rattle.m2v_model.proofs.CutLaws.{joined_bits}
 use Rattle.m2v_model.proofs.FlowLaws.{read_err, read_more}
@@ -24,11 +24,11 @@ use Rattle.m2v_model.proofs.PieceLaws.{placed}
 use Rattle.m2v_rows.specs.Rows.{Unread, Slices, Placed, Begun, Read, placed_by, slice_read, slices_read, and_slice}
 use Rattle.m2v_rows.specs.ByRows.{AreOrdered}
 use Rattle.m2v_rows.proofs.OwnLaws.{slices_stopped}
-use Rattle.m2v_rows.proofs.ByRowLaws.{with_front, prefixed}
+use Rattle.m2v_rows.proofs.ByRowLaws.{prefixed}
 use Rattle.m2v_headers.specs.Headers.{stopped_from, with_part, slices_by}
 use Rattle.m2v_halves.specs.OnePicture.{NoneBegins}
-use Rattle.m2v_halves.proofs.Behind.{Outcome, open_at, skim_at, slice_told, whole_slice, AlikePart, Alike, tail_of, unit_alike}
-use Rattle.m2v_halves.proofs.Painting.{at_open, Tells, Ends, frames_behind, ends, front}
+use Rattle.m2v_halves.proofs.Behind.{Outcome, open_at, skim_at, slice_told, Alike, tail_of, unit_alike}
+use Rattle.m2v_halves.proofs.Painting.{at_open, Tells, frames_behind, ends, front}
 
 -- the same state with other matrices
 abbrev pub loaded : State → List ℕ → List ℕ → State
@@ -223,9 +223,9 @@ slice_first setup end covered row u mid vs r own = ap (λ (q : Result (Slice × 
 slice_tells : (z : State) (s : Sequence) (o : Open) (store : Store) (end : ℕ) (us mid t : Units) (row : ℕ) (u : List ℕ) (fault : Option (FaultKind × ℕ)) (vs : Slices) (r : Result (Slice × List Bool) (FaultKind × ℕ))
     → mid ≡ t → (slice_at (slice_setup z s o) o.covered row).read (body u) ≡ r → unit_read (open_at z s o) us ≡ slice_told row t r
     → ((x : Slice) (large crowded : ℕ)
-      → Tells end (slice_setup z s o) z s (sliced_open o row x.covered large crowded) (frames_behind (slice_setup z s o) (begun_at o row x) store) fault
-        (slices_read (slice_setup z s o) (Ok ([], x.covered)) vs)
-        (placed end (units_read (at_open z s (sliced_open o row x.covered large crowded) (frames_behind (slice_setup z s o) (begun_at o row x) store)) mid)))
+    → Tells end (slice_setup z s o) z s (sliced_open o row x.covered large crowded) (frames_behind (slice_setup z s o) (begun_at o row x) store) fault
+    (slices_read (slice_setup z s o) (Ok ([], x.covered)) vs)
+    (placed end (units_read (at_open z s (sliced_open o row x.covered large crowded) (frames_behind (slice_setup z s o) (begun_at o row x) store)) mid)))
     → Tells end (slice_setup z s o) z s o store fault (slices_read (slice_setup z s o) (Ok ([], o.covered)) (unread_at end row u mid ∷ vs)) (placed end (units_read (at_open z s o store) us))
 slice_tells z s o store end us mid t row u fault vs (Ok x) same own e h =
     let setup = slice_setup z s o in
@@ -271,7 +271,7 @@ slice_rest z s o store end us mid row u ps fault e later unread n h =
       are = λ now. first.are (now ++ v ∷ []) ∙ append_assoc now (v ∷ []) vs ∙ ap (λ (l : Slices). now ++ l) all;
       ordered = subst (AreOrdered o.row (picture_rows s o)) all (a.3, a.2, first.ordered);
       told = subst (λ (l : Slices). Tells end (slice_setup z s o) z s o store fault (slices_read (slice_setup z s o) (Ok ([], o.covered)) l) (placed end (units_read (at_open z s o store) us))) all
-      (slice_tells z s o store end us mid (tail_of us) row u fault vs own a.1 refl whole (λ x large crowded. (settled (h x.covered large crowded (frames_behind (slice_setup z s o) (begun_at o row x) store)) refl).told));
+          (slice_tells z s o store end us mid (tail_of us) row u fault vs own a.1 refl whole (λ x large crowded. (settled (h x.covered large crowded (frames_behind (slice_setup z s o) (begun_at o row x) store)) refl).told));
     }
 
 -- ---- all units

@@ -1,9 +1,7 @@
 -- Reading up to a picture: the whole and its headers read the same.
-use Rattle.std.proofs.Common.{◌≡◌, ℕ, Bool, true, false, List, [], ◌∷◌, ◌++◌, Option, Some, None, Result, Ok, Err, ◌⊎◌, inl, inr, refl, sym, ap, subst, ◌∙◌}
-use Rattle.std.specs.Prelude.{is_some}
+use Rattle.std.proofs.Common.{◌≡◌, ℕ, Bool, true, false, List, [], ◌∷◌, ◌++◌, Option, Some, None, Ok, ◌⊎◌, inl, inr, refl, sym, ap, subst, ◌∙◌}
 use Rattle.std.proofs.lemmas.Bool.{cases_Bool}
 use Rattle.m2v_plane.specs.Sizes.{IsSize}
-use Rattle.m2v_head.specs.declared.group.GroupInfo.{GroupInfo}
 use Rattle.m2v_head.specs.declared.picture.PictureInfo.{PictureInfo}
 use Rattle.m2v_head.specs.declared.picture.PictureExtension.{PictureExtension}
 use Rattle.m2v_model.specs.declared.fault.FaultKind.{FaultKind}
@@ -13,17 +11,17 @@ use Rattle.m2v_model.specs.declared.state.State.{State}
 use Rattle.m2v_model.specs.Units.{Units}
 use Rattle.m2v_model.specs.States.{dims_of, drops, opened, after_sequence, after_group, after_picture}
 use Rattle.m2v_model.specs.Streams.{Part, sequence, group, picture, matrices, slice, unread_slice, skipped_unit, ending, over, after}
-use Rattle.m2v_model.specs.Pictures.{Store, Events, pictures_in, picture_begun, told_by, store_after}
-use Rattle.m2v_model.specs.ByPieces.{Between, Course, behind, units_read, unit_read, after_part}
+use Rattle.m2v_model.specs.Pictures.{Store, Events, pictures_in, picture_begun, told_by}
+use Rattle.m2v_model.specs.ByPieces.{Between, behind, units_read, unit_read, after_part}
 use Rattle.m2v_model.specs.HeadersOnly.{FrontRead, faulty, final_unit, more}
 use Rattle.m2v_model.proofs.FlowLaws.{read_err, read_more}
-use Rattle.m2v_model.proofs.SplitLaws.{behind_none, behind_twice}
+use Rattle.m2v_model.proofs.SplitLaws.{behind_twice}
 use Rattle.m2v_rows.specs.Rows.{Slices}
 use Rattle.m2v_headers.specs.Headers.{stopped_from, with_part, slices_by}
 use Rattle.m2v_halves.specs.OnePicture.{NoneBegins, HasOnePicture}
 use Rattle.m2v_halves.specs.Halves.{ReadsNone}
 use Rattle.m2v_halves.proofs.Holding.{read_at}
-use Rattle.m2v_halves.proofs.Behind.{Outcome, open_at, skim_at}
+use Rattle.m2v_halves.proofs.Behind.{skim_at}
 use Rattle.m2v_halves.proofs.Before.{shut, unit_same, First, FirstPart, unit_first}
 use Rattle.m2v_halves.proofs.Painting.{at_open}
 use Rattle.m2v_halves.proofs.Later.{never_one}

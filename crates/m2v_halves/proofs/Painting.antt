@@ -1,7 +1,7 @@
 -- What is told of a picture whose slices are read one behind another.
-use Rattle.std.proofs.Common.{◌≡◌, ℕ, ◌+◌, ◌-◌, ◌*◌, ◌/◌, Bool, true, false, cond, List, [], ◌∷◌, ◌++◌, Option, Some, None, Result, Ok, Err, inl, inr, refl, sym, ap, subst, ◌∙◌, arith}
-use Rattle.std.specs.Prelude.{nat_eq, ◌||◌}
-use Rattle.std.proofs.lemmas.Bool.{cases_Bool, eqb-true, eq-eqb, ne_eqb}
+use Rattle.std.proofs.Common.{◌≡◌, ℕ, ◌-◌, ◌*◌, Bool, true, false, cond, List, [], ◌∷◌, Option, Some, None, Result, Ok, Err, refl, sym, ap, subst, ◌∙◌, arith}
+use Rattle.std.specs.Prelude.{nat_eq}
+use Rattle.std.proofs.lemmas.Bool.{eq-eqb, ne_eqb}
 use Rattle.m2v_bits.proofs.SyntaxLaws.{bad}
 use Rattle.m2v_plane.specs.Samples.{Samples}
 use Rattle.m2v_model.specs.declared.fault.FaultKind.{FaultKind}
@@ -10,22 +10,19 @@ use Rattle.m2v_model.specs.declared.setup.SliceSetup.{SliceSetup}
 use Rattle.m2v_model.specs.declared.state.Sequence.{Sequence}
 use Rattle.m2v_model.specs.declared.state.Open.{Open}
 use Rattle.m2v_model.specs.declared.state.State.{State}
-use Rattle.m2v_model.specs.Units.{Units, unit_bits, body}
-use Rattle.m2v_model.specs.States.{columns_of, picture_rows, slice_setup, after_end, is_complete, with_slice, crowded_by}
-use Rattle.m2v_model.specs.Slices.{Slice, slice_at, large_in}
+use Rattle.m2v_model.specs.Units.{Units}
+use Rattle.m2v_model.specs.States.{columns_of, picture_rows, slice_setup, after_end, is_complete, crowded_by}
 use Rattle.m2v_model.specs.Samples.{put_in_frame}
-use Rattle.m2v_model.specs.Streams.{Part, slice, over, after}
-use Rattle.m2v_model.specs.Pictures.{Store, Events, coded_picture, picture_of, picture_ended, on_frame, slice_painted, store_after}
-use Rattle.m2v_model.specs.ByPieces.{Between, Course, units_read, unit_read, after_part}
-use Rattle.m2v_model.proofs.FlowLaws.{read_err, read_more, read_last}
-use Rattle.m2v_model.proofs.SplitLaws.{behind_none}
+use Rattle.m2v_model.specs.Streams.{Part, over, after}
+use Rattle.m2v_model.specs.Pictures.{Store, Events, coded_picture, picture_of, picture_ended, on_frame}
+use Rattle.m2v_model.specs.ByPieces.{Between, Course, units_read, unit_read}
+use Rattle.m2v_model.proofs.FlowLaws.{read_err, read_last}
 use Rattle.m2v_model.proofs.PieceLaws.{placed}
 use Rattle.m2v_picture.specs.Conditions.{rows_in}
-use Rattle.m2v_rows.specs.Rows.{Unread, Slices, Placed, Begun, Read, slice_read, slices_read, and_slice, begun_painted, slices_painted, first_of}
-use Rattle.m2v_rows.proofs.OwnLaws.{slices_stopped}
-use Rattle.m2v_rows.proofs.ByRowLaws.{with_front, prefixed}
+use Rattle.m2v_rows.specs.Rows.{Begun, Read, begun_painted, slices_painted, first_of}
+use Rattle.m2v_rows.proofs.ByRowLaws.{with_front}
 use Rattle.m2v_halves.specs.Halves.{frames_painted}
-use Rattle.m2v_halves.proofs.Behind.{open_at, slice_told}
+use Rattle.m2v_halves.proofs.Behind.{open_at}
 
 abbrev pub at_open : State → Sequence → Open → Store → Between
 at_open z s o store = record { state = open_at z s o; store = store }

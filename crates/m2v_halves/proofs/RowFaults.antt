@@ -1,17 +1,15 @@
 -- Faults of rows where a fault of headers stands behind the slices: nothing is said then of macroblocks that are missing
 -- at the picture's end.
-use Rattle.std.proofs.Common.{◌≡◌, ℕ, zero, suc, ◌+◌, ◌*◌, ◌/◌, ◌^◌, ◌<◌, ◌≤◌, Bool, true, false, cond, List, [], ◌∷◌, Option, Some, None, Result, Ok, Err, ◌⊎◌, inl, inr, refl, sym, ap, subst, ◌∙◌, arith}
+use Rattle.std.proofs.Common.{◌≡◌, ℕ, zero, suc, ◌+◌, ◌/◌, ◌^◌, ◌<◌, ◌≤◌, Bool, true, false, List, [], ◌∷◌, Option, Some, None, Ok, Err, ◌⊎◌, inl, inr, refl, sym, ap, subst, ◌∙◌, arith}
 use Rattle.std.specs.Prelude.{nat_eq, nat_lt, if◌then◌else◌}
-use Rattle.std.specs.List.{filter}
 use Rattle.std.proofs.Math.Nat.{mul-le-mul}
 use Rattle.std.proofs.lemmas.Bool.{cases_Bool, cases_lt, lt-ltb, ltb-true, eqb-true, false_from_ne_true}
 use Rattle.m2v_plane.specs.Sizes.{IsSize}
-use Rattle.m2v_model.specs.declared.fault.FaultKind.{FaultKind}
 use Rattle.m2v_model.specs.declared.fault.FaultKind.TheVariants.{MissingMacroblocks}
 use Rattle.m2v_model.specs.declared.setup.SliceSetup.{SliceSetup}
 use Rattle.m2v_picture.specs.Conditions.{rows_in}
-use Rattle.m2v_rows.specs.Rows.{Unread, Slices, Placed, Begun, Read, slice_read, slices_read, first_of, own, below, row_read, fault_in, missing, covering, row_fault}
-use Rattle.m2v_rows.specs.ByRows.{AreOrdered, picture_read, closed_by, picture_fault, ByRows}
+use Rattle.m2v_rows.specs.Rows.{Slices, Placed, Begun, Read, slices_read, first_of, own, below, row_read, missing, covering, row_fault}
+use Rattle.m2v_rows.specs.ByRows.{picture_read, closed_by, picture_fault, ByRows}
 use Rattle.m2v_halves.specs.Halves.{NoneAbove}
 
 -- ---- one row, with the picture's end and without
@@ -82,7 +80,6 @@ failed y = Err y
 -- a fault that is told at each end is one of the slices
 told_twice : (s : SliceSetup) (rows : ℕ) (f : Placed) (x : Read) → closed_by s rows 0 x ≡ Some f → closed_by s rows 1 x ≡ Some f → x ≡ Err f
 told_twice s rows f (Err g) a b = ap failed (some_is g f a)
-
 told_twice s rows f (Ok x) a b = elim (cases_Bool (nat_eq x.1 (first_of s rows))) [
   | inl on ↦ absurd (cc (rw on at a))
   | inr off ↦ apart _ f (sym (some_is _ f (rw off at a))) (sym (some_is _ f (rw off at b)))

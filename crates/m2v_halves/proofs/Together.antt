@@ -1,5 +1,5 @@
 -- A piece as a whole, by its headers and its rows.
-use Rattle.std.proofs.Common.{◌≡◌, ℕ, ◌+◌, ◌-◌, ◌*◌, ◌^◌, ◌<◌, ◌≤◌, Bool, true, false, List, [], ◌∷◌, ◌++◌, Option, Some, None, Result, Ok, Err, inl, inr, refl, sym, ap, subst, ◌∙◌, arith}
+use Rattle.std.proofs.Common.{◌≡◌, ℕ, ◌-◌, ◌*◌, ◌<◌, Bool, true, false, List, [], ◌∷◌, ◌++◌, Option, Some, None, Ok, Err, inl, inr, refl, sym, ap, subst, ◌∙◌}
 use Rattle.std.specs.Prelude.{nat_eq, if◌then◌else◌}
 use Rattle.std.proofs.lemmas.Bool.{cases_Bool, both_ways, eq-eqb}
 use Rattle.m2v_plane.specs.Sizes.{IsSize}
@@ -23,14 +23,14 @@ use Rattle.m2v_rows.specs.Rows.{Slices, Placed, Begun, Read, first_of, row_fault
 use Rattle.m2v_rows.specs.ByRows.{AreOrdered, picture_read, closed_by, picture_fault, ByRows}
 use Rattle.m2v_rows.specs.Opened.{whole_of}
 use Rattle.m2v_rows.proofs.ByRowLaws.{by_rows}
-use Rattle.m2v_headers.specs.Headers.{Front, stopped, stopped_from, slices_by, end_of, IsBetween, HaveOneSize}
+use Rattle.m2v_headers.specs.Headers.{Front, stopped_from, slices_by, fault_at, end_of, IsBetween, HaveOneSize}
 use Rattle.m2v_halves.specs.OnePicture.{HasOnePicture}
-use Rattle.m2v_halves.specs.Halves.{ReadsNone, parts_told, ending_at, NoneAbove, frames_begun, frames_painted, TellsPicture, ByItsRows, Halves}
+use Rattle.m2v_halves.specs.Halves.{ReadsNone, ending_at, NoneAbove, frames_begun, frames_painted, TellsPicture, PictureByRows, Halves}
 use Rattle.m2v_halves.proofs.Behind.{skim_at, unread_of, open_at}
 use Rattle.m2v_halves.proofs.Before.{shut}
-use Rattle.m2v_halves.proofs.Painting.{at_open, closed_with, ClosesWith, Ends, Tells}
-use Rattle.m2v_halves.proofs.Later.{reached, loaded, Rest, rest, never_one}
-use Rattle.m2v_halves.proofs.Dropped.{told_placed, Whole}
+use Rattle.m2v_halves.proofs.Painting.{at_open, ClosesWith, Tells}
+use Rattle.m2v_halves.proofs.Later.{reached, loaded, rest, never_one}
+use Rattle.m2v_halves.proofs.Dropped.{told_placed}
 use Rattle.m2v_halves.proofs.Opening.{HasSize, Opens, Either, either}
 use Rattle.m2v_halves.proofs.RowFaults.{first_fault, all_read, closed_none, addresses}
 
@@ -52,18 +52,18 @@ closed_told end setup z s o store f (Ok y) r t e = elim (cases_Bool (nat_eq y.1 
 
 row_course : (end : ℕ) (setup : SliceSetup) (z : State) (s : Sequence) (o : Open) (store : Store) (fault : Option (FaultKind × ℕ)) (us : Slices) (r : Course) → ((e : ℕ) → ByRows setup (rows_in setup) us e)
     → Tells end setup z s o store fault (picture_read setup us) r
-    → (row : ℕ) (f : Placed) → row < rows_in setup → NoneAbove setup us (ending_at end fault) row → row_fault setup row us (ending_at end fault) ≡ Some f → r ≡ Err f
+    → (row : ℕ) (x : Placed) → row < rows_in setup → NoneAbove setup us (ending_at end (fault_at end fault)) row → row_fault setup row us (ending_at end (fault_at end fault)) ≡ Some x → r ≡ Err x
 unfolding picture_fault
-row_course end setup z s o store None us r h t row f lt none e = closed_told end setup z s o store f (picture_read setup us) r t ((h (8 * end)).first row f lt none e)
-row_course end setup z s o store (Some g) us r h t row f lt none e = subst (λ (y : Read). Tells end setup z s o store (Some g) y r) (first_fault setup (rows_in setup) row us f h lt none e) t
+row_course end setup z s o store None us r h t row x lt none e = closed_told end setup z s o store x (picture_read setup us) r t ((h (8 * end)).first row x lt none e)
+row_course end setup z s o store (Some f) us r h t row x lt none e = subst (λ (y : Read). Tells end setup z s o store (Some f) y r) (first_fault setup (rows_in setup) row us x h lt none e) t
 
 headers_course : (end : ℕ) (setup : SliceSetup) (z : State) (s : Sequence) (o : Open) (store : Store) (fault : Option (FaultKind × ℕ)) (us : Slices) (r : Course) → ((e : ℕ) → ByRows setup (rows_in setup) us e)
     → Tells end setup z s o store fault (picture_read setup us) r
-    → (f : FaultKind × ℕ) → NoneAbove setup us (ending_at end fault) (rows_in setup) → fault ≡ Some f → r ≡ Err (f.0, 8 * end - f.1)
-headers_course end setup z s o store None us r h t f none e = absurd (cc e)
-headers_course end setup z s o store (Some g) us r h t f none e =
+    → (x : Placed) → NoneAbove setup us (ending_at end (fault_at end fault)) (rows_in setup) → fault_at end fault ≡ Some x → r ≡ Err x
+headers_course end setup z s o store None us r h t x none e = absurd (cc e)
+headers_course end setup z s o store (Some f) us r h t x none e =
     let all = all_read setup (rows_in setup) us h none in
-    subst (λ (y : Read). Tells end setup z s o store (Some g) y r) all.1 t ∙ ap (λ (x : FaultKind × ℕ). failed (x.0, 8 * end - x.1)) (some_is g f e)
+    subst (λ (y : Read). Tells end setup z s o store (Some f) y r) all.1 t ∙ ap failed (some_is (f.0, 8 * end - f.1) x e)
 
 -- all slices were read, and the picture ends with them
 record Closed (setup : SliceSetup) (z : State) (s : Sequence) (o : Open) (store : Store) (us : Slices) (r : Course) : Type 0 where
@@ -73,9 +73,9 @@ record Closed (setup : SliceSetup) (z : State) (s : Sequence) (o : Open) (store 
 
 whole_course : (end : ℕ) (setup : SliceSetup) (z : State) (s : Sequence) (o : Open) (store : Store) (fault : Option (FaultKind × ℕ)) (us : Slices) (r : Course) → ((e : ℕ) → ByRows setup (rows_in setup) us e)
     → Tells end setup z s o store fault (picture_read setup us) r
-    → NoneAbove setup us (ending_at end fault) (rows_in setup) → fault ≡ None → Closed setup z s o store us r
+    → NoneAbove setup us (ending_at end (fault_at end fault)) (rows_in setup) → fault_at end fault ≡ None → Closed setup z s o store us r
 unfolding picture_fault
-whole_course end setup z s o store (Some g) us r h t none e = absurd (cc e)
+whole_course end setup z s o store (Some f) us r h t none e = absurd (cc e)
 whole_course end setup z s o store None us r h t none e =
     let c = closed_none setup (rows_in setup) (8 * end) (picture_read setup us) ((h (8 * end)).whole none) in
     let told = subst (λ (y : Read). Tells end setup z s o store None y r) c.1 t in
@@ -93,7 +93,7 @@ frames_are s o store e = begun_by o.slices_unread (record store { current = None
 picture_told : (b : Between) (z : State) (s : Sequence) (o : Open) (has_slice : Bool) (row : ℕ) (us : Slices) (es : Events) → o.slices_unread ≡ false → pictures_in es ≡ []
     → (xs : List Begun) (n : ℕ) → picture_read (slice_setup z s o) us ≡ Ok (xs, first_of (slice_setup z s o) (rows_in (slice_setup z s o)))
     → let f = frames_painted (slice_setup z s o) xs (picture_begun (Some s) o b.store) in
-      TellsPicture b (skim_at z s (reached o has_slice row)) us s (unread_of (reached o has_slice row)) (es ++ coded_picture (record (picture_of o f) { crowded_row = n }) ∷ []) (record { state = after_end (open_at z s o); store = picture_ended (Some o) f })
+    TellsPicture b (skim_at z s (reached o has_slice row)) s (unread_of (reached o has_slice row)) (slice_setup z s o) us (es ++ coded_picture (record (picture_of o f) { crowded_row = n }) ∷ []) (record { state = after_end (open_at z s o); store = picture_ended (Some o) f })
 unfolding slice_setup picture_of
 picture_told b z s o has_slice row us es unread none xs n read =
     let setup = slice_setup z s o in
@@ -114,7 +114,7 @@ picture_told b z s o has_slice row us es unread none xs n read =
 by_its_rows : (b : Between) (end : ℕ) (piece : List ℕ) (z : State) (s : Sequence) (o : Open) (has_slice : Bool) (row : ℕ) (us : Slices) (fault : Option (FaultKind × ℕ)) (es : Events) (r : Course)
     → IsSize (dims_of s) → o.slices_unread ≡ false → pictures_in es ≡ [] → AreOrdered 0 (picture_rows s o) us → piece_read b end piece ≡ behind es r
     → Tells end (slice_setup z s o) z s o (picture_begun (Some s) o b.store) fault (picture_read (slice_setup z s o) us) r
-    → ByItsRows b end piece (skim_at z s (reached o has_slice row)) us fault s (unread_of (reached o has_slice row))
+    → PictureByRows b end piece (skim_at z s (reached o has_slice row)) us (fault_at end fault) s (unread_of (reached o has_slice row))
 unfolding slice_setup
 by_its_rows b end piece z s o has_slice row us fault es r size unread no_pictures ordered whole told =
     let setup = slice_setup z s o in
@@ -142,7 +142,7 @@ sequence_is s t e = cc
 -- where a picture opens whose slices are read
 opens_rows : (w : State) (store : Store) (end : ℕ) (piece : List ℕ) (parts : List Part) (fault : Option (FaultKind × ℕ)) (st : State) (r : FrontRead st (cut 0 piece).1 parts fault)
     → Opens w store end (cut 0 piece).1 parts fault st r → (s : Sequence) (o : Open) → (stopped_from st parts).sequence ≡ Some s → (stopped_from st parts).picture ≡ Some o
-    → ByItsRows (record { state = w; store = store }) end piece (stopped_from st parts) (slices_by end [] r) fault s o
+    → PictureByRows (record { state = w; store = store }) end piece (stopped_from st parts) (slices_by end [] r) (fault_at end fault) s o
 opens_rows w store end piece parts fault st r a s o in_force is_open =
     let b : Between = record { state = w; store = store } in
     let h = rest a.z a.s a.o (picture_begun (Some a.s) a.o store) end a.mid a.later_parts fault a.later a.read a.begins in
@@ -157,10 +157,10 @@ opens_rows w store end piece parts fault st r a s o in_force is_open =
     let law = by_its_rows b end piece z a.s a.o h.has_slice h.row us fault a.es course a.size a.read a.no_pictures ordered whole told in
     let same_sequence = sequence_is a.s s (sym (ap (λ (x : State). x.sequence) final) ∙ in_force) in
     let same_open = open_is (unread_of own) o (sym (ap (λ (x : State). x.picture) final) ∙ is_open) in
-    subst (λ (x : Sequence). ByItsRows b end piece (stopped_from st parts) (slices_by end [] r) fault x o) same_sequence
-    (subst (λ (x : Open). ByItsRows b end piece (stopped_from st parts) (slices_by end [] r) fault a.s x) same_open
-    (subst (λ (x : State). ByItsRows b end piece x (slices_by end [] r) fault a.s (unread_of own)) (sym final)
-    (subst (λ (l : Slices). ByItsRows b end piece (skim_at z a.s own) l fault a.s (unread_of own)) (sym (a.are [])) law)))
+    subst (λ (x : Sequence). PictureByRows b end piece (stopped_from st parts) (slices_by end [] r) (fault_at end fault) x o) same_sequence
+    (subst (λ (x : Open). PictureByRows b end piece (stopped_from st parts) (slices_by end [] r) (fault_at end fault) a.s x) same_open
+    (subst (λ (x : State). PictureByRows b end piece x (slices_by end [] r) (fault_at end fault) a.s (unread_of own)) (sym final)
+    (subst (λ (l : Slices). PictureByRows b end piece (skim_at z a.s own) l (fault_at end fault) a.s (unread_of own)) (sym (a.are [])) law)))
 
 opens_kept : (w : State) (store : Store) (end : ℕ) (us : Units) (parts : List Part) (fault : Option (FaultKind × ℕ)) (st : State) (r : FrontRead st us parts fault)
     → Opens w store end us parts fault st r → ReadsNone (stopped_from st parts).picture → ⊥

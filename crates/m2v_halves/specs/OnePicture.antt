@@ -1,5 +1,5 @@
 -- A piece has one picture at most.
-use Rattle.std.specs.Prelude.{◌≡◌, ℕ, false, List, [], ◌∷◌}
+use Rattle.std.specs.Prelude.{◌≡◌, false, [], ◌∷◌}
 use Rattle.m2v_model.specs.Units.{Units}
 use Rattle.m2v_model.specs.Streams.{value_of}
 use Rattle.m2v_model.specs.Pieces.{begins_piece}

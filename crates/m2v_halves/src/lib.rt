@@ -4,4 +4,4 @@
 
 mod laws;
 
-pub use laws::law_one_picture;
+pub use laws::{law_halves, law_one_picture};
