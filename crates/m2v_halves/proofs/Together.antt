@@ -23,7 +23,7 @@ use Rattle.m2v_rows.specs.Rows.{Slices, Placed, Begun, Read, first_of, row_fault
 use Rattle.m2v_rows.specs.ByRows.{AreOrdered, picture_read, closed_by, picture_fault, ByRows}
 use Rattle.m2v_rows.specs.Opened.{whole_of}
 use Rattle.m2v_rows.proofs.ByRowLaws.{by_rows}
-use Rattle.m2v_headers.specs.Headers.{Front, stopped_from, slices_by, fault_at, end_of, IsBetween, HaveOneSize}
+use Rattle.m2v_headers.specs.Headers.{Front, stopped, stopped_from, slices_by, fault_at, end_of, IsBetween, HaveOneSize}
 use Rattle.m2v_halves.specs.OnePicture.{HasOnePicture}
 use Rattle.m2v_halves.specs.Halves.{ReadsNone, ending_at, NoneAbove, frames_begun, frames_painted, TellsPicture, PictureByRows, Halves}
 use Rattle.m2v_halves.proofs.Behind.{skim_at, unread_of, open_at}
@@ -173,10 +173,14 @@ halves_by : (w : State) (store : Store) (p : Piece) (f : Front w p) → Either w
 halves_by w store p f (inl a) =
     let b : Between = record { state = w; store = store } in
     record {
-      headers = λ none. piece_is b (end_of p) (whole_of p) ∙ ap (placed (end_of p)) a.told ∙ told_placed b (end_of p) f.parts f.fault;
-      rows = λ s o in_force is_open kept. absurd (both_ways _ kept (subst ReadsNone is_open a.none));
+      headers = λ none. piece_is b (end_of p) (whole_of p) ∙ ap (placed (end_of p)) a.told ∙ told_placed b (end_of p) (stopped f) f.parts f.fault;
+      none = a.none;
+      dropped = λ o is drop whole. a.dropped o is whole;
+      rows = λ s o in_force is_open kept. absurd (both_ways _ kept (subst ReadsNone is_open a.drops));
     }
 halves_by w store p f (inr a) = record {
+  none = λ closed. absurd (opens_kept w store (end_of p) (cut 0 (whole_of p)).1 f.parts f.fault _ f.read a (subst ReadsNone (sym closed) tt));
+  dropped = λ o is drop whole. absurd (opens_kept w store (end_of p) (cut 0 (whole_of p)).1 f.parts f.fault _ f.read a (subst ReadsNone (sym is) drop));
   headers = λ none. absurd (opens_kept w store (end_of p) (cut 0 (whole_of p)).1 f.parts f.fault _ f.read a none);
   rows = λ s o in_force is_open kept. opens_rows w store (end_of p) (whole_of p) f.parts f.fault _ f.read a s o in_force is_open;
 }

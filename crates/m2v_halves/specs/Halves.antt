@@ -5,9 +5,9 @@ use Rattle.m2v_model.specs.declared.state.Sequence.{Sequence}
 use Rattle.m2v_model.specs.declared.state.Open.{Open}
 use Rattle.m2v_model.specs.declared.state.State.{State}
 use Rattle.m2v_model.specs.States.{slice_setup, after_end}
-use Rattle.m2v_model.specs.Streams.{Part, after}
+use Rattle.m2v_model.specs.Streams.{Part}
 use Rattle.m2v_model.specs.Samples.{put_in_frame}
-use Rattle.m2v_model.specs.Pictures.{Events, Store, picture_of, pictures_in, picture_begun, picture_ended, on_frame}
+use Rattle.m2v_model.specs.Pictures.{Events, Store, picture_of, pictures_in, picture_begun, picture_ended, on_frame, events_from, store_from}
 use Rattle.m2v_model.specs.ByPieces.{Between, Course, read_of, piece_read}
 use Rattle.m2v_piece.specs.declared.answer.Piece.{Piece}
 use Rattle.m2v_picture.specs.Conditions.{rows_in}
@@ -23,15 +23,24 @@ abbrev pub ReadsNone : Option Open → Type 0
 ReadsNone None = Unit {0}
 ReadsNone (Some o) = o.dropped ≡ true
 
--- the state behind parts
-unfoldable pub state_behind : State → List Part → State
-state_behind st [] = st
-state_behind st (p ∷ ps) = state_behind (after st p) ps
+-- the state that a piece leaves, by that in which its headers stop: no picture is open any more
+abbrev pub state_left : State → State
+state_left st = record (after_end st) { headers_only = false }
 
--- what parts tell, or the fault behind them
-abbrev pub parts_told : Between → List Part → Option Placed → Course
-parts_told b parts None = Ok (read_of b (record { state = state_behind b.state parts; parts = parts }))
-parts_told b parts (Some x) = Err x
+-- what the parts of a piece tell, or the fault behind them
+abbrev pub parts_told : Between → State → List Part → Option Placed → Course
+parts_told b st parts None = Ok (read_of b (record { state = state_left st; parts = parts }))
+parts_told b st parts (Some x) = Err x
+
+-- the parts tell no picture, and the frames at hand stay
+pub record TellNone (b : Between) (parts : List Part) : Type 0 where
+  pub pictures : pictures_in (events_from b.state b.store parts) ≡ []
+  pub store : store_from b.state b.store parts ≡ b.store
+
+-- the parts tell one picture, which is dropped and has no frame, and it ends
+pub record TellDropped (b : Between) (parts : List Part) (o : Open) : Type 0 where
+  pub pictures : pictures_in (events_from b.state b.store parts) ≡ picture_of o (record b.store { current = None }) ∷ []
+  pub store : store_from b.state b.store parts ≡ picture_ended (Some o) (record b.store { current = None })
 
 -- ---- where the slices of a picture are read
 
@@ -69,7 +78,7 @@ pub record TellsPicture (b : Between) (st : State) (s : Sequence) (o : Open) (se
   pub read : picture_read setup us ≡ Ok (slices, first_of setup (rows_in setup))
   pub crowded : ℕ
   pub picture : pictures_in es ≡ record (picture_of o (frames_painted setup slices (frames_begun s o b.store))) { crowded_row = crowded } ∷ []
-  pub state : next.state ≡ record (after_end st) { headers_only = false }
+  pub state : next.state ≡ state_left st
   pub store : next.store ≡ picture_ended (Some o) (frames_painted setup slices (frames_begun s o b.store))
 
 -- what a piece tells that ends at a byte, where a picture is open in the state in which its headers stop
@@ -82,7 +91,9 @@ PictureByRows b end piece st us fault s o =
 -- a piece as a whole, by what its headers and its rows tell
 pub record Halves (b : Between) (p : Piece) (f : Front b.state p) : Type 0 where
   -- no slice is read: the parts of the headers, or their fault
-  pub headers : ReadsNone (stopped f).picture → piece_read b (end_of p) (whole_of p) ≡ parts_told b f.parts (fault_at (end_of p) f.fault)
+  pub headers : ReadsNone (stopped f).picture → piece_read b (end_of p) (whole_of p) ≡ parts_told b (stopped f) f.parts (fault_at (end_of p) f.fault)
+  pub none : (stopped f).picture ≡ None → TellNone b f.parts
+  pub dropped : (o : Open) → (stopped f).picture ≡ Some o → o.dropped ≡ true → f.fault ≡ None → TellDropped b f.parts o
   -- slices are read: the picture by its rows
   pub rows : (s : Sequence) (o : Open) → (stopped f).sequence ≡ Some s → (stopped f).picture ≡ Some o → o.dropped ≡ false
       → PictureByRows b (end_of p) (whole_of p) (stopped f) (slices_by (end_of p) [] f.read) (fault_at (end_of p) f.fault) s o
