@@ -1,7 +1,7 @@
 -- A unit behind a picture's headers, read with slices unread and read whole.
 use Rattle.std.proofs.Common.{◌≡◌, ℕ, ◌+◌, ◌-◌, ◌<◌, ◌≤◌, Bool, true, false, cond, List, [], ◌∷◌, Some, Result, Ok, Err, refl, sym, subst}
-use Rattle.std.specs.Prelude.{nat_eq, nat_lt, nat_le, ◌&&◌, not}
-use Rattle.std.proofs.lemmas.Bool.{both_ways, eqb-true, ltb-true, leb-true}
+use Rattle.std.specs.Prelude.{nat_eq, nat_lt, nat_le, ◌&&◌}
+use Rattle.std.proofs.lemmas.Bool.{both_ways, eqb-true, ltb-true, leb-true, and_parts, not-true}
 use Rattle.m2v_bits.specs.Syntax.{bind, seq, rule, done, choose}
 use Rattle.m2v_bits.proofs.SyntaxLaws.{good, bad}
 use Rattle.m2v_model.specs.declared.fault.FaultKind.{FaultKind}
@@ -63,10 +63,6 @@ same_alike : (z : State) (s : Sequence) (o : Open) (t : Units) (r : Outcome) →
 same_alike z s o t (Ok x) h = h
 same_alike z s o t (Err f) h = refl
 
-not_false : (b : Bool) → not b ≡ true → b ≡ false
-not_false true e = absurd cc
-not_false false e = refl
-
 extension_same : (z : State) (s : Sequence) (o : Open) (start : ℕ) (u : List ℕ) (t : Units) → Holding (λ x mid. AlikePart z s o t x.0 x.1 mid (Ok (x, mid))) (onward (extension_unit (open_at z s o) start u)) t
 unfolding extension_unit matrix_unit id_at
 extension_same z s o start u t =
@@ -74,7 +70,7 @@ extension_same z s o start u t =
     (inside_then _ _ _ (λ id end read.
     choose_holds _ (λ e. refuse_holds _ _) (λ e.
     choose_holds _
-    (λ e. rule_then _ _ _ _ (λ allowed. inside_then _ _ _ (λ m rest got. done_holds _ (refl, refl, not_false o.has_slice allowed, refl))))
+    (λ e. rule_then _ _ _ _ (λ allowed. inside_then _ _ _ (λ m rest got. done_holds _ (refl, refl, not-true o.has_slice allowed, refl))))
     (λ e. choose_holds _ (λ e. refuse_holds _ _) (λ e. done_holds _ (refl, refl, refl))))))
 
 extension_alike : (z : State) (s : Sequence) (o : Open) (start : ℕ) (u : List ℕ) (t : Units) → Alike z s o t ((onward (extension_unit (skim_at z s o) start u)).read t) ((onward (extension_unit (open_at z s o) start u)).read t)
@@ -82,11 +78,6 @@ unfolding extension_unit matrix_unit
 extension_alike z s o start u t = same_alike z s o t ((onward (extension_unit (open_at z s o) start u)).read t) (extension_same z s o start u t).is
 
 -- ---- slices
-
-and_both : (a b : Bool) → (a && b) ≡ true → (a ≡ true) × (b ≡ true)
-and_both true true e = (refl, refl)
-and_both true false e = absurd cc
-and_both false b e = absurd cc
 
 abbrev then_slice : ℕ → Units → Result (Slice × List Bool) (FaultKind × ℕ) → Outcome
 then_slice row t r = bind (bind (of_body t r) (λ x mid. good (slice row x, mid))) (λ p mid. good ((true, p), mid))
@@ -108,7 +99,7 @@ slice_ordered : (z : State) (s : Sequence) (o : Open) (row start : ℕ) (u : Lis
     (bind (bind (cond b (good (tt, t)) (bad (SliceOrder, start))) (λ (x : Unit {0}) (mid : Units). cond o.slices_unread (good (unread_slice row u, mid)) (bind (of_body mid ((slice_at (slice_setup z s o) o.covered row).read (body u))) (λ x mid. good (slice row x, mid))))) (λ p mid. good ((true, p), mid)))
 unfolding bind
 slice_ordered z s o row start u t true e =
-    let both = and_both (nat_lt row (picture_rows s o)) (nat_le o.row row) e in
+    let both = and_parts (nat_lt row (picture_rows s o)) (nat_le o.row row) e in
     (refl, refl, ltb-true row (picture_rows s o) both.0, leb-true o.row row both.1, unread_or o.slices_unread row u t _)
 slice_ordered z s o row start u t false e = refl
 

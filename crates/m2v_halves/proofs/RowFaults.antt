@@ -1,9 +1,9 @@
 -- Faults of rows where a fault of headers stands behind the slices: nothing is said then of macroblocks that are missing
 -- at the picture's end.
 use Rattle.std.proofs.Common.{◌≡◌, ℕ, zero, suc, ◌+◌, ◌/◌, ◌^◌, ◌<◌, ◌≤◌, Bool, true, false, List, [], ◌∷◌, Option, Some, None, Ok, Err, ◌⊎◌, inl, inr, refl, sym, ap, subst, ◌∙◌, arith}
-use Rattle.std.specs.Prelude.{nat_eq, nat_lt, if◌then◌else◌}
+use Rattle.std.specs.Prelude.{nat_eq, if◌then◌else◌}
 use Rattle.std.proofs.Math.Nat.{mul-le-mul}
-use Rattle.std.proofs.lemmas.Bool.{cases_Bool, cases_lt, lt-ltb, ltb-true, eqb-true, false_from_ne_true}
+use Rattle.std.proofs.lemmas.Bool.{cases_Bool, cases_lt, lt-ltb, le-ltb, ne_eqb, eqb-true}
 use Rattle.m2v_plane.specs.Sizes.{IsSize}
 use Rattle.m2v_model.specs.declared.fault.FaultKind.TheVariants.{MissingMacroblocks}
 use Rattle.m2v_model.specs.declared.setup.SliceSetup.{SliceSetup}
@@ -71,7 +71,7 @@ IsReadAll s us = (x : List Begun × ℕ) × (picture_read s us ≡ Ok x)
 apart : (P : Type 0) (f : Placed) → f ≡ (MissingMacroblocks, 0) → f ≡ (MissingMacroblocks, 1) → P
 apart P f a b = absurd (omega (arith, ap (λ (x : Placed). x.1) (sym a ∙ b)))
 
-some_is : (f g : Placed) → Some f ≡ Some g → f ≡ g
+pub some_is : (f g : Placed) → Some f ≡ Some g → f ≡ g
 some_is f g e = cc
 
 abbrev failed : Placed → Read
@@ -85,20 +85,14 @@ told_twice s rows f (Ok x) a b = elim (cases_Bool (nat_eq x.1 (first_of s rows))
   | inr off ↦ apart _ f (sym (some_is _ f (rw off at a))) (sym (some_is _ f (rw off at b)))
 ]
 
-not_lt : (a b : ℕ) → b ≤ a → nat_lt a b ≡ false
-not_lt a b le = false_from_ne_true (nat_lt a b) (λ t. absurd (omega (arith, le, ltb-true a b t)))
-
-not_eq : (a b : ℕ) → (a ≡ b → ⊥) → nat_eq a b ≡ false
-not_eq a b ne = false_from_ne_true (nat_eq a b) (λ t. ne (eqb-true a b t))
-
 -- behind a row below which no slice stands, rows have no slices
 none_of : (q r : ℕ) (us : Slices) → q < r → below q us ≡ [] → (own r us ≡ []) × (below r us ≡ [])
 none_of q r [] lt e = (refl, refl)
 none_of q r (u ∷ us) lt e = elim (cases_lt q u.row) [
   | inl more ↦ absurd (cc (rw (lt-ltb q u.row more) at e))
   | inr less ↦
-      let rest = none_of q r us lt (rw (not_lt q u.row less) at e) in
-      (rw (not_eq u.row r (λ same. absurd (omega (arith, less, lt, same)))) rest.0, rw (not_lt r u.row (omega (arith, less, lt))) rest.1)
+      let rest = none_of q r us lt (rw (le-ltb q u.row less) at e) in
+      (rw (ne_eqb u.row r (λ same. absurd (omega (arith, less, lt, same)))) rest.0, rw (le-ltb r u.row (omega (arith, less, lt))) rest.1)
 ]
 
 abbrev no_fault : Option Placed

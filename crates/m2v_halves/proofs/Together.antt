@@ -32,12 +32,9 @@ use Rattle.m2v_halves.proofs.Painting.{at_open, ClosesWith, Tells}
 use Rattle.m2v_halves.proofs.Later.{reached, loaded, rest, never_one}
 use Rattle.m2v_halves.proofs.Dropped.{told_placed}
 use Rattle.m2v_halves.proofs.Opening.{HasSize, Opens, Either, either}
-use Rattle.m2v_halves.proofs.RowFaults.{first_fault, all_read, closed_none, addresses}
+use Rattle.m2v_halves.proofs.RowFaults.{first_fault, some_is, all_read, closed_none, addresses}
 
 -- ---- what is told, by the faults of rows
-
-some_is : (f g : Placed) → Some f ≡ Some g → f ≡ g
-some_is f g e = cc
 
 abbrev failed : Placed → Course
 failed f = Err f
