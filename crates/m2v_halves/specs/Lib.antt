@@ -1,0 +1,2 @@
+pub mod OnePicture
+pub mod Halves
