@@ -1,3 +1,6 @@
+ghost use Rattle.std.specs.Prelude.{◌≡◌};
+ghost use Rattle.m2v_unit.specs.Among.{goes_on as units_follow};
+
 use m2v_head::{GroupInfo, MatrixInfo, PictureExtension, PictureInfo};
 use m2v_model::Sequence;
 
@@ -15,4 +18,16 @@ pub enum Header {
     Skipped,
     /// The sequence end code.
     Ending,
+}
+
+impl Header {
+    /// Whether units may follow: behind the sequence end code none does.
+    pub fn goes_on(&self) -> bool
+        ensures { result ≡ units_follow self.now }
+    {
+        match self {
+            Header::Ending => false,
+            _ => true,
+        }
+    }
 }
