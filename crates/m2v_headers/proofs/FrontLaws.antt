@@ -1,5 +1,5 @@
 -- What units that were read leave: the slices so far, and the state, whatever stands behind them.
-use Rattle.std.proofs.Common.{◌≡◌, ℕ, ◌+◌, ◌-◌, ◌*◌, ◌/◌, ◌≤◌, ◌<◌, Bool, true, false, List, [], ◌∷◌, ◌++◌, All, map, length, Option, Some, None, Ok, Err, refl, sym, ap, subst, ◌∙◌}
+use Rattle.std.proofs.Common.{◌≡◌, ℕ, ◌-◌, ◌/◌, ◌≤◌, ◌<◌, true, false, List, [], ◌∷◌, ◌++◌, All, map, length, Option, Some, None, Ok, Err, refl, sym, ap, subst, ◌∙◌}
 use Rattle.std.proofs.lemmas.List.{map-append}
 use Rattle.std.proofs.lemmas.List.Elements.{All-nil, All-push}
 use Rattle.m2v_model.specs.declared.fault.FaultKind.{FaultKind}
@@ -9,7 +9,7 @@ use Rattle.m2v_model.specs.declared.state.Open.{Open}
 use Rattle.m2v_model.specs.declared.state.State.{State}
 use Rattle.m2v_model.specs.Units.{Units, unit_bits}
 use Rattle.m2v_model.specs.States.{picture_rows, with_unread_slice, after_unread_slice}
-use Rattle.m2v_model.specs.Streams.{Part, value_of, unread_slice, ending, over, after}
+use Rattle.m2v_model.specs.Streams.{Part, value_of, unread_slice, over, after}
 use Rattle.m2v_model.specs.ByPieces.{unit_read}
 use Rattle.m2v_model.specs.HeadersOnly.{FrontRead, faulty, final_unit, more}
 use Rattle.m2v_piece.specs.declared.answer.Piece.{Piece}

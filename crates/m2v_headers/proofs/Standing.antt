@@ -13,7 +13,6 @@ use Rattle.m2v_piece.specs.declared.answer.Piece.{Piece}
 use Rattle.m2v_piece.specs.Sound.{IsSoundPiece}
 use Rattle.m2v_unit.proofs.Cuts.{text_length}
 use Rattle.m2v_rows.specs.Opened.{StandsIn, unread, whole_of}
-use Rattle.m2v_rows.specs.Rows.{Unread}
 use Rattle.m2v_headers.specs.Headers.{end_of}
 use Rattle.m2v_headers.specs.Skims.{EndsWith, unit_of}
 use Rattle.m2v_headers.proofs.UnitGifts.{IsOnward, unit_says}

@@ -1,8 +1,7 @@
 -- What reading the headers of a piece answers, by what was read.
-use Rattle.std.proofs.Common.{◌≡◌, ℕ, ◌+◌, ◌-◌, ◌*◌, Bool, true, List, [], map, Option, Some, None, Ok, Err, refl, sym, ap, subst, ◌∙◌}
+use Rattle.std.proofs.Common.{◌≡◌, ℕ, true, List, [], map, Option, Some, None, Ok, Err, refl, sym, ap, subst, ◌∙◌}
 use Rattle.m2v_model.specs.declared.fault.FaultKind.{FaultKind}
 use Rattle.m2v_model.specs.declared.stop.Stop.{Stop}
-use Rattle.m2v_model.specs.declared.state.Open.{Open}
 use Rattle.m2v_model.specs.declared.state.State.{State}
 use Rattle.m2v_model.specs.Units.{Units, cut}
 use Rattle.m2v_model.specs.States.{slice_setup, after_end}
@@ -12,12 +11,11 @@ use Rattle.m2v_piece.specs.declared.answer.Fault.{Fault}
 use Rattle.m2v_piece.specs.declared.answer.DecodeError.TheVariants as errors
 use Rattle.m2v_rows.specs.declared.opened.Opened.{Opened}
 use Rattle.m2v_rows.specs.declared.opened.SliceUnit.{SliceUnit}
-use Rattle.m2v_rows.specs.Rows.{Placed}
 use Rattle.m2v_rows.specs.Opened.{unread, whole_of}
 use Rattle.m2v_rows.specs.Reads.{as_placed}
 use Rattle.m2v_headers.specs.declared.skim.Skim.{Skim}
 use Rattle.m2v_headers.specs.Headers.{stopped, slices_by, fault_at, end_of, TellsHeaders}
-use Rattle.m2v_headers.specs.Skims.{ReadsFront, Skimmed, OpensSome, fault_of, so_far}
+use Rattle.m2v_headers.specs.Skims.{ReadsFront, Skimmed, OpensSome, fault_of}
 
 -- ---- a piece was read
 

@@ -13,14 +13,12 @@ use Rattle.m2v_model.specs.Decoding.{low_delay_of}
 use Rattle.m2v_model.specs.Buffering.{code_bits}
 use Rattle.m2v_model.specs.HeadersOnly.{without_slices, FrontRead, faulty, final_unit, more, HeadersRead}
 use Rattle.m2v_piece.specs.declared.answer.Piece.{Piece}
-use Rattle.m2v_piece.specs.declared.answer.Fault.{Fault}
 use Rattle.m2v_piece.specs.declared.answer.DecodeError.{DecodeError}
 use Rattle.m2v_piece.specs.declared.answer.DecodeError.TheVariants as errors
 use Rattle.m2v_unit.specs.Among.{AreMatrices}
-use Rattle.m2v_unit.specs.Texts.{text_of}
 use Rattle.m2v_rows.specs.declared.opened.Opened.{Opened}
 use Rattle.m2v_rows.specs.Rows.{Slices, Placed}
-use Rattle.m2v_rows.specs.Opened.{IsOpened, setup_of, slices_of, whole_of}
+use Rattle.m2v_rows.specs.Opened.{setup_of, slices_of, whole_of}
 use Rattle.m2v_rows.specs.Reads.{as_placed}
 
 -- ---- as far as the headers can be read

@@ -1,5 +1,4 @@
-use Rattle.std.proofs.Common.{◌≡◌, true, refl}
-use Rattle.m2v_model.specs.Units.{cut}
+use Rattle.std.proofs.Common.{true, refl}
 use Rattle.m2v_rows.specs.Opened.{whole_of}
 use Rattle.m2v_headers.proofs.Standing.{ends_first}
 use Rattle.m2v_headers.proofs.TellLaws.{skimmed}

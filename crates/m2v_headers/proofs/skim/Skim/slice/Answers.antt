@@ -1,6 +1,5 @@
-use Rattle.std.proofs.Common.{◌≡◌, ◌-◌, ◌∙◌, refl, true, arith}
+use Rattle.std.proofs.Common.{◌≡◌, ◌-◌, ◌∙◌, refl}
 use Rattle.m2v_model.specs.Streams.{value_of, unread_slice}
-use Rattle.m2v_unit.specs.Among.{is_slice}
 use Rattle.m2v_headers.proofs.UnitSteps.{slice_ok, slice_err, slice_value, unread_reads}
 use Rattle.m2v_headers.proofs.StateLaws.{open_there}
 use Rattle.m2v_headers.proofs.Standing.{start_within}

@@ -1,4 +1,4 @@
-use Rattle.std.proofs.Common.{sym, subst, ap, [], ◌∙◌}
+use Rattle.std.proofs.Common.{sym, subst, []}
 use Rattle.std.specs.Prelude.{IfOk}
 use Rattle.m2v_model.specs.Units.{Units}
 use Rattle.m2v_model.specs.ByPieces.{unit_read}
