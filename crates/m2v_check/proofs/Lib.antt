@@ -1,6 +1,5 @@
 pub mod OneMeaning
 pub mod AnswerLaws
-pub mod UnitGifts
 pub mod Telling
 pub mod Ordered
 pub mod Accounted

@@ -20,7 +20,7 @@ use Rattle.m2v_model.specs.ByPieces.{Between, Course, behind, unit_read, after_p
 use Rattle.m2v_model.proofs.FlowLaws.{part_read, read_once, unit_less}
 use Rattle.m2v_model.proofs.EventLaws.{pictures_in-append}
 use Rattle.m2v_judge.specs.Laws.{Alternates}
-use Rattle.m2v_check.proofs.UnitGifts.{PartFits, IsLast, IsOnward, first_value, UnitSays, unit_says}
+use Rattle.m2v_headers.proofs.UnitGifts.{PartFits, IsLast, IsOnward, first_value, UnitSays, unit_says}
 
 -- ---- unit by unit
 

@@ -1,7 +1,6 @@
 -- The end of a text, and of a piece, read from what stands before it.
 use Rattle.std.proofs.Common.{◌≡◌, ℕ, ◌+◌, ◌*◌, ◌-◌, ◌≤◌, Bool, true, false, List, [], Option, None, length, subst, Ok, Err, refl, sym, ap, ◌∙◌, arith}
-use Rattle.std.specs.Prelude.{replicate, vec_len, Result, OnOk, IfErr}
-use Rattle.std.proofs.lemmas.List.{length-append, length-replicate}
+use Rattle.std.specs.Prelude.{Result, OnOk, IfErr}
 use Rattle.m2v_model.specs.declared.fault.FaultKind.{FaultKind}
 use Rattle.m2v_model.specs.declared.notes.Notes.{Notes}
 use Rattle.m2v_model.specs.declared.stop.Stop.{Stop}
@@ -16,13 +15,12 @@ use Rattle.m2v_model.specs.ByPieces.{Between, behind, unit_read, units_read, pie
 use Rattle.m2v_model.proofs.PieceLaws.{placed, piece_is, piece_none}
 use Rattle.m2v_model.proofs.FlowLaws.{read_err, read_last}
 use Rattle.m2v_unit.specs.Among.{EndsText}
+pub use Rattle.m2v_headers.proofs.Standing.{whole_length}
 use Rattle.m2v_decoder.specs.declared.course.Course.{Course}
 use Rattle.m2v_decoder.specs.Course.{between_of, no_notes, with_events, ReadAll}
-use Rattle.m2v_piece.specs.declared.answer.Piece.{Piece}
-use Rattle.m2v_piece.specs.Sound.{IsSoundPiece}
 use Rattle.m2v_plane.specs.Samples.{Samples}
 use Rattle.m2v_order.specs.Display.{Holder}
-use Rattle.m2v_decoder.specs.Decoding.{Decoding, Agrees, ShowsFrames, dropped_in, Finished, Advanced, whole_of}
+use Rattle.m2v_decoder.specs.Decoding.{Decoding, Agrees, ShowsFrames, dropped_in, Finished, Advanced}
 use Rattle.m2v_decoder.proofs.FrameLaws.{rest_same}
 
 abbrev at : State → Store → Between
@@ -65,28 +63,24 @@ text_err (Ok done) st none read ends left = tt
 text_err (Err e) st none read ends left = λ store end. end_waits st store end e none read ends left
 
 -- what contracts see of a decoder
-abbrev pub seen_as : Course → Bool → Bool → Decoding
-seen_as c ended failed = record {
+abbrev pub seen_as : Course → Bool → Bool → Bool → Decoding
+seen_as c ended failed skims = record {
   state = c.state;
   frames = c.gallery;
   anchor = c.queue.anchor;
   ready = c.ready.items;
   ended = ended;
   failed = failed;
+  skims = skims;
   pictures = c.pictures;
   dropped = c.dropped;
   shown = c.shown;
 }
 
-pub finished : (c : Course) (end : ℕ) (ended : Bool) → end_read (between_of c) end ≡ Ok ([], between_of c) → Finished (seen_as c ended false) end (seen_as c true false)
-finished c end ended read = record { read = read; first = refl; anchor = refl; ready = refl; ended = refl; failed = refl; pictures = refl; dropped = refl; shown = refl }
+pub finished : (c : Course) (end : ℕ) (ended skims : Bool) → end_read (between_of c) end ≡ Ok ([], between_of c) → Finished (seen_as c ended false skims) end (seen_as c true false skims)
+finished c end ended skims read = record { read = read; first = refl; anchor = refl; ready = refl; ended = refl; failed = refl; pictures = refl; dropped = refl; shown = refl }
 
 -- ---- pieces
-
-pub whole_length : (p : Piece) → IsSoundPiece p → length (whole_of p) ≡ p.length
-whole_length p sound =
-    let zeros : List ℕ = replicate (p.length - vec_len p.bytes) 0 in
-    omega (arith, length-append p.bytes.items zeros, length-replicate {A = ℕ} (p.length - vec_len p.bytes) 0, sound.kept, p.bytes.ok.0)
 
 whole_few : (n most units : ℕ) → n ≤ units + 1 → 4 * units ≤ most → 1 ≤ most → n ≤ most
 whole_few n most units few count some = omega arith
@@ -99,10 +93,10 @@ notes_are place code_end whole us es notes is code told =
     told ∙ ap (λ (k : ℕ). with_events k no_notes es) same
 
 -- a piece that begins at a byte, with notes that are taken from the decoder then
-pub advanced : (old c d : Course) (us : Units) (place : ℕ) (whole : List ℕ) (notes : Notes) → ReadAll c us d → between_of c ≡ between_of old → c.queue ≡ old.queue → c.ready ≡ old.ready → c.pictures ≡ old.pictures → c.dropped ≡ old.dropped → c.shown ≡ old.shown
+pub advanced : (old c d : Course) (us : Units) (place : ℕ) (whole : List ℕ) (notes : Notes) (before behind : Bool) → ReadAll c us d → between_of c ≡ between_of old → c.queue ≡ old.queue → c.ready ≡ old.ready → c.pictures ≡ old.pictures → c.dropped ≡ old.dropped → c.shown ≡ old.shown
     → noted c.notes ≡ no_notes → c.code_end ≡ 8 * place + (8 * before_picture us + 32) → notes ≡ d.notes
-    → us ≡ (cut 0 whole).1 → 4 * length us ≤ length whole → 1 ≤ length whole → Advanced (seen_as old false false) place whole notes (seen_as d false false)
-advanced old c d us place whole notes r between queue ready pictures dropped shown fresh code taken is count some =
+    → us ≡ (cut 0 whole).1 → 4 * length us ≤ length whole → 1 ≤ length whole → Advanced (seen_as old false false before) place whole notes (seen_as d false false behind)
+advanced old c d us place whole notes before behind r between queue ready pictures dropped shown fresh code taken is count some =
     let end = place + length whole in
     record {
       events = r.events;

@@ -1,7 +1,6 @@
 -- The headers in force and the frames at hand: that they agree behind each part.
-use Rattle.std.proofs.Common.{◌≡◌, ◌⊎◌, ℕ, ◌+◌, ◌*◌, ◌≤◌, ◌^◌, Bool, true, false, Option, Some, None, is_some, inl, inr, refl, sym, ap, subst, ◌∙◌, arith}
-use Rattle.std.specs.Prelude.{nat_eq, nat_le, nat_lt, not, ◌&&◌, ◌||◌, if◌then◌else◌, IsSome, ◌/◌}
-use Rattle.std.specs.Bool.{beq}
+use Rattle.std.proofs.Common.{◌≡◌, ◌⊎◌, ℕ, ◌+◌, ◌≤◌, ◌^◌, Bool, true, false, Option, Some, None, is_some, inl, inr, refl, sym, ap, subst, ◌∙◌, arith}
+use Rattle.std.specs.Prelude.{nat_eq, nat_le, nat_lt, not, ◌&&◌, ◌||◌, if◌then◌else◌, IsSome}
 use Rattle.std.proofs.lemmas.Bool.{cases_Bool, and_parts, eqb-true, eqb-false, leb-true, ltb-false, not-true, or_parts}
 use Rattle.m2v_plane.specs.declared.dims.Dims.{Dims}
 use Rattle.m2v_plane.specs.Sizes.{IsSize}
@@ -15,12 +14,13 @@ use Rattle.m2v_model.specs.declared.state.Sequence.{Sequence}
 use Rattle.m2v_model.specs.declared.state.Open.{Open}
 use Rattle.m2v_model.specs.declared.state.FirstField.{FirstField}
 use Rattle.m2v_model.specs.declared.state.State.{State}
-use Rattle.m2v_model.specs.States.{width_of, height_of, dims_of, is_b, is_frame, is_frame_end, drops, has_forward, opened, crowded_by, after_sequence, after_group, after_picture, after_matrices, after_end, with_slice, with_unread_slice, first_or, one_anchor_more, none_waits, may_follow, is_same_sequence, is_second_field_due}
+use Rattle.m2v_model.specs.States.{dims_of, is_b, is_frame, is_frame_end, drops, has_forward, opened, crowded_by, after_sequence, after_group, after_picture, after_matrices, after_end, with_slice, with_unread_slice, first_or, one_anchor_more, none_waits, may_follow, is_same_sequence, is_second_field_due}
 use Rattle.m2v_model.specs.Pictures.{Store, picture_ended, picture_begun, fresh, references_of}
 use Rattle.m2v_unit.specs.Reads.{IsReadPicture}
 use Rattle.m2v_unit.specs.Among.{AreMatrices}
 use Rattle.m2v_picture.specs.declared.gallery.Reading.{Reading}
 use Rattle.m2v_picture.specs.Frames.{Frames, none_at_hand, store_of, reading_of, forward_top, forward_bottom, backward_frame, HasReferences, HaveSize}
+use Rattle.m2v_headers.proofs.StateLaws.{same_dims}
 use Rattle.m2v_decoder.specs.Course.{IsOpen, HasFrame, FitsOpen, HaveSizes, HasFirstField, HasAnchors, AreSound}
 
 -- ---- the first field that waits
@@ -103,31 +103,6 @@ pub ended_none : (st : State) (f : Frames) → AreSound st f → st.picture ≡ 
 ended_none st f h none = subst (λ (z : State). AreSound z f) (rest_same st none) h
 
 -- ---- headers
-
-beq_true : (a b : Bool) → beq a b ≡ true → a ≡ b
-beq_true true true e = refl
-beq_true false false e = refl
-beq_true true false e = absurd cc
-beq_true false true e = absurd cc
-
--- frames of a width and a height, of a progressive sequence or not
-dims_by : ℕ → ℕ → Bool → Dims
-dims_by w h progressive = record { width = w; height = h; mb_width = (w + 15) / 16; mb_rows = if progressive then (h + 15) / 16 else 2 * ((h + 31) / 32) }
-
-same_dims : (first s : Sequence) → is_same_sequence (Some first) s ≡ true → dims_of first ≡ dims_of s
-unfolding dims_by
-same_dims first s e =
-    let progressive = beq first.extension.progressive_sequence s.extension.progressive_sequence in
-    let format = nat_eq first.extension.chroma_format s.extension.chroma_format in
-    let wide = nat_eq (width_of first) (width_of s) in
-    let high = nat_eq (height_of first) (height_of s) in
-    let a = and_parts (wide && high && progressive) format e in
-    let b = and_parts (wide && high) progressive a.0 in
-    let c = and_parts wide high b.0 in
-    let width = eqb-true (width_of first) (width_of s) c.0 in
-    let height = eqb-true (height_of first) (height_of s) c.1 in
-    let scan = beq_true first.extension.progressive_sequence s.extension.progressive_sequence b.1 in
-    λ i. dims_by (width i) (height i) (scan i)
 
 none_sized : (d : Dims) → HaveSize d none_at_hand
 none_sized d = record { older = tt; newer = tt; current = tt; first_field = tt }

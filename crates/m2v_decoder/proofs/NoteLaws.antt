@@ -1,7 +1,6 @@
 -- What is noted of events, and of those behind them.
-use Rattle.std.proofs.Common.{◌≡◌, ℕ, ◌+◌, ◌*◌, ◌≤◌, Bool, true, false, List, [], ◌∷◌, ◌++◌, map, length, Option, Some, None, refl, sym, ap, subst, ◌∙◌, append_assoc, arith}
-use Rattle.std.specs.Prelude.{◌||◌, nat_eq}
-use Rattle.std.proofs.lemmas.Bool.{ne_eqb}
+use Rattle.std.proofs.Common.{◌≡◌, ℕ, Bool, true, false, List, [], ◌∷◌, ◌++◌, map, Option, Some, None, refl, sym, ap, ◌∙◌, append_assoc}
+use Rattle.std.specs.Prelude.{◌||◌}
 use Rattle.std.proofs.lemmas.List.{append-nil, map-append}
 use Rattle.m2v_head.specs.declared.sequence.SequenceInfo.{SequenceInfo}
 use Rattle.m2v_head.specs.declared.sequence.SequenceExtension.{SequenceExtension}
@@ -10,9 +9,6 @@ use Rattle.m2v_model.specs.declared.state.Sequence.{Sequence}
 use Rattle.m2v_model.specs.declared.notes.PictureNote.{PictureNote}
 use Rattle.m2v_model.specs.Pictures.{Picture, Pictures, Events, sequence_header, group_header, coded_picture, pictures_in}
 use Rattle.m2v_model.specs.Lawful.{sequences_in}
-use Rattle.m2v_model.specs.Units.{Units, unit_bits}
-use Rattle.m2v_model.specs.Streams.{value_of}
-use Rattle.m2v_model.specs.Buffering.{before_picture}
 use Rattle.m2v_model.specs.PieceNotes.{PieceNotes, header_pair, has_group, note_of, first_note}
 use Rattle.m2v_model.proofs.EventLaws.{pictures_in-append, sequences_in-append}
 use Rattle.m2v_decoder.specs.Course.{note_or, with_events}

@@ -1,18 +1,14 @@
 -- Unit after unit: what stands after one more, and where reading stops.
-use Rattle.std.proofs.Common.{◌≡◌, ℕ, ◌+◌, ◌-◌, ◌≤◌, Bool, true, false, List, [], ◌∷◌, ◌++◌, length, Option, Some, None, is_some, Ok, Err, refl, sym, ap, subst, ◌∙◌, arith}
-use Rattle.std.specs.Prelude.{nat_eq, nat_le, ◌&&◌}
-use Rattle.std.proofs.lemmas.Bool.{and_parts, leb-true, ne_eqb}
+use Rattle.std.proofs.Common.{◌≡◌, ℕ, ◌+◌, ◌≤◌, Bool, true, false, List, [], ◌∷◌, ◌++◌, length, Option, Some, None, Ok, Err, refl, sym, ap, subst, ◌∙◌, arith}
 use Rattle.std.proofs.lemmas.List.{append-nil, length-append}
-use Rattle.m2v_bits.specs.Syntax.{seq, bind, done, choose}
 use Rattle.m2v_plane.specs.Samples.{Samples}
 use Rattle.m2v_order.specs.Display.{Holder, handed, held_after}
-use Rattle.m2v_model.specs.declared.fault.FaultKind.{FaultKind}
 use Rattle.m2v_model.specs.declared.state.Sequence.{Sequence}
 use Rattle.m2v_model.specs.declared.state.Open.{Open}
 use Rattle.m2v_model.specs.declared.state.State.{State}
-use Rattle.m2v_model.specs.Units.{Units, unit_bits}
+use Rattle.m2v_model.specs.Units.{Units}
 use Rattle.m2v_model.specs.States.{first_or}
-use Rattle.m2v_model.specs.Streams.{Part, after, value_of, sequence, group, picture, matrices, slice, unread_slice, skipped_unit, ending, over, slice_unit, later_unit, known_unit, text_end, onward}
+use Rattle.m2v_model.specs.Streams.{Part, after, sequence, group, picture, matrices, slice, unread_slice, skipped_unit, ending, over}
 use Rattle.m2v_model.specs.Pictures.{Store, Pictures, Events, Event, sequence_header, group_header, pictures_in, closed, told_by}
 use Rattle.m2v_model.specs.PieceNotes.{noted}
 use Rattle.m2v_model.specs.Decoding.{low_delay_of}
@@ -22,7 +18,7 @@ use Rattle.m2v_model.proofs.SplitLaws.{behind_none, behind_twice}
 use Rattle.m2v_model.proofs.EventLaws.{pictures_in-append}
 use Rattle.m2v_unit.specs.declared.header.Header.{Header}
 use Rattle.m2v_unit.specs.declared.header.Header.TheVariants as headers
-use Rattle.m2v_unit.specs.Among.{is_slice, goes_on, part_of}
+use Rattle.m2v_unit.specs.Among.{goes_on, part_of}
 use Rattle.m2v_picture.specs.Frames.{Frames, store_of}
 use Rattle.m2v_decoder.specs.declared.course.Course.{Course}
 use Rattle.m2v_decoder.specs.declared.halt.Halt.{Halt}
@@ -33,35 +29,6 @@ use Rattle.m2v_decoder.proofs.NoteLaws.{notes_same, noted_on}
 use Rattle.m2v_decoder.proofs.Showing.{shows_none, shows_on, dropped-append}
 
 -- ---- one unit
-
-slice_known : (st : State) (start value : ℕ) (u : List ℕ) (us : Units) → is_slice st value ≡ true → (known_unit st start value u).read us ≡ (onward (slice_unit st st.sequence st.picture (value - 1) start u)).read us
-unfolding known_unit later_unit choose
-slice_known st start value u us on =
-    let a = and_parts (is_some st.sequence) (nat_le 1 value && nat_le value 0xAF) on in
-    let b = and_parts (nat_le 1 value) (nat_le value 0xAF) a.1 in
-    let low : 1 ≤ value = leb-true 1 value b.0 in
-    let high : value ≤ 0xAF = leb-true value 0xAF b.1 in
-    let not_sequence : nat_eq value 0xB3 ≡ false = ne_eqb value 0xB3 (λ e. omega (arith, e)) in
-    let not_picture : nat_eq value 0x00 ≡ false = ne_eqb value 0x00 (λ e. omega (arith, e)) in
-    rw (not_sequence, a.0, not_picture, b.1) refl
-
-pub slice_ok : (st : State) (start value : ℕ) (u : List ℕ) (us : Units) (p : Part) → is_slice st value ≡ true → (slice_unit st st.sequence st.picture (value - 1) start u).read us ≡ Ok (p, us)
-    → (known_unit st start value u).read us ≡ Ok ((true, p), us)
-unfolding onward seq bind done
-slice_ok st start value u us p on read = slice_known st start value u us on ∙ rw read refl
-
-pub slice_err : (st : State) (start value : ℕ) (u : List ℕ) (us : Units) (f : FaultKind × ℕ) → is_slice st value ≡ true → (slice_unit st st.sequence st.picture (value - 1) start u).read us ≡ Err f
-    → (known_unit st start value u).read us ≡ Err f
-unfolding onward seq bind done
-slice_err st start value u us f on read = slice_known st start value u us on ∙ rw read refl
-
-pub unit_some : (st : State) (us : Units) (u : List ℕ) (mid : Units) (start : ℕ) → us ≡ u ∷ mid → start ≡ unit_bits us → (known_unit st start (value_of u) u).read mid ≡ unit_read st us
-unfolding unit_read
-unit_some st us u mid start e s = ap (λ (n : ℕ). (known_unit st n (value_of u) u).read mid) (s ∙ ap unit_bits e) ∙ sym (ap (unit_read st) e)
-
-pub unit_none : (st : State) (us : Units) → us ≡ [] → (text_end st 0).read [] ≡ unit_read st us
-unfolding unit_read
-unit_none st us e = sym (ap (unit_read st) e)
 
 -- behind the sequence end code no picture is open
 pub header_ends : (c d : Course) (u : List ℕ) (h : Header) → goes_on h ≡ false → Steps c (part_of u h) d → d.state.picture ≡ None

@@ -371,19 +371,6 @@ slice_reads st s p row start u us x end known is below behind off read =
     subst (λ (q : Option Sequence). (slice_unit st q st.picture row start u).read us ≡ Ok (slice row x, us)) (sym known)
     (subst (λ (o : Option Open). (slice_unit st (Some s) o row start u).read us ≡ Ok (slice row x, us)) (sym is) (slice_direct st s p row start u us x end below behind off read))
 
-unread_direct : (st : State) (s : Sequence) (p : Open) (row start : ℕ) (u : List ℕ) (us : Units) → row < picture_rows s p → p.row ≤ row → p.slices_unread ≡ true → (slice_unit st (Some s) (Some p) row start u).read us ≡ Ok (unread_slice row u, us)
-unfolding slice_unit slice_in seq bind rule choose done
-unread_direct st s p row start u us below behind on =
-    let low : nat_lt row (picture_rows s p) ≡ true = lt-ltb row (picture_rows s p) below in
-    let high : nat_le p.row row ≡ true = le-leb p.row row behind in
-    rw (low, high, on) refl
-
-pub unread_reads : (st : State) (s : Sequence) (p : Open) (row start : ℕ) (u : List ℕ) (us : Units) → st.sequence ≡ Some s → st.picture ≡ Some p → row < picture_rows s p → p.row ≤ row → p.slices_unread ≡ true
-    → (slice_unit st st.sequence st.picture row start u).read us ≡ Ok (unread_slice row u, us)
-unread_reads st s p row start u us known is below behind on =
-    subst (λ (q : Option Sequence). (slice_unit st q st.picture row start u).read us ≡ Ok (unread_slice row u, us)) (sym known)
-    (subst (λ (o : Option Open). (slice_unit st (Some s) o row start u).read us ≡ Ok (unread_slice row u, us)) (sym is) (unread_direct st s p row start u us below behind on))
-
 slice_broken : (st : State) (s : Sequence) (p : Open) (row start : ℕ) (u : List ℕ) (us : Units) (kind : FaultKind) (left : ℕ) → row < picture_rows s p → p.row ≤ row → p.slices_unread ≡ false → (slice_at (slice_setup st s p) p.covered row).read (body u) ≡ Err (kind, left)
     → (slice_unit st (Some s) (Some p) row start u).read us ≡ Err (kind, left + unit_bits us)
 unfolding bind

@@ -24,6 +24,7 @@ use Rattle.m2v_unit.specs.Reads.{IsReadPicture}
 use Rattle.m2v_unit.specs.Among.{AreMatrices}
 use Rattle.m2v_picture.specs.declared.slices.SliceEnd.{SliceEnd}
 use Rattle.m2v_picture.specs.Frames.{Frames, none_at_hand, store_of, reading_of, HasReferences, HaveSize}
+use Rattle.m2v_headers.specs.Headers.{IsBetween}
 use Rattle.m2v_decoder.specs.declared.course.Course.{Course}
 use Rattle.m2v_decoder.specs.declared.halt.Halt.{Halt}
 use Rattle.m2v_decoder.specs.declared.halt.Halt.TheVariants.{Fault, Memory}
@@ -93,6 +94,11 @@ pub record IsSoundCourse (c : Course) : Type 0 where
   pub low : c.queue.low_delay ≡ low_delay_of c.state.first
   pub counts : c.shown + (length c.ready.items + length (option_to_list c.queue.anchor)) ≤ c.pictures
   pub dropped : c.dropped ≤ c.pictures
+
+-- a decoder between two pieces: what is known of it, where pieces may be decoded, and where headers alone were read
+pub record IsSoundDecoder (c : Course) (failed skims : Bool) : Type 0 where
+  pub going : failed ≡ false → IsSoundCourse c × (c.state.picture ≡ None)
+  pub skimming : skims ≡ true → (failed ≡ true) × IsBetween c.state
 
 -- ---- what a part does
 

@@ -1,5 +1,5 @@
 -- What contracts see of a decoder, and what a piece does to it.
-use Rattle.std.specs.Prelude.{◌≡◌, ℕ, ◌+◌, ◌-◌, ◌≤◌, Bool, true, false, List, [], ◌∷◌, ◌++◌, length, map, filter, replicate, Option, Some, None, option_to_list, Ok, Err, if◌then◌else◌, vec_len}
+use Rattle.std.specs.Prelude.{◌≡◌, ℕ, ◌+◌, ◌≤◌, ◌⊎◌, Bool, true, false, List, [], ◌∷◌, ◌++◌, length, map, filter, Option, Some, None, option_to_list, Ok, Err, if◌then◌else◌}
 use Rattle.m2v_plane.specs.Samples.{Samples}
 use Rattle.m2v_order.specs.Display.{Holder, is_kept, handed, held_after}
 use Rattle.m2v_model.specs.declared.state.Sequence.{Sequence}
@@ -11,13 +11,14 @@ use Rattle.m2v_model.specs.declared.state.State.{State}
 use Rattle.m2v_model.specs.States.{at_first}
 use Rattle.m2v_model.specs.ByPieces.{Between, piece_read, end_read}
 use Rattle.m2v_picture.specs.Frames.{Frames, none_at_hand, store_of}
-use Rattle.m2v_piece.specs.declared.answer.Piece.{Piece}
 use Rattle.m2v_piece.specs.declared.answer.DecodeError.{DecodeError}
 use Rattle.m2v_piece.specs.declared.answer.DecodeError.TheVariants as errors
+pub use Rattle.m2v_rows.specs.Opened.{whole_of}
 
--- the headers in force and the frames at hand between two pieces; the anchor that waits to be shown, the frames that are due before the end and weren't
--- handed out, and whether the end has come; how many pictures were decoded or dropped, how many of them dropped, and how
--- many frames handed out; and whether a call answered an error, behind which no other may come
+-- the headers in force and the frames at hand between two pieces; the anchor that waits to be shown, the frames that are
+-- due before the end and weren't handed out, and whether the end has come; how many pictures were decoded or dropped, how
+-- many of them dropped, and how many frames handed out; whether no piece may be decoded any more: a call answered an error,
+-- or headers alone were read, and whether it is that
 pub record Decoding : Type 0 where
   pub state : State
   pub frames : Frames
@@ -25,6 +26,7 @@ pub record Decoding : Type 0 where
   pub ready : List Samples
   pub ended : Bool
   pub failed : Bool
+  pub skims : Bool
   pub pictures : ℕ
   pub dropped : ℕ
   pub shown : ℕ
@@ -42,10 +44,15 @@ at_start = record {
   ready = [];
   ended = false;
   failed = false;
+  skims = false;
   pictures = 0;
   dropped = 0;
   shown = 0;
 }
+
+-- the headers of a piece may be read alone: no call answered an error
+abbrev pub CanSkim : Decoding → Type 0
+CanSkim d = (d.failed ≡ false) ⊎ (d.skims ≡ true)
 
 -- the frames that are due: behind the end the last anchor too
 abbrev pub due_of : Decoding → List Samples
@@ -109,10 +116,6 @@ pub record HandsOut (old : Decoding) (frame : Samples) (new : Decoding) : Type 0
   pub pictures : new.pictures ≡ old.pictures
   pub dropped : new.dropped ≡ old.dropped
   pub shown : new.shown ≡ old.shown + 1
-
--- the whole piece
-abbrev pub whole_of : Piece → List ℕ
-whole_of p = p.bytes.items ++ replicate (p.length - vec_len p.bytes) 0
 
 -- the end of the text was read
 pub record Finished (old : Decoding) (end : ℕ) (new : Decoding) : Type 0 where

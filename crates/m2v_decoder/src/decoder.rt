@@ -1,18 +1,22 @@
-ghost use Rattle.std.specs.Prelude.{◌≡◌, ◌+◌, ◌*◌, ◌≤◌, ◌^◌, [], IfOk, IfErr, OnOk, MatchOption, Ok, Err, false};
+ghost use Rattle.std.specs.Prelude.{◌≡◌, ◌+◌, ◌*◌, ◌≤◌, ◌^◌, [], IfOk, IfErr, IfSome, OnOk, MatchOption, Ok, Err, true, false};
 ghost use Rattle.m2v_model.specs.ByPieces.{end_read};
 ghost use Rattle.m2v_piece.specs.Sound.{IsSoundPiece};
-ghost use Rattle.m2v_decoder.specs.Decoding.{at_start, between, due_of, whole_of, Advanced, Refuses, HandsOut, Finished};
+ghost use Rattle.m2v_rows.specs.Opened.{IsOpened};
+ghost use Rattle.m2v_headers.specs.Headers.{TellsHeaders};
+ghost use Rattle.m2v_decoder.specs.Decoding.{at_start, between, due_of, whole_of, CanSkim, Advanced, Refuses, HandsOut, Finished};
 
 use crate::Memory;
 use crate::course::Course;
 use crate::halt::Halt;
 use crate::notes::nothing_noted;
 use crate::reading::text_ends;
+use m2v_headers::read_headers;
 use m2v_model::Notes;
 use m2v_order::DisplayQueue;
 use m2v_picture::Gallery;
 use m2v_piece::{DecodeError, Fault, Piece};
 use m2v_plane::Frame;
+use m2v_rows::Opened;
 use m2v_unit::{UnitReader, code_bits, first_state};
 use std::alloc::Global;
 use std::marker::Model;
@@ -21,19 +25,20 @@ use std::mem;
 /// A decoder of one stream, which is handed to it piece by piece.
 ///
 /// Contracts see it as what stands between two pieces (the headers in force and the frames at hand), the anchor that waits
-/// to be shown, the frames that are due and weren't handed out, whether the end has come, whether a piece was refused, and
-/// how many pictures were read, how many of them dropped, and how many frames handed out.
+/// to be shown, the frames that are due and weren't handed out, whether the end has come, whether no piece may be decoded any
+/// more, since one was refused or headers alone were read, and how many pictures were read, how many of them dropped, and
+/// how many frames handed out.
 #[derive(Drop)]
 pub struct Decoder {
     course: Course,
     ended: bool,
     failed: bool,
+    skims: bool,
 }
 
 impl Model for Decoder {
-    ghost use Rattle.std.specs.Prelude.{◌≡◌, false, None};
     ghost use Rattle.m2v_decoder.specs.Decoding.{Decoding};
-    ghost use Rattle.m2v_decoder.specs.Course.{IsSoundCourse};
+    ghost use Rattle.m2v_decoder.specs.Course.{IsSoundDecoder};
 
     ghost Value = { Decoding };
 
@@ -44,13 +49,13 @@ impl Model for Decoder {
       ready = d.course.ready.items;
       ended = d.ended;
       failed = d.failed;
+      skims = d.skims;
       pictures = d.course.pictures;
       dropped = d.course.dropped;
       shown = d.course.shown;
     } };
 
-    ghost invariant = { λ d. d.failed ≡ false → IsSoundCourse d.course
-        × (d.course.state.picture ≡ None) };
+    ghost invariant = { λ d. IsSoundDecoder d.course d.failed d.skims };
 }
 
 impl Decoder {
@@ -73,6 +78,7 @@ impl Decoder {
             course,
             ended: false,
             failed: false,
+            skims: false,
         })
     }
 
@@ -139,6 +145,29 @@ impl Decoder {
                 }))
             }
         }
+    }
+
+    /// Moves past a piece by its headers alone, and decodes none of its samples. Answers the picture in it, whose rows
+    /// `read_row` reads; None where it has none. Behind this call headers alone may be read: `piece`, `due` and `end` may not
+    /// be called any more, since the frames of the picture aren't at hand.
+    ///
+    /// # Errors
+    /// The first fault of the piece, where no picture stands before it: a fault behind a picture's headers is told with the
+    /// picture. Want of memory. No call may follow then.
+    pub fn headers(&mut self, alloc: Global, piece: &Piece) -> Result<Option<Opened>, DecodeError>
+        requires piece { IsSoundPiece piece.now }
+        requires going { CanSkim self.old }
+        requires before { self.old.ended ≡ false }
+        ensures exact { TellsHeaders self.old.state piece.now result self.new.state }
+        ensures same { OnOk result (self.new
+            ≡ record self.old { state = self.new.state; failed = true; skims = true }) }
+        ensures opened { IfOk result (λ picture. IfSome picture (IsOpened piece.now)) }
+    {
+        self.failed = true;
+        self.skims = false;
+        let picture = read_headers(alloc, &mut self.course.state, piece)?;
+        self.skims = true;
+        Ok(picture)
     }
 
     /// Ends the stream, which has so many bytes.

@@ -10,6 +10,7 @@ mod reading;
 mod slice;
 
 pub use decoder::Decoder;
+pub use m2v_rows::{Opened, SliceUnit, read_row};
 
 /// Want of memory.
 pub type Memory = std::alloc::AllocError;

@@ -1,5 +1,5 @@
 ghost use Rattle.std.specs.Prelude.{◌≡◌, ◌+◌, ◌^◌, ◌<◌, ◌*◌, ℕ, IfErr, OnOk, Ok, Err, [], length, true, false, None};
-ghost use Rattle.m2v_unit.specs.Among.{is_slice as slice_stands, goes_on as units_follow};
+ghost use Rattle.m2v_unit.specs.Among.{is_slice as slice_stands};
 ghost use Rattle.m2v_model.specs.Streams.{value_of, known_unit, text_end};
 ghost use Rattle.m2v_model.specs.Pictures.{Store};
 ghost use Rattle.m2v_model.specs.ByPieces.{unit_read, end_read};
@@ -8,7 +8,7 @@ ghost use Rattle.m2v_decoder.specs.Course.{IsSoundCourse, Rounds, ReadAll, Cours
 use crate::course::Course;
 use crate::halt::Halt;
 use m2v_model::{State, Stop};
-use m2v_unit::{Header, Unit, UnitReader, is_slice, read_end, read_header, read_text_end};
+use m2v_unit::{Unit, UnitReader, is_slice, read_end, read_header, read_text_end};
 use std::alloc::Global;
 
 /// The rules at the end of the text: those at a piece's end, and that no first field waits for its second.
@@ -22,16 +22,6 @@ pub fn text_ends(st: &State) -> Result<(), Stop>
 {
     read_end(st)?;
     read_text_end(st)
-}
-
-/// Whether units may follow.
-fn goes_on(header: &Header) -> bool
-    ensures { result ≡ units_follow header.now }
-{
-    match header {
-        Header::Ending => false,
-        _ => true,
-    }
 }
 
 impl Course {
@@ -52,7 +42,7 @@ impl Course {
     {
         let header = read_header(&self.state, start, u, units)?;
         self.enter(alloc, &header)?;
-        Ok(goes_on(&header))
+        Ok(header.goes_on())
     }
 
     /// Reads a unit that is there. Answers whether units may follow.

@@ -2,7 +2,7 @@ use Rattle.std.proofs.Common.{◌≡◌, true, rules}
 use Rattle.std.proofs.lemmas.Result.{err_from_is_err_and}
 use Rattle.m2v_model.specs.Streams.{value_of}
 use Rattle.m2v_unit.specs.Among.{is_slice}
-use Rattle.m2v_decoder.proofs.ReadLaws.{slice_ok, slice_err}
+use Rattle.m2v_headers.proofs.UnitSteps.{slice_ok, slice_err}
 use Rattle.m2v_decoder.proofs.course.Course.known.Goals as goal
 
 pub returns-in_err-slice : goal.returns-in_err-slice

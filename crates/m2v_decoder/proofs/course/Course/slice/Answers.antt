@@ -2,7 +2,8 @@ use Rattle.std.proofs.Common.{◌≡◌, ℕ, Err, ap, sym, ◌∙◌}
 use Rattle.std.proofs.lemmas.Result.{err_from_is_err_and}
 use Rattle.m2v_model.specs.declared.state.State.{State}
 use Rattle.m2v_model.specs.Streams.{value_of, slice, unread_slice}
-use Rattle.m2v_decoder.proofs.StepLaws.{steps_slice, slice_reads, unread_reads, slice_fails}
+use Rattle.m2v_headers.proofs.UnitSteps.{unread_reads}
+use Rattle.m2v_decoder.proofs.StepLaws.{steps_slice, slice_reads, slice_fails}
 use Rattle.m2v_decoder.proofs.course.Course.slice.Goals as goal
 
 pub returns-then-p-clause-ok : goal.returns-then-p-clause-ok

@@ -2,7 +2,7 @@ use Rattle.std.proofs.Common.{sym, subst, []}
 use Rattle.m2v_model.specs.Units.{Units}
 use Rattle.m2v_model.specs.ByPieces.{unit_read}
 use Rattle.m2v_decoder.specs.Course.{Rounds}
-use Rattle.m2v_decoder.proofs.ReadLaws.{unit_some, unit_none}
+use Rattle.m2v_headers.proofs.UnitSteps.{unit_some, unit_none}
 use Rattle.m2v_decoder.proofs.course.Course.unit.Goals as goal
 
 pub returns-in-Some : goal.returns-in-Some

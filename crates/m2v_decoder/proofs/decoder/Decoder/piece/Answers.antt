@@ -19,7 +19,7 @@ returns-in-Ok-clause-ok c =
     let long : length (whole_of p) ≡ p.length = whole_length p c.requires.piece in
     let count : 4 * length c.new-units.result ≤ length (whole_of p) = omega (arith, c.new-units.ensures.count, c.len.ensures, c.requires.piece.kept, c.deref-2.ensures.len, p.bytes.ok.0) in
     rw (← c.self.view_is) (rw (before, going)
-    (advanced old mid c.units.new.self c.new-units.result p.place (whole_of p) c.replace.result c.in-Ok.ensures.ok refl refl refl refl refl refl c.nothing_noted.ensures code c.replace.ensures.value is count (omega (arith, long, c.requires.piece.some))))
+    (advanced old mid c.units.new.self c.new-units.result p.place (whole_of p) c.replace.result c.self.inside.skims c.self.inside.skims c.in-Ok.ensures.ok refl refl refl refl refl refl c.nothing_noted.ensures code c.replace.ensures.value is count (omega (arith, long, c.requires.piece.some))))
 
 pub returns-in-Err-Fault-clause-err : goal.returns-in-Err-Fault-clause-err
 returns-in-Err-Fault-clause-err c =
