@@ -1,5 +1,5 @@
 //! The units of a piece one after another, its slices by their rows alone.
-ghost use Rattle.std.specs.Prelude.{◌≡◌, ◌+◌, ◌-◌, ◌*◌, ◌/◌, ◌^◌, ◌<◌, ◌≤◌, List, ℕ, IfOk, OnOk, [], ◌∷◌, length, false, true};
+ghost use Rattle.std.specs.Prelude.{◌≡◌, ◌*◌, ◌^◌, ◌<◌, ◌≤◌, List, ℕ, IfOk, OnOk, [], ◌∷◌, length, false, true};
 ghost use Rattle.m2v_model.specs.Units.{unit_bits};
 ghost use Rattle.m2v_model.specs.Streams.{value_of, known_unit, text_end};
 ghost use Rattle.m2v_model.specs.ByPieces.{unit_read};
