@@ -96,6 +96,20 @@ pub record Advanced (old : Decoding) (place : ℕ) (whole : List ℕ) (notes : N
   pub going : new.ended ≡ false
   pub sound : new.failed ≡ false
 
+-- a piece that begins at a byte was taken into the decoder, and its pictures counted and shown or held: the same, where
+-- nothing is noted of it
+pub record Onward (old : Decoding) (place : ℕ) (whole : List ℕ) (new : Decoding) : Type 0 where
+  pub events : Events
+  pub read : piece_read (between old) (place + length whole) whole ≡ Ok (events, between new)
+  pub first : (low : Bool) → Agrees low new.state.first → Agrees low old.state.first
+  pub shows : (low : Bool) → Agrees low new.state.first → ShowsFrames low old.anchor old.ready (pictures_in events) new.anchor new.ready
+  pub counted : new.pictures ≡ old.pictures + length (pictures_in events)
+  pub dropped : new.dropped ≡ old.dropped + dropped_in (pictures_in events)
+  pub few : length (pictures_in events) ≤ length whole
+  pub shown : new.shown ≡ old.shown
+  pub going : new.ended ≡ false
+  pub sound : new.failed ≡ false
+
 -- why a piece that begins at a byte wasn't: its first fault; want of memory is the one free answer
 abbrev pub Refuses : Decoding → ℕ → List ℕ → DecodeError → Type 0
 Refuses old place whole (errors.Stream f) = piece_read (between old) (place + length whole) whole ≡ Err (f.kind, f.place)

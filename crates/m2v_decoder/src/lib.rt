@@ -7,10 +7,12 @@ mod decoder;
 mod halt;
 mod notes;
 mod reading;
+mod rebuilt;
 mod slice;
 
 pub use decoder::Decoder;
 pub use m2v_rows::{Opened, SliceUnit, read_row};
+pub use rebuilt::PictureRows;
 
 /// Want of memory.
 pub type Memory = std::alloc::AllocError;
