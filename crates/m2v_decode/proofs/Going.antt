@@ -26,7 +26,7 @@ use Rattle.m2v_piece.specs.Cutting.{start_of as start_of_rest}
 use Rattle.m2v_piece.specs.Sound.{IsSoundPiece}
 use Rattle.m2v_piece.specs.Stepping.{Handed, Stopped, NextPiece, Keeps}
 use Rattle.m2v_model.specs.declared.notes.Notes.{Notes}
-use Rattle.m2v_decoder.specs.Decoding.{Decoding, at_start, between, due_of, dropped_in, Agrees, ShowsFrames, Advanced, Refuses, whole_of}
+use Rattle.m2v_decoder.specs.Decoding.{Decoding, at_start, between, due_of, dropped_in, Agrees, ShowsFrames, Advanced, Onward, Refuses, whole_of}
 use Rattle.m2v_decode.specs.Answers.{start_of, AllFit, PiecesRead, place_behind, HasFault, due_before, shown_by, IsFaulty, IsOver, IsCut, OfText, OfTaken, Fails}
 use Rattle.m2v_decode.specs.Progress.{raw_of, before_all, Cuts, HasPut, Reached, Progress, IsDone}
 use Rattle.m2v_decode.proofs.Putting.{raw-append}
@@ -68,6 +68,21 @@ moved_some l1 l2 bytes rest m e = m.was ∙ ap (option_map (λ (t : List ℕ). b
 
 -- ---- one piece more
 
+-- what a piece does, without its notes
+pub onward : {old : Decoding} {place : ℕ} {whole : List ℕ} {notes : Notes} {new : Decoding} → Advanced old place whole notes new → Onward old place whole new
+onward a = record {
+  events = a.events;
+  read = a.read;
+  first = a.first;
+  shows = a.shows;
+  counted = a.counted;
+  dropped = a.dropped;
+  few = a.few;
+  shown = a.shown;
+  going = a.going;
+  sound = a.sound;
+}
+
 both_none : (xs ys : List Samples) → xs ++ ys ≡ [] → xs ≡ []
 both_none [] ys e = refl
 both_none (x ∷ xs) ys e = absurd cc
@@ -90,10 +105,10 @@ begun_more text ps qs mid last whole others b fits read = record {
 first_same : (low : Bool) (b z : Between) → z ≡ b → Agrees low z.state.first → Agrees low b.state.first
 first_same low b z e a = subst (λ (x : Between). Agrees low x.state.first) e a
 
-pub reached_more : (taken more : ℕ) (text : List ℕ) (start : ℕ) (whole : List ℕ) (others : List (List ℕ)) (frames : List Samples) (d m n : Decoding) (notes : Notes) → Reached taken text start (whole ∷ others) frames d → d.ready ≡ []
-    → limit start 0 whole ≡ None → Advanced d start whole notes m → HasPut m n → start + length whole ≤ more → Reached more text (start + length whole) others (frames ++ due_of m) n
+pub reached_more : (taken more : ℕ) (text : List ℕ) (start : ℕ) (whole : List ℕ) (others : List (List ℕ)) (frames : List Samples) (d m n : Decoding) → Reached taken text start (whole ∷ others) frames d → d.ready ≡ []
+    → limit start 0 whole ≡ None → Onward d start whole m → HasPut m n → start + length whole ≤ more → Reached more text (start + length whole) others (frames ++ due_of m) n
 unfolding begun_more
-reached_more taken more text start whole others frames d m n notes r none fits a put within =
+reached_more taken more text start whole others frames d m n r none fits a put within =
     let read : piece_read (between d) (place_behind r.begun + length whole) whole ≡ Ok (a.events, (between n)) =
     ap (λ (x : ℕ). piece_read (between d) (x + length whole) whole) (sym r.place) ∙ a.read ∙ ap (λ (z : Between). Ok (a.events, z)) (sym put.between_is) in
     let all : pictures_in (r.events ++ a.events) ≡ pictures_in r.events ++ pictures_in a.events = pictures_in-append r.events a.events in
@@ -133,7 +148,7 @@ next_start : (c : Cutting) (rest : List ℕ) → c.begun ≡ true → start_of_r
 unfolding open_start
 next_start c rest begun = rw begun (same c.ended c.place)
 
-start_place : (c : Cutting) (rest : List ℕ) → c.begun ≡ true → start_of_rest c rest ≡ c.place
+pub start_place : (c : Cutting) (rest : List ℕ) → c.begun ≡ true → start_of_rest c rest ≡ c.place
 start_place = next_start
 
 pub gave : (c : Cutting) (bytes rest : List ℕ) (c' : Cutting) (p : Piece) → c'.begun ≡ true → NextPiece (Some p) (start_of_rest c (bytes ++ rest)) (left_of c (bytes ++ rest)) c' (left_of c' rest) → Gave c bytes rest c' p
@@ -176,7 +191,7 @@ faulty_text text kind place es st (p ∷ others) b here = (by_pieces text).fault
     ∙ rw b.read (ap (behind_events es) (rest_more st (place_behind b) p others ∙ continued_err (piece_read st (place_behind b + length p) p) (λ next. rest_read next (place_behind b + length p) others) (kind, place) here.1)))
 
 -- more bytes were taken
-reached_later : (taken more : ℕ) (text : List ℕ) (start : ℕ) (others : List (List ℕ)) (frames : List Samples) (d : Decoding) → taken ≤ more → Reached taken text start others frames d → Reached more text start others frames d
+pub reached_later : (taken more : ℕ) (text : List ℕ) (start : ℕ) (others : List (List ℕ)) (frames : List Samples) (d : Decoding) → taken ≤ more → Reached taken text start others frames d → Reached more text start others frames d
 reached_later taken more text start others frames d le r = record {
   events = r.events;
   begun = r.begun;
@@ -247,10 +262,10 @@ module _ {S K : Type 0} (left : S → Option (List ℕ)) (input_faults : S → �
         let r = so.told (handed.bytes ++ rest) (moved_some (left i1) (left i2) handed.bytes rest handed.moved e) in
         let start : ℕ = start_of_rest c (handed.bytes ++ rest) in
         let r' = subst (λ (ps : List (List ℕ)). Reached (length so.bytes) (so.bytes ++ (handed.bytes ++ rest)) start ps so.frames d) g.pieces r in
-        let a' = subst (λ (x : ℕ). Advanced d x (whole_of p) notes m) g.place a in
+        let a' = subst (λ (x : ℕ). Onward d x (whole_of p) m) g.place (onward a) in
         let place : start + length (whole_of p) ≡ start_of_rest c' rest = sym (g.next ∙ ap (λ (x : ℕ). x + p.length) g.place ∙ ap (λ (x : ℕ). start + x) g.length) in
         let within = taken_more i0 i1 i2 o0 o1 c c' d (Some p) so handed keeps rest e in
-        let more = reached_more (length so.bytes) (length (so.bytes ++ handed.bytes)) _ start (whole_of p) (left_of c' rest) so.frames d m n notes r' so.none (subst (λ (x : ℕ). limit x 0 (whole_of p) ≡ None) g.place g.fits) a' put (omega (arith, within, place, start_place c' rest begun)) in
+        let more = reached_more (length so.bytes) (length (so.bytes ++ handed.bytes)) _ start (whole_of p) (left_of c' rest) so.frames d m n r' so.none (subst (λ (x : ℕ). limit x 0 (whole_of p) ≡ None) g.place g.fits) a' put (omega (arith, within, place, start_place c' rest begun)) in
         subst (λ (t : List ℕ). Reached (length (so.bytes ++ handed.bytes)) t (start_of_rest c' rest) (left_of c' rest) (so.frames ++ due_of m) n) (sym (append_assoc so.bytes handed.bytes rest))
         (subst (λ (x : ℕ). Reached (length (so.bytes ++ handed.bytes)) (so.bytes ++ (handed.bytes ++ rest)) x (left_of c' rest) (so.frames ++ due_of m) n) place more);
   }
@@ -263,7 +278,7 @@ module _ {S K : Type 0} (left : S → Option (List ℕ)) (input_faults : S → �
   abbrev Cut : S → S → K → K → Type 0
   Cut i0 i1 o0 o1 = OfTaken (input i0 i1) (λ bytes text. IsCut bytes text (output o0 o1))
 
-  reached_cut : (taken : ℕ) (bytes text : List ℕ) (start : ℕ) (others : List (List ℕ)) (frames : List Samples) (d : Decoding) (o0 o1 : K) → Reached taken text start others frames d → taken ≤ length bytes → GrowsByPrefix (held o0) (raw_of frames) (held o1) → IsCut bytes text (output o0 o1)
+  pub reached_cut : (taken : ℕ) (bytes text : List ℕ) (start : ℕ) (others : List (List ℕ)) (frames : List Samples) (d : Decoding) (o0 o1 : K) → Reached taken text start others frames d → taken ≤ length bytes → GrowsByPrefix (held o0) (raw_of frames) (held o1) → IsCut bytes text (output o0 o1)
   reached_cut taken bytes text start others frames d o0 o1 r le grown = record {
     events = r.events;
     between = (between d);
@@ -283,7 +298,7 @@ module _ {S K : Type 0} (left : S → Option (List ℕ)) (input_faults : S → �
         (reached_cut (length so.bytes) (so.bytes ++ bytes) _ _ _ so.frames d o0 o1 (so.told (bytes ++ rest) (moved_some (left i1) (left i2) bytes rest moved e)) (omega (arith, length-append so.bytes bytes)) (grows_by_all so.grown));
   }
 
-  over_at : (taken : ℕ) (text : List ℕ) (start : ℕ) (others : List (List ℕ)) (frames : List Samples) (d : Decoding) (o0 o1 : K) (e : DecodeError) → Reached taken text start others frames d → Grows (held o0) (raw_of frames) (held o1) → PieceStops start others e → IsOver text (output o0 o1) e
+  pub over_at : (taken : ℕ) (text : List ℕ) (start : ℕ) (others : List (List ℕ)) (frames : List Samples) (d : Decoding) (o0 o1 : K) (e : DecodeError) → Reached taken text start others frames d → Grows (held o0) (raw_of frames) (held o1) → PieceStops start others e → IsOver text (output o0 o1) e
   over_at taken text start others frames d o0 o1 e r grown over = record {
     events = r.events;
     between = (between d);
@@ -357,9 +372,9 @@ module _ {S K : Type 0} (left : S → Option (List ℕ)) (input_faults : S → �
   }
 
   -- a prefix of the frames due behind a piece was written
-  due_cut : (taken : ℕ) (bytes text : List ℕ) (start : ℕ) (whole : List ℕ) (others : List (List ℕ)) (frames : List Samples) (d m : Decoding) (notes : Notes) (o0 o1 o2 : K) → Reached taken text start (whole ∷ others) frames d → d.ready ≡ []
-      → limit start 0 whole ≡ None → Advanced d start whole notes m → start + length whole ≤ length bytes → Grows (held o0) (raw_of frames) (held o1) → GrowsByPrefix (held o1) (raw_of (due_of m)) (held o2) → IsCut bytes text (output o0 o2)
-  due_cut taken bytes text start whole others frames d m notes o0 o1 o2 r none fits a within grown cut =
+  pub due_cut : (taken : ℕ) (bytes text : List ℕ) (start : ℕ) (whole : List ℕ) (others : List (List ℕ)) (frames : List Samples) (d m : Decoding) (o0 o1 o2 : K) → Reached taken text start (whole ∷ others) frames d → d.ready ≡ []
+      → limit start 0 whole ≡ None → Onward d start whole m → start + length whole ≤ length bytes → Grows (held o0) (raw_of frames) (held o1) → GrowsByPrefix (held o1) (raw_of (due_of m)) (held o2) → IsCut bytes text (output o0 o2)
+  due_cut taken bytes text start whole others frames d m o0 o1 o2 r none fits a within grown cut =
       let drained : Decoding = record m { ready = []; shown = m.shown + length (due_of m) } in
       let put : HasPut m drained = record {
         none = due_ready drained a.going;
@@ -371,7 +386,7 @@ module _ {S K : Type 0} (left : S → Option (List ℕ)) (input_faults : S → �
         dropped = refl;
         shown = refl;
       } in
-      reached_cut (length bytes) bytes text (start + length whole) others (frames ++ due_of m) drained o0 o2 (reached_more taken (length bytes) text start whole others frames d m drained notes r none fits a put within) (omega arith)
+      reached_cut (length bytes) bytes text (start + length whole) others (frames ++ due_of m) drained o0 o2 (reached_more taken (length bytes) text start whole others frames d m drained r none fits a put within) (omega arith)
       (subst (λ (b : List ℕ). GrowsByPrefix (held o0) b (held o2)) (sym (raw-append frames (due_of m))) (prefix_on grown cut))
 
   due_text : (i0 i1 i2 : S) (o0 o1 o2 : K) (c c' : Cutting) (d m : Decoding) (p : Piece) (notes : Notes) → With i0 i1 o0 o1 c d → Handed c (left i1) c' (left i2) (Some p) → c'.begun ≡ true → Keeps c (left i1) c' (left i2) → Advanced d p.place (whole_of p) notes m
@@ -384,7 +399,7 @@ module _ {S K : Type 0} (left : S → Option (List ℕ)) (input_faults : S → �
         let gone = gave c handed.bytes rest c' p begun (handed.next rest e) in
         let within = taken_more i0 i1 i2 o0 o1 c c' d (Some p) so handed keeps rest e in
         subst (λ (t : List ℕ). IsCut (so.bytes ++ handed.bytes) t (output o0 o2)) (sym (append_assoc so.bytes handed.bytes rest))
-        (due_cut (length so.bytes) (so.bytes ++ handed.bytes) _ p.place (whole_of p) (left_of c' rest) so.frames d m notes o0 o1 o2 g.0 so.none g.1 a (omega (arith, within, gone.next, g.2, start_place c' rest begun)) so.grown cut);
+        (due_cut (length so.bytes) (so.bytes ++ handed.bytes) _ p.place (whole_of p) (left_of c' rest) so.frames d m o0 o1 o2 g.0 so.none g.1 (onward a) (omega (arith, within, gone.next, g.2, start_place c' rest begun)) so.grown cut);
   }
 
   -- output failed behind a piece

@@ -7,6 +7,7 @@ mod frames;
 mod whole;
 
 pub use answer::Decoded;
+pub use frames::put_due;
 pub use m2v_decoder::Decoder;
 pub use m2v_piece::{Cutter, DecodeError, Fault, Piece};
-pub use whole::decode;
+pub use whole::{decode, finish};

@@ -47,7 +47,7 @@ fn read_pieces<S: Source, K: Sink>(
 }
 
 /// Ends the stream, and writes the frames that are due then.
-fn finish<K: Sink>(
+pub fn finish<K: Sink>(
     alloc: Global,
     end: u64,
     decoder: &mut Decoder,

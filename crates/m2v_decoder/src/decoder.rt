@@ -30,7 +30,7 @@ use std::mem;
 /// how many frames handed out.
 #[derive(Drop)]
 pub struct Decoder {
-    course: Course,
+    pub(crate) course: Course,
     ended: bool,
     failed: bool,
     skims: bool,

@@ -2,6 +2,7 @@
 //! out frames as they are due.
 #![tactic(auto)]
 
+mod at_hand;
 mod course;
 mod decoder;
 mod halt;
@@ -10,6 +11,7 @@ mod reading;
 mod rebuilt;
 mod slice;
 
+pub use at_hand::AtHand;
 pub use decoder::Decoder;
 pub use m2v_rows::{Opened, SliceUnit, read_row};
 pub use rebuilt::PictureRows;

@@ -27,6 +27,15 @@ pub struct Reading {
     pub structure: u8,
 }
 
+/// Copies of the frames at hand between two pictures: the last anchor but one, the last anchor, and the frame of a first
+/// field that waits for its second.
+#[derive(Drop)]
+pub struct FramesAtHand {
+    pub older: Option<Frame>,
+    pub newer: Option<Frame>,
+    pub waiting: Option<Frame>,
+}
+
 /// The frames at hand while pictures are decoded: the last two anchors, the frame of the picture that is open or of the
 /// first field that waits, and the first field's frame while its second field is read. Contracts see their samples.
 ///
@@ -87,6 +96,20 @@ fn copy_of(alloc: Global, spare: &mut Vec<Frame>, frame: &Frame) -> Result<Frame
     let mut copy = some_frame(alloc, spare, frame.dims())?;
     copy.copy_from(frame);
     Ok(copy)
+}
+
+/// A copy of a frame that is there.
+fn copy_of_some(
+    alloc: Global,
+    spare: &mut Vec<Frame>,
+    frame: &Option<Frame>,
+) -> Result<Option<Frame>, Memory>
+    ensures { IfOk result (λ f. f ≡ frame.now) }
+{
+    match frame {
+        Some(frame) => Ok(Some(copy_of(alloc, spare, frame)?)),
+        None => Ok(None),
+    }
 }
 
 /// Keeps a frame that isn't needed any more. Without memory it is dropped.
@@ -169,6 +192,23 @@ impl Gallery {
         ensures same { self.new ≡ self.old }
     {
         keep(&mut self.spare, Some(frame));
+    }
+
+    /// Copies of the frames at hand.
+    pub fn at_hand(&mut self, alloc: Global) -> Result<FramesAtHand, Memory>
+        ensures same { self.new ≡ self.old }
+        ensures value { IfOk result (λ frames. frames
+            ≡ record {
+              older = self.old.older;
+              newer = self.old.newer;
+              waiting = self.old.current;
+            }) }
+    {
+        Ok(FramesAtHand {
+            older: copy_of_some(alloc, &mut self.spare, &self.older)?,
+            newer: copy_of_some(alloc, &mut self.spare, &self.newer)?,
+            waiting: copy_of_some(alloc, &mut self.spare, &self.current)?,
+        })
     }
 
     /// A second field begins: it is painted into a copy of its frame.
