@@ -120,8 +120,8 @@ fn keep(spare: &mut Vec<Frame>, frame: Option<Frame>) {
 }
 
 /// The view of the forward reference of the picture whose slices are read: of a second P field each field stands in a frame
-/// of its own.
-fn forward_view<'a>(
+/// of its own. All frames have this size.
+pub fn forward_view<'a>(
     dims: Dims,
     reading: &Option<Reading>,
     older: &'a Option<Frame>,
@@ -153,8 +153,8 @@ fn forward_view<'a>(
     }
 }
 
-/// The view of the backward reference, which B pictures alone have.
-fn backward_view<'a>(
+/// The view of the backward reference, which B pictures alone have. All frames have this size.
+pub fn backward_view<'a>(
     dims: Dims,
     reading: &Option<Reading>,
     newer: &'a Option<Frame>,

@@ -15,7 +15,7 @@ mod scratch;
 mod slices;
 mod target;
 
-pub use gallery::{FramesAtHand, Gallery, Reading};
+pub use gallery::{FramesAtHand, Gallery, Reading, backward_view, forward_view};
 pub use scratch::Scratch;
 pub use slices::{SliceEnd, read_slice};
 pub use target::Target;

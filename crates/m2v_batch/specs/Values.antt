@@ -1,0 +1,128 @@
+-- What comes of each row of a batch.
+use Rattle.std.specs.Prelude.{ℕ, zero, suc, ◌+◌, Bool, true, false, if◌then◌else◌, List, [], ◌∷◌, ◌++◌, map, length, sum, sum_by, slice_index_or, slice_get, Option, Some, None, Ok, Err}
+use Rattle.std.specs.List.{list_all, range_with_len}
+use Rattle.m2v_plane.specs.declared.dims.Dims.{Dims}
+use Rattle.m2v_plane.specs.declared.planes.Plane.{Plane}
+use Rattle.m2v_plane.specs.declared.planes.Plane.TheVariants.{Y, Cb, Cr}
+use Rattle.m2v_plane.specs.Sizes.{side, columns_of}
+use Rattle.m2v_plane.specs.Samples.{Samples, blank, sample_of, line_part}
+use Rattle.m2v_model.specs.declared.setup.SliceSetup.{SliceSetup}
+use Rattle.m2v_model.specs.Samples.{References, put_in_row}
+use Rattle.m2v_piece.specs.declared.answer.Fault.{Fault}
+use Rattle.m2v_rows.specs.Rows.{Slices, Placed, Read, row_read, row_fault, slices_painted}
+use Rattle.m2v_rows.specs.Opened.{setup_of, slices_of, ending}
+use Rattle.m2v_batch.specs.declared.picture.BatchPicture.{BatchPicture}
+use Rattle.m2v_batch.specs.Jobs.{picture_of_job, row_of_job, needs_of}
+use Rattle.m2v_batch.specs.Batches.{Batch, headers, Rows, references}
+
+-- a row isn't rebuilt after a row or a header with a fault; or it has a fault itself; or it is rebuilt
+pub data RowOutcome : Type 0 where
+  after : RowOutcome
+  faulty : Fault → RowOutcome
+  rebuilt : Samples → RowOutcome
+
+-- the samples of a row that is rebuilt
+abbrev pub row_of : RowOutcome → Option Samples
+row_of after = None
+row_of (faulty f) = None
+row_of (rebuilt xs) = Some xs
+
+abbrev pub is_rebuilt : RowOutcome → Bool
+is_rebuilt after = false
+is_rebuilt (faulty f) = false
+is_rebuilt (rebuilt xs) = true
+
+-- ---- one row
+
+-- the samples that slices give a row
+unfoldable pub row_painted : SliceSetup → References → Read → Samples
+row_painted s refs (Ok x) = slices_painted put_in_row s refs (blank s.dims 1) x.0
+row_painted s refs (Err f) = blank s.dims 1
+
+-- a row's own fault comes first; behind a fault of the picture's headers it isn't rebuilt
+unfoldable pub outcome_by : SliceSetup → References → ℕ → Slices → Option Fault → Option Placed → RowOutcome
+outcome_by s refs row us fault (Some f) = faulty (record { kind = f.0; place = f.1 })
+outcome_by s refs row us (Some e) None = after
+outcome_by s refs row us None None = rebuilt (row_painted s refs (row_read s row us))
+
+-- a row of a picture, whose references are there
+unfoldable pub outcome_in : BatchPicture → References → ℕ → RowOutcome
+outcome_in x refs row =
+    let s = setup_of x.opened in
+    let us = slices_of x.piece x.opened in
+    outcome_by s refs row us x.opened.fault (row_fault s row us (ending x.piece x.opened))
+
+unfoldable pub outcome_of : Option BatchPicture → References → ℕ → RowOutcome
+outcome_of None refs row = after
+outcome_of (Some x) refs row = outcome_in x refs row
+
+-- ---- all rows
+
+abbrev pub outcome_at : List RowOutcome → ℕ → RowOutcome
+outcome_at done j = slice_index_or done j after
+
+abbrev pub rows_of : List RowOutcome → Rows
+rows_of done j = row_of (outcome_at done j)
+
+abbrev pub are_rebuilt : List RowOutcome → List ℕ → Bool
+are_rebuilt done needs = list_all (λ i. is_rebuilt (outcome_at done i)) needs
+
+-- the next row, where those before it are done: it is rebuilt only where its needs are
+unfoldable pub next_outcome : Batch → List RowOutcome → RowOutcome
+next_outcome b done =
+    let j = length done in
+    let p = picture_of_job (headers b) j in
+    if are_rebuilt done (needs_of (headers b) j)
+    then outcome_of (slice_get b.pictures p) (references b (rows_of done) p) (row_of_job (headers b) j)
+    else after
+
+-- the first n rows
+unfoldable pub decoded : Batch → ℕ → List RowOutcome
+decoded b zero = []
+decoded b (suc n) = decoded b n ++ next_outcome b (decoded b n) ∷ []
+
+abbrev pub outcome : Batch → ℕ → RowOutcome
+outcome b j = outcome_at (decoded b (j + 1)) j
+
+-- ---- pieces and shared parts
+
+-- what contracts see of a piece: the size of the frames, and what came of the row
+pub record RowPiece : Type 0 where
+  pub dims : Dims
+  pub outcome : RowOutcome
+
+-- what other rows learn of a row: the size of the frames, and its samples where it is rebuilt
+pub record SharedRow : Type 0 where
+  pub dims : Dims
+  pub row : Option Samples
+
+abbrev pub value_of : Batch → ℕ → RowPiece
+value_of b j = record { dims = b.dims; outcome = outcome b j }
+
+abbrev pub shared_part : RowPiece → SharedRow
+shared_part p = record { dims = p.dims; row = row_of p.outcome }
+
+abbrev pub shared_of : Batch → ℕ → SharedRow
+shared_of b j = shared_part (value_of b j)
+
+-- ---- what a gate is told
+
+-- the sum of the samples of the first n lines of a plane of a row
+unfoldable pub lines_sum : Samples → Plane → ℕ → ℕ
+lines_sum xs plane zero = 0
+lines_sum xs plane (suc n) = lines_sum xs plane n + sum (line_part (sample_of xs plane n) 0 (columns_of xs.dims plane))
+
+-- the sum of all samples of a row
+abbrev pub samples_sum : Samples → ℕ
+samples_sum xs = lines_sum xs Y 16 + lines_sum xs Cb 8 + lines_sum xs Cr 8
+
+-- a gate is told the sum of a row's samples, or 0 where it isn't rebuilt
+unfoldable pub told_part : SharedRow → ℕ
+told_part x = row_sum x.row
+  where
+    row_sum : Option Samples → ℕ
+    row_sum None = 0
+    row_sum (Some xs) = samples_sum xs
+
+abbrev pub told_of : Batch → ℕ → ℕ
+told_of b j = told_part (shared_of b j)

@@ -1,0 +1,21 @@
+//! What holds of the jobs of a batch.
+ghost use Rattle.std.specs.Prelude.{ℕ, ◌≡◌, [], ◌∷◌, true, false, Some, None};
+ghost use Rattle.m2v_batch.specs.declared.picture.FramePlace.TheVariants.{Older, Newer, Waiting, Behind};
+ghost use Rattle.m2v_batch.specs.Jobs.{Headers, read_by, needs_of, jobs_of, picture_of_job, row_of_job};
+ghost use Rattle.m2v_batch.specs.Examples.{ipbb, field_pairs};
+
+/// Worked rows: of an I, a P and two B pictures of two rows each; and of a second field whose first field waits, and two P
+/// fields, of one row each.
+pub fn law_worked_rows()
+    ensures frames { (jobs_of ipbb ≡ 8) × (picture_of_job ipbb 5 ≡ 2) × (row_of_job ipbb 5 ≡ 1) }
+    ensures intra { needs_of ipbb 1 ≡ [] }
+    ensures forward { needs_of ipbb 3 ≡ 0 ∷ 1 ∷ [] }
+    ensures both { (needs_of ipbb 5 ≡ 0 ∷ 1 ∷ 2 ∷ 3 ∷ [])
+        × (needs_of ipbb 6 ≡ 0 ∷ 1 ∷ 2 ∷ 3 ∷ []) }
+    ensures before { (jobs_of field_pairs ≡ 3)
+        × (read_by field_pairs 0 ≡ record { forward = Some Newer; other = Some Waiting })
+        × (needs_of field_pairs 0 ≡ []) }
+    ensures fields { (needs_of field_pairs 1 ≡ 0 ∷ [])
+        × (read_by field_pairs 2 ≡ record { forward = Some (Behind 0); other = Some (Behind 1) })
+        × (needs_of field_pairs 2 ≡ 0 ∷ 1 ∷ []) }
+{}

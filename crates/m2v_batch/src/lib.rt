@@ -1,0 +1,14 @@
+//! The decoder's jobs: the macroblock rows of a batch of pictures, each read of those that it stands on.
+//!
+//! A [`DecodeBook`] is a book of jobs over a batch: pictures in decoding order whose headers were read, and a job for each of
+//! their macroblock rows.
+#![tactic(auto)]
+
+mod book;
+mod laws;
+mod picture;
+mod reads;
+
+pub use book::DecodeBook;
+pub use laws::law_worked_rows;
+pub use picture::{BatchPicture, FramePlace, Reads};
