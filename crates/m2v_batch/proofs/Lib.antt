@@ -1,0 +1,6 @@
+pub mod Sizes
+pub mod Anchors
+pub mod Setting
+pub mod FrameRows
+pub mod Ranges
+pub mod Needs

@@ -9,10 +9,11 @@ use Rattle.m2v_model.specs.Samples.{References}
 use Rattle.m2v_picture.specs.declared.gallery.Reading.{Reading}
 use Rattle.m2v_picture.specs.Frames.{Frames, references_in, HasReferences}
 use Rattle.m2v_rows.specs.Opened.{IsOpened}
+use Rattle.m2v_batch.specs.declared.picture.Header.{Header}
 use Rattle.m2v_batch.specs.declared.picture.BatchPicture.{BatchPicture}
 use Rattle.m2v_batch.specs.declared.picture.FramePlace.{FramePlace}
 use Rattle.m2v_batch.specs.declared.picture.FramePlace.TheVariants.{Older, Newer, Waiting, Behind}
-use Rattle.m2v_batch.specs.Jobs.{Header, Headers, header_at, first_job, newer_before, older_before, first_field}
+use Rattle.m2v_batch.specs.Jobs.{Headers, header_at, first_job, newer_before, older_before, first_field}
 
 -- what contracts see of a batch: the size of the frames, the pictures in decoding order, and the frames before them: the last
 -- anchor but one, the last anchor, and the frame of a first field that waits
@@ -97,6 +98,7 @@ references b at p = references_in (frames_for b at p)
 -- two field pictures of one frame: a first field, and one of the other parity
 pub record ArePair (first next : Header) : Type 0 where
   pub is_first : first.second ≡ false
+  pub is_field : first.structure ≤ 2
   pub parity : first.structure + next.structure ≡ 3
 
 -- A batch: at most 16 pictures of one size, whose headers were read. A second field follows its first field, or that waits;

@@ -10,7 +10,7 @@ use Rattle.std.proofs.lemmas.List.FromFn.{length-range_with_len, get_or-range_wi
 use Rattle.m2v_batch.specs.declared.picture.FramePlace.{FramePlace}
 use Rattle.m2v_batch.specs.declared.picture.FramePlace.TheVariants.{Older, Newer, Waiting, Behind}
 use Rattle.m2v_batch.specs.declared.picture.Reads.{Reads}
-use Rattle.m2v_batch.specs.Jobs.{Header, Headers, header_at, first_job, picture_among, picture_of_job, ends_anchor, newer_before, older_before, first_field, read_by, frame_begin, frame_from, frame_count, jobs_behind, jobs_at, needs_of, are_small, jobs_of}
+use Rattle.m2v_batch.specs.Jobs.{Headers, header_at, first_job, picture_among, picture_of_job, ends_anchor, newer_before, older_before, first_field, read_by, frame_begin, frame_from, frame_count, jobs_behind, jobs_at, needs_of, are_small, jobs_of}
 
 -- ---- first jobs
 

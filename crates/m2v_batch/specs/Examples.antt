@@ -1,6 +1,7 @@
 -- Batches of which some rows are worked out.
 use Rattle.std.specs.Prelude.{ℕ, true, false, [], ◌∷◌}
-use Rattle.m2v_batch.specs.Jobs.{Header, Headers}
+use Rattle.m2v_batch.specs.declared.picture.Header.{Header}
+use Rattle.m2v_batch.specs.Jobs.{Headers}
 
 -- a frame picture of two macroblock rows
 abbrev pub frame_picture : ℕ → Header

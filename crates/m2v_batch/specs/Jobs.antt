@@ -1,19 +1,12 @@
 -- The jobs of a batch of pictures, and what each stands on.
 use Rattle.std.specs.Prelude.{ℕ, zero, suc, ◌+◌, ◌-◌, Bool, false, not, ◌&&◌, ◌||◌, nat_eq, nat_le, cond, if◌then◌else◌, List, [], ◌++◌, length, slice_index_or, Option, Some, None}
 use Rattle.std.specs.List.{range_with_len, list_all}
+use Rattle.m2v_batch.specs.declared.picture.Header.{Header}
 use Rattle.m2v_batch.specs.declared.picture.FramePlace.{FramePlace}
 use Rattle.m2v_batch.specs.declared.picture.FramePlace.TheVariants.{Older, Newer, Waiting, Behind}
 use Rattle.m2v_batch.specs.declared.picture.Reads.{Reads}
 
--- what the headers say of a picture: picture_coding_type, whether it is the second field of its frame, picture_structure,
--- and how many macroblock rows it has
-pub record Header : Type 0 where
-  pub kind : ℕ
-  pub second : Bool
-  pub structure : ℕ
-  pub rows : ℕ
-
--- the pictures of a batch, in decoding order
+-- what the headers say of the pictures of a batch, in decoding order
 abbrev pub Headers : Type 0
 Headers = List Header
 

@@ -1,5 +1,7 @@
 pub mod Jobs
 pub mod Batches
+pub mod Pieces
 pub mod Values
+pub mod Learned
 pub mod Below
 pub mod Examples

@@ -1,7 +1,6 @@
 -- What comes of each row of a batch.
 use Rattle.std.specs.Prelude.{ℕ, zero, suc, ◌+◌, Bool, true, false, if◌then◌else◌, List, [], ◌∷◌, ◌++◌, map, length, sum, sum_by, slice_index_or, slice_get, Option, Some, None, Ok, Err}
 use Rattle.std.specs.List.{list_all, range_with_len}
-use Rattle.m2v_plane.specs.declared.dims.Dims.{Dims}
 use Rattle.m2v_plane.specs.declared.planes.Plane.{Plane}
 use Rattle.m2v_plane.specs.declared.planes.Plane.TheVariants.{Y, Cb, Cr}
 use Rattle.m2v_plane.specs.Sizes.{side, columns_of}
@@ -12,25 +11,9 @@ use Rattle.m2v_piece.specs.declared.answer.Fault.{Fault}
 use Rattle.m2v_rows.specs.Rows.{Slices, Placed, Read, row_read, row_fault, slices_painted}
 use Rattle.m2v_rows.specs.Opened.{setup_of, slices_of, ending}
 use Rattle.m2v_batch.specs.declared.picture.BatchPicture.{BatchPicture}
+use Rattle.m2v_batch.specs.Pieces.{RowOutcome, after, faulty, rebuilt, row_of, is_rebuilt, RowPiece, SharedRow, shared_part}
 use Rattle.m2v_batch.specs.Jobs.{picture_of_job, row_of_job, needs_of}
 use Rattle.m2v_batch.specs.Batches.{Batch, headers, Rows, references}
-
--- a row isn't rebuilt after a row or a header with a fault; or it has a fault itself; or it is rebuilt
-pub data RowOutcome : Type 0 where
-  after : RowOutcome
-  faulty : Fault → RowOutcome
-  rebuilt : Samples → RowOutcome
-
--- the samples of a row that is rebuilt
-abbrev pub row_of : RowOutcome → Option Samples
-row_of after = None
-row_of (faulty f) = None
-row_of (rebuilt xs) = Some xs
-
-abbrev pub is_rebuilt : RowOutcome → Bool
-is_rebuilt after = false
-is_rebuilt (faulty f) = false
-is_rebuilt (rebuilt xs) = true
 
 -- ---- one row
 
@@ -86,21 +69,8 @@ outcome b j = outcome_at (decoded b (j + 1)) j
 
 -- ---- pieces and shared parts
 
--- what contracts see of a piece: the size of the frames, and what came of the row
-pub record RowPiece : Type 0 where
-  pub dims : Dims
-  pub outcome : RowOutcome
-
--- what other rows learn of a row: the size of the frames, and its samples where it is rebuilt
-pub record SharedRow : Type 0 where
-  pub dims : Dims
-  pub row : Option Samples
-
 abbrev pub value_of : Batch → ℕ → RowPiece
 value_of b j = record { dims = b.dims; outcome = outcome b j }
-
-abbrev pub shared_part : RowPiece → SharedRow
-shared_part p = record { dims = p.dims; row = row_of p.outcome }
 
 abbrev pub shared_of : Batch → ℕ → SharedRow
 shared_of b j = shared_part (value_of b j)

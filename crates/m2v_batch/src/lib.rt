@@ -5,10 +5,14 @@
 #![tactic(auto)]
 
 mod book;
+mod cache;
 mod laws;
 mod picture;
+mod pieces;
 mod reads;
 
 pub use book::DecodeBook;
+pub use cache::{DecodeCache, RowState};
 pub use laws::law_worked_rows;
-pub use picture::{BatchPicture, FramePlace, Reads};
+pub use pieces::{DecodePiece, DecodeShared, Outcome};
+pub use picture::{BatchPicture, FramePlace, Header, Reads};

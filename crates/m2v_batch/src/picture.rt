@@ -1,4 +1,6 @@
 //! A picture of a batch, and the frames that it is predicted from.
+ghost use Rattle.std.specs.Prelude.{◌≡◌};
+
 use m2v_piece::Piece;
 use m2v_rows::Opened;
 
@@ -9,6 +11,36 @@ pub struct BatchPicture {
     pub piece: Piece,
     /// What its headers say.
     pub opened: Opened,
+}
+
+/// What the headers of a picture say of its place among others.
+#[derive(Clone, Copy, Debug, PartialEq, Eq)]
+pub struct Header {
+    /// Its picture_coding_type: 1 I, 2 P, 3 B.
+    pub kind: u8,
+    /// It is the second field of its frame.
+    pub second: bool,
+    /// Its picture_structure: 1 top field, 2 bottom field, 3 frame.
+    pub structure: u8,
+    /// How many macroblock rows it has.
+    pub rows: u32,
+}
+
+/// What the headers of a picture say of its place among others.
+pub(crate) fn header_of(opened: &Opened) -> Header
+    ensures value { result ≡ record {
+      kind = opened.now.context.kind;
+      second = opened.now.context.second;
+      structure = opened.now.context.extension.structure;
+      rows = opened.now.rows;
+    } }
+{
+    Header {
+        kind: opened.context.kind,
+        second: opened.context.second,
+        structure: opened.context.extension.structure,
+        rows: opened.rows,
+    }
 }
 
 /// Where a frame at hand stands.

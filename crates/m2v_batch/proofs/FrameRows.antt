@@ -1,0 +1,119 @@
+-- The frame behind a picture, by the rows that are at hand.
+use Rattle.std.proofs.Common.{◌≡◌, ℕ, zero, suc, ◌+◌, ◌-◌, ◌<◌, ◌≤◌, Bool, true, false, cond, Option, Some, None, refl, sym, ap, subst, ◌∙◌, arith, inl, inr}
+use Rattle.std.proofs.lemmas.Bool.{cases_lt, cases_eq, cases_Bool, cond-true, cond-false}
+use Rattle.m2v_plane.specs.Samples.{Samples, with_row, blank}
+use Rattle.m2v_plane.specs.Fields.{or_none}
+use Rattle.m2v_pred.specs.Motion.{own_lines}
+use Rattle.m2v_batch.specs.declared.picture.Header.{Header}
+use Rattle.m2v_batch.specs.Jobs.{Headers, header_at, first_job, frame_begin, frame_from}
+use Rattle.m2v_batch.specs.Batches.{Batch, headers, Rows, rows_set, all_set, begun, frame_behind, IsBatch}
+use Rattle.m2v_batch.specs.Below.{first_more, first_upto}
+use Rattle.m2v_batch.proofs.Setting.{rows_same, set_before, AddsRow, row_added, pair_apart}
+
+-- the frame of the picture's first field, if it is a second one
+first_of : Batch → Rows → ℕ → Samples
+first_of b at zero = or_none b.waiting
+first_of b at (suc p) = frame_behind b at p
+
+behind_is : (b : Batch) (at : Rows) (p : ℕ) → frame_behind b at p ≡ all_set b at p (begun b p (first_of b at p))
+unfolding frame_behind first_of
+behind_is b at zero = refl
+behind_is b at (suc p) = refl
+
+-- rows at hand that agree on the jobs from one to another
+abbrev pub AgreeOn : Rows → Rows → ℕ → ℕ → Type 0
+AgreeOn at now from end = (j : ℕ) → from ≤ j → j < end → at j ≡ now j
+
+own_same : (b : Batch) (at now : Rows) (p : ℕ) (frame : Samples) → AgreeOn at now (first_job (headers b) p) (first_job (headers b) (suc p)) → all_set b at p frame ≡ all_set b now p frame
+own_same b at now p frame agree =
+    let hs = headers b in
+    rows_same (header_at hs p) at now (first_job hs p) (header_at hs p).rows frame
+    (λ k lt. agree (first_job hs p + k) (omega arith) (omega (arith, lt, first_more hs p)))
+
+begun_is : (b : Batch) (p : ℕ) (first : Samples) → (header_at (headers b) p).second ≡ false → begun b p first ≡ blank b.dims b.dims.mb_rows
+begun_is b p first e = cond-false (header_at (headers b) p).second first (blank b.dims b.dims.mb_rows) e
+
+begun_second : (b : Batch) (p : ℕ) (first : Samples) → (header_at (headers b) p).second ≡ true → begun b p first ≡ first
+begun_second b p first e = cond-true (header_at (headers b) p).second first (blank b.dims b.dims.mb_rows) e
+
+-- a picture that begins its frame
+first_same : (b : Batch) (at now : Rows) (p : ℕ) → (header_at (headers b) p).second ≡ false → AgreeOn at now (first_job (headers b) p) (first_job (headers b) (suc p))
+    → frame_behind b at p ≡ frame_behind b now p
+first_same b at now p e agree =
+    behind_is b at p
+    ∙ ap (all_set b at p) (begun_is b p (first_of b at p) e)
+    ∙ own_same b at now p (blank b.dims b.dims.mb_rows) agree
+    ∙ ap (all_set b now p) (sym (begun_is b p (first_of b now p) e))
+    ∙ sym (behind_is b now p)
+
+from_first : (hs : Headers) (p : ℕ) → (header_at hs p).second ≡ false → frame_from hs p ≡ first_job hs p
+unfolding frame_begin
+from_first hs zero e = refl
+from_first hs (suc p) e = ap (first_job hs) (cond-false (header_at hs (suc p)).second p (suc p) e)
+
+from_second : (hs : Headers) (p : ℕ) → (header_at hs (suc p)).second ≡ true → frame_from hs (suc p) ≡ first_job hs p
+unfolding frame_begin
+from_second hs p e = ap (first_job hs) (cond-true (header_at hs (suc p)).second p (suc p) e)
+
+second_same : (b : Batch) (at now : Rows) (p : ℕ) → IsBatch b → (header_at (headers b) p).second ≡ true → AgreeOn at now (frame_from (headers b) p) (first_job (headers b) (suc p))
+    → frame_behind b at p ≡ frame_behind b now p
+unfolding frame_behind frame_begin
+second_same b at now zero h e agree = own_same b at now zero (begun b zero (or_none b.waiting)) agree
+second_same b at now (suc p) h e agree =
+    let hs = headers b in
+    let from = from_second hs p e in
+    let first = first_same b at now p (h.pairs p e).is_first (λ j le lt. agree j (omega (arith, le, from)) (omega (arith, lt, first_more hs (suc p)))) in
+    own_same b at now (suc p) (begun b (suc p) (frame_behind b at p)) (λ j le lt. agree j (omega (arith, le, from, first_more hs p)) lt)
+    ∙ ap (λ (f : Samples). all_set b now (suc p) (begun b (suc p) f)) first
+
+-- the frame behind a picture goes by its rows alone
+pub frame_same : (b : Batch) (at now : Rows) (p : ℕ) → IsBatch b → AgreeOn at now (frame_from (headers b) p) (first_job (headers b) (suc p)) → frame_behind b at p ≡ frame_behind b now p
+frame_same b at now p h agree = elim (cases_Bool (header_at (headers b) p).second) [
+  | inl e ↦ second_same b at now p h e agree
+  | inr e ↦ first_same b at now p e (λ j le lt. agree j (omega (arith, le, from_first (headers b) p e)) lt)
+]
+
+-- ---- one row more
+
+others_agree : (at now : Rows) (i : ℕ) (xs : Samples) (from end : ℕ) → AddsRow at now i xs → (end ≤ i) → AgreeOn now at from end
+others_agree at now i xs from end adds le j lf lt = adds.others j (λ e. omega (arith, e, le, lt))
+
+-- of the picture itself
+pub own_added : (b : Batch) (at now : Rows) (q r : ℕ) (xs : Samples) → IsBatch b → r < (header_at (headers b) q).rows → AddsRow at now (first_job (headers b) q + r) xs
+    → frame_behind b now q ≡ with_row (frame_behind b at q) (own_lines (header_at (headers b) q).structure) r xs
+unfolding first_of
+own_added b at now q r xs h lt adds =
+    let hs = headers b in
+    let x = header_at hs q in
+    let base : begun b q (first_of b now q) ≡ begun b q (first_of b at q) = ap (begun b q) (first_alike q (first_job hs q + r) (omega arith) adds) in
+    behind_is b now q
+    ∙ ap (all_set b now q) base
+    ∙ row_added x at now (first_job hs q) x.rows r (begun b q (first_of b at q)) xs lt adds
+    ∙ ap (λ (f : Samples). with_row f (own_lines x.structure) r xs) (sym (behind_is b at q))
+  where
+    first_alike : (p i : ℕ) → first_job (headers b) p ≤ i → AddsRow at now i xs → first_of b now p ≡ first_of b at p
+    first_alike zero i le added = refl
+    first_alike (suc p) i le added = frame_same b now at p h (others_agree at now i xs (frame_from (headers b) p) (first_job (headers b) (suc p)) added le)
+
+-- of its first field
+pub first_added : (b : Batch) (at now : Rows) (q r : ℕ) (xs : Samples) → IsBatch b → (header_at (headers b) (suc q)).second ≡ true → r < (header_at (headers b) q).rows
+    → AddsRow at now (first_job (headers b) q + r) xs
+    → frame_behind b now (suc q) ≡ with_row (frame_behind b at (suc q)) (own_lines (header_at (headers b) q).structure) r xs
+unfolding frame_behind
+first_added b at now q r xs h e lt adds =
+    let hs = headers b in
+    let x = header_at hs q in
+    let y = header_at hs (suc q) in
+    let pair = h.pairs q e in
+    let w = own_lines x.structure in
+    own_same b now at (suc q) (begun b (suc q) (frame_behind b now q))
+    (λ j le end. adds.others j (λ f. omega (arith, f, le, lt, first_more hs q)))
+    ∙ ap (all_set b at (suc q)) (begun_second b (suc q) (frame_behind b now q) e ∙ own_added b at now q r xs h lt adds)
+    ∙ set_before y at (first_job hs (suc q)) y.rows (frame_behind b at q) w r xs (λ k small. pair_apart x.structure y.structure r k pair.is_field (h.field (suc q) e) pair.parity)
+    ∙ ap (λ (f : Samples). with_row (all_set b at (suc q) f) w r xs) (sym (begun_second b (suc q) (frame_behind b at q) e))
+
+-- of no picture of the frame
+pub none_added : (b : Batch) (at now : Rows) (i p : ℕ) (xs : Samples) → IsBatch b → (frame_from (headers b) p ≤ i → i < first_job (headers b) (suc p) → ⊥) → AddsRow at now i xs
+    → frame_behind b now p ≡ frame_behind b at p
+none_added b at now i p xs h other adds =
+    frame_same b now at p h (λ j le lt. adds.others j (λ e. other (omega (arith, le, e)) (omega (arith, lt, e))))

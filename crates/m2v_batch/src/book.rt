@@ -1,0 +1,157 @@
+//! The book of a batch.
+ghost use Rattle.std.specs.Prelude.{◌≡◌, ◌+◌, ◌-◌, ◌*◌, ◌<◌, ◌≤◌, length, slice_get, Some};
+ghost use Rattle.m2v_plane.specs.Samples.{Samples};
+ghost use Rattle.m2v_rows.specs.Opened.{IsOpened};
+ghost use Rattle.m2v_batch.specs.Jobs.{header_at, first_job, picture_of_job, row_of_job, jobs_of};
+ghost use Rattle.m2v_batch.specs.Batches.{Batch, headers, header_of, IsBatch};
+
+use crate::picture::{BatchPicture, Header, header_of};
+use m2v_plane::{Dims, Frame};
+use std::marker::Model;
+
+/// The jobs of a batch of pictures: the macroblock rows of each, picture by picture in decoding order, and of a picture from
+/// the top.
+///
+/// Contracts see the size of the frames, the pictures, and the frames at hand before them.
+#[derive(Drop)]
+pub struct DecodeBook {
+    dims: Dims,
+    pictures: Vec<BatchPicture>,
+    older: Option<Frame>,
+    newer: Option<Frame>,
+    waiting: Option<Frame>,
+}
+
+impl Model for DecodeBook {
+    ghost use Rattle.m2v_batch.specs.Batches.{Batch, IsBatch};
+
+    ghost Value = { Batch };
+
+    ghost view = { λ b. record {
+      dims = b.dims;
+      pictures = b.pictures.items;
+      older = b.older;
+      newer = b.newer;
+      waiting = b.waiting;
+    } };
+
+    ghost invariant = { λ b. IsBatch (record {
+      dims = b.dims;
+      pictures = b.pictures.items;
+      older = b.older;
+      newer = b.newer;
+      waiting = b.waiting;
+    }) };
+}
+
+impl DecodeBook {
+    /// The book of at most 16 pictures of one size in decoding order, none of them dropped, with the frames at hand before
+    /// them: the last anchor but one, the last anchor, and the frame of a first field whose second field the batch begins
+    /// with.
+    pub fn for_batch(
+        dims: Dims,
+        pictures: Vec<BatchPicture>,
+        older: Option<Frame>,
+        newer: Option<Frame>,
+        waiting: Option<Frame>,
+    ) -> DecodeBook
+        requires batch { IsBatch (record {
+          dims = dims;
+          pictures = pictures.items;
+          older = older;
+          newer = newer;
+          waiting = waiting;
+        }) }
+        ensures value { result ≡ record {
+          dims = dims;
+          pictures = pictures.items;
+          older = older;
+          newer = newer;
+          waiting = waiting;
+        } }
+        ensures jobs { jobs_of (headers result)
+            ≡ first_job (headers result) (length pictures.items) }
+    {
+        DecodeBook {
+            dims,
+            pictures,
+            older,
+            newer,
+            waiting,
+        }
+    }
+
+    /// How many pictures there are.
+    pub(crate) fn pictures(&self) -> u32
+        ensures value { result ≡ length (headers self.now) }
+        ensures most { result ≤ 16 }
+        ensures batch { IsBatch self.now }
+    {
+        self.pictures.len() as u32
+    }
+
+    /// The size of the frames.
+    pub(crate) fn dims(&self) -> Dims
+        ensures value { result ≡ self.now.dims }
+        ensures batch { IsBatch self.now }
+    {
+        self.dims
+    }
+
+    /// A picture.
+    pub(crate) fn picture(&self, p: u32) -> &BatchPicture
+        requires picture { p < length (headers self.now) }
+        ensures value { slice_get self.now.pictures p ≡ Some result.now }
+    {
+        &self.pictures[p as usize]
+    }
+
+    /// What a picture's headers say.
+    pub(crate) fn header(&self, p: u32) -> Header
+        requires picture { p < length (headers self.now) }
+        ensures value { result ≡ header_at (headers self.now) p }
+        ensures rows { result.rows ≤ 72 }
+    {
+        header_of(&self.pictures[p as usize].opened)
+    }
+
+    /// The first job of a picture; the number of jobs behind the last one.
+    pub(crate) fn first_job(&self, p: u32) -> u32
+        requires picture { p ≤ length (headers self.now) }
+        ensures value { result ≡ first_job (headers self.now) p }
+        ensures most { result ≤ 72 * p }
+    {
+        // there are at most 16 pictures
+        let _pictures = self.pictures();
+        let mut first = 0;
+        for q in 0..p {
+            first += self.header(q).rows;
+        }
+        first
+    }
+
+    /// The picture that a job belongs to.
+    pub(crate) fn picture_of_job(&self, j: u32) -> u32
+        requires job { j < jobs_of (headers self.now) }
+        ensures value { result ≡ picture_of_job (headers self.now) j }
+        ensures picture { result < length (headers self.now) }
+    {
+        let mut p = self.pictures();
+        let mut first = self.first_job(p);
+        while first > j {
+            p -= 1;
+            first -= self.header(p).rows;
+        }
+        p
+    }
+
+    /// Which macroblock row of its picture a job is.
+    pub(crate) fn row_of_job(&self, j: u32) -> u32
+        requires job { j < jobs_of (headers self.now) }
+        ensures value { result ≡ row_of_job (headers self.now) j }
+        ensures row { result
+            < (header_at (headers self.now) (picture_of_job (headers self.now) j)).rows }
+    {
+        j - self.first_job(self.picture_of_job(j))
+    }
+}
