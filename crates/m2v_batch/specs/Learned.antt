@@ -1,6 +1,5 @@
 -- What a worker's cache holds, and what learning makes of it.
-use Rattle.std.specs.Prelude.{ℕ, suc, ◌≡◌, ◌<◌, ◌⊎◌, Bool, true, false, nat_eq, if◌then◌else◌, List, [], ◌∷◌, length, slice_index, slice_index_or, slice_set, Option, Some, None}
-use Rattle.std.specs.List.{list_any, range_with_len}
+use Rattle.std.specs.Prelude.{ℕ, zero, suc, ◌≡◌, ◌<◌, ◌⊎◌, Bool, true, false, ◌||◌, nat_eq, if◌then◌else◌, List, length, slice_index, slice_index_or, slice_set, Option, Some, None}
 use Rattle.std.specs.Option.{option_map}
 use Rattle.m2v_plane.specs.Samples.{Samples, with_row}
 use Rattle.m2v_pred.specs.Motion.{own_lines}
@@ -12,7 +11,7 @@ use Rattle.m2v_batch.specs.declared.picture.FramePlace.TheVariants.{Older, Newer
 use Rattle.m2v_batch.specs.Jobs.{Headers, header_at, first_job, picture_of_job, row_of_job, read_by, needs_of}
 use Rattle.m2v_batch.specs.Batches.{Batch, headers, Rows, frame_behind}
 use Rattle.m2v_batch.specs.Pieces.{row_of, SharedRow}
-use Rattle.m2v_batch.specs.Values.{outcome}
+use Rattle.m2v_batch.specs.Values.{value_of}
 
 -- what contracts see of a cache: the frames behind the pictures, as far as their rows were learned, where a picture of the
 -- batch is predicted from them; and of each job whether it was learned, and whether its row is rebuilt
@@ -59,14 +58,14 @@ row_learned hs i row c Unknown = record {
 row_learned hs i row c Missing = c
 row_learned hs i row c Rebuilt = c
 
-unfoldable pub learned_of : Headers → ℕ → ℕ → SharedRow → Cached → Cached
-learned_of hs j at x c =
-    let i = slice_index (needs_of hs j) at in
-    row_learned hs i x.row c (state_at c i)
+abbrev pub learned_of : Batch → ℕ → ℕ → SharedRow → Cached → Cached
+learned_of b j at x c =
+    let i = slice_index (needs_of (headers b) j) at in
+    row_learned (headers b) i x.row c (state_at c i)
 
 -- ---- what fits
 
--- a picture of the batch is predicted from the frame behind picture p
+-- a picture is predicted from the frame behind picture p
 abbrev pub is_behind : ℕ → Option FramePlace → Bool
 is_behind p None = false
 is_behind p (Some Older) = false
@@ -74,9 +73,20 @@ is_behind p (Some Newer) = false
 is_behind p (Some Waiting) = false
 is_behind p (Some (Behind q)) = nat_eq q p
 
-unfoldable pub is_read : Headers → ℕ → Bool
-is_read hs p =
-    list_any (λ q. list_any (is_behind p) ((read_by hs q).forward ∷ (read_by hs q).other ∷ [])) (range_with_len 0 (length hs))
+abbrev pub is_read_by : Headers → ℕ → ℕ → Bool
+is_read_by hs p q = is_behind p (read_by hs q).forward || is_behind p (read_by hs q).other
+
+-- that, of the first n pictures
+unfoldable pub is_read_among : Headers → ℕ → ℕ → Bool
+is_read_among hs p zero = false
+is_read_among hs p (suc n) = is_read_among hs p n || is_read_by hs p n
+
+abbrev pub is_read : Headers → ℕ → Bool
+is_read hs p = is_read_among hs p (length hs)
+
+-- the frame behind a picture, where it is read
+abbrev pub slot : Batch → Rows → ℕ → Option Samples
+slot b at p = if is_read (headers b) p then Some (frame_behind b at p) else None
 
 -- the rows that a cache knows
 abbrev pub known_by : RowState → Option Samples → Option Samples
@@ -85,11 +95,11 @@ known_by Missing row = None
 known_by Rebuilt row = row
 
 abbrev pub known : Batch → Cached → Rows
-known b c j = known_by (state_at c j) (row_of (outcome b j))
+known b c j = known_by (state_at c j) (row_of (value_of b j))
 
 -- What a cache knows of rows is what they are, and its frames are those behind the pictures, with the rows that it knows.
 pub record FitsCache (b : Batch) (c : Cached) : Type 0 where
   pub states : length c.rows ≡ first_job (headers b) (length (headers b))
   pub slots : length c.frames ≡ length (headers b)
-  pub each_state : (j : ℕ) → (state_at c j ≡ Unknown) ⊎ (state_at c j ≡ state_of (row_of (outcome b j)))
-  pub each_frame : (p : ℕ) → p < length (headers b) → frame_in c p ≡ (if is_read (headers b) p then Some (frame_behind b (known b c) p) else None)
+  pub each_state : (j : ℕ) → (state_at c j ≡ Unknown) ⊎ (state_at c j ≡ state_of (row_of (value_of b j)))
+  pub each_frame : (p : ℕ) → p < length (headers b) → frame_in c p ≡ slot b (known b c) p

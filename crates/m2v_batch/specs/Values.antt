@@ -1,5 +1,5 @@
 -- What comes of each row of a batch.
-use Rattle.std.specs.Prelude.{ℕ, zero, suc, ◌+◌, Bool, true, false, if◌then◌else◌, List, [], ◌∷◌, ◌++◌, map, length, sum, sum_by, slice_index_or, slice_get, Option, Some, None, Ok, Err}
+use Rattle.std.specs.Prelude.{◌≡◌, ◌⊎◌, ℕ, zero, suc, ◌+◌, Bool, true, false, if◌then◌else◌, List, [], ◌∷◌, ◌++◌, map, length, sum, sum_by, slice_index_or, slice_get, Option, Some, None, Ok, Err}
 use Rattle.std.specs.List.{list_all, range_with_len}
 use Rattle.m2v_plane.specs.declared.planes.Plane.{Plane}
 use Rattle.m2v_plane.specs.declared.planes.Plane.TheVariants.{Y, Cb, Cr}
@@ -11,7 +11,9 @@ use Rattle.m2v_piece.specs.declared.answer.Fault.{Fault}
 use Rattle.m2v_rows.specs.Rows.{Slices, Placed, Read, row_read, row_fault, slices_painted}
 use Rattle.m2v_rows.specs.Opened.{setup_of, slices_of, ending}
 use Rattle.m2v_batch.specs.declared.picture.BatchPicture.{BatchPicture}
-use Rattle.m2v_batch.specs.Pieces.{RowOutcome, after, faulty, rebuilt, row_of, is_rebuilt, RowPiece, SharedRow, shared_part}
+use Rattle.m2v_batch.specs.declared.pieces.DecodePiece.{DecodePiece}
+use Rattle.m2v_batch.specs.declared.pieces.DecodePiece.TheVariants.{Unread, After, Faulty, Rebuilt}
+use Rattle.m2v_batch.specs.Pieces.{row_of, is_rebuilt, SharedRow}
 use Rattle.m2v_batch.specs.Jobs.{picture_of_job, row_of_job, needs_of}
 use Rattle.m2v_batch.specs.Batches.{Batch, headers, Rows, references}
 
@@ -23,57 +25,64 @@ row_painted s refs (Ok x) = slices_painted put_in_row s refs (blank s.dims 1) x.
 row_painted s refs (Err f) = blank s.dims 1
 
 -- a row's own fault comes first; behind a fault of the picture's headers it isn't rebuilt
-unfoldable pub outcome_by : SliceSetup → References → ℕ → Slices → Option Fault → Option Placed → RowOutcome
-outcome_by s refs row us fault (Some f) = faulty (record { kind = f.0; place = f.1 })
-outcome_by s refs row us (Some e) None = after
-outcome_by s refs row us None None = rebuilt (row_painted s refs (row_read s row us))
+unfoldable pub outcome_by : SliceSetup → References → ℕ → Slices → Option Fault → Option Placed → DecodePiece
+outcome_by s refs row us fault (Some f) = Faulty (record { kind = f.0; place = f.1 })
+outcome_by s refs row us (Some e) None = After
+outcome_by s refs row us None None = Rebuilt (row_painted s refs (row_read s row us))
 
 -- a row of a picture, whose references are there
-unfoldable pub outcome_in : BatchPicture → References → ℕ → RowOutcome
+unfoldable pub outcome_in : BatchPicture → References → ℕ → DecodePiece
 outcome_in x refs row =
     let s = setup_of x.opened in
     let us = slices_of x.piece x.opened in
     outcome_by s refs row us x.opened.fault (row_fault s row us (ending x.piece x.opened))
 
-unfoldable pub outcome_of : Option BatchPicture → References → ℕ → RowOutcome
-outcome_of None refs row = after
+unfoldable pub outcome_of : Option BatchPicture → References → ℕ → DecodePiece
+outcome_of None refs row = After
 outcome_of (Some x) refs row = outcome_in x refs row
 
 -- ---- all rows
 
-abbrev pub outcome_at : List RowOutcome → ℕ → RowOutcome
-outcome_at done j = slice_index_or done j after
+abbrev pub outcome_at : List DecodePiece → ℕ → DecodePiece
+outcome_at done j = slice_index_or done j After
 
-abbrev pub rows_of : List RowOutcome → Rows
+abbrev pub rows_of : List DecodePiece → Rows
 rows_of done j = row_of (outcome_at done j)
 
-abbrev pub are_rebuilt : List RowOutcome → List ℕ → Bool
+abbrev pub are_rebuilt : List DecodePiece → List ℕ → Bool
 are_rebuilt done needs = list_all (λ i. is_rebuilt (outcome_at done i)) needs
 
 -- the next row, where those before it are done: it is rebuilt only where its needs are
-unfoldable pub next_outcome : Batch → List RowOutcome → RowOutcome
+unfoldable pub next_outcome : Batch → List DecodePiece → DecodePiece
 next_outcome b done =
     let j = length done in
     let p = picture_of_job (headers b) j in
     if are_rebuilt done (needs_of (headers b) j)
     then outcome_of (slice_get b.pictures p) (references b (rows_of done) p) (row_of_job (headers b) j)
-    else after
+    else After
 
 -- the first n rows
-unfoldable pub decoded : Batch → ℕ → List RowOutcome
+unfoldable pub decoded : Batch → ℕ → List DecodePiece
 decoded b zero = []
 decoded b (suc n) = decoded b n ++ next_outcome b (decoded b n) ∷ []
 
-abbrev pub outcome : Batch → ℕ → RowOutcome
-outcome b j = outcome_at (decoded b (j + 1)) j
-
 -- ---- pieces and shared parts
 
-abbrev pub value_of : Batch → ℕ → RowPiece
-value_of b j = record { dims = b.dims; outcome = outcome b j }
+-- what comes of a row: it isn't rebuilt where a row that it needs isn't; or it has a fault; or it isn't rebuilt behind a fault
+-- of the picture's headers; or it is
+abbrev pub value_of : Batch → ℕ → DecodePiece
+value_of b j = outcome_at (decoded b (j + 1)) j
 
 abbrev pub shared_of : Batch → ℕ → SharedRow
-shared_of b j = shared_part (value_of b j)
+shared_of b j = record { dims = b.dims; row = row_of (value_of b j) }
+
+-- a piece is blank, or what comes of its row
+abbrev pub FitsPiece : Batch → ℕ → DecodePiece → Type 0
+FitsPiece b j p = (p ≡ Unread (blank b.dims 1)) ⊎ (p ≡ value_of b j)
+
+-- a shared part is for frames of the batch's size
+abbrev pub FitsShared : Batch → ℕ → SharedRow → Type 0
+FitsShared b j s = s.dims ≡ b.dims
 
 -- ---- what a gate is told
 

@@ -14,5 +14,5 @@ mod reads;
 pub use book::DecodeBook;
 pub use cache::{DecodeCache, RowState};
 pub use laws::law_worked_rows;
-pub use pieces::{DecodePiece, DecodeShared, Outcome};
+pub use pieces::{DecodePiece, DecodeShared};
 pub use picture::{BatchPicture, FramePlace, Header, Reads};

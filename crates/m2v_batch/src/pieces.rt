@@ -3,7 +3,7 @@ ghost use Rattle.std.specs.Prelude.{◌≡◌, IfOk, IfSome, Some, None, Option,
 ghost use Rattle.m2v_plane.specs.Sizes.{IsSize};
 ghost use Rattle.m2v_plane.specs.Samples.{HasRows};
 ghost use Rattle.std.specs.Option.{option_map};
-ghost use Rattle.m2v_batch.specs.Pieces.{after, row_of, shared_part, shown};
+ghost use Rattle.m2v_batch.specs.Pieces.{row_of};
 
 use m2v_core::Memory;
 use m2v_piece::Fault;
@@ -11,30 +11,17 @@ use m2v_plane::{Dims, RowSamples};
 use std::alloc::Global;
 use std::marker::Model;
 
-/// What comes of a row.
-#[derive(Clone, Copy, Debug, PartialEq, Eq)]
-pub enum Outcome {
-    /// It isn't rebuilt: a row that it needs isn't, or a fault of the picture's headers stands before.
-    After,
-    /// It has a fault.
-    Faulty(Fault),
-    /// It is rebuilt.
-    Rebuilt,
-}
-
-/// What a job makes: the outcome of its row, and the row's samples. Contracts see the samples where the row is rebuilt.
+/// What a job makes.
 #[derive(Drop)]
-pub struct DecodePiece {
-    pub(crate) outcome: Outcome,
-    pub(crate) row: RowSamples,
-}
-
-impl Model for DecodePiece {
-    ghost use Rattle.m2v_batch.specs.Pieces.{RowPiece, outcome_with};
-
-    ghost Value = { RowPiece };
-
-    ghost view = { λ p. record { dims = p.row.dims; outcome = outcome_with p.outcome p.row } };
+pub enum DecodePiece {
+    /// The row wasn't read yet: room for its samples, all 0.
+    Unread(RowSamples),
+    /// The row isn't rebuilt: one that it needs isn't, or a fault of the picture's headers stands before.
+    After,
+    /// The row has a fault, its first one.
+    Faulty(Fault),
+    /// The samples of the row.
+    Rebuilt(RowSamples),
 }
 
 /// What other jobs learn of a job: the samples of its row, and whether it is rebuilt. Contracts see the samples where it is.
@@ -56,44 +43,6 @@ impl Model for DecodeShared {
     } };
 }
 
-impl DecodePiece {
-    /// A piece for frames of this size, of a row that isn't rebuilt.
-    pub(crate) fn blank(alloc: Global, dims: Dims) -> Result<DecodePiece, Memory>
-        requires size { IsSize dims }
-        ensures size { IfOk result (λ p. p.dims ≡ dims) }
-    {
-        let row = RowSamples::blank(alloc, dims)?;
-        Ok(DecodePiece {
-            outcome: Outcome::After,
-            row,
-        })
-    }
-
-    /// Nothing comes of the row, since another one isn't rebuilt.
-    pub(crate) fn set_after(&mut self)
-        ensures value { self.new ≡ record { dims = self.old.dims; outcome = after } }
-    {
-        self.outcome = Outcome::After;
-    }
-
-    /// The samples of the row, where it is rebuilt.
-    pub fn samples(&self) -> Option<&RowSamples>
-        ensures value { option_map (λ r. r.now) result ≡ row_of self.now.outcome }
-    {
-        match self.outcome {
-            Outcome::Rebuilt => Some(&self.row),
-            _ => None,
-        }
-    }
-
-    /// What comes of the row.
-    pub fn outcome(&self) -> Outcome
-        ensures value { result ≡ shown self.now.outcome }
-    {
-        self.outcome
-    }
-}
-
 impl DecodeShared {
     /// A shared part for frames of this size, of a row that isn't rebuilt.
     pub(crate) fn blank(alloc: Global, dims: Dims) -> Result<DecodeShared, Memory>
@@ -107,17 +56,19 @@ impl DecodeShared {
         })
     }
 
-    /// Takes the samples of a piece for frames of the same size.
+    /// Takes the samples of a piece for frames of the same size, where its row is rebuilt.
     pub(crate) fn take(&mut self, piece: &DecodePiece)
-        requires same { piece.now.dims ≡ self.old.dims }
-        ensures value { self.new ≡ shared_part piece.now }
+        requires same { IfSome (row_of piece.now) (λ xs. xs.dims ≡ self.old.dims) }
+        ensures value { self.new ≡ record { dims = self.old.dims; row = row_of piece.now } }
     {
-        match piece.outcome {
-            Outcome::Rebuilt => {
-                self.row.copy_from(&piece.row);
+        match piece {
+            DecodePiece::Rebuilt(row) => {
+                self.row.copy_from(row);
                 self.rebuilt = true;
             }
-            _ => self.rebuilt = false,
+            DecodePiece::Unread(_) | DecodePiece::After | DecodePiece::Faulty(_) => {
+                self.rebuilt = false;
+            }
         }
     }
 
