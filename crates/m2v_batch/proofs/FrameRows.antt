@@ -46,7 +46,7 @@ first_same b at now p e agree =
     ∙ ap (all_set b now p) (sym (begun_is b p (first_of b now p) e))
     ∙ sym (behind_is b now p)
 
-from_first : (hs : Headers) (p : ℕ) → (header_at hs p).second ≡ false → frame_from hs p ≡ first_job hs p
+pub from_first : (hs : Headers) (p : ℕ) → (header_at hs p).second ≡ false → frame_from hs p ≡ first_job hs p
 unfolding frame_begin
 from_first hs zero e = refl
 from_first hs (suc p) e = ap (first_job hs) (cond-false (header_at hs (suc p)).second p (suc p) e)

@@ -4,3 +4,5 @@ pub mod Setting
 pub mod FrameRows
 pub mod Ranges
 pub mod Needs
+pub mod Decoded
+pub mod Learning
