@@ -20,7 +20,7 @@ use Rattle.m2v_batch.specs.declared.pieces.DecodePiece.TheVariants.{Unread, Afte
 use Rattle.m2v_batch.specs.Jobs.{picture_of_job, row_of_job, needs_of}
 use Rattle.m2v_batch.specs.Batches.{Batch, headers, references, IsBatch}
 use Rattle.m2v_batch.specs.Pieces.{row_of}
-use Rattle.m2v_batch.specs.Values.{row_painted, outcome_by, outcome_in, outcome_of, outcome_at, rows_of, are_rebuilt, next_outcome, decoded, value_of}
+use Rattle.m2v_batch.specs.Values.{row_painted, outcome_by, outcome_in, outcome_of, outcome_at, rows_of, are_rebuilt, next_outcome, decoded, value_of, FitsPiece}
 use Rattle.m2v_batch.proofs.Sizes.{at_picture}
 
 pub count : (b : Batch) (n : ℕ) → length (decoded b n) ≡ n
@@ -126,3 +126,12 @@ value_fits b j h =
     by_ready : (p : ℕ) (refs : References) (row : ℕ) (t : Bool) → IsMade b.dims (cond t (outcome_of (slice_get b.pictures p) refs row) After)
     by_ready p refs row true = of_made b p (slice_get b.pictures p) refs row h refl
     by_ready p refs row false = after_made b.dims
+
+none_there : (p : DecodePiece) (ys : Samples) (d : Dims) → p ≡ Unread ys → IfSome (row_of p) (λ xs. xs.dims ≡ d)
+none_there p ys d e = subst (λ (q : DecodePiece). IfSome (row_of q) (λ xs. xs.dims ≡ d)) (sym e) tt
+
+-- the row of a piece that fits has the batch's size
+pub piece_size : (b : Batch) (j : ℕ) (p : DecodePiece) (d : Dims) → IsBatch b → d ≡ b.dims → FitsPiece b j p → IfSome (row_of p) (λ xs. xs.dims ≡ d)
+piece_size b j p d h e (inl f) = none_there p (blank b.dims 1) d f
+piece_size b j p d h e (inr f) =
+    subst (λ (k : Dims). IfSome (row_of p) (λ xs. xs.dims ≡ k)) (sym e) (subst (λ (q : DecodePiece). IfSome (row_of q) (λ xs. xs.dims ≡ b.dims)) (sym f) (value_fits b j h).size)

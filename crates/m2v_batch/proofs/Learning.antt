@@ -3,7 +3,7 @@ use Rattle.std.proofs.Common.{◌≡◌, ◌⊎◌, ℕ, zero, suc, ◌+◌, ◌
 use Rattle.std.specs.Prelude.{IfSome, IsSome, nat_eq, slice_set, slice_get}
 use Rattle.std.specs.Option.{option_map}
 use Rattle.std.proofs.lemmas.Bool.{cases_lt, cases_eq, cases_Bool, cond_both}
-use Rattle.std.proofs.lemmas.List.{length-set, get_or-set_same, get_or-set_other}
+use Rattle.std.proofs.lemmas.List.{length-set, get_or-set_same, get_or-set_other, get_or_past}
 use Rattle.std.proofs.lemmas.Option.{slice_get_cases}
 use Rattle.m2v_plane.specs.declared.dims.Dims.{Dims}
 use Rattle.m2v_plane.specs.declared.planes.Lines.{Lines}
@@ -22,7 +22,7 @@ use Rattle.m2v_batch.specs.Batches.{Batch, headers, header_of, Rows, with_own, r
 use Rattle.m2v_batch.specs.Below.{first_more, first_upto, first_none, picture_upto, picture_within}
 use Rattle.m2v_batch.specs.Pieces.{row_of}
 use Rattle.m2v_batch.specs.Values.{value_of}
-use Rattle.m2v_batch.specs.Learned.{Cached, state_at, frame_in, state_of, slot_with, set_in, set_both, frames_learned, row_learned, is_read, slot, known_by, known, FitsCache}
+use Rattle.m2v_batch.specs.Learned.{Cached, state_at, frame_in, state_of, slot_with, set_in, set_both, frames_learned, row_learned, is_read, slot, known_by, known, FitsCache, AreSized}
 use Rattle.m2v_batch.proofs.Sizes.{header_is, no_picture, at_picture, row_within, job_within}
 use Rattle.m2v_batch.proofs.Setting.{AddsRow}
 use Rattle.m2v_batch.proofs.FrameRows.{own_added, first_added, none_added, frame_same, from_first}
@@ -59,10 +59,6 @@ behind_size b at (suc p) h =
     by_second : (t : Bool) (f : Samples) → f.dims ≡ b.dims → (cond t f (blank b.dims b.dims.mb_rows)).dims ≡ b.dims
     by_second true f e = e
     by_second false f e = refl
-
--- all frames that a cache has are of a size
-abbrev pub AreSized : Dims → Cached → Type 0
-AreSized d c = (p : ℕ) → IfSome (frame_in c p) (λ f. f.dims ≡ d)
 
 part_fits : (t u : Bool) (r rows high : ℕ) → rows ≡ cond t high (high / 2) → r < rows → 16 * r + 16 ≤ part_of (cond t Whole (cond u Bottom Top)) (16 * high)
 part_fits true u r rows high e lt = omega (arith, e, lt)
@@ -284,3 +280,67 @@ unfolding row_learned
 learned_fits b i c Unknown h lt e fits = by_row b i (row_of (value_of b i)) c h lt refl e fits
 learned_fits b i c Missing h lt e fits = fits
 learned_fits b i c Rebuilt h lt e fits = fits
+
+-- ---- what the code sets
+
+abbrev pub set_by : Lines → ℕ → Samples → ℕ → slots → slots
+set_by lines r xs p frames = slice_set frames p (option_map (λ f. with_row f lines r xs) (get_or frames p None))
+
+pub one_set : (hs : Headers) (q r : ℕ) (xs : Samples) (c d : Cached) (lines : Lines) → lines ≡ own_lines (header_at hs q).structure → (header_at hs (suc q)).second ≡ false
+    → d ≡ record c { frames = set_by lines r xs q c.frames } → d ≡ record c { frames = set_both hs q r xs c.frames }
+one_set hs q r xs c d lines el second ed =
+    ed
+    ∙ ap (λ (l : Lines). record c { frames = set_by l r xs q c.frames }) el
+    ∙ ap (λ (fs : slots). record c { frames = fs }) (sym (both_is hs q r xs c.frames false second))
+
+pub two_set : (hs : Headers) (q r p : ℕ) (xs : Samples) (c d e : Cached) (lines : Lines) → lines ≡ own_lines (header_at hs q).structure → p ≡ suc q → (header_at hs (suc q)).second ≡ true
+    → d ≡ record c { frames = set_by lines r xs q c.frames } → e ≡ record d { frames = set_by lines r xs p d.frames } → e ≡ record c { frames = set_both hs q r xs c.frames }
+two_set hs q r p xs c d e lines el ep second ed ee =
+    let own = own_lines (header_at hs q).structure in
+    ee
+    ∙ ap (λ (x : Cached). record x { frames = set_by lines r xs p x.frames }) ed
+    ∙ ap (λ (l : Lines). record c { frames = set_by l r xs p (set_by l r xs q c.frames) }) el
+    ∙ ap (λ (k : ℕ). record c { frames = set_by own r xs k (set_by own r xs q c.frames) }) ep
+    ∙ ap (λ (fs : slots). record c { frames = fs }) (sym (both_is hs q r xs c.frames true second))
+
+pub slot_row : (o : Option Samples) (d : Dims) (lines own : Lines) (r : ℕ) → lines ≡ own → IfSome o (λ f. f.dims ≡ d) → 16 * r + 16 ≤ part_of own (16 * d.mb_rows) → IfSome o (λ f. 16 * r + 16 ≤ part_of lines (16 * f.dims.mb_rows))
+slot_row None d lines own r e size le = tt
+slot_row (Some f) d lines own r e size le =
+    subst (λ (l : Lines). 16 * r + 16 ≤ part_of l (16 * f.dims.mb_rows)) (sym e) (subst (λ (x : Dims). 16 * r + 16 ≤ part_of own (16 * x.mb_rows)) (sym size) le)
+
+mapped_size : (o : Option Samples) (d : Dims) (lines : Lines) (r : ℕ) (xs : Samples) → IfSome o (λ f. f.dims ≡ d) → IfSome (option_map (λ f. with_row f lines r xs) o) (λ f. f.dims ≡ d)
+mapped_size None d lines r xs h = tt
+mapped_size (Some f) d lines r xs h = h
+
+pub sized_set : (c e : Cached) (d : Dims) (lines : Lines) (q r : ℕ) (xs : Samples) → q < length c.frames → AreSized d c → e ≡ record c { frames = set_by lines r xs q c.frames } → AreSized d e
+sized_set c e d lines q r xs lt sized is p =
+    subst (λ (x : Cached). IfSome (frame_in x p) (λ f. f.dims ≡ d)) (sym is)
+    (elim (cases_eq p q) [
+      | inl same ↦ subst (λ (o : Option Samples). IfSome o (λ f. f.dims ≡ d))
+        (sym (ap (λ (k : ℕ). get_or (set_by lines r xs q c.frames) k None) same ∙ get_or-set_same c.frames q _ None lt)) (mapped_size (frame_in c q) d lines r xs (sized q))
+      | inr other ↦ subst (λ (o : Option Samples). IfSome o (λ f. f.dims ≡ d)) (sym (get_or-set_other c.frames q p _ None other)) (sized p)
+    ])
+
+slot_size : (t : Bool) (f : Samples) (d : Dims) → f.dims ≡ d → IfSome (cond t (Some f) None) (λ g. g.dims ≡ d)
+slot_size true f d e = e
+slot_size false f d e = tt
+
+pub fits_sized : (b : Batch) (c : Cached) → IsBatch b → FitsCache b c → AreSized b.dims c
+fits_sized b c h fits p = elim (cases_lt p (length (headers b))) [
+  | inl lt ↦ subst (λ (o : Option Samples). IfSome o (λ f. f.dims ≡ b.dims)) (sym (fits.each_frame p lt)) (slot_size (is_read (headers b) p) (frame_behind b (known b c) p) b.dims (behind_size b (known b c) p h))
+  | inr le ↦ subst (λ (o : Option Samples). IfSome o (λ f. f.dims ≡ b.dims)) (sym (get_or_past c.frames p None (omega (arith, le, fits.slots)))) tt
+]
+
+pub missing_learned : (hs : Headers) (i : ℕ) (row : Option Samples) (c d : Cached) → None ≡ row → d ≡ record c { rows = slice_set c.rows i Missing } → d ≡ row_learned hs i row c Unknown
+unfolding row_learned frames_learned
+missing_learned hs i row c d e is = is ∙ ap (λ (o : Option Samples). row_learned hs i o c Unknown) e
+
+pub rebuilt_learned : (hs : Headers) (i q r : ℕ) (xs : Samples) (row : Option Samples) (c d e : Cached) → Some xs ≡ row → q ≡ picture_of_job hs i → r ≡ row_of_job hs i
+    → d ≡ record c { rows = slice_set c.rows i Rebuilt } → e ≡ record d { frames = set_both hs q r xs d.frames } → e ≡ row_learned hs i row c Unknown
+unfolding row_learned frames_learned
+rebuilt_learned hs i q r xs row c d e some eq er ed ee =
+    ee
+    ∙ ap (λ (x : Cached). record x { frames = set_both hs q r xs x.frames }) ed
+    ∙ ap (λ (k : ℕ). record { frames = set_both hs k r xs c.frames; rows = slice_set c.rows i Rebuilt }) eq
+    ∙ ap (λ (k : ℕ). record { frames = set_both hs (picture_of_job hs i) k xs c.frames; rows = slice_set c.rows i Rebuilt }) er
+    ∙ ap (λ (o : Option Samples). row_learned hs i o c Unknown) some

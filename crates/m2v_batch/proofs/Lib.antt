@@ -6,3 +6,6 @@ pub mod Ranges
 pub mod Needs
 pub mod Decoded
 pub mod Learning
+pub mod Blank
+pub mod Fits
+pub mod Sums

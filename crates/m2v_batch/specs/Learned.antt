@@ -1,5 +1,6 @@
 -- What a worker's cache holds, and what learning makes of it.
-use Rattle.std.specs.Prelude.{ℕ, zero, suc, ◌≡◌, ◌<◌, ◌⊎◌, Bool, true, false, ◌||◌, nat_eq, if◌then◌else◌, List, length, slice_index, slice_index_or, slice_set, Option, Some, None}
+use Rattle.std.specs.Prelude.{ℕ, zero, suc, ◌≡◌, ◌<◌, ◌⊎◌, Bool, true, false, ◌||◌, nat_eq, if◌then◌else◌, List, length, slice_index, slice_index_or, slice_set, Option, Some, None, IfSome}
+use Rattle.m2v_plane.specs.declared.dims.Dims.{Dims}
 use Rattle.std.specs.Option.{option_map}
 use Rattle.m2v_plane.specs.Samples.{Samples, with_row}
 use Rattle.m2v_pred.specs.Motion.{own_lines}
@@ -24,6 +25,16 @@ state_at c i = slice_index_or c.rows i Unknown
 
 abbrev pub frame_in : Cached → ℕ → Option Samples
 frame_in c p = slice_index_or c.frames p None
+
+abbrev pub is_known : RowState → Bool
+is_known Unknown = false
+is_known Missing = true
+is_known Rebuilt = true
+
+abbrev pub is_set : RowState → Bool
+is_set Unknown = false
+is_set Missing = false
+is_set Rebuilt = true
 
 -- ---- learning
 
@@ -103,3 +114,7 @@ pub record FitsCache (b : Batch) (c : Cached) : Type 0 where
   pub slots : length c.frames ≡ length (headers b)
   pub each_state : (j : ℕ) → (state_at c j ≡ Unknown) ⊎ (state_at c j ≡ state_of (row_of (value_of b j)))
   pub each_frame : (p : ℕ) → p < length (headers b) → frame_in c p ≡ slot b (known b c) p
+
+-- all frames that a cache has are of a size
+abbrev pub AreSized : Dims → Cached → Type 0
+AreSized d c = (p : ℕ) → IfSome (frame_in c p) (λ f. f.dims ≡ d)

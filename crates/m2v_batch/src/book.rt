@@ -1,5 +1,6 @@
 //! The book of a batch.
 ghost use Rattle.std.specs.Prelude.{◌≡◌, ◌+◌, ◌-◌, ◌*◌, ◌<◌, ◌≤◌, length, slice_get, Some};
+ghost use Rattle.m2v_plane.specs.Sizes.{IsSize};
 ghost use Rattle.m2v_plane.specs.Samples.{Samples};
 ghost use Rattle.m2v_rows.specs.Opened.{IsOpened};
 ghost use Rattle.m2v_batch.specs.Jobs.{header_at, first_job, picture_of_job, row_of_job, jobs_of};
@@ -93,9 +94,17 @@ impl DecodeBook {
     /// The size of the frames.
     pub(crate) fn dims(&self) -> Dims
         ensures value { result ≡ self.now.dims }
+        ensures size { IsSize result }
         ensures batch { IsBatch self.now }
     {
         self.dims
+    }
+
+    /// The frame of the first field whose second field the batch begins with.
+    pub(crate) fn waiting(&self) -> &Option<Frame>
+        ensures value { result.now ≡ self.now.waiting }
+    {
+        &self.waiting
     }
 
     /// A picture.

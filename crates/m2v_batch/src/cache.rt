@@ -3,7 +3,7 @@ ghost use Rattle.std.specs.Prelude.{◌≡◌, ◌*◌, ◌+◌, ◌<◌, ◌≤
 ghost use Rattle.m2v_plane.specs.Samples.{Samples, with_row};
 ghost use Rattle.m2v_plane.specs.Sizes.{part_of};
 ghost use Rattle.std.specs.Option.{option_map};
-ghost use Rattle.m2v_batch.specs.Learned.{state_at, frame_in};
+ghost use Rattle.m2v_batch.specs.Learned.{state_at, frame_in, is_known, is_set};
 
 use m2v_plane::{Frame, Lines, RowSamples};
 use std::marker::Model;
@@ -49,12 +49,26 @@ fn set_slot(slot: &mut Option<Frame>, lines: Lines, row: u32, samples: &RowSampl
 }
 
 impl DecodeCache {
-    /// Whether the row of a job was learned.
-    pub(crate) fn state(&self, i: u32) -> RowState
+    /// Whether the row of a job was learned, and is rebuilt.
+    pub(crate) fn is_rebuilt(&self, i: u32) -> bool
         requires job { i < length self.now.rows }
-        ensures value { result ≡ state_at self.now i }
+        ensures value { result ≡ is_set (state_at self.now i) }
     {
-        self.rows[i as usize]
+        match self.rows[i as usize] {
+            RowState::Rebuilt => true,
+            RowState::Unknown | RowState::Missing => false,
+        }
+    }
+
+    /// Whether the row of a job was learned.
+    pub(crate) fn is_known(&self, i: u32) -> bool
+        requires job { i < length self.now.rows }
+        ensures value { result ≡ is_known (state_at self.now i) }
+    {
+        match self.rows[i as usize] {
+            RowState::Unknown => false,
+            RowState::Missing | RowState::Rebuilt => true,
+        }
     }
 
     /// The frame behind a picture.

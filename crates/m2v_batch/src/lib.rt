@@ -6,7 +6,9 @@
 
 mod book;
 mod cache;
+mod jobs;
 mod laws;
+mod learn;
 mod picture;
 mod pieces;
 mod reads;

@@ -1,13 +1,14 @@
 //! What comes of a row, and what others learn of it.
-ghost use Rattle.std.specs.Prelude.{◌≡◌, IfOk, IfSome, Some, None, Option, if◌then◌else◌};
-ghost use Rattle.m2v_plane.specs.Sizes.{IsSize};
+ghost use Rattle.std.specs.Prelude.{◌≡◌, ◌≤◌, ◌*◌, ◌^◌, IfOk, IfSome, Some, None, Option, if◌then◌else◌, length, sum};
+ghost use Rattle.m2v_plane.specs.Sizes.{IsSize, side};
 ghost use Rattle.m2v_plane.specs.Samples.{HasRows};
 ghost use Rattle.std.specs.Option.{option_map};
 ghost use Rattle.m2v_batch.specs.Pieces.{row_of};
+ghost use Rattle.m2v_batch.specs.Values.{lines_sum, told_part};
 
 use m2v_core::Memory;
 use m2v_piece::Fault;
-use m2v_plane::{Dims, RowSamples};
+use m2v_plane::{Dims, Plane, RowSamples};
 use std::alloc::Global;
 use std::marker::Model;
 
@@ -79,4 +80,44 @@ impl DecodeShared {
     {
         if self.rebuilt { Some(&self.row) } else { None }
     }
+
+    /// The sum of the row's samples, or 0 where it isn't rebuilt.
+    #[tactic(auto, unfolding(crate::specs::Values::told_part))]
+    pub(crate) fn sum(&self) -> u64
+        ensures value { result ≡ told_part self.now }
+    {
+        match self.samples() {
+            None => 0,
+            Some(row) => {
+                sum_of(row, Plane::Y, 16) + sum_of(row, Plane::Cb, 8) + sum_of(row, Plane::Cr, 8)
+            }
+        }
+    }
+}
+
+/// The sum of the samples of the first lines of a plane of a row.
+fn sum_of(row: &RowSamples, plane: Plane, lines: u32) -> u64
+    requires lines { lines ≤ side plane }
+    ensures value { result ≡ lines_sum row.now plane lines }
+    ensures most { result ≤ 2 ^ 20 * lines }
+{
+    let columns = plane.side() * row.dims().mb_width;
+    let mut sum = 0;
+    for line in 0..lines {
+        sum += sum_all(row.line(plane, line, 0, columns));
+    }
+    sum
+}
+
+/// The sum of samples.
+fn sum_all(samples: &[u8]) -> u64
+    requires few { length samples.now ≤ 4096 }
+    ensures value { result ≡ sum samples.now }
+    ensures most { result ≤ 2 ^ 20 }
+{
+    let mut all: u64 = 0;
+    for i in 0..samples.len() {
+        all += u64::from(samples[i]);
+    }
+    all
 }
