@@ -133,14 +133,14 @@ learned_states b i c = slice_set c.rows i (state_of (row_of (value_of b i)))
 abbrev with_state : Batch → ℕ → Cached → slots → Cached
 with_state b i c frames = record { frames = frames; rows = learned_states b i c }
 
-known_row : (row : Option Samples) → known_by (state_of row) row ≡ row
+pub known_row : (row : Option Samples) → known_by (state_of row) row ≡ row
 known_row None = refl
 known_row (Some xs) = refl
 
-state_same : (b : Batch) (i : ℕ) (c : Cached) (frames : slots) → i < length c.rows → state_at (with_state b i c frames) i ≡ state_of (row_of (value_of b i))
+pub state_same : (b : Batch) (i : ℕ) (c : Cached) (frames : slots) → i < length c.rows → state_at (with_state b i c frames) i ≡ state_of (row_of (value_of b i))
 state_same b i c frames lt = get_or-set_same c.rows i (state_of (row_of (value_of b i))) Unknown lt
 
-state_other : (b : Batch) (i j : ℕ) (c : Cached) (frames : slots) → (j ≡ i → ⊥) → state_at (with_state b i c frames) j ≡ state_at c j
+pub state_other : (b : Batch) (i j : ℕ) (c : Cached) (frames : slots) → (j ≡ i → ⊥) → state_at (with_state b i c frames) j ≡ state_at c j
 state_other b i j c frames other = get_or-set_other c.rows i j (state_of (row_of (value_of b i))) Unknown other
 
 known_same : (b : Batch) (i : ℕ) (c : Cached) (frames : slots) → i < length c.rows → known b (with_state b i c frames) i ≡ row_of (value_of b i)

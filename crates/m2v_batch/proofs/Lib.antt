@@ -9,3 +9,4 @@ pub mod Learning
 pub mod Blank
 pub mod Fits
 pub mod Sums
+pub mod Ready

@@ -3,5 +3,6 @@ pub mod Batches
 pub mod Pieces
 pub mod Values
 pub mod Learned
+pub mod Works
 pub mod Below
 pub mod Examples

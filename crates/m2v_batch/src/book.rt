@@ -100,6 +100,20 @@ impl DecodeBook {
         self.dims
     }
 
+    /// The last anchor but one before the batch.
+    pub(crate) fn older(&self) -> &Option<Frame>
+        ensures value { result.now ≡ self.now.older }
+    {
+        &self.older
+    }
+
+    /// The last anchor before the batch.
+    pub(crate) fn newer(&self) -> &Option<Frame>
+        ensures value { result.now ≡ self.now.newer }
+    {
+        &self.newer
+    }
+
     /// The frame of the first field whose second field the batch begins with.
     pub(crate) fn waiting(&self) -> &Option<Frame>
         ensures value { result.now ≡ self.now.waiting }

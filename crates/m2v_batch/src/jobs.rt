@@ -12,6 +12,7 @@ use crate::pieces::{DecodePiece, DecodeShared};
 use m2v_core::{JobBook, Memory, NeedList};
 use m2v_plane::RowSamples;
 use std::alloc::Global;
+use std::mem;
 
 impl JobBook for DecodeBook {
     type Piece = DecodePiece;
@@ -64,7 +65,8 @@ impl JobBook for DecodeBook {
     }
 
     fn work(&self, j: u32, cache: &DecodeCache, out: &mut DecodePiece) {
-        nothing(self, j, cache, out)
+        let piece = mem::replace(out, DecodePiece::After);
+        *out = self.made(j, cache, piece);
     }
 
     fn share(&self, _j: u32, piece: &DecodePiece, into: &mut DecodeShared) {
@@ -87,7 +89,3 @@ impl JobBook for DecodeBook {
         part.sum()
     }
 }
-
-fn nothing(book: &DecodeBook, j: u32, cache: &DecodeCache, out: &mut DecodePiece)
-    ensures { out.new ≡ value_of book.now j }
-{}

@@ -12,6 +12,7 @@ mod learn;
 mod picture;
 mod pieces;
 mod reads;
+mod work;
 
 pub use book::DecodeBook;
 pub use cache::{DecodeCache, RowState};

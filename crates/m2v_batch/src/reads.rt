@@ -12,9 +12,9 @@ use m2v_core::NeedList;
 
 /// The last two anchors before a picture.
 #[derive(Clone, Copy)]
-struct Anchors {
-    older: FramePlace,
-    newer: FramePlace,
+pub(crate) struct Anchors {
+    pub(crate) older: FramePlace,
+    pub(crate) newer: FramePlace,
 }
 
 /// Whether a picture that isn't B ends its frame.
@@ -41,7 +41,7 @@ fn anchors_behind(before: Anchors, q: u32, h: Header) -> Anchors
 
 /// The frame of the first field before a second field.
 #[tactic(auto, unfolding(crate::specs::Jobs::first_field))]
-fn first_field(p: u32) -> FramePlace
+pub(crate) fn first_field(p: u32) -> FramePlace
     ensures value { result ≡ first_field_before p }
 {
     if p == 0 {
@@ -86,7 +86,7 @@ fn push_range(jobs: JobRange, out: &mut NeedList)
 
 impl DecodeBook {
     /// The last two anchors before a picture.
-    fn anchors_before(&self, p: u32) -> Anchors
+    pub(crate) fn anchors_before(&self, p: u32) -> Anchors
         requires picture { p ≤ length (headers self.now) }
         ensures older { result.older ≡ older_before (headers self.now) p }
         ensures newer { result.newer ≡ newer_before (headers self.now) p }

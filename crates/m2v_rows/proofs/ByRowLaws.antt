@@ -169,7 +169,7 @@ row_first : (s : SliceSetup) (row : ℕ) → first_of s row ≤ first_of s (row 
 row_first s row = mul-le-mul (omega (arith)) (le_refl s.context.columns)
 
 -- the slices of a row without a fault cover it
-row_whole : (s : SliceSetup) (row : ℕ) (us : Slices) (end : ℕ) (r : Read) → first_of s (row + 1) ≤ 2 ^ 16 → row_read s row us ≡ r → covering s row (below row us) (Some end) r ≡ None
+pub row_whole : (s : SliceSetup) (row : ℕ) (us : Slices) (end : ℕ) (r : Read) → first_of s (row + 1) ≤ 2 ^ 16 → row_read s row us ≡ r → covering s row (below row us) (Some end) r ≡ None
     → (ys : List Begun) × (row_read s row us ≡ Ok (ys, first_of s (row + 1)))
 row_whole s row us end (Ok x) small read e = elim (eqb_tells x.1 (first_of s (row + 1))) [
   | inl h ↦ (x.0, read ∙ ap (λ (n : ℕ). Ok (x.0, n)) h.1)

@@ -1,0 +1,166 @@
+//! What a job makes, of a cache that has learned its needs.
+ghost use Rattle.std.specs.Prelude.{◌≡◌, ◌+◌, ◌*◌, ◌<◌, ◌≤◌, ◌&&◌, true, length};
+ghost use Rattle.std.specs.List.{list_all, range_with_len};
+ghost use Rattle.m2v_plane.specs.Samples.{blank};
+ghost use Rattle.m2v_plane.specs.Fields.{sample_at, HoldsLine};
+ghost use Rattle.m2v_picture.specs.Conditions.{HoldsForward, HoldsBackward};
+ghost use Rattle.m2v_picture.specs.Reads.{seen_by};
+ghost use Rattle.m2v_rows.specs.Opened.{IsOpened, setup_of};
+ghost use Rattle.m2v_batch.specs.Jobs.{header_at, jobs_of, needs_of, picture_of_job, row_of_job, read_by};
+ghost use Rattle.m2v_batch.specs.Batches.{headers, reading_of, references};
+ghost use Rattle.m2v_batch.specs.Below.{ComesBefore};
+ghost use Rattle.m2v_batch.specs.Values.{outcome_in, outcome_of, rows_of, decoded, value_of, FitsPiece};
+ghost use Rattle.m2v_batch.specs.Learned.{state_at, is_set};
+ghost use Rattle.m2v_batch.specs.Works.{HasLearned, frame_found};
+
+use crate::book::DecodeBook;
+use crate::cache::DecodeCache;
+use crate::picture::{BatchPicture, FramePlace, Header};
+use crate::pieces::DecodePiece;
+use crate::reads::{JobRange, first_field};
+use m2v_picture::{Reading, backward_view, forward_view};
+use m2v_plane::{FieldView, Frame, RowSamples};
+use m2v_rows::read_row;
+
+/// What tells the references of a picture: an I picture has none.
+fn reading_of(h: Header) -> Option<Reading>
+    ensures value { result ≡ reading_of h }
+{
+    if h.kind == 1 {
+        return None;
+    }
+    Some(Reading {
+        kind: h.kind,
+        second_field: h.second,
+        structure: h.structure,
+    })
+}
+
+/// Whether both hold.
+fn both(a: bool, b: bool) -> bool
+    ensures value { result ≡ (a && b) }
+{
+    a && b
+}
+
+/// Whether the rows of some jobs are rebuilt.
+fn are_rebuilt(cache: &DecodeCache, jobs: JobRange) -> bool
+    requires jobs { jobs.from + jobs.count ≤ length cache.now.rows }
+    requires few { jobs.from + jobs.count ≤ 2000 }
+    ensures value { result ≡ list_all (λ i. is_set (state_at cache.now i))
+        (range_with_len jobs.from jobs.count) }
+{
+    let mut all = true;
+    for i in 0..jobs.count {
+        all = both(all, cache.is_rebuilt(jobs.from + i));
+    }
+    all
+}
+
+/// Reads a row of a picture, where its references are there.
+fn read_piece(
+    x: &BatchPicture,
+    r: u32,
+    forward: &FieldView,
+    backward: &FieldView,
+    row: RowSamples,
+) -> DecodePiece
+    requires opened { IsOpened x.now.piece x.now.opened }
+    requires row { r < x.now.opened.rows }
+    requires blank { row ≡ blank x.now.opened.dims 1 }
+    requires forward { HoldsForward (setup_of x.now.opened) forward.now.dims
+        (HoldsLine forward.now) }
+    requires backward { HoldsBackward (setup_of x.now.opened) backward.now.dims
+        (HoldsLine backward.now) }
+    ensures value { result
+        ≡ outcome_in x.now (seen_by (sample_at forward.now) (sample_at backward.now)) r }
+{
+    let mut row = row;
+    match read_row(&x.opened, &x.piece, r, forward, backward, &mut row) {
+        Some(fault) => DecodePiece::Faulty(fault),
+        None => {
+            if x.opened.fault.is_some() {
+                return DecodePiece::After;
+            }
+            DecodePiece::Rebuilt(row)
+        }
+    }
+}
+
+impl DecodeBook {
+    /// A frame at hand, as a cache has it.
+    #[tactic(auto, unfolding(crate::specs::Works::frame_found, crate::specs::Below::ComesBefore))]
+    fn frame<'a>(&'a self, place: FramePlace, cache: &'a DecodeCache) -> &'a Option<Frame>
+        requires place { ComesBefore (length cache.now.frames) place }
+        ensures value { result.now ≡ frame_found self.now cache.now place }
+    {
+        match place {
+            FramePlace::Older => self.older(),
+            FramePlace::Newer => self.newer(),
+            FramePlace::Waiting => self.waiting(),
+            FramePlace::Behind(p) => cache.frame(p),
+        }
+    }
+
+    /// Whether all rows that a job needs are rebuilt.
+    fn is_ready(&self, j: u32, cache: &DecodeCache) -> bool
+        requires job { j < jobs_of (headers self.now) }
+        requires learned { HasLearned self.now j cache.now }
+        ensures value { result ≡ list_all (λ i. is_set (state_at cache.now i))
+            (needs_of (headers self.now) j) }
+    {
+        let reads = self.reads(self.picture_of_job(j));
+        both(
+            are_rebuilt(cache, self.jobs_at(reads.forward)),
+            are_rebuilt(cache, self.jobs_at(reads.other)),
+        )
+    }
+
+    /// Reads the row of a job whose needs are rebuilt.
+    fn read_job(&self, j: u32, cache: &DecodeCache, row: RowSamples) -> DecodePiece
+        requires job { j < jobs_of (headers self.now) }
+        requires learned { HasLearned self.now j cache.now }
+        requires ready { list_all (λ i. is_set (state_at cache.now i))
+            (needs_of (headers self.now) j) ≡ true }
+        requires blank { row ≡ blank self.now.dims 1 }
+        ensures value { result ≡ value_of self.now j }
+    {
+        let p = self.picture_of_job(j);
+        let reading = reading_of(self.header(p));
+        let anchors = self.anchors_before(p);
+        let older = self.frame(anchors.older, cache);
+        let newer = self.frame(anchors.newer, cache);
+        let first = self.frame(first_field(p), cache);
+        let forward = forward_view(self.dims(), &reading, older, newer, first);
+        let backward = backward_view(self.dims(), &reading, newer);
+        read_piece(self.picture(p), self.row_of_job(j), &forward, &backward, row)
+    }
+
+    /// Makes the piece of a job of a blank one.
+    fn make(&self, j: u32, cache: &DecodeCache, row: RowSamples) -> DecodePiece
+        requires job { j < jobs_of (headers self.now) }
+        requires learned { HasLearned self.now j cache.now }
+        requires blank { row ≡ blank self.now.dims 1 }
+        ensures value { result ≡ value_of self.now j }
+    {
+        if self.is_ready(j, cache) {
+            return self.read_job(j, cache, row);
+        }
+        DecodePiece::After
+    }
+
+    /// Makes the piece of a job, of a blank one or of itself.
+    pub(crate) fn made(&self, j: u32, cache: &DecodeCache, piece: DecodePiece) -> DecodePiece
+        requires job { j < jobs_of (headers self.now) }
+        requires learned { HasLearned self.now j cache.now }
+        requires fits { FitsPiece self.now j piece }
+        ensures value { result ≡ value_of self.now j }
+    {
+        match piece {
+            DecodePiece::Unread(row) => self.make(j, cache, row),
+            DecodePiece::After => DecodePiece::After,
+            DecodePiece::Faulty(fault) => DecodePiece::Faulty(fault),
+            DecodePiece::Rebuilt(row) => DecodePiece::Rebuilt(row),
+        }
+    }
+}
