@@ -135,3 +135,15 @@ pub piece_size : (b : Batch) (j : ℕ) (p : DecodePiece) (d : Dims) → IsBatch 
 piece_size b j p d h e (inl f) = none_there p (blank b.dims 1) d f
 piece_size b j p d h e (inr f) =
     subst (λ (k : Dims). IfSome (row_of p) (λ xs. xs.dims ≡ k)) (sym e) (subst (λ (q : DecodePiece). IfSome (row_of q) (λ xs. xs.dims ≡ b.dims)) (sym f) (value_fits b j h).size)
+
+unread_row : DecodePiece → Samples → Samples
+unread_row (Unread xs) d = xs
+unread_row After d = d
+unread_row (Faulty f) d = d
+unread_row (Rebuilt xs) d = d
+
+-- a piece that fits and wasn't read is blank
+pub unread_blank : (b : Batch) (j : ℕ) (p : DecodePiece) (xs : Samples) → IsBatch b → p ≡ Unread xs → FitsPiece b j p → xs ≡ blank b.dims 1
+unfolding unread_row
+unread_blank b j p xs h e (inl f) = ap (λ (q : DecodePiece). unread_row q xs) (sym e ∙ f)
+unread_blank b j p xs h e (inr f) = absurd ((value_fits b j h).read xs (sym f ∙ e))

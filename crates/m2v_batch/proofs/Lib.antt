@@ -10,3 +10,5 @@ pub mod Blank
 pub mod Fits
 pub mod Sums
 pub mod Ready
+pub mod RowRead
+pub mod FoundFrames

@@ -9,7 +9,7 @@ use Rattle.m2v_batch.specs.declared.picture.Reads.{Reads}
 use Rattle.m2v_batch.specs.Jobs.{Headers, picture_of_job, read_by, jobs_at, needs_of, jobs_of}
 use Rattle.m2v_batch.specs.Below.{ComesBefore, MayComeBefore, reads_before, picture_exists}
 
-comes_by : (p n : ℕ) (x : FramePlace) → p ≤ n → ComesBefore p x → ComesBefore n x
+pub comes_by : (p n : ℕ) (x : FramePlace) → p ≤ n → ComesBefore p x → ComesBefore n x
 unfolding ComesBefore
 comes_by p n Older le h = tt
 comes_by p n Newer le h = tt

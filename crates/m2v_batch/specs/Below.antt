@@ -65,19 +65,19 @@ behind_before : (p : ℕ) → ComesBefore (suc p) (Behind p)
 unfolding ComesBefore
 behind_before p = omega arith
 
-newer_comes : (hs : Headers) (p : ℕ) → ComesBefore p (newer_before hs p)
+pub newer_comes : (hs : Headers) (p : ℕ) → ComesBefore p (newer_before hs p)
 unfolding newer_before ComesBefore
 newer_comes hs zero = tt
 newer_comes hs (suc p) =
     cond_both (ends_anchor (header_at hs p)) (Behind p) (newer_before hs p) (ComesBefore (suc p)) (λ e. behind_before p) (λ e. later p (newer_before hs p) (newer_comes hs p))
 
-older_comes : (hs : Headers) (p : ℕ) → ComesBefore p (older_before hs p)
+pub older_comes : (hs : Headers) (p : ℕ) → ComesBefore p (older_before hs p)
 unfolding older_before ComesBefore
 older_comes hs zero = tt
 older_comes hs (suc p) =
     cond_both (ends_anchor (header_at hs p)) (newer_before hs p) (older_before hs p) (ComesBefore (suc p)) (λ e. later p (newer_before hs p) (newer_comes hs p)) (λ e. later p (older_before hs p) (older_comes hs p))
 
-field_comes : (p : ℕ) → ComesBefore p (first_field p)
+pub field_comes : (p : ℕ) → ComesBefore p (first_field p)
 unfolding first_field ComesBefore
 field_comes zero = tt
 field_comes (suc p) = omega arith

@@ -2,7 +2,7 @@
 ghost use Rattle.std.specs.Prelude.{◌≡◌, ◌+◌, ◌-◌, ◌*◌, ◌^◌, ◌<◌, ◌≤◌, ◌++◌, [], if◌then◌else◌, length, slice_index, Some};
 ghost use Rattle.m2v_batch.specs.declared.picture.FramePlace.TheVariants.{Behind};
 ghost use Rattle.std.specs.List.{range_with_len};
-ghost use Rattle.m2v_batch.specs.Jobs.{ends_anchor, newer_before, older_before, first_field as first_field_before, read_by, frame_begin, frame_from, frame_count, jobs_behind, jobs_at, needs_of, jobs_of};
+ghost use Rattle.m2v_batch.specs.Jobs.{ends_anchor, newer_before, older_before, first_field as first_field_before, read_by, first_job, frame_begin, frame_from, frame_count, jobs_behind, jobs_at, needs_of, jobs_of};
 ghost use Rattle.m2v_batch.specs.Batches.{headers};
 ghost use Rattle.m2v_batch.specs.Below.{ComesBefore, MayComeBefore};
 
@@ -147,6 +147,8 @@ impl DecodeBook {
         ensures count { result.count ≡ frame_count (headers self.now) q }
         ensures few { result.count ≤ 72 }
         ensures most { result.from + result.count ≤ 72 * 16 }
+        ensures there { result.from + result.count
+            ≤ first_job (headers self.now) (length (headers self.now)) }
     {
         // there are at most 16 pictures
         let _pictures = self.pictures();
@@ -165,6 +167,8 @@ impl DecodeBook {
             ≡ range_with_len result.from result.count }
         ensures few { result.count ≤ 72 }
         ensures most { result.from + result.count ≤ 72 * 16 }
+        ensures there { result.from + result.count
+            ≤ first_job (headers self.now) (length (headers self.now)) }
     {
         match place {
             FramePlace::Behind(q) => self.jobs_behind(q),
@@ -181,6 +185,8 @@ impl DecodeBook {
         ensures jobs { jobs_at (headers self.now) place ≡ range_with_len result.from result.count }
         ensures few { result.count ≤ 72 }
         ensures most { result.from + result.count ≤ 72 * 16 }
+        ensures there { result.from + result.count
+            ≤ first_job (headers self.now) (length (headers self.now)) }
     {
         match place {
             None => JobRange { from: 0, count: 0 },

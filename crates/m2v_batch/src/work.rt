@@ -1,17 +1,18 @@
 //! What a job makes, of a cache that has learned its needs.
-ghost use Rattle.std.specs.Prelude.{◌≡◌, ◌+◌, ◌*◌, ◌<◌, ◌≤◌, ◌&&◌, true, length};
+ghost use Rattle.std.specs.Prelude.{◌≡◌, ◌+◌, ◌*◌, ◌<◌, ◌≤◌, ◌&&◌, true, IfSome, length, slice_get};
 ghost use Rattle.std.specs.List.{list_all, range_with_len};
 ghost use Rattle.m2v_plane.specs.Samples.{blank};
 ghost use Rattle.m2v_plane.specs.Fields.{sample_at, HoldsLine};
 ghost use Rattle.m2v_picture.specs.Conditions.{HoldsForward, HoldsBackward};
 ghost use Rattle.m2v_picture.specs.Reads.{seen_by};
+ghost use Rattle.m2v_picture.specs.Frames.{references_at};
 ghost use Rattle.m2v_rows.specs.Opened.{IsOpened, setup_of};
-ghost use Rattle.m2v_batch.specs.Jobs.{header_at, jobs_of, needs_of, picture_of_job, row_of_job, read_by};
-ghost use Rattle.m2v_batch.specs.Batches.{headers, reading_of, references};
+ghost use Rattle.m2v_batch.specs.Jobs.{header_at, jobs_of, needs_of};
+ghost use Rattle.m2v_batch.specs.Batches.{headers, reading_of};
 ghost use Rattle.m2v_batch.specs.Below.{ComesBefore};
-ghost use Rattle.m2v_batch.specs.Values.{outcome_in, outcome_of, rows_of, decoded, value_of, FitsPiece};
+ghost use Rattle.m2v_batch.specs.Values.{outcome_in, outcome_of, value_of, FitsPiece};
 ghost use Rattle.m2v_batch.specs.Learned.{state_at, is_set};
-ghost use Rattle.m2v_batch.specs.Works.{HasLearned, frame_found};
+ghost use Rattle.m2v_batch.specs.Works.{HasLearned, frame_found, AreDecoded};
 
 use crate::book::DecodeBook;
 use crate::cache::DecodeCache;
@@ -116,6 +117,33 @@ impl DecodeBook {
         )
     }
 
+    /// Reads a row of a picture by the frames at hand.
+    fn read_by(
+        &self,
+        p: u32,
+        r: u32,
+        older: &Option<Frame>,
+        newer: &Option<Frame>,
+        first: &Option<Frame>,
+        row: RowSamples,
+    ) -> DecodePiece
+        requires picture { p < length (headers self.now) }
+        requires row { r < (header_at (headers self.now) p).rows }
+        requires older { IfSome older.now (λ f. f.dims ≡ self.now.dims) }
+        requires newer { IfSome newer.now (λ f. f.dims ≡ self.now.dims) }
+        requires first { IfSome first.now (λ f. f.dims ≡ self.now.dims) }
+        requires decoded { AreDecoded self.now p older.now newer.now first.now }
+        requires blank { row ≡ blank self.now.dims 1 }
+        ensures value { result ≡ outcome_of (slice_get self.now.pictures p)
+            (references_at (reading_of (header_at (headers self.now) p)) older.now newer.now
+            first.now) r }
+    {
+        let reading = reading_of(self.header(p));
+        let forward = forward_view(self.dims(), &reading, older, newer, first);
+        let backward = backward_view(self.dims(), &reading, newer);
+        read_piece(self.picture(p), r, &forward, &backward, row)
+    }
+
     /// Reads the row of a job whose needs are rebuilt.
     fn read_job(&self, j: u32, cache: &DecodeCache, row: RowSamples) -> DecodePiece
         requires job { j < jobs_of (headers self.now) }
@@ -125,15 +153,14 @@ impl DecodeBook {
         requires blank { row ≡ blank self.now.dims 1 }
         ensures value { result ≡ value_of self.now j }
     {
+        // what is known of a batch
+        let _batch = self.pictures();
         let p = self.picture_of_job(j);
-        let reading = reading_of(self.header(p));
         let anchors = self.anchors_before(p);
         let older = self.frame(anchors.older, cache);
         let newer = self.frame(anchors.newer, cache);
         let first = self.frame(first_field(p), cache);
-        let forward = forward_view(self.dims(), &reading, older, newer, first);
-        let backward = backward_view(self.dims(), &reading, newer);
-        read_piece(self.picture(p), self.row_of_job(j), &forward, &backward, row)
+        self.read_by(p, self.row_of_job(j), older, newer, first, row)
     }
 
     /// Makes the piece of a job of a blank one.
@@ -156,6 +183,8 @@ impl DecodeBook {
         requires fits { FitsPiece self.now j piece }
         ensures value { result ≡ value_of self.now j }
     {
+        // what is known of a batch
+        let _batch = self.pictures();
         match piece {
             DecodePiece::Unread(row) => self.make(j, cache, row),
             DecodePiece::After => DecodePiece::After,
