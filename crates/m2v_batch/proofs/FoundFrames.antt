@@ -1,6 +1,6 @@
 -- The references of a picture, as a cache has them.
 use Rattle.std.proofs.Common.{◌≡◌, ℕ, ◌+◌, ◌<◌, ◌≤◌, Bool, true, false, ◌&&◌, not, cond, nat_eq, List, length, Option, Some, None, refl, sym, ap, subst, ◌∙◌, arith, inl, inr}
-use Rattle.std.specs.Prelude.{IsSome, slice_get, slice_index_or}
+use Rattle.std.specs.Prelude.{IsSome, IfSome, slice_get, slice_index_or}
 use Rattle.std.specs.List.{list_all}
 use Rattle.std.proofs.lemmas.Bool.{cond-true, cond-false}
 use Rattle.m2v_plane.specs.Samples.{Samples}
@@ -20,9 +20,10 @@ use Rattle.m2v_batch.specs.Jobs.{Headers, header_at, newer_before, older_before,
 use Rattle.m2v_batch.specs.Batches.{Batch, headers, Rows, no_rows, frame_at, frames_for, reading_of, references, IsBatch}
 use Rattle.m2v_batch.specs.Below.{ComesBefore, newer_comes, older_comes, field_comes}
 use Rattle.m2v_batch.specs.Values.{value_of, decoded, rows_of, are_rebuilt, outcome_of}
-use Rattle.m2v_batch.specs.Learned.{Cached, state_at, is_set}
+use Rattle.m2v_batch.specs.Learned.{Cached, state_at, is_set, FitsCache}
 use Rattle.m2v_batch.specs.Works.{HasLearned, frame_found, AreDecoded}
 use Rattle.m2v_batch.proofs.Decoded.{value_made}
+use Rattle.m2v_batch.proofs.Learning.{fits_sized}
 use Rattle.m2v_batch.proofs.Needs.{comes_by}
 use Rattle.m2v_batch.proofs.Ready.{ReadsAt, ready_is, found_is}
 
@@ -243,3 +244,39 @@ pub places_exist : (hs : Headers) (p : ℕ) → p < length hs → ComesBefore (l
 places_exist hs p lt =
     let le : p ≤ length hs = omega (arith, lt) in
     (comes_by p (length hs) (older_before hs p) le (older_comes hs p), comes_by p (length hs) (newer_before hs p) le (newer_comes hs p), comes_by p (length hs) (first_field p) le (field_comes p))
+
+place_size : (b : Batch) (c : Cached) (x : FramePlace) → IsBatch b → FitsCache b c → IfSome (frame_found b c x) (λ f. f.dims ≡ b.dims)
+unfolding frame_found
+place_size b c Older h fits = h.older
+place_size b c Newer h fits = h.newer
+place_size b c Waiting h fits = h.waiting
+place_size b c (Behind q) h fits = fits_sized b c h fits q
+
+pub found_size : (b : Batch) (c : Cached) (x : FramePlace) (frame : Option Samples) → IsBatch b → FitsCache b c → frame ≡ frame_found b c x → IfSome frame (λ f. f.dims ≡ b.dims)
+found_size b c x frame h fits e = subst (λ (o : Option Samples). IfSome o (λ f. f.dims ≡ b.dims)) (sym e) (place_size b c x h fits)
+
+-- ---- by what the code has
+
+pub place_by : (hs : Headers) (n : ℕ) (x y : FramePlace) → n ≡ length hs → x ≡ y → ComesBefore (length hs) y → ComesBefore n x
+place_by hs n x y en ex h = subst (λ (m : ℕ). ComesBefore m x) (sym en) (subst (ComesBefore (length hs)) (sym ex) h)
+
+pub decoded_by : (b : Batch) (j p : ℕ) (c : Cached) (older newer first : Option Samples) → p ≡ picture_of_job (headers b) j → p < length (headers b) → IsBatch b → j < jobs_of (headers b) → HasLearned b j c
+    → older ≡ frame_found b c (older_before (headers b) p) → newer ≡ frame_found b c (newer_before (headers b) p) → first ≡ frame_found b c (first_field p) → AreDecoded b p older newer first
+decoded_by b j p c older newer first e lt h job learned eo en ef =
+    let hs = headers b in
+    let places = places_exist hs p lt in
+    subst (λ (o : Option Samples). AreDecoded b p o newer first) (sym eo)
+    (subst (λ (n : Option Samples). AreDecoded b p (frame_found b c (older_before hs p)) n first) (sym en)
+    (subst (λ (f : Option Samples). AreDecoded b p (frame_found b c (older_before hs p)) (frame_found b c (newer_before hs p)) f) (sym ef)
+    (found_decoded b j p c e h job learned places.0 places.1 places.2)))
+
+pub value_by : (b : Batch) (j p r : ℕ) (c : Cached) (older newer first : Option Samples) (result : DecodePiece) → p ≡ picture_of_job (headers b) j → p < length (headers b) → r ≡ row_of_job (headers b) j → IsBatch b → j < jobs_of (headers b) → HasLearned b j c
+    → list_all (λ i. is_set (state_at c i)) (needs_of (headers b) j) ≡ true
+    → older ≡ frame_found b c (older_before (headers b) p) → newer ≡ frame_found b c (newer_before (headers b) p) → first ≡ frame_found b c (first_field p)
+    → result ≡ outcome_of (slice_get b.pictures p) (references_at (reading_of (header_at (headers b) p)) older newer first) r → result ≡ value_of b j
+value_by b j p r c older newer first result e lt er h job learned ready eo en ef is =
+    let hs = headers b in
+    let places = places_exist hs p lt in
+    is
+    ∙ (λ i. outcome_of (slice_get b.pictures p) (references_at (reading_of (header_at hs p)) (eo i) (en i) (ef i)) r)
+    ∙ read_is b j p r c e er h job learned ready places.0 places.1 places.2

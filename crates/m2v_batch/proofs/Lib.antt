@@ -12,3 +12,4 @@ pub mod Sums
 pub mod Ready
 pub mod RowRead
 pub mod FoundFrames
+pub mod RowViews

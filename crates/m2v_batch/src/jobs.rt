@@ -65,6 +65,8 @@ impl JobBook for DecodeBook {
     }
 
     fn work(&self, j: u32, cache: &DecodeCache, out: &mut DecodePiece) {
+        // what is known of a batch
+        let _batch = self.pictures();
         let piece = mem::replace(out, DecodePiece::After);
         *out = self.made(j, cache, piece);
     }

@@ -1,4 +1,4 @@
-use Rattle.std.proofs.Common.{◌≡◌, ◌+◌, ◌++◌, ◌≤◌, ◌∙◌, ap, sym, length, arith}
+use Rattle.std.proofs.Common.{ℕ, ◌≡◌, ◌+◌, ◌++◌, ◌≤◌, ◌∙◌, ap, sym, length, arith}
 use Rattle.std.specs.Prelude.{◌&&◌}
 use Rattle.std.specs.List.{list_all, range_with_len}
 use Rattle.m2v_batch.specs.Batches.{headers}
@@ -23,7 +23,7 @@ are_rebuilt-requires-2-clause-jobs c = omega (arith, c.jobs_at-2.ensures.there, 
 pub returns : goal.returns
 returns c =
     let hs = headers c.args.self.now in
-    let test = λ i. is_set (state_at c.args.cache.now i) in
+    let test = λ (i : ℕ). is_set (state_at c.args.cache.now i) in
     let are = needs_are hs c.args.j c.picture_of_job.result c.reads-reads.result c.jobs_at.result.from c.jobs_at.result.count c.jobs_at-2.result.from c.jobs_at-2.result.count
     c.picture_of_job.ensures.value c.reads-reads.ensures.value c.jobs_at.ensures.jobs c.jobs_at-2.ensures.jobs in
     record {
