@@ -1,6 +1,5 @@
 -- The last two anchors before a picture.
 use Rattle.std.proofs.Common.{◌≡◌, ℕ, suc, ◌+◌, cond, refl, ap, arith}
-use Rattle.m2v_batch.specs.declared.picture.FramePlace.{FramePlace}
 use Rattle.m2v_batch.specs.declared.picture.FramePlace.TheVariants.{Older, Newer, Behind}
 use Rattle.m2v_batch.specs.Jobs.{Headers, header_at, ends_anchor, newer_before, older_before}
 

@@ -1,5 +1,5 @@
 -- A cache that has learned nothing yet.
-use Rattle.std.proofs.Common.{◌≡◌, ◌⊎◌, ℕ, zero, suc, ◌+◌, ◌<◌, Bool, true, false, cond, List, ◌∷◌, [], ◌++◌, length, get_or, replicate, Option, Some, None, refl, sym, ap, subst, ◌∙◌, arith, inl, inr}
+use Rattle.std.proofs.Common.{◌≡◌, ℕ, zero, suc, ◌+◌, ◌<◌, Bool, true, false, cond, List, ◌∷◌, [], ◌++◌, length, get_or, replicate, Option, Some, None, refl, sym, ap, subst, ◌∙◌, arith, inl, inr}
 use Rattle.std.specs.Prelude.{◌||◌, IfOk, Result, Ok, Err}
 use Rattle.std.proofs.lemmas.List.{length-replicate, get_or_append_left}
 use Rattle.std.proofs.Math.Seq.{get_or-append_seam}
@@ -10,7 +10,7 @@ use Rattle.m2v_batch.specs.declared.picture.Header.{Header}
 use Rattle.m2v_batch.specs.declared.cache.RowState.{RowState}
 use Rattle.m2v_batch.specs.declared.cache.RowState.TheVariants.{Unknown}
 use Rattle.m2v_batch.specs.Jobs.{Headers, header_at, first_job}
-use Rattle.m2v_batch.specs.Batches.{Batch, headers, no_rows, rows_set, all_set, begun, frame_behind, IsBatch}
+use Rattle.m2v_batch.specs.Batches.{Batch, headers, no_rows, rows_set, begun, frame_behind, IsBatch}
 use Rattle.m2v_batch.specs.Pieces.{row_of}
 use Rattle.m2v_batch.specs.Values.{value_of}
 use Rattle.m2v_batch.specs.Learned.{Cached, state_at, known_by, known, is_read_by, is_read_among, is_read, slot, FitsCache}

@@ -1,9 +1,8 @@
 -- What comes of each row, by those before it.
 use Rattle.std.proofs.Common.{◌≡◌, ℕ, zero, suc, ◌+◌, ◌<◌, Bool, true, false, cond, List, [], ◌∷◌, ◌++◌, length, get_or, Option, Some, None, refl, sym, ap, subst, ◌∙◌, arith, inl, inr}
 use Rattle.std.specs.Prelude.{IfSome, slice_get, Ok, Err}
-use Rattle.std.proofs.lemmas.Bool.{cases_lt, cases_Bool, cond-true, cond-false}
+use Rattle.std.proofs.lemmas.Bool.{cases_lt}
 use Rattle.std.proofs.lemmas.List.{length-append, get_or_append_left}
-use Rattle.std.proofs.lemmas.Option.{slice_get_cases}
 use Rattle.std.proofs.Math.Seq.{get_or-append_seam}
 use Rattle.m2v_plane.specs.declared.dims.Dims.{Dims}
 use Rattle.m2v_plane.specs.Samples.{Samples, blank}

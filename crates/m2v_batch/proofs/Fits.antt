@@ -1,13 +1,13 @@
 -- A cache that learns the needs of a job.
-use Rattle.std.proofs.Common.{◌≡◌, ◌⊎◌, ℕ, zero, suc, ◌+◌, ◌<◌, ◌≤◌, true, false, List, length, get_or, Option, Some, None, refl, sym, ap, subst, ◌∙◌, arith, inl, inr}
+use Rattle.std.proofs.Common.{◌≡◌, ℕ, ◌<◌, true, false, length, get_or, Option, refl, sym, ap, subst, ◌∙◌, arith}
 use Rattle.m2v_plane.specs.Samples.{Samples}
 use Rattle.m2v_batch.specs.declared.cache.RowState.{RowState}
 use Rattle.m2v_batch.specs.declared.cache.RowState.TheVariants.{Unknown, Missing, Rebuilt}
 use Rattle.m2v_batch.specs.Jobs.{Headers, first_job, needs_of, jobs_of}
 use Rattle.m2v_batch.specs.Batches.{Batch, headers, IsBatch}
 use Rattle.m2v_batch.specs.Below.{needs_below, some_pictures}
-use Rattle.m2v_batch.specs.Pieces.{row_of, SharedRow}
-use Rattle.m2v_batch.specs.Values.{value_of, shared_of}
+use Rattle.m2v_batch.specs.Pieces.{SharedRow}
+use Rattle.m2v_batch.specs.Values.{shared_of}
 use Rattle.m2v_batch.specs.Learned.{Cached, state_at, is_known, row_learned, learned_of, FitsCache}
 use Rattle.m2v_batch.proofs.Learning.{learned_fits}
 

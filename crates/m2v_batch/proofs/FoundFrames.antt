@@ -1,6 +1,6 @@
 -- The references of a picture, as a cache has them.
-use Rattle.std.proofs.Common.{◌≡◌, ℕ, ◌+◌, ◌<◌, ◌≤◌, Bool, true, false, ◌&&◌, not, cond, nat_eq, List, length, Option, Some, None, refl, sym, ap, subst, ◌∙◌, arith, inl, inr}
-use Rattle.std.specs.Prelude.{IsSome, IfSome, slice_get, slice_index_or}
+use Rattle.std.proofs.Common.{◌≡◌, ℕ, ◌<◌, ◌≤◌, Bool, true, false, ◌&&◌, not, cond, nat_eq, List, length, Option, Some, None, refl, sym, ap, subst, ◌∙◌, arith, inl, inr}
+use Rattle.std.specs.Prelude.{IsSome, IfSome, slice_get}
 use Rattle.std.specs.List.{list_all}
 use Rattle.std.proofs.lemmas.Bool.{cond-true, cond-false}
 use Rattle.m2v_plane.specs.Samples.{Samples}
@@ -13,11 +13,10 @@ use Rattle.m2v_batch.specs.declared.picture.Header.{Header}
 use Rattle.m2v_batch.specs.declared.picture.FramePlace.{FramePlace}
 use Rattle.m2v_batch.specs.declared.picture.FramePlace.TheVariants.{Older, Newer, Waiting, Behind}
 use Rattle.m2v_batch.specs.declared.picture.Reads.{Reads}
-use Rattle.m2v_batch.specs.declared.picture.BatchPicture.{BatchPicture}
 use Rattle.m2v_batch.specs.declared.pieces.DecodePiece.{DecodePiece}
 use Rattle.m2v_batch.specs.declared.pieces.DecodePiece.TheVariants.{After}
 use Rattle.m2v_batch.specs.Jobs.{Headers, header_at, newer_before, older_before, first_field, read_by, needs_of, jobs_of, picture_of_job, row_of_job}
-use Rattle.m2v_batch.specs.Batches.{Batch, headers, Rows, no_rows, frame_at, frames_for, reading_of, references, IsBatch}
+use Rattle.m2v_batch.specs.Batches.{Batch, headers, Rows, no_rows, frame_at, reading_of, references, IsBatch}
 use Rattle.m2v_batch.specs.Below.{ComesBefore, newer_comes, older_comes, field_comes}
 use Rattle.m2v_batch.specs.Values.{value_of, decoded, rows_of, are_rebuilt, outcome_of}
 use Rattle.m2v_batch.specs.Learned.{Cached, state_at, is_set, FitsCache}

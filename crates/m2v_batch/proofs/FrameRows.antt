@@ -1,13 +1,12 @@
 -- The frame behind a picture, by the rows that are at hand.
-use Rattle.std.proofs.Common.{◌≡◌, ℕ, zero, suc, ◌+◌, ◌-◌, ◌<◌, ◌≤◌, Bool, true, false, cond, Option, Some, None, refl, sym, ap, subst, ◌∙◌, arith, inl, inr}
-use Rattle.std.proofs.lemmas.Bool.{cases_lt, cases_eq, cases_Bool, cond-true, cond-false}
+use Rattle.std.proofs.Common.{◌≡◌, ℕ, zero, suc, ◌+◌, ◌<◌, ◌≤◌, true, false, refl, sym, ap, ◌∙◌, arith, inl, inr}
+use Rattle.std.proofs.lemmas.Bool.{cases_Bool, cond-true, cond-false}
 use Rattle.m2v_plane.specs.Samples.{Samples, with_row, blank}
 use Rattle.m2v_plane.specs.Fields.{or_none}
 use Rattle.m2v_pred.specs.Motion.{own_lines}
-use Rattle.m2v_batch.specs.declared.picture.Header.{Header}
 use Rattle.m2v_batch.specs.Jobs.{Headers, header_at, first_job, frame_begin, frame_from}
-use Rattle.m2v_batch.specs.Batches.{Batch, headers, Rows, rows_set, all_set, begun, frame_behind, IsBatch}
-use Rattle.m2v_batch.specs.Below.{first_more, first_upto}
+use Rattle.m2v_batch.specs.Batches.{Batch, headers, Rows, all_set, begun, frame_behind, IsBatch}
+use Rattle.m2v_batch.specs.Below.{first_more}
 use Rattle.m2v_batch.proofs.Setting.{rows_same, set_before, AddsRow, row_added, pair_apart}
 
 -- the frame of the picture's first field, if it is a second one

@@ -1,6 +1,6 @@
 -- What learning a row makes of a cache.
-use Rattle.std.proofs.Common.{◌≡◌, ◌⊎◌, ℕ, zero, suc, ◌+◌, ◌-◌, ◌*◌, ◌/◌, ◌<◌, ◌≤◌, Bool, true, false, cond, List, length, get_or, Option, Some, None, refl, sym, ap, subst, ◌∙◌, arith, inl, inr}
-use Rattle.std.specs.Prelude.{IfSome, IsSome, nat_eq, slice_set, slice_get}
+use Rattle.std.proofs.Common.{◌≡◌, ◌⊎◌, ℕ, zero, suc, ◌+◌, ◌*◌, ◌/◌, ◌<◌, ◌≤◌, Bool, true, false, cond, List, length, get_or, Option, Some, None, refl, sym, ap, subst, ◌∙◌, arith, inl, inr}
+use Rattle.std.specs.Prelude.{IfSome, IsSome, nat_eq, slice_set}
 use Rattle.std.specs.Option.{option_map}
 use Rattle.std.proofs.lemmas.Bool.{cases_lt, cases_eq, cases_Bool, cond_both}
 use Rattle.std.proofs.lemmas.List.{length-set, get_or-set_same, get_or-set_other, get_or_past}
@@ -17,13 +17,13 @@ use Rattle.m2v_batch.specs.declared.picture.BatchPicture.{BatchPicture}
 use Rattle.m2v_batch.specs.declared.picture.Header.{Header}
 use Rattle.m2v_batch.specs.declared.cache.RowState.{RowState}
 use Rattle.m2v_batch.specs.declared.cache.RowState.TheVariants.{Unknown, Missing, Rebuilt}
-use Rattle.m2v_batch.specs.Jobs.{Headers, no_header, header_at, first_job, picture_of_job, row_of_job, frame_begin, frame_from}
-use Rattle.m2v_batch.specs.Batches.{Batch, headers, header_of, Rows, with_own, rows_set, all_set, begun, frame_behind, IsBatch}
+use Rattle.m2v_batch.specs.Jobs.{Headers, header_at, first_job, picture_of_job, row_of_job, frame_begin, frame_from}
+use Rattle.m2v_batch.specs.Batches.{Batch, headers, header_of, Rows, with_own, rows_set, begun, frame_behind, IsBatch}
 use Rattle.m2v_batch.specs.Below.{first_more, first_upto, first_none, picture_upto, picture_within}
 use Rattle.m2v_batch.specs.Pieces.{row_of}
 use Rattle.m2v_batch.specs.Values.{value_of}
 use Rattle.m2v_batch.specs.Learned.{Cached, state_at, frame_in, state_of, slot_with, set_in, set_both, frames_learned, row_learned, is_read, slot, known_by, known, FitsCache, AreSized}
-use Rattle.m2v_batch.proofs.Sizes.{header_is, no_picture, at_picture, row_within, job_within}
+use Rattle.m2v_batch.proofs.Sizes.{header_is, no_picture, at_picture, row_within}
 use Rattle.m2v_batch.proofs.Setting.{AddsRow}
 use Rattle.m2v_batch.proofs.FrameRows.{own_added, first_added, none_added, frame_same, from_first}
 
@@ -229,6 +229,7 @@ rebuilt_frame b i q r p xs c h job fits adds below =
         set_elsewhere (headers b) q r p xs c.frames other next
         ∙ fits.each_frame p below
         ∙ ap (λ (f : Samples). cond (is_read (headers b) p) (Some f) None) (sym (none_added b (known b c) (known b (with_rows b i q r xs c)) i p xs h not_there adds))
+
     away : (hs : Headers) → (p ≡ q → ⊥) → (p ≡ suc q → ⊥) → frame_from (headers b) p ≤ i → i < first_job (headers b) (suc p) → ⊥
     away hs other far le lt = elim (cases_lt p q) [
       | inl before ↦ omega (arith, lt, first_upto (headers b) (suc p) q (omega (arith, before)), job.job)
@@ -317,7 +318,7 @@ sized_set c e d lines q r xs lt sized is p =
     subst (λ (x : Cached). IfSome (frame_in x p) (λ f. f.dims ≡ d)) (sym is)
     (elim (cases_eq p q) [
       | inl same ↦ subst (λ (o : Option Samples). IfSome o (λ f. f.dims ≡ d))
-        (sym (ap (λ (k : ℕ). get_or (set_by lines r xs q c.frames) k None) same ∙ get_or-set_same c.frames q _ None lt)) (mapped_size (frame_in c q) d lines r xs (sized q))
+          (sym (ap (λ (k : ℕ). get_or (set_by lines r xs q c.frames) k None) same ∙ get_or-set_same c.frames q _ None lt)) (mapped_size (frame_in c q) d lines r xs (sized q))
       | inr other ↦ subst (λ (o : Option Samples). IfSome o (λ f. f.dims ≡ d)) (sym (get_or-set_other c.frames q p _ None other)) (sized p)
     ])
 

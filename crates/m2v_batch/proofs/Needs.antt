@@ -1,13 +1,13 @@
 -- The needs of a job, as two ranges of jobs.
-use Rattle.std.proofs.Common.{◌≡◌, ℕ, suc, ◌+◌, ◌-◌, ◌<◌, ◌≤◌, List, ◌++◌, length, Option, Some, None, sym, ap, subst, ◌∙◌, arith}
+use Rattle.std.proofs.Common.{◌≡◌, ℕ, ◌+◌, ◌<◌, ◌≤◌, List, ◌++◌, length, Option, Some, None, sym, ap, subst, ◌∙◌, arith}
 use Rattle.std.specs.List.{range_with_len}
 use Rattle.std.proofs.lemmas.List.{length-append}
 use Rattle.std.proofs.lemmas.List.FromFn.{length-range_with_len}
 use Rattle.m2v_batch.specs.declared.picture.FramePlace.{FramePlace}
 use Rattle.m2v_batch.specs.declared.picture.FramePlace.TheVariants.{Older, Newer, Waiting, Behind}
 use Rattle.m2v_batch.specs.declared.picture.Reads.{Reads}
-use Rattle.m2v_batch.specs.Jobs.{Headers, picture_of_job, read_by, jobs_at, needs_of, jobs_of}
-use Rattle.m2v_batch.specs.Below.{ComesBefore, MayComeBefore, reads_before, picture_exists}
+use Rattle.m2v_batch.specs.Jobs.{Headers, picture_of_job, read_by, jobs_at, needs_of}
+use Rattle.m2v_batch.specs.Below.{ComesBefore, MayComeBefore, reads_before}
 
 pub comes_by : (p n : ℕ) (x : FramePlace) → p ≤ n → ComesBefore p x → ComesBefore n x
 unfolding ComesBefore

@@ -1,6 +1,6 @@
 -- What a cache knows of the needs of a job once it has learned them.
 use Rattle.std.proofs.Common.{◌≡◌, ◌⊎◌, ℕ, zero, suc, ◌+◌, ◌-◌, ◌<◌, ◌≤◌, Bool, true, false, ◌&&◌, List, [], ◌∷◌, ◌++◌, length, get_or, Option, Some, None, refl, sym, ap, subst, ◌∙◌, arith, inl, inr}
-use Rattle.std.specs.Prelude.{All, nat_eq, ◌||◌}
+use Rattle.std.specs.Prelude.{nat_eq}
 use Rattle.std.specs.List.{list_all, range_with_len}
 use Rattle.std.proofs.lemmas.Bool.{cases_lt, cases_eq, eq-eqb, or_left, or_right, cond-true}
 use Rattle.std.proofs.lemmas.List.{get_or_append_left, get_or-append-add, length-append}
@@ -17,10 +17,10 @@ use Rattle.m2v_batch.specs.declared.pieces.DecodePiece.{DecodePiece}
 use Rattle.m2v_batch.specs.declared.pieces.DecodePiece.TheVariants as piece
 use Rattle.m2v_batch.specs.Jobs.{Headers, first_job, needs_of, jobs_of, jobs_at, jobs_behind, frame_from, frame_count, picture_of_job, read_by}
 use Rattle.m2v_batch.specs.Batches.{Batch, headers, frame_behind, frame_at, IsBatch}
-use Rattle.m2v_batch.specs.Below.{ComesBefore, needs_below, some_pictures, picture_exists, first_upto, begin_below, from_below, first_more}
+use Rattle.m2v_batch.specs.Below.{ComesBefore, needs_below, some_pictures, picture_exists}
 use Rattle.m2v_batch.specs.Pieces.{row_of, is_rebuilt}
 use Rattle.m2v_batch.specs.Values.{value_of, shared_of, decoded, outcome_at, rows_of, are_rebuilt}
-use Rattle.m2v_batch.specs.Learned.{Cached, state_at, frame_in, state_of, is_set, row_learned, learned_of, frames_learned, is_behind, is_read_by, is_read, slot, known_by, known, FitsCache}
+use Rattle.m2v_batch.specs.Learned.{Cached, state_at, state_of, is_set, row_learned, learned_of, frames_learned, is_behind, is_read_by, is_read, known_by, known, FitsCache}
 use Rattle.m2v_batch.specs.Works.{HasLearned, frame_found}
 use Rattle.m2v_batch.proofs.Learning.{state_same, state_other, known_row}
 use Rattle.m2v_batch.proofs.Blank.{is_read_at}

@@ -1,19 +1,17 @@
 -- What a row that was read is.
-use Rattle.std.proofs.Common.{◌≡◌, ℕ, ◌+◌, ◌*◌, ◌<◌, Bool, true, false, Option, Some, None, refl, sym, ap, subst, ◌∙◌, arith}
-use Rattle.std.specs.Prelude.{is_some, Ok, Err}
+use Rattle.std.proofs.Common.{◌≡◌, ℕ, ◌+◌, ◌*◌, ◌<◌, true, false, Option, Some, None, refl, sym, ap, subst, ◌∙◌}
+use Rattle.std.specs.Prelude.{is_some}
 use Rattle.m2v_plane.specs.Samples.{Samples, blank}
 use Rattle.m2v_model.specs.declared.setup.SliceSetup.{SliceSetup}
 use Rattle.m2v_model.specs.Samples.{References, put_in_row}
-use Rattle.m2v_picture.specs.Conditions.{IsSetup, rows_in}
 use Rattle.m2v_piece.specs.declared.answer.Fault.{Fault}
-use Rattle.m2v_rows.specs.Rows.{Slices, Placed, Read, below, row_read, row_fault, slices_painted}
+use Rattle.m2v_rows.specs.Rows.{Slices, row_read, row_fault, slices_painted}
 use Rattle.m2v_rows.specs.Reads.{TellsRow}
 use Rattle.m2v_rows.specs.Opened.{IsOpened, setup_of, slices_of, ending_by, ending}
 use Rattle.m2v_rows.proofs.OwnLaws.{row_end}
 use Rattle.m2v_rows.proofs.ByRowLaws.{row_whole}
 use Rattle.m2v_batch.specs.declared.picture.BatchPicture.{BatchPicture}
-use Rattle.m2v_batch.specs.declared.pieces.DecodePiece.{DecodePiece}
-use Rattle.m2v_batch.specs.declared.pieces.DecodePiece.TheVariants.{Unread, After, Faulty, Rebuilt}
+use Rattle.m2v_batch.specs.declared.pieces.DecodePiece.TheVariants.{After, Faulty, Rebuilt}
 use Rattle.m2v_batch.specs.Values.{row_painted, outcome_by, outcome_in}
 
 module _ (x : BatchPicture) (refs : References) (r : ℕ) (opened : IsOpened x.piece x.opened) (lt : r < x.opened.rows) where

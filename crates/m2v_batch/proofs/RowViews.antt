@@ -1,5 +1,5 @@
 -- The views by which a row of a picture is read.
-use Rattle.std.proofs.Common.{◌≡◌, ℕ, ◌<◌, Option, Some, None, sym, ap, subst, ◌∙◌, arith}
+use Rattle.std.proofs.Common.{◌≡◌, ℕ, ◌<◌, Option, Some, sym, ap, subst, ◌∙◌}
 use Rattle.std.specs.Prelude.{IsSome, slice_get, slice_index_or, false}
 use Rattle.m2v_plane.specs.declared.dims.Dims.{Dims}
 use Rattle.m2v_plane.specs.Samples.{Samples, blank}
@@ -9,13 +9,13 @@ use Rattle.m2v_picture.specs.declared.gallery.Reading.{Reading}
 use Rattle.m2v_picture.specs.Conditions.{HoldsForward, HoldsBackward}
 use Rattle.m2v_picture.specs.Frames.{references_at, forward_top, forward_bottom, backward_frame}
 use Rattle.m2v_picture.specs.Reads.{seen_by}
-use Rattle.m2v_picture.proofs.FrameLaws.{references_are, both_shown, shown, view_holds}
+use Rattle.m2v_picture.proofs.FrameLaws.{references_are, shown, view_holds}
 use Rattle.m2v_rows.specs.Opened.{IsOpened, setup_of}
 use Rattle.m2v_batch.specs.declared.picture.BatchPicture.{BatchPicture}
 use Rattle.m2v_batch.specs.declared.picture.Header.{Header}
 use Rattle.m2v_batch.specs.declared.pieces.DecodePiece.{DecodePiece}
 use Rattle.m2v_batch.specs.Jobs.{header_at}
-use Rattle.m2v_batch.specs.Batches.{Batch, headers, header_of, reading_of, IsBatch}
+use Rattle.m2v_batch.specs.Batches.{Batch, headers, reading_of, IsBatch}
 use Rattle.m2v_batch.specs.Values.{outcome_in, outcome_of}
 use Rattle.m2v_batch.specs.Works.{AreDecoded}
 use Rattle.m2v_batch.proofs.Sizes.{header_is, at_picture}

@@ -1,17 +1,15 @@
 -- Rows set into a frame, in any order.
-use Rattle.std.proofs.Common.{◌≡◌, ℕ, zero, suc, ◌+◌, ◌-◌, ◌*◌, ◌/◌, ◌%◌, ◌<◌, ◌≤◌, Bool, true, false, cond, ◌&&◌, List, length, get_or, Option, Some, None, refl, sym, ap, subst, ◌∙◌, arith, inl, inr}
+use Rattle.std.proofs.Common.{◌≡◌, ℕ, zero, suc, ◌+◌, ◌*◌, ◌/◌, ◌%◌, ◌<◌, ◌≤◌, Bool, true, false, cond, ◌&&◌, List, get_or, Option, Some, None, refl, sym, ap, subst, ◌∙◌, arith, inl, inr}
 use Rattle.std.specs.Prelude.{nat_eq}
-use Rattle.std.proofs.lemmas.Bool.{cases_lt, cases_eq, cases_Bool, cond-true, cond-false, and_parts, and_left, and_right, eqb-true, eq-eqb, ne_eqb}
+use Rattle.std.proofs.lemmas.Bool.{cases_eq, and_parts, and_left, and_right, eqb-true, ne_eqb}
 use Rattle.m2v_plane.specs.declared.planes.Lines.{Lines}
-use Rattle.m2v_plane.specs.declared.planes.Lines.TheVariants.{Whole, Top, Bottom}
-use Rattle.m2v_plane.specs.Samples.{Samples, plane_by, is_among, number_among, plane_with_row, with_row, blank}
-use Rattle.m2v_plane.specs.Fields.{or_none}
+use Rattle.m2v_plane.specs.declared.planes.Lines.TheVariants.{Top, Bottom}
+use Rattle.m2v_plane.specs.Samples.{Samples, plane_by, is_among, number_among, plane_with_row, with_row}
 use Rattle.m2v_plane.proofs.Places.{plane_is}
 use Rattle.m2v_plane.proofs.RawVideo.{length-plane_by, plane_at}
-use Rattle.m2v_pred.specs.Motion.{own_lines, field_lines}
+use Rattle.m2v_pred.specs.Motion.{own_lines}
 use Rattle.m2v_batch.specs.declared.picture.Header.{Header}
-use Rattle.m2v_batch.specs.Jobs.{Headers, header_at, first_job, frame_begin, frame_from}
-use Rattle.m2v_batch.specs.Batches.{Batch, headers, Rows, with_own, rows_set, all_set, begun, frame_behind, ArePair, IsBatch}
+use Rattle.m2v_batch.specs.Batches.{Rows, with_own, rows_set}
 
 -- ---- two rows
 

@@ -1,18 +1,15 @@
 -- How many rows the pictures of a batch have.
-use Rattle.std.proofs.Common.{◌≡◌, ℕ, zero, suc, ◌+◌, ◌-◌, ◌*◌, ◌/◌, ◌<◌, ◌≤◌, Bool, true, false, cond, List, length, map, get_or, Option, Some, None, refl, sym, ap, subst, ◌∙◌, arith, inl, inr}
+use Rattle.std.proofs.Common.{◌≡◌, ℕ, zero, suc, ◌+◌, ◌-◌, ◌/◌, ◌<◌, ◌≤◌, true, false, cond, length, get_or, Some, refl, sym, ap, subst, ◌∙◌, arith, inl, inr}
 use Rattle.std.specs.Prelude.{All, nat_le, nat_eq, slice_get}
-use Rattle.std.specs.List.{range_with_len, list_all}
-use Rattle.std.proofs.lemmas.Bool.{cases_lt, cond_both, cond-true, cond-false, cases_Bool, le-leb, eqb-true, ne_eqb, leb-true, leb-false}
+use Rattle.std.specs.List.{range_with_len}
+use Rattle.std.proofs.lemmas.Bool.{cases_lt, cond_both, cond-true, cond-false, cases_Bool, le-leb, eqb-true, leb-true, leb-false}
 use Rattle.std.proofs.lemmas.List.{length-map, get_or-map, get_or_past}
 use Rattle.std.proofs.lemmas.List.Sums.{list_all-from_AllPass}
-use Rattle.std.proofs.lemmas.List.FromFn.{length-range_with_len, get_or-range_with_len}
 use Rattle.std.proofs.lemmas.Option.{slice_get_cases, get_or_from_slice_get, slice_get_within}
-use Rattle.m2v_plane.specs.declared.dims.Dims.{Dims}
-use Rattle.m2v_picture.specs.Conditions.{rows_in}
-use Rattle.m2v_rows.specs.Opened.{IsOpened, setup_of}
+use Rattle.m2v_rows.specs.Opened.{IsOpened}
 use Rattle.m2v_batch.specs.declared.picture.BatchPicture.{BatchPicture}
 use Rattle.m2v_batch.specs.declared.picture.Header.{Header}
-use Rattle.m2v_batch.specs.Jobs.{Headers, no_header, header_at, first_job, picture_among, frame_begin, frame_from, frame_count, are_small, jobs_of}
+use Rattle.m2v_batch.specs.Jobs.{Headers, no_header, header_at, first_job, picture_among, frame_begin, frame_count, are_small, jobs_of}
 use Rattle.m2v_batch.specs.Batches.{Batch, headers, header_of, IsBatch}
 use Rattle.m2v_batch.specs.Below.{first_more, first_none, first_upto, picture_upto}
 
@@ -42,9 +39,9 @@ pub record AreRows (h : Header) : Type 0 where
 rows_by : (structure rows high : ℕ) → high ≤ 72 → rows ≡ cond (nat_eq structure 3) high (high / 2) → AreRows (record { kind = 1; second = false; structure = structure; rows = rows })
 rows_by structure rows high small e = elim (cases_Bool (nat_eq structure 3)) [
   | inl t ↦ record {
-      most = omega (arith, small, e, cond-true (nat_eq structure 3) high (high / 2) t);
-      field = λ le. absurd (omega (arith, le, eqb-true structure 3 t));
-    }
+    most = omega (arith, small, e, cond-true (nat_eq structure 3) high (high / 2) t);
+    field = λ le. absurd (omega (arith, le, eqb-true structure 3 t));
+  }
   | inr f ↦
       let half = e ∙ cond-false (nat_eq structure 3) high (high / 2) f in
       record { most = omega (arith, small, half); field = λ le. omega (arith, small, half) }

@@ -1,11 +1,9 @@
 -- The sum of the samples of a row.
-use Rattle.std.proofs.Common.{◌≡◌, ℕ, zero, suc, ◌+◌, ◌*◌, ◌^◌, ◌≤◌, List, length, refl, ap, sym, ◌∙◌, arith}
+use Rattle.std.proofs.Common.{◌≡◌, ℕ, suc, ◌+◌, List, length, refl, ap, ◌∙◌, arith}
 use Rattle.std.specs.Prelude.{sum}
 use Rattle.std.proofs.lemmas.List.FromFn.{length-map-range_with_len}
-use Rattle.m2v_plane.specs.declared.dims.Dims.{Dims}
 use Rattle.m2v_plane.specs.declared.planes.Plane.{Plane}
-use Rattle.m2v_plane.specs.declared.planes.Plane.TheVariants.{Y, Cb, Cr}
-use Rattle.m2v_plane.specs.Sizes.{IsSize, side, columns_of}
+use Rattle.m2v_plane.specs.Sizes.{columns_of}
 use Rattle.m2v_plane.specs.Samples.{Samples, sample_of, line_part}
 use Rattle.m2v_batch.specs.Values.{lines_sum}
 

@@ -1,5 +1,5 @@
 -- A batch of pictures, and the frames at hand before it.
-use Rattle.std.specs.Prelude.{ℕ, zero, suc, ◌≡◌, ◌+◌, ◌<◌, ◌≤◌, true, false, nat_eq, if◌then◌else◌, All, List, map, length, slice_get, Option, Some, None, IfSome, IsSome}
+use Rattle.std.specs.Prelude.{ℕ, zero, suc, ◌≡◌, ◌+◌, ◌≤◌, true, false, nat_eq, if◌then◌else◌, All, List, map, length, slice_get, Option, Some, None, IfSome, IsSome}
 use Rattle.m2v_plane.specs.declared.dims.Dims.{Dims}
 use Rattle.m2v_plane.specs.Sizes.{IsSize}
 use Rattle.m2v_plane.specs.Samples.{Samples, blank, with_row}

@@ -1,5 +1,5 @@
 -- What comes of a row, and what others learn of it, as contracts see it.
-use Rattle.std.specs.Prelude.{◌≡◌, Bool, true, false, Option, Some, None}
+use Rattle.std.specs.Prelude.{Bool, true, false, Option, Some, None}
 use Rattle.m2v_plane.specs.declared.dims.Dims.{Dims}
 use Rattle.m2v_plane.specs.Samples.{Samples}
 use Rattle.m2v_batch.specs.declared.pieces.DecodePiece.{DecodePiece}

@@ -1,9 +1,9 @@
 -- What comes of each row of a batch.
-use Rattle.std.specs.Prelude.{◌≡◌, ◌⊎◌, ℕ, zero, suc, ◌+◌, Bool, true, false, if◌then◌else◌, List, [], ◌∷◌, ◌++◌, map, length, sum, sum_by, slice_index_or, slice_get, Option, Some, None, Ok, Err}
-use Rattle.std.specs.List.{list_all, range_with_len}
+use Rattle.std.specs.Prelude.{◌≡◌, ◌⊎◌, ℕ, zero, suc, ◌+◌, Bool, if◌then◌else◌, List, [], ◌∷◌, ◌++◌, length, sum, slice_index_or, slice_get, Option, Some, None, Ok, Err}
+use Rattle.std.specs.List.{list_all}
 use Rattle.m2v_plane.specs.declared.planes.Plane.{Plane}
 use Rattle.m2v_plane.specs.declared.planes.Plane.TheVariants.{Y, Cb, Cr}
-use Rattle.m2v_plane.specs.Sizes.{side, columns_of}
+use Rattle.m2v_plane.specs.Sizes.{columns_of}
 use Rattle.m2v_plane.specs.Samples.{Samples, blank, sample_of, line_part}
 use Rattle.m2v_model.specs.declared.setup.SliceSetup.{SliceSetup}
 use Rattle.m2v_model.specs.Samples.{References, put_in_row}

@@ -10,6 +10,19 @@ use crate::picture::{BatchPicture, Header, header_of};
 use m2v_plane::{Dims, Frame};
 use std::marker::Model;
 
+/// What a batch is made of.
+#[derive(Drop)]
+pub struct BatchParts {
+    /// Its pictures in decoding order.
+    pub pictures: Vec<BatchPicture>,
+    /// The last anchor but one before it.
+    pub older: Option<Frame>,
+    /// The last anchor before it.
+    pub newer: Option<Frame>,
+    /// The frame of the first field whose second field it begins with.
+    pub waiting: Option<Frame>,
+}
+
 /// The jobs of a batch of pictures: the macroblock rows of each, picture by picture in decoding order, and of a picture from
 /// the top.
 ///
@@ -75,6 +88,28 @@ impl DecodeBook {
     {
         DecodeBook {
             dims,
+            pictures,
+            older,
+            newer,
+            waiting,
+        }
+    }
+
+    /// What the batch is made of, once its rows were read.
+    pub fn into_parts(self) -> BatchParts
+        ensures pictures { result.pictures.items ≡ self.pictures }
+        ensures older { result.older ≡ self.older }
+        ensures newer { result.newer ≡ self.newer }
+        ensures waiting { result.waiting ≡ self.waiting }
+    {
+        let DecodeBook {
+            dims: _,
+            pictures,
+            older,
+            newer,
+            waiting,
+        } = self;
+        BatchParts {
             pictures,
             older,
             newer,

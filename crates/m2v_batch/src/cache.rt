@@ -95,7 +95,7 @@ impl DecodeCache {
         requires same { IfSome (frame_in self.old p) (λ f. samples.now.dims ≡ f.dims) }
         ensures value { self.new ≡ record self.old {
           frames = slice_set self.old.frames p
-          (option_map (λ f. with_row f lines row samples.now) (frame_in self.old p));
+              (option_map (λ f. with_row f lines row samples.now) (frame_in self.old p));
         } }
     {
         set_slot(&mut self.frames[p as usize], lines, row, samples);

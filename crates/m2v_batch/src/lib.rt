@@ -14,8 +14,8 @@ mod pieces;
 mod reads;
 mod work;
 
-pub use book::DecodeBook;
+pub use book::{BatchParts, DecodeBook};
 pub use cache::{DecodeCache, RowState};
 pub use laws::law_worked_rows;
-pub use pieces::{DecodePiece, DecodeShared};
 pub use picture::{BatchPicture, FramePlace, Header, Reads};
+pub use pieces::{DecodePiece, DecodeShared};

@@ -122,7 +122,11 @@ impl DecodeBook {
         } else {
             Reads {
                 forward: Some(anchors.newer),
-                other: if header.second { Some(first_field(p)) } else { None },
+                other: if header.second {
+                    Some(first_field(p))
+                } else {
+                    None
+                },
             }
         }
     }
@@ -214,10 +218,6 @@ impl DecodeBook {
         ensures value { result ≡ slice_index (needs_of (headers self.now) j) at }
     {
         let reads = self.reads(self.picture_of_job(j));
-        at_range(
-            self.jobs_at(reads.forward),
-            self.jobs_at(reads.other),
-            at,
-        )
+        at_range(self.jobs_at(reads.forward), self.jobs_at(reads.other), at)
     }
 }

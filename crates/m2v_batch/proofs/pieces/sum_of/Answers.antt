@@ -1,7 +1,7 @@
 use Rattle.std.proofs.Common.{ℕ, ◌≡◌, ◌+◌, ◌*◌, ◌/◌, ◌≤◌, ◌∙◌, ap, arith}
 use Rattle.std.proofs.Math.Nat.{mul-le-mul}
 use Rattle.m2v_plane.specs.declared.dims.Dims.{Dims}
-use Rattle.m2v_plane.specs.Sizes.{side, columns_of}
+use Rattle.m2v_plane.specs.Sizes.{side}
 use Rattle.m2v_batch.proofs.Sums.{none_summed, line_summed, line_few}
 use Rattle.m2v_batch.proofs.pieces.sum_of.Goals as goal
 

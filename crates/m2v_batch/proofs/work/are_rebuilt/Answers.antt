@@ -1,4 +1,4 @@
-use Rattle.std.proofs.Common.{◌≡◌, ◌+◌, ◌∙◌, arith}
+use Rattle.std.proofs.Common.{◌∙◌}
 use Rattle.m2v_batch.specs.Learned.{state_at, is_set}
 use Rattle.m2v_batch.proofs.Ready.{all_more}
 use Rattle.m2v_batch.proofs.work.are_rebuilt.Goals as goal

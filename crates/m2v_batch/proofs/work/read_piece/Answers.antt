@@ -1,10 +1,6 @@
-use Rattle.std.proofs.Common.{◌≡◌, ◌∙◌, ap, sym, subst, Option, Some, None}
-use Rattle.m2v_plane.specs.Samples.{Samples}
+use Rattle.std.proofs.Common.{◌∙◌, sym}
 use Rattle.m2v_plane.specs.Fields.{sample_at}
 use Rattle.m2v_picture.specs.Reads.{seen_by}
-use Rattle.m2v_piece.specs.declared.answer.Fault.{Fault}
-use Rattle.m2v_rows.specs.Opened.{setup_of, slices_of, ending}
-use Rattle.m2v_rows.specs.Reads.{TellsRow}
 use Rattle.m2v_batch.proofs.RowRead.{faulty_is, after_is, rebuilt_is}
 use Rattle.m2v_batch.proofs.work.read_piece.Goals as goal
 

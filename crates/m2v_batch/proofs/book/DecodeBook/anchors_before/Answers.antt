@@ -1,4 +1,4 @@
-use Rattle.std.proofs.Common.{◌+◌, sym, ◌∙◌}
+use Rattle.std.proofs.Common.{sym, ◌∙◌}
 use Rattle.m2v_batch.specs.Batches.{headers}
 use Rattle.m2v_batch.proofs.Anchors.{newer_first, older_first, newer_next, older_next}
 use Rattle.m2v_batch.proofs.book.DecodeBook.anchors_before.Goals as goal

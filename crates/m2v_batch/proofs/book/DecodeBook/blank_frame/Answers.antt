@@ -1,6 +1,6 @@
-use Rattle.std.proofs.Common.{ℕ, ◌≡◌, false, sym, ◌∙◌, subst, ap}
+use Rattle.std.proofs.Common.{◌≡◌, false, sym, ◌∙◌, ap}
 use Rattle.m2v_plane.specs.declared.dims.Dims.{Dims}
-use Rattle.m2v_plane.specs.Samples.{Samples, blank}
+use Rattle.m2v_plane.specs.Samples.{blank}
 use Rattle.m2v_batch.specs.Jobs.{header_at}
 use Rattle.m2v_batch.specs.Batches.{headers, frame_behind, no_rows}
 use Rattle.m2v_batch.proofs.Blank.{ok_as, first_behind, blank_behind}

@@ -1,8 +1,6 @@
-use Rattle.std.proofs.Common.{◌≡◌, ◌+◌, ◌<◌, ◌∷◌, [], ◌++◌, ◌∙◌, List, length, get_or, Option, None, ap, sym, subst, arith}
+use Rattle.std.proofs.Common.{◌+◌, ◌∷◌, [], ◌∙◌, List, length, get_or, Option, None, ap}
 use Rattle.std.proofs.lemmas.List.{length-append}
 use Rattle.m2v_plane.specs.Samples.{Samples}
-use Rattle.m2v_batch.specs.Batches.{no_rows}
-use Rattle.m2v_batch.specs.Learned.{slot}
 use Rattle.m2v_batch.proofs.Blank.{slot_more}
 use Rattle.m2v_batch.proofs.book.DecodeBook.blank_frames.Goals as goal
 

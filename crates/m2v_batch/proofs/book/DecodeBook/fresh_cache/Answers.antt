@@ -1,4 +1,4 @@
-use Rattle.std.proofs.Common.{◌≡◌, ◌∙◌, ap}
+use Rattle.std.proofs.Common.{◌∙◌, ap}
 use Rattle.m2v_batch.specs.Jobs.{first_job}
 use Rattle.m2v_batch.specs.Batches.{headers}
 use Rattle.m2v_batch.proofs.Blank.{blank_fits}

@@ -1,8 +1,8 @@
-use Rattle.std.proofs.Common.{ℕ, ◌≡◌, ◌+◌, ◌++◌, ◌≤◌, ◌∙◌, ap, sym, length, arith}
+use Rattle.std.proofs.Common.{ℕ, ◌∙◌, arith}
 use Rattle.std.specs.Prelude.{◌&&◌}
-use Rattle.std.specs.List.{list_all, range_with_len}
+use Rattle.std.specs.List.{range_with_len}
 use Rattle.m2v_batch.specs.Batches.{headers}
-use Rattle.m2v_batch.specs.Jobs.{first_job, needs_of}
+use Rattle.m2v_batch.specs.Jobs.{needs_of}
 use Rattle.m2v_batch.specs.Learned.{state_at, is_set}
 use Rattle.m2v_batch.proofs.Needs.{forward_exists, other_exists, needs_are}
 use Rattle.m2v_batch.proofs.Ready.{all_both}

@@ -1,5 +1,5 @@
-use Rattle.std.proofs.Common.{◌+◌, ◌-◌, ◌≤◌, suc, ap, ◌≡◌, length, arith}
-use Rattle.m2v_batch.specs.Jobs.{first_job, frame_begin}
+use Rattle.std.proofs.Common.{◌+◌, suc, ap, ◌≡◌, length, arith}
+use Rattle.m2v_batch.specs.Jobs.{first_job}
 use Rattle.m2v_batch.specs.Batches.{headers}
 use Rattle.m2v_batch.specs.Below.{first_upto}
 use Rattle.m2v_batch.proofs.Sizes.{frame_fits}

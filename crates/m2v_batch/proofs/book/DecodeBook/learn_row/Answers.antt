@@ -1,7 +1,7 @@
-use Rattle.std.proofs.Common.{◌≡◌, ◌<◌, ◌∙◌, ap, sym, subst, length, arith, Some, None}
+use Rattle.std.proofs.Common.{sym, subst, arith}
 use Rattle.m2v_batch.specs.Batches.{headers}
 use Rattle.m2v_batch.specs.Below.{some_pictures}
-use Rattle.m2v_batch.specs.Learned.{Cached, AreSized}
+use Rattle.m2v_batch.specs.Learned.{AreSized}
 use Rattle.m2v_batch.proofs.Learning.{fits_sized, missing_learned, rebuilt_learned}
 use Rattle.m2v_batch.proofs.book.DecodeBook.learn_row.Goals as goal
 

@@ -1,4 +1,3 @@
-use Rattle.std.proofs.Common.{◌∙◌, sym}
 use Rattle.m2v_batch.proofs.Decoded.{unread_blank}
 use Rattle.m2v_batch.proofs.book.DecodeBook.made.Goals as goal
 

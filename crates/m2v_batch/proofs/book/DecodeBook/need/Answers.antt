@@ -1,4 +1,4 @@
-use Rattle.std.proofs.Common.{◌+◌, ◌∙◌, ◌<◌, ap, sym, subst, arith, length, get_or, ℕ, List}
+use Rattle.std.proofs.Common.{◌∙◌, ap, sym, arith, get_or, ℕ, List}
 use Rattle.m2v_batch.specs.Batches.{headers}
 use Rattle.m2v_batch.proofs.Needs.{forward_exists, other_exists, needs_are, needs_count}
 use Rattle.m2v_batch.proofs.book.DecodeBook.need.Goals as goal

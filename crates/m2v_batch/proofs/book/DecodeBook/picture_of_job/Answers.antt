@@ -1,7 +1,7 @@
-use Rattle.std.proofs.Common.{ℕ, zero, suc, ◌≤◌, ◌<◌, ◌-◌, ◌+◌, ◌≡◌, sym, subst, ◌∙◌, ap, arith, inl, inr, length}
+use Rattle.std.proofs.Common.{ℕ, zero, suc, ◌≤◌, ◌<◌, ◌-◌, ◌+◌, ◌≡◌, sym, ap, arith, inl, inr, length}
 use Rattle.std.proofs.lemmas.Bool.{cases_eq}
 use Rattle.m2v_batch.specs.declared.picture.Header.{Header}
-use Rattle.m2v_batch.specs.Jobs.{Headers, first_job, picture_of_job}
+use Rattle.m2v_batch.specs.Jobs.{Headers, first_job}
 use Rattle.m2v_batch.specs.Batches.{headers}
 use Rattle.m2v_batch.specs.Below.{some_pictures, first_none}
 use Rattle.m2v_batch.proofs.Sizes.{first_before, picture_found}

@@ -1,5 +1,5 @@
 use Rattle.std.proofs.Common.{◌≡◌, ◌≤◌, ◌<◌, ◌+◌, length}
-use Rattle.m2v_batch.specs.Jobs.{first_job, picture_among}
+use Rattle.m2v_batch.specs.Jobs.{first_job}
 use Rattle.m2v_batch.specs.Batches.{headers}
 use Rattle.m2v_batch.proofs.book.DecodeBook.picture_of_job.Given as goal
 

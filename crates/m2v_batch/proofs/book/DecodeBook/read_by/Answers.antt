@@ -1,4 +1,4 @@
-use Rattle.std.proofs.Common.{◌≡◌, ◌∙◌, ap}
+use Rattle.std.proofs.Common.{◌∙◌, ap}
 use Rattle.m2v_batch.specs.declared.picture.Header.{Header}
 use Rattle.m2v_batch.specs.Batches.{reading_of}
 use Rattle.m2v_batch.proofs.RowViews.{opened_is, row_is, blank_is, holds_forward, holds_backward, row_read}

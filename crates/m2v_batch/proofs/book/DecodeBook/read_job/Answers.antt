@@ -1,5 +1,4 @@
-use Rattle.std.proofs.Common.{◌≡◌, ◌∙◌, ap, length}
-use Rattle.m2v_batch.specs.Jobs.{first_field}
+use Rattle.std.proofs.Common.{◌∙◌, ap}
 use Rattle.m2v_batch.specs.Batches.{headers}
 use Rattle.m2v_batch.specs.Works.{frame_found}
 use Rattle.m2v_batch.proofs.FoundFrames.{places_exist, place_by, found_size, decoded_by, value_by}

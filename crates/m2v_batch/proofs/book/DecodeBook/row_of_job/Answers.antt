@@ -1,4 +1,4 @@
-use Rattle.std.proofs.Common.{◌≤◌, ◌<◌, ◌-◌, sym, subst, ◌∙◌, ap, arith, ℕ, length}
+use Rattle.std.proofs.Common.{ap, arith, length}
 use Rattle.m2v_batch.specs.Jobs.{first_job}
 use Rattle.m2v_batch.specs.Batches.{headers}
 use Rattle.m2v_batch.specs.Below.{picture_upto, some_pictures}

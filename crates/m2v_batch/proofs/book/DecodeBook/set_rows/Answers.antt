@@ -1,4 +1,4 @@
-use Rattle.std.proofs.Common.{◌≡◌, suc, ◌+◌, ◌<◌, ◌∙◌, ap, sym, subst, length, ℕ, Bool, true, false, arith}
+use Rattle.std.proofs.Common.{◌≡◌, suc, ◌+◌, ◌∙◌, ap, sym, ℕ, true, false, arith}
 use Rattle.m2v_pred.specs.Motion.{own_lines}
 use Rattle.m2v_batch.specs.declared.picture.Header.{Header}
 use Rattle.m2v_batch.specs.Jobs.{header_at}

@@ -1,9 +1,8 @@
-use Rattle.std.proofs.Common.{◌≡◌, ◌<◌, ◌∙◌, ℕ, true, false, refl, ap, sym, subst, length, get_or, arith}
+use Rattle.std.proofs.Common.{◌∙◌, refl, sym, subst, arith}
 use Rattle.m2v_batch.specs.declared.cache.RowState.TheVariants.{Unknown}
-use Rattle.m2v_batch.specs.Jobs.{needs_of}
 use Rattle.m2v_batch.specs.Batches.{headers}
 use Rattle.m2v_batch.specs.Below.{some_pictures}
-use Rattle.m2v_batch.specs.Learned.{state_at, is_known, FitsCache}
+use Rattle.m2v_batch.specs.Learned.{state_at, FitsCache}
 use Rattle.m2v_batch.proofs.Fits.{need_is, part_fits, learned_as, kept, unknown}
 use Rattle.m2v_batch.proofs.jobs.DecodeBookJobBook.learn.Goals as goal
 

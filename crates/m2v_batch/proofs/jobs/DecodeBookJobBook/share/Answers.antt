@@ -1,4 +1,3 @@
-use Rattle.std.proofs.Common.{sym, subst}
 use Rattle.m2v_batch.proofs.Decoded.{piece_size}
 use Rattle.m2v_batch.proofs.jobs.DecodeBookJobBook.share.Goals as goal
 
