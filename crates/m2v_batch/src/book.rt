@@ -2,7 +2,6 @@
 ghost use Rattle.std.specs.Prelude.{◌≡◌, ◌+◌, ◌-◌, ◌*◌, ◌<◌, ◌≤◌, length, slice_get, Some};
 ghost use Rattle.m2v_plane.specs.Sizes.{IsSize};
 ghost use Rattle.m2v_plane.specs.Samples.{Samples};
-ghost use Rattle.m2v_rows.specs.Opened.{IsOpened};
 ghost use Rattle.m2v_batch.specs.Jobs.{header_at, first_job, picture_of_job, row_of_job, jobs_of};
 ghost use Rattle.m2v_batch.specs.Batches.{Batch, headers, header_of, IsBatch};
 

@@ -1,5 +1,5 @@
 //! What a worker keeps of the rows that it learned of.
-ghost use Rattle.std.specs.Prelude.{◌≡◌, ◌*◌, ◌+◌, ◌<◌, ◌≤◌, IfSome, length, slice_index_or, slice_set, None};
+ghost use Rattle.std.specs.Prelude.{◌≡◌, ◌*◌, ◌+◌, ◌<◌, ◌≤◌, IfSome, length, slice_set};
 ghost use Rattle.m2v_plane.specs.Samples.{Samples, with_row};
 ghost use Rattle.m2v_plane.specs.Sizes.{part_of};
 ghost use Rattle.std.specs.Option.{option_map};

@@ -1,5 +1,5 @@
 //! The book's jobs.
-ghost use Rattle.std.specs.Prelude.{◌≡◌, ◌+◌, ◌*◌, ◌<◌, ◌≤◌};
+ghost use Rattle.std.specs.Prelude.{◌*◌, ◌<◌};
 ghost use Rattle.m2v_batch.specs.Jobs.{jobs_of, needs_of};
 ghost use Rattle.m2v_batch.specs.Batches.{headers};
 ghost use Rattle.m2v_batch.specs.Below.{needs_below, needs_few};

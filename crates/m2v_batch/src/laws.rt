@@ -1,7 +1,7 @@
 //! What holds of the jobs of a batch.
-ghost use Rattle.std.specs.Prelude.{ℕ, ◌≡◌, [], ◌∷◌, true, false, Some, None};
-ghost use Rattle.m2v_batch.specs.declared.picture.FramePlace.TheVariants.{Older, Newer, Waiting, Behind};
-ghost use Rattle.m2v_batch.specs.Jobs.{Headers, read_by, needs_of, jobs_of, picture_of_job, row_of_job};
+ghost use Rattle.std.specs.Prelude.{◌≡◌, [], ◌∷◌, Some};
+ghost use Rattle.m2v_batch.specs.declared.picture.FramePlace.TheVariants.{Newer, Waiting, Behind};
+ghost use Rattle.m2v_batch.specs.Jobs.{read_by, needs_of, jobs_of, picture_of_job, row_of_job};
 ghost use Rattle.m2v_batch.specs.Examples.{ipbb, field_pairs};
 
 /// Worked rows: of an I, a P and two B pictures of two rows each; and of a second field whose first field waits, and two P

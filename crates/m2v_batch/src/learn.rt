@@ -1,10 +1,10 @@
 //! What a worker learns of the rows of a batch.
-ghost use Rattle.std.specs.Prelude.{ℕ, ◌≡◌, ◌+◌, ◌*◌, ◌<◌, ◌≤◌, true, IsTrue, ◌||◌, if◌then◌else◌, IfOk, IfSome, length, replicate, slice_index_or, slice_set, Some, None};
+ghost use Rattle.std.specs.Prelude.{ℕ, ◌≡◌, ◌+◌, ◌<◌, true, IsTrue, ◌||◌, IfOk, length, replicate, slice_index_or, Some, None};
 ghost use Rattle.m2v_batch.specs.declared.cache.RowState.TheVariants.{Unknown};
 ghost use Rattle.m2v_batch.specs.Jobs.{header_at, jobs_of, first_job};
-ghost use Rattle.m2v_batch.specs.Batches.{headers, no_rows, frame_behind, IsBatch};
+ghost use Rattle.m2v_batch.specs.Batches.{headers, no_rows, frame_behind};
 ghost use Rattle.m2v_batch.specs.Values.{shared_of};
-ghost use Rattle.m2v_batch.specs.Learned.{state_at, set_both, row_learned, is_behind, is_read_by, is_read, slot, FitsCache, AreSized};
+ghost use Rattle.m2v_batch.specs.Learned.{set_both, row_learned, is_behind, is_read, slot, FitsCache, AreSized};
 
 use crate::book::DecodeBook;
 use crate::cache::{DecodeCache, RowState};

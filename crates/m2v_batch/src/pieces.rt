@@ -1,7 +1,6 @@
 //! What comes of a row, and what others learn of it.
 ghost use Rattle.std.specs.Prelude.{◌≡◌, ◌≤◌, ◌*◌, ◌^◌, IfOk, IfSome, Some, None, Option, if◌then◌else◌, length, sum};
 ghost use Rattle.m2v_plane.specs.Sizes.{IsSize, side};
-ghost use Rattle.m2v_plane.specs.Samples.{HasRows};
 ghost use Rattle.std.specs.Option.{option_map};
 ghost use Rattle.m2v_batch.specs.Pieces.{row_of};
 ghost use Rattle.m2v_batch.specs.Values.{lines_sum, told_part};

@@ -1,5 +1,5 @@
 //! What a job makes, of a cache that has learned its needs.
-ghost use Rattle.std.specs.Prelude.{◌≡◌, ◌+◌, ◌*◌, ◌<◌, ◌≤◌, ◌&&◌, true, IfSome, length, slice_get};
+ghost use Rattle.std.specs.Prelude.{◌≡◌, ◌+◌, ◌<◌, ◌≤◌, ◌&&◌, true, IfSome, length, slice_get};
 ghost use Rattle.std.specs.List.{list_all, range_with_len};
 ghost use Rattle.m2v_plane.specs.Samples.{blank};
 ghost use Rattle.m2v_plane.specs.Fields.{sample_at, HoldsLine};
