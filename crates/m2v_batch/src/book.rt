@@ -6,6 +6,7 @@ ghost use Rattle.m2v_batch.specs.Jobs.{header_at, first_job, picture_of_job, row
 ghost use Rattle.m2v_batch.specs.Batches.{Batch, headers, header_of, IsBatch};
 
 use crate::picture::{BatchPicture, Header, header_of};
+use m2v_picture::FramesAtHand;
 use m2v_plane::{Dims, Frame};
 use std::marker::Model;
 
@@ -14,12 +15,8 @@ use std::marker::Model;
 pub struct BatchParts {
     /// Its pictures in decoding order.
     pub pictures: Vec<BatchPicture>,
-    /// The last anchor but one before it.
-    pub older: Option<Frame>,
-    /// The last anchor before it.
-    pub newer: Option<Frame>,
-    /// The frame of the first field whose second field it begins with.
-    pub waiting: Option<Frame>,
+    /// The frames at hand before it.
+    pub frames: FramesAtHand,
 }
 
 /// The jobs of a batch of pictures: the macroblock rows of each, picture by picture in decoding order, and of a picture from
@@ -59,32 +56,30 @@ impl Model for DecodeBook {
 
 impl DecodeBook {
     /// The book of at most 16 pictures of one size in decoding order, none of them dropped, with the frames at hand before
-    /// them: the last anchor but one, the last anchor, and the frame of a first field whose second field the batch begins
-    /// with.
-    pub fn for_batch(
-        dims: Dims,
-        pictures: Vec<BatchPicture>,
-        older: Option<Frame>,
-        newer: Option<Frame>,
-        waiting: Option<Frame>,
-    ) -> DecodeBook
+    /// them; one waits where the batch begins with its second field.
+    pub fn for_batch(dims: Dims, pictures: Vec<BatchPicture>, frames: FramesAtHand) -> DecodeBook
         requires batch { IsBatch (record {
           dims = dims;
           pictures = pictures.items;
-          older = older;
-          newer = newer;
-          waiting = waiting;
+          older = frames.older;
+          newer = frames.newer;
+          waiting = frames.waiting;
         }) }
         ensures value { result ≡ record {
           dims = dims;
           pictures = pictures.items;
-          older = older;
-          newer = newer;
-          waiting = waiting;
+          older = frames.older;
+          newer = frames.newer;
+          waiting = frames.waiting;
         } }
         ensures jobs { jobs_of (headers result)
             ≡ first_job (headers result) (length pictures.items) }
     {
+        let FramesAtHand {
+            older,
+            newer,
+            waiting,
+        } = frames;
         DecodeBook {
             dims,
             pictures,
@@ -97,9 +92,11 @@ impl DecodeBook {
     /// What the batch is made of, once its rows were read.
     pub fn into_parts(self) -> BatchParts
         ensures pictures { result.pictures.items ≡ self.pictures }
-        ensures older { result.older ≡ self.older }
-        ensures newer { result.newer ≡ self.newer }
-        ensures waiting { result.waiting ≡ self.waiting }
+        ensures frames { result.frames ≡ record {
+          older = self.older;
+          newer = self.newer;
+          waiting = self.waiting;
+        } }
     {
         let DecodeBook {
             dims: _,
@@ -110,9 +107,11 @@ impl DecodeBook {
         } = self;
         BatchParts {
             pictures,
-            older,
-            newer,
-            waiting,
+            frames: FramesAtHand {
+                older,
+                newer,
+                waiting,
+            },
         }
     }
 

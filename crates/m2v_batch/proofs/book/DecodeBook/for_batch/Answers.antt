@@ -5,7 +5,7 @@ pub returns-clause-jobs : goal.returns-clause-jobs
 returns-clause-jobs c = batch_jobs (record {
   dims = c.args.dims;
   pictures = c.args.pictures.items;
-  older = c.args.older;
-  newer = c.args.newer;
-  waiting = c.args.waiting;
+  older = c.args.frames.older;
+  newer = c.args.frames.newer;
+  waiting = c.args.frames.waiting;
 }) c.requires.batch
