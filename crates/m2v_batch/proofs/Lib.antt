@@ -13,3 +13,4 @@ pub mod Ready
 pub mod RowRead
 pub mod FoundFrames
 pub mod RowViews
+pub mod PaintedRows

@@ -6,3 +6,4 @@ pub mod Learned
 pub mod Works
 pub mod Below
 pub mod Examples
+pub mod Painted

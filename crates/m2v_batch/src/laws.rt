@@ -1,7 +1,10 @@
 //! What holds of the jobs of a batch.
-ghost use Rattle.std.specs.Prelude.{◌≡◌, [], ◌∷◌, Some};
+ghost use Rattle.std.specs.Prelude.{ℕ, slice_get, ◌≡◌, [], ◌∷◌, Some};
 ghost use Rattle.m2v_batch.specs.declared.picture.FramePlace.TheVariants.{Newer, Waiting, Behind};
 ghost use Rattle.m2v_batch.specs.Jobs.{read_by, needs_of, jobs_of, picture_of_job, row_of_job};
+ghost use Rattle.m2v_batch.specs.declared.picture.BatchPicture.{BatchPicture};
+ghost use Rattle.m2v_batch.specs.Batches.{Batch, IsBatch};
+ghost use Rattle.m2v_batch.specs.Painted.{SetsRows};
 ghost use Rattle.m2v_batch.specs.Examples.{ipbb, field_pairs};
 
 /// Worked rows: of an I, a P and two B pictures of two rows each; and of a second field whose first field waits, and two P
@@ -18,4 +21,11 @@ pub fn law_worked_rows()
     ensures fields { (needs_of field_pairs 1 ≡ 0 ∷ [])
         × (read_by field_pairs 2 ≡ record { forward = Some (Behind 0); other = Some (Behind 1) })
         × (needs_of field_pairs 2 ≡ 0 ∷ 1 ∷ []) }
+{}
+
+/// Where all rows of a picture of a batch are rebuilt, they set into a frame give what the picture's slices painted into the
+/// frame give, row by row, predicted from the frames that the rows before them make.
+pub fn law_rows_in_frame()
+    ensures { (b : Batch) (p : ℕ) (x : BatchPicture) → IsBatch b → slice_get b.pictures p ≡ Some x
+        → SetsRows b p x }
 {}
