@@ -1,38 +1,63 @@
 -- The rows of a picture set into a frame, and its slices painted into the frame.
-use Rattle.std.proofs.Common.{◌≡◌, ℕ, zero, suc, ◌+◌, ◌-◌, ◌*◌, ◌<◌, ◌≤◌, Bool, true, false, cond, length, Option, Some, None, refl, sym, ap, subst, ◌∙◌, arith, inl, inr}
+use Rattle.std.proofs.Common.{◌≡◌, ℕ, zero, suc, ◌+◌, ◌*◌, ◌<◌, ◌≤◌, Bool, true, false, cond, List, [], ◌∷◌, ◌++◌, length, Option, Some, None, refl, sym, ap, subst, ◌∙◌, arith}
 use Rattle.std.specs.Prelude.{slice_get, Ok, Err}
-use Rattle.std.proofs.lemmas.Bool.{cases_Bool, cond-true, cond-false}
 use Rattle.std.proofs.lemmas.List.{length-replicate}
 use Rattle.std.proofs.lemmas.Option.{slice_get_within}
-use Rattle.m2v_plane.specs.declared.dims.Dims.{Dims}
 use Rattle.m2v_plane.specs.declared.planes.Lines.{Lines}
 use Rattle.m2v_plane.specs.Samples.{Samples, HasRows, with_row, plane_with_row, blank}
 use Rattle.m2v_plane.proofs.RawVideo.{length-plane_by}
 use Rattle.m2v_pred.specs.Motion.{own_lines}
 use Rattle.m2v_model.specs.declared.setup.SliceSetup.{SliceSetup}
-use Rattle.m2v_model.specs.Samples.{References, put_in_row, put_in_frame}
+use Rattle.m2v_model.specs.Samples.{References, put_in_frame}
 use Rattle.m2v_picture.specs.Frames.{references_in}
 use Rattle.m2v_piece.specs.declared.answer.Fault.{Fault}
-use Rattle.m2v_rows.specs.Rows.{Slices, Placed, Read, row_read, row_fault, slices_painted}
+use Rattle.m2v_rows.specs.Rows.{Slices, Placed, Read, Begun, first_of, slices_read, row_read, row_fault, begun_painted, slices_painted}
 use Rattle.m2v_rows.specs.Opened.{IsOpened, setup_of, slices_of, ending_by, ending}
 use Rattle.m2v_rows.proofs.OwnLaws.{row_end}
-use Rattle.m2v_rows.proofs.ByRowLaws.{row_whole}
+use Rattle.m2v_rows.specs.ByRows.{AreOrdered}
+use Rattle.m2v_picture.specs.Conditions.{rows_in}
+use Rattle.m2v_rows.proofs.ByRowLaws.{row_whole, above, all_above, row_more, none_more}
 use Rattle.m2v_rows.proofs.Together.{row_together}
 use Rattle.m2v_batch.specs.declared.picture.BatchPicture.{BatchPicture}
 use Rattle.m2v_batch.specs.declared.picture.Header.{Header}
 use Rattle.m2v_batch.specs.declared.picture.FramePlace.{FramePlace}
 use Rattle.m2v_batch.specs.declared.picture.FramePlace.TheVariants.{Older, Newer, Waiting, Behind}
 use Rattle.m2v_batch.specs.declared.pieces.DecodePiece.{DecodePiece}
-use Rattle.m2v_batch.specs.declared.pieces.DecodePiece.TheVariants.{Unread, After, Faulty, Rebuilt}
-use Rattle.m2v_batch.specs.Jobs.{Headers, header_at, first_job, picture_of_job, row_of_job, needs_of, older_before, newer_before, first_field, frame_from}
-use Rattle.m2v_batch.specs.Batches.{Batch, headers, header_of, Rows, with_own, rows_set, all_set, frame_at, frames_for, reading_of, references, IsBatch}
+use Rattle.m2v_batch.specs.declared.pieces.DecodePiece.TheVariants.{After}
+use Rattle.m2v_batch.specs.Jobs.{header_at, first_job, picture_of_job, row_of_job, needs_of, older_before, newer_before, first_field}
+use Rattle.m2v_batch.specs.Batches.{Batch, headers, Rows, with_own, rows_set, frame_at, reading_of, references, IsBatch}
 use Rattle.m2v_batch.specs.Below.{ComesBefore, older_comes, newer_comes, field_comes, first_more, first_upto}
 use Rattle.m2v_batch.specs.Pieces.{row_of, is_rebuilt}
 use Rattle.m2v_batch.specs.Values.{row_painted, outcome_by, outcome_in, outcome_of, rows_of, are_rebuilt, decoded, value_of}
-use Rattle.m2v_batch.specs.Painted.{read_painted, rows_painted, all_rows, SetsRows}
+use Rattle.m2v_batch.specs.Painted.{all_rows, IsRebuilt, SetsRows}
 use Rattle.m2v_batch.proofs.Sizes.{header_is, count_is, at_picture, picture_found}
 use Rattle.m2v_batch.proofs.FrameRows.{frame_same}
 use Rattle.m2v_batch.proofs.Decoded.{value_made, value_stays}
+
+-- ---- slices painted into a frame
+
+-- slices that were read
+abbrev read_painted : SliceSetup → References → Read → Samples → Samples
+read_painted s refs (Ok x) frame = slices_painted put_in_frame s refs frame x.0
+read_painted s refs (Err f) frame = frame
+
+-- those of the first n rows, row by row
+rows_painted : SliceSetup → References → Slices → ℕ → Samples → Samples
+rows_painted s refs us zero frame = frame
+rows_painted s refs us (suc n) frame = read_painted s refs (row_read s n us) (rows_painted s refs us n frame)
+
+painted_append : (s : SliceSetup) (refs : References) (frame : Samples) (xs ys : List Begun) → slices_painted put_in_frame s refs frame (xs ++ ys) ≡ slices_painted put_in_frame s refs (slices_painted put_in_frame s refs frame xs) ys
+unfolding slices_painted
+painted_append s refs frame [] ys = refl
+painted_append s refs frame (x ∷ xs) ys = painted_append s refs (begun_painted put_in_frame s refs frame x) xs ys
+
+read_or : Read → List Begun
+read_or (Ok x) = x.0
+read_or (Err f) = []
+
+same_slices : (xs ys : List Begun) (m n : ℕ) (r : Read) → r ≡ Ok (xs, m) → r ≡ Ok (ys, n) → xs ≡ ys
+unfolding read_or
+same_slices xs ys m n r e f = ap read_or (sym e ∙ f)
 
 -- ---- references go by the rows before the picture
 
@@ -183,9 +208,45 @@ module _ (b : Batch) (p : ℕ) (x : BatchPicture) (h : IsBatch b) (is : slice_ge
         same = ap (λ (f : Samples). f.dims) (sym set) ∙ before.same;
       }
 
+  -- the slices of a row, which cover it
+  row_slices : (r : ℕ) → r < x.opened.rows → is_rebuilt (value_of b (job r)) ≡ true → (ys : List Begun) × (row_read s r us ≡ Ok (ys, first_of s (r + 1)))
+  unfolding row_fault
+  row_slices r lt e =
+      let w = whole_is r lt e in
+      let end = 8 * (x.piece.place + x.piece.length) in
+      let fault : row_fault s r us (Some end) ≡ None = subst (λ (o : Option Fault). row_fault s r us (ending_by o end) ≡ None) w.headers_none w.none in
+      row_whole s r us end (row_read s r us) (row_end s r opened.setup (subst (λ (n : ℕ). r < n) opened.rows lt)) refl fault
+
+  -- the slices of the first n rows, one behind another
+  record Read_to (n : ℕ) (frame : Samples) : Type 0 where
+    slices : List Begun
+    read : slices_read s (Ok ([], 0)) (above n us) ≡ Ok (slices, first_of s n)
+    painted : slices_painted put_in_frame s refs frame slices ≡ rows_painted s refs us n frame
+
+  reads_to : (n : ℕ) (frame : Samples) → n ≤ x.opened.rows → AreOrdered 0 (rows_in s) us → IsRebuilt b p x → Read_to n frame
+  unfolding rows_painted slices_painted
+  reads_to zero frame le o each = record { slices = []; read = none_more s us; painted = refl }
+  reads_to (suc n) frame le o each =
+      let before = reads_to n frame (omega (arith, le)) o each in
+      let lt : n < x.opened.rows = omega (arith, le) in
+      let ys = row_slices n lt (each n lt) in
+      let next : n + 1 ≡ suc n = omega arith in
+      record {
+        slices = before.slices ++ ys.0;
+        read = subst (λ (k : ℕ). slices_read s (Ok ([], 0)) (above k us) ≡ Ok (before.slices ++ ys.0, first_of s k)) next (row_more s (rows_in s) n us before.slices ys.0 o before.read ys.1);
+        painted = painted_append s refs frame before.slices ys.0
+            ∙ ap (λ (f : Samples). slices_painted put_in_frame s refs f ys.0) before.painted
+            ∙ ap (λ (z : Read). read_painted s refs z (rows_painted s refs us n frame)) (sym ys.1);
+      }
+
   pub sets_rows : SetsRows b p x
   sets_rows = record {
-    set = λ frame whole same each.
-        subst (λ (n : ℕ). rows_set (header_at (headers b) p) (all_rows b) (first_job (headers b) p) n frame ≡ rows_painted s refs us x.opened.rows frame) (sym rows_is)
-        (goes x.opened.rows frame (omega arith) whole (same ∙ sym size) each).painted;
+    set = λ frame slices whole same each o read.
+        let n = x.opened.rows in
+        let all = reads_to n frame (omega arith) o each in
+        let ends : above n us ≡ us = ap (λ (k : ℕ). above k us) opened.rows ∙ all_above 0 (rows_in s) us o in
+        let are = same_slices all.slices slices (first_of s n) (first_of s (rows_in s)) (slices_read s (Ok ([], 0)) us) (ap (slices_read s (Ok ([], 0))) (sym ends) ∙ all.read) read in
+        subst (λ (k : ℕ). rows_set (header_at (headers b) p) (all_rows b) (first_job (headers b) p) k frame ≡ rows_painted s refs us n frame) (sym rows_is) (goes n frame (omega arith) whole (same ∙ sym size) each).painted
+        ∙ sym all.painted
+        ∙ ap (slices_painted put_in_frame s refs frame) are;
   }

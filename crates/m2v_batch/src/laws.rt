@@ -23,8 +23,8 @@ pub fn law_worked_rows()
         × (needs_of field_pairs 2 ≡ 0 ∷ 1 ∷ []) }
 {}
 
-/// Where all rows of a picture of a batch are rebuilt, they set into a frame give what the picture's slices painted into the
-/// frame give, row by row, predicted from the frames that the rows before them make.
+/// Where all rows of a picture of a batch are rebuilt, they set into a frame give what the picture's slices, read one behind
+/// another, give the frame, predicted from the frames that the rows before them make.
 pub fn law_rows_in_frame()
     ensures { (b : Batch) (p : ℕ) (x : BatchPicture) → IsBatch b → slice_get b.pictures p ≡ Some x
         → SetsRows b p x }

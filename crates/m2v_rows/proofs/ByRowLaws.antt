@@ -16,10 +16,10 @@ use Rattle.m2v_rows.proofs.Starts.{begins, ends}
 
 -- ---- the slices above a row, of it, and below it
 
-abbrev is_above : ℕ → Unread → Bool
+abbrev pub is_above : ℕ → Unread → Bool
 is_above row u = nat_lt u.row row
 
-abbrev above : ℕ → Slices → Slices
+abbrev pub above : ℕ → Slices → Slices
 above row us = filter (is_above row) us
 
 not_lt : (a b : ℕ) → b ≤ a → nat_lt a b ≡ false
@@ -40,12 +40,12 @@ all_below : (low rows r : ℕ) (us : Slices) → AreOrdered low rows us → r < 
 all_below low rows r [] o lt = refl
 all_below low rows r (u ∷ us) o lt = rw (lt-ltb r u.row (omega (arith, lt, o.0))) (ap (λ l. u ∷ l) (all_below u.row rows r us o.2 (omega (arith, lt, o.0))))
 
-all_above : (low rows : ℕ) (us : Slices) → AreOrdered low rows us → above rows us ≡ us
+pub all_above : (low rows : ℕ) (us : Slices) → AreOrdered low rows us → above rows us ≡ us
 all_above low rows [] o = refl
 all_above low rows (u ∷ us) o = rw (lt-ltb u.row rows o.1) (ap (λ l. u ∷ l) (all_above u.row rows us o.2))
 
 -- those above a row, and then its own
-above_next : (low rows r : ℕ) (us : Slices) → AreOrdered low rows us → above (r + 1) us ≡ above r us ++ own r us
+pub above_next : (low rows r : ℕ) (us : Slices) → AreOrdered low rows us → above (r + 1) us ≡ above r us ++ own r us
 above_next low rows r [] o = refl
 above_next low rows r (u ∷ us) o = elim (cases_lt u.row r) [
   | inl less ↦
@@ -185,17 +185,17 @@ row_whole s row us end (Err f) small read e = absurd (cc e)
 
 -- ---- the picture
 
-abbrev Reach : SliceSetup → Slices → ℕ → Type 0
+abbrev pub Reach : SliceSetup → Slices → ℕ → Type 0
 Reach s us r = (xs : List Begun) × (slices_read s (Ok ([], 0)) (above r us) ≡ Ok (xs, first_of s r))
 
 -- behind the rows above, a row's slices are read as it says
-reached : (s : SliceSetup) (r : ℕ) (us : Slices) (vs : Slices) (h : Reach s us r) → slices_read s (Ok ([], 0)) (above r us ++ vs) ≡ with_front h.0 (slices_read s (Ok ([], first_of s r)) vs)
+pub reached : (s : SliceSetup) (r : ℕ) (us : Slices) (vs : Slices) (h : Reach s us r) → slices_read s (Ok ([], 0)) (above r us ++ vs) ≡ with_front h.0 (slices_read s (Ok ([], first_of s r)) vs)
 reached s r us vs h =
     slices_append s (Ok ([], 0)) (above r us) vs
     ∙ ap (λ (x : Read). slices_read s x vs) (h.1 ∙ ap (λ (l : List Begun). Ok (l, first_of s r)) (sym (append-nil h.0)))
     ∙ prefixed s h.0 [] (first_of s r) vs
 
-none_first : (us : Slices) → above 0 us ≡ []
+pub none_first : (us : Slices) → above 0 us ≡ []
 none_first [] = refl
 none_first (u ∷ us) = rw (not_lt u.row 0 (omega arith)) (none_first us)
 
@@ -216,6 +216,17 @@ reach s rows zero us end small o none = reach_first s us
 reach s rows (suc r) us end small o none =
     subst (Reach s us) (omega arith)
     (reach_next s rows r us end (small r (omega arith)) o (reach s rows r us end (λ q lt. small q (omega (arith, lt))) o (λ q lt. none q (omega (arith, lt)))) (none r (omega arith)))
+
+-- the slices of the rows above a row and of that row, where they cover it
+pub row_more : (s : SliceSetup) (rows r : ℕ) (us : Slices) (xs ys : List Begun) → AreOrdered 0 rows us → slices_read s (Ok ([], 0)) (above r us) ≡ Ok (xs, first_of s r) → row_read s r us ≡ Ok (ys, first_of s (r + 1))
+    → slices_read s (Ok ([], 0)) (above (r + 1) us) ≡ Ok (xs ++ ys, first_of s (r + 1))
+unfolding with_front
+row_more s rows r us xs ys o before own_read =
+    ap (slices_read s (Ok ([], 0))) (above_next 0 rows r us o) ∙ reached s r us (own r us) (xs, before) ∙ ap (with_front xs) own_read
+
+pub none_more : (s : SliceSetup) (us : Slices) → slices_read s (Ok ([], 0)) (above 0 us) ≡ Ok ([], first_of s 0)
+unfolding slices_read
+none_more s us = let none : 0 ≡ first_of s 0 = omega arith in ap (slices_read s (Ok ([], 0))) (none_first us) ∙ ap (λ (n : ℕ). Ok ([], n)) none
 
 -- macroblocks that are missing, by what the next slice says
 next_stops : (s : SliceSetup) (rows end row : ℕ) (x : List Begun × ℕ) (f : Placed) (xs : List Begun) (later : Slices) (r : Result Slice Placed)
