@@ -116,7 +116,7 @@ impl DecodeBook {
     }
 
     /// How many pictures there are.
-    pub(crate) fn pictures(&self) -> u32
+    pub fn pictures(&self) -> u32
         ensures value { result ≡ length (headers self.now) }
         ensures most { result ≤ 16 }
         ensures batch { IsBatch self.now }
@@ -155,7 +155,7 @@ impl DecodeBook {
     }
 
     /// A picture.
-    pub(crate) fn picture(&self, p: u32) -> &BatchPicture
+    pub fn picture(&self, p: u32) -> &BatchPicture
         requires picture { p < length (headers self.now) }
         ensures value { slice_get self.now.pictures p ≡ Some result.now }
     {
@@ -172,7 +172,7 @@ impl DecodeBook {
     }
 
     /// The first job of a picture; the number of jobs behind the last one.
-    pub(crate) fn first_job(&self, p: u32) -> u32
+    pub fn first_job(&self, p: u32) -> u32
         requires picture { p ≤ length (headers self.now) }
         ensures value { result ≡ first_job (headers self.now) p }
         ensures most { result ≤ 72 * p }
