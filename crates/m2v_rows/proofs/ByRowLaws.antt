@@ -16,10 +16,10 @@ use Rattle.m2v_rows.proofs.Starts.{begins, ends}
 
 -- ---- the slices above a row, of it, and below it
 
-abbrev is_above : ℕ → Unread → Bool
+abbrev pub is_above : ℕ → Unread → Bool
 is_above row u = nat_lt u.row row
 
-abbrev above : ℕ → Slices → Slices
+abbrev pub above : ℕ → Slices → Slices
 above row us = filter (is_above row) us
 
 not_lt : (a b : ℕ) → b ≤ a → nat_lt a b ≡ false
@@ -40,12 +40,12 @@ all_below : (low rows r : ℕ) (us : Slices) → AreOrdered low rows us → r < 
 all_below low rows r [] o lt = refl
 all_below low rows r (u ∷ us) o lt = rw (lt-ltb r u.row (omega (arith, lt, o.0))) (ap (λ l. u ∷ l) (all_below u.row rows r us o.2 (omega (arith, lt, o.0))))
 
-all_above : (low rows : ℕ) (us : Slices) → AreOrdered low rows us → above rows us ≡ us
+pub all_above : (low rows : ℕ) (us : Slices) → AreOrdered low rows us → above rows us ≡ us
 all_above low rows [] o = refl
 all_above low rows (u ∷ us) o = rw (lt-ltb u.row rows o.1) (ap (λ l. u ∷ l) (all_above u.row rows us o.2))
 
 -- those above a row, and then its own
-above_next : (low rows r : ℕ) (us : Slices) → AreOrdered low rows us → above (r + 1) us ≡ above r us ++ own r us
+pub above_next : (low rows r : ℕ) (us : Slices) → AreOrdered low rows us → above (r + 1) us ≡ above r us ++ own r us
 above_next low rows r [] o = refl
 above_next low rows r (u ∷ us) o = elim (cases_lt u.row r) [
   | inl less ↦
@@ -169,7 +169,7 @@ row_first : (s : SliceSetup) (row : ℕ) → first_of s row ≤ first_of s (row 
 row_first s row = mul-le-mul (omega (arith)) (le_refl s.context.columns)
 
 -- the slices of a row without a fault cover it
-row_whole : (s : SliceSetup) (row : ℕ) (us : Slices) (end : ℕ) (r : Read) → first_of s (row + 1) ≤ 2 ^ 16 → row_read s row us ≡ r → covering s row (below row us) (Some end) r ≡ None
+pub row_whole : (s : SliceSetup) (row : ℕ) (us : Slices) (end : ℕ) (r : Read) → first_of s (row + 1) ≤ 2 ^ 16 → row_read s row us ≡ r → covering s row (below row us) (Some end) r ≡ None
     → (ys : List Begun) × (row_read s row us ≡ Ok (ys, first_of s (row + 1)))
 row_whole s row us end (Ok x) small read e = elim (eqb_tells x.1 (first_of s (row + 1))) [
   | inl h ↦ (x.0, read ∙ ap (λ (n : ℕ). Ok (x.0, n)) h.1)
@@ -185,17 +185,17 @@ row_whole s row us end (Err f) small read e = absurd (cc e)
 
 -- ---- the picture
 
-abbrev Reach : SliceSetup → Slices → ℕ → Type 0
+abbrev pub Reach : SliceSetup → Slices → ℕ → Type 0
 Reach s us r = (xs : List Begun) × (slices_read s (Ok ([], 0)) (above r us) ≡ Ok (xs, first_of s r))
 
 -- behind the rows above, a row's slices are read as it says
-reached : (s : SliceSetup) (r : ℕ) (us : Slices) (vs : Slices) (h : Reach s us r) → slices_read s (Ok ([], 0)) (above r us ++ vs) ≡ with_front h.0 (slices_read s (Ok ([], first_of s r)) vs)
+pub reached : (s : SliceSetup) (r : ℕ) (us : Slices) (vs : Slices) (h : Reach s us r) → slices_read s (Ok ([], 0)) (above r us ++ vs) ≡ with_front h.0 (slices_read s (Ok ([], first_of s r)) vs)
 reached s r us vs h =
     slices_append s (Ok ([], 0)) (above r us) vs
     ∙ ap (λ (x : Read). slices_read s x vs) (h.1 ∙ ap (λ (l : List Begun). Ok (l, first_of s r)) (sym (append-nil h.0)))
     ∙ prefixed s h.0 [] (first_of s r) vs
 
-none_first : (us : Slices) → above 0 us ≡ []
+pub none_first : (us : Slices) → above 0 us ≡ []
 none_first [] = refl
 none_first (u ∷ us) = rw (not_lt u.row 0 (omega arith)) (none_first us)
 
