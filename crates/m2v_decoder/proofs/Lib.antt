@@ -5,3 +5,4 @@ pub mod FrameLaws
 pub mod CourseLaws
 pub mod StepLaws
 pub mod ReadLaws
+pub mod TakeLaws

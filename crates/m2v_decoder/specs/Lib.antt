@@ -1,3 +1,4 @@
 pub mod Decoding
 pub mod Course
 pub mod Rebuilt
+pub mod Taking
