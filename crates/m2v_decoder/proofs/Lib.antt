@@ -6,3 +6,4 @@ pub mod CourseLaws
 pub mod StepLaws
 pub mod ReadLaws
 pub mod TakeLaws
+pub mod TookLaws
