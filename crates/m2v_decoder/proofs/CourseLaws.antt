@@ -49,7 +49,7 @@ unfolding shown_step held
 count_by_test q frame kind true e = rw e (omega (arith))
 count_by_test q frame kind false e = rw e refl
 
-handed_few : (q : Holder Samples) (frame : Option Samples) (kind : ℕ) → length (handed q (frame_list frame kind)) + length (option_to_list (held_after q (frame_list frame kind)).anchor) ≤ length (option_to_list q.anchor) + 1
+pub handed_few : (q : Holder Samples) (frame : Option Samples) (kind : ℕ) → length (handed q (frame_list frame kind)) + length (option_to_list (held_after q (frame_list frame kind)).anchor) ≤ length (option_to_list q.anchor) + 1
 unfolding handed held_after
 handed_few q None kind = omega arith
 handed_few q (Some f) kind =
@@ -64,7 +64,7 @@ open_dropped : (p : Open) (store : Store) → dropped_in (picture_of p store ∷
 unfolding picture_of
 open_dropped p store = one_dropped (picture_of p store) p.dropped refl
 
-few_dropped : (b : Bool) → (if b then 1 else 0) ≤ 1
+pub few_dropped : (b : Bool) → (if b then 1 else 0) ≤ 1
 few_dropped true = omega arith
 few_dropped false = omega arith
 

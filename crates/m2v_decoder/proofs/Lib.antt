@@ -7,3 +7,4 @@ pub mod StepLaws
 pub mod ReadLaws
 pub mod TakeLaws
 pub mod TookLaws
+pub mod OnwardLaws

@@ -1,8 +1,9 @@
 -- A picture that was read elsewhere is taken in: its frame, and what its end does.
-use Rattle.std.proofs.Common.{◌≡◌, ℕ, ◌+◌, ◌++◌, Bool, true, false, Option, Some, None, refl, sym, ap, subst, ◌∙◌}
+use Rattle.std.proofs.Common.{◌≡◌, ℕ, ◌+◌, ◌*◌, ◌++◌, Bool, true, false, Option, Some, None, refl, sym, ap, subst, ◌∙◌}
 use Rattle.std.specs.Prelude.{IsSome, IfSome, if◌then◌else◌}
+use Rattle.std.proofs.lemmas.List.{length-replicate}
 use Rattle.m2v_plane.specs.declared.dims.Dims.{Dims}
-use Rattle.m2v_plane.specs.Samples.{Samples, blank}
+use Rattle.m2v_plane.specs.Samples.{Samples, HasRows, blank}
 use Rattle.m2v_plane.specs.Fields.{or_none}
 use Rattle.m2v_order.specs.Display.{Holder, handed, held_after}
 use Rattle.m2v_model.specs.declared.state.Sequence.{Sequence}
@@ -14,7 +15,7 @@ use Rattle.m2v_model.specs.Decoding.{low_delay_of}
 use Rattle.m2v_picture.specs.Frames.{Frames, store_of, HaveSize}
 use Rattle.m2v_rows.specs.declared.opened.Opened.{Opened}
 use Rattle.m2v_rows.specs.InFrames.{rows_set}
-use Rattle.m2v_rows.proofs.RowsSet.{set_dims}
+use Rattle.m2v_rows.proofs.RowsSet.{set_dims, set_sized}
 use Rattle.m2v_decoder.specs.declared.course.Course.{Course}
 use Rattle.m2v_decoder.specs.Decoding.{queue_of}
 use Rattle.m2v_decoder.specs.Course.{Ended, frame_list}
@@ -27,6 +28,27 @@ begun_current : (second : Bool) (c : Option Samples) (d e : Dims) → (second �
 begun_current true (Some f) d e there same = refl
 begun_current true None d e there same = let some = there refl in absurd cc
 begun_current false c d e there same = ap (λ (x : Dims). Some (blank x x.mb_rows)) same
+
+abbrev pub IsWhole : Samples → Type 0
+IsWhole s = HasRows s s.dims.mb_rows
+
+blank_whole : (d : Dims) → IsWhole (blank d d.mb_rows)
+blank_whole d = record {
+  luma = length-replicate (16 * d.mb_rows * (16 * d.mb_width)) 0;
+  cb = length-replicate (8 * d.mb_rows * (8 * d.mb_width)) 0;
+  cr = length-replicate (8 * d.mb_rows * (8 * d.mb_width)) 0;
+}
+
+-- it has the picture's size, and all samples of it
+pub begun_whole : (second : Bool) (c : Option Samples) (d : Dims) → (second ≡ true → IsSome c) → IfSome c IsWhole → IsWhole (if second then or_none c else blank d d.mb_rows)
+begun_whole true (Some f) d there h = h
+begun_whole true None d there h = let some = there refl in absurd cc
+begun_whole false c d there h = blank_whole d
+
+pub begun_sized : (second : Bool) (c : Option Samples) (d : Dims) → (second ≡ true → IsSome c) → IfSome c (λ s. s.dims ≡ d) → (if second then or_none c else blank d d.mb_rows).dims ≡ d
+begun_sized true (Some f) d there h = h
+begun_sized true None d there h = let some = there refl in absurd cc
+begun_sized false c d there h = refl
 
 -- what a picture leaves doesn't look at what it was predicted from
 left_same : (ends b : Bool) (s t : Store) → record s { references = no_references } ≡ record t { references = no_references }
@@ -49,14 +71,11 @@ record IsSet (c : Course) (o : Opened) (frame : Samples) (h : Frames) : Type 0 w
   current : h.current ≡ Some frame
   sizes : HaveSize o.dims h
 
-sized_there : (d : Dims) (c : Option Samples) (f : Samples) → c ≡ Some f → IfSome c (λ s. s.dims ≡ d) → f.dims ≡ d
-sized_there d c f is h = subst (λ (x : Option Samples). IfSome x (λ s. s.dims ≡ d)) is h
-
-is_set : (c : Course) (o : Opened) (s : Sequence) (row : ℕ → Samples) (g h : Frames) → HaveSize (dims_of s) g → dims_of s ≡ o.dims → (o.context.second ≡ true → IsSome c.gallery.current)
+is_set : (c : Course) (o : Opened) (s : Sequence) (row : ℕ → Samples) (g h : Frames) → HaveSize (dims_of s) g → dims_of s ≡ o.dims → (o.context.second ≡ true → IsSome c.gallery.current) → HaveSize o.dims c.gallery
     → store_of g ≡ picture_begun (Some s) (open_of o) (store_of c.gallery)
     → h ≡ record g { current = on_frame (rows_set o.context.extension.structure row o.rows) g.current }
     → IsSet c o (rows_set o.context.extension.structure row o.rows (frame_begun o c.gallery.current)) h
-is_set c o s row g h sizes dims waits store is =
+is_set c o s row g h sizes dims waits before store is =
     let structure = o.context.extension.structure in
     let frame0 = frame_begun o c.gallery.current in
     let current : g.current ≡ Some frame0 = ap (λ (x : Store). x.current) store ∙ begun_current o.context.second c.gallery.current (dims_of s) o.dims waits dims in
@@ -69,8 +88,9 @@ is_set c o s row g h sizes dims waits store is =
       sizes = record {
         older = subst (λ (x : Option Samples). IfSome x (λ f. f.dims ≡ o.dims)) (sym (ap (λ (x : Frames). x.older) is)) own.older;
         newer = subst (λ (x : Option Samples). IfSome x (λ f. f.dims ≡ o.dims)) (sym (ap (λ (x : Frames). x.newer) is)) own.newer;
-        current = subst (λ (x : Option Samples). IfSome x (λ f. f.dims ≡ o.dims)) (sym now) (set_dims structure row o.rows frame0 ∙ sized_there o.dims g.current frame0 current own.current);
+        current = subst (λ (x : Option Samples). IfSome x (λ f. f.dims ≡ o.dims)) (sym now) (set_dims structure row o.rows frame0 ∙ begun_sized o.context.second c.gallery.current o.dims waits before.current);
         first_field = subst (λ (x : Option Samples). IfSome x (λ f. f.dims ≡ o.dims)) (sym (ap (λ (x : Frames). x.first_field) is)) own.first_field;
+        whole = subst (λ (x : Option Samples). IfSome x IsWhole) (sym now) (set_sized structure row o.rows frame0 (begun_whole o.context.second c.gallery.current o.dims waits before.whole));
       };
     }
 
@@ -90,7 +110,7 @@ took_in c m d o after first s row g can first_is in_force low queue state ready 
     let frame = rows_set o.context.extension.structure row o.rows (frame_begun o c.gallery.current) in
     let same : s ≡ can.sequence = cc (sym in_force ∙ can.in_force) in
     let dims : dims_of s ≡ o.dims = ap dims_of same ∙ can.dims in
-    let h = is_set c o s row g m.gallery sizes dims can.waits store set in
+    let h = is_set c o s row g m.gallery sizes dims can.waits can.frames store set in
     let holds : m.queue ≡ queue_behind c after = queue ∙ ap (λ (b : Bool). queue_of b c.queue.anchor) (low_is c o after first m.queue.low_delay can first_is low) in
     let ended = frame_where (is_frame_end (open_of o)) e.frame m.gallery.current frame e.frame_is h.current in
     record {
