@@ -22,7 +22,7 @@ use Rattle.m2v_decoder.proofs.FrameLaws.{rest_same, ended}
 
 -- ---- the frame of a picture
 
-one_listed : (ends drop : Bool) (current frame : Option Samples) (p : Picture) → p.ends_frame ≡ ends → p.dropped ≡ drop → p.frame ≡ or_none current → frame ≡ (if ends then current else None)
+pub one_listed : (ends drop : Bool) (current frame : Option Samples) (p : Picture) → p.ends_frame ≡ ends → p.dropped ≡ drop → p.frame ≡ or_none current → frame ≡ (if ends then current else None)
     → (drop ≡ true → (is_b p.info.kind ≡ true) × (current ≡ None)) → (drop ≡ false → IsSome current) → decoded_of (p ∷ []) ≡ frame_list frame p.info.kind
 one_listed false drop current frame p e d at is dropped there = rw (e, is) refl
 one_listed true true current frame p e d at is dropped there =
@@ -56,7 +56,7 @@ handed_few q (Some f) kind =
     let one : length (option_to_list (shown_step q f kind) ++ []) ≡ length (option_to_list (shown_step q f kind)) = ap length (append-nil (option_to_list (shown_step q f kind))) in
     omega (arith, one, count_by_test q f kind (q.low_delay || (kind == 3)) refl)
 
-one_dropped : (p : Picture) (d : Bool) → p.dropped ≡ d → dropped_in (p ∷ []) ≡ (if d then 1 else 0)
+pub one_dropped : (p : Picture) (d : Bool) → p.dropped ≡ d → dropped_in (p ∷ []) ≡ (if d then 1 else 0)
 one_dropped p true e = rw e refl
 one_dropped p false e = rw e refl
 

@@ -23,7 +23,7 @@ use Rattle.m2v_decoder.specs.Rebuilt.{open_of, frame_begun, frames_behind}
 use Rattle.m2v_decoder.specs.Taking.{CanTake, queue_behind, frame_ended, TookIn}
 
 -- the frame with which a picture begins is there
-begun_current : (second : Bool) (c : Option Samples) (d e : Dims) → (second ≡ true → IsSome c) → d ≡ e
+pub begun_current : (second : Bool) (c : Option Samples) (d e : Dims) → (second ≡ true → IsSome c) → d ≡ e
     → (if second then c else Some (blank d d.mb_rows)) ≡ Some (if second then or_none c else blank e e.mb_rows)
 begun_current true (Some f) d e there same = refl
 begun_current true None d e there same = let some = there refl in absurd cc
@@ -58,7 +58,7 @@ left_same true true s t e = ap (λ (x : Store). record x { current = None }) e
 left_same true false s t e = ap (λ (x : Store). record x { older = x.newer; newer = x.current; current = None }) e
 left_same false b s t e = e
 
-ended_same : (p : Open) (s t : Store) → record s { references = no_references } ≡ record t { references = no_references } → picture_ended (Some p) s ≡ picture_ended (Some p) t
+pub ended_same : (p : Open) (s t : Store) → record s { references = no_references } ≡ record t { references = no_references } → picture_ended (Some p) s ≡ picture_ended (Some p) t
 ended_same p s t e = left_same (is_frame_end p) (is_b p.info.kind) s t e
 
 frame_where : (ends : Bool) (frame c : Option Samples) (f : Samples) → frame ≡ (if ends then c else None) → c ≡ Some f → frame ≡ (if ends then Some f else None)

@@ -58,7 +58,7 @@ fn set_rows<R: PictureRows>(gallery: &mut Gallery, opened: &Opened, rows: &R)
     requires there { (r : ℕ) → r < opened.now.rows → R.there rows.now r }
     ensures { gallery.new ≡ record gallery.old {
       current = on_frame (rows_set opened.now.context.extension.structure (R.samples rows.now)
-        opened.now.rows) gallery.old.current;
+          opened.now.rows) gallery.old.current;
     } }
 {
     let lines = own_lines(opened.context.extension.structure);
