@@ -17,5 +17,6 @@ mod work;
 pub use book::{BatchParts, DecodeBook};
 pub use cache::{DecodeCache, RowState};
 pub use laws::{law_rows_in_frame, law_worked_rows};
-pub use picture::{BatchPicture, FramePlace, Header, Reads};
+pub use picture::{BatchPicture, FramePlace, Header, Reads, header_of};
 pub use pieces::{DecodePiece, DecodeShared};
+pub use reads::ends_anchor;

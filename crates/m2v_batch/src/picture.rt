@@ -27,7 +27,7 @@ pub struct Header {
 }
 
 /// What the headers of a picture say of its place among others.
-pub(crate) fn header_of(opened: &Opened) -> Header
+pub fn header_of(opened: &Opened) -> Header
     ensures value { result ≡ record {
       kind = opened.now.context.kind;
       second = opened.now.context.second;

@@ -18,7 +18,7 @@ pub(crate) struct Anchors {
 }
 
 /// Whether a picture that isn't B ends its frame.
-fn ends_anchor(h: Header) -> bool
+pub fn ends_anchor(h: Header) -> bool
     ensures value { result ≡ ends_anchor h }
 {
     h.kind != 3 && (h.structure == 3 || h.second)

@@ -1,0 +1,3 @@
+pub mod Presence
+pub mod Appending
+pub mod Units

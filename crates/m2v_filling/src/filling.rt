@@ -1,0 +1,218 @@
+//! A batch that is filled.
+ghost use Rattle.std.specs.Prelude.{ℕ, suc, ◌≡◌, ◌<◌, ◌≤◌, ◌++◌, [], ◌∷◌, ◌↔◌, false, IsTrue, IsSome, IfErr, IfSome, OnOk, None, length};
+ghost use Rattle.m2v_plane.specs.Sizes.{IsSize};
+ghost use Rattle.m2v_piece.specs.declared.answer.Piece.{Piece as PieceOf};
+ghost use Rattle.m2v_rows.specs.Opened.{IsOpened};
+ghost use Rattle.m2v_batch.specs.Jobs.{header_at, first_job, jobs_of};
+ghost use Rattle.m2v_batch.specs.Batches.{Batch, headers, ArePair, IsBatch};
+ghost use Rattle.m2v_filling.specs.Filled.{with_picture, at_hand, Follows};
+
+use crate::Memory;
+use crate::at_hand::{AtHand, behind, has_fields, reading_of};
+use m2v_batch::{BatchPicture, DecodeBook, Header, header_of};
+use m2v_picture::FramesAtHand;
+use m2v_piece::Piece;
+use m2v_plane::Dims;
+use m2v_rows::Opened;
+use std::alloc::Global;
+use std::marker::Model;
+
+/// A batch that is filled: pictures whose rows are decoded by themselves, and the frames at hand before them.
+///
+/// Contracts see the size of the frames, the pictures, and the frames at hand before them.
+#[derive(Drop)]
+pub struct Filling {
+    dims: Dims,
+    pictures: Vec<BatchPicture>,
+    frames: FramesAtHand,
+}
+
+impl Model for Filling {
+    ghost use Rattle.m2v_batch.specs.Batches.{Batch, IsBatch};
+
+    ghost Value = { Batch };
+
+    ghost view = { λ b. record {
+      dims = b.dims;
+      pictures = b.pictures.items;
+      older = b.frames.older;
+      newer = b.frames.newer;
+      waiting = b.frames.waiting;
+    } };
+
+    ghost invariant = { λ b. IsBatch (record {
+      dims = b.dims;
+      pictures = b.pictures.items;
+      older = b.frames.older;
+      newer = b.frames.newer;
+      waiting = b.frames.waiting;
+    }) };
+}
+
+/// Whether two pictures are the fields of one frame: a first field, and one of the other parity.
+fn are_pair(first: Header, next: Header) -> bool
+    requires field { next.structure ≤ 2 }
+    ensures pair { IsTrue result ↔ ArePair first next }
+{
+    if first.second || first.structure > 2 {
+        return false;
+    }
+    first.structure + next.structure == 3
+}
+
+impl Filling {
+    /// A batch of no picture, before which these frames are at hand.
+    pub fn new(alloc: Global, dims: Dims, frames: FramesAtHand) -> Filling
+        requires size { IsSize dims }
+        requires older { IfSome frames.older (λ f. f.dims ≡ dims) }
+        requires newer { IfSome frames.newer (λ f. f.dims ≡ dims) }
+        requires waiting { IfSome frames.waiting (λ f. f.dims ≡ dims) }
+        ensures value { result ≡ record {
+          dims = dims;
+          pictures = [];
+          older = frames.older;
+          newer = frames.newer;
+          waiting = frames.waiting;
+        } }
+    {
+        Filling {
+            dims,
+            pictures: Vec::new(alloc),
+            frames,
+        }
+    }
+
+    /// How many pictures there are.
+    pub fn len(&self) -> u32
+        ensures value { result ≡ length self.now.pictures }
+        ensures most { result ≤ 16 }
+    {
+        self.pictures.len() as u32
+    }
+
+    /// What a picture's headers say.
+    fn header(&self, p: u32) -> Header
+        requires picture { p < length self.now.pictures }
+        ensures value { result ≡ header_at (headers self.now) p }
+    {
+        header_of(&self.pictures[p as usize].opened)
+    }
+
+    /// Which frames are there before the next picture.
+    fn at_hand(&self) -> AtHand
+        ensures value { result ≡ at_hand self.now (length self.now.pictures) }
+    {
+        let mut at = AtHand {
+            older: self.frames.older.is_some(),
+            newer: self.frames.newer.is_some(),
+            first: self.frames.waiting.is_some(),
+        };
+        for p in 0..self.len() {
+            at = behind(at, self.header(p));
+        }
+        at
+    }
+
+    /// Whether the first field of a second field, which would be the next picture, is the last picture, or waits before
+    /// the batch.
+    fn has_first_field(&self, h: Header) -> bool
+        requires field { h.structure ≤ 2 }
+        ensures waits { IsTrue result → length self.now.pictures ≡ 0 → IsSome self.now.waiting }
+        ensures pair { IsTrue result → (p : ℕ) → length self.now.pictures ≡ suc p
+            → ArePair (header_at (headers self.now) p) h }
+        ensures every { (length self.now.pictures ≡ 0 → IsSome self.now.waiting)
+            → ((p : ℕ) → length self.now.pictures ≡ suc p
+            → ArePair (header_at (headers self.now) p) h)
+            → IsTrue result }
+    {
+        let count = self.len();
+        if count == 0 {
+            return self.frames.waiting.is_some();
+        }
+        are_pair(self.header(count - 1), h)
+    }
+
+    /// Whether a picture that is a second field follows its first field directly.
+    fn follows(&self, h: Header) -> bool
+        ensures follows { IsTrue result ↔ Follows self.now h }
+    {
+        if !h.second {
+            return true;
+        }
+        if h.structure > 2 {
+            return false;
+        }
+        self.has_first_field(h)
+    }
+
+    /// Whether there is room for a picture, and it has the size of the batch.
+    fn has_place(&self, opened: &Opened) -> bool
+        ensures room { IsTrue result → length self.now.pictures < 16 }
+        ensures size { IsTrue result → opened.now.dims ≡ self.now.dims }
+        ensures every { length self.now.pictures < 16 → opened.now.dims ≡ self.now.dims
+            → IsTrue result }
+        ensures batch { IsBatch self.now }
+    {
+        if opened.dims != self.dims {
+            return false;
+        }
+        self.len() < 16
+    }
+
+    /// Whether a picture fits behind those of the batch: there is room for it, it has their size, as a second field it
+    /// follows its first field directly, and each field that it may be predicted from is there.
+    fn fits(&self, opened: &Opened) -> bool
+        ensures batch { IsTrue result → (p : PieceOf) → IsOpened p opened.now
+            → IsBatch (with_picture self.now p opened.now) }
+        ensures every { (p : PieceOf) → IsBatch (with_picture self.now p opened.now)
+            → IsTrue result }
+    {
+        if !self.has_place(opened) {
+            return false;
+        }
+        let header = header_of(opened);
+        if !self.follows(header) {
+            return false;
+        }
+        has_fields(&opened.references, &reading_of(header), self.at_hand())
+    }
+
+    /// Whether a picture may be the next one: it isn't dropped, its headers have no fault, there are fewer than 16
+    /// pictures, it has the size of the batch, as a second field it follows its first field directly, and each field that
+    /// it may be predicted from is there.
+    pub fn takes(&self, opened: &Opened) -> bool
+        ensures batch { IsTrue result → (p : PieceOf) → IsOpened p opened.now
+            → IsBatch (with_picture self.now p opened.now) }
+        ensures read { IsTrue result → opened.now.note.dropped ≡ false }
+        ensures whole { IsTrue result → opened.now.fault ≡ None }
+        ensures every { opened.now.note.dropped ≡ false → opened.now.fault ≡ None → (p : PieceOf)
+            → IsBatch (with_picture self.now p opened.now) → IsTrue result }
+    {
+        if opened.note.dropped || opened.fault.is_some() {
+            return false;
+        }
+        self.fits(opened)
+    }
+
+    /// Appends a picture that may be the next one.
+    ///
+    /// # Errors
+    /// Want of memory; the batch is then as it was.
+    pub fn push(&mut self, piece: Piece, opened: Opened) -> Result<(), Memory>
+        requires batch { IsBatch (with_picture self.old piece opened) }
+        ensures value { OnOk result (self.new ≡ with_picture self.old piece opened) }
+        ensures memory { IfErr result (λ e. self.new ≡ self.old) }
+    {
+        self.pictures.push(BatchPicture { piece, opened })?;
+        Ok(())
+    }
+
+    /// The book of the batch.
+    pub fn book(self) -> DecodeBook
+        ensures value { result ≡ self }
+        ensures jobs { jobs_of (headers result)
+            ≡ first_job (headers result) (length self.pictures) }
+    {
+        DecodeBook::for_batch(self.dims, self.pictures, self.frames)
+    }
+}
