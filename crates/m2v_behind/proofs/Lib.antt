@@ -1,0 +1,4 @@
+pub mod IntraLaws
+pub mod RowFrames
+pub mod RebuiltRows
+pub mod NextFrames
