@@ -143,7 +143,7 @@ module _ (b : Batch) (p : ℕ) (x : BatchPicture) (h : IsBatch b) (is : slice_ge
   size : x.opened.dims ≡ b.dims
   size = at_picture (λ (y : BatchPicture). y.opened.dims ≡ b.dims) b p x h.sizes is
 
-  whole_is : (r : ℕ) → r < x.opened.rows → is_rebuilt (value_of b (job r)) ≡ true → IsWhole s refs r us x.opened.fault (row_fault s r us (ending x.piece x.opened)) (outcome_in x refs r)
+  pub whole_is : (r : ℕ) → r < x.opened.rows → is_rebuilt (value_of b (job r)) ≡ true → IsWhole s refs r us x.opened.fault (row_fault s r us (ending x.piece x.opened)) (outcome_in x refs r)
   unfolding outcome_in
   whole_is r lt e = whole_by s refs r us x.opened.fault (row_fault s r us (ending x.piece x.opened)) (ap is_rebuilt (sym (made_is r lt e)) ∙ e)
 
@@ -171,7 +171,7 @@ module _ (b : Batch) (p : ℕ) (x : BatchPicture) (h : IsBatch b) (is : slice_ge
   lines_is : own_lines (header_at (headers b) p).structure ≡ own_lines s.context.extension.structure
   lines_is = ap (λ (y : Header). own_lines y.structure) (header_is b p x is)
 
-  row_at : (r : ℕ) → r < x.opened.rows → is_rebuilt (value_of b (job r)) ≡ true → all_rows b (job r) ≡ Some (row_painted s refs (row_read s r us))
+  pub row_at : (r : ℕ) → r < x.opened.rows → is_rebuilt (value_of b (job r)) ≡ true → all_rows b (job r) ≡ Some (row_painted s refs (row_read s r us))
   row_at r lt e = ap row_of (made_is r lt e) ∙ (whole_is r lt e).samples
 
   -- the first n rows

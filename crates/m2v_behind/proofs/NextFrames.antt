@@ -22,10 +22,11 @@ use Rattle.m2v_batch.specs.Jobs.{header_at, first_job, ends_anchor, newer_before
 use Rattle.m2v_batch.specs.Batches.{Batch, headers, header_of, Rows, with_own, all_set, begun, frame_behind, frame_at, IsBatch}
 use Rattle.m2v_batch.specs.Batches as batches
 use Rattle.m2v_batch.specs.Pieces.{row_of}
+use Rattle.m2v_batch.specs.Painted.{all_rows}
 use Rattle.m2v_batch.proofs.Sizes.{header_is, at_picture}
 use Rattle.m2v_batch.proofs.Anchors.{newer_first, older_first, newer_next, older_next}
 use Rattle.m2v_decoder.specs.Rebuilt.{rows_set}
-use Rattle.m2v_behind.specs.Behind.{all_rows, Tracks, AreRebuilt, IsNoted, frame_made, store_behind}
+use Rattle.m2v_behind.specs.Behind.{Tracks, AreRebuilt, IsNoted, frame_made, store_behind}
 
 -- ---- the first picture
 

@@ -1,9 +1,8 @@
 -- A row of a batch that is rebuilt is what the decoder takes.
-use Rattle.std.proofs.Common.{◌≡◌, ℕ, zero, suc, ◌+◌, ◌-◌, ◌*◌, ◌<◌, ◌≤◌, Bool, true, false, cond, List, [], ◌∷◌, length, Option, Some, None, inl, inr, refl, sym, ap, subst, ◌∙◌, arith}
+use Rattle.std.proofs.Common.{◌≡◌, ℕ, zero, suc, ◌+◌, ◌*◌, ◌<◌, List, [], ◌∷◌, Some, None, inl, inr, refl, sym, ap, subst, ◌∙◌, arith}
 use Rattle.std.specs.Prelude.{nat_eq, slice_get, Ok, Err}
 use Rattle.std.proofs.lemmas.Bool.{cases_Bool, eqb-true}
 use Rattle.std.proofs.lemmas.List.{length-replicate}
-use Rattle.std.proofs.lemmas.Option.{slice_get_within}
 use Rattle.m2v_plane.specs.declared.dims.Dims.{Dims}
 use Rattle.m2v_plane.specs.declared.planes.Plane.{Plane}
 use Rattle.m2v_plane.specs.Samples.{Samples, HasRows, blank, plane_with_square}
@@ -18,68 +17,22 @@ use Rattle.m2v_model.specs.declared.setup.SliceSetup.{SliceSetup}
 use Rattle.m2v_model.specs.Samples.{References, put_in_row, skipped_painted, own_painted, painted, all_painted}
 use Rattle.m2v_model.specs.Slices.{slice_start}
 use Rattle.m2v_model.specs.Pictures.{Store, references_by}
-use Rattle.m2v_piece.specs.declared.answer.Fault.{Fault}
-use Rattle.m2v_rows.specs.Rows.{Slices, Placed, Read, Begun, begun_painted, slices_painted, row_read, row_fault}
-use Rattle.m2v_rows.specs.Opened.{setup_of, slices_of, ending}
+use Rattle.m2v_rows.specs.Rows.{Slices, Read, Begun, begun_painted, slices_painted, row_read}
+use Rattle.m2v_rows.specs.Opened.{setup_of, slices_of}
 use Rattle.m2v_batch.specs.declared.picture.BatchPicture.{BatchPicture}
 use Rattle.m2v_batch.specs.declared.picture.Header.{Header}
-use Rattle.m2v_batch.specs.declared.pieces.DecodePiece.{DecodePiece}
-use Rattle.m2v_batch.specs.declared.pieces.DecodePiece.TheVariants.{After, Rebuilt}
-use Rattle.m2v_batch.specs.Jobs.{header_at, first_job, picture_of_job, row_of_job, needs_of}
+use Rattle.m2v_batch.specs.declared.pieces.DecodePiece.TheVariants.{Rebuilt}
+use Rattle.m2v_batch.specs.Jobs.{header_at, first_job}
 use Rattle.m2v_batch.specs.Batches.{Batch, headers, header_of, references, IsBatch}
-use Rattle.m2v_batch.specs.Below.{first_more}
-use Rattle.m2v_batch.specs.Values.{row_painted, outcome_by, outcome_in, outcome_of, rows_of, are_rebuilt, decoded, value_of}
-use Rattle.m2v_batch.proofs.Sizes.{header_is, count_is, picture_found}
-use Rattle.m2v_batch.proofs.Decoded.{value_made}
+use Rattle.m2v_batch.specs.Pieces.{row_of, is_rebuilt}
+use Rattle.m2v_batch.specs.Values.{row_painted, value_of}
+use Rattle.m2v_batch.specs.Painted.{all_rows}
+use Rattle.m2v_batch.proofs.Sizes.{header_is}
+use Rattle.m2v_batch.proofs.PaintedRows.{row_at, whole_is}
 use Rattle.m2v_decoder.specs.Rebuilt.{IsRebuilt, refs_for}
 use Rattle.m2v_behind.specs.Behind.{Tracks, AreRebuilt}
 use Rattle.m2v_behind.proofs.IntraLaws.{row_same}
 use Rattle.m2v_behind.proofs.RowFrames.{references_are}
-
--- ---- outcomes
-
--- what a rebuilt row tells
-pub record Outcome (s : SliceSetup) (refs : References) (row : ℕ) (us : Slices) (fault : Option Fault) (own : Option Placed) (xs : Samples) : Type 0 where
-  pub fine : own ≡ None
-  pub whole : fault ≡ None
-  pub samples : row_painted s refs (row_read s row us) ≡ xs
-
-by_outcome : (s : SliceSetup) (refs : References) (row : ℕ) (us : Slices) (fault : Option Fault) (own : Option Placed) (xs : Samples) → outcome_by s refs row us fault own ≡ Rebuilt xs → Outcome s refs row us fault own xs
-unfolding outcome_by
-by_outcome s refs row us fault (Some f) xs e = absurd (cc e)
-by_outcome s refs row us (Some g) None xs e = absurd (cc e)
-by_outcome s refs row us None None xs e = record { fine = refl; whole = refl; samples = cc e }
-
-ready_made : (t : Bool) (p : DecodePiece) (xs : Samples) → cond t p After ≡ Rebuilt xs → p ≡ Rebuilt xs
-ready_made true p xs e = e
-ready_made false p xs e = absurd (cc e)
-
-abbrev OutcomeAt : Batch → ℕ → ℕ → BatchPicture → ℕ → Samples → Type 0
-OutcomeAt b j p x r xs =
-    Outcome (setup_of x.opened) (references b (rows_of (decoded b j)) p) r (slices_of x.piece x.opened) x.opened.fault (row_fault (setup_of x.opened) r (slices_of x.piece x.opened) (ending x.piece x.opened)) xs
-
-made_in : (b : Batch) (j p : ℕ) (x : BatchPicture) (r : ℕ) (o : Option BatchPicture) (xs : Samples) → o ≡ Some x → outcome_of o (references b (rows_of (decoded b j)) p) r ≡ Rebuilt xs → OutcomeAt b j p x r xs
-unfolding outcome_of outcome_in
-made_in b j p x r o xs is e =
-    by_outcome _ _ _ _ _ _ xs (subst (λ (y : Option BatchPicture). outcome_of y (references b (rows_of (decoded b j)) p) r ≡ Rebuilt xs) is e)
-
-made_at : (b : Batch) (j p r : ℕ) (x : BatchPicture) (xs : Samples) → picture_of_job (headers b) j ≡ p → row_of_job (headers b) j ≡ r → slice_get b.pictures p ≡ Some x → value_of b j ≡ Rebuilt xs → OutcomeAt b j p x r xs
-made_at b j p r x xs own row is e =
-    let out = λ (q k : ℕ). outcome_of (slice_get b.pictures q) (references b (rows_of (decoded b j)) q) k in
-    let made : out (picture_of_job (headers b) j) (row_of_job (headers b) j) ≡ Rebuilt xs =
-    ready_made (are_rebuilt (decoded b j) (needs_of (headers b) j)) _ xs (sym (value_made b j) ∙ e) in
-    made_in b j p x r (slice_get b.pictures p) xs is (sym (λ i. out (own i) (row i)) ∙ made)
-
--- a picture's row is its job's
-pub outcome_is : (b : Batch) (p r : ℕ) (x : BatchPicture) (xs : Samples) → slice_get b.pictures p ≡ Some x → r < (header_at (headers b) p).rows → value_of b (first_job (headers b) p + r) ≡ Rebuilt xs
-    → OutcomeAt b (first_job (headers b) p + r) p x r xs
-outcome_is b p r x xs is lt e =
-    let hs = headers b in
-    let j = first_job hs p + r in
-    let there : p < length hs = omega (arith, slice_get_within b.pictures p x is, count_is b) in
-    let own : picture_of_job hs j ≡ p = picture_found hs (length hs) p j there (omega arith) (omega (arith, lt, first_more hs p)) in
-    let row : row_of_job hs j ≡ r = ap (λ (q : ℕ). j - first_job hs q) own ∙ omega arith in
-    made_at b j p r x xs own row is e
 
 -- ---- sizes
 
@@ -135,48 +88,48 @@ unfolding row_painted
 painted_ok s refs r xs n e = ap (row_painted s refs) e
 
 -- a row that was read is painted by the frames at hand as by those of the batch
-row_painted_same : (b : Batch) (p n : ℕ) (store : Store) (s : SliceSetup) (h : Header) (row : ℕ) (us : Slices) (xs : List Begun) (end : ℕ) → IsBatch b → first_job (headers b) p ≤ n → Tracks b p store
+row_painted_same : (b : Batch) (p : ℕ) (store : Store) (s : SliceSetup) (h : Header) (row : ℕ) (us : Slices) (xs : List Begun) (end : ℕ) → Tracks b p store
     → header_at (headers b) p ≡ h → s.context.kind ≡ h.kind → row_read s row us ≡ Ok (xs, end)
-    → slices_painted put_in_row s (references b (rows_of (decoded b n)) p) (blank s.dims 1) xs ≡ slices_painted put_in_row s (references_by h.kind h.second h.structure store) (blank s.dims 1) xs
-row_painted_same b p n store s h row us xs end is le tracks e kind read = elim (cases_Bool (nat_eq h.kind 1)) [
+    → slices_painted put_in_row s (references b (all_rows b) p) (blank s.dims 1) xs ≡ slices_painted put_in_row s (references_by h.kind h.second h.structure store) (blank s.dims 1) xs
+row_painted_same b p store s h row us xs end tracks e kind read = elim (cases_Bool (nat_eq h.kind 1)) [
   | inl one ↦
-      row_same put_in_row s (references b (rows_of (decoded b n)) p) (references_by h.kind h.second h.structure store) row us (blank s.dims 1) xs end (kind ∙ eqb-true h.kind 1 one) read
+      row_same put_in_row s (references b (all_rows b) p) (references_by h.kind h.second h.structure store) row us (blank s.dims 1) xs end (kind ∙ eqb-true h.kind 1 one) read
   | inr other ↦
-      let are = references_are b p n store is le tracks (ap (λ (y : Header). nat_eq y.kind 1) e ∙ other)
+      let are = references_are b p store tracks (ap (λ (y : Header). nat_eq y.kind 1) e ∙ other)
       ∙ ap (λ (y : Header). references_by y.kind y.second y.structure store) e in
       ap (λ (refs : References). slices_painted put_in_row s refs (blank s.dims 1) xs) are
 ]
 
 -- ---- rows
 
-taken : (b : Batch) (p n r : ℕ) (x : BatchPicture) (store : Store) (row : Samples) → IsBatch b → first_job (headers b) p ≤ n → slice_get b.pictures p ≡ Some x → Tracks b p store
-    → OutcomeAt b n p x r row → IsRebuilt (refs_for x.opened store) x.piece x.opened r row
-taken b p n r x store row h le is tracks out =
+some_same : (x y : Samples) → Some x ≡ Some y → x ≡ y
+some_same x y e = cc e
+
+-- a row that is rebuilt is what the decoder takes
+pub row_rebuilt : (b : Batch) (p r : ℕ) (x : BatchPicture) (store : Store) (row : Samples) → IsBatch b → slice_get b.pictures p ≡ Some x → Tracks b p store → r < x.opened.rows
+    → value_of b (first_job (headers b) p + r) ≡ Rebuilt row → IsRebuilt (refs_for x.opened store) x.piece x.opened r row
+row_rebuilt b p r x store row h is tracks lt own =
     let s = setup_of x.opened in
     let us = slices_of x.piece x.opened in
-    let refs = references b (rows_of (decoded b n)) p in
-    let whole = subst (IsRow s.dims) out.samples (painted_row s refs (row_read s r us)) in
+    let refs = references b (all_rows b) p in
+    let rebuilt = ap is_rebuilt own in
+    let samples : row_painted s refs (row_read s r us) ≡ row = some_same _ row (sym (row_at b p x h is r lt rebuilt) ∙ ap row_of own) in
+    let whole = subst (IsRow s.dims) samples (painted_row s refs (row_read s r us)) in
     record {
-      fine = out.fine;
+      fine = (whole_is b p x h is r lt rebuilt).none;
       one = whole.one;
       size = whole.dims;
       painted = λ xs read. (
         blank s.dims 1,
         (blank_row s.dims).one,
         refl,
-        sym out.samples ∙ painted_ok s refs (row_read s r us) xs _ read
-            ∙ row_painted_same b p n store s (header_of x) r us xs _ h le tracks (header_is b p x is) refl read,
+        sym samples ∙ painted_ok s refs (row_read s r us) xs _ read
+            ∙ row_painted_same b p store s (header_of x) r us xs _ tracks (header_is b p x is) refl read,
       );
     }
 
 pub small_row : (b : Batch) (p r : ℕ) (x : BatchPicture) → slice_get b.pictures p ≡ Some x → r < x.opened.rows → r < (header_at (headers b) p).rows
 small_row b p r x is lt = omega (arith, lt, ap (λ (y : Header). y.rows) (header_is b p x is))
-
--- a row that is rebuilt is what the decoder takes
-pub row_rebuilt : (b : Batch) (p r : ℕ) (x : BatchPicture) (store : Store) (row : Samples) → IsBatch b → slice_get b.pictures p ≡ Some x → Tracks b p store → r < x.opened.rows
-    → value_of b (first_job (headers b) p + r) ≡ Rebuilt row → IsRebuilt (refs_for x.opened store) x.piece x.opened r row
-row_rebuilt b p r x store row h is tracks lt own =
-    taken b p (first_job (headers b) p + r) r x store row h (omega arith) is tracks (outcome_is b p r x row is (small_row b p r x is lt) own)
 
 -- all rows of a picture
 pub rows_rebuilt : (b : Batch) (p : ℕ) (x : BatchPicture) (store : Store) (samples : ℕ → Samples) → IsBatch b → slice_get b.pictures p ≡ Some x → Tracks b p store → AreRebuilt b p samples
@@ -184,5 +137,5 @@ pub rows_rebuilt : (b : Batch) (p : ℕ) (x : BatchPicture) (store : Store) (sam
 rows_rebuilt b p x store samples h is tracks each r lt = row_rebuilt b p r x store (samples r) h is tracks lt (each r (small_row b p r x is lt))
 
 -- a picture of which a row is rebuilt has no fault of its headers
-pub none_faulty : (b : Batch) (p r : ℕ) (x : BatchPicture) (row : Samples) → slice_get b.pictures p ≡ Some x → r < x.opened.rows → value_of b (first_job (headers b) p + r) ≡ Rebuilt row → x.opened.fault ≡ None
-none_faulty b p r x row is lt own = (outcome_is b p r x row is (small_row b p r x is lt) own).whole
+pub none_faulty : (b : Batch) (p r : ℕ) (x : BatchPicture) (row : Samples) → IsBatch b → slice_get b.pictures p ≡ Some x → r < x.opened.rows → value_of b (first_job (headers b) p + r) ≡ Rebuilt row → x.opened.fault ≡ None
+none_faulty b p r x row h is lt own = (whole_is b p x h is r lt (ap is_rebuilt own)).headers_none

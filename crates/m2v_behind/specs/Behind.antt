@@ -5,14 +5,10 @@ use Rattle.m2v_model.specs.Pictures.{Store}
 use Rattle.m2v_rows.specs.declared.opened.Opened.{Opened}
 use Rattle.m2v_batch.specs.declared.pieces.DecodePiece.TheVariants.{Rebuilt}
 use Rattle.m2v_batch.specs.Jobs.{header_at, first_job, newer_before, older_before, first_field}
-use Rattle.m2v_batch.specs.Batches.{Batch, headers, Rows, frame_at}
-use Rattle.m2v_batch.specs.Pieces.{row_of}
+use Rattle.m2v_batch.specs.Batches.{Batch, headers, frame_at}
 use Rattle.m2v_batch.specs.Values.{value_of}
+use Rattle.m2v_batch.specs.Painted.{all_rows}
 use Rattle.m2v_decoder.specs.Rebuilt.{rows_set, frame_begun, frames_behind}
-
--- the rows of a batch that are rebuilt, once all are done
-abbrev pub all_rows : Batch → Rows
-all_rows b j = row_of (value_of b j)
 
 -- The frames at hand before picture p are those of the batch: the last two anchors, and before a second field the frame of
 -- its first field.

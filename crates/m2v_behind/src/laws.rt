@@ -28,7 +28,7 @@ pub fn law_rows_behind()
         → (r : ℕ) → r < x.opened.rows
         → IsRebuilt (refs_for x.opened store) x.piece x.opened r (samples r) }
     ensures whole { (b : Batch) (p : ℕ) (x : BatchPicture) (samples : ℕ → Samples)
-        → slice_get b.pictures p ≡ Some x → AreRebuilt b p samples
+        → IsBatch b → slice_get b.pictures p ≡ Some x → AreRebuilt b p samples
         → 0 < x.opened.rows → x.opened.fault ≡ None }
 {}
 
