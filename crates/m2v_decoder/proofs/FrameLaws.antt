@@ -26,11 +26,11 @@ use Rattle.m2v_decoder.specs.Course.{IsOpen, HasFrame, FitsOpen, HaveSizes, HasF
 -- ---- the first field that waits
 
 -- which first field is dropped stays as it was
-field_same : (st z : State) (w : Option FirstField) (c : Option Samples) → ((k : ℕ) → drops z k ≡ drops st k) → HasFirstField st w c → HasFirstField z w c
+pub field_same : (st z : State) (w : Option FirstField) (c : Option Samples) → ((k : ℕ) → drops z k ≡ drops st k) → HasFirstField st w c → HasFirstField z w c
 field_same st z None c e h = tt
 field_same st z (Some w) c e h = λ off. h (sym (e w.kind) ∙ off)
 
-no_field : (z : State) (w : Option FirstField) (c : Option Samples) → none_waits w ≡ true → HasFirstField z w c
+pub no_field : (z : State) (w : Option FirstField) (c : Option Samples) → none_waits w ≡ true → HasFirstField z w c
 no_field z None c e = tt
 no_field z (Some w) c e = absurd cc
 
@@ -48,7 +48,7 @@ kept_first st w kind follows off = elim (cases_Bool (nat_eq kind w)) [
       rw one refl
 ]
 
-waiting_there : (st : State) (w : Option FirstField) (info : PictureInfo) (extension : PictureExtension) (c : Option Samples) → is_second_field_due w info extension ≡ true → HasFirstField st w c → drops st info.kind ≡ false → is_some w ≡ true → IsSome c
+pub waiting_there : (st : State) (w : Option FirstField) (info : PictureInfo) (extension : PictureExtension) (c : Option Samples) → is_second_field_due w info extension ≡ true → HasFirstField st w c → drops st info.kind ≡ false → is_some w ≡ true → IsSome c
 waiting_there st None info extension c due h off some = absurd cc
 waiting_there st (Some w) info extension c due h off some =
     let rest = (and_parts (not (is_frame extension)) (not (nat_eq extension.structure w.structure) && may_follow w.kind info.kind) due).1 in
@@ -69,10 +69,10 @@ rests st z f h none anchors field =
       first_field = field;
     }
 
-waits : (st : State) (f : Frames) → AreSound st f → st.picture ≡ None → HasFirstField st st.waiting f.current
+pub waits : (st : State) (f : Frames) → AreSound st f → st.picture ≡ None → HasFirstField st st.waiting f.current
 waits st f h none = (subst (λ (o : Option Open). HasAnchors st (picture_ended o (store_of f))) none h.anchors).first_field
 
-reads_none : (st : State) (f : Frames) → AreSound st f → st.picture ≡ None → f.reading ≡ None
+pub reads_none : (st : State) (f : Frames) → AreSound st f → st.picture ≡ None → f.reading ≡ None
 reads_none st f h none = subst (λ (o : Option Open). FitsOpen o st.sequence f) none h.fits
 
 -- the frame of the first field is there, where a second field's slices are read
@@ -105,9 +105,9 @@ ended_none st f h none = subst (λ (z : State). AreSound z f) (rest_same st none
 -- ---- headers
 
 none_sized : (d : Dims) → HaveSize d none_at_hand
-none_sized d = record { older = tt; newer = tt; current = tt; first_field = tt }
+none_sized d = record { older = tt; newer = tt; current = tt; first_field = tt; whole = tt }
 
-sizes_next : (first z : Option Sequence) (s : Sequence) (f : Frames) → HaveSizes first z f → IsSize (dims_of s) → is_same_sequence first s ≡ true → HaveSizes (Some (first_or first s)) (Some s) f
+pub sizes_next : (first z : Option Sequence) (s : Sequence) (f : Frames) → HaveSizes first z f → IsSize (dims_of s) → is_same_sequence first s ≡ true → HaveSizes (Some (first_or first s)) (Some s) f
 sizes_next (Some first) (Some z) s f h size same =
     let e = same_dims first s same in
     (size, e, subst (λ (d : Dims). HaveSize d f) (sym h.1 ∙ e) h.2)
@@ -152,7 +152,7 @@ loaded st m f h matrices =
 -- ---- a picture begins
 
 -- the frames that a picture leaves, which ends its frame or not, and is a B picture or not
-left_by : Bool → Bool → Store → Store
+unfoldable pub left_by : Bool → Bool → Store → Store
 left_by ends b store = if ends then (if b then record store { current = None } else record store { older = store.newer; newer = store.current; current = None }) else store
 
 one_more : (a : ℕ) → 2 ≤ one_anchor_more a → 1 ≤ a
@@ -161,7 +161,7 @@ one_more a le = elim (cases_Bool (nat_lt a 2)) [
   | inr e ↦ let l = ltb-false a 2 e in omega (arith, l)
 ]
 
-begun_anchors : (ends b : Bool) (z : State) (anchors kind structure : ℕ) (f g : Store)
+pub begun_anchors : (ends b : Bool) (z : State) (anchors kind structure : ℕ) (f g : Store)
     → z.anchors ≡ (if ends && not b then one_anchor_more anchors else anchors) → z.waiting ≡ (if ends then None else Some (record { kind = kind; structure = structure }))
     → g.older ≡ f.older → g.newer ≡ f.newer → (drops z kind ≡ false → IsSome g.current) → (b ≡ false → IsSome g.current)
     → (1 ≤ anchors → IsSome f.newer) → (2 ≤ anchors → IsSome f.older) → HasAnchors z (left_by ends b g)

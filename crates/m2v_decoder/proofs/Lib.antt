@@ -5,3 +5,6 @@ pub mod FrameLaws
 pub mod CourseLaws
 pub mod StepLaws
 pub mod ReadLaws
+pub mod TakeLaws
+pub mod TookLaws
+pub mod OnwardLaws

@@ -1,5 +1,6 @@
 -- A decoder at work in a piece: what a part of the stream does to it.
 use Rattle.std.specs.Prelude.{◌≡◌, ℕ, ◌+◌, ◌^◌, ◌≤◌, true, false, ◌||◌, List, [], ◌∷◌, ◌++◌, length, map, Bool, Option, Some, None, IsSome, option_to_list, Result, Ok, Err, if◌then◌else◌}
+use Rattle.m2v_plane.specs.declared.dims.Dims.{Dims}
 use Rattle.m2v_plane.specs.Sizes.{IsSize}
 use Rattle.m2v_plane.specs.Samples.{Samples}
 use Rattle.m2v_head.specs.Fits.{PictureFits}
@@ -14,7 +15,7 @@ use Rattle.m2v_model.specs.declared.notes.PictureNote.{PictureNote}
 use Rattle.m2v_model.specs.Units.{Units, unit_bits, body}
 use Rattle.m2v_model.specs.Slices.{Slice, slice_at, large_in}
 use Rattle.m2v_model.specs.Streams.{Part, after}
-use Rattle.m2v_model.specs.States.{dims_of, is_b, drops, slice_setup, after_end}
+use Rattle.m2v_model.specs.States.{dims_of, is_b, is_frame_end, drops, slice_setup, after_end}
 use Rattle.m2v_model.specs.Pictures.{Store, Events, pictures_in, closed, picture_ended, picture_begun, sliced, told_by, store_after}
 use Rattle.m2v_model.specs.Lawful.{sequences_in}
 use Rattle.m2v_model.specs.PieceNotes.{PieceNotes, noted, header_pair, has_group, first_note}
@@ -164,6 +165,22 @@ pub record Counted (old : Course) (p : Open) (new : Course) : Type 0 where
   pub queue : new.queue ≡ old.queue
   pub state : new.state ≡ old.state
   pub gallery : new.gallery ≡ old.gallery
+
+-- a picture ended: it is counted and noted, and its frame shown at once or held
+pub record Ended (old : Course) (p : Open) (new : Course) : Type 0 where
+  pub frame : Option Samples
+  pub frame_is : frame ≡ (if is_frame_end p then old.gallery.current else None)
+  pub store : store_of new.gallery ≡ picture_ended (Some p) (store_of old.gallery)
+  pub reading : new.gallery.reading ≡ None
+  pub sizes : (d : Dims) → HaveSize d old.gallery → HaveSize d new.gallery
+  pub ready : new.ready.items ≡ old.ready.items ++ handed old.queue (frame_list frame p.info.kind)
+  pub queue : new.queue ≡ held_after old.queue (frame_list frame p.info.kind)
+  pub pictures : new.pictures ≡ old.pictures + 1
+  pub dropped : new.dropped ≡ old.dropped + (if p.dropped then 1 else 0)
+  pub notes : (store : Store) → noted new.notes ≡ with_events old.code_end (noted old.notes) (closed (Some p) store)
+  pub code_end : new.code_end ≡ old.code_end
+  pub shown : new.shown ≡ old.shown
+  pub state : new.state ≡ old.state
 
 -- the picture that was open is whole
 pub record Closed (old new : Course) : Type 0 where

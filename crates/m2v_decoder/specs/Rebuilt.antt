@@ -1,8 +1,7 @@
 -- A picture whose rows were read by themselves, taken into a decoder.
-use Rattle.std.specs.Prelude.{◌≡◌, ℕ, zero, suc, ◌+◌, false, if◌then◌else◌, List, Option, Some, None, Ok}
-use Rattle.m2v_plane.specs.Samples.{Samples, HasRows, with_row, blank}
+use Rattle.std.specs.Prelude.{◌≡◌, ℕ, ◌+◌, false, if◌then◌else◌, List, Option, Some, None, Ok}
+use Rattle.m2v_plane.specs.Samples.{Samples, HasRows, blank}
 use Rattle.m2v_plane.specs.Fields.{or_none}
-use Rattle.m2v_pred.specs.Motion.{own_lines}
 use Rattle.m2v_model.specs.declared.state.Open.{Open}
 use Rattle.m2v_model.specs.Samples.{References, put_in_row}
 use Rattle.m2v_model.specs.Pictures.{Store, references_by, picture_ended}
@@ -10,6 +9,7 @@ use Rattle.m2v_piece.specs.declared.answer.Piece.{Piece}
 use Rattle.m2v_rows.specs.declared.opened.Opened.{Opened}
 use Rattle.m2v_rows.specs.Rows.{Begun, first_of, row_read, row_fault, slices_painted}
 use Rattle.m2v_rows.specs.Opened.{setup_of, slices_of, ending}
+pub use Rattle.m2v_rows.specs.InFrames.{rows_set}
 
 -- ---- rows
 
@@ -26,11 +26,6 @@ abbrev pub refs_for : Opened → Store → References
 refs_for o store = references_by o.context.kind o.context.second o.context.extension.structure store
 
 -- ---- frames
-
--- a frame with the first n rows of a picture set, of a field picture as rows of its field
-unfoldable pub rows_set : ℕ → (ℕ → Samples) → ℕ → Samples → Samples
-rows_set structure row zero frame = frame
-rows_set structure row (suc n) frame = with_row (rows_set structure row n frame) (own_lines structure) n (row n)
 
 -- the frame before its rows are set: samples 0, or those of its first field
 abbrev pub frame_begun : Opened → Option Samples → Samples

@@ -7,7 +7,7 @@ ghost use Rattle.m2v_unit.specs.Among.{HeaderFits, HeaderFollows, part_of};
 ghost use Rattle.m2v_model.specs.States.{first_or};
 ghost use Rattle.m2v_model.specs.Decoding.{low_delay_of};
 ghost use Rattle.m2v_decoder.specs.Decoding.{queue_of};
-ghost use Rattle.m2v_decoder.specs.Course.{note_or as first_of, IsFresh, IsSoundCourse, Steps, Showed, Counted, Closed, Begun};
+ghost use Rattle.m2v_decoder.specs.Course.{note_or as first_of, IsFresh, IsSoundCourse, Steps, Showed, Counted, Ended, Closed, Begun};
 
 use crate::Memory;
 use m2v_head::{GroupInfo, MatrixInfo, PictureExtension, PictureInfo};
@@ -86,6 +86,17 @@ impl Course {
         self.notes.picture = note_or(self.notes.picture, p, self.code_end);
     }
 
+    /// A picture ends, whose frame is whole.
+    pub fn finish(&mut self, alloc: Global, p: &Open) -> Result<(), Memory>
+        requires counted { self.old.pictures < 2 ^ 62 }
+        requires dropped { self.old.dropped ≤ self.old.pictures }
+        ensures { OnOk result (Ended self.old p.now self.new) }
+    {
+        let frame = self.gallery.end(alloc, p)?;
+        self.count(p);
+        self.show(frame, p.info.kind)
+    }
+
     /// The picture that is open ends.
     fn end(&mut self, alloc: Global, p: &Open) -> Result<(), Memory>
         requires sound { IsSoundCourse self.old }
@@ -93,9 +104,7 @@ impl Course {
         requires open { self.old.state.picture ≡ Some p.now }
         ensures { OnOk result (Closed self.old self.new) }
     {
-        let frame = self.gallery.end(alloc, p)?;
-        self.count(p);
-        self.show(frame, p.info.kind)?;
+        self.finish(alloc, p)?;
         self.state.picture = None;
         Ok(())
     }
@@ -113,7 +122,7 @@ impl Course {
     }
 
     /// The frames on their way behind a sequence header: low_delay is that of the first one's extension.
-    fn open_queue(&mut self, s: &Sequence)
+    pub fn open_queue(&mut self, s: &Sequence)
         requires fresh { IsFresh self.old.state.first self.old.queue.anchor }
         requires low { self.old.queue.low_delay ≡ low_delay_of self.old.state.first }
         ensures low { self.new.queue.low_delay

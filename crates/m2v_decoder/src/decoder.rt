@@ -1,17 +1,22 @@
-ghost use Rattle.std.specs.Prelude.{◌≡◌, ◌+◌, ◌*◌, ◌≤◌, ◌^◌, [], IfOk, IfErr, IfSome, OnOk, MatchOption, Ok, Err, true, false};
+ghost use Rattle.std.specs.Prelude.{◌≡◌, ℕ, ◌+◌, ◌*◌, ◌<◌, ◌≤◌, ◌^◌, [], Some, None, IfOk, IfErr, IfSome, OnOk, MatchOption, Ok, Err, true, false};
+ghost use Rattle.m2v_model.specs.Units.{cut};
 ghost use Rattle.m2v_model.specs.ByPieces.{end_read};
+ghost use Rattle.m2v_picture.specs.Frames.{store_of};
 ghost use Rattle.m2v_piece.specs.Sound.{IsSoundPiece};
 ghost use Rattle.m2v_rows.specs.Opened.{IsOpened};
 ghost use Rattle.m2v_headers.specs.Headers.{TellsHeaders};
-ghost use Rattle.m2v_decoder.specs.Decoding.{at_start, between, due_of, whole_of, CanSkim, Advanced, Refuses, HandsOut, Finished};
+ghost use Rattle.m2v_halves.specs.OnePicture.{HasOnePicture};
+ghost use Rattle.m2v_decoder.specs.Decoding.{at_start, between, due_of, whole_of, CanSkim, Advanced, Onward, Refuses, HandsOut, Finished};
+ghost use Rattle.m2v_decoder.specs.Rebuilt.{IsRebuilt, refs_for, rows_set, frame_begun, frames_behind};
 
 use crate::Memory;
 use crate::course::Course;
 use crate::halt::Halt;
 use crate::notes::nothing_noted;
 use crate::reading::text_ends;
+use crate::rebuilt::PictureRows;
 use m2v_headers::read_headers;
-use m2v_model::Notes;
+use m2v_model::{Notes, State};
 use m2v_order::DisplayQueue;
 use m2v_picture::Gallery;
 use m2v_piece::{DecodeError, Fault, Piece};
@@ -145,6 +150,45 @@ impl Decoder {
                 }))
             }
         }
+    }
+
+    /// Takes in a piece whose picture was read elsewhere: its headers, which left a state, and its rows, each by itself. It
+    /// does what `piece` does, reads nothing of the piece and notes nothing of it.
+    ///
+    /// # Errors
+    /// Want of memory. No call may follow then.
+    pub fn rebuilt<R: PictureRows>(
+        &mut self,
+        alloc: Global,
+        piece: &Piece,
+        opened: &Opened,
+        after: &State,
+        rows: &R,
+    ) -> Result<(), Memory>
+        requires piece { IsSoundPiece piece.now }
+        requires one { HasOnePicture (cut 0 (whole_of piece.now)).1 }
+        requires going { self.old.failed ≡ false }
+        requires before { self.old.ended ≡ false }
+        requires counted { self.old.pictures + piece.now.length ≤ 2 ^ 60 }
+        requires told { TellsHeaders self.old.state piece.now (Ok (Some opened.now)) after.now }
+        requires opened { IsOpened piece.now opened.now }
+        requires read { opened.now.note.dropped ≡ false }
+        requires whole { opened.now.fault ≡ None }
+        requires rows { (r : ℕ) → r < opened.now.rows
+            → IsRebuilt (refs_for opened.now (store_of self.old.frames)) piece.now opened.now r
+            (R.samples rows.now r) }
+        requires there { (r : ℕ) → r < opened.now.rows → R.there rows.now r }
+        ensures ok { OnOk result (Onward self.old piece.now.place (whole_of piece.now) self.new) }
+        ensures frames { OnOk result (store_of self.new.frames ≡ frames_behind opened.now
+            (rows_set opened.now.context.extension.structure (R.samples rows.now) opened.now.rows
+            (frame_begun opened.now self.old.frames.current)) (store_of self.old.frames)) }
+        ensures state { OnOk result (self.new.state
+            ≡ record after.now { headers_only = false }) }
+    {
+        self.failed = true;
+        self.course.take_in(alloc, opened, after, rows)?;
+        self.failed = false;
+        Ok(())
     }
 
     /// Moves past a piece by its headers alone, and decodes none of its samples. Answers the picture in it, whose rows

@@ -1,10 +1,19 @@
 //! A picture whose rows were read elsewhere, taken into a decoder.
-ghost use Rattle.std.specs.Prelude.{◌≡◌, ℕ};
-ghost use Rattle.m2v_decoder.specs.Rebuilt.{open_of as picture_of};
+ghost use Rattle.std.specs.Prelude.{◌≡◌, ◌+◌, ◌*◌, ◌^◌, ◌<◌, ◌≤◌, ℕ, IfSome, OnOk};
+ghost use Rattle.m2v_model.specs.Pictures.{on_frame};
+ghost use Rattle.m2v_picture.specs.Conditions.{rows_in};
+ghost use Rattle.m2v_rows.specs.Opened.{setup_of};
+ghost use Rattle.m2v_decoder.specs.Rebuilt.{open_of as picture_of, rows_set, frame_begun};
+ghost use Rattle.m2v_decoder.specs.Taking.{CanTake, TookIn};
 
-use m2v_model::Open;
+use crate::Memory;
+use crate::course::Course;
+use m2v_model::{Open, State};
+use m2v_picture::Gallery;
 use m2v_plane::RowSamples;
+use m2v_pred::own_lines;
 use m2v_rows::Opened;
+use std::alloc::Global;
 
 /// The rows of a picture that were read elsewhere.
 pub trait PictureRows {
@@ -38,5 +47,57 @@ fn open_of(opened: &Opened) -> Open
         covered: 0,
         large_macroblocks: 0,
         crowded_row: 0,
+    }
+}
+
+/// Sets the rows of a picture into the frame that is open, of a field picture as rows of its field.
+fn set_rows<R: PictureRows>(gallery: &mut Gallery, opened: &Opened, rows: &R)
+    requires count { opened.now.rows ≡ rows_in (setup_of opened.now) }
+    requires size { IfSome gallery.old.current (λ f. f.dims ≡ opened.now.dims) }
+    requires same { (r : ℕ) → r < opened.now.rows → (R.samples rows.now r).dims ≡ opened.now.dims }
+    requires there { (r : ℕ) → r < opened.now.rows → R.there rows.now r }
+    ensures { gallery.new ≡ record gallery.old {
+      current = on_frame (rows_set opened.now.context.extension.structure (R.samples rows.now)
+          opened.now.rows) gallery.old.current;
+    } }
+{
+    let lines = own_lines(opened.context.extension.structure);
+    for row in 0..opened.rows {
+        gallery.set_row(lines, row, rows.row(row));
+    }
+}
+
+impl Course {
+    /// Takes in a picture whose rows were read elsewhere, behind the headers that lead to it. Where memory runs out the
+    /// decoder is good for nothing.
+    pub fn take_in<R: PictureRows>(
+        &mut self,
+        alloc: Global,
+        opened: &Opened,
+        after: &State,
+        rows: &R,
+    ) -> Result<(), Memory>
+        requires can { CanTake self.old opened.now after.now }
+        requires counted { self.old.pictures < 2 ^ 62 }
+        requires dropped { self.old.dropped ≤ self.old.pictures }
+        requires count { opened.now.rows ≡ rows_in (setup_of opened.now) }
+        requires same { (r : ℕ) → r < opened.now.rows
+            → (R.samples rows.now r).dims ≡ opened.now.dims }
+        requires there { (r : ℕ) → r < opened.now.rows → R.there rows.now r }
+        ensures { OnOk result (TookIn self.old opened.now after.now
+            (rows_set opened.now.context.extension.structure (R.samples rows.now) opened.now.rows
+            (frame_begun opened.now self.old.gallery.current)) self.new) }
+    {
+        // a picture is read behind a sequence header alone, so this doesn't come
+        let (Some(first), Some(sequence)) = (after.first, after.sequence) else {
+            return Ok(());
+        };
+        let picture = open_of(opened);
+        self.open_queue(&first);
+        self.gallery.begin(alloc, &sequence, &picture)?;
+        set_rows(&mut self.gallery, opened, rows);
+        self.state = *after;
+        self.state.headers_only = false;
+        self.finish(alloc, &picture)
     }
 }

@@ -13,7 +13,7 @@ use Rattle.m2v_head.specs.Fits.{SequenceExtensionFits}
 use Rattle.m2v_model.specs.declared.state.Sequence.{Sequence}
 use Rattle.m2v_model.specs.declared.state.State.{State}
 use Rattle.m2v_model.specs.Units.{Units, unit_bits, body}
-use Rattle.m2v_model.specs.States.{dims_of}
+use Rattle.m2v_model.specs.States.{dims_of, is_same_sequence, none_waits, is_second_field_due}
 use Rattle.m2v_model.specs.Headers.{whole_header, sequence_extension_in}
 use Rattle.m2v_model.specs.Streams.{Part, sequence, group, picture, matrices, slice, unread_slice, skipped_unit, ending, over, value_of, id_at, sequence_unit, group_unit, picture_unit, matrix_unit, extension_unit, slice_unit, end_unit, close, no_second_field_due, onward, final, later_unit, known_unit, text_end}
 use Rattle.m2v_model.specs.ByPieces.{unit_read}
@@ -75,19 +75,19 @@ read_size info e f = whole_size info e (body f.unit) f.end ((whole_header_lawful
 
 -- ---- what a unit is, and what stands behind it
 
-abbrev pub FirstPart : Option Sequence → Bool → Part → Units → Type 0
-FirstPart q m (sequence s) mid = (m ≡ true) × HasOnePicture mid × IsSize (dims_of s)
-FirstPart q m (group g) mid = (m ≡ true) × HasOnePicture mid
-FirstPart q m (picture info extension) mid = (m ≡ true) × NoneBegins mid × (is_some q ≡ true)
-FirstPart q m (matrices x) mid = ⊥
-FirstPart q m (slice row x) mid = ⊥
-FirstPart q m (unread_slice row u) mid = ⊥
-FirstPart q m (skipped_unit u) mid = (m ≡ true) × HasOnePicture mid
-FirstPart q m ending mid = m ≡ false
-FirstPart q m over mid = m ≡ false
+abbrev pub FirstPart : State → Option Sequence → Bool → Part → Units → Type 0
+FirstPart z q m (sequence s) mid = (m ≡ true) × HasOnePicture mid × IsSize (dims_of s) × (is_same_sequence z.first s ≡ true)
+FirstPart z q m (group g) mid = (m ≡ true) × HasOnePicture mid × (none_waits z.waiting ≡ true)
+FirstPart z q m (picture info extension) mid = (m ≡ true) × NoneBegins mid × (is_some q ≡ true) × (is_second_field_due z.waiting info extension ≡ true)
+FirstPart z q m (matrices x) mid = ⊥
+FirstPart z q m (slice row x) mid = ⊥
+FirstPart z q m (unread_slice row u) mid = ⊥
+FirstPart z q m (skipped_unit u) mid = (m ≡ true) × HasOnePicture mid
+FirstPart z q m ending mid = m ≡ false
+FirstPart z q m over mid = m ≡ false
 
-abbrev pub First : Option Sequence → Bool × Part → Units → Type 0
-First q x mid = FirstPart q x.0 x.1 mid
+abbrev pub First : State → Option Sequence → Bool × Part → Units → Type 0
+First z q x mid = FirstPart z q x.0 x.1 mid
 
 none_tail : (u : List ℕ) (us : Units) → NoneBegins (u ∷ us) → NoneBegins us
 none_tail u us n = n.1
@@ -95,24 +95,24 @@ none_tail u us n = n.1
 one_tail : (u : List ℕ) (us : Units) → HasOnePicture (u ∷ us) → HasOnePicture us
 one_tail u us n = n.1
 
-sequence_first : (z : State) (q : Option Sequence) (start : ℕ) (u : List ℕ) (t : Units) → HasOnePicture t → Holding (First q) (onward (sequence_unit (shut z q false) start u)) t
+sequence_first : (z : State) (q : Option Sequence) (start : ℕ) (u : List ℕ) (t : Units) → HasOnePicture t → Holding (First z q) (onward (sequence_unit (shut z q false) start u)) t
 unfolding sequence_unit close no_second_field_due
 sequence_first z q start u t h =
     onward_holds (rule_then _ _ _ _ (λ closed. rule_then _ _ _ _ (λ paired. inside_then _ _ _ (λ info end got.
-    extended_then HasOnePicture _ _ _ h one_tail (λ extension mid one from. rule_then _ _ _ _ (λ same. done_holds _ (refl, one, read_size info extension from)))))))
+    extended_then HasOnePicture _ _ _ h one_tail (λ extension mid one from. rule_then _ _ _ _ (λ same. done_holds _ (refl, one, read_size info extension from, same)))))))
 
-group_first : (z : State) (q : Option Sequence) (start : ℕ) (u : List ℕ) (t : Units) → HasOnePicture t → Holding (First q) (onward (group_unit (shut z q false) start u)) t
+group_first : (z : State) (q : Option Sequence) (start : ℕ) (u : List ℕ) (t : Units) → HasOnePicture t → Holding (First z q) (onward (group_unit (shut z q false) start u)) t
 unfolding group_unit close no_second_field_due
 group_first z q start u t h =
-    onward_holds (rule_then _ _ _ _ (λ closed. rule_then _ _ _ _ (λ paired. inside_then _ _ _ (λ g end got. done_holds _ (refl, h)))))
+    onward_holds (rule_then _ _ _ _ (λ closed. rule_then _ _ _ _ (λ paired. inside_then _ _ _ (λ g end got. done_holds _ (refl, h, paired)))))
 
-picture_first : (z : State) (q : Option Sequence) (start : ℕ) (u : List ℕ) (t : Units) → NoneBegins t → is_some q ≡ true → Holding (First q) (onward (picture_unit (shut z q false) start u)) t
+picture_first : (z : State) (q : Option Sequence) (start : ℕ) (u : List ℕ) (t : Units) → NoneBegins t → is_some q ≡ true → Holding (First z q) (onward (picture_unit (shut z q false) start u)) t
 unfolding picture_unit close
 picture_first z q start u t n known =
     onward_holds (rule_then _ _ _ _ (λ closed. inside_then _ _ _ (λ info end got.
-    extended_then NoneBegins _ _ _ n none_tail (λ extension mid none from. rule_then _ _ _ _ (λ pair. rule_then _ _ _ _ (λ anchor. done_holds _ (refl, none, known)))))))
+    extended_then NoneBegins _ _ _ n none_tail (λ extension mid none from. rule_then _ _ _ _ (λ pair. rule_then _ _ _ _ (λ anchor. done_holds _ (refl, none, known, pair)))))))
 
-extension_first : (z : State) (q : Option Sequence) (start : ℕ) (u : List ℕ) (t : Units) → HasOnePicture t → Holding (First q) (onward (extension_unit (shut z q false) start u)) t
+extension_first : (z : State) (q : Option Sequence) (start : ℕ) (u : List ℕ) (t : Units) → HasOnePicture t → Holding (First z q) (onward (extension_unit (shut z q false) start u)) t
 unfolding extension_unit matrix_unit id_at
 extension_first z q start u t h =
     onward_holds (inside_then _ _ _ (λ id end read.
@@ -120,17 +120,17 @@ extension_first z q start u t h =
     choose_holds _ (λ e. rule_then _ _ _ _ (λ allowed. absurd cc))
     (λ e. choose_holds _ (λ e. refuse_holds _ _) (λ e. done_holds _ (refl, h))))))
 
-slice_first : (z : State) (q : Option Sequence) (row start : ℕ) (u : List ℕ) (t : Units) → Holding (First q) (onward (slice_unit (shut z q false) q None row start u)) t
+slice_first : (z : State) (q : Option Sequence) (row start : ℕ) (u : List ℕ) (t : Units) → Holding (First z q) (onward (slice_unit (shut z q false) q None row start u)) t
 unfolding slice_unit
 slice_first z (Some s) row start u t = onward_holds (refuse_holds _ _)
 slice_first z None row start u t = onward_holds (refuse_holds _ _)
 
-end_first : (z : State) (q : Option Sequence) (start : ℕ) (t : Units) → Holding (First q) (final (end_unit (shut z q false) start)) t
+end_first : (z : State) (q : Option Sequence) (start : ℕ) (t : Units) → Holding (First z q) (final (end_unit (shut z q false) start)) t
 unfolding end_unit close no_second_field_due
 end_first z q start t = final_holds (rule_then _ _ _ _ (λ closed. rule_then _ _ _ _ (λ paired. done_holds _ refl)))
 
 later_first : (z : State) (q : Option Sequence) (start value : ℕ) (u : List ℕ) (t : Units) → (value ≡ 0x00 → NoneBegins t) → HasOnePicture t → is_some q ≡ true
-    → Holding (First q) (later_unit (shut z q false) start value u) t
+    → Holding (First z q) (later_unit (shut z q false) start value u) t
 unfolding later_unit
 later_first z q start value u t n h known =
     choose_holds _ (λ e. picture_first z q start u t (n (eqb-true value 0x00 e)) known) (λ e.
@@ -142,17 +142,17 @@ later_first z q start value u t n h known =
     choose_holds _ (λ e. refuse_holds _ _) (λ e. refuse_holds _ _)))))))
 
 known_first : (z : State) (q : Option Sequence) (start value : ℕ) (u : List ℕ) (t : Units) → (value ≡ 0x00 → NoneBegins t) → HasOnePicture t
-    → Holding (First q) (known_unit (shut z q false) start value u) t
+    → Holding (First z q) (known_unit (shut z q false) start value u) t
 unfolding known_unit
 known_first z q start value u t n h =
     choose_holds _ (λ e. sequence_first z q start u t h) (λ e.
     choose_holds _ (λ known. later_first z q start value u t n h known) (λ e. done_holds _ (refl, h)))
 
-end_of_text : (z : State) (q : Option Sequence) → Holding (First q) (text_end (shut z q false) 0) []
+end_of_text : (z : State) (q : Option Sequence) → Holding (First z q) (text_end (shut z q false) 0) []
 unfolding text_end close
 end_of_text z q = rule_then _ _ _ _ (λ some. rule_then _ _ _ _ (λ closed. done_holds _ refl))
 
-pub unit_first : (z : State) (q : Option Sequence) (us : Units) → HasOnePicture us → OfRead (First q) (unit_read (shut z q false) us)
+pub unit_first : (z : State) (q : Option Sequence) (us : Units) → HasOnePicture us → OfRead (First z q) (unit_read (shut z q false) us)
 unfolding unit_read
 unit_first z q [] h = (end_of_text z q).is
 unit_first z q (u ∷ us) h = (known_first z q (unit_bits (u ∷ us)) (value_of u) u us h.0 h.1).is

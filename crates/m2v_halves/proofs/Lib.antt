@@ -8,3 +8,4 @@ pub mod Dropped
 pub mod Opening
 pub mod RowFaults
 pub mod Together
+pub mod Entering

@@ -2,6 +2,7 @@
 use Rattle.std.proofs.Common.{◌≡◌, if◌then◌else◌, ℕ, Bool, true, false, List, [], ◌∷◌, ◌++◌, Option, Some, None, Ok, ◌⊎◌, inl, inr, refl, sym, ap, subst, ◌∙◌}
 use Rattle.std.proofs.lemmas.Bool.{cases_Bool}
 use Rattle.m2v_plane.specs.Sizes.{IsSize}
+use Rattle.m2v_head.specs.declared.group.GroupInfo.{GroupInfo}
 use Rattle.m2v_head.specs.declared.picture.PictureInfo.{PictureInfo}
 use Rattle.m2v_head.specs.declared.picture.PictureExtension.{PictureExtension}
 use Rattle.m2v_model.specs.declared.fault.FaultKind.{FaultKind}
@@ -9,7 +10,7 @@ use Rattle.m2v_model.specs.declared.state.Sequence.{Sequence}
 use Rattle.m2v_model.specs.declared.state.Open.{Open}
 use Rattle.m2v_model.specs.declared.state.State.{State}
 use Rattle.m2v_model.specs.Units.{Units}
-use Rattle.m2v_model.specs.States.{dims_of, drops, opened, after_sequence, after_group, after_picture}
+use Rattle.m2v_model.specs.States.{dims_of, is_same_sequence, none_waits, is_second_field_due, drops, opened, after_sequence, after_group, after_picture}
 use Rattle.m2v_model.specs.Streams.{Part, sequence, group, picture, matrices, slice, unread_slice, skipped_unit, ending, over, after}
 use Rattle.m2v_model.specs.Pictures.{Store, Events, pictures_in, picture_of, picture_begun, picture_ended, references_of, fresh, events_from, store_from, told_by}
 use Rattle.m2v_model.specs.ByPieces.{Between, behind, units_read, unit_read, after_part}
@@ -39,6 +40,12 @@ pub record Whole (b : Between) (us : Units) (parts : List Part) (fault : Option 
   pub none : (stopped_from st parts).picture ≡ None → TellNone b parts
   pub dropped : (o : Open) → (stopped_from st parts).picture ≡ Some o → fault ≡ None → TellDropped b parts o
 
+-- sequence headers and group headers lead from a state to another one; no picture is open between them
+pub data Leads : State → State → Type 0 where
+  here : {w : State} → Leads w w
+  by_sequence : {w v : State} (s : Sequence) → IsSize (dims_of s) → is_same_sequence w.first s ≡ true → Leads (after_sequence w s) v → Leads w v
+  by_group : {w v : State} (g : GroupInfo) → none_waits w.waiting ≡ true → Leads (after_group w g) v → Leads w v
+
 -- A picture opens whose slices are read: what is told of all units is told of those behind its headers, with headers
 -- before.
 pub record Opens (w : State) (store : Store) (end : ℕ) (us : Units) (parts : List Part) (fault : Option (FaultKind × ℕ)) (st : State) (r : FrontRead st us parts fault) : Type 0 where
@@ -51,6 +58,15 @@ pub record Opens (w : State) (store : Store) (end : ℕ) (us : Units) (parts : L
   pub later_parts : List Part
   pub later : FrontRead (skim_at z s o) mid later_parts fault
   pub begins : NoneBegins mid
+  -- headers lead to the picture's own, behind which it is open
+  pub before : State
+  pub info : PictureInfo
+  pub extension : PictureExtension
+  pub leads : Leads w before
+  pub known : before.sequence ≡ Some s
+  pub due : is_second_field_due before.waiting info extension ≡ true
+  pub is_open : o ≡ opened before info extension
+  pub is_behind : z ≡ after_picture before info extension
   pub read : o.slices_unread ≡ false
   pub kept : o.dropped ≡ false
   pub covered : o.covered ≡ 0
@@ -68,8 +84,8 @@ Either w store end us parts fault st r = Whole (record { state = w; store = stor
 abbrev at_shut : State → Option Sequence → Store → Between
 at_shut z q store = record { state = shut z q false; store = store }
 
-first_at : (z : State) (q : Option Sequence) (us : Units) (x : Bool × Part) (mid : Units) → HasOnePicture us → unit_read (shut z q true) us ≡ Ok (x, mid) → FirstPart q x.0 x.1 mid
-first_at z q us x mid h e = read_at (First q) (unit_read (shut z q false) us) x mid (unit_first z q us h) (sym (unit_same z q us) ∙ e)
+first_at : (z : State) (q : Option Sequence) (us : Units) (x : Bool × Part) (mid : Units) → HasOnePicture us → unit_read (shut z q true) us ≡ Ok (x, mid) → FirstPart z q x.0 x.1 mid
+first_at z q us x mid h e = read_at (First z q) (unit_read (shut z q false) us) x mid (unit_first z q us h) (sym (unit_same z q us) ∙ e)
 
 -- ---- a header that begins no picture
 
@@ -98,11 +114,11 @@ whole_on b b2 us mid p ps fault st st2 e next same passed stops a =
 opens_on : (w w2 : State) (store : Store) (end : ℕ) (us mid : Units) (p : Part) (ps : List Part) (fault : Option (FaultKind × ℕ)) (st st2 : State) (r : FrontRead st us (p ∷ ps) fault) (later : FrontRead st2 mid ps fault)
     → unit_read w us ≡ Ok ((true, p), mid) → after_part (record { state = w; store = store }) p ≡ record { state = w2; store = store }
     → ((es : Events) → pictures_in (told_by w store p ++ es) ≡ pictures_in es)
-    → stopped_from st (p ∷ ps) ≡ stopped_from st2 ps → ((now : Slices) → slices_by end now r ≡ slices_by end now later)
+    → stopped_from st (p ∷ ps) ≡ stopped_from st2 ps → ((now : Slices) → slices_by end now r ≡ slices_by end now later) → ((v : State) → Leads w2 v → Leads w v)
     → Either w2 store end mid ps fault st2 later → Either w store end us (p ∷ ps) fault st r
-opens_on w w2 store end us mid p ps fault st st2 r later e next passed stops are (inl a) =
+opens_on w w2 store end us mid p ps fault st st2 r later e next passed stops are lead (inl a) =
     inl (whole_on (record { state = w; store = store }) (record { state = w2; store = store }) us mid p ps fault st st2 e next refl passed stops a)
-opens_on w w2 store end us mid p ps fault st st2 r later e next passed stops are (inr a) =
+opens_on w w2 store end us mid p ps fault st st2 r later e next passed stops are lead (inr a) =
     let b : Between = record { state = w; store = store } in
     let es = told_by w store p in
     let last = units_read (at_open a.z a.s a.o (picture_begun (Some a.s) a.o store)) a.mid in
@@ -116,6 +132,14 @@ opens_on w w2 store end us mid p ps fault st st2 r later e next passed stops are
       later_parts = a.later_parts;
       later = a.later;
       begins = a.begins;
+      before = a.before;
+      info = a.info;
+      extension = a.extension;
+      leads = lead a.before a.leads;
+      known = a.known;
+      due = a.due;
+      is_open = a.is_open;
+      is_behind = a.is_behind;
       read = a.read;
       kept = a.kept;
       covered = a.covered;
@@ -155,10 +179,10 @@ picture_drops z s store us mid info extension ps fault read later n on =
     }
 
 picture_opens : (z : State) (s : Sequence) (store : Store) (end : ℕ) (us mid : Units) (info : PictureInfo) (extension : PictureExtension) (ps : List Part) (fault : Option (FaultKind × ℕ))
-    (e : unit_read (shut z (Some s) true) us ≡ Ok ((true, picture info extension), mid)) (later : FrontRead (after (shut z (Some s) true) (picture info extension)) mid ps fault) → NoneBegins mid → IsSize (dims_of s)
+    (e : unit_read (shut z (Some s) true) us ≡ Ok ((true, picture info extension), mid)) (later : FrontRead (after (shut z (Some s) true) (picture info extension)) mid ps fault) → NoneBegins mid → IsSize (dims_of s) → is_second_field_due z.waiting info extension ≡ true
     → Either (shut z (Some s) false) store end us (picture info extension ∷ ps) fault (shut z (Some s) true) (more e later)
 unfolding after stopped_from slices_by with_part
-picture_opens z s store end us mid info extension ps fault e later n size =
+picture_opens z s store end us mid info extension ps fault e later n size due =
     let w = shut z (Some s) false in
     let b : Between = record { state = w; store = store } in
     let o = opened w info extension in
@@ -176,6 +200,14 @@ picture_opens z s store end us mid info extension ps fault e later n size =
         later_parts = ps;
         later = later;
         begins = n;
+        before = w;
+        info = info;
+        extension = extension;
+        leads = here;
+        known = refl;
+        due = due;
+        is_open = refl;
+        is_behind = refl;
         read = off;
         kept = off;
         covered = refl;
@@ -213,20 +245,20 @@ either z q store end us parts fault (more {mid = mid} {p = over} e later) h size
 either z q store end us parts fault (more {mid = mid} {p = sequence s} {ps = ps} e later) h size =
     let f = first_at z q us (true, sequence s) mid h e in
     let z2 = after_sequence (shut z q false) s in
-    opens_on (shut z q false) (shut z2 (Some s) false) store end us mid (sequence s) ps fault (shut z q true) (shut z2 (Some s) true) (more e later) later (sym (unit_same z q us) ∙ e) refl (λ es. refl) refl (λ now. refl)
+    opens_on (shut z q false) (shut z2 (Some s) false) store end us mid (sequence s) ps fault (shut z q true) (shut z2 (Some s) true) (more e later) later (sym (unit_same z q us) ∙ e) refl (λ es. refl) refl (λ now. refl) (λ v l. by_sequence s f.2 f.3 l)
     (either z2 (Some s) store end mid ps fault later f.1 f.2)
 either z q store end us parts fault (more {mid = mid} {p = group g} {ps = ps} e later) h size =
     let f = first_at z q us (true, group g) mid h e in
     let z2 = after_group (shut z q false) g in
-    opens_on (shut z q false) (shut z2 q false) store end us mid (group g) ps fault (shut z q true) (shut z2 q true) (more e later) later (sym (unit_same z q us) ∙ e) refl (λ es. refl) refl (λ now. refl)
+    opens_on (shut z q false) (shut z2 q false) store end us mid (group g) ps fault (shut z q true) (shut z2 q true) (more e later) later (sym (unit_same z q us) ∙ e) refl (λ es. refl) refl (λ now. refl) (λ v l. by_group g f.2 l)
     (either z2 q store end mid ps fault later f.1 size)
 either z q store end us parts fault (more {mid = mid} {p = skipped_unit u} {ps = ps} e later) h size =
     let f = first_at z q us (true, skipped_unit u) mid h e in
-    opens_on (shut z q false) (shut z q false) store end us mid (skipped_unit u) ps fault (shut z q true) (shut z q true) (more e later) later (sym (unit_same z q us) ∙ e) refl (λ es. refl) refl (λ now. refl)
+    opens_on (shut z q false) (shut z q false) store end us mid (skipped_unit u) ps fault (shut z q true) (shut z q true) (more e later) later (sym (unit_same z q us) ∙ e) refl (λ es. refl) refl (λ now. refl) (λ v l. l)
     (either z q store end mid ps fault later f.1 size)
 either z (Some s) store end us parts fault (more {mid = mid} {p = picture info extension} {ps = ps} e later) h size =
     let f = first_at z (Some s) us (true, picture info extension) mid h e in
-    picture_opens z s store end us mid info extension ps fault e later f.1 size
+    picture_opens z s store end us mid info extension ps fault e later f.1 size f.3
 either z None store end us parts fault (more {mid = mid} {p = picture info extension} {ps = ps} e later) h size =
     let f = first_at z None us (true, picture info extension) mid h e in
     never_one (sym f.2)

@@ -133,7 +133,7 @@ placed_behind end es (Err f) = refl
 open_is : (o p : Open) → Some o ≡ Some p → o ≡ p
 open_is o p e = cc
 
-sequence_is : (s t : Sequence) → Some s ≡ Some t → s ≡ t
+pub sequence_is : (s t : Sequence) → Some s ≡ Some t → s ≡ t
 sequence_is s t e = cc
 
 -- where a picture opens whose slices are read
@@ -189,7 +189,7 @@ halves_at z store false None p f on none size one =
 halves_at z store false (Some o) p f on none size one = absurd (cc none)
 halves_at z store true open_picture p f on none size one = absurd (cc on)
 
-has_size : (first q : Option Sequence) → HaveOneSize first q → HasSize q
+pub has_size : (first q : Option Sequence) → HaveOneSize first q → HasSize q
 has_size first None h = tt
 has_size (Some first) (Some s) h = h.0
 has_size None (Some s) h = absurd h

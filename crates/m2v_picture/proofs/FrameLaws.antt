@@ -1,15 +1,20 @@
 -- The frames at hand: what is predicted from them, and their sizes.
-use Rattle.std.proofs.Common.{◌≡◌, ℕ, zero, suc, ◌+◌, ◌<◌, Bool, true, false, ◌&&◌, not, nat_eq, List, [], ◌∷◌, refl, sym, ap, ◌∙◌, subst}
+use Rattle.std.proofs.Common.{◌≡◌, ℕ, zero, suc, ◌+◌, ◌*◌, ◌<◌, Bool, true, false, ◌&&◌, not, nat_eq, List, [], ◌∷◌, refl, sym, ap, ◌∙◌, subst}
 use Rattle.std.specs.Prelude.{Option, Some, None, IsSome, IsTrue, is_some, IfSome, OnOk, Result, Ok, Err, if◌then◌else◌}
 use Rattle.m2v_plane.specs.declared.dims.Dims.{Dims}
 use Rattle.m2v_plane.specs.declared.planes.Plane.{Plane}
 use Rattle.m2v_plane.specs.declared.planes.Lines.{Lines}
 use Rattle.m2v_plane.specs.declared.planes.Lines.TheVariants.{Whole, Top, Bottom}
 use Rattle.m2v_plane.specs.Sizes.{lines_of}
-use Rattle.m2v_plane.specs.Samples.{Samples, blank}
+use Rattle.m2v_plane.specs.Samples.{Samples, HasRows, blank, plane_with_square}
 use Rattle.m2v_plane.specs.Fields.{FieldFrames, HoldsLine, lines_there, sample_at, sample_from, or_none}
+use Rattle.m2v_plane.proofs.RawVideo.{length-plane_by}
+use Rattle.m2v_pred.specs.declared.mode.MbPlace.{MbPlace}
 use Rattle.m2v_macro.specs.declared.values.SliceState.{SliceState}
 use Rattle.m2v_macroblock.specs.Macroblocks.{Macroblock, after_macroblock}
+use Rattle.m2v_macroblock.specs.Modes.{place_of, address_of, skipped_before, first_skipped}
+use Rattle.m2v_macroblock.specs.Predictions.{prediction_of}
+use Rattle.m2v_macroblock.specs.Predictions.{sample_at as samples_of}
 use Rattle.m2v_model.specs.declared.setup.SliceSetup.{SliceSetup}
 use Rattle.m2v_model.specs.States.{is_b, dims_of}
 use Rattle.m2v_model.specs.Samples.{References, put_in_frame, skipped_painted, own_painted, painted, all_painted}
@@ -98,6 +103,34 @@ unfolding all_painted painted own_painted
 painted_size s refs st [] now = refl
 painted_size s refs st (x ∷ xs) now = painted_size s refs (after_macroblock s.context st x) xs (painted put_in_frame s refs st x now) ∙ skipped_size s refs st _ _ now
 
+abbrev pub IsWhole : Samples → Type 0
+IsWhole s = HasRows s s.dims.mb_rows
+
+put_whole : (at : MbPlace) (new : Plane → ℕ → ℕ → ℕ) (now : Samples) → IsWhole (put_in_frame at new now)
+unfolding plane_with_square
+put_whole at new now = record {
+  luma = length-plane_by (16 * now.dims.mb_rows) (16 * now.dims.mb_width) _;
+  cb = length-plane_by (8 * now.dims.mb_rows) (8 * now.dims.mb_width) _;
+  cr = length-plane_by (8 * now.dims.mb_rows) (8 * now.dims.mb_width) _;
+}
+
+own_whole : (s : SliceSetup) (refs : References) (st : SliceState) (x : Macroblock) (now : Samples) → IsWhole (own_painted put_in_frame s refs st x now)
+unfolding own_painted
+own_whole s refs st x now =
+    let at = place_of s.context (address_of st x.syntax) in
+    put_whole at (samples_of s.context st (prediction_of refs.forward refs.backward s.context at x.syntax) x) now
+
+-- painting keeps all samples
+painted_whole : (s : SliceSetup) (refs : References) (st : SliceState) (xs : List Macroblock) (now : Samples) → IsWhole now → IsWhole (all_painted put_in_frame s refs st xs now)
+unfolding all_painted painted
+painted_whole s refs st [] now h = h
+painted_whole s refs st (x ∷ xs) now h =
+    painted_whole s refs (after_macroblock s.context st x) xs (painted put_in_frame s refs st x now)
+    (own_whole s refs st x (skipped_painted put_in_frame s refs st (first_skipped st) (skipped_before st x.syntax) now))
+
+whole_there : (o : Option Samples) (frame : Samples) → o ≡ Some frame → IfSome o IsWhole → IsWhole frame
+whole_there o frame e h = rw e at h
+
 -- ---- a slice that was read
 
 pub slice_told : (s : SliceSetup) (covered row : ℕ) (old new : List Bool) (f : Frames) (frame out : Samples) (refs : References) (result : Result SliceEnd Stop) → references_in f ≡ refs → f.current ≡ Some frame
@@ -120,6 +153,7 @@ slice_size s covered row old new f frame out refs (Ok end) d h is told = record 
   older = h.older;
   newer = h.newer;
   current = ap (λ (z : Samples). z.dims) told.4 ∙ painted_size s refs _ _ frame ∙ same_size f.current frame d is h.current;
+  whole = subst IsWhole (sym told.4) (painted_whole s refs _ _ frame (whole_there f.current frame is h.whole));
   first_field = h.first_field;
 }
 slice_size s covered row old new f frame out refs (Err e) d h is told = tt

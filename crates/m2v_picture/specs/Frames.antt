@@ -1,7 +1,7 @@
 -- The frames at hand, and what the picture that is open is predicted from.
 use Rattle.std.specs.Prelude.{◌≡◌, ℕ, Bool, true, false, ◌&&◌, not, nat_eq, if◌then◌else◌, slice_index_or, List, Option, Some, None, IsSome, IfSome, Result, Ok, Err}
 use Rattle.m2v_plane.specs.declared.dims.Dims.{Dims}
-use Rattle.m2v_plane.specs.Samples.{Samples}
+use Rattle.m2v_plane.specs.Samples.{Samples, HasRows}
 use Rattle.m2v_model.specs.declared.state.Open.{Open}
 use Rattle.m2v_model.specs.declared.setup.SliceSetup.{SliceSetup}
 use Rattle.m2v_model.specs.States.{is_b}
@@ -69,12 +69,13 @@ pub record HasReferences (decoded : List Bool) (f : Frames) : Type 0 where
   pub back_top : slice_index_or decoded 2 false ≡ true → IsSome (backward_frame f.reading f.newer)
   pub back_bottom : slice_index_or decoded 3 false ≡ true → IsSome (backward_frame f.reading f.newer)
 
--- all frames that are there have this size
+-- all frames that are there have this size, and the one that is open has all samples of its size
 pub record HaveSize (d : Dims) (f : Frames) : Type 0 where
   pub older : IfSome f.older (λ s. s.dims ≡ d)
   pub newer : IfSome f.newer (λ s. s.dims ≡ d)
   pub current : IfSome f.current (λ s. s.dims ≡ d)
   pub first_field : IfSome f.first_field (λ s. s.dims ≡ d)
+  pub whole : IfSome f.current (λ s. HasRows s s.dims.mb_rows)
 
 -- a slice was read and painted into the frame that is open: the address behind its last macroblock, and how many of them
 -- are large; or the fault and its place

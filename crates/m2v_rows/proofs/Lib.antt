@@ -5,3 +5,4 @@ pub mod Starts
 pub mod ByRowLaws
 pub mod InFrame
 pub mod Together
+pub mod RowsSet

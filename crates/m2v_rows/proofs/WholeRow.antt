@@ -14,7 +14,7 @@ read_or : Read → List Begun × ℕ
 read_or (Ok x) = x
 read_or (Err f) = ([], 0)
 
-same_read : (xs ys : List Begun) (m n : ℕ) (r : Read) → r ≡ Ok (xs, m) → r ≡ Ok (ys, n) → (xs ≡ ys) × (m ≡ n)
+pub same_read : (xs ys : List Begun) (m n : ℕ) (r : Read) → r ≡ Ok (xs, m) → r ≡ Ok (ys, n) → (xs ≡ ys) × (m ≡ n)
 unfolding read_or
 same_read xs ys m n r e f =
     let same = ap read_or (sym e ∙ f) in

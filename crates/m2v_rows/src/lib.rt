@@ -7,6 +7,6 @@ mod opened;
 mod row;
 mod slice;
 
-pub use laws::{law_by_rows, law_row_in_frame};
+pub use laws::{law_by_rows, law_row_in_frame, law_rows_in_frame};
 pub use opened::{Opened, SliceUnit};
 pub use row::read_row;
