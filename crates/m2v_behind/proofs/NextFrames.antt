@@ -25,7 +25,7 @@ use Rattle.m2v_batch.specs.Pieces.{row_of}
 use Rattle.m2v_batch.specs.Painted.{all_rows}
 use Rattle.m2v_batch.proofs.Sizes.{header_is, at_picture}
 use Rattle.m2v_batch.proofs.Anchors.{newer_first, older_first, newer_next, older_next}
-use Rattle.m2v_decoder.specs.Rebuilt.{rows_set}
+use Rattle.m2v_rows.specs.InFrames.{rows_set}
 use Rattle.m2v_behind.specs.Behind.{Tracks, AreRebuilt, IsNoted, frame_made, store_behind}
 
 -- ---- the first picture

@@ -8,7 +8,8 @@ use Rattle.m2v_batch.specs.Jobs.{header_at, first_job, newer_before, older_befor
 use Rattle.m2v_batch.specs.Batches.{Batch, headers, frame_at}
 use Rattle.m2v_batch.specs.Values.{value_of}
 use Rattle.m2v_batch.specs.Painted.{all_rows}
-use Rattle.m2v_decoder.specs.Rebuilt.{rows_set, frame_begun, frames_behind}
+use Rattle.m2v_rows.specs.InFrames.{rows_set}
+use Rattle.m2v_decoder.specs.Rebuilt.{frame_begun, frames_behind}
 
 -- The frames at hand before picture p are those of the batch: the last two anchors, and before a second field the frame of
 -- its first field.
