@@ -1,0 +1,360 @@
+-- Pieces taken ahead: what stands after one more is taken or decoded, and where decoding stops.
+use Rattle.std.proofs.Common.{◌≡◌, ℕ, ◌+◌, ◌≤◌, true, List, [], ◌∷◌, ◌++◌, length, map, Option, Some, None, refl, sym, ap, subst, ◌∙◌, append_assoc, arith}
+use Rattle.std.proofs.lemmas.List.{length-append, map-append}
+use Rattle.m2v_port.specs.Ends.{Change, change}
+use Rattle.m2v_port.specs.Port.{Grows, GrowsByPrefix}
+use Rattle.m2v_port.proofs.Runs.{moves_on, grows_on, grows_by_all}
+use Rattle.m2v_plane.specs.Raw.{raw}
+use Rattle.m2v_model.specs.Pieces.{limit, most_input}
+use Rattle.m2v_piece.specs.declared.answer.Piece.{Piece}
+use Rattle.m2v_piece.specs.declared.answer.Fault.{Fault}
+use Rattle.m2v_piece.specs.declared.answer.DecodeError.{DecodeError}
+use Rattle.m2v_piece.specs.declared.answer.DecodeError.TheVariants as errors
+use Rattle.m2v_piece.specs.Sound.{IsSoundPiece}
+use Rattle.m2v_piece.specs.Cutting.{Cutting, left_of, start_of, IsReading, PieceStops}
+use Rattle.m2v_piece.specs.Stepping.{Handed, Stopped, Keeps, Why}
+use Rattle.m2v_decoder.specs.Decoding.{Decoding, Onward, Refuses, due_of, whole_of}
+use Rattle.m2v_decode.specs.Answers.{IsCut, IsFaulty, IsOver, OfText, OfTaken, Fails, due_before, shown_by}
+use Rattle.m2v_decode.specs.Progress.{raw_of, Cuts, HasPut, Reached, Progress, IsDone}
+use Rattle.m2v_decode.proofs.Putting.{raw-append}
+use Rattle.m2v_decode.proofs.Going.{moved_some, ready_none, reached_more, gave, start_place, due_cut, reached_cut, reached_later, faulty_at, over_at}
+use Rattle.m2v_pardec.specs.Ahead.{AreTaken, Later, behind, ended, stopped, IsAhead, HandsOut, none, more, FailsBy}
+
+-- ---- lists of pieces
+
+pub taken_rises : (ps : List Piece) (a b : ℕ) → AreTaken a ps b → a ≤ b
+taken_rises [] a b h = omega (arith, h)
+taken_rises (p ∷ ps) a b h = let more = taken_rises ps (p.place + p.length) b h.3 in omega (arith, h.0, more)
+
+taken_more : (ps : List Piece) (a b : ℕ) (p : Piece) → AreTaken a ps b → p.place ≡ b → p.length ≡ length (whole_of p) → limit p.place 0 (whole_of p) ≡ None → AreTaken a (ps ++ p ∷ []) (p.place + p.length)
+taken_more [] a b p h at long fits = (at ∙ h, long, fits, refl)
+taken_more (q ∷ ps) a b p h at long fits = (h.0, h.1, h.2, taken_more ps (q.place + q.length) b p h.3 at long fits)
+
+wholes_more : (ps : List Piece) (p : Piece) (others : List (List ℕ)) → map whole_of (ps ++ p ∷ []) ++ others ≡ map whole_of ps ++ (whole_of p ∷ others)
+wholes_more ps p others = ap (λ (l : List (List ℕ)). l ++ others) (map-append whole_of ps (p ∷ [])) ∙ append_assoc (map whole_of ps) (whole_of p ∷ []) others
+
+-- ---- taking pieces
+
+-- one piece more is taken
+pub ahead_more : (l0 l1 l2 h0 h1 : Option (List ℕ)) (c c' : Cutting) (ps : List Piece) (p : Piece) (d : Decoding) → IsAhead (behind c) l0 l1 h0 h1 ps d → Handed c l1 c' l2 (Some p) → c'.begun ≡ true
+    → Keeps c l1 c' l2 → IsAhead (behind c') l0 l2 h0 h1 (ps ++ p ∷ []) d
+ahead_more l0 l1 l2 h0 h1 c c' ps p d so handed begun keeps = record {
+  bytes = so.bytes ++ handed.bytes;
+  moved = moves_on so.moved handed.moved;
+  frames = so.frames;
+  grown = so.grown;
+  shown = so.shown;
+  none = so.none;
+  going = so.going;
+  sound = so.sound;
+  told = λ rest e.
+      let mid = moved_some l1 l2 handed.bytes rest handed.moved e in
+      let w = so.told (handed.bytes ++ rest) mid in
+      let g = gave c handed.bytes rest c' p begun (handed.next rest e) in
+      let all : List ℕ = so.bytes ++ (handed.bytes ++ rest) in
+      let long : length (so.bytes ++ handed.bytes) ≡ length so.bytes + length handed.bytes = length-append so.bytes handed.bytes in
+      let few : c'.place + length c'.unread ≤ length (so.bytes ++ handed.bytes) = omega (arith, keeps (handed.bytes ++ rest) rest mid e, (w.known).2, length-append handed.bytes rest, long) in
+      let others : w.others ≡ whole_of p ∷ left_of c' rest = (w.known).1 ∙ g.pieces in
+      record {
+        start = w.start;
+        next = p.place + p.length;
+        others = left_of c' rest;
+        reached =
+            subst (λ (t : List ℕ). Reached (length (so.bytes ++ handed.bytes)) t w.start (map whole_of (ps ++ p ∷ []) ++ left_of c' rest) so.frames d) (sym (append_assoc so.bytes handed.bytes rest))
+            (subst (λ (l : List (List ℕ)). Reached (length (so.bytes ++ handed.bytes)) all w.start l so.frames d) (ap (λ (l : List (List ℕ)). map whole_of ps ++ l) others ∙ sym (wholes_more ps p (left_of c' rest)))
+            (reached_later (length so.bytes) (length (so.bytes ++ handed.bytes)) all w.start (map whole_of ps ++ w.others) so.frames d (omega (arith, long)) w.reached));
+        pieces = taken_more ps w.start w.next p w.pieces (g.place ∙ sym (w.known).0) g.length g.fits;
+        within = λ some. omega (arith, few, g.next, start_place c' rest begun);
+        known = (sym g.next, refl, few);
+      };
+}
+
+-- the cutter gives no piece, by an error
+pub ahead_stopped : (l0 l1 l2 h0 h1 : Option (List ℕ)) (c : Cutting) (ps : List Piece) (d : Decoding) (e : DecodeError) → IsAhead (behind c) l0 l1 h0 h1 ps d → Stopped c l1 l2 e
+    → IsAhead (stopped e) l0 l2 h0 h1 ps d
+ahead_stopped l0 l1 l2 h0 h1 c ps d e so s = record {
+  bytes = so.bytes ++ s.bytes;
+  moved = moves_on so.moved s.moved;
+  frames = so.frames;
+  grown = so.grown;
+  shown = so.shown;
+  none = so.none;
+  going = so.going;
+  sound = so.sound;
+  told = λ rest q.
+      let mid = moved_some l1 l2 s.bytes rest s.moved q in
+      let w = so.told (s.bytes ++ rest) mid in
+      let long : length (so.bytes ++ s.bytes) ≡ length so.bytes + length s.bytes = length-append so.bytes s.bytes in
+      let why = s.why rest q in
+      record {
+        start = w.start;
+        next = w.next;
+        others = w.others;
+        reached =
+            subst (λ (t : List ℕ). Reached (length (so.bytes ++ s.bytes)) t w.start (map whole_of ps ++ w.others) so.frames d) (sym (append_assoc so.bytes s.bytes rest))
+            (reached_later (length so.bytes) (length (so.bytes ++ s.bytes)) _ w.start _ so.frames d (omega (arith, long)) w.reached);
+        pieces = w.pieces;
+        within = λ some. let within = w.within some in omega (arith, within, long);
+        known = subst (λ (x : ℕ). Why x w.others e) (sym (w.known).0) (subst (λ (l : List (List ℕ)). Why (start_of c (s.bytes ++ rest)) l e) (sym (w.known).1) why);
+      };
+}
+
+-- no piece is left
+pub ahead_over : (l0 l1 l2 h0 h1 : Option (List ℕ)) (c c' : Cutting) (ps : List Piece) (d : Decoding) → IsAhead (behind c) l0 l1 h0 h1 ps d → Handed c l1 c' l2 None
+    → IsAhead (ended c') l0 l2 h0 h1 ps d
+ahead_over l0 l1 l2 h0 h1 c c' ps d so handed = record {
+  bytes = so.bytes ++ handed.bytes;
+  moved = moves_on so.moved handed.moved;
+  frames = so.frames;
+  grown = so.grown;
+  shown = so.shown;
+  none = so.none;
+  going = so.going;
+  sound = so.sound;
+  told = λ rest q.
+      let mid = moved_some l1 l2 handed.bytes rest handed.moved q in
+      let w = so.told (handed.bytes ++ rest) mid in
+      let long : length (so.bytes ++ handed.bytes) ≡ length so.bytes + length handed.bytes = length-append so.bytes handed.bytes in
+      let next = handed.next rest q in
+      record {
+        start = w.start;
+        next = w.next;
+        others = w.others;
+        reached =
+            subst (λ (t : List ℕ). Reached (length (so.bytes ++ handed.bytes)) t w.start (map whole_of ps ++ w.others) so.frames d) (sym (append_assoc so.bytes handed.bytes rest))
+            (reached_later (length so.bytes) (length (so.bytes ++ handed.bytes)) _ w.start _ so.frames d (omega (arith, long)) w.reached);
+        pieces = w.pieces;
+        within = λ some. let within = w.within some in omega (arith, within, long);
+        known = ((w.known).0 ∙ sym next.2, (w.known).1 ∙ next.0);
+      };
+}
+
+-- pieces that a cutter hands out, one after another
+pub ahead_all : (l0 l1 h0 h1 : Option (List ℕ)) (c : Cutting) (d : Decoding) (ps : List Piece) (c' : Cutting) (l2 : Option (List ℕ)) → IsAhead (behind c) l0 l1 h0 h1 [] d → HandsOut c l1 ps c' l2 → IsAhead (behind c') l0 l2 h0 h1 ps d
+ahead_all l0 l1 h0 h1 c d ps c' l2 so none = so
+ahead_all l0 l1 h0 h1 c d ps c' l2 so (more {ps = qs} {p = p} {c1 = c1} {left1 = m} gone handed begun keeps) =
+    ahead_more l0 m l2 h0 h1 c1 c' qs p d (ahead_all l0 l1 h0 h1 c d qs c1 m so gone) handed begun keeps
+
+-- ---- decoding under way
+
+-- nothing was taken ahead
+pub ahead_none : {left held : Change} {c : Cutting} {d : Decoding} → Progress left held c d → IsAhead (behind c) left.old left.new held.old held.new [] d
+ahead_none {left} {held} {c} {d} so = record {
+  bytes = so.bytes;
+  moved = so.moved;
+  frames = so.frames;
+  grown = so.grown;
+  shown = so.shown;
+  none = so.none;
+  going = so.going;
+  sound = so.sound;
+  told = λ rest e. record {
+    start = start_of c rest;
+    next = start_of c rest;
+    others = left_of c rest;
+    reached = so.told rest e;
+    pieces = refl;
+    within = λ some. absurd (omega arith);
+    known = (refl, refl, so.taken rest e);
+  };
+}
+
+-- the next piece was decoded, and the frames due then written
+pub ahead_onward : (later : Later) (l0 l1 h0 h1 h2 : Option (List ℕ)) (p : Piece) (ps : List Piece) (d m n : Decoding) → IsAhead later l0 l1 h0 h1 (p ∷ ps) d → Onward d p.place (whole_of p) m → HasPut m n → Grows h1 (raw_of (due_of m)) h2
+    → IsAhead later l0 l1 h0 h2 ps n
+ahead_onward later l0 l1 h0 h1 h2 p ps d m n so a put grown = record {
+  bytes = so.bytes;
+  moved = so.moved;
+  frames = so.frames ++ due_of m;
+  grown = subst (λ (b : List ℕ). Grows h0 b h2) (sym (raw-append so.frames (due_of m))) (grows_on so.grown grown);
+  shown = omega (arith, put.shown, a.shown, so.shown, length-append so.frames (due_of m));
+  none = ready_none n (put.ended ∙ a.going) put.none;
+  going = put.ended ∙ a.going;
+  sound = put.failed ∙ a.sound;
+  told = λ rest e.
+      let w = so.told rest e in
+      let t = w.pieces in
+      let r = subst (λ (x : ℕ). Reached (length so.bytes) (so.bytes ++ rest) x (whole_of p ∷ (map whole_of ps ++ w.others)) so.frames d) (sym t.0) w.reached in
+      let here : p.place + length (whole_of p) ≡ p.place + p.length = ap (λ (x : ℕ). p.place + x) (sym t.1) in
+      let rises = taken_rises ps (p.place + p.length) w.next t.3 in
+      let within = w.within (omega arith) in
+      record {
+        start = p.place + p.length;
+        next = w.next;
+        others = w.others;
+        reached = subst (λ (x : ℕ). Reached (length so.bytes) (so.bytes ++ rest) x (map whole_of ps ++ w.others) (so.frames ++ due_of m) n) here
+            (reached_more (length so.bytes) (length so.bytes) (so.bytes ++ rest) p.place (whole_of p) (map whole_of ps ++ w.others) so.frames d m n r so.none t.2 a put (omega (arith, here, rises, within)));
+        pieces = t.3;
+        within = λ some. within;
+        known = w.known;
+      };
+}
+
+-- ---- where decoding stops
+
+-- an endpoint by what it tells alone
+abbrev itself : Option (List ℕ) → Option (List ℕ)
+itself x = x
+
+abbrev no_faults : Option (List ℕ) → ℕ
+no_faults x = 0
+
+abbrev plain : Type 0 → Option (List ℕ) → Option (List ℕ) → Change
+plain failed old new = record { old = old; new = new; Failed = failed; Unchanged = ⊥ }
+
+-- whether an endpoint failed makes no difference to what was written
+cut_as : {bytes text : List ℕ} (a b : Change) → a.old ≡ b.old → a.new ≡ b.new → IsCut bytes text a → IsCut bytes text b
+cut_as a b old new x = record {
+  events = x.events;
+  between = x.between;
+  others = x.others;
+  begun = x.begun;
+  within = x.within;
+  grown = subst (λ (h : Option (List ℕ)). GrowsByPrefix h (raw (shown_by x.between x.events)) b.new) old (subst (λ (h : Option (List ℕ)). GrowsByPrefix a.old (raw (shown_by x.between x.events)) h) new x.grown);
+}
+
+faulty_as : {text : List ℕ} {f : Fault} (a b : Change) → a.old ≡ b.old → a.new ≡ b.new → IsFaulty text a f → IsFaulty text b f
+faulty_as a b old new x = record {
+  fault = x.fault;
+  start = x.start;
+  events = x.events;
+  between = x.between;
+  others = x.others;
+  begun = x.begun;
+  here = x.here;
+  grown = subst (λ (h : Option (List ℕ)). Grows h (raw (due_before x.between x.events)) b.new) old (subst (λ (h : Option (List ℕ)). Grows a.old (raw (due_before x.between x.events)) h) new x.grown);
+}
+
+over_as : {text : List ℕ} {e : DecodeError} (a b : Change) → a.old ≡ b.old → a.new ≡ b.new → IsOver text a e → IsOver text b e
+over_as a b old new x = record {
+  events = x.events;
+  between = x.between;
+  others = x.others;
+  begun = x.begun;
+  over = x.over;
+  grown = subst (λ (h : Option (List ℕ)). Grows h (raw (due_before x.between x.events)) b.new) old (subst (λ (h : Option (List ℕ)). Grows a.old (raw (due_before x.between x.events)) h) new x.grown);
+}
+
+-- the frames that were written are those of whole pieces that were taken
+pub ahead_cut : (failed : Type 0) (later : Later) (l0 l1 h0 h1 : Option (List ℕ)) (ps : List Piece) (d : Decoding) → IsAhead later l0 l1 h0 h1 ps d → OfTaken (plain ⊥ l0 l1) (λ bytes text. IsCut bytes text (plain failed h0 h1))
+ahead_cut failed later l0 l1 h0 h1 ps d so = record {
+  bytes = so.bytes;
+  moved = so.moved;
+  told = λ rest e.
+      let w = so.told rest e in
+      cut_as (change itself no_faults h0 h1) (plain failed h0 h1) refl refl
+      (reached_cut itself no_faults itself no_faults (length so.bytes) so.bytes (so.bytes ++ rest) w.start _ so.frames d h0 h1 w.reached (omega arith) (grows_by_all so.grown));
+}
+
+-- the next piece is refused
+pub ahead_refused : (failed : Type 0) (later : Later) (l0 l1 h0 h1 : Option (List ℕ)) (p : Piece) (ps : List Piece) (d : Decoding) (e : DecodeError) → IsAhead later l0 l1 h0 h1 (p ∷ ps) d → IsSoundPiece p → Refuses d p.place (whole_of p) e → FailsBy failed l0 l1 h0 h1 e
+ahead_refused failed later l0 l1 h0 h1 p ps d errors.Read so sound why = absurd why
+ahead_refused failed later l0 l1 h0 h1 p ps d errors.Write so sound why = absurd why
+ahead_refused failed later l0 l1 h0 h1 p ps d errors.TooLong so sound why = absurd why
+ahead_refused failed later l0 l1 h0 h1 p ps d errors.PictureTooLarge so sound why = absurd why
+ahead_refused failed later l0 l1 h0 h1 p ps d errors.Memory so sound why = ahead_cut failed later l0 l1 h0 h1 (p ∷ ps) d so
+ahead_refused failed later l0 l1 h0 h1 p ps d (errors.Stream f) so sound why = record {
+  bytes = so.bytes;
+  moved = so.moved;
+  told = λ rest e.
+      let w = so.told rest e in
+      let t = w.pieces in
+      let r = subst (λ (x : ℕ). Reached (length so.bytes) (so.bytes ++ rest) x (whole_of p ∷ (map whole_of ps ++ w.others)) so.frames d) (sym t.0) w.reached in
+      faulty_as (change itself no_faults h0 h1) (plain failed h0 h1) refl refl
+      (faulty_at itself no_faults itself no_faults (length so.bytes) (so.bytes ++ rest) p.place (whole_of p ∷ (map whole_of ps ++ w.others)) so.frames d h0 h1 f r so.grown (t.2, why) (omega (arith, sound.end)));
+}
+
+-- memory ran out
+pub ahead_unmade : (failed : Type 0) (later : Later) (l0 l1 h0 h1 : Option (List ℕ)) (ps : List Piece) (d : Decoding) → IsAhead later l0 l1 h0 h1 ps d → FailsBy failed l0 l1 h0 h1 errors.Memory
+ahead_unmade = ahead_cut
+
+-- a prefix of the frames due behind a piece was written
+due_text : (failed : Type 0) (later : Later) (l0 l1 h0 h1 h2 : Option (List ℕ)) (p : Piece) (ps : List Piece) (d m : Decoding) → IsAhead later l0 l1 h0 h1 (p ∷ ps) d → Onward d p.place (whole_of p) m → GrowsByPrefix h1 (raw_of (due_of m)) h2
+    → OfTaken (plain ⊥ l0 l1) (λ bytes text. IsCut bytes text (plain failed h0 h2))
+due_text failed later l0 l1 h0 h1 h2 p ps d m so a cut = record {
+  bytes = so.bytes;
+  moved = so.moved;
+  told = λ rest e.
+      let w = so.told rest e in
+      let t = w.pieces in
+      let r = subst (λ (x : ℕ). Reached (length so.bytes) (so.bytes ++ rest) x (whole_of p ∷ (map whole_of ps ++ w.others)) so.frames d) (sym t.0) w.reached in
+      let rises = taken_rises ps (p.place + p.length) w.next t.3 in
+      let within = w.within (omega arith) in
+      cut_as (change itself no_faults h0 h2) (plain failed h0 h2) refl refl
+      (due_cut itself no_faults itself no_faults (length so.bytes) so.bytes (so.bytes ++ rest) p.place (whole_of p) (map whole_of ps ++ w.others) so.frames d m h0 h1 h2 r so.none t.2 a (omega (arith, t.1, rises, within)) so.grown cut);
+}
+
+-- output failed behind a piece
+pub ahead_unwritten : (failed : Type 0) (later : Later) (l0 l1 h0 : Option (List ℕ)) (out : Change) (p : Piece) (ps : List Piece) (d m : Decoding) (e : DecodeError) → (out.Failed → failed) → IsAhead later l0 l1 h0 out.old (p ∷ ps) d → Onward d p.place (whole_of p) m
+    → Cuts (raw_of (due_of m)) out e → FailsBy failed l0 l1 h0 out.new e
+ahead_unwritten failed later l0 l1 h0 out p ps d m errors.Read rose so a cut = absurd cut
+ahead_unwritten failed later l0 l1 h0 out p ps d m errors.Write rose so a cut = (rose cut.0, due_text failed later l0 l1 h0 out.old out.new p ps d m so a cut.1)
+ahead_unwritten failed later l0 l1 h0 out p ps d m (errors.Stream f) rose so a cut = absurd cut
+ahead_unwritten failed later l0 l1 h0 out p ps d m errors.TooLong rose so a cut = absurd cut
+ahead_unwritten failed later l0 l1 h0 out p ps d m errors.PictureTooLarge rose so a cut = absurd cut
+ahead_unwritten failed later l0 l1 h0 out p ps d m errors.Memory rose so a cut = due_text failed later l0 l1 h0 out.old out.new p ps d m so a cut
+
+-- ---- what is answered
+
+text_as : (P Q : List ℕ → Type 0) (l : Change) → ((t : List ℕ) → P t → Q t) → OfText (plain ⊥ l.old l.new) P → OfText l Q
+text_as P Q l f x = record { bytes = x.bytes; moved = x.moved; told = λ rest e. f (x.bytes ++ rest) (x.told rest e) }
+
+taken_as : (P Q : List ℕ → List ℕ → Type 0) (l : Change) → ((b t : List ℕ) → P b t → Q b t) → OfTaken (plain ⊥ l.old l.new) P → OfTaken l Q
+taken_as P Q l f x = record { bytes = x.bytes; moved = x.moved; told = λ rest e. f x.bytes (x.bytes ++ rest) (x.told rest e) }
+
+-- whether output failed may be said by what follows from it
+pub fails_weaker : (failed failed' : Type 0) (l0 l1 h0 h1 : Option (List ℕ)) (e : DecodeError) → (failed → failed') → FailsBy failed l0 l1 h0 h1 e → FailsBy failed' l0 l1 h0 h1 e
+fails_weaker failed failed' l0 l1 h0 h1 errors.Read weaker x = absurd x.0
+fails_weaker failed failed' l0 l1 h0 h1 errors.Write weaker x = (weaker x.0, taken_as _ _ (plain ⊥ l0 l1) (λ b t c. cut_as (plain failed h0 h1) (plain failed' h0 h1) refl refl c) x.1)
+fails_weaker failed failed' l0 l1 h0 h1 (errors.Stream f) weaker x = text_as _ _ (plain ⊥ l0 l1) (λ t c. faulty_as (plain failed h0 h1) (plain failed' h0 h1) refl refl c) x
+fails_weaker failed failed' l0 l1 h0 h1 errors.TooLong weaker x = text_as _ _ (plain ⊥ l0 l1) (λ t c. over_as (plain failed h0 h1) (plain failed' h0 h1) refl refl c) x
+fails_weaker failed failed' l0 l1 h0 h1 errors.PictureTooLarge weaker x = text_as _ _ (plain ⊥ l0 l1) (λ t c. over_as (plain failed h0 h1) (plain failed' h0 h1) refl refl c) x
+fails_weaker failed failed' l0 l1 h0 h1 errors.Memory weaker x = taken_as _ _ (plain ⊥ l0 l1) (λ b t c. cut_as (plain failed h0 h1) (plain failed' h0 h1) refl refl c) x
+
+-- why decoding stopped is the answer
+pub fails_as : (failed : Type 0) (left held : Change) (e : DecodeError) → (failed → held.Failed) → FailsBy failed left.old left.new held.old held.new e → Fails left held e
+fails_as failed left held errors.Read rose x = absurd x.0
+fails_as failed left held errors.Write rose x = (rose x.0, taken_as _ _ left (λ b t c. cut_as (plain failed held.old held.new) held refl refl c) x.1)
+fails_as failed left held (errors.Stream f) rose x = text_as _ _ left (λ t c. faulty_as (plain failed held.old held.new) held refl refl c) x
+fails_as failed left held errors.TooLong rose x = text_as _ _ left (λ t c. over_as (plain failed held.old held.new) held refl refl c) x
+fails_as failed left held errors.PictureTooLarge rose x = text_as _ _ left (λ t c. over_as (plain failed held.old held.new) held refl refl c) x
+fails_as failed left held errors.Memory rose x = taken_as _ _ left (λ b t c. cut_as (plain failed held.old held.new) held refl refl c) x
+
+-- all that was taken was decoded, and the cutter gives no piece, by an error
+over_text : (l0 l1 h0 h1 : Option (List ℕ)) (d : Decoding) (e : DecodeError) → IsAhead (stopped e) l0 l1 h0 h1 [] d → ((x : ℕ) (l : List (List ℕ)) → Why x l e → PieceStops x l e) → OfText (plain ⊥ l0 l1) (λ text. IsOver text (plain ⊥ h0 h1) e)
+over_text l0 l1 h0 h1 d e so is = record {
+  bytes = so.bytes;
+  moved = so.moved;
+  told = λ rest q.
+      let w = so.told rest q in
+      over_as (change itself no_faults h0 h1) (plain ⊥ h0 h1) refl refl
+      (over_at itself no_faults itself no_faults (length so.bytes) (so.bytes ++ rest) w.start w.others so.frames d h0 h1 e w.reached so.grown
+      (is w.start w.others (subst (λ (x : ℕ). Why x w.others e) w.pieces w.known)));
+}
+
+pub ahead_unread : (left held : Change) (d : Decoding) (e : DecodeError) → (e ≡ errors.Read → left.Failed) → IsReading e → IsAhead (stopped e) left.old left.new held.old held.new [] d → Fails left held e
+ahead_unread left held d errors.Read rose kind so = (rose refl, taken_as _ _ left (λ b t c. cut_as (plain ⊥ held.old held.new) held refl refl c) (ahead_cut ⊥ (stopped errors.Read) _ _ _ _ [] d so))
+ahead_unread left held d errors.Write rose kind so = absurd kind
+ahead_unread left held d (errors.Stream f) rose kind so = absurd kind
+ahead_unread left held d errors.TooLong rose kind so = text_as _ _ left (λ t c. over_as (plain ⊥ held.old held.new) held refl refl c) (over_text _ _ _ _ d errors.TooLong so (λ x l w. w))
+ahead_unread left held d errors.PictureTooLarge rose kind so = text_as _ _ left (λ t c. over_as (plain ⊥ held.old held.new) held refl refl c) (over_text _ _ _ _ d errors.PictureTooLarge so (λ x l w. w))
+ahead_unread left held d errors.Memory rose kind so = taken_as _ _ left (λ b t c. cut_as (plain ⊥ held.old held.new) held refl refl c) (ahead_cut ⊥ (stopped errors.Memory) _ _ _ _ [] d so)
+
+-- all that was taken was decoded, and no piece is left
+pub ahead_ended : (left held : Change) (c : Cutting) (d : Decoding) → IsAhead (ended c) left.old left.new held.old held.new [] d → c.ended ≡ true → c.place ≤ most_input → IsDone left held c d
+ahead_ended left held c d so over most = record {
+  bytes = so.bytes;
+  moved = so.moved;
+  frames = so.frames;
+  grown = so.grown;
+  shown = so.shown;
+  none = so.none;
+  going = so.going;
+  sound = so.sound;
+  over = over;
+  most = most;
+  told = λ rest q.
+      let w = so.told rest q in
+      subst (λ (x : ℕ). Reached (length so.bytes) (so.bytes ++ rest) x [] so.frames d) (sym w.pieces ∙ (w.known).0)
+      (subst (λ (l : List (List ℕ)). Reached (length so.bytes) (so.bytes ++ rest) w.start l so.frames d) (w.known).1 w.reached);
+}

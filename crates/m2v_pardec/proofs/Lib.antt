@@ -1,0 +1,5 @@
+pub mod AheadLaws
+pub mod PutLaws
+pub mod TakenLaws
+pub mod PutSteps
+pub mod GoesLaws

@@ -1,0 +1,4 @@
+pub mod Ahead
+pub mod Taken
+pub mod Rows
+pub mod Put

@@ -1,0 +1,80 @@
+-- Pictures of a batch that was decoded, taken into the decoder one after another.
+use Rattle.std.specs.Prelude.{◌≡◌, ℕ, ◌+◌, ◌-◌, ◌^◌, ◌<◌, ◌≤◌, true, false, List, [], ◌++◌, slice_get, Option, Some}
+use Rattle.m2v_model.specs.declared.state.State.{State}
+use Rattle.m2v_piece.specs.declared.answer.Piece.{Piece}
+use Rattle.m2v_piece.specs.declared.answer.DecodeError.{DecodeError}
+use Rattle.m2v_model.specs.Pieces.{most_input}
+use Rattle.m2v_piece.specs.Cutting.{Cutting, IsReading}
+use Rattle.m2v_picture.specs.Frames.{store_of}
+use Rattle.m2v_batch.specs.declared.picture.BatchPicture.{BatchPicture}
+use Rattle.m2v_batch.specs.Jobs.{first_job}
+use Rattle.m2v_batch.specs.Batches.{headers, IsBatch}
+use Rattle.m2v_behind.specs.Behind.{Tracks}
+use Rattle.m2v_decoder.specs.Decoding.{Decoding}
+use Rattle.m2v_pardec.specs.Ahead.{Later, behind, later_of, AreInOrder, IsAhead, FailsBy}
+use Rattle.m2v_pardec.specs.declared.taking.Stop.{Stop}
+use Rattle.m2v_pardec.specs.declared.taking.Stop.TheVariants.{More, End, Error}
+use Rattle.m2v_pardec.specs.Taken.{IsTold}
+use Rattle.m2v_pardec.specs.Rows.{RowsFrom}
+
+-- picture p of a batch can be taken in by its rows: its headers follow the decoder's state, and the frames at hand are those
+-- of the batch
+pub record CanTakeIn (d : Decoding) (x : BatchPicture) (after : State) (rows : RowsFrom) : Type 0 where
+  pub p : ℕ
+  pub batch : IsBatch rows.batch
+  pub is : slice_get rows.batch.pictures p ≡ Some x
+  pub first : rows.first ≡ first_job (headers rows.batch) p
+  pub told : IsTold d.state x after
+  pub tracks : Tracks rows.batch p (store_of d.frames)
+
+-- it was taken in by its rows, and the frames at hand are those of the batch behind it
+pub record TookIn (old : Decoding) (x : BatchPicture) (after : State) (rows : RowsFrom) (new : Decoding) : Type 0 where
+  pub state : new.state ≡ record after { headers_only = false }
+  pub tracks : (p : ℕ) → slice_get rows.batch.pictures p ≡ Some x → rows.first ≡ first_job (headers rows.batch) p → Tracks rows.batch p (store_of old.frames) → Tracks rows.batch (p + 1) (store_of new.frames)
+
+-- of pieces that were taken ahead all but the last were decoded, and the frames due then written
+abbrev pub PutsTo : List Piece → Decoding → Option (List ℕ) → List Piece → Decoding → Option (List ℕ) → Type 0
+PutsTo ps old held last new held_then =
+    (later : Later) (left left_then before : Option (List ℕ)) (others : List Piece) → IsAhead later left left_then before held (ps ++ others) old → IsAhead later left left_then before held_then (last ++ others) new
+
+-- all of them were
+abbrev pub PutsAll : List Piece → Decoding → Option (List ℕ) → Decoding → Option (List ℕ) → Type 0
+PutsAll ps old held new held_then = PutsTo ps old held [] new held_then
+
+-- why not, where output failed or it didn't
+abbrev pub StopsBy : Type 0 → List Piece → Decoding → Option (List ℕ) → Option (List ℕ) → DecodeError → Type 0
+StopsBy failed ps old held held_then e =
+    (later : Later) (left left_then before : Option (List ℕ)) (others : List Piece) → IsAhead later left left_then before held (ps ++ others) old → FailsBy failed left left_then before held_then e
+
+-- as many pictures were decoded as bytes were read, or fewer
+abbrev pub CountsTo : List Piece → Decoding → List Piece → Decoding → Type 0
+CountsTo ps old last new = (high : ℕ) → AreInOrder old.pictures ps high → AreInOrder new.pictures last high
+
+abbrev pub CountsOn : List Piece → Decoding → Decoding → Type 0
+CountsOn ps old new = CountsTo ps old [] new
+
+-- ---- batch after batch
+
+-- what comes behind pieces of which nothing more is decoded, by the place of the next one
+abbrev pub StandsBy : Stop → Cutting → Cutting → Decoding → Type 0
+StandsBy More old new d = (new.failed ≡ false) × (old.place < new.place) × (new.place ≤ most_input) × (d.pictures ≤ new.place)
+StandsBy End old new d = (new.ended ≡ true) × (new.place ≤ most_input)
+StandsBy (Error e) old new d = IsReading e
+
+-- a number that falls from batch to batch
+abbrev pub batches_left : Stop → Cutting → ℕ
+batches_left More c = 2 ^ 36 + 1 - c.place
+batches_left End c = 0
+batches_left (Error e) c = 0
+
+-- a batch was taken and decoded, and the frames due then written
+pub record GoesOn (c : Cutting) (left held : Option (List ℕ)) (d : Decoding) (stop : Stop) (c' : Cutting) (left' held' : Option (List ℕ)) (d' : Decoding) : Type 0 where
+  pub ahead : (before_left before : Option (List ℕ)) → IsAhead (behind c) before_left left before held [] d → IsAhead (later_of stop c') before_left left' before held' [] d'
+  pub stands : StandsBy stop c c' d'
+  pub going : d'.failed ≡ false
+  pub before : d'.ended ≡ false
+
+-- why not, where output failed or it didn't
+abbrev pub GoesWrong : Type 0 → Cutting → Option (List ℕ) → Option (List ℕ) → Decoding → Option (List ℕ) → Option (List ℕ) → DecodeError → Type 0
+GoesWrong failed c left held d left' held' e =
+    (before_left before : Option (List ℕ)) → IsAhead (behind c) before_left left before held [] d → FailsBy failed before_left left' before held' e
