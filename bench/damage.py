@@ -7,7 +7,7 @@ PROGRAM is the built program. Streams of I, P and B pictures, of frames and fiel
 those that bench/pictures.py makes, and some that PROGRAM itself encodes. COUNT of them (10,000 where no number is
 given) are damaged: bits turned, bytes replaced, taken out, doubled or exchanged, start codes put in, units exchanged,
 the end cut off. Of each, `decode` and `check` must end within 10 seconds and 256 MB with one of their statuses and its
-line, and `decode` with whole frames. Then streams of a megabyte that are dear to read are timed beside an ordinary
+line, and `decode` with whole frames; by four workers, which may take 1 GB of addresses, it must give the same. Then streams of a megabyte that are dear to read are timed beside an ordinary
 one: many tiny slices, many headers, the longest escapes.
 
 It ends with status 1 where a stream was not so answered; that stream is left in /tmp/damaged."""
@@ -36,42 +36,50 @@ LINES = {
               9: r'stream %s at bit \d+' % KIND, 10: r'unlawful rule \d+ picture \d+ have \d+ need \d+',
               11: r'buffer (under|over) picture \d+ have \d+ need \d+', 13: 'too long', 14: 'picture too large'},
 }
-SECONDS, MEMORY = 10, 256 << 20
+SECONDS, MEMORY, MEMORY_BY_FOUR = 10, 256 << 20, 1 << 30
+BY_FOUR = 'decode --workers 4'
 END = b'\0\0\1\xb7'
 
 
-def limits():
-    resource.setrlimit(resource.RLIMIT_AS, (MEMORY, MEMORY))
+def run(program, command, data, seconds=SECONDS, memory=MEMORY):
+    """The status, the line on report, the bytes that were written and how long it took."""
+    def limits():
+        resource.setrlimit(resource.RLIMIT_AS, (memory, memory))
 
-
-def run(program, command, data, seconds=SECONDS):
-    """The status, the line on report, how many bytes were written and how long it took."""
     with tempfile.TemporaryFile() as source, tempfile.TemporaryFile() as out:
         source.write(data)
         source.seek(0)
         start = time.monotonic()
-        done = subprocess.run([program, command], stdin=source, stdout=out, stderr=subprocess.PIPE, timeout=seconds,
+        done = subprocess.run([program, *command.split()], stdin=source, stdout=out, stderr=subprocess.PIPE, timeout=seconds,
                               preexec_fn=limits)
         took = time.monotonic() - start
-        return done.returncode, done.stderr.decode('ascii', 'replace').rstrip('\n'), out.seek(0, os.SEEK_END), took
+        out.seek(0)
+        return done.returncode, done.stderr.decode('ascii', 'replace').rstrip('\n'), out.read(), took
 
 
 def trouble(program, data):
     """What is wrong with the answers to a stream, where something is, and the answers."""
     answers = []
+    said = {}
     for command, lines in LINES.items():
         try:
-            status, line, size, _ = run(program, command, data)
+            said[command] = status, line, output = run(program, command, data)[:3]
         except subprocess.TimeoutExpired:
             return '%s did not end within %d seconds' % (command, SECONDS), answers
         answers.append((command, status))
         if status not in lines or not re.fullmatch(lines[status], line):
             return '%s answered %d: %s' % (command, status, line), answers
-        if command == 'check' and size:
-            return 'check wrote %d bytes' % size, answers
+        if command == 'check' and output:
+            return 'check wrote %d bytes' % len(output), answers
     decoded, checked = answers
     if (decoded[1] == 9) != (checked[1] == 9):
         return 'decode and check differ: %d and %d' % (decoded[1], checked[1]), answers
+    try:
+        by_four = run(program, BY_FOUR, data, memory=MEMORY_BY_FOUR)[:3]
+    except subprocess.TimeoutExpired:
+        return '%s did not end within %d seconds' % (BY_FOUR, SECONDS), answers
+    if by_four != said['decode']:
+        return '%s answered %d: %s, and %d bytes' % (BY_FOUR, *by_four[:2], len(by_four[2])), answers
     return None, answers
 
 
@@ -210,7 +218,7 @@ def main():
     print('ordinary, %d bytes: ' % len(data) + ', '.join('%s %.2f s a megabyte' % it for it in base.items()))
     for name, data in dear().items():
         for command in LINES:
-            status, line, size, took = run(program, command, data, 120)
+            status, line, _, took = run(program, command, data, 120)
             print('%s, %d bytes: %s %d (%s), %.2f s, %.1f times' % (name, len(data), command, status, line, took,
                                                                     took / base[command]))
 

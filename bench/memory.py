@@ -98,6 +98,7 @@ def main():
                 ('flat', ['flat', '32', '32', '3', '4'], clip),
                 ('encode', ['encode', *small, '--group', '2', '--step', '1', '--recon', 'recon', '--workers', '2'], clip),
                 ('decode', ['decode'], plain),
+                ('decode by two workers', ['decode', '--workers', '2'], plain),
                 ('check', ['check'], plain),
                 ('make', ['make', '1'], b''),
         ):

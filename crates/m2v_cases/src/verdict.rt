@@ -9,9 +9,17 @@ use std::thread::Threads;
 /// More calls than a run of a case makes.
 const MANY_CALLS: u64 = 100_000;
 
+/// The numbers of workers with which a case of `decode` without options is run again: it gives the same by each of them.
+const WORKERS: [&str; 4] = ["1", "2", "8", "16"];
+
+/// The number of them where each call of an endpoint fails in turn.
+const FAILING_WORKERS: [&str; 1] = ["4"];
+
 /// A run that didn't give what is wanted.
 #[derive(Drop)]
 pub(crate) struct Mistake {
+    /// The number of workers that the case doesn't name, where it was run again with one.
+    workers: Option<&'static str>,
     /// The endpoint and the call that was to fail, where each fails in turn.
     failing: Option<(Endpoint, u64)>,
     wanted_status: u8,
@@ -26,6 +34,9 @@ pub(crate) struct Mistake {
 
 impl fmt::Display for Mistake {
     fn fmt<W: fmt::Write>(&self, f: &mut fmt::Formatter<W>) -> fmt::Result {
+        if let Some(workers) = self.workers {
+            write!(f, "with --workers {workers}: ")?;
+        }
         if let Some((endpoint, call)) = self.failing {
             write!(f, "call {call} of {endpoint:?} fails: ")?;
         }
@@ -140,6 +151,7 @@ fn mistake_of(
     failing: Option<(Endpoint, u64)>,
 ) -> Result<Mistake, AllocError> {
     Ok(Mistake {
+        workers: None,
         failing,
         wanted_status: wanted.status,
         wanted_bytes: wanted.output.len(),
@@ -151,18 +163,19 @@ fn mistake_of(
     })
 }
 
-/// Runs a case once for each call of an endpoint, which fails, and once more with a call that isn't made. A case that
-/// makes as many calls as none should is a mistake too.
+/// Runs a case by these words once for each call of an endpoint, which fails, and once more with a call that isn't made. A
+/// case that makes as many calls as none should is a mistake too.
 fn mistake_at_a_fault<R: Threads + Wait + Sync>(
     rt: &R,
     alloc: Global,
     case: &Case,
+    words: &[String],
     endpoint: Endpoint,
 ) -> Result<Option<Mistake>, AllocError> {
     for call in 1..MANY_CALLS {
         let mut failing = Failing::none(alloc);
         failing.of(endpoint).push(call)?;
-        let answer = ran(rt, alloc, &case.words, &case.input, &failing)?;
+        let answer = ran(rt, alloc, words, &case.input, &failing)?;
         let right = if answer.failed {
             is_wanted_at_a_fault(&case.wanted, endpoint, call, &answer)
         } else {
@@ -176,23 +189,67 @@ fn mistake_at_a_fault<R: Threads + Wait + Sync>(
             return Ok(None);
         }
     }
-    let answer = ran(rt, alloc, &case.words, &case.input, &Failing::none(alloc))?;
+    let answer = ran(rt, alloc, words, &case.input, &Failing::none(alloc))?;
     let failing = Some((endpoint, MANY_CALLS));
     Ok(Some(mistake_of(alloc, &case.wanted, &answer, failing)?))
 }
 
-/// Runs a case: none where it gives what is wanted, else the first run that doesn't.
+/// Runs a case by these words: none where it gives what is wanted, else the first run that doesn't.
+fn mistake_by<R: Threads + Wait + Sync>(
+    rt: &R,
+    alloc: Global,
+    case: &Case,
+    words: &[String],
+) -> Result<Option<Mistake>, AllocError> {
+    if let Some(endpoint) = case.each {
+        return mistake_at_a_fault(rt, alloc, case, words, endpoint);
+    }
+    let answer = ran(rt, alloc, words, &case.input, &case.failing)?;
+    if is_wanted(&case.wanted, &answer) {
+        return Ok(None);
+    }
+    Ok(Some(mistake_of(alloc, &case.wanted, &answer, None)?))
+}
+
+/// The numbers of workers with which a case is run again.
+fn workers_of(case: &Case) -> &'static [&'static str] {
+    let (first, count) = (case.words.first(), case.words.len());
+    match first {
+        Some(word) if word.as_str() == "decode" && count == 1 => match case.each {
+            Some(_) => &FAILING_WORKERS,
+            None => &WORKERS,
+        },
+        _ => &[],
+    }
+}
+
+/// Words with a number of workers behind them.
+fn with_workers(alloc: Global, words: &[String], workers: &str) -> Result<Vec<String>, AllocError> {
+    let mut all = Vec::new(alloc);
+    for word in words.iter() {
+        all.push(word.clone()?)?;
+    }
+    all.push(String::from_str(alloc, "--workers")?)?;
+    all.push(String::from_str(alloc, workers)?)?;
+    Ok(all)
+}
+
+/// Runs a case, of `decode` with several numbers of workers too: none where each run gives what is wanted, else the first
+/// one that doesn't.
 pub(crate) fn first_mistake<R: Threads + Wait + Sync>(
     rt: &R,
     alloc: Global,
     case: &Case,
 ) -> Result<Option<Mistake>, AllocError> {
-    if let Some(endpoint) = case.each {
-        return mistake_at_a_fault(rt, alloc, case, endpoint);
+    if let Some(mistake) = mistake_by(rt, alloc, case, &case.words)? {
+        return Ok(Some(mistake));
     }
-    let answer = ran(rt, alloc, &case.words, &case.input, &case.failing)?;
-    if is_wanted(&case.wanted, &answer) {
-        return Ok(None);
+    for workers in workers_of(case).iter() {
+        let words = with_workers(alloc, &case.words, *workers)?;
+        if let Some(mut mistake) = mistake_by(rt, alloc, case, &words)? {
+            mistake.workers = Some(*workers);
+            return Ok(Some(mistake));
+        }
     }
-    Ok(Some(mistake_of(alloc, &case.wanted, &answer, None)?))
+    Ok(None)
 }

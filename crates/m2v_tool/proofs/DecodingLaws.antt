@@ -1,8 +1,9 @@
 -- What follows from what `decode` did and what was told of it.
-use Rattle.std.proofs.Common.{◌≡◌, inl, inr, ℕ, List, Some, refl, sym, subst, arith}
+use Rattle.std.proofs.Common.{◌≡◌, ◌∙◌, inl, inr, ℕ, List, Some, refl, sym, subst, arith}
 use Rattle.m2v_port.specs.Port.{Grows}
 use Rattle.m2v_port.proofs.Runs.{tells}
 use Rattle.m2v_plane.specs.Raw.{raw}
+use Rattle.m2v_set.specs.declared.unfit.Unfit.{Unfit}
 use Rattle.m2v_model.specs.Pieces.{Limit, too_long, too_large, pieces}
 use Rattle.m2v_model.specs.Decoding.{Decodes, FaultAt}
 use Rattle.m2v_model.proofs.Unique.{exactly_one}
@@ -14,11 +15,22 @@ use Rattle.m2v_decode.specs.Answers.{OfText, IsDecoded, IsFaulty, IsOver, Fails,
 use Rattle.m2v_decode.specs.Complete.{IsUnderLimits, IsLate, IsPast, counted}
 use Rattle.m2v_decode.proofs.AnswerLaws.{not_long, not_large, of_text, shown_grown, shown_counted, same_fault, past_long, past_large, past_shown, past_fault, late_large}
 use Rattle.m2v_tool.specs.declared.decode.DecodeOutcome.{DecodeOutcome}
-use Rattle.m2v_tool.specs.declared.decode.DecodeOutcome.TheVariants.{Shown, Stopped}
-use Rattle.m2v_tool.specs.Endings.{Told, whole, cut, line_of, stream_fault, ending_past}
-use Rattle.m2v_tool.specs.Decoding.{DecodeComes, decoding_stopped, shown_ending, decode_ending, Past, Showed, Refused, DecodeKeeps}
-use Rattle.m2v_tool.specs.Runs.{Run, Yields, NoneFailed, Succeeds}
+use Rattle.m2v_tool.specs.declared.decode.DecodeOutcome.TheVariants.{Shown, Unfit as NotFit, Stopped}
+use Rattle.m2v_tool.specs.Endings.{Told, whole, cut, line_of, unfit_ending, stream_fault, ending_past}
+use Rattle.m2v_tool.specs.Decoding.{WorkersPass, WorkersFail, DecodeComes, decoding_stopped, shown_ending, decode_ending, Past, Showed, Refused, StreamKeeps, DecodeKeeps}
+use Rattle.m2v_tool.specs.Runs.{Run, work_of, IsUntouched, Yields, RefusedBy, NoneFailed, Succeeds}
 use Rattle.m2v_tool.proofs.EndingLaws.{refusal, or_memory}
+
+-- ---- workers
+
+fails_then : (workers : ℕ) (u : Unfit) → WorkersFail workers u → WorkersPass workers → ⊥
+fails_then workers u fails passes = cc (sym passes ∙ fails)
+
+unfit_at : (r : Run) (workers : ℕ) (o : DecodeOutcome) → DecodeComes workers r.input r.output o → Told (decode_ending o) r.status r.report → r.recon.Unchanged → (WorkersPass workers → ⊥) → RefusedBy 3 r
+unfolding DecodeComes decode_ending unfit_ending
+unfit_at r workers (Shown d) c t k fails = absurd (fails c.0)
+unfit_at r workers (NotFit u) c t k fails = (refusal (decode_ending (NotFit u)) r.status 3 r.report t refl refl, (c.1, c.2, k))
+unfit_at r workers (Stopped e) c t k fails = absurd (fails c.0)
 
 -- ---- what was told
 
@@ -75,12 +87,13 @@ module _ (r : Run) (text : List ℕ) (told : r.input.old ≡ Some text) where
     stopped_shows errors.Write c t = write_at (Showed r d) c t
     stopped_shows errors.Memory c t = memory_at (Showed r d) t
 
-    shows_at : (o : DecodeOutcome) → DecodeComes r.input r.output o → Told (decode_ending o) r.status r.report → Yields r (Showed r d)
+    shows_at : (workers : ℕ) (o : DecodeOutcome) → WorkersPass workers → DecodeComes workers r.input r.output o → Told (decode_ending o) r.status r.report → Yields r (Showed r d)
     unfolding DecodeComes decode_ending
-    shows_at (Shown n) c t =
-        let i = shown_of n c in
+    shows_at workers (Shown n) passes c t =
+        let i = shown_of n c.1 in
         told_shown n (shown_counted text frames d r.output n i) i.fit (shown_grown text frames d r.output n i) t
-    shows_at (Stopped e) c t = stopped_shows e c t
+    shows_at workers (NotFit u) passes c t = absurd (fails_then workers u c.0 passes)
+    shows_at workers (Stopped e) passes c t = stopped_shows e c.1 t
 
     -- under the limits, and with no count that rose
     whole_shown : IsUnderLimits text → NoneFailed r → Yields r (Showed r d) → Succeeds r
@@ -113,12 +126,13 @@ module _ (r : Run) (text : List ℕ) (told : r.input.old ≡ Some text) where
     stopped_refuses errors.Write at c t = write_at (Refused r text f) c t
     stopped_refuses errors.Memory at c t = memory_at (Refused r text f) t
 
-    refuses_at : (o : DecodeOutcome) → FaultAt text f.place f.kind → DecodeComes r.input r.output o → Told (decode_ending o) r.status r.report → Yields r (Refused r text f)
+    refuses_at : (workers : ℕ) (o : DecodeOutcome) → WorkersPass workers → FaultAt text f.place f.kind → DecodeComes workers r.input r.output o → Told (decode_ending o) r.status r.report → Yields r (Refused r text f)
     unfolding DecodeComes decode_ending
-    refuses_at (Shown n) at c t =
-        let i = shown_of n c in
+    refuses_at workers (Shown n) passes at c t =
+        let i = shown_of n c.1 in
         absurd ((exactly_one text).not_both i.frames f.place f.kind i.decodes at)
-    refuses_at (Stopped e) at c t = stopped_refuses e at c t
+    refuses_at workers (NotFit u) passes at c t = absurd (fails_then workers u c.0 passes)
+    refuses_at workers (Stopped e) passes at c t = stopped_refuses e at c.1 t
 
   module _ (l : Limit) (past : IsPast text l) where
     stopped_past : (e : DecodeError) → Fails r.input r.output e → Told (decoding_stopped e) r.status r.report → Yields r (Past r text l)
@@ -135,10 +149,11 @@ module _ (r : Run) (text : List ℕ) (told : r.input.old ≡ Some text) where
     stopped_past errors.Write c t = write_at (Past r text l) c t
     stopped_past errors.Memory c t = memory_at (Past r text l) t
 
-    past_at : (o : DecodeOutcome) → DecodeComes r.input r.output o → Told (decode_ending o) r.status r.report → Yields r (Past r text l)
+    past_at : (workers : ℕ) (o : DecodeOutcome) → WorkersPass workers → DecodeComes workers r.input r.output o → Told (decode_ending o) r.status r.report → Yields r (Past r text l)
     unfolding DecodeComes decode_ending
-    past_at (Shown n) c t = absurd (past_shown text l r.output n past (shown_of n c))
-    past_at (Stopped e) c t = stopped_past e c t
+    past_at workers (Shown n) passes c t = absurd (past_shown text l r.output n past (shown_of n c.1))
+    past_at workers (NotFit u) passes c t = absurd (fails_then workers u c.0 passes)
+    past_at workers (Stopped e) passes c t = stopped_past e c.1 t
 
   module _ (late : IsLate text) where
     stopped_late : (e : DecodeError) → Fails r.input r.output e → Told (decoding_stopped e) r.status r.report → Yields r (Past r text too_long)
@@ -151,30 +166,38 @@ module _ (r : Run) (text : List ℕ) (told : r.input.old ≡ Some text) where
     stopped_late errors.Write c t = write_at (Past r text too_long) c t
     stopped_late errors.Memory c t = memory_at (Past r text too_long) t
 
-    late_at : (o : DecodeOutcome) → DecodeComes r.input r.output o → Told (decode_ending o) r.status r.report → Yields r (Past r text too_long)
+    late_at : (workers : ℕ) (o : DecodeOutcome) → WorkersPass workers → DecodeComes workers r.input r.output o → Told (decode_ending o) r.status r.report → Yields r (Past r text too_long)
     unfolding DecodeComes decode_ending
-    late_at (Shown n) c t =
-        let start = (shown_of n c).start in
+    late_at workers (Shown n) passes c t =
+        let start = (shown_of n c.1).start in
         absurd (omega (arith, start, late))
-    late_at (Stopped e) c t = stopped_late e c t
+    late_at workers (NotFit u) passes c t = absurd (fails_then workers u c.0 passes)
+    late_at workers (Stopped e) passes c t = stopped_late e c.1 t
 
-pub decode_keeps : (r : Run) (o : DecodeOutcome) → DecodeComes r.input r.output o → Told (decode_ending o) r.status r.report → DecodeKeeps r
-decode_keeps r o c t = record {
-  shown = tells r.input (λ text. (frames : List (List ℕ)) (d : Decodes text frames) → Yields r (Showed r d)) (λ text is frames d. shows_at r text is frames d o c t);
-  faulty = tells r.input (λ text. (f : Fault) → FaultAt text f.place f.kind → Yields r (Refused r text f)) (λ text is f at. refuses_at r text is f o at c t);
-  over = tells r.input (λ text. (l : Limit) → IsPast text l → Yields r (Past r text l)) (λ text is l past. past_at r text is l past o c t);
-  late = tells r.input (λ text. IsLate text → Yields r (Past r text too_long)) (λ text is late. late_at r text is late o c t);
-  decoded = tells r.input (λ text. (frames : List (List ℕ)) → Decodes text frames → IsUnderLimits text → NoneFailed r → Succeeds r)
-      (λ text is frames d under well. whole_shown r text is frames d under well (shows_at r text is frames d o c t));
-}
+module _ (r : Run) (workers : ℕ) where
+  stream_keeps : (o : DecodeOutcome) → WorkersPass workers → DecodeComes workers r.input r.output o → Told (decode_ending o) r.status r.report → StreamKeeps r
+  stream_keeps o passes c t = record {
+    shown = tells r.input (λ text. (frames : List (List ℕ)) (d : Decodes text frames) → Yields r (Showed r d)) (λ text is frames d. shows_at r text is frames d workers o passes c t);
+    faulty = tells r.input (λ text. (f : Fault) → FaultAt text f.place f.kind → Yields r (Refused r text f)) (λ text is f at. refuses_at r text is f workers o passes at c t);
+    over = tells r.input (λ text. (l : Limit) → IsPast text l → Yields r (Past r text l)) (λ text is l past. past_at r text is l past workers o passes c t);
+    late = tells r.input (λ text. IsLate text → Yields r (Past r text too_long)) (λ text is late. late_at r text is late workers o passes c t);
+    decoded = tells r.input (λ text. (frames : List (List ℕ)) → Decodes text frames → IsUnderLimits text → NoneFailed r → Succeeds r)
+        (λ text is frames d under well. whole_shown r text is frames d under well (shows_at r text is frames d workers o passes c t));
+  }
 
--- where memory ran out before the words were read
-pub decode_unread : (r : Run) → r.status ≡ 12 → DecodeKeeps r
-decode_unread r is = record {
-  shown = tells r.input (λ text. (frames : List (List ℕ)) (d : Decodes text frames) → Yields r (Showed r d)) (λ text told frames d. Yields.memory is);
-  faulty = tells r.input (λ text. (f : Fault) → FaultAt text f.place f.kind → Yields r (Refused r text f)) (λ text told f at. Yields.memory is);
-  over = tells r.input (λ text. (l : Limit) → IsPast text l → Yields r (Past r text l)) (λ text told l past. Yields.memory is);
-  late = tells r.input (λ text. IsLate text → Yields r (Past r text too_long)) (λ text told late. Yields.memory is);
-  decoded = tells r.input (λ text. (frames : List (List ℕ)) → Decodes text frames → IsUnderLimits text → NoneFailed r → Succeeds r)
-      (λ text told frames d under well. inr is);
-}
+  pub decode_keeps : (o : DecodeOutcome) → DecodeComes workers r.input r.output o → Told (decode_ending o) r.status r.report → r.recon.Unchanged → DecodeKeeps workers r
+  decode_keeps o c t k = record { unfit = unfit_at r workers o c t k; stream = λ passes. stream_keeps o passes c t }
+
+  stream_unread : r.status ≡ 12 → StreamKeeps r
+  stream_unread is = record {
+    shown = tells r.input (λ text. (frames : List (List ℕ)) (d : Decodes text frames) → Yields r (Showed r d)) (λ text told frames d. Yields.memory is);
+    faulty = tells r.input (λ text. (f : Fault) → FaultAt text f.place f.kind → Yields r (Refused r text f)) (λ text told f at. Yields.memory is);
+    over = tells r.input (λ text. (l : Limit) → IsPast text l → Yields r (Past r text l)) (λ text told l past. Yields.memory is);
+    late = tells r.input (λ text. IsLate text → Yields r (Past r text too_long)) (λ text told late. Yields.memory is);
+    decoded = tells r.input (λ text. (frames : List (List ℕ)) → Decodes text frames → IsUnderLimits text → NoneFailed r → Succeeds r)
+        (λ text told frames d under well. inr is);
+  }
+
+  -- where memory ran out before the words were read
+  pub decode_unread : IsUntouched (work_of r) → r.status ≡ 12 → DecodeKeeps workers r
+  decode_unread untouched is = record { unfit = λ fails. (inr is, untouched); stream = λ passes. stream_unread is }

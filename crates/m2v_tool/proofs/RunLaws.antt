@@ -29,7 +29,7 @@ module _ (r : Run) where
   refused_by NoMemory c t none = (inr (memory_told r.status r.report t), c)
   refused_by (Flat o) c t none = absurd (none (commands.Flat c.0) c.1)
   refused_by (Encode o) c t none = absurd (none (commands.Encode c.0) c.1)
-  refused_by (Decode o) c t none = absurd (none commands.Decode c.0)
+  refused_by (Decode o) c t none = absurd (none (commands.Decode c.0) c.1)
   refused_by (Check o) c t none = absurd (none commands.Check c.0)
   refused_by (Make o) c t none = absurd (none (commands.Make c.0) c.1)
   refused_by (Cut o) c t none = absurd (none (commands.Cut c.0) c.1)
@@ -41,7 +41,7 @@ module _ (r : Run) where
   unread_by : IsUntouched (work_of r) → r.status ≡ 12 → (c : Command) → Keeps c r
   unread_by untouched is (commands.Flat w) = flat_unread r w untouched is
   unread_by untouched is (commands.Encode w) = encode_unread r (words_of w) untouched is
-  unread_by untouched is commands.Decode = decode_unread r is
+  unread_by untouched is (commands.Decode workers) = decode_unread r workers untouched is
   unread_by untouched is commands.Check = check_unread r is
   unread_by untouched is (commands.Make seed) = make_unread r is
   unread_by untouched is (commands.Cut w) = cut_unread r w untouched is
@@ -61,7 +61,7 @@ module _ (r : Run) where
   keeps_by NoMemory c t d means = unread_by c (memory_told r.status r.report t) d
   keeps_by (Flat o) c t d means = same_keeps (commands.Flat c.0) d c.1 means (flat_keeps r c.0 o c.2 t c.3)
   keeps_by (Encode o) c t d means = same_keeps (commands.Encode c.0) d c.1 means (encode_keeps r (words_of c.0) o c.2 t)
-  keeps_by (Decode o) c t d means = same_keeps commands.Decode d c.0 means (decode_keeps r o c.1 t)
+  keeps_by (Decode o) c t d means = same_keeps (commands.Decode c.0) d c.1 means (decode_keeps r c.0 o c.2 t c.3)
   keeps_by (Check o) c t d means = same_keeps commands.Check d c.0 means (check_keeps r o c.1 t)
   keeps_by (Make o) c t d means = same_keeps (commands.Make c.0) d c.1 means (make_keeps r c.0 o c.2 t)
   keeps_by (Cut o) c t d means = same_keeps (commands.Cut c.0) d c.1 means (cut_keeps r c.0 o c.2 t c.3)

@@ -10,6 +10,7 @@ use Rattle.m2v_tool.specs.declared.cut.CutWords.{CutWords}
 use Rattle.m2v_tool.specs.declared.command.Command.{Command}
 use Rattle.m2v_tool.specs.declared.command.Command.TheVariants.{Flat, Encode, Decode, Check, Make, Cut, Pack, Unpack, EncodeY4m}
 use Rattle.m2v_tool.specs.EncodeWords.{encode_meant, words_of}
+use Rattle.m2v_tool.specs.Decoding.{decode_meant}
 use Rattle.m2v_tool.specs.Making.{make_meant}
 use Rattle.m2v_tool.specs.Cutting.{cut_meant}
 use Rattle.m2v_tool.specs.Packing.{pack_meant}
@@ -32,7 +33,7 @@ data Kind : Type 0 where
 abbrev kind_of : Command → Kind
 kind_of (Flat w) = flats
 kind_of (Encode w) = encodes
-kind_of Decode = decodes
+kind_of (Decode workers) = decodes
 kind_of Check = checks
 kind_of (Make seed) = makes
 kind_of (Cut w) = cuts
@@ -56,7 +57,7 @@ kind_named name =
 by_name : (name : Text) (others : List Text) (c : Command) → Means (name ∷ others) c → kind_named name ≡ kind_of c
 by_name name others (Flat w) m = ap kind_named m.0
 by_name name others (Encode w) m = ap kind_named m.0
-by_name name others Decode m = ap kind_named m.0
+by_name name others (Decode workers) m = ap kind_named m.0
 by_name name others Check m = ap kind_named m.0
 by_name name others (Make seed) m = ap kind_named m.0
 by_name name others (Cut w) m = ap kind_named m.0
@@ -68,7 +69,7 @@ by_name name others (EncodeY4m w) m = ap kind_named m.0
 abbrev Payload : Kind → Type 0
 Payload flats = FlatWords
 Payload encodes = EncodeWords
-Payload decodes = Unit {0}
+Payload decodes = ℕ
 Payload checks = Unit {0}
 Payload makes = ℕ
 Payload cuts = CutWords
@@ -79,7 +80,7 @@ Payload codes_texts = EncodeWords
 abbrev payload : (c : Command) → Payload (kind_of c)
 payload (Flat w) = w
 payload (Encode w) = w
-payload Decode = tt
+payload (Decode workers) = workers
 payload Check = tt
 payload (Make seed) = seed
 payload (Cut w) = w
@@ -91,7 +92,7 @@ payload (EncodeY4m w) = w
 abbrev command_of : (k : Kind) → Payload k → Command
 command_of flats w = Flat w
 command_of encodes w = Encode w
-command_of decodes u = Decode
+command_of decodes workers = Decode workers
 command_of checks u = Check
 command_of makes seed = Make seed
 command_of cuts w = Cut w
@@ -102,7 +103,7 @@ command_of codes_texts w = EncodeY4m w
 again : (c : Command) → command_of (kind_of c) (payload c) ≡ c
 again (Flat w) = refl
 again (Encode w) = refl
-again Decode = refl
+again (Decode workers) = refl
 again Check = refl
 again (Make seed) = refl
 again (Cut w) = refl
@@ -114,7 +115,7 @@ again (EncodeY4m w) = refl
 abbrev Says : (k : Kind) → List Text → Payload k → Type 0
 Says flats others w = flat_meant others ≡ Some w
 Says encodes others w = encode_meant others ≡ Some (words_of w)
-Says decodes others u = Unit {0}
+Says decodes others workers = decode_meant others ≡ Some workers
 Says checks others u = Unit {0}
 Says makes others seed = make_meant others ≡ Some seed
 Says cuts others w = cut_meant others ≡ Some w
@@ -125,7 +126,7 @@ Says codes_texts others w = y4m_meant others ≡ Some (words_of w)
 said : (name : Text) (others : List Text) (c : Command) → Means (name ∷ others) c → Says (kind_of c) others (payload c)
 said name others (Flat w) m = m.1
 said name others (Encode w) m = m.1
-said name others Decode m = tt
+said name others (Decode workers) m = m.1
 said name others Check m = tt
 said name others (Make seed) m = m.1
 said name others (Cut w) m = m.1
@@ -146,7 +147,7 @@ module _ (P : Command → Type 0) (alike : (v w : EncodeWords) → words_of v �
   one_payload : (k : Kind) (others : List Text) (x y : Payload k) → Says k others x → Says k others y → P (command_of k x) → P (command_of k y)
   one_payload flats others x y f g p = subst (λ (w : FlatWords). P (Flat w)) (one_some _ x y f g) p
   one_payload encodes others x y f g p = alike x y (one_some _ (words_of x) (words_of y) f g) p
-  one_payload decodes others x y f g p = p
+  one_payload decodes others x y f g p = subst (λ (n : ℕ). P (Decode n)) (one_some _ x y f g) p
   one_payload checks others x y f g p = p
   one_payload makes others x y f g p = subst (λ (n : ℕ). P (Make n)) (one_some _ x y f g) p
   one_payload cuts others x y f g p = subst (λ (w : CutWords). P (Cut w)) (one_some _ x y f g) p

@@ -32,7 +32,8 @@ Comes words k (outcomes.Flat o) =
 Comes words k (outcomes.Encode o) =
     (w : EncodeWords) × Means words (commands.Encode w) × EncodeComes (words_of w) k o
 Comes words k (outcomes.Decode o) =
-    Means words commands.Decode × DecodeComes k.input k.output o × k.recon.Unchanged
+    (workers : ℕ) × Means words (commands.Decode workers) × DecodeComes workers k.input k.output o
+    × k.recon.Unchanged
 Comes words k (outcomes.Check o) =
     Means words commands.Check × CheckComes k.input o × k.output.Unchanged × k.recon.Unchanged
 Comes words k (outcomes.Make o) =
@@ -67,7 +68,7 @@ ending_of (outcomes.EncodeY4m o) = y4m_ending o
 abbrev pub Keeps : Command → Run → Type 0
 Keeps (commands.Flat w) r = FlatKeeps w r
 Keeps (commands.Encode w) r = EncodeKeeps (words_of w) r
-Keeps commands.Decode r = DecodeKeeps r
+Keeps (commands.Decode workers) r = DecodeKeeps workers r
 Keeps commands.Check r = CheckKeeps r
 Keeps (commands.Make seed) r = MakeKeeps r
 Keeps (commands.Cut w) r = CutKeeps w r

@@ -1,9 +1,13 @@
--- What `decode` does: which outcome comes, what stands in input and output then, and what is answered to a text by its
--- decoding or its first fault.
-use Rattle.std.specs.Prelude.{ℕ, ◌≡◌, List, [], ◌∷◌, codes}
+-- What `decode` does: its words, which outcome comes, what stands in input and output then, and what is answered to a text
+-- by its decoding or its first fault.
+use Rattle.std.specs.Prelude.{ℕ, ◌≡◌, List, [], ◌∷◌, Option, Ok, Err, codes, option_map}
+use Rattle.clap.specs.Walk.{Text}
+use Rattle.clap.specs.Simple.{App}
 use Rattle.m2v_port.specs.Ends.{Change, Tells}
 use Rattle.m2v_port.specs.Port.{Grows}
 use Rattle.m2v_plane.specs.Raw.{raw}
+use Rattle.m2v_set.specs.declared.unfit.Unfit.{Unfit}
+use Rattle.m2v_set.specs.Rules.{Condition, at_least, at_most, judged}
 use Rattle.m2v_model.specs.Pieces.{pieces, Limit, too_long, too_large}
 use Rattle.m2v_model.specs.Decoding.{Decodes, FaultAt}
 use Rattle.m2v_piece.specs.declared.answer.Fault.{Fault}
@@ -13,14 +17,47 @@ use Rattle.m2v_decode.specs.declared.answer.Decoded.{Decoded}
 use Rattle.m2v_decode.specs.Answers.{OfText, IsDecoded, IsFaulty, IsOver, Fails, AllFit, start_of}
 use Rattle.m2v_decode.specs.Complete.{IsUnderLimits, IsLate, IsPast, counted, error_of}
 use Rattle.m2v_tool.specs.declared.decode.DecodeOutcome.{DecodeOutcome}
-use Rattle.m2v_tool.specs.declared.decode.DecodeOutcome.TheVariants.{Shown, Stopped}
-use Rattle.m2v_tool.specs.Endings.{Ending, Told, line_of, read_fault, write_fault, no_memory, stream_fault, ending_past}
-use Rattle.m2v_tool.specs.Runs.{Run, Yields, NoneFailed, Succeeds}
+use Rattle.m2v_tool.specs.declared.decode.DecodeOutcome.TheVariants.{Shown, Unfit as NotFit, Stopped}
+use Rattle.m2v_tool.specs.Simple.{simple, number_option, number_or, taken}
+use Rattle.m2v_tool.specs.Endings.{Ending, Told, line_of, read_fault, write_fault, no_memory, unfit_ending, stream_fault, ending_past}
+use Rattle.m2v_tool.specs.Runs.{Run, Yields, RefusedBy, NoneFailed, Succeeds}
 
--- When each outcome of `decode` comes, and what stands then.
-unfoldable pub DecodeComes : Change → Change → DecodeOutcome → Type 0
-DecodeComes left held (Shown d) = OfText left (λ text. IsDecoded text held d)
-DecodeComes left held (Stopped e) = Fails left held e
+-- ---- words
+
+-- the option behind `decode`: how many workers decode
+abbrev pub decode_app : App
+decode_app = simple (codes "decode") (number_option (codes "workers") ∷ [])
+
+-- what the words behind `decode` mean, where `clap` takes them: so many workers, and where no number is given 1
+unfoldable pub decode_meant : List Text → Option ℕ
+decode_meant words = option_map (number_or (codes "workers") 1) (taken decode_app words)
+
+-- ---- workers
+
+-- rule 6 on workers, as with `encode`: 1 to 16 of them
+unfoldable pub workers_rules : ℕ → List Condition
+workers_rules workers = at_least 6 workers 1 ∷ at_most 6 workers 16 ∷ []
+
+-- so many workers pass
+abbrev pub WorkersPass : ℕ → Type 0
+WorkersPass workers = judged (workers_rules workers) ≡ Ok tt
+
+-- they don't: the first condition that fails
+abbrev pub WorkersFail : ℕ → Unfit → Type 0
+WorkersFail workers u = judged (workers_rules workers) ≡ Err u
+
+-- ---- outcomes
+
+-- When each outcome of `decode` comes, and what stands then: a stream is decoded, or decoding stops, in the same way by
+-- each number of workers that passes.
+unfoldable pub DecodeComes : ℕ → Change → Change → DecodeOutcome → Type 0
+DecodeComes workers left held (Shown d) =
+    WorkersPass workers × OfText left (λ text. IsDecoded text held d)
+DecodeComes workers left held (NotFit u) =
+    WorkersFail workers u × left.Unchanged × held.Unchanged
+DecodeComes workers left held (Stopped e) = WorkersPass workers × Fails left held e
+
+-- ---- statuses and lines
 
 -- the ending of a stream that wasn't decoded to its end
 unfoldable pub decoding_stopped : DecodeError → Ending
@@ -41,7 +78,10 @@ shown_ending d = record {
 
 unfoldable pub decode_ending : DecodeOutcome → Ending
 decode_ending (Shown d) = shown_ending d
+decode_ending (NotFit u) = unfit_ending u
 decode_ending (Stopped e) = decoding_stopped e
+
+-- ---- answers
 
 -- Refused by this limit: its status, with the frames due before on output and its line on report.
 pub record Past (r : Run) (text : List ℕ) (l : Limit) : Type 0 where
@@ -68,11 +108,11 @@ pub data Refused (r : Run) (text : List ℕ) (f : Fault) : Type 0 where
       → Refused r text f
   past : (l : Limit) → (IsUnderLimits text → ⊥) → Past r text l → Refused r text f
 
--- What is answered to `decode`: a stream that decodes is decoded to its frames, or refused where it passes a limit; one
+-- What is answered to a stream by workers that pass: one that decodes is decoded to its frames, or refused where it passes a limit; one
 -- that doesn't decode is refused by its first fault, or by a limit before it; one that passes a limit before a fault is
 -- refused by that limit; one of more bytes than an input may have, with no sequence header before the last of these, is too
 -- long; and one under the limits that decodes is decoded.
-pub record DecodeKeeps (r : Run) : Type 0 where
+pub record StreamKeeps (r : Run) : Type 0 where
   pub shown : Tells r.input (λ text.
       (frames : List (List ℕ)) (d : Decodes text frames) → Yields r (Showed r d))
   pub faulty : Tells r.input (λ text.
@@ -81,3 +121,9 @@ pub record DecodeKeeps (r : Run) : Type 0 where
   pub late : Tells r.input (λ text. IsLate text → Yields r (Past r text too_long))
   pub decoded : Tells r.input (λ text. (frames : List (List ℕ)) → Decodes text frames
       → IsUnderLimits text → NoneFailed r → Succeeds r)
+
+-- What is answered to `decode`: a number of workers that doesn't pass is refused, and nothing else is looked at; with each
+-- one that passes a stream is answered in the same way.
+pub record DecodeKeeps (workers : ℕ) (r : Run) : Type 0 where
+  pub unfit : (WorkersPass workers → ⊥) → RefusedBy 3 r
+  pub stream : WorkersPass workers → StreamKeeps r

@@ -10,6 +10,7 @@ use Rattle.m2v_tool.specs.declared.flat.FlatWords.{FlatWords}
 use Rattle.m2v_tool.specs.declared.command.Command.{Command}
 use Rattle.m2v_tool.specs.declared.command.Command.TheVariants.{Flat, Encode, Decode, Check, Make, Cut, Pack, Unpack, EncodeY4m}
 use Rattle.m2v_tool.specs.EncodeWords.{encode_meant, words_of}
+use Rattle.m2v_tool.specs.Decoding.{decode_meant}
 use Rattle.m2v_tool.specs.Making.{make_meant}
 use Rattle.m2v_tool.specs.Cutting.{cut_meant}
 use Rattle.m2v_tool.specs.Packing.{pack_meant}
@@ -40,8 +41,8 @@ abbrev pub MeansBy : Text → List Text → Command → Type 0
 MeansBy name others (Flat w) = (name ≡ codes "flat") × (flat_meant others ≡ Some w)
 MeansBy name others (Encode w) =
     (name ≡ codes "encode") × (encode_meant others ≡ Some (words_of w))
-MeansBy name others Decode =
-    (name ≡ codes "decode") × (stands_alone (codes "decode") others ≡ true)
+MeansBy name others (Decode workers) =
+    (name ≡ codes "decode") × (decode_meant others ≡ Some workers)
 MeansBy name others Check =
     (name ≡ codes "check") × (stands_alone (codes "check") others ≡ true)
 MeansBy name others (Make seed) = (name ≡ codes "make") × (make_meant others ≡ Some seed)

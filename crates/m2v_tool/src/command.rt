@@ -24,8 +24,8 @@ pub enum Command {
     Flat(FlatWords),
     /// Raw frames are coded.
     Encode(EncodeWords),
-    /// A stream is decoded.
-    Decode,
+    /// A stream is decoded, by so many workers.
+    Decode(u32),
     /// A stream is judged.
     Check,
     /// The stream of a seed is made.
@@ -104,10 +104,10 @@ fn meant_by(alloc: Global, name: &str, others: &[String]) -> Result<Option<Comma
             Some(meant) => Ok(Some(Command::Encode(meant))),
             None => Ok(None),
         },
-        "decode" => {
-            let taken = decode_words(alloc, others)?;
-            Ok(taken.then_some(Command::Decode))
-        }
+        "decode" => match decode_words(alloc, others)? {
+            Some(workers) => Ok(Some(Command::Decode(workers))),
+            None => Ok(None),
+        },
         "check" => {
             let taken = check_words(alloc, others)?;
             Ok(taken.then_some(Command::Check))

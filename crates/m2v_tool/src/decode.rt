@@ -1,22 +1,65 @@
-ghost use Rattle.std.specs.Prelude.{◌≡◌, ◌≤◌, codes, map, string_bytes, IfOk, IsTrue};
+ghost use Rattle.std.specs.Prelude.{◌≡◌, ◌≤◌, ◌<◌, map, string_bytes, IfOk, OnOk, IsTrue};
+ghost use Rattle.clap.specs.Simple.{app_of};
 ghost use Rattle.m2v_port.specs.Ends.{change, SinkStays};
+ghost use Rattle.m2v_set.specs.Rules.{judged};
 ghost use Rattle.m2v_tool.specs.Endings.{IsReport};
-ghost use Rattle.m2v_tool.specs.Simple.{stands_alone};
-ghost use Rattle.m2v_tool.specs.Decoding.{DecodeComes, decode_ending, decoding_stopped};
+ghost use Rattle.m2v_tool.specs.Decoding.{DecodeComes, decode_app, decode_ending, decode_meant, decoding_stopped, workers_rules};
 
 use crate::report::{
-    Report, no_memory, read_fault, stream_fault, too_large, too_long, write_fault,
+    Report, no_memory, read_fault, stream_fault, too_large, too_long, unfit, write_fault,
 };
-use crate::words::stands_alone;
-use m2v_decode::{DecodeError, Decoded, decode};
+use crate::words::{number_option, number_or, simple, taken};
+use clap::Command;
+use m2v_board::Gate;
+use m2v_decode::{DecodeError, Decoded};
+use m2v_pardec::decode_with;
 use m2v_port::{Sink, Source};
+use m2v_set::Unfit;
 use std::alloc::{AllocError, Global};
+use std::sync::Wait;
+use std::thread::Threads;
 
-/// Whether the words behind `decode` are taken.
-pub(crate) fn decode_words(alloc: Global, words: &[String]) -> Result<bool, AllocError>
-    ensures { IfOk result (λ b. b ≡ stands_alone (codes "decode") (map string_bytes words.now)) }
+/// The most workers.
+const MOST_WORKERS: u32 = 16;
+
+/// The option behind `decode`: how many workers decode.
+fn decode_command<'a>(alloc: Global) -> Result<Command<'a>, AllocError>
+    ensures { IfOk result (λ c. app_of c ≡ decode_app) }
 {
-    stands_alone(alloc, "decode", words)
+    simple(alloc, "decode").arg(number_option(alloc, "workers"))
+}
+
+/// How many workers the words behind `decode` ask for, where they are taken: 1 where they don't say.
+pub(crate) fn decode_words(alloc: Global, words: &[String]) -> Result<Option<u32>, AllocError>
+    ensures { IfOk result (λ w. w ≡ decode_meant (map string_bytes words.now)) }
+{
+    match taken(decode_command(alloc)?, words)? {
+        Some(matches) => Ok(Some(number_or(&matches, "workers", 1))),
+        None => Ok(None),
+    }
+}
+
+/// Rule 6 on workers, that of `encode`: 1 to 16 of them. The first condition that fails is told.
+#[tactic(auto, unfolding(crate::specs::Decoding::workers_rules, m2v_set::specs::Rules::judged, m2v_set::specs::Rules::judge, m2v_set::specs::Rules::and_then))]
+fn test_workers(workers: u32) -> Result<(), Unfit>
+    ensures value { result ≡ judged (workers_rules workers) }
+    ensures holds { OnOk result ((0 < workers) × (workers ≤ 16)) }
+{
+    if workers == 0 {
+        return Err(Unfit {
+            rule: 6,
+            have: 0,
+            need: 1,
+        });
+    }
+    if workers > MOST_WORKERS {
+        return Err(Unfit {
+            rule: 6,
+            have: u128::from(workers),
+            need: u128::from(MOST_WORKERS),
+        });
+    }
+    Ok(())
 }
 
 /// What came of `decode`.
@@ -24,6 +67,8 @@ pub(crate) fn decode_words(alloc: Global, words: &[String]) -> Result<bool, Allo
 pub enum DecodeOutcome {
     /// A stream was decoded.
     Shown(Decoded),
+    /// The number of workers doesn't pass: the first condition that fails.
+    Unfit(Unfit),
     /// Decoding stopped.
     Stopped(DecodeError),
 }
@@ -56,6 +101,7 @@ impl DecodeOutcome {
                     u128::from(n.dropped),
                 ],
             ),
+            DecodeOutcome::Unfit(first) => unfit(alloc, first),
             DecodeOutcome::Stopped(error) => stopped(alloc, error),
         }
     }
@@ -76,20 +122,27 @@ pub(crate) fn stopped(alloc: Global, error: &DecodeError) -> Result<Report, Allo
     }
 }
 
-/// Decodes the stream of the input.
-pub(crate) fn decoded<S: Source, K: Sink>(
+/// Decodes the stream of the input, by so many workers.
+pub(crate) fn decoded<R: Threads + Wait + Sync, S: Source, K: Sink, G: Gate + Sync>(
+    rt: &R,
     alloc: Global,
+    workers: u32,
     input: &mut S,
     output: &mut K,
+    gate: &G,
 ) -> DecodeOutcome
     requires { IsTrue (K.ready output.old) }
-    ensures comes { DecodeComes
+    ensures comes { DecodeComes workers
         (change S.left S.faults input.old input.new)
         (change K.held K.faults output.old output.new) result }
     ensures output { SinkStays K.ready K.name K.faults output.old output.new }
     ensures input { S.faults input.old ≤ S.faults input.new }
 {
-    match decode(alloc, input, output) {
+    match test_workers(workers) {
+        Ok(()) => {}
+        Err(first) => return DecodeOutcome::Unfit(first),
+    }
+    match decode_with(rt, alloc, workers, input, output, gate) {
         Ok(numbers) => DecodeOutcome::Shown(numbers),
         Err(error) => DecodeOutcome::from(error),
     }

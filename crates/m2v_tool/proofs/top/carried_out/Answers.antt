@@ -13,7 +13,7 @@ pub returns-in-Ok-Some-Decode-clause-comes : goal.returns-in-Ok-Some-Decode-clau
 unfolding Comes
 returns-in-Ok-Some-Decode-clause-comes g c =
     let read = c.in-Ok-Some-Decode in
-    (means_of _ _ _ _ read.field-0-is read.field-0-0-is read.ensures.found, c.decoded.ensures.comes, refl)
+    (_, means_of _ _ _ _ read.field-0-is read.field-0-0-is read.ensures.found, c.decoded.ensures.comes, refl)
 
 pub returns-in-Ok-None-clause-comes : goal.returns-in-Ok-None-clause-comes
 unfolding Comes
