@@ -1,7 +1,8 @@
-//! The encoder's workers, held at a gate: two rows of a picture are made beside each other, and a row of a picture before the
-//! last row of the picture that it refers to. A run on one thread, in whatever order, gives the gate up; and so does one whose
-//! workers come to the gate before or behind the work. What the gate was told is held against the slices in the output. And
-//! two runs of `make` of one seed are held against each other, and against runs in which a call of an endpoint fails.
+//! Workers, held at a gate. Those of the encoder: two rows of a picture are made beside each other, and a row of a picture
+//! before the last row of the picture that it refers to. A run on one thread, in whatever order, gives the gate up; and so
+//! does one whose workers come to the gate before or behind the work. What the gate was told is held against the slices in
+//! the output. Those of the decoder: two rows of a picture are decoded beside each other. And two runs of `make` of one seed
+//! are held against each other, and against runs in which a call of an endpoint fails.
 #![tactic(auto)]
 
 mod gate;
@@ -70,12 +71,18 @@ const RUNS: [Held; 2] = [
     },
 ];
 
+/// Words, each by itself.
+fn all_words(alloc: Global, words: &[&str]) -> Result<Vec<String>, AllocError> {
+    let mut all = Vec::new(alloc);
+    for word in words.iter() {
+        all.push(String::from_str(alloc, word)?)?;
+    }
+    Ok(all)
+}
+
 /// The words of a run.
 fn words_of(alloc: Global, height: &str) -> Result<Vec<String>, AllocError> {
-    let mut words = Vec::new(alloc);
-    for word in WORDS.iter() {
-        words.push(String::from_str(alloc, word)?)?;
-    }
+    let mut words = all_words(alloc, &WORDS)?;
     words.push(String::from_str(alloc, height)?)?;
     Ok(words)
 }
@@ -162,6 +169,39 @@ fn is_right<R: Threads + Wait + Sync>(
     let gate = Meeting::new(run.held.0, run.other.0, run.meet);
     let status = status_of(rt, alloc, &words, &mut endpoints, &gate);
     Ok(status == 0 && is_met(run, &gate, endpoints.output.held()))
+}
+
+/// Runs words over an input: the status, and what stands on output.
+fn run_over<R: Threads + Wait + Sync, G: Gate + Sync>(
+    rt: &R,
+    alloc: Global,
+    words: &[&str],
+    input: Vec<u8>,
+    gate: &G,
+) -> Result<(u8, Vec<u8>), AllocError> {
+    let words = all_words(alloc, words)?;
+    let mut endpoints = Endpoints {
+        input: MemorySource::new(input, Vec::new(alloc)),
+        output: MemorySink::new(alloc, Vec::new(alloc)),
+        recon: MemoryFile::new(alloc, Vec::new(alloc)),
+        report: MemorySink::new(alloc, Vec::new(alloc)),
+    };
+    let status = status_of(rt, alloc, &words, &mut endpoints, gate);
+    let output = endpoints.output.held().to_vec(alloc)?;
+    Ok((status, output))
+}
+
+/// Runs the decoder held at the gate over a grey frame of two rows: whether it decoded the other row meanwhile, and told the
+/// samples of both.
+fn is_decoded_beside<R: Threads + Wait + Sync>(rt: &R, alloc: Global) -> Result<bool, AllocError> {
+    let grey = vec![in alloc; 128; 768]?;
+    let flat = ["flat", "16", "32", "3", "1"];
+    let (_, stream) = run_over(rt, alloc, &flat, grey.to_vec(alloc)?, &OpenGate)?;
+    let gate = Meeting::new(0, 1, true);
+    let decode = ["decode", "--workers", "2"];
+    let (status, frame) = run_over(rt, alloc, &decode, stream, &gate)?;
+    let told = gate.held_told() == 49152 && gate.other_told() == 49152;
+    Ok(status == 0 && !gate.is_given_up() && told && frame.as_slice() == grey.as_slice())
 }
 
 /// What a run of `make` comes to: its status, and what stands on output and on report.
@@ -259,6 +299,12 @@ fn main(rt: HostRuntime) -> anyhow::Result<ExitCode> {
         let right = is_right(&rt, rt.alloc(), run)?;
         all = told(&rt, run.name, right)? && all;
     }
+    let right = is_decoded_beside(&rt, rt.alloc())?;
+    all = told(
+        &rt,
+        "two rows of a picture are decoded beside each other",
+        right,
+    )? && all;
     let right = is_made_twice(&rt, rt.alloc())?;
     all = told(&rt, "two runs of make give one stream", right)? && all;
     let right = is_told_failing(&rt, rt.alloc())?;
