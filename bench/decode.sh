@@ -1,9 +1,9 @@
 #!/usr/bin/env bash
-# Decodes and checks clips, and prints a table: frames a second and instructions a frame of `decode` and `check`, beside
-# ffmpeg and mpeg2dec without lanes, each the least and the most over the clips. What `decode` shows must have as many frames
-# as ffmpeg shows; standard error has a line a clip, with the largest difference of a sample from ffmpeg's frames. The clips
-# are ffmpeg's; where it isn't installed, two that `encode` makes. It wants python3; mpeg2dec and valgrind are left out where
-# they aren't installed.
+# Decodes and checks clips, and prints a table: frames a second of `decode` by 1, 2 and 4 workers and of `check`, instructions
+# a frame by one worker, beside ffmpeg and mpeg2dec without lanes, each the least and the most over the clips. Every number of
+# workers must give the same frames, and as many as ffmpeg shows; standard error has a line a clip, with the largest difference
+# of a sample from ffmpeg's frames. The clips are ffmpeg's; where it isn't installed, two that `encode` makes. It wants python3;
+# mpeg2dec and valgrind are left out where they aren't installed.
 #
 #     bench/decode.sh PROGRAM [FOLDER]
 #
@@ -47,6 +47,8 @@ fi
 
 # The tools, each on a clip, with frames that go nowhere.
 by_decode() { "$program" decode < "$1.m2v" > /dev/null 2> "$1.line"; }
+by_decode2() { "$program" decode --workers 2 < "$1.m2v" > /dev/null 2> "$1.line"; }
+by_decode4() { "$program" decode --workers 4 < "$1.m2v" > /dev/null 2> "$1.line"; }
 by_ffmpeg() { ffmpeg -v error -y -threads 1 -i "$1.m2v" -f rawvideo -pix_fmt yuv420p /dev/null < /dev/null; }
 by_mpeg2dec() { mpeg2dec -c -o null "$1.m2v" > mpeg2dec.log 2>&1; }
 # another encoder's clip may break a rule or the buffer
@@ -59,10 +61,13 @@ by_check() {
 declare -A speeds counts
 for name in "${names[@]}"; do
     "$program" decode < "$name.m2v" > "$name.yuv" 2> "$name.line" || told "$name.line"
+    for workers in 2 4; do
+        "$program" decode --workers $workers < "$name.m2v" 2> "$name.line" | cmp - "$name.yuv"
+    done
     frames=$(cut -d' ' -f2 "$name.line")
     said="$name: $(cat "$name.line")"
-    for tool in decode check ffmpeg mpeg2dec; do
-        case $tool in decode | check) ;; *) has $tool || continue ;; esac
+    for tool in decode decode2 decode4 check ffmpeg mpeg2dec; do
+        case $tool in decode* | check) ;; *) has $tool || continue ;; esac
         speeds[$tool]+=" $(speed "$frames" "by_$tool" "$name")"
     done
     if has ffmpeg; then
@@ -84,6 +89,8 @@ range() {
 echo "| | frames a second | million instructions a frame |"
 echo "|---|---|---|"
 row "\`decode\`" "$(range "${speeds[decode]}")" "$(range "${counts[decode]}")"
+row "\`decode\`, 2 workers" "$(range "${speeds[decode2]}")" ""
+row "\`decode\`, 4 workers" "$(range "${speeds[decode4]}")" ""
 row "\`check\`" "$(range "${speeds[check]}")" "$(range "${counts[check]}")"
 if has ffmpeg; then row "ffmpeg, one thread" "$(range "${speeds[ffmpeg]}")" ""; fi
 if has mpeg2dec; then row "\`mpeg2dec -c\`" "$(range "${speeds[mpeg2dec]}")" "$(range "${counts[mpeg2dec]}")"; fi
