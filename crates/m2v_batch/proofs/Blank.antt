@@ -16,7 +16,7 @@ use Rattle.m2v_batch.specs.Values.{value_of}
 use Rattle.m2v_batch.specs.Learned.{Cached, state_at, known_by, known, is_read_by, is_read_among, is_read, slot, FitsCache}
 use Rattle.m2v_batch.proofs.FrameRows.{frame_same}
 
-none_set : (h : Header) (from n : ℕ) (frame : Samples) → rows_set h no_rows from n frame ≡ frame
+pub none_set : (h : Header) (from n : ℕ) (frame : Samples) → rows_set h no_rows from n frame ≡ frame
 unfolding rows_set
 none_set h from zero frame = refl
 none_set h from (suc n) frame = none_set h from n frame

@@ -29,10 +29,10 @@ own_same b at now p frame agree =
     rows_same (header_at hs p) at now (first_job hs p) (header_at hs p).rows frame
     (λ k lt. agree (first_job hs p + k) (omega arith) (omega (arith, lt, first_more hs p)))
 
-begun_is : (b : Batch) (p : ℕ) (first : Samples) → (header_at (headers b) p).second ≡ false → begun b p first ≡ blank b.dims b.dims.mb_rows
+pub begun_is : (b : Batch) (p : ℕ) (first : Samples) → (header_at (headers b) p).second ≡ false → begun b p first ≡ blank b.dims b.dims.mb_rows
 begun_is b p first e = cond-false (header_at (headers b) p).second first (blank b.dims b.dims.mb_rows) e
 
-begun_second : (b : Batch) (p : ℕ) (first : Samples) → (header_at (headers b) p).second ≡ true → begun b p first ≡ first
+pub begun_second : (b : Batch) (p : ℕ) (first : Samples) → (header_at (headers b) p).second ≡ true → begun b p first ≡ first
 begun_second b p first e = cond-true (header_at (headers b) p).second first (blank b.dims b.dims.mb_rows) e
 
 -- a picture that begins its frame

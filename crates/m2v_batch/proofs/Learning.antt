@@ -29,7 +29,7 @@ use Rattle.m2v_batch.proofs.FrameRows.{own_added, first_added, none_added, frame
 
 -- ---- sizes
 
-rows_size : (h : Header) (at : Rows) (from n : ℕ) (frame : Samples) → (rows_set h at from n frame).dims ≡ frame.dims
+pub rows_size : (h : Header) (at : Rows) (from n : ℕ) (frame : Samples) → (rows_set h at from n frame).dims ≡ frame.dims
 unfolding rows_set
 rows_size h at from zero frame = refl
 rows_size h at from (suc n) frame = own_size (at (from + n)) (rows_set h at from n frame) ∙ rows_size h at from n frame

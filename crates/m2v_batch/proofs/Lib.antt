@@ -14,3 +14,4 @@ pub mod RowRead
 pub mod FoundFrames
 pub mod RowViews
 pub mod PaintedRows
+pub mod BehindFrames

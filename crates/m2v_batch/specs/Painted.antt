@@ -1,5 +1,5 @@
 -- The rows of a picture that a book makes are those that its slices give a frame.
-use Rattle.std.specs.Prelude.{ℕ, ◌≡◌, ◌+◌, ◌<◌, true, List, Ok}
+use Rattle.std.specs.Prelude.{ℕ, ◌≡◌, ◌+◌, ◌<◌, true, List, length, Option, Ok}
 use Rattle.m2v_plane.specs.Samples.{Samples, HasRows}
 use Rattle.m2v_model.specs.Samples.{put_in_frame}
 use Rattle.m2v_picture.specs.Conditions.{rows_in}
@@ -7,14 +7,21 @@ use Rattle.m2v_rows.specs.Rows.{Begun, first_of, slices_painted}
 use Rattle.m2v_rows.specs.ByRows.{AreOrdered, picture_read}
 use Rattle.m2v_rows.specs.Opened.{setup_of, slices_of}
 use Rattle.m2v_batch.specs.declared.picture.BatchPicture.{BatchPicture}
-use Rattle.m2v_batch.specs.Jobs.{first_job}
-use Rattle.m2v_batch.specs.Batches.{Batch, headers, Rows, all_set, references}
+use Rattle.m2v_batch.specs.Jobs.{first_job, newer_before, older_before}
+use Rattle.m2v_batch.specs.Batches.{Batch, headers, Rows, all_set, frame_at, references}
 use Rattle.m2v_batch.specs.Pieces.{row_of, is_rebuilt}
 use Rattle.m2v_batch.specs.Values.{value_of}
 
 -- the samples of all rows that are rebuilt
 abbrev pub all_rows : Batch → Rows
 all_rows b j = row_of (value_of b j)
+
+-- the last anchor but one behind the batch, and the last anchor
+abbrev pub older_behind : Batch → Option Samples
+older_behind b = frame_at b (all_rows b) (older_before (headers b) (length (headers b)))
+
+abbrev pub newer_behind : Batch → Option Samples
+newer_behind b = frame_at b (all_rows b) (newer_before (headers b) (length (headers b)))
 
 -- all rows of a picture are rebuilt
 abbrev pub IsRebuilt : Batch → ℕ → BatchPicture → Type 0

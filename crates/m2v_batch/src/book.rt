@@ -154,6 +154,13 @@ impl DecodeBook {
         &self.waiting
     }
 
+    /// All pictures.
+    pub fn batch(&self) -> &[BatchPicture]
+        ensures value { result.now ≡ self.now.pictures }
+    {
+        self.pictures.as_slice()
+    }
+
     /// A picture.
     pub fn picture(&self, p: u32) -> &BatchPicture
         requires picture { p < length (headers self.now) }

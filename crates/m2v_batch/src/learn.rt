@@ -41,7 +41,7 @@ fn unknown_rows(alloc: Global, count: u32) -> Result<Vec<RowState>, Memory>
 
 impl DecodeBook {
     /// Whether a picture is the second field of its frame; false behind the last one.
-    fn is_second(&self, p: u32) -> bool
+    pub(crate) fn is_second(&self, p: u32) -> bool
         ensures value { result ≡ (header_at (headers self.now) p).second }
         ensures exists { IsTrue result → p < length (headers self.now) }
     {
@@ -75,7 +75,7 @@ impl DecodeBook {
     }
 
     /// The frame behind a picture, before any of its rows is at hand.
-    fn blank_frame(&self, alloc: Global, p: u32) -> Result<Frame, Memory>
+    pub(crate) fn blank_frame(&self, alloc: Global, p: u32) -> Result<Frame, Memory>
         requires picture { p < length (headers self.now) }
         ensures value { IfOk result (λ f. f ≡ frame_behind self.now no_rows p) }
     {

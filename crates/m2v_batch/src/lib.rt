@@ -4,6 +4,7 @@
 //! their macroblock rows.
 #![tactic(auto)]
 
+mod behind;
 mod book;
 mod cache;
 mod jobs;
