@@ -18,7 +18,7 @@ use Rattle.m2v_batch.specs.declared.picture.FramePlace.TheVariants.{Older, Newer
 use Rattle.m2v_batch.specs.Jobs.{Headers, no_header, header_at, ends_anchor, newer_before, older_before, first_field}
 use Rattle.m2v_batch.specs.Batches.{Batch, headers, header_of, reading_of, no_rows, frames_for, ArePair, IsBatch}
 use Rattle.m2v_batch.proofs.Sizes.{count_is, no_picture, at_picture}
-use Rattle.m2v_filling.specs.declared.at_hand.AtHand.{AtHand}
+use Rattle.m2v_filling.specs.declared.at_hand.FramesThere.{FramesThere}
 use Rattle.m2v_filling.specs.Filled.{with_picture, is_there, at_hand, HasFields, Follows}
 use Rattle.m2v_filling.proofs.Presence.{references_by, fields_by}
 
@@ -125,7 +125,7 @@ picture_last b x y p le e =
     (at, sym (get_or-append_seam b.pictures x [] y) ∙ ap (λ (k : ℕ). get_or (more b x).pictures k y) (sym at) ∙ get_or_from_slice_get (more b x).pictures p y y e)
 
 -- what is known of the fields of picture p, by its header and the frames there
-abbrev Reads : List Bool → Header → AtHand → Type 0
+abbrev Reads : List Bool → Header → FramesThere → Type 0
 Reads decoded k at = HasFields decoded (reading_of k) at
 
 decoded_more : (b : Batch) (x : BatchPicture) → IsBatch b → HasFields x.opened.references (reading_of (header_of x)) (at_hand b (length b.pictures))
@@ -163,7 +163,7 @@ appended b x h few opened size f fields = record {
 }
 
 -- a picture that is taken
-pub taken : (b : Batch) (p : Piece) (o : Opened) (h : Header) (r : Option Reading) (at : AtHand) → IsBatch b → length b.pictures < 16 → o.dims ≡ b.dims
+pub taken : (b : Batch) (p : Piece) (o : Opened) (h : Header) (r : Option Reading) (at : FramesThere) → IsBatch b → length b.pictures < 16 → o.dims ≡ b.dims
     → h ≡ header_of (record { piece = p; opened = o }) → r ≡ reading_of h → at ≡ at_hand b (length b.pictures) → Follows b h → HasFields o.references r at → IsOpened p o
     → IsBatch (with_picture b p o)
 taken b p o h r at batch few size e is there follows fields opened =
@@ -201,7 +201,7 @@ follows_by b p o h is batch =
     })
 
 -- its references are there
-pub fields_from : (b : Batch) (p : Piece) (o : Opened) (h : Header) (r : Option Reading) (at : AtHand) → h ≡ header_of (record { piece = p; opened = o }) → r ≡ reading_of h
+pub fields_from : (b : Batch) (p : Piece) (o : Opened) (h : Header) (r : Option Reading) (at : FramesThere) → h ≡ header_of (record { piece = p; opened = o }) → r ≡ reading_of h
     → at ≡ at_hand b (length b.pictures) → IsBatch (with_picture b p o) → HasFields o.references r at
 fields_from b p o h r at is reads there batch =
     let x : BatchPicture = record { piece = p; opened = o } in

@@ -1,3 +1,4 @@
 pub mod Presence
 pub mod Appending
 pub mod Units
+pub mod Exchanging

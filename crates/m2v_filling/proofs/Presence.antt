@@ -10,11 +10,11 @@ use Rattle.m2v_batch.specs.declared.picture.Header.{Header}
 use Rattle.m2v_batch.specs.declared.picture.FramePlace.TheVariants.{Older, Newer, Waiting, Behind}
 use Rattle.m2v_batch.specs.Jobs.{header_at, ends_anchor, newer_before, older_before, first_field}
 use Rattle.m2v_batch.specs.Batches.{Batch, headers, no_rows, frame_at, frames_for}
-use Rattle.m2v_filling.specs.declared.at_hand.AtHand.{AtHand}
+use Rattle.m2v_filling.specs.declared.at_hand.FramesThere.{FramesThere}
 use Rattle.m2v_filling.specs.Filled.{is_there, at_hand, top_there, bottom_there, backward_there, HasFields}
 
 -- which of some frames are there
-abbrev pub present : Option Samples → Option Samples → Option Samples → AtHand
+abbrev pub present : Option Samples → Option Samples → Option Samples → FramesThere
 present older newer first = record { older = is_some older; newer = is_some newer; first = is_some first }
 
 picked : (t : Bool) (x y : Option Samples) → is_some (cond t x y) ≡ cond t (is_some x) (is_some y)
@@ -36,7 +36,7 @@ backward_is : (r : Option Reading) (o n f : Option Samples) → is_some (backwar
 backward_is None o n f = refl
 backward_is (Some r) o n f = picked (is_b r.kind) n None
 
-abbrev presence : Frames → AtHand
+abbrev presence : Frames → FramesThere
 presence f = present f.older f.newer f.first_field
 
 -- each field that was decoded is there exactly if its frame is
@@ -108,12 +108,12 @@ unfolding first_field
 first_more b p = behind_there b p
 
 -- before the first picture
-pub at_first : (b : Batch) (at : AtHand) → at.older ≡ is_some b.older → at.newer ≡ is_some b.newer → at.first ≡ is_some b.waiting → at ≡ at_hand b 0
+pub at_first : (b : Batch) (at : FramesThere) → at.older ≡ is_some b.older → at.newer ≡ is_some b.newer → at.first ≡ is_some b.waiting → at ≡ at_hand b 0
 unfolding older_before newer_before first_field is_there
 at_first b at o n f = λ i. record { older = o i; newer = n i; first = f i }
 
 -- behind one picture more
-pub at_next : (b : Batch) (p : ℕ) (before at : AtHand) (h : Header) → before ≡ at_hand b p → h ≡ header_at (headers b) p → at.older ≡ cond (ends_anchor h) before.newer before.older
+pub at_next : (b : Batch) (p : ℕ) (before at : FramesThere) (h : Header) → before ≡ at_hand b p → h ≡ header_at (headers b) p → at.older ≡ cond (ends_anchor h) before.newer before.older
     → at.newer ≡ cond (ends_anchor h) true before.newer → at.first ≡ true → at ≡ at_hand b (p + 1)
 at_next b p before at h e same o n f =
     let next : suc p ≡ p + 1 = omega arith in

@@ -8,30 +8,30 @@ use m2v_batch::{Header, ends_anchor};
 use m2v_picture::Reading;
 
 /// Which frames are there before a picture.
-#[derive(Clone, Copy)]
-pub(crate) struct AtHand {
+#[derive(Clone, Copy, Debug, PartialEq, Eq)]
+pub struct FramesThere {
     /// The last anchor but one.
-    pub(crate) older: bool,
+    pub older: bool,
     /// The last anchor.
-    pub(crate) newer: bool,
+    pub newer: bool,
     /// The frame of the first field, if the picture is a second field.
-    pub(crate) first: bool,
+    pub first: bool,
 }
 
 /// Which frames are there behind a picture, by those before it.
-pub(crate) fn behind(before: AtHand, h: Header) -> AtHand
+pub(crate) fn behind(before: FramesThere, h: Header) -> FramesThere
     ensures older { result.older ≡ (if is_anchor_end h then before.newer else before.older) }
     ensures newer { result.newer ≡ (if is_anchor_end h then true else before.newer) }
     ensures first { result.first ≡ true }
 {
     if ends_anchor(h) {
-        AtHand {
+        FramesThere {
             older: before.newer,
             newer: true,
             first: true,
         }
     } else {
-        AtHand {
+        FramesThere {
             older: before.older,
             newer: before.newer,
             first: true,
@@ -54,7 +54,7 @@ pub(crate) fn reading_of(h: Header) -> Option<Reading>
 }
 
 /// Whether the frame with the top field of the forward reference is there.
-fn has_top(reading: &Option<Reading>, at: AtHand) -> bool
+fn has_top(reading: &Option<Reading>, at: FramesThere) -> bool
     ensures value { result ≡ top_there reading.now at }
 {
     match reading {
@@ -72,7 +72,7 @@ fn has_top(reading: &Option<Reading>, at: AtHand) -> bool
 }
 
 /// Whether the frame with the bottom field of the forward reference is there.
-fn has_bottom(reading: &Option<Reading>, at: AtHand) -> bool
+fn has_bottom(reading: &Option<Reading>, at: FramesThere) -> bool
     ensures value { result ≡ bottom_there reading.now at }
 {
     match reading {
@@ -90,7 +90,7 @@ fn has_bottom(reading: &Option<Reading>, at: AtHand) -> bool
 }
 
 /// Whether the frame of the backward reference is there, which B pictures alone have.
-fn has_backward(reading: &Option<Reading>, at: AtHand) -> bool
+fn has_backward(reading: &Option<Reading>, at: FramesThere) -> bool
     ensures value { result ≡ backward_there reading.now at }
 {
     match reading {
@@ -101,7 +101,7 @@ fn has_backward(reading: &Option<Reading>, at: AtHand) -> bool
 
 /// Whether each field that was decoded stands in a frame that is there: forward top, forward bottom, backward top,
 /// backward bottom.
-pub(crate) fn has_fields(decoded: &[bool; 4], reading: &Option<Reading>, at: AtHand) -> bool
+pub(crate) fn has_fields(decoded: &[bool; 4], reading: &Option<Reading>, at: FramesThere) -> bool
     ensures fields { IsTrue result ↔ HasFields decoded.now reading.now at }
 {
     if decoded[0] && !has_top(reading, at) {

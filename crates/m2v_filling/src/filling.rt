@@ -1,14 +1,14 @@
 //! A batch that is filled.
-ghost use Rattle.std.specs.Prelude.{ℕ, suc, ◌≡◌, ◌<◌, ◌≤◌, ◌++◌, [], ◌∷◌, ◌↔◌, false, IsTrue, IsSome, IfErr, IfSome, OnOk, None, length};
+ghost use Rattle.std.specs.Prelude.{ℕ, suc, ◌≡◌, ◌<◌, ◌≤◌, ◌++◌, [], ◌∷◌, ◌↔◌, false, IsTrue, IsSome, IfErr, OnOk, None, length};
 ghost use Rattle.m2v_plane.specs.Sizes.{IsSize};
 ghost use Rattle.m2v_piece.specs.declared.answer.Piece.{Piece as PieceOf};
 ghost use Rattle.m2v_rows.specs.Opened.{IsOpened};
 ghost use Rattle.m2v_batch.specs.Jobs.{header_at, first_job, jobs_of};
 ghost use Rattle.m2v_batch.specs.Batches.{Batch, headers, ArePair, IsBatch};
-ghost use Rattle.m2v_filling.specs.Filled.{with_picture, at_hand, Follows};
+ghost use Rattle.m2v_filling.specs.Filled.{batch_of, with_picture, with_frames, at_hand, AreThere, HaveDims, Follows};
 
 use crate::Memory;
-use crate::at_hand::{AtHand, behind, has_fields, reading_of};
+use crate::at_hand::{FramesThere, behind, has_fields, reading_of};
 use m2v_batch::{BatchPicture, DecodeBook, Header, header_of};
 use m2v_picture::FramesAtHand;
 use m2v_piece::Piece;
@@ -17,36 +17,26 @@ use m2v_rows::Opened;
 use std::alloc::Global;
 use std::marker::Model;
 
-/// A batch that is filled: pictures whose rows are decoded by themselves, and the frames at hand before them.
+/// A batch that is filled: pictures whose rows are decoded by themselves, and which frames are at hand before them.
 ///
-/// Contracts see the size of the frames, the pictures, and the frames at hand before them.
+/// Contracts see a batch whose frames at hand have samples 0: those that its pictures are predicted from may not be decoded
+/// yet.
 #[derive(Drop)]
 pub struct Filling {
     dims: Dims,
     pictures: Vec<BatchPicture>,
-    frames: FramesAtHand,
+    before: FramesThere,
 }
 
 impl Model for Filling {
     ghost use Rattle.m2v_batch.specs.Batches.{Batch, IsBatch};
+    ghost use Rattle.m2v_filling.specs.Filled.{batch_of};
 
     ghost Value = { Batch };
 
-    ghost view = { λ b. record {
-      dims = b.dims;
-      pictures = b.pictures.items;
-      older = b.frames.older;
-      newer = b.frames.newer;
-      waiting = b.frames.waiting;
-    } };
+    ghost view = { λ b. batch_of b.dims b.pictures.items b.before };
 
-    ghost invariant = { λ b. IsBatch (record {
-      dims = b.dims;
-      pictures = b.pictures.items;
-      older = b.frames.older;
-      newer = b.frames.newer;
-      waiting = b.frames.waiting;
-    }) };
+    ghost invariant = { λ b. IsBatch (batch_of b.dims b.pictures.items b.before) };
 }
 
 /// Whether two pictures are the fields of one frame: a first field, and one of the other parity.
@@ -61,25 +51,24 @@ fn are_pair(first: Header, next: Header) -> bool
 }
 
 impl Filling {
-    /// A batch of no picture, before which these frames are at hand.
-    pub fn new(alloc: Global, dims: Dims, frames: FramesAtHand) -> Filling
+    /// A batch of no picture, before which such frames are at hand.
+    pub fn new(alloc: Global, dims: Dims, before: FramesThere) -> Filling
         requires size { IsSize dims }
-        requires older { IfSome frames.older (λ f. f.dims ≡ dims) }
-        requires newer { IfSome frames.newer (λ f. f.dims ≡ dims) }
-        requires waiting { IfSome frames.waiting (λ f. f.dims ≡ dims) }
-        ensures value { result ≡ record {
-          dims = dims;
-          pictures = [];
-          older = frames.older;
-          newer = frames.newer;
-          waiting = frames.waiting;
-        } }
+        ensures value { result ≡ batch_of dims [] before }
     {
         Filling {
             dims,
             pictures: Vec::new(alloc),
-            frames,
+            before,
         }
+    }
+
+    /// The size of the frames.
+    pub fn dims(&self) -> Dims
+        ensures value { result ≡ self.now.dims }
+        ensures size { IsSize result }
+    {
+        self.dims
     }
 
     /// How many pictures there are.
@@ -99,14 +88,10 @@ impl Filling {
     }
 
     /// Which frames are there before the next picture.
-    fn at_hand(&self) -> AtHand
+    pub fn at_hand(&self) -> FramesThere
         ensures value { result ≡ at_hand self.now (length self.now.pictures) }
     {
-        let mut at = AtHand {
-            older: self.frames.older.is_some(),
-            newer: self.frames.newer.is_some(),
-            first: self.frames.waiting.is_some(),
-        };
+        let mut at = self.before;
         for p in 0..self.len() {
             at = behind(at, self.header(p));
         }
@@ -127,7 +112,7 @@ impl Filling {
     {
         let count = self.len();
         if count == 0 {
-            return self.frames.waiting.is_some();
+            return self.before.first;
         }
         are_pair(self.header(count - 1), h)
     }
@@ -207,12 +192,21 @@ impl Filling {
         Ok(())
     }
 
-    /// The book of the batch.
-    pub fn book(self) -> DecodeBook
-        ensures value { result ≡ self }
+    /// The pictures.
+    pub fn pictures(&self) -> &[BatchPicture]
+        ensures value { result.now ≡ self.now.pictures }
+    {
+        self.pictures.as_slice()
+    }
+
+    /// The book of the batch, with the frames at hand before it.
+    pub fn book(self, frames: FramesAtHand) -> DecodeBook
+        requires there { AreThere frames self }
+        requires sizes { HaveDims self.dims frames }
+        ensures value { result ≡ with_frames self frames }
         ensures jobs { jobs_of (headers result)
             ≡ first_job (headers result) (length self.pictures) }
     {
-        DecodeBook::for_batch(self.dims, self.pictures, self.frames)
+        DecodeBook::for_batch(self.dims, self.pictures, frames)
     }
 }

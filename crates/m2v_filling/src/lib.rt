@@ -9,6 +9,7 @@ mod at_hand;
 mod filling;
 mod single;
 
+pub use at_hand::FramesThere;
 pub use filling::Filling;
 pub use single::has_one_picture;
 

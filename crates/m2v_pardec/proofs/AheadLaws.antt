@@ -1,8 +1,8 @@
 -- Pieces taken ahead: what stands after one more is taken or decoded, and where decoding stops.
 use Rattle.std.proofs.Common.{◌≡◌, ℕ, ◌+◌, ◌≤◌, true, List, [], ◌∷◌, ◌++◌, length, map, Option, Some, None, refl, sym, ap, subst, ◌∙◌, append_assoc, arith}
-use Rattle.std.proofs.lemmas.List.{length-append, map-append}
+use Rattle.std.proofs.lemmas.List.{append-nil, length-append, map-append}
 use Rattle.m2v_port.specs.Ends.{Change, change}
-use Rattle.m2v_port.specs.Port.{Grows, GrowsByPrefix}
+use Rattle.m2v_port.specs.Port.{Moves, Grows, GrowsByPrefix}
 use Rattle.m2v_port.proofs.Runs.{moves_on, grows_on, grows_by_all}
 use Rattle.m2v_plane.specs.Raw.{raw}
 use Rattle.m2v_model.specs.Pieces.{limit, most_input}
@@ -18,7 +18,7 @@ use Rattle.m2v_decode.specs.Answers.{IsCut, IsFaulty, IsOver, OfText, OfTaken, F
 use Rattle.m2v_decode.specs.Progress.{raw_of, Cuts, HasPut, Reached, Progress, IsDone}
 use Rattle.m2v_decode.proofs.Putting.{raw-append}
 use Rattle.m2v_decode.proofs.Going.{moved_some, ready_none, reached_more, gave, start_place, due_cut, reached_cut, reached_later, faulty_at, over_at}
-use Rattle.m2v_pardec.specs.Ahead.{AreTaken, Later, behind, ended, stopped, IsAhead, HandsOut, none, more, FailsBy}
+use Rattle.m2v_pardec.specs.Ahead.{AreTaken, Later, behind, ended, stopped, Knows, IsAhead, HandsOut, none, more, FailsBy}
 
 -- ---- lists of pieces
 
@@ -69,71 +69,52 @@ ahead_more l0 l1 l2 h0 h1 c c' ps p d so handed begun keeps = record {
       };
 }
 
--- the cutter gives no piece, by an error
-pub ahead_stopped : (l0 l1 l2 h0 h1 : Option (List ℕ)) (c : Cutting) (ps : List Piece) (d : Decoding) (e : DecodeError) → IsAhead (behind c) l0 l1 h0 h1 ps d → Stopped c l1 l2 e
-    → IsAhead (stopped e) l0 l2 h0 h1 ps d
-ahead_stopped l0 l1 l2 h0 h1 c ps d e so s = record {
-  bytes = so.bytes ++ s.bytes;
-  moved = moves_on so.moved s.moved;
+-- more bytes were read, and no piece taken of them
+ahead_read : (l0 l1 l2 h0 h1 : Option (List ℕ)) (c : Cutting) (later : Later) (bytes : List ℕ) (ps : List Piece) (d : Decoding) → IsAhead (behind c) l0 l1 h0 h1 ps d → Moves l1 bytes l2
+    → ((rest : List ℕ) → l2 ≡ Some rest → (taken : ℕ) → Knows later taken rest (start_of c (bytes ++ rest)) (left_of c (bytes ++ rest))) → IsAhead later l0 l2 h0 h1 ps d
+ahead_read l0 l1 l2 h0 h1 c later bytes ps d so moved knows = record {
+  bytes = so.bytes ++ bytes;
+  moved = moves_on so.moved moved;
   frames = so.frames;
   grown = so.grown;
   shown = so.shown;
   none = so.none;
   going = so.going;
   sound = so.sound;
-  told = λ rest q.
-      let mid = moved_some l1 l2 s.bytes rest s.moved q in
-      let w = so.told (s.bytes ++ rest) mid in
-      let long : length (so.bytes ++ s.bytes) ≡ length so.bytes + length s.bytes = length-append so.bytes s.bytes in
-      let why = s.why rest q in
+  told = λ rest e.
+      let w = so.told (bytes ++ rest) (moved_some l1 l2 bytes rest moved e) in
+      let long : length (so.bytes ++ bytes) ≡ length so.bytes + length bytes = length-append so.bytes bytes in
+      let all = length (so.bytes ++ bytes) in
       record {
         start = w.start;
         next = w.next;
         others = w.others;
         reached =
-            subst (λ (t : List ℕ). Reached (length (so.bytes ++ s.bytes)) t w.start (map whole_of ps ++ w.others) so.frames d) (sym (append_assoc so.bytes s.bytes rest))
-            (reached_later (length so.bytes) (length (so.bytes ++ s.bytes)) _ w.start _ so.frames d (omega (arith, long)) w.reached);
+            subst (λ (t : List ℕ). Reached all t w.start (map whole_of ps ++ w.others) so.frames d) (sym (append_assoc so.bytes bytes rest))
+            (reached_later (length so.bytes) all _ w.start _ so.frames d (omega (arith, long)) w.reached);
         pieces = w.pieces;
         within = λ some. let within = w.within some in omega (arith, within, long);
-        known = subst (λ (x : ℕ). Why x w.others e) (sym (w.known).0) (subst (λ (l : List (List ℕ)). Why (start_of c (s.bytes ++ rest)) l e) (sym (w.known).1) why);
+        known = subst (λ (x : ℕ). Knows later all rest x w.others) (sym (w.known).0) (subst (λ (l : List (List ℕ)). Knows later all rest (start_of c (bytes ++ rest)) l) (sym (w.known).1) (knows rest e all));
       };
 }
+
+-- the cutter gives no piece, by an error
+pub ahead_stopped : (l0 l1 l2 h0 h1 : Option (List ℕ)) (c : Cutting) (ps : List Piece) (d : Decoding) (e : DecodeError) → IsAhead (behind c) l0 l1 h0 h1 ps d → Stopped c l1 l2 e
+    → IsAhead (stopped e) l0 l2 h0 h1 ps d
+ahead_stopped l0 l1 l2 h0 h1 c ps d e so s = ahead_read l0 l1 l2 h0 h1 c (stopped e) s.bytes ps d so s.moved (λ rest q taken. s.why rest q)
 
 -- no piece is left
 pub ahead_over : (l0 l1 l2 h0 h1 : Option (List ℕ)) (c c' : Cutting) (ps : List Piece) (d : Decoding) → IsAhead (behind c) l0 l1 h0 h1 ps d → Handed c l1 c' l2 None
     → IsAhead (ended c') l0 l2 h0 h1 ps d
-ahead_over l0 l1 l2 h0 h1 c c' ps d so handed = record {
-  bytes = so.bytes ++ handed.bytes;
-  moved = moves_on so.moved handed.moved;
-  frames = so.frames;
-  grown = so.grown;
-  shown = so.shown;
-  none = so.none;
-  going = so.going;
-  sound = so.sound;
-  told = λ rest q.
-      let mid = moved_some l1 l2 handed.bytes rest handed.moved q in
-      let w = so.told (handed.bytes ++ rest) mid in
-      let long : length (so.bytes ++ handed.bytes) ≡ length so.bytes + length handed.bytes = length-append so.bytes handed.bytes in
-      let next = handed.next rest q in
-      record {
-        start = w.start;
-        next = w.next;
-        others = w.others;
-        reached =
-            subst (λ (t : List ℕ). Reached (length (so.bytes ++ handed.bytes)) t w.start (map whole_of ps ++ w.others) so.frames d) (sym (append_assoc so.bytes handed.bytes rest))
-            (reached_later (length so.bytes) (length (so.bytes ++ handed.bytes)) _ w.start _ so.frames d (omega (arith, long)) w.reached);
-        pieces = w.pieces;
-        within = λ some. let within = w.within some in omega (arith, within, long);
-        known = ((w.known).0 ∙ sym next.2, (w.known).1 ∙ next.0);
-      };
-}
+ahead_over l0 l1 l2 h0 h1 c c' ps d so handed =
+    ahead_read l0 l1 l2 h0 h1 c (ended c') handed.bytes ps d so handed.moved (λ rest q taken. let next = handed.next rest q in (sym next.2, next.0))
 
 -- pieces that a cutter hands out, one after another
-pub ahead_all : (l0 l1 h0 h1 : Option (List ℕ)) (c : Cutting) (d : Decoding) (ps : List Piece) (c' : Cutting) (l2 : Option (List ℕ)) → IsAhead (behind c) l0 l1 h0 h1 [] d → HandsOut c l1 ps c' l2 → IsAhead (behind c') l0 l2 h0 h1 ps d
-ahead_all l0 l1 h0 h1 c d ps c' l2 so none = so
-ahead_all l0 l1 h0 h1 c d ps c' l2 so (more {ps = qs} {p = p} {c1 = c1} {left1 = m} gone handed begun keeps) =
-    ahead_more l0 m l2 h0 h1 c1 c' qs p d (ahead_all l0 l1 h0 h1 c d qs c1 m so gone) handed begun keeps
+pub ahead_all : (l0 l1 h0 h1 : Option (List ℕ)) (c : Cutting) (d : Decoding) (ps qs : List Piece) (c' : Cutting) (l2 : Option (List ℕ)) → IsAhead (behind c) l0 l1 h0 h1 ps d → HandsOut c l1 qs c' l2 → IsAhead (behind c') l0 l2 h0 h1 (ps ++ qs) d
+ahead_all l0 l1 h0 h1 c d ps qs c' l2 so none = subst (λ (xs : List Piece). IsAhead (behind c) l0 l1 h0 h1 xs d) (sym (append-nil ps)) so
+ahead_all l0 l1 h0 h1 c d ps qs c' l2 so (more {ps = rs} {p = p} {c1 = c1} {left1 = m} gone handed begun keeps) =
+    subst (λ (xs : List Piece). IsAhead (behind c') l0 l2 h0 h1 xs d) (append_assoc ps rs (p ∷ []))
+    (ahead_more l0 m l2 h0 h1 c1 c' (ps ++ rs) p d (ahead_all l0 l1 h0 h1 c d ps rs c1 m so gone) handed begun keeps)
 
 -- ---- decoding under way
 

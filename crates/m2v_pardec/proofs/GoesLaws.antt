@@ -1,6 +1,5 @@
 -- A batch taken and decoded: what stands behind it, and where decoding stops.
-use Rattle.std.proofs.Common.{◌≡◌, ℕ, ◌+◌, ◌<◌, ◌≤◌, false, true, List, [], ◌∷◌, length, Option, Some, None, Result, Ok, Err, refl, sym, subst, arith}
-use Rattle.std.specs.Prelude.{IfOk, OnOk}
+use Rattle.std.proofs.Common.{◌≡◌, ℕ, ◌+◌, ◌<◌, ◌≤◌, false, true, List, [], ◌∷◌, ◌++◌, length, Option, Some, None, sym, subst, arith}
 use Rattle.std.proofs.lemmas.List.{append-nil}
 use Rattle.m2v_model.specs.Pieces.{most_input}
 use Rattle.m2v_piece.specs.declared.answer.Piece.{Piece}
@@ -12,33 +11,26 @@ use Rattle.m2v_decoder.specs.Decoding.{Decoding}
 use Rattle.m2v_pardec.specs.declared.taking.Stop.{Stop}
 use Rattle.m2v_pardec.specs.declared.taking.Stop.TheVariants.{More, End, Error}
 use Rattle.m2v_pardec.specs.Ahead.{AreInOrder, behind, later_of, IsAhead, none, more, Takes}
-use Rattle.m2v_pardec.specs.Taken.{end_by}
-use Rattle.m2v_pardec.specs.Put.{PutsAll, StopsBy, CountsOn, StandsBy, GoesOn, GoesWrong}
+use Rattle.m2v_pardec.specs.Put.{PutsAll, StopsBy, StandsBy, GoesOn, GoesWrong}
 use Rattle.m2v_pardec.proofs.AheadLaws.{ahead_stopped, ahead_over, ahead_all}
-use Rattle.m2v_pardec.proofs.PutLaws.{order_lower, order_rises}
+use Rattle.m2v_pardec.proofs.PutLaws.{order_rises}
 
 -- ---- what was taken
 
-pub after_taken : (c : Cutting) (l : Option (List ℕ)) (ps : List Piece) (stop : Stop) (c' : Cutting) (l' bl b h : Option (List ℕ)) (d : Decoding) → Takes c l ps stop c' l' → IsAhead (behind c) bl l b h [] d → IsAhead (later_of stop c') bl l' b h ps d
-after_taken c l ps More c' l' bl b h d t so = ahead_all bl l b h c d ps c' l' so t.0
-after_taken c l ps End c' l' bl b h d t so = ahead_over bl t.1 l' b h t.0 c' ps d (ahead_all bl l b h c d ps t.0 t.1 so t.2) t.3
-after_taken c l ps (Error e) c' l' bl b h d t so = ahead_stopped bl t.1 l' b h t.0 ps d e (ahead_all bl l b h c d ps t.0 t.1 so t.2) t.3
+pub after_taken : (c : Cutting) (l : Option (List ℕ)) (ps qs : List Piece) (stop : Stop) (c' : Cutting) (l' bl b h : Option (List ℕ)) (d : Decoding) → Takes c l qs stop c' l' → IsAhead (behind c) bl l b h ps d → IsAhead (later_of stop c') bl l' b h (ps ++ qs) d
+after_taken c l ps qs More c' l' bl b h d t so = ahead_all bl l b h c d ps qs c' l' so t.0
+after_taken c l ps qs End c' l' bl b h d t so = ahead_over bl t.1 l' b h t.0 c' (ps ++ qs) d (ahead_all bl l b h c d ps qs t.0 t.1 so t.2) t.3
+after_taken c l ps qs (Error e) c' l' bl b h d t so = ahead_stopped bl t.1 l' b h t.0 (ps ++ qs) d e (ahead_all bl l b h c d ps qs t.0 t.1 so t.2) t.3
 
-order_strict : (ps : List Piece) (low high : ℕ) → 0 < length ps → AreInOrder low ps high → low < high
+pub order_strict : (ps : List Piece) (low high : ℕ) → 0 < length ps → AreInOrder low ps high → low < high
 order_strict [] low high some h = absurd (omega (arith, some))
 order_strict (p ∷ ps) low high some h = let rises = order_rises ps (p.place + p.length) high h.2 in omega (arith, h.0, (h.1).some, rises)
-
-pub stands_taken : (c : Cutting) (l : Option (List ℕ)) (ps : List Piece) (stop : Stop) (c' : Cutting) (l' : Option (List ℕ)) (d n : Decoding) → Takes c l ps stop c' l' → AreInOrder c.place ps (end_by stop c'.place) → c'.place ≤ most_input → (stop ≡ More → 0 < length ps)
-    → d.pictures ≤ c.place → CountsOn ps d n → StandsBy stop c c' n
-stands_taken c l ps More c' l' d n t order most some few counted = (t.1, order_strict ps c.place c'.place (some refl) order, most, counted c'.place (order_lower ps c.place d.pictures c'.place few order))
-stands_taken c l ps End c' l' d n t order most some few counted = (t.4, most)
-stands_taken c l ps (Error e) c' l' d n t order most some few counted = t.4
 
 -- ---- a batch
 
 pub goes_taken : (c : Cutting) (l : Option (List ℕ)) (ps : List Piece) (stop : Stop) (c' : Cutting) (l' h h' : Option (List ℕ)) (d n : Decoding) → Takes c l ps stop c' l' → PutsAll ps d h n h' → StandsBy stop c c' n → n.failed ≡ false → n.ended ≡ false → GoesOn c l h d stop c' l' h' n
 goes_taken c l ps stop c' l' h h' d n t puts stands going before = record {
-  ahead = λ bl b so. puts (later_of stop c') bl l' b [] (subst (λ (xs : List Piece). IsAhead (later_of stop c') bl l' b h xs d) (sym (append-nil ps)) (after_taken c l ps stop c' l' bl b h d t so));
+  ahead = λ bl b so. puts (later_of stop c') bl l' b [] (subst (λ (xs : List Piece). IsAhead (later_of stop c') bl l' b h xs d) (sym (append-nil ps)) (after_taken c l [] ps stop c' l' bl b h d t so));
   stands = stands;
   going = going;
   before = before;
@@ -46,7 +38,7 @@ goes_taken c l ps stop c' l' h h' d n t puts stands going before = record {
 
 pub wrong_taken : (failed : Type 0) (c : Cutting) (l : Option (List ℕ)) (ps : List Piece) (stop : Stop) (c' : Cutting) (l' h h' : Option (List ℕ)) (d : Decoding) (e : DecodeError) → Takes c l ps stop c' l' → StopsBy failed ps d h h' e → GoesWrong failed c l h d l' h' e
 wrong_taken failed c l ps stop c' l' h h' d e t stops = λ bl b so.
-    stops (later_of stop c') bl l' b [] (subst (λ (xs : List Piece). IsAhead (later_of stop c') bl l' b h xs d) (sym (append-nil ps)) (after_taken c l ps stop c' l' bl b h d t so))
+    stops (later_of stop c') bl l' b [] (subst (λ (xs : List Piece). IsAhead (later_of stop c') bl l' b h xs d) (sym (append-nil ps)) (after_taken c l [] ps stop c' l' bl b h d t so))
 
 -- ---- one piece
 
@@ -76,14 +68,3 @@ goes_error c c' l l' h d e stops kind going before = record {
   going = going;
   before = before;
 }
-
--- ---- results
-
-pub if_ok_both : {T E : Type 0} (A : Type 0) (P Q : T → Type 0) (r : Result T E) → OnOk r A → IfOk r P → (A → (v : T) → P v → Q v) → IfOk r Q
-if_ok_both A P Q (Ok v) a p f = f a v p
-if_ok_both A P Q (Err e) a p f = tt
-
--- a value of which four things more are known
-pub if_ok_all : {T E : Type 0} (A B C D : Type 0) (P Q : T → Type 0) (r : Result T E) → OnOk r A → OnOk r B → OnOk r C → OnOk r D → IfOk r P → (A → B → C → D → (v : T) → P v → Q v) → IfOk r Q
-if_ok_all A B C D P Q (Ok v) a b c d p f = f a b c d v p
-if_ok_all A B C D P Q (Err e) a b c d p f = tt

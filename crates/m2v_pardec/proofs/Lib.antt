@@ -3,3 +3,6 @@ pub mod PutLaws
 pub mod TakenLaws
 pub mod PutSteps
 pub mod GoesLaws
+pub mod RestLaws
+pub mod ChainLaws
+pub mod StartLaws

@@ -1,5 +1,5 @@
 -- Pieces taken ahead, decoded one after another.
-use Rattle.std.proofs.Common.{ℕ, ◌+◌, ◌≤◌, List, [], ◌∷◌, ◌++◌, Option, subst, append_assoc, arith}
+use Rattle.std.proofs.Common.{ℕ, ◌+◌, ◌≤◌, ◌^◌, List, [], ◌∷◌, ◌++◌, Option, subst, append_assoc, arith}
 use Rattle.m2v_port.specs.Ends.{Change}
 use Rattle.m2v_port.specs.Port.{Grows}
 use Rattle.m2v_piece.specs.declared.answer.Piece.{Piece}
@@ -37,6 +37,17 @@ order_front (p ∷ ps) qs low high h =
     let rest = order_front ps qs (p.place + p.length) high h.2 in
     (rest.0, (h.0, h.1, rest.1), rest.2)
 
+-- the first of some pieces, and those behind them once the first were decoded
+pub front_order : (ps qs : List Piece) (low : ℕ) → ((high : ℕ) × (high ≤ 2 ^ 36) × AreInOrder low (ps ++ qs) high) → ((high : ℕ) × (high ≤ 2 ^ 36) × AreInOrder low ps high)
+front_order ps qs low h =
+    let o = order_front ps qs low h.0 h.2 in
+    (o.0, omega (arith, order_rises qs o.0 h.0 o.2, h.1), o.1)
+
+pub behind_order : (ps qs : List Piece) (d m : Decoding) → CountsOn ps d m → ((high : ℕ) × (high ≤ 2 ^ 36) × AreInOrder d.pictures (ps ++ qs) high) → ((high : ℕ) × (high ≤ 2 ^ 36) × AreInOrder m.pictures qs high)
+behind_order ps qs d m counts h =
+    let o = order_front ps qs d.pictures h.0 h.2 in
+    (h.0, h.1, order_lower qs o.0 m.pictures h.0 (counts o.0 o.1) o.2)
+
 -- ---- one piece
 
 pub put_one : (d m n : Decoding) (p : Piece) (h1 h2 : Option (List ℕ)) → Onward d p.place (whole_of p) m → HasPut m n → Grows h1 (raw_of (due_of m)) h2 → PutsAll (p ∷ []) d h1 n h2
@@ -73,10 +84,6 @@ stops_behind failed failed' ps qs p d m h1 h2 h3 e weaker first next = λ later 
     fails_weaker failed failed' l l' b h3 e weaker (next later l l' b (qs ++ others) (first later l l' b others so))
 
 -- all of some pieces, and then others
-pub puts_both : (ps qs : List Piece) (d m n : Decoding) (h1 h2 h3 : Option (List ℕ)) → PutsAll ps d h1 m h2 → PutsAll qs m h2 n h3 → PutsAll (ps ++ qs) d h1 n h3
-puts_both ps qs d m n h1 h2 h3 first next = λ later l l' b others so.
-    next later l l' b others (first later l l' b (qs ++ others) (subst (λ (xs : List Piece). IsAhead later l l' b h1 xs d) (append_assoc ps qs others) so))
-
 pub stops_first : (failed : Type 0) (ps qs : List Piece) (d : Decoding) (h1 h2 : Option (List ℕ)) (e : DecodeError) → StopsBy failed ps d h1 h2 e → StopsBy failed (ps ++ qs) d h1 h2 e
 stops_first failed ps qs d h1 h2 e stops = λ later l l' b others so.
     stops later l l' b (qs ++ others) (subst (λ (xs : List Piece). IsAhead later l l' b h1 xs d) (append_assoc ps qs others) so)

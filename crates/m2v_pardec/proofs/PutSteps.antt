@@ -1,5 +1,5 @@
 -- Pictures of a batch, taken in one after another.
-use Rattle.std.proofs.Common.{◌≡◌, ℕ, zero, suc, ◌+◌, ◌*◌, ◌<◌, ◌≤◌, ◌^◌, false, List, ◌∷◌, map, drop, length, Option, Some, sym, ap, subst, ◌∙◌, arith}
+use Rattle.std.proofs.Common.{◌≡◌, ℕ, zero, suc, ◌+◌, ◌*◌, ◌<◌, ◌≤◌, ◌^◌, false, List, ◌∷◌, ◌++◌, map, drop, length, Option, Some, sym, ap, subst, ◌∙◌, arith}
 use Rattle.std.specs.Prelude.{slice_get, slice_index_or}
 use Rattle.std.proofs.lemmas.List.{drop_more, drop_all}
 use Rattle.std.proofs.lemmas.Option.{slice_get_within}
@@ -17,6 +17,8 @@ use Rattle.m2v_batch.specs.declared.picture.BatchPicture.{BatchPicture}
 use Rattle.m2v_batch.specs.Jobs.{first_job, jobs_of}
 use Rattle.m2v_batch.specs.Batches.{Batch, headers, IsBatch}
 use Rattle.m2v_batch.specs.Below.{first_none, first_more, first_upto}
+use Rattle.m2v_plane.specs.Fields.{or_none}
+use Rattle.m2v_batch.specs.Pieces.{row_of}
 use Rattle.m2v_batch.specs.Values.{value_of}
 use Rattle.m2v_batch.proofs.Sizes.{rows_are, batch_jobs, header_is, first_next}
 use Rattle.m2v_behind.specs.Behind.{Tracks, AreRebuilt}
@@ -28,7 +30,7 @@ use Rattle.m2v_decode.specs.Progress.{raw_of, Cuts, HasPut}
 use Rattle.m2v_pardec.specs.Ahead.{AreInOrder}
 use Rattle.m2v_pardec.specs.Taken.{IsTold, AreTold, piece_of}
 use Rattle.m2v_pardec.specs.Rows.{RowsFrom, AreThere, samples_at}
-use Rattle.m2v_pardec.specs.Put.{CanTakeIn, TookIn, PutsTo, PutsAll, StopsBy, CountsTo, CountsOn}
+use Rattle.m2v_pardec.specs.Put.{CanTakeIn, TookIn, PutsTo, PutsAll, StopsBy, CountsTo, CountsOn, AreAllThere, TellsBehind}
 use Rattle.m2v_pardec.proofs.PutLaws.{put_one, counted_one, refused_one, unwritten_one, puts_more, counts_more, stops_behind}
 use Rattle.m2v_pardec.proofs.TakenLaws.{told_long, drop_at, are_told_same}
 
@@ -134,6 +136,37 @@ pub told_next : (xs : List BatchPicture) (ss : List State) (n : ℕ) (x : BatchP
 told_next xs ss n x a d t z rows is lt told took put =
     subst (λ (s : State). AreTold s (drop (n + 1) xs) (drop (n + 1) ss)) (sym (ap (λ (b : Between). b.state) put.between_is ∙ took.state))
     (are_told_same (slice_index_or ss n a) false (drop (n + 1) xs) (drop (n + 1) ss) (told_at d.state xs ss n x a is lt told).1)
+
+-- what is told of pictures behind a batch, once the first n were taken in
+abbrev pub TellsBy : State → List BatchPicture → List State → ℕ → State → Type 0
+TellsBy st xs ss n now = (ys : List BatchPicture) (zs : List State) → AreTold st (xs ++ ys) (ss ++ zs) → AreTold now (drop n xs ++ ys) (drop n ss ++ zs)
+
+pub behind_next : (st : State) (xs : List BatchPicture) (ss : List State) (n : ℕ) (x : BatchPicture) (a : State) (d t z : Decoding) (rows : RowsFrom) → slice_get xs n ≡ Some x → n < length ss → TellsBy st xs ss n d.state
+    → TookIn d x (slice_index_or ss n a) rows t → HasPut t z → TellsBy st xs ss (n + 1) z.state
+behind_next st xs ss n x a d t z rows is lt by took put = λ ys zs told.
+    let here =
+    subst (λ (l : List State). AreTold d.state (x ∷ (drop (n + 1) xs ++ ys)) (l ++ zs)) (drop_more ss n a lt)
+    (subst (λ (l : List BatchPicture). AreTold d.state (l ++ ys) (drop n ss ++ zs)) (drop_at xs n x is) (by ys zs told)) in
+    subst (λ (s : State). AreTold s (drop (n + 1) xs ++ ys) (drop (n + 1) ss ++ zs)) (sym (ap (λ (b : Between). b.state) put.between_is ∙ took.state))
+    (are_told_same (slice_index_or ss n a) false (drop (n + 1) xs ++ ys) (drop (n + 1) ss ++ zs) here.1)
+
+pub behind_done : (st : State) (xs : List BatchPicture) (ss : List State) (n : ℕ) (now : State) → AreTold st xs ss → length xs ≤ n → TellsBy st xs ss n now → TellsBehind st xs ss now
+behind_done st xs ss n now all le by = λ ys zs told.
+    subst (λ (l : List BatchPicture). AreTold now (l ++ ys) zs) (drop_all n xs le)
+    (subst (λ (l : List State). AreTold now (drop n xs ++ ys) (l ++ zs)) (drop_all n ss (omega (arith, le, told_long st xs ss all))) (by ys zs told))
+
+pub all_there : (b done : Batch) (rows : RowsFrom) (n : ℕ) → rows ≡ rows_from done 0 → done ≡ b → n ≡ jobs_of (headers b) → AreThere rows n → AreAllThere b
+all_there b done rows n e of count there =
+    subst (λ (k : ℕ). AreThere (rows_from b 0) k) count (subst (λ (r : RowsFrom). AreThere r n) (e ∙ ap (λ (y : Batch). rows_from y 0) of) there)
+
+-- all rows are there, so those of a picture are
+pub picture_there : (b done : Batch) (n first : ℕ) (x : BatchPicture) (rows : RowsFrom) → rows ≡ rows_from done first → done ≡ b → first ≡ first_job (headers b) n → IsBatch b → slice_get b.pictures n ≡ Some x → AreAllThere b → AreThere rows x.opened.rows
+picture_there b done n first x rows e of at h is all =
+    subst (λ (r : RowsFrom). AreThere r x.opened.rows) (sym (e ∙ ap (λ (y : Batch). rows_from y first) of))
+    (λ r lt.
+    let within : first + r < jobs_of (headers b) = omega (arith, lt, at, rows_within b n x h is) in
+    let place : 0 + (first + r) ≡ first + r = omega arith in
+    subst (λ (k : ℕ). (k < jobs_of (headers b)) × (value_of b k ≡ Rebuilt (or_none (row_of (value_of b k))))) place (all (first + r) within))
 
 pub tracks_on : (b done : Batch) (n first : ℕ) (x : BatchPicture) (after : State) (d t z : Decoding) (rows : RowsFrom) → rows ≡ rows_from done first → done ≡ b → first ≡ first_job (headers b) n
     → slice_get b.pictures n ≡ Some x → Tracks b n (store_of d.frames) → TookIn d x after rows t → HasPut t z → Tracks b (n + 1) (store_of z.frames)

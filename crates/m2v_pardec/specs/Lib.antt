@@ -2,3 +2,4 @@ pub mod Ahead
 pub mod Taken
 pub mod Rows
 pub mod Put
+pub mod Chain

@@ -1,5 +1,5 @@
 -- Pictures of a batch that was decoded, taken into the decoder one after another.
-use Rattle.std.specs.Prelude.{◌≡◌, ℕ, ◌+◌, ◌-◌, ◌^◌, ◌<◌, ◌≤◌, true, false, List, [], ◌++◌, slice_get, Option, Some}
+use Rattle.std.specs.Prelude.{◌≡◌, ℕ, ◌+◌, ◌<◌, ◌≤◌, true, false, List, [], ◌++◌, slice_get, Option, Some}
 use Rattle.m2v_model.specs.declared.state.State.{State}
 use Rattle.m2v_piece.specs.declared.answer.Piece.{Piece}
 use Rattle.m2v_piece.specs.declared.answer.DecodeError.{DecodeError}
@@ -7,15 +7,15 @@ use Rattle.m2v_model.specs.Pieces.{most_input}
 use Rattle.m2v_piece.specs.Cutting.{Cutting, IsReading}
 use Rattle.m2v_picture.specs.Frames.{store_of}
 use Rattle.m2v_batch.specs.declared.picture.BatchPicture.{BatchPicture}
-use Rattle.m2v_batch.specs.Jobs.{first_job}
-use Rattle.m2v_batch.specs.Batches.{headers, IsBatch}
+use Rattle.m2v_batch.specs.Jobs.{first_job, jobs_of}
+use Rattle.m2v_batch.specs.Batches.{Batch, headers, IsBatch}
 use Rattle.m2v_behind.specs.Behind.{Tracks}
 use Rattle.m2v_decoder.specs.Decoding.{Decoding}
 use Rattle.m2v_pardec.specs.Ahead.{Later, behind, later_of, AreInOrder, IsAhead, FailsBy}
 use Rattle.m2v_pardec.specs.declared.taking.Stop.{Stop}
 use Rattle.m2v_pardec.specs.declared.taking.Stop.TheVariants.{More, End, Error}
-use Rattle.m2v_pardec.specs.Taken.{IsTold}
-use Rattle.m2v_pardec.specs.Rows.{RowsFrom}
+use Rattle.m2v_pardec.specs.Taken.{IsTold, AreTold}
+use Rattle.m2v_pardec.specs.Rows.{RowsFrom, AreThere}
 
 -- picture p of a batch can be taken in by its rows: its headers follow the decoder's state, and the frames at hand are those
 -- of the batch
@@ -53,6 +53,14 @@ CountsTo ps old last new = (high : ℕ) → AreInOrder old.pictures ps high → 
 abbrev pub CountsOn : List Piece → Decoding → Decoding → Type 0
 CountsOn ps old new = CountsTo ps old [] new
 
+-- all rows of a batch are rebuilt
+abbrev pub AreAllThere : Batch → Type 0
+AreAllThere b = AreThere (record { batch = b; first = 0 }) (jobs_of (headers b))
+
+-- what the headers say of pictures behind those that were taken in, behind the state of then and of now
+abbrev pub TellsBehind : State → List BatchPicture → List State → State → Type 0
+TellsBehind old xs ss new = (ys : List BatchPicture) (zs : List State) → AreTold old (xs ++ ys) (ss ++ zs) → AreTold new ys zs
+
 -- ---- batch after batch
 
 -- what comes behind pieces of which nothing more is decoded, by the place of the next one
@@ -60,12 +68,6 @@ abbrev pub StandsBy : Stop → Cutting → Cutting → Decoding → Type 0
 StandsBy More old new d = (new.failed ≡ false) × (old.place < new.place) × (new.place ≤ most_input) × (d.pictures ≤ new.place)
 StandsBy End old new d = (new.ended ≡ true) × (new.place ≤ most_input)
 StandsBy (Error e) old new d = IsReading e
-
--- a number that falls from batch to batch
-abbrev pub batches_left : Stop → Cutting → ℕ
-batches_left More c = 2 ^ 36 + 1 - c.place
-batches_left End c = 0
-batches_left (Error e) c = 0
 
 -- a batch was taken and decoded, and the frames due then written
 pub record GoesOn (c : Cutting) (left held : Option (List ℕ)) (d : Decoding) (stop : Stop) (c' : Cutting) (left' held' : Option (List ℕ)) (d' : Decoding) : Type 0 where

@@ -1,5 +1,5 @@
 //! The pictures of a batch that was decoded, taken in one after another.
-ghost use Rattle.std.specs.Prelude.{ℕ, ◌≡◌, ◌+◌, ◌^◌, ◌≤◌, IfOk, IfErr, IsTrue, OnOk, true, false, map};
+ghost use Rattle.std.specs.Prelude.{ℕ, ◌≡◌, ◌+◌, ◌^◌, ◌≤◌, IfErr, IsTrue, OnOk, false, map, length};
 ghost use Rattle.m2v_port.specs.Ends.{SinkStays};
 ghost use Rattle.m2v_port.specs.Port.{Rose};
 ghost use Rattle.m2v_picture.specs.Frames.{store_of};
@@ -8,10 +8,12 @@ ghost use Rattle.m2v_behind.specs.Behind.{Tracks};
 ghost use Rattle.m2v_decoder.specs.Decoding.{Onward, Refuses, whole_of};
 ghost use Rattle.m2v_pardec.specs.Ahead.{AreInOrder};
 ghost use Rattle.m2v_pardec.specs.Taken.{AreTold, piece_of};
-ghost use Rattle.m2v_pardec.specs.Put.{CanTakeIn, TookIn, PutsAll, StopsBy, CountsOn};
+ghost use Rattle.m2v_pardec.specs.Rows.{AreThere};
+ghost use Rattle.m2v_pardec.specs.Put.{CanTakeIn, TookIn, PutsAll, StopsBy, CountsOn, AreAllThere, TellsBehind};
 
 use crate::rows::BatchRows;
 use m2v_batch::{BatchPicture, DecodeBook};
+use m2v_core::JobBook;
 use m2v_decode::put_due;
 use m2v_decoder::Decoder;
 use m2v_model::State;
@@ -20,38 +22,51 @@ use m2v_port::Sink;
 use m2v_wave::Done;
 use std::alloc::Global;
 
-/// Takes a picture in: by its rows, where all of them and those of all pictures before it are rebuilt, or else as a whole.
-/// Answers whether it was taken in by its rows.
+/// A batch whose rows were decoded, and which isn't taken in yet, with the state behind each of its pictures.
+#[derive(Drop)]
+pub struct Worked {
+    pub book: DecodeBook,
+    pub done: Done<DecodeBook>,
+    pub after: Vec<State>,
+}
+
+impl Worked {
+    /// Whether all rows are rebuilt.
+    pub fn is_rebuilt(&self) -> bool
+        requires { self.now.done ≡ self.now.book }
+        ensures { IsTrue result → AreAllThere self.now.book }
+    {
+        // what is known of a batch
+        let _batch = self.book.pictures();
+        BatchRows::from_job(&self.done, 0).are_rebuilt(self.book.jobs())
+    }
+}
+
+/// Takes a picture in by its rows.
 fn take_in(
     alloc: Global,
     decoder: &mut Decoder,
     x: &BatchPicture,
     rows: &BatchRows,
     after: &State,
-    by_rows: bool,
-) -> Result<bool, DecodeError>
+) -> Result<(), DecodeError>
     requires piece { IsSoundPiece x.now.piece }
     requires going { decoder.old.failed ≡ false }
     requires before { decoder.old.ended ≡ false }
     requires counted { decoder.old.pictures + x.now.piece.length ≤ 2 ^ 60 }
-    requires rows { by_rows ≡ true → CanTakeIn decoder.old x.now after.now rows.now }
+    requires can { CanTakeIn decoder.old x.now after.now rows.now }
+    requires rows { AreThere rows.now x.now.opened.rows }
     ensures ok { OnOk result (Onward decoder.old x.now.piece.place (whole_of x.now.piece)
         decoder.new) }
     ensures err { IfErr result (Refuses decoder.old x.now.piece.place (whole_of x.now.piece)) }
-    ensures rows { IfOk result (λ done. done ≡ true → TookIn decoder.old x.now after.now rows.now
-        decoder.new) }
-    ensures only { IfOk result (λ done. done ≡ true → by_rows ≡ true) }
+    ensures rows { OnOk result (TookIn decoder.old x.now after.now rows.now decoder.new) }
 {
-    if by_rows && rows.are_rebuilt(x.opened.rows) {
-        decoder.rebuilt(alloc, &x.piece, &x.opened, after, rows)?;
-        return Ok(true);
-    }
-    decoder.piece(alloc, &x.piece)?;
-    Ok(false)
+    decoder.rebuilt(alloc, &x.piece, &x.opened, after, rows)?;
+    Ok(())
 }
 
-/// Takes in the pictures of a batch whose rows were decoded, and writes the frames that are due behind each.
-pub fn put_batch<K: Sink>(
+/// Takes in the pictures of a batch whose rows are all rebuilt, and writes the frames that are due behind each.
+pub fn put_rows<K: Sink>(
     alloc: Global,
     decoder: &mut Decoder,
     book: &DecodeBook,
@@ -61,6 +76,7 @@ pub fn put_batch<K: Sink>(
     output: &mut K,
 ) -> Result<(), DecodeError>
     requires done { done.now ≡ book.now }
+    requires rebuilt { AreAllThere book.now }
     requires going { decoder.old.failed ≡ false }
     requires before { decoder.old.ended ≡ false }
     requires order { (high : ℕ) × (high ≤ 2 ^ 36)
@@ -76,19 +92,15 @@ pub fn put_batch<K: Sink>(
         (CountsOn (map piece_of book.now.pictures) decoder.old decoder.new) }
     ensures going { OnOk result (decoder.new.failed ≡ false) }
     ensures before { OnOk result (decoder.new.ended ≡ false) }
+    ensures told { OnOk result (TellsBehind decoder.old.state book.now.pictures after.now
+        decoder.new.state) }
+    ensures tracks { OnOk result
+        (Tracks book.now (length book.now.pictures) (store_of decoder.new.frames)) }
     ensures output { SinkStays K.ready K.name K.faults output.old output.new }
 {
-    let mut by_rows = true;
     for p in 0..book.pictures() {
         let rows = BatchRows::from_job(done, book.first_job(p));
-        by_rows = take_in(
-            alloc,
-            decoder,
-            book.picture(p),
-            &rows,
-            &after[p as usize],
-            by_rows,
-        )?;
+        take_in(alloc, decoder, book.picture(p), &rows, &after[p as usize])?;
         put_due(alloc, decoder, raw, output)?;
     }
     Ok(())

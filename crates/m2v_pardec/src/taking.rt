@@ -5,11 +5,14 @@ ghost use Rattle.m2v_model.specs.States.{at_first};
 ghost use Rattle.m2v_piece.specs.Sound.{IsSoundPiece};
 ghost use Rattle.m2v_headers.specs.Headers.{IsBetween};
 ghost use Rattle.m2v_batch.specs.Batches.{IsBatch};
+ghost use Rattle.m2v_filling.specs.Filled.{batch_of, with_frames, AreThere, HaveDims};
 ghost use Rattle.m2v_pardec.specs.Ahead.{AreInOrder, Takes, WereTaken};
-ghost use Rattle.m2v_pardec.specs.Taken.{IsHand, IsNothing, MayBeNext, AddedTo, AreTold, StandsOn, TakesFirst, pieces_of, end_by, ReadFailed};
+ghost use Rattle.m2v_pardec.specs.Chain.{TakingFails};
+ghost use Rattle.m2v_pardec.specs.Taken.{IsKnown, IsNothing, MayBeNext, AddedTo, IsRest, TakenBehind, TakesFirst, TakesMore, IsSet, pieces_of, end_by, ReadFailed, ReadOn};
 
-use m2v_decoder::{AtHand, Opened};
-use m2v_filling::{Filling, has_one_picture};
+use m2v_batch::DecodeBook;
+use m2v_decoder::Opened;
+use m2v_filling::{Filling, FramesThere, has_one_picture};
 use m2v_headers::read_headers;
 use m2v_model::State;
 use m2v_picture::FramesAtHand;
@@ -18,6 +21,10 @@ use m2v_plane::Dims;
 use m2v_port::Source;
 use m2v_unit::{UnitReader, first_state};
 use std::alloc::{AllocError, Global};
+
+/// How many pictures are taken ahead at a time. While their rows are decoded, the pictures before them are taken into the
+/// decoder and those behind them are taken ahead.
+const BATCH: u32 = 8;
 
 /// Why no more pieces were taken.
 #[derive(Clone, Copy, Debug, PartialEq, Eq)]
@@ -30,12 +37,30 @@ pub enum Stop {
     Error(DecodeError),
 }
 
-/// Pieces that were taken ahead: the pictures whose rows are decoded by themselves, with the state behind each, and the piece
-/// behind them, which is decoded as a whole.
+/// What is known between two pieces: the state, the size of the frames, and which of them are at hand.
+#[derive(Clone, Copy)]
+pub struct Before {
+    pub state: State,
+    pub dims: Dims,
+    pub there: FramesThere,
+}
+
+/// Pieces that were taken ahead: the pictures whose rows are decoded by themselves, with the state behind each and behind the
+/// last, and the piece behind them, which is decoded as a whole.
 #[derive(Drop)]
 pub struct Taken {
     pub pictures: Filling,
     pub after: Vec<State>,
+    pub state: State,
+    pub other: Option<Piece>,
+    pub stop: Stop,
+}
+
+/// What is left of what was taken, once its pictures are a book: what is known behind them, the piece there, and why no more
+/// pieces were taken.
+#[derive(Drop)]
+pub struct Rest {
+    pub behind: Before,
     pub other: Option<Piece>,
     pub stop: Stop,
 }
@@ -80,64 +105,100 @@ fn size_in(alloc: Global, piece: &Piece) -> Option<Dims>
     }
 }
 
-/// What stands before the first piece, for frames of a size.
-fn nothing_before(dims: Dims) -> AtHand
+/// What is known before the first piece, for frames of a size.
+fn before_all(dims: Dims) -> Before
     requires { IsSize dims }
-    ensures hand { IsHand result }
+    ensures known { IsKnown result }
     ensures state { result.state ≡ at_first }
-    ensures frames { IsNothing result.frames }
+    ensures frames { IsNothing result.there }
 {
-    AtHand {
+    Before {
         state: first_state(),
         dims,
-        frames: FramesAtHand {
-            older: None,
-            newer: None,
-            waiting: None,
+        there: FramesThere {
+            older: false,
+            newer: false,
+            first: false,
         },
     }
 }
 
 impl Taken {
-    /// Nothing was taken yet, behind these frames.
-    fn none(alloc: Global, hand: AtHand) -> Taken
-        requires { IsHand hand }
-        ensures pictures { result.pictures.pictures ≡ [] }
-        ensures frames { StandsOn hand result.pictures }
+    /// Nothing was taken yet.
+    fn none(alloc: Global, before: Before) -> Taken
+        requires { IsKnown before }
+        ensures pictures { result.pictures ≡ batch_of before.dims [] before.there }
         ensures after { result.after.items ≡ [] }
+        ensures state { result.state ≡ before.state }
         ensures other { result.other ≡ None }
         ensures stop { result.stop ≡ Stop.More }
     {
         Taken {
-            pictures: Filling::new(alloc, hand.dims, hand.frames),
+            pictures: Filling::new(alloc, before.dims, before.there),
             after: Vec::new(alloc),
+            state: before.state,
             other: None,
             stop: Stop::More,
         }
     }
 
-    /// Takes a piece: as the next picture, or else as the one behind them. Answers the state behind it, where it is a picture.
-    fn add(
-        &mut self,
-        alloc: Global,
-        state: &State,
-        piece: Piece,
-    ) -> Result<Option<State>, AllocError>
+    /// Takes a piece: as the next picture, or else as the one behind them. Answers whether it is a picture.
+    fn add(&mut self, alloc: Global, piece: Piece) -> Result<bool, AllocError>
         requires piece { IsSoundPiece piece }
-        requires between { IsBetween state.now }
-        ensures { IfOk result (λ after. AddedTo self.old state.now piece after self.new) }
+        requires between { IsBetween self.old.state }
+        ensures { IfOk result (λ more. AddedTo self.old piece more self.new) }
     {
-        match next_picture(alloc, &self.pictures, state, &piece) {
+        match next_picture(alloc, &self.pictures, &self.state, &piece) {
             Some((opened, after)) => {
                 self.pictures.push(piece, opened)?;
                 self.after.push(after)?;
-                Ok(Some(after))
+                self.state = after;
+                Ok(true)
             }
             None => {
                 self.other = Some(piece);
-                Ok(None)
+                Ok(false)
             }
         }
+    }
+
+    /// The book of the pictures, with these frames at hand before them, the state behind each, and what is left.
+    pub fn into_book(self, frames: FramesAtHand) -> (DecodeBook, Vec<State>, Rest)
+        requires between { IsBetween self.state }
+        requires there { AreThere frames self.pictures }
+        requires sizes { HaveDims self.pictures.dims frames }
+        ensures book { result.0 ≡ with_frames self.pictures frames }
+        ensures batch { IsBatch result.0 }
+        ensures after { result.1 ≡ self.after }
+        ensures rest { IsRest self result.2 }
+    {
+        let Taken {
+            pictures,
+            after,
+            state,
+            other,
+            stop,
+        } = self;
+        let behind = Before {
+            state,
+            dims: pictures.dims(),
+            there: FramesThere {
+                first: false,
+                ..pictures.at_hand()
+            },
+        };
+        let book = pictures.book(frames);
+        // what is known of a batch
+        let _batch = book.pictures();
+        (
+            book,
+            after,
+            Rest {
+                behind,
+                other,
+                stop,
+            },
+        )
     }
 }
 
@@ -149,27 +210,23 @@ pub fn take_first(alloc: Global, piece: Piece) -> Result<Result<Taken, Piece>, A
     let Some(dims) = size_in(alloc, &piece) else {
         return Ok(Err(piece));
     };
-    let hand = nothing_before(dims);
-    let state = hand.state;
-    let mut taken = Taken::none(alloc, hand);
-    taken.add(alloc, &state, piece)?;
+    let mut taken = Taken::none(alloc, before_all(dims));
+    taken.add(alloc, piece)?;
     Ok(Ok(taken))
 }
 
-/// Takes pieces ahead: up to 16 pictures, or fewer where a piece isn't one of these or none is left.
+/// Takes pieces ahead: up to 8 pictures, or fewer where a piece isn't one of these or none is left.
 pub fn take<S: Source>(
     alloc: Global,
-    hand: AtHand,
+    before: Before,
     cutter: &mut Cutter,
     input: &mut S,
 ) -> Result<Taken, AllocError>
-    requires hand { IsHand hand }
+    requires known { IsKnown before }
     requires going { cutter.old.failed ≡ false }
     ensures taken { IfOk result (λ t. Takes cutter.old (S.left input.old) (pieces_of t) t.stop
         cutter.new (S.left input.new)) }
-    ensures batch { IfOk result (λ t. IsBatch t.pictures) }
-    ensures frames { IfOk result (λ t. StandsOn hand t.pictures) }
-    ensures told { IfOk result (λ t. AreTold hand.state t.pictures.pictures t.after.items) }
+    ensures told { IfOk result (TakenBehind before) }
     ensures order { IfOk result (λ t. AreInOrder cutter.old.place (pieces_of t)
         (end_by t.stop cutter.new.place)) }
     ensures most { cutter.new.place ≤ 2 ^ 36 }
@@ -181,9 +238,8 @@ pub fn take<S: Source>(
 {
     // places are bounded, behind an error too
     let _place = cutter.place();
-    let mut state = hand.state;
-    let mut taken = Taken::none(alloc, hand);
-    while taken.pictures.len() < 16 {
+    let mut taken = Taken::none(alloc, before);
+    while taken.pictures.len() < BATCH {
         match cutter.next_piece(alloc, input) {
             Err(e) => {
                 let _place = cutter.place();
@@ -194,11 +250,40 @@ pub fn take<S: Source>(
                 taken.stop = Stop::End;
                 return Ok(taken);
             }
-            Ok(Some(piece)) => match taken.add(alloc, &state, piece)? {
-                Some(after) => state = after,
-                None => return Ok(taken),
-            },
+            Ok(Some(piece)) => {
+                if !taken.add(alloc, piece)? {
+                    return Ok(taken);
+                }
+            }
         }
     }
     Ok(taken)
+}
+
+/// Takes the pieces behind those that were taken, where the last of these is a picture and others may follow.
+pub fn take_more<S: Source>(
+    alloc: Global,
+    rest: &mut Rest,
+    cutter: &mut Cutter,
+    input: &mut S,
+) -> Result<Taken, AllocError>
+    requires known { IsKnown rest.old.behind }
+    requires set { IsSet rest.old.stop cutter.old }
+    requires most { cutter.old.place ≤ 2 ^ 36 }
+    ensures ok { IfOk result (TakesMore rest.old cutter.old (S.left input.old) cutter.new
+        (S.left input.new)) }
+    ensures told { IfOk result (TakenBehind rest.old.behind) }
+    ensures err { OnErr result (TakingFails rest.old cutter.old (S.left input.old)
+        (S.left input.new)) }
+    ensures read { IfOk result (λ t. ReadOn rest.old.stop t.stop (S.faults input.old)
+        (S.faults input.new)) }
+    ensures faults { S.faults input.old ≤ S.faults input.new }
+{
+    if rest.other.is_some() || rest.stop != Stop::More {
+        let mut taken = Taken::none(alloc, rest.behind);
+        taken.other = rest.other.take();
+        taken.stop = rest.stop;
+        return Ok(taken);
+    }
+    take(alloc, rest.behind, cutter, input)
 }

@@ -1,127 +1,54 @@
-ghost use Rattle.std.specs.Prelude.{ℕ, ◌≡◌, ◌+◌, ◌<◌, ◌≤◌, ◌^◌, [], ◌∷◌, IsTrue, IfOk, IfErr, OnOk, false, option_to_list};
+ghost use Rattle.std.specs.Prelude.{◌≡◌, ◌<◌, ◌≤◌, ◌^◌, IsTrue, IfOk, IfErr, OnOk, None, is_some, false};
 ghost use Rattle.m2v_port.specs.Ends.{change, Tells, SinkStays};
 ghost use Rattle.m2v_port.specs.Port.{Rose};
-ghost use Rattle.m2v_piece.specs.Sound.{IsSoundPiece};
-ghost use Rattle.m2v_picture.specs.Frames.{store_of};
-ghost use Rattle.m2v_behind.specs.Behind.{Tracks};
 ghost use Rattle.m2v_decoder.specs.Decoding.{at_start};
 ghost use Rattle.m2v_decode.specs.Answers.{OfText, IsDecoded, Fails};
 ghost use Rattle.m2v_decode.specs.Complete.{IsAnswered};
 ghost use Rattle.m2v_decode.specs.Progress.{before_all, IsDone};
-ghost use Rattle.m2v_batch.specs.Batches.{IsBatch};
-ghost use Rattle.m2v_pardec.specs.Ahead.{AreInOrder};
-ghost use Rattle.m2v_pardec.specs.Taken.{AreTold, pieces_of, ReadFailed};
-ghost use Rattle.m2v_pardec.specs.Put.{PutsAll, StopsBy, CountsOn, GoesOn, GoesWrong};
+ghost use Rattle.m2v_pardec.specs.Taken.{ReadFailed};
+ghost use Rattle.m2v_pardec.specs.Put.{GoesOn, GoesWrong};
 
-use crate::put::put_batch;
-use crate::taking::{Stop, Taken, take, take_first};
+use crate::chain::put_chain;
+use crate::pieces::put_piece;
+use crate::taking::{Before, Stop, take, take_first};
 use m2v_board::Gate;
-use m2v_decode::{Decoded, decode, finish, put_due};
-use m2v_decoder::{AtHand, Decoder};
-use m2v_piece::{Cutter, DecodeError, Piece};
+use m2v_decode::{Decoded, decode, finish};
+use m2v_decoder::Decoder;
+use m2v_filling::FramesThere;
+use m2v_picture::FramesAtHand;
+use m2v_piece::{Cutter, DecodeError};
 use m2v_port::{Sink, Source};
-use m2v_wave::{Bench, run_jobs};
-use std::alloc::Global;
+use std::alloc::{AllocError, Global};
 use std::sync::Wait;
 use std::thread::Threads;
 
-/// Decodes a piece as a whole, and writes the frames that are due behind it.
-fn put_piece<K: Sink>(
-    alloc: Global,
-    decoder: &mut Decoder,
-    piece: &Piece,
-    raw: &mut Vec<u8>,
-    output: &mut K,
-) -> Result<(), DecodeError>
-    requires piece { IsSoundPiece piece.now }
-    requires going { decoder.old.failed ≡ false }
-    requires before { decoder.old.ended ≡ false }
-    requires counted { decoder.old.pictures ≤ piece.now.place }
-    requires output { IsTrue (K.ready output.old) }
-    ensures ok { OnOk result (PutsAll (piece.now ∷ []) decoder.old (K.held output.old) decoder.new
-        (K.held output.new)) }
-    ensures err { IfErr result (StopsBy (Rose (K.faults output.old) (K.faults output.new))
-        (piece.now ∷ []) decoder.old (K.held output.old) (K.held output.new)) }
-    ensures counted { OnOk result
-        (decoder.new.pictures ≤ decoder.old.pictures + piece.now.length) }
-    ensures going { OnOk result (decoder.new.failed ≡ false) }
-    ensures before { OnOk result (decoder.new.ended ≡ false) }
-    ensures output { SinkStays K.ready K.name K.faults output.old output.new }
-{
-    decoder.piece(alloc, piece)?;
-    put_due(alloc, decoder, raw, output)
-}
+/// The size of a block that is let go at once, so that smaller ones stay with the allocator.
+const KEPT_BLOCK: usize = 31 << 20;
 
-/// Decodes the piece behind the pictures of a batch as a whole, where there is one.
-fn put_rest<K: Sink>(
-    alloc: Global,
-    decoder: &mut Decoder,
-    other: &Option<Piece>,
-    raw: &mut Vec<u8>,
-    output: &mut K,
-) -> Result<(), DecodeError>
-    requires going { decoder.old.failed ≡ false }
-    requires before { decoder.old.ended ≡ false }
-    requires order { (high : ℕ) × (high ≤ 2 ^ 36)
-        × AreInOrder decoder.old.pictures (option_to_list other.now) high }
-    requires output { IsTrue (K.ready output.old) }
-    ensures ok { OnOk result (PutsAll (option_to_list other.now) decoder.old (K.held output.old)
-        decoder.new (K.held output.new)) }
-    ensures err { IfErr result (StopsBy (Rose (K.faults output.old) (K.faults output.new))
-        (option_to_list other.now) decoder.old (K.held output.old) (K.held output.new)) }
-    ensures counted { OnOk result (CountsOn (option_to_list other.now) decoder.old decoder.new) }
-    ensures going { OnOk result (decoder.new.failed ≡ false) }
-    ensures before { OnOk result (decoder.new.ended ≡ false) }
-    ensures output { SinkStays K.ready K.name K.faults output.old output.new }
+/// No frames at hand.
+fn no_frames() -> FramesAtHand
+    ensures older { result.older ≡ None }
+    ensures newer { result.newer ≡ None }
+    ensures waiting { result.waiting ≡ None }
 {
-    match other {
-        Some(piece) => put_piece(alloc, decoder, piece, raw, output),
-        None => Ok(()),
+    FramesAtHand {
+        older: None,
+        newer: None,
+        waiting: None,
     }
 }
 
-/// Decodes what was taken ahead: the rows of its pictures by all workers, and the piece behind them as a whole.
-fn put_taken<R: Threads + Wait + Sync, K: Sink, G: Gate + Sync>(
-    rt: &R,
-    alloc: Global,
-    workers: u32,
-    taken: Taken,
-    decoder: &mut Decoder,
-    raw: &mut Vec<u8>,
-    output: &mut K,
-    gate: &G,
-) -> Result<Stop, DecodeError>
-    requires workers { (0 < workers) × (workers ≤ 16) }
-    requires batch { IsBatch taken.pictures }
-    requires going { decoder.old.failed ≡ false }
-    requires before { decoder.old.ended ≡ false }
-    requires order { (high : ℕ) × (high ≤ 2 ^ 36)
-        × AreInOrder decoder.old.pictures (pieces_of taken) high }
-    requires told { AreTold decoder.old.state taken.pictures.pictures taken.after.items }
-    requires tracks { Tracks taken.pictures 0 (store_of decoder.old.frames) }
-    requires output { IsTrue (K.ready output.old) }
-    ensures ok { OnOk result (PutsAll (pieces_of taken) decoder.old (K.held output.old) decoder.new
-        (K.held output.new)) }
-    ensures stop { IfOk result (λ stop. stop ≡ taken.stop) }
-    ensures err { IfErr result (StopsBy (Rose (K.faults output.old) (K.faults output.new))
-        (pieces_of taken) decoder.old (K.held output.old) (K.held output.new)) }
-    ensures counted { OnOk result (CountsOn (pieces_of taken) decoder.old decoder.new) }
-    ensures going { OnOk result (decoder.new.failed ≡ false) }
-    ensures before { OnOk result (decoder.new.ended ≡ false) }
-    ensures output { SinkStays K.ready K.name K.faults output.old output.new }
+/// Which frames are there.
+fn there_of(frames: &FramesAtHand) -> FramesThere
+    ensures older { result.older ≡ is_some frames.now.older }
+    ensures newer { result.newer ≡ is_some frames.now.newer }
+    ensures first { result.first ≡ is_some frames.now.waiting }
 {
-    let Taken {
-        pictures,
-        after,
-        other,
-        stop,
-    } = taken;
-    let book = pictures.book();
-    let bench = Bench::for_book(alloc, &book, workers)?;
-    let done = run_jobs(rt, &book, bench, gate);
-    put_batch(alloc, decoder, &book, &done, &after, raw, output)?;
-    put_rest(alloc, decoder, &other, raw, output)?;
-    Ok(stop)
+    FramesThere {
+        older: frames.older.is_some(),
+        newer: frames.newer.is_some(),
+        first: frames.waiting.is_some(),
+    }
 }
 
 /// Takes one piece and decodes it as a whole.
@@ -157,7 +84,7 @@ fn put_other<S: Source, K: Sink>(
     }
 }
 
-/// Takes the first piece and decodes it.
+/// Takes the first piece and decodes it, and those behind it, batch after batch, as long as they are pictures.
 fn put_first<R: Threads + Wait + Sync, S: Source, K: Sink, G: Gate + Sync>(
     rt: &R,
     alloc: Global,
@@ -189,7 +116,19 @@ fn put_first<R: Threads + Wait + Sync, S: Source, K: Sink, G: Gate + Sync>(
         Err(e) => Ok(Stop::Error(e)),
         Ok(None) => Ok(Stop::End),
         Ok(Some(piece)) => match take_first(alloc, piece)? {
-            Ok(taken) => put_taken(rt, alloc, workers, taken, decoder, raw, output, gate),
+            Ok(taken) => put_chain(
+                rt,
+                alloc,
+                workers,
+                taken,
+                no_frames(),
+                cutter,
+                decoder,
+                raw,
+                input,
+                output,
+                gate,
+            ),
             Err(piece) => {
                 put_piece(alloc, decoder, &piece, raw, output)?;
                 Ok(Stop::More)
@@ -198,7 +137,7 @@ fn put_first<R: Threads + Wait + Sync, S: Source, K: Sink, G: Gate + Sync>(
     }
 }
 
-/// Takes pieces and decodes them, as many as one batch has.
+/// Takes pieces and decodes them, batch after batch, as long as they are pictures.
 fn put_next<R: Threads + Wait + Sync, S: Source, K: Sink, G: Gate + Sync>(
     rt: &R,
     alloc: Global,
@@ -227,8 +166,25 @@ fn put_next<R: Threads + Wait + Sync, S: Source, K: Sink, G: Gate + Sync>(
 {
     match decoder.at_hand(alloc)? {
         Some(hand) => {
-            let taken = take(alloc, hand, cutter, input)?;
-            put_taken(rt, alloc, workers, taken, decoder, raw, output, gate)
+            let before = Before {
+                state: hand.state,
+                dims: hand.dims,
+                there: there_of(&hand.frames),
+            };
+            let taken = take(alloc, before, cutter, input)?;
+            put_chain(
+                rt,
+                alloc,
+                workers,
+                taken,
+                hand.frames,
+                cutter,
+                decoder,
+                raw,
+                input,
+                output,
+                gate,
+            )
         }
         // behind the first piece this doesn't come
         None => put_other(alloc, cutter, decoder, raw, input, output),
@@ -276,6 +232,14 @@ fn read_batches<R: Threads + Wait + Sync, S: Source, K: Sink, G: Gate + Sync>(
     }
 }
 
+/// Has the allocator keep what a batch lets go for the next one. A block of many pages goes back to the system at once, and
+/// comes anew page by page, which takes as long as decoding into it; glibc counts as such a block only what is larger than the
+/// largest one that was let go, up to 32 MiB.
+fn keep_memory(alloc: Global) {
+    let block: Result<Vec<u8>, AllocError> = Vec::with_capacity(alloc, KEPT_BLOCK);
+    drop(block);
+}
+
 /// Reads batch after batch to the end, and ends the stream there.
 fn by_batches<R: Threads + Wait + Sync, S: Source, K: Sink, G: Gate + Sync>(
     rt: &R,
@@ -296,6 +260,7 @@ fn by_batches<R: Threads + Wait + Sync, S: Source, K: Sink, G: Gate + Sync>(
     ensures output { SinkStays K.ready K.name K.faults output.old output.new }
     ensures input { S.faults input.old ≤ S.faults input.new }
 {
+    keep_memory(alloc);
     let mut cutter = Cutter::new(alloc)?;
     let mut decoder = Decoder::new(alloc)?;
     let mut raw = Vec::new(alloc);
@@ -316,9 +281,10 @@ fn by_batches<R: Threads + Wait + Sync, S: Source, K: Sink, G: Gate + Sync>(
 /// Decodes a stream by 1 to 16 workers: what it answers, reads and writes is what `decode` of `m2v_decode` does, for every
 /// number of workers and whatever the gate does.
 ///
-/// By more than one, up to 16 pictures are taken ahead. Their macroblock rows are the jobs of the workers: a row waits for the rows of the
-/// pictures that its own is predicted from. The frames that are due are then written in order. A picture in which a row has a
-/// fault, one that is dropped, and a piece whose headers have a fault are decoded as a whole, one after another.
+/// By more than one, pictures are taken ahead, up to 8 at a time. Their macroblock rows are the jobs of the workers: a row
+/// waits for the rows of the pictures that its own is predicted from. Meanwhile this thread takes in the pictures before
+/// them, writes the frames that are due, and takes the next pictures. Pictures are decoded as a whole, one after another,
+/// where a row of them has a fault; so are one that is dropped, and a piece whose headers have a fault.
 ///
 /// # Errors
 /// Those of `decode`.

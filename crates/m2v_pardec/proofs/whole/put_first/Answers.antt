@@ -1,18 +1,18 @@
-use Rattle.std.proofs.Common.{◌≡◌, ◌+◌, ◌≤◌, false, [], ◌∷◌, List, sym, ap, subst, ◌∙◌, arith}
-use Rattle.std.proofs.lemmas.Result.{err_from_is_err_and, IfErr-weaker}
+use Rattle.std.proofs.Common.{◌+◌, ◌<◌, ◌≤◌, [], ◌∷◌, sym, ap, subst, ◌∙◌, arith}
+use Rattle.std.proofs.lemmas.Result.{err_from_is_err_and, IfErr-weaker, IfOk-weaker}
 use Rattle.m2v_port.specs.Port.{Rose}
 use Rattle.m2v_piece.specs.declared.answer.Piece.{Piece}
 use Rattle.m2v_piece.specs.declared.answer.DecodeError.TheVariants as errors
 use Rattle.m2v_picture.specs.Frames.{store_of}
-use Rattle.m2v_behind.proofs.NextFrames.{tracks_first}
 use Rattle.m2v_decoder.specs.Decoding.{Decoding}
 use Rattle.m2v_pardec.specs.declared.taking.Stop.{Stop}
 use Rattle.m2v_pardec.specs.declared.taking.Stop.TheVariants.{More}
-use Rattle.m2v_pardec.specs.Ahead.{AreInOrder}
-use Rattle.m2v_pardec.specs.Taken.{pieces_of}
-use Rattle.m2v_pardec.specs.Put.{PutsAll, StopsBy, CountsOn, GoesOn, GoesWrong}
+use Rattle.m2v_pardec.specs.Taken.{ReadFailed, ReadOn}
+use Rattle.m2v_pardec.specs.Put.{PutsAll, StopsBy, GoesOn, GoesWrong}
+use Rattle.m2v_pardec.specs.Chain.{GoesFrom, WrongFrom}
 use Rattle.m2v_pardec.proofs.PutLaws.{unmade}
-use Rattle.m2v_pardec.proofs.GoesLaws.{takes_one, order_one, stands_one, stands_taken, goes_taken, wrong_taken, goes_end, goes_error, if_ok_all}
+use Rattle.m2v_pardec.proofs.GoesLaws.{takes_one, order_one, stands_one, goes_taken, wrong_taken, goes_end, goes_error}
+use Rattle.m2v_pardec.proofs.StartLaws.{taken_waits, taken_tracks, first_there, first_sized, first_takes, first_order, first_read, chain_goes, chain_wrong, read_behind}
 use Rattle.m2v_pardec.proofs.whole.put_first.Goals as goal
 
 pub returns-in_err-taken-in-Ok-Some-clause-err : goal.returns-in_err-taken-in-Ok-Some-clause-err
@@ -26,25 +26,39 @@ returns-in_err-taken-in-Ok-Some-clause-err g c =
     (wrong_taken failed c.args.cutter.now (g.S.Source.left c.args.input.now) (c.in-Ok-Some.piece ∷ []) More c.next_piece.new.self (g.S.Source.left c.next_piece.new.input) held held c.args.decoder.now errors.Memory
     (takes_one c.args.cutter.now _ c.in-Ok-Some.piece c.next_piece.new.self _ x begun c.in-Ok-Some.ensures.taken c.in-Ok-Some.ensures.going) (unmade failed (c.in-Ok-Some.piece ∷ []) c.args.decoder.now held))
 
-pub put_taken-requires-clause-order : goal.put_taken-requires-clause-order
-put_taken-requires-clause-order g c κs within =
+pub put_chain-requires-clause-waiting : goal.put_chain-requires-clause-waiting
+put_chain-requires-clause-waiting g c κs within =
+    let x = rw c.in-Ok-Some.field-0-is at c.in-Ok-Some.ensures.ok in
+    let begun = rw c.in-Ok-Some.field-0-is at c.in-Ok-Some.ensures.begun in
     let sound = rw c.in-Ok-Some.field-0-is at c.in-Ok-Some.ensures.sound in
     let onward = rw c.in-Ok-Some.field-0-is at c.in-Ok-Some.ensures.onward in
     let t = rw c.in-Ok.is at c.in_ok-taken-in-Ok-Some.ensures in
-    let cutter = c.next_piece.new.self in (
-      cutter.place,
-      omega (arith, onward.1, sound.end),
-      subst (λ (ps : List Piece). AreInOrder c.args.decoder.now.pictures ps cutter.place) (sym t.0)
-          (order_one c.args.cutter.now cutter c.in-Ok-Some.piece c.args.decoder.now.pictures onward sound c.requires.counted),
-    )
+    let h = t.2 in
+    let old = c.args.cutter.now in
+    let new = c.next_piece.new.self in
+    let p = c.in-Ok-Some.piece in
+    taken_waits h.0 c.in-Ok.taken old new (g.S.Source.left c.args.input.now) (g.S.Source.left c.next_piece.new.input) c.args.decoder.now h.3 (h.1 ∙ sym (ap (λ (d : Decoding). d.state) c.requires.start)) c.requires.going c.requires.before c.requires.counted
+    (first_takes old new _ _ p c.in-Ok.taken (takes_one old _ p new _ x begun c.in-Ok-Some.ensures.taken c.in-Ok-Some.ensures.going) t.0 t.1)
+    (first_order old new p c.in-Ok.taken (order_one old new p old.place onward sound (omega arith)) t.0 t.1) (omega (arith, onward.1, sound.end))
 
-pub put_taken-requires-clause-tracks : goal.put_taken-requires-clause-tracks
-put_taken-requires-clause-tracks g c κs within =
+pub put_chain-requires-clause-there : goal.put_chain-requires-clause-there
+put_chain-requires-clause-there g c κs within =
     let t = rw c.in-Ok.is at c.in_ok-taken-in-Ok-Some.ensures in
-    tracks_first c.in-Ok.taken.pictures (store_of c.args.decoder.now.frames)
-    (ap (λ (d : Decoding). d.frames.older) c.requires.start ∙ sym t.4)
-    (ap (λ (d : Decoding). d.frames.newer) c.requires.start ∙ sym t.5)
-    (λ second. ap (λ (d : Decoding). d.frames.current) c.requires.start ∙ sym t.6)
+    let f = c.no_frames.ensures in
+    first_there (t.2).0 c.in-Ok.taken c.no_frames.result (t.2).3 (t.2).2 f.older f.newer f.waiting
+
+pub put_chain-requires-clause-sizes : goal.put_chain-requires-clause-sizes
+put_chain-requires-clause-sizes g c κs within =
+    let f = c.no_frames.ensures in
+    first_sized c.in-Ok.taken.pictures.dims c.no_frames.result f.older f.newer f.waiting
+
+pub put_chain-requires-clause-tracks : goal.put_chain-requires-clause-tracks
+put_chain-requires-clause-tracks g c κs within =
+    let f = c.no_frames.ensures in
+    taken_tracks c.in-Ok.taken c.no_frames.result (store_of c.args.decoder.now.frames)
+    (ap (λ (d : Decoding). d.frames.older) c.requires.start ∙ sym f.older)
+    (ap (λ (d : Decoding). d.frames.newer) c.requires.start ∙ sym f.newer)
+    (ap (λ (d : Decoding). d.frames.current) c.requires.start ∙ sym f.waiting)
 
 pub returns-in_err-put_piece-in-Err-2-clause-err :
     goal.returns-in_err-put_piece-in-Err-2-clause-err
@@ -79,48 +93,49 @@ returns-in-Ok-clause-ok g c =
     let sound = rw c.in-Ok-Some.field-0-is at c.in-Ok-Some.ensures.sound in
     let onward = rw c.in-Ok-Some.field-0-is at c.in-Ok-Some.ensures.onward in
     let t = rw c.in-Ok.is at c.in_ok-taken-in-Ok-Some.ensures in
-    let one = c.in-Ok-Some.piece ∷ [] in
+    let p = c.in-Ok-Some.piece in
     let old = c.args.cutter.now in
     let new = c.next_piece.new.self in
+    let last = c.put_chain.new.cutter in
     let left = g.S.Source.left c.args.input.now in
     let left' = g.S.Source.left c.next_piece.new.input in
+    let left'' = g.S.Source.left c.put_chain.new.input in
     let held = g.K.Sink.held c.args.output.now in
-    let held' = g.K.Sink.held c.put_taken.new.output in
+    let held' = g.K.Sink.held c.put_chain.new.output in
     let d = c.args.decoder.now in
-    let n = c.put_taken.new.decoder in
-    let takes = takes_one old left c.in-Ok-Some.piece new left' x begun c.in-Ok-Some.ensures.taken c.in-Ok-Some.ensures.going in
-    if_ok_all (PutsAll (pieces_of c.in-Ok.taken) d held n held') (CountsOn (pieces_of c.in-Ok.taken) d n) (n.failed ≡ false) (n.ended ≡ false)
-    (λ (stop : Stop). stop ≡ c.in-Ok.taken.stop) (λ (stop : Stop). GoesOn old left held d stop new left' held' n) c.put_taken.result
-    c.put_taken.ensures.ok c.put_taken.ensures.counted c.put_taken.ensures.going c.put_taken.ensures.before c.put_taken.ensures.stop
-    (λ puts counted going before stop same.
-    subst (λ (s : Stop). GoesOn old left held d s new left' held' n) (sym (same ∙ t.3))
-    (goes_taken old left one More new left' held held' d n takes
-    (subst (λ (ps : List Piece). PutsAll ps d held n held') t.0 puts)
-    (stands_taken old left one More new left' d n takes (order_one old new c.in-Ok-Some.piece old.place onward sound (omega arith)) (omega (arith, onward.1, sound.end)) (λ m. omega arith) c.requires.counted
-    (subst (λ (ps : List Piece). CountsOn ps d n) t.0 counted))
-    going before))
+    let n = c.put_chain.new.decoder in
+    let rises : old.place < new.place = omega (arith, onward.0, onward.1, sound.some) in
+    IfOk-weaker c.put_chain.result (λ (stop : Stop). GoesFrom c.in-Ok.taken new left' held d stop last left'' held' n) (λ (stop : Stop). GoesOn old left held d stop last left'' held' n)
+    (λ stop goes. chain_goes old new last left left' left'' held held' d n c.in-Ok.taken stop (first_takes old new left left' p c.in-Ok.taken (takes_one old left p new left' x begun c.in-Ok-Some.ensures.taken c.in-Ok-Some.ensures.going) t.0 t.1) (λ more. rises) goes)
+    c.put_chain.ensures.ok
 
 pub returns-in-Ok-clause-err : goal.returns-in-Ok-clause-err
 returns-in-Ok-clause-err g c =
     let x = rw c.in-Ok-Some.field-0-is at c.in-Ok-Some.ensures.ok in
     let begun = rw c.in-Ok-Some.field-0-is at c.in-Ok-Some.ensures.begun in
     let t = rw c.in-Ok.is at c.in_ok-taken-in-Ok-Some.ensures in
-    let one = c.in-Ok-Some.piece ∷ [] in
+    let p = c.in-Ok-Some.piece in
     let old = c.args.cutter.now in
     let new = c.next_piece.new.self in
     let left = g.S.Source.left c.args.input.now in
     let left' = g.S.Source.left c.next_piece.new.input in
+    let left'' = g.S.Source.left c.put_chain.new.input in
     let held = g.K.Sink.held c.args.output.now in
-    let held' = g.K.Sink.held c.put_taken.new.output in
-    let failed = Rose (g.K.Sink.faults c.args.output.now) (g.K.Sink.faults c.put_taken.new.output) in
+    let held' = g.K.Sink.held c.put_chain.new.output in
+    let failed = Rose (g.K.Sink.faults c.args.output.now) (g.K.Sink.faults c.put_chain.new.output) in
     let d = c.args.decoder.now in
-    IfErr-weaker c.put_taken.result
-    (StopsBy failed (pieces_of c.in-Ok.taken) d held held')
-    (GoesWrong failed old left held d left' held')
-    (λ e stops. wrong_taken failed old left one More new left' held held' d e
-    (takes_one old left c.in-Ok-Some.piece new left' x begun c.in-Ok-Some.ensures.taken c.in-Ok-Some.ensures.going)
-    (subst (λ (ps : List Piece). StopsBy failed ps d held held' e) t.0 stops))
-    c.put_taken.ensures.err
+    IfErr-weaker c.put_chain.result (WrongFrom failed c.in-Ok.taken new left' held d left'' held') (GoesWrong failed old left held d left'' held')
+    (λ e wrong. chain_wrong failed old new left left' left'' held held' d c.in-Ok.taken e (first_takes old new left left' p c.in-Ok.taken (takes_one old left p new left' x begun c.in-Ok-Some.ensures.taken c.in-Ok-Some.ensures.going) t.0 t.1) wrong)
+    c.put_chain.ensures.err
+
+pub returns-in-Ok-clause-read : goal.returns-in-Ok-clause-read
+returns-in-Ok-clause-read g c =
+    let t = rw c.in-Ok.is at c.in_ok-taken-in-Ok-Some.ensures in
+    let first = g.S.Source.faults c.args.input.now in
+    let mid = g.S.Source.faults c.next_piece.new.input in
+    let last = g.S.Source.faults c.put_chain.new.input in
+    IfOk-weaker c.put_chain.result (λ (stop : Stop). ReadOn c.in-Ok.taken.stop stop mid last) (λ (stop : Stop). ReadFailed stop first last)
+    (λ stop on. read_behind c.in-Ok.taken.stop stop first mid last c.next_piece.ensures.faults (first_read c.in-Ok.taken.stop first mid t.1) on) c.put_chain.ensures.read
 
 pub returns-in_ok-put_piece-in-Err-2-clause-ok : goal.returns-in_ok-put_piece-in-Err-2-clause-ok
 returns-in_ok-put_piece-in-Err-2-clause-ok g c =

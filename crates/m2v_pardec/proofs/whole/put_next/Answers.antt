@@ -1,17 +1,19 @@
-use Rattle.std.proofs.Common.{◌≡◌, ◌≤◌, false, [], sym, ap, subst, ◌∙◌}
-use Rattle.std.proofs.lemmas.Result.{err_from_is_err_and, IfErr-weaker}
+use Rattle.std.proofs.Common.{[], sym, subst}
+use Rattle.std.proofs.lemmas.Result.{err_from_is_err_and, IfErr-weaker, IfOk-weaker}
 use Rattle.m2v_port.specs.Port.{Rose}
 use Rattle.m2v_picture.specs.Frames.{store_of}
-use Rattle.m2v_behind.proofs.NextFrames.{tracks_first}
 use Rattle.m2v_decoder.specs.Decoding.{Decoding}
+use Rattle.m2v_behind.specs.Behind.{Tracks}
+use Rattle.m2v_filling.specs.Filled.{with_frames}
 use Rattle.m2v_pardec.specs.declared.taking.Stop.{Stop}
+use Rattle.m2v_pardec.specs.declared.taking.Before.{Before}
 use Rattle.m2v_pardec.specs.Ahead.{behind}
-use Rattle.m2v_pardec.specs.Taken.{pieces_of, end_by}
-use Rattle.m2v_pardec.specs.Put.{PutsAll, StopsBy, CountsOn, GoesOn, GoesWrong}
+use Rattle.m2v_pardec.specs.Taken.{pieces_of, ReadFailed, ReadOn}
+use Rattle.m2v_pardec.specs.Put.{GoesOn, GoesWrong}
+use Rattle.m2v_pardec.specs.Chain.{AreWaiting, GoesFrom, WrongFrom}
 use Rattle.m2v_pardec.proofs.AheadLaws.{ahead_unmade, ahead_all}
-use Rattle.m2v_pardec.proofs.PutLaws.{order_lower}
-use Rattle.m2v_pardec.proofs.TakenLaws.{end_by_most}
-use Rattle.m2v_pardec.proofs.GoesLaws.{stands_taken, goes_taken, wrong_taken, if_ok_all}
+use Rattle.m2v_pardec.proofs.RestLaws.{place_rises}
+use Rattle.m2v_pardec.proofs.StartLaws.{taken_waits, taken_there, taken_sized, taken_tracks, chain_goes, chain_wrong, read_behind}
 use Rattle.m2v_pardec.proofs.whole.put_next.Goals as goal
 
 pub returns-in_err-hand-clause-err : goal.returns-in_err-hand-clause-err
@@ -31,27 +33,36 @@ returns-in_err-taken-in-Some-clause-err g c =
     let were = c.in_err-taken-in-Some.ensures.err in
     rw (p.1, p.2)
     (λ bl b so. ahead_unmade (Rose (g.K.Sink.faults c.args.output.now) (g.K.Sink.faults c.args.output.now)) (behind c.take.new.cutter) bl left' b held were.0 c.args.decoder.now
-    (ahead_all bl left b held c.args.cutter.now c.args.decoder.now were.0 c.take.new.cutter left' so were.1))
+    (ahead_all bl left b held c.args.cutter.now c.args.decoder.now [] were.0 c.take.new.cutter left' so were.1))
 
-pub put_taken-requires-clause-order : goal.put_taken-requires-clause-order
-put_taken-requires-clause-order g c κs within =
+pub put_chain-requires-clause-waiting : goal.put_chain-requires-clause-waiting
+put_chain-requires-clause-waiting g c κs within =
     let t = c.in_ok-taken-in-Some.taken in
-    let few = subst (λ (d : Decoding). d.pictures ≤ c.args.cutter.now.place) (sym c.at_hand.ensures.same) c.requires.counted in (
-      end_by t.stop c.take.new.cutter.place,
-      end_by_most t.stop c.take.new.cutter.place c.in_ok-taken-in-Some.ensures.most,
-      order_lower (pieces_of t) c.args.cutter.now.place c.at_hand.new.self.pictures (end_by t.stop c.take.new.cutter.place) few c.in_ok-taken-in-Some.ensures.order,
-    )
+    let x = c.in_ok-taken-in-Some.ensures in
+    let at = rw c.in-Some.is at c.in_ok-hand.ensures.hand in
+    let h : Before = record { state = c.in-Some.hand.state; dims = c.in-Some.hand.dims; there = c.there_of.result } in
+    let new = c.take.new.cutter in
+    subst (AreWaiting t new) (sym c.at_hand.ensures.same)
+    (taken_waits h t c.args.cutter.now new (g.S.Source.left c.args.input.now) (g.S.Source.left c.take.new.input) c.args.decoder.now x.told at.state c.requires.going c.requires.before c.requires.counted x.taken x.order x.most)
 
-pub put_taken-requires-clause-tracks : goal.put_taken-requires-clause-tracks
-put_taken-requires-clause-tracks g c κs within =
+pub put_chain-requires-clause-there : goal.put_chain-requires-clause-there
+put_chain-requires-clause-there g c κs within =
+    let h : Before = record { state = c.in-Some.hand.state; dims = c.in-Some.hand.dims; there = c.there_of.result } in
+    let there = c.there_of.ensures in
+    taken_there h c.in_ok-taken-in-Some.taken c.in-Some.hand.frames c.in_ok-taken-in-Some.ensures.told there.older there.newer there.first
+
+pub put_chain-requires-clause-sizes : goal.put_chain-requires-clause-sizes
+put_chain-requires-clause-sizes g c κs within =
+    let h : Before = record { state = c.in-Some.hand.state; dims = c.in-Some.hand.dims; there = c.there_of.result } in
+    let at = rw c.in-Some.is at c.in_ok-hand.ensures.hand in
+    taken_sized h c.in_ok-taken-in-Some.taken c.in-Some.hand.frames c.in_ok-taken-in-Some.ensures.told at.older_size at.newer_size at.waiting_size
+
+pub put_chain-requires-clause-tracks : goal.put_chain-requires-clause-tracks
+put_chain-requires-clause-tracks g c κs within =
     let t = c.in_ok-taken-in-Some.taken in
     let at = rw c.in-Some.is at c.in_ok-hand.ensures.hand in
-    let on = c.in_ok-taken-in-Some.ensures.frames in
-    let same = c.at_hand.ensures.same in
-    tracks_first t.pictures (store_of c.at_hand.new.self.frames)
-    (ap (λ (d : Decoding). d.frames.older) same ∙ sym at.older ∙ sym on.older)
-    (ap (λ (d : Decoding). d.frames.newer) same ∙ sym at.newer ∙ sym on.newer)
-    (λ second. ap (λ (d : Decoding). d.frames.current) same ∙ sym at.waiting ∙ sym on.waiting)
+    subst (λ (d : Decoding). Tracks (with_frames t.pictures c.in-Some.hand.frames) 0 (store_of d.frames)) (sym c.at_hand.ensures.same)
+    (taken_tracks t c.in-Some.hand.frames (store_of c.args.decoder.now.frames) (sym at.older) (sym at.newer) (sym at.waiting))
 
 pub returns-in_ok-taken-in-Some-clause-ok : goal.returns-in_ok-taken-in-Some-clause-ok
 returns-in_ok-taken-in-Some-clause-ok g c =
@@ -59,23 +70,16 @@ returns-in_ok-taken-in-Some-clause-ok g c =
     let x = c.in_ok-taken-in-Some.ensures in
     let old = c.args.cutter.now in
     let new = c.take.new.cutter in
+    let last = c.put_chain.new.cutter in
     let left = g.S.Source.left c.args.input.now in
     let left' = g.S.Source.left c.take.new.input in
+    let left'' = g.S.Source.left c.put_chain.new.input in
     let held = g.K.Sink.held c.args.output.now in
-    let held' = g.K.Sink.held c.put_taken.new.output in
-    let d = c.args.decoder.now in
-    let m = c.at_hand.new.self in
-    let n = c.put_taken.new.decoder in
-    if_ok_all (PutsAll (pieces_of t) m held n held') (CountsOn (pieces_of t) m n) (n.failed ≡ false) (n.ended ≡ false)
-    (λ (stop : Stop). stop ≡ t.stop) (λ (stop : Stop). GoesOn old left held d stop new left' held' n) c.put_taken.result
-    c.put_taken.ensures.ok c.put_taken.ensures.counted c.put_taken.ensures.going c.put_taken.ensures.before c.put_taken.ensures.stop
-    (λ puts counted going before stop same.
-    subst (λ (s : Stop). GoesOn old left held d s new left' held' n) (sym same)
-    (goes_taken old left (pieces_of t) t.stop new left' held held' d n x.taken
-    (subst (λ (k : Decoding). PutsAll (pieces_of t) k held n held') c.at_hand.ensures.same puts)
-    (stands_taken old left (pieces_of t) t.stop new left' d n x.taken x.order x.most x.some c.requires.counted
-    (subst (λ (k : Decoding). CountsOn (pieces_of t) k n) c.at_hand.ensures.same counted))
-    going before))
+    let held' = g.K.Sink.held c.put_chain.new.output in
+    let n = c.put_chain.new.decoder in
+    IfOk-weaker c.put_chain.result (λ (stop : Stop). GoesFrom t new left' held c.at_hand.new.self stop last left'' held' n) (λ (stop : Stop). GoesOn old left held c.args.decoder.now stop last left'' held' n)
+    (λ stop goes. chain_goes old new last left left' left'' held held' c.args.decoder.now n t stop x.taken (place_rises t.stop (pieces_of t) old.place new.place x.some x.order) (subst (λ (d : Decoding). GoesFrom t new left' held d stop last left'' held' n) c.at_hand.ensures.same goes))
+    c.put_chain.ensures.ok
 
 pub returns-in_ok-taken-in-Some-clause-err : goal.returns-in_ok-taken-in-Some-clause-err
 returns-in_ok-taken-in-Some-clause-err g c =
@@ -84,12 +88,19 @@ returns-in_ok-taken-in-Some-clause-err g c =
     let new = c.take.new.cutter in
     let left = g.S.Source.left c.args.input.now in
     let left' = g.S.Source.left c.take.new.input in
+    let left'' = g.S.Source.left c.put_chain.new.input in
     let held = g.K.Sink.held c.args.output.now in
-    let held' = g.K.Sink.held c.put_taken.new.output in
-    let failed = Rose (g.K.Sink.faults c.args.output.now) (g.K.Sink.faults c.put_taken.new.output) in
-    IfErr-weaker c.put_taken.result
-    (StopsBy failed (pieces_of t) c.at_hand.new.self held held')
-    (GoesWrong failed old left held c.args.decoder.now left' held')
-    (λ e stops. wrong_taken failed old left (pieces_of t) t.stop new left' held held' c.args.decoder.now e c.in_ok-taken-in-Some.ensures.taken
-    (subst (λ (k : Decoding). StopsBy failed (pieces_of t) k held held' e) c.at_hand.ensures.same stops))
-    c.put_taken.ensures.err
+    let held' = g.K.Sink.held c.put_chain.new.output in
+    let failed = Rose (g.K.Sink.faults c.args.output.now) (g.K.Sink.faults c.put_chain.new.output) in
+    IfErr-weaker c.put_chain.result (WrongFrom failed t new left' held c.at_hand.new.self left'' held') (GoesWrong failed old left held c.args.decoder.now left'' held')
+    (λ e wrong. chain_wrong failed old new left left' left'' held held' c.args.decoder.now t e c.in_ok-taken-in-Some.ensures.taken (subst (λ (d : Decoding). WrongFrom failed t new left' held d left'' held' e) c.at_hand.ensures.same wrong))
+    c.put_chain.ensures.err
+
+pub returns-in_ok-taken-in-Some-clause-read : goal.returns-in_ok-taken-in-Some-clause-read
+returns-in_ok-taken-in-Some-clause-read g c =
+    let t = c.in_ok-taken-in-Some.taken in
+    let first = g.S.Source.faults c.args.input.now in
+    let mid = g.S.Source.faults c.take.new.input in
+    let last = g.S.Source.faults c.put_chain.new.input in
+    IfOk-weaker c.put_chain.result (λ (stop : Stop). ReadOn t.stop stop mid last) (λ (stop : Stop). ReadFailed stop first last)
+    (λ stop on. read_behind t.stop stop first mid last c.take.ensures.faults c.in_ok-taken-in-Some.ensures.read on) c.put_chain.ensures.read

@@ -2,8 +2,8 @@ use Rattle.std.proofs.Common.{◌≡◌, ◌≤◌, false, []}
 use Rattle.m2v_port.specs.Ends.{SinkStays}
 use Rattle.m2v_piece.specs.Cutting.{Cutting}
 use Rattle.m2v_pardec.specs.Ahead.{later_of, IsAhead}
-use Rattle.m2v_pardec.specs.Taken.{ReadFailed}
-use Rattle.m2v_pardec.specs.Put.{StandsBy, batches_left}
+use Rattle.m2v_pardec.specs.Taken.{ReadFailed, batches_left}
+use Rattle.m2v_pardec.specs.Put.{StandsBy}
 use Rattle.m2v_pardec.proofs.whole.read_batches.Given as goal
 
 abbrev pub invariant-loop-stop : goal.invariant-loop-stop

@@ -1,8 +1,12 @@
+use Rattle.std.proofs.Common.{sym}
 use Rattle.m2v_filling.proofs.Presence.{at_first, at_next}
+use Rattle.m2v_filling.proofs.Exchanging.{any_there}
 use Rattle.m2v_filling.proofs.filling.Filling.at_hand.Goals as goal
 
 pub loop-p-init : goal.loop-p-init
-loop-p-init c = rw (← c.self.view_is) (at_first _ (record { older = c.is_some.result; newer = c.is_some-2.result; first = c.is_some-3.result }) c.is_some.ensures c.is_some-2.ensures c.is_some-3.ensures)
+loop-p-init c =
+    let f = c.self.inside in
+    rw (← c.self.view_is) (at_first _ f.before (sym (any_there f.dims f.before.older)) (sym (any_there f.dims f.before.newer)) (sym (any_there f.dims f.before.first)))
 
 pub loop-p-preserved : goal.loop-p-preserved
 loop-p-preserved c =

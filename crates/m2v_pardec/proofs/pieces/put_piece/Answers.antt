@@ -8,7 +8,7 @@ use Rattle.m2v_decoder.specs.Decoding.{due_of}
 use Rattle.m2v_decode.specs.Progress.{Cuts, raw_of}
 use Rattle.m2v_pardec.specs.Put.{StopsBy}
 use Rattle.m2v_pardec.proofs.PutLaws.{put_one, refused_one, unwritten_one}
-use Rattle.m2v_pardec.proofs.whole.put_piece.Goals as goal
+use Rattle.m2v_pardec.proofs.pieces.put_piece.Goals as goal
 
 pub returns-in_err-piece-clause-err : goal.returns-in_err-piece-clause-err
 returns-in_err-piece-clause-err g c =

@@ -1,10 +1,11 @@
-use Rattle.std.proofs.Common.{◌≡◌, true, false, drop, map}
+use Rattle.std.proofs.Common.{◌≡◌, false, drop, map}
 use Rattle.m2v_port.specs.Ends.{SinkStays}
 use Rattle.m2v_picture.specs.Frames.{store_of}
 use Rattle.m2v_behind.specs.Behind.{Tracks}
 use Rattle.m2v_pardec.specs.Taken.{AreTold, piece_of}
 use Rattle.m2v_pardec.specs.Put.{PutsTo, CountsTo}
-use Rattle.m2v_pardec.proofs.put.put_batch.Given as goal
+use Rattle.m2v_pardec.proofs.PutSteps.{TellsBy}
+use Rattle.m2v_pardec.proofs.put.put_rows.Given as goal
 
 abbrev pub invariant-loop-p : goal.invariant-loop-p
 invariant-loop-p g l = record {
@@ -12,7 +13,8 @@ invariant-loop-p g l = record {
   counts : CountsTo (map piece_of l.fn.book.pictures) l.fn.decoder (map piece_of (drop l.p l.fn.book.pictures)) l.decoder;
   going : l.decoder.failed ≡ false;
   before : l.decoder.ended ≡ false;
-  told : l.by_rows ≡ true → AreTold l.decoder.state (drop l.p l.fn.book.pictures) (drop l.p l.fn.after);
-  tracks : l.by_rows ≡ true → Tracks l.fn.book l.p (store_of l.decoder.frames);
+  told : AreTold l.decoder.state (drop l.p l.fn.book.pictures) (drop l.p l.fn.after);
+  behind : TellsBy l.fn.decoder.state l.fn.book.pictures l.fn.after l.p l.decoder.state;
+  tracks : Tracks l.fn.book l.p (store_of l.decoder.frames);
   output : SinkStays g.K.Sink.ready g.K.Sink.name g.K.Sink.faults l.fn.output l.output;
 }

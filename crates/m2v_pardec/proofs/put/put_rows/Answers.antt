@@ -4,8 +4,8 @@ use Rattle.m2v_port.specs.Ends.{change}
 use Rattle.m2v_port.proofs.Runs.{rose_since, stays_on}
 use Rattle.m2v_batch.proofs.Sizes.{count_is}
 use Rattle.m2v_pardec.specs.Taken.{piece_of}
-use Rattle.m2v_pardec.proofs.PutSteps.{after_there, next_sound, can_take, puts_next, counts_next, told_next, tracks_on, refused_at, unwritten_at, puts_done, counts_done}
-use Rattle.m2v_pardec.proofs.put.put_batch.Goals as goal
+use Rattle.m2v_pardec.proofs.PutSteps.{after_there, next_sound, can_take, picture_there, puts_next, counts_next, told_next, behind_next, behind_done, tracks_on, refused_at, unwritten_at, puts_done, counts_done}
+use Rattle.m2v_pardec.proofs.put.put_rows.Goals as goal
 
 pub bounds-after-p : goal.bounds-after-p
 bounds-after-p g c = after_there c.args.decoder.now.state c.args.book.now.pictures c.args.after.now c.loop-p.p c.picture.result.now c.requires.told c.picture.ensures.value
@@ -18,18 +18,22 @@ take_in-requires-clause-counted g c =
     let next = next_sound c.args.book.now.pictures c.loop-p.p c.picture.result.now (map piece_of c.args.book.now.pictures) c.args.decoder.now c.loop-p.decoder c.picture.ensures.value c.loop-p.invariant.counts c.requires.order in
     omega (arith, next.0, next.1.end)
 
-pub take_in-requires-clause-rows : goal.take_in-requires-clause-rows
-take_in-requires-clause-rows g c = λ e.
+pub take_in-requires-clause-can : goal.take_in-requires-clause-can
+take_in-requires-clause-can g c =
     let inv = c.loop-p.invariant in
     can_take c.loop-p.decoder c.args.book.now c.args.done.now c.args.after.now c.loop-p.p c.first_job.result c.picture.result.now _ c.from_job-rows.result c.from_job-rows.ensures c.requires.done c.first_job.ensures.value c.pictures-p-end.ensures.batch c.picture.ensures.value
-    (after_there c.args.decoder.now.state c.args.book.now.pictures c.args.after.now c.loop-p.p c.picture.result.now c.requires.told c.picture.ensures.value) (inv.told e) (inv.tracks e)
+    (after_there c.args.decoder.now.state c.args.book.now.pictures c.args.after.now c.loop-p.p c.picture.result.now c.requires.told c.picture.ensures.value) inv.told inv.tracks
 
-pub returns-in_err-by_rows-clause-err : goal.returns-in_err-by_rows-clause-err
-returns-in_err-by_rows-clause-err g c =
+pub take_in-requires-clause-rows : goal.take_in-requires-clause-rows
+take_in-requires-clause-rows g c =
+    picture_there c.args.book.now c.args.done.now c.loop-p.p c.first_job.result c.picture.result.now _ c.from_job-rows.ensures c.requires.done c.first_job.ensures.value c.pictures-p-end.ensures.batch c.picture.ensures.value c.requires.rebuilt
+
+pub returns-in_err-take_in-clause-err : goal.returns-in_err-take_in-clause-err
+returns-in_err-take_in-clause-err g c =
     let inv = c.loop-p.invariant in
     let next = next_sound c.args.book.now.pictures c.loop-p.p c.picture.result.now (map piece_of c.args.book.now.pictures) c.args.decoder.now c.loop-p.decoder c.picture.ensures.value inv.counts c.requires.order in
     let p = err_from_is_err_and c.from_residual.result c.from_residual.ensures.1 in
-    rw (p.1, p.2) (refused_at _ c.args.book.now.pictures c.loop-p.p c.picture.result.now (map piece_of c.args.book.now.pictures) c.args.decoder.now c.loop-p.decoder (g.K.Sink.held c.args.output.now) (g.K.Sink.held c.loop-p.output) c.in_err-by_rows.field-0.0 c.picture.ensures.value next.1 inv.puts c.in_err-by_rows.ensures.err)
+    rw (p.1, p.2) (refused_at _ c.args.book.now.pictures c.loop-p.p c.picture.result.now (map piece_of c.args.book.now.pictures) c.args.decoder.now c.loop-p.decoder (g.K.Sink.held c.args.output.now) (g.K.Sink.held c.loop-p.output) c.in_err-take_in.field-0.0 c.picture.ensures.value next.1 inv.puts c.in_err-take_in.ensures.err)
 
 pub returns-in_err-put_due-clause-err : goal.returns-in_err-put_due-clause-err
 returns-in_err-put_due-clause-err g c =
@@ -37,7 +41,7 @@ returns-in_err-put_due-clause-err g c =
     let p = err_from_is_err_and c.from_residual-in_err-put_due.result c.from_residual-in_err-put_due.ensures.1 in
     rw (p.1, p.2)
     (unwritten_at _ c.args.book.now.pictures c.loop-p.p c.picture.result.now (map piece_of c.args.book.now.pictures) c.args.decoder.now c.loop-p.decoder c.take_in.new.decoder (g.K.Sink.held c.args.output.now) (change g.K.Sink.held g.K.Sink.faults c.loop-p.output c.put_due.new.output) c.in_err-put_due.field-0.0 (λ r. rose_since inv.output.counts r) c.picture.ensures.value
-    inv.puts c.in_ok-by_rows.ensures.ok c.in_err-put_due.ensures.err)
+    inv.puts c.in_ok-take_in.ensures.ok c.in_err-put_due.ensures.err)
 
 pub loop-p-preserved : goal.loop-p-preserved
 loop-p-preserved g c =
@@ -45,16 +49,17 @@ loop-p-preserved g c =
     let is = c.picture.ensures.value in
     let there = after_there c.args.decoder.now.state c.args.book.now.pictures c.args.after.now c.loop-p.p c.picture.result.now c.requires.told is in
     let next = next_sound c.args.book.now.pictures c.loop-p.p c.picture.result.now (map piece_of c.args.book.now.pictures) c.args.decoder.now c.loop-p.decoder is inv.counts c.requires.order in
-    let onward = c.in_ok-by_rows.ensures.ok in
+    let onward = c.in_ok-take_in.ensures.ok in
     let put = c.in_ok-put_due.ensures.put in
     record {
       puts = puts_next c.args.book.now.pictures c.loop-p.p c.picture.result.now (map piece_of c.args.book.now.pictures) c.args.decoder.now c.loop-p.decoder c.take_in.new.decoder c.put_due.new.decoder (g.K.Sink.held c.args.output.now) (g.K.Sink.held c.loop-p.output) (g.K.Sink.held c.put_due.new.output) is inv.puts onward put c.in_ok-put_due.ensures.grown;
       counts = counts_next c.args.book.now.pictures c.loop-p.p c.picture.result.now (map piece_of c.args.book.now.pictures) c.args.decoder.now c.loop-p.decoder c.take_in.new.decoder c.put_due.new.decoder is next.1 inv.counts onward put;
       going = put.failed ∙ onward.sound;
       before = put.ended ∙ onward.going;
-      told = λ e. told_next c.args.book.now.pictures c.args.after.now c.loop-p.p c.picture.result.now _ c.loop-p.decoder c.take_in.new.decoder c.put_due.new.decoder c.from_job-rows.result is there (inv.told (c.in_ok-by_rows.ensures.only e)) (c.in_ok-by_rows.ensures.rows e) put;
-      tracks = λ e.
-          tracks_on c.args.book.now c.args.done.now c.loop-p.p c.first_job.result c.picture.result.now _ c.loop-p.decoder c.take_in.new.decoder c.put_due.new.decoder c.from_job-rows.result c.from_job-rows.ensures c.requires.done c.first_job.ensures.value is (inv.tracks (c.in_ok-by_rows.ensures.only e)) (c.in_ok-by_rows.ensures.rows e) put;
+      told = told_next c.args.book.now.pictures c.args.after.now c.loop-p.p c.picture.result.now _ c.loop-p.decoder c.take_in.new.decoder c.put_due.new.decoder c.from_job-rows.result is there inv.told c.in_ok-take_in.ensures.rows put;
+      behind = behind_next c.args.decoder.now.state c.args.book.now.pictures c.args.after.now c.loop-p.p c.picture.result.now _ c.loop-p.decoder c.take_in.new.decoder c.put_due.new.decoder c.from_job-rows.result is there inv.behind c.in_ok-take_in.ensures.rows put;
+      tracks =
+          tracks_on c.args.book.now c.args.done.now c.loop-p.p c.first_job.result c.picture.result.now _ c.loop-p.decoder c.take_in.new.decoder c.put_due.new.decoder c.from_job-rows.result c.from_job-rows.ensures c.requires.done c.first_job.ensures.value is inv.tracks c.in_ok-take_in.ensures.rows put;
       output = stays_on inv.output c.put_due.ensures.output;
     }
 
@@ -65,3 +70,7 @@ returns-clause-ok g c =
 pub returns-clause-counted : goal.returns-clause-counted
 returns-clause-counted g c =
     counts_done c.args.book.now.pictures c.loop-p.p (map piece_of c.args.book.now.pictures) c.args.decoder.now c.loop-p.decoder (omega (arith, c.loop-p-test.false, c.pictures-p-end.ensures.value, count_is c.args.book.now)) c.loop-p.invariant.counts
+
+pub returns-clause-told : goal.returns-clause-told
+returns-clause-told g c =
+    behind_done c.args.decoder.now.state c.args.book.now.pictures c.args.after.now c.loop-p.p c.loop-p.decoder.state c.requires.told (omega (arith, c.loop-p-test.false, c.pictures-p-end.ensures.value, count_is c.args.book.now)) c.loop-p.invariant.behind

@@ -1,0 +1,21 @@
+use Rattle.std.proofs.Common.{subst}
+use Rattle.m2v_port.proofs.Runs.{on_err}
+use Rattle.m2v_pardec.specs.declared.taking.Stop.{Stop}
+use Rattle.m2v_pardec.specs.Ahead.{later_of}
+use Rattle.m2v_pardec.specs.Taken.{pieces_of, ReadOn}
+use Rattle.m2v_pardec.proofs.AheadLaws.{ahead_unmade}
+use Rattle.m2v_pardec.proofs.ChainLaws.{stops_taking}
+use Rattle.m2v_pardec.proofs.chain.work_first.Goals as goal
+
+pub returns-in_err-bench-clause-err : goal.returns-in_err-bench-clause-err
+returns-in_err-bench-clause-err g c =
+    on_err c.from_residual.result (λ bl b held d so. ahead_unmade ⊥ (later_of c.args.taken.stop c.args.cutter.now) bl (g.S.Source.left c.args.input.now) b held (pieces_of c.args.taken) d so)
+
+pub returns-in_err-taken-clause-err : goal.returns-in_err-taken-clause-err
+returns-in_err-taken-clause-err g c =
+    on_err c.from_residual-in_err-taken.result
+    (stops_taking c.args.taken c.into_book-book.result.2 c.args.cutter.now (g.S.Source.left c.args.input.now) (g.S.Source.left c.run_and_take-done.new.input) c.into_book-book.ensures.rest (rw c.in_err-taken.was at c.run_and_take-done.ensures.err))
+
+pub returns-clause-read : goal.returns-clause-read
+returns-clause-read g c =
+    subst (λ (s : Stop). ReadOn s c.in_ok-taken.field-0.stop (g.S.Source.faults c.args.input.now) (g.S.Source.faults c.run_and_take-done.new.input)) (c.into_book-book.ensures.rest).stop (rw c.in_ok-taken.was at c.run_and_take-done.ensures.read)

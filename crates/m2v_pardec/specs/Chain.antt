@@ -1,0 +1,131 @@
+-- A batch whose rows are decoded while the one before it is taken in and the next one taken ahead.
+use Rattle.std.specs.Prelude.{◌≡◌, ℕ, ◌<◌, ◌≤◌, ◌^◌, false, List, [], ◌++◌, length, map, Option, is_some, option_to_list}
+use Rattle.m2v_model.specs.declared.state.State.{State}
+use Rattle.m2v_model.specs.Pieces.{most_input}
+use Rattle.m2v_piece.specs.declared.answer.Piece.{Piece}
+use Rattle.m2v_piece.specs.declared.answer.DecodeError.{DecodeError}
+use Rattle.m2v_piece.specs.declared.answer.DecodeError.TheVariants as errors
+use Rattle.m2v_piece.specs.Cutting.{Cutting}
+use Rattle.m2v_picture.specs.declared.gallery.FramesAtHand.{FramesAtHand}
+use Rattle.m2v_picture.specs.Frames.{store_of}
+use Rattle.m2v_batch.specs.declared.picture.BatchPicture.{BatchPicture}
+use Rattle.m2v_batch.specs.Jobs.{older_before, newer_before}
+use Rattle.m2v_batch.specs.Batches.{Batch, headers, IsBatch}
+use Rattle.m2v_filling.specs.Filled.{is_there, with_frames}
+use Rattle.m2v_behind.specs.Behind.{Tracks}
+use Rattle.m2v_headers.specs.Headers.{IsBetween}
+use Rattle.m2v_decoder.specs.Decoding.{Decoding}
+use Rattle.m2v_pardec.specs.declared.taking.Stop.{Stop}
+use Rattle.m2v_pardec.specs.declared.taking.Stop.TheVariants.{More}
+use Rattle.m2v_pardec.specs.declared.taking.Taken.{Taken}
+use Rattle.m2v_pardec.specs.declared.taking.Rest.{Rest}
+use Rattle.m2v_pardec.specs.Ahead.{AreInOrder, IsAhead, later_of, FailsBy}
+use Rattle.m2v_pardec.specs.declared.put.Worked.{Worked}
+use Rattle.m2v_pardec.specs.Put.{PutsAll, CountsOn, AreAllThere, TellsBehind}
+use Rattle.m2v_pardec.specs.Taken.{piece_of, pieces_of, end_by, IsKnown, IsSet, AreTold, TellsOn, IsRest, TakesMore, TakenBehind, works_left}
+
+-- pieces were taken and wait for a decoder that is at work
+pub record AreWaiting (t : Taken) (c : Cutting) (d : Decoding) : Type 0 where
+  pub going : d.failed ≡ false
+  pub before : d.ended ≡ false
+  pub order : AreInOrder d.pictures (pieces_of t) (end_by t.stop c.place)
+  pub most : c.place ≤ most_input
+  pub set : IsSet t.stop c
+  pub told : TellsOn d.state t.pictures.pictures t.after.items t.state
+  pub between : IsBetween t.state
+
+-- the rows of a batch are decoded, and pieces were taken behind it
+pub record IsUnderWay (b : Batch) (ss : List State) (t : Taken) (c : Cutting) (d : Decoding) : Type 0 where
+  pub batch : IsBatch b
+  pub going : d.failed ≡ false
+  pub before : d.ended ≡ false
+  pub order : AreInOrder d.pictures (map piece_of b.pictures ++ pieces_of t) (end_by t.stop c.place)
+  pub most : c.place ≤ most_input
+  pub set : IsSet t.stop c
+  pub here : AreTold d.state b.pictures ss
+  pub told : (xs : List BatchPicture) (ys : List State) → AreTold t.state xs ys → AreTold d.state (b.pictures ++ (t.pictures.pictures ++ xs)) (ss ++ (t.after.items ++ ys))
+  pub between : IsBetween t.state
+  pub tracks : Tracks b 0 (store_of d.frames)
+  pub dims : t.pictures.dims ≡ b.dims
+  pub older : is_some t.pictures.older ≡ is_there b (older_before (headers b) (length b.pictures))
+  pub newer : is_some t.pictures.newer ≡ is_there b (newer_before (headers b) (length b.pictures))
+  pub waiting : is_some t.pictures.waiting ≡ false
+
+-- a batch whose rows are all rebuilt can be taken in, and pieces taken behind the next one
+pub record CanPut (b : Batch) (ss : List State) (r : Rest) (c : Cutting) (d : Decoding) : Type 0 where
+  pub rebuilt : AreAllThere b
+  pub going : d.failed ≡ false
+  pub before : d.ended ≡ false
+  pub order : (high : ℕ) × (high ≤ 2 ^ 36) × AreInOrder d.pictures (map piece_of b.pictures) high
+  pub told : AreTold d.state b.pictures ss
+  pub tracks : Tracks b 0 (store_of d.frames)
+  pub known : IsKnown r.behind
+  pub set : IsSet r.stop c
+  pub most : c.place ≤ 2 ^ 36
+
+-- that was done
+pub record DidPut (b : Batch) (ss : List State) (r : Rest) (c : Cutting) (left held : Option (List ℕ)) (d : Decoding) (c' : Cutting) (left' held' : Option (List ℕ)) (d' : Decoding) (t : Taken) : Type 0 where
+  pub puts : PutsAll (map piece_of b.pictures) d held d' held'
+  pub counted : CountsOn (map piece_of b.pictures) d d'
+  pub going : d'.failed ≡ false
+  pub before : d'.ended ≡ false
+  pub told : TellsBehind d.state b.pictures ss d'.state
+  pub tracks : Tracks b (length b.pictures) (store_of d'.frames)
+  pub taken : TakesMore r c left c' left' t
+  pub behind : TakenBehind r.behind t
+
+-- what stands behind pieces that were taken and decoded, with those that were taken then
+pub record GoesFrom (t : Taken) (c : Cutting) (left held : Option (List ℕ)) (d : Decoding) (stop : Stop) (c' : Cutting) (left' held' : Option (List ℕ)) (d' : Decoding) : Type 0 where
+  pub ahead : (before_left before : Option (List ℕ)) → IsAhead (later_of t.stop c) before_left left before held (pieces_of t) d → IsAhead (later_of stop c') before_left left' before held' [] d'
+  pub few : d'.pictures ≤ end_by stop c'.place
+  pub most : c'.place ≤ most_input
+  pub set : IsSet stop c'
+  pub rises : (low : ℕ) → (t.stop ≡ More → low < c.place) → stop ≡ More → low < c'.place
+  pub going : d'.failed ≡ false
+  pub before : d'.ended ≡ false
+
+-- why decoding stops behind pieces that were taken, where output failed or it didn't
+abbrev pub WrongFrom : Type 0 → Taken → Cutting → Option (List ℕ) → Option (List ℕ) → Decoding → Option (List ℕ) → Option (List ℕ) → DecodeError → Type 0
+WrongFrom failed t c left held d left' held' e =
+    (before_left before : Option (List ℕ)) → IsAhead (later_of t.stop c) before_left left before held (pieces_of t) d → FailsBy failed before_left left' before held' e
+
+-- memory ran out while pieces were taken
+pub record TakingFails (r : Rest) (c : Cutting) (left left' : Option (List ℕ)) : Type 0 where
+  pub fails : (before_left before held : Option (List ℕ)) (ps : List Piece) (d : Decoding) → IsAhead (later_of r.stop c) before_left left before held (ps ++ option_to_list r.other) d → FailsBy ⊥ before_left left' before held errors.Memory
+
+-- decoding stops while a batch is taken in and pieces are taken
+abbrev pub PuttingFails : Type 0 → List Piece → Rest → Cutting → Option (List ℕ) → Option (List ℕ) → Decoding → Option (List ℕ) → Option (List ℕ) → DecodeError → Type 0
+PuttingFails failed ps r c left held d left' held' e =
+    (before_left before : Option (List ℕ)) (others : List Piece) → IsAhead (later_of r.stop c) before_left left before held (ps ++ (others ++ option_to_list r.other)) d → FailsBy failed before_left left' before held' e
+
+-- ---- batches
+
+-- why not, while the first batch is decoded
+abbrev pub StopsTaking : Taken → Cutting → Option (List ℕ) → Option (List ℕ) → Type 0
+StopsTaking t c left left' =
+    (before_left before held : Option (List ℕ)) (d : Decoding) → IsAhead (later_of t.stop c) before_left left before held (pieces_of t) d → FailsBy ⊥ before_left left' before held errors.Memory
+
+-- the rows of what was taken are decoded, with these frames before it, and pieces were taken behind it
+pub record WorksOn (t : Taken) (f : FramesAtHand) (c : Cutting) (left : Option (List ℕ)) (c' : Cutting) (left' : Option (List ℕ)) (w : Worked) (next : Taken) : Type 0 where
+  pub done : w.done ≡ w.book
+  pub book : w.book ≡ with_frames t.pictures f
+  pub batch : IsBatch w.book
+  pub after : w.after.items ≡ t.after.items
+  pub rest : Rest
+  pub is_rest : IsRest t rest
+  pub more : TakesMore rest c left c' left' next
+  pub behind : TakenBehind rest.behind next
+
+-- a batch was taken in, the rows of the next one are decoded, and pieces were taken behind that
+pub record WorksNext (b : Batch) (t : Taken) (c : Cutting) (left held : Option (List ℕ)) (d : Decoding) (c' : Cutting) (left' held' : Option (List ℕ)) (d' : Decoding) (w : Worked) (next : Taken) : Type 0 where
+  pub done : w.done ≡ w.book
+  pub ahead : (before_left before : Option (List ℕ)) → IsAhead (later_of t.stop c) before_left left before held (map piece_of b.pictures ++ pieces_of t) d
+      → IsAhead (later_of next.stop c') before_left left' before held' (map piece_of w.book.pictures ++ pieces_of next) d'
+  pub under : IsUnderWay w.book w.after.items next c' d'
+  pub rises : (low : ℕ) → (t.stop ≡ More → low < c.place) → next.stop ≡ More → low < c'.place
+  pub falls : 0 < length t.pictures.pictures → works_left next c' < works_left t c
+
+-- why not, where output failed or it didn't
+abbrev pub StopsUnder : Type 0 → Batch → Taken → Cutting → Option (List ℕ) → Option (List ℕ) → Decoding → Option (List ℕ) → Option (List ℕ) → DecodeError → Type 0
+StopsUnder failed b t c left held d left' held' e =
+    (before_left before : Option (List ℕ)) → IsAhead (later_of t.stop c) before_left left before held (map piece_of b.pictures ++ pieces_of t) d → FailsBy failed before_left left' before held' e
