@@ -1,3 +1,4 @@
 pub mod Places
 pub mod RawVideo
+pub mod Rows
 pub mod Squares

@@ -26,6 +26,15 @@ pub record HasRows (s : Samples) (rows : ℕ) : Type 0 where
   pub cb : length s.cb ≡ 8 * rows * (8 * s.dims.mb_width)
   pub cr : length s.cr ≡ 8 * rows * (8 * s.dims.mb_width)
 
+-- one macroblock row, whose planes stand one after another
+abbrev pub row_of : Dims → List ℕ → Samples
+row_of d samples = record {
+  dims = d;
+  luma = take (256 * d.mb_width) samples;
+  cb = take (64 * d.mb_width) (drop (256 * d.mb_width) samples);
+  cr = drop (320 * d.mb_width) samples;
+}
+
 -- a sample by plane, line and column
 abbrev pub sample_of : Samples → Plane → ℕ → ℕ → ℕ
 sample_of s plane line column = slice_index (plane_of s plane) (line * columns_of s.dims plane + column)

@@ -159,9 +159,10 @@ impl Frame {
     pub fn clear(&mut self)
         ensures value { self.new ≡ blank self.old.dims self.old.dims.mb_rows }
     {
-        self.luma.fill(0);
-        self.cb.fill(0);
-        self.cr.fill(0);
+        let (total, columns) = (self.dims.mb_rows as usize, self.dims.mb_width as usize);
+        moves::clear_lines(&mut self.luma, 16 * total, 16 * columns);
+        moves::clear_lines(&mut self.cb, 8 * total, 8 * columns);
+        moves::clear_lines(&mut self.cr, 8 * total, 8 * columns);
     }
 
     /// Takes the samples of another frame of the same size.

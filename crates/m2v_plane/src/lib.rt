@@ -15,7 +15,7 @@ pub use fields::FieldView;
 pub use frame::Frame;
 pub use laws::{law_crop_pad, law_raw_cut};
 pub use planes::{Lines, Plane};
-pub use row::RowSamples;
+pub use row::{RowRoom, RowSamples};
 pub use view::RefView;
 
 /// Want of memory.

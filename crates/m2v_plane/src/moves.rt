@@ -1,5 +1,5 @@
 //! Whole lines, moved by slices.
-ghost use Rattle.std.specs.Prelude.{◌⊎◌, ◌%◌, ℕ, ◌≡◌, ◌≤◌, ◌<◌, ◌*◌, ◌+◌, ◌-◌, ◌^◌, length, vec_len, slice_index, min, drop};
+ghost use Rattle.std.specs.Prelude.{◌⊎◌, ◌%◌, ℕ, ◌≡◌, ◌≤◌, ◌<◌, ◌*◌, ◌+◌, ◌-◌, ◌^◌, length, vec_len, slice_index, min, drop, replicate};
 ghost use Rattle.std.specs.List.{range_with_len};
 ghost use Rattle.m2v_plane.specs.Sizes.{frame_line, part_of};
 ghost use Rattle.m2v_plane.specs.Samples.{plane_with_lines, plane_with_row, plane_with_square, put, square_of};
@@ -96,6 +96,20 @@ pub fn set_rows(
     for line in 0..height {
         let at = line_start(lines, row * height + line, total, columns);
         plane[at..at + columns].copy_from_slice(&samples[line * columns..line * columns + columns]);
+    }
+}
+
+/// Lines of samples 0. Each line is filled for itself: a fill as short as that goes by lanes, where one fill of the whole
+/// plane would cost an instruction a byte.
+pub fn clear_lines(plane: &mut [u8], lines: usize, columns: usize)
+    requires whole { length plane.old ≡ lines * columns }
+    requires lines { lines ≤ 2 ^ 12 }
+    requires columns { columns ≤ 2 ^ 12 }
+    ensures value { plane.new ≡ replicate (lines * columns) 0 }
+{
+    for line in 0..lines {
+        let from = line * columns;
+        plane[from..from + columns].fill(0);
     }
 }
 

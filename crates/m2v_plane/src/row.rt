@@ -14,31 +14,88 @@ use std::marker::Model;
 #[derive(Drop)]
 pub struct RowSamples {
     dims: Dims,
-    luma: Vec<u8>,
-    cb: Vec<u8>,
-    cr: Vec<u8>,
+    // the three planes one after another: 256 samples of luma a macroblock, then 64 of each colour difference
+    samples: Vec<u8>,
 }
 
 impl Model for RowSamples {
-    ghost use Rattle.std.specs.Prelude.{◌≡◌, ◌*◌};
+    ghost use Rattle.std.specs.Prelude.{◌≡◌, ◌*◌, length};
     ghost use Rattle.m2v_plane.specs.Sizes.{IsSize};
-    ghost use Rattle.m2v_plane.specs.Samples.{Samples, HasRows};
+    ghost use Rattle.m2v_plane.specs.Samples.{Samples, row_of};
 
     ghost Value = { Samples };
 
-    ghost view = { λ r. record {
-      dims = r.dims;
-      luma = r.luma.items;
-      cb = r.cb.items;
-      cr = r.cr.items;
-    } };
+    ghost view = { λ r. row_of r.dims r.samples.items };
 
-    ghost invariant = { λ r. IsSize r.dims × HasRows (record {
-      dims = r.dims;
-      luma = r.luma.items;
-      cb = r.cb.items;
-      cr = r.cr.items;
-    }) 1 };
+    ghost invariant = { λ r. IsSize r.dims × (length r.samples.items ≡ 384 * r.dims.mb_width) };
+}
+
+/// Room for the samples of one macroblock row: its memory is taken, and nothing is written yet. Contracts see the size
+/// of the frames that the row is for.
+#[derive(Drop)]
+pub struct RowRoom {
+    dims: Dims,
+    samples: Vec<u8>,
+}
+
+impl Model for RowRoom {
+    ghost use Rattle.std.specs.Prelude.{◌≡◌, ◌*◌, ◌≤◌, vec_len, vec_capacity};
+    ghost use Rattle.m2v_plane.specs.declared.dims.Dims.{Dims};
+    ghost use Rattle.m2v_plane.specs.Sizes.{IsSize};
+
+    ghost Value = { Dims };
+
+    ghost view = { λ r. r.dims };
+
+    ghost invariant = { λ r. IsSize r.dims × (vec_len r.samples ≡ 0)
+        × (384 * r.dims.mb_width ≤ vec_capacity r.samples) };
+}
+
+impl RowRoom {
+    /// Room for a row of frames of this size. Fails only for want of memory.
+    pub fn for_row(alloc: Global, dims: Dims) -> Result<RowRoom, Memory>
+        requires size { IsSize dims }
+        ensures value { IfOk result (λ r. r ≡ dims) }
+    {
+        let samples = Vec::with_capacity(alloc, 384 * dims.mb_width as usize)?;
+        Ok(RowRoom { dims, samples })
+    }
+
+    /// The size of the frames that the row is for.
+    #[inline(always)]
+    pub fn dims(&self) -> Dims
+        ensures value { result ≡ self.now }
+        ensures size { IsSize result }
+    {
+        self.dims
+    }
+
+    /// A row of samples 0 in this room.
+    pub fn blank(self) -> RowSamples
+        ensures value { result ≡ blank self 1 }
+    {
+        let dims = self.dims;
+        let mut samples = self.samples;
+        match samples.resize(384 * dims.mb_width as usize, 0) {
+            Ok(()) => RowSamples { dims, samples },
+            // the room was taken
+            Err(_) => unreachable!(),
+        }
+    }
+
+    /// Another row once more, in this room.
+    pub fn copy_of(self, other: &RowSamples) -> RowSamples
+        requires same { other.now.dims ≡ self }
+        ensures value { result ≡ other.now }
+    {
+        let dims = self.dims;
+        let mut samples = self.samples;
+        match samples.extend_from_slice(&other.samples) {
+            Ok(()) => RowSamples { dims, samples },
+            // the room was taken
+            Err(_) => unreachable!(),
+        }
+    }
 }
 
 impl RowSamples {
@@ -47,13 +104,7 @@ impl RowSamples {
         requires size { IsSize dims }
         ensures value { IfOk result (λ r. r ≡ blank dims 1) }
     {
-        let columns = dims.mb_width as usize;
-        Ok(RowSamples {
-            dims,
-            luma: vec![in alloc; 0; 16 * (16 * columns)]?,
-            cb: vec![in alloc; 0; 8 * (8 * columns)]?,
-            cr: vec![in alloc; 0; 8 * (8 * columns)]?,
-        })
+        Ok(RowRoom::for_row(alloc, dims)?.blank())
     }
 
     /// The size of the frames that the row is for. The row holds whole macroblocks of that size.
@@ -72,10 +123,11 @@ impl RowSamples {
         ensures value { result.now ≡ plane_of self.now plane }
         ensures whole { length result.now ≡ side plane * columns_of self.now.dims plane }
     {
+        let columns = self.dims.mb_width as usize;
         match plane {
-            Plane::Y => &self.luma,
-            Plane::Cb => &self.cb,
-            Plane::Cr => &self.cr,
+            Plane::Y => &self.samples[..256 * columns],
+            Plane::Cb => &self.samples[256 * columns..320 * columns],
+            Plane::Cr => &self.samples[320 * columns..],
         }
     }
 
@@ -99,10 +151,12 @@ impl RowSamples {
     {
         let columns = self.dims.mb_width as usize;
         let (line, column) = (line as usize, column as usize);
+        let (luma, chroma) = self.samples.split_at_mut(256 * columns);
+        let (cb, cr) = chroma.split_at_mut(64 * columns);
         match plane {
-            Plane::Y => self.luma[line * (16 * columns) + column] = value,
-            Plane::Cb => self.cb[line * (8 * columns) + column] = value,
-            Plane::Cr => self.cr[line * (8 * columns) + column] = value,
+            Plane::Y => luma[line * (16 * columns) + column] = value,
+            Plane::Cb => cb[line * (8 * columns) + column] = value,
+            Plane::Cr => cr[line * (8 * columns) + column] = value,
         }
     }
 
@@ -127,12 +181,15 @@ impl RowSamples {
     {
         let columns = self.dims.mb_width as usize;
         let (line, column) = (line as usize, column as usize);
+        let (luma, chroma) = self.samples.split_at_mut(256 * columns);
+        let (cb, cr) = chroma.split_at_mut(64 * columns);
         match plane {
-            Plane::Y => put_part(&mut self.luma, line * (16 * columns) + column, samples),
-            Plane::Cb => put_part(&mut self.cb, line * (8 * columns) + column, samples),
-            Plane::Cr => put_part(&mut self.cr, line * (8 * columns) + column, samples),
+            Plane::Y => put_part(luma, line * (16 * columns) + column, samples),
+            Plane::Cb => put_part(cb, line * (8 * columns) + column, samples),
+            Plane::Cr => put_part(cr, line * (8 * columns) + column, samples),
         }
     }
+
     /// Replaces the square of one macroblock in one plane, line by line: 16 lines of 16 samples of luma, 8 lines of 8 of
     /// a colour difference.
     #[inline(always)]
@@ -143,19 +200,21 @@ impl RowSamples {
             (square_of (side plane) samples.now) }
     {
         let columns = self.dims.mb_width as usize;
+        let (luma, chroma) = self.samples.split_at_mut(256 * columns);
+        let (cb, cr) = chroma.split_at_mut(64 * columns);
         let (lines, column) = (Lines::Whole, column as usize);
         match plane {
             Plane::Y => {
                 let wide = 16 * columns;
-                moves::set_square(&mut self.luma, 16, wide, 16, lines, 0, column, samples);
+                moves::set_square(luma, 16, wide, 16, lines, 0, column, samples);
             }
             Plane::Cb => {
                 let wide = 8 * columns;
-                moves::set_square(&mut self.cb, 8, wide, 8, lines, 0, column, samples);
+                moves::set_square(cb, 8, wide, 8, lines, 0, column, samples);
             }
             Plane::Cr => {
                 let wide = 8 * columns;
-                moves::set_square(&mut self.cr, 8, wide, 8, lines, 0, column, samples);
+                moves::set_square(cr, 8, wide, 8, lines, 0, column, samples);
             }
         }
     }
@@ -165,8 +224,6 @@ impl RowSamples {
         requires same { other.now.dims ≡ self.old.dims }
         ensures value { self.new ≡ other.now }
     {
-        self.luma.copy_from_slice(&other.luma);
-        self.cb.copy_from_slice(&other.cb);
-        self.cr.copy_from_slice(&other.cr);
+        self.samples.copy_from_slice(&other.samples);
     }
 }
