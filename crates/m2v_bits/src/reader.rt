@@ -1,4 +1,4 @@
-ghost use Rattle.std.specs.Prelude.{◌≡◌, ℕ, ◌+◌, ◌-◌, ◌*◌, ◌/◌, ◌%◌, ◌^◌, ◌<◌, ◌≤◌, ◌++◌, ◌∷◌, [], length, take, drop, slice_index, ◌↔◌, IsNone, IfSome, IsTrue, replicate, false};
+ghost use Rattle.std.specs.Prelude.{◌≡◌, ℕ, ◌+◌, ◌-◌, ◌*◌, ◌/◌, ◌%◌, ◌^◌, ◌<◌, ◌≤◌, ◌++◌, ◌∷◌, [], length, take, drop, slice_index, ◌↔◌, IsNone, IsSome, IfSome, IsTrue, replicate, false};
 ghost use Rattle.m2v_bits.specs.Bits.{Unread, IsSound, bits, bits_of, number, ahead, past, all_zero, first_one, padded};
 
 use crate::low::low;
@@ -137,6 +137,21 @@ impl<'a> BitReader<'a> {
         let inside = (self.place % 8) as u8;
         let w = window(self.bytes, (self.place / 8) as usize);
         low(w >> (40 - inside - n), n) as u32
+    }
+
+    /// The next n bits as a number, where seven whole bytes stand behind the one that holds the next bit, so that 57 bits
+    /// are left at least; nothing near the end. A reader of short codes goes by it without asking how many bits are left.
+    #[inline(always)]
+    pub fn peek_inside(&self, n: u8) -> Option<u32>
+        requires { n ≤ 32 }
+        ensures value { IfSome result (λ v. v ≡ number (ahead n self.now.rest)) }
+        ensures below { IfSome result (λ v. v < 2 ^ n) }
+        ensures left { IsSome result → 57 ≤ length self.now.rest }
+    {
+        if (self.place / 8) as usize + 8 > self.bytes.len() {
+            return None;
+        }
+        Some(self.peek(n))
     }
 
     /// Goes n bits on. A reader of codes peeks once and then skips what it used.

@@ -1,13 +1,15 @@
 -- What is read of a block stands there, and what stands there is read: a block has one reading.
-use Rattle.std.proofs.Common.{◌≡◌, ℕ, Bool, true, false, List, length, subst, ap, ◌∙◌, sym, ◌<◌, ℤ}
-use Rattle.std.specs.Prelude.{nat_eq, ◌&&◌}
-use Rattle.m2v_bits.specs.Syntax.{renamed}
+use Rattle.std.proofs.Common.{◌≡◌, ℕ, ◌+◌, Bool, true, false, List, length, subst, ap, ◌∙◌, sym, refl, ◌<◌, ℤ, arith}
+use Rattle.std.specs.Prelude.{nat_eq, ◌&&◌, if◌then◌else◌, slice_set}
+use Rattle.std.proofs.lemmas.Bool.{eqb-true, lt-ltb, false_from_ne_true}
+use Rattle.m2v_bits.specs.Syntax.{renamed, choose, seq, bind, here, rule, done}
 use Rattle.m2v_bits.proofs.SyntaxLaws.{Lawful, Strict, Takes, good, bad, good_is, done_lawful, here_lawful, rule_lawful, seq_lawful, seq_strict, seq_strict_later, choose_lawful, choose_strict, renamed_lawful, repeated_strict, onward, round_err, round_more, round_last}
 use Rattle.m2v_bits.proofs.LeafLaws.{bits_lawful}
 use Rattle.m2v_vlc.specs.declared.values.CodeFault.TheVariants as codes
 use Rattle.m2v_vlc.specs.declared.values.Coefficient.{Coefficient}
 use Rattle.m2v_vlc.specs.declared.values.Coefficient.TheVariants.{End, Escape, Pair}
 use Rattle.m2v_vlc.specs.Codes.{Row, code_at}
+use Rattle.m2v_vlc.specs.Coefficients.{coefficient_zero, coefficient_one}
 use Rattle.m2v_vlc.proofs.Sizes.{dc_luma_strict, dc_chroma_strict}
 use Rattle.m2v_vlc.proofs.Coefficients.{coefficient_zero_strict, coefficient_one_strict}
 use Rattle.m2v_vlc.proofs.Firsts.{first_zero_strict}
@@ -105,3 +107,15 @@ pairs_last one s m t mid b e off = round_last length cut (pair_at one) (λ s. (p
 
 pub pairs_less : (one : Bool) (s m : Scan) (t mid : List Bool) (b : Bool) → (pair_at one s).read t ≡ good ((b, m), mid) → length mid < length t
 pairs_less one s m t mid b e = (pair_strict one s).takes.less (b, m) t mid ((pair_strict one s).lawful.found (b, m) t mid e)
+
+-- a pair with a code of the table that holds behind the first place, within the scan
+pub quick : (one : Bool) (s : Scan) (run : ℕ) (level : ℤ) (bs rest : List Bool) → 0 < s.filled → s.filled + run < 64
+    → (code_at codes.Truncated codes.NoCode (if one then coefficient_one else coefficient_zero)).read bs ≡ good (Pair run level, rest)
+    → (pair_at one s).read bs ≡ good ((true, record { filled = s.filled + run + 1; levels = slice_set s.levels (s.filled + run) level }), rest)
+unfolding pair_at coefficient_at placed code_from choose renamed seq bind here rule done
+quick true s run level bs rest some fits e =
+    let first : nat_eq s.filled 0 ≡ false = false_from_ne_true (nat_eq s.filled 0) (λ z. absurd (omega (arith, some, eqb-true s.filled 0 z))) in
+    rw (first, e, lt-ltb (s.filled + run) 64 fits) refl
+quick false s run level bs rest some fits e =
+    let first : nat_eq s.filled 0 ≡ false = false_from_ne_true (nat_eq s.filled 0) (λ z. absurd (omega (arith, some, eqb-true s.filled 0 z))) in
+    rw (first, e, lt-ltb (s.filled + run) 64 fits) refl

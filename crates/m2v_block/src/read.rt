@@ -1,4 +1,4 @@
-ghost use Rattle.std.specs.Prelude.{◌≡◌, ◌+◌, ◌^◌, ◌<◌, ◌≤◌, ◌+ℤ◌, nat_eq, Bool, true, false, cond, ◌&&◌, ◌∷◌, length, replicate, slice_index_or, All, IfOk, OnErr, ℤ, pos};
+ghost use Rattle.std.specs.Prelude.{◌≡◌, ◌+◌, ◌^◌, ◌<◌, ◌≤◌, ◌+ℤ◌, nat_eq, Bool, true, false, cond, ◌&&◌, ◌∷◌, length, replicate, slice_index_or, All, IfOk, IfSome, IsNone, OnErr, Ok, ℤ, pos};
 ghost use Rattle.m2v_bits.specs.Syntax.{Gives};
 ghost use Rattle.m2v_vlc.specs.Coefficients.{IsCoefficient};
 ghost use Rattle.m2v_quant.specs.Kinds.{IsKind, IsLevel};
@@ -11,7 +11,7 @@ use m2v_quant::{BlockKind, Levels};
 use m2v_vlc::CodeFault::Truncated;
 use m2v_vlc::{
     Coefficient, read_coefficient_one, read_coefficient_zero, read_dc_chroma, read_dc_luma,
-    read_first_zero,
+    read_first_zero, short_pair,
 };
 
 /// The size of a DC difference, by table B.12 for luma and table B.13 for chroma.
@@ -102,6 +102,7 @@ fn placed<'a>(
         })).read input.old.rest) }
     ensures text { input.new.text ≡ input.old.text }
     ensures within { IfOk result (λ x. (filled ≤ x.1) × (x.1 ≤ 64)) }
+    ensures more { IfOk result (λ x. x.0 ≡ true → 0 < x.1) }
     ensures dc { 0 < filled → slice_index_or out.new.at 0 (pos 0)
         ≡ slice_index_or out.old.at 0 (pos 0) }
     ensures levels { All IsLevel out.new.at }
@@ -172,6 +173,7 @@ fn coefficient<'a>(
         c).read input.old.rest) }
     ensures text { input.new.text ≡ input.old.text }
     ensures within { IfOk result (λ x. (filled ≤ x.1) × (x.1 ≤ 64)) }
+    ensures more { IfOk result (λ x. x.0 ≡ true → 0 < x.1) }
     ensures dc { 0 < filled → slice_index_or out.new.at 0 (pos 0)
         ≡ slice_index_or out.old.at 0 (pos 0) }
     ensures levels { All IsLevel out.new.at }
@@ -204,6 +206,7 @@ fn pair(
         ((pair_at one (record { filled = filled; levels = out.old.at })).read input.old.rest) }
     ensures text { input.new.text ≡ input.old.text }
     ensures within { IfOk result (λ x. (filled ≤ x.1) × (x.1 ≤ 64)) }
+    ensures more { IfOk result (λ x. x.0 ≡ true → 0 < x.1) }
     ensures dc { 0 < filled → slice_index_or out.new.at 0 (pos 0)
         ≡ slice_index_or out.old.at 0 (pos 0) }
     ensures levels { All IsLevel out.new.at }
@@ -213,20 +216,82 @@ fn pair(
     coefficient(input, &start, filled, c, out)
 }
 
+/// Reads a pair with a short code by one look, if there is one well before the end of the bits: how many places are filled
+/// then.
+#[inline(always)]
+fn quick_pair(input: &mut BitReader, one: bool, filled: usize, out: &mut Levels) -> Option<usize>
+    requires filled { filled ≤ 64 }
+    requires some { 0 < filled }
+    requires levels { All IsLevel out.old.at }
+    ensures read { IfSome result (λ next. (pair_at one (record {
+      filled = filled;
+      levels = out.old.at;
+    })).read input.old.rest ≡ Ok (
+      (true, record { filled = next; levels = out.new.at }),
+      input.new.rest,
+    )) }
+    ensures none { IsNone result → out.new ≡ out.old }
+    ensures here { IsNone result → input.new ≡ input.old }
+    ensures text { input.new.text ≡ input.old.text }
+    ensures within { IfSome result (λ next. (filled < next) × (next ≤ 64)) }
+    ensures dc { slice_index_or out.new.at 0 (pos 0) ≡ slice_index_or out.old.at 0 (pos 0) }
+    ensures levels { All IsLevel out.new.at }
+{
+    let nine = input.peek_inside(9)?;
+    let pair = short_pair(one, nine);
+    let at = filled + pair.1 as usize;
+    if at >= 64 {
+        return None;
+    }
+    out.at[at] = i32::from(pair.0);
+    input.skip(pair.2);
+    Some(at + 1)
+}
+
+/// Reads pairs with short codes, as many as stand there: how many places are filled then. The reader's place stays in a
+/// register meanwhile.
+#[inline(always)]
+fn quick_pairs(input: &mut BitReader, one: bool, from: usize, out: &mut Levels) -> usize
+    requires filled { from ≤ 64 }
+    requires some { 0 < from }
+    requires levels { All IsLevel out.old.at }
+    ensures read { (pairs_at one (record {
+      filled = result;
+      levels = out.new.at;
+    })).read input.new.rest ≡ (pairs_at one (record {
+      filled = from;
+      levels = out.old.at;
+    })).read input.old.rest }
+    ensures text { input.new.text ≡ input.old.text }
+    ensures less { length input.new.rest ≤ length input.old.rest }
+    ensures within { (from ≤ result) × (result ≤ 64) }
+    ensures dc { slice_index_or out.new.at 0 (pos 0) ≡ slice_index_or out.old.at 0 (pos 0) }
+    ensures levels { All IsLevel out.new.at }
+{
+    let mut ahead = input.fork();
+    let mut filled = from;
+    while let Some(next) = quick_pair(&mut ahead, one, filled, out) {
+        filled = next;
+    }
+    *input = ahead;
+    filled
+}
+
 /// Reads pairs up to the end of the block.
 #[inline(always)]
 fn pairs(input: &mut BitReader, one: bool, from: usize, out: &mut Levels) -> Result<(), BlockFault>
     requires filled { from ≤ 64 }
+    requires some { 0 < from }
     requires levels { All IsLevel out.old.at }
     ensures exact { GivesEnd result out.new.at input.new.rest
         ((pairs_at one (record { filled = from; levels = out.old.at })).read input.old.rest) }
     ensures text { input.new.text ≡ input.old.text }
     ensures levels { All IsLevel out.new.at }
-    ensures dc { 0 < from → slice_index_or out.new.at 0 (pos 0)
-        ≡ slice_index_or out.old.at 0 (pos 0) }
+    ensures dc { slice_index_or out.new.at 0 (pos 0) ≡ slice_index_or out.old.at 0 (pos 0) }
 {
     let mut filled = from;
     loop {
+        filled = quick_pairs(input, one, filled, out);
         let (more, next) = pair(input, one, filled, out)?;
         filled = next;
         if !more {

@@ -4,4 +4,5 @@ pub mod Tables
 pub mod Coefficients
 pub mod Lookups
 pub mod Places
+pub mod Shorts
 pub mod Laws

@@ -12,13 +12,16 @@ mod laws;
 mod motion;
 mod motion_rows;
 mod one_rows;
+mod one_short;
 mod pattern;
 mod pattern_rows;
 mod rows;
+mod short;
 mod size;
 mod size_rows;
 mod values;
 mod zero_rows;
+mod zero_short;
 
 pub use coefficient::{
     bits_coefficient_one, bits_coefficient_zero, code_coefficient_one, code_coefficient_zero,
@@ -36,8 +39,9 @@ pub use motion::{
 };
 pub use pattern::{bits_pattern, code_pattern, read_pattern, write_pattern};
 pub use rows::Code;
+pub use short::short_pair;
 pub use size::{
     bits_dc_chroma, bits_dc_luma, code_dc_chroma, code_dc_luma, read_dc_chroma, read_dc_luma,
     write_dc_chroma, write_dc_luma,
 };
-pub use values::{CodeFault, Coefficient, Increment, MbType};
+pub use values::{CodeFault, Coefficient, Increment, MbType, ShortPair};

@@ -41,3 +41,7 @@ pub enum Coefficient {
     /// So many coefficients that are 0, and the level behind them, which is not 0.
     Pair { run: u8, level: i16 },
 }
+
+/// A pair with a short code, in four bytes: the level, within 40 and not 0; how many coefficients are 0 before it, up to 31,
+/// or 64 where no pair with a short code stands; and how many bits the code has, nine at most.
+pub type ShortPair = (i16, u8, u8);

@@ -1,4 +1,4 @@
-use Rattle.std.proofs.Common.{◌≡◌, ◌<◌, ◌≤◌, All, length, get_or, pos}
+use Rattle.std.proofs.Common.{◌≡◌, ◌≤◌, All, length, get_or, pos}
 use Rattle.m2v_quant.specs.Kinds.{IsLevel}
 use Rattle.m2v_block.specs.Blocks.{pairs_at}
 use Rattle.m2v_block.proofs.read.pairs.Given as goal
@@ -10,7 +10,7 @@ invariant-loop-more l = record {
   above : l.from ≤ l.filled;
   within : l.filled ≤ 64;
   levels : All IsLevel l.out.at;
-  dc : 0 < l.from → get_or l.out.at 0 (pos 0) ≡ get_or l.fn.out.at 0 (pos 0);
+  dc : get_or l.out.at 0 (pos 0) ≡ get_or l.fn.out.at 0 (pos 0);
 }
 
 abbrev pub decreases-loop-more : goal.decreases-loop-more
