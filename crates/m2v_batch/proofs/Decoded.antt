@@ -63,7 +63,7 @@ value_made b j = value_is b j ∙ ap (λ (i : ℕ). made b i (decoded b j)) (cou
 
 -- what comes of a row isn't a blank piece, and has the batch's size
 pub record IsMade (d : Dims) (p : DecodePiece) : Type 0 where
-  pub read : (xs : Samples) → p ≡ Unread xs → ⊥
+  pub read : (r : Dims) → p ≡ Unread r → ⊥
   pub size : IfSome (row_of p) (λ xs. xs.dims ≡ d)
 
 after_made : (d : Dims) → IsMade d After
@@ -126,23 +126,23 @@ value_fits b j h =
     by_ready p refs row true = of_made b p (slice_get b.pictures p) refs row h refl
     by_ready p refs row false = after_made b.dims
 
-none_there : (p : DecodePiece) (ys : Samples) (d : Dims) → p ≡ Unread ys → IfSome (row_of p) (λ xs. xs.dims ≡ d)
-none_there p ys d e = subst (λ (q : DecodePiece). IfSome (row_of q) (λ xs. xs.dims ≡ d)) (sym e) tt
+none_there : (p : DecodePiece) (r d : Dims) → p ≡ Unread r → IfSome (row_of p) (λ xs. xs.dims ≡ d)
+none_there p r d e = subst (λ (q : DecodePiece). IfSome (row_of q) (λ xs. xs.dims ≡ d)) (sym e) tt
 
 -- the row of a piece that fits has the batch's size
 pub piece_size : (b : Batch) (j : ℕ) (p : DecodePiece) (d : Dims) → IsBatch b → d ≡ b.dims → FitsPiece b j p → IfSome (row_of p) (λ xs. xs.dims ≡ d)
-piece_size b j p d h e (inl f) = none_there p (blank b.dims 1) d f
+piece_size b j p d h e (inl f) = none_there p b.dims d f
 piece_size b j p d h e (inr f) =
     subst (λ (k : Dims). IfSome (row_of p) (λ xs. xs.dims ≡ k)) (sym e) (subst (λ (q : DecodePiece). IfSome (row_of q) (λ xs. xs.dims ≡ b.dims)) (sym f) (value_fits b j h).size)
 
-unread_row : DecodePiece → Samples → Samples
-unread_row (Unread xs) d = xs
-unread_row After d = d
-unread_row (Faulty f) d = d
-unread_row (Rebuilt xs) d = d
+room_of : DecodePiece → Dims → Dims
+room_of (Unread r) d = r
+room_of After d = d
+room_of (Faulty f) d = d
+room_of (Rebuilt xs) d = d
 
--- a piece that fits and wasn't read is blank
-pub unread_blank : (b : Batch) (j : ℕ) (p : DecodePiece) (xs : Samples) → IsBatch b → p ≡ Unread xs → FitsPiece b j p → xs ≡ blank b.dims 1
-unfolding unread_row
-unread_blank b j p xs h e (inl f) = ap (λ (q : DecodePiece). unread_row q xs) (sym e ∙ f)
-unread_blank b j p xs h e (inr f) = absurd ((value_fits b j h).read xs (sym f ∙ e))
+-- a piece that fits and wasn't read has room for a row of the batch's size
+pub unread_room : (b : Batch) (j : ℕ) (p : DecodePiece) (r : Dims) → IsBatch b → p ≡ Unread r → FitsPiece b j p → r ≡ b.dims
+unfolding room_of
+unread_room b j p r h e (inl f) = ap (λ (q : DecodePiece). room_of q r) (sym e ∙ f)
+unread_room b j p r h e (inr f) = absurd ((value_fits b j h).read r (sym f ∙ e))

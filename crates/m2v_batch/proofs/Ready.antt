@@ -97,7 +97,7 @@ tests_same f g [] each = refl
 tests_same f g (x ∷ xs) each = (λ i. each 0 (omega arith) i && tests_same f g xs (λ k lt. each (suc k) (omega (arith, lt))) i)
 
 set_rebuilt : (p : DecodePiece) → is_set (state_of (row_of p)) ≡ is_rebuilt p
-set_rebuilt (piece.Unread xs) = refl
+set_rebuilt (piece.Unread r) = refl
 set_rebuilt piece.After = refl
 set_rebuilt (piece.Faulty f) = refl
 set_rebuilt (piece.Rebuilt xs) = refl

@@ -7,13 +7,13 @@ use Rattle.m2v_batch.specs.declared.pieces.DecodePiece.TheVariants.{Unread, Afte
 
 -- the samples of a row that is rebuilt
 abbrev pub row_of : DecodePiece → Option Samples
-row_of (Unread xs) = None
+row_of (Unread d) = None
 row_of After = None
 row_of (Faulty f) = None
 row_of (Rebuilt xs) = Some xs
 
 abbrev pub is_rebuilt : DecodePiece → Bool
-is_rebuilt (Unread xs) = false
+is_rebuilt (Unread d) = false
 is_rebuilt After = false
 is_rebuilt (Faulty f) = false
 is_rebuilt (Rebuilt xs) = true

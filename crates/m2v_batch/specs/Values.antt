@@ -78,7 +78,7 @@ shared_of b j = record { dims = b.dims; row = row_of (value_of b j) }
 
 -- a piece is blank, or what comes of its row
 abbrev pub FitsPiece : Batch → ℕ → DecodePiece → Type 0
-FitsPiece b j p = (p ≡ Unread (blank b.dims 1)) ⊎ (p ≡ value_of b j)
+FitsPiece b j p = (p ≡ Unread b.dims) ⊎ (p ≡ value_of b j)
 
 -- a shared part is for frames of the batch's size
 abbrev pub FitsShared : Batch → ℕ → SharedRow → Type 0

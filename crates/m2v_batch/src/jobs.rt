@@ -10,7 +10,7 @@ use crate::book::DecodeBook;
 use crate::cache::DecodeCache;
 use crate::pieces::{DecodePiece, DecodeShared};
 use m2v_core::{JobBook, Memory, NeedList};
-use m2v_plane::RowSamples;
+use m2v_plane::RowRoom;
 use std::alloc::Global;
 use std::mem;
 
@@ -52,8 +52,8 @@ impl JobBook for DecodeBook {
     }
 
     fn blank_piece(&self, alloc: Global, _j: u32) -> Result<DecodePiece, Memory> {
-        let row = RowSamples::blank(alloc, self.dims())?;
-        Ok(DecodePiece::Unread(row))
+        let room = RowRoom::for_row(alloc, self.dims())?;
+        Ok(DecodePiece::Unread(room))
     }
 
     fn blank_shared(&self, alloc: Global, _j: u32) -> Result<DecodeShared, Memory> {

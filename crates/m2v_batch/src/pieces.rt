@@ -7,15 +7,15 @@ ghost use Rattle.m2v_batch.specs.Values.{lines_sum, told_part};
 
 use m2v_core::Memory;
 use m2v_piece::Fault;
-use m2v_plane::{Dims, Plane, RowSamples};
+use m2v_plane::{Dims, Plane, RowRoom, RowSamples};
 use std::alloc::Global;
 use std::marker::Model;
 
 /// What a job makes.
 #[derive(Drop)]
 pub enum DecodePiece {
-    /// The row wasn't read yet: room for its samples, all 0.
-    Unread(RowSamples),
+    /// The row wasn't read yet: room for its samples.
+    Unread(RowRoom),
     /// The row isn't rebuilt: one that it needs isn't, or a fault of the picture's headers stands before.
     After,
     /// The row has a fault, its first one.
@@ -27,20 +27,26 @@ pub enum DecodePiece {
 /// What other jobs learn of a job: the samples of its row, and whether it is rebuilt. Contracts see the samples where it is.
 #[derive(Drop)]
 pub struct DecodeShared {
+    dims: Dims,
     rebuilt: bool,
-    row: RowSamples,
+    // room for a row, until the first one is taken
+    room: Option<RowRoom>,
+    row: Option<RowSamples>,
 }
 
 impl Model for DecodeShared {
-    ghost use Rattle.std.specs.Prelude.{if◌then◌else◌, Some, None};
+    ghost use Rattle.std.specs.Prelude.{◌≡◌, IfSome, IsSome, IsNone, if◌then◌else◌, None, true};
     ghost use Rattle.m2v_batch.specs.Pieces.{SharedRow};
 
     ghost Value = { SharedRow };
 
     ghost view = { λ s. record {
-      dims = s.row.dims;
-      row = if s.rebuilt then Some s.row else None;
+      dims = s.dims;
+      row = if s.rebuilt then s.row else None;
     } };
+
+    ghost invariant = { λ s. IfSome s.room (λ r. r ≡ s.dims) × IfSome s.row (λ r. r.dims ≡ s.dims)
+        × (s.rebuilt ≡ true → IsSome s.row) × (IsNone s.room → IsSome s.row) };
 }
 
 impl DecodeShared {
@@ -49,11 +55,28 @@ impl DecodeShared {
         requires size { IsSize dims }
         ensures size { IfOk result (λ s. s.dims ≡ dims) }
     {
-        let row = RowSamples::blank(alloc, dims)?;
+        let room = RowRoom::for_row(alloc, dims)?;
         Ok(DecodeShared {
+            dims,
             rebuilt: false,
-            row,
+            room: Some(room),
+            row: None,
         })
+    }
+
+    /// Takes the samples of a row for frames of the same size.
+    fn take_row(&mut self, row: &RowSamples)
+        requires same { row.now.dims ≡ self.old.dims }
+        ensures value { self.new ≡ record { dims = self.old.dims; row = Some row.now } }
+    {
+        match self.room.take() {
+            Some(room) => self.row = Some(room.copy_of(row)),
+            None => match &mut self.row {
+                Some(own) => own.copy_from(row),
+                None => unreachable!(),
+            },
+        }
+        self.rebuilt = true;
     }
 
     /// Takes the samples of a piece for frames of the same size, where its row is rebuilt.
@@ -62,10 +85,7 @@ impl DecodeShared {
         ensures value { self.new ≡ record { dims = self.old.dims; row = row_of piece.now } }
     {
         match piece {
-            DecodePiece::Rebuilt(row) => {
-                self.row.copy_from(row);
-                self.rebuilt = true;
-            }
+            DecodePiece::Rebuilt(row) => self.take_row(row),
             DecodePiece::Unread(_) | DecodePiece::After | DecodePiece::Faulty(_) => {
                 self.rebuilt = false;
             }
@@ -77,7 +97,11 @@ impl DecodeShared {
         ensures value { option_map (λ r. r.now) result ≡ self.now.row }
         ensures size { IfSome result (λ r. r.now.dims ≡ self.now.dims) }
     {
-        if self.rebuilt { Some(&self.row) } else { None }
+        if self.rebuilt {
+            self.row.as_ref()
+        } else {
+            None
+        }
     }
 
     /// The sum of the row's samples, or 0 where it isn't rebuilt.

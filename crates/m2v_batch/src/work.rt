@@ -20,7 +20,7 @@ use crate::picture::{BatchPicture, FramePlace, Header};
 use crate::pieces::DecodePiece;
 use crate::reads::{JobRange, first_field};
 use m2v_picture::{Reading, backward_view, forward_view};
-use m2v_plane::{FieldView, Frame, RowSamples};
+use m2v_plane::{FieldView, Frame, RowRoom, RowSamples};
 use m2v_rows::read_row;
 
 /// What tells the references of a picture: an I picture has none.
@@ -164,14 +164,14 @@ impl DecodeBook {
     }
 
     /// Makes the piece of a job of a blank one.
-    fn make(&self, j: u32, cache: &DecodeCache, row: RowSamples) -> DecodePiece
+    fn make(&self, j: u32, cache: &DecodeCache, room: RowRoom) -> DecodePiece
         requires job { j < jobs_of (headers self.now) }
         requires learned { HasLearned self.now j cache.now }
-        requires blank { row ≡ blank self.now.dims 1 }
+        requires size { room ≡ self.now.dims }
         ensures value { result ≡ value_of self.now j }
     {
         if self.is_ready(j, cache) {
-            return self.read_job(j, cache, row);
+            return self.read_job(j, cache, room.blank());
         }
         DecodePiece::After
     }
@@ -186,7 +186,7 @@ impl DecodeBook {
         // what is known of a batch
         let _batch = self.pictures();
         match piece {
-            DecodePiece::Unread(row) => self.make(j, cache, row),
+            DecodePiece::Unread(room) => self.make(j, cache, room),
             DecodePiece::After => DecodePiece::After,
             DecodePiece::Faulty(fault) => DecodePiece::Faulty(fault),
             DecodePiece::Rebuilt(row) => DecodePiece::Rebuilt(row),

@@ -5,7 +5,7 @@ use Rattle.m2v_port.specs.Ends.{Change, change}
 use Rattle.m2v_port.specs.Port.{Moves, Grows, GrowsByPrefix}
 use Rattle.m2v_port.proofs.Runs.{moves_on, grows_on, grows_by_all}
 use Rattle.m2v_plane.specs.Raw.{raw}
-use Rattle.m2v_model.specs.Pieces.{limit, most_input}
+use Rattle.m2v_model.specs.Pieces.{limit}
 use Rattle.m2v_piece.specs.declared.answer.Piece.{Piece}
 use Rattle.m2v_piece.specs.declared.answer.Fault.{Fault}
 use Rattle.m2v_piece.specs.declared.answer.DecodeError.{DecodeError}
@@ -15,7 +15,7 @@ use Rattle.m2v_piece.specs.Cutting.{Cutting, left_of, start_of, IsReading, Piece
 use Rattle.m2v_piece.specs.Stepping.{Handed, Stopped, Keeps, Why}
 use Rattle.m2v_decoder.specs.Decoding.{Decoding, Onward, Refuses, due_of, whole_of}
 use Rattle.m2v_decode.specs.Answers.{IsCut, IsFaulty, IsOver, OfText, OfTaken, Fails, due_before, shown_by}
-use Rattle.m2v_decode.specs.Progress.{raw_of, Cuts, HasPut, Reached, Progress, IsDone}
+use Rattle.m2v_decode.specs.Progress.{raw_of, Cuts, HasPut, Reached, Progress}
 use Rattle.m2v_decode.proofs.Putting.{raw-append}
 use Rattle.m2v_decode.proofs.Going.{moved_some, ready_none, reached_more, gave, start_place, due_cut, reached_cut, reached_later, faulty_at, over_at}
 use Rattle.m2v_pardec.specs.Ahead.{AreTaken, Later, behind, ended, stopped, Knows, IsAhead, HandsOut, none, more, FailsBy}
@@ -320,22 +320,3 @@ ahead_unread left held d (errors.Stream f) rose kind so = absurd kind
 ahead_unread left held d errors.TooLong rose kind so = text_as _ _ left (λ t c. over_as (plain ⊥ held.old held.new) held refl refl c) (over_text _ _ _ _ d errors.TooLong so (λ x l w. w))
 ahead_unread left held d errors.PictureTooLarge rose kind so = text_as _ _ left (λ t c. over_as (plain ⊥ held.old held.new) held refl refl c) (over_text _ _ _ _ d errors.PictureTooLarge so (λ x l w. w))
 ahead_unread left held d errors.Memory rose kind so = taken_as _ _ left (λ b t c. cut_as (plain ⊥ held.old held.new) held refl refl c) (ahead_cut ⊥ (stopped errors.Memory) _ _ _ _ [] d so)
-
--- all that was taken was decoded, and no piece is left
-pub ahead_ended : (left held : Change) (c : Cutting) (d : Decoding) → IsAhead (ended c) left.old left.new held.old held.new [] d → c.ended ≡ true → c.place ≤ most_input → IsDone left held c d
-ahead_ended left held c d so over most = record {
-  bytes = so.bytes;
-  moved = so.moved;
-  frames = so.frames;
-  grown = so.grown;
-  shown = so.shown;
-  none = so.none;
-  going = so.going;
-  sound = so.sound;
-  over = over;
-  most = most;
-  told = λ rest q.
-      let w = so.told rest q in
-      subst (λ (x : ℕ). Reached (length so.bytes) (so.bytes ++ rest) x [] so.frames d) (sym w.pieces ∙ (w.known).0)
-      (subst (λ (l : List (List ℕ)). Reached (length so.bytes) (so.bytes ++ rest) w.start l so.frames d) (w.known).1 w.reached);
-}

@@ -168,9 +168,9 @@ under_by t f c left c' left' w next d a x there tracks =
 
 -- ---- pieces ahead
 
-rest_ahead : (t : Taken) (r : Rest) (c : Cutting) (bl left b held : Option (List ℕ)) (ps : List Piece) (d : Decoding) → IsRest t r → IsAhead (later_of t.stop c) bl left b held (ps ++ pieces_of t) d
+taken_ahead : (t : Taken) (r : Rest) (c : Cutting) (bl left b held : Option (List ℕ)) (ps : List Piece) (d : Decoding) → IsRest t r → IsAhead (later_of t.stop c) bl left b held (ps ++ pieces_of t) d
     → IsAhead (later_of r.stop c) bl left b held (ps ++ (map piece_of t.pictures.pictures ++ option_to_list r.other)) d
-rest_ahead t r c bl left b held ps d is so =
+taken_ahead t r c bl left b held ps d is so =
     subst (λ (s : Stop). IsAhead (later_of s c) bl left b held (ps ++ (map piece_of t.pictures.pictures ++ option_to_list r.other)) d) (sym is.stop)
     (subst (λ (o : Option Piece). IsAhead (later_of t.stop c) bl left b held (ps ++ (map piece_of t.pictures.pictures ++ option_to_list o)) d) (sym is.other) so)
 
@@ -179,15 +179,15 @@ pub works_ahead : (t : Taken) (f : FramesAtHand) (c : Cutting) (left : Option (L
     → IsAhead (later_of t.stop c) bl left b held (pieces_of t) d → IsAhead (later_of next.stop c') bl left' b held (map piece_of w.book.pictures ++ pieces_of next) d
 works_ahead t f c left c' left' w next bl b held d x so =
     subst (λ (k : Batch). IsAhead (later_of next.stop c') bl left' b held (map piece_of k.pictures ++ pieces_of next) d) (sym x.book)
-    ((x.more).ahead bl b held (map piece_of t.pictures.pictures) d (rest_ahead t x.rest c bl left b held [] d x.is_rest so))
+    ((x.more).ahead bl b held (map piece_of t.pictures.pictures) d (taken_ahead t x.rest c bl left b held [] d x.is_rest so))
 
 -- memory ran out meanwhile
 pub stops_taking : (t : Taken) (r : Rest) (c : Cutting) (left left' : Option (List ℕ)) → IsRest t r → TakingFails r c left left' → StopsTaking t c left left'
-stops_taking t r c left left' is fails = λ bl b held d so. fails.fails bl b held (map piece_of t.pictures.pictures) d (rest_ahead t r c bl left b held [] d is so)
+stops_taking t r c left left' is fails = λ bl b held d so. fails.fails bl b held (map piece_of t.pictures.pictures) d (taken_ahead t r c bl left b held [] d is so)
 
 pub stops_under : (failed : Type 0) (b : Batch) (t : Taken) (r : Rest) (c : Cutting) (left held : Option (List ℕ)) (d : Decoding) (left' held' : Option (List ℕ)) (e : DecodeError) → IsRest t r → PuttingFails failed (map piece_of b.pictures) r c left held d left' held' e
     → StopsUnder failed b t c left held d left' held' e
-stops_under failed b t r c left held d left' held' e is fails = λ bl bf so. fails bl bf (map piece_of t.pictures.pictures) (rest_ahead t r c bl left bf held (map piece_of b.pictures) d is so)
+stops_under failed b t r c left held d left' held' e is fails = λ bl bf so. fails bl bf (map piece_of t.pictures.pictures) (taken_ahead t r c bl left bf held (map piece_of b.pictures) d is so)
 
 rest_rises : (t : Taken) (r : Rest) (c c' : Cutting) (stop : Stop) → IsRest t r → ((low : ℕ) → (r.stop ≡ More → low < c.place) → stop ≡ More → low < c'.place) → (low : ℕ) → (t.stop ≡ More → low < c.place) → stop ≡ More → low < c'.place
 rest_rises t r c c' stop is rises = λ low before more. rises low (λ e. before (sym is.stop ∙ e)) more

@@ -67,9 +67,6 @@ unmade failed ps d h = λ later l l' b others so. ahead_unmade failed later l l'
 
 -- ---- one after another
 
-pub puts_on : (ps qs rs : List Piece) (d m n : Decoding) (h1 h2 h3 : Option (List ℕ)) → PutsTo ps d h1 qs m h2 → PutsTo qs m h2 rs n h3 → PutsTo ps d h1 rs n h3
-puts_on ps qs rs d m n h1 h2 h3 first next = λ later l l' b others so. next later l l' b others (first later l l' b others so)
-
 -- a piece more is decoded of those that are left
 pub puts_more : (ps qs : List Piece) (p : Piece) (d m n : Decoding) (h1 h2 h3 : Option (List ℕ)) → PutsTo ps d h1 (p ∷ qs) m h2 → PutsAll (p ∷ []) m h2 n h3 → PutsTo ps d h1 qs n h3
 puts_more ps qs p d m n h1 h2 h3 first next = λ later l l' b others so. next later l l' b (qs ++ others) (first later l l' b others so)

@@ -63,10 +63,6 @@ each_rebuilt rows p x is first there = λ r lt.
     let small : r < x.opened.rows = omega (arith, lt, ap (λ (y : Header). y.rows) (header_is rows.batch p x is)) in
     subst (λ (j : ℕ). value_of rows.batch (j + r) ≡ Rebuilt (samples_at rows r)) first (there r small).1
 
--- its rows have jobs
-pub rows_fit : (d : Decoding) (x : BatchPicture) (after : State) (rows : RowsFrom) → CanTakeIn d x after rows → rows.first + x.opened.rows ≤ jobs_of (headers rows.batch)
-rows_fit d x after rows can = omega (arith, can.first, rows_within rows.batch can.p x can.batch can.is)
-
 -- they are what the decoder takes
 pub rows_taken : (d : Decoding) (x : BatchPicture) (after : State) (rows : RowsFrom) → CanTakeIn d x after rows → AreThere rows x.opened.rows
     → (r : ℕ) → r < x.opened.rows → IsRebuilt (refs_for x.opened (store_of d.frames)) x.piece x.opened r (samples_at rows r)
