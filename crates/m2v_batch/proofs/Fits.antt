@@ -10,6 +10,7 @@ use Rattle.m2v_batch.specs.Pieces.{SharedRow}
 use Rattle.m2v_batch.specs.Values.{shared_of}
 use Rattle.m2v_batch.specs.Learned.{Cached, state_at, is_known, row_learned, learned_of, FitsCache}
 use Rattle.m2v_batch.proofs.Learning.{learned_fits}
+use Rattle.m2v_batch.proofs.Shared.{shared_row}
 
 pub need_is : (hs : Headers) (j at i : ℕ) → at < length (needs_of hs j) → i ≡ get_or (needs_of hs j) at 0 → i < j
 need_is hs j at i lt e = omega (arith, e, needs_below hs j at 0 lt)
@@ -21,7 +22,7 @@ part_fits b j at x c h job lt is fits =
     let hs = headers b in
     let i = get_or (needs_of hs j) at 0 in
     let below : i < first_job hs (length hs) = omega (arith, needs_below hs j at 0 lt, (some_pictures hs j job).1) in
-    subst (λ (o : Option Samples). FitsCache b (row_learned hs i o c (state_at c i))) (sym (ap (λ (y : SharedRow). y.row) is)) (learned_fits b i c (state_at c i) h below refl fits)
+    subst (λ (o : Option Samples). FitsCache b (row_learned hs i o c (state_at c i))) (sym (ap (λ (y : SharedRow). y.row) is ∙ shared_row b j at job lt)) (learned_fits b i c (state_at c i) h below refl fits)
 
 pub learned_as : (b : Batch) (j at i : ℕ) (x : SharedRow) (c d : Cached) (s : RowState) → i ≡ get_or (needs_of (headers b) j) at 0 → state_at c i ≡ s → d ≡ row_learned (headers b) i x.row c s → d ≡ learned_of b j at x c
 learned_as b j at i x c d s e f is =

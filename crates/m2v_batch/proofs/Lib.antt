@@ -7,6 +7,7 @@ pub mod Needs
 pub mod Decoded
 pub mod Learning
 pub mod Blank
+pub mod Shared
 pub mod Fits
 pub mod Sums
 pub mod Ready

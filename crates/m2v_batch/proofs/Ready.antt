@@ -26,6 +26,7 @@ use Rattle.m2v_batch.proofs.Learning.{state_same, state_other, known_row}
 use Rattle.m2v_batch.proofs.Blank.{is_read_at}
 use Rattle.m2v_batch.proofs.Decoded.{value_stays}
 use Rattle.m2v_batch.proofs.FrameRows.{frame_same}
+use Rattle.m2v_batch.proofs.Shared.{shared_row}
 use Rattle.m2v_batch.proofs.Fits.{part_fits}
 
 -- ---- one row learned
@@ -72,13 +73,16 @@ some_learned b j (suc n) c h job le fits =
     let before = some_learned b j n c h job (omega (arith, le)) fits in
     let d = after b j n c in
     let there : i < length d.rows = omega (arith, needs_below hs j n 0 (omega (arith, le)), (some_pictures hs j job).1, before.fits.states) in
+    let row = shared_row b j n job (omega (arith, le)) in
+    let as_told : (k : ℕ) → Tells b (row_learned hs i (row_of (value_of b i)) d (state_at d i)) k → Tells b (row_learned hs i (shared_of b i).row d (state_at d i)) k
+    = λ k. subst (λ (o : Option Samples). Tells b (row_learned hs i o d (state_at d i)) k) (sym row) in
     record {
       fits = part_fits b j n (shared_of b i) d h job (omega (arith, le)) refl before.fits;
       each = λ k lt. elim (cases_lt k n) [
-        | inl below ↦ learned_keeps b i (get_or (needs_of hs j) k 0) d (state_at d i) there refl (before.fits.each_state i) (before.each k below)
+        | inl below ↦ as_told (get_or (needs_of hs j) k 0) (learned_keeps b i (get_or (needs_of hs j) k 0) d (state_at d i) there refl (before.fits.each_state i) (before.each k below))
         | inr over ↦
             let here : n ≡ k = omega (arith, over, lt) in
-            subst (λ (m : ℕ). Tells b (row_learned hs i (row_of (value_of b i)) d (state_at d i)) (get_or (needs_of hs j) m 0)) here (learned_tells b i d (state_at d i) there refl (before.fits.each_state i))
+            subst (λ (m : ℕ). Tells b (row_learned hs i (shared_of b i).row d (state_at d i)) (get_or (needs_of hs j) m 0)) here (as_told i (learned_tells b i d (state_at d i) there refl (before.fits.each_state i)))
       ];
     }
 

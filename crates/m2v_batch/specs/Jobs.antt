@@ -64,6 +64,10 @@ read_by hs p =
     else if nat_eq h.kind 3 then record { forward = Some (older_before hs p); other = Some (newer_before hs p) }
     else record { forward = Some (newer_before hs p); other = if h.second then Some (first_field p) else None }
 
+-- a picture that others may be predicted from: one that isn't B, or the first field of a frame
+abbrev pub is_reference : Headers → ℕ → Bool
+is_reference hs p = not (nat_eq (header_at hs p).kind 3) || (header_at hs (suc p)).second
+
 -- ---- needs
 
 -- the picture that begins the frame of picture q: the one before a second field

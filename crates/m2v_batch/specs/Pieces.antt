@@ -1,5 +1,5 @@
 -- What comes of a row, and what others learn of it, as contracts see it.
-use Rattle.std.specs.Prelude.{Bool, true, false, Option, Some, None}
+use Rattle.std.specs.Prelude.{ℕ, Bool, true, false, Option, Some, None}
 use Rattle.m2v_plane.specs.declared.dims.Dims.{Dims}
 use Rattle.m2v_plane.specs.Samples.{Samples}
 use Rattle.m2v_batch.specs.declared.pieces.DecodePiece.{DecodePiece}
@@ -18,7 +18,10 @@ is_rebuilt After = false
 is_rebuilt (Faulty f) = false
 is_rebuilt (Rebuilt xs) = true
 
--- what other rows learn of a row: the size of the frames, and its samples where it is rebuilt
+-- what other rows learn of a row: the size of the frames, whether it holds samples at all, these where the row is rebuilt, and
+-- what a gate is told of it
 pub record SharedRow : Type 0 where
   pub dims : Dims
+  pub holds : Bool
   pub row : Option Samples
+  pub told : ℕ

@@ -1,6 +1,7 @@
 -- What comes of each row of a batch.
 use Rattle.std.specs.Prelude.{◌≡◌, ◌⊎◌, ℕ, zero, suc, ◌+◌, Bool, if◌then◌else◌, List, [], ◌∷◌, ◌++◌, length, sum, slice_index_or, slice_get, Option, Some, None, Ok, Err}
 use Rattle.std.specs.List.{list_all}
+use Rattle.m2v_plane.specs.declared.dims.Dims.{Dims}
 use Rattle.m2v_plane.specs.declared.planes.Plane.{Plane}
 use Rattle.m2v_plane.specs.declared.planes.Plane.TheVariants.{Y, Cb, Cr}
 use Rattle.m2v_plane.specs.Sizes.{columns_of}
@@ -14,7 +15,7 @@ use Rattle.m2v_batch.specs.declared.picture.BatchPicture.{BatchPicture}
 use Rattle.m2v_batch.specs.declared.pieces.DecodePiece.{DecodePiece}
 use Rattle.m2v_batch.specs.declared.pieces.DecodePiece.TheVariants.{Unread, After, Faulty, Rebuilt}
 use Rattle.m2v_batch.specs.Pieces.{row_of, is_rebuilt, SharedRow}
-use Rattle.m2v_batch.specs.Jobs.{picture_of_job, row_of_job, needs_of}
+use Rattle.m2v_batch.specs.Jobs.{picture_of_job, row_of_job, needs_of, is_reference}
 use Rattle.m2v_batch.specs.Batches.{Batch, headers, Rows, references}
 
 -- ---- one row
@@ -73,16 +74,9 @@ decoded b (suc n) = decoded b n ++ next_outcome b (decoded b n) ∷ []
 abbrev pub value_of : Batch → ℕ → DecodePiece
 value_of b j = outcome_at (decoded b (j + 1)) j
 
-abbrev pub shared_of : Batch → ℕ → SharedRow
-shared_of b j = record { dims = b.dims; row = row_of (value_of b j) }
-
 -- a piece is blank, or what comes of its row
 abbrev pub FitsPiece : Batch → ℕ → DecodePiece → Type 0
 FitsPiece b j p = (p ≡ Unread b.dims) ⊎ (p ≡ value_of b j)
-
--- a shared part is for frames of the batch's size
-abbrev pub FitsShared : Batch → ℕ → SharedRow → Type 0
-FitsShared b j s = s.dims ≡ b.dims
 
 -- ---- what a gate is told
 
@@ -96,12 +90,29 @@ abbrev pub samples_sum : Samples → ℕ
 samples_sum xs = lines_sum xs Y 16 + lines_sum xs Cb 8 + lines_sum xs Cr 8
 
 -- a gate is told the sum of a row's samples, or 0 where it isn't rebuilt
-unfoldable pub told_part : SharedRow → ℕ
-told_part x = row_sum x.row
-  where
-    row_sum : Option Samples → ℕ
-    row_sum None = 0
-    row_sum (Some xs) = samples_sum xs
+unfoldable pub told_row : Option Samples → ℕ
+told_row None = 0
+told_row (Some xs) = samples_sum xs
+
+-- ---- shared parts
+
+-- what others learn of a piece, by a shared part that holds samples or doesn't
+abbrev pub shared_by : Dims → Bool → DecodePiece → SharedRow
+shared_by d holds p = record {
+  dims = d;
+  holds = holds;
+  row = if holds then row_of p else None;
+  told = told_row (row_of p);
+}
+
+-- only a row of a picture that others may be predicted from is shared with its samples
+abbrev pub shared_of : Batch → ℕ → SharedRow
+shared_of b j = shared_by b.dims (is_reference (headers b) (picture_of_job (headers b) j)) (value_of b j)
+
+-- a shared part is for frames of the batch's size, and holds samples where its row's picture is a reference
+pub record FitsShared (b : Batch) (j : ℕ) (s : SharedRow) : Type 0 where
+  pub dims : s.dims ≡ b.dims
+  pub holds : s.holds ≡ is_reference (headers b) (picture_of_job (headers b) j)
 
 abbrev pub told_of : Batch → ℕ → ℕ
-told_of b j = told_part (shared_of b j)
+told_of b j = (shared_of b j).told

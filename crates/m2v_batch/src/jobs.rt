@@ -56,8 +56,9 @@ impl JobBook for DecodeBook {
         Ok(DecodePiece::Unread(room))
     }
 
-    fn blank_shared(&self, alloc: Global, _j: u32) -> Result<DecodeShared, Memory> {
-        DecodeShared::blank(alloc, self.dims())
+    fn blank_shared(&self, alloc: Global, j: u32) -> Result<DecodeShared, Memory> {
+        let holds = self.is_reference(self.picture_of_job(j));
+        DecodeShared::blank(alloc, self.dims(), holds)
     }
 
     fn blank_cache(&self, alloc: Global) -> Result<DecodeCache, Memory> {
@@ -88,6 +89,6 @@ impl JobBook for DecodeBook {
     }
 
     fn tell(&self, _j: u32, part: &DecodeShared) -> u64 {
-        part.sum()
+        part.told()
     }
 }

@@ -1,7 +1,7 @@
 //! What a worker learns of the rows of a batch.
 ghost use Rattle.std.specs.Prelude.{ℕ, ◌≡◌, ◌+◌, ◌<◌, true, IsTrue, ◌||◌, IfOk, length, replicate, slice_index_or, Some, None};
 ghost use Rattle.m2v_batch.specs.declared.cache.RowState.TheVariants.{Unknown};
-ghost use Rattle.m2v_batch.specs.Jobs.{header_at, jobs_of, first_job};
+ghost use Rattle.m2v_batch.specs.Jobs.{header_at, jobs_of, first_job, is_reference};
 ghost use Rattle.m2v_batch.specs.Batches.{headers, no_rows, frame_behind};
 ghost use Rattle.m2v_batch.specs.Values.{shared_of};
 ghost use Rattle.m2v_batch.specs.Learned.{set_both, row_learned, is_behind, is_read, slot, FitsCache, AreSized};
@@ -46,6 +46,16 @@ impl DecodeBook {
         ensures exists { IsTrue result → p < length (headers self.now) }
     {
         p < self.pictures() && self.header(p).second
+    }
+
+    /// Whether other pictures may be predicted from a picture.
+    pub(crate) fn is_reference(&self, p: u32) -> bool
+        requires picture { p < length (headers self.now) }
+        ensures value { result ≡ is_reference (headers self.now) p }
+    {
+        // there are at most 16 pictures
+        let _pictures = self.pictures();
+        either(self.header(p).kind != 3, self.is_second(p + 1))
     }
 
     /// Whether a picture of the batch is predicted from the frame behind picture p.

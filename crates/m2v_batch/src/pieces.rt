@@ -1,9 +1,9 @@
 //! What comes of a row, and what others learn of it.
-ghost use Rattle.std.specs.Prelude.{◌≡◌, ◌≤◌, ◌*◌, ◌^◌, IfOk, IfSome, Some, None, Option, if◌then◌else◌, length, sum};
+ghost use Rattle.std.specs.Prelude.{◌≡◌, ◌≤◌, ◌*◌, ◌^◌, IfOk, IfSome, Some, None, Option, if◌then◌else◌, true, length, sum};
 ghost use Rattle.m2v_plane.specs.Sizes.{IsSize, side};
 ghost use Rattle.std.specs.Option.{option_map};
 ghost use Rattle.m2v_batch.specs.Pieces.{row_of};
-ghost use Rattle.m2v_batch.specs.Values.{lines_sum, told_part};
+ghost use Rattle.m2v_batch.specs.Values.{lines_sum, samples_sum, shared_by};
 
 use m2v_core::Memory;
 use m2v_piece::Fault;
@@ -24,42 +24,55 @@ pub enum DecodePiece {
     Rebuilt(RowSamples),
 }
 
-/// What other jobs learn of a job: the samples of its row, and whether it is rebuilt. Contracts see the samples where it is.
+/// What other jobs learn of a job: the samples of its row, where it holds samples and the row is rebuilt, and what a gate is told.
+/// Contracts see whether it holds samples, and these.
 #[derive(Drop)]
 pub struct DecodeShared {
     dims: Dims,
+    holds: bool,
     rebuilt: bool,
+    told: u64,
     // room for a row, until the first one is taken
     room: Option<RowRoom>,
     row: Option<RowSamples>,
 }
 
 impl Model for DecodeShared {
-    ghost use Rattle.std.specs.Prelude.{◌≡◌, IfSome, IsSome, IsNone, if◌then◌else◌, None, true};
+    ghost use Rattle.std.specs.Prelude.{◌≡◌, IfSome, IsSome, IsNone, if◌then◌else◌, None, true, false};
     ghost use Rattle.m2v_batch.specs.Pieces.{SharedRow};
 
     ghost Value = { SharedRow };
 
     ghost view = { λ s. record {
       dims = s.dims;
+      holds = s.holds;
       row = if s.rebuilt then s.row else None;
+      told = s.told;
     } };
 
     ghost invariant = { λ s. IfSome s.room (λ r. r ≡ s.dims) × IfSome s.row (λ r. r.dims ≡ s.dims)
-        × (s.rebuilt ≡ true → IsSome s.row) × (IsNone s.room → IsSome s.row) };
+        × (s.rebuilt ≡ true → IsSome s.row) × (s.holds ≡ true → IsNone s.room → IsSome s.row)
+        × (s.holds ≡ false → s.rebuilt ≡ false) };
 }
 
 impl DecodeShared {
-    /// A shared part for frames of this size, of a row that isn't rebuilt.
-    pub(crate) fn blank(alloc: Global, dims: Dims) -> Result<DecodeShared, Memory>
+    /// A shared part for frames of this size, which holds samples or doesn't, of a row that isn't rebuilt.
+    pub(crate) fn blank(alloc: Global, dims: Dims, holds: bool) -> Result<DecodeShared, Memory>
         requires size { IsSize dims }
         ensures size { IfOk result (λ s. s.dims ≡ dims) }
+        ensures holds { IfOk result (λ s. s.holds ≡ holds) }
     {
-        let room = RowRoom::for_row(alloc, dims)?;
+        let room = if holds {
+            Some(RowRoom::for_row(alloc, dims)?)
+        } else {
+            None
+        };
         Ok(DecodeShared {
             dims,
+            holds,
             rebuilt: false,
-            room: Some(room),
+            told: 0,
+            room,
             row: None,
         })
     }
@@ -67,7 +80,8 @@ impl DecodeShared {
     /// Takes the samples of a row for frames of the same size.
     fn take_row(&mut self, row: &RowSamples)
         requires same { row.now.dims ≡ self.old.dims }
-        ensures value { self.new ≡ record { dims = self.old.dims; row = Some row.now } }
+        requires holds { self.old.holds ≡ true }
+        ensures value { self.new ≡ record self.old { row = Some row.now } }
     {
         match self.room.take() {
             Some(room) => self.row = Some(room.copy_of(row)),
@@ -79,20 +93,27 @@ impl DecodeShared {
         self.rebuilt = true;
     }
 
-    /// Takes the samples of a piece for frames of the same size, where its row is rebuilt.
+    /// Takes what others learn of a piece for frames of the same size.
+    #[tactic(auto, unfolding(crate::specs::Values::told_row))]
     pub(crate) fn take(&mut self, piece: &DecodePiece)
         requires same { IfSome (row_of piece.now) (λ xs. xs.dims ≡ self.old.dims) }
-        ensures value { self.new ≡ record { dims = self.old.dims; row = row_of piece.now } }
+        ensures value { self.new ≡ shared_by self.old.dims self.old.holds piece.now }
     {
         match piece {
-            DecodePiece::Rebuilt(row) => self.take_row(row),
+            DecodePiece::Rebuilt(row) => {
+                self.told = total_of(row);
+                if self.holds {
+                    self.take_row(row);
+                }
+            }
             DecodePiece::Unread(_) | DecodePiece::After | DecodePiece::Faulty(_) => {
+                self.told = 0;
                 self.rebuilt = false;
             }
         }
     }
 
-    /// The samples of the row, where it is rebuilt.
+    /// The samples of the row, where it holds them and is rebuilt.
     pub(crate) fn samples(&self) -> Option<&RowSamples>
         ensures value { option_map (λ r. r.now) result ≡ self.now.row }
         ensures size { IfSome result (λ r. r.now.dims ≡ self.now.dims) }
@@ -104,18 +125,19 @@ impl DecodeShared {
         }
     }
 
-    /// The sum of the row's samples, or 0 where it isn't rebuilt.
-    #[tactic(auto, unfolding(crate::specs::Values::told_part))]
-    pub(crate) fn sum(&self) -> u64
-        ensures value { result ≡ told_part self.now }
+    /// What a gate is told of the row.
+    pub(crate) fn told(&self) -> u64
+        ensures value { result ≡ self.now.told }
     {
-        match self.samples() {
-            None => 0,
-            Some(row) => {
-                sum_of(row, Plane::Y, 16) + sum_of(row, Plane::Cb, 8) + sum_of(row, Plane::Cr, 8)
-            }
-        }
+        self.told
     }
+}
+
+/// The sum of all samples of a row.
+fn total_of(row: &RowSamples) -> u64
+    ensures value { result ≡ samples_sum row.now }
+{
+    sum_of(row, Plane::Y, 16) + sum_of(row, Plane::Cb, 8) + sum_of(row, Plane::Cr, 8)
 }
 
 /// The sum of the samples of the first lines of a plane of a row.
