@@ -24,7 +24,7 @@ use std::alloc::{AllocError, Global};
 
 /// How many pictures are taken ahead at a time. While their rows are decoded, the pictures before them are taken into the
 /// decoder and those behind them are taken ahead.
-const BATCH: u32 = 8;
+const BATCH: u32 = 16;
 
 /// Why no more pieces were taken.
 #[derive(Clone, Copy, Debug, PartialEq, Eq)]
