@@ -16,6 +16,6 @@ echo "On $(nproc) processors$speed. Coding 25 frames of 720 by 576 samples, a pa
 echo
 "$bench/encode.sh" "$program" "$folder"
 echo
-echo "Decoding and checking clips of that size, four seconds each (instructions: of one second), the least and the most over the clips:"
+echo "Decoding and checking clips of that size, four seconds each, five of them at 6 Mbit/s and one of I pictures at 15, the least and the most over the clips:"
 echo
 "$bench/decode.sh" "$program" "$folder"
