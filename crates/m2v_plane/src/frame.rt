@@ -1,4 +1,4 @@
-ghost use Rattle.std.specs.Prelude.{◌≡◌, ◌+◌, ◌*◌, ◌/◌, ◌≤◌, ◌<◌, IfOk, length, vec_len};
+ghost use Rattle.std.specs.Prelude.{◌≡◌, ◌+◌, ◌*◌, ◌/◌, ◌≤◌, ◌<◌, IfOk, length, replicate, vec_len, vec_capacity};
 ghost use Rattle.m2v_plane.specs.Sizes.{IsSize, side, frame_line, lines_of, columns_of, part_of};
 ghost use Rattle.m2v_plane.specs.Samples.{Samples, plane_of, HasRows, sample_in, blank, square_of, with_field, with_row, with_square};
 ghost use Rattle.m2v_plane.specs.Raw.{frame_bytes, pad, crop};
@@ -43,20 +43,80 @@ impl Model for Frame {
     }) f.dims.mb_rows };
 }
 
+/// Room for a frame: its memory is taken, and nothing is written yet. Contracts see the size of the frame.
+#[derive(Drop)]
+pub struct FrameRoom {
+    dims: Dims,
+    luma: Vec<u8>,
+    cb: Vec<u8>,
+    cr: Vec<u8>,
+}
+
+impl Model for FrameRoom {
+    ghost use Rattle.std.specs.Prelude.{◌≡◌, ◌*◌, ◌≤◌, vec_len, vec_capacity};
+    ghost use Rattle.m2v_plane.specs.declared.dims.Dims.{Dims};
+    ghost use Rattle.m2v_plane.specs.Sizes.{IsSize};
+
+    ghost Value = { Dims };
+
+    ghost view = { λ r. r.dims };
+
+    ghost invariant = { λ r. IsSize r.dims
+        × (vec_len r.luma ≡ 0) × (256 * (r.dims.mb_rows * r.dims.mb_width) ≤ vec_capacity r.luma)
+        × (vec_len r.cb ≡ 0) × (64 * (r.dims.mb_rows * r.dims.mb_width) ≤ vec_capacity r.cb)
+        × (vec_len r.cr ≡ 0) × (64 * (r.dims.mb_rows * r.dims.mb_width) ≤ vec_capacity r.cr) };
+}
+
+/// So many samples 0, in room that was taken for them.
+fn filled(mut room: Vec<u8>, count: usize) -> Vec<u8>
+    requires empty { vec_len room ≡ 0 }
+    requires taken { count ≤ vec_capacity room }
+    ensures value { result.items ≡ replicate count 0 }
+{
+    match room.resize(count, 0) {
+        Ok(()) => room,
+        // the room was taken
+        Err(_) => unreachable!(),
+    }
+}
+
+impl FrameRoom {
+    /// Room for a frame of this size. Fails only for want of memory.
+    pub fn for_frame(alloc: Global, dims: Dims) -> Result<FrameRoom, Memory>
+        requires size { IsSize dims }
+        ensures value { IfOk result (λ r. r ≡ dims) }
+    {
+        let macroblocks = dims.mb_rows as usize * dims.mb_width as usize;
+        Ok(FrameRoom {
+            dims,
+            luma: Vec::with_capacity(alloc, 256 * macroblocks)?,
+            cb: Vec::with_capacity(alloc, 64 * macroblocks)?,
+            cr: Vec::with_capacity(alloc, 64 * macroblocks)?,
+        })
+    }
+
+    /// A frame of samples 0 in this room.
+    pub fn blank(self) -> Frame
+        ensures value { result ≡ blank self self.mb_rows }
+    {
+        let FrameRoom { dims, luma, cb, cr } = self;
+        let macroblocks = dims.mb_rows as usize * dims.mb_width as usize;
+        Frame {
+            dims,
+            luma: filled(luma, 256 * macroblocks),
+            cb: filled(cb, 64 * macroblocks),
+            cr: filled(cr, 64 * macroblocks),
+        }
+    }
+}
+
 impl Frame {
     /// A frame of samples 0.
     pub fn blank(alloc: Global, dims: Dims) -> Result<Frame, Memory>
         requires size { IsSize dims }
         ensures value { IfOk result (λ f. f ≡ blank dims dims.mb_rows) }
     {
-        let (lines, columns) = (dims.mb_rows as usize, dims.mb_width as usize);
-        let chroma = 8 * lines * (8 * columns);
-        Ok(Frame {
-            dims,
-            luma: vec![in alloc; 0; 16 * lines * (16 * columns)]?,
-            cb: vec![in alloc; 0; chroma]?,
-            cr: vec![in alloc; 0; chroma]?,
-        })
+        Ok(FrameRoom::for_frame(alloc, dims)?.blank())
     }
 
     /// The same frame once more.

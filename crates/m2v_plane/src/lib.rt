@@ -12,7 +12,7 @@ mod view;
 
 pub use dims::{Dims, bytes_of};
 pub use fields::FieldView;
-pub use frame::Frame;
+pub use frame::{Frame, FrameRoom};
 pub use laws::{law_crop_pad, law_raw_cut};
 pub use planes::{Lines, Plane};
 pub use row::{RowRoom, RowSamples};
