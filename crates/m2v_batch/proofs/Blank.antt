@@ -63,12 +63,13 @@ get_replicate (suc n) zero = refl
 get_replicate (suc n) (suc i) = get_replicate n i
 
 pub blank_fits : (b : Batch) (c : Cached) (n : ℕ) → IsBatch b → c.rows ≡ replicate n Unknown → n ≡ first_job (headers b) (length (headers b)) → length c.frames ≡ length (headers b)
-    → ((p : ℕ) → p < length (headers b) → get_or c.frames p None ≡ slot b no_rows p) → FitsCache b c
-blank_fits b c n h rows count slots each = record {
+    → ((p : ℕ) → p < length (headers b) → get_or c.frames p None ≡ slot b no_rows p) → c.blank ≡ Some (blank b.dims b.dims.mb_rows) → FitsCache b c
+blank_fits b c n h rows count slots each zeros = record {
   states = ap (λ (l : List RowState). length l) rows ∙ length-replicate n Unknown ∙ count;
   slots = slots;
   each_state = λ j. inl (unknown j);
   each_frame = λ p lt. each p lt ∙ ap (λ (f : Samples). cond (is_read (headers b) p) (Some f) None) (frame_same b no_rows (known b c) p h (λ j le end. sym (ap (λ (s : RowState). known_by s (row_of (value_of b j))) (unknown j))));
+  blank = zeros;
 }
   where
     unknown : (j : ℕ) → state_at c j ≡ Unknown

@@ -131,7 +131,7 @@ abbrev learned_states : Batch → ℕ → Cached → List RowState
 learned_states b i c = slice_set c.rows i (state_of (row_of (value_of b i)))
 
 abbrev with_state : Batch → ℕ → Cached → slots → Cached
-with_state b i c frames = record { frames = frames; rows = learned_states b i c }
+with_state b i c frames = record c { frames = frames; rows = learned_states b i c }
 
 pub known_row : (row : Option Samples) → known_by (state_of row) row ≡ row
 known_row None = refl
@@ -170,6 +170,7 @@ missing_fits b i c h lt unknown none fits = record {
   each_frame = λ p below.
       fits.each_frame p below
       ∙ ap (λ (f : Samples). cond (is_read (headers b) p) (Some f) None) (frame_same b (known b c) (known b (with_state b i c c.frames)) p h (λ j le end. same j));
+  blank = fits.blank;
 }
   where
     same : (j : ℕ) → known b c j ≡ known b (with_state b i c c.frames) j
@@ -251,6 +252,7 @@ rebuilt_fits b i q r xs c h job unknown lt is fits =
       slots = both_length (headers b) q r xs c.frames ∙ fits.slots;
       each_state = states_fit b i c frames lt fits;
       each_frame = λ p below. rebuilt_frame b i q r p xs c h job fits adds below;
+      blank = fits.blank;
     }
 
 pub job_is : (hs : Headers) (i : ℕ) → i < first_job hs (length hs) → IsJob hs i (picture_of_job hs i) (row_of_job hs i)
@@ -265,13 +267,13 @@ job_is hs i lt = record {
     some_there (suc n) small = omega arith
 
 by_row : (b : Batch) (i : ℕ) (o : Option Samples) (c : Cached) → IsBatch b → i < first_job (headers b) (length (headers b)) → row_of (value_of b i) ≡ o → state_at c i ≡ Unknown → FitsCache b c
-    → FitsCache b (record { frames = frames_learned (headers b) i o c.frames; rows = slice_set c.rows i (state_of o) })
+    → FitsCache b (record c { frames = frames_learned (headers b) i o c.frames; rows = slice_set c.rows i (state_of o) })
 unfolding frames_learned
 by_row b i None c h lt is unknown fits =
-    subst (λ (o : Option Samples). FitsCache b (record { frames = c.frames; rows = slice_set c.rows i (state_of o) })) is
+    subst (λ (o : Option Samples). FitsCache b (record c { frames = c.frames; rows = slice_set c.rows i (state_of o) })) is
     (missing_fits b i c h (omega (arith, lt, fits.states)) unknown is fits)
 by_row b i (Some xs) c h lt is unknown fits =
-    subst (λ (o : Option Samples). FitsCache b (record { frames = set_both (headers b) (picture_of_job (headers b) i) (row_of_job (headers b) i) xs c.frames; rows = slice_set c.rows i (state_of o) })) is
+    subst (λ (o : Option Samples). FitsCache b (record c { frames = set_both (headers b) (picture_of_job (headers b) i) (row_of_job (headers b) i) xs c.frames; rows = slice_set c.rows i (state_of o) })) is
     (rebuilt_fits b i (picture_of_job (headers b) i) (row_of_job (headers b) i) xs c h (job_is (headers b) i lt) unknown (omega (arith, lt, fits.states)) is fits)
 
 -- a cache that has learned a row fits
@@ -332,6 +334,11 @@ fits_sized b c h fits p = elim (cases_lt p (length (headers b))) [
   | inr le ↦ subst (λ (o : Option Samples). IfSome o (λ f. f.dims ≡ b.dims)) (sym (get_or_past c.frames p None (omega (arith, le, fits.slots)))) tt
 ]
 
+-- a frame of samples 0 has the size of each frame of a cache
+pub blank_by : (o : Option Samples) (d : Dims) (zeros : Option Samples) → IfSome o (λ f. f.dims ≡ d) → zeros ≡ Some (blank d d.mb_rows) → IfSome o (λ f. zeros ≡ Some (blank f.dims f.dims.mb_rows))
+blank_by None d zeros h e = tt
+blank_by (Some f) d zeros h e = e ∙ ap (λ (x : Dims). Some (blank x x.mb_rows)) (sym h)
+
 pub missing_learned : (hs : Headers) (i : ℕ) (row : Option Samples) (c d : Cached) → None ≡ row → d ≡ record c { rows = slice_set c.rows i Missing } → d ≡ row_learned hs i row c Unknown
 unfolding row_learned frames_learned
 missing_learned hs i row c d e is = is ∙ ap (λ (o : Option Samples). row_learned hs i o c Unknown) e
@@ -342,6 +349,6 @@ unfolding row_learned frames_learned
 rebuilt_learned hs i q r xs row c d e some eq er ed ee =
     ee
     ∙ ap (λ (x : Cached). record x { frames = set_both hs q r xs x.frames }) ed
-    ∙ ap (λ (k : ℕ). record { frames = set_both hs k r xs c.frames; rows = slice_set c.rows i Rebuilt }) eq
-    ∙ ap (λ (k : ℕ). record { frames = set_both hs (picture_of_job hs i) k xs c.frames; rows = slice_set c.rows i Rebuilt }) er
+    ∙ ap (λ (k : ℕ). record c { frames = set_both hs k r xs c.frames; rows = slice_set c.rows i Rebuilt }) eq
+    ∙ ap (λ (k : ℕ). record c { frames = set_both hs (picture_of_job hs i) k xs c.frames; rows = slice_set c.rows i Rebuilt }) er
     ∙ ap (λ (o : Option Samples). row_learned hs i o c Unknown) some

@@ -135,9 +135,6 @@ job_within hs (suc n) j lt =
 pub first_next : (hs : Headers) (p : ℕ) → first_job hs (p + 1) ≡ first_job hs p + (header_at hs p).rows
 first_next hs p = ap (first_job hs) (let e : p + 1 ≡ suc p = omega arith in e) ∙ first_more hs p
 
-pub first_before : (hs : Headers) (p : ℕ) → 0 < p → first_job hs p ≡ first_job hs (p - 1) + (header_at hs (p - 1)).rows
-first_before hs p some = ap (first_job hs) (let e : p ≡ suc (p - 1) = omega arith in e) ∙ first_more hs (p - 1)
-
 -- the row of a job is one of its picture
 pub row_within : (hs : Headers) (j : ℕ) → j < first_job hs (length hs) → j - first_job hs (picture_among hs (length hs) j) < (header_at hs (picture_among hs (length hs) j)).rows
 row_within hs j lt =

@@ -10,6 +10,7 @@ use Rattle.std.proofs.lemmas.List.FromFn.{length-range_with_len, get_or-range_wi
 use Rattle.m2v_batch.specs.declared.picture.FramePlace.{FramePlace}
 use Rattle.m2v_batch.specs.declared.picture.FramePlace.TheVariants.{Older, Newer, Waiting, Behind}
 use Rattle.m2v_batch.specs.declared.picture.Reads.{Reads}
+use Rattle.m2v_batch.specs.declared.reads.Before.{Before}
 use Rattle.m2v_batch.specs.Jobs.{Headers, header_at, first_job, picture_among, picture_of_job, ends_anchor, newer_before, older_before, first_field, read_by, frame_begin, frame_from, frame_count, jobs_behind, jobs_at, needs_of, are_small, jobs_of}
 
 -- ---- first jobs
@@ -43,6 +44,45 @@ from_below hs q = first_upto hs (frame_begin hs q) q (begin_below hs q)
 
 -- ---- places
 
+-- what holds of the frame that stands there, where one does
+unfoldable pub MayBe : (FramePlace → Type 0) → Option FramePlace → Type 0
+MayBe P None = Unit {0}
+MayBe P (Some x) = P x
+
+-- what holds of the last anchor before the batch, and of each in it, holds of the last one before a picture
+pub newer_all : (P : FramePlace → Type 0) (hs : Headers) (p : ℕ) → P Newer → ((q : ℕ) → q < p → ends_anchor (header_at hs q) ≡ true → P (Behind q)) → P (newer_before hs p)
+unfolding newer_before
+newer_all P hs zero newer each = newer
+newer_all P hs (suc p) newer each =
+    cond_both (ends_anchor (header_at hs p)) (Behind p) (newer_before hs p) P (λ e. each p (omega arith) e) (λ e. newer_all P hs p newer (λ q lt. each q (omega (arith, lt))))
+
+-- and of the last one but one
+pub older_all : (P : FramePlace → Type 0) (hs : Headers) (p : ℕ) → P Older → P Newer → ((q : ℕ) → q < p → ends_anchor (header_at hs q) ≡ true → P (Behind q)) → P (older_before hs p)
+unfolding older_before
+older_all P hs zero older newer each = older
+older_all P hs (suc p) older newer each =
+    let below = λ (q : ℕ) (lt : q < p). each q (omega (arith, lt)) in
+    cond_both (ends_anchor (header_at hs p)) (newer_before hs p) (older_before hs p) P (λ e. newer_all P hs p newer below) (λ e. older_all P hs p older newer below)
+
+-- what holds of both frames that a picture reads
+pub record ReadsAll (P : FramePlace → Type 0) (r : Reads) : Type 0 where
+  pub forward : MayBe P r.forward
+  pub other : MayBe P r.other
+
+by_tests : (P : FramePlace → Type 0) (intra both second : Bool) (x y z : FramePlace) → P x → P y → (second ≡ true → P z)
+    → ReadsAll P (cond intra (record { forward = None; other = None }) (cond both (record { forward = Some x; other = Some y }) (record { forward = Some y; other = cond second (Some z) None })))
+unfolding MayBe
+by_tests P true both second x y z h k l = record { forward = tt; other = tt }
+by_tests P false true second x y z h k l = record { forward = h; other = k }
+by_tests P false false true x y z h k l = record { forward = k; other = l refl }
+by_tests P false false false x y z h k l = record { forward = k; other = tt }
+
+pub reads_all : (P : FramePlace → Type 0) (hs : Headers) (p : ℕ) → P (older_before hs p) → P (newer_before hs p) → ((header_at hs p).second ≡ true → P (first_field p)) → ReadsAll P (read_by hs p)
+unfolding read_by
+reads_all P hs p older newer first =
+    let h = header_at hs p in
+    by_tests P (nat_eq h.kind 1) (nat_eq h.kind 3) h.second (older_before hs p) (newer_before hs p) (first_field p) older newer first
+
 -- a frame stands before the batch, or behind a picture that comes before
 unfoldable pub ComesBefore : ℕ → FramePlace → Type 0
 ComesBefore p Older = Unit {0}
@@ -50,32 +90,13 @@ ComesBefore p Newer = Unit {0}
 ComesBefore p Waiting = Unit {0}
 ComesBefore p (Behind q) = q < p
 
-unfoldable pub MayComeBefore : ℕ → Option FramePlace → Type 0
-MayComeBefore p None = Unit {0}
-MayComeBefore p (Some x) = ComesBefore p x
-
-later : (p : ℕ) (x : FramePlace) → ComesBefore p x → ComesBefore (suc p) x
-unfolding ComesBefore
-later p Older h = tt
-later p Newer h = tt
-later p Waiting h = tt
-later p (Behind q) h = omega (arith, h)
-
-behind_before : (p : ℕ) → ComesBefore (suc p) (Behind p)
-unfolding ComesBefore
-behind_before p = omega arith
-
 pub newer_comes : (hs : Headers) (p : ℕ) → ComesBefore p (newer_before hs p)
-unfolding newer_before ComesBefore
-newer_comes hs zero = tt
-newer_comes hs (suc p) =
-    cond_both (ends_anchor (header_at hs p)) (Behind p) (newer_before hs p) (ComesBefore (suc p)) (λ e. behind_before p) (λ e. later p (newer_before hs p) (newer_comes hs p))
+unfolding ComesBefore
+newer_comes hs p = newer_all (ComesBefore p) hs p tt (λ q lt e. lt)
 
 pub older_comes : (hs : Headers) (p : ℕ) → ComesBefore p (older_before hs p)
-unfolding older_before ComesBefore
-older_comes hs zero = tt
-older_comes hs (suc p) =
-    cond_both (ends_anchor (header_at hs p)) (newer_before hs p) (older_before hs p) (ComesBefore (suc p)) (λ e. later p (newer_before hs p) (newer_comes hs p)) (λ e. later p (older_before hs p) (older_comes hs p))
+unfolding ComesBefore
+older_comes hs p = older_all (ComesBefore p) hs p tt tt (λ q lt e. lt)
 
 pub field_comes : (p : ℕ) → ComesBefore p (first_field p)
 unfolding first_field ComesBefore
@@ -83,40 +104,14 @@ field_comes zero = tt
 field_comes (suc p) = omega arith
 
 -- what a picture reads comes before it
-pub record ReadsBefore (p : ℕ) (r : Reads) : Type 0 where
-  pub forward : MayComeBefore p r.forward
-  pub other : MayComeBefore p r.other
+pub reads_before : (hs : Headers) (p : ℕ) → ReadsAll (ComesBefore p) (read_by hs p)
+reads_before hs p = reads_all (ComesBefore p) hs p (older_comes hs p) (newer_comes hs p) (λ e. field_comes p)
 
-abbrev one : FramePlace → Reads
-one x = record { forward = Some x; other = None }
-
-abbrev two : FramePlace → FramePlace → Reads
-two x y = record { forward = Some x; other = Some y }
-
-two_before : (p : ℕ) (x y : FramePlace) → ComesBefore p x → ComesBefore p y → ReadsBefore p (two x y)
-unfolding MayComeBefore
-two_before p x y h k = record { forward = h; other = k }
-
-one_before : (p : ℕ) (x : FramePlace) → ComesBefore p x → ReadsBefore p (one x)
-unfolding MayComeBefore
-one_before p x h = record { forward = h; other = tt }
-
-none_before : (p : ℕ) → ReadsBefore p (record { forward = None; other = None })
-unfolding MayComeBefore
-none_before p = record { forward = tt; other = tt }
-
-by_tests : (p : ℕ) (intra both second : Bool) (x y z : FramePlace) → ComesBefore p x → ComesBefore p y → ComesBefore p z
-    → ReadsBefore p (cond intra (record { forward = None; other = None }) (cond both (two x y) (record { forward = Some y; other = cond second (Some z) None })))
-by_tests p true both second x y z h k l = none_before p
-by_tests p false true second x y z h k l = two_before p x y h k
-by_tests p false false true x y z h k l = two_before p y z k l
-by_tests p false false false x y z h k l = one_before p y k
-
-pub reads_before : (hs : Headers) (p : ℕ) → ReadsBefore p (read_by hs p)
-unfolding read_by
-reads_before hs p =
-    let h = header_at hs p in
-    by_tests p (nat_eq h.kind 1) (nat_eq h.kind 3) h.second (older_before hs p) (newer_before hs p) (first_field p) (older_comes hs p) (newer_comes hs p) (field_comes p)
+-- what is looked up of the pictures before one
+pub record IsBefore (hs : Headers) (p : ℕ) (x : Before) : Type 0 where
+  pub jobs : x.jobs ≡ first_job hs p
+  pub older : x.older ≡ older_before hs p
+  pub newer : x.newer ≡ newer_before hs p
 
 -- ---- needs are below
 
@@ -130,13 +125,21 @@ behind_below hs p q lt =
     all_range (λ i. i < first_job hs p) (frame_from hs q) (frame_count hs q)
     (λ i small. omega (arith, small, first_upto hs (suc q) p (omega (arith, lt))))
 
-jobs_below : (hs : Headers) (p : ℕ) (x : Option FramePlace) → MayComeBefore p x → All (λ i. i < first_job hs p) (jobs_at hs x)
-unfolding MayComeBefore ComesBefore jobs_at
-jobs_below hs p None h = All-nil (λ i. i < first_job hs p)
-jobs_below hs p (Some Older) h = All-nil (λ i. i < first_job hs p)
-jobs_below hs p (Some Newer) h = All-nil (λ i. i < first_job hs p)
-jobs_below hs p (Some Waiting) h = All-nil (λ i. i < first_job hs p)
-jobs_below hs p (Some (Behind q)) h = behind_below hs p q h
+-- what holds of the rows behind a picture holds of those of a frame
+pub jobs_all : (Q : ℕ → Type 0) (P : FramePlace → Type 0) (hs : Headers) (x : Option FramePlace) → ((q : ℕ) → P (Behind q) → All Q (jobs_behind hs q)) → MayBe P x → All Q (jobs_at hs x)
+unfolding MayBe jobs_at
+jobs_all Q P hs None each h = All-nil Q
+jobs_all Q P hs (Some Older) each h = All-nil Q
+jobs_all Q P hs (Some Newer) each h = All-nil Q
+jobs_all Q P hs (Some Waiting) each h = All-nil Q
+jobs_all Q P hs (Some (Behind q)) each h = each q h
+
+-- and then, where it holds of both frames that its picture reads, of the needs of a job
+pub needs_all : (Q : ℕ → Type 0) (P : FramePlace → Type 0) (hs : Headers) (j : ℕ) → ((q : ℕ) → P (Behind q) → All Q (jobs_behind hs q)) → ReadsAll P (read_by hs (picture_of_job hs j)) → All Q (needs_of hs j)
+unfolding needs_of
+needs_all Q P hs j each r =
+    let reads = read_by hs (picture_of_job hs j) in
+    All-append Q (jobs_at hs reads.forward) (jobs_at hs reads.other) (jobs_all Q P hs reads.forward each r.forward) (jobs_all Q P hs reads.other each r.other)
 
 -- a job isn't before the first job of its picture
 pub picture_upto : (hs : Headers) (n j : ℕ) → first_job hs (picture_among hs n j) ≤ j
@@ -147,11 +150,10 @@ picture_upto hs (suc n) j =
 
 -- the needs of a job come before the first job of its picture
 pub needs_before : (hs : Headers) (j : ℕ) → All (λ i. i < first_job hs (picture_of_job hs j)) (needs_of hs j)
-unfolding needs_of
+unfolding ComesBefore
 needs_before hs j =
     let p = picture_of_job hs j in
-    let r = reads_before hs p in
-    All-append (λ i. i < first_job hs p) (jobs_at hs (read_by hs p).forward) (jobs_at hs (read_by hs p).other) (jobs_below hs p (read_by hs p).forward r.forward) (jobs_below hs p (read_by hs p).other r.other)
+    needs_all (λ i. i < first_job hs p) (ComesBefore p) hs j (λ q lt. behind_below hs p q lt) (reads_before hs p)
 
 pub needs_below : (hs : Headers) (j : ℕ) → All (λ i. i < j) (needs_of hs j)
 needs_below hs j i d lt = omega (arith, needs_before hs j i d lt, picture_upto hs (length hs) j)
@@ -184,8 +186,8 @@ frame_small hs q e lt =
     let at = get_or-range_with_len 0 (length hs) q 0 lt ∙ from in
     leb-true (frame_count hs q) 72 (subst (λ (i : ℕ). small i ≡ true) at is)
 
-pub jobs_few : (hs : Headers) (p : ℕ) (x : Option FramePlace) → are_small hs ≡ true → p ≤ length hs → MayComeBefore p x → length (jobs_at hs x) ≤ 72
-unfolding MayComeBefore ComesBefore jobs_at
+pub jobs_few : (hs : Headers) (p : ℕ) (x : Option FramePlace) → are_small hs ≡ true → p ≤ length hs → MayBe (ComesBefore p) x → length (jobs_at hs x) ≤ 72
+unfolding MayBe ComesBefore jobs_at
 jobs_few hs p None e le h = omega arith
 jobs_few hs p (Some Older) e le h = omega arith
 jobs_few hs p (Some Newer) e le h = omega arith

@@ -2,7 +2,7 @@
 use Rattle.std.specs.Prelude.{ℕ, zero, suc, ◌≡◌, ◌<◌, ◌⊎◌, Bool, true, false, ◌||◌, nat_eq, if◌then◌else◌, List, length, slice_index, slice_index_or, slice_set, Option, Some, None, IfSome}
 use Rattle.m2v_plane.specs.declared.dims.Dims.{Dims}
 use Rattle.std.specs.Option.{option_map}
-use Rattle.m2v_plane.specs.Samples.{Samples, with_row}
+use Rattle.m2v_plane.specs.Samples.{Samples, blank, with_row}
 use Rattle.m2v_pred.specs.Motion.{own_lines}
 use Rattle.m2v_batch.specs.declared.cache.RowState.{RowState}
 use Rattle.m2v_batch.specs.declared.cache.RowState.TheVariants.{Unknown, Missing, Rebuilt}
@@ -15,10 +15,11 @@ use Rattle.m2v_batch.specs.Pieces.{row_of, SharedRow}
 use Rattle.m2v_batch.specs.Values.{value_of}
 
 -- what contracts see of a cache: the frames behind the pictures, as far as their rows were learned, where a picture of the
--- batch is predicted from them; and of each job whether it was learned, and whether its row is rebuilt
+-- batch is predicted from them; of each job whether it was learned, and whether its row is rebuilt; and a frame of samples 0
 pub record Cached : Type 0 where
   pub frames : List (Option Samples)
   pub rows : List RowState
+  pub blank : Option Samples
 
 abbrev pub state_at : Cached → ℕ → RowState
 state_at c i = slice_index_or c.rows i Unknown
@@ -62,7 +63,7 @@ frames_learned hs i (Some xs) frames = set_both hs (picture_of_job hs i) (row_of
 
 -- a row is learned once
 unfoldable pub row_learned : Headers → ℕ → Option Samples → Cached → RowState → Cached
-row_learned hs i row c Unknown = record {
+row_learned hs i row c Unknown = record c {
   frames = frames_learned hs i row c.frames;
   rows = slice_set c.rows i (state_of row);
 }
@@ -114,6 +115,7 @@ pub record FitsCache (b : Batch) (c : Cached) : Type 0 where
   pub slots : length c.frames ≡ length (headers b)
   pub each_state : (j : ℕ) → (state_at c j ≡ Unknown) ⊎ (state_at c j ≡ state_of (row_of (value_of b j)))
   pub each_frame : (p : ℕ) → p < length (headers b) → frame_in c p ≡ slot b (known b c) p
+  pub blank : c.blank ≡ Some (blank b.dims b.dims.mb_rows)
 
 -- all frames that a cache has are of a size
 abbrev pub AreSized : Dims → Cached → Type 0

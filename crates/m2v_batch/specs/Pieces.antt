@@ -1,9 +1,11 @@
 -- What comes of a row, and what others learn of it, as contracts see it.
-use Rattle.std.specs.Prelude.{ℕ, Bool, true, false, Option, Some, None}
+use Rattle.std.specs.Prelude.{ℕ, ◌≡◌, ⊤, Bool, true, false, Option, Some, None}
 use Rattle.m2v_plane.specs.declared.dims.Dims.{Dims}
-use Rattle.m2v_plane.specs.Samples.{Samples}
+use Rattle.m2v_plane.specs.Samples.{Samples, blank}
 use Rattle.m2v_batch.specs.declared.pieces.DecodePiece.{DecodePiece}
 use Rattle.m2v_batch.specs.declared.pieces.DecodePiece.TheVariants.{Unread, After, Faulty, Rebuilt}
+use Rattle.m2v_batch.specs.declared.pieces.Kept.{Kept}
+use Rattle.m2v_batch.specs.declared.pieces.Kept.TheVariants.{Nothing, Room, Row}
 
 -- the samples of a row that is rebuilt
 abbrev pub row_of : DecodePiece → Option Samples
@@ -25,3 +27,27 @@ pub record SharedRow : Type 0 where
   pub holds : Bool
   pub row : Option Samples
   pub told : ℕ
+
+-- ---- what a shared part keeps
+
+abbrev pub keeps : Kept → Bool
+keeps Nothing = false
+keeps (Room d) = true
+keeps (Row xs) = true
+
+abbrev pub row_kept : Kept → Option Samples
+row_kept Nothing = None
+row_kept (Room d) = None
+row_kept (Row xs) = Some xs
+
+abbrev pub IsKeptFor : Dims → Kept → Type 0
+IsKeptFor d Nothing = ⊤
+IsKeptFor d (Room e) = e ≡ d
+IsKeptFor d (Row xs) = xs.dims ≡ d
+
+-- ---- what a cache keeps
+
+-- the frame of a slot: where there is room for it alone, its samples are 0
+abbrev pub held : Option Dims → Option Samples → Option Samples
+held (Some d) frame = Some (blank d d.mb_rows)
+held None frame = frame

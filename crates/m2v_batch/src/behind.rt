@@ -141,7 +141,7 @@ impl DecodeBook {
         ensures newer { IfOk result (λ f. f.newer ≡ newer_behind self.now) }
         ensures none { IfOk result (λ f. f.waiting ≡ None) }
     {
-        let anchors = self.anchors_before(self.pictures());
+        let anchors = self.before(self.pictures());
         let older = self.frame_by(alloc, anchors.older, done)?;
         let newer = self.frame_by(alloc, anchors.newer, done)?;
         Ok(FramesAtHand {

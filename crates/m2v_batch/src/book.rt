@@ -4,8 +4,10 @@ ghost use Rattle.m2v_plane.specs.Sizes.{IsSize};
 ghost use Rattle.m2v_plane.specs.Samples.{Samples};
 ghost use Rattle.m2v_batch.specs.Jobs.{header_at, first_job, picture_of_job, row_of_job, jobs_of};
 ghost use Rattle.m2v_batch.specs.Batches.{Batch, headers, header_of, IsBatch};
+ghost use Rattle.m2v_batch.specs.Below.{IsBefore};
 
 use crate::picture::{BatchPicture, Header, header_of};
+use crate::reads::{Before, before_each};
 use m2v_picture::FramesAtHand;
 use m2v_plane::{Dims, Frame};
 use std::marker::Model;
@@ -30,10 +32,15 @@ pub struct DecodeBook {
     older: Option<Frame>,
     newer: Option<Frame>,
     waiting: Option<Frame>,
+    // what stands before each picture, and behind the last one
+    before: [Before; 17],
 }
 
 impl Model for DecodeBook {
-    ghost use Rattle.m2v_batch.specs.Batches.{Batch, IsBatch};
+    ghost use Rattle.std.specs.Prelude.{ℕ, ◌≤◌, map, length, slice_index_or};
+    ghost use Rattle.m2v_batch.specs.declared.reads.Before.{Before};
+    ghost use Rattle.m2v_batch.specs.Batches.{Batch, header_of, IsBatch};
+    ghost use Rattle.m2v_batch.specs.Below.{IsBefore};
 
     ghost Value = { Batch };
 
@@ -51,7 +58,8 @@ impl Model for DecodeBook {
       older = b.older;
       newer = b.newer;
       waiting = b.waiting;
-    }) };
+    }) × ((p : ℕ) (d : Before) → p ≤ length b.pictures.items
+        → IsBefore (map header_of b.pictures.items) p (slice_index_or b.before p d)) };
 }
 
 impl DecodeBook {
@@ -80,12 +88,14 @@ impl DecodeBook {
             newer,
             waiting,
         } = frames;
+        let before = before_each(&pictures);
         DecodeBook {
             dims,
             pictures,
             older,
             newer,
             waiting,
+            before,
         }
     }
 
@@ -104,6 +114,7 @@ impl DecodeBook {
             older,
             newer,
             waiting,
+            before: _,
         } = self;
         BatchParts {
             pictures,
@@ -178,19 +189,23 @@ impl DecodeBook {
         header_of(&self.pictures[p as usize].opened)
     }
 
+    /// What stands before a picture, or behind the last one.
+    pub(crate) fn before(&self, p: u32) -> Before
+        requires picture { p ≤ length (headers self.now) }
+        ensures value { IsBefore (headers self.now) p result }
+    {
+        self.before[p as usize]
+    }
+
     /// The first job of a picture; the number of jobs behind the last one.
     pub fn first_job(&self, p: u32) -> u32
         requires picture { p ≤ length (headers self.now) }
         ensures value { result ≡ first_job (headers self.now) p }
         ensures most { result ≤ 72 * p }
     {
-        // there are at most 16 pictures
-        let _pictures = self.pictures();
-        let mut first = 0;
-        for q in 0..p {
-            first += self.header(q).rows;
-        }
-        first
+        // what is known of a batch
+        let _batch = self.pictures();
+        self.before(p).jobs
     }
 
     /// The picture that a job belongs to.
@@ -200,10 +215,8 @@ impl DecodeBook {
         ensures picture { result < length (headers self.now) }
     {
         let mut p = self.pictures();
-        let mut first = self.first_job(p);
-        while first > j {
+        while self.before(p).jobs > j {
             p -= 1;
-            first -= self.header(p).rows;
         }
         p
     }

@@ -7,11 +7,11 @@ ghost use Rattle.m2v_batch.specs.Values.{shared_of};
 ghost use Rattle.m2v_batch.specs.Learned.{set_both, row_learned, is_behind, is_read, slot, FitsCache, AreSized};
 
 use crate::book::DecodeBook;
-use crate::cache::{DecodeCache, RowState};
+use crate::cache::{DecodeCache, RowState, Slot};
 use crate::picture::FramePlace;
 use crate::pieces::DecodeShared;
 use m2v_core::Memory;
-use m2v_plane::{Frame, RowSamples};
+use m2v_plane::{Frame, FrameRoom, RowSamples};
 use m2v_pred::own_lines;
 use std::alloc::Global;
 
@@ -98,21 +98,34 @@ impl DecodeBook {
         Frame::blank(alloc, self.dims())
     }
 
-    /// The frame behind a picture, where one is predicted from it.
-    fn blank_slot(&self, alloc: Global, p: u32) -> Result<Option<Frame>, Memory>
+    /// The slot of the frame behind a picture, before any of its rows was learned: room, if it has no first field before the
+    /// batch.
+    fn begun_slot(&self, alloc: Global, p: u32) -> Result<Slot, Memory>
         requires picture { p < length (headers self.now) }
-        ensures value { IfOk result (λ f. f ≡ slot self.now no_rows p) }
+        ensures value { IfOk result (λ s. s ≡ Some (frame_behind self.now no_rows p)) }
+    {
+        if p == 0 && self.is_second(0) {
+            let frame = self.waiting_frame(alloc)?;
+            return Ok(Slot::of(Some(frame)));
+        }
+        let room = FrameRoom::for_frame(alloc, self.dims())?;
+        Ok(Slot::in_room(room))
+    }
+
+    /// The slot of the frame behind a picture, where one is predicted from it.
+    fn blank_slot(&self, alloc: Global, p: u32) -> Result<Slot, Memory>
+        requires picture { p < length (headers self.now) }
+        ensures value { IfOk result (λ s. s ≡ slot self.now no_rows p) }
     {
         if self.is_read(p) {
-            let frame = self.blank_frame(alloc, p)?;
-            Ok(Some(frame))
+            self.begun_slot(alloc, p)
         } else {
-            Ok(None)
+            Ok(Slot::of(None))
         }
     }
 
     /// The frames of a cache that has learned nothing yet.
-    fn blank_frames(&self, alloc: Global) -> Result<Vec<Option<Frame>>, Memory>
+    fn blank_frames(&self, alloc: Global) -> Result<Vec<Slot>, Memory>
         ensures count { IfOk result (λ v. length v.items ≡ length (headers self.now)) }
         ensures each { IfOk result (λ v. (p : ℕ) → p < length (headers self.now)
             → slice_index_or v.items p None ≡ slot self.now no_rows p) }
@@ -131,7 +144,12 @@ impl DecodeBook {
     {
         let rows = unknown_rows(alloc, self.first_job(self.pictures()))?;
         let frames = self.blank_frames(alloc)?;
-        Ok(DecodeCache { frames, rows })
+        let blank = Frame::blank(alloc, self.dims())?;
+        Ok(DecodeCache {
+            frames,
+            rows,
+            blank: Some(blank),
+        })
     }
 
     /// Sets a row of a picture into the frames that it is a row of.

@@ -2,7 +2,7 @@
 ghost use Rattle.std.specs.Prelude.{◌≡◌, ◌≤◌, ◌*◌, ◌^◌, IfOk, IfSome, Some, None, Option, if◌then◌else◌, true, length, sum};
 ghost use Rattle.m2v_plane.specs.Sizes.{IsSize, side};
 ghost use Rattle.std.specs.Option.{option_map};
-ghost use Rattle.m2v_batch.specs.Pieces.{row_of};
+ghost use Rattle.m2v_batch.specs.Pieces.{row_of, IsKeptFor, keeps, row_kept};
 ghost use Rattle.m2v_batch.specs.Values.{lines_sum, samples_sum, shared_by};
 
 use m2v_core::Memory;
@@ -10,6 +10,7 @@ use m2v_piece::Fault;
 use m2v_plane::{Dims, Plane, RowRoom, RowSamples};
 use std::alloc::Global;
 use std::marker::Model;
+use std::mem;
 
 /// What a job makes.
 #[derive(Drop)]
@@ -24,35 +25,60 @@ pub enum DecodePiece {
     Rebuilt(RowSamples),
 }
 
-/// What other jobs learn of a job: the samples of its row, where it holds samples and the row is rebuilt, and what a gate is told.
-/// Contracts see whether it holds samples, and these.
+/// The samples of a row that others learn of.
+#[derive(Drop)]
+pub enum Kept {
+    /// None are kept: no picture is predicted from the row's.
+    Nothing,
+    /// Room for them, until the first row is taken.
+    Room(RowRoom),
+    /// The samples of the last row that was taken.
+    Row(RowSamples),
+}
+
+impl Kept {
+    /// Takes the samples of a row, if any are kept.
+    fn take(self, row: &RowSamples) -> Kept
+        requires size { IsKeptFor row.now.dims self }
+        ensures size { IsKeptFor row.now.dims result }
+        ensures keeps { keeps result ≡ keeps self }
+        ensures value { row_kept result ≡ (if keeps self then Some row.now else None) }
+    {
+        match self {
+            Kept::Nothing => Kept::Nothing,
+            Kept::Room(room) => Kept::Row(room.copy_of(row)),
+            Kept::Row(mut own) => {
+                own.copy_from(row);
+                Kept::Row(own)
+            }
+        }
+    }
+}
+
+/// What other jobs learn of a job: the samples of its row, where it holds samples and the row is rebuilt, and what a gate is
+/// told. Contracts see whether it holds samples, and these.
 #[derive(Drop)]
 pub struct DecodeShared {
     dims: Dims,
-    holds: bool,
     rebuilt: bool,
     told: u64,
-    // room for a row, until the first one is taken
-    room: Option<RowRoom>,
-    row: Option<RowSamples>,
+    kept: Kept,
 }
 
 impl Model for DecodeShared {
-    ghost use Rattle.std.specs.Prelude.{◌≡◌, IfSome, IsSome, IsNone, if◌then◌else◌, None, true, false};
-    ghost use Rattle.m2v_batch.specs.Pieces.{SharedRow};
+    ghost use Rattle.std.specs.Prelude.{if◌then◌else◌, None};
+    ghost use Rattle.m2v_batch.specs.Pieces.{SharedRow, IsKeptFor, keeps, row_kept};
 
     ghost Value = { SharedRow };
 
     ghost view = { λ s. record {
       dims = s.dims;
-      holds = s.holds;
-      row = if s.rebuilt then s.row else None;
+      holds = keeps s.kept;
+      row = if s.rebuilt then row_kept s.kept else None;
       told = s.told;
     } };
 
-    ghost invariant = { λ s. IfSome s.room (λ r. r ≡ s.dims) × IfSome s.row (λ r. r.dims ≡ s.dims)
-        × (s.rebuilt ≡ true → IsSome s.row) × (s.holds ≡ true → IsNone s.room → IsSome s.row)
-        × (s.holds ≡ false → s.rebuilt ≡ false) };
+    ghost invariant = { λ s. IsKeptFor s.dims s.kept };
 }
 
 impl DecodeShared {
@@ -62,35 +88,17 @@ impl DecodeShared {
         ensures size { IfOk result (λ s. s.dims ≡ dims) }
         ensures holds { IfOk result (λ s. s.holds ≡ holds) }
     {
-        let room = if holds {
-            Some(RowRoom::for_row(alloc, dims)?)
+        let kept = if holds {
+            Kept::Room(RowRoom::for_row(alloc, dims)?)
         } else {
-            None
+            Kept::Nothing
         };
         Ok(DecodeShared {
             dims,
-            holds,
             rebuilt: false,
             told: 0,
-            room,
-            row: None,
+            kept,
         })
-    }
-
-    /// Takes the samples of a row for frames of the same size.
-    fn take_row(&mut self, row: &RowSamples)
-        requires same { row.now.dims ≡ self.old.dims }
-        requires holds { self.old.holds ≡ true }
-        ensures value { self.new ≡ record self.old { row = Some row.now } }
-    {
-        match self.room.take() {
-            Some(room) => self.row = Some(room.copy_of(row)),
-            None => match &mut self.row {
-                Some(own) => own.copy_from(row),
-                None => unreachable!(),
-            },
-        }
-        self.rebuilt = true;
     }
 
     /// Takes what others learn of a piece for frames of the same size.
@@ -102,9 +110,8 @@ impl DecodeShared {
         match piece {
             DecodePiece::Rebuilt(row) => {
                 self.told = total_of(row);
-                if self.holds {
-                    self.take_row(row);
-                }
+                self.kept = mem::replace(&mut self.kept, Kept::Nothing).take(row);
+                self.rebuilt = true;
             }
             DecodePiece::Unread(_) | DecodePiece::After | DecodePiece::Faulty(_) => {
                 self.told = 0;
@@ -118,10 +125,9 @@ impl DecodeShared {
         ensures value { option_map (λ r. r.now) result ≡ self.now.row }
         ensures size { IfSome result (λ r. r.now.dims ≡ self.now.dims) }
     {
-        if self.rebuilt {
-            self.row.as_ref()
-        } else {
-            None
+        match &self.kept {
+            Kept::Row(row) if self.rebuilt => Some(row),
+            _ => None,
         }
     }
 

@@ -1,21 +1,33 @@
 //! What a picture is predicted from, and the jobs that a job stands on.
-ghost use Rattle.std.specs.Prelude.{◌≡◌, ◌+◌, ◌-◌, ◌*◌, ◌^◌, ◌<◌, ◌≤◌, ◌++◌, [], if◌then◌else◌, length, slice_index, Some};
+ghost use Rattle.std.specs.Prelude.{ℕ, ◌≡◌, ◌+◌, ◌-◌, ◌*◌, ◌^◌, ◌<◌, ◌≤◌, ◌++◌, [], if◌then◌else◌, map, length, slice_index, slice_index_or, Some};
 ghost use Rattle.m2v_batch.specs.declared.picture.FramePlace.TheVariants.{Behind};
 ghost use Rattle.std.specs.List.{range_with_len};
-ghost use Rattle.m2v_batch.specs.Jobs.{ends_anchor, newer_before, older_before, first_field as first_field_before, read_by, first_job, frame_begin, frame_from, frame_count, jobs_behind, jobs_at, needs_of, jobs_of};
-ghost use Rattle.m2v_batch.specs.Batches.{headers};
-ghost use Rattle.m2v_batch.specs.Below.{ComesBefore, MayComeBefore};
+ghost use Rattle.m2v_batch.specs.Jobs.{header_at, ends_anchor, newer_before, older_before, first_field as first_field_before, read_by, first_job, frame_begin, frame_from, frame_count, jobs_behind, jobs_at, needs_of, jobs_of};
+ghost use Rattle.m2v_batch.specs.declared.reads.Before.{Before};
+ghost use Rattle.m2v_batch.specs.Batches.{headers, header_of};
+ghost use Rattle.m2v_batch.specs.Below.{ComesBefore, MayBe, IsBefore};
 
 use crate::book::DecodeBook;
-use crate::picture::{FramePlace, Header, Reads};
+use crate::picture::{BatchPicture, FramePlace, Header, Reads, header_of};
 use m2v_core::NeedList;
 
-/// The last two anchors before a picture.
+/// What stands before a picture.
 #[derive(Clone, Copy)]
-pub(crate) struct Anchors {
+pub(crate) struct Before {
+    /// How many jobs there are.
+    pub(crate) jobs: u32,
+    /// The last anchor but one.
     pub(crate) older: FramePlace,
+    /// The last anchor.
     pub(crate) newer: FramePlace,
 }
+
+/// What stands before the first picture.
+const START: Before = Before {
+    jobs: 0,
+    older: FramePlace::Older,
+    newer: FramePlace::Newer,
+};
 
 /// Whether a picture that isn't B ends its frame.
 pub fn ends_anchor(h: Header) -> bool
@@ -24,19 +36,38 @@ pub fn ends_anchor(h: Header) -> bool
     h.kind != 3 && (h.structure == 3 || h.second)
 }
 
-/// The last two anchors behind picture q, by those before it.
-fn anchors_behind(before: Anchors, q: u32, h: Header) -> Anchors
+/// What stands behind picture q, by what stands before it.
+fn behind_picture(before: Before, q: u32, h: Header) -> Before
+    requires few { before.jobs ≤ 2 ^ 20 }
+    requires rows { h.rows ≤ 72 }
+    ensures jobs { result.jobs ≡ before.jobs + h.rows }
     ensures older { result.older ≡ (if ends_anchor h then before.newer else before.older) }
     ensures newer { result.newer ≡ (if ends_anchor h then Behind q else before.newer) }
 {
+    let jobs = before.jobs + h.rows;
     if ends_anchor(h) {
-        Anchors {
+        Before {
+            jobs,
             older: before.newer,
             newer: FramePlace::Behind(q),
         }
     } else {
-        before
+        Before { jobs, ..before }
     }
+}
+
+/// What stands before each of at most 16 pictures, and behind the last one. Each need of each job asks for it.
+pub(crate) fn before_each(pictures: &[BatchPicture]) -> [Before; 17]
+    requires few { length pictures.now ≤ 16 }
+    requires rows { (p : ℕ) → (header_at (map header_of pictures.now) p).rows ≤ 72 }
+    ensures each { (p : ℕ) (d : Before) → p ≤ length pictures.now
+        → IsBefore (map header_of pictures.now) p (slice_index_or result p d) }
+{
+    let mut all = [START; 17];
+    for p in 0..pictures.len() {
+        all[p + 1] = behind_picture(all[p], p as u32, header_of(&pictures[p].opened));
+    }
+    all
 }
 
 /// The frame of the first field before a second field.
@@ -85,22 +116,6 @@ fn push_range(jobs: JobRange, out: &mut NeedList)
 }
 
 impl DecodeBook {
-    /// The last two anchors before a picture.
-    pub(crate) fn anchors_before(&self, p: u32) -> Anchors
-        requires picture { p ≤ length (headers self.now) }
-        ensures older { result.older ≡ older_before (headers self.now) p }
-        ensures newer { result.newer ≡ newer_before (headers self.now) p }
-    {
-        let mut anchors = Anchors {
-            older: FramePlace::Older,
-            newer: FramePlace::Newer,
-        };
-        for q in 0..p {
-            anchors = anchors_behind(anchors, q, self.header(q));
-        }
-        anchors
-    }
-
     /// The frames that a picture is predicted from.
     #[tactic(auto, unfolding(crate::specs::Jobs::read_by))]
     pub(crate) fn reads(&self, p: u32) -> Reads
@@ -108,7 +123,7 @@ impl DecodeBook {
         ensures value { result ≡ read_by (headers self.now) p }
     {
         let header = self.header(p);
-        let anchors = self.anchors_before(p);
+        let anchors = self.before(p);
         if header.kind == 1 {
             Reads {
                 forward: None,
@@ -183,9 +198,9 @@ impl DecodeBook {
     }
 
     /// The jobs of the rows that a frame consists of, if there is one.
-    #[tactic(auto, unfolding(crate::specs::Jobs::jobs_at, crate::specs::Below::MayComeBefore))]
+    #[tactic(auto, unfolding(crate::specs::Jobs::jobs_at, crate::specs::Below::MayBe))]
     pub(crate) fn jobs_at(&self, place: Option<FramePlace>) -> JobRange
-        requires picture { MayComeBefore (length (headers self.now)) place }
+        requires picture { MayBe (ComesBefore (length (headers self.now))) place }
         ensures jobs { jobs_at (headers self.now) place ≡ range_with_len result.from result.count }
         ensures few { result.count ≤ 72 }
         ensures most { result.from + result.count ≤ 72 * 16 }

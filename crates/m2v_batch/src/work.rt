@@ -11,7 +11,7 @@ ghost use Rattle.m2v_batch.specs.Jobs.{header_at, jobs_of, needs_of};
 ghost use Rattle.m2v_batch.specs.Batches.{headers, reading_of};
 ghost use Rattle.m2v_batch.specs.Below.{ComesBefore};
 ghost use Rattle.m2v_batch.specs.Values.{outcome_in, outcome_of, value_of, FitsPiece};
-ghost use Rattle.m2v_batch.specs.Learned.{state_at, is_set};
+ghost use Rattle.m2v_batch.specs.Learned.{state_at, is_set, FitsCache};
 ghost use Rattle.m2v_batch.specs.Works.{HasLearned, frame_found, AreDecoded};
 
 use crate::book::DecodeBook;
@@ -93,8 +93,11 @@ impl DecodeBook {
     #[tactic(auto, unfolding(crate::specs::Works::frame_found, crate::specs::Below::ComesBefore))]
     fn frame<'a>(&'a self, place: FramePlace, cache: &'a DecodeCache) -> &'a Option<Frame>
         requires place { ComesBefore (length cache.now.frames) place }
+        requires fits { FitsCache self.now cache.now }
         ensures value { result.now ≡ frame_found self.now cache.now place }
     {
+        // what is known of a batch
+        let _batch = self.pictures();
         match place {
             FramePlace::Older => self.older(),
             FramePlace::Newer => self.newer(),
@@ -156,7 +159,7 @@ impl DecodeBook {
         // what is known of a batch
         let _batch = self.pictures();
         let p = self.picture_of_job(j);
-        let anchors = self.anchors_before(p);
+        let anchors = self.before(p);
         let older = self.frame(anchors.older, cache);
         let newer = self.frame(anchors.newer, cache);
         let first = self.frame(first_field(p), cache);
