@@ -19,11 +19,19 @@ header_there xs p x h lt e = e ∙ sym (get_or-map header_of xs p x no_header lt
 next : (p : ℕ) → p + 1 ≡ suc p
 next p = omega arith
 
-newer_next : (hs : Headers) (p : ℕ) → newer_before hs (p + 1) ≡ cond (ends_anchor (header_at hs p)) (Behind p) (newer_before hs p)
+pub newer_first : (hs : Headers) → newer_before hs 0 ≡ Newer
+unfolding newer_before
+newer_first hs = refl
+
+pub older_first : (hs : Headers) → older_before hs 0 ≡ Older
+unfolding older_before
+older_first hs = refl
+
+pub newer_next : (hs : Headers) (p : ℕ) → newer_before hs (p + 1) ≡ cond (ends_anchor (header_at hs p)) (Behind p) (newer_before hs p)
 unfolding newer_before
 newer_next hs p = ap (newer_before hs) (next p)
 
-older_next : (hs : Headers) (p : ℕ) → older_before hs (p + 1) ≡ cond (ends_anchor (header_at hs p)) (newer_before hs p) (older_before hs p)
+pub older_next : (hs : Headers) (p : ℕ) → older_before hs (p + 1) ≡ cond (ends_anchor (header_at hs p)) (newer_before hs p) (older_before hs p)
 unfolding older_before
 older_next hs p = ap (older_before hs) (next p)
 
@@ -33,8 +41,7 @@ jobs_most hs zero rows = omega (arith, first_none hs)
 jobs_most hs (suc p) rows = omega (arith, first_more hs p, rows p, jobs_most hs p rows)
 
 pub before_first : (hs : Headers) → IsBefore hs 0 (record { jobs = 0; older = Older; newer = Newer })
-unfolding newer_before older_before
-before_first hs = record { jobs = sym (first_none hs); older = refl; newer = refl }
+before_first hs = record { jobs = sym (first_none hs); older = sym (older_first hs); newer = sym (newer_first hs) }
 
 -- behind a picture
 pub before_next : (hs : Headers) (p : ℕ) (x y : Before) (h : Header) → IsBefore hs p x → h ≡ header_at hs p → y.jobs ≡ x.jobs + h.rows → y.older ≡ cond (ends_anchor h) x.newer x.older → y.newer ≡ cond (ends_anchor h) (Behind p) x.newer
