@@ -166,9 +166,9 @@ fn sum_all(samples: &[u8]) -> u64
     ensures value { result ≡ sum samples.now }
     ensures most { result ≤ 2 ^ 20 }
 {
-    let mut all: u64 = 0;
+    let mut all: u32 = 0;
     for i in 0..samples.len() {
-        all += u64::from(samples[i]);
+        all += u32::from(samples[i]);
     }
-    all
+    u64::from(all)
 }

@@ -28,7 +28,7 @@ use m2v_port::{Sink, Source};
 use m2v_wave::{Bench, Done};
 use std::alloc::{AllocError, Global};
 use std::sync::Wait;
-use std::thread::Threads;
+use std::thread::{Threads, yield_now};
 
 /// Takes in a batch whose rows are all rebuilt, and takes the pieces behind those that were taken.
 fn put_and_take<S: Source, K: Sink>(
@@ -55,6 +55,8 @@ fn put_and_take<S: Source, K: Sink>(
     ensures output { SinkStays K.ready K.name K.faults output.old output.new }
     ensures input { S.faults input.old ≤ S.faults input.new }
 {
+    // the thread that starts the workers has a turn first
+    yield_now();
     put_rows(
         alloc,
         decoder,

@@ -1,4 +1,5 @@
 pub mod Benches
+pub mod Each
 pub mod Idle
 pub mod Pieces
 pub mod Works

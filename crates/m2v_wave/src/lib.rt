@@ -7,6 +7,7 @@
 
 mod bench;
 mod done;
+mod each;
 mod run;
 mod worker;
 

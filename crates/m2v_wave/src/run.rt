@@ -8,12 +8,12 @@ ghost use Rattle.m2v_wave.specs.Works.{CanWork, HasWorked};
 
 use crate::bench::Bench;
 use crate::done::Done;
+use crate::each::for_each;
 use crate::worker::{Worker, work_all};
 use m2v_board::{Board, Gate, Pass, Post};
 use m2v_core::JobBook;
 use std::snapshot::Snapshot;
 use std::sync::Wait;
-use std::thread;
 use std::thread::Threads;
 
 fn work_in<R: Wait, B: JobBook, G: Gate>(
@@ -41,15 +41,13 @@ fn work_all_in<R: Threads + Wait + Sync, B: JobBook + Sync, G: Gate + Sync>(
     requires idle { All (λ w. CanWork B.jobs B.fits_cache book.now board.now w) workers.old }
     ensures { All (λ w. HasWorked board.now w) workers.new }
 {
-    let count = workers.len();
-    thread::for_each_mut(
+    for_each(
         rt,
-        workers,
-        count,
-        &|_: usize, w: &mut Worker<B>|
+        &|w: &mut Worker<B>|
             requires { CanWork B.jobs B.fits_cache book.now board.now w.now }
             ensures { HasWorked board.entry.now w.exit.now }
         { work_in(rt, book, board, gate, w) },
+        workers,
     );
 }
 
