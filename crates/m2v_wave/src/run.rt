@@ -37,7 +37,6 @@ fn work_all_in<R: Threads + Wait + Sync, B: JobBook + Sync, G: Gate + Sync>(
     gate: &G,
     workers: &mut [Worker<B>],
 )
-    requires some { 0 < length workers.old }
     requires idle { All (λ w. CanWork B.jobs B.fits_cache book.now board.now w) workers.old }
     ensures { All (λ w. HasWorked board.now w) workers.new }
 {
@@ -81,7 +80,6 @@ fn worked<R: Threads + Wait + Sync, B: JobBook + Sync, G: Gate + Sync>(
     gate: &G,
     mut workers: Vec<Worker<B>>,
 ) -> Vec<Worker<B>>
-    requires some { 0 < vec_len workers }
     requires idle { All (λ w. CanWork B.jobs B.fits_cache book.now board.now w) workers.items }
     ensures count { vec_len result ≡ vec_len workers }
     ensures ended { All (λ w. HasWorked board.now w) result.items }

@@ -2,10 +2,6 @@ use Rattle.std.proofs.Common.{sym, ◌∙◌}
 use Rattle.m2v_wave.specs.Benches.{IsBenchOf}
 use Rattle.m2v_wave.proofs.run.run_jobs.Goals as goal
 
-pub worked-workers-requires-clause-some : goal.worked-workers-requires-clause-some
-unfolding IsBenchOf
-worked-workers-requires-clause-some g c = λ κs l. c.requires.2
-
 pub worked-workers-requires-clause-idle : goal.worked-workers-requires-clause-idle
 unfolding IsBenchOf
 worked-workers-requires-clause-idle g c = λ κs l. c.requires.4
