@@ -15,7 +15,6 @@ ghost use Rattle.m2v_pardec.specs.Taken.{AreTold, IsKnown, IsSet, TakenBehind, T
 ghost use Rattle.m2v_pardec.specs.Put.{PutsAll, StopsBy, CountsOn, AreAllThere};
 ghost use Rattle.m2v_pardec.specs.Chain.{CanPut, DidPut, AreWaiting, IsUnderWay, WorksOn, GoesFrom, WrongFrom, TakingFails, PuttingFails, StopsTaking, WorksNext, StopsUnder};
 
-use crate::beside::run_beside;
 use crate::pieces::{put_pieces, put_rest};
 use crate::put::{Worked, put_rows};
 use crate::taking::{Rest, Stop, Taken, take_more};
@@ -25,10 +24,10 @@ use m2v_decoder::Decoder;
 use m2v_picture::FramesAtHand;
 use m2v_piece::{Cutter, DecodeError};
 use m2v_port::{Sink, Source};
-use m2v_wave::{Bench, Done};
+use m2v_wave::{Bench, Done, run_jobs_beside};
 use std::alloc::{AllocError, Global};
 use std::sync::Wait;
-use std::thread::{Threads, yield_now};
+use std::thread::Threads;
 
 /// Takes in a batch whose rows are all rebuilt, and takes the pieces behind those that were taken.
 fn put_and_take<S: Source, K: Sink>(
@@ -55,8 +54,6 @@ fn put_and_take<S: Source, K: Sink>(
     ensures output { SinkStays K.ready K.name K.faults output.old output.new }
     ensures input { S.faults input.old ≤ S.faults input.new }
 {
-    // the thread that starts the workers has a turn first
-    yield_now();
     put_rows(
         alloc,
         decoder,
@@ -101,7 +98,7 @@ fn run_and_put<R: Threads + Wait + Sync, S: Source, K: Sink, G: Gate + Sync>(
     ensures output { SinkStays K.ready K.name K.faults output.old output.new }
     ensures input { S.faults input.old ≤ S.faults input.new }
 {
-    run_beside(
+    run_jobs_beside(
         rt,
         book,
         bench,
@@ -135,7 +132,7 @@ fn run_and_take<R: Threads + Wait + Sync, S: Source, G: Gate + Sync>(
         (S.faults input.new)) }
     ensures input { S.faults input.old ≤ S.faults input.new }
 {
-    run_beside(
+    run_jobs_beside(
         rt,
         book,
         bench,

@@ -3,7 +3,6 @@
 //! that time the workers are at the next pictures.
 #![tactic(auto)]
 
-mod beside;
 mod chain;
 mod pieces;
 mod put;

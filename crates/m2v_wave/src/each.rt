@@ -23,41 +23,55 @@ fn in_turn<T, F: Fn(&mut T)>(f: &F, s: &mut [T])
     }
 }
 
-// Calls f at some elements in a new thread, and at the others beside it.
+// Calls f at some elements in a new thread, and does the others beside it.
 #[cycle(each)]
-fn first_beside<R: Threads + Sync, T: Send, F: Fn(&mut T) + Sync>(
+fn first_beside<R: Threads + Sync, T: Send, F: Fn(&mut T) + Sync, G: FnMut() -> A, A>(
     rt: &R,
     f: &F,
     first: &mut [T],
     others: &mut [T],
-)
+    own: &mut G,
+) -> A
     requires first { MayTakeEach F.Fn f.now first.old }
     requires others { MayTakeEach F.Fn f.now others.old }
+    requires own { G.pre own.old }
     ensures first { WereLeft F.Fn f.now first.new }
     ensures others { WereLeft F.Fn f.now others.new }
+    ensures own { G.step own.old result own.new }
 {
     let mut one = ||
         requires { IsSync F.row × IsSend T.row × MayTakeEach F.Fn f.now first.now }
         ensures { WereLeft F.Fn f.entry.now first.exit.now }
     { in_turn(f, first) };
-    let mut rest = ||
-        requires { IsSync R.row × IsSync F.row × IsSend T.row × MayTakeEach F.Fn f.now others.now }
-        ensures { WereLeft F.Fn f.entry.now others.exit.now }
-    { for_each(rt, f, others) };
-    join_mut(rt, &mut one, &mut rest);
+    let mut rest = || -> A
+        requires { IsSync R.row × IsSync F.row × IsSend T.row × MayTakeEach F.Fn f.now others.now
+            × G.pre own.now }
+        ensures { WereLeft F.Fn f.entry.now others.exit.now
+            × G.step own.entry.now result own.exit.now }
+    { for_each(rt, f, others, own) };
+    let (_, answer) = join_mut(rt, &mut one, &mut rest);
+    answer
 }
 
-/// Calls f at each element. This thread starts one for each element but the last, one behind another: a thread that another one
-/// had to start first would wait for that one's turn.
+/// Calls f at each element, and `own` in this thread. This thread starts one for each element but the last, one behind
+/// another, then calls `own`, and then f at the last element.
 #[cycle(each)]
-pub(crate) fn for_each<R: Threads + Sync, T: Send, F: Fn(&mut T) + Sync>(rt: &R, f: &F, s: &mut [T])
-    requires { MayTakeEach F.Fn f.now s.old }
-    ensures { WereLeft F.Fn f.now s.new }
+pub(crate) fn for_each<R: Threads + Sync, T: Send, F: Fn(&mut T) + Sync, G: FnMut() -> A, A>(
+    rt: &R,
+    f: &F,
+    s: &mut [T],
+    own: &mut G,
+) -> A
+    requires each { MayTakeEach F.Fn f.now s.old }
+    requires own { G.pre own.old }
+    ensures each { WereLeft F.Fn f.now s.new }
+    ensures own { G.step own.old result own.new }
 {
     if s.len() <= 1 {
+        let answer = own();
         in_turn(f, s);
-        return;
+        return answer;
     }
     let (first, others) = s.split_at_mut(1);
-    first_beside(rt, f, first, others);
+    first_beside(rt, f, first, others, own)
 }

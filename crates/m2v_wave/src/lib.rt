@@ -13,5 +13,5 @@ mod worker;
 
 pub use bench::Bench;
 pub use done::Done;
-pub use run::run_jobs;
+pub use run::{run_jobs, run_jobs_beside};
 pub use worker::Worker;

@@ -29,16 +29,19 @@ fn work_in<R: Wait, B: JobBook, G: Gate>(
     work_all(rt, book, board, gate, worker);
 }
 
-// Every worker does jobs until none is left.
-fn work_all_in<R: Threads + Wait + Sync, B: JobBook + Sync, G: Gate + Sync>(
+// Every worker does jobs until none is left; this thread calls a closure first.
+fn work_all_in<R: Threads + Wait + Sync, B: JobBook + Sync, G: Gate + Sync, F: FnMut() -> A, A>(
     rt: &R,
     book: &B,
     board: &Board<B>,
     gate: &G,
     workers: &mut [Worker<B>],
-)
+    own: &mut F,
+) -> A
     requires idle { All (λ w. CanWork B.jobs B.fits_cache book.now board.now w) workers.old }
-    ensures { All (λ w. HasWorked board.now w) workers.new }
+    requires own { F.pre own.old }
+    ensures ended { All (λ w. HasWorked board.now w) workers.new }
+    ensures own { F.step own.old result own.new }
 {
     for_each(
         rt,
@@ -47,7 +50,8 @@ fn work_all_in<R: Threads + Wait + Sync, B: JobBook + Sync, G: Gate + Sync>(
             ensures { HasWorked board.entry.now w.exit.now }
         { work_in(rt, book, board, gate, w) },
         workers,
-    );
+        own,
+    )
 }
 
 fn join_one<B: JobBook>(board: &Board<B>, all: &mut Pass<B>, worker: Worker<B>)
@@ -72,20 +76,23 @@ fn joined<B: JobBook>(board: &Board<B>, mut all: Pass<B>, mut workers: Vec<Worke
     all
 }
 
-// Every worker does jobs until none is left.
-fn worked<R: Threads + Wait + Sync, B: JobBook + Sync, G: Gate + Sync>(
+// Every worker does jobs until none is left; this thread calls a closure first.
+fn worked<R: Threads + Wait + Sync, B: JobBook + Sync, G: Gate + Sync, F: FnMut() -> A, A>(
     rt: &R,
     book: &B,
     board: &Board<B>,
     gate: &G,
     mut workers: Vec<Worker<B>>,
-) -> Vec<Worker<B>>
+    own: &mut F,
+) -> (Vec<Worker<B>>, A)
     requires idle { All (λ w. CanWork B.jobs B.fits_cache book.now board.now w) workers.items }
-    ensures count { vec_len result ≡ vec_len workers }
-    ensures ended { All (λ w. HasWorked board.now w) result.items }
+    requires own { F.pre own.old }
+    ensures count { vec_len result.0 ≡ vec_len workers }
+    ensures ended { All (λ w. HasWorked board.now w) result.0.items }
+    ensures own { F.step own.old result.1 own.new }
 {
-    work_all_in(rt, book, board, gate, workers.as_mut_slice());
-    workers
+    let answer = work_all_in(rt, book, board, gate, workers.as_mut_slice(), own);
+    (workers, answer)
 }
 
 // The last of them gives the first pass.
@@ -132,12 +139,30 @@ pub fn run_jobs<R: Threads + Wait + Sync, B: JobBook + Sync, G: Gate + Sync>(
     requires { IsBenchOf B.jobs B.fits_cache book.now bench }
     ensures { result ≡ book.now }
 {
+    let (done, ()) = run_jobs_beside(rt, book, bench, gate, &mut || {});
+    done
+}
+
+/// As [`run_jobs`], and calls a closure beside that: this thread starts the others, calls it, and is
+/// a worker then.
+pub fn run_jobs_beside<
+    R: Threads + Wait + Sync,
+    B: JobBook + Sync,
+    G: Gate + Sync,
+    F: FnMut() -> A,
+    A,
+>(rt: &R, book: &B, bench: Bench<B>, gate: &G, own: &mut F) -> (Done<B>, A)
+    requires bench { IsBenchOf B.jobs B.fits_cache book.now bench }
+    requires own { F.pre own.old }
+    ensures done { result.0 ≡ book.now }
+    ensures own { F.step own.old result.1 own.new }
+{
     let Bench {
         board,
         workers,
         done,
     } = bench;
-    let workers = worked(rt, book, &board, gate, workers);
+    let (workers, answer) = worked(rt, book, &board, gate, workers, own);
     let pass = one_pass(&board, workers);
-    ended(book, board, pass, done)
+    (ended(book, board, pass, done), answer)
 }

@@ -9,7 +9,6 @@ ghost use Rattle.m2v_wave.specs.Idle.{IsIdle, IsEnded};
 use m2v_board::{Board, Gate, Pass, Post};
 use m2v_core::{JobBook, NeedList};
 use std::sync::Wait;
-use std::thread::yield_now;
 
 /// A worker of a bench, with its number, counted from 0.
 pub struct Worker<B: JobBook> {
@@ -155,14 +154,6 @@ pub(crate) fn one_turn<R: Wait, B: JobBook, G: Gate>(
     }
 }
 
-// Lets threads have a turn that were just started, or that start others: a system may leave a new thread on the processor of the
-// one that started it for a while.
-fn give_way() {
-    for _ in 0..4 {
-        yield_now();
-    }
-}
-
 // Does jobs until none is left.
 pub(crate) fn work_all<R: Wait, B: JobBook, G: Gate>(
     rt: &R,
@@ -177,7 +168,6 @@ pub(crate) fn work_all<R: Wait, B: JobBook, G: Gate>(
     ensures pass { IsEnded board.now worker.new.pass }
     ensures passes { (view worker.new.pass).passes ≡ (view worker.old.pass).passes }
 {
-    give_way();
     for _ in rt.forever() {
         if !one_turn(rt, book, board, gate, worker) {
             return;
