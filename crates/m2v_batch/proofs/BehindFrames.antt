@@ -17,7 +17,7 @@ use Rattle.m2v_batch.specs.Pieces.{row_of}
 use Rattle.m2v_batch.specs.Values.{value_of}
 use Rattle.m2v_batch.proofs.Sizes.{jobs_are}
 use Rattle.m2v_batch.proofs.Decoded.{piece_size}
-use Rattle.m2v_batch.proofs.Learning.{row_fits}
+use Rattle.m2v_batch.proofs.FrameSizes.{row_fits}
 use Rattle.m2v_batch.proofs.FrameRows.{begun_is, begun_second}
 use Rattle.m2v_batch.proofs.Blank.{none_set, first_behind}
 

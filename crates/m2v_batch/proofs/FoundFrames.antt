@@ -1,8 +1,7 @@
 -- The references of a picture, as a cache has them.
 use Rattle.std.proofs.Common.{◌≡◌, ℕ, ◌<◌, ◌≤◌, Bool, true, false, ◌&&◌, not, cond, nat_eq, List, length, Option, Some, None, refl, sym, ap, subst, ◌∙◌, arith, inl, inr}
 use Rattle.std.specs.Prelude.{IsSome, IfSome, slice_get}
-use Rattle.std.specs.List.{list_all}
-use Rattle.std.proofs.lemmas.Bool.{cond-true, cond-false}
+use Rattle.std.proofs.lemmas.Bool.{cond_both, eqb-true, cond-true, cond-false}
 use Rattle.m2v_plane.specs.Samples.{Samples}
 use Rattle.m2v_model.specs.States.{is_b}
 use Rattle.m2v_model.specs.Samples.{References}
@@ -15,16 +14,17 @@ use Rattle.m2v_batch.specs.declared.picture.FramePlace.TheVariants.{Older, Newer
 use Rattle.m2v_batch.specs.declared.picture.Reads.{Reads}
 use Rattle.m2v_batch.specs.declared.pieces.DecodePiece.{DecodePiece}
 use Rattle.m2v_batch.specs.declared.pieces.DecodePiece.TheVariants.{After}
-use Rattle.m2v_batch.specs.Jobs.{Headers, header_at, newer_before, older_before, first_field, read_by, needs_of, jobs_of, picture_of_job, row_of_job}
+use Rattle.m2v_batch.specs.Jobs.{Headers, header_at, frame_count, newer_before, older_before, first_field, read_by, needs_of, picture_of_job, row_of_job}
 use Rattle.m2v_batch.specs.Batches.{Batch, headers, Rows, no_rows, frame_at, reading_of, references, IsBatch}
 use Rattle.m2v_batch.specs.Below.{ComesBefore, newer_comes, older_comes, field_comes}
 use Rattle.m2v_batch.specs.Values.{value_of, decoded, rows_of, are_rebuilt, outcome_of}
-use Rattle.m2v_batch.specs.Learned.{Cached, state_at, is_set, FitsCache}
-use Rattle.m2v_batch.specs.Works.{HasLearned, frame_found, AreDecoded}
+use Rattle.m2v_batch.specs.declared.cache.DecodeCache.{DecodeCache}
+use Rattle.m2v_batch.specs.Learned.{held_of, FitsCache}
+use Rattle.m2v_batch.specs.Works.{HasLearned, needs_rebuilt, rowless, frame_found, AreDecoded}
 use Rattle.m2v_batch.proofs.Decoded.{value_made}
-use Rattle.m2v_batch.proofs.Learning.{fits_sized}
 use Rattle.m2v_batch.proofs.Needs.{comes_by}
-use Rattle.m2v_batch.proofs.Ready.{ReadsAt, ready_is, found_is}
+use Rattle.m2v_batch.proofs.FrameSizes.{behind_size}
+use Rattle.m2v_batch.proofs.Ready.{ReadsAt, needs_same, found_is, held_fits, rowless_is}
 
 -- ---- by tests
 
@@ -173,15 +173,15 @@ reads_first hs p ei eb es = inr (ap (λ (r : Reads). r.other) (reads_is hs p fal
 
 -- ---- the frames that are found
 
-found_alike : (b : Batch) (j p : ℕ) (c : Cached) → p ≡ picture_of_job (headers b) j → IsBatch b → j < jobs_of (headers b) → HasLearned b j c → ComesBefore (length (headers b)) (older_before (headers b) p)
+found_alike : (b : Batch) (j p : ℕ) (c : DecodeCache) → p ≡ picture_of_job (headers b) j → IsBatch b → HasLearned b j c → needs_rebuilt b j ≡ true → ComesBefore (length (headers b)) (older_before (headers b) p)
     → ComesBefore (length (headers b)) (newer_before (headers b) p) → ComesBefore (length (headers b)) (first_field p)
     → Alike (nat_eq (header_at (headers b) p).kind 1) (is_b (header_at (headers b) p).kind) (header_at (headers b) p).second
     (frame_found b c (older_before (headers b) p)) (frame_found b c (newer_before (headers b) p)) (frame_found b c (first_field p))
     (frame_at b (rows_of (decoded b j)) (older_before (headers b) p)) (frame_at b (rows_of (decoded b j)) (newer_before (headers b) p)) (frame_at b (rows_of (decoded b j)) (first_field p))
-found_alike b j p c e h job learned co cn cf =
+found_alike b j p c e h learned ready co cn cf =
     let hs = headers b in
     let at : (x : FramePlace) → ReadsAt (read_by hs p) x → ComesBefore (length hs) x → frame_found b c x ≡ frame_at b (rows_of (decoded b j)) x = λ x reads comes.
-    found_is b j c x h job learned (subst (λ (q : ℕ). ReadsAt (read_by hs q) x) e reads) comes in
+    found_is b j c x h learned ready (subst (λ (q : ℕ). ReadsAt (read_by hs q) x) e reads) comes in
     record {
       older = λ ei eb. at (older_before hs p) (reads_older hs p ei eb) co;
       newer = λ ei. at (newer_before hs p) (reads_newer hs p (is_b (header_at hs p).kind) ei refl) cn;
@@ -196,33 +196,33 @@ any_there b at Waiting is = is
 any_there b at (Behind p) is = is
 
 -- what a picture may read is found
-pub found_decoded : (b : Batch) (j p : ℕ) (c : Cached) → p ≡ picture_of_job (headers b) j → IsBatch b → j < jobs_of (headers b) → HasLearned b j c → ComesBefore (length (headers b)) (older_before (headers b) p)
+found_decoded : (b : Batch) (j p : ℕ) (c : DecodeCache) → p ≡ picture_of_job (headers b) j → IsBatch b → HasLearned b j c → needs_rebuilt b j ≡ true → ComesBefore (length (headers b)) (older_before (headers b) p)
     → ComesBefore (length (headers b)) (newer_before (headers b) p) → ComesBefore (length (headers b)) (first_field p)
     → AreDecoded b p (frame_found b c (older_before (headers b) p)) (frame_found b c (newer_before (headers b) p)) (frame_found b c (first_field p))
-found_decoded b j p c e h job learned co cn cf x is =
+found_decoded b j p c e h learned ready co cn cf x is =
     let hs = headers b in
     let at = rows_of (decoded b j) in
     let o = older_before hs p in
     let n = newer_before hs p in
     let f = first_field p in
-    has_same x.opened.references (header_at hs p) (frame_found b c o) (frame_found b c n) (frame_found b c f) (frame_at b at o) (frame_at b at n) (frame_at b at f) (found_alike b j p c e h job learned co cn cf)
+    has_same x.opened.references (header_at hs p) (frame_found b c o) (frame_found b c n) (frame_found b c f) (frame_at b at o) (frame_at b at n) (frame_at b at f) (found_alike b j p c e h learned ready co cn cf)
     (has_there x.opened.references (header_at hs p) (frame_at b no_rows o) (frame_at b no_rows n) (frame_at b no_rows f) (frame_at b at o) (frame_at b at n) (frame_at b at f)
     (record { older = any_there b at o; newer = any_there b at n; first = any_there b at f }) (h.decoded p x is))
 
 -- a row that is read by what is found is what comes of it
-pub read_is : (b : Batch) (j p r : ℕ) (c : Cached) → p ≡ picture_of_job (headers b) j → r ≡ row_of_job (headers b) j → IsBatch b → j < jobs_of (headers b) → HasLearned b j c
-    → list_all (λ i. is_set (state_at c i)) (needs_of (headers b) j) ≡ true → ComesBefore (length (headers b)) (older_before (headers b) p)
+read_is : (b : Batch) (j p r : ℕ) (c : DecodeCache) → p ≡ picture_of_job (headers b) j → r ≡ row_of_job (headers b) j → IsBatch b → HasLearned b j c
+    → needs_rebuilt b j ≡ true → ComesBefore (length (headers b)) (older_before (headers b) p)
     → ComesBefore (length (headers b)) (newer_before (headers b) p) → ComesBefore (length (headers b)) (first_field p)
     → outcome_of (slice_get b.pictures p) (references_at (reading_of (header_at (headers b) p)) (frame_found b c (older_before (headers b) p)) (frame_found b c (newer_before (headers b) p)) (frame_found b c (first_field p))) r
     ≡ value_of b j
-read_is b j p r c ep er h job learned ready co cn cf =
+read_is b j p r c ep er h learned ready co cn cf =
     let hs = headers b in
     let at = rows_of (decoded b j) in
     let o = older_before hs p in
     let n = newer_before hs p in
     let f = first_field p in
-    let refs = references_same (header_at hs p) (frame_found b c o) (frame_found b c n) (frame_found b c f) (frame_at b at o) (frame_at b at n) (frame_at b at f) (found_alike b j p c ep h job learned co cn cf) in
-    let is = sym (ready_is b j c learned) ∙ ready in
+    let refs = references_same (header_at hs p) (frame_found b c o) (frame_found b c n) (frame_found b c f) (frame_at b at o) (frame_at b at n) (frame_at b at f) (found_alike b j p c ep h learned ready co cn cf) in
+    let is = sym (needs_same b j) ∙ ready in
     ap (λ (z : References). outcome_of (slice_get b.pictures p) z r) refs
     ∙ ap (λ (q : ℕ). outcome_of (slice_get b.pictures q) (references b at q) r) ep
     ∙ ap (λ (k : ℕ). outcome_of (slice_get b.pictures (picture_of_job hs j)) (references b at (picture_of_job hs j)) k) er
@@ -230,10 +230,10 @@ read_is b j p r c ep er h job learned ready co cn cf =
     ∙ sym (value_made b j)
 
 -- a row whose needs aren't rebuilt
-pub after_is : (b : Batch) (j : ℕ) (c : Cached) → HasLearned b j c → list_all (λ i. is_set (state_at c i)) (needs_of (headers b) j) ≡ false → After ≡ value_of b j
-after_is b j c learned not_ready =
+pub after_is : (b : Batch) (j : ℕ) → needs_rebuilt b j ≡ false → After ≡ value_of b j
+after_is b j not_ready =
     let hs = headers b in
-    let is = sym (ready_is b j c learned) ∙ not_ready in
+    let is = sym (needs_same b j) ∙ not_ready in
     sym (cond-false (are_rebuilt (decoded b j) (needs_of hs j)) (outcome_of (slice_get b.pictures (picture_of_job hs j)) (references b (rows_of (decoded b j)) (picture_of_job hs j)) (row_of_job hs j)) After is)
     ∙ sym (value_made b j)
 
@@ -244,38 +244,40 @@ places_exist hs p lt =
     let le : p ≤ length hs = omega (arith, lt) in
     (comes_by p (length hs) (older_before hs p) le (older_comes hs p), comes_by p (length hs) (newer_before hs p) le (newer_comes hs p), comes_by p (length hs) (first_field p) le (field_comes p))
 
-place_size : (b : Batch) (c : Cached) (x : FramePlace) → IsBatch b → FitsCache b c → IfSome (frame_found b c x) (λ f. f.dims ≡ b.dims)
-unfolding frame_found
-place_size b c Older h fits = h.older
-place_size b c Newer h fits = h.newer
-place_size b c Waiting h fits = h.waiting
-place_size b c (Behind q) h fits = fits_sized b c h fits q
+place_size : (b : Batch) (c : DecodeCache) (x : FramePlace) → IsBatch b → ComesBefore (length (headers b)) x → FitsCache b c → IfSome (frame_found b c x) (λ f. f.dims ≡ b.dims)
+unfolding frame_found ComesBefore
+place_size b c Older h lt fits = h.older
+place_size b c Newer h lt fits = h.newer
+place_size b c Waiting h lt fits = h.waiting
+place_size b c (Behind q) h lt fits =
+    cond_both (nat_eq (frame_count (headers b) q) 0) (rowless b c q) (held_of c q).frame (λ (o : Option Samples). IfSome o (λ f. f.dims ≡ b.dims))
+    (λ e. subst (λ (o : Option Samples). IfSome o (λ f. f.dims ≡ b.dims)) (sym (rowless_is b c q no_rows h lt fits (eqb-true (frame_count (headers b) q) 0 e))) (behind_size b no_rows q h))
+    (λ e. (held_fits b c q fits).frame)
 
-pub found_size : (b : Batch) (c : Cached) (x : FramePlace) (frame : Option Samples) → IsBatch b → FitsCache b c → frame ≡ frame_found b c x → IfSome frame (λ f. f.dims ≡ b.dims)
-found_size b c x frame h fits e = subst (λ (o : Option Samples). IfSome o (λ f. f.dims ≡ b.dims)) (sym e) (place_size b c x h fits)
+pub found_size : (b : Batch) (c : DecodeCache) (x : FramePlace) (frame : Option Samples) → IsBatch b → ComesBefore (length (headers b)) x → FitsCache b c → frame ≡ frame_found b c x → IfSome frame (λ f. f.dims ≡ b.dims)
+found_size b c x frame h lt fits e = subst (λ (o : Option Samples). IfSome o (λ f. f.dims ≡ b.dims)) (sym e) (place_size b c x h lt fits)
 
 -- ---- by what the code has
 
-pub place_by : (hs : Headers) (n : ℕ) (x y : FramePlace) → n ≡ length hs → x ≡ y → ComesBefore (length hs) y → ComesBefore n x
-place_by hs n x y en ex h = subst (λ (m : ℕ). ComesBefore m x) (sym en) (subst (ComesBefore (length hs)) (sym ex) h)
+pub place_by : (hs : Headers) (x y : FramePlace) → x ≡ y → ComesBefore (length hs) y → ComesBefore (length hs) x
+place_by hs x y e h = subst (ComesBefore (length hs)) (sym e) h
 
-pub decoded_by : (b : Batch) (j p : ℕ) (c : Cached) (older newer first : Option Samples) → p ≡ picture_of_job (headers b) j → p < length (headers b) → IsBatch b → j < jobs_of (headers b) → HasLearned b j c
+pub decoded_by : (b : Batch) (j p : ℕ) (c : DecodeCache) (older newer first : Option Samples) → p ≡ picture_of_job (headers b) j → p < length (headers b) → IsBatch b → HasLearned b j c → needs_rebuilt b j ≡ true
     → older ≡ frame_found b c (older_before (headers b) p) → newer ≡ frame_found b c (newer_before (headers b) p) → first ≡ frame_found b c (first_field p) → AreDecoded b p older newer first
-decoded_by b j p c older newer first e lt h job learned eo en ef =
+decoded_by b j p c older newer first e lt h learned ready eo en ef =
     let hs = headers b in
     let places = places_exist hs p lt in
     subst (λ (o : Option Samples). AreDecoded b p o newer first) (sym eo)
     (subst (λ (n : Option Samples). AreDecoded b p (frame_found b c (older_before hs p)) n first) (sym en)
     (subst (λ (f : Option Samples). AreDecoded b p (frame_found b c (older_before hs p)) (frame_found b c (newer_before hs p)) f) (sym ef)
-    (found_decoded b j p c e h job learned places.0 places.1 places.2)))
+    (found_decoded b j p c e h learned ready places.0 places.1 places.2)))
 
-pub value_by : (b : Batch) (j p r : ℕ) (c : Cached) (older newer first : Option Samples) (result : DecodePiece) → p ≡ picture_of_job (headers b) j → p < length (headers b) → r ≡ row_of_job (headers b) j → IsBatch b → j < jobs_of (headers b) → HasLearned b j c
-    → list_all (λ i. is_set (state_at c i)) (needs_of (headers b) j) ≡ true
+pub value_by : (b : Batch) (j p r : ℕ) (c : DecodeCache) (older newer first : Option Samples) (result : DecodePiece) → p ≡ picture_of_job (headers b) j → p < length (headers b) → r ≡ row_of_job (headers b) j → IsBatch b → HasLearned b j c → needs_rebuilt b j ≡ true
     → older ≡ frame_found b c (older_before (headers b) p) → newer ≡ frame_found b c (newer_before (headers b) p) → first ≡ frame_found b c (first_field p)
     → result ≡ outcome_of (slice_get b.pictures p) (references_at (reading_of (header_at (headers b) p)) older newer first) r → result ≡ value_of b j
-value_by b j p r c older newer first result e lt er h job learned ready eo en ef is =
+value_by b j p r c older newer first result e lt er h learned ready eo en ef is =
     let hs = headers b in
     let places = places_exist hs p lt in
     is
     ∙ (λ i. outcome_of (slice_get b.pictures p) (references_at (reading_of (header_at hs p)) (eo i) (en i) (ef i)) r)
-    ∙ read_is b j p r c e er h job learned ready places.0 places.1 places.2
+    ∙ read_is b j p r c e er h learned ready places.0 places.1 places.2

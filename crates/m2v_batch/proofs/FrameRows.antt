@@ -7,7 +7,7 @@ use Rattle.m2v_pred.specs.Motion.{own_lines}
 use Rattle.m2v_batch.specs.Jobs.{Headers, header_at, first_job, frame_begin, frame_from}
 use Rattle.m2v_batch.specs.Batches.{Batch, headers, Rows, all_set, begun, frame_behind, IsBatch}
 use Rattle.m2v_batch.specs.Below.{first_more}
-use Rattle.m2v_batch.proofs.Setting.{rows_same, set_before, AddsRow, row_added, pair_apart}
+use Rattle.m2v_batch.proofs.Setting.{rows_same}
 
 -- the frame of the picture's first field, if it is a second one
 first_of : Batch → Rows → ℕ → Samples
@@ -50,7 +50,7 @@ unfolding frame_begin
 from_first hs zero e = refl
 from_first hs (suc p) e = ap (first_job hs) (cond-false (header_at hs (suc p)).second p (suc p) e)
 
-from_second : (hs : Headers) (p : ℕ) → (header_at hs (suc p)).second ≡ true → frame_from hs (suc p) ≡ first_job hs p
+pub from_second : (hs : Headers) (p : ℕ) → (header_at hs (suc p)).second ≡ true → frame_from hs (suc p) ≡ first_job hs p
 unfolding frame_begin
 from_second hs p e = ap (first_job hs) (cond-true (header_at hs (suc p)).second p (suc p) e)
 
@@ -71,48 +71,3 @@ frame_same b at now p h agree = elim (cases_Bool (header_at (headers b) p).secon
   | inl e ↦ second_same b at now p h e agree
   | inr e ↦ first_same b at now p e (λ j le lt. agree j (omega (arith, le, from_first (headers b) p e)) lt)
 ]
-
--- ---- one row more
-
-others_agree : (at now : Rows) (i : ℕ) (xs : Samples) (from end : ℕ) → AddsRow at now i xs → (end ≤ i) → AgreeOn now at from end
-others_agree at now i xs from end adds le j lf lt = adds.others j (λ e. omega (arith, e, le, lt))
-
--- of the picture itself
-pub own_added : (b : Batch) (at now : Rows) (q r : ℕ) (xs : Samples) → IsBatch b → r < (header_at (headers b) q).rows → AddsRow at now (first_job (headers b) q + r) xs
-    → frame_behind b now q ≡ with_row (frame_behind b at q) (own_lines (header_at (headers b) q).structure) r xs
-unfolding first_of
-own_added b at now q r xs h lt adds =
-    let hs = headers b in
-    let x = header_at hs q in
-    let base : begun b q (first_of b now q) ≡ begun b q (first_of b at q) = ap (begun b q) (first_alike q (first_job hs q + r) (omega arith) adds) in
-    behind_is b now q
-    ∙ ap (all_set b now q) base
-    ∙ row_added x at now (first_job hs q) x.rows r (begun b q (first_of b at q)) xs lt adds
-    ∙ ap (λ (f : Samples). with_row f (own_lines x.structure) r xs) (sym (behind_is b at q))
-  where
-    first_alike : (p i : ℕ) → first_job (headers b) p ≤ i → AddsRow at now i xs → first_of b now p ≡ first_of b at p
-    first_alike zero i le added = refl
-    first_alike (suc p) i le added = frame_same b now at p h (others_agree at now i xs (frame_from (headers b) p) (first_job (headers b) (suc p)) added le)
-
--- of its first field
-pub first_added : (b : Batch) (at now : Rows) (q r : ℕ) (xs : Samples) → IsBatch b → (header_at (headers b) (suc q)).second ≡ true → r < (header_at (headers b) q).rows
-    → AddsRow at now (first_job (headers b) q + r) xs
-    → frame_behind b now (suc q) ≡ with_row (frame_behind b at (suc q)) (own_lines (header_at (headers b) q).structure) r xs
-unfolding frame_behind
-first_added b at now q r xs h e lt adds =
-    let hs = headers b in
-    let x = header_at hs q in
-    let y = header_at hs (suc q) in
-    let pair = h.pairs q e in
-    let w = own_lines x.structure in
-    own_same b now at (suc q) (begun b (suc q) (frame_behind b now q))
-    (λ j le end. adds.others j (λ f. omega (arith, f, le, lt, first_more hs q)))
-    ∙ ap (all_set b at (suc q)) (begun_second b (suc q) (frame_behind b now q) e ∙ own_added b at now q r xs h lt adds)
-    ∙ set_before y at (first_job hs (suc q)) y.rows (frame_behind b at q) w r xs (λ k small. pair_apart x.structure y.structure r k pair.is_field (h.field (suc q) e) pair.parity)
-    ∙ ap (λ (f : Samples). with_row (all_set b at (suc q) f) w r xs) (sym (begun_second b (suc q) (frame_behind b at q) e))
-
--- of no picture of the frame
-pub none_added : (b : Batch) (at now : Rows) (i p : ℕ) (xs : Samples) → IsBatch b → (frame_from (headers b) p ≤ i → i < first_job (headers b) (suc p) → ⊥) → AddsRow at now i xs
-    → frame_behind b now p ≡ frame_behind b at p
-none_added b at now i p xs h other adds =
-    frame_same b now at p h (λ j le lt. adds.others j (λ e. other (omega (arith, le, e)) (omega (arith, lt, e))))

@@ -1,354 +1,406 @@
 -- What learning a row makes of a cache.
-use Rattle.std.proofs.Common.{◌≡◌, ◌⊎◌, ℕ, zero, suc, ◌+◌, ◌*◌, ◌/◌, ◌<◌, ◌≤◌, Bool, true, false, cond, List, length, get_or, Option, Some, None, refl, sym, ap, subst, ◌∙◌, arith, inl, inr}
-use Rattle.std.specs.Prelude.{IfSome, IsSome, nat_eq, slice_set}
+use Rattle.std.proofs.Common.{◌≡◌, ℕ, zero, suc, ◌+◌, ◌*◌, ◌<◌, ◌≤◌, Bool, true, false, cond, ◌&&◌, ◌||◌, not, List, [], ◌∷◌, ◌++◌, length, Option, Some, None, refl, sym, ap, subst, ◌∙◌, arith, inl, inr}
+use Rattle.std.specs.Prelude.{IfSome, IsSome, is_some, nat_eq}
+use Rattle.std.specs.List.{list_all, range_with_len}
 use Rattle.std.specs.Option.{option_map}
-use Rattle.std.proofs.lemmas.Bool.{cases_lt, cases_eq, cases_Bool, cond_both}
-use Rattle.std.proofs.lemmas.List.{length-set, get_or-set_same, get_or-set_other, get_or_past}
-use Rattle.std.proofs.lemmas.Option.{slice_get_cases}
+use Rattle.std.proofs.lemmas.Bool.{cases_Bool, cond_both, cond-true, cond-false, eq-eqb, eqb-true, ne_eqb, cases_eq, and_parts}
+use Rattle.std.proofs.lemmas.List.Folds.{list_all-append}
+use Rattle.std.proofs.lemmas.List.FromFn.{length-range_with_len}
 use Rattle.m2v_plane.specs.declared.dims.Dims.{Dims}
-use Rattle.m2v_plane.specs.declared.planes.Lines.{Lines}
-use Rattle.m2v_plane.specs.declared.planes.Lines.TheVariants.{Whole, Top, Bottom}
 use Rattle.m2v_plane.specs.Sizes.{part_of}
-use Rattle.m2v_plane.specs.Samples.{Samples, with_row, blank}
-use Rattle.m2v_plane.specs.Fields.{or_none}
+use Rattle.m2v_plane.specs.Samples.{Samples, blank}
 use Rattle.m2v_pred.specs.Motion.{own_lines}
-use Rattle.m2v_rows.specs.Opened.{IsOpened}
-use Rattle.m2v_batch.specs.declared.picture.BatchPicture.{BatchPicture}
+use Rattle.m2v_batch.specs.declared.cache.HeldFrame.{HeldFrame}
+use Rattle.m2v_batch.specs.declared.cache.DecodeCache.{DecodeCache}
 use Rattle.m2v_batch.specs.declared.picture.Header.{Header}
-use Rattle.m2v_batch.specs.declared.cache.RowState.{RowState}
-use Rattle.m2v_batch.specs.declared.cache.RowState.TheVariants.{Unknown, Missing, Rebuilt}
-use Rattle.m2v_batch.specs.Jobs.{Headers, header_at, first_job, picture_of_job, row_of_job, frame_begin, frame_from}
-use Rattle.m2v_batch.specs.Batches.{Batch, headers, header_of, Rows, with_own, rows_set, begun, frame_behind, IsBatch}
-use Rattle.m2v_batch.specs.Below.{first_more, first_upto, first_none, picture_upto, picture_within}
-use Rattle.m2v_batch.specs.Pieces.{row_of}
+use Rattle.m2v_batch.specs.declared.picture.FramePlace.{FramePlace}
+use Rattle.m2v_batch.specs.declared.picture.FramePlace.TheVariants.{Older, Newer, Waiting, Behind}
+use Rattle.m2v_batch.specs.declared.pieces.DecodePiece.{DecodePiece}
+use Rattle.m2v_batch.specs.declared.pieces.DecodePiece.TheVariants as piece
+use Rattle.m2v_batch.specs.Jobs.{Headers, header_at, jobs_at, frame_from, frame_count, picture_of_job, row_of_job}
+use Rattle.m2v_batch.specs.Batches.{Batch, headers, no_rows, with_own, frame_behind, IsBatch}
+use Rattle.m2v_batch.specs.Below.{ComesBefore, MayBe}
+use Rattle.m2v_batch.specs.Pieces.{row_of, is_rebuilt}
 use Rattle.m2v_batch.specs.Values.{value_of}
-use Rattle.m2v_batch.specs.Learned.{Cached, state_at, frame_in, state_of, slot_with, set_in, set_both, frames_learned, row_learned, is_read, slot, known_by, known, FitsCache, AreSized}
-use Rattle.m2v_batch.proofs.Sizes.{header_is, no_picture, at_picture, row_within}
-use Rattle.m2v_batch.proofs.Setting.{AddsRow}
-use Rattle.m2v_batch.proofs.FrameRows.{own_added, first_added, none_added, frame_same, from_first}
+use Rattle.m2v_batch.specs.Learned.{is_of, behind_of, stands_at, in_second, held_of, samples_in, begun_over, begun_held, held_for, with_job, row_learned, learned_behind, learned_at, frame_over, first_rebuilt, IsOver, HoldsRows, FitsHeld, FitsCache}
+use Rattle.m2v_batch.proofs.FrameSizes.{behind_size, row_fits}
+use Rattle.m2v_batch.proofs.Ranges.{range_more}
 
--- ---- sizes
+-- ---- which frame is held
 
-pub rows_size : (h : Header) (at : Rows) (from n : ℕ) (frame : Samples) → (rows_set h at from n frame).dims ≡ frame.dims
-unfolding rows_set
-rows_size h at from zero frame = refl
-rows_size h at from (suc n) frame = own_size (at (from + n)) (rows_set h at from n frame) ∙ rows_size h at from n frame
-  where
-    own_size : (o : Option Samples) (f : Samples) → (with_own h n o f).dims ≡ f.dims
-    own_size None f = refl
-    own_size (Some xs) f = refl
+self_eq : (q : ℕ) → nat_eq q q ≡ true
+self_eq q = eq-eqb q q refl
 
-some_size : (o : Option Samples) (d : Dims) → IsSome o → IfSome o (λ f. f.dims ≡ d) → (or_none o).dims ≡ d
-some_size (Some x) d is e = e
-some_size None d is e = absurd cc
+pub some_is : (o : Option ℕ) (q : ℕ) → is_of o q ≡ true → o ≡ Some q
+some_is None q e = absurd (cc e)
+some_is (Some p) q e = ap (λ (k : ℕ). Some k) (eqb-true p q e)
 
--- the frame behind a picture has the batch's size
-pub behind_size : (b : Batch) (at : Rows) (p : ℕ) → IsBatch b → (frame_behind b at p).dims ≡ b.dims
-unfolding frame_behind
-behind_size b at zero h =
-    rows_size (header_at (headers b) 0) at (first_job (headers b) 0) (header_at (headers b) 0).rows (begun b zero (or_none b.waiting))
-    ∙ by_second (header_at (headers b) 0).second refl
-  where
-    by_second : (t : Bool) → (header_at (headers b) 0).second ≡ t → (cond t (or_none b.waiting) (blank b.dims b.dims.mb_rows)).dims ≡ b.dims
-    by_second true e = some_size b.waiting b.dims (h.first e) h.waiting
-    by_second false e = refl
-behind_size b at (suc p) h =
-    rows_size (header_at (headers b) (suc p)) at (first_job (headers b) (suc p)) (header_at (headers b) (suc p)).rows (begun b (suc p) (frame_behind b at p))
-    ∙ by_second (header_at (headers b) (suc p)).second (frame_behind b at p) (behind_size b at p h)
-  where
-    by_second : (t : Bool) (f : Samples) → f.dims ≡ b.dims → (cond t f (blank b.dims b.dims.mb_rows)).dims ≡ b.dims
-    by_second true f e = e
-    by_second false f e = refl
+abbrev or_zero : Option ℕ → ℕ
+or_zero (Some x) = x
+or_zero None = 0
 
-part_fits : (t u : Bool) (r rows high : ℕ) → rows ≡ cond t high (high / 2) → r < rows → 16 * r + 16 ≤ part_of (cond t Whole (cond u Bottom Top)) (16 * high)
-part_fits true u r rows high e lt = omega (arith, e, lt)
-part_fits false true r rows high e lt = omega (arith, e, lt)
-part_fits false false r rows high e lt = omega (arith, e, lt)
+some_same : (x y : ℕ) → Some x ≡ Some y → x ≡ y
+some_same x y e = ap or_zero e
 
-row_in_picture : (b : Batch) (x : BatchPicture) (r high : ℕ) → (header_of x).rows ≡ cond (nat_eq (header_of x).structure 3) high (high / 2) → r < (header_of x).rows → 16 * r + 16 ≤ part_of (own_lines (header_of x).structure) (16 * high)
-row_in_picture b x r high e lt = part_fits (nat_eq (header_of x).structure 3) (nat_eq (header_of x).structure 2) r (header_of x).rows high e lt
+-- the frame that learns a row of the frame behind picture q
+abbrev chosen : DecodeCache → ℕ → Option FramePlace → HeldFrame
+chosen c q keep = cond (in_second c q keep) c.two c.one
 
--- a row of a picture lies in a frame
-pub row_fits : (b : Batch) (p r : ℕ) → IsBatch b → r < (header_at (headers b) p).rows → 16 * r + 16 ≤ part_of (own_lines (header_at (headers b) p).structure) (16 * b.dims.mb_rows)
-row_fits b p r h lt = elim ((slice_get_cases b.pictures p).1) [
-  | inl x ↦
-      let is = header_is b p x.0 x.2 in
-      let opened = at_picture (λ (y : BatchPicture). IsOpened y.piece y.opened) b p x.0 h.opened x.2 in
-      let size = ap (λ (d : Dims). d.mb_rows) (at_picture (λ (y : BatchPicture). y.opened.dims ≡ b.dims) b p x.0 h.sizes x.2) in
-      let rows = subst (λ (n : ℕ). (header_of x.0).rows ≡ cond (nat_eq (header_of x.0).structure 3) n (n / 2)) size opened.rows in
-      subst (λ (y : Header). r < y.rows → 16 * r + 16 ≤ part_of (own_lines y.structure) (16 * b.dims.mb_rows)) (sym is) (row_in_picture b x.0 r b.dims.mb_rows rows) lt
-  | inr e ↦ absurd (omega (arith, lt, ap (λ (y : Header). y.rows) (no_picture b p e.0)))
+second_is : (c : DecodeCache) (q : ℕ) (keep : Option FramePlace) (t u : Bool) → is_of c.one.picture q ≡ t → is_of c.two.picture q ≡ u → in_second c q keep ≡ (not t && (u || stands_at c.one.picture keep))
+unfolding in_second
+second_is c q keep t u et eu = λ i. not (et i) && (eu i || stands_at c.one.picture keep)
+
+held_first : (c : DecodeCache) (q : ℕ) → is_of c.one.picture q ≡ true → held_of c q ≡ c.one
+unfolding held_of
+held_first c q e = cond-true (is_of c.one.picture q) c.one c.two e
+
+held_second : (c : DecodeCache) (q : ℕ) → is_of c.one.picture q ≡ false → held_of c q ≡ c.two
+unfolding held_of
+held_second c q e = cond-false (is_of c.one.picture q) c.one c.two e
+
+-- the frame behind a picture that is held learns its rows
+pub held_chosen : (c : DecodeCache) (q : ℕ) (keep : Option FramePlace) → is_of (held_of c q).picture q ≡ true → chosen c q keep ≡ held_of c q
+held_chosen c q keep is = elim (cases_Bool (is_of c.one.picture q)) [
+  | inl e ↦ cond-false (in_second c q keep) c.two c.one (second_is c q keep true (is_of c.two.picture q) e refl) ∙ sym (held_first c q e)
+  | inr e ↦
+      let two : is_of c.two.picture q ≡ true = ap (λ (h : HeldFrame). is_of h.picture q) (sym (held_second c q e)) ∙ is in
+      cond-true (in_second c q keep) c.two c.one (second_is c q keep false true e two) ∙ sym (held_second c q e)
 ]
 
--- ---- a row set into frames
+learned_picture : (hs : Headers) (q k : ℕ) (row : Option Samples) (h : HeldFrame) → (row_learned hs q k row h).picture ≡ h.picture
+unfolding row_learned
+learned_picture hs q k row h = cond_both (nat_eq h.count k) _ h (λ (g : HeldFrame). g.picture ≡ h.picture) (λ e. refl) (λ e. refl)
 
-abbrev slots : Type 0
-slots = List (Option Samples)
+for_picture : (b : Batch) (q : ℕ) (h : HeldFrame) → is_of (held_for b q h).picture q ≡ true
+unfolding begun_held
+for_picture b q h = cond_both (is_of h.picture q) h (begun_held b q h) (λ (g : HeldFrame). is_of g.picture q ≡ true) (λ e. e) (λ e. self_eq q)
 
-both_is : (hs : Headers) (q r : ℕ) (xs : Samples) (frames : slots) (t : Bool) → (header_at hs (suc q)).second ≡ t
-    → set_both hs q r xs frames ≡ cond t (set_in hs q r xs (suc q) (set_in hs q r xs q frames)) (set_in hs q r xs q frames)
-unfolding set_both
-both_is hs q r xs frames t e = ap (λ (u : Bool). cond u (set_in hs q r xs (suc q) (set_in hs q r xs q frames)) (set_in hs q r xs q frames)) e
+abbrev learned : Batch → ℕ → ℕ → Option Samples → HeldFrame → HeldFrame
+learned b q k row h = row_learned (headers b) q k row (held_for b q h)
 
-both_length : (hs : Headers) (q r : ℕ) (xs : Samples) (frames : slots) → length (set_both hs q r xs frames) ≡ length frames
-both_length hs q r xs frames = elim (cases_Bool (header_at hs (suc q)).second) [
-  | inl e ↦ ap (λ (l : slots). length l) (both_is hs q r xs frames true e) ∙ length-set (set_in hs q r xs q frames) (suc q) _ ∙ length-set frames q _
-  | inr e ↦ ap (λ (l : slots). length l) (both_is hs q r xs frames false e) ∙ length-set frames q _
+learned_for : (b : Batch) (q k : ℕ) (row : Option Samples) (h : HeldFrame) → is_of (learned b q k row h).picture q ≡ true
+learned_for b q k row h = ap (λ (o : Option ℕ). is_of o q) (learned_picture (headers b) q k row (held_for b q h)) ∙ for_picture b q h
+
+behind_by : (b : Batch) (q k : ℕ) (keep : Option FramePlace) (row : Option Samples) (c : DecodeCache) (t : Bool) → in_second c q keep ≡ t
+    → learned_behind b q keep k row c ≡ cond t (record c { two = learned b q k row c.two }) (record c { one = learned b q k row c.one })
+unfolding learned_behind
+behind_by b q k keep row c t e = ap (λ (u : Bool). cond u (record c { two = learned b q k row c.two }) (record c { one = learned b q k row c.one })) e
+
+pub into_second : (b : Batch) (q k : ℕ) (keep : Option FramePlace) (row : Option Samples) (c : DecodeCache) → in_second c q keep ≡ true → learned_behind b q keep k row c ≡ record c { two = learned b q k row c.two }
+into_second b q k keep row c e = behind_by b q k keep row c true e
+
+pub into_first : (b : Batch) (q k : ℕ) (keep : Option FramePlace) (row : Option Samples) (c : DecodeCache) → in_second c q keep ≡ false → learned_behind b q keep k row c ≡ record c { one = learned b q k row c.one }
+into_first b q k keep row c e = behind_by b q k keep row c false e
+
+not_first : (c : DecodeCache) (q : ℕ) (keep : Option FramePlace) → in_second c q keep ≡ true → is_of c.one.picture q ≡ false
+not_first c q keep e = elim (cases_Bool (is_of c.one.picture q)) [
+  | inl first ↦ absurd (cc (sym e ∙ second_is c q keep true (is_of c.two.picture q) first refl))
+  | inr other ↦ other
 ]
 
--- in the frame behind its picture
-set_own : (hs : Headers) (q r : ℕ) (xs : Samples) (frames : slots) → q < length frames → get_or (set_both hs q r xs frames) q None ≡ slot_with (header_at hs q) r xs (get_or frames q None)
-set_own hs q r xs frames lt = elim (cases_Bool (header_at hs (suc q)).second) [
+-- then it is held
+pub held_learned : (b : Batch) (q k : ℕ) (keep : Option FramePlace) (row : Option Samples) (c : DecodeCache) → held_of (learned_behind b q keep k row c) q ≡ learned b q k row (chosen c q keep)
+held_learned b q k keep row c = elim (cases_Bool (in_second c q keep)) [
   | inl e ↦
-      ap (λ (l : slots). get_or l q None) (both_is hs q r xs frames true e)
-      ∙ get_or-set_other (set_in hs q r xs q frames) (suc q) q _ None (λ f. omega (arith, f))
-      ∙ get_or-set_same frames q _ None lt
-  | inr e ↦ ap (λ (l : slots). get_or l q None) (both_is hs q r xs frames false e) ∙ get_or-set_same frames q _ None lt
+      ap (λ (d : DecodeCache). held_of d q) (into_second b q k keep row c e)
+      ∙ held_second (record c { two = learned b q k row c.two }) q (not_first c q keep e)
+      ∙ ap (learned b q k row) (sym (cond-true (in_second c q keep) c.two c.one e))
+  | inr e ↦
+      ap (λ (d : DecodeCache). held_of d q) (into_first b q k keep row c e)
+      ∙ held_first (record c { one = learned b q k row c.one }) q (learned_for b q k row c.one)
+      ∙ ap (learned b q k row) (sym (cond-false (in_second c q keep) c.two c.one e))
 ]
 
--- in the frame behind its second field
-set_next : (hs : Headers) (q r : ℕ) (xs : Samples) (frames : slots) → (header_at hs (suc q)).second ≡ true → suc q < length frames
-    → get_or (set_both hs q r xs frames) (suc q) None ≡ slot_with (header_at hs q) r xs (get_or frames (suc q) None)
-set_next hs q r xs frames e lt =
-    ap (λ (l : slots). get_or l (suc q) None) (both_is hs q r xs frames true e)
-    ∙ get_or-set_same (set_in hs q r xs q frames) (suc q) _ None (omega (arith, lt, length-set frames q (slot_with (header_at hs q) r xs (get_or frames q None))))
-    ∙ ap (slot_with (header_at hs q) r xs) (get_or-set_other frames q (suc q) _ None (λ f. omega (arith, f)))
+-- ---- the frame that is kept
 
--- in no other frame
-set_elsewhere : (hs : Headers) (q r p : ℕ) (xs : Samples) (frames : slots) → (p ≡ q → ⊥) → (p ≡ suc q → (header_at hs (suc q)).second ≡ false)
-    → get_or (set_both hs q r xs frames) p None ≡ get_or frames p None
-set_elsewhere hs q r p xs frames other next = elim (cases_Bool (header_at hs (suc q)).second) [
+other_of : (o : Option ℕ) (p q : ℕ) → is_of o p ≡ true → (p ≡ q → ⊥) → is_of o q ≡ false
+other_of None p q e other = absurd (cc e)
+other_of (Some r) p q e other = ne_eqb r q (λ f. other (sym (eqb-true r p e) ∙ f))
+
+-- another frame that is held stays as it is
+other_kept : (b : Batch) (p q k : ℕ) (row : Option Samples) (c : DecodeCache) → is_of (held_of c p).picture p ≡ true → (p ≡ q → ⊥) → held_of (learned_behind b q (Some (Behind p)) k row c) p ≡ held_of c p
+other_kept b p q k row c is other = elim (cases_Bool (is_of c.one.picture p)) [
   | inl e ↦
-      ap (λ (l : slots). get_or l p None) (both_is hs q r xs frames true e)
-      ∙ get_or-set_other (set_in hs q r xs q frames) (suc q) p _ None (λ f. absurd (cc (sym e ∙ next f)))
-      ∙ get_or-set_other frames q p _ None other
-  | inr e ↦ ap (λ (l : slots). get_or l p None) (both_is hs q r xs frames false e) ∙ get_or-set_other frames q p _ None other
+      let second = second_is c q (Some (Behind p)) false (is_of c.two.picture q) (other_of c.one.picture p q e other) refl ∙ ap (λ (t : Bool). is_of c.two.picture q || t) e ∙ or_true (is_of c.two.picture q) in
+      ap (λ (d : DecodeCache). held_of d p) (into_second b q k (Some (Behind p)) row c second)
+      ∙ held_first (record c { two = learned b q k row c.two }) p e
+      ∙ sym (held_first c p e)
+  | inr e ↦
+      let two : is_of c.two.picture p ≡ true = ap (λ (h : HeldFrame). is_of h.picture p) (sym (held_second c p e)) ∙ is in
+      let first = second_is c q (Some (Behind p)) (is_of c.one.picture q) false refl (other_of c.two.picture p q two other) ∙ ap (λ (t : Bool). not (is_of c.one.picture q) && t) e ∙ and_false (not (is_of c.one.picture q)) in
+      let q_there = some_is (learned b q k row c.one).picture q (learned_for b q k row c.one) in
+      let gone : is_of (learned b q k row c.one).picture p ≡ false = ap (λ (o : Option ℕ). is_of o p) q_there ∙ ne_eqb q p (λ f. other (sym f)) in
+      ap (λ (d : DecodeCache). held_of d p) (into_first b q k (Some (Behind p)) row c first)
+      ∙ held_second (record c { one = learned b q k row c.one }) p gone
+      ∙ sym (held_second c p e)
 ]
+  where
+    or_true : (t : Bool) → (t || true) ≡ true
+    or_true true = refl
+    or_true false = refl
 
--- ---- what is known behind it
+    and_false : (t : Bool) → (t && false) ≡ false
+    and_false true = refl
+    and_false false = refl
 
-abbrev learned_states : Batch → ℕ → Cached → List RowState
-learned_states b i c = slice_set c.rows i (state_of (row_of (value_of b i)))
+-- ---- how many rows are learned
 
-abbrev with_state : Batch → ℕ → Cached → slots → Cached
-with_state b i c frames = record c { frames = frames; rows = learned_states b i c }
+-- at least so many of the frame behind a picture
+pub record HasSome (c : DecodeCache) (q n : ℕ) : Type 0 where
+  pub held : is_of (held_of c q).picture q ≡ true
+  pub some : n ≤ (held_of c q).count
 
-pub known_row : (row : Option Samples) → known_by (state_of row) row ≡ row
-known_row None = refl
-known_row (Some xs) = refl
+-- the frame that learns, if it is held, or is begun
+pub for_held : (b : Batch) (q : ℕ) (h : HeldFrame) → is_of h.picture q ≡ true → held_for b q h ≡ h
+for_held b q h e = cond-true (is_of h.picture q) h (begun_held b q h) e
 
-pub state_same : (b : Batch) (i : ℕ) (c : Cached) (frames : slots) → i < length c.rows → state_at (with_state b i c frames) i ≡ state_of (row_of (value_of b i))
-state_same b i c frames lt = get_or-set_same c.rows i (state_of (row_of (value_of b i))) Unknown lt
+pub for_begun : (b : Batch) (q : ℕ) (h : HeldFrame) → is_of h.picture q ≡ false → held_for b q h ≡ begun_held b q h
+for_begun b q h e = cond-false (is_of h.picture q) h (begun_held b q h) e
 
-pub state_other : (b : Batch) (i j : ℕ) (c : Cached) (frames : slots) → (j ≡ i → ⊥) → state_at (with_state b i c frames) j ≡ state_at c j
-state_other b i j c frames other = get_or-set_other c.rows i j (state_of (row_of (value_of b i))) Unknown other
+count_more : (hs : Headers) (q k : ℕ) (row : Option Samples) (h : HeldFrame) → k ≤ h.count → k + 1 ≤ (row_learned hs q k row h).count
+unfolding row_learned
+count_more hs q k row h le =
+    cond_both (nat_eq h.count k) _ h (λ (g : HeldFrame). k + 1 ≤ g.count) (λ e. omega (arith, le)) (λ e. omega (arith, le, differs e))
+  where
+    differs : nat_eq h.count k ≡ false → h.count ≡ k → ⊥
+    differs e f = absurd (cc (sym e ∙ eq-eqb h.count k f))
 
-known_same : (b : Batch) (i : ℕ) (c : Cached) (frames : slots) → i < length c.rows → known b (with_state b i c frames) i ≡ row_of (value_of b i)
-known_same b i c frames lt = ap (λ (s : RowState). known_by s (row_of (value_of b i))) (state_same b i c frames lt) ∙ known_row (row_of (value_of b i))
-
-known_other : (b : Batch) (i j : ℕ) (c : Cached) (frames : slots) → (j ≡ i → ⊥) → known b (with_state b i c frames) j ≡ known b c j
-known_other b i j c frames other = ap (λ (s : RowState). known_by s (row_of (value_of b j))) (state_other b i j c frames other)
-
-states_fit : (b : Batch) (i : ℕ) (c : Cached) (frames : slots) → i < length c.rows → FitsCache b c → (j : ℕ)
-    → (state_at (with_state b i c frames) j ≡ Unknown) ⊎ (state_at (with_state b i c frames) j ≡ state_of (row_of (value_of b j)))
-states_fit b i c frames lt fits j = elim (cases_eq j i) [
-  | inl e ↦ inr (subst (λ (k : ℕ). state_at (with_state b i c frames) k ≡ state_of (row_of (value_of b k))) (sym e) (state_same b i c frames lt))
-  | inr other ↦ subst (λ (s : RowState). (s ≡ Unknown) ⊎ (s ≡ state_of (row_of (value_of b j)))) (sym (state_other b i j c frames other)) (fits.each_state j)
-]
-
-slot_mapped : (t : Bool) (g : Samples → Samples) (f k : Samples) → k ≡ g f → option_map g (cond t (Some f) None) ≡ cond t (Some k) None
-slot_mapped true g f k e = ap (λ (x : Samples). Some x) (sym e)
-slot_mapped false g f k e = refl
-
--- ---- a row that isn't rebuilt
-
-missing_fits : (b : Batch) (i : ℕ) (c : Cached) → IsBatch b → i < length c.rows → state_at c i ≡ Unknown → row_of (value_of b i) ≡ None → FitsCache b c → FitsCache b (with_state b i c c.frames)
-missing_fits b i c h lt unknown none fits = record {
-  states = length-set c.rows i (state_of (row_of (value_of b i))) ∙ fits.states;
-  slots = fits.slots;
-  each_state = states_fit b i c c.frames lt fits;
-  each_frame = λ p below.
-      fits.each_frame p below
-      ∙ ap (λ (f : Samples). cond (is_read (headers b) p) (Some f) None) (frame_same b (known b c) (known b (with_state b i c c.frames)) p h (λ j le end. same j));
-  blank = fits.blank;
+-- one more is learned
+pub some_more : (b : Batch) (q k : ℕ) (keep : Option FramePlace) (row : Option Samples) (c : DecodeCache) → (0 < k → HasSome c q k) → HasSome (learned_behind b q keep k row c) q (k + 1)
+some_more b q k keep row c before = record {
+  held = ap (λ (h : HeldFrame). is_of h.picture q) (held_learned b q k keep row c) ∙ learned_for b q k row (chosen c q keep);
+  some = subst (λ (h : HeldFrame). k + 1 ≤ h.count) (sym (held_learned b q k keep row c)) (count_more (headers b) q k row (held_for b q (chosen c q keep)) (so_far k before));
 }
   where
-    same : (j : ℕ) → known b c j ≡ known b (with_state b i c c.frames) j
-    same j = elim (cases_eq j i) [
-      | inl e ↦
-          let before : known b c i ≡ None = ap (λ (s : RowState). known_by s (row_of (value_of b i))) unknown in
-          subst (λ (k : ℕ). known b c k ≡ known b (with_state b i c c.frames) k) (sym e) (before ∙ sym (known_same b i c c.frames lt ∙ none))
-      | inr other ↦ sym (known_other b i j c c.frames other)
-    ]
+    so_far : (n : ℕ) → (0 < n → HasSome c q n) → n ≤ (held_for b q (chosen c q keep)).count
+    so_far zero h = omega arith
+    so_far (suc n) h =
+        let has = h (omega arith) in
+        let same = held_chosen c q keep has.held in
+        subst (λ (g : HeldFrame). suc n ≤ (held_for b q g).count) (sym same) (subst (λ (g : HeldFrame). suc n ≤ g.count) (sym (for_held b q (held_of c q) has.held)) has.some)
 
--- ---- a row that is rebuilt
+-- a row that isn't the next one is learned already
+pub other_row : (hs : Headers) (q k : ℕ) (row : Option Samples) (h : HeldFrame) → (h.count ≡ k → ⊥) → h ≡ row_learned hs q k row h
+unfolding row_learned
+other_row hs q k row h other = sym (cond-false (nat_eq h.count k) _ h (ne_eqb h.count k other))
 
-late : (hs : Headers) (m k : ℕ) → suc m ≤ k → m ≤ frame_begin hs k
-unfolding frame_begin
-late hs m zero far = absurd (omega arith)
-late hs m (suc k) far = cond_both (header_at hs (suc k)).second k (suc k) (λ n. m ≤ n) (λ e. omega (arith, far)) (λ e. omega (arith, far))
+count_same : (hs : Headers) (q k : ℕ) (row : Option Samples) (h : HeldFrame) → k < h.count → row_learned hs q k row h ≡ h
+unfolding row_learned
+count_same hs q k row h lt = cond-false (nat_eq h.count k) _ h (ne_eqb h.count k (λ e. omega (arith, e, lt)))
 
--- a job by its picture and its row
-pub record IsJob (hs : Headers) (i q r : ℕ) : Type 0 where
-  pub picture : q < length hs
-  pub row : r < (header_at hs q).rows
-  pub job : first_job hs q + r ≡ i
-
-abbrev with_rows : Batch → ℕ → ℕ → ℕ → Samples → Cached → Cached
-with_rows b i q r xs c = with_state b i c (set_both (headers b) q r xs c.frames)
-
-rebuilt_frame : (b : Batch) (i q r p : ℕ) (xs : Samples) (c : Cached) → IsBatch b → IsJob (headers b) i q r → FitsCache b c → AddsRow (known b c) (known b (with_rows b i q r xs c)) i xs → p < length (headers b)
-    → frame_in (with_rows b i q r xs c) p ≡ slot b (known b (with_rows b i q r xs c)) p
-rebuilt_frame b i q r p xs c h job fits adds below =
-    let hs = headers b in
-    let now = known b (with_rows b i q r xs c) in
-    let at = known b c in
-    let own = subst (λ (k : ℕ). AddsRow at now k xs) (sym job.job) adds in
-    elim (cases_eq p q) [
-      | inl e ↦
-          subst (λ (k : ℕ). get_or (set_both hs q r xs c.frames) k None ≡ slot b now k) (sym e)
-          (set_own hs q r xs c.frames (omega (arith, job.picture, fits.slots))
-          ∙ ap (slot_with (header_at hs q) r xs) (fits.each_frame q job.picture)
-          ∙ slot_mapped (is_read hs q) (λ (f : Samples). with_row f (own_lines (header_at hs q).structure) r xs) (frame_behind b at q) (frame_behind b now q) (own_added b at now q r xs h job.row own))
-      | inr other ↦ elim (cases_eq p (suc q)) [
-        | inl e ↦ elim (cases_Bool (header_at hs (suc q)).second) [
-          | inl second ↦
-              subst (λ (k : ℕ). get_or (set_both hs q r xs c.frames) k None ≡ slot b now k) (sym e)
-              (set_next hs q r xs c.frames second (omega (arith, below, e, fits.slots))
-              ∙ ap (slot_with (header_at hs q) r xs) (fits.each_frame (suc q) (omega (arith, below, e)))
-              ∙ slot_mapped (is_read hs (suc q)) (λ (f : Samples). with_row f (own_lines (header_at hs q).structure) r xs) (frame_behind b at (suc q)) (frame_behind b now (suc q)) (first_added b at now q r xs h second job.row own))
-          | inr first ↦ elsewhere hs now at other (λ f. first)
-              (λ le lt. absurd (omega (arith, le, job.job, job.row, first_more hs q, ap (frame_from hs) e, from_first hs (suc q) first)))
-        ]
-        | inr far ↦ elsewhere hs now at other (λ f. absurd (far f)) (away hs other far)
-      ]
-    ]
+-- all rows of the frame that is kept stay learned
+pub all_kept : (b : Batch) (p q k : ℕ) (row : Option Samples) (c : DecodeCache) → k < frame_count (headers b) q → HasSome c p (frame_count (headers b) p) → HasSome (learned_behind b q (Some (Behind p)) k row c) p (frame_count (headers b) p)
+all_kept b p q k row c lt has = elim (cases_eq p q) [
+  | inl e ↦
+      let same = held_chosen c p (Some (Behind p)) has.held in
+      let held : held_for b p (chosen c p (Some (Behind p))) ≡ held_of c p = ap (held_for b p) same ∙ for_held b p (held_of c p) has.held in
+      let small : k < (held_of c p).count = omega (arith, has.some, lt, ap (frame_count (headers b)) e) in
+      let stays : held_of (learned_behind b p (Some (Behind p)) k row c) p ≡ held_of c p =
+      held_learned b p k (Some (Behind p)) row c ∙ ap (row_learned (headers b) p k row) held ∙ count_same (headers b) p k row (held_of c p) small in
+      subst (λ (r : ℕ). HasSome (learned_behind b r (Some (Behind p)) k row c) p (frame_count (headers b) p)) e (as_before (learned_behind b p (Some (Behind p)) k row c) stays)
+  | inr other ↦ as_before (learned_behind b q (Some (Behind p)) k row c) (other_kept b p q k row c has.held other)
+]
   where
-    elsewhere : (hs : Headers) (now at : Rows) → (p ≡ q → ⊥) → (p ≡ suc q → (header_at (headers b) (suc q)).second ≡ false)
-        → (frame_from (headers b) p ≤ i → i < first_job (headers b) (suc p) → ⊥) → frame_in (with_rows b i q r xs c) p ≡ slot b (known b (with_rows b i q r xs c)) p
-    elsewhere hs now at other next not_there =
-        set_elsewhere (headers b) q r p xs c.frames other next
-        ∙ fits.each_frame p below
-        ∙ ap (λ (f : Samples). cond (is_read (headers b) p) (Some f) None) (sym (none_added b (known b c) (known b (with_rows b i q r xs c)) i p xs h not_there adds))
+    as_before : (d : DecodeCache) → held_of d p ≡ held_of c p → HasSome d p (frame_count (headers b) p)
+    as_before d e = record { held = ap (λ (h : HeldFrame). is_of h.picture p) e ∙ has.held; some = subst (λ (h : HeldFrame). frame_count (headers b) p ≤ h.count) (sym e) has.some }
 
-    away : (hs : Headers) → (p ≡ q → ⊥) → (p ≡ suc q → ⊥) → frame_from (headers b) p ≤ i → i < first_job (headers b) (suc p) → ⊥
-    away hs other far le lt = elim (cases_lt p q) [
-      | inl before ↦ omega (arith, lt, first_upto (headers b) (suc p) q (omega (arith, before)), job.job)
-      | inr after ↦ omega (arith, le, first_upto (headers b) (suc q) (frame_begin (headers b) p) (late (headers b) (suc q) p (omega (arith, after, other, far))), first_more (headers b) q, job.job, job.row)
-    ]
+-- ---- what fits
 
--- what is learned fits
-rebuilt_fits : (b : Batch) (i q r : ℕ) (xs : Samples) (c : Cached) → IsBatch b → IsJob (headers b) i q r → state_at c i ≡ Unknown → i < length c.rows → row_of (value_of b i) ≡ Some xs → FitsCache b c
-    → FitsCache b (with_rows b i q r xs c)
-rebuilt_fits b i q r xs c h job unknown lt is fits =
-    let frames = set_both (headers b) q r xs c.frames in
-    let adds : AddsRow (known b c) (known b (with_rows b i q r xs c)) i xs = record {
-      none = ap (λ (s : RowState). known_by s (row_of (value_of b i))) unknown;
-      some = known_same b i c frames lt ∙ is;
-      others = λ j other. known_other b i j c frames other;
-    } in
+over_size : (b : Batch) (q : ℕ) (old : Samples) → IsBatch b → old.dims ≡ b.dims → (begun_over b q old).dims ≡ b.dims
+over_size b q old h e =
+    cond_both (nat_eq (header_at (headers b) q).structure 3) old (frame_behind b no_rows q) (λ (f : Samples). f.dims ≡ b.dims) (λ t. e) (λ t. behind_size b no_rows q h)
+
+none_learned : (b : Batch) (q : ℕ) (frame : Samples) → frame ≡ frame_over b q 0 frame
+unfolding frame_over
+none_learned b q frame = refl
+
+-- a frame that is there, or of samples 0, has the batch's size
+pub samples_size : (b : Batch) (room : Option Dims) (frame : Option Samples) → IfSome room (λ d. d ≡ b.dims) → IfSome frame (λ f. f.dims ≡ b.dims) → IfSome (samples_in room frame) (λ f. f.dims ≡ b.dims)
+samples_size b (Some d) frame hr hf = hr
+samples_size b None frame hr hf = hf
+
+begun_fits : (b : Batch) (q : ℕ) (h : HeldFrame) (o : Option Samples) → IsBatch b → q < length (headers b) → samples_in h.room h.frame ≡ o → IsSome o → IfSome o (λ f. f.dims ≡ b.dims) → FitsHeld b (begun_held b q h)
+unfolding begun_held
+begun_fits b q h None batch lt e there size = absurd (cc there)
+begun_fits b q h (Some old) batch lt e there size =
+    let over = begun_over b q old in
+    let is : option_map (begun_over b q) (samples_in h.room h.frame) ≡ Some over = ap (option_map (begun_over b q)) e in
     record {
-      states = length-set c.rows i (state_of (row_of (value_of b i))) ∙ fits.states;
-      slots = both_length (headers b) q r xs c.frames ∙ fits.slots;
-      each_state = states_fit b i c frames lt fits;
-      each_frame = λ p below. rebuilt_frame b i q r p xs c h job fits adds below;
-      blank = fits.blank;
+      there = ap is_some is;
+      frame = subst (λ (o : Option Samples). IfSome o (λ f. f.dims ≡ b.dims)) (sym is) (over_size b q old batch size);
+      room = tt;
+      rows = λ p f. subst (λ (k : ℕ). HoldsRows b (begun_held b q h) k) (some_same q p f) (record {
+        picture = lt;
+        room = refl;
+        most = omega arith;
+        whole = refl;
+        frame = λ t. record {
+          base = over;
+          size = over_size b q old batch size;
+          begun = λ u. cond-false (nat_eq (header_at (headers b) q).structure 3) old (frame_behind b no_rows q) u;
+          is = is ∙ ap (λ (g : Samples). Some g) (none_learned b q over);
+        };
+      });
     }
 
-pub job_is : (hs : Headers) (i : ℕ) → i < first_job hs (length hs) → IsJob hs i (picture_of_job hs i) (row_of_job hs i)
-job_is hs i lt = record {
-  picture = picture_within hs (length hs) i (some_there (length hs) lt);
-  row = row_within hs i lt;
-  job = omega (arith, picture_upto hs (length hs) i);
-}
+pub for_fits : (b : Batch) (q : ℕ) (h : HeldFrame) → IsBatch b → q < length (headers b) → FitsHeld b h → FitsHeld b (held_for b q h)
+for_fits b q h batch lt fits =
+    cond_both (is_of h.picture q) h (begun_held b q h) (FitsHeld b) (λ e. fits) (λ e. begun_fits b q h (samples_in h.room h.frame) batch lt refl fits.there (samples_size b h.room h.frame fits.room fits.frame))
+
+set_rebuilt : (p : DecodePiece) → is_some (row_of p) ≡ is_rebuilt p
+set_rebuilt (piece.Unread r) = refl
+set_rebuilt piece.After = refl
+set_rebuilt (piece.Faulty f) = refl
+set_rebuilt (piece.Rebuilt xs) = refl
+
+job_size : (hs : Headers) (i : ℕ) (row : Option Samples) (f : Samples) → (with_job hs i row f).dims ≡ f.dims
+job_size hs i None f = refl
+job_size hs i (Some xs) f = refl
+
+mapped_there : (o : Option Samples) (g : Samples → Samples) → IsSome o → IsSome (option_map g o)
+mapped_there None g h = h
+mapped_there (Some f) g h = refl
+
+mapped_size : (o : Option Samples) (g : Samples → Samples) (d : Dims) → ((f : Samples) → (g f).dims ≡ f.dims) → IfSome o (λ f. f.dims ≡ d) → IfSome (option_map g o) (λ f. f.dims ≡ d)
+mapped_size None g d same h = tt
+mapped_size (Some f) g d same h = same f ∙ h
+
+room_none : (b : Batch) (h : HeldFrame) (q : ℕ) → HoldsRows b h q → samples_in h.room h.frame ≡ h.frame
+room_none b h q rows = ap (λ (o : Option Dims). samples_in o h.frame) rows.room
+
+rebuilt_more : (b : Batch) (q k : ℕ) → (first_rebuilt b q k && is_some (row_of (value_of b (frame_from (headers b) q + k)))) ≡ first_rebuilt b q (k + 1)
+rebuilt_more b q k =
+    let test = λ (i : ℕ). is_rebuilt (value_of b i) in
+    let from = frame_from (headers b) q in
+    let next : suc k ≡ k + 1 = omega arith in
+    ap (λ (t : Bool). first_rebuilt b q k && t) (set_rebuilt (value_of b (from + k)) ∙ sym (and_true (test (from + k))))
+    ∙ sym (list_all-append test (range_with_len from k) ((from + k) ∷ []))
+    ∙ ap (list_all test) (sym (range_more from k))
+    ∙ ap (first_rebuilt b q) next
   where
-    some_there : (n : ℕ) → i < first_job hs n → 0 < n
-    some_there zero small = absurd (omega (arith, small, first_none hs))
-    some_there (suc n) small = omega arith
+    and_true : (t : Bool) → (t && true) ≡ t
+    and_true true = refl
+    and_true false = refl
 
-by_row : (b : Batch) (i : ℕ) (o : Option Samples) (c : Cached) → IsBatch b → i < first_job (headers b) (length (headers b)) → row_of (value_of b i) ≡ o → state_at c i ≡ Unknown → FitsCache b c
-    → FitsCache b (record c { frames = frames_learned (headers b) i o c.frames; rows = slice_set c.rows i (state_of o) })
-unfolding frames_learned
-by_row b i None c h lt is unknown fits =
-    subst (λ (o : Option Samples). FitsCache b (record c { frames = c.frames; rows = slice_set c.rows i (state_of o) })) is
-    (missing_fits b i c h (omega (arith, lt, fits.states)) unknown is fits)
-by_row b i (Some xs) c h lt is unknown fits =
-    subst (λ (o : Option Samples). FitsCache b (record c { frames = set_both (headers b) (picture_of_job (headers b) i) (row_of_job (headers b) i) xs c.frames; rows = slice_set c.rows i (state_of o) })) is
-    (rebuilt_fits b i (picture_of_job (headers b) i) (row_of_job (headers b) i) xs c h (job_is (headers b) i lt) unknown (omega (arith, lt, fits.states)) is fits)
+over_more : (b : Batch) (q k : ℕ) (base : Samples) → with_job (headers b) (frame_from (headers b) q + k) (row_of (value_of b (frame_from (headers b) q + k))) (frame_over b q k base) ≡ frame_over b q (k + 1) base
+unfolding frame_over
+over_more b q k base = let next : suc k ≡ k + 1 = omega arith in ap (λ (n : ℕ). frame_over b q n base) next
 
--- a cache that has learned a row fits
-pub learned_fits : (b : Batch) (i : ℕ) (c : Cached) (s : RowState) → IsBatch b → i < first_job (headers b) (length (headers b)) → state_at c i ≡ s → FitsCache b c
-    → FitsCache b (row_learned (headers b) i (row_of (value_of b i)) c s)
+-- the next row
+next_fits : (b : Batch) (q k : ℕ) (h : HeldFrame) → k < frame_count (headers b) q → h.picture ≡ Some q → h.count ≡ k → FitsHeld b h
+    → FitsHeld b (record h {
+      frame = option_map (with_job (headers b) (frame_from (headers b) q + k) (row_of (value_of b (frame_from (headers b) q + k)))) h.frame;
+      count = h.count + 1;
+      whole = h.whole && is_some (row_of (value_of b (frame_from (headers b) q + k)));
+    })
+next_fits b q k h lt of at fits =
+    let hs = headers b in
+    let row = row_of (value_of b (frame_from hs q + k)) in
+    let set = with_job hs (frame_from hs q + k) row in
+    let rows = fits.rows q of in
+    let none = room_none b h q rows in
+    let now = record h { frame = option_map set h.frame; count = h.count + 1; whole = h.whole && is_some row } in
+    let none_now : samples_in h.room (option_map set h.frame) ≡ option_map set h.frame = ap (λ (o : Option Dims). samples_in o (option_map set h.frame)) rows.room in
+    record {
+      there = subst IsSome (sym none_now) (mapped_there h.frame set (subst IsSome none fits.there));
+      frame = mapped_size h.frame set b.dims (job_size hs (frame_from hs q + k) row) fits.frame;
+      room = fits.room;
+      rows = λ p e. subst (HoldsRows b now) (some_same q p (sym of ∙ e)) (record {
+        picture = rows.picture;
+        room = rows.room;
+        most = omega (arith, at, lt);
+        whole = ap (λ (t : Bool). t && is_some row) (rows.whole ∙ ap (first_rebuilt b q) at) ∙ rebuilt_more b q k ∙ ap (λ (n : ℕ). first_rebuilt b q (n + 1)) (sym at);
+        frame = λ t. over rows (and_parts h.whole (is_some row) t).0;
+      });
+    }
+  where
+    over : HoldsRows b h q → h.whole ≡ true
+        → IsOver b q (h.count + 1) (option_map (with_job (headers b) (frame_from (headers b) q + k) (row_of (value_of b (frame_from (headers b) q + k)))) h.frame)
+    over rows t =
+        let before = rows.frame t in
+        let hs = headers b in
+        let set = with_job hs (frame_from hs q + k) (row_of (value_of b (frame_from hs q + k))) in
+        record {
+          base = before.base;
+          size = before.size;
+          begun = before.begun;
+          is = ap (option_map set) (before.is ∙ ap (λ (n : ℕ). Some (frame_over b q n before.base)) at)
+              ∙ ap (λ (f : Samples). Some f) (over_more b q k before.base)
+              ∙ ap (λ (n : ℕ). Some (frame_over b q (n + 1) before.base)) (sym at);
+        }
+
+row_fits_held : (b : Batch) (q k : ℕ) (h : HeldFrame) → k < frame_count (headers b) q → h.picture ≡ Some q → FitsHeld b h → FitsHeld b (row_learned (headers b) q k (row_of (value_of b (frame_from (headers b) q + k))) h)
 unfolding row_learned
-learned_fits b i c Unknown h lt e fits = by_row b i (row_of (value_of b i)) c h lt refl e fits
-learned_fits b i c Missing h lt e fits = fits
-learned_fits b i c Rebuilt h lt e fits = fits
+row_fits_held b q k h lt of fits =
+    cond_both (nat_eq h.count k) _ h (FitsHeld b) (λ e. next_fits b q k h lt of (eqb-true h.count k e) fits) (λ e. fits)
 
--- ---- what the code sets
+-- what is learned fits
+pub learned_fits : (b : Batch) (q k : ℕ) (keep : Option FramePlace) (c : DecodeCache) → IsBatch b → q < length (headers b) → k < frame_count (headers b) q → FitsCache b c
+    → FitsCache b (learned_behind b q keep k (row_of (value_of b (frame_from (headers b) q + k))) c)
+learned_fits b q k keep c batch there lt fits =
+    let row = row_of (value_of b (frame_from (headers b) q + k)) in
+    let each = λ (h : HeldFrame) (f : FitsHeld b h). row_fits_held b q k (held_for b q h) lt (some_is (held_for b q h).picture q (for_picture b q h)) (for_fits b q h batch there f) in
+    elim (cases_Bool (in_second c q keep)) [
+      | inl e ↦ subst (FitsCache b) (sym (into_second b q k keep row c e)) (record { one = fits.one; two = each c.two fits.two; blank = fits.blank })
+      | inr e ↦ subst (FitsCache b) (sym (into_first b q k keep row c e)) (record { one = each c.one fits.one; two = fits.two; blank = fits.blank })
+    ]
 
-abbrev pub set_by : Lines → ℕ → Samples → ℕ → slots → slots
-set_by lines r xs p frames = slice_set frames p (option_map (λ f. with_row f lines r xs) (get_or frames p None))
+-- ---- a cache that has learned nothing yet
 
-pub one_set : (hs : Headers) (q r : ℕ) (xs : Samples) (c d : Cached) (lines : Lines) → lines ≡ own_lines (header_at hs q).structure → (header_at hs (suc q)).second ≡ false
-    → d ≡ record c { frames = set_by lines r xs q c.frames } → d ≡ record c { frames = set_both hs q r xs c.frames }
-one_set hs q r xs c d lines el second ed =
-    ed
-    ∙ ap (λ (l : Lines). record c { frames = set_by l r xs q c.frames }) el
-    ∙ ap (λ (fs : slots). record c { frames = fs }) (sym (both_is hs q r xs c.frames false second))
+pub room_fits : (b : Batch) (h : HeldFrame) (d : Dims) → h.room ≡ Some d → h.frame ≡ None → h.picture ≡ None → d ≡ b.dims → FitsHeld b h
+room_fits b h d room frame picture size = record {
+  there = ap (λ (o : Option Dims). is_some (samples_in o h.frame)) room;
+  frame = subst (λ (o : Option Samples). IfSome o (λ f. f.dims ≡ b.dims)) (sym frame) tt;
+  room = subst (λ (o : Option Dims). IfSome o (λ e. e ≡ b.dims)) (sym room) size;
+  rows = λ q e. absurd (cc (sym picture ∙ e));
+}
 
-pub two_set : (hs : Headers) (q r p : ℕ) (xs : Samples) (c d e : Cached) (lines : Lines) → lines ≡ own_lines (header_at hs q).structure → p ≡ suc q → (header_at hs (suc q)).second ≡ true
-    → d ≡ record c { frames = set_by lines r xs q c.frames } → e ≡ record d { frames = set_by lines r xs p d.frames } → e ≡ record c { frames = set_both hs q r xs c.frames }
-two_set hs q r p xs c d e lines el ep second ed ee =
-    let own = own_lines (header_at hs q).structure in
-    ee
-    ∙ ap (λ (x : Cached). record x { frames = set_by lines r xs p x.frames }) ed
-    ∙ ap (λ (l : Lines). record c { frames = set_by l r xs p (set_by l r xs q c.frames) }) el
-    ∙ ap (λ (k : ℕ). record c { frames = set_by own r xs k (set_by own r xs q c.frames) }) ep
-    ∙ ap (λ (fs : slots). record c { frames = fs }) (sym (both_is hs q r xs c.frames true second))
+-- ---- what the code does
 
-pub slot_row : (o : Option Samples) (d : Dims) (lines own : Lines) (r : ℕ) → lines ≡ own → IfSome o (λ f. f.dims ≡ d) → 16 * r + 16 ≤ part_of own (16 * d.mb_rows) → IfSome o (λ f. 16 * r + 16 ≤ part_of lines (16 * f.dims.mb_rows))
-slot_row None d lines own r e size le = tt
-slot_row (Some f) d lines own r e size le =
-    subst (λ (l : Lines). 16 * r + 16 ≤ part_of l (16 * f.dims.mb_rows)) (sym e) (subst (λ (x : Dims). 16 * r + 16 ≤ part_of own (16 * x.mb_rows)) (sym size) le)
+pub behind_is : (x : Option FramePlace) (q : ℕ) → behind_of x ≡ Some q → x ≡ Some (Behind q)
+behind_is None q e = absurd (cc e)
+behind_is (Some Older) q e = absurd (cc e)
+behind_is (Some Newer) q e = absurd (cc e)
+behind_is (Some Waiting) q e = absurd (cc e)
+behind_is (Some (Behind p)) q e = ap (λ (k : ℕ). Some (Behind k)) (some_same p q e)
 
-mapped_size : (o : Option Samples) (d : Dims) (lines : Lines) (r : ℕ) (xs : Samples) → IfSome o (λ f. f.dims ≡ d) → IfSome (option_map (λ f. with_row f lines r xs) o) (λ f. f.dims ≡ d)
-mapped_size None d lines r xs h = tt
-mapped_size (Some f) d lines r xs h = h
+pub behind_there : (n : ℕ) (x : Option FramePlace) (q : ℕ) → x ≡ Some (Behind q) → MayBe (ComesBefore n) x → q < n
+unfolding MayBe ComesBefore
+behind_there n x q e h = subst (MayBe (ComesBefore n)) e h
 
-pub sized_set : (c e : Cached) (d : Dims) (lines : Lines) (q r : ℕ) (xs : Samples) → q < length c.frames → AreSized d c → e ≡ record c { frames = set_by lines r xs q c.frames } → AreSized d e
-sized_set c e d lines q r xs lt sized is p =
-    subst (λ (x : Cached). IfSome (frame_in x p) (λ f. f.dims ≡ d)) (sym is)
-    (elim (cases_eq p q) [
-      | inl same ↦ subst (λ (o : Option Samples). IfSome o (λ f. f.dims ≡ d))
-          (sym (ap (λ (k : ℕ). get_or (set_by lines r xs q c.frames) k None) same ∙ get_or-set_same c.frames q _ None lt)) (mapped_size (frame_in c q) d lines r xs (sized q))
-      | inr other ↦ subst (λ (o : Option Samples). IfSome o (λ f. f.dims ≡ d)) (sym (get_or-set_other c.frames q p _ None other)) (sized p)
-    ])
+pub behind_none : (b : Batch) (x keep : Option FramePlace) (k : ℕ) (row : Option Samples) (c : DecodeCache) → behind_of x ≡ None → c ≡ learned_at b x keep k row c
+behind_none b None keep k row c e = refl
+behind_none b (Some Older) keep k row c e = refl
+behind_none b (Some Newer) keep k row c e = refl
+behind_none b (Some Waiting) keep k row c e = refl
+behind_none b (Some (Behind p)) keep k row c e = absurd (cc e)
 
-slot_size : (t : Bool) (f : Samples) (d : Dims) → f.dims ≡ d → IfSome (cond t (Some f) None) (λ g. g.dims ≡ d)
-slot_size true f d e = e
-slot_size false f d e = tt
+pub begun_by : (b : Batch) (q : ℕ) (h m : HeldFrame) → m.room ≡ None → m.frame ≡ option_map (begun_over b q) (samples_in h.room h.frame)
+    → record { room = m.room; frame = m.frame; picture = Some q; count = 0; whole = true } ≡ begun_held b q h
+unfolding begun_held
+begun_by b q h m er ef = λ i. record { room = er i; frame = ef i; picture = Some q; count = 0; whole = true }
 
-pub fits_sized : (b : Batch) (c : Cached) → IsBatch b → FitsCache b c → AreSized b.dims c
-fits_sized b c h fits p = elim (cases_lt p (length (headers b))) [
-  | inl lt ↦ subst (λ (o : Option Samples). IfSome o (λ f. f.dims ≡ b.dims)) (sym (fits.each_frame p lt)) (slot_size (is_read (headers b) p) (frame_behind b (known b c) p) b.dims (behind_size b (known b c) p h))
-  | inr le ↦ subst (λ (o : Option Samples). IfSome o (λ f. f.dims ≡ b.dims)) (sym (get_or_past c.frames p None (omega (arith, le, fits.slots)))) tt
-]
+pub row_small : (hs : Headers) (x : Option FramePlace) (q k : ℕ) → x ≡ Some (Behind q) → k < length (jobs_at hs x) → k < frame_count hs q
+unfolding jobs_at
+row_small hs x q k e lt = omega (arith, lt, ap (λ (y : Option FramePlace). length (jobs_at hs y)) e, length-range_with_len (frame_from hs q) (frame_count hs q))
 
--- a frame of samples 0 has the size of each frame of a cache
-pub blank_by : (o : Option Samples) (d : Dims) (zeros : Option Samples) → IfSome o (λ f. f.dims ≡ d) → zeros ≡ Some (blank d d.mb_rows) → IfSome o (λ f. zeros ≡ Some (blank f.dims f.dims.mb_rows))
-blank_by None d zeros h e = tt
-blank_by (Some f) d zeros h e = e ∙ ap (λ (x : Dims). Some (blank x x.mb_rows)) (sym h)
+pub next_learned : (hs : Headers) (q k i p r : ℕ) (x : Header) (row : Option Samples) (h d : HeldFrame) → h.count ≡ k → i ≡ frame_from hs q + k → p ≡ picture_of_job hs i → x ≡ header_at hs p → r ≡ row_of_job hs i
+    → d ≡ record h { frame = option_map (with_own x r row) h.frame; count = h.count + 1; whole = h.whole && is_some row } → d ≡ row_learned hs q k row h
+unfolding row_learned
+next_learned hs q k i p r x row h d at ei ep ex er is =
+    is
+    ∙ (λ j. record h { frame = option_map (with_own (header_is j) (row_is j) row) h.frame; count = h.count + 1; whole = h.whole && is_some row })
+    ∙ sym (cond-true (nat_eq h.count k) _ h (eq-eqb h.count k at))
+  where
+    header_is : x ≡ header_at hs (picture_of_job hs (frame_from hs q + k))
+    header_is = ex ∙ ap (header_at hs) (ep ∙ ap (picture_of_job hs) ei)
 
-pub missing_learned : (hs : Headers) (i : ℕ) (row : Option Samples) (c d : Cached) → None ≡ row → d ≡ record c { rows = slice_set c.rows i Missing } → d ≡ row_learned hs i row c Unknown
-unfolding row_learned frames_learned
-missing_learned hs i row c d e is = is ∙ ap (λ (o : Option Samples). row_learned hs i o c Unknown) e
+    row_is : r ≡ row_of_job hs (frame_from hs q + k)
+    row_is = er ∙ ap (row_of_job hs) ei
 
-pub rebuilt_learned : (hs : Headers) (i q r : ℕ) (xs : Samples) (row : Option Samples) (c d e : Cached) → Some xs ≡ row → q ≡ picture_of_job hs i → r ≡ row_of_job hs i
-    → d ≡ record c { rows = slice_set c.rows i Rebuilt } → e ≡ record d { frames = set_both hs q r xs d.frames } → e ≡ row_learned hs i row c Unknown
-unfolding row_learned frames_learned
-rebuilt_learned hs i q r xs row c d e some eq er ed ee =
-    ee
-    ∙ ap (λ (x : Cached). record x { frames = set_both hs q r xs x.frames }) ed
-    ∙ ap (λ (k : ℕ). record c { frames = set_both hs k r xs c.frames; rows = slice_set c.rows i Rebuilt }) eq
-    ∙ ap (λ (k : ℕ). record c { frames = set_both hs (picture_of_job hs i) k xs c.frames; rows = slice_set c.rows i Rebuilt }) er
-    ∙ ap (λ (o : Option Samples). row_learned hs i o c Unknown) some
+pub row_there : (b : Batch) (o : Option Samples) (p j r : ℕ) (x : Header) → IsBatch b → IfSome o (λ f. f.dims ≡ b.dims) → x ≡ header_at (headers b) p → p ≡ picture_of_job (headers b) j
+    → r < (header_at (headers b) (picture_of_job (headers b) j)).rows → IfSome o (λ f. 16 * r + 16 ≤ part_of (own_lines x.structure) (16 * f.dims.mb_rows))
+row_there b None p j r x h size ex ep lt = tt
+row_there b (Some f) p j r x h size ex ep lt =
+    subst (λ (y : Header). 16 * r + 16 ≤ part_of (own_lines y.structure) (16 * f.dims.mb_rows)) (sym (ex ∙ ap (header_at (headers b)) ep))
+    (subst (λ (d : Dims). 16 * r + 16 ≤ part_of (own_lines (header_at (headers b) (picture_of_job (headers b) j)).structure) (16 * d.mb_rows)) (sym size) (row_fits b (picture_of_job (headers b) j) r h lt))

@@ -17,7 +17,7 @@ at_second a m b n i le lt =
     ∙ get_or-append-add (range_with_len a m) (range_with_len b n) (i - m) 0
     ∙ get_or-range_with_len b n (i - m) 0 (omega (arith, le, lt))
 
-range_more : (a n : ℕ) → range_with_len a (suc n) ≡ range_with_len a n ++ (a + n) ∷ []
+pub range_more : (a n : ℕ) → range_with_len a (suc n) ≡ range_with_len a n ++ (a + n) ∷ []
 range_more a zero = let e : a + 0 ≡ a = omega arith in ap (λ (k : ℕ). k ∷ []) (sym e)
 range_more a (suc n) =
     let e : a + 1 + n ≡ a + suc n = omega arith in

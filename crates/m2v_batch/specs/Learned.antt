@@ -1,122 +1,142 @@
 -- What a worker's cache holds, and what learning makes of it.
-use Rattle.std.specs.Prelude.{ℕ, zero, suc, ◌≡◌, ◌<◌, ◌⊎◌, Bool, true, false, ◌||◌, nat_eq, if◌then◌else◌, List, length, slice_index, slice_index_or, slice_set, Option, Some, None, IfSome}
-use Rattle.m2v_plane.specs.declared.dims.Dims.{Dims}
+use Rattle.std.specs.Prelude.{ℕ, zero, suc, ◌≡◌, ◌+◌, ◌-◌, ◌<◌, ◌≤◌, Bool, true, false, not, ◌&&◌, ◌||◌, nat_eq, nat_le, if◌then◌else◌, length, Option, Some, None, is_some, IfSome, IsSome}
+use Rattle.std.specs.List.{list_all, range_with_len}
 use Rattle.std.specs.Option.{option_map}
-use Rattle.m2v_plane.specs.Samples.{Samples, blank, with_row}
-use Rattle.m2v_pred.specs.Motion.{own_lines}
-use Rattle.m2v_batch.specs.declared.cache.RowState.{RowState}
-use Rattle.m2v_batch.specs.declared.cache.RowState.TheVariants.{Unknown, Missing, Rebuilt}
+use Rattle.m2v_plane.specs.declared.dims.Dims.{Dims}
+use Rattle.m2v_plane.specs.Samples.{Samples, blank}
+use Rattle.m2v_batch.specs.declared.cache.HeldFrame.{HeldFrame}
+use Rattle.m2v_batch.specs.declared.cache.DecodeCache.{DecodeCache}
 use Rattle.m2v_batch.specs.declared.picture.Header.{Header}
 use Rattle.m2v_batch.specs.declared.picture.FramePlace.{FramePlace}
 use Rattle.m2v_batch.specs.declared.picture.FramePlace.TheVariants.{Older, Newer, Waiting, Behind}
-use Rattle.m2v_batch.specs.Jobs.{Headers, header_at, first_job, picture_of_job, row_of_job, read_by, needs_of}
-use Rattle.m2v_batch.specs.Batches.{Batch, headers, Rows, frame_behind}
-use Rattle.m2v_batch.specs.Pieces.{row_of, SharedRow}
+use Rattle.m2v_batch.specs.Jobs.{Headers, header_at, picture_of_job, row_of_job, frame_from, frame_count, read_by, jobs_at}
+use Rattle.m2v_batch.specs.Batches.{Batch, headers, no_rows, with_own, frame_behind}
+use Rattle.m2v_batch.specs.Pieces.{row_of, is_rebuilt, SharedRow}
 use Rattle.m2v_batch.specs.Values.{value_of}
 
--- what contracts see of a cache: the frames behind the pictures, as far as their rows were learned, where a picture of the
--- batch is predicted from them; of each job whether it was learned, and whether its row is rebuilt; and a frame of samples 0
-pub record Cached : Type 0 where
-  pub frames : List (Option Samples)
-  pub rows : List RowState
-  pub blank : Option Samples
+-- ---- which frame is held
 
-abbrev pub state_at : Cached → ℕ → RowState
-state_at c i = slice_index_or c.rows i Unknown
+-- the frame behind picture q is held
+abbrev pub is_of : Option ℕ → ℕ → Bool
+is_of None q = false
+is_of (Some p) q = nat_eq p q
 
-abbrev pub frame_in : Cached → ℕ → Option Samples
-frame_in c p = slice_index_or c.frames p None
+-- the picture of the batch that the frame at a place stands behind
+abbrev pub behind_of : Option FramePlace → Option ℕ
+behind_of None = None
+behind_of (Some Older) = None
+behind_of (Some Newer) = None
+behind_of (Some Waiting) = None
+behind_of (Some (Behind q)) = Some q
 
-abbrev pub is_known : RowState → Bool
-is_known Unknown = false
-is_known Missing = true
-is_known Rebuilt = true
+-- the frame at a place is held
+abbrev pub stands_at : Option ℕ → Option FramePlace → Bool
+stands_at o None = false
+stands_at o (Some Older) = false
+stands_at o (Some Newer) = false
+stands_at o (Some Waiting) = false
+stands_at o (Some (Behind q)) = is_of o q
 
-abbrev pub is_set : RowState → Bool
-is_set Unknown = false
-is_set Missing = false
-is_set Rebuilt = true
+-- the second one is the frame behind picture q, or is given up for it: as the first one is that at the place that is kept
+unfoldable pub in_second : DecodeCache → ℕ → Option FramePlace → Bool
+in_second c q keep = not (is_of c.one.picture q) && (is_of c.two.picture q || stands_at c.one.picture keep)
+
+-- the frame behind picture q, if one of both is
+unfoldable pub held_of : DecodeCache → ℕ → HeldFrame
+held_of c q = if is_of c.one.picture q then c.one else c.two
 
 -- ---- learning
 
-abbrev pub state_of : Option Samples → RowState
-state_of None = Missing
-state_of (Some xs) = Rebuilt
+-- the samples at hand: where there is room alone, samples 0
+abbrev pub samples_in : Option Dims → Option Samples → Option Samples
+samples_in (Some d) frame = Some (blank d d.mb_rows)
+samples_in None frame = frame
 
--- a frame, if it is there, with a row of a picture set
-abbrev pub slot_with : Header → ℕ → Samples → Option Samples → Option Samples
-slot_with h r xs slot = option_map (λ frame. with_row frame (own_lines h.structure) r xs) slot
+-- a frame before its rows are learned. The rows of a frame picture replace all samples, so any may stand there
+abbrev pub begun_over : Batch → ℕ → Samples → Samples
+begun_over b q old = if nat_eq (header_at (headers b) q).structure 3 then old else frame_behind b no_rows q
 
--- row r of picture q set into the frame behind a picture
-abbrev pub set_in : Headers → ℕ → ℕ → Samples → ℕ → List (Option Samples) → List (Option Samples)
-set_in hs q r xs p frames = slice_set frames p (slot_with (header_at hs q) r xs (slice_index_or frames p None))
-
--- a row is set into the frame behind its picture, and that of a first field into the frame behind its second field too
-unfoldable pub set_both : Headers → ℕ → ℕ → Samples → List (Option Samples) → List (Option Samples)
-set_both hs q r xs frames =
-    let own = set_in hs q r xs q frames in
-    if (header_at hs (suc q)).second then set_in hs q r xs (suc q) own else own
-
-unfoldable pub frames_learned : Headers → ℕ → Option Samples → List (Option Samples) → List (Option Samples)
-frames_learned hs i None frames = frames
-frames_learned hs i (Some xs) frames = set_both hs (picture_of_job hs i) (row_of_job hs i) xs frames
-
--- a row is learned once
-unfoldable pub row_learned : Headers → ℕ → Option Samples → Cached → RowState → Cached
-row_learned hs i row c Unknown = record c {
-  frames = frames_learned hs i row c.frames;
-  rows = slice_set c.rows i (state_of row);
+-- none of the rows of the frame behind picture q was learned
+unfoldable pub begun_held : Batch → ℕ → HeldFrame → HeldFrame
+begun_held b q h = record {
+  room = None;
+  frame = option_map (begun_over b q) (samples_in h.room h.frame);
+  picture = Some q;
+  count = 0;
+  whole = true;
 }
-row_learned hs i row c Missing = c
-row_learned hs i row c Rebuilt = c
 
-abbrev pub learned_of : Batch → ℕ → ℕ → SharedRow → Cached → Cached
+abbrev pub held_for : Batch → ℕ → HeldFrame → HeldFrame
+held_for b q h = if is_of h.picture q then h else begun_held b q h
+
+-- a frame with the row of a job set, where it is rebuilt
+abbrev pub with_job : Headers → ℕ → Option Samples → Samples → Samples
+with_job hs i row frame = with_own (header_at hs (picture_of_job hs i)) (row_of_job hs i) row frame
+
+-- row k of a frame is learned behind those before it, once
+unfoldable pub row_learned : Headers → ℕ → ℕ → Option Samples → HeldFrame → HeldFrame
+row_learned hs q k row h =
+    if nat_eq h.count k
+    then record h { frame = option_map (with_job hs (frame_from hs q + k) row) h.frame; count = h.count + 1; whole = h.whole && is_some row }
+    else h
+
+-- row k of the frame behind picture q is learned, and the frame at a place is kept
+unfoldable pub learned_behind : Batch → ℕ → Option FramePlace → ℕ → Option Samples → DecodeCache → DecodeCache
+learned_behind b q keep k row c =
+    if in_second c q keep then record c { two = row_learned (headers b) q k row (held_for b q c.two) }
+    else record c { one = row_learned (headers b) q k row (held_for b q c.one) }
+
+abbrev pub learned_at : Batch → Option FramePlace → Option FramePlace → ℕ → Option Samples → DecodeCache → DecodeCache
+learned_at b None keep k row c = c
+learned_at b (Some Older) keep k row c = c
+learned_at b (Some Newer) keep k row c = c
+learned_at b (Some Waiting) keep k row c = c
+learned_at b (Some (Behind q)) keep k row c = learned_behind b q keep k row c
+
+-- the first needs are the rows of the frame that is read first, and the others those of the other one
+unfoldable pub learned_of : Batch → ℕ → ℕ → SharedRow → DecodeCache → DecodeCache
 learned_of b j at x c =
-    let i = slice_index (needs_of (headers b) j) at in
-    row_learned (headers b) i x.row c (state_at c i)
+    let reads = read_by (headers b) (picture_of_job (headers b) j) in
+    let first = length (jobs_at (headers b) reads.forward) in
+    if nat_le (at + 1) first then learned_at b reads.forward reads.other at x.row c
+    else learned_at b reads.other reads.forward (at - first) x.row c
 
 -- ---- what fits
 
--- a picture is predicted from the frame behind picture p
-abbrev pub is_behind : ℕ → Option FramePlace → Bool
-is_behind p None = false
-is_behind p (Some Older) = false
-is_behind p (Some Newer) = false
-is_behind p (Some Waiting) = false
-is_behind p (Some (Behind q)) = nat_eq q p
+-- a frame with its first n rows set, over others
+unfoldable pub frame_over : Batch → ℕ → ℕ → Samples → Samples
+frame_over b q zero base = base
+frame_over b q (suc n) base =
+    let i = frame_from (headers b) q + n in with_job (headers b) i (row_of (value_of b i)) (frame_over b q n base)
 
-abbrev pub is_read_by : Headers → ℕ → ℕ → Bool
-is_read_by hs p q = is_behind p (read_by hs q).forward || is_behind p (read_by hs q).other
+-- the first n rows of a frame are rebuilt
+abbrev pub first_rebuilt : Batch → ℕ → ℕ → Bool
+first_rebuilt b q n = list_all (λ i. is_rebuilt (value_of b i)) (range_with_len (frame_from (headers b) q) n)
 
--- that, of the first n pictures
-unfoldable pub is_read_among : Headers → ℕ → ℕ → Bool
-is_read_among hs p zero = false
-is_read_among hs p (suc n) = is_read_among hs p n || is_read_by hs p n
+-- samples over which the first n rows of a frame were set
+pub record IsOver (b : Batch) (q n : ℕ) (frame : Option Samples) : Type 0 where
+  pub base : Samples
+  pub size : base.dims ≡ b.dims
+  pub begun : nat_eq (header_at (headers b) q).structure 3 ≡ false → base ≡ frame_behind b no_rows q
+  pub is : frame ≡ Some (frame_over b q n base)
 
-abbrev pub is_read : Headers → ℕ → Bool
-is_read hs p = is_read_among hs p (length hs)
+-- the first rows of the frame behind picture q were learned, and are set where all of them are rebuilt
+pub record HoldsRows (b : Batch) (h : HeldFrame) (q : ℕ) : Type 0 where
+  pub picture : q < length (headers b)
+  pub room : h.room ≡ None
+  pub most : h.count ≤ frame_count (headers b) q
+  pub whole : h.whole ≡ first_rebuilt b q h.count
+  pub frame : h.whole ≡ true → IsOver b q h.count h.frame
 
--- the frame behind a picture, where it is read
-abbrev pub slot : Batch → Rows → ℕ → Option Samples
-slot b at p = if is_read (headers b) p then Some (frame_behind b at p) else None
+-- a frame of the batch's size, or room for one
+pub record FitsHeld (b : Batch) (h : HeldFrame) : Type 0 where
+  pub there : IsSome (samples_in h.room h.frame)
+  pub frame : IfSome h.frame (λ f. f.dims ≡ b.dims)
+  pub room : IfSome h.room (λ d. d ≡ b.dims)
+  pub rows : (q : ℕ) → h.picture ≡ Some q → HoldsRows b h q
 
--- the rows that a cache knows
-abbrev pub known_by : RowState → Option Samples → Option Samples
-known_by Unknown row = None
-known_by Missing row = None
-known_by Rebuilt row = row
-
-abbrev pub known : Batch → Cached → Rows
-known b c j = known_by (state_at c j) (row_of (value_of b j))
-
--- What a cache knows of rows is what they are, and its frames are those behind the pictures, with the rows that it knows.
-pub record FitsCache (b : Batch) (c : Cached) : Type 0 where
-  pub states : length c.rows ≡ first_job (headers b) (length (headers b))
-  pub slots : length c.frames ≡ length (headers b)
-  pub each_state : (j : ℕ) → (state_at c j ≡ Unknown) ⊎ (state_at c j ≡ state_of (row_of (value_of b j)))
-  pub each_frame : (p : ℕ) → p < length (headers b) → frame_in c p ≡ slot b (known b c) p
-  pub blank : c.blank ≡ Some (blank b.dims b.dims.mb_rows)
-
--- all frames that a cache has are of a size
-abbrev pub AreSized : Dims → Cached → Type 0
-AreSized d c = (p : ℕ) → IfSome (frame_in c p) (λ f. f.dims ≡ d)
+-- two such frames; and a frame of samples 0, where a field has no row
+pub record FitsCache (b : Batch) (c : DecodeCache) : Type 0 where
+  pub one : FitsHeld b c.one
+  pub two : FitsHeld b c.two
+  pub blank : b.dims.mb_rows ≡ 1 → c.blank ≡ Some (blank b.dims b.dims.mb_rows)

@@ -44,10 +44,3 @@ abbrev pub IsKeptFor : Dims → Kept → Type 0
 IsKeptFor d Nothing = ⊤
 IsKeptFor d (Room e) = e ≡ d
 IsKeptFor d (Row xs) = xs.dims ≡ d
-
--- ---- what a cache keeps
-
--- the frame of a slot: where there is room for it alone, its samples are 0
-abbrev pub held : Option Dims → Option Samples → Option Samples
-held (Some d) frame = Some (blank d d.mb_rows)
-held None frame = frame

@@ -1,159 +1,133 @@
 //! What a worker keeps of the rows that it learned of.
-ghost use Rattle.std.specs.Prelude.{◌≡◌, ◌*◌, ◌+◌, ◌<◌, ◌≤◌, IfSome, Some, length, slice_set};
-ghost use Rattle.m2v_plane.specs.Samples.{Samples, blank as blank_frame, with_row};
-ghost use Rattle.m2v_plane.specs.Sizes.{part_of};
+ghost use Rattle.std.specs.Prelude.{◌≡◌, ◌+◌, ◌*◌, ◌^◌, ◌<◌, ◌≤◌, ◌&&◌, is_some, IfSome, Some, None};
 ghost use Rattle.std.specs.Option.{option_map};
-ghost use Rattle.m2v_batch.specs.Learned.{state_at, frame_in, is_known, is_set};
+ghost use Rattle.m2v_plane.specs.Sizes.{part_of};
+ghost use Rattle.m2v_pred.specs.Motion.{own_lines as lines_of};
+ghost use Rattle.m2v_batch.specs.Batches.{with_own};
+ghost use Rattle.m2v_batch.specs.Learned.{is_of, stands_at, in_second, held_of, samples_in};
 
-use m2v_plane::{Frame, FrameRoom, Lines, RowSamples};
-use std::marker::Model;
+use crate::picture::{FramePlace, Header};
+use m2v_plane::{Frame, FrameRoom, RowSamples};
+use m2v_pred::own_lines;
 
-/// Whether a row was learned.
-#[derive(Clone, Copy, Debug, PartialEq, Eq)]
-pub enum RowState {
-    /// It wasn't learned yet.
-    Unknown,
-    /// It isn't rebuilt.
-    Missing,
-    /// It is rebuilt, and set into the frames that it is a row of.
-    Rebuilt,
-}
-
-/// The frame behind a picture, if a picture is predicted from it. Contracts see the frame, which has samples 0 as long as
-/// there is room for it alone.
+/// A frame behind a picture of the batch, as far as its rows were learned: one behind another, from the first on.
 #[derive(Drop)]
-pub struct Slot {
-    // room for the frame, until a row is set into it
-    room: Option<FrameRoom>,
-    frame: Option<Frame>,
+pub struct HeldFrame {
+    // room for the frame, until rows are learned
+    pub(crate) room: Option<FrameRoom>,
+    pub(crate) frame: Option<Frame>,
+    // the picture
+    pub(crate) picture: Option<u32>,
+    // how many of its rows were learned
+    pub(crate) count: u32,
+    // whether all of these are rebuilt
+    pub(crate) whole: bool,
 }
 
-impl Model for Slot {
-    ghost use Rattle.std.specs.Prelude.{Option};
-    ghost use Rattle.m2v_plane.specs.Samples.{Samples};
-    ghost use Rattle.m2v_batch.specs.Pieces.{held};
-
-    ghost Value = { Option Samples };
-
-    ghost view = { λ s. held s.room s.frame };
-}
-
-impl Slot {
-    /// The slot of a frame whose samples are at hand, or of none.
-    pub(crate) fn of(frame: Option<Frame>) -> Slot
-        ensures value { result ≡ frame }
+impl HeldFrame {
+    /// Room for a frame.
+    pub(crate) fn in_room(room: FrameRoom) -> HeldFrame
+        ensures room { result.room ≡ Some room }
+        ensures frame { result.frame ≡ None }
+        ensures picture { result.picture ≡ None }
     {
-        Slot { room: None, frame }
-    }
-
-    /// The slot of a frame of samples 0, which has room alone.
-    pub(crate) fn in_room(room: FrameRoom) -> Slot
-        ensures value { result ≡ Some (blank_frame room room.mb_rows) }
-    {
-        Slot {
+        HeldFrame {
             room: Some(room),
             frame: None,
+            picture: None,
+            count: 0,
+            whole: true,
         }
     }
 
-    /// The frame; another one of samples 0 stands for one that has room alone.
-    pub(crate) fn frame<'a>(&'a self, blank: &'a Option<Frame>) -> &'a Option<Frame>
-        requires blank { IfSome self.now (λ f. blank.now ≡ Some (blank_frame f.dims f.dims.mb_rows)) }
-        ensures value { result.now ≡ self.now }
+    /// Whether this is the frame behind a picture.
+    pub(crate) fn is_of(&self, q: u32) -> bool
+        ensures value { result ≡ is_of self.now.picture q }
     {
-        match self.room {
-            Some(_) => blank,
-            None => &self.frame,
+        match self.picture {
+            Some(p) => p == q,
+            None => false,
         }
     }
 
-    /// Sets a row into the frame, if there is one.
-    pub(crate) fn set_row(&mut self, lines: Lines, row: u32, samples: &RowSamples)
-        requires row { IfSome self.old (λ f. 16 * row + 16 ≤ part_of lines (16 * f.dims.mb_rows)) }
-        requires same { IfSome self.old (λ f. samples.now.dims ≡ f.dims) }
-        ensures value { self.new
-            ≡ option_map (λ f. with_row f lines row samples.now) self.old }
+    /// Whether this is the frame at a place.
+    fn stands_at(&self, place: Option<FramePlace>) -> bool
+        ensures value { result ≡ stands_at self.now.picture place }
+    {
+        match place {
+            Some(FramePlace::Behind(q)) => self.is_of(q),
+            _ => false,
+        }
+    }
+
+    /// Has a frame there, of samples 0 where there was room alone.
+    pub(crate) fn fill_room(&mut self)
+        ensures value { self.new ≡ record self.old {
+          room = None;
+          frame = samples_in self.old.room self.old.frame;
+        } }
     {
         if let Some(room) = self.room.take() {
             self.frame = Some(room.blank());
         }
-        if let Some(frame) = &mut self.frame {
-            frame.set_row(lines, row, samples);
+    }
+
+    /// Learns the next row, the row `r` of a picture, where it is rebuilt.
+    pub(crate) fn add(&mut self, h: Header, r: u32, row: Option<&RowSamples>)
+        requires few { self.old.count ≤ 2 ^ 20 }
+        requires row { IfSome self.old.frame
+            (λ f. 16 * r + 16 ≤ part_of (lines_of h.structure) (16 * f.dims.mb_rows)) }
+        requires same { IfSome self.old.frame (λ f. IfSome row (λ x. x.now.dims ≡ f.dims)) }
+        ensures value { self.new ≡ record self.old {
+          frame = option_map (with_own h r (option_map (λ x. x.now) row.entry)) self.old.frame;
+          count = self.old.count + 1;
+          whole = self.old.whole && is_some (option_map (λ x. x.now) row.entry);
+        } }
+    {
+        self.count += 1;
+        match row {
+            None => self.whole = false,
+            Some(row) => {
+                if let Some(frame) = &mut self.frame {
+                    frame.set_row(own_lines(h.structure), r, row);
+                }
+            }
         }
     }
 }
 
-/// What a worker keeps of the rows that it learned of: the frames behind the pictures, where a picture of the batch is
-/// predicted from them, and of each job whether it was learned. [`DecodeBook`](crate::DecodeBook) makes it.
+/// What a worker keeps of the rows that it learned of: two frames, as many as a picture is predicted from.
+/// [`DecodeBook`](crate::DecodeBook) makes it.
 #[derive(Drop)]
 pub struct DecodeCache {
-    pub(crate) frames: Vec<Slot>,
-    pub(crate) rows: Vec<RowState>,
-    // a frame of samples 0, which stands for those that have room alone
+    pub(crate) one: HeldFrame,
+    pub(crate) two: HeldFrame,
+    // a frame of samples 0, where a field has no row: there the frame behind one has none that could be learned
     pub(crate) blank: Option<Frame>,
 }
 
-impl Model for DecodeCache {
-    ghost use Rattle.std.specs.Prelude.{◌≡◌, ◌≤◌, ◌*◌, length};
-    ghost use Rattle.m2v_batch.specs.Learned.{Cached};
-
-    ghost Value = { Cached };
-
-    ghost view = { λ c. record { frames = c.frames.items; rows = c.rows.items; blank = c.blank } };
-}
-
 impl DecodeCache {
-    /// Whether the row of a job was learned, and is rebuilt.
-    pub(crate) fn is_rebuilt(&self, i: u32) -> bool
-        requires job { i < length self.now.rows }
-        ensures value { result ≡ is_set (state_at self.now i) }
+    /// Whether the second frame is the one behind a picture, or is given up for it: where neither is, the first one stays if
+    /// it is the one at the place that is kept.
+    #[tactic(auto, unfolding(crate::specs::Learned::in_second))]
+    pub(crate) fn in_second(&self, q: u32, keep: Option<FramePlace>) -> bool
+        ensures value { result ≡ in_second self.now q keep }
     {
-        match self.rows[i as usize] {
-            RowState::Rebuilt => true,
-            RowState::Unknown | RowState::Missing => false,
+        if self.one.is_of(q) {
+            return false;
         }
+        self.two.is_of(q) || self.one.stands_at(keep)
     }
 
-    /// Whether the row of a job was learned.
-    pub(crate) fn is_known(&self, i: u32) -> bool
-        requires job { i < length self.now.rows }
-        ensures value { result ≡ is_known (state_at self.now i) }
+    /// The frame behind a picture, if one of both is.
+    #[tactic(auto, unfolding(crate::specs::Learned::held_of))]
+    pub(crate) fn held_of(&self, q: u32) -> &HeldFrame
+        ensures value { result.now ≡ held_of self.now q }
     {
-        match self.rows[i as usize] {
-            RowState::Unknown => false,
-            RowState::Missing | RowState::Rebuilt => true,
+        if self.one.is_of(q) {
+            &self.one
+        } else {
+            &self.two
         }
-    }
-
-    /// The frame behind a picture.
-    pub(crate) fn frame(&self, p: u32) -> &Option<Frame>
-        requires picture { p < length self.now.frames }
-        requires blank { IfSome (frame_in self.now p)
-            (λ f. self.now.blank ≡ Some (blank_frame f.dims f.dims.mb_rows)) }
-        ensures value { result.now ≡ frame_in self.now p }
-    {
-        self.frames[p as usize].frame(&self.blank)
-    }
-
-    /// Notes whether the row of a job is rebuilt.
-    pub(crate) fn set_state(&mut self, i: u32, state: RowState)
-        requires job { i < length self.old.rows }
-        ensures value { self.new ≡ record self.old { rows = slice_set self.old.rows i state } }
-    {
-        self.rows[i as usize] = state;
-    }
-
-    /// Sets a row into the frame behind a picture, where that is there.
-    pub(crate) fn set_row(&mut self, p: u32, lines: Lines, row: u32, samples: &RowSamples)
-        requires picture { p < length self.old.frames }
-        requires row { IfSome (frame_in self.old p)
-            (λ f. 16 * row + 16 ≤ part_of lines (16 * f.dims.mb_rows)) }
-        requires same { IfSome (frame_in self.old p) (λ f. samples.now.dims ≡ f.dims) }
-        ensures value { self.new ≡ record self.old {
-          frames = slice_set self.old.frames p
-              (option_map (λ f. with_row f lines row samples.now) (frame_in self.old p));
-        } }
-    {
-        self.frames[p as usize].set_row(lines, row, samples);
     }
 }

@@ -81,11 +81,13 @@ impl JobBook for DecodeBook {
     fn learn(&self, j: u32, at: u32, part: &DecodeShared, cache: &mut DecodeCache) {
         // what is known of a batch
         let _batch = self.pictures();
-        let i = self.need(j, at);
-        if cache.is_known(i) {
-            return;
+        let reads = self.reads(self.picture_of_job(j));
+        let first = self.jobs_at(reads.forward).count;
+        if at < first {
+            self.learn_at(reads.forward, reads.other, at, part, cache);
+        } else {
+            self.learn_at(reads.other, reads.forward, at - first, part, cache);
         }
-        self.learn_row(i, part, cache);
     }
 
     fn tell(&self, _j: u32, part: &DecodeShared) -> u64 {

@@ -1,42 +1,24 @@
 //! What a worker learns of the rows of a batch.
-ghost use Rattle.std.specs.Prelude.{ℕ, ◌≡◌, ◌+◌, ◌<◌, true, IsTrue, ◌||◌, IfOk, length, replicate, slice_index_or, Some, None};
-ghost use Rattle.m2v_batch.specs.declared.cache.RowState.TheVariants.{Unknown};
-ghost use Rattle.m2v_batch.specs.Jobs.{header_at, jobs_of, first_job, is_reference};
+ghost use Rattle.std.specs.Prelude.{◌≡◌, ◌+◌, ◌<◌, true, IsTrue, ◌||◌, IfOk, IfSome, Some, length};
+ghost use Rattle.m2v_plane.specs.Samples.{blank};
+ghost use Rattle.m2v_batch.specs.Jobs.{header_at, frame_count, jobs_at, is_reference};
 ghost use Rattle.m2v_batch.specs.Batches.{headers, no_rows, frame_behind};
-ghost use Rattle.m2v_batch.specs.Values.{shared_of};
-ghost use Rattle.m2v_batch.specs.Learned.{set_both, row_learned, is_behind, is_read, slot, FitsCache, AreSized};
+ghost use Rattle.m2v_batch.specs.Below.{ComesBefore, MayBe};
+ghost use Rattle.m2v_batch.specs.Learned.{begun_over, begun_held, held_for, row_learned, learned_at, FitsHeld, FitsCache};
 
 use crate::book::DecodeBook;
-use crate::cache::{DecodeCache, RowState, Slot};
-use crate::picture::FramePlace;
+use crate::cache::{DecodeCache, HeldFrame};
+use crate::picture::{FramePlace, behind};
 use crate::pieces::DecodeShared;
 use m2v_core::Memory;
-use m2v_plane::{Frame, FrameRoom, RowSamples};
-use m2v_pred::own_lines;
+use m2v_plane::{Frame, FrameRoom};
 use std::alloc::Global;
-
-/// Whether a picture is predicted from the frame behind picture p.
-fn is_behind(p: u32, place: Option<FramePlace>) -> bool
-    ensures value { result ≡ is_behind p place }
-{
-    match place {
-        Some(FramePlace::Behind(q)) => q == p,
-        _ => false,
-    }
-}
 
 /// Whether one of two holds.
 fn either(a: bool, b: bool) -> bool
     ensures value { result ≡ (a || b) }
 {
     a || b
-}
-
-/// So many rows that weren't learned.
-fn unknown_rows(alloc: Global, count: u32) -> Result<Vec<RowState>, Memory>
-    ensures value { IfOk result (λ v. v.items ≡ replicate count Unknown) }
-{
-    vec![in alloc; RowState::Unknown; count as usize]
 }
 
 impl DecodeBook {
@@ -56,19 +38,6 @@ impl DecodeBook {
         // there are at most 16 pictures
         let _pictures = self.pictures();
         either(self.header(p).kind != 3, self.is_second(p + 1))
-    }
-
-    /// Whether a picture of the batch is predicted from the frame behind picture p.
-    fn is_read(&self, p: u32) -> bool
-        ensures value { result ≡ is_read (headers self.now) p }
-    {
-        let mut found = false;
-        for q in 0..self.pictures() {
-            let reads = self.reads(q);
-            let here = either(is_behind(p, reads.forward), is_behind(p, reads.other));
-            found = either(found, here);
-        }
-        found
     }
 
     /// The frame of the first field that waits, once more.
@@ -98,97 +67,141 @@ impl DecodeBook {
         Frame::blank(alloc, self.dims())
     }
 
-    /// The slot of the frame behind a picture, before any of its rows was learned: room, if it has no first field before the
-    /// batch.
-    fn begun_slot(&self, alloc: Global, p: u32) -> Result<Slot, Memory>
-        requires picture { p < length (headers self.now) }
-        ensures value { IfOk result (λ s. s ≡ Some (frame_behind self.now no_rows p)) }
+    /// Takes the samples of the frame of the first field that waits.
+    fn copy_waiting(&self, frame: &mut Frame)
+        requires second { (header_at (headers self.now) 0).second ≡ true }
+        requires size { frame.old.dims ≡ self.now.dims }
+        ensures value { frame.new ≡ frame_behind self.now no_rows 0 }
     {
-        if p == 0 && self.is_second(0) {
-            let frame = self.waiting_frame(alloc)?;
-            return Ok(Slot::of(Some(frame)));
-        }
-        let room = FrameRoom::for_frame(alloc, self.dims())?;
-        Ok(Slot::in_room(room))
-    }
-
-    /// The slot of the frame behind a picture, where one is predicted from it.
-    fn blank_slot(&self, alloc: Global, p: u32) -> Result<Slot, Memory>
-        requires picture { p < length (headers self.now) }
-        ensures value { IfOk result (λ s. s ≡ slot self.now no_rows p) }
-    {
-        if self.is_read(p) {
-            self.begun_slot(alloc, p)
-        } else {
-            Ok(Slot::of(None))
+        // a second field has its first field
+        let _batch = self.pictures();
+        match self.waiting() {
+            Some(first) => frame.copy_from(first),
+            None => unreachable!(),
         }
     }
 
-    /// The frames of a cache that has learned nothing yet.
-    fn blank_frames(&self, alloc: Global) -> Result<Vec<Slot>, Memory>
-        ensures count { IfOk result (λ v. length v.items ≡ length (headers self.now)) }
-        ensures each { IfOk result (λ v. (p : ℕ) → p < length (headers self.now)
-            → slice_index_or v.items p None ≡ slot self.now no_rows p) }
+    /// Makes a frame the one behind a picture, before any of its rows is learned: of samples 0, or of those of a first field
+    /// before the batch. All rows of a frame picture are set before another picture is predicted from it, so its samples are
+    /// left.
+    fn begin_frame(&self, q: u32, frame: &mut Frame)
+        requires picture { q < length (headers self.now) }
+        requires size { frame.old.dims ≡ self.now.dims }
+        ensures value { frame.new ≡ begun_over self.now q frame.old }
     {
-        let mut frames = Vec::new(alloc);
-        for p in 0..self.pictures() {
-            let frame = self.blank_slot(alloc, p)?;
-            frames.push(frame)?;
+        // what is known of a batch
+        let _batch = self.pictures();
+        if self.header(q).structure == 3 {
+            return;
         }
-        Ok(frames)
+        if q == 0 && self.is_second(0) {
+            self.copy_waiting(frame);
+            return;
+        }
+        frame.clear();
+    }
+
+    /// Gives a frame up for the one behind a picture, none of whose rows was learned.
+    #[tactic(auto, unfolding(crate::specs::Learned::begun_held))]
+    fn begin(&self, q: u32, held: &mut HeldFrame)
+        requires picture { q < length (headers self.now) }
+        requires fits { FitsHeld self.now held.old }
+        ensures value { held.new ≡ begun_held self.now q held.old }
+    {
+        held.fill_room();
+        if let Some(frame) = &mut held.frame {
+            self.begin_frame(q, frame);
+        }
+        held.picture = Some(q);
+        held.count = 0;
+        held.whole = true;
+    }
+
+    /// Learns row k of the frame behind a picture, where it is the next one.
+    #[tactic(auto, unfolding(crate::specs::Learned::row_learned))]
+    fn learn_next(&self, q: u32, k: u32, part: &DecodeShared, held: &mut HeldFrame)
+        requires picture { q < length (headers self.now) }
+        requires row { k < frame_count (headers self.now) q }
+        requires size { part.now.dims ≡ self.now.dims }
+        requires frame { IfSome held.old.frame (λ f. f.dims ≡ self.now.dims) }
+        ensures value { held.new ≡ row_learned (headers self.now) q k part.now.row held.old }
+    {
+        // what is known of a batch
+        let _batch = self.pictures();
+        if held.count != k {
+            return;
+        }
+        let i = self.jobs_behind(q).from + k;
+        let p = self.picture_of_job(i);
+        held.add(self.header(p), self.row_of_job(i), part.samples());
+    }
+
+    /// Learns row k of the frame behind a picture, which is held or begun.
+    fn learn_row(&self, q: u32, k: u32, part: &DecodeShared, held: &mut HeldFrame)
+        requires picture { q < length (headers self.now) }
+        requires row { k < frame_count (headers self.now) q }
+        requires size { part.now.dims ≡ self.now.dims }
+        requires fits { FitsHeld self.now held.old }
+        ensures value { held.new
+            ≡ row_learned (headers self.now) q k part.now.row (held_for self.now q held.old) }
+    {
+        // what is known of a batch
+        let _batch = self.pictures();
+        if !held.is_of(q) {
+            self.begin(q, held);
+        }
+        self.learn_next(q, k, part, held);
+    }
+
+    /// Learns row k of the frame at a place, and keeps the frame at another one.
+    #[tactic(auto, unfolding(crate::specs::Learned::learned_behind))]
+    pub(crate) fn learn_at(
+        &self,
+        place: Option<FramePlace>,
+        keep: Option<FramePlace>,
+        k: u32,
+        part: &DecodeShared,
+        cache: &mut DecodeCache,
+    )
+        requires place { MayBe (ComesBefore (length (headers self.now))) place }
+        requires row { k < length (jobs_at (headers self.now) place) }
+        requires size { part.now.dims ≡ self.now.dims }
+        requires fits { FitsCache self.now cache.old }
+        ensures value { cache.new ≡ learned_at self.now place keep k part.now.row cache.old }
+    {
+        if let Some(q) = behind(place) {
+            if cache.in_second(q, keep) {
+                self.learn_row(q, k, part, &mut cache.two);
+            } else {
+                self.learn_row(q, k, part, &mut cache.one);
+            }
+        }
+    }
+
+    /// A frame of samples 0, where frames have one macroblock row: a field has none then.
+    fn blank_of_one(&self, alloc: Global) -> Result<Option<Frame>, Memory>
+        ensures value { IfOk result (λ f. self.now.dims.mb_rows ≡ 1
+            → f ≡ Some (blank self.now.dims self.now.dims.mb_rows)) }
+    {
+        let dims = self.dims();
+        if dims.mb_rows > 1 {
+            return Ok(None);
+        }
+        let frame = Frame::blank(alloc, dims)?;
+        Ok(Some(frame))
     }
 
     /// A cache that has learned nothing yet.
     pub(crate) fn fresh_cache(&self, alloc: Global) -> Result<DecodeCache, Memory>
         ensures fits { IfOk result (λ c. FitsCache self.now c) }
     {
-        let rows = unknown_rows(alloc, self.first_job(self.pictures()))?;
-        let frames = self.blank_frames(alloc)?;
-        let blank = Frame::blank(alloc, self.dims())?;
+        let one = FrameRoom::for_frame(alloc, self.dims())?;
+        let two = FrameRoom::for_frame(alloc, self.dims())?;
+        let blank = self.blank_of_one(alloc)?;
         Ok(DecodeCache {
-            frames,
-            rows,
-            blank: Some(blank),
+            one: HeldFrame::in_room(one),
+            two: HeldFrame::in_room(two),
+            blank,
         })
-    }
-
-    /// Sets a row of a picture into the frames that it is a row of.
-    fn set_rows(&self, p: u32, r: u32, row: &RowSamples, cache: &mut DecodeCache)
-        requires picture { p < length (headers self.now) }
-        requires row { r < (header_at (headers self.now) p).rows }
-        requires size { row.now.dims ≡ self.now.dims }
-        requires slots { length cache.old.frames ≡ length (headers self.now) }
-        requires frames { AreSized self.now.dims cache.old }
-        ensures value { cache.new ≡ record cache.old {
-          frames = set_both (headers self.now) p r row.now cache.old.frames;
-        } }
-    {
-        // there are at most 16 pictures
-        let _pictures = self.pictures();
-        let lines = own_lines(self.header(p).structure);
-        cache.set_row(p, lines, r, row);
-        if self.is_second(p + 1) {
-            cache.set_row(p + 1, lines, r, row);
-        }
-    }
-
-    /// Learns the row of a job, which wasn't learned before.
-    pub(crate) fn learn_row(&self, i: u32, part: &DecodeShared, cache: &mut DecodeCache)
-        requires job { i < jobs_of (headers self.now) }
-        requires part { part.now ≡ shared_of self.now i }
-        requires fits { FitsCache self.now cache.old }
-        ensures value { cache.new
-            ≡ row_learned (headers self.now) i part.now.row cache.old Unknown }
-    {
-        // what is known of a batch
-        let _batch = self.pictures();
-        match part.samples() {
-            None => cache.set_state(i, RowState::Missing),
-            Some(row) => {
-                cache.set_state(i, RowState::Rebuilt);
-                let p = self.picture_of_job(i);
-                self.set_rows(p, self.row_of_job(i), row, cache);
-            }
-        }
     }
 }

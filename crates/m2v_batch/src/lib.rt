@@ -16,7 +16,7 @@ mod reads;
 mod work;
 
 pub use book::{BatchParts, DecodeBook};
-pub use cache::{DecodeCache, RowState};
+pub use cache::{DecodeCache, HeldFrame};
 pub use laws::{law_rows_in_frame, law_worked_rows};
 pub use picture::{BatchPicture, FramePlace, Header, Reads, header_of};
 pub use pieces::{DecodePiece, DecodeShared};

@@ -1,5 +1,6 @@
 //! A picture of a batch, and the frames that it is predicted from.
 ghost use Rattle.std.specs.Prelude.{◌≡◌};
+ghost use Rattle.m2v_batch.specs.Learned.{behind_of};
 
 use m2v_piece::Piece;
 use m2v_rows::Opened;
@@ -54,6 +55,16 @@ pub enum FramePlace {
     Waiting,
     /// In the batch: the frame as it is behind a picture, of a first field with the lines of that field alone.
     Behind(u32),
+}
+
+/// The picture of the batch that a frame stands behind, if it does.
+pub(crate) fn behind(place: Option<FramePlace>) -> Option<u32>
+    ensures value { result ≡ behind_of place }
+{
+    match place {
+        Some(FramePlace::Behind(q)) => Some(q),
+        _ => None,
+    }
 }
 
 /// The frames that a picture is predicted from: at most two.

@@ -89,21 +89,6 @@ pub(crate) struct JobRange {
     pub(crate) count: u32,
 }
 
-/// The need at a place among those of two ranges, one behind the other.
-fn at_range(first: JobRange, other: JobRange, at: u32) -> u32
-    requires at { at < first.count + other.count }
-    requires few { first.from + first.count ≤ 2 ^ 20 }
-    requires few_more { other.from + other.count ≤ 2 ^ 20 }
-    ensures value { result ≡ slice_index (range_with_len first.from first.count
-        ++ range_with_len other.from other.count) at }
-{
-    if at < first.count {
-        first.from + at
-    } else {
-        other.from + (at - first.count)
-    }
-}
-
 /// Appends the jobs of a range.
 fn push_range(jobs: JobRange, out: &mut NeedList)
     requires room { length out.old + jobs.count ≤ 160 }
@@ -223,16 +208,5 @@ impl DecodeBook {
         let reads = self.reads(self.picture_of_job(j));
         push_range(self.jobs_at(reads.forward), out);
         push_range(self.jobs_at(reads.other), out);
-    }
-
-    /// The need of number `at` of a job.
-    #[tactic(auto, unfolding(crate::specs::Jobs::needs_of))]
-    pub(crate) fn need(&self, j: u32, at: u32) -> u32
-        requires job { j < jobs_of (headers self.now) }
-        requires at { at < length (needs_of (headers self.now) j) }
-        ensures value { result ≡ slice_index (needs_of (headers self.now) j) at }
-    {
-        let reads = self.reads(self.picture_of_job(j));
-        at_range(self.jobs_at(reads.forward), self.jobs_at(reads.other), at)
     }
 }

@@ -1,24 +1,23 @@
 //! What a job makes, of a cache that has learned its needs.
-ghost use Rattle.std.specs.Prelude.{◌≡◌, ◌+◌, ◌<◌, ◌≤◌, ◌&&◌, true, IfSome, length, slice_get};
-ghost use Rattle.std.specs.List.{list_all, range_with_len};
+ghost use Rattle.std.specs.Prelude.{◌≡◌, ◌<◌, ◌&&◌, true, IfSome, length, slice_get};
 ghost use Rattle.m2v_plane.specs.Samples.{blank};
 ghost use Rattle.m2v_plane.specs.Fields.{sample_at, HoldsLine};
 ghost use Rattle.m2v_picture.specs.Conditions.{HoldsForward, HoldsBackward};
 ghost use Rattle.m2v_picture.specs.Reads.{seen_by};
 ghost use Rattle.m2v_picture.specs.Frames.{references_at};
 ghost use Rattle.m2v_rows.specs.Opened.{IsOpened, setup_of};
-ghost use Rattle.m2v_batch.specs.Jobs.{header_at, jobs_of, needs_of};
+ghost use Rattle.m2v_batch.specs.Jobs.{header_at, jobs_of};
 ghost use Rattle.m2v_batch.specs.Batches.{headers, reading_of};
-ghost use Rattle.m2v_batch.specs.Below.{ComesBefore};
+ghost use Rattle.m2v_batch.specs.declared.picture.FramePlace.TheVariants.{Behind};
+ghost use Rattle.m2v_batch.specs.Below.{ComesBefore, MayBe};
 ghost use Rattle.m2v_batch.specs.Values.{outcome_in, outcome_of, value_of, FitsPiece};
-ghost use Rattle.m2v_batch.specs.Learned.{state_at, is_set, FitsCache};
-ghost use Rattle.m2v_batch.specs.Works.{HasLearned, frame_found, AreDecoded};
+ghost use Rattle.m2v_batch.specs.Works.{HasLearned, needs_rebuilt, whole_at, frame_found, AreDecoded};
 
 use crate::book::DecodeBook;
 use crate::cache::DecodeCache;
-use crate::picture::{BatchPicture, FramePlace, Header};
+use crate::picture::{BatchPicture, FramePlace, Header, behind};
 use crate::pieces::DecodePiece;
-use crate::reads::{JobRange, first_field};
+use crate::reads::first_field;
 use m2v_picture::{Reading, backward_view, forward_view};
 use m2v_plane::{FieldView, Frame, RowRoom, RowSamples};
 use m2v_rows::read_row;
@@ -42,20 +41,6 @@ fn both(a: bool, b: bool) -> bool
     ensures value { result ≡ (a && b) }
 {
     a && b
-}
-
-/// Whether the rows of some jobs are rebuilt.
-fn are_rebuilt(cache: &DecodeCache, jobs: JobRange) -> bool
-    requires jobs { jobs.from + jobs.count ≤ length cache.now.rows }
-    requires few { jobs.from + jobs.count ≤ 2000 }
-    ensures value { result ≡ list_all (λ i. is_set (state_at cache.now i))
-        (range_with_len jobs.from jobs.count) }
-{
-    let mut all = true;
-    for i in 0..jobs.count {
-        all = both(all, cache.is_rebuilt(jobs.from + i));
-    }
-    all
 }
 
 /// Reads a row of a picture, where its references are there.
@@ -89,20 +74,43 @@ fn read_piece(
 }
 
 impl DecodeBook {
+    /// Whether all rows of the frame at a place that were learned are rebuilt.
+    fn is_whole(&self, place: Option<FramePlace>, cache: &DecodeCache) -> bool
+        requires place { MayBe (ComesBefore (length (headers self.now))) place }
+        ensures value { result ≡ whole_at self.now cache.now place }
+    {
+        match behind(place) {
+            Some(q) => self.jobs_behind(q).count == 0 || cache.held_of(q).whole,
+            None => true,
+        }
+    }
+
+    /// The frame behind a picture, as a cache has it.
+    #[tactic(auto, unfolding(crate::specs::Works::frame_found))]
+    fn frame_behind<'a>(&'a self, q: u32, cache: &'a DecodeCache) -> &'a Option<Frame>
+        requires picture { q < length (headers self.now) }
+        ensures value { result.now ≡ frame_found self.now cache.now (Behind q) }
+    {
+        if self.jobs_behind(q).count > 0 {
+            return &cache.held_of(q).frame;
+        }
+        if q == 0 && self.is_second(0) {
+            return self.waiting();
+        }
+        &cache.blank
+    }
+
     /// A frame at hand, as a cache has it.
     #[tactic(auto, unfolding(crate::specs::Works::frame_found, crate::specs::Below::ComesBefore))]
     fn frame<'a>(&'a self, place: FramePlace, cache: &'a DecodeCache) -> &'a Option<Frame>
-        requires place { ComesBefore (length cache.now.frames) place }
-        requires fits { FitsCache self.now cache.now }
+        requires place { ComesBefore (length (headers self.now)) place }
         ensures value { result.now ≡ frame_found self.now cache.now place }
     {
-        // what is known of a batch
-        let _batch = self.pictures();
         match place {
             FramePlace::Older => self.older(),
             FramePlace::Newer => self.newer(),
             FramePlace::Waiting => self.waiting(),
-            FramePlace::Behind(p) => cache.frame(p),
+            FramePlace::Behind(q) => self.frame_behind(q, cache),
         }
     }
 
@@ -110,13 +118,12 @@ impl DecodeBook {
     fn is_ready(&self, j: u32, cache: &DecodeCache) -> bool
         requires job { j < jobs_of (headers self.now) }
         requires learned { HasLearned self.now j cache.now }
-        ensures value { result ≡ list_all (λ i. is_set (state_at cache.now i))
-            (needs_of (headers self.now) j) }
+        ensures value { result ≡ needs_rebuilt self.now j }
     {
         let reads = self.reads(self.picture_of_job(j));
         both(
-            are_rebuilt(cache, self.jobs_at(reads.forward)),
-            are_rebuilt(cache, self.jobs_at(reads.other)),
+            self.is_whole(reads.forward, cache),
+            self.is_whole(reads.other, cache),
         )
     }
 
@@ -151,8 +158,7 @@ impl DecodeBook {
     fn read_job(&self, j: u32, cache: &DecodeCache, row: RowSamples) -> DecodePiece
         requires job { j < jobs_of (headers self.now) }
         requires learned { HasLearned self.now j cache.now }
-        requires ready { list_all (λ i. is_set (state_at cache.now i))
-            (needs_of (headers self.now) j) ≡ true }
+        requires ready { needs_rebuilt self.now j ≡ true }
         requires blank { row ≡ blank self.now.dims 1 }
         ensures value { result ≡ value_of self.now j }
     {

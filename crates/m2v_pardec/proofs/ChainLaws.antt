@@ -19,7 +19,7 @@ use Rattle.m2v_batch.specs.Jobs.{older_before, newer_before}
 use Rattle.m2v_batch.specs.Batches.{Batch, headers, Rows, frame_at, IsBatch}
 use Rattle.m2v_batch.specs.Painted.{all_rows, older_behind, newer_behind}
 use Rattle.m2v_batch.proofs.Sizes.{count_is}
-use Rattle.m2v_batch.proofs.Learning.{behind_size}
+use Rattle.m2v_batch.proofs.FrameSizes.{behind_size}
 use Rattle.m2v_filling.specs.Filled.{with_frames, is_there, AreThere, HaveDims}
 use Rattle.m2v_filling.proofs.Exchanging.{there_exchanged}
 use Rattle.m2v_behind.specs.Behind.{Tracks}

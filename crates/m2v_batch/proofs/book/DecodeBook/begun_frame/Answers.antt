@@ -2,7 +2,7 @@ use Rattle.std.proofs.Common.{◌∙◌, ap}
 use Rattle.m2v_plane.specs.Samples.{Samples}
 use Rattle.m2v_batch.specs.Batches.{no_rows, all_set}
 use Rattle.m2v_batch.specs.Painted.{all_rows}
-use Rattle.m2v_batch.proofs.Learning.{behind_size}
+use Rattle.m2v_batch.proofs.FrameSizes.{behind_size}
 use Rattle.m2v_batch.proofs.BehindFrames.{begun_all}
 use Rattle.m2v_batch.proofs.book.DecodeBook.begun_frame.Goals as goal
 

@@ -1,13 +1,14 @@
-use Rattle.std.proofs.Common.{◌∙◌, ap, Some}
-use Rattle.m2v_plane.specs.declared.dims.Dims.{Dims}
-use Rattle.m2v_plane.specs.Samples.{Samples, blank}
-use Rattle.m2v_batch.specs.Jobs.{first_job}
-use Rattle.m2v_batch.specs.Batches.{headers}
-use Rattle.m2v_batch.proofs.Blank.{blank_fits}
+use Rattle.std.proofs.Common.{◌∙◌}
+use Rattle.m2v_batch.proofs.Learning.{room_fits}
 use Rattle.m2v_batch.proofs.book.DecodeBook.fresh_cache.Goals as goal
 
 pub returns : goal.returns
-returns c = record {
-  fits = blank_fits c.args.self.now _ c.first_job.result c.pictures.ensures.batch c.in_ok-rows.ensures.value (c.first_job.ensures.value ∙ ap (first_job (headers c.args.self.now)) c.pictures.ensures.value)
-      c.in_ok-frames.ensures.count c.in_ok-frames.ensures.each (ap (λ (f : Samples). Some f) c.in_ok-blank.ensures.value ∙ ap (λ (d : Dims). Some (blank d d.mb_rows)) c.dims.ensures.value);
-}
+returns c =
+    let b = c.args.self.now in
+    record {
+      fits = record {
+        one = room_fits b c.in_room.result _ c.in_room.ensures.room c.in_room.ensures.frame c.in_room.ensures.picture (c.in_ok-one.ensures.value ∙ c.dims.ensures.value);
+        two = room_fits b c.in_room-2.result _ c.in_room-2.ensures.room c.in_room-2.ensures.frame c.in_room-2.ensures.picture (c.in_ok-two.ensures.value ∙ c.dims-2.ensures.value);
+        blank = c.in_ok-blank.ensures.value;
+      };
+    }

@@ -5,7 +5,7 @@ use Rattle.m2v_batch.specs.Jobs.{header_at, first_job, jobs_of}
 use Rattle.m2v_batch.specs.Batches.{Batch, headers, with_own}
 use Rattle.m2v_batch.specs.Painted.{all_rows}
 use Rattle.m2v_batch.specs.Pieces.{row_of}
-use Rattle.m2v_batch.proofs.Learning.{rows_size}
+use Rattle.m2v_batch.proofs.FrameSizes.{rows_size}
 use Rattle.m2v_batch.proofs.BehindFrames.{row_job, row_room, row_size, row_made, none_yet, row_next}
 use Rattle.m2v_batch.proofs.book.DecodeBook.set_picture.Goals as goal
 
