@@ -1,7 +1,10 @@
 -- The sum of the samples of a row.
-use Rattle.std.proofs.Common.{◌≡◌, ℕ, suc, ◌+◌, List, length, refl, ap, ◌∙◌, arith}
+use Rattle.std.proofs.Common.{◌≡◌, ℕ, zero, suc, ◌+◌, ◌-◌, ◌*◌, ◌≤◌, List, [], ◌∷◌, length, take, drop, refl, ap, ◌∙◌, arith}
+use Rattle.std.proofs.Math.Seq.{take-nil, take-length}
 use Rattle.std.specs.Prelude.{sum}
+use Rattle.std.proofs.lemmas.List.{length-take}
 use Rattle.std.proofs.lemmas.List.FromFn.{length-map-range_with_len}
+use Rattle.std.proofs.lemmas.List.Sums.{sum_by-cons}
 use Rattle.m2v_plane.specs.declared.planes.Plane.{Plane}
 use Rattle.m2v_plane.specs.Sizes.{columns_of}
 use Rattle.m2v_plane.specs.Samples.{Samples, sample_of, line_part}
@@ -22,3 +25,30 @@ line_summed xs plane n total own columns line et eo el ec =
 
 pub line_few : (xs : Samples) (plane : Plane) (n columns : ℕ) (line : List ℕ) → line ≡ line_part (sample_of xs plane n) 0 columns → length line ≡ columns
 line_few xs plane n columns line e = ap (λ (l : List ℕ). length l) e ∙ length-map-range_with_len (λ (k : ℕ). sample_of xs plane n (0 + k)) 0 columns
+
+-- ---- samples, some at a time
+
+sum_next : (x : ℕ) (xs : List ℕ) → sum (x ∷ xs) ≡ x + sum xs
+sum_next x xs = sum_by-cons (λ (k : ℕ). k) x xs
+
+-- the first ones, and some behind them
+pub sum_parts : (xs : List ℕ) (a b : ℕ) → sum (take a xs) + sum (take b (drop a xs)) ≡ sum (take (a + b) xs)
+sum_parts xs zero b = let e : 0 + b ≡ b = omega arith in omega (arith, ap (λ (n : ℕ). sum (take n xs)) e)
+sum_parts [] (suc a) b = omega (arith, ap sum (take-nil b), ap sum (take-nil (suc a + b)))
+sum_parts (x ∷ xs) (suc a) b =
+    let e : suc a + b ≡ suc (a + b) = omega arith in
+    omega (arith, ap (λ (n : ℕ). sum (take n (x ∷ xs))) e, sum_next x (take a xs), sum_next x (take (a + b) xs), sum_parts xs a b)
+
+pub block_few : (n k : ℕ) (xs : List ℕ) → n ≤ 255 * length (take (64 * k + 64 - 64 * k) xs) → n ≤ 16320
+block_few n k xs le = omega (arith, le, length-take (64 * k + 64 - 64 * k) xs)
+
+pub block_summed : (xs : List ℕ) (k all own : ℕ) → all ≡ sum (take (64 * k) xs) → own ≡ sum (take (64 * k + 64 - 64 * k) (drop (64 * k) xs)) → all + own ≡ sum (take (64 * (k + 1)) xs)
+block_summed xs k all own ea eo =
+    let len : 64 * k + 64 - 64 * k ≡ 64 = omega arith in
+    let end : 64 * k + 64 ≡ 64 * (k + 1) = omega arith in
+    omega (arith, ea, eo, ap (λ (n : ℕ). sum (take n (drop (64 * k) xs))) len, sum_parts xs (64 * k) 64, ap (λ (n : ℕ). sum (take n xs)) end)
+
+pub rest_summed : (xs : List ℕ) (n all own : ℕ) → n ≤ length xs → all ≡ sum (take n xs) → own ≡ sum (take (length xs - n) (drop n xs)) → all + own ≡ sum xs
+rest_summed xs n all own le ea eo =
+    let end : n + (length xs - n) ≡ length xs = omega (arith, le) in
+    omega (arith, ea, eo, sum_parts xs n (length xs - n), ap (λ (m : ℕ). sum (take m xs)) end, ap sum (take-length xs))

@@ -160,15 +160,30 @@ fn sum_of(row: &RowSamples, plane: Plane, lines: u32) -> u64
     sum
 }
 
-/// The sum of samples.
+/// The sum of samples, 64 at a time: of so many the compiler makes four instructions that add 16 each.
 fn sum_all(samples: &[u8]) -> u64
     requires few { length samples.now ≤ 4096 }
     ensures value { result ≡ sum samples.now }
     ensures most { result ≤ 2 ^ 20 }
 {
+    let blocks = samples.len() / 64;
     let mut all: u32 = 0;
+    for block in 0..blocks {
+        all += sum_few(&samples[64 * block..64 * block + 64]);
+    }
+    u64::from(all + sum_few(&samples[64 * blocks..]))
+}
+
+/// The sum of a few samples.
+#[inline(always)]
+fn sum_few(samples: &[u8]) -> u32
+    requires few { length samples.now ≤ 4096 }
+    ensures value { result ≡ sum samples.now }
+    ensures most { result ≤ 255 * length samples.now }
+{
+    let mut all = 0;
     for i in 0..samples.len() {
         all += u32::from(samples[i]);
     }
-    u64::from(all)
+    all
 }

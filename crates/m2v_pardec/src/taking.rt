@@ -215,7 +215,7 @@ pub fn take_first(alloc: Global, piece: Piece) -> Result<Result<Taken, Piece>, A
     Ok(Ok(taken))
 }
 
-/// Takes pieces ahead: up to 8 pictures, or fewer where a piece isn't one of these or none is left.
+/// Takes pieces ahead: up to 16 pictures, or fewer where a piece isn't one of these or none is left.
 pub fn take<S: Source>(
     alloc: Global,
     before: Before,

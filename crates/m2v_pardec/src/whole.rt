@@ -281,7 +281,7 @@ fn by_batches<R: Threads + Wait + Sync, S: Source, K: Sink, G: Gate + Sync>(
 /// Decodes a stream by 1 to 16 workers: what it answers, reads and writes is what `decode` of `m2v_decode` does, for every
 /// number of workers and whatever the gate does.
 ///
-/// By more than one, pictures are taken ahead, up to 8 at a time. Their macroblock rows are the jobs of the workers: a row
+/// By more than one, pictures are taken ahead, up to 16 at a time. Their macroblock rows are the jobs of the workers: a row
 /// waits for the rows of the pictures that its own is predicted from. Meanwhile this thread takes in the pictures before
 /// them, writes the frames that are due, and takes the next pictures. Pictures are decoded as a whole, one after another,
 /// where a row of them has a fault; so are one that is dropped, and a piece whose headers have a fault.
