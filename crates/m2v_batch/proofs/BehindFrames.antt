@@ -1,16 +1,15 @@
 -- The frames behind a batch, by its rows.
-use Rattle.std.proofs.Common.{◌≡◌, ℕ, zero, suc, ◌+◌, ◌-◌, ◌*◌, ◌<◌, ◌≤◌, true, false, length, Option, refl, sym, ap, subst, ◌∙◌, arith, inr}
+use Rattle.std.proofs.Common.{◌≡◌, ℕ, zero, suc, ◌+◌, ◌-◌, ◌*◌, ◌<◌, ◌≤◌, true, length, Option, refl, sym, ap, subst, ◌∙◌, arith, inr}
 use Rattle.std.specs.Prelude.{IfSome}
 use Rattle.m2v_plane.specs.declared.dims.Dims.{Dims}
 use Rattle.m2v_plane.specs.Sizes.{part_of}
 use Rattle.m2v_plane.specs.Samples.{Samples}
-use Rattle.m2v_plane.specs.Fields.{or_none}
 use Rattle.m2v_pred.specs.Motion.{own_lines}
 use Rattle.m2v_batch.specs.declared.picture.Header.{Header}
 use Rattle.m2v_batch.specs.declared.picture.FramePlace.{FramePlace}
 use Rattle.m2v_batch.specs.declared.pieces.DecodePiece.{DecodePiece}
 use Rattle.m2v_batch.specs.Jobs.{Headers, header_at, first_job, newer_before, older_before, jobs_of}
-use Rattle.m2v_batch.specs.Batches.{Batch, headers, Rows, no_rows, with_own, rows_set, all_set, begun, frame_behind, IsBatch}
+use Rattle.m2v_batch.specs.Batches.{Batch, headers, Rows, with_own, rows_set, all_set, frame_behind, IsBatch}
 use Rattle.m2v_batch.specs.Below.{ComesBefore, first_more, first_upto, newer_comes, older_comes}
 use Rattle.m2v_batch.specs.Painted.{all_rows}
 use Rattle.m2v_batch.specs.Pieces.{row_of}
@@ -18,8 +17,7 @@ use Rattle.m2v_batch.specs.Values.{value_of}
 use Rattle.m2v_batch.proofs.Sizes.{jobs_are}
 use Rattle.m2v_batch.proofs.Decoded.{piece_size}
 use Rattle.m2v_batch.proofs.FrameSizes.{row_fits}
-use Rattle.m2v_batch.proofs.FrameRows.{begun_is, begun_second}
-use Rattle.m2v_batch.proofs.Blank.{none_set, first_behind}
+use Rattle.m2v_batch.proofs.Blank.{behind_second}
 
 -- ---- the rows of a picture
 
@@ -60,24 +58,12 @@ row_next h at from r start frame row e is =
 
 -- ---- the frame behind a picture
 
--- a picture that is the first one of its frame in the batch
-pub begun_all : (b : Batch) (at : Rows) (p : ℕ) → (0 < p → (header_at (headers b) p).second ≡ false) → all_set b at p (frame_behind b no_rows p) ≡ frame_behind b at p
-unfolding frame_behind
-begun_all b at zero first =
-    let hs = headers b in
-    ap (all_set b at 0) (none_set (header_at hs 0) (first_job hs 0) (header_at hs 0).rows (begun b 0 (or_none b.waiting)))
-begun_all b at (suc p) first =
-    let e = first (omega arith) in
-    ap (all_set b at (suc p)) (first_behind b (suc p) e ∙ sym (begun_is b (suc p) (frame_behind b at p) e))
-
 -- a second field
 pub second_all : (b : Batch) (at : Rows) (p : ℕ) → 0 < p → (header_at (headers b) p).second ≡ true → all_set b at p (frame_behind b at (p - 1)) ≡ frame_behind b at p
-unfolding frame_behind
 second_all b at zero some e = absurd (omega arith)
 second_all b at (suc p) some e =
     let before : suc p - 1 ≡ p = omega arith in
-    ap (λ (q : ℕ). all_set b at (suc p) (frame_behind b at q)) before
-    ∙ ap (all_set b at (suc p)) (sym (begun_second b (suc p) (frame_behind b at p) e))
+    ap (λ (q : ℕ). all_set b at (suc p) (frame_behind b at q)) before ∙ behind_second b at p e
 
 -- ---- where the last anchors stand
 

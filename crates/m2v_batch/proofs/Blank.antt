@@ -1,12 +1,13 @@
 -- The frame behind a picture, before any of its rows is at hand.
-use Rattle.std.proofs.Common.{◌≡◌, ℕ, zero, suc, ◌+◌, Bool, true, false, cond, Some, refl, ap, ◌∙◌}
+use Rattle.std.proofs.Common.{◌≡◌, ℕ, zero, suc, Bool, true, false, cond, Some, refl, ap, ◌∙◌, ◌<◌, sym, arith}
 use Rattle.std.specs.Prelude.{IfOk, Result, Ok, Err}
 use Rattle.std.proofs.lemmas.Bool.{cond-true, cond-false}
 use Rattle.m2v_plane.specs.Samples.{Samples, blank}
 use Rattle.m2v_plane.specs.Fields.{or_none}
 use Rattle.m2v_batch.specs.declared.picture.Header.{Header}
 use Rattle.m2v_batch.specs.Jobs.{header_at, first_job}
-use Rattle.m2v_batch.specs.Batches.{Batch, headers, no_rows, rows_set, begun, frame_behind, IsBatch}
+use Rattle.m2v_batch.specs.Batches.{Batch, headers, Rows, no_rows, rows_set, all_set, begun, frame_behind, IsBatch}
+use Rattle.m2v_batch.proofs.FrameRows.{begun_is, begun_second}
 
 pub none_set : (h : Header) (from n : ℕ) (frame : Samples) → rows_set h no_rows from n frame ≡ frame
 unfolding rows_set
@@ -48,6 +49,23 @@ blank_behind b (suc p) h other =
     let hs = headers b in
     none_set (header_at hs (suc p)) (first_job hs (suc p)) (header_at hs (suc p)).rows (begun b (suc p) (frame_behind b no_rows p))
     ∙ begun_blank b (suc p) (frame_behind b no_rows p) (λ e. first_behind b p (h.pairs p e).is_first)
+
+-- ---- all rows at hand
+
+-- a picture that begins its frame in the batch
+pub begun_all : (b : Batch) (at : Rows) (p : ℕ) → (0 < p → (header_at (headers b) p).second ≡ false) → all_set b at p (frame_behind b no_rows p) ≡ frame_behind b at p
+unfolding frame_behind
+begun_all b at zero first =
+    let hs = headers b in
+    ap (all_set b at 0) (none_set (header_at hs 0) (first_job hs 0) (header_at hs 0).rows (begun b 0 (or_none b.waiting)))
+begun_all b at (suc p) first =
+    let e = first (omega arith) in
+    ap (all_set b at (suc p)) (first_behind b (suc p) e ∙ sym (begun_is b (suc p) (frame_behind b at p) e))
+
+-- a second field
+pub behind_second : (b : Batch) (at : Rows) (p : ℕ) → (header_at (headers b) (suc p)).second ≡ true → all_set b at (suc p) (frame_behind b at p) ≡ frame_behind b at (suc p)
+unfolding frame_behind
+behind_second b at p e = ap (all_set b at (suc p)) (sym (begun_second b (suc p) (frame_behind b at p) e))
 
 -- ---- results
 

@@ -1,9 +1,8 @@
 -- The frame behind a picture, by the rows that are at hand.
 use Rattle.std.proofs.Common.{◌≡◌, ℕ, zero, suc, ◌+◌, ◌<◌, ◌≤◌, true, false, refl, sym, ap, ◌∙◌, arith, inl, inr}
 use Rattle.std.proofs.lemmas.Bool.{cases_Bool, cond-true, cond-false}
-use Rattle.m2v_plane.specs.Samples.{Samples, with_row, blank}
+use Rattle.m2v_plane.specs.Samples.{Samples, blank}
 use Rattle.m2v_plane.specs.Fields.{or_none}
-use Rattle.m2v_pred.specs.Motion.{own_lines}
 use Rattle.m2v_batch.specs.Jobs.{Headers, header_at, first_job, frame_begin, frame_from}
 use Rattle.m2v_batch.specs.Batches.{Batch, headers, Rows, all_set, begun, frame_behind, IsBatch}
 use Rattle.m2v_batch.specs.Below.{first_more}

@@ -1,21 +1,20 @@
 -- A frame over which the rows of its pictures are set one behind another.
-use Rattle.std.proofs.Common.{◌≡◌, ℕ, zero, suc, ◌+◌, ◌-◌, ◌/◌, ◌<◌, ◌≤◌, Bool, true, false, length, Option, Some, refl, sym, ap, ◌∙◌, arith, inl, inr}
+use Rattle.std.proofs.Common.{◌≡◌, ℕ, zero, suc, ◌+◌, ◌-◌, ◌/◌, ◌<◌, ◌≤◌, true, false, length, Option, Some, refl, sym, ap, ◌∙◌, arith, inl, inr}
 use Rattle.std.specs.Prelude.{nat_eq, is_some, IsSome}
-use Rattle.std.specs.List.{list_all, range_with_len}
+use Rattle.std.specs.List.{range_with_len}
 use Rattle.std.proofs.lemmas.Bool.{cases_Bool, cond-true, eq-eqb, eqb-true, ne_eqb}
 use Rattle.std.proofs.lemmas.List.Sums.{AllPass-from_list_all}
 use Rattle.std.proofs.lemmas.List.FromFn.{length-range_with_len, get_or-range_with_len}
 use Rattle.std.proofs.lemmas.Option.{slice_get_cases}
 use Rattle.m2v_plane.specs.declared.dims.Dims.{Dims}
 use Rattle.m2v_plane.specs.Samples.{Samples, blank}
-use Rattle.m2v_plane.specs.Fields.{or_none}
 use Rattle.m2v_rows.specs.Opened.{IsOpened}
 use Rattle.m2v_batch.specs.declared.picture.BatchPicture.{BatchPicture}
 use Rattle.m2v_batch.specs.declared.picture.Header.{Header}
 use Rattle.m2v_batch.specs.declared.pieces.DecodePiece.{DecodePiece}
 use Rattle.m2v_batch.specs.declared.pieces.DecodePiece.TheVariants.{Unread, After, Faulty, Rebuilt}
-use Rattle.m2v_batch.specs.Jobs.{Headers, header_at, first_job, picture_of_job, row_of_job, frame_begin, frame_from, frame_count}
-use Rattle.m2v_batch.specs.Batches.{Batch, headers, Rows, no_rows, with_own, rows_set, all_set, begun, frame_behind, IsBatch}
+use Rattle.m2v_batch.specs.Jobs.{Headers, header_at, first_job, frame_begin, frame_from, frame_count}
+use Rattle.m2v_batch.specs.Batches.{Batch, headers, Rows, no_rows, with_own, rows_set, all_set, frame_behind, IsBatch}
 use Rattle.m2v_batch.specs.Below.{first_more}
 use Rattle.m2v_batch.specs.Pieces.{row_of, is_rebuilt}
 use Rattle.m2v_batch.specs.Values.{value_of}
@@ -23,8 +22,8 @@ use Rattle.m2v_batch.specs.Painted.{all_rows}
 use Rattle.m2v_batch.specs.Learned.{with_job, frame_over, first_rebuilt, IsOver}
 use Rattle.m2v_batch.proofs.Sizes.{header_is, count_is, at_picture, picture_found}
 use Rattle.m2v_batch.proofs.Setting.{none_set, one_set}
-use Rattle.m2v_batch.proofs.FrameRows.{begun_is, begun_second, from_first, from_second}
-use Rattle.m2v_batch.proofs.Blank.{none_set as nothing_set, first_behind, blank_behind}
+use Rattle.m2v_batch.proofs.FrameRows.{from_first, from_second}
+use Rattle.m2v_batch.proofs.Blank.{first_behind, blank_behind, begun_all, behind_second}
 use Rattle.m2v_batch.proofs.Covered.{covered}
 
 -- ---- rows that are there
@@ -135,23 +134,11 @@ over_both b p base lt e =
 -- ---- the frame behind a picture
 
 behind_first : (b : Batch) (at : Rows) (p : ℕ) → (header_at (headers b) p).second ≡ false → all_set b at p (blank b.dims b.dims.mb_rows) ≡ frame_behind b at p
-unfolding frame_behind
-behind_first b at zero e = ap (all_set b at zero) (sym (begun_is b zero (or_none b.waiting) e))
-behind_first b at (suc p) e = ap (all_set b at (suc p)) (sym (begun_is b (suc p) (frame_behind b at p) e))
+behind_first b at p e = ap (all_set b at p) (sym (first_behind b p e)) ∙ begun_all b at p (λ some. e)
 
-behind_waiting : (b : Batch) (at : Rows) → all_set b at 0 (frame_behind b no_rows 0) ≡ frame_behind b at 0
-unfolding frame_behind
-behind_waiting b at =
-    let hs = headers b in
-    ap (all_set b at 0) (nothing_set (header_at hs 0) (first_job hs 0) (header_at hs 0).rows (begun b 0 (or_none b.waiting)))
-
-behind_second : (b : Batch) (at : Rows) (p : ℕ) → (header_at (headers b) (suc p)).second ≡ true → all_set b at (suc p) (frame_behind b at p) ≡ frame_behind b at (suc p)
-unfolding frame_behind
-behind_second b at p e = ap (all_set b at (suc p)) (sym (begun_second b (suc p) (frame_behind b at p) e))
-
-begin_none : (hs : Headers) → frame_from hs 0 ≡ first_job hs 0
+from_none : (hs : Headers) → frame_from hs 0 ≡ first_job hs 0
 unfolding frame_begin
-begin_none hs = refl
+from_none hs = refl
 
 -- ---- by cases of the picture
 
@@ -190,7 +177,7 @@ is_field structure le = ne_eqb structure 3 (λ e. omega (arith, e, le))
 second_over : (b : Batch) (q : ℕ) (base : Samples) → IsBatch b → q < length (headers b) → (header_at (headers b) q).second ≡ true → base ≡ frame_behind b no_rows q
     → frame_over b q (frame_count (headers b) q) base ≡ frame_behind b (all_rows b) q
 second_over b zero base h lt second is =
-    over_own b 0 base lt (begin_none (headers b)) ∙ ap (all_set b (all_rows b) 0) is ∙ behind_waiting b (all_rows b)
+    over_own b 0 base lt (from_none (headers b)) ∙ ap (all_set b (all_rows b) 0) is ∙ begun_all b (all_rows b) 0 (λ some. absurd (omega (arith, some)))
 second_over b (suc p) base h lt second is =
     over_both b p base lt second
     ∙ ap (λ (f : Samples). all_set b (all_rows b) (suc p) (all_set b (all_rows b) p f)) (is ∙ blank_behind b (suc p) h (λ e. omega (arith, e)))

@@ -1,5 +1,5 @@
 -- What a cache knows of the needs of a job once it has learned them.
-use Rattle.std.proofs.Common.{◌≡◌, ℕ, zero, suc, ◌+◌, ◌-◌, ◌<◌, ◌≤◌, Bool, true, false, ◌&&◌, ◌||◌, cond, List, [], ◌∷◌, ◌++◌, length, get_or, Option, Some, None, refl, sym, ap, subst, ◌∙◌, arith, inl, inr, ◌⊎◌}
+use Rattle.std.proofs.Common.{◌≡◌, ℕ, zero, suc, ◌+◌, ◌-◌, ◌<◌, ◌≤◌, Bool, true, ◌&&◌, ◌||◌, List, [], ◌∷◌, ◌++◌, length, get_or, Option, Some, None, refl, sym, ap, subst, ◌∙◌, arith, inl, inr, ◌⊎◌}
 use Rattle.std.specs.Prelude.{⊤, nat_eq, nat_le, IsSome}
 use Rattle.std.specs.List.{list_all, range_with_len}
 use Rattle.std.proofs.lemmas.Bool.{cases_eq, cases_lt, cases_Bool, and_parts, and_left, eq-eqb, ne_eqb, le-leb, lt-leb, cond_both, cond-true, cond-false}
@@ -8,19 +8,18 @@ use Rattle.std.proofs.lemmas.List.Folds.{list_all-append}
 use Rattle.std.proofs.lemmas.List.FromFn.{length-range_with_len, get_or-range_with_len}
 use Rattle.m2v_core.specs.Book.{cache_after}
 use Rattle.m2v_plane.specs.Samples.{Samples, blank}
-use Rattle.m2v_batch.specs.declared.cache.HeldFrame.{HeldFrame}
 use Rattle.m2v_batch.specs.declared.cache.DecodeCache.{DecodeCache}
 use Rattle.m2v_batch.specs.declared.picture.FramePlace.{FramePlace}
 use Rattle.m2v_batch.specs.declared.picture.FramePlace.TheVariants.{Older, Newer, Waiting, Behind}
 use Rattle.m2v_batch.specs.declared.picture.Reads.{Reads}
-use Rattle.m2v_batch.specs.Jobs.{Headers, header_at, first_job, needs_of, jobs_of, jobs_at, jobs_behind, frame_from, frame_count, picture_of_job, read_by}
+use Rattle.m2v_batch.specs.Jobs.{Headers, header_at, needs_of, jobs_of, jobs_at, jobs_behind, frame_from, frame_count, picture_of_job, read_by}
 use Rattle.m2v_batch.specs.Batches.{Batch, headers, Rows, no_rows, frame_behind, frame_at, IsBatch}
 use Rattle.m2v_batch.specs.Below.{ComesBefore, MayBe, reads_before, needs_below, picture_upto, first_upto, picture_exists, from_below, first_more}
 use Rattle.m2v_batch.specs.Painted.{all_rows}
 use Rattle.m2v_batch.specs.Pieces.{row_of, is_rebuilt, SharedRow}
 use Rattle.m2v_batch.specs.Values.{value_of, shared_of, decoded, outcome_at, rows_of, are_rebuilt}
 use Rattle.m2v_batch.specs.Learned.{is_of, held_of, learned_at, learned_of, first_rebuilt, IsOver, HoldsRows, FitsHeld, FitsCache}
-use Rattle.m2v_batch.specs.Works.{HasRows, HasFrame, HasLearned, whole_at, needs_rebuilt, rowless, frame_found}
+use Rattle.m2v_batch.specs.Works.{HasFrame, HasLearned, whole_at, needs_rebuilt, rowless, frame_found}
 use Rattle.m2v_batch.proofs.Blank.{waiting_behind, first_behind, blank_behind}
 use Rattle.m2v_batch.proofs.Decoded.{value_stays}
 use Rattle.m2v_batch.proofs.FrameRows.{frame_same}

@@ -6,7 +6,6 @@ use Rattle.m2v_plane.specs.declared.dims.Dims.{Dims}
 use Rattle.m2v_plane.specs.Samples.{Samples, blank}
 use Rattle.m2v_batch.specs.declared.cache.HeldFrame.{HeldFrame}
 use Rattle.m2v_batch.specs.declared.cache.DecodeCache.{DecodeCache}
-use Rattle.m2v_batch.specs.declared.picture.Header.{Header}
 use Rattle.m2v_batch.specs.declared.picture.FramePlace.{FramePlace}
 use Rattle.m2v_batch.specs.declared.picture.FramePlace.TheVariants.{Older, Newer, Waiting, Behind}
 use Rattle.m2v_batch.specs.Jobs.{Headers, header_at, picture_of_job, row_of_job, frame_from, frame_count, read_by, jobs_at}

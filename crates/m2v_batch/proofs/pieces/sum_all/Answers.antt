@@ -1,4 +1,4 @@
-use Rattle.std.proofs.Common.{◌∙◌, arith, drop, ◌*◌, ◌/◌, ◌≤◌, ◌≡◌, length, take, ap}
+use Rattle.std.proofs.Common.{◌∙◌, arith, drop, ◌*◌, ◌/◌, ◌≡◌, length, take, ap}
 use Rattle.std.specs.Prelude.{sum}
 use Rattle.m2v_batch.proofs.Sums.{block_few, block_summed, rest_summed}
 use Rattle.m2v_batch.proofs.pieces.sum_all.Goals as goal

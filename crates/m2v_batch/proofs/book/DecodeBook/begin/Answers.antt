@@ -1,4 +1,4 @@
-use Rattle.std.proofs.Common.{◌∙◌, sym, ap, Option, Some}
+use Rattle.std.proofs.Common.{◌∙◌, sym, ap, Some}
 use Rattle.std.specs.Option.{option_map}
 use Rattle.m2v_plane.specs.Samples.{Samples}
 use Rattle.m2v_batch.specs.declared.cache.HeldFrame.{HeldFrame}

@@ -3,7 +3,7 @@ use Rattle.m2v_plane.specs.Samples.{Samples}
 use Rattle.m2v_batch.specs.Batches.{no_rows, all_set}
 use Rattle.m2v_batch.specs.Painted.{all_rows}
 use Rattle.m2v_batch.proofs.FrameSizes.{behind_size}
-use Rattle.m2v_batch.proofs.BehindFrames.{begun_all}
+use Rattle.m2v_batch.proofs.Blank.{begun_all}
 use Rattle.m2v_batch.proofs.book.DecodeBook.begun_frame.Goals as goal
 
 pub set_picture-requires-clause-size : goal.set_picture-requires-clause-size

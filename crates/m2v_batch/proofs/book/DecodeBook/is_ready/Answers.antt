@@ -1,4 +1,4 @@
-use Rattle.std.proofs.Common.{◌∙◌, ap, subst, sym}
+use Rattle.std.proofs.Common.{◌∙◌, ap}
 use Rattle.std.specs.Prelude.{◌&&◌}
 use Rattle.m2v_batch.specs.declared.picture.Reads.{Reads}
 use Rattle.m2v_batch.specs.Jobs.{read_by}

@@ -1,8 +1,6 @@
-use Rattle.std.proofs.Common.{◌≡◌, length, sym, ap, ◌∙◌, ◌<◌, Option, Some}
+use Rattle.std.proofs.Common.{length, sym, ap, ◌∙◌, Option}
 use Rattle.m2v_batch.specs.declared.cache.HeldFrame.{HeldFrame}
-use Rattle.m2v_batch.specs.declared.cache.DecodeCache.{DecodeCache}
 use Rattle.m2v_batch.specs.declared.picture.FramePlace.{FramePlace}
-use Rattle.m2v_batch.specs.declared.picture.FramePlace.TheVariants.{Behind}
 use Rattle.m2v_batch.specs.Batches.{headers}
 use Rattle.m2v_batch.specs.Learned.{learned_at}
 use Rattle.m2v_batch.proofs.Learning.{behind_is, behind_there, behind_none, row_small, into_first, into_second}

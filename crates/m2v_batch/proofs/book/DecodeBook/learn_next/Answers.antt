@@ -1,4 +1,4 @@
-use Rattle.std.proofs.Common.{◌∙◌, ap, sym, arith, ◌+◌, ◌&&◌, Option}
+use Rattle.std.proofs.Common.{◌∙◌, ap, arith, ◌+◌, ◌&&◌, Option}
 use Rattle.std.specs.Prelude.{is_some}
 use Rattle.std.specs.Option.{option_map}
 use Rattle.m2v_plane.specs.Samples.{Samples}
