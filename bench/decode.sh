@@ -1,30 +1,32 @@
 #!/usr/bin/env bash
-# Decodes and checks clips, and prints a table: frames a second of `decode` by 1, 2 and 4 workers and of `check`, instructions
-# a frame by one worker, beside ffmpeg and mpeg2dec without lanes, each the least and the most over the clips. Every number of
-# workers must give the same frames, and as many as ffmpeg shows; standard error has a line a clip, with the largest difference
-# of a sample from ffmpeg's frames. The clips are ffmpeg's; where it isn't installed, two that `encode` makes. It wants python3;
-# mpeg2dec and valgrind are left out where they aren't installed.
+# Decodes and checks clips, and prints a table: frames a second of `decode` by 1, 2 and 4 workers and of `check`, how many times
+# the speed of one worker that is, and instructions a frame by one worker, beside ffmpeg by 1 and 4 threads and mpeg2dec without
+# lanes, each the least and the most over the clips. Every number of workers must give the same frames, and as many as ffmpeg
+# shows; standard error has a line a clip, with the largest difference of a sample from ffmpeg's frames. The clips are ffmpeg's;
+# where it isn't installed, two that `encode` makes. It wants python3; mpeg2dec and valgrind are left out where they aren't
+# installed.
 #
-#     bench/decode.sh PROGRAM [FOLDER]
+#     bench/decode.sh PROGRAM [FOLDER [SECONDS]]
 #
 # PROGRAM is the built program (crates/m2v_main/out/m2v_main, after one call of ./puckerledge). Clips and outputs stay in
-# FOLDER, /tmp/clips where none is given.
+# FOLDER, /tmp/clips where none is given. The clips have 4 seconds, or SECONDS; instructions are counted in those of 4 alone.
 set -eu
 # shellcheck source=bench/measure.sh
 . "$(dirname "$(realpath "$0")")/measure.sh"
-begin "$1" "${2:-/tmp/clips}"
+seconds=${3:-4}
+begin "$1" "${2:-/tmp/clips}/$seconds"
 tell_missing ffmpeg mpeg2dec valgrind
 
-# A clip of 720 by 576 samples and four seconds: its name, the source's rate and filter, and the encoder's words. A shorter one
+# A clip of 720 by 576 samples: its name, the source's rate and filter, and the encoder's words. One of less than four seconds
 # wouldn't have the bit rate that is asked for: the encoder spends more in its first second, up to its buffer. And what a program
-# does once counts little in four.
+# does once, such as to take its memory, counts in a short one.
 names=()
 clip() {
     local name=$1 rate=$2 filter=$3
     shift 3
     names+=("$name")
     [ -s "$name.m2v" ] || ffmpeg -v error -y -f lavfi \
-        -i "testsrc2=size=720x576:rate=$rate:duration=4,noise=alls=12:allf=t$filter" \
+        -i "testsrc2=size=720x576:rate=$rate:duration=$seconds,noise=alls=12:allf=t$filter" \
         -pix_fmt yuv420p -c:v mpeg2video -maxrate 15M -bufsize 1835k "$@" "$name.m2v"
 }
 
@@ -52,6 +54,7 @@ by_decode() { "$program" decode < "$1.m2v" > /dev/null 2> "$1.line"; }
 by_decode2() { "$program" decode --workers 2 < "$1.m2v" > /dev/null 2> "$1.line"; }
 by_decode4() { "$program" decode --workers 4 < "$1.m2v" > /dev/null 2> "$1.line"; }
 by_ffmpeg() { ffmpeg -v error -y -threads 1 -i "$1.m2v" -f rawvideo -pix_fmt yuv420p /dev/null < /dev/null; }
+by_ffmpeg4() { ffmpeg -v error -y -threads 4 -i "$1.m2v" -f rawvideo -pix_fmt yuv420p /dev/null < /dev/null; }
 by_mpeg2dec() { mpeg2dec -c -o null "$1.m2v" > mpeg2dec.log 2>&1; }
 # another encoder's clip may break a rule or the buffer
 by_check() {
@@ -60,7 +63,27 @@ by_check() {
     case $status in 0 | 10 | 11) ;; *) told "$1.verdict" ;; esac
 }
 
-declare -A speeds counts
+# Nanoseconds that each tool takes for a clip: the least of five, turn by turn, since what else runs on the machine can only
+# slow one down, and for a while at a time.
+declare -A least
+turns() {
+    local tool start took turn
+    least=()
+    for turn in 1 2 3 4 5; do
+        for tool in decode decode2 decode4 check ffmpeg ffmpeg4 mpeg2dec; do
+            has_tool $tool || continue
+            start=$(date +%s%N)
+            "by_$tool" "$1"
+            took=$(($(date +%s%N) - start))
+            if [ "$turn" = 1 ] || [ "$took" -lt "${least[$tool]}" ]; then least[$tool]=$took; fi
+        done
+    done
+}
+has_tool() {
+    case $1 in decode* | check) ;; ffmpeg*) has ffmpeg ;; *) has "$1" ;; esac
+}
+
+declare -A speeds times counts
 for name in "${names[@]}"; do
     "$program" decode < "$name.m2v" > "$name.yuv" 2> "$name.line" || told "$name.line"
     for workers in 2 4; do
@@ -68,9 +91,12 @@ for name in "${names[@]}"; do
     done
     frames=$(cut -d' ' -f2 "$name.line")
     said="$name: $(cat "$name.line")"
-    for tool in decode decode2 decode4 check ffmpeg mpeg2dec; do
-        case $tool in decode* | check) ;; *) has $tool || continue ;; esac
-        speeds[$tool]+=" $(speed "$frames" "by_$tool" "$name")"
+    turns "$name"
+    for tool in "${!least[@]}"; do
+        speeds[$tool]+=" $(awk -v n="$frames" -v t="${least[$tool]}" 'BEGIN { printf "%.1f", n * 1e9 / t }')"
+    done
+    for tool in decode2 decode4; do
+        times[$tool]+=" $(awk -v a="${least[decode]}" -v t="${least[$tool]}" 'BEGIN { printf "%.2f", a / t }')"
     done
     if has ffmpeg; then
         ffmpeg -v error -y -i "$name.m2v" -f rawvideo -pix_fmt yuv420p "$name.ref" < /dev/null
@@ -78,6 +104,7 @@ for name in "${names[@]}"; do
         said+=", largest difference from ffmpeg ${apart#* }"
     fi
     echo "$said, check: $(cat "$name.verdict")" >&2
+    [ "$seconds" = 4 ] || continue
     counts[decode]+=" $(instructions "$frames" "$name.m2v" "$program" decode)"
     counts[check]+=" $(instructions "$frames" "$name.m2v" "$program" check)"
     if has mpeg2dec; then counts[mpeg2dec]+=" $(instructions "$frames" "$name.m2v" mpeg2dec -c -o null "$name.m2v")"; fi
@@ -88,11 +115,14 @@ range() {
     tr ' ' '\n' <<< "$1" | sed "/^$none*$/d" | sort -g | sed -n '1p;$p' | uniq | paste -s -d- | sed 's/-/ to /'
 }
 
-echo "| | frames a second | million instructions a frame |"
-echo "|---|---|---|"
-row "\`decode\`" "$(range "${speeds[decode]}")" "$(range "${counts[decode]}")"
-row "\`decode\`, 2 workers" "$(range "${speeds[decode2]}")" ""
-row "\`decode\`, 4 workers" "$(range "${speeds[decode4]}")" ""
-row "\`check\`" "$(range "${speeds[check]}")" "$(range "${counts[check]}")"
-if has ffmpeg; then row "ffmpeg, one thread" "$(range "${speeds[ffmpeg]}")" ""; fi
-if has mpeg2dec; then row "\`mpeg2dec -c\`" "$(range "${speeds[mpeg2dec]}")" "$(range "${counts[mpeg2dec]}")"; fi
+echo "| | frames a second | times one worker | million instructions a frame |"
+echo "|---|---|---|---|"
+row "\`decode\`" "$(range "${speeds[decode]}")" "" "$(range "${counts[decode]-}")"
+row "\`decode\`, 2 workers" "$(range "${speeds[decode2]}")" "$(range "${times[decode2]}")" ""
+row "\`decode\`, 4 workers" "$(range "${speeds[decode4]}")" "$(range "${times[decode4]}")" ""
+row "\`check\`" "$(range "${speeds[check]}")" "" "$(range "${counts[check]-}")"
+if has ffmpeg; then
+    row "ffmpeg, one thread" "$(range "${speeds[ffmpeg]}")" "" ""
+    row "ffmpeg, 4 threads" "$(range "${speeds[ffmpeg4]}")" "" ""
+fi
+if has mpeg2dec; then row "\`mpeg2dec -c\`" "$(range "${speeds[mpeg2dec]}")" "" "$(range "${counts[mpeg2dec]-}")"; fi
