@@ -67,14 +67,12 @@ by_check() {
 # slow one down, and for a while at a time.
 declare -A least
 turns() {
-    local tool start took turn
+    local tool took turn
     least=()
     for turn in 1 2 3 4 5; do
         for tool in decode decode2 decode4 check ffmpeg ffmpeg4 mpeg2dec; do
             has_tool $tool || continue
-            start=$(date +%s%N)
-            "by_$tool" "$1"
-            took=$(($(date +%s%N) - start))
+            took=$(nanoseconds "by_$tool" "$1")
             if [ "$turn" = 1 ] || [ "$took" -lt "${least[$tool]}" ]; then least[$tool]=$took; fi
         done
     done
@@ -93,7 +91,7 @@ for name in "${names[@]}"; do
     said="$name: $(cat "$name.line")"
     turns "$name"
     for tool in "${!least[@]}"; do
-        speeds[$tool]+=" $(awk -v n="$frames" -v t="${least[$tool]}" 'BEGIN { printf "%.1f", n * 1e9 / t }')"
+        speeds[$tool]+=" $(rate "$frames" "${least[$tool]}")"
     done
     for tool in decode2 decode4; do
         times[$tool]+=" $(awk -v a="${least[decode]}" -v t="${least[$tool]}" 'BEGIN { printf "%.2f", a / t }')"

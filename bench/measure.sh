@@ -31,18 +31,29 @@ raw() {
     [ -s "$clip" ] || python3 "$bench/clip.py" "$1" "$2" "$3" > "$clip"
 }
 
+# nanoseconds COMMAND ..: how many a command takes, which writes nothing to standard output.
+nanoseconds() {
+    local start
+    start=$(date +%s%N)
+    "$@" || return
+    echo $(($(date +%s%N) - start))
+}
+
+# rate FRAMES NANOSECONDS: frames a second.
+rate() {
+    awk -v frames="$1" -v took="$2" 'BEGIN { printf "%.1f\n", frames * 1e9 / took }'
+}
+
 # speed FRAMES COMMAND ..: frames a second of a command that takes so many, by the fastest of three runs, since what else
 # runs on the machine can only slow one down.
 speed() {
-    local frames=$1 least=0 start took
+    local frames=$1 least=0 took
     shift
     for _ in 1 2 3; do
-        start=$(date +%s%N)
-        "$@" || return
-        took=$(($(date +%s%N) - start))
+        took=$(nanoseconds "$@") || return
         if [ "$least" = 0 ] || [ "$took" -lt "$least" ]; then least=$took; fi
     done
-    awk -v frames="$frames" -v took="$least" 'BEGIN { printf "%.1f\n", frames * 1e9 / took }'
+    rate "$frames" "$least"
 }
 
 # instructions FRAMES INPUT COMMAND ..: millions a frame of a command that reads a file of so many.
