@@ -1,5 +1,5 @@
 #!/usr/bin/env python3
-"""Prints the cases of m2v_cases on cut: streams of units that were put together here, and what a cut of them is by the
+"""Prints the cases of m2v_test_cases on cut: streams of units that were put together here, and what a cut of them is by the
 rules alone: groups are numbered by their headers; a cut goes from the last sequence header before the first group up to
 the piece that holds the header of the group behind the last one, up to the end code or up to the end; an end code
 follows it. It shares nothing with the program. No picture is decoded, so any bytes may stand in a slice."""

@@ -1,6 +1,6 @@
 #!/usr/bin/env python3
 """What encode is to write: an encoder written from the rules alone, which shares nothing with the program. It prints
-the cases of m2v_cases on encode, which stand in bench/encoded_cases.py.
+the cases of m2v_test_cases on encode, which stand in bench/encoded_cases.py.
 
 Here stand the settings and their test, groups, headers, the buffer and the plans; how macroblocks are coded stands in
 bench/encoded_choice.py. Of frames whose samples are all 128 nothing is chosen, so that these go a way of their own:

@@ -1,4 +1,4 @@
-"""The cases of m2v_cases on encode, printed by bench/encoded.py. What is wanted is what the encoder there makes of the
+"""The cases of m2v_test_cases on encode, printed by bench/encoded.py. What is wanted is what the encoder there makes of the
 frames, and its test of settings; what it makes of the worked examples was held against them."""
 
 from encoded import Settings, encoded, groups_of

@@ -1,5 +1,5 @@
 #!/usr/bin/env python3
-"""Cases of hostile use: prints those that stand behind a line of stars of their own in the table of m2v_cases.
+"""Cases of hostile use: prints those that stand behind a line of stars of their own in the table of m2v_test_cases.
 
 The table of changes of a grey frame's stream, as `check` is to answer it, each place counted in bits by the rules;
 where `decode` is asked the same, its cases stand further up, and the two must say the same fault."""

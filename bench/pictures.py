@@ -1,5 +1,5 @@
 #!/usr/bin/env python3
-"""Prints the cases of m2v_cases on predicted pictures: streams by bench/pictures_writer.py, and their samples by
+"""Prints the cases of m2v_test_cases on predicted pictures: streams by bench/pictures_writer.py, and their samples by
 bench/pictures_decoder.py. With a folder as argument it writes each stream into NUMBER.m2v and its frames into
 NUMBER.yuv there instead, so that another decoder can be held against them."""
 

@@ -1,6 +1,6 @@
 #!/usr/bin/env python3
 """Slices of I pictures put together from rows of the code tables, and the samples of a block by the formulas for
-coefficients and for the inverse transform: the values for which cases of m2v_cases name this script. It
+coefficients and for the inverse transform: the values for which cases of m2v_test_cases name this script. It
 shares nothing with the program."""
 
 # DC sizes 0 to 8 of luma and of chroma

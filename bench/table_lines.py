@@ -1,9 +1,9 @@
-"""Lines of the table of m2v_cases: reads its streams and cases, and writes bytes as it does."""
+"""Lines of the table of m2v_test_cases: reads its streams and cases, and writes bytes as it does."""
 
 from pathlib import Path
 from textwrap import wrap
 
-TABLE = Path(__file__).parent.parent / 'crates' / 'm2v_cases' / 'stdin'
+TABLE = Path(__file__).parent.parent / 'crates' / 'm2v_test_cases' / 'stdin'
 CHANGES = ('first', 'from', 'without', 'byte', 'put')
 
 

@@ -1,6 +1,6 @@
 #!/usr/bin/env python3
 """What check is to answer of a stream without a fault: a verifier written from the rules alone, which shares nothing
-with the program. With files as arguments it prints the status and the line of each; without, the cases of m2v_cases
+with the program. With files as arguments it prints the status and the line of each; without, the cases of m2v_test_cases
 on check, which stand in bench/verdicts_cases.py.
 
 Rules 1 to 7 are looked at on each sequence header, and count as picture 0; the others on each picture, in decoding

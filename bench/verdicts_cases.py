@@ -1,4 +1,4 @@
-"""The cases of m2v_cases on check, printed by bench/verdicts.py. Streams are changes of those of the table, or put
+"""The cases of m2v_test_cases on check, printed by bench/verdicts.py. Streams are changes of those of the table, or put
 together by bench/pictures_writer.py; what is wanted is what the verifier there says, and of a stream with a fault
 what the case of decode on the same stream wants, but for its output."""
 

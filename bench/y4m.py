@@ -1,5 +1,5 @@
 #!/usr/bin/env python3
-"""Cases of `pack`, `unpack` and `encode-y4m`, in the form of crates/m2v_cases/stdin: what a reader and a writer of YUV4MPEG2
+"""Cases of `pack`, `unpack` and `encode-y4m`, in the form of crates/m2v_test_cases/stdin: what a reader and a writer of YUV4MPEG2
 answer that were written from the rules alone and share nothing with the program. Prints them on standard output; those of
 `encode-y4m` stand in bench/y4m_cases.py."""
 from fractions import Fraction

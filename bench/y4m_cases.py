@@ -1,4 +1,4 @@
-"""The cases of m2v_cases on encode-y4m, printed by bench/y4m.py. The text is read by the reader there, and what is wanted
+"""The cases of m2v_test_cases on encode-y4m, printed by bench/y4m.py. The text is read by the reader there, and what is wanted
 of its frames is what the encoder of bench/encoded.py makes of them; or, where a case of encode has the same frames, sizes,
 rate and options, what stands in that case."""
 

@@ -5,3 +5,4 @@ pub mod Written
 mod Marking
 pub mod DcSpellings
 pub mod Spellings
+pub use Rattle.m2v_vlc.proofs as m2v_vlc

@@ -11,5 +11,7 @@ mod write;
 pub use dc::write_dc;
 pub use fault::BlockFault;
 pub use laws::{law_one_reading, law_round_trip};
+pub use m2v_quant as quant;
+pub use m2v_vlc as vlc;
 pub use read::read_block;
 pub use write::{block_bits, put_block, write_block};

@@ -11,20 +11,20 @@ use Rattle.m2v_vbv.specs.declared.fault.AccountFault.TheVariants.{Under}
 use Rattle.m2v_model.specs.declared.state.Sequence.{Sequence}
 use Rattle.m2v_model.specs.Lawful.{rate_of, buffer_of}
 use Rattle.m2v_model.specs.Buffering.{unsafe_from, amounts_from, greatest}
-use Rattle.m2v_judge.specs.declared.amounts.Amount.{Amount}
-use Rattle.m2v_judge.specs.declared.buffer.Buffer.{Buffer}
-use Rattle.m2v_judge.specs.declared.buffer.BufferFigures.{BufferFigures}
-use Rattle.m2v_judge.specs.declared.coded.CodedPicture.{CodedPicture}
-use Rattle.m2v_judge.specs.declared.course.Next.{Next}
-use Rattle.m2v_judge.specs.declared.course.Course.{Course}
-use Rattle.m2v_judge.specs.declared.course.Full.{Full}
-use Rattle.m2v_judge.specs.Breaking.{first_some}
-use Rattle.m2v_judge.specs.Holding.{is_whole, course_after, course_under, removed_by, amount_by, delays_with, full_with, over_by, is_over, with_more}
-use Rattle.m2v_judge.specs.Accounts.{removal_of, removals_of, fault_of, most_of, others_of, Ran}
-use Rattle.m2v_judge.specs.declared.amounts.Amounts.{Amounts}
-use Rattle.m2v_judge.specs.Judging.{most_noted, most_in, finished, last_of, buffer_ended, next_of, opening_of, times_of, GoesOn, Begins, HasMore}
-use Rattle.m2v_judge.specs.Holding.{most_with}
-use Rattle.m2v_judge.proofs.Accounting.{runs_on}
+use Rattle.m2v_check.specs.declared.amounts.Amount.{Amount}
+use Rattle.m2v_check.specs.declared.buffer.Buffer.{Buffer}
+use Rattle.m2v_check.specs.declared.buffer.BufferFigures.{BufferFigures}
+use Rattle.m2v_check.specs.declared.coded.CodedPicture.{CodedPicture}
+use Rattle.m2v_check.specs.declared.course.Next.{Next}
+use Rattle.m2v_check.specs.declared.course.Course.{Course}
+use Rattle.m2v_check.specs.declared.course.Full.{Full}
+use Rattle.m2v_check.specs.Breaking.{first_some}
+use Rattle.m2v_check.specs.Holding.{is_whole, course_after, course_under, removed_by, amount_by, delays_with, full_with, over_by, is_over, with_more}
+use Rattle.m2v_check.specs.Accounts.{removal_of, removals_of, fault_of, most_of, others_of, Ran}
+use Rattle.m2v_check.specs.declared.amounts.Amounts.{Amounts}
+use Rattle.m2v_check.specs.Judging.{most_noted, most_in, finished, last_of, buffer_ended, next_of, opening_of, times_of, GoesOn, Begins, HasMore}
+use Rattle.m2v_check.specs.Holding.{most_with}
+use Rattle.m2v_check.proofs.Accounting.{runs_on}
 
 -- the bits of pictures
 abbrev pub bits_of : List Next → ℕ

@@ -4,9 +4,9 @@ use Rattle.std.specs.Prelude.{IfOk, IfErr, IfSome}
 use Rattle.m2v_port.specs.Ends.{Change, Tells}
 use Rattle.m2v_port.proofs.Runs.{tells}
 use Rattle.m2v_model.proofs.Unique.{exactly_one}
-use Rattle.m2v_piece.specs.declared.answer.Fault.{Fault}
-use Rattle.m2v_piece.specs.declared.answer.DecodeError.{DecodeError}
-use Rattle.m2v_piece.specs.declared.answer.DecodeError.TheVariants as errors
+use Rattle.m2v_dec_piece.specs.declared.answer.Fault.{Fault}
+use Rattle.m2v_dec_piece.specs.declared.answer.DecodeError.{DecodeError}
+use Rattle.m2v_dec_piece.specs.declared.answer.DecodeError.TheVariants as errors
 use Rattle.m2v_decode.specs.declared.answer.Decoded.{Decoded}
 use Rattle.m2v_decode.specs.Answers.{OfText, AllFit, start_of, Fails as DecodeFails, IsFaulty as DecodeFaulty, IsOver as DecodeOver}
 use Rattle.m2v_decode.specs.Complete.{error_of, IsAnswered as DecodeAnswered, Gives as DecodeGives}

@@ -18,16 +18,16 @@ use Rattle.m2v_model.specs.ByPieces.{Between, Course, at_start as text_start, pi
 use Rattle.m2v_model.proofs.PieceLaws.{placed, piece_is, pieces_read-append, end_of-append}
 use Rattle.m2v_model.proofs.TurnLaws.{pictures_in_turn}
 use Rattle.m2v_model.proofs.EventLaws.{pictures_in-append}
-use Rattle.m2v_piece.specs.declared.answer.Piece.{Piece}
-use Rattle.m2v_piece.specs.Cutting.{Cutting, left_of, open_pieces}
-use Rattle.m2v_piece.specs.Stepping.{Handed}
-use Rattle.m2v_decoder.specs.Decoding.{Decoding, at_start, between, Advanced, whole_of}
+use Rattle.m2v_dec_piece.specs.declared.answer.Piece.{Piece}
+use Rattle.m2v_dec_piece.specs.Cutting.{Cutting, left_of, open_pieces}
+use Rattle.m2v_dec_piece.specs.Stepping.{Handed}
+use Rattle.m2v_decode.specs.Decoding.{Decoding, at_start, between, Advanced, whole_of}
 use Rattle.m2v_decode.specs.Answers.{start_of}
 use Rattle.m2v_decode.specs.Progress.{before_all, HasPut}
 use Rattle.m2v_decode.proofs.Going.{gave, moved_some}
-use Rattle.m2v_judge.specs.declared.judge.Judge.{Judge}
-use Rattle.m2v_judge.specs.Running.{no_rules}
-use Rattle.m2v_judge.specs.Judging.{IsPlaced}
+use Rattle.m2v_check.specs.declared.judge.Judge.{Judge}
+use Rattle.m2v_check.specs.Running.{no_rules}
+use Rattle.m2v_check.specs.Judging.{IsPlaced}
 use Rattle.m2v_model.specs.declared.state.State.{State}
 use Rattle.m2v_check.proofs.Telling.{Says, IsGoodPicture, AreHeaded, HaveDelays, IsGoodState, says_on, says_nothing, units_say, waits_before}
 use Rattle.m2v_check.proofs.Ordered.{AreOrdered, PictureLast, pieces_ordered, units_ordered, code_within}

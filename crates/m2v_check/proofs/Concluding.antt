@@ -6,10 +6,10 @@ use Rattle.m2v_vbv.specs.declared.fault.AccountFault.{AccountFault}
 use Rattle.m2v_model.specs.declared.state.Sequence.{Sequence}
 use Rattle.m2v_model.specs.Lawful.{Numbered}
 use Rattle.m2v_model.specs.Buffering.{StreamAccount, account_from, unsafe_from, unsafe_in, amounts_from, greatest, codes, exact_delays, exact_delays_from, other_delays, low_of, high_of}
-use Rattle.m2v_judge.specs.declared.buffer.BufferFigures.{BufferFigures as Found}
-use Rattle.m2v_judge.specs.declared.times.Times.{Times}
-use Rattle.m2v_judge.specs.Accounts.{removals_of, stream_of, first_fault, most_of, others_of}
-use Rattle.m2v_judge.specs.Judging.{finished, times_of}
+use Rattle.m2v_check.specs.declared.buffer.BufferFigures.{BufferFigures as Found}
+use Rattle.m2v_check.specs.declared.times.Times.{Times}
+use Rattle.m2v_check.specs.Accounts.{removals_of, stream_of, first_fault, most_of, others_of}
+use Rattle.m2v_check.specs.Judging.{finished, times_of}
 use Rattle.m2v_check.proofs.Accounted.{bits_of, said_of_all}
 use Rattle.m2v_check.proofs.Listed.{nexts, all_bits, removals_are, delays_are, low_is, unsafe_same, amounts_same}
 

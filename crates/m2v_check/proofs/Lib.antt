@@ -1,3 +1,13 @@
+pub mod Firsts
+pub mod Merging
+pub mod Displaying
+pub mod Placing
+pub mod Framing
+pub mod RuleLaws
+pub mod AmountLaws
+pub mod CourseLaws
+pub mod SetupLaws
+pub mod Accounting
 pub mod OneMeaning
 pub mod AnswerLaws
 pub mod Telling

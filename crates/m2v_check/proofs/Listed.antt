@@ -7,10 +7,10 @@ use Rattle.m2v_vbv.specs.Annex.{Start, Removal, removed, Held}
 use Rattle.m2v_vbv.specs.declared.fault.AccountFault.{AccountFault}
 use Rattle.m2v_model.specs.Lawful.{Numbered}
 use Rattle.m2v_model.specs.Buffering.{StreamAccount, bits_of_piece, code_bits, codes, sizes, intervals, joined_removals, unsafe_at, unsafe_from, amounts_from, least, low_of, exact_delay, exact_delays_from, other_delays}
-use Rattle.m2v_judge.specs.declared.course.Next.{Next}
-use Rattle.m2v_judge.specs.declared.times.Times.{Times}
-use Rattle.m2v_judge.specs.Holding.{time_behind, repeats_behind}
-use Rattle.m2v_judge.specs.Accounts.{removal_of, removals_of, others_from, others_of}
+use Rattle.m2v_check.specs.declared.course.Next.{Next}
+use Rattle.m2v_check.specs.declared.times.Times.{Times}
+use Rattle.m2v_check.specs.Holding.{time_behind, repeats_behind}
+use Rattle.m2v_check.specs.Accounts.{removal_of, removals_of, others_from, others_of}
 
 -- ---- pictures that are removed
 

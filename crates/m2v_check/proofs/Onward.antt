@@ -12,18 +12,18 @@ use Rattle.m2v_model.specs.Pictures.{Picture, Events, sequence_header, group_hea
 use Rattle.m2v_model.specs.PieceNotes.{PieceNotes, noted, notes_of, note_of, first_note}
 use Rattle.m2v_model.specs.Lawful.{Numbered, numbered, all_numbered, sequence_breaches, rate_of, buffer_of}
 use Rattle.m2v_model.specs.Buffering.{bits_of_piece, code_bits, first_code}
-use Rattle.m2v_judge.specs.declared.rules.Rules.{Rules}
-use Rattle.m2v_judge.specs.declared.buffer.Buffer.{Buffer}
-use Rattle.m2v_judge.specs.declared.coded.CodedPicture.{CodedPicture}
-use Rattle.m2v_judge.specs.declared.judge.Judge.{Judge}
-use Rattle.m2v_judge.specs.declared.course.Next.{Next}
-use Rattle.m2v_judge.specs.declared.course.Course.{Course}
-use Rattle.m2v_judge.specs.declared.times.Times.{Times}
-use Rattle.m2v_judge.specs.Breaking.{found, numbered_of}
-use Rattle.m2v_judge.specs.Holding.{time_behind, repeats_behind}
-use Rattle.m2v_judge.specs.Running.{no_rules, coded_next}
-use Rattle.m2v_judge.specs.Laws.{rules_after, Alternates}
-use Rattle.m2v_judge.specs.Judging.{judged_rules, with_note, times_of, GoesOn, Begins, HasMore, HaveMore, BeginsBy, Accounts, AccountsBy, AccountsNote}
+use Rattle.m2v_check.specs.declared.rules.Rules.{Rules}
+use Rattle.m2v_check.specs.declared.buffer.Buffer.{Buffer}
+use Rattle.m2v_check.specs.declared.coded.CodedPicture.{CodedPicture}
+use Rattle.m2v_check.specs.declared.judge.Judge.{Judge}
+use Rattle.m2v_check.specs.declared.course.Next.{Next}
+use Rattle.m2v_check.specs.declared.course.Course.{Course}
+use Rattle.m2v_check.specs.declared.times.Times.{Times}
+use Rattle.m2v_check.specs.Breaking.{found, numbered_of}
+use Rattle.m2v_check.specs.Holding.{time_behind, repeats_behind}
+use Rattle.m2v_check.specs.Running.{no_rules, coded_next}
+use Rattle.m2v_check.specs.Laws.{rules_after, Alternates}
+use Rattle.m2v_check.specs.Judging.{judged_rules, with_note, times_of, GoesOn, Begins, HasMore, HaveMore, BeginsBy, Accounts, AccountsBy, AccountsNote}
 use Rattle.m2v_check.proofs.Telling.{first_in, last_in, AreHeaded, first-append}
 use Rattle.m2v_check.proofs.Ordered.{PictureLast}
 use Rattle.m2v_check.proofs.Accounted.{HasRun, runs_goes, runs_more, runs_begins}

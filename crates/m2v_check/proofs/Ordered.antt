@@ -17,7 +17,7 @@ use Rattle.m2v_model.specs.ByPieces.{Between, after_part, units_read}
 use Rattle.m2v_model.proofs.CutLaws.{cut_cuts, cut_units, joined-append, are_before, are_behind, are_code}
 use Rattle.m2v_model.proofs.PieceLaws.{piece_whole}
 use Rattle.m2v_model.proofs.EventLaws.{pictures_in-append}
-use Rattle.m2v_headers.proofs.UnitGifts.{IsOnward, first_value}
+use Rattle.m2v_decode.proofs.m2v_dec_rows.UnitGifts.{IsOnward, first_value}
 use Rattle.m2v_check.proofs.Telling.{AtLast, InFront, by_units}
 
 -- ---- headers before the picture

@@ -13,12 +13,12 @@ use Rattle.m2v_model.specs.Pictures.{Picture, Events, sequence_header, group_hea
 use Rattle.m2v_model.specs.PieceNotes.{PieceNotes, noted, notes_of, note_of, first_note, has_group, header_pair}
 use Rattle.m2v_model.specs.Lawful.{Numbered, numbered, all_numbered, sequences_in, sequence_breaches}
 use Rattle.m2v_model.specs.Buffering.{code_bits}
-use Rattle.m2v_judge.specs.declared.rules.Rules.{Rules}
-use Rattle.m2v_judge.specs.declared.broken.BrokenRule.{BrokenRule}
-use Rattle.m2v_judge.specs.Breaking.{found, first_some}
-use Rattle.m2v_judge.specs.Running.{no_rules, with_sequence, with_group, with_picture, coded_next, lesser, broken_in, all_broken}
-use Rattle.m2v_judge.specs.Laws.{rules_after, with_coded}
-use Rattle.m2v_judge.specs.Judging.{noted_rules, judged_rules, with_note, with_one}
+use Rattle.m2v_check.specs.declared.rules.Rules.{Rules}
+use Rattle.m2v_check.specs.declared.broken.BrokenRule.{BrokenRule}
+use Rattle.m2v_check.specs.Breaking.{found, first_some}
+use Rattle.m2v_check.specs.Running.{no_rules, with_sequence, with_group, with_picture, coded_next, lesser, broken_in, all_broken}
+use Rattle.m2v_check.specs.Laws.{rules_after, with_coded}
+use Rattle.m2v_check.specs.Judging.{noted_rules, judged_rules, with_note, with_one}
 use Rattle.m2v_check.proofs.Telling.{first_in, last_in, AreHeaded}
 use Rattle.m2v_check.proofs.Ordered.{PictureLast}
 

@@ -10,15 +10,15 @@ use Rattle.m2v_model.specs.Decoding.{low_delay_of}
 use Rattle.m2v_model.specs.ByPieces.{at_start as text_start, pieces_read}
 use Rattle.m2v_model.specs.Lawful.{Numbered, all_numbered, sequence_breaches}
 use Rattle.m2v_model.specs.Buffering.{StreamAccount, account_by, account_from, figures_of}
-use Rattle.m2v_decoder.specs.Decoding.{Decoding, between}
+use Rattle.m2v_decode.specs.Decoding.{Decoding, between}
 use Rattle.m2v_decode.specs.Answers.{start_of}
-use Rattle.m2v_judge.specs.declared.judge.Judge.{Judge}
-use Rattle.m2v_judge.specs.declared.buffer.Buffer.{Buffer}
-use Rattle.m2v_judge.specs.declared.buffer.BufferFigures.{BufferFigures as Found}
-use Rattle.m2v_judge.specs.Breaking.{found}
-use Rattle.m2v_judge.specs.Running.{broken_in}
-use Rattle.m2v_judge.specs.Laws.{first_low_delay}
-use Rattle.m2v_judge.specs.Judging.{ended_by, times_of}
+use Rattle.m2v_check.specs.declared.judge.Judge.{Judge}
+use Rattle.m2v_check.specs.declared.buffer.Buffer.{Buffer}
+use Rattle.m2v_check.specs.declared.buffer.BufferFigures.{BufferFigures as Found}
+use Rattle.m2v_check.specs.Breaking.{found}
+use Rattle.m2v_check.specs.Running.{broken_in}
+use Rattle.m2v_check.specs.Laws.{first_low_delay}
+use Rattle.m2v_check.specs.Judging.{ended_by, times_of}
 use Rattle.m2v_check.specs.Progress.{IsSaid, IsAllJudged}
 use Rattle.m2v_check.proofs.Telling.{first_in}
 use Rattle.m2v_check.proofs.Accounted.{bits_of, bits_push, said_of_all, ended_is}

@@ -19,8 +19,8 @@ use Rattle.m2v_model.specs.Pictures.{Store, Pictures, Events, sequence_header, g
 use Rattle.m2v_model.specs.ByPieces.{Between, Course, behind, unit_read, after_part, units_read}
 use Rattle.m2v_model.proofs.FlowLaws.{part_read, read_once, unit_less}
 use Rattle.m2v_model.proofs.EventLaws.{pictures_in-append}
-use Rattle.m2v_judge.specs.Laws.{Alternates}
-use Rattle.m2v_headers.proofs.UnitGifts.{PartFits, IsLast, IsOnward, first_value, UnitSays, unit_says}
+use Rattle.m2v_check.specs.Laws.{Alternates}
+use Rattle.m2v_decode.proofs.m2v_dec_rows.UnitGifts.{PartFits, IsLast, IsOnward, first_value, UnitSays, unit_says}
 
 -- ---- unit by unit
 

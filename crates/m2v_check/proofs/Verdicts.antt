@@ -19,25 +19,25 @@ use Rattle.m2v_model.specs.Lawful.{Breaches, breach, breaches, breaches_of, numb
 use Rattle.m2v_model.specs.Buffering.{account_by, account_in}
 use Rattle.m2v_model.proofs.Unique.{exactly_one}
 use Rattle.m2v_model.proofs.PieceLaws.{placed, piece_none, rest_read, rest_none, rest_read-append, text_rest, by_pieces}
-use Rattle.m2v_piece.specs.Cutting.{Cutting}
-use Rattle.m2v_piece.specs.declared.answer.DecodeError.{DecodeError}
-use Rattle.m2v_piece.specs.declared.answer.DecodeError.TheVariants as errors
+use Rattle.m2v_dec_piece.specs.Cutting.{Cutting}
+use Rattle.m2v_dec_piece.specs.declared.answer.DecodeError.{DecodeError}
+use Rattle.m2v_dec_piece.specs.declared.answer.DecodeError.TheVariants as errors
 use Rattle.m2v_check.proofs.AnswerLaws.{fails_here}
-use Rattle.m2v_decoder.specs.Decoding.{Decoding, between, due_of, Finished}
+use Rattle.m2v_decode.specs.Decoding.{Decoding, between, due_of, Finished}
 use Rattle.m2v_decode.specs.declared.answer.Decoded.{Decoded}
 use Rattle.m2v_decode.specs.Answers.{OfText, start_of, IsDecoded}
 use Rattle.m2v_decode.specs.Progress.{IsDone}
 use Rattle.m2v_decode.proofs.Going.{moved_some}
 use Rattle.m2v_decode.proofs.Ending.{done_ok, done_err}
-use Rattle.m2v_judge.specs.declared.rules.Rules.{Rules}
-use Rattle.m2v_judge.specs.declared.broken.BrokenRule.{BrokenRule}
-use Rattle.m2v_judge.specs.declared.buffer.BufferFigures.{BufferFigures as Found}
-use Rattle.m2v_judge.specs.declared.judge.Judge.{Judge}
-use Rattle.m2v_judge.specs.Breaking.{found}
-use Rattle.m2v_judge.specs.Running.{no_rules, with_sequence, with_group, with_picture, coded_next, broken_in}
-use Rattle.m2v_judge.specs.Laws.{rules_after, with_coded, first_low_delay}
-use Rattle.m2v_judge.specs.Judging.{judgement_of, ended_by}
-use Rattle.m2v_judge.proofs.RuleLaws.{is_found}
+use Rattle.m2v_check.specs.declared.rules.Rules.{Rules}
+use Rattle.m2v_check.specs.declared.broken.BrokenRule.{BrokenRule}
+use Rattle.m2v_check.specs.declared.buffer.BufferFigures.{BufferFigures as Found}
+use Rattle.m2v_check.specs.declared.judge.Judge.{Judge}
+use Rattle.m2v_check.specs.Breaking.{found}
+use Rattle.m2v_check.specs.Running.{no_rules, with_sequence, with_group, with_picture, coded_next, broken_in}
+use Rattle.m2v_check.specs.Laws.{rules_after, with_coded, first_low_delay}
+use Rattle.m2v_check.specs.Judging.{judgement_of, ended_by}
+use Rattle.m2v_check.proofs.RuleLaws.{is_found}
 use Rattle.m2v_check.specs.declared.verdict.Verdict.{Verdict}
 use Rattle.m2v_check.specs.Meaning.{HasCounts, Means}
 use Rattle.m2v_check.specs.Answers.{IsJudged, Fails}

@@ -5,10 +5,10 @@ use Rattle.m2v_model.specs.Pictures.{Events}
 use Rattle.m2v_model.specs.ByPieces.{Between}
 use Rattle.m2v_model.specs.Pieces.{Limit}
 use Rattle.m2v_model.specs.Decoding.{FaultAt}
-use Rattle.m2v_piece.specs.declared.answer.Fault.{Fault}
-use Rattle.m2v_piece.specs.declared.answer.DecodeError.{DecodeError}
-use Rattle.m2v_piece.specs.declared.answer.DecodeError.TheVariants as errors
-use Rattle.m2v_piece.specs.Cutting.{PieceStops}
+use Rattle.m2v_dec_piece.specs.declared.answer.Fault.{Fault}
+use Rattle.m2v_dec_piece.specs.declared.answer.DecodeError.{DecodeError}
+use Rattle.m2v_dec_piece.specs.declared.answer.DecodeError.TheVariants as errors
+use Rattle.m2v_dec_piece.specs.Cutting.{PieceStops}
 use Rattle.m2v_decode.specs.Answers.{PiecesRead, place_behind, OfText}
 use Rattle.m2v_decode.specs.Complete.{IsUnderLimits, IsReached, IsPast, IsLate, error_of}
 use Rattle.m2v_check.specs.declared.verdict.Verdict.{Verdict}

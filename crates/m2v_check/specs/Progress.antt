@@ -9,16 +9,16 @@ use Rattle.m2v_model.specs.Buffering.{BufferFigures, StreamAccount, account_by, 
 use Rattle.m2v_vbv.specs.declared.fault.AccountFault.{AccountFault}
 use Rattle.m2v_decode.specs.Answers.{start_of}
 use Rattle.m2v_model.specs.ByPieces.{at_start, pieces_read, end_read}
-use Rattle.m2v_piece.specs.declared.answer.DecodeError.{DecodeError}
-use Rattle.m2v_piece.specs.declared.answer.DecodeError.TheVariants as errors
-use Rattle.m2v_decoder.specs.Decoding.{Decoding, between, due_of, Finished}
-use Rattle.m2v_judge.specs.declared.judge.Judge.{Judge}
-use Rattle.m2v_judge.specs.declared.judge.Judgement.{Judgement}
-use Rattle.m2v_judge.specs.declared.judge.Judgement.TheVariants as judgements
-use Rattle.m2v_judge.specs.declared.buffer.BufferFigures.{BufferFigures as Found}
-use Rattle.m2v_judge.specs.Running.{no_rules, broken_in}
-use Rattle.m2v_judge.specs.Laws.{rules_after, Alternates, first_low_delay}
-use Rattle.m2v_judge.specs.Judging.{judgement_of, ended_by}
+use Rattle.m2v_dec_piece.specs.declared.answer.DecodeError.{DecodeError}
+use Rattle.m2v_dec_piece.specs.declared.answer.DecodeError.TheVariants as errors
+use Rattle.m2v_decode.specs.Decoding.{Decoding, between, due_of, Finished}
+use Rattle.m2v_check.specs.declared.judge.Judge.{Judge}
+use Rattle.m2v_check.specs.declared.judge.Judgement.{Judgement}
+use Rattle.m2v_check.specs.declared.judge.Judgement.TheVariants as judgements
+use Rattle.m2v_check.specs.declared.buffer.BufferFigures.{BufferFigures as Found}
+use Rattle.m2v_check.specs.Running.{no_rules, broken_in}
+use Rattle.m2v_check.specs.Laws.{rules_after, Alternates, first_low_delay}
+use Rattle.m2v_check.specs.Judging.{judgement_of, ended_by}
 use Rattle.m2v_check.specs.declared.verdict.Verdict.{Verdict}
 use Rattle.m2v_check.specs.declared.verdict.Verdict.TheVariants as verdicts
 

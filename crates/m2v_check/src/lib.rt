@@ -1,11 +1,31 @@
-//! The verifier of streams: whether a stream keeps the rules of its level, and whether the decoder's buffer bears it
-//! (clause 8 and Annex C of ISO/IEC 13818-2).
+//! The verifier of streams: the rules of its level that it looks at, and the account of the decoder's buffer, picture by
+//! picture; and the verdict on a whole stream (clause 8 and Annex C of ISO/IEC 13818-2).
 #![tactic(auto)]
 
+mod amounts;
+mod broken;
+mod buffer;
+mod coded;
+mod course;
+mod judge;
+mod laws;
+mod level;
+mod picture_rules;
+mod places;
+mod removing;
+mod rules;
+mod sequence_rules;
+mod times;
 mod verdict;
 mod whole;
 
-pub use m2v_piece::{DecodeError, Fault};
+pub use broken::BrokenRule;
+pub use buffer::BufferFigures;
+pub use coded::CodedPicture;
+pub use judge::{Judge, Judgement};
+pub use laws::{law_account, law_rules};
+pub use m2v_dec_piece::{DecodeError, Fault};
+pub use m2v_decode as decode;
 pub use m2v_vbv::AccountFault;
 pub use verdict::{Figures, Verdict};
 pub use whole::check;

@@ -1,16 +1,16 @@
 ghost use Rattle.std.specs.Prelude.{◌≡◌, ◌≤◌, ◌<◌, ◌^◌, IfOk, IfErr, OnOk, false, None};
 ghost use Rattle.m2v_port.specs.Ends.{change, Tells};
 ghost use Rattle.m2v_decode.specs.Answers.{OfText};
-ghost use Rattle.m2v_decoder.specs.Decoding.{at_start};
+ghost use Rattle.m2v_decode.specs.Decoding.{at_start};
 ghost use Rattle.m2v_decode.specs.Progress.{before_all, HasPut, IsDone};
-ghost use Rattle.m2v_judge.specs.Running.{no_rules};
+ghost use Rattle.m2v_check.specs.Running.{no_rules};
 ghost use Rattle.m2v_check.specs.Progress.{no_output, verdict_of, IsJudgedText, Ends, EndFails};
 ghost use Rattle.m2v_check.specs.Answers.{IsJudged, Fails, IsAnswered};
 
 use crate::verdict::{Figures, Verdict};
-use m2v_decoder::Decoder;
-use m2v_judge::{Judge, Judgement};
-use m2v_piece::{Cutter, DecodeError};
+use crate::{Judge, Judgement};
+use m2v_dec_piece::{Cutter, DecodeError};
+use m2v_decode::Decoder;
 use m2v_port::Source;
 use std::alloc::Global;
 

@@ -6,7 +6,7 @@ use Rattle.std.specs.Int.{int_min, int_shr}
 use Rattle.std.proofs.lemmas.Int.{ints, int_max_is, int_min_is}
 use Rattle.std.proofs.lemmas.List.Elements.{All-nil, All-cons, All-append, All-map, All-filter}
 use Rattle.m2v_quant.specs.Quantiser.{levels_of, level_at, dc_level}
-use Rattle.m2v_block.specs.Blocks.{IsDc}
+use Rattle.m2v_macroblock.specs.m2v_block.Blocks.{IsDc}
 use Rattle.m2v_macro.specs.declared.values.MacroSyntax.{MacroSyntax}
 use Rattle.m2v_macro.specs.declared.values.SliceState.{SliceState}
 use Rattle.m2v_macro.specs.declared.values.PictureContext.{PictureContext}

@@ -12,8 +12,8 @@ use Rattle.m2v_vlc.specs.Values.{kind}
 use Rattle.m2v_vlc.specs.Tables.{type_i, type_p, type_b, dc_luma, dc_chroma}
 use Rattle.m2v_vlc.specs.Coefficients.{coefficient_zero, same_coefficient, pairs_zero, signed}
 use Rattle.m2v_quant.specs.declared.kind.BlockKind.{BlockKind}
-use Rattle.m2v_block.specs.Texts.{block_text, pairs_text, level_text, run_after, code_text}
-use Rattle.m2v_block.specs.Dc.{dc_text, size_of, number_of, size_code}
+use Rattle.m2v_macroblock.specs.m2v_block.Texts.{block_text, pairs_text, level_text, run_after, code_text}
+use Rattle.m2v_macroblock.specs.m2v_block.Dc.{dc_text, size_of, number_of, size_code}
 use Rattle.m2v_vector.specs.declared.predictors.Pmv.{Pmv}
 use Rattle.m2v_vector.specs.Predictors.{zero as none, pair_of, zeros, resets, has_vectors, has_two, is_halved, entry_after, predictors_after}
 use Rattle.m2v_macro.specs.declared.values.MacroSyntax.{MacroSyntax}

@@ -21,3 +21,4 @@ pub mod Holding
 pub mod Skips
 pub mod Asked
 pub mod Small
+pub use Rattle.m2v_search.proofs as m2v_search

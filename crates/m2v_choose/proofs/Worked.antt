@@ -6,8 +6,8 @@ use Rattle.m2v_vlc.specs.Codes.{code_of}
 use Rattle.m2v_vlc.specs.Tables.{increment, type_i, type_p, type_b, dc_luma, dc_chroma, motion}
 use Rattle.m2v_vlc.specs.Coefficients.{coefficient_zero, same_coefficient, pairs_zero, signed}
 use Rattle.m2v_vlc.specs.Values.{same_increment, same_signed}
-use Rattle.m2v_block.specs.Texts.{block_text, pairs_text, level_text, run_after, code_text}
-use Rattle.m2v_block.specs.Dc.{dc_text, size_of, number_of, size_code}
+use Rattle.m2v_macroblock.specs.m2v_block.Texts.{block_text, pairs_text, level_text, run_after, code_text}
+use Rattle.m2v_macroblock.specs.m2v_block.Dc.{dc_text, size_of, number_of, size_code}
 use Rattle.m2v_vector.specs.Vectors.{between, wrapped, with_sign, residual_of, code_of as motion_code_of}
 use Rattle.m2v_vector.specs.Predictors.{resets, has_vectors, has_two, is_halved, left_by, entry_after, predictors_after}
 use Rattle.m2v_macro.specs.States.{skips, pmv_before, dc_reset, dc_behind, at_start, after}

@@ -10,8 +10,8 @@ use Rattle.m2v_quant.specs.declared.kind.BlockKind.{BlockKind}
 use Rattle.m2v_quant.specs.Kinds.{IsLevel}
 use Rattle.m2v_quant.specs.Quantiser.{levels_of, level_at, ac_level, dc_level, with_sign}
 use Rattle.m2v_idct.specs.Forward.{forward_of}
-use Rattle.m2v_block.specs.Blocks.{IsDc}
-use Rattle.m2v_block.specs.Texts.{IsBlock}
+use Rattle.m2v_macroblock.specs.m2v_block.Blocks.{IsDc}
+use Rattle.m2v_macroblock.specs.m2v_block.Texts.{IsBlock}
 use Rattle.m2v_macro.specs.declared.values.MacroSyntax.{MacroSyntax}
 use Rattle.m2v_macro.specs.declared.values.SliceState.{SliceState}
 use Rattle.m2v_macro.specs.declared.values.PictureContext.{PictureContext}

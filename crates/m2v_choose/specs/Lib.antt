@@ -5,3 +5,4 @@ pub mod Own
 pub mod Laws
 pub mod Rows
 pub mod Trials
+pub use Rattle.m2v_search.specs as m2v_search

@@ -6,11 +6,11 @@ use Rattle.m2v_port.specs.Ends.{Change, change}
 use Rattle.m2v_port.specs.Port.{Moves, Grows, GrowsByPrefix}
 use Rattle.m2v_port.proofs.Runs.{moves_nothing, grows_on, grows_by_nothing, grows_by_all, prefix_on, rose_since}
 use Rattle.m2v_model.specs.Units.{joined}
-use Rattle.m2v_piece.specs.declared.answer.Piece.{Piece}
-use Rattle.m2v_piece.specs.declared.answer.DecodeError.{DecodeError}
-use Rattle.m2v_piece.specs.declared.answer.DecodeError.TheVariants as reading
-use Rattle.m2v_piece.specs.Cutting.{Cutting, left_of}
-use Rattle.m2v_decoder.specs.Decoding.{whole_of}
+use Rattle.m2v_dec_piece.specs.declared.answer.Piece.{Piece}
+use Rattle.m2v_dec_piece.specs.declared.answer.DecodeError.{DecodeError}
+use Rattle.m2v_dec_piece.specs.declared.answer.DecodeError.TheVariants as reading
+use Rattle.m2v_dec_piece.specs.Cutting.{Cutting, left_of}
+use Rattle.m2v_decode.specs.Decoding.{whole_of}
 use Rattle.m2v_cut.specs.declared.answer.CutError.{CutError}
 use Rattle.m2v_cut.specs.declared.answer.CutError.TheVariants as errors
 use Rattle.m2v_cut.specs.declared.copy.Copied.{Copied}

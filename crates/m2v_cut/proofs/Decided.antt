@@ -5,10 +5,10 @@ use Rattle.std.proofs.lemmas.Bool.{cases_Bool, eqb-true}
 use Rattle.std.proofs.lemmas.List.{append-nil}
 use Rattle.m2v_model.specs.Units.{Units, cut}
 use Rattle.m2v_model.proofs.ShiftLaws.{BeginsPiece}
-use Rattle.m2v_group.specs.Groups.{is_sequence, is_group, has_picture, has_sequence, group_headers, from_last_sequence, before_group, from_group, coded_pictures, begins_intra, stands_alone}
-use Rattle.m2v_piece.specs.declared.answer.Piece.{Piece}
-use Rattle.m2v_decoder.specs.Decoding.{whole_of}
-use Rattle.m2v_unit.specs.Texts.{units_in}
+use Rattle.m2v_law_group.specs.Groups.{is_sequence, is_group, has_picture, has_sequence, group_headers, from_last_sequence, before_group, from_group, coded_pictures, begins_intra, stands_alone}
+use Rattle.m2v_dec_piece.specs.declared.answer.Piece.{Piece}
+use Rattle.m2v_decode.specs.Decoding.{whole_of}
+use Rattle.m2v_law_group.specs.m2v_dec_unit.Texts.{units_in}
 use Rattle.m2v_cut.specs.declared.look.FirstPicture.{FirstPicture}
 use Rattle.m2v_cut.specs.declared.start.Start.{Start}
 use Rattle.m2v_model.specs.Streams.{value_of}

@@ -8,7 +8,7 @@ use Rattle.m2v_model.specs.Streams.{value_of}
 use Rattle.m2v_model.specs.Pieces.{begins_piece, is_end}
 use Rattle.m2v_model.proofs.CutLaws.{joined-append}
 use Rattle.m2v_model.proofs.ShiftLaws.{BeginsPiece, NoEnds}
-use Rattle.m2v_group.specs.Groups.{is_picture, is_sequence, is_group, has_picture, has_sequence, group_headers, to_end, from_last_sequence, up_to_piece, before_group, from_group}
+use Rattle.m2v_law_group.specs.Groups.{is_picture, is_sequence, is_group, has_picture, has_sequence, group_headers, to_end, from_last_sequence, up_to_piece, before_group, from_group}
 use Rattle.m2v_cut.specs.Answers.{units_of, groups_of, of_pieces}
 use Rattle.m2v_cut.specs.Progress.{bytes_of, all_bytes, all_groups, are_some}
 use Rattle.m2v_cut.proofs.Shapes.{has_begin, IsPictured, Shape, AreEnds, Split, Splits}

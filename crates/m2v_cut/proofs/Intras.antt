@@ -7,7 +7,7 @@ use Rattle.m2v_model.specs.Units.{Units}
 use Rattle.m2v_model.specs.Streams.{value_of}
 use Rattle.m2v_model.specs.Pieces.{begins_piece, is_end}
 use Rattle.m2v_model.proofs.ShiftLaws.{BeginsPiece}
-use Rattle.m2v_group.specs.Groups.{is_picture, is_group, has_picture, group_headers, before_group, coded_pictures, next_unit, is_intra_of, is_intra, is_coding_extension, is_number, structure_of, begins_with, begins_intra}
+use Rattle.m2v_law_group.specs.Groups.{is_picture, is_group, has_picture, group_headers, before_group, coded_pictures, next_unit, is_intra_of, is_intra, is_coding_extension, is_number, structure_of, begins_with, begins_intra}
 use Rattle.m2v_cut.specs.Answers.{first_picture, has_intra, picture_structure, or_none}
 use Rattle.m2v_cut.proofs.Shapes.{IsPictured, AreEnds, has_begin}
 use Rattle.m2v_cut.proofs.Fulls.{none_begin}

@@ -7,7 +7,7 @@ use Rattle.m2v_model.specs.Streams.{value_of}
 use Rattle.m2v_model.specs.Pieces.{is_end}
 use Rattle.m2v_model.proofs.CutLaws.{joined_bits}
 use Rattle.m2v_model.proofs.ShiftLaws.{unit_bits-append}
-use Rattle.m2v_group.specs.Groups.{is_sequence, has_sequence, group_headers, to_end, from_last_sequence, before_group, from_group}
+use Rattle.m2v_law_group.specs.Groups.{is_sequence, has_sequence, group_headers, to_end, from_last_sequence, before_group, from_group}
 use Rattle.m2v_cut.specs.declared.start.Start.{Start}
 use Rattle.m2v_cut.specs.Answers.{first_picture, units_of}
 use Rattle.m2v_cut.specs.Progress.{bytes_of, part}

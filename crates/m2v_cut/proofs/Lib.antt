@@ -22,3 +22,5 @@ mod Wholes
 mod Refusals
 mod Seconds
 mod Stops
+pub use Rattle.m2v_decode.proofs as m2v_decode
+pub use Rattle.m2v_law_group.proofs as m2v_law_group

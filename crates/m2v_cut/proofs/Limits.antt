@@ -6,7 +6,7 @@ use Rattle.std.proofs.lemmas.List.{append-nil, length-append}
 use Rattle.m2v_model.specs.Pieces.{limit, Limit, too_long, too_large, most_input}
 use Rattle.m2v_model.specs.ByPieces.{end_of}
 use Rattle.m2v_decode.specs.Answers.{AllFit}
-use Rattle.m2v_group.specs.Groups.{from_group}
+use Rattle.m2v_law_group.specs.Groups.{from_group}
 use Rattle.m2v_cut.specs.Answers.{units_of, groups_of, to_group, to_frame, first_if, is_field, first_picture, limit_among, fitting, of_pieces}
 use Rattle.m2v_cut.specs.Progress.{all_groups}
 

@@ -8,14 +8,14 @@ use Rattle.m2v_port.proofs.Runs.{moves_on, prefix_of_more}
 use Rattle.m2v_model.specs.Units.{Units, cut, joined}
 use Rattle.m2v_model.specs.Pieces.{pieces, limit, most_input}
 use Rattle.m2v_model.specs.ByPieces.{end_of}
-use Rattle.m2v_piece.specs.declared.answer.Piece.{Piece}
-use Rattle.m2v_piece.specs.Cutting.{Cutting, left_of}
-use Rattle.m2v_piece.specs.Cutting.{start_of as start_of_rest}
-use Rattle.m2v_decoder.specs.Decoding.{whole_of}
-use Rattle.m2v_decoder.proofs.EndLaws.{whole_length}
+use Rattle.m2v_dec_piece.specs.declared.answer.Piece.{Piece}
+use Rattle.m2v_dec_piece.specs.Cutting.{Cutting, left_of}
+use Rattle.m2v_dec_piece.specs.Cutting.{start_of as start_of_rest}
+use Rattle.m2v_decode.specs.Decoding.{whole_of}
+use Rattle.m2v_decode.proofs.EndLaws.{whole_length}
 use Rattle.m2v_decode.specs.Answers.{start_of, AllFit, OfText, OfTaken}
 use Rattle.m2v_decode.proofs.Going.{moved_some, ends_behind}
-use Rattle.m2v_group.specs.Groups.{group_headers, before_group, from_group, cut_units, stream_units, is_standalone}
+use Rattle.m2v_law_group.specs.Groups.{group_headers, before_group, from_group, cut_units, stream_units, is_standalone}
 use Rattle.m2v_cut.specs.declared.find.Found.{Found}
 use Rattle.m2v_cut.specs.declared.start.Start.{Start}
 use Rattle.m2v_cut.specs.declared.look.FirstPicture.{FirstPicture}

@@ -5,9 +5,9 @@ use Rattle.m2v_port.specs.Ends.{Change, change}
 use Rattle.m2v_port.specs.Port.{Grows, GrowsByPrefix}
 use Rattle.m2v_port.proofs.Runs.{moves_on, prefix_of_more, prefix_on, rose_since, rose_still}
 use Rattle.m2v_model.specs.Units.{cut}
-use Rattle.m2v_piece.specs.declared.answer.Piece.{Piece}
-use Rattle.m2v_piece.specs.Cutting.{Cutting, left_of}
-use Rattle.m2v_decoder.specs.Decoding.{whole_of}
+use Rattle.m2v_dec_piece.specs.declared.answer.Piece.{Piece}
+use Rattle.m2v_dec_piece.specs.Cutting.{Cutting, left_of}
+use Rattle.m2v_decode.specs.Decoding.{whole_of}
 use Rattle.m2v_decode.specs.Answers.{OfText, OfTaken}
 use Rattle.m2v_decode.proofs.Going.{moved_some}
 use Rattle.m2v_cut.specs.declared.answer.CutError.{CutError}

@@ -5,7 +5,7 @@ use Rattle.std.proofs.lemmas.Bool.{cases_Bool, eqb-true}
 use Rattle.std.proofs.lemmas.List.{append-nil}
 use Rattle.m2v_model.specs.Units.{Units}
 use Rattle.m2v_model.specs.Streams.{value_of}
-use Rattle.m2v_group.specs.Groups.{is_picture, is_group, has_picture, group_headers, before_group, from_group, coded_pictures, next_unit, is_intra_of, is_coding_extension, begins_with, begins_intra}
+use Rattle.m2v_law_group.specs.Groups.{is_picture, is_group, has_picture, group_headers, before_group, from_group, coded_pictures, next_unit, is_intra_of, is_coding_extension, begins_with, begins_intra}
 use Rattle.m2v_cut.specs.Answers.{first_picture}
 use Rattle.m2v_cut.proofs.Shapes.{Shape, IsPictured}
 use Rattle.m2v_cut.proofs.Fulls.{IsFull, picture-append, headers-append, none_begin}

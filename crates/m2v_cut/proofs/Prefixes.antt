@@ -11,7 +11,7 @@ use Rattle.m2v_model.specs.Pieces.{phase_after, begins_piece, is_end, piece_of, 
 use Rattle.m2v_model.proofs.CutLaws.{cut_cuts, cut_units, joined-append, are_before, are_behind, are_code}
 use Rattle.m2v_model.proofs.ShiftLaws.{BeginsPiece, NoEnds}
 use Rattle.m2v_model.proofs.PieceLaws.{value_code, sequence_goes}
-use Rattle.m2v_group.specs.Groups.{is_sequence, from_sequence, to_end, stream_units}
+use Rattle.m2v_law_group.specs.Groups.{is_sequence, from_sequence, to_end, stream_units}
 use Rattle.m2v_cut.specs.Answers.{of_pieces}
 use Rattle.m2v_cut.proofs.Shapes.{Shape, Split, Splits, Follows, BeginsSequence, pieces_split, begins_sequence}
 

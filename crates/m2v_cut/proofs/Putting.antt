@@ -6,12 +6,12 @@ use Rattle.std.proofs.lemmas.List.{append-nil, length-append, take-append-le, dr
 use Rattle.m2v_port.specs.Ends.{Change, change}
 use Rattle.m2v_port.specs.Port.{Grows, GrowsByPrefix}
 use Rattle.m2v_port.proofs.Runs.{rose_since, grows_on, prefix_on, prefix_of_more}
-use Rattle.m2v_piece.specs.declared.answer.Piece.{Piece}
-use Rattle.m2v_piece.specs.Sound.{IsSoundPiece}
-use Rattle.m2v_decoder.specs.Decoding.{whole_of}
+use Rattle.m2v_dec_piece.specs.declared.answer.Piece.{Piece}
+use Rattle.m2v_dec_piece.specs.Sound.{IsSoundPiece}
+use Rattle.m2v_decode.specs.Decoding.{whole_of}
 use Rattle.m2v_cut.specs.declared.answer.CutError.{CutError}
 use Rattle.m2v_cut.specs.declared.answer.CutError.TheVariants as errors
-use Rattle.m2v_group.specs.Groups.{with_broken_link}
+use Rattle.m2v_law_group.specs.Groups.{with_broken_link}
 use Rattle.m2v_cut.specs.Progress.{Cuts, part, head_of}
 
 -- The output's states are o0, o1 and so on.

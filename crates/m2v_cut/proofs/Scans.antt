@@ -5,7 +5,7 @@ use Rattle.std.proofs.lemmas.Bool.{cases_Bool}
 use Rattle.std.proofs.lemmas.List.{append-nil}
 use Rattle.m2v_model.specs.Units.{Units, unit_bits}
 use Rattle.m2v_model.specs.Streams.{value_of}
-use Rattle.m2v_group.specs.Groups.{is_sequence, is_group, has_sequence, from_last_sequence, before_group, from_group}
+use Rattle.m2v_law_group.specs.Groups.{is_sequence, is_group, has_sequence, from_last_sequence, before_group, from_group}
 use Rattle.m2v_cut.specs.Looks.{IsLastSequence, IsNumberBehind, last_behind}
 
 -- units passed before the header of group n among those that were there, of which some are left

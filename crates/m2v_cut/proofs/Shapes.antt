@@ -11,7 +11,7 @@ use Rattle.m2v_model.specs.Pieces.{phase_after, begins_piece, is_end, piece_of, 
 use Rattle.m2v_model.proofs.CutLaws.{cut_cuts, cuts_is, joined-append, are_before, are_behind, are_code}
 use Rattle.m2v_model.proofs.ShiftLaws.{BeginsPiece, NoEnds}
 use Rattle.m2v_model.proofs.PieceLaws.{value_code, piece_whole, no_ends-append, sequence_goes}
-use Rattle.m2v_group.specs.Groups.{is_picture, is_sequence, has_picture, from_sequence, to_end, stream_units}
+use Rattle.m2v_law_group.specs.Groups.{is_picture, is_sequence, has_picture, from_sequence, to_end, stream_units}
 
 -- a unit among these begins a piece
 unfoldable pub has_begin : Units → Bool

@@ -8,7 +8,7 @@ use Rattle.m2v_model.specs.Streams.{value_of}
 use Rattle.m2v_model.specs.Pieces.{begins_piece}
 use Rattle.m2v_model.proofs.CutLaws.{joined-append}
 use Rattle.m2v_model.proofs.ShiftLaws.{BeginsPiece}
-use Rattle.m2v_group.specs.Groups.{is_sequence, is_group, has_picture, has_sequence, group_headers, from_last_sequence, before_group, from_group, up_to_piece, up_to_group, first_groups, behind_cut, cut_units}
+use Rattle.m2v_law_group.specs.Groups.{is_sequence, is_group, has_picture, has_sequence, group_headers, from_last_sequence, before_group, from_group, up_to_piece, up_to_group, first_groups, behind_cut, cut_units}
 use Rattle.m2v_cut.specs.Progress.{are_some}
 use Rattle.m2v_cut.proofs.Shapes.{Shape, IsPictured, BeginsSequence}
 use Rattle.m2v_cut.proofs.Fulls.{IsFull, Full, Fulls, picture-append, sequence-append, headers-append, none_begin, up_full, up_fulls, up_headers, last_later, last_behind_all, fulls_picture}

@@ -7,12 +7,12 @@ use Rattle.m2v_port.specs.Port.{Grows, GrowsByPrefix}
 use Rattle.m2v_port.proofs.Runs.{moves_on, grows_on, prefix_on, rose_since}
 use Rattle.m2v_model.specs.Units.{cut, joined}
 use Rattle.m2v_model.specs.Pieces.{pieces}
-use Rattle.m2v_piece.specs.declared.answer.Piece.{Piece}
-use Rattle.m2v_piece.specs.Cutting.{Cutting, left_of}
-use Rattle.m2v_decoder.specs.Decoding.{whole_of}
+use Rattle.m2v_dec_piece.specs.declared.answer.Piece.{Piece}
+use Rattle.m2v_dec_piece.specs.Cutting.{Cutting, left_of}
+use Rattle.m2v_decode.specs.Decoding.{whole_of}
 use Rattle.m2v_decode.specs.Answers.{start_of, OfText, OfTaken}
 use Rattle.m2v_decode.proofs.Going.{moved_some}
-use Rattle.m2v_group.specs.Groups.{with_broken_link, groups_in, cut_units, cut_text, groups_chosen, stream_units, end_code, is_standalone}
+use Rattle.m2v_law_group.specs.Groups.{with_broken_link, groups_in, cut_units, cut_text, groups_chosen, stream_units, end_code, is_standalone}
 use Rattle.m2v_cut.specs.declared.answer.CutSummary.{CutSummary}
 use Rattle.m2v_cut.specs.declared.answer.CutError.{CutError}
 use Rattle.m2v_cut.specs.declared.answer.CutError.TheVariants as errors
@@ -33,7 +33,7 @@ use Rattle.m2v_cut.proofs.Parts.{looks_all, looks_read}
 use Rattle.m2v_cut.proofs.Prefixes.{first_splits}
 use Rattle.m2v_cut.proofs.Onwards.{units_length}
 use Rattle.m2v_cut.proofs.Firsts.{start_fits}
-use Rattle.m2v_decoder.proofs.EndLaws.{whole_length}
+use Rattle.m2v_decode.proofs.EndLaws.{whole_length}
 
 -- how the pieces behind the first one end, in a text
 abbrev pub Ends : ℕ → ℕ → List (List ℕ) → List (List ℕ) → List (List ℕ) → Type 0

@@ -5,7 +5,7 @@ use Rattle.m2v_port.specs.Port.{Moves, Grows, GrowsByPrefix}
 use Rattle.m2v_model.specs.Units.{Units, cut, joined}
 use Rattle.m2v_model.specs.Pieces.{pieces, limit, Limit, too_long, too_large, most_input}
 use Rattle.m2v_decode.specs.Answers.{OfText, OfTaken, start_of}
-use Rattle.m2v_group.specs.Groups.{is_picture, is_group, group_headers, groups_in, from_group, group_place, is_standalone, cut_units, cut_text, groups_chosen, stream_units, end_code, next_unit, is_intra, is_coding_extension, structure_of, to_end}
+use Rattle.m2v_law_group.specs.Groups.{is_picture, is_group, group_headers, groups_in, from_group, group_place, is_standalone, cut_units, cut_text, groups_chosen, stream_units, end_code, next_unit, is_intra, is_coding_extension, structure_of, to_end}
 use Rattle.m2v_cut.specs.declared.answer.CutError.{CutError}
 use Rattle.m2v_cut.specs.declared.answer.CutError.TheVariants as errors
 use Rattle.m2v_cut.specs.declared.answer.CutSummary.{CutSummary}

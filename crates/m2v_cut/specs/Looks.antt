@@ -1,7 +1,7 @@
 -- What is looked at of units.
 use Rattle.std.specs.Prelude.{◌≡◌, ℕ, true, false, ◌∷◌, ◌++◌, Option, Some, None, List, if◌then◌else◌}
 use Rattle.m2v_model.specs.Units.{Units, unit_bits}
-use Rattle.m2v_group.specs.Groups.{is_sequence, is_group, has_sequence, from_last_sequence, before_group, from_group, is_coding_extension, structure_of}
+use Rattle.m2v_law_group.specs.Groups.{is_sequence, is_group, has_sequence, from_last_sequence, before_group, from_group, is_coding_extension, structure_of}
 use Rattle.m2v_cut.specs.Answers.{or_none}
 
 -- how many bits are left at the last sequence header of units before others, where there is one

@@ -5,14 +5,14 @@ use Rattle.m2v_port.specs.Port.{Moves, Grows, GrowsByPrefix}
 use Rattle.m2v_model.specs.Units.{joined}
 use Rattle.m2v_model.specs.Pieces.{pieces, most_input}
 use Rattle.m2v_model.specs.ByPieces.{end_of}
-use Rattle.m2v_piece.specs.declared.answer.DecodeError.{DecodeError}
-use Rattle.m2v_piece.specs.declared.answer.DecodeError.TheVariants as reading
-use Rattle.m2v_piece.specs.Cutting.{Cutting, PieceStops, left_of, start_of as start_of_rest}
-use Rattle.m2v_piece.specs.Sound.{IsSoundPiece}
-use Rattle.m2v_piece.specs.Stepping.{Keeps}
-use Rattle.m2v_decoder.specs.Decoding.{whole_of}
+use Rattle.m2v_dec_piece.specs.declared.answer.DecodeError.{DecodeError}
+use Rattle.m2v_dec_piece.specs.declared.answer.DecodeError.TheVariants as reading
+use Rattle.m2v_dec_piece.specs.Cutting.{Cutting, PieceStops, left_of, start_of as start_of_rest}
+use Rattle.m2v_dec_piece.specs.Sound.{IsSoundPiece}
+use Rattle.m2v_dec_piece.specs.Stepping.{Keeps}
+use Rattle.m2v_decode.specs.Decoding.{whole_of}
 use Rattle.m2v_decode.specs.Answers.{OfText, OfTaken, AllFit, start_of}
-use Rattle.m2v_group.specs.Groups.{groups_in, with_broken_link}
+use Rattle.m2v_law_group.specs.Groups.{groups_in, with_broken_link}
 use Rattle.m2v_cut.specs.declared.answer.CutError.{CutError}
 use Rattle.m2v_cut.specs.declared.answer.CutError.TheVariants as errors
 use Rattle.m2v_cut.specs.declared.find.Found.{Found}

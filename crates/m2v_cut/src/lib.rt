@@ -14,4 +14,5 @@ mod start;
 mod whole;
 
 pub use answer::{CutError, CutSummary};
+pub use m2v_decode as decode;
 pub use whole::cut;

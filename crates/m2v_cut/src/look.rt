@@ -2,15 +2,15 @@
 ghost use Rattle.std.specs.Prelude.{◌≡◌, ◌+◌, ◌-◌, ◌*◌, ◌^◌, ◌<◌, ◌≤◌, ◌++◌, Bool, true, false, length, drop, nat_eq, nat_le, is_some, IfSome, IfNone, Some, None};
 ghost use Rattle.m2v_model.specs.Units.{unit_bits, body, Next};
 ghost use Rattle.m2v_model.specs.Looking.{number_from};
-ghost use Rattle.m2v_piece.specs.Sound.{IsSoundPiece};
-ghost use Rattle.m2v_decoder.specs.Decoding.{whole_of};
-ghost use Rattle.m2v_unit.specs.Texts.{units_in};
-ghost use Rattle.m2v_group.specs.Groups.{group_headers, to_end, from_group, before_group, is_number, is_intra, is_coding_extension, structure_of, next_unit};
+ghost use Rattle.m2v_dec_piece.specs.Sound.{IsSoundPiece};
+ghost use Rattle.m2v_decode.specs.Decoding.{whole_of};
+ghost use Rattle.m2v_law_group.specs.m2v_dec_unit.Texts.{units_in};
+ghost use Rattle.m2v_law_group.specs.Groups.{group_headers, to_end, from_group, before_group, is_number, is_intra, is_coding_extension, structure_of, next_unit};
 ghost use Rattle.m2v_cut.specs.Answers.{first_picture, has_intra, picture_structure, or_none};
 ghost use Rattle.m2v_cut.specs.Looks.{IsLastSequence, IsNumberBehind, last_behind, structure_in};
 
-use m2v_piece::Piece;
-use m2v_unit::{Unit, UnitReader};
+use m2v_dec_piece::Piece;
+use m2v_law_group::dec_unit::{Unit, UnitReader};
 
 /// The values of units: a picture, the sequence header, an extension, the sequence end code and a group header.
 const PICTURE: u8 = 0x00;
@@ -56,7 +56,7 @@ pub fn units<'a>(piece: &'a Piece) -> UnitReader<'a>
 }
 
 /// Counts group headers up to the sequence end code, or to the end.
-#[tactic(auto, unfolding(m2v_group::specs::Groups::group_headers, m2v_group::specs::Groups::to_end, m2v_model::specs::Pieces::is_end))]
+#[tactic(auto, unfolding(m2v_law_group::specs::Groups::group_headers, m2v_law_group::specs::Groups::to_end, m2v_model::specs::Pieces::is_end))]
 pub fn count(units: &mut UnitReader) -> Counted
     ensures groups { result.groups ≡ group_headers (to_end units.old) }
     ensures bits { result.bits ≡ unit_bits (to_end units.old) }
@@ -88,7 +88,7 @@ pub fn count(units: &mut UnitReader) -> Counted
 }
 
 /// Takes the units up to the header of a group, which is answered; None where there is none.
-#[tactic(auto, unfolding(m2v_group::specs::Groups::from_group))]
+#[tactic(auto, unfolding(m2v_law_group::specs::Groups::from_group))]
 pub fn to_header<'a>(units: &mut UnitReader<'a>, number: u64) -> Option<Unit<'a>>
     ensures { Next result (from_group number units.old) units.new }
 {
@@ -109,7 +109,7 @@ pub fn to_header<'a>(units: &mut UnitReader<'a>, number: u64) -> Option<Unit<'a>
 }
 
 /// The number of a group among the units behind one; None where that unit is its header.
-#[tactic(auto, unfolding(m2v_group::specs::Groups::from_group, m2v_group::specs::Groups::before_group))]
+#[tactic(auto, unfolding(m2v_law_group::specs::Groups::from_group, m2v_law_group::specs::Groups::before_group))]
 fn number_behind(unit: &Unit, number: u64) -> Option<u64>
     ensures { IsNumberBehind result number unit.now }
 {

@@ -12,10 +12,10 @@ use Rattle.m2v_model.specs.Pictures.{Events, pictures_in}
 use Rattle.m2v_model.specs.ByPieces.{Between, at_start, pieces_read, end_of}
 use Rattle.m2v_model.specs.Decoding.{Decodes, FaultAt, pictures}
 use Rattle.m2v_model.proofs.Unique.{exactly_one}
-use Rattle.m2v_piece.specs.declared.answer.Fault.{Fault}
-use Rattle.m2v_piece.specs.declared.answer.DecodeError.{DecodeError}
-use Rattle.m2v_piece.specs.declared.answer.DecodeError.TheVariants as errors
-use Rattle.m2v_piece.specs.Cutting.{Passes}
+use Rattle.m2v_dec_piece.specs.declared.answer.Fault.{Fault}
+use Rattle.m2v_dec_piece.specs.declared.answer.DecodeError.{DecodeError}
+use Rattle.m2v_dec_piece.specs.declared.answer.DecodeError.TheVariants as errors
+use Rattle.m2v_dec_piece.specs.Cutting.{Passes}
 use Rattle.m2v_decode.specs.declared.answer.Decoded.{Decoded}
 use Rattle.m2v_decode.specs.Answers.{OfText, IsDecoded, IsFaulty, IsOver, Fails, AllFit, start_of, numbers_of}
 use Rattle.m2v_decode.specs.Complete.{IsUnderLimits, IsPast, IsReached, IsLate, IsAnswered, Gives, counted, error_of}

@@ -11,10 +11,10 @@ use Rattle.m2v_model.specs.Pieces.{pieces, most_input}
 use Rattle.m2v_model.specs.Decoding.{Decodes, shown, low_delay_of}
 use Rattle.m2v_model.specs.ByPieces.{Between, at_start as text_start, end_read, behind as behind_events, continued, text_read, IsRead}
 use Rattle.m2v_model.proofs.PieceLaws.{rest_read, rest_none, rest_read-append, text_rest, by_pieces}
-use Rattle.m2v_piece.specs.declared.answer.DecodeError.{DecodeError}
-use Rattle.m2v_piece.specs.declared.answer.DecodeError.TheVariants as errors
-use Rattle.m2v_piece.specs.Cutting.{Cutting}
-use Rattle.m2v_decoder.specs.Decoding.{Decoding, at_start, between, due_of, Finished}
+use Rattle.m2v_dec_piece.specs.declared.answer.DecodeError.{DecodeError}
+use Rattle.m2v_dec_piece.specs.declared.answer.DecodeError.TheVariants as errors
+use Rattle.m2v_dec_piece.specs.Cutting.{Cutting}
+use Rattle.m2v_decode.specs.Decoding.{Decoding, at_start, between, due_of, Finished}
 use Rattle.m2v_decode.specs.declared.answer.Decoded.{Decoded}
 use Rattle.m2v_decode.specs.Answers.{start_of, AllFit, PiecesRead, place_behind, shown_by, IsDecoded, IsCut, OfText, OfTaken, Fails}
 use Rattle.m2v_decode.specs.Progress.{raw_of, before_all, Reached, IsDone, Ends, EndFails}

@@ -16,22 +16,22 @@ use Rattle.m2v_model.specs.Pieces.{limit, grouped, most_input}
 use Rattle.m2v_model.specs.Decoding.{FaultAt, low_delay_of}
 use Rattle.m2v_model.specs.ByPieces.{Between, at_start as nothing_read, Course, piece_read, behind as behind_events, continued, pieces_read, end_of}
 use Rattle.m2v_model.proofs.PieceLaws.{pieces_read-append, rest_read, rest_none, rest_more, rest_read-append, text_rest, by_pieces}
-use Rattle.m2v_piece.specs.declared.answer.Piece.{Piece}
-use Rattle.m2v_piece.specs.declared.answer.Fault.{Fault}
-use Rattle.m2v_piece.specs.declared.answer.DecodeError.{DecodeError}
-use Rattle.m2v_piece.specs.declared.answer.DecodeError.TheVariants as errors
-use Rattle.m2v_piece.specs.Cutting.{Cutting, left_of, IsReading, PieceStops, open_start, open_pieces}
-use Rattle.m2v_piece.proofs.WholeLaws.{whole_is}
-use Rattle.m2v_piece.specs.Cutting.{start_of as start_of_rest}
-use Rattle.m2v_piece.specs.Sound.{IsSoundPiece}
-use Rattle.m2v_piece.specs.Stepping.{Handed, Stopped, NextPiece, Keeps}
+use Rattle.m2v_dec_piece.specs.declared.answer.Piece.{Piece}
+use Rattle.m2v_dec_piece.specs.declared.answer.Fault.{Fault}
+use Rattle.m2v_dec_piece.specs.declared.answer.DecodeError.{DecodeError}
+use Rattle.m2v_dec_piece.specs.declared.answer.DecodeError.TheVariants as errors
+use Rattle.m2v_dec_piece.specs.Cutting.{Cutting, left_of, IsReading, PieceStops, open_start, open_pieces}
+use Rattle.m2v_dec_piece.proofs.WholeLaws.{whole_is}
+use Rattle.m2v_dec_piece.specs.Cutting.{start_of as start_of_rest}
+use Rattle.m2v_dec_piece.specs.Sound.{IsSoundPiece}
+use Rattle.m2v_dec_piece.specs.Stepping.{Handed, Stopped, NextPiece, Keeps}
 use Rattle.m2v_model.specs.declared.notes.Notes.{Notes}
-use Rattle.m2v_decoder.specs.Decoding.{Decoding, at_start, between, due_of, dropped_in, Agrees, ShowsFrames, Advanced, Onward, Refuses, whole_of}
+use Rattle.m2v_decode.specs.Decoding.{Decoding, at_start, between, due_of, dropped_in, Agrees, ShowsFrames, Advanced, Onward, Refuses, whole_of}
 use Rattle.m2v_decode.specs.Answers.{start_of, AllFit, PiecesRead, place_behind, HasFault, due_before, shown_by, IsFaulty, IsOver, IsCut, OfText, OfTaken, Fails}
 use Rattle.m2v_decode.specs.Progress.{raw_of, before_all, Cuts, HasPut, Reached, Progress, IsDone}
 use Rattle.m2v_decode.proofs.Putting.{raw-append}
 use Rattle.m2v_model.proofs.EventLaws.{pictures_in-append}
-use Rattle.m2v_decoder.proofs.Showing.{shows_on, shows_none, shows_behind, dropped-append}
+use Rattle.m2v_decode.proofs.Showing.{shows_on, shows_none, shows_behind, dropped-append}
 use Rattle.m2v_decode.proofs.Ordering.{due_is, shown_is, agrees}
 
 -- ---- lists of pieces

@@ -5,7 +5,7 @@ use Rattle.m2v_model.specs.Pictures.{Events}
 use Rattle.m2v_model.specs.Pieces.{limit, Limit}
 use Rattle.m2v_model.specs.ByPieces.{Between, Course, continued, piece_read, pieces_read, end_of}
 use Rattle.m2v_model.specs.ByPieces.{behind as put_behind}
-use Rattle.m2v_piece.specs.Cutting.{Passes}
+use Rattle.m2v_dec_piece.specs.Cutting.{Passes}
 use Rattle.m2v_decode.specs.Answers.{AllFit, HasFault}
 
 -- what is read first, and what follows it

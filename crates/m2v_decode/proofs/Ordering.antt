@@ -10,7 +10,7 @@ use Rattle.m2v_order.proofs.Shows.{handed_due, handed_shown}
 use Rattle.m2v_model.specs.declared.state.Sequence.{Sequence}
 use Rattle.m2v_model.specs.Pictures.{Picture, Pictures, frames_in}
 use Rattle.m2v_model.specs.Decoding.{is_dropped, raw_frames, shown, due, low_delay_of}
-use Rattle.m2v_decoder.specs.Decoding.{frame_of, Agrees, ShowsFrames}
+use Rattle.m2v_decode.specs.Decoding.{frame_of, Agrees, ShowsFrames}
 
 -- ---- frames of pictures
 

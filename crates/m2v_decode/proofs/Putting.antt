@@ -7,9 +7,9 @@ use Rattle.m2v_port.specs.Port.{Grows, GrowsByPrefix}
 use Rattle.m2v_port.proofs.Runs.{rose_since, grows_on, grows_by_nothing, prefix_on, prefix_of_more}
 use Rattle.m2v_plane.specs.Samples.{Samples}
 use Rattle.m2v_plane.specs.Raw.{raw, crop}
-use Rattle.m2v_piece.specs.declared.answer.DecodeError.{DecodeError}
-use Rattle.m2v_piece.specs.declared.answer.DecodeError.TheVariants as errors
-use Rattle.m2v_decoder.specs.Decoding.{Decoding, between, due_of, HandsOut}
+use Rattle.m2v_dec_piece.specs.declared.answer.DecodeError.{DecodeError}
+use Rattle.m2v_dec_piece.specs.declared.answer.DecodeError.TheVariants as errors
+use Rattle.m2v_decode.specs.Decoding.{Decoding, between, due_of, HandsOut}
 use Rattle.m2v_decode.specs.Progress.{raw_of, Cuts, HasPut}
 
 pub raw-append : (fs gs : List Samples) → raw_of (fs ++ gs) ≡ raw_of fs ++ raw_of gs

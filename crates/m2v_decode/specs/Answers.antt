@@ -8,11 +8,11 @@ use Rattle.m2v_model.specs.Pictures.{Pictures, Events, pictures_in}
 use Rattle.m2v_model.specs.Pieces.{pieces, before_pieces, limit, most_input}
 use Rattle.m2v_model.specs.Decoding.{Decodes, FaultAt, shown, due, low_delay_of}
 use Rattle.m2v_model.specs.ByPieces.{Between, at_start, piece_read, pieces_read, end_read, end_of, IsRead}
-use Rattle.m2v_piece.specs.declared.answer.Fault.{Fault}
-use Rattle.m2v_piece.specs.declared.answer.DecodeError.{DecodeError}
-use Rattle.m2v_piece.specs.declared.answer.DecodeError.TheVariants as errors
-use Rattle.m2v_piece.specs.Cutting.{PieceStops}
-use Rattle.m2v_decoder.specs.Decoding.{dropped_in}
+use Rattle.m2v_dec_piece.specs.declared.answer.Fault.{Fault}
+use Rattle.m2v_dec_piece.specs.declared.answer.DecodeError.{DecodeError}
+use Rattle.m2v_dec_piece.specs.declared.answer.DecodeError.TheVariants as errors
+use Rattle.m2v_dec_piece.specs.Cutting.{PieceStops}
+use Rattle.m2v_decode.specs.Decoding.{dropped_in}
 use Rattle.m2v_decode.specs.declared.answer.Decoded.{Decoded}
 
 -- where the first piece of a text begins

@@ -6,10 +6,10 @@ use Rattle.m2v_model.specs.Pictures.{Events}
 use Rattle.m2v_model.specs.ByPieces.{Between}
 use Rattle.m2v_model.specs.Pieces.{pieces, most_input, Limit, too_long, too_large}
 use Rattle.m2v_model.specs.Decoding.{Decodes, FaultAt, pictures}
-use Rattle.m2v_piece.specs.declared.answer.Fault.{Fault}
-use Rattle.m2v_piece.specs.declared.answer.DecodeError.{DecodeError}
-use Rattle.m2v_piece.specs.declared.answer.DecodeError.TheVariants as errors
-use Rattle.m2v_piece.specs.Cutting.{Passes}
+use Rattle.m2v_dec_piece.specs.declared.answer.Fault.{Fault}
+use Rattle.m2v_dec_piece.specs.declared.answer.DecodeError.{DecodeError}
+use Rattle.m2v_dec_piece.specs.declared.answer.DecodeError.TheVariants as errors
+use Rattle.m2v_dec_piece.specs.Cutting.{Passes}
 use Rattle.m2v_decode.specs.declared.answer.Decoded.{Decoded}
 use Rattle.m2v_decode.specs.Answers.{AllFit, start_of, PiecesRead, place_behind, HasFault, numbers_of}
 

@@ -7,10 +7,10 @@ use Rattle.m2v_plane.specs.Raw.{raw, crop}
 use Rattle.m2v_model.specs.Pictures.{Events, pictures_in}
 use Rattle.m2v_model.specs.Pieces.{most_input}
 use Rattle.m2v_model.specs.ByPieces.{end_read}
-use Rattle.m2v_piece.specs.declared.answer.DecodeError.{DecodeError}
-use Rattle.m2v_piece.specs.declared.answer.DecodeError.TheVariants as errors
-use Rattle.m2v_piece.specs.Cutting.{Cutting, left_of, start_of as start_of_rest}
-use Rattle.m2v_decoder.specs.Decoding.{Decoding, between, due_of, dropped_in, Agrees, ShowsFrames, Finished}
+use Rattle.m2v_dec_piece.specs.declared.answer.DecodeError.{DecodeError}
+use Rattle.m2v_dec_piece.specs.declared.answer.DecodeError.TheVariants as errors
+use Rattle.m2v_dec_piece.specs.Cutting.{Cutting, left_of, start_of as start_of_rest}
+use Rattle.m2v_decode.specs.Decoding.{Decoding, between, due_of, dropped_in, Agrees, ShowsFrames, Finished}
 use Rattle.m2v_decode.specs.declared.answer.Decoded.{Decoded}
 use Rattle.m2v_decode.specs.Answers.{PiecesRead, place_behind}
 

@@ -3,11 +3,11 @@ ghost use Rattle.m2v_port.specs.Ends.{change, SinkStays};
 ghost use Rattle.m2v_port.specs.Port.{Grows};
 ghost use Rattle.m2v_plane.specs.Sizes.{IsSize};
 ghost use Rattle.m2v_plane.specs.Raw.{frame_bytes, crop, raw as frames_raw};
-ghost use Rattle.m2v_decoder.specs.Decoding.{due_of};
+ghost use Rattle.m2v_decode.specs.Decoding.{due_of};
 ghost use Rattle.m2v_decode.specs.Progress.{Cuts, HasPut};
 
-use m2v_decoder::Decoder;
-use m2v_piece::DecodeError;
+use crate::Decoder;
+use m2v_dec_piece::DecodeError;
 use m2v_plane::{Frame, RefView, bytes_of};
 use m2v_port::{PortError, Sink};
 use std::alloc::Global;

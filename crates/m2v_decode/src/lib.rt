@@ -1,13 +1,29 @@
 //! Decoding of streams (ISO/IEC 13818-2): a stream is read piece by piece, and the frames that it shows are written as raw
-//! video as they become due.
+//! video as they become due. A [`Decoder`] is handed the pieces: it reads each as the definitions say, tells what is noted
+//! of it, and hands out frames as they are due.
 #![tactic(auto)]
 
 mod answer;
+mod at_hand;
+mod course;
+mod decoder;
 mod frames;
+mod halt;
+mod notes;
+mod reading;
+mod rebuilt;
+mod slice;
 mod whole;
 
 pub use answer::Decoded;
+pub use at_hand::AtHand;
+pub use decoder::Decoder;
 pub use frames::put_due;
-pub use m2v_decoder::Decoder;
-pub use m2v_piece::{Cutter, DecodeError, Fault, Piece};
+pub use m2v_dec_piece::{Cutter, DecodeError, Fault, Piece};
+pub use m2v_dec_rows as dec_rows;
+pub use m2v_dec_rows::{Opened, SliceUnit, dec_picture, dec_unit, read_row};
+pub use rebuilt::PictureRows;
 pub use whole::{decode, finish};
+
+/// Want of memory.
+pub type Memory = std::alloc::AllocError;

@@ -1,14 +1,14 @@
 ghost use Rattle.std.specs.Prelude.{◌≡◌, ◌≤◌, ◌<◌, ◌^◌, IsTrue, IfOk, IfErr, IfSome, OnOk, false};
 ghost use Rattle.m2v_port.specs.Ends.{change, Tells, SinkStays};
-ghost use Rattle.m2v_decoder.specs.Decoding.{at_start};
+ghost use Rattle.m2v_decode.specs.Decoding.{at_start};
 ghost use Rattle.m2v_decode.specs.Answers.{OfText, IsDecoded, Fails};
 ghost use Rattle.m2v_decode.specs.Complete.{IsAnswered};
 ghost use Rattle.m2v_decode.specs.Progress.{before_all, IsDone, Ends, EndFails};
 
+use crate::Decoder;
 use crate::answer::Decoded;
 use crate::frames::put_due;
-use m2v_decoder::Decoder;
-use m2v_piece::{Cutter, DecodeError};
+use m2v_dec_piece::{Cutter, DecodeError};
 use m2v_port::{Sink, Source};
 use std::alloc::Global;
 

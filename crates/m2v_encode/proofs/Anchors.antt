@@ -16,7 +16,7 @@ use Rattle.m2v_order.specs.declared.jobs.PictureJob.{PictureJob}
 use Rattle.m2v_slice.specs.Books.{Book, job_at, no_job}
 use Rattle.m2v_slice.specs.Conditions.{IsBook}
 use Rattle.m2v_slice.proofs.Groups.{picture_is_one}
-use Rattle.m2v_stream.specs.Streams.{frame_of, frame_or, anchor_frame}
+use Rattle.m2v_law_headline.specs.m2v_enc_stream.Streams.{frame_of, frame_or, anchor_frame}
 use Rattle.m2v_encode.specs.Groups.{all_coded, frames_shown, group_shown, anchor_behind}
 use Rattle.m2v_encode.proofs.PictureLaws.{first_kind}
 

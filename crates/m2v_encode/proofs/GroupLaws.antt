@@ -19,7 +19,7 @@ use Rattle.m2v_encode.specs.declared.answer.EncodeError.{EncodeError}
 use Rattle.m2v_encode.specs.declared.answer.EncodeError.TheVariants.{Read, Write, ShortFrame, NoFrames, TooManyFrames, Memory}
 use Rattle.m2v_encode.specs.declared.group.Coder.{Coder}
 use Rattle.m2v_encode.specs.Groups.{whole_ledger, group_text, group_shown, anchor_behind, IsPlace}
-use Rattle.m2v_stream.specs.Streams.{zeros_sum}
+use Rattle.m2v_law_headline.specs.m2v_enc_stream.Streams.{zeros_sum}
 use Rattle.m2v_encode.specs.declared.answer.Summary.{Summary}
 use Rattle.m2v_encode.specs.Steps.{PutStops, GroupStops, GroupCoded, GoesOn, book_by}
 use Rattle.m2v_encode.proofs.Pieces.{whole_ledger_is}

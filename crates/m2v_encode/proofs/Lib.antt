@@ -15,3 +15,7 @@ pub mod Due
 pub mod Ends
 pub mod Loop
 pub mod WithoutRecon
+pub use Rattle.m2v_law_headline.proofs as m2v_law_headline
+pub use Rattle.m2v_law_headline.proofs.m2v_law_safe
+pub use Rattle.m2v_law_headline.proofs.m2v_law_shown
+pub use Rattle.m2v_law_headline.proofs.m2v_law_tree

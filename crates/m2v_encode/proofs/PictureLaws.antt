@@ -20,14 +20,14 @@ use Rattle.m2v_order.specs.Calls.{IsFromIntra}
 use Rattle.m2v_order.specs.Whole.{fields_of}
 use Rattle.m2v_rate.specs.Plans.{Entries, account_at}
 use Rattle.m2v_rate.proofs.Lows.{buffer_at, held_least, held_most, size_whole}
-use Rattle.m2v_row.specs.Slices.{CodedSlice}
-use Rattle.m2v_preface.specs.Headers.{header_units, header_bits, bits_to_code, begins_group}
+use Rattle.m2v_slice.specs.Slices.{CodedSlice}
+use Rattle.m2v_slice.specs.Headers.{header_units, header_bits, bits_to_code, begins_group}
 use Rattle.m2v_slice.specs.Books.{Book, rows, job_at, no_job, coded, picture_at, size_of, ledger_with}
 use Rattle.m2v_slice.specs.Conditions.{IsBook}
 use Rattle.m2v_slice.proofs.Coded.{count}
 use Rattle.m2v_slice.proofs.Groups.{passes_of, from_intra}
 use Rattle.m2v_slice.proofs.Sound.{ledger_settings, ledger_kinds, ledger_sizes}
-use Rattle.m2v_stream.specs.Streams.{zeros_of, delay_at, picture_text, pictures_text, zeros_sum}
+use Rattle.m2v_law_headline.specs.m2v_enc_stream.Streams.{zeros_of, delay_at, picture_text, pictures_text, zeros_sum}
 use Rattle.m2v_encode.specs.Groups.{all_coded, whole_ledger, slices_text, IsPlace}
 use Rattle.m2v_encode.proofs.Pieces.{whole_is, whole_ledger_is, size_small}
 use Rattle.m2v_encode.proofs.Places.{arriving_is, gone_whole, next_place}

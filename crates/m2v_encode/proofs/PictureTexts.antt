@@ -11,13 +11,13 @@ use Rattle.m2v_bits.proofs.Units.{unit_edge, edge-append, packed-append}
 use Rattle.m2v_bits.proofs.Texts.{texts_more}
 use Rattle.m2v_order.specs.declared.jobs.PictureJob.{PictureJob}
 use Rattle.m2v_rate.specs.Plans.{Entries}
-use Rattle.m2v_row.specs.Slices.{CodedSlice, SliceTask, slice_of}
-use Rattle.m2v_preface.specs.Headers.{header_units, header_bits, begins_group}
-use Rattle.m2v_preface.proofs.TextLengths.{header_length}
+use Rattle.m2v_slice.specs.Slices.{CodedSlice, SliceTask, slice_of}
+use Rattle.m2v_slice.specs.Headers.{header_units, header_bits, begins_group}
+use Rattle.m2v_slice.proofs.TextLengths.{header_length}
 use Rattle.m2v_slice.specs.Books.{Book, rows, job_at, picture_at, slice_at, size_of}
 use Rattle.m2v_slice.specs.Conditions.{IsBook}
 use Rattle.m2v_slice.proofs.Coded.{slice_is}
-use Rattle.m2v_stream.specs.Streams.{zeros_of, delay_at, picture_text}
+use Rattle.m2v_law_headline.specs.m2v_enc_stream.Streams.{zeros_of, delay_at, picture_text}
 use Rattle.m2v_encode.specs.Groups.{all_coded, slices_text}
 use Rattle.m2v_encode.proofs.Pieces.{slices_by, job_is}
 

@@ -10,8 +10,8 @@ use Rattle.m2v_rate.specs.Steady.{IsLedger}
 use Rattle.m2v_rate.proofs.Keeps.{known_by}
 use Rattle.m2v_rate.proofs.Steps.{interval_small}
 use Rattle.m2v_set.proofs.Facts.{bounds}
-use Rattle.m2v_row.specs.Slices.{CodedSlice}
-use Rattle.m2v_preface.specs.Headers.{IsJob, header_bits}
+use Rattle.m2v_slice.specs.Slices.{CodedSlice}
+use Rattle.m2v_slice.specs.Headers.{IsJob, header_bits}
 use Rattle.m2v_slice.specs.declared.pieces.EncodePiece.{EncodePiece}
 use Rattle.m2v_slice.specs.declared.pieces.EncodePiece.TheVariants as piece
 use Rattle.m2v_slice.specs.Books.{Book, CodedPicture, rows, job_at, no_job, coded, picture_at, slice_at, slice_job, plan_job, size_of}

@@ -11,7 +11,7 @@ use Rattle.m2v_rate.specs.Plans.{Entries, start_of}
 use Rattle.m2v_slice.specs.Books.{Book, CodedPicture, rows, slice_at, coded, ledger_behind}
 use Rattle.m2v_slice.specs.Conditions.{IsBook}
 use Rattle.m2v_slice.specs.Jobs.{jobs_of}
-use Rattle.m2v_stream.specs.Streams.{pictures_text, frame_of, frame_or, anchor_frame}
+use Rattle.m2v_law_headline.specs.m2v_enc_stream.Streams.{pictures_text, frame_of, frame_or, anchor_frame}
 
 -- the pictures of a book, and the ledger that knows them all
 abbrev pub all_coded : Book → List CodedPicture

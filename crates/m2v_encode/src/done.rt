@@ -1,15 +1,14 @@
 //! A group whose jobs are done.
 ghost use Rattle.std.specs.Prelude.{◌≡◌, ◌+◌, ◌-◌, ◌*◌, ◌^◌, ◌<◌, ◌≤◌, length, slice_index};
-ghost use Rattle.m2v_preface.specs.Headers.{IsJob};
+ghost use Rattle.m2v_slice.specs.Headers.{IsJob};
 ghost use Rattle.m2v_slice.specs.Books.{rows, job_at, slice_at, size_of, ledger_with};
 ghost use Rattle.m2v_slice.specs.Conditions.{IsBook};
 ghost use Rattle.m2v_encode.specs.Groups.{all_coded, whole_ledger};
 
 use m2v_order::PictureJob;
-use m2v_preface::header_bits;
 use m2v_rate::Ledger;
 use m2v_set::Passed;
-use m2v_slice::{EncodeBook, EncodePiece, SliceOut};
+use m2v_slice::{EncodeBook, EncodePiece, SliceOut, header_bits};
 use m2v_wave::Done;
 use std::marker::Model;
 
@@ -24,7 +23,7 @@ pub(crate) struct DoneGroup {
 }
 
 impl Model for DoneGroup {
-    ghost use Rattle.m2v_preface.specs.Headers.{IsJob};
+    ghost use Rattle.m2v_slice.specs.Headers.{IsJob};
     ghost use Rattle.m2v_slice.specs.Books.{Book};
     ghost use Rattle.m2v_slice.specs.Conditions.{IsBook};
     ghost use Rattle.m2v_encode.specs.Groups.{IsDone};

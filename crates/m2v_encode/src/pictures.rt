@@ -7,9 +7,9 @@ ghost use Rattle.m2v_set.specs.declared.settings.Settings.{Settings};
 ghost use Rattle.m2v_set.specs.Numbers.{buffer_bits};
 ghost use Rattle.m2v_vbv.specs.Account.{stuffing_of};
 ghost use Rattle.m2v_rate.specs.Plans.{account_at};
-ghost use Rattle.m2v_preface.specs.Headers.{header_units, bits_to_code};
+ghost use Rattle.m2v_slice.specs.Headers.{header_units, bits_to_code};
 ghost use Rattle.m2v_slice.specs.Books.{rows, job_at, size_of};
-ghost use Rattle.m2v_stream.specs.Streams.{zeros_of, delay_at, picture_text, pictures_text, zeros_sum};
+ghost use Rattle.m2v_law_headline.specs.m2v_enc_stream.Streams.{zeros_of, delay_at, picture_text, pictures_text, zeros_sum};
 ghost use Rattle.m2v_encode.specs.Groups.{all_coded, whole_ledger, slices_text, group_text, IsPlace};
 ghost use Rattle.m2v_encode.specs.Steps.{PutStops, Sent};
 
@@ -18,9 +18,9 @@ use crate::done::DoneGroup;
 use m2v_bits::BitWriter;
 use m2v_order::PictureJob;
 use m2v_port::{PortError, Sink};
-use m2v_preface::{bits_to_code, write_headers};
 use m2v_rate::{Ledger, account_before};
 use m2v_set::Passed;
+use m2v_slice::{bits_to_code, write_headers};
 use m2v_vbv::Account;
 
 /// How many zero bytes are written at once.

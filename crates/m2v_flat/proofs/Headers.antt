@@ -18,8 +18,8 @@ use Rattle.m2v_model.specs.Looking.{number_from, look, looking}
 use Rattle.m2v_model.specs.Units.{Units, inside}
 use Rattle.m2v_model.specs.Headers.{whole_header, size_of, size_at, sequence_in, sequence_extension_in, picture_in, f_code_at, f_codes_at, picture_extension_in}
 use Rattle.m2v_model.specs.Streams.{id_at, extension_in}
-use Rattle.m2v_chain.specs.Texts.{ended, unit_bytes}
-use Rattle.m2v_chain.proofs.Units.{ended_bits}
+use Rattle.m2v_law_chain.specs.Texts.{ended, unit_bytes}
+use Rattle.m2v_law_chain.proofs.Units.{ended_bits}
 use Rattle.m2v_flat.proofs.Slices.{zeros_are}
 
 -- the zeros behind a text

@@ -16,3 +16,7 @@ pub mod Slices
 pub mod Stopping
 pub mod Streams
 pub mod UnitLaws
+pub mod Sequences
+pub mod LawfulPictures
+pub mod Rules
+pub mod LawfulStreams

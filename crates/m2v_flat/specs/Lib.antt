@@ -4,3 +4,4 @@ pub mod Recon
 pub mod Steps
 pub mod Told
 pub mod Tree
+pub mod Numbered

@@ -10,3 +10,5 @@ pub mod Parts
 pub mod Spellings
 pub mod MacroSpellings
 pub mod Decisions
+pub use Rattle.m2v_head.proofs as m2v_head
+pub use Rattle.m2v_vector.proofs as m2v_vector

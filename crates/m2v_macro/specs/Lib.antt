@@ -6,3 +6,5 @@ pub mod Conditions
 pub mod Reading
 pub mod Texts
 pub mod Laws
+pub use Rattle.m2v_head.specs as m2v_head
+pub use Rattle.m2v_vector.specs as m2v_vector

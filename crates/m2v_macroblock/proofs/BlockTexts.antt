@@ -6,8 +6,8 @@ use Rattle.std.proofs.lemmas.Bool.{cases_Bool}
 use Rattle.std.proofs.lemmas.List.{length-append}
 use Rattle.m2v_bits.proofs.Texts.{left_length}
 use Rattle.m2v_bits.specs.Outputs.{Gains}
-use Rattle.m2v_quant.specs.declared.kind.BlockKind.{BlockKind}
-use Rattle.m2v_quant.specs.declared.kind.Levels.{Levels}
+use Rattle.m2v_block.specs.m2v_quant.declared.kind.BlockKind.{BlockKind}
+use Rattle.m2v_block.specs.m2v_quant.declared.kind.Levels.{Levels}
 use Rattle.m2v_block.specs.Texts.{block_text}
 use Rattle.m2v_block.proofs.Written.{block_most}
 use Rattle.m2v_macro.specs.declared.values.SliceState.{SliceState}

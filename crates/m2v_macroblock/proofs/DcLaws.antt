@@ -6,8 +6,8 @@ use mir.Syntax.{w32}
 use mir.Val.{SFits, to_z, of_z}
 use Rattle.std.proofs.lemmas.Nat.{pow_pos}
 use Rattle.std.proofs.lemmas.Bool.{cases_Bool}
-use Rattle.m2v_quant.specs.declared.kind.BlockKind.{BlockKind}
-use Rattle.m2v_quant.specs.declared.kind.Levels.{Levels}
+use Rattle.m2v_block.specs.m2v_quant.declared.kind.BlockKind.{BlockKind}
+use Rattle.m2v_block.specs.m2v_quant.declared.kind.Levels.{Levels}
 use Rattle.m2v_block.specs.Blocks.{IsDc}
 use Rattle.m2v_macro.specs.declared.values.MacroSyntax.{MacroSyntax}
 use Rattle.m2v_macro.specs.declared.values.SliceState.{SliceState}

@@ -5,8 +5,8 @@ use Rattle.std.proofs.lemmas.Int.{ints, to_z-of_z}
 use mir.Syntax.{w8, w32}
 use mir.Val.{SFits, to_z, of_z}
 use Rattle.std.proofs.lemmas.Bool.{cases_Bool}
-use Rattle.m2v_vector.specs.Vectors.{scale, IsVector, opposite}
-use Rattle.m2v_vector.proofs.Ranges.{powers}
+use Rattle.m2v_macro.specs.m2v_vector.Vectors.{scale, IsVector, opposite}
+use Rattle.m2v_macro.proofs.m2v_vector.Ranges.{powers}
 use Rattle.m2v_macro.specs.declared.values.MacroSyntax.{MacroSyntax}
 use Rattle.m2v_macro.specs.declared.values.SliceState.{SliceState}
 use Rattle.m2v_macro.specs.declared.values.PictureContext.{PictureContext}

@@ -2,9 +2,9 @@
 use Rattle.std.proofs.Common.{◌≡◌, ℕ, ◌-◌, ◌≤◌, Bool, true, false, refl, arith}
 use Rattle.std.specs.Prelude.{◌&&◌, nat_le, slice_index}
 use Rattle.std.proofs.lemmas.Bool.{and_parts, leb-true}
-use Rattle.m2v_vlc.proofs.ValueLaws.{below, agree}
-use Rattle.m2v_quant.specs.Scans.{nonlinear_scales, scale_at}
-use Rattle.m2v_quant.specs.Kinds.{IsKind}
+use Rattle.m2v_block.proofs.m2v_vlc.ValueLaws.{below, agree}
+use Rattle.m2v_block.specs.m2v_quant.Scans.{nonlinear_scales, scale_at}
+use Rattle.m2v_block.specs.m2v_quant.Kinds.{IsKind}
 use Rattle.m2v_macro.specs.declared.values.PictureContext.{PictureContext}
 use Rattle.m2v_macroblock.specs.Macroblocks.{kind_for}
 use Rattle.m2v_macroblock.specs.Conditions.{IsPicture, IsMatrix}

@@ -1,9 +1,9 @@
 -- What is known of a picture's headers, of DC predictors, and of the blocks of a macroblock.
 use Rattle.std.specs.Prelude.{◌≡◌, ℕ, ◌^◌, ◌<◌, ◌≤◌, true, false, All, nat_lt, List, [], ◌∷◌, length, replicate, slice_index_or, ℤ, pos, neg_ℤ, ◌≤ℤ◌}
-use Rattle.m2v_quant.specs.declared.kind.Levels.{Levels}
+use Rattle.m2v_block.specs.m2v_quant.declared.kind.Levels.{Levels}
 use Rattle.m2v_block.specs.Blocks.{IsDc}
 use Rattle.m2v_block.specs.Texts.{IsBlock}
-use Rattle.m2v_vector.specs.Predictors.{number_of}
+use Rattle.m2v_macro.specs.m2v_vector.Predictors.{number_of}
 use Rattle.m2v_macro.specs.declared.values.MacroSyntax.{MacroSyntax}
 use Rattle.m2v_macro.specs.declared.values.SliceState.{SliceState}
 use Rattle.m2v_macro.specs.declared.values.PictureContext.{PictureContext}

@@ -1,9 +1,9 @@
 -- Macroblocks with their blocks: what a block is coded with, its DC predictor, and what a macroblock leaves to the next
 -- one (clauses 6.2.5, 6.2.6 and 7.2.1).
 use Rattle.std.specs.Prelude.{ℕ, ◌-◌, Bool, true, false, cond, nat_eq, nat_lt, List, [], ◌∷◌, slice_index_or, if◌then◌else◌, ℤ, pos}
-use Rattle.m2v_quant.specs.declared.kind.BlockKind.{BlockKind}
-use Rattle.m2v_quant.specs.declared.kind.Levels.{Levels}
-use Rattle.m2v_quant.specs.Scans.{scale_at}
+use Rattle.m2v_block.specs.m2v_quant.declared.kind.BlockKind.{BlockKind}
+use Rattle.m2v_block.specs.m2v_quant.declared.kind.Levels.{Levels}
+use Rattle.m2v_block.specs.m2v_quant.Scans.{scale_at}
 use Rattle.m2v_macro.specs.declared.values.MacroSyntax.{MacroSyntax}
 use Rattle.m2v_macro.specs.declared.values.SliceState.{SliceState}
 use Rattle.m2v_macro.specs.declared.values.PictureContext.{PictureContext}

@@ -1,16 +1,16 @@
 -- How macroblocks are predicted (clauses 7.6.2 to 7.6.6), and where they lie.
 use Rattle.std.specs.Prelude.{ℕ, ◌-◌, ◌/◌, ◌%◌, Bool, true, false, ◌||◌, cond, nat_eq, if◌then◌else◌, List, [], ◌∷◌, slice_index_or, ℤ, pos, neg_ℤ, nat_abs}
-use Rattle.m2v_vector.specs.Vectors.{opposite}
-use Rattle.m2v_vector.specs.Predictors.{number_of, zero, zeros}
+use Rattle.m2v_macro.specs.m2v_vector.Vectors.{opposite}
+use Rattle.m2v_macro.specs.m2v_vector.Predictors.{number_of, zero, zeros}
 use Rattle.m2v_macro.specs.declared.values.MacroSyntax.{MacroSyntax}
 use Rattle.m2v_macro.specs.declared.values.SliceState.{SliceState}
 use Rattle.m2v_macro.specs.declared.values.PictureContext.{PictureContext}
 use Rattle.m2v_macro.specs.States.{is_field, address, skips}
-use Rattle.m2v_pred.specs.declared.mode.Form.{Form}
-use Rattle.m2v_pred.specs.declared.mode.Form.TheVariants.{Frame, Field, Half, Dual}
-use Rattle.m2v_pred.specs.declared.mode.Mode.{Mode}
-use Rattle.m2v_pred.specs.declared.mode.MbPlace.{MbPlace}
-use Rattle.m2v_pred.specs.Motion.{no_motion}
+use Rattle.m2v_recon.specs.m2v_pred.declared.mode.Form.{Form}
+use Rattle.m2v_recon.specs.m2v_pred.declared.mode.Form.TheVariants.{Frame, Field, Half, Dual}
+use Rattle.m2v_recon.specs.m2v_pred.declared.mode.Mode.{Mode}
+use Rattle.m2v_recon.specs.m2v_pred.declared.mode.MbPlace.{MbPlace}
+use Rattle.m2v_recon.specs.m2v_pred.Motion.{no_motion}
 
 -- ---- places
 

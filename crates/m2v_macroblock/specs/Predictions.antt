@@ -1,13 +1,13 @@
 -- The prediction of a macroblock and its samples (clauses 7.6.4 to 7.6.8).
 use Rattle.std.specs.Prelude.{ℕ, true, false, List, replicate, if◌then◌else◌}
-use Rattle.m2v_plane.specs.declared.planes.Plane.{Plane}
-use Rattle.m2v_plane.specs.declared.planes.Lines.{Lines}
+use Rattle.m2v_recon.specs.m2v_plane.declared.planes.Plane.{Plane}
+use Rattle.m2v_recon.specs.m2v_plane.declared.planes.Lines.{Lines}
 use Rattle.m2v_macro.specs.declared.values.MacroSyntax.{MacroSyntax}
 use Rattle.m2v_macro.specs.declared.values.SliceState.{SliceState}
 use Rattle.m2v_macro.specs.declared.values.PictureContext.{PictureContext}
 use Rattle.m2v_macro.specs.States.{after}
-use Rattle.m2v_pred.specs.declared.mode.MbPlace.{MbPlace}
-use Rattle.m2v_pred.specs.Predicted.{predicted, block_by}
+use Rattle.m2v_recon.specs.m2v_pred.declared.mode.MbPlace.{MbPlace}
+use Rattle.m2v_recon.specs.m2v_pred.Predicted.{predicted, block_by}
 use Rattle.m2v_recon.specs.Macro.{macro_sample}
 use Rattle.m2v_macroblock.specs.Macroblocks.{Macroblock, kind_for}
 use Rattle.m2v_macroblock.specs.Modes.{mode_of}

@@ -3,7 +3,7 @@ use Rattle.std.specs.Prelude.{ℕ, Bool, nat_lt, List, [], if◌then◌else◌}
 use Rattle.std.specs.List.{range_with_len, flat_map}
 use Rattle.m2v_bits.specs.Bits.{◌⧺◌}
 use Rattle.m2v_block.specs.Texts.{block_text}
-use Rattle.m2v_quant.specs.declared.kind.Levels.{Levels}
+use Rattle.m2v_block.specs.m2v_quant.declared.kind.Levels.{Levels}
 use Rattle.m2v_macro.specs.declared.values.MacroSyntax.{MacroSyntax}
 use Rattle.m2v_macro.specs.declared.values.SliceState.{SliceState}
 use Rattle.m2v_macro.specs.declared.values.PictureContext.{PictureContext}

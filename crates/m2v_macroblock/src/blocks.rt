@@ -1,12 +1,12 @@
 //! What the blocks of a macroblock are coded with, and their DC predictors.
 ghost use Rattle.std.specs.Prelude.{◌≡◌, ◌<◌, ◌≤◌, All, true, false, [], ◌∷◌};
-ghost use Rattle.m2v_quant.specs.Kinds.{IsKind};
+ghost use Rattle.m2v_block.specs.m2v_quant.Kinds.{IsKind};
 ghost use Rattle.m2v_recon.specs.Steps.{levels_of};
 ghost use Rattle.m2v_macroblock.specs.Macroblocks.{kind_for as kind_for_of, predictor as predictor_of, dc_after as dc_after_of};
 ghost use Rattle.m2v_macroblock.specs.Conditions.{IsPicture};
 
+use m2v_block::quant::{BlockKind, Levels, scale_of};
 use m2v_macro::PictureContext;
-use m2v_quant::{BlockKind, Levels, scale_of};
 
 /// What luma blocks or chroma blocks of a macroblock are coded with: by the picture's headers, whether the macroblock is
 /// intra, and the quantiser code in force, from 1 to 31 (clauses 6.3.10, 6.3.11 and 7.4.2).

@@ -1,14 +1,14 @@
 //! How macroblocks are predicted.
 ghost use Rattle.std.specs.Prelude.{◌≡◌, ◌<◌, ◌≤◌, ◌⊎◌, ◌||◌, nat_eq, if◌then◌else◌, cond, [], ◌∷◌, slice_index_or, ℤ, pos, neg_ℤ, ◌≤ℤ◌};
-ghost use Rattle.m2v_vector.specs.Predictors.{number_of, zero, zeros};
+ghost use Rattle.m2v_macro.specs.m2v_vector.Predictors.{number_of, zero, zeros};
 ghost use Rattle.m2v_macro.specs.States.{is_field as is_field_of};
 ghost use Rattle.m2v_macro.specs.Conditions.{IsContext, IsDm};
 ghost use Rattle.m2v_macroblock.specs.Modes.{form_of as form_in, own_parity, without_motion_type as without_motion_type_of, zero_motion as zero_motion_of, skipped_mode as skipped_mode_of, opposite_of as opposite_in, opposite_parity_vectors as opposite_parity_vectors_of, told_mode as told_mode_of, mode_of};
 ghost use Rattle.m2v_macroblock.specs.Conditions.{CanStand, IsDual};
 
+use m2v_macro::vector::{Pmv, dual};
 use m2v_macro::{MacroSyntax, PictureContext, SliceState};
-use m2v_pred::{Form, Mode};
-use m2v_vector::{Pmv, dual};
+use m2v_recon::pred::{Form, Mode};
 
 /// Whether the picture is a field.
 #[inline(always)]

@@ -10,8 +10,8 @@ ghost use Rattle.m2v_macroblock.specs.Conditions.{IsPicture, AreDc, AreBlocks, A
 use crate::blocks::{dc_after, kind_for, predictor};
 use m2v_bits::{BitCount, BitOutput, BitWriter};
 use m2v_block::put_block;
+use m2v_block::quant::Levels;
 use m2v_macro::{MacroSyntax, PictureContext, SliceState, put_macro};
-use m2v_quant::Levels;
 use m2v_recon::is_coded;
 
 /// Appends a block of a macroblock, where it is coded. The state is that behind the macroblock's elements.

@@ -11,7 +11,7 @@ use Rattle.m2v_set.specs.declared.settings.Settings.{Settings}
 use Rattle.m2v_set.specs.Numbers.{dims_of}
 use Rattle.m2v_encode.specs.declared.answer.Summary.{Summary}
 use Rattle.m2v_encode.specs.Answers.{AllCoded, AreWhole, numbers_of}
-use Rattle.m2v_stream.specs.Streams.{Coded}
+use Rattle.m2v_encode.specs.m2v_enc_stream.Streams.{Coded}
 use Rattle.m2v_make.specs.Frames.{frame, generated}
 use Rattle.m2v_make.specs.Source.{Generation, frame_size, left_of}
 use Rattle.m2v_make.specs.Making.{make_settings, stream_of}

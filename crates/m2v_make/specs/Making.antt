@@ -5,9 +5,9 @@ use Rattle.m2v_port.specs.Port.{Grows, GrowsByPrefix}
 use Rattle.m2v_set.specs.declared.settings.Settings.{Settings}
 use Rattle.m2v_set.specs.declared.settings.Scan.TheVariants.{Frames}
 use Rattle.m2v_set.specs.declared.settings.Level.TheVariants.{Main}
-use Rattle.m2v_stream.specs.Streams.{Coded}
+use Rattle.m2v_encode.specs.m2v_enc_stream.Streams.{Coded}
 use Rattle.m2v_encode.specs.Answers.{numbers_of}
-use Rattle.m2v_model.specs.Buffering.{HasFigures}
+use Rattle.m2v_check.specs.m2v_model.Buffering.{HasFigures}
 use Rattle.m2v_make.specs.declared.answer.Made.{Made}
 use Rattle.m2v_make.specs.declared.answer.MakeError.{MakeError}
 use Rattle.m2v_make.specs.declared.answer.MakeError.TheVariants.{Write, Memory}

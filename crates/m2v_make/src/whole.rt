@@ -2,7 +2,7 @@
 ghost use Rattle.std.specs.Prelude.{◌≡◌, [], IsTrue, IfOk, IfErr, IfSome, OnOk};
 ghost use Rattle.m2v_port.specs.Port.{Grows};
 ghost use Rattle.m2v_port.specs.Ends.{change, SinkStays};
-ghost use Rattle.m2v_model.specs.Buffering.{HasFigures};
+ghost use Rattle.m2v_check.specs.m2v_model.Buffering.{HasFigures};
 ghost use Rattle.m2v_check.specs.Meaning.{buffer_figures};
 ghost use Rattle.m2v_encode.specs.Answers.{numbers_of};
 ghost use Rattle.m2v_make.specs.Frames.{generated};
@@ -12,8 +12,8 @@ use crate::answer::{Made, MakeError};
 use crate::ends::{Lent, Unwanted};
 use crate::generated::Generated;
 use m2v_board::Gate;
+use m2v_check::decode::decode;
 use m2v_check::{Figures, Verdict, check};
-use m2v_decode::decode;
 use m2v_encode::{Summary, encode};
 use m2v_port::{PortError, Sink, SureFile, SureSink};
 use m2v_set::{Level, Scan, Settings};

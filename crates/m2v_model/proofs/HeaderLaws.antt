@@ -2,9 +2,9 @@
 use Rattle.std.proofs.Common.{ℕ, Bool, length, Option}
 use Rattle.m2v_bits.proofs.SyntaxLaws.{Lawful, done_lawful, here_lawful, rule_lawful, seq_lawful, renamed_lawful}
 use Rattle.m2v_bits.proofs.LeafLaws.{end_lawful}
-use Rattle.m2v_head.specs.declared.sequence.SequenceInfo.{SequenceInfo}
-use Rattle.m2v_head.specs.declared.picture.PictureInfo.{PictureInfo}
-use Rattle.m2v_head.proofs.HeaderLaws.{sequence_strict, sequence_extension_strict, group_strict, picture_strict, picture_extension_strict, matrices_strict}
+use Rattle.m2v_macroblock.specs.m2v_head.declared.sequence.SequenceInfo.{SequenceInfo}
+use Rattle.m2v_macroblock.specs.m2v_head.declared.picture.PictureInfo.{PictureInfo}
+use Rattle.m2v_macroblock.proofs.m2v_head.HeaderLaws.{sequence_strict, sequence_extension_strict, group_strict, picture_strict, picture_extension_strict, matrices_strict}
 use Rattle.m2v_model.specs.declared.fault.FaultKind.TheVariants.{Unsupported, Forbidden}
 use Rattle.m2v_model.specs.Faults.{InUnit, of_head}
 use Rattle.m2v_model.specs.Headers.{whole_header, size_at, sequence_extension_in, picture_in, f_code_at, f_codes_at, picture_extension_in, sequence_in, group_in, matrices_in}

@@ -3,15 +3,15 @@ use Rattle.std.proofs.Common.{◌≡◌, ℕ, ◌<◌, List, [], ◌∷◌, ℤ,
 use Rattle.std.specs.Prelude.{nat_lt}
 use Rattle.m2v_bits.specs.Syntax.{Spells}
 use Rattle.m2v_bits.proofs.LeafLaws.{done_spells, here_spells, renamed_spells, rule_spells}
-use Rattle.m2v_head.proofs.ElementLaws.{last_spells}
-use Rattle.m2v_block.proofs.Spellings.{block_spells}
-use Rattle.m2v_macro.specs.declared.values.SliceState.{SliceState}
-use Rattle.m2v_macro.specs.declared.values.PictureContext.{PictureContext}
-use Rattle.m2v_macro.specs.States.{after}
-use Rattle.m2v_macro.proofs.Ready.{ready_after}
-use Rattle.m2v_macro.proofs.Spellings.{then_spells, if_spells}
-use Rattle.m2v_macro.proofs.MacroSpellings.{macro_spells}
-use Rattle.m2v_recon.specs.Macro.{is_coded}
+use Rattle.m2v_macroblock.proofs.m2v_head.ElementLaws.{last_spells}
+use Rattle.m2v_macroblock.proofs.m2v_block.Spellings.{block_spells}
+use Rattle.m2v_macroblock.specs.m2v_macro.declared.values.SliceState.{SliceState}
+use Rattle.m2v_macroblock.specs.m2v_macro.declared.values.PictureContext.{PictureContext}
+use Rattle.m2v_macroblock.specs.m2v_macro.States.{after}
+use Rattle.m2v_macroblock.proofs.m2v_macro.Ready.{ready_after}
+use Rattle.m2v_macroblock.proofs.m2v_macro.Spellings.{then_spells, if_spells}
+use Rattle.m2v_macroblock.proofs.m2v_macro.MacroSpellings.{macro_spells}
+use Rattle.m2v_macroblock.specs.m2v_recon.Macro.{is_coded}
 use Rattle.m2v_macroblock.specs.Macroblocks.{Macroblock, kind_for, block_levels, predictor}
 use Rattle.m2v_macroblock.specs.Texts.{block_in_text, blocks_text, macroblock_text}
 use Rattle.m2v_macroblock.specs.Conditions.{IsPicture, AreWritable, AreLevels}

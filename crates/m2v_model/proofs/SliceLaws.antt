@@ -3,12 +3,12 @@ use Rattle.std.proofs.Common.{ℕ, zero, suc, ◌+◌, Bool, List, ◌∷◌, �
 use Rattle.m2v_bits.specs.Syntax.{Syntax, renamed}
 use Rattle.m2v_bits.proofs.SyntaxLaws.{Lawful, Strict, Takes, done_lawful, here_lawful, rule_lawful, seq_lawful, seq_strict, seq_strict_later, choose_lawful, renamed_lawful, repeated_strict}
 use Rattle.m2v_bits.proofs.LeafLaws.{zero_lawful}
-use Rattle.m2v_head.proofs.HeaderLaws.{slice_strict}
-use Rattle.m2v_block.proofs.BlockLaws.{block_strict}
-use Rattle.m2v_macro.specs.declared.values.MacroSyntax.{MacroSyntax}
-use Rattle.m2v_macro.specs.declared.values.SliceState.{SliceState}
-use Rattle.m2v_macro.specs.declared.values.PictureContext.{PictureContext}
-use Rattle.m2v_macro.proofs.MacroLaws.{increment_from_strict, macro_strict}
+use Rattle.m2v_macroblock.proofs.m2v_head.HeaderLaws.{slice_strict}
+use Rattle.m2v_macroblock.proofs.m2v_block.BlockLaws.{block_strict}
+use Rattle.m2v_macroblock.specs.m2v_macro.declared.values.MacroSyntax.{MacroSyntax}
+use Rattle.m2v_macroblock.specs.m2v_macro.declared.values.SliceState.{SliceState}
+use Rattle.m2v_macroblock.specs.m2v_macro.declared.values.PictureContext.{PictureContext}
+use Rattle.m2v_macroblock.proofs.m2v_macro.MacroLaws.{increment_from_strict, macro_strict}
 use Rattle.m2v_model.specs.declared.fault.FaultKind.TheVariants.{Truncated, SliceOrder, VectorOutside, MissingReference}
 use Rattle.m2v_model.specs.declared.setup.SliceSetup.{SliceSetup}
 use Rattle.m2v_model.specs.Faults.{of_head, of_block, of_macro}

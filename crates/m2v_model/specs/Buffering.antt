@@ -1,6 +1,6 @@
 -- The buffer's account of a stream (Annex C): what each picture takes, and when; and whether the buffer bears it.
 use Rattle.std.specs.Prelude.{◌≡◌, ℕ, zero, suc, ◌+◌, ◌-◌, ◌*◌, ◌/◌, ◌≤◌, ◌↔◌, ◌⊎◌, min, max, Bool, false, ◌&&◌, not, nat_eq, nat_le, if◌then◌else◌, List, [], ◌∷◌, ◌++◌, length, map, sum, drop, slice_index, slice_get, Option, Some, None}
-use Rattle.m2v_set.specs.Numbers.{field_time, frame_time, film_time}
+use Rattle.m2v_order.specs.m2v_set.Numbers.{field_time, frame_time, film_time}
 use Rattle.m2v_vbv.specs.Annex.{Start, Removal, Held}
 use Rattle.m2v_vbv.specs.Account.{account_of, arriving}
 use Rattle.m2v_vbv.specs.declared.fault.AccountFault.{AccountFault}

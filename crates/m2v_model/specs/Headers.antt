@@ -3,13 +3,13 @@
 use Rattle.std.specs.Prelude.{ℕ, ◌+◌, ◌-◌, ◌*◌, Bool, true, not, ◌&&◌, ◌||◌, nat_eq, nat_le, Option, Some, None}
 use Rattle.m2v_bits.specs.Syntax.{done, rule, renamed, ◌>>=◌}
 use Rattle.m2v_bits.specs.Leaves.{end_at}
-use Rattle.m2v_head.specs.declared.sequence.SequenceInfo.{SequenceInfo}
-use Rattle.m2v_head.specs.declared.sequence.SequenceExtension.{SequenceExtension}
-use Rattle.m2v_head.specs.declared.group.GroupInfo.{GroupInfo}
-use Rattle.m2v_head.specs.declared.picture.PictureInfo.{PictureInfo}
-use Rattle.m2v_head.specs.declared.picture.PictureExtension.{PictureExtension}
-use Rattle.m2v_head.specs.declared.matrix.MatrixInfo.{MatrixInfo}
-use Rattle.m2v_head.specs.Headers.{sequence_at, sequence_extension_at, group_at, picture_at, picture_extension_at, matrices_at}
+use Rattle.m2v_macroblock.specs.m2v_head.declared.sequence.SequenceInfo.{SequenceInfo}
+use Rattle.m2v_macroblock.specs.m2v_head.declared.sequence.SequenceExtension.{SequenceExtension}
+use Rattle.m2v_macroblock.specs.m2v_head.declared.group.GroupInfo.{GroupInfo}
+use Rattle.m2v_macroblock.specs.m2v_head.declared.picture.PictureInfo.{PictureInfo}
+use Rattle.m2v_macroblock.specs.m2v_head.declared.picture.PictureExtension.{PictureExtension}
+use Rattle.m2v_macroblock.specs.m2v_head.declared.matrix.MatrixInfo.{MatrixInfo}
+use Rattle.m2v_macroblock.specs.m2v_head.Headers.{sequence_at, sequence_extension_at, group_at, picture_at, picture_extension_at, matrices_at}
 use Rattle.m2v_model.specs.declared.fault.FaultKind.TheVariants.{Unsupported, Forbidden}
 use Rattle.m2v_model.specs.Faults.{InUnit, bits_left, of_head}
 use Rattle.m2v_model.specs.Looking.{look, passes}

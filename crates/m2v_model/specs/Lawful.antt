@@ -2,10 +2,10 @@
 -- headers and pictures in order. Each rule answers what breaks it, with the two numbers that it compares.
 use Rattle.std.specs.Prelude.{◌≡◌, ℕ, suc, ◌+◌, ◌*◌, ◌%◌, Bool, true, false, ◌&&◌, ◌||◌, not, nat_eq, nat_le, nat_lt, if◌then◌else◌, List, [], ◌∷◌, ◌++◌, slice_index, slice_index_or, Option, Some, None}
 use Rattle.std.specs.List.{flat_map}
-use Rattle.m2v_set.specs.declared.settings.Level.{Level}
-use Rattle.m2v_set.specs.declared.settings.Level.TheVariants.{Main, High1440, High}
-use Rattle.m2v_set.specs.declared.limits.Limits.{Limits}
-use Rattle.m2v_set.specs.Numbers.{frame_time, limits_of}
+use Rattle.m2v_order.specs.m2v_set.declared.settings.Level.{Level}
+use Rattle.m2v_order.specs.m2v_set.declared.settings.Level.TheVariants.{Main, High1440, High}
+use Rattle.m2v_order.specs.m2v_set.declared.limits.Limits.{Limits}
+use Rattle.m2v_order.specs.m2v_set.Numbers.{frame_time, limits_of}
 use Rattle.m2v_order.specs.Display.{Order}
 use Rattle.m2v_model.specs.declared.state.Sequence.{Sequence}
 use Rattle.m2v_model.specs.States.{width_of, height_of, is_frame}

@@ -1,13 +1,13 @@
 -- The rules on what predictions read: it lies inside the reference, and it was decoded (clauses 7.6.2 and 7.6.3.8).
 use Rattle.std.specs.Prelude.{ℕ, ◌+◌, Bool, false, ◌&&◌, ◌||◌, not, nat_eq, List, slice_index_or}
 use Rattle.std.specs.List.{list_all, range_with_len}
-use Rattle.m2v_plane.specs.Fields.{lines_there}
-use Rattle.m2v_pred.specs.declared.mode.Mode.{Mode}
-use Rattle.m2v_pred.specs.Motion.{parts_of, lines_read, other_field, own_field, is_dual}
-use Rattle.m2v_pred.specs.Patches.{part_count}
-use Rattle.m2v_pred.specs.Inside.{is_inside}
-use Rattle.m2v_macro.specs.declared.values.MacroSyntax.{MacroSyntax}
-use Rattle.m2v_macro.specs.declared.values.SliceState.{SliceState}
+use Rattle.m2v_order.specs.m2v_plane.Fields.{lines_there}
+use Rattle.m2v_macroblock.specs.m2v_pred.declared.mode.Mode.{Mode}
+use Rattle.m2v_macroblock.specs.m2v_pred.Motion.{parts_of, lines_read, other_field, own_field, is_dual}
+use Rattle.m2v_macroblock.specs.m2v_pred.Patches.{part_count}
+use Rattle.m2v_macroblock.specs.m2v_pred.Inside.{is_inside}
+use Rattle.m2v_macroblock.specs.m2v_macro.declared.values.MacroSyntax.{MacroSyntax}
+use Rattle.m2v_macroblock.specs.m2v_macro.declared.values.SliceState.{SliceState}
 use Rattle.m2v_macroblock.specs.Modes.{place_of, address_of, skipped_before, first_skipped, skipped_mode, mode_of}
 use Rattle.m2v_model.specs.declared.setup.SliceSetup.{SliceSetup}
 

@@ -1,10 +1,10 @@
 -- What is told of a stream, part by part: its sequence headers, group headers and decoded pictures.
 use Rattle.std.specs.Prelude.{ℕ, Bool, not, nat_eq, if◌then◌else◌, List, [], ◌∷◌, ◌++◌, map, filter, Option, Some, None}
-use Rattle.m2v_head.specs.declared.group.GroupInfo.{GroupInfo}
-use Rattle.m2v_head.specs.declared.picture.PictureInfo.{PictureInfo}
-use Rattle.m2v_head.specs.declared.picture.PictureExtension.{PictureExtension}
-use Rattle.m2v_plane.specs.Samples.{Samples, blank}
-use Rattle.m2v_plane.specs.Fields.{fields_of, sample_from, or_none}
+use Rattle.m2v_macroblock.specs.m2v_head.declared.group.GroupInfo.{GroupInfo}
+use Rattle.m2v_macroblock.specs.m2v_head.declared.picture.PictureInfo.{PictureInfo}
+use Rattle.m2v_macroblock.specs.m2v_head.declared.picture.PictureExtension.{PictureExtension}
+use Rattle.m2v_order.specs.m2v_plane.Samples.{Samples, blank}
+use Rattle.m2v_order.specs.m2v_plane.Fields.{fields_of, sample_from, or_none}
 use Rattle.m2v_macroblock.specs.Predictions.{View}
 use Rattle.m2v_model.specs.declared.state.Sequence.{Sequence}
 use Rattle.m2v_model.specs.declared.state.Open.{Open}

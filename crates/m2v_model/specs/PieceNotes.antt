@@ -1,7 +1,7 @@
 -- What a decoder tells of a piece: its headers and its picture, without samples.
 use Rattle.std.specs.Prelude.{ℕ, ◌+◌, ◌*◌, Bool, true, false, List, [], ◌∷◌, map, Option, Some, None}
-use Rattle.m2v_head.specs.declared.sequence.SequenceInfo.{SequenceInfo}
-use Rattle.m2v_head.specs.declared.sequence.SequenceExtension.{SequenceExtension}
+use Rattle.m2v_macroblock.specs.m2v_head.declared.sequence.SequenceInfo.{SequenceInfo}
+use Rattle.m2v_macroblock.specs.m2v_head.declared.sequence.SequenceExtension.{SequenceExtension}
 use Rattle.m2v_model.specs.declared.state.Sequence.{Sequence}
 use Rattle.m2v_model.specs.declared.notes.Notes.{Notes}
 use Rattle.m2v_model.specs.declared.notes.PictureNote.{PictureNote}

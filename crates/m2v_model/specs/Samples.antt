@@ -1,14 +1,14 @@
 -- The samples of pictures (clause 7.6): macroblock by macroblock in reading order.
 use Rattle.std.specs.Prelude.{ℕ, zero, suc, ◌+◌, List, [], ◌∷◌}
-use Rattle.m2v_plane.specs.declared.planes.Plane.{Plane}
-use Rattle.m2v_plane.specs.declared.planes.Plane.TheVariants.{Y, Cb, Cr}
-use Rattle.m2v_plane.specs.declared.planes.Lines.{Lines}
-use Rattle.m2v_plane.specs.declared.planes.Lines.TheVariants.{Whole}
-use Rattle.m2v_plane.specs.Samples.{Samples, with_square}
-use Rattle.m2v_pred.specs.declared.mode.MbPlace.{MbPlace}
-use Rattle.m2v_pred.specs.Motion.{own_lines}
-use Rattle.m2v_pred.specs.Predicted.{predicted}
-use Rattle.m2v_macro.specs.declared.values.SliceState.{SliceState}
+use Rattle.m2v_order.specs.m2v_plane.declared.planes.Plane.{Plane}
+use Rattle.m2v_order.specs.m2v_plane.declared.planes.Plane.TheVariants.{Y, Cb, Cr}
+use Rattle.m2v_order.specs.m2v_plane.declared.planes.Lines.{Lines}
+use Rattle.m2v_order.specs.m2v_plane.declared.planes.Lines.TheVariants.{Whole}
+use Rattle.m2v_order.specs.m2v_plane.Samples.{Samples, with_square}
+use Rattle.m2v_macroblock.specs.m2v_pred.declared.mode.MbPlace.{MbPlace}
+use Rattle.m2v_macroblock.specs.m2v_pred.Motion.{own_lines}
+use Rattle.m2v_macroblock.specs.m2v_pred.Predicted.{predicted}
+use Rattle.m2v_macroblock.specs.m2v_macro.declared.values.SliceState.{SliceState}
 use Rattle.m2v_macroblock.specs.Macroblocks.{Macroblock, after_macroblock}
 use Rattle.m2v_macroblock.specs.Modes.{place_of, address_of, skipped_before, first_skipped, skipped_mode}
 use Rattle.m2v_macroblock.specs.Predictions.{View, prediction_of, sample_at}

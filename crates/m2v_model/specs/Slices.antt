@@ -3,15 +3,15 @@
 use Rattle.std.specs.Prelude.{ℕ, zero, suc, ◌+◌, ◌-◌, ◌*◌, Bool, not, nat_lt, List, [], ◌∷◌, ◌++◌, length, filter, replicate, ℤ, pos, ◌+ℤ◌, nat_abs}
 use Rattle.m2v_bits.specs.Syntax.{done, here, rule, choose, renamed, repeated, ◌>>=◌}
 use Rattle.m2v_bits.specs.Leaves.{zero_at}
-use Rattle.m2v_head.specs.declared.slice.SliceInfo.{SliceInfo}
-use Rattle.m2v_head.specs.Headers as head
-use Rattle.m2v_block.specs.Blocks.{block_at}
-use Rattle.m2v_macro.specs.declared.values.MacroSyntax.{MacroSyntax}
-use Rattle.m2v_macro.specs.declared.values.SliceState.{SliceState}
-use Rattle.m2v_macro.specs.declared.values.PictureContext.{PictureContext}
-use Rattle.m2v_macro.specs.Macros.{increment_at, macro_at}
-use Rattle.m2v_macro.specs.States.{after, at_start}
-use Rattle.m2v_recon.specs.Macro.{is_coded}
+use Rattle.m2v_macroblock.specs.m2v_head.declared.slice.SliceInfo.{SliceInfo}
+use Rattle.m2v_macroblock.specs.m2v_head.Headers as head
+use Rattle.m2v_macroblock.specs.m2v_block.Blocks.{block_at}
+use Rattle.m2v_macroblock.specs.m2v_macro.declared.values.MacroSyntax.{MacroSyntax}
+use Rattle.m2v_macroblock.specs.m2v_macro.declared.values.SliceState.{SliceState}
+use Rattle.m2v_macroblock.specs.m2v_macro.declared.values.PictureContext.{PictureContext}
+use Rattle.m2v_macroblock.specs.m2v_macro.Macros.{increment_at, macro_at}
+use Rattle.m2v_macroblock.specs.m2v_macro.States.{after, at_start}
+use Rattle.m2v_macroblock.specs.m2v_recon.Macro.{is_coded}
 use Rattle.m2v_macroblock.specs.Macroblocks.{Macroblock, kind_for, predictor, after_macroblock}
 use Rattle.m2v_model.specs.declared.fault.FaultKind.TheVariants.{Truncated, SliceOrder, VectorOutside, MissingReference}
 use Rattle.m2v_model.specs.declared.setup.SliceSetup.{SliceSetup}

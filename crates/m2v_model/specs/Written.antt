@@ -1,8 +1,8 @@
 -- What is written of a macroblock is read again as that macroblock.
 use Rattle.std.specs.Prelude.{◌≡◌, true}
 use Rattle.m2v_bits.specs.Syntax.{Spells}
-use Rattle.m2v_macro.specs.declared.values.SliceState.{SliceState}
-use Rattle.m2v_macro.specs.Conditions.{IsReady, IsMacro}
+use Rattle.m2v_macroblock.specs.m2v_macro.declared.values.SliceState.{SliceState}
+use Rattle.m2v_macroblock.specs.m2v_macro.Conditions.{IsReady, IsMacro}
 use Rattle.m2v_macroblock.specs.Macroblocks.{Macroblock}
 use Rattle.m2v_macroblock.specs.Texts.{macroblock_text}
 use Rattle.m2v_macroblock.specs.Conditions.{IsPicture, AreDc, AreBlocks, AreLevels}

@@ -1,5 +1,5 @@
 ghost use Rattle.std.specs.Prelude.{ℕ, List, Bool, All};
-ghost use Rattle.m2v_macro.specs.declared.values.SliceState.{SliceState};
+ghost use Rattle.m2v_macroblock.specs.m2v_macro.declared.values.SliceState.{SliceState};
 ghost use Rattle.m2v_macroblock.specs.Macroblocks.{Macroblock};
 ghost use Rattle.m2v_model.specs.declared.setup.SliceSetup.{SliceSetup};
 ghost use Rattle.m2v_model.specs.Pictures.{Pictures};

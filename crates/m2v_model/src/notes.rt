@@ -1,4 +1,4 @@
-use m2v_head::{PictureExtension, PictureInfo, SequenceExtension, SequenceInfo};
+use m2v_macroblock::head::{PictureExtension, PictureInfo, SequenceExtension, SequenceInfo};
 
 /// What a decoder tells of a piece: a picture with the header units before it.
 #[derive(Debug, Drop, PartialEq, Eq)]

@@ -1,5 +1,5 @@
-use m2v_macro::PictureContext;
-use m2v_plane::Dims;
+use m2v_macroblock::macro_library::PictureContext;
+use m2v_order::plane::Dims;
 
 /// What the headers in force say of the slices of a picture.
 #[derive(Clone, Copy, Debug, PartialEq, Eq)]

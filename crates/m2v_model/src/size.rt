@@ -1,9 +1,9 @@
 //! The size of a sequence's frames.
 ghost use Rattle.std.specs.Prelude.{◌≡◌, ◌<◌, ◌^◌};
-ghost use Rattle.m2v_plane.specs.Sizes.{IsSize};
+ghost use Rattle.m2v_order.specs.m2v_plane.Sizes.{IsSize};
 
 use crate::Sequence;
-use m2v_plane::Dims;
+use m2v_order::plane::Dims;
 
 impl Sequence {
     ghost use Rattle.m2v_model.specs.States.{width_of, height_of, columns_of, rows_of, dims_of};

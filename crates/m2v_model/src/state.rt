@@ -1,4 +1,4 @@
-use m2v_head::{PictureExtension, PictureInfo, SequenceExtension, SequenceInfo};
+use m2v_macroblock::head::{PictureExtension, PictureInfo, SequenceExtension, SequenceInfo};
 
 /// A sequence header and the sequence extension behind it.
 #[derive(Clone, Copy, Debug, PartialEq, Eq)]

@@ -3,10 +3,10 @@ ghost use Rattle.m2v_model.specs.Faults as faults;
 
 use crate::fault::FaultKind;
 use m2v_bits::BitReader;
-use m2v_block::BlockFault;
-use m2v_head::HeadFault;
-use m2v_macro::MacroFault;
-use m2v_vlc::CodeFault;
+use m2v_macroblock::block::BlockFault;
+use m2v_macroblock::head::HeadFault;
+use m2v_macroblock::macro_library::MacroFault;
+use m2v_macroblock::vlc::CodeFault;
 
 /// A fault inside a unit: its kind, and how many bits of the unit are left at its place.
 #[derive(Clone, Copy, Debug, PartialEq, Eq)]

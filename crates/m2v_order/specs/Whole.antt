@@ -3,7 +3,7 @@ use Rattle.std.specs.Prelude.{ℕ, ◌≡◌, ◌≤◌, ◌==◌, true, not, �
 use Rattle.std.specs.List.{flat_map}
 use Rattle.m2v_set.specs.declared.settings.Settings.{Settings}
 use Rattle.m2v_set.specs.declared.settings.Scan.{Scan}
-use Rattle.m2v_plane.specs.Samples.{Samples}
+use Rattle.m2v_set.specs.m2v_plane.Samples.{Samples}
 use Rattle.m2v_order.specs.declared.jobs.PictureJob.{PictureJob}
 use Rattle.m2v_order.specs.declared.jobs.GroupJobs.{GroupJobs}
 use Rattle.m2v_order.specs.Coding.{structures}

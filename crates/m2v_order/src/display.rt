@@ -1,7 +1,7 @@
 ghost use Rattle.std.specs.Prelude.{◌≡◌, None};
 ghost use Rattle.m2v_order.specs.Display.{opening, shown, held, emptied};
 
-use m2v_plane::Frame;
+use m2v_set::plane::Frame;
 use std::marker::Model;
 use std::mem;
 
@@ -17,7 +17,7 @@ pub struct DisplayQueue {
 }
 
 impl Model for DisplayQueue {
-    ghost use Rattle.m2v_plane.specs.Samples.{Samples};
+    ghost use Rattle.m2v_set.specs.m2v_plane.Samples.{Samples};
     ghost use Rattle.m2v_order.specs.Display.{Holder};
 
     ghost Value = { Holder Samples };

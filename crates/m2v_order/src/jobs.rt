@@ -1,4 +1,4 @@
-use m2v_plane::Frame;
+use m2v_set::plane::Frame;
 
 /// A picture to be coded.
 #[derive(Clone, Copy, Debug, PartialEq, Eq)]

@@ -11,6 +11,7 @@ mod times;
 pub use display::DisplayQueue;
 pub use jobs::{GroupJobs, PictureJob};
 pub use laws::{law_display, law_groups};
+pub use m2v_set::plane;
 pub use reorder::Reorder;
 pub use times::{intervals, repeat_first_field, top_field_first};
 

@@ -1,5 +1,5 @@
 ghost use Rattle.std.specs.Prelude.{◌≡◌, ◌+◌, ◌<◌, ◌≤◌, ◌^◌, ◌↔◌, false, All, length, IsSome, IsTrue, IfOk, IfErr, OnOk, OnErr, IfSome, OnSome, IfNone};
-ghost use Rattle.m2v_plane.specs.Samples.{Samples};
+ghost use Rattle.m2v_set.specs.m2v_plane.Samples.{Samples};
 ghost use Rattle.m2v_set.specs.Numbers.{dims_of};
 ghost use Rattle.m2v_order.specs.declared.jobs.PictureJob.{PictureJob};
 ghost use Rattle.m2v_order.specs.Groups.{opening, first_of, next_intra, is_due, group_of, after_push, after_end, after_group};
@@ -8,8 +8,8 @@ ghost use Rattle.m2v_order.specs.Whole.{IsGroupOf, handed};
 use crate::Memory;
 use crate::coding::{group_pictures, intra_at};
 use crate::jobs::GroupJobs;
-use m2v_plane::Frame;
 use m2v_set::Passed;
+use m2v_set::plane::Frame;
 use std::alloc::{AllocError, Global};
 use std::marker::Model;
 use std::mem;
@@ -29,7 +29,7 @@ pub struct Reorder {
 
 impl Model for Reorder {
     ghost use Rattle.std.specs.Prelude.{◌≡◌, ◌<◌, All};
-    ghost use Rattle.m2v_plane.specs.Samples.{Samples};
+    ghost use Rattle.m2v_set.specs.m2v_plane.Samples.{Samples};
     ghost use Rattle.m2v_set.specs.Numbers.{dims_of};
     ghost use Rattle.m2v_order.specs.Groups.{Queue, IsSoundQueue};
 

@@ -7,26 +7,26 @@ use Rattle.m2v_plane.specs.declared.dims.Dims.{Dims}
 use Rattle.m2v_plane.specs.Sizes.{IsSize}
 use Rattle.m2v_plane.specs.Samples.{Samples}
 use Rattle.m2v_model.specs.declared.state.State.{State}
-use Rattle.m2v_piece.specs.declared.answer.Piece.{Piece}
-use Rattle.m2v_piece.specs.declared.answer.DecodeError.{DecodeError}
-use Rattle.m2v_piece.specs.Cutting.{Cutting}
-use Rattle.m2v_picture.specs.declared.gallery.FramesAtHand.{FramesAtHand}
-use Rattle.m2v_picture.specs.Frames.{store_of}
-use Rattle.m2v_batch.specs.declared.picture.BatchPicture.{BatchPicture}
-use Rattle.m2v_batch.specs.declared.picture.FramePlace.{FramePlace}
-use Rattle.m2v_batch.specs.declared.picture.FramePlace.TheVariants.{Older, Newer, Waiting, Behind}
-use Rattle.m2v_batch.specs.Jobs.{older_before, newer_before}
-use Rattle.m2v_batch.specs.Batches.{Batch, headers, Rows, frame_at, IsBatch}
-use Rattle.m2v_batch.specs.Painted.{all_rows, older_behind, newer_behind}
-use Rattle.m2v_batch.proofs.Sizes.{count_is}
-use Rattle.m2v_batch.proofs.FrameSizes.{behind_size}
-use Rattle.m2v_filling.specs.Filled.{with_frames, is_there, AreThere, HaveDims}
-use Rattle.m2v_filling.proofs.Exchanging.{there_exchanged}
-use Rattle.m2v_behind.specs.Behind.{Tracks}
-use Rattle.m2v_behind.proofs.NextFrames.{tracks_first}
+use Rattle.m2v_dec_piece.specs.declared.answer.Piece.{Piece}
+use Rattle.m2v_dec_piece.specs.declared.answer.DecodeError.{DecodeError}
+use Rattle.m2v_dec_piece.specs.Cutting.{Cutting}
+use Rattle.m2v_dec_batch.specs.m2v_dec_picture.declared.gallery.FramesAtHand.{FramesAtHand}
+use Rattle.m2v_dec_batch.specs.m2v_dec_picture.Frames.{store_of}
+use Rattle.m2v_dec_batch.specs.declared.picture.BatchPicture.{BatchPicture}
+use Rattle.m2v_dec_batch.specs.declared.picture.FramePlace.{FramePlace}
+use Rattle.m2v_dec_batch.specs.declared.picture.FramePlace.TheVariants.{Older, Newer, Waiting, Behind}
+use Rattle.m2v_dec_batch.specs.Jobs.{older_before, newer_before}
+use Rattle.m2v_dec_batch.specs.Batches.{Batch, headers, Rows, frame_at, IsBatch}
+use Rattle.m2v_dec_batch.specs.Painted.{all_rows, older_behind, newer_behind}
+use Rattle.m2v_dec_batch.proofs.Sizes.{count_is}
+use Rattle.m2v_dec_batch.proofs.FrameSizes.{behind_size}
+use Rattle.m2v_dec_batch.specs.Filled.{with_frames, is_there, AreThere, HaveDims}
+use Rattle.m2v_dec_batch.proofs.Exchanging.{there_exchanged}
+use Rattle.m2v_dec_batch.specs.Behind.{Tracks}
+use Rattle.m2v_dec_batch.proofs.NextFrames.{tracks_first}
 use Rattle.m2v_model.specs.Pictures.{Store}
-use Rattle.m2v_headers.specs.Headers.{IsBetween}
-use Rattle.m2v_decoder.specs.Decoding.{Decoding}
+use Rattle.m2v_dec_batch.specs.m2v_dec_rows.Headers.{IsBetween}
+use Rattle.m2v_dec_batch.specs.m2v_decode.Decoding.{Decoding}
 use Rattle.m2v_pardec.specs.declared.taking.Stop.{Stop}
 use Rattle.m2v_pardec.specs.declared.taking.Stop.TheVariants.{More}
 use Rattle.m2v_pardec.specs.declared.taking.Taken.{Taken}

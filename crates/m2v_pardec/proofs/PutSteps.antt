@@ -7,26 +7,26 @@ use Rattle.m2v_port.specs.Ends.{Change}
 use Rattle.m2v_port.specs.Port.{Grows}
 use Rattle.m2v_model.specs.declared.state.State.{State}
 use Rattle.m2v_model.specs.ByPieces.{Between}
-use Rattle.m2v_picture.specs.Frames.{store_of}
-use Rattle.m2v_piece.specs.declared.answer.Piece.{Piece}
-use Rattle.m2v_piece.specs.declared.answer.DecodeError.{DecodeError}
-use Rattle.m2v_piece.specs.Sound.{IsSoundPiece}
-use Rattle.m2v_batch.specs.declared.pieces.DecodePiece.TheVariants.{Rebuilt}
-use Rattle.m2v_batch.specs.declared.picture.Header.{Header}
-use Rattle.m2v_batch.specs.declared.picture.BatchPicture.{BatchPicture}
-use Rattle.m2v_batch.specs.Jobs.{first_job, jobs_of}
-use Rattle.m2v_batch.specs.Batches.{Batch, headers, IsBatch}
-use Rattle.m2v_batch.specs.Below.{first_none, first_more, first_upto}
+use Rattle.m2v_dec_batch.specs.m2v_dec_picture.Frames.{store_of}
+use Rattle.m2v_dec_piece.specs.declared.answer.Piece.{Piece}
+use Rattle.m2v_dec_piece.specs.declared.answer.DecodeError.{DecodeError}
+use Rattle.m2v_dec_piece.specs.Sound.{IsSoundPiece}
+use Rattle.m2v_dec_batch.specs.declared.pieces.DecodePiece.TheVariants.{Rebuilt}
+use Rattle.m2v_dec_batch.specs.declared.picture.Header.{Header}
+use Rattle.m2v_dec_batch.specs.declared.picture.BatchPicture.{BatchPicture}
+use Rattle.m2v_dec_batch.specs.Jobs.{first_job, jobs_of}
+use Rattle.m2v_dec_batch.specs.Batches.{Batch, headers, IsBatch}
+use Rattle.m2v_dec_batch.specs.Below.{first_none, first_more, first_upto}
 use Rattle.m2v_plane.specs.Fields.{or_none}
-use Rattle.m2v_batch.specs.Pieces.{row_of}
-use Rattle.m2v_batch.specs.Values.{value_of}
-use Rattle.m2v_batch.proofs.Sizes.{rows_are, batch_jobs, header_is, first_next}
-use Rattle.m2v_behind.specs.Behind.{Tracks, AreRebuilt}
-use Rattle.m2v_behind.proofs.NextFrames.{noted, tracks_next}
-use Rattle.m2v_behind.proofs.RebuiltRows.{rows_rebuilt}
-use Rattle.m2v_decoder.specs.Decoding.{Decoding, Onward, Refuses, due_of, whole_of}
-use Rattle.m2v_decoder.specs.Rebuilt.{IsRebuilt, refs_for, rows_set, frame_begun, frames_behind}
-use Rattle.m2v_decode.specs.Progress.{raw_of, Cuts, HasPut}
+use Rattle.m2v_dec_batch.specs.Pieces.{row_of}
+use Rattle.m2v_dec_batch.specs.Values.{value_of}
+use Rattle.m2v_dec_batch.proofs.Sizes.{rows_are, batch_jobs, header_is, first_next}
+use Rattle.m2v_dec_batch.specs.Behind.{Tracks, AreRebuilt}
+use Rattle.m2v_dec_batch.proofs.NextFrames.{noted, tracks_next}
+use Rattle.m2v_dec_batch.proofs.RebuiltRows.{rows_rebuilt}
+use Rattle.m2v_dec_batch.specs.m2v_decode.Decoding.{Decoding, Onward, Refuses, due_of, whole_of}
+use Rattle.m2v_dec_batch.specs.m2v_decode.Rebuilt.{IsRebuilt, refs_for, rows_set, frame_begun, frames_behind}
+use Rattle.m2v_dec_batch.specs.m2v_decode.Progress.{raw_of, Cuts, HasPut}
 use Rattle.m2v_pardec.specs.Ahead.{AreInOrder}
 use Rattle.m2v_pardec.specs.Taken.{IsTold, AreTold, piece_of}
 use Rattle.m2v_pardec.specs.Rows.{RowsFrom, AreThere, samples_at}

@@ -3,9 +3,9 @@ use Rattle.std.proofs.Common.{◌≡◌, ℕ, ◌+◌, ◌*◌, ◌^◌, ◌<◌
 use Rattle.std.specs.Prelude.{IfOk, nat_eq, if◌then◌else◌, option_to_list}
 use Rattle.std.proofs.lemmas.List.{append-nil}
 use Rattle.m2v_port.proofs.Runs.{rose_since}
-use Rattle.m2v_piece.specs.declared.answer.Piece.{Piece}
-use Rattle.m2v_piece.specs.Cutting.{Cutting}
-use Rattle.m2v_decoder.specs.Decoding.{Decoding}
+use Rattle.m2v_dec_piece.specs.declared.answer.Piece.{Piece}
+use Rattle.m2v_dec_piece.specs.Cutting.{Cutting}
+use Rattle.m2v_dec_batch.specs.m2v_decode.Decoding.{Decoding}
 use Rattle.m2v_pardec.specs.declared.taking.Stop.{Stop}
 use Rattle.m2v_pardec.specs.declared.taking.Stop.TheVariants.{More, End, Error}
 use Rattle.m2v_pardec.specs.declared.taking.Taken.{Taken}

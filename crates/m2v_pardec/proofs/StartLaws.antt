@@ -6,14 +6,14 @@ use Rattle.m2v_plane.specs.Samples.{Samples}
 use Rattle.m2v_model.specs.declared.state.State.{State}
 use Rattle.m2v_model.specs.Pieces.{most_input}
 use Rattle.m2v_model.specs.Pictures.{Store}
-use Rattle.m2v_piece.specs.declared.answer.Piece.{Piece}
-use Rattle.m2v_piece.specs.declared.answer.DecodeError.{DecodeError}
-use Rattle.m2v_piece.specs.Cutting.{Cutting}
-use Rattle.m2v_picture.specs.declared.gallery.FramesAtHand.{FramesAtHand}
-use Rattle.m2v_filling.specs.Filled.{with_frames, AreThere, HaveDims}
-use Rattle.m2v_behind.specs.Behind.{Tracks}
-use Rattle.m2v_behind.proofs.NextFrames.{tracks_first}
-use Rattle.m2v_decoder.specs.Decoding.{Decoding}
+use Rattle.m2v_dec_piece.specs.declared.answer.Piece.{Piece}
+use Rattle.m2v_dec_piece.specs.declared.answer.DecodeError.{DecodeError}
+use Rattle.m2v_dec_piece.specs.Cutting.{Cutting}
+use Rattle.m2v_dec_batch.specs.m2v_dec_picture.declared.gallery.FramesAtHand.{FramesAtHand}
+use Rattle.m2v_dec_batch.specs.Filled.{with_frames, AreThere, HaveDims}
+use Rattle.m2v_dec_batch.specs.Behind.{Tracks}
+use Rattle.m2v_dec_batch.proofs.NextFrames.{tracks_first}
+use Rattle.m2v_dec_batch.specs.m2v_decode.Decoding.{Decoding}
 use Rattle.m2v_pardec.specs.declared.taking.Stop.{Stop}
 use Rattle.m2v_pardec.specs.declared.taking.Stop.TheVariants.{More, End, Error}
 use Rattle.m2v_pardec.specs.declared.taking.Before.{Before}

@@ -5,13 +5,13 @@ use Rattle.std.proofs.lemmas.List.{append-nil, drop_more, map-append}
 use Rattle.std.proofs.lemmas.Option.{slice_get_within, get_or_from_slice_get}
 use Rattle.m2v_model.specs.Pieces.{most_input}
 use Rattle.m2v_model.specs.declared.state.State.{State}
-use Rattle.m2v_piece.specs.declared.answer.Piece.{Piece}
-use Rattle.m2v_rows.specs.declared.opened.Opened.{Opened}
-use Rattle.m2v_headers.specs.Headers.{IsBetween, TellsHeaders, Front, IsOpenedBy}
-use Rattle.m2v_batch.specs.declared.picture.BatchPicture.{BatchPicture}
-use Rattle.m2v_batch.specs.Batches.{Batch, IsBatch}
-use Rattle.m2v_filling.specs.Filled.{batch_of}
-use Rattle.m2v_filling.proofs.Exchanging.{any_there, batch_none}
+use Rattle.m2v_dec_piece.specs.declared.answer.Piece.{Piece}
+use Rattle.m2v_dec_batch.specs.m2v_dec_rows.declared.opened.Opened.{Opened}
+use Rattle.m2v_dec_batch.specs.m2v_dec_rows.Headers.{IsBetween, TellsHeaders, Front, IsOpenedBy}
+use Rattle.m2v_dec_batch.specs.declared.picture.BatchPicture.{BatchPicture}
+use Rattle.m2v_dec_batch.specs.Batches.{Batch, IsBatch}
+use Rattle.m2v_dec_batch.specs.Filled.{batch_of}
+use Rattle.m2v_dec_batch.proofs.Exchanging.{any_there, batch_none}
 use Rattle.m2v_pardec.specs.declared.taking.Stop.{Stop}
 use Rattle.m2v_pardec.specs.declared.taking.Stop.TheVariants.{More, End, Error}
 use Rattle.m2v_pardec.specs.declared.taking.Before.{Before}

@@ -2,19 +2,19 @@
 use Rattle.std.specs.Prelude.{◌≡◌, ℕ, ◌<◌, ◌≤◌, ◌^◌, false, List, [], ◌++◌, length, map, Option, is_some, option_to_list}
 use Rattle.m2v_model.specs.declared.state.State.{State}
 use Rattle.m2v_model.specs.Pieces.{most_input}
-use Rattle.m2v_piece.specs.declared.answer.Piece.{Piece}
-use Rattle.m2v_piece.specs.declared.answer.DecodeError.{DecodeError}
-use Rattle.m2v_piece.specs.declared.answer.DecodeError.TheVariants as errors
-use Rattle.m2v_piece.specs.Cutting.{Cutting}
-use Rattle.m2v_picture.specs.declared.gallery.FramesAtHand.{FramesAtHand}
-use Rattle.m2v_picture.specs.Frames.{store_of}
-use Rattle.m2v_batch.specs.declared.picture.BatchPicture.{BatchPicture}
-use Rattle.m2v_batch.specs.Jobs.{older_before, newer_before}
-use Rattle.m2v_batch.specs.Batches.{Batch, headers, IsBatch}
-use Rattle.m2v_filling.specs.Filled.{is_there, with_frames}
-use Rattle.m2v_behind.specs.Behind.{Tracks}
-use Rattle.m2v_headers.specs.Headers.{IsBetween}
-use Rattle.m2v_decoder.specs.Decoding.{Decoding}
+use Rattle.m2v_dec_piece.specs.declared.answer.Piece.{Piece}
+use Rattle.m2v_dec_piece.specs.declared.answer.DecodeError.{DecodeError}
+use Rattle.m2v_dec_piece.specs.declared.answer.DecodeError.TheVariants as errors
+use Rattle.m2v_dec_piece.specs.Cutting.{Cutting}
+use Rattle.m2v_dec_batch.specs.m2v_dec_picture.declared.gallery.FramesAtHand.{FramesAtHand}
+use Rattle.m2v_dec_batch.specs.m2v_dec_picture.Frames.{store_of}
+use Rattle.m2v_dec_batch.specs.declared.picture.BatchPicture.{BatchPicture}
+use Rattle.m2v_dec_batch.specs.Jobs.{older_before, newer_before}
+use Rattle.m2v_dec_batch.specs.Batches.{Batch, headers, IsBatch}
+use Rattle.m2v_dec_batch.specs.Filled.{is_there, with_frames}
+use Rattle.m2v_dec_batch.specs.Behind.{Tracks}
+use Rattle.m2v_dec_batch.specs.m2v_dec_rows.Headers.{IsBetween}
+use Rattle.m2v_dec_batch.specs.m2v_decode.Decoding.{Decoding}
 use Rattle.m2v_pardec.specs.declared.taking.Stop.{Stop}
 use Rattle.m2v_pardec.specs.declared.taking.Stop.TheVariants.{More}
 use Rattle.m2v_pardec.specs.declared.taking.Taken.{Taken}

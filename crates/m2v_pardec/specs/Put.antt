@@ -1,16 +1,16 @@
 -- Pictures of a batch that was decoded, taken into the decoder one after another.
 use Rattle.std.specs.Prelude.{◌≡◌, ℕ, ◌+◌, ◌<◌, ◌≤◌, true, false, List, [], ◌++◌, slice_get, Option, Some}
 use Rattle.m2v_model.specs.declared.state.State.{State}
-use Rattle.m2v_piece.specs.declared.answer.Piece.{Piece}
-use Rattle.m2v_piece.specs.declared.answer.DecodeError.{DecodeError}
+use Rattle.m2v_dec_piece.specs.declared.answer.Piece.{Piece}
+use Rattle.m2v_dec_piece.specs.declared.answer.DecodeError.{DecodeError}
 use Rattle.m2v_model.specs.Pieces.{most_input}
-use Rattle.m2v_piece.specs.Cutting.{Cutting, IsReading}
-use Rattle.m2v_picture.specs.Frames.{store_of}
-use Rattle.m2v_batch.specs.declared.picture.BatchPicture.{BatchPicture}
-use Rattle.m2v_batch.specs.Jobs.{first_job, jobs_of}
-use Rattle.m2v_batch.specs.Batches.{Batch, headers, IsBatch}
-use Rattle.m2v_behind.specs.Behind.{Tracks}
-use Rattle.m2v_decoder.specs.Decoding.{Decoding}
+use Rattle.m2v_dec_piece.specs.Cutting.{Cutting, IsReading}
+use Rattle.m2v_dec_batch.specs.m2v_dec_picture.Frames.{store_of}
+use Rattle.m2v_dec_batch.specs.declared.picture.BatchPicture.{BatchPicture}
+use Rattle.m2v_dec_batch.specs.Jobs.{first_job, jobs_of}
+use Rattle.m2v_dec_batch.specs.Batches.{Batch, headers, IsBatch}
+use Rattle.m2v_dec_batch.specs.Behind.{Tracks}
+use Rattle.m2v_dec_batch.specs.m2v_decode.Decoding.{Decoding}
 use Rattle.m2v_pardec.specs.Ahead.{Later, behind, later_of, AreInOrder, IsAhead, FailsBy}
 use Rattle.m2v_pardec.specs.declared.taking.Stop.{Stop}
 use Rattle.m2v_pardec.specs.declared.taking.Stop.TheVariants.{More, End, Error}

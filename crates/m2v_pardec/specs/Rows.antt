@@ -2,11 +2,11 @@
 use Rattle.std.specs.Prelude.{◌≡◌, ℕ, ◌+◌, ◌<◌}
 use Rattle.m2v_plane.specs.Samples.{Samples}
 use Rattle.m2v_plane.specs.Fields.{or_none}
-use Rattle.m2v_batch.specs.declared.pieces.DecodePiece.TheVariants.{Rebuilt}
-use Rattle.m2v_batch.specs.Pieces.{row_of}
-use Rattle.m2v_batch.specs.Jobs.{jobs_of}
-use Rattle.m2v_batch.specs.Batches.{Batch, headers}
-use Rattle.m2v_batch.specs.Values.{value_of}
+use Rattle.m2v_dec_batch.specs.declared.pieces.DecodePiece.TheVariants.{Rebuilt}
+use Rattle.m2v_dec_batch.specs.Pieces.{row_of}
+use Rattle.m2v_dec_batch.specs.Jobs.{jobs_of}
+use Rattle.m2v_dec_batch.specs.Batches.{Batch, headers}
+use Rattle.m2v_dec_batch.specs.Values.{value_of}
 
 -- rows of a batch, from a job on
 pub record RowsFrom : Type 0 where

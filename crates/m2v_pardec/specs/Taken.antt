@@ -6,19 +6,19 @@ use Rattle.m2v_model.specs.declared.state.State.{State}
 use Rattle.m2v_model.specs.Units.{cut}
 use Rattle.m2v_model.specs.Pieces.{most_input}
 use Rattle.m2v_model.specs.States.{at_first}
-use Rattle.m2v_piece.specs.declared.answer.Piece.{Piece}
-use Rattle.m2v_piece.specs.declared.answer.DecodeError.TheVariants as errors
-use Rattle.m2v_piece.specs.Cutting.{Cutting, IsReading}
-use Rattle.m2v_rows.specs.declared.opened.Opened.{Opened}
-use Rattle.m2v_rows.specs.Opened.{IsOpened, whole_of}
-use Rattle.m2v_headers.specs.Headers.{IsBetween, TellsHeaders}
-use Rattle.m2v_halves.specs.OnePicture.{HasOnePicture}
-use Rattle.m2v_batch.specs.declared.picture.BatchPicture.{BatchPicture}
-use Rattle.m2v_batch.specs.Jobs.{older_before, newer_before}
-use Rattle.m2v_batch.specs.Batches.{Batch, headers, IsBatch}
-use Rattle.m2v_filling.specs.declared.at_hand.FramesThere.{FramesThere}
-use Rattle.m2v_filling.specs.Filled.{with_picture, is_there}
-use Rattle.m2v_decoder.specs.Decoding.{Decoding}
+use Rattle.m2v_dec_piece.specs.declared.answer.Piece.{Piece}
+use Rattle.m2v_dec_piece.specs.declared.answer.DecodeError.TheVariants as errors
+use Rattle.m2v_dec_piece.specs.Cutting.{Cutting, IsReading}
+use Rattle.m2v_dec_batch.specs.m2v_dec_rows.declared.opened.Opened.{Opened}
+use Rattle.m2v_dec_batch.specs.m2v_dec_rows.Opened.{IsOpened, whole_of}
+use Rattle.m2v_dec_batch.specs.m2v_dec_rows.Headers.{IsBetween, TellsHeaders}
+use Rattle.m2v_dec_batch.specs.m2v_dec_rows.OnePicture.{HasOnePicture}
+use Rattle.m2v_dec_batch.specs.declared.picture.BatchPicture.{BatchPicture}
+use Rattle.m2v_dec_batch.specs.Jobs.{older_before, newer_before}
+use Rattle.m2v_dec_batch.specs.Batches.{Batch, headers, IsBatch}
+use Rattle.m2v_dec_batch.specs.declared.at_hand.FramesThere.{FramesThere}
+use Rattle.m2v_dec_batch.specs.Filled.{with_picture, is_there}
+use Rattle.m2v_dec_batch.specs.m2v_decode.Decoding.{Decoding}
 use Rattle.m2v_pardec.specs.Ahead.{AreInOrder, IsAhead, later_of}
 use Rattle.m2v_pardec.specs.declared.taking.Stop.{Stop}
 use Rattle.m2v_pardec.specs.declared.taking.Stop.TheVariants.{More, End, Error}

@@ -2,15 +2,14 @@
 ghost use Rattle.std.specs.Prelude.{ℕ, ◌≡◌, ◌+◌, ◌≤◌, ◌^◌, [], ◌∷◌, IsTrue, IfErr, OnOk, false, map, option_to_list};
 ghost use Rattle.m2v_port.specs.Ends.{SinkStays};
 ghost use Rattle.m2v_port.specs.Port.{Rose};
-ghost use Rattle.m2v_piece.specs.Sound.{IsSoundPiece};
+ghost use Rattle.m2v_dec_piece.specs.Sound.{IsSoundPiece};
 ghost use Rattle.m2v_pardec.specs.Ahead.{AreInOrder};
 ghost use Rattle.m2v_pardec.specs.Taken.{piece_of};
 ghost use Rattle.m2v_pardec.specs.Put.{PutsAll, StopsBy, CountsOn};
 
-use m2v_batch::BatchPicture;
-use m2v_decode::put_due;
-use m2v_decoder::Decoder;
-use m2v_piece::{DecodeError, Piece};
+use m2v_dec_batch::BatchPicture;
+use m2v_dec_batch::decode::{Decoder, put_due};
+use m2v_dec_piece::{DecodeError, Piece};
 use m2v_port::Sink;
 use std::alloc::Global;
 

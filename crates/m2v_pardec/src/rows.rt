@@ -1,11 +1,11 @@
 //! The rows of a picture of a batch that was decoded.
 ghost use Rattle.std.specs.Prelude.{◌≡◌, ◌+◌, ◌≤◌, IsTrue};
-ghost use Rattle.m2v_batch.specs.Jobs.{jobs_of};
-ghost use Rattle.m2v_batch.specs.Batches.{headers, IsBatch};
+ghost use Rattle.m2v_dec_batch.specs.Jobs.{jobs_of};
+ghost use Rattle.m2v_dec_batch.specs.Batches.{headers, IsBatch};
 ghost use Rattle.m2v_pardec.specs.Rows.{AreThere};
 
-use m2v_batch::{DecodeBook, DecodePiece};
-use m2v_decoder::PictureRows;
+use m2v_dec_batch::decode::PictureRows;
+use m2v_dec_batch::{DecodeBook, DecodePiece};
 use m2v_plane::RowSamples;
 use m2v_wave::Done;
 use std::marker::Model;
@@ -18,7 +18,7 @@ pub struct BatchRows<'a> {
 }
 
 impl<'a> Model for BatchRows<'a> {
-    ghost use Rattle.m2v_batch.specs.Batches.{IsBatch};
+    ghost use Rattle.m2v_dec_batch.specs.Batches.{IsBatch};
     ghost use Rattle.m2v_pardec.specs.Rows.{RowsFrom};
 
     ghost Value = { RowsFrom };

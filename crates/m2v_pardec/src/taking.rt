@@ -2,24 +2,23 @@
 ghost use Rattle.std.specs.Prelude.{◌≡◌, ◌<◌, ◌≤◌, ◌^◌, IfOk, IfSome, OnErr, [], None, false, length};
 ghost use Rattle.m2v_plane.specs.Sizes.{IsSize};
 ghost use Rattle.m2v_model.specs.States.{at_first};
-ghost use Rattle.m2v_piece.specs.Sound.{IsSoundPiece};
-ghost use Rattle.m2v_headers.specs.Headers.{IsBetween};
-ghost use Rattle.m2v_batch.specs.Batches.{IsBatch};
-ghost use Rattle.m2v_filling.specs.Filled.{batch_of, with_frames, AreThere, HaveDims};
+ghost use Rattle.m2v_dec_piece.specs.Sound.{IsSoundPiece};
+ghost use Rattle.m2v_dec_batch.specs.m2v_dec_rows.Headers.{IsBetween};
+ghost use Rattle.m2v_dec_batch.specs.Batches.{IsBatch};
+ghost use Rattle.m2v_dec_batch.specs.Filled.{batch_of, with_frames, AreThere, HaveDims};
 ghost use Rattle.m2v_pardec.specs.Ahead.{AreInOrder, Takes, WereTaken};
 ghost use Rattle.m2v_pardec.specs.Chain.{TakingFails};
 ghost use Rattle.m2v_pardec.specs.Taken.{IsKnown, IsNothing, MayBeNext, AddedTo, IsRest, TakenBehind, TakesFirst, TakesMore, IsSet, pieces_of, end_by, ReadFailed, ReadOn};
 
-use m2v_batch::DecodeBook;
-use m2v_decoder::Opened;
-use m2v_filling::{Filling, FramesThere, has_one_picture};
-use m2v_headers::read_headers;
+use m2v_dec_batch::dec_picture::FramesAtHand;
+use m2v_dec_batch::dec_rows::read_headers;
+use m2v_dec_batch::dec_unit::{UnitReader, first_state};
+use m2v_dec_batch::decode::Opened;
+use m2v_dec_batch::{DecodeBook, Filling, FramesThere, has_one_picture};
+use m2v_dec_piece::{Cutter, DecodeError, Piece};
 use m2v_model::State;
-use m2v_picture::FramesAtHand;
-use m2v_piece::{Cutter, DecodeError, Piece};
 use m2v_plane::Dims;
 use m2v_port::Source;
-use m2v_unit::{UnitReader, first_state};
 use std::alloc::{AllocError, Global};
 
 /// How many pictures are taken ahead at a time. While their rows are decoded, the pictures before them are taken into the

@@ -3,7 +3,7 @@ use Rattle.std.proofs.Common.{◌≡◌, ◌≢◌, ℕ, ◌^◌, ◌+ℤ◌, �
 use Rattle.std.proofs.lemmas.Bool.{cases_lt, cases_eq}
 use Rattle.std.proofs.lemmas.Bool.Decides.{nat_tests}
 use Rattle.std.proofs.lemmas.List.{get_or-map}
-use Rattle.m2v_plane.specs.declared.planes.Plane.TheVariants.{Y}
+use Rattle.m2v_pred.specs.m2v_plane.declared.planes.Plane.TheVariants.{Y}
 use Rattle.m2v_idct.specs.Block.{nth}
 use Rattle.m2v_idct.specs.Ranges.{IsSample}
 use Rattle.m2v_idct.proofs.Passed.{fits}

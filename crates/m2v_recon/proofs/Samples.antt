@@ -1,13 +1,13 @@
 -- The samples of a macroblock's planes.
 use Rattle.std.proofs.Common.{◌≡◌, ℕ, ◌+◌, ◌*◌, ◌<◌, ◌^◌, Bool, true, false, ◌&&◌, cond, zero, suc, List, [], length, get_or, take, drop, replicate, refl, ap, sym, ◌∙◌, arith, ℤ, pos, ◌+ℤ◌}
 use Rattle.std.proofs.lemmas.List.{get_or-map, get_or-take, get_or-drop}
-use Rattle.m2v_plane.specs.declared.planes.Plane.{Plane}
-use Rattle.m2v_plane.specs.declared.planes.Plane.TheVariants.{Y, Cb, Cr}
-use Rattle.m2v_plane.specs.declared.planes.Lines.TheVariants.{Whole}
-use Rattle.m2v_plane.specs.Sizes.{columns_of}
-use Rattle.m2v_plane.specs.Samples.{Samples, plane_by, plane_with_square, square_of, with_square}
-use Rattle.m2v_plane.proofs.Places.{part_at, plane_is}
-use Rattle.m2v_plane.proofs.Squares.{square_same}
+use Rattle.m2v_pred.specs.m2v_plane.declared.planes.Plane.{Plane}
+use Rattle.m2v_pred.specs.m2v_plane.declared.planes.Plane.TheVariants.{Y, Cb, Cr}
+use Rattle.m2v_pred.specs.m2v_plane.declared.planes.Lines.TheVariants.{Whole}
+use Rattle.m2v_pred.specs.m2v_plane.Sizes.{columns_of}
+use Rattle.m2v_pred.specs.m2v_plane.Samples.{Samples, plane_by, plane_with_square, square_of, with_square}
+use Rattle.m2v_pred.proofs.m2v_plane.Places.{part_at, plane_is}
+use Rattle.m2v_pred.proofs.m2v_plane.Squares.{square_same}
 use Rattle.m2v_quant.specs.declared.kind.BlockKind.{BlockKind}
 use Rattle.m2v_quant.specs.declared.kind.Levels.{Levels}
 use Rattle.m2v_pred.specs.Predicted.{block_by}

@@ -1,10 +1,10 @@
 -- The samples of one macroblock (clause 7.6.8): the prediction, and the inverse transform of each block that is coded.
 use Rattle.std.specs.Prelude.{ℕ, ◌+◌, ◌-◌, ◌*◌, ◌/◌, ◌%◌, ◌^◌, Bool, true, false, ◌&&◌, nat_eq, nat_lt, if◌then◌else◌, List, [], replicate, slice_index, slice_index_or, ℤ, pos, ◌+ℤ◌, unsigned_abs}
 use Rattle.std.specs.Int.{int_max, int_min}
-use Rattle.m2v_plane.specs.declared.planes.Plane.{Plane}
-use Rattle.m2v_plane.specs.declared.planes.Plane.TheVariants.{Y, Cb, Cr}
-use Rattle.m2v_plane.specs.Sizes.{side, columns_of}
-use Rattle.m2v_plane.specs.Samples.{Samples, plane_by}
+use Rattle.m2v_pred.specs.m2v_plane.declared.planes.Plane.{Plane}
+use Rattle.m2v_pred.specs.m2v_plane.declared.planes.Plane.TheVariants.{Y, Cb, Cr}
+use Rattle.m2v_pred.specs.m2v_plane.Sizes.{side, columns_of}
+use Rattle.m2v_pred.specs.m2v_plane.Samples.{Samples, plane_by}
 use Rattle.m2v_quant.specs.declared.kind.BlockKind.{BlockKind}
 use Rattle.m2v_quant.specs.Coefficients.{coefficients_of}
 use Rattle.m2v_idct.specs.Inverse.{inverse_of}

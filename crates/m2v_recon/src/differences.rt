@@ -6,7 +6,7 @@ ghost use Rattle.m2v_quant.specs.Coefficients.{coefficients_of};
 ghost use Rattle.m2v_idct.specs.Inverse.{inverse_of};
 ghost use Rattle.m2v_idct.specs.Block.{nth};
 ghost use Rattle.m2v_idct.specs.Ranges.{IsSample};
-ghost use Rattle.m2v_plane.specs.declared.planes.Plane.TheVariants.{Y};
+ghost use Rattle.m2v_pred.specs.m2v_plane.declared.planes.Plane.TheVariants.{Y};
 ghost use Rattle.m2v_recon.specs.Macro.{clamped, is_alone, is_coded, residual, block_of, kind_at};
 ghost use Rattle.m2v_recon.specs.Steps.{luma_line, luma_place, rebuilt, levels_of};
 

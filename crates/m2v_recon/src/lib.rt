@@ -6,4 +6,5 @@ mod differences;
 mod macroblock;
 
 pub use differences::is_coded;
+pub use m2v_pred as pred;
 pub use macroblock::{rebuild, rebuild_block};

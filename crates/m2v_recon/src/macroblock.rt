@@ -1,14 +1,14 @@
 //! The samples of a macroblock.
 ghost use Rattle.std.specs.Prelude.{ℕ, ◌≡◌, ◌+◌, ◌*◌, ◌<◌, All, cond, length, slice_index, pos, ◌+ℤ◌};
-ghost use Rattle.m2v_plane.specs.declared.planes.Plane.TheVariants.{Y};
+ghost use Rattle.m2v_pred.specs.m2v_plane.declared.planes.Plane.TheVariants.{Y};
 ghost use Rattle.m2v_quant.specs.Kinds.{IsKind, IsLevel};
 ghost use Rattle.m2v_pred.specs.Predicted.{block_by};
 ghost use Rattle.m2v_recon.specs.Macro.{block_of, clamped, is_alone, is_coded, kind_at, macro_sample, residual, with_macroblock};
 ghost use Rattle.m2v_recon.specs.Steps.{level_list, levels_of, rebuilt};
 
 use crate::differences::{add_chroma, add_luma, is_coded};
-use m2v_plane::{Plane, RowSamples};
 use m2v_pred::Block16;
+use m2v_pred::plane::{Plane, RowSamples};
 use m2v_quant::{BlockKind, Levels};
 
 /// The samples of the three planes, written over their prediction.

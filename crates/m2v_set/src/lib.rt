@@ -8,6 +8,7 @@ mod rules;
 mod settings;
 mod unfit;
 
+pub use m2v_plane as plane;
 pub use passed::{Passed, test_flat};
 pub use settings::{Level, Scan, Settings};
 pub use unfit::Unfit;

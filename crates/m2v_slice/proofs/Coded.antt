@@ -7,7 +7,7 @@ use Rattle.std.proofs.lemmas.List.FromFn.{get_or-map-range_with_len, length-map-
 use Rattle.std.proofs.Math.Seq.{get_or-append_seam}
 use Rattle.m2v_plane.specs.Fields.{no_samples}
 use Rattle.m2v_rate.specs.Plans.{plan_of}
-use Rattle.m2v_row.specs.Slices.{CodedSlice, slice_of}
+use Rattle.m2v_slice.specs.Slices.{CodedSlice, slice_of}
 use Rattle.m2v_slice.specs.Books.{Book, CodedPicture, rows, no_plan, picture_at, slice_at, ledger_for, task_of, next_picture, coded}
 
 -- no picture

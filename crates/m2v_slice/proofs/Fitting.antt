@@ -10,8 +10,8 @@ use Rattle.m2v_set.specs.Numbers.{dims_of, mb_width_of}
 use Rattle.m2v_set.proofs.Facts.{bounds}
 use Rattle.m2v_rate.specs.declared.values.Plan.{Plan}
 use Rattle.m2v_core.specs.Book.{cache_after}
-use Rattle.m2v_row.specs.Slices.{CodedSlice, most_bits_of}
-use Rattle.m2v_row.proofs.Whole.{slice_dims}
+use Rattle.m2v_slice.specs.Slices.{CodedSlice, most_bits_of}
+use Rattle.m2v_slice.proofs.Whole.{slice_dims}
 use Rattle.m2v_slice.specs.declared.pieces.EncodePiece.{EncodePiece}
 use Rattle.m2v_slice.specs.declared.pieces.EncodePiece.TheVariants as piece
 use Rattle.m2v_slice.specs.declared.pieces.EncodeShared.{EncodeShared}

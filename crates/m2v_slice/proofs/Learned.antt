@@ -8,7 +8,7 @@ use Rattle.m2v_plane.specs.Samples.{Samples}
 use Rattle.m2v_rate.specs.declared.values.Plan.{Plan}
 use Rattle.m2v_rate.specs.Plans.{Entries, first_open}
 use Rattle.m2v_core.specs.Book.{cache_after}
-use Rattle.m2v_row.specs.Slices.{CodedSlice}
+use Rattle.m2v_slice.specs.Slices.{CodedSlice}
 use Rattle.m2v_slice.specs.declared.pieces.EncodeShared.TheVariants as part
 use Rattle.m2v_slice.specs.Books.{Book, rows, coded, picture_at, slice_at, ledger_with, plan_job, slice_job, picture_of_job, part_of_job}
 use Rattle.m2v_slice.specs.Cached.{Cached}

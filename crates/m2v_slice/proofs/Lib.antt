@@ -1,3 +1,13 @@
+pub mod Choices
+pub mod Candidates
+pub mod Keeps
+pub mod Motions
+pub mod AnySize
+pub mod Fits
+pub mod AnyRow
+pub mod Columns
+pub mod Whole
+pub mod TextLengths
 pub mod Coded
 pub mod Learned
 pub mod References
@@ -14,3 +24,5 @@ pub mod Existing
 pub mod Near
 pub mod Slices
 pub mod Worked
+pub use Rattle.m2v_choose.proofs as m2v_choose
+pub use Rattle.m2v_choose.proofs.m2v_search

@@ -16,7 +16,7 @@ use Rattle.m2v_set.specs.Numbers.{dims_of, rows_by, frame_rows_by}
 use Rattle.m2v_set.proofs.Facts.{bounds}
 use Rattle.m2v_pred.specs.declared.mode.MbPlace.{MbPlace}
 use Rattle.m2v_pred.specs.Vectors.{IsPlace}
-use Rattle.m2v_search.specs.Near.{row_lines, is_field}
+use Rattle.m2v_choose.specs.m2v_search.Near.{row_lines, is_field}
 use Rattle.m2v_choose.specs.Trials.{IsReference, IsRead}
 use Rattle.m2v_slice.specs.Books.{Book, rows, job_at, has_lines, anchors_before, nth, line_in, in_group, reference_picture, reference_pictures}
 use Rattle.m2v_slice.specs.Conditions.{IsBook}

@@ -5,7 +5,7 @@ use Rattle.m2v_set.proofs.Facts.{bounds}
 use Rattle.m2v_order.specs.declared.jobs.PictureJob.{PictureJob}
 use Rattle.m2v_rate.specs.declared.values.Plan.{Plan}
 use Rattle.m2v_rate.specs.Plans.{Entries, first_open, plan_of, with_plan, with_size}
-use Rattle.m2v_preface.specs.Headers.{header_bits}
+use Rattle.m2v_slice.specs.Headers.{header_bits}
 use Rattle.m2v_slice.specs.Books.{Book, CodedPicture, job_at, picture_at, size_of, coded}
 use Rattle.m2v_slice.specs.Cached.{Cached}
 use Rattle.m2v_slice.specs.Conditions.{IsBook}

@@ -10,15 +10,15 @@ use Rattle.m2v_pred.specs.Motion.{own_lines}
 use Rattle.m2v_set.specs.declared.settings.Settings.{Settings}
 use Rattle.m2v_set.specs.Numbers.{dims_of, mb_width_of, slice_least}
 use Rattle.m2v_order.specs.declared.jobs.PictureJob.{PictureJob}
-use Rattle.m2v_macro.specs.declared.values.PictureContext.{PictureContext}
+use Rattle.m2v_macroblock.specs.m2v_macro.declared.values.PictureContext.{PictureContext}
 use Rattle.m2v_rate.specs.declared.values.Plan.{Plan}
 use Rattle.m2v_rate.specs.Plans.{slice_cap_of}
 use Rattle.m2v_choose.specs.Trials.{IsRead}
-use Rattle.m2v_row.specs.Slices.{SliceTask, CodedSlice, slice_of, most_bits_of}
-use Rattle.m2v_row.specs.Laws.{IsSlice}
-use Rattle.m2v_row.specs.Steps.{row_place}
-use Rattle.m2v_row.proofs.Fits.{slice_fits}
-use Rattle.m2v_preface.specs.Headers.{IsJob, context_of, extension_of}
+use Rattle.m2v_slice.specs.Slices.{SliceTask, CodedSlice, slice_of, most_bits_of}
+use Rattle.m2v_slice.specs.Laws.{IsSlice}
+use Rattle.m2v_slice.specs.Steps.{row_place}
+use Rattle.m2v_slice.proofs.Fits.{slice_fits}
+use Rattle.m2v_slice.specs.Headers.{IsJob, context_of, extension_of}
 use Rattle.m2v_slice.specs.Books.{Book, rows, job_at, coded, slice_at, forward_number, reference, task_of}
 use Rattle.m2v_slice.specs.Cached.{Cached}
 use Rattle.m2v_slice.specs.Conditions.{IsBook}

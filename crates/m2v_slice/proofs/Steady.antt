@@ -23,10 +23,10 @@ use Rattle.m2v_rate.proofs.Caps.{slices_sum}
 use Rattle.m2v_rate.proofs.Targets.{sum_more}
 use Rattle.m2v_rate.proofs.Keeps.{cap_is, cap_least, cap_most}
 use Rattle.m2v_choose.specs.Own.{IsOwn}
-use Rattle.m2v_row.specs.Slices.{CodedSlice, slice_of}
-use Rattle.m2v_row.specs.Laws.{IsSlice}
-use Rattle.m2v_row.proofs.Fits.{slice_fits}
-use Rattle.m2v_preface.specs.Headers.{begins_group, context_of, extension_of, header_bits}
+use Rattle.m2v_slice.specs.Slices.{CodedSlice, slice_of}
+use Rattle.m2v_slice.specs.Laws.{IsSlice}
+use Rattle.m2v_slice.proofs.Fits.{slice_fits}
+use Rattle.m2v_slice.specs.Headers.{begins_group, context_of, extension_of, header_bits}
 use Rattle.m2v_slice.specs.Books.{Book, CodedPicture, rows, job_at, picture_at, size_of, ledger_with, ledger_for, task_of, next_picture, coded}
 use Rattle.m2v_slice.specs.Conditions.{IsBook}
 use Rattle.m2v_slice.proofs.Coded.{count, picture_is, coded_more, picture_stays, slices_are}

@@ -4,7 +4,7 @@ use Rattle.m2v_set.specs.Numbers.{mb_width_of}
 use Rattle.m2v_rate.specs.declared.values.Plan.{Plan}
 use Rattle.m2v_rate.specs.Plans.{Entries, first_open}
 use Rattle.m2v_core.specs.Book.{cache_after}
-use Rattle.m2v_row.specs.Slices.{CodedSlice, most_bits_of}
+use Rattle.m2v_slice.specs.Slices.{CodedSlice, most_bits_of}
 use Rattle.m2v_slice.specs.declared.pieces.EncodePiece.{EncodePiece}
 use Rattle.m2v_slice.specs.declared.pieces.EncodePiece.TheVariants as piece
 use Rattle.m2v_slice.specs.Books.{Book, coded, picture_at, slice_at, ledger_with, picture_of_job, part_of_job, needs_of}

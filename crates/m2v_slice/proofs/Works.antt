@@ -9,7 +9,7 @@ use Rattle.std.proofs.lemmas.List.FromFn.{length-map-range_with_len, get_or-map-
 use Rattle.m2v_set.proofs.Facts.{bounds}
 use Rattle.m2v_rate.specs.Plans.{Entries, first_open}
 use Rattle.m2v_core.specs.Book.{cache_after}
-use Rattle.m2v_row.specs.Slices.{CodedSlice, slice_of}
+use Rattle.m2v_slice.specs.Slices.{CodedSlice, slice_of}
 use Rattle.m2v_slice.specs.Books.{Book, CodedPicture, rows, plan_job, slice_job, near_rows, picture_of_job, part_of_job, needs_of, picture_at, slice_at, ledger_with, next_picture, task_of, coded}
 use Rattle.m2v_slice.specs.Cached.{Cached}
 use Rattle.m2v_slice.specs.Conditions.{IsBook}

@@ -13,8 +13,8 @@ use Rattle.m2v_macroblock.specs.Predictions.{View}
 use Rattle.m2v_rate.specs.declared.values.Plan.{Plan}
 use Rattle.m2v_rate.specs.Plans.{Entries, plan_of, slice_cap_of, first_open}
 use Rattle.m2v_rate.specs.Seen.{told}
-use Rattle.m2v_row.specs.Slices.{SliceTask, CodedSlice, slice_of}
-use Rattle.m2v_preface.specs.Headers.{context_of, header_bits}
+use Rattle.m2v_slice.specs.Slices.{SliceTask, CodedSlice, slice_of}
+use Rattle.m2v_slice.specs.Headers.{context_of, header_bits}
 
 -- what contracts see of a book: its settings, the group's frames in display order and its pictures in coding order, the
 -- reconstruction of the anchor that was coded before the group, and the ledger with which the group begins

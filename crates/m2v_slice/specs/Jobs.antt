@@ -4,7 +4,7 @@ use Rattle.m2v_plane.specs.declared.dims.Dims.{Dims}
 use Rattle.m2v_plane.specs.Samples.{Samples}
 use Rattle.m2v_set.specs.Numbers.{dims_of, mb_width_of}
 use Rattle.m2v_rate.specs.Plans.{first_open}
-use Rattle.m2v_row.specs.Slices.{most_bits_of}
+use Rattle.m2v_slice.specs.Slices.{most_bits_of}
 use Rattle.m2v_slice.specs.declared.pieces.EncodePiece.{EncodePiece}
 use Rattle.m2v_slice.specs.declared.pieces.EncodePiece.TheVariants as piece
 use Rattle.m2v_slice.specs.declared.pieces.EncodeShared.{EncodeShared}

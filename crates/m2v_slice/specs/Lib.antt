@@ -1,3 +1,7 @@
+pub mod Slices
+pub mod Laws
+pub mod Steps
+pub mod Headers
 pub mod Books
 pub mod Cached
 pub mod Jobs
@@ -6,3 +10,6 @@ pub mod Windows
 pub mod Needs
 pub mod Works
 pub mod Stands
+pub use Rattle.m2v_choose.specs as m2v_choose
+pub use Rattle.m2v_macroblock.specs as m2v_macroblock
+pub use Rattle.m2v_macroblock.specs.m2v_recon

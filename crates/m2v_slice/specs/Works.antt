@@ -1,7 +1,7 @@
 -- What a cache knows once the needs of a job are learned.
 use Rattle.std.specs.Prelude.{ℕ, ◌≡◌, ◌+◌, ◌-◌, ◌≤◌, length, sum_by}
 use Rattle.m2v_rate.specs.Plans.{first_open}
-use Rattle.m2v_row.specs.Slices.{CodedSlice}
+use Rattle.m2v_slice.specs.Slices.{CodedSlice}
 use Rattle.m2v_slice.specs.Books.{Book, coded, picture_at, ledger_with}
 use Rattle.m2v_slice.specs.Cached.{Cached}
 use Rattle.m2v_slice.specs.Jobs.{FitsCache}

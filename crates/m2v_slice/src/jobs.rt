@@ -6,13 +6,13 @@ ghost use Rattle.m2v_slice.specs.Books.{needs_of};
 ghost use Rattle.m2v_slice.specs.Jobs.{jobs_of, value_of, shared_part, shared_of, with_plan, with_bits, with_row, IsSlicePart, HasDims, told_of, learned_of, FitsPiece, FitsShared, FitsCache};
 ghost use Rattle.m2v_slice.specs.Needs.{needs_below, needs_few};
 
+use crate::SliceOut;
 use crate::book::EncodeBook;
 use crate::cache::EncodeCache;
 use crate::pieces::{EncodePiece, EncodeShared};
 use m2v_core::{JobBook, Memory, NeedList};
 use m2v_plane::RowSamples;
 use m2v_rate::Plan;
-use m2v_row::SliceOut;
 use std::alloc::Global;
 
 /// A plan that nothing has made yet.

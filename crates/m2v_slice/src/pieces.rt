@@ -1,7 +1,7 @@
 //! What jobs make, and what others learn of them.
+use crate::SliceOut;
 use m2v_plane::RowSamples;
 use m2v_rate::{Ledger, Plan};
-use m2v_row::SliceOut;
 
 /// What a job makes.
 #[derive(Drop)]

@@ -2,17 +2,16 @@
 ghost use Rattle.std.specs.Prelude.{◌≡◌, ◌+◌, ◌<◌, ◌≤◌, length};
 ghost use Rattle.m2v_set.specs.Numbers.{dims_of, mb_width_of};
 ghost use Rattle.m2v_rate.specs.Plans.{first_open};
-ghost use Rattle.m2v_row.specs.Slices.{most_bits_of};
+ghost use Rattle.m2v_slice.specs.Slices.{most_bits_of};
 ghost use Rattle.m2v_slice.specs.Books.{rows, forward_number, coded, picture_at, slice_at, ledger_with};
 ghost use Rattle.m2v_slice.specs.Works.{HasLearnedPlan, HasLearnedSlice};
 
 use crate::book::EncodeBook;
 use crate::cache::EncodeCache;
-use crate::code::code_slice;
+use crate::slice::code_slice;
 use crate::window::ReferenceWindow;
-use m2v_preface::{header_bits, picture_context};
+use crate::{SliceOut, header_bits, picture_context};
 use m2v_rate::{Ledger, Plan, plan, slice_cap};
-use m2v_row::SliceOut;
 
 /// Which anchor a picture of a type refers forward to: a B picture to the one before the last.
 fn forward_number(kind: u8) -> u32

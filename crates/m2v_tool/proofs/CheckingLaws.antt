@@ -6,20 +6,20 @@ use Rattle.m2v_port.proofs.Runs.{tells}
 use Rattle.m2v_model.specs.Pieces.{Limit, too_long, too_large}
 use Rattle.m2v_model.specs.Decoding.{FaultAt}
 use Rattle.m2v_model.proofs.Unique.{exactly_one}
-use Rattle.m2v_piece.specs.declared.answer.Fault.{Fault}
-use Rattle.m2v_piece.specs.declared.answer.DecodeError.{DecodeError}
-use Rattle.m2v_piece.specs.declared.answer.DecodeError.TheVariants as errors
-use Rattle.m2v_decode.specs.Answers.{OfText, IsOver as DecodeOver}
-use Rattle.m2v_decode.specs.Complete.{IsUnderLimits, IsReached, IsLate, IsPast, error_of}
-use Rattle.m2v_decode.proofs.AnswerLaws.{of_text, not_long, not_large, same_fault}
-use Rattle.m2v_check.specs.declared.verdict.Figures.{Figures}
-use Rattle.m2v_check.specs.declared.verdict.Verdict.{Verdict}
-use Rattle.m2v_check.specs.declared.verdict.Verdict.TheVariants as verdicts
-use Rattle.m2v_check.specs.Meaning.{IsLawful, IsVariable, Means}
-use Rattle.m2v_check.specs.Answers.{IsJudged, IsFaulty, IsOver, Fails, Gives, IsAnswered}
-use Rattle.m2v_check.proofs.OneMeaning.{decoding_in, one_meaning}
-use Rattle.m2v_check.specs.Progress.{no_output}
-use Rattle.m2v_check.proofs.AnswerLaws.{answered}
+use Rattle.m2v_dec_piece.specs.declared.answer.Fault.{Fault}
+use Rattle.m2v_dec_piece.specs.declared.answer.DecodeError.{DecodeError}
+use Rattle.m2v_dec_piece.specs.declared.answer.DecodeError.TheVariants as errors
+use Rattle.m2v_cut.specs.m2v_decode.Answers.{OfText, IsOver as DecodeOver}
+use Rattle.m2v_cut.specs.m2v_decode.Complete.{IsUnderLimits, IsReached, IsLate, IsPast, error_of}
+use Rattle.m2v_cut.proofs.m2v_decode.AnswerLaws.{of_text, not_long, not_large, same_fault}
+use Rattle.m2v_make.specs.m2v_check.declared.verdict.Figures.{Figures}
+use Rattle.m2v_make.specs.m2v_check.declared.verdict.Verdict.{Verdict}
+use Rattle.m2v_make.specs.m2v_check.declared.verdict.Verdict.TheVariants as verdicts
+use Rattle.m2v_make.specs.m2v_check.Meaning.{IsLawful, IsVariable, Means}
+use Rattle.m2v_make.specs.m2v_check.Answers.{IsJudged, IsFaulty, IsOver, Fails, Gives, IsAnswered}
+use Rattle.m2v_make.proofs.m2v_check.OneMeaning.{decoding_in, one_meaning}
+use Rattle.m2v_make.specs.m2v_check.Progress.{no_output}
+use Rattle.m2v_make.proofs.m2v_check.AnswerLaws.{answered}
 use Rattle.m2v_tool.specs.declared.check.CheckOutcome.{CheckOutcome}
 use Rattle.m2v_tool.specs.declared.check.CheckOutcome.TheVariants.{Judged, Stopped}
 use Rattle.m2v_tool.specs.Endings.{Ending, Told, whole, cut, stream_fault, ending_past}

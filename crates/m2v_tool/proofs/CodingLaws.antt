@@ -19,10 +19,10 @@ use Rattle.m2v_flat.specs.Answers.{FlatCoded, FlatStops, HasPassed, most_frames,
 use Rattle.m2v_flat.specs.Flat.{Flat}
 use Rattle.m2v_flat.specs.Recon.{FlatRecon}
 use Rattle.m2v_flat.proofs.Passing.{in_bounds}
-use Rattle.m2v_shown.specs.Laws.{DecodesTo}
-use Rattle.m2v_shown.proofs.Decodes.{decoded_to}
+use Rattle.m2v_make.specs.m2v_law_shown.Laws.{DecodesTo}
+use Rattle.m2v_make.proofs.m2v_law_shown.Decodes.{decoded_to}
 use Rattle.m2v_flat.proofs.Streams.{flat_decodes}
-use Rattle.m2v_flat_lawful.proofs.Streams.{flat_lawful}
+use Rattle.m2v_flat.proofs.LawfulStreams.{flat_lawful}
 use Rattle.m2v_tool.specs.declared.flat.FlatWords.{FlatWords}
 use Rattle.m2v_tool.specs.declared.flat.FlatOutcome.{FlatOutcome}
 use Rattle.m2v_tool.specs.declared.flat.FlatOutcome.TheVariants.{Coded, Unfit, Stopped}

@@ -2,9 +2,9 @@
 use Rattle.std.proofs.Common.{◌≡◌, inl, inr, ℕ, ◌≤◌, List, Some, Result, Ok, Err, refl, sym, subst, arith}
 use Rattle.m2v_port.specs.Ends.{Tells}
 use Rattle.m2v_port.proofs.Runs.{tells}
-use Rattle.m2v_decode.proofs.AnswerLaws.{of_text}
-use Rattle.m2v_group.specs.Chosen.{CutDecodes}
-use Rattle.m2v_group.proofs.Decodes.{cut_law}
+use Rattle.m2v_cut.proofs.m2v_decode.AnswerLaws.{of_text}
+use Rattle.m2v_cut.specs.m2v_law_group.Chosen.{CutDecodes}
+use Rattle.m2v_cut.proofs.m2v_law_group.Decodes.{cut_law}
 use Rattle.m2v_cut.specs.declared.answer.CutSummary.{CutSummary}
 use Rattle.m2v_cut.specs.declared.answer.CutError.{CutError}
 use Rattle.m2v_cut.specs.declared.answer.CutError.TheVariants as errors

@@ -7,13 +7,13 @@ use Rattle.m2v_set.specs.declared.unfit.Unfit.{Unfit}
 use Rattle.m2v_model.specs.Pieces.{Limit, too_long, too_large, pieces}
 use Rattle.m2v_model.specs.Decoding.{Decodes, FaultAt}
 use Rattle.m2v_model.proofs.Unique.{exactly_one}
-use Rattle.m2v_piece.specs.declared.answer.Fault.{Fault}
-use Rattle.m2v_piece.specs.declared.answer.DecodeError.{DecodeError}
-use Rattle.m2v_piece.specs.declared.answer.DecodeError.TheVariants as errors
-use Rattle.m2v_decode.specs.declared.answer.Decoded.{Decoded}
-use Rattle.m2v_decode.specs.Answers.{OfText, IsDecoded, IsFaulty, IsOver, Fails, AllFit, start_of}
-use Rattle.m2v_decode.specs.Complete.{IsUnderLimits, IsLate, IsPast, counted}
-use Rattle.m2v_decode.proofs.AnswerLaws.{not_long, not_large, of_text, shown_grown, shown_counted, same_fault, past_long, past_large, past_shown, past_fault, late_large}
+use Rattle.m2v_dec_piece.specs.declared.answer.Fault.{Fault}
+use Rattle.m2v_dec_piece.specs.declared.answer.DecodeError.{DecodeError}
+use Rattle.m2v_dec_piece.specs.declared.answer.DecodeError.TheVariants as errors
+use Rattle.m2v_cut.specs.m2v_decode.declared.answer.Decoded.{Decoded}
+use Rattle.m2v_cut.specs.m2v_decode.Answers.{OfText, IsDecoded, IsFaulty, IsOver, Fails, AllFit, start_of}
+use Rattle.m2v_cut.specs.m2v_decode.Complete.{IsUnderLimits, IsLate, IsPast, counted}
+use Rattle.m2v_cut.proofs.m2v_decode.AnswerLaws.{not_long, not_large, of_text, shown_grown, shown_counted, same_fault, past_long, past_large, past_shown, past_fault, late_large}
 use Rattle.m2v_tool.specs.declared.decode.DecodeOutcome.{DecodeOutcome}
 use Rattle.m2v_tool.specs.declared.decode.DecodeOutcome.TheVariants.{Shown, Unfit as NotFit, Stopped}
 use Rattle.m2v_tool.specs.Endings.{Told, whole, cut, line_of, unfit_ending, stream_fault, ending_past}

@@ -15,11 +15,11 @@ use Rattle.m2v_set.specs.declared.settings.Scan.{Scan}
 use Rattle.m2v_set.specs.declared.settings.Scan.TheVariants.{Progressive, Frames, Fields}
 use Rattle.m2v_set.specs.Rules.{Passes, FirstUnfit, is_progressive, line_step}
 use Rattle.m2v_set.proofs.Facts.{bounds}
-use Rattle.m2v_encode.specs.declared.answer.Summary.{Summary}
-use Rattle.m2v_encode.specs.declared.answer.EncodeError.{EncodeError}
-use Rattle.m2v_encode.specs.declared.answer.EncodeError.TheVariants as errors
-use Rattle.m2v_encode.specs.Answers.{AllCoded, Stops, Unended, CutOff, EndedShort, WasEmpty, WentOn, most_frames}
-use Rattle.m2v_stream.specs.Streams.{Recon, ReconBegun}
+use Rattle.m2v_make.specs.m2v_encode.declared.answer.Summary.{Summary}
+use Rattle.m2v_make.specs.m2v_encode.declared.answer.EncodeError.{EncodeError}
+use Rattle.m2v_make.specs.m2v_encode.declared.answer.EncodeError.TheVariants as errors
+use Rattle.m2v_make.specs.m2v_encode.Answers.{AllCoded, Stops, Unended, CutOff, EndedShort, WasEmpty, WentOn, most_frames}
+use Rattle.m2v_make.specs.m2v_enc_stream.Streams.{Recon, ReconBegun}
 use Rattle.m2v_tool.specs.declared.encode.EncodeOutcome.{EncodeOutcome}
 use Rattle.m2v_tool.specs.declared.encode.EncodeOutcome.TheVariants.{Coded, Unfit as NotFit, Unopened, Stopped}
 use Rattle.m2v_tool.specs.Endings.{Told, whole, cut, unfit_ending}

@@ -17,10 +17,10 @@ use Rattle.m2v_set.specs.Numbers.{dims_of}
 use Rattle.m2v_set.proofs.Facts.{bounds}
 use Rattle.m2v_set.specs.Rules.{Passes, FirstUnfit}
 use Rattle.m2v_set.specs.declared.unfit.Unfit.{Unfit}
-use Rattle.m2v_encode.specs.declared.answer.Summary.{Summary}
-use Rattle.m2v_encode.specs.declared.answer.EncodeError.{EncodeError}
-use Rattle.m2v_encode.specs.declared.answer.EncodeError.TheVariants as errors
-use Rattle.m2v_encode.specs.Answers.{AllCoded, Stops, Unended, CutOff, FailedInside, EndedShort, WasEmpty, WentOn, most_frames}
+use Rattle.m2v_make.specs.m2v_encode.declared.answer.Summary.{Summary}
+use Rattle.m2v_make.specs.m2v_encode.declared.answer.EncodeError.{EncodeError}
+use Rattle.m2v_make.specs.m2v_encode.declared.answer.EncodeError.TheVariants as errors
+use Rattle.m2v_make.specs.m2v_encode.Answers.{AllCoded, Stops, Unended, CutOff, FailedInside, EndedShort, WasEmpty, WentOn, most_frames}
 use Rattle.m2v_y4m.specs.declared.answer.Y4mFault.{Y4mFault}
 use Rattle.m2v_y4m.specs.declared.answer.Y4mError.{Y4mError}
 use Rattle.m2v_y4m.specs.declared.answer.Y4mError.TheVariants as opening_errors

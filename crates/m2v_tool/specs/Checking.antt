@@ -5,14 +5,14 @@ use Rattle.m2v_vbv.specs.declared.fault.AccountFault.{AccountFault}
 use Rattle.m2v_vbv.specs.declared.fault.AccountFault.TheVariants.{Under, Over}
 use Rattle.m2v_model.specs.Pieces.{Limit, too_long}
 use Rattle.m2v_model.specs.Decoding.{FaultAt}
-use Rattle.m2v_piece.specs.declared.answer.Fault.{Fault}
-use Rattle.m2v_decode.specs.Answers.{OfText}
-use Rattle.m2v_decode.specs.Complete.{IsUnderLimits, IsReached, IsLate, IsPast, error_of}
-use Rattle.m2v_check.specs.declared.verdict.Figures.{Figures}
-use Rattle.m2v_check.specs.declared.verdict.Verdict.{Verdict}
-use Rattle.m2v_check.specs.declared.verdict.Verdict.TheVariants as verdicts
-use Rattle.m2v_check.specs.Meaning.{IsLawful, IsVariable, Means}
-use Rattle.m2v_check.specs.Answers.{IsJudged, IsOver, Fails}
+use Rattle.m2v_dec_piece.specs.declared.answer.Fault.{Fault}
+use Rattle.m2v_cut.specs.m2v_decode.Answers.{OfText}
+use Rattle.m2v_cut.specs.m2v_decode.Complete.{IsUnderLimits, IsReached, IsLate, IsPast, error_of}
+use Rattle.m2v_make.specs.m2v_check.declared.verdict.Figures.{Figures}
+use Rattle.m2v_make.specs.m2v_check.declared.verdict.Verdict.{Verdict}
+use Rattle.m2v_make.specs.m2v_check.declared.verdict.Verdict.TheVariants as verdicts
+use Rattle.m2v_make.specs.m2v_check.Meaning.{IsLawful, IsVariable, Means}
+use Rattle.m2v_make.specs.m2v_check.Answers.{IsJudged, IsOver, Fails}
 use Rattle.m2v_tool.specs.declared.check.CheckOutcome.{CheckOutcome}
 use Rattle.m2v_tool.specs.declared.check.CheckOutcome.TheVariants.{Judged, Stopped}
 use Rattle.m2v_tool.specs.Endings.{Ending, Told, stream_fault, ending_past}

@@ -9,7 +9,7 @@ use Rattle.m2v_flat.specs.Answers.{FlatCoded, FlatStops, most_frames}
 use Rattle.m2v_flat.specs.Flat.{Flat}
 use Rattle.m2v_flat.specs.Recon.{FlatRecon}
 use Rattle.m2v_model.specs.Lawful.{Lawful}
-use Rattle.m2v_shown.specs.Laws.{DecodesTo}
+use Rattle.m2v_make.specs.m2v_law_shown.Laws.{DecodesTo}
 use Rattle.m2v_tool.specs.declared.flat.FlatWords.{FlatWords}
 use Rattle.m2v_tool.specs.declared.flat.FlatOutcome.{FlatOutcome}
 use Rattle.m2v_tool.specs.declared.flat.FlatOutcome.TheVariants.{Coded, Unfit, Stopped}

@@ -6,9 +6,9 @@ use Rattle.m2v_port.specs.Ends.{Change, Tells}
 use Rattle.m2v_port.specs.Port.{Grows}
 use Rattle.m2v_set.specs.declared.unfit.Unfit.{Unfit}
 use Rattle.m2v_model.specs.Pieces.{too_long, too_large}
-use Rattle.m2v_decode.specs.Answers.{OfText}
-use Rattle.m2v_group.specs.Groups.{cut_text}
-use Rattle.m2v_group.specs.Chosen.{CutDecodes}
+use Rattle.m2v_cut.specs.m2v_decode.Answers.{OfText}
+use Rattle.m2v_cut.specs.m2v_law_group.Groups.{cut_text}
+use Rattle.m2v_cut.specs.m2v_law_group.Chosen.{CutDecodes}
 use Rattle.m2v_cut.specs.declared.answer.CutSummary.{CutSummary}
 use Rattle.m2v_cut.specs.declared.answer.CutError.{CutError}
 use Rattle.m2v_cut.specs.declared.answer.CutError.TheVariants as errors

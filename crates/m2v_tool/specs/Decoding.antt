@@ -10,12 +10,12 @@ use Rattle.m2v_set.specs.declared.unfit.Unfit.{Unfit}
 use Rattle.m2v_set.specs.Rules.{Condition, at_least, at_most, judged}
 use Rattle.m2v_model.specs.Pieces.{pieces, Limit, too_long, too_large}
 use Rattle.m2v_model.specs.Decoding.{Decodes, FaultAt}
-use Rattle.m2v_piece.specs.declared.answer.Fault.{Fault}
-use Rattle.m2v_piece.specs.declared.answer.DecodeError.{DecodeError}
-use Rattle.m2v_piece.specs.declared.answer.DecodeError.TheVariants as errors
-use Rattle.m2v_decode.specs.declared.answer.Decoded.{Decoded}
-use Rattle.m2v_decode.specs.Answers.{OfText, IsDecoded, IsFaulty, IsOver, Fails, AllFit, start_of}
-use Rattle.m2v_decode.specs.Complete.{IsUnderLimits, IsLate, IsPast, counted, error_of}
+use Rattle.m2v_dec_piece.specs.declared.answer.Fault.{Fault}
+use Rattle.m2v_dec_piece.specs.declared.answer.DecodeError.{DecodeError}
+use Rattle.m2v_dec_piece.specs.declared.answer.DecodeError.TheVariants as errors
+use Rattle.m2v_cut.specs.m2v_decode.declared.answer.Decoded.{Decoded}
+use Rattle.m2v_cut.specs.m2v_decode.Answers.{OfText, IsDecoded, IsFaulty, IsOver, Fails, AllFit, start_of}
+use Rattle.m2v_cut.specs.m2v_decode.Complete.{IsUnderLimits, IsLate, IsPast, counted, error_of}
 use Rattle.m2v_tool.specs.declared.decode.DecodeOutcome.{DecodeOutcome}
 use Rattle.m2v_tool.specs.declared.decode.DecodeOutcome.TheVariants.{Shown, Unfit as NotFit, Stopped}
 use Rattle.m2v_tool.specs.Simple.{simple, number_option, number_or, taken}

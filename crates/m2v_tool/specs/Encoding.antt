@@ -7,10 +7,10 @@ use Rattle.m2v_port.specs.declared.error.PortError.TheVariants as calls
 use Rattle.m2v_plane.specs.Raw.{frame_bytes}
 use Rattle.m2v_set.specs.Numbers.{dims_of}
 use Rattle.m2v_set.specs.Rules.{Passes, FirstUnfit}
-use Rattle.m2v_encode.specs.declared.answer.Summary.{Summary}
-use Rattle.m2v_encode.specs.declared.answer.EncodeError.{EncodeError}
-use Rattle.m2v_encode.specs.declared.answer.EncodeError.TheVariants as errors
-use Rattle.m2v_encode.specs.Answers.{AllCoded, Stops, most_frames, unshown}
+use Rattle.m2v_make.specs.m2v_encode.declared.answer.Summary.{Summary}
+use Rattle.m2v_make.specs.m2v_encode.declared.answer.EncodeError.{EncodeError}
+use Rattle.m2v_make.specs.m2v_encode.declared.answer.EncodeError.TheVariants as errors
+use Rattle.m2v_make.specs.m2v_encode.Answers.{AllCoded, Stops, most_frames, unshown}
 use Rattle.m2v_tool.specs.declared.encode.EncodeOutcome.{EncodeOutcome}
 use Rattle.m2v_tool.specs.declared.encode.EncodeOutcome.TheVariants.{Coded, Unfit as NotFit, Unopened, Stopped}
 use Rattle.m2v_tool.specs.Endings.{Ending, read_fault, write_fault, no_memory, unfit_ending, short_frame, no_frames, too_many_frames}

@@ -6,7 +6,7 @@ use Rattle.m2v_set.specs.declared.unfit.Unfit.{Unfit}
 use Rattle.m2v_model.specs.declared.fault.FaultKind.{FaultKind}
 use Rattle.m2v_model.specs.declared.fault.FaultKind.TheVariants as kinds
 use Rattle.m2v_model.specs.Pieces.{Limit, too_long, too_large}
-use Rattle.m2v_piece.specs.declared.answer.Fault.{Fault}
+use Rattle.m2v_dec_piece.specs.declared.answer.Fault.{Fault}
 use Rattle.m2v_tool.specs.declared.report.Report.{Report}
 
 -- a status, and the texts and the numbers of its line, one text before each number

@@ -4,7 +4,7 @@ use Rattle.m2v_port.specs.Ends.{Change, Tells}
 use Rattle.m2v_port.specs.Port.{Rose}
 use Rattle.m2v_plane.specs.Raw.{raw}
 use Rattle.m2v_set.specs.Rules.{Passes}
-use Rattle.m2v_encode.specs.Answers.{FailedInside, most_frames}
+use Rattle.m2v_make.specs.m2v_encode.Answers.{FailedInside, most_frames}
 use Rattle.m2v_y4m.specs.declared.answer.Y4mFault.{Y4mFault}
 use Rattle.m2v_y4m.specs.declared.answer.Y4mError.{Y4mError}
 use Rattle.m2v_y4m.specs.declared.answer.Y4mError.TheVariants as opening_errors

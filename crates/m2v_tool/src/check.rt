@@ -7,7 +7,7 @@ ghost use Rattle.m2v_tool.specs.Checking.{CheckComes, account_ending, check_endi
 use crate::decode::stopped;
 use crate::report::Report;
 use crate::words::stands_alone;
-use m2v_check::{AccountFault, DecodeError, Figures, Verdict, check};
+use m2v_make::check::{AccountFault, DecodeError, Figures, Verdict, check};
 use m2v_port::Source;
 use std::alloc::{AllocError, Global};
 

@@ -11,7 +11,7 @@ use crate::report::{
 use crate::words::{number_option, number_or, simple, taken};
 use clap::Command;
 use m2v_board::Gate;
-use m2v_decode::{DecodeError, Decoded};
+use m2v_cut::decode::{DecodeError, Decoded};
 use m2v_pardec::decode_with;
 use m2v_port::{Sink, Source};
 use m2v_set::Unfit;

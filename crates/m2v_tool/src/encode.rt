@@ -17,7 +17,7 @@ use crate::words::{
 };
 use clap::{ArgMatches, Command};
 use m2v_board::Gate;
-use m2v_encode::{EncodeError, Summary, encode};
+use m2v_make::encode::{EncodeError, Summary, encode};
 use m2v_port::{NamedSink, PortError, Sink, Source, SureFile};
 use m2v_set::{Level, Passed, Scan, Settings, Unfit};
 use std::alloc::{AllocError, Global};

@@ -12,7 +12,7 @@ use crate::unpack::y4m_fault;
 use crate::words::{required_option, simple, taken, with};
 use clap::Command;
 use m2v_board::Gate;
-use m2v_encode::EncodeError;
+use m2v_make::encode::EncodeError;
 use m2v_port::{NamedSink, Sink, Source};
 use m2v_set::Settings;
 use m2v_y4m::{Y4mError, Y4mFault, Y4mHeader, Y4mSource, Y4mText};

@@ -1,5 +1,5 @@
 use Rattle.std.proofs.Common.{length}
-use Rattle.m2v_decoder.specs.Decoding.{due_of}
+use Rattle.m2v_decode.specs.Decoding.{due_of}
 use Rattle.m2v_decode.proofs.Putting.{HasPutSome}
 use Rattle.m2v_check.specs.Progress.{no_output}
 use Rattle.m2v_check.proofs.whole.pass_frames.Given as goal

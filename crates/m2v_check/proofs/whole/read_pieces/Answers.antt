@@ -1,9 +1,9 @@
 use Rattle.std.proofs.Common.{Err, refl, ap, sym, arith}
 use Rattle.std.proofs.lemmas.Result.{err_from_is_err_and}
 use Rattle.m2v_port.proofs.Runs.{rose_since}
-use Rattle.m2v_decoder.proofs.EndLaws.{whole_length}
+use Rattle.m2v_decode.proofs.EndLaws.{whole_length}
 use Rattle.m2v_decode.proofs.Going.{progress_none, progress_more, cutter_stopped, piece_refused, pieces_done}
-use Rattle.m2v_judge.specs.declared.rules.Rules.{Rules}
+use Rattle.m2v_check.specs.declared.rules.Rules.{Rules}
 use Rattle.m2v_check.specs.Progress.{none_held, none_failed}
 use Rattle.m2v_check.proofs.AnswerLaws.{fails_here}
 use Rattle.m2v_check.proofs.Ruling.{few_pictures}

@@ -2,7 +2,7 @@ use Rattle.std.proofs.Common.{List, ℕ, subst, ◌+◌, arith}
 use Rattle.std.proofs.lemmas.Result.{err_from_is_err_and}
 use Rattle.m2v_port.specs.Ends.{change}
 use Rattle.m2v_port.specs.Port.{Grows}
-use Rattle.m2v_decoder.specs.Decoding.{whole_of}
+use Rattle.m2v_decode.specs.Decoding.{whole_of}
 use Rattle.m2v_cut.specs.Progress.{Cuts}
 use Rattle.m2v_cut.proofs.Lefts.{bytes_less, bytes_are, bytes_part}
 use Rattle.m2v_cut.proofs.copy.put_next.Goals as goal

@@ -2,9 +2,9 @@ use Rattle.std.proofs.Common.{◌≡◌, ◌+◌, length, Err, refl, sym, ap, su
 use Rattle.std.proofs.lemmas.Result.{err_from_is_err_and}
 use Rattle.m2v_port.specs.Ends.{change}
 use Rattle.m2v_port.proofs.Runs.{rose_since, stays_here, stays_on}
-use Rattle.m2v_decoder.proofs.EndLaws.{whole_length}
+use Rattle.m2v_decode.proofs.EndLaws.{whole_length}
 use Rattle.m2v_model.specs.Units.{joined}
-use Rattle.m2v_decoder.specs.Decoding.{whole_of}
+use Rattle.m2v_decode.specs.Decoding.{whole_of}
 use Rattle.m2v_cut.specs.declared.copy.Copied.{Copied}
 use Rattle.m2v_cut.specs.Answers.{units_of}
 use Rattle.m2v_cut.specs.Progress.{RestFails}

@@ -1,6 +1,6 @@
 use Rattle.std.proofs.Common.{◌≡◌, ◌+◌, ◌*◌, ◌≤◌, length}
 use Rattle.m2v_model.specs.Units.{unit_bits}
-use Rattle.m2v_group.specs.Groups.{group_headers, to_end}
+use Rattle.m2v_law_group.specs.Groups.{group_headers, to_end}
 use Rattle.m2v_cut.proofs.look.count.Given as goal
 
 abbrev pub invariant-loop-unit : goal.invariant-loop-unit

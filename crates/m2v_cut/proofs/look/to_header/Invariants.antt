@@ -1,5 +1,5 @@
 use Rattle.std.proofs.Common.{◌≡◌, length}
-use Rattle.m2v_group.specs.Groups.{from_group}
+use Rattle.m2v_law_group.specs.Groups.{from_group}
 use Rattle.m2v_cut.proofs.look.to_header.Given as goal
 
 abbrev pub invariant-loop-unit : goal.invariant-loop-unit

@@ -1,8 +1,8 @@
 use Rattle.std.proofs.Common.{sym, ◌∙◌, ap}
 use Rattle.std.proofs.lemmas.Result.{err_from_is_err_and}
 use Rattle.m2v_port.proofs.Runs.{stays_on}
-use Rattle.m2v_decoder.proofs.EndLaws.{whole_length}
-use Rattle.m2v_group.specs.Groups.{with_broken_link}
+use Rattle.m2v_decode.proofs.EndLaws.{whole_length}
+use Rattle.m2v_law_group.specs.Groups.{with_broken_link}
 use Rattle.m2v_cut.proofs.Putting.{byte_cut, rest_cut}
 use Rattle.m2v_cut.proofs.put.put_first.Goals as goal
 

@@ -3,7 +3,7 @@ use Rattle.std.proofs.lemmas.Result.{err_from_is_err_and, on_ok_weaker, IfErr-we
 use Rattle.m2v_port.specs.Port.{Grows}
 use Rattle.m2v_port.specs.Ends.{change}
 use Rattle.m2v_port.proofs.Runs.{grows_on}
-use Rattle.m2v_decoder.specs.Decoding.{whole_of}
+use Rattle.m2v_decode.specs.Decoding.{whole_of}
 use Rattle.m2v_cut.specs.Progress.{Cuts, part}
 use Rattle.m2v_cut.proofs.Putting.{part_written, cuts_more, cuts_on}
 use Rattle.m2v_cut.proofs.put.put_part.Goals as goal

@@ -1,7 +1,7 @@
 use Rattle.m2v_port.specs.Ends.{change}
 use Rattle.m2v_port.proofs.Runs.{tells}
-use Rattle.m2v_group.specs.Chosen.{CutDecodes}
-use Rattle.m2v_group.proofs.Decodes.{cut_law}
+use Rattle.m2v_law_group.specs.Chosen.{CutDecodes}
+use Rattle.m2v_law_group.proofs.Decodes.{cut_law}
 use Rattle.m2v_cut.proofs.Finals.{answered}
 use Rattle.m2v_cut.proofs.whole.cut.Goals as goal
 

@@ -1,7 +1,7 @@
 use Rattle.std.proofs.Common.{◌≡◌, ℕ, Option, Some, None, ◌-◌, ◌∙◌, refl, sym, subst, arith}
-use Rattle.m2v_decoder.specs.Decoding.{whole_of}
+use Rattle.m2v_decode.specs.Decoding.{whole_of}
 use Rattle.m2v_model.specs.Units.{cut}
-use Rattle.m2v_decoder.proofs.EndLaws.{whole_length}
+use Rattle.m2v_decode.proofs.EndLaws.{whole_length}
 use Rattle.m2v_cut.proofs.Firsts.{headers_less, start_fits, header_low, second_room, second_sound}
 use Rattle.std.proofs.lemmas.Result.{err_from_is_err_and}
 use Rattle.m2v_port.specs.Ends.{change}

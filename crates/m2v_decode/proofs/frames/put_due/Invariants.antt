@@ -1,6 +1,6 @@
 use Rattle.std.proofs.Common.{length}
 use Rattle.m2v_port.specs.Ends.{change, SinkStays}
-use Rattle.m2v_decoder.specs.Decoding.{due_of}
+use Rattle.m2v_decode.specs.Decoding.{due_of}
 use Rattle.m2v_decode.proofs.Putting.{HasPutSome}
 use Rattle.m2v_decode.proofs.frames.put_due.Given as goal
 

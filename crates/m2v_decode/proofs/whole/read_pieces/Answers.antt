@@ -1,7 +1,7 @@
 use Rattle.std.proofs.Common.{Err, refl, ap, arith}
 use Rattle.std.proofs.lemmas.Result.{err_from_is_err_and}
 use Rattle.m2v_port.proofs.Runs.{rose_since, stays_here, stays_on}
-use Rattle.m2v_decoder.proofs.EndLaws.{whole_length}
+use Rattle.m2v_decode.proofs.EndLaws.{whole_length}
 use Rattle.m2v_decode.proofs.Going.{progress_none, progress_more, cutter_stopped, piece_refused, put_stopped, pieces_done}
 use Rattle.m2v_decode.proofs.whole.read_pieces.Goals as goal
 

@@ -3,7 +3,7 @@ use Rattle.std.proofs.Math.ListN.{get_or-map}
 use Rattle.std.specs.Prelude.{nat_lt}
 use Rattle.std.proofs.lemmas.Int.{to_z-of_z}
 use mir.Syntax.{w32}
-use Rattle.m2v_quant.specs.declared.kind.Levels.{Levels}
+use Rattle.m2v_block.specs.m2v_quant.declared.kind.Levels.{Levels}
 use Rattle.m2v_macroblock.specs.Macroblocks.{macroblock_of}
 use Rattle.m2v_macroblock.proofs.DcLaws.{predictor_passed}
 use Rattle.m2v_macroblock.proofs.BlockTexts.{one_gained}

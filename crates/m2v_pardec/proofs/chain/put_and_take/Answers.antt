@@ -2,7 +2,7 @@ use Rattle.std.proofs.Common.{◌++◌}
 use Rattle.std.specs.Prelude.{option_to_list}
 use Rattle.std.proofs.lemmas.Result.{err_from_is_err_and}
 use Rattle.m2v_port.specs.Port.{Rose}
-use Rattle.m2v_piece.specs.declared.answer.DecodeError.TheVariants as errors
+use Rattle.m2v_dec_piece.specs.declared.answer.DecodeError.TheVariants as errors
 use Rattle.m2v_pardec.specs.Ahead.{later_of}
 use Rattle.m2v_pardec.proofs.AheadLaws.{fails_weaker}
 use Rattle.m2v_pardec.proofs.chain.put_and_take.Goals as goal

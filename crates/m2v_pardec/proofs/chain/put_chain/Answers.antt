@@ -2,7 +2,7 @@ use Rattle.std.proofs.Common.{◌++◌, map, arith}
 use Rattle.std.proofs.lemmas.Result.{err_from_is_err_and}
 use Rattle.m2v_port.specs.Port.{Rose}
 use Rattle.m2v_port.proofs.Runs.{rose_since, stays_here, stays_on}
-use Rattle.m2v_piece.specs.declared.answer.DecodeError.TheVariants as errors
+use Rattle.m2v_dec_piece.specs.declared.answer.DecodeError.TheVariants as errors
 use Rattle.m2v_pardec.specs.Taken.{piece_of, pieces_of}
 use Rattle.m2v_pardec.proofs.AheadLaws.{fails_weaker}
 use Rattle.m2v_pardec.proofs.ChainLaws.{first_tracks, under_by, works_ahead, works_rise, chain_ends, chain_stops, read_both}

@@ -3,7 +3,7 @@ use Rattle.std.specs.Prelude.{◌++◌}
 use Rattle.std.proofs.lemmas.Result.{err_from_is_err_and, IfErr-weaker}
 use Rattle.m2v_port.specs.Port.{Rose}
 use Rattle.m2v_port.proofs.Runs.{rose_since}
-use Rattle.m2v_piece.proofs.Steps.{both_ok}
+use Rattle.m2v_dec_piece.proofs.Steps.{both_ok}
 use Rattle.m2v_pardec.specs.Taken.{piece_of, pieces_of}
 use Rattle.m2v_pardec.specs.Put.{StopsBy}
 use Rattle.m2v_pardec.proofs.PutLaws.{front_order, behind_order, stops_first, stops_next, counts_both}

@@ -2,7 +2,7 @@ use Rattle.std.proofs.Common.{List, map, drop, get_or, subst, ◌+◌}
 use Rattle.std.proofs.lemmas.Option.{slice_get-get_or}
 use Rattle.std.proofs.lemmas.Result.{err_from_is_err_and}
 use Rattle.m2v_port.proofs.Runs.{rose_since, stays_on}
-use Rattle.m2v_batch.specs.declared.picture.BatchPicture.{BatchPicture}
+use Rattle.m2v_dec_batch.specs.declared.picture.BatchPicture.{BatchPicture}
 use Rattle.m2v_pardec.specs.Taken.{piece_of}
 use Rattle.m2v_pardec.specs.Put.{PutsTo, CountsTo}
 use Rattle.m2v_pardec.proofs.PutLaws.{puts_more, counts_more, stops_behind}

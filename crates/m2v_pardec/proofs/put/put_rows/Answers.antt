@@ -2,7 +2,7 @@ use Rattle.std.proofs.Common.{map, arith, ◌∙◌}
 use Rattle.std.proofs.lemmas.Result.{err_from_is_err_and}
 use Rattle.m2v_port.specs.Ends.{change}
 use Rattle.m2v_port.proofs.Runs.{rose_since, stays_on}
-use Rattle.m2v_batch.proofs.Sizes.{count_is}
+use Rattle.m2v_dec_batch.proofs.Sizes.{count_is}
 use Rattle.m2v_pardec.specs.Taken.{piece_of}
 use Rattle.m2v_pardec.proofs.PutSteps.{after_there, next_sound, can_take, picture_there, puts_next, counts_next, told_next, behind_next, behind_done, tracks_on, refused_at, unwritten_at, puts_done, counts_done}
 use Rattle.m2v_pardec.proofs.put.put_rows.Goals as goal

@@ -1,7 +1,7 @@
 use Rattle.std.proofs.Common.{◌≡◌, ◌^◌, true, false, List, [], ◌∷◌, ◌++◌, map, sym, subst, ◌∙◌, arith}
 use Rattle.m2v_port.proofs.Runs.{on_err}
-use Rattle.m2v_piece.specs.declared.answer.Piece.{Piece}
-use Rattle.m2v_batch.specs.declared.picture.BatchPicture.{BatchPicture}
+use Rattle.m2v_dec_piece.specs.declared.answer.Piece.{Piece}
+use Rattle.m2v_dec_batch.specs.declared.picture.BatchPicture.{BatchPicture}
 use Rattle.m2v_pardec.specs.declared.taking.Stop.{Stop}
 use Rattle.m2v_pardec.specs.Ahead.{AreInOrder, Takes, HandsOut, none, more}
 use Rattle.m2v_pardec.specs.Taken.{AddedTo, piece_of, pieces_of, end_by}

@@ -1,6 +1,6 @@
 use Rattle.std.proofs.Common.{◌≡◌, ◌≤◌, false, []}
 use Rattle.m2v_port.specs.Ends.{SinkStays}
-use Rattle.m2v_piece.specs.Cutting.{Cutting}
+use Rattle.m2v_dec_piece.specs.Cutting.{Cutting}
 use Rattle.m2v_pardec.specs.Ahead.{later_of, IsAhead}
 use Rattle.m2v_pardec.specs.Taken.{ReadFailed, batches_left}
 use Rattle.m2v_pardec.specs.Put.{StandsBy}

@@ -1,5 +1,5 @@
 use Rattle.std.proofs.Common.{◌≡◌, ℕ, ◌<◌, ◌+◌, ◌*◌, cond, nat_lt}
-use Rattle.m2v_plane.specs.declared.planes.Plane.TheVariants.{Y}
+use Rattle.m2v_pred.specs.m2v_plane.declared.planes.Plane.TheVariants.{Y}
 use Rattle.m2v_recon.specs.Macro.{residual, block_of, is_alone, kind_at}
 use Rattle.m2v_recon.specs.Steps.{levels_of}
 use Rattle.m2v_recon.proofs.Luma.{spot, plus}

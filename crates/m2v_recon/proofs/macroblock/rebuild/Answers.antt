@@ -1,7 +1,7 @@
 use Rattle.std.proofs.Common.{◌∙◌, ap, take, drop}
-use Rattle.m2v_plane.specs.declared.planes.Plane.TheVariants.{Cb, Cr}
-use Rattle.m2v_plane.specs.declared.planes.Lines.TheVariants.{Whole}
-use Rattle.m2v_plane.specs.Samples.{Samples, square_of, with_square}
+use Rattle.m2v_pred.specs.m2v_plane.declared.planes.Plane.TheVariants.{Cb, Cr}
+use Rattle.m2v_pred.specs.m2v_plane.declared.planes.Lines.TheVariants.{Whole}
+use Rattle.m2v_pred.specs.m2v_plane.Samples.{Samples, square_of, with_square}
 use Rattle.m2v_recon.specs.Macro.{kind_at, macro_sample}
 use Rattle.m2v_recon.specs.Steps.{levels_of}
 use Rattle.m2v_recon.proofs.Samples.{squares_are}

@@ -1,5 +1,5 @@
 use Rattle.std.proofs.Common.{IfOk, sym, subst}
-use Rattle.m2v_check.specs.declared.verdict.Verdict.{Verdict}
+use Rattle.m2v_make.specs.m2v_check.declared.verdict.Verdict.{Verdict}
 use Rattle.m2v_tool.specs.Endings.{IsReport}
 use Rattle.m2v_tool.specs.Checking.{verdict_ending}
 use Rattle.m2v_tool.proofs.check.told.Goals as goal

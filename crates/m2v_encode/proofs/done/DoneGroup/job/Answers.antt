@@ -1,6 +1,6 @@
 use Rattle.std.proofs.Common.{◌∙◌, ◌<◌, sym, subst, ap, List, get_or}
 use Rattle.m2v_order.specs.declared.jobs.PictureJob.{PictureJob}
-use Rattle.m2v_preface.specs.Headers.{IsJob}
+use Rattle.m2v_slice.specs.Headers.{IsJob}
 use Rattle.m2v_slice.specs.Books.{no_job}
 use Rattle.m2v_encode.proofs.Pieces.{job_is, job_there}
 use Rattle.m2v_encode.proofs.done.DoneGroup.job.Goals as goal

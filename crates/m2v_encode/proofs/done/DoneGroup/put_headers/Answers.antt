@@ -1,7 +1,7 @@
 use Rattle.std.proofs.Common.{ap, length, arith}
 use Rattle.std.proofs.lemmas.List.{length-append}
-use Rattle.m2v_preface.proofs.TextLengths.{header_length}
-use Rattle.m2v_preface.specs.Headers.{header_units}
+use Rattle.m2v_slice.proofs.TextLengths.{header_length}
+use Rattle.m2v_slice.specs.Headers.{header_units}
 use Rattle.m2v_encode.proofs.done.DoneGroup.put_headers.Goals as goal
 
 pub returns-clause-room : goal.returns-clause-room

@@ -3,9 +3,9 @@ use Rattle.std.proofs.lemmas.Result.{err_from_is_err_and}
 use Rattle.m2v_bits.specs.Bits.{packed}
 use Rattle.m2v_rate.specs.Plans.{Entries}
 use Rattle.m2v_port.proofs.Runs.{grows_on}
-use Rattle.m2v_preface.specs.Headers.{header_units, bits_to_code}
+use Rattle.m2v_slice.specs.Headers.{header_units, bits_to_code}
 use Rattle.m2v_slice.specs.Books.{rows, job_at}
-use Rattle.m2v_stream.specs.Streams.{zeros_of}
+use Rattle.m2v_law_headline.specs.m2v_enc_stream.Streams.{zeros_of}
 use Rattle.m2v_encode.specs.Groups.{slices_text}
 use Rattle.m2v_encode.proofs.Puts.{put_first, put_then, grown_by}
 use Rattle.m2v_encode.proofs.PictureLaws.{known_at, due_at, zeros_at, sent_small, sent_bytes, parts_of, parts_split}

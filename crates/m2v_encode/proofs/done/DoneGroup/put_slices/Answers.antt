@@ -2,7 +2,7 @@ use Rattle.std.proofs.Common.{◌∙◌, ◌+◌, ◌-◌, ◌++◌, ℕ, List, 
 use Rattle.std.proofs.lemmas.Result.{err_from_is_err_and}
 use Rattle.m2v_bits.specs.Bits.{packed}
 use Rattle.m2v_port.proofs.Runs.{stays_here, stays_on, grows_on, grows_by_nothing}
-use Rattle.m2v_row.specs.Slices.{CodedSlice}
+use Rattle.m2v_slice.specs.Slices.{CodedSlice}
 use Rattle.m2v_slice.specs.Books.{rows}
 use Rattle.m2v_encode.specs.Groups.{slices_text}
 use Rattle.m2v_encode.proofs.Puts.{put_then, put_same, grown_by}

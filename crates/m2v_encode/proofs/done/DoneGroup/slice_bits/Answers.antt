@@ -1,6 +1,6 @@
 use Rattle.std.proofs.Common.{◌∙◌, sym, ap, length, arith}
 use Rattle.m2v_bits.proofs.Cursor.{length-bits}
-use Rattle.m2v_row.specs.Slices.{CodedSlice}
+use Rattle.m2v_slice.specs.Slices.{CodedSlice}
 use Rattle.m2v_encode.proofs.Pieces.{slice_small}
 use Rattle.m2v_encode.proofs.done.DoneGroup.slice_bits.Goals as goal
 

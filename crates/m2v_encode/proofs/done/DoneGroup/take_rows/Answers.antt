@@ -6,7 +6,7 @@ use Rattle.m2v_plane.specs.Samples.{Samples, with_row}
 use Rattle.m2v_set.specs.Numbers.{dims_of, frame_rows_by}
 use Rattle.m2v_order.specs.declared.jobs.PictureJob.{PictureJob}
 use Rattle.m2v_pred.specs.Motion.{own_lines}
-use Rattle.m2v_row.specs.Slices.{CodedSlice}
+use Rattle.m2v_slice.specs.Slices.{CodedSlice}
 use Rattle.m2v_slice.specs.Books.{job_at}
 use Rattle.m2v_slice.proofs.Groups.{picture_is_one, row_within}
 use Rattle.m2v_slice.proofs.Fitting.{slice_size}

@@ -1,6 +1,6 @@
 use Rattle.std.proofs.Common.{◌≡◌, true, drop, sym, rules}
 use Rattle.std.proofs.lemmas.List.Elements.{All-drop}
-use Rattle.m2v_plane.specs.Samples.{Samples}
+use Rattle.m2v_set.specs.m2v_plane.Samples.{Samples}
 use Rattle.m2v_set.specs.Numbers.{dims_of}
 use Rattle.m2v_order.specs.Groups.{Queue, anchor_before, is_due, group_of, group_size}
 use Rattle.m2v_order.proofs.Queues.{grouped, due_is, turn_is, sound_next, group_some, group_places}

@@ -1,6 +1,6 @@
 use Rattle.std.proofs.Common.{◌≡◌, arith}
 use Rattle.std.proofs.lemmas.List.Elements.{All-push}
-use Rattle.m2v_plane.specs.Samples.{Samples}
+use Rattle.m2v_set.specs.m2v_plane.Samples.{Samples}
 use Rattle.m2v_set.specs.Numbers.{dims_of}
 use Rattle.m2v_order.specs.Groups.{Queue}
 use Rattle.m2v_order.proofs.Queues.{grouped, sound_push}

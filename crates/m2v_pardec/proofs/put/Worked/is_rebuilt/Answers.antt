@@ -1,5 +1,5 @@
 use Rattle.std.proofs.Common.{subst, sym}
-use Rattle.m2v_batch.specs.Batches.{IsBatch}
+use Rattle.m2v_dec_batch.specs.Batches.{IsBatch}
 use Rattle.m2v_pardec.proofs.PutSteps.{all_there}
 use Rattle.m2v_pardec.proofs.put.Worked.is_rebuilt.Goals as goal
 

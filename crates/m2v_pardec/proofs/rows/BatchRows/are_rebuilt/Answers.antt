@@ -1,6 +1,6 @@
 use Rattle.std.proofs.Common.{ap, arith}
-use Rattle.m2v_batch.specs.Jobs.{jobs_of}
-use Rattle.m2v_batch.specs.Batches.{headers}
+use Rattle.m2v_dec_batch.specs.Jobs.{jobs_of}
+use Rattle.m2v_dec_batch.specs.Batches.{headers}
 use Rattle.m2v_pardec.specs.Rows.{RowsFrom}
 use Rattle.m2v_pardec.proofs.PutSteps.{jobs_small}
 use Rattle.m2v_pardec.proofs.rows.BatchRows.are_rebuilt.Goals as goal

@@ -6,9 +6,9 @@ use Rattle.m2v_rate.specs.declared.values.Plan.{Plan}
 use Rattle.m2v_rate.specs.Plans.{slice_cap_of}
 use Rattle.m2v_choose.specs.Own.{IsCode}
 use Rattle.m2v_choose.specs.Trials.{IsRead}
-use Rattle.m2v_row.specs.Slices.{CodedSlice, most_bits_of}
-use Rattle.m2v_row.specs.Steps.{row_place}
-use Rattle.m2v_preface.specs.Headers.{IsJob}
+use Rattle.m2v_slice.specs.Slices.{CodedSlice, most_bits_of}
+use Rattle.m2v_slice.specs.Steps.{row_place}
+use Rattle.m2v_slice.specs.Headers.{IsJob}
 use Rattle.m2v_slice.specs.Books.{job_at, forward_number}
 use Rattle.m2v_slice.specs.Windows.{Window, HoldsLine}
 use Rattle.m2v_slice.proofs.Steady.{IsPlan}

@@ -1,4 +1,0 @@
-pub mod IntraLaws
-pub mod RowFrames
-pub mod RebuiltRows
-pub mod NextFrames

@@ -1,0 +1,35 @@
+use Rattle.std.proofs.Common.{◌∙◌, arith, All, take}
+use Rattle.std.specs.Prelude.{nat_lt}
+use Rattle.std.proofs.lemmas.Int.{to_z-of_z}
+use Rattle.std.proofs.lemmas.List.{length-map}
+use mir.Syntax.{w32}
+use Rattle.m2v_quant.specs.declared.kind.Levels.{Levels}
+use Rattle.m2v_recon.specs.Steps.{levels_of}
+use Rattle.m2v_dec_picture.proofs.BlockLaws.{predictor_passed, predicted_by, kind_at, kind_is, as_block, tells_block, levels_more, fine_more, own_fine, if_ok}
+use Rattle.m2v_dec_picture.proofs.blocks.next_block.Goals as goal
+
+pub block-requires-clause-kind : goal.block-requires-clause-kind
+block-requires-clause-kind c = kind_is c.args.c.now c.args.m.now c.args.state.now c.args.kinds.now c.args.k _ c.requires.block c.requires.kinds
+
+pub block-requires-clause-predictor : goal.block-requires-clause-predictor
+block-requires-clause-predictor c =
+    let len = length-map c.args.out.now (λ (l : Levels). l.at) ∙ c.told-out in
+    let kind = kind_at c.args.c.now c.args.m.now c.args.state.now c.args.kinds.now c.args.k _ c.requires.block c.requires.kinds in
+    predictor_passed c.args.c.now c.args.m.now c.args.state.now (levels_of c.args.out.now) c.args.k (nat_lt c.args.k 4) _ c.predictor-dc.result
+    c.requires.block len c.requires.dc c.requires.before kind c.predictor-dc.ensures (record { sfits = c.predictor-dc.type_inv })
+
+pub returns-clause-exact : goal.returns-clause-exact
+returns-clause-exact c =
+    let kind = kind_at c.args.c.now c.args.m.now c.args.state.now c.args.kinds.now c.args.k _ c.requires.block c.requires.kinds in
+    let dc = to_z-of_z w32 c.predictor-dc.result (record { sfits = c.predictor-dc.type_inv }) ∙ c.predictor-dc.ensures ∙ predicted_by c.args.state.now.dc (levels_of c.args.out.now) c.args.k c.requires.block in
+    let same = as_block c.args.c.now c.args.m.now c.args.state.now c.args.k (take c.args.k (levels_of c.args.out.now)) _ _ _ c.is_coded-coded.ensures.value kind dc in
+    tells_block c.block.result c.block.new.out.at _ _ _ _ _ (λ i. (same i).read c.args.input.now.rest) c.block.ensures.exact
+    (levels_more c.args.out.now c.args.k c.block.new.out (omega (arith, c.told-out, c.requires.block)))
+
+pub returns-clause-fine : goal.returns-clause-fine
+returns-clause-fine c =
+    let kind = kind_at c.args.c.now c.args.m.now c.args.state.now c.args.kinds.now c.args.k _ c.requires.block c.requires.kinds in
+    if_ok c.block.result _ _
+    (λ dc. fine_more c.args.c.now c.args.m.now c.args.out.now c.args.k c.block.new.out (omega (arith, c.told-out, c.requires.block)) c.requires.before
+    (own_fine c.args.c.now c.args.m.now c.args.state.now (nat_lt c.args.k 4) _ c.block.new.out.at kind c.block.ensures.levels dc))
+    c.block.ensures.dc

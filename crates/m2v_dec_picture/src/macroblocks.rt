@@ -1,0 +1,225 @@
+ghost use Rattle.std.specs.Prelude.{◌≡◌, ◌<◌, ◌≤◌, ◌+◌, ◌*◌, ℕ, All, IfOk, OnOk, IfErr, length, true, false};
+ghost use Rattle.m2v_bits.specs.Syntax.{renamed};
+ghost use Rattle.m2v_quant.specs.Kinds.{IsLevel};
+ghost use Rattle.m2v_pred.specs.declared.mode.MbPlace.{MbPlace as MbPlaceOf};
+ghost use Rattle.m2v_macro.specs.Macros.{macro_at};
+ghost use Rattle.m2v_macro.specs.States.{after};
+ghost use Rattle.m2v_macro.specs.Conditions.{IsMacro};
+ghost use Rattle.m2v_macroblock.specs.Modes.{mode_of};
+ghost use Rattle.m2v_model.specs.Faults as faults;
+ghost use Rattle.m2v_model.specs.Slices.{macroblock_at};
+ghost use Rattle.m2v_model.specs.Stops.{Tells};
+ghost use Rattle.m2v_dec_picture.specs.Conditions.{IsPicture, IsSetup, IsState, AreDc, LiesInRow, rows_in, place_in, HoldsForward, HoldsBackward, CanPaint, IsColumn, IsGap, last_dc, GoesOn, AreFew};
+ghost use Rattle.m2v_dec_picture.specs.Reads.{TellsMacroblock, TellsRound, TellsRow, seen_by};
+
+use crate::blocks::blocks;
+use crate::gap::{Gap, column, gap_before};
+use crate::paint::{paint_gap, paint_own};
+use crate::rules::check;
+use crate::scratch::Scratch;
+use crate::target::Target;
+use m2v_bits::BitReader;
+use m2v_macro::{MacroSyntax, PictureContext, SliceState, read_macro};
+use m2v_macroblock::{dc_after, kinds, mode};
+use m2v_model::{SliceSetup, Stop, of_macro, stopped};
+use m2v_plane::RefView;
+use m2v_pred::Mode;
+use m2v_quant::Levels;
+
+/// A macroblock that was read, how it is predicted, and where it stands in its row.
+#[derive(Clone, Copy, Debug, PartialEq, Eq)]
+pub struct Located {
+    pub syntax: MacroSyntax,
+    pub mode: Mode,
+    pub column: u32,
+    pub gap: Gap,
+}
+
+/// What is told of a macroblock beside its samples.
+#[derive(Clone, Copy, Debug, PartialEq, Eq)]
+pub struct Round {
+    /// Another macroblock follows.
+    pub more: bool,
+    /// It has more than 4,608 bits.
+    pub large: bool,
+}
+
+/// How many bits are left.
+#[inline(always)]
+fn bits_left(input: &BitReader) -> u64
+    ensures value { result ≡ length input.now.rest }
+    ensures within { result ≤ length input.now.text }
+{
+    // what is left is not more than the whole text
+    let _place = input.place();
+    input.left()
+}
+
+/// A macroblock's elements up to its pattern, and the state behind them.
+#[tactic(auto, unfolding(m2v_bits::specs::Syntax::renamed))]
+fn elements(
+    input: &mut BitReader,
+    c: &PictureContext,
+    row: u32,
+    state: &mut SliceState,
+) -> Result<MacroSyntax, Stop>
+    requires picture { IsPicture c.now }
+    requires state { IsState c.now row state.old }
+    ensures exact { Tells result input.new.rest
+        ((renamed faults.of_macro (macro_at c.now state.old)).read input.old.rest) }
+    ensures text { input.new.text ≡ input.old.text }
+    ensures left { IfErr result (λ e. e.left ≤ length input.old.text) }
+    ensures fits { IfOk result (λ m. IsMacro c.now state.old m) }
+    ensures state { IfOk result (λ m. state.new ≡ after c.now state.old m) }
+    ensures inside { IfOk result (λ m. IsState c.now row state.new) }
+    ensures place { IfOk result (λ m. LiesInRow c.now row state.new.address) }
+{
+    match read_macro(input, c, state) {
+        Ok(m) => Ok(m),
+        Err(e) => Err(stopped(input, of_macro(e))),
+    }
+}
+
+/// A macroblock with the levels of its blocks. The state is that behind its elements.
+#[tactic(auto, unfolding(m2v_model::specs::Slices::macroblock_at, m2v_bits::specs::Syntax::here, m2v_bits::specs::Syntax::rule, m2v_bits::specs::Syntax::seq, m2v_bits::specs::Syntax::bind, m2v_bits::specs::Syntax::done))]
+fn macroblock(
+    input: &mut BitReader,
+    s: &SliceSetup,
+    row: u32,
+    state: &mut SliceState,
+    levels: &mut [Levels; 6],
+) -> Result<Located, Stop>
+    requires setup { IsSetup s.now }
+    requires row { row < rows_in s.now }
+    requires state { IsState s.now.context row state.old }
+    ensures exact { TellsMacroblock result levels.new input.new.rest
+        ((macroblock_at s.now state.old).read input.old.rest) }
+    ensures text { input.new.text ≡ input.old.text }
+    ensures left { IfErr result (λ e. e.left ≤ length input.old.text) }
+    ensures can { IfOk result (λ x. CanPaint s.now state.old x.syntax) }
+    ensures gap { IfOk result (λ x. IsGap s.now.context row state.old x.syntax x.gap) }
+    ensures column { IfOk result (λ x. IsColumn s.now.context row state.old x.syntax x.column) }
+    ensures mode { IfOk result (λ x. x.mode ≡ mode_of s.now.context x.syntax) }
+    ensures state { IfOk result (λ x. state.new ≡ after s.now.context state.old x.syntax) }
+    ensures inside { IfOk result (λ x. IsState s.now.context row state.new) }
+    ensures place { IfOk result (λ x. LiesInRow s.now.context row state.new.address) }
+    ensures levels { OnOk result (All (λ l. All IsLevel l.at) levels.new) }
+    ensures dc { IfOk result (λ x. x.syntax.kind.intra ≡ true
+        → AreDc s.now.context.extension.dc_precision (last_dc levels.new)) }
+{
+    let before = *state;
+    let left = bits_left(input);
+    let syntax = elements(input, &s.context, row, state)?;
+    let gap = gap_before(&s.context, row, &before, &syntax);
+    let column = column(&s.context, row, state);
+    let mode = mode(&s.context, &syntax);
+    check(s, row, column, gap, &before, &syntax, &mode, left)?;
+    let kinds = kinds(&s.context, syntax.kind.intra, state.quantiser);
+    blocks(input, &s.context, &syntax, state, &kinds, levels)?;
+    Ok(Located {
+        syntax,
+        mode,
+        column,
+        gap,
+    })
+}
+
+/// One macroblock, put with those skipped before it.
+#[tactic(auto, unfolding(m2v_model::specs::Samples::painted, m2v_macroblock::specs::Macroblocks::after_macroblock))]
+fn next_macroblock<V: RefView, T: Target>(
+    input: &mut BitReader,
+    s: &SliceSetup,
+    row: u32,
+    state: &mut SliceState,
+    forward: &V,
+    backward: &V,
+    scratch: &mut Scratch,
+    out: &mut T,
+) -> Result<Round, Stop>
+    requires setup { IsSetup s.now }
+    requires row { row < rows_in s.now }
+    requires state { IsState s.now.context row state.old }
+    requires forward { HoldsForward s.now (V.size forward.now) (V.Holds forward.now) }
+    requires backward { HoldsBackward s.now (V.size backward.now) (V.Holds backward.now) }
+    requires takes { (column : ℕ) → column < s.now.context.columns
+        → T.Takes out.old (place_in s.now row column) }
+    ensures exact { TellsRound T.placed s.now (seen_by (V.at forward.now) (V.at backward.now))
+        state.old input.old.rest (T.samples out.old)
+        result state.new input.new.rest (T.samples out.new) }
+    ensures text { input.new.text ≡ input.old.text }
+    ensures left { IfErr result (λ e. e.left ≤ length input.old.text) }
+    ensures state { IfOk result (λ r. IsState s.now.context row state.new) }
+    ensures place { IfOk result (λ r. LiesInRow s.now.context row state.new.address) }
+    ensures goes_on { IfOk result (λ r. GoesOn state.old state.new) }
+    ensures takes { IfOk result (λ r. (p : MbPlaceOf) → T.Takes out.old p → T.Takes out.new p) }
+{
+    let before = *state;
+    let start = bits_left(input);
+    let x = macroblock(input, s, row, state, &mut scratch.levels)?;
+    let end = bits_left(input);
+    let block = &mut scratch.block;
+    paint_gap(
+        s, row, x.gap, &before, &x.syntax, forward, backward, block, out,
+    );
+    paint_own(
+        s,
+        row,
+        x.column,
+        &before,
+        state,
+        &x.syntax,
+        &x.mode,
+        &scratch.levels,
+        forward,
+        backward,
+        block,
+        out,
+    );
+    state.dc = dc_after(x.syntax.kind.intra, &scratch.levels, state.dc);
+    Ok(Round {
+        more: !input.rest_is_zero(),
+        large: start.saturating_sub(end) > 4608,
+    })
+}
+
+/// Macroblocks, each put with those skipped before it, until the rest of the unit is zero. Answers the state behind the
+/// last one, and how many of them have more than 4,608 bits.
+pub fn macroblocks<V: RefView, T: Target>(
+    input: &mut BitReader,
+    s: &SliceSetup,
+    row: u32,
+    first: SliceState,
+    forward: &V,
+    backward: &V,
+    scratch: &mut Scratch,
+    out: &mut T,
+) -> Result<(SliceState, u32), Stop>
+    requires setup { IsSetup s.now }
+    requires row { row < rows_in s.now }
+    requires state { IsState s.now.context row first }
+    requires begins { first.first ≡ true }
+    requires forward { HoldsForward s.now (V.size forward.now) (V.Holds forward.now) }
+    requires backward { HoldsBackward s.now (V.size backward.now) (V.Holds backward.now) }
+    requires takes { (column : ℕ) → column < s.now.context.columns
+        → T.Takes out.old (place_in s.now row column) }
+    ensures exact { TellsRow T.placed s.now (seen_by (V.at forward.now) (V.at backward.now)) first
+        input.old.rest (T.samples out.old)
+        result input.new.rest (T.samples out.new) }
+    ensures left { IfErr result (λ e. e.left ≤ length input.old.text) }
+    ensures place { IfOk result (λ z. LiesInRow s.now.context row z.0.address) }
+    ensures few { IfOk result (λ z. AreFew first.next z.0 z.1) }
+    ensures some { IfOk result (λ z. z.0.first ≡ false) }
+    ensures takes { IfOk result (λ z. (p : MbPlaceOf) → T.Takes out.old p → T.Takes out.new p) }
+{
+    let mut state = first;
+    let mut large = 0;
+    loop {
+        let r = next_macroblock(input, s, row, &mut state, forward, backward, scratch, out)?;
+        if r.large {
+            large += 1;
+        }
+        if !r.more {
+            return Ok((state, large));
+        }
+    }
+}

@@ -1,0 +1,99 @@
+-- Bytes of which none is 0, taken at once.
+use Rattle.std.proofs.Common.{◌≡◌, ℕ, ◌+◌, ◌≤◌, ◌<◌, ◌^◌, Bool, true, false, List, [], ◌∷◌, ◌++◌, length, take, drop, Option, Some, None, refl, sym, ap, subst, ◌∙◌, append_assoc, arith}
+use Rattle.std.specs.Prelude.{nat_eq, nat_le, not, ◌&&◌, if◌then◌else◌}
+use Rattle.std.proofs.lemmas.Bool.{lt-leb}
+use Rattle.std.proofs.lemmas.List.{length-take-le, take-append-drop}
+use Rattle.std.proofs.lemmas.List.Elements.{All-head, All-tail}
+use Rattle.m2v_model.specs.declared.phase.Phase.{Phase}
+use Rattle.m2v_model.specs.declared.phase.Phase.TheVariants.{Before, Headers, Picture}
+use Rattle.m2v_model.specs.Pieces.{limit, Limit, too_large, most_input, most_bytes}
+use Rattle.m2v_dec_piece.specs.Cutting.{Held, Fits, Took, TookAll, AreNonzero, behind, limit_in, limit_of, pieces_behind, start_behind}
+use Rattle.m2v_dec_piece.specs.Stepping.{Reaches, before_more}
+use Rattle.m2v_dec_piece.proofs.LimitLaws.{behind_none, behind_more, limit_of_more, limit_of_stays}
+use Rattle.m2v_dec_piece.proofs.Steps.{took_other}
+
+-- few bytes pass no limit
+few_fit : (place k : ℕ) (bs : List ℕ) → place + (k + length bs) ≤ most_input → k + length bs ≤ most_bytes → limit place k bs ≡ None
+unfolding limit
+few_fit place k [] long large = refl
+few_fit place k (b ∷ bs) long large =
+    let one : nat_le most_input (place + k) ≡ false = lt-leb _ _ (omega (arith, long)) in
+    let other : nat_le most_bytes k ≡ false = lt-leb _ _ (omega (arith, large)) in
+    let rest = few_fit place (k + 1) bs (omega (arith, long)) (omega (arith, large)) in
+    rw (one, other) (by_case (not (nat_eq b 0)) rest)
+  where
+    by_case : (x : Bool) {o : Option Limit} → o ≡ None → (if x && false then Some too_large else o) ≡ None
+    by_case true e = e
+    by_case false e = e
+
+-- where bytes pass no limit those that stand first pass none
+front_fits : (h : Held) (xs ys : List ℕ) → limit_of h (xs ++ ys) ≡ None → limit_of h xs ≡ None
+front_fits h xs ys none = by_case (limit_of h xs) refl
+  where
+    by_case : (o : Option Limit) → limit_of h xs ≡ o → limit_of h xs ≡ None
+    by_case None e = e
+    by_case (Some l) e = absurd (let some = limit_of_stays h xs ys l e in let no : None ≡ Some l = sym none ∙ some in cc)
+
+took_none : (h : Held) → Fits h → TookAll h [] h
+took_none h fits = record { pieces = λ text. refl; start = λ text. refl; more = omega arith; phase = refl; onward = omega arith; fits = fits }
+
+took_more : (h now new : Held) (b : ℕ) (bs : List ℕ) → Took h b now → now.phase ≡ h.phase → TookAll now bs new → TookAll h (b ∷ bs) new
+took_more h now new b bs one phase all = record {
+  pieces = λ text. one.pieces (bs ++ text) ∙ all.pieces text;
+  start = λ text. one.start (bs ++ text) ∙ all.start text;
+  more = omega (arith, one.more, all.more);
+  phase = all.phase ∙ phase;
+  onward = omega (arith, one.onward, all.onward);
+  fits = all.fits;
+}
+
+-- bytes of which none is 0, behind no byte of a prefix
+took_all : (phase : Phase) (place : ℕ) (sure bs : List ℕ) → AreNonzero bs → Fits (record { phase = phase; place = place; sure = sure; ahead = 0 })
+    → limit_of (record { phase = phase; place = place; sure = sure; ahead = 0 }) bs ≡ None
+    → TookAll (record { phase = phase; place = place; sure = sure; ahead = 0 }) bs (behind (record { phase = phase; place = place; sure = sure; ahead = 0 }) bs)
+took_all phase place sure [] some fits none =
+    let h : Held = record { phase = phase; place = place; sure = sure; ahead = 0 } in
+    subst (TookAll h []) (behind_none h) (took_none h fits)
+took_all phase place sure (b ∷ bs) some fits none =
+    let h : Held = record { phase = phase; place = place; sure = sure; ahead = 0 } in
+    let now = behind h (b ∷ []) in
+    let first = front_fits h (b ∷ []) bs none in
+    let one : Took h b now = took_other h now b (omega arith) (All-head (λ x. nat_eq x 0 ≡ false) b bs some) (λ two. absurd (omega arith)) fits refl first in
+    let rest : limit_of now bs ≡ None = sym (limit_of_more h (b ∷ []) bs first) ∙ none in
+    let all = took_all phase now.place now.sure bs (All-tail (λ x. nat_eq x 0 ≡ false) b bs some) one.fits rest in
+    subst (TookAll h (b ∷ bs)) (behind_more h (b ∷ []) bs) (took_more h now (behind now bs) b bs one refl all)
+
+grown_by : (phase : Phase) (place : ℕ) (sure bs : List ℕ) → (phase ≡ Before → ⊥) → place + (length sure + length bs) ≤ most_input → length sure + length bs ≤ most_bytes
+    → (limit_in phase place sure bs ≡ None) × (behind (record { phase = phase; place = place; sure = sure; ahead = 0 }) bs ≡ record { phase = phase; place = place; sure = sure ++ bs; ahead = 0 })
+unfolding limit_in
+grown_by Before place sure bs begun long large = absurd (begun refl)
+grown_by Headers place sure bs begun long large = (few_fit place (length sure) bs long large, refl)
+grown_by Picture place sure bs begun long large = (few_fit place (length sure) bs long large, refl)
+
+-- the same of a piece that has begun, where the bytes pass no limit
+pub took_run : (h new : Held) (bs : List ℕ) → h.ahead ≡ 0 → (h.phase ≡ Before → ⊥) → AreNonzero bs → Fits h
+    → h.place + (length h.sure + length bs) ≤ most_input → length h.sure + length bs ≤ most_bytes → new ≡ record h { sure = h.sure ++ bs } → TookAll h bs new
+took_run h new bs none begun some fits long large is =
+    let plain : Held = record { phase = h.phase; place = h.place; sure = h.sure; ahead = 0 } in
+    let same : plain ≡ h = ap (λ n. record { phase = h.phase; place = h.place; sure = h.sure; ahead = n }) (sym none) in
+    let grown = grown_by h.phase h.place h.sure bs begun long large in
+    let all = took_all h.phase h.place h.sure bs some (subst Fits (sym same) fits) grown.0 in
+    let ends : behind plain bs ≡ new = grown.1 ∙ ap (λ n. record { phase = h.phase; place = h.place; sure = h.sure ++ bs; ahead = n }) (sym none) ∙ sym is in
+    subst (λ (x : Held). TookAll x bs new) same (subst (TookAll plain bs) ends all)
+
+pub took_nothing : (h : Held) (bs : List ℕ) → Fits h → TookAll h (take 0 bs) h
+took_nothing h bs fits = took_none h fits
+
+-- what follows bytes that were taken
+pub took_reaches : (h new : Held) (chunk : List ℕ) (n : ℕ) → 0 < n → n ≤ length chunk → TookAll h (take n chunk) new → new.place + (length new.sure + new.ahead) ≤ 2 ^ 36 + 3
+    → Reaches h chunk new (drop n chunk)
+took_reaches h new chunk n some within t bound =
+    let split = λ (rest : List ℕ). sym (append_assoc (take n chunk) (drop n chunk) rest) ∙ ap (λ (x : List ℕ). x ++ rest) (take-append-drop n chunk) in
+    let len : length (take n chunk) ≡ n = length-take-le n chunk within in
+    record {
+      pieces = λ rest. ap (pieces_behind h) (sym (split rest)) ∙ t.pieces (drop n chunk ++ rest);
+      start = λ rest. ap (start_behind h) (sym (split rest)) ∙ t.start (drop n chunk ++ rest);
+      onward = t.onward;
+      fits = t.fits;
+      less = omega (arith, t.more, len, some, bound, ap before_more t.phase);
+    }

@@ -1,0 +1,26 @@
+pub mod Bytes
+pub mod OwnLaws
+pub mod WholeRow
+pub mod Starts
+pub mod ByRowLaws
+pub mod InFrame
+pub mod Together
+pub mod RowsSet
+pub mod UnitGifts
+pub mod UnitSteps
+pub mod StateLaws
+pub mod Standing
+pub mod FrontLaws
+pub mod TellLaws
+pub mod OnePictureLaws
+pub mod Holding
+pub mod Behind
+pub mod Before
+pub mod Painting
+pub mod Later
+pub mod Dropped
+pub mod UpToPicture
+pub mod RowFaults
+pub mod WholePieces
+pub mod Entering
+pub use Rattle.m2v_dec_picture.proofs as m2v_dec_picture

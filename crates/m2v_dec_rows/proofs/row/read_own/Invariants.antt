@@ -1,0 +1,16 @@
+use Rattle.std.proofs.Common.{◌≡◌, ◌+◌, ◌*◌, ◌≤◌, List, [], Ok, map, take}
+use Rattle.m2v_model.specs.Samples.{put_in_row}
+use Rattle.m2v_dec_picture.specs.Reads.{seen_by}
+use Rattle.m2v_dec_rows.specs.Rows.{Begun, first_of, own, slices_read, slices_painted}
+use Rattle.m2v_dec_rows.specs.Opened.{unread}
+use Rattle.m2v_dec_rows.specs.Reads.{IsWide}
+use Rattle.m2v_dec_rows.proofs.row.read_own.Given as goal
+
+abbrev pub invariant-loop-u : goal.invariant-loop-u
+invariant-loop-u g l = record {
+  read : (xs : List Begun)
+      × (slices_read l.s (Ok ([], first_of l.s l.row)) (own l.row (map (unread l.piece) (take l.u-index l.u-items))) ≡ Ok (xs, l.covered))
+      × (l.out ≡ slices_painted put_in_row l.s (seen_by (g.V.RefView.at l.forward) (g.V.RefView.at l.backward)) l.fn.out xs);
+  covered : l.covered ≤ (l.row + 1) * l.s.context.columns;
+  wide : IsWide l.s l.out;
+}

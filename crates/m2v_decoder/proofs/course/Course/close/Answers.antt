@@ -1,5 +1,0 @@
-use Rattle.m2v_decoder.proofs.CourseLaws.{closed_none}
-use Rattle.m2v_decoder.proofs.course.Course.close.Goals as goal
-
-pub returns-in-None : goal.returns-in-None
-returns-in-None c = closed_none c.args.self.now c.requires.sound c.in-None.is

@@ -1,4 +1,0 @@
-pub mod Presence
-pub mod Appending
-pub mod Units
-pub mod Exchanging

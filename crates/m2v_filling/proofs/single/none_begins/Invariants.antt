@@ -1,9 +1,0 @@
-use Rattle.std.proofs.Common.{◌↔◌, length}
-use Rattle.m2v_halves.specs.OnePicture.{NoneBegins}
-use Rattle.m2v_filling.proofs.single.none_begins.Given as goal
-
-abbrev pub invariant-loop-u : goal.invariant-loop-u
-invariant-loop-u l = NoneBegins l.units ↔ NoneBegins l.fn.units
-
-abbrev pub decreases-loop-u : goal.decreases-loop-u
-decreases-loop-u l = length l.units

@@ -1,4 +1,0 @@
-pub mod Sequences
-pub mod Pictures
-pub mod Rules
-pub mod Streams

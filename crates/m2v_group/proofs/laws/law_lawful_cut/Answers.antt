@@ -1,5 +1,0 @@
-use Rattle.m2v_group.proofs.Lawful.{lawful_law}
-use Rattle.m2v_group.proofs.laws.law_lawful_cut.Goals as goal
-
-pub returns : goal.returns
-returns c = lawful_law

@@ -1,5 +1,0 @@
-use Rattle.m2v_group.proofs.Worked.{worked_rows}
-use Rattle.m2v_group.proofs.laws.law_worked_rows.Goals as goal
-
-pub returns : goal.returns
-returns c = worked_rows

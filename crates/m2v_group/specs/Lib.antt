@@ -1,4 +1,0 @@
-pub mod Groups
-pub mod Worked
-pub mod Chosen
-pub mod Lifted

@@ -1,5 +1,0 @@
-use Rattle.m2v_halves.proofs.OnePictureLaws.{one_picture}
-use Rattle.m2v_halves.proofs.laws.law_one_picture.Goals as goal
-
-pub returns : goal.returns
-returns c text = one_picture text

@@ -1,2 +1,0 @@
-pub mod OnePicture
-pub mod Halves

@@ -1,3 +1,0 @@
-pub mod Accounts
-pub mod Texts
-pub mod Laws

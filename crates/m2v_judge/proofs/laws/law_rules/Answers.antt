@@ -1,5 +1,0 @@
-use Rattle.m2v_judge.proofs.RuleLaws.{is_found}
-use Rattle.m2v_judge.proofs.laws.law_rules.Goals as goal
-
-pub returns : goal.returns
-returns c = is_found

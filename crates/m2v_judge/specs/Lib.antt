@@ -1,6 +1,0 @@
-pub mod Breaking
-pub mod Running
-pub mod Laws
-pub mod Holding
-pub mod Judging
-pub mod Accounts

@@ -1,0 +1,12 @@
+use Rattle.m2v_law_shown.proofs.m2v_law_tree.SliceUnits.{Spelled}
+use Rattle.m2v_law_headline.proofs.ToldAccounts.{all_safe}
+use Rattle.m2v_law_headline.proofs.ToldDelays.{all_exact}
+use Rattle.m2v_law_headline.proofs.laws.law_account.Goals as goal
+
+pub returns : goal.returns
+returns c =
+    let law : Spelled = record { calm = c.law_slice_calm.ensures; reads = c.law_slice_reads.ensures.stands; large = c.law_slice_reads.ensures.large } in
+    record {
+      safe = λ s frames ns passes some few told. all_safe law s frames passes some few ns told;
+      delays = λ s frames ns passes some few told e a is. all_exact law s frames passes some few ns told e a is;
+    }

@@ -1,0 +1,70 @@
+-- Between two groups: the state there, where a group begins, and lists that lag one picture behind.
+use Rattle.std.proofs.Common.{◌≡◌, ℕ, ◌≤◌, ◌⊎◌, inl, inr, Bool, false, not, ◌&&◌, List, [], ◌∷◌, ◌++◌, length, get_or, Option, Some, None, refl, sym, ap, ◌∙◌, arith, append_assoc}
+use Rattle.std.specs.Prelude.{nat_eq, is_some}
+use Rattle.m2v_set.specs.declared.settings.Settings.{Settings}
+use Rattle.m2v_order.specs.declared.jobs.PictureJob.{PictureJob}
+use Rattle.m2v_slice.specs.Headers.{begins_group}
+use Rattle.m2v_slice.specs.Books.{Book, no_job, job_at}
+use Rattle.m2v_slice.specs.Conditions.{IsBook}
+use Rattle.m2v_model.specs.declared.state.Open.{Open}
+use Rattle.m2v_model.specs.declared.state.State.{State}
+use Rattle.m2v_model.specs.States.{at_first}
+use Rattle.m2v_model.specs.Streams.{sequence, after}
+use Rattle.m2v_law_tree.specs.Trees.{sequence_by}
+use Rattle.m2v_law_tree.specs.States.{state_with, waiting_behind, anchors_behind}
+use Rattle.m2v_law_tree.proofs.Turns.{IsCounted, first_begins}
+use Rattle.m2v_law_tree.proofs.States.{state_before, first_sequence, next_sequence}
+use Rattle.m2v_law_shown.proofs.Views.{true_false}
+use Rattle.m2v_law_shown.proofs.Heads.{Ready}
+
+-- a state behind groups, with so many anchors
+pub record IsBetween (s : Settings) (st : State) : Type 0 where
+  pub closed_one : Bool
+  pub anchors : ℕ
+  pub open_one : Option Open
+  pub is : st ≡ state_with s closed_one anchors None open_one
+  pub one : 1 ≤ anchors
+  pub most : anchors ≤ 2
+
+pub record Begins (b : Book) (st : State) : Type 0 where
+  pub before : ℕ
+  pub counted : IsCounted b before
+  pub ready : Ready b before 0 st
+
+start_is : (b : Book) (closed_one : Bool) (before : ℕ) (open_one : Option Open) → state_with b.settings closed_one before None open_one ≡ state_before b closed_one before 0 open_one
+unfolding waiting_behind anchors_behind
+start_is b closed_one before open_one = refl
+
+pub begins_at : (b : Book) → IsBook b → (st : State) → ((b.before ≡ None) × (st ≡ at_first)) ⊎ IsBetween b.settings st → Begins b st
+begins_at b h st (inl x) = record {
+  before = 0;
+  counted = record { most = omega arith; some = λ e. absurd (true_false (is_some b.before) e (ap is_some x.0)) };
+  ready = record {
+    behind = (false, ap (λ (z : State). after z (sequence (sequence_by b.settings))) x.1 ∙ first_sequence b.settings ∙ start_is b false 0 None);
+    plain = λ e. absurd (true_false (begins_group (job_at b 0)) (first_begins b h) e);
+  };
+}
+begins_at b h st (inr x) = record {
+  before = x.anchors;
+  counted = record { most = x.most; some = λ e. x.one };
+  ready = record {
+    behind = (
+      x.closed_one,
+      ap (λ (z : State). after z (sequence (sequence_by b.settings))) x.is ∙ next_sequence b.settings x.closed_one x.anchors None x.open_one ∙ start_is b x.closed_one x.anchors None,
+    );
+    plain = λ e. absurd (true_false (begins_group (job_at b 0)) (first_begins b h) e);
+  };
+}
+
+none_there : (xs : List PictureJob) → get_or xs (length xs) no_job ≡ no_job
+none_there [] = refl
+none_there (x ∷ xs) = none_there xs
+
+pub past_end : (b : Book) → begins_group (job_at b (length b.pictures)) ≡ false
+unfolding begins_group
+past_end b = ap (λ (j : PictureJob). nat_eq j.kind 1 && not (nat_eq j.structure 2)) (none_there b.pictures)
+
+-- What is told lags: of two runs one behind the other, what is told and what is still held is what was held and all of both.
+pub known_on : {T : Type 0} (t u p q w a c : List T) → t ++ q ≡ p ++ a → u ++ w ≡ q ++ c → (t ++ u) ++ w ≡ p ++ (a ++ c)
+known_on {T} t u p q w a c e f =
+    append_assoc t u w ∙ ap (λ (xs : List T). t ++ xs) f ∙ sym (append_assoc t q c) ∙ ap (λ (xs : List T). xs ++ c) e ∙ append_assoc p a c

@@ -1,0 +1,171 @@
+-- The headers of a picture, and the whole picture.
+use Rattle.std.proofs.Common.{◌≡◌, ℕ, ◌-◌, ◌<◌, Bool, true, false, cond, List, [], ◌∷◌, ◌++◌, length, Option, Some, None, refl, sym, ap, subst, ◌∙◌, arith}
+use Rattle.std.specs.Prelude.{nat_eq}
+use Rattle.std.proofs.lemmas.Bool.{cond-false}
+use Rattle.std.proofs.lemmas.List.{append-nil}
+use Rattle.m2v_plane.specs.declared.dims.Dims.{Dims}
+use Rattle.m2v_plane.specs.Samples.{Samples, blank}
+use Rattle.m2v_head.specs.declared.group.GroupInfo.{GroupInfo}
+use Rattle.m2v_slice.specs.Headers.{begins_group, group_from, picture_of, extension_of}
+use Rattle.m2v_rate.specs.Plans.{Entries}
+use Rattle.m2v_slice.specs.Books.{Book, rows, job_at}
+use Rattle.m2v_slice.specs.Conditions.{IsBook}
+use Rattle.m2v_law_safe.specs.m2v_enc_stream.Streams.{delay_at}
+use Rattle.m2v_model.specs.declared.state.Open.{Open}
+use Rattle.m2v_model.specs.declared.state.State.{State}
+use Rattle.m2v_model.specs.States as model
+use Rattle.m2v_model.specs.States.{opened}
+use Rattle.m2v_model.specs.Samples.{References}
+use Rattle.m2v_model.specs.Streams.{Part, sequence, group, picture, after}
+use Rattle.m2v_model.specs.Pictures.{Store, Pictures, references_by, references_of, fresh, sequence_header, pictures_in, closed, picture_ended, picture_begun}
+use Rattle.m2v_model.proofs.EventLaws.{pictures_in-append}
+use Rattle.m2v_law_tree.specs.Trees.{sequence_by, header_parts, task_at, slice_parts, picture_parts}
+use Rattle.m2v_law_tree.specs.States.{open_at, waiting_behind, anchors_behind}
+use Rattle.m2v_law_shown.specs.Rows.{rows_in, fresh_of}
+use Rattle.m2v_law_shown.specs.Runs.{Goes, pending, settled, store_with}
+use Rattle.m2v_law_tree.proofs.Turns.{IsCounted}
+use Rattle.m2v_law_tree.proofs.States.{dims_are, state_before, state_at, references_at, read_is, next_group, header_after}
+use Rattle.m2v_law_shown.proofs.Runs.{goes_on, goes_one, slices_go}
+
+-- a state in which picture p of a group can follow
+pub record Ready (b : Book) (before p : ℕ) (st : State) : Type 0 where
+  pub behind : (closed_one : Bool) × (after st (sequence (sequence_by b.settings)) ≡ state_before b closed_one before p None)
+  pub plain : begins_group (job_at b p) ≡ false → (closed_one : Bool) × ((open_one : Option Open) × (st ≡ state_before b closed_one before p open_one))
+
+-- the references of a picture from the frames at hand
+abbrev pub refs_at : Book → ℕ → Store → References
+refs_at b p store = references_by (job_at b p).kind (nat_eq (job_at b p).structure 2) (job_at b p).structure store
+
+-- the frames at hand where a picture begins in this frame
+abbrev pub begun_at : Book → ℕ → Store → Samples → Store
+begun_at b p store frame = store_with store frame (refs_at b p store)
+
+begun_by : Option Open → Book → Store → Store
+begun_by (Some o) b store = picture_begun (Some (sequence_by b.settings)) o store
+begun_by None b store = store
+
+-- the frame that a picture begins with: of a second field that of the first one
+pub record BeginsWith (b : Book) (p : ℕ) (store : Store) (frame : Samples) : Type 0 where
+  pub second : nat_eq (job_at b p).structure 2 ≡ true → store.current ≡ Some frame
+  pub first : nat_eq (job_at b p).structure 2 ≡ false → fresh_of b ≡ frame
+
+fresh_is : (b : Book) (p delay : ℕ) (list : List Bool) (store : Store) (frame : Samples) → BeginsWith b p store frame
+    → fresh (sequence_by b.settings) (open_at b.settings (job_at b p) delay list 0) store.current ≡ Some frame
+unfolding open_at
+fresh_is b p delay list store frame begins = by_field (nat_eq (job_at b p).structure 2) begins.second begins.first
+  where
+    sized : blank (model.dims_of (sequence_by b.settings)) (model.dims_of (sequence_by b.settings)).mb_rows ≡ fresh_of b
+    sized = ap (λ (d : Dims). blank d d.mb_rows) (dims_are b.settings)
+
+    by_field : (t : Bool) → (t ≡ true → store.current ≡ Some frame) → (t ≡ false → fresh_of b ≡ frame)
+        → cond t store.current (Some (blank (model.dims_of (sequence_by b.settings)) (model.dims_of (sequence_by b.settings)).mb_rows)) ≡ Some frame
+    by_field true f g = f refl
+    by_field false f g = ap Some (sized ∙ g refl)
+
+references_is : (b : Book) (p delay : ℕ) (list : List Bool) (store : Store) → references_of (open_at b.settings (job_at b p) delay list 0) store ≡ refs_at b p store
+unfolding open_at picture_of extension_of
+references_is b p delay list store = refl
+
+begun_is : (b : Book) (p delay : ℕ) (list : List Bool) (store : Store) (frame : Samples) → BeginsWith b p store frame
+    → begun_by (Some (open_at b.settings (job_at b p) delay list 0)) b store ≡ begun_at b p store frame
+unfolding begun_by
+begun_is b p delay list store frame begins =
+    let s = sequence_by b.settings in
+    let o = open_at b.settings (job_at b p) delay list 0 in
+    let current = fresh_is b p delay list store frame begins in
+    let refs = references_is b p delay list store in
+    cond-false o.slices_unread (record store { current = None }) (record store { current = fresh s o store.current; references = references_of o store }) (read_is b.settings (job_at b p) delay list 0)
+    ∙ (λ i. record { older = store.older; newer = store.newer; current = current i; references = refs i })
+
+picture_in : (st : State) (info : _) (extension : _) → (after st (picture info extension)).picture ≡ Some (opened st info extension)
+unfolding after
+picture_in st info extension = refl
+
+module _ (b : Book) (h : IsBook b) (before p delay : ℕ) (counted : IsCounted b before) (lt : p < length b.pictures) where
+  opened_is : (c : Bool) (o : Option Open) → Some (opened (state_before b c before p o) (picture_of (job_at b p) delay) (extension_of b.settings (job_at b p))) ≡ Some (open_at b.settings (job_at b p) delay (references_at b c before p) 0)
+  opened_is c o =
+      sym (picture_in (state_before b c before p o) (picture_of (job_at b p) delay) (extension_of b.settings (job_at b p)))
+      ∙ ap (λ (z : State). z.picture) (header_after b h c before p delay o counted lt)
+
+  -- its own header
+  one_goes : (closed_one : Bool) (open_one : Option Open) (store : Store) (frame : Samples) → BeginsWith b p (picture_ended open_one store) frame
+      → Goes (state_before b closed_one before p open_one) store (picture (picture_of (job_at b p) delay) (extension_of b.settings (job_at b p)) ∷ [])
+      (state_at b closed_one before p delay 0) (begun_at b p (picture_ended open_one store) frame) (pictures_in (closed open_one store))
+  unfolding begun_by
+  one_goes closed_one open_one store frame begins =
+      let info = picture_of (job_at b p) delay in
+      let extension = extension_of b.settings (job_at b p) in
+      let next = header_after b h closed_one before p delay open_one counted lt in
+      goes_one (state_before b closed_one before p open_one) store (picture info extension) _ _ _ next
+      (ap (λ (o : Option Open). begun_by o b (picture_ended open_one store)) (opened_is closed_one open_one)
+      ∙ begun_is b p delay (references_at b closed_one before p) (picture_ended open_one store) frame begins)
+      refl
+
+  -- behind the headers of a group, where it begins one
+  group_goes : (st : State) (store : Store) (frame : Samples) (closed_one : Bool) → after st (sequence (sequence_by b.settings)) ≡ state_before b closed_one before p None
+      → BeginsWith b p (settled st store) frame → (g : GroupInfo)
+      → Goes st store (sequence (sequence_by b.settings) ∷ group g ∷ picture (picture_of (job_at b p) delay) (extension_of b.settings (job_at b p)) ∷ [])
+      (state_at b g.closed_gop before p delay 0) (begun_at b p (settled st store) frame) (pending st store)
+  group_goes st store frame closed_one behind begins g =
+      let s = sequence_by b.settings in
+      let info = picture_of (job_at b p) delay in
+      let extension = extension_of b.settings (job_at b p) in
+      let first = goes_one st store (sequence s) (state_before b closed_one before p None) (settled st store) (pending st store) behind refl
+      (pictures_in-append (closed st.picture store) (sequence_header s ∷ []) ∙ append-nil (pending st store)) in
+      let second = goes_one (state_before b closed_one before p None) (settled st store) (group g) (state_before b g.closed_gop before p None) (settled st store) []
+      (next_group b.settings closed_one (anchors_behind before b p) (waiting_behind b p) None g) refl refl in
+      let third = one_goes g.closed_gop None (settled st store) frame begins in
+      let two = goes_on _ _ _ _ _ _ (group g ∷ []) (picture info extension ∷ []) [] [] second third in
+      let all = goes_on _ _ _ _ _ _ (sequence s ∷ []) (group g ∷ picture info extension ∷ []) (pending st store) [] first two in
+      subst (λ (ps : Pictures). Goes st store (sequence s ∷ group g ∷ picture info extension ∷ []) (state_at b g.closed_gop before p delay 0) (begun_at b p (settled st store) frame) ps) (append-nil (pending st store)) all
+
+  plain_goes : (st : State) (store : Store) (frame : Samples) (closed_one : Bool) (open_one : Option Open) → st ≡ state_before b closed_one before p open_one
+      → BeginsWith b p (settled st store) frame
+      → Goes st store (picture (picture_of (job_at b p) delay) (extension_of b.settings (job_at b p)) ∷ []) (state_at b closed_one before p delay 0) (begun_at b p (settled st store) frame) (pending st store)
+  plain_goes st store frame closed_one open_one is =
+      subst (λ (z : State). BeginsWith b p (settled z store) frame
+      → Goes z store (picture (picture_of (job_at b p) delay) (extension_of b.settings (job_at b p)) ∷ []) (state_at b closed_one before p delay 0) (begun_at b p (settled z store) frame) (pending z store)) (sym is)
+      (one_goes closed_one open_one store frame)
+
+  pub record Headed (st : State) (store : Store) (frame : Samples) (parts : List Part) : Type 0 where
+    pub closed_one : Bool
+    pub goes : Goes st store parts (state_at b closed_one before p delay 0) (begun_at b p (settled st store) frame) (pending st store)
+
+  headed : (st : State) (store : Store) (frame : Samples) → Ready b before p st → BeginsWith b p (settled st store) frame → Headed st store frame (header_parts b.settings (job_at b p) delay)
+  unfolding header_parts
+  headed st store frame ready begins = by_begin (begins_group (job_at b p)) refl
+    where
+      by_begin : (x : Bool) → begins_group (job_at b p) ≡ x
+          → Headed st store frame (cond x (sequence (sequence_by b.settings) ∷ group (group_from b.settings ((job_at b p).display - (job_at b p).frame)) ∷ []) []
+          ++ picture (picture_of (job_at b p) delay) (extension_of b.settings (job_at b p)) ∷ [])
+      by_begin true e = record { closed_one = _; goes = group_goes st store frame ready.behind.0 ready.behind.1 begins (group_from b.settings ((job_at b p).display - (job_at b p).frame)) }
+      by_begin false e =
+          let x = ready.plain e in
+          record {
+            closed_one = x.0;
+            goes = plain_goes st store frame x.0 x.1.0 x.1.1 begins;
+          }
+
+  -- the whole picture
+  pub record PictureGoes (st : State) (store : Store) (frame : Samples) (parts : List Part) : Type 0 where
+    pub closed_one : Bool
+    pub goes : Goes st store parts (state_at b closed_one before p delay (rows b))
+        (store_with (settled st store) (rows_in (λ r. task_at b p r) (references_at b closed_one before p) (refs_at b p (settled st store)) (rows b) frame) (refs_at b p (settled st store))) (pending st store)
+
+  pub picture_goes : (l : Entries) (at : ℕ) (st : State) (store : Store) (frame : Samples) → delay ≡ delay_at l (job_at b p) p at → Ready b before p st → BeginsWith b p (settled st store) frame
+      → PictureGoes st store frame (picture_parts b l at p)
+  unfolding picture_parts
+  picture_goes l at st store frame same ready begins =
+      let head = headed st store frame ready begins in
+      let refs = refs_at b p (settled st store) in
+      let c = head.closed_one in
+      let list = references_at b c before p in
+      let rest = slices_go b h c before p delay lt (rows b) (settled st store) refs frame (omega arith) in
+      let all = goes_on _ _ _ _ _ _ (header_parts b.settings (job_at b p) delay) (slice_parts b p (rows b)) (pending st store) [] head.goes rest in
+      let left = store_with (settled st store) (rows_in (λ r. task_at b p r) list refs (rows b) frame) refs in
+      let end = state_at b c before p delay (rows b) in
+      record {
+        closed_one = c;
+        goes = subst (λ (n : ℕ). Goes st store (header_parts b.settings (job_at b p) n ++ slice_parts b p (rows b)) end left (pending st store)) same
+            (subst (λ (ps : Pictures). Goes st store (header_parts b.settings (job_at b p) delay ++ slice_parts b p (rows b)) end left ps) (append-nil (pending st store)) all);
+      }

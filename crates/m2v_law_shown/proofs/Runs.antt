@@ -1,0 +1,122 @@
+-- Parts of a picture, one behind another, and what they do to the frames at hand.
+use Rattle.std.proofs.Common.{◌≡◌, ℕ, zero, suc, ◌+◌, ◌*◌, ◌<◌, ◌≤◌, Bool, List, [], ◌∷◌, ◌++◌, length, map, refl, sym, ap, subst, ◌∙◌, arith, append_assoc}
+use Rattle.std.specs.List.{range_with_len}
+use Rattle.std.proofs.lemmas.List.{append-nil, map-append}
+use Rattle.m2v_plane.specs.Samples.{Samples}
+use Rattle.m2v_set.specs.Numbers.{mb_width_of}
+use Rattle.m2v_order.proofs.Orders.{range_append}
+use Rattle.m2v_slice.specs.Headers.{context_of}
+use Rattle.m2v_slice.specs.Books.{Book, rows, job_at, task_of}
+use Rattle.m2v_slice.specs.Conditions.{IsBook}
+use Rattle.m2v_model.specs.declared.state.State.{State}
+use Rattle.m2v_model.specs.Slices.{slice_start}
+use Rattle.m2v_model.specs.Samples.{References, put_in_frame, all_painted}
+use Rattle.m2v_model.specs.Streams.{Part, slice, after}
+use Rattle.m2v_model.specs.Pictures.{Store, Pictures, Events, slice_painted, pictures_in, told_by, store_after, events_from, store_from}
+use Rattle.m2v_model.proofs.EventLaws.{pictures_in-append}
+use Rattle.m2v_law_tree.specs.Slices.{slice_read}
+use Rattle.m2v_law_tree.specs.Trees.{sequence_by, task_at, slice_parts, state_behind}
+use Rattle.m2v_law_tree.specs.States.{open_at}
+use Rattle.m2v_law_shown.specs.Views.{slice_in}
+use Rattle.m2v_law_shown.specs.Rows.{rows_in}
+use Rattle.m2v_law_shown.specs.Runs.{Goes, store_with}
+use Rattle.m2v_law_tree.proofs.States.{state_at, references_at, covered_is, slice_after, setup_at}
+use Rattle.m2v_law_shown.proofs.Frames.{slice_is_one}
+use Rattle.m2v_law_shown.proofs.Large.{no_large}
+
+-- ---- one run behind another
+
+pub state_on : (st : State) (ps qs : List Part) → state_behind st (ps ++ qs) ≡ state_behind (state_behind st ps) qs
+unfolding state_behind
+state_on st [] qs = refl
+state_on st (p ∷ ps) qs = state_on (after st p) ps qs
+
+pub store_on : (st : State) (store : Store) (ps qs : List Part) → store_from st store (ps ++ qs) ≡ store_from (state_behind st ps) (store_from st store ps) qs
+unfolding state_behind store_from
+store_on st store [] qs = refl
+store_on st store (p ∷ ps) qs = store_on (after st p) (store_after st store p) ps qs
+
+pub events_on : (st : State) (store : Store) (ps qs : List Part) → events_from st store (ps ++ qs) ≡ events_from st store ps ++ events_from (state_behind st ps) (store_from st store ps) qs
+unfolding state_behind store_from events_from
+events_on st store [] qs = refl
+events_on st store (p ∷ ps) qs =
+    let told = told_by st store p in
+    let next = after st p in
+    let left = store_after st store p in
+    ap (λ (es : Events). told ++ es) (events_on next left ps qs) ∙ sym (append_assoc told (events_from next left ps) (events_from (state_behind next ps) (store_from next left ps) qs))
+
+pub goes_on : (a b c : State) (s t u : Store) (ps qs : List Part) (xs ys : Pictures) → Goes a s ps b t xs → Goes b t qs c u ys → Goes a s (ps ++ qs) c u (xs ++ ys)
+goes_on a b c s t u ps qs xs ys x y = record {
+  state = state_on a ps qs ∙ ap (λ (z : State). state_behind z qs) x.state ∙ y.state;
+  frames = store_on a s ps qs ∙ (λ i. store_from (x.state i) (x.frames i) qs) ∙ y.frames;
+  pictures = ap pictures_in (events_on a s ps qs)
+      ∙ pictures_in-append (events_from a s ps) (events_from (state_behind a ps) (store_from a s ps) qs)
+      ∙ (λ i. x.pictures i ++ pictures_in (events_from (x.state i) (x.frames i) qs))
+      ∙ ap (λ (zs : Pictures). xs ++ zs) y.pictures;
+}
+
+pub goes_none : (st : State) (store : Store) → Goes st store [] st store []
+unfolding state_behind store_from events_from
+goes_none st store = record { state = refl; frames = refl; pictures = refl }
+
+-- one part
+pub goes_one : (st : State) (store : Store) (p : Part) (end : State) (left : Store) (told : Pictures) → after st p ≡ end → store_after st store p ≡ left → pictures_in (told_by st store p) ≡ told
+    → Goes st store (p ∷ []) end left told
+unfolding state_behind store_from events_from
+goes_one st store p end left told a b c = record { state = a; frames = b; pictures = ap pictures_in (append-nil (told_by st store p)) ∙ c }
+
+-- ---- slices
+
+-- one slice more
+pub parts_more : (b : Book) (p n : ℕ) → slice_parts b p (suc n) ≡ slice_parts b p n ++ slice n (slice_read (task_at b p n)) ∷ []
+parts_more b p n =
+    let f = λ (r : ℕ). slice r (slice_read (task_at b p r)) in
+    let e : suc n ≡ n + 1 = omega arith in
+    ap (λ (k : ℕ). map f (range_with_len 0 k)) e ∙ ap (map f) (range_append 0 n 1)
+    ∙ ap (λ (k : ℕ). map f (range_with_len 0 n ++ k ∷ [])) (let z : 0 + n ≡ n = omega arith in z)
+    ∙ map-append f (range_with_len 0 n) (n ∷ [])
+
+module _ (b : Book) (h : IsBook b) (closed_one : Bool) (before p delay : ℕ) (lt : p < length b.pictures) where
+  task_row : (n : ℕ) → n ≡ (task_at b p n).row
+  unfolding task_of
+  task_row n = refl
+
+  task_count : (n : ℕ) → n * mb_width_of b.settings ≡ (task_at b p n).row * (task_at b p n).context.columns
+  unfolding task_of context_of
+  task_count n = refl
+
+  quantiser_is : (n : ℕ) → (slice_read (task_at b p n)).info.quantiser ≡ (task_at b p n).q
+  unfolding slice_read
+  quantiser_is n = refl
+
+  painted_is : (n : ℕ) (refs : References) (frame : Samples)
+      → slice_painted (state_at b closed_one before p delay n) (sequence_by b.settings) (open_at b.settings (job_at b p) delay (references_at b closed_one before p) n) refs n (slice_read (task_at b p n)) frame
+      ≡ slice_in (task_at b p n) (references_at b closed_one before p) refs frame
+  unfolding slice_painted
+  painted_is n refs frame =
+      let o = open_at b.settings (job_at b p) delay (references_at b closed_one before p) n in
+      let setup = sym (setup_at b h closed_one before p delay n n lt) in
+      let covered = covered_is b.settings (job_at b p) delay (references_at b closed_one before p) n ∙ task_count n in
+      let row = task_row n in
+      let q = quantiser_is n in
+      λ i. all_painted put_in_frame (setup i) refs (slice_start (setup i).context (row i) (covered i) (q i)) (slice_read (task_at b p n)).macroblocks frame
+
+  slice_goes : (n : ℕ) (store : Store) (refs : References) (frame : Samples) → n < rows b
+      → Goes (state_at b closed_one before p delay n) (store_with store frame refs) (slice n (slice_read (task_at b p n)) ∷ [])
+      (state_at b closed_one before p delay (suc n)) (store_with store (slice_in (task_at b p n) (references_at b closed_one before p) refs frame) refs) []
+  slice_goes n store refs frame small =
+      goes_one (state_at b closed_one before p delay n) (store_with store frame refs) (slice n (slice_read (task_at b p n))) _ _ []
+      (slice_after b closed_one before p delay n (no_large (task_at b p n) (slice_is_one b h p lt n small)))
+      (ap (λ (x : Samples). store_with store x refs) (painted_is n refs frame)) refl
+
+  pub slices_go : (n : ℕ) (store : Store) (refs : References) (frame : Samples) → n ≤ rows b
+      → Goes (state_at b closed_one before p delay 0) (store_with store frame refs) (slice_parts b p n)
+      (state_at b closed_one before p delay n) (store_with store (rows_in (λ r. task_at b p r) (references_at b closed_one before p) refs n frame) refs) []
+  unfolding rows_in
+  slices_go zero store refs frame le = goes_none (state_at b closed_one before p delay 0) (store_with store frame refs)
+  slices_go (suc n) store refs frame le =
+      let tasks = λ (r : ℕ). task_at b p r in
+      let list = references_at b closed_one before p in
+      let now = rows_in tasks list refs n frame in
+      subst (λ (ps : List Part). Goes (state_at b closed_one before p delay 0) (store_with store frame refs) ps (state_at b closed_one before p delay (suc n)) (store_with store (slice_in (task_at b p n) list refs now) refs) []) (sym (parts_more b p n))
+      (goes_on _ _ _ _ _ _ _ _ [] [] (slices_go n store refs frame (omega (arith, le))) (slice_goes n store refs now (omega (arith, le))))

@@ -1,0 +1,24 @@
+pub mod Levels
+pub mod Decoded
+pub mod Insides
+pub mod Macroblocks
+pub mod Rounds
+pub mod Slices
+pub mod CalmSyntax
+pub mod CalmBlocks
+pub mod CalmMacros
+pub mod CalmSlices
+pub mod CalmHeaders
+pub mod Follows
+pub mod Groups
+pub mod Headers
+pub mod Ledgers
+pub mod PictureChains
+pub mod Pictures
+pub mod Places
+pub mod SliceUnits
+pub mod States
+pub mod Streams
+pub mod Turns
+pub mod Zeros
+pub use Rattle.m2v_law_chain.proofs as m2v_law_chain

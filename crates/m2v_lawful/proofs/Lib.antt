@@ -1,9 +1,0 @@
-pub mod Sequences
-pub mod Pictures
-pub mod Runs
-pub mod Places
-pub mod Jobs
-pub mod Groups
-pub mod Streams
-pub mod Begins
-pub mod Numbers

@@ -1,5 +1,0 @@
-use Rattle.m2v_row.proofs.Fits.{last_written}
-use Rattle.m2v_row.proofs.laws.law_slice_covers.Goals as goal
-
-pub returns : goal.returns
-returns c = λ t slice row n last. last_written t slice row n last

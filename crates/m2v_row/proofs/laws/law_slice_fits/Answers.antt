@@ -1,5 +1,0 @@
-use Rattle.m2v_row.proofs.Fits.{slice_fits}
-use Rattle.m2v_row.proofs.laws.law_slice_fits.Goals as goal
-
-pub returns : goal.returns
-returns c = λ t slice. slice_fits t slice

@@ -1,6 +1,0 @@
-use Rattle.m2v_told.proofs.Streams.{tells_jobs}
-use Rattle.m2v_told.proofs.Account.{tells_numbers, stream_intervals}
-use Rattle.m2v_told.proofs.laws.law_told.Goals as goal
-
-pub returns : goal.returns
-returns c = record { told = tells_jobs; numbers = tells_numbers; intervals = stream_intervals }

@@ -1,5 +1,0 @@
-use Rattle.m2v_unit.proofs.Judged.{picture_is}
-use Rattle.m2v_unit.proofs.pictures.picture_extension.Goals as goal
-
-pub returns-clause-fits : goal.returns-clause-fits
-returns-clause-fits c = picture_is c.args.progressive c.args.info.now c.in_ok-extension.extension c.args.input.now.rest c.extension_in.new.input.rest c.in_ok-extension.ensures.exact c.in_ok-extension.ensures.fits
