@@ -27,7 +27,7 @@ use Rattle.m2v_dec_piece.specs.Sound.{IsSoundPiece}
 use Rattle.m2v_dec_piece.specs.Stepping.{Handed, Stopped, NextPiece, Keeps}
 use Rattle.m2v_model.specs.declared.notes.Notes.{Notes}
 use Rattle.m2v_decode.specs.Decoding.{Decoding, at_start, between, due_of, dropped_in, Agrees, ShowsFrames, Advanced, Onward, Refuses, whole_of}
-use Rattle.m2v_decode.specs.Answers.{start_of, AllFit, PiecesRead, place_behind, HasFault, due_before, shown_by, IsFaulty, IsOver, IsCut, OfText, OfTaken, Fails}
+use Rattle.m2v_decode.specs.Answers.{start_of, AllFit, PiecesRead, place_behind, HasFault, due_before, shown_by, shown_so_far, IsFaulty, IsOver, IsCut, OfText, OfTaken, Fails}
 use Rattle.m2v_decode.specs.Progress.{raw_of, before_all, Cuts, HasPut, Reached, Progress, IsDone}
 use Rattle.m2v_decode.proofs.Putting.{raw-append}
 use Rattle.m2v_model.proofs.EventLaws.{pictures_in-append}
@@ -285,8 +285,13 @@ module _ {S K : Type 0} (left : S → Option (List ℕ)) (input_faults : S → �
     others = others;
     begun = r.begun;
     within = λ some. let within = r.within some in omega (arith, within, r.place, le);
-    grown = subst (λ (b : List ℕ). GrowsByPrefix (held o0) b (held o1)) (sym (shown_raw (between d) r.events d.anchor frames r.shows)) (prefix_of_more grown (raw_of (option_to_list d.anchor)));
+    grown = so_far others;
   }
+    where
+      -- what is due is a front of what is shown
+      so_far : (ps : List (List ℕ)) → GrowsByPrefix (held o0) (raw (shown_so_far ps (between d) r.events)) (held o1)
+      so_far [] = subst (λ (b : List ℕ). GrowsByPrefix (held o0) b (held o1)) (sym (shown_raw (between d) r.events d.anchor frames r.shows)) (prefix_of_more grown (raw_of (option_to_list d.anchor)))
+      so_far (p ∷ ps) = subst (λ (b : List ℕ). GrowsByPrefix (held o0) b (held o1)) (due_raw (between d) r.events d.anchor frames r.shows) grown
 
   -- bytes were read, and nothing came of them
   pub moved_cut : (i0 i1 i2 : S) (o0 o1 : K) (c : Cutting) (d : Decoding) (bytes : List ℕ) → With i0 i1 o0 o1 c d → Moves (left i1) bytes (left i2) → Cut i0 i2 o0 o1

@@ -48,6 +48,11 @@ due_before b es = due (low_delay_of b.state.first) (pictures_in es)
 abbrev pub shown_by : Between → Events → List (List ℕ)
 shown_by b es = shown (low_delay_of b.state.first) (pictures_in es)
 
+-- the frames that they show as far as is read: before the end those that are due, and all once no piece follows
+abbrev pub shown_so_far : List (List ℕ) → Between → Events → List (List ℕ)
+shown_so_far [] b es = shown_by b es
+shown_so_far (p ∷ ps) b es = due_before b es
+
 -- the numbers of a stream: frames shown, pictures, and how many of these are dropped
 abbrev pub numbers_of : ℕ → Pictures → Decoded
 numbers_of frames ps = record { frames = frames; pictures = length ps; dropped = dropped_in ps }
@@ -86,14 +91,15 @@ pub record IsOver (text : List ℕ) (held : Change) (e : DecodeError) : Type 0 w
   pub over : PieceStops (place_behind begun) others e
   pub grown : Grows held.old (raw (due_before between events)) held.new
 
--- Output has grown by a prefix of the frames that the whole pictures in the first bytes of a text show.
+-- Output has grown by a prefix of the frames that the whole pictures in the first bytes of a text show: where pieces follow
+-- them, of those that are due before the end.
 pub record IsCut (bytes text : List ℕ) (held : Change) : Type 0 where
   pub events : Events
   pub between : Between
   pub others : List (List ℕ)
   pub begun : PiecesRead text events between others
   pub within : 0 < length begun.first → place_behind begun ≤ length bytes
-  pub grown : GrowsByPrefix held.old (raw (shown_by between events)) held.new
+  pub grown : GrowsByPrefix held.old (raw (shown_so_far others between events)) held.new
 
 -- Some bytes of the input were read, and where the input tells its bytes, this holds of them and what is left.
 pub record OfText (left : Change) (Holds : List ℕ → Type 0) : Type 0 where

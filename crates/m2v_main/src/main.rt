@@ -9,11 +9,20 @@ use std::env::Env;
 use std::process::ExitCode;
 use std::{env, io};
 
-/// The words behind the program's name.
+/// The words behind the program's name; none where one of them isn't UTF-8, since such words mean as little.
 fn words(rt: &(impl Env + Alloc<A = Global>)) -> io::Result<Vec<String>> {
     let mut words = Vec::new(rt.alloc());
-    for word in env::args(rt)?.skip(1) {
-        words.push(word)?;
+    match env::args(rt) {
+        Ok(all) => {
+            for word in all.skip(1) {
+                words.push(word)?;
+            }
+        }
+        Err(e) => {
+            if e.kind() != io::ErrorKind::InvalidData {
+                return Err(e);
+            }
+        }
     }
     Ok(words)
 }

@@ -14,7 +14,7 @@ use Rattle.m2v_dec_piece.specs.Sound.{IsSoundPiece}
 use Rattle.m2v_dec_piece.specs.Cutting.{Cutting, left_of, start_of, IsReading, PieceStops}
 use Rattle.m2v_dec_piece.specs.Stepping.{Handed, Stopped, Keeps, Why}
 use Rattle.m2v_dec_batch.specs.m2v_decode.Decoding.{Decoding, Onward, Refuses, due_of, whole_of}
-use Rattle.m2v_dec_batch.specs.m2v_decode.Answers.{IsCut, IsFaulty, IsOver, OfText, OfTaken, Fails, due_before, shown_by}
+use Rattle.m2v_dec_batch.specs.m2v_decode.Answers.{IsCut, IsFaulty, IsOver, OfText, OfTaken, Fails, due_before, shown_so_far}
 use Rattle.m2v_dec_batch.specs.m2v_decode.Progress.{raw_of, Cuts, HasPut, Reached, Progress}
 use Rattle.m2v_dec_batch.proofs.m2v_decode.Putting.{raw-append}
 use Rattle.m2v_dec_batch.proofs.m2v_decode.Going.{moved_some, ready_none, reached_more, gave, start_place, due_cut, reached_cut, reached_later, faulty_at, over_at}
@@ -191,7 +191,7 @@ cut_as a b old new x = record {
   others = x.others;
   begun = x.begun;
   within = x.within;
-  grown = subst (λ (h : Option (List ℕ)). GrowsByPrefix h (raw (shown_by x.between x.events)) b.new) old (subst (λ (h : Option (List ℕ)). GrowsByPrefix a.old (raw (shown_by x.between x.events)) h) new x.grown);
+  grown = subst (λ (h : Option (List ℕ)). GrowsByPrefix h (raw (shown_so_far x.others x.between x.events)) b.new) old (subst (λ (h : Option (List ℕ)). GrowsByPrefix a.old (raw (shown_so_far x.others x.between x.events)) h) new x.grown);
 }
 
 faulty_as : {text : List ℕ} {f : Fault} (a b : Change) → a.old ≡ b.old → a.new ≡ b.new → IsFaulty text a f → IsFaulty text b f
