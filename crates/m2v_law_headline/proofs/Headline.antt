@@ -11,6 +11,7 @@ use Rattle.m2v_model.specs.Decoding.{events, low_delay_of}
 use Rattle.m2v_model.specs.Lawful.{Numbered, all_numbered}
 use Rattle.m2v_model.specs.Buffering.{account_by, account_in, unsafe_in}
 use Rattle.m2v_law_shown.specs.m2v_law_safe.Sent.{SentPicture, Sent}
+use Rattle.m2v_law_shown.proofs.m2v_enc_stream.Workers.{coded_same, recon_same}
 use Rattle.m2v_law_shown.proofs.m2v_law_safe.Begins.{stream_begins}
 use Rattle.m2v_law_shown.specs.m2v_law_tree.Trees.{groups_of, tree_of}
 use Rattle.m2v_law_shown.proofs.m2v_law_tree.Follows.{stream_follows}
@@ -27,6 +28,7 @@ use Rattle.m2v_law_headline.proofs.Accounts.{pictures_counted}
 use Rattle.m2v_law_headline.proofs.Ends.{with_end}
 use Rattle.m2v_law_headline.proofs.SentPictures.{bits_of_sent, groups_take}
 use Rattle.m2v_law_headline.proofs.ToldAccounts.{all_safe}
+use Rattle.m2v_law_headline.proofs.Orders.{pictures_ordered, frames_shown}
 
 with_end_length : (xs : List ℕ) → length (with_end xs) ≡ length xs
 unfolding with_end
@@ -77,4 +79,7 @@ module _ (s : Settings) (frames : List (List ℕ)) (passes : Passes s) (some : 1
       stream = stream_stands spelled s frames passes some few;
       safe = ap unsafe_in account_same ∙ all_safe spelled s frames passes some few (numbers_of s frames) told;
     };
+    order = pictures_ordered s frames passes;
+    count = frames_shown s frames passes;
+    workers = λ n. record { stream = coded_same n s frames; shown = recon_same n s frames };
   }

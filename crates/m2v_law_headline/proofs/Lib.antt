@@ -10,6 +10,7 @@ pub mod Accounts
 pub mod SentPictures
 pub mod ToldAccounts
 pub mod ToldDelays
+pub mod Orders
 pub mod Headline
 pub use Rattle.m2v_law_shown.proofs.m2v_law_safe
 pub use Rattle.m2v_law_shown.proofs as m2v_law_shown

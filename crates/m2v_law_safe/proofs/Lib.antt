@@ -13,3 +13,4 @@ pub mod Exact
 pub mod Begins
 pub mod Units
 pub mod Fronts
+pub use Rattle.m2v_enc_stream.proofs as m2v_enc_stream
