@@ -27,6 +27,7 @@ use Rattle.m2v_tool.specs.Decoding.{decoding_stopped}
 use Rattle.m2v_tool.specs.Checking.{CheckComes, lawful_ending, variable_ending, verdict_ending, check_ending, Says, CheckKeeps}
 use Rattle.m2v_tool.specs.Runs.{Run, Yields, NoneFailed, Succeeds}
 use Rattle.m2v_tool.proofs.EndingLaws.{refusal, or_memory}
+use Rattle.m2v_tool.proofs.DoneLaws.{check_done, no_success}
 
 -- ---- outcomes as results
 
@@ -177,6 +178,7 @@ variable_zero f = refl
 
 pub check_keeps : (r : Run) (o : CheckOutcome) → CheckComes r.input o → Told (check_ending o) r.status r.report → CheckKeeps r
 check_keeps r o c t = record {
+  done = check_done r o c t;
   judged = tells r.input (λ text. (v : Verdict) → Means text v → Yields r (Says r text (IsUnderLimits text) (verdict_ending v)))
       (λ text is v m. judges_at r text is v m o c t);
   faulty = tells r.input (λ text. (f : Fault) → FaultAt text f.place f.kind → Yields r (Says r text (IsReached text f) (stream_fault f)))
@@ -192,6 +194,7 @@ check_keeps r o c t = record {
 -- where memory ran out before the words were read
 pub check_unread : (r : Run) → r.status ≡ 12 → CheckKeeps r
 check_unread r is = record {
+  done = no_success r is;
   judged = tells r.input (λ text. (v : Verdict) → Means text v → Yields r (Says r text (IsUnderLimits text) (verdict_ending v))) (λ text told v m. Yields.memory is);
   faulty = tells r.input (λ text. (f : Fault) → FaultAt text f.place f.kind → Yields r (Says r text (IsReached text f) (stream_fault f))) (λ text told f at. Yields.memory is);
   over = tells r.input (λ text. (l : Limit) → IsPast text l → Yields r (Told (ending_past l) r.status r.report)) (λ text told l past. Yields.memory is);

@@ -32,6 +32,7 @@ use Rattle.m2v_tool.specs.Coding.{FlatDone, FlatStopped, FlatComes, coding_stopp
 use Rattle.m2v_tool.specs.Inputs.{AreFrames, EndInside}
 use Rattle.m2v_tool.specs.Runs.{Run, work_of, IsUntouched, Yields, RefusedBy, NoneFailed, Succeeds}
 use Rattle.m2v_tool.proofs.EndingLaws.{refusal, or_memory}
+use Rattle.m2v_tool.proofs.DoneLaws.{flat_done, no_success}
 
 -- ---- how many bytes an input had
 
@@ -196,6 +197,7 @@ module _ (r : Run) (w : FlatWords) where
 
   pub flat_keeps : (o : FlatOutcome) → FlatComes w r.input r.output o → Told (flat_ending o) r.status r.report → r.recon.Unchanged → FlatKeeps w r
   flat_keeps o c t k = record {
+    done = flat_done r w o c t;
     unfit = unfit_at o c t k;
     answer = tells r.input (λ bytes. Yields r (FlatAnswer r w (length bytes))) (λ bytes is. answer_at bytes is o c t);
     coded = tells r.input (λ bytes. WordsPass w → AreFrames (frame_bytes (settings_of w).dims) (length bytes) → NoneFailed r → Succeeds r)
@@ -205,6 +207,7 @@ module _ (r : Run) (w : FlatWords) where
   -- where memory ran out before the words were read
   pub flat_unread : IsUntouched (work_of r) → r.status ≡ 12 → FlatKeeps w r
   flat_unread untouched is = record {
+    done = no_success r is;
     unfit = λ fails. (inr is, untouched);
     answer = tells r.input (λ bytes. Yields r (FlatAnswer r w (length bytes))) (λ bytes told. Yields.memory is);
     coded = tells r.input (λ bytes. WordsPass w → AreFrames (frame_bytes (settings_of w).dims) (length bytes) → NoneFailed r → Succeeds r)

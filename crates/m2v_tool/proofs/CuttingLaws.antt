@@ -16,6 +16,7 @@ use Rattle.m2v_tool.specs.Endings.{Told, whole, cut, unfit_ending}
 use Rattle.m2v_tool.specs.Cutting.{CutComes, none_asked, cutting_stopped, cut_out_ending, cut_ending, CutAnswer, CutKeeps}
 use Rattle.m2v_tool.specs.Runs.{Run, work_of, IsUntouched, Yields, RefusedBy, NoneFailed, Succeeds}
 use Rattle.m2v_tool.proofs.EndingLaws.{refusal, or_memory}
+use Rattle.m2v_tool.proofs.DoneLaws.{cut_done, no_success}
 
 module _ (r : Run) (w : CutWords) where
   unfit_at : (o : CutOutcome) → CutComes w r.input r.output o → Told (cut_ending o) r.status r.report → r.recon.Unchanged → w.count ≡ 0 → RefusedBy 3 r
@@ -75,6 +76,7 @@ module _ (r : Run) (w : CutWords) where
 
   pub cut_keeps : (o : CutOutcome) → CutComes w r.input r.output o → Told (cut_ending o) r.status r.report → r.recon.Unchanged → CutKeeps w r
   cut_keeps o c t k = record {
+    done = cut_done r w o c t;
     unfit = unfit_at o c t k;
     answer = λ some. tells r.input (λ text. Yields r (CutAnswer r w text (answer_to text w.from w.count))) (λ text told. answer_at text told o some c t);
     cut = λ some. tells r.input (λ text. (s : CutSummary) → answer_to text w.from w.count ≡ Ok s → NoneFailed r → Succeeds r)
@@ -85,6 +87,7 @@ module _ (r : Run) (w : CutWords) where
   -- where memory ran out before the words were read
   pub cut_unread : IsUntouched (work_of r) → r.status ≡ 12 → CutKeeps w r
   cut_unread untouched is = record {
+    done = no_success r is;
     unfit = λ none. (inr is, untouched);
     answer = λ some. tells r.input (λ text. Yields r (CutAnswer r w text (answer_to text w.from w.count))) (λ text told. Yields.memory is);
     cut = λ some. tells r.input (λ text. (s : CutSummary) → answer_to text w.from w.count ≡ Ok s → NoneFailed r → Succeeds r) (λ text told s a well. inr is);

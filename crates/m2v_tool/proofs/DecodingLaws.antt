@@ -20,6 +20,7 @@ use Rattle.m2v_tool.specs.Endings.{Told, whole, cut, line_of, unfit_ending, stre
 use Rattle.m2v_tool.specs.Decoding.{WorkersPass, WorkersFail, DecodeComes, decoding_stopped, shown_ending, decode_ending, Past, Showed, Refused, StreamKeeps, DecodeKeeps}
 use Rattle.m2v_tool.specs.Runs.{Run, work_of, IsUntouched, Yields, RefusedBy, NoneFailed, Succeeds}
 use Rattle.m2v_tool.proofs.EndingLaws.{refusal, or_memory}
+use Rattle.m2v_tool.proofs.DoneLaws.{decode_done, no_success}
 
 -- ---- workers
 
@@ -186,7 +187,7 @@ module _ (r : Run) (workers : ℕ) where
   }
 
   pub decode_keeps : (o : DecodeOutcome) → DecodeComes workers r.input r.output o → Told (decode_ending o) r.status r.report → r.recon.Unchanged → DecodeKeeps workers r
-  decode_keeps o c t k = record { unfit = unfit_at r workers o c t k; stream = λ passes. stream_keeps o passes c t }
+  decode_keeps o c t k = record { done = decode_done r workers o c t; unfit = unfit_at r workers o c t k; stream = λ passes. stream_keeps o passes c t }
 
   stream_unread : r.status ≡ 12 → StreamKeeps r
   stream_unread is = record {
@@ -200,4 +201,4 @@ module _ (r : Run) (workers : ℕ) where
 
   -- where memory ran out before the words were read
   pub decode_unread : IsUntouched (work_of r) → r.status ≡ 12 → DecodeKeeps workers r
-  decode_unread untouched is = record { unfit = λ fails. (inr is, untouched); stream = λ passes. stream_unread is }
+  decode_unread untouched is = record { done = no_success r is; unfit = λ fails. (inr is, untouched); stream = λ passes. stream_unread is }

@@ -28,6 +28,7 @@ use Rattle.m2v_tool.specs.Inputs.{AreFrames, EndInside}
 use Rattle.m2v_tool.specs.Encoding.{opened, recon_by, Shut, frame_size, EncodeStopped, EncodeShut, EncodeComes, encoding_stopped, unopened_ending, encoded_ending, encode_ending, EncodeAnswer, EncodeKeeps}
 use Rattle.m2v_tool.specs.Runs.{Run, Work, work_of, IsUntouched, Yields, RefusedBy, NoneFailed, Succeeds}
 use Rattle.m2v_tool.proofs.EndingLaws.{refusal, or_memory}
+use Rattle.m2v_tool.proofs.DoneLaws.{encode_done, no_success}
 use Rattle.m2v_tool.proofs.CodingLaws.{frames_length, all_read, long_by, not_inside, not_empty, not_many}
 
 -- ---- how many bytes an input had
@@ -158,6 +159,7 @@ module _ (r : Run) (m : Meant) where
 
   pub encode_keeps : (o : EncodeOutcome) → EncodeComes m (work_of r) o → Told (encode_ending o) r.status r.report → EncodeKeeps m r
   encode_keeps o c t = record {
+    done = encode_done r m o c t;
     unfit = unfit_at o c t;
     answer = tells r.input (λ bytes. Yields r (EncodeAnswer r m (length bytes))) (λ bytes is. answer_at bytes is o c t);
     coded = tells r.input (λ bytes. Passes m.settings → AreFrames (frame_size m) (length bytes) → NoneFailed r → (r.recon.Failed → ⊥) → Succeeds r)
@@ -167,6 +169,7 @@ module _ (r : Run) (m : Meant) where
   -- where memory ran out before the words were read
   pub encode_unread : IsUntouched (work_of r) → r.status ≡ 12 → EncodeKeeps m r
   encode_unread untouched is = record {
+    done = no_success r is;
     unfit = λ fails. (inr is, untouched);
     answer = tells r.input (λ bytes. Yields r (EncodeAnswer r m (length bytes))) (λ bytes told. Yields.memory is);
     coded = tells r.input (λ bytes. Passes m.settings → AreFrames (frame_size m) (length bytes) → NoneFailed r → (r.recon.Failed → ⊥) → Succeeds r)

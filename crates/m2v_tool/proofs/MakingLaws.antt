@@ -10,6 +10,7 @@ use Rattle.m2v_tool.specs.Endings.{Told, whole, cut}
 use Rattle.m2v_tool.specs.Making.{MakeComes, made_ending, making_stopped, make_ending, MakeAnswer, MakeKeeps}
 use Rattle.m2v_tool.specs.Runs.{Run, Succeeds}
 use Rattle.m2v_tool.proofs.EndingLaws.{refusal}
+use Rattle.m2v_tool.proofs.DoneLaws.{make_done, no_success}
 
 module _ (r : Run) where
   done_answer : (seed : ℕ) (m : Made) → Told (made_ending seed m) r.status r.report → MakeAnswer r
@@ -40,9 +41,9 @@ module _ (r : Run) where
   made_by (MakeAnswer.write (inr f) is) out told = absurd (told f)
   made_by (MakeAnswer.memory is) out told = inr is
 
-  pub make_keeps : (seed : ℕ) (o : MakeOutcome) → MakeComes seed r.output o → Told (make_ending o) r.status r.report → MakeKeeps r
-  make_keeps seed o c t = let a = answer_of seed o c t in record { answer = a; made = made_by a }
+  pub make_keeps : (seed : ℕ) (o : MakeOutcome) → MakeComes seed r.output o → Told (make_ending o) r.status r.report → MakeKeeps seed r
+  make_keeps seed o c t = let a = answer_of seed o c t in record { done = make_done r seed o c t; answer = a; made = made_by a }
 
   -- where memory ran out before the words were read
-  pub make_unread : r.status ≡ 12 → MakeKeeps r
-  make_unread is = record { answer = MakeAnswer.memory is; made = λ out told. inr is }
+  pub make_unread : (seed : ℕ) → r.status ≡ 12 → MakeKeeps seed r
+  make_unread seed is = record { done = no_success r is; answer = MakeAnswer.memory is; made = λ out told. inr is }

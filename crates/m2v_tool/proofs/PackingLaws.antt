@@ -26,6 +26,7 @@ use Rattle.m2v_tool.specs.Inputs.{AreFew, EndInside}
 use Rattle.m2v_tool.specs.Packing.{PackComes, packed_ending, packing_stopped, unpacking_stopped, pack_ending, unpack_ending, y4m_fault, PackAnswer, PackKeeps, UnpackComes, numbers_of, UnpackDone, Says, UnpackKeeps}
 use Rattle.m2v_tool.specs.Runs.{Run, work_of, IsUntouched, Yields, RefusedBy, NoneFailed, Succeeds}
 use Rattle.m2v_tool.proofs.EndingLaws.{refusal, or_memory}
+use Rattle.m2v_tool.proofs.DoneLaws.{pack_done, unpack_done, no_success}
 use Rattle.m2v_tool.proofs.CodingLaws.{frames_length, all_read, long_by, not_inside_of, not_many_of}
 
 -- ---- how many bytes an input had
@@ -108,6 +109,7 @@ module _ (r : Run) (h : Y4mHeader) where
 
   pub pack_keeps : (o : PackOutcome) → PackComes h r.input r.output o → Told (pack_ending o) r.status r.report → r.recon.Unchanged → PackKeeps h r
   pack_keeps o c t k = record {
+    done = pack_done r h o c t;
     unfit = unfit_at o c t k;
     answer = tells r.input (λ bytes. Yields r (PackAnswer r h (length bytes))) (λ bytes is. answer_at bytes is o c t);
     packed = tells r.input (λ bytes. Passes h → AreFew (size_of h) (length bytes) → NoneFailed r → Succeeds r)
@@ -117,6 +119,7 @@ module _ (r : Run) (h : Y4mHeader) where
   -- where memory ran out before the words were read
   pub pack_unread : IsUntouched (work_of r) → r.status ≡ 12 → PackKeeps h r
   pack_unread untouched is = record {
+    done = no_success r is;
     unfit = λ fails. (inr is, untouched);
     answer = tells r.input (λ bytes. Yields r (PackAnswer r h (length bytes))) (λ bytes told. Yields.memory is);
     packed = tells r.input (λ bytes. Passes h → AreFew (size_of h) (length bytes) → NoneFailed r → Succeeds r) (λ bytes told passes frames well. inr is);
@@ -205,6 +208,7 @@ module _ (r : Run) where
 
   pub unpack_keeps : (o : UnpackOutcome) → UnpackComes r.input r.output o → Told (unpack_ending o) r.status r.report → UnpackKeeps r
   unpack_keeps o c t = record {
+    done = unpack_done r o c t;
     frames = tells r.input (λ text. (h : Y4mHeader) (frames : List (List ℕ)) → Y4m text h frames → length frames ≤ most_frames → Yields r (UnpackDone r frames)) (frames_by o c t);
     short = tells r.input (λ text. (h : Y4mHeader) (frames : List (List ℕ)) (extra : ℕ) → EndsShort text h frames extra → length frames < most_frames → Says r (short_frame extra)) (short_by o c t);
     many = tells r.input (λ text. (h : Y4mHeader) (frames : List (List ℕ)) (next : ℕ) → Gives text h (raw frames ++ next ∷ []) → AreWhole h frames → length frames ≡ most_frames
@@ -219,6 +223,7 @@ module _ (r : Run) where
   -- where memory ran out before the words were read
   pub unpack_unread : r.status ≡ 12 → UnpackKeeps r
   unpack_unread is = record {
+    done = no_success r is;
     frames = tells r.input (λ text. (h : Y4mHeader) (frames : List (List ℕ)) → Y4m text h frames → length frames ≤ most_frames → Yields r (UnpackDone r frames)) (λ text told h frames y few. Yields.memory is);
     short = tells r.input (λ text. (h : Y4mHeader) (frames : List (List ℕ)) (extra : ℕ) → EndsShort text h frames extra → length frames < most_frames → Says r (short_frame extra))
         (λ text told h frames extra y few. Yields.memory is);

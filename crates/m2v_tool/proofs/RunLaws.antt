@@ -43,7 +43,7 @@ module _ (r : Run) where
   unread_by untouched is (commands.Encode w) = encode_unread r (words_of w) untouched is
   unread_by untouched is (commands.Decode workers) = decode_unread r workers untouched is
   unread_by untouched is commands.Check = check_unread r is
-  unread_by untouched is (commands.Make seed) = make_unread r is
+  unread_by untouched is (commands.Make seed) = make_unread r seed is
   unread_by untouched is (commands.Cut w) = cut_unread r w untouched is
   unread_by untouched is (commands.Pack h) = pack_unread r h untouched is
   unread_by untouched is commands.Unpack = unpack_unread r is

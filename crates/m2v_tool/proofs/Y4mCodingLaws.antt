@@ -44,6 +44,7 @@ use Rattle.m2v_tool.specs.Y4mWords.{with_header}
 use Rattle.m2v_tool.specs.Y4mCoding.{Behind, frames_change, frames_work, BrokenOff, FramesCome, read_behind, Y4mComes, unread_ending, y4m_ending, Y4mAnswer, Y4mKeeps}
 use Rattle.m2v_tool.specs.Runs.{Run, Work, Place, work_of, IsUntouched, Yields, NoneFailed, Succeeds}
 use Rattle.m2v_tool.proofs.EndingLaws.{refusal, or_memory}
+use Rattle.m2v_tool.proofs.DoneLaws.{text_done, no_success}
 use Rattle.m2v_tool.proofs.CodingLaws.{frames_length, all_read, not_inside, not_empty, not_many}
 use Rattle.m2v_tool.proofs.EncodingLaws.{least_step}
 
@@ -412,6 +413,7 @@ module _ (r : Run) (m : Meant) where
 
   pub y4m_keeps : (o : Y4mOutcome) → Y4mComes m (work_of r) o → Told (y4m_ending o) r.status r.report → Y4mKeeps m r
   y4m_keeps o d t = record {
+    done = text_done r m o d t;
     header = tells r.input HeaderKept (λ text told f is. header_at r text told m f is o d t);
     unfit = tells r.input UnfitKept (λ text told h c begins fails. unfit_at r text told m h c begins o d t fails);
     answer = tells r.input AnswerKept (λ text told bytes h c begins. answer_at text told bytes h c begins o d t);
@@ -422,6 +424,7 @@ module _ (r : Run) (m : Meant) where
   -- where memory ran out before the words were read
   pub y4m_unread : IsUntouched (work_of r) → r.status ≡ 12 → Y4mKeeps m r
   y4m_unread untouched is = record {
+    done = no_success r is;
     header = tells r.input HeaderKept (λ text told f e. (Yields.memory is, untouched.1, untouched.2));
     unfit = tells r.input UnfitKept (λ text told h c begins fails. (Yields.memory is, untouched.1, untouched.2));
     answer = tells r.input AnswerKept (λ text told bytes h c begins. Yields.memory is);

@@ -1,5 +1,5 @@
 -- What `check` does: which outcome comes, and what is answered to a text by its verdict or its first fault.
-use Rattle.std.specs.Prelude.{ℕ, List, [], ◌∷◌, codes}
+use Rattle.std.specs.Prelude.{ℕ, ◌≡◌, ◌⊎◌, List, [], ◌∷◌, codes}
 use Rattle.m2v_port.specs.Ends.{Change, Tells}
 use Rattle.m2v_vbv.specs.declared.fault.AccountFault.{AccountFault}
 use Rattle.m2v_vbv.specs.declared.fault.AccountFault.TheVariants.{Under, Over}
@@ -15,7 +15,7 @@ use Rattle.m2v_make.specs.m2v_check.Meaning.{IsLawful, IsVariable, Means}
 use Rattle.m2v_make.specs.m2v_check.Answers.{IsJudged, IsOver, Fails}
 use Rattle.m2v_tool.specs.declared.check.CheckOutcome.{CheckOutcome}
 use Rattle.m2v_tool.specs.declared.check.CheckOutcome.TheVariants.{Judged, Stopped}
-use Rattle.m2v_tool.specs.Endings.{Ending, Told, stream_fault, ending_past}
+use Rattle.m2v_tool.specs.Endings.{Ending, Told, Success, stream_fault, ending_past}
 use Rattle.m2v_tool.specs.Decoding.{decoding_stopped}
 use Rattle.m2v_tool.specs.Runs.{Run, Yields, NoneFailed, Succeeds}
 
@@ -81,11 +81,22 @@ pub data Says (r : Run) (text : List ℕ) (Reached : Type 0) (e : Ending) : Type
   past : (l : Limit) → (IsUnderLimits text → ⊥) → IsOver text (error_of l)
       → Told (ending_past l) r.status r.report → Says r text Reached e
 
--- What is answered to `check`: a stream gets its verdict, and a text that is none its first fault, or in place of either a
+-- The text of the input has this verdict, and passes no limit.
+abbrev pub CheckDone : Change → Verdict → Type 0
+CheckDone left v = OfText left (λ text. IsJudged text v)
+
+-- It is lawful, or its rate is variable, and this is told.
+abbrev pub HasPassed : Run → Type 0
+HasPassed r =
+    Success (λ f. CheckDone r.input (verdicts.Lawful f)) lawful_ending r.report
+    ⊎ Success (λ f. CheckDone r.input (verdicts.Variable f)) variable_ending r.report
+
+-- What is answered to `check`: with status 0 the stream is lawful, or its rate is variable; a stream gets its verdict, and a text that is none its first fault, or in place of either a
 -- limit that it passes; one that passes a limit before a fault gets that limit; one of more bytes than an input may have,
 -- with no sequence header before the last of these, is too long; and one under the limits that breaks no rule, and that
 -- the buffer bears or whose rate is variable, passes.
 pub record CheckKeeps (r : Run) : Type 0 where
+  pub done : r.status ≡ 0 → HasPassed r
   pub judged : Tells r.input (λ text.
       (v : Verdict) → Means text v
       → Yields r (Says r text (IsUnderLimits text) (verdict_ending v)))

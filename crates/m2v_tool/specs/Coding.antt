@@ -13,7 +13,7 @@ use Rattle.m2v_make.specs.m2v_law_shown.Laws.{DecodesTo}
 use Rattle.m2v_tool.specs.declared.flat.FlatWords.{FlatWords}
 use Rattle.m2v_tool.specs.declared.flat.FlatOutcome.{FlatOutcome}
 use Rattle.m2v_tool.specs.declared.flat.FlatOutcome.TheVariants.{Coded, Unfit, Stopped}
-use Rattle.m2v_tool.specs.Endings.{Ending, read_fault, write_fault, no_memory, unfit_ending, short_frame, no_frames, too_many_frames}
+use Rattle.m2v_tool.specs.Endings.{Ending, Success, read_fault, write_fault, no_memory, unfit_ending, short_frame, no_frames, too_many_frames}
 use Rattle.m2v_tool.specs.Words.{settings_of, WordsPass, WordsFail}
 use Rattle.m2v_tool.specs.Inputs.{AreFrames, EndInside}
 use Rattle.m2v_tool.specs.Runs.{Run, Yields, RefusedBy, NoneFailed, Succeeds}
@@ -70,9 +70,15 @@ pub data FlatAnswer (r : Run) (w : FlatWords) (bytes : ℕ) : Type 0 where
   none : WordsPass w → bytes ≡ 0 → r.status ≡ 5 → FlatAnswer r w bytes
   many : WordsPass w → most_frames * size_of w < bytes → r.status ≡ 6 → FlatAnswer r w bytes
 
--- What is answered to `flat`: settings that don't pass are refused, and nothing else is looked at; the status is the one
--- that the settings and the input's bytes give; and whole frames with settings that pass are coded.
+-- the ending of frames that were coded
+abbrev pub flat_coded_ending : Summary → Ending
+flat_coded_ending s = flat_ending (Coded s)
+
+-- What is answered to `flat`: with status 0 the input was coded; settings that don't pass are refused, and nothing else is
+-- looked at; the status is the one that the settings and the input's bytes give; and whole frames with settings that pass
+-- are coded.
 pub record FlatKeeps (w : FlatWords) (r : Run) : Type 0 where
+  pub done : r.status ≡ 0 → Success (FlatDone w r.input r.output) flat_coded_ending r.report
   pub unfit : (WordsPass w → ⊥) → RefusedBy 3 r
   pub answer : Tells r.input (λ bytes. Yields r (FlatAnswer r w (length bytes)))
   pub coded : Tells r.input (λ bytes.

@@ -17,7 +17,7 @@ use Rattle.m2v_tool.specs.declared.cut.CutWords.{CutWords}
 use Rattle.m2v_tool.specs.declared.cut.CutOutcome.{CutOutcome}
 use Rattle.m2v_tool.specs.declared.cut.CutOutcome.TheVariants.{Done, NoneAsked, Stopped}
 use Rattle.m2v_tool.specs.Simple.{simple, number_word, required, taken}
-use Rattle.m2v_tool.specs.Endings.{Ending, Told, line_of, read_fault, write_fault, no_memory, unfit_ending, ending_past}
+use Rattle.m2v_tool.specs.Endings.{Ending, Told, Success, line_of, read_fault, write_fault, no_memory, unfit_ending, ending_past}
 use Rattle.m2v_tool.specs.Runs.{Run, Yields, RefusedBy, NoneFailed, Succeeds}
 
 -- ---- words
@@ -99,9 +99,15 @@ pub data CutAnswer (r : Run) (w : CutWords) (text : List ℕ) : Result CutSummar
       → Grows r.output.old (cut_text text w.from w.count) r.output.new → CutAnswer r w text (Ok s)
   refused : {e : CutError} → Told (cutting_stopped e) r.status r.report → CutAnswer r w text (Err e)
 
--- What is answered to `cut`: no group is asked for, and nothing else is looked at; a text is answered by its one answer;
+-- Some groups were asked for, and cut out of the text of the input.
+pub record CutDone (w : CutWords) (left held : Change) (s : CutSummary) : Type 0 where
+  pub some : 1 ≤ w.count
+  pub cut : OfText left (λ text. IsCutOut text w.from w.count held s)
+
+-- What is answered to `cut`: with status 0 the groups were cut out; no group is asked for, and nothing else is looked at; a text is answered by its one answer;
 -- a group that is there and stands alone, under the limits, is cut out; and what the text of the cut decodes to.
 pub record CutKeeps (w : CutWords) (r : Run) : Type 0 where
+  pub done : r.status ≡ 0 → Success (CutDone w r.input r.output) cut_out_ending r.report
   pub unfit : w.count ≡ 0 → RefusedBy 3 r
   pub answer : 1 ≤ w.count
       → Tells r.input (λ text. Yields r (CutAnswer r w text (answer_to text w.from w.count)))

@@ -19,7 +19,7 @@ use Rattle.m2v_cut.specs.m2v_decode.Complete.{IsUnderLimits, IsLate, IsPast, cou
 use Rattle.m2v_tool.specs.declared.decode.DecodeOutcome.{DecodeOutcome}
 use Rattle.m2v_tool.specs.declared.decode.DecodeOutcome.TheVariants.{Shown, Unfit as NotFit, Stopped}
 use Rattle.m2v_tool.specs.Simple.{simple, number_option, number_or, taken}
-use Rattle.m2v_tool.specs.Endings.{Ending, Told, line_of, read_fault, write_fault, no_memory, unfit_ending, stream_fault, ending_past}
+use Rattle.m2v_tool.specs.Endings.{Ending, Told, Success, line_of, read_fault, write_fault, no_memory, unfit_ending, stream_fault, ending_past}
 use Rattle.m2v_tool.specs.Runs.{Run, Yields, RefusedBy, NoneFailed, Succeeds}
 
 -- ---- words
@@ -122,8 +122,14 @@ pub record StreamKeeps (r : Run) : Type 0 where
   pub decoded : Tells r.input (λ text. (frames : List (List ℕ)) → Decodes text frames
       → IsUnderLimits text → NoneFailed r → Succeeds r)
 
--- What is answered to `decode`: a number of workers that doesn't pass is refused, and nothing else is looked at; with each
--- one that passes a stream is answered in the same way.
+-- The number of workers passes, and the text of the input was decoded, with these numbers.
+pub record DecodeDone (workers : ℕ) (left held : Change) (d : Decoded) : Type 0 where
+  pub passes : WorkersPass workers
+  pub decoded : OfText left (λ text. IsDecoded text held d)
+
+-- What is answered to `decode`: with status 0 the stream was decoded; a number of workers that doesn't pass is refused, and
+-- nothing else is looked at; with each one that passes a stream is answered in the same way.
 pub record DecodeKeeps (workers : ℕ) (r : Run) : Type 0 where
+  pub done : r.status ≡ 0 → Success (DecodeDone workers r.input r.output) shown_ending r.report
   pub unfit : (WorkersPass workers → ⊥) → RefusedBy 3 r
   pub stream : WorkersPass workers → StreamKeeps r

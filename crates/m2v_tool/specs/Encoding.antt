@@ -13,9 +13,9 @@ use Rattle.m2v_make.specs.m2v_encode.declared.answer.EncodeError.TheVariants as 
 use Rattle.m2v_make.specs.m2v_encode.Answers.{AllCoded, Stops, most_frames, unshown}
 use Rattle.m2v_tool.specs.declared.encode.EncodeOutcome.{EncodeOutcome}
 use Rattle.m2v_tool.specs.declared.encode.EncodeOutcome.TheVariants.{Coded, Unfit as NotFit, Unopened, Stopped}
-use Rattle.m2v_tool.specs.Endings.{Ending, read_fault, write_fault, no_memory, unfit_ending, short_frame, no_frames, too_many_frames}
+use Rattle.m2v_tool.specs.Endings.{Ending, Success, read_fault, write_fault, no_memory, unfit_ending, short_frame, no_frames, too_many_frames}
 use Rattle.m2v_tool.specs.EncodeWords.{Meant}
-use Rattle.m2v_tool.specs.Runs.{Run, Work, Yields, RefusedBy, NoneFailed, Succeeds}
+use Rattle.m2v_tool.specs.Runs.{Run, Work, work_of, Yields, RefusedBy, NoneFailed, Succeeds}
 use Rattle.m2v_tool.specs.Inputs.{AreFrames, EndInside}
 
 -- ---- recon
@@ -123,9 +123,11 @@ pub data EncodeAnswer (r : Run) (m : Meant) (bytes : ℕ) : Type 0 where
       → EncodeAnswer r m bytes
   recon : Passes m.settings → r.recon.Failed → r.status ≡ 8 → EncodeAnswer r m bytes
 
--- What is answered to `encode`: settings that don't pass are refused, and nothing else is looked at; the status is the
--- one that the settings and the input's bytes give; and whole frames with settings that pass are coded.
+-- What is answered to `encode`: with status 0 the input was coded; settings that don't pass are refused, and nothing else is
+-- looked at; the status is the one that the settings and the input's bytes give; and whole frames with settings that pass
+-- are coded.
 pub record EncodeKeeps (m : Meant) (r : Run) : Type 0 where
+  pub done : r.status ≡ 0 → Success (EncodeDone m (work_of r)) encoded_ending r.report
   pub unfit : (Passes m.settings → ⊥) → RefusedBy 3 r
   pub answer : Tells r.input (λ bytes. Yields r (EncodeAnswer r m (length bytes)))
   pub coded : Tells r.input (λ bytes. Passes m.settings → AreFrames (frame_size m) (length bytes)

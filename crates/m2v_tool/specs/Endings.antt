@@ -41,6 +41,12 @@ pub data Told (e : Ending) (status : ℕ) (report : Change) : Type 0 where
   cut : (status ≡ 12) ⊎ (report.Failed × (status ≡ status_unreported e))
       → GrowsByPrefix report.old (line_of e) report.new → Told e status report
 
+-- What stands where the status is 0: an outcome that was done, with its whole line on report.
+pub record Success {O : Type 0} (Is : O → Type 0) (ending : O → Ending) (report : Change) : Type 0 where
+  pub outcome : O
+  pub is : Is outcome
+  pub line : Grows report.old (line_of (ending outcome)) report.new
+
 -- ---- the endings of several commands
 
 -- an ending without numbers

@@ -12,7 +12,7 @@ use Rattle.m2v_make.specs.Making.{Makes, MakeStops}
 use Rattle.m2v_tool.specs.declared.make.MakeOutcome.{MakeOutcome}
 use Rattle.m2v_tool.specs.declared.make.MakeOutcome.TheVariants.{Done, Stopped}
 use Rattle.m2v_tool.specs.Simple.{simple, taken, unsigned}
-use Rattle.m2v_tool.specs.Endings.{Ending, write_fault, no_memory}
+use Rattle.m2v_tool.specs.Endings.{Ending, Success, write_fault, no_memory}
 use Rattle.m2v_tool.specs.Runs.{Run, Succeeds}
 
 -- ---- words
@@ -72,7 +72,9 @@ pub data MakeAnswer (r : Run) : Type 0 where
   write : r.output.Failed ⊎ r.report.Failed → r.status ≡ 8 → MakeAnswer r
   memory : r.status ≡ 12 → MakeAnswer r
 
--- What is answered to `make`: one of these; and a stream is made where neither count rose, but for want of memory.
-pub record MakeKeeps (r : Run) : Type 0 where
+-- What is answered to `make`: with status 0 the stream of the seed was made; one of these answers; and a stream is made where
+-- neither count rose, but for want of memory.
+pub record MakeKeeps (seed : ℕ) (r : Run) : Type 0 where
+  pub done : r.status ≡ 0 → Success (Makes seed r.output) (made_ending seed) r.report
   pub answer : MakeAnswer r
   pub made : (r.output.Failed → ⊥) → (r.report.Failed → ⊥) → Succeeds r

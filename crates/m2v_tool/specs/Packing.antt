@@ -24,7 +24,7 @@ use Rattle.m2v_tool.specs.declared.pack.PackOutcome.TheVariants as packs
 use Rattle.m2v_tool.specs.declared.unpack.UnpackOutcome.{UnpackOutcome}
 use Rattle.m2v_tool.specs.declared.unpack.UnpackOutcome.TheVariants as unpacks
 use Rattle.m2v_tool.specs.Simple.{simple, number_word, flag_option, required, flag, taken}
-use Rattle.m2v_tool.specs.Endings.{Ending, Told, line_of, read_fault, write_fault, no_memory, unfit_ending, short_frame, too_many_frames}
+use Rattle.m2v_tool.specs.Endings.{Ending, Told, Success, line_of, read_fault, write_fault, no_memory, unfit_ending, short_frame, too_many_frames}
 use Rattle.m2v_tool.specs.Inputs.{AreFew, EndInside}
 use Rattle.m2v_tool.specs.Runs.{Run, Yields, RefusedBy, NoneFailed, Succeeds}
 
@@ -122,9 +122,15 @@ pub data PackAnswer (r : Run) (h : Y4mHeader) (bytes : ℕ) : Type 0 where
   short : Passes h → EndInside (size_of h) bytes → r.status ≡ 4 → PackAnswer r h bytes
   many : Passes h → most_frames * size_of h < bytes → r.status ≡ 6 → PackAnswer r h bytes
 
--- What is answered to `pack`: numbers that don't pass are refused, and nothing else is looked at; the status is the one
+-- The numbers pass, and the frames of the input were packed.
+pub record PackDone (h : Y4mHeader) (left held : Change) (s : PackSummary) : Type 0 where
+  pub passes : Passes h
+  pub packed : Packed h left held s
+
+-- What is answered to `pack`: with status 0 the input was packed; numbers that don't pass are refused, and nothing else is looked at; the status is the one
 -- that the words and the input's bytes give; and whole frames with numbers that pass are packed.
 pub record PackKeeps (h : Y4mHeader) (r : Run) : Type 0 where
+  pub done : r.status ≡ 0 → Success (PackDone h r.input r.output) packed_ending r.report
   pub unfit : (Passes h → ⊥) → RefusedBy 3 r
   pub answer : Tells r.input (λ bytes. Yields r (PackAnswer r h (length bytes)))
   pub packed : Tells r.input (λ bytes.
@@ -156,9 +162,10 @@ pub data UnpackDone (r : Run) (frames : List (List ℕ)) : Type 0 where
 abbrev pub Says : Run → Ending → Type 0
 Says r e = Yields r (Told e r.status r.report)
 
--- What is answered to `unpack`: a text of frames is unpacked; one that ends inside a frame, has too many frames or has a
+-- What is answered to `unpack`: with status 0 the text was unpacked; a text of frames is unpacked; one that ends inside a frame, has too many frames or has a
 -- fault is refused by that; and a text of frames is unpacked where nothing failed.
 pub record UnpackKeeps (r : Run) : Type 0 where
+  pub done : r.status ≡ 0 → Success (AllUnpacked r.input r.output) packed_ending r.report
   pub frames : Tells r.input (λ text. (h : Y4mHeader) (frames : List (List ℕ)) → Y4m text h frames
       → length frames ≤ most_frames → Yields r (UnpackDone r frames))
   pub short : Tells r.input (λ text. (h : Y4mHeader) (frames : List (List ℕ)) (extra : ℕ)

@@ -4,6 +4,7 @@ use Rattle.m2v_port.specs.Ends.{Change, Tells}
 use Rattle.m2v_port.specs.Port.{Rose}
 use Rattle.m2v_plane.specs.Raw.{raw}
 use Rattle.m2v_set.specs.Rules.{Passes}
+use Rattle.m2v_make.specs.m2v_encode.declared.answer.Summary.{Summary}
 use Rattle.m2v_make.specs.m2v_encode.Answers.{FailedInside, most_frames}
 use Rattle.m2v_y4m.specs.declared.answer.Y4mFault.{Y4mFault}
 use Rattle.m2v_y4m.specs.declared.answer.Y4mError.{Y4mError}
@@ -17,13 +18,13 @@ use Rattle.m2v_y4m.specs.Answers.{OpenStops}
 use Rattle.m2v_tool.specs.declared.encode.EncodeOutcome.{EncodeOutcome}
 use Rattle.m2v_tool.specs.declared.encode_y4m.Y4mOutcome.{Y4mOutcome}
 use Rattle.m2v_tool.specs.declared.encode_y4m.Y4mOutcome.TheVariants.{Unread, Encoded, Broken}
-use Rattle.m2v_tool.specs.Endings.{Ending, Told, read_fault, no_memory}
+use Rattle.m2v_tool.specs.Endings.{Ending, Told, Success, read_fault, no_memory}
 use Rattle.m2v_tool.specs.EncodeWords.{Meant}
 use Rattle.m2v_tool.specs.Y4mWords.{with_header}
 use Rattle.m2v_tool.specs.Inputs.{AreFrames, EndInside}
-use Rattle.m2v_tool.specs.Encoding.{EncodeComes, Stands, encode_ending, frame_size, recon_by}
+use Rattle.m2v_tool.specs.Encoding.{EncodeComes, EncodeDone, Stands, encode_ending, encoded_ending, frame_size, recon_by}
 use Rattle.m2v_tool.specs.Packing.{Says, y4m_fault}
-use Rattle.m2v_tool.specs.Runs.{Run, Work, Yields, NoneFailed, Succeeds}
+use Rattle.m2v_tool.specs.Runs.{Run, Work, work_of, Yields, NoneFailed, Succeeds}
 
 -- ---- what was read
 
@@ -56,6 +57,11 @@ frames_work k b = record {
 pub record TextEncoded (m : Meant) (k : Work) (o : EncodeOutcome) : Type 0 where
   pub behind : Behind k.input
   pub comes : EncodeComes (with_header behind.header m) (frames_work k behind) o
+
+-- The header line was read, and with its numbers in the settings the frames behind it were coded.
+pub record TextDone (m : Meant) (k : Work) (summary : Summary) : Type 0 where
+  pub behind : Behind k.input
+  pub done : EncodeDone (with_header behind.header m) (frames_work k behind) summary
 
 -- The settings with the header's numbers pass, and coding stopped at the text's first fault, behind these raw bytes.
 pub record TextBroken (m : Meant) (k : Work) (fault : Y4mFault) : Type 0 where
@@ -129,10 +135,11 @@ pub data Y4mAnswer (r : Run) (m : Meant) (c : Coming) : Type 0 where
       → Y4mAnswer r m c
   recon : Passes m.settings → r.recon.Failed → r.status ≡ 8 → Y4mAnswer r m c
 
--- What is answered to `encode-y4m`. A text whose header line is broken is refused by that, and nothing is written; so is one
+-- What is answered to `encode-y4m`. With status 0 the frames of the text were coded. A text whose header line is broken is refused by that, and nothing is written; so is one
 -- of whose numbers the settings don't pass. The status is the one that the settings and the text give. And a text of
 -- frames with settings that pass is coded.
 pub record Y4mKeeps (m : Meant) (r : Run) : Type 0 where
+  pub done : r.status ≡ 0 → Success (TextDone m (work_of r)) encoded_ending r.report
   pub header : Tells r.input (λ text. (fault : Y4mFault) → opening text ≡ Err fault
       → Says r (y4m_fault fault) × r.output.Unchanged × r.recon.Unchanged)
   pub unfit : Tells r.input (λ text. (h : Y4mHeader) (c : Coming) → Begins text h c

@@ -1,0 +1,242 @@
+-- What status 0 says: the command was done, and the whole line of that is on report.
+use Rattle.std.proofs.Common.{◌≡◌, ◌==◌, if◌then◌else◌, inl, inr, ℕ, zero, suc, refl, sym, ◌∙◌, arith, subst}
+use Rattle.m2v_port.specs.Ends.{Change}
+use Rattle.m2v_port.specs.Port.{Grows}
+use Rattle.m2v_port.specs.declared.error.PortError.{PortError}
+use Rattle.m2v_port.specs.declared.error.PortError.TheVariants as calls
+use Rattle.m2v_y4m.specs.declared.answer.EncodeFault.{EncodeFault}
+use Rattle.m2v_y4m.specs.declared.answer.EncodeFault.TheVariants as packing
+use Rattle.m2v_y4m.specs.declared.answer.UnpackError.{UnpackError}
+use Rattle.m2v_y4m.specs.declared.answer.UnpackError.TheVariants as unpacking
+use Rattle.m2v_y4m.specs.declared.answer.Y4mError.{Y4mError}
+use Rattle.m2v_y4m.specs.declared.answer.Y4mError.TheVariants as opening_errors
+use Rattle.m2v_y4m.specs.declared.header.Y4mHeader.{Y4mHeader}
+use Rattle.m2v_y4m.specs.Answers.{Unpacked as AllUnpacked}
+use Rattle.m2v_flat.specs.declared.answer.EncodeError.{EncodeError as FlatError}
+use Rattle.m2v_flat.specs.declared.answer.EncodeError.TheVariants as flat_errors
+use Rattle.m2v_dec_piece.specs.declared.answer.DecodeError.{DecodeError}
+use Rattle.m2v_dec_piece.specs.declared.answer.DecodeError.TheVariants as decode_errors
+use Rattle.m2v_cut.specs.declared.answer.CutError.{CutError}
+use Rattle.m2v_cut.specs.declared.answer.CutError.TheVariants as cut_errors
+use Rattle.m2v_make.specs.m2v_encode.declared.answer.EncodeError.{EncodeError}
+use Rattle.m2v_make.specs.m2v_encode.declared.answer.EncodeError.TheVariants as errors
+use Rattle.m2v_make.specs.m2v_check.declared.verdict.Verdict.{Verdict}
+use Rattle.m2v_make.specs.m2v_check.declared.verdict.Verdict.TheVariants as verdicts
+use Rattle.m2v_vbv.specs.declared.fault.AccountFault.{AccountFault}
+use Rattle.m2v_vbv.specs.declared.fault.AccountFault.TheVariants.{Under, Over}
+use Rattle.m2v_make.specs.declared.answer.MakeError.{MakeError}
+use Rattle.m2v_make.specs.declared.answer.MakeError.TheVariants as make_errors
+use Rattle.m2v_make.specs.Making.{Makes}
+use Rattle.m2v_tool.specs.declared.flat.FlatOutcome.{FlatOutcome}
+use Rattle.m2v_tool.specs.declared.flat.FlatOutcome.TheVariants as flats
+use Rattle.m2v_tool.specs.declared.flat.FlatWords.{FlatWords}
+use Rattle.m2v_tool.specs.declared.encode.EncodeOutcome.{EncodeOutcome}
+use Rattle.m2v_tool.specs.declared.encode.EncodeOutcome.TheVariants as encodes
+use Rattle.m2v_tool.specs.declared.decode.DecodeOutcome.{DecodeOutcome}
+use Rattle.m2v_tool.specs.declared.decode.DecodeOutcome.TheVariants as decodes
+use Rattle.m2v_tool.specs.declared.check.CheckOutcome.{CheckOutcome}
+use Rattle.m2v_tool.specs.declared.check.CheckOutcome.TheVariants as checks
+use Rattle.m2v_tool.specs.declared.make.MakeOutcome.{MakeOutcome}
+use Rattle.m2v_tool.specs.declared.make.MakeOutcome.TheVariants as makes
+use Rattle.m2v_tool.specs.declared.cut.CutOutcome.{CutOutcome}
+use Rattle.m2v_tool.specs.declared.cut.CutOutcome.TheVariants as cuts
+use Rattle.m2v_tool.specs.declared.cut.CutWords.{CutWords}
+use Rattle.m2v_tool.specs.declared.pack.PackOutcome.{PackOutcome}
+use Rattle.m2v_tool.specs.declared.pack.PackOutcome.TheVariants as packs
+use Rattle.m2v_tool.specs.declared.unpack.UnpackOutcome.{UnpackOutcome}
+use Rattle.m2v_tool.specs.declared.unpack.UnpackOutcome.TheVariants as unpacks
+use Rattle.m2v_tool.specs.declared.encode_y4m.Y4mOutcome.{Y4mOutcome}
+use Rattle.m2v_tool.specs.declared.encode_y4m.Y4mOutcome.TheVariants as texts
+use Rattle.m2v_tool.specs.Endings.{Ending, Success, line_of, status_unreported, Told, whole, cut, unfit_ending, ending_past, stream_fault}
+use Rattle.m2v_model.specs.Pieces.{too_long, too_large}
+use Rattle.m2v_tool.specs.EncodeWords.{Meant}
+use Rattle.m2v_tool.specs.Coding.{FlatDone, FlatComes, coding_stopped, flat_ending, flat_coded_ending}
+use Rattle.m2v_tool.specs.Encoding.{EncodeDone, EncodeComes, encoding_stopped, unopened_ending, encoded_ending, encode_ending}
+use Rattle.m2v_tool.specs.Decoding.{DecodeDone, DecodeComes, decoding_stopped, shown_ending, decode_ending}
+use Rattle.m2v_tool.specs.Checking.{CheckComes, HasPassed, lawful_ending, variable_ending, account_ending, verdict_ending, check_ending}
+use Rattle.m2v_tool.specs.Making.{MakeComes, made_ending, making_stopped, make_ending}
+use Rattle.m2v_tool.specs.Cutting.{CutDone, CutComes, none_asked, cutting_stopped, cut_out_ending, cut_ending}
+use Rattle.m2v_tool.specs.Packing.{PackDone, PackComes, UnpackComes, y4m_fault, packed_ending, packing_stopped, unpacking_stopped, pack_ending, unpack_ending}
+use Rattle.m2v_tool.specs.Y4mCoding.{TextDone, Y4mComes, unread_ending, y4m_ending}
+use Rattle.m2v_tool.specs.Runs.{Run, work_of}
+
+-- ---- what was told with status 0
+
+-- no report that fails makes the status 0
+unreported : (n : ℕ) → (if n == 0 then 8 else n) ≡ 0 → ⊥
+unreported zero none = omega (arith, none)
+unreported (suc n) none = omega (arith, none)
+
+line : (e : Ending) (r : Run) → Told e r.status r.report → r.status ≡ 0 → Grows r.report.old (line_of e) r.report.new
+line e r (whole is g) none = g
+line e r (cut (inl is) g) none = absurd (omega (arith, is, none))
+line e r (cut (inr is) g) none = absurd (unreported e.status (sym is.1 ∙ none))
+
+-- an ending with another status wasn't told
+never : (e : Ending) (n : ℕ) (r : Run) → Told e r.status r.report → e.status ≡ suc n → r.status ≡ 0 → ⊥
+never e n r (whole is g) some none = omega (arith, is, some, none)
+never e n r (cut (inl is) g) some none = omega (arith, is, none)
+never e n r (cut (inr is) g) some none = unreported e.status (sym is.1 ∙ none)
+
+-- an ending's status isn't 0
+abbrev IsRefusal : Ending → Type 0
+IsRefusal e = (n : ℕ) × (e.status ≡ suc n)
+
+refused : {A : Type 0} (e : Ending) (r : Run) → Told e r.status r.report → IsRefusal e → r.status ≡ 0 → A
+refused e r t some none = absurd (never e some.0 r t some.1 none)
+
+-- ---- commands
+
+flat_stops : (e : FlatError) → IsRefusal (coding_stopped e)
+unfolding coding_stopped
+flat_stops flat_errors.Read = (6, refl)
+flat_stops flat_errors.Write = (7, refl)
+flat_stops (flat_errors.ShortFrame extra) = (3, refl)
+flat_stops flat_errors.NoFrames = (4, refl)
+flat_stops flat_errors.TooManyFrames = (5, refl)
+flat_stops flat_errors.Memory = (11, refl)
+
+pub flat_done : (r : Run) (w : FlatWords) (o : FlatOutcome) → FlatComes w r.input r.output o → Told (flat_ending o) r.status r.report → r.status ≡ 0
+    → Success (FlatDone w r.input r.output) flat_coded_ending r.report
+unfolding FlatComes flat_ending unfit_ending
+flat_done r w (flats.Coded s) c t none = record { outcome = s; is = c; line = line (flat_ending (flats.Coded s)) r t none }
+flat_done r w (flats.Unfit u) c t none = refused (unfit_ending u) r t (2, refl) none
+flat_done r w (flats.Stopped e) c t none = refused (coding_stopped e) r t (flat_stops e) none
+
+encode_stops : (e : EncodeError) → IsRefusal (encoding_stopped e)
+unfolding encoding_stopped
+encode_stops errors.Read = (6, refl)
+encode_stops errors.Write = (7, refl)
+encode_stops (errors.ShortFrame extra) = (3, refl)
+encode_stops errors.NoFrames = (4, refl)
+encode_stops errors.TooManyFrames = (5, refl)
+encode_stops errors.Memory = (11, refl)
+
+shut_stops : (e : PortError) → IsRefusal (unopened_ending e)
+unfolding unopened_ending
+shut_stops calls.Failed = (7, refl)
+shut_stops calls.Memory = (11, refl)
+
+pub encode_done : (r : Run) (m : Meant) (o : EncodeOutcome) → EncodeComes m (work_of r) o → Told (encode_ending o) r.status r.report → r.status ≡ 0
+    → Success (EncodeDone m (work_of r)) encoded_ending r.report
+unfolding EncodeComes encode_ending unfit_ending
+encode_done r m (encodes.Coded s) c t none = record { outcome = s; is = c; line = line (encoded_ending s) r t none }
+encode_done r m (encodes.Unfit u) c t none = refused (unfit_ending u) r t (2, refl) none
+encode_done r m (encodes.Unopened e) c t none = refused (unopened_ending e) r t (shut_stops e) none
+encode_done r m (encodes.Stopped e) c t none = refused (encoding_stopped e) r t (encode_stops e) none
+
+decode_stops : (e : DecodeError) → IsRefusal (decoding_stopped e)
+unfolding decoding_stopped stream_fault ending_past
+decode_stops decode_errors.Read = (6, refl)
+decode_stops decode_errors.Write = (7, refl)
+decode_stops (decode_errors.Stream f) = (8, refl)
+decode_stops decode_errors.TooLong = (12, refl)
+decode_stops decode_errors.PictureTooLarge = (13, refl)
+decode_stops decode_errors.Memory = (11, refl)
+
+pub decode_done : (r : Run) (workers : ℕ) (o : DecodeOutcome) → DecodeComes workers r.input r.output o → Told (decode_ending o) r.status r.report → r.status ≡ 0
+    → Success (DecodeDone workers r.input r.output) shown_ending r.report
+unfolding DecodeComes decode_ending unfit_ending
+decode_done r workers (decodes.Shown d) c t none = record { outcome = d; is = record { passes = c.0; decoded = c.1 }; line = line (shown_ending d) r t none }
+decode_done r workers (decodes.Unfit u) c t none = refused (unfit_ending u) r t (2, refl) none
+decode_done r workers (decodes.Stopped e) c t none = refused (decoding_stopped e) r t (decode_stops e) none
+
+account_stops : (f : AccountFault) → IsRefusal (account_ending f)
+unfolding account_ending
+account_stops (Under picture have need) = (10, refl)
+account_stops (Over picture have size) = (10, refl)
+
+pub check_done : (r : Run) (o : CheckOutcome) → CheckComes r.input o → Told (check_ending o) r.status r.report → r.status ≡ 0 → HasPassed r
+unfolding CheckComes check_ending verdict_ending
+check_done r (checks.Judged (verdicts.Lawful f)) c t none = inl (record { outcome = f; is = c; line = line (lawful_ending f) r t none })
+check_done r (checks.Judged (verdicts.Variable f)) c t none = inr (record { outcome = f; is = c; line = line (variable_ending f) r t none })
+check_done r (checks.Judged (verdicts.Unlawful rule picture have need)) c t none = refused (verdict_ending (verdicts.Unlawful rule picture have need)) r t (9, refl) none
+check_done r (checks.Judged (verdicts.Buffer fault)) c t none = refused (account_ending fault) r t (account_stops fault) none
+check_done r (checks.Stopped e) c t none = refused (decoding_stopped e) r t (decode_stops e) none
+
+make_stops : (e : MakeError) → IsRefusal (making_stopped e)
+unfolding making_stopped
+make_stops make_errors.Write = (7, refl)
+make_stops make_errors.Memory = (11, refl)
+
+pub make_done : (r : Run) (seed : ℕ) (o : MakeOutcome) → MakeComes seed r.output o → Told (make_ending o) r.status r.report → r.status ≡ 0
+    → Success (Makes seed r.output) (made_ending seed) r.report
+unfolding MakeComes make_ending
+make_done r seed (makes.Done own made) c t none = record {
+  outcome = made;
+  is = c.1;
+  line = subst (λ (n : ℕ). Grows r.report.old (line_of (made_ending n made)) r.report.new) c.0 (line (made_ending own made) r t none);
+}
+make_done r seed (makes.Stopped e) c t none = refused (making_stopped e) r t (make_stops e) none
+
+cut_stops : (e : CutError) → IsRefusal (cutting_stopped e)
+unfolding cutting_stopped ending_past
+cut_stops cut_errors.Read = (6, refl)
+cut_stops cut_errors.Write = (7, refl)
+cut_stops (cut_errors.NoGroup have need) = (15, refl)
+cut_stops (cut_errors.NotCuttable place) = (16, refl)
+cut_stops cut_errors.TooLong = (12, refl)
+cut_stops cut_errors.PictureTooLarge = (13, refl)
+cut_stops cut_errors.Memory = (11, refl)
+
+pub cut_done : (r : Run) (w : CutWords) (o : CutOutcome) → CutComes w r.input r.output o → Told (cut_ending o) r.status r.report → r.status ≡ 0
+    → Success (CutDone w r.input r.output) cut_out_ending r.report
+unfolding CutComes cut_ending unfit_ending
+cut_done r w (cuts.Done s) c t none = record { outcome = s; is = record { some = c.0; cut = c.1 }; line = line (cut_out_ending s) r t none }
+cut_done r w cuts.NoneAsked c t none = refused (unfit_ending none_asked) r t (2, refl) none
+cut_done r w (cuts.Stopped e) c t none = refused (cutting_stopped e) r t (cut_stops e) none
+
+pack_stops : (e : EncodeFault) → IsRefusal (packing_stopped e)
+unfolding packing_stopped
+pack_stops packing.Read = (6, refl)
+pack_stops packing.Write = (7, refl)
+pack_stops (packing.ShortFrame extra) = (3, refl)
+pack_stops packing.TooManyFrames = (5, refl)
+pack_stops packing.Memory = (11, refl)
+
+pub pack_done : (r : Run) (h : Y4mHeader) (o : PackOutcome) → PackComes h r.input r.output o → Told (pack_ending o) r.status r.report → r.status ≡ 0
+    → Success (PackDone h r.input r.output) packed_ending r.report
+unfolding PackComes pack_ending unfit_ending
+pack_done r h (packs.Packed s) c t none = record { outcome = s; is = record { passes = c.0; packed = c.1 }; line = line (packed_ending s) r t none }
+pack_done r h (packs.Unfit u) c t none = refused (unfit_ending u) r t (2, refl) none
+pack_done r h (packs.Stopped e) c t none = refused (packing_stopped e) r t (pack_stops e) none
+
+unpack_stops : (e : UnpackError) → IsRefusal (unpacking_stopped e)
+unfolding unpacking_stopped y4m_fault
+unpack_stops unpacking.Read = (6, refl)
+unpack_stops unpacking.Write = (7, refl)
+unpack_stops (unpacking.ShortFrame extra) = (3, refl)
+unpack_stops unpacking.TooManyFrames = (5, refl)
+unpack_stops (unpacking.Y4m fault) = (14, refl)
+unpack_stops unpacking.Memory = (11, refl)
+
+pub unpack_done : (r : Run) (o : UnpackOutcome) → UnpackComes r.input r.output o → Told (unpack_ending o) r.status r.report → r.status ≡ 0
+    → Success (AllUnpacked r.input r.output) packed_ending r.report
+unfolding UnpackComes unpack_ending
+unpack_done r (unpacks.Unpacked s) c t none = record { outcome = s; is = c.0; line = line (packed_ending s) r t none }
+unpack_done r (unpacks.Stopped e) c t none = refused (unpacking_stopped e) r t (unpack_stops e) none
+
+unread_stops : (e : Y4mError) → IsRefusal (unread_ending e)
+unfolding unread_ending y4m_fault
+unread_stops opening_errors.Read = (6, refl)
+unread_stops (opening_errors.Y4m fault) = (14, refl)
+unread_stops opening_errors.Memory = (11, refl)
+
+pub text_done : (r : Run) (m : Meant) (o : Y4mOutcome) → Y4mComes m (work_of r) o → Told (y4m_ending o) r.status r.report → r.status ≡ 0
+    → Success (TextDone m (work_of r)) encoded_ending r.report
+unfolding Y4mComes EncodeComes y4m_ending encode_ending unfit_ending y4m_fault
+text_done r m (texts.Unread e) c t none = refused (unread_ending e) r t (unread_stops e) none
+text_done r m (texts.Encoded (encodes.Coded s)) c t none = record {
+  outcome = s;
+  is = record { behind = c.behind; done = c.comes };
+  line = line (encoded_ending s) r t none;
+}
+text_done r m (texts.Encoded (encodes.Unfit u)) c t none = refused (unfit_ending u) r t (2, refl) none
+text_done r m (texts.Encoded (encodes.Unopened e)) c t none = refused (unopened_ending e) r t (shut_stops e) none
+text_done r m (texts.Encoded (encodes.Stopped e)) c t none = refused (encoding_stopped e) r t (encode_stops e) none
+text_done r m (texts.Broken fault) c t none = refused (y4m_fault fault) r t (14, refl) none
+
+-- ---- where memory ran out before the words were read
+
+pub no_success : {A : Type 0} (r : Run) → r.status ≡ 12 → r.status ≡ 0 → A
+no_success r is none = absurd (omega (arith, is, none))
