@@ -28,7 +28,7 @@ pub enum Verdict {
     /// A rule is broken: the one of the least picture, then of the least number; rules on sequence headers count as
     /// picture 0.
     Unlawful {
-        /// The number of the rule, from 1 to 15 (see `docs/BITSTREAM.md`).
+        /// The number of the rule, from 1 to 15 (`docs/COMMANDS.md` has them).
         rule: u8,
         /// The number of the picture in decoding order, from 0.
         picture: u64,
