@@ -6,6 +6,17 @@ use std::sync::atomic::{AtomicU64, Ordering};
 /// How many turns a job is held before the gate is given up.
 const TURNS: u32 = 50_000_000;
 
+/// Waits for a number to be reached: whether it was.
+fn has_come(number: &AtomicU64, least: u64) -> bool {
+    for _ in 0..TURNS {
+        if number.load(Ordering::SeqCst) >= least {
+            return true;
+        }
+        spin_loop();
+    }
+    false
+}
+
 /// A gate that holds job `held` in `pass` until job `other` is done, and, where they meet, job `other` until job `held`
 /// came to the gate. It lets all others pass, and keeps what it was told of these two.
 #[derive(Drop)]
@@ -37,13 +48,9 @@ impl Meeting {
 
     /// Waits for a call that stores 1.
     fn wait_for(&self, call: &AtomicU64) {
-        for _ in 0..TURNS {
-            if call.load(Ordering::SeqCst) > 0 {
-                return;
-            }
-            spin_loop();
+        if !has_come(call, 1) {
+            self.given_up.store(1, Ordering::SeqCst);
         }
-        self.given_up.store(1, Ordering::SeqCst);
     }
 
     /// Whether a job was held for too long.
@@ -80,4 +87,44 @@ impl Gate for Meeting {
             self.other_done.store(1, Ordering::SeqCst);
         }
     }
+}
+
+/// A gate that holds so many jobs, from one on, in `pass` until all of them came: only as many workers open it.
+#[derive(Drop)]
+pub(crate) struct Gathering {
+    first: u32,
+    count: u32,
+    came: AtomicU64,
+    given_up: AtomicU64,
+}
+
+impl Gathering {
+    /// A gate to which no job came.
+    pub(crate) fn new(first: u32, count: u32) -> Gathering {
+        Gathering {
+            first,
+            count,
+            came: AtomicU64::new(0),
+            given_up: AtomicU64::new(0),
+        }
+    }
+
+    /// Whether all jobs came, and none was held for too long.
+    pub(crate) fn is_opened(&self) -> bool {
+        self.given_up.load(Ordering::SeqCst) == 0
+            && self.came.load(Ordering::SeqCst) == u64::from(self.count)
+    }
+}
+
+impl Gate for Gathering {
+    fn pass(&self, _worker: u32, job: u32) {
+        if job.wrapping_sub(self.first) < self.count {
+            self.came.fetch_add(1, Ordering::SeqCst);
+            if !has_come(&self.came, u64::from(self.count)) {
+                self.given_up.store(1, Ordering::SeqCst);
+            }
+        }
+    }
+
+    fn done(&self, _worker: u32, _job: u32, _told: u64) {}
 }

@@ -1,8 +1,9 @@
 //! Workers, held at a gate. Those of the encoder: two rows of a picture are made beside each other, and a row of a picture
 //! before the last row of the picture that it refers to. A run on one thread, in whatever order, gives the gate up; and so
 //! does one whose workers come to the gate before or behind the work. What the gate was told is held against the slices in
-//! the output. Those of the decoder: two rows of a picture are decoded beside each other. And two runs of `make` of one seed
-//! are held against each other, and against runs in which a call of an endpoint fails.
+//! the output. Those of the decoder: two rows of a picture are decoded beside each other. Both by three, four and eight
+//! workers: a gate that holds as many rows until all of them came. And two runs of `make` of one seed are held against each
+//! other, and against runs in which a call of an endpoint fails.
 #![tactic(auto)]
 
 mod gate;
@@ -10,7 +11,7 @@ mod slices;
 
 ghost use Rattle.std.specs.Prelude.{IsFalse, is_some};
 
-use gate::Meeting;
+use gate::{Gathering, Meeting};
 use m2v_board::{Gate, OpenGate};
 use m2v_port::{MemoryFile, MemorySink, MemorySource};
 use m2v_tool::run;
@@ -20,20 +21,47 @@ use std::process::ExitCode;
 use std::sync::Wait;
 use std::thread::Threads;
 
-/// The words of an encoder with two workers, for pictures of one macroblock in a row; their height follows.
-const WORDS: [&str; 12] = [
-    "encode",
-    "--width",
-    "16",
-    "--rate",
-    "3",
-    "--bits",
-    "100",
-    "--buffer",
-    "1",
-    "--workers",
-    "2",
-    "--height",
+/// The words of an encoder for pictures of one macroblock in a row; their height and the number of workers follow.
+const WORDS: [&str; 9] = [
+    "encode", "--width", "16", "--rate", "3", "--bits", "100", "--buffer", "1",
+];
+
+/// A picture with as many rows as there are workers.
+struct Gathered {
+    workers: &'static str,
+    count: u32,
+    height: &'static str,
+    lines: u32,
+    encoded: &'static str,
+    decoded: &'static str,
+}
+
+/// More workers than two.
+const GATHERED: [Gathered; 3] = [
+    Gathered {
+        workers: "3",
+        count: 3,
+        height: "48",
+        lines: 48,
+        encoded: "three workers code beside each other",
+        decoded: "three workers decode beside each other",
+    },
+    Gathered {
+        workers: "4",
+        count: 4,
+        height: "64",
+        lines: 64,
+        encoded: "four workers code beside each other",
+        decoded: "four workers decode beside each other",
+    },
+    Gathered {
+        workers: "8",
+        count: 8,
+        height: "128",
+        lines: 128,
+        encoded: "eight workers code beside each other",
+        decoded: "eight workers decode beside each other",
+    },
 ];
 
 /// A run that is held at a gate.
@@ -81,9 +109,11 @@ fn all_words(alloc: Global, words: &[&str]) -> Result<Vec<String>, AllocError> {
 }
 
 /// The words of a run.
-fn words_of(alloc: Global, height: &str) -> Result<Vec<String>, AllocError> {
+fn words_of(alloc: Global, height: &str, workers: &str) -> Result<Vec<String>, AllocError> {
     let mut words = all_words(alloc, &WORDS)?;
-    words.push(String::from_str(alloc, height)?)?;
+    for word in ["--height", height, "--workers", workers].iter() {
+        words.push(String::from_str(alloc, word)?)?;
+    }
     Ok(words)
 }
 
@@ -159,7 +189,7 @@ fn is_right<R: Threads + Wait + Sync>(
     alloc: Global,
     run: &Held,
 ) -> Result<bool, AllocError> {
-    let words = words_of(alloc, run.height)?;
+    let words = words_of(alloc, run.height, "2")?;
     let mut endpoints = Endpoints {
         input: MemorySource::new(frames_of(alloc, run.lines, run.frames)?, Vec::new(alloc)),
         output: MemorySink::new(alloc, Vec::new(alloc)),
@@ -202,6 +232,40 @@ fn is_decoded_beside<R: Threads + Wait + Sync>(rt: &R, alloc: Global) -> Result<
     let (status, frame) = run_over(rt, alloc, &decode, stream, &gate)?;
     let told = gate.held_told() == 49152 && gate.other_told() == 49152;
     Ok(status == 0 && !gate.is_given_up() && told && frame.as_slice() == grey.as_slice())
+}
+
+/// Runs the encoder over a frame held at a gate that only as many workers open: whether they did. A picture's first job is
+/// its plan.
+fn is_gathered<R: Threads + Wait + Sync>(
+    rt: &R,
+    alloc: Global,
+    run: &Gathered,
+) -> Result<bool, AllocError> {
+    let words = words_of(alloc, run.height, run.workers)?;
+    let mut endpoints = Endpoints {
+        input: MemorySource::new(frames_of(alloc, run.lines, 1)?, Vec::new(alloc)),
+        output: MemorySink::new(alloc, Vec::new(alloc)),
+        recon: MemoryFile::new(alloc, Vec::new(alloc)),
+        report: MemorySink::new(alloc, Vec::new(alloc)),
+    };
+    let gate = Gathering::new(1, run.count);
+    let status = status_of(rt, alloc, &words, &mut endpoints, &gate);
+    Ok(status == 0 && gate.is_opened())
+}
+
+/// The same of the decoder, over a grey frame.
+fn is_decoded_by<R: Threads + Wait + Sync>(
+    rt: &R,
+    alloc: Global,
+    run: &Gathered,
+) -> Result<bool, AllocError> {
+    let grey = vec![in alloc; 128; run.lines.wrapping_mul(24) as usize]?;
+    let flat = ["flat", "16", run.height, "3", "1"];
+    let (_, stream) = run_over(rt, alloc, &flat, grey.to_vec(alloc)?, &OpenGate)?;
+    let gate = Gathering::new(0, run.count);
+    let decode = ["decode", "--workers", run.workers];
+    let (status, frame) = run_over(rt, alloc, &decode, stream, &gate)?;
+    Ok(status == 0 && gate.is_opened() && frame.as_slice() == grey.as_slice())
 }
 
 /// What a run of `make` comes to: its status, and what stands on output and on report.
@@ -305,6 +369,12 @@ fn main(rt: HostRuntime) -> anyhow::Result<ExitCode> {
         "two rows of a picture are decoded beside each other",
         right,
     )? && all;
+    for run in GATHERED.iter() {
+        let right = is_gathered(&rt, rt.alloc(), run)?;
+        all = told(&rt, run.encoded, right)? && all;
+        let right = is_decoded_by(&rt, rt.alloc(), run)?;
+        all = told(&rt, run.decoded, right)? && all;
+    }
     let right = is_made_twice(&rt, rt.alloc())?;
     all = told(&rt, "two runs of make give one stream", right)? && all;
     let right = is_told_failing(&rt, rt.alloc())?;
