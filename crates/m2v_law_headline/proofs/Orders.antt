@@ -202,5 +202,7 @@ shown_all s x (g ∷ h ∷ more) =
 pub frames_shown : (s : Settings) (frames : List (List ℕ)) → Passes s → length (Recon s frames) ≡ length frames
 unfolding coded_all
 frames_shown s frames passes =
-    let all = shown_all s (at_start s) (groups_of s frames) in
-    all ∙ ap length (frames_grouped s frames passes) ∙ count s frames passes
+    let all : length (Recon s frames) ≡ 0 + length (frames_in (groups_of s frames)) = shown_all s (at_start s) (groups_of s frames) in
+    let grouped : length (frames_in (groups_of s frames)) ≡ length (map (pad (dims_of s)) frames) = ap length (frames_grouped s frames passes) in
+    let every = count s frames passes in
+    omega (arith, all, grouped, every)
