@@ -6,11 +6,11 @@ use Rattle.std.proofs.lemmas.List.{length-append, map-append, get_or_append_left
 use Rattle.std.proofs.lemmas.List.Elements.{All-push}
 use Rattle.std.proofs.lemmas.Option.{slice_get-get_or, get_or_from_slice_get, slice_get_within}
 use Rattle.std.proofs.Math.Seq.{get_or-append_seam}
-use Rattle.m2v_decode.specs.m2v_dec_picture.declared.gallery.Reading.{Reading}
-use Rattle.m2v_decode.specs.m2v_dec_picture.Frames.{HasReferences}
+use Rattle.m2v_dec_rows.specs.m2v_dec_picture.declared.gallery.Reading.{Reading}
+use Rattle.m2v_dec_rows.specs.m2v_dec_picture.Frames.{HasReferences}
 use Rattle.m2v_dec_piece.specs.declared.answer.Piece.{Piece}
-use Rattle.m2v_decode.specs.m2v_dec_rows.declared.opened.Opened.{Opened}
-use Rattle.m2v_decode.specs.m2v_dec_rows.Opened.{IsOpened}
+use Rattle.m2v_dec_rows.specs.declared.opened.Opened.{Opened}
+use Rattle.m2v_dec_rows.specs.Opened.{IsOpened}
 use Rattle.m2v_dec_batch.specs.declared.picture.BatchPicture.{BatchPicture}
 use Rattle.m2v_dec_batch.specs.declared.picture.Header.{Header}
 use Rattle.m2v_dec_batch.specs.declared.picture.FramePlace.{FramePlace}

@@ -11,8 +11,8 @@ use Rattle.m2v_model.specs.m2v_macroblock.Macroblocks.{Macroblock, after_macrobl
 use Rattle.m2v_model.specs.declared.setup.SliceSetup.{SliceSetup}
 use Rattle.m2v_model.specs.Samples.{References, put_in_row, skipped_painted, own_painted, painted, all_painted}
 use Rattle.m2v_dec_piece.specs.declared.answer.Fault.{Fault}
-use Rattle.m2v_decode.specs.m2v_dec_rows.Rows.{Slices, Placed, Read, Begun, begun_painted, slices_painted, row_read, row_fault}
-use Rattle.m2v_decode.specs.m2v_dec_rows.Opened.{setup_of, slices_of, ending}
+use Rattle.m2v_dec_rows.specs.Rows.{Slices, Placed, Read, Begun, begun_painted, slices_painted, row_read, row_fault}
+use Rattle.m2v_dec_rows.specs.Opened.{setup_of, slices_of, ending}
 use Rattle.m2v_dec_batch.specs.declared.picture.BatchPicture.{BatchPicture}
 use Rattle.m2v_dec_batch.specs.declared.pieces.DecodePiece.{DecodePiece}
 use Rattle.m2v_dec_batch.specs.declared.pieces.DecodePiece.TheVariants.{Unread, After, Faulty, Rebuilt}

@@ -4,8 +4,8 @@ use Rattle.std.specs.Prelude.{is_some, IsSome, IfSome, slice_get}
 use Rattle.m2v_plane.specs.declared.dims.Dims.{Dims}
 use Rattle.m2v_plane.specs.Sizes.{IsSize}
 use Rattle.m2v_plane.specs.Samples.{Samples}
-use Rattle.m2v_decode.specs.m2v_dec_picture.declared.gallery.FramesAtHand.{FramesAtHand}
-use Rattle.m2v_decode.specs.m2v_dec_picture.Frames.{HasReferences}
+use Rattle.m2v_dec_rows.specs.m2v_dec_picture.declared.gallery.FramesAtHand.{FramesAtHand}
+use Rattle.m2v_dec_rows.specs.m2v_dec_picture.Frames.{HasReferences}
 use Rattle.m2v_dec_batch.specs.declared.picture.BatchPicture.{BatchPicture}
 use Rattle.m2v_dec_batch.specs.declared.picture.FramePlace.{FramePlace}
 use Rattle.m2v_dec_batch.specs.declared.picture.FramePlace.TheVariants.{Older, Newer, Waiting, Behind}

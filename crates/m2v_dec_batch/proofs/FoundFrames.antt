@@ -5,9 +5,9 @@ use Rattle.std.proofs.lemmas.Bool.{cond_both, eqb-true, cond-true, cond-false}
 use Rattle.m2v_plane.specs.Samples.{Samples}
 use Rattle.m2v_model.specs.States.{is_b}
 use Rattle.m2v_model.specs.Samples.{References}
-use Rattle.m2v_decode.specs.m2v_dec_picture.declared.gallery.Reading.{Reading}
-use Rattle.m2v_decode.specs.m2v_dec_picture.Frames.{references_at, forward_top, forward_bottom, backward_frame, HasReferences}
-use Rattle.m2v_decode.proofs.m2v_dec_picture.FrameLaws.{references_are, both_shown}
+use Rattle.m2v_dec_rows.specs.m2v_dec_picture.declared.gallery.Reading.{Reading}
+use Rattle.m2v_dec_rows.specs.m2v_dec_picture.Frames.{references_at, forward_top, forward_bottom, backward_frame, HasReferences}
+use Rattle.m2v_dec_rows.proofs.m2v_dec_picture.FrameLaws.{references_are, both_shown}
 use Rattle.m2v_dec_batch.specs.declared.picture.Header.{Header}
 use Rattle.m2v_dec_batch.specs.declared.picture.FramePlace.{FramePlace}
 use Rattle.m2v_dec_batch.specs.declared.picture.FramePlace.TheVariants.{Older, Newer, Waiting, Behind}

@@ -8,7 +8,7 @@ use Rattle.m2v_plane.specs.Sizes.{part_of}
 use Rattle.m2v_plane.specs.Samples.{Samples, blank}
 use Rattle.m2v_plane.specs.Fields.{or_none}
 use Rattle.m2v_pred.specs.Motion.{own_lines}
-use Rattle.m2v_decode.specs.m2v_dec_rows.Opened.{IsOpened}
+use Rattle.m2v_dec_rows.specs.Opened.{IsOpened}
 use Rattle.m2v_dec_batch.specs.declared.picture.BatchPicture.{BatchPicture}
 use Rattle.m2v_dec_batch.specs.declared.picture.Header.{Header}
 use Rattle.m2v_dec_batch.specs.Jobs.{header_at, first_job}

@@ -22,8 +22,3 @@ pub mod Presence
 pub mod Appending
 pub mod Units
 pub mod Exchanging
-pub mod IntraLaws
-pub mod RowFrames
-pub mod RebuiltRows
-pub mod NextFrames
-pub use Rattle.m2v_decode.proofs as m2v_decode

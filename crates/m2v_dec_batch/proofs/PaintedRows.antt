@@ -9,15 +9,15 @@ use Rattle.m2v_plane.proofs.RawVideo.{length-plane_by}
 use Rattle.m2v_pred.specs.Motion.{own_lines}
 use Rattle.m2v_model.specs.declared.setup.SliceSetup.{SliceSetup}
 use Rattle.m2v_model.specs.Samples.{References, put_in_frame}
-use Rattle.m2v_decode.specs.m2v_dec_picture.Frames.{references_in}
+use Rattle.m2v_dec_rows.specs.m2v_dec_picture.Frames.{references_in}
 use Rattle.m2v_dec_piece.specs.declared.answer.Fault.{Fault}
-use Rattle.m2v_decode.specs.m2v_dec_rows.Rows.{Slices, Placed, Read, Begun, first_of, slices_read, row_read, row_fault, begun_painted, slices_painted}
-use Rattle.m2v_decode.specs.m2v_dec_rows.Opened.{IsOpened, setup_of, slices_of, ending_by, ending}
-use Rattle.m2v_decode.proofs.m2v_dec_rows.OwnLaws.{row_end}
-use Rattle.m2v_decode.specs.m2v_dec_rows.ByRows.{AreOrdered}
-use Rattle.m2v_decode.specs.m2v_dec_picture.Conditions.{rows_in}
-use Rattle.m2v_decode.proofs.m2v_dec_rows.ByRowLaws.{row_whole, above, all_above, row_more, none_more}
-use Rattle.m2v_decode.proofs.m2v_dec_rows.Together.{row_together}
+use Rattle.m2v_dec_rows.specs.Rows.{Slices, Placed, Read, Begun, first_of, slices_read, row_read, row_fault, begun_painted, slices_painted}
+use Rattle.m2v_dec_rows.specs.Opened.{IsOpened, setup_of, slices_of, ending_by, ending}
+use Rattle.m2v_dec_rows.proofs.OwnLaws.{row_end}
+use Rattle.m2v_dec_rows.specs.ByRows.{AreOrdered}
+use Rattle.m2v_dec_rows.specs.m2v_dec_picture.Conditions.{rows_in}
+use Rattle.m2v_dec_rows.proofs.ByRowLaws.{row_whole, above, all_above, row_more, none_more}
+use Rattle.m2v_dec_rows.proofs.Together.{row_together}
 use Rattle.m2v_dec_batch.specs.declared.picture.BatchPicture.{BatchPicture}
 use Rattle.m2v_dec_batch.specs.declared.picture.Header.{Header}
 use Rattle.m2v_dec_batch.specs.declared.picture.FramePlace.{FramePlace}

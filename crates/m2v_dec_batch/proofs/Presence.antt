@@ -3,8 +3,8 @@ use Rattle.std.proofs.Common.{◌≡◌, ℕ, suc, ◌+◌, Bool, true, false, c
 use Rattle.std.specs.Prelude.{◌&&◌, not, nat_eq, is_some}
 use Rattle.m2v_plane.specs.Samples.{Samples}
 use Rattle.m2v_model.specs.States.{is_b}
-use Rattle.m2v_decode.specs.m2v_dec_picture.declared.gallery.Reading.{Reading}
-use Rattle.m2v_decode.specs.m2v_dec_picture.Frames.{Frames, forward_top, forward_bottom, backward_frame, HasReferences}
+use Rattle.m2v_dec_rows.specs.m2v_dec_picture.declared.gallery.Reading.{Reading}
+use Rattle.m2v_dec_rows.specs.m2v_dec_picture.Frames.{Frames, forward_top, forward_bottom, backward_frame, HasReferences}
 use Rattle.m2v_dec_batch.specs.declared.picture.FramePlace.{FramePlace}
 use Rattle.m2v_dec_batch.specs.declared.picture.Header.{Header}
 use Rattle.m2v_dec_batch.specs.declared.picture.FramePlace.TheVariants.{Older, Newer, Waiting, Behind}

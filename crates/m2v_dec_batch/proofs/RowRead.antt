@@ -5,11 +5,11 @@ use Rattle.m2v_plane.specs.Samples.{Samples, blank}
 use Rattle.m2v_model.specs.declared.setup.SliceSetup.{SliceSetup}
 use Rattle.m2v_model.specs.Samples.{References, put_in_row}
 use Rattle.m2v_dec_piece.specs.declared.answer.Fault.{Fault}
-use Rattle.m2v_decode.specs.m2v_dec_rows.Rows.{Slices, row_read, row_fault, slices_painted}
-use Rattle.m2v_decode.specs.m2v_dec_rows.Reads.{TellsRow}
-use Rattle.m2v_decode.specs.m2v_dec_rows.Opened.{IsOpened, setup_of, slices_of, ending_by, ending}
-use Rattle.m2v_decode.proofs.m2v_dec_rows.OwnLaws.{row_end}
-use Rattle.m2v_decode.proofs.m2v_dec_rows.ByRowLaws.{row_whole}
+use Rattle.m2v_dec_rows.specs.Rows.{Slices, row_read, row_fault, slices_painted}
+use Rattle.m2v_dec_rows.specs.Reads.{TellsRow}
+use Rattle.m2v_dec_rows.specs.Opened.{IsOpened, setup_of, slices_of, ending_by, ending}
+use Rattle.m2v_dec_rows.proofs.OwnLaws.{row_end}
+use Rattle.m2v_dec_rows.proofs.ByRowLaws.{row_whole}
 use Rattle.m2v_dec_batch.specs.declared.picture.BatchPicture.{BatchPicture}
 use Rattle.m2v_dec_batch.specs.declared.pieces.DecodePiece.TheVariants.{After, Faulty, Rebuilt}
 use Rattle.m2v_dec_batch.specs.Values.{row_painted, outcome_by, outcome_in}

@@ -5,12 +5,12 @@ use Rattle.m2v_plane.specs.declared.dims.Dims.{Dims}
 use Rattle.m2v_plane.specs.Samples.{Samples, blank}
 use Rattle.m2v_plane.specs.Fields.{FieldFrames, HoldsLine, sample_at}
 use Rattle.m2v_model.specs.Samples.{References}
-use Rattle.m2v_decode.specs.m2v_dec_picture.declared.gallery.Reading.{Reading}
-use Rattle.m2v_decode.specs.m2v_dec_picture.Conditions.{HoldsForward, HoldsBackward}
-use Rattle.m2v_decode.specs.m2v_dec_picture.Frames.{references_at, forward_top, forward_bottom, backward_frame}
-use Rattle.m2v_decode.specs.m2v_dec_picture.Reads.{seen_by}
-use Rattle.m2v_decode.proofs.m2v_dec_picture.FrameLaws.{references_are, shown, view_holds}
-use Rattle.m2v_decode.specs.m2v_dec_rows.Opened.{IsOpened, setup_of}
+use Rattle.m2v_dec_rows.specs.m2v_dec_picture.declared.gallery.Reading.{Reading}
+use Rattle.m2v_dec_rows.specs.m2v_dec_picture.Conditions.{HoldsForward, HoldsBackward}
+use Rattle.m2v_dec_rows.specs.m2v_dec_picture.Frames.{references_at, forward_top, forward_bottom, backward_frame}
+use Rattle.m2v_dec_rows.specs.m2v_dec_picture.Reads.{seen_by}
+use Rattle.m2v_dec_rows.proofs.m2v_dec_picture.FrameLaws.{references_are, shown, view_holds}
+use Rattle.m2v_dec_rows.specs.Opened.{IsOpened, setup_of}
 use Rattle.m2v_dec_batch.specs.declared.picture.BatchPicture.{BatchPicture}
 use Rattle.m2v_dec_batch.specs.declared.picture.Header.{Header}
 use Rattle.m2v_dec_batch.specs.declared.pieces.DecodePiece.{DecodePiece}

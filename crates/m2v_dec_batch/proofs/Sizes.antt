@@ -6,7 +6,7 @@ use Rattle.std.proofs.lemmas.Bool.{cases_lt, cond_both, cond-true, cond-false, c
 use Rattle.std.proofs.lemmas.List.{length-map, get_or-map, get_or_past}
 use Rattle.std.proofs.lemmas.List.Sums.{list_all-from_AllPass}
 use Rattle.std.proofs.lemmas.Option.{slice_get_cases, get_or_from_slice_get, slice_get_within}
-use Rattle.m2v_decode.specs.m2v_dec_rows.Opened.{IsOpened}
+use Rattle.m2v_dec_rows.specs.Opened.{IsOpened}
 use Rattle.m2v_dec_batch.specs.declared.picture.BatchPicture.{BatchPicture}
 use Rattle.m2v_dec_batch.specs.declared.picture.Header.{Header}
 use Rattle.m2v_dec_batch.specs.Jobs.{Headers, no_header, header_at, first_job, picture_among, frame_begin, frame_count, are_small, jobs_of}

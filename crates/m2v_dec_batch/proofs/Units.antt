@@ -3,7 +3,7 @@ use Rattle.std.proofs.Common.{◌≡◌, ℕ, true, false, List, [], ◌∷◌, 
 use Rattle.m2v_model.specs.Units.{Units}
 use Rattle.m2v_model.specs.Streams.{value_of}
 use Rattle.m2v_model.specs.Pieces.{begins_piece}
-use Rattle.m2v_decode.specs.m2v_dec_rows.OnePicture.{NoneBegins, HasOnePicture}
+use Rattle.m2v_dec_rows.specs.OnePicture.{NoneBegins, HasOnePicture}
 
 -- a picture begins a piece
 picture_begins : (v : ℕ) → v ≡ 0 → begins_piece v ≡ true

@@ -6,9 +6,9 @@ use Rattle.m2v_plane.specs.Samples.{Samples, blank, with_row}
 use Rattle.m2v_plane.specs.Fields.{or_none}
 use Rattle.m2v_pred.specs.Motion.{own_lines}
 use Rattle.m2v_model.specs.Samples.{References}
-use Rattle.m2v_decode.specs.m2v_dec_picture.declared.gallery.Reading.{Reading}
-use Rattle.m2v_decode.specs.m2v_dec_picture.Frames.{Frames, references_in, HasReferences}
-use Rattle.m2v_decode.specs.m2v_dec_rows.Opened.{IsOpened}
+use Rattle.m2v_dec_rows.specs.m2v_dec_picture.declared.gallery.Reading.{Reading}
+use Rattle.m2v_dec_rows.specs.m2v_dec_picture.Frames.{Frames, references_in, HasReferences}
+use Rattle.m2v_dec_rows.specs.Opened.{IsOpened}
 use Rattle.m2v_dec_batch.specs.declared.picture.Header.{Header}
 use Rattle.m2v_dec_batch.specs.declared.picture.BatchPicture.{BatchPicture}
 use Rattle.m2v_dec_batch.specs.declared.picture.FramePlace.{FramePlace}

@@ -3,10 +3,10 @@ use Rattle.std.specs.Prelude.{◌≡◌, ℕ, suc, ◌≤◌, Bool, true, false,
 use Rattle.m2v_plane.specs.declared.dims.Dims.{Dims}
 use Rattle.m2v_plane.specs.Samples.{Samples, blank}
 use Rattle.m2v_model.specs.States.{is_b}
-use Rattle.m2v_decode.specs.m2v_dec_picture.declared.gallery.FramesAtHand.{FramesAtHand}
-use Rattle.m2v_decode.specs.m2v_dec_picture.declared.gallery.Reading.{Reading}
+use Rattle.m2v_dec_rows.specs.m2v_dec_picture.declared.gallery.FramesAtHand.{FramesAtHand}
+use Rattle.m2v_dec_rows.specs.m2v_dec_picture.declared.gallery.Reading.{Reading}
 use Rattle.m2v_dec_piece.specs.declared.answer.Piece.{Piece}
-use Rattle.m2v_decode.specs.m2v_dec_rows.declared.opened.Opened.{Opened}
+use Rattle.m2v_dec_rows.specs.declared.opened.Opened.{Opened}
 use Rattle.m2v_dec_batch.specs.declared.picture.Header.{Header}
 use Rattle.m2v_dec_batch.specs.declared.picture.FramePlace.{FramePlace}
 use Rattle.m2v_dec_batch.specs.declared.picture.FramePlace.TheVariants.{Older, Newer, Waiting, Behind}

@@ -8,7 +8,5 @@ pub mod Below
 pub mod Examples
 pub mod Painted
 pub mod Filled
-pub mod Behind
-pub use Rattle.m2v_decode.specs.m2v_dec_picture
-pub use Rattle.m2v_decode.specs.m2v_dec_rows
-pub use Rattle.m2v_decode.specs as m2v_decode
+pub use Rattle.m2v_dec_rows.specs.m2v_dec_picture
+pub use Rattle.m2v_dec_rows.specs as m2v_dec_rows

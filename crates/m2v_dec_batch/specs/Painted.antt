@@ -2,10 +2,10 @@
 use Rattle.std.specs.Prelude.{ℕ, ◌≡◌, ◌+◌, ◌<◌, true, List, length, Option, Ok}
 use Rattle.m2v_plane.specs.Samples.{Samples, HasRows}
 use Rattle.m2v_model.specs.Samples.{put_in_frame}
-use Rattle.m2v_decode.specs.m2v_dec_picture.Conditions.{rows_in}
-use Rattle.m2v_decode.specs.m2v_dec_rows.Rows.{Begun, first_of, slices_painted}
-use Rattle.m2v_decode.specs.m2v_dec_rows.ByRows.{AreOrdered, picture_read}
-use Rattle.m2v_decode.specs.m2v_dec_rows.Opened.{setup_of, slices_of}
+use Rattle.m2v_dec_rows.specs.m2v_dec_picture.Conditions.{rows_in}
+use Rattle.m2v_dec_rows.specs.Rows.{Begun, first_of, slices_painted}
+use Rattle.m2v_dec_rows.specs.ByRows.{AreOrdered, picture_read}
+use Rattle.m2v_dec_rows.specs.Opened.{setup_of, slices_of}
 use Rattle.m2v_dec_batch.specs.declared.picture.BatchPicture.{BatchPicture}
 use Rattle.m2v_dec_batch.specs.Jobs.{first_job, newer_before, older_before}
 use Rattle.m2v_dec_batch.specs.Batches.{Batch, headers, Rows, all_set, frame_at, references}

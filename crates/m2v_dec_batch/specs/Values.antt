@@ -9,8 +9,8 @@ use Rattle.m2v_plane.specs.Samples.{Samples, blank, sample_of, line_part}
 use Rattle.m2v_model.specs.declared.setup.SliceSetup.{SliceSetup}
 use Rattle.m2v_model.specs.Samples.{References, put_in_row}
 use Rattle.m2v_dec_piece.specs.declared.answer.Fault.{Fault}
-use Rattle.m2v_decode.specs.m2v_dec_rows.Rows.{Slices, Placed, Read, row_read, row_fault, slices_painted}
-use Rattle.m2v_decode.specs.m2v_dec_rows.Opened.{setup_of, slices_of, ending}
+use Rattle.m2v_dec_rows.specs.Rows.{Slices, Placed, Read, row_read, row_fault, slices_painted}
+use Rattle.m2v_dec_rows.specs.Opened.{setup_of, slices_of, ending}
 use Rattle.m2v_dec_batch.specs.declared.picture.BatchPicture.{BatchPicture}
 use Rattle.m2v_dec_batch.specs.declared.pieces.DecodePiece.{DecodePiece}
 use Rattle.m2v_dec_batch.specs.declared.pieces.DecodePiece.TheVariants.{Unread, After, Faulty, Rebuilt}

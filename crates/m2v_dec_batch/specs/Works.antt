@@ -1,7 +1,7 @@
 -- What a cache knows once the needs of a job are learned.
 use Rattle.std.specs.Prelude.{ℕ, ◌≡◌, ◌<◌, ⊤, Bool, true, ◌&&◌, ◌||◌, nat_eq, if◌then◌else◌, slice_get, Option, Some, None}
 use Rattle.std.specs.List.{list_all}
-use Rattle.m2v_decode.specs.m2v_dec_picture.Frames.{HasReferences}
+use Rattle.m2v_dec_rows.specs.m2v_dec_picture.Frames.{HasReferences}
 use Rattle.m2v_dec_batch.specs.declared.picture.BatchPicture.{BatchPicture}
 use Rattle.m2v_plane.specs.Samples.{Samples}
 use Rattle.m2v_dec_batch.specs.declared.cache.DecodeCache.{DecodeCache}

@@ -5,7 +5,7 @@ ghost use Rattle.m2v_dec_batch.specs.Batches.{reading_of as reading_by};
 ghost use Rattle.m2v_dec_batch.specs.Filled.{top_there, bottom_there, backward_there, HasFields};
 
 use crate::{Header, ends_anchor};
-use m2v_decode::dec_picture::Reading;
+use m2v_dec_rows::dec_picture::Reading;
 
 /// Which frames are there before a picture.
 #[derive(Clone, Copy, Debug, PartialEq, Eq)]

@@ -12,7 +12,7 @@ use crate::book::DecodeBook;
 use crate::picture::{FramePlace, Header};
 use crate::pieces::DecodePiece;
 use m2v_core::Memory;
-use m2v_decode::dec_picture::FramesAtHand;
+use m2v_dec_rows::dec_picture::FramesAtHand;
 use m2v_plane::Frame;
 use m2v_pred::own_lines;
 use m2v_wave::Done;

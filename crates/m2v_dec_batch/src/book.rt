@@ -8,7 +8,7 @@ ghost use Rattle.m2v_dec_batch.specs.Below.{IsBefore};
 
 use crate::picture::{BatchPicture, Header, header_of};
 use crate::reads::{Before, before_each};
-use m2v_decode::dec_picture::FramesAtHand;
+use m2v_dec_rows::dec_picture::FramesAtHand;
 use m2v_plane::{Dims, Frame};
 use std::marker::Model;
 

@@ -2,7 +2,7 @@
 ghost use Rattle.std.specs.Prelude.{ℕ, suc, ◌≡◌, ◌<◌, ◌≤◌, ◌++◌, [], ◌∷◌, ◌↔◌, false, IsTrue, IsSome, IfErr, OnOk, None, length};
 ghost use Rattle.m2v_plane.specs.Sizes.{IsSize};
 ghost use Rattle.m2v_dec_piece.specs.declared.answer.Piece.{Piece as PieceOf};
-ghost use Rattle.m2v_decode.specs.m2v_dec_rows.Opened.{IsOpened};
+ghost use Rattle.m2v_dec_rows.specs.Opened.{IsOpened};
 ghost use Rattle.m2v_dec_batch.specs.Jobs.{header_at, first_job, jobs_of};
 ghost use Rattle.m2v_dec_batch.specs.Batches.{Batch, headers, ArePair, IsBatch};
 ghost use Rattle.m2v_dec_batch.specs.Filled.{batch_of, with_picture, with_frames, at_hand, AreThere, HaveDims, Follows};
@@ -10,8 +10,8 @@ ghost use Rattle.m2v_dec_batch.specs.Filled.{batch_of, with_picture, with_frames
 use crate::at_hand::{FramesThere, behind, has_fields, reading_of};
 use crate::{BatchPicture, DecodeBook, Header, Memory, header_of};
 use m2v_dec_piece::Piece;
-use m2v_decode::dec_picture::FramesAtHand;
-use m2v_decode::dec_rows::Opened;
+use m2v_dec_rows::Opened;
+use m2v_dec_rows::dec_picture::FramesAtHand;
 use m2v_plane::Dims;
 use std::alloc::Global;
 use std::marker::Model;

@@ -3,7 +3,7 @@
 //! A [`DecodeBook`] is a book of jobs over a batch: pictures in decoding order whose headers were read, and a job for each of
 //! their macroblock rows. A [`Filling`] is a batch that is filled picture by picture: what holds of its pictures holds of
 //! those of every stream; the program looks at each condition itself all the same, and a picture of which one fails isn't
-//! taken: others decode it as a whole. The laws say which frames a decoder has while it takes in the pictures of a batch.
+//! taken: others decode it as a whole.
 #![tactic(auto)]
 
 mod at_hand;
@@ -24,12 +24,9 @@ pub use at_hand::FramesThere;
 pub use book::{BatchParts, DecodeBook};
 pub use cache::{DecodeCache, HeldFrame};
 pub use filling::Filling;
-pub use laws::{
-    law_behind_none, law_next_behind, law_noted, law_rows_behind, law_rows_in_frame,
-    law_worked_rows,
-};
-pub use m2v_decode as decode;
-pub use m2v_decode::{dec_picture, dec_rows, dec_unit};
+pub use laws::{law_rows_in_frame, law_worked_rows};
+pub use m2v_dec_rows as dec_rows;
+pub use m2v_dec_rows::{dec_picture, dec_unit};
 pub use picture::{BatchPicture, FramePlace, Header, Reads, header_of};
 pub use pieces::{DecodePiece, DecodeShared};
 pub use reads::ends_anchor;

@@ -3,7 +3,7 @@ ghost use Rattle.std.specs.Prelude.{◌≡◌};
 ghost use Rattle.m2v_dec_batch.specs.Learned.{behind_of};
 
 use m2v_dec_piece::Piece;
-use m2v_decode::dec_rows::Opened;
+use m2v_dec_rows::Opened;
 
 /// A picture of a batch: its piece, and what was read of the piece's headers.
 #[derive(Drop)]

@@ -1,9 +1,9 @@
 //! Whether a piece has one picture at most.
 ghost use Rattle.std.specs.Prelude.{◌≡◌, ◌↔◌, IsTrue};
 ghost use Rattle.m2v_model.specs.Pieces.{begins_piece as is_begin};
-ghost use Rattle.m2v_decode.specs.m2v_dec_rows.OnePicture.{NoneBegins, HasOnePicture};
+ghost use Rattle.m2v_dec_rows.specs.OnePicture.{NoneBegins, HasOnePicture};
 
-use m2v_decode::dec_unit::UnitReader;
+use m2v_dec_rows::dec_unit::UnitReader;
 
 /// Whether a unit of this value begins a new piece behind a picture: a picture, a sequence header, the sequence end
 /// code or a group.

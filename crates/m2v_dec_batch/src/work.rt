@@ -2,10 +2,10 @@
 ghost use Rattle.std.specs.Prelude.{◌≡◌, ◌<◌, ◌&&◌, true, IfSome, length, slice_get};
 ghost use Rattle.m2v_plane.specs.Samples.{blank};
 ghost use Rattle.m2v_plane.specs.Fields.{sample_at, HoldsLine};
-ghost use Rattle.m2v_decode.specs.m2v_dec_picture.Conditions.{HoldsForward, HoldsBackward};
-ghost use Rattle.m2v_decode.specs.m2v_dec_picture.Reads.{seen_by};
-ghost use Rattle.m2v_decode.specs.m2v_dec_picture.Frames.{references_at};
-ghost use Rattle.m2v_decode.specs.m2v_dec_rows.Opened.{IsOpened, setup_of};
+ghost use Rattle.m2v_dec_rows.specs.m2v_dec_picture.Conditions.{HoldsForward, HoldsBackward};
+ghost use Rattle.m2v_dec_rows.specs.m2v_dec_picture.Reads.{seen_by};
+ghost use Rattle.m2v_dec_rows.specs.m2v_dec_picture.Frames.{references_at};
+ghost use Rattle.m2v_dec_rows.specs.Opened.{IsOpened, setup_of};
 ghost use Rattle.m2v_dec_batch.specs.Jobs.{header_at, jobs_of};
 ghost use Rattle.m2v_dec_batch.specs.Batches.{headers, reading_of};
 ghost use Rattle.m2v_dec_batch.specs.declared.picture.FramePlace.TheVariants.{Behind};
@@ -18,8 +18,8 @@ use crate::cache::DecodeCache;
 use crate::picture::{BatchPicture, FramePlace, Header, behind};
 use crate::pieces::DecodePiece;
 use crate::reads::first_field;
-use m2v_decode::dec_picture::{Reading, backward_view, forward_view};
-use m2v_decode::dec_rows::read_row;
+use m2v_dec_rows::dec_picture::{Reading, backward_view, forward_view};
+use m2v_dec_rows::read_row;
 use m2v_plane::{FieldView, Frame, RowRoom, RowSamples};
 
 /// What tells the references of a picture: an I picture has none.

@@ -13,11 +13,11 @@ use Rattle.m2v_dec_piece.specs.declared.answer.DecodeError.TheVariants as errors
 use Rattle.m2v_dec_piece.specs.Sound.{IsSoundPiece}
 use Rattle.m2v_dec_piece.specs.Cutting.{Cutting, left_of, start_of, IsReading, PieceStops}
 use Rattle.m2v_dec_piece.specs.Stepping.{Handed, Stopped, Keeps, Why}
-use Rattle.m2v_dec_batch.specs.m2v_decode.Decoding.{Decoding, Onward, Refuses, due_of, whole_of}
-use Rattle.m2v_dec_batch.specs.m2v_decode.Answers.{IsCut, IsFaulty, IsOver, OfText, OfTaken, Fails, due_before, shown_so_far}
-use Rattle.m2v_dec_batch.specs.m2v_decode.Progress.{raw_of, Cuts, HasPut, Reached, Progress}
-use Rattle.m2v_dec_batch.proofs.m2v_decode.Putting.{raw-append}
-use Rattle.m2v_dec_batch.proofs.m2v_decode.Going.{moved_some, ready_none, reached_more, gave, start_place, due_cut, reached_cut, reached_later, faulty_at, over_at}
+use Rattle.m2v_decode.specs.Decoding.{Decoding, Onward, Refuses, due_of, whole_of}
+use Rattle.m2v_decode.specs.Answers.{IsCut, IsFaulty, IsOver, OfText, OfTaken, Fails, due_before, shown_so_far}
+use Rattle.m2v_decode.specs.Progress.{raw_of, Cuts, HasPut, Reached, Progress}
+use Rattle.m2v_decode.proofs.Putting.{raw-append}
+use Rattle.m2v_decode.proofs.Going.{moved_some, ready_none, reached_more, gave, start_place, due_cut, reached_cut, reached_later, faulty_at, over_at}
 use Rattle.m2v_pardec.specs.Ahead.{AreTaken, Later, behind, ended, stopped, Knows, IsAhead, HandsOut, none, more, FailsBy}
 
 -- ---- lists of pieces

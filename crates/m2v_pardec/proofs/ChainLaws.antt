@@ -22,11 +22,11 @@ use Rattle.m2v_dec_batch.proofs.Sizes.{count_is}
 use Rattle.m2v_dec_batch.proofs.FrameSizes.{behind_size}
 use Rattle.m2v_dec_batch.specs.Filled.{with_frames, is_there, AreThere, HaveDims}
 use Rattle.m2v_dec_batch.proofs.Exchanging.{there_exchanged}
-use Rattle.m2v_dec_batch.specs.Behind.{Tracks}
-use Rattle.m2v_dec_batch.proofs.NextFrames.{tracks_first}
+use Rattle.m2v_pardec.specs.Behind.{Tracks}
+use Rattle.m2v_pardec.proofs.NextFrames.{tracks_first}
 use Rattle.m2v_model.specs.Pictures.{Store}
 use Rattle.m2v_dec_batch.specs.m2v_dec_rows.Headers.{IsBetween}
-use Rattle.m2v_dec_batch.specs.m2v_decode.Decoding.{Decoding}
+use Rattle.m2v_decode.specs.Decoding.{Decoding}
 use Rattle.m2v_pardec.specs.declared.taking.Stop.{Stop}
 use Rattle.m2v_pardec.specs.declared.taking.Stop.TheVariants.{More}
 use Rattle.m2v_pardec.specs.declared.taking.Taken.{Taken}

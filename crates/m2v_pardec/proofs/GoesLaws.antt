@@ -7,7 +7,7 @@ use Rattle.m2v_dec_piece.specs.declared.answer.DecodeError.{DecodeError}
 use Rattle.m2v_dec_piece.specs.Sound.{IsSoundPiece, GoesOnward}
 use Rattle.m2v_dec_piece.specs.Cutting.{Cutting, IsReading}
 use Rattle.m2v_dec_piece.specs.Stepping.{Handed, Stopped, Keeps}
-use Rattle.m2v_dec_batch.specs.m2v_decode.Decoding.{Decoding}
+use Rattle.m2v_decode.specs.Decoding.{Decoding}
 use Rattle.m2v_pardec.specs.declared.taking.Stop.{Stop}
 use Rattle.m2v_pardec.specs.declared.taking.Stop.TheVariants.{More, End, Error}
 use Rattle.m2v_pardec.specs.Ahead.{AreInOrder, behind, later_of, IsAhead, none, more, Takes}

@@ -1,3 +1,7 @@
+pub mod IntraLaws
+pub mod RowFrames
+pub mod RebuiltRows
+pub mod NextFrames
 pub mod AheadLaws
 pub mod PutLaws
 pub mod TakenLaws

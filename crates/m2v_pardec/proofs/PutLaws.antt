@@ -6,9 +6,9 @@ use Rattle.m2v_dec_piece.specs.declared.answer.Piece.{Piece}
 use Rattle.m2v_dec_piece.specs.declared.answer.DecodeError.{DecodeError}
 use Rattle.m2v_dec_piece.specs.declared.answer.DecodeError.TheVariants as errors
 use Rattle.m2v_dec_piece.specs.Sound.{IsSoundPiece}
-use Rattle.m2v_dec_batch.specs.m2v_decode.Decoding.{Decoding, Onward, Refuses, due_of, whole_of}
-use Rattle.m2v_dec_batch.proofs.m2v_decode.EndLaws.{whole_length}
-use Rattle.m2v_dec_batch.specs.m2v_decode.Progress.{raw_of, Cuts, HasPut}
+use Rattle.m2v_decode.specs.Decoding.{Decoding, Onward, Refuses, due_of, whole_of}
+use Rattle.m2v_decode.proofs.EndLaws.{whole_length}
+use Rattle.m2v_decode.specs.Progress.{raw_of, Cuts, HasPut}
 use Rattle.m2v_pardec.specs.Ahead.{AreInOrder, IsAhead}
 use Rattle.m2v_pardec.specs.Put.{PutsTo, PutsAll, StopsBy, CountsTo, CountsOn}
 use Rattle.m2v_pardec.proofs.AheadLaws.{ahead_onward, ahead_refused, ahead_unwritten, ahead_unmade, fails_weaker}

@@ -21,12 +21,12 @@ use Rattle.m2v_plane.specs.Fields.{or_none}
 use Rattle.m2v_dec_batch.specs.Pieces.{row_of}
 use Rattle.m2v_dec_batch.specs.Values.{value_of}
 use Rattle.m2v_dec_batch.proofs.Sizes.{rows_are, batch_jobs, header_is, first_next}
-use Rattle.m2v_dec_batch.specs.Behind.{Tracks, AreRebuilt}
-use Rattle.m2v_dec_batch.proofs.NextFrames.{noted, tracks_next}
-use Rattle.m2v_dec_batch.proofs.RebuiltRows.{rows_rebuilt}
-use Rattle.m2v_dec_batch.specs.m2v_decode.Decoding.{Decoding, Onward, Refuses, due_of, whole_of}
-use Rattle.m2v_dec_batch.specs.m2v_decode.Rebuilt.{IsRebuilt, refs_for, rows_set, frame_begun, frames_behind}
-use Rattle.m2v_dec_batch.specs.m2v_decode.Progress.{raw_of, Cuts, HasPut}
+use Rattle.m2v_pardec.specs.Behind.{Tracks, AreRebuilt}
+use Rattle.m2v_pardec.proofs.NextFrames.{noted, tracks_next}
+use Rattle.m2v_pardec.proofs.RebuiltRows.{rows_rebuilt}
+use Rattle.m2v_decode.specs.Decoding.{Decoding, Onward, Refuses, due_of, whole_of}
+use Rattle.m2v_decode.specs.Rebuilt.{IsRebuilt, refs_for, rows_set, frame_begun, frames_behind}
+use Rattle.m2v_decode.specs.Progress.{raw_of, Cuts, HasPut}
 use Rattle.m2v_pardec.specs.Ahead.{AreInOrder}
 use Rattle.m2v_pardec.specs.Taken.{IsTold, AreTold, piece_of}
 use Rattle.m2v_pardec.specs.Rows.{RowsFrom, AreThere, samples_at}

@@ -11,9 +11,9 @@ use Rattle.m2v_dec_piece.specs.declared.answer.DecodeError.{DecodeError}
 use Rattle.m2v_dec_piece.specs.Cutting.{Cutting}
 use Rattle.m2v_dec_batch.specs.m2v_dec_picture.declared.gallery.FramesAtHand.{FramesAtHand}
 use Rattle.m2v_dec_batch.specs.Filled.{with_frames, AreThere, HaveDims}
-use Rattle.m2v_dec_batch.specs.Behind.{Tracks}
-use Rattle.m2v_dec_batch.proofs.NextFrames.{tracks_first}
-use Rattle.m2v_dec_batch.specs.m2v_decode.Decoding.{Decoding}
+use Rattle.m2v_pardec.specs.Behind.{Tracks}
+use Rattle.m2v_pardec.proofs.NextFrames.{tracks_first}
+use Rattle.m2v_decode.specs.Decoding.{Decoding}
 use Rattle.m2v_pardec.specs.declared.taking.Stop.{Stop}
 use Rattle.m2v_pardec.specs.declared.taking.Stop.TheVariants.{More, End, Error}
 use Rattle.m2v_pardec.specs.declared.taking.Before.{Before}

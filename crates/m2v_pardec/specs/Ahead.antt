@@ -8,9 +8,9 @@ use Rattle.m2v_dec_piece.specs.declared.answer.DecodeError.{DecodeError}
 use Rattle.m2v_dec_piece.specs.Sound.{IsSoundPiece}
 use Rattle.m2v_dec_piece.specs.Cutting.{Cutting, start_of, left_of, IsReading}
 use Rattle.m2v_dec_piece.specs.Stepping.{Why, Handed, Stopped, Keeps}
-use Rattle.m2v_dec_batch.specs.m2v_decode.Decoding.{Decoding, whole_of}
-use Rattle.m2v_dec_batch.specs.m2v_decode.Answers.{Fails}
-use Rattle.m2v_dec_batch.specs.m2v_decode.Progress.{raw_of, Reached}
+use Rattle.m2v_decode.specs.Decoding.{Decoding, whole_of}
+use Rattle.m2v_decode.specs.Answers.{Fails}
+use Rattle.m2v_decode.specs.Progress.{raw_of, Reached}
 use Rattle.m2v_pardec.specs.declared.taking.Stop.{Stop}
 use Rattle.m2v_pardec.specs.declared.taking.Stop.TheVariants.{More, End, Error}
 

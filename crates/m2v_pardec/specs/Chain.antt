@@ -12,9 +12,9 @@ use Rattle.m2v_dec_batch.specs.declared.picture.BatchPicture.{BatchPicture}
 use Rattle.m2v_dec_batch.specs.Jobs.{older_before, newer_before}
 use Rattle.m2v_dec_batch.specs.Batches.{Batch, headers, IsBatch}
 use Rattle.m2v_dec_batch.specs.Filled.{is_there, with_frames}
-use Rattle.m2v_dec_batch.specs.Behind.{Tracks}
+use Rattle.m2v_pardec.specs.Behind.{Tracks}
 use Rattle.m2v_dec_batch.specs.m2v_dec_rows.Headers.{IsBetween}
-use Rattle.m2v_dec_batch.specs.m2v_decode.Decoding.{Decoding}
+use Rattle.m2v_decode.specs.Decoding.{Decoding}
 use Rattle.m2v_pardec.specs.declared.taking.Stop.{Stop}
 use Rattle.m2v_pardec.specs.declared.taking.Stop.TheVariants.{More}
 use Rattle.m2v_pardec.specs.declared.taking.Taken.{Taken}

@@ -1,3 +1,4 @@
+pub mod Behind
 pub mod Ahead
 pub mod Taken
 pub mod Rows

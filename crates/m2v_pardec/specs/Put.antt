@@ -9,8 +9,8 @@ use Rattle.m2v_dec_batch.specs.m2v_dec_picture.Frames.{store_of}
 use Rattle.m2v_dec_batch.specs.declared.picture.BatchPicture.{BatchPicture}
 use Rattle.m2v_dec_batch.specs.Jobs.{first_job, jobs_of}
 use Rattle.m2v_dec_batch.specs.Batches.{Batch, headers, IsBatch}
-use Rattle.m2v_dec_batch.specs.Behind.{Tracks}
-use Rattle.m2v_dec_batch.specs.m2v_decode.Decoding.{Decoding}
+use Rattle.m2v_pardec.specs.Behind.{Tracks}
+use Rattle.m2v_decode.specs.Decoding.{Decoding}
 use Rattle.m2v_pardec.specs.Ahead.{Later, behind, later_of, AreInOrder, IsAhead, FailsBy}
 use Rattle.m2v_pardec.specs.declared.taking.Stop.{Stop}
 use Rattle.m2v_pardec.specs.declared.taking.Stop.TheVariants.{More, End, Error}

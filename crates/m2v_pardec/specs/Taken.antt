@@ -18,7 +18,7 @@ use Rattle.m2v_dec_batch.specs.Jobs.{older_before, newer_before}
 use Rattle.m2v_dec_batch.specs.Batches.{Batch, headers, IsBatch}
 use Rattle.m2v_dec_batch.specs.declared.at_hand.FramesThere.{FramesThere}
 use Rattle.m2v_dec_batch.specs.Filled.{with_picture, is_there}
-use Rattle.m2v_dec_batch.specs.m2v_decode.Decoding.{Decoding}
+use Rattle.m2v_decode.specs.Decoding.{Decoding}
 use Rattle.m2v_pardec.specs.Ahead.{AreInOrder, IsAhead, later_of}
 use Rattle.m2v_pardec.specs.declared.taking.Stop.{Stop}
 use Rattle.m2v_pardec.specs.declared.taking.Stop.TheVariants.{More, End, Error}

@@ -8,8 +8,8 @@ ghost use Rattle.m2v_pardec.specs.Taken.{piece_of};
 ghost use Rattle.m2v_pardec.specs.Put.{PutsAll, StopsBy, CountsOn};
 
 use m2v_dec_batch::BatchPicture;
-use m2v_dec_batch::decode::{Decoder, put_due};
 use m2v_dec_piece::{DecodeError, Piece};
+use m2v_decode::{Decoder, put_due};
 use m2v_port::Sink;
 use std::alloc::Global;
 

@@ -4,8 +4,8 @@ ghost use Rattle.m2v_port.specs.Ends.{SinkStays};
 ghost use Rattle.m2v_port.specs.Port.{Rose};
 ghost use Rattle.m2v_dec_batch.specs.m2v_dec_picture.Frames.{store_of};
 ghost use Rattle.m2v_dec_piece.specs.Sound.{IsSoundPiece};
-ghost use Rattle.m2v_dec_batch.specs.Behind.{Tracks};
-ghost use Rattle.m2v_dec_batch.specs.m2v_decode.Decoding.{Onward, Refuses, whole_of};
+ghost use Rattle.m2v_pardec.specs.Behind.{Tracks};
+ghost use Rattle.m2v_decode.specs.Decoding.{Onward, Refuses, whole_of};
 ghost use Rattle.m2v_pardec.specs.Ahead.{AreInOrder};
 ghost use Rattle.m2v_pardec.specs.Taken.{AreTold, piece_of};
 ghost use Rattle.m2v_pardec.specs.Rows.{AreThere};
@@ -13,9 +13,9 @@ ghost use Rattle.m2v_pardec.specs.Put.{CanTakeIn, TookIn, PutsAll, StopsBy, Coun
 
 use crate::rows::BatchRows;
 use m2v_core::JobBook;
-use m2v_dec_batch::decode::{Decoder, put_due};
 use m2v_dec_batch::{BatchPicture, DecodeBook};
 use m2v_dec_piece::DecodeError;
+use m2v_decode::{Decoder, put_due};
 use m2v_model::State;
 use m2v_port::Sink;
 use m2v_wave::Done;

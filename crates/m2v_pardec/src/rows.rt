@@ -4,8 +4,8 @@ ghost use Rattle.m2v_dec_batch.specs.Jobs.{jobs_of};
 ghost use Rattle.m2v_dec_batch.specs.Batches.{headers, IsBatch};
 ghost use Rattle.m2v_pardec.specs.Rows.{AreThere};
 
-use m2v_dec_batch::decode::PictureRows;
 use m2v_dec_batch::{DecodeBook, DecodePiece};
+use m2v_decode::PictureRows;
 use m2v_plane::RowSamples;
 use m2v_wave::Done;
 use std::marker::Model;

@@ -13,9 +13,9 @@ ghost use Rattle.m2v_pardec.specs.Taken.{IsKnown, IsNothing, MayBeNext, AddedTo,
 use m2v_dec_batch::dec_picture::FramesAtHand;
 use m2v_dec_batch::dec_rows::read_headers;
 use m2v_dec_batch::dec_unit::{UnitReader, first_state};
-use m2v_dec_batch::decode::Opened;
 use m2v_dec_batch::{DecodeBook, Filling, FramesThere, has_one_picture};
 use m2v_dec_piece::{Cutter, DecodeError, Piece};
+use m2v_decode::Opened;
 use m2v_model::State;
 use m2v_plane::Dims;
 use m2v_port::Source;

@@ -1,10 +1,10 @@
 ghost use Rattle.std.specs.Prelude.{◌≡◌, ◌<◌, ◌≤◌, ◌^◌, IsTrue, IfOk, IfErr, OnOk, None, is_some, false};
 ghost use Rattle.m2v_port.specs.Ends.{change, Tells, SinkStays};
 ghost use Rattle.m2v_port.specs.Port.{Rose};
-ghost use Rattle.m2v_dec_batch.specs.m2v_decode.Decoding.{at_start};
-ghost use Rattle.m2v_dec_batch.specs.m2v_decode.Answers.{OfText, IsDecoded, Fails};
-ghost use Rattle.m2v_dec_batch.specs.m2v_decode.Complete.{IsAnswered};
-ghost use Rattle.m2v_dec_batch.specs.m2v_decode.Progress.{before_all, IsDone};
+ghost use Rattle.m2v_decode.specs.Decoding.{at_start};
+ghost use Rattle.m2v_decode.specs.Answers.{OfText, IsDecoded, Fails};
+ghost use Rattle.m2v_decode.specs.Complete.{IsAnswered};
+ghost use Rattle.m2v_decode.specs.Progress.{before_all, IsDone};
 ghost use Rattle.m2v_pardec.specs.Taken.{ReadFailed};
 ghost use Rattle.m2v_pardec.specs.Put.{GoesOn, GoesWrong};
 
@@ -14,8 +14,8 @@ use crate::taking::{Before, Stop, take, take_first};
 use m2v_board::Gate;
 use m2v_dec_batch::FramesThere;
 use m2v_dec_batch::dec_picture::FramesAtHand;
-use m2v_dec_batch::decode::{Decoded, Decoder, decode, finish};
 use m2v_dec_piece::{Cutter, DecodeError};
+use m2v_decode::{Decoded, Decoder, decode, finish};
 use m2v_port::{Sink, Source};
 use std::alloc::{AllocError, Global};
 use std::sync::Wait;

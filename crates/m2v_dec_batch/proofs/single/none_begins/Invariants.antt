@@ -1,5 +1,5 @@
 use Rattle.std.proofs.Common.{◌↔◌, length}
-use Rattle.m2v_decode.specs.m2v_dec_rows.OnePicture.{NoneBegins}
+use Rattle.m2v_dec_rows.specs.OnePicture.{NoneBegins}
 use Rattle.m2v_dec_batch.proofs.single.none_begins.Given as goal
 
 abbrev pub invariant-loop-u : goal.invariant-loop-u

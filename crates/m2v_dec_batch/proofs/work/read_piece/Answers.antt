@@ -1,6 +1,6 @@
 use Rattle.std.proofs.Common.{◌∙◌, sym}
 use Rattle.m2v_plane.specs.Fields.{sample_at}
-use Rattle.m2v_decode.specs.m2v_dec_picture.Reads.{seen_by}
+use Rattle.m2v_dec_rows.specs.m2v_dec_picture.Reads.{seen_by}
 use Rattle.m2v_dec_batch.proofs.RowRead.{faulty_is, after_is, rebuilt_is}
 use Rattle.m2v_dec_batch.proofs.work.read_piece.Goals as goal
 

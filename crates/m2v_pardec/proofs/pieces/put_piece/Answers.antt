@@ -1,11 +1,11 @@
 use Rattle.std.proofs.Common.{[], ◌∷◌}
 use Rattle.std.proofs.lemmas.Result.{err_from_is_err_and, IfErr-weaker}
 use Rattle.m2v_dec_piece.proofs.Steps.{both_ok}
-use Rattle.m2v_dec_batch.proofs.m2v_decode.Going.{onward}
+use Rattle.m2v_decode.proofs.Going.{onward}
 use Rattle.m2v_port.specs.Ends.{change}
 use Rattle.m2v_port.specs.Port.{Rose}
-use Rattle.m2v_dec_batch.specs.m2v_decode.Decoding.{due_of}
-use Rattle.m2v_dec_batch.specs.m2v_decode.Progress.{Cuts, raw_of}
+use Rattle.m2v_decode.specs.Decoding.{due_of}
+use Rattle.m2v_decode.specs.Progress.{Cuts, raw_of}
 use Rattle.m2v_pardec.specs.Put.{StopsBy}
 use Rattle.m2v_pardec.proofs.PutLaws.{put_one, refused_one, unwritten_one}
 use Rattle.m2v_pardec.proofs.pieces.put_piece.Goals as goal

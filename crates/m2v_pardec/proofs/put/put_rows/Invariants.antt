@@ -1,7 +1,7 @@
 use Rattle.std.proofs.Common.{◌≡◌, false, drop, map}
 use Rattle.m2v_port.specs.Ends.{SinkStays}
 use Rattle.m2v_dec_batch.specs.m2v_dec_picture.Frames.{store_of}
-use Rattle.m2v_dec_batch.specs.Behind.{Tracks}
+use Rattle.m2v_pardec.specs.Behind.{Tracks}
 use Rattle.m2v_pardec.specs.Taken.{AreTold, piece_of}
 use Rattle.m2v_pardec.specs.Put.{PutsTo, CountsTo}
 use Rattle.m2v_pardec.proofs.PutSteps.{TellsBy}

@@ -1,8 +1,8 @@
 use Rattle.std.proofs.lemmas.Result.{err_from_is_err_and, IfErr-weaker, IfOk-weaker}
 use Rattle.m2v_port.specs.Ends.{change}
-use Rattle.m2v_dec_batch.specs.m2v_decode.Answers.{OfText, IsDecoded, Fails}
-use Rattle.m2v_dec_batch.specs.m2v_decode.Progress.{Ends, EndFails}
-use Rattle.m2v_dec_batch.proofs.m2v_decode.Ending.{nothing_read, done_ok, done_err}
+use Rattle.m2v_decode.specs.Answers.{OfText, IsDecoded, Fails}
+use Rattle.m2v_decode.specs.Progress.{Ends, EndFails}
+use Rattle.m2v_decode.proofs.Ending.{nothing_read, done_ok, done_err}
 use Rattle.m2v_pardec.proofs.whole.by_batches.Goals as goal
 
 pub returns-in_err-cutter-clause-err : goal.returns-in_err-cutter-clause-err

@@ -1,4 +1,4 @@
-use Rattle.m2v_dec_batch.proofs.m2v_decode.AnswerLaws.{answered}
+use Rattle.m2v_decode.proofs.AnswerLaws.{answered}
 use Rattle.m2v_pardec.proofs.whole.decode_with.Goals as goal
 
 pub returns-clause-answer : goal.returns-clause-answer

@@ -4,7 +4,7 @@ use Rattle.m2v_port.specs.Port.{Rose}
 use Rattle.m2v_dec_piece.specs.declared.answer.Piece.{Piece}
 use Rattle.m2v_dec_piece.specs.declared.answer.DecodeError.TheVariants as errors
 use Rattle.m2v_dec_batch.specs.m2v_dec_picture.Frames.{store_of}
-use Rattle.m2v_dec_batch.specs.m2v_decode.Decoding.{Decoding}
+use Rattle.m2v_decode.specs.Decoding.{Decoding}
 use Rattle.m2v_pardec.specs.declared.taking.Stop.{Stop}
 use Rattle.m2v_pardec.specs.declared.taking.Stop.TheVariants.{More}
 use Rattle.m2v_pardec.specs.Taken.{ReadFailed, ReadOn}

@@ -2,8 +2,8 @@ use Rattle.std.proofs.Common.{[], sym, subst}
 use Rattle.std.proofs.lemmas.Result.{err_from_is_err_and, IfErr-weaker, IfOk-weaker}
 use Rattle.m2v_port.specs.Port.{Rose}
 use Rattle.m2v_dec_batch.specs.m2v_dec_picture.Frames.{store_of}
-use Rattle.m2v_dec_batch.specs.m2v_decode.Decoding.{Decoding}
-use Rattle.m2v_dec_batch.specs.Behind.{Tracks}
+use Rattle.m2v_decode.specs.Decoding.{Decoding}
+use Rattle.m2v_pardec.specs.Behind.{Tracks}
 use Rattle.m2v_dec_batch.specs.Filled.{with_frames}
 use Rattle.m2v_pardec.specs.declared.taking.Stop.{Stop}
 use Rattle.m2v_pardec.specs.declared.taking.Before.{Before}

@@ -3,7 +3,7 @@ use Rattle.std.proofs.lemmas.Result.{err_from_is_err_and}
 use Rattle.m2v_port.specs.Ends.{change}
 use Rattle.m2v_port.specs.Port.{Rose}
 use Rattle.m2v_port.proofs.Runs.{rose_since}
-use Rattle.m2v_dec_batch.proofs.m2v_decode.Going.{progress_none}
+use Rattle.m2v_decode.proofs.Going.{progress_none}
 use Rattle.m2v_pardec.specs.Ahead.{behind, IsAhead}
 use Rattle.m2v_pardec.proofs.AheadLaws.{ahead_none, fails_as, ahead_unread}
 use Rattle.m2v_pardec.proofs.whole.read_batches.Goals as goal

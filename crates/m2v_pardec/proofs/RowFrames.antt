@@ -8,7 +8,7 @@ use Rattle.m2v_decode.specs.m2v_dec_picture.Frames.{references_at}
 use Rattle.m2v_dec_batch.specs.Jobs.{header_at, newer_before, older_before, first_field}
 use Rattle.m2v_dec_batch.specs.Batches.{Batch, headers, Rows, frame_at, references}
 use Rattle.m2v_dec_batch.specs.Painted.{all_rows}
-use Rattle.m2v_dec_batch.specs.Behind.{Tracks}
+use Rattle.m2v_pardec.specs.Behind.{Tracks}
 
 -- what a picture is predicted from goes by the frames at hand alone, and by a first field's at a second field alone
 references_same : (kind structure : ℕ) (second : Bool) (s t : Store) → s.older ≡ t.older → s.newer ≡ t.newer → (second ≡ true → s.current ≡ t.current)

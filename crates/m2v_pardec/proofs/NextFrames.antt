@@ -26,7 +26,7 @@ use Rattle.m2v_dec_batch.specs.Painted.{all_rows}
 use Rattle.m2v_dec_batch.proofs.Sizes.{header_is, at_picture}
 use Rattle.m2v_dec_batch.proofs.Anchors.{newer_first, older_first, newer_next, older_next}
 use Rattle.m2v_decode.specs.m2v_dec_rows.InFrames.{rows_set}
-use Rattle.m2v_dec_batch.specs.Behind.{Tracks, AreRebuilt, IsNoted, frame_made, store_behind}
+use Rattle.m2v_pardec.specs.Behind.{Tracks, AreRebuilt, IsNoted, frame_made, store_behind}
 
 -- ---- the first picture
 

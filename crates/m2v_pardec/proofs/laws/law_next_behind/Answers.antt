@@ -1,5 +1,5 @@
-use Rattle.m2v_dec_batch.proofs.NextFrames.{tracks_next}
-use Rattle.m2v_dec_batch.proofs.laws.law_next_behind.Goals as goal
+use Rattle.m2v_pardec.proofs.NextFrames.{tracks_next}
+use Rattle.m2v_pardec.proofs.laws.law_next_behind.Goals as goal
 
 pub returns : goal.returns
 returns c b p x store samples h is note tracks each = tracks_next b p x store samples h is note tracks each

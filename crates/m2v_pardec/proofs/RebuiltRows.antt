@@ -30,9 +30,9 @@ use Rattle.m2v_dec_batch.specs.Painted.{all_rows}
 use Rattle.m2v_dec_batch.proofs.Sizes.{header_is}
 use Rattle.m2v_dec_batch.proofs.PaintedRows.{row_at, whole_is}
 use Rattle.m2v_decode.specs.Rebuilt.{IsRebuilt, refs_for}
-use Rattle.m2v_dec_batch.specs.Behind.{Tracks, AreRebuilt}
-use Rattle.m2v_dec_batch.proofs.IntraLaws.{row_same}
-use Rattle.m2v_dec_batch.proofs.RowFrames.{references_are}
+use Rattle.m2v_pardec.specs.Behind.{Tracks, AreRebuilt}
+use Rattle.m2v_pardec.proofs.IntraLaws.{row_same}
+use Rattle.m2v_pardec.proofs.RowFrames.{references_are}
 
 -- ---- sizes
 

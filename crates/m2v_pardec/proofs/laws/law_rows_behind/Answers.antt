@@ -1,5 +1,5 @@
-use Rattle.m2v_dec_batch.proofs.RebuiltRows.{rows_rebuilt, none_faulty, small_row}
-use Rattle.m2v_dec_batch.proofs.laws.law_rows_behind.Goals as goal
+use Rattle.m2v_pardec.proofs.RebuiltRows.{rows_rebuilt, none_faulty, small_row}
+use Rattle.m2v_pardec.proofs.laws.law_rows_behind.Goals as goal
 
 pub returns-clause-rows : goal.returns-clause-rows
 returns-clause-rows c b p x store samples h is tracks each r lt = rows_rebuilt b p x store samples h is tracks each r lt

@@ -1,5 +1,0 @@
-use Rattle.m2v_dec_batch.proofs.NextFrames.{tracks_first}
-use Rattle.m2v_dec_batch.proofs.laws.law_behind_none.Goals as goal
-
-pub returns : goal.returns
-returns c b store older newer waiting = tracks_first b store older newer waiting

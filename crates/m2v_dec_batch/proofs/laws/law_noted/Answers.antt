@@ -1,5 +1,0 @@
-use Rattle.m2v_dec_batch.proofs.NextFrames.{noted}
-use Rattle.m2v_dec_batch.proofs.laws.law_noted.Goals as goal
-
-pub returns : goal.returns
-returns c st now p o told = noted st now p o told
