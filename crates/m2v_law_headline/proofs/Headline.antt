@@ -18,7 +18,7 @@ use Rattle.m2v_law_shown.proofs.m2v_law_tree.Follows.{stream_follows}
 use Rattle.m2v_law_shown.proofs.m2v_law_tree.Streams.{stream_stands}
 use Rattle.m2v_law_shown.proofs.Decodes.{spelled, decodes_to}
 use Rattle.m2v_law_shown.specs.Told.{number_delay, numbers_of}
-use Rattle.m2v_law_shown.proofs.TellsStreams.{stream_told}
+use Rattle.m2v_law_shown.proofs.Streams.{stream_told}
 use Rattle.m2v_law_shown.proofs.Account.{tells_numbers, stream_intervals}
 use Rattle.m2v_law_shown.proofs.Lawful.{encoded_lawful}
 use Rattle.m2v_law_headline.specs.Texts.{picture_bits}

@@ -23,7 +23,7 @@ use Rattle.m2v_law_shown.proofs.Jobs.{IsFit, group_fits}
 use Rattle.m2v_law_shown.proofs.Begins.{group_begins}
 use Rattle.m2v_law_shown.specs.Told.{Made, job_in, TellsJobs, numbers_of, TellsNumbers}
 use Rattle.m2v_law_shown.proofs.Good.{are_groups}
-use Rattle.m2v_law_shown.proofs.TellsStreams.{stream_told}
+use Rattle.m2v_law_shown.proofs.Streams.{stream_told}
 use Rattle.m2v_law_shown.proofs.Times.{stream_times}
 use Rattle.m2v_law_shown.proofs.TellsNumbers.{AreNumbers, numbers_are, own_sequences, own_delays, own_pictures}
 use Rattle.m2v_law_shown.proofs.Intervals.{own_times}

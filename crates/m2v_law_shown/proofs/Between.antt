@@ -1,5 +1,5 @@
--- Between two groups: the state there, where a group begins, and lists that lag one picture behind.
-use Rattle.std.proofs.Common.{◌≡◌, ℕ, ◌≤◌, ◌⊎◌, inl, inr, Bool, false, not, ◌&&◌, List, [], ◌∷◌, ◌++◌, length, get_or, Option, Some, None, refl, sym, ap, ◌∙◌, arith, append_assoc}
+-- Between two groups: the state there, and where a group begins.
+use Rattle.std.proofs.Common.{◌≡◌, ℕ, ◌≤◌, ◌⊎◌, inl, inr, Bool, false, not, ◌&&◌, List, [], ◌∷◌, length, get_or, Option, None, refl, ap, ◌∙◌, arith}
 use Rattle.std.specs.Prelude.{nat_eq, is_some}
 use Rattle.m2v_set.specs.declared.settings.Settings.{Settings}
 use Rattle.m2v_order.specs.declared.jobs.PictureJob.{PictureJob}
@@ -63,8 +63,3 @@ none_there (x ∷ xs) = none_there xs
 pub past_end : (b : Book) → begins_group (job_at b (length b.pictures)) ≡ false
 unfolding begins_group
 past_end b = ap (λ (j : PictureJob). nat_eq j.kind 1 && not (nat_eq j.structure 2)) (none_there b.pictures)
-
--- What is told lags: of two runs one behind the other, what is told and what is still held is what was held and all of both.
-pub known_on : {T : Type 0} (t u p q w a c : List T) → t ++ q ≡ p ++ a → u ++ w ≡ q ++ c → (t ++ u) ++ w ≡ p ++ (a ++ c)
-known_on {T} t u p q w a c e f =
-    append_assoc t u w ∙ ap (λ (xs : List T). t ++ xs) f ∙ sym (append_assoc t q c) ∙ ap (λ (xs : List T). xs ++ c) e ∙ append_assoc p a c

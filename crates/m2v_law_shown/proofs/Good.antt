@@ -16,18 +16,17 @@ use Rattle.m2v_order.proofs.Queues.{grouped, sound_opening, sound_push, sound_en
 use Rattle.m2v_order.proofs.Wholes.{group_is}
 use Rattle.m2v_slice.specs.Conditions.{IsBook}
 use Rattle.m2v_law_safe.specs.m2v_enc_stream.Streams.{Progress, at_start, book_of, group_coded, groups_begun, groups_from, waiting}
-use Rattle.m2v_law_safe.specs.Removals.{coded_of, ledger_of, groups_of, begun_by}
+use Rattle.m2v_law_safe.specs.Removals.{groups_of, begun_by}
 use Rattle.m2v_law_safe.proofs.Delays.{placed}
 use Rattle.m2v_law_safe.proofs.Bounds.{delay_small}
-use Rattle.m2v_law_shown.proofs.TellsSteps.{delay_from}
+use Rattle.m2v_law_shown.proofs.Steps.{delay_from}
 
 -- ---- books and delays
 
 -- a group behind what is coded so far
 pub record IsGood (s : Settings) (x : Progress) (g : Group Samples) : Type 0 where
   pub book : IsBook (book_of s x g)
-  pub small : (ends : Bool) (p : ℕ) → p < length g.pictures
-      → (let b = book_of s x g in delay_from b (coded_of b) (ledger_of b) ends (length x.text) p ≤ 65534)
+  pub small : (ends : Bool) (p : ℕ) → p < length g.pictures → delay_from (book_of s x g) ends (length x.text) p ≤ 65534
 
 -- and groups one behind another
 abbrev pub AreGood : Settings → Progress → List (Group Samples) → Type 0

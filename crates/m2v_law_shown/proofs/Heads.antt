@@ -1,5 +1,5 @@
--- The headers of a picture, and the whole picture.
-use Rattle.std.proofs.Common.{◌≡◌, ℕ, ◌-◌, ◌<◌, Bool, true, false, cond, List, [], ◌∷◌, ◌++◌, length, Option, Some, None, refl, sym, ap, subst, ◌∙◌, arith}
+-- The headers of a picture, and the whole picture: what they do to the frames at hand, and what they tell.
+use Rattle.std.proofs.Common.{◌≡◌, ℕ, ◌-◌, ◌<◌, Bool, true, false, cond, List, [], ◌∷◌, ◌++◌, length, Option, Some, None, refl, sym, ap, subst, ◌∙◌, arith, append_assoc}
 use Rattle.std.specs.Prelude.{nat_eq}
 use Rattle.std.proofs.lemmas.Bool.{cond-false}
 use Rattle.std.proofs.lemmas.List.{append-nil}
@@ -17,11 +17,11 @@ use Rattle.m2v_model.specs.States as model
 use Rattle.m2v_model.specs.States.{opened}
 use Rattle.m2v_model.specs.Samples.{References}
 use Rattle.m2v_model.specs.Streams.{Part, sequence, group, picture, after}
-use Rattle.m2v_model.specs.Pictures.{Store, Pictures, references_by, references_of, fresh, sequence_header, pictures_in, closed, picture_ended, picture_begun}
-use Rattle.m2v_model.proofs.EventLaws.{pictures_in-append}
+use Rattle.m2v_model.specs.Pictures.{Store, Events, references_by, references_of, fresh, sequence_header, group_header, closed, picture_ended, picture_begun}
 use Rattle.m2v_law_tree.specs.Trees.{sequence_by, header_parts, task_at, slice_parts, picture_parts}
 use Rattle.m2v_law_tree.specs.States.{open_at, waiting_behind, anchors_behind}
 use Rattle.m2v_law_shown.specs.Rows.{rows_in, fresh_of}
+use Rattle.m2v_law_shown.specs.Telling.{headers}
 use Rattle.m2v_law_shown.specs.Runs.{Goes, pending, settled, store_with}
 use Rattle.m2v_law_tree.proofs.Turns.{IsCounted}
 use Rattle.m2v_law_tree.proofs.States.{dims_are, state_before, state_at, references_at, read_is, next_group, header_after}
@@ -88,84 +88,79 @@ module _ (b : Book) (h : IsBook b) (before p delay : ℕ) (counted : IsCounted b
       ∙ ap (λ (z : State). z.picture) (header_after b h c before p delay o counted lt)
 
   -- its own header
-  one_goes : (closed_one : Bool) (open_one : Option Open) (store : Store) (frame : Samples) → BeginsWith b p (picture_ended open_one store) frame
+  one_goes : (closed_one : Bool) (open_one : Option Open) (store : Store) (frame : Samples) (es : Events)
+      → closed open_one store ≡ es → BeginsWith b p (picture_ended open_one store) frame
       → Goes (state_before b closed_one before p open_one) store (picture (picture_of (job_at b p) delay) (extension_of b.settings (job_at b p)) ∷ [])
-      (state_at b closed_one before p delay 0) (begun_at b p (picture_ended open_one store) frame) (pictures_in (closed open_one store))
+      (state_at b closed_one before p delay 0) (begun_at b p (picture_ended open_one store) frame) es
   unfolding begun_by
-  one_goes closed_one open_one store frame begins =
+  one_goes closed_one open_one store frame es told begins =
       let info = picture_of (job_at b p) delay in
       let extension = extension_of b.settings (job_at b p) in
       let next = header_after b h closed_one before p delay open_one counted lt in
-      goes_one (state_before b closed_one before p open_one) store (picture info extension) _ _ _ next
+      goes_one (state_before b closed_one before p open_one) store (picture info extension) _ _ es next
       (ap (λ (o : Option Open). begun_by o b (picture_ended open_one store)) (opened_is closed_one open_one)
       ∙ begun_is b p delay (references_at b closed_one before p) (picture_ended open_one store) frame begins)
-      refl
+      told
+
+  -- headers lead to a picture that begins in this frame, and tell what was open, and then these events
+  pub record Headed (st : State) (store : Store) (frame : Samples) (parts : List Part) (es : Events) : Type 0 where
+    pub closed_one : Bool
+    pub goes : Goes st store parts (state_at b closed_one before p delay 0) (begun_at b p (settled st store) frame) (pending st store ++ es)
 
   -- behind the headers of a group, where it begins one
-  group_goes : (st : State) (store : Store) (frame : Samples) (closed_one : Bool) → after st (sequence (sequence_by b.settings)) ≡ state_before b closed_one before p None
+  group_goes : (st : State) (store : Store) (frame : Samples) (closed_one : Bool)
+      → after st (sequence (sequence_by b.settings)) ≡ state_before b closed_one before p None
       → BeginsWith b p (settled st store) frame → (g : GroupInfo)
-      → Goes st store (sequence (sequence_by b.settings) ∷ group g ∷ picture (picture_of (job_at b p) delay) (extension_of b.settings (job_at b p)) ∷ [])
-      (state_at b g.closed_gop before p delay 0) (begun_at b p (settled st store) frame) (pending st store)
+      → Headed st store frame (sequence (sequence_by b.settings) ∷ group g ∷ picture (picture_of (job_at b p) delay) (extension_of b.settings (job_at b p)) ∷ [])
+      (sequence_header (sequence_by b.settings) ∷ group_header g ∷ [])
   group_goes st store frame closed_one behind begins g =
       let s = sequence_by b.settings in
-      let info = picture_of (job_at b p) delay in
-      let extension = extension_of b.settings (job_at b p) in
-      let first = goes_one st store (sequence s) (state_before b closed_one before p None) (settled st store) (pending st store) behind refl
-      (pictures_in-append (closed st.picture store) (sequence_header s ∷ []) ∙ append-nil (pending st store)) in
-      let second = goes_one (state_before b closed_one before p None) (settled st store) (group g) (state_before b g.closed_gop before p None) (settled st store) []
+      let now = settled st store in
+      let first = goes_one st store (sequence s) (state_before b closed_one before p None) now (pending st store ++ sequence_header s ∷ []) behind refl refl in
+      let second = goes_one (state_before b closed_one before p None) now (group g) (state_before b g.closed_gop before p None) now (group_header g ∷ [])
       (next_group b.settings closed_one (anchors_behind before b p) (waiting_behind b p) None g) refl refl in
-      let third = one_goes g.closed_gop None (settled st store) frame begins in
-      let two = goes_on _ _ _ _ _ _ (group g ∷ []) (picture info extension ∷ []) [] [] second third in
-      let all = goes_on _ _ _ _ _ _ (sequence s ∷ []) (group g ∷ picture info extension ∷ []) (pending st store) [] first two in
-      subst (λ (ps : Pictures). Goes st store (sequence s ∷ group g ∷ picture info extension ∷ []) (state_at b g.closed_gop before p delay 0) (begun_at b p (settled st store) frame) ps) (append-nil (pending st store)) all
+      let all = goes_on first (goes_on second (one_goes g.closed_gop None now frame [] refl begins)) in
+      record {
+        closed_one = g.closed_gop;
+        goes = subst (Goes st store _ (state_at b g.closed_gop before p delay 0) (begun_at b p now frame))
+            (append_assoc (pending st store) (sequence_header s ∷ []) (group_header g ∷ [])) all;
+      }
 
   plain_goes : (st : State) (store : Store) (frame : Samples) (closed_one : Bool) (open_one : Option Open) → st ≡ state_before b closed_one before p open_one
-      → BeginsWith b p (settled st store) frame
-      → Goes st store (picture (picture_of (job_at b p) delay) (extension_of b.settings (job_at b p)) ∷ []) (state_at b closed_one before p delay 0) (begun_at b p (settled st store) frame) (pending st store)
+      → BeginsWith b p (settled st store) frame → Headed st store frame (picture (picture_of (job_at b p) delay) (extension_of b.settings (job_at b p)) ∷ []) []
   plain_goes st store frame closed_one open_one is =
-      subst (λ (z : State). BeginsWith b p (settled z store) frame
-      → Goes z store (picture (picture_of (job_at b p) delay) (extension_of b.settings (job_at b p)) ∷ []) (state_at b closed_one before p delay 0) (begun_at b p (settled z store) frame) (pending z store)) (sym is)
-      (one_goes closed_one open_one store frame)
+      let parts = picture (picture_of (job_at b p) delay) (extension_of b.settings (job_at b p)) ∷ [] in
+      subst (λ (z : State). BeginsWith b p (settled z store) frame → Headed z store frame parts []) (sym is)
+      (λ begins. record { closed_one = closed_one; goes = one_goes closed_one open_one store frame _ (sym (append-nil (closed open_one store))) begins })
 
-  pub record Headed (st : State) (store : Store) (frame : Samples) (parts : List Part) : Type 0 where
-    pub closed_one : Bool
-    pub goes : Goes st store parts (state_at b closed_one before p delay 0) (begun_at b p (settled st store) frame) (pending st store)
-
-  headed : (st : State) (store : Store) (frame : Samples) → Ready b before p st → BeginsWith b p (settled st store) frame → Headed st store frame (header_parts b.settings (job_at b p) delay)
+  headed : (st : State) (store : Store) (frame : Samples) → Ready b before p st → BeginsWith b p (settled st store) frame
+      → Headed st store frame (header_parts b.settings (job_at b p) delay) (headers b.settings (job_at b p) (begins_group (job_at b p)))
   unfolding header_parts
   headed st store frame ready begins = by_begin (begins_group (job_at b p)) refl
     where
       by_begin : (x : Bool) → begins_group (job_at b p) ≡ x
-          → Headed st store frame (cond x (sequence (sequence_by b.settings) ∷ group (group_from b.settings ((job_at b p).display - (job_at b p).frame)) ∷ []) []
+          → Headed st store frame
+          (cond x (sequence (sequence_by b.settings) ∷ group (group_from b.settings ((job_at b p).display - (job_at b p).frame)) ∷ []) []
           ++ picture (picture_of (job_at b p) delay) (extension_of b.settings (job_at b p)) ∷ [])
-      by_begin true e = record { closed_one = _; goes = group_goes st store frame ready.behind.0 ready.behind.1 begins (group_from b.settings ((job_at b p).display - (job_at b p).frame)) }
-      by_begin false e =
-          let x = ready.plain e in
-          record {
-            closed_one = x.0;
-            goes = plain_goes st store frame x.0 x.1.0 x.1.1 begins;
-          }
+          (headers b.settings (job_at b p) x)
+      by_begin true e = group_goes st store frame ready.behind.0 ready.behind.1 begins (group_from b.settings ((job_at b p).display - (job_at b p).frame))
+      by_begin false e = let x = ready.plain e in plain_goes st store frame x.0 x.1.0 x.1.1 begins
 
   -- the whole picture
   pub record PictureGoes (st : State) (store : Store) (frame : Samples) (parts : List Part) : Type 0 where
     pub closed_one : Bool
     pub goes : Goes st store parts (state_at b closed_one before p delay (rows b))
-        (store_with (settled st store) (rows_in (λ r. task_at b p r) (references_at b closed_one before p) (refs_at b p (settled st store)) (rows b) frame) (refs_at b p (settled st store))) (pending st store)
+        (store_with (settled st store)
+        (rows_in (λ r. task_at b p r) (references_at b closed_one before p) (refs_at b p (settled st store)) (rows b) frame) (refs_at b p (settled st store)))
+        (pending st store ++ headers b.settings (job_at b p) (begins_group (job_at b p)))
 
-  pub picture_goes : (l : Entries) (at : ℕ) (st : State) (store : Store) (frame : Samples) → delay ≡ delay_at l (job_at b p) p at → Ready b before p st → BeginsWith b p (settled st store) frame
+  pub picture_goes : (l : Entries) (at : ℕ) (st : State) (store : Store) (frame : Samples)
+      → delay ≡ delay_at l (job_at b p) p at → Ready b before p st → BeginsWith b p (settled st store) frame
       → PictureGoes st store frame (picture_parts b l at p)
   unfolding picture_parts
   picture_goes l at st store frame same ready begins =
       let head = headed st store frame ready begins in
-      let refs = refs_at b p (settled st store) in
-      let c = head.closed_one in
-      let list = references_at b c before p in
-      let rest = slices_go b h c before p delay lt (rows b) (settled st store) refs frame (omega arith) in
-      let all = goes_on _ _ _ _ _ _ (header_parts b.settings (job_at b p) delay) (slice_parts b p (rows b)) (pending st store) [] head.goes rest in
-      let left = store_with (settled st store) (rows_in (λ r. task_at b p r) list refs (rows b) frame) refs in
-      let end = state_at b c before p delay (rows b) in
-      record {
-        closed_one = c;
-        goes = subst (λ (n : ℕ). Goes st store (header_parts b.settings (job_at b p) n ++ slice_parts b p (rows b)) end left (pending st store)) same
-            (subst (λ (ps : Pictures). Goes st store (header_parts b.settings (job_at b p) delay ++ slice_parts b p (rows b)) end left ps) (append-nil (pending st store)) all);
-      }
+      let rest = slices_go b h head.closed_one before p delay lt (rows b) (settled st store) (refs_at b p (settled st store)) frame (omega arith) in
+      let es = pending st store ++ headers b.settings (job_at b p) (begins_group (job_at b p)) in
+      subst (λ (n : ℕ). PictureGoes st store frame (header_parts b.settings (job_at b p) n ++ slice_parts b p (rows b))) same
+      (record { closed_one = head.closed_one; goes = subst (Goes st store _ _ _) (append-nil es) (goes_on head.goes rest) })

@@ -1,24 +1,17 @@
 -- The encoder's stream breaks none of the verifier's rules.
-use Rattle.std.proofs.Common.{◌≡◌, ℕ, ◌≤◌, Bool, false, List, [], length, Some, refl, ap, ◌∙◌}
+use Rattle.std.proofs.Common.{◌≡◌, ℕ, ◌≤◌, Bool, List, [], length, ap, ◌∙◌}
 use Rattle.m2v_set.specs.declared.settings.Settings.{Settings}
 use Rattle.m2v_set.specs.Rules.{Passes}
-use Rattle.m2v_slice.specs.Headers.{sequence_extension_of}
 use Rattle.m2v_law_safe.specs.m2v_enc_stream.Streams.{Coded}
 use Rattle.m2v_model.specs.Decoding.{low_delay_of}
 use Rattle.m2v_model.specs.Lawful.{breaches, breaches_of, Lawful}
 use Rattle.m2v_law_tree.specs.Trees.{groups_of, tree_of}
 use Rattle.m2v_law_tree.proofs.Streams.{stream_stands}
 use Rattle.m2v_law_shown.proofs.Decodes.{spelled}
-use Rattle.m2v_law_shown.specs.Own.{own_sequence}
 use Rattle.m2v_law_shown.specs.Telling.{told_all}
 use Rattle.m2v_law_shown.proofs.LawfulNumbers.{told_none}
 use Rattle.m2v_law_shown.proofs.Good.{are_groups}
-use Rattle.m2v_law_shown.proofs.TellsStreams.{stream_told}
-
--- it has no low_delay
-no_delay : (s : Settings) → low_delay_of (Some (own_sequence s)) ≡ false
-unfolding sequence_extension_of
-no_delay s = refl
+use Rattle.m2v_law_shown.proofs.Streams.{no_delay, stream_told}
 
 none_broken : (s : Settings) (frames : List (List ℕ)) → Passes s → 1 ≤ length frames → length frames ≤ 999999 → breaches_of (tree_of s frames) ≡ []
 none_broken s frames passes some few =

@@ -1,6 +1,6 @@
 -- What is told of the encoder's groups, numbered.
 use Rattle.std.proofs.Common.{◌≡◌, ℕ, ◌+◌, Bool, true, false, cond, List, [], ◌∷◌, ◌++◌, map, refl, sym, ap, subst, ◌∙◌, Option, Some, None}
-use Rattle.std.specs.Prelude.{All, ◌-◌}
+use Rattle.std.specs.Prelude.{All}
 use Rattle.std.proofs.lemmas.List.Elements.{All-nil, All-cons, All-head, All-tail}
 use Rattle.m2v_set.specs.declared.settings.Settings.{Settings}
 use Rattle.m2v_set.specs.Rules.{Passes}
@@ -8,29 +8,21 @@ use Rattle.m2v_order.specs.declared.jobs.PictureJob.{PictureJob}
 use Rattle.m2v_order.specs.Groups.{Group}
 use Rattle.m2v_order.specs.Calls.{jobs_in}
 use Rattle.m2v_order.specs.Whole.{IsGroupOf}
-use Rattle.m2v_slice.specs.Headers.{begins_group, group_from}
+use Rattle.m2v_slice.specs.Headers.{begins_group}
 use Rattle.m2v_model.specs.declared.state.Sequence.{Sequence}
-use Rattle.m2v_model.specs.Pictures.{Picture, Events, sequence_header, group_header, coded_picture}
+use Rattle.m2v_model.specs.Pictures.{Picture, Events, coded_picture}
 use Rattle.m2v_model.specs.Lawful.{Numbered, numbered, sequences_in, breaches}
 use Rattle.m2v_law_shown.specs.Own.{own_sequence}
 use Rattle.m2v_law_shown.specs.Places.{behind, AreOwn, behind_all, AreOwnGroups}
-use Rattle.m2v_law_shown.specs.Telling.{told_all, IsMade}
+use Rattle.m2v_law_shown.specs.Telling.{headers, told_all, IsMade}
+use Rattle.m2v_law_shown.specs.Told.{Made, job_in}
 use Rattle.m2v_law_shown.proofs.Begins.{GoesOn, Begins, group_begins}
 use Rattle.m2v_law_shown.proofs.LawfulStreams.{stream_none}
 
-abbrev Made : Type 0
-Made = PictureJob × Picture
-
-abbrev job_of : Made → PictureJob
-job_of made = made.0
-
 abbrev jobs_of_all : List Made → List PictureJob
-jobs_of_all made = map job_of made
+jobs_of_all made = map job_in made
 
 module _ (s : Settings) where
-  abbrev headers : PictureJob → Bool → Events
-  headers job b = cond b (sequence_header (own_sequence s) ∷ group_header (group_from s (job.display - job.frame)) ∷ []) []
-
   abbrev made_number : Made → Bool → ℕ → ℕ → ℕ → Numbered
   made_number made first group number frame =
       record { number = number; sequence = own_sequence s; group = group; first_in_group = first; frame = frame; picture = made.1 }
@@ -43,14 +35,14 @@ module _ (s : Settings) where
   frame_is made frame is = ap (λ b. cond {A = ℕ} b (frame + 1) frame) is.ends_frame
 
   goes_by : (made : Made) (group number frame : ℕ) (es : Events) (b : Bool) → b ≡ false
-      → numbered (Some (own_sequence s)) group false number frame ((headers made.0 b ++ coded_picture made.1 ∷ []) ++ es)
+      → numbered (Some (own_sequence s)) group false number frame ((headers s made.0 b ++ coded_picture made.1 ∷ []) ++ es)
       ≡ made_number made false group number frame ∷ numbered (Some (own_sequence s)) group false (number + 1) (frame_behind made frame) es
   unfolding numbered
   goes_by made group number frame es true e = absurd cc
   goes_by made group number frame es false e = refl
 
   begins_by : (made : Made) (q : Option Sequence) (first : Bool) (group number frame : ℕ) (es : Events) (b : Bool) → b ≡ true
-      → numbered q group first number frame ((headers made.0 b ++ coded_picture made.1 ∷ []) ++ es)
+      → numbered q group first number frame ((headers s made.0 b ++ coded_picture made.1 ∷ []) ++ es)
       ≡ made_number made true (group + 1) number frame ∷ numbered (Some (own_sequence s)) (group + 1) false (number + 1) (frame_behind made frame) es
   unfolding numbered
   begins_by made q first group number frame es true e = refl
@@ -176,7 +168,7 @@ module _ (s : Settings) where
   -- ---- the sequence headers
 
   headers_own : (m : Made) (es : Events) (b : Bool) → All (λ (t : Sequence). t ≡ own_sequence s) (sequences_in es)
-      → All (λ (t : Sequence). t ≡ own_sequence s) (sequences_in ((headers m.0 b ++ coded_picture m.1 ∷ []) ++ es))
+      → All (λ (t : Sequence). t ≡ own_sequence s) (sequences_in ((headers s m.0 b ++ coded_picture m.1 ∷ []) ++ es))
   headers_own m es true all = All-cons (λ (t : Sequence). t ≡ own_sequence s) (own_sequence s) (sequences_in es) refl all
   headers_own m es false all = all
 

@@ -15,8 +15,8 @@ pub mod Heads
 pub mod Between
 pub mod Steps
 pub mod Groups
-pub mod Books
 pub mod Mapped
+pub mod Good
 pub mod Streams
 pub mod Decodes
 pub mod Sequences
@@ -28,11 +28,6 @@ pub mod LawfulGroups
 pub mod LawfulStreams
 pub mod Begins
 pub mod LawfulNumbers
-pub mod Tells
-pub mod TellsHeads
-pub mod TellsSteps
-pub mod Good
-pub mod TellsStreams
 pub mod Lawful
 pub mod Times
 pub mod TellsNumbers

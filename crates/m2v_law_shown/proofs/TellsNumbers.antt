@@ -1,14 +1,13 @@
 -- The pictures that the stream tells, numbered.
-use Rattle.std.proofs.Common.{◌≡◌, ℕ, ◌+◌, ◌-◌, Bool, true, false, cond, List, [], ◌∷◌, ◌++◌, map, Some, None, refl}
+use Rattle.std.proofs.Common.{◌≡◌, ℕ, ◌+◌, Bool, true, false, cond, List, [], ◌∷◌, ◌++◌, map, Some, None, refl}
 use Rattle.std.specs.Prelude.{All}
 use Rattle.std.proofs.lemmas.List.Elements.{All-nil, All-cons}
 use Rattle.m2v_set.specs.declared.settings.Settings.{Settings}
-use Rattle.m2v_order.specs.declared.jobs.PictureJob.{PictureJob}
-use Rattle.m2v_slice.specs.Headers.{begins_group, group_from}
-use Rattle.m2v_model.specs.Pictures.{Events, sequence_header, group_header, coded_picture}
+use Rattle.m2v_slice.specs.Headers.{begins_group}
+use Rattle.m2v_model.specs.Pictures.{coded_picture}
 use Rattle.m2v_model.specs.Lawful.{Numbered, numbered}
 use Rattle.m2v_law_shown.specs.Own.{own_sequence}
-use Rattle.m2v_law_shown.specs.Telling.{told_all}
+use Rattle.m2v_law_shown.specs.Telling.{headers, told_all}
 use Rattle.m2v_law_shown.specs.Told.{Made, picture_in, delay_in, number_picture, number_delay}
 
 -- numbered pictures are those of jobs, each behind the encoder's sequence header
@@ -23,11 +22,8 @@ module _ (s : Settings) where
   abbrev GoOn : List Made → Type 0
   GoOn made = (group : ℕ) (first : Bool) (number frame : ℕ) → AreNumbers s made (numbered (Some (own_sequence s)) group first number frame (told_all s made))
 
-  abbrev headers : PictureJob → Bool → Events
-  headers job b = cond b (sequence_header (own_sequence s) ∷ group_header (group_from s (job.display - job.frame)) ∷ []) []
-
   one_goes : (m : Made) (made : List Made) (b : Bool) → GoOn made → (group : ℕ) (first : Bool) (number frame : ℕ)
-      → AreNumbers s (m ∷ made) (numbered (Some (own_sequence s)) group first number frame ((headers m.0 b ++ coded_picture m.1 ∷ []) ++ told_all s made))
+      → AreNumbers s (m ∷ made) (numbered (Some (own_sequence s)) group first number frame ((headers s m.0 b ++ coded_picture m.1 ∷ []) ++ told_all s made))
   unfolding numbered
   one_goes m made true goes group first number frame = ((refl, refl), goes (group + 1) false (number + 1) (cond m.1.ends_frame (frame + 1) frame))
   one_goes m made false goes group first number frame = ((refl, refl), goes group false (number + 1) (cond m.1.ends_frame (frame + 1) frame))
@@ -39,7 +35,7 @@ module _ (s : Settings) where
 
   -- the first one behind its own headers
   first_goes : (m : Made) (made : List Made) (b : Bool) → b ≡ true
-      → AreNumbers s (m ∷ made) (numbered None 0 false 0 0 ((headers m.0 b ++ coded_picture m.1 ∷ []) ++ told_all s made))
+      → AreNumbers s (m ∷ made) (numbered None 0 false 0 0 ((headers s m.0 b ++ coded_picture m.1 ∷ []) ++ told_all s made))
   unfolding numbered
   first_goes m made true e = ((refl, refl), all_go made 1 false 1 (cond m.1.ends_frame 1 0))
   first_goes m made false e = absurd cc

@@ -1,11 +1,15 @@
 -- What is told of the encoder's pictures: the headers of a group in front of its first one.
-use Rattle.std.specs.Prelude.{◌-◌, cond, List, [], ◌∷◌, ◌++◌}
+use Rattle.std.specs.Prelude.{◌-◌, Bool, cond, List, [], ◌∷◌, ◌++◌}
 use Rattle.std.specs.List.{flat_map}
 use Rattle.m2v_set.specs.declared.settings.Settings.{Settings}
 use Rattle.m2v_order.specs.declared.jobs.PictureJob.{PictureJob}
 use Rattle.m2v_slice.specs.Headers.{begins_group, group_from}
 use Rattle.m2v_model.specs.Pictures.{Picture, Events, sequence_header, group_header, coded_picture}
 use Rattle.m2v_law_shown.specs.Own.{own_sequence, IsPictureOf}
+
+-- the headers of a group, where a picture begins one
+abbrev pub headers : Settings → PictureJob → Bool → Events
+headers s job begins = cond begins (sequence_header (own_sequence s) ∷ group_header (group_from s (job.display - job.frame)) ∷ []) []
 
 -- what is told of a job and its picture: in front of the first one of a group its headers
 abbrev pub told : Settings → PictureJob × Picture → Events

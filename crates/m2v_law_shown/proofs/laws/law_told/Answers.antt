@@ -1,4 +1,4 @@
-use Rattle.m2v_law_shown.proofs.TellsStreams.{tells_jobs}
+use Rattle.m2v_law_shown.proofs.Streams.{tells_jobs}
 use Rattle.m2v_law_shown.proofs.Account.{tells_numbers, stream_intervals}
 use Rattle.m2v_law_shown.proofs.laws.law_told.Goals as goal
 
