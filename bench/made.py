@@ -1,7 +1,7 @@
 #!/usr/bin/env python3
 """What make is to write: the frames of a seed by the rule of docs/COMMANDS.md, coded by the encoder of bench/encoded.py, which
 shares nothing with the program. Writes the stream of a seed to standard output, or with --sum prints its bytes, its zero
-bytes and its SHA-256; that takes half an hour or so."""
+bytes and its SHA-256; that takes a quarter of an hour."""
 
 import hashlib
 import sys
