@@ -1,5 +1,5 @@
 -- The stream of raw frames decodes to its reconstructions, is lawful, and keeps the buffer.
-use Rattle.std.proofs.Common.{◌≡◌, ℕ, ◌≤◌, false, List, [], ◌∷◌, length, map, get_or, suc, Some, refl, sym, ap, ◌∙◌, arith}
+use Rattle.std.proofs.Common.{◌≡◌, ℕ, ◌≤◌, List, [], ◌∷◌, length, map, get_or, suc, refl, sym, ap, ◌∙◌, arith}
 use Rattle.std.proofs.lemmas.List.{length-map}
 use Rattle.m2v_set.specs.declared.settings.Settings.{Settings}
 use Rattle.m2v_set.specs.Numbers.{delay_of}
@@ -7,8 +7,8 @@ use Rattle.m2v_set.specs.Rules.{Passes}
 use Rattle.m2v_law_shown.specs.m2v_slice.Headers.{sequence_extension_of}
 use Rattle.m2v_law_shown.specs.m2v_enc_stream.Streams.{Coded, coded_all, at_start}
 use Rattle.m2v_model.specs.Pieces.{pieces}
-use Rattle.m2v_model.specs.Decoding.{events, low_delay_of}
-use Rattle.m2v_model.specs.Lawful.{Numbered, all_numbered}
+use Rattle.m2v_model.specs.Decoding.{low_delay_of}
+use Rattle.m2v_model.specs.Lawful.{Numbered}
 use Rattle.m2v_model.specs.Buffering.{account_by, account_in, unsafe_in}
 use Rattle.m2v_law_shown.specs.m2v_law_safe.Sent.{SentPicture, Sent}
 use Rattle.m2v_law_shown.proofs.m2v_enc_stream.Workers.{coded_same, recon_same}
