@@ -1,5 +1,7 @@
 -- What status 0 says: the command was done, and the whole line of that is on report.
-use Rattle.std.proofs.Common.{◌≡◌, ◌==◌, if◌then◌else◌, inl, inr, ℕ, zero, suc, refl, sym, ◌∙◌, arith, subst}
+use Rattle.std.proofs.Common.{◌≡◌, inl, inr, ℕ, suc, refl, sym, ◌∙◌, arith, subst}
+use Rattle.std.specs.Prelude.{◌==◌, if◌then◌else◌}
+use Rattle.std.proofs.lemmas.Bool.{cases_Bool, cond-true, cond-false, eq-eqb}
 use Rattle.m2v_port.specs.Ends.{Change}
 use Rattle.m2v_port.specs.Port.{Grows}
 use Rattle.m2v_port.specs.declared.error.PortError.{PortError}
@@ -64,8 +66,14 @@ use Rattle.m2v_tool.specs.Runs.{Run, work_of}
 
 -- no report that fails makes the status 0
 unreported : (n : ℕ) → (if n == 0 then 8 else n) ≡ 0 → ⊥
-unreported zero none = omega (arith, none)
-unreported (suc n) none = omega (arith, none)
+unreported n none = elim (cases_Bool (n == 0)) [
+  | inl is ↦
+      let eight : 8 ≡ 0 = sym (cond-true (n == 0) 8 n is) ∙ none in
+      omega (arith, eight)
+  | inr isnt ↦
+      let zero_it_is : n ≡ 0 = sym (cond-false (n == 0) 8 n isnt) ∙ none in
+      cc (sym (eq-eqb n 0 zero_it_is) ∙ isnt)
+]
 
 line : (e : Ending) (r : Run) → Told e r.status r.report → r.status ≡ 0 → Grows r.report.old (line_of e) r.report.new
 line e r (whole is g) none = g
