@@ -142,7 +142,8 @@ holds 'cut: no sequence header before the group' 17 'not cuttable at bit 448' no
 # ---- endpoints that fail
 for words in 'flat 16 16 3 1' "encode ${small[*]}" 'encode-y4m --bits 100 --buffer 1' decode check 'cut 0 1' 'pack 16 16 3' unpack; do
   ends "${words%% *}: an input that can't be read" 7 'read fault' $words < / > out
-  tell "${words%% *}: nothing was written then" "$(cmp none out 2>&1)"
+  if [ "${words%% *}" = pack ]; then head -n 1 frame.y4m > wanted; else : > wanted; fi
+  tell "${words%% *}: no frame was written then" "$(cmp wanted out 2>&1)"
 done
 ends 'flat: a full disc' 8 'write fault' flat 16 16 3 1 < frame > /dev/full
 ends 'encode: a full disc' 8 'write fault' encode "${small[@]}" < frame > /dev/full
