@@ -157,7 +157,8 @@ ends 'encode: a directory for --recon' 8 'write fault' encode "${small[@]}" --re
 tell 'nothing was written then' "$(cmp none out 2>&1)"
 ends 'encode: a full disc for --recon' 8 'write fault' encode "${small[@]}" --recon /dev/full < frame > out
 mkfifo pipe
-"$program" decode < flat.m2v > pipe 2> err &
+# the stream comes once nobody reads the pipe any more
+{ sleep 0.5; cat flat.m2v; } | "$program" decode > pipe 2> err &
 : < pipe
 wait $!
 tell 'decode into a closed pipe' "$([ $? = 8 ] && [ "$(cat err)" = 'write fault' ] || echo "$(cat err)")"
