@@ -1,0 +1,23 @@
+#!/usr/bin/env bash
+# Prints what the README says of speed, as it stands there.
+#
+# That is the table of coding by encode.sh and that of decoding and checking by decode.sh, beside the peers that are
+# installed. Standard error says which of these aren't, and has a line a clip.
+#
+#     bench/measure/table.sh PROGRAM [FOLDER]
+#
+# PROGRAM is the built program (crates/m2v_main/out/m2v_main, after one call of ./puckerledge). Clips and streams stay
+# in FOLDER, /tmp/table where none is given.
+set -eu
+program=$(realpath "$1")
+folder=${2:-/tmp/table}
+here=$(dirname "$(realpath "$0")")
+
+speed=$(awk '/^cpu MHz/ { printf " at %.1f GHz", $NF / 1000; exit }' /proc/cpuinfo)
+echo "On $(nproc) processors$speed. Coding 25 frames of 720 by 576 samples, a pan with moving parts and noise, \`--search 15\`, in frames a second:"
+echo
+"$here/encode.sh" "$program" "$folder"
+echo
+echo "Decoding and checking clips of that size, four seconds each, five of them at 6 Mbit/s and one of I pictures at 15, the least and the most over the clips:"
+echo
+"$here/decode.sh" "$program" "$folder"

@@ -1,0 +1,175 @@
+#!/usr/bin/env bash
+# Runs the built program from outside, each command and each status that can be reached so; the gate runs it.
+#
+#     bench/program/end_to_end.sh [PROGRAM]
+#
+# It compares status, the line on standard error, standard output and the file of --recon with stated values: streams
+# that were worked out by hand, and what docs/COMMANDS.md says. The last line is `N passed, M failed`; it fails where
+# one failed.
+set -u
+top=$(dirname "$(dirname "$(dirname "$(readlink -f "$0")")")")
+program=$(readlink -f "${1:-$top/crates/m2v_main/out/m2v_main}")
+room=$(mktemp -d)
+trap 'rm -rf "$room"' EXIT
+cd "$room" || exit 1
+passed=0
+failed=0
+
+# bytes HEX..: the bytes of hexadecimal numbers.
+bytes() { printf "$(printf '\\x%s' $*)"; }
+# grey N: N bytes of value 128.
+grey() { head -c "$1" /dev/zero | tr '\0' '\200'; }
+
+# tell NAME FAULT: one case more, passed where there is no fault.
+tell() {
+  if [ -z "$2" ]; then passed=$((passed + 1)); else failed=$((failed + 1)); echo "FAILED: $1: $2"; fi
+}
+
+# holds NAME STATUS LINE OUTPUT WORD..: runs the program on the file `in`; LINE is what stands on standard error without its
+# newline, OUTPUT the file with what is to stand on standard output.
+holds() {
+  local name=$1 status=$2 line=$3 output=$4 fault="" ended
+  shift 4
+  timeout 60 "$program" "$@" < in > out 2> err
+  ended=$?
+  if [ "$line" ]; then printf '%s\n' "$line" > line; else : > line; fi
+  [ "$ended" = "$status" ] || fault="status $ended, not $status"
+  cmp -s line err || fault="$fault; the line is '$(head -c 200 err)', not '$line'"
+  cmp -s "$output" out || fault="$fault; the output isn't what it should be"
+  tell "$name" "${fault#; }"
+}
+
+# ends NAME STATUS LINE WORD..: the same where output isn't looked at, with the program's standard input and output as they
+# are given.
+ends() {
+  local name=$1 status=$2 line=$3 fault="" ended
+  shift 3
+  timeout 60 "$program" "$@" 2> err
+  ended=$?
+  if [ "$line" ]; then printf '%s\n' "$line" > line; else : > line; fi
+  [ "$ended" = "$status" ] || fault="status $ended, not $status"
+  cmp -s line err || fault="$fault; the line is '$(head -c 200 err)', not '$line'"
+  tell "$name" "${fault#; }"
+}
+
+: > none
+grey 384 > frame
+grey 768 > frames
+sequence='00 00 01 B3 01 00 10 13 24 9F 23 80'
+extension='00 00 01 B5 14 8A 00 01 00 00'
+picture='00 00 01 00 00 0F FF F8 00 00 01 B5 8F FF F3 41 80'
+slice='00 00 01 01 0B 94 A5 22 20'
+end='00 00 01 B7'
+bytes $sequence $extension $picture $slice $end > flat.m2v
+bytes $sequence $extension $picture $slice > begun.m2v
+# encode --width 16 --height 16 --rate 3 --bits 100 --buffer 1 of one grey frame, and of two
+coded='00 00 01 B3 01 00 10 23 00 19 20 08 00 00 01 B5 14 8A 00 01 00 00 00 00 01 B8 00 08 00 40'
+first='00 00 01 00 00 0B 51 A8 00 00 01 B5 8F FF F3 41 80 00 00 01 01 43 94 A5 22 20'
+second='00 00 01 00 00 53 B3 8B 80 00 00 01 B5 82 2F F3 41 80 00 00 01 01 42 70'
+bytes $coded $first $end > one.m2v
+bytes $coded $first $second $end > two.m2v
+small=(--width 16 --height 16 --rate 3 --bits 100 --buffer 1)
+{ printf 'YUV4MPEG2 W16 H16 F25:1 Ip A0:0 C420mpeg2\nFRAME\n'; cat frame; } > frame.y4m
+
+# ---- what succeeds
+cp frame in
+holds 'flat: a grey frame' 0 'frames 1 pictures 1 bytes 52 stuffing 0' flat.m2v flat 16 16 3 1
+holds 'encode: a grey frame' 0 'frames 1 pictures 1 bytes 60 stuffing 0' one.m2v encode "${small[@]}"
+holds 'encode by four workers' 0 'frames 1 pictures 1 bytes 60 stuffing 0' one.m2v encode "${small[@]}" --workers 4
+holds 'pack: a frame' 0 'frames 1 bytes 432' frame.y4m pack 16 16 3
+cp frames in
+holds 'encode with --recon' 0 'frames 2 pictures 2 bytes 84 stuffing 0' two.m2v encode "${small[@]}" --recon shown
+tell 'the file of --recon has the frames' "$(cmp frames shown 2>&1)"
+printf 'more than before' > shown
+holds 'encode over a file' 0 'frames 2 pictures 2 bytes 84 stuffing 0' two.m2v encode "${small[@]}" --recon shown
+tell 'a file that was there is emptied first' "$(cmp frames shown 2>&1)"
+cp frame.y4m in
+holds 'unpack: a frame' 0 'frames 1 bytes 384' frame unpack
+holds 'encode-y4m: a frame' 0 'frames 1 pictures 1 bytes 60 stuffing 0' one.m2v encode-y4m --bits 100 --buffer 1
+cp flat.m2v in
+holds 'decode: a grey frame' 0 'frames 1 pictures 1 dropped 0' frame decode
+holds 'decode by three workers' 0 'frames 1 pictures 1 dropped 0' frame decode --workers 3
+holds 'check: variable rate' 0 'variable frames 1 pictures 1 bytes 52' none check
+cp two.m2v in
+holds 'decode: two frames' 0 'frames 2 pictures 2 dropped 0' frames decode
+holds 'check: lawful' 0 'lawful frames 2 pictures 2 bytes 84 low 0 high 672 delays 0' none check
+holds 'cut: the one group' 0 'groups 1 bytes 84' two.m2v cut 0 1
+cp none in
+# the stream of seed 1 is what bench/cases/made.py makes of it: its bytes and their sum
+"$program" make 1 > made 2> err < none
+tell 'make: the stream of seed 1' "$(
+  [ "$(sha256sum < made)" = '95ee6065ce9496f08d7b97eea8e184502c0b3c478a8ea0b7cf89d75a50263d17  -' ] || echo 'the stream is another one')"
+tell 'make: its figures are those of check' "$(
+  told=$(sed -n 's/^make seed 1 frames 48 bytes 95118 stuffing 0 \(low .*\)/\1/p' err)
+  found=$("$program" check < made 2>&1 | sed -n 's/^lawful frames 48 .* \(low .*\)/\1/p')
+  [ "$told" ] && [ "$told" = "$found" ] || echo "make: $(cat err); check: $found")"
+
+# ---- words and settings
+holds 'no words' 2 usage none
+holds 'no such command' 2 usage none frobnicate
+holds 'no help' 2 usage none --help
+holds 'a word too few' 2 usage none flat 16 16 3
+holds 'a word of byte FF' 2 usage none flat 16 16 3 "$(printf '\377')"
+holds 'a command of byte FF' 2 usage none "$(printf '\377')"
+holds 'flat: quantiser 32' 3 'unfit rule 7 have 32 need 31' none flat 16 16 3 32
+holds 'encode: group 10 by 3' 3 'unfit rule 6 have 1 need 0' none encode "${small[@]}" --group 10 --step 3
+holds 'decode: no workers' 3 'unfit rule 6 have 0 need 1' none decode --workers 0
+holds 'cut: no groups' 3 'unfit rule 9 have 0 need 1' none cut 0 0
+
+# ---- what the input is refused for
+holds 'flat: no frames' 5 'no frames' none flat 16 16 3 1
+holds 'encode: no frames' 5 'no frames' none encode "${small[@]}"
+holds 'decode: nothing' 9 'stream NoSequence at bit 0' none decode
+grey 767 > in
+holds 'flat: a short frame' 4 'short frame extra 383' begun.m2v flat 16 16 3 1
+holds 'encode: a short frame' 4 'short frame extra 383' none encode "${small[@]}"
+head -c 3000000 /dev/zero > in
+holds 'unpack: no text' 15 'y4m fault Magic at byte 0' none unpack
+ends 'pack: a frame too many' 6 'too many frames' pack 1 1 3 < in > out
+bytes $sequence > in
+holds 'decode: no extension' 9 'stream NotMpeg2 at bit 96' none decode
+holds 'check: no extension' 9 'stream NotMpeg2 at bit 96' none check
+bytes $sequence $extension $picture 00 00 01 01 03 94 A5 22 20 $end > in
+holds 'decode: quantiser 0' 9 'stream Forbidden at bit 344' none decode
+bytes $sequence 00 00 01 B5 14 9A 00 01 00 00 $picture $slice $end > in
+holds 'check: another profile' 10 'unlawful rule 1 picture 0 have 73 need 72' none check
+bytes $coded ${first/0B 51 A8/08 00 00} $end > in
+holds 'check: a delay of 0' 11 'buffer under picture 0 have 489600 need 864000' none check
+{ bytes $sequence $extension 00 00 01 B2; grey 2097152; bytes $picture $slice $end; } > in
+holds 'decode: a piece too large' 14 'picture too large' none decode
+holds 'check: a piece too large' 14 'picture too large' none check
+cp two.m2v in
+holds 'cut: no second group' 16 'no group have 1 need 2' none cut 1 1
+bytes $coded $first 00 00 01 B8 00 08 00 40 $first $end > in
+holds 'cut: no sequence header before the group' 17 'not cuttable at bit 448' none cut 1 1
+
+# ---- endpoints that fail
+for words in 'flat 16 16 3 1' "encode ${small[*]}" 'encode-y4m --bits 100 --buffer 1' decode check 'cut 0 1' 'pack 16 16 3' unpack; do
+  ends "${words%% *}: an input that can't be read" 7 'read fault' $words < / > out
+  if [ "${words%% *}" = pack ]; then head -n 1 frame.y4m > wanted; else : > wanted; fi
+  tell "${words%% *}: no frame was written then" "$(cmp wanted out 2>&1)"
+done
+ends 'flat: a full disc' 8 'write fault' flat 16 16 3 1 < frame > /dev/full
+ends 'encode: a full disc' 8 'write fault' encode "${small[@]}" < frame > /dev/full
+ends 'encode-y4m: a full disc' 8 'write fault' encode-y4m --bits 100 --buffer 1 < frame.y4m > /dev/full
+ends 'decode: a full disc' 8 'write fault' decode < flat.m2v > /dev/full
+ends 'cut: a full disc' 8 'write fault' cut 0 1 < two.m2v > /dev/full
+ends 'pack: a full disc' 8 'write fault' pack 16 16 3 < frame > /dev/full
+ends 'unpack: a full disc' 8 'write fault' unpack < frame.y4m > /dev/full
+ends 'make: a full disc' 8 'write fault' make 1 < none > /dev/full
+ends 'encode: a directory for --recon' 8 'write fault' encode "${small[@]}" --recon . < frame > out
+tell 'nothing was written then' "$(cmp none out 2>&1)"
+ends 'encode: a full disc for --recon' 8 'write fault' encode "${small[@]}" --recon /dev/full < frame > out
+mkfifo pipe
+# the stream comes once nobody reads the pipe any more
+{ sleep 0.5; cat flat.m2v; } | "$program" decode > pipe 2> err &
+: < pipe
+wait $!
+tell 'decode into a closed pipe' "$([ $? = 8 ] && [ "$(cat err)" = 'write fault' ] || echo "$(cat err)")"
+"$program" flat 16 16 3 1 < frame > out 2> /dev/full
+tell 'a report that fails behind success is told by the status' "$([ $? = 8 ] && cmp flat.m2v out || echo 'status or output')"
+"$program" flat 16 16 3 32 < frame > out 2> /dev/full
+tell 'a report that fails behind a refusal leaves the status' "$([ $? = 3 ] && cmp none out || echo 'status or output')"
+
+echo "$passed passed, $failed failed"
+[ "$failed" = 0 ]
