@@ -24,7 +24,7 @@ FIELD = re.compile(r'\s*(?:pub )?\w+:')
 HEAD = '''# Clauses
 
 Where each rule of ISO/IEC 13818-2 stands: its definition (in a crate's `specs/`) and its code (in `src/`). What isn't read
-or written says so. Each rule says what stands in the text of the standard in short; the definition is what counts here.
+or written says so. The words of a rule are there to find it by; what the program does is what the definition says.
 `bench/run clauses` writes this page from `bench/documents/clauses.txt` and the comments of the crates.
 '''
 
