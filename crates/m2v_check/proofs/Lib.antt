@@ -20,3 +20,4 @@ pub mod Onward
 pub mod Checking
 pub mod Summing
 pub mod Verdicts
+pub use Rattle.m2v_model.proofs as m2v_model

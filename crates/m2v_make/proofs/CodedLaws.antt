@@ -36,7 +36,7 @@ same_frames m (f ∷ fs) (g ∷ gs) some f_len g_len same =
     ap (λ x. x ∷ fs) first ∙ ap (λ xs. g ∷ xs) others
 
 -- the bytes of a frame by the settings
-size_made : frame_bytes (dims_of make_settings) ≡ frame_size
+pub size_made : frame_bytes (dims_of make_settings) ≡ frame_size
 unfolding make_settings dims_of
 size_made = refl
 
@@ -45,7 +45,7 @@ unfolding generated
 generated_whole seed =
     All-map (λ (f : List ℕ). length f ≡ frame_size) (frame seed) (range_with_len 0 48) (λ k d lt. frame_length seed (get_or (range_with_len 0 48) k d))
 
-whole_made : (frames : List (List ℕ)) → AreWhole make_settings frames → All (λ (f : List ℕ). length f ≡ frame_size) frames
+pub whole_made : (frames : List (List ℕ)) → AreWhole make_settings frames → All (λ (f : List ℕ). length f ≡ frame_size) frames
 whole_made frames each = λ k d lt. each k d lt ∙ size_made
 
 -- what a new source has left

@@ -1,4 +1,7 @@
 pub mod Judged
+pub mod Limits
+pub mod StreamLimits
+pub mod MadeLaws
 pub mod FrameLaws
 pub mod SourceLaws
 pub mod CodedLaws

@@ -1,3 +1,5 @@
+use std::alloc::AllocError;
+
 /// The numbers of a stream that was made.
 #[derive(Clone, Copy, Debug, PartialEq, Eq)]
 pub struct Made {
@@ -18,7 +20,17 @@ pub struct Made {
 pub enum MakeError {
     /// The output failed.
     Write,
-    /// No memory was left. What can't come is answered so too: settings that don't pass, a stream that doesn't decode, and
-    /// one that isn't lawful.
+    /// No memory was left: a call for memory failed, and nothing else is told so.
     Memory,
+}
+
+impl From<AllocError> for MakeError {
+    ghost use Rattle.std.specs.Prelude.{◌≡◌};
+    ghost use Rattle.m2v_make.specs.declared.answer.MakeError.TheVariants as errors;
+
+    ghost from_gives = { λ e f. f ≡ errors.Memory };
+
+    fn from(_: AllocError) -> MakeError {
+        MakeError::Memory
+    }
 }

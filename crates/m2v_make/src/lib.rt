@@ -9,7 +9,7 @@ mod laws;
 mod whole;
 
 pub use answer::{Made, MakeError};
-pub use laws::law_encoded_judged;
+pub use laws::{law_encoded_fits, law_encoded_judged};
 pub use m2v_check as check;
 pub use m2v_encode as encode;
 pub use whole::make;

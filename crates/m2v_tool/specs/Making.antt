@@ -72,8 +72,9 @@ pub data MakeAnswer (r : Run) : Type 0 where
   write : r.output.Failed ⊎ r.report.Failed → r.status ≡ 8 → MakeAnswer r
   memory : r.status ≡ 12 → MakeAnswer r
 
--- What is answered to `make`: with status 0 the stream of the seed was made; one of these answers; and a stream is made where
--- neither count rose, but for want of memory.
+-- What is answered to `make`: with status 0 the stream of the seed was made, which decodes to the reconstructions of the seed's
+-- frames and to nothing else, breaks no rule of its level and keeps the decoder's buffer (`Makes`); one of these answers; and
+-- a stream is made where neither count rose, but for want of memory.
 pub record MakeKeeps (seed : ℕ) (r : Run) : Type 0 where
   pub done : r.status ≡ 0 → Success (Makes seed r.output) (made_ending seed) r.report
   pub answer : MakeAnswer r
