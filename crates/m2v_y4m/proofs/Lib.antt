@@ -4,6 +4,7 @@ mod FrameLaws
 mod LineLaws
 mod SizeLaws
 mod Steps
+pub mod Spots
 mod WordLaws
 mod Packs
 mod Unpacks
