@@ -5,6 +5,7 @@ mod LineLaws
 mod SizeLaws
 mod Steps
 pub mod Spots
+pub mod Overs
 mod WordLaws
 mod Packs
 mod Unpacks

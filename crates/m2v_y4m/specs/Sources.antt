@@ -1,6 +1,8 @@
 -- A YUV4MPEG2 text as a source of the raw bytes of its frames.
-use Rattle.std.specs.Prelude.{ℕ, ◌≡◌, ◌+◌, ◌*◌, ◌≤◌, ◌==◌, List, [], ◌∷◌, ◌++◌, length, drop, Option, Some, None, option_map, IfSome, if◌then◌else◌}
-use Rattle.m2v_port.specs.Port.{Moves}
+use Rattle.std.specs.Prelude.{ℕ, ◌≡◌, ◌+◌, ◌*◌, ◌<◌, ◌≤◌, ◌==◌, List, [], ◌∷◌, ◌++◌, length, take, drop, Option, Some, None, option_map, is_some, IfSome, IsTrue, Result, Ok, Err, IfOk, OnOk, OnErr, if◌then◌else◌}
+use Rattle.m2v_port.specs.Port.{Moves, IsAtEnd}
+use Rattle.m2v_port.specs.declared.error.PortError.{PortError}
+use Rattle.m2v_port.specs.declared.error.PortError.TheVariants.{Failed}
 use Rattle.m2v_y4m.specs.declared.answer.Y4mFault.{Y4mFault}
 use Rattle.m2v_y4m.specs.declared.answer.Y4mKind.{Y4mKind}
 use Rattle.m2v_y4m.specs.declared.answer.Y4mKind.TheVariants.{Magic, Line, Field, Size, Rate, Interlace, Chroma, Frame}
@@ -101,6 +103,18 @@ pub record ReadOn (old : Spot) (bytes : List ℕ) (new : Spot) : Type 0 where
   pub header : new.at.header ≡ old.at.header
   pub unbroken : new.at.fault ≡ None
   pub comes : (rest : List ℕ) → coming old.at (taken ++ rest) ≡ with_front bytes (coming new.at rest)
+
+-- What a read does to a text, beside what it does as every source's: no read changes what fault comes, or the header; it
+-- answers 0 for a buffer that isn't empty only at the end of a text that no frame line broke; and each read fails once a
+-- fault was found. What it gives, and that it gives nothing after an error but a fault's, holds whatever text follows.
+pub record TextRead (old : Spot) (room : List ℕ) (result : Result ℕ PortError) (buf : List ℕ) (new : Spot) : Type 0 where
+  pub fault : fault_to_come new.at new.left ≡ fault_to_come old.at old.left
+  pub header : new.at.header ≡ old.at.header
+  pub zero : result ≡ Ok 0 → 0 < length room → IsAtEnd new.left × (new.at.unread ≡ [])
+  pub unbroken : OnOk result (new.at.fault ≡ None)
+  pub broken : IsTrue (is_some old.at.fault) → result ≡ Err Failed
+  pub read : IfOk result (λ n. ReadOn old (take n buf) new)
+  pub stood : OnErr result (new.at.fault ≡ None → ReadOn old [] new)
 
 -- What was taken of a text, when these raw bytes were given of it: the text up to the place where reading stands, and what
 -- was read ahead. Whatever text follows, it begins with the header line, and these bytes come of it first, and then what

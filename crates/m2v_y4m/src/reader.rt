@@ -146,7 +146,9 @@ impl Reader {
     pub(crate) fn header(&self) -> &Y4mHeader
         ensures value { result.now ≡ self.now.header }
         ensures within { IsHeader self.now.header }
+        ensures ahead { length self.now.unread ≤ most_ahead }
     {
+        let _ahead = self.ahead();
         &self.header
     }
 
