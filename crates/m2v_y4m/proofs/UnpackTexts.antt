@@ -212,17 +212,18 @@ module _ {S K : Type 0} (left : S → Option (List ℕ)) (input_faults : S → �
         end = g.0;
         grown = short.before.grown;
       }
-  unpack_stops s t i0 i1 i2 o0 o1 errors.TooManyFrames some opens few reads g = record {
-    header = s.header;
-    frames = g.frames;
-    next = g.next;
-    all = g.all;
-    whole = g.before.whole;
-    text = subst (λ (h : Y4mHeader). IfSome (left i0) (λ text. Gives text h (raw g.frames ++ g.next ∷ []))) g.before.read.header
-        (taken_gives (change left input_faults i0 i2) (raw g.frames ++ g.next ∷ []) t
-        (taken_on (left i0) s t (left i1) (left i2) [] (raw g.frames ++ g.next ∷ []) opens.took g.before.read few));
-    grown = g.before.grown;
-  }
+  unpack_stops s t i0 i1 i2 o0 o1 errors.TooManyFrames some opens few reads g =
+      let took = taken_on (left i0) s t (left i1) (left i2) [] (raw g.frames ++ g.next ∷ []) opens.took g.before.read few in
+      record {
+        at = t;
+        frames = g.frames;
+        next = g.next;
+        all = g.all;
+        whole = subst (λ (h : Y4mHeader). AreWhole h g.frames) (sym g.before.read.header) g.before.whole;
+        took = took;
+        text = taken_gives (change left input_faults i0 i2) (raw g.frames ++ g.next ∷ []) t took;
+        grown = g.before.grown;
+      }
   unpack_stops s t i0 i1 i2 o0 o1 (errors.Y4m fault) some opens few reads g = UnpackBroken.behind s.header g.frames g.most g.whole
       (if_told (left i0) (λ t. Begins t s.header (with_front (raw g.frames ++ g.part) (broken fault))) (λ t. Begins t s.header (record { raw = raw g.frames; fault = Some fault }))
       (λ t begins. behind_frames t s.header g.frames g.part fault g.whole g.less begins)

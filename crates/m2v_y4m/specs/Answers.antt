@@ -142,17 +142,18 @@ pub record UnpackEndedShort (left held : Change) (extra : ℕ) : Type 0 where
 
 -- A byte of a frame followed the last frame that raw video may have.
 pub record UnpackWentOn (left held : Change) : Type 0 where
-  pub header : Y4mHeader
+  pub at : Standing
   pub frames : List (List ℕ)
   pub next : ℕ
   pub all : length frames ≡ most_frames
-  pub whole : AreWhole header frames
-  pub text : Tells left (λ text. Gives text header (raw frames ++ next ∷ []))
+  pub whole : AreWhole at.header frames
+  pub took : TookText left.old (raw frames ++ next ∷ []) at left.new
+  pub text : Tells left (λ text. Gives text at.header (raw frames ++ next ∷ []))
   pub grown : Grows held.old (raw frames) held.new
 
 -- The text is broken in its header line, and nothing was written; or behind these frames, and they were written.
 pub data UnpackBroken (left held : Change) (fault : Y4mFault) : Type 0 where
-  in_header : Tells left (λ text. opening text ≡ Err fault) → held.Unchanged → UnpackBroken left held fault
+  in_header : Tells left (λ text. opening text ≡ Err fault) → Took left.old left.new → held.Unchanged → UnpackBroken left held fault
   behind : (header : Y4mHeader) (frames : List (List ℕ)) → length frames ≤ most_frames → AreWhole header frames
       → Tells left (λ text. Begins text header (record { raw = raw frames; fault = Some fault }))
       → Grows held.old (raw frames) held.new → UnpackBroken left held fault

@@ -16,7 +16,7 @@ pub returns-in-Err-Y4m-clause-err : goal.returns-in-Err-Y4m-clause-err
 unfolding UnpackStops OpenStops
 returns-in-Err-Y4m-clause-err g c =
     let e = rw c.in-Err-Y4m.field-0-is at c.in-Err-Y4m.ensures.err in
-    rw c.in-Err-Y4m.field-0-is (UnpackBroken.in_header e.0 refl)
+    rw c.in-Err-Y4m.field-0-is (UnpackBroken.in_header e.0 e.1 refl)
 
 pub returns-in-Err-Memory-clause-err : goal.returns-in-Err-Memory-clause-err
 unfolding UnpackStops OpenStops
