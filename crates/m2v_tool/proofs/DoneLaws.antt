@@ -236,7 +236,7 @@ unfolding Y4mComes EncodeComes y4m_ending encode_ending unfit_ending y4m_fault
 text_done r m (texts.Unread e) c t none = refused (unread_ending e) r t (unread_stops e) none
 text_done r m (texts.Encoded (encodes.Coded s)) c t none = record {
   outcome = s;
-  is = record { behind = c.behind; done = c.comes };
+  is = record { behind = c.behind; end = c.behind.end c.comes.coded.end; done = c.comes };
   line = line (encoded_ending s) r t none;
 }
 text_done r m (texts.Encoded (encodes.Unfit u)) c t none = refused (unfit_ending u) r t (2, refl) none
