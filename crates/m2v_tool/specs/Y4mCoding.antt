@@ -13,7 +13,7 @@ use Rattle.m2v_y4m.specs.declared.header.Y4mHeader.{Y4mHeader}
 use Rattle.m2v_y4m.specs.Rules.{IsHeader}
 use Rattle.m2v_y4m.specs.Header.{opening}
 use Rattle.m2v_y4m.specs.Frames.{Coming, Begins}
-use Rattle.m2v_y4m.specs.Sources.{Standing, left_of, mark, told_left, most_ahead}
+use Rattle.m2v_y4m.specs.Sources.{Standing, left_of, mark, told_left, most_ahead, TookText}
 use Rattle.m2v_y4m.specs.Answers.{OpenStops}
 use Rattle.m2v_tool.specs.declared.encode.EncodeOutcome.{EncodeOutcome}
 use Rattle.m2v_tool.specs.declared.encode_y4m.Y4mOutcome.{Y4mOutcome}
@@ -29,8 +29,8 @@ use Rattle.m2v_tool.specs.Runs.{Run, Work, work_of, Yields, NoneFailed, Succeeds
 -- ---- what was read
 
 -- The header line was read; what was left behind it as raw bytes and the mark of a fault, and what is left of that now: what
--- comes, by the place where reading stands, of the bytes that were read ahead and of those that input still has. It is
--- nothing only where input has nothing left.
+-- comes, by where reading stands, of the bytes that were read ahead and of those that input still has. It is nothing only
+-- where input has nothing left.
 pub record Behind (input : Change) : Type 0 where
   pub header : Y4mHeader
   pub within : IsHeader header
@@ -43,11 +43,15 @@ pub record Behind (input : Change) : Type 0 where
   pub left : new ≡ told_left now input.new
   pub end : IsAtEnd new → IsAtEnd input.new
 
--- what was done to the frames behind the header line: they failed where input did, and count as they were where no byte of
--- theirs was read
+-- what was done to the frames behind the header line: they failed where input did, and count as they were where of input
+-- nothing was taken but the header line and what was read ahead
 abbrev pub frames_change : (input : Change) → Behind input → Change
-frames_change input b =
-    record { old = b.old; new = b.new; Failed = input.Failed; Unchanged = b.new ≡ b.old }
+frames_change input b = record {
+  old = b.old;
+  new = b.new;
+  Failed = input.Failed;
+  Unchanged = TookText input.old [] b.now input.new;
+}
 
 -- what was done, where these frames are the input
 abbrev pub frames_work : (k : Work) → Behind k.input → Work
@@ -106,7 +110,7 @@ read_behind left faults at before now after = record {
   old = told_left at (left before);
   new = told_left now (left after);
   Failed = Rose (faults before) (faults after);
-  Unchanged = told_left now (left after) ≡ told_left at (left before);
+  Unchanged = (now ≡ at) × (left after ≡ left before);
 }
 
 -- ---- statuses and lines

@@ -10,7 +10,7 @@ use Rattle.m2v_y4m.specs.declared.answer.Y4mFault.{Y4mFault}
 use Rattle.m2v_y4m.specs.declared.header.Y4mHeader.{Y4mHeader}
 use Rattle.m2v_y4m.specs.Texts.{onward}
 use Rattle.m2v_y4m.specs.Header.{opening}
-use Rattle.m2v_y4m.specs.Frames.{Coming, with_front, frame_line, size_of, Begins}
+use Rattle.m2v_y4m.specs.Frames.{Coming, with_front, size_of, Begins}
 use Rattle.m2v_y4m.specs.Sources.{Standing, coming_at, unless_broken, coming, comes_of, most_ahead, Spot, spot, ReadOn, TookText, IsOpen}
 use Rattle.m2v_y4m.specs.Reading.{Held, Gave, GaveFewer, ReadFewer, comes_at, TookLine}
 use Rattle.m2v_y4m.specs.Answers.{Gives}

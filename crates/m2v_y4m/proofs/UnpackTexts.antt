@@ -2,7 +2,7 @@
 use Rattle.std.proofs.Common.{◌≡◌, ◌⊎◌, inl, inr, ℕ, zero, suc, ◌+◌, ◌*◌, ◌<◌, ◌≤◌, ◌==◌, ◌&&◌, Bool, true, false, nat_lt, List, [], ◌∷◌, ◌++◌, length, take, drop, Option, Some, None, IfSome, Result, Ok, Err, refl, sym, subst, ap, ap₂, ◌∙◌, arith}
 use Rattle.std.specs.Prelude.{if◌then◌else◌}
 use Rattle.std.proofs.Math.Nat.{suc-mul}
-use Rattle.std.proofs.lemmas.List.{append-nil, append_assoc, length-append, length-take-le}
+use Rattle.std.proofs.lemmas.List.{append-nil, length-append, length-take-le}
 use Rattle.std.proofs.lemmas.List.Elements.{All-head, All-tail, All-nil}
 use Rattle.m2v_port.specs.Ends.{Change, change}
 use Rattle.m2v_port.specs.Port.{IsAtEnd, Grows}
@@ -20,7 +20,7 @@ use Rattle.m2v_y4m.specs.Texts.{onward}
 use Rattle.m2v_y4m.specs.Header.{fault_at}
 use Rattle.m2v_y4m.specs.Frames.{Coming, nothing, with_front, broken, in_frame, at_line, in_steps, frames_from, frame_line, Begins, AreWhole, size_of, Y4m, EndsShort}
 use Rattle.m2v_y4m.specs.Sources.{Standing, most_ahead, Spot, spot, ReadOn, comes_of, OpensWith, IsOpen}
-use Rattle.m2v_y4m.specs.Answers.{most_frames, Gives, Unpacked, FramesRead, UnpackLost, UnpackCut, UnpackBroken, UnpackStops}
+use Rattle.m2v_y4m.specs.Answers.{most_frames, Unpacked, FramesRead, UnpackLost, UnpackCut, UnpackBroken, UnpackStops}
 use Rattle.m2v_y4m.specs.Reading.{Gave, comes_at}
 use Rattle.m2v_y4m.specs.Giving.{AllGiven, GivenLost, GivenCut, GivingStops}
 use Rattle.m2v_y4m.proofs.Spots.{gave_by, taken_on, taken_gives}
