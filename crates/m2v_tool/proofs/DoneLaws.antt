@@ -2,7 +2,6 @@
 use Rattle.std.proofs.Common.{◌≡◌, inl, inr, ℕ, suc, refl, sym, ◌∙◌, arith, subst}
 use Rattle.std.specs.Prelude.{◌==◌, if◌then◌else◌}
 use Rattle.std.proofs.lemmas.Bool.{cases_Bool, cond-true, cond-false, eq-eqb}
-use Rattle.m2v_port.specs.Ends.{Change}
 use Rattle.m2v_port.specs.Port.{Grows}
 use Rattle.m2v_port.specs.declared.error.PortError.{PortError}
 use Rattle.m2v_port.specs.declared.error.PortError.TheVariants as calls
@@ -22,7 +21,6 @@ use Rattle.m2v_cut.specs.declared.answer.CutError.{CutError}
 use Rattle.m2v_cut.specs.declared.answer.CutError.TheVariants as cut_errors
 use Rattle.m2v_make.specs.m2v_encode.declared.answer.EncodeError.{EncodeError}
 use Rattle.m2v_make.specs.m2v_encode.declared.answer.EncodeError.TheVariants as errors
-use Rattle.m2v_make.specs.m2v_check.declared.verdict.Verdict.{Verdict}
 use Rattle.m2v_make.specs.m2v_check.declared.verdict.Verdict.TheVariants as verdicts
 use Rattle.m2v_vbv.specs.declared.fault.AccountFault.{AccountFault}
 use Rattle.m2v_vbv.specs.declared.fault.AccountFault.TheVariants.{Under, Over}
@@ -49,8 +47,7 @@ use Rattle.m2v_tool.specs.declared.unpack.UnpackOutcome.{UnpackOutcome}
 use Rattle.m2v_tool.specs.declared.unpack.UnpackOutcome.TheVariants as unpacks
 use Rattle.m2v_tool.specs.declared.encode_y4m.Y4mOutcome.{Y4mOutcome}
 use Rattle.m2v_tool.specs.declared.encode_y4m.Y4mOutcome.TheVariants as texts
-use Rattle.m2v_tool.specs.Endings.{Ending, Success, line_of, status_unreported, Told, whole, cut, unfit_ending, ending_past, stream_fault}
-use Rattle.m2v_model.specs.Pieces.{too_long, too_large}
+use Rattle.m2v_tool.specs.Endings.{Ending, Success, line_of, Told, whole, cut, unfit_ending, ending_past, stream_fault}
 use Rattle.m2v_tool.specs.EncodeWords.{Meant}
 use Rattle.m2v_tool.specs.Coding.{FlatDone, FlatComes, coding_stopped, flat_ending, flat_coded_ending}
 use Rattle.m2v_tool.specs.Encoding.{EncodeDone, EncodeComes, encoding_stopped, unopened_ending, encoded_ending, encode_ending}
@@ -236,7 +233,7 @@ unfolding Y4mComes EncodeComes y4m_ending encode_ending unfit_ending y4m_fault
 text_done r m (texts.Unread e) c t none = refused (unread_ending e) r t (unread_stops e) none
 text_done r m (texts.Encoded (encodes.Coded s)) c t none = record {
   outcome = s;
-  is = record { behind = c.behind; done = c.comes };
+  is = record { behind = c.behind; end = c.behind.end c.comes.coded.end; done = c.comes };
   line = line (encoded_ending s) r t none;
 }
 text_done r m (texts.Encoded (encodes.Unfit u)) c t none = refused (unfit_ending u) r t (2, refl) none

@@ -1,13 +1,12 @@
 -- What follows from what `encode-y4m` did and what was told of it.
 use Rattle.std.proofs.Common.{◌≡◌, ◌⊎◌, inl, inr, ℕ, zero, suc, ◌+◌, ◌*◌, ◌<◌, ◌≤◌, All, List, [], ◌∷◌, ◌++◌, length, drop, Option, Some, None, IfSome, Ok, Err, refl, sym, ap, ap₂, subst, ◌∙◌, arith, length-append}
 use Rattle.std.specs.Option.{option_map}
-use Rattle.std.specs.Prelude.{⊤}
 use Rattle.std.proofs.lemmas.List.{append-nil}
 use Rattle.std.proofs.lemmas.List.Elements.{All-drop}
 use Rattle.std.proofs.lemmas.Bool.{cases_lt}
 use Rattle.std.proofs.Math.Nat.{suc-mul, mul-le-mul_left, mul-le-mul_right}
 use Rattle.m2v_port.specs.Ends.{Change, change}
-use Rattle.m2v_port.specs.Port.{Moves, Rose}
+use Rattle.m2v_port.specs.Port.{Moves, Rose, IsAtEnd}
 use Rattle.m2v_port.specs.declared.error.PortError.{PortError}
 use Rattle.m2v_port.specs.declared.error.PortError.TheVariants as calls
 use Rattle.m2v_port.proofs.Runs.{tells, rose_since}
@@ -28,9 +27,10 @@ use Rattle.m2v_y4m.specs.declared.header.Y4mHeader.{Y4mHeader}
 use Rattle.m2v_y4m.specs.Header.{opening}
 use Rattle.m2v_y4m.specs.Frames.{Coming, Begins, size_of}
 use Rattle.m2v_y4m.specs.Rules.{IsHeader}
-use Rattle.m2v_y4m.specs.Sources.{Standing, Reading, IsOpen, OpensWith, left_of, mark, marked, told_left, coming, coming_at, unless_broken}
+use Rattle.m2v_y4m.specs.Sources.{Standing, Reading, IsOpen, OpensWith, left_of, mark, marked, told_left, most_ahead, TookText, coming, coming_at, unless_broken}
 use Rattle.m2v_y4m.specs.Answers.{OpenStops}
 use Rattle.m2v_y4m.proofs.Comings.{one_beginning, whole_before, comes_all, no_byte, one_mark}
+use Rattle.m2v_y4m.proofs.Overs.{over_behind}
 use Rattle.m2v_tool.specs.declared.encode.EncodeOutcome.{EncodeOutcome}
 use Rattle.m2v_tool.specs.declared.encode.EncodeOutcome.TheVariants.{Coded, Unfit as NotFit, Unopened, Stopped}
 use Rattle.m2v_tool.specs.declared.encode_y4m.Y4mOutcome.{Y4mOutcome}
@@ -433,14 +433,14 @@ module _ (r : Run) (m : Meant) where
 
 -- ---- the frames as they were read
 
--- What was done to the frames, told by another count of faults and with another word for what is unchanged, neither of
--- which stands in what came, but where reading failed.
-module _ (x y : Option (List ℕ)) (F G U : Type 0) (output recon : Change) where
+-- What was done to the frames, told by another count of faults, which stands in what came only where reading failed, and with
+-- another word for what is unchanged, which follows from the first one.
+module _ (x y : Option (List ℕ)) (F G U V : Type 0) (output recon : Change) where
   abbrev by_source : Change
   by_source = record { old = x; new = y; Failed = F; Unchanged = U }
 
   abbrev by_text : Change
-  by_text = record { old = x; new = y; Failed = G; Unchanged = ⊤ }
+  by_text = record { old = x; new = y; Failed = G; Unchanged = V }
 
   unended_read : (s : Settings) (frames : List (List ℕ)) (part : List ℕ) → Unended s by_source output recon frames part → Unended s by_text output recon frames part
   unended_read s frames part u = record { most = u.most; whole = u.whole; moved = u.moved; grown = u.grown; shown = u.shown; unwritten = u.unwritten }
@@ -500,33 +500,33 @@ module _ (x y : Option (List ℕ)) (F G U : Type 0) (output recon : Change) wher
     headline = a.headline;
   }
 
-module _ (x y : Option (List ℕ)) (F G U : Type 0) (output recon : Change) (place : Place) where
+module _ (x y : Option (List ℕ)) (F G U V : Type 0) (output recon : Change) (place : Place) where
   abbrev work_by_source : Work
-  work_by_source = record { input = by_source x y F G U output recon; output = output; recon = recon; place = place }
+  work_by_source = record { input = by_source x y F G U V output recon; output = output; recon = recon; place = place }
 
   abbrev work_by_text : Work
-  work_by_text = record { input = by_text x y F G U output recon; output = output; recon = recon; place = place }
+  work_by_text = record { input = by_text x y F G U V output recon; output = output; recon = recon; place = place }
 
-  shut_read : (e : PortError) → Shut e work_by_source → Shut e work_by_text
-  shut_read calls.Failed c = (c.0, c.1, c.2, tt, c.4)
-  shut_read calls.Memory c = (c.0, c.1, tt, c.3)
+  shut_read : (e : PortError) → (U → V) → Shut e work_by_source → Shut e work_by_text
+  shut_read calls.Failed same c = (c.0, c.1, c.2, same c.3, c.4)
+  shut_read calls.Memory same c = (c.0, c.1, same c.2, c.3)
 
   stands_read : (o : Option (List ℕ)) → Stands o work_by_source → Stands o work_by_text
   stands_read (Some name) c = c
   stands_read None c = c
 
-  pub comes_read : (m : Meant) (o : EncodeOutcome) → (o ≡ Stopped errors.Read → F → G) → EncodeComes m work_by_source o → EncodeComes m work_by_text o
+  pub comes_read : (m : Meant) (o : EncodeOutcome) → (o ≡ Stopped errors.Read → F → G) → (U → V) → EncodeComes m work_by_source o → EncodeComes m work_by_text o
   unfolding EncodeComes
-  comes_read m (Coded s) failed c = record {
+  comes_read m (Coded s) failed same c = record {
     passes = c.passes;
-    coded = coded_read x y F G U output (recon_by m.recon recon) m.settings s c.coded;
+    coded = coded_read x y F G U V output (recon_by m.recon recon) m.settings s c.coded;
     stands = stands_read m.recon c.stands;
   }
-  comes_read m (NotFit u) failed c = (c.0, tt, c.2, c.3)
-  comes_read m (Unopened e) failed c = record { passes = c.passes; named = c.named; shut = shut_read e c.shut }
-  comes_read m (Stopped e) failed c = record {
+  comes_read m (NotFit u) failed same c = (c.0, same c.1, c.2, c.3)
+  comes_read m (Unopened e) failed same c = record { passes = c.passes; named = c.named; shut = shut_read e same c.shut }
+  comes_read m (Stopped e) failed same c = record {
     passes = c.passes;
-    stops = stops_read x y F G U output (recon_by m.recon recon) m.settings e (λ is. failed (ap Stopped is)) c.stops;
+    stops = stops_read x y F G U V output (recon_by m.recon recon) m.settings e (λ is. failed (ap Stopped is)) c.stops;
     stands = stands_read m.recon c.stands;
   }
 
@@ -535,7 +535,7 @@ module _ (x y : Option (List ℕ)) (F G U : Type 0) (output recon : Change) (pla
   unfolding EncodeComes Stops
   broken_read m f left c = record {
     passes = c.passes;
-    inside = inside_read x y F G U output (recon_by m.recon recon) m.settings c.stops.1;
+    inside = inside_read x y F G U V output (recon_by m.recon recon) m.settings c.stops.1;
     stands = stands_read m.recon c.stands;
     left = left;
   }
@@ -611,11 +611,12 @@ module _ {S : Type 0} (left : S → Option (List ℕ)) (faults : S → ℕ) (Sam
   known = record { input = read_behind left faults a.at before b.at after; output = output; recon = recon; place = place }
 
   -- What came of the source came of the frames, where reading didn't fail or no fault was found.
-  pub encoded_read : (o : EncodeOutcome) → a.failed ≡ 0 → (o ≡ Stopped errors.Read → b.failed ≡ 0) → EncodeComes m given o → FramesCome m known (Encoded o)
+  pub encoded_read : (o : EncodeOutcome) → a.failed ≡ 0 → (o ≡ Stopped errors.Read → b.failed ≡ 0) → (Same → (b.at ≡ a.at) × (left after ≡ left before))
+      → EncodeComes m given o → FramesCome m known (Encoded o)
   unfolding FramesCome
-  encoded_read o none behind c =
-      comes_read (told_left a.at (left before)) (told_left b.at (left after)) (Rose (faults before + a.failed) (faults after + b.failed)) (Rose (faults before) (faults after)) Same
-      output recon place m o (λ is rose. unfailed_rose (faults before) (faults after) a.failed b.failed none (behind is) rose) c
+  encoded_read o none behind same c =
+      comes_read (told_left a.at (left before)) (told_left b.at (left after)) (Rose (faults before + a.failed) (faults after + b.failed)) (Rose (faults before) (faults after)) Same ((b.at ≡ a.at) × (left after ≡ left before))
+      output recon place m o (λ is rose. unfailed_rose (faults before) (faults after) a.failed b.failed none (behind is) rose) same c
 
   -- Nothing is left of a source that found a fault but the fault's mark.
   pub mark_left : (o : Option (List ℕ)) (f : Y4mFault) → b.at.fault ≡ Some f → IfSome (told_left b.at o) (λ rest. rest ≡ mark f ∷ [])
@@ -626,7 +627,7 @@ module _ {S : Type 0} (left : S → Option (List ℕ)) (faults : S → ℕ) (Sam
   pub broken_read_off : (f : Y4mFault) (o : EncodeOutcome) → b.at.fault ≡ Some f → o ≡ Stopped errors.Read → EncodeComes m given o → FramesCome m known (Broken f)
   unfolding FramesCome
   broken_read_off f o is stopped c =
-      broken_read (told_left a.at (left before)) (told_left b.at (left after)) (Rose (faults before + a.failed) (faults after + b.failed)) (Rose (faults before) (faults after)) Same
+      broken_read (told_left a.at (left before)) (told_left b.at (left after)) (Rose (faults before + a.failed) (faults after + b.failed)) (Rose (faults before) (faults after)) Same ((b.at ≡ a.at) × (left after ≡ left before))
       output recon place m f (mark_left (left after) f is) (subst (λ (x : EncodeOutcome). EncodeComes m given x) stopped c)
 
 -- ---- the text as it was read
@@ -640,16 +641,17 @@ opens_text None left s o = tt
 opens_text (Some text) left s o = (o.coming, o.begins, ap (option_map left_of) o.comes)
 
 -- What came of the frames behind the header line came of the text, which failed where they did.
-module _ (i n x y : Option (List ℕ)) (F G U : Type 0) (output recon : Change) (place : Place) (m : Meant) (h : Y4mHeader) where
+module _ (i n x y : Option (List ℕ)) (F G U W : Type 0) (output recon : Change) (place : Place) (m : Meant) (h : Y4mHeader) where
   abbrev text_work : Work
   text_work = record { input = record { old = i; new = n; Failed = G; Unchanged = U }; output = output; recon = recon; place = place }
 
   abbrev its_frames : Work
-  its_frames = record { input = record { old = x; new = y; Failed = F; Unchanged = ⊤ }; output = output; recon = recon; place = place }
+  its_frames = record { input = record { old = x; new = y; Failed = F; Unchanged = W }; output = output; recon = recon; place = place }
 
-  module _ (failed : F → G) (header : IsHeader h) (opens : IfSome i (Opens h x)) where
+  module _ (failed : F → G) (header : IsHeader h) (opens : IfSome i (Opens h x)) (now : Standing) (ahead : length now.unread ≤ most_ahead) (is_left : y ≡ told_left now n)
+      (end : IsAtEnd y → IsAtEnd n) (unread : W → TookText i [] now n) where
     abbrev behind_text : Behind text_work.input
-    behind_text = record { header = h; within = header; old = x; new = y; text = opens }
+    behind_text = record { header = h; within = header; old = x; new = y; text = opens; now = now; ahead = ahead; left = is_left; end = end }
 
     text_stands : (o : Option (List ℕ)) → Stands o its_frames → Stands o text_work
     text_stands (Some name) c = c
@@ -665,12 +667,12 @@ module _ (i n x y : Option (List ℕ)) (F G U : Type 0) (output recon : Change) 
     text_comes (Unread e) c = absurd c
     text_comes (Encoded o) c = record {
       behind = behind_text;
-      comes = comes_read x y F G ⊤ output recon place (with_header h m) o (λ is. failed) c;
+      comes = comes_read x y F G W (TookText i [] now n) output recon place (with_header h m) o (λ is. failed) unread c;
     }
     text_comes (Broken f) c = record {
       behind = behind_text;
       passes = c.passes;
-      inside = inside_read x y F G ⊤ output (recon_by m.recon recon) (with_header h m).settings c.inside;
+      inside = inside_read x y F G W (TookText i [] now n) output (recon_by m.recon recon) (with_header h m).settings c.inside;
       stands = text_stands m.recon c.stands;
       first = first_of i (raw c.inside.frames ++ c.inside.part) f opens c.inside.begun.moved c.left;
     }
@@ -678,10 +680,20 @@ module _ (i n x y : Option (List ℕ)) (F G U : Type 0) (output recon : Change) 
 -- the same by the states of the input: before the header line was read, behind it, and behind the frames
 pub text_answer : {S : Type 0} (left : S → Option (List ℕ)) (faults : S → ℕ) (first before after last : S) (at now : Standing) (output recon : Change) (place : Place) (m w : Meant) (h : Y4mHeader) (o : Y4mOutcome)
     → last ≡ after → h ≡ at.header → w ≡ with_header h m → IsHeader at.header → IsOpen (left first) at (left before) → faults first ≤ faults before
+    → IsHeader now.header → length now.unread ≤ most_ahead
     → FramesCome w (record { input = read_behind left faults at before now after; output = output; recon = recon; place = place }) o
     → Y4mComes m (record { input = change left faults first last; output = output; recon = recon; place = place }) o
-text_answer left faults first before after last at now output recon place m w h o same says meant header opens less comes =
-    text_comes (left first) (left last) (told_left at (left before)) (told_left now (left after)) (Rose (faults before) (faults after)) (Rose (faults first) (faults last)) (last ≡ first)
+text_answer left faults first before after last at now output recon place m w h o same says meant header opens less sound ahead comes =
+    text_comes (left first) (left last) (told_left at (left before)) (told_left now (left after)) (Rose (faults before) (faults after)) (Rose (faults first) (faults last)) (last ≡ first) ((now ≡ at) × (left after ≡ left before))
     output recon place m h (λ rose. subst (λ (n : ℕ). Rose (faults first) n) (sym (ap faults same)) (rose_since less rose)) (subst IsHeader (sym says) header)
-    (subst (λ (x : Y4mHeader). IfSome (left first) (Opens x (told_left at (left before)))) (sym says) (opens_text (left first) (left before) at opens.opens)) o
+    (subst (λ (x : Y4mHeader). IfSome (left first) (Opens x (told_left at (left before)))) (sym says) (opens_text (left first) (left before) at opens.opens))
+    now ahead (sym is_last) (λ end. over_behind now (left last) sound (subst IsAtEnd (sym is_last) end)) unread o
     (subst (λ (x : Meant). FramesCome x (record { input = read_behind left faults at before now after; output = output; recon = recon; place = place }) o) meant comes)
+  where
+    is_last : told_left now (left last) ≡ told_left now (left after)
+    is_last = ap (λ s. told_left now (left s)) same
+
+    unread : (now ≡ at) × (left after ≡ left before) → TookText (left first) [] now (left last)
+    unread is =
+        subst (λ (l : Option (List ℕ)). TookText (left first) [] now l) (sym (ap left same ∙ is.1))
+        (subst (λ (s : Standing). TookText (left first) [] s (left before)) (sym is.0) opens.took)

@@ -1,7 +1,7 @@
 -- What `encode-y4m` does: which outcome comes, what stands in input, output and recon then, and what is answered to a text.
-use Rattle.std.specs.Prelude.{ℕ, ◌≡◌, ◌*◌, ◌<◌, ◌≤◌, ⊤, All, List, [], ◌∷◌, ◌++◌, length, Option, Some, None, IfSome, Err}
+use Rattle.std.specs.Prelude.{ℕ, ◌≡◌, ◌*◌, ◌<◌, ◌≤◌, All, List, [], ◌∷◌, ◌++◌, length, Option, Some, None, IfSome, Err}
 use Rattle.m2v_port.specs.Ends.{Change, Tells}
-use Rattle.m2v_port.specs.Port.{Rose}
+use Rattle.m2v_port.specs.Port.{Rose, IsAtEnd}
 use Rattle.m2v_plane.specs.Raw.{raw}
 use Rattle.m2v_set.specs.Rules.{Passes}
 use Rattle.m2v_make.specs.m2v_encode.declared.answer.Summary.{Summary}
@@ -13,7 +13,7 @@ use Rattle.m2v_y4m.specs.declared.header.Y4mHeader.{Y4mHeader}
 use Rattle.m2v_y4m.specs.Rules.{IsHeader}
 use Rattle.m2v_y4m.specs.Header.{opening}
 use Rattle.m2v_y4m.specs.Frames.{Coming, Begins}
-use Rattle.m2v_y4m.specs.Sources.{Standing, left_of, mark, told_left}
+use Rattle.m2v_y4m.specs.Sources.{Standing, left_of, mark, told_left, most_ahead, TookText}
 use Rattle.m2v_y4m.specs.Answers.{OpenStops}
 use Rattle.m2v_tool.specs.declared.encode.EncodeOutcome.{EncodeOutcome}
 use Rattle.m2v_tool.specs.declared.encode_y4m.Y4mOutcome.{Y4mOutcome}
@@ -28,7 +28,9 @@ use Rattle.m2v_tool.specs.Runs.{Run, Work, work_of, Yields, NoneFailed, Succeeds
 
 -- ---- what was read
 
--- The header line was read; what was left behind it as raw bytes and the mark of a fault, and what is left of that now.
+-- The header line was read; what was left behind it as raw bytes and the mark of a fault, and what is left of that now: what
+-- comes, by where reading stands, of the bytes that were read ahead and of those that input still has. It is nothing only
+-- where input has nothing left.
 pub record Behind (input : Change) : Type 0 where
   pub header : Y4mHeader
   pub within : IsHeader header
@@ -36,11 +38,20 @@ pub record Behind (input : Change) : Type 0 where
   pub new : Option (List ℕ)
   pub text : Tells input (λ text.
       (coming : Coming) × Begins text header coming × (old ≡ Some (left_of coming)))
+  pub now : Standing
+  pub ahead : length now.unread ≤ most_ahead
+  pub left : new ≡ told_left now input.new
+  pub end : IsAtEnd new → IsAtEnd input.new
 
--- what was done to the frames behind the header line: they failed where input did
+-- what was done to the frames behind the header line: they failed where input did, and count as they were where of input
+-- nothing was taken but the header line and what was read ahead
 abbrev pub frames_change : (input : Change) → Behind input → Change
-frames_change input b =
-    record { old = b.old; new = b.new; Failed = input.Failed; Unchanged = ⊤ }
+frames_change input b = record {
+  old = b.old;
+  new = b.new;
+  Failed = input.Failed;
+  Unchanged = TookText input.old [] b.now input.new;
+}
 
 -- what was done, where these frames are the input
 abbrev pub frames_work : (k : Work) → Behind k.input → Work
@@ -58,9 +69,10 @@ pub record TextEncoded (m : Meant) (k : Work) (o : EncodeOutcome) : Type 0 where
   pub behind : Behind k.input
   pub comes : EncodeComes (with_header behind.header m) (frames_work k behind) o
 
--- The header line was read, and with its numbers in the settings the frames behind it were coded.
+-- The header line was read, and with its numbers in the settings the frames behind it were coded, to the end of input.
 pub record TextDone (m : Meant) (k : Work) (summary : Summary) : Type 0 where
   pub behind : Behind k.input
+  pub end : IsAtEnd k.input.new
   pub done : EncodeDone (with_header behind.header m) (frames_work k behind) summary
 
 -- The settings with the header's numbers pass, and coding stopped at the text's first fault, behind these raw bytes.
@@ -98,7 +110,7 @@ read_behind left faults at before now after = record {
   old = told_left at (left before);
   new = told_left now (left after);
   Failed = Rose (faults before) (faults after);
-  Unchanged = ⊤;
+  Unchanged = (now ≡ at) × (left after ≡ left before);
 }
 
 -- ---- statuses and lines

@@ -1,6 +1,8 @@
-ghost use Rattle.std.specs.Prelude.{◌≡◌, ◌≤◌, map, option_map, string_bytes, IfOk, IsTrue, IsFalse};
+ghost use Rattle.std.specs.Prelude.{◌≡◌, ◌≤◌, length, map, option_map, string_bytes, IfOk, IsTrue, IsFalse};
 ghost use Rattle.clap.specs.Simple.{app_of};
 ghost use Rattle.m2v_port.specs.Ends.{change, SinkStays};
+ghost use Rattle.m2v_y4m.specs.Rules.{IsHeader};
+ghost use Rattle.m2v_y4m.specs.Sources.{most_ahead};
 ghost use Rattle.m2v_tool.specs.Endings.{IsReport};
 ghost use Rattle.m2v_tool.specs.EncodeWords.{words_of};
 ghost use Rattle.m2v_tool.specs.Y4mWords.{with_header, y4m_app, y4m_meant};
@@ -135,8 +137,12 @@ fn coded_behind<R: Threads + Wait + Sync, S: Source, K: Sink, N: NamedSink, G: G
     ensures output { SinkStays K.ready K.name K.faults output.old output.new }
     ensures input { S.faults source.old.inner ≤ S.faults source.new.inner }
     ensures lenders { S.lenders source.new.inner ≡ S.lenders source.old.inner }
+    ensures header { IsHeader source.new.text.at.header }
+    ensures ahead { length source.new.text.at.unread ≤ most_ahead }
 {
     let outcome = encoded(rt, alloc, meant, source, output, recon, gate);
+    // it tells contracts how much was read ahead at most
+    let _header = source.header();
     if !stopped_reading(&outcome) {
         return Y4mOutcome::Encoded(outcome);
     }

@@ -155,18 +155,18 @@ module _ (left held : Change) (text : List ℕ) (told : left.old ≡ Some text) 
   many_answered : UnpackWentOn left held → IsAnswered left held (Err errors.TooManyFrames) text
   unfolding Hindered
   many_answered v =
-      let y = told_of left (λ t. Gives t v.header (raw v.frames ++ v.next ∷ [])) text told v.text in
+      let y = told_of left (λ t. Gives t v.at.header (raw v.frames ++ v.next ∷ [])) text told v.text in
       record {
-        frames = λ h fs z few. not_many text h v.header fs v.frames v.next None z.whole few z.begins y v.whole v.all;
-        short = λ h fs extra z few. absurd (short_not_many text h v.header fs v.frames extra v.next z few y v.whole v.all);
+        frames = λ h fs z few. not_many text h v.at.header fs v.frames v.next None z.whole few z.begins y v.whole v.all;
+        short = λ h fs extra z few. absurd (short_not_many text h v.at.header fs v.frames extra v.next z few y v.whole v.all);
         many = λ h fs next z are all. inl refl;
-        header = λ fault is. absurd (unopened text v.header y.coming fault y.begins is);
-        fault = λ h fs fault are z few. absurd (not_many text h v.header fs v.frames v.next (Some fault) are few z y v.whole v.all);
+        header = λ fault is. absurd (unopened text v.at.header y.coming fault y.begins is);
+        fault = λ h fs fault are z few. absurd (not_many text h v.at.header fs v.frames v.next (Some fault) are few z y v.whole v.all);
       }
 
   broken_answered : (f : Y4mFault) → UnpackBroken left held f → IsAnswered left held (Err (errors.Y4m f)) text
   unfolding Hindered
-  broken_answered f (UnpackBroken.in_header said same) =
+  broken_answered f (UnpackBroken.in_header said took same) =
       let y = told_of left (λ t. opening t ≡ Err f) text told said in
       record {
         frames = λ h fs z few. unopened text h _ f z.begins y;

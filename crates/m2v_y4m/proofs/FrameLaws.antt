@@ -8,7 +8,7 @@ use Rattle.m2v_y4m.specs.declared.answer.Y4mKind.{Y4mKind}
 use Rattle.m2v_y4m.specs.declared.answer.Y4mKind.TheVariants.{Frame}
 use Rattle.m2v_y4m.specs.Texts.{line_length, begins, onward}
 use Rattle.m2v_y4m.specs.Header.{fault_at}
-use Rattle.m2v_y4m.specs.Frames.{Coming, nothing, broken, in_frame, frame_line, frame_line_at, frame_word, at_line, in_steps, frames_from}
+use Rattle.m2v_y4m.specs.Frames.{Coming, nothing, broken, with_front, in_frame, frame_line, frame_line_at, frame_word, at_line, in_steps, frames_from}
 use Rattle.m2v_y4m.specs.Sources.{coming_at}
 
 -- ---- lines
@@ -104,10 +104,6 @@ coming_ended size line rest place less = by_rest (rest == 0) refl
         let other : (rest == size) ≡ false = grind (arith, nat_tests) in
         let more : nat_lt 0 rest ≡ true = grind (arith, nat_tests) in
         rw (is, other, more) refl
-
--- behind some bytes of a frame
-abbrev pub with_front : List ℕ → Coming → Coming
-with_front bytes c = record { raw = bytes ++ c.raw; fault = c.fault }
 
 and_false : (b : Bool) → (b && false) ≡ false
 and_false true = refl

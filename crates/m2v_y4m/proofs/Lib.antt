@@ -4,6 +4,8 @@ mod FrameLaws
 mod LineLaws
 mod SizeLaws
 mod Steps
+pub mod Spots
+pub mod Overs
 mod WordLaws
 mod Packs
 mod Unpacks

@@ -1,8 +1,7 @@
 -- What the steps of reading a text do to what comes of it.
-use Rattle.std.proofs.Common.{◌≡◌, ◌⊎◌, inl, inr, ℕ, ◌+◌, ◌-◌, ◌<◌, ◌≤◌, List, [], ◌∷◌, ◌++◌, length, take, drop, refl, sym, ◌∙◌, ap, arith, Option, Some, None, IfSome, Result, Ok, Err, OnOk, OnErr, IfOk, subst, append_assoc, length-append}
+use Rattle.std.proofs.Common.{◌≡◌, ◌⊎◌, inl, inr, ℕ, ◌-◌, ◌<◌, ◌≤◌, List, [], ◌∷◌, ◌++◌, length, take, drop, refl, sym, ◌∙◌, ap, arith, Option, Some, None, IfSome, Result, Ok, Err, OnOk, OnErr, IfOk, subst, append_assoc, length-append}
 use Rattle.std.specs.Prelude.{option_map}
-use Rattle.std.proofs.lemmas.List.{drop-append-le, take-append-le, length-take-le}
-use Rattle.std.proofs.Math.Seq.{take-append-add}
+use Rattle.std.proofs.lemmas.List.{drop-append-le, take-append-le}
 use Rattle.m2v_port.specs.Port.{Moves, IsAtEnd}
 use Rattle.m2v_y4m.specs.declared.answer.Y4mFault.{Y4mFault}
 use Rattle.m2v_y4m.specs.declared.answer.Y4mKind.{Y4mKind}
@@ -10,11 +9,11 @@ use Rattle.m2v_y4m.specs.declared.answer.Y4mKind.TheVariants.{Frame}
 use Rattle.m2v_y4m.specs.declared.header.Y4mHeader.{Y4mHeader}
 use Rattle.m2v_y4m.specs.Texts.{onward}
 use Rattle.m2v_y4m.specs.Header.{fault_at, opening}
-use Rattle.m2v_y4m.specs.Frames.{Coming, nothing, frame_line, frames_from, size_of}
-use Rattle.m2v_y4m.specs.Sources.{Standing, coming_at, coming, comes_of, left_of, told_left, marked, Took, IsOpen, OpensWith}
+use Rattle.m2v_y4m.specs.Frames.{Coming, nothing, with_front, frame_line, frames_from, size_of}
+use Rattle.m2v_y4m.specs.Sources.{Standing, coming_at, coming, comes_of, left_of, told_left, marked, most_ahead, Took, OpensWith}
 use Rattle.m2v_y4m.specs.Reading.{Held, Gave, IsOver, IsBroken, TookLine, BrokeLine}
 use Rattle.m2v_y4m.proofs.LineLaws.{Seen, frame_line_seen, opening_seen, opening_seen, take_all, drop_all}
-use Rattle.m2v_y4m.proofs.FrameLaws.{with_front, from_none, coming_broken, coming_line, coming_unbegun, coming_ended, coming_on, at_edge}
+use Rattle.m2v_y4m.proofs.FrameLaws.{from_none, coming_broken, coming_line, coming_unbegun, coming_ended, coming_on, at_edge}
 
 -- what stands of a text that isn't broken
 abbrev pub standing : Y4mHeader → ℕ → ℕ → ℕ → List ℕ → Standing
@@ -215,8 +214,8 @@ looked s was u left left_then is held =
 
 -- ---- opening
 
-pub took_held : (left left_then : Option (List ℕ)) (u : List ℕ) → Held [] left u left_then → Took left left_then
-took_held left left_then u held = record { bytes = held.bytes; moved = held.moved }
+pub took_held : (left left_then : Option (List ℕ)) (u : List ℕ) → length u ≤ most_ahead → Held [] left u left_then → Took left left_then
+took_held left left_then u few held = record { bytes = held.bytes; few = omega (arith, few, ap length held.grown); moved = held.moved }
 
 -- what the text is, where it is told
 told_text : (left left_then : Option (List ℕ)) (u : List ℕ) (Holds : List ℕ → Type 0) → Held [] left u left_then
@@ -230,26 +229,23 @@ told_text left left_then u Holds held each = subst (λ o. IfSome o Holds) (sym w
     by_case None is = tt
     by_case (Some r) is = each r is
 
-comes_behind : (s : Standing) (u r : List ℕ) → s.unread ≡ drop s.place u → s.place ≤ length u → s.rest ≡ 0 → s.fault ≡ None
+pub comes_behind : (s : Standing) (u r : List ℕ) → s.unread ≡ drop s.place u → s.place ≤ length u → s.rest ≡ 0 → s.fault ≡ None
     → coming s r ≡ frames_from (size_of s.header) s.place (drop s.place (u ++ r))
 unfolding coming coming_at
 comes_behind s u r unread within edge none = rw (none, edge) (ap (frames_from (size_of s.header) s.place) (ap (λ l. l ++ r) unread ∙ sym (drop-append-le s.place u r within)))
 
-pub opened : (s : Standing) (u : List ℕ) (left left_then : Option (List ℕ)) → Held [] left u left_then → (length u < 1024 → IsAtEnd left_then)
+pub opened_text : (s : Standing) (u : List ℕ) (left left_then : Option (List ℕ)) → Held [] left u left_then → (length u < 1024 → IsAtEnd left_then)
     → opening u ≡ Ok (record { header = s.header; length = s.place }) → s.unread ≡ drop s.place u → s.place ≤ length u → s.rest ≡ 0 → s.fault ≡ None
-    → IsOpen left s left_then
-opened s u left left_then held all opens unread within edge none = record {
-  unbroken = none;
-  opens = told_text left left_then u (OpensWith s left_then) held (λ r told. record {
-    coming = coming s r;
-    begins = record {
-      length = s.place;
-      opens = opening_seen u r (seen_in u r left_then all told) ∙ opens;
-      comes = comes_behind s u r unread within edge none;
-    };
-    comes = ap (comes_of s) told;
-  });
-}
+    → IfSome left (OpensWith s left_then)
+opened_text s u left left_then held all opens unread within edge none = told_text left left_then u (OpensWith s left_then) held (λ r told. record {
+  coming = coming s r;
+  begins = record {
+    length = s.place;
+    opens = opening_seen u r (seen_in u r left_then all told) ∙ opens;
+    comes = comes_behind s u r unread within edge none;
+  };
+  comes = ap (comes_of s) told;
+})
 
 pub not_opened : (fault : Y4mFault) (u : List ℕ) (left left_then : Option (List ℕ)) → Held [] left u left_then → (length u < 1024 → IsAtEnd left_then)
     → opening u ≡ Err fault → IfSome left (λ text. opening text ≡ Err fault)
@@ -294,13 +290,3 @@ gave_on old between new xs ys first second = record { was = first.was ∙ ap (op
     joined : (o : Option Coming) → option_map (with_front xs) (option_map (with_front ys) o) ≡ option_map (with_front (xs ++ ys)) o
     joined None = refl
     joined (Some c) = ap (λ l. Some (record { raw = l; fault = c.fault })) (sym (append_assoc xs ys c.raw))
-
-take_into : (buf got rest : List ℕ) (filled n : ℕ) → filled ≤ length buf → n ≤ length got → take (filled + n) (take filled buf ++ (got ++ rest)) ≡ take filled buf ++ take n got
-take_into buf got rest filled n fits within =
-    let is : length (take filled buf) ≡ filled = length-take-le filled buf fits in
-    ap (λ k. take (k + n) (take filled buf ++ (got ++ rest))) (sym is) ∙ take-append-add (take filled buf) (got ++ rest) n ∙ ap (λ l. take filled buf ++ l) (take-append-le n got rest within)
-
-pub gave_into : (old between new : Option Coming) (buf got rest : List ℕ) (filled n : ℕ) → filled ≤ length buf → n ≤ length got
-    → Gave old (take filled buf) between → Gave between (take n got) new → Gave old (take (filled + n) (take filled buf ++ (got ++ rest))) new
-gave_into old between new buf got rest filled n fits within first second =
-    subst (λ l. Gave old l new) (sym (take_into buf got rest filled n fits within)) (gave_on old between new (take filled buf) (take n got) first second)

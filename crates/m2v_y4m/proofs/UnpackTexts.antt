@@ -2,11 +2,11 @@
 use Rattle.std.proofs.Common.{◌≡◌, ◌⊎◌, inl, inr, ℕ, zero, suc, ◌+◌, ◌*◌, ◌<◌, ◌≤◌, ◌==◌, ◌&&◌, Bool, true, false, nat_lt, List, [], ◌∷◌, ◌++◌, length, take, drop, Option, Some, None, IfSome, Result, Ok, Err, refl, sym, subst, ap, ap₂, ◌∙◌, arith}
 use Rattle.std.specs.Prelude.{if◌then◌else◌}
 use Rattle.std.proofs.Math.Nat.{suc-mul}
-use Rattle.std.proofs.lemmas.List.{append-nil, append_assoc, length-append, length-take-le}
-use Rattle.std.proofs.lemmas.List.Elements.{All-head, All-tail}
+use Rattle.std.proofs.lemmas.List.{append-nil, length-append, length-take-le}
+use Rattle.std.proofs.lemmas.List.Elements.{All-head, All-tail, All-nil}
 use Rattle.m2v_port.specs.Ends.{Change, change}
-use Rattle.m2v_port.specs.Port.{IsAtEnd}
-use Rattle.m2v_port.proofs.Runs.{rose_since}
+use Rattle.m2v_port.specs.Port.{IsAtEnd, Grows}
+use Rattle.m2v_port.proofs.Runs.{rose_since, grows_by_nothing}
 use Rattle.m2v_plane.specs.Raw.{raw}
 use Rattle.m2v_y4m.specs.declared.answer.Y4mFault.{Y4mFault}
 use Rattle.m2v_y4m.specs.declared.answer.Y4mKind.{Y4mKind}
@@ -18,12 +18,12 @@ use Rattle.std.proofs.lemmas.Bool.Decides.{nat_tests}
 use Rattle.m2v_y4m.specs.declared.answer.Y4mKind.TheVariants.{Frame}
 use Rattle.m2v_y4m.specs.Texts.{onward}
 use Rattle.m2v_y4m.specs.Header.{fault_at}
-use Rattle.m2v_y4m.specs.Frames.{Coming, nothing, broken, in_frame, at_line, in_steps, frames_from, frame_line, Begins, AreWhole, size_of, Y4m, EndsShort}
-use Rattle.m2v_y4m.specs.Sources.{Standing, comes_of, OpensWith}
-use Rattle.m2v_y4m.specs.Answers.{most_frames, Gives, Unpacked, UnpackedPart, UnpackBroken, UnpackStops}
-use Rattle.m2v_y4m.specs.Reading.{Gave}
-use Rattle.m2v_y4m.specs.Giving.{AllGiven, GivenPart, GivingStops}
-use Rattle.m2v_y4m.proofs.FrameLaws.{with_front}
+use Rattle.m2v_y4m.specs.Frames.{Coming, nothing, with_front, broken, in_frame, at_line, in_steps, frames_from, frame_line, Begins, AreWhole, size_of, Y4m, EndsShort}
+use Rattle.m2v_y4m.specs.Sources.{Standing, most_ahead, Spot, spot, ReadOn, comes_of, OpensWith, IsOpen}
+use Rattle.m2v_y4m.specs.Answers.{most_frames, Unpacked, FramesRead, UnpackLost, UnpackCut, UnpackBroken, UnpackStops}
+use Rattle.m2v_y4m.specs.Reading.{Gave, comes_at}
+use Rattle.m2v_y4m.specs.Giving.{AllGiven, GivenLost, GivenCut, GivingStops}
+use Rattle.m2v_y4m.proofs.Spots.{gave_by, taken_on, taken_gives}
 
 value : Option Coming → Coming
 value None = nothing
@@ -34,11 +34,6 @@ with_coming : (bytes : List ℕ) (c1 : Option Coming) (coming k : Coming) → Ga
 unfolding value
 with_coming bytes None coming k gave is = absurd (cc)
 with_coming bytes (Some c) coming k gave is = ap value gave.was ∙ ap (with_front bytes) is
-
-gives_first : (bytes : List ℕ) (c1 : Option Coming) (coming : Coming) → Gave (Some coming) bytes c1 → (rest : List ℕ) × (coming.raw ≡ bytes ++ rest)
-unfolding value
-gives_first bytes None coming gave = absurd (cc)
-gives_first bytes (Some c) coming gave = (c.raw, ap (λ o. (value o).raw) gave.was)
 
 -- what holds of a text by the header line that was read
 tells_with : (s : Standing) (left0 left1 : Option (List ℕ)) (Holds : List ℕ → Type 0) → IfSome left0 (OpensWith s left1)
@@ -54,11 +49,6 @@ module _ (s : Standing) (left0 left1 : Option (List ℕ)) (opens : IfSome left0 
   text_begins k over = tells_with s left0 left1 (λ text. Begins text s.header (with_front bytes k)) opens
       (λ text coming begins is. subst (λ c. Begins text s.header c) (with_coming bytes c1 coming k (gave_of coming is) over) begins)
 
-  pub text_gives : IfSome left0 (λ text. Gives text s.header bytes)
-  text_gives = tells_with s left0 left1 (λ text. Gives text s.header bytes) opens
-      (λ text coming begins is. let first = gives_first bytes c1 coming (gave_of coming is) in
-      record { coming = coming; rest = first.0; begins = begins; is = first.1 })
-
 if_told : (o : Option (List ℕ)) (P Q : List ℕ → Type 0) → ((t : List ℕ) → P t → Q t) → IfSome o P → IfSome o Q
 if_told None P Q weaker is = tt
 if_told (Some t) P Q weaker is = weaker t is
@@ -73,8 +63,8 @@ raw_size size h (f ∷ frames) is whole =
     let behind = raw_size size h frames is (All-tail P f frames whole) in
     rw (suc-mul (length frames) size) (omega (arith, length-append f (raw frames), behind, here, is))
 
-pub all_unpacked : (s : Standing) (left1 : Option (List ℕ)) (left left_then held : Change) (c1 : Option Coming) (number : ℕ) (summary : PackSummary)
-    → 1 ≤ size_of s.header → IfSome left.old (OpensWith s left1) → number ≤ most_frames → AllGiven s.header number (comes_of s left1) c1 left_then held → left_then.new ≡ left.new
+pub all_unpacked : (s : Standing) (left1 : Option (List ℕ)) (left left_then held : Change) (c1 : Spot) (number : ℕ) (summary : PackSummary)
+    → 1 ≤ size_of s.header → IfSome left.old (OpensWith s left1) → number ≤ most_frames → AllGiven s.header number (spot s left1) c1 left_then held → left_then.new ≡ left.new
     → summary ≡ record { frames = number; bytes = number * size_of s.header } → Unpacked left held summary
 all_unpacked s left1 left left_then held c1 number summary some opens small given same is =
     let so_far = given.given in
@@ -86,7 +76,7 @@ all_unpacked s left1 left left_then held c1 number summary some opens small give
       whole = so_far.whole;
       text = if_told left.old (λ t. Begins t s.header (with_front (raw so_far.frames) nothing)) (λ t. Y4m t s.header so_far.frames)
           (λ t begins. record { whole = so_far.whole; begins = subst (λ l. Begins t s.header (record { raw = l; fault = None })) (append-nil (raw so_far.frames)) begins })
-          (text_begins s left.old left1 opens c1 (raw so_far.frames) so_far.gave nothing given.over);
+          (text_begins s left.old left1 opens (comes_at c1) (raw so_far.frames) (gave_by (spot s left1) c1 (raw so_far.frames) so_far.read) nothing given.over);
       end = subst IsAtEnd same given.end;
       grown = so_far.grown;
       numbers = is ∙ ap₂ (λ n b. record { frames = n; bytes = b }) (sym so_far.count)
@@ -153,24 +143,55 @@ behind_frames text h frames part fault whole less begins =
         let none : part ≡ [] = no_bytes part (part_none (length frames) multiple.0 (length part) (size_of h) count less) in
         subst (λ l. Begins text h (record { raw = l; fault = Some fault })) (append-nil (raw frames ++ part) ∙ ap (λ l. raw frames ++ l) none ∙ append-nil (raw frames)) begins
 
-gives_less : (text : List ℕ) (h : Y4mHeader) (xs ys : List ℕ) → Gives text h (xs ++ ys) → Gives text h xs
-gives_less text h xs ys gives = record { coming = gives.coming; rest = ys ++ gives.rest; begins = gives.begins; is = gives.is ∙ append_assoc xs ys gives.rest }
+-- no frame was begun
+pub none_read : (left held : Change) (s : Standing) → 1 ≤ size_of s.header → IsOpen left.old s left.new → held.new ≡ held.old → UnpackLost left held
+none_read left held s some opens same = UnpackLost.opened s [] [] (record {
+  most = omega arith;
+  whole = All-nil (λ (x : List ℕ). length x ≡ size_of s.header);
+  less = some;
+  took = opens.took;
+  text = taken_gives left [] s opens.took;
+}) (subst (λ (o : Option (List ℕ)). Grows held.old [] o) (sym same) (grows_by_nothing held.old))
 
 module _ {S K : Type 0} (left : S → Option (List ℕ)) (input_faults : S → ℕ) (held : K → Option (List ℕ)) (output_faults : K → ℕ) where
-  part_unpacked : (s : Standing) (i0 i1 i2 : S) (o0 o1 : K) (c1 : Option Coming) → IfSome (left i0) (OpensWith s (left i1))
-      → GivenPart s.header (comes_of s (left i1)) c1 (change held output_faults o0 o1) → UnpackedPart (change left input_faults i0 i2) (change held output_faults o0 o1)
-  part_unpacked s i0 i1 i2 o0 o1 c1 opens given = UnpackedPart.opened s.header given.frames given.most given.whole
-      (if_told (left i0) (λ t. Gives t s.header (raw given.frames ++ given.part)) (λ t. Gives t s.header (raw given.frames)) (λ t. gives_less t s.header (raw given.frames) given.part)
-      (text_gives s (left i0) (left i1) opens c1 (raw given.frames ++ given.part) given.gave))
-      given.grown
+  frames_read : (s t : Standing) (i0 i1 i2 : S) (frames : List (List ℕ)) (part : List ℕ) → IsOpen (left i0) s (left i1) → length t.unread ≤ most_ahead
+      → length frames ≤ most_frames → AreWhole s.header frames → length part < size_of s.header → ReadOn (spot s (left i1)) (raw frames ++ part) (spot t (left i2))
+      → FramesRead (change left input_faults i0 i2) t frames part
+  frames_read s t i0 i1 i2 frames part opens few most whole less read =
+      let took = taken_on (left i0) s t (left i1) (left i2) [] (raw frames ++ part) opens.took read few in
+      record {
+        most = most;
+        whole = subst (λ (h : Y4mHeader). AreWhole h frames) (sym read.header) whole;
+        less = subst (λ (h : Y4mHeader). length part < size_of h) (sym read.header) less;
+        took = took;
+        text = taken_gives (change left input_faults i0 i2) (raw frames ++ part) t took;
+      }
 
-  pub unpack_stops : (s : Standing) (i0 i1 i2 : S) (o0 o1 : K) (c1 : Option Coming) (e : UnpackError) → IfSome (left i0) (OpensWith s (left i1)) → input_faults i0 ≤ input_faults i1
-      → GivingStops s.header (comes_of s (left i1)) c1 (change left input_faults i1 i2) (change held output_faults o0 o1) e
+  lost_read : (s t : Standing) (i0 i1 i2 : S) (o0 o1 : K) → IsOpen (left i0) s (left i1) → length t.unread ≤ most_ahead
+      → GivenLost s.header (spot s (left i1)) (spot t (left i2)) (change held output_faults o0 o1) → UnpackLost (change left input_faults i0 i2) (change held output_faults o0 o1)
+  lost_read s t i0 i1 i2 o0 o1 opens few lost = UnpackLost.opened t lost.frames lost.part
+      (frames_read s t i0 i1 i2 lost.frames lost.part opens few lost.most lost.before.whole lost.less lost.before.read) lost.before.grown
+
+  cut_read : (s t : Standing) (i0 i1 i2 : S) (o0 o1 : K) → 1 ≤ size_of s.header → IsOpen (left i0) s (left i1) → length t.unread ≤ most_ahead
+      → GivenCut s.header (spot s (left i1)) (spot t (left i2)) (change held output_faults o0 o1) → UnpackCut (change left input_faults i0 i2) (change held output_faults o0 o1)
+  cut_read s t i0 i1 i2 o0 o1 some opens few cut =
+      let all = subst (λ b. ReadOn (spot s (left i1)) b (spot t (left i2))) (sym (append-nil (raw cut.frames))) cut.read in
+      record {
+        at = t;
+        frames = cut.frames;
+        read = frames_read s t i0 i1 i2 cut.frames [] opens few cut.most cut.whole some all;
+        grown = cut.grown;
+        lacks = subst (λ (h : Y4mHeader). length cut.grown.rest ≤ size_of h) (sym cut.read.header) cut.lacks;
+      }
+
+  pub unpack_stops : (s t : Standing) (i0 i1 i2 : S) (o0 o1 : K) (e : UnpackError) → 1 ≤ size_of s.header → IsOpen (left i0) s (left i1) → length t.unread ≤ most_ahead
+      → input_faults i0 ≤ input_faults i1
+      → GivingStops s.header (spot s (left i1)) (spot t (left i2)) (change left input_faults i1 i2) (change held output_faults o0 o1) e
       → UnpackStops (change left input_faults i0 i2) (change held output_faults o0 o1) e
   unfolding GivingStops UnpackStops
-  unpack_stops s i0 i1 i2 o0 o1 c1 errors.Read opens reads g = (rose_since reads g.0, part_unpacked s i0 i1 i2 o0 o1 c1 opens g.1)
-  unpack_stops s i0 i1 i2 o0 o1 c1 errors.Write opens reads g = (g.0, part_unpacked s i0 i1 i2 o0 o1 c1 opens g.1)
-  unpack_stops s i0 i1 i2 o0 o1 c1 (errors.ShortFrame extra) opens reads g =
+  unpack_stops s t i0 i1 i2 o0 o1 errors.Read some opens few reads g = (rose_since reads g.0, lost_read s t i0 i1 i2 o0 o1 opens few g.1)
+  unpack_stops s t i0 i1 i2 o0 o1 errors.Write some opens few reads g = (g.0, cut_read s t i0 i1 i2 o0 o1 some opens few g.1)
+  unpack_stops s t i0 i1 i2 o0 o1 (errors.ShortFrame extra) some opens few reads g =
       let short = g.1 in
       record {
         header = s.header;
@@ -186,22 +207,27 @@ module _ {S K : Type 0} (left : S → Option (List ℕ)) (input_faults : S → �
               less = short.less;
               begins = subst (λ l. Begins t s.header (record { raw = l; fault = None })) (append-nil (raw short.frames ++ short.part)) begins;
             })
-            (text_begins s (left i0) (left i1) opens c1 (raw short.frames ++ short.part) short.before.gave nothing short.over);
+            (text_begins s (left i0) (left i1) opens.opens (comes_of t (left i2)) (raw short.frames ++ short.part)
+            (gave_by (spot s (left i1)) (spot t (left i2)) (raw short.frames ++ short.part) short.before.read) nothing short.over);
         end = g.0;
         grown = short.before.grown;
       }
-  unpack_stops s i0 i1 i2 o0 o1 c1 errors.TooManyFrames opens reads g = record {
-    header = s.header;
-    frames = g.frames;
-    next = g.next;
-    all = g.all;
-    whole = g.before.whole;
-    text = text_gives s (left i0) (left i1) opens c1 (raw g.frames ++ g.next ∷ []) g.before.gave;
-    grown = g.before.grown;
-  }
-  unpack_stops s i0 i1 i2 o0 o1 c1 (errors.Y4m fault) opens reads g = UnpackBroken.behind s.header g.frames g.most g.before.whole
+  unpack_stops s t i0 i1 i2 o0 o1 errors.TooManyFrames some opens few reads g =
+      let took = taken_on (left i0) s t (left i1) (left i2) [] (raw g.frames ++ g.next ∷ []) opens.took g.before.read few in
+      record {
+        at = t;
+        frames = g.frames;
+        next = g.next;
+        all = g.all;
+        whole = subst (λ (h : Y4mHeader). AreWhole h g.frames) (sym g.before.read.header) g.before.whole;
+        took = took;
+        text = taken_gives (change left input_faults i0 i2) (raw g.frames ++ g.next ∷ []) t took;
+        grown = g.before.grown;
+      }
+  unpack_stops s t i0 i1 i2 o0 o1 (errors.Y4m fault) some opens few reads g = UnpackBroken.behind s.header g.frames g.most g.whole
       (if_told (left i0) (λ t. Begins t s.header (with_front (raw g.frames ++ g.part) (broken fault))) (λ t. Begins t s.header (record { raw = raw g.frames; fault = Some fault }))
-      (λ t begins. behind_frames t s.header g.frames g.part fault g.before.whole g.less begins)
-      (text_begins s (left i0) (left i1) opens c1 (raw g.frames ++ g.part) g.before.gave (broken fault) g.broken))
-      g.before.grown
-  unpack_stops s i0 i1 i2 o0 o1 c1 errors.Memory opens reads g = part_unpacked s i0 i1 i2 o0 o1 c1 opens g
+      (λ t begins. behind_frames t s.header g.frames g.part fault g.whole g.less begins)
+      (text_begins s (left i0) (left i1) opens.opens (comes_of t (left i2)) (raw g.frames ++ g.part) g.gave (broken fault) g.broken))
+      g.grown
+  unpack_stops s t i0 i1 i2 o0 o1 errors.Memory some opens few reads (inl lost) = inl (lost_read s t i0 i1 i2 o0 o1 opens few lost)
+  unpack_stops s t i0 i1 i2 o0 o1 errors.Memory some opens few reads (inr cut) = inr (cut_read s t i0 i1 i2 o0 o1 some opens few cut)

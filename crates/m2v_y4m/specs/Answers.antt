@@ -15,7 +15,7 @@ use Rattle.m2v_y4m.specs.declared.header.Y4mHeader.{Y4mHeader}
 use Rattle.m2v_y4m.specs.Header.{opening}
 use Rattle.m2v_y4m.specs.Frames.{Coming, Begins, AreWhole, size_of, Y4m, EndsShort}
 use Rattle.m2v_y4m.specs.Writing.{y4m_text}
-use Rattle.m2v_y4m.specs.Sources.{Took}
+use Rattle.m2v_y4m.specs.Sources.{Standing, Took, TookText}
 
 -- the most frames of raw video
 abbrev pub most_frames : ℕ
@@ -105,12 +105,30 @@ pub record Unpacked (left held : Change) (summary : PackSummary) : Type 0 where
   pub grown : Grows held.old (raw frames) held.new
   pub numbers : summary ≡ record { frames = length frames; bytes = length (raw frames) }
 
--- Nothing was written, or a prefix of these frames, which the text gives first.
-pub data UnpackedPart (left held : Change) : Type 0 where
-  unopened : held.Unchanged → UnpackedPart left held
-  opened : (header : Y4mHeader) (frames : List (List ℕ)) → length frames ≤ most_frames → AreWhole header frames
-      → Tells left (λ text. Gives text header (raw frames))
-      → GrowsByPrefix held.old (raw frames) held.new → UnpackedPart left held
+-- The header line of the text was read, and then these whole frames and perhaps a part of the next: so much and no more was
+-- taken of the input, but for what was read ahead. They come first of any text that begins so, and of the one that the
+-- input told.
+pub record FramesRead (left : Change) (at : Standing) (frames : List (List ℕ)) (part : List ℕ) : Type 0 where
+  pub most : length frames ≤ most_frames
+  pub whole : AreWhole at.header frames
+  pub less : length part < size_of at.header
+  pub took : TookText left.old (raw frames ++ part) at left.new
+  pub text : Tells left (λ text. Gives text at.header (raw frames ++ part))
+
+-- Reading failed or memory ran out: in the header line, and nothing was written; or behind it, and all frames that were read
+-- whole were written.
+pub data UnpackLost (left held : Change) : Type 0 where
+  unopened : Took left.old left.new → held.Unchanged → UnpackLost left held
+  opened : (at : Standing) (frames : List (List ℕ)) (part : List ℕ) → FramesRead left at frames part
+      → Grows held.old (raw frames) held.new → UnpackLost left held
+
+-- Writing failed, or memory ran out in it: of the last frame that was read perhaps not all was written.
+pub record UnpackCut (left held : Change) : Type 0 where
+  pub at : Standing
+  pub frames : List (List ℕ)
+  pub read : FramesRead left at frames []
+  pub grown : GrowsByPrefix held.old (raw frames) held.new
+  pub lacks : length grown.rest ≤ size_of at.header
 
 -- The text ended inside a frame, of which these many bytes are there; those before it were written.
 pub record UnpackEndedShort (left held : Change) (extra : ℕ) : Type 0 where
@@ -124,29 +142,30 @@ pub record UnpackEndedShort (left held : Change) (extra : ℕ) : Type 0 where
 
 -- A byte of a frame followed the last frame that raw video may have.
 pub record UnpackWentOn (left held : Change) : Type 0 where
-  pub header : Y4mHeader
+  pub at : Standing
   pub frames : List (List ℕ)
   pub next : ℕ
   pub all : length frames ≡ most_frames
-  pub whole : AreWhole header frames
-  pub text : Tells left (λ text. Gives text header (raw frames ++ next ∷ []))
+  pub whole : AreWhole at.header frames
+  pub took : TookText left.old (raw frames ++ next ∷ []) at left.new
+  pub text : Tells left (λ text. Gives text at.header (raw frames ++ next ∷ []))
   pub grown : Grows held.old (raw frames) held.new
 
 -- The text is broken in its header line, and nothing was written; or behind these frames, and they were written.
 pub data UnpackBroken (left held : Change) (fault : Y4mFault) : Type 0 where
-  in_header : Tells left (λ text. opening text ≡ Err fault) → held.Unchanged → UnpackBroken left held fault
+  in_header : Tells left (λ text. opening text ≡ Err fault) → Took left.old left.new → held.Unchanged → UnpackBroken left held fault
   behind : (header : Y4mHeader) (frames : List (List ℕ)) → length frames ≤ most_frames → AreWhole header frames
       → Tells left (λ text. Begins text header (record { raw = raw frames; fault = Some fault }))
       → Grows held.old (raw frames) held.new → UnpackBroken left held fault
 
 -- When each error comes, and what stands then.
 unfoldable pub UnpackStops : Change → Change → UnpackError → Type 0
-UnpackStops left held errors.Read = left.Failed × UnpackedPart left held
-UnpackStops left held errors.Write = held.Failed × UnpackedPart left held
+UnpackStops left held errors.Read = left.Failed × UnpackLost left held
+UnpackStops left held errors.Write = held.Failed × UnpackCut left held
 UnpackStops left held (errors.ShortFrame extra) = UnpackEndedShort left held extra
 UnpackStops left held errors.TooManyFrames = UnpackWentOn left held
 UnpackStops left held (errors.Y4m fault) = UnpackBroken left held fault
-UnpackStops left held errors.Memory = UnpackedPart left held
+UnpackStops left held errors.Memory = UnpackLost left held ⊎ UnpackCut left held
 
 -- ---- nothing else comes
 

@@ -22,6 +22,10 @@ nothing = record { raw = []; fault = None }
 abbrev pub broken : Y4mFault → Coming
 broken fault = record { raw = []; fault = Some fault }
 
+-- the same behind some raw bytes
+abbrev pub with_front : List ℕ → Coming → Coming
+with_front bytes c = record { raw = bytes ++ c.raw; fault = c.fault }
+
 -- Inside a frame of this size, whose line begins at a place, so many bytes of it are still to come. Where the text ends
 -- with no byte of the frame, the frame's line is the fault; where it ends later, the raw bytes end there.
 unfoldable pub in_frame : ℕ → ℕ → ℕ → List ℕ → Coming → Coming

@@ -12,11 +12,7 @@ use Rattle.m2v_y4m.specs.declared.answer.Y4mKind.{Y4mKind}
 use Rattle.m2v_y4m.specs.Texts.{onward}
 use Rattle.m2v_y4m.specs.Header.{fault_at}
 use Rattle.m2v_y4m.specs.Frames.{Coming, nothing, broken, frame_line, size_of, AreWhole}
-use Rattle.m2v_y4m.specs.Sources.{Standing}
-
--- how many bytes are read ahead at most
-abbrev pub most_ahead : ℕ
-most_ahead = 4096
+use Rattle.m2v_y4m.specs.Sources.{Standing, Spot, ReadOn, comes_of}
 
 -- what is held grew by so many bytes that went from the front of what was left
 pub record Refilled (n : ℕ) (held : List ℕ) (left : Option (List ℕ)) (held_then : List ℕ) (left_then : Option (List ℕ)) : Type 0 where
@@ -61,7 +57,17 @@ pub record BrokeLine (s t : Standing) : Type 0 where
 
 -- ---- frame by frame
 
+-- what comes of the text from a spot on, where its source tells it
+abbrev pub comes_at : Spot → Option Coming
+comes_at p = comes_of p.at p.left
+
 -- fewer than so many raw bytes were given
+pub record ReadFewer (old : Spot) (bound : ℕ) (new : Spot) : Type 0 where
+  pub part : List ℕ
+  pub fewer : length part < bound
+  pub read : ReadOn old part new
+
+-- the same of the text that is there
 pub record GaveFewer (old : Option Coming) (bound : ℕ) (new : Option Coming) : Type 0 where
   pub part : List ℕ
   pub fewer : length part < bound
@@ -76,65 +82,71 @@ abbrev pub IsBroken : Y4mFault → Option Coming → Type 0
 IsBroken fault c = IfSome c (λ c. c ≡ broken fault)
 
 -- So many frames were given, and written.
-pub record GivenSoFar (header : Y4mHeader) (number : ℕ) (old new : Option Coming) (held : Change) : Type 0 where
+pub record GivenSoFar (header : Y4mHeader) (number : ℕ) (old new : Spot) (held : Change) : Type 0 where
   pub frames : List (List ℕ)
   pub count : length frames ≡ number
   pub whole : AreWhole header frames
-  pub gave : Gave old (raw frames) new
+  pub read : ReadOn old (raw frames) new
   pub grown : Grows held.old (raw frames) held.new
 
 -- the next frame was given, and written
-pub record FrameGiven (size : ℕ) (old new : Option Coming) (held : Change) : Type 0 where
+pub record FrameGiven (size : ℕ) (old new : Spot) (held : Change) : Type 0 where
   pub frame : List ℕ
   pub whole : length frame ≡ size
-  pub gave : Gave old frame new
+  pub read : ReadOn old frame new
   pub grown : Grows held.old frame held.new
 
 -- the next frame was given, and a prefix of it written
-pub record FrameCut (size : ℕ) (old new : Option Coming) (held : Change) : Type 0 where
+pub record FrameCut (size : ℕ) (old new : Spot) (held : Change) : Type 0 where
   pub frame : List ℕ
   pub whole : length frame ≡ size
-  pub gave : Gave old frame new
+  pub read : ReadOn old frame new
   pub grown : GrowsByPrefix held.old frame held.new
 
 -- no frame was left
-pub record NoFrame (old new : Option Coming) (held : Change) : Type 0 where
-  pub gave : Gave old [] new
-  pub over : IsOver new
+pub record NoFrame (old new : Spot) (held : Change) : Type 0 where
+  pub read : ReadOn old [] new
+  pub over : IsOver (comes_at new)
   pub same : held.new ≡ held.old
 
 -- the text ended inside the next frame
-pub record FrameShort (size : ℕ) (old new : Option Coming) (held : Change) (extra : ℕ) : Type 0 where
+pub record FrameShort (size : ℕ) (old new : Spot) (held : Change) (extra : ℕ) : Type 0 where
   pub part : List ℕ
-  pub gave : Gave old part new
-  pub over : IsOver new
+  pub read : ReadOn old part new
+  pub over : IsOver (comes_at new)
   pub count : length part ≡ extra
   pub some : 0 < extra
   pub less : extra < size
   pub same : held.new ≡ held.old
 
 -- reading the next frame failed
-pub record FrameLost (size : ℕ) (old new : Option Coming) (held : Change) : Type 0 where
-  pub gave : GaveFewer old size new
+pub record FrameLost (size : ℕ) (old new : Spot) (held : Change) : Type 0 where
+  pub read : ReadFewer old size new
+  pub same : held.new ≡ held.old
+
+-- the text broke before the next frame
+pub record FrameBroken (size : ℕ) (fault : Y4mFault) (old new : Spot) (held : Change) : Type 0 where
+  pub gave : GaveFewer (comes_at old) size (comes_at new)
+  pub broken : IsBroken fault (comes_at new)
   pub same : held.new ≡ held.old
 
 -- why a next frame wasn't unpacked
-unfoldable pub FrameStops : ℕ → Change → Option Coming → Option Coming → Change → UnpackError → Type 0
+unfoldable pub FrameStops : ℕ → Change → Spot → Spot → Change → UnpackError → Type 0
 FrameStops size left old new held errors.Read = left.Failed × FrameLost size old new held
 FrameStops size left old new held errors.Write = held.Failed × FrameCut size old new held
 FrameStops size left old new held (errors.ShortFrame extra) = IsAtEnd left.new × FrameShort size old new held extra
 FrameStops size left old new held errors.TooManyFrames = ⊥
-FrameStops size left old new held (errors.Y4m fault) = IsBroken fault new × FrameLost size old new held
+FrameStops size left old new held (errors.Y4m fault) = FrameBroken size fault old new held
 FrameStops size left old new held errors.Memory = FrameLost size old new held ⊎ FrameCut size old new held
 
 -- why so many raw bytes weren't read
-unfoldable pub ReadStops : ℕ → Change → Option Coming → Option Coming → UnpackError → Type 0
-ReadStops size left old new errors.Read = left.Failed × GaveFewer old size new
+unfoldable pub ReadStops : ℕ → Change → Spot → Spot → UnpackError → Type 0
+ReadStops size left old new errors.Read = left.Failed × ReadFewer old size new
 ReadStops size left old new errors.Write = ⊥
 ReadStops size left old new (errors.ShortFrame extra) = ⊥
 ReadStops size left old new errors.TooManyFrames = ⊥
-ReadStops size left old new (errors.Y4m fault) = IsBroken fault new × GaveFewer old size new
-ReadStops size left old new errors.Memory = GaveFewer old size new
+ReadStops size left old new (errors.Y4m fault) = IsBroken fault (comes_at new) × GaveFewer (comes_at old) size (comes_at new)
+ReadStops size left old new errors.Memory = ReadFewer old size new
 
 -- why some bytes weren't written
 unfoldable pub PutStops : List ℕ → Change → UnpackError → Type 0

@@ -1,6 +1,7 @@
 ghost use Rattle.std.specs.Prelude.{◌≡◌, ◌+◌, ◌-◌, ◌<◌, ◌≤◌, ◌++◌, [], length, take, drop, IfOk, OnErr, IsErrOf, Ok};
 ghost use Rattle.m2v_port.specs.Port.{Rose, Moves, IsAtEnd};
-ghost use Rattle.m2v_y4m.specs.Reading.{Refilled, most_ahead};
+ghost use Rattle.m2v_y4m.specs.Sources.{most_ahead};
+ghost use Rattle.m2v_y4m.specs.Reading.{Refilled};
 
 use m2v_port::{Memory, PortError, Source};
 use std::alloc::Global;
@@ -19,7 +20,7 @@ pub(crate) struct Chunk {
 
 impl Model for Chunk {
     ghost use Rattle.std.specs.Prelude.{◌≡◌, List, ℕ, ◌≤◌, length, drop, take};
-    ghost use Rattle.m2v_y4m.specs.Reading.{most_ahead};
+    ghost use Rattle.m2v_y4m.specs.Sources.{most_ahead};
 
     ghost Value = { List ℕ };
 
@@ -127,6 +128,7 @@ impl Chunk {
         ensures end { result ≡ Ok 0 → IsAtEnd (S.left inner.new) }
         ensures err { OnErr result (S.left inner.new ≡ S.left inner.old) }
         ensures same { OnErr result (self.new ≡ self.old) }
+        ensures most { length self.new ≤ most_ahead }
         ensures failed { IsErrOf result PortError.Failed
             → Rose (S.faults inner.old) (S.faults inner.new) }
         ensures faults { S.faults inner.old ≤ S.faults inner.new }

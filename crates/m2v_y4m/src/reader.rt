@@ -3,7 +3,7 @@ ghost use Rattle.m2v_port.specs.Ends.{change};
 ghost use Rattle.m2v_port.specs.Port.{Rose, Moves, IsAtEnd};
 ghost use Rattle.m2v_y4m.specs.Frames.{size_of};
 ghost use Rattle.m2v_y4m.specs.Rules.{IsHeader};
-ghost use Rattle.m2v_y4m.specs.Sources.{Standing, IsOpen, comes_of, told_left, fault_to_come};
+ghost use Rattle.m2v_y4m.specs.Sources.{Standing, IsOpen, ReadOn, spot, comes_of, told_left, fault_to_come, most_ahead};
 ghost use Rattle.m2v_y4m.specs.Texts.{onward};
 ghost use Rattle.m2v_y4m.specs.Header.{opening};
 ghost use Rattle.m2v_y4m.specs.Reading.{Held, Gave, IsInside, IsOver, TookLine, BrokeLine};
@@ -57,6 +57,7 @@ impl Model for Reader {
 /// Reads on until the bytes of a longest line are there, or the text ends.
 fn gather<S: Source>(chunk: &mut Chunk, inner: &mut S) -> Result<(), PortError>
     ensures held { Held chunk.old (S.left inner.old) chunk.new (S.left inner.new) }
+    ensures few { length chunk.new ≤ most_ahead }
     ensures all { OnOk result (length chunk.new < 1024 → IsAtEnd (S.left inner.new)) }
     ensures failed { IsErrOf result PortError.Failed
         → Rose (S.faults inner.old) (S.faults inner.new) }
@@ -145,7 +146,9 @@ impl Reader {
     pub(crate) fn header(&self) -> &Y4mHeader
         ensures value { result.now ≡ self.now.header }
         ensures within { IsHeader self.now.header }
+        ensures ahead { length self.now.unread ≤ most_ahead }
     {
+        let _ahead = self.ahead();
         &self.header
     }
 
@@ -166,6 +169,14 @@ impl Reader {
         self.size
     }
 
+    /// How many bytes were read ahead.
+    pub(crate) fn ahead(&self) -> usize
+        ensures value { result ≡ length self.now.unread }
+        ensures most { result ≤ most_ahead }
+    {
+        self.chunk.len()
+    }
+
     /// The text is broken here.
     fn break_at(&mut self, kind: Y4mKind, place: u64) -> PortError
         ensures failed { result ≡ PortError.Failed }
@@ -182,6 +193,8 @@ impl Reader {
     fn next_line<S: Source>(&mut self, inner: &mut S) -> Result<bool, PortError>
         requires before { self.old.rest ≡ 0 }
         requires unbroken { self.old.fault ≡ None }
+        ensures read { self.new.fault ≡ None → ReadOn (spot self.old (S.left inner.old)) []
+            (spot self.new (S.left inner.new)) }
         ensures same { comes_of self.new (S.left inner.new)
             ≡ comes_of self.old (S.left inner.old) }
         ensures header { self.new.header ≡ self.old.header }
@@ -213,6 +226,8 @@ impl Reader {
 
     /// Reads on until the bytes of a longest line are there, or the text ends.
     fn look_ahead<S: Source>(&mut self, inner: &mut S) -> Result<(), PortError>
+        ensures read { self.old.fault ≡ None → ReadOn (spot self.old (S.left inner.old)) []
+            (spot self.new (S.left inner.new)) }
         ensures same { comes_of self.new (S.left inner.new)
             ≡ comes_of self.old (S.left inner.old) }
         ensures else_same { self.new ≡ record self.old { unread = self.new.unread } }
@@ -307,6 +322,10 @@ impl Reader {
         requires inside { IsInside self.old }
         requires room { 0 < length buf.old }
         ensures within { IfOk result (λ n. n ≤ length buf.old) }
+        ensures read { IfOk result (λ n. ReadOn (spot self.old (S.left inner.old))
+            (take n buf.new) (spot self.new (S.left inner.new))) }
+        ensures stood { OnErr result (self.new.fault ≡ None
+            → ReadOn (spot self.old (S.left inner.old)) [] (spot self.new (S.left inner.new))) }
         ensures gave { IfOk result (λ n. Gave (comes_of self.old (S.left inner.old))
             (take n buf.new) (comes_of self.new (S.left inner.new))) }
         ensures same { OnErr result (comes_of self.new (S.left inner.new)
@@ -335,6 +354,8 @@ impl Reader {
     /// Reads a frame line where one is to come. Answers whether a frame is at hand: none is at the end.
     fn enter<S: Source>(&mut self, inner: &mut S) -> Result<bool, PortError>
         requires unbroken { self.old.fault ≡ None }
+        ensures read { self.new.fault ≡ None → ReadOn (spot self.old (S.left inner.old)) []
+            (spot self.new (S.left inner.new)) }
         ensures same { comes_of self.new (S.left inner.new)
             ≡ comes_of self.old (S.left inner.old) }
         ensures header { self.new.header ≡ self.old.header }
@@ -360,6 +381,10 @@ impl Reader {
         inner: &mut S,
         buf: &mut [u8],
     ) -> Result<usize, PortError>
+        ensures read { IfOk result (λ n. ReadOn (spot self.old (S.left inner.old))
+            (take n buf.new) (spot self.new (S.left inner.new))) }
+        ensures stood { OnErr result (self.new.fault ≡ None
+            → ReadOn (spot self.old (S.left inner.old)) [] (spot self.new (S.left inner.new))) }
         ensures gave { IfOk result (λ n. Gave (comes_of self.old (S.left inner.old))
             (take n buf.new) (comes_of self.new (S.left inner.new))) }
         ensures same { OnErr result (comes_of self.new (S.left inner.new)

@@ -2,7 +2,7 @@ ghost use Rattle.std.specs.Prelude.{◌≡◌, ◌+◌, ◌<◌, ◌≤◌, [], 
 ghost use Rattle.m2v_port.specs.Ends.{change};
 ghost use Rattle.m2v_port.specs.Port.{Rose, Moves, IsAtEnd};
 ghost use Rattle.m2v_y4m.specs.Rules.{IsHeader};
-ghost use Rattle.m2v_y4m.specs.Sources.{IsOpen, told_left, fault_to_come};
+ghost use Rattle.m2v_y4m.specs.Sources.{IsOpen, spot, TextRead, told_left, most_ahead};
 ghost use Rattle.m2v_y4m.specs.Answers.{OpenStops};
 
 use crate::answer::{Y4mError, Y4mFault};
@@ -44,6 +44,8 @@ impl<S: Source> Y4mSource<S> {
     pub fn header(&self) -> &Y4mHeader
         ensures value { result.now ≡ self.now.text.at.header }
         ensures within { IsHeader self.now.text.at.header }
+        // No more than this is read ahead.
+        ensures ahead { length self.now.text.at.unread ≤ most_ahead }
     {
         self.text.header()
     }
@@ -68,16 +70,8 @@ impl<S: Source> Source for Y4mSource<S> {
     ghost lenders = { λ s. S.lenders s.inner };
 
     fn read(&mut self, buf: &mut [u8]) -> Result<usize, PortError>
-        // No read changes what fault comes, or the header.
-        ensures fault { fault_to_come self.new.text.at (S.left self.new.inner)
-            ≡ fault_to_come self.old.text.at (S.left self.old.inner) }
-        ensures header { self.new.text.at.header ≡ self.old.text.at.header }
-        // It answers 0 for a buffer that isn't empty only at the end of a text that no frame line broke.
-        ensures zero { result ≡ Ok 0 → 0 < length buf.old → IsAtEnd (S.left self.new.inner) }
-        ensures unread { result ≡ Ok 0 → 0 < length buf.old → self.new.text.at.unread ≡ [] }
-        ensures unbroken { OnOk result (self.new.text.at.fault ≡ None) }
-        // Each read fails once a fault was found.
-        ensures broken { IsTrue (is_some self.old.text.at.fault) → result ≡ Err PortError.Failed }
+        ensures text { TextRead (spot self.old.text.at (S.left self.old.inner)) buf.old result buf.new
+            (spot self.new.text.at (S.left self.new.inner)) }
         // the meanings of every source
         ensures within { IfOk result (λ n. n ≤ length buf.old) }
         ensures moved { IfOk result (λ n. Moves (told_left self.old.text.at (S.left self.old.inner))

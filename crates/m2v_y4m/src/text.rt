@@ -2,7 +2,7 @@ ghost use Rattle.std.specs.Prelude.{◌≡◌, ◌+◌, ◌<◌, ◌≤◌, [], 
 ghost use Rattle.m2v_port.specs.Ends.{change};
 ghost use Rattle.m2v_port.specs.Port.{Rose, Moves, IsAtEnd};
 ghost use Rattle.m2v_y4m.specs.Rules.{IsHeader};
-ghost use Rattle.m2v_y4m.specs.Sources.{IsOpen, told_left, fault_to_come};
+ghost use Rattle.m2v_y4m.specs.Sources.{IsOpen, spot, TextRead, told_left, most_ahead};
 ghost use Rattle.m2v_y4m.specs.Answers.{OpenStops};
 
 use crate::answer::{Y4mError, Y4mFault};
@@ -53,6 +53,8 @@ impl Y4mText {
     pub fn header(&self) -> &Y4mHeader
         ensures value { result.now ≡ self.now.at.header }
         ensures within { IsHeader self.now.at.header }
+        // No more than this is read ahead.
+        ensures ahead { length self.now.at.unread ≤ most_ahead }
     {
         self.reader.header()
     }
@@ -68,16 +70,8 @@ impl Y4mText {
     /// Gives raw bytes of the frames, read on from the source of the text. It fails where this does, and from a fault of
     /// the text on.
     pub fn read<S: Source>(&mut self, input: &mut S, buf: &mut [u8]) -> Result<usize, PortError>
-        // No read changes what fault comes, or the header.
-        ensures fault { fault_to_come self.new.at (S.left input.new)
-            ≡ fault_to_come self.old.at (S.left input.old) }
-        ensures header { self.new.at.header ≡ self.old.at.header }
-        // It answers 0 for a buffer that isn't empty only at the end of a text that no frame line broke.
-        ensures zero { result ≡ Ok 0 → 0 < length buf.old → IsAtEnd (S.left input.new) }
-        ensures unread { result ≡ Ok 0 → 0 < length buf.old → self.new.at.unread ≡ [] }
-        ensures unbroken { OnOk result (self.new.at.fault ≡ None) }
-        // Each read fails once a fault was found.
-        ensures broken { IsTrue (is_some self.old.at.fault) → result ≡ Err PortError.Failed }
+        ensures text { TextRead (spot self.old.at (S.left input.old)) buf.old result buf.new
+            (spot self.new.at (S.left input.new)) }
         ensures within { IfOk result (λ n. n ≤ length buf.old) }
         ensures moved { IfOk result (λ n. Moves (told_left self.old.at (S.left input.old))
             (take n buf.new) (told_left self.new.at (S.left input.new))) }

@@ -2,8 +2,8 @@ ghost use Rattle.std.specs.Prelude.{ℕ, ◌≡◌, ◌⊎◌, ◌+◌, ◌<◌,
 ghost use Rattle.m2v_port.specs.Ends.{change, SinkStays, Tells};
 ghost use Rattle.m2v_port.specs.Port.{Rose, IsAtEnd, Grows};
 ghost use Rattle.m2v_y4m.specs.Frames.{size_of};
-ghost use Rattle.m2v_y4m.specs.Sources.{comes_of};
-ghost use Rattle.m2v_y4m.specs.Reading.{Gave, GaveFewer, IsOver, FrameGiven, NoFrame, FrameStops, ReadStops, PutStops};
+ghost use Rattle.m2v_y4m.specs.Sources.{comes_of, spot, ReadOn};
+ghost use Rattle.m2v_y4m.specs.Reading.{GaveFewer, ReadFewer, IsOver, FrameGiven, NoFrame, FrameStops, ReadStops, PutStops};
 ghost use Rattle.m2v_y4m.specs.Giving.{AllGiven, GivingStops};
 ghost use Rattle.m2v_y4m.specs.Answers.{IsAnswered, Unpacked, UnpackStops};
 
@@ -69,7 +69,10 @@ fn unpack_text<S: Source, K: Sink>(
     let Ok(mut frame) = vec![in alloc; 0u8; size] else {
         return Err(UnpackError::Memory);
     };
-    let frames = unpack_frames(&mut reader, &mut frame, input, output)?;
+    let answer = unpack_frames(&mut reader, &mut frame, input, output);
+    // it tells contracts how much is read ahead at most
+    let _ahead = reader.ahead();
+    let frames = answer?;
     Ok(PackSummary {
         frames,
         bytes: frames * size as u64,
@@ -88,12 +91,12 @@ fn unpack_frames<S: Source, K: Sink>(
     requires unbroken { reader.old.fault ≡ None }
     requires output { IsTrue (K.ready output.old) }
     ensures ok { IfOk result (λ n. AllGiven reader.old.header n
-        (comes_of reader.old (S.left input.old)) (comes_of reader.new (S.left input.new))
+        (spot reader.old (S.left input.old)) (spot reader.new (S.left input.new))
         (change S.left S.faults input.old input.new)
         (change K.held K.faults output.old output.new)) }
     ensures most { IfOk result (λ n. n ≤ 999999) }
     ensures err { IfErr result (GivingStops reader.old.header
-        (comes_of reader.old (S.left input.old)) (comes_of reader.new (S.left input.new))
+        (spot reader.old (S.left input.old)) (spot reader.new (S.left input.new))
         (change S.left S.faults input.old input.new)
         (change K.held K.faults output.old output.new)) }
     ensures same { length frame.new ≡ length frame.old }
@@ -116,14 +119,14 @@ fn unpack_frames<S: Source, K: Sink>(
 fn goes_on<S: Source>(reader: &mut Reader, input: &mut S) -> Result<bool, UnpackError>
     requires unbroken { reader.old.fault ≡ None }
     ensures more { result ≡ Ok true → (byte : ℕ)
-        × Gave (comes_of reader.old (S.left input.old)) (byte ∷ [])
-        (comes_of reader.new (S.left input.new)) }
-    ensures none { result ≡ Ok false → Gave (comes_of reader.old (S.left input.old)) []
-        (comes_of reader.new (S.left input.new)) }
+        × ReadOn (spot reader.old (S.left input.old)) (byte ∷ [])
+        (spot reader.new (S.left input.new)) }
+    ensures none { result ≡ Ok false → ReadOn (spot reader.old (S.left input.old)) []
+        (spot reader.new (S.left input.new)) }
     ensures over { result ≡ Ok false → IsOver (comes_of reader.new (S.left input.new)) }
     ensures end { result ≡ Ok false → IsAtEnd (S.left input.new) }
     ensures err { IfErr result (ReadStops 1 (change S.left S.faults input.old input.new)
-        (comes_of reader.old (S.left input.old)) (comes_of reader.new (S.left input.new))) }
+        (spot reader.old (S.left input.old)) (spot reader.new (S.left input.new))) }
     ensures header { reader.new.header ≡ reader.old.header }
     ensures input { S.faults input.old ≤ S.faults input.new }
 {
@@ -143,15 +146,15 @@ fn next<S: Source, K: Sink>(
     requires unbroken { reader.old.fault ≡ None }
     requires output { IsTrue (K.ready output.old) }
     ensures given { result ≡ Ok true → FrameGiven (size_of reader.old.header)
-        (comes_of reader.old (S.left input.old)) (comes_of reader.new (S.left input.new))
+        (spot reader.old (S.left input.old)) (spot reader.new (S.left input.new))
         (change K.held K.faults output.old output.new) }
     ensures none { result ≡ Ok false → NoFrame
-        (comes_of reader.old (S.left input.old)) (comes_of reader.new (S.left input.new))
+        (spot reader.old (S.left input.old)) (spot reader.new (S.left input.new))
         (change K.held K.faults output.old output.new) }
     ensures end { result ≡ Ok false → IsAtEnd (S.left input.new) }
     ensures err { IfErr result (FrameStops (size_of reader.old.header)
         (change S.left S.faults input.old input.new)
-        (comes_of reader.old (S.left input.old)) (comes_of reader.new (S.left input.new))
+        (spot reader.old (S.left input.old)) (spot reader.new (S.left input.new))
         (change K.held K.faults output.old output.new)) }
     ensures unbroken { OnOk result (reader.new.fault ≡ None) }
     ensures same { length frame.new ≡ length frame.old }
@@ -178,25 +181,27 @@ fn read_frame<S: Source>(
 ) -> Result<usize, UnpackError>
     requires unbroken { reader.old.fault ≡ None }
     ensures within { IfOk result (λ n. n ≤ length frame.old) }
-    ensures gave { IfOk result (λ n. Gave (comes_of reader.old (S.left input.old))
-        (take n frame.new) (comes_of reader.new (S.left input.new))) }
+    ensures read { IfOk result (λ n. ReadOn (spot reader.old (S.left input.old))
+        (take n frame.new) (spot reader.new (S.left input.new))) }
     ensures end { IfOk result (λ n. n < length frame.old → IsAtEnd (S.left input.new)) }
     ensures over { IfOk result (λ n. n < length frame.old
         → IsOver (comes_of reader.new (S.left input.new))) }
     ensures unbroken { OnOk result (reader.new.fault ≡ None) }
     ensures err { IfErr result (ReadStops (length frame.old)
         (change S.left S.faults input.old input.new)
-        (comes_of reader.old (S.left input.old)) (comes_of reader.new (S.left input.new))) }
+        (spot reader.old (S.left input.old)) (spot reader.new (S.left input.new))) }
     ensures same { length frame.new ≡ length frame.old }
     ensures header { reader.new.header ≡ reader.old.header }
     ensures input { S.faults input.old ≤ S.faults input.new }
 {
     match read_whole(reader, frame, input) {
         Ok(read) => Ok(read),
-        Err(PortError::Memory) => Err(UnpackError::Memory),
-        Err(PortError::Failed) => match reader.fault() {
+        Err(error) => match reader.fault() {
             Some(fault) => Err(UnpackError::Y4m(fault)),
-            None => Err(UnpackError::Read),
+            None => match error {
+                PortError::Failed => Err(UnpackError::Read),
+                PortError::Memory => Err(UnpackError::Memory),
+            },
         },
     }
 }
@@ -209,13 +214,17 @@ fn read_whole<S: Source>(
 ) -> Result<usize, PortError>
     requires unbroken { reader.old.fault ≡ None }
     ensures within { IfOk result (λ n. n ≤ length buf.old) }
-    ensures gave { IfOk result (λ n. Gave (comes_of reader.old (S.left input.old)) (take n buf.new)
-        (comes_of reader.new (S.left input.new))) }
+    ensures read { IfOk result (λ n. ReadOn (spot reader.old (S.left input.old)) (take n buf.new)
+        (spot reader.new (S.left input.new))) }
     ensures end { IfOk result (λ n. n < length buf.old → IsAtEnd (S.left input.new)) }
     ensures over { IfOk result (λ n. n < length buf.old
         → IsOver (comes_of reader.new (S.left input.new))) }
     ensures unbroken { OnOk result (reader.new.fault ≡ None) }
-    ensures err { OnErr result (GaveFewer (comes_of reader.old (S.left input.old)) (length buf.old)
+    ensures err { OnErr result (reader.new.fault ≡ None → ReadFewer
+        (spot reader.old (S.left input.old)) (length buf.old)
+        (spot reader.new (S.left input.new))) }
+    // Where the text broke, of the text that is there.
+    ensures broke { OnErr result (GaveFewer (comes_of reader.old (S.left input.old)) (length buf.old)
         (comes_of reader.new (S.left input.new))) }
     ensures failed { IsErrOf result PortError.Failed
         → Rose (S.faults input.old) (S.faults input.new) ⊎ IsTrue (is_some reader.new.fault) }

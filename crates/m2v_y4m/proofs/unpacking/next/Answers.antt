@@ -18,7 +18,7 @@ returns-then-read-eq0-clause-none g c = λ is.
     let none : c.in_ok-read.read ≡ 0 = omega arith in
     let some : 1 ≤ length c.args.frame.now = c.requires.some in
     record {
-      gave = rw none at c.in_ok-read.ensures.gave;
+      read = rw none at c.in_ok-read.ensures.read;
       over = c.in_ok-read.ensures.over (omega (arith, none, some));
       same = refl;
     }
@@ -37,7 +37,7 @@ returns-then-read-frame-clause-err g c =
       c.in_ok-read.ensures.end less,
       record {
         part = take c.in_ok-read.read frame;
-        gave = c.in_ok-read.ensures.gave;
+        read = c.in_ok-read.ensures.read;
         over = c.in_ok-read.ensures.over less;
         count = length-take-le c.in_ok-read.read frame (omega (arith, c.read_frame.ensures.same, less));
         some = omega arith;
@@ -52,4 +52,4 @@ returns-in_err-put-clause-err g c =
     let frame = c.read_frame.new.frame in
     let size : length frame ≡ size_of c.args.reader.now.header = c.read_frame.ensures.same ∙ c.requires.frame in
     let all : take c.in_ok-read.read frame ≡ frame = take_all c.in_ok-read.read frame (omega arith) in
-    rw (p.1, p.2) (next_cut _ _ _ _ _ frame _ size (rw all at c.in_ok-read.ensures.gave) c.in_err-put.ensures.err)
+    rw (p.1, p.2) (next_cut _ _ _ _ _ frame _ size (rw all at c.in_ok-read.ensures.read) c.in_err-put.ensures.err)

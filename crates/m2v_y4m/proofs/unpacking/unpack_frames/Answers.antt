@@ -1,9 +1,32 @@
-use Rattle.std.proofs.Common.{arith, ap, Ok, ◌≤◌, ◌∙◌}
+use Rattle.std.proofs.Common.{arith, refl, ap, Ok, ◌≡◌, ◌≤◌, ◌∙◌}
 use Rattle.std.proofs.lemmas.Result.{err_from_is_err_and}
-use Rattle.m2v_port.proofs.Runs.{stays_on}
+use Rattle.m2v_port.proofs.Runs.{stays_here, stays_on}
 use Rattle.m2v_y4m.specs.Frames.{size_of}
-use Rattle.m2v_y4m.proofs.Unpacks.{given_at, stopped_at, went_on, look_stopped}
+use Rattle.m2v_y4m.proofs.Unpacks.{given_none, given_at, stopped_at, ended, went_on, look_stopped}
 use Rattle.m2v_y4m.proofs.unpacking.unpack_frames.Goals as goal
+
+pub loop-number-init : goal.loop-number-init
+loop-number-init g c = record {
+  frame = refl;
+  header = refl;
+  unbroken = c.requires.unbroken;
+  given = given_none g.S.Source.left g.S.Source.faults g.K.Sink.held g.K.Sink.faults c.args.reader.now.header c.args.reader.now _ _ c.requires.unbroken;
+  output = stays_here c.requires.output;
+  input = omega arith;
+}
+
+pub returns-then-not-branch-clause-ok : goal.returns-then-not-branch-clause-ok
+returns-then-not-branch-clause-ok g c =
+    let is = ap Ok c.if-not-branch.true in
+    let none = c.in_ok-next.ensures.none is in
+    ended g.S.Source.left g.S.Source.faults g.K.Sink.held g.K.Sink.faults _ c.loop-number.number _ _ _ _ _ _ _ _ _ refl c.loop-number.invariant.given none.read none.over (c.in_ok-next.ensures.end is) none.same
+
+pub returns-clause-ok : goal.returns-clause-ok
+returns-clause-ok g c =
+    let is = ap Ok c.if-branch.false in
+    let e = c.in_ok-goes_on.ensures in
+    let all : c.loop-number.number ≡ 999999 = omega arith in
+    ended g.S.Source.left g.S.Source.faults g.K.Sink.held g.K.Sink.faults _ c.loop-number.number _ _ _ _ _ _ _ _ _ all c.loop-number.invariant.given (e.none is) (e.over is) (e.end is) refl
 
 pub returns-in_err-next-clause-err : goal.returns-in_err-next-clause-err
 returns-in_err-next-clause-err g c =
