@@ -13,18 +13,10 @@ use Rattle.m2v_order.specs.Groups.{Queue, Group, opening, next_intra, is_due, gr
 use Rattle.m2v_order.proofs.Queues.{grouped, due_is, turn_is, group_length, group_some, has_next, sound_next}
 use Rattle.m2v_order.proofs.Wholes.{group_stays, due_stays}
 use Rattle.m2v_law_headline.specs.m2v_enc_stream.Streams.{Progress, at_start, group_coded, groups_begun, groups_coded, groups_from, waiting, coded_all, coded_begun}
+use Rattle.m2v_law_headline.proofs.m2v_enc_stream.Queues.{from_due, from_none}
 use Rattle.m2v_encode.specs.Steps.{HandedOut}
 
 -- ---- groups of a queue
-
-from_due : (n : ℕ) (q : Queue Samples) → is_due q ≡ true → groups_from (suc n) q ≡ group_of q ∷ groups_from n (after_group q)
-unfolding groups_from
-from_due n q is = cond-true (is_due q) _ _ is
-
-from_none : (n : ℕ) (q : Queue Samples) → is_due q ≡ false → groups_from n q ≡ []
-unfolding groups_from
-from_none zero q is = refl
-from_none (suc n) q is = cond-false (is_due q) _ _ is
 
 -- a group takes as many frames of a queue that goes on
 size_is : (q : Queue Samples) → Passes q.settings → IsSoundQueue q → is_due q ≡ true

@@ -13,7 +13,8 @@ use Rattle.m2v_order.proofs.Queues.{grouped, push_first, sound_push, sound_next,
 use Rattle.m2v_order.proofs.Wholes.{group_is}
 use Rattle.m2v_rate.specs.Plans.{Entries, account_at, fresh}
 use Rattle.m2v_rate.specs.Steady.{IsLedger}
-use Rattle.m2v_rate.proofs.Streams.{fresh_begun}
+use Rattle.m2v_rate.proofs.Places.{fresh_place}
+use Rattle.m2v_rate.proofs.Streams.{fresh_ledger}
 use Rattle.m2v_encode.specs.declared.answer.Summary.{Summary}
 use Rattle.m2v_encode.specs.declared.group.Coder.{Coder}
 use Rattle.m2v_encode.specs.Groups.{IsPlace}
@@ -22,26 +23,6 @@ use Rattle.m2v_encode.proofs.Due.{not_both}
 use Rattle.m2v_encode.proofs.Ends.{none_false}
 
 -- ---- the start
-
-fresh_ledger : (s : Settings) → Passes s → IsLedger (fresh s)
-fresh_ledger s passes = record {
-  few = omega arith;
-  removals = omega arith;
-  steady = record {
-    begun = fresh_begun s passes;
-    planned = omega arith;
-    targeted = refl;
-    quantised = refl;
-    known = omega arith;
-    ahead = omega arith;
-    sizes = λ j lt. absurd (omega (arith, lt));
-    caps = λ j lt. absurd (omega (arith, lt));
-  };
-}
-
-fresh_place : (s : Settings) → IsPlace s (account_at (fresh s) 0) 0
-unfolding account_at
-fresh_place s = record { start = refl; sent = omega arith }
 
 opening_first : (s : Settings) → (let q : Queue Samples = opening s in is_some (anchor_before (first_of q)) ≡ false)
 unfolding anchor_before

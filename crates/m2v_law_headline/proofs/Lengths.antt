@@ -18,12 +18,13 @@ use Rattle.m2v_model.specs.Units.{Units, cut}
 use Rattle.m2v_model.specs.Buffering.{before_picture, bits_of_piece, code_bits}
 use Rattle.m2v_model.proofs.CutLaws.{are_before, cut_units}
 use Rattle.m2v_law_shown.specs.m2v_law_chain.Texts.{ended, unit_bytes}
+use Rattle.m2v_law_shown.proofs.m2v_enc_stream.Pictures.{picture_length}
+use Rattle.m2v_law_shown.proofs.m2v_law_chain.Ends.{end_bytes, end_packs}
 use Rattle.m2v_law_shown.proofs.m2v_law_tree.Zeros.{padded_cuts}
 use Rattle.m2v_law_shown.proofs.m2v_law_tree.SliceUnits.{Spelled}
-use Rattle.m2v_law_shown.proofs.m2v_law_tree.Pictures.{job_is, sequence_bytes, extension_bytes, group_bytes, picture_bytes, coding_bytes}
+use Rattle.m2v_law_shown.proofs.m2v_law_tree.Pictures.{sequence_bytes, extension_bytes, group_bytes, picture_bytes, coding_bytes}
 use Rattle.m2v_law_shown.proofs.m2v_law_tree.PictureChains.{header_bytes, slices_bytes, picture_units_of, picture_text_holds}
 use Rattle.m2v_law_headline.specs.Texts.{bits_at}
-use Rattle.m2v_law_headline.proofs.Streams.{end_bytes, end_packs}
 
 -- ---- bytes of texts
 
@@ -51,23 +52,6 @@ unit_size value t =
     omega (arith, len, bytes)
 
 -- ---- the bits of a picture
-
-pub picture_length : (b : Book) → IsBook b → (l : Entries) (ends : Bool) (at p : ℕ) → p < length b.pictures
-    → length (picture_text b (coded b (length b.pictures)) l ends at p) ≡ bits_at b (coded b (length b.pictures)) l ends at p
-unfolding picture_text
-picture_length b h l ends at p lt =
-    let done = coded b (length b.pictures) in
-    let head = header_units b.settings (job_at b p) (delay_at l (job_at b p) p at) in
-    let slices = flat_map (λ (x : CodedSlice). x.text) (picture_at done p).slices in
-    let tail = replicate (zeros_of l ends p) false in
-    omega (
-      arith,
-      length-append head (slices ++ tail),
-      length-append slices tail,
-      length-replicate (zeros_of l ends p) false,
-      length-flat_map (λ (x : CodedSlice). x.text) (picture_at done p).slices,
-      header_length b.settings (job_at b p) (delay_at l (job_at b p) p at) (job_is b h p lt),
-    )
 
 pub piece_bits : (law : Spelled) (b : Book) → IsBook b → (l : Entries) (ends : Bool) (at p : ℕ) → p < length b.pictures
     → bits_of_piece (packed (picture_text b (coded b (length b.pictures)) l ends at p)) ≡ bits_at b (coded b (length b.pictures)) l ends at p

@@ -16,7 +16,7 @@ use Rattle.m2v_law_shown.proofs.m2v_law_tree.Groups.{MayFollow, AllFollow}
 use Rattle.m2v_law_headline.specs.Texts.{in_group, in_groups, bits_at, code_at}
 use Rattle.m2v_law_headline.proofs.Ends.{with_end}
 use Rattle.m2v_law_headline.proofs.Told.{range_more, maps_range}
-use Rattle.m2v_law_headline.proofs.Lengths.{picture_length}
+use Rattle.m2v_law_shown.proofs.m2v_enc_stream.Pictures.{picture_length}
 
 -- ---- numbers of the pictures that are sent
 

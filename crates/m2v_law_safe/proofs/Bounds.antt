@@ -18,8 +18,8 @@ use Rattle.m2v_enc_stream.specs.m2v_slice.Books.{Book, job_at}
 use Rattle.m2v_enc_stream.specs.m2v_slice.Conditions.{IsBook}
 use Rattle.m2v_enc_stream.specs.Streams.{at_start, book_of, delay_at}
 use Rattle.m2v_law_safe.specs.Removals.{ledger_of, seen_of, groups_seen, begun_by, begins_at, removed_before}
-use Rattle.m2v_law_safe.proofs.Whole.{whole_ledger, whole_settings, whole_kinds, size_at}
-use Rattle.m2v_law_safe.proofs.Anchors.{first_code}
+use Rattle.m2v_enc_stream.proofs.m2v_slice.Ledgers.{whole_ledger_is, whole_settings, whole_kinds, size_at}
+use Rattle.m2v_enc_stream.proofs.m2v_slice.Firsts.{first_code}
 use Rattle.m2v_law_safe.proofs.Texts.{removed_more, removed_both}
 use Rattle.m2v_law_safe.proofs.Delays.{IsPlaced, account_here, delay_exact}
 
@@ -58,7 +58,7 @@ held_here : (s : Settings) (earlier : List (Group Samples)) (g : Group Samples) 
 unfolding account_of
 held_here s earlier g p passes lt h =
     let b = book_of s (begun_by s earlier) g in
-    let st = (whole_ledger b h.here.book).steady in
+    let st = (whole_ledger_is b h.here.book).steady in
     omega (
       arith,
       ap (λ (a : State). a.held) (account_here s earlier g p passes lt h),

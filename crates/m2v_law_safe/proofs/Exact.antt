@@ -9,6 +9,7 @@ use Rattle.m2v_order.specs.Groups.{Group}
 use Rattle.m2v_rate.specs.Plans.{Entries, fresh, start_of}
 use Rattle.m2v_rate.specs.Safety.{Picture, closed, group_removals, after_groups, sent}
 use Rattle.m2v_enc_stream.specs.Streams.{Progress, at_start, book_of, group_coded, groups_begun}
+use Rattle.m2v_enc_stream.proofs.Queues.{begun_more}
 use Rattle.m2v_law_safe.specs.Removals.{seen_of, groups_seen, groups_of, begun_by, removed_before}
 use Rattle.m2v_law_safe.specs.Sent.{SentPicture, removal_of, sent_at, group_sent, groups_sent, Sent, IsExact, AreExact}
 use Rattle.m2v_law_safe.proofs.Closed.{seen_length}
@@ -38,12 +39,6 @@ seen_more : (s : Settings) (gs : List (Group Samples)) (g : Group Samples) (x : 
 unfolding groups_seen groups_begun
 seen_more s [] g x = refl
 seen_more s (k ∷ gs) g x = ap (λ (ps : List (List Picture)). seen_of (book_of s x k) ∷ ps) (seen_more s gs g (group_coded s x k false))
-
-begun_more : (s : Settings) (gs : List (Group Samples)) (g : Group Samples) (x : Progress)
-    → groups_begun s x (gs ++ g ∷ []) ≡ group_coded s (groups_begun s x gs) g false
-unfolding groups_begun
-begun_more s [] g x = refl
-begun_more s (k ∷ gs) g x = begun_more s gs g (group_coded s x k false)
 
 sent_more : (l : Entries) (gs : List (List Picture)) (g : List Picture)
     → sent l (gs ++ g ∷ []) ≡ sent l gs ++ group_removals (closed (after_groups l gs) g) (length g)

@@ -12,7 +12,8 @@ use Rattle.m2v_model.specs.States.{at_first}
 use Rattle.m2v_model.specs.Streams.{sequence, after}
 use Rattle.m2v_law_tree.specs.Trees.{sequence_by}
 use Rattle.m2v_law_tree.specs.States.{state_with, waiting_behind, anchors_behind}
-use Rattle.m2v_law_tree.proofs.Turns.{IsCounted, first_begins}
+use Rattle.m2v_slice.proofs.Firsts.{first_begins}
+use Rattle.m2v_law_tree.proofs.Turns.{IsCounted}
 use Rattle.m2v_law_tree.proofs.States.{state_before, first_sequence, next_sequence}
 use Rattle.m2v_law_shown.proofs.Views.{true_false}
 use Rattle.m2v_law_shown.proofs.Heads.{Ready}

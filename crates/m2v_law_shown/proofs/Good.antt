@@ -15,6 +15,7 @@ use Rattle.m2v_order.specs.Whole.{IsGroupOf}
 use Rattle.m2v_order.proofs.Queues.{grouped, sound_opening, sound_push, sound_end, due_is, turn_is, sound_next}
 use Rattle.m2v_order.proofs.Wholes.{group_is}
 use Rattle.m2v_slice.specs.Conditions.{IsBook}
+use Rattle.m2v_law_safe.proofs.m2v_enc_stream.Queues.{from_due, from_none, from_zero, begun_more, sound_waiting}
 use Rattle.m2v_law_safe.specs.m2v_enc_stream.Streams.{Progress, at_start, book_of, group_coded, groups_begun, groups_from, waiting}
 use Rattle.m2v_law_safe.specs.Removals.{groups_of, begun_by}
 use Rattle.m2v_law_safe.proofs.Delays.{placed}
@@ -32,12 +33,6 @@ pub record IsGood (s : Settings) (x : Progress) (g : Group Samples) : Type 0 whe
 abbrev pub AreGood : Settings → Progress → List (Group Samples) → Type 0
 AreGood s x [] = Unit {0}
 AreGood s x (g ∷ more) = IsGood s x g × AreGood s (group_coded s x g false) more
-
-begun_more : (s : Settings) (gs : List (Group Samples)) (g : Group Samples) (x : Progress)
-    → groups_begun s x (gs ++ g ∷ []) ≡ group_coded s (groups_begun s x gs) g false
-unfolding groups_begun
-begun_more s [] g x = refl
-begun_more s (k ∷ gs) g x = begun_more s gs g (group_coded s x k false)
 
 start_is : (s : Settings) (x : Progress) → groups_begun s x [] ≡ x
 unfolding groups_begun
@@ -58,18 +53,6 @@ module _ (s : Settings) (frames : List (List ℕ)) (passes : Passes s) (few : le
 
 -- ---- groups of a queue
 
-pub from_due : (n : ℕ) (q : Queue Samples) → is_due q ≡ true → groups_from (suc n) q ≡ group_of q ∷ groups_from n (after_group q)
-unfolding groups_from
-from_due n q is = cond-true (is_due q) _ _ is
-
-pub from_rest : (n : ℕ) (q : Queue Samples) → is_due q ≡ false → groups_from (suc n) q ≡ []
-unfolding groups_from
-from_rest n q is = cond-false (is_due q) _ _ is
-
-pub from_zero : (q : Queue Samples) → groups_from 0 q ≡ []
-unfolding groups_from
-from_zero q = refl
-
 abbrev AreGroups : Settings → List (Group Samples) → Type 0
 AreGroups s gs = All (λ (g : Group Samples). IsGroupOf s g) gs
 
@@ -85,35 +68,8 @@ groups_by s (suc n) q passes same sound = elim (cases_Bool (is_due q)) [
       subst (AreGroups s) (sym (from_due n q is))
       (All-cons (λ (g : Group Samples). IsGroupOf s g) (group_of q) (groups_from n (after_group q)) group
       (groups_by s n (after_group q) passes same (sound_next q ok due turn)))
-  | inr none ↦ subst (AreGroups s) (sym (from_rest n q none)) (All-nil (λ (g : Group Samples). IsGroupOf s g))
+  | inr none ↦ subst (AreGroups s) (sym (from_none (suc n) q none)) (All-nil (λ (g : Group Samples). IsGroupOf s g))
 ]
-
--- ---- the queue of a stream
-
--- one frame more that waits
-wait_more : (s : Settings) (frames : List (List ℕ)) (f : List ℕ) → waiting s (frames ++ f ∷ []) false ≡ after_push (waiting s frames false) (pad (dims_of s) f)
-wait_more s frames f =
-    let d = dims_of s in
-    let count : length (frames ++ f ∷ []) ≡ length frames + 1 = length-append frames (f ∷ []) in
-    let list : map (pad d) (frames ++ f ∷ []) ≡ map (pad d) frames ++ pad d f ∷ [] = map-append (pad d) frames (f ∷ []) in
-    ap (λ (n : ℕ). record { settings = s; pushed = n; frames = map (pad d) (frames ++ f ∷ []); ended = false }) count
-    ∙ ap (λ (xs : List Samples). record { settings = s; pushed = length frames + 1; frames = xs; ended = false }) list
-
-sound_front : (s : Settings) (frames : List (List ℕ)) (n : ℕ) → Passes s → n ≤ length frames → IsSoundQueue (waiting s (take n frames) false)
-sound_front s frames zero passes le = sound_opening s
-sound_front s frames (suc n) passes le =
-    let d = dims_of s in
-    let f = get_or frames n [] in
-    let rec = sound_front s frames n passes (omega (arith, le)) in
-    let more : take (suc n) frames ≡ take n frames ++ f ∷ [] = take-suc frames n [] (omega (arith, le)) in
-    subst (λ (xs : List (List ℕ)). IsSoundQueue (waiting s xs false)) (sym more)
-    (subst (λ (q : Queue Samples). IsSoundQueue q) (sym (wait_more s (take n frames) f))
-    (sound_push (waiting s (take n frames) false) (pad d f) (grouped s passes) rec refl))
-
-pub sound_waiting : (s : Settings) (frames : List (List ℕ)) → Passes s → IsSoundQueue (waiting s frames true)
-sound_waiting s frames passes =
-    sound_end (waiting s frames false)
-    (subst (λ (xs : List (List ℕ)). IsSoundQueue (waiting s xs false)) (take-length frames) (sound_front s frames (length frames) passes (omega arith)))
 
 pub are_groups : (s : Settings) (frames : List (List ℕ)) → Passes s → All (λ (g : Group Samples). IsGroupOf s g) (groups_of s frames)
 are_groups s frames passes = groups_by s (length frames) (waiting s frames true) passes refl (sound_waiting s frames passes)

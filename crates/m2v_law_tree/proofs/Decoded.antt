@@ -13,6 +13,7 @@ use Rattle.m2v_macro.specs.Conditions.{has_type}
 use Rattle.m2v_pred.specs.declared.mode.Mode.{Mode}
 use Rattle.m2v_pred.specs.Motion.{is_dual, parts_of, lines_read, other_field, own_field}
 use Rattle.m2v_pred.specs.Patches.{part_count}
+use Rattle.m2v_slice.proofs.Motions.{type_tells}
 use Rattle.m2v_macroblock.specs.Modes.{mode_of, told_mode, without_motion_type, skipped_mode}
 use Rattle.m2v_model.specs.Modes.{part_decoded, direction_decoded, is_decoded}
 use Rattle.m2v_law_tree.specs.Slices.{AreDecoded}
@@ -59,23 +60,6 @@ decoded_by kind references structure mode h forward backward =
     (where_told mode.backward (direction_decoded (r 2) (r 3) mode 1 structure) (λ e. direction_by (r 2) (r 3) mode 1 structure (h.backward_top (backward e)) (h.backward_bottom (backward e))))
 
 -- ---- the directions of a macroblock
-
--- a type that isn't intra stands in no I picture, and one with a backward direction in B pictures alone
-type_tells : (k : ℕ) (v : MbType) → has_type k v ≡ true → v.intra ≡ false → 1 ≤ k → k ≤ 3 → (k ≢ 1) × (v.backward ≡ true → k ≡ 3)
-unfolding has_type
-type_tells k v h other least most = (
-  not_one,
-  λ back. elim (cases_lt k 3) [
-    | inl less ↦ elim (cases_lt k 2) [ inl few ↦ absurd (not_one (omega (arith, few, least))) | inr two ↦ absurd (not_two (omega (arith, two, less)) back) ]
-    | inr last ↦ omega (arith, last, most)
-  ],
-)
-  where
-    not_one : k ≡ 1 → ⊥
-    not_one one = let none : false ≡ true = rw (one, other) at h in absurd cc
-
-    not_two : k ≡ 2 → v.backward ≡ true → ⊥
-    not_two two back = let none : false ≡ true = rw (two, other, back) at h in absurd cc
 
 -- the directions that a mode may have in a picture
 pub record MayRead (kind : ℕ) (mode : Mode) : Type 0 where

@@ -9,6 +9,7 @@ use Rattle.m2v_rate.specs.Plans.{Entries}
 use Rattle.m2v_slice.specs.Headers.{begins_group}
 use Rattle.m2v_slice.specs.Books.{Book, CodedPicture, rows, job_at, coded, ledger_behind}
 use Rattle.m2v_slice.specs.Conditions.{IsBook}
+use Rattle.m2v_slice.proofs.Firsts.{first_begins}
 use Rattle.m2v_enc_stream.specs.Streams.{Progress, delay_at, picture_text, pictures_text, book_of, group_coded, groups_coded}
 use Rattle.m2v_model.specs.declared.state.FirstField.{FirstField}
 use Rattle.m2v_model.specs.declared.state.Open.{Open}
@@ -21,7 +22,7 @@ use Rattle.m2v_law_chain.proofs.Chains.{chain_then}
 use Rattle.m2v_law_chain.proofs.Units.{packs_none}
 use Rattle.m2v_law_tree.specs.Trees.{sequence_by, pictures_parts, group_parts, groups_parts}
 use Rattle.m2v_law_tree.specs.States.{state_with, open_at, waiting_behind, anchors_behind}
-use Rattle.m2v_law_tree.proofs.Turns.{IsCounted, none_behind, anchors_end, first_begins}
+use Rattle.m2v_law_tree.proofs.Turns.{IsCounted, none_behind, anchors_end}
 use Rattle.m2v_law_tree.proofs.States.{state_before, state_at, references_at, complete_at, first_sequence}
 use Rattle.m2v_law_tree.proofs.Zeros.{Holds, holds_packs, holds_append}
 use Rattle.m2v_law_tree.proofs.SliceUnits.{Spelled}

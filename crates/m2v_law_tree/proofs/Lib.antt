@@ -12,7 +12,6 @@ pub mod CalmHeaders
 pub mod Follows
 pub mod Groups
 pub mod Headers
-pub mod Ledgers
 pub mod PictureChains
 pub mod Pictures
 pub mod Places

@@ -33,11 +33,6 @@ back_one [] u e = e
 back_one (true ∷ t) u e = refl
 back_one (false ∷ t) u e = back_one t u e
 
-pub zeros_are : (n : ℕ) → all_zero (replicate n false) ≡ true
-unfolding all_zero
-zeros_are zero = refl
-zeros_are (suc n) = zeros_are n
-
 -- the 33 codes of an increment
 codes_one : below (λ i. all_zero (increment_code (Step (i + 1)))) 33 ≡ below (λ i. false) 33
 unfolding below code_of increment same_increment bits_of all_zero

@@ -37,7 +37,7 @@ zero_byte : packed (replicate 8 false) ≡ 0 ∷ []
 unfolding packed number
 zero_byte = refl
 
-packed_zeros : (k : ℕ) → packed (replicate (8 * k) false) ≡ replicate k 0
+pub packed_zeros : (k : ℕ) → packed (replicate (8 * k) false) ≡ replicate k 0
 unfolding packed
 packed_zeros zero = refl
 packed_zeros (suc k) =

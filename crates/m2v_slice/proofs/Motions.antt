@@ -113,7 +113,7 @@ choice_stays d own limits read = elim (cases_lt d.context.kind 2) [
 -- ---- what types and modes tell
 
 -- a type that isn't intra stands in no I picture, and one with a backward direction in B pictures alone
-type_tells : (k : ℕ) (v : MbType) → has_type k v ≡ true → v.intra ≡ false → 1 ≤ k → k ≤ 3 → (k ≢ 1) × (v.backward ≡ true → k ≡ 3)
+pub type_tells : (k : ℕ) (v : MbType) → has_type k v ≡ true → v.intra ≡ false → 1 ≤ k → k ≤ 3 → (k ≢ 1) × (v.backward ≡ true → k ≡ 3)
 unfolding has_type
 type_tells k v h other least most = (
   not_one,

@@ -19,13 +19,13 @@ use Rattle.m2v_rate.specs.Plans.{Entries}
 use Rattle.m2v_rate.specs.Steady.{IsBegun}
 use Rattle.m2v_rate.proofs.Lows.{removals_at}
 use Rattle.m2v_rate.proofs.Streams.{fresh_begun}
-use Rattle.m2v_enc_stream.specs.m2v_slice.Books.{ledger_with}
-use Rattle.m2v_enc_stream.specs.m2v_slice.Conditions.{IsBook}
-use Rattle.m2v_enc_stream.specs.Streams.{Progress, at_start, book_of, group_coded, groups_from, waiting}
-use Rattle.m2v_law_safe.specs.Removals.{ledger_of, groups_of}
-use Rattle.m2v_law_safe.proofs.Books.{begun_ledger}
-use Rattle.m2v_law_safe.proofs.Whole.{whole_ledger, whole_settings, whole_kinds}
-use Rattle.m2v_law_safe.proofs.Anchors.{anchor_behind, anchor_some, anchor_size, before_none, before_some}
+use Rattle.m2v_slice.specs.Books.{whole_ledger}
+use Rattle.m2v_slice.specs.Conditions.{IsBook}
+use Rattle.m2v_slice.proofs.Begun.{begun_ledger}
+use Rattle.m2v_slice.proofs.Ledgers.{whole_ledger_is, whole_settings, whole_kinds, removals_kept}
+use Rattle.m2v_enc_stream.specs.Streams.{Progress, at_start, book_of, group_coded, groups_from, waiting, groups_of, anchor_behind}
+use Rattle.m2v_enc_stream.proofs.Queues.{from_due, from_none, before_none, before_some, first_is, sound_waiting}
+use Rattle.m2v_enc_stream.proofs.Anchors.{anchor_some, anchor_size}
 
 -- ---- what stands
 
@@ -70,35 +70,34 @@ book_by s x q n passes h is =
 -- ---- from group to group
 
 coded_is : (s : Settings) (x : Progress) (g : Group Samples) (ends : Bool)
-    → ((group_coded s x g ends).ledger ≡ ledger_of (book_of s x g)) × ((group_coded s x g ends).before ≡ anchor_behind (book_of s x g))
+    → ((group_coded s x g ends).ledger ≡ whole_ledger (book_of s x g)) × ((group_coded s x g ends).before ≡ anchor_behind (book_of s x g))
 unfolding group_coded
 coded_is s x g ends = (refl, refl)
 
-pub ledger_next : (s : Settings) (x : Progress) (g : Group Samples) (ends : Bool) → (group_coded s x g ends).ledger ≡ ledger_of (book_of s x g)
+pub ledger_next : (s : Settings) (x : Progress) (g : Group Samples) (ends : Bool) → (group_coded s x g ends).ledger ≡ whole_ledger (book_of s x g)
 ledger_next s x g ends = (coded_is s x g ends).0
 
-removals_kept : (s : Settings) (x : Progress) (g : Group Samples) → (ledger_of (book_of s x g)).account.removals ≡ x.ledger.account.removals + length x.ledger.kinds
-unfolding ledger_with
-removals_kept s x g = removals_at x.ledger (length x.ledger.kinds)
+removals_next : (s : Settings) (x : Progress) (g : Group Samples) → (whole_ledger (book_of s x g)).account.removals ≡ x.ledger.account.removals + length x.ledger.kinds
+removals_next s x g = removals_kept (book_of s x g) ∙ removals_at x.ledger (length x.ledger.kinds)
 
 stands_next : (s : Settings) (x : Progress) (q : Queue Samples) (n : ℕ) (y : Progress) → Passes s → Stands s x q (suc n) → is_due q ≡ true
     → IsBook (book_of s x (group_of q))
-    → y.ledger ≡ ledger_of (book_of s x (group_of q)) → y.before ≡ anchor_behind (book_of s x (group_of q)) → Stands s y (after_group q) n
+    → y.ledger ≡ whole_ledger (book_of s x (group_of q)) → y.before ≡ anchor_behind (book_of s x (group_of q)) → Stands s y (after_group q) n
 stands_next s x q n y passes h is book ledger before =
     let b = book_of s x (group_of q) in
     let pass : Passes q.settings = subst Passes (sym h.settings) passes in
     let ok = grouped q.settings pass in
     let due = due_is q is in
     let turn = turn_is q ok h.sound due in
-    let few : length (ledger_of b).kinds ≤ 126 = omega (arith, whole_kinds b book, book.group.pictures) in
+    let few : length (whole_ledger b).kinds ≤ 126 = omega (arith, whole_kinds b book, book.group.pictures) in
     let past : 0 < first_of (after_group q) = omega (arith, turn.after, turn.past) in
     record {
       settings = h.settings;
       sound = sound_next q ok due turn;
       sizes = All-drop (λ (f : Samples). f.dims ≡ dims_of s) (group_size q) q.frames h.sizes;
       same = ap (λ (l : Entries). l.settings) ledger ∙ whole_settings b book;
-      begun = subst IsBegun (sym ledger) (whole_ledger b book).steady.begun;
-      removals = omega (arith, h.removals, few, removals_kept s x (group_of q), ap (λ (l : Entries). l.account.removals) ledger, ap (λ (l : Entries). length l.kinds) ledger);
+      begun = subst IsBegun (sym ledger) (whole_ledger_is b book).steady.begun;
+      removals = omega (arith, h.removals, few, removals_next s x (group_of q), ap (λ (l : Entries). l.account.removals) ledger, ap (λ (l : Entries). length l.kinds) ledger);
       before = ap (λ (o : Option Samples). is_some o) before ∙ anchor_some b book ∙ sym (before_some (first_of (after_group q)) past);
       size = subst (λ (o : Option Samples). IfSome o (λ (f : Samples). f.dims ≡ dims_of s)) (sym before) (anchor_size b book);
     }
@@ -109,15 +108,6 @@ stands_next s x q n y passes h is book ledger before =
 abbrev pub HaveBooks : Settings → Progress → List (Group Samples) → Type 0
 HaveBooks s x [] = Unit {0}
 HaveBooks s x (g ∷ more) = HasBook s x g × HaveBooks s (group_coded s x g false) more
-
-pub from_due : (n : ℕ) (q : Queue Samples) → is_due q ≡ true → groups_from (suc n) q ≡ group_of q ∷ groups_from n (after_group q)
-unfolding groups_from
-from_due n q is = cond-true (is_due q) _ _ is
-
-from_none : (n : ℕ) (q : Queue Samples) → is_due q ≡ false → groups_from n q ≡ []
-unfolding groups_from
-from_none zero q is = refl
-from_none (suc n) q is = cond-false (is_due q) _ _ is
 
 books : (n : ℕ) (s : Settings) (x : Progress) (q : Queue Samples) → Passes s → Stands s x q n → HaveBooks s x (groups_from n q)
 unfolding groups_from
@@ -135,31 +125,11 @@ books (suc n) s x q passes h = elim (cases_Bool (is_due q)) [
 
 -- ---- the first group
 
-first_is : (s : Settings) (frames : List (List ℕ)) → first_of (waiting s frames true) ≡ 0
-first_is s frames = omega (arith, length-map frames (pad (dims_of s)))
-
-none_from : (s : Settings) (count : ℕ) (first : ℕ) → first ≡ 0 → intra_from s first ≡ 0 → anchors_between s count first (intra_from s first) ≡ []
-none_from s count first e f = rw (f, e) refl
-
-waiting_sound : (s : Settings) (frames : List (List ℕ)) → Passes s → IsSoundQueue (waiting s frames true)
-waiting_sound s frames passes =
-    let q = waiting s frames true in
-    let ok = grouped s passes in
-    let first = first_is s frames in
-    let intra : intra_from s (first_of q) ≡ 0 = ap (intra_from s) first ∙ intra_first s ok in
-    let count = length-map frames (pad (dims_of s)) in
-    record {
-      room = omega (arith, count);
-      near = λ some. omega (arith, intra, count, some);
-      clear = λ some. none_from s (length frames) (first_of q) first intra;
-      none = λ none going. absurd (true_false true refl going);
-    }
-
 stands_first : (s : Settings) (frames : List (List ℕ)) → Passes s → length frames ≤ 999999 → Stands s (at_start s) (waiting s frames true) (length frames)
 stands_first s frames passes few =
     record {
       settings = refl;
-      sound = waiting_sound s frames passes;
+      sound = sound_waiting s frames passes;
       sizes = All-map (λ (f : Samples). f.dims ≡ dims_of s) (pad (dims_of s)) frames (λ k d lt. refl);
       same = refl;
       begun = fresh_begun s passes;
