@@ -1,11 +1,11 @@
 -- The pictures of a group one behind another: how long they are, and where each of them stands in the stream.
-use Rattle.std.proofs.Common.{◌≡◌, ℕ, zero, suc, ◌+◌, ◌<◌, ◌≤◌, ◌⊎◌, inl, inr, Bool, false, cond, ◌++◌, length, replicate, get_or, refl, sym, ap, subst, ◌∙◌, arith}
+use Rattle.std.proofs.Common.{◌≡◌, ℕ, zero, suc, ◌+◌, ◌%◌, ◌<◌, ◌≤◌, ◌⊎◌, inl, inr, Bool, false, cond, ◌++◌, length, replicate, get_or, refl, sym, ap, subst, arith}
 use Rattle.std.specs.Prelude.{nat_eq, ◌&&◌}
 use Rattle.std.specs.List.{flat_map}
-use Rattle.std.proofs.lemmas.Bool.{cases_Bool, cond-false, and_parts, eqb-true}
+use Rattle.std.proofs.lemmas.Bool.{cases_Bool, cond-false, cond_both, and_parts, eqb-true}
 use Rattle.std.proofs.lemmas.List.{length-append, length-replicate}
 use Rattle.std.proofs.lemmas.List.Concat.{length-flat_map}
-use Rattle.m2v_vbv.specs.Account.{stuffing_of}
+use Rattle.m2v_vbv.specs.Account.{State, stuffing_of}
 use Rattle.m2v_rate.specs.Plans.{Entries, account_at}
 use Rattle.m2v_rate.specs.Places.{IsPlace}
 use Rattle.m2v_rate.proofs.Places.{next_place}
@@ -61,7 +61,7 @@ zeros_full l ends p (inl lt) = elim (cases_Bool (ends && nat_eq (p + 1) (length 
 ]
 zeros_full l ends p (inr e) = ap (λ (t : Bool). cond (t && nat_eq (p + 1) (length l.kinds)) 0 (stuffing_of (account_at l p) (get_or l.sizes p 0) (get_or l.intervals p 0))) e
 
--- the same in the ledger of a book
+-- in the ledger of a book
 pub zeros_on : (b : Book) → IsBook b → (ends : Bool) (p : ℕ) → (p + 1 < length b.pictures) ⊎ (ends ≡ false)
     → (let w = whole_ledger b in zeros_of w ends p ≡ stuffing_of (account_at w p) (get_or w.sizes p 0) (get_or w.intervals p 0))
 zeros_on b h ends p goes = zeros_full (whole_ledger b) ends p (more goes)
@@ -69,6 +69,14 @@ zeros_on b h ends p goes = zeros_full (whole_ledger b) ends p (more goes)
     more : (p + 1 < length b.pictures) ⊎ (ends ≡ false) → (p + 1 < length (whole_ledger b).kinds) ⊎ (ends ≡ false)
     more (inl lt) = inl (omega (arith, lt, whole_kinds b h))
     more (inr e) = inr e
+
+eights : (a : State) (bits units : ℕ) → stuffing_of a bits units % 8 ≡ 0
+unfolding stuffing_of
+eights a bits units = omega arith
+
+pub zeros_whole : (l : Entries) (ends : Bool) (p : ℕ) → zeros_of l ends p % 8 ≡ 0
+zeros_whole l ends p = cond_both (ends && nat_eq (p + 1) (length l.kinds)) _ _ (λ (n : ℕ). n % 8 ≡ 0) (λ e. refl)
+    (λ e. eights (account_at l p) (get_or l.sizes p 0) (get_or l.intervals p 0))
 
 -- ---- places
 

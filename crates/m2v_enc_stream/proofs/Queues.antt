@@ -12,7 +12,7 @@ use Rattle.m2v_order.specs.Coding.{anchors_between}
 use Rattle.m2v_order.specs.Groups.{Queue, Group, first_of, intra_from, next_intra, anchor_before, is_due, group_of, after_group, IsSoundQueue}
 use Rattle.m2v_order.proofs.Intra.{intra_first, test_other}
 use Rattle.m2v_order.proofs.Queues.{grouped, true_false}
-use Rattle.m2v_enc_stream.specs.Streams.{Progress, group_coded, groups_begun, groups_from, waiting, groups_of}
+use Rattle.m2v_enc_stream.specs.Streams.{Progress, at_start, group_coded, groups_begun, groups_coded, groups_from, waiting, groups_of, coded_all}
 
 -- ---- the groups of a queue
 
@@ -81,6 +81,10 @@ first_group s frames some =
     let n = length frames - 1 in
     let e : length frames ≡ suc n = omega (arith, some) in
     ap (λ (k : ℕ). groups_from k q) e ∙ from_due n q (due s frames some)
+
+pub coded_is : (s : Settings) (frames : List (List ℕ)) → coded_all s frames ≡ groups_coded s (at_start s) (groups_of s frames)
+unfolding coded_all
+coded_is s frames = refl
 
 -- there is a group
 pub stream_some : (s : Settings) (frames : List (List ℕ)) → 1 ≤ length frames → 0 < length (groups_of s frames)

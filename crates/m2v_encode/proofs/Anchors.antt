@@ -1,6 +1,6 @@
 -- The last anchor of a group, and the frames that are shown.
-use Rattle.std.proofs.Common.{◌≡◌, ℕ, zero, suc, ◌+◌, ◌*◌, ◌<◌, inl, inr, Bool, true, false, cond, List, [], ◌∷◌, ◌++◌, length, map, drop, get_or, Option, Some, None, refl, sym, ap, subst, ◌∙◌, arith, append_assoc}
-use Rattle.std.specs.Prelude.{nat_eq, nat_lt, is_some, IfSome}
+use Rattle.std.proofs.Common.{◌≡◌, ℕ, zero, suc, ◌+◌, ◌*◌, ◌<◌, inl, inr, Bool, cond, List, [], ◌∷◌, ◌++◌, length, map, drop, Option, Some, None, refl, sym, ap, ◌∙◌, arith, append_assoc}
+use Rattle.std.specs.Prelude.{nat_eq, nat_lt}
 use Rattle.std.specs.List.{range_with_len}
 use Rattle.std.proofs.lemmas.Bool.{cond-true, cond-false, cases_lt, cases_eq, lt-ltb, le-ltb}
 use Rattle.std.proofs.lemmas.List.{append-nil, length-append}
@@ -12,10 +12,8 @@ use Rattle.m2v_plane.specs.Samples.{Samples}
 use Rattle.m2v_plane.specs.Raw.{raw, crop, shown, frame_bytes, chroma_height, chroma_width}
 use Rattle.m2v_plane.proofs.RawVideo.{length-shown}
 use Rattle.m2v_set.specs.Numbers.{dims_of}
-use Rattle.m2v_order.specs.declared.jobs.PictureJob.{PictureJob}
 use Rattle.m2v_slice.specs.Books.{Book, job_at, no_job}
 use Rattle.m2v_slice.specs.Conditions.{IsBook}
-use Rattle.m2v_slice.proofs.Groups.{picture_is_one}
 use Rattle.m2v_law_headline.specs.m2v_enc_stream.Streams.{frame_of, frame_or, anchor_frame}
 use Rattle.m2v_encode.specs.Groups.{all_coded, frames_shown, group_shown, anchor_behind}
 use Rattle.m2v_law_headline.proofs.m2v_enc_stream.Anchors.{anchor_is}

@@ -1,21 +1,14 @@
 -- The book of the next group, as it follows what is coded.
-use Rattle.std.proofs.Common.{◌≡◌, ℕ, ◌+◌, ◌*◌, ◌^◌, ◌<◌, ◌≤◌, List, [], ◌∷◌, length, map, Option, inl, inr, refl, sym, ap, subst, ◌∙◌, arith}
+use Rattle.std.proofs.Common.{◌≡◌, ℕ, ◌+◌, ◌*◌, ◌<◌, List, length, Option, refl, sym, ap, subst, ◌∙◌}
 use Rattle.std.specs.Prelude.{All}
-use Rattle.std.proofs.lemmas.Bool.{cond_both}
-use Rattle.std.proofs.lemmas.List.{length-map}
-use Rattle.std.proofs.lemmas.List.Elements.{All-nil, All-cons}
 use Rattle.m2v_plane.specs.Samples.{Samples}
 use Rattle.m2v_set.specs.declared.settings.Settings.{Settings}
-use Rattle.m2v_set.specs.Numbers.{IsInterval, rows_by}
+use Rattle.m2v_set.specs.Numbers.{rows_by}
 use Rattle.m2v_set.proofs.Facts.{bounds}
 use Rattle.m2v_order.specs.declared.jobs.PictureJob.{PictureJob}
-use Rattle.m2v_order.specs.Groups.{Group}
-use Rattle.m2v_order.specs.Times.{intervals_of, anchor_after, interval_behind}
-use Rattle.m2v_rate.specs.Plans.{Entries, begun}
-use Rattle.m2v_rate.specs.Steady.{IsLedger}
-use Rattle.m2v_rate.proofs.Keeps.{begins_steady}
+use Rattle.m2v_rate.specs.Plans.{Entries}
 use Rattle.m2v_slice.specs.Books.{Book, rows}
-use Rattle.m2v_slice.specs.Conditions.{IsBook, IsBegunFor}
+use Rattle.m2v_slice.specs.Conditions.{IsBook}
 use Rattle.m2v_slice.specs.Jobs.{jobs_of}
 use Rattle.m2v_slice.proofs.Groups.{passes_of, rows_few}
 use Rattle.m2v_encode.specs.Groups.{IsDone}

@@ -1,7 +1,7 @@
 -- The groups of all frames: those that were handed out stand in front, whatever follows.
-use Rattle.std.proofs.Common.{◌≡◌, ℕ, zero, suc, ◌+◌, ◌-◌, ◌<◌, ◌≤◌, Bool, true, false, inl, inr, List, [], ◌∷◌, ◌++◌, length, map, take, drop, refl, sym, ap, subst, ◌∙◌, arith, append_assoc}
+use Rattle.std.proofs.Common.{◌≡◌, ℕ, suc, ◌+◌, ◌-◌, ◌<◌, ◌≤◌, Bool, true, false, inl, inr, List, [], ◌∷◌, ◌++◌, length, map, take, drop, refl, sym, ap, subst, ◌∙◌, arith, append_assoc}
 use Rattle.std.specs.Prelude.{nat_lt, ◌&&◌, ◌||◌}
-use Rattle.std.proofs.lemmas.Bool.{cond-true, cond-false, cases_lt, lt-ltb, and_from}
+use Rattle.std.proofs.lemmas.Bool.{cases_lt, lt-ltb, and_from}
 use Rattle.std.proofs.lemmas.List.{length-append, append-nil, map-append, length-drop, drop-append-le, take-append-drop, take-append-le}
 use Rattle.std.proofs.Math.Seq.{drop-append_seam}
 use Rattle.m2v_plane.specs.Raw.{pad}

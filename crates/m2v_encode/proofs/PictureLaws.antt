@@ -1,37 +1,28 @@
 -- A picture as it is sent: what is held when it is due, its zero bytes, its delay and its parts.
-use Rattle.std.proofs.Common.{◌≡◌, ℕ, zero, suc, ◌+◌, ◌-◌, ◌*◌, ◌/◌, ◌%◌, ◌^◌, ◌<◌, ◌≤◌, ◌⊎◌, inl, inr, Bool, true, false, not, cond, List, [], ◌∷◌, ◌++◌, length, replicate, get_or, refl, sym, ap, subst, ◌∙◌, arith, append_assoc}
+use Rattle.std.proofs.Common.{◌≡◌, ℕ, zero, suc, ◌+◌, ◌-◌, ◌*◌, ◌/◌, ◌%◌, ◌^◌, ◌<◌, ◌≤◌, Bool, cond, List, [], ◌++◌, length, replicate, refl, sym, ap, subst, ◌∙◌, arith, append_assoc}
 use Rattle.std.specs.Prelude.{nat_eq, ◌&&◌, slice_index}
-use Rattle.std.specs.List.{flat_map}
-use Rattle.std.proofs.lemmas.Bool.{cond_both, cases_Bool, cond-true, cond-false, and_parts, eqb-true}
-use Rattle.std.proofs.lemmas.List.{length-append, append-nil}
+use Rattle.std.proofs.lemmas.Bool.{cond_both}
+use Rattle.std.proofs.lemmas.List.{append-nil}
 use Rattle.std.proofs.lemmas.List.Concat.{length-flat_map}
-use Rattle.std.proofs.lemmas.List.FromFn.{get_or-map-range_with_len}
 use Rattle.m2v_bits.specs.Bits.{packed, IsEdge}
 use Rattle.m2v_bits.proofs.Units.{edge-append, packed-append}
 use Rattle.m2v_set.specs.declared.settings.Settings.{Settings}
-use Rattle.m2v_set.specs.declared.settings.Scan.{Scan}
-use Rattle.m2v_set.specs.declared.settings.Scan.TheVariants.{Progressive, Frames, Fields}
 use Rattle.m2v_set.specs.Numbers.{buffer_bits, least_of}
 use Rattle.m2v_set.proofs.Facts.{bounds}
 use Rattle.m2v_vbv.specs.Account.{State, stuffing_of, arriving}
-use Rattle.m2v_order.specs.declared.jobs.PictureJob.{PictureJob}
-use Rattle.m2v_order.specs.Coding.{structures}
-use Rattle.m2v_order.specs.Calls.{IsFromIntra}
-use Rattle.m2v_order.specs.Whole.{fields_of}
 use Rattle.m2v_rate.specs.Plans.{Entries, account_at}
 use Rattle.m2v_rate.proofs.Places.{arriving_is, gone_whole}
 use Rattle.m2v_rate.proofs.Lows.{buffer_at, held_least, held_most, size_whole}
 use Rattle.m2v_slice.specs.Slices.{CodedSlice}
-use Rattle.m2v_slice.specs.Headers.{header_units, header_bits, bits_to_code, begins_group}
-use Rattle.m2v_slice.specs.Books.{Book, rows, job_at, no_job, coded, picture_at, size_of, ledger_with}
+use Rattle.m2v_slice.specs.Headers.{header_units, bits_to_code}
+use Rattle.m2v_slice.specs.Books.{Book, rows, job_at, picture_at, size_of, ledger_with}
 use Rattle.m2v_slice.specs.Conditions.{IsBook}
-use Rattle.m2v_slice.proofs.Coded.{count}
-use Rattle.m2v_slice.proofs.Groups.{passes_of, from_intra}
+use Rattle.m2v_slice.proofs.Groups.{passes_of}
 use Rattle.m2v_slice.proofs.Ledgers.{whole_ledger_is, whole_settings, whole_kinds, whole_sizes, size_at}
 use Rattle.m2v_law_headline.specs.m2v_enc_stream.Streams.{zeros_of, delay_at, picture_text, pictures_text, zeros_sum}
 use Rattle.m2v_encode.specs.Groups.{all_coded, whole_ledger, slices_text, IsPlace}
 use Rattle.m2v_encode.proofs.Pieces.{size_small}
-use Rattle.m2v_law_headline.proofs.m2v_enc_stream.Pictures.{picture_length, pictures_more}
+use Rattle.m2v_law_headline.proofs.m2v_enc_stream.Pictures.{picture_length, pictures_more, zeros_whole}
 use Rattle.m2v_encode.proofs.PictureTexts.{header_whole, slices_edge, slices_all, picture_bytes}
 
 -- ---- the ledger
@@ -82,14 +73,6 @@ zeros_at b h l ends p a size lt is at same =
     ∙ ap (λ (x : State). cond (ends && nat_eq (p + 1) (length w.kinds)) 0 (stuffing_of x size u)) (at ∙ ap (λ (x : Entries). account_at x p) is)
     ∙ ap (λ (n : ℕ). cond (ends && nat_eq (p + 1) (length w.kinds)) 0 (stuffing_of (account_at w p) n u)) (same ∙ sym (size_at b p lt))
     ∙ ap (λ (x : Entries). zeros_of x ends p) (sym is)
-
-eights : (a : State) (bits units : ℕ) → stuffing_of a bits units % 8 ≡ 0
-unfolding stuffing_of
-eights a bits units = omega arith
-
-zeros_whole : (l : Entries) (ends : Bool) (p : ℕ) → zeros_of l ends p % 8 ≡ 0
-zeros_whole l ends p = cond_both (ends && nat_eq (p + 1) (length l.kinds)) _ _ (λ (n : ℕ). n % 8 ≡ 0) (λ e. refl)
-    (λ e. eights (account_at l p) (slice_index l.sizes p) (slice_index l.intervals p))
 
 sizes_small : (b : Book) → IsBook b → 1800 * buffer_bits b.settings ≤ 1800 * 9781248
 sizes_small b h = let buffer = (bounds b.settings (passes_of b h)).size.buffer in omega (arith, buffer)

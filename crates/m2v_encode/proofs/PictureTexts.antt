@@ -1,12 +1,11 @@
 -- The texts of a group's pictures: their parts end at edges of bytes.
-use Rattle.std.proofs.Common.{◌≡◌, ℕ, zero, suc, ◌+◌, ◌-◌, ◌*◌, ◌/◌, ◌%◌, ◌<◌, ◌≤◌, Bool, false, List, [], ◌∷◌, ◌++◌, length, replicate, refl, sym, ap, subst, ◌∙◌, arith, append_assoc}
+use Rattle.std.proofs.Common.{◌≡◌, ℕ, zero, suc, ◌+◌, ◌-◌, ◌*◌, ◌/◌, ◌%◌, ◌<◌, ◌≤◌, Bool, false, List, [], ◌++◌, length, replicate, refl, sym, ap, subst, ◌∙◌, arith, append_assoc}
 use Rattle.std.specs.Prelude.{nat_eq}
 use Rattle.std.specs.List.{range_with_len, flat_map}
 use Rattle.std.proofs.lemmas.Bool.{cond_both}
-use Rattle.std.proofs.lemmas.List.{length-append, append-nil, replicate-append-replicate, length-replicate}
-use Rattle.std.proofs.lemmas.List.Concat.{length-flat_map}
+use Rattle.std.proofs.lemmas.List.{append-nil, replicate-append-replicate, length-replicate}
 use Rattle.std.proofs.lemmas.List.Folds.{flat_map-map}
-use Rattle.m2v_bits.specs.Bits.{packed, number, IsEdge}
+use Rattle.m2v_bits.specs.Bits.{packed, IsEdge}
 use Rattle.m2v_bits.proofs.Units.{unit_edge, edge-append, packed-append}
 use Rattle.m2v_bits.proofs.Texts.{texts_more}
 use Rattle.m2v_order.specs.declared.jobs.PictureJob.{PictureJob}
@@ -14,7 +13,7 @@ use Rattle.m2v_rate.specs.Plans.{Entries}
 use Rattle.m2v_slice.specs.Slices.{CodedSlice, SliceTask, slice_of}
 use Rattle.m2v_slice.specs.Headers.{header_units, header_bits, begins_group}
 use Rattle.m2v_slice.proofs.TextLengths.{header_length}
-use Rattle.m2v_slice.specs.Books.{Book, rows, job_at, picture_at, slice_at, size_of}
+use Rattle.m2v_slice.specs.Books.{Book, rows, job_at, picture_at, slice_at}
 use Rattle.m2v_slice.specs.Conditions.{IsBook}
 use Rattle.m2v_slice.proofs.Coded.{slice_is}
 use Rattle.m2v_slice.proofs.Slices.{is_job}

@@ -15,7 +15,7 @@ use Rattle.m2v_slice.specs.declared.pieces.EncodePiece.TheVariants as piece
 use Rattle.m2v_slice.specs.Books.{Book, CodedPicture, rows, job_at, no_job, coded, picture_at, slice_at, slice_job, plan_job, size_of}
 use Rattle.m2v_slice.specs.Conditions.{IsBook}
 use Rattle.m2v_slice.specs.Jobs.{value_of, slice_piece, plan_piece}
-use Rattle.m2v_slice.proofs.Coded.{count, no_slice, picture_is, slices_count, slice_stays}
+use Rattle.m2v_slice.proofs.Coded.{no_slice, picture_is, slices_count, slice_stays}
 use Rattle.m2v_slice.proofs.Learned.{plan_picture, plan_part, slice_picture, slice_part, value_plan, value_slice}
 use Rattle.m2v_slice.proofs.Groups.{passes_of}
 use Rattle.m2v_slice.proofs.Steady.{ledger_at, ledger_known}

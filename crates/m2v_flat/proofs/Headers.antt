@@ -1,23 +1,15 @@
 -- The headers of the flat profile stand in their units.
-use Rattle.std.proofs.Common.{◌≡◌, ℕ, ◌+◌, ◌^◌, ◌<◌, ◌≤◌, Bool, true, false, List, [], ◌++◌, length, drop, replicate, Some, refl, sym, ap, subst, arith}
-use Rattle.std.specs.Prelude.{nat_eq, nat_le, not}
-use Rattle.std.proofs.lemmas.Bool.{ne_eqb, le-leb}
+use Rattle.std.proofs.Common.{ℕ, ◌<◌, ◌≤◌, true, [], length, refl, arith}
 use Rattle.std.proofs.lemmas.Nat.{mod_below}
-use Rattle.m2v_bits.specs.Bits.{bits_of, number, to_edge}
-use Rattle.m2v_bits.specs.Syntax.{seq, done, here, rule, renamed}
-use Rattle.m2v_bits.specs.Leaves.{bits_at, end_at}
+use Rattle.m2v_bits.specs.Bits.{bits_of, number}
+use Rattle.m2v_bits.specs.Syntax.{renamed}
 use Rattle.m2v_head.specs.Texts.{sequence_text, sequence_extension_text, rates_text, picture_text, picture_extension_text, flags_text, composite_text}
-use Rattle.m2v_head.specs.Fits.{SequenceFits, SequenceExtensionFits, PictureFits, PictureExtensionFits}
-use Rattle.m2v_head.specs.declared.sequence.SequenceInfo.{SequenceInfo}
-use Rattle.m2v_head.proofs.Spellings.{sequence_spells, sequence_extension_spells, picture_spells, picture_extension_spells}
+use Rattle.m2v_head.specs.Fits.{SequenceFits, PictureFits, PictureExtensionFits}
+use Rattle.m2v_head.proofs.Spellings.{sequence_spells, picture_spells}
 use Rattle.m2v_flat.specs.declared.settings.FlatSettings.{FlatSettings}
 use Rattle.m2v_flat.specs.Flat.{flat_sequence, flat_sequence_extension, flat_picture, flat_picture_extension}
-use Rattle.m2v_model.specs.declared.fault.FaultKind.TheVariants.{Truncated}
-use Rattle.m2v_model.specs.Faults.{InUnit}
-use Rattle.m2v_model.specs.Looking.{number_from, look, looking}
-use Rattle.m2v_model.specs.Units.{Units, inside}
-use Rattle.m2v_model.specs.Headers.{whole_header, size_of, size_at, sequence_in, sequence_extension_in, picture_in, f_code_at, f_codes_at, picture_extension_in}
-use Rattle.m2v_model.specs.Streams.{id_at, extension_in}
+use Rattle.m2v_model.specs.Looking.{number_from}
+use Rattle.m2v_model.specs.Headers.{whole_header, sequence_in, sequence_extension_in, picture_in, picture_extension_in}
 use Rattle.m2v_law_chain.specs.Texts.{ended}
 use Rattle.m2v_law_chain.proofs.Headers.{behind, whole_stands, IdStands, plain_stands, f_codes_stand, coding_stands as coding_shows}
 

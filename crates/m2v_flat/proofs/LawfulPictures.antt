@@ -1,9 +1,9 @@
 -- The pictures of the flat stream, numbered, break no rule.
-use Rattle.std.proofs.Common.{◌≡◌, ℕ, zero, suc, ◌+◌, ◌-◌, ◌%◌, ◌<◌, ◌≤◌, Bool, true, false, List, [], ◌∷◌, length, map, Some, refl, ap, ◌∙◌, arith, ⊎_elim}
+use Rattle.std.proofs.Common.{◌≡◌, ℕ, ◌+◌, ◌-◌, ◌%◌, ◌<◌, ◌≤◌, Bool, true, false, List, [], ◌∷◌, length, map, Some, refl, ap, ◌∙◌, arith, ⊎_elim}
 use Rattle.std.specs.Prelude.{All}
 use Rattle.std.specs.List.{flat_map}
 use Rattle.std.proofs.lemmas.Bool.{eq-eqb, ne_eqb, cases_eq}
-use Rattle.std.proofs.lemmas.List.Elements.{All-nil, All-cons, All-head, All-tail}
+use Rattle.std.proofs.lemmas.List.Elements.{All-nil, All-cons}
 use Rattle.m2v_flat.specs.declared.settings.FlatSettings.{FlatSettings}
 use Rattle.m2v_flat.specs.Tree.{sequence_of}
 use Rattle.m2v_order.specs.Display.{Order}
@@ -12,7 +12,7 @@ use Rattle.m2v_model.specs.Pictures.{coded_picture}
 use Rattle.m2v_model.specs.Lawful.{Numbered, numbered, horizontal_rule, vertical_rule, intra_rule, frames_of_group, display_place, place_in_group, reference_rule, crowd_rule, repeat_rule, progressive_rule, precision_rule, picture_breaches}
 use Rattle.m2v_flat.specs.Told.{decoded_from}
 use Rattle.m2v_flat.specs.Numbered.{counted, counted_from, intra_from}
-use Rattle.m2v_flat.proofs.Sequences.{judge_none, most_none}
+use Rattle.m2v_law_chain.proofs.Judging.{judge_none, most_none}
 
 -- ---- the pictures, numbered
 

@@ -5,7 +5,7 @@ use Rattle.std.specs.List.{range_with_len}
 use Rattle.std.proofs.lemmas.Bool.{ne_eqb, eq-eqb, le-leb, lt-ltb, and_from}
 use Rattle.std.proofs.Math.Nat.{mul_comm}
 use Rattle.m2v_bits.specs.Bits.{to_edge}
-use Rattle.m2v_bits.specs.Syntax.{seq, done, here, rule, choose}
+use Rattle.m2v_bits.specs.Syntax.{seq, done, rule, choose}
 use Rattle.m2v_head.specs.Texts.{sequence_text, sequence_extension_text, picture_text, picture_extension_text, slice_text}
 use Rattle.m2v_plane.specs.declared.dims.Dims.{Dims}
 use Rattle.m2v_plane.specs.Samples.{Samples}
@@ -16,11 +16,10 @@ use Rattle.m2v_flat.specs.Flat.{flat_sequence, flat_sequence_extension, flat_pic
 use Rattle.m2v_flat.proofs.Passing.{is_small}
 use Rattle.m2v_model.specs.declared.state.Open.{Open}
 use Rattle.m2v_model.specs.declared.state.State.{State}
-use Rattle.m2v_model.specs.Units.{Units, unit_at, unit_bits}
-use Rattle.m2v_model.specs.Headers.{whole_header, sequence_in, sequence_extension_in, picture_in, picture_extension_in}
+use Rattle.m2v_model.specs.Units.{Units}
 use Rattle.m2v_model.specs.States.{at_first, one_anchor_more, with_slice, is_complete, columns_of, rows_of, picture_rows, dims_of, slice_setup}
 use Rattle.m2v_model.specs.Slices.{slice_at, large_in}
-use Rattle.m2v_model.specs.Streams.{sequence, picture, slice, after, close, no_second_field_due, extension_behind, sequence_unit, picture_unit, read_slice, slice_in, slice_unit, onward, later_unit, known_unit}
+use Rattle.m2v_model.specs.Streams.{sequence, picture, slice, after, read_slice, slice_in, slice_unit, onward, later_unit, known_unit}
 use Rattle.m2v_flat.specs.Tree.{flat_setup, flat_row, flat_rows, sequence_of, flat_open, open_picture, state_with, state_in, pictures_parts}
 use Rattle.m2v_law_chain.specs.Texts.{ended, unit_bytes}
 use Rattle.m2v_flat.proofs.Slices.{slice_stands, none_large}

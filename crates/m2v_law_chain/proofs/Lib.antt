@@ -6,3 +6,4 @@ pub mod Units
 pub mod Headers
 pub mod HeaderUnits
 pub mod Ends
+pub mod Judging

@@ -1,17 +1,14 @@
 -- The bits of each piece, and where the start code of its picture ends in it.
 use Rattle.std.proofs.Common.{◌≡◌, ℕ, ◌+◌, ◌-◌, ◌*◌, ◌/◌, ◌<◌, Bool, true, false, cond, List, [], ◌∷◌, ◌++◌, length, replicate, refl, ap, ◌∙◌, arith}
-use Rattle.std.specs.List.{flat_map}
 use Rattle.std.proofs.lemmas.List.{length-append, length-replicate}
-use Rattle.std.proofs.lemmas.List.Concat.{length-flat_map}
 use Rattle.m2v_bits.specs.Bits.{packed, start_code, to_edge, IsEdge}
 use Rattle.m2v_head.specs.Texts.{sequence_text, sequence_extension_text, group_text}
 use Rattle.m2v_set.specs.declared.settings.Settings.{Settings}
 use Rattle.m2v_order.specs.declared.jobs.PictureJob.{PictureJob}
 use Rattle.m2v_rate.specs.Plans.{Entries}
-use Rattle.m2v_law_shown.specs.m2v_slice.Slices.{CodedSlice}
-use Rattle.m2v_law_shown.specs.m2v_slice.Headers.{sequence_of, sequence_extension_of, group_from, header_units, bits_to_code, begins_group}
-use Rattle.m2v_law_shown.proofs.m2v_slice.TextLengths.{header_length, sequence_length, sequence_extension_length, group_length}
-use Rattle.m2v_law_shown.specs.m2v_slice.Books.{Book, job_at, picture_at, coded}
+use Rattle.m2v_law_shown.specs.m2v_slice.Headers.{sequence_of, sequence_extension_of, group_from, bits_to_code, begins_group}
+use Rattle.m2v_law_shown.proofs.m2v_slice.TextLengths.{sequence_length, sequence_extension_length, group_length}
+use Rattle.m2v_law_shown.specs.m2v_slice.Books.{Book, job_at, coded}
 use Rattle.m2v_law_shown.specs.m2v_slice.Conditions.{IsBook}
 use Rattle.m2v_law_shown.specs.m2v_enc_stream.Streams.{zeros_of, delay_at, picture_text}
 use Rattle.m2v_model.specs.Units.{Units, cut}

@@ -71,7 +71,7 @@ one_exact s earlier g ends more p passes lt h =
     let at = length (begun_by s earlier).text in
     let front = sent (fresh s) (groups_seen s (at_start s) earlier) in
     subst (λ (rs : List Removal). IsExact (start_of s) rs (sent_at b ends at more p)) (before_is s earlier g ends p (omega (arith, lt)) (inl lt) h)
-    (delay_exact s earlier g ends p passes lt h, delay_small s earlier g ends p passes lt h)
+    (delay_exact s earlier g ends p passes lt h, delay_small s earlier g ends p lt h)
 
 group_exact : (s : Settings) (earlier : List (Group Samples)) (g : Group Samples) (ends : Bool) (n : ℕ) → Passes s → n ≤ length g.pictures → IsPlaced s earlier g
     → (let b = book_of s (begun_by s earlier) g in

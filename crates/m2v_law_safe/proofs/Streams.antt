@@ -1,30 +1,28 @@
 -- The bits of the whole stream are those that are removed.
-use Rattle.std.proofs.Common.{◌≡◌, ℕ, suc, ◌+◌, ◌-◌, ◌<◌, ◌≤◌, inl, Bool, true, false, List, [], ◌∷◌, ◌++◌, length, refl, sym, ap, ◌∙◌, arith}
-use Rattle.std.specs.Prelude.{nat_eq, nat_lt, ◌&&◌, ◌||◌}
-use Rattle.std.proofs.lemmas.Bool.{cond-true, eq-eqb, lt-ltb}
-use Rattle.std.proofs.lemmas.List.{length-append, length-map}
+use Rattle.std.proofs.Common.{◌≡◌, ℕ, suc, ◌+◌, ◌-◌, ◌<◌, ◌≤◌, inl, true, false, List, [], ◌∷◌, ◌++◌, length, refl, sym, ap, ◌∙◌, arith}
+use Rattle.std.specs.Prelude.{nat_eq}
+use Rattle.std.proofs.lemmas.Bool.{cond-true, eq-eqb}
+use Rattle.std.proofs.lemmas.List.{length-append}
 use Rattle.m2v_bits.specs.Bits.{start_code, ◌⧺◌}
 use Rattle.m2v_bits.proofs.Units.{start_length}
-use Rattle.m2v_plane.specs.Raw.{pad}
 use Rattle.m2v_plane.specs.Samples.{Samples}
 use Rattle.m2v_set.specs.declared.settings.Settings.{Settings}
-use Rattle.m2v_set.specs.Numbers.{dims_of}
 use Rattle.m2v_set.specs.Rules.{Passes}
 use Rattle.m2v_vbv.specs.Annex.{Removal, removed}
-use Rattle.m2v_order.specs.Groups.{Group, is_due, next_intra, group_of, after_group}
+use Rattle.m2v_order.specs.Groups.{Group}
 use Rattle.m2v_rate.specs.Plans.{Entries, fresh}
 use Rattle.m2v_rate.specs.Safety.{closed, ending_at, group_removals, removals}
 use Rattle.m2v_enc_stream.specs.m2v_slice.Books.{Book}
 use Rattle.m2v_enc_stream.specs.m2v_slice.Conditions.{IsBook}
-use Rattle.m2v_enc_stream.specs.Streams.{Progress, at_start, book_of, group_coded, groups_coded, groups_from, waiting, coded_all, zeros_of, picture_text, pictures_text}
+use Rattle.m2v_enc_stream.specs.Streams.{Progress, at_start, book_of, group_coded, groups_coded, coded_all, zeros_of, picture_text, pictures_text}
 use Rattle.m2v_law_safe.specs.Removals.{coded_of, ledger_of, seen_of, groups_seen, groups_of, Seen}
 use Rattle.m2v_enc_stream.proofs.m2v_slice.Ledgers.{whole_kinds, size_at}
 use Rattle.m2v_enc_stream.proofs.Pictures.{picture_length}
 use Rattle.m2v_enc_stream.proofs.Queues.{stream_some}
-use Rattle.m2v_enc_stream.proofs.Stands.{HasBook, HaveBooks, have_books}
+use Rattle.m2v_enc_stream.proofs.Stands.{HasBook, HaveBooks, have_books, group_text_is}
 use Rattle.m2v_law_safe.proofs.Closed.{seen_length}
 use Rattle.m2v_law_safe.proofs.Groups.{group_closed, behind}
-use Rattle.m2v_law_safe.proofs.Texts.{pictures_bits, group_bits, removed_both, text_of}
+use Rattle.m2v_law_safe.proofs.Texts.{pictures_bits, group_bits, removed_both}
 
 -- ---- the last group
 
@@ -69,7 +67,7 @@ last_group s x g h =
     let c = closed x.ledger (seen_of b) in
     omega (
       arith,
-      ap length (text_of s x g true),
+      ap length (group_text_is s x g true),
       length-append x.text t,
       ap (λ (k : ℕ). length (pictures_text b (coded_of b) (ledger_of b) true (length x.text) k)) all,
       last_bits b h.book (length x.text) p (omega (arith, some)),

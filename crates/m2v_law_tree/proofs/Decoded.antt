@@ -1,8 +1,8 @@
 -- What macroblocks are predicted from was decoded, where the picture's references were.
 use Rattle.std.proofs.Common.{◌≡◌, ◌≢◌, ℕ, ◌≤◌, Bool, true, false, ◌||◌, not, List, ◌⊎◌, inl, inr, refl, ap, ◌∙◌, arith}
 use Rattle.std.specs.Prelude.{nat_eq, slice_index_or}
-use Rattle.std.proofs.lemmas.Bool.{cases_lt, and_from}
-use Rattle.m2v_vlc.specs.declared.values.MbType.{MbType}
+use Rattle.std.proofs.lemmas.Bool.{and_from}
+use Rattle.std.proofs.Math.Bool.{or-true}
 use Rattle.m2v_plane.specs.declared.planes.Lines.{Lines}
 use Rattle.m2v_plane.specs.declared.planes.Lines.TheVariants.{Whole, Top, Bottom}
 use Rattle.m2v_plane.specs.Fields.{lines_there}
@@ -20,10 +20,6 @@ use Rattle.m2v_law_tree.specs.Slices.{AreDecoded}
 
 -- ---- where both fields were decoded
 
-either_true : (b : Bool) → (b || true) ≡ true
-either_true true = refl
-either_true false = refl
-
 lines_all : (l : Lines) → lines_there true true l ≡ true
 unfolding lines_there
 lines_all Whole = refl
@@ -34,13 +30,13 @@ part_all : (mode : Mode) (direction structure part : ℕ) → part_decoded true 
 unfolding part_decoded
 part_all mode direction structure part =
     and_from _ _ (lines_all (lines_read mode.form mode direction structure part))
-    (ap (λ (b : Bool). not (is_dual mode.form) || b) (lines_all (other_field (own_field structure part))) ∙ either_true (not (is_dual mode.form)))
+    (ap (λ (b : Bool). not (is_dual mode.form) || b) (lines_all (other_field (own_field structure part))) ∙ or-true (not (is_dual mode.form)))
 
 direction_all : (mode : Mode) (direction structure : ℕ) → direction_decoded true true mode direction structure ≡ true
 unfolding direction_decoded
 direction_all mode direction structure =
     let one = nat_eq (part_count (parts_of mode.form structure)) 1 in
-    and_from _ _ (part_all mode direction structure 0) (ap (λ (b : Bool). one || b) (part_all mode direction structure 1) ∙ either_true one)
+    and_from _ _ (part_all mode direction structure 0) (ap (λ (b : Bool). one || b) (part_all mode direction structure 1) ∙ or-true one)
 
 direction_by : (top bottom : Bool) (mode : Mode) (direction structure : ℕ) → top ≡ true → bottom ≡ true → direction_decoded top bottom mode direction structure ≡ true
 direction_by top bottom mode direction structure t b = (λ i. direction_decoded (t i) (b i) mode direction structure) ∙ direction_all mode direction structure

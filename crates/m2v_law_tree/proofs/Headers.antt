@@ -1,17 +1,15 @@
 -- The headers of the encoder's stream stand in their units.
-use Rattle.std.proofs.Common.{◌≡◌, ℕ, zero, suc, ◌+◌, ◌/◌, ◌%◌, ◌^◌, ◌<◌, ◌≤◌, Bool, true, false, not, ◌||◌, cond, List, [], ◌++◌, length, drop, replicate, Some, inl, inr, refl, sym, ap, subst, ◌∙◌, arith}
-use Rattle.std.specs.Prelude.{nat_eq, nat_le, if◌then◌else◌}
-use Rattle.std.proofs.lemmas.Bool.{ne_eqb, le-leb, cond_both}
+use Rattle.std.proofs.Common.{◌≡◌, ℕ, zero, suc, ◌/◌, ◌%◌, ◌^◌, ◌<◌, ◌≤◌, Bool, true, false, ◌||◌, cond, List, [], length, inl, inr, refl, sym, ap, subst, ◌∙◌, arith}
+use Rattle.std.specs.Prelude.{nat_eq, if◌then◌else◌}
+use Rattle.std.proofs.lemmas.Bool.{ne_eqb, cond_both}
 use Rattle.std.proofs.lemmas.Nat.{mod_below}
-use Rattle.m2v_bits.specs.Bits.{bits_of, number, to_edge, all_zero}
-use Rattle.m2v_bits.specs.Syntax.{seq, done, here, rule, renamed}
-use Rattle.m2v_bits.specs.Leaves.{bits_at, end_at}
+use Rattle.m2v_bits.specs.Bits.{bits_of, number}
+use Rattle.m2v_bits.specs.Syntax.{renamed}
 use Rattle.m2v_bits.proofs.Bits.{number-bits_of}
 use Rattle.m2v_head.specs.Texts.{sequence_text, sequence_extension_text, rates_text, group_text, picture_text, picture_extension_text, flags_text, composite_text}
-use Rattle.m2v_head.specs.Fits.{SequenceFits, SequenceExtensionFits, GroupFits, PictureFits, PictureExtensionFits}
-use Rattle.m2v_head.specs.declared.sequence.SequenceInfo.{SequenceInfo}
+use Rattle.m2v_head.specs.Fits.{SequenceFits, GroupFits, PictureFits, PictureExtensionFits}
 use Rattle.m2v_head.specs.declared.sequence.SequenceExtension.{SequenceExtension}
-use Rattle.m2v_head.proofs.Spellings.{sequence_spells, sequence_extension_spells, group_spells, picture_spells, picture_extension_spells}
+use Rattle.m2v_head.proofs.Spellings.{sequence_spells, group_spells, picture_spells}
 use Rattle.m2v_set.specs.declared.settings.Settings.{Settings}
 use Rattle.m2v_set.specs.declared.settings.Level.{Level}
 use Rattle.m2v_set.specs.declared.settings.Level.TheVariants.{Main, High1440, High}
@@ -22,12 +20,8 @@ use Rattle.m2v_set.specs.Rules.{is_progressive}
 use Rattle.m2v_order.specs.declared.jobs.PictureJob.{PictureJob}
 use Rattle.m2v_slice.specs.Headers.{profile_of, sequence_of, sequence_extension_of, frames_in_second, group_from, picture_of, extension_of, IsJob}
 use Rattle.m2v_slice.proofs.Groups.{HasStructure}
-use Rattle.m2v_model.specs.declared.fault.FaultKind.TheVariants.{Truncated}
-use Rattle.m2v_model.specs.Faults.{InUnit}
-use Rattle.m2v_model.specs.Looking.{number_from, look, looking}
-use Rattle.m2v_model.specs.Units.{Units, inside}
-use Rattle.m2v_model.specs.Headers.{whole_header, size_of, size_at, sequence_in, sequence_extension_in, group_in, picture_in, is_structure, f_code_at, f_codes_at, picture_extension_in}
-use Rattle.m2v_model.specs.Streams.{id_at, extension_in}
+use Rattle.m2v_model.specs.Looking.{number_from}
+use Rattle.m2v_model.specs.Headers.{whole_header, sequence_in, sequence_extension_in, group_in, picture_in, is_structure, f_codes_at, picture_extension_in}
 use Rattle.m2v_law_chain.specs.Texts.{ended}
 use Rattle.m2v_law_chain.proofs.Headers.{behind, whole_stands, IdStands, plain, plain_stands, f_codes_stand, coding_stands as coding_shows}
 

@@ -14,7 +14,6 @@ pub mod Groups
 pub mod Headers
 pub mod PictureChains
 pub mod Pictures
-pub mod Places
 pub mod SliceUnits
 pub mod States
 pub mod Streams

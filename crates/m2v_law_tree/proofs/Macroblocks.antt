@@ -1,22 +1,17 @@
 -- A macroblock that is written is read again, with those that are skipped before it.
-use Rattle.std.proofs.Common.{◌≡◌, ℕ, suc, ◌+◌, ◌<◌, ◌≤◌, Bool, true, false, All, ◌⊎◌, inl, inr, List, refl, sym, ap, ◌∙◌, subst, arith}
+use Rattle.std.proofs.Common.{◌≡◌, ℕ, suc, ◌+◌, ◌<◌, ◌≤◌, Bool, true, false, ◌⊎◌, inl, inr, List, refl, sym, ap, ◌∙◌, subst, arith}
 use Rattle.std.proofs.lemmas.Bool.{cases_lt}
-use Rattle.std.proofs.lemmas.List.Elements.{All-replicate}
 use Rattle.m2v_bits.specs.Syntax.{Spells}
-use Rattle.m2v_quant.specs.Matrices.{default_matrix}
-use Rattle.m2v_quant.proofs.Tables.{IsWeight, same_intra, intra_weights}
 use Rattle.m2v_plane.specs.Samples.{Samples}
 use Rattle.m2v_pred.specs.Inside.{is_inside}
 use Rattle.m2v_macro.specs.declared.values.SliceState.{SliceState}
-use Rattle.m2v_macro.specs.declared.values.PictureContext.{PictureContext}
-use Rattle.m2v_macroblock.specs.Conditions.{IsPicture, AreDc}
+use Rattle.m2v_macroblock.specs.Conditions.{AreDc}
 use Rattle.m2v_macroblock.specs.Modes.{skipped_mode, mode_of}
 use Rattle.m2v_macroblock.specs.Texts.{macroblock_text}
 use Rattle.m2v_slice.specs.m2v_choose.Decisions.{Decision, Candidate, place_of}
 use Rattle.m2v_slice.specs.m2v_choose.Choice.{choice_of}
-use Rattle.m2v_slice.specs.m2v_choose.Own.{IsOwn}
 use Rattle.m2v_slice.specs.m2v_choose.Laws.{StaysInside}
-use Rattle.m2v_slice.proofs.m2v_choose.OwnReady.{own_context, own_ready}
+use Rattle.m2v_slice.proofs.m2v_choose.OwnReady.{own_ready}
 use Rattle.m2v_slice.specs.Slices.{SliceTask, Begun, decision, begun}
 use Rattle.m2v_slice.specs.Laws.{IsSlice, Keeps}
 use Rattle.m2v_slice.proofs.Choices.{choice_there}
@@ -29,23 +24,7 @@ use Rattle.m2v_law_tree.specs.Slices.{AreDecoded, setup_of}
 use Rattle.m2v_law_tree.proofs.Levels.{choice_levels}
 use Rattle.m2v_law_tree.proofs.Decoded.{decoded_by, mode_may, skipped_may}
 use Rattle.m2v_law_tree.proofs.Insides.{StandsAt, spot, inside_all, decoded_all}
-
--- ---- the picture
-
-weights : All IsWeight (default_matrix true)
-unfolding default_matrix
-weights = subst (All IsWeight) same_intra intra_weights
-
-flat_weights : All IsWeight (default_matrix false)
-unfolding default_matrix
-flat_weights = All-replicate IsWeight 64 16 (omega arith, omega arith)
-
-own_picture : (c : PictureContext) → IsOwn c → IsPicture c
-own_picture c own = record {
-  context = own_context c own;
-  intra = subst (All IsWeight) (sym own.intra) weights;
-  non_intra = subst (All IsWeight) (sym own.non_intra) flat_weights;
-}
+use Rattle.m2v_slice.proofs.m2v_choose.Tried.{own_picture}
 
 -- ---- skipped macroblocks
 

@@ -1,10 +1,9 @@
 -- The headers and slices of a picture, one behind another.
-use Rattle.std.proofs.Common.{◌≡◌, ℕ, ◌<◌, Bool, true, List, [], ◌∷◌, length, Option, Some, None, inl, inr, refl, sym, subst, arith}
-use Rattle.m2v_bits.specs.Syntax.{seq, done, here, rule, choose}
+use Rattle.std.proofs.Common.{◌≡◌, ℕ, ◌<◌, Bool, true, List, [], ◌∷◌, length, Option, Some, None, inl, inr, refl, sym, subst}
+use Rattle.m2v_bits.specs.Syntax.{seq, done, rule, choose}
 use Rattle.m2v_head.specs.Texts.{sequence_text, sequence_extension_text, group_text, picture_text, picture_extension_text}
 use Rattle.m2v_set.specs.declared.settings.Settings.{Settings}
 use Rattle.m2v_set.specs.Bounds.{InSize, InChoice}
-use Rattle.m2v_set.specs.Rules.{is_progressive}
 use Rattle.m2v_order.specs.declared.jobs.PictureJob.{PictureJob}
 use Rattle.m2v_slice.specs.Headers.{sequence_of, sequence_extension_of, group_from, picture_of, extension_of}
 use Rattle.m2v_slice.specs.Books.{Book, job_at}
@@ -14,16 +13,15 @@ use Rattle.m2v_slice.proofs.Slices.{is_job}
 use Rattle.m2v_model.specs.declared.state.FirstField.{FirstField}
 use Rattle.m2v_model.specs.declared.state.Open.{Open}
 use Rattle.m2v_model.specs.declared.state.State as known
-use Rattle.m2v_model.specs.Units.{unit_at, unit_bits}
-use Rattle.m2v_model.specs.Headers.{whole_header, sequence_in, sequence_extension_in, group_in, picture_in, picture_extension_in}
+use Rattle.m2v_model.specs.Headers.{whole_header, group_in, picture_extension_in}
 use Rattle.m2v_model.specs.States.{is_complete, none_waits, is_same_sequence}
-use Rattle.m2v_model.specs.Streams.{sequence, group, picture, close, no_second_field_due, extension_behind, sequence_unit, group_unit, picture_unit, onward, later_unit, known_unit}
+use Rattle.m2v_model.specs.Streams.{sequence, group, picture, close, no_second_field_due, group_unit, onward, later_unit, known_unit}
 use Rattle.m2v_law_chain.specs.Texts.{ended, unit_bytes}
 use Rattle.m2v_law_chain.specs.Chains.{Reads}
 use Rattle.m2v_law_tree.specs.Trees.{sequence_by}
 use Rattle.m2v_law_tree.specs.States.{state_with}
 use Rattle.m2v_law_tree.proofs.Turns.{IsCounted}
-use Rattle.m2v_law_tree.proofs.States.{state_before, due_at, anchored_at}
+use Rattle.m2v_law_tree.proofs.States.{progressive_is, state_before, due_at, anchored_at}
 use Rattle.m2v_law_chain.proofs.Headers.{inside_stands}
 use Rattle.m2v_law_chain.proofs.HeaderUnits as reading
 use Rattle.m2v_law_tree.proofs.Headers.{sequence_stands, extension_stands, sequence_id, group_stands, picture_stands, coding_stands, picture_id}
@@ -88,10 +86,6 @@ group_reads s closed anchors display waits paired = record {
         ),
       );
 }
-
-progressive_is : (s : Settings) → (sequence_by s).extension.progressive_sequence ≡ is_progressive s.scan
-unfolding sequence_extension_of
-progressive_is s = refl
 
 coding_here : (b : Book) → IsBook b → (p delay : ℕ) → p < length b.pictures
     → (whole_header (picture_extension_in (sequence_by b.settings).extension.progressive_sequence (picture_of (job_at b p) delay))).Stands (extension_of b.settings (job_at b p)) (ended (picture_extension_text (extension_of b.settings (job_at b p)))) []

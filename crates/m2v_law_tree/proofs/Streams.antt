@@ -1,14 +1,13 @@
 -- The whole stream: its groups, and the sequence end code.
-use Rattle.std.proofs.Common.{◌≡◌, ℕ, ◌<◌, ◌≤◌, Bool, true, false, List, [], ◌∷◌, ◌++◌, length, Option, Some, None, inl, inr, refl, sym, ap, subst, ◌∙◌, arith}
+use Rattle.std.proofs.Common.{◌≡◌, ℕ, ◌<◌, ◌≤◌, Bool, true, List, [], ◌∷◌, ◌++◌, length, None, inl, refl, sym, ap, subst, ◌∙◌, arith}
 use Rattle.m2v_bits.specs.Bits.{start_code, packed}
 use Rattle.m2v_bits.specs.Syntax.{Rounds}
 use Rattle.m2v_plane.specs.Samples.{Samples}
 use Rattle.m2v_set.specs.declared.settings.Settings.{Settings}
 use Rattle.m2v_set.specs.Rules.{Passes}
 use Rattle.m2v_order.specs.Groups.{Group}
-use Rattle.m2v_enc_stream.specs.Streams.{Progress, at_start, groups_coded, coded_all, Coded}
-use Rattle.m2v_enc_stream.proofs.Queues.{stream_some}
-use Rattle.m2v_model.specs.declared.state.Open.{Open}
+use Rattle.m2v_enc_stream.specs.Streams.{Progress, at_start, coded_all, Coded}
+use Rattle.m2v_enc_stream.proofs.Queues.{coded_is, stream_some}
 use Rattle.m2v_model.specs.declared.state.State.{State}
 use Rattle.m2v_model.specs.Units.{Units, Cuts}
 use Rattle.m2v_model.specs.States.{at_first, none_waits}
@@ -17,7 +16,7 @@ use Rattle.m2v_model.specs.Decoding.{Stream}
 use Rattle.m2v_law_chain.specs.Chains.{Chain, nothing, link}
 use Rattle.m2v_law_chain.proofs.Ends.{end_bytes, end_packs, end_stands}
 use Rattle.m2v_law_chain.proofs.Chains.{rounds_of, stream_of}
-use Rattle.m2v_law_tree.specs.Trees.{sequence_by, groups_of, groups_parts, state_behind, tree_of}
+use Rattle.m2v_law_tree.specs.Trees.{groups_of, groups_parts, state_behind, tree_of}
 use Rattle.m2v_law_tree.specs.States.{state_with}
 use Rattle.m2v_law_tree.proofs.Zeros.{padded_cuts}
 use Rattle.m2v_law_tree.proofs.SliceUnits.{Spelled}
@@ -32,7 +31,7 @@ unfolding state_behind
 chain_state nothing = refl
 chain_state (link r c) = chain_state c
 
-state_on : (st : State) (ps qs : List Part) → state_behind st (ps ++ qs) ≡ state_behind (state_behind st ps) qs
+pub state_on : (st : State) (ps qs : List Part) → state_behind st (ps ++ qs) ≡ state_behind (state_behind st ps) qs
 unfolding state_behind
 state_on st [] qs = refl
 state_on st (p ∷ ps) qs = state_on (after st p) ps qs
@@ -71,10 +70,6 @@ tree_by s frames st us c =
     let e : after st ending ≡ state_behind at_first (parts ++ ending ∷ []) =
     ap (λ (t : State). after t ending) (chain_state c) ∙ sym (state_one (state_behind at_first parts) ending) ∙ sym (state_on at_first parts (ending ∷ [])) in
     ap (λ (t : State). record { state = t; parts = parts ++ ending ∷ [] }) e
-
-coded_is : (s : Settings) (frames : List (List ℕ)) → coded_all s frames ≡ groups_coded s (at_start s) (groups_of s frames)
-unfolding coded_all
-coded_is s frames = refl
 
 stream_with : (law : Spelled) (s : Settings) (frames : List (List ℕ)) (g : Group Samples) (more : List (Group Samples)) → groups_of s frames ≡ g ∷ more
     → AllFollow s (at_start s) (groups_of s frames) → Stream (Coded s frames) (tree_of s frames)

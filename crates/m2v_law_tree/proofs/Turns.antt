@@ -50,7 +50,7 @@ frames_turn (h ∷ more) zero lt = inr (inl (refl, refl))
 frames_turn (h ∷ more) (suc zero) lt = frames_turn more zero (omega (arith, lt))
 frames_turn (h ∷ more) (suc (suc p)) lt = frames_turn more (suc p) (omega (arith, lt))
 
-same_scan : (heads : List PictureJob) → flat_map (fields_of Progressive) heads ≡ flat_map (fields_of Frames) heads
+pub same_scan : (heads : List PictureJob) → flat_map (fields_of Progressive) heads ≡ flat_map (fields_of Frames) heads
 unfolding structures
 same_scan heads = refl
 

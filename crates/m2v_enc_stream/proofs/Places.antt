@@ -1,5 +1,5 @@
 -- Where the pictures of a group stand in the stream, and that their delays fit their 16 bits.
-use Rattle.std.proofs.Common.{◌≡◌, ℕ, zero, suc, ◌+◌, ◌-◌, ◌*◌, ◌/◌, ◌<◌, ◌≤◌, ◌⊎◌, inl, inr, Bool, false, length, refl, sym, ap, subst, ◌∙◌, arith}
+use Rattle.std.proofs.Common.{◌≡◌, ℕ, zero, suc, ◌+◌, ◌*◌, ◌/◌, ◌<◌, ◌≤◌, ◌⊎◌, inl, inr, Bool, false, length, refl, sym, ap, subst, arith}
 use Rattle.std.proofs.Math.Nat.{div-le_of_le-mul}
 use Rattle.m2v_set.specs.declared.settings.Settings.{Settings}
 use Rattle.m2v_set.specs.Numbers.{buffer_bits}
@@ -16,12 +16,11 @@ use Rattle.m2v_slice.proofs.Groups.{passes_of}
 use Rattle.m2v_slice.proofs.Ledgers.{whole_ledger_is, whole_settings, whole_kinds}
 use Rattle.m2v_enc_stream.specs.Streams.{zeros_of, delay_at, pictures_text}
 use Rattle.m2v_enc_stream.proofs.Pictures.{length_more, place_more, begun_at, begun_on}
-use Rattle.m2v_law_tree.proofs.Groups.{AreSmall}
 
 -- ---- the pictures of a group
 
 -- where the first pictures of a group, which begins at a bit of the stream, end
-abbrev place_at : Book → Bool → ℕ → ℕ → ℕ
+abbrev pub place_at : Book → Bool → ℕ → ℕ → ℕ
 place_at b ends at p = at + length (pictures_text b (all_coded b) (whole_ledger b) ends at p)
 
 text_none : (b : Book) (ends : Bool) (at : ℕ) → place_at b ends at 0 ≡ at
@@ -65,9 +64,9 @@ pub place_behind : (b : Book) → IsBook b → (at : ℕ) → IsPlace b.settings
 place_behind b h at first = (placed b h false at (length b.pictures) (inr (omega arith, refl)) first).place
 
 -- the delay is that in which what is held arrives, which is at most the buffer
-delay_small : (b : Book) → IsBook b → (p at : ℕ) → p < length b.pictures → IsPlace b.settings (account_at (whole_ledger b) p) at → (0 < p → 272 ≤ at)
-    → delay_at (whole_ledger b) (job_at b p) p at < 65536
-delay_small b h p at lt place later =
+small_at : (b : Book) → IsBook b → (p at : ℕ) → p < length b.pictures → IsPlace b.settings (account_at (whole_ledger b) p) at → (0 < p → 272 ≤ at)
+    → delay_at (whole_ledger b) (job_at b p) p at ≤ 65534
+small_at b h p at lt place later =
     let s = b.settings in
     let w = whole_ledger b in
     let code = bits_to_code (job_at b p) in
@@ -81,8 +80,9 @@ delay_small b h p at lt place later =
     let low = div-le_of_le-mul (8 * s.bits) few in
     omega (arith, rate, low)
 
--- the delays of a group that begins at its place fit
-pub delays_small : (b : Book) → IsBook b → (ends : Bool) (at : ℕ) → IsPlace b.settings (account_at (whole_ledger b) 0) at → AreSmall b (all_coded b) (whole_ledger b) ends at
-delays_small b h ends at first = λ p lt.
+-- the delays of a group that begins at its place fit, and aren't all set
+pub delay_small : (b : Book) → IsBook b → (ends : Bool) (at p : ℕ) → p < length b.pictures → IsPlace b.settings (account_at (whole_ledger b) 0) at
+    → delay_at (whole_ledger b) (job_at b p) p (place_at b ends at p) ≤ 65534
+delay_small b h ends at p lt first =
     let x = placed b h ends at p (inl lt) first in
-    delay_small b h p (place_at b ends at p) lt x.place x.late
+    small_at b h p (place_at b ends at p) lt x.place x.late
