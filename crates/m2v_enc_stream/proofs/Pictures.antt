@@ -53,7 +53,7 @@ length_more b h l ends at n lt =
 -- ---- zero bits
 
 -- behind a picture that isn't the last of all stand all its zero bits
-pub zeros_full : (l : Entries) (ends : Bool) (p : ℕ) → (p + 1 < length l.kinds) ⊎ (ends ≡ false)
+zeros_full : (l : Entries) (ends : Bool) (p : ℕ) → (p + 1 < length l.kinds) ⊎ (ends ≡ false)
     → zeros_of l ends p ≡ stuffing_of (account_at l p) (get_or l.sizes p 0) (get_or l.intervals p 0)
 zeros_full l ends p (inl lt) = elim (cases_Bool (ends && nat_eq (p + 1) (length l.kinds))) [
   | inl e ↦ absurd (let f = eqb-true (p + 1) (length l.kinds) (and_parts ends (nat_eq (p + 1) (length l.kinds)) e).1 in omega (arith, f, lt))

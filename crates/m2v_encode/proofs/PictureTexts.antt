@@ -3,7 +3,7 @@ use Rattle.std.proofs.Common.{◌≡◌, ℕ, zero, suc, ◌+◌, ◌-◌, ◌*�
 use Rattle.std.specs.Prelude.{nat_eq}
 use Rattle.std.specs.List.{range_with_len, flat_map}
 use Rattle.std.proofs.lemmas.Bool.{cond_both}
-use Rattle.std.proofs.lemmas.List.{append-nil, replicate-append-replicate, length-replicate}
+use Rattle.std.proofs.lemmas.List.{append-nil, replicate-append-replicate}
 use Rattle.std.proofs.lemmas.List.Folds.{flat_map-map}
 use Rattle.m2v_bits.specs.Bits.{packed, IsEdge}
 use Rattle.m2v_bits.proofs.Units.{unit_edge, edge-append, packed-append}
@@ -28,9 +28,6 @@ pub zero_bytes : (zeros : ℕ) → zeros % 8 ≡ 0 → packed (replicate zeros f
 zero_bytes zeros whole =
     let e : zeros ≡ 8 * (zeros / 8) = omega (arith, whole) in
     ap (λ (n : ℕ). packed (replicate n false)) e ∙ packed_zeros (zeros / 8)
-
-zeros_edge : (zeros : ℕ) → zeros % 8 ≡ 0 → IsEdge (replicate zeros false)
-zeros_edge zeros whole = ap (λ (n : ℕ). n % 8) (length-replicate zeros false) ∙ whole
 
 -- so many zero bytes: those so far, the next ones, and those behind them
 pub zeros_split : (all left n : ℕ) → left ≤ all → n ≤ left → replicate {A = ℕ} all 0 ≡ replicate (all - left) 0 ++ (replicate n 0 ++ replicate (left - n) 0)

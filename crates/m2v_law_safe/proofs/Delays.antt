@@ -77,7 +77,7 @@ place_is s earlier g ends p lt h =
 -- ---- delays
 
 -- the account at a picture
-pub account_here : (s : Settings) (earlier : List (Group Samples)) (g : Group Samples) (p : ℕ) → Passes s → p < length g.pictures → IsPlaced s earlier g
+account_here : (s : Settings) (earlier : List (Group Samples)) (g : Group Samples) (p : ℕ) → Passes s → p < length g.pictures → IsPlaced s earlier g
     → account_at (ledger_of (book_of s (begun_by s earlier) g)) p ≡ account_of (start_of s) (removed_before s earlier g p)
 account_here s earlier g p passes lt h =
     let b = book_of s (begun_by s earlier) g in

@@ -15,6 +15,7 @@ use Rattle.m2v_slice.proofs.m2v_choose.OwnReady.{own_ready}
 use Rattle.m2v_slice.specs.Slices.{SliceTask, Begun, decision, begun}
 use Rattle.m2v_slice.specs.Laws.{IsSlice, Keeps}
 use Rattle.m2v_slice.proofs.Choices.{choice_there}
+use Rattle.m2v_slice.proofs.Columns.{inside_skipped}
 use Rattle.m2v_slice.proofs.Keeps.{increment_is}
 use Rattle.m2v_slice.proofs.Fits.{chosen}
 use Rattle.m2v_model.specs.Slices.{macroblock_at}
@@ -35,9 +36,6 @@ pub record SkipsInside (t : SliceTask) (s : Begun) (n skipped : ℕ) : Type 0 wh
 pub none_inside : (t : SliceTask) (s : Begun) (n : ℕ) → SkipsInside t s n 0
 none_inside t s n = record { inside = λ k le lt. absurd (omega arith) }
 
-skip_inside : (d : Decision) (x : Candidate) → x.skip ≡ true → StaysInside d x → is_inside (skipped_mode d.context d.state) (place_of d) d.dims ≡ true
-skip_inside d x e h = rw e at h
-
 write_inside : (d : Decision) (x : Candidate) → x.skip ≡ false → StaysInside d x → is_inside (mode_of d.context x.macroblock.syntax) (place_of d) d.dims ≡ true
 write_inside d x e h = rw e at h
 
@@ -50,7 +48,7 @@ more_inside t s z n skipped before same e stays = record {
 }
   where
     here : is_inside (skipped_mode t.context s.state) (spot t.context t.row n) t.source.dims ≡ true
-    here = skip_inside (decision t s n) (choice_of (decision t s n)) e stays
+    here = inside_skipped (decision t s n) (choice_of (decision t s n)) e stays
 
     at : (k : ℕ) → suc n ≤ k + suc skipped → k < suc n → is_inside (skipped_mode t.context s.state) (spot t.context t.row k) t.source.dims ≡ true
     at k le lt = elim (cases_lt k n) [

@@ -118,9 +118,6 @@ task_is b h done p plan r lt small good =
 
 -- ---- sizes
 
-bits_of : CodedSlice → ℕ
-bits_of x = length x.text
-
 sum_within : (f : ℕ → CodedSlice) (g : ℕ → ℕ) (n : ℕ) → ((r : ℕ) → r < n → length (f r).text ≤ g r)
     → sum_by (λ (x : CodedSlice). length x.text) (map f (range_with_len 0 n)) ≤ sum_by g (range_with_len 0 n)
 sum_within f g zero each = omega arith
