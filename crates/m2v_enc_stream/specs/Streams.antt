@@ -18,7 +18,7 @@ use Rattle.m2v_order.specs.Groups.{Queue, Group, is_due, group_of, after_group}
 use Rattle.m2v_rate.specs.Plans.{Entries, account_at, fresh, begun}
 use Rattle.m2v_slice.specs.Slices.{CodedSlice}
 use Rattle.m2v_slice.specs.Headers.{header_units, bits_to_code}
-use Rattle.m2v_slice.specs.Books.{Book, CodedPicture, coded, picture_at, job_at, picture_sample, has_lines, ledger_behind}
+use Rattle.m2v_slice.specs.Books.{Book, CodedPicture, coded, picture_at, job_at, picture_sample, has_lines, ledger_behind, all_coded}
 
 -- ---- pictures
 
@@ -82,6 +82,10 @@ anchor_frame last (job ∷ more) = anchor_frame (if nat_eq job.kind 3 then last 
 unfoldable pub frame_or : Option Samples → Book → List CodedPicture → Option ℕ → Option Samples
 frame_or before b done None = before
 frame_or before b done (Some frame) = Some (frame_of b done frame)
+
+-- the reconstruction of a book's last anchor
+abbrev pub anchor_behind : Book → Option Samples
+anchor_behind b = frame_or b.before b (all_coded b) (anchor_frame None b.pictures)
 
 -- ---- groups
 
@@ -150,6 +154,10 @@ groups_from (suc n) q = if is_due q then group_of q ∷ groups_from n (after_gro
 abbrev pub waiting : Settings → List (List ℕ) → Bool → Queue Samples
 waiting s frames ended =
     record { settings = s; pushed = length frames; frames = map (pad (dims_of s)) frames; ended = ended }
+
+-- the groups of raw frames
+abbrev pub groups_of : Settings → List (List ℕ) → List (Group Samples)
+groups_of s frames = groups_from (length frames) (waiting s frames true)
 
 -- all of these frames coded
 unfoldable pub coded_all : Settings → List (List ℕ) → Progress

@@ -1,62 +1,17 @@
 -- The book of the next group, as it follows what is coded.
-use Rattle.std.proofs.Common.{◌≡◌, ℕ, ◌+◌, ◌*◌, ◌^◌, ◌<◌, ◌≤◌, List, [], ◌∷◌, length, map, Option, inl, inr, refl, sym, ap, subst, ◌∙◌, arith}
+use Rattle.std.proofs.Common.{◌≡◌, ℕ, ◌+◌, ◌*◌, ◌<◌, List, length, Option, refl, sym, ap, subst, ◌∙◌}
 use Rattle.std.specs.Prelude.{All}
-use Rattle.std.proofs.lemmas.Bool.{cond_both}
-use Rattle.std.proofs.lemmas.List.{length-map}
-use Rattle.std.proofs.lemmas.List.Elements.{All-nil, All-cons}
 use Rattle.m2v_plane.specs.Samples.{Samples}
 use Rattle.m2v_set.specs.declared.settings.Settings.{Settings}
-use Rattle.m2v_set.specs.Numbers.{IsInterval, rows_by}
+use Rattle.m2v_set.specs.Numbers.{rows_by}
 use Rattle.m2v_set.proofs.Facts.{bounds}
 use Rattle.m2v_order.specs.declared.jobs.PictureJob.{PictureJob}
-use Rattle.m2v_order.specs.Groups.{Group}
-use Rattle.m2v_order.specs.Times.{intervals_of, anchor_after, interval_behind}
-use Rattle.m2v_rate.specs.Plans.{Entries, begun}
-use Rattle.m2v_rate.specs.Steady.{IsLedger}
-use Rattle.m2v_rate.proofs.Keeps.{begins_steady}
+use Rattle.m2v_rate.specs.Plans.{Entries}
 use Rattle.m2v_slice.specs.Books.{Book, rows}
-use Rattle.m2v_slice.specs.Conditions.{IsBook, IsBegunFor}
+use Rattle.m2v_slice.specs.Conditions.{IsBook}
 use Rattle.m2v_slice.specs.Jobs.{jobs_of}
 use Rattle.m2v_slice.proofs.Groups.{passes_of, rows_few}
 use Rattle.m2v_encode.specs.Groups.{IsDone}
-
-pub times_length : (s : Settings) (last : Option ℕ) (jobs : List PictureJob) → length (intervals_of s last jobs) ≡ length jobs
-unfolding intervals_of
-times_length s last [] = refl
-times_length s last (job ∷ more) = omega (arith, times_length s (anchor_after last job) more)
-
-behind_is : (s : Settings) (last : Option ℕ) (job : PictureJob) → IsInterval s (interval_behind s last job)
-unfolding interval_behind
-behind_is s last job = cond_both _ _ _ (IsInterval s) (λ e. inr refl) (λ e. inl refl)
-
-times_are : (s : Settings) (last : Option ℕ) (jobs : List PictureJob) → All (IsInterval s) (intervals_of s last jobs)
-unfolding intervals_of
-times_are s last [] = All-nil (IsInterval s)
-times_are s last (job ∷ more) =
-    All-cons (IsInterval s) (interval_behind s last job) (intervals_of s (anchor_after last job) more) (behind_is s last job) (times_are s (anchor_after last job) more)
-
--- the ledger of the next group
-pub begun_for : (s : Settings) (g : Group Samples) (from l : Entries) → from.settings ≡ s → IsLedger from → length from.sizes ≡ length from.kinds
-    → from.account.removals + length from.kinds < 2 ^ 39 → length g.pictures ≤ 126
-    → l ≡ begun from (map (λ (j : PictureJob). j.kind) g.pictures) (intervals_of s g.before g.pictures) → IsBegunFor s g l
-begun_for s g from l settings h known removals few is =
-    let kinds = map (λ (j : PictureJob). j.kind) g.pictures in
-    let times = intervals_of s g.before g.pictures in
-    let x = begun from kinds times in
-    let count = length-map g.pictures (λ (j : PictureJob). j.kind) in
-    let here : IsLedger x = begins_steady from (length from.kinds) x h.steady.begun (omega arith) (record {
-      settings = refl;
-      account = refl;
-      few = omega (arith, few, count);
-      timed = times_length s g.before g.pictures ∙ sym count;
-      times = subst (λ (t : Settings). All (IsInterval t) times) (sym settings) (times_are s g.before g.pictures);
-      sizes = refl;
-      quantisers = refl;
-      caps = refl;
-      targets = refl;
-      removals = removals;
-    }) in
-    record { from = from; settings = settings; begun = is; ledger = subst IsLedger (sym is) here }
 
 pub same_book : (s t : Settings) (frames : List Samples) (pictures : List PictureJob) (before after : Option Samples) (l m : Entries) → s ≡ t → before ≡ after → l ≡ m
     → (let x : Book = record { settings = s; frames = frames; pictures = pictures; before = before; ledger = l } in

@@ -1,7 +1,7 @@
 -- Each frame of a group has its pictures.
 use Rattle.std.proofs.Common.{◌≡◌, ℕ, zero, suc, ◌+◌, ◌-◌, ◌<◌, ◌≤◌, inl, inr, Bool, true, false, cond, List, [], ◌∷◌, ◌++◌, length, map, get_or, Option, Some, refl, sym, ap, subst, ◌∙◌, arith, append_assoc, eq-eqb}
-use Rattle.std.specs.Prelude.{nat_eq, ◌&&◌, filter}
-use Rattle.std.specs.List.{range_with_len, flat_map}
+use Rattle.std.specs.Prelude.{nat_eq, ◌&&◌}
+use Rattle.std.specs.List.{flat_map}
 use Rattle.std.proofs.lemmas.Bool.{cond-true, cases_lt, cases_Bool, and_from}
 use Rattle.std.proofs.lemmas.List.{length-append, get_or_append_left}
 use Rattle.std.proofs.lemmas.Grind.{flat_map-append}
@@ -21,28 +21,9 @@ use Rattle.m2v_slice.specs.Books.{Book, job_at, no_job, has_lines}
 use Rattle.m2v_slice.specs.Conditions.{IsBook}
 use Rattle.m2v_slice.proofs.Groups.{passes_of}
 use Rattle.m2v_law_headline.specs.m2v_enc_stream.Streams.{picture_with}
+use Rattle.m2v_law_headline.proofs.m2v_law_shown.Only.{Ascends, ascends}
 
 -- ---- numbers in order
-
--- numbers that rise, from one on
-Ascends : ℕ → List ℕ → Type 0
-Ascends from [] = Unit {0}
-Ascends from (a ∷ more) = (from ≤ a) × Ascends (a + 1) more
-
-lower : (from to : ℕ) (xs : List ℕ) → from ≤ to → Ascends to xs → Ascends from xs
-unfolding Ascends
-lower from to [] le up = tt
-lower from to (a ∷ more) le up = (omega (arith, le, up.0), up.1)
-
-by_filter : (p : ℕ → Bool) (from : ℕ) (xs : List ℕ) (t : Bool) → Ascends (from + 1) (filter p xs) → p from ≡ t → Ascends from (cond t (from ∷ filter p xs) (filter p xs))
-unfolding Ascends
-by_filter p from xs true up e = (omega arith, up)
-by_filter p from xs false up e = lower from (from + 1) (filter p xs) (omega arith) up
-
-ascends : (p : ℕ → Bool) (n from : ℕ) → Ascends from (filter p (range_with_len from n))
-unfolding Ascends
-ascends p zero from = tt
-ascends p (suc n) from = by_filter p from (range_with_len (from + 1) n) (p from) (ascends p n (from + 1)) refl
 
 -- a number stands in a list
 record Has (i : ℕ) (xs : List ℕ) : Type 0 where

@@ -1,8 +1,7 @@
 -- A frame that was read, and why one wasn't; and the group that is due.
-use Rattle.std.proofs.Common.{◌≡◌, ℕ, ◌+◌, ◌-◌, ◌*◌, ◌<◌, ◌≤◌, inl, Bool, true, false, cond, List, length, take, drop, Option, Some, None, ap, ◌∙◌, arith}
+use Rattle.std.proofs.Common.{◌≡◌, ℕ, ◌+◌, ◌*◌, ◌<◌, ◌≤◌, inl, true, List, length, take, drop, Option, ap, ◌∙◌, arith}
 use Rattle.std.specs.Prelude.{All, is_some}
 use Rattle.std.proofs.Math.Nat.{mul-pos}
-use Rattle.std.proofs.lemmas.Bool.{ne_eqb}
 use Rattle.std.proofs.lemmas.List.{take-append-drop, length-append}
 use Rattle.m2v_port.specs.Ends.{Change}
 use Rattle.m2v_plane.specs.declared.dims.Dims.{Dims}
@@ -18,6 +17,7 @@ use Rattle.m2v_order.proofs.Queues.{grouped, due_is, turn_is}
 use Rattle.m2v_encode.specs.declared.answer.EncodeError.{EncodeError}
 use Rattle.m2v_encode.specs.declared.answer.EncodeError.TheVariants.{Read, Write, ShortFrame, NoFrames, TooManyFrames, Memory}
 use Rattle.m2v_encode.specs.Steps.{ReadStops, FrameStops}
+use Rattle.m2v_law_headline.proofs.m2v_enc_stream.Queues.{before_some}
 
 pub some_bytes : (d : Dims) → IsSize d → 0 < frame_bytes d
 some_bytes d is = let some : 0 < d.width * d.height = mul-pos (omega (arith, is.wide)) (omega (arith, is.tall)) in omega (arith, some)
@@ -55,16 +55,8 @@ early_is q jobs frames sound pushed same places = λ k d lt.
     let at = places k d lt in
     omega (arith, at.0, at.1, ap length same, frames_few q, sound.room, pushed)
 
-first_some : (n : ℕ) → 0 < n → is_some (anchor_before n) ≡ true
-unfolding anchor_before
-first_some n some = ap (λ (t : Bool). is_some (cond t None (Some (n - 1)))) (ne_eqb n 0 (λ e. omega (arith, e, some)))
-
 pub after_some : (q r : Queue Samples) → Passes q.settings → IsSoundQueue q → is_due q ≡ true → r ≡ after_group q → is_some (anchor_before (first_of r)) ≡ true
 after_some q r passes sound is same =
     let turn = turn_is q (grouped q.settings passes) sound (due_is q is) in
     ap (λ (x : Queue Samples). is_some (anchor_before (first_of x))) same
-    ∙ first_some (first_of (after_group q)) (omega (arith, turn.after, turn.past, turn.low))
-
-pub not_both : (t : Bool) → t ≡ true → t ≡ false → ⊥
-not_both true e f = absurd cc
-not_both false e f = absurd cc
+    ∙ before_some (first_of (after_group q)) (omega (arith, turn.after, turn.past, turn.low))

@@ -1,7 +1,7 @@
 -- The groups of all frames: those that were handed out stand in front, whatever follows.
-use Rattle.std.proofs.Common.{◌≡◌, ℕ, zero, suc, ◌+◌, ◌-◌, ◌<◌, ◌≤◌, Bool, true, false, inl, inr, List, [], ◌∷◌, ◌++◌, length, map, take, drop, refl, sym, ap, subst, ◌∙◌, arith, append_assoc}
+use Rattle.std.proofs.Common.{◌≡◌, ℕ, suc, ◌+◌, ◌-◌, ◌<◌, ◌≤◌, Bool, true, false, inl, inr, List, [], ◌∷◌, ◌++◌, length, map, take, drop, refl, sym, ap, subst, ◌∙◌, arith, append_assoc}
 use Rattle.std.specs.Prelude.{nat_lt, ◌&&◌, ◌||◌}
-use Rattle.std.proofs.lemmas.Bool.{cond-true, cond-false, cases_lt, lt-ltb, and_from}
+use Rattle.std.proofs.lemmas.Bool.{cases_lt, lt-ltb, and_from}
 use Rattle.std.proofs.lemmas.List.{length-append, append-nil, map-append, length-drop, drop-append-le, take-append-drop, take-append-le}
 use Rattle.std.proofs.Math.Seq.{drop-append_seam}
 use Rattle.m2v_plane.specs.Raw.{pad}
@@ -13,18 +13,10 @@ use Rattle.m2v_order.specs.Groups.{Queue, Group, opening, next_intra, is_due, gr
 use Rattle.m2v_order.proofs.Queues.{grouped, due_is, turn_is, group_length, group_some, has_next, sound_next}
 use Rattle.m2v_order.proofs.Wholes.{group_stays, due_stays}
 use Rattle.m2v_law_headline.specs.m2v_enc_stream.Streams.{Progress, at_start, group_coded, groups_begun, groups_coded, groups_from, waiting, coded_all, coded_begun}
+use Rattle.m2v_law_headline.proofs.m2v_enc_stream.Queues.{from_due, from_none}
 use Rattle.m2v_encode.specs.Steps.{HandedOut}
 
 -- ---- groups of a queue
-
-from_due : (n : ℕ) (q : Queue Samples) → is_due q ≡ true → groups_from (suc n) q ≡ group_of q ∷ groups_from n (after_group q)
-unfolding groups_from
-from_due n q is = cond-true (is_due q) _ _ is
-
-from_none : (n : ℕ) (q : Queue Samples) → is_due q ≡ false → groups_from n q ≡ []
-unfolding groups_from
-from_none zero q is = refl
-from_none (suc n) q is = cond-false (is_due q) _ _ is
 
 -- a group takes as many frames of a queue that goes on
 size_is : (q : Queue Samples) → Passes q.settings → IsSoundQueue q → is_due q ≡ true

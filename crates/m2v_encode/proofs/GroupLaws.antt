@@ -1,5 +1,5 @@
 -- A group that was coded, and where coding it stops.
-use Rattle.std.proofs.Common.{◌≡◌, ℕ, ◌+◌, ◌*◌, inl, inr, Bool, true, List, length, Option, refl, sym, ap, subst, ◌∙◌, arith}
+use Rattle.std.proofs.Common.{◌≡◌, ℕ, ◌+◌, ◌*◌, inl, inr, Bool, true, List, length, Option, sym, ap, subst, ◌∙◌, arith}
 use Rattle.std.specs.Prelude.{is_some, IfSome}
 use Rattle.m2v_bits.specs.Bits.{packed}
 use Rattle.m2v_port.specs.Ends.{Change, change}
@@ -22,9 +22,8 @@ use Rattle.m2v_encode.specs.Groups.{whole_ledger, group_text, group_shown, ancho
 use Rattle.m2v_law_headline.specs.m2v_enc_stream.Streams.{zeros_sum}
 use Rattle.m2v_encode.specs.declared.answer.Summary.{Summary}
 use Rattle.m2v_encode.specs.Steps.{PutStops, GroupStops, GroupCoded, GoesOn, book_by}
-use Rattle.m2v_encode.proofs.Pieces.{whole_ledger_is}
-use Rattle.m2v_encode.proofs.PictureLaws.{whole_settings, whole_kinds, whole_sizes}
-use Rattle.m2v_encode.proofs.Anchors.{anchor_some, anchor_size}
+use Rattle.m2v_slice.proofs.Ledgers.{whole_ledger_is, whole_settings, whole_kinds, whole_sizes, removals_kept}
+use Rattle.m2v_law_headline.proofs.m2v_enc_stream.Anchors.{anchor_some, anchor_size}
 
 -- ---- where it stops
 
@@ -105,10 +104,6 @@ first_place c g b coded is goes =
 -- how many pictures were removed before it
 first_removals : (c : Coder) (g : Group Samples) (b : Book) (coded : Bool) → b ≡ book_by c g → GoesOn c coded → b.ledger.account.removals ≡ c.total.pictures
 first_removals c g b coded is goes = ap (λ (x : Book). x.ledger.account.removals) is ∙ removals_at c.ledger (length c.ledger.kinds) ∙ goes.removals
-
-removals_kept : (b : Book) → (whole_ledger b).account.removals ≡ b.ledger.account.removals
-unfolding ledger_with
-removals_kept b = refl
 
 -- another group can follow
 pub goes_on : (c d : Coder) (g : Group Samples) (b : Book) (coded : Bool) → IsBook b → b ≡ book_by c g → GoesOn c coded

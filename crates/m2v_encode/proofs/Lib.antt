@@ -1,6 +1,5 @@
 pub mod Pieces
 pub mod Puts
-pub mod Places
 pub mod PictureTexts
 pub mod Books
 pub mod Bytes

@@ -2,6 +2,7 @@
 use Rattle.std.proofs.Common.{◌≡◌, ℕ, ◌+◌, ◌*◌, ◌<◌, ◌≤◌, inl, inr, Bool, true, false, length, Option, None, refl, sym, subst, ap, ◌∙◌, arith}
 use Rattle.std.specs.Prelude.{IfSome, is_some, nat_lt, ◌||◌}
 use Rattle.std.proofs.lemmas.Bool.{cases_Bool, cases_lt, lt-ltb, and_from}
+use Rattle.std.proofs.Math.Bool.{or-true}
 use Rattle.m2v_port.specs.Ends.{Change}
 use Rattle.m2v_plane.specs.Raw.{pad}
 use Rattle.m2v_plane.specs.Samples.{Samples}
@@ -9,39 +10,19 @@ use Rattle.m2v_set.specs.declared.settings.Settings.{Settings}
 use Rattle.m2v_set.specs.Numbers.{dims_of}
 use Rattle.m2v_set.specs.Rules.{Passes}
 use Rattle.m2v_order.specs.Groups.{Queue, opening, first_of, intra_from, next_intra, is_due, group_of, anchor_before, after_push, after_group, IsSoundQueue}
-use Rattle.m2v_order.proofs.Queues.{grouped, push_first, sound_push, sound_next, due_is, turn_is, next_is}
+use Rattle.m2v_order.proofs.Queues.{grouped, push_first, sound_push, sound_next, due_is, turn_is, next_is, true_false}
 use Rattle.m2v_order.proofs.Wholes.{group_is}
 use Rattle.m2v_rate.specs.Plans.{Entries, account_at, fresh}
 use Rattle.m2v_rate.specs.Steady.{IsLedger}
-use Rattle.m2v_rate.proofs.Streams.{fresh_begun}
+use Rattle.m2v_rate.proofs.Places.{fresh_place}
+use Rattle.m2v_rate.proofs.Streams.{fresh_ledger}
 use Rattle.m2v_encode.specs.declared.answer.Summary.{Summary}
 use Rattle.m2v_encode.specs.declared.group.Coder.{Coder}
 use Rattle.m2v_encode.specs.Groups.{IsPlace}
 use Rattle.m2v_encode.specs.Steps.{FrameRead, DueCoded, GoesOn}
-use Rattle.m2v_encode.proofs.Due.{not_both}
 use Rattle.m2v_encode.proofs.Ends.{none_false}
 
 -- ---- the start
-
-fresh_ledger : (s : Settings) → Passes s → IsLedger (fresh s)
-fresh_ledger s passes = record {
-  few = omega arith;
-  removals = omega arith;
-  steady = record {
-    begun = fresh_begun s passes;
-    planned = omega arith;
-    targeted = refl;
-    quantised = refl;
-    known = omega arith;
-    ahead = omega arith;
-    sizes = λ j lt. absurd (omega (arith, lt));
-    caps = λ j lt. absurd (omega (arith, lt));
-  };
-}
-
-fresh_place : (s : Settings) → IsPlace s (account_at (fresh s) 0) 0
-unfolding account_at
-fresh_place s = record { start = refl; sent = omega arith }
 
 opening_first : (s : Settings) → (let q : Queue Samples = opening s in is_some (anchor_before (first_of q)) ≡ false)
 unfolding anchor_before
@@ -66,20 +47,16 @@ opening_rest s = refl
 
 -- ---- a frame more, and the group that is due then
 
-or_true : (b : Bool) → (b || true) ≡ true
-or_true true = refl
-or_true false = refl
-
 due_by : (q : Queue Samples) → 0 < length q.frames → next_intra q < q.pushed → is_due q ≡ true
 unfolding is_due
 due_by q some next =
     and_from (nat_lt 0 (length q.frames)) (q.ended || nat_lt (next_intra q) q.pushed) (lt-ltb 0 (length q.frames) some)
-    (ap (λ (t : Bool). q.ended || t) (lt-ltb (next_intra q) q.pushed next) ∙ or_true q.ended)
+    (ap (λ (t : Bool). q.ended || t) (lt-ltb (next_intra q) q.pushed next) ∙ or-true q.ended)
 
 -- where no group is due, the next I frame is still to come
 rest_high : (q : Queue Samples) → is_due q ≡ false → 0 < length q.frames → q.pushed ≤ next_intra q
 rest_high q rest some = elim (cases_lt (next_intra q) q.pushed) [
-  | inl next ↦ absurd (not_both (is_due q) (due_by q some next) rest)
+  | inl next ↦ absurd (true_false (is_due q) (due_by q some next) rest)
   | inr high ↦ high
 ]
 
@@ -96,7 +73,7 @@ due_once q f passes sound going rest is again =
     let same : next_intra p ≡ next_intra q = ap (λ (n : ℕ). intra_from s n + s.group) (push_first q f sound) in
     let some = ok.group in
     elim ((due_is (after_group p) again).next) [
-      | inl ended ↦ not_both q.ended ended going
+      | inl ended ↦ true_false q.ended ended going
       | inr next ↦ elim (cases_lt 0 (length q.frames)) [
         | inl frames ↦ omega (arith, rest_high q rest frames, same, behind, next, some)
         | inr none ↦ omega (arith, sound.none (omega (arith, none)) going, same, behind, next, some)

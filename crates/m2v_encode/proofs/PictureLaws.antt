@@ -1,52 +1,31 @@
 -- A picture as it is sent: what is held when it is due, its zero bytes, its delay and its parts.
-use Rattle.std.proofs.Common.{◌≡◌, ℕ, zero, suc, ◌+◌, ◌-◌, ◌*◌, ◌/◌, ◌%◌, ◌^◌, ◌<◌, ◌≤◌, ◌⊎◌, inl, inr, Bool, true, false, not, cond, List, [], ◌∷◌, ◌++◌, length, replicate, get_or, refl, sym, ap, subst, ◌∙◌, arith, append_assoc}
+use Rattle.std.proofs.Common.{◌≡◌, ℕ, zero, suc, ◌+◌, ◌-◌, ◌*◌, ◌/◌, ◌%◌, ◌^◌, ◌<◌, ◌≤◌, Bool, cond, List, [], ◌++◌, length, replicate, refl, sym, ap, subst, ◌∙◌, arith, append_assoc}
 use Rattle.std.specs.Prelude.{nat_eq, ◌&&◌, slice_index}
-use Rattle.std.specs.List.{flat_map}
-use Rattle.std.proofs.lemmas.Bool.{cond_both, cases_Bool, cond-true, cond-false, and_parts, eqb-true}
-use Rattle.std.proofs.lemmas.List.{length-append, append-nil}
+use Rattle.std.proofs.lemmas.Bool.{cond_both}
+use Rattle.std.proofs.lemmas.List.{append-nil}
 use Rattle.std.proofs.lemmas.List.Concat.{length-flat_map}
-use Rattle.std.proofs.lemmas.List.FromFn.{get_or-map-range_with_len}
 use Rattle.m2v_bits.specs.Bits.{packed, IsEdge}
 use Rattle.m2v_bits.proofs.Units.{edge-append, packed-append}
 use Rattle.m2v_set.specs.declared.settings.Settings.{Settings}
-use Rattle.m2v_set.specs.declared.settings.Scan.{Scan}
-use Rattle.m2v_set.specs.declared.settings.Scan.TheVariants.{Progressive, Frames, Fields}
 use Rattle.m2v_set.specs.Numbers.{buffer_bits, least_of}
 use Rattle.m2v_set.proofs.Facts.{bounds}
 use Rattle.m2v_vbv.specs.Account.{State, stuffing_of, arriving}
-use Rattle.m2v_order.specs.declared.jobs.PictureJob.{PictureJob}
-use Rattle.m2v_order.specs.Coding.{structures}
-use Rattle.m2v_order.specs.Calls.{IsFromIntra}
-use Rattle.m2v_order.specs.Whole.{fields_of}
 use Rattle.m2v_rate.specs.Plans.{Entries, account_at}
+use Rattle.m2v_rate.proofs.Places.{arriving_is, gone_whole}
 use Rattle.m2v_rate.proofs.Lows.{buffer_at, held_least, held_most, size_whole}
 use Rattle.m2v_slice.specs.Slices.{CodedSlice}
-use Rattle.m2v_slice.specs.Headers.{header_units, header_bits, bits_to_code, begins_group}
-use Rattle.m2v_slice.specs.Books.{Book, rows, job_at, no_job, coded, picture_at, size_of, ledger_with}
+use Rattle.m2v_slice.specs.Headers.{header_units, bits_to_code}
+use Rattle.m2v_slice.specs.Books.{Book, rows, job_at, picture_at, size_of, ledger_with}
 use Rattle.m2v_slice.specs.Conditions.{IsBook}
-use Rattle.m2v_slice.proofs.Coded.{count}
-use Rattle.m2v_slice.proofs.Groups.{passes_of, from_intra}
-use Rattle.m2v_slice.proofs.Sound.{ledger_settings, ledger_kinds, ledger_sizes}
+use Rattle.m2v_slice.proofs.Groups.{passes_of}
+use Rattle.m2v_slice.proofs.Ledgers.{whole_ledger_is, whole_settings, whole_kinds, whole_sizes, size_at}
 use Rattle.m2v_law_headline.specs.m2v_enc_stream.Streams.{zeros_of, delay_at, picture_text, pictures_text, zeros_sum}
 use Rattle.m2v_encode.specs.Groups.{all_coded, whole_ledger, slices_text, IsPlace}
-use Rattle.m2v_encode.proofs.Pieces.{whole_is, whole_ledger_is, size_small}
-use Rattle.m2v_encode.proofs.Places.{arriving_is, gone_whole, next_place}
-use Rattle.m2v_encode.proofs.PictureTexts.{header_whole, slices_edge, slices_all, picture_bytes, picture_length}
+use Rattle.m2v_encode.proofs.Pieces.{size_small}
+use Rattle.m2v_law_headline.proofs.m2v_enc_stream.Pictures.{picture_length, pictures_more, zeros_whole}
+use Rattle.m2v_encode.proofs.PictureTexts.{header_whole, slices_edge, slices_all, picture_bytes}
 
 -- ---- the ledger
-
-pub whole_settings : (b : Book) → IsBook b → (whole_ledger b).settings ≡ b.settings
-whole_settings b h = ap (λ (l : Entries). l.settings) (sym (whole_is b)) ∙ ledger_settings b h (length b.pictures) (length b.pictures)
-
-pub whole_kinds : (b : Book) → IsBook b → length (whole_ledger b).kinds ≡ length b.pictures
-whole_kinds b h = ap (λ (l : Entries). length l.kinds) (sym (whole_is b)) ∙ ledger_kinds b h (length b.pictures) (length b.pictures)
-
-pub whole_sizes : (b : Book) → length (whole_ledger b).sizes ≡ length b.pictures
-whole_sizes b = ap (λ (l : Entries). length l.sizes) (sym (whole_is b)) ∙ ledger_sizes b (length b.pictures) (length b.pictures)
-
-size_at : (b : Book) (p : ℕ) → p < length b.pictures → get_or (whole_ledger b).sizes p 0 ≡ size_of b (all_coded b) p
-unfolding ledger_with coded
-size_at b p lt = get_or-map-range_with_len (size_of b (all_coded b)) 0 (length (all_coded b)) p p 0 (omega (arith, lt, count b (length b.pictures))) (omega arith)
 
 pub known_at : (b : Book) (l : Entries) (p : ℕ) → p ≤ length b.pictures → l ≡ whole_ledger b → p ≤ length l.sizes
 known_at b l p le is = omega (arith, le, whole_sizes b, ap (λ (x : Entries). length x.sizes) is)
@@ -94,14 +73,6 @@ zeros_at b h l ends p a size lt is at same =
     ∙ ap (λ (x : State). cond (ends && nat_eq (p + 1) (length w.kinds)) 0 (stuffing_of x size u)) (at ∙ ap (λ (x : Entries). account_at x p) is)
     ∙ ap (λ (n : ℕ). cond (ends && nat_eq (p + 1) (length w.kinds)) 0 (stuffing_of (account_at w p) n u)) (same ∙ sym (size_at b p lt))
     ∙ ap (λ (x : Entries). zeros_of x ends p) (sym is)
-
-eights : (a : State) (bits units : ℕ) → stuffing_of a bits units % 8 ≡ 0
-unfolding stuffing_of
-eights a bits units = omega arith
-
-zeros_whole : (l : Entries) (ends : Bool) (p : ℕ) → zeros_of l ends p % 8 ≡ 0
-zeros_whole l ends p = cond_both (ends && nat_eq (p + 1) (length l.kinds)) _ _ (λ (n : ℕ). n % 8 ≡ 0) (λ e. refl)
-    (λ e. eights (account_at l p) (slice_index l.sizes p) (slice_index l.intervals p))
 
 sizes_small : (b : Book) → IsBook b → 1800 * buffer_bits b.settings ≤ 1800 * 9781248
 sizes_small b h = let buffer = (bounds b.settings (passes_of b h)).size.buffer in omega (arith, buffer)
@@ -163,12 +134,6 @@ parts_split all xs ys zs is = is ∙ sym (append_assoc xs ys zs) ∙ ap (λ (t :
 
 -- ---- pictures one behind another
 
-pub pictures_more : (b : Book) (l : Entries) (ends : Bool) (at n : ℕ)
-    → pictures_text b (all_coded b) l ends at (n + 1)
-    ≡ pictures_text b (all_coded b) l ends at n ++ picture_text b (all_coded b) l ends (at + length (pictures_text b (all_coded b) l ends at n)) n
-unfolding pictures_text
-pictures_more b l ends at n = ap (pictures_text b (all_coded b) l ends at) (let e : n + 1 ≡ suc n = omega arith in e)
-
 pub zeros_more : (l : Entries) (ends : Bool) (n : ℕ) → zeros_sum l ends (n + 1) ≡ zeros_sum l ends n + zeros_of l ends n
 unfolding zeros_sum
 zeros_more l ends n = ap (zeros_sum l ends) (let e : n + 1 ≡ suc n = omega arith in e)
@@ -213,79 +178,3 @@ pictures_split b h l ends at n (suc k) here is place =
       two ++ next.0,
       next.1 ∙ ap (λ (xs : List ℕ). xs ++ (two ++ next.0)) (bytes_more b h l ends at n here (omega (arith, is)) place) ∙ append_assoc front one (two ++ next.0),
     )
-
--- how long they are with one more
-pub length_more : (b : Book) → IsBook b → (l : Entries) (ends : Bool) (at n : ℕ) → n < length b.pictures
-    → length (pictures_text b (all_coded b) l ends at (n + 1)) ≡ length (pictures_text b (all_coded b) l ends at n) + (size_of b (all_coded b) n + zeros_of l ends n)
-length_more b h l ends at n lt =
-    let t = pictures_text b (all_coded b) l ends at n in
-    omega (arith, ap length (pictures_more b l ends at n), length-append t (picture_text b (all_coded b) l ends (at + length t) n), picture_length b h l ends (at + length t) n lt)
-
--- ---- places
-
--- behind a picture that isn't the last of all
-pub place_more : (b : Book) → IsBook b → (l : Entries) (ends : Bool) (p at next : ℕ) → p < length b.pictures → l ≡ whole_ledger b
-    → (p + 1 < length b.pictures) ⊎ (ends ≡ false) → IsPlace b.settings (account_at l p) at
-    → next ≡ at + (size_of b (all_coded b) p + zeros_of l ends p) → IsPlace b.settings (account_at l (p + 1)) next
-place_more b h l ends p at next lt is goes place same =
-    let w = whole_ledger b in
-    let st = (whole_ledger_is b h).steady in
-    let known : p < length w.sizes = omega (arith, lt, whole_sizes b) in
-    let here : IsPlace b.settings (account_at w p) at = subst (λ (x : Entries). IsPlace b.settings (account_at x p) at) is place in
-    let step = next_place b.settings w p at st known here in
-    let z = stuffing_of (account_at w p) (get_or w.sizes p 0) (get_or w.intervals p 0) in
-    let zeros : zeros_of w ends p ≡ z = zeros_full w ends p (more goes) in
-    let e : at + (get_or w.sizes p 0 + z) ≡ next = omega (arith, same, size_at b p lt, zeros, ap (λ (x : Entries). zeros_of x ends p) is) in
-    subst (λ (x : Entries). IsPlace b.settings (account_at x (p + 1)) next) (sym is)
-    (subst (IsPlace b.settings (account_at w (p + 1))) e step)
-  where
-    zeros_full : (l : Entries) (ends : Bool) (p : ℕ) → (p + 1 < length l.kinds) ⊎ (ends ≡ false)
-        → zeros_of l ends p ≡ stuffing_of (account_at l p) (get_or l.sizes p 0) (get_or l.intervals p 0)
-    zeros_full l ends p (inl lt) = elim (cases_Bool (ends && nat_eq (p + 1) (length l.kinds))) [
-      | inl e ↦ absurd (let f = eqb-true (p + 1) (length l.kinds) (and_parts ends (nat_eq (p + 1) (length l.kinds)) e).1 in omega (arith, f, lt))
-      | inr e ↦ cond-false (ends && nat_eq (p + 1) (length l.kinds)) _ _ e
-    ]
-    zeros_full l ends p (inr e) = ap (λ (t : Bool). cond (t && nat_eq (p + 1) (length l.kinds)) 0 (stuffing_of (account_at l p) (get_or l.sizes p 0) (get_or l.intervals p 0))) e
-
-    more : (p + 1 < length b.pictures) ⊎ (ends ≡ false) → (p + 1 < length (whole_ledger b).kinds) ⊎ (ends ≡ false)
-    more (inl lt) = inl (omega (arith, lt, whole_kinds b h))
-    more (inr e) = inr e
-
--- ---- the first picture
-
-head_structure : (scan : Scan) (heads : List PictureJob) → 0 < length heads → nat_eq (get_or (flat_map (fields_of scan) heads) 0 no_job).structure 2 ≡ false
-unfolding structures
-head_structure scan [] some = absurd (omega arith)
-head_structure Progressive (h ∷ more) some = refl
-head_structure Frames (h ∷ more) some = refl
-head_structure Fields (h ∷ more) some = refl
-
-head_kind : (jobs : List PictureJob) → IsFromIntra jobs → (get_or jobs 0 no_job).kind ≡ 1
-head_kind [] is = absurd is
-head_kind (job ∷ more) is = is.0
-
-begins_by : (job : PictureJob) → job.kind ≡ 1 → nat_eq job.structure 2 ≡ false → begins_group job ≡ true
-unfolding begins_group
-begins_by job kind structure = ap (λ (n : ℕ). nat_eq n 1 && not (nat_eq job.structure 2)) kind ∙ ap not structure
-
-pub first_kind : (b : Book) → IsBook b → (job_at b 0).kind ≡ 1
-first_kind b h = head_kind b.pictures (from_intra b h)
-
-first_begins : (b : Book) → IsBook b → begins_group (job_at b 0) ≡ true
-first_begins b h =
-    begins_by (job_at b 0) (first_kind b h)
-    (ap (λ (xs : List PictureJob). nat_eq (get_or xs 0 no_job).structure 2) h.group.fields
-    ∙ head_structure b.settings.scan h.group.heads (omega (arith, h.group.each, h.group.frame)))
-
-code_by : (job : PictureJob) → begins_group job ≡ true → (bits_to_code job ≡ 272) × (header_bits job ≡ 376)
-unfolding bits_to_code header_bits
-code_by job e = (cond-true (begins_group job) _ _ e, cond-true (begins_group job) _ _ e)
-
--- the first picture start code ends behind 272 bits, and each later one does
-pub begun_at : (b : Book) → IsBook b → (p at : ℕ) → (0 < p → 272 ≤ at) → 272 ≤ at + bits_to_code (job_at b p)
-begun_at b h zero at later = omega (arith, (code_by (job_at b 0) (first_begins b h)).0)
-begun_at b h (suc p) at later = let le = later (omega arith) in omega (arith, le)
-
-pub begun_more : (b : Book) → IsBook b → (p zeros at next : ℕ) → next ≡ at + (size_of b (all_coded b) p + zeros) → (0 < p → 272 ≤ at) → 272 ≤ next
-begun_more b h zero zeros at next is later = omega (arith, is, (code_by (job_at b 0) (first_begins b h)).1)
-begun_more b h (suc p) zeros at next is later = let le = later (omega arith) in omega (arith, le, is)

@@ -1,12 +1,11 @@
--- The texts of a group's pictures: their parts end at edges of bytes, and their lengths.
-use Rattle.std.proofs.Common.{◌≡◌, ℕ, zero, suc, ◌+◌, ◌-◌, ◌*◌, ◌/◌, ◌%◌, ◌<◌, ◌≤◌, Bool, false, List, [], ◌∷◌, ◌++◌, length, replicate, refl, sym, ap, subst, ◌∙◌, arith, append_assoc}
+-- The texts of a group's pictures: their parts end at edges of bytes.
+use Rattle.std.proofs.Common.{◌≡◌, ℕ, zero, suc, ◌+◌, ◌-◌, ◌*◌, ◌/◌, ◌%◌, ◌<◌, ◌≤◌, Bool, false, List, [], ◌++◌, length, replicate, refl, sym, ap, subst, ◌∙◌, arith, append_assoc}
 use Rattle.std.specs.Prelude.{nat_eq}
 use Rattle.std.specs.List.{range_with_len, flat_map}
 use Rattle.std.proofs.lemmas.Bool.{cond_both}
-use Rattle.std.proofs.lemmas.List.{length-append, append-nil, replicate-append-replicate, length-replicate}
-use Rattle.std.proofs.lemmas.List.Concat.{length-flat_map}
+use Rattle.std.proofs.lemmas.List.{append-nil, replicate-append-replicate}
 use Rattle.std.proofs.lemmas.List.Folds.{flat_map-map}
-use Rattle.m2v_bits.specs.Bits.{packed, number, IsEdge}
+use Rattle.m2v_bits.specs.Bits.{packed, IsEdge}
 use Rattle.m2v_bits.proofs.Units.{unit_edge, edge-append, packed-append}
 use Rattle.m2v_bits.proofs.Texts.{texts_more}
 use Rattle.m2v_order.specs.declared.jobs.PictureJob.{PictureJob}
@@ -14,37 +13,21 @@ use Rattle.m2v_rate.specs.Plans.{Entries}
 use Rattle.m2v_slice.specs.Slices.{CodedSlice, SliceTask, slice_of}
 use Rattle.m2v_slice.specs.Headers.{header_units, header_bits, begins_group}
 use Rattle.m2v_slice.proofs.TextLengths.{header_length}
-use Rattle.m2v_slice.specs.Books.{Book, rows, job_at, picture_at, slice_at, size_of}
+use Rattle.m2v_slice.specs.Books.{Book, rows, job_at, picture_at, slice_at}
 use Rattle.m2v_slice.specs.Conditions.{IsBook}
 use Rattle.m2v_slice.proofs.Coded.{slice_is}
+use Rattle.m2v_slice.proofs.Slices.{is_job}
+use Rattle.m2v_law_headline.proofs.m2v_law_tree.Zeros.{packed_zeros}
 use Rattle.m2v_law_headline.specs.m2v_enc_stream.Streams.{zeros_of, delay_at, picture_text}
 use Rattle.m2v_encode.specs.Groups.{all_coded, slices_text}
-use Rattle.m2v_encode.proofs.Pieces.{slices_by, job_is}
+use Rattle.m2v_encode.proofs.Pieces.{slices_by}
 
 -- ---- zero bytes
-
-zero_byte : packed (replicate 8 false) ≡ 0 ∷ []
-unfolding packed number
-zero_byte = refl
-
-pub packed_zeros : (k : ℕ) → packed (replicate (8 * k) false) ≡ replicate k 0
-unfolding packed
-packed_zeros zero = refl
-packed_zeros (suc k) =
-    let e : 8 * suc k ≡ 8 + 8 * k = omega arith in
-    ap (λ (n : ℕ). packed (replicate n false)) e
-    ∙ ap packed (sym (replicate-append-replicate 8 (8 * k) false))
-    ∙ packed-append (replicate 8 false) (replicate (8 * k) false) refl
-    ∙ ap (λ (xs : List ℕ). xs ++ packed (replicate (8 * k) false)) zero_byte
-    ∙ ap (λ (xs : List ℕ). 0 ∷ xs) (packed_zeros k)
 
 pub zero_bytes : (zeros : ℕ) → zeros % 8 ≡ 0 → packed (replicate zeros false) ≡ replicate (zeros / 8) 0
 zero_bytes zeros whole =
     let e : zeros ≡ 8 * (zeros / 8) = omega (arith, whole) in
     ap (λ (n : ℕ). packed (replicate n false)) e ∙ packed_zeros (zeros / 8)
-
-zeros_edge : (zeros : ℕ) → zeros % 8 ≡ 0 → IsEdge (replicate zeros false)
-zeros_edge zeros whole = ap (λ (n : ℕ). n % 8) (length-replicate zeros false) ∙ whole
 
 -- so many zero bytes: those so far, the next ones, and those behind them
 pub zeros_split : (all left n : ℕ) → left ≤ all → n ≤ left → replicate {A = ℕ} all 0 ≡ replicate (all - left) 0 ++ (replicate n 0 ++ replicate (left - n) 0)
@@ -113,7 +96,7 @@ header_whole job = cond_both (begins_group job) _ _ (λ (n : ℕ). n % 8 ≡ 0) 
 
 pub header_edge : (b : Book) → IsBook b → (p delay : ℕ) → p < length b.pictures → IsEdge (header_units b.settings (job_at b p) delay)
 header_edge b h p delay lt =
-    ap (λ (n : ℕ). n % 8) (header_length b.settings (job_at b p) delay (job_is b h p lt)) ∙ header_whole (job_at b p)
+    ap (λ (n : ℕ). n % 8) (header_length b.settings (job_at b p) delay (is_job b h p lt)) ∙ header_whole (job_at b p)
 
 -- the bytes of a picture: those of its headers, of its slices, and the zero bytes
 pub picture_bytes : (b : Book) → IsBook b → (l : Entries) (ends : Bool) (at p delay zeros : ℕ) → p < length b.pictures
@@ -131,20 +114,3 @@ picture_bytes b h l ends at p delay zeros lt is none whole =
     ∙ packed-append head (slices ++ tail) (header_edge b h p delay lt)
     ∙ ap (λ (xs : List ℕ). packed head ++ xs) (packed-append slices tail (slices_edge b p (rows b) lt (omega arith)))
     ∙ ap (λ (xs : List ℕ). packed head ++ (packed slices ++ xs)) (zero_bytes zeros whole)
-
--- how long it is
-pub picture_length : (b : Book) → IsBook b → (l : Entries) (ends : Bool) (at p : ℕ) → p < length b.pictures
-    → length (picture_text b (all_coded b) l ends at p) ≡ size_of b (all_coded b) p + zeros_of l ends p
-unfolding picture_text
-picture_length b h l ends at p lt =
-    let head = header_units b.settings (job_at b p) (delay_at l (job_at b p) p at) in
-    let slices = flat_map (λ (x : CodedSlice). x.text) (picture_at (all_coded b) p).slices in
-    let tail = replicate (zeros_of l ends p) false in
-    omega (
-      arith,
-      length-append head (slices ++ tail),
-      length-append slices tail,
-      length-replicate (zeros_of l ends p) false,
-      length-flat_map (λ (x : CodedSlice). x.text) (picture_at (all_coded b) p).slices,
-      header_length b.settings (job_at b p) (delay_at l (job_at b p) p at) (job_is b h p lt),
-    )

@@ -1,4 +1,4 @@
--- The pieces of a book's jobs, its pictures, and the ledger that knows all sizes.
+-- The pieces of a book's jobs, its pictures, and what is told to its ledger.
 use Rattle.std.proofs.Common.{◌≡◌, ℕ, zero, suc, ◌+◌, ◌-◌, ◌*◌, ◌%◌, ◌^◌, ◌<◌, ◌≤◌, List, [], ◌∷◌, length, map, get_or, refl, sym, ap, subst, ◌∙◌, arith}
 use Rattle.std.specs.Prelude.{slice_index, sum_by}
 use Rattle.std.specs.List.{range_with_len}
@@ -6,23 +6,22 @@ use Rattle.std.proofs.lemmas.List.FromFn.{fill_by_all, sum_by-map-range_with_len
 use Rattle.m2v_order.specs.declared.jobs.PictureJob.{PictureJob}
 use Rattle.m2v_rate.specs.declared.values.Plan.{Plan}
 use Rattle.m2v_rate.specs.Plans.{Entries, first_open, with_size}
-use Rattle.m2v_rate.specs.Steady.{IsLedger}
-use Rattle.m2v_rate.proofs.Keeps.{known_by}
 use Rattle.m2v_rate.proofs.Steps.{interval_small}
 use Rattle.m2v_set.proofs.Facts.{bounds}
 use Rattle.m2v_slice.specs.Slices.{CodedSlice}
-use Rattle.m2v_slice.specs.Headers.{IsJob, header_bits}
+use Rattle.m2v_slice.specs.Headers.{header_bits}
 use Rattle.m2v_slice.specs.declared.pieces.EncodePiece.{EncodePiece}
 use Rattle.m2v_slice.specs.declared.pieces.EncodePiece.TheVariants as piece
 use Rattle.m2v_slice.specs.Books.{Book, CodedPicture, rows, job_at, no_job, coded, picture_at, slice_at, slice_job, plan_job, size_of}
 use Rattle.m2v_slice.specs.Conditions.{IsBook}
 use Rattle.m2v_slice.specs.Jobs.{value_of, slice_piece, plan_piece}
-use Rattle.m2v_slice.proofs.Coded.{count, no_slice, picture_is, slices_count, slice_stays}
+use Rattle.m2v_slice.proofs.Coded.{no_slice, picture_is, slices_count, slice_stays}
 use Rattle.m2v_slice.proofs.Learned.{plan_picture, plan_part, slice_picture, slice_part, value_plan, value_slice}
-use Rattle.m2v_slice.proofs.Groups.{passes_of, picture_is_one, structure_low}
-use Rattle.m2v_slice.proofs.Steady.{ledger_at, size_within, ledger_known}
-use Rattle.m2v_slice.proofs.Sound.{ledger_kinds, ledger_caps, ledger_sizes, ledger_cap, ledger_none, sound, planned, plan_is_good}
-use Rattle.m2v_encode.specs.Groups.{all_coded, whole_ledger}
+use Rattle.m2v_slice.proofs.Groups.{passes_of}
+use Rattle.m2v_slice.proofs.Steady.{ledger_at, ledger_known}
+use Rattle.m2v_slice.proofs.Sound.{ledger_kinds, ledger_caps, ledger_sizes, ledger_cap, plan_is_good}
+use Rattle.m2v_slice.proofs.Ledgers.{times_count, size_in}
+use Rattle.m2v_encode.specs.Groups.{all_coded}
 
 pub get_or_same : {A : Type 0} (xs : List A) (i : ℕ) (d e : A) → i < length xs → get_or xs i d ≡ get_or xs i e
 get_or_same [] i d e lt = absurd (omega arith)
@@ -91,17 +90,6 @@ no_slice_there b h k x out same value is =
 
 -- ---- pictures
 
-pub job_is : (b : Book) → IsBook b → (p : ℕ) → p < length b.pictures → IsJob (job_at b p)
-job_is b h p lt =
-    let one = picture_is_one b h p lt in
-    let few = h.group.frames in
-    record {
-      kind = one.kind;
-      structure = structure_low b.settings.scan (job_at b p).structure one.structure;
-      frame = omega (arith, one.frame, few);
-      display = one.display;
-    }
-
 pub job_there : (b : Book) (p : ℕ) (d : PictureJob) → p < length b.pictures → get_or b.pictures p d ≡ job_at b p
 job_there b p d lt = get_or_same b.pictures p d no_job lt
 
@@ -131,9 +119,6 @@ slices_by b p lt =
 pub bits_all : (b : Book) (p : ℕ) → p < length b.pictures → bits_so_far b p (rows b) ≡ size_of b (all_coded b) p
 bits_all b p lt = ap (λ (xs : List CodedSlice). header_bits (job_at b p) + sum_by (λ (x : CodedSlice). length x.text) xs) (sym (slices_by b p lt))
 
-pub size_in : (b : Book) → IsBook b → (p : ℕ) → p < length b.pictures → size_of b (all_coded b) p ≤ (picture_at (all_coded b) p).plan.cap
-size_in b h p lt = size_within b h (length b.pictures) p lt lt (plan_is_good b h (length b.pictures) p lt (omega arith))
-
 pub size_small : (b : Book) → IsBook b → (p : ℕ) → p < length b.pictures → size_of b (all_coded b) p < 2 ^ 24
 size_small b h p lt =
     let good = plan_is_good b h (length b.pictures) p lt (omega arith) in
@@ -147,9 +132,6 @@ slice_small b h p r lt small =
     omega (arith, size_small b h p lt, bits_all b p lt, bits_more b p r, all, ap (bits_so_far b p) whole)
 
 -- ---- times
-
-pub times_count : (b : Book) → IsBook b → length b.ledger.intervals ≡ length b.pictures
-times_count b h = h.ledger.ledger.steady.begun.timed ∙ ap (λ (l : Entries). length l.kinds) (sym (ledger_none b h)) ∙ ledger_kinds b h 0 0
 
 pub time_small : (b : Book) → IsBook b → (p : ℕ) → p < length b.pictures → slice_index b.ledger.intervals p < 2 ^ 20
 time_small b h p lt =
@@ -180,33 +162,3 @@ pub told_more : (b : Book) (p bits : ℕ) (l m : Entries) → bits ≡ size_of b
     → m ≡ with_size l bits → m ≡ ledger_at b (p + 1) (length b.pictures)
 told_more b p bits l m size is new =
     new ∙ ap (λ (x : Entries). with_size x bits) is ∙ ap (with_size (ledger_at b p (length b.pictures))) size ∙ sym (ledger_known b p (length b.pictures))
-
-pub whole_is : (b : Book) → ledger_at b (length b.pictures) (length b.pictures) ≡ whole_ledger b
-whole_is b = ap (λ (n : ℕ). ledger_at b n (length b.pictures)) (sym (count b (length b.pictures)))
-
--- it is a ledger
-known_all : (b : Book) → IsBook b → (k m : ℕ) → m ≡ length b.pictures - 4 + k → m ≤ length b.pictures → IsLedger (ledger_at b m (length b.pictures))
-known_all b h zero m is le =
-    let n = length b.pictures in
-    let some = h.group.picture in
-    let all : n - 1 + 1 ≡ n = omega (arith, some) in
-    let same : first_open (n - 1) ≡ m = omega (arith, is) in
-    let before : n - 1 < n = omega (arith, some) in
-    subst (λ (i : ℕ). IsLedger (ledger_at b i n)) same
-    (subst (λ (i : ℕ). IsLedger (ledger_at b (first_open (n - 1)) i)) all
-    (planned b h (n - 1) before (sound b h (n - 1) (omega arith)).ledger))
-known_all b h (suc k) m is le =
-    let n = length b.pictures in
-    let p = m - 1 in
-    let lt : p < n = omega (arith, is, le) in
-    let more : p + 1 ≡ m = omega (arith, is) in
-    let rec = known_all b h k p (omega (arith, is)) (omega (arith, le)) in
-    let tell = may_tell b h p (size_of b (all_coded b) p) (ledger_at b p n) lt refl refl in
-    subst (λ (i : ℕ). IsLedger (ledger_at b i n)) more
-    (subst IsLedger (sym (ledger_known b p n))
-    (known_by (ledger_at b p n) p (size_of b (all_coded b) p) rec tell.first tell.planned tell.within))
-
-pub whole_ledger_is : (b : Book) → IsBook b → IsLedger (whole_ledger b)
-whole_ledger_is b h =
-    let n = length b.pictures in
-    subst IsLedger (whole_is b) (known_all b h (n - (n - 4)) n (omega arith) (omega arith))

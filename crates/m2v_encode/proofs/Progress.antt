@@ -25,6 +25,7 @@ use Rattle.m2v_encode.specs.declared.answer.EncodeError.{EncodeError}
 use Rattle.m2v_encode.specs.declared.answer.EncodeError.TheVariants.{Read, Write, ShortFrame, NoFrames, TooManyFrames, Memory}
 use Rattle.m2v_encode.specs.declared.group.Coder.{Coder}
 use Rattle.m2v_law_headline.proofs.Headline.{headline}
+use Rattle.m2v_law_headline.proofs.Lengths.{bytes_by}
 use Rattle.m2v_encode.specs.Answers.{AreWhole, most_frames, AllCoded, Unended, CutOff, Stops}
 use Rattle.m2v_encode.specs.Groups.{whole_ledger, group_text, group_shown, anchor_behind}
 use Rattle.m2v_encode.specs.Steps.{FrameRead, FrameStops, ReadStops, book_by, GroupCoded, GroupStops, DueCoded, DueStops, EndCoded, EndCut, EndStops, HandedOut, Stands, SoFar}
@@ -49,18 +50,6 @@ packed_front (x1 ∷ x2 ∷ x3 ∷ x4 ∷ x5 ∷ x6 ∷ x7 ∷ []) b = (packed (
 
 edge_by : (t : List Bool) (bytes : ℕ) → 8 * bytes ≡ length t → IsEdge t
 edge_by t bytes is = omega (arith, is)
-
-bytes_by : (t : List Bool) → IsEdge t → 8 * length (packed t) ≡ length t
-unfolding packed
-bytes_by (x1 ∷ x2 ∷ x3 ∷ x4 ∷ x5 ∷ x6 ∷ x7 ∷ x8 ∷ t) e = omega (arith, bytes_by t (omega (arith, e)))
-bytes_by [] e = refl
-bytes_by (x1 ∷ []) e = absurd (omega (arith, e))
-bytes_by (x1 ∷ x2 ∷ []) e = absurd (omega (arith, e))
-bytes_by (x1 ∷ x2 ∷ x3 ∷ []) e = absurd (omega (arith, e))
-bytes_by (x1 ∷ x2 ∷ x3 ∷ x4 ∷ []) e = absurd (omega (arith, e))
-bytes_by (x1 ∷ x2 ∷ x3 ∷ x4 ∷ x5 ∷ []) e = absurd (omega (arith, e))
-bytes_by (x1 ∷ x2 ∷ x3 ∷ x4 ∷ x5 ∷ x6 ∷ []) e = absurd (omega (arith, e))
-bytes_by (x1 ∷ x2 ∷ x3 ∷ x4 ∷ x5 ∷ x6 ∷ x7 ∷ []) e = absurd (omega (arith, e))
 
 pub prefix_by : (h0 h1 : Option (List ℕ)) (part all rest : List ℕ) → all ≡ part ++ rest → GrowsByPrefix h0 part h1 → GrowsByPrefix h0 all h1
 prefix_by h0 h1 part all rest is grown = subst (λ (b : List ℕ). GrowsByPrefix h0 b h1) (sym is) (prefix_of_more grown rest)

@@ -1,7 +1,7 @@
 -- A frame made of the rows of its pictures is the frame that a decoder rebuilds.
 use Rattle.std.proofs.Common.{◌≡◌, ℕ, zero, suc, ◌+◌, ◌*◌, ◌/◌, ◌%◌, ◌<◌, ◌≤◌, ◌⊎◌, inl, inr, Bool, true, false, cond, List, length, replicate, get_or, Option, Some, None, refl, sym, ap, subst, ◌∙◌, arith, eq-eqb}
 use Rattle.std.specs.Prelude.{nat_eq, nat_lt, ◌&&◌}
-use Rattle.std.proofs.lemmas.Bool.{cond-true, cond-false, cases_Bool, cases_eq, cases_lt, lt-ltb, le-ltb, ne_eqb, eqb-true, eqb-false}
+use Rattle.std.proofs.lemmas.Bool.{cond-true, cond-false, cases_Bool, cases_eq, cases_lt, lt-ltb, le-ltb, ne_eqb, eqb-true}
 use Rattle.std.proofs.lemmas.List.{length-replicate}
 use Rattle.m2v_plane.specs.declared.dims.Dims.{Dims}
 use Rattle.m2v_plane.specs.declared.planes.Plane.{Plane}
@@ -11,7 +11,7 @@ use Rattle.m2v_plane.specs.declared.planes.Lines.TheVariants.{Top, Bottom}
 use Rattle.m2v_plane.specs.Sizes.{side, columns_of}
 use Rattle.m2v_plane.specs.Samples.{Samples, plane_by, sample_of, blank, is_among, number_among, with_row, plane_with_row}
 use Rattle.m2v_plane.proofs.Places.{plane_is}
-use Rattle.m2v_plane.proofs.RawVideo.{plane_at, length-plane_by}
+use Rattle.m2v_plane.proofs.RawVideo.{plane_at}
 use Rattle.m2v_set.specs.declared.settings.Scan.{Scan}
 use Rattle.m2v_set.specs.declared.settings.Scan.TheVariants.{Progressive, Frames, Fields}
 use Rattle.m2v_set.specs.Numbers.{dims_of, rows_by, frame_rows_by}
@@ -25,12 +25,10 @@ use Rattle.m2v_law_headline.specs.m2v_enc_stream.Streams.{frame_by, picture_with
 use Rattle.m2v_encode.specs.Groups.{all_coded}
 use Rattle.m2v_encode.specs.Rebuilt.{rows_in, with_rows, rebuilt_by}
 use Rattle.m2v_encode.proofs.Covering.{covered}
+use Rattle.m2v_law_headline.proofs.m2v_law_shown.Reading.{plane_same}
+use Rattle.m2v_law_headline.proofs.m2v_law_shown.Frames.{even_line, odd_line}
 
 -- ---- frames by their samples
-
-plane_same : (lines columns : ℕ) (f g : ℕ → ℕ → ℕ) → ((r c : ℕ) → r < lines → c < columns → f r c ≡ g r c) → plane_by lines columns f ≡ plane_by lines columns g
-plane_same lines columns f g each =
-    plane_is (plane_by lines columns f) lines columns g (length-plane_by lines columns f) (λ r c lt small. plane_at lines columns f r c lt small ∙ each r c lt small)
 
 planes_same : (d : Dims) (a x b y c z : List ℕ) → a ≡ x → b ≡ y → c ≡ z
     → (let s : Samples = record { dims = d; luma = a; cb = b; cr = c } in let t : Samples = record { dims = d; luma = x; cb = y; cr = z } in s ≡ t)
@@ -205,15 +203,6 @@ own_sample : (b : Book) (p : ℕ) (plane : Plane) (lines : Lines) (l line column
     → of_rows b p plane line column ≡ sample_from b (Some p) plane lines l column
 unfolding picture_sample
 own_sample b p plane lines l line column e = ap (λ (q : ℕ). sample_of (slice_at (all_coded b) p (q / side plane)).row plane (q % side plane) column) (sym e)
-
-even_line : (line : ℕ) → nat_eq (line % 2) 0 ≡ true → 2 * (line / 2) ≡ line
-even_line line e = let f = eqb-true (line % 2) 0 e in omega (arith, f)
-
-odd_line : (line : ℕ) → nat_eq (line % 2) 0 ≡ false → (2 * (line / 2) + 1 ≡ line) × (line % 2 ≡ 1)
-odd_line line e = elim (cases_lt 0 (line % 2)) [
-  | inl some ↦ (omega (arith, some), omega (arith, some))
-  | inr none ↦ absurd (eqb-false (line % 2) 0 e (omega (arith, none)))
-]
 
 with_next : (b : Book) (k : ℕ) (lines : Lines) (n : ℕ) (t : Bool) → nat_eq (job_at b n).frame k ≡ true → has_lines (job_at b n).structure lines ≡ t
     → picture_with b k lines (suc n) ≡ cond t (Some n) (picture_with b k lines n)

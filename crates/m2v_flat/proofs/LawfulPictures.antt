@@ -1,18 +1,18 @@
 -- The pictures of the flat stream, numbered, break no rule.
-use Rattle.std.proofs.Common.{◌≡◌, ℕ, zero, suc, ◌+◌, ◌-◌, ◌%◌, ◌<◌, ◌≤◌, Bool, true, false, List, [], ◌∷◌, length, map, Some, refl, ap, ◌∙◌, arith, ⊎_elim}
+use Rattle.std.proofs.Common.{◌≡◌, ℕ, ◌+◌, ◌-◌, ◌%◌, ◌<◌, ◌≤◌, Bool, true, false, List, [], ◌∷◌, length, map, Some, refl, ap, ◌∙◌, arith, ⊎_elim}
 use Rattle.std.specs.Prelude.{All}
 use Rattle.std.specs.List.{flat_map}
 use Rattle.std.proofs.lemmas.Bool.{eq-eqb, ne_eqb, cases_eq}
-use Rattle.std.proofs.lemmas.List.Elements.{All-nil, All-cons, All-head, All-tail}
-use Rattle.m2v_order.specs.Display.{anchors, b_after, from_anchor, Order}
+use Rattle.std.proofs.lemmas.List.Elements.{All-nil, All-cons}
 use Rattle.m2v_flat.specs.declared.settings.FlatSettings.{FlatSettings}
 use Rattle.m2v_flat.specs.Tree.{sequence_of}
-use Rattle.m2v_flat.proofs.Orders.{IsAnchor}
+use Rattle.m2v_order.specs.Display.{Order}
+use Rattle.m2v_flat.proofs.Orders.{IsAnchor, in_order}
 use Rattle.m2v_model.specs.Pictures.{coded_picture}
 use Rattle.m2v_model.specs.Lawful.{Numbered, numbered, horizontal_rule, vertical_rule, intra_rule, frames_of_group, display_place, place_in_group, reference_rule, crowd_rule, repeat_rule, progressive_rule, precision_rule, picture_breaches}
 use Rattle.m2v_flat.specs.Told.{decoded_from}
 use Rattle.m2v_flat.specs.Numbered.{counted, counted_from, intra_from}
-use Rattle.m2v_flat.proofs.Sequences.{judge_none, most_none}
+use Rattle.m2v_law_chain.proofs.Judging.{judge_none, most_none}
 
 -- ---- the pictures, numbered
 
@@ -33,27 +33,6 @@ all_intra : (number : ℕ) (frames : List (List ℕ)) → All IsAnchor (intra_fr
 unfolding intra_from
 all_intra number [] = All-nil IsAnchor
 all_intra number (raw ∷ frames) = All-cons IsAnchor (number, 1) (intra_from (number + 1) frames) refl (all_intra (number + 1) frames)
-
--- where each picture is an anchor, display order is decoding order
-no_b : {F : Type 0} (k : ℕ) (ps : List (F × ℕ)) → All IsAnchor ps → b_after k ps ≡ []
-unfolding b_after
-no_b k [] h = refl
-no_b zero (p ∷ ps) h = let e = All-head IsAnchor p ps h in rw e refl
-no_b (suc k) (p ∷ ps) h = let e = All-head IsAnchor p ps h in rw e (no_b k ps (All-tail IsAnchor p ps h))
-
-in_turn : {F : Type 0} (k : ℕ) (xs ps : List (F × ℕ)) → All IsAnchor ps → from_anchor k xs ps ≡ xs
-unfolding from_anchor
-in_turn k [] ps h = refl
-in_turn k (x ∷ xs) ps h = rw (no_b k ps h) (ap (λ (l : List _). x ∷ l) (in_turn (suc k) xs ps h))
-
-all_anchors : {F : Type 0} (ps : List (F × ℕ)) → All IsAnchor ps → anchors ps ≡ ps
-all_anchors [] h = refl
-all_anchors (p ∷ ps) h = let e = All-head IsAnchor p ps h in rw e (ap (λ (x : List _). p ∷ x) (all_anchors ps (All-tail IsAnchor p ps h)))
-
-in_order : {F : Type 0} (low_delay : Bool) (ps : List (F × ℕ)) → All IsAnchor ps → Order low_delay ps ≡ ps
-unfolding Order
-in_order true ps h = refl
-in_order false ps h = rw (no_b 0 ps h) (in_turn 1 (anchors ps) ps h ∙ all_anchors ps h)
 
 -- the place of a frame in its group: it has as many frames before it as its number is above the first one's
 place_from : (number m : ℕ) (frames : List (List ℕ)) → number ≤ m → m < number + length frames → display_place m (intra_from number frames) ≡ m - number

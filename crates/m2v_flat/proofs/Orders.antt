@@ -26,7 +26,8 @@ all_kept : {F : Type 0} (dropped : F → Bool) (ps : List (F × ℕ)) → All Is
 all_kept dropped [] h = refl
 all_kept dropped (p ∷ ps) h = let e = All-head IsAnchor p ps h in rw e (ap (λ (x : List _). p ∷ x) (all_kept dropped ps (All-tail IsAnchor p ps h)))
 
-in_order : {F : Type 0} (low_delay : Bool) (ps : List (F × ℕ)) → All IsAnchor ps → Order low_delay ps ≡ ps
+-- where each picture is an anchor, display order is decoding order
+pub in_order : {F : Type 0} (low_delay : Bool) (ps : List (F × ℕ)) → All IsAnchor ps → Order low_delay ps ≡ ps
 unfolding Order
 in_order true ps h = refl
 in_order false ps h = rw (no_b 0 ps h) (in_turn 1 (anchors ps) ps h ∙ all_anchors ps h)

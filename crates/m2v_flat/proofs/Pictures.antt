@@ -5,7 +5,7 @@ use Rattle.std.specs.List.{range_with_len}
 use Rattle.std.proofs.lemmas.Bool.{ne_eqb, eq-eqb, le-leb, lt-ltb, and_from}
 use Rattle.std.proofs.Math.Nat.{mul_comm}
 use Rattle.m2v_bits.specs.Bits.{to_edge}
-use Rattle.m2v_bits.specs.Syntax.{seq, done, here, rule, choose}
+use Rattle.m2v_bits.specs.Syntax.{seq, done, rule, choose}
 use Rattle.m2v_head.specs.Texts.{sequence_text, sequence_extension_text, picture_text, picture_extension_text, slice_text}
 use Rattle.m2v_plane.specs.declared.dims.Dims.{Dims}
 use Rattle.m2v_plane.specs.Samples.{Samples}
@@ -16,15 +16,16 @@ use Rattle.m2v_flat.specs.Flat.{flat_sequence, flat_sequence_extension, flat_pic
 use Rattle.m2v_flat.proofs.Passing.{is_small}
 use Rattle.m2v_model.specs.declared.state.Open.{Open}
 use Rattle.m2v_model.specs.declared.state.State.{State}
-use Rattle.m2v_model.specs.Units.{Units, unit_at, unit_bits}
-use Rattle.m2v_model.specs.Headers.{whole_header, sequence_in, sequence_extension_in, picture_in, picture_extension_in}
+use Rattle.m2v_model.specs.Units.{Units}
 use Rattle.m2v_model.specs.States.{at_first, one_anchor_more, with_slice, is_complete, columns_of, rows_of, picture_rows, dims_of, slice_setup}
 use Rattle.m2v_model.specs.Slices.{slice_at, large_in}
-use Rattle.m2v_model.specs.Streams.{sequence, picture, slice, after, close, no_second_field_due, extension_behind, sequence_unit, picture_unit, read_slice, slice_in, slice_unit, onward, later_unit, known_unit}
+use Rattle.m2v_model.specs.Streams.{sequence, picture, slice, after, read_slice, slice_in, slice_unit, onward, later_unit, known_unit}
 use Rattle.m2v_flat.specs.Tree.{flat_setup, flat_row, flat_rows, sequence_of, flat_open, open_picture, state_with, state_in, pictures_parts}
 use Rattle.m2v_law_chain.specs.Texts.{ended, unit_bytes}
 use Rattle.m2v_flat.proofs.Slices.{slice_stands, none_large}
-use Rattle.m2v_flat.proofs.Headers.{behind, inside_stands, sequence_fits, sequence_stands, extension_stands, picture_stands, coding_stands, sequence_id, picture_id, extension_in_stands}
+use Rattle.m2v_law_chain.proofs.Headers.{behind, inside_stands}
+use Rattle.m2v_law_chain.proofs.HeaderUnits as reading
+use Rattle.m2v_flat.proofs.Headers.{sequence_fits, sequence_stands, extension_stands, picture_stands, coding_stands, sequence_id, picture_id}
 use Rattle.m2v_law_chain.specs.Chains.{Reads, Chain, nothing, link}
 use Rattle.m2v_law_chain.proofs.Chains.{chain_then}
 
@@ -86,108 +87,19 @@ is_flat s h =
 -- ---- headers
 
 pub sequence_reads : (s : FlatSettings) → IsFlat s → Reads at_first (sequence (sequence_of s)) (sequence_bytes s) (extension_bytes ∷ [])
-unfolding known_unit onward sequence_unit close no_second_field_due extension_behind choose rule here unit_at seq done
-sequence_reads s h = record {
-  stands = λ start us.
-      let u = sequence_bytes s in
-      let later = extension_bytes ∷ us in
-      let own = inside_stands (whole_header sequence_in) 0xB3 (sequence_text (flat_sequence s)) (flat_sequence s) later []
-      (sequence_stands s (sequence_fits s (omega (arith, h.width.1)) (omega (arith, h.height.1)) h.code)) in
-      let other = extension_in_stands (whole_header (sequence_extension_in (flat_sequence s))) 1 (unit_bits later) (sequence_extension_text flat_sequence_extension) flat_sequence_extension us (omega arith) sequence_id refl
-      (extension_stands s h.width.0 (omega (arith, h.width.1)) h.height.0 (omega (arith, h.height.1))) in
-      inl (
-        refl,
-        (
-          sequence (sequence_of s),
-          us,
-          (
-            tt,
-            later,
-            (refl, refl),
-            (
-              tt,
-              later,
-              (refl, refl),
-              (
-                flat_sequence s,
-                later,
-                own,
-                (
-                  unit_bits later,
-                  later,
-                  (refl, refl),
-                  (
-                    Some extension_bytes,
-                    us,
-                    refl,
-                    (
-                      flat_sequence_extension,
-                      us,
-                      inl (refl, other),
-                      (tt, us, (refl, refl), (refl, refl)),
-                    ),
-                  ),
-                ),
-              ),
-            ),
-          ),
-          (refl, refl),
-        ),
-      );
-}
+sequence_reads s h =
+    reading.sequence_reads at_first (flat_sequence s) flat_sequence_extension (sequence_text (flat_sequence s)) (sequence_extension_text flat_sequence_extension)
+    (sequence_stands s (sequence_fits s (omega (arith, h.width.1)) (omega (arith, h.height.1)) h.code))
+    (extension_stands s h.width.0 (omega (arith, h.width.1)) h.height.0 (omega (arith, h.height.1))) sequence_id refl refl refl
 
 -- each macroblock of the picture that is open was read
 abbrev pub IsWhole : FlatSettings → Option Open → Type 0
 IsWhole s open_one = is_complete (Some (sequence_of s)) open_one ≡ true
 
 pub picture_reads : (s : FlatSettings) (anchors : ℕ) (open_one : Option Open) (number : ℕ) → IsWhole s open_one → Reads (state_with s anchors open_one) (picture (flat_picture number) flat_picture_extension) (picture_bytes number) (coding_bytes ∷ [])
-unfolding known_unit later_unit onward picture_unit close extension_behind choose rule here unit_at seq done
-picture_reads s anchors open_one number whole_one = record {
-  stands = λ start us.
-      let later = coding_bytes ∷ us in
-      let own = inside_stands (whole_header picture_in) 0x00 (picture_text (flat_picture number)) (flat_picture number) later [] (picture_stands number) in
-      let other = extension_in_stands (whole_header (picture_extension_in true (flat_picture number))) 8 (unit_bits later) (picture_extension_text flat_picture_extension) flat_picture_extension us (omega arith) picture_id refl (coding_stands number) in
-      inr (
-        refl,
-        inl (
-          refl,
-          inl (
-            refl,
-            (
-              picture (flat_picture number) flat_picture_extension,
-              us,
-              (
-                tt,
-                later,
-                (whole_one, refl),
-                (
-                  flat_picture number,
-                  later,
-                  own,
-                  (
-                    unit_bits later,
-                    later,
-                    (refl, refl),
-                    (
-                      Some coding_bytes,
-                      us,
-                      refl,
-                      (
-                        flat_picture_extension,
-                        us,
-                        inl (refl, other),
-                        (tt, us, (refl, refl), (tt, us, (refl, refl), (refl, refl))),
-                      ),
-                    ),
-                  ),
-                ),
-              ),
-              (refl, refl),
-            ),
-          ),
-        ),
-      );
-}
+picture_reads s anchors open_one number whole_one =
+    reading.picture_reads (state_with s anchors open_one) (flat_picture number) flat_picture_extension (picture_text (flat_picture number)) (picture_extension_text flat_picture_extension)
+    refl (picture_stands number) (coding_stands number) picture_id whole_one refl refl
 
 -- ---- slices
 

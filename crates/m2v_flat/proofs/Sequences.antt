@@ -1,6 +1,6 @@
 -- The sequence header of settings that passed keeps to the bounds of main level.
-use Rattle.std.proofs.Common.{◌≡◌, ℕ, ◌*◌, ◌≤◌, Bool, true, [], ◌∷◌, refl, sym, ◌∙◌, arith}
-use Rattle.std.proofs.lemmas.Bool.{le-leb, le-ltb, leb-true}
+use Rattle.std.proofs.Common.{◌≡◌, ℕ, ◌*◌, ◌≤◌, [], ◌∷◌, refl, sym, ◌∙◌, arith}
+use Rattle.std.proofs.lemmas.Bool.{leb-true}
 use Rattle.m2v_set.specs.declared.settings.Scan.TheVariants.{Progressive}
 use Rattle.m2v_set.specs.declared.settings.Level.TheVariants.{Main}
 use Rattle.m2v_set.specs.Numbers.{limits_of, frame_time}
@@ -11,18 +11,8 @@ use Rattle.m2v_flat.specs.declared.settings.FlatSettings.{FlatSettings}
 use Rattle.m2v_flat.specs.Answers.{HasPassed}
 use Rattle.m2v_flat.specs.Tree.{sequence_of}
 use Rattle.m2v_model.specs.States.{width_of, height_of}
-use Rattle.m2v_model.specs.Lawful.{Breach, judge, at_most, within, level_of, level_rule, width_rule, height_rule, frame_rate_rule, luma_rule, rate_rule, buffer_rule, sequence_breaches}
-
--- ---- rules that hold
-
-pub judge_none : (b : Bool) (x : Breach) → b ≡ true → judge b x ≡ []
-judge_none b x e = rw e refl
-
-pub most_none : (rule picture have need : ℕ) → have ≤ need → at_most rule picture have need ≡ []
-most_none rule picture have need le = rw (le-leb have need le) refl
-
-within_none : (rule picture have low high : ℕ) → low ≤ have → have ≤ high → within rule picture have low high ≡ []
-within_none rule picture have low high above below = rw (le-ltb have low above, le-leb have high below) refl
+use Rattle.m2v_model.specs.Lawful.{level_of, level_rule, width_rule, height_rule, frame_rate_rule, luma_rule, rate_rule, buffer_rule, sequence_breaches}
+use Rattle.m2v_law_chain.proofs.Judging.{most_none, within_none}
 
 -- ---- what settings that passed keep to
 

@@ -8,6 +8,7 @@ use Rattle.std.proofs.lemmas.List.{length-append}
 use Rattle.m2v_bits.specs.Bits.{bits_of, all_zero}
 use Rattle.m2v_bits.specs.Syntax.{seq, done, here, rule, renamed, repeated, Rounds, last, more}
 use Rattle.m2v_bits.specs.Leaves.{zero_at}
+use Rattle.m2v_bits.proofs.Cursor.{zeros_are_zero}
 use Rattle.m2v_vlc.specs.Codes.{code_of}
 use Rattle.m2v_vlc.specs.Tables.{increment, type_i, type_i_code}
 use Rattle.m2v_vlc.specs.Values.{kind, same_increment}
@@ -90,11 +91,6 @@ not_zero : (frame : Samples) (row column : ℕ) (rest behind : List Bool) → al
 unfolding macroblock_text code_of increment type_i same_increment bits_of all_zero
 not_zero frame row column rest behind = refl
 
-pub zeros_are : (n : ℕ) → all_zero (replicate n false) ≡ true
-unfolding all_zero
-zeros_are zero = refl
-zeros_are (suc n) = zeros_are n
-
 -- the macroblocks from one on, with zeros behind them
 rounds_stand : (quantiser columns : ℕ) (d : Dims) (frame : Samples) (row n column end z : ℕ) (xs : List Macroblock) (bs : List ℕ) → 1 ≤ quantiser → quantiser ≤ 31 → columns ≤ 120 → column + suc n ≡ columns → end ≡ columns
     → Rounds (macroblock_round (flat_setup columns d)) (row_at quantiser columns frame row column xs bs)
@@ -105,7 +101,7 @@ rounds_stand quantiser columns d frame row zero column end z xs bs least most wi
     let t = macroblock_text frame row column in
     let m = flat_macroblock frame row column in
     last (moved quantiser columns d frame row (row_at quantiser columns frame row column xs bs) (xs ++ m ∷ []) (bs ++ length t ∷ []) behind (not (all_zero behind)) false (suc column) end (t ++ behind) ((t ++ []) ++ behind)
-    (ap not (zeros_are z)) (omega arith) (ap (λ (x : List Bool). x ++ behind) (sym (append-nil t)))
+    (ap not (zeros_are_zero z)) (omega arith) (ap (λ (x : List Bool). x ++ behind) (sym (append-nil t)))
     (round_stands quantiser columns d frame row column xs bs behind least most wide (omega arith)))
 rounds_stand quantiser columns d frame row (suc n) column end z xs bs least most wide is last_is =
     let behind = replicate z false in

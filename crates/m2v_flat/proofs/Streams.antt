@@ -1,7 +1,5 @@
 -- The flat stream stands in its bytes, and decodes to the frames that it stands for.
-use Rattle.std.proofs.Common.{◌≡◌, ℕ, ◌+◌, ◌≤◌, true, false, List, [], ◌∷◌, ◌++◌, length, Option, Some, None, inl, inr, refl, sym, ap, subst, ◌∙◌, arith}
-use Rattle.m2v_bits.specs.Bits.{bits_of, number, start_code, unit}
-use Rattle.m2v_bits.specs.Syntax.{seq, done, here, rule, choose, Rounds, last}
+use Rattle.std.proofs.Common.{◌≡◌, ℕ, ◌+◌, ◌≤◌, true, List, [], ◌∷◌, ◌++◌, length, Option, None, refl, sym, ap, subst, ◌∙◌, arith}
 use Rattle.m2v_head.specs.Texts.{sequence_text, sequence_extension_text, picture_text, picture_extension_text, slice_text}
 use Rattle.m2v_plane.specs.Samples.{Samples}
 use Rattle.m2v_plane.specs.Raw.{pad}
@@ -11,15 +9,15 @@ use Rattle.m2v_flat.specs.Flat.{flat_sequence, flat_sequence_extension, flat_pic
 use Rattle.m2v_flat.specs.Recon.{FlatRecon}
 use Rattle.m2v_model.specs.declared.state.Open.{Open}
 use Rattle.m2v_model.specs.declared.state.State.{State}
-use Rattle.m2v_model.specs.Units.{Units, unit_at, unit_bits}
+use Rattle.m2v_model.specs.Units.{Units}
 use Rattle.m2v_model.specs.States.{at_first, none_waits}
-use Rattle.m2v_model.specs.Streams.{Part, Sofar, sequence, ending, after, close, no_second_field_due, end_unit, final, later_unit, known_unit, next_unit, unit_round, stream_at}
+use Rattle.m2v_model.specs.Streams.{Part, Sofar, sequence, ending, after, stream_at}
 use Rattle.m2v_model.specs.Pictures.{no_frames, events_from, pictures_in}
 use Rattle.m2v_model.specs.Decoding.{Stream, Decodes, low_delay_of, shown}
 use Rattle.m2v_flat.specs.Tree.{sequence_of, state_with, pictures_parts, stream_parts}
-use Rattle.m2v_law_chain.specs.Texts.{unit_bytes, Packs}
+use Rattle.m2v_law_chain.specs.Texts.{Packs}
 use Rattle.m2v_law_chain.proofs.Units.{packs_none, packs_unit, packs_append, packs_map, cuts_of}
-use Rattle.m2v_law_chain.proofs.Calm.{calm_end}
+use Rattle.m2v_law_chain.proofs.Ends.{end_bytes, end_packs, end_stands}
 use Rattle.m2v_flat.proofs.CalmTexts.{sequence_calm, sequence_extension_calm, picture_calm, picture_extension_calm, slice_calm}
 use Rattle.m2v_law_chain.specs.Chains.{Chain, link}
 use Rattle.m2v_law_chain.proofs.Chains.{rounds_of, stream_of}
@@ -28,18 +26,8 @@ use Rattle.m2v_flat.proofs.Frames.{parts_show, first_state}
 
 -- ---- the stream is cut into its units
 
-abbrev end_bytes : List ℕ
-end_bytes = unit_bytes 0xB7 []
-
 abbrev stream_bytes : FlatSettings → List (List ℕ) → Units
 stream_bytes s frames = sequence_bytes s ∷ extension_bytes ∷ (pictures_bytes s 0 frames ++ end_bytes ∷ [])
-
-end_is : unit 0xB7 [] ≡ start_code 0xB7
-unfolding bits_of
-end_is = refl
-
-end_packs : Packs (start_code 0xB7) (end_bytes ∷ [])
-end_packs = subst (λ (t : List _). Packs t (end_bytes ∷ [])) end_is (packs_unit 0xB7 [] (omega arith) (calm_end [] (omega arith)))
 
 sequence_packs : (s : FlatSettings) → IsFlat s → Packs (sequence_units s) (sequence_bytes s ∷ extension_bytes ∷ [])
 unfolding sequence_units
@@ -75,29 +63,6 @@ stream_packs s raw frames h =
 
 -- ---- the stream stands in its units
 
--- the sequence end code ends it
-end_stands : (s : FlatSettings) (anchors : ℕ) (open_one : Option Open) (parts : List Part) → IsWhole s open_one
-    → Rounds unit_round (record { state = state_with s anchors open_one; parts = parts }) (record { state = after (state_with s anchors open_one) ending; parts = parts ++ ending ∷ [] }) (end_bytes ∷ []) []
-unfolding unit_round next_unit known_unit later_unit final end_unit close no_second_field_due choose rule here unit_at seq done
-end_stands s anchors open_one parts whole_one =
-    let us = end_bytes ∷ [] in
-    last (
-      unit_bits us,
-      us,
-      (refl, refl),
-      (
-        Some end_bytes,
-        [],
-        refl,
-        (
-          (false, ending),
-          [],
-          inr (refl, inl (refl, inr (refl, inr (refl, inr (refl, inr (refl, inl (refl, (ending, [], (tt, [], (whole_one, refl), (tt, [], (refl, refl), (refl, refl))), (refl, refl))))))))),
-          (refl, refl),
-        ),
-      ),
-    )
-
 abbrev tree_of : FlatSettings → ℕ → Option Open → List (List ℕ) → Sofar
 tree_of s anchors open_one frames = record { state = after (state_with s anchors open_one) ending; parts = stream_parts s frames }
 
@@ -116,7 +81,7 @@ stream_stands : (s : FlatSettings) (frames : List (List ℕ)) (anchors : ℕ) (o
 stream_stands s frames anchors open_one h whole_one c =
     stream_of (stream_bytes s frames) [] (tree_of s anchors open_one frames)
     (rounds_of (parts_chain s frames anchors open_one h c) [] (end_bytes ∷ []) [] (tree_of s anchors open_one frames)
-    (end_stands s anchors open_one (sequence (sequence_of s) ∷ pictures_parts s 0 frames) whole_one))
+    (end_stands (state_with s anchors open_one) (sequence (sequence_of s) ∷ pictures_parts s 0 frames) refl whole_one refl))
     (none_due s anchors open_one)
 
 -- the stream of some frames, read whole: its tree stands in its bytes, and has the stream's parts

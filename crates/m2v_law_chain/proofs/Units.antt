@@ -6,6 +6,7 @@ use Rattle.std.proofs.lemmas.Bool.{false_from_ne_true, and_parts, eqb-true}
 use Rattle.std.proofs.lemmas.List.{length-append, length-replicate, append-nil}
 use Rattle.std.proofs.lemmas.List.Elements.{All-head, All-tail, All-nil, All-cons, All-append}
 use Rattle.std.proofs.Math.Nat.{mod-eq_of_lt}
+use Rattle.std.proofs.Math.Bool.{and-false}
 use Rattle.m2v_bits.specs.Bits.{bits_of, number, bits, packed, start_code, to_edge, unit}
 use Rattle.m2v_bits.proofs.Bits.{number-bits_of, bits_of-number}
 use Rattle.m2v_law_chain.specs.Texts.{Calm, ended, unit_bytes, IsCalm, IsTidy, Packs}
@@ -75,15 +76,11 @@ no_code b c d k m bs le h = false_from_ne_true _ (λ on.
     let q = and_parts (nat_eq c 0) (nat_eq d 1) p.1 in
     code_found k m b c d bs (eqb-true b 0 p.0) (eqb-true c 0 q.0) (eqb-true d 1 q.1) le h)
 
-and_false : (a : Bool) → (a && false) ≡ false
-and_false true = refl
-and_false false = refl
-
 -- at the head of bytes, behind which a unit or nothing stands
 here_next : (b k m : ℕ) (bs w : List ℕ) → k ≤ 22 → Calm k (bits (b ∷ bs)) m → begins_code (b ∷ (bs ++ (0 ∷ 0 ∷ w))) ≡ false
 here_next b k m [] [] le h = refl
-here_next b k m [] (x ∷ w) le h = and_false (nat_eq b 0)
-here_next b k m (c ∷ []) w le h = rw (and_false (nat_eq c 0)) (and_false (nat_eq b 0))
+here_next b k m [] (x ∷ w) le h = and-false (nat_eq b 0)
+here_next b k m (c ∷ []) w le h = rw (and-false (nat_eq c 0)) (and-false (nat_eq b 0))
 here_next b k m (c ∷ d ∷ []) w le h = no_code b c d k m [] le h
 here_next b k m (c ∷ d ∷ e ∷ bs) w le h = no_code b c d k m (e ∷ bs) le h
 
@@ -146,7 +143,7 @@ are_units (u ∷ us) h =
 
 -- ---- texts as units
 
-joined_append : (us vs : Units) → joined (us ++ vs) ≡ joined us ++ joined vs
+pub joined_append : (us vs : Units) → joined (us ++ vs) ≡ joined us ++ joined vs
 joined_append [] vs = refl
 joined_append (u ∷ us) vs = ap (λ (x : List ℕ). u ++ x) (joined_append us vs) ∙ sym (append_assoc u (joined us) (joined vs))
 

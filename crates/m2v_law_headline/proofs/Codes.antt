@@ -14,9 +14,10 @@ use Rattle.m2v_law_shown.specs.m2v_enc_stream.Streams.{Progress, group_coded, gr
 use Rattle.m2v_model.specs.Buffering.{bits_of_piece, code_bits, codes}
 use Rattle.m2v_law_shown.proofs.m2v_law_tree.SliceUnits.{Spelled}
 use Rattle.m2v_law_shown.proofs.m2v_law_tree.PictureChains.{picture_text_holds}
-use Rattle.m2v_law_shown.proofs.m2v_law_tree.Groups.{MayFollow, AllFollow, done_of, ledger_of, group_text_is}
+use Rattle.m2v_law_shown.proofs.m2v_enc_stream.Stands.{group_text_is}
+use Rattle.m2v_law_shown.proofs.m2v_law_tree.Groups.{MayFollow, AllFollow, done_of, ledger_of}
 use Rattle.m2v_law_headline.specs.Texts.{in_group, in_groups, place_at}
-use Rattle.m2v_law_headline.proofs.Told.{range_more}
+use Rattle.m2v_law_shown.proofs.Runs.{range_more}
 use Rattle.m2v_law_headline.proofs.Streams.{bytes_at}
 use Rattle.m2v_law_headline.proofs.Lengths.{bytes_by, piece_code}
 

@@ -10,7 +10,7 @@ use Rattle.m2v_law_shown.specs.m2v_enc_stream.Streams.{Progress, group_coded}
 use Rattle.m2v_model.specs.Buffering.{sizes}
 use Rattle.m2v_law_shown.proofs.m2v_law_tree.Groups.{MayFollow, AllFollow}
 use Rattle.m2v_law_headline.specs.Texts.{value_at, in_group, in_groups, bits_at, groups_taken}
-use Rattle.m2v_law_headline.proofs.Told.{range_more}
+use Rattle.m2v_law_shown.proofs.Runs.{range_more}
 
 -- ---- lists
 
@@ -33,7 +33,7 @@ end_behind [] y ys = refl
 end_behind (x ∷ []) y ys = refl
 end_behind (x ∷ z ∷ xs) y ys = ap (λ (ns : List ℕ). x ∷ ns) (end_behind (z ∷ xs) y ys)
 
-end_append : (xs ys : List ℕ) → 0 < length ys → with_end (xs ++ ys) ≡ xs ++ with_end ys
+pub end_append : (xs ys : List ℕ) → 0 < length ys → with_end (xs ++ ys) ≡ xs ++ with_end ys
 end_append xs [] some = absurd (omega (arith, some))
 end_append xs (y ∷ ys) some = end_behind xs y ys
 
@@ -45,7 +45,7 @@ group_some s x g ends may =
     let some = may.book.group.picture in
     omega (arith, some, length-map-range_with_len (value_at bits_at s x g ends) 0 (length g.pictures))
 
-groups_some : (s : Settings) (g : Group Samples) (more : List (Group Samples)) (x : Progress) → AllFollow s x (g ∷ more) → 0 < length (in_groups bits_at s x (g ∷ more))
+pub groups_some : (s : Settings) (g : Group Samples) (more : List (Group Samples)) (x : Progress) → AllFollow s x (g ∷ more) → 0 < length (in_groups bits_at s x (g ∷ more))
 unfolding in_groups AllFollow
 groups_some s g [] x all = group_some s x g true all
 groups_some s g (h ∷ more) x all =

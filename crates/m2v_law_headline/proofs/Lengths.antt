@@ -1,29 +1,27 @@
 -- The bits of each piece, and where the start code of its picture ends in it.
 use Rattle.std.proofs.Common.{◌≡◌, ℕ, ◌+◌, ◌-◌, ◌*◌, ◌/◌, ◌<◌, Bool, true, false, cond, List, [], ◌∷◌, ◌++◌, length, replicate, refl, ap, ◌∙◌, arith}
-use Rattle.std.specs.List.{flat_map}
 use Rattle.std.proofs.lemmas.List.{length-append, length-replicate}
-use Rattle.std.proofs.lemmas.List.Concat.{length-flat_map}
 use Rattle.m2v_bits.specs.Bits.{packed, start_code, to_edge, IsEdge}
 use Rattle.m2v_head.specs.Texts.{sequence_text, sequence_extension_text, group_text}
 use Rattle.m2v_set.specs.declared.settings.Settings.{Settings}
 use Rattle.m2v_order.specs.declared.jobs.PictureJob.{PictureJob}
 use Rattle.m2v_rate.specs.Plans.{Entries}
-use Rattle.m2v_law_shown.specs.m2v_slice.Slices.{CodedSlice}
-use Rattle.m2v_law_shown.specs.m2v_slice.Headers.{sequence_of, sequence_extension_of, group_from, header_units, bits_to_code, begins_group}
-use Rattle.m2v_law_shown.proofs.m2v_slice.TextLengths.{header_length, sequence_length, sequence_extension_length, group_length}
-use Rattle.m2v_law_shown.specs.m2v_slice.Books.{Book, job_at, picture_at, coded}
+use Rattle.m2v_law_shown.specs.m2v_slice.Headers.{sequence_of, sequence_extension_of, group_from, bits_to_code, begins_group}
+use Rattle.m2v_law_shown.proofs.m2v_slice.TextLengths.{sequence_length, sequence_extension_length, group_length}
+use Rattle.m2v_law_shown.specs.m2v_slice.Books.{Book, job_at, coded}
 use Rattle.m2v_law_shown.specs.m2v_slice.Conditions.{IsBook}
 use Rattle.m2v_law_shown.specs.m2v_enc_stream.Streams.{zeros_of, delay_at, picture_text}
 use Rattle.m2v_model.specs.Units.{Units, cut}
 use Rattle.m2v_model.specs.Buffering.{before_picture, bits_of_piece, code_bits}
 use Rattle.m2v_model.proofs.CutLaws.{are_before, cut_units}
 use Rattle.m2v_law_shown.specs.m2v_law_chain.Texts.{ended, unit_bytes}
+use Rattle.m2v_law_shown.proofs.m2v_enc_stream.Pictures.{picture_length}
+use Rattle.m2v_law_shown.proofs.m2v_law_chain.Ends.{end_bytes, end_packs}
 use Rattle.m2v_law_shown.proofs.m2v_law_tree.Zeros.{padded_cuts}
 use Rattle.m2v_law_shown.proofs.m2v_law_tree.SliceUnits.{Spelled}
-use Rattle.m2v_law_shown.proofs.m2v_law_tree.Pictures.{job_is, sequence_bytes, extension_bytes, group_bytes, picture_bytes, coding_bytes}
+use Rattle.m2v_law_shown.proofs.m2v_law_tree.Pictures.{sequence_bytes, extension_bytes, group_bytes, picture_bytes, coding_bytes}
 use Rattle.m2v_law_shown.proofs.m2v_law_tree.PictureChains.{header_bytes, slices_bytes, picture_units_of, picture_text_holds}
 use Rattle.m2v_law_headline.specs.Texts.{bits_at}
-use Rattle.m2v_law_headline.proofs.Streams.{end_bytes, end_packs}
 
 -- ---- bytes of texts
 
@@ -51,23 +49,6 @@ unit_size value t =
     omega (arith, len, bytes)
 
 -- ---- the bits of a picture
-
-pub picture_length : (b : Book) → IsBook b → (l : Entries) (ends : Bool) (at p : ℕ) → p < length b.pictures
-    → length (picture_text b (coded b (length b.pictures)) l ends at p) ≡ bits_at b (coded b (length b.pictures)) l ends at p
-unfolding picture_text
-picture_length b h l ends at p lt =
-    let done = coded b (length b.pictures) in
-    let head = header_units b.settings (job_at b p) (delay_at l (job_at b p) p at) in
-    let slices = flat_map (λ (x : CodedSlice). x.text) (picture_at done p).slices in
-    let tail = replicate (zeros_of l ends p) false in
-    omega (
-      arith,
-      length-append head (slices ++ tail),
-      length-append slices tail,
-      length-replicate (zeros_of l ends p) false,
-      length-flat_map (λ (x : CodedSlice). x.text) (picture_at done p).slices,
-      header_length b.settings (job_at b p) (delay_at l (job_at b p) p at) (job_is b h p lt),
-    )
 
 pub piece_bits : (law : Spelled) (b : Book) → IsBook b → (l : Entries) (ends : Bool) (at p : ℕ) → p < length b.pictures
     → bits_of_piece (packed (picture_text b (coded b (length b.pictures)) l ends at p)) ≡ bits_at b (coded b (length b.pictures)) l ends at p

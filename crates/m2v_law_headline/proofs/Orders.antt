@@ -18,6 +18,7 @@ use Rattle.m2v_order.proofs.Queues.{grouped, true_false, due_is, turn_is, sound_
 use Rattle.m2v_order.proofs.Handed.{frames_all, coding_all, sound_all}
 use Rattle.m2v_law_shown.specs.m2v_enc_stream.Streams.{Progress, at_start, group_coded, groups_coded, groups_from, coded_all, Recon}
 use Rattle.m2v_law_shown.specs.m2v_law_tree.Trees.{groups_of}
+use Rattle.m2v_law_shown.proofs.m2v_enc_stream.Queues.{from_due, from_none}
 
 -- ---- the calls that push all frames, end, and ask for groups
 
@@ -55,15 +56,6 @@ push_all s (f ∷ more) frames cs =
     ∙ ap (λ (xs : List Samples). calls (waits s xs false) cs) (append_assoc frames (f ∷ []) more)
 
 -- ---- asking until nothing is left
-
-rest_none : (n : ℕ) (q : Queue Samples) → is_due q ≡ false → groups_from n q ≡ []
-unfolding groups_from
-rest_none zero q none = refl
-rest_none (suc n) q none = cond-false (is_due q) _ _ none
-
-first_due : (n : ℕ) (q : Queue Samples) → is_due q ≡ true → groups_from (suc n) q ≡ group_of q ∷ groups_from n (after_group q)
-unfolding groups_from
-first_due n q is = cond-true (is_due q) _ _ is
 
 -- where the end has come, a group is due as long as frames are left
 left_due : (q : Queue Samples) → q.ended ≡ true → is_due q ≡ false → q.frames ≡ []
@@ -108,7 +100,7 @@ asked (suc n) r ok sound over few = elim (cases_Bool (is_due r.now)) [
       subst (AllAsked (suc n) r) (sym step)
       (record {
         groups = rest.groups ∙ append_assoc r.groups (group_of q ∷ []) (groups_from n (after_group q))
-            ∙ ap (λ (gs : List (Group Samples)). r.groups ++ gs) (sym (first_due n q is));
+            ∙ ap (λ (gs : List (Group Samples)). r.groups ++ gs) (sym (from_due n q is));
         frames = rest.frames;
         ended = rest.ended;
         pushed = rest.pushed;
@@ -122,7 +114,7 @@ asked (suc n) r ok sound over few = elim (cases_Bool (is_due r.now)) [
       let step : calls (call r Next) (asking n) ≡ calls r (asking n) = ap (λ (x : Run Samples). calls x (asking n)) (cond-false (is_due q) next r none) in
       subst (AllAsked (suc n) r) (sym step)
       (record {
-        groups = rest.groups ∙ ap (λ (gs : List (Group Samples)). r.groups ++ gs) (rest_none n q none ∙ sym (rest_none (suc n) q none));
+        groups = rest.groups ∙ ap (λ (gs : List (Group Samples)). r.groups ++ gs) (from_none n q none ∙ sym (from_none (suc n) q none));
         frames = rest.frames;
         ended = rest.ended;
         pushed = rest.pushed;

@@ -15,7 +15,7 @@ use Rattle.m2v_law_shown.proofs.m2v_slice.Groups.{rows_few, passes_of}
 use Rattle.m2v_law_shown.specs.m2v_enc_stream.Streams.{zeros_of, delay_at}
 use Rattle.m2v_model.specs.Units.{Units}
 use Rattle.m2v_model.specs.Pieces.{begins_piece, is_end}
-use Rattle.m2v_law_shown.proofs.m2v_law_tree.Turns.{first_begins}
+use Rattle.m2v_law_shown.proofs.m2v_slice.Firsts.{first_begins}
 use Rattle.m2v_law_shown.proofs.m2v_law_tree.Zeros.{padded}
 use Rattle.m2v_law_shown.proofs.m2v_law_tree.SliceUnits.{slice_bytes}
 use Rattle.m2v_law_shown.proofs.m2v_law_tree.Pictures.{sequence_bytes, extension_bytes, group_bytes, picture_bytes, coding_bytes}

@@ -1,8 +1,7 @@
 -- The pictures as they are sent take what the pieces take, and have the same start codes.
 use Rattle.std.proofs.Common.{◌≡◌, ℕ, suc, ◌+◌, ◌-◌, ◌<◌, ◌≤◌, Bool, true, false, List, [], ◌∷◌, ◌++◌, length, map, refl, sym, ap, ◌∙◌, arith}
 use Rattle.std.specs.List.{range_with_len}
-use Rattle.std.proofs.lemmas.List.{map-append, length-append}
-use Rattle.std.proofs.lemmas.List.FromFn.{length-map-range_with_len}
+use Rattle.std.proofs.lemmas.List.{map-append}
 use Rattle.m2v_plane.specs.Samples.{Samples}
 use Rattle.m2v_set.specs.declared.settings.Settings.{Settings}
 use Rattle.m2v_order.specs.Groups.{Group}
@@ -14,9 +13,10 @@ use Rattle.m2v_law_shown.specs.m2v_law_safe.Removals.{coded_of, ledger_of}
 use Rattle.m2v_law_shown.specs.m2v_law_safe.Sent.{SentPicture, place_at, sent_at, group_sent, groups_sent}
 use Rattle.m2v_law_shown.proofs.m2v_law_tree.Groups.{MayFollow, AllFollow}
 use Rattle.m2v_law_headline.specs.Texts.{in_group, in_groups, bits_at, code_at}
-use Rattle.m2v_law_headline.proofs.Ends.{with_end}
-use Rattle.m2v_law_headline.proofs.Told.{range_more, maps_range}
-use Rattle.m2v_law_headline.proofs.Lengths.{picture_length}
+use Rattle.m2v_law_headline.proofs.Ends.{with_end, end_append, groups_some}
+use Rattle.m2v_law_shown.proofs.Runs.{range_more}
+use Rattle.m2v_law_headline.proofs.Told.{maps_range}
+use Rattle.m2v_law_shown.proofs.m2v_enc_stream.Pictures.{picture_length}
 
 -- ---- numbers of the pictures that are sent
 
@@ -34,14 +34,6 @@ abbrev codes_by : Book → ℕ → ℕ
 codes_by b p = bits_to_code (job_at b p)
 
 -- ---- the last of all
-
--- what is behind the pictures goes to the last one
-end_append : (xs ys : List ℕ) → 0 < length ys → with_end (xs ++ ys) ≡ xs ++ with_end ys
-unfolding with_end
-end_append [] ys some = refl
-end_append (x ∷ []) [] some = absurd (omega (arith, some))
-end_append (x ∷ []) (y ∷ ys) some = refl
-end_append (x ∷ z ∷ xs) ys some = ap (λ (ns : List ℕ). x ∷ ns) (end_append (z ∷ xs) ys some)
 
 end_one : (xs : List ℕ) (n : ℕ) → with_end (xs ++ n ∷ []) ≡ xs ++ (n + 32) ∷ []
 unfolding with_end
@@ -76,16 +68,6 @@ last_codes b at p =
     ∙ sym (range_more (codes_by b) p)
 
 -- ---- all groups
-
-group_some : (s : Settings) (x : Progress) (g : Group Samples) (ends : Bool) → MayFollow s x g ends → 0 < length (in_group bits_at s x g ends)
-unfolding in_group
-group_some s x g ends may = omega (arith, may.book.group.picture, length-map-range_with_len (λ p. bits_by (book_of s x g) ends (length x.text) p) 0 (length g.pictures))
-
-groups_some : (s : Settings) (g : Group Samples) (more : List (Group Samples)) (x : Progress) → AllFollow s x (g ∷ more) → 0 < length (in_groups bits_at s x (g ∷ more))
-unfolding in_groups AllFollow
-groups_some s g [] x all = group_some s x g true all
-groups_some s g (h ∷ more) x all =
-    omega (arith, group_some s x g false all.0, length-append (in_group bits_at s x g false) (in_groups bits_at s (group_coded s x g false) (h ∷ more)))
 
 whole_group : (s : Settings) (x : Progress) (g : Group Samples) → MayFollow s x g false
     → bits_of_sent (group_sent (book_of s x g) false (length x.text) (length g.pictures)) ≡ in_group bits_at s x g false

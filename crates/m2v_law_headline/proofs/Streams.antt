@@ -2,24 +2,23 @@
 use Rattle.std.proofs.Common.{◌≡◌, ℕ, zero, suc, ◌+◌, ◌<◌, ◌≤◌, Bool, true, false, List, [], ◌∷◌, ◌++◌, length, map, take, refl, sym, ap, subst, ◌∙◌, arith}
 use Rattle.std.specs.Prelude.{slice_index}
 use Rattle.std.specs.List.{range_with_len}
-use Rattle.m2v_bits.specs.Bits.{bits_of, number, packed, start_code, unit}
+use Rattle.m2v_bits.specs.Bits.{bits_of, number, packed, start_code}
 use Rattle.m2v_plane.specs.Samples.{Samples}
 use Rattle.m2v_set.specs.declared.settings.Settings.{Settings}
 use Rattle.m2v_set.specs.Rules.{Passes}
 use Rattle.m2v_order.specs.Groups.{Group}
-use Rattle.m2v_law_shown.specs.m2v_enc_stream.Streams.{Progress, at_start, group_coded, groups_coded, coded_all, Coded, picture_text, pictures_text, book_of}
+use Rattle.m2v_law_shown.specs.m2v_enc_stream.Streams.{Progress, at_start, group_coded, coded_all, Coded, picture_text, pictures_text, book_of}
 use Rattle.m2v_model.specs.declared.phase.Phase.TheVariants.{Before}
 use Rattle.m2v_model.specs.Units.{Units, Cuts, joined}
 use Rattle.m2v_model.specs.Pieces.{grouped, is_end, pieces}
 use Rattle.m2v_model.proofs.CutLaws.{cuts_is}
-use Rattle.m2v_law_shown.specs.m2v_law_chain.Texts.{unit_bytes, Packs}
-use Rattle.m2v_law_shown.proofs.m2v_law_chain.Units.{packs_unit}
-use Rattle.m2v_law_shown.proofs.m2v_law_chain.Calm.{calm_end}
+use Rattle.m2v_law_shown.proofs.m2v_law_chain.Ends.{end_bytes, end_packs}
 use Rattle.m2v_law_shown.specs.m2v_law_tree.Trees.{groups_of}
 use Rattle.m2v_law_shown.proofs.m2v_law_tree.Zeros.{padded_cuts}
 use Rattle.m2v_law_shown.proofs.m2v_law_tree.SliceUnits.{Spelled}
 use Rattle.m2v_law_shown.proofs.m2v_law_tree.PictureChains.{picture_units_of, picture_text_holds}
-use Rattle.m2v_law_shown.proofs.m2v_law_tree.Follows.{stream_follows, stream_some}
+use Rattle.m2v_law_shown.proofs.m2v_enc_stream.Queues.{coded_is, stream_some}
+use Rattle.m2v_law_shown.proofs.m2v_law_tree.Follows.{stream_follows}
 use Rattle.m2v_law_shown.proofs.m2v_law_tree.Groups.{MayFollow, AllFollow, done_of, ledger_of, groups_units, groups_add}
 use Rattle.m2v_law_headline.specs.Texts.{in_group, in_groups, picture_texts}
 use Rattle.m2v_law_headline.proofs.Groupings.{IsPiece, Starts, starts_append, pieces_all}
@@ -27,16 +26,6 @@ use Rattle.m2v_law_headline.proofs.PictureUnits.{picture_piece, picture_first}
 use Rattle.m2v_law_headline.proofs.Told.{Told, groups_give, groups_hold, units_at, groups_all}
 
 -- ---- the end
-
-abbrev pub end_bytes : List ℕ
-end_bytes = unit_bytes 0xB7 []
-
-end_is : unit 0xB7 [] ≡ start_code 0xB7
-unfolding bits_of
-end_is = refl
-
-pub end_packs : Packs (start_code 0xB7) (end_bytes ∷ [])
-end_packs = subst (λ (t : List Bool). Packs t (end_bytes ∷ [])) end_is (packs_unit 0xB7 [] (omega arith) (calm_end [] (omega arith)))
 
 ends_here : is_end (slice_index end_bytes 3) ≡ true
 unfolding is_end
@@ -77,10 +66,6 @@ bytes_are law s groups x all =
     ∙ sym (groups_give joined units_at bytes_at (λ b h l ends at p lt. sym (picture_text_holds law b h l ends (length b.pictures) p at lt lt).bytes) s groups x all)
 
 -- ---- the stream
-
-pub coded_is : (s : Settings) (frames : List (List ℕ)) → coded_all s frames ≡ groups_coded s (at_start s) (groups_of s frames)
-unfolding coded_all
-coded_is s frames = refl
 
 stream_cuts : (law : Spelled) (s : Settings) (frames : List (List ℕ)) → AllFollow s (at_start s) (groups_of s frames)
     → Cuts (Coded s frames) [] (groups_units s (at_start s) (groups_of s frames) ++ end_bytes ∷ [])

@@ -4,7 +4,6 @@ use Rattle.std.specs.Prelude.{All}
 use Rattle.std.specs.List.{range_with_len}
 use Rattle.std.proofs.lemmas.List.{map-append, append-nil}
 use Rattle.std.proofs.lemmas.List.Elements.{All-nil, All-cons, All-append}
-use Rattle.std.proofs.lemmas.List.FromFn.{map-range_with_len_more}
 use Rattle.m2v_plane.specs.Samples.{Samples}
 use Rattle.m2v_set.specs.declared.settings.Settings.{Settings}
 use Rattle.m2v_order.specs.Groups.{Group}
@@ -17,13 +16,9 @@ use Rattle.m2v_law_shown.proofs.m2v_law_tree.PictureChains.{picture_units_of}
 use Rattle.m2v_law_shown.proofs.m2v_law_tree.Groups.{MayFollow, AllFollow, done_of, ledger_of, pictures_units, group_units_of, groups_units}
 use Rattle.m2v_law_headline.specs.Texts.{in_group, in_groups}
 use Rattle.m2v_law_headline.proofs.Groupings.{all_of, all_of_append}
+use Rattle.m2v_law_shown.proofs.Runs.{range_more}
 
 -- ---- numbers in turn
-
-pub range_more : {A : Type 0} (f : ℕ → A) (n : ℕ) → map f (range_with_len 0 (suc n)) ≡ map f (range_with_len 0 n) ++ f n ∷ []
-range_more {A} f n =
-    let e : suc n ≡ n + 1 = omega arith in
-    ap (λ (k : ℕ). map f (range_with_len 0 k)) e ∙ map-range_with_len_more f 0 n n (omega arith)
 
 pub maps_range : {A C : Type 0} (h : A → C) (f : ℕ → A) (g : ℕ → C) (from n : ℕ) → ((p : ℕ) → p < from + n → h (f p) ≡ g p) → map h (map f (range_with_len from n)) ≡ map g (range_with_len from n)
 maps_range h f g from zero each = refl

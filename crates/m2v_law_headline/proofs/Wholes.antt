@@ -10,10 +10,11 @@ use Rattle.m2v_rate.specs.Plans.{Entries}
 use Rattle.m2v_law_shown.specs.m2v_slice.Books.{Book, CodedPicture}
 use Rattle.m2v_law_shown.specs.m2v_enc_stream.Streams.{Progress, at_start, group_coded, groups_coded, coded_all, picture_text, pictures_text, book_of}
 use Rattle.m2v_law_shown.specs.m2v_law_tree.Trees.{groups_of}
-use Rattle.m2v_law_shown.proofs.m2v_law_tree.Groups.{done_of, ledger_of, group_text_is}
+use Rattle.m2v_law_shown.proofs.m2v_enc_stream.Stands.{group_text_is}
+use Rattle.m2v_law_shown.proofs.m2v_law_tree.Groups.{done_of, ledger_of}
 use Rattle.m2v_law_headline.specs.Texts.{in_group, in_groups, picture_texts}
-use Rattle.m2v_law_headline.proofs.Told.{range_more}
-use Rattle.m2v_law_headline.proofs.Streams.{coded_is}
+use Rattle.m2v_law_shown.proofs.Runs.{range_more}
+use Rattle.m2v_law_shown.proofs.m2v_enc_stream.Queues.{coded_is}
 
 abbrev whole : List (List Bool) → List Bool
 whole ts = flat_map (λ (t : List Bool). t) ts

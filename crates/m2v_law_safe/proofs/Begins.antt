@@ -9,10 +9,10 @@ use Rattle.m2v_enc_stream.specs.m2v_slice.Books.{Book}
 use Rattle.m2v_enc_stream.specs.m2v_slice.Conditions.{IsBook}
 use Rattle.m2v_enc_stream.specs.Streams.{at_start, book_of, group_coded, groups_begun, groups_from, waiting}
 use Rattle.m2v_law_safe.specs.Sent.{SentPicture, sent_at, group_sent, groups_sent, Sent, Begins}
-use Rattle.m2v_law_safe.proofs.Anchors.{first_code}
+use Rattle.m2v_enc_stream.proofs.m2v_slice.Firsts.{first_code}
+use Rattle.m2v_enc_stream.proofs.Queues.{first_group}
 use Rattle.m2v_law_safe.proofs.Delays.{IsPlaced, placed}
 use Rattle.m2v_law_safe.proofs.Bounds.{delay_first}
-use Rattle.m2v_law_safe.proofs.Streams.{first_group}
 
 -- a list begins with a group's first picture
 record IsHead (b : Book) (at : ℕ) (xs : List SentPicture) : Type 0 where

@@ -1,6 +1,6 @@
 -- The ledger behind a group is the closed ledger of its pictures, which are coded by its plans.
 use Rattle.std.proofs.Common.{◌≡◌, ℕ, ◌+◌, ◌<◌, ◌≤◌, List, length, map, get_or, refl, sym, ap, subst, ◌∙◌, arith}
-use Rattle.std.specs.Prelude.{slice_index}
+use Rattle.std.specs.Prelude.{slice_index, sum_by}
 use Rattle.std.specs.List.{range_with_len}
 use Rattle.std.proofs.lemmas.List.{length-map, get_or-map}
 use Rattle.std.proofs.lemmas.List.FromFn.{fill_by_all, get_or-map-range_with_len, length-map-range_with_len}
@@ -11,12 +11,15 @@ use Rattle.m2v_rate.specs.Plans.{Entries, first_open, plan_of, begun}
 use Rattle.m2v_rate.specs.Seen.{told, Agree}
 use Rattle.m2v_rate.specs.Safety.{Picture, closed, IsCoded}
 use Rattle.m2v_rate.proofs.Same.{plan_same}
-use Rattle.m2v_enc_stream.specs.m2v_slice.Books.{Book, CodedPicture, no_job, coded, picture_at, size_of, ledger_with}
+use Rattle.m2v_enc_stream.specs.m2v_slice.Slices.{CodedSlice}
+use Rattle.m2v_enc_stream.specs.m2v_slice.Headers.{header_bits}
+use Rattle.m2v_enc_stream.specs.m2v_slice.Books.{Book, CodedPicture, no_job, job_at, coded, picture_at, size_of, ledger_with}
 use Rattle.m2v_enc_stream.specs.m2v_slice.Conditions.{IsBook}
-use Rattle.m2v_enc_stream.proofs.m2v_slice.Coded.{none, count, picture_stays, plan_is}
-use Rattle.m2v_enc_stream.proofs.m2v_slice.Steady.{ledger_at, ledger_for_is, sizes_stay}
+use Rattle.m2v_enc_stream.proofs.m2v_slice.Coded.{none, count, picture_is, picture_stays, plan_is}
+use Rattle.m2v_enc_stream.proofs.m2v_slice.Steady.{IsPlan, header_small, next_within, ledger_at, ledger_for_is, sizes_stay}
+use Rattle.m2v_enc_stream.proofs.m2v_slice.Sound.{plan_is_good}
+use Rattle.m2v_enc_stream.proofs.m2v_slice.Ledgers.{times_count}
 use Rattle.m2v_law_safe.specs.Removals.{coded_of, ledger_of, seen_at, seen_of}
-use Rattle.m2v_law_safe.proofs.Whole.{size_room, times_count}
 
 -- ---- the pictures one by one
 
@@ -106,6 +109,15 @@ plan_kept b p lt =
     plan_is b (length b.pictures) p lt ∙ ap (λ (l : Entries). plan_of l p) (ledger_for_is b p) ∙ plan_closed b p lt
 
 -- ---- a group is coded by its plans
+
+-- a picture leaves 40 bits of its cap
+size_room : (b : Book) → IsBook b → (p : ℕ) → p < length b.pictures → size_of b (coded_of b) p + 40 ≤ (picture_at (coded_of b) p).plan.cap
+size_room b h p lt =
+    let n = length b.pictures in
+    let is = picture_is b n p lt in
+    let good = plan_is_good b h n p lt (omega arith) in
+    subst (λ (x : CodedPicture). header_bits (job_at b p) + sum_by (λ (s : CodedSlice). length s.text) x.slices + 40 ≤ x.plan.cap) (sym is)
+    (omega (arith, header_small (job_at b p), next_within b h p lt (subst (λ (x : CodedPicture). IsPlan b.settings x.plan) is good)))
 
 pub is_coded : (b : Book) (h : IsBook b) → IsCoded h.ledger.from (seen_of b)
 is_coded b h = record {

@@ -13,9 +13,9 @@ use Rattle.m2v_enc_stream.specs.m2v_slice.Headers.{bits_to_code}
 use Rattle.m2v_enc_stream.specs.m2v_slice.Books.{job_at}
 use Rattle.m2v_enc_stream.specs.Streams.{Progress, at_start, book_of, group_coded, groups_begun, delay_at}
 use Rattle.m2v_law_safe.specs.Removals.{ledger_of, seen_of, groups_seen, groups_of, begun_by, begins_at, removed_before}
-use Rattle.m2v_law_safe.proofs.Whole.{whole_settings}
+use Rattle.m2v_enc_stream.proofs.m2v_slice.Ledgers.{whole_settings}
 use Rattle.m2v_law_safe.proofs.Closed.{seen_length}
-use Rattle.m2v_law_safe.proofs.Stands.{HasBook, HaveBooks, have_books}
+use Rattle.m2v_enc_stream.proofs.Stands.{HasBook, HaveBooks, have_books}
 use Rattle.m2v_law_safe.proofs.Groups.{group_coded_is, group_closed, are_coded}
 use Rattle.m2v_law_safe.proofs.Texts.{pictures_bits, removed_both, behind_groups}
 
@@ -77,7 +77,7 @@ place_is s earlier g ends p lt h =
 -- ---- delays
 
 -- the account at a picture
-pub account_here : (s : Settings) (earlier : List (Group Samples)) (g : Group Samples) (p : ℕ) → Passes s → p < length g.pictures → IsPlaced s earlier g
+account_here : (s : Settings) (earlier : List (Group Samples)) (g : Group Samples) (p : ℕ) → Passes s → p < length g.pictures → IsPlaced s earlier g
     → account_at (ledger_of (book_of s (begun_by s earlier) g)) p ≡ account_of (start_of s) (removed_before s earlier g p)
 account_here s earlier g p passes lt h =
     let b = book_of s (begun_by s earlier) g in

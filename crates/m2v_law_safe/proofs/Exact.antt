@@ -9,6 +9,7 @@ use Rattle.m2v_order.specs.Groups.{Group}
 use Rattle.m2v_rate.specs.Plans.{Entries, fresh, start_of}
 use Rattle.m2v_rate.specs.Safety.{Picture, closed, group_removals, after_groups, sent}
 use Rattle.m2v_enc_stream.specs.Streams.{Progress, at_start, book_of, group_coded, groups_begun}
+use Rattle.m2v_enc_stream.proofs.Queues.{begun_more}
 use Rattle.m2v_law_safe.specs.Removals.{seen_of, groups_seen, groups_of, begun_by, removed_before}
 use Rattle.m2v_law_safe.specs.Sent.{SentPicture, removal_of, sent_at, group_sent, groups_sent, Sent, IsExact, AreExact}
 use Rattle.m2v_law_safe.proofs.Closed.{seen_length}
@@ -38,12 +39,6 @@ seen_more : (s : Settings) (gs : List (Group Samples)) (g : Group Samples) (x : 
 unfolding groups_seen groups_begun
 seen_more s [] g x = refl
 seen_more s (k ∷ gs) g x = ap (λ (ps : List (List Picture)). seen_of (book_of s x k) ∷ ps) (seen_more s gs g (group_coded s x k false))
-
-begun_more : (s : Settings) (gs : List (Group Samples)) (g : Group Samples) (x : Progress)
-    → groups_begun s x (gs ++ g ∷ []) ≡ group_coded s (groups_begun s x gs) g false
-unfolding groups_begun
-begun_more s [] g x = refl
-begun_more s (k ∷ gs) g x = begun_more s gs g (group_coded s x k false)
 
 sent_more : (l : Entries) (gs : List (List Picture)) (g : List Picture)
     → sent l (gs ++ g ∷ []) ≡ sent l gs ++ group_removals (closed (after_groups l gs) g) (length g)
@@ -76,7 +71,7 @@ one_exact s earlier g ends more p passes lt h =
     let at = length (begun_by s earlier).text in
     let front = sent (fresh s) (groups_seen s (at_start s) earlier) in
     subst (λ (rs : List Removal). IsExact (start_of s) rs (sent_at b ends at more p)) (before_is s earlier g ends p (omega (arith, lt)) (inl lt) h)
-    (delay_exact s earlier g ends p passes lt h, delay_small s earlier g ends p passes lt h)
+    (delay_exact s earlier g ends p passes lt h, delay_small s earlier g ends p lt h)
 
 group_exact : (s : Settings) (earlier : List (Group Samples)) (g : Group Samples) (ends : Bool) (n : ℕ) → Passes s → n ≤ length g.pictures → IsPlaced s earlier g
     → (let b = book_of s (begun_by s earlier) g in

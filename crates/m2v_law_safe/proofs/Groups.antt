@@ -9,7 +9,7 @@ use Rattle.m2v_rate.specs.Safety.{closed, IsCoded, AreCoded}
 use Rattle.m2v_enc_stream.specs.Streams.{Progress, at_start, book_of, group_coded}
 use Rattle.m2v_law_safe.specs.Removals.{ledger_of, seen_of, groups_seen, Seen}
 use Rattle.m2v_law_safe.proofs.Closed.{is_coded, closed_is}
-use Rattle.m2v_law_safe.proofs.Stands.{HasBook, HaveBooks, have_books, ledger_next}
+use Rattle.m2v_enc_stream.proofs.Stands.{HasBook, HaveBooks, have_books, ledger_next}
 
 pub group_coded_is : (s : Settings) (x : Progress) (g : Group Samples) → HasBook s x g → IsCoded x.ledger (seen_of (book_of s x g))
 group_coded_is s x g h = subst (λ (l : Entries). IsCoded l (seen_of (book_of s x g))) h.from (is_coded (book_of s x g) h.book)

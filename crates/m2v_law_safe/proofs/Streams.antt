@@ -1,28 +1,28 @@
 -- The bits of the whole stream are those that are removed.
-use Rattle.std.proofs.Common.{◌≡◌, ℕ, suc, ◌+◌, ◌-◌, ◌<◌, ◌≤◌, inl, Bool, true, false, List, [], ◌∷◌, ◌++◌, length, refl, sym, ap, ◌∙◌, arith}
-use Rattle.std.specs.Prelude.{nat_eq, nat_lt, ◌&&◌, ◌||◌}
-use Rattle.std.proofs.lemmas.Bool.{cond-true, eq-eqb, lt-ltb}
-use Rattle.std.proofs.lemmas.List.{length-append, length-map}
+use Rattle.std.proofs.Common.{◌≡◌, ℕ, suc, ◌+◌, ◌-◌, ◌<◌, ◌≤◌, inl, true, false, List, [], ◌∷◌, ◌++◌, length, refl, sym, ap, ◌∙◌, arith}
+use Rattle.std.specs.Prelude.{nat_eq}
+use Rattle.std.proofs.lemmas.Bool.{cond-true, eq-eqb}
+use Rattle.std.proofs.lemmas.List.{length-append}
 use Rattle.m2v_bits.specs.Bits.{start_code, ◌⧺◌}
 use Rattle.m2v_bits.proofs.Units.{start_length}
-use Rattle.m2v_plane.specs.Raw.{pad}
 use Rattle.m2v_plane.specs.Samples.{Samples}
 use Rattle.m2v_set.specs.declared.settings.Settings.{Settings}
-use Rattle.m2v_set.specs.Numbers.{dims_of}
 use Rattle.m2v_set.specs.Rules.{Passes}
 use Rattle.m2v_vbv.specs.Annex.{Removal, removed}
-use Rattle.m2v_order.specs.Groups.{Group, is_due, next_intra, group_of, after_group}
+use Rattle.m2v_order.specs.Groups.{Group}
 use Rattle.m2v_rate.specs.Plans.{Entries, fresh}
 use Rattle.m2v_rate.specs.Safety.{closed, ending_at, group_removals, removals}
 use Rattle.m2v_enc_stream.specs.m2v_slice.Books.{Book}
 use Rattle.m2v_enc_stream.specs.m2v_slice.Conditions.{IsBook}
-use Rattle.m2v_enc_stream.specs.Streams.{Progress, at_start, book_of, group_coded, groups_coded, groups_from, waiting, coded_all, zeros_of, picture_text, pictures_text}
+use Rattle.m2v_enc_stream.specs.Streams.{Progress, at_start, book_of, group_coded, groups_coded, coded_all, zeros_of, picture_text, pictures_text}
 use Rattle.m2v_law_safe.specs.Removals.{coded_of, ledger_of, seen_of, groups_seen, groups_of, Seen}
-use Rattle.m2v_law_safe.proofs.Whole.{whole_kinds, size_at}
+use Rattle.m2v_enc_stream.proofs.m2v_slice.Ledgers.{whole_kinds, size_at}
+use Rattle.m2v_enc_stream.proofs.Pictures.{picture_length}
+use Rattle.m2v_enc_stream.proofs.Queues.{stream_some}
+use Rattle.m2v_enc_stream.proofs.Stands.{HasBook, HaveBooks, have_books, group_text_is}
 use Rattle.m2v_law_safe.proofs.Closed.{seen_length}
-use Rattle.m2v_law_safe.proofs.Stands.{HasBook, HaveBooks, have_books, from_due}
 use Rattle.m2v_law_safe.proofs.Groups.{group_closed, behind}
-use Rattle.m2v_law_safe.proofs.Texts.{picture_length, pictures_bits, group_bits, removed_both, text_of}
+use Rattle.m2v_law_safe.proofs.Texts.{pictures_bits, group_bits, removed_both}
 
 -- ---- the last group
 
@@ -67,7 +67,7 @@ last_group s x g h =
     let c = closed x.ledger (seen_of b) in
     omega (
       arith,
-      ap length (text_of s x g true),
+      ap length (group_text_is s x g true),
       length-append x.text t,
       ap (λ (k : ℕ). length (pictures_text b (coded_of b) (ledger_of b) true (length x.text) k)) all,
       last_bits b h.book (length x.text) p (omega (arith, some)),
@@ -107,28 +107,11 @@ all_bits s (g ∷ k ∷ more) x some h =
 
 -- ---- the stream
 
-due : (s : Settings) (frames : List (List ℕ)) → 1 ≤ length frames → is_due (waiting s frames true) ≡ true
-unfolding is_due
-due s frames some =
-    let q = waiting s frames true in
-    ap (λ (t : Bool). t && (true || nat_lt (next_intra q) q.pushed)) (lt-ltb 0 (length q.frames) (omega (arith, some, length-map frames (pad (dims_of s)))))
-
-pub first_group : (s : Settings) (frames : List (List ℕ)) → 1 ≤ length frames
-    → (let q = waiting s frames true in groups_of s frames ≡ group_of q ∷ groups_from (length frames - 1) (after_group q))
-first_group s frames some =
-    let q = waiting s frames true in
-    let n = length frames - 1 in
-    let e : length frames ≡ suc n = omega (arith, some) in
-    ap (λ (k : ℕ). groups_from k q) e ∙ from_due n q (due s frames some)
-
-some_group : (s : Settings) (frames : List (List ℕ)) → 1 ≤ length frames → 0 < length (groups_of s frames)
-some_group s frames some = omega (arith, ap length (first_group s frames some))
-
 pub stream_bits : (s : Settings) (frames : List (List ℕ)) → Passes s → 1 ≤ length frames → length frames ≤ 999999
     → length ((coded_all s frames).text ⧺ start_code 0xB7) ≡ removed (removals (fresh s) (Seen s frames))
 unfolding coded_all
 stream_bits s frames passes some few =
-    let bits = all_bits s (groups_of s frames) (at_start s) (some_group s frames some) (have_books s frames passes few) in
+    let bits = all_bits s (groups_of s frames) (at_start s) (stream_some s frames some) (have_books s frames passes few) in
     let text = (groups_coded s (at_start s) (groups_of s frames)).text in
     let is : length ((coded_all s frames).text ⧺ start_code 0xB7) ≡ length (text ++ start_code 0xB7) = refl in
     omega (arith, is, bits, length-append text (start_code 0xB7), start_length 0xB7)

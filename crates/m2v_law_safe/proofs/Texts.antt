@@ -1,68 +1,31 @@
 -- The bits of the text are those that are removed.
-use Rattle.std.proofs.Common.{◌≡◌, ℕ, zero, suc, ◌+◌, ◌<◌, ◌≤◌, ◌⊎◌, inl, inr, Bool, false, cond, List, [], ◌∷◌, ◌++◌, length, replicate, refl, sym, ap, ◌∙◌, arith}
-use Rattle.std.specs.Prelude.{nat_eq, ◌&&◌, slice_index}
-use Rattle.std.specs.List.{flat_map}
-use Rattle.std.proofs.lemmas.Bool.{cases_Bool, cond-false, and_parts, eqb-true}
-use Rattle.std.proofs.lemmas.List.{length-append, length-replicate}
-use Rattle.std.proofs.lemmas.List.Concat.{length-flat_map}
+use Rattle.std.proofs.Common.{◌≡◌, ℕ, zero, suc, ◌+◌, ◌<◌, ◌≤◌, ◌⊎◌, inl, inr, Bool, false, List, [], ◌∷◌, ◌++◌, length, refl, sym, ap, ◌∙◌, arith}
+use Rattle.std.proofs.lemmas.List.{length-append}
 use Rattle.std.proofs.lemmas.List.FromFn.{sum_by-map-range_with_len_more}
 use Rattle.std.proofs.lemmas.List.Sums.{sum_by-append}
 use Rattle.m2v_plane.specs.Samples.{Samples}
 use Rattle.m2v_set.specs.declared.settings.Settings.{Settings}
 use Rattle.m2v_vbv.specs.Annex.{Removal, removed}
-use Rattle.m2v_vbv.specs.Account.{stuffing_of}
 use Rattle.m2v_order.specs.Groups.{Group}
-use Rattle.m2v_rate.specs.Plans.{Entries, account_at}
+use Rattle.m2v_rate.specs.Plans.{Entries}
 use Rattle.m2v_rate.specs.Safety.{closed, removal_at, group_removals, after_groups, sent}
-use Rattle.m2v_enc_stream.specs.m2v_slice.Slices.{CodedSlice}
-use Rattle.m2v_enc_stream.specs.m2v_slice.Headers.{header_units}
-use Rattle.m2v_enc_stream.proofs.m2v_slice.TextLengths.{header_length}
-use Rattle.m2v_enc_stream.specs.m2v_slice.Books.{Book, job_at, picture_at, size_of}
+use Rattle.m2v_enc_stream.specs.m2v_slice.Books.{Book}
 use Rattle.m2v_enc_stream.specs.m2v_slice.Conditions.{IsBook}
-use Rattle.m2v_enc_stream.specs.Streams.{Progress, book_of, group_coded, groups_begun, zeros_of, delay_at, picture_text, pictures_text}
+use Rattle.m2v_enc_stream.specs.Streams.{Progress, book_of, group_coded, groups_begun, picture_text, pictures_text}
 use Rattle.m2v_law_safe.specs.Removals.{coded_of, ledger_of, seen_of, groups_seen}
-use Rattle.m2v_law_safe.proofs.Whole.{job_is, whole_kinds, size_at}
+use Rattle.m2v_enc_stream.proofs.m2v_slice.Ledgers.{size_at}
+use Rattle.m2v_enc_stream.proofs.Pictures.{picture_length, zeros_on}
+use Rattle.m2v_enc_stream.proofs.Stands.{HasBook, HaveBooks, group_text_is}
 use Rattle.m2v_law_safe.proofs.Closed.{seen_length}
-use Rattle.m2v_law_safe.proofs.Stands.{HasBook, HaveBooks}
 use Rattle.m2v_law_safe.proofs.Groups.{group_closed, behind}
 
 -- ---- pictures
-
-pub picture_length : (b : Book) → IsBook b → (l : Entries) (ends : Bool) (at p : ℕ) → p < length b.pictures
-    → length (picture_text b (coded_of b) l ends at p) ≡ size_of b (coded_of b) p + zeros_of l ends p
-unfolding picture_text
-picture_length b h l ends at p lt =
-    let head = header_units b.settings (job_at b p) (delay_at l (job_at b p) p at) in
-    let slices = flat_map (λ (x : CodedSlice). x.text) (picture_at (coded_of b) p).slices in
-    let tail = replicate (zeros_of l ends p) false in
-    omega (
-      arith,
-      length-append head (slices ++ tail),
-      length-append slices tail,
-      length-replicate (zeros_of l ends p) false,
-      length-flat_map (λ (x : CodedSlice). x.text) (picture_at (coded_of b) p).slices,
-      header_length b.settings (job_at b p) (delay_at l (job_at b p) p at) (job_is b h p lt),
-    )
-
--- behind a picture that isn't the last of all stand all its zero bytes
-zeros_full : (l : Entries) (ends : Bool) (p : ℕ) → (p + 1 < length l.kinds) ⊎ (ends ≡ false)
-    → zeros_of l ends p ≡ stuffing_of (account_at l p) (slice_index l.sizes p) (slice_index l.intervals p)
-zeros_full l ends p (inl lt) = elim (cases_Bool (ends && nat_eq (p + 1) (length l.kinds))) [
-  | inl e ↦ absurd (let f = eqb-true (p + 1) (length l.kinds) (and_parts ends (nat_eq (p + 1) (length l.kinds)) e).1 in omega (arith, f, lt))
-  | inr e ↦ cond-false (ends && nat_eq (p + 1) (length l.kinds)) _ _ e
-]
-zeros_full l ends p (inr e) = ap (λ (t : Bool). cond (t && nat_eq (p + 1) (length l.kinds)) 0 (stuffing_of (account_at l p) (slice_index l.sizes p) (slice_index l.intervals p))) e
 
 -- a picture that isn't the last of all
 pub picture_bits : (b : Book) → IsBook b → (ends : Bool) (at p : ℕ) → p < length b.pictures → (p + 1 < length b.pictures) ⊎ (ends ≡ false)
     → length (picture_text b (coded_of b) (ledger_of b) ends at p) ≡ (removal_at (ledger_of b) p).bits
 picture_bits b h ends at p lt goes =
-    let l = ledger_of b in
-    omega (arith, picture_length b h l ends at p lt, size_at b p lt, zeros_full l ends p (more goes))
-  where
-    more : (p + 1 < length b.pictures) ⊎ (ends ≡ false) → (p + 1 < length (ledger_of b).kinds) ⊎ (ends ≡ false)
-    more (inl less) = inl (omega (arith, less, whole_kinds b h))
-    more (inr e) = inr e
+    omega (arith, picture_length b h (ledger_of b) ends at p lt, size_at b p lt, zeros_on b h ends p goes)
 
 pub removed_more : (c : Entries) (n : ℕ) → removed (group_removals c (n + 1)) ≡ removed (group_removals c n) + (removal_at c n).bits
 removed_more c n = sum_by-map-range_with_len_more (λ (r : Removal). r.bits) (removal_at c) 0 n n (omega arith)
@@ -91,11 +54,6 @@ pictures_bits b h ends at (suc p) le goes =
 
 -- ---- groups
 
-pub text_of : (s : Settings) (x : Progress) (g : Group Samples) (ends : Bool)
-    → (let b = book_of s x g in (group_coded s x g ends).text ≡ x.text ++ pictures_text b (coded_of b) (ledger_of b) ends (length x.text) (length b.pictures))
-unfolding group_coded
-text_of s x g ends = refl
-
 -- a group that isn't the last one
 pub group_bits : (s : Settings) (x : Progress) (g : Group Samples) → HasBook s x g
     → length (group_coded s x g false).text ≡ length x.text + removed (group_removals (closed x.ledger (seen_of (book_of s x g))) (length g.pictures))
@@ -104,7 +62,7 @@ group_bits s x g h =
     let t = pictures_text b (coded_of b) (ledger_of b) false (length x.text) (length b.pictures) in
     omega (
       arith,
-      ap length (text_of s x g false),
+      ap length (group_text_is s x g false),
       length-append x.text t,
       pictures_bits b h.book false (length x.text) (length b.pictures) (omega arith) (inr refl),
       ap (λ (l : Entries). removed (group_removals l (length g.pictures))) (group_closed s x g h),

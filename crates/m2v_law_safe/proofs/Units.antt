@@ -13,8 +13,8 @@ use Rattle.m2v_enc_stream.specs.m2v_slice.Conditions.{IsBook}
 use Rattle.m2v_enc_stream.specs.Streams.{Progress, at_start, book_of, group_coded}
 use Rattle.m2v_law_safe.specs.Removals.{groups_of}
 use Rattle.m2v_law_safe.specs.Sent.{SentPicture, sent_at, group_sent, groups_sent, Sent}
-use Rattle.m2v_law_safe.proofs.Whole.{times_count}
-use Rattle.m2v_law_safe.proofs.Stands.{HaveBooks, have_books}
+use Rattle.m2v_enc_stream.proofs.m2v_slice.Ledgers.{times_count}
+use Rattle.m2v_enc_stream.proofs.Stands.{HaveBooks, have_books}
 use Rattle.m2v_law_safe.proofs.Flat.{group_more}
 
 abbrev units_of : List SentPicture → List ℕ

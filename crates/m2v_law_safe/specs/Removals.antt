@@ -1,5 +1,5 @@
 -- The encoder's stream as its buffer's account sees it: the pictures of its groups, and where each of them begins.
-use Rattle.std.specs.Prelude.{ℕ, ◌≡◌, ◌+◌, ◌<◌, Bool, true, false, List, [], ◌∷◌, ◌++◌, map, length, slice_index}
+use Rattle.std.specs.Prelude.{ℕ, ◌≡◌, ◌+◌, ◌<◌, Bool, false, List, [], ◌∷◌, ◌++◌, map, length, slice_index}
 use Rattle.std.specs.List.{range_with_len}
 use Rattle.m2v_plane.specs.Samples.{Samples}
 use Rattle.m2v_set.specs.declared.settings.Settings.{Settings}
@@ -9,7 +9,8 @@ use Rattle.m2v_order.specs.Groups.{Group}
 use Rattle.m2v_rate.specs.Plans.{Entries, fresh}
 use Rattle.m2v_rate.specs.Safety.{Picture, closed, group_removals, after_groups, sent}
 use Rattle.m2v_enc_stream.specs.m2v_slice.Books.{Book, CodedPicture, coded, picture_at, job_at, size_of, ledger_behind}
-use Rattle.m2v_enc_stream.specs.Streams.{Progress, at_start, book_of, group_coded, groups_begun, groups_from, waiting, delay_at, pictures_text}
+use Rattle.m2v_enc_stream.specs.Streams.{Progress, at_start, book_of, group_coded, groups_begun, delay_at, pictures_text}
+pub use Rattle.m2v_enc_stream.specs.Streams.{groups_of}
 
 -- the pictures of a book, and the ledger that knows them all
 abbrev pub coded_of : Book → List CodedPicture
@@ -35,10 +36,7 @@ unfoldable pub groups_seen : Settings → Progress → List (Group Samples) → 
 groups_seen s x [] = []
 groups_seen s x (g ∷ more) = seen_of (book_of s x g) ∷ groups_seen s (group_coded s x g false) more
 
--- the groups of raw frames, and their pictures
-abbrev pub groups_of : Settings → List (List ℕ) → List (Group Samples)
-groups_of s frames = groups_from (length frames) (waiting s frames true)
-
+-- the pictures of the groups of raw frames
 abbrev pub Seen : Settings → List (List ℕ) → List (List Picture)
 Seen s frames = groups_seen s (at_start s) (groups_of s frames)
 

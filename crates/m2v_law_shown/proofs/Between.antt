@@ -3,6 +3,7 @@ use Rattle.std.proofs.Common.{◌≡◌, ℕ, ◌≤◌, ◌⊎◌, inl, inr, Bo
 use Rattle.std.specs.Prelude.{nat_eq, is_some}
 use Rattle.m2v_set.specs.declared.settings.Settings.{Settings}
 use Rattle.m2v_order.specs.declared.jobs.PictureJob.{PictureJob}
+use Rattle.m2v_order.proofs.Queues.{true_false}
 use Rattle.m2v_slice.specs.Headers.{begins_group}
 use Rattle.m2v_slice.specs.Books.{Book, no_job, job_at}
 use Rattle.m2v_slice.specs.Conditions.{IsBook}
@@ -11,10 +12,11 @@ use Rattle.m2v_model.specs.declared.state.State.{State}
 use Rattle.m2v_model.specs.States.{at_first}
 use Rattle.m2v_model.specs.Streams.{sequence, after}
 use Rattle.m2v_law_tree.specs.Trees.{sequence_by}
-use Rattle.m2v_law_tree.specs.States.{state_with, waiting_behind, anchors_behind}
-use Rattle.m2v_law_tree.proofs.Turns.{IsCounted, first_begins}
-use Rattle.m2v_law_tree.proofs.States.{state_before, first_sequence, next_sequence}
-use Rattle.m2v_law_shown.proofs.Views.{true_false}
+use Rattle.m2v_law_tree.specs.States.{state_with}
+use Rattle.m2v_slice.proofs.Firsts.{first_begins}
+use Rattle.m2v_law_tree.proofs.Turns.{IsCounted}
+use Rattle.m2v_law_tree.proofs.States.{first_sequence, next_sequence}
+use Rattle.m2v_law_tree.proofs.Groups.{start_is}
 use Rattle.m2v_law_shown.proofs.Heads.{Ready}
 
 -- a state behind groups, with so many anchors
@@ -30,10 +32,6 @@ pub record Begins (b : Book) (st : State) : Type 0 where
   pub before : ℕ
   pub counted : IsCounted b before
   pub ready : Ready b before 0 st
-
-start_is : (b : Book) (closed_one : Bool) (before : ℕ) (open_one : Option Open) → state_with b.settings closed_one before None open_one ≡ state_before b closed_one before 0 open_one
-unfolding waiting_behind anchors_behind
-start_is b closed_one before open_one = refl
 
 pub begins_at : (b : Book) → IsBook b → (st : State) → ((b.before ≡ None) × (st ≡ at_first)) ⊎ IsBetween b.settings st → Begins b st
 begins_at b h st (inl x) = record {

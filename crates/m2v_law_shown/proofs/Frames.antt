@@ -33,12 +33,12 @@ use Rattle.m2v_law_shown.proofs.Rows.{frame_painted, field_painted, fields_paint
 
 -- ---- a picture's samples among those of its frame
 
-even_line : (line : ℕ) → nat_eq (line % 2) 0 ≡ true → 2 * (line / 2) ≡ line
+pub even_line : (line : ℕ) → nat_eq (line % 2) 0 ≡ true → 2 * (line / 2) ≡ line
 even_line line e = let f = eqb-true (line % 2) 0 e in omega (arith, f)
 
-odd_line : (line : ℕ) → nat_eq (line % 2) 0 ≡ false → 2 * (line / 2) + 1 ≡ line
+pub odd_line : (line : ℕ) → nat_eq (line % 2) 0 ≡ false → (2 * (line / 2) + 1 ≡ line) × (line % 2 ≡ 1)
 odd_line line e = elim (cases_lt 0 (line % 2)) [
-  | inl some ↦ omega (arith, some)
+  | inl some ↦ (omega (arith, some), omega (arith, some))
   | inr none ↦ absurd (eqb-false (line % 2) 0 e (omega (arith, none)))
 ]
 
@@ -86,7 +86,7 @@ module _ (b : Book) (done : List CodedPicture) (p : ℕ) (plane : Plane) (line c
             (ap (λ (s : ℕ). line_in s Top (line / 2)) is ∙ even_line line even ∙ number)
         | inr odd ↦
             bottom_is (number_among (own_lines (job_at b p).structure) line) odd (only false (ap (λ (s : ℕ). has_lines s Bottom) is))
-            (ap (λ (s : ℕ). line_in s Bottom (line / 2)) is ∙ odd_line line odd ∙ number)
+            (ap (λ (s : ℕ). line_in s Bottom (line / 2)) is ∙ (odd_line line odd).0 ∙ number)
       ]
 
   first_is : (job_at b p).structure ≡ 1 → ((top : Bool) → has_lines (job_at b p).structure (lines_by top) ≡ true → picture_with b (job_at b p).frame (lines_by top) (length done) ≡ Some p)

@@ -1,24 +1,21 @@
 -- Each group of a stream has its book and delays of 16 bits that aren't all set, and is a group that was handed out.
-use Rattle.std.proofs.Common.{◌≡◌, ℕ, zero, suc, ◌+◌, ◌<◌, ◌≤◌, Bool, true, false, inl, inr, List, [], ◌∷◌, ◌++◌, length, map, take, get_or, refl, sym, ap, subst, ◌∙◌, arith, append_assoc}
+use Rattle.std.proofs.Common.{◌≡◌, ℕ, zero, suc, ◌<◌, ◌≤◌, Bool, true, false, inl, inr, List, [], ◌∷◌, length, refl, sym, subst}
 use Rattle.std.specs.Prelude.{All}
-use Rattle.std.proofs.lemmas.Bool.{cases_Bool, cond-true, cond-false}
-use Rattle.std.proofs.lemmas.List.{length-append, map-append}
+use Rattle.std.proofs.lemmas.Bool.{cases_Bool}
 use Rattle.std.proofs.lemmas.List.Elements.{All-nil, All-cons}
-use Rattle.std.proofs.Math.Seq.{take-suc, take-length}
 use Rattle.m2v_plane.specs.Samples.{Samples}
-use Rattle.m2v_plane.specs.Raw.{pad}
 use Rattle.m2v_set.specs.declared.settings.Settings.{Settings}
-use Rattle.m2v_set.specs.Numbers.{dims_of}
 use Rattle.m2v_set.specs.Rules.{Passes}
-use Rattle.m2v_order.specs.Groups.{Queue, Group, is_due, group_of, after_push, after_group, IsSoundQueue}
+use Rattle.m2v_order.specs.Groups.{Queue, Group, is_due, group_of, after_group, IsSoundQueue}
 use Rattle.m2v_order.specs.Whole.{IsGroupOf}
-use Rattle.m2v_order.proofs.Queues.{grouped, sound_opening, sound_push, sound_end, due_is, turn_is, sound_next}
+use Rattle.m2v_order.proofs.Queues.{grouped, due_is, turn_is, sound_next}
 use Rattle.m2v_order.proofs.Wholes.{group_is}
 use Rattle.m2v_slice.specs.Conditions.{IsBook}
-use Rattle.m2v_law_safe.specs.m2v_enc_stream.Streams.{Progress, at_start, book_of, group_coded, groups_begun, groups_from, waiting}
-use Rattle.m2v_law_safe.specs.Removals.{groups_of, begun_by}
-use Rattle.m2v_law_safe.proofs.Delays.{placed}
-use Rattle.m2v_law_safe.proofs.Bounds.{delay_small}
+use Rattle.m2v_law_safe.proofs.m2v_enc_stream.Queues.{from_due, from_none, from_zero, sound_waiting}
+use Rattle.m2v_law_safe.specs.m2v_enc_stream.Streams.{Progress, at_start, book_of, group_coded, groups_from, waiting}
+use Rattle.m2v_law_safe.specs.Removals.{groups_of}
+use Rattle.m2v_law_safe.proofs.m2v_enc_stream.Places.{delay_small}
+use Rattle.m2v_law_safe.proofs.m2v_enc_stream.Stands.{HaveBooks, have_books}
 use Rattle.m2v_law_shown.proofs.Steps.{delay_from}
 
 -- ---- books and delays
@@ -33,42 +30,17 @@ abbrev pub AreGood : Settings → Progress → List (Group Samples) → Type 0
 AreGood s x [] = Unit {0}
 AreGood s x (g ∷ more) = IsGood s x g × AreGood s (group_coded s x g false) more
 
-begun_more : (s : Settings) (gs : List (Group Samples)) (g : Group Samples) (x : Progress)
-    → groups_begun s x (gs ++ g ∷ []) ≡ group_coded s (groups_begun s x gs) g false
-unfolding groups_begun
-begun_more s [] g x = refl
-begun_more s (k ∷ gs) g x = begun_more s gs g (group_coded s x k false)
+good_from : (s : Settings) (gs : List (Group Samples)) (x : Progress) → HaveBooks s x gs → AreGood s x gs
+good_from s [] x h = tt
+good_from s (g ∷ later) x h = (
+  record { book = h.0.book; small = λ ends p lt. delay_small (book_of s x g) h.0.book ends (length x.text) p lt h.0.place },
+  good_from s later (group_coded s x g false) h.1,
+)
 
-start_is : (s : Settings) (x : Progress) → groups_begun s x [] ≡ x
-unfolding groups_begun
-start_is s x = refl
-
-module _ (s : Settings) (frames : List (List ℕ)) (passes : Passes s) (few : length frames ≤ 999999) where
-  good_from : (gs earlier : List (Group Samples)) → groups_of s frames ≡ earlier ++ gs → AreGood s (begun_by s earlier) gs
-  good_from [] earlier is = tt
-  good_from (g ∷ later) earlier is =
-      let h = placed s frames earlier g later passes few is in
-      let rest = good_from later (earlier ++ g ∷ []) (is ∙ sym (append_assoc earlier (g ∷ []) later)) in (
-        record { book = h.here.book; small = λ ends p lt. delay_small s earlier g ends p passes lt h },
-        subst (λ (x : Progress). AreGood s x later) (begun_more s earlier g (at_start s)) rest,
-      )
-
-  pub are_good : AreGood s (at_start s) (groups_of s frames)
-  are_good = subst (λ (x : Progress). AreGood s x (groups_of s frames)) (start_is s (at_start s)) (good_from (groups_of s frames) [] refl)
+pub are_good : (s : Settings) (frames : List (List ℕ)) → Passes s → length frames ≤ 999999 → AreGood s (at_start s) (groups_of s frames)
+are_good s frames passes few = good_from s (groups_of s frames) (at_start s) (have_books s frames passes few)
 
 -- ---- groups of a queue
-
-pub from_due : (n : ℕ) (q : Queue Samples) → is_due q ≡ true → groups_from (suc n) q ≡ group_of q ∷ groups_from n (after_group q)
-unfolding groups_from
-from_due n q is = cond-true (is_due q) _ _ is
-
-pub from_rest : (n : ℕ) (q : Queue Samples) → is_due q ≡ false → groups_from (suc n) q ≡ []
-unfolding groups_from
-from_rest n q is = cond-false (is_due q) _ _ is
-
-pub from_zero : (q : Queue Samples) → groups_from 0 q ≡ []
-unfolding groups_from
-from_zero q = refl
 
 abbrev AreGroups : Settings → List (Group Samples) → Type 0
 AreGroups s gs = All (λ (g : Group Samples). IsGroupOf s g) gs
@@ -85,35 +57,8 @@ groups_by s (suc n) q passes same sound = elim (cases_Bool (is_due q)) [
       subst (AreGroups s) (sym (from_due n q is))
       (All-cons (λ (g : Group Samples). IsGroupOf s g) (group_of q) (groups_from n (after_group q)) group
       (groups_by s n (after_group q) passes same (sound_next q ok due turn)))
-  | inr none ↦ subst (AreGroups s) (sym (from_rest n q none)) (All-nil (λ (g : Group Samples). IsGroupOf s g))
+  | inr none ↦ subst (AreGroups s) (sym (from_none (suc n) q none)) (All-nil (λ (g : Group Samples). IsGroupOf s g))
 ]
-
--- ---- the queue of a stream
-
--- one frame more that waits
-wait_more : (s : Settings) (frames : List (List ℕ)) (f : List ℕ) → waiting s (frames ++ f ∷ []) false ≡ after_push (waiting s frames false) (pad (dims_of s) f)
-wait_more s frames f =
-    let d = dims_of s in
-    let count : length (frames ++ f ∷ []) ≡ length frames + 1 = length-append frames (f ∷ []) in
-    let list : map (pad d) (frames ++ f ∷ []) ≡ map (pad d) frames ++ pad d f ∷ [] = map-append (pad d) frames (f ∷ []) in
-    ap (λ (n : ℕ). record { settings = s; pushed = n; frames = map (pad d) (frames ++ f ∷ []); ended = false }) count
-    ∙ ap (λ (xs : List Samples). record { settings = s; pushed = length frames + 1; frames = xs; ended = false }) list
-
-sound_front : (s : Settings) (frames : List (List ℕ)) (n : ℕ) → Passes s → n ≤ length frames → IsSoundQueue (waiting s (take n frames) false)
-sound_front s frames zero passes le = sound_opening s
-sound_front s frames (suc n) passes le =
-    let d = dims_of s in
-    let f = get_or frames n [] in
-    let rec = sound_front s frames n passes (omega (arith, le)) in
-    let more : take (suc n) frames ≡ take n frames ++ f ∷ [] = take-suc frames n [] (omega (arith, le)) in
-    subst (λ (xs : List (List ℕ)). IsSoundQueue (waiting s xs false)) (sym more)
-    (subst (λ (q : Queue Samples). IsSoundQueue q) (sym (wait_more s (take n frames) f))
-    (sound_push (waiting s (take n frames) false) (pad d f) (grouped s passes) rec refl))
-
-pub sound_waiting : (s : Settings) (frames : List (List ℕ)) → Passes s → IsSoundQueue (waiting s frames true)
-sound_waiting s frames passes =
-    sound_end (waiting s frames false)
-    (subst (λ (xs : List (List ℕ)). IsSoundQueue (waiting s xs false)) (take-length frames) (sound_front s frames (length frames) passes (omega arith)))
 
 pub are_groups : (s : Settings) (frames : List (List ℕ)) → Passes s → All (λ (g : Group Samples). IsGroupOf s g) (groups_of s frames)
 are_groups s frames passes = groups_by s (length frames) (waiting s frames true) passes refl (sound_waiting s frames passes)

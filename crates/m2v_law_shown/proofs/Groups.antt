@@ -16,6 +16,7 @@ use Rattle.m2v_order.specs.declared.jobs.PictureJob.{PictureJob}
 use Rattle.m2v_order.specs.Coding.{is_anchor, kind_of, frames_between, in_order, structures}
 use Rattle.m2v_order.specs.Groups.{Queue, Group, first_of, group_anchors, group_of, jobs_of, past_last}
 use Rattle.m2v_order.proofs.Queues.{grouped, due_is, turn_is, group_length}
+use Rattle.m2v_order.proofs.Queues.{true_false}
 use Rattle.m2v_slice.specs.Books.{Book, no_job, job_at, coded}
 use Rattle.m2v_slice.specs.Conditions.{IsBook}
 use Rattle.m2v_slice.proofs.Groups.{passes_of}
@@ -26,7 +27,7 @@ use Rattle.m2v_law_shown.specs.Runs.{raw_behind}
 use Rattle.m2v_law_shown.proofs.Order.{run_shown}
 use Rattle.m2v_law_shown.proofs.Coding.{b_is}
 use Rattle.m2v_law_shown.proofs.Shapes.{waits, previous, Shape, shape_at}
-use Rattle.m2v_law_shown.proofs.Views.{newer_kept, newer_ended, ends_is, b_ends_none, first_free, true_false}
+use Rattle.m2v_law_shown.proofs.Views.{newer_kept, newer_ended, ends_is, b_ends_none, first_free}
 
 -- ---- the raw frames that a group ends
 

@@ -9,7 +9,6 @@ pub mod Coding
 pub mod Shapes
 pub mod Views
 pub mod References
-pub mod Large
 pub mod Runs
 pub mod Heads
 pub mod Between

@@ -54,7 +54,7 @@ joined low mid (x ∷ xs) ys le d below e =
     )
 
 -- numbers that rise, from one on
-Ascends : ℕ → List ℕ → Type 0
+unfoldable pub Ascends : ℕ → List ℕ → Type 0
 Ascends from [] = Unit {0}
 Ascends from (a ∷ more) = (from ≤ a) × Ascends (a + 1) more
 
@@ -68,7 +68,7 @@ unfolding Ascends
 by_filter p from xs true up e = (omega arith, up)
 by_filter p from xs false up e = ascends_lower from (from + 1) (filter p xs) (omega arith) up
 
-ascends : (p : ℕ → Bool) (n from : ℕ) → Ascends from (filter p (range_with_len from n))
+pub ascends : (p : ℕ → Bool) (n from : ℕ) → Ascends from (filter p (range_with_len from n))
 unfolding Ascends
 ascends p zero from = tt
 ascends p (suc n) from = by_filter p from (range_with_len (from + 1) n) (p from) (ascends p n (from + 1)) refl

@@ -31,17 +31,20 @@ use Rattle.m2v_law_tree.specs.Trees.{task_at}
 use Rattle.m2v_law_shown.specs.Views.{AgreeInside, AreReferencesOf}
 use Rattle.m2v_law_shown.specs.Rows.{samples_of}
 use Rattle.m2v_law_shown.specs.Stores.{newer_behind, older_behind, HoldsBefore}
-use Rattle.m2v_law_shown.proofs.Shapes.{waits, IsSecond, Shape, shape_at, first_intra}
+use Rattle.m2v_law_shown.proofs.Shapes.{waits, IsSecond, Shape, shape_at}
+use Rattle.m2v_slice.proofs.Firsts.{first_kind}
 use Rattle.m2v_law_shown.proofs.Frames.{half_rows}
-use Rattle.m2v_law_shown.proofs.Views.{ShowsOf, Readable, views_at, own_sample, is_anchor_with, met, passed, anchor_is, other_is, newer_kept, older_kept, first_ends_none, b_ends_none, first_free, no_whole, top_has, bottom_has, first_of, nothing_before}
+use Rattle.m2v_law_shown.proofs.Views.{ShowsOf, Readable, views_at, own_sample, anchor_is, other_is, newer_kept, older_kept, first_ends_none, b_ends_none, first_free, no_whole, top_has, bottom_has, nothing_before}
+use Rattle.m2v_slice.proofs.References.{is_anchor_with, anchor_met, anchor_skipped, nth_first}
+use Rattle.m2v_law_shown.proofs.Squares.{some_side}
 
 -- ---- samples of pictures coded so far
 
 anchors_below : (b : Book) (lines : Lines) (p : ℕ) → All (λ (q : ℕ). q < p) (anchors_before b lines p)
 anchors_below b lines zero = subst (All (λ (q : ℕ). q < zero)) (sym (nothing_before b lines)) (All-nil (λ (q : ℕ). q < zero))
 anchors_below b lines (suc p) = elim (cases_Bool (is_anchor_with b lines p)) [
-  | inl is ↦ subst (All (λ (q : ℕ). q < suc p)) (sym (met b lines p is)) (All-cons (λ (q : ℕ). q < suc p) p (anchors_before b lines p) (omega arith) (wider (anchors_below b lines p)))
-  | inr other ↦ subst (All (λ (q : ℕ). q < suc p)) (sym (passed b lines p other)) (wider (anchors_below b lines p))
+  | inl is ↦ subst (All (λ (q : ℕ). q < suc p)) (sym (anchor_met b lines p is)) (All-cons (λ (q : ℕ). q < suc p) p (anchors_before b lines p) (omega arith) (wider (anchors_below b lines p)))
+  | inr other ↦ subst (All (λ (q : ℕ). q < suc p)) (sym (anchor_skipped b lines p other)) (wider (anchors_below b lines p))
 ]
   where
     wider : All (λ (q : ℕ). q < p) (anchors_before b lines p) → All (λ (q : ℕ). q < suc p) (anchors_before b lines p)
@@ -107,11 +110,6 @@ task_references b h p r refs lt forward backward =
 
 -- ---- a first field that was painted
 
-some_side : (plane : Plane) → 0 < side plane
-some_side Y = omega arith
-some_side Cb = omega arith
-some_side Cr = omega arith
-
 plane_part : (which : Lines) (d : Dims) (count : ℕ) (at : Plane → ℕ → ℕ → ℕ) (x : Samples) → IsPainted which d count at x → (plane : Plane)
     → HasPart which (side plane) d.mb_rows d.mb_width count (at plane) (plane_of x plane)
 plane_part which d count at x h Y = h.luma
@@ -147,7 +145,7 @@ module _ (b : Book) (h : IsBook b) (older : Option Samples) where
   not_first : (p : ℕ) → nat_eq (job_at b p).kind 3 ≡ true → p ≡ 0 → ⊥
   not_first p e none =
       let three = eqb-true (job_at b p).kind 3 e in
-      let one = first_intra b h in
+      let one = first_kind b h in
       let same : (job_at b p).kind ≡ (job_at b 0).kind = ap (λ (n : ℕ). (job_at b n).kind) none in
       omega (arith, three, one, same)
 
@@ -161,7 +159,7 @@ module _ (b : Book) (h : IsBook b) (older : Option Samples) where
       let before_b : nat_eq (job_at b q).kind 3 ≡ true = ap (λ (k : ℕ). nat_eq k 3) second.kind ∙ is_b in
       let s = sees_free q (omega (arith, lt)) before_b (first_free b q one (shape_at b h q (omega (arith, lt)))) in
       let none = b_ends_none b q before_b in
-      let same = λ (lines : Lines). passed b lines q (other_is b lines q before_b) in
+      let same = λ (lines : Lines). anchor_skipped b lines q (other_is b lines q before_b) in
       record {
         last = λ lines readable.
             subst (λ (x : Option Samples). ShowsOf b (pictures.frame_of x) (nth 0 (anchors_before b lines (suc q))) lines) (sym (newer_kept b older q none))
@@ -228,7 +226,7 @@ module _ (b : Book) (h : IsBook b) (older : Option Samples) where
     first_shows plane line column low small =
         let f = holds.current second.structure in
         let at = samples_of b (coded b (length b.pictures)) (job_at b (suc q)).frame in
-        let found = ap (nth 0) (met b Top q (anchor_is b Top q 1 true anchor one top_has.0)) ∙ first_of q (anchors_before b Top q) in
+        let found = ap (nth 0) (anchor_met b Top q (anchor_is b Top q 1 true anchor one top_has.0)) ∙ nth_first q (anchors_before b Top q) in
         ap (λ (x : Option Samples). sample_of (or_none x) plane (2 * line) column) f.current
         ∙ top_sample (dims_of b.settings) (rows b) at f.frame two_rows f.painted plane line column low small
         ∙ ap (λ (k : ℕ). samples_of b (coded b (length b.pictures)) k plane (2 * line) column) (sym second.frame)
@@ -241,7 +239,7 @@ module _ (b : Book) (h : IsBook b) (older : Option Samples) where
     second_shows plane line column low small =
         let v = views_at b h older q (omega (arith, lt)) (first_free b q one (shape_at b h q below)) in
         let r = readable_by b.settings.scan (job_at b q).structure Bottom (picture_is_one b h q below).structure (inr refl) in
-        let same = passed b Bottom q (anchor_is b Bottom q 1 false anchor one bottom_has.0) in
+        let same = anchor_skipped b Bottom q (anchor_is b Bottom q 1 false anchor one bottom_has.0) in
         ap (λ (x : Option Samples). sample_of (or_none x) plane (2 * line + 1) column) (holds.last ∙ newer_kept b older q (first_ends_none b q one))
         ∙ v.last Bottom r plane line column low small
         ∙ ap (λ (xs : List ℕ). picture_sample b (coded b (length b.pictures)) (nth 0 xs) plane Bottom line column) (sym same)

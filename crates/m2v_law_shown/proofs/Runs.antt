@@ -25,15 +25,11 @@ use Rattle.m2v_law_shown.specs.Telling.{told, told_all, IsMade}
 use Rattle.m2v_law_shown.specs.Told.{Made}
 use Rattle.m2v_law_shown.specs.Runs.{Goes, Tells, IsKept, pending, store_with}
 use Rattle.m2v_law_tree.proofs.States.{state_at, references_at, covered_is, slice_after, setup_at}
+use Rattle.m2v_law_tree.proofs.Streams.{state_on}
 use Rattle.m2v_law_shown.proofs.Frames.{slice_is_one}
-use Rattle.m2v_law_shown.proofs.Large.{no_large}
+use Rattle.m2v_law_tree.proofs.Slices.{none_large}
 
 -- ---- one run behind another
-
-state_on : (st : State) (ps qs : List Part) → state_behind st (ps ++ qs) ≡ state_behind (state_behind st ps) qs
-unfolding state_behind
-state_on st [] qs = refl
-state_on st (p ∷ ps) qs = state_on (after st p) ps qs
 
 store_on : (st : State) (store : Store) (ps qs : List Part) → store_from st store (ps ++ qs) ≡ store_from (state_behind st ps) (store_from st store ps) qs
 unfolding state_behind store_from
@@ -136,7 +132,7 @@ module _ (b : Book) (h : IsBook b) (closed_one : Bool) (before p delay : ℕ) (l
       (state_at b closed_one before p delay (suc n)) (store_with store (slice_in (task_at b p n) (references_at b closed_one before p) refs frame) refs) []
   slice_goes n store refs frame small =
       goes_one (state_at b closed_one before p delay n) (store_with store frame refs) (slice n (slice_read (task_at b p n))) _ _ []
-      (slice_after b closed_one before p delay n (no_large (task_at b p n) (slice_is_one b h p lt n small)))
+      (slice_after b closed_one before p delay n (none_large (task_at b p n) (slice_is_one b h p lt n small)))
       (ap (λ (x : Samples). store_with store x refs) (painted_is n refs frame)) refl
 
   pub slices_go : (n : ℕ) (store : Store) (refs : References) (frame : Samples) → n ≤ rows b

@@ -1,8 +1,7 @@
 -- The sequence headers of settings that pass keep to the level's bounds.
-use Rattle.std.proofs.Common.{◌≡◌, ℕ, ◌+◌, ◌*◌, ◌/◌, ◌%◌, ◌≤◌, Bool, true, List, [], ◌∷◌, refl, ap, ◌∙◌, arith}
+use Rattle.std.proofs.Common.{◌≡◌, ℕ, ◌+◌, ◌*◌, ◌/◌, ◌%◌, true, List, [], ◌∷◌, refl, ap, ◌∙◌, arith}
 use Rattle.std.specs.Prelude.{All}
 use Rattle.std.specs.List.{flat_map}
-use Rattle.std.proofs.lemmas.Bool.{le-leb, le-ltb}
 use Rattle.std.proofs.lemmas.List.Elements.{All-head, All-tail}
 use Rattle.std.proofs.Math.Nat.{mod-add-div'}
 use Rattle.m2v_set.specs.declared.settings.Settings.{Settings}
@@ -15,19 +14,11 @@ use Rattle.m2v_set.proofs.Facts.{bounds}
 use Rattle.m2v_slice.specs.Headers.{sequence_of, sequence_extension_of, profile_of}
 use Rattle.m2v_model.specs.declared.state.Sequence.{Sequence}
 use Rattle.m2v_model.specs.States.{width_of, height_of}
-use Rattle.m2v_model.specs.Lawful.{Breach, Breaches, judge, at_most, within, level_of, level_rule, width_rule, height_rule, frame_rate_rule, luma_rule, rate_rule, buffer_rule, rate_of, buffer_of, limits_in, is_level, sequence_breaches}
+use Rattle.m2v_model.specs.Lawful.{Breaches, level_of, level_rule, width_rule, height_rule, frame_rate_rule, luma_rule, rate_rule, buffer_rule, rate_of, buffer_of, limits_in, is_level, sequence_breaches}
 use Rattle.m2v_law_shown.specs.Own.{own_sequence}
+use Rattle.m2v_law_tree.proofs.m2v_law_chain.Judging.{judge_none, most_none, within_none}
 
 -- ---- rules that hold
-
-pub judge_none : (b : Bool) (x : Breach) → b ≡ true → judge b x ≡ []
-judge_none b x e = rw e refl
-
-pub most_none : (rule picture have need : ℕ) → have ≤ need → at_most rule picture have need ≡ []
-most_none rule picture have need le = rw (le-leb have need le) refl
-
-pub within_none : (rule picture have low high : ℕ) → low ≤ have → have ≤ high → within rule picture have low high ≡ []
-within_none rule picture have low high above below = rw (le-ltb have low above, le-leb have high below) refl
 
 pub flat_none : {A B : Type 0} (f : A → List B) (P : A → Type 0) (xs : List A) → All P xs → ((x : A) → P x → f x ≡ []) → flat_map f xs ≡ []
 flat_none f P [] all none = refl

@@ -6,11 +6,10 @@ use Rattle.m2v_set.specs.declared.settings.Scan.{Scan}
 use Rattle.m2v_set.specs.declared.settings.Scan.TheVariants.{Progressive, Frames, Fields}
 use Rattle.m2v_order.specs.declared.jobs.PictureJob.{PictureJob}
 use Rattle.m2v_order.specs.Coding.{structures}
-use Rattle.m2v_order.specs.Calls.{IsFromIntra}
 use Rattle.m2v_order.specs.Whole.{fields_of}
-use Rattle.m2v_slice.specs.Books.{Book, no_job, job_at}
+use Rattle.m2v_slice.specs.Books.{Book, no_job}
 use Rattle.m2v_slice.specs.Conditions.{IsBook}
-use Rattle.m2v_slice.proofs.Groups.{from_intra}
+use Rattle.m2v_law_tree.proofs.Turns.{same_scan}
 
 -- the picture before, or none
 abbrev pub previous : List PictureJob → ℕ → PictureJob
@@ -57,10 +56,6 @@ frames_shape (h ∷ more) zero lt = inl (refl, refl)
 frames_shape (h ∷ more) (suc zero) lt = any_before no_job (record h { structure = 3 }) (get_or (flat_map (fields_of Frames) more) 0 no_job) (frames_shape more zero (omega (arith, lt)))
 frames_shape (h ∷ more) (suc (suc p)) lt = frames_shape more (suc p) (omega (arith, lt))
 
-same_scan : (heads : List PictureJob) → flat_map (fields_of Progressive) heads ≡ flat_map (fields_of Frames) heads
-unfolding structures
-same_scan heads = refl
-
 scan_shape : (scan : Scan) (heads : List PictureJob) (p : ℕ) → p < length (flat_map (fields_of scan) heads) → Shape (flat_map (fields_of scan) heads) p
 scan_shape Progressive heads p lt = subst (λ (js : List PictureJob). p < length js → Shape js p) (sym (same_scan heads)) (frames_shape heads p) lt
 scan_shape Frames heads p lt = frames_shape heads p lt
@@ -68,11 +63,3 @@ scan_shape Fields heads p lt = fields_shape heads p lt
 
 pub shape_at : (b : Book) → IsBook b → (p : ℕ) → p < length b.pictures → Shape b.pictures p
 shape_at b h p lt = subst (λ (js : List PictureJob). p < length js → Shape js p) (sym h.group.fields) (scan_shape b.settings.scan h.group.heads p) lt
-
-kind_first : (js : List PictureJob) → IsFromIntra js → (get_or js 0 no_job).kind ≡ 1
-kind_first [] h = absurd h
-kind_first (j ∷ more) h = h.0
-
--- the group begins with an I picture
-pub first_intra : (b : Book) → IsBook b → (job_at b 0).kind ≡ 1
-first_intra b h = kind_first b.pictures (from_intra b h)

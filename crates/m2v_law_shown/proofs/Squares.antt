@@ -103,7 +103,7 @@ row_is : (t : SliceTask) → (slice_of t).row ≡ (so_far t t.context.columns).r
 unfolding slice_of
 row_is t = refl
 
-some_side : (plane : Plane) → 0 < side plane
+pub some_side : (plane : Plane) → 0 < side plane
 some_side Y = omega arith
 some_side Cb = omega arith
 some_side Cr = omega arith

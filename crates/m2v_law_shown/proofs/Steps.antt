@@ -12,6 +12,7 @@ use Rattle.m2v_plane.specs.Raw.{crop}
 use Rattle.m2v_pred.specs.Motion.{own_lines}
 use Rattle.m2v_set.specs.Numbers.{dims_of}
 use Rattle.m2v_order.specs.declared.jobs.PictureJob.{PictureJob}
+use Rattle.m2v_order.proofs.Queues.{true_false}
 use Rattle.m2v_slice.specs.Headers.{begins_group, picture_of, extension_of}
 use Rattle.m2v_rate.specs.Plans.{Entries}
 use Rattle.m2v_slice.specs.Books.{Book, no_job, rows, job_at, coded}
@@ -40,7 +41,7 @@ use Rattle.m2v_law_shown.specs.Runs.{Tells, IsKept, pending, settled, store_with
 use Rattle.m2v_law_shown.proofs.Shapes.{waits, Shape, shape_at}
 use Rattle.m2v_law_shown.proofs.Frames.{frame_rebuilt, is_row, half_rows}
 use Rattle.m2v_law_shown.proofs.Rows.{field_painted, fields_painted}
-use Rattle.m2v_law_shown.proofs.Views.{newer_kept, older_kept, newer_ended, older_ended, ends_is, b_ends_none, first_ends_none, true_false}
+use Rattle.m2v_law_shown.proofs.Views.{newer_kept, older_kept, newer_ended, older_ended, ends_is, b_ends_none, first_ends_none}
 use Rattle.m2v_law_shown.proofs.References.{references_are}
 use Rattle.m2v_law_tree.proofs.Turns.{IsCounted}
 use Rattle.m2v_law_tree.proofs.States.{state_at, references_at, next_sequence}

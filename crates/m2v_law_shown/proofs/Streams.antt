@@ -28,7 +28,7 @@ use Rattle.m2v_model.proofs.EventLaws.{pictures_in-append}
 use Rattle.m2v_law_tree.specs.Trees.{sequence_by, group_parts, groups_parts, groups_of, tree_of}
 use Rattle.m2v_law_tree.specs.States.{state_with, waiting_behind, anchors_behind}
 use Rattle.m2v_law_tree.proofs.Turns.{none_behind, anchors_end}
-use Rattle.m2v_law_tree.proofs.Follows.{stream_some}
+use Rattle.m2v_law_safe.proofs.m2v_enc_stream.Queues.{stream_some}
 use Rattle.m2v_law_shown.specs.Showing.{ShowAll}
 use Rattle.m2v_law_shown.specs.Stores.{frame_in}
 use Rattle.m2v_law_shown.specs.Telling.{headers, told, told_all}

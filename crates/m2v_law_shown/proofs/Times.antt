@@ -1,12 +1,9 @@
 -- The times behind the pictures of groups, which follow one another as the anchors do.
-use Rattle.std.proofs.Common.{◌≡◌, ℕ, zero, suc, ◌-◌, ◌<◌, true, inl, inr, List, [], ◌∷◌, ◌++◌, length, map, Option, Some, None, refl, sym, ap, subst, ◌∙◌, arith}
+use Rattle.std.proofs.Common.{◌≡◌, ℕ, zero, suc, ◌-◌, ◌<◌, true, inl, inr, List, [], ◌∷◌, ◌++◌, length, Option, Some, None, refl, sym, ap, subst, ◌∙◌, arith}
 use Rattle.std.specs.List.{flat_map}
 use Rattle.std.proofs.lemmas.Bool.{cases_Bool}
-use Rattle.std.proofs.lemmas.List.{length-map}
 use Rattle.m2v_plane.specs.Samples.{Samples}
-use Rattle.m2v_plane.specs.Raw.{pad}
 use Rattle.m2v_set.specs.declared.settings.Settings.{Settings}
-use Rattle.m2v_set.specs.Numbers.{dims_of}
 use Rattle.m2v_set.specs.Rules.{Passes}
 use Rattle.m2v_order.specs.declared.jobs.PictureJob.{PictureJob}
 use Rattle.m2v_order.specs.Groups.{Queue, Group, first_of, anchor_before, is_due, group_of, after_group, IsSoundQueue}
@@ -17,7 +14,7 @@ use Rattle.m2v_order.proofs.Turns.{next_first, turn_last}
 use Rattle.m2v_order.proofs.Queues.{grouped, top_of, due_is, Turn, turn_is, sound_next}
 use Rattle.m2v_law_safe.specs.m2v_enc_stream.Streams.{groups_from, waiting}
 use Rattle.m2v_law_safe.specs.Removals.{groups_of}
-use Rattle.m2v_law_shown.proofs.Good.{from_due, from_rest, from_zero, sound_waiting}
+use Rattle.m2v_law_safe.proofs.m2v_enc_stream.Queues.{from_due, from_none, from_zero, first_is, sound_waiting}
 
 -- ---- times of pictures behind others
 
@@ -76,14 +73,12 @@ behind_by s (suc n) q last passes same sound is = elim (cases_Bool (is_due q)) [
         before_is q ∙ is,
         behind_by s n (after_group q) (last_anchor last (group_of q).pictures) passes same (sound_next q ok due turn) (sym (next_before s q last pass turn)),
       )
-  | inr none ↦ subst (AreBehind last) (sym (from_rest n q none)) tt
+  | inr none ↦ subst (AreBehind last) (sym (from_none (suc n) q none)) tt
 ]
 
 first_none : (s : Settings) (frames : List (List ℕ)) → anchor_before (first_of (waiting s frames true)) ≡ None
 unfolding anchor_before
-first_none s frames =
-    let e : length frames - length (map (pad (dims_of s)) frames) ≡ 0 = omega (arith, length-map frames (pad (dims_of s))) in
-    ap anchor_before e
+first_none s frames = ap anchor_before (first_is s frames)
 
 -- the times of a stream's groups are those of all their pictures
 pub stream_times : (s : Settings) (frames : List (List ℕ)) → Passes s

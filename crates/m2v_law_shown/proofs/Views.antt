@@ -1,5 +1,5 @@
 -- What the frames at hand show is what the pictures were coded by.
-use Rattle.std.proofs.Common.{◌≡◌, ℕ, zero, suc, ◌*◌, ◌/◌, ◌%◌, ◌<◌, ◌≤◌, ◌⊎◌, inl, inr, Bool, true, false, not, ◌&&◌, cond, List, [], ◌∷◌, ◌++◌, length, Option, Some, None, refl, sym, ap, subst, ◌∙◌, arith}
+use Rattle.std.proofs.Common.{◌≡◌, ℕ, zero, suc, ◌*◌, ◌/◌, ◌%◌, ◌<◌, ◌≤◌, ◌⊎◌, inl, inr, Bool, true, false, not, ◌&&◌, cond, List, [], ◌∷◌, length, Option, Some, None, refl, sym, ap, subst, ◌∙◌, arith}
 use Rattle.std.specs.Prelude.{nat_eq, if◌then◌else◌}
 use Rattle.std.proofs.lemmas.Bool.{cases_Bool, eqb-true}
 use Rattle.m2v_plane.specs.declared.dims.Dims.{Dims}
@@ -16,6 +16,7 @@ use Rattle.m2v_pred.specs.Motion.{own_lines}
 use Rattle.m2v_set.specs.declared.settings.Scan.{Scan}
 use Rattle.m2v_set.specs.declared.settings.Scan.TheVariants.{Progressive, Frames, Fields}
 use Rattle.m2v_set.specs.Numbers.{dims_of}
+use Rattle.m2v_order.proofs.Queues.{true_false}
 use Rattle.m2v_model.specs.m2v_macroblock.Predictions.{View}
 use Rattle.m2v_slice.specs.Books.{Book, job_at, slice_at, has_lines, line_in, anchors_before, nth, picture_sample, coded}
 use Rattle.m2v_slice.specs.Conditions.{IsBook}
@@ -25,8 +26,10 @@ use Rattle.m2v_model.specs.Pictures as pictures
 use Rattle.m2v_law_tree.specs.m2v_law_chain.Painting.{frame_by}
 use Rattle.m2v_law_shown.specs.Rows.{samples_of}
 use Rattle.m2v_law_shown.specs.Stores.{ends_anchor, frame_in, newer_behind, older_behind}
-use Rattle.m2v_law_shown.proofs.Shapes.{waits, previous, IsSecond, Shape, shape_at, first_intra}
+use Rattle.m2v_slice.proofs.Firsts.{first_kind}
+use Rattle.m2v_law_shown.proofs.Shapes.{waits, previous, IsSecond, Shape, shape_at}
 use Rattle.m2v_law_shown.proofs.Frames.{own_is, only_here}
+use Rattle.m2v_slice.proofs.References.{is_anchor_with, anchor_met, anchor_skipped, nth_first}
 
 -- ---- the samples of a frame
 
@@ -95,21 +98,6 @@ before_view b Top plane line column low small = refl
 before_view b Bottom plane line column low small = refl
 
 -- ---- anchors one behind another
-
-abbrev pub is_anchor_with : Book → Lines → ℕ → Bool
-is_anchor_with b lines q = not (nat_eq (job_at b q).kind 3) && has_lines (job_at b q).structure lines
-
-pub met : (b : Book) (lines : Lines) (q : ℕ) → is_anchor_with b lines q ≡ true → anchors_before b lines (suc q) ≡ q ∷ anchors_before b lines q
-unfolding anchors_before
-met b lines q e = ap (λ (t : Bool). cond t (q ∷ []) [] ++ anchors_before b lines q) e
-
-pub passed : (b : Book) (lines : Lines) (q : ℕ) → is_anchor_with b lines q ≡ false → anchors_before b lines (suc q) ≡ anchors_before b lines q
-unfolding anchors_before
-passed b lines q e = ap (λ (t : Bool). cond t (q ∷ []) [] ++ anchors_before b lines q) e
-
-pub first_of : (q : ℕ) (xs : List ℕ) → nth 0 (q ∷ xs) ≡ Some q
-unfolding nth
-first_of q xs = refl
 
 next_of : (q : ℕ) (xs : List ℕ) → nth 1 (q ∷ xs) ≡ nth 0 xs
 unfolding nth
@@ -209,7 +197,7 @@ all_lines Bottom = refl
 first_ends : (b : Book) → IsBook b → (q : ℕ) → nat_eq (job_at b q).kind 3 ≡ true → q ≡ 0 → ⊥
 first_ends b h q e none =
     let three = eqb-true (job_at b q).kind 3 e in
-    let one = first_intra b h in
+    let one = first_kind b h in
     let same : (job_at b q).kind ≡ (job_at b 0).kind = ap (λ (n : ℕ). (job_at b n).kind) none in
     omega (arith, three, one, same)
 
@@ -219,7 +207,7 @@ module _ (b : Book) (h : IsBook b) (older : Option Samples) where
   frame_views q lt three v = elim (cases_Bool (nat_eq (job_at b q).kind 3)) [
     | inl is_b ↦
         let none = b_ends_none b q is_b in
-        let same = λ (lines : Lines). passed b lines q (other_is b lines q is_b) in
+        let same = λ (lines : Lines). anchor_skipped b lines q (other_is b lines q is_b) in
         record {
           last = λ lines readable. shows_by b _ _ _ _ lines (newer_kept b older q none) (ap (nth 0) (same lines)) (v.last lines readable);
           before = λ e lines readable. shows_by b _ _ _ _ lines (older_kept b older q none) (ap (nth 1) (same lines)) (v.before (sym (ended_kept b older q none) ∙ e) lines readable);
@@ -227,10 +215,10 @@ module _ (b : Book) (h : IsBook b) (older : Option Samples) where
         }
     | inr anchor ↦
         let ends = ends_is b q 3 anchor three refl in
-        let here = λ (lines : Lines). met b lines q (anchor_is b lines q 3 true anchor three (all_lines lines)) in
+        let here = λ (lines : Lines). anchor_met b lines q (anchor_is b lines q 3 true anchor three (all_lines lines)) in
         record {
           last = λ lines readable.
-              shows_by b _ _ _ _ lines (newer_ended b older q ends) (ap (nth 0) (here lines) ∙ first_of q (anchors_before b lines q)) (own_view b h q lt lines (inl three) (job_at b q).frame refl);
+              shows_by b _ _ _ _ lines (newer_ended b older q ends) (ap (nth 0) (here lines) ∙ nth_first q (anchors_before b lines q)) (own_view b h q lt lines (inl three) (job_at b q).frame refl);
           before = λ e lines readable. shows_by b _ _ _ _ lines (older_ended b older q ends) (ap (nth 1) (here lines) ∙ next_of q (anchors_before b lines q)) (v.last lines readable);
           ended = λ some. ended_now b older q ends;
         }
@@ -263,22 +251,22 @@ module _ (b : Book) (h : IsBook b) (q : ℕ) (lt : suc q < length b.pictures) (o
 
     top_anchors : anchors_before b Top (suc (suc q)) ≡ q ∷ anchors_before b Top q
     top_anchors =
-        passed b Top (suc q) (anchor_is b Top (suc q) 2 false anchor_too second.structure top_has.1)
-        ∙ met b Top q (anchor_is b Top q 1 true anchor one top_has.0)
+        anchor_skipped b Top (suc q) (anchor_is b Top (suc q) 2 false anchor_too second.structure top_has.1)
+        ∙ anchor_met b Top q (anchor_is b Top q 1 true anchor one top_has.0)
 
     bottom_anchors : anchors_before b Bottom (suc (suc q)) ≡ suc q ∷ anchors_before b Bottom q
     bottom_anchors =
-        met b Bottom (suc q) (anchor_is b Bottom (suc q) 2 true anchor_too second.structure bottom_has.1)
-        ∙ ap (λ (xs : List ℕ). suc q ∷ xs) (passed b Bottom q (anchor_is b Bottom q 1 false anchor one bottom_has.0))
+        anchor_met b Bottom (suc q) (anchor_is b Bottom (suc q) 2 true anchor_too second.structure bottom_has.1)
+        ∙ ap (λ (xs : List ℕ). suc q ∷ xs) (anchor_skipped b Bottom q (anchor_is b Bottom q 1 false anchor one bottom_has.0))
 
     field_last : (lines : Lines) → Readable b.settings.scan lines
         → ShowsOf b (pictures.frame_of (Some (frame_in b (job_at b (suc q)).frame))) (nth 0 (anchors_before b lines (suc (suc q)))) lines
     field_last Whole r = absurd (whole_never r)
     field_last Top r =
-        subst (λ (o : Option ℕ). ShowsOf b (pictures.frame_of (Some (frame_in b (job_at b (suc q)).frame))) o Top) (sym (ap (nth 0) top_anchors ∙ first_of q (anchors_before b Top q)))
+        subst (λ (o : Option ℕ). ShowsOf b (pictures.frame_of (Some (frame_in b (job_at b (suc q)).frame))) o Top) (sym (ap (nth 0) top_anchors ∙ nth_first q (anchors_before b Top q)))
         (own_view b h q below Top (inr (inl (one, refl))) (job_at b (suc q)).frame second.frame)
     field_last Bottom r =
-        subst (λ (o : Option ℕ). ShowsOf b (pictures.frame_of (Some (frame_in b (job_at b (suc q)).frame))) o Bottom) (sym (ap (nth 0) bottom_anchors ∙ first_of (suc q) (anchors_before b Bottom q)))
+        subst (λ (o : Option ℕ). ShowsOf b (pictures.frame_of (Some (frame_in b (job_at b (suc q)).frame))) o Bottom) (sym (ap (nth 0) bottom_anchors ∙ nth_first (suc q) (anchors_before b Bottom q)))
         (own_view b h (suc q) lt Bottom (inr (inr (second.structure, refl))) (job_at b (suc q)).frame refl)
 
     field_next : (lines : Lines) → Readable b.settings.scan lines → nth 1 (anchors_before b lines (suc (suc q))) ≡ nth 0 (anchors_before b lines q)
@@ -293,7 +281,7 @@ module _ (b : Book) (h : IsBook b) (q : ℕ) (lt : suc q < length b.pictures) (o
         let none = b_ends_none b q is_b in
         let b_too : nat_eq (job_at b (suc q)).kind 3 ≡ true = ap (λ (k : ℕ). nat_eq k 3) (sym second.kind) ∙ is_b in
         let none_too = b_ends_none b (suc q) b_too in
-        let same = λ (lines : Lines). passed b lines (suc q) (other_is b lines (suc q) b_too) ∙ passed b lines q (other_is b lines q is_b) in
+        let same = λ (lines : Lines). anchor_skipped b lines (suc q) (other_is b lines (suc q) b_too) ∙ anchor_skipped b lines q (other_is b lines q is_b) in
         let newer = newer_kept b older (suc q) none_too ∙ newer_kept b older q none in
         let before = older_kept b older (suc q) none_too ∙ older_kept b older q none in
         let ended = ended_kept b older (suc q) none_too ∙ ended_kept b older q none in
@@ -318,10 +306,6 @@ pub first_free : (b : Book) (q : ℕ) → (job_at b q).structure ≡ 1 → Shape
 first_free b q one (inl s) = s.0
 first_free b q one (inr (inl s)) = s.0
 first_free b q one (inr (inr s)) = let two = s.1.structure in absurd (omega (arith, one, two))
-
-pub true_false : (t : Bool) → t ≡ true → t ≡ false → ⊥
-true_false true e f = absurd cc
-true_false false e f = absurd cc
 
 module _ (b : Book) (h : IsBook b) (older : Option Samples) where
   -- one picture more, behind which no first field waits

@@ -1,8 +1,8 @@
 -- What macroblocks are predicted from was decoded, where the picture's references were.
 use Rattle.std.proofs.Common.{◌≡◌, ◌≢◌, ℕ, ◌≤◌, Bool, true, false, ◌||◌, not, List, ◌⊎◌, inl, inr, refl, ap, ◌∙◌, arith}
 use Rattle.std.specs.Prelude.{nat_eq, slice_index_or}
-use Rattle.std.proofs.lemmas.Bool.{cases_lt, and_from}
-use Rattle.m2v_vlc.specs.declared.values.MbType.{MbType}
+use Rattle.std.proofs.lemmas.Bool.{and_from}
+use Rattle.std.proofs.Math.Bool.{or-true}
 use Rattle.m2v_plane.specs.declared.planes.Lines.{Lines}
 use Rattle.m2v_plane.specs.declared.planes.Lines.TheVariants.{Whole, Top, Bottom}
 use Rattle.m2v_plane.specs.Fields.{lines_there}
@@ -13,15 +13,12 @@ use Rattle.m2v_macro.specs.Conditions.{has_type}
 use Rattle.m2v_pred.specs.declared.mode.Mode.{Mode}
 use Rattle.m2v_pred.specs.Motion.{is_dual, parts_of, lines_read, other_field, own_field}
 use Rattle.m2v_pred.specs.Patches.{part_count}
+use Rattle.m2v_slice.proofs.Motions.{type_tells}
 use Rattle.m2v_macroblock.specs.Modes.{mode_of, told_mode, without_motion_type, skipped_mode}
 use Rattle.m2v_model.specs.Modes.{part_decoded, direction_decoded, is_decoded}
 use Rattle.m2v_law_tree.specs.Slices.{AreDecoded}
 
 -- ---- where both fields were decoded
-
-either_true : (b : Bool) → (b || true) ≡ true
-either_true true = refl
-either_true false = refl
 
 lines_all : (l : Lines) → lines_there true true l ≡ true
 unfolding lines_there
@@ -33,13 +30,13 @@ part_all : (mode : Mode) (direction structure part : ℕ) → part_decoded true 
 unfolding part_decoded
 part_all mode direction structure part =
     and_from _ _ (lines_all (lines_read mode.form mode direction structure part))
-    (ap (λ (b : Bool). not (is_dual mode.form) || b) (lines_all (other_field (own_field structure part))) ∙ either_true (not (is_dual mode.form)))
+    (ap (λ (b : Bool). not (is_dual mode.form) || b) (lines_all (other_field (own_field structure part))) ∙ or-true (not (is_dual mode.form)))
 
 direction_all : (mode : Mode) (direction structure : ℕ) → direction_decoded true true mode direction structure ≡ true
 unfolding direction_decoded
 direction_all mode direction structure =
     let one = nat_eq (part_count (parts_of mode.form structure)) 1 in
-    and_from _ _ (part_all mode direction structure 0) (ap (λ (b : Bool). one || b) (part_all mode direction structure 1) ∙ either_true one)
+    and_from _ _ (part_all mode direction structure 0) (ap (λ (b : Bool). one || b) (part_all mode direction structure 1) ∙ or-true one)
 
 direction_by : (top bottom : Bool) (mode : Mode) (direction structure : ℕ) → top ≡ true → bottom ≡ true → direction_decoded top bottom mode direction structure ≡ true
 direction_by top bottom mode direction structure t b = (λ i. direction_decoded (t i) (b i) mode direction structure) ∙ direction_all mode direction structure
@@ -59,23 +56,6 @@ decoded_by kind references structure mode h forward backward =
     (where_told mode.backward (direction_decoded (r 2) (r 3) mode 1 structure) (λ e. direction_by (r 2) (r 3) mode 1 structure (h.backward_top (backward e)) (h.backward_bottom (backward e))))
 
 -- ---- the directions of a macroblock
-
--- a type that isn't intra stands in no I picture, and one with a backward direction in B pictures alone
-type_tells : (k : ℕ) (v : MbType) → has_type k v ≡ true → v.intra ≡ false → 1 ≤ k → k ≤ 3 → (k ≢ 1) × (v.backward ≡ true → k ≡ 3)
-unfolding has_type
-type_tells k v h other least most = (
-  not_one,
-  λ back. elim (cases_lt k 3) [
-    | inl less ↦ elim (cases_lt k 2) [ inl few ↦ absurd (not_one (omega (arith, few, least))) | inr two ↦ absurd (not_two (omega (arith, two, less)) back) ]
-    | inr last ↦ omega (arith, last, most)
-  ],
-)
-  where
-    not_one : k ≡ 1 → ⊥
-    not_one one = let none : false ≡ true = rw (one, other) at h in absurd cc
-
-    not_two : k ≡ 2 → v.backward ≡ true → ⊥
-    not_two two back = let none : false ≡ true = rw (two, other, back) at h in absurd cc
 
 -- the directions that a mode may have in a picture
 pub record MayRead (kind : ℕ) (mode : Mode) : Type 0 where

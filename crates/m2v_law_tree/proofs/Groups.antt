@@ -5,11 +5,14 @@ use Rattle.std.proofs.lemmas.List.{append-nil}
 use Rattle.m2v_plane.specs.Samples.{Samples}
 use Rattle.m2v_set.specs.declared.settings.Settings.{Settings}
 use Rattle.m2v_order.specs.Groups.{Group}
+use Rattle.m2v_order.proofs.Queues.{true_false}
 use Rattle.m2v_rate.specs.Plans.{Entries}
 use Rattle.m2v_slice.specs.Headers.{begins_group}
 use Rattle.m2v_slice.specs.Books.{Book, CodedPicture, rows, job_at, coded, ledger_behind}
 use Rattle.m2v_slice.specs.Conditions.{IsBook}
+use Rattle.m2v_slice.proofs.Firsts.{first_begins}
 use Rattle.m2v_enc_stream.specs.Streams.{Progress, delay_at, picture_text, pictures_text, book_of, group_coded, groups_coded}
+use Rattle.m2v_enc_stream.proofs.Stands.{group_text_is}
 use Rattle.m2v_model.specs.declared.state.FirstField.{FirstField}
 use Rattle.m2v_model.specs.declared.state.Open.{Open}
 use Rattle.m2v_model.specs.declared.state.State.{State}
@@ -21,7 +24,7 @@ use Rattle.m2v_law_chain.proofs.Chains.{chain_then}
 use Rattle.m2v_law_chain.proofs.Units.{packs_none}
 use Rattle.m2v_law_tree.specs.Trees.{sequence_by, pictures_parts, group_parts, groups_parts}
 use Rattle.m2v_law_tree.specs.States.{state_with, open_at, waiting_behind, anchors_behind}
-use Rattle.m2v_law_tree.proofs.Turns.{IsCounted, none_behind, anchors_end, first_begins}
+use Rattle.m2v_law_tree.proofs.Turns.{IsCounted, none_behind, anchors_end}
 use Rattle.m2v_law_tree.proofs.States.{state_before, state_at, references_at, complete_at, first_sequence}
 use Rattle.m2v_law_tree.proofs.Zeros.{Holds, holds_packs, holds_append}
 use Rattle.m2v_law_tree.proofs.SliceUnits.{Spelled}
@@ -114,7 +117,7 @@ pub record IsBetween (s : Settings) (st : State) : Type 0 where
 abbrev pub IsAfter : Settings → Progress → State → Type 0
 IsAfter s x st = ((x.before ≡ None) × (st ≡ at_first)) ⊎ IsBetween s st
 
-start_is : (b : Book) (closed : Bool) (before : ℕ) (open_one : Option Open) → state_with b.settings closed before None open_one ≡ state_before b closed before 0 open_one
+pub start_is : (b : Book) (closed : Bool) (before : ℕ) (open_one : Option Open) → state_with b.settings closed before None open_one ≡ state_before b closed before 0 open_one
 unfolding waiting_behind anchors_behind
 start_is b closed before open_one = refl
 
@@ -122,16 +125,13 @@ starts_waiting : (b : Book) → waiting_behind b 0 ≡ None
 unfolding waiting_behind
 starts_waiting b = refl
 
-not_both : (x : Bool) → x ≡ true → x ≡ false → ⊥
-not_both x t f = let e : true ≡ false = sym t ∙ f in cc
-
 ready_first : (b : Book) → IsBook b → IsReady b 0 0 at_first
 ready_first b h = record {
   complete = refl;
   same = refl;
   waits = sym (ap none_waits (starts_waiting b));
   behind = (false, first_sequence b.settings ∙ start_is b false 0 None);
-  plain = λ e. absurd (not_both (begins_group (job_at b 0)) (first_begins b h) e);
+  plain = λ e. absurd (true_false (begins_group (job_at b 0)) (first_begins b h) e);
 }
 
 -- where a group begins
@@ -143,7 +143,7 @@ pub record Begins (b : Book) (st : State) : Type 0 where
 begins_at : (b : Book) → IsBook b → (st : State) → ((b.before ≡ None) × (st ≡ at_first)) ⊎ IsBetween b.settings st → Begins b st
 begins_at b h st (inl x) = record {
   before = 0;
-  counted = record { most = omega arith; some = λ e. absurd (not_both (is_some b.before) e (ap is_some x.0)) };
+  counted = record { most = omega arith; some = λ e. absurd (true_false (is_some b.before) e (ap is_some x.0)) };
   ready = subst (IsReady b 0 0) (sym x.1) (ready_first b h);
 }
 begins_at b h st (inr x) = record {
@@ -209,11 +209,6 @@ group_holds : (law : Spelled) (s : Settings) (x : Progress) (g : Group Samples) 
     → Holds (pictures_text (book_of s x g) (done_of s x g) (ledger_of s x g) ends (length x.text) (length g.pictures)) (group_units_of s x g ends)
 group_holds law s x g ends may =
     pictures_hold law (book_of s x g) may.book (length g.pictures) (ledger_of s x g) ends (length x.text) (length g.pictures) (omega arith) (omega arith)
-
-pub group_text_is : (s : Settings) (x : Progress) (g : Group Samples) (ends : Bool)
-    → (group_coded s x g ends).text ≡ x.text ++ pictures_text (book_of s x g) (done_of s x g) (ledger_of s x g) ends (length x.text) (length g.pictures)
-unfolding group_coded
-group_text_is s x g ends = refl
 
 -- what groups add to the text
 pub record Adds (before behind : List Bool) (units : Units) : Type 0 where

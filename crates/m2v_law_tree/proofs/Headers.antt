@@ -1,17 +1,15 @@
 -- The headers of the encoder's stream stand in their units.
-use Rattle.std.proofs.Common.{◌≡◌, ℕ, zero, suc, ◌+◌, ◌/◌, ◌%◌, ◌^◌, ◌<◌, ◌≤◌, Bool, true, false, not, ◌||◌, cond, List, [], ◌++◌, length, drop, replicate, Some, inl, inr, refl, sym, ap, subst, ◌∙◌, arith}
-use Rattle.std.specs.Prelude.{nat_eq, nat_le, if◌then◌else◌}
-use Rattle.std.proofs.lemmas.Bool.{ne_eqb, le-leb, cond_both}
+use Rattle.std.proofs.Common.{◌≡◌, ℕ, zero, suc, ◌/◌, ◌%◌, ◌^◌, ◌<◌, ◌≤◌, Bool, true, false, ◌||◌, cond, List, [], length, inl, inr, refl, sym, ap, subst, ◌∙◌, arith}
+use Rattle.std.specs.Prelude.{nat_eq, if◌then◌else◌}
+use Rattle.std.proofs.lemmas.Bool.{ne_eqb, cond_both}
 use Rattle.std.proofs.lemmas.Nat.{mod_below}
-use Rattle.m2v_bits.specs.Bits.{bits_of, number, to_edge, all_zero}
-use Rattle.m2v_bits.specs.Syntax.{seq, done, here, rule, renamed}
-use Rattle.m2v_bits.specs.Leaves.{bits_at, end_at}
+use Rattle.m2v_bits.specs.Bits.{bits_of, number}
+use Rattle.m2v_bits.specs.Syntax.{renamed}
 use Rattle.m2v_bits.proofs.Bits.{number-bits_of}
 use Rattle.m2v_head.specs.Texts.{sequence_text, sequence_extension_text, rates_text, group_text, picture_text, picture_extension_text, flags_text, composite_text}
-use Rattle.m2v_head.specs.Fits.{SequenceFits, SequenceExtensionFits, GroupFits, PictureFits, PictureExtensionFits}
-use Rattle.m2v_head.specs.declared.sequence.SequenceInfo.{SequenceInfo}
+use Rattle.m2v_head.specs.Fits.{SequenceFits, GroupFits, PictureFits, PictureExtensionFits}
 use Rattle.m2v_head.specs.declared.sequence.SequenceExtension.{SequenceExtension}
-use Rattle.m2v_head.proofs.Spellings.{sequence_spells, sequence_extension_spells, group_spells, picture_spells, picture_extension_spells}
+use Rattle.m2v_head.proofs.Spellings.{sequence_spells, group_spells, picture_spells}
 use Rattle.m2v_set.specs.declared.settings.Settings.{Settings}
 use Rattle.m2v_set.specs.declared.settings.Level.{Level}
 use Rattle.m2v_set.specs.declared.settings.Level.TheVariants.{Main, High1440, High}
@@ -22,49 +20,10 @@ use Rattle.m2v_set.specs.Rules.{is_progressive}
 use Rattle.m2v_order.specs.declared.jobs.PictureJob.{PictureJob}
 use Rattle.m2v_slice.specs.Headers.{profile_of, sequence_of, sequence_extension_of, frames_in_second, group_from, picture_of, extension_of, IsJob}
 use Rattle.m2v_slice.proofs.Groups.{HasStructure}
-use Rattle.m2v_model.specs.declared.fault.FaultKind.TheVariants.{Truncated}
-use Rattle.m2v_model.specs.Faults.{InUnit}
-use Rattle.m2v_model.specs.Looking.{number_from, look, looking}
-use Rattle.m2v_model.specs.Units.{Units, inside}
-use Rattle.m2v_model.specs.Headers.{whole_header, size_of, size_at, sequence_in, sequence_extension_in, group_in, picture_in, is_structure, f_code_at, f_codes_at, picture_extension_in}
-use Rattle.m2v_model.specs.Streams.{id_at, extension_in}
-use Rattle.m2v_law_chain.specs.Texts.{ended, unit_bytes}
-use Rattle.m2v_law_chain.proofs.Units.{ended_bits}
-
--- ---- units
-
-pub zeros_are : (n : ℕ) → all_zero (replicate n false) ≡ true
-unfolding all_zero
-zeros_are zero = refl
-zeros_are (suc n) = zeros_are n
-
--- the zeros behind a text
-abbrev pub behind : List Bool → List Bool
-behind t = replicate (to_edge (32 + length t)) false
-
--- what stands in a text stands in its unit
-pub inside_stands : {V : Type 0} (s : InUnit V) (value : ℕ) (t : List Bool) (v : V) (us : Units) (end : List Bool) → s.Stands v (ended t) end → (inside (unit_bytes value t) s).Stands v us us
-unfolding inside
-inside_stands s value t v us end h = (refl, (end, subst (λ (x : List Bool). s.Stands v x end) (sym (ended_bits t)) h))
-
--- a header, and zeros
-whole_stands : {V : Type 0} (s : InUnit V) (t : List Bool) (v : V) → s.Stands v (ended t) (behind t) → (whole_header s).Stands v (ended t) []
-unfolding whole_header seq end_at done
-whole_stands s t v h = (v, behind t, h, (tt, [], (zeros_are (to_edge (32 + length t)), refl), (refl, refl)))
-
-abbrev IdStands : ℕ → List Bool → Type 0
-IdStands own t = ended t ≡ bits_of 4 own ++ drop 4 (ended t)
-
--- an extension, with its id, stands in its unit
-pub extension_in_stands : {V : Type 0} (s : InUnit V) (own start : ℕ) (t : List Bool) (v : V) (us : Units) → own < 2 ^ 4 → IdStands own t → nat_eq own own ≡ true → s.Stands v (ended t) []
-    → (extension_in own (unit_bytes 0xB5 t) start s).Stands v us us
-unfolding extension_in id_at seq rule looking bits_at
-extension_in_stands s own start t v us below id same h = (
-  own,
-  us,
-  inside_stands (looking (bits_at Truncated 4)) 0xB5 t own us (ended t) (refl, (drop 4 (ended t), (below, id))),
-  (tt, us, (same, refl), inside_stands s 0xB5 t v us [] h),
-)
+use Rattle.m2v_model.specs.Looking.{number_from}
+use Rattle.m2v_model.specs.Headers.{whole_header, sequence_in, sequence_extension_in, group_in, picture_in, is_structure, f_codes_at, picture_extension_in}
+use Rattle.m2v_law_chain.specs.Texts.{ended}
+use Rattle.m2v_law_chain.proofs.Headers.{behind, whole_stands, IdStands, plain, plain_stands, f_codes_stand, coding_stands as coding_shows}
 
 -- ---- sequences
 
@@ -85,21 +44,6 @@ pub sequence_stands : (s : Settings) → InSize s → InChoice s → (whole_head
 unfolding sequence_in renamed ended
 sequence_stands s h c =
     whole_stands sequence_in (sequence_text (sequence_of s)) (sequence_of s) ((sequence_spells (sequence_of s) (sequence_fits s h c)).stands (behind (sequence_text (sequence_of s))))
-
--- the extension: the higher bits of all numbers are 0
-abbrev pub plain : ℕ → Bool → SequenceExtension
-plain profile progressive = record {
-  profile_and_level = profile;
-  progressive_sequence = progressive;
-  chroma_format = 1;
-  horizontal_ext = 0;
-  vertical_ext = 0;
-  bit_rate_ext = 0;
-  vbv_ext = 0;
-  low_delay = false;
-  rate_n = 0;
-  rate_d = 0;
-}
 
 same_plain : (profile : ℕ) (progressive : Bool) (a b c d : ℕ) → a ≡ 0 → b ≡ 0 → c ≡ 0 → d ≡ 0
     → record {
@@ -132,63 +76,6 @@ profile_small Main = omega arith
 profile_small High1440 = omega arith
 profile_small High = omega arith
 
-plain_fits : (profile : ℕ) (progressive : Bool) → profile < 2 ^ 8 → SequenceExtensionFits (plain profile progressive)
-plain_fits profile progressive small = record {
-  profile_and_level = small;
-  chroma_format = refl;
-  horizontal_ext = omega arith;
-  vertical_ext = omega arith;
-  bit_rate_ext = omega arith;
-  vbv_ext = omega arith;
-  rate_n = omega arith;
-  rate_d = omega arith;
-}
-
-size_some : (n : ℕ) → 1 ≤ n → not (nat_eq (size_of n 0) 0) ≡ true
-size_some n some = ap not (ne_eqb (size_of n 0) 0 (λ e. omega (arith, some, e)))
-
-size_most : (n most : ℕ) → n ≤ most → nat_le (size_of n 0) most ≡ true
-size_most n most le = le-leb (size_of n 0) most (omega (arith, le))
-
-plain_looks : (profile : ℕ) (progressive : Bool) (info : SequenceInfo) → profile < 2 ^ 8
-    → 1 ≤ info.horizontal_size → info.horizontal_size ≤ 1920 → 1 ≤ info.vertical_size → info.vertical_size ≤ 1152
-    → (sequence_extension_in info).Stands (plain profile progressive) (ended (sequence_extension_text (plain profile progressive))) (behind (sequence_extension_text (plain profile progressive)))
-unfolding sequence_extension_in size_at seq here look number_from rule renamed ended sequence_extension_text rates_text bits_of number
-plain_looks profile progressive info small wide width tall height =
-    let x = plain profile progressive in
-    let t = ended (sequence_extension_text x) in
-    let rest = behind (sequence_extension_text x) in (
-      length t,
-      t,
-      (refl, refl),
-      (
-        Some 1,
-        t,
-        (refl, refl),
-        (
-          Some 0,
-          t,
-          (refl, refl),
-          (
-            tt,
-            t,
-            (tt, t, (size_some info.horizontal_size wide, refl), (size_most info.horizontal_size 1920 width, refl)),
-            (
-              Some 0,
-              t,
-              (refl, refl),
-              (
-                tt,
-                t,
-                (tt, t, (size_some info.vertical_size tall, refl), (size_most info.vertical_size 1152 height, refl)),
-                (sequence_extension_spells x (plain_fits profile progressive small)).stands rest,
-              ),
-            ),
-          ),
-        ),
-      ),
-    )
-
 one_line : (scan : Scan) (height : ℕ) → (if is_progressive scan then 2 else 4) ≤ height → 1 ≤ height
 one_line scan height = by_step (is_progressive scan)
   where
@@ -211,10 +98,8 @@ pub extension_stands : (s : Settings) → InSize s
     → (whole_header (sequence_extension_in (sequence_of s))).Stands (sequence_extension_of s) (ended (sequence_extension_text (sequence_extension_of s))) []
 extension_stands s h =
     let sizes = sizes_of s h in
-    let x = plain (profile_of s.level) (is_progressive s.scan) in
     subst (λ (e : SequenceExtension). (whole_header (sequence_extension_in (sequence_of s))).Stands e (ended (sequence_extension_text e)) []) (sym (plain_is s h))
-    (whole_stands (sequence_extension_in (sequence_of s)) (sequence_extension_text x) x
-    (plain_looks (profile_of s.level) (is_progressive s.scan) (sequence_of s) (profile_small s.level) sizes.0.0 sizes.0.1 sizes.1.0 sizes.1.1))
+    (plain_stands (profile_of s.level) (is_progressive s.scan) (sequence_of s) (profile_small s.level) sizes.0.0 sizes.0.1 sizes.1.0 sizes.1.1)
 
 pub sequence_id : (s : Settings) → IdStands 1 (sequence_extension_text (sequence_extension_of s))
 unfolding ended sequence_extension_text rates_text bits_of sequence_extension_of
@@ -298,67 +183,19 @@ abbrev FCodesStand : Settings → PictureJob → ℕ → Type 0
 FCodesStand s job kind = (at : ℕ) → (f_codes_at kind at).Stands tt (ended (coding_text s job kind)) (ended (coding_text s job kind))
 
 intra_codes : (s : Settings) (job : PictureJob) → FCodesStand s job 1
-unfolding f_codes_at f_code_at seq look number_from rule ended picture_extension_text flags_text composite_text bits_of number extension_of
-intra_codes s job at =
-    let t = ended (coding_text s job 1) in (
-      Some 0,
-      t,
-      (refl, refl),
-      (
-        tt,
-        t,
-        (Some 15, t, (refl, refl), (refl, refl)),
-        (
-          tt,
-          t,
-          (Some 15, t, (refl, refl), (refl, refl)),
-          (tt, t, (Some 15, t, (refl, refl), (refl, refl)), (Some 15, t, (refl, refl), (refl, refl))),
-        ),
-      ),
-    )
+unfolding number_from ended picture_extension_text flags_text composite_text bits_of number extension_of
+intra_codes s job at = f_codes_stand 1 at (ended (coding_text s job 1)) 15 15 15 15 refl refl refl refl refl refl refl refl refl
 
 forward_codes : (s : Settings) (job : PictureJob) → FCodesStand s job 2
-unfolding f_codes_at f_code_at seq look number_from rule ended picture_extension_text flags_text composite_text bits_of number extension_of
-forward_codes s job at =
-    let t = ended (coding_text s job 2) in (
-      Some 0,
-      t,
-      (refl, refl),
-      (
-        tt,
-        t,
-        (Some 2, t, (refl, refl), (refl, refl)),
-        (
-          tt,
-          t,
-          (Some 2, t, (refl, refl), (refl, refl)),
-          (tt, t, (Some 15, t, (refl, refl), (refl, refl)), (Some 15, t, (refl, refl), (refl, refl))),
-        ),
-      ),
-    )
+unfolding number_from ended picture_extension_text flags_text composite_text bits_of number extension_of
+forward_codes s job at = f_codes_stand 2 at (ended (coding_text s job 2)) 2 2 15 15 refl refl refl refl refl refl refl refl refl
 
 both_codes : (s : Settings) (job : PictureJob) → FCodesStand s job 3
-unfolding f_codes_at f_code_at seq look number_from rule ended picture_extension_text flags_text composite_text bits_of number extension_of
-both_codes s job at =
-    let t = ended (coding_text s job 3) in (
-      Some 0,
-      t,
-      (refl, refl),
-      (
-        tt,
-        t,
-        (Some 2, t, (refl, refl), (refl, refl)),
-        (
-          tt,
-          t,
-          (Some 2, t, (refl, refl), (refl, refl)),
-          (tt, t, (Some 2, t, (refl, refl), (refl, refl)), (Some 2, t, (refl, refl), (refl, refl))),
-        ),
-      ),
-    )
+unfolding number_from ended picture_extension_text flags_text composite_text bits_of number extension_of
+both_codes s job at = f_codes_stand 3 at (ended (coding_text s job 3)) 2 2 2 2 refl refl refl refl refl refl refl refl refl
 
-f_codes_stand : (s : Settings) (job : PictureJob) → (1 ≤ job.kind) × (job.kind ≤ 3) → FCodesStand s job job.kind
-f_codes_stand s job kind = by_kind (FCodesStand s job) (intra_codes s job) (forward_codes s job) (both_codes s job) job.kind kind
+codes_stand : (s : Settings) (job : PictureJob) → (1 ≤ job.kind) × (job.kind ≤ 3) → FCodesStand s job job.kind
+codes_stand s job kind = by_kind (FCodesStand s job) (intra_codes s job) (forward_codes s job) (both_codes s job) job.kind kind
 
 structure_may : (scan : Scan) (n : ℕ) → HasStructure scan n → is_structure (is_progressive scan) n ≡ true
 unfolding is_progressive
@@ -385,37 +222,13 @@ coding_fits s job h = record {
   composite = tt;
 }
 
-coding_looks : (s : Settings) (job : PictureJob) (delay : ℕ) → IsJob job → HasStructure s.scan job.structure
-    → (picture_extension_in (is_progressive s.scan) (picture_of job delay)).Stands (extension_of s job) (ended (picture_extension_text (extension_of s job))) (behind (picture_extension_text (extension_of s job)))
-unfolding picture_extension_in seq here look number_from rule renamed ended picture_extension_text flags_text composite_text bits_of number extension_of picture_of
-coding_looks s job delay h has =
-    let x = extension_of s job in
-    let t = ended (picture_extension_text x) in (
-      length t,
-      t,
-      (refl, refl),
-      (
-        tt,
-        t,
-        f_codes_stand s job h.kind (length t),
-        (
-          Some (number (bits_of 2 job.structure)),
-          t,
-          (refl, refl),
-          (
-            tt,
-            t,
-            (ap (is_structure (is_progressive s.scan)) (structure_told job.structure h.structure) ∙ structure_may s.scan job.structure has, refl),
-            (picture_extension_spells x (coding_fits s job h)).stands (behind (picture_extension_text x)),
-          ),
-        ),
-      ),
-    )
-
 pub coding_stands : (s : Settings) (job : PictureJob) (delay : ℕ) → IsJob job → HasStructure s.scan job.structure
     → (whole_header (picture_extension_in (is_progressive s.scan) (picture_of job delay))).Stands (extension_of s job) (ended (picture_extension_text (extension_of s job))) []
+unfolding number_from ended picture_extension_text flags_text composite_text bits_of number extension_of picture_of
 coding_stands s job delay h has =
-    whole_stands (picture_extension_in (is_progressive s.scan) (picture_of job delay)) (picture_extension_text (extension_of s job)) (extension_of s job) (coding_looks s job delay h has)
+    coding_shows (is_progressive s.scan) (picture_of job delay) (extension_of s job) (number (bits_of 2 job.structure)) (coding_fits s job h)
+    (codes_stand s job h.kind (length (ended (picture_extension_text (extension_of s job))))) refl
+    (ap (is_structure (is_progressive s.scan)) (structure_told job.structure h.structure) ∙ structure_may s.scan job.structure has)
 
 pub picture_id : (s : Settings) (job : PictureJob) → IdStands 8 (picture_extension_text (extension_of s job))
 unfolding ended picture_extension_text flags_text composite_text bits_of extension_of

@@ -22,12 +22,7 @@ use Rattle.m2v_slice.specs.m2v_choose.Candidates.{held_intra, held_levels, hold,
 use Rattle.m2v_slice.specs.m2v_choose.Choice.{score, fits, choice_of}
 use Rattle.m2v_slice.specs.m2v_choose.Trials.{is_empty}
 use Rattle.m2v_slice.proofs.m2v_choose.Chosen.{either}
-
--- ---- what holds of all
-
-all_of : {X : Type 0} (P : X → Type 0) → ((x : X) → P x) → (xs : List X) → All P xs
-all_of P h [] = All-nil P
-all_of P h (x ∷ xs) = All-cons P x xs (h x) (all_of P h xs)
+use Rattle.m2v_slice.proofs.Choices.{all_of}
 
 -- ---- patterns
 

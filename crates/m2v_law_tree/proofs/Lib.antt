@@ -12,10 +12,8 @@ pub mod CalmHeaders
 pub mod Follows
 pub mod Groups
 pub mod Headers
-pub mod Ledgers
 pub mod PictureChains
 pub mod Pictures
-pub mod Places
 pub mod SliceUnits
 pub mod States
 pub mod Streams

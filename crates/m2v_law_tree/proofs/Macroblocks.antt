@@ -1,25 +1,21 @@
 -- A macroblock that is written is read again, with those that are skipped before it.
-use Rattle.std.proofs.Common.{◌≡◌, ℕ, suc, ◌+◌, ◌<◌, ◌≤◌, Bool, true, false, All, ◌⊎◌, inl, inr, List, refl, sym, ap, ◌∙◌, subst, arith}
+use Rattle.std.proofs.Common.{◌≡◌, ℕ, suc, ◌+◌, ◌<◌, ◌≤◌, Bool, true, false, ◌⊎◌, inl, inr, List, refl, sym, ap, ◌∙◌, subst, arith}
 use Rattle.std.proofs.lemmas.Bool.{cases_lt}
-use Rattle.std.proofs.lemmas.List.Elements.{All-replicate}
 use Rattle.m2v_bits.specs.Syntax.{Spells}
-use Rattle.m2v_quant.specs.Matrices.{default_matrix}
-use Rattle.m2v_quant.proofs.Tables.{IsWeight, same_intra, intra_weights}
 use Rattle.m2v_plane.specs.Samples.{Samples}
 use Rattle.m2v_pred.specs.Inside.{is_inside}
 use Rattle.m2v_macro.specs.declared.values.SliceState.{SliceState}
-use Rattle.m2v_macro.specs.declared.values.PictureContext.{PictureContext}
-use Rattle.m2v_macroblock.specs.Conditions.{IsPicture, AreDc}
+use Rattle.m2v_macroblock.specs.Conditions.{AreDc}
 use Rattle.m2v_macroblock.specs.Modes.{skipped_mode, mode_of}
 use Rattle.m2v_macroblock.specs.Texts.{macroblock_text}
 use Rattle.m2v_slice.specs.m2v_choose.Decisions.{Decision, Candidate, place_of}
 use Rattle.m2v_slice.specs.m2v_choose.Choice.{choice_of}
-use Rattle.m2v_slice.specs.m2v_choose.Own.{IsOwn}
 use Rattle.m2v_slice.specs.m2v_choose.Laws.{StaysInside}
-use Rattle.m2v_slice.proofs.m2v_choose.OwnReady.{own_context, own_ready}
+use Rattle.m2v_slice.proofs.m2v_choose.OwnReady.{own_ready}
 use Rattle.m2v_slice.specs.Slices.{SliceTask, Begun, decision, begun}
 use Rattle.m2v_slice.specs.Laws.{IsSlice, Keeps}
 use Rattle.m2v_slice.proofs.Choices.{choice_there}
+use Rattle.m2v_slice.proofs.Columns.{inside_skipped}
 use Rattle.m2v_slice.proofs.Keeps.{increment_is}
 use Rattle.m2v_slice.proofs.Fits.{chosen}
 use Rattle.m2v_model.specs.Slices.{macroblock_at}
@@ -29,23 +25,7 @@ use Rattle.m2v_law_tree.specs.Slices.{AreDecoded, setup_of}
 use Rattle.m2v_law_tree.proofs.Levels.{choice_levels}
 use Rattle.m2v_law_tree.proofs.Decoded.{decoded_by, mode_may, skipped_may}
 use Rattle.m2v_law_tree.proofs.Insides.{StandsAt, spot, inside_all, decoded_all}
-
--- ---- the picture
-
-weights : All IsWeight (default_matrix true)
-unfolding default_matrix
-weights = subst (All IsWeight) same_intra intra_weights
-
-flat_weights : All IsWeight (default_matrix false)
-unfolding default_matrix
-flat_weights = All-replicate IsWeight 64 16 (omega arith, omega arith)
-
-own_picture : (c : PictureContext) → IsOwn c → IsPicture c
-own_picture c own = record {
-  context = own_context c own;
-  intra = subst (All IsWeight) (sym own.intra) weights;
-  non_intra = subst (All IsWeight) (sym own.non_intra) flat_weights;
-}
+use Rattle.m2v_slice.proofs.m2v_choose.Tried.{own_picture}
 
 -- ---- skipped macroblocks
 
@@ -55,9 +35,6 @@ pub record SkipsInside (t : SliceTask) (s : Begun) (n skipped : ℕ) : Type 0 wh
 
 pub none_inside : (t : SliceTask) (s : Begun) (n : ℕ) → SkipsInside t s n 0
 none_inside t s n = record { inside = λ k le lt. absurd (omega arith) }
-
-skip_inside : (d : Decision) (x : Candidate) → x.skip ≡ true → StaysInside d x → is_inside (skipped_mode d.context d.state) (place_of d) d.dims ≡ true
-skip_inside d x e h = rw e at h
 
 write_inside : (d : Decision) (x : Candidate) → x.skip ≡ false → StaysInside d x → is_inside (mode_of d.context x.macroblock.syntax) (place_of d) d.dims ≡ true
 write_inside d x e h = rw e at h
@@ -71,7 +48,7 @@ more_inside t s z n skipped before same e stays = record {
 }
   where
     here : is_inside (skipped_mode t.context s.state) (spot t.context t.row n) t.source.dims ≡ true
-    here = skip_inside (decision t s n) (choice_of (decision t s n)) e stays
+    here = inside_skipped (decision t s n) (choice_of (decision t s n)) e stays
 
     at : (k : ℕ) → suc n ≤ k + suc skipped → k < suc n → is_inside (skipped_mode t.context s.state) (spot t.context t.row k) t.source.dims ≡ true
     at k le lt = elim (cases_lt k n) [

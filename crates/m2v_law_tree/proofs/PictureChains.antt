@@ -1,8 +1,8 @@
 -- A picture with its headers and slices: its parts are read from its units, and its text has these units.
-use Rattle.std.proofs.Common.{◌≡◌, ℕ, zero, suc, ◌+◌, ◌-◌, ◌*◌, ◌/◌, ◌%◌, ◌<◌, ◌≤◌, Bool, true, false, cond, not, List, [], ◌∷◌, ◌++◌, length, map, replicate, Option, Some, None, inl, inr, refl, sym, ap, subst, ◌∙◌, arith, append_assoc}
-use Rattle.std.specs.Prelude.{nat_eq, ◌&&◌, slice_index}
+use Rattle.std.proofs.Common.{◌≡◌, ℕ, zero, suc, ◌+◌, ◌-◌, ◌*◌, ◌/◌, ◌<◌, ◌≤◌, Bool, true, false, cond, not, List, [], ◌∷◌, ◌++◌, length, map, replicate, Option, Some, None, inl, inr, refl, sym, ap, subst, ◌∙◌, arith, append_assoc}
+use Rattle.std.specs.Prelude.{nat_eq}
 use Rattle.std.specs.List.{range_with_len, flat_map}
-use Rattle.std.proofs.lemmas.Bool.{cond_both, and_parts}
+use Rattle.std.proofs.lemmas.Bool.{and_parts}
 use Rattle.std.proofs.lemmas.List.{append-nil}
 use Rattle.std.proofs.lemmas.List.Folds.{flat_map-map}
 use Rattle.m2v_bits.specs.Bits.{unit}
@@ -15,11 +15,9 @@ use Rattle.m2v_set.specs.Bounds.{InSize, InChoice}
 use Rattle.m2v_set.specs.Numbers.{rows_by}
 use Rattle.m2v_set.specs.Rules.{is_progressive, line_step}
 use Rattle.m2v_set.proofs.Facts.{bounds}
-use Rattle.m2v_vbv.specs.Account.{stuffing_of}
-use Rattle.m2v_vbv.specs.Account as account
 use Rattle.m2v_order.specs.declared.jobs.PictureJob.{PictureJob}
 use Rattle.m2v_rate.specs.declared.values.Plan.{Plan}
-use Rattle.m2v_rate.specs.Plans.{Entries, account_at}
+use Rattle.m2v_rate.specs.Plans.{Entries}
 use Rattle.m2v_slice.specs.Slices.{CodedSlice, slice_of}
 use Rattle.m2v_slice.specs.Headers.{sequence_of, sequence_extension_of, group_from, picture_of, extension_of, begins_group, group_units, picture_units, header_units}
 use Rattle.m2v_slice.specs.Books.{Book, CodedPicture, rows, job_at, picture_at, coded, task_of}
@@ -27,6 +25,7 @@ use Rattle.m2v_slice.specs.Conditions.{IsBook}
 use Rattle.m2v_slice.proofs.Coded.{picture_is, slices_are, next_plan}
 use Rattle.m2v_slice.proofs.Groups.{passes_of, picture_is_one, rows_few}
 use Rattle.m2v_enc_stream.specs.Streams.{zeros_of, delay_at, picture_text as text_of}
+use Rattle.m2v_enc_stream.proofs.Pictures.{zeros_whole}
 use Rattle.m2v_model.specs.declared.state.FirstField.{FirstField}
 use Rattle.m2v_model.specs.declared.state.Open.{Open}
 use Rattle.m2v_model.specs.declared.state.State.{State}
@@ -264,14 +263,6 @@ slices_hold law b h p zeros lt =
     ∙ ap (λ (t : List Bool). t ++ end) (texts_more (slice_unit_text b p) k)
     ∙ append_assoc front (slice_unit_text b p k) end in
     subst (λ (t : List Bool). Holds t (slices_bytes b p zeros)) (sym whole) both
-
-eights : (a : account.State) (bits units : ℕ) → stuffing_of a bits units % 8 ≡ 0
-unfolding stuffing_of
-eights a bits units = omega arith
-
-zeros_whole : (l : Entries) (ends : Bool) (p : ℕ) → zeros_of l ends p % 8 ≡ 0
-zeros_whole l ends p = cond_both (ends && nat_eq (p + 1) (length l.kinds)) _ _ (λ (n : ℕ). n % 8 ≡ 0) (λ e. refl)
-    (λ e. eights (account_at l p) (slice_index l.sizes p) (slice_index l.intervals p))
 
 -- the text of a picture that is coded
 pub picture_text_holds : (law : Spelled) (b : Book) → IsBook b → (l : Entries) (ends : Bool) (n p at : ℕ) → p < length b.pictures → p < n

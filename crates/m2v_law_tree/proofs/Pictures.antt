@@ -1,29 +1,30 @@
 -- The headers and slices of a picture, one behind another.
-use Rattle.std.proofs.Common.{◌≡◌, ℕ, ◌<◌, Bool, true, List, [], ◌∷◌, length, Option, Some, None, inl, inr, refl, sym, subst, arith}
-use Rattle.m2v_bits.specs.Syntax.{seq, done, here, rule, choose}
+use Rattle.std.proofs.Common.{◌≡◌, ℕ, ◌<◌, Bool, true, List, [], ◌∷◌, length, Option, Some, None, inl, inr, refl, sym, subst}
+use Rattle.m2v_bits.specs.Syntax.{seq, done, rule, choose}
 use Rattle.m2v_head.specs.Texts.{sequence_text, sequence_extension_text, group_text, picture_text, picture_extension_text}
 use Rattle.m2v_set.specs.declared.settings.Settings.{Settings}
 use Rattle.m2v_set.specs.Bounds.{InSize, InChoice}
-use Rattle.m2v_set.specs.Rules.{is_progressive}
 use Rattle.m2v_order.specs.declared.jobs.PictureJob.{PictureJob}
-use Rattle.m2v_slice.specs.Headers.{sequence_of, sequence_extension_of, group_from, picture_of, extension_of, IsJob}
+use Rattle.m2v_slice.specs.Headers.{sequence_of, sequence_extension_of, group_from, picture_of, extension_of}
 use Rattle.m2v_slice.specs.Books.{Book, job_at}
 use Rattle.m2v_slice.specs.Conditions.{IsBook}
-use Rattle.m2v_slice.proofs.Groups.{structure_low, picture_is_one}
+use Rattle.m2v_slice.proofs.Groups.{picture_is_one}
+use Rattle.m2v_slice.proofs.Slices.{is_job}
 use Rattle.m2v_model.specs.declared.state.FirstField.{FirstField}
 use Rattle.m2v_model.specs.declared.state.Open.{Open}
 use Rattle.m2v_model.specs.declared.state.State as known
-use Rattle.m2v_model.specs.Units.{unit_at, unit_bits}
-use Rattle.m2v_model.specs.Headers.{whole_header, sequence_in, sequence_extension_in, group_in, picture_in, picture_extension_in}
+use Rattle.m2v_model.specs.Headers.{whole_header, group_in, picture_extension_in}
 use Rattle.m2v_model.specs.States.{is_complete, none_waits, is_same_sequence}
-use Rattle.m2v_model.specs.Streams.{sequence, group, picture, close, no_second_field_due, extension_behind, sequence_unit, group_unit, picture_unit, onward, later_unit, known_unit}
+use Rattle.m2v_model.specs.Streams.{sequence, group, picture, close, no_second_field_due, group_unit, onward, later_unit, known_unit}
 use Rattle.m2v_law_chain.specs.Texts.{ended, unit_bytes}
 use Rattle.m2v_law_chain.specs.Chains.{Reads}
 use Rattle.m2v_law_tree.specs.Trees.{sequence_by}
 use Rattle.m2v_law_tree.specs.States.{state_with}
 use Rattle.m2v_law_tree.proofs.Turns.{IsCounted}
-use Rattle.m2v_law_tree.proofs.States.{state_before, due_at, anchored_at}
-use Rattle.m2v_law_tree.proofs.Headers.{inside_stands, extension_in_stands, sequence_stands, extension_stands, sequence_id, group_stands, picture_stands, coding_stands, picture_id}
+use Rattle.m2v_law_tree.proofs.States.{progressive_is, state_before, due_at, anchored_at}
+use Rattle.m2v_law_chain.proofs.Headers.{inside_stands}
+use Rattle.m2v_law_chain.proofs.HeaderUnits as reading
+use Rattle.m2v_law_tree.proofs.Headers.{sequence_stands, extension_stands, sequence_id, group_stands, picture_stands, coding_stands, picture_id}
 
 -- ---- headers
 
@@ -44,52 +45,9 @@ coding_bytes s job = unit_bytes 0xB5 (picture_extension_text (extension_of s job
 
 pub sequence_reads : (s : Settings) (st : known.State) → InSize s → InChoice s → is_complete st.sequence st.picture ≡ true → none_waits st.waiting ≡ true → is_same_sequence st.first (sequence_by s) ≡ true
     → Reads st (sequence (sequence_by s)) (sequence_bytes s) (extension_bytes s ∷ [])
-unfolding known_unit onward sequence_unit close no_second_field_due extension_behind choose rule here unit_at seq done
-sequence_reads s st h c complete paired same = record {
-  stands = λ start us.
-      let later = extension_bytes s ∷ us in
-      let own = inside_stands (whole_header sequence_in) 0xB3 (sequence_text (sequence_of s)) (sequence_of s) later [] (sequence_stands s h c) in
-      let other = extension_in_stands (whole_header (sequence_extension_in (sequence_of s))) 1 (unit_bits later) (sequence_extension_text (sequence_extension_of s)) (sequence_extension_of s) us (omega arith) (sequence_id s) refl (extension_stands s h) in
-      inl (
-        refl,
-        (
-          sequence (sequence_by s),
-          us,
-          (
-            tt,
-            later,
-            (complete, refl),
-            (
-              tt,
-              later,
-              (paired, refl),
-              (
-                sequence_of s,
-                later,
-                own,
-                (
-                  unit_bits later,
-                  later,
-                  (refl, refl),
-                  (
-                    Some (extension_bytes s),
-                    us,
-                    refl,
-                    (
-                      sequence_extension_of s,
-                      us,
-                      inl (refl, other),
-                      (tt, us, (same, refl), (refl, refl)),
-                    ),
-                  ),
-                ),
-              ),
-            ),
-          ),
-          (refl, refl),
-        ),
-      );
-}
+sequence_reads s st h c complete paired same =
+    reading.sequence_reads st (sequence_of s) (sequence_extension_of s) (sequence_text (sequence_of s)) (sequence_extension_text (sequence_extension_of s))
+    (sequence_stands s h c) (extension_stands s h) (sequence_id s) complete paired same
 
 pub group_reads : (s : Settings) (closed : Bool) (anchors display : ℕ) (waits : Option FirstField) → none_waits waits ≡ true
     → Reads (state_with s closed anchors waits None) (group (group_from s display)) (group_bytes s display) []
@@ -129,75 +87,17 @@ group_reads s closed anchors display waits paired = record {
       );
 }
 
-pub job_is : (b : Book) → IsBook b → (p : ℕ) → p < length b.pictures → IsJob (job_at b p)
-job_is b h p lt =
-    let x = picture_is_one b h p lt in
-    record {
-      kind = x.kind;
-      structure = structure_low b.settings.scan (job_at b p).structure x.structure;
-      frame = omega (arith, x.frame, h.group.frames);
-      display = x.display;
-    }
-
-progressive_is : (s : Settings) → (sequence_by s).extension.progressive_sequence ≡ is_progressive s.scan
-unfolding sequence_extension_of
-progressive_is s = refl
-
 coding_here : (b : Book) → IsBook b → (p delay : ℕ) → p < length b.pictures
     → (whole_header (picture_extension_in (sequence_by b.settings).extension.progressive_sequence (picture_of (job_at b p) delay))).Stands (extension_of b.settings (job_at b p)) (ended (picture_extension_text (extension_of b.settings (job_at b p)))) []
 coding_here b h p delay lt =
     subst (λ (x : Bool). (whole_header (picture_extension_in x (picture_of (job_at b p) delay))).Stands (extension_of b.settings (job_at b p)) (ended (picture_extension_text (extension_of b.settings (job_at b p)))) []) (sym (progressive_is b.settings))
-    (coding_stands b.settings (job_at b p) delay (job_is b h p lt) (picture_is_one b h p lt).structure)
+    (coding_stands b.settings (job_at b p) delay (is_job b h p lt) (picture_is_one b h p lt).structure)
 
 pub picture_reads : (b : Book) → IsBook b → (closed : Bool) (before p delay : ℕ) (open_one : Option Open) → IsCounted b before → p < length b.pictures → delay < 65536
     → is_complete (Some (sequence_by b.settings)) open_one ≡ true
     → Reads (state_before b closed before p open_one) (picture (picture_of (job_at b p) delay) (extension_of b.settings (job_at b p))) (picture_bytes (job_at b p) delay) (coding_bytes b.settings (job_at b p) ∷ [])
-unfolding known_unit later_unit onward picture_unit close extension_behind choose rule here unit_at seq done
-picture_reads b h closed before p delay open_one c lt small complete = record {
-  stands = λ start us.
-      let s = b.settings in
-      let job = job_at b p in
-      let later = coding_bytes s job ∷ us in
-      let own = inside_stands (whole_header picture_in) 0x00 (picture_text (picture_of job delay)) (picture_of job delay) later [] (picture_stands job delay (job_is b h p lt) small) in
-      let other = extension_in_stands (whole_header (picture_extension_in (sequence_by s).extension.progressive_sequence (picture_of job delay))) 8 (unit_bits later) (picture_extension_text (extension_of s job)) (extension_of s job) us (omega arith) (picture_id s job) refl (coding_here b h p delay lt) in
-      inr (
-        refl,
-        inl (
-          refl,
-          inl (
-            refl,
-            (
-              picture (picture_of job delay) (extension_of s job),
-              us,
-              (
-                tt,
-                later,
-                (complete, refl),
-                (
-                  picture_of job delay,
-                  later,
-                  own,
-                  (
-                    unit_bits later,
-                    later,
-                    (refl, refl),
-                    (
-                      Some (coding_bytes s job),
-                      us,
-                      refl,
-                      (
-                        extension_of s job,
-                        us,
-                        inl (refl, other),
-                        (tt, us, (due_at b h p delay lt, refl), (tt, us, (anchored_at b h closed before p delay open_one c lt, refl), (refl, refl))),
-                      ),
-                    ),
-                  ),
-                ),
-              ),
-              (refl, refl),
-            ),
-          ),
-        ),
-      );
-}
+picture_reads b h closed before p delay open_one c lt small complete =
+    let s = b.settings in
+    let job = job_at b p in
+    reading.picture_reads (state_before b closed before p open_one) (picture_of job delay) (extension_of s job) (picture_text (picture_of job delay)) (picture_extension_text (extension_of s job))
+    refl (picture_stands job delay (is_job b h p lt) small) (coding_here b h p delay lt) (picture_id s job) complete (due_at b h p delay lt) (anchored_at b h closed before p delay open_one c lt)

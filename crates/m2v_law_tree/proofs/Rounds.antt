@@ -1,5 +1,5 @@
 -- Macroblocks as rounds, one behind another, until the rest is zero.
-use Rattle.std.proofs.Common.{◌≡◌, ℕ, zero, suc, ◌+◌, ◌-◌, ◌/◌, ◌%◌, ◌<◌, Bool, true, false, not, List, [], ◌∷◌, ◌++◌, length, replicate, refl, sym, ap, ◌∙◌, subst, arith, append_assoc}
+use Rattle.std.proofs.Common.{◌≡◌, ℕ, ◌+◌, ◌-◌, ◌/◌, ◌%◌, ◌<◌, Bool, true, false, not, List, [], ◌∷◌, ◌++◌, length, refl, sym, ap, ◌∙◌, subst, arith, append_assoc}
 use Rattle.std.proofs.lemmas.List.{length-append}
 use Rattle.std.proofs.Math.Nat.{mod-lt}
 use Rattle.m2v_bits.specs.Bits.{bits_of, all_zero}
@@ -32,11 +32,6 @@ unfolding all_zero
 back_one [] u e = e
 back_one (true ∷ t) u e = refl
 back_one (false ∷ t) u e = back_one t u e
-
-pub zeros_are : (n : ℕ) → all_zero (replicate n false) ≡ true
-unfolding all_zero
-zeros_are zero = refl
-zeros_are (suc n) = zeros_are n
 
 -- the 33 codes of an increment
 codes_one : below (λ i. all_zero (increment_code (Step (i + 1)))) 33 ≡ below (λ i. false) 33

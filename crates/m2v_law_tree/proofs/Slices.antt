@@ -5,6 +5,7 @@ use Rattle.std.proofs.lemmas.Int.{ints}
 use Rattle.std.proofs.lemmas.Bool.{lt-ltb, le-ltb}
 use Rattle.std.proofs.lemmas.List.Elements.{filter-append}
 use Rattle.m2v_bits.specs.Syntax.{seq, done, here, rule, renamed, repeated, Rounds, Spells}
+use Rattle.m2v_bits.proofs.Cursor.{zeros_are_zero}
 use Rattle.m2v_head.specs.Texts.{slice_text}
 use Rattle.m2v_head.specs.Fits.{SliceFits}
 use Rattle.m2v_head.proofs.Spellings.{slice_spells}
@@ -28,7 +29,7 @@ use Rattle.m2v_model.specs.Looking.{looking}
 use Rattle.m2v_model.specs.Slices.{Row, with_next, macroblock_at, macroblock_round, macroblocks_at, slice_start, begins_late, unit_place, slice_at, is_large, large_in}
 use Rattle.m2v_law_tree.specs.Slices.{AreDecoded, setup_of, slice_body, slice_read, macroblock_bits}
 use Rattle.m2v_law_tree.proofs.Macroblocks.{SkipsInside, none_inside, more_inside, written_spells}
-use Rattle.m2v_law_tree.proofs.Rounds.{Leads, leads_none, leads_more, leads_last, macroblock_one, zeros_are, behind_increment, increment_first}
+use Rattle.m2v_law_tree.proofs.Rounds.{Leads, leads_none, leads_more, leads_last, macroblock_one, behind_increment, increment_first}
 
 -- ---- one macroblock more
 
@@ -169,7 +170,7 @@ module _ (t : SliceTask) (slice : IsSlice t) (references : List Bool) (decoded :
         let round = macroblock_round (setup_of t references) in
         subst (λ (r : Row). Rounds round (row_at t row 0) r ((begun t row (suc n)).text ++ zeros) zeros) (write_row t row n e)
         (subst (λ (u : List Bool). Rounds round (row_at t row 0) (with_next t.context (row_at t row n) x (length own)) (u ++ zeros) zeros) (write_text t row n e)
-        (leads_last (setup_of t references) (row_at t row 0) (row_at t row n) s.text own x h.leads (spells_here e) (macroblock_one t.context s.state x) zeros (zeros_are z)))
+        (leads_last (setup_of t references) (row_at t row 0) (row_at t row n) s.text own x h.leads (spells_here e) (macroblock_one t.context s.state x) zeros (zeros_are_zero z)))
 
   so_far : (n : ℕ) → n ≤ t.context.columns → SoFar n
   so_far zero le = so_far_none

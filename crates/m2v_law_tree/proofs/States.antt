@@ -22,7 +22,7 @@ use Rattle.m2v_model.specs.declared.state.FirstField.{FirstField}
 use Rattle.m2v_model.specs.declared.state.Open.{Open}
 use Rattle.m2v_model.specs.declared.state.State.{State}
 use Rattle.m2v_model.specs.States as model
-use Rattle.m2v_model.specs.States.{at_first, one_anchor_more, columns_of, rows_of, picture_rows, is_frame, drops, references_for, with_slice, is_complete, none_waits, is_second_field_due, has_anchor, is_same_sequence, slice_setup}
+use Rattle.m2v_model.specs.States.{at_first, one_anchor_more, columns_of, rows_of, picture_rows, drops, references_for, with_slice, is_complete, is_second_field_due, has_anchor, is_same_sequence, slice_setup}
 use Rattle.m2v_model.specs.Slices.{large_in}
 use Rattle.m2v_model.specs.Streams.{sequence, group, picture, slice, after}
 use Rattle.m2v_law_tree.specs.Slices.{slice_read, setup_of, AreDecoded}
@@ -44,7 +44,7 @@ pub height_is : (s : Settings) → model.height_of (sequence_by s) ≡ s.height
 unfolding sequence_of sequence_extension_of
 height_is s = omega arith
 
-progressive_is : (s : Settings) → (sequence_by s).extension.progressive_sequence ≡ is_progressive s.scan
+pub progressive_is : (s : Settings) → (sequence_by s).extension.progressive_sequence ≡ is_progressive s.scan
 unfolding sequence_extension_of
 progressive_is s = refl
 

@@ -5,16 +5,14 @@ use Rattle.std.specs.List.{flat_map}
 use Rattle.std.proofs.lemmas.Bool.{cases_Bool}
 use Rattle.std.proofs.lemmas.List.Sums.{count_by_more_no, count_by_more_yes, sum_by-cons}
 use Rattle.std.proofs.Math.Seq.{take-length}
-use Rattle.m2v_slice.specs.Headers.{begins_group}
 use Rattle.m2v_set.specs.declared.settings.Scan.{Scan}
 use Rattle.m2v_set.specs.declared.settings.Scan.TheVariants.{Progressive, Frames, Fields}
 use Rattle.m2v_order.specs.declared.jobs.PictureJob.{PictureJob}
 use Rattle.m2v_order.specs.Coding.{structures}
-use Rattle.m2v_order.specs.Calls.{IsFromIntra}
 use Rattle.m2v_order.specs.Whole.{fields_of, anchors_without}
 use Rattle.m2v_slice.specs.Books.{Book, no_job, job_at}
 use Rattle.m2v_slice.specs.Conditions.{IsBook}
-use Rattle.m2v_slice.proofs.Groups.{from_intra}
+use Rattle.m2v_slice.proofs.Firsts.{first_kind}
 use Rattle.m2v_model.specs.declared.state.FirstField.{FirstField}
 use Rattle.m2v_model.specs.States.{one_anchor_more}
 use Rattle.m2v_law_tree.specs.States.{waiting_behind, anchors_behind}
@@ -52,7 +50,7 @@ frames_turn (h ∷ more) zero lt = inr (inl (refl, refl))
 frames_turn (h ∷ more) (suc zero) lt = frames_turn more zero (omega (arith, lt))
 frames_turn (h ∷ more) (suc (suc p)) lt = frames_turn more (suc p) (omega (arith, lt))
 
-same_scan : (heads : List PictureJob) → flat_map (fields_of Progressive) heads ≡ flat_map (fields_of Frames) heads
+pub same_scan : (heads : List PictureJob) → flat_map (fields_of Progressive) heads ≡ flat_map (fields_of Frames) heads
 unfolding structures
 same_scan heads = refl
 
@@ -156,13 +154,6 @@ split_at : {A : Type 0} (xs : List A) (i : ℕ) (d : A) → i < length xs → xs
 split_at [] i d lt = absurd (omega (arith, lt))
 split_at (x ∷ xs) zero d lt = refl
 split_at (x ∷ xs) (suc i) d lt = ap (λ (ys : List _). x ∷ ys) (split_at xs i d (omega (arith, lt)))
-
-head_kind : (jobs : List PictureJob) → IsFromIntra jobs → (get_or jobs 0 no_job).kind ≡ 1
-head_kind [] is = absurd is
-head_kind (job ∷ more) is = is.0
-
-pub first_kind : (b : Book) → IsBook b → (job_at b 0).kind ≡ 1
-first_kind b h = head_kind b.pictures (from_intra b h)
 
 count_more : (x : PictureJob) (xs : List PictureJob) → anchors_without 1 (x ∷ xs) ≡ cond (counts x) 1 0 + anchors_without 1 xs
 count_more x xs = sum_by-cons (λ (j : PictureJob). cond (counts j) 1 0) x xs
@@ -274,24 +265,3 @@ anchors_end b h before c =
     let all : anchors_without 1 (take (length b.pictures) b.pictures) ≡ anchors_without 1 b.pictures = ap (anchors_without 1) (take-length b.pictures) in
     let are = anchors_are before b (length b.pictures) c.most (omega arith) in
     (omega (arith, one, all, are), omega (arith, are))
-
--- ---- the first picture
-
-head_structure : (scan : Scan) (heads : List PictureJob) → 0 < length heads → nat_eq (get_or (flat_map (fields_of scan) heads) 0 no_job).structure 2 ≡ false
-unfolding structures
-head_structure scan [] some = absurd (omega (arith, some))
-head_structure Progressive (h ∷ more) some = refl
-head_structure Frames (h ∷ more) some = refl
-head_structure Fields (h ∷ more) some = refl
-
-begins_by : (job : PictureJob) → job.kind ≡ 1 → nat_eq job.structure 2 ≡ false → begins_group job ≡ true
-unfolding begins_group
-begins_by job kind structure = ap (λ (n : ℕ). nat_eq n 1 && not (nat_eq job.structure 2)) kind ∙ ap not structure
-
--- a group begins with the headers of a group
-pub first_begins : (b : Book) → IsBook b → begins_group (job_at b 0) ≡ true
-first_begins b h =
-    let some = h.group.frame in
-    begins_by (job_at b 0) (first_kind b h)
-    (ap (λ (xs : List PictureJob). nat_eq (get_or xs 0 no_job).structure 2) h.group.fields
-    ∙ head_structure b.settings.scan h.group.heads (omega (arith, h.group.each, some)))

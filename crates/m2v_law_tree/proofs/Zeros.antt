@@ -1,18 +1,19 @@
 -- Units with zero bytes behind them, as they stand behind the last slice of a picture: texts are cut into them too.
 use Rattle.std.proofs.Common.{◌≡◌, ℕ, zero, suc, ◌+◌, ◌-◌, ◌*◌, ◌%◌, ◌<◌, ◌≤◌, Bool, true, false, inl, inr, List, [], ◌∷◌, ◌++◌, length, drop, replicate, refl, sym, ap, subst, ◌∙◌, arith, append_assoc}
-use Rattle.std.specs.Prelude.{nat_eq, ◌&&◌, All}
+use Rattle.std.specs.Prelude.{nat_eq, All}
 use Rattle.std.proofs.lemmas.Bool.{cases_lt}
 use Rattle.std.proofs.lemmas.List.{length-append, append-nil, replicate-append-replicate, length-replicate}
 use Rattle.std.proofs.lemmas.List.Concat.{flat_map-append}
 use Rattle.std.proofs.lemmas.List.Elements.{All-head, All-tail, All-nil, All-cons, All-append}
 use Rattle.std.proofs.Math.Seq.{drop-append-add}
+use Rattle.std.proofs.Math.Bool.{and-false}
 use Rattle.m2v_bits.specs.Bits.{bits_of, number, bits, packed, unit, to_edge}
 use Rattle.m2v_bits.proofs.Units.{unit_edge, packed-append}
 use Rattle.m2v_model.specs.Faults.{InUnit}
 use Rattle.m2v_model.specs.Units.{begins_code, joined, Clear, AreUnits, Cuts, Units, inside}
 use Rattle.m2v_law_chain.specs.Texts.{ended, unit_bytes, IsCalm, IsTidy, Packs}
 use Rattle.m2v_law_chain.proofs.Calm.{calm_end}
-use Rattle.m2v_law_chain.proofs.Units.{ended_bits, are_units, packs_unit}
+use Rattle.m2v_law_chain.proofs.Units.{ended_bits, are_units, joined_append, packs_unit}
 
 -- a unit, and zero bytes behind it
 abbrev pub padded : List ℕ → ℕ → List ℕ
@@ -37,7 +38,7 @@ zero_byte : packed (replicate 8 false) ≡ 0 ∷ []
 unfolding packed number
 zero_byte = refl
 
-packed_zeros : (k : ℕ) → packed (replicate (8 * k) false) ≡ replicate k 0
+pub packed_zeros : (k : ℕ) → packed (replicate (8 * k) false) ≡ replicate k 0
 unfolding packed
 packed_zeros zero = refl
 packed_zeros (suc k) =
@@ -93,10 +94,6 @@ all_padded (u ∷ us) h = All-cons IsPadded u us (tidy_padded u (All-head IsTidy
 pub holds_packs : (text : List Bool) (us : Units) → Packs text us → Holds text us
 holds_packs text us h = record { edge = h.edge; bytes = h.bytes; padded = all_padded us h.tidy }
 
-joined_append : (us vs : Units) → joined (us ++ vs) ≡ joined us ++ joined vs
-joined_append [] vs = refl
-joined_append (u ∷ us) vs = ap (λ (x : List ℕ). u ++ x) (joined_append us vs) ∙ sym (append_assoc u (joined us) (joined vs))
-
 pub holds_append : (a b : List Bool) (us vs : Units) → Holds a us → Holds b vs → Holds (a ++ b) (us ++ vs)
 holds_append a b us vs p q = record {
   edge = omega (arith, length-append a b, p.edge, q.edge);
@@ -121,15 +118,11 @@ holds_zeros value zeros t below calm =
 
 -- ---- no start code inside
 
-and_false : (a : Bool) → (a && false) ≡ false
-and_false true = refl
-and_false false = refl
-
 -- at a byte of a unit, behind which two zero bytes stand, what follows these doesn't count
 here_same : (a : ℕ) (u w x : List ℕ) → begins_code (a ∷ (u ++ (0 ∷ 0 ∷ w))) ≡ false → begins_code (a ∷ (u ++ (0 ∷ 0 ∷ x))) ≡ false
 here_same a [] w [] h = refl
-here_same a [] w (y ∷ x) h = and_false (nat_eq a 0)
-here_same a (b ∷ []) w x h = rw (and_false (nat_eq b 0)) (and_false (nat_eq a 0))
+here_same a [] w (y ∷ x) h = and-false (nat_eq a 0)
+here_same a (b ∷ []) w x h = rw (and-false (nat_eq b 0)) (and-false (nat_eq a 0))
 here_same a (b ∷ c ∷ []) w x h = h
 here_same a (b ∷ c ∷ d ∷ u) w x h = h
 

@@ -9,7 +9,8 @@ use Rattle.m2v_rate.specs.Plans.{Entries, plan_of}
 use Rattle.m2v_slice.specs.Slices.{SliceTask}
 use Rattle.m2v_slice.specs.Headers.{sequence_of, sequence_extension_of, group_from, picture_of, extension_of, begins_group}
 use Rattle.m2v_slice.specs.Books.{Book, CodedPicture, rows, job_at, coded, ledger_for, ledger_behind, task_of}
-use Rattle.m2v_enc_stream.specs.Streams.{Progress, at_start, book_of, delay_at, pictures_text, group_coded, groups_from, waiting}
+use Rattle.m2v_enc_stream.specs.Streams.{Progress, at_start, book_of, delay_at, pictures_text, group_coded}
+pub use Rattle.m2v_enc_stream.specs.Streams.{groups_of}
 use Rattle.m2v_model.specs.declared.state.Sequence.{Sequence}
 use Rattle.m2v_model.specs.declared.state.State.{State}
 use Rattle.m2v_model.specs.States.{at_first}
@@ -62,10 +63,6 @@ groups_parts s x [] = []
 groups_parts s x (g ∷ []) = group_parts s x g true
 groups_parts s x (g ∷ h ∷ more) =
     group_parts s x g false ++ groups_parts s (group_coded s x g false) (h ∷ more)
-
--- the groups of raw frames
-abbrev pub groups_of : Settings → List (List ℕ) → List (Group Samples)
-groups_of s frames = groups_from (length frames) (waiting s frames true)
 
 -- all parts of the stream of raw frames
 abbrev pub stream_parts : Settings → List (List ℕ) → List Part

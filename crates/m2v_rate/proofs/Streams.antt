@@ -14,7 +14,7 @@ use Rattle.m2v_vbv.specs.Account.{State, after, stuffing_of, arriving, account_o
 use Rattle.m2v_vbv.proofs.Sums.{Exact, account_push, exact_push, exact_none, opening_is}
 use Rattle.m2v_rate.specs.declared.values.Plan.{Plan}
 use Rattle.m2v_rate.specs.Plans.{Entries, income, account_at, first_open, Low, plan_of, target_of, fresh}
-use Rattle.m2v_rate.specs.Steady.{IsBegun, IsSteady}
+use Rattle.m2v_rate.specs.Steady.{IsBegun, IsSteady, IsLedger}
 use Rattle.m2v_rate.specs.Safety.{Picture, closed, IsCoded, AreCoded, removal_at, ending_at, group_removals, removals, after_groups, sent, Keeps}
 use Rattle.m2v_rate.proofs.Lows.{rate_at, buffer_at, gain_high, held_least, held_most, held_tight, left_whole, low_least, low_below, cap_held, size_whole}
 use Rattle.m2v_rate.proofs.Keeps.{cap_low, cap_is, cap_least}
@@ -171,6 +171,23 @@ fresh_begun s passes =
       timed = refl;
       times = λ k d lt. absurd (omega arith);
     }
+
+-- the ledger before the first group
+pub fresh_ledger : (s : Settings) → Passes s → IsLedger (fresh s)
+fresh_ledger s passes = record {
+  few = omega arith;
+  removals = omega arith;
+  steady = record {
+    begun = fresh_begun s passes;
+    planned = omega arith;
+    targeted = refl;
+    quantised = refl;
+    known = omega arith;
+    ahead = omega arith;
+    sizes = λ j lt. absurd (omega (arith, lt));
+    caps = λ j lt. absurd (omega (arith, lt));
+  };
+}
 
 removed_split : (before : List Removal) (r : Removal) (later : List Removal) → removed (before ++ r ∷ later) ≡ removed before + (r.bits + removed later)
 removed_split before r later =

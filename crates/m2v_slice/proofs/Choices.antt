@@ -15,7 +15,7 @@ pub record StandsThere (d : Decision) (x : Candidate) : Type 0 where
   pub skip : x.skip ≡ true → may_skip d ≡ true
   pub increment : x.skip ≡ false → x.macroblock.syntax.increment ≡ increment_of d
 
-all_of : {X : Type 0} (P : X → Type 0) → ((x : X) → P x) → (xs : List X) → All P xs
+pub all_of : {X : Type 0} (P : X → Type 0) → ((x : X) → P x) → (xs : List X) → All P xs
 all_of P h [] = All-nil P
 all_of P h (x ∷ xs) = All-cons P x xs (h x) (all_of P h xs)
 

@@ -95,7 +95,7 @@ long_so t slice row n bits small len = let h = keeps_some t slice row n (omega (
 pub short_so : (t : SliceTask) → IsSlice t → (row : Samples) (n : ℕ) → n ≤ t.context.columns → length (begun t row n).text ≤ 4608 * n
 short_so t slice row n le = (keeps_some t slice row n le).1.most
 
-inside_skipped : (d : Decision) (x : Candidate) → x.skip ≡ true → StaysInside d x → is_inside (skipped_mode d.context d.state) (place_of d) d.dims ≡ true
+pub inside_skipped : (d : Decision) (x : Candidate) → x.skip ≡ true → StaysInside d x → is_inside (skipped_mode d.context d.state) (place_of d) d.dims ≡ true
 inside_skipped d x e h = rw e at h
 
 -- each macroblock can be coded

@@ -11,13 +11,13 @@ use Rattle.m2v_plane.specs.Samples.{Samples}
 use Rattle.m2v_set.specs.declared.settings.Scan.{Scan}
 use Rattle.m2v_set.specs.declared.settings.Scan.TheVariants.{Progressive, Frames, Fields}
 use Rattle.m2v_order.specs.declared.jobs.PictureJob.{PictureJob}
-use Rattle.m2v_order.specs.Calls.{IsFromIntra}
 use Rattle.m2v_order.specs.Whole.{fields_of, anchors_without, FollowsTwo}
 use Rattle.m2v_order.proofs.Wholes.{pair_at}
 use Rattle.m2v_slice.specs.Books.{Book, no_job, job_at, has_lines, anchors_before, nth, reference_picture}
 use Rattle.m2v_slice.specs.Conditions.{IsBook}
 use Rattle.m2v_slice.proofs.References.{is_anchor_with, anchor_skipped, anchor_met, nth_first, nth_next}
-use Rattle.m2v_slice.proofs.Groups.{HasStructure, picture_is_one, from_intra}
+use Rattle.m2v_slice.proofs.Groups.{HasStructure, picture_is_one}
+use Rattle.m2v_slice.proofs.Firsts.{first_kind}
 
 -- ---- long enough lists
 
@@ -118,14 +118,6 @@ two_anchors b h e p lines lt kind =
     let two = h.group.following none (take p b.pictures) (job_at b p) (drop (suc p) b.pictures) (picture_split b p lt) kind in
     omega (arith, two_without (take p b.pictures) lines two, anchors_many b lines p (omega arith))
 
--- the first picture of a group is I
-head_intra : (pictures : List PictureJob) → IsFromIntra pictures → (get_or pictures 0 no_job).kind ≡ 1
-head_intra [] h = absurd h
-head_intra (x ∷ xs) h = h.0
-
-first_intra : (b : Book) → IsBook b → (job_at b 0).kind ≡ 1
-first_intra b h = head_intra b.pictures (from_intra b h)
-
 anchor_by : (kind structure : ℕ) (lines : Lines) → kind ≡ 1 → has_lines structure lines ≡ true → (not (nat_eq kind 3) && has_lines structure lines) ≡ true
 anchor_by kind structure lines e f = rw (e, f) refl
 
@@ -189,14 +181,14 @@ begins_fields b Bottom (suc (suc p)) kind f other = record {
 begins : (b : Book) → IsBook b → (lines : Lines) (p : ℕ) → (scan : Scan) → b.settings.scan ≡ scan → ((job_at b p).kind ≡ 1 → ⊥) → Begins b lines p
 begins b h lines p Progressive e other =
     let first = picture_is_one b h 0 (omega (arith, h.group.picture)) in
-    begins_whole b lines p (first_intra b h) (subst (λ (s : Scan). HasStructure s (job_at b 0).structure) e first.structure) other
+    begins_whole b lines p (first_kind b h) (subst (λ (s : Scan). HasStructure s (job_at b 0).structure) e first.structure) other
 begins b h lines p Frames e other =
     let first = picture_is_one b h 0 (omega (arith, h.group.picture)) in
-    begins_whole b lines p (first_intra b h) (subst (λ (s : Scan). HasStructure s (job_at b 0).structure) e first.structure) other
+    begins_whole b lines p (first_kind b h) (subst (λ (s : Scan). HasStructure s (job_at b 0).structure) e first.structure) other
 begins b h lines p Fields e other =
     let some : 0 < length h.group.heads = omega (arith, h.group.each, h.group.frame) in
-    let f = fields_at h.group.heads b.pictures (h.group.fields ∙ ap (λ (s : Scan). flat_map (fields_of s) h.group.heads) e) some (first_intra b h) in
-    begins_fields b lines p (first_intra b h) (record { top = f.0; bottom = f.1; kind = f.2 }) other
+    let f = fields_at h.group.heads b.pictures (h.group.fields ∙ ap (λ (s : Scan). flat_map (fields_of s) h.group.heads) e) some (first_kind b h) in
+    begins_fields b lines p (first_kind b h) (record { top = f.0; bottom = f.1; kind = f.2 }) other
 
 one_before : (b : Book) → IsBook b → (p : ℕ) (lines : Lines) → ((job_at b p).kind ≡ 1 → ⊥) → 0 < length (anchors_before b lines p)
 one_before b h p lines other =

@@ -10,7 +10,7 @@ use Rattle.m2v_set.specs.declared.settings.Settings.{Settings}
 use Rattle.m2v_set.specs.declared.settings.Scan.{Scan}
 use Rattle.m2v_set.specs.declared.settings.Scan.TheVariants.{Progressive, Frames, Fields}
 use Rattle.m2v_set.specs.Numbers.{dims_of, rows_by, frame_rows_by}
-use Rattle.m2v_set.specs.Rules.{Passes, line_step, is_progressive}
+use Rattle.m2v_set.specs.Rules.{Passes}
 use Rattle.m2v_set.specs.Bounds.{Bounds}
 use Rattle.m2v_order.specs.declared.jobs.PictureJob.{PictureJob}
 use Rattle.m2v_order.specs.Coding.{structures}
@@ -20,6 +20,7 @@ use Rattle.m2v_order.specs.Whole.{IsKind, fields_of}
 use Rattle.m2v_order.proofs.Queues.{grouped, top_of, Due, due_is, Turn, turn_is, group_places}
 use Rattle.m2v_order.proofs.Turns.{turn_intra}
 use Rattle.m2v_rate.specs.Plans.{Entries}
+use Rattle.m2v_rate.proofs.Caps.{step_some}
 use Rattle.m2v_slice.specs.Books.{Book, rows, no_job, job_at}
 use Rattle.m2v_slice.specs.Conditions.{IsBook}
 use Rattle.m2v_slice.specs.Needs.{all_flat}
@@ -32,12 +33,6 @@ unfolding frame_rows_by rows_by
 rows_bounds Progressive height low = (omega arith, omega arith, omega arith)
 rows_bounds Frames height low = (omega arith, omega arith, omega arith)
 rows_bounds Fields height low = (omega arith, omega arith, omega arith)
-
-step_some : (scan : Scan) → 2 ≤ line_step scan
-unfolding is_progressive
-step_some Progressive = omega arith
-step_some Frames = omega arith
-step_some Fields = omega arith
 
 pub size_is : (s : Settings) → Bounds s → IsSize (dims_of s)
 unfolding dims_of

@@ -17,6 +17,9 @@ pub mod Groups
 pub mod Fitting
 pub mod Steady
 pub mod Sound
+pub mod Ledgers
+pub mod Begun
+pub mod Firsts
 pub mod Works
 pub mod Planned
 pub mod Stands

@@ -34,6 +34,7 @@ use Rattle.m2v_choose.proofs.Inside.{ModeFits, fits_inside, fits_forward, fits_b
 use Rattle.m2v_choose.proofs.InsideLaws.{Fits, same_mode, predictions_fit, no_predictions}
 use Rattle.m2v_choose.proofs.Skips.{plain_held}
 use Rattle.m2v_slice.specs.Steps.{HasReferences, CanPredict}
+use Rattle.m2v_slice.proofs.Choices.{all_of}
 
 -- ---- motion of the candidates
 
@@ -63,10 +64,6 @@ module _ (d : Decision) where
   unfolding StaysIn
   skipped_in = λ told other. absurd cc
 
-  each : {X : Type 0} (P : X → Type 0) → ((x : X) → P x) → (xs : List X) → All P xs
-  each P h [] = All-nil P
-  each P h (x ∷ xs) = All-cons P x xs (h x) (each P h xs)
-
   prediction_in : (p : Prediction) → Fits d p → All (StaysIn d) (by_prediction d p)
   unfolding by_prediction uncoded_by
   prediction_in p h =
@@ -74,7 +71,7 @@ module _ (d : Decision) where
       let bare = written (uncoded_syntax d p) no_levels in
       All-append P (cond p.uncoded (bare ∷ []) []) (filter has_block (map (coded_by d p) (codings d)))
       (either (All P) p.uncoded (bare ∷ []) [] (All-cons P bare [] (uncoded_in p h) (All-nil P)) (All-nil P))
-      (All-filter has_block P (map (coded_by d p) (codings d)) (All-map P (coded_by d p) (codings d) (each (λ k. P (coded_by d p k)) (λ k. coded_in p k h) (codings d))))
+      (All-filter has_block P (map (coded_by d p) (codings d)) (All-map P (coded_by d p) (codings d) (all_of (λ k. P (coded_by d p k)) (λ k. coded_in p k h) (codings d))))
 
   others_in : All (Fits d) (predictions d) → All (StaysIn d) (others d)
   unfolding others
@@ -84,7 +81,7 @@ module _ (d : Decision) where
       let intra = map (intra_by d) (codings d) in
       All-append P (skip ++ intra) (flat_map (by_prediction d) (predictions d))
       (All-append P skip intra (either (All P) (may_skip d) (skipped ∷ []) [] (All-cons P skipped [] skipped_in (All-nil P)) (All-nil P))
-      (All-map P (intra_by d) (codings d) (each (λ k. P (intra_by d k)) intra_by_in (codings d))))
+      (All-map P (intra_by d) (codings d) (all_of (λ k. P (intra_by d k)) intra_by_in (codings d))))
       (flat_all P (Fits d) (by_prediction d) prediction_in (predictions d) fit)
 
   hold_in : (d.context.kind ≢ 1 → Fits d (still_prediction d.context)) → StaysIn d (hold d)
@@ -113,7 +110,7 @@ choice_stays d own limits read = elim (cases_lt d.context.kind 2) [
 -- ---- what types and modes tell
 
 -- a type that isn't intra stands in no I picture, and one with a backward direction in B pictures alone
-type_tells : (k : ℕ) (v : MbType) → has_type k v ≡ true → v.intra ≡ false → 1 ≤ k → k ≤ 3 → (k ≢ 1) × (v.backward ≡ true → k ≡ 3)
+pub type_tells : (k : ℕ) (v : MbType) → has_type k v ≡ true → v.intra ≡ false → 1 ≤ k → k ≤ 3 → (k ≢ 1) × (v.backward ≡ true → k ≡ 3)
 unfolding has_type
 type_tells k v h other least most = (
   not_one,

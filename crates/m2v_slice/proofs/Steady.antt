@@ -118,9 +118,6 @@ task_is b h done p plan r lt small good =
 
 -- ---- sizes
 
-bits_of : CodedSlice → ℕ
-bits_of x = length x.text
-
 sum_within : (f : ℕ → CodedSlice) (g : ℕ → ℕ) (n : ℕ) → ((r : ℕ) → r < n → length (f r).text ≤ g r)
     → sum_by (λ (x : CodedSlice). length x.text) (map f (range_with_len 0 n)) ≤ sum_by g (range_with_len 0 n)
 sum_within f g zero each = omega arith
@@ -134,7 +131,7 @@ sum_within f g (suc n) each =
     subst (λ (m : ℕ). sum_by len (map f (range_with_len 0 m)) ≤ sum_by g (range_with_len 0 m)) e
     (omega (arith, rec, more, caps, here, each n (omega arith)))
 
-header_small : (job : PictureJob) → header_bits job ≤ 376
+pub header_small : (job : PictureJob) → header_bits job ≤ 376
 unfolding header_bits
 header_small job = cond_both (begins_group job) _ _ (λ (n : ℕ). n ≤ 376) (λ e. omega arith)
     (λ e. cond_both (nat_eq job.kind 1) _ _ (λ (n : ℕ). n ≤ 376) (λ f. omega arith) (λ f. omega arith))

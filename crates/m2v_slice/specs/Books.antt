@@ -145,6 +145,13 @@ unfoldable pub coded : Book → ℕ → List CodedPicture
 coded b zero = []
 coded b (suc n) = coded b n ++ next_picture b (coded b n) ∷ []
 
+-- the pictures of a book, and the ledger that knows them all
+abbrev pub all_coded : Book → List CodedPicture
+all_coded b = coded b (length b.pictures)
+
+abbrev pub whole_ledger : Book → Entries
+whole_ledger b = ledger_behind b (all_coded b)
+
 -- ---- jobs
 
 -- of each picture its plan, and then its slices from the top

@@ -10,7 +10,7 @@ use Rattle.m2v_choose.specs.Decisions.{Decision, increment_of}
 use Rattle.m2v_choose.specs.Choice.{choice_of}
 use Rattle.m2v_choose.specs.Own.{IsOwn, IsOwnState, IsCode}
 use Rattle.m2v_choose.specs.Laws.{Fits, IsWritable, StaysInside}
-use Rattle.m2v_slice.specs.Slices.{SliceTask, Begun, decision, slice_of, header_bits, held_bits, most_bits_of}
+use Rattle.m2v_slice.specs.Slices.{SliceTask, Begun, decision, slice_of, slice_header_bits, held_bits, most_bits_of}
 
 -- a slice of a picture of this encoder, whose macroblocks can all be held within its cap
 pub record IsSlice (t : SliceTask) : Type 0 where
@@ -41,7 +41,7 @@ pub record Keeps (t : SliceTask) (n skipped : ℕ) (s : Begun) : Type 0 where
   -- a macroblock of a B picture has a direction or is intra
   pub direction : t.context.kind ≡ 3 → 0 < n → (s.state.forward ≡ true) ⊎ ((s.state.backward ≡ true) ⊎ (s.state.intra ≡ true))
   -- each macroblock to come can be held, and those that were skipped right before
-  pub room : header_bits + length s.text + held_bits * (t.context.columns - n + skipped) ≤ t.cap
+  pub room : slice_header_bits + length s.text + held_bits * (t.context.columns - n + skipped) ≤ t.cap
   pub most : length s.text ≤ 4608 * n
   -- the last macroblock of the row is written, so that the slice covers the row
   pub covers : n ≡ t.context.columns → skipped ≡ 0

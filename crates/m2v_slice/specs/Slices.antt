@@ -55,15 +55,15 @@ before_first t row = record {
 }
 
 -- the bits of a start code and a slice header, and those that a held macroblock takes at most
-abbrev pub header_bits : ℕ
-header_bits = 38
+abbrev pub slice_header_bits : ℕ
+slice_header_bits = 38
 
 abbrev pub held_bits : ℕ
 held_bits = 31
 
 -- the room of a macroblock: what is left of the cap, so that each later macroblock can still be held
 unfoldable pub room : SliceTask → Begun → ℕ → ℕ
-room t s column = t.cap - (header_bits + length s.text) - held_bits * (t.context.columns - 1 - column)
+room t s column = t.cap - (slice_header_bits + length s.text) - held_bits * (t.context.columns - 1 - column)
 
 -- what the macroblock of a column is decided by
 unfoldable pub decision : SliceTask → Begun → ℕ → Decision
@@ -119,4 +119,4 @@ slice_of t =
 
 -- the room of a slice's buffer: no slice passes it, whatever its cap is
 abbrev pub most_bits_of : ℕ → ℕ
-most_bits_of columns = 8 * ((header_bits + 4608 * columns + 7) / 8)
+most_bits_of columns = 8 * ((slice_header_bits + 4608 * columns + 7) / 8)

@@ -1,6 +1,6 @@
 //! The macroblocks of a row, from left to right.
 ghost use Rattle.std.specs.Prelude.{◌≡◌, ◌+◌, ◌-◌, ◌*◌, ◌≤◌, ◌<◌, ◌++◌, nat_eq, length};
-ghost use Rattle.m2v_slice.specs.Slices.{begun, held_bits, header_bits};
+ghost use Rattle.m2v_slice.specs.Slices.{begun, held_bits, slice_header_bits};
 ghost use Rattle.m2v_slice.specs.Laws.{IsSlice};
 ghost use Rattle.m2v_slice.specs.Steps.{HasReferences, row_place, task_by};
 
@@ -66,7 +66,7 @@ pub fn code_row<V: RefView>(
     requires references { HasReferences context.now.kind source.now.dims
         (row_place context.now plan.now.row)
         (V.size forward.now) (V.size backward.now) (V.Holds forward.now) (V.Holds backward.now) }
-    requires header { length bits.old.written ≡ header_bits }
+    requires header { length bits.old.written ≡ slice_header_bits }
     requires room { 4608 * context.now.columns ≤ bits.old.room }
     requires row { row.old.dims ≡ source.now.dims }
     ensures written { bits.new.written ≡ bits.old.written

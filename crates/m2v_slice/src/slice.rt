@@ -9,7 +9,7 @@ ghost use Rattle.m2v_set.specs.Numbers.{slice_least, dims_of};
 ghost use Rattle.m2v_pred.specs.Motion.{own_lines};
 ghost use Rattle.m2v_choose.specs.Own.{IsOwn, IsCode};
 ghost use Rattle.m2v_choose.specs.Trials.{IsRead};
-ghost use Rattle.m2v_slice.specs.Slices.{CodedSlice, slice_info, slice_of, header_bits, most_bits_of};
+ghost use Rattle.m2v_slice.specs.Slices.{CodedSlice, slice_info, slice_of, slice_header_bits, most_bits_of};
 ghost use Rattle.m2v_slice.specs.Laws.{IsSlice};
 ghost use Rattle.m2v_slice.specs.Steps.{HasReferences, row_place, task_by};
 
@@ -29,9 +29,9 @@ fn write_header(row: u32, q: u8, bits: &mut BitWriter)
     requires row { row < 72 }
     requires q { IsCode q }
     requires empty { bits.old.written ≡ [] }
-    requires room { header_bits ≤ bits.old.room }
+    requires room { slice_header_bits ≤ bits.old.room }
     ensures written { bits.new.written ≡ start_code (row + 1) ++ slice_text (slice_info q) }
-    ensures room { bits.new.room + header_bits ≡ bits.old.room }
+    ensures room { bits.new.room + slice_header_bits ≡ bits.old.room }
 {
     bits.put(1, 24);
     bits.put(row + 1, 8);

@@ -30,7 +30,7 @@ returns-clause-delay c = λ s frames earlier g ends p passes few is.
 
 pub returns-clause-small : goal.returns-clause-small
 returns-clause-small c = λ s frames earlier g ends p passes few is.
-    delay_small s earlier g ends p passes is.picture (placed s frames earlier g is.later passes few is.groups)
+    delay_small s earlier g ends p is.picture (placed s frames earlier g is.later passes few is.groups)
 
 pub returns-clause-first : goal.returns-clause-first
 returns-clause-first c = λ s frames g ends passes few is.

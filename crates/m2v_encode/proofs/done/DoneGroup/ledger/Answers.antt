@@ -1,6 +1,7 @@
 use Rattle.std.proofs.Common.{◌≡◌, ◌∙◌, ℕ, ap, length, arith}
 use Rattle.m2v_slice.proofs.Steady.{ledger_at}
-use Rattle.m2v_encode.proofs.Pieces.{may_tell, told_more, whole_is}
+use Rattle.m2v_slice.proofs.Ledgers.{whole_is}
+use Rattle.m2v_encode.proofs.Pieces.{may_tell, told_more}
 use Rattle.m2v_encode.proofs.done.DoneGroup.ledger.Goals as goal
 
 pub known-requires-clause-picture : goal.known-requires-clause-picture

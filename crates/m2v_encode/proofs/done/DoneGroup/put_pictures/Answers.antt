@@ -5,7 +5,8 @@ use Rattle.m2v_port.proofs.Runs.{grows_on, grows_by_nothing, stays_here, stays_o
 use Rattle.m2v_law_headline.specs.m2v_enc_stream.Streams.{pictures_text, zeros_sum}
 use Rattle.m2v_encode.specs.Groups.{all_coded}
 use Rattle.m2v_encode.proofs.Puts.{put_then, grown_by}
-use Rattle.m2v_encode.proofs.PictureLaws.{begun_at, begun_more, bytes_more, pictures_split, length_more, zeros_more, place_more}
+use Rattle.m2v_law_headline.proofs.m2v_enc_stream.Pictures.{length_more, place_more, begun_at, begun_on}
+use Rattle.m2v_encode.proofs.PictureLaws.{bytes_more, pictures_split, zeros_more}
 use Rattle.m2v_encode.proofs.done.DoneGroup.put_pictures.Goals as goal
 
 pub loop-p-init : goal.loop-p-init
@@ -60,7 +61,7 @@ loop-p-preserved g c =
       bytes = omega (arith, sent.bytes, inv.bytes, long);
       stuffing = omega (arith, sent.stuffing, inv.stuffing, zeros_more l c.args.ends n);
       place = λ goes. place_more b h l c.args.ends n (8 * c.loop-p.total.bytes) _ lt c.requires.ledger goes (inv.place (inl lt)) sent.bytes;
-      begun = λ some. begun_more b h n _ (8 * c.loop-p.total.bytes) _ sent.bytes inv.begun;
+      begun = λ some. begun_on b h n _ (8 * c.loop-p.total.bytes) _ sent.bytes inv.begun;
       most = omega (arith, c.in_ok-put_picture.ensures.most, inv.most);
       within = omega (arith, sent.bytes, sent.stuffing, inv.within);
       room = c.put_picture.ensures.room;

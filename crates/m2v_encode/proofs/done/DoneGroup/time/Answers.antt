@@ -1,5 +1,6 @@
 use Rattle.std.proofs.Common.{◌∙◌, ◌<◌, ◌^◌, ℕ, sym, subst, ap, List, get_or, arith}
-use Rattle.m2v_encode.proofs.Pieces.{time_small, times_count, get_or_same}
+use Rattle.m2v_slice.proofs.Ledgers.{times_count}
+use Rattle.m2v_encode.proofs.Pieces.{time_small, get_or_same}
 use Rattle.m2v_encode.proofs.done.DoneGroup.time.Goals as goal
 
 pub returns-clause-small : goal.returns-clause-small

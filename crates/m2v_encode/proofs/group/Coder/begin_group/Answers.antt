@@ -4,7 +4,7 @@ use Rattle.std.proofs.lemmas.List.{length-map}
 use Rattle.std.proofs.lemmas.List.Elements.{All-map}
 use Rattle.m2v_order.specs.declared.jobs.PictureJob.{PictureJob}
 use Rattle.m2v_rate.specs.Steady.{IsKind}
-use Rattle.m2v_encode.proofs.Books.{times_length}
+use Rattle.m2v_slice.proofs.Begun.{times_length}
 use Rattle.m2v_encode.proofs.group.Coder.begin_group.Goals as goal
 
 pub group-requires-clause-kinds : goal.group-requires-clause-kinds

@@ -7,7 +7,8 @@ use Rattle.m2v_set.specs.Rules.{Passes}
 use Rattle.m2v_order.specs.Groups.{Group, is_due, group_of}
 use Rattle.m2v_order.specs.Whole.{handed}
 use Rattle.m2v_encode.specs.Steps.{GoesOn, GroupCoded, GroupStops, DueStops, book_by}
-use Rattle.m2v_encode.proofs.Due.{same_group, before_is, early_is, after_some, not_both}
+use Rattle.m2v_order.proofs.Queues.{true_false}
+use Rattle.m2v_encode.proofs.Due.{same_group, before_is, early_is, after_some}
 use Rattle.m2v_encode.proofs.group.Coder.code_due.Goals as goal
 
 pub code_group-requires-clause-going : goal.code_group-requires-clause-going
@@ -28,7 +29,7 @@ returns-in-Ok-Some-clause-coded g c =
         (rw c.in-Ok-Some.field-0-is at c.in-Ok-Some.ensures.rest),
         subst (λ (x : Group Samples). GroupCoded c.args.self.now c.code_group.new.self (book_by c.args.self.now x) false (change g.K.Sink.held g.K.Sink.faults c.args.output.now c.code_group.new.output) (change g.N.Sink.held g.N.Sink.faults c.args.recon.now c.code_group.new.recon)) same coded,
       );
-      rest = λ none. absurd (not_both (is_due c.args.queue.now) due none);
+      rest = λ none. absurd (true_false (is_due c.args.queue.now) due none);
     })
     c.code_group.ensures.coded
 

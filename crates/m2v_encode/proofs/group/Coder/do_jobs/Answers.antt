@@ -9,7 +9,8 @@ use Rattle.m2v_slice.specs.Books.{Book, rows}
 use Rattle.m2v_slice.specs.Conditions.{IsBook, IsBegunFor}
 use Rattle.m2v_slice.specs.Jobs.{jobs_of}
 use Rattle.m2v_encode.specs.declared.group.Coder.{Coder}
-use Rattle.m2v_encode.proofs.Books.{begun_for, same_book, done_is}
+use Rattle.m2v_slice.proofs.Begun.{begun_for}
+use Rattle.m2v_encode.proofs.Books.{same_book, done_is}
 use Rattle.m2v_encode.proofs.group.Coder.do_jobs.Goals as goal
 
 pub for_group-requires-clause-ledger : goal.for_group-requires-clause-ledger
@@ -21,7 +22,7 @@ for_group-requires-clause-ledger g c =
     let ledger = c.in_ok-times.ensures.begun ∙ ap (λ (js : List PictureJob). begun b0.ledger (map (λ (j : PictureJob). j.kind) js) (intervals_of b0.settings c.args.group.before js)) pics in
     let going = c.requires.going in
     subst (λ (s : Settings). IsBegunFor s (handed c.args.group) c.begin_group.new.self.ledger) (sym settings)
-    (begun_for b0.settings (handed c.args.group) b0.ledger c.begin_group.new.self.ledger going.settings going.ledger going.known
+    (begun_for b0.settings (handed c.args.group) b0.ledger c.begin_group.new.self.ledger going.settings going.ledger.steady.begun
     (omega (arith, going.removals, c.requires.few.pictures)) c.requires.group.pictures ledger)
 
 pub invariant_of-result : goal.invariant_of-result

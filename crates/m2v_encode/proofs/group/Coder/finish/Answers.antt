@@ -5,9 +5,9 @@ use Rattle.m2v_port.specs.Ends.{change}
 use Rattle.m2v_plane.specs.Samples.{Samples}
 use Rattle.m2v_order.specs.Groups.{Queue, is_due, group_of, first_of, anchor_before, after_end, IsSoundQueue}
 use Rattle.m2v_order.specs.Whole.{handed}
-use Rattle.m2v_order.proofs.Queues.{sound_end}
+use Rattle.m2v_order.proofs.Queues.{sound_end, true_false}
 use Rattle.m2v_encode.specs.Steps.{GoesOn, EndStops}
-use Rattle.m2v_encode.proofs.Due.{same_group, before_is, early_is, not_both}
+use Rattle.m2v_encode.proofs.Due.{same_group, before_is, early_is}
 use Rattle.m2v_encode.proofs.Ends.{end_code, end_group_by, end_put_by, end_all_by, none_false}
 use Rattle.m2v_encode.proofs.group.Coder.finish.Goals as goal
 
@@ -48,7 +48,7 @@ pub returns-in-Ok-None-clause-err : goal.returns-in-Ok-None-clause-err
 unfolding EndStops
 returns-in-Ok-None-clause-err g c =
     let none = rw c.in-Ok-None.field-0-is at c.in-Ok-None.ensures.due in
-    (subst (λ (q : Queue Samples). is_due q ≡ false) c.end.ensures.value (none_false (is_due c.end.new.self) (λ e. not_both true refl (sym (none.1 e)))), (refl, refl))
+    (subst (λ (q : Queue Samples). is_due q ≡ false) c.end.ensures.value (none_false (is_due c.end.new.self) (λ e. true_false true refl (sym (none.1 e)))), (refl, refl))
 
 pub returns-in-Err-clause-err : goal.returns-in-Err-clause-err
 unfolding EndStops

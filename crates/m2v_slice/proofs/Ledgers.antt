@@ -1,26 +1,22 @@
--- The ledger of a group that is coded.
-use Rattle.std.proofs.Common.{◌≡◌, ℕ, zero, suc, ◌+◌, ◌-◌, ◌<◌, ◌≤◌, List, length, get_or, sym, ap, subst, ◌∙◌, arith}
+-- The ledger that knows all sizes of a book.
+use Rattle.std.proofs.Common.{◌≡◌, ℕ, zero, suc, ◌+◌, ◌-◌, ◌<◌, ◌≤◌, length, get_or, refl, sym, ap, subst, ◌∙◌, arith}
 use Rattle.std.proofs.lemmas.List.FromFn.{get_or-map-range_with_len}
 use Rattle.m2v_rate.specs.Plans.{Entries, first_open}
 use Rattle.m2v_rate.specs.Steady.{IsLedger}
 use Rattle.m2v_rate.proofs.Keeps.{known_by}
-use Rattle.m2v_slice.specs.Books.{Book, CodedPicture, coded, picture_at, size_of, ledger_with, ledger_behind}
+use Rattle.m2v_slice.specs.Books.{Book, coded, picture_at, size_of, ledger_with, all_coded, whole_ledger}
 use Rattle.m2v_slice.specs.Conditions.{IsBook}
 use Rattle.m2v_slice.proofs.Coded.{count}
 use Rattle.m2v_slice.proofs.Steady.{ledger_at, size_within, ledger_known}
-use Rattle.m2v_slice.proofs.Sound.{ledger_settings, ledger_kinds, ledger_caps, ledger_sizes, ledger_cap, sound, planned, plan_is_good}
+use Rattle.m2v_slice.proofs.Sound.{ledger_settings, ledger_kinds, ledger_caps, ledger_sizes, ledger_cap, ledger_none, sound, planned, plan_is_good}
 
--- the pictures of a book, and the ledger that knows them all
-abbrev pub all_coded : Book → List CodedPicture
-all_coded b = coded b (length b.pictures)
+pub times_count : (b : Book) → IsBook b → length b.ledger.intervals ≡ length b.pictures
+times_count b h = h.ledger.ledger.steady.begun.timed ∙ ap (λ (l : Entries). length l.kinds) (sym (ledger_none b h)) ∙ ledger_kinds b h 0 0
 
-abbrev pub whole_ledger : Book → Entries
-whole_ledger b = ledger_behind b (all_coded b)
-
-size_in : (b : Book) → IsBook b → (p : ℕ) → p < length b.pictures → size_of b (all_coded b) p ≤ (picture_at (all_coded b) p).plan.cap
+pub size_in : (b : Book) → IsBook b → (p : ℕ) → p < length b.pictures → size_of b (all_coded b) p ≤ (picture_at (all_coded b) p).plan.cap
 size_in b h p lt = size_within b h (length b.pictures) p lt lt (plan_is_good b h (length b.pictures) p lt (omega arith))
 
-whole_is : (b : Book) → ledger_at b (length b.pictures) (length b.pictures) ≡ whole_ledger b
+pub whole_is : (b : Book) → ledger_at b (length b.pictures) (length b.pictures) ≡ whole_ledger b
 whole_is b = ap (λ (n : ℕ). ledger_at b n (length b.pictures)) (sym (count b (length b.pictures)))
 
 known_all : (b : Book) → IsBook b → (k m : ℕ) → m ≡ length b.pictures - 4 + k → m ≤ length b.pictures → IsLedger (ledger_at b m (length b.pictures))
@@ -44,6 +40,7 @@ known_all b h (suc k) m is le =
     (known_by (ledger_at b p n) p (size_of b (all_coded b) p) rec (sym (ledger_sizes b p n)) (omega (arith, ledger_caps b p n, lt))
     (omega (arith, ledger_cap b p n p lt, size_in b h p lt))))
 
+-- it is a ledger
 pub whole_ledger_is : (b : Book) → IsBook b → IsLedger (whole_ledger b)
 whole_ledger_is b h =
     let n = length b.pictures in
@@ -61,3 +58,7 @@ whole_sizes b = ap (λ (l : Entries). length l.sizes) (sym (whole_is b)) ∙ led
 pub size_at : (b : Book) (p : ℕ) → p < length b.pictures → get_or (whole_ledger b).sizes p 0 ≡ size_of b (all_coded b) p
 unfolding ledger_with coded
 size_at b p lt = get_or-map-range_with_len (size_of b (all_coded b)) 0 (length (all_coded b)) p p 0 (omega (arith, lt, count b (length b.pictures))) (omega arith)
+
+pub removals_kept : (b : Book) → (whole_ledger b).account.removals ≡ b.ledger.account.removals
+unfolding ledger_with
+removals_kept b = refl

@@ -13,8 +13,9 @@ use Rattle.m2v_order.specs.Times.{intervals_of, anchor_after, interval_behind}
 use Rattle.m2v_rate.specs.Plans.{Entries, begun}
 use Rattle.m2v_rate.specs.Steady.{IsBegun, IsLedger}
 use Rattle.m2v_rate.proofs.Keeps.{begins_steady}
+use Rattle.m2v_slice.specs.Conditions.{IsBegunFor}
 
-times_length : (s : Settings) (last : Option ℕ) (jobs : List PictureJob) → length (intervals_of s last jobs) ≡ length jobs
+pub times_length : (s : Settings) (last : Option ℕ) (jobs : List PictureJob) → length (intervals_of s last jobs) ≡ length jobs
 unfolding intervals_of
 times_length s last [] = refl
 times_length s last (job ∷ more) = omega (arith, times_length s (anchor_after last job) more)
@@ -49,3 +50,13 @@ begun_ledger s g from settings h removals few =
       targets = refl;
       removals = removals;
     })
+
+pub begun_for : (s : Settings) (g : Group Samples) (from l : Entries) → from.settings ≡ s → IsBegun from
+    → from.account.removals + length from.kinds < 2 ^ 39 → length g.pictures ≤ 126
+    → l ≡ begun from (map (λ (j : PictureJob). j.kind) g.pictures) (intervals_of s g.before g.pictures) → IsBegunFor s g l
+begun_for s g from l settings h removals few is = record {
+  from = from;
+  settings = settings;
+  begun = is;
+  ledger = subst IsLedger (sym is) (begun_ledger s g from settings h removals few);
+}

@@ -1,13 +1,13 @@
--- Where a picture stands in the stream, and its delay.
-use Rattle.std.proofs.Common.{◌≡◌, ℕ, suc, ◌+◌, ◌-◌, ◌*◌, ◌<◌, ◌≤◌, get_or, length, ap, subst, ◌∙◌, arith}
+-- From the place of a picture in the stream to that of the next one, and what arrives until it is removed.
+use Rattle.std.proofs.Common.{◌≡◌, ℕ, suc, ◌+◌, ◌-◌, ◌*◌, ◌<◌, ◌≤◌, get_or, length, refl, ap, subst, ◌∙◌, arith}
 use Rattle.m2v_set.specs.declared.settings.Settings.{Settings}
 use Rattle.m2v_set.specs.Numbers.{delay_of, buffer_bits}
 use Rattle.m2v_vbv.specs.Annex.{Start}
 use Rattle.m2v_vbv.specs.Account.{State, after, arriving, stuffing_of}
-use Rattle.m2v_rate.specs.Plans.{Entries, account_at, income}
+use Rattle.m2v_rate.specs.Plans.{Entries, account_at, income, fresh}
 use Rattle.m2v_rate.specs.Steady.{IsSteady}
 use Rattle.m2v_rate.proofs.Lows.{left_whole, rate_at, buffer_at, gain_high, size_whole}
-use Rattle.m2v_encode.specs.Groups.{IsPlace}
+use Rattle.m2v_rate.specs.Places.{IsPlace}
 
 -- what arrives until a picture is removed, from a place within its own bits on, is what is held, but for these bits
 pub arriving_is : (s : Settings) (a : State) (at code : ℕ) → IsPlace s a at → 272 ≤ at + code → arriving a (at + code) ≡ a.held - 1800 * code
@@ -43,3 +43,8 @@ next_place s l j at h lt place =
     let bits = get_or l.sizes j 0 + stuffing_of (account_at l j) (get_or l.sizes j 0) (get_or l.intervals j 0) in
     subst (λ (n : ℕ). IsPlace s (account_at l n) (at + bits)) e
     (after_place s (account_at l j) at bits (get_or l.intervals j 0) place (gone_whole l j h lt))
+
+-- the first picture of all
+pub fresh_place : (s : Settings) → IsPlace s (account_at (fresh s) 0) 0
+unfolding account_at
+fresh_place s = record { start = refl; sent = omega arith }
