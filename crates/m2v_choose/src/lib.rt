@@ -11,8 +11,6 @@ mod motion;
 mod predictions;
 mod squares;
 mod task;
-#[cfg(test)]
-mod tests;
 mod trial;
 mod values;
 mod vectors;

@@ -1,4 +1,4 @@
-//! Trials: the tests of the crates up to the search, and of the code of a slice, in one crate above.
+//! Trials: the tests of the crates up to the choice of macroblocks, and of the code of a slice, in one crate above.
 //!
 //! Each module tries one crate through what it offers, on values from outside: worked examples,
 //! tables of the standard, and numbers that another program worked out. `steps` tries the
@@ -12,6 +12,8 @@ mod bits;
 mod block;
 #[cfg(test)]
 mod books;
+#[cfg(test)]
+mod choose;
 #[cfg(test)]
 mod head;
 #[cfg(test)]

@@ -10,8 +10,6 @@ mod opening;
 mod packing;
 mod reader;
 mod source;
-#[cfg(test)]
-mod tests;
 mod text;
 mod unpacking;
 mod words;

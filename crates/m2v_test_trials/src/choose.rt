@@ -3,7 +3,7 @@ ghost use Rattle.m2v_quant.specs.Matrices.{default_matrix as default_matrix_of};
 ghost use Rattle.m2v_macroblock.specs.Conditions.{AreDc};
 ghost use Rattle.m2v_choose.specs.Own.{IsOwn, IsOwnState};
 
-use crate::{Choice, Limits, choose};
+use m2v_choose::{Choice, Limits, choose};
 use m2v_macro::head::PictureExtension;
 use m2v_macro::{PictureContext, SliceState};
 use m2v_plane::{Dims, Frame, RefView};

@@ -6,7 +6,7 @@ use Rattle.m2v_macroblock.specs.Conditions.{AreDc}
 use Rattle.m2v_choose.specs.Own.{IsOwn, IsOwnState}
 use Rattle.m2v_choose.proofs.OwnReady.{start_own}
 use Rattle.m2v_choose.proofs.DcKept.{start_dc}
-use Rattle.m2v_choose.proofs.tests.before.Goals as goal
+use Rattle.m2v_test_trials.proofs.choose.before.Goals as goal
 
 state_own : (c : PictureContext) (st : SliceState) (q : ℕ) → 1 ≤ q → q ≤ 31 → st ≡ at_start c 0 q 0 → IsOwnState st
 state_own c st q least most e = subst IsOwnState (sym e) (start_own c 0 q 0 (least, most))
