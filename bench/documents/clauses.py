@@ -5,8 +5,8 @@
 
 The rules stand in clauses.txt. Each word and each function that is named there must be where it says; each clause and
 table that a comment of the crates names must be there, and what these comments stand at is put to what the rule names.
-Where one of these isn't so the status is 1, and nothing is written. With --check nothing is written either; the status is
-1 where docs/CLAUSES.md isn't what would be."""
+Where one of these isn't so the status is 1, and nothing is written. With --check nothing is written either; the
+status is 1 where docs/CLAUSES.md isn't what would be."""
 
 import re
 import sys
@@ -23,8 +23,8 @@ ITEM = re.compile(r'\s*(?:pub(?:\([a-z]+\))? )?(?:const |ghost )?(?:fn|struct|en
 FIELD = re.compile(r'\s*(?:pub )?\w+:')
 HEAD = '''# Clauses
 
-Where each rule of ISO/IEC 13818-2 stands: its definition (in a crate's `specs/`) and its code (in `src/`). What isn't read
-or written says so. The words of a rule are there to find it by; what the program does is what the definition says.
+Where each rule of ISO/IEC 13818-2 stands: its definition (in a crate's `specs/`) and its code (in `src/`). What isn't
+read or written says so. The words of a rule are there to find it by; what the program does is what the definition says.
 `bench/run clauses` writes this page from `bench/documents/clauses.txt` and the comments of the crates.
 '''
 
@@ -90,8 +90,9 @@ class Rules:
 
 
 def ends(key):
-    """The first and the last clause of `C.9 to C.12`."""
-    return [key] if key.startswith('Annex') else key.split(' to ')
+    """The first and the last of `C.9 to C.12` or of `table 8-10 to 8-14`."""
+    kind, numbers = re.match(r'(table |Annex )?(.*)', key).groups('')
+    return [kind + number for number in numbers.split(' to ')]
 
 
 def keys_named(text, known):
@@ -105,7 +106,8 @@ def keys_named(text, known):
             yield key
             if at and numbers[at - 1] == ' to ':
                 low = before + numbers[at - 2]
-                yield from (k for k in known if k.startswith(before) and same_kind(low, k) and rank(low) < rank(k) < rank(key))
+                within = [k for k in known if k.startswith(before) and same_kind(low, k)]
+                yield from (k for k in within if rank(low) < rank(k) < rank(key))
 
 
 def same_kind(one, other):
@@ -154,7 +156,15 @@ def item(line):
 
 
 def crates():
-    return [path for path in sorted((TOP / 'crates').iterdir()) if path.is_dir() and not path.name.startswith('m2v_test_')]
+    """The crates but those of tests."""
+    return [crate for crate in sorted((TOP / 'crates').glob('m2v_*')) if not crate.name.startswith('m2v_test_')]
+
+
+def texts(crate, folder, ending):
+    """Each text of a crate's folder, with the name that clauses.txt has for it."""
+    for path in sorted((crate / folder).rglob('*' + ending)):
+        if 'declared' not in path.parts:
+            yield path, crate.name + '/' + path.relative_to(crate / folder).with_suffix('').as_posix()
 
 
 def cell(places, path, links):
@@ -172,7 +182,8 @@ def page(rules):
     for title, rows in rules.parts:
         lines += ['## ' + title, '', '| Clause | Rule | Definition | Code |', '|---|---|---|---|']
         for key, rule, definitions, code in rows:
-            lines.append('| %s | %s | %s | %s |' % (key, rule, cell(definitions, specs_path, links), cell(code, src_path, links)))
+            cells = cell(definitions, specs_path, links), cell(code, src_path, links)
+            lines.append('| %s | %s | %s | %s |' % (key, rule, *cells))
         lines.append('')
     return '\n'.join([*lines, *['[%s]: %s' % link for link in sorted(links.items())], ''])
 
@@ -181,11 +192,10 @@ def main():
     rules = Rules()
     rules.look()
     for crate in crates():
-        for path in sorted((crate / 'specs').rglob('*.antt')):
-            if 'declared' not in path.parts:
-                rules.take(2, crate.name + '/' + path.relative_to(crate / 'specs').with_suffix('').as_posix(), comments_of(path, '--', defined))
-        for path in sorted((crate / 'src').rglob('*.rt')):
-            rules.take(3, crate.name + '/' + path.relative_to(crate / 'src').with_suffix('').as_posix(), comments_of(path, '//', item))
+        for path, name in texts(crate, 'specs', '.antt'):
+            rules.take(2, name, comments_of(path, '--', defined))
+        for path, name in texts(crate, 'src', '.rt'):
+            rules.take(3, name, comments_of(path, '//', item))
     made = page(rules)
     if rules.wrong:
         print(*sorted(set(rules.wrong)), sep='\n')
