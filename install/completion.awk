@@ -42,10 +42,11 @@ function bash() {
     print "_puckerledge() {"
     print "    local word=${COMP_WORDS[COMP_CWORD]}"
     print "    if [ \"$COMP_CWORD\" = 1 ]; then"
-    print "        mapfile -t COMPREPLY < <(compgen -W '" commands "' -- \"$word\")"
+    print "        mapfile -t COMPREPLY < <(compgen -W '" commands " help --version' -- \"$word\")"
     print "        return"
     print "    fi"
     print "    case ${COMP_WORDS[1]} in"
+    print "        help) mapfile -t COMPREPLY < <(compgen -W '" commands "' -- \"$word\") ;;"
     for (name in options)
         print "        " name ") mapfile -t COMPREPLY < <(compgen -W '" substr(options[name], 2) "' -- \"$word\") ;;"
     print "    esac"
@@ -55,16 +56,19 @@ function bash() {
 function zsh() {
     print "#compdef puckerledge"
     print "if (( CURRENT == 2 )); then"
-    print "    compadd -- " commands
+    print "    compadd -- " commands " help --version"
     print "    return"
     print "fi"
     print "case $words[2] in"
+    print "    help) compadd -- " commands "; return ;;"
     for (name in options) print "    " name ") compadd --" options[name] " ;;"
     print "esac"
     print "_files"
 }
 function fish(   i, count, words) {
-    print "complete -c puckerledge -n __fish_use_subcommand -f -a '" commands "'"
+    print "complete -c puckerledge -n __fish_use_subcommand -f -a '" commands " help'"
+    print "complete -c puckerledge -n __fish_use_subcommand -l version"
+    print "complete -c puckerledge -n '__fish_seen_subcommand_from help' -f -a '" commands "'"
     for (name in options) {
         count = split(options[name], words, " ")
         for (i = 1; i <= count; i++)
