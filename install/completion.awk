@@ -29,6 +29,8 @@ function named(text,   all) {
 }
 END {
     commands = substr(commands, 2)
+    # in this order, since that of an array isn't the same by every awk
+    command_count = split(commands, named_commands, " ")
     for (name in source) {
         count = split(options[source[name]], words, " ")
         for (i = 1; i <= count; i++)
@@ -38,7 +40,7 @@ END {
     else if (shell == "fish") fish()
     else bash()
 }
-function bash() {
+function bash(   i) {
     print "_puckerledge() {"
     print "    local word=${COMP_WORDS[COMP_CWORD]}"
     print "    if [ \"$COMP_CWORD\" = 1 ]; then"
@@ -47,13 +49,13 @@ function bash() {
     print "    fi"
     print "    case ${COMP_WORDS[1]} in"
     print "        help) mapfile -t COMPREPLY < <(compgen -W '" commands "' -- \"$word\") ;;"
-    for (name in options)
+    for (i = 1; i <= command_count; i++) if ((name = named_commands[i]) in options)
         print "        " name ") mapfile -t COMPREPLY < <(compgen -W '" substr(options[name], 2) "' -- \"$word\") ;;"
     print "    esac"
     print "}"
     print "complete -o default -F _puckerledge puckerledge"
 }
-function zsh() {
+function zsh(   i) {
     print "#compdef puckerledge"
     print "if (( CURRENT == 2 )); then"
     print "    compadd -- " commands " help --version"
@@ -61,17 +63,19 @@ function zsh() {
     print "fi"
     print "case $words[2] in"
     print "    help) compadd -- " commands "; return ;;"
-    for (name in options) print "    " name ") compadd --" options[name] " ;;"
+    for (i = 1; i <= command_count; i++) if ((name = named_commands[i]) in options)
+        print "    " name ") compadd --" options[name] " ;;"
     print "esac"
     print "_files"
 }
-function fish(   i, count, words) {
+function fish(   i, j, count, words) {
     print "complete -c puckerledge -n __fish_use_subcommand -f -a '" commands " help'"
     print "complete -c puckerledge -n __fish_use_subcommand -l version"
     print "complete -c puckerledge -n '__fish_seen_subcommand_from help' -f -a '" commands "'"
-    for (name in options) {
+    for (i = 1; i <= command_count; i++) {
+        name = named_commands[i]
         count = split(options[name], words, " ")
-        for (i = 1; i <= count; i++)
-            print "complete -c puckerledge -n '__fish_seen_subcommand_from " name "' -l " substr(words[i], 3)
+        for (j = 1; j <= count; j++)
+            print "complete -c puckerledge -n '__fish_seen_subcommand_from " name "' -l " substr(words[j], 3)
     }
 }

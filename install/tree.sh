@@ -19,7 +19,7 @@ put() {
 made() {
   local to=$1 script=$2
   shift 2
-  mkdir -p "$(dirname "$to")" && awk "$@" -f "$top/install/$script" "$top/docs/COMMANDS.md" > "$to"
+  mkdir -p "$(dirname "$to")" && LC_ALL=C awk "$@" -f "$top/install/$script" "$top/docs/COMMANDS.md" > "$to"
 }
 
 # tree_below FOLDER: the program and what stands in front of it, the manual page and the completions.
