@@ -12,10 +12,9 @@ folder=${2:-/tmp/table}
 bench=$(dirname "$(realpath "$0")")
 
 speed=$(awk '/^cpu MHz/ { printf " at %.1f GHz", $NF / 1000; exit }' /proc/cpuinfo)
-echo "On $(nproc) processors$speed. Coding 25 frames of 720 by 576 samples, a pan with moving parts and noise, \`--search 15\`, in frames a second:"
+echo "On $(nproc) processors$speed. Coding 25 frames of 720 by 576 samples, a pan with moving parts and noise, in frames a second; vectors are looked for so many samples far:"
 echo
 "$bench/encode.sh" "$program" "$folder"
-echo
 echo "Decoding and checking clips of that size, four seconds each, five of them at 6 Mbit/s and one of I pictures at 15, the least and the most over the clips:"
 echo
 "$bench/decode.sh" "$program" "$folder"
