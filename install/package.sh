@@ -64,6 +64,7 @@ Architecture: amd64
 Maintainer: $(head_commit '%an <%ae>')
 Installed-Size: $bytes
 Depends: libc6 (>= $(needs_libc))
+Suggests: parallel
 Section: video
 Priority: optional
 Description: MPEG-2 video encoder, decoder and buffer checker, proved

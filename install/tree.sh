@@ -33,5 +33,6 @@ tree_below() {
     made "$share/bash-completion/completions/puckerledge" completion.awk &&
     made "$share/zsh/site-functions/_puckerledge" completion.awk -v shell=zsh &&
     made "$share/fish/vendor_completions.d/puckerledge.fish" completion.awk -v shell=fish &&
+    put "$top/install/many.sh" "$1/bin/puckerledge-many" 755 &&
     put "$top/install/command.sh" "$1/bin/puckerledge" 755
 }
