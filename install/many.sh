@@ -35,17 +35,15 @@ shift 2
 command -v parallel > /dev/null || fail "there is no parallel (GNU parallel)"
 rows=$table.rows${share:+.$share}
 
-# The films of the folder, or of the share, by their names; a share has them by a sum of the name, whatever else is there.
+# The films of the folder, or of the share, a line each; a share has them by a sum of the name, whatever else is there.
 films() {
-    cd "$folder" || return
-    find . -type f -name '*.m2v' -printf '%P\0' | LC_ALL=C sort -z | if [ "$share" ]; then
-        while IFS= read -r -d '' film; do
-            sum=$(printf '%s' "$film" | cksum)
-            if [ "$((${sum%% *} % shares))" = "$share" ]; then printf '%s\0' "$film"; fi
-        done
-    else
-        cat
-    fi
+    find "$folder" -type f -name '*.m2v' -printf '%P\n' | LC_ALL=C sort | LC_ALL=C awk -v share="$share" -v shares="${shares:-1}" '
+        BEGIN { for (i = 1; i < 256; i++) value[sprintf("%c", i)] = i }
+        {
+            sum = 0
+            for (i = 1; i <= length($0); i++) sum = (31 * sum + value[substr($0, i, 1)]) % 1000003
+            if (share == "" || sum % shares == share + 0) print
+        }'
 }
 
 # The last row of each film, of those that say something of the film: rows are film, status, line.
@@ -59,13 +57,7 @@ verdicts() {
 
 # The films that have no verdict yet.
 left() {
-    films | LC_ALL=C awk -v judged=<(verdicts) 'BEGIN {
-            FS = "\t"
-            while ((getline < judged) > 0) done[$1] = 1
-            RS = ORS = "\0"
-            FS = "\n"
-        }
-        !($0 in done)'
+    films | LC_ALL=C awk -F'\t' 'NR == FNR { done[$1] = 1; next } !($1 in done)' <(verdicts; echo) -
 }
 
 # Writes the table anew, under another name first.
@@ -77,15 +69,15 @@ exec 9>> "$rows" || fail "$rows can't be written"
 flock -n 9 || fail "another call writes $rows"
 # of a call that was killed a row may have been written in part
 if [ -s "$rows" ] && [ -n "$(tail -c 1 "$rows")" ]; then echo >> "$rows"; fi
-if films | LC_ALL=C grep -qzP '[\t\n]'; then fail "a film's name has a tab or a newline"; fi
+if [ -n "$(find "$folder" -name '*.m2v' \( -path $'*\t*' -o -path $'*\n*' \) -print -quit)" ]; then fail "a film's name has a tab or a newline"; fi
 
 # What is run for a film, here or on another machine.
 # shellcheck disable=SC2016
 row='line=$("$1" check < "$2" 2>&1 > /dev/null); status=$?; printf "%s\t%d\t%s\n" "$2" "$status" "$(printf %s "$line" | tr "\n\t" "  ")"'
 trap 'write_table; exit 130' INT TERM HUP
-left | (cd "$folder" && parallel -0 -q --wd "$folder" "$@" sh -c "$row" sh "$program" {}) 9>&- >> "$rows"
+left | (cd "$folder" && parallel -q --wd "$folder" "$@" sh -c "$row" sh "$program" {}) 9>&- >> "$rows"
 write_table
-count=$(films | tr -cd '\0' | wc -c)
-missing=$(left | tr -cd '\0' | wc -c)
+count=$(films | wc -l)
+missing=$(left | wc -l)
 echo "puckerledge-many: $((count - missing)) of $count films have a verdict, in $table" >&2
 [ "$missing" = 0 ]
