@@ -11,7 +11,7 @@
     split($0, cell, / \| /)
     options[command] = options[command] named(cell[1])
 }
-# a command that has the options of another one, but for those that are named behind
+# a command that has the options of another one, but for those that are named after it
 command != "" && match($0, /options (are those )?of `[a-z0-9-]+`/) {
     split(substr($0, RSTART, RLENGTH), cell, /`/)
     source[command] = cell[2]
@@ -19,7 +19,7 @@ command != "" && match($0, /options (are those )?of `[a-z0-9-]+`/) {
     sub(/[.;:].*/, "", rest)
     without[command] = named(rest) " "
 }
-# the options that a text names, each behind a space
+# the options that a text names, each after a space
 function named(text,   all) {
     while (match(text, /`--[a-z0-9-]+/)) {
         all = all " " substr(text, RSTART + 1, RLENGTH - 1)

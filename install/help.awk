@@ -3,7 +3,7 @@
 BEGIN {
     width = 79
     # the column at which begins what is said of a name
-    behind = 22
+    column = 22
     if (command == "") {
         print "puckerledge: an MPEG-2 video encoder, decoder and buffer checker, proved"
         print ""
@@ -110,10 +110,10 @@ function wrapped(text, line, indent,   words, count, i, empty) {
 }
 # Prints a name, and beside it, or below where it is long, what is said of it.
 function pair(name, text, indent) {
-    if (length(name) + indent + 2 > behind) {
+    if (length(name) + indent + 2 > column) {
         print spaces(indent) name
-        wrapped(text, spaces(behind), behind)
-    } else wrapped(text, spaces(indent) name spaces(behind - indent - length(name)), behind)
+        wrapped(text, spaces(column), column)
+    } else wrapped(text, spaces(indent) name spaces(column - indent - length(name)), column)
 }
 # Prints a line of a table: the first cell, and the others beside it.
 function row(line,   count, i, text) {

@@ -1,6 +1,6 @@
 # shellcheck shell=bash
 # shellcheck disable=SC2154
-# How ./puckerledge packs: it sources this behind install/tree.sh. The same commit, program, kit and line of the gate give the same
+# How ./puckerledge packs: it sources this after install/tree.sh. The same commit, program, kit and line of the gate give the same
 # bytes on each machine.
 
 # head COMMIT-FORMAT: of the commit at hand.

@@ -29,7 +29,7 @@ line() {
 in_front() {
     local stat
     read -r stat < "/proc/$pid/stat" || return
-    # shellcheck disable=SC2086 # behind the name: state, parent, group, session, terminal, the terminal's group
+    # shellcheck disable=SC2086 # after the name: state, parent, group, session, terminal, the terminal's group
     set -- ${stat##*) }
     [ "$3" = "$6" ]
 } 2> /dev/null
