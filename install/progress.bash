@@ -34,6 +34,11 @@ in_front() {
     [ "$3" = "$6" ]
 } 2> /dev/null
 
+# Of several in one pipe one alone shows its line: the one that has the terminal's lock, which those that read a pipe ask for later.
+is_ours() {
+    [ "$size" ] || [ "$((SECONDS - start))" -gt 1 ] && flock -n 8
+} 2> /dev/null
+
 take_away() {
     if [ "$shown" ]; then printf '\r%*s\r' "${#shown}" '' >&2; fi
     shown=""
@@ -46,6 +51,8 @@ watch() {
     trap '' INT
     trap 'take_away; exit' TERM HUP
     read -r pid
+    # opened anew, since the lock is one of what is opened
+    { exec 8> /proc/self/fd/9; } 9>&2 2> /dev/null || true
     columns=$(stty size <&2 2> /dev/null | cut -d' ' -f2)
     if [ "${columns:-0}" = 0 ]; then columns=80; fi
     while true; do
@@ -57,7 +64,9 @@ watch() {
             kill "$pid"
             break
         fi
-        if in_front; then
+        if ! in_front; then
+            flock -u 8 2> /dev/null
+        elif is_ours; then
             before=${#shown}
             shown="puckerledge: $(line)"
             shown=${shown:0:columns - 1}
@@ -68,7 +77,7 @@ watch() {
     take_away
     if [ "$status" = 0 ]; then
         printf '%s' "$byte" >&2
-        exec cat >&2
+        exec cat >&2 8>&-
     fi
 }
 
