@@ -166,18 +166,20 @@ def legend(stream):
 
 
 def drawn(stream, title, with_bits=False):
-    account = Account(stream)
-    end = max(1, sum(intervals(stream)))
-    failure = account.failure()
-    words = failure or account.figures(stream.coded)
-    top, panels = TOP, list(held_bits(stream, account, end, TOP))
-    top += 190
+    """The whole drawing; at variable rate without the buffer."""
+    end, top, panels, words, colour = max(1, sum(intervals(stream))), TOP, [], '', ''
+    if stream.coded[0].delay != 65535:
+        account = Account(stream)
+        failure = account.failure()
+        words, colour = 'check: ' + (failure or account.figures(stream.coded)), ' fill="#c01c28"' if failure else ''
+        panels += held_bits(stream, account, end, top)
+        top += 190
     if with_bits:
         panels += by_picture(stream, [picture.bits // 8 for picture in stream.coded], end, top, 'bytes of each picture')
         top += 84
     panels += by_picture(stream, means(stream), end, top, 'quantiser scale of each picture')
     top += 84
-    height = top + BOTTOM
+    height = top + (BOTTOM if words else BOTTOM - 20)
     yield ('<svg xmlns="http://www.w3.org/2000/svg" width="%d" height="%d" viewBox="0 0 %d %d" font-family="sans-serif" '
            'font-size="12">' % (WIDTH, height, WIDTH, height))
     yield '<rect width="%d" height="%d" fill="#fff"/>' % (WIDTH, height)
@@ -185,7 +187,7 @@ def drawn(stream, title, with_bits=False):
     yield from legend(stream)
     yield from panels
     yield from seconds(end, top)
-    yield text(LEFT, height - 8, 'check: ' + words, more=' fill="#c01c28"' if failure else '')
+    yield text(LEFT, height - 8, words, more=colour)
     yield '</svg>'
 
 

@@ -145,11 +145,9 @@ def facts(stream, data):
 def drawings(program, path, data, line):
     stream = Headers(data)
     yield '<table>%s</table>' % ''.join(row([(name, False), (escape(words), False)]) for name, words in facts(stream, data))
-    if stream.coded[0].delay != 65535:
-        yield '<h2>Buffer, bits and quantiser over time</h2>'
-        yield '\n'.join(drawn(stream, 'What the decoder\'s buffer holds', with_bits=True))
-    else:
-        yield '<p>The rate is variable: no buffer is looked at.</p>'
+    is_variable = stream.coded[0].delay == 65535
+    yield '<h2>%s over time</h2>' % ('Bits and quantiser' if is_variable else 'Buffer, bits and quantiser')
+    yield '\n'.join(drawn(stream, 'Variable rate: no buffer is looked at' if is_variable else 'What the decoder\'s buffer holds', True))
     groups = worst(groups_of(stream), line)
     sequence = stream.sequences[0]
     size = sequence.width * sequence.height + 2 * ((sequence.width + 1) // 2) * ((sequence.height + 1) // 2)
