@@ -11,7 +11,7 @@
     split($0, cell, / \| /)
     options[command] = options[command] named(cell[1])
 }
-# a command that has the options of another one, but for those that are named behind
+# a command that has the options of another one, but for those that are named after it
 command != "" && match($0, /options (are those )?of `[a-z0-9-]+`/) {
     split(substr($0, RSTART, RLENGTH), cell, /`/)
     source[command] = cell[2]
@@ -19,7 +19,7 @@ command != "" && match($0, /options (are those )?of `[a-z0-9-]+`/) {
     sub(/[.;:].*/, "", rest)
     without[command] = named(rest) " "
 }
-# the options that a text names, each behind a space
+# the options that a text names, each after a space
 function named(text,   all) {
     while (match(text, /`--[a-z0-9-]+/)) {
         all = all " " substr(text, RSTART + 1, RLENGTH - 1)
@@ -29,6 +29,8 @@ function named(text,   all) {
 }
 END {
     commands = substr(commands, 2)
+    # in this order, since that of an array isn't the same by every awk
+    command_count = split(commands, named_commands, " ")
     for (name in source) {
         count = split(options[source[name]], words, " ")
         for (i = 1; i <= count; i++)
@@ -38,36 +40,42 @@ END {
     else if (shell == "fish") fish()
     else bash()
 }
-function bash() {
+function bash(   i) {
     print "_puckerledge() {"
     print "    local word=${COMP_WORDS[COMP_CWORD]}"
     print "    if [ \"$COMP_CWORD\" = 1 ]; then"
-    print "        mapfile -t COMPREPLY < <(compgen -W '" commands "' -- \"$word\")"
+    print "        mapfile -t COMPREPLY < <(compgen -W '" commands " help --version' -- \"$word\")"
     print "        return"
     print "    fi"
     print "    case ${COMP_WORDS[1]} in"
-    for (name in options)
+    print "        help) mapfile -t COMPREPLY < <(compgen -W '" commands "' -- \"$word\") ;;"
+    for (i = 1; i <= command_count; i++) if ((name = named_commands[i]) in options)
         print "        " name ") mapfile -t COMPREPLY < <(compgen -W '" substr(options[name], 2) "' -- \"$word\") ;;"
     print "    esac"
     print "}"
     print "complete -o default -F _puckerledge puckerledge"
 }
-function zsh() {
+function zsh(   i) {
     print "#compdef puckerledge"
     print "if (( CURRENT == 2 )); then"
-    print "    compadd -- " commands
+    print "    compadd -- " commands " help --version"
     print "    return"
     print "fi"
     print "case $words[2] in"
-    for (name in options) print "    " name ") compadd --" options[name] " ;;"
+    print "    help) compadd -- " commands "; return ;;"
+    for (i = 1; i <= command_count; i++) if ((name = named_commands[i]) in options)
+        print "    " name ") compadd --" options[name] " ;;"
     print "esac"
     print "_files"
 }
-function fish(   i, count, words) {
-    print "complete -c puckerledge -n __fish_use_subcommand -f -a '" commands "'"
-    for (name in options) {
+function fish(   i, j, count, words) {
+    print "complete -c puckerledge -n __fish_use_subcommand -f -a '" commands " help'"
+    print "complete -c puckerledge -n __fish_use_subcommand -l version"
+    print "complete -c puckerledge -n '__fish_seen_subcommand_from help' -f -a '" commands "'"
+    for (i = 1; i <= command_count; i++) {
+        name = named_commands[i]
         count = split(options[name], words, " ")
-        for (i = 1; i <= count; i++)
-            print "complete -c puckerledge -n '__fish_seen_subcommand_from " name "' -l " substr(words[i], 3)
+        for (j = 1; j <= count; j++)
+            print "complete -c puckerledge -n '__fish_seen_subcommand_from " name "' -l " substr(words[j], 3)
     }
 }

@@ -46,7 +46,7 @@ BEGIN {
 /^\|[-|]+\|$/ { rows = 0; next }
 /^\|/ {
     count = split(substr($0, 2, length($0) - 2), cell, / \| /)
-    # the line of headings has no row of dashes behind it yet
+    # the line of headings has no row of dashes after it yet
     getline ahead
     if (ahead ~ /^\|[-|]+\|$/) next
     row(cell, count)

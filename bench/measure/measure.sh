@@ -44,16 +44,19 @@ rate() {
     awk -v frames="$1" -v took="$2" 'BEGIN { printf "%.1f\n", frames * 1e9 / took }'
 }
 
-# speed FRAMES COMMAND ..: frames a second of a command that takes so many, by the fastest of three runs, since what else
-# runs on the machine can only slow one down.
-speed() {
-    local frames=$1 least=0 took
+# cost FRAMES COMMAND ..: frames a second of a command that takes so many, and milliseconds a frame of processor time (user), each
+# by the best of three runs, since what else runs on the machine can only slow one down.
+cost() {
+    local frames=$1 TIMEFORMAT='%R %U'
     shift
     for _ in 1 2 3; do
-        took=$(nanoseconds "$@") || return
-        if [ "$least" = 0 ] || [ "$took" -lt "$least" ]; then least=$took; fi
+        { time "$@" 2>&3; } 3>&2 2>> took.runs || return
     done
-    rate "$frames" "$least"
+    awk -v frames="$frames" '
+        NR == 1 || $1 < took { took = $1 }
+        NR == 1 || $2 < used { used = $2 }
+        END { printf "%.1f %.1f\n", frames / took, 1000 * used / frames }' took.runs
+    rm took.runs
 }
 
 # instructions FRAMES INPUT COMMAND ..: millions a frame of a command that reads a file of so many.

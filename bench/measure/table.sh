@@ -14,7 +14,7 @@ folder=${2:-/tmp/table}
 here=$(dirname "$(realpath "$0")")
 
 speed=$(awk '/^cpu MHz/ { printf " at %.1f GHz", $NF / 1000; exit }' /proc/cpuinfo)
-echo "On $(nproc) processors$speed. Coding 25 frames of 720 by 576 samples, a pan with moving parts and noise, \`--search 15\`, in frames a second:"
+echo "On $(nproc) processors$speed. Coding 25 frames of 720 by 576 samples, a pan with moving parts and noise, in frames a second; vectors are looked for so many samples far:"
 echo
 "$here/encode.sh" "$program" "$folder"
 echo

@@ -5,50 +5,75 @@
 
 An example is a command whose next lines begin with `# `: these are what it prints. They are run in their order, with the
 clip that they work on, in a folder that is removed afterwards. Each that prints something else is told, and the status is
-1; with --fill README.md is given what was printed. What stands there without such lines, as the pipes of other programs,
-isn't run."""
+1; with --fill README.md is given what was printed. What stands there without such lines, the pipes of other programs, is run
+too where these are installed, and must end with status 0."""
 
-import re
+import shutil
 import subprocess
 import sys
 import tempfile
 from pathlib import Path
 
-TOP = Path(__file__).resolve().parent.parent.parent
-INDENT, SAID, MADE = '    ', '    # ', re.compile(r'    \S.*\bbench/(measure/clip\.py|run clip)\b')
+TOP = next(folder for folder in Path(__file__).resolve().parents if (folder / 'README.md').exists())
+INDENT, SAID, CLIP = '    ', '    # ', '    python3 '
+# what an example without printed lines may begin with; others, as the installation of a package, aren't run
+OTHERS = ('./puckerledge ', 'ffmpeg ', 'mplex ', 'if ')
+
+
+def is_whole(text):
+    return subprocess.run(['bash', '-n', '-c', text], stderr=subprocess.DEVNULL, check=False).returncode == 0
 
 
 def examples(lines):
-    """Each example: the place of its command, and the places of the lines that it prints."""
-    for at, line in enumerate(lines):
-        if line.startswith(INDENT) and not line.startswith(SAID):
-            end = at + 1
+    """Each example: the place of its command, that of the lines that it prints, and where these end."""
+    at = 0
+    while at < len(lines):
+        if lines[at].startswith(INDENT) and not lines[at].startswith(SAID):
+            after = at + 1
+            while not is_whole('\n'.join(lines[at:after])) and lines[after].startswith(INDENT):
+                after += 1
+            end = after
             while end < len(lines) and lines[end].startswith(SAID):
                 end += 1
-            if end > at + 1 or MADE.match(line):
-                yield at, end
+            if end > after or lines[at].startswith(CLIP) or lines[at].strip().startswith(OTHERS):
+                yield at, after, end
+            at = end
+        else:
+            at += 1
+
+
+def is_there(command):
+    """Whether the programs that a command calls are installed."""
+    return all(shutil.which(name) for name in ('ffmpeg', 'mplex') if name + ' ' in command)
 
 
 def main():
     readme = TOP / 'README.md'
     lines = readme.read_text().splitlines()
-    filled, done, wrong = [], 0, 0
+    filled, done, wrong, left_out = [], 0, 0, 0
     with tempfile.TemporaryDirectory() as folder:
         (Path(folder) / 'puckerledge').symlink_to(Path(sys.argv[1]).resolve())
         for name in ('bench', 'crates'):
             (Path(folder) / name).symlink_to(TOP / name)
-        for at, end in examples(lines):
-            command = lines[at].strip()
-            run = subprocess.run(['bash', '-c', command], cwd=folder, stdout=subprocess.PIPE, stderr=subprocess.STDOUT, text=True)
+        for at, after, end in examples(lines):
+            command = '\n'.join(line[len(INDENT):] for line in lines[at:after])
+            if not is_there(command):
+                left_out += 1
+                continue
+            run = subprocess.run(['bash', '-c', 'set -o pipefail\n' + command], cwd=folder, stdin=subprocess.DEVNULL,
+                                 stdout=subprocess.PIPE, stderr=subprocess.STDOUT, text=True, check=False)
             printed = [SAID + line for line in run.stdout.splitlines()]
-            filled += lines[done:at + 1] + printed
-            done = end
-            if printed != lines[at + 1:end]:
+            if end > after:
+                filled += lines[done:after] + printed
+                done = end
+            if run.returncode or (end > after and printed != lines[after:end]):
                 wrong += 1
-                print(command, *printed, sep='\n')
+                print(command, *printed, 'status %d' % run.returncode, sep='\n')
     if '--fill' in sys.argv[2:]:
         readme.write_text('\n'.join(filled + lines[done:]) + '\n')
-    print('%d examples print something else' % wrong)
+    if left_out:
+        print('%d examples want what isn\'t installed' % left_out)
+    print('%d examples print something else, or fail' % wrong)
     sys.exit(wrong > 0 and '--fill' not in sys.argv[2:])
 
 

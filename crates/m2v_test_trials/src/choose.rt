@@ -336,7 +336,7 @@ fn is_intra(
     !x.skip && x.syntax.kind.intra && sent == quantiser && x.bits == bits
 }
 
-// The values of these three tests are printed by bench/encoded_noise.py, whose choice is written from the rules alone. The loudest
+// The values of these three tests are printed by bench/cases/encoded_noise.py, whose choice is written from the rules alone. The loudest
 // noise has 4,899 bits by quantiser 1, more than a macroblock may have, so the second quantiser is taken, and sent.
 #[test]
 fn noise_by_quantiser_1_that_is_too_long_takes_the_second(
