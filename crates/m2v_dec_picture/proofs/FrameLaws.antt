@@ -1,13 +1,13 @@
 -- The frames at hand: what is predicted from them, and their sizes.
 use Rattle.std.proofs.Common.{◌≡◌, ℕ, zero, suc, ◌+◌, ◌*◌, ◌<◌, Bool, true, false, ◌&&◌, not, nat_eq, List, [], ◌∷◌, refl, sym, ap, ◌∙◌, subst}
-use Rattle.std.specs.Prelude.{Option, Some, None, IsSome, IsTrue, is_some, IfSome, OnOk, Result, Ok, Err, if◌then◌else◌}
+use Rattle.std.specs.Prelude.{Option, Some, None, IsSome, is_some, IfSome, OnOk, Result, Ok, Err, if◌then◌else◌}
 use Rattle.m2v_plane.specs.declared.dims.Dims.{Dims}
 use Rattle.m2v_plane.specs.declared.planes.Plane.{Plane}
 use Rattle.m2v_plane.specs.declared.planes.Lines.{Lines}
 use Rattle.m2v_plane.specs.declared.planes.Lines.TheVariants.{Whole, Top, Bottom}
 use Rattle.m2v_plane.specs.Sizes.{lines_of}
 use Rattle.m2v_plane.specs.Samples.{Samples, HasRows, blank, plane_with_square}
-use Rattle.m2v_plane.specs.Fields.{FieldFrames, HoldsLine, lines_there, sample_at, sample_from, or_none}
+use Rattle.m2v_plane.specs.Fields.{FieldFrames, HoldsLine, lines_there, sample_from, or_none}
 use Rattle.m2v_plane.proofs.RawVideo.{length-plane_by}
 use Rattle.m2v_pred.specs.declared.mode.MbPlace.{MbPlace}
 use Rattle.m2v_macro.specs.declared.values.SliceState.{SliceState}
@@ -18,7 +18,7 @@ use Rattle.m2v_macroblock.specs.Predictions.{sample_at as samples_of}
 use Rattle.m2v_model.specs.declared.setup.SliceSetup.{SliceSetup}
 use Rattle.m2v_model.specs.States.{is_b, dims_of}
 use Rattle.m2v_model.specs.Samples.{References, put_in_frame, skipped_painted, own_painted, painted, all_painted}
-use Rattle.m2v_model.specs.Pictures.{Store, no_references, references_by, picture_begun}
+use Rattle.m2v_model.specs.Pictures.{no_references, references_by, picture_begun}
 use Rattle.m2v_model.specs.declared.state.Sequence.{Sequence}
 use Rattle.m2v_model.specs.declared.state.Open.{Open}
 use Rattle.m2v_model.specs.declared.stop.Stop.{Stop}

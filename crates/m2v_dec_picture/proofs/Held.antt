@@ -1,6 +1,6 @@
 -- What a view holds of the fields that were decoded is what predictions read.
 use Rattle.std.proofs.Common.{◌≡◌, ℕ, zero, suc, ◌<◌, Bool, true, false, ◌&&◌, ◌||◌, not, nat_eq, cond, refl, sym, subst, arith}
-use Rattle.std.specs.Prelude.{IsTrue, unsigned_abs, ◌/◌, ◌+◌}
+use Rattle.std.specs.Prelude.{IsTrue}
 use Rattle.m2v_plane.specs.declared.dims.Dims.{Dims}
 use Rattle.m2v_plane.specs.declared.planes.Plane.{Plane}
 use Rattle.m2v_plane.specs.declared.planes.Lines.{Lines}
@@ -10,8 +10,8 @@ use Rattle.m2v_pred.specs.declared.mode.Mode.{Mode}
 use Rattle.m2v_pred.specs.declared.mode.MbPlace.{MbPlace}
 use Rattle.m2v_pred.specs.declared.source.Parts.{Parts}
 use Rattle.m2v_pred.specs.declared.source.Parts.TheVariants.{One, Fields, Halves}
-use Rattle.m2v_pred.specs.Motion.{parts_of, part_of_line, lines_read, other_field, own_field, is_dual, own_source, opposite_source, source_of}
-use Rattle.m2v_pred.specs.Vectors.{reading, source_at, HoldsLines, HoldsRead, DirectionInside, size_read}
+use Rattle.m2v_pred.specs.Motion.{parts_of, part_of_line, is_dual, own_source, opposite_source, source_of}
+use Rattle.m2v_pred.specs.Vectors.{reading, source_at, HoldsRead, DirectionInside, size_read}
 use Rattle.m2v_pred.specs.Patches.{part_count}
 use Rattle.m2v_pred.proofs.Parts.{part_known}
 use Rattle.m2v_pred.proofs.WholeFrames.{frame_holds}

@@ -1,5 +1,5 @@
 -- Macroblocks of a row, one after another: their samples, their addresses and their states.
-use Rattle.std.proofs.Common.{◌≡◌, ℕ, ◌+◌, ◌-◌, ◌*◌, ◌/◌, ◌%◌, ◌<◌, ◌≤◌, Bool, true, false, List, [], ◌∷◌, ◌++◌, length, refl, sym, ap, ◌∙◌, subst, arith, append_assoc, inl, inr, ◌^◌, ℤ, pos, ◌+ℤ◌, ◌-ℤ◌, ◌<ℤ◌, ◌≤ℤ◌, mul-le-mul, add-mul, nat_eq, cond, length-append}
+use Rattle.std.proofs.Common.{◌≡◌, ℕ, ◌+◌, ◌-◌, ◌*◌, ◌/◌, ◌%◌, ◌<◌, ◌≤◌, Bool, true, false, List, [], ◌∷◌, ◌++◌, length, refl, sym, ap, ◌∙◌, arith, append_assoc, inl, inr, ◌^◌, ℤ, pos, ◌+ℤ◌, ◌≤ℤ◌, mul-le-mul, add-mul, nat_eq, cond, length-append}
 use Rattle.std.specs.Prelude.{nat_abs, unsigned_abs, not, ◌||◌, nat_lt, int_le, filter, if◌then◌else◌}
 use Rattle.std.proofs.lemmas.Int.{ints}
 use Rattle.std.proofs.lemmas.List.{append-nil}
@@ -15,13 +15,12 @@ use Rattle.m2v_vlc.specs.declared.values.MbType.{MbType}
 use Rattle.m2v_vlc.specs.Values.{has_type_b}
 use Rattle.m2v_macro.specs.Conditions.{IsStep, IsReady, IsMacro, has_type}
 use Rattle.m2v_macroblock.specs.Macroblocks.{Macroblock, after_macroblock}
-use Rattle.m2v_macroblock.specs.Modes.{address_of, place_of, skipped_before, first_skipped}
+use Rattle.m2v_macroblock.specs.Modes.{place_of}
 use Rattle.m2v_macroblock.proofs.DcLaws.{dc_start, dc_behind-is}
 use Rattle.m2v_model.specs.declared.setup.SliceSetup.{SliceSetup}
 use Rattle.m2v_model.specs.Slices.{slice_start, begins_late, is_large}
 use Rattle.m2v_model.specs.Samples.{References, Put, painted, all_painted}
-use Rattle.m2v_dec_picture.specs.declared.gap.Gap.{Gap}
-use Rattle.m2v_dec_picture.specs.Conditions.{LiesInRow, IsBefore, IsState, IsPicture, AreDc, IsColumn, IsGap, IsSetup, rows_in, place_in, GoesOn, AreFew}
+use Rattle.m2v_dec_picture.specs.Conditions.{LiesInRow, IsBefore, IsState, AreDc, IsColumn, IsGap, IsSetup, rows_in, place_in, GoesOn, AreFew}
 
 -- the macroblocks so far: whatever follows them is painted on what they left
 abbrev pub Left : Put → SliceSetup → References → SliceState → Samples → List Macroblock → SliceState → Samples → Type 0

@@ -8,7 +8,6 @@ use Rattle.std.proofs.lemmas.Bool.{and_parts, cases_Bool, eqb-true}
 use Rattle.m2v_plane.specs.Sizes.{lines_of}
 use Rattle.m2v_pred.specs.declared.mode.MbPlace.{MbPlace}
 use Rattle.m2v_pred.specs.Motion.{own_lines}
-use Rattle.m2v_pred.specs.declared.mode.Mode.{Mode}
 use Rattle.m2v_pred.specs.Vectors.{IsPlace}
 use Rattle.m2v_pred.specs.Inside.{is_inside}
 use Rattle.m2v_macro.specs.declared.values.MacroSyntax.{MacroSyntax}
@@ -25,7 +24,7 @@ use Rattle.m2v_model.specs.Modes.{is_decoded, all_inside, references_decoded}
 use Rattle.m2v_model.specs.Samples.{References, Put, skipped_painted}
 use Rattle.m2v_dec_picture.specs.declared.gap.Gap.{Gap}
 use Rattle.m2v_dec_picture.specs.Conditions.{IsSetup, IsState, rows_in, place_in, IsColumn, IsGap, CanPaint, CanPredict}
-use Rattle.m2v_dec_picture.proofs.Ranges.{all_below, not_below, each_below}
+use Rattle.m2v_dec_picture.proofs.Ranges.{all_below, each_below}
 use Rattle.m2v_dec_picture.proofs.RowLaws.{place_is}
 
 row_lies : (structure rows row : ℕ) (d : Dims) → 1 ≤ structure → structure ≤ 3 → d.mb_rows ≡ rows → row < (if nat_eq structure 3 then rows else rows / 2) → 16 * row + 16 ≤ lines_of d Y (own_lines structure)
@@ -189,6 +188,15 @@ gap_over put s refs st at k count now le = let e : count - k ≡ 0 = omega (arit
 pub gap_none : (put : Put) (s : SliceSetup) (refs : References) (st : SliceState) (at count : ℕ) (now : Samples) → count ≡ 0 → skipped_painted put s refs st at count now ≡ now
 unfolding skipped_painted
 gap_none put s refs st at count now e = rw e refl
+
+-- the prediction of an intra macroblock
+pub own_intra : (f b : View) (c : PictureContext) (at : MbPlace) (m : MacroSyntax) → m.kind.intra ≡ true → prediction_of f b c at m ≡ replicate 384 0
+unfolding prediction_of
+own_intra f b c at m e = by_intra m.kind.intra e
+  where
+    by_intra : (intra : Bool) → intra ≡ true → (if intra then replicate 384 0 else block_by (predicted f b (mode_of c m) at)) ≡ replicate 384 0
+    by_intra true e = refl
+    by_intra false e = absurd cc
 
 -- the prediction of a macroblock that isn't intra
 pub own_prediction : (f b : View) (c : PictureContext) (at : MbPlace) (m : MacroSyntax) → m.kind.intra ≡ false → prediction_of f b c at m ≡ block_by (predicted f b (mode_of c m) at)

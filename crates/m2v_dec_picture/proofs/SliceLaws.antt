@@ -1,5 +1,5 @@
 -- What the loop over macroblocks goes by.
-use Rattle.std.proofs.Common.{◌≡◌, ℕ, Bool, true, false, not, List, [], ◌∷◌, ◌++◌, length, refl, ◌+◌, ◌-◌, ◌*◌, ◌<◌, pos, ◌+ℤ◌}
+use Rattle.std.proofs.Common.{◌≡◌, ℕ, Bool, true, false, not, List, [], length, refl, ◌+◌, ◌-◌, ◌*◌, ◌<◌, pos, ◌+ℤ◌}
 use Rattle.std.specs.Prelude.{nat_abs}
 use Rattle.m2v_bits.specs.Bits.{all_zero}
 use Rattle.m2v_bits.specs.Syntax.{seq, bind, here, rule, done, renamed}

@@ -16,7 +16,7 @@ use Rattle.m2v_model.specs.Modes.{all_inside, references_decoded}
 use Rattle.m2v_model.specs.Samples.{References, Put, painted, all_painted}
 use Rattle.m2v_model.specs.Slices.{Row, Slice, macroblock_at, macroblocks_at, slice_start, slice_at, is_large, large_in}
 use Rattle.m2v_model.specs.declared.stop.Stop.{Stop}
-use Rattle.m2v_dec_picture.specs.declared.macroblocks.Located.{Located}
+use Rattle.m2v_dec_picture.specs.declared.located.Located.{Located}
 use Rattle.m2v_dec_picture.specs.declared.macroblocks.Round.{Round}
 use Rattle.m2v_dec_picture.specs.declared.slices.SliceEnd.{SliceEnd}
 

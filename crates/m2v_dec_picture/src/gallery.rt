@@ -8,6 +8,7 @@ ghost use Rattle.m2v_dec_picture.specs.Conditions.{IsSetup, rows_in};
 ghost use Rattle.m2v_dec_picture.specs.Frames.{none_at_hand, store_of, reading_of, forward_top, forward_bottom, backward_frame, HasReferences, HaveSize, PaintsSlice};
 
 use crate::Memory;
+use crate::basis::PictureBasis;
 use crate::scratch::Scratch;
 use crate::slices::{SliceEnd, read_slice};
 use m2v_bits::BitReader;
@@ -313,16 +314,12 @@ impl Gallery {
             &self.first_field,
         );
         let backward = backward_view(s.dims, &self.reading, &self.newer);
-        read_slice(
-            input,
-            s,
-            covered,
-            row,
-            &forward,
-            &backward,
-            &mut self.scratch,
-            frame,
-        )
+        let basis = PictureBasis {
+            setup: s,
+            forward: &forward,
+            backward: &backward,
+        };
+        read_slice(input, &basis, covered, row, &mut self.scratch, frame)
     }
 
     /// Sets a macroblock row into the frame of the picture that is open, of a field picture a row of its field: one that was

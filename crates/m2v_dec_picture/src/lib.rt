@@ -3,10 +3,12 @@
 //! into a macroblock row; and the frames at hand while pictures are decoded, into which slices are painted.
 #![tactic(auto)]
 
+mod basis;
 mod blocks;
 mod gallery;
 mod gap;
 mod increments;
+mod located;
 mod macroblocks;
 mod paint;
 mod prediction;
@@ -15,6 +17,7 @@ mod scratch;
 mod slices;
 mod target;
 
+pub use basis::PictureBasis;
 pub use gallery::{FramesAtHand, Gallery, Reading, backward_view, forward_view};
 pub use scratch::Scratch;
 pub use slices::{SliceEnd, read_slice};

@@ -12,8 +12,10 @@ ghost use Rattle.m2v_model.specs.Stops.{Tells};
 ghost use Rattle.m2v_dec_picture.specs.Conditions.{IsPicture, IsSetup, IsState, AreDc, LiesInRow, rows_in, place_in, HoldsForward, HoldsBackward, CanPaint, IsColumn, IsGap, last_dc, GoesOn, AreFew};
 ghost use Rattle.m2v_dec_picture.specs.Reads.{TellsMacroblock, TellsRound, TellsRow, seen_by};
 
+use crate::basis::PictureBasis;
 use crate::blocks::blocks;
-use crate::gap::{Gap, column, gap_before};
+use crate::gap::{column, gap_before};
+use crate::located::Located;
 use crate::paint::{paint_gap, paint_own};
 use crate::rules::check;
 use crate::scratch::Scratch;
@@ -23,17 +25,7 @@ use m2v_macro::{MacroSyntax, PictureContext, SliceState, read_macro};
 use m2v_macroblock::{dc_after, kinds, mode};
 use m2v_model::{SliceSetup, Stop, of_macro, stopped};
 use m2v_plane::RefView;
-use m2v_pred::Mode;
 use m2v_quant::Levels;
-
-/// A macroblock that was read, how it is predicted, and where it stands in its row.
-#[derive(Clone, Copy, Debug, PartialEq, Eq)]
-pub struct Located {
-    pub syntax: MacroSyntax,
-    pub mode: Mode,
-    pub column: u32,
-    pub gap: Gap,
-}
 
 /// What is told of a macroblock beside its samples.
 #[derive(Clone, Copy, Debug, PartialEq, Eq)]
@@ -113,68 +105,54 @@ fn macroblock(
     let gap = gap_before(&s.context, row, &before, &syntax);
     let column = column(&s.context, row, state);
     let mode = mode(&s.context, &syntax);
-    check(s, row, column, gap, &before, &syntax, &mode, left)?;
-    let kinds = kinds(&s.context, syntax.kind.intra, state.quantiser);
-    blocks(input, &s.context, &syntax, state, &kinds, levels)?;
-    Ok(Located {
+    let x = Located {
         syntax,
         mode,
         column,
         gap,
-    })
+    };
+    check(s, row, &before, &x, left)?;
+    let kinds = kinds(&s.context, syntax.kind.intra, state.quantiser);
+    blocks(input, &s.context, &syntax, state, &kinds, levels)?;
+    Ok(x)
 }
 
 /// One macroblock, put with those skipped before it.
 #[tactic(auto, unfolding(m2v_model::specs::Samples::painted, m2v_macroblock::specs::Macroblocks::after_macroblock))]
 fn next_macroblock<V: RefView, T: Target>(
     input: &mut BitReader,
-    s: &SliceSetup,
+    basis: &PictureBasis<V>,
     row: u32,
     state: &mut SliceState,
-    forward: &V,
-    backward: &V,
     scratch: &mut Scratch,
     out: &mut T,
 ) -> Result<Round, Stop>
-    requires setup { IsSetup s.now }
-    requires row { row < rows_in s.now }
-    requires state { IsState s.now.context row state.old }
-    requires forward { HoldsForward s.now (V.size forward.now) (V.Holds forward.now) }
-    requires backward { HoldsBackward s.now (V.size backward.now) (V.Holds backward.now) }
-    requires takes { (column : ℕ) → column < s.now.context.columns
-        → T.Takes out.old (place_in s.now row column) }
-    ensures exact { TellsRound T.placed s.now (seen_by (V.at forward.now) (V.at backward.now))
+    requires setup { IsSetup basis.now.setup.now }
+    requires row { row < rows_in basis.now.setup.now }
+    requires state { IsState basis.now.setup.now.context row state.old }
+    requires forward { HoldsForward basis.now.setup.now (V.size basis.now.forward.now)
+        (V.Holds basis.now.forward.now) }
+    requires backward { HoldsBackward basis.now.setup.now (V.size basis.now.backward.now)
+        (V.Holds basis.now.backward.now) }
+    requires takes { (column : ℕ) → column < basis.now.setup.now.context.columns
+        → T.Takes out.old (place_in basis.now.setup.now row column) }
+    ensures exact { TellsRound T.placed basis.now.setup.now
+        (seen_by (V.at basis.now.forward.now) (V.at basis.now.backward.now))
         state.old input.old.rest (T.samples out.old)
         result state.new input.new.rest (T.samples out.new) }
     ensures text { input.new.text ≡ input.old.text }
     ensures left { IfErr result (λ e. e.left ≤ length input.old.text) }
-    ensures state { IfOk result (λ r. IsState s.now.context row state.new) }
-    ensures place { IfOk result (λ r. LiesInRow s.now.context row state.new.address) }
+    ensures state { IfOk result (λ r. IsState basis.now.setup.now.context row state.new) }
+    ensures place { IfOk result (λ r. LiesInRow basis.now.setup.now.context row state.new.address) }
     ensures goes_on { IfOk result (λ r. GoesOn state.old state.new) }
     ensures takes { IfOk result (λ r. (p : MbPlaceOf) → T.Takes out.old p → T.Takes out.new p) }
 {
     let before = *state;
     let start = bits_left(input);
-    let x = macroblock(input, s, row, state, &mut scratch.levels)?;
+    let x = macroblock(input, basis.setup, row, state, &mut scratch.levels)?;
     let end = bits_left(input);
-    let block = &mut scratch.block;
-    paint_gap(
-        s, row, x.gap, &before, &x.syntax, forward, backward, block, out,
-    );
-    paint_own(
-        s,
-        row,
-        x.column,
-        &before,
-        state,
-        &x.syntax,
-        &x.mode,
-        &scratch.levels,
-        forward,
-        backward,
-        block,
-        out,
-    );
+    paint_gap(basis, row, &before, &x, &mut scratch.block, out);
+    paint_own(basis, row, &before, state, &x, scratch, out);
     state.dc = dc_after(x.syntax.kind.intra, &scratch.levels, state.dc);
     Ok(Round {
         more: !input.rest_is_zero(),
@@ -186,27 +164,28 @@ fn next_macroblock<V: RefView, T: Target>(
 /// last one, and how many of them have more than 4,608 bits.
 pub fn macroblocks<V: RefView, T: Target>(
     input: &mut BitReader,
-    s: &SliceSetup,
+    basis: &PictureBasis<V>,
     row: u32,
     first: SliceState,
-    forward: &V,
-    backward: &V,
     scratch: &mut Scratch,
     out: &mut T,
 ) -> Result<(SliceState, u32), Stop>
-    requires setup { IsSetup s.now }
-    requires row { row < rows_in s.now }
-    requires state { IsState s.now.context row first }
+    requires setup { IsSetup basis.now.setup.now }
+    requires row { row < rows_in basis.now.setup.now }
+    requires state { IsState basis.now.setup.now.context row first }
     requires begins { first.first ≡ true }
-    requires forward { HoldsForward s.now (V.size forward.now) (V.Holds forward.now) }
-    requires backward { HoldsBackward s.now (V.size backward.now) (V.Holds backward.now) }
-    requires takes { (column : ℕ) → column < s.now.context.columns
-        → T.Takes out.old (place_in s.now row column) }
-    ensures exact { TellsRow T.placed s.now (seen_by (V.at forward.now) (V.at backward.now)) first
-        input.old.rest (T.samples out.old)
+    requires forward { HoldsForward basis.now.setup.now (V.size basis.now.forward.now)
+        (V.Holds basis.now.forward.now) }
+    requires backward { HoldsBackward basis.now.setup.now (V.size basis.now.backward.now)
+        (V.Holds basis.now.backward.now) }
+    requires takes { (column : ℕ) → column < basis.now.setup.now.context.columns
+        → T.Takes out.old (place_in basis.now.setup.now row column) }
+    ensures exact { TellsRow T.placed basis.now.setup.now
+        (seen_by (V.at basis.now.forward.now) (V.at basis.now.backward.now))
+        first input.old.rest (T.samples out.old)
         result input.new.rest (T.samples out.new) }
     ensures left { IfErr result (λ e. e.left ≤ length input.old.text) }
-    ensures place { IfOk result (λ z. LiesInRow s.now.context row z.0.address) }
+    ensures place { IfOk result (λ z. LiesInRow basis.now.setup.now.context row z.0.address) }
     ensures few { IfOk result (λ z. AreFew first.next z.0 z.1) }
     ensures some { IfOk result (λ z. z.0.first ≡ false) }
     ensures takes { IfOk result (λ z. (p : MbPlaceOf) → T.Takes out.old p → T.Takes out.new p) }
@@ -214,7 +193,7 @@ pub fn macroblocks<V: RefView, T: Target>(
     let mut state = first;
     let mut large = 0;
     loop {
-        let r = next_macroblock(input, s, row, &mut state, forward, backward, scratch, out)?;
+        let r = next_macroblock(input, basis, row, &mut state, scratch, out)?;
         if r.large {
             large += 1;
         }

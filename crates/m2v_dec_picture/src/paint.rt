@@ -9,121 +9,124 @@ ghost use Rattle.m2v_model.specs.Samples.{skipped_painted, own_painted};
 ghost use Rattle.m2v_dec_picture.specs.Conditions.{IsSetup, IsState, rows_in, place_in, HoldsForward, HoldsBackward, CanPaint, IsColumn, IsGap};
 ghost use Rattle.m2v_dec_picture.specs.Reads.{seen_by};
 
-use crate::gap::Gap;
+use crate::basis::PictureBasis;
+use crate::located::Located;
 use crate::prediction::{place, predict};
+use crate::scratch::Scratch;
 use crate::target::Target;
-use m2v_macro::{MacroSyntax, SliceState};
+use m2v_macro::SliceState;
 use m2v_macroblock::{kind_for, skipped_mode};
-use m2v_model::SliceSetup;
 use m2v_plane::RefView;
-use m2v_pred::{Block16, Mode};
-use m2v_quant::Levels;
+use m2v_pred::Block16;
 use m2v_recon::rebuild_block;
 
-/// Puts the macroblocks of a gap: each is its prediction. `before` is the state before them.
+/// Puts the macroblocks that are skipped before one: each is its prediction. `before` is the state before them.
 pub fn paint_gap<V: RefView, T: Target>(
-    s: &SliceSetup,
+    basis: &PictureBasis<V>,
     row: u32,
-    gap: Gap,
     before: &SliceState,
-    m: &MacroSyntax,
-    forward: &V,
-    backward: &V,
+    x: &Located,
     block: &mut Block16,
     out: &mut T,
 )
-    requires setup { IsSetup s.now }
-    requires row { row < rows_in s.now }
-    requires state { IsState s.now.context row before.now }
-    requires can { CanPaint s.now before.now m.now }
-    requires gap { IsGap s.now.context row before.now m.now gap }
-    requires forward { HoldsForward s.now (V.size forward.now) (V.Holds forward.now) }
-    requires backward { HoldsBackward s.now (V.size backward.now) (V.Holds backward.now) }
-    requires takes { (column : ℕ) → column < s.now.context.columns
-        → T.Takes out.old (place_in s.now row column) }
+    requires setup { IsSetup basis.now.setup.now }
+    requires row { row < rows_in basis.now.setup.now }
+    requires state { IsState basis.now.setup.now.context row before.now }
+    requires can { CanPaint basis.now.setup.now before.now x.now.syntax }
+    requires gap { IsGap basis.now.setup.now.context row before.now x.now.syntax x.now.gap }
+    requires forward { HoldsForward basis.now.setup.now (V.size basis.now.forward.now)
+        (V.Holds basis.now.forward.now) }
+    requires backward { HoldsBackward basis.now.setup.now (V.size basis.now.backward.now)
+        (V.Holds basis.now.backward.now) }
+    requires takes { (column : ℕ) → column < basis.now.setup.now.context.columns
+        → T.Takes out.old (place_in basis.now.setup.now row column) }
     ensures value { T.samples out.new
-        ≡ skipped_painted T.placed s.now (seen_by (V.at forward.now) (V.at backward.now)) before.now
-        (first_skipped before.now) gap.count (T.samples out.old) }
+        ≡ skipped_painted T.placed basis.now.setup.now
+        (seen_by (V.at basis.now.forward.now) (V.at basis.now.backward.now))
+        before.now (first_skipped before.now) x.now.gap.count (T.samples out.old) }
     ensures takes { (p : MbPlaceOf) → T.Takes out.old p → T.Takes out.new p }
 {
+    let gap = x.gap;
     if gap.count == 0 {
         return;
     }
-    let mode = skipped_mode(&s.context, before);
+    let mode = skipped_mode(&basis.setup.context, before);
     for k in 0..gap.count {
-        let at = place(s, row, gap.column + k);
-        predict(s, &mode, at, forward, backward, block);
+        let at = place(basis.setup, row, gap.column + k);
+        predict(basis, &mode, at, block);
         out.put(at, block);
     }
 }
 
 /// The prediction of a macroblock by its mode: samples 0 of an intra one.
 fn predict_own<V: RefView>(
-    s: &SliceSetup,
+    basis: &PictureBasis<V>,
     row: u32,
-    column: u32,
     before: &SliceState,
-    m: &MacroSyntax,
-    mode: &Mode,
-    forward: &V,
-    backward: &V,
+    x: &Located,
     block: &mut Block16,
 )
-    requires setup { IsSetup s.now }
-    requires row { row < rows_in s.now }
-    requires can { CanPaint s.now before.now m.now }
-    requires mode { mode.now ≡ mode_of s.now.context m.now }
-    requires column { IsColumn s.now.context row before.now m.now column }
-    requires forward { HoldsForward s.now (V.size forward.now) (V.Holds forward.now) }
-    requires backward { HoldsBackward s.now (V.size backward.now) (V.Holds backward.now) }
-    ensures value { block.new.at ≡ prediction_of (V.at forward.now) (V.at backward.now)
-        s.now.context (place_in s.now row column) m.now }
+    requires setup { IsSetup basis.now.setup.now }
+    requires row { row < rows_in basis.now.setup.now }
+    requires can { CanPaint basis.now.setup.now before.now x.now.syntax }
+    requires mode { x.now.mode ≡ mode_of basis.now.setup.now.context x.now.syntax }
+    requires column { IsColumn basis.now.setup.now.context row before.now x.now.syntax
+        x.now.column }
+    requires forward { HoldsForward basis.now.setup.now (V.size basis.now.forward.now)
+        (V.Holds basis.now.forward.now) }
+    requires backward { HoldsBackward basis.now.setup.now (V.size basis.now.backward.now)
+        (V.Holds basis.now.backward.now) }
+    ensures value { block.new.at
+        ≡ prediction_of (V.at basis.now.forward.now) (V.at basis.now.backward.now)
+        basis.now.setup.now.context (place_in basis.now.setup.now row x.now.column) x.now.syntax }
 {
-    if m.kind.intra {
+    if x.syntax.kind.intra {
         block.at.fill(0);
         return;
     }
-    predict(s, mode, place(s, row, column), forward, backward, block);
+    predict(basis, &x.mode, place(basis.setup, row, x.column), block);
 }
 
-/// Puts a macroblock. `before` is the state before it and those skipped before it, `state` that behind its elements,
-/// `mode` how it is predicted.
+/// Puts a macroblock, whose levels `scratch` has. `before` is the state before it and those skipped before it, `state` that
+/// behind its elements.
 pub fn paint_own<V: RefView, T: Target>(
-    s: &SliceSetup,
+    basis: &PictureBasis<V>,
     row: u32,
-    column: u32,
     before: &SliceState,
     state: &SliceState,
-    m: &MacroSyntax,
-    mode: &Mode,
-    levels: &[Levels; 6],
-    forward: &V,
-    backward: &V,
-    block: &mut Block16,
+    x: &Located,
+    scratch: &mut Scratch,
     out: &mut T,
 )
-    requires setup { IsSetup s.now }
-    requires row { row < rows_in s.now }
-    requires state { state.now ≡ after s.now.context before.now m.now }
+    requires setup { IsSetup basis.now.setup.now }
+    requires row { row < rows_in basis.now.setup.now }
+    requires state { state.now ≡ after basis.now.setup.now.context before.now x.now.syntax }
     requires quantiser { (1 ≤ state.now.quantiser) × (state.now.quantiser ≤ 31) }
-    requires can { CanPaint s.now before.now m.now }
-    requires mode { mode.now ≡ mode_of s.now.context m.now }
-    requires column { IsColumn s.now.context row before.now m.now column }
-    requires levels { All (λ l. All IsLevel l.at) levels.now }
-    requires forward { HoldsForward s.now (V.size forward.now) (V.Holds forward.now) }
-    requires backward { HoldsBackward s.now (V.size backward.now) (V.Holds backward.now) }
-    requires takes { T.Takes out.old (place_in s.now row column) }
+    requires can { CanPaint basis.now.setup.now before.now x.now.syntax }
+    requires mode { x.now.mode ≡ mode_of basis.now.setup.now.context x.now.syntax }
+    requires column { IsColumn basis.now.setup.now.context row before.now x.now.syntax
+        x.now.column }
+    requires levels { All (λ l. All IsLevel l.at) scratch.old.levels }
+    requires forward { HoldsForward basis.now.setup.now (V.size basis.now.forward.now)
+        (V.Holds basis.now.forward.now) }
+    requires backward { HoldsBackward basis.now.setup.now (V.size basis.now.backward.now)
+        (V.Holds basis.now.backward.now) }
+    requires takes { T.Takes out.old (place_in basis.now.setup.now row x.now.column) }
     ensures value { T.samples out.new
-        ≡ own_painted T.placed s.now (seen_by (V.at forward.now) (V.at backward.now)) before.now
-        (macroblock_of m.now levels.now) (T.samples out.old) }
+        ≡ own_painted T.placed basis.now.setup.now
+        (seen_by (V.at basis.now.forward.now) (V.at basis.now.backward.now))
+        before.now (macroblock_of x.now.syntax scratch.old.levels) (T.samples out.old) }
+    ensures levels { scratch.new.levels ≡ scratch.old.levels }
     ensures takes { (p : MbPlaceOf) → T.Takes out.old p → T.Takes out.new p }
 {
-    predict_own(s, row, column, before, m, mode, forward, backward, block);
-    let intra = m.kind.intra;
+    let block = &mut scratch.block;
+    predict_own(basis, row, before, x, block);
+    let context = &basis.setup.context;
+    let m = &x.syntax;
     let kinds = [
-        kind_for(&s.context, intra, true, state.quantiser),
-        kind_for(&s.context, intra, false, state.quantiser),
+        kind_for(context, m.kind.intra, true, state.quantiser),
+        kind_for(context, m.kind.intra, false, state.quantiser),
     ];
-    rebuild_block(block, levels, m.pattern, &kinds, m.dct_field);
-    out.put(place(s, row, column), block);
+    rebuild_block(block, &scratch.levels, m.pattern, &kinds, m.dct_field);
+    out.put(place(basis.setup, row, x.column), block);
 }

@@ -9,8 +9,9 @@ ghost use Rattle.m2v_dec_picture.specs.Conditions.{IsSetup, rows_in, place_in, I
 ghost use Rattle.m2v_dec_picture.specs.Reads.{Breaks};
 
 use crate::gap::Gap;
+use crate::located::Located;
 use crate::prediction::place;
-use m2v_macro::{MacroSyntax, SliceState};
+use m2v_macro::SliceState;
 use m2v_macroblock::skipped_mode;
 use m2v_model::{FaultKind, SliceSetup, Stop};
 use m2v_plane::Lines;
@@ -116,25 +117,17 @@ fn both(one: bool, other: bool) -> bool
 }
 
 /// Whether what a macroblock and those skipped before it are predicted from lies inside its references (clause 7.6.3.8).
-fn are_inside(
-    s: &SliceSetup,
-    row: u32,
-    column: u32,
-    gap: Gap,
-    before: &SliceState,
-    m: &MacroSyntax,
-    mode: &Mode,
-) -> bool
+fn are_inside(s: &SliceSetup, row: u32, before: &SliceState, x: &Located) -> bool
     requires setup { IsSetup s.now }
     requires row { row < rows_in s.now }
-    requires fits { IsMacro s.now.context before.now m.now }
-    requires mode { mode.now ≡ mode_of s.now.context m.now }
-    requires gap { IsGap s.now.context row before.now m.now gap }
-    requires column { IsColumn s.now.context row before.now m.now column }
-    ensures { result ≡ all_inside s.now before.now m.now }
+    requires fits { IsMacro s.now.context before.now x.now.syntax }
+    requires mode { x.now.mode ≡ mode_of s.now.context x.now.syntax }
+    requires gap { IsGap s.now.context row before.now x.now.syntax x.now.gap }
+    requires column { IsColumn s.now.context row before.now x.now.syntax x.now.column }
+    ensures { result ≡ all_inside s.now before.now x.now.syntax }
 {
-    let gap_inside = skipped_inside(s, row, gap, before);
-    let own_inside = inside(mode, place(s, row, column), s.dims);
+    let gap_inside = skipped_inside(s, row, x.gap, before);
+    let own_inside = inside(&x.mode, place(s, row, x.column), s.dims);
     both(gap_inside, own_inside)
 }
 
@@ -153,56 +146,46 @@ fn gap_decoded(s: &SliceSetup, gap: Gap, before: &SliceState) -> bool
 
 /// Whether the fields that a macroblock and those skipped before it are predicted from were decoded.
 #[tactic(auto, unfolding(m2v_model::specs::Modes::references_decoded))]
-fn are_decoded(
-    s: &SliceSetup,
-    row: u32,
-    gap: Gap,
-    before: &SliceState,
-    m: &MacroSyntax,
-    mode: &Mode,
-) -> bool
+fn are_decoded(s: &SliceSetup, row: u32, before: &SliceState, x: &Located) -> bool
     requires setup { IsSetup s.now }
-    requires fits { IsMacro s.now.context before.now m.now }
-    requires mode { mode.now ≡ mode_of s.now.context m.now }
-    requires gap { IsGap s.now.context row before.now m.now gap }
-    ensures { result ≡ references_decoded s.now before.now m.now }
+    requires fits { IsMacro s.now.context before.now x.now.syntax }
+    requires mode { x.now.mode ≡ mode_of s.now.context x.now.syntax }
+    requires gap { IsGap s.now.context row before.now x.now.syntax x.now.gap }
+    ensures { result ≡ references_decoded s.now before.now x.now.syntax }
 {
-    let gap_decoded = gap_decoded(s, gap, before);
-    let own_decoded = is_decoded(&s.references, s.context.extension.structure, mode);
+    let gap_decoded = gap_decoded(s, x.gap, before);
+    let own_decoded = is_decoded(&s.references, s.context.extension.structure, &x.mode);
     both(gap_decoded, own_decoded)
 }
 
 /// What a macroblock and those skipped before it are predicted from lies inside its references, and was decoded. The place
-/// of a fault is the macroblock's first bit, where `left` bits are left. `mode` is the macroblock's.
+/// of a fault is the macroblock's first bit, where `left` bits are left.
 ///
 /// # Errors
 /// `VectorOutside` of any of them before `MissingReference` of any of them.
 pub fn check(
     s: &SliceSetup,
     row: u32,
-    column: u32,
-    gap: Gap,
     before: &SliceState,
-    m: &MacroSyntax,
-    mode: &Mode,
+    x: &Located,
     left: u64,
 ) -> Result<(), Stop>
     requires setup { IsSetup s.now }
     requires row { row < rows_in s.now }
-    requires fits { IsMacro s.now.context before.now m.now }
-    requires mode { mode.now ≡ mode_of s.now.context m.now }
-    requires gap { IsGap s.now.context row before.now m.now gap }
-    requires column { IsColumn s.now.context row before.now m.now column }
-    ensures held { IfOk result (λ done. CanPaint s.now before.now m.now) }
-    ensures broken { IfErr result (Breaks s.now before.now m.now left) }
+    requires fits { IsMacro s.now.context before.now x.now.syntax }
+    requires mode { x.now.mode ≡ mode_of s.now.context x.now.syntax }
+    requires gap { IsGap s.now.context row before.now x.now.syntax x.now.gap }
+    requires column { IsColumn s.now.context row before.now x.now.syntax x.now.column }
+    ensures held { IfOk result (λ done. CanPaint s.now before.now x.now.syntax) }
+    ensures broken { IfErr result (Breaks s.now before.now x.now.syntax left) }
 {
-    if !are_inside(s, row, column, gap, before, m, mode) {
+    if !are_inside(s, row, before, x) {
         return Err(Stop {
             kind: FaultKind::VectorOutside,
             left,
         });
     }
-    if !are_decoded(s, row, gap, before, m, mode) {
+    if !are_decoded(s, row, before, x) {
         return Err(Stop {
             kind: FaultKind::MissingReference,
             left,

@@ -8,6 +8,7 @@ ghost use Rattle.m2v_model.specs.Stops.{Tells};
 ghost use Rattle.m2v_dec_picture.specs.Conditions.{IsSetup, rows_in, place_in, HoldsForward, HoldsBackward};
 ghost use Rattle.m2v_dec_picture.specs.Reads.{TellsSlice, seen_by};
 
+use crate::basis::PictureBasis;
 use crate::increments::{begins_late, increment_ahead};
 use crate::macroblocks::macroblocks;
 use crate::scratch::Scratch;
@@ -15,7 +16,7 @@ use crate::target::Target;
 use m2v_bits::BitReader;
 use m2v_head::SliceInfo;
 use m2v_macro::SliceState;
-use m2v_model::{FaultKind, SliceSetup, Stop, of_head, stopped};
+use m2v_model::{FaultKind, Stop, of_head, stopped};
 use m2v_plane::RefView;
 
 /// What a slice that was read leaves.
@@ -70,40 +71,43 @@ fn address_behind(last: &SliceState) -> u32
 /// fault are put then.
 pub fn read_slice<V: RefView, T: Target>(
     input: &mut BitReader,
-    s: &SliceSetup,
+    basis: &PictureBasis<V>,
     covered: u32,
     row: u32,
-    forward: &V,
-    backward: &V,
     scratch: &mut Scratch,
     out: &mut T,
 ) -> Result<SliceEnd, Stop>
-    requires setup { IsSetup s.now }
+    requires setup { IsSetup basis.now.setup.now }
     requires covered { covered ≤ 2 ^ 16 }
-    requires row { row < rows_in s.now }
-    requires forward { HoldsForward s.now (V.size forward.now) (V.Holds forward.now) }
-    requires backward { HoldsBackward s.now (V.size backward.now) (V.Holds backward.now) }
-    requires takes { (column : ℕ) → column < s.now.context.columns
-        → T.Takes out.old (place_in s.now row column) }
-    ensures exact { TellsSlice T.placed s.now (seen_by (V.at forward.now) (V.at backward.now))
+    requires row { row < rows_in basis.now.setup.now }
+    requires forward { HoldsForward basis.now.setup.now (V.size basis.now.forward.now)
+        (V.Holds basis.now.forward.now) }
+    requires backward { HoldsBackward basis.now.setup.now (V.size basis.now.backward.now)
+        (V.Holds basis.now.backward.now) }
+    requires takes { (column : ℕ) → column < basis.now.setup.now.context.columns
+        → T.Takes out.old (place_in basis.now.setup.now row column) }
+    ensures exact { TellsSlice T.placed basis.now.setup.now
+        (seen_by (V.at basis.now.forward.now) (V.at basis.now.backward.now))
         covered row input.old.rest (T.samples out.old)
         result input.new.rest (T.samples out.new) }
     ensures left { IfErr result (λ e. e.left ≤ length input.old.text + 32) }
-    ensures covered { IfOk result (λ end. end.covered ≤ (row + 1) * s.now.context.columns) }
+    ensures covered { IfOk result (λ end. end.covered
+        ≤ (row + 1) * basis.now.setup.now.context.columns) }
     ensures large { IfOk result (λ end. covered + end.large ≤ end.covered) }
     ensures takes { IfOk result (λ end. (p : MbPlaceOf) → T.Takes out.old p → T.Takes out.new p) }
 {
+    let context = &basis.setup.context;
     let unit = unit_left(input);
     let info = header(input)?;
     let increment = increment_ahead(input)?;
-    if !begins_late(row, s.context.columns, increment, covered) {
+    if !begins_late(row, context.columns, increment, covered) {
         return Err(Stop {
             kind: FaultKind::SliceOrder,
             left: unit,
         });
     }
-    let first = SliceState::at_start(&s.context, row, info.quantiser, covered);
-    let (last, large) = macroblocks(input, s, row, first, forward, backward, scratch, out)?;
+    let first = SliceState::at_start(context, row, info.quantiser, covered);
+    let (last, large) = macroblocks(input, basis, row, first, scratch, out)?;
     Ok(SliceEnd {
         covered: address_behind(&last),
         large,

@@ -9,9 +9,9 @@ ghost use Rattle.m2v_dec_rows.specs.Reads.{IsWide, TellsOwn, TellsRow, as_placed
 
 use crate::opened::Opened;
 use crate::slice::paint;
-use m2v_dec_picture::Scratch;
+use m2v_dec_picture::{PictureBasis, Scratch};
 use m2v_dec_piece::{Fault, Piece};
-use m2v_model::{FaultKind, SliceSetup};
+use m2v_model::FaultKind;
 use m2v_plane::{RefView, RowSamples};
 
 /// The place where the picture ends, if that is reached.
@@ -30,28 +30,29 @@ fn ending(piece: &Piece, opened: &Opened) -> Option<u64>
 fn read_own<V: RefView>(
     opened: &Opened,
     piece: &Piece,
-    s: &SliceSetup,
+    basis: &PictureBasis<V>,
     row: u32,
-    forward: &V,
-    backward: &V,
     scratch: &mut Scratch,
     out: &mut RowSamples,
 ) -> Result<u32, Fault>
     requires opened { IsOpened piece.now opened.now }
-    requires setup { s.now ≡ setup_of opened.now }
+    requires setup { basis.now.setup.now ≡ setup_of opened.now }
     requires row { row < opened.now.rows }
-    requires forward { HoldsForward s.now (V.size forward.now) (V.Holds forward.now) }
-    requires backward { HoldsBackward s.now (V.size backward.now) (V.Holds backward.now) }
-    requires wide { IsWide s.now out.old }
-    ensures exact { TellsOwn s.now (seen_by (V.at forward.now) (V.at backward.now)) row
+    requires forward { HoldsForward basis.now.setup.now (V.size basis.now.forward.now)
+        (V.Holds basis.now.forward.now) }
+    requires backward { HoldsBackward basis.now.setup.now (V.size basis.now.backward.now)
+        (V.Holds basis.now.backward.now) }
+    requires wide { IsWide basis.now.setup.now out.old }
+    ensures exact { TellsOwn basis.now.setup.now
+        (seen_by (V.at basis.now.forward.now) (V.at basis.now.backward.now)) row
         (slices_of piece.now opened.now) out.old result out.new }
-    ensures covered { IfOk result (λ end. end ≤ (row + 1) * s.now.context.columns) }
-    ensures wide { IfOk result (λ end. IsWide s.now out.new) }
+    ensures covered { IfOk result (λ end. end ≤ (row + 1) * basis.now.setup.now.context.columns) }
+    ensures wide { IfOk result (λ end. IsWide basis.now.setup.now out.new) }
 {
-    let mut covered = row * s.context.columns;
+    let mut covered = row * basis.setup.context.columns;
     for u in opened.slices.iter() {
         if u.row == row {
-            covered = paint(piece, u, s, covered, forward, backward, scratch, out)?;
+            covered = paint(piece, u, basis, covered, scratch, out)?;
         }
     }
     Ok(covered)
@@ -61,26 +62,26 @@ fn read_own<V: RefView>(
 fn missing<V: RefView>(
     opened: &Opened,
     piece: &Piece,
-    s: &SliceSetup,
+    basis: &PictureBasis<V>,
     row: u32,
     covered: u32,
-    forward: &V,
-    backward: &V,
     scratch: &mut Scratch,
     out: &mut RowSamples,
 ) -> Option<Fault>
     requires opened { IsOpened piece.now opened.now }
-    requires setup { s.now ≡ setup_of opened.now }
+    requires setup { basis.now.setup.now ≡ setup_of opened.now }
     requires covered { covered ≤ 2 ^ 16 }
-    requires forward { HoldsForward s.now (V.size forward.now) (V.Holds forward.now) }
-    requires backward { HoldsBackward s.now (V.size backward.now) (V.Holds backward.now) }
-    requires wide { IsWide s.now out.old }
-    ensures { as_placed result ≡ missing_of s.now covered (below row (slices_of piece.now opened.now))
-        (ending_of piece.now opened.now) }
+    requires forward { HoldsForward basis.now.setup.now (V.size basis.now.forward.now)
+        (V.Holds basis.now.forward.now) }
+    requires backward { HoldsBackward basis.now.setup.now (V.size basis.now.backward.now)
+        (V.Holds basis.now.backward.now) }
+    requires wide { IsWide basis.now.setup.now out.old }
+    ensures { as_placed result ≡ missing_of basis.now.setup.now covered
+        (below row (slices_of piece.now opened.now)) (ending_of piece.now opened.now) }
 {
     for u in opened.slices.iter() {
         if row < u.row {
-            return paint(piece, u, s, covered, forward, backward, scratch, out).err();
+            return paint(piece, u, basis, covered, scratch, out).err();
         }
     }
     let place = ending(piece, opened)?;
@@ -116,24 +117,19 @@ pub fn read_row<V: RefView>(
         out.old result out.new }
 {
     let s = opened.setup();
+    let basis = PictureBasis {
+        setup: &s,
+        forward,
+        backward,
+    };
     let mut scratch = Scratch::new();
-    match read_own(opened, piece, &s, row, forward, backward, &mut scratch, out) {
+    match read_own(opened, piece, &basis, row, &mut scratch, out) {
         Err(f) => Some(f),
         Ok(covered) => {
             if covered == (row + 1) * s.context.columns {
                 return None;
             }
-            missing(
-                opened,
-                piece,
-                &s,
-                row,
-                covered,
-                forward,
-                backward,
-                &mut scratch,
-                out,
-            )
+            missing(opened, piece, &basis, row, covered, &mut scratch, out)
         }
     }
 }

@@ -9,10 +9,9 @@ ghost use Rattle.m2v_dec_rows.specs.Reads.{IsWide, TellsUnread};
 
 use crate::SliceUnit;
 use m2v_bits::BitReader;
-use m2v_dec_picture::{Scratch, read_slice};
+use m2v_dec_picture::{PictureBasis, Scratch, read_slice};
 use m2v_dec_piece::{Fault, Piece};
 use m2v_dec_unit::Unit;
-use m2v_model::SliceSetup;
 use m2v_plane::{RefView, RowSamples};
 
 /// The bytes of a slice that the piece keeps: all but zero bytes that end the piece.
@@ -55,30 +54,30 @@ fn body_of<'a>(piece: &'a Piece, u: &SliceUnit) -> BitReader<'a>
 pub fn paint<V: RefView>(
     piece: &Piece,
     u: &SliceUnit,
-    s: &SliceSetup,
+    basis: &PictureBasis<V>,
     covered: u32,
-    forward: &V,
-    backward: &V,
     scratch: &mut Scratch,
     out: &mut RowSamples,
 ) -> Result<u32, Fault>
     requires piece { IsSoundPiece piece.now }
     requires stands { StandsIn piece.now u.now }
-    requires row { u.now.row < rows_in s.now }
-    requires setup { IsSetup s.now }
+    requires row { u.now.row < rows_in basis.now.setup.now }
+    requires setup { IsSetup basis.now.setup.now }
     requires covered { covered ≤ 2 ^ 16 }
-    requires forward { HoldsForward s.now (V.size forward.now) (V.Holds forward.now) }
-    requires backward { HoldsBackward s.now (V.size backward.now) (V.Holds backward.now) }
-    requires wide { IsWide s.now out.old }
-    ensures exact { TellsUnread s.now (seen_by (V.at forward.now) (V.at backward.now)) covered
+    requires forward { HoldsForward basis.now.setup.now (V.size basis.now.forward.now)
+        (V.Holds basis.now.forward.now) }
+    requires backward { HoldsBackward basis.now.setup.now (V.size basis.now.backward.now)
+        (V.Holds basis.now.backward.now) }
+    requires wide { IsWide basis.now.setup.now out.old }
+    ensures exact { TellsUnread basis.now.setup.now
+        (seen_by (V.at basis.now.forward.now) (V.at basis.now.backward.now)) covered
         (unread piece.now u.now) out.old result out.new }
-    ensures covered { IfOk result (λ end. end ≤ (u.now.row + 1) * s.now.context.columns) }
-    ensures wide { IfOk result (λ end. IsWide s.now out.new) }
+    ensures covered { IfOk result (λ end. end
+        ≤ (u.now.row + 1) * basis.now.setup.now.context.columns) }
+    ensures wide { IfOk result (λ end. IsWide basis.now.setup.now out.new) }
 {
     let mut bits = body_of(piece, u);
-    match read_slice(
-        &mut bits, s, covered, u.row, forward, backward, scratch, out,
-    ) {
+    match read_slice(&mut bits, basis, covered, u.row, scratch, out) {
         Ok(end) => Ok(end.covered),
         Err(e) => Err(Fault {
             kind: e.kind,

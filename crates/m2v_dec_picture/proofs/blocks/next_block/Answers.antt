@@ -1,4 +1,4 @@
-use Rattle.std.proofs.Common.{◌∙◌, arith, All, take}
+use Rattle.std.proofs.Common.{◌∙◌, arith, take}
 use Rattle.std.specs.Prelude.{nat_lt}
 use Rattle.std.proofs.lemmas.Int.{to_z-of_z}
 use Rattle.std.proofs.lemmas.List.{length-map}

@@ -1,4 +1,4 @@
-use Rattle.std.proofs.Common.{◌≡◌, ◌||◌, not, true, false, nat_eq, refl, sym, ap, ◌∙◌, rules}
+use Rattle.std.proofs.Common.{rules}
 use Rattle.m2v_macro.specs.States.{skips}
 use Rattle.m2v_dec_picture.proofs.RowLaws.{gap_none, gap_is}
 use Rattle.m2v_dec_picture.proofs.gap.gap_before.Goals.{then-before-via-then-before, then-before-via-else-before+then-m-eq1}

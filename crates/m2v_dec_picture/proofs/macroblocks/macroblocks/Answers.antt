@@ -1,8 +1,6 @@
-use Rattle.std.proofs.Common.{◌≡◌, ◌+◌, ◌*◌, ◌-◌, ◌≤◌, ℕ, Bool, true, false, refl, sym, ap, subst, ◌∙◌, [], ◌∷◌, ◌++◌, List, length, cond, arith, pos, ◌≤ℤ◌, ◌+ℤ◌}
+use Rattle.std.proofs.Common.{◌≡◌, ◌+◌, ◌-◌, ◌≤◌, refl, sym, ◌∙◌, [], ◌∷◌, ◌++◌, length, arith}
 use Rattle.std.specs.Prelude.{filter}
-use Rattle.std.proofs.lemmas.Int.{ints}
 use Rattle.std.proofs.lemmas.Result.{err_from_is_err_and}
-use Rattle.m2v_macro.specs.declared.values.SliceState.{SliceState}
 use Rattle.m2v_model.specs.Slices.{Row, with_next, is_large}
 use Rattle.m2v_dec_picture.specs.Reads.{seen_by}
 use Rattle.m2v_dec_picture.proofs.SliceLaws.{macroblocks_err, macroblocks_more, macroblocks_last, macroblock_less}
@@ -12,8 +10,8 @@ use Rattle.m2v_dec_picture.proofs.macroblocks.macroblocks.Goals as goal
 
 pub loop-r-init : goal.loop-r-init
 loop-r-init g c =
-    let s = c.args.s.now in
-    let refs = seen_by (g.V.RefView.at c.args.forward.now) (g.V.RefView.at c.args.backward.now) in
+    let s = c.args.basis.now.setup.now in
+    let refs = seen_by (g.V.RefView.at c.args.basis.now.forward.now) (g.V.RefView.at c.args.basis.now.backward.now) in
     record {
       macroblocks = ([], [], refl, left_first g.T.Target.placed s refs c.args.first (g.T.Target.samples c.args.out.now), refl);
       state = c.requires.state;
@@ -31,19 +29,19 @@ returns-in_err-r-clause-exact g c =
     let p = err_from_is_err_and c.from_residual.result c.from_residual.ensures.1 in
     let r : Row = record { state = c.loop-r.state; macroblocks = inv.0; bits = inv.1 } in
     let e = c.in_err-r.field-0.0 in
-    rw (p.1, p.2) (sym inv.2 ∙ macroblocks_err c.args.s.now r c.loop-r.input.rest (e.kind, e.left) c.in_err-r.ensures.exact)
+    rw (p.1, p.2) (sym inv.2 ∙ macroblocks_err c.args.basis.now.setup.now r c.loop-r.input.rest (e.kind, e.left) c.in_err-r.ensures.exact)
 
 pub overflow_add-large : goal.overflow_add-large
 overflow_add-large g c =
-    let few = large_few c.args.s.now.context c.args.row c.args.first.next c.loop-r.state c.loop-r.large c.loop-r.invariant.state.place c.loop-r.invariant.few in
+    let few = large_few c.args.basis.now.setup.now.context c.args.row c.args.first.next c.loop-r.state c.loop-r.large c.loop-r.invariant.state.place c.loop-r.invariant.few in
     record { fits = omega (arith, few) }
 
 pub returns-then-not-r-clause-exact : goal.returns-then-not-r-clause-exact
 returns-then-not-r-clause-exact g c =
     let inv = c.loop-r.invariant.macroblocks in
     let x = c.in_ok-r.ensures.exact in
-    let s = c.args.s.now in
-    let refs = seen_by (g.V.RefView.at c.args.forward.now) (g.V.RefView.at c.args.backward.now) in
+    let s = c.args.basis.now.setup.now in
+    let refs = seen_by (g.V.RefView.at c.args.basis.now.forward.now) (g.V.RefView.at c.args.basis.now.backward.now) in
     let before = c.loop-r.input.rest in
     let rest = c.next_macroblock.new.input.rest in
     let r : Row = record { state = c.loop-r.state; macroblocks = inv.0; bits = inv.1 } in
@@ -75,14 +73,14 @@ returns-then-not-r-clause-takes g c = λ p t. c.in_ok-r.ensures.takes p (c.loop-
 pub loop-r-smaller : goal.loop-r-smaller
 loop-r-smaller g c =
     let x = c.in_ok-r.ensures.exact in
-    macroblock_less c.args.s.now c.loop-r.state x.0 c.loop-r.input.rest c.next_macroblock.new.input.rest x.1
+    macroblock_less c.args.basis.now.setup.now c.loop-r.state x.0 c.loop-r.input.rest c.next_macroblock.new.input.rest x.1
 
 pub loop-r-preserved : goal.loop-r-preserved
 loop-r-preserved g c =
     let inv = c.loop-r.invariant.macroblocks in
     let x = c.in_ok-r.ensures.exact in
-    let s = c.args.s.now in
-    let refs = seen_by (g.V.RefView.at c.args.forward.now) (g.V.RefView.at c.args.backward.now) in
+    let s = c.args.basis.now.setup.now in
+    let refs = seen_by (g.V.RefView.at c.args.basis.now.forward.now) (g.V.RefView.at c.args.basis.now.backward.now) in
     let before = c.loop-r.input.rest in
     let rest = c.next_macroblock.new.input.rest in
     let n = length before - length rest in

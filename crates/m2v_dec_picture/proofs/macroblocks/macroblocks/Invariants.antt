@@ -11,10 +11,10 @@ use Rattle.m2v_dec_picture.proofs.macroblocks.macroblocks.Given as goal
 abbrev pub invariant-loop-r : goal.invariant-loop-r
 invariant-loop-r g l = record {
   macroblocks : (xs : List Macroblock) × (bs : List ℕ)
-      × ((macroblocks_at l.s (record { state = l.state; macroblocks = xs; bits = bs })).read l.input.rest ≡ (macroblocks_at l.s (record { state = l.fn.first; macroblocks = []; bits = [] })).read l.fn.input.rest)
-      × Left g.T.Target.placed l.s (seen_by (g.V.RefView.at l.forward) (g.V.RefView.at l.backward)) l.fn.first (g.T.Target.samples l.fn.out) xs l.state (g.T.Target.samples l.out)
+      × ((macroblocks_at l.basis.setup.now (record { state = l.state; macroblocks = xs; bits = bs })).read l.input.rest ≡ (macroblocks_at l.basis.setup.now (record { state = l.fn.first; macroblocks = []; bits = [] })).read l.fn.input.rest)
+      × Left g.T.Target.placed l.basis.setup.now (seen_by (g.V.RefView.at l.basis.forward.now) (g.V.RefView.at l.basis.backward.now)) l.fn.first (g.T.Target.samples l.fn.out) xs l.state (g.T.Target.samples l.out)
       × (l.large ≡ length (filter is_large bs));
-  state : IsState l.s.context l.row l.state;
+  state : IsState l.basis.setup.now.context l.row l.state;
   few : AreFew l.fn.first.next l.state l.large;
   text : l.input.text ≡ l.fn.input.text;
   takes : (p : MbPlace) → g.T.Target.Takes l.fn.out p → g.T.Target.Takes l.out p;

@@ -1,4 +1,4 @@
-use Rattle.std.proofs.Common.{◌≡◌, ◌∙◌, ◌&&◌, ap}
+use Rattle.std.proofs.Common.{◌∙◌, ◌&&◌, ap}
 use Rattle.m2v_pred.specs.declared.mode.Mode.{Mode}
 use Rattle.m2v_pred.specs.declared.mode.MbPlace.{MbPlace}
 use Rattle.m2v_pred.specs.Inside.{is_inside}
@@ -10,7 +10,7 @@ pub returns : goal.returns
 returns c =
     let s = c.args.s.now in
     let row = c.args.row in
-    let gap = c.args.gap in
+    let gap = c.args.x.now.gap in
     let own = c.inside-own_inside.ensures.exact ∙ ap (λ (m : Mode). is_inside m c.place.result s.dims) c.requires.mode
-    ∙ ap (λ (at : MbPlace). is_inside (mode_of s.context c.args.m.now) at s.dims) c.place.ensures in
-    c.both.ensures ∙ (λ i. c.skipped_inside-gap_inside.ensures i && own i) ∙ inside_by_columns s row c.args.column c.args.before.now c.args.m.now gap c.requires.gap c.requires.column
+    ∙ ap (λ (at : MbPlace). is_inside (mode_of s.context c.args.x.now.syntax) at s.dims) c.place.ensures in
+    c.both.ensures ∙ (λ i. c.skipped_inside-gap_inside.ensures i && own i) ∙ inside_by_columns s row c.args.x.now.column c.args.before.now c.args.x.now.syntax gap c.requires.gap c.requires.column

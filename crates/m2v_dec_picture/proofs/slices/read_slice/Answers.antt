@@ -1,4 +1,4 @@
-use Rattle.std.proofs.Common.{◌≡◌, ◌≤◌, ◌<◌, ◌+◌, ◌*◌, ◌^◌, ℕ, sym, ap, subst, ◌∙◌, Ok, Err, pos, ◌+ℤ◌}
+use Rattle.std.proofs.Common.{◌≡◌, ℕ, sym, ap, subst, ◌∙◌, Ok, Err, pos, ◌+ℤ◌}
 use Rattle.std.specs.Prelude.{nat_abs}
 use Rattle.std.proofs.lemmas.Result.{err_from_is_err_and}
 use Rattle.m2v_macro.specs.declared.values.SliceState.{SliceState}
@@ -14,18 +14,18 @@ pub returns-in_err-info-clause-exact : goal.returns-in_err-info-clause-exact
 returns-in_err-info-clause-exact g c =
     let f = c.in_err-info.field-0.0 in
     let r = err_from_is_err_and c.from_residual.result c.from_residual.ensures.1 in
-    rw (r.1, r.2) (slice_no_header c.args.s.now c.args.covered c.args.row c.args.input.now.rest (f.kind, f.left) c.in_err-info.ensures.exact)
+    rw (r.1, r.2) (slice_no_header c.args.basis.now.setup.now c.args.covered c.args.row c.args.input.now.rest (f.kind, f.left) c.in_err-info.ensures.exact)
 
 pub returns-in_err-increment-clause-exact : goal.returns-in_err-increment-clause-exact
 returns-in_err-increment-clause-exact g c =
     let f = c.in_err-increment.field-0.0 in
     let r = err_from_is_err_and c.from_residual-in_err-increment.result c.from_residual-in_err-increment.ensures.1 in
     rw (r.1, r.2)
-    (slice_no_increment c.args.s.now c.args.covered c.args.row c.args.input.now.rest c.in_ok-info.info c.header.new.input.rest (f.kind, f.left) c.in_ok-info.ensures.exact c.in_err-increment.ensures.exact)
+    (slice_no_increment c.args.basis.now.setup.now c.args.covered c.args.row c.args.input.now.rest c.in_ok-info.info c.header.new.input.rest (f.kind, f.left) c.in_ok-info.ensures.exact c.in_err-increment.ensures.exact)
 
 pub returns-then-not-begins_late-clause-exact : goal.returns-then-not-begins_late-clause-exact
 returns-then-not-begins_late-clause-exact g c =
-    let s = c.args.s.now in
+    let s = c.args.basis.now.setup.now in
     let n = c.in_ok-increment.ensures.exact in
     let late = sym (c.begins_late.ensures n.0 n.2 c.requires.covered) in
     rw c.unit_left-unit.ensures.value
@@ -33,7 +33,7 @@ returns-then-not-begins_late-clause-exact g c =
 
 pub macroblocks-requires-clause-state : goal.macroblocks-requires-clause-state
 macroblocks-requires-clause-state g c =
-    let s = c.args.s.now in
+    let s = c.args.basis.now.setup.now in
     let row = c.args.row in
     let first = c.at_start-first.result in
     let e : first ≡ slice_start s.context row c.args.covered c.in_ok-info.info.quantiser = first_is s.context c.args.covered row c.in_ok-info.info.quantiser first c.at_start-first.ensures.value in
@@ -41,13 +41,13 @@ macroblocks-requires-clause-state g c =
 
 pub macroblocks-requires-clause-begins : goal.macroblocks-requires-clause-begins
 macroblocks-requires-clause-begins g c =
-    let s = c.args.s.now in
+    let s = c.args.basis.now.setup.now in
     let e = first_is s.context c.args.covered c.args.row c.in_ok-info.info.quantiser c.at_start-first.result c.at_start-first.ensures.value in
     ap (λ (z : SliceState). z.first) e ∙ start_first s.context c.args.covered c.args.row c.in_ok-info.info.quantiser
 
 pub returns-clause-large : goal.returns-clause-large
 returns-clause-large g c =
-    let s = c.args.s.now in
+    let s = c.args.basis.now.setup.now in
     let covered = c.args.covered in
     let e = first_is s.context covered c.args.row c.in_ok-info.info.quantiser c.at_start-first.result c.at_start-first.ensures.value in
     let next = ap (λ (z : SliceState). z.next) e ∙ start_next s.context covered c.args.row c.in_ok-info.info.quantiser in
@@ -56,11 +56,11 @@ returns-clause-large g c =
 
 pub returns-in_err-last-clause-exact : goal.returns-in_err-last-clause-exact
 returns-in_err-last-clause-exact g c =
-    let s = c.args.s.now in
+    let s = c.args.basis.now.setup.now in
     let row = c.args.row in
     let covered = c.args.covered in
     let mid = c.header.new.input.rest in
-    let refs = seen_by (g.V.RefView.at c.args.forward.now) (g.V.RefView.at c.args.backward.now) in
+    let refs = seen_by (g.V.RefView.at c.args.basis.now.forward.now) (g.V.RefView.at c.args.basis.now.backward.now) in
     let n = c.in_ok-increment.ensures.exact in
     let late = sym (c.begins_late.ensures n.0 n.2 c.requires.covered) in
     let e = first_is s.context covered row c.in_ok-info.info.quantiser c.at_start-first.result c.at_start-first.ensures.value in
@@ -71,12 +71,12 @@ returns-in_err-last-clause-exact g c =
 
 pub returns-clause-exact : goal.returns-clause-exact
 returns-clause-exact g c =
-    let s = c.args.s.now in
+    let s = c.args.basis.now.setup.now in
     let row = c.args.row in
     let covered = c.args.covered in
     let mid = c.header.new.input.rest in
     let rest = c.macroblocks.new.input.rest in
-    let refs = seen_by (g.V.RefView.at c.args.forward.now) (g.V.RefView.at c.args.backward.now) in
+    let refs = seen_by (g.V.RefView.at c.args.basis.now.forward.now) (g.V.RefView.at c.args.basis.now.backward.now) in
     let n = c.in_ok-increment.ensures.exact in
     let late = sym (c.begins_late.ensures n.0 n.2 c.requires.covered) in
     let e = first_is s.context covered row c.in_ok-info.info.quantiser c.at_start-first.result c.at_start-first.ensures.value in

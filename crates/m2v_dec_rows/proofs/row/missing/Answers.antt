@@ -7,7 +7,7 @@ use Rattle.m2v_dec_rows.proofs.row.missing.Goals as goal
 
 pub returns-then-row-u : goal.returns-then-row-u
 returns-then-row-u g c =
-    let s = c.args.s.now in
+    let s = c.args.basis.now.setup.now in
     let f = unread c.args.piece.now in
     let end = ending c.args.piece.now c.args.opened.now in
     error_told _ _ _ _ (below c.args.row (map f (drop (c.loop-u.u-index + 1) c.deref-u-items.result.now))) end _ _ _ c.paint.ensures.exact c.err.ensures.value

@@ -19,7 +19,7 @@ pub returns-in_err-covered-clause-exact : goal.returns-in_err-covered-clause-exa
 returns-in_err-covered-clause-exact g c =
     let p = err_from_is_err_and c.from_residual.result c.from_residual.ensures.1 in
     let e = c.in_err-covered.field-0.0 in
-    let s = c.args.s.now in
+    let s = c.args.basis.now.setup.now in
     let now : Read = Ok ([], first_of s c.args.row) in
     let f = unread c.args.piece.now in
     let inv = c.loop-u.invariant.read in
@@ -30,9 +30,9 @@ returns-in_err-covered-clause-exact g c =
 
 pub loop-u-preserved : goal.loop-u-preserved
 loop-u-preserved g c =
-    let s = c.args.s.now in
+    let s = c.args.basis.now.setup.now in
     let now : Read = Ok ([], first_of s c.args.row) in
-    let refs = seen_by (g.V.RefView.at c.args.forward.now) (g.V.RefView.at c.args.backward.now) in
+    let refs = seen_by (g.V.RefView.at c.args.basis.now.forward.now) (g.V.RefView.at c.args.basis.now.backward.now) in
     let f = unread c.args.piece.now in
     let items = c.deref-u-items.result.now in
     let i = c.loop-u.u-index in

@@ -9,8 +9,8 @@ use Rattle.m2v_dec_rows.proofs.row.read_own.Given as goal
 abbrev pub invariant-loop-u : goal.invariant-loop-u
 invariant-loop-u g l = record {
   read : (xs : List Begun)
-      × (slices_read l.s (Ok ([], first_of l.s l.row)) (own l.row (map (unread l.piece) (take l.u-index l.u-items))) ≡ Ok (xs, l.covered))
-      × (l.out ≡ slices_painted put_in_row l.s (seen_by (g.V.RefView.at l.forward) (g.V.RefView.at l.backward)) l.fn.out xs);
-  covered : l.covered ≤ (l.row + 1) * l.s.context.columns;
-  wide : IsWide l.s l.out;
+      × (slices_read l.basis.setup.now (Ok ([], first_of l.basis.setup.now l.row)) (own l.row (map (unread l.piece) (take l.u-index l.u-items))) ≡ Ok (xs, l.covered))
+      × (l.out ≡ slices_painted put_in_row l.basis.setup.now (seen_by (g.V.RefView.at l.basis.forward.now) (g.V.RefView.at l.basis.backward.now)) l.fn.out xs);
+  covered : l.covered ≤ (l.row + 1) * l.basis.setup.now.context.columns;
+  wide : IsWide l.basis.setup.now l.out;
 }

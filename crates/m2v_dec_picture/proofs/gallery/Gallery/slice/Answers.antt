@@ -1,6 +1,5 @@
-use Rattle.std.proofs.Common.{◌≡◌, ◌∙◌, sym, ap, subst, rules, Ok, Err}
+use Rattle.std.proofs.Common.{◌∙◌, sym, subst}
 use Rattle.std.specs.Prelude.{IsSome}
-use Rattle.m2v_plane.specs.Samples.{Samples}
 use Rattle.m2v_dec_picture.proofs.FrameLaws.{references_are, both_shown, shown, view_holds, slice_told, slice_size}
 use Rattle.m2v_plane.specs.Fields.{sample_at}
 use Rattle.m2v_dec_picture.specs.Reads.{seen_by}
