@@ -20,9 +20,11 @@ bytes() { printf "$(printf '\\x%s' $*)"; }
 # grey N: N bytes of value 128.
 grey() { head -c "$1" /dev/zero | tr '\0' '\200'; }
 
+# what is told goes here also where a case has another standard output
+exec 3>&1
 # tell NAME FAULT: one case more, passed where there is no fault.
 tell() {
-  if [ -z "$2" ]; then passed=$((passed + 1)); else failed=$((failed + 1)); echo "FAILED: $1: $2"; fi
+  if [ -z "$2" ]; then passed=$((passed + 1)); else failed=$((failed + 1)); echo "FAILED: $1: $2" >&3; fi
 }
 
 # holds NAME STATUS LINE OUTPUT WORD..: runs the program on the file `in`; LINE is what stands on standard error without its
