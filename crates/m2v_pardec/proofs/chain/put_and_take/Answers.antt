@@ -11,7 +11,7 @@ pub returns-in_err-put_rows-clause-err : goal.returns-in_err-put_rows-clause-err
 returns-in_err-put_rows-clause-err g c =
     let p = err_from_is_err_and c.from_residual.result c.from_residual.ensures.1 in
     let left = g.S.Source.left c.args.input.now in
-    rw (p.1, p.2) (λ bl b others so. c.in_err-put_rows.ensures.err (later_of c.args.rest.now.stop c.args.cutter.now) bl left b (others ++ option_to_list c.args.rest.now.other) so)
+    rw (p.1, p.2) (λ bl b others so. c.in_err-put_rows.ensures.err (later_of c.args.rest.now.stop c.args.stream.now.cutter) bl left b (others ++ option_to_list c.args.rest.now.other) so)
 
 pub returns-in_err-taken-clause-err : goal.returns-in_err-taken-clause-err
 returns-in_err-taken-clause-err g c =
@@ -21,7 +21,7 @@ returns-in_err-taken-clause-err g c =
     rw (p.1, p.2)
     (λ bl b others so. fails_weaker ⊥ (Rose (g.K.Sink.faults c.args.output.now) (g.K.Sink.faults c.put_rows.new.output)) bl (g.S.Source.left c.take_more.new.input) b held errors.Memory (λ f. absurd f)
     (c.in_err-taken.ensures.err.fails bl b held others c.put_rows.new.decoder
-    (c.in_ok-put_rows.ensures.ok (later_of c.args.rest.now.stop c.args.cutter.now) bl left b (others ++ option_to_list c.args.rest.now.other) so)))
+    (c.in_ok-put_rows.ensures.ok (later_of c.args.rest.now.stop c.args.stream.now.cutter) bl left b (others ++ option_to_list c.args.rest.now.other) so)))
 
 pub returns-clause-ok : goal.returns-clause-ok
 returns-clause-ok g c =

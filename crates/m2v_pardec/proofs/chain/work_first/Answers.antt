@@ -7,8 +7,8 @@ use Rattle.m2v_pardec.proofs.AheadLaws.{ahead_unmade}
 use Rattle.m2v_pardec.proofs.ChainLaws.{stops_taking}
 use Rattle.m2v_pardec.proofs.chain.work_first.Goals as goal
 
-pub returns-in_err-bench-clause-err : goal.returns-in_err-bench-clause-err
-returns-in_err-bench-clause-err g c =
+pub returns-in_err-staffed-clause-err : goal.returns-in_err-staffed-clause-err
+returns-in_err-staffed-clause-err g c =
     on_err c.from_residual.result (λ bl b held d so. ahead_unmade ⊥ (later_of c.args.taken.stop c.args.cutter.now) bl (g.S.Source.left c.args.input.now) b held (pieces_of c.args.taken) d so)
 
 pub returns-in_err-taken-clause-err : goal.returns-in_err-taken-clause-err

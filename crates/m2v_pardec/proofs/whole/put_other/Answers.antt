@@ -11,18 +11,18 @@ returns-in_err-put_piece-in-Ok-Some-clause-err g c =
     let begun = rw c.in-Ok-Some.field-0-is at c.in-Ok-Some.ensures.begun in
     let p = err_from_is_err_and c.from_residual.result c.from_residual.ensures.1 in
     rw (p.1, p.2)
-    (wrong_taken _ c.args.cutter.now (g.S.Source.left c.args.input.now) (c.in-Ok-Some.piece ∷ []) More c.next_piece.new.self (g.S.Source.left c.next_piece.new.input) _ _ c.args.decoder.now c.in_err-put_piece-in-Ok-Some.field-0.0
+    (wrong_taken _ c.args.stream.now.cutter (g.S.Source.left c.args.input.now) (c.in-Ok-Some.piece ∷ []) More c.next_piece.new.self (g.S.Source.left c.next_piece.new.input) _ _ c.args.stream.now.decoder c.in_err-put_piece-in-Ok-Some.field-0.0
     (takes_one _ _ c.in-Ok-Some.piece _ _ x begun c.in-Ok-Some.ensures.taken c.in-Ok-Some.ensures.going) c.in_err-put_piece-in-Ok-Some.ensures.err)
 
 pub returns-in-Err-clause-ok : goal.returns-in-Err-clause-ok
-returns-in-Err-clause-ok g c = goes_error _ _ _ _ _ c.args.decoder.now c.in-Err.e c.in-Err.ensures.err c.in-Err.ensures.kind c.requires.going c.requires.before
+returns-in-Err-clause-ok g c = goes_error _ _ _ _ _ c.args.stream.now.decoder c.in-Err.e c.in-Err.ensures.err c.in-Err.ensures.kind c.requires.going c.requires.before
 
 pub returns-in-Ok-None-clause-ok : goal.returns-in-Ok-None-clause-ok
 returns-in-Ok-None-clause-ok g c =
     let x = rw c.in-Ok-None.field-0-is at c.in-Ok-None.ensures.ok in
     let over = rw c.in-Ok-None.field-0-is at c.in-Ok-None.ensures.over in
     let onward = rw c.in-Ok-None.field-0-is at c.in-Ok-None.ensures.onward in
-    goes_end _ _ _ _ _ c.args.decoder.now x over onward.1 c.requires.going c.requires.before
+    goes_end _ _ _ _ _ c.args.stream.now.decoder x over onward.1 c.requires.going c.requires.before
 
 pub returns-in_ok-put_piece-in-Ok-Some-clause-ok :
     goal.returns-in_ok-put_piece-in-Ok-Some-clause-ok
@@ -32,6 +32,6 @@ returns-in_ok-put_piece-in-Ok-Some-clause-ok g c =
     let sound = rw c.in-Ok-Some.field-0-is at c.in-Ok-Some.ensures.sound in
     let onward = rw c.in-Ok-Some.field-0-is at c.in-Ok-Some.ensures.onward in
     let put = c.in_ok-put_piece-in-Ok-Some.ensures in
-    goes_taken c.args.cutter.now (g.S.Source.left c.args.input.now) (c.in-Ok-Some.piece ∷ []) More c.next_piece.new.self (g.S.Source.left c.next_piece.new.input) _ _ c.args.decoder.now c.put_piece.new.decoder
+    goes_taken c.args.stream.now.cutter (g.S.Source.left c.args.input.now) (c.in-Ok-Some.piece ∷ []) More c.next_piece.new.self (g.S.Source.left c.next_piece.new.input) _ _ c.args.stream.now.decoder c.put_piece.new.decoder
     (takes_one _ _ c.in-Ok-Some.piece _ _ x begun c.in-Ok-Some.ensures.taken c.in-Ok-Some.ensures.going) put.ok
-    (stands_one c.args.cutter.now c.next_piece.new.self c.in-Ok-Some.piece c.args.decoder.now c.put_piece.new.decoder onward sound c.in-Ok-Some.ensures.going c.requires.counted put.counted) put.going put.before
+    (stands_one c.args.stream.now.cutter c.next_piece.new.self c.in-Ok-Some.piece c.args.stream.now.decoder c.put_piece.new.decoder onward sound c.in-Ok-Some.ensures.going c.requires.counted put.counted) put.going put.before
