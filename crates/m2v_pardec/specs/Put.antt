@@ -1,5 +1,5 @@
 -- Pictures of a batch that was decoded, taken into the decoder one after another.
-use Rattle.std.specs.Prelude.{◌≡◌, ℕ, ◌+◌, ◌<◌, ◌≤◌, true, false, List, [], ◌++◌, slice_get, Option, Some}
+use Rattle.std.specs.Prelude.{◌≡◌, ℕ, ◌+◌, ◌<◌, ◌≤◌, ◌^◌, true, false, List, [], ◌++◌, slice_get, Option, Some}
 use Rattle.m2v_model.specs.declared.state.State.{State}
 use Rattle.m2v_dec_piece.specs.declared.answer.Piece.{Piece}
 use Rattle.m2v_dec_piece.specs.declared.answer.DecodeError.{DecodeError}
@@ -52,6 +52,24 @@ CountsTo ps old last new = (high : ℕ) → AreInOrder old.pictures ps high → 
 
 abbrev pub CountsOn : List Piece → Decoding → Decoding → Type 0
 CountsOn ps old new = CountsTo ps old [] new
+
+-- pieces come next, in the order of the input, and the decoder is at work
+pub record AreNext (ps : List Piece) (d : Decoding) : Type 0 where
+  pub going : d.failed ≡ false
+  pub before : d.ended ≡ false
+  pub order : (high : ℕ) × (high ≤ 2 ^ 36) × AreInOrder d.pictures ps high
+
+-- they were decoded and the frames due then written, and the decoder is at work still
+pub record WerePut (ps : List Piece) (old : Decoding) (held : Option (List ℕ)) (new : Decoding) (held_then : Option (List ℕ)) : Type 0 where
+  pub puts : PutsAll ps old held new held_then
+  pub counted : CountsOn ps old new
+  pub going : new.failed ≡ false
+  pub before : new.ended ≡ false
+
+-- a batch comes next: its headers follow the decoder's state, and the frames at hand are those before its first picture
+pub record ComesNext (b : Batch) (ss : List State) (d : Decoding) : Type 0 where
+  pub told : AreTold d.state b.pictures ss
+  pub tracks : Tracks b 0 (store_of d.frames)
 
 -- all rows of a batch are rebuilt
 abbrev pub AreAllThere : Batch → Type 0

@@ -130,6 +130,12 @@ IsSet More c = c.failed ≡ false
 IsSet End c = c.ended ≡ true
 IsSet (Error e) c = IsReading e
 
+-- pieces can be taken behind what is left
+pub record CanTakeMore (r : Rest) (c : Cutting) : Type 0 where
+  pub known : IsKnown r.behind
+  pub set : IsSet r.stop c
+  pub most : c.place ≤ 2 ^ 36
+
 -- a number that falls with each batch that is taken
 abbrev pub batches_left : Stop → Cutting → ℕ
 batches_left More c = 2 ^ 36 + 1 - c.place

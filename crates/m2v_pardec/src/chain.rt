@@ -8,8 +8,8 @@ ghost use Rattle.m2v_dec_batch.specs.Filled.{with_frames, AreThere, HaveDims};
 ghost use Rattle.m2v_pardec.specs.Behind.{Tracks};
 ghost use Rattle.m2v_dec_batch.specs.m2v_dec_rows.Headers.{IsBetween};
 ghost use Rattle.m2v_pardec.specs.Ahead.{AreInOrder};
-ghost use Rattle.m2v_pardec.specs.Taken.{AreTold, IsKnown, IsSet, TakenBehind, TakesMore, pieces_of, piece_of, ReadOn};
-ghost use Rattle.m2v_pardec.specs.Put.{PutsAll, StopsBy, CountsOn, AreAllThere};
+ghost use Rattle.m2v_pardec.specs.Taken.{AreTold, IsKnown, IsSet, TakenBehind, TakesMore, pieces_of, piece_of, ReadOn, CanTakeMore};
+ghost use Rattle.m2v_pardec.specs.Put.{PutsAll, StopsBy, CountsOn, AreAllThere, AreNext, WerePut, ComesNext};
 ghost use Rattle.m2v_pardec.specs.Chain.{CanPut, DidPut, AreWaiting, IsUnderWay, WorksOn, GoesFrom, WrongFrom, TakingFails, PuttingFails, StopsTaking, WorksNext, StopsUnder};
 
 use crate::pieces::{put_pieces, put_rest};
@@ -37,13 +37,10 @@ fn put_and_take<S: Source, K: Sink>(
     input: &mut S,
     output: &mut K,
 ) -> Result<Taken, DecodeError>
-    requires done { worked.now.done ≡ worked.now.book }
-    requires can { CanPut worked.now.book worked.now.after.items rest.old stream.old.cutter
-        stream.old.decoder }
+    requires can { CanPut worked.now rest.old stream.old }
     requires output { IsTrue (K.ready output.old) }
-    ensures ok { IfOk result (DidPut worked.now.book worked.now.after.items rest.old
-        stream.old.cutter (S.left input.old) (K.held output.old) stream.old.decoder
-        stream.new.cutter (S.left input.new) (K.held output.new) stream.new.decoder) }
+    ensures ok { IfOk result (DidPut worked.now rest.old stream.old (S.left input.old) (K.held
+        output.old) stream.new (S.left input.new) (K.held output.new)) }
     ensures err { IfErr result (PuttingFails (Rose (K.faults output.old) (K.faults output.new))
         (map piece_of worked.now.book.pictures) rest.old stream.old.cutter (S.left input.old)
         (K.held output.old) stream.old.decoder (S.left input.new) (K.held output.new)) }
@@ -76,14 +73,11 @@ fn run_and_put<R: Threads + Wait + Sync, S: Source, K: Sink, G: Gate + Sync>(
     output: &mut K,
 ) -> (Done<DecodeBook>, Result<Taken, DecodeError>)
     requires staffed { IsStaffed staffed }
-    requires done { worked.now.done ≡ worked.now.book }
-    requires can { CanPut worked.now.book worked.now.after.items rest.old stream.old.cutter
-        stream.old.decoder }
+    requires can { CanPut worked.now rest.old stream.old }
     requires output { IsTrue (K.ready output.old) }
     ensures rows { result.0 ≡ staffed.entry.book.now }
-    ensures ok { IfOk result.1 (DidPut worked.now.book worked.now.after.items rest.old
-        stream.old.cutter (S.left input.old) (K.held output.old) stream.old.decoder
-        stream.new.cutter (S.left input.new) (K.held output.new) stream.new.decoder) }
+    ensures ok { IfOk result.1 (DidPut worked.now rest.old stream.old (S.left input.old) (K.held
+        output.old) stream.new (S.left input.new) (K.held output.new)) }
     ensures err { IfErr result.1 (PuttingFails (Rose (K.faults output.old) (K.faults output.new))
         (map piece_of worked.now.book.pictures) rest.old stream.old.cutter (S.left input.old)
         (K.held output.old) stream.old.decoder (S.left input.new) (K.held output.new)) }
@@ -111,9 +105,7 @@ fn run_and_take<R: Threads + Wait + Sync, S: Source, G: Gate + Sync>(
     input: &mut S,
 ) -> (Done<DecodeBook>, Result<Taken, AllocError>)
     requires staffed { IsStaffed staffed }
-    requires known { IsKnown rest.old.behind }
-    requires set { IsSet rest.old.stop cutter.old }
-    requires most { cutter.old.place ≤ 2 ^ 36 }
+    requires can { CanTakeMore rest.old cutter.old }
     ensures rows { result.0 ≡ staffed.entry.book.now }
     ensures ok { IfOk result.1 (TakesMore rest.old cutter.old (S.left input.old) cutter.new
         (S.left input.new)) }
@@ -212,22 +204,14 @@ fn put_worked<K: Sink>(
     output: &mut K,
 ) -> Result<(), DecodeError>
     requires done { worked.now.done ≡ worked.now.book }
-    requires going { decoder.old.failed ≡ false }
-    requires before { decoder.old.ended ≡ false }
-    requires order { (high : ℕ) × (high ≤ 2 ^ 36)
-        × AreInOrder decoder.old.pictures (map piece_of worked.now.book.pictures) high }
-    requires told { AreTold decoder.old.state worked.now.book.pictures worked.now.after.items }
-    requires tracks { Tracks worked.now.book 0 (store_of decoder.old.frames) }
+    requires next { AreNext (map piece_of worked.now.book.pictures) decoder.old }
+    requires comes { ComesNext worked.now.book worked.now.after.items decoder.old }
     requires output { IsTrue (K.ready output.old) }
-    ensures ok { OnOk result (PutsAll (map piece_of worked.now.book.pictures) decoder.old
-        (K.held output.old) decoder.new (K.held output.new)) }
+    ensures ok { OnOk result (WerePut (map piece_of worked.now.book.pictures) decoder.old (K.held
+        output.old) decoder.new (K.held output.new)) }
     ensures err { IfErr result (StopsBy (Rose (K.faults output.old) (K.faults output.new))
         (map piece_of worked.now.book.pictures) decoder.old (K.held output.old)
         (K.held output.new)) }
-    ensures counted { OnOk result
-        (CountsOn (map piece_of worked.now.book.pictures) decoder.old decoder.new) }
-    ensures going { OnOk result (decoder.new.failed ≡ false) }
-    ensures before { OnOk result (decoder.new.ended ≡ false) }
     ensures output { SinkStays K.ready K.name K.faults output.old output.new }
 {
     if worked.is_rebuilt() {
@@ -252,18 +236,12 @@ fn put_taken<K: Sink>(
     raw: &mut Vec<u8>,
     output: &mut K,
 ) -> Result<(), DecodeError>
-    requires going { decoder.old.failed ≡ false }
-    requires before { decoder.old.ended ≡ false }
-    requires order { (high : ℕ) × (high ≤ 2 ^ 36)
-        × AreInOrder decoder.old.pictures (pieces_of taken.now) high }
+    requires next { AreNext (pieces_of taken.now) decoder.old }
     requires output { IsTrue (K.ready output.old) }
-    ensures ok { OnOk result (PutsAll (pieces_of taken.now) decoder.old (K.held output.old)
+    ensures ok { OnOk result (WerePut (pieces_of taken.now) decoder.old (K.held output.old)
         decoder.new (K.held output.new)) }
     ensures err { IfErr result (StopsBy (Rose (K.faults output.old) (K.faults output.new))
         (pieces_of taken.now) decoder.old (K.held output.old) (K.held output.new)) }
-    ensures counted { OnOk result (CountsOn (pieces_of taken.now) decoder.old decoder.new) }
-    ensures going { OnOk result (decoder.new.failed ≡ false) }
-    ensures before { OnOk result (decoder.new.ended ≡ false) }
     ensures output { SinkStays K.ready K.name K.faults output.old output.new }
 {
     put_pieces(alloc, decoder, taken.pictures.pictures(), raw, output)?;
@@ -280,23 +258,15 @@ fn put_last<K: Sink>(
     output: &mut K,
 ) -> Result<(), DecodeError>
     requires done { worked.now.done ≡ worked.now.book }
-    requires going { decoder.old.failed ≡ false }
-    requires before { decoder.old.ended ≡ false }
-    requires order { (high : ℕ) × (high ≤ 2 ^ 36) × AreInOrder decoder.old.pictures
-        (map piece_of worked.now.book.pictures ++ pieces_of next.now) high }
-    requires told { AreTold decoder.old.state worked.now.book.pictures worked.now.after.items }
-    requires tracks { Tracks worked.now.book 0 (store_of decoder.old.frames) }
+    requires next { AreNext (map piece_of worked.now.book.pictures ++ pieces_of next.now)
+        decoder.old }
+    requires comes { ComesNext worked.now.book worked.now.after.items decoder.old }
     requires output { IsTrue (K.ready output.old) }
-    ensures ok { OnOk result (PutsAll (map piece_of worked.now.book.pictures ++ pieces_of next.now)
+    ensures ok { OnOk result (WerePut (map piece_of worked.now.book.pictures ++ pieces_of next.now)
         decoder.old (K.held output.old) decoder.new (K.held output.new)) }
     ensures err { IfErr result (StopsBy (Rose (K.faults output.old) (K.faults output.new))
         (map piece_of worked.now.book.pictures ++ pieces_of next.now) decoder.old
         (K.held output.old) (K.held output.new)) }
-    ensures counted { OnOk result
-        (CountsOn (map piece_of worked.now.book.pictures ++ pieces_of next.now) decoder.old
-        decoder.new) }
-    ensures going { OnOk result (decoder.new.failed ≡ false) }
-    ensures before { OnOk result (decoder.new.ended ≡ false) }
     ensures output { SinkStays K.ready K.name K.faults output.old output.new }
 {
     put_worked(alloc, worked, decoder, raw, output)?;

@@ -8,7 +8,7 @@ ghost use Rattle.m2v_dec_batch.specs.Batches.{IsBatch};
 ghost use Rattle.m2v_dec_batch.specs.Filled.{batch_of, with_frames, AreThere, HaveDims};
 ghost use Rattle.m2v_pardec.specs.Ahead.{AreInOrder, Takes, WereTaken};
 ghost use Rattle.m2v_pardec.specs.Chain.{TakingFails};
-ghost use Rattle.m2v_pardec.specs.Taken.{IsKnown, IsNothing, MayBeNext, AddedTo, IsRest, TakenBehind, TakesFirst, TakesMore, IsSet, pieces_of, end_by, ReadFailed, ReadOn};
+ghost use Rattle.m2v_pardec.specs.Taken.{IsKnown, IsNothing, MayBeNext, AddedTo, IsRest, TakenBehind, TakesFirst, TakesMore, IsSet, pieces_of, end_by, ReadFailed, ReadOn, CanTakeMore};
 
 use m2v_dec_batch::dec_picture::FramesAtHand;
 use m2v_dec_batch::dec_rows::read_headers;
@@ -266,9 +266,7 @@ pub fn take_more<S: Source>(
     cutter: &mut Cutter,
     input: &mut S,
 ) -> Result<Taken, AllocError>
-    requires known { IsKnown rest.old.behind }
-    requires set { IsSet rest.old.stop cutter.old }
-    requires most { cutter.old.place ≤ 2 ^ 36 }
+    requires { CanTakeMore rest.old cutter.old }
     ensures ok { IfOk result (TakesMore rest.old cutter.old (S.left input.old) cutter.new
         (S.left input.new)) }
     ensures told { IfOk result (TakenBehind rest.old.behind) }

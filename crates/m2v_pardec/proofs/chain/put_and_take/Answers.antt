@@ -21,16 +21,13 @@ returns-in_err-taken-clause-err g c =
     rw (p.1, p.2)
     (λ bl b others so. fails_weaker ⊥ (Rose (g.K.Sink.faults c.args.output.now) (g.K.Sink.faults c.put_rows.new.output)) bl (g.S.Source.left c.take_more.new.input) b held errors.Memory (λ f. absurd f)
     (c.in_err-taken.ensures.err.fails bl b held others c.put_rows.new.decoder
-    (c.in_ok-put_rows.ensures.ok (later_of c.args.rest.now.stop c.args.stream.now.cutter) bl left b (others ++ option_to_list c.args.rest.now.other) so)))
+    ((c.in_ok-put_rows.ensures.ok).puts (later_of c.args.rest.now.stop c.args.stream.now.cutter) bl left b (others ++ option_to_list c.args.rest.now.other) so)))
 
 pub returns-clause-ok : goal.returns-clause-ok
 returns-clause-ok g c =
     let put = c.in_ok-put_rows.ensures in
     record {
-      puts = put.ok;
-      counted = put.counted;
-      going = put.going;
-      before = put.before;
+      put = put.ok;
       told = rw c.as_slice.ensures.value at put.told;
       tracks = put.tracks;
       taken = c.in_ok-taken.ensures.ok;

@@ -76,4 +76,4 @@ returns-clause-ok g c =
     let inv = c.loop-worked.invariant in
     let put = c.in_ok-put_last.ensures in
     chain_ends c.args.taken c.args.stream.now.cutter (g.S.Source.left c.args.input.now) (g.K.Sink.held c.args.output.now) c.args.stream.now.decoder c.loop-worked.worked.book c.loop-worked.worked.after.items c.loop-worked.next c.loop-worked.stream.cutter (g.S.Source.left c.loop-worked.input) (g.K.Sink.held c.loop-worked.output)
-    (g.K.Sink.held c.put_last.new.output) c.loop-worked.stream.decoder c.put_last.new.decoder inv.ahead inv.under inv.rises put.ok put.counted put.going put.before
+    (g.K.Sink.held c.put_last.new.output) c.loop-worked.stream.decoder c.put_last.new.decoder inv.ahead inv.under inv.rises put.ok

@@ -24,7 +24,7 @@ into_book-book-requires-clause-sizes g c =
     frames_sized c.args.worked.now.book c.args.worked.now.after.items c.args.next c.args.stream.now.cutter c.args.stream.now.decoder c.in_ok-frames.frames c.requires.under f.older f.newer f.none
 
 pub run_and_put-done-requires-clause-can : goal.run_and_put-done-requires-clause-can
-run_and_put-done-requires-clause-can g c κs within = can_put c.args.worked.now.book c.args.worked.now.after.items c.args.next c.into_book-book.result.2 c.args.stream.now.cutter c.args.stream.now.decoder c.requires.under c.requires.rebuilt c.into_book-book.ensures.rest
+run_and_put-done-requires-clause-can g c κs within = can_put c.args.worked.now c.args.next c.into_book-book.result.2 c.args.stream.now c.requires.done c.requires.under c.requires.rebuilt c.into_book-book.ensures.rest
 
 pub returns-in_err-staffed-clause-err : goal.returns-in_err-staffed-clause-err
 returns-in_err-staffed-clause-err g c =
@@ -44,7 +44,7 @@ returns-clause-ok g c =
     let book = c.into_book-book.ensures in
     let did = rw c.in_ok-taken.was at c.run_and_put-done.ensures.ok in
     works_next c.args.worked.now.book c.args.worked.now.after.items c.args.next c.in_ok-frames.frames c.args.stream.now.cutter (g.S.Source.left c.args.input.now) (g.K.Sink.held c.args.output.now) c.args.stream.now.decoder c.run_and_put-done.new.stream.cutter (g.S.Source.left c.run_and_put-done.new.input) (g.K.Sink.held c.run_and_put-done.new.output) c.run_and_put-done.new.stream.decoder _ c.in_ok-taken.field-0
-    c.requires.under f.older f.newer f.none did.puts did.counted did.told did.tracks did.going did.before
+    c.requires.under f.older f.newer f.none did.put did.told did.tracks
     (record {
       done = c.run_and_put-done.ensures.rows ∙ c.in_ok-staffed.ensures.book;
       book = book.book;

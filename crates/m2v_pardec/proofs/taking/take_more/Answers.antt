@@ -11,7 +11,7 @@ returns-clause-ok g c =
     let none : c.args.rest.now.other ≡ None = search rules in
     let more : c.args.rest.now.stop ≡ More = search rules in
     let t = c.take-2.ensures in
-    if_takes_more c.args.rest.now c.args.cutter.now (g.S.Source.left c.args.input.now) c.take-2.new.cutter (g.S.Source.left c.take-2.new.input) c.take-2.result none more c.requires.most t.most t.taken t.order t.some
+    if_takes_more c.args.rest.now c.args.cutter.now (g.S.Source.left c.args.input.now) c.take-2.new.cutter (g.S.Source.left c.take-2.new.input) c.take-2.result none more (c.requires).most t.most t.taken t.order t.some
 
 pub returns-clause-err : goal.returns-clause-err
 returns-clause-err g c =
