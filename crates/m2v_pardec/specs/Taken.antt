@@ -103,14 +103,14 @@ end_by End place = place
 end_by (Error e) place = most_input
 
 -- the source failed, where a read did
-abbrev pub ReadFailed : Stop → ℕ → ℕ → Type 0
-ReadFailed More before now = Unit {0}
-ReadFailed End before now = Unit {0}
-ReadFailed (Error e) before now = e ≡ errors.Read → Rose before now
+abbrev pub ReadFailed : Stop → Type 0 → Type 0
+ReadFailed More failed = Unit {0}
+ReadFailed End failed = Unit {0}
+ReadFailed (Error e) failed = e ≡ errors.Read → failed
 
 -- it failed now, where a read did now
 pub record ReadOn (old new : Stop) (before now : ℕ) : Type 0 where
-  pub since : (start : ℕ) → start ≤ before → ReadFailed old start before → ReadFailed new start now
+  pub since : (start : ℕ) → start ≤ before → ReadFailed old (Rose start before) → ReadFailed new (Rose start now)
 
 -- ---- what is left
 

@@ -1,5 +1,6 @@
 //! Pieces taken ahead, and their headers read.
 ghost use Rattle.std.specs.Prelude.{◌≡◌, ◌<◌, ◌≤◌, ◌^◌, IfOk, IfSome, OnErr, [], None, false, length};
+ghost use Rattle.m2v_port.specs.Port.{Rose};
 ghost use Rattle.m2v_plane.specs.Sizes.{IsSize};
 ghost use Rattle.m2v_model.specs.States.{at_first};
 ghost use Rattle.m2v_dec_piece.specs.Sound.{IsSoundPiece};
@@ -232,7 +233,7 @@ pub fn take<S: Source>(
     ensures some { IfOk result (λ t. t.stop ≡ Stop.More → 0 < length (pieces_of t)) }
     ensures err { OnErr result (WereTaken cutter.old (S.left input.old) cutter.new
         (S.left input.new)) }
-    ensures read { IfOk result (λ t. ReadFailed t.stop (S.faults input.old) (S.faults input.new)) }
+    ensures read { IfOk result (λ t. ReadFailed t.stop (Rose (S.faults input.old) (S.faults input.new))) }
     ensures faults { S.faults input.old ≤ S.faults input.new }
 {
     // places are bounded, behind an error too

@@ -5,8 +5,7 @@ ghost use Rattle.m2v_decode.specs.Decoding.{at_start};
 ghost use Rattle.m2v_decode.specs.Answers.{OfText, IsDecoded, Fails};
 ghost use Rattle.m2v_decode.specs.Complete.{IsAnswered};
 ghost use Rattle.m2v_decode.specs.Progress.{before_all, IsDone};
-ghost use Rattle.m2v_pardec.specs.Taken.{ReadFailed};
-ghost use Rattle.m2v_pardec.specs.Put.{GoesOn, GoesWrong};
+ghost use Rattle.m2v_pardec.specs.Put.{CanGoOn, Goes};
 
 use crate::chain::put_chain;
 use crate::pieces::put_piece;
@@ -59,18 +58,10 @@ fn put_other<S: Source, K: Sink>(
     input: &mut S,
     output: &mut K,
 ) -> Result<Stop, DecodeError>
-    requires cutter { stream.old.cutter.failed ≡ false }
-    requires going { stream.old.decoder.failed ≡ false }
-    requires before { stream.old.decoder.ended ≡ false }
-    requires counted { stream.old.decoder.pictures ≤ stream.old.cutter.place }
+    requires can { CanGoOn stream.old }
     requires output { IsTrue (K.ready output.old) }
-    ensures ok { IfOk result (λ stop. GoesOn stream.old.cutter (S.left input.old) (K.held
-        output.old) stream.old.decoder stop stream.new.cutter (S.left input.new) (K.held output.new)
-        stream.new.decoder) }
-    ensures err { IfErr result (GoesWrong (Rose (K.faults output.old) (K.faults output.new))
-        stream.old.cutter (S.left input.old) (K.held output.old) stream.old.decoder (S.left
-        input.new) (K.held output.new)) }
-    ensures read { IfOk result (λ stop. ReadFailed stop (S.faults input.old) (S.faults input.new)) }
+    ensures goes { Goes (change S.left S.faults input.old input.new)
+        (change K.held K.faults output.old output.new) stream.old stream.new result }
     ensures output { SinkStays K.ready K.name K.faults output.old output.new }
     ensures input { S.faults input.old ≤ S.faults input.new }
 {
@@ -92,18 +83,10 @@ fn put_first<R: Threads + Wait + Sync, S: Source, K: Sink, G: Gate + Sync>(
     output: &mut K,
 ) -> Result<Stop, DecodeError>
     requires start { stream.old.decoder ≡ at_start }
-    requires cutter { stream.old.cutter.failed ≡ false }
-    requires going { stream.old.decoder.failed ≡ false }
-    requires before { stream.old.decoder.ended ≡ false }
-    requires counted { stream.old.decoder.pictures ≤ stream.old.cutter.place }
+    requires can { CanGoOn stream.old }
     requires output { IsTrue (K.ready output.old) }
-    ensures ok { IfOk result (λ stop. GoesOn stream.old.cutter (S.left input.old) (K.held
-        output.old) stream.old.decoder stop stream.new.cutter (S.left input.new) (K.held output.new)
-        stream.new.decoder) }
-    ensures err { IfErr result (GoesWrong (Rose (K.faults output.old) (K.faults output.new))
-        stream.old.cutter (S.left input.old) (K.held output.old) stream.old.decoder (S.left
-        input.new) (K.held output.new)) }
-    ensures read { IfOk result (λ stop. ReadFailed stop (S.faults input.old) (S.faults input.new)) }
+    ensures goes { Goes (change S.left S.faults input.old input.new)
+        (change K.held K.faults output.old output.new) stream.old stream.new result }
     ensures output { SinkStays K.ready K.name K.faults output.old output.new }
     ensures input { S.faults input.old ≤ S.faults input.new }
 {
@@ -133,18 +116,10 @@ fn put_next<R: Threads + Wait + Sync, S: Source, K: Sink, G: Gate + Sync>(
     input: &mut S,
     output: &mut K,
 ) -> Result<Stop, DecodeError>
-    requires cutter { stream.old.cutter.failed ≡ false }
-    requires going { stream.old.decoder.failed ≡ false }
-    requires before { stream.old.decoder.ended ≡ false }
-    requires counted { stream.old.decoder.pictures ≤ stream.old.cutter.place }
+    requires can { CanGoOn stream.old }
     requires output { IsTrue (K.ready output.old) }
-    ensures ok { IfOk result (λ stop. GoesOn stream.old.cutter (S.left input.old) (K.held
-        output.old) stream.old.decoder stop stream.new.cutter (S.left input.new) (K.held output.new)
-        stream.new.decoder) }
-    ensures err { IfErr result (GoesWrong (Rose (K.faults output.old) (K.faults output.new))
-        stream.old.cutter (S.left input.old) (K.held output.old) stream.old.decoder (S.left
-        input.new) (K.held output.new)) }
-    ensures read { IfOk result (λ stop. ReadFailed stop (S.faults input.old) (S.faults input.new)) }
+    ensures goes { Goes (change S.left S.faults input.old input.new)
+        (change K.held K.faults output.old output.new) stream.old stream.new result }
     ensures output { SinkStays K.ready K.name K.faults output.old output.new }
     ensures input { S.faults input.old ≤ S.faults input.new }
 {

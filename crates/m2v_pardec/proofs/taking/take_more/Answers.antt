@@ -2,6 +2,7 @@ use Rattle.std.proofs.Common.{rules, ◌≡◌, None}
 use Rattle.std.proofs.lemmas.Result.{on_err_weaker, IfOk-weaker}
 use Rattle.m2v_pardec.specs.declared.taking.Stop.TheVariants.{More}
 use Rattle.m2v_pardec.specs.declared.taking.Taken.{Taken}
+use Rattle.m2v_port.specs.Port.{Rose}
 use Rattle.m2v_pardec.specs.Taken.{ReadFailed, ReadOn}
 use Rattle.m2v_pardec.proofs.RestLaws.{if_takes_more, taking_fails, new_read}
 use Rattle.m2v_pardec.proofs.taking.take_more.Goals as goal
@@ -23,5 +24,5 @@ returns-clause-err g c =
 pub returns-clause-read : goal.returns-clause-read
 returns-clause-read g c =
     let now = g.S.Source.faults c.take-2.new.input in
-    IfOk-weaker c.take-2.result (λ (t : Taken). ReadFailed t.stop (g.S.Source.faults c.args.input.now) now) (λ (t : Taken). ReadOn c.args.rest.now.stop t.stop (g.S.Source.faults c.args.input.now) now)
+    IfOk-weaker c.take-2.result (λ (t : Taken). ReadFailed t.stop (Rose (g.S.Source.faults c.args.input.now) now)) (λ (t : Taken). ReadOn c.args.rest.now.stop t.stop (g.S.Source.faults c.args.input.now) now)
     (λ t failed. new_read c.args.rest.now.stop t.stop (g.S.Source.faults c.args.input.now) now failed) c.take-2.ensures.read

@@ -1,5 +1,6 @@
 use Rattle.std.proofs.Common.{◌≡◌, ◌≤◌, false, []}
 use Rattle.m2v_port.specs.Ends.{SinkStays}
+use Rattle.m2v_port.specs.Port.{Rose}
 use Rattle.m2v_dec_piece.specs.Cutting.{Cutting}
 use Rattle.m2v_pardec.specs.Ahead.{later_of, IsAhead}
 use Rattle.m2v_pardec.specs.Taken.{ReadFailed, batches_left}
@@ -12,7 +13,7 @@ invariant-loop-stop g l = record {
   stands : (c : Cutting) × StandsBy l.stop c l.stream.cutter l.stream.decoder;
   going : l.stream.decoder.failed ≡ false;
   before : l.stream.decoder.ended ≡ false;
-  read : ReadFailed l.stop (g.S.Source.faults l.fn.input) (g.S.Source.faults l.input);
+  read : ReadFailed l.stop (Rose (g.S.Source.faults l.fn.input) (g.S.Source.faults l.input));
   output : SinkStays g.K.Sink.ready g.K.Sink.name g.K.Sink.faults l.fn.output l.output;
   input : g.S.Source.faults l.fn.input ≤ g.S.Source.faults l.input;
 }
