@@ -1,5 +1,6 @@
 -- A batch whose rows are decoded while the one before it is taken in and the next one taken ahead.
-use Rattle.std.specs.Prelude.{◌≡◌, ℕ, ◌<◌, ◌≤◌, false, List, [], ◌++◌, length, map, Option, is_some, option_to_list}
+use Rattle.std.specs.Prelude.{◌≡◌, ℕ, ◌<◌, ◌≤◌, false, List, [], ◌++◌, length, map, Option, is_some, option_to_list, Result, IfOk, IfErr, OnErr}
+use Rattle.m2v_port.specs.Ends.{Change}
 use Rattle.m2v_model.specs.declared.state.State.{State}
 use Rattle.m2v_model.specs.Pieces.{most_input}
 use Rattle.m2v_dec_piece.specs.declared.answer.Piece.{Piece}
@@ -23,7 +24,7 @@ use Rattle.m2v_pardec.specs.Ahead.{AreInOrder, IsAhead, later_of, FailsBy}
 use Rattle.m2v_pardec.specs.declared.put.Worked.{Worked}
 use Rattle.m2v_pardec.specs.declared.stream.Stream.{Stream}
 use Rattle.m2v_pardec.specs.Put.{AreNext, WerePut, ComesNext, AreAllThere, TellsBehind}
-use Rattle.m2v_pardec.specs.Taken.{piece_of, pieces_of, end_by, IsSet, AreTold, TellsOn, IsRest, CanTakeMore, TakesMore, TakenBehind, works_left}
+use Rattle.m2v_pardec.specs.Taken.{piece_of, pieces_of, end_by, IsSet, AreTold, TellsOn, IsRest, CanTakeMore, TakesMore, TakenBehind, works_left, ReadOn}
 
 -- pieces were taken and wait for a decoder that is at work
 pub record AreWaiting (t : Taken) (c : Cutting) (d : Decoding) : Type 0 where
@@ -91,6 +92,21 @@ pub record TakingFails (r : Rest) (c : Cutting) (left left' : Option (List ℕ))
 abbrev pub PuttingFails : Type 0 → List Piece → Rest → Cutting → Option (List ℕ) → Option (List ℕ) → Decoding → Option (List ℕ) → Option (List ℕ) → DecodeError → Type 0
 PuttingFails failed ps r c left held d left' held' e =
     (before_left before : Option (List ℕ)) (others : List Piece) → IsAhead (later_of r.stop c) before_left left before held (ps ++ (others ++ option_to_list r.other)) d → FailsBy failed before_left left' before held' e
+
+-- pieces were taken behind what is left, or memory ran out meanwhile
+pub record TakesOn {S E : Type 0} (left : S → Option (List ℕ)) (faults : S → ℕ) (old new : S) (r : Rest) (c c' : Cutting) (result : Result Taken E) : Type 0 where
+  pub ok : IfOk result (TakesMore r c (left old) c' (left new))
+  pub told : IfOk result (TakenBehind r.behind)
+  pub err : OnErr result (TakingFails r c (left old) (left new))
+  pub read : IfOk result (λ t. ReadOn r.stop t.stop (faults old) (faults new))
+  pub rises : faults old ≤ faults new
+
+-- a batch was taken in and pieces taken behind the next one, or why not
+pub record PutsOn {S : Type 0} (left : S → Option (List ℕ)) (faults : S → ℕ) (old new : S) (output : Change) (w : Worked) (r : Rest) (s s' : Stream) (result : Result Taken DecodeError) : Type 0 where
+  pub ok : IfOk result (DidPut w r s (left old) output.old s' (left new) output.new)
+  pub err : IfErr result (PuttingFails output.Failed (map piece_of w.book.pictures) r s.cutter (left old) output.old s.decoder (left new) output.new)
+  pub read : IfOk result (λ t. ReadOn r.stop t.stop (faults old) (faults new))
+  pub rises : faults old ≤ faults new
 
 -- ---- batches
 

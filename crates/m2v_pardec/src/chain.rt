@@ -1,6 +1,6 @@
 //! Batch after batch: while the rows of one are decoded, the one before it is taken in, and the next one taken ahead.
 ghost use Rattle.std.specs.Prelude.{ℕ, ◌≡◌, ◌+◌, ◌<◌, ◌≤◌, ◌^◌, ◌++◌, IsTrue, IfOk, IfErr, OnErr, OnOk, false, map, length};
-ghost use Rattle.m2v_port.specs.Ends.{SinkStays};
+ghost use Rattle.m2v_port.specs.Ends.{change, SinkStays};
 ghost use Rattle.m2v_port.specs.Port.{Rose};
 ghost use Rattle.m2v_dec_batch.specs.m2v_dec_picture.Frames.{store_of};
 ghost use Rattle.m2v_pardec.specs.Staff.{IsStaffed};
@@ -10,7 +10,7 @@ ghost use Rattle.m2v_dec_batch.specs.m2v_dec_rows.Headers.{IsBetween};
 ghost use Rattle.m2v_pardec.specs.Ahead.{AreInOrder};
 ghost use Rattle.m2v_pardec.specs.Taken.{AreTold, IsKnown, IsSet, TakenBehind, TakesMore, pieces_of, piece_of, ReadOn, CanTakeMore};
 ghost use Rattle.m2v_pardec.specs.Put.{PutsAll, StopsBy, CountsOn, AreAllThere, AreNext, WerePut, ComesNext};
-ghost use Rattle.m2v_pardec.specs.Chain.{CanPut, DidPut, AreWaiting, IsUnderWay, WorksOn, GoesFrom, WrongFrom, TakingFails, PuttingFails, StopsTaking, WorksNext, StopsUnder};
+ghost use Rattle.m2v_pardec.specs.Chain.{CanPut, PutsOn, TakesOn, AreWaiting, IsUnderWay, WorksOn, GoesFrom, WrongFrom, TakingFails, PuttingFails, StopsTaking, WorksNext, StopsUnder};
 
 use crate::pieces::{put_pieces, put_rest};
 use crate::put::{Worked, put_rows};
@@ -39,15 +39,10 @@ fn put_and_take<S: Source, K: Sink>(
 ) -> Result<Taken, DecodeError>
     requires can { CanPut worked.now rest.old stream.old }
     requires output { IsTrue (K.ready output.old) }
-    ensures ok { IfOk result (DidPut worked.now rest.old stream.old (S.left input.old) (K.held
-        output.old) stream.new (S.left input.new) (K.held output.new)) }
-    ensures err { IfErr result (PuttingFails (Rose (K.faults output.old) (K.faults output.new))
-        (map piece_of worked.now.book.pictures) rest.old stream.old.cutter (S.left input.old)
-        (K.held output.old) stream.old.decoder (S.left input.new) (K.held output.new)) }
-    ensures read { IfOk result (λ t. ReadOn rest.old.stop t.stop (S.faults input.old)
-        (S.faults input.new)) }
+    ensures puts { PutsOn S.left S.faults input.old input.new
+        (change K.held K.faults output.old output.new) worked.now rest.old stream.old stream.new
+        result }
     ensures output { SinkStays K.ready K.name K.faults output.old output.new }
-    ensures input { S.faults input.old ≤ S.faults input.new }
 {
     put_rows(
         alloc,
@@ -76,15 +71,10 @@ fn run_and_put<R: Threads + Wait + Sync, S: Source, K: Sink, G: Gate + Sync>(
     requires can { CanPut worked.now rest.old stream.old }
     requires output { IsTrue (K.ready output.old) }
     ensures rows { result.0 ≡ staffed.entry.book.now }
-    ensures ok { IfOk result.1 (DidPut worked.now rest.old stream.old (S.left input.old) (K.held
-        output.old) stream.new (S.left input.new) (K.held output.new)) }
-    ensures err { IfErr result.1 (PuttingFails (Rose (K.faults output.old) (K.faults output.new))
-        (map piece_of worked.now.book.pictures) rest.old stream.old.cutter (S.left input.old)
-        (K.held output.old) stream.old.decoder (S.left input.new) (K.held output.new)) }
-    ensures read { IfOk result.1 (λ t. ReadOn rest.old.stop t.stop (S.faults input.old)
-        (S.faults input.new)) }
+    ensures puts { PutsOn S.left S.faults input.old input.new
+        (change K.held K.faults output.old output.new) worked.now rest.old stream.old stream.new
+        result.1 }
     ensures output { SinkStays K.ready K.name K.faults output.old output.new }
-    ensures input { S.faults input.old ≤ S.faults input.new }
 {
     let Staffed { book, bench } = staffed;
     run_jobs_beside(
@@ -107,14 +97,8 @@ fn run_and_take<R: Threads + Wait + Sync, S: Source, G: Gate + Sync>(
     requires staffed { IsStaffed staffed }
     requires can { CanTakeMore rest.old cutter.old }
     ensures rows { result.0 ≡ staffed.entry.book.now }
-    ensures ok { IfOk result.1 (TakesMore rest.old cutter.old (S.left input.old) cutter.new
-        (S.left input.new)) }
-    ensures told { IfOk result.1 (TakenBehind rest.old.behind) }
-    ensures err { OnErr result.1 (TakingFails rest.old cutter.old (S.left input.old)
-        (S.left input.new)) }
-    ensures read { IfOk result.1 (λ t. ReadOn rest.old.stop t.stop (S.faults input.old)
-        (S.faults input.new)) }
-    ensures input { S.faults input.old ≤ S.faults input.new }
+    ensures takes { TakesOn S.left S.faults input.old input.new rest.old cutter.old cutter.new
+        result.1 }
 {
     let Staffed { book, bench } = staffed;
     run_jobs_beside(

@@ -8,7 +8,7 @@ ghost use Rattle.m2v_dec_batch.specs.m2v_dec_rows.Headers.{IsBetween};
 ghost use Rattle.m2v_dec_batch.specs.Batches.{IsBatch};
 ghost use Rattle.m2v_dec_batch.specs.Filled.{batch_of, with_frames, AreThere, HaveDims};
 ghost use Rattle.m2v_pardec.specs.Ahead.{AreInOrder, Takes, WereTaken};
-ghost use Rattle.m2v_pardec.specs.Chain.{TakingFails};
+ghost use Rattle.m2v_pardec.specs.Chain.{TakesOn};
 ghost use Rattle.m2v_pardec.specs.Taken.{IsKnown, IsNothing, MayBeNext, AddedTo, IsRest, TakenBehind, TakesFirst, TakesMore, IsSet, pieces_of, end_by, ReadFailed, ReadOn, CanTakeMore};
 
 use m2v_dec_batch::dec_picture::FramesAtHand;
@@ -268,14 +268,7 @@ pub fn take_more<S: Source>(
     input: &mut S,
 ) -> Result<Taken, AllocError>
     requires { CanTakeMore rest.old cutter.old }
-    ensures ok { IfOk result (TakesMore rest.old cutter.old (S.left input.old) cutter.new
-        (S.left input.new)) }
-    ensures told { IfOk result (TakenBehind rest.old.behind) }
-    ensures err { OnErr result (TakingFails rest.old cutter.old (S.left input.old)
-        (S.left input.new)) }
-    ensures read { IfOk result (λ t. ReadOn rest.old.stop t.stop (S.faults input.old)
-        (S.faults input.new)) }
-    ensures faults { S.faults input.old ≤ S.faults input.new }
+    ensures { TakesOn S.left S.faults input.old input.new rest.old cutter.old cutter.new result }
 {
     if rest.other.is_some() || rest.stop != Stop::More {
         let mut taken = Taken::none(alloc, rest.behind);

@@ -36,13 +36,13 @@ returns-in_err-taken-clause-err g c =
     let p = err_from_is_err_and c.from_residual-in_err-taken.result c.from_residual-in_err-taken.ensures.1 in
     rw (p.1, p.2)
     (stops_under _ c.args.worked.now.book c.args.next c.into_book-book.result.2 c.args.stream.now.cutter (g.S.Source.left c.args.input.now) (g.K.Sink.held c.args.output.now) c.args.stream.now.decoder (g.S.Source.left c.run_and_put-done.new.input) (g.K.Sink.held c.run_and_put-done.new.output) c.in_err-taken.field-0.0
-    c.into_book-book.ensures.rest (rw c.in_err-taken.was at c.run_and_put-done.ensures.err))
+    c.into_book-book.ensures.rest (rw c.in_err-taken.was at c.run_and_put-done.ensures.puts).err)
 
 pub returns-clause-ok : goal.returns-clause-ok
 returns-clause-ok g c =
     let f = c.in_ok-frames.ensures in
     let book = c.into_book-book.ensures in
-    let did = rw c.in_ok-taken.was at c.run_and_put-done.ensures.ok in
+    let did = (rw c.in_ok-taken.was at c.run_and_put-done.ensures.puts).ok in
     works_next c.args.worked.now.book c.args.worked.now.after.items c.args.next c.in_ok-frames.frames c.args.stream.now.cutter (g.S.Source.left c.args.input.now) (g.K.Sink.held c.args.output.now) c.args.stream.now.decoder c.run_and_put-done.new.stream.cutter (g.S.Source.left c.run_and_put-done.new.input) (g.K.Sink.held c.run_and_put-done.new.output) c.run_and_put-done.new.stream.decoder _ c.in_ok-taken.field-0
     c.requires.under f.older f.newer f.none did.put did.told did.tracks
     (record {
@@ -58,4 +58,4 @@ returns-clause-ok g c =
 
 pub returns-clause-read : goal.returns-clause-read
 returns-clause-read g c =
-    subst (λ (s : Stop). ReadOn s c.in_ok-taken.field-0.stop (g.S.Source.faults c.args.input.now) (g.S.Source.faults c.run_and_put-done.new.input)) (c.into_book-book.ensures.rest).stop (rw c.in_ok-taken.was at c.run_and_put-done.ensures.read)
+    subst (λ (s : Stop). ReadOn s c.in_ok-taken.field-0.stop (g.S.Source.faults c.args.input.now) (g.S.Source.faults c.run_and_put-done.new.input)) (c.into_book-book.ensures.rest).stop (rw c.in_ok-taken.was at c.run_and_put-done.ensures.puts).read
