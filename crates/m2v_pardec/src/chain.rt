@@ -1,5 +1,5 @@
 //! Batch after batch: while the rows of one are decoded, the one before it is taken in, and the next one taken ahead.
-ghost use Rattle.std.specs.Prelude.{ℕ, ◌≡◌, ◌+◌, ◌<◌, ◌≤◌, ◌^◌, ◌++◌, IsTrue, IfOk, IfErr, OnErr, OnOk, false, map, length};
+ghost use Rattle.std.specs.Prelude.{◌≡◌, ◌<◌, ◌≤◌, ◌^◌, ◌++◌, IsTrue, IfOk, IfErr, OnErr, OnOk, map, length};
 ghost use Rattle.m2v_port.specs.Ends.{change, SinkStays};
 ghost use Rattle.m2v_port.specs.Port.{Rose};
 ghost use Rattle.m2v_dec_batch.specs.m2v_dec_picture.Frames.{store_of};
@@ -7,10 +7,9 @@ ghost use Rattle.m2v_pardec.specs.Staff.{IsStaffed};
 ghost use Rattle.m2v_dec_batch.specs.Filled.{with_frames, AreThere, HaveDims};
 ghost use Rattle.m2v_pardec.specs.Behind.{Tracks};
 ghost use Rattle.m2v_dec_batch.specs.m2v_dec_rows.Headers.{IsBetween};
-ghost use Rattle.m2v_pardec.specs.Ahead.{AreInOrder};
-ghost use Rattle.m2v_pardec.specs.Taken.{AreTold, IsKnown, IsSet, TakenBehind, TakesMore, pieces_of, piece_of, ReadOn, CanTakeMore};
-ghost use Rattle.m2v_pardec.specs.Put.{PutsAll, StopsBy, CountsOn, AreAllThere, AreNext, WerePut, ComesNext};
-ghost use Rattle.m2v_pardec.specs.Chain.{CanPut, PutsOn, TakesOn, AreWaiting, IsUnderWay, WorksOn, GoesFrom, WrongFrom, TakingFails, PuttingFails, StopsTaking, WorksNext, StopsUnder};
+ghost use Rattle.m2v_pardec.specs.Taken.{IsSet, pieces_of, piece_of, ReadOn, CanTakeMore};
+ghost use Rattle.m2v_pardec.specs.Put.{StopsBy, AreAllThere, AreNext, WerePut, ComesNext};
+ghost use Rattle.m2v_pardec.specs.Chain.{CanPut, PutsOn, TakesOn, AreWaiting, IsUnderWay, WorksOn, GoesFrom, WrongFrom, StopsTaking, WorksNext, StopsUnder};
 
 use crate::pieces::{put_pieces, put_rest};
 use crate::put::{Worked, put_rows};
@@ -23,7 +22,7 @@ use m2v_dec_batch::dec_picture::FramesAtHand;
 use m2v_dec_piece::{Cutter, DecodeError};
 use m2v_decode::Decoder;
 use m2v_port::{Sink, Source};
-use m2v_wave::{Done, run_jobs_beside};
+use m2v_wave::Done;
 use std::alloc::{AllocError, Global};
 use std::sync::Wait;
 use std::thread::Threads;
@@ -76,12 +75,8 @@ fn run_and_put<R: Threads + Wait + Sync, S: Source, K: Sink, G: Gate + Sync>(
         result.1 }
     ensures output { SinkStays K.ready K.name K.faults output.old output.new }
 {
-    let Staffed { book, bench } = staffed;
-    run_jobs_beside(
-        workers.rt,
-        book,
-        bench,
-        workers.gate,
+    workers.work_beside(
+        staffed,
         &mut || { put_and_take(workers.alloc, worked, rest, stream, input, output) },
     )
 }
@@ -100,12 +95,8 @@ fn run_and_take<R: Threads + Wait + Sync, S: Source, G: Gate + Sync>(
     ensures takes { TakesOn S.left S.faults input.old input.new rest.old cutter.old cutter.new
         result.1 }
 {
-    let Staffed { book, bench } = staffed;
-    run_jobs_beside(
-        workers.rt,
-        book,
-        bench,
-        workers.gate,
+    workers.work_beside(
+        staffed,
         &mut || { take_more(workers.alloc, rest, cutter, input) },
     )
 }

@@ -1,11 +1,10 @@
 //! Pieces decoded as a whole, one after another.
-ghost use Rattle.std.specs.Prelude.{ℕ, ◌≡◌, ◌+◌, ◌≤◌, ◌^◌, [], ◌∷◌, IsTrue, IfErr, OnOk, false, map, option_to_list};
+ghost use Rattle.std.specs.Prelude.{◌≡◌, ◌+◌, ◌≤◌, [], ◌∷◌, IsTrue, IfErr, OnOk, false, map, option_to_list};
 ghost use Rattle.m2v_port.specs.Ends.{SinkStays};
 ghost use Rattle.m2v_port.specs.Port.{Rose};
 ghost use Rattle.m2v_dec_piece.specs.Sound.{IsSoundPiece};
-ghost use Rattle.m2v_pardec.specs.Ahead.{AreInOrder};
 ghost use Rattle.m2v_pardec.specs.Taken.{piece_of};
-ghost use Rattle.m2v_pardec.specs.Put.{PutsAll, StopsBy, CountsOn, AreNext, WerePut};
+ghost use Rattle.m2v_pardec.specs.Put.{PutsAll, StopsBy, AreNext, WerePut};
 
 use m2v_dec_batch::BatchPicture;
 use m2v_dec_piece::{DecodeError, Piece};

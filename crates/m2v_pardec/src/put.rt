@@ -1,15 +1,14 @@
 //! The pictures of a batch that was decoded, taken in one after another.
-ghost use Rattle.std.specs.Prelude.{ℕ, ◌≡◌, ◌+◌, ◌^◌, ◌≤◌, IfErr, IsTrue, OnOk, false, map, length};
+ghost use Rattle.std.specs.Prelude.{◌≡◌, ◌+◌, ◌^◌, ◌≤◌, IfErr, IsTrue, OnOk, false, map, length};
 ghost use Rattle.m2v_port.specs.Ends.{SinkStays};
 ghost use Rattle.m2v_port.specs.Port.{Rose};
 ghost use Rattle.m2v_dec_batch.specs.m2v_dec_picture.Frames.{store_of};
 ghost use Rattle.m2v_dec_piece.specs.Sound.{IsSoundPiece};
 ghost use Rattle.m2v_pardec.specs.Behind.{Tracks};
 ghost use Rattle.m2v_decode.specs.Decoding.{Onward, Refuses, whole_of};
-ghost use Rattle.m2v_pardec.specs.Ahead.{AreInOrder};
-ghost use Rattle.m2v_pardec.specs.Taken.{AreTold, piece_of};
+ghost use Rattle.m2v_pardec.specs.Taken.{piece_of};
 ghost use Rattle.m2v_pardec.specs.Rows.{AreThere};
-ghost use Rattle.m2v_pardec.specs.Put.{CanTakeIn, TookIn, PutsAll, StopsBy, CountsOn, AreAllThere, TellsBehind, AreNext, WerePut, ComesNext};
+ghost use Rattle.m2v_pardec.specs.Put.{CanTakeIn, TookIn, StopsBy, AreAllThere, TellsBehind, AreNext, WerePut, ComesNext};
 
 use crate::rows::BatchRows;
 use m2v_core::JobBook;

@@ -9,7 +9,7 @@ ghost use Rattle.m2v_dec_batch.specs.Batches.{IsBatch};
 ghost use Rattle.m2v_dec_batch.specs.Filled.{batch_of, with_frames, AreThere, HaveDims};
 ghost use Rattle.m2v_pardec.specs.Ahead.{AreInOrder, Takes, WereTaken};
 ghost use Rattle.m2v_pardec.specs.Chain.{TakesOn};
-ghost use Rattle.m2v_pardec.specs.Taken.{IsKnown, IsNothing, MayBeNext, AddedTo, IsRest, TakenBehind, TakesFirst, TakesMore, IsSet, pieces_of, end_by, ReadFailed, ReadOn, CanTakeMore};
+ghost use Rattle.m2v_pardec.specs.Taken.{IsKnown, IsNothing, MayBeNext, AddedTo, IsRest, TakenBehind, TakesFirst, pieces_of, end_by, ReadFailed, CanTakeMore};
 
 use m2v_dec_batch::dec_picture::FramesAtHand;
 use m2v_dec_batch::dec_rows::read_headers;

@@ -1,6 +1,5 @@
-ghost use Rattle.std.specs.Prelude.{◌≡◌, ◌<◌, ◌≤◌, ◌^◌, IsTrue, IfOk, IfErr, OnOk, None, is_some, false};
+ghost use Rattle.std.specs.Prelude.{◌≡◌, ◌<◌, ◌≤◌, ◌^◌, IsTrue, IfOk, IfErr, OnOk, None, is_some};
 ghost use Rattle.m2v_port.specs.Ends.{change, Tells, SinkStays};
-ghost use Rattle.m2v_port.specs.Port.{Rose};
 ghost use Rattle.m2v_decode.specs.Decoding.{at_start};
 ghost use Rattle.m2v_decode.specs.Answers.{OfText, IsDecoded, Fails};
 ghost use Rattle.m2v_decode.specs.Complete.{IsAnswered};

@@ -2,9 +2,12 @@
 ghost use Rattle.std.specs.Prelude.{◌≡◌, ◌<◌, ◌≤◌, IfOk};
 ghost use Rattle.m2v_pardec.specs.Staff.{IsStaffed};
 
+use m2v_board::Gate;
 use m2v_dec_batch::DecodeBook;
-use m2v_wave::Bench;
+use m2v_wave::{Bench, Done, run_jobs_beside};
 use std::alloc::{AllocError, Global};
+use std::sync::Wait;
+use std::thread::Threads;
 
 /// How many workers there are, and what they have: the runtime that starts them, memory, and the gate that they pass. It is the
 /// same for all batches of a call.
@@ -31,5 +34,22 @@ impl<'a, R, G> Workers<'a, R, G> {
     {
         let bench = Bench::for_book(self.alloc, book, self.count)?;
         Ok(Staffed { book, bench })
+    }
+}
+
+impl<'a, R: Threads + Wait + Sync, G: Gate + Sync> Workers<'a, R, G> {
+    /// Has the workers decode the rows of a batch. The calling thread, which is one of them, first does something of its own.
+    pub fn work_beside<F: FnMut() -> A, A>(
+        &self,
+        staffed: Staffed,
+        own: &mut F,
+    ) -> (Done<DecodeBook>, A)
+        requires staffed { IsStaffed staffed }
+        requires own { F.pre own.old }
+        ensures done { result.0 ≡ staffed.entry.book.now }
+        ensures own { F.step own.old result.1 own.new }
+    {
+        let Staffed { book, bench } = staffed;
+        run_jobs_beside(self.rt, book, bench, self.gate, own)
     }
 }
