@@ -34,7 +34,8 @@ use Rattle.m2v_pardec.specs.declared.taking.Rest.{Rest}
 use Rattle.m2v_pardec.specs.declared.put.Worked.{Worked}
 use Rattle.m2v_pardec.specs.Ahead.{AreInOrder, IsAhead, later_of}
 use Rattle.m2v_pardec.specs.Taken.{piece_of, pieces_of, end_by, IsSet, AreTold, TellsOn, IsRest, works_left, batches_left, ReadOn}
-use Rattle.m2v_pardec.specs.Put.{PutsAll, StopsBy, CountsOn, AreAllThere, TellsBehind}
+use Rattle.m2v_pardec.specs.declared.stream.Stream.{Stream}
+use Rattle.m2v_pardec.specs.Put.{WerePut, StopsBy, CountsOn, AreAllThere, TellsBehind}
 use Rattle.m2v_pardec.specs.Chain.{CanPut, AreWaiting, IsUnderWay, WorksOn, WorksNext, GoesFrom, WrongFrom, TakingFails, PuttingFails, StopsTaking, StopsUnder}
 use Rattle.m2v_pardec.proofs.PutLaws.{order_front, order_rises, order_lower}
 use Rattle.m2v_pardec.proofs.TakenLaws.{end_by_most}
@@ -118,19 +119,21 @@ told_here st xs ss last told =
     subst (λ (l : List State). AreTold st xs l) (append-nil ss) (subst (λ (l : List BatchPicture). AreTold st l (ss ++ [])) (append-nil xs) (told [] [] tt))
 
 -- the batch before can be taken in
-pub can_put : (b : Batch) (ss : List State) (t : Taken) (r : Rest) (c : Cutting) (d : Decoding) → IsUnderWay b ss t c d → AreAllThere b → IsRest t r → CanPut b ss r c d
-can_put b ss t r c d u all is =
-    let o = order_front (map piece_of b.pictures) (pieces_of t) d.pictures (end_by t.stop c.place) u.order in
+pub can_put : (w : Worked) (t : Taken) (r : Rest) (s : Stream) → w.done ≡ w.book → IsUnderWay w.book w.after.items t s.cutter s.decoder → AreAllThere w.book → IsRest t r → CanPut w r s
+can_put w t r s done u all is =
+    let c = s.cutter in
+    let ps = map piece_of w.book.pictures in
+    let o = order_front ps (pieces_of t) s.decoder.pictures (end_by t.stop c.place) u.order in
     record {
+      done = done;
       rebuilt = all;
-      going = u.going;
-      before = u.before;
-      order = (o.0, omega (arith, order_rises (pieces_of t) o.0 (end_by t.stop c.place) o.2, end_by_most t.stop c.place u.most), o.1);
-      told = u.here;
-      tracks = u.tracks;
-      known = record { between = subst IsBetween (sym is.state) u.between; size = subst IsSize (sym (is.dims ∙ u.dims)) (u.batch).size };
-      set = subst (λ (s : Stop). IsSet s c) (sym is.stop) u.set;
-      most = u.most;
+      next = record { going = u.going; before = u.before; order = (o.0, omega (arith, order_rises (pieces_of t) o.0 (end_by t.stop c.place) o.2, end_by_most t.stop c.place u.most), o.1) };
+      comes = record { told = u.here; tracks = u.tracks };
+      more = record {
+        known = record { between = subst IsBetween (sym is.state) u.between; size = subst IsSize (sym (is.dims ∙ u.dims)) (u.batch).size };
+        set = subst (λ (x : Stop). IsSet x c) (sym is.stop) u.set;
+        most = u.most;
+      };
     }
 
 -- once its rows are decoded and more was taken, it is under way
@@ -204,14 +207,14 @@ some_work t c some = ap (λ (n : ℕ). 2 * batches_left t.stop c + n) (bit (leng
 
 -- the batch before was taken in, and the next one is under way
 pub works_next : (b : Batch) (ss : List State) (t : Taken) (f : FramesAtHand) (c : Cutting) (left held : Option (List ℕ)) (d : Decoding) (c' : Cutting) (left' held' : Option (List ℕ)) (n : Decoding) (w : Worked) (next : Taken) → IsUnderWay b ss t c d
-    → f.older ≡ older_behind b → f.newer ≡ newer_behind b → f.waiting ≡ None → PutsAll (map piece_of b.pictures) d held n held' → CountsOn (map piece_of b.pictures) d n → TellsBehind d.state b.pictures ss n.state → Tracks b (length b.pictures) (store_of n.frames)
-    → n.failed ≡ false → n.ended ≡ false → WorksOn t f c left c' left' w next → WorksNext b t c left held d c' left' held' n w next
-works_next b ss t f c left held d c' left' held' n w next u o m none puts counts tells tracks going before x =
+    → f.older ≡ older_behind b → f.newer ≡ newer_behind b → f.waiting ≡ None → WerePut (map piece_of b.pictures) d held n held' → TellsBehind d.state b.pictures ss n.state → Tracks b (length b.pictures) (store_of n.frames)
+    → WorksOn t f c left c' left' w next → WorksNext b t c left held d c' left' held' n w next
+works_next b ss t f c left held d c' left' held' n w next u o m none were tells tracks x =
     let there = frames_there b ss t c d f u o m none in
     record {
       done = x.done;
-      ahead = λ bl bf so. works_ahead t f c left c' left' w next bl bf held' n x (puts (later_of t.stop c) bl left bf (pieces_of t) so);
-      under = under_by t f c left c' left' w next n (waiting_behind b ss t c d n u counts tells going before) x there (tracks_behind b (store_of n.frames) f t.pictures w.book tracks o m none x.book x.batch);
+      ahead = λ bl bf so. works_ahead t f c left c' left' w next bl bf held' n x ((were.puts) (later_of t.stop c) bl left bf (pieces_of t) so);
+      under = under_by t f c left c' left' w next n (waiting_behind b ss t c d n u were.counted tells were.going were.before) x there (tracks_behind b (store_of n.frames) f t.pictures w.book tracks o m none x.book x.batch);
       rises = works_rise t f c left c' left' w next x;
       falls = λ some. let falls = (x.more).falls in omega (arith, falls, some_work t c some, ap (λ (s : Stop). batches_left s c) (x.is_rest).stop);
     }
@@ -223,18 +226,18 @@ read_both a b c first mid last le now next = record { since = λ start few f. ne
 
 pub chain_ends : (t : Taken) (c : Cutting) (left held : Option (List ℕ)) (d : Decoding) (b : Batch) (ss : List State) (next : Taken) (c' : Cutting) (left' held' held'' : Option (List ℕ)) (m n : Decoding)
     → ((bl bf : Option (List ℕ)) → IsAhead (later_of t.stop c) bl left bf held (pieces_of t) d → IsAhead (later_of next.stop c') bl left' bf held' (map piece_of b.pictures ++ pieces_of next) m) → IsUnderWay b ss next c' m
-    → ((low : ℕ) → (t.stop ≡ More → low < c.place) → next.stop ≡ More → low < c'.place) → PutsAll (map piece_of b.pictures ++ pieces_of next) m held' n held'' → CountsOn (map piece_of b.pictures ++ pieces_of next) m n → n.failed ≡ false → n.ended ≡ false
+    → ((low : ℕ) → (t.stop ≡ More → low < c.place) → next.stop ≡ More → low < c'.place) → WerePut (map piece_of b.pictures ++ pieces_of next) m held' n held''
     → GoesFrom t c left held d next.stop c' left' held'' n
-chain_ends t c left held d b ss next c' left' held' held'' m n ahead u rises puts counts going before = record {
+chain_ends t c left held d b ss next c' left' held' held'' m n ahead u rises were = record {
   ahead = λ bl bf so.
-      puts (later_of next.stop c') bl left' bf []
+      (were.puts) (later_of next.stop c') bl left' bf []
       (subst (λ (ps : List Piece). IsAhead (later_of next.stop c') bl left' bf held' ps m) (sym (append-nil (map piece_of b.pictures ++ pieces_of next))) (ahead bl bf so));
-  few = counts (end_by next.stop c'.place) u.order;
+  few = (were.counted) (end_by next.stop c'.place) u.order;
   most = u.most;
   set = u.set;
   rises = rises;
-  going = going;
-  before = before;
+  going = were.going;
+  before = were.before;
 }
 
 pub chain_stops : (failed failed' : Type 0) (t : Taken) (c : Cutting) (left held : Option (List ℕ)) (d : Decoding) (ps : List Piece) (next : Taken) (c' : Cutting) (left' held' held'' : Option (List ℕ)) (m : Decoding) (e : DecodeError) → (failed → failed')

@@ -10,7 +10,7 @@ use Rattle.m2v_decode.specs.Decoding.{Decoding, Onward, Refuses, due_of, whole_o
 use Rattle.m2v_decode.proofs.EndLaws.{whole_length}
 use Rattle.m2v_decode.specs.Progress.{raw_of, Cuts, HasPut}
 use Rattle.m2v_pardec.specs.Ahead.{AreInOrder, IsAhead}
-use Rattle.m2v_pardec.specs.Put.{PutsTo, PutsAll, StopsBy, CountsTo, CountsOn}
+use Rattle.m2v_pardec.specs.Put.{PutsTo, PutsAll, StopsBy, CountsTo, CountsOn, AreNext, WerePut}
 use Rattle.m2v_pardec.proofs.AheadLaws.{ahead_onward, ahead_refused, ahead_unwritten, ahead_unmade, fails_weaker}
 
 -- ---- pieces in order
@@ -38,15 +38,21 @@ order_front (p ∷ ps) qs low high h =
     (rest.0, (h.0, h.1, rest.1), rest.2)
 
 -- the first of some pieces, and those behind them once the first were decoded
-pub front_order : (ps qs : List Piece) (low : ℕ) → ((high : ℕ) × (high ≤ 2 ^ 36) × AreInOrder low (ps ++ qs) high) → ((high : ℕ) × (high ≤ 2 ^ 36) × AreInOrder low ps high)
+front_order : (ps qs : List Piece) (low : ℕ) → ((high : ℕ) × (high ≤ 2 ^ 36) × AreInOrder low (ps ++ qs) high) → ((high : ℕ) × (high ≤ 2 ^ 36) × AreInOrder low ps high)
 front_order ps qs low h =
     let o = order_front ps qs low h.0 h.2 in
     (o.0, omega (arith, order_rises qs o.0 h.0 o.2, h.1), o.1)
 
-pub behind_order : (ps qs : List Piece) (d m : Decoding) → CountsOn ps d m → ((high : ℕ) × (high ≤ 2 ^ 36) × AreInOrder d.pictures (ps ++ qs) high) → ((high : ℕ) × (high ≤ 2 ^ 36) × AreInOrder m.pictures qs high)
+behind_order : (ps qs : List Piece) (d m : Decoding) → CountsOn ps d m → ((high : ℕ) × (high ≤ 2 ^ 36) × AreInOrder d.pictures (ps ++ qs) high) → ((high : ℕ) × (high ≤ 2 ^ 36) × AreInOrder m.pictures qs high)
 behind_order ps qs d m counts h =
     let o = order_front ps qs d.pictures h.0 h.2 in
     (h.0, h.1, order_lower qs o.0 m.pictures h.0 (counts o.0 o.1) o.2)
+
+pub front_next : (ps qs : List Piece) (d : Decoding) → AreNext (ps ++ qs) d → AreNext ps d
+front_next ps qs d next = record { going = next.going; before = next.before; order = front_order ps qs d.pictures next.order }
+
+pub behind_next : (ps qs : List Piece) (d m : Decoding) (h1 h2 : Option (List ℕ)) → WerePut ps d h1 m h2 → AreNext (ps ++ qs) d → AreNext qs m
+behind_next ps qs d m h1 h2 were next = record { going = were.going; before = were.before; order = behind_order ps qs d m were.counted next.order }
 
 -- ---- one piece
 
@@ -90,7 +96,15 @@ stops_next failed failed' ps qs d m h1 h2 h3 e weaker first next = λ later l l'
     fails_weaker failed failed' l l' b h3 e weaker
     (next later l l' b others (first later l l' b (qs ++ others) (subst (λ (xs : List Piece). IsAhead later l l' b h1 xs d) (append_assoc ps qs others) so)))
 
-pub counts_both : (ps qs : List Piece) (d m n : Decoding) → CountsOn ps d m → CountsOn qs m n → CountsOn (ps ++ qs) d n
+counts_both : (ps qs : List Piece) (d m n : Decoding) → CountsOn ps d m → CountsOn qs m n → CountsOn (ps ++ qs) d n
 counts_both ps qs d m n first next = λ high h.
     let o = order_front ps qs d.pictures high h in
     next high (order_lower qs o.0 m.pictures high (first o.0 o.1) o.2)
+
+pub puts_both : (ps qs : List Piece) (d m n : Decoding) (h1 h2 h3 : Option (List ℕ)) → WerePut ps d h1 m h2 → WerePut qs m h2 n h3 → WerePut (ps ++ qs) d h1 n h3
+puts_both ps qs d m n h1 h2 h3 first next = record {
+  puts = λ later l l' b others so. (next.puts) later l l' b others ((first.puts) later l l' b (qs ++ others) (subst (λ (xs : List Piece). IsAhead later l l' b h1 xs d) (append_assoc ps qs others) so));
+  counted = counts_both ps qs d m n first.counted next.counted;
+  going = next.going;
+  before = next.before;
+}

@@ -2,6 +2,7 @@
 use Rattle.std.proofs.Common.{◌≡◌, ℕ, ◌+◌, ◌*◌, ◌^◌, ◌<◌, ◌≤◌, Bool, true, false, List, [], ◌∷◌, ◌++◌, length, Option, None, Result, Ok, Err, refl, sym, ap, subst, ◌∙◌, arith}
 use Rattle.std.specs.Prelude.{IfOk, nat_eq, if◌then◌else◌, option_to_list}
 use Rattle.std.proofs.lemmas.List.{append-nil}
+use Rattle.m2v_port.specs.Port.{Rose}
 use Rattle.m2v_port.proofs.Runs.{rose_since}
 use Rattle.m2v_dec_piece.specs.declared.answer.Piece.{Piece}
 use Rattle.m2v_dec_piece.specs.Cutting.{Cutting}
@@ -97,11 +98,11 @@ taking_fails r c l c' l' none more gone = record {
 
 -- ---- reads
 
-failed_since : (s : Stop) (start before now : ℕ) → start ≤ before → ReadFailed s before now → ReadFailed s start now
+failed_since : (s : Stop) (start before now : ℕ) → start ≤ before → ReadFailed s (Rose before now) → ReadFailed s (Rose start now)
 failed_since More start before now le f = f
 failed_since End start before now le f = f
 failed_since (Error e) start before now le f = λ is. rose_since le (f is)
 
 -- one was made, and told of
-pub new_read : (old new : Stop) (before now : ℕ) → ReadFailed new before now → ReadOn old new before now
+pub new_read : (old new : Stop) (before now : ℕ) → ReadFailed new (Rose before now) → ReadOn old new before now
 new_read old new before now f = record { since = λ start le g. failed_since new start before now le f }

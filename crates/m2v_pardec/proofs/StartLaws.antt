@@ -1,6 +1,7 @@
 -- What was taken behind a decoder that is up to date, and the batches that it begins.
 use Rattle.std.proofs.Common.{◌≡◌, ℕ, ◌<◌, ◌≤◌, Bool, false, List, [], ◌∷◌, Option, None, refl, sym, ap, subst, ◌∙◌}
 use Rattle.std.specs.Prelude.{IfSome, is_some}
+use Rattle.m2v_port.specs.Port.{Rose}
 use Rattle.m2v_plane.specs.declared.dims.Dims.{Dims}
 use Rattle.m2v_plane.specs.Samples.{Samples}
 use Rattle.m2v_model.specs.declared.state.State.{State}
@@ -97,7 +98,7 @@ pub chain_wrong : (failed : Type 0) (c c1 : Cutting) (l l1 l2 h h' : Option (Lis
 chain_wrong failed c c1 l l1 l2 h h' d t e takes wrong = λ bl b so. wrong bl b (after_taken c l [] (pieces_of t) t.stop c1 l1 bl b h d takes so)
 
 -- a read that failed was that of what was taken, or one behind it
-pub read_behind : (a b : Stop) (first mid last : ℕ) → first ≤ mid → ReadFailed a first mid → ReadOn a b mid last → ReadFailed b first last
+pub read_behind : (a b : Stop) (first mid last : ℕ) → first ≤ mid → ReadFailed a (Rose first mid) → ReadOn a b mid last → ReadFailed b (Rose first last)
 read_behind a b first mid last le failed on = on.since first le failed
 
 -- ---- the first piece
@@ -110,5 +111,5 @@ pub first_order : (c c1 : Cutting) (p : Piece) (t : Taken) → AreInOrder c.plac
 first_order c c1 p t order pieces more =
     subst (λ (s : Stop). AreInOrder c.place (pieces_of t) (end_by s c1.place)) (sym more) (subst (λ (ps : List Piece). AreInOrder c.place ps c1.place) (sym pieces) order)
 
-pub first_read : (a : Stop) (first now : ℕ) → a ≡ More → ReadFailed a first now
-first_read a first now e = subst (λ (s : Stop). ReadFailed s first now) (sym e) tt
+pub first_read : (a : Stop) (first now : ℕ) → a ≡ More → ReadFailed a (Rose first now)
+first_read a first now e = subst (λ (s : Stop). ReadFailed s (Rose first now)) (sym e) tt

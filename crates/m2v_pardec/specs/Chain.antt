@@ -1,5 +1,6 @@
 -- A batch whose rows are decoded while the one before it is taken in and the next one taken ahead.
-use Rattle.std.specs.Prelude.{◌≡◌, ℕ, ◌<◌, ◌≤◌, ◌^◌, false, List, [], ◌++◌, length, map, Option, is_some, option_to_list}
+use Rattle.std.specs.Prelude.{◌≡◌, ℕ, ◌<◌, ◌≤◌, false, List, [], ◌++◌, length, map, Option, is_some, option_to_list, Result, IfOk, IfErr, OnErr}
+use Rattle.m2v_port.specs.Ends.{Change}
 use Rattle.m2v_model.specs.declared.state.State.{State}
 use Rattle.m2v_model.specs.Pieces.{most_input}
 use Rattle.m2v_dec_piece.specs.declared.answer.Piece.{Piece}
@@ -21,8 +22,9 @@ use Rattle.m2v_pardec.specs.declared.taking.Taken.{Taken}
 use Rattle.m2v_pardec.specs.declared.taking.Rest.{Rest}
 use Rattle.m2v_pardec.specs.Ahead.{AreInOrder, IsAhead, later_of, FailsBy}
 use Rattle.m2v_pardec.specs.declared.put.Worked.{Worked}
-use Rattle.m2v_pardec.specs.Put.{PutsAll, CountsOn, AreAllThere, TellsBehind}
-use Rattle.m2v_pardec.specs.Taken.{piece_of, pieces_of, end_by, IsKnown, IsSet, AreTold, TellsOn, IsRest, TakesMore, TakenBehind, works_left}
+use Rattle.m2v_pardec.specs.declared.stream.Stream.{Stream}
+use Rattle.m2v_pardec.specs.Put.{AreNext, WerePut, ComesNext, AreAllThere, TellsBehind}
+use Rattle.m2v_pardec.specs.Taken.{piece_of, pieces_of, end_by, IsSet, AreTold, TellsOn, IsRest, CanTakeMore, TakesMore, TakenBehind, works_left, ReadOn}
 
 -- pieces were taken and wait for a decoder that is at work
 pub record AreWaiting (t : Taken) (c : Cutting) (d : Decoding) : Type 0 where
@@ -52,26 +54,19 @@ pub record IsUnderWay (b : Batch) (ss : List State) (t : Taken) (c : Cutting) (d
   pub waiting : is_some t.pictures.waiting ≡ false
 
 -- a batch whose rows are all rebuilt can be taken in, and pieces taken behind the next one
-pub record CanPut (b : Batch) (ss : List State) (r : Rest) (c : Cutting) (d : Decoding) : Type 0 where
-  pub rebuilt : AreAllThere b
-  pub going : d.failed ≡ false
-  pub before : d.ended ≡ false
-  pub order : (high : ℕ) × (high ≤ 2 ^ 36) × AreInOrder d.pictures (map piece_of b.pictures) high
-  pub told : AreTold d.state b.pictures ss
-  pub tracks : Tracks b 0 (store_of d.frames)
-  pub known : IsKnown r.behind
-  pub set : IsSet r.stop c
-  pub most : c.place ≤ 2 ^ 36
+pub record CanPut (w : Worked) (r : Rest) (s : Stream) : Type 0 where
+  pub done : w.done ≡ w.book
+  pub rebuilt : AreAllThere w.book
+  pub next : AreNext (map piece_of w.book.pictures) s.decoder
+  pub comes : ComesNext w.book w.after.items s.decoder
+  pub more : CanTakeMore r s.cutter
 
 -- that was done
-pub record DidPut (b : Batch) (ss : List State) (r : Rest) (c : Cutting) (left held : Option (List ℕ)) (d : Decoding) (c' : Cutting) (left' held' : Option (List ℕ)) (d' : Decoding) (t : Taken) : Type 0 where
-  pub puts : PutsAll (map piece_of b.pictures) d held d' held'
-  pub counted : CountsOn (map piece_of b.pictures) d d'
-  pub going : d'.failed ≡ false
-  pub before : d'.ended ≡ false
-  pub told : TellsBehind d.state b.pictures ss d'.state
-  pub tracks : Tracks b (length b.pictures) (store_of d'.frames)
-  pub taken : TakesMore r c left c' left' t
+pub record DidPut (w : Worked) (r : Rest) (s : Stream) (left held : Option (List ℕ)) (s' : Stream) (left' held' : Option (List ℕ)) (t : Taken) : Type 0 where
+  pub put : WerePut (map piece_of w.book.pictures) s.decoder held s'.decoder held'
+  pub told : TellsBehind s.decoder.state w.book.pictures w.after.items s'.decoder.state
+  pub tracks : Tracks w.book (length w.book.pictures) (store_of s'.decoder.frames)
+  pub taken : TakesMore r s.cutter left s'.cutter left' t
   pub behind : TakenBehind r.behind t
 
 -- what stands behind pieces that were taken and decoded, with those that were taken then
@@ -97,6 +92,21 @@ pub record TakingFails (r : Rest) (c : Cutting) (left left' : Option (List ℕ))
 abbrev pub PuttingFails : Type 0 → List Piece → Rest → Cutting → Option (List ℕ) → Option (List ℕ) → Decoding → Option (List ℕ) → Option (List ℕ) → DecodeError → Type 0
 PuttingFails failed ps r c left held d left' held' e =
     (before_left before : Option (List ℕ)) (others : List Piece) → IsAhead (later_of r.stop c) before_left left before held (ps ++ (others ++ option_to_list r.other)) d → FailsBy failed before_left left' before held' e
+
+-- pieces were taken behind what is left, or memory ran out meanwhile
+pub record TakesOn {S E : Type 0} (left : S → Option (List ℕ)) (faults : S → ℕ) (old new : S) (r : Rest) (c c' : Cutting) (result : Result Taken E) : Type 0 where
+  pub ok : IfOk result (TakesMore r c (left old) c' (left new))
+  pub told : IfOk result (TakenBehind r.behind)
+  pub err : OnErr result (TakingFails r c (left old) (left new))
+  pub read : IfOk result (λ t. ReadOn r.stop t.stop (faults old) (faults new))
+  pub rises : faults old ≤ faults new
+
+-- a batch was taken in and pieces taken behind the next one, or why not
+pub record PutsOn {S : Type 0} (left : S → Option (List ℕ)) (faults : S → ℕ) (old new : S) (output : Change) (w : Worked) (r : Rest) (s s' : Stream) (result : Result Taken DecodeError) : Type 0 where
+  pub ok : IfOk result (DidPut w r s (left old) output.old s' (left new) output.new)
+  pub err : IfErr result (PuttingFails output.Failed (map piece_of w.book.pictures) r s.cutter (left old) output.old s.decoder (left new) output.new)
+  pub read : IfOk result (λ t. ReadOn r.stop t.stop (faults old) (faults new))
+  pub rises : faults old ≤ faults new
 
 -- ---- batches
 

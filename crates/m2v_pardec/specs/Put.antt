@@ -1,5 +1,6 @@
 -- Pictures of a batch that was decoded, taken into the decoder one after another.
-use Rattle.std.specs.Prelude.{◌≡◌, ℕ, ◌+◌, ◌<◌, ◌≤◌, true, false, List, [], ◌++◌, slice_get, Option, Some}
+use Rattle.std.specs.Prelude.{◌≡◌, ℕ, ◌+◌, ◌<◌, ◌≤◌, ◌^◌, true, false, List, [], ◌++◌, slice_get, Option, Some, Result, IfOk, IfErr}
+use Rattle.m2v_port.specs.Ends.{Change}
 use Rattle.m2v_model.specs.declared.state.State.{State}
 use Rattle.m2v_dec_piece.specs.declared.answer.Piece.{Piece}
 use Rattle.m2v_dec_piece.specs.declared.answer.DecodeError.{DecodeError}
@@ -14,7 +15,8 @@ use Rattle.m2v_decode.specs.Decoding.{Decoding}
 use Rattle.m2v_pardec.specs.Ahead.{Later, behind, later_of, AreInOrder, IsAhead, FailsBy}
 use Rattle.m2v_pardec.specs.declared.taking.Stop.{Stop}
 use Rattle.m2v_pardec.specs.declared.taking.Stop.TheVariants.{More, End, Error}
-use Rattle.m2v_pardec.specs.Taken.{IsTold, AreTold}
+use Rattle.m2v_pardec.specs.Taken.{IsTold, AreTold, ReadFailed}
+use Rattle.m2v_pardec.specs.declared.stream.Stream.{Stream}
 use Rattle.m2v_pardec.specs.Rows.{RowsFrom, AreThere}
 
 -- picture p of a batch can be taken in by its rows: its headers follow the decoder's state, and the frames at hand are those
@@ -53,6 +55,24 @@ CountsTo ps old last new = (high : ℕ) → AreInOrder old.pictures ps high → 
 abbrev pub CountsOn : List Piece → Decoding → Decoding → Type 0
 CountsOn ps old new = CountsTo ps old [] new
 
+-- pieces come next, in the order of the input, and the decoder is at work
+pub record AreNext (ps : List Piece) (d : Decoding) : Type 0 where
+  pub going : d.failed ≡ false
+  pub before : d.ended ≡ false
+  pub order : (high : ℕ) × (high ≤ 2 ^ 36) × AreInOrder d.pictures ps high
+
+-- they were decoded and the frames due then written, and the decoder is at work still
+pub record WerePut (ps : List Piece) (old : Decoding) (held : Option (List ℕ)) (new : Decoding) (held_then : Option (List ℕ)) : Type 0 where
+  pub puts : PutsAll ps old held new held_then
+  pub counted : CountsOn ps old new
+  pub going : new.failed ≡ false
+  pub before : new.ended ≡ false
+
+-- a batch comes next: its headers follow the decoder's state, and the frames at hand are those before its first picture
+pub record ComesNext (b : Batch) (ss : List State) (d : Decoding) : Type 0 where
+  pub told : AreTold d.state b.pictures ss
+  pub tracks : Tracks b 0 (store_of d.frames)
+
 -- all rows of a batch are rebuilt
 abbrev pub AreAllThere : Batch → Type 0
 AreAllThere b = AreThere (record { batch = b; first = 0 }) (jobs_of (headers b))
@@ -80,3 +100,16 @@ pub record GoesOn (c : Cutting) (left held : Option (List ℕ)) (d : Decoding) (
 abbrev pub GoesWrong : Type 0 → Cutting → Option (List ℕ) → Option (List ℕ) → Decoding → Option (List ℕ) → Option (List ℕ) → DecodeError → Type 0
 GoesWrong failed c left held d left' held' e =
     (before_left before : Option (List ℕ)) → IsAhead (behind c) before_left left before held [] d → FailsBy failed before_left left' before held' e
+
+-- a stream can go on: its cutter hands out pieces, its decoder takes them, and no more pictures were decoded than bytes cut
+pub record CanGoOn (s : Stream) : Type 0 where
+  pub cutter : s.cutter.failed ≡ false
+  pub going : s.decoder.failed ≡ false
+  pub before : s.decoder.ended ≡ false
+  pub counted : s.decoder.pictures ≤ s.cutter.place
+
+-- it went on by a batch, or why not
+pub record Goes (input output : Change) (s s' : Stream) (result : Result Stop DecodeError) : Type 0 where
+  pub ok : IfOk result (λ stop. GoesOn s.cutter input.old output.old s.decoder stop s'.cutter input.new output.new s'.decoder)
+  pub err : IfErr result (GoesWrong output.Failed s.cutter input.old output.old s.decoder input.new output.new)
+  pub read : IfOk result (λ stop. ReadFailed stop input.Failed)

@@ -103,14 +103,14 @@ end_by End place = place
 end_by (Error e) place = most_input
 
 -- the source failed, where a read did
-abbrev pub ReadFailed : Stop → ℕ → ℕ → Type 0
-ReadFailed More before now = Unit {0}
-ReadFailed End before now = Unit {0}
-ReadFailed (Error e) before now = e ≡ errors.Read → Rose before now
+abbrev pub ReadFailed : Stop → Type 0 → Type 0
+ReadFailed More failed = Unit {0}
+ReadFailed End failed = Unit {0}
+ReadFailed (Error e) failed = e ≡ errors.Read → failed
 
 -- it failed now, where a read did now
 pub record ReadOn (old new : Stop) (before now : ℕ) : Type 0 where
-  pub since : (start : ℕ) → start ≤ before → ReadFailed old start before → ReadFailed new start now
+  pub since : (start : ℕ) → start ≤ before → ReadFailed old (Rose start before) → ReadFailed new (Rose start now)
 
 -- ---- what is left
 
@@ -129,6 +129,12 @@ abbrev pub IsSet : Stop → Cutting → Type 0
 IsSet More c = c.failed ≡ false
 IsSet End c = c.ended ≡ true
 IsSet (Error e) c = IsReading e
+
+-- pieces can be taken behind what is left
+pub record CanTakeMore (r : Rest) (c : Cutting) : Type 0 where
+  pub known : IsKnown r.behind
+  pub set : IsSet r.stop c
+  pub most : c.place ≤ 2 ^ 36
 
 -- a number that falls with each batch that is taken
 abbrev pub batches_left : Stop → Cutting → ℕ

@@ -1,30 +1,28 @@
 //! Batch after batch: while the rows of one are decoded, the one before it is taken in, and the next one taken ahead.
-ghost use Rattle.std.specs.Prelude.{ℕ, ◌≡◌, ◌+◌, ◌<◌, ◌≤◌, ◌^◌, ◌++◌, IsTrue, IfOk, IfErr, OnErr, OnOk, false, map, length};
-ghost use Rattle.m2v_port.specs.Ends.{SinkStays};
+ghost use Rattle.std.specs.Prelude.{◌≡◌, ◌<◌, ◌≤◌, ◌^◌, ◌++◌, IsTrue, IfOk, IfErr, OnErr, OnOk, map, length};
+ghost use Rattle.m2v_port.specs.Ends.{change, SinkStays};
 ghost use Rattle.m2v_port.specs.Port.{Rose};
 ghost use Rattle.m2v_dec_batch.specs.m2v_dec_picture.Frames.{store_of};
-ghost use Rattle.m2v_wave.specs.Benches.{IsBenchOf};
-ghost use Rattle.m2v_dec_batch.specs.Jobs.{jobs_of};
-ghost use Rattle.m2v_dec_batch.specs.Batches.{headers};
-ghost use Rattle.m2v_dec_batch.specs.Learned.{FitsCache};
+ghost use Rattle.m2v_pardec.specs.Staff.{IsStaffed};
 ghost use Rattle.m2v_dec_batch.specs.Filled.{with_frames, AreThere, HaveDims};
 ghost use Rattle.m2v_pardec.specs.Behind.{Tracks};
 ghost use Rattle.m2v_dec_batch.specs.m2v_dec_rows.Headers.{IsBetween};
-ghost use Rattle.m2v_pardec.specs.Ahead.{AreInOrder};
-ghost use Rattle.m2v_pardec.specs.Taken.{AreTold, IsKnown, IsSet, TakenBehind, TakesMore, pieces_of, piece_of, ReadOn};
-ghost use Rattle.m2v_pardec.specs.Put.{PutsAll, StopsBy, CountsOn, AreAllThere};
-ghost use Rattle.m2v_pardec.specs.Chain.{CanPut, DidPut, AreWaiting, IsUnderWay, WorksOn, GoesFrom, WrongFrom, TakingFails, PuttingFails, StopsTaking, WorksNext, StopsUnder};
+ghost use Rattle.m2v_pardec.specs.Taken.{IsSet, pieces_of, piece_of, ReadOn, CanTakeMore};
+ghost use Rattle.m2v_pardec.specs.Put.{StopsBy, AreAllThere, AreNext, WerePut, ComesNext};
+ghost use Rattle.m2v_pardec.specs.Chain.{CanPut, PutsOn, TakesOn, AreWaiting, IsUnderWay, WorksOn, GoesFrom, WrongFrom, StopsTaking, WorksNext, StopsUnder};
 
 use crate::pieces::{put_pieces, put_rest};
 use crate::put::{Worked, put_rows};
+use crate::stream::Stream;
 use crate::taking::{Rest, Stop, Taken, take_more};
+use crate::workers::{Staffed, Workers};
 use m2v_board::Gate;
 use m2v_dec_batch::DecodeBook;
 use m2v_dec_batch::dec_picture::FramesAtHand;
 use m2v_dec_piece::{Cutter, DecodeError};
 use m2v_decode::Decoder;
 use m2v_port::{Sink, Source};
-use m2v_wave::{Bench, Done, run_jobs_beside};
+use m2v_wave::Done;
 use std::alloc::{AllocError, Global};
 use std::sync::Wait;
 use std::thread::Threads;
@@ -34,125 +32,83 @@ fn put_and_take<S: Source, K: Sink>(
     alloc: Global,
     worked: &Worked,
     rest: &mut Rest,
-    cutter: &mut Cutter,
-    decoder: &mut Decoder,
-    raw: &mut Vec<u8>,
+    stream: &mut Stream,
     input: &mut S,
     output: &mut K,
 ) -> Result<Taken, DecodeError>
-    requires done { worked.now.done ≡ worked.now.book }
-    requires can { CanPut worked.now.book worked.now.after.items rest.old cutter.old decoder.old }
+    requires can { CanPut worked.now rest.old stream.old }
     requires output { IsTrue (K.ready output.old) }
-    ensures ok { IfOk result (DidPut worked.now.book worked.now.after.items rest.old cutter.old
-        (S.left input.old) (K.held output.old) decoder.old cutter.new (S.left input.new)
-        (K.held output.new) decoder.new) }
-    ensures err { IfErr result (PuttingFails (Rose (K.faults output.old) (K.faults output.new))
-        (map piece_of worked.now.book.pictures) rest.old cutter.old (S.left input.old)
-        (K.held output.old) decoder.old (S.left input.new) (K.held output.new)) }
-    ensures read { IfOk result (λ t. ReadOn rest.old.stop t.stop (S.faults input.old)
-        (S.faults input.new)) }
+    ensures puts { PutsOn S.left S.faults input.old input.new
+        (change K.held K.faults output.old output.new) worked.now rest.old stream.old stream.new
+        result }
     ensures output { SinkStays K.ready K.name K.faults output.old output.new }
-    ensures input { S.faults input.old ≤ S.faults input.new }
 {
     put_rows(
         alloc,
-        decoder,
+        &mut stream.decoder,
         &worked.book,
         &worked.done,
         worked.after.as_slice(),
-        raw,
+        &mut stream.raw,
         output,
     )?;
-    let taken = take_more(alloc, rest, cutter, input)?;
+    let taken = take_more(alloc, rest, &mut stream.cutter, input)?;
     Ok(taken)
 }
 
 /// Decodes the rows of a batch; beside that takes in the batch before it, and takes the pieces behind it.
 fn run_and_put<R: Threads + Wait + Sync, S: Source, K: Sink, G: Gate + Sync>(
-    rt: &R,
-    alloc: Global,
-    book: &DecodeBook,
-    bench: Bench<DecodeBook>,
-    gate: &G,
+    workers: &Workers<R, G>,
+    staffed: Staffed,
     worked: &Worked,
     rest: &mut Rest,
-    cutter: &mut Cutter,
-    decoder: &mut Decoder,
-    raw: &mut Vec<u8>,
+    stream: &mut Stream,
     input: &mut S,
     output: &mut K,
 ) -> (Done<DecodeBook>, Result<Taken, DecodeError>)
-    requires bench { IsBenchOf (λ b. jobs_of (headers b)) FitsCache book.now bench }
-    requires done { worked.now.done ≡ worked.now.book }
-    requires can { CanPut worked.now.book worked.now.after.items rest.old cutter.old decoder.old }
+    requires staffed { IsStaffed staffed }
+    requires can { CanPut worked.now rest.old stream.old }
     requires output { IsTrue (K.ready output.old) }
-    ensures rows { result.0 ≡ book.now }
-    ensures ok { IfOk result.1 (DidPut worked.now.book worked.now.after.items rest.old cutter.old
-        (S.left input.old) (K.held output.old) decoder.old cutter.new (S.left input.new)
-        (K.held output.new) decoder.new) }
-    ensures err { IfErr result.1 (PuttingFails (Rose (K.faults output.old) (K.faults output.new))
-        (map piece_of worked.now.book.pictures) rest.old cutter.old (S.left input.old)
-        (K.held output.old) decoder.old (S.left input.new) (K.held output.new)) }
-    ensures read { IfOk result.1 (λ t. ReadOn rest.old.stop t.stop (S.faults input.old)
-        (S.faults input.new)) }
+    ensures rows { result.0 ≡ staffed.entry.book.now }
+    ensures puts { PutsOn S.left S.faults input.old input.new
+        (change K.held K.faults output.old output.new) worked.now rest.old stream.old stream.new
+        result.1 }
     ensures output { SinkStays K.ready K.name K.faults output.old output.new }
-    ensures input { S.faults input.old ≤ S.faults input.new }
 {
-    run_jobs_beside(
-        rt,
-        book,
-        bench,
-        gate,
-        &mut || { put_and_take(alloc, worked, rest, cutter, decoder, raw, input, output) },
+    workers.work_beside(
+        staffed,
+        &mut || { put_and_take(workers.alloc, worked, rest, stream, input, output) },
     )
 }
 
 /// Decodes the rows of a batch, and takes the pieces behind it beside that.
 fn run_and_take<R: Threads + Wait + Sync, S: Source, G: Gate + Sync>(
-    rt: &R,
-    alloc: Global,
-    book: &DecodeBook,
-    bench: Bench<DecodeBook>,
-    gate: &G,
+    workers: &Workers<R, G>,
+    staffed: Staffed,
     rest: &mut Rest,
     cutter: &mut Cutter,
     input: &mut S,
 ) -> (Done<DecodeBook>, Result<Taken, AllocError>)
-    requires bench { IsBenchOf (λ b. jobs_of (headers b)) FitsCache book.now bench }
-    requires known { IsKnown rest.old.behind }
-    requires set { IsSet rest.old.stop cutter.old }
-    requires most { cutter.old.place ≤ 2 ^ 36 }
-    ensures rows { result.0 ≡ book.now }
-    ensures ok { IfOk result.1 (TakesMore rest.old cutter.old (S.left input.old) cutter.new
-        (S.left input.new)) }
-    ensures told { IfOk result.1 (TakenBehind rest.old.behind) }
-    ensures err { OnErr result.1 (TakingFails rest.old cutter.old (S.left input.old)
-        (S.left input.new)) }
-    ensures read { IfOk result.1 (λ t. ReadOn rest.old.stop t.stop (S.faults input.old)
-        (S.faults input.new)) }
-    ensures input { S.faults input.old ≤ S.faults input.new }
+    requires staffed { IsStaffed staffed }
+    requires can { CanTakeMore rest.old cutter.old }
+    ensures rows { result.0 ≡ staffed.entry.book.now }
+    ensures takes { TakesOn S.left S.faults input.old input.new rest.old cutter.old cutter.new
+        result.1 }
 {
-    run_jobs_beside(
-        rt,
-        book,
-        bench,
-        gate,
-        &mut || { take_more(alloc, rest, cutter, input) },
+    workers.work_beside(
+        staffed,
+        &mut || { take_more(workers.alloc, rest, cutter, input) },
     )
 }
 
 /// Decodes the rows of what was taken first, with these frames at hand before it, and takes pieces beside that.
 fn work_first<R: Threads + Wait + Sync, S: Source, G: Gate + Sync>(
-    rt: &R,
-    alloc: Global,
-    workers: u32,
+    workers: &Workers<R, G>,
     taken: Taken,
     frames: FramesAtHand,
     cutter: &mut Cutter,
     input: &mut S,
-    gate: &G,
 ) -> Result<(Worked, Taken), AllocError>
-    requires workers { (0 < workers) × (workers ≤ 16) }
     requires there { AreThere frames taken.pictures }
     requires sizes { HaveDims taken.pictures.dims frames }
     requires between { IsBetween taken.state }
@@ -167,48 +123,40 @@ fn work_first<R: Threads + Wait + Sync, S: Source, G: Gate + Sync>(
     ensures input { S.faults input.old ≤ S.faults input.new }
 {
     let (book, after, mut rest) = taken.into_book(frames);
-    let bench = Bench::for_book(alloc, &book, workers)?;
-    let (done, taken) = run_and_take(rt, alloc, &book, bench, gate, &mut rest, cutter, input);
+    let staffed = workers.staff(&book)?;
+    let (done, taken) = run_and_take(workers, staffed, &mut rest, cutter, input);
     Ok((Worked { book, done, after }, taken?))
 }
 
 /// Decodes the rows of what was taken behind a batch; beside that takes in the batch, and takes pieces.
 fn work_next<R: Threads + Wait + Sync, S: Source, K: Sink, G: Gate + Sync>(
-    rt: &R,
-    alloc: Global,
-    workers: u32,
+    workers: &Workers<R, G>,
     worked: &Worked,
     next: Taken,
-    cutter: &mut Cutter,
-    decoder: &mut Decoder,
-    raw: &mut Vec<u8>,
+    stream: &mut Stream,
     input: &mut S,
     output: &mut K,
-    gate: &G,
 ) -> Result<(Worked, Taken), DecodeError>
-    requires workers { (0 < workers) × (workers ≤ 16) }
     requires done { worked.now.done ≡ worked.now.book }
     requires rebuilt { AreAllThere worked.now.book }
-    requires under { IsUnderWay worked.now.book worked.now.after.items next cutter.old
-        decoder.old }
+    requires under { IsUnderWay worked.now.book worked.now.after.items next stream.old.cutter
+        stream.old.decoder }
     requires output { IsTrue (K.ready output.old) }
-    ensures ok { IfOk result (λ x. WorksNext worked.now.book next cutter.old (S.left input.old)
-        (K.held output.old) decoder.old cutter.new (S.left input.new) (K.held output.new)
-        decoder.new x.0 x.1) }
+    ensures ok { IfOk result (λ x. WorksNext worked.now.book next stream.old.cutter (S.left
+        input.old) (K.held output.old) stream.old.decoder stream.new.cutter (S.left input.new)
+        (K.held output.new) stream.new.decoder x.0 x.1) }
     ensures err { IfErr result (StopsUnder (Rose (K.faults output.old) (K.faults output.new))
-        worked.now.book next cutter.old (S.left input.old) (K.held output.old) decoder.old
-        (S.left input.new) (K.held output.new)) }
+        worked.now.book next stream.old.cutter (S.left input.old) (K.held output.old)
+        stream.old.decoder (S.left input.new) (K.held output.new)) }
     ensures read { IfOk result (λ x. ReadOn next.stop x.1.stop (S.faults input.old)
         (S.faults input.new)) }
     ensures output { SinkStays K.ready K.name K.faults output.old output.new }
     ensures input { S.faults input.old ≤ S.faults input.new }
 {
-    let frames = worked.book.frames_behind(alloc, &worked.done)?;
+    let frames = worked.book.frames_behind(workers.alloc, &worked.done)?;
     let (book, after, mut rest) = next.into_book(frames);
-    let bench = Bench::for_book(alloc, &book, workers)?;
-    let (done, taken) = run_and_put(
-        rt, alloc, &book, bench, gate, worked, &mut rest, cutter, decoder, raw, input, output,
-    );
+    let staffed = workers.staff(&book)?;
+    let (done, taken) = run_and_put(workers, staffed, worked, &mut rest, stream, input, output);
     Ok((Worked { book, done, after }, taken?))
 }
 
@@ -231,22 +179,14 @@ fn put_worked<K: Sink>(
     output: &mut K,
 ) -> Result<(), DecodeError>
     requires done { worked.now.done ≡ worked.now.book }
-    requires going { decoder.old.failed ≡ false }
-    requires before { decoder.old.ended ≡ false }
-    requires order { (high : ℕ) × (high ≤ 2 ^ 36)
-        × AreInOrder decoder.old.pictures (map piece_of worked.now.book.pictures) high }
-    requires told { AreTold decoder.old.state worked.now.book.pictures worked.now.after.items }
-    requires tracks { Tracks worked.now.book 0 (store_of decoder.old.frames) }
+    requires next { AreNext (map piece_of worked.now.book.pictures) decoder.old }
+    requires comes { ComesNext worked.now.book worked.now.after.items decoder.old }
     requires output { IsTrue (K.ready output.old) }
-    ensures ok { OnOk result (PutsAll (map piece_of worked.now.book.pictures) decoder.old
-        (K.held output.old) decoder.new (K.held output.new)) }
+    ensures ok { OnOk result (WerePut (map piece_of worked.now.book.pictures) decoder.old (K.held
+        output.old) decoder.new (K.held output.new)) }
     ensures err { IfErr result (StopsBy (Rose (K.faults output.old) (K.faults output.new))
         (map piece_of worked.now.book.pictures) decoder.old (K.held output.old)
         (K.held output.new)) }
-    ensures counted { OnOk result
-        (CountsOn (map piece_of worked.now.book.pictures) decoder.old decoder.new) }
-    ensures going { OnOk result (decoder.new.failed ≡ false) }
-    ensures before { OnOk result (decoder.new.ended ≡ false) }
     ensures output { SinkStays K.ready K.name K.faults output.old output.new }
 {
     if worked.is_rebuilt() {
@@ -271,18 +211,12 @@ fn put_taken<K: Sink>(
     raw: &mut Vec<u8>,
     output: &mut K,
 ) -> Result<(), DecodeError>
-    requires going { decoder.old.failed ≡ false }
-    requires before { decoder.old.ended ≡ false }
-    requires order { (high : ℕ) × (high ≤ 2 ^ 36)
-        × AreInOrder decoder.old.pictures (pieces_of taken.now) high }
+    requires next { AreNext (pieces_of taken.now) decoder.old }
     requires output { IsTrue (K.ready output.old) }
-    ensures ok { OnOk result (PutsAll (pieces_of taken.now) decoder.old (K.held output.old)
+    ensures ok { OnOk result (WerePut (pieces_of taken.now) decoder.old (K.held output.old)
         decoder.new (K.held output.new)) }
     ensures err { IfErr result (StopsBy (Rose (K.faults output.old) (K.faults output.new))
         (pieces_of taken.now) decoder.old (K.held output.old) (K.held output.new)) }
-    ensures counted { OnOk result (CountsOn (pieces_of taken.now) decoder.old decoder.new) }
-    ensures going { OnOk result (decoder.new.failed ≡ false) }
-    ensures before { OnOk result (decoder.new.ended ≡ false) }
     ensures output { SinkStays K.ready K.name K.faults output.old output.new }
 {
     put_pieces(alloc, decoder, taken.pictures.pictures(), raw, output)?;
@@ -299,23 +233,15 @@ fn put_last<K: Sink>(
     output: &mut K,
 ) -> Result<(), DecodeError>
     requires done { worked.now.done ≡ worked.now.book }
-    requires going { decoder.old.failed ≡ false }
-    requires before { decoder.old.ended ≡ false }
-    requires order { (high : ℕ) × (high ≤ 2 ^ 36) × AreInOrder decoder.old.pictures
-        (map piece_of worked.now.book.pictures ++ pieces_of next.now) high }
-    requires told { AreTold decoder.old.state worked.now.book.pictures worked.now.after.items }
-    requires tracks { Tracks worked.now.book 0 (store_of decoder.old.frames) }
+    requires next { AreNext (map piece_of worked.now.book.pictures ++ pieces_of next.now)
+        decoder.old }
+    requires comes { ComesNext worked.now.book worked.now.after.items decoder.old }
     requires output { IsTrue (K.ready output.old) }
-    ensures ok { OnOk result (PutsAll (map piece_of worked.now.book.pictures ++ pieces_of next.now)
+    ensures ok { OnOk result (WerePut (map piece_of worked.now.book.pictures ++ pieces_of next.now)
         decoder.old (K.held output.old) decoder.new (K.held output.new)) }
     ensures err { IfErr result (StopsBy (Rose (K.faults output.old) (K.faults output.new))
         (map piece_of worked.now.book.pictures ++ pieces_of next.now) decoder.old
         (K.held output.old) (K.held output.new)) }
-    ensures counted { OnOk result
-        (CountsOn (map piece_of worked.now.book.pictures ++ pieces_of next.now) decoder.old
-        decoder.new) }
-    ensures going { OnOk result (decoder.new.failed ≡ false) }
-    ensures before { OnOk result (decoder.new.ended ≡ false) }
     ensures output { SinkStays K.ready K.name K.faults output.old output.new }
 {
     put_worked(alloc, worked, decoder, raw, output)?;
@@ -325,43 +251,41 @@ fn put_last<K: Sink>(
 /// Decodes what was taken, with these frames at hand before it, and what comes behind it, batch after batch, as long as pieces
 /// are pictures.
 pub fn put_chain<R: Threads + Wait + Sync, S: Source, K: Sink, G: Gate + Sync>(
-    rt: &R,
-    alloc: Global,
-    workers: u32,
+    workers: &Workers<R, G>,
     taken: Taken,
     frames: FramesAtHand,
-    cutter: &mut Cutter,
-    decoder: &mut Decoder,
-    raw: &mut Vec<u8>,
+    stream: &mut Stream,
     input: &mut S,
     output: &mut K,
-    gate: &G,
 ) -> Result<Stop, DecodeError>
-    requires workers { (0 < workers) × (workers ≤ 16) }
-    requires waiting { AreWaiting taken cutter.old decoder.old }
+    requires waiting { AreWaiting taken stream.old.cutter stream.old.decoder }
     requires there { AreThere frames taken.pictures }
     requires sizes { HaveDims taken.pictures.dims frames }
-    requires tracks { Tracks (with_frames taken.pictures frames) 0 (store_of decoder.old.frames) }
+    requires tracks { Tracks (with_frames taken.pictures frames) 0 (store_of
+        stream.old.decoder.frames) }
     requires output { IsTrue (K.ready output.old) }
-    ensures ok { IfOk result (λ stop. GoesFrom taken cutter.old (S.left input.old)
-        (K.held output.old) decoder.old stop cutter.new (S.left input.new) (K.held output.new)
-        decoder.new) }
+    ensures ok { IfOk result (λ stop. GoesFrom taken stream.old.cutter (S.left input.old) (K.held
+        output.old) stream.old.decoder stop stream.new.cutter (S.left input.new) (K.held output.new)
+        stream.new.decoder) }
     ensures err { IfErr result (WrongFrom (Rose (K.faults output.old) (K.faults output.new)) taken
-        cutter.old (S.left input.old) (K.held output.old) decoder.old (S.left input.new)
-        (K.held output.new)) }
+        stream.old.cutter (S.left input.old) (K.held output.old) stream.old.decoder (S.left
+        input.new) (K.held output.new)) }
     ensures read { IfOk result (λ stop. ReadOn taken.stop stop (S.faults input.old)
         (S.faults input.new)) }
     ensures output { SinkStays K.ready K.name K.faults output.old output.new }
     ensures input { S.faults input.old ≤ S.faults input.new }
 {
-    let (mut worked, mut next) = work_first(
-        rt, alloc, workers, taken, frames, cutter, input, gate,
-    )?;
+    let (mut worked, mut next) = work_first(workers, taken, frames, &mut stream.cutter, input)?;
     while goes_on(&worked, &next) {
-        (worked, next) = work_next(
-            rt, alloc, workers, &worked, next, cutter, decoder, raw, input, output, gate,
-        )?;
+        (worked, next) = work_next(workers, &worked, next, stream, input, output)?;
     }
-    put_last(alloc, &worked, &next, decoder, raw, output)?;
+    put_last(
+        workers.alloc,
+        &worked,
+        &next,
+        &mut stream.decoder,
+        &mut stream.raw,
+        output,
+    )?;
     Ok(next.stop)
 }

@@ -9,8 +9,10 @@ mod laws;
 mod pieces;
 mod put;
 mod rows;
+mod stream;
 mod taking;
 mod whole;
+mod workers;
 
 pub use laws::{law_behind_none, law_next_behind, law_noted, law_rows_behind};
 pub use whole::decode_with;

@@ -1,11 +1,10 @@
 //! Pieces decoded as a whole, one after another.
-ghost use Rattle.std.specs.Prelude.{ℕ, ◌≡◌, ◌+◌, ◌≤◌, ◌^◌, [], ◌∷◌, IsTrue, IfErr, OnOk, false, map, option_to_list};
+ghost use Rattle.std.specs.Prelude.{◌≡◌, ◌+◌, ◌≤◌, [], ◌∷◌, IsTrue, IfErr, OnOk, false, map, option_to_list};
 ghost use Rattle.m2v_port.specs.Ends.{SinkStays};
 ghost use Rattle.m2v_port.specs.Port.{Rose};
 ghost use Rattle.m2v_dec_piece.specs.Sound.{IsSoundPiece};
-ghost use Rattle.m2v_pardec.specs.Ahead.{AreInOrder};
 ghost use Rattle.m2v_pardec.specs.Taken.{piece_of};
-ghost use Rattle.m2v_pardec.specs.Put.{PutsAll, StopsBy, CountsOn};
+ghost use Rattle.m2v_pardec.specs.Put.{PutsAll, StopsBy, AreNext, WerePut};
 
 use m2v_dec_batch::BatchPicture;
 use m2v_dec_piece::{DecodeError, Piece};
@@ -48,18 +47,12 @@ pub fn put_pieces<K: Sink>(
     raw: &mut Vec<u8>,
     output: &mut K,
 ) -> Result<(), DecodeError>
-    requires going { decoder.old.failed ≡ false }
-    requires before { decoder.old.ended ≡ false }
-    requires order { (high : ℕ) × (high ≤ 2 ^ 36)
-        × AreInOrder decoder.old.pictures (map piece_of pictures.now) high }
+    requires next { AreNext (map piece_of pictures.now) decoder.old }
     requires output { IsTrue (K.ready output.old) }
-    ensures ok { OnOk result (PutsAll (map piece_of pictures.now) decoder.old (K.held output.old)
+    ensures ok { OnOk result (WerePut (map piece_of pictures.now) decoder.old (K.held output.old)
         decoder.new (K.held output.new)) }
     ensures err { IfErr result (StopsBy (Rose (K.faults output.old) (K.faults output.new))
         (map piece_of pictures.now) decoder.old (K.held output.old) (K.held output.new)) }
-    ensures counted { OnOk result (CountsOn (map piece_of pictures.now) decoder.old decoder.new) }
-    ensures going { OnOk result (decoder.new.failed ≡ false) }
-    ensures before { OnOk result (decoder.new.ended ≡ false) }
     ensures output { SinkStays K.ready K.name K.faults output.old output.new }
 {
     for i in 0..pictures.len() {
@@ -76,18 +69,12 @@ pub fn put_rest<K: Sink>(
     raw: &mut Vec<u8>,
     output: &mut K,
 ) -> Result<(), DecodeError>
-    requires going { decoder.old.failed ≡ false }
-    requires before { decoder.old.ended ≡ false }
-    requires order { (high : ℕ) × (high ≤ 2 ^ 36)
-        × AreInOrder decoder.old.pictures (option_to_list other.now) high }
+    requires next { AreNext (option_to_list other.now) decoder.old }
     requires output { IsTrue (K.ready output.old) }
-    ensures ok { OnOk result (PutsAll (option_to_list other.now) decoder.old (K.held output.old)
+    ensures ok { OnOk result (WerePut (option_to_list other.now) decoder.old (K.held output.old)
         decoder.new (K.held output.new)) }
     ensures err { IfErr result (StopsBy (Rose (K.faults output.old) (K.faults output.new))
         (option_to_list other.now) decoder.old (K.held output.old) (K.held output.new)) }
-    ensures counted { OnOk result (CountsOn (option_to_list other.now) decoder.old decoder.new) }
-    ensures going { OnOk result (decoder.new.failed ≡ false) }
-    ensures before { OnOk result (decoder.new.ended ≡ false) }
     ensures output { SinkStays K.ready K.name K.faults output.old output.new }
 {
     match other {

@@ -1,15 +1,14 @@
 //! The pictures of a batch that was decoded, taken in one after another.
-ghost use Rattle.std.specs.Prelude.{ℕ, ◌≡◌, ◌+◌, ◌^◌, ◌≤◌, IfErr, IsTrue, OnOk, false, map, length};
+ghost use Rattle.std.specs.Prelude.{◌≡◌, ◌+◌, ◌^◌, ◌≤◌, IfErr, IsTrue, OnOk, false, map, length};
 ghost use Rattle.m2v_port.specs.Ends.{SinkStays};
 ghost use Rattle.m2v_port.specs.Port.{Rose};
 ghost use Rattle.m2v_dec_batch.specs.m2v_dec_picture.Frames.{store_of};
 ghost use Rattle.m2v_dec_piece.specs.Sound.{IsSoundPiece};
 ghost use Rattle.m2v_pardec.specs.Behind.{Tracks};
 ghost use Rattle.m2v_decode.specs.Decoding.{Onward, Refuses, whole_of};
-ghost use Rattle.m2v_pardec.specs.Ahead.{AreInOrder};
-ghost use Rattle.m2v_pardec.specs.Taken.{AreTold, piece_of};
+ghost use Rattle.m2v_pardec.specs.Taken.{piece_of};
 ghost use Rattle.m2v_pardec.specs.Rows.{AreThere};
-ghost use Rattle.m2v_pardec.specs.Put.{CanTakeIn, TookIn, PutsAll, StopsBy, CountsOn, AreAllThere, TellsBehind};
+ghost use Rattle.m2v_pardec.specs.Put.{CanTakeIn, TookIn, StopsBy, AreAllThere, TellsBehind, AreNext, WerePut, ComesNext};
 
 use crate::rows::BatchRows;
 use m2v_core::JobBook;
@@ -76,21 +75,13 @@ pub fn put_rows<K: Sink>(
 ) -> Result<(), DecodeError>
     requires done { done.now ≡ book.now }
     requires rebuilt { AreAllThere book.now }
-    requires going { decoder.old.failed ≡ false }
-    requires before { decoder.old.ended ≡ false }
-    requires order { (high : ℕ) × (high ≤ 2 ^ 36)
-        × AreInOrder decoder.old.pictures (map piece_of book.now.pictures) high }
-    requires told { AreTold decoder.old.state book.now.pictures after.now }
-    requires tracks { Tracks book.now 0 (store_of decoder.old.frames) }
+    requires next { AreNext (map piece_of book.now.pictures) decoder.old }
+    requires comes { ComesNext book.now after.now decoder.old }
     requires output { IsTrue (K.ready output.old) }
-    ensures ok { OnOk result (PutsAll (map piece_of book.now.pictures) decoder.old
-        (K.held output.old) decoder.new (K.held output.new)) }
+    ensures ok { OnOk result (WerePut (map piece_of book.now.pictures) decoder.old (K.held
+        output.old) decoder.new (K.held output.new)) }
     ensures err { IfErr result (StopsBy (Rose (K.faults output.old) (K.faults output.new))
         (map piece_of book.now.pictures) decoder.old (K.held output.old) (K.held output.new)) }
-    ensures counted { OnOk result
-        (CountsOn (map piece_of book.now.pictures) decoder.old decoder.new) }
-    ensures going { OnOk result (decoder.new.failed ≡ false) }
-    ensures before { OnOk result (decoder.new.ended ≡ false) }
     ensures told { OnOk result (TellsBehind decoder.old.state book.now.pictures after.now
         decoder.new.state) }
     ensures tracks { OnOk result

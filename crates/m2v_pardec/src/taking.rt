@@ -1,5 +1,6 @@
 //! Pieces taken ahead, and their headers read.
 ghost use Rattle.std.specs.Prelude.{◌≡◌, ◌<◌, ◌≤◌, ◌^◌, IfOk, IfSome, OnErr, [], None, false, length};
+ghost use Rattle.m2v_port.specs.Port.{Rose};
 ghost use Rattle.m2v_plane.specs.Sizes.{IsSize};
 ghost use Rattle.m2v_model.specs.States.{at_first};
 ghost use Rattle.m2v_dec_piece.specs.Sound.{IsSoundPiece};
@@ -7,8 +8,8 @@ ghost use Rattle.m2v_dec_batch.specs.m2v_dec_rows.Headers.{IsBetween};
 ghost use Rattle.m2v_dec_batch.specs.Batches.{IsBatch};
 ghost use Rattle.m2v_dec_batch.specs.Filled.{batch_of, with_frames, AreThere, HaveDims};
 ghost use Rattle.m2v_pardec.specs.Ahead.{AreInOrder, Takes, WereTaken};
-ghost use Rattle.m2v_pardec.specs.Chain.{TakingFails};
-ghost use Rattle.m2v_pardec.specs.Taken.{IsKnown, IsNothing, MayBeNext, AddedTo, IsRest, TakenBehind, TakesFirst, TakesMore, IsSet, pieces_of, end_by, ReadFailed, ReadOn};
+ghost use Rattle.m2v_pardec.specs.Chain.{TakesOn};
+ghost use Rattle.m2v_pardec.specs.Taken.{IsKnown, IsNothing, MayBeNext, AddedTo, IsRest, TakenBehind, TakesFirst, pieces_of, end_by, ReadFailed, CanTakeMore};
 
 use m2v_dec_batch::dec_picture::FramesAtHand;
 use m2v_dec_batch::dec_rows::read_headers;
@@ -232,7 +233,7 @@ pub fn take<S: Source>(
     ensures some { IfOk result (λ t. t.stop ≡ Stop.More → 0 < length (pieces_of t)) }
     ensures err { OnErr result (WereTaken cutter.old (S.left input.old) cutter.new
         (S.left input.new)) }
-    ensures read { IfOk result (λ t. ReadFailed t.stop (S.faults input.old) (S.faults input.new)) }
+    ensures read { IfOk result (λ t. ReadFailed t.stop (Rose (S.faults input.old) (S.faults input.new))) }
     ensures faults { S.faults input.old ≤ S.faults input.new }
 {
     // places are bounded, behind an error too
@@ -266,17 +267,8 @@ pub fn take_more<S: Source>(
     cutter: &mut Cutter,
     input: &mut S,
 ) -> Result<Taken, AllocError>
-    requires known { IsKnown rest.old.behind }
-    requires set { IsSet rest.old.stop cutter.old }
-    requires most { cutter.old.place ≤ 2 ^ 36 }
-    ensures ok { IfOk result (TakesMore rest.old cutter.old (S.left input.old) cutter.new
-        (S.left input.new)) }
-    ensures told { IfOk result (TakenBehind rest.old.behind) }
-    ensures err { OnErr result (TakingFails rest.old cutter.old (S.left input.old)
-        (S.left input.new)) }
-    ensures read { IfOk result (λ t. ReadOn rest.old.stop t.stop (S.faults input.old)
-        (S.faults input.new)) }
-    ensures faults { S.faults input.old ≤ S.faults input.new }
+    requires { CanTakeMore rest.old cutter.old }
+    ensures { TakesOn S.left S.faults input.old input.new rest.old cutter.old cutter.new result }
 {
     if rest.other.is_some() || rest.stop != Stop::More {
         let mut taken = Taken::none(alloc, rest.behind);

@@ -1,21 +1,21 @@
-ghost use Rattle.std.specs.Prelude.{◌≡◌, ◌<◌, ◌≤◌, ◌^◌, IsTrue, IfOk, IfErr, OnOk, None, is_some, false};
+ghost use Rattle.std.specs.Prelude.{◌≡◌, ◌<◌, ◌≤◌, ◌^◌, IsTrue, IfOk, IfErr, OnOk, None, is_some};
 ghost use Rattle.m2v_port.specs.Ends.{change, Tells, SinkStays};
-ghost use Rattle.m2v_port.specs.Port.{Rose};
 ghost use Rattle.m2v_decode.specs.Decoding.{at_start};
 ghost use Rattle.m2v_decode.specs.Answers.{OfText, IsDecoded, Fails};
 ghost use Rattle.m2v_decode.specs.Complete.{IsAnswered};
 ghost use Rattle.m2v_decode.specs.Progress.{before_all, IsDone};
-ghost use Rattle.m2v_pardec.specs.Taken.{ReadFailed};
-ghost use Rattle.m2v_pardec.specs.Put.{GoesOn, GoesWrong};
+ghost use Rattle.m2v_pardec.specs.Put.{CanGoOn, Goes};
 
 use crate::chain::put_chain;
 use crate::pieces::put_piece;
+use crate::stream::Stream;
 use crate::taking::{Before, Stop, take, take_first};
+use crate::workers::Workers;
 use m2v_board::Gate;
 use m2v_dec_batch::FramesThere;
 use m2v_dec_batch::dec_picture::FramesAtHand;
-use m2v_dec_piece::{Cutter, DecodeError};
-use m2v_decode::{Decoded, Decoder, decode, finish};
+use m2v_dec_piece::DecodeError;
+use m2v_decode::{Decoded, decode, finish};
 use m2v_port::{Sink, Source};
 use std::alloc::{AllocError, Global};
 use std::sync::Wait;
@@ -53,31 +53,22 @@ fn there_of(frames: &FramesAtHand) -> FramesThere
 /// Takes one piece and decodes it as a whole.
 fn put_other<S: Source, K: Sink>(
     alloc: Global,
-    cutter: &mut Cutter,
-    decoder: &mut Decoder,
-    raw: &mut Vec<u8>,
+    stream: &mut Stream,
     input: &mut S,
     output: &mut K,
 ) -> Result<Stop, DecodeError>
-    requires cutter { cutter.old.failed ≡ false }
-    requires going { decoder.old.failed ≡ false }
-    requires before { decoder.old.ended ≡ false }
-    requires counted { decoder.old.pictures ≤ cutter.old.place }
+    requires can { CanGoOn stream.old }
     requires output { IsTrue (K.ready output.old) }
-    ensures ok { IfOk result (λ stop. GoesOn cutter.old (S.left input.old) (K.held output.old)
-        decoder.old stop cutter.new (S.left input.new) (K.held output.new) decoder.new) }
-    ensures err { IfErr result (GoesWrong (Rose (K.faults output.old) (K.faults output.new))
-        cutter.old (S.left input.old) (K.held output.old) decoder.old (S.left input.new)
-        (K.held output.new)) }
-    ensures read { IfOk result (λ stop. ReadFailed stop (S.faults input.old) (S.faults input.new)) }
+    ensures goes { Goes (change S.left S.faults input.old input.new)
+        (change K.held K.faults output.old output.new) stream.old stream.new result }
     ensures output { SinkStays K.ready K.name K.faults output.old output.new }
     ensures input { S.faults input.old ≤ S.faults input.new }
 {
-    match cutter.next_piece(alloc, input) {
+    match stream.cutter.next_piece(alloc, input) {
         Err(e) => Ok(Stop::Error(e)),
         Ok(None) => Ok(Stop::End),
         Ok(Some(piece)) => {
-            put_piece(alloc, decoder, &piece, raw, output)?;
+            put_piece(alloc, &mut stream.decoder, &piece, &mut stream.raw, output)?;
             Ok(Stop::More)
         }
     }
@@ -85,51 +76,32 @@ fn put_other<S: Source, K: Sink>(
 
 /// Takes the first piece and decodes it, and those behind it, batch after batch, as long as they are pictures.
 fn put_first<R: Threads + Wait + Sync, S: Source, K: Sink, G: Gate + Sync>(
-    rt: &R,
-    alloc: Global,
-    workers: u32,
-    cutter: &mut Cutter,
-    decoder: &mut Decoder,
-    raw: &mut Vec<u8>,
+    workers: &Workers<R, G>,
+    stream: &mut Stream,
     input: &mut S,
     output: &mut K,
-    gate: &G,
 ) -> Result<Stop, DecodeError>
-    requires workers { (0 < workers) × (workers ≤ 16) }
-    requires start { decoder.old ≡ at_start }
-    requires cutter { cutter.old.failed ≡ false }
-    requires going { decoder.old.failed ≡ false }
-    requires before { decoder.old.ended ≡ false }
-    requires counted { decoder.old.pictures ≤ cutter.old.place }
+    requires start { stream.old.decoder ≡ at_start }
+    requires can { CanGoOn stream.old }
     requires output { IsTrue (K.ready output.old) }
-    ensures ok { IfOk result (λ stop. GoesOn cutter.old (S.left input.old) (K.held output.old)
-        decoder.old stop cutter.new (S.left input.new) (K.held output.new) decoder.new) }
-    ensures err { IfErr result (GoesWrong (Rose (K.faults output.old) (K.faults output.new))
-        cutter.old (S.left input.old) (K.held output.old) decoder.old (S.left input.new)
-        (K.held output.new)) }
-    ensures read { IfOk result (λ stop. ReadFailed stop (S.faults input.old) (S.faults input.new)) }
+    ensures goes { Goes (change S.left S.faults input.old input.new)
+        (change K.held K.faults output.old output.new) stream.old stream.new result }
     ensures output { SinkStays K.ready K.name K.faults output.old output.new }
     ensures input { S.faults input.old ≤ S.faults input.new }
 {
-    match cutter.next_piece(alloc, input) {
+    match stream.cutter.next_piece(workers.alloc, input) {
         Err(e) => Ok(Stop::Error(e)),
         Ok(None) => Ok(Stop::End),
-        Ok(Some(piece)) => match take_first(alloc, piece)? {
-            Ok(taken) => put_chain(
-                rt,
-                alloc,
-                workers,
-                taken,
-                no_frames(),
-                cutter,
-                decoder,
-                raw,
-                input,
-                output,
-                gate,
-            ),
+        Ok(Some(piece)) => match take_first(workers.alloc, piece)? {
+            Ok(taken) => put_chain(workers, taken, no_frames(), stream, input, output),
             Err(piece) => {
-                put_piece(alloc, decoder, &piece, raw, output)?;
+                put_piece(
+                    workers.alloc,
+                    &mut stream.decoder,
+                    &piece,
+                    &mut stream.raw,
+                    output,
+                )?;
                 Ok(Stop::More)
             }
         },
@@ -138,96 +110,61 @@ fn put_first<R: Threads + Wait + Sync, S: Source, K: Sink, G: Gate + Sync>(
 
 /// Takes pieces and decodes them, batch after batch, as long as they are pictures.
 fn put_next<R: Threads + Wait + Sync, S: Source, K: Sink, G: Gate + Sync>(
-    rt: &R,
-    alloc: Global,
-    workers: u32,
-    cutter: &mut Cutter,
-    decoder: &mut Decoder,
-    raw: &mut Vec<u8>,
+    workers: &Workers<R, G>,
+    stream: &mut Stream,
     input: &mut S,
     output: &mut K,
-    gate: &G,
 ) -> Result<Stop, DecodeError>
-    requires workers { (0 < workers) × (workers ≤ 16) }
-    requires cutter { cutter.old.failed ≡ false }
-    requires going { decoder.old.failed ≡ false }
-    requires before { decoder.old.ended ≡ false }
-    requires counted { decoder.old.pictures ≤ cutter.old.place }
+    requires can { CanGoOn stream.old }
     requires output { IsTrue (K.ready output.old) }
-    ensures ok { IfOk result (λ stop. GoesOn cutter.old (S.left input.old) (K.held output.old)
-        decoder.old stop cutter.new (S.left input.new) (K.held output.new) decoder.new) }
-    ensures err { IfErr result (GoesWrong (Rose (K.faults output.old) (K.faults output.new))
-        cutter.old (S.left input.old) (K.held output.old) decoder.old (S.left input.new)
-        (K.held output.new)) }
-    ensures read { IfOk result (λ stop. ReadFailed stop (S.faults input.old) (S.faults input.new)) }
+    ensures goes { Goes (change S.left S.faults input.old input.new)
+        (change K.held K.faults output.old output.new) stream.old stream.new result }
     ensures output { SinkStays K.ready K.name K.faults output.old output.new }
     ensures input { S.faults input.old ≤ S.faults input.new }
 {
-    match decoder.at_hand(alloc)? {
+    match stream.decoder.at_hand(workers.alloc)? {
         Some(hand) => {
             let before = Before {
                 state: hand.state,
                 dims: hand.dims,
                 there: there_of(&hand.frames),
             };
-            let taken = take(alloc, before, cutter, input)?;
-            put_chain(
-                rt,
-                alloc,
-                workers,
-                taken,
-                hand.frames,
-                cutter,
-                decoder,
-                raw,
-                input,
-                output,
-                gate,
-            )
+            let taken = take(workers.alloc, before, &mut stream.cutter, input)?;
+            put_chain(workers, taken, hand.frames, stream, input, output)
         }
         // behind the first piece this doesn't come
-        None => put_other(alloc, cutter, decoder, raw, input, output),
+        None => put_other(workers.alloc, stream, input, output),
     }
 }
 
 /// Decodes batch after batch, and writes the frames that are due behind each picture.
 fn read_batches<R: Threads + Wait + Sync, S: Source, K: Sink, G: Gate + Sync>(
-    rt: &R,
-    alloc: Global,
-    workers: u32,
-    cutter: &mut Cutter,
-    decoder: &mut Decoder,
-    raw: &mut Vec<u8>,
+    workers: &Workers<R, G>,
+    stream: &mut Stream,
     input: &mut S,
     output: &mut K,
-    gate: &G,
 ) -> Result<(), DecodeError>
-    requires workers { (0 < workers) × (workers ≤ 16) }
-    requires cutter { cutter.old ≡ before_all }
-    requires decoder { decoder.old ≡ at_start }
+    requires cutter { stream.old.cutter ≡ before_all }
+    requires decoder { stream.old.decoder ≡ at_start }
     requires output { IsTrue (K.ready output.old) }
     ensures ok { OnOk result (IsDone
         (change S.left S.faults input.old input.new)
-        (change K.held K.faults output.old output.new) cutter.new decoder.new) }
-    ensures most { OnOk result (cutter.new.place ≤ 2 ^ 36) }
+        (change K.held K.faults output.old output.new) stream.new.cutter stream.new.decoder) }
+    ensures most { OnOk result (stream.new.cutter.place ≤ 2 ^ 36) }
     ensures err { IfErr result (Fails
         (change S.left S.faults input.old input.new)
         (change K.held K.faults output.old output.new)) }
     ensures output { SinkStays K.ready K.name K.faults output.old output.new }
     ensures input { S.faults input.old ≤ S.faults input.new }
 {
-    let mut stop = put_first(
-        rt, alloc, workers, cutter, decoder, raw, input, output, gate,
-    )?;
+    let mut stop = put_first(workers, stream, input, output)?;
     loop {
         match stop {
             Stop::More => {}
             Stop::End => return Ok(()),
             Stop::Error(e) => return Err(e),
         }
-        stop = put_next(
-            rt, alloc, workers, cutter, decoder, raw, input, output, gate,
-        )?;
+        stop = put_next(workers, stream, input, output)?;
     }
 }
 
@@ -241,14 +178,10 @@ fn keep_memory(alloc: Global) {
 
 /// Reads batch after batch to the end, and ends the stream there.
 fn by_batches<R: Threads + Wait + Sync, S: Source, K: Sink, G: Gate + Sync>(
-    rt: &R,
-    alloc: Global,
-    workers: u32,
+    workers: &Workers<R, G>,
     input: &mut S,
     output: &mut K,
-    gate: &G,
 ) -> Result<Decoded, DecodeError>
-    requires workers { (0 < workers) × (workers ≤ 16) }
     requires output { IsTrue (K.ready output.old) }
     ensures ok { IfOk result (λ d. OfText
         (change S.left S.faults input.old input.new) (λ text. IsDecoded text
@@ -259,22 +192,16 @@ fn by_batches<R: Threads + Wait + Sync, S: Source, K: Sink, G: Gate + Sync>(
     ensures output { SinkStays K.ready K.name K.faults output.old output.new }
     ensures input { S.faults input.old ≤ S.faults input.new }
 {
-    keep_memory(alloc);
-    let mut cutter = Cutter::new(alloc)?;
-    let mut decoder = Decoder::new(alloc)?;
-    let mut raw = Vec::new(alloc);
-    read_batches(
-        rt,
-        alloc,
-        workers,
-        &mut cutter,
-        &mut decoder,
-        &mut raw,
-        input,
+    keep_memory(workers.alloc);
+    let mut stream = Stream::new(workers.alloc)?;
+    read_batches(workers, &mut stream, input, output)?;
+    finish(
+        workers.alloc,
+        stream.cutter.end(),
+        &mut stream.decoder,
+        &mut stream.raw,
         output,
-        gate,
-    )?;
-    finish(alloc, cutter.end(), &mut decoder, &mut raw, output)
+    )
 }
 
 /// Decodes a stream by 1 to 16 workers: what it answers, reads and writes is what `decode` of `m2v_decode` does, for every
@@ -315,5 +242,11 @@ pub fn decode_with<R: Threads + Wait + Sync, S: Source, K: Sink, G: Gate + Sync>
     if workers == 1 {
         return decode(alloc, input, output);
     }
-    by_batches(rt, alloc, workers, input, output, gate)
+    let workers = Workers {
+        rt,
+        alloc,
+        count: workers,
+        gate,
+    };
+    by_batches(&workers, input, output)
 }

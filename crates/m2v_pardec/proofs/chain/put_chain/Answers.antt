@@ -14,18 +14,18 @@ returns-in_err-worked-clause-err g c =
     let held = g.K.Sink.held c.args.output.now in
     rw (p.1, p.2)
     (λ bl b so. fails_weaker ⊥ (Rose (g.K.Sink.faults c.args.output.now) (g.K.Sink.faults c.args.output.now)) bl (g.S.Source.left c.work_first.new.input) b held errors.Memory (λ f. absurd f)
-    (c.in_err-worked.ensures.err bl b held c.args.decoder.now so))
+    (c.in_err-worked.ensures.err bl b held c.args.stream.now.decoder so))
 
 pub loop-worked-init : goal.loop-worked-init
 loop-worked-init g c =
     let x = c.in_ok-worked.ensures.ok in
     let t = c.args.taken in
     let f = c.args.frames in
-    let old = c.args.cutter.now in
+    let old = c.args.stream.now.cutter in
     let new = c.work_first.new.cutter in
     let left = g.S.Source.left c.args.input.now in
     let left' = g.S.Source.left c.work_first.new.input in
-    let d = c.args.decoder.now in
+    let d = c.args.stream.now.decoder in
     record {
       done = x.done;
       ahead = λ bl bf so. works_ahead t f old left new left' c.in_ok-worked.worked c.in_ok-worked.next bl bf (g.K.Sink.held c.args.output.now) d x so;
@@ -67,13 +67,13 @@ returns-in_err-put_last-clause-err g c =
     let inv = c.loop-worked.invariant in
     let p = err_from_is_err_and c.from_residual-in_err-put_last.result c.from_residual-in_err-put_last.ensures.1 in
     rw (p.1, p.2)
-    (chain_stops (Rose (g.K.Sink.faults c.loop-worked.output) (g.K.Sink.faults c.put_last.new.output)) (Rose (g.K.Sink.faults c.args.output.now) (g.K.Sink.faults c.put_last.new.output)) c.args.taken c.args.cutter.now (g.S.Source.left c.args.input.now) (g.K.Sink.held c.args.output.now) c.args.decoder.now
-    (map piece_of c.loop-worked.worked.book.pictures ++ pieces_of c.loop-worked.next) c.loop-worked.next c.loop-worked.cutter (g.S.Source.left c.loop-worked.input) (g.K.Sink.held c.loop-worked.output) (g.K.Sink.held c.put_last.new.output) c.loop-worked.decoder c.in_err-put_last.field-0.0
+    (chain_stops (Rose (g.K.Sink.faults c.loop-worked.output) (g.K.Sink.faults c.put_last.new.output)) (Rose (g.K.Sink.faults c.args.output.now) (g.K.Sink.faults c.put_last.new.output)) c.args.taken c.args.stream.now.cutter (g.S.Source.left c.args.input.now) (g.K.Sink.held c.args.output.now) c.args.stream.now.decoder
+    (map piece_of c.loop-worked.worked.book.pictures ++ pieces_of c.loop-worked.next) c.loop-worked.next c.loop-worked.stream.cutter (g.S.Source.left c.loop-worked.input) (g.K.Sink.held c.loop-worked.output) (g.K.Sink.held c.put_last.new.output) c.loop-worked.stream.decoder c.in_err-put_last.field-0.0
     (λ r. rose_since inv.output.counts r) inv.ahead c.in_err-put_last.ensures.err)
 
 pub returns-clause-ok : goal.returns-clause-ok
 returns-clause-ok g c =
     let inv = c.loop-worked.invariant in
     let put = c.in_ok-put_last.ensures in
-    chain_ends c.args.taken c.args.cutter.now (g.S.Source.left c.args.input.now) (g.K.Sink.held c.args.output.now) c.args.decoder.now c.loop-worked.worked.book c.loop-worked.worked.after.items c.loop-worked.next c.loop-worked.cutter (g.S.Source.left c.loop-worked.input) (g.K.Sink.held c.loop-worked.output)
-    (g.K.Sink.held c.put_last.new.output) c.loop-worked.decoder c.put_last.new.decoder inv.ahead inv.under inv.rises put.ok put.counted put.going put.before
+    chain_ends c.args.taken c.args.stream.now.cutter (g.S.Source.left c.args.input.now) (g.K.Sink.held c.args.output.now) c.args.stream.now.decoder c.loop-worked.worked.book c.loop-worked.worked.after.items c.loop-worked.next c.loop-worked.stream.cutter (g.S.Source.left c.loop-worked.input) (g.K.Sink.held c.loop-worked.output)
+    (g.K.Sink.held c.put_last.new.output) c.loop-worked.stream.decoder c.put_last.new.decoder inv.ahead inv.under inv.rises put.ok

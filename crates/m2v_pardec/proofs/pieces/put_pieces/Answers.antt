@@ -1,4 +1,4 @@
-use Rattle.std.proofs.Common.{List, map, drop, get_or, subst, ◌+◌}
+use Rattle.std.proofs.Common.{List, map, drop, get_or, subst, ◌+◌, arith}
 use Rattle.std.proofs.lemmas.Option.{slice_get-get_or}
 use Rattle.std.proofs.lemmas.Result.{err_from_is_err_and}
 use Rattle.m2v_port.proofs.Runs.{rose_since, stays_on}
@@ -6,6 +6,7 @@ use Rattle.m2v_dec_batch.specs.declared.picture.BatchPicture.{BatchPicture}
 use Rattle.m2v_pardec.specs.Taken.{piece_of}
 use Rattle.m2v_pardec.specs.Put.{PutsTo, CountsTo}
 use Rattle.m2v_pardec.proofs.PutLaws.{puts_more, counts_more, stops_behind}
+use Rattle.m2v_pardec.proofs.PutSteps.{puts_done, counts_done}
 use Rattle.m2v_pardec.proofs.TakenLaws.{drop_at}
 use Rattle.m2v_pardec.proofs.pieces.put_pieces.Goals as goal
 
@@ -38,4 +39,15 @@ loop-i-preserved g c =
       going = put.going;
       before = put.before;
       output = stays_on inv.output c.put_piece.ensures.output;
+    }
+
+pub returns-clause-ok : goal.returns-clause-ok
+returns-clause-ok g c =
+    let inv = c.loop-i.invariant in
+    let xs = c.args.pictures.now in
+    record {
+      puts = puts_done xs c.loop-i.i (map piece_of xs) c.args.decoder.now c.loop-i.decoder (g.K.Sink.held c.args.output.now) (g.K.Sink.held c.loop-i.output) (omega (arith, c.loop-i-test.false)) inv.puts;
+      counted = counts_done xs c.loop-i.i (map piece_of xs) c.args.decoder.now c.loop-i.decoder (omega (arith, c.loop-i-test.false)) inv.counts;
+      going = inv.going;
+      before = inv.before;
     }

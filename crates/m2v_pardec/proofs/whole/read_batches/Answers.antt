@@ -13,23 +13,24 @@ returns-in_err-stop-clause-err g c =
     let p = err_from_is_err_and c.from_residual.result c.from_residual.ensures.1 in
     let left = g.S.Source.left c.args.input.now in
     let held = g.K.Sink.held c.args.output.now in
-    let start : IsAhead (behind c.args.cutter.now) left left held held [] c.args.decoder.now = rw (c.requires.cutter, c.requires.decoder) (ahead_none (progress_none g.S.Source.left g.S.Source.faults g.K.Sink.held g.K.Sink.faults c.args.input.now c.args.output.now)) in
+    let start : IsAhead (behind c.args.stream.now.cutter) left left held held [] c.args.stream.now.decoder = rw (c.requires.cutter, c.requires.decoder) (ahead_none (progress_none g.S.Source.left g.S.Source.faults g.K.Sink.held g.K.Sink.faults c.args.input.now c.args.output.now)) in
     rw (p.1, p.2)
     (fails_as (Rose (g.K.Sink.faults c.args.output.now) (g.K.Sink.faults c.put_first.new.output)) (change g.S.Source.left g.S.Source.faults c.args.input.now c.put_first.new.input) (change g.K.Sink.held g.K.Sink.faults c.args.output.now c.put_first.new.output) c.in_err-stop.field-0.0
-    (λ r. r) (c.in_err-stop.ensures.err left held start))
+    (λ r. r) ((c.in_err-stop.ensures.goes).err left held start))
 
 pub loop-stop-init : goal.loop-stop-init
 loop-stop-init g c =
     let left = g.S.Source.left c.args.input.now in
     let held = g.K.Sink.held c.args.output.now in
-    let start : IsAhead (behind c.args.cutter.now) left left held held [] c.args.decoder.now = rw (c.requires.cutter, c.requires.decoder) (ahead_none (progress_none g.S.Source.left g.S.Source.faults g.K.Sink.held g.K.Sink.faults c.args.input.now c.args.output.now)) in
-    let x = c.in_ok-stop.ensures.ok in
+    let start : IsAhead (behind c.args.stream.now.cutter) left left held held [] c.args.stream.now.decoder = rw (c.requires.cutter, c.requires.decoder) (ahead_none (progress_none g.S.Source.left g.S.Source.faults g.K.Sink.held g.K.Sink.faults c.args.input.now c.args.output.now)) in
+    let goes = c.in_ok-stop.ensures.goes in
+    let x = goes.ok in
     record {
       ahead = x.ahead left held start;
-      stands = (c.args.cutter.now, x.stands);
+      stands = (c.args.stream.now.cutter, x.stands);
       going = x.going;
       before = x.before;
-      read = c.in_ok-stop.ensures.read;
+      read = goes.read;
       output = c.put_first.ensures.output;
       input = c.put_first.ensures.input;
     }
@@ -40,7 +41,7 @@ returns-in-Error-clause-err g c =
     let so = rw c.in-Error.is at inv.ahead in
     let stands = rw c.in-Error.is at inv.stands in
     let read = rw c.in-Error.is at inv.read in
-    ahead_unread (change g.S.Source.left g.S.Source.faults c.args.input.now c.loop-stop.input) (change g.K.Sink.held g.K.Sink.faults c.args.output.now c.loop-stop.output) c.loop-stop.decoder c.in-Error.e read stands.1 so
+    ahead_unread (change g.S.Source.left g.S.Source.faults c.args.input.now c.loop-stop.input) (change g.K.Sink.held g.K.Sink.faults c.args.output.now c.loop-stop.output) c.loop-stop.stream.decoder c.in-Error.e read stands.1 so
 
 pub returns-in_err-stop-2-clause-err : goal.returns-in_err-stop-2-clause-err
 returns-in_err-stop-2-clause-err g c =
@@ -51,4 +52,4 @@ returns-in_err-stop-2-clause-err g c =
     let so = rw c.in-More.is at inv.ahead in
     rw (p.1, p.2)
     (fails_as (Rose (g.K.Sink.faults c.loop-stop.output) (g.K.Sink.faults c.put_next.new.output)) (change g.S.Source.left g.S.Source.faults c.args.input.now c.put_next.new.input) (change g.K.Sink.held g.K.Sink.faults c.args.output.now c.put_next.new.output) c.in_err-stop-2.field-0.0
-    (λ r. rose_since inv.output.counts r) (c.in_err-stop-2.ensures.err left held so))
+    (λ r. rose_since inv.output.counts r) ((c.in_err-stop-2.ensures.goes).err left held so))
