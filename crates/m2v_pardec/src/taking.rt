@@ -233,7 +233,8 @@ pub fn take<S: Source>(
     ensures some { IfOk result (λ t. t.stop ≡ Stop.More → 0 < length (pieces_of t)) }
     ensures err { OnErr result (WereTaken cutter.old (S.left input.old) cutter.new
         (S.left input.new)) }
-    ensures read { IfOk result (λ t. ReadFailed t.stop (Rose (S.faults input.old) (S.faults input.new))) }
+    ensures read { IfOk result (λ t. ReadFailed t.stop (Rose (S.faults input.old)
+        (S.faults input.new))) }
     ensures faults { S.faults input.old ≤ S.faults input.new }
 {
     // places are bounded, behind an error too

@@ -38,7 +38,8 @@ impl<'a, R, G> Workers<'a, R, G> {
 }
 
 impl<'a, R: Threads + Wait + Sync, G: Gate + Sync> Workers<'a, R, G> {
-    /// Has the workers decode the rows of a batch. The calling thread, which is one of them, first does something of its own.
+    /// Has the workers decode the rows of a batch, and calls a closure beside that: this thread starts the others, calls it, and
+    /// is a worker then.
     pub fn work_beside<F: FnMut() -> A, A>(
         &self,
         staffed: Staffed,
