@@ -10,6 +10,8 @@ trap 'rm -rf "$room"' EXIT
 cd "$room" || exit 1
 passed=0
 failed=0
+# where a failure is told: a case may have standard output elsewhere
+exec 7>&1
 
 # bytes HEX..: the bytes of hexadecimal numbers.
 bytes() { printf "$(printf '\\x%s' $*)"; }
@@ -18,7 +20,7 @@ grey() { head -c "$1" /dev/zero | tr '\0' '\200'; }
 
 # tell NAME FAULT: one case more, passed where there is no fault.
 tell() {
-  if [ -z "$2" ]; then passed=$((passed + 1)); else failed=$((failed + 1)); echo "FAILED: $1: $2"; fi
+  if [ -z "$2" ]; then passed=$((passed + 1)); else failed=$((failed + 1)); echo "FAILED: $1: $2" >&7; fi
 }
 
 # holds NAME STATUS LINE OUTPUT WORD..: runs the program on the file `in`; LINE is what stands on standard error without its
