@@ -106,6 +106,7 @@ package_into() {
     *~*) ;;
     *) echo "puckerledge: this folder is no git repository: a package says which commit it is of" >&2; return 1 ;;
   esac
+  if [ -z "$(logic)" ]; then echo "puckerledge: the program doesn't say in which logic it was proved" >&2; return 1; fi
   if [ "$2" ] && [ ! -r "$2" ]; then echo "puckerledge: $2 can't be read" >&2; return 1; fi
   name=puckerledge_${version}_amd64
   room=$(mktemp -d) || return

@@ -6,8 +6,9 @@
 #
 #     bench/draw/buffer.sh PROGRAM [PICTURES [FOLDER]]
 #
-# PROGRAM is the built program. The pictures go to PICTURES, docs/pictures where none is given; clips and streams stay
-# in FOLDER, /tmp/buffer where none is given.
+# PROGRAM is the built program. The pictures go to PICTURES, docs/pictures where none is given; report.png there is what a browser
+# shows of the page that bench/draw/report.sh makes of the late one. Clips and streams stay in FOLDER, /tmp/buffer where none is
+# given.
 set -eu
 # shellcheck source=bench/measure/measure.sh
 . "$(dirname "$(realpath "$0")")/../measure/measure.sh"
