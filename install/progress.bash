@@ -58,6 +58,8 @@ watch() {
     while true; do
         IFS= read -r -d '' -N 1 -t 1 byte
         status=$?
+        # a byte that comes as the time is up is there all the same
+        if [ "$byte" ]; then status=0; fi
         [ "$status" -gt 128 ] || break
         if ! kill -0 "$$" 2> /dev/null; then
             # nobody waits any more

@@ -268,6 +268,8 @@ def checkout(room):
 
 
 def main():
+    # whoever runs this in the background may have it ignore interrupts, and what it starts would do so too
+    signal.signal(signal.SIGINT, signal.default_int_handler)
     cases = Cases()
     with tempfile.TemporaryDirectory() as name:
         room = Path(name)
