@@ -18,7 +18,7 @@ use Rattle.m2v_order.specs.Groups.{Queue, Group, is_due, group_of, after_group}
 use Rattle.m2v_rate.specs.Plans.{Entries, account_at, fresh, begun}
 use Rattle.m2v_slice.specs.Slices.{CodedSlice}
 use Rattle.m2v_slice.specs.Headers.{header_units, bits_to_code}
-use Rattle.m2v_slice.specs.Books.{Book, CodedPicture, coded, picture_at, job_at, picture_sample, has_lines, ledger_behind, all_coded}
+use Rattle.m2v_slice.specs.Books.{Book, CodedPicture, picture_activities, coded, picture_at, job_at, picture_sample, has_lines, ledger_behind, all_coded}
 
 -- ---- pictures
 
@@ -108,7 +108,8 @@ book_of s x g = record {
   frames = g.frames;
   pictures = g.pictures;
   before = x.before;
-  ledger = begun x.ledger (map (λ (j : PictureJob). j.kind) g.pictures) (intervals_of s g.before g.pictures);
+  ledger = begun x.ledger (map (λ (j : PictureJob). j.kind) g.pictures) (intervals_of s g.before g.pictures)
+      (picture_activities s g.frames g.pictures);
 }
 
 -- the zero bits behind the first n pictures of a group

@@ -3,6 +3,8 @@ ghost use Rattle.std.specs.Prelude.{◌≡◌, ℕ, ◌+◌, ◌*◌, ◌≤◌,
 ghost use Rattle.m2v_port.specs.Ends.{change, SinkStays};
 ghost use Rattle.m2v_plane.specs.Samples.{Samples};
 ghost use Rattle.m2v_set.specs.Numbers.{dims_of, rows_by};
+ghost use Rattle.m2v_set.specs.Rules.{is_even};
+ghost use Rattle.m2v_rate.specs.Sharing.{IsPictureActivity};
 ghost use Rattle.m2v_order.specs.declared.jobs.PictureJob.{PictureJob};
 ghost use Rattle.m2v_order.specs.Times.{intervals_of};
 ghost use Rattle.m2v_order.specs.Whole.{IsGroupOf, handed};
@@ -19,7 +21,7 @@ use m2v_plane::{Frame, Memory, bytes_of};
 use m2v_port::Sink;
 use m2v_rate::Ledger;
 use m2v_set::{Passed, Scan};
-use m2v_slice::EncodeBook;
+use m2v_slice::{EncodeBook, GroupActivities, source_activities};
 use m2v_wave::{Bench, run_jobs};
 use std::alloc::Global;
 use std::sync::Wait;
@@ -104,28 +106,33 @@ impl Coder {
         })
     }
 
-    /// Begins the ledger of the next group, and gives the times behind its pictures.
+    /// Begins the ledger of the next group, whose pictures have these activities, and gives the times behind them.
     fn begin_group(
         &mut self,
         alloc: Global,
         before: Option<u64>,
         pictures: &[PictureJob],
+        activities: &[u32],
     ) -> Result<Vec<u64>, Memory>
         requires going { (coded : Bool) × GoesOn self.old coded }
         requires few { IsFew self.old.total }
         requires some { 1 ≤ length pictures.now }
         requires most { length pictures.now ≤ 126 }
         requires kinds { All (λ (j : PictureJob). (1 ≤ j.kind) × (j.kind ≤ 3)) pictures.now }
+        requires active { length activities.now ≡ length pictures.now }
+        requires activities { is_even self.old.settings.planning ≡ true
+            → All IsPictureActivity activities.now }
         ensures times { IfOk result
             (λ v. v.items ≡ intervals_of self.old.settings before pictures.now) }
         ensures begun { OnOk result (self.new.ledger ≡ begun self.old.ledger
             (map (λ (j : PictureJob). j.kind) pictures.now)
-            (intervals_of self.old.settings before pictures.now)) }
+            (intervals_of self.old.settings before pictures.now) activities.now) }
         ensures rest { self.new ≡ record self.old { ledger = self.new.ledger } }
     {
         let times = intervals(alloc, &self.settings, before, pictures)?;
         let kinds = kinds_of(alloc, pictures)?;
-        self.ledger.group(&self.settings, &kinds, &times);
+        self.ledger
+            .group(&self.settings, &kinds, &times, activities);
         Ok(times)
     }
 
@@ -152,9 +159,21 @@ impl Coder {
         let pictures = copy_of(alloc, &group.pictures)?;
         let frames = group.frames.len() as u32;
         let rows = rows_of(&self.settings);
-        let times = self.begin_group(alloc, group.before, &pictures)?;
+        let active = source_activities(alloc, &self.settings, &group)?;
+        let GroupActivities {
+            macroblocks,
+            pictures: sums,
+        } = active;
+        let times = self.begin_group(alloc, group.before, &pictures, &sums)?;
         let before = self.before.take();
-        let book = EncodeBook::for_group(alloc, &self.settings, group, before, self.ledger)?;
+        let book = EncodeBook::for_group(
+            alloc,
+            &self.settings,
+            group,
+            macroblocks,
+            before,
+            self.ledger,
+        )?;
         let workers = self.settings.settings().workers;
         let bench = Bench::for_book(alloc, &book, workers)?;
         let done = run_jobs(rt, &book, bench, gate);

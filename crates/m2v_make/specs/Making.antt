@@ -5,6 +5,7 @@ use Rattle.m2v_port.specs.Port.{Grows, GrowsByPrefix}
 use Rattle.m2v_set.specs.declared.settings.Settings.{Settings}
 use Rattle.m2v_set.specs.declared.settings.Scan.TheVariants.{Frames}
 use Rattle.m2v_set.specs.declared.settings.Level.TheVariants.{Main}
+use Rattle.m2v_set.specs.declared.settings.Planning.TheVariants.{Weights}
 use Rattle.m2v_encode.specs.m2v_enc_stream.Streams.{Coded, Recon}
 use Rattle.m2v_encode.specs.Answers.{numbers_of}
 use Rattle.m2v_encode.specs.m2v_law_shown.Laws.{DecodesTo}
@@ -33,6 +34,7 @@ make_settings = record {
   workers = 4;
   pulldown = false;
   level = Main;
+  planning = Weights;
 }
 
 -- the stream of the frames of a seed

@@ -16,7 +16,7 @@ use m2v_check::decode::decode;
 use m2v_check::{DecodeError, Figures, Verdict, check};
 use m2v_encode::{EncodeError, Summary, encode};
 use m2v_port::{PortError, Sink, SureFile, SureSink};
-use m2v_set::{Level, Scan, Settings};
+use m2v_set::{Level, Planning, Scan, Settings};
 use std::alloc::{AllocError, Global};
 use std::sync::Wait;
 use std::thread::Threads;
@@ -42,6 +42,7 @@ fn make_settings() -> Settings
         workers: 4,
         pulldown: false,
         level: Level::Main,
+        planning: Planning::Weights,
     }
 }
 

@@ -1,23 +1,28 @@
--- The plan of a picture: what it may take of the buffer, seen from the last account that is known. Amounts that are held
--- are in units of 1/1800 bit.
-use Rattle.std.specs.Prelude.{ℕ, zero, suc, ◌+◌, ◌-◌, ◌*◌, ◌/◌, ◌%◌, nat_eq, nat_lt, min, max, if◌then◌else◌, List, [], ◌∷◌, ◌++◌, length, slice_index, sum_by, Option, Some, None}
+-- The plan of a picture: what it may take of the buffer, seen from the last account that is known, and how the bits of its
+-- group are shared, by weights or by the source. Amounts that are held are in units of 1/1800 bit.
+use Rattle.std.specs.Prelude.{ℕ, zero, suc, ◌+◌, ◌-◌, ◌*◌, ◌/◌, ◌%◌, nat_eq, nat_lt, min, max, if◌then◌else◌, List, [], ◌∷◌, ◌++◌, map, length, slice_index, sum_by, Option, Some, None, option_map}
 use Rattle.std.specs.List.{range_with_len}
 use Rattle.m2v_set.specs.declared.settings.Settings.{Settings}
+use Rattle.m2v_set.specs.Rules.{is_even}
 use Rattle.m2v_set.specs.Numbers.{buffer_bits, least_of, delay_of, rows_by, slice_least, mb_width_of}
 use Rattle.m2v_vbv.specs.Annex.{Start}
 use Rattle.m2v_vbv.specs.Account.{State, opening, after, stuffing_of}
 use Rattle.m2v_rate.specs.declared.values.Plan.{Plan}
 use Rattle.m2v_rate.specs.declared.values.Known.{Known}
+use Rattle.m2v_rate.specs.declared.outlook.Measured.{Measured}
+use Rattle.m2v_rate.specs.Sharing.{Outlook, even_plan}
 
 -- what contracts see of a ledger: the account at the first picture of the group, the types of the group's pictures, the
--- times behind them, the sizes of the first of them, the plans of the first of them (quantiser, cap and target), and the
--- last picture of each type in the groups before
+-- times behind them and their activities, the sizes and works of the first of them, the plans of the first of them
+-- (quantiser, cap and target), and the last picture of each type in the groups before
 pub record Entries : Type 0 where
   pub settings : Settings
   pub account : State
   pub kinds : List ℕ
   pub intervals : List ℕ
+  pub activities : List ℕ
   pub sizes : List ℕ
+  pub works : List ℕ
   pub quantisers : List ℕ
   pub caps : List ℕ
   pub targets : List ℕ
@@ -64,7 +69,33 @@ Low l p = low_behind l (first_open p) (p - first_open p)
 abbrev pub Mean : Entries → ℕ → ℕ
 Mean l p = mean_behind l (first_open p) (p - first_open p)
 
--- ---- target and cap
+-- the bits that are held where a stream begins
+abbrev pub held_first : Settings → ℕ
+held_first s = (489600 + 8 * s.bits * delay_of s) / 1800
+
+-- the cap of a picture that is to have so many bits at most, of what is held at least
+abbrev pub cap_within : Settings → ℕ → ℕ → ℕ
+cap_within s low most = 8 * (min (low / 1800) (max (least_of s) most) / 8)
+
+-- ---- what is known of pictures before
+
+abbrev pub known_at : Entries → ℕ → Known
+known_at l j = record {
+  bits = slice_index l.sizes j;
+  q = slice_index l.quantisers j;
+  measured = record { work = slice_index l.works j; activity = slice_index l.activities j };
+}
+
+abbrev pub last_of : Entries → ℕ → Option Known
+last_of l kind = if nat_eq kind 1 then l.last_i else if nat_eq kind 2 then l.last_p else l.last_b
+
+-- the last picture of a type among the first n of the group and the groups before
+unfoldable pub last_known : Entries → ℕ → ℕ → Option Known
+last_known l kind zero = last_of l kind
+last_known l kind (suc n) =
+    if nat_eq (slice_index l.kinds n) kind then Some (known_at l n) else last_known l kind n
+
+-- ---- the plan by weights
 
 -- I pictures take more than P pictures, and these more than B pictures
 unfoldable pub weight : ℕ → ℕ
@@ -81,39 +112,56 @@ incomes l p n = sum_by (λ j. income l j / 1800) (range_with_len p n)
 -- what the pictures of the group from p on may take
 unfoldable pub pool : Entries → ℕ → ℕ
 pool l p =
-    incomes l p (length l.kinds - p) + Mean l p / 1800 - (489600 + 8 * l.settings.bits * delay_of l.settings) / 1800
+    incomes l p (length l.kinds - p) + Mean l p / 1800 - held_first l.settings
 
 unfoldable pub target_of : Entries → ℕ → ℕ
 target_of l p = pool l p * weight (slice_index l.kinds p) / weights l p (length l.kinds - p)
-
--- the cap for a target, of so many bits that are held at least
-abbrev pub cap_by : Settings → ℕ → ℕ → ℕ
-cap_by s low target = 8 * (min (low / 1800) (max (least_of s) (2 * target)) / 8)
-
--- ---- quantiser
-
-abbrev pub last_of : Entries → ℕ → Option Known
-last_of l kind = if nat_eq kind 1 then l.last_i else if nat_eq kind 2 then l.last_p else l.last_b
-
--- the last picture of a type among the first n of the group and the groups before
-unfoldable pub last_known : Entries → ℕ → ℕ → Option Known
-last_known l kind zero = last_of l kind
-last_known l kind (suc n) =
-    if nat_eq (slice_index l.kinds n) kind
-    then Some (record { bits = slice_index l.sizes n; q = slice_index l.quantisers n })
-    else last_known l kind n
 
 -- the quantiser that would have given the target
 unfoldable pub quantiser_by : Option Known → ℕ → ℕ
 quantiser_by None target = 8
 quantiser_by (Some k) target = min 31 (max 1 ((k.bits * k.q + max 1 target - 1) / max 1 target))
 
-unfoldable pub plan_of : Entries → ℕ → Plan
-plan_of l p = record {
+-- a picture may have twice its target
+unfoldable pub plan_by_weights : Entries → ℕ → Plan
+plan_by_weights l p = record {
   q = quantiser_by (last_known l (slice_index l.kinds p) (first_open p)) (target_of l p);
-  cap = cap_by l.settings (Low l p) (target_of l p);
+  cap = cap_within l.settings (Low l p) (2 * target_of l p);
   target = target_of l p;
 }
+
+-- ---- the plan by the source
+
+-- the bits that arrive behind each picture of the group
+abbrev pub incomes_of : Entries → List ℕ
+incomes_of l = map (λ units. l.settings.bits * units / 1800) l.intervals
+
+abbrev pub last_measured : Entries → ℕ → ℕ → Option Measured
+last_measured l kind p = option_map (λ (k : Known). k.measured) (last_known l kind (first_open p))
+
+-- what it is made of
+abbrev pub outlook_of : Entries → ℕ → Outlook
+outlook_of l p = record {
+  kinds = l.kinds;
+  activities = l.activities;
+  incomes = incomes_of l;
+  last_i = last_measured l 1 p;
+  last_p = last_measured l 2 p;
+  last_b = last_measured l 3 p;
+  mean = Mean l p / 1800;
+  low = Low l p / 1800;
+  start = held_first l.settings;
+}
+
+unfoldable pub plan_by_source : Entries → ℕ → Plan
+plan_by_source l p =
+    let e = even_plan (outlook_of l p) p in
+    record { q = e.q; cap = cap_within l.settings (Low l p) e.most; target = e.target }
+
+-- ---- the plan of a picture, as the settings say
+
+unfoldable pub plan_of : Entries → ℕ → Plan
+plan_of l p = if is_even l.settings.planning then plan_by_source l p else plan_by_weights l p
 
 -- ---- slices
 
@@ -141,7 +189,9 @@ fresh s = record {
   account = opening (start_of s);
   kinds = [];
   intervals = [];
+  activities = [];
   sizes = [];
+  works = [];
   quantisers = [];
   caps = [];
   targets = [];
@@ -150,14 +200,16 @@ fresh s = record {
   last_b = None;
 }
 
--- the next group begins, with these types and times
-abbrev pub begun : Entries → List ℕ → List ℕ → Entries
-begun l kinds intervals = record {
+-- the next group begins, with these types, times and activities
+abbrev pub begun : Entries → List ℕ → List ℕ → List ℕ → Entries
+begun l kinds intervals activities = record {
   settings = l.settings;
   account = account_at l (length l.kinds);
   kinds = kinds;
   intervals = intervals;
+  activities = activities;
   sizes = [];
+  works = [];
   quantisers = [];
   caps = [];
   targets = [];
@@ -174,6 +226,6 @@ with_plan l x = record l {
   targets = l.targets ++ x.target ∷ [];
 }
 
--- the size of the next picture is known
-abbrev pub with_size : Entries → ℕ → Entries
-with_size l bits = record l { sizes = l.sizes ++ bits ∷ [] }
+-- the size and the work of the next picture are known
+abbrev pub with_size : Entries → ℕ → ℕ → Entries
+with_size l bits work = record l { sizes = l.sizes ++ bits ∷ []; works = l.works ++ work ∷ [] }

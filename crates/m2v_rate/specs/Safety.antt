@@ -7,26 +7,30 @@ use Rattle.m2v_vbv.specs.Account.{stuffing_of}
 use Rattle.m2v_rate.specs.declared.values.Plan.{Plan}
 use Rattle.m2v_rate.specs.Plans.{Entries, account_at, Low, plan_of, begun}
 
--- a picture: its type, the time behind it, its bits with its headers, without the zero bytes and an end code behind it,
--- and its plan
+-- a picture: its type, the time behind it, its activity, its bits with its headers, without the zero bytes and an end code
+-- behind it, its work, and its plan
 pub record Picture : Type 0 where
   pub kind : ℕ
   pub interval : ℕ
+  pub activity : ℕ
   pub size : ℕ
+  pub work : ℕ
   pub plan : Plan
 
 -- the ledger once each picture of its next group is planned and known
 abbrev pub closed : Entries → List Picture → Entries
 closed l g =
-    record (begun l (map (λ (x : Picture). x.kind) g) (map (λ (x : Picture). x.interval) g)) {
+    record (begun l (map (λ (x : Picture). x.kind) g) (map (λ (x : Picture). x.interval) g)
+    (map (λ (x : Picture). x.activity) g)) {
       sizes = map (λ (x : Picture). x.size) g;
+      works = map (λ (x : Picture). x.work) g;
       quantisers = map (λ (x : Picture). x.plan.q) g;
       caps = map (λ (x : Picture). x.plan.cap) g;
       targets = map (λ (x : Picture). x.plan.target) g;
     }
 
--- a group is coded by its plans: each picture has the plan that the ledger gives, which sees none of the three pictures
--- before it, and is 32 bits below its cap, which an end code may take
+-- a group is coded by its plans: each picture has the plan that the ledger gives, which sees no size or work of the three
+-- pictures before it, and is 32 bits below its cap, which an end code may take
 pub record IsCoded (l : Entries) (g : List Picture) : Type 0 where
   pub some : 1 ≤ length g
   pub times : All (λ (x : Picture). IsInterval l.settings x.interval) g

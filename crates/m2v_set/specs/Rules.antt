@@ -3,6 +3,8 @@ use Rattle.std.specs.Prelude.{ℕ, ◌≡◌, ◌+◌, ◌-◌, ◌*◌, ◌%◌
 use Rattle.m2v_set.specs.declared.settings.Scan.{Scan}
 use Rattle.m2v_set.specs.declared.settings.Scan.TheVariants.{Progressive, Frames, Fields}
 use Rattle.m2v_set.specs.declared.settings.Level.TheVariants.{Main}
+use Rattle.m2v_set.specs.declared.settings.Planning.{Planning}
+use Rattle.m2v_set.specs.declared.settings.Planning.TheVariants.{Weights, Even}
 use Rattle.m2v_set.specs.declared.settings.Settings.{Settings}
 use Rattle.m2v_set.specs.declared.unfit.Unfit.{Unfit}
 use Rattle.m2v_set.specs.declared.limits.Limits.{Limits}
@@ -42,6 +44,11 @@ unfoldable pub is_progressive : Scan → Bool
 is_progressive Progressive = true
 is_progressive Frames = false
 is_progressive Fields = false
+
+-- bits are shared by the source
+unfoldable pub is_even : Planning → Bool
+is_even Weights = false
+is_even Even = true
 
 unfoldable pub scan_number : Scan → ℕ
 scan_number Progressive = 0

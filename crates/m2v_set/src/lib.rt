@@ -10,5 +10,5 @@ mod unfit;
 
 pub use m2v_plane as plane;
 pub use passed::{Passed, test_flat};
-pub use settings::{Level, Scan, Settings};
+pub use settings::{Level, Planning, Scan, Settings};
 pub use unfit::Unfit;

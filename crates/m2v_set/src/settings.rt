@@ -9,6 +9,15 @@ pub enum Scan {
     Fields,
 }
 
+/// How bits are shared among the pictures of a group.
+#[derive(Clone, Copy, Debug, PartialEq, Eq)]
+pub enum Planning {
+    /// By the types of the pictures: a fixed weight for each.
+    Weights,
+    /// By how much there is to code in the source, for even quality.
+    Even,
+}
+
 /// A level of the Main profile (clause 8.4); it bounds size, rates and buffer.
 #[derive(Clone, Copy, Debug, PartialEq, Eq)]
 pub enum Level {
@@ -53,4 +62,6 @@ pub struct Settings {
     pub pulldown: bool,
     /// The level that bounds the settings.
     pub level: Level,
+    /// How bits are shared among pictures. Settings pass with either.
+    pub planning: Planning,
 }

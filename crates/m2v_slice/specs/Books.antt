@@ -1,5 +1,5 @@
 -- The book of a group: what each of its pictures is coded of, which jobs there are, and what each stands on.
-use Rattle.std.specs.Prelude.{ℕ, zero, suc, ◌+◌, ◌-◌, ◌*◌, ◌/◌, ◌%◌, Bool, true, not, ◌&&◌, nat_eq, nat_lt, cond, min, if◌then◌else◌, List, [], ◌∷◌, ◌++◌, map, length, take, slice_index_or, sum_by, Option, Some, None}
+use Rattle.std.specs.Prelude.{ℕ, zero, suc, ◌+◌, ◌-◌, ◌*◌, ◌/◌, ◌%◌, Bool, true, not, ◌&&◌, nat_eq, nat_lt, cond, min, if◌then◌else◌, List, [], ◌∷◌, ◌++◌, map, length, take, replicate, slice_index_or, sum_by, Option, Some, None}
 use Rattle.std.specs.List.{range_with_len, flat_map}
 use Rattle.m2v_plane.specs.declared.planes.Lines.{Lines}
 use Rattle.m2v_plane.specs.declared.planes.Lines.TheVariants.{Whole, Top, Bottom}
@@ -7,12 +7,14 @@ use Rattle.m2v_plane.specs.Sizes.{side, frame_line}
 use Rattle.m2v_plane.specs.Samples.{Samples, sample_of, sample_in}
 use Rattle.m2v_plane.specs.Fields.{no_samples, or_none}
 use Rattle.m2v_set.specs.declared.settings.Settings.{Settings}
-use Rattle.m2v_set.specs.Numbers.{rows_by}
+use Rattle.m2v_set.specs.Numbers.{dims_of, rows_by}
+use Rattle.m2v_set.specs.Rules.{is_even}
 use Rattle.m2v_order.specs.declared.jobs.PictureJob.{PictureJob}
+use Rattle.m2v_enc_activity.specs.Activity.{activities, group_activities, row_activities, look_of}
 use Rattle.m2v_macroblock.specs.Predictions.{View}
 use Rattle.m2v_rate.specs.declared.values.Plan.{Plan}
 use Rattle.m2v_rate.specs.Plans.{Entries, plan_of, slice_cap_of, first_open}
-use Rattle.m2v_rate.specs.Seen.{told}
+use Rattle.m2v_rate.specs.Seen.{Told, told}
 use Rattle.m2v_slice.specs.Slices.{SliceTask, CodedSlice, slice_of}
 use Rattle.m2v_slice.specs.Headers.{context_of, header_bits}
 
@@ -29,6 +31,17 @@ pub record Book : Type 0 where
 pub record CodedPicture : Type 0 where
   pub plan : Plan
   pub slices : List CodedSlice
+
+-- the activities of a group's macroblocks, and of its pictures, as its ledger has them: made where the plan goes by the
+-- source; with the plan by weights those of macroblocks are none, and those of pictures 0
+unfoldable pub macroblock_activities : Settings → List Samples → List PictureJob → List ℕ
+macroblock_activities s frames pictures =
+    if is_even s.planning then activities (dims_of s) frames pictures else []
+
+unfoldable pub picture_activities : Settings → List Samples → List PictureJob → List ℕ
+picture_activities s frames pictures =
+    if is_even s.planning then group_activities (dims_of s) frames pictures
+    else replicate (length pictures) 0
 
 -- the macroblock rows of a picture
 abbrev pub rows : Book → ℕ
@@ -47,7 +60,7 @@ abbrev pub picture_at : List CodedPicture → ℕ → CodedPicture
 picture_at done p = slice_index_or done p (record { plan = no_plan; slices = [] })
 
 abbrev pub slice_at : List CodedPicture → ℕ → ℕ → CodedSlice
-slice_at done p r = slice_index_or (picture_at done p).slices r (record { text = []; row = no_samples })
+slice_at done p r = slice_index_or (picture_at done p).slices r (record { text = []; row = no_samples; work = 0 })
 
 -- ---- references
 
@@ -105,21 +118,38 @@ backward_of b done p = reference b done p 0
 abbrev pub size_of : Book → List CodedPicture → ℕ → ℕ
 size_of b done p = header_bits (job_at b p) + sum_by (λ (x : CodedSlice). length x.text) (picture_at done p).slices
 
--- the ledger with the sizes of the first n pictures, and the plans of those that are given
-unfoldable pub ledger_with : Book → List CodedPicture → ℕ → List CodedPicture → Entries
-ledger_with b done n planned =
-    told b.ledger (map (size_of b done) (range_with_len 0 n))
-    (map (λ (x : CodedPicture). x.plan.q) planned)
-    (map (λ (x : CodedPicture). x.plan.cap) planned)
-    (map (λ (x : CodedPicture). x.plan.target) planned)
+-- the work of a picture
+abbrev pub work_of : List CodedPicture → ℕ → ℕ
+work_of done p = sum_by (λ (x : CodedSlice). x.work) (picture_at done p).slices
 
--- the ledger as the plan of picture p sees it: the sizes up to picture p - 4, and all plans before it
+-- the sizes and works of the first n pictures, and the plans of those that are given
+abbrev pub told_with : Book → List CodedPicture → ℕ → List CodedPicture → Told
+told_with b done n planned = record {
+  sizes = map (size_of b done) (range_with_len 0 n);
+  works = map (work_of done) (range_with_len 0 n);
+  quantisers = map (λ (x : CodedPicture). x.plan.q) planned;
+  caps = map (λ (x : CodedPicture). x.plan.cap) planned;
+  targets = map (λ (x : CodedPicture). x.plan.target) planned;
+}
+
+-- the ledger with these
+unfoldable pub ledger_with : Book → List CodedPicture → ℕ → List CodedPicture → Entries
+ledger_with b done n planned = told b.ledger (told_with b done n planned)
+
+-- the ledger as the plan of picture p sees it: the sizes and works up to picture p - 4, and all plans before it
 abbrev pub ledger_for : Book → List CodedPicture → ℕ → Entries
 ledger_for b done p = ledger_with b done (first_open p) (take p done)
 
 -- the ledger once all is known
 abbrev pub ledger_behind : Book → List CodedPicture → Entries
 ledger_behind b done = ledger_with b done (length done) done
+
+-- the activities of a slice's macroblocks, where the plan goes by the source
+unfoldable pub slice_activities : Book → ℕ → ℕ → List ℕ
+slice_activities b p r =
+    if is_even b.settings.planning
+    then row_activities (dims_of b.settings) b.frames (look_of b.pictures p) r
+    else []
 
 unfoldable pub task_of : Book → List CodedPicture → ℕ → Plan → ℕ → SliceTask
 task_of b done p plan r = record {
@@ -131,6 +161,7 @@ task_of b done p plan r = record {
   q = plan.q;
   cap = slice_cap_of b.settings plan.cap r;
   search = b.settings.search;
+  activities = slice_activities b p r;
 }
 
 -- the next picture, those before it being coded

@@ -4,9 +4,10 @@ use Rattle.m2v_plane.specs.Samples.{Samples}
 use Rattle.m2v_rate.specs.declared.values.Plan.{Plan}
 use Rattle.m2v_rate.specs.Plans.{Entries}
 
--- a plan and the ledger with it, the bits of slices that were added up, and rows of reference pictures
+-- a plan and the ledger with it, the bits and the work of slices that were added up, and rows of reference pictures
 pub record Cached : Type 0 where
   pub plan : Plan
   pub ledger : Entries
   pub bits : ℕ
+  pub work : ℕ
   pub rows : List Samples

@@ -9,13 +9,14 @@ use Rattle.m2v_order.specs.Times.{intervals_of}
 use Rattle.m2v_order.specs.Whole.{IsGroupOf}
 use Rattle.m2v_rate.specs.Plans.{Entries, begun}
 use Rattle.m2v_rate.specs.Steady.{IsLedger}
-use Rattle.m2v_slice.specs.Books.{Book}
+use Rattle.m2v_slice.specs.Books.{Book, picture_activities}
 
 -- the ledger of some stream with these settings begins this group, of which nothing is known or planned
 pub record IsBegunFor (s : Settings) (g : Group Samples) (l : Entries) : Type 0 where
   pub from : Entries
   pub settings : from.settings ≡ s
   pub begun : l ≡ begun from (map (λ (j : PictureJob). j.kind) g.pictures) (intervals_of s g.before g.pictures)
+      (picture_activities s g.frames g.pictures)
   pub ledger : IsLedger l
 
 -- a book is that of a group of its settings, with frames of their size; the anchor before the group is there exactly where

@@ -34,10 +34,10 @@ value_of b j =
     then plan_piece b (picture_of_job b j)
     else slice_piece b (picture_of_job b j) (part_of_job b j - 1)
 
--- others learn a plan whole, and of a slice its samples and how many bits it has
+-- others learn a plan whole, and of a slice its samples, how many bits it has, and its work
 unfoldable pub shared_part : EncodePiece → EncodeShared
 shared_part (piece.Plan plan ledger) = part.Plan plan ledger
-shared_part (piece.Slice slice) = part.Slice slice.row (length slice.text)
+shared_part (piece.Slice slice) = part.Slice slice.row (length slice.text) slice.work
 
 abbrev pub shared_of : Book → ℕ → EncodeShared
 shared_of b j = shared_part (value_of b j)
@@ -45,7 +45,7 @@ shared_of b j = shared_part (value_of b j)
 -- a gate is told the bits of slices
 unfoldable pub told_part : EncodeShared → ℕ
 told_part (part.Plan plan ledger) = 0
-told_part (part.Slice row bits) = bits
+told_part (part.Slice row bits work) = bits
 
 abbrev pub told_of : Book → ℕ → ℕ
 told_of b j = told_part (shared_of b j)
@@ -54,20 +54,21 @@ told_of b j = told_part (shared_of b j)
 
 -- a plan comes first: with it counting begins
 unfoldable pub with_plan : EncodeShared → Cached → Cached
-with_plan (part.Plan plan ledger) c = record c { plan = plan; ledger = ledger; bits = 0 }
-with_plan (part.Slice row bits) c = c
+with_plan (part.Plan plan ledger) c = record c { plan = plan; ledger = ledger; bits = 0; work = 0 }
+with_plan (part.Slice row bits work) c = c
 
--- the bits of a slice more, as far as a number of 64 bits goes
+-- the bits and the work of a slice more, as far as numbers of 64 bits go
 unfoldable pub with_bits : EncodeShared → Cached → Cached
 with_bits (part.Plan plan ledger) c = c
-with_bits (part.Slice row bits) c = record c { bits = min (c.bits + bits) (2 ^ 64 - 1) }
+with_bits (part.Slice row bits work) c =
+    record c { bits = min (c.bits + bits) (2 ^ 64 - 1); work = min (c.work + work) (2 ^ 64 - 1) }
 
 -- a row in its place
 unfoldable pub with_row : ℕ → EncodeShared → Cached → Cached
 with_row k (part.Plan plan ledger) c = c
-with_row k (part.Slice row bits) c = record c { rows = slice_set c.rows k row }
+with_row k (part.Slice row bits work) c = record c { rows = slice_set c.rows k row }
 
--- the first need is a plan; those behind it are slices, whose bits a plan's job adds up, and whose rows a slice's job keeps
+-- the first need is a plan; those behind it are slices, whose bits and work a plan's job adds up, and whose rows a slice's job keeps
 -- in their order
 unfoldable pub learned_of : Book → ℕ → ℕ → EncodeShared → Cached → Cached
 learned_of b j zero x c = with_plan x c
@@ -86,17 +87,17 @@ FitsPiece b j (piece.Slice slice) =
 
 unfoldable pub FitsShared : Book → ℕ → EncodeShared → Type 0
 FitsShared b j (part.Plan plan ledger) = part_of_job b j ≡ 0
-FitsShared b j (part.Slice row bits) = (part_of_job b j ≢ 0) × (row.dims ≡ dims_of b.settings)
+FitsShared b j (part.Slice row bits work) = (part_of_job b j ≢ 0) × (row.dims ≡ dims_of b.settings)
 
 -- a shared part is that of a slice
 unfoldable pub IsSlicePart : EncodeShared → Type 0
 IsSlicePart (part.Plan plan ledger) = ⊥
-IsSlicePart (part.Slice row bits) = Unit {0}
+IsSlicePart (part.Slice row bits work) = Unit {0}
 
 -- the row of a shared part, if it has one, is for frames of this size
 unfoldable pub HasDims : Dims → EncodeShared → Type 0
 HasDims d (part.Plan plan ledger) = Unit {0}
-HasDims d (part.Slice row bits) = d ≡ row.dims
+HasDims d (part.Slice row bits work) = d ≡ row.dims
 
 -- a cache has room for three rows of each of four reference pictures
 pub record FitsCache (b : Book) (c : Cached) : Type 0 where

@@ -55,6 +55,7 @@ task_by source forward backward c plan = record {
   q = plan.q;
   cap = plan.cap;
   search = plan.search;
+  activities = plan.activities.now;
 }
 
 -- ---- a macroblock's decision

@@ -4,7 +4,7 @@ ghost use Rattle.m2v_plane.specs.Samples.{Samples};
 ghost use Rattle.m2v_plane.specs.Fields.{no_samples};
 ghost use Rattle.m2v_set.specs.Numbers.{dims_of, rows_by};
 ghost use Rattle.m2v_order.specs.Whole.{IsGroupOf, handed};
-ghost use Rattle.m2v_slice.specs.Books.{Book, rows, job_at, plan_job, picture_of_job, part_of_job};
+ghost use Rattle.m2v_slice.specs.Books.{Book, macroblock_activities, slice_activities, rows, job_at, plan_job, picture_of_job, part_of_job};
 ghost use Rattle.m2v_slice.specs.Conditions.{IsBook, IsBegunFor};
 ghost use Rattle.m2v_slice.specs.Jobs.{jobs_of};
 
@@ -12,7 +12,7 @@ use m2v_core::Memory;
 use m2v_order::{GroupJobs, PictureJob};
 use m2v_plane::Frame;
 use m2v_rate::Ledger;
-use m2v_set::{Passed, Scan};
+use m2v_set::{Passed, Planning, Scan};
 use std::alloc::Global;
 use std::marker::Model;
 
@@ -39,12 +39,14 @@ pub struct EncodeBook {
     pub(crate) settings: Passed,
     pub(crate) frames: Vec<Frame>,
     pub(crate) pictures: Vec<PictureJob>,
+    pub(crate) activities: Vec<u32>,
     pub(crate) before: Option<Frame>,
     pub(crate) ledger: Ledger,
 }
 
 impl Model for EncodeBook {
-    ghost use Rattle.m2v_slice.specs.Books.{Book};
+    ghost use Rattle.std.specs.Prelude.{◌≡◌};
+    ghost use Rattle.m2v_slice.specs.Books.{Book, macroblock_activities};
     ghost use Rattle.m2v_slice.specs.Conditions.{IsBook};
 
     ghost Value = { Book };
@@ -63,23 +65,27 @@ impl Model for EncodeBook {
       pictures = b.pictures.items;
       before = b.before;
       ledger = b.ledger;
-    }) };
+    }) × (b.activities.items ≡ macroblock_activities b.settings b.frames.items b.pictures.items) };
 }
 
 impl EncodeBook {
-    /// The book of a group of these settings, with the reconstruction of the anchor that was coded before it, which is there
-    /// exactly where one was coded, and the ledger that begins the group. All frames are of the settings' size.
+    /// The book of a group of these settings, with the activities of its macroblocks, as [`source_activities`] makes them, the
+    /// reconstruction of the anchor that was coded before it, which is there exactly where one was coded, and the ledger that
+    /// begins the group. All frames are of the settings' size.
     ///
     /// # Errors
-    /// `Memory` where no memory is left; the group and `before` are then dropped.
+    /// `Memory` where no memory is left; the group, the activities and `before` are then dropped.
     pub fn for_group(
         _alloc: Global,
         settings: &Passed,
         group: GroupJobs,
+        activities: Vec<u32>,
         before: Option<Frame>,
         ledger: Ledger,
     ) -> Result<EncodeBook, Memory>
         requires group { IsGroupOf settings.now (handed group) }
+        requires activities { activities.items
+            ≡ macroblock_activities settings.now group.frames.items group.pictures.items }
         requires sizes { All (λ (f : Samples). f.dims ≡ dims_of settings.now) group.frames.items }
         requires before { is_some before ≡ is_some group.before }
         requires size { IfSome before (λ f. f.dims ≡ dims_of settings.now) }
@@ -105,6 +111,7 @@ impl EncodeBook {
             settings: *settings,
             frames,
             pictures,
+            activities,
             before,
             ledger,
         })
@@ -174,6 +181,23 @@ impl EncodeBook {
         // what is known of a book
         let _book = self.pictures();
         self.frame(self.job(p).frame)
+    }
+
+    /// The activities of the macroblocks of slice r of picture p, where the plan goes by the source.
+    #[tactic(auto, unfolding(crate::specs::Books::slice_activities))]
+    pub(crate) fn slice_activities(&self, p: u32, r: u32) -> &[u32]
+        requires picture { p < length self.now.pictures }
+        requires row { r < rows self.now }
+        ensures value { result.now ≡ slice_activities self.now p r }
+    {
+        match self.settings.settings().planning {
+            Planning::Weights => &[],
+            Planning::Even => {
+                let columns = self.settings.dims().mb_width as usize;
+                let from = (p * self.rows() + r) as usize * columns;
+                &self.activities[from..from + columns]
+            }
+        }
     }
 
     /// The picture that a job belongs to.

@@ -12,13 +12,14 @@ use m2v_set::Passed;
 use std::alloc::Global;
 use std::marker::Model;
 
-/// What a worker keeps of the jobs that it learned of: a plan and the ledger that knows it, the bits of the slices that it
-/// learned of behind the plan, and rows of reference pictures. [`EncodeBook`](crate::EncodeBook) makes it.
+/// What a worker keeps of the jobs that it learned of: a plan and the ledger that knows it, the bits and the work of the
+/// slices that it learned of behind the plan, and rows of reference pictures. [`EncodeBook`](crate::EncodeBook) makes it.
 #[derive(Drop)]
 pub struct EncodeCache {
     plan: Plan,
     ledger: Ledger,
     bits: u64,
+    work: u64,
     rows: Vec<RowSamples>,
 }
 
@@ -32,6 +33,7 @@ impl Model for EncodeCache {
       plan = c.plan;
       ledger = c.ledger;
       bits = c.bits;
+      work = c.work;
       rows = c.rows.items;
     } };
 
@@ -72,6 +74,7 @@ impl EncodeCache {
             },
             ledger: *ledger,
             bits: 0,
+            work: 0,
             rows,
         })
     }
@@ -97,6 +100,13 @@ impl EncodeCache {
         self.bits
     }
 
+    /// The work of slices that was counted.
+    pub(crate) fn work(&self) -> u64
+        ensures value { result ≡ self.now.work }
+    {
+        self.work
+    }
+
     /// A row of a reference picture.
     #[inline(always)]
     pub(crate) fn row(&self, k: u32) -> &RowSamples
@@ -106,22 +116,26 @@ impl EncodeCache {
         &self.rows[k as usize]
     }
 
-    /// Takes a plan and the ledger that knows it, and begins to count bits.
+    /// Takes a plan and the ledger that knows it, and begins to count bits and work.
     pub(crate) fn take_plan(&mut self, plan: &Plan, ledger: &Ledger)
         ensures value { self.new
-            ≡ record self.old { plan = plan.now; ledger = ledger.now; bits = 0 } }
+            ≡ record self.old { plan = plan.now; ledger = ledger.now; bits = 0; work = 0 } }
     {
         self.plan = *plan;
         self.ledger = *ledger;
         self.bits = 0;
+        self.work = 0;
     }
 
-    /// Counts the bits of a slice more.
-    pub(crate) fn add_bits(&mut self, bits: u64)
-        ensures value { self.new
-            ≡ record self.old { bits = min (self.old.bits + bits) (2 ^ 64 - 1) } }
+    /// Counts the bits and the work of a slice more.
+    pub(crate) fn add_slice(&mut self, bits: u64, work: u64)
+        ensures value { self.new ≡ record self.old {
+          bits = min (self.old.bits + bits) (2 ^ 64 - 1);
+          work = min (self.old.work + work) (2 ^ 64 - 1);
+        } }
     {
         self.bits = self.bits.saturating_add(bits);
+        self.work = self.work.saturating_add(work);
     }
 
     /// Takes a row in its place.

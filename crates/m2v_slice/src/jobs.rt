@@ -22,7 +22,7 @@ const NO_PLAN: Plan = Plan {
     target: 0,
 };
 
-/// Copies the samples of a slice, and tells how many bits it has.
+/// Copies the samples of a slice, and tells how many bits it has and its work.
 #[tactic(auto, using(m2v_bits::proofs::Cursor::lengths), unfolding(crate::specs::Jobs::shared_part))]
 fn share_slice(out: &SliceOut, into: &mut EncodeShared)
     requires slice { IsSlicePart into.old }
@@ -30,9 +30,10 @@ fn share_slice(out: &SliceOut, into: &mut EncodeShared)
     requires few { length out.now.text < 2 ^ 32 }
     ensures value { into.new ≡ shared_part (piece.Slice out.now) }
 {
-    if let EncodeShared::Slice { row, bits } = into {
+    if let EncodeShared::Slice { row, bits, work } = into {
         row.copy_from(out.row());
         *bits = 8 * out.bytes().len() as u64;
+        *work = out.work();
     }
 }
 
@@ -46,13 +47,13 @@ fn learn_plan(part: &EncodeShared, cache: &mut EncodeCache)
     }
 }
 
-/// Learns how many bits a slice has.
+/// Learns how many bits a slice has, and its work.
 #[tactic(auto, unfolding(crate::specs::Jobs::with_bits))]
 fn learn_bits(part: &EncodeShared, cache: &mut EncodeCache)
     ensures value { cache.new ≡ with_bits part.now cache.old }
 {
-    if let EncodeShared::Slice { row: _, bits } = part {
-        cache.add_bits(*bits);
+    if let EncodeShared::Slice { row: _, bits, work } = part {
+        cache.add_slice(*bits, *work);
     }
 }
 
@@ -63,7 +64,12 @@ fn learn_row(k: u32, part: &EncodeShared, cache: &mut EncodeCache)
     requires same { HasDims (slice_index_or cache.old.rows k no_samples).dims part.now }
     ensures value { cache.new ≡ with_row k part.now cache.old }
 {
-    if let EncodeShared::Slice { row, bits: _ } = part {
+    if let EncodeShared::Slice {
+        row,
+        bits: _,
+        work: _,
+    } = part
+    {
         cache.set_row(k, row);
     }
 }
@@ -133,7 +139,11 @@ impl JobBook for EncodeBook {
             });
         }
         let row = RowSamples::blank(alloc, self.settings().dims())?;
-        Ok(EncodeShared::Slice { row, bits: 0 })
+        Ok(EncodeShared::Slice {
+            row,
+            bits: 0,
+            work: 0,
+        })
     }
 
     fn blank_cache(&self, alloc: Global) -> Result<EncodeCache, Memory> {
@@ -182,7 +192,11 @@ impl JobBook for EncodeBook {
     fn tell(&self, j: u32, part: &EncodeShared) -> u64 {
         match part {
             EncodeShared::Plan { plan: _, ledger: _ } => 0,
-            EncodeShared::Slice { row: _, bits } => *bits,
+            EncodeShared::Slice {
+                row: _,
+                bits,
+                work: _,
+            } => *bits,
         }
     }
 }

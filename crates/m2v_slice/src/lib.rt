@@ -6,6 +6,7 @@
 //! for each of its slices. [`code_slice`] codes one slice.
 #![tactic(auto)]
 
+mod activity;
 mod book;
 mod cache;
 mod jobs;
@@ -24,12 +25,14 @@ mod window;
 mod work;
 mod writing;
 
+pub use activity::source_activities;
 pub use book::EncodeBook;
 pub use cache::EncodeCache;
 pub use laws::{
     law_headers, law_slice_any_row, law_slice_chosen, law_slice_covers, law_slice_fits,
     law_slice_keeps,
 };
+pub use m2v_enc_activity::GroupActivities;
 pub use lengths::{bits_to_code, header_bits};
 pub use picture::picture_context;
 pub use pieces::{EncodePiece, EncodeShared};

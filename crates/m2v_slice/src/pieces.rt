@@ -17,6 +17,10 @@ pub enum EncodePiece {
 pub enum EncodeShared {
     /// The plan of a picture, and the ledger that knows it.
     Plan { plan: Plan, ledger: Ledger },
-    /// The samples of a slice, and how many bits it has.
-    Slice { row: RowSamples, bits: u64 },
+    /// The samples of a slice, how many bits it has, and its work.
+    Slice {
+        row: RowSamples,
+        bits: u64,
+        work: u64,
+    },
 }

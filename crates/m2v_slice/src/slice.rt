@@ -43,7 +43,7 @@ fn write_header(row: u32, q: u8, bits: &mut BitWriter)
     info.write(bits);
 }
 
-/// Writes a slice with its start code, and its samples into the row.
+/// Writes a slice with its start code, and its samples into the row, and tells its work.
 fn write_slice<V: RefView>(
     source: &Frame,
     forward: &V,
@@ -52,7 +52,7 @@ fn write_slice<V: RefView>(
     plan: &RowPlan,
     bits: &mut BitWriter,
     row: &mut RowSamples,
-)
+) -> u64
     requires slice { IsSlice (task_by source.now (V.at forward.now) (V.at backward.now) context.now
         plan.now) }
     requires references { HasReferences context.now.kind source.now.dims
@@ -67,21 +67,26 @@ fn write_slice<V: RefView>(
         ≡ (slice_of (task_by source.now (V.at forward.now) (V.at backward.now) context.now
         plan.now)).row }
     ensures room { bits.new.room + length bits.new.written ≡ most_bits_of context.now.columns }
+    ensures work { result
+        ≡ (slice_of (task_by source.now (V.at forward.now) (V.at backward.now) context.now
+        plan.now)).work }
 {
     // the row holds whole macroblocks
     let _dims = row.dims();
     bits.clear();
     write_header(plan.row, plan.q, bits);
-    code_row(source, forward, backward, context, plan, bits, row);
+    let work = code_row(source, forward, backward, context, plan, bits, row);
     bits.align();
+    work
 }
 
 /// Where a slice is coded: its bytes, and its samples as a decoder rebuilds them. It has room for any slice of its size,
-/// and is used for one slice after another. Contracts see its text and its row.
+/// and is used for one slice after another. Contracts see its text, its row and its work.
 #[derive(Drop)]
 pub struct SliceOut {
     bits: BitWriter,
     row: RowSamples,
+    work: u64,
 }
 
 impl Model for SliceOut {
@@ -90,7 +95,7 @@ impl Model for SliceOut {
 
     ghost Value = { CodedSlice };
 
-    ghost view = { λ s. record { text = s.bits.written; row = s.row } };
+    ghost view = { λ s. record { text = s.bits.written; row = s.row; work = s.work } };
 
     ghost invariant = { λ s. (s.bits.room + length s.bits.written
         ≡ most_bits_of s.row.dims.mb_width) × (length s.bits.written % 8 ≡ 0) };
@@ -109,7 +114,11 @@ impl SliceOut {
         let row = RowSamples::blank(alloc, dims)?;
         let room = (38 + 4608 * dims.mb_width as usize + 7) / 8;
         let bits = BitWriter::over(vec![in alloc; 0; room]?);
-        Ok(SliceOut { bits, row })
+        Ok(SliceOut {
+            bits,
+            row,
+            work: 0,
+        })
     }
 
     /// The bytes of the slice, with its start code.
@@ -125,6 +134,44 @@ impl SliceOut {
     {
         &self.row
     }
+
+    /// The work of the slice: the bits of each macroblock, as often as its quantiser says.
+    pub fn work(&self) -> u64
+        ensures value { result ≡ self.now.work }
+    {
+        self.work
+    }
+}
+
+/// Codes a slice as a row's plan says.
+pub(crate) fn code_row_slice<V: RefView>(
+    source: &Frame,
+    forward: &V,
+    backward: &V,
+    context: &PictureContext,
+    plan: &RowPlan,
+    out: &mut SliceOut,
+)
+    requires slice { IsSlice (task_by source.now (V.at forward.now) (V.at backward.now) context.now
+        plan.now) }
+    requires references { HasReferences context.now.kind source.now.dims
+        (row_place context.now plan.now.row)
+        (V.size forward.now) (V.size backward.now) (V.Holds forward.now) (V.Holds backward.now) }
+    requires out { out.old.row.dims ≡ source.now.dims }
+    ensures value { out.new ≡ slice_of (task_by source.now (V.at forward.now) (V.at backward.now)
+        context.now plan.now) }
+    ensures cap { length out.new.text ≤ plan.now.cap }
+    ensures edge { length out.new.text % 8 ≡ 0 }
+{
+    out.work = write_slice(
+        source,
+        forward,
+        backward,
+        context,
+        plan,
+        &mut out.bits,
+        &mut out.row,
+    );
 }
 
 /// Codes the slice of a macroblock row of the picture, counted from 0, with the quantiser of a plan: the choices from left
@@ -167,6 +214,7 @@ pub fn code_slice<V: RefView>(
       q = plan.now.q;
       cap = cap;
       search = search;
+      activities = [];
     }) }
     ensures cap { length out.new.text ≤ cap }
     ensures edge { length out.new.text % 8 ≡ 0 }
@@ -178,14 +226,7 @@ pub fn code_slice<V: RefView>(
         q: plan.q,
         cap,
         search,
+        activities: &[],
     };
-    write_slice(
-        source,
-        forward,
-        backward,
-        context,
-        &row_plan,
-        &mut out.bits,
-        &mut out.row,
-    );
+    code_row_slice(source, forward, backward, context, &row_plan, out);
 }

@@ -8,7 +8,8 @@ ghost use Rattle.m2v_slice.specs.Works.{HasLearnedPlan, HasLearnedSlice};
 
 use crate::book::EncodeBook;
 use crate::cache::EncodeCache;
-use crate::slice::code_slice;
+use crate::row::RowPlan;
+use crate::slice::code_row_slice;
 use crate::window::ReferenceWindow;
 use crate::{SliceOut, header_bits, picture_context};
 use m2v_rate::{Ledger, Plan, plan, slice_cap};
@@ -36,7 +37,8 @@ impl EncodeBook {
         }
         let mut ledger = *cache.ledger();
         if p >= 4 {
-            ledger.known(p - 4, header_bits(self.job(p - 4)) + cache.bits());
+            let bits = header_bits(self.job(p - 4)) + cache.bits();
+            ledger.known(p - 4, bits, cache.work());
         }
         ledger
     }
@@ -82,17 +84,19 @@ impl EncodeBook {
         let context = picture_context(settings, job);
         let forward = ReferenceWindow::for_slice(self, cache, p, r, forward_number(job.kind));
         let backward = ReferenceWindow::for_slice(self, cache, p, r, 0);
-        let cap = slice_cap(settings, plan, r);
-        let search = settings.settings().search;
-        code_slice(
+        let row_plan = RowPlan {
+            row: r,
+            q: plan.q,
+            cap: slice_cap(settings, plan, r),
+            search: settings.settings().search,
+            activities: self.slice_activities(p, r),
+        };
+        code_row_slice(
             self.source(p),
             &forward,
             &backward,
             &context,
-            r,
-            plan,
-            cap,
-            search,
+            &row_plan,
             out,
         );
     }

@@ -1,5 +1,5 @@
 // Settings from which tests begin.
-use m2v_set::{Level, Scan, Settings};
+use m2v_set::{Level, Planning, Scan, Settings};
 
 /// One macroblock at 25 frames a second, with the options that no word gives at their defaults.
 pub(crate) fn small(bits: u32, buffer: u32) -> Settings {
@@ -19,6 +19,7 @@ pub(crate) fn small(bits: u32, buffer: u32) -> Settings {
         workers: 1,
         pulldown: false,
         level: Level::Main,
+        planning: Planning::Weights,
     }
 }
 

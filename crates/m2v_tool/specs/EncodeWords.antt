@@ -8,6 +8,8 @@ use Rattle.m2v_set.specs.declared.settings.Scan.{Scan}
 use Rattle.m2v_set.specs.declared.settings.Scan.TheVariants.{Progressive, Frames, Fields}
 use Rattle.m2v_set.specs.declared.settings.Level.{Level}
 use Rattle.m2v_set.specs.declared.settings.Level.TheVariants as levels
+use Rattle.m2v_set.specs.declared.settings.Planning.{Planning}
+use Rattle.m2v_set.specs.declared.settings.Planning.TheVariants.{Weights, Even}
 use Rattle.m2v_tool.specs.declared.encode.EncodeWords.{EncodeWords}
 use Rattle.m2v_tool.specs.Simple.{simple, required_option, number_option, text_option, flag_option, taken, number_in, number_or, required, flag}
 
@@ -31,8 +33,8 @@ numbers = number_option (codes "delay") ∷ number_option (codes "group")
     ∷ number_option (codes "aspect") ∷ number_option (codes "workers") ∷ []
 
 abbrev pub others : List Rule
-others = text_option (codes "scan") ∷ text_option (codes "level") ∷ flag_option (codes "closed")
-    ∷ flag_option (codes "pulldown") ∷ text_option (codes "recon") ∷ []
+others = text_option (codes "scan") ∷ text_option (codes "level") ∷ text_option (codes "plan")
+    ∷ flag_option (codes "closed") ∷ flag_option (codes "pulldown") ∷ text_option (codes "recon") ∷ []
 
 abbrev pub encode_app : App
 encode_app = simple (codes "encode") (needed ++ (numbers ++ others))
@@ -51,16 +53,25 @@ level_named word =
     else if bytes_eq word (codes "high1440") then Some levels.High1440
     else if bytes_eq word (codes "high") then Some levels.High else None
 
--- these where they are given, and else progressive frames and Main level
+-- how bits are shared, by its word
+unfoldable pub plan_named : Text → Option Planning
+plan_named word =
+    if bytes_eq word (codes "weights") then Some Weights
+    else if bytes_eq word (codes "even") then Some Even else None
+
+-- these where they are given, and else progressive frames, Main level, and the plan by weights
 unfoldable pub scan_in : List Row → Option Scan
 scan_in rows = scan_named (unwrap_or (first_of (codes "scan") rows) (codes "progressive"))
 
 unfoldable pub level_in : List Row → Option Level
 level_in rows = level_named (unwrap_or (first_of (codes "level") rows) (codes "main"))
 
+unfoldable pub plan_in : List Row → Option Planning
+plan_in rows = plan_named (unwrap_or (first_of (codes "plan") rows) (codes "weights"))
+
 -- the settings, with the numbers that stand where none is given
-unfoldable pub settings_of : List Row → Scan → Level → Settings
-settings_of rows scan level = record {
+unfoldable pub settings_of : List Row → Scan → Level → Planning → Settings
+settings_of rows scan level planning = record {
   width = required (codes "width") rows;
   height = required (codes "height") rows;
   rate_code = required (codes "rate") rows;
@@ -76,15 +87,16 @@ settings_of rows scan level = record {
   workers = number_or (codes "workers") 1 rows;
   pulldown = flag (codes "pulldown") rows;
   level = level;
+  planning = planning;
 }
 
 unfoldable pub meant_of : List Row → Option Meant
 meant_of rows =
-    option_and_then (λ scan. option_map (λ level. record {
-      settings = settings_of rows scan level;
+    option_and_then (λ scan. option_and_then (λ level. option_map (λ planning. record {
+      settings = settings_of rows scan level planning;
       recon = first_of (codes "recon") rows;
-    }) (level_in rows)) (scan_in rows)
+    }) (plan_in rows)) (level_in rows)) (scan_in rows)
 
--- What the words behind `encode` mean, where `clap` takes them and the words for scan and level are such.
+-- What the words behind `encode` mean, where `clap` takes them and the words for scan, level and plan are such.
 unfoldable pub encode_meant : List Text → Option Meant
 encode_meant words = option_and_then meant_of (taken encode_app words)

@@ -6,7 +6,7 @@ ghost use Rattle.clap.specs.Walk.{first_of, rows_of};
 ghost use Rattle.clap.specs.Matches.{found_of};
 ghost use Rattle.clap.specs.Simple.{app_of};
 ghost use Rattle.m2v_tool.specs.Simple.{simple, with_rules};
-ghost use Rattle.m2v_tool.specs.EncodeWords.{encode_app, encode_meant, needed, numbers, others, level_in, level_named, meant_of, scan_in, scan_named, settings_of, words_of};
+ghost use Rattle.m2v_tool.specs.EncodeWords.{encode_app, encode_meant, needed, numbers, others, level_in, level_named, meant_of, plan_in, plan_named, scan_in, scan_named, settings_of, words_of};
 
 use crate::report::{
     Report, no_frames, no_memory, read_fault, short_frame, too_many_frames, unfit, write_fault,
@@ -19,7 +19,7 @@ use clap::{ArgMatches, Command};
 use m2v_board::Gate;
 use m2v_make::encode::{EncodeError, Summary, encode};
 use m2v_port::{NamedSink, PortError, Sink, Source, SureFile};
-use m2v_set::{Level, Passed, Scan, Settings, Unfit};
+use m2v_set::{Level, Passed, Planning, Scan, Settings, Unfit};
 use std::alloc::{AllocError, Global};
 use std::sync::Wait;
 use std::thread::Threads;
@@ -59,6 +59,18 @@ fn level_named(word: &str) -> Option<Level>
     }
 }
 
+/// How bits are shared, by its word.
+#[tactic(auto, unfolding(crate::specs::EncodeWords::plan_named))]
+fn plan_named(word: &str) -> Option<Planning>
+    ensures { result ≡ plan_named word.now }
+{
+    match word {
+        "weights" => Some(Planning::Weights),
+        "even" => Some(Planning::Even),
+        _ => None,
+    }
+}
+
 /// How frames are scanned, by what was given: progressive where nothing was.
 #[tactic(auto, unfolding(crate::specs::EncodeWords::scan_in))]
 fn scan_in(matches: &ArgMatches) -> Option<Scan>
@@ -75,10 +87,18 @@ fn level_in(matches: &ArgMatches) -> Option<Level>
     level_named(text_or(matches, "level", "main"))
 }
 
+/// How bits are shared by what was given: by weights where nothing was.
+#[tactic(auto, unfolding(crate::specs::EncodeWords::plan_in))]
+fn plan_in(matches: &ArgMatches) -> Option<Planning>
+    ensures { result ≡ plan_in (rows_of (found_of matches.now)) }
+{
+    plan_named(text_or(matches, "plan", "weights"))
+}
+
 /// The settings, with the numbers that stand where none is given.
 #[tactic(auto, unfolding(crate::specs::EncodeWords::settings_of))]
-fn settings_of(matches: &ArgMatches, scan: Scan, level: Level) -> Settings
-    ensures { result ≡ settings_of (rows_of (found_of matches.now)) scan level }
+fn settings_of(matches: &ArgMatches, scan: Scan, level: Level, planning: Planning) -> Settings
+    ensures { result ≡ settings_of (rows_of (found_of matches.now)) scan level planning }
 {
     Settings {
         width: required(matches, "width"),
@@ -96,6 +116,7 @@ fn settings_of(matches: &ArgMatches, scan: Scan, level: Level) -> Settings
         workers: number_or(matches, "workers", 1),
         pulldown: flag(matches, "pulldown"),
         level,
+        planning,
     }
 }
 
@@ -133,6 +154,7 @@ pub(crate) fn with_options<'a>(
     let command = with_numbers(alloc, command)?;
     let command = with(command, text_option(alloc, "scan"))?;
     let command = with(command, text_option(alloc, "level"))?;
+    let command = with(command, text_option(alloc, "plan"))?;
     let command = with(command, flag_option(alloc, "closed"))?;
     let command = with(command, flag_option(alloc, "pulldown"))?;
     with(command, text_option(alloc, "recon"))
@@ -171,9 +193,12 @@ pub(crate) fn meant_of(
     let Some(level) = level_in(matches) else {
         return Ok(None);
     };
+    let Some(planning) = plan_in(matches) else {
+        return Ok(None);
+    };
     let recon = recon_in(alloc, matches)?;
     Ok(Some(EncodeWords {
-        settings: settings_of(matches, scan, level),
+        settings: settings_of(matches, scan, level, planning),
         recon,
     }))
 }

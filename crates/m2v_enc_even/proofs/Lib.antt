@@ -1,4 +1,0 @@
-pub mod Sums
-pub mod Anchors
-pub mod Lists
-pub mod Bounds

@@ -1,0 +1,17 @@
+use Rattle.std.proofs.Common.{◌≡◌, ◌-◌, length, arith}
+use Rattle.m2v_rate.specs.Sharing.{income, from_on}
+use Rattle.m2v_rate.proofs.Shares.{sum_more}
+use Rattle.m2v_rate.proofs.even.incomes_from.Goals as goal
+
+pub loop-n-preserved : goal.loop-n-preserved
+loop-n-preserved c = record {
+  value = omega (arith, c.income-sum.ensures.value, c.loop-n.invariant.value, sum_more (income c.args.group.now) c.args.p c.loop-n.n);
+  most = omega arith;
+  some = omega arith;
+}
+
+pub returns-clause-value : goal.returns-clause-value
+unfolding from_on
+returns-clause-value c =
+    let end : c.loop-n.n ≡ length c.args.group.now.kinds - c.args.p = omega arith in
+    rw end at c.loop-n.invariant.value

@@ -1,0 +1,10 @@
+use Rattle.std.proofs.Common.{◌≡◌, ◌*◌, ◌≤◌}
+use Rattle.std.specs.List.{range_with_len, sum_by}
+use Rattle.m2v_rate.specs.Sharing.{need}
+use Rattle.m2v_rate.proofs.even.needs_from.Given as goal
+
+abbrev pub invariant-loop-n : goal.invariant-loop-n
+invariant-loop-n l = record {
+  value : l.sum ≡ sum_by (need l.group) (range_with_len l.p l.n);
+  most : l.sum ≤ 2147483647 * l.n;
+}
