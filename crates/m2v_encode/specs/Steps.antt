@@ -12,7 +12,7 @@ use Rattle.m2v_order.specs.Groups.{Queue, Group, is_due, group_of, after_push, a
 use Rattle.m2v_order.specs.Times.{intervals_of}
 use Rattle.m2v_rate.specs.Plans.{account_at, begun}
 use Rattle.m2v_rate.specs.Steady.{IsLedger}
-use Rattle.m2v_slice.specs.Books.{Book}
+use Rattle.m2v_slice.specs.Books.{Book, picture_activities}
 use Rattle.m2v_law_headline.specs.m2v_enc_stream.Streams.{Progress, at_start, groups_begun, groups_from, waiting, zeros_sum}
 use Rattle.m2v_encode.specs.declared.answer.Summary.{Summary}
 use Rattle.m2v_encode.specs.declared.answer.EncodeError.{EncodeError}
@@ -59,7 +59,8 @@ book_by c g = record {
   frames = g.frames;
   pictures = g.pictures;
   before = c.before;
-  ledger = begun c.ledger (map (λ (j : PictureJob). j.kind) g.pictures) (intervals_of c.settings g.before g.pictures);
+  ledger = begun c.ledger (map (λ (j : PictureJob). j.kind) g.pictures) (intervals_of c.settings g.before g.pictures)
+      (picture_activities c.settings g.frames g.pictures);
 }
 
 -- a coder has room for a frame's bytes and for a picture's headers

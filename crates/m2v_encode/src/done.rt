@@ -1,7 +1,7 @@
 //! A group whose jobs are done.
 ghost use Rattle.std.specs.Prelude.{◌≡◌, ◌+◌, ◌-◌, ◌*◌, ◌^◌, ◌<◌, ◌≤◌, length, slice_index};
 ghost use Rattle.m2v_slice.specs.Headers.{IsJob};
-ghost use Rattle.m2v_slice.specs.Books.{rows, job_at, slice_at, size_of, ledger_with};
+ghost use Rattle.m2v_slice.specs.Books.{rows, job_at, slice_at, size_of, work_of, ledger_with};
 ghost use Rattle.m2v_slice.specs.Conditions.{IsBook};
 ghost use Rattle.m2v_encode.specs.Groups.{all_coded, whole_ledger};
 
@@ -141,6 +141,20 @@ impl DoneGroup {
         bits
     }
 
+    /// The work of a picture: the sum of that of its slices.
+    fn work(&self, p: u32) -> u64
+        requires picture { p < length self.now.pictures }
+        ensures value { result ≡ work_of (all_coded self.now) p }
+    {
+        // a book's slices are short, and so is their work
+        let _book = self.pictures();
+        let mut work = 0;
+        for r in 0..self.rows() {
+            work += self.slice(p, r).work();
+        }
+        work
+    }
+
     /// The ledger that knows all plans, and all sizes but those of the last three pictures before the last, and its own.
     fn planned(&self) -> Ledger
         ensures value { result ≡ ledger_with self.now (all_coded self.now)
@@ -160,7 +174,7 @@ impl DoneGroup {
         let mut ledger = self.planned();
         let count = self.pictures();
         for p in count.saturating_sub(4)..count {
-            ledger.known(p, self.size(p));
+            ledger.known(p, self.size(p), self.work(p));
         }
         ledger
     }
