@@ -4,7 +4,7 @@ use Rattle.std.specs.Prelude.{ℕ, ◌≡◌, ◌+◌, ◌-◌, ◌*◌, ◌/◌
 use Rattle.std.specs.List.{range_with_len}
 use Rattle.m2v_rate.specs.declared.outlook.Measured.{Measured}
 use Rattle.m2v_rate.specs.declared.even.EvenPlan.{EvenPlan}
-use Rattle.m2v_rate.specs.declared.raised.SliceSoFar.{SliceSoFar}
+use Rattle.m2v_rate.specs.declared.raising.SliceSoFar.{SliceSoFar}
 
 -- what a plan is made of: of the pictures of the group in coding order their types (1 is I, 2 is P, 3 is B), their activities
 -- and the bits that arrive behind each; the last coded picture of each type that is known; what is held when the picture is

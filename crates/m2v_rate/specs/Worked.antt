@@ -1,6 +1,6 @@
 -- A plan by the source, and quantisers in a slice, computed by hand.
 use Rattle.std.specs.Prelude.{ℕ, List, [], ◌∷◌, replicate, Some, None}
-use Rattle.m2v_rate.specs.declared.raised.SliceSoFar.{SliceSoFar}
+use Rattle.m2v_rate.specs.declared.raising.SliceSoFar.{SliceSoFar}
 use Rattle.m2v_rate.specs.Sharing.{Outlook, needs, pool, reserve, quantiser, target, most, raised}
 
 -- ---- a plan

@@ -70,7 +70,7 @@ fn complexity(last: Option<Measured>, activity: u32) -> u32
 }
 
 /// The same, where one is known.
-#[tactic(auto, using(crate::proofs::Shares::part_most), unfolding(crate::specs::Sharing::complexity))]
+#[tactic(auto, using(crate::proofs::Targets::part_most), unfolding(crate::specs::Sharing::complexity))]
 fn by_last(known: Measured, activity: u32) -> u32
     requires known { IsMeasured known }
     requires active { IsPictureActivity activity }

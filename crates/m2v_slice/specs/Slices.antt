@@ -5,7 +5,7 @@ use Rattle.m2v_head.specs.declared.slice.SliceInfo.{SliceInfo}
 use Rattle.m2v_head.specs.Texts.{slice_text}
 use Rattle.m2v_plane.specs.Sizes.{side}
 use Rattle.m2v_plane.specs.Samples.{Samples, sample_in, blank}
-use Rattle.m2v_rate.specs.declared.raised.SliceSoFar.{SliceSoFar}
+use Rattle.m2v_rate.specs.declared.raising.SliceSoFar.{SliceSoFar}
 use Rattle.m2v_rate.specs.Sharing.{raised}
 use Rattle.m2v_pred.specs.Motion.{own_lines}
 use Rattle.m2v_pred.specs.Predicted.{block_by}

@@ -1,6 +1,6 @@
 use Rattle.std.proofs.Common.{◌≡◌, ◌-◌, length, arith}
 use Rattle.m2v_rate.specs.Sharing.{income, from_on}
-use Rattle.m2v_rate.proofs.Shares.{sum_more}
+use Rattle.m2v_rate.proofs.Targets.{sum_more}
 use Rattle.m2v_rate.proofs.even.incomes_from.Goals as goal
 
 pub loop-n-preserved : goal.loop-n-preserved

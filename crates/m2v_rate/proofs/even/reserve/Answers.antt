@@ -1,6 +1,6 @@
 use Rattle.std.proofs.Common.{◌≡◌, ◌+◌, ◌-◌, length, arith, min}
 use Rattle.m2v_rate.specs.Sharing.{lack, reserve}
-use Rattle.m2v_rate.proofs.Shares.{sum_more}
+use Rattle.m2v_rate.proofs.Targets.{sum_more}
 use Rattle.m2v_rate.proofs.even.reserve.Goals as goal
 
 pub loop-n-preserved : goal.loop-n-preserved

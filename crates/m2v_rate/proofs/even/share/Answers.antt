@@ -1,6 +1,6 @@
 use Rattle.std.proofs.Common.{arith, refl, ◌≤◌}
 use Rattle.m2v_rate.specs.Sharing.{share, pool}
-use Rattle.m2v_rate.proofs.Shares.{share_most}
+use Rattle.m2v_rate.proofs.SharingLaws.{share_most}
 use Rattle.m2v_rate.proofs.even.share.Goals as goal
 
 pub returns-clause-value : goal.returns-clause-value

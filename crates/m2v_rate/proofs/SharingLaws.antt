@@ -6,18 +6,7 @@ use Rattle.std.proofs.lemmas.Nat.{div_below}
 use Rattle.std.proofs.lemmas.List.Sums.{sum_by_push}
 use Rattle.std.proofs.lemmas.Bool.{cases_lt}
 use Rattle.m2v_rate.specs.Sharing.{Outlook, need, needs, from_on, pool, share}
-use Rattle.m2v_order.proofs.Orders.{range_append}
-
--- a part of a whole is at most the whole
-pub part_most : (a w d : ℕ) → 0 < d → w ≤ d → a * w / d ≤ a
-part_most a w d some le =
-    let more = mul-le-mul_left a le in
-    let lt : a * w < (a + 1) * d = omega (arith, more) in
-    let below = div_below (a * w) d (a + 1) some lt in omega (arith, below)
-
--- a sum over pictures, and one picture more
-pub sum_more : (f : ℕ → ℕ) (a n : ℕ) → sum_by f (range_with_len a (n + 1)) ≡ sum_by f (range_with_len a n) + f (a + n)
-sum_more f a n = ap (sum_by f) (range_append a n 1) ∙ sum_by_push f (range_with_len a n) (a + n)
+use Rattle.m2v_rate.proofs.Targets.{sum_more, part_most}
 
 -- a term is part of its sum
 pub term_in_sum : (f : ℕ → ℕ) (n k : ℕ) → k < n → f k ≤ sum_by f (range_with_len 0 n)
