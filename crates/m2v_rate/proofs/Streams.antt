@@ -18,7 +18,7 @@ use Rattle.m2v_rate.specs.Plans.{Entries, income, account_at, first_open, Low, p
 use Rattle.m2v_rate.specs.Steady.{IsPlan, IsBegun, IsSteady, IsLedger}
 use Rattle.m2v_rate.specs.Safety.{Picture, closed, IsCoded, AreCoded, removal_at, ending_at, group_removals, removals, after_groups, sent, Keeps}
 use Rattle.m2v_rate.proofs.Lows.{rate_at, buffer_at, gain_high, held_least, held_most, held_tight, left_whole, low_least, low_below, cap_held, size_whole}
-use Rattle.m2v_rate.proofs.Safes.{plan_is}
+use Rattle.m2v_rate.proofs.BothPlans.{plan_is}
 
 -- ---- a group
 

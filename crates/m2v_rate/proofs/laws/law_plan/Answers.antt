@@ -1,6 +1,6 @@
 use Rattle.m2v_rate.proofs.Lows.{caps_held}
 use Rattle.m2v_rate.proofs.Same.{plan_same, plan_early}
-use Rattle.m2v_rate.proofs.Safes.{plan_is}
+use Rattle.m2v_rate.proofs.BothPlans.{plan_is}
 use Rattle.m2v_rate.proofs.Caps.{slices_sum}
 use Rattle.m2v_rate.proofs.laws.law_plan.Goals as goal
 
