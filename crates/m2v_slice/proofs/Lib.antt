@@ -22,6 +22,7 @@ pub mod Begun
 pub mod Firsts
 pub mod Works
 pub mod Planned
+pub mod Parts
 pub mod Stands
 pub mod Existing
 pub mod Near

@@ -4,6 +4,8 @@ ghost use Rattle.m2v_plane.specs.Samples.{Samples};
 ghost use Rattle.m2v_plane.specs.Fields.{no_samples};
 ghost use Rattle.m2v_set.specs.Numbers.{dims_of, rows_by};
 ghost use Rattle.m2v_order.specs.Whole.{IsGroupOf, handed};
+ghost use Rattle.m2v_enc_activity.specs.Activity.{IsActivity};
+ghost use Rattle.m2v_slice.specs.Laws.{AreSliceActivities};
 ghost use Rattle.m2v_slice.specs.Books.{Book, macroblock_activities, slice_activities, rows, job_at, plan_job, picture_of_job, part_of_job};
 ghost use Rattle.m2v_slice.specs.Conditions.{IsBook, IsBegunFor};
 ghost use Rattle.m2v_slice.specs.Jobs.{jobs_of};
@@ -45,7 +47,8 @@ pub struct EncodeBook {
 }
 
 impl Model for EncodeBook {
-    ghost use Rattle.std.specs.Prelude.{◌≡◌};
+    ghost use Rattle.std.specs.Prelude.{◌≡◌, All};
+    ghost use Rattle.m2v_enc_activity.specs.Activity.{IsActivity};
     ghost use Rattle.m2v_slice.specs.Books.{Book, macroblock_activities};
     ghost use Rattle.m2v_slice.specs.Conditions.{IsBook};
 
@@ -65,7 +68,8 @@ impl Model for EncodeBook {
       pictures = b.pictures.items;
       before = b.before;
       ledger = b.ledger;
-    }) × (b.activities.items ≡ macroblock_activities b.settings b.frames.items b.pictures.items) };
+    }) × (b.activities.items ≡ macroblock_activities b.settings b.frames.items b.pictures.items)
+        × All IsActivity b.activities.items };
 }
 
 impl EncodeBook {
@@ -86,6 +90,7 @@ impl EncodeBook {
         requires group { IsGroupOf settings.now (handed group) }
         requires activities { activities.items
             ≡ macroblock_activities settings.now group.frames.items group.pictures.items }
+        requires range { All IsActivity activities.items }
         requires sizes { All (λ (f : Samples). f.dims ≡ dims_of settings.now) group.frames.items }
         requires before { is_some before ≡ is_some group.before }
         requires size { IfSome before (λ f. f.dims ≡ dims_of settings.now) }
@@ -189,10 +194,13 @@ impl EncodeBook {
         requires picture { p < length self.now.pictures }
         requires row { r < rows self.now }
         ensures value { result.now ≡ slice_activities self.now p r }
+        ensures range { AreSliceActivities (dims_of self.now.settings).mb_width result.now }
     {
         match self.settings.settings().planning {
             Planning::Weights => &[],
             Planning::Even => {
+                // what is known of a book
+                let _book = self.pictures();
                 let columns = self.settings.dims().mb_width as usize;
                 let from = (p * self.rows() + r) as usize * columns;
                 &self.activities[from..from + columns]

@@ -10,7 +10,7 @@ ghost use Rattle.m2v_pred.specs.Motion.{own_lines};
 ghost use Rattle.m2v_choose.specs.Own.{IsOwn, IsCode};
 ghost use Rattle.m2v_choose.specs.Trials.{IsRead};
 ghost use Rattle.m2v_slice.specs.Slices.{CodedSlice, slice_info, slice_of, slice_header_bits, most_bits_of};
-ghost use Rattle.m2v_slice.specs.Laws.{IsSlice};
+ghost use Rattle.m2v_slice.specs.Laws.{AreSliceActivities, IsSlice};
 ghost use Rattle.m2v_slice.specs.Steps.{HasReferences, row_place, task_by};
 
 use crate::row::{RowPlan, code_row};
@@ -55,6 +55,7 @@ fn write_slice<V: RefView>(
 ) -> u64
     requires slice { IsSlice (task_by source.now (V.at forward.now) (V.at backward.now) context.now
         plan.now) }
+    requires activities { AreSliceActivities context.now.columns plan.now.activities.now }
     requires references { HasReferences context.now.kind source.now.dims
         (row_place context.now plan.now.row)
         (V.size forward.now) (V.size backward.now) (V.Holds forward.now) (V.Holds backward.now) }
@@ -154,6 +155,7 @@ pub(crate) fn code_row_slice<V: RefView>(
 )
     requires slice { IsSlice (task_by source.now (V.at forward.now) (V.at backward.now) context.now
         plan.now) }
+    requires activities { AreSliceActivities context.now.columns plan.now.activities.now }
     requires references { HasReferences context.now.kind source.now.dims
         (row_place context.now plan.now.row)
         (V.size forward.now) (V.size backward.now) (V.Holds forward.now) (V.Holds backward.now) }
