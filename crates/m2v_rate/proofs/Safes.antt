@@ -44,23 +44,28 @@ unfolding quantiser_by
 quantiser_is None target = (omega arith, omega arith)
 quantiser_is (Some k) target = code_is ((k.bits * k.q + max 1 target - 1) / max 1 target)
 
-weights_is : (l : Entries) (p : ℕ) → 1800 * least_of l.settings ≤ Low l p → IsPlan l.settings (Low l p) (plan_by_weights l p)
+pub weights_is : (l : Entries) (p : ℕ) → 1800 * least_of l.settings ≤ Low l p → IsPlan l.settings (Low l p) (plan_by_weights l p)
 unfolding plan_by_weights
 weights_is l p least =
     within_is l.settings (Low l p) (2 * target_of l p) (quantiser_by (last_known l (get_or l.kinds p 0) (first_open p)) (target_of l p)) (target_of l p)
     least (quantiser_is (last_known l (get_or l.kinds p 0) (first_open p)) (target_of l p))
 
-source_is : (l : Entries) (p : ℕ) → 1800 * least_of l.settings ≤ Low l p → IsPlan l.settings (Low l p) (plan_by_source l p)
+pub source_is : (l : Entries) (p : ℕ) → 1800 * least_of l.settings ≤ Low l p → IsPlan l.settings (Low l p) (plan_by_source l p)
 unfolding plan_by_source quantiser
 source_is l p least =
     let o = outlook_of l p in
     within_is l.settings (Low l p) (most o p) (quantiser o p) (target o p) least (code_is _)
 
+-- an emergency picture is held at least
+pub least_held : (l : Entries) (p : ℕ) → IsBegun l → p < length l.kinds → 1800 * least_of l.settings ≤ Low l p
+least_held l p h lt =
+    let f = first_open p in
+    low_least l f (p - f) h (omega arith)
+
 pub plan_is : (l : Entries) (p : ℕ) → IsBegun l → p < length l.kinds → IsPlan l.settings (Low l p) (plan_of l p)
 unfolding plan_of
 plan_is l p h lt =
-    let f = first_open p in
-    let least : 1800 * least_of l.settings ≤ Low l p = low_least l f (p - f) h (omega arith) in
+    let least = least_held l p h lt in
     cond_both _ _ _ (IsPlan l.settings (Low l p)) (λ e. source_is l p least) (λ e. weights_is l p least)
 
 -- ---- a target
