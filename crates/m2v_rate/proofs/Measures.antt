@@ -1,5 +1,5 @@
 -- What was measured of pictures, and the bounds of what the plan by the source is made of.
-use Rattle.std.proofs.Common.{inl, inr, ◌≡◌, ℕ, zero, suc, ◌+◌, ◌-◌, ◌*◌, ◌/◌, ◌≤◌, ◌<◌, ◌^◌, Bool, true, false, if◌then◌else◌, nat_eq, length, get_or, arith, ◌∙◌, Option, Some, None, IfSome}
+use Rattle.std.proofs.Common.{inl, inr, ◌≡◌, ℕ, zero, suc, ◌+◌, ◌-◌, ◌*◌, ◌/◌, ◌≤◌, ◌<◌, ◌^◌, true, if◌then◌else◌, nat_eq, length, get_or, arith, ◌∙◌, Option, Some, None, IfSome}
 use Rattle.std.specs.Option.{option_map}
 use Rattle.std.proofs.Math.Nat.{div-le_self}
 use Rattle.std.proofs.lemmas.Bool.{cases_lt, lt-ltb, le-ltb, cond_both}
@@ -12,7 +12,7 @@ use Rattle.m2v_rate.specs.declared.outlook.Measured.{Measured}
 use Rattle.m2v_rate.specs.declared.values.Known.{Known}
 use Rattle.m2v_rate.specs.Sharing.{Outlook, complexity, complexity_at, kind_at, quantiser, target, IsMeasured, IsPictureActivity, IsIncome, IsOutlook}
 use Rattle.m2v_rate.specs.Sharing.{last_of as last_in}
-use Rattle.m2v_rate.specs.Plans.{Entries, first_open, known_at, last_of, last_known, outlook_of}
+use Rattle.m2v_rate.specs.Plans.{Entries, first_open, known_at, last_known, outlook_of}
 use Rattle.m2v_rate.specs.Steady.{IsBegun, IsKnown, AreMeasured, IsLedger}
 use Rattle.m2v_rate.proofs.Lows.{income_low, income_high, low_most, mean_most}
 use Rattle.m2v_rate.proofs.Targets.{buffer_small, part_most}

@@ -1,11 +1,11 @@
 -- What the code's steps over a ledger need and give.
-use Rattle.std.proofs.Common.{◌≡◌, ℕ, zero, suc, ◌+◌, ◌-◌, ◌*◌, ◌/◌, ◌≤◌, ◌<◌, ◌^◌, inl, inr, min, max, length, get_or, refl, arith, add-one, Bool, true, false, nat_eq, if◌then◌else◌, Option, Some}
+use Rattle.std.proofs.Common.{◌≡◌, ℕ, zero, suc, ◌+◌, ◌-◌, ◌*◌, ◌≤◌, ◌<◌, ◌^◌, inl, inr, min, length, get_or, refl, arith, add-one, Bool, true, false, nat_eq, if◌then◌else◌, Some}
 use Rattle.m2v_set.specs.declared.settings.Settings.{Settings}
 use Rattle.m2v_set.specs.declared.settings.Scan.{Scan}
 use Rattle.m2v_set.specs.declared.settings.Scan.TheVariants.{Progressive, Frames, Fields}
-use Rattle.m2v_set.specs.Numbers.{buffer_bits, least_of, field_units, field_time, film_time, picture_time, interval_of, longest_interval_of, IsInterval}
+use Rattle.m2v_set.specs.Numbers.{buffer_bits, field_units, field_time, film_time, picture_time, interval_of, longest_interval_of, IsInterval}
 use Rattle.m2v_vbv.specs.Account.{State}
-use Rattle.m2v_rate.specs.Plans.{Entries, income, removed, account_at, first_open, low_behind, mean_behind, known_at, last_of, last_known}
+use Rattle.m2v_rate.specs.Plans.{Entries, income, removed, account_at, low_behind, mean_behind, known_at, last_of, last_known}
 use Rattle.m2v_rate.specs.Steady.{IsSteady, IsLedger}
 use Rattle.m2v_rate.proofs.Lows.{removals_at, rate_at, buffer_at, gain_high, held_most, size_whole}
 use Rattle.m2v_rate.proofs.Targets.{buffer_small}
