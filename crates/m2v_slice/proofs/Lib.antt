@@ -1,11 +1,13 @@
 pub mod Choices
 pub mod Candidates
+pub mod Quantisers
 pub mod Keeps
 pub mod Motions
 pub mod AnySize
 pub mod Fits
 pub mod AnyRow
 pub mod Columns
+pub mod SoFar
 pub mod Whole
 pub mod TextLengths
 pub mod Coded

@@ -1,0 +1,122 @@
+-- A slice up to a macroblock, where quantisers go by activities.
+use Rattle.std.proofs.Common.{◌≡◌, ℕ, zero, suc, ◌+◌, ◌-◌, ◌*◌, ◌^◌, ◌<◌, ◌≤◌, ◌⊎◌, inl, inr, List, [], ◌∷◌, length, take, drop, get_or, ap, sym, subst, ◌∙◌, arith}
+use Rattle.std.specs.Prelude.{nat_eq, ◌||◌, if◌then◌else◌, All, sum, slice_index}
+use Rattle.std.proofs.Math.ListN.{get_or-eq_default}
+use Rattle.std.proofs.lemmas.Bool.{cases_lt}
+use Rattle.std.proofs.lemmas.List.{take_all, drop_all, length-take, length-drop}
+use Rattle.std.proofs.lemmas.List.Sums.{sum_by_more, sum_by-drop_more, sum_by-take-le, sum_by-take-drop, sum_by-le, get_or-le-sum_by}
+use Rattle.std.proofs.lemmas.List.Elements.{All-take, All-get_or, All-weaker}
+use Rattle.m2v_enc_activity.specs.Activity.{IsActivity}
+use Rattle.m2v_plane.specs.Samples.{Samples}
+use Rattle.m2v_rate.specs.declared.raising.SliceSoFar.{SliceSoFar}
+use Rattle.m2v_rate.specs.Sharing.{raised, IsSliceSoFar}
+use Rattle.m2v_slice.specs.Slices.{SliceTask, Begun, room, so_far, quantiser_at, begun}
+use Rattle.m2v_slice.specs.Laws.{AreActivities, IsSlice}
+use Rattle.m2v_slice.proofs.Keeps.{keeps_some}
+
+-- ---- sums of activities
+
+-- before one macroblock more, and from the next one on; past the end there is none
+pub before_more : (xs : List ℕ) (n : ℕ) → sum (take (n + 1) xs) ≡ sum (take n xs) + slice_index xs n
+before_more xs n = elim (cases_lt n (length xs)) [
+  | inl lt ↦ sum_by_more (λ (k : ℕ). k) xs n 0 lt
+  | inr le ↦
+      let here : sum (take n xs) ≡ sum xs = ap (λ (ys : List ℕ). sum ys) (take_all n xs le) in
+      let more : sum (take (n + 1) xs) ≡ sum xs = ap (λ (ys : List ℕ). sum ys) (take_all (n + 1) xs (omega (arith, le))) in
+      let none : slice_index xs n ≡ 0 = get_or-eq_default xs 0 le in
+      omega (arith, here, more, none)
+]
+
+pub ahead_less : (xs : List ℕ) (n : ℕ) → sum (drop n xs) ≡ slice_index xs n + sum (drop (n + 1) xs)
+ahead_less xs n = elim (cases_lt n (length xs)) [
+  | inl lt ↦ sum_by-drop_more (λ (k : ℕ). k) xs n 0 lt
+  | inr le ↦
+      let here : sum (drop n xs) ≡ 0 = ap (λ (ys : List ℕ). sum ys) (drop_all n xs le) in
+      let more : sum (drop (n + 1) xs) ≡ 0 = ap (λ (ys : List ℕ). sum ys) (drop_all (n + 1) xs (omega (arith, le))) in
+      let none : slice_index xs n ≡ 0 = get_or-eq_default xs 0 le in
+      omega (arith, here, more, none)
+]
+
+sum_most : (xs : List ℕ) → All IsActivity xs → sum xs ≤ length xs * 65536
+sum_most xs h = sum_by-le (λ (k : ℕ). k) 65536 xs (All-weaker IsActivity (λ (k : ℕ). k ≤ 65536) (λ (k : ℕ) (is : IsActivity k). is.most) xs h)
+
+sum_some : (xs : List ℕ) → All IsActivity xs → 0 < length xs → 1 ≤ sum xs
+sum_some xs h some =
+    let first : IsActivity (get_or xs 0 0) = All-get_or IsActivity xs 0 0 some h in
+    let least : get_or xs 0 0 ≤ sum xs = get_or-le-sum_by (λ (k : ℕ). k) xs 0 0 some in
+    omega (arith, first.some, least)
+
+before_some : (xs : List ℕ) (n : ℕ) → All IsActivity xs → 0 < n → 0 < length xs → 1 ≤ sum (take n xs)
+before_some xs n h some more = sum_some (take n xs) (All-take IsActivity n xs h) (omega (arith, some, more, length-take n xs))
+
+parts : (xs : List ℕ) (n : ℕ) → sum (take n xs) + sum (drop n xs) ≡ sum xs
+parts xs n = sum_by-take-drop (λ (k : ℕ). k) xs n
+
+-- ---- the slice so far
+
+module _ (t : SliceTask) (slice : IsSlice t) where
+  sum_within : (t.activities ≡ []) ⊎ AreActivities t.context.columns t.activities → sum t.activities < 2 ^ 23
+  sum_within (inl e) = let none : sum t.activities ≡ 0 = ap (λ (xs : List ℕ). sum xs) e in omega (arith, none)
+  sum_within (inr h) = omega (arith, sum_most t.activities h.range, h.count, slice.own.columns.1)
+
+  -- sums of activities are small, whether there are any or not
+  pub before_small : (n : ℕ) → sum (take n t.activities) < 2 ^ 23
+  before_small n = omega (arith, parts t.activities n, sum_within slice.activities)
+
+  pub ahead_small : (n : ℕ) → sum (drop n t.activities) < 2 ^ 23
+  ahead_small n = omega (arith, parts t.activities n, sum_within slice.activities)
+
+  pub work_small : (row : Samples) (n : ℕ) → n ≤ t.context.columns → (begun t row n).work < 2 ^ 25
+  work_small row n le =
+      let h = (keeps_some t slice row n le).1 in
+      omega (arith, h.work, h.most, le, slice.own.columns.1)
+
+  few : (t.activities ≡ []) ⊎ AreActivities t.context.columns t.activities → length t.activities ≤ 120
+  few (inl e) = omega (arith, ap (λ (xs : List ℕ). length xs) e)
+  few (inr h) = omega (arith, h.count, slice.own.columns.1)
+
+  pub few_activities : length t.activities ≤ 120
+  few_activities = few slice.activities
+
+  some_before : (n : ℕ) → (t.activities ≡ []) ⊎ AreActivities t.context.columns t.activities → 0 < n → 0 < length t.activities → 1 ≤ sum (take n t.activities)
+  some_before n (inl e) some more = absurd (omega (arith, more, ap (λ (xs : List ℕ). length xs) e))
+  some_before n (inr h) some more = before_some t.activities n h.range some more
+
+  left_small : (s : Begun) (n : ℕ) → 0 < length t.activities → room t s n - 31 < 2 ^ 24
+  unfolding room
+  left_small s n more = omega (arith, slice.most more)
+
+  pub is_so_far : (row : Samples) (n : ℕ) → n < t.context.columns → 0 < n → 0 < length t.activities → IsSliceSoFar (so_far t (begun t row n) n)
+  is_so_far row n small some more = record {
+    work = work_small row n (omega (arith, small));
+    ahead = ahead_small n;
+    some = some_before n slice.activities some more;
+    before = before_small n;
+    left = left_small (begun t row n) n more;
+  }
+
+-- ---- as the program has it
+
+-- what is left, by the bits so far
+pub left_is : (t : SliceTask) (s : Begun) (n bits : ℕ) → bits ≡ 38 + length s.text → n < t.context.columns
+    → t.cap - bits - 31 * (t.context.columns - n) ≡ room t s n - 31
+unfolding room
+left_is t s n bits len small = omega (arith, len, small)
+
+-- by numbers that are equal
+abbrev pub effort : SliceTask → ℕ → ℕ → ℕ → ℕ → ℕ → SliceSoFar
+effort t n bits work before ahead = record { work = work; before = before; ahead = ahead; left = t.cap - bits - 31 * (t.context.columns - n) }
+
+module _ (t : SliceTask) (s : Begun) (n bits work before ahead : ℕ) (small : n < t.context.columns) (len : bits ≡ 38 + length s.text) (ew : work ≡ s.work)
+    (eb : before ≡ sum (take n t.activities)) (ea : ahead ≡ sum (drop n t.activities)) where
+  pub effort_is : effort t n bits work before ahead ≡ so_far t s n
+  effort_is =
+      let el = left_is t s n bits len small in
+      λ i. record { work = ew i; before = eb i; ahead = ea i; left = el i }
+
+  pub coarse_is : (q : ℕ) → q ≡ (if nat_eq n 0 || nat_eq (length t.activities) 0 then t.q else raised t.q (effort t n bits work before ahead)) → q ≡ quantiser_at t s n
+  unfolding quantiser_at
+  coarse_is q e = e ∙ ap (λ (y : SliceSoFar). if nat_eq n 0 || nat_eq (length t.activities) 0 then t.q else raised t.q y) effort_is
+
+  pub effort_so : IsSliceSoFar (so_far t s n) → IsSliceSoFar (effort t n bits work before ahead)
+  effort_so h = subst IsSliceSoFar (sym effort_is) h
