@@ -98,25 +98,25 @@ module _ (t : SliceTask) (slice : IsSlice t) where
 -- ---- as the program has it
 
 -- what is left, by the bits so far
-pub left_is : (t : SliceTask) (s : Begun) (n bits : ℕ) → bits ≡ 38 + length s.text → n < t.context.columns
-    → t.cap - bits - 31 * (t.context.columns - n) ≡ room t s n - 31
+left_is : (t : SliceTask) (s : Begun) (n bits later : ℕ) → bits ≡ 38 + length s.text → n < t.context.columns → later ≡ t.context.columns - n
+    → t.cap - bits - 31 * later ≡ room t s n - 31
 unfolding room
-left_is t s n bits len small = omega (arith, len, small)
+left_is t s n bits later len small rest = omega (arith, len, small, rest)
 
 -- by numbers that are equal
 abbrev pub effort : SliceTask → ℕ → ℕ → ℕ → ℕ → ℕ → SliceSoFar
-effort t n bits work before ahead = record { work = work; before = before; ahead = ahead; left = t.cap - bits - 31 * (t.context.columns - n) }
+effort t bits later work before ahead = record { work = work; before = before; ahead = ahead; left = t.cap - bits - 31 * later }
 
-module _ (t : SliceTask) (s : Begun) (n bits work before ahead : ℕ) (small : n < t.context.columns) (len : bits ≡ 38 + length s.text) (ew : work ≡ s.work)
-    (eb : before ≡ sum (take n t.activities)) (ea : ahead ≡ sum (drop n t.activities)) where
-  pub effort_is : effort t n bits work before ahead ≡ so_far t s n
+module _ (t : SliceTask) (s : Begun) (n bits later work before ahead : ℕ) (small : n < t.context.columns) (len : bits ≡ 38 + length s.text) (rest : later ≡ t.context.columns - n)
+    (ew : work ≡ s.work) (eb : before ≡ sum (take n t.activities)) (ea : ahead ≡ sum (drop n t.activities)) where
+  pub effort_is : effort t bits later work before ahead ≡ so_far t s n
   effort_is =
-      let el = left_is t s n bits len small in
+      let el = left_is t s n bits later len small rest in
       λ i. record { work = ew i; before = eb i; ahead = ea i; left = el i }
 
-  pub coarse_is : (q : ℕ) → q ≡ (if nat_eq n 0 || nat_eq (length t.activities) 0 then t.q else raised t.q (effort t n bits work before ahead)) → q ≡ quantiser_at t s n
+  pub coarse_is : (q : ℕ) → q ≡ (if nat_eq n 0 || nat_eq (length t.activities) 0 then t.q else raised t.q (effort t bits later work before ahead)) → q ≡ quantiser_at t s n
   unfolding quantiser_at
   coarse_is q e = e ∙ ap (λ (y : SliceSoFar). if nat_eq n 0 || nat_eq (length t.activities) 0 then t.q else raised t.q y) effort_is
 
-  pub effort_so : IsSliceSoFar (so_far t s n) → IsSliceSoFar (effort t n bits work before ahead)
+  pub effort_so : IsSliceSoFar (so_far t s n) → IsSliceSoFar (effort t bits later work before ahead)
   effort_so h = subst IsSliceSoFar (sym effort_is) h

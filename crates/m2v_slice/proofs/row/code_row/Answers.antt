@@ -13,8 +13,9 @@ use Rattle.m2v_slice.proofs.Candidates.{bits_are}
 use Rattle.m2v_slice.proofs.SoFar.{before_more, ahead_less, before_small, work_small, few_activities, is_so_far, coarse_is, effort_so}
 use Rattle.m2v_slice.proofs.row.code_row.Goals as goal
 
-pub start-effort-requires-clause-few : goal.start-effort-requires-clause-few
-start-effort-requires-clause-few g c = few_activities (task_by c.args.source.now (g.V.RefView.at c.args.forward.now) (g.V.RefView.at c.args.backward.now) c.args.context.now c.args.plan.now) c.requires.slice
+pub start-effort-requires : goal.start-effort-requires
+start-effort-requires g c =
+    record { few = few_activities (task_by c.args.source.now (g.V.RefView.at c.args.forward.now) (g.V.RefView.at c.args.backward.now) c.args.context.now c.args.plan.now) c.requires.slice }
 
 pub loop-column-init : goal.loop-column-init
 unfolding begun
@@ -28,6 +29,22 @@ loop-column-init g c = record {
   ahead = c.start-effort.ensures.ahead;
 }
 
+pub overflow_sub-left : goal.overflow_sub-left
+overflow_sub-left g c =
+    let t = task_by c.args.source.now (g.V.RefView.at c.args.forward.now) (g.V.RefView.at c.args.backward.now) c.args.context.now c.args.plan.now in
+    let n = c.loop-column.column in
+    let s = begun t c.args.row.now n in
+    let len : c.bit_len-from.result ≡ 38 + length s.text = omega (arith, c.bit_len-from.ensures, ap length c.loop-column.invariant.written ∙ length-append c.args.bits.now.written s.text, c.requires.header) in
+    omega (arith, long_so t c.requires.slice c.args.row.now n c.bit_len-from.result (omega arith) len)
+
+pub overflow_sub-left-in-loop-column : goal.overflow_sub-left-in-loop-column
+overflow_sub-left-in-loop-column g c =
+    let t = task_by c.args.source.now (g.V.RefView.at c.args.forward.now) (g.V.RefView.at c.args.backward.now) c.args.context.now c.args.plan.now in
+    let n = c.loop-column.column in
+    let s = begun t c.args.row.now n in
+    let len : c.bit_len-from.result ≡ 38 + length s.text = omega (arith, c.bit_len-from.ensures, ap length c.loop-column.invariant.written ∙ length-append c.args.bits.now.written s.text, c.requires.header) in
+    omega (arith, long_so t c.requires.slice c.args.row.now n c.bit_len-from.result (omega arith) len, c.from.ensures)
+
 pub quantiser-q-requires-clause-slice : goal.quantiser-q-requires-clause-slice
 quantiser-q-requires-clause-slice g c = λ some more.
     let t = task_by c.args.source.now (g.V.RefView.at c.args.forward.now) (g.V.RefView.at c.args.backward.now) c.args.context.now c.args.plan.now in
@@ -37,7 +54,7 @@ quantiser-q-requires-clause-slice g c = λ some more.
     let e = c.loop-column.effort in
     let small : n < t.context.columns = omega arith in
     let len : c.bit_len-from.result ≡ 38 + length s.text = omega (arith, c.bit_len-from.ensures, ap length c.loop-column.invariant.written ∙ length-append c.args.bits.now.written s.text, c.requires.header) in
-    effort_so t s n c.bit_len-from.result e.work e.before e.ahead small len inv.work inv.before inv.ahead (is_so_far t c.requires.slice c.args.row.now n small some more)
+    effort_so t s n c.bit_len-from.result c.from.result e.work e.before e.ahead small len c.from.ensures inv.work inv.before inv.ahead (is_so_far t c.requires.slice c.args.row.now n small some more)
 
 pub limits_at-limits-requires-clause-held : goal.limits_at-limits-requires-clause-held
 limits_at-limits-requires-clause-held g c =
@@ -64,7 +81,7 @@ code_macroblock-requires-clause-can g c =
     let small : n < t.context.columns = omega arith in
     let len : c.bit_len-from.result ≡ 38 + length s.text = omega (arith, c.bit_len-from.ensures, ap length c.loop-column.invariant.written ∙ length-append c.args.bits.now.written s.text, c.requires.header) in
     let same = decision_is t s n c.loop-column.state c.limits_at-limits.result c.bit_len-from.result c.quantiser-q.result inv.state len
-    (coarse_is t s n c.bit_len-from.result e.work e.before e.ahead small len inv.work inv.before inv.ahead c.quantiser-q.result c.quantiser-q.ensures.value)
+    (coarse_is t s n c.bit_len-from.result c.from.result e.work e.before e.ahead small len c.from.ensures inv.work inv.before inv.ahead c.quantiser-q.result c.quantiser-q.ensures.value)
     c.limits_at-limits.ensures.value in
     subst (λ (d : Decision). CanCode d f b ahead behind) (sym same) (can_code t f b ahead behind c.requires.slice c.requires.references c.args.row.now n small)
 
@@ -102,7 +119,7 @@ add-requires g c =
     let small : n < t.context.columns = omega arith in
     let len : c.bit_len-from.result ≡ 38 + length s.text = omega (arith, c.bit_len-from.ensures, ap length c.loop-column.invariant.written ∙ length-append c.args.bits.now.written s.text, c.requires.header) in
     let same = decision_is t s n c.loop-column.state c.limits_at-limits.result c.bit_len-from.result c.quantiser-q.result inv.state len
-    (coarse_is t s n c.bit_len-from.result e.work e.before e.ahead small len inv.work inv.before inv.ahead c.quantiser-q.result c.quantiser-q.ensures.value)
+    (coarse_is t s n c.bit_len-from.result c.from.result e.work e.before e.ahead small len c.from.ensures inv.work inv.before inv.ahead c.quantiser-q.result c.quantiser-q.ensures.value)
     c.limits_at-limits.ensures.value in
     let d = decision t s n in
     let more = ap length c.code_macroblock.ensures.written ∙ length-append c.loop-column.bits.written _ in
@@ -129,13 +146,13 @@ loop-column-preserved g c =
     let small : n < t.context.columns = omega arith in
     let len : c.bit_len-from.result ≡ 38 + length s.text = omega (arith, c.bit_len-from.ensures, ap length c.loop-column.invariant.written ∙ length-append c.args.bits.now.written s.text, c.requires.header) in
     let same = decision_is t s n c.loop-column.state c.limits_at-limits.result c.bit_len-from.result c.quantiser-q.result inv.state len
-    (coarse_is t s n c.bit_len-from.result e.work e.before e.ahead small len inv.work inv.before inv.ahead c.quantiser-q.result c.quantiser-q.ensures.value)
+    (coarse_is t s n c.bit_len-from.result c.from.result e.work e.before e.ahead small len c.from.ensures inv.work inv.before inv.ahead c.quantiser-q.result c.quantiser-q.ensures.value)
     c.limits_at-limits.ensures.value in
-    let coarse = coarse_is t s n c.bit_len-from.result e.work e.before e.ahead small len inv.work inv.before inv.ahead c.quantiser-q.result c.quantiser-q.ensures.value in
+    let coarse = coarse_is t s n c.bit_len-from.result c.from.result e.work e.before e.ahead small len c.from.ensures inv.work inv.before inv.ahead c.quantiser-q.result c.quantiser-q.ensures.value in
     let d = decision t s n in
     let more = ap length c.code_macroblock.ensures.written ∙ length-append c.loop-column.bits.written _ in
     let told : c.bit_len.result - c.bit_len-from.result ≡ length (text_of d (choice_of d)) =
-    omega (arith, c.bit_len-from.ensures, c.bit_len.ensures, more, (λ i. length (text_of (same i) (choice_of (same i))))) in
+    omega (arith, c.bit_len-from.ensures, c.bit_len.ensures, more, ap (λ (x : Decision). length (text_of x (choice_of x))) same) in
     record {
       state = c.code_macroblock.ensures.state ∙ (λ i. state_behind (same i) (choice_of (same i))) ∙ sym (state_more t row n);
       written = c.code_macroblock.ensures.written ∙ (λ i. inv.written i ++ text_of (same i) (choice_of (same i))) ∙ append_assoc old s.text (text_of d (choice_of d)) ∙ ap (λ (xs : List Bool). old ++ xs) (sym (text_more t row n));
