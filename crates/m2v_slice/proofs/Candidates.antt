@@ -1,6 +1,6 @@
 -- What a candidate adds to a slice, by whether it is skipped.
 use Rattle.std.proofs.Common.{◌≡◌, Bool, true, false, List, [], length, refl}
-use Rattle.std.specs.Prelude.{ℕ, if◌then◌else◌}
+use Rattle.std.specs.Prelude.{if◌then◌else◌}
 use Rattle.m2v_pred.specs.Predicted.{predicted}
 use Rattle.m2v_macroblock.specs.Modes.{skipped_mode}
 use Rattle.m2v_macroblock.specs.Predictions.{prediction_of, sample_at}

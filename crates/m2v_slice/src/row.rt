@@ -63,18 +63,18 @@ impl Effort {
         requires q { IsCode plan.now.q }
         requires slice { 0 < column → 0 < length plan.now.activities.now
             → IsSliceSoFar (record {
-          work = self.now.work;
-          before = self.now.before;
-          ahead = self.now.ahead;
-          left = left;
-        }) }
+              work = self.now.work;
+              before = self.now.before;
+              ahead = self.now.ahead;
+              left = left;
+            }) }
         ensures value { result ≡ (if nat_eq column 0 || nat_eq (length plan.now.activities.now) 0
-        then plan.now.q else raised plan.now.q (record {
-          work = self.now.work;
-          before = self.now.before;
-          ahead = self.now.ahead;
-          left = left;
-        })) }
+            then plan.now.q else raised plan.now.q (record {
+              work = self.now.work;
+              before = self.now.before;
+              ahead = self.now.ahead;
+              left = left;
+            })) }
         ensures code { IsCode result }
     {
         if column == 0 || plan.activities.len() == 0 {

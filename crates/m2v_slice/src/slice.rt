@@ -115,11 +115,7 @@ impl SliceOut {
         let row = RowSamples::blank(alloc, dims)?;
         let room = (38 + 4608 * dims.mb_width as usize + 7) / 8;
         let bits = BitWriter::over(vec![in alloc; 0; room]?);
-        Ok(SliceOut {
-            bits,
-            row,
-            work: 0,
-        })
+        Ok(SliceOut { bits, row, work: 0 })
     }
 
     /// The bytes of the slice, with its start code.

@@ -1,12 +1,12 @@
-use Rattle.std.proofs.Common.{◌≡◌, ◌+◌, ◌*◌, ◌<◌, ◌≤◌, ℕ, Bool, List, ◌++◌, length, take, drop, refl, ap, sym, ◌∙◌, subst, arith, append-nil}
-use Rattle.std.specs.Prelude.{◌-◌, sum, slice_index}
+use Rattle.std.proofs.Common.{◌≡◌, ◌+◌, ◌*◌, ◌<◌, Bool, List, ◌++◌, length, refl, ap, sym, ◌∙◌, subst, arith, append-nil}
+use Rattle.std.specs.Prelude.{◌-◌, slice_index}
 use Rattle.std.proofs.lemmas.List.{length-append}
 use Rattle.std.proofs.Common.{append_assoc}
 use Rattle.m2v_plane.specs.Samples.{Samples}
 use Rattle.m2v_macroblock.specs.m2v_recon.Macro.{with_macroblock}
 use Rattle.m2v_choose.specs.Decisions.{Decision}
 use Rattle.m2v_choose.specs.Choice.{candidate_at, choice_of, state_behind}
-use Rattle.m2v_slice.specs.Slices.{decision, begun, quantiser_at}
+use Rattle.m2v_slice.specs.Slices.{decision, begun}
 use Rattle.m2v_slice.specs.Steps.{CanCode, text_of, task_by}
 use Rattle.m2v_slice.proofs.Columns.{decision_is, long_so, short_so, row_dims, state_more, text_more, row_more, work_more, can_code}
 use Rattle.m2v_slice.proofs.Candidates.{bits_are}
