@@ -8,6 +8,7 @@ pub mod Fits
 pub mod AnyRow
 pub mod Columns
 pub mod SoFar
+pub mod SliceCaps
 pub mod Whole
 pub mod TextLengths
 pub mod Coded

@@ -1,5 +1,5 @@
 -- A slice up to a macroblock, where quantisers go by activities.
-use Rattle.std.proofs.Common.{◌≡◌, ℕ, ◌+◌, ◌-◌, ◌*◌, ◌^◌, ◌<◌, ◌≤◌, ◌⊎◌, inl, inr, List, [], length, take, drop, get_or, ap, sym, subst, ◌∙◌, arith}
+use Rattle.std.proofs.Common.{◌≡◌, ℕ, ◌+◌, ◌-◌, ◌*◌, ◌^◌, ◌<◌, ◌≤◌, inl, inr, List, length, take, drop, get_or, ap, sym, subst, ◌∙◌, arith}
 use Rattle.std.specs.Prelude.{nat_eq, ◌||◌, if◌then◌else◌, All, sum, slice_index}
 use Rattle.std.proofs.Math.ListN.{get_or-eq_default}
 use Rattle.std.proofs.lemmas.Bool.{cases_lt}
@@ -11,7 +11,7 @@ use Rattle.m2v_plane.specs.Samples.{Samples}
 use Rattle.m2v_rate.specs.declared.raising.SliceSoFar.{SliceSoFar}
 use Rattle.m2v_rate.specs.Sharing.{raised, IsSliceSoFar}
 use Rattle.m2v_slice.specs.Slices.{SliceTask, Begun, room, so_far, quantiser_at, begun}
-use Rattle.m2v_slice.specs.Laws.{AreActivities, IsSlice}
+use Rattle.m2v_slice.specs.Laws.{AreSliceActivities, IsSlice}
 use Rattle.m2v_slice.proofs.Keeps.{keeps_some}
 
 -- ---- sums of activities
@@ -55,44 +55,42 @@ parts xs n = sum_by-take-drop (λ (k : ℕ). k) xs n
 -- ---- the slice so far
 
 module _ (t : SliceTask) (slice : IsSlice t) where
-  sum_within : (t.activities ≡ []) ⊎ AreActivities t.context.columns t.activities → sum t.activities < 2 ^ 23
+  sum_within : AreSliceActivities t.context.columns t.activities → sum t.activities < 2 ^ 23
   sum_within (inl e) = let none : sum t.activities ≡ 0 = ap (λ (xs : List ℕ). sum xs) e in omega (arith, none)
   sum_within (inr h) = omega (arith, sum_most t.activities h.range, h.count, slice.own.columns.1)
 
   -- sums of activities are small, whether there are any or not
-  pub before_small : (n : ℕ) → sum (take n t.activities) < 2 ^ 23
-  before_small n = omega (arith, parts t.activities n, sum_within slice.activities)
+  pub before_small : AreSliceActivities t.context.columns t.activities → (n : ℕ) → sum (take n t.activities) < 2 ^ 23
+  before_small active n = omega (arith, parts t.activities n, sum_within active)
 
-  pub ahead_small : (n : ℕ) → sum (drop n t.activities) < 2 ^ 23
-  ahead_small n = omega (arith, parts t.activities n, sum_within slice.activities)
+  pub ahead_small : AreSliceActivities t.context.columns t.activities → (n : ℕ) → sum (drop n t.activities) < 2 ^ 23
+  ahead_small active n = omega (arith, parts t.activities n, sum_within active)
 
   pub work_small : (row : Samples) (n : ℕ) → n ≤ t.context.columns → (begun t row n).work < 2 ^ 25
   work_small row n le =
       let h = (keeps_some t slice row n le).1 in
       omega (arith, h.work, h.most, le, slice.own.columns.1)
 
-  few : (t.activities ≡ []) ⊎ AreActivities t.context.columns t.activities → length t.activities ≤ 120
-  few (inl e) = omega (arith, ap (λ (xs : List ℕ). length xs) e)
-  few (inr h) = omega (arith, h.count, slice.own.columns.1)
+  pub few_activities : AreSliceActivities t.context.columns t.activities → length t.activities ≤ 120
+  few_activities (inl e) = omega (arith, ap (λ (xs : List ℕ). length xs) e)
+  few_activities (inr h) = omega (arith, h.count, slice.own.columns.1)
 
-  pub few_activities : length t.activities ≤ 120
-  few_activities = few slice.activities
-
-  some_before : (n : ℕ) → (t.activities ≡ []) ⊎ AreActivities t.context.columns t.activities → 0 < n → 0 < length t.activities → 1 ≤ sum (take n t.activities)
+  some_before : (n : ℕ) → AreSliceActivities t.context.columns t.activities → 0 < n → 0 < length t.activities → 1 ≤ sum (take n t.activities)
   some_before n (inl e) some more = absurd (omega (arith, more, ap (λ (xs : List ℕ). length xs) e))
   some_before n (inr h) some more = before_some t.activities n h.range some more
 
-  left_small : (s : Begun) (n : ℕ) → 0 < length t.activities → room t s n - 31 < 2 ^ 24
+  left_small : (s : Begun) (n : ℕ) → t.cap < 2 ^ 24 → room t s n - 31 < 2 ^ 24
   unfolding room
-  left_small s n more = omega (arith, slice.most more)
+  left_small s n most = omega (arith, most)
 
-  pub is_so_far : (row : Samples) (n : ℕ) → n < t.context.columns → 0 < n → 0 < length t.activities → IsSliceSoFar (so_far t (begun t row n) n)
-  is_so_far row n small some more = record {
+  pub is_so_far : AreSliceActivities t.context.columns t.activities → t.cap < 2 ^ 24 → (row : Samples) (n : ℕ) → n < t.context.columns → 0 < n → 0 < length t.activities
+      → IsSliceSoFar (so_far t (begun t row n) n)
+  is_so_far active most row n small some more = record {
     work = work_small row n (omega (arith, small));
-    ahead = ahead_small n;
-    some = some_before n slice.activities some more;
-    before = before_small n;
-    left = left_small (begun t row n) n more;
+    ahead = ahead_small active n;
+    some = some_before n active some more;
+    before = before_small active n;
+    left = left_small (begun t row n) n most;
   }
 
 -- ---- as the program has it

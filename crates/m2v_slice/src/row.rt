@@ -155,6 +155,7 @@ pub fn code_row<V: RefView>(
     requires slice { IsSlice (task_by source.now (V.at forward.now) (V.at backward.now) context.now
         plan.now) }
     requires activities { AreSliceActivities context.now.columns plan.now.activities.now }
+    requires most { 0 < length plan.now.activities.now → plan.now.cap < 2 ^ 24 }
     requires references { HasReferences context.now.kind source.now.dims
         (row_place context.now plan.now.row)
         (V.size forward.now) (V.size backward.now) (V.Holds forward.now) (V.Holds backward.now) }

@@ -1,5 +1,5 @@
 //! A slice with its start code and its header.
-ghost use Rattle.std.specs.Prelude.{◌≡◌, ◌≢◌, ◌+◌, ◌*◌, ◌/◌, ◌%◌, ◌≤◌, ◌<◌, ◌++◌, IfOk, [], length};
+ghost use Rattle.std.specs.Prelude.{◌≡◌, ◌≢◌, ◌+◌, ◌*◌, ◌/◌, ◌%◌, ◌^◌, ◌≤◌, ◌<◌, ◌++◌, IfOk, [], length};
 ghost use Rattle.m2v_bits.specs.Bits.{bits, start_code};
 ghost use Rattle.m2v_head.specs.Texts.{slice_text};
 ghost use Rattle.m2v_plane.specs.declared.planes.Plane.TheVariants.{Y};
@@ -56,6 +56,7 @@ fn write_slice<V: RefView>(
     requires slice { IsSlice (task_by source.now (V.at forward.now) (V.at backward.now) context.now
         plan.now) }
     requires activities { AreSliceActivities context.now.columns plan.now.activities.now }
+    requires most { 0 < length plan.now.activities.now → plan.now.cap < 2 ^ 24 }
     requires references { HasReferences context.now.kind source.now.dims
         (row_place context.now plan.now.row)
         (V.size forward.now) (V.size backward.now) (V.Holds forward.now) (V.Holds backward.now) }
@@ -152,6 +153,7 @@ pub(crate) fn code_row_slice<V: RefView>(
     requires slice { IsSlice (task_by source.now (V.at forward.now) (V.at backward.now) context.now
         plan.now) }
     requires activities { AreSliceActivities context.now.columns plan.now.activities.now }
+    requires most { 0 < length plan.now.activities.now → plan.now.cap < 2 ^ 24 }
     requires references { HasReferences context.now.kind source.now.dims
         (row_place context.now plan.now.row)
         (V.size forward.now) (V.size backward.now) (V.Holds forward.now) (V.Holds backward.now) }

@@ -15,7 +15,7 @@ use Rattle.m2v_slice.proofs.row.code_row.Goals as goal
 
 pub start-effort-requires : goal.start-effort-requires
 start-effort-requires g c =
-    record { few = few_activities (task_by c.args.source.now (g.V.RefView.at c.args.forward.now) (g.V.RefView.at c.args.backward.now) c.args.context.now c.args.plan.now) c.requires.slice }
+    record { few = few_activities (task_by c.args.source.now (g.V.RefView.at c.args.forward.now) (g.V.RefView.at c.args.backward.now) c.args.context.now c.args.plan.now) c.requires.slice c.requires.activities }
 
 pub loop-column-init : goal.loop-column-init
 unfolding begun
@@ -54,7 +54,7 @@ quantiser-q-requires-clause-slice g c = λ some more.
     let e = c.loop-column.effort in
     let small : n < t.context.columns = omega arith in
     let len : c.bit_len-from.result ≡ 38 + length s.text = omega (arith, c.bit_len-from.ensures, ap length c.loop-column.invariant.written ∙ length-append c.args.bits.now.written s.text, c.requires.header) in
-    effort_so t s n c.bit_len-from.result c.from.result e.work e.before e.ahead small len c.from.ensures inv.work inv.before inv.ahead (is_so_far t c.requires.slice c.args.row.now n small some more)
+    effort_so t s n c.bit_len-from.result c.from.result e.work e.before e.ahead small len c.from.ensures inv.work inv.before inv.ahead (is_so_far t c.requires.slice c.requires.activities (c.requires.most more) c.args.row.now n small some more)
 
 pub limits_at-limits-requires-clause-held : goal.limits_at-limits-requires-clause-held
 limits_at-limits-requires-clause-held g c =
@@ -129,7 +129,7 @@ add-requires g c =
       q = c.quantiser-q.ensures.code.1;
       bits = omega (arith, c.bit_len-from.ensures, c.bit_len.ensures, more, told, fits.most);
       work = omega (arith, inv.work, work_small t c.requires.slice c.args.row.now n (omega arith));
-      before = omega (arith, inv.before, before_small t c.requires.slice n);
+      before = omega (arith, inv.before, before_small t c.requires.slice c.requires.activities n);
       ahead = omega (arith, inv.ahead, ahead_less t.activities n);
     }
 

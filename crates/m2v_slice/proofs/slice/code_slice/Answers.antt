@@ -1,4 +1,4 @@
-use Rattle.std.proofs.Common.{refl, subst, arith, inl}
+use Rattle.std.proofs.Common.{subst}
 use Rattle.m2v_plane.specs.Sizes.{IsSize}
 use Rattle.m2v_slice.proofs.slice.code_slice.Goals as goal
 
@@ -14,6 +14,4 @@ code_row_slice-requires-clause-slice g c =
       search = r.search;
       least = r.least;
       edge = r.whole;
-      activities = inl refl;
-      most = λ some. absurd (omega arith);
     }
