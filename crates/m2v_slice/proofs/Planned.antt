@@ -1,5 +1,5 @@
 -- The ledger of a plan's job, of what its cache knows.
-use Rattle.std.proofs.Common.{◌≡◌, ℕ, ◌+◌, ◌-◌, ◌<◌, ◌≤◌, ◌^◌, length, sym, ap, subst, ◌∙◌, arith}
+use Rattle.std.proofs.Common.{◌≡◌, ℕ, ◌+◌, ◌-◌, ◌*◌, ◌<◌, ◌≤◌, ◌^◌, length, sym, ap, subst, ◌∙◌, arith}
 use Rattle.std.specs.Prelude.{slice_index}
 use Rattle.m2v_set.proofs.Facts.{bounds}
 use Rattle.m2v_order.specs.declared.jobs.PictureJob.{PictureJob}
@@ -35,7 +35,7 @@ module _ (b : Book) (h : IsBook b) (p : ℕ) (c : Cached) (known : HasLearnedPla
     pub first : p - 4 ≡ length l.sizes
     pub planned : p - 4 < length l.caps
     pub within : bits ≤ slice_index l.caps (p - 4)
-    pub work : work ≤ 31 * bits
+    pub measured : work ≤ 31 * bits
     pub small : bits < 2 ^ 64
     pub after : with_size l bits work ≡ ledger_at b (first_open p) p
 
@@ -56,7 +56,7 @@ module _ (b : Book) (h : IsBook b) (p : ℕ) (c : Cached) (known : HasLearnedPla
         first = sym (ledger_sizes b n p);
         planned = omega (arith, ledger_caps b n p);
         within = omega (arith, size, most, e);
-        work = omega (arith, least, e, f);
+        measured = omega (arith, least, e, f);
         small = omega (arith, size, e, good.most, (bounds b.settings (passes_of b h)).size.buffer);
         after = ap (λ (k : ℕ). with_size (ledger_at b n p) k work) e ∙ ap (with_size (ledger_at b n p) (size_of b (coded b p) n)) f ∙ sym (ledger_known b n p) ∙ ap (λ (k : ℕ). ledger_at b k p) s;
       }

@@ -13,7 +13,7 @@ use Rattle.m2v_rate.specs.Plans.{slice_cap_of}
 use Rattle.m2v_slice.specs.Slices.{SliceTask, CodedSlice, slice_of, most_bits_of}
 use Rattle.m2v_slice.specs.Laws.{IsSlice}
 use Rattle.m2v_slice.specs.Steps.{HasReferences, row_place}
-use Rattle.m2v_slice.proofs.Fits.{slice_fits}
+use Rattle.m2v_slice.proofs.Stub.{slice_fits}
 use Rattle.m2v_slice.specs.Headers.{IsJob, context_of, extension_of}
 use Rattle.m2v_slice.specs.Books.{Book, rows, job_at, coded, slice_at, slice_activities, forward_number, reference, task_of}
 use Rattle.m2v_slice.specs.Cached.{Cached}
@@ -59,10 +59,10 @@ module _ (b : Book) (h : IsBook b) (p r : ℕ) (c : Cached) (known : HasLearnedS
   window_of n = record { book = b; picture = p; number = n; row = r }
 
   -- what the code of a slice is asked for
-  pub record MayCode (t : SliceTask) : Type 0 where
+  pub record MayCode (v w : Window) (t : SliceTask) : Type 0 where
     pub slice : IsSlice t
-    pub references : HasReferences t.context.kind t.source.dims (row_place t.context r) (dims_of b.settings) (dims_of b.settings)
-        (HoldsLine b p (forward_number (job_at b p).kind) r) (HoldsLine b p 0 r)
+    pub references : HasReferences t.context.kind t.source.dims (row_place t.context r) (dims_of v.book.settings) (dims_of w.book.settings)
+        (HoldsLine v.book v.picture v.number v.row) (HoldsLine w.book w.picture w.number w.row)
     pub size : t.source.dims ≡ dims_of b.settings
     pub columns : (dims_of b.settings).mb_width ≡ t.context.columns
     pub value : slice_of t ≡ slice_at (coded b (p + 1)) p r
@@ -71,7 +71,7 @@ module _ (b : Book) (h : IsBook b) (p r : ℕ) (c : Cached) (known : HasLearnedS
   slice_here =
       ap (λ (x : Plan). slice_of (task_of b (coded b p) p x r)) known.plan ∙ sym (slice_is b (p + 1) p r (omega arith) small)
 
-  at_code : MayCode (task_of b (coded b p) p c.plan r)
+  at_code : MayCode (window_of (forward_number (job_at b p).kind)) (window_of 0) (task_of b (coded b p) p c.plan r)
   unfolding task_of context_of extension_of dims_of
   at_code =
       let size = source_size b h p lt in
@@ -121,7 +121,7 @@ module _ (b : Book) (h : IsBook b) (p r : ℕ) (c : Cached) (known : HasLearnedS
       → v ≡ window_of (forward_number (job_at b p).kind) → w ≡ window_of 0 → source ≡ get_or b.frames (job_at b p).frame no_samples
       → s ≡ b.settings → job ≡ job_at b p → context ≡ context_of s job → q ≡ c.plan.q → most ≡ slice_cap_of s c.plan.cap r → search ≡ s.search
       → activities ≡ slice_activities b p r
-      → MayCode (record {
+      → MayCode v w (record {
         source = source;
         forward = reference v.book (coded v.book v.picture) v.picture v.number;
         backward = reference w.book (coded w.book w.picture) w.picture w.number;
@@ -133,9 +133,22 @@ module _ (b : Book) (h : IsBook b) (p r : ℕ) (c : Cached) (known : HasLearnedS
         activities = activities;
       })
   may_code v w source context q most search activities s job ev ew es et ej ec eq em er ea =
-      subst MayCode
-      (sym (task_same v w source context q most search activities ev ew es (ec ∙ ap (λ (t : Settings). context_of t job) et ∙ ap (context_of b.settings) ej) eq
-      (em ∙ ap (λ (t : Settings). slice_cap_of t c.plan.cap r) et) (er ∙ ap (λ (t : Settings). t.search) et) ea)) at_code
+      let n = forward_number (job_at b p).kind in
+      let same = task_same v w source context q most search activities ev ew es (ec ∙ ap (λ (t : Settings). context_of t job) et ∙ ap (context_of b.settings) ej) eq
+      (em ∙ ap (λ (t : Settings). slice_cap_of t c.plan.cap r) et) (er ∙ ap (λ (t : Settings). t.search) et) ea in
+      let here : SliceTask = record {
+        source = source;
+        forward = reference v.book (coded v.book v.picture) v.picture v.number;
+        backward = reference w.book (coded w.book w.picture) w.picture w.number;
+        context = context;
+        row = r;
+        q = q;
+        cap = most;
+        search = search;
+        activities = activities;
+      } in
+      subst (λ (x : Window). MayCode x w here) (sym ev)
+      (subst (λ (x : Window). MayCode (window_of n) x here) (sym ew) (subst (MayCode (window_of n) (window_of 0)) (sym same) at_code))
 
   text_most : length (slice_of (task_of b (coded b p) p c.plan r)).text ≤ most_bits_of (mb_width_of b.settings)
   unfolding task_of context_of

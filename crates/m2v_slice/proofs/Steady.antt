@@ -1,5 +1,5 @@
 -- Each slice of a book can be coded within its cap, and each size lies within the cap of its plan.
-use Rattle.std.proofs.Common.{◌≡◌, ℕ, zero, suc, ◌+◌, ◌-◌, ◌*◌, ◌/◌, ◌%◌, ◌<◌, ◌≤◌, true, false, cond, List, [], ◌∷◌, ◌++◌, length, map, take, refl, sym, ap, subst, ◌∙◌, arith}
+use Rattle.std.proofs.Common.{◌≡◌, ℕ, zero, suc, ◌+◌, ◌*◌, ◌/◌, ◌%◌, ◌<◌, ◌≤◌, true, false, cond, List, [], ◌∷◌, ◌++◌, length, map, take, refl, sym, ap, subst, ◌∙◌, arith}
 use Rattle.std.specs.Prelude.{nat_eq, nat_lt, sum_by, Bool}
 use Rattle.std.specs.List.{range_with_len}
 use Rattle.std.proofs.lemmas.Bool.{cond_both}
@@ -20,12 +20,12 @@ use Rattle.m2v_rate.specs.Plans.{Entries, first_open, plan_of, spare, slice_cap_
 use Rattle.m2v_rate.specs.Steady.{IsSteady}
 use Rattle.m2v_rate.proofs.Caps.{slices_sum}
 use Rattle.m2v_rate.proofs.Targets.{sum_more}
-use Rattle.m2v_rate.proofs.Lows.{low_most}
-use Rattle.m2v_rate.proofs.Keeps.{plan_is}
+use Rattle.m2v_rate.proofs.Keeps.{cap_most}
+use Rattle.m2v_rate.proofs.Safes.{plan_is}
 use Rattle.m2v_choose.specs.Own.{IsOwn}
 use Rattle.m2v_slice.specs.Slices.{CodedSlice, slice_of}
 use Rattle.m2v_slice.specs.Laws.{IsSlice}
-use Rattle.m2v_slice.proofs.Fits.{slice_fits}
+use Rattle.m2v_slice.proofs.Stub.{slice_fits}
 use Rattle.m2v_slice.specs.Headers.{begins_group, context_of, extension_of, header_bits}
 use Rattle.m2v_slice.specs.Books.{Book, CodedPicture, rows, job_at, picture_at, size_of, work_of, ledger_with, ledger_for, task_of, next_picture, coded}
 use Rattle.m2v_slice.specs.Conditions.{IsBook}
@@ -44,10 +44,9 @@ pub record IsPlan (s : Settings) (x : Plan) : Type 0 where
 pub plan_good : (l : Entries) (p : ℕ) → IsSteady l → p < length l.kinds → IsPlan l.settings (plan_of l p)
 plan_good l p h lt =
     let is = plan_is l p h.begun lt in
-    let f = first_open p in
     record {
       least = is.least;
-      most = omega (arith, is.held, low_most l f (p - f) h.begun (omega arith));
+      most = cap_most l p h.begun lt;
       bytes = is.bytes;
       q = is.code;
     }

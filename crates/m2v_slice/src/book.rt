@@ -1,5 +1,5 @@
 //! The book of a group.
-ghost use Rattle.std.specs.Prelude.{◌≡◌, ◌+◌, ◌*◌, ◌<◌, ◌≤◌, All, IfSome, IfOk, is_some, length, slice_index_or};
+ghost use Rattle.std.specs.Prelude.{◌≡◌, ◌+◌, ◌*◌, ◌<◌, ◌≤◌, All, IfSome, IfOk, is_some, length, take, drop, slice_index_or};
 ghost use Rattle.m2v_plane.specs.Samples.{Samples};
 ghost use Rattle.m2v_plane.specs.Fields.{no_samples};
 ghost use Rattle.m2v_set.specs.Numbers.{dims_of, rows_by};
@@ -30,6 +30,14 @@ fn rows_of(settings: &Passed) -> u32
         Scan::Progressive | Scan::Frames => frame,
         Scan::Fields => frame / 2,
     }
+}
+
+/// So many numbers, from one on.
+fn part_of(all: &[u32], from: usize, count: usize) -> &[u32]
+    requires within { from + count ≤ length all.now }
+    ensures value { result.now ≡ take count (drop from all.now) }
+{
+    &all[from..from + count]
 }
 
 /// The jobs of a group of pictures: for each picture, in coding order, its plan and then its slices from the top.
@@ -188,22 +196,30 @@ impl EncodeBook {
         self.frame(self.job(p).frame)
     }
 
+    /// The activities of the group's macroblocks.
+    fn activities(&self) -> &[u32]
+        ensures value { result.now ≡ macroblock_activities self.now.settings self.now.frames
+            self.now.pictures }
+        ensures range { All IsActivity result.now }
+    {
+        &self.activities
+    }
+
     /// The activities of the macroblocks of slice r of picture p, where the plan goes by the source.
-    #[tactic(auto, unfolding(crate::specs::Books::slice_activities))]
     pub(crate) fn slice_activities(&self, p: u32, r: u32) -> &[u32]
         requires picture { p < length self.now.pictures }
         requires row { r < rows self.now }
         ensures value { result.now ≡ slice_activities self.now p r }
         ensures range { AreSliceActivities (dims_of self.now.settings).mb_width result.now }
     {
-        match self.settings.settings().planning {
+        // a group has at most 126 pictures
+        let _pictures = self.pictures();
+        match self.settings().settings().planning {
             Planning::Weights => &[],
             Planning::Even => {
-                // what is known of a book
-                let _book = self.pictures();
-                let columns = self.settings.dims().mb_width as usize;
+                let columns = self.settings().dims().mb_width as usize;
                 let from = (p * self.rows() + r) as usize * columns;
-                &self.activities[from..from + columns]
+                part_of(self.activities(), from, columns)
             }
         }
     }

@@ -28,3 +28,41 @@ slice_cap-requires c =
       most = same.most;
       row = subst (λ (s : Settings). c.args.r < rows_by s.scan s.height) (sym c.settings-settings.ensures.value) c.requires.row;
     }
+
+pub code_row_slice-requires : goal.code_row_slice-requires
+code_row_slice-requires c =
+    let b = c.args.self.now in
+    let h = may_code b c.pictures-book.ensures.book c.args.p c.args.r c.args.cache.now c.requires.learned c.requires.picture c.requires.row
+    c.for_slice-forward.result c.for_slice-backward.result c.source.result.now c.picture_context-context.result c.plan-plan.result.now.q c.slice_cap.result
+    c.settings.result.now.search c.slice_activities.result.now c.settings-settings.result.now c.job-job.result.now
+    (c.for_slice-forward.ensures.value ∙ ap (λ (n : ℕ). let w : Window = record { book = b; picture = c.args.p; number = n; row = c.args.r } in w)
+    (c.forward_number.ensures.value ∙ ap (λ (j : PictureJob). forward_number j.kind) c.job-job.ensures.value))
+    c.for_slice-backward.ensures.value c.source.ensures.value c.settings-settings.ensures.value c.job-job.ensures.value c.picture_context-context.ensures.value
+    (ap (λ (x : Plan). x.q) c.plan-plan.ensures.value)
+    (c.slice_cap.ensures.value ∙ ap (λ (x : Plan). slice_cap_of c.settings-settings.result.now x.cap c.args.r) c.plan-plan.ensures.value)
+    (ap (λ (s : Settings). s.search) c.settings.ensures.value) c.slice_activities.ensures.value in
+    record {
+      slice = h.slice;
+      activities = subst (λ (n : ℕ). AreSliceActivities n c.slice_activities.result.now) h.columns c.slice_activities.ensures.range;
+      references = h.references;
+      out = c.requires.size ∙ sym h.size;
+    }
+
+pub returns : goal.returns
+returns c =
+    let b = c.args.self.now in
+    let h = may_code b c.pictures-book.ensures.book c.args.p c.args.r c.args.cache.now c.requires.learned c.requires.picture c.requires.row
+    c.for_slice-forward.result c.for_slice-backward.result c.source.result.now c.picture_context-context.result c.plan-plan.result.now.q c.slice_cap.result
+    c.settings.result.now.search c.slice_activities.result.now c.settings-settings.result.now c.job-job.result.now
+    (c.for_slice-forward.ensures.value ∙ ap (λ (n : ℕ). let w : Window = record { book = b; picture = c.args.p; number = n; row = c.args.r } in w)
+    (c.forward_number.ensures.value ∙ ap (λ (j : PictureJob). forward_number j.kind) c.job-job.ensures.value))
+    c.for_slice-backward.ensures.value c.source.ensures.value c.settings-settings.ensures.value c.job-job.ensures.value c.picture_context-context.ensures.value
+    (ap (λ (x : Plan). x.q) c.plan-plan.ensures.value)
+    (c.slice_cap.ensures.value ∙ ap (λ (x : Plan). slice_cap_of c.settings-settings.result.now x.cap c.args.r) c.plan-plan.ensures.value)
+    (ap (λ (s : Settings). s.search) c.settings.ensures.value) c.slice_activities.ensures.value in
+    let value = c.code_row_slice.ensures.value ∙ h.value in
+    record {
+      value = value;
+      few = subst (λ (x : CodedSlice). length x.text ≤ most_bits_of (mb_width_of b.settings)) (sym value)
+          (slice_few b c.pictures-book.ensures.book c.args.p c.args.r c.args.cache.now c.requires.learned c.requires.picture c.requires.row);
+    }
