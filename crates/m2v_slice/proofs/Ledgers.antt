@@ -1,5 +1,5 @@
 -- The ledger that knows all sizes of a book.
-use Rattle.std.proofs.Common.{◌≡◌, ℕ, zero, suc, ◌+◌, ◌-◌, ◌<◌, ◌≤◌, length, get_or, refl, sym, ap, subst, ◌∙◌, arith}
+use Rattle.std.proofs.Common.{◌≡◌, ℕ, zero, suc, ◌+◌, ◌-◌, ◌*◌, ◌<◌, ◌≤◌, length, get_or, refl, sym, ap, subst, ◌∙◌, arith}
 use Rattle.std.proofs.lemmas.List.FromFn.{get_or-map-range_with_len}
 use Rattle.m2v_rate.specs.Plans.{Entries, first_open}
 use Rattle.m2v_slice.specs.Books.{Book, coded, picture_at, size_of, work_of, ledger_with, all_coded, whole_ledger}

@@ -5,7 +5,6 @@ pub mod Keeps
 pub mod Motions
 pub mod AnySize
 pub mod Fits
-pub mod Stub
 pub mod AnyRow
 pub mod Columns
 pub mod SoFar

@@ -1,11 +1,12 @@
 -- A slice of a picture, of what its cache knows.
-use Rattle.std.proofs.Common.{◌≡◌, ℕ, ◌+◌, ◌<◌, ◌≤◌, List, length, get_or, refl, sym, ap, subst, ◌∙◌, arith, inl, inr}
+use Rattle.std.proofs.Common.{◌≡◌, ℕ, ◌+◌, ◌^◌, ◌<◌, ◌≤◌, List, length, get_or, refl, sym, ap, subst, ◌∙◌, arith, inl, inr}
 use Rattle.std.specs.Prelude.{nat_eq}
 use Rattle.std.proofs.lemmas.Bool.{cases_eq, cond-true, eq-eqb, ne_eqb}
 use Rattle.m2v_plane.specs.Samples.{Samples}
 use Rattle.m2v_plane.specs.Fields.{no_samples}
 use Rattle.m2v_set.specs.declared.settings.Settings.{Settings}
 use Rattle.m2v_set.specs.Numbers.{dims_of, mb_width_of}
+use Rattle.m2v_set.proofs.Facts.{bounds}
 use Rattle.m2v_order.specs.declared.jobs.PictureJob.{PictureJob}
 use Rattle.m2v_macroblock.specs.m2v_macro.declared.values.PictureContext.{PictureContext}
 use Rattle.m2v_rate.specs.declared.values.Plan.{Plan}
@@ -13,7 +14,7 @@ use Rattle.m2v_rate.specs.Plans.{slice_cap_of}
 use Rattle.m2v_slice.specs.Slices.{SliceTask, CodedSlice, slice_of, most_bits_of}
 use Rattle.m2v_slice.specs.Laws.{IsSlice}
 use Rattle.m2v_slice.specs.Steps.{HasReferences, row_place}
-use Rattle.m2v_slice.proofs.Stub.{slice_fits}
+use Rattle.m2v_slice.proofs.Fits.{slice_fits}
 use Rattle.m2v_slice.specs.Headers.{IsJob, context_of, extension_of}
 use Rattle.m2v_slice.specs.Books.{Book, rows, job_at, coded, slice_at, slice_activities, forward_number, reference, task_of}
 use Rattle.m2v_slice.specs.Cached.{Cached}
@@ -21,7 +22,8 @@ use Rattle.m2v_slice.specs.Conditions.{IsBook}
 use Rattle.m2v_slice.specs.Windows.{Window, HoldsLine}
 use Rattle.m2v_slice.specs.Works.{HasLearnedSlice}
 use Rattle.m2v_slice.proofs.Coded.{slice_is}
-use Rattle.m2v_slice.proofs.Groups.{picture_is_one, structure_low, source_size}
+use Rattle.m2v_slice.proofs.Groups.{passes_of, picture_is_one, structure_low, source_size}
+use Rattle.m2v_slice.proofs.SliceCaps.{cap_small}
 use Rattle.m2v_slice.proofs.Steady.{IsPlan, task_is}
 use Rattle.m2v_slice.proofs.Sound.{plan_is_good}
 use Rattle.m2v_slice.proofs.Near.{Refers, is_read}
@@ -63,6 +65,7 @@ module _ (b : Book) (h : IsBook b) (p r : ℕ) (c : Cached) (known : HasLearnedS
     pub slice : IsSlice t
     pub references : HasReferences t.context.kind t.source.dims (row_place t.context r) (dims_of v.book.settings) (dims_of w.book.settings)
         (HoldsLine v.book v.picture v.number v.row) (HoldsLine w.book w.picture w.number w.row)
+    pub most : t.cap < 2 ^ 24
     pub size : t.source.dims ≡ dims_of b.settings
     pub columns : (dims_of b.settings).mb_width ≡ t.context.columns
     pub value : slice_of t ≡ slice_at (coded b (p + 1)) p r
@@ -83,6 +86,7 @@ module _ (b : Book) (h : IsBook b) (p r : ℕ) (c : Cached) (known : HasLearnedS
           backward = λ e. is_read b h p 0 r lt small (λ f. omega (arith, e, f)) (inl refl);
           backward_size = λ e. sym size;
         };
+        most = cap_small b.settings (bounds b.settings (passes_of b h)) c.plan.cap r plan_known.most;
         size = size;
         columns = refl;
         value = slice_here;

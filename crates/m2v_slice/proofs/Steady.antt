@@ -25,7 +25,7 @@ use Rattle.m2v_rate.proofs.Safes.{plan_is}
 use Rattle.m2v_choose.specs.Own.{IsOwn}
 use Rattle.m2v_slice.specs.Slices.{CodedSlice, slice_of}
 use Rattle.m2v_slice.specs.Laws.{IsSlice}
-use Rattle.m2v_slice.proofs.Stub.{slice_fits}
+use Rattle.m2v_slice.proofs.Fits.{slice_fits}
 use Rattle.m2v_slice.specs.Headers.{begins_group, context_of, extension_of, header_bits}
 use Rattle.m2v_slice.specs.Books.{Book, CodedPicture, rows, job_at, picture_at, size_of, work_of, ledger_with, ledger_for, task_of, next_picture, coded}
 use Rattle.m2v_slice.specs.Conditions.{IsBook}

@@ -44,6 +44,7 @@ code_row_slice-requires c =
     record {
       slice = h.slice;
       activities = subst (λ (n : ℕ). AreSliceActivities n c.slice_activities.result.now) h.columns c.slice_activities.ensures.range;
+      most = λ some. h.most;
       references = h.references;
       out = c.requires.size ∙ sym h.size;
     }
