@@ -14,7 +14,7 @@ use Rattle.m2v_rate.specs.Plans.{Entries, begun}
 use Rattle.m2v_rate.specs.Steady.{IsBegun}
 use Rattle.m2v_rate.proofs.Lows.{held_least, held_most, removals_at, rate_at, buffer_at}
 use Rattle.m2v_slice.specs.Books.{picture_activities}
-use Rattle.m2v_slice.specs.Conditions.{GoesOn, IsBegunFor}
+use Rattle.m2v_slice.specs.Conditions.{IsSteadyLedger, IsBegunFor}
 
 pub times_length : (s : Settings) (last : Option ℕ) (jobs : List PictureJob) → length (intervals_of s last jobs) ≡ length jobs
 unfolding intervals_of
@@ -34,7 +34,7 @@ times_are s last (job ∷ more) =
 -- the ledger of the next group
 pub begun_ledger : (s : Settings) (g : Group Samples) (from : Entries) → from.settings ≡ s → IsBegun from
     → from.account.removals + length from.kinds < 2 ^ 39 → length g.pictures ≤ 126
-    → GoesOn (begun from (map (λ (j : PictureJob). j.kind) g.pictures) (intervals_of s g.before g.pictures) (picture_activities s g.frames g.pictures))
+    → IsSteadyLedger (begun from (map (λ (j : PictureJob). j.kind) g.pictures) (intervals_of s g.before g.pictures) (picture_activities s g.frames g.pictures))
 begun_ledger s g from settings h removals few =
     let n = length from.kinds in
     let times = intervals_of s g.before g.pictures in
@@ -70,5 +70,5 @@ begun_for s g from l settings h removals few is = record {
   from = from;
   settings = settings;
   begun = is;
-  ledger = subst GoesOn (sym is) (begun_ledger s g from settings h removals few);
+  ledger = subst IsSteadyLedger (sym is) (begun_ledger s g from settings h removals few);
 }

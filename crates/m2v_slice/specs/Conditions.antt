@@ -13,7 +13,7 @@ use Rattle.m2v_slice.specs.Books.{Book, picture_activities}
 
 -- what holds of a ledger whatever was measured: it is steady, has room for its group, and the account can go on. Samples of a
 -- book are any numbers, so no more is known of its activities
-pub record GoesOn (l : Entries) : Type 0 where
+pub record IsSteadyLedger (l : Entries) : Type 0 where
   pub few : length l.kinds ≤ 126
   pub removals : l.account.removals < 2 ^ 39
   pub steady : IsSteady l
@@ -24,7 +24,7 @@ pub record IsBegunFor (s : Settings) (g : Group Samples) (l : Entries) : Type 0 
   pub settings : from.settings ≡ s
   pub begun : l ≡ begun from (map (λ (j : PictureJob). j.kind) g.pictures) (intervals_of s g.before g.pictures)
       (picture_activities s g.frames g.pictures)
-  pub ledger : GoesOn l
+  pub ledger : IsSteadyLedger l
 
 -- a book is that of a group of its settings, with frames of their size; the anchor before the group is there exactly where
 -- one was coded before
