@@ -11,7 +11,7 @@ use Rattle.m2v_set.specs.Rules.{is_even}
 use Rattle.m2v_set.proofs.Facts.{bounds}
 use Rattle.m2v_enc_activity.specs.Activity.{look_of, activities, row_activities, IsActivity}
 use Rattle.m2v_enc_activity.proofs.Places.{length-row_activities, row_in_all}
-use Rattle.m2v_slice.specs.Laws.{AreActivities, AreSliceActivities}
+use Rattle.m2v_slice.specs.Laws.{AreSliceActivities}
 use Rattle.m2v_slice.specs.Books.{Book, macroblock_activities, slice_activities, rows}
 use Rattle.m2v_slice.specs.Conditions.{IsBook}
 use Rattle.m2v_slice.proofs.Groups.{passes_of, picture_is_one, rows_are}

@@ -1,10 +1,9 @@
-use Rattle.std.proofs.Common.{◌≡◌, ◌≤◌, List, length, sym, ap, subst}
+use Rattle.std.proofs.Common.{◌≤◌, List, length, sym, subst}
 use Rattle.std.specs.Prelude.{All}
 use Rattle.m2v_plane.specs.declared.dims.Dims.{Dims}
 use Rattle.m2v_plane.specs.Samples.{Samples}
 use Rattle.m2v_order.specs.declared.jobs.PictureJob.{PictureJob}
 use Rattle.m2v_order.specs.Whole.{handed}
-use Rattle.m2v_set.specs.Rules.{Passes}
 use Rattle.m2v_enc_activity.specs.Activity.{IsPictureOf, rows_in}
 use Rattle.m2v_slice.proofs.Groups.{looked_at}
 use Rattle.m2v_slice.proofs.activity.source_activities.Goals as goal

@@ -1,4 +1,4 @@
-use Rattle.std.proofs.Common.{◌≡◌, ◌<◌, ◌≤◌, ℕ, List, length, sym, ap, subst, ◌∙◌}
+use Rattle.std.proofs.Common.{◌<◌, ◌≤◌, ℕ, length, sym, ap, subst, ◌∙◌}
 use Rattle.m2v_set.specs.declared.settings.Settings.{Settings}
 use Rattle.m2v_set.specs.Numbers.{mb_width_of, rows_by}
 use Rattle.m2v_order.specs.declared.jobs.PictureJob.{PictureJob}
@@ -7,7 +7,7 @@ use Rattle.m2v_rate.specs.Plans.{slice_cap_of}
 use Rattle.m2v_slice.specs.Slices.{CodedSlice, most_bits_of}
 use Rattle.m2v_slice.specs.Laws.{AreSliceActivities}
 use Rattle.m2v_slice.specs.Headers.{IsJob}
-use Rattle.m2v_slice.specs.Books.{job_at, forward_number}
+use Rattle.m2v_slice.specs.Books.{forward_number}
 use Rattle.m2v_slice.specs.Windows.{Window}
 use Rattle.m2v_slice.proofs.Steady.{IsPlan}
 use Rattle.m2v_slice.proofs.Slices.{is_job, plan_known, may_code, slice_few}
