@@ -21,7 +21,7 @@ use Rattle.m2v_rate.specs.Steady.{IsSteady}
 use Rattle.m2v_rate.proofs.Caps.{slices_sum}
 use Rattle.m2v_rate.proofs.Targets.{sum_more}
 use Rattle.m2v_rate.proofs.Keeps.{cap_most}
-use Rattle.m2v_rate.proofs.Safes.{plan_is}
+use Rattle.m2v_rate.proofs.BothPlans.{plan_is}
 use Rattle.m2v_choose.specs.Own.{IsOwn}
 use Rattle.m2v_slice.specs.Slices.{CodedSlice, slice_of}
 use Rattle.m2v_slice.specs.Laws.{IsSlice}
