@@ -194,18 +194,18 @@ def main():
     import os
     os.chdir(folder)
     coders = [coder for coder in CODERS if coder != 'mpeg2enc' or shutil.which(coder)]
-    found = {}
-    for name in CLIPS:
-        clip = Clip(name, count)
+    clips = [Clip(name, count) for name in CLIPS]
+    for clip in clips:
         clip.make()
-    for mbits in MBITS:
-        for name in CLIPS:
-            clip = Clip(name, count)
-            for coder in coders:
+    found = {}
+    # the quick ones first
+    for coder in sorted(coders, key=('even', 'weights', 'ffmpeg', 'ffmpeg_rd', 'mpeg2enc').index):
+        for mbits in MBITS:
+            for clip in clips:
                 if coder.startswith('ffmpeg') and clip.scan in ('fields', 'film'):
                     continue
-                found.setdefault((name, coder), []).append(figures(program, coder, clip, mbits))
-                print(name, coder, mbits, *found[name, coder][-1], file=sys.stderr)
+                found.setdefault((clip.name, coder), []).append(figures(program, coder, clip, mbits))
+                print(clip.name, coder, mbits, *found[clip.name, coder][-1], file=sys.stderr, flush=True)
     row('', *[CODERS[coder] for coder in coders])
     row(*['---'] * (len(coders) + 1))
     for name in CLIPS:
