@@ -48,6 +48,11 @@ CODERS = {
 }
 
 
+def buffer_of(mbits):
+    """A DVD player's buffer, or what comes within the greatest delay, in units of 16,384 bits."""
+    return min(112, 8 * 2500 * mbits * 65534 // (1800 * 16384))
+
+
 def run(*words, **more):
     subprocess.run([str(word) for word in words], check=True, stdin=more.pop('stdin', subprocess.DEVNULL), **more)
 
@@ -108,7 +113,7 @@ class Clip:
 def by_us(program, clip, mbits, stream, plan):
     width, height = clip.size.split('x')
     words = ['--width', width, '--height', height, '--rate', 4 if clip.scan == 'film' else 3, '--bits', mbits * 2500,
-             '--buffer', 112, '--plan', plan, '--scan', 'frames' if clip.scan == 'film' else clip.scan]
+             '--buffer', buffer_of(mbits), '--plan', plan, '--scan', 'frames' if clip.scan == 'film' else clip.scan]
     words += ['--pulldown'] if clip.scan == 'film' else []
     with open(clip.path, 'rb') as frames, open(stream, 'wb') as out:
         run(program, 'encode', *words, stdin=frames, stdout=out, stderr=subprocess.PIPE)
@@ -118,13 +123,13 @@ def by_ffmpeg(clip, mbits, stream, *more):
     rate = '%dM' % mbits
     scan = () if clip.scan == 'progressive' else ('-flags', '+ildct+ilme', '-top', 1)
     ffmpeg('-threads', 1, *raw(clip.path, clip.size, clip.rate), '-c:v', 'mpeg2video', '-threads', 1, '-b:v', rate, '-minrate',
-           rate, '-maxrate', rate, '-bufsize', '1835k', '-g', 12, '-bf', 2, *scan, *more, stream)
+           rate, '-maxrate', rate, '-bufsize', 16384 * buffer_of(mbits), '-g', 12, '-bf', 2, *scan, *more, stream)
 
 
 def by_mpeg2enc(program, clip, mbits, stream):
     width, height = clip.size.split('x')
     scan = ['-p'] if clip.scan == 'film' else ['-I', {'progressive': 0, 'frames': 1, 'fields': 2}[clip.scan]]
-    words = ['mpeg2enc', '-v', 0, '-f', 3, '-b', mbits * 1000, '-V', 224, '-r', 15, '-g', 12, '-G', 12, '-R', 2, '-M', 0,
+    words = ['mpeg2enc', '-v', 0, '-f', 3, '-b', mbits * 1000, '-V', 2 * buffer_of(mbits), '-r', 15, '-g', 12, '-G', 12, '-R', 2, '-M', 0,
              *scan, '-o', stream]
     with open(clip.path, 'rb') as frames, open('mpeg2enc.log', 'wb') as log_file:
         pack = subprocess.Popen([program, 'pack', width, height, '1' if clip.scan == 'film' else '3',
