@@ -1,5 +1,5 @@
 #!/usr/bin/env python3
-"""Prints the cases of `encode`: what an encoder writes that was written from the rules alone (half a minute).
+"""Prints the cases of `encode`: what an encoder writes that was written from the rules alone (a minute).
 
 It shares nothing with the program. The cases stand in bench/cases/encoded_cases.py.
 

@@ -4,19 +4,22 @@
     bench/measure/quality.py PROGRAM [FOLDER [FRAMES]]
 
 Clips of FRAMES frames (60) are made, which anyone can make again: by ffmpeg's sources, and one by clip.py. Each coder
-codes each clip at 2, 4, 6 and 8 Mbit/s, in groups of 12 with two B frames between anchors, with a DVD player's buffer.
-What `decode` shows of a stream is held against the clip by ffmpeg's `psnr`: the likeness of luma, of all frames in the
-mean and of the worst one, none counted above 60 dB. Between two streams of a coder likeness is read off a straight line
-over the logarithm of bytes, at four sizes within what all coders wrote of the clip; the table has the mean over these.
-A second table has all figures by rate. Streams and figures stay in FOLDER (/tmp/quality), and what is there isn't made
-again. ffmpeg is needed; mpeg2enc is left out where it isn't installed.
+codes each clip at 2, 4, 6 and 8 Mbit/s, in groups of 12 with two B frames between anchors, with a DVD player's buffer,
+at 2 Mbit/s with the largest that its greatest delay fills. What `decode` shows of a stream is held against the clip by
+ffmpeg's `psnr`: the likeness of luma, of all frames in the mean and of the worst one, none counted above 60 dB. Between
+two streams of a coder likeness is read off a straight line over the logarithm of bytes, at four sizes within what all
+coders wrote of the clip; the table has the mean over these. All figures by rate stand in `by_rate.md` in FOLDER
+(/tmp/quality), where streams and figures stay; what is there isn't made again. ffmpeg is needed; mpeg2enc is left out
+where it isn't installed. One worker codes, one thread of each of the others.
 
 PROGRAM is the built program (crates/m2v_main/out/m2v_main, after one call of ./puckerledge)."""
 
+import os
 import re
 import shutil
 import subprocess
 import sys
+from itertools import cycle
 from math import exp, log
 from pathlib import Path
 
@@ -27,9 +30,9 @@ MOVING = 'testsrc2=size=%s:rate=%s,noise=alls=12:allf=t:all_seed=1'
 LIFE = 'life=size=180x144:rate=25:seed=1:mold=10:ratio=0.3:life_color=#C0C0C0:death_color=#405060,scale=720:576'
 ZOOM = 'mandelbrot=size=720x576:rate=25'
 STILL = 'mandelbrot=size=2880x1152:rate=25,trim=end_frame=1,loop=loop=-1:size=1,setpts=N/25/TB'
-# seconds behind which a clip of cuts begins again
-PAL = dict(size='720x576', rate='25')
-# by their names: what they are; ffmpeg's source, or none where it is clip.py; frames a second and scan
+# the frames from one cut to the next
+PIECES = 5, 7, 15, 9, 12, 6, 11
+# by their names: what they are; ffmpeg's source, how the clip is made of others, or none where it is that of clip.py; scan
 CLIPS = {
     'pan': ('a slow pan with moving parts and noise', None, 'progressive'),
     'card': ('a test card with noise on flat colours', MOVING % ('720x576', 25), 'progressive'),
@@ -88,15 +91,11 @@ class Clip:
             for name in ('pan', 'card', 'life', 'zoom'):
                 Clip(name, self.count).make()
             # pieces of the other clips, one after another
-            size, frames = 720 * 576 * 3 // 2, []
-            for number in range(self.count):
-                names, lengths = ('pan', 'card', 'zoom', 'life'), (5, 7, 15, 9, 12, 6, 11)
-                turn = at = 0
-                while at + lengths[turn % 7] <= number:
-                    at, turn = at + lengths[turn % 7], turn + 1
-                frames.append((names[turn % 4], number))
+            size = 720 * 576 * 3 // 2
+            names = [name for name, length in zip(cycle(('pan', 'card', 'zoom', 'life')), PIECES * self.count)
+                     for _ in range(length)]
             with open(part, 'wb') as out:
-                for name, number in frames:
+                for number, name in enumerate(names[:self.count]):
                     with open(name + '.yuv', 'rb') as clip:
                         clip.seek(size * number)
                         out.write(clip.read(size))
@@ -189,14 +188,13 @@ def sizes_of(all_points):
 
 
 def row(*cells):
-    print('| ' + ' | '.join(map(str, cells)) + ' |')
+    return '| ' + ' | '.join(map(str, cells)) + ' |'
 
 
 def main():
     program, count = str(Path(sys.argv[1]).resolve()), int((sys.argv[3:] or ['60'])[0])
     folder = Path((sys.argv[2:] or ['/tmp/quality'])[0])
     folder.mkdir(parents=True, exist_ok=True)
-    import os
     os.chdir(folder)
     coders = [coder for coder in CODERS if coder != 'mpeg2enc' or shutil.which(coder)]
     clips = [Clip(name, count) for name in CLIPS]
@@ -211,22 +209,21 @@ def main():
                     continue
                 found.setdefault((clip.name, coder), []).append(figures(program, coder, clip, mbits))
                 print(clip.name, coder, mbits, *found[clip.name, coder][-1], file=sys.stderr, flush=True)
-    row('', *[CODERS[coder] for coder in coders])
-    row(*['---'] * (len(coders) + 1))
-    for name in CLIPS:
-        points = {coder: found[name, coder] for coder in coders if (name, coder) in found}
+    print(row('', *[CODERS[coder] for coder in coders]))
+    print(row(*['---'] * (len(coders) + 1)))
+    for clip in clips:
+        points = {coder: found[clip.name, coder] for coder in coders if (clip.name, coder) in found}
         sizes = sizes_of(points.values())
-        cells = ['–' if coder not in points else ', '.join(
+        print(row(clip.what, *['–' if coder not in points else ', '.join(
             '%.1f' % (sum(at_size(points[coder], size, which) for size in sizes) / len(sizes)) for which in (1, 2))
-            for coder in coders]
-        row(CLIPS[name][0], *cells)
-    print()
-    row('', 'Mbit/s', *[CODERS[coder] for coder in coders])
-    row(*['---'] * (len(coders) + 2))
-    for name in CLIPS:
-        for index, mbits in sorted(enumerate(MBITS), key=lambda pair: pair[1]):
-            row(name, mbits, *['%d bytes, %.2f, %.2f' % found[name, coder][index] if (name, coder) in found else '–'
-                               for coder in coders])
+            for coder in coders]))
+    with open('by_rate.md', 'w', encoding='utf-8') as file:
+        print(row('bytes, mean, worst', 'Mbit/s', *[CODERS[coder] for coder in coders]), file=file)
+        print(row(*['---'] * (len(coders) + 2)), file=file)
+        for clip in clips:
+            for index, mbits in sorted(enumerate(MBITS), key=lambda pair: pair[1]):
+                print(row(clip.what, mbits, *['%d, %.2f, %.2f' % found[clip.name, coder][index]
+                                              if (clip.name, coder) in found else '–' for coder in coders]), file=file)
 
 
 if __name__ == '__main__':

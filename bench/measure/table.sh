@@ -1,8 +1,8 @@
 #!/usr/bin/env bash
-# Prints what the README says of speed, as it stands there.
+# Prints what the README says of speed and of how good pictures are, as it stands there.
 #
-# That is the table of coding by encode.sh and that of decoding and checking by decode.sh, beside the peers that are
-# installed. Standard error says which of these aren't, and has a line a clip.
+# That is the table of coding by encode.sh, that of decoding and checking by decode.sh, and that of both plans at equal bytes
+# by quality.py, beside the peers that are installed. Standard error says which of these aren't, and has a line a clip.
 #
 #     bench/measure/table.sh PROGRAM [FOLDER]
 #
@@ -21,3 +21,9 @@ echo
 echo "Decoding and checking clips of that size, four seconds each, five of them at 6 Mbit/s and one of I pictures at 15, the least and the most over the clips:"
 echo
 "$here/decode.sh" "$program" "$folder"
+if command -v ffmpeg > /dev/null; then
+    echo
+    echo "How good pictures are by both plans, beside other coders at equal bytes: the likeness of luma to the source (PSNR, dB), of a clip's frames in the mean, and of its worst frame:"
+    echo
+    "$here/quality.py" "$program" "$folder/quality"
+fi
