@@ -17,13 +17,13 @@ speed=$(awk '/^cpu MHz/ { printf " at %.1f GHz", $NF / 1000; exit }' /proc/cpuin
 echo "On $(nproc) processors$speed. Coding 25 frames of 720 by 576 samples, a pan with moving parts and noise, in frames a second; vectors are looked for so many samples far:"
 echo
 "$here/encode.sh" "$program" "$folder"
-echo
-echo "Decoding and checking clips of that size, four seconds each, five of them at 6 Mbit/s and one of I pictures at 15, the least and the most over the clips:"
-echo
-"$here/decode.sh" "$program" "$folder"
 if command -v ffmpeg > /dev/null; then
     echo
     echo "How good pictures are by both plans, beside other coders at equal bytes: the likeness of luma to the source (PSNR, dB), of a clip's frames in the mean, and of its worst frame:"
     echo
     "$here/quality.py" "$program" "$folder/quality"
 fi
+echo
+echo "Decoding and checking clips of that size, four seconds each, five of them at 6 Mbit/s and one of I pictures at 15, the least and the most over the clips:"
+echo
+"$here/decode.sh" "$program" "$folder"
