@@ -45,6 +45,8 @@ CLIPS = {
     'fields': ('the same as fields', 'interlaced', 'fields'),
     'film': ('film shown at the rate of video', MOVING % ('720x480', '24000/1001'), 'film'),
 }
+# ffmpeg codes neither field pictures nor film with pulldown, and mpeg2enc breaks off at field pictures
+LEFT_OUT = {'fields': ('ffmpeg', 'ffmpeg_rd', 'mpeg2enc'), 'film': ('ffmpeg', 'ffmpeg_rd')}
 CODERS = {
     'even': '`--plan even`', 'weights': '`--plan weights`', 'ffmpeg': 'ffmpeg',
     'ffmpeg_rd': 'ffmpeg, `-mbd rd -trellis 1`', 'mpeg2enc': 'mpeg2enc',
@@ -127,12 +129,12 @@ def by_ffmpeg(clip, mbits, stream, *more):
 
 def by_mpeg2enc(program, clip, mbits, stream):
     width, height = clip.size.split('x')
-    scan = ['-p'] if clip.scan == 'film' else ['-I', {'progressive': 0, 'frames': 1, 'fields': 2}[clip.scan]]
+    scan = ['-p'] if clip.scan == 'film' else ['-I', int(clip.scan == 'frames')]
     words = ['mpeg2enc', '-v', 0, '-f', 3, '-b', mbits * 1000, '-V', 2 * buffer_of(mbits), '-r', 15, '-g', 12, '-G', 12, '-R', 2, '-M', 0,
              *scan, '-o', stream]
     with open(clip.path, 'rb') as frames, open('mpeg2enc.log', 'wb') as log_file:
         pack = subprocess.Popen([program, 'pack', width, height, '1' if clip.scan == 'film' else '3',
-                                 *(['--top'] if clip.scan in ('frames', 'fields') else [])],
+                                 *(['--top'] if clip.scan == 'frames' else [])],
                                 stdin=frames, stdout=subprocess.PIPE, stderr=subprocess.PIPE)
         run(*words, stdin=pack.stdout, stdout=log_file, stderr=log_file)
         pack.wait()
@@ -205,7 +207,7 @@ def main():
     for coder in sorted(coders, key=('even', 'weights', 'ffmpeg', 'ffmpeg_rd', 'mpeg2enc').index):
         for mbits in MBITS:
             for clip in clips:
-                if coder.startswith('ffmpeg') and clip.scan in ('fields', 'film'):
+                if coder in LEFT_OUT.get(clip.scan, ()):
                     continue
                 found.setdefault((clip.name, coder), []).append(figures(program, coder, clip, mbits))
                 print(clip.name, coder, mbits, *found[clip.name, coder][-1], file=sys.stderr, flush=True)

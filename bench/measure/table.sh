@@ -19,7 +19,7 @@ echo
 "$here/encode.sh" "$program" "$folder"
 if command -v ffmpeg > /dev/null; then
     echo
-    echo "How good pictures are by both plans, beside other coders at equal bytes: the likeness of luma to the source (PSNR, dB), of a clip's frames in the mean, and of its worst frame:"
+    echo "How good pictures are at equal bytes, by both plans, and by others with such groups and such a buffer: the likeness of luma to the source (PSNR, dB), over the 60 frames of a clip in the mean, and of its worst frame; each the mean over four sizes between what all wrote at 2, 4, 6 and 8 Mbit/s:"
     echo
     "$here/quality.py" "$program" "$folder/quality"
 fi
