@@ -17,14 +17,30 @@ failed=0
 
 # bytes HEX..: the bytes of hexadecimal numbers.
 bytes() { printf "$(printf '\\x%s' $*)"; }
-# clip WIDTH HEIGHT FRAMES LUMA: raw frames, their luma by frame t, line y and column c, with grey chroma.
+# clip WIDTH HEIGHT FRAMES LUMA: raw frames, their luma by frame t, line y and column c, with grey chroma. A draw is that of
+# `make 1`: its state has four parts of 16 bits, the lowest first.
 clip() {
-  printf "$(awk -v w="$1" -v h="$2" -v n="$3" "BEGIN {
-    for (t = 0; t < n; t++) {
-      for (y = 0; y < h; y++) for (c = 0; c < w; c++) printf \"\\\\x%02x\", $4
-      for (i = 0; i < w * h / 2; i++) printf \"\\\\x80\"
+  printf "$(awk -v w="$1" -v h="$2" -v n="$3" "
+    function draw(  i, j, next_state) {
+      for (i = 0; i < 4; i++) {
+        next_state[i] += add[i]
+        for (j = 0; i + j < 4; j++) next_state[i + j] += state[i] * times[j]
+      }
+      for (i = 0; i < 4; i++) {
+        next_state[i + 1] += int(next_state[i] / 65536)
+        state[i] = next_state[i] % 65536
+      }
+      return int(state[3] / 256)
     }
-  }")"
+    BEGIN {
+      state[0] = 1; state[1] = state[2] = state[3] = 0
+      times[0] = 32557; times[1] = 19605; times[2] = 62509; times[3] = 22609
+      add[0] = 33103; add[1] = 63335; add[2] = 31614; add[3] = 5125
+      for (t = 0; t < n; t++) {
+        for (y = 0; y < h; y++) for (c = 0; c < w; c++) printf \"\\\\x%02x\", $4
+        for (i = 0; i < w * h / 2; i++) printf \"\\\\x80\"
+      }
+    }")"
 }
 # grey N: N bytes of value 128.
 grey() { head -c "$1" /dev/zero | tr '\0' '\200'; }
@@ -132,6 +148,26 @@ for workers in 1 4; do
 done
 cp out in
 holds 'check: a cut by the source' 0 'lawful frames 14 pictures 14 bytes 14806 low 0 high 49148 delays 0' none check
+noisy='(3 * c + 2 * y + 5 * t) % 128 + 32 + int(draw() / 16)'
+# its sixth picture is the worked plan of docs/ENCODER.md
+clip 48 32 14 "$noisy" > in
+even 'noise in two groups' 'frames 14 pictures 14 bytes 9076 stuffing 0' \
+  996f058685299e3d373aa6781182af02dce96ace27f3061f56ffb339dc57fc05 \
+  --width 48 --height 32 --rate 3 --bits 300 --buffer 2 --search 3
+clip 32 32 9 "$noisy" > in
+even 'closed groups of 4' 'frames 9 pictures 9 bytes 3956 stuffing 0' \
+  72b23daf6d1b1306c51fba0b23216c90c71c1849fc7420000c54599edfafaec2 \
+  --width 32 --height 32 --rate 3 --bits 200 --buffer 2 --group 4 --step 2 --closed --search 2
+clip 64 32 4 "$noisy" > in
+even 'High level' 'frames 4 pictures 4 bytes 5258 stuffing 0' 33973de1e13acaa479a24a56ef785f61fc92ab08165064306f1257c1f7d0a544 \
+  --width 64 --height 32 --rate 8 --bits 4000 --buffer 20 --level high --search 2
+clip 32 32 6 '(7 * c + 11 * y + 5 * t) % 256' > in
+even 'vectors 15 samples far' 'frames 6 pictures 6 bytes 1718 stuffing 20' \
+  c2c9acc6e693a8a318d6a5d91bc6d59fdff571220ef93149b6fb212a005aa8c9 --width 32 --height 32 --rate 3 --bits 300 --buffer 3
+clip 32 32 7 '(t < 5 ? (c + y + 2 * t) % 64 + 64 : (29 * c + 41 * y + 13 * t) % 256)' > in
+even 'groups of one frame' 'frames 7 pictures 7 bytes 4185 stuffing 1068' \
+  65ac87774c829a8f8cb5fa0e2719f0951f124c0514ab04a7e705885f74a2d5f0 \
+  --width 32 --height 32 --rate 3 --bits 300 --buffer 2 --group 1 --step 1
 clip 32 64 5 '(5 * c + 3 * y + 40 * (y % 2) + 8 * t) % 256' > in
 even fields 'frames 5 pictures 10 bytes 3218 stuffing 0' 60022bece0da715f4aa55cec296c0dc0a854fcc2290dd89f20a28d84043067e8 \
   --width 32 --height 64 --rate 3 --bits 400 --buffer 3 --scan fields --group 4 --step 2 --search 3
