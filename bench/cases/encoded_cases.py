@@ -272,8 +272,8 @@ def slope(name, step, width, *starts):
 def slanted(width, height, count, across=7, down=11, time=5, odd=0):
     """Frames of luma (across c + down y + odd (y mod 2) + time t) mod 256 and grey chroma."""
     chroma = '%d*80' % (2 * ((width + 1) // 2) * ((height + 1) // 2))
-    return [[*slope('by_%d' % across, across, width, *[down * y + odd * (y % 2) + time * t for y in range(height)]), chroma]
-            for t in range(count)]
+    starts = [[down * y + odd * (y % 2) + time * t for y in range(height)] for t in range(count)]
+    return [[*slope('by_%d' % across, across, width, *frame), chroma] for frame in starts]
 
 
 def beside_even(width, height, count):
@@ -329,7 +329,8 @@ def by_source():
             ('one frame of noise among even ones, for which more is kept than is held',
              {**small, 'bits': 300, 'buffer': 1, 'search': 2}, ['3456*20'] * 6 + noise(3456, 0) + ['3456*20'] * 3),
             ('one frame of noise among still ones, for which more is kept than is held',
-             {**small, 'bits': 300, 'buffer': 1, 'search': 2}, edges(3456, *[0] * 6) + noise(3456, 0) + edges(3456, 0, 0, 0)),
+             {**small, 'bits': 300, 'buffer': 1, 'search': 2},
+             edges(3456, *[0] * 6) + noise(3456, 0) + edges(3456, 0, 0, 0)),
             ('P pictures alone', {**small, 'bits': 300, 'buffer': 3, 'group': 5, 'step': 1},
              edges(3456, 0, 3, 6, 9, 50, 53, 56)),
             ('noise at High level', {**small, 'bits': 20000, 'buffer': 100, 'rate': 8, 'level': 'high'},
@@ -343,7 +344,8 @@ def by_source():
             content('by the source: %s, by eight workers' % name, {**settings, 'workers': 8, **even}, frames)
     content('by weights, as it is said', {**small, 'bits': 400, 'buffer': 4, 'plan': 'weights'},
             edges(3456, 0, 3, 9) + noise(3456, 0, 1))
-    content('by weights, where it is not said', {**small, 'bits': 400, 'buffer': 4}, edges(3456, 0, 3, 9) + noise(3456, 0, 1))
+    content('by weights, where it is not said', {**small, 'bits': 400, 'buffer': 4},
+            edges(3456, 0, 3, 9) + noise(3456, 0, 1))
     assert CASES[-1][2][-2:] == CASES[-2][2][-2:]
     one = {**SMALL, 'group': 1, 'step': 1, **even}
     case('by the source: settings that do not pass', {**SMALL, 'bits': 30, **even}, 0, more=['input 384*80'])
@@ -416,7 +418,8 @@ def words():
          comment="By clap's rule on words.")
     case('with all that stands unless said', None, words=plain + ' --group 12 --step 3 --scan progressive --search 15'
          ' --aspect 2 --workers 1 --level main --delay 27189 --plan weights', instead=grey)
-    case('a plan with an equal sign', None, words=plain + ' --plan=even', instead=wanted(Settings(**SMALL, plan='even'), 1, 0, None))
+    case('a plan with an equal sign', None, words=plain + ' --plan=even',
+         instead=wanted(Settings(**SMALL, plan='even'), 1, 0, None))
 
 
 def endings():
@@ -470,7 +473,8 @@ def endpoints():
 
 
 for step in (5, 7, 37):
-    known('by_%d' % step, *[' '.join('%02X' % (step * k % 256) for k in range(first, first + 34)) for first in range(0, 340, 34)])
+    known('by_%d' % step, *[' '.join('%02X' % (step * k % 256) for k in range(first, first + 34))
+                            for first in range(0, 340, 34)])
 TEXTURED = '= interlaced_textured', '= fields_textured', '= nine_textured', '= six_textured'
 known('noise', *TEXTURED, *TEXTURED, *TEXTURED)
 for name, values in (('stripes', (16, 80, 200, 120)), ('half_stripes', (48, 140, 160, 68))):

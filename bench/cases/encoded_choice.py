@@ -3,10 +3,11 @@ candidates in order, and the first of least score among those that fit. It share
 bench/cases/encoded.py makes streams with it.
 
 A candidate's score is 8 times the sum of squared differences of its 384 samples plus its bits times the square of
-twice the quantiser of its macroblock, which is the planned one, or above it where the plan goes by the source. It fits where it has at most 4,608 bits, and leaves 31 bits for each later
-macroblock of its slice. The candidates are: to hold (intra with the predictors' levels; forward or backward by the
-vector 0 from the same lines), to skip, intra, and each prediction without a block and with blocks; what has
-coefficients at the macroblock's quantiser and at 8 more, and in interlaced frames with both orders of lines."""
+twice the quantiser of its macroblock, which is the planned one, or above it where the plan goes by the source. It fits
+where it has at most 4,608 bits, and leaves 31 bits for each later macroblock of its slice. The candidates are: to hold
+(intra with the predictors' levels; forward or backward by the vector 0 from the same lines), to skip, intra, and each
+prediction without a block and with blocks; what has coefficients at the macroblock's quantiser and at 8 more, and in
+interlaced frames with both orders of lines."""
 
 from copy import deepcopy
 

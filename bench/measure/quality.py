@@ -130,8 +130,8 @@ def by_ffmpeg(clip, mbits, stream, *more):
 def by_mpeg2enc(program, clip, mbits, stream):
     width, height = clip.size.split('x')
     scan = ['-p'] if clip.scan == 'film' else ['-I', int(clip.scan == 'frames')]
-    words = ['mpeg2enc', '-v', 0, '-f', 3, '-b', mbits * 1000, '-V', 2 * buffer_of(mbits), '-r', 15, '-g', 12, '-G', 12, '-R', 2, '-M', 0,
-             *scan, '-o', stream]
+    words = ['mpeg2enc', '-v', 0, '-f', 3, '-b', mbits * 1000, '-V', 2 * buffer_of(mbits), '-r', 15, '-g', 12, '-G', 12,
+             '-R', 2, '-M', 0, *scan, '-o', stream]
     with open(clip.path, 'rb') as frames, open('mpeg2enc.log', 'wb') as log_file:
         pack = subprocess.Popen([program, 'pack', width, height, '1' if clip.scan == 'film' else '3',
                                  *(['--top'] if clip.scan == 'frames' else [])],
