@@ -10,6 +10,9 @@ mod decoder;
 mod frames;
 mod halt;
 mod notes;
+mod pass;
+mod passing;
+mod reader;
 mod reading;
 mod rebuilt;
 mod slice;
@@ -22,6 +25,7 @@ pub use frames::put_due;
 pub use m2v_dec_piece::{Cutter, DecodeError, Fault, Piece};
 pub use m2v_dec_rows as dec_rows;
 pub use m2v_dec_rows::{Opened, SliceUnit, dec_picture, dec_unit, read_row};
+pub use reader::Reader;
 pub use rebuilt::PictureRows;
 pub use whole::{decode, finish};
 
