@@ -1,7 +1,7 @@
 -- A reader leads each decoder that has come as far on as it goes on itself.
-use Rattle.std.proofs.Common.{◌≡◌, ℕ, ◌+◌, ◌*◌, ◌-◌, ◌≤◌, Bool, true, false, List, [], ◌∷◌, ◌++◌, length, Option, Some, None, option_to_list, Ok, Err, refl, sym, ap, subst, ◌∙◌, arith}
+use Rattle.std.proofs.Common.{◌≡◌, ℕ, ◌+◌, ◌*◌, ◌-◌, ◌≤◌, Bool, false, List, [], ◌∷◌, ◌++◌, length, Option, Some, None, option_to_list, Ok, Err, refl, sym, ap, subst, ◌∙◌, arith}
 use Rattle.std.specs.Prelude.{◌||◌, ◌==◌}
-use Rattle.std.proofs.lemmas.List.{append-nil, length-append}
+use Rattle.std.proofs.lemmas.List.{length-append}
 use Rattle.m2v_plane.specs.Samples.{Samples}
 use Rattle.m2v_order.specs.Display.{Holder, shown as shown_step, held, handed, held_after}
 use Rattle.m2v_model.specs.declared.fault.FaultKind.{FaultKind}
@@ -13,18 +13,18 @@ use Rattle.m2v_model.specs.Pictures.{Store, Pictures, Events, no_references, pic
 use Rattle.m2v_model.specs.PieceNotes.{noted}
 use Rattle.m2v_model.specs.Buffering.{before_picture}
 use Rattle.m2v_model.specs.Decoding.{low_delay_of}
-use Rattle.m2v_model.specs.ByPieces.{Between, units_read, piece_read, end_read}
+use Rattle.m2v_model.specs.ByPieces.{Between, units_read, piece_read}
 use Rattle.m2v_model.proofs.PieceLaws.{placed, piece_is}
 use Rattle.m2v_dec_rows.specs.m2v_dec_picture.declared.gallery.Reading.{Reading as PictureReading}
 use Rattle.m2v_dec_rows.specs.m2v_dec_picture.Frames.{Frames, references_at, store_of}
 use Rattle.m2v_decode.specs.declared.pass.Pass.{Pass}
 use Rattle.m2v_decode.specs.Course.{no_notes, with_events}
-use Rattle.m2v_decode.specs.Decoding.{Decoding, at_start, between, due_of, Agrees, queue_of, decoded_of, dropped_in, ShowsFrames, Advanced}
-use Rattle.m2v_decode.specs.Passing.{ReadsWith, ReadsAll}
+use Rattle.m2v_decode.specs.Decoding.{Decoding, at_start, between, Agrees, queue_of, decoded_of, dropped_in, ShowsFrames}
+use Rattle.m2v_decode.specs.Passing.{ReadsAll}
 use Rattle.m2v_decode.specs.Reading.{Reading, nothing_read, Follows, LeadsOn}
-use Rattle.m2v_decode.specs.Progress.{HasPut}
 use Rattle.m2v_decode.proofs.CourseLaws.{count_by_test}
 use Rattle.m2v_decode.proofs.EndLaws.{whole_few, notes_are}
+use Rattle.m2v_decode.proofs.Going.{due_ready, drained}
 
 abbrev at : State → Store → Between
 at st store = record { state = st; store = store }
@@ -134,25 +134,6 @@ refuses old c us left place many where_at kind whole e state is long where_is d 
 
 -- ---- frames that are handed out
 
--- a decoder whose frames that are due were handed out
-abbrev pub drained : Decoding → Decoding
-drained d = record d { ready = []; shown = d.shown + length (due_of d) }
-
-due_ready : (d : Decoding) → d.ended ≡ false → due_of d ≡ d.ready
-due_ready d going = rw going (append-nil d.ready)
-
-pub has_put : (d : Decoding) → d.ended ≡ false → HasPut d (drained d)
-has_put d going = record {
-  none = due_ready (drained d) going;
-  between_is = refl;
-  anchor = λ still. refl;
-  ended = refl;
-  failed = refl;
-  pictures = refl;
-  dropped = refl;
-  shown = refl;
-}
-
 pub follows_drained : (r : Reading) (d : Decoding) → d.ended ≡ false → Follows r d → Follows r (drained d)
 follows_drained r d going f = record {
   state = f.state;
@@ -167,7 +148,3 @@ follows_drained r d going f = record {
 -- before the first piece
 pub follows_none : Follows nothing_read at_start
 follows_none = record { state = refl; pictures = refl; dropped = refl; frames = refl; ended = refl; failed = refl; reading = refl }
-
--- the frames that a decoder has shown once the end has come
-pub all_shown : (r : Reading) (d : Decoding) → Follows r d → r.frames ≡ d.shown + length (due_of (record d { ended = true }))
-all_shown r d f = let frames = f.frames in omega (arith, frames, length-append d.ready (option_to_list d.anchor))

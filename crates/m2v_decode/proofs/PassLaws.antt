@@ -1,17 +1,16 @@
 -- What each part of the stream does to a reader.
-use Rattle.std.proofs.Common.{◌≡◌, ℕ, ◌+◌, ◌*◌, ◌<◌, ◌≤◌, ◌^◌, Bool, true, false, List, [], ◌∷◌, ◌++◌, length, Option, Some, None, is_some, Result, Ok, Err, refl, sym, ap, subst, ◌∙◌, arith}
+use Rattle.std.proofs.Common.{◌≡◌, ℕ, ◌+◌, ◌*◌, ◌<◌, ◌≤◌, ◌^◌, Bool, true, false, List, [], ◌∷◌, ◌++◌, length, Option, Some, None, is_some, Ok, refl, sym, ap, subst, ◌∙◌, arith}
 use Rattle.std.specs.Prelude.{not, nat_le, nat_eq, ◌&&◌, ◌||◌, if◌then◌else◌}
 use Rattle.std.proofs.lemmas.Bool.{and_parts}
 use Rattle.std.proofs.lemmas.List.{append-nil, length-append}
-use Rattle.m2v_plane.specs.Sizes.{IsSize}
 use Rattle.m2v_head.specs.Fits.{PictureFits}
 use Rattle.m2v_model.specs.declared.state.Sequence.{Sequence}
 use Rattle.m2v_model.specs.declared.state.Open.{Open}
 use Rattle.m2v_model.specs.declared.state.State.{State}
-use Rattle.m2v_model.specs.States.{dims_of, is_b, is_frame, is_frame_end, drops, opened, picture_rows, slice_setup, first_or, is_same_sequence, after_end, after_slice, with_slice, with_unread_slice, after_unread_slice}
-use Rattle.m2v_model.specs.Units.{Units, body}
-use Rattle.m2v_model.specs.Slices.{Slice, slice_at}
-use Rattle.m2v_model.specs.Streams.{after, slice, unread_slice, ending, over}
+use Rattle.m2v_model.specs.States.{dims_of, is_b, is_frame, is_frame_end, drops, opened, picture_rows, slice_setup, after_end, after_slice, with_slice, with_unread_slice, after_unread_slice}
+use Rattle.m2v_model.specs.Units.{body}
+use Rattle.m2v_model.specs.Slices.{slice_at}
+use Rattle.m2v_model.specs.Streams.{after, slice, unread_slice, over}
 use Rattle.m2v_model.specs.Pictures.{Picture, Pictures, Store, Events, picture_of, pictures_in, closed, told_by}
 use Rattle.m2v_model.specs.PieceNotes.{noted}
 use Rattle.m2v_model.proofs.EventLaws.{pictures_in-append}
@@ -22,7 +21,7 @@ use Rattle.m2v_dec_rows.specs.m2v_dec_unit.declared.header.Header.{Header}
 use Rattle.m2v_dec_rows.specs.m2v_dec_unit.declared.header.Header.TheVariants as headers
 use Rattle.m2v_dec_rows.specs.m2v_dec_picture.declared.slices.SliceEnd.{SliceEnd}
 use Rattle.m2v_dec_rows.specs.m2v_dec_picture.Reads.{PassesSlice}
-use Rattle.m2v_dec_rows.proofs.StateLaws.{same_dims}
+use Rattle.m2v_dec_rows.proofs.StateLaws.{size_next, size_there}
 use Rattle.m2v_decode.specs.declared.pass.Pass.{Pass}
 use Rattle.m2v_decode.specs.Decoding.{decoded_of, dropped_in}
 use Rattle.m2v_decode.specs.Course.{IsOpen, with_events}
@@ -30,6 +29,7 @@ use Rattle.m2v_decode.specs.Passing.{StandsOpen, AreSoundHeaders, IsSoundPass, T
 use Rattle.m2v_decode.proofs.NoteLaws.{notes_same, noted_on}
 use Rattle.m2v_decode.proofs.Showing.{decoded-append, dropped-append}
 use Rattle.m2v_decode.proofs.FrameLaws.{rest_same, moved, moves}
+use Rattle.m2v_decode.proofs.CourseLaws.{open_dropped, few_dropped}
 use Rattle.m2v_decode.proofs.StepLaws.{row_within, most_covered}
 use Rattle.m2v_model.specs.declared.setup.SliceSetup.{SliceSetup}
 
@@ -86,10 +86,6 @@ pub frame_counted : (p : Open) (store : Store) → IsOpen p → length (decoded_
 unfolding picture_of
 frame_counted p store o = one_frame (is_frame_end p) p.dropped (picture_of p store) refl refl o.dropped
 
-few_counted : (b : Bool) → (if b then 1 else 0) ≤ 1
-few_counted true = omega arith
-few_counted false = omega arith
-
 opened_as : (s : Option Sequence) (p : Open) → StandsOpen (Some p) s → IsOpen p
 opened_as (Some s) p h = h
 opened_as None p h = absurd h
@@ -101,28 +97,20 @@ open_there st p h is = opened_as st.sequence p (subst (λ (o : Option Open). Sta
 shut : (st : State) → AreSoundHeaders st → AreSoundHeaders (after_end st)
 shut st h = record { headers_only = h.headers_only; matrices = h.matrices; size = h.size; fits = tt }
 
-one_more : (p : Open) (store : Store) → dropped_in (picture_of p store ∷ []) ≤ 1
-unfolding picture_of
-one_more p store = dropped_few p.dropped refl
-  where
-    dropped_few : (b : Bool) → p.dropped ≡ b → dropped_in (picture_of p store ∷ []) ≤ 1
-    dropped_few true e = rw e (omega (arith))
-    dropped_few false e = rw e (omega (arith))
-
 pub ends_some : (old d : Pass) (p : Open) → IsSoundPass old → old.state.picture ≡ Some p → d.state ≡ old.state → ((store : Store) → Tells old (closed (Some p) store) d) → (any : Store) → Ends old (record d { state = record d.state { picture = None } })
 ends_some old d p sound is same tells any =
     let z : Pass = record d { state = record d.state { picture = None } } in
     let state : z.state ≡ after_end old.state = ap after_end same in
     let t = tells any in
     let frames = frame_counted p any (open_there old.state p sound.state is) in
-    let few = few_counted (makes_frame p) in
-    let dropped = one_more p any in
+    let few = few_dropped (makes_frame p) in
+    let more = few_dropped p.dropped in
     record {
       state = state;
       tells = λ store. subst (λ (o : Option Open). Tells old (closed o store) z) (sym is) (tells_same old d z (closed (Some p) store) (tells store) refl refl refl refl refl);
       sound = record {
         state = subst AreSoundHeaders (sym state) (shut old.state sound.state);
-        dropped = omega (arith, sound.dropped, t.dropped, t.pictures, dropped);
+        dropped = omega (arith, sound.dropped, t.dropped, t.pictures, open_dropped p any, more);
         frames = omega (arith, sound.frames, t.frames, t.pictures, frames, few);
       };
     }
@@ -136,12 +124,6 @@ ends_none old sound none = record {
 }
 
 -- ---- headers
-
-size_next : (first z : Option Sequence) (s : Sequence) → HaveOneSize first z → IsSize (dims_of s) → is_same_sequence first s ≡ true → HaveOneSize (Some (first_or first s)) (Some s)
-size_next (Some first) (Some z) s h size same = (size, same_dims first s same)
-size_next None None s h size same = (size, refl)
-size_next (Some first) None s h size same = absurd h
-size_next None (Some z) s h size same = absurd h
 
 open_behind : (q : Option Sequence) (p : Open) → is_some q ≡ true → IsOpen p → StandsOpen (Some p) q
 open_behind (Some s) p some o = o
@@ -310,10 +292,6 @@ pub noted_none : (old : Pass) (h : Header) → told_of h ≡ [] → Noted old h 
 noted_none old h none = record { state = refl; tells = subst (λ (es : Events). Tells old es old) (sym none) (tells_none old old refl refl refl refl refl) }
 
 -- ---- one slice
-
-size_there : (first : Option Sequence) (s : Sequence) → HaveOneSize first (Some s) → IsSize (dims_of s)
-size_there (Some first) s h = h.0
-size_there None s h = absurd h
 
 pub slice_passed : (old new : Pass) (s : Sequence) (p : Open) (setup : SliceSetup) (row : ℕ) (u : List ℕ) (text rest : List Bool) (end : SliceEnd) → setup ≡ slice_setup old.state s p → IsSoundPass old → old.state.sequence ≡ Some s
     → row < picture_rows s p → text ≡ body u → PassesSlice setup p.covered row text (Ok end) rest → end.covered ≤ (row + 1) * setup.context.columns → p.covered + end.large ≤ end.covered

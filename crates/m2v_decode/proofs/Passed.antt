@@ -1,13 +1,13 @@
 -- Unit after unit, of which nothing is painted: what stands after one more, whatever frames are at hand, and where reading
 -- stops.
-use Rattle.std.proofs.Common.{◌≡◌, ℕ, ◌+◌, ◌≤◌, Bool, true, false, List, [], ◌∷◌, ◌++◌, length, Option, Some, None, Ok, Err, refl, sym, ap, subst, ◌∙◌, arith}
+use Rattle.std.proofs.Common.{◌≡◌, ℕ, ◌+◌, ◌≤◌, Bool, true, false, [], ◌++◌, length, Option, Some, None, Ok, Err, refl, sym, ap, subst, ◌∙◌, arith}
 use Rattle.std.proofs.lemmas.List.{append-nil, length-append}
 use Rattle.m2v_model.specs.declared.state.Sequence.{Sequence}
 use Rattle.m2v_model.specs.declared.state.Open.{Open}
 use Rattle.m2v_model.specs.declared.state.State.{State}
 use Rattle.m2v_model.specs.Units.{Units}
 use Rattle.m2v_model.specs.Streams.{Part, after, sequence, group, picture, matrices, slice, unread_slice, skipped_unit, ending, over}
-use Rattle.m2v_model.specs.Pictures.{Store, Pictures, Events, pictures_in, no_references, picture_ended, sliced, told_by, store_after}
+use Rattle.m2v_model.specs.Pictures.{Store, Events, pictures_in, no_references, picture_ended, sliced, told_by, store_after}
 use Rattle.m2v_model.specs.ByPieces.{Between, behind, unit_read, units_read, after_part}
 use Rattle.m2v_model.specs.States.{with_slice, with_unread_slice}
 use Rattle.m2v_model.proofs.FlowLaws.{read_err, read_more, read_last, unit_less}
@@ -18,7 +18,7 @@ use Rattle.m2v_decode.specs.declared.pass.Pass.{Pass}
 use Rattle.m2v_decode.specs.declared.halt.Halt.{Halt}
 use Rattle.m2v_decode.specs.declared.halt.Halt.TheVariants as halts
 use Rattle.m2v_decode.specs.Decoding.{Agrees}
-use Rattle.m2v_decode.specs.Passing.{StandsOpen, AreSoundHeaders, IsSoundPass, Tells, Passes, Rounds, Rests, ReadsWith, ReadsAll, PassStops}
+use Rattle.m2v_decode.specs.Passing.{StandsOpen, IsSoundPass, Tells, Passes, Rounds, Rests, ReadsAll, PassStops}
 use Rattle.m2v_decode.proofs.FrameLaws.{moves}
 use Rattle.m2v_decode.proofs.PassLaws.{tells_none, tells_on}
 use Rattle.m2v_decode.proofs.ReadLaws.{agrees_before, one_told, none_told}

@@ -1,5 +1,5 @@
 -- A reader at work in a piece: what a part of the stream does to it, whatever frames are at hand.
-use Rattle.std.specs.Prelude.{◌≡◌, ℕ, ◌+◌, ◌^◌, ◌≤◌, true, false, not, List, [], ◌∷◌, length, Bool, ◌&&◌, Option, Some, None, Result, Ok, Err, if◌then◌else◌}
+use Rattle.std.specs.Prelude.{◌≡◌, ℕ, ◌+◌, ◌^◌, ◌≤◌, false, not, List, [], ◌∷◌, length, Bool, ◌&&◌, Option, Some, None, Result, Ok, Err}
 use Rattle.m2v_model.specs.declared.fault.FaultKind.{FaultKind}
 use Rattle.m2v_model.specs.declared.stop.Stop.{Stop}
 use Rattle.m2v_model.specs.declared.state.Sequence.{Sequence}

@@ -3,8 +3,8 @@ use Rattle.std.proofs.lemmas.Result.{err_from_is_err_and}
 use Rattle.m2v_port.proofs.Runs.{rose_since}
 use Rattle.m2v_decode.specs.Decoding.{at_start}
 use Rattle.m2v_decode.proofs.EndLaws.{whole_length}
-use Rattle.m2v_decode.proofs.Following.{drained, has_put, follows_none, follows_drained}
-use Rattle.m2v_decode.proofs.Going.{progress_none, progress_more, cutter_stopped, piece_refused, pieces_done}
+use Rattle.m2v_decode.proofs.Following.{follows_none, follows_drained}
+use Rattle.m2v_decode.proofs.Going.{drained, has_put, progress_none, progress_more, cutter_stopped, piece_refused, pieces_done}
 use Rattle.m2v_check.specs.declared.rules.Rules.{Rules}
 use Rattle.m2v_check.specs.Progress.{none_held, none_failed}
 use Rattle.m2v_check.proofs.AnswerLaws.{fails_here}

@@ -1,5 +1,4 @@
 use Rattle.std.proofs.Common.{refl}
-use Rattle.m2v_decode.specs.declared.pass.Pass.{Pass}
 use Rattle.m2v_decode.proofs.PassLaws.{slice_passed}
 use Rattle.m2v_decode.proofs.pass.Pass.read_slice.Goals as goal
 
