@@ -1,6 +1,6 @@
 //! Decoding of streams (ISO/IEC 13818-2): a stream is read piece by piece, and the frames that it shows are written as raw
 //! video as they become due. A [`Decoder`] is handed the pieces: it reads each as the definitions say, tells what is noted
-//! of it, and hands out frames as they are due.
+//! of it, and hands out frames as they are due. A [`Reader`] tells the same of each piece, and has no frames.
 #![tactic(auto)]
 
 mod answer;
