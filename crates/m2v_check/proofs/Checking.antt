@@ -23,10 +23,12 @@ use Rattle.m2v_dec_piece.specs.Cutting.{Cutting, left_of, open_pieces}
 use Rattle.m2v_dec_piece.specs.Stepping.{Handed}
 use Rattle.m2v_decode.specs.Decoding.{Decoding, at_start, between, Advanced, whole_of}
 use Rattle.m2v_decode.specs.Answers.{start_of}
-use Rattle.m2v_decode.specs.Progress.{before_all, HasPut}
+use Rattle.m2v_decode.specs.Reading.{Reading, nothing_read, Follows}
+use Rattle.m2v_decode.specs.Progress.{before_all, HasPut, Progress}
 use Rattle.m2v_decode.proofs.Going.{gave, moved_some}
 use Rattle.m2v_check.specs.declared.judge.Judge.{Judge}
 use Rattle.m2v_check.specs.Running.{no_rules}
+use Rattle.m2v_check.specs.Progress.{no_output}
 use Rattle.m2v_check.specs.Judging.{IsPlaced}
 use Rattle.m2v_model.specs.declared.state.State.{State}
 use Rattle.m2v_check.proofs.Telling.{Says, IsGoodPicture, AreHeaded, HaveDelays, IsGoodState, says_on, says_nothing, units_say, waits_before}
@@ -218,3 +220,11 @@ module _ {S : Type 0} (left : S → Option (List ℕ)) (faults : S → ℕ) wher
       let next = handed.next rest new in
       let here = so text (handed.bytes ++ rest) old (moved_some (left i1) (left i2) handed.bytes rest handed.moved new) in
       subst (λ (ps : List (List ℕ)). JudgedSoFar text ps d j) next.0 here
+
+-- the pieces so far were read by the reader as by a decoder that has come as far, and judged
+pub record SoFar (left : Change) (c : Cutting) (r : Reading) (j : Judge) : Type 0 where
+  pub decoder : Decoding
+  pub follows : Follows r decoder
+  pub progress : Progress left no_output c decoder
+  pub judging : Judging left c decoder j
+  pub shut : decoder.state.picture ≡ None

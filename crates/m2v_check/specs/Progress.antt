@@ -11,7 +11,10 @@ use Rattle.m2v_decode.specs.Answers.{start_of}
 use Rattle.m2v_model.specs.ByPieces.{at_start, pieces_read, end_read}
 use Rattle.m2v_dec_piece.specs.declared.answer.DecodeError.{DecodeError}
 use Rattle.m2v_dec_piece.specs.declared.answer.DecodeError.TheVariants as errors
+use Rattle.m2v_dec_piece.specs.Cutting.{Cutting}
 use Rattle.m2v_decode.specs.Decoding.{Decoding, between, due_of, Finished}
+use Rattle.m2v_decode.specs.Reading.{Reading, Follows}
+use Rattle.m2v_decode.specs.Progress.{IsDone}
 use Rattle.m2v_check.specs.declared.judge.Judge.{Judge}
 use Rattle.m2v_check.specs.declared.judge.Judgement.{Judgement}
 use Rattle.m2v_check.specs.declared.judge.Judgement.TheVariants as judgements
@@ -55,6 +58,13 @@ pub record IsAllJudged (text : List ℕ) (d : Decoding) (j : Judge) : Type 0 whe
 -- the same of the text that the source tells
 abbrev pub IsJudgedText : Change → Decoding → Judge → Type 0
 IsJudgedText left d j = (text rest : List ℕ) → left.old ≡ Some text → left.new ≡ Some rest → IsAllJudged text d j
+
+-- all pieces were read and judged: by the reader as by a decoder that has come as far
+pub record AreJudged (left : Change) (c : Cutting) (r : Reading) (j : Judge) : Type 0 where
+  pub decoder : Decoding
+  pub follows : Follows r decoder
+  pub done : IsDone left no_output c decoder
+  pub judged : IsJudgedText left decoder j
 
 -- the verdict of a judgement, with what is counted of the stream
 abbrev pub verdict_of : Judgement → ℕ → ℕ → ℕ → Verdict

@@ -1,46 +1,35 @@
 ghost use Rattle.std.specs.Prelude.{◌≡◌, ◌≤◌, ◌<◌, ◌^◌, IfOk, IfErr, OnOk, false, None};
 ghost use Rattle.m2v_port.specs.Ends.{change, Tells};
 ghost use Rattle.m2v_decode.specs.Answers.{OfText};
-ghost use Rattle.m2v_decode.specs.Decoding.{at_start};
-ghost use Rattle.m2v_decode.specs.Progress.{before_all, HasPut, IsDone};
+ghost use Rattle.m2v_decode.specs.Decoding.{Decoding};
+ghost use Rattle.m2v_decode.specs.Reading.{nothing_read, Follows};
+ghost use Rattle.m2v_decode.specs.Progress.{before_all};
 ghost use Rattle.m2v_check.specs.Running.{no_rules};
-ghost use Rattle.m2v_check.specs.Progress.{no_output, verdict_of, IsJudgedText, Ends, EndFails};
+ghost use Rattle.m2v_check.specs.Progress.{verdict_of, AreJudged, Ends, EndFails};
 ghost use Rattle.m2v_check.specs.Answers.{IsJudged, Fails, IsAnswered};
 
 use crate::verdict::{Figures, Verdict};
 use crate::{Judge, Judgement};
 use m2v_dec_piece::{Cutter, DecodeError};
-use m2v_decode::Decoder;
+use m2v_decode::Reader;
 use m2v_port::Source;
 use std::alloc::Global;
-
-/// Takes the frames that are due, and hands them back at once: none is looked at.
-fn pass_frames(decoder: &mut Decoder)
-    requires going { decoder.old.failed ≡ false }
-    ensures put { HasPut decoder.old decoder.new }
-{
-    while let Some(frame) = decoder.due() {
-        decoder.recycle(frame);
-    }
-}
 
 /// Reads piece after piece, and judges each.
 fn read_pieces<S: Source>(
     alloc: Global,
     cutter: &mut Cutter,
-    decoder: &mut Decoder,
+    reader: &mut Reader,
     judge: &mut Judge,
     input: &mut S,
 ) -> Result<(), DecodeError>
     requires cutter { cutter.old ≡ before_all }
-    requires decoder { decoder.old ≡ at_start }
+    requires reader { reader.old ≡ nothing_read }
     requires rules { judge.old.rules ≡ no_rules }
     requires none { judge.old.buffer ≡ None }
     requires bytes { judge.old.bytes ≡ 0 }
-    ensures ok { OnOk result (IsDone
-        (change S.left S.faults input.old input.new) no_output cutter.new decoder.new) }
-    ensures judged { OnOk result (IsJudgedText
-        (change S.left S.faults input.old input.new) decoder.new judge.new) }
+    ensures ok { OnOk result (AreJudged
+        (change S.left S.faults input.old input.new) cutter.new reader.new judge.new) }
     ensures most { OnOk result (cutter.new.place ≤ 2 ^ 36) }
     ensures few { OnOk result (judge.new.rules.pictures < 2 ^ 60) }
     ensures err { IfErr result (Fails (change S.left S.faults input.old input.new)) }
@@ -51,9 +40,8 @@ fn read_pieces<S: Source>(
             Err(e) => return Err(e),
             Ok(None) => return Ok(()),
             Ok(Some(piece)) => {
-                let notes = decoder.piece(alloc, &piece)?;
+                let notes = reader.piece(alloc, &piece)?;
                 judge.piece(alloc, &notes, piece.place, piece.length)?;
-                pass_frames(decoder);
             }
         }
     }
@@ -90,22 +78,23 @@ fn verdict(judgement: &Judgement, frames: u64, pictures: u64, bytes: u64) -> Ver
 }
 
 /// Ends the stream, and judges it.
-fn finish(end: u64, decoder: &mut Decoder, judge: &mut Judge) -> Result<Verdict, DecodeError>
-    requires going { decoder.old.failed ≡ false }
-    requires before { decoder.old.ended ≡ false }
+fn finish(end: u64, reader: &mut Reader, judge: &mut Judge) -> Result<Verdict, DecodeError>
+    requires going { reader.old.failed ≡ false }
+    requires before { reader.old.ended ≡ false }
     requires end { end ≤ 2 ^ 36 }
     requires few { judge.old.rules.pictures < 2 ^ 60 }
-    ensures ok { IfOk result (Ends decoder.old end judge.old) }
-    ensures err { IfErr result (EndFails decoder.old end) }
+    ensures ok { IfOk result (λ v. (d : Decoding) → Follows reader.old d
+        → Ends d end judge.old v) }
+    ensures err { IfErr result (λ e. (d : Decoding) → Follows reader.old d
+        → EndFails d end e) }
 {
-    match decoder.end(end) {
+    match reader.end(end) {
         Err(f) => return Err(DecodeError::Stream(f)),
         Ok(()) => {}
     }
-    pass_frames(decoder);
     let bytes = judge.bytes;
     let judgement = judge.finish()?;
-    Ok(verdict(&judgement, decoder.shown(), decoder.pictures(), bytes))
+    Ok(verdict(&judgement, reader.frames(), reader.pictures(), bytes))
 }
 
 /// Reads piece after piece to the end, and judges the stream there.
@@ -116,10 +105,10 @@ fn by_pieces<S: Source>(alloc: Global, input: &mut S) -> Result<Verdict, DecodeE
     ensures input { S.faults input.old ≤ S.faults input.new }
 {
     let mut cutter = Cutter::new(alloc)?;
-    let mut decoder = Decoder::new(alloc)?;
+    let mut reader = Reader::new(alloc);
     let mut judge = Judge::new();
-    read_pieces(alloc, &mut cutter, &mut decoder, &mut judge, input)?;
-    finish(cutter.end(), &mut decoder, &mut judge)
+    read_pieces(alloc, &mut cutter, &mut reader, &mut judge, input)?;
+    finish(cutter.end(), &mut reader, &mut judge)
 }
 
 /// Checks a stream: reads it to its end code or to the input's end, and says whether it keeps the rules, and whether the

@@ -44,7 +44,7 @@ same_dims first s e =
     λ i. dims_by (width i) (height i) (scan i)
 
 -- behind a sequence header
-size_next : (first z : Option Sequence) (s : Sequence) → HaveOneSize first z → IsSize (dims_of s) → is_same_sequence first s ≡ true → HaveOneSize (Some (first_or first s)) (Some s)
+pub size_next : (first z : Option Sequence) (s : Sequence) → HaveOneSize first z → IsSize (dims_of s) → is_same_sequence first s ≡ true → HaveOneSize (Some (first_or first s)) (Some s)
 size_next (Some first) (Some z) s h size same = (size, same_dims first s same)
 size_next None None s h size same = (size, refl)
 size_next (Some first) None s h size same = absurd h

@@ -43,7 +43,7 @@ listed p f frame o h is =
 
 -- ---- counts
 
-count_by_test : (q : Holder Samples) (frame : Samples) (kind : ℕ) (b : Bool) → (q.low_delay || (kind == 3)) ≡ b
+pub count_by_test : (q : Holder Samples) (frame : Samples) (kind : ℕ) (b : Bool) → (q.low_delay || (kind == 3)) ≡ b
     → length (option_to_list (shown_step q frame kind)) + length (option_to_list (held q frame kind).anchor) ≡ length (option_to_list q.anchor) + 1
 unfolding shown_step held
 count_by_test q frame kind true e = rw e (omega (arith))
@@ -60,7 +60,7 @@ pub one_dropped : (p : Picture) (d : Bool) → p.dropped ≡ d → dropped_in (p
 one_dropped p true e = rw e refl
 one_dropped p false e = rw e refl
 
-open_dropped : (p : Open) (store : Store) → dropped_in (picture_of p store ∷ []) ≡ (if p.dropped then 1 else 0)
+pub open_dropped : (p : Open) (store : Store) → dropped_in (picture_of p store ∷ []) ≡ (if p.dropped then 1 else 0)
 unfolding picture_of
 open_dropped p store = one_dropped (picture_of p store) p.dropped refl
 

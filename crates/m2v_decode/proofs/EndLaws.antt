@@ -82,11 +82,11 @@ finished c end ended skims read = record { read = read; first = refl; anchor = r
 
 -- ---- pieces
 
-whole_few : (n most units : ℕ) → n ≤ units + 1 → 4 * units ≤ most → 1 ≤ most → n ≤ most
+pub whole_few : (n most units : ℕ) → n ≤ units + 1 → 4 * units ≤ most → 1 ≤ most → n ≤ most
 whole_few n most units few count some = omega arith
 
 -- the notes of a piece of which nothing was noted before
-notes_are : (place code_end : ℕ) (whole : List ℕ) (us : Units) (es : Events) (notes : Notes) → us ≡ (cut 0 whole).1 → code_end ≡ 8 * place + (8 * before_picture us + 32) → noted notes ≡ with_events code_end no_notes es → noted notes ≡ notes_of place whole es
+pub notes_are : (place code_end : ℕ) (whole : List ℕ) (us : Units) (es : Events) (notes : Notes) → us ≡ (cut 0 whole).1 → code_end ≡ 8 * place + (8 * before_picture us + 32) → noted notes ≡ with_events code_end no_notes es → noted notes ≡ notes_of place whole es
 unfolding notes_of
 notes_are place code_end whole us es notes is code told =
     let same : code_end ≡ 8 * place + code_bits whole = code ∙ ap (λ (l : Units). 8 * place + (8 * before_picture l + 32)) is in

@@ -90,8 +90,24 @@ both_none (x ∷ xs) ys e = absurd cc
 pub ready_none : (d : Decoding) → d.ended ≡ false → due_of d ≡ [] → d.ready ≡ []
 ready_none d going none = both_none d.ready _ none
 
-due_ready : (d : Decoding) → d.ended ≡ false → due_of d ≡ d.ready
+pub due_ready : (d : Decoding) → d.ended ≡ false → due_of d ≡ d.ready
 due_ready d going = rw going (append-nil d.ready)
+
+-- a decoder whose frames that are due were handed out
+abbrev pub drained : Decoding → Decoding
+drained d = record d { ready = []; shown = d.shown + length (due_of d) }
+
+pub has_put : (d : Decoding) → d.ended ≡ false → HasPut d (drained d)
+has_put d going = record {
+  none = due_ready (drained d) going;
+  between_is = refl;
+  anchor = λ still. refl;
+  ended = refl;
+  failed = refl;
+  pictures = refl;
+  dropped = refl;
+  shown = refl;
+}
 
 begun_more : (text : List ℕ) (ps qs : Events) (mid last : Between) (whole : List ℕ) (others : List (List ℕ)) → (b : PiecesRead text ps mid (whole ∷ others)) → limit (place_behind b) 0 whole ≡ None
     → piece_read mid (place_behind b + length whole) whole ≡ Ok (qs, last) → PiecesRead text (ps ++ qs) last others
@@ -380,18 +396,7 @@ module _ {S K : Type 0} (left : S → Option (List ℕ)) (input_faults : S → �
   pub due_cut : (taken : ℕ) (bytes text : List ℕ) (start : ℕ) (whole : List ℕ) (others : List (List ℕ)) (frames : List Samples) (d m : Decoding) (o0 o1 o2 : K) → Reached taken text start (whole ∷ others) frames d → d.ready ≡ []
       → limit start 0 whole ≡ None → Onward d start whole m → start + length whole ≤ length bytes → Grows (held o0) (raw_of frames) (held o1) → GrowsByPrefix (held o1) (raw_of (due_of m)) (held o2) → IsCut bytes text (output o0 o2)
   due_cut taken bytes text start whole others frames d m o0 o1 o2 r none fits a within grown cut =
-      let drained : Decoding = record m { ready = []; shown = m.shown + length (due_of m) } in
-      let put : HasPut m drained = record {
-        none = due_ready drained a.going;
-        between_is = refl;
-        anchor = λ going. refl;
-        ended = refl;
-        failed = refl;
-        pictures = refl;
-        dropped = refl;
-        shown = refl;
-      } in
-      reached_cut (length bytes) bytes text (start + length whole) others (frames ++ due_of m) drained o0 o2 (reached_more taken (length bytes) text start whole others frames d m drained r none fits a put within) (omega arith)
+      reached_cut (length bytes) bytes text (start + length whole) others (frames ++ due_of m) (drained m) o0 o2 (reached_more taken (length bytes) text start whole others frames d m (drained m) r none fits a (has_put m a.going) within) (omega arith)
       (subst (λ (b : List ℕ). GrowsByPrefix (held o0) b (held o2)) (sym (raw-append frames (due_of m))) (prefix_on grown cut))
 
   due_text : (i0 i1 i2 : S) (o0 o1 o2 : K) (c c' : Cutting) (d m : Decoding) (p : Piece) (notes : Notes) → With i0 i1 o0 o1 c d → Handed c (left i1) c' (left i2) (Some p) → c'.begun ≡ true → Keeps c (left i1) c' (left i2) → Advanced d p.place (whole_of p) notes m

@@ -14,5 +14,8 @@ pub mod Going
 pub mod Ending
 pub mod LimitLaws
 pub mod AnswerLaws
+pub mod PassLaws
+pub mod Passed
+pub mod Following
 pub use Rattle.m2v_dec_rows.proofs.m2v_dec_picture
 pub use Rattle.m2v_dec_rows.proofs as m2v_dec_rows

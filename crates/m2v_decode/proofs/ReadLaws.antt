@@ -46,7 +46,7 @@ first_before : (low : Bool) (first : Option Sequence) (s : Sequence) → Agrees 
 first_before low None s a = tt
 first_before low (Some first) s a = a
 
-agrees_before : (low : Bool) (st : State) (p : Part) → Agrees low (after st p).first → Agrees low st.first
+pub agrees_before : (low : Bool) (st : State) (p : Part) → Agrees low (after st p).first → Agrees low st.first
 unfolding after
 agrees_before low st (sequence s) a = first_before low st.first s a
 agrees_before low st (group g) a = a
@@ -69,7 +69,7 @@ closed_one None store = omega arith
 header_one : (o : Option Open) (store : Store) (h : Event) → pictures_in (h ∷ []) ≡ [] → length (pictures_in (closed o store ++ h ∷ [])) ≤ 1
 header_one o store h none = omega (arith, ap length (header_pictures o store h none), closed_one o store)
 
-one_told : (st : State) (store : Store) (p : Part) → length (pictures_in (told_by st store p)) ≤ 1
+pub one_told : (st : State) (store : Store) (p : Part) → length (pictures_in (told_by st store p)) ≤ 1
 one_told st store (sequence s) = header_one st.picture store (sequence_header s) refl
 one_told st store (group g) = header_one st.picture store (group_header g) refl
 one_told st store (picture info extension) = closed_one st.picture store
@@ -84,7 +84,7 @@ closed_nothing : (o : Option Open) (store : Store) → o ≡ None → pictures_i
 closed_nothing None store e = refl
 closed_nothing (Some p) store e = absurd cc
 
-none_told : (st : State) (store : Store) (p : Part) → st.picture ≡ None → pictures_in (told_by st store p) ≡ []
+pub none_told : (st : State) (store : Store) (p : Part) → st.picture ≡ None → pictures_in (told_by st store p) ≡ []
 none_told st store (sequence s) e = header_pictures st.picture store (sequence_header s) refl ∙ closed_nothing st.picture store e
 none_told st store (group g) e = header_pictures st.picture store (group_header g) refl ∙ closed_nothing st.picture store e
 none_told st store (picture info extension) e = closed_nothing st.picture store e

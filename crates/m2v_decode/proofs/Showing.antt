@@ -12,7 +12,7 @@ use Rattle.m2v_decode.specs.Decoding.{frame_of, decoded_of, dropped_in, queue_of
 frames-append : (ps qs : Pictures) → frames_in (ps ++ qs) ≡ frames_in ps ++ frames_in qs
 frames-append ps qs = ap (map typed) (filter-append is_ending ps qs) ∙ map-append typed (filter is_ending ps) (filter is_ending qs)
 
-decoded-append : (ps qs : Pictures) → decoded_of (ps ++ qs) ≡ decoded_of ps ++ decoded_of qs
+pub decoded-append : (ps qs : Pictures) → decoded_of (ps ++ qs) ≡ decoded_of ps ++ decoded_of qs
 decoded-append ps qs =
     let kept = λ (fs : List (Picture × ℕ)). filter (is_kept is_dropped) fs in
     ap (λ (fs : List (Picture × ℕ)). map frame_of (kept fs)) (frames-append ps qs)

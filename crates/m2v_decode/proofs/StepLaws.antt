@@ -249,13 +249,13 @@ some_painted : (f : Samples → Samples) (o : Option Samples) → IsSome o → I
 some_painted f (Some x) e = refl
 some_painted f None e = absurd cc
 
-most_covered : (d : ℕ) (rows columns row covered : ℕ) → columns ≤ 120 → rows ≤ 72 → row < rows → covered ≤ (row + 1) * columns → covered ≤ 2 ^ 16
+pub most_covered : (d : ℕ) (rows columns row covered : ℕ) → columns ≤ 120 → rows ≤ 72 → row < rows → covered ≤ (row + 1) * columns → covered ≤ 2 ^ 16
 most_covered d rows columns row covered narrow low below le =
     let more : row + 1 ≤ 72 = omega arith in
     let product : (row + 1) * columns ≤ 72 * 120 = mul-le-mul more narrow in
     omega arith
 
-row_within : (b : Bool) (rows : ℕ) → rows ≤ 72 → (if b then rows else rows / 2) ≤ 72
+pub row_within : (b : Bool) (rows : ℕ) → rows ≤ 72 → (if b then rows else rows / 2) ≤ 72
 row_within true rows le = le
 row_within false rows le = omega (arith, le)
 

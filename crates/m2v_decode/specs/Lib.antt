@@ -6,5 +6,7 @@ pub mod Taking
 pub mod Answers
 pub mod Progress
 pub mod Complete
+pub mod Reading
+pub mod Passing
 pub use Rattle.m2v_dec_rows.specs.m2v_dec_picture
 pub use Rattle.m2v_dec_rows.specs as m2v_dec_rows

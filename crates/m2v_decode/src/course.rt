@@ -36,7 +36,7 @@ pub struct Course {
 
 /// What is noted of a piece whose picture ends, and its picture start code ends at a bit: the first picture.
 #[tactic(auto, unfolding(m2v_model::specs::Pictures::picture_of))]
-fn note_or(noted: Option<PictureNote>, p: &Open, code_end: u64) -> Option<PictureNote>
+pub fn note_or(noted: Option<PictureNote>, p: &Open, code_end: u64) -> Option<PictureNote>
     ensures { (store : Store)
         → result ≡ first_of noted (Some (note_of code_end (picture_of p.now store))) }
 {
@@ -54,7 +54,7 @@ fn note_or(noted: Option<PictureNote>, p: &Open, code_end: u64) -> Option<Pictur
 }
 
 /// 1 where it holds, else 0.
-fn one_if(holds: bool) -> u64
+pub fn one_if(holds: bool) -> u64
     ensures { result ≡ (if holds then 1 else 0) }
 {
     if holds { 1 } else { 0 }

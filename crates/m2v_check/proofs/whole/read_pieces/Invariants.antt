@@ -1,17 +1,13 @@
 use Rattle.std.proofs.Common.{◌≡◌, ◌≤◌, ◌-◌, ◌^◌, None, false}
 use Rattle.m2v_port.specs.Ends.{change}
-use Rattle.m2v_decode.specs.Progress.{Progress}
-use Rattle.m2v_check.specs.Progress.{no_output}
-use Rattle.m2v_check.proofs.Checking.{Judging}
+use Rattle.m2v_check.proofs.Checking.{SoFar}
 use Rattle.m2v_check.proofs.whole.read_pieces.Given as goal
 
 abbrev pub invariant-loop-e : goal.invariant-loop-e
 invariant-loop-e g l = record {
-  progress : Progress (change g.S.Source.left g.S.Source.faults l.fn.input l.input) no_output l.cutter l.decoder;
-  judging : Judging (change g.S.Source.left g.S.Source.faults l.fn.input l.input) l.cutter l.decoder l.judge;
-  shut : l.decoder.state.picture ≡ None;
+  so_far : SoFar (change g.S.Source.left g.S.Source.faults l.fn.input l.input) l.cutter l.reader l.judge;
   cutting : l.cutter.failed ≡ false;
-  counted : l.decoder.pictures ≤ l.cutter.place;
+  counted : l.reader.pictures ≤ l.cutter.place;
   judged : l.judge.rules.pictures ≤ l.cutter.place;
   bytes : l.judge.bytes ≤ l.cutter.place;
   most : l.cutter.place ≤ 2 ^ 36;
