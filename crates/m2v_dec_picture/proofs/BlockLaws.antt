@@ -1,5 +1,5 @@
 -- The blocks of a macroblock, one behind another.
-use Rattle.std.proofs.Common.{◌≡◌, ℕ, zero, suc, ◌+◌, ◌<◌, Bool, true, List, [], ◌∷◌, ◌++◌, ℤ, pos, refl, sym, ap, ◌∙◌, subst, arith, length, take, Ok, Err, All}
+use Rattle.std.proofs.Common.{◌≡◌, ℕ, zero, suc, ◌+◌, ◌<◌, ◌≤◌, Bool, true, false, List, [], ◌∷◌, ◌++◌, ℤ, pos, refl, sym, ap, ◌∙◌, subst, arith, length, take, map, Ok, Err, All}
 use Rattle.std.specs.Prelude.{◌/◌, nat_lt, replicate, slice_index_or, slice_set, Result, OnOk}
 use Rattle.std.proofs.lemmas.Int.{to_z-of_z}
 use mir.Syntax.{w32}
@@ -22,7 +22,10 @@ use Rattle.m2v_model.specs.declared.fault.FaultKind.{FaultKind}
 use Rattle.m2v_model.specs.declared.stop.Stop.{Stop}
 use Rattle.m2v_model.specs.Faults.{of_block}
 use Rattle.m2v_model.specs.Slices.{block_in, blocks_from}
-use Rattle.m2v_dec_picture.specs.Conditions.{AreDc, AreKinds, AreFine, last_dc}
+use Rattle.m2v_macroblock.proofs.KindLaws.{kind_is as each_kind}
+use Rattle.m2v_quant.specs.Scans.{scale_at}
+use Rattle.m2v_dec_picture.specs.declared.slice_kinds.SliceKinds.{SliceKinds}
+use Rattle.m2v_dec_picture.specs.Conditions.{IsPicture, AreDc, AreKinds, AreSliceKinds, AreFine, last_dc}
 use Rattle.m2v_dec_picture.specs.Reads.{TellsLevels, TellsBlock}
 
 -- a block that was read, and one that was refused
@@ -83,6 +86,29 @@ kind_at c m st kinds (suc (suc (suc (suc (suc (suc n)))))) d lt a = absurd (omeg
 
 pub kind_is : (c : PictureContext) (m : MacroSyntax) (st : SliceState) (kinds : List BlockKind) (k : ℕ) (d : BlockKind) → k < 6 → AreKinds c m st kinds → IsKind (slice_index_or kinds (k / 4) d)
 kind_is c m st kinds k d lt a = a.each (k / 4) d (rw a.value (omega (arith, lt)))
+
+-- the kinds of a slice at another quantiser code
+pub kinds_rescaled : (c : PictureContext) (old : SliceKinds) (quantiser scale : ℕ) (intra other : List BlockKind) → AreSliceKinds c old
+    → 1 ≤ quantiser → quantiser ≤ 31 → scale ≡ scale_at c.extension.q_scale_type quantiser
+    → intra ≡ map (λ (k : BlockKind). record k { scale = scale }) old.intra → other ≡ map (λ (k : BlockKind). record k { scale = scale }) old.other
+    → AreSliceKinds c (record { quantiser = quantiser; intra = intra; other = other })
+unfolding kind_for
+kinds_rescaled c old quantiser scale intra other are least most e a b =
+    let set = λ (n : ℕ) (ks : List BlockKind). map (λ (k : BlockKind). record k { scale = n }) ks in
+    record {
+      quantiser = (least, most);
+      intra = a ∙ ap (set scale) are.intra ∙ ap (λ (n : ℕ). set n (kind_for c true true quantiser ∷ kind_for c true false quantiser ∷ [])) e;
+      other = b ∙ ap (set scale) are.other ∙ ap (λ (n : ℕ). set n (kind_for c false true quantiser ∷ kind_for c false false quantiser ∷ [])) e;
+    }
+
+-- both kinds of a macroblock are in their ranges
+pub both_kinds : (c : PictureContext) (intra : Bool) (quantiser : ℕ) (kinds : List BlockKind) → IsPicture c → (1 ≤ quantiser) × (quantiser ≤ 31)
+    → kinds ≡ kind_for c intra true quantiser ∷ kind_for c intra false quantiser ∷ [] → All IsKind kinds
+both_kinds c intra quantiser kinds picture q e =
+    let kind = λ (luma : Bool). kind_for c intra luma quantiser in
+    let each = λ (luma : Bool). each_kind c intra luma quantiser picture q.0 q.1 in
+    let last = All-cons IsKind (kind false) [] (each false) (λ i d none. absurd (omega (arith, none))) in
+    subst (All IsKind) (sym e) (All-cons IsKind (kind true) (kind false ∷ []) (each true) last)
 
 -- a predictor as it is handed on is in its range
 pub predictor_passed : (c : PictureContext) (m : MacroSyntax) (st : SliceState) (ls : List (List ℤ)) (k : ℕ) (luma : Bool) (kind : BlockKind) (p : ℤ) → k < 6 → length ls ≡ 6

@@ -22,6 +22,7 @@ use Rattle.m2v_macroblock.specs.Macroblocks.{kind_for}
 use Rattle.m2v_macroblock.specs.Modes.{address_of, skipped_before, first_skipped}
 use Rattle.m2v_model.specs.Modes.{is_decoded, all_inside, references_decoded}
 use Rattle.m2v_dec_picture.specs.declared.gap.Gap.{Gap}
+use Rattle.m2v_dec_picture.specs.declared.slice_kinds.SliceKinds.{SliceKinds}
 
 -- what the headers say can be, and the frame is as wide as the picture
 pub record IsSetup (s : SliceSetup) : Type 0 where
@@ -82,6 +83,12 @@ pub record CanPaint (s : SliceSetup) (st : SliceState) (m : MacroSyntax) : Type 
 pub record AreKinds (c : PictureContext) (m : MacroSyntax) (st : SliceState) (kinds : List BlockKind) : Type 0 where
   pub value : kinds ≡ kind_for c m.kind.intra true st.quantiser ∷ kind_for c m.kind.intra false st.quantiser ∷ []
   pub each : All IsKind kinds
+
+-- the kinds of a slice's blocks are those of the quantiser code that is kept with them
+pub record AreSliceKinds (c : PictureContext) (kinds : SliceKinds) : Type 0 where
+  pub quantiser : (1 ≤ kinds.quantiser) × (kinds.quantiser ≤ 31)
+  pub intra : kinds.intra ≡ kind_for c true true kinds.quantiser ∷ kind_for c true false kinds.quantiser ∷ []
+  pub other : kinds.other ≡ kind_for c false true kinds.quantiser ∷ kind_for c false false kinds.quantiser ∷ []
 
 -- the levels of a block of a macroblock are in their ranges
 pub record AreFine (c : PictureContext) (m : MacroSyntax) (levels : List ℤ) : Type 0 where

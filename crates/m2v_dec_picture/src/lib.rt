@@ -16,6 +16,7 @@ mod pass;
 mod prediction;
 mod rules;
 mod scratch;
+mod slice_kinds;
 mod slices;
 mod target;
 mod zeros;

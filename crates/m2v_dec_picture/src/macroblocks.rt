@@ -9,7 +9,7 @@ ghost use Rattle.m2v_macroblock.specs.Modes.{mode_of};
 ghost use Rattle.m2v_model.specs.Faults as faults;
 ghost use Rattle.m2v_model.specs.Slices.{macroblock_at};
 ghost use Rattle.m2v_model.specs.Stops.{Tells};
-ghost use Rattle.m2v_dec_picture.specs.Conditions.{IsPicture, IsSetup, IsState, AreDc, LiesInRow, rows_in, place_in, HoldsForward, HoldsBackward, CanPaint, IsColumn, IsGap, last_dc, GoesOn, AreFew};
+ghost use Rattle.m2v_dec_picture.specs.Conditions.{IsPicture, IsSetup, IsState, AreSliceKinds, AreDc, LiesInRow, rows_in, place_in, HoldsForward, HoldsBackward, CanPaint, IsColumn, IsGap, last_dc, GoesOn, AreFew};
 ghost use Rattle.m2v_dec_picture.specs.Reads.{TellsMacroblock, TellsRound, TellsRow, seen_by};
 
 use crate::basis::PictureBasis;
@@ -19,10 +19,11 @@ use crate::located::Located;
 use crate::paint::{paint_gap, paint_own};
 use crate::rules::check;
 use crate::scratch::Scratch;
+use crate::slice_kinds::SliceKinds;
 use crate::target::Target;
 use m2v_bits::BitReader;
 use m2v_macro::{MacroSyntax, PictureContext, SliceState, read_macro};
-use m2v_macroblock::{dc_after, kinds, mode};
+use m2v_macroblock::{dc_after, mode};
 use m2v_model::{SliceSetup, Stop, of_macro, stopped};
 use m2v_plane::RefView;
 use m2v_quant::Levels;
@@ -79,11 +80,13 @@ fn macroblock(
     s: &SliceSetup,
     row: u32,
     state: &mut SliceState,
+    kinds: &mut SliceKinds,
     levels: &mut [Levels; 6],
 ) -> Result<Located, Stop>
     requires setup { IsSetup s.now }
     requires row { row < rows_in s.now }
     requires state { IsState s.now.context row state.old }
+    requires kinds { AreSliceKinds s.now.context kinds.old }
     ensures exact { TellsMacroblock result levels.new input.new.rest
         ((macroblock_at s.now state.old).read input.old.rest) }
     ensures text { input.new.text ≡ input.old.text }
@@ -95,6 +98,9 @@ fn macroblock(
     ensures state { IfOk result (λ x. state.new ≡ after s.now.context state.old x.syntax) }
     ensures inside { IfOk result (λ x. IsState s.now.context row state.new) }
     ensures place { IfOk result (λ x. LiesInRow s.now.context row state.new.address) }
+    ensures kinds { OnOk result (AreSliceKinds s.now.context kinds.new) }
+    ensures quantiser { IfOk result (λ x. kinds.new.quantiser
+        ≡ (after s.now.context state.old x.syntax).quantiser) }
     ensures levels { OnOk result (All (λ l. All IsLevel l.at) levels.new) }
     ensures dc { IfOk result (λ x. x.syntax.kind.intra ≡ true
         → AreDc s.now.context.extension.dc_precision (last_dc levels.new)) }
@@ -112,8 +118,9 @@ fn macroblock(
         gap,
     };
     check(s, row, &before, &x, left)?;
-    let kinds = kinds(&s.context, syntax.kind.intra, state.quantiser);
-    blocks(input, &s.context, &syntax, state, &kinds, levels)?;
+    kinds.set_quantiser(&s.context, state.quantiser);
+    let own = kinds.of(&s.context, syntax.kind.intra);
+    blocks(input, &s.context, &syntax, state, own, levels)?;
     Ok(x)
 }
 
@@ -124,12 +131,14 @@ fn next_macroblock<V: RefView, T: Target>(
     basis: &PictureBasis<V>,
     row: u32,
     state: &mut SliceState,
+    kinds: &mut SliceKinds,
     scratch: &mut Scratch,
     out: &mut T,
 ) -> Result<Round, Stop>
     requires setup { IsSetup basis.now.setup.now }
     requires row { row < rows_in basis.now.setup.now }
     requires state { IsState basis.now.setup.now.context row state.old }
+    requires kinds { AreSliceKinds basis.now.setup.now.context kinds.old }
     requires forward { HoldsForward basis.now.setup.now (V.size basis.now.forward.now)
         (V.Holds basis.now.forward.now) }
     requires backward { HoldsBackward basis.now.setup.now (V.size basis.now.backward.now)
@@ -144,15 +153,16 @@ fn next_macroblock<V: RefView, T: Target>(
     ensures left { IfErr result (λ e. e.left ≤ length input.old.text) }
     ensures state { IfOk result (λ r. IsState basis.now.setup.now.context row state.new) }
     ensures place { IfOk result (λ r. LiesInRow basis.now.setup.now.context row state.new.address) }
+    ensures kinds { OnOk result (AreSliceKinds basis.now.setup.now.context kinds.new) }
     ensures goes_on { IfOk result (λ r. GoesOn state.old state.new) }
     ensures takes { IfOk result (λ r. (p : MbPlaceOf) → T.Takes out.old p → T.Takes out.new p) }
 {
     let before = *state;
     let start = bits_left(input);
-    let x = macroblock(input, basis.setup, row, state, &mut scratch.levels)?;
+    let x = macroblock(input, basis.setup, row, state, kinds, &mut scratch.levels)?;
     let end = bits_left(input);
     paint_gap(basis, row, &before, &x, &mut scratch.block, out);
-    paint_own(basis, row, &before, state, &x, scratch, out);
+    paint_own(basis, row, &before, &x, kinds, scratch, out);
     state.dc = dc_after(x.syntax.kind.intra, &scratch.levels, state.dc);
     Ok(Round {
         more: !input.rest_is_zero(),
@@ -191,9 +201,10 @@ pub fn macroblocks<V: RefView, T: Target>(
     ensures takes { IfOk result (λ z. (p : MbPlaceOf) → T.Takes out.old p → T.Takes out.new p) }
 {
     let mut state = first;
+    let mut kinds = SliceKinds::new(&basis.setup.context, first.quantiser);
     let mut large = 0;
     loop {
-        let r = next_macroblock(input, basis, row, &mut state, scratch, out)?;
+        let r = next_macroblock(input, basis, row, &mut state, &mut kinds, scratch, out)?;
         if r.large {
             large += 1;
         }

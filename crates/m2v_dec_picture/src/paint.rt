@@ -6,16 +6,17 @@ ghost use Rattle.m2v_macroblock.specs.Macroblocks.{macroblock_of};
 ghost use Rattle.m2v_macroblock.specs.Modes.{first_skipped, mode_of};
 ghost use Rattle.m2v_macroblock.specs.Predictions.{prediction_of};
 ghost use Rattle.m2v_model.specs.Samples.{skipped_painted, own_painted};
-ghost use Rattle.m2v_dec_picture.specs.Conditions.{IsSetup, IsState, rows_in, place_in, HoldsForward, HoldsBackward, CanPaint, IsColumn, IsGap};
+ghost use Rattle.m2v_dec_picture.specs.Conditions.{IsSetup, IsState, AreSliceKinds, rows_in, place_in, HoldsForward, HoldsBackward, CanPaint, IsColumn, IsGap};
 ghost use Rattle.m2v_dec_picture.specs.Reads.{seen_by};
 
 use crate::basis::PictureBasis;
 use crate::located::Located;
 use crate::prediction::{place, predict};
 use crate::scratch::Scratch;
+use crate::slice_kinds::SliceKinds;
 use crate::target::Target;
 use m2v_macro::SliceState;
-use m2v_macroblock::{kind_for, skipped_mode};
+use m2v_macroblock::skipped_mode;
 use m2v_plane::RefView;
 use m2v_pred::Block16;
 use m2v_recon::rebuild_block;
@@ -91,21 +92,22 @@ fn predict_own<V: RefView>(
     predict(basis, &x.mode, place(basis.setup, row, x.column), block);
 }
 
-/// Puts a macroblock, whose levels `scratch` has. `before` is the state before it and those skipped before it, `state` that
-/// behind its elements. A target that wants no samples gets none.
+/// Puts a macroblock, whose levels `scratch` has. `before` is the state before it and those skipped before it, the
+/// kinds are those at its quantiser code. A target that wants no samples gets none.
 pub fn paint_own<V: RefView, T: Target>(
     basis: &PictureBasis<V>,
     row: u32,
     before: &SliceState,
-    state: &SliceState,
     x: &Located,
+    kinds: &SliceKinds,
     scratch: &mut Scratch,
     out: &mut T,
 )
     requires setup { IsSetup basis.now.setup.now }
     requires row { row < rows_in basis.now.setup.now }
-    requires state { state.now ≡ after basis.now.setup.now.context before.now x.now.syntax }
-    requires quantiser { (1 ≤ state.now.quantiser) × (state.now.quantiser ≤ 31) }
+    requires kinds { AreSliceKinds basis.now.setup.now.context kinds.now }
+    requires quantiser { kinds.now.quantiser
+        ≡ (after basis.now.setup.now.context before.now x.now.syntax).quantiser }
     requires can { CanPaint basis.now.setup.now before.now x.now.syntax }
     requires mode { x.now.mode ≡ mode_of basis.now.setup.now.context x.now.syntax }
     requires column { IsColumn basis.now.setup.now.context row before.now x.now.syntax
@@ -130,10 +132,7 @@ pub fn paint_own<V: RefView, T: Target>(
     predict_own(basis, row, before, x, block);
     let context = &basis.setup.context;
     let m = &x.syntax;
-    let kinds = [
-        kind_for(context, m.kind.intra, true, state.quantiser),
-        kind_for(context, m.kind.intra, false, state.quantiser),
-    ];
-    rebuild_block(block, &scratch.levels, m.pattern, &kinds, m.dct_field);
+    let own = kinds.of(context, m.kind.intra);
+    rebuild_block(block, &scratch.levels, m.pattern, own, m.dct_field);
     out.put(place(basis.setup, row, x.column), block);
 }

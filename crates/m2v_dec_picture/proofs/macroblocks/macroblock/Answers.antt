@@ -1,3 +1,6 @@
+use Rattle.std.proofs.Common.{ℕ, true, false, [], ◌∷◌, ◌∙◌, ap}
+use Rattle.m2v_macro.specs.declared.values.SliceState.{SliceState}
+use Rattle.m2v_macroblock.specs.Macroblocks.{kind_for}
 use Rattle.m2v_dec_picture.proofs.RowLaws.{column_is}
 use Rattle.m2v_dec_picture.proofs.macroblocks.macroblock.Goals as goal
 
@@ -10,3 +13,17 @@ pub returns-clause-column : goal.returns-clause-column
 returns-clause-column c =
     column_is c.args.s.now.context c.args.row c.args.state.now c.in_ok-syntax.syntax c.elements.new.state c.column-column.result
     c.in_ok-syntax.ensures.state c.column-column.ensures.value c.column-column.ensures.below
+
+pub blocks-requires-clause-kinds : goal.blocks-requires-clause-kinds
+blocks-requires-clause-kinds c =
+    let ctx = c.args.s.now.context in
+    let intra = c.in_ok-syntax.syntax.kind.intra in
+    record {
+      value = c.of-own.ensures.value
+          ∙ ap (λ (q : ℕ). kind_for ctx intra true q ∷ kind_for ctx intra false q ∷ []) c.set_quantiser.ensures.quantiser;
+      each = c.of-own.ensures.kinds;
+    }
+
+pub returns-clause-quantiser : goal.returns-clause-quantiser
+returns-clause-quantiser c =
+    c.set_quantiser.ensures.quantiser ∙ ap (λ (z : SliceState). z.quantiser) c.in_ok-syntax.ensures.state

@@ -15,6 +15,7 @@ loop-r-init g c =
     record {
       macroblocks = ([], [], refl, left_first g.T.Target.placed s refs c.args.first (g.T.Target.samples c.args.out.now), refl);
       state = c.requires.state;
+      kinds = c.new-kinds.ensures;
       few = few_first c.args.first c.requires.begins;
       text = refl;
       takes = λ p t. t;
@@ -103,6 +104,7 @@ loop-r-preserved g c =
         large,
       );
       state = c.in_ok-r.ensures.state;
+      kinds = c.in_ok-r.ensures.kinds;
       few = few_more c.args.first.next c.loop-r.state c.next_macroblock.new.state c.loop-r.large c.if-r.large c.loop-r.invariant.few c.in_ok-r.ensures.goes_on most;
       text = c.in_ok-r.ensures.text ∙ c.loop-r.invariant.text;
       takes = λ p t. c.in_ok-r.ensures.takes p (c.loop-r.invariant.takes p t);

@@ -1,8 +1,8 @@
-use Rattle.std.proofs.Common.{◌∙◌, sym, ap, true, false}
+use Rattle.std.proofs.Common.{ℕ, List, [], ◌∷◌, ◌∙◌, sym, ap, true, false}
 use Rattle.m2v_pred.specs.declared.mode.MbPlace.{MbPlace}
-use Rattle.m2v_recon.specs.Macro.{macro_sample}
+use Rattle.m2v_recon.specs.Macro.{macro_sample, kind_at}
+use Rattle.m2v_quant.specs.declared.kind.BlockKind.{BlockKind}
 use Rattle.m2v_recon.specs.Steps.{levels_of}
-use Rattle.m2v_macro.specs.declared.values.SliceState.{SliceState}
 use Rattle.m2v_macroblock.specs.Macroblocks.{kind_for, macroblock_of}
 use Rattle.m2v_macroblock.specs.Predictions.{prediction_of, sample_at}
 use Rattle.m2v_model.specs.Samples.{own_painted}
@@ -29,8 +29,8 @@ returns-clause-value g c =
     let intra = m.kind.intra in
     let at = c.place.ensures ∙ sym place in
     let pred = c.predict_own.ensures.value ∙ ap (λ (a : MbPlace). prediction_of f b s.context a m) (sym place) in
-    let luma = c.kind_for.ensures.value ∙ ap (λ (z : SliceState). kind_for s.context intra true z.quantiser) c.requires.state in
-    let chroma = c.kind_for-2.ensures.value ∙ ap (λ (z : SliceState). kind_for s.context intra false z.quantiser) c.requires.state in
     let levels = levels_of c.args.scratch.now.levels in
-    c.put.ensures.value (macro_sample c.predict_own.new.block.at levels m.pattern c.kind_for.result c.kind_for-2.result m.dct_field) c.rebuild_block.ensures.value
-    ∙ (λ i. g.T.Target.placed (at i) (macro_sample (pred i) levels m.pattern (luma i) (chroma i) m.dct_field) (g.T.Target.samples c.args.out.now))
+    let kinds = c.of-own.ensures.value ∙ ap (λ (q : ℕ). kind_for s.context intra true q ∷ kind_for s.context intra false q ∷ []) c.requires.quantiser in
+    let sample = λ (p : List ℕ) (ks : List BlockKind). macro_sample p levels m.pattern (kind_at ks 0) (kind_at ks 1) m.dct_field in
+    c.put.ensures.value (sample c.predict_own.new.block.at c.of-own.result.now) c.rebuild_block.ensures.value
+    ∙ (λ i. g.T.Target.placed (at i) (sample (pred i) (kinds i)) (g.T.Target.samples c.args.out.now))
