@@ -1,16 +1,16 @@
--- Bytes of which none is 0, taken at once.
-use Rattle.std.proofs.Common.{◌≡◌, ℕ, ◌+◌, ◌≤◌, ◌<◌, ◌^◌, Bool, true, false, List, [], ◌∷◌, ◌++◌, length, take, drop, Option, Some, None, refl, sym, ap, subst, ◌∙◌, append_assoc, arith}
+-- Bytes in which no two zeros stand together, taken at once.
+use Rattle.std.proofs.Common.{◌≡◌, ℕ, zero, suc, ◌+◌, ◌≤◌, ◌<◌, ◌^◌, Bool, true, false, List, [], ◌∷◌, ◌++◌, length, take, drop, Option, Some, None, refl, sym, ap, subst, ◌∙◌, append_assoc, arith}
 use Rattle.std.specs.Prelude.{nat_eq, nat_le, not, ◌&&◌, if◌then◌else◌}
-use Rattle.std.proofs.lemmas.Bool.{lt-leb}
+use Rattle.std.proofs.lemmas.Bool.{lt-leb, ne_eqb}
 use Rattle.std.proofs.lemmas.List.{length-take-le, take-append-drop}
-use Rattle.std.proofs.lemmas.List.Elements.{All-head, All-tail}
 use Rattle.m2v_model.specs.declared.phase.Phase.{Phase}
 use Rattle.m2v_model.specs.declared.phase.Phase.TheVariants.{Before, Headers, Picture}
 use Rattle.m2v_model.specs.Pieces.{limit, Limit, too_large, most_input, most_bytes}
-use Rattle.m2v_dec_piece.specs.Cutting.{Held, Fits, Took, TookAll, AreNonzero, behind, limit_in, limit_of, pieces_behind, start_behind}
+use Rattle.m2v_dec_piece.specs.Cutting.{Held, Fits, Took, TookAll, IsRun, behind, limit_in, limit_of, pieces_behind, start_behind}
 use Rattle.m2v_dec_piece.specs.Stepping.{Reaches, before_more}
 use Rattle.m2v_dec_piece.proofs.LimitLaws.{behind_none, behind_more, limit_of_more, limit_of_stays}
-use Rattle.m2v_dec_piece.proofs.Steps.{took_other}
+use Rattle.m2v_dec_piece.proofs.PairLaws.{run_tail, run_last, run_pair}
+use Rattle.m2v_dec_piece.proofs.Steps.{took_other, took_longer}
 
 -- few bytes pass no limit
 few_fit : (place k : ℕ) (bs : List ℕ) → place + (k + length bs) ≤ most_input → k + length bs ≤ most_bytes → limit place k bs ≡ None
@@ -47,21 +47,37 @@ took_more h now new b bs one phase all = record {
   fits = all.fits;
 }
 
--- bytes of which none is 0, behind no byte of a prefix
-took_all : (phase : Phase) (place : ℕ) (sure bs : List ℕ) → AreNonzero bs → Fits (record { phase = phase; place = place; sure = sure; ahead = 0 })
+not_zero : (b : ℕ) → nat_eq (suc b) 0 ≡ false
+not_zero b = ne_eqb (suc b) 0 (λ e. absurd (omega (arith, e)))
+
+-- bytes in which no two zeros stand together, behind no byte of a prefix
+took_all : (phase : Phase) (place : ℕ) (sure bs : List ℕ) → IsRun bs → Fits (record { phase = phase; place = place; sure = sure; ahead = 0 })
     → limit_of (record { phase = phase; place = place; sure = sure; ahead = 0 }) bs ≡ None
     → TookAll (record { phase = phase; place = place; sure = sure; ahead = 0 }) bs (behind (record { phase = phase; place = place; sure = sure; ahead = 0 }) bs)
-took_all phase place sure [] some fits none =
+took_all phase place sure [] run fits none =
     let h : Held = record { phase = phase; place = place; sure = sure; ahead = 0 } in
     subst (TookAll h []) (behind_none h) (took_none h fits)
-took_all phase place sure (b ∷ bs) some fits none =
+took_all phase place sure (suc b ∷ bs) run fits none =
     let h : Held = record { phase = phase; place = place; sure = sure; ahead = 0 } in
-    let now = behind h (b ∷ []) in
-    let first = front_fits h (b ∷ []) bs none in
-    let one : Took h b now = took_other h now b (omega arith) (All-head (λ x. nat_eq x 0 ≡ false) b bs some) (λ two. absurd (omega arith)) fits refl first in
-    let rest : limit_of now bs ≡ None = sym (limit_of_more h (b ∷ []) bs first) ∙ none in
-    let all = took_all phase now.place now.sure bs (All-tail (λ x. nat_eq x 0 ≡ false) b bs some) one.fits rest in
-    subst (TookAll h (b ∷ bs)) (behind_more h (b ∷ []) bs) (took_more h now (behind now bs) b bs one refl all)
+    let now = behind h (suc b ∷ []) in
+    let first = front_fits h (suc b ∷ []) bs none in
+    let one : Took h (suc b) now = took_other h now (suc b) (omega arith) (not_zero b) (λ two. absurd (omega arith)) fits refl first in
+    let rest : limit_of now bs ≡ None = sym (limit_of_more h (suc b ∷ []) bs first) ∙ none in
+    let all = took_all phase now.place now.sure bs (run_tail (suc b) bs run) one.fits rest in
+    subst (TookAll h (suc b ∷ bs)) (behind_more h (suc b ∷ []) bs) (took_more h now (behind now bs) (suc b) bs one refl all)
+took_all phase place sure (zero ∷ []) run fits none = absurd (let some = run_last 0 run in omega (arith, some))
+took_all phase place sure (zero ∷ zero ∷ bs) run fits none = absurd (run_pair bs run)
+took_all phase place sure (zero ∷ suc b ∷ bs) run fits none =
+    let h : Held = record { phase = phase; place = place; sure = sure; ahead = 0 } in
+    let longer : Held = record { phase = phase; place = place; sure = sure; ahead = 1 } in
+    let now = behind h (0 ∷ suc b ∷ []) in
+    let first = front_fits h (0 ∷ suc b ∷ []) bs none in
+    let one : Took h 0 longer = took_longer h longer 0 refl fits refl in
+    let two : Took longer (suc b) now = took_other longer now (suc b) (omega arith) (not_zero b) (λ e. absurd (omega arith)) one.fits refl first in
+    let rest : limit_of now bs ≡ None = sym (limit_of_more h (0 ∷ suc b ∷ []) bs first) ∙ none in
+    let all = took_all phase now.place now.sure bs (run_tail (suc b) bs (run_tail 0 (suc b ∷ bs) run)) two.fits rest in
+    let more = took_more longer now (behind now bs) (suc b) bs two refl all in
+    subst (TookAll h (0 ∷ suc b ∷ bs)) (behind_more h (0 ∷ suc b ∷ []) bs) (took_more h longer (behind now bs) 0 (suc b ∷ bs) one refl more)
 
 grown_by : (phase : Phase) (place : ℕ) (sure bs : List ℕ) → (phase ≡ Before → ⊥) → place + (length sure + length bs) ≤ most_input → length sure + length bs ≤ most_bytes
     → (limit_in phase place sure bs ≡ None) × (behind (record { phase = phase; place = place; sure = sure; ahead = 0 }) bs ≡ record { phase = phase; place = place; sure = sure ++ bs; ahead = 0 })
@@ -71,7 +87,7 @@ grown_by Headers place sure bs begun long large = (few_fit place (length sure) b
 grown_by Picture place sure bs begun long large = (few_fit place (length sure) bs long large, refl)
 
 -- the same of a piece that has begun, where the bytes pass no limit
-pub took_run : (h new : Held) (bs : List ℕ) → h.ahead ≡ 0 → (h.phase ≡ Before → ⊥) → AreNonzero bs → Fits h
+pub took_run : (h new : Held) (bs : List ℕ) → h.ahead ≡ 0 → (h.phase ≡ Before → ⊥) → IsRun bs → Fits h
     → h.place + (length h.sure + length bs) ≤ most_input → length h.sure + length bs ≤ most_bytes → new ≡ record h { sure = h.sure ++ bs } → TookAll h bs new
 took_run h new bs none begun some fits long large is =
     let plain : Held = record { phase = h.phase; place = h.place; sure = h.sure; ahead = 0 } in

@@ -1,5 +1,5 @@
 -- Where the bytes stop that are looked at for one piece.
-use Rattle.std.proofs.Common.{◌≡◌, ℕ, zero, suc, ◌+◌, ◌≤◌, ◌<◌, List, [], ◌∷◌, ◌++◌, length, get_or, drop, Option, Some, None, true, Result, Ok, Err, IfErr, IsErrOf, refl, sym, ap, subst, ◌∙◌, append_assoc, arith}
+use Rattle.std.proofs.Common.{◌≡◌, ℕ, zero, suc, ◌≤◌, ◌<◌, List, [], ◌∷◌, ◌++◌, length, get_or, drop, Option, Some, None, true, Result, Ok, Err, IfErr, IsErrOf, refl, sym, ap, subst, ◌∙◌, append_assoc, arith}
 use Rattle.m2v_model.specs.declared.phase.Phase.{Phase}
 use Rattle.m2v_model.specs.declared.phase.Phase.TheVariants.{Before, Headers, Picture}
 use Rattle.m2v_dec_piece.specs.declared.answer.Piece.{Piece}

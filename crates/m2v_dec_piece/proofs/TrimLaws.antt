@@ -1,25 +1,24 @@
 -- The zero bytes that stand last in a piece.
 use Rattle.std.proofs.Common.{◌≡◌, ◌≢◌, ℕ, zero, suc, ◌+◌, ◌-◌, List, [], ◌∷◌, ◌++◌, length, replicate, min, refl, sym, ap, ◌∙◌, ◌<◌, append_assoc, arith}
-use Rattle.std.specs.Prelude.{reverse, nat_eq, false}
-use Rattle.std.proofs.lemmas.Bool.{ne_eqb, eq-eqb, true≢false}
-use Rattle.std.proofs.lemmas.List.Elements.{All-head, All-tail}
+use Rattle.std.specs.Prelude.{reverse}
+use Rattle.std.proofs.lemmas.Bool.{ne_eqb}
 use Rattle.std.proofs.lemmas.List.{reverse-append, length-append, length-replicate, take_at}
 use Rattle.m2v_model.specs.Pieces.{zeros_first, zeros_last, trimmed}
-use Rattle.m2v_dec_piece.specs.Cutting.{AreNonzero}
+use Rattle.m2v_dec_piece.specs.Cutting.{IsRun}
+use Rattle.m2v_dec_piece.proofs.PairLaws.{run_tail, run_last}
 
 -- none stands behind a byte that isn't zero
 pub zeros_last_end : (xs : List ℕ) (b : ℕ) → b ≢ 0 → zeros_last (xs ++ b ∷ []) ≡ 0
 unfolding zeros_first
 zeros_last_end xs b some = ap zeros_first (reverse-append xs (b ∷ [])) ∙ rw (ne_eqb b 0 some) refl
 
--- nor behind bytes of which none is zero
-pub zeros_last_run : (front run : List ℕ) → AreNonzero run → 0 < length run → zeros_last (front ++ run) ≡ 0
+-- nor behind bytes that don't end in one
+pub zeros_last_run : (front run : List ℕ) → IsRun run → 0 < length run → zeros_last (front ++ run) ≡ 0
 zeros_last_run front [] some lt = absurd (omega arith)
-zeros_last_run front (b ∷ []) some lt =
-    zeros_last_end front b (λ none. true≢false (sym (eq-eqb b 0 none) ∙ All-head (λ x. nat_eq x 0 ≡ false) b [] some))
+zeros_last_run front (b ∷ []) some lt = zeros_last_end front b (λ none. absurd (omega (arith, run_last b some, none)))
 zeros_last_run front (b ∷ c ∷ run) some lt =
     ap zeros_last (sym (append_assoc front (b ∷ []) (c ∷ run)))
-    ∙ zeros_last_run (front ++ b ∷ []) (c ∷ run) (All-tail (λ x. nat_eq x 0 ≡ false) b (c ∷ run) some) (omega arith)
+    ∙ zeros_last_run (front ++ b ∷ []) (c ∷ run) (run_tail b (c ∷ run) some) (omega arith)
 
 pub length-sure : (bytes : List ℕ) (zeros : ℕ) → length (bytes ++ replicate zeros 0) ≡ length bytes + zeros
 length-sure bytes zeros = let none : List ℕ = replicate zeros 0 in length-append bytes none ∙ omega (arith, length-replicate {A = ℕ} zeros 0)

@@ -1,5 +1,5 @@
 -- What a cutter holds of a text, and what it hands out.
-use Rattle.std.specs.Prelude.{◌≡◌, ◌⊎◌, ℕ, suc, ◌+◌, ◌<◌, ◌≤◌, Bool, true, false, All, List, [], ◌∷◌, ◌++◌, length, take, Option, Some, None, nat_lt, nat_eq, if◌then◌else◌}
+use Rattle.std.specs.Prelude.{◌≡◌, ◌⊎◌, ℕ, suc, ◌+◌, ◌<◌, ◌≤◌, Bool, true, false, List, [], ◌∷◌, ◌++◌, length, get_or, take, Option, Some, None, nat_lt, nat_eq, if◌then◌else◌}
 use Rattle.m2v_model.specs.declared.phase.Phase.{Phase}
 use Rattle.m2v_model.specs.declared.phase.Phase.TheVariants.{Before, Headers, Picture}
 use Rattle.m2v_model.specs.Units.{cut}
@@ -111,9 +111,13 @@ pub record Took (old : Held) (b : ℕ) (new : Held) : Type 0 where
   pub onward : old.place ≤ new.place
   pub fits : Fits new
 
--- bytes that are not zero
-abbrev pub AreNonzero : List ℕ → Type 0
-AreNonzero bytes = All (λ b. nat_eq b 0 ≡ false) bytes
+-- of the first bytes, so many, none begins a pair of zeros; behind the last byte stands 0
+abbrev pub HasNoPair : ℕ → List ℕ → Type 0
+HasNoPair n bytes = (k : ℕ) → k < n → 0 < get_or bytes k 0 + get_or bytes (k + 1) 0
+
+-- bytes in which no two zeros stand together, and that don't end in one
+abbrev pub IsRun : List ℕ → Type 0
+IsRun bytes = HasNoPair (length bytes) bytes
 
 -- bytes were taken, and the pieces are the same whatever follows them
 pub record TookAll (old : Held) (bytes : List ℕ) (new : Held) : Type 0 where

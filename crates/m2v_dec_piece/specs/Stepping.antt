@@ -112,7 +112,7 @@ pub record Fails (h : Held) (chunk : List ℕ) (left left' : Option (List ℕ)) 
   pub moved : Moves left bytes left'
   pub why : (rest : List ℕ) → left' ≡ Some rest → Why (start_behind h (chunk ++ (bytes ++ rest))) (pieces_behind h (chunk ++ (bytes ++ rest))) e
 
--- bytes were looked at: those before the first 0 at once, or one
+-- bytes were looked at: those before the first two zeros at once, or one
 abbrev pub Rounded : Option Stand → Held → List ℕ → Option (List ℕ) → Held → List ℕ → Option (List ℕ) → Type 0
 Rounded None h chunk left h' chunk' left' = Advanced h chunk left h' chunk' left' × (measure_of h' < measure_of h)
 Rounded (Some stand) h chunk left h' chunk' left' = Looked stand h chunk left h' chunk' left'

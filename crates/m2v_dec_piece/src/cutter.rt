@@ -57,7 +57,8 @@ fn turn(hand: &mut Hand, chunk: &mut Chunk) -> Result<Option<Stand>, DecodeError
     }
 }
 
-/// Uses the bytes of a chunk before the first 0, where they can be taken at once. Answers whether there were some.
+/// Uses the bytes of a chunk before the first two zeros, where they can be taken at once. Answers whether there were
+/// some.
 fn skim(hand: &mut Hand, chunk: &mut Chunk) -> Result<bool, DecodeError>
     requires fits { Fits hand.old }
     ensures some { result ≡ Ok true → Reaches hand.old chunk.old hand.new chunk.new }
@@ -75,7 +76,8 @@ fn skim(hand: &mut Hand, chunk: &mut Chunk) -> Result<bool, DecodeError>
     Ok(true)
 }
 
-/// Uses the first bytes of a chunk: those before the first 0 at once, or one. Answers where the bytes stop, if they do.
+/// Uses the first bytes of a chunk: those before the first two zeros at once, or one. Answers where the bytes stop, if
+/// they do.
 fn advance(hand: &mut Hand, chunk: &mut Chunk) -> Result<Option<Stand>, DecodeError>
     requires some { 0 < length chunk.old }
     requires fits { Fits hand.old }

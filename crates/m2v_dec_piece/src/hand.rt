@@ -1,9 +1,9 @@
 ghost use Rattle.std.specs.Prelude.{◌≡◌, ◌↔◌, ◌+◌, ◌-◌, ◌≤◌, ◌<◌, ◌^◌, ◌++◌, ◌∷◌, [], length, take, replicate, min, IfOk, IfErr, OnOk, IsTrue, Ok, Err, None, false, nat_eq};
 ghost use Rattle.m2v_model.specs.Pieces.{limit, phase_after};
 ghost use Rattle.m2v_dec_piece.specs.Sound.{IsSoundPiece};
-ghost use Rattle.m2v_dec_piece.specs.Cutting.{Held, Fits, AreNonzero, TookAll, prefix, behind, limit_of, IsPiece, LimitErr, Took, StopsAt, PieceStops, pieces_behind, start_behind, code_of, phase_behind, GoesOn, Ends, FirstBegun, Finished};
+ghost use Rattle.m2v_dec_piece.specs.Cutting.{Held, Fits, IsRun, TookAll, prefix, behind, limit_of, IsPiece, LimitErr, Took, StopsAt, PieceStops, pieces_behind, start_behind, code_of, phase_behind, GoesOn, Ends, FirstBegun, Finished};
 
-use crate::runs::{append_all, before_zero};
+use crate::runs::{append_all, run_of};
 use crate::{DecodeError, Memory, Piece};
 use m2v_model::Phase;
 use std::alloc::Global;
@@ -186,8 +186,8 @@ impl Hand {
         Ok(())
     }
 
-    /// How many bytes more are sure at once where none of them is 0: behind no byte of a prefix, in a piece that has
-    /// begun, as many as pass no limit.
+    /// How many bytes more are sure at once where no two zeros stand together: behind no byte of a prefix, in a piece
+    /// that has begun, as many as pass no limit.
     fn room(&self) -> usize
         ensures ahead { 0 < result → self.now.ahead ≡ 0 }
         ensures begun { 0 < result → self.now.phase ≡ Phase.Before → ⊥ }
@@ -205,12 +205,12 @@ impl Hand {
         MOST_BYTES.saturating_sub(at).min(input) as usize
     }
 
-    /// Bytes of which none is 0 are sure.
+    /// Bytes in which no two zeros stand together are sure, where they don't end in one.
     #[tactic(auto, unfolding(m2v_model::specs::Pieces::zeros_first))]
     fn put_run(&mut self, run: &[u8]) -> Result<(), DecodeError>
         requires begun { self.old.phase ≡ Phase.Before → ⊥ }
         requires some { 0 < length run.now }
-        requires none { AreNonzero run.now }
+        requires run { IsRun run.now }
         requires long { self.old.place + (length self.old.sure + length run.now) ≤ 2 ^ 36 }
         ensures ok { OnOk result (self.new ≡ record self.old { sure = self.old.sure ++ run.now }) }
         ensures err { IfErr result (λ e. e ≡ DecodeError.Memory) }
@@ -225,8 +225,8 @@ impl Hand {
         Ok(())
     }
 
-    /// Takes the bytes before the first 0 at once, where none of them can end the piece or pass a limit: most bytes are
-    /// taken so. Answers how many.
+    /// Takes the bytes before the first two zeros at once, where none of them can end the piece or pass a limit: most
+    /// bytes are taken so. Answers how many.
     pub fn run(&mut self, bytes: &[u8]) -> Result<usize, DecodeError>
         requires fits { Fits self.old }
         ensures within { IfOk result (λ n. n ≤ length bytes.now) }
@@ -234,7 +234,7 @@ impl Hand {
         ensures none { result ≡ Ok 0 → self.new ≡ self.old }
         ensures err { IfErr result (λ e. e ≡ DecodeError.Memory) }
     {
-        let n = before_zero(bytes, self.room());
+        let n = run_of(bytes, self.room());
         if n == 0 {
             return Ok(0);
         }

@@ -1,8 +1,6 @@
-use Rattle.std.proofs.Common.{take, drop, ◌+◌, ◌-◌, ◌*◌, ◌∙◌, ap, sym, subst, arith, ◌≡◌, ◌<◌, false}
-use Rattle.std.specs.Prelude.{nat_eq}
-use Rattle.std.proofs.Math.Seq.{take-add}
-use Rattle.std.proofs.lemmas.List.Elements.{All-append}
-use Rattle.m2v_dec_piece.specs.Cutting.{AreNonzero}
+use Rattle.std.proofs.Common.{◌+◌, ◌*◌, ◌≡◌, ◌<◌, subst, sym, arith}
+use Rattle.m2v_dec_piece.specs.Cutting.{HasNoPair}
+use Rattle.m2v_dec_piece.proofs.PairLaws.{pair_more}
 use Rattle.m2v_dec_piece.proofs.runs.in_groups.Goals as goal
 
 pub loop-group-preserved : goal.loop-group-preserved
@@ -10,7 +8,5 @@ loop-group-preserved c =
     let bytes = c.args.bytes.now in
     let n = 16 * c.loop-group.group in
     let some : 0 < c.least_of.result = omega (arith, c.if-least_of-eq0.false) in
-    let more = c.least_of.ensures some in
-    let ends : 16 * (c.loop-group.group + 1) ≡ n + ((n + 16) - n) = omega arith in
-    subst AreNonzero (sym (ap (λ k. take k bytes) ends ∙ take-add n ((n + 16) - n) bytes))
-    (All-append (λ b. nat_eq b 0 ≡ false) (take n bytes) (take ((n + 16) - n) (drop n bytes)) c.loop-group.invariant more)
+    let ends : 16 * (c.loop-group.group + 1) ≡ n + 16 = omega arith in
+    subst (λ k. HasNoPair k bytes) (sym ends) (pair_more bytes n c.loop-group.invariant (c.least_of.ensures some))

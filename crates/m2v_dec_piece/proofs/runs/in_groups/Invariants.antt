@@ -1,6 +1,6 @@
-use Rattle.std.proofs.Common.{take, ◌*◌}
-use Rattle.m2v_dec_piece.specs.Cutting.{AreNonzero}
+use Rattle.std.proofs.Common.{◌*◌}
+use Rattle.m2v_dec_piece.specs.Cutting.{HasNoPair}
 use Rattle.m2v_dec_piece.proofs.runs.in_groups.Given as goal
 
 abbrev pub invariant-loop-group : goal.invariant-loop-group
-invariant-loop-group l = AreNonzero (take (16 * l.group) l.bytes)
+invariant-loop-group l = HasNoPair (16 * l.group) l.bytes

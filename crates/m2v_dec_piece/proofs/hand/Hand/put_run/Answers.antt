@@ -14,7 +14,7 @@ invariant_of-self-2 c =
     let long = rw (← c.self.view_is) at c.requires.long in (
       known.0,
       omega (arith, len, length-sure h.bytes.items h.zeros, long),
-      ap zeros_last e ∙ zeros_last_run front c.args.run.now c.requires.none c.requires.some,
+      ap zeros_last e ∙ zeros_last_run front c.args.run.now c.requires.run c.requires.some,
       λ before. absurd ((rw (← c.self.view_is) at c.requires.begun) before),
       λ picture. omega (arith, len, c.requires.some),
     )

@@ -5,9 +5,9 @@ use Rattle.m2v_dec_piece.proofs.hand.Hand.run.Goals as goal
 
 pub returns-clause-took : goal.returns-clause-took
 returns-clause-took c =
-    let n = c.before_zero-n.result in
-    let some : 0 < c.room.result = omega (arith, c.if-n-eq0.false, c.before_zero-n.ensures.most) in
-    let len = length-take-le n c.args.bytes.now c.before_zero-n.ensures.within in
+    let n = c.run_of-n.result in
+    let some : 0 < c.room.result = omega (arith, c.if-n-eq0.false, c.run_of-n.ensures.most) in
+    let len = length-take-le n c.args.bytes.now c.run_of-n.ensures.within in
     took_run c.args.self.now c.put_run.new.self (take n c.args.bytes.now) (c.room.ensures.ahead some) (c.room.ensures.begun some)
-    c.before_zero-n.ensures.none c.requires.fits (omega (arith, len, c.room.ensures.long some, c.before_zero-n.ensures.most))
-    (omega (arith, len, c.room.ensures.large some, c.before_zero-n.ensures.most)) c.in_ok-put_run.ensures.ok
+    c.run_of-n.ensures.run c.requires.fits (omega (arith, len, c.room.ensures.long some, c.run_of-n.ensures.most))
+    (omega (arith, len, c.room.ensures.large some, c.run_of-n.ensures.most)) c.in_ok-put_run.ensures.ok
