@@ -1,3 +1,4 @@
 pub mod Sums
 pub mod Anchors
 pub mod Lists
+pub mod Places
