@@ -1,14 +1,18 @@
 -- Where the activities of a macroblock row stand among those of a group, how many they are, and their range.
-use Rattle.std.proofs.Common.{◌≡◌, ℕ, zero, suc, ◌+◌, ◌-◌, ◌*◌, ◌/◌, ◌%◌, ◌<◌, ◌≤◌, List, [], ◌∷◌, ◌++◌, map, length, take, drop, get_or, replicate, min, arith, refl, ap, sym, ◌∙◌, subst}
-use Rattle.std.specs.Prelude.{All, sum, slice_index, slice_index_or}
+use Rattle.std.proofs.Common.{◌≡◌, ℕ, zero, suc, ◌+◌, ◌-◌, ◌*◌, ◌/◌, ◌%◌, ◌<◌, ◌≤◌, List, [], ◌∷◌, ◌++◌, map, length, take, drop, get_or, replicate, min, arith, ap, sym, ◌∙◌, subst}
+use Rattle.std.specs.Prelude.{All, sum, slice_index_or}
 use Rattle.std.specs.List.{range_with_len, flat_map}
 use Rattle.std.proofs.lemmas.List.{take-take, drop-take, drop-drop, length-append}
+use Rattle.std.proofs.Math.Nat.{mul-le-mul}
+use Rattle.std.proofs.Math.Seq.{take-append_seam, drop-append-add}
 use Rattle.std.proofs.lemmas.List.FromFn.{length-map-range_with_len}
 use Rattle.std.proofs.lemmas.List.Elements.{All-nil, All-cons}
 use Rattle.m2v_kernel.specs.Sums.{sad}
 use Rattle.m2v_pred.specs.m2v_plane.declared.dims.Dims.{Dims}
 use Rattle.m2v_pred.specs.m2v_plane.declared.planes.Plane.TheVariants.{Y}
-use Rattle.m2v_pred.specs.m2v_plane.Sizes.{frame_line, columns_of}
+use Rattle.m2v_pred.specs.m2v_plane.declared.planes.Lines.{Lines}
+use Rattle.m2v_pred.specs.m2v_plane.declared.planes.Lines.TheVariants.{Whole, Top, Bottom}
+use Rattle.m2v_pred.specs.m2v_plane.Sizes.{IsSize, frame_line, columns_of, part_of}
 use Rattle.m2v_pred.specs.m2v_plane.Samples.{Samples, plane_by, sample_in}
 use Rattle.m2v_pred.specs.m2v_plane.Fields.{no_samples}
 use Rattle.m2v_pred.specs.Motion.{own_lines}
@@ -20,15 +24,10 @@ use Rattle.m2v_enc_activity.proofs.Sums.{sad_zeros, sad_most, same_small}
 -- ---- parts of one length, one after another
 
 first_part : (w : ℕ) (x rest : List ℕ) → length x ≡ w → take w (x ++ rest) ≡ x
-first_part w [] rest e = subst (λ (n : ℕ). take n ([] ++ rest) ≡ []) e refl
-first_part w (y ∷ x) rest e = subst (λ (n : ℕ). take n ((y ∷ x) ++ rest) ≡ y ∷ x) e (ap (λ (ys : List ℕ). y ∷ ys) (first_part (length x) x rest refl))
+first_part w x rest e = subst (λ (n : ℕ). take n (x ++ rest) ≡ x) e (take-append_seam x rest)
 
 behind_first : (w n : ℕ) (x rest : List ℕ) → length x ≡ w → drop (w + n) (x ++ rest) ≡ drop n rest
-behind_first w n [] rest e = subst (λ (k : ℕ). drop (k + n) ([] ++ rest) ≡ drop n rest) e (let none : 0 + n ≡ n = omega arith in ap (λ (k : ℕ). drop k rest) none)
-behind_first w n (y ∷ x) rest e =
-    let more : length (y ∷ x) + n ≡ suc (length x + n) = omega arith in
-    subst (λ (k : ℕ). drop (k + n) ((y ∷ x) ++ rest) ≡ drop n rest) e
-    (ap (λ (k : ℕ). drop k ((y ∷ x) ++ rest)) more ∙ behind_first (length x) n x rest refl)
+behind_first w n x rest e = subst (λ (k : ℕ). drop (k + n) (x ++ rest) ≡ drop n rest) e (drop-append-add x rest n)
 
 -- part k of n, the first of which is that of i
 part_at : (f : ℕ → List ℕ) (w n i k : ℕ) → ((j : ℕ) → i ≤ j → j < i + n → length (f j) ≡ w) → k < n
@@ -63,6 +62,26 @@ pub length-picture_activities : (d : Dims) (frames : List Samples) (look : Look)
 unfolding picture_activities
 length-picture_activities d frames look =
     whole_length (row_activities d frames look) d.mb_width (rows_in d look.structure) 0 (λ j _ _. length-row_activities d frames look j)
+
+columns_most : (d : Dims) → IsSize d → d.mb_width ≤ 120
+columns_most d size = omega (arith, size.mb_width, size.width)
+
+half_most : (d : Dims) → IsSize d → d.mb_rows / 2 ≤ 72
+half_most d size = omega (arith, size.mb_rows)
+
+-- a picture has 1 to 8,640 macroblocks, if it has a row
+count_most : (d : Dims) → IsSize d → (lines : Lines) → part_of lines d.mb_rows * d.mb_width ≤ 8640
+count_most d size Whole = omega (arith, mul-le-mul size.mb_rows (columns_most d size))
+count_most d size Top = omega (arith, mul-le-mul (half_most d size) (columns_most d size))
+count_most d size Bottom = omega (arith, mul-le-mul (half_most d size) (columns_most d size))
+
+pub macroblocks_most : (d : Dims) → IsSize d → (structure : ℕ) → rows_in d structure * d.mb_width ≤ 8640
+macroblocks_most d size structure = count_most d size (own_lines structure)
+
+pub macroblocks_some : (d : Dims) → IsSize d → (rows : ℕ) → 1 ≤ rows → 1 ≤ rows * d.mb_width
+macroblocks_some d size rows some =
+    let wide : 1 ≤ d.mb_width = omega (arith, size.mb_width, size.wide) in
+    omega (arith, mul-le-mul some wide)
 
 -- row r of a picture
 row_in_picture : (d : Dims) (frames : List Samples) (look : Look) (r : ℕ) → r < rows_in d look.structure
