@@ -1,9 +1,10 @@
-use Rattle.std.proofs.Common.{◌≡◌, ◌∙◌, ◌+◌, ◌*◌, List, length, map, sym, ap, subst, arith}
+use Rattle.std.proofs.Common.{◌≡◌, ◌∙◌, ◌+◌, ◌*◌, length, sym, ap, subst, arith}
+use Rattle.std.specs.Prelude.{All}
 use Rattle.m2v_set.specs.declared.settings.Settings.{Settings}
 use Rattle.m2v_set.specs.Numbers.{rows_by}
-use Rattle.m2v_order.specs.declared.jobs.PictureJob.{PictureJob}
 use Rattle.m2v_order.specs.Times.{intervals_of}
 use Rattle.m2v_order.specs.Whole.{handed}
+use Rattle.m2v_rate.specs.Sharing.{IsPictureActivity}
 use Rattle.m2v_rate.specs.Plans.{Entries}
 use Rattle.m2v_slice.specs.Books.{Book, rows}
 use Rattle.m2v_slice.specs.Conditions.{IsBook, IsBegunFor}
@@ -21,7 +22,7 @@ begin_group-requires-clause-active g c =
     ∙ length-picture_activities c.args.self.now.settings c.args.group.frames.items c.args.group.pictures.items ∙ sym (ap length pics)
 
 pub begin_group-requires-clause-activities : goal.begin_group-requires-clause-activities
-begin_group-requires-clause-activities g c = ?
+begin_group-requires-clause-activities g c = λ even. subst (All IsPictureActivity) (sym c.deref-3.ensures.value) (c.in_ok-active.ensures.sums even)
 
 pub for_group-requires-clause-ledger : goal.for_group-requires-clause-ledger
 for_group-requires-clause-ledger g c =
