@@ -18,7 +18,7 @@ use Rattle.m2v_pred.specs.m2v_plane.Fields.{no_samples}
 use Rattle.m2v_pred.specs.Motion.{own_lines}
 use Rattle.m2v_pred.proofs.m2v_plane.Places.{line_fits}
 use Rattle.m2v_order.specs.declared.jobs.PictureJob.{PictureJob}
-use Rattle.m2v_enc_activity.specs.Activity.{luma_at, luma_of, texture, least, activity, Look, look_of, job_in, activity_at, row_activities, rows_in, picture_activities, activities, IsActivity}
+use Rattle.m2v_enc_activity.specs.Activity.{luma_at, luma_of, texture, least, activity, Look, look_of, job_in, activity_at, row_activities, rows_in, picture_activities, activities, group_activities, IsActivity}
 use Rattle.m2v_enc_activity.proofs.Sums.{sad_zeros, sad_most, same_small}
 
 -- ---- parts of one length, one after another
@@ -102,6 +102,10 @@ picture_in_all d frames pictures rows p each small =
     part_at (λ q. picture_activities d frames (look_of pictures q)) (rows * d.mb_width) (length pictures) 0 p
     (λ j _ less. length-picture_activities d frames (look_of pictures j) ∙ ap (λ (n : ℕ). n * d.mb_width) (each j (omega (arith, less)))) small
     ∙ ap (λ (q : ℕ). picture_activities d frames (look_of pictures q)) same
+
+pub length-group_activities : (d : Dims) (frames : List Samples) (pictures : List PictureJob) → length (group_activities d frames pictures) ≡ length pictures
+unfolding group_activities
+length-group_activities d frames pictures = length-map-range_with_len (λ p. sum (picture_activities d frames (look_of pictures p))) 0 (length pictures)
 
 within_first : (a b m : ℕ) (xs : List ℕ) → b + a ≤ m → take a (drop b (take m xs)) ≡ take a (drop b xs)
 within_first a b m xs fits =

@@ -5,6 +5,7 @@ use Rattle.std.specs.List.{range_with_len, flat_map}
 use Rattle.m2v_bits.specs.Bits.{packed, start_code}
 use Rattle.m2v_set.specs.declared.settings.Settings.{Settings}
 use Rattle.m2v_set.specs.Numbers.{dims_of, delay_of, least_of, longest_interval_of}
+use Rattle.m2v_set.specs.Rules.{is_even}
 use Rattle.m2v_plane.specs.Samples.{Samples}
 use Rattle.m2v_plane.specs.Raw.{crop}
 use Rattle.m2v_vbv.specs.Account.{State}
@@ -13,14 +14,14 @@ use Rattle.m2v_order.specs.Times.{intervals_of, interval_behind, repeats, repeat
 use Rattle.m2v_order.specs.Coding.{is_intra, is_anchor, anchors_between, in_order}
 use Rattle.m2v_order.specs.Groups.{Queue, Group, is_due, intra_from, first_of, group_anchors, past_last, jobs_of, anchor_before, group_of, after_group}
 use Rattle.m2v_rate.specs.declared.values.Plan.{Plan}
-use Rattle.m2v_rate.specs.Plans.{Entries, account_at, low_behind, mean_behind, weights, incomes, pool, target_of, last_known, plan_of, slice_cap_of, first_open, begun}
+use Rattle.m2v_rate.specs.Plans.{Entries, account_at, low_behind, mean_behind, weights, incomes, pool, target_of, last_known, plan_by_weights, outlook_of, plan_by_source, plan_of, slice_cap_of, first_open, begun}
 use Rattle.m2v_slice.specs.Slices.{CodedSlice, slice_of}
 use Rattle.m2v_slice.specs.Headers.{context_of, extension_of, is_film, header_units, group_units, picture_units, sequence_of, sequence_extension_of, group_from, shown_number}
 use Rattle.m2v_plane.specs.declared.planes.Plane.{Plane}
 use Rattle.m2v_plane.specs.declared.planes.Lines.{Lines}
 use Rattle.m2v_plane.specs.declared.planes.Lines.TheVariants.{Top, Bottom}
 use Rattle.m2v_slice.specs.m2v_macroblock.Predictions.{View}
-use Rattle.m2v_slice.specs.Books.{anchors_before, job_at, has_lines, picture_sample, reference, reference_picture, nth, forward_number, rows, Book, CodedPicture, coded, next_picture, task_of, ledger_for, ledger_with, ledger_behind}
+use Rattle.m2v_slice.specs.Books.{anchors_before, job_at, has_lines, picture_sample, reference, reference_picture, nth, forward_number, rows, Book, CodedPicture, coded, next_picture, slice_activities, picture_activities, task_of, ledger_for, ledger_with, ledger_behind}
 use Rattle.m2v_enc_stream.specs.Streams.{Progress, frame_or, anchor_frame, picture_with, frame_by, pictures_text, picture_text, frame_of, group_coded, groups_coded, groups_from, coded_all, Coded, Recon, at_start, waiting, book_of, zeros_sum}
 
 module _ (w : ℕ) where
@@ -56,9 +57,23 @@ module _ (w : ℕ) where
   lasts l kind zero = refl
   lasts l kind (suc n) = rw (lasts l kind n) refl
 
+  plans_by_weights : (l : Entries) (p : ℕ) → plan_by_weights (entries l) p ≡ plan_by_weights l p
+  unfolding plan_by_weights least_of
+  plans_by_weights l p = rw (targets l p, lows l (first_open p) (p - first_open p), lasts l (slice_index l.kinds p) (first_open p)) refl
+
+  outlooks : (l : Entries) (p : ℕ) → outlook_of (entries l) p ≡ outlook_of l p
+  unfolding delay_of
+  outlooks l p =
+      let f = first_open p in
+      rw (means l f (p - f), lows l f (p - f), lasts l 1 f, lasts l 2 f, lasts l 3 f) refl
+
+  plans_by_source : (l : Entries) (p : ℕ) → plan_by_source (entries l) p ≡ plan_by_source l p
+  unfolding plan_by_source least_of
+  plans_by_source l p = rw (outlooks l p, lows l (first_open p) (p - first_open p)) refl
+
   plans : (l : Entries) (p : ℕ) → plan_of (entries l) p ≡ plan_of l p
-  unfolding plan_of least_of
-  plans l p = rw (targets l p, lows l (first_open p) (p - first_open p), lasts l (slice_index l.kinds p) (first_open p)) refl
+  unfolding plan_of
+  plans l p = ap₂ (λ (x y : Plan). if is_even l.settings.planning then x else y) (plans_by_source l p) (plans_by_weights l p)
 
   -- ---- pictures
 
@@ -88,7 +103,7 @@ module _ (w : ℕ) where
       ∙ ap (λ (js : List ℕ). picture_sample b done (nth n js) plane lines line column) (anchors b lines p)))))
 
   tasks : (b : Book) (done : List CodedPicture) (p : ℕ) (plan : Plan) (r : ℕ) → task_of (book b) done p plan r ≡ task_of b done p plan r
-  unfolding task_of context_of extension_of is_film is_top_first repeats slice_cap_of least_of
+  unfolding task_of slice_activities dims_of context_of extension_of is_film is_top_first repeats slice_cap_of least_of
   tasks b done p plan r =
       ap₂ (λ (f g : View). record (task_of b done p plan r) { forward = f; backward = g })
       (references b done p (forward_number (job_at b p).kind)) (references b done p 0)
@@ -156,10 +171,14 @@ module _ (w : ℕ) where
   times s last [] = refl
   times s last (job ∷ more) = ap (λ (us : List ℕ). interval_behind s last job ∷ us) (times s (anchor_after last job) more)
 
-  openings : (l : Entries) (kinds intervals : List ℕ) → begun (entries l) kinds intervals ≡ entries (begun l kinds intervals)
-  openings l kinds intervals =
+  openings : (l : Entries) (kinds intervals activities : List ℕ) → begun (entries l) kinds intervals activities ≡ entries (begun l kinds intervals activities)
+  openings l kinds intervals activities =
       let n = length l.kinds in
       rw (accounts l n, lasts l 1 n, lasts l 2 n, lasts l 3 n) refl
+
+  sources : (s : Settings) (frames : List Samples) (pictures : List PictureJob) → picture_activities (by s) frames pictures ≡ picture_activities s frames pictures
+  unfolding picture_activities dims_of
+  sources s frames pictures = refl
 
   abbrev progress : Progress → Progress
   progress x = record x { ledger = entries x.ledger }
@@ -168,8 +187,8 @@ module _ (w : ℕ) where
   books s x g =
       let kinds = map (λ (j : PictureJob). j.kind) g.pictures in
       ap (λ (l : Entries). record { settings = by s; frames = g.frames; pictures = g.pictures; before = x.before; ledger = l })
-      (ap (λ (us : List ℕ). begun (entries x.ledger) kinds us) (times s g.before g.pictures)
-      ∙ openings x.ledger kinds (intervals_of s g.before g.pictures))
+      (ap₂ (begun (entries x.ledger) kinds) (times s g.before g.pictures) (sources s g.frames g.pictures)
+      ∙ openings x.ledger kinds (intervals_of s g.before g.pictures) (picture_activities s g.frames g.pictures))
 
   -- what a group leaves, by its book
   abbrev behind : Progress → Group Samples → Bool → Book → Progress

@@ -11,7 +11,7 @@ use Rattle.m2v_set.specs.declared.settings.Settings.{Settings}
 use Rattle.m2v_set.specs.Numbers.{dims_of}
 use Rattle.m2v_order.specs.Groups.{Group}
 use Rattle.m2v_rate.specs.Plans.{Entries, account_at}
-use Rattle.m2v_rate.specs.Steady.{IsLedger}
+use Rattle.m2v_rate.specs.Steady.{IsSteady}
 use Rattle.m2v_rate.proofs.Lows.{removals_at}
 use Rattle.m2v_slice.specs.Books.{Book, ledger_with}
 use Rattle.m2v_slice.specs.Conditions.{IsBook}
@@ -116,7 +116,7 @@ goes_on c d g b coded h is goes settings ledger before pictures place =
     ap (λ (l : Entries). account_at l (length b.pictures)) (sym ledger) ∙ ap (account_at d.ledger) (sym kinds) in
     record {
       settings = ap (λ (l : Entries). l.settings) ledger ∙ whole_settings b h ∙ same;
-      ledger = subst IsLedger (sym ledger) (whole_ledger_is b h);
+      steady = subst IsSteady (sym ledger) (whole_ledger_is b h).steady;
       known = ap (λ (l : Entries). length l.sizes) ledger ∙ whole_sizes b ∙ sym kinds;
       removals = omega (arith, ap (λ (l : Entries). l.account.removals) ledger, removals_kept b, first_removals c g b coded is goes, kinds, pictures);
       place = subst (λ (s : Settings). IsPlace s (account_at d.ledger (length d.ledger.kinds)) (8 * d.total.bytes)) same

@@ -13,7 +13,7 @@ use Rattle.m2v_order.specs.Groups.{Queue, opening, first_of, intra_from, next_in
 use Rattle.m2v_order.proofs.Queues.{grouped, push_first, sound_push, sound_next, due_is, turn_is, next_is, true_false}
 use Rattle.m2v_order.proofs.Wholes.{group_is}
 use Rattle.m2v_rate.specs.Plans.{Entries, account_at, fresh}
-use Rattle.m2v_rate.specs.Steady.{IsLedger}
+use Rattle.m2v_rate.specs.Steady.{IsSteady}
 use Rattle.m2v_rate.proofs.Places.{fresh_place}
 use Rattle.m2v_rate.proofs.Streams.{fresh_ledger}
 use Rattle.m2v_encode.specs.declared.answer.Summary.{Summary}
@@ -32,7 +32,7 @@ pub goes_fresh : (c : Coder) (q : Queue Samples) → Passes c.settings → c.led
     → c.total ≡ record { frames = 0; pictures = 0; bytes = 0; stuffing = 0 } → q ≡ opening c.settings → GoesOn c (is_some (anchor_before (first_of q)))
 goes_fresh c q passes ledger before total queue = record {
   settings = ap (λ (l : Entries). l.settings) ledger;
-  ledger = subst IsLedger (sym ledger) (fresh_ledger c.settings passes);
+  steady = subst IsSteady (sym ledger) (fresh_ledger c.settings passes).steady;
   known = ap (λ (l : Entries). length l.sizes) ledger ∙ sym (ap (λ (l : Entries). length l.kinds) ledger);
   removals = ap (λ (l : Entries). l.account.removals + length l.kinds) ledger ∙ sym (ap (λ (t : Summary). t.pictures) total);
   place = subst (λ (l : Entries). IsPlace c.settings (account_at l (length l.kinds)) (8 * c.total.bytes)) (sym ledger)

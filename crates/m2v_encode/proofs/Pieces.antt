@@ -1,5 +1,5 @@
 -- The pieces of a book's jobs, its pictures, and what is told to its ledger.
-use Rattle.std.proofs.Common.{◌≡◌, ℕ, zero, suc, ◌+◌, ◌-◌, ◌*◌, ◌%◌, ◌^◌, ◌<◌, ◌≤◌, List, [], ◌∷◌, length, map, get_or, refl, sym, ap, subst, ◌∙◌, arith}
+use Rattle.std.proofs.Common.{◌≡◌, ℕ, zero, suc, ◌+◌, ◌-◌, ◌*◌, ◌%◌, ◌^◌, ◌<◌, ◌≤◌, List, [], ◌∷◌, length, map, get_or, refl, sym, ap, ap₂, subst, ◌∙◌, arith}
 use Rattle.std.specs.Prelude.{slice_index, sum_by}
 use Rattle.std.specs.List.{range_with_len}
 use Rattle.std.proofs.lemmas.List.FromFn.{fill_by_all, sum_by-map-range_with_len_more}
@@ -12,7 +12,7 @@ use Rattle.m2v_slice.specs.Slices.{CodedSlice}
 use Rattle.m2v_slice.specs.Headers.{header_bits}
 use Rattle.m2v_slice.specs.declared.pieces.EncodePiece.{EncodePiece}
 use Rattle.m2v_slice.specs.declared.pieces.EncodePiece.TheVariants as piece
-use Rattle.m2v_slice.specs.Books.{Book, CodedPicture, rows, job_at, no_job, coded, picture_at, slice_at, slice_job, plan_job, size_of}
+use Rattle.m2v_slice.specs.Books.{Book, CodedPicture, rows, job_at, no_job, coded, picture_at, slice_at, slice_job, plan_job, size_of, work_of}
 use Rattle.m2v_slice.specs.Conditions.{IsBook}
 use Rattle.m2v_slice.specs.Jobs.{value_of, slice_piece, plan_piece}
 use Rattle.m2v_slice.proofs.Coded.{no_slice, picture_is, slices_count, slice_stays}
@@ -20,7 +20,7 @@ use Rattle.m2v_slice.proofs.Learned.{plan_picture, plan_part, slice_picture, sli
 use Rattle.m2v_slice.proofs.Groups.{passes_of}
 use Rattle.m2v_slice.proofs.Steady.{ledger_at, ledger_known}
 use Rattle.m2v_slice.proofs.Sound.{ledger_kinds, ledger_caps, ledger_sizes, ledger_cap, plan_is_good}
-use Rattle.m2v_slice.proofs.Ledgers.{times_count, size_in}
+use Rattle.m2v_slice.proofs.Ledgers.{times_count, size_in, work_in}
 use Rattle.m2v_encode.specs.Groups.{all_coded}
 
 pub get_or_same : {A : Type 0} (xs : List A) (i : ℕ) (d e : A) → i < length xs → get_or xs i d ≡ get_or xs i e
@@ -131,6 +131,31 @@ slice_small b h p r lt small =
     let whole : r + 1 + (rows b - (r + 1)) ≡ rows b = omega (arith, small) in
     omega (arith, size_small b h p lt, bits_all b p lt, bits_more b p r, all, ap (bits_so_far b p) whole)
 
+-- ---- work
+
+-- the work of a picture but for its last slices
+abbrev pub work_so_far : Book → ℕ → ℕ → ℕ
+work_so_far b p n = sum_by (λ (x : CodedSlice). x.work) (map (λ r. slice_at (all_coded b) p r) (range_with_len 0 n))
+
+pub work_more : (b : Book) (p n : ℕ) → work_so_far b p (n + 1) ≡ work_so_far b p n + (slice_at (all_coded b) p n).work
+work_more b p n =
+    let more = sum_by-map-range_with_len_more (λ (x : CodedSlice). x.work) (λ r. slice_at (all_coded b) p r) 0 n n (omega arith) in
+    omega (arith, more)
+
+work_upto : (b : Book) (p n k : ℕ) → work_so_far b p n ≤ work_so_far b p (n + k)
+work_upto b p n zero = let e : n ≡ n + 0 = omega arith in omega (arith, ap (work_so_far b p) e)
+work_upto b p n (suc k) = let e : n + k + 1 ≡ n + suc k = omega arith in omega (arith, work_upto b p n k, work_more b p (n + k), ap (work_so_far b p) e)
+
+pub work_all : (b : Book) (p : ℕ) → p < length b.pictures → work_so_far b p (rows b) ≡ work_of (all_coded b) p
+work_all b p lt = ap (λ (xs : List CodedSlice). sum_by (λ (x : CodedSlice). x.work) xs) (sym (slices_by b p lt))
+
+-- with each slice more it is within numbers of 32 bits
+pub work_small : (b : Book) → IsBook b → (p r : ℕ) → p < length b.pictures → r < rows b → work_so_far b p r + (slice_at (all_coded b) p r).work < 2 ^ 29
+work_small b h p r lt small =
+    let all = work_upto b p (r + 1) (rows b - (r + 1)) in
+    let whole : r + 1 + (rows b - (r + 1)) ≡ rows b = omega (arith, small) in
+    omega (arith, work_in b h p lt, size_small b h p lt, work_all b p lt, work_more b p r, all, ap (work_so_far b p) whole)
+
 -- ---- times
 
 pub time_small : (b : Book) → IsBook b → (p : ℕ) → p < length b.pictures → slice_index b.ledger.intervals p < 2 ^ 20
@@ -139,26 +164,29 @@ time_small b h p lt =
 
 -- ---- the ledger
 
--- what a ledger is asked for before a size is told to it
-pub record MayTell (b : Book) (p bits : ℕ) (l : Entries) : Type 0 where
+-- what a ledger is asked for before a size and a work are told to it
+pub record MayTell (b : Book) (p bits work : ℕ) (l : Entries) : Type 0 where
   pub picture : p < length l.kinds
   pub first : p ≡ length l.sizes
   pub planned : p < length l.caps
   pub within : bits ≤ slice_index l.caps p
+  pub effort : work ≤ 31 * bits
 
-pub may_tell : (b : Book) → IsBook b → (p bits : ℕ) (l : Entries) → p < length b.pictures → bits ≡ size_of b (all_coded b) p
-    → l ≡ ledger_at b p (length b.pictures) → MayTell b p bits l
-may_tell b h p bits l lt size is =
+pub may_tell : (b : Book) → IsBook b → (p bits work : ℕ) (l : Entries) → p < length b.pictures → bits ≡ size_of b (all_coded b) p
+    → work ≡ work_of (all_coded b) p → l ≡ ledger_at b p (length b.pictures) → MayTell b p bits work l
+may_tell b h p bits work l lt size effort is =
     let n = length b.pictures in
-    let here : MayTell b p bits (ledger_at b p n) = record {
+    let here : MayTell b p bits work (ledger_at b p n) = record {
       picture = omega (arith, ledger_kinds b h p n, lt);
       first = sym (ledger_sizes b p n);
       planned = omega (arith, ledger_caps b p n, lt);
       within = omega (arith, ledger_cap b p n p lt, size_in b h p lt, size);
+      effort = omega (arith, work_in b h p lt, size, effort);
     } in
-    subst (MayTell b p bits) (sym is) here
+    subst (MayTell b p bits work) (sym is) here
 
-pub told_more : (b : Book) (p bits : ℕ) (l m : Entries) → bits ≡ size_of b (all_coded b) p → l ≡ ledger_at b p (length b.pictures)
-    → m ≡ with_size l bits → m ≡ ledger_at b (p + 1) (length b.pictures)
-told_more b p bits l m size is new =
-    new ∙ ap (λ (x : Entries). with_size x bits) is ∙ ap (with_size (ledger_at b p (length b.pictures))) size ∙ sym (ledger_known b p (length b.pictures))
+pub told_more : (b : Book) (p bits work : ℕ) (l m : Entries) → bits ≡ size_of b (all_coded b) p → work ≡ work_of (all_coded b) p
+    → l ≡ ledger_at b p (length b.pictures) → m ≡ with_size l bits work → m ≡ ledger_at b (p + 1) (length b.pictures)
+told_more b p bits work l m size effort is new =
+    new ∙ ap (λ (x : Entries). with_size x bits work) is ∙ ap₂ (with_size (ledger_at b p (length b.pictures))) size effort
+    ∙ sym (ledger_known b p (length b.pictures))

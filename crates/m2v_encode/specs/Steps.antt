@@ -11,7 +11,7 @@ use Rattle.m2v_order.specs.declared.jobs.PictureJob.{PictureJob}
 use Rattle.m2v_order.specs.Groups.{Queue, Group, is_due, group_of, after_push, after_group, followed}
 use Rattle.m2v_order.specs.Times.{intervals_of}
 use Rattle.m2v_rate.specs.Plans.{account_at, begun}
-use Rattle.m2v_rate.specs.Steady.{IsLedger}
+use Rattle.m2v_rate.specs.Steady.{IsSteady}
 use Rattle.m2v_slice.specs.Books.{Book, picture_activities}
 use Rattle.m2v_law_headline.specs.m2v_enc_stream.Streams.{Progress, at_start, groups_begun, groups_from, waiting, zeros_sum}
 use Rattle.m2v_encode.specs.declared.answer.Summary.{Summary}
@@ -78,7 +78,7 @@ pub record IsFew (t : Summary) : Type 0 where
 -- one was coded
 pub record GoesOn (c : Coder) (coded : Bool) : Type 0 where
   pub settings : c.ledger.settings ≡ c.settings
-  pub ledger : IsLedger c.ledger
+  pub steady : IsSteady c.ledger
   pub known : length c.ledger.sizes ≡ length c.ledger.kinds
   pub removals : c.ledger.account.removals + length c.ledger.kinds ≡ c.total.pictures
   pub place : IsPlace c.settings (account_at c.ledger (length c.ledger.kinds)) (8 * c.total.bytes)

@@ -8,17 +8,18 @@ use Rattle.m2v_set.specs.Numbers.{IsInterval}
 use Rattle.m2v_order.specs.declared.jobs.PictureJob.{PictureJob}
 use Rattle.m2v_rate.specs.declared.values.Plan.{Plan}
 use Rattle.m2v_rate.specs.Plans.{Entries, first_open, plan_of, begun}
-use Rattle.m2v_rate.specs.Seen.{told, Agree}
+use Rattle.m2v_rate.specs.Seen.{Told, told, Agree, SeesSame}
 use Rattle.m2v_rate.specs.Safety.{Picture, closed, IsCoded}
 use Rattle.m2v_rate.proofs.Same.{plan_same}
 use Rattle.m2v_enc_stream.specs.m2v_slice.Slices.{CodedSlice}
 use Rattle.m2v_enc_stream.specs.m2v_slice.Headers.{header_bits}
-use Rattle.m2v_enc_stream.specs.m2v_slice.Books.{Book, CodedPicture, no_job, job_at, coded, picture_at, size_of, ledger_with}
+use Rattle.m2v_enc_stream.specs.m2v_slice.Books.{Book, CodedPicture, no_job, job_at, coded, picture_at, size_of, work_of, told_with, ledger_with}
 use Rattle.m2v_enc_stream.specs.m2v_slice.Conditions.{IsBook}
 use Rattle.m2v_enc_stream.proofs.m2v_slice.Coded.{none, count, picture_is, picture_stays, plan_is}
-use Rattle.m2v_enc_stream.proofs.m2v_slice.Steady.{IsPlan, header_small, next_within, ledger_at, ledger_for_is, sizes_stay}
+use Rattle.m2v_enc_stream.proofs.m2v_slice.Steady.{IsPlan, header_small, next_within, ledger_at, ledger_for_is, sizes_stay, works_stay}
 use Rattle.m2v_enc_stream.proofs.m2v_slice.Sound.{plan_is_good}
 use Rattle.m2v_enc_stream.proofs.m2v_slice.Ledgers.{times_count}
+use Rattle.m2v_enc_stream.proofs.m2v_slice.Activities.{activities_count}
 use Rattle.m2v_law_safe.specs.Removals.{coded_of, ledger_of, seen_at, seen_of}
 
 -- ---- the pictures one by one
@@ -46,12 +47,22 @@ kinds_told b =
 intervals_told : (b : Book) → IsBook b → map (λ (x : Picture). x.interval) (seen_of b) ≡ b.ledger.intervals
 intervals_told b h = told_by b (λ (x : Picture). x.interval) b.ledger.intervals (times_count b h) (λ p lt. refl)
 
-sizes_told : (b : Book) → map (λ (x : Picture). x.size) (seen_of b) ≡ map (size_of b (coded_of b)) (range_with_len 0 (length (coded_of b)))
-sizes_told b =
+activities_told : (b : Book) → IsBook b → map (λ (x : Picture). x.activity) (seen_of b) ≡ b.ledger.activities
+activities_told b h = told_by b (λ (x : Picture). x.activity) b.ledger.activities (activities_count b h) (λ p lt. refl)
+
+-- what is told of each picture, by its place
+each_told : (b : Book) (f : Picture → ℕ) (g : ℕ → ℕ) → ((p : ℕ) → g p ≡ f (seen_at b p)) → map f (seen_of b) ≡ map g (range_with_len 0 (length (coded_of b)))
+each_told b f g each =
     let n = length b.pictures in
-    told_by b (λ (x : Picture). x.size) (map (size_of b (coded_of b)) (range_with_len 0 (length (coded_of b))))
-    (length-map-range_with_len (size_of b (coded_of b)) 0 (length (coded_of b)) ∙ count b n)
-    (λ p lt. get_or-map-range_with_len (size_of b (coded_of b)) 0 (length (coded_of b)) p p 0 (omega (arith, lt, count b n)) (omega arith))
+    told_by b f (map g (range_with_len 0 (length (coded_of b))))
+    (length-map-range_with_len g 0 (length (coded_of b)) ∙ count b n)
+    (λ p lt. get_or-map-range_with_len g 0 (length (coded_of b)) p p 0 (omega (arith, lt, count b n)) (omega arith) ∙ each p)
+
+sizes_told : (b : Book) → map (λ (x : Picture). x.size) (seen_of b) ≡ map (size_of b (coded_of b)) (range_with_len 0 (length (coded_of b)))
+sizes_told b = each_told b (λ (x : Picture). x.size) (size_of b (coded_of b)) (λ p. refl)
+
+works_told : (b : Book) → map (λ (x : Picture). x.work) (seen_of b) ≡ map (work_of (coded_of b)) (range_with_len 0 (length (coded_of b)))
+works_told b = each_told b (λ (x : Picture). x.work) (work_of (coded_of b)) (λ p. refl)
 
 plans_told : (b : Book) (f : Plan → ℕ) → map (λ (x : Picture). f x.plan) (seen_of b) ≡ map (λ (x : CodedPicture). f x.plan) (coded_of b)
 plans_told b f =
@@ -63,20 +74,33 @@ plans_told b f =
 -- ---- the closed ledger
 
 -- the ledger with which the group begins, as the book has it
-pub begun_is : (b : Book) (h : IsBook b) → begun h.ledger.from (map (λ (x : Picture). x.kind) (seen_of b)) (map (λ (x : Picture). x.interval) (seen_of b)) ≡ b.ledger
+begun_same : (l : Entries) (k t a k' t' a' : List ℕ) → k ≡ k' → t ≡ t' → a ≡ a' → begun l k t a ≡ begun l k' t' a'
+begun_same l k t a k' t' a' ek et ea = rw (ek, et, ea) refl
+
+pub begun_is : (b : Book) (h : IsBook b)
+    → begun h.ledger.from (map (λ (x : Picture). x.kind) (seen_of b)) (map (λ (x : Picture). x.interval) (seen_of b)) (map (λ (x : Picture). x.activity) (seen_of b)) ≡ b.ledger
 begun_is b h =
-    ap (λ (ks : List ℕ). begun h.ledger.from ks (map (λ (x : Picture). x.interval) (seen_of b))) (kinds_told b)
-    ∙ ap (begun h.ledger.from (map (λ (j : PictureJob). j.kind) b.pictures)) (intervals_told b h ∙ ap (λ (l : Entries). l.intervals) h.ledger.begun)
+    begun_same h.ledger.from _ _ _ _ _ _ (kinds_told b)
+    (intervals_told b h ∙ ap (λ (l : Entries). l.intervals) h.ledger.begun) (activities_told b h ∙ ap (λ (l : Entries). l.activities) h.ledger.begun)
     ∙ sym h.ledger.begun
 
-told_same : (l : Entries) (s q c t s' q' c' t' : List ℕ) → s ≡ s' → q ≡ q' → c ≡ c' → t ≡ t' → told l s q c t ≡ told l s' q' c' t'
-told_same l s q c t s' q' c' t' es eq ec et = rw (es, eq, ec, et) refl
+-- what is told of the pictures of a book
+abbrev told_of : Book → Told
+told_of b = record {
+  sizes = map (λ (x : Picture). x.size) (seen_of b);
+  works = map (λ (x : Picture). x.work) (seen_of b);
+  quantisers = map (λ (x : Picture). x.plan.q) (seen_of b);
+  caps = map (λ (x : Picture). x.plan.cap) (seen_of b);
+  targets = map (λ (x : Picture). x.plan.target) (seen_of b);
+}
+
+told_same : (b : Book) → told_of b ≡ told_with b (coded_of b) (length (coded_of b)) (coded_of b)
+told_same b =
+    rw (sizes_told b, works_told b, plans_told b (λ (x : Plan). x.q), plans_told b (λ (x : Plan). x.cap), plans_told b (λ (x : Plan). x.target)) refl
 
 pub closed_is : (b : Book) (h : IsBook b) → closed h.ledger.from (seen_of b) ≡ ledger_of b
 unfolding ledger_with
-closed_is b h =
-    ap (λ (l : Entries). told l (map (λ (x : Picture). x.size) (seen_of b)) (map (λ (x : Picture). x.plan.q) (seen_of b)) (map (λ (x : Picture). x.plan.cap) (seen_of b)) (map (λ (x : Picture). x.plan.target) (seen_of b))) (begun_is b h)
-    ∙ told_same b.ledger _ _ _ _ _ _ _ _ (sizes_told b) (plans_told b (λ (x : Plan). x.q)) (plans_told b (λ (x : Plan). x.cap)) (plans_told b (λ (x : Plan). x.target))
+closed_is b h = ap (λ (l : Entries). told l (told_of b)) (begun_is b h) ∙ ap (told b.ledger) (told_same b)
 
 -- ---- plans
 
@@ -88,21 +112,34 @@ plans_agree b p f lt = λ j less.
     ∙ ap (λ (x : CodedPicture). f x.plan) (picture_stays b p n j less (omega (arith, less, lt)))
     ∙ sym (get_or-map (λ (x : CodedPicture). f x.plan) (coded_of b) j none 0 (omega (arith, less, lt, count b n)))
 
-sizes_agree : (b : Book) (p : ℕ) → p < length b.pictures
-    → Agree (first_open p) (map (size_of b (coded b p)) (range_with_len 0 (first_open p))) (map (size_of b (coded_of b)) (range_with_len 0 (length (coded_of b))))
-sizes_agree b p lt = λ j less.
+-- a list by place that stays as more pictures are coded
+places_agree : (b : Book) (p : ℕ) (f g : ℕ → ℕ) → p < length b.pictures
+    → map f (range_with_len 0 (first_open p)) ≡ map g (range_with_len 0 (first_open p))
+    → Agree (first_open p) (map f (range_with_len 0 (first_open p))) (map g (range_with_len 0 (length (coded_of b))))
+places_agree b p f g lt stay = λ j less.
     let n = length b.pictures in
-    let f = first_open p in
-    ap (λ (xs : List ℕ). get_or xs j 0) (sizes_stay b f p n (omega arith) (omega (arith, lt)))
-    ∙ get_or-map-range_with_len (size_of b (coded_of b)) 0 f j j 0 less (omega arith)
-    ∙ sym (get_or-map-range_with_len (size_of b (coded_of b)) 0 (length (coded_of b)) j j 0 (omega (arith, less, lt, count b n)) (omega arith))
+    let k = first_open p in
+    ap (λ (xs : List ℕ). get_or xs j 0) stay
+    ∙ get_or-map-range_with_len g 0 k j j 0 less (omega arith)
+    ∙ sym (get_or-map-range_with_len g 0 (length (coded_of b)) j j 0 (omega (arith, less, lt, count b n)) (omega arith))
+
+sees_same : (b : Book) (p : ℕ) → p < length b.pictures
+    → SeesSame p (told_with b (coded b p) (first_open p) (coded b p)) (told_with b (coded_of b) (length (coded_of b)) (coded_of b))
+sees_same b p lt =
+    let n = length b.pictures in
+    let k = first_open p in
+    record {
+      sizes = places_agree b p (size_of b (coded b p)) (size_of b (coded_of b)) lt (sizes_stay b k p n (omega arith) (omega (arith, lt)));
+      works = places_agree b p (work_of (coded b p)) (work_of (coded_of b)) lt (works_stay b k p n (omega arith) (omega (arith, lt)));
+      quantisers = plans_agree b p (λ (x : Plan). x.q) lt;
+      caps = plans_agree b p (λ (x : Plan). x.cap) lt;
+      targets = plans_agree b p (λ (x : Plan). x.target) lt;
+    }
 
 -- a plan reads no more than it knew
 plan_closed : (b : Book) (p : ℕ) → p < length b.pictures → plan_of (ledger_at b (first_open p) p) p ≡ plan_of (ledger_of b) p
 unfolding ledger_with
-plan_closed b p lt =
-    plan_same b.ledger _ _ _ _ _ _ _ _ p (sizes_agree b p lt)
-    (plans_agree b p (λ (x : Plan). x.q) lt) (plans_agree b p (λ (x : Plan). x.cap) lt) (plans_agree b p (λ (x : Plan). x.target) lt)
+plan_closed b p lt = plan_same b.ledger _ _ p (sees_same b p lt)
 
 plan_kept : (b : Book) (p : ℕ) → p < length b.pictures → (picture_at (coded_of b) p).plan ≡ plan_of (ledger_of b) p
 plan_kept b p lt =

@@ -22,6 +22,7 @@ pub mod Steady
 pub mod Sound
 pub mod Ledgers
 pub mod Begun
+pub mod Activities
 pub mod Firsts
 pub mod Works
 pub mod Planned

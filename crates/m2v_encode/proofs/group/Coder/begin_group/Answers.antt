@@ -18,3 +18,9 @@ group-requires-clause-timed c =
     ∙ times_length c.args.self.now.settings c.args.before c.args.pictures.now
     ∙ sym (length-map c.args.pictures.now (λ (j : PictureJob). j.kind))
     ∙ sym (ap length (c.deref.ensures.value ∙ c.in_ok-kinds.ensures.value))
+
+pub group-requires-clause-active : goal.group-requires-clause-active
+group-requires-clause-active c =
+    c.requires.active
+    ∙ sym (length-map c.args.pictures.now (λ (j : PictureJob). j.kind))
+    ∙ sym (ap length (c.deref.ensures.value ∙ c.in_ok-kinds.ensures.value))

@@ -50,7 +50,7 @@ pub returns-in-Ok-Some-clause-going : goal.returns-in-Ok-Some-clause-going
 returns-in-Ok-Some-clause-going g c =
     let due = (rw c.in-Ok-Some.field-0-is at c.in-Ok-Some.ensures.due).0 refl in
     let going = c.requires.going in
-    let passes : Passes c.args.queue.now.settings = subst Passes (going.settings ∙ sym c.requires.settings) going.ledger.steady.begun.passes in
+    let passes : Passes c.args.queue.now.settings = subst Passes (going.settings ∙ sym c.requires.settings) going.steady.begun.passes in
     on_ok_weaker c.code_group.result
     (λ next. subst (GoesOn c.code_group.new.self) (sym (after_some c.args.queue.now c.next_group.new.self passes c.requires.sound due (rw c.in-Ok-Some.field-0-is at c.in-Ok-Some.ensures.rest))) (next refl))
     c.code_group.ensures.going

@@ -1,17 +1,28 @@
-use Rattle.std.proofs.Common.{◌≡◌, ◌∙◌, ◌+◌, ◌*◌, List, length, map, sym, ap, subst, arith}
+use Rattle.std.proofs.Common.{◌≡◌, ◌∙◌, ◌+◌, ◌*◌, length, sym, ap, subst, arith}
+use Rattle.std.specs.Prelude.{All}
 use Rattle.m2v_set.specs.declared.settings.Settings.{Settings}
 use Rattle.m2v_set.specs.Numbers.{rows_by}
-use Rattle.m2v_order.specs.declared.jobs.PictureJob.{PictureJob}
 use Rattle.m2v_order.specs.Times.{intervals_of}
 use Rattle.m2v_order.specs.Whole.{handed}
-use Rattle.m2v_rate.specs.Plans.{Entries, begun}
+use Rattle.m2v_rate.specs.Sharing.{IsPictureActivity}
+use Rattle.m2v_rate.specs.Plans.{Entries}
 use Rattle.m2v_slice.specs.Books.{Book, rows}
 use Rattle.m2v_slice.specs.Conditions.{IsBook, IsBegunFor}
 use Rattle.m2v_slice.specs.Jobs.{jobs_of}
 use Rattle.m2v_encode.specs.declared.group.Coder.{Coder}
 use Rattle.m2v_slice.proofs.Begun.{begun_for}
-use Rattle.m2v_encode.proofs.Books.{same_book, done_is}
+use Rattle.m2v_slice.proofs.Activities.{length-picture_activities}
+use Rattle.m2v_encode.proofs.Books.{same_book, begun_is, done_is}
 use Rattle.m2v_encode.proofs.group.Coder.do_jobs.Goals as goal
+
+pub begin_group-requires-clause-active : goal.begin_group-requires-clause-active
+begin_group-requires-clause-active g c =
+    let pics = c.deref-2.ensures.value ∙ c.in_ok-pictures.ensures.value ∙ c.deref.ensures.value in
+    ap length (c.deref-3.ensures.value ∙ c.in_ok-active.ensures.pictures)
+    ∙ length-picture_activities c.args.self.now.settings c.args.group.frames.items c.args.group.pictures.items ∙ sym (ap length pics)
+
+pub begin_group-requires-clause-activities : goal.begin_group-requires-clause-activities
+begin_group-requires-clause-activities g c = λ even. subst (All IsPictureActivity) (sym c.deref-3.ensures.value) (c.in_ok-active.ensures.sums even)
 
 pub for_group-requires-clause-ledger : goal.for_group-requires-clause-ledger
 for_group-requires-clause-ledger g c =
@@ -19,10 +30,11 @@ for_group-requires-clause-ledger g c =
     let rest = c.begin_group.ensures.rest in
     let settings = ap (λ (x : Coder). x.settings) rest in
     let pics = c.deref-2.ensures.value ∙ c.in_ok-pictures.ensures.value ∙ c.deref.ensures.value in
-    let ledger = c.in_ok-times.ensures.begun ∙ ap (λ (js : List PictureJob). begun b0.ledger (map (λ (j : PictureJob). j.kind) js) (intervals_of b0.settings c.args.group.before js)) pics in
+    let sums = c.deref-3.ensures.value ∙ c.in_ok-active.ensures.pictures in
+    let ledger = begun_is b0.settings b0.ledger c.begin_group.new.self.ledger c.args.group.frames.items c.args.group.before c.deref-2.result.now c.args.group.pictures.items c.deref-3.result.now pics sums c.in_ok-times.ensures.begun in
     let going = c.requires.going in
     subst (λ (s : Settings). IsBegunFor s (handed c.args.group) c.begin_group.new.self.ledger) (sym settings)
-    (begun_for b0.settings (handed c.args.group) b0.ledger c.begin_group.new.self.ledger going.settings going.ledger.steady.begun
+    (begun_for b0.settings (handed c.args.group) b0.ledger c.begin_group.new.self.ledger going.settings going.steady.begun
     (omega (arith, going.removals, c.requires.few.pictures)) c.requires.group.pictures ledger)
 
 pub invariant_of-result : goal.invariant_of-result
@@ -31,7 +43,8 @@ invariant_of-result g c =
     let rest = c.begin_group.ensures.rest in
     let settings = ap (λ (x : Coder). x.settings) rest in
     let pics = c.deref-2.ensures.value ∙ c.in_ok-pictures.ensures.value ∙ c.deref.ensures.value in
-    let ledger = c.in_ok-times.ensures.begun ∙ ap (λ (js : List PictureJob). begun b0.ledger (map (λ (j : PictureJob). j.kind) js) (intervals_of b0.settings c.args.group.before js)) pics in
+    let sums = c.deref-3.ensures.value ∙ c.in_ok-active.ensures.pictures in
+    let ledger = begun_is b0.settings b0.ledger c.begin_group.new.self.ledger c.args.group.frames.items c.args.group.before c.deref-2.result.now c.args.group.pictures.items c.deref-3.result.now pics sums c.in_ok-times.ensures.begun in
     let is = c.run_jobs-done.ensures ∙ c.in_ok-book.ensures.value in
     done_is c.run_jobs-done.result c.begin_group.new.self.settings c.args.group.frames.items c.args.group.pictures.items c.take-before.result c.begin_group.new.self.ledger
     c.in_ok-pictures.pictures.items c.len-frames.result c.rows_of-rows.result c.in_ok-times.times.items is
@@ -49,7 +62,8 @@ returns-clause-value g c =
     let rest = c.begin_group.ensures.rest in
     let settings = ap (λ (x : Coder). x.settings) rest in
     let pics = c.deref-2.ensures.value ∙ c.in_ok-pictures.ensures.value ∙ c.deref.ensures.value in
-    let ledger = c.in_ok-times.ensures.begun ∙ ap (λ (js : List PictureJob). begun b0.ledger (map (λ (j : PictureJob). j.kind) js) (intervals_of b0.settings c.args.group.before js)) pics in
+    let sums = c.deref-3.ensures.value ∙ c.in_ok-active.ensures.pictures in
+    let ledger = begun_is b0.settings b0.ledger c.begin_group.new.self.ledger c.args.group.frames.items c.args.group.before c.deref-2.result.now c.args.group.pictures.items c.deref-3.result.now pics sums c.in_ok-times.ensures.begun in
     c.run_jobs-done.ensures ∙ c.in_ok-book.ensures.value
     ∙ same_book c.begin_group.new.self.settings b0.settings c.args.group.frames.items c.args.group.pictures.items c.take-before.result b0.before c.begin_group.new.self.ledger _
     settings (c.take-before.ensures.value ∙ ap (λ (x : Coder). x.before) rest) ledger
