@@ -4,7 +4,7 @@
     bench/cases/compare.py [NAME ..]
 
 A line of stars in the table names the script that prints what stands from there to the next one. Each is run, or those
-that are named alone (`pictures`, `verdicts` ..; `encoded` takes half a minute), and its output is compared. The status is
+that are named alone (`pictures`, `verdicts` ..; `encoded` takes a minute), and its output is compared. The status is
 1 where one prints something else."""
 
 import subprocess

@@ -1,10 +1,10 @@
 #!/usr/bin/env python3
-"""Prints the cases of `encode`: what an encoder writes that was written from the rules alone (half a minute).
+"""Prints the cases of `encode`: what an encoder writes that was written from the rules alone (a minute).
 
 It shares nothing with the program. The cases stand in bench/cases/encoded_cases.py.
 
-Here stand the settings and their test, groups, headers, the buffer and the plans; how macroblocks are coded stands in
-bench/cases/encoded_choice.py. Of frames whose samples are all 128 nothing is chosen, so that these go a way of their
+Here stand the settings and their test, groups, headers and the buffer; plans stand in bench/cases/encoded_plans.py, and
+how macroblocks are coded in bench/cases/encoded_choice.py. Of frames whose samples are all 128 nothing is chosen, so that these go a way of their
 own: in an I picture each block keeps its predictor's level, 128; in a P picture each macroblock goes forward by the
 vector 0, in a B picture backward, from the same lines, without a block; and those that are neither first nor last in
 their slice are skipped there. Each other choice gives the same samples with more bits. Both ways give the same streams
@@ -13,14 +13,12 @@ of small ones."""
 from dataclasses import dataclass
 
 from encoded_choice import Coder, Grey
+from encoded_plans import FIRST, Known, Plans
 from pictures_writer import B, BOTTOM, END, FRAME, I, P, TOP, Picture, group, headers, sequence
 from verdicts import FIELD_UNITS, LEVELS
 
 PROFILES = {'main': 72, 'high1440': 70, 'high': 68}
 FRAMES_A_SECOND = {1: 24, 2: 24, 3: 25, 4: 30, 5: 30, 6: 50, 7: 60, 8: 60}
-WEIGHT = {I: 8, P: 4, B: 2}
-# what comes before the first picture's end of start code, in bits
-FIRST = 272
 
 
 @dataclass
@@ -40,6 +38,7 @@ class Settings:
     workers: int = 1
     pulldown: bool = False
     level: str = 'main'
+    plan: str = 'weights'
 
     def numbers(self):
         """Interval, rows of a picture, and the most bits of an emergency picture."""
@@ -136,43 +135,6 @@ def times_of(s, groups):
     return jobs
 
 
-@dataclass
-class Known:
-    kind: int
-    bits: int
-    stuffing: int
-    quantiser: int
-
-
-class Plans:
-    """What a picture of a group may take, planned from what is known: the sizes of all pictures of earlier groups,
-    and of this group all but those of the three pictures before."""
-
-    def __init__(self, s, jobs, account, history):
-        self.s, self.jobs, self.history = s, jobs, list(history)
-        self.accounts, self.known, self.plans = [account], [], []
-
-    def plan(self, p):
-        s, jobs = self.s, self.jobs
-        k, first = s.bits, max(0, p - 3)
-        low = mean = self.accounts[first]
-        for j in range(first, p):
-            cap, target, _ = self.plans[j]
-            low = min(low - 1800 * cap + k * jobs[j].time, 1800 * (s.size - 8))
-            mean = min(mean - 1800 * min(target, cap) + k * jobs[j].time, 1800 * s.size)
-        pool = sum(k * job.time // 1800 for job in jobs[p:]) + mean // 1800 - (1800 * FIRST + 8 * k * s.delay) // 1800
-        target = max(0, pool) * WEIGHT[jobs[p].kind] // sum(WEIGHT[job.kind] for job in jobs[p:])
-        cap = 8 * (min(low // 1800, max(s.emergency, 2 * target)) // 8)
-        same = [known for known in self.history + self.known[:first] if known.kind == jobs[p].kind]
-        quantiser = max(1, min(31, -(-same[-1].bits * same[-1].quantiser // max(1, target)))) if same else 8
-        self.plans.append((cap, target, quantiser))
-        return cap, quantiser
-
-    def learn(self, p, known):
-        self.known.append(known)
-        self.accounts.append(self.accounts[p] - 1800 * (known.bits + known.stuffing) + self.s.bits * self.jobs[p].time)
-
-
 def group_header(s, jobs, number):
     first = min(job.display for job in jobs)
     if s.pulldown:
@@ -215,19 +177,22 @@ def encoded(s, count, frames=None):
     account = 1800 * FIRST + 8 * k * s.delay
     all_jobs = times_of(s, groups_of(s, count))
     for number, jobs in enumerate(all_jobs):
-        plans = Plans(s, jobs, account, history)
+        activities = coder.activities(jobs) if s.plan == 'even' else []
+        plans = Plans(s, jobs, [sum(map(sum, rows)) for rows in activities], account, history)
         for p, job in enumerate(jobs):
             start = b'' if p else head + group_header(s, jobs, number)
             at = 8 * len(data + start) + 32
             delay = (8 * k * s.delay + k * time - 1800 * (at - FIRST)) // (8 * k)
             cap, quantiser = plans.plan(p)
             p_header = header_of(s, job, delay)
-            coded = start + headers(p_header) + coder.slices(p_header, job, quantiser, cap)
+            slices, work = coder.slices(p_header, job, quantiser, cap, activities[p] if activities else None)
+            coded = start + headers(p_header) + slices
             assert 8 * len(coded) <= cap
             over = plans.accounts[p] - 1800 * 8 * len(coded) + k * job.time - 1800 * s.size
             last = number == len(all_jobs) - 1 and p == len(jobs) - 1
             zeros = 0 if last else max(0, -(-over // 14400))
-            plans.learn(p, Known(job.kind, 8 * len(coded), 8 * zeros, quantiser))
+            plans.learn(p, Known(job.kind, 8 * len(coded), 8 * zeros, quantiser,
+                                 plans.activities[p] if activities else 0, work))
             data += coded + bytes(zeros)
             time += job.time
         history += plans.known

@@ -67,13 +67,14 @@ def case(name, settings, count=1, extra=0, recon=None, more=(), comment='', word
 
 
 def content(name, settings, frames, recon=None, comment=''):
-    """Frames in words of the table, one after another."""
+    """Frames in words of the table, one after another, each a line of words or several."""
     s = Settings(**settings)
     assert not s.unfit()
-    raw = [read_bytes(STREAMS, text) for text in frames]
+    frames = [[frame] if isinstance(frame, str) else frame for frame in frames]
+    raw = [b''.join(read_bytes(STREAMS, text) for text in frame) for frame in frames]
     assert all(len(frame) == frame_bytes(s) for frame in raw)
     coded = encoded(s, len(raw), raw)
-    lines = ['words ' + words_of(settings, recon)] + ['input ' + text for text in frames]
+    lines = ['words ' + words_of(settings, recon)] + ['input ' + text for frame in frames for text in frame]
     lines += ['report ' + coded.line(len(raw)), *output_lines(coded.data)]
     if recon:
         lines += [*lines_of('recon', [[word] for word in runs(b''.join(coded.frames))]), 'recon_name ' + recon]
@@ -91,7 +92,7 @@ def known(name, *lines):
 
 
 def table():
-    for add in (worked, streams, contents, tests, words, endings, endpoints):
+    for add in (worked, streams, contents, by_source, tests, words, endings, endpoints):
         add()
     yield from ('', '# ---- encode: bytes for frames', '')
     for name, lines in KNOWN:
@@ -180,63 +181,75 @@ def streams():
     case('a whole frame of fields', {**WIDE, 'scan': 'fields', 'search': 1}, 2)
 
 
+SMALL_CLIP = dict(width=48, height=48, rate=3, search=3)
+TALL_CLIP = dict(width=48, height=64, rate=3, search=2)
+
+
+def noise(size, *places):
+    return ['= noise from %d first %d' % (place, size) for place in places]
+
+
+def edges(size, *places):
+    return ['%d*pattern from %d first %d' % (size + 100, place, size) for place in places]
+
+
+def clips():
+    """Frames with content by names, each with its settings."""
+    small, tall = SMALL_CLIP, TALL_CLIP
+    return [
+        ('noise that moves', {**small, 'bits': 2000, 'buffer': 16}, noise(3456, 0, 1, 3, 2, 50, 51)),
+        ('noise at a low rate', {**small, 'bits': 120, 'buffer': 2}, noise(3456, 0, 1, 3, 2, 50, 51)),
+        ('edges', {**small, 'bits': 600, 'buffer': 6}, edges(3456, 0, 3, 9, 6, 12, 15, 40)),
+        ('edges in closed groups', {**small, 'bits': 600, 'buffer': 6, 'group': 4, 'step': 2, 'closed': True},
+         edges(3456, 0, 3, 9, 6, 12, 15, 40, 1, 90)),
+        ('edges with search 0', {**small, 'bits': 600, 'buffer': 6, 'search': 0}, edges(3456, 0, 3, 9, 6)),
+        ('edges with search 15', {**small, 'bits': 600, 'buffer': 6, 'search': 15}, edges(3456, 0, 30, 90)),
+        ('noise in interlaced frames', {**tall, 'bits': 2500, 'buffer': 20, 'scan': 'frames'},
+         noise(4608, 0, 1, 3, 2)),
+        ('edges in interlaced frames', {**tall, 'bits': 700, 'buffer': 7, 'search': 4, 'scan': 'frames'},
+         edges(4608, 0, 3, 9, 6, 12)),
+        ('noise in interlaced frames at a low rate', {**tall, 'bits': 160, 'buffer': 2, 'scan': 'frames'},
+         noise(4608, 0, 1, 3, 2)),
+        ('noise in fields', {**tall, 'bits': 2500, 'buffer': 20, 'scan': 'fields'}, noise(4608, 0, 1, 3, 2)),
+        ('edges in fields', {**tall, 'bits': 700, 'buffer': 7, 'search': 3, 'scan': 'fields'},
+         edges(4608, 0, 3, 9, 6, 12)),
+        ('noise in fields at a low rate', {**tall, 'bits': 160, 'buffer': 2, 'scan': 'fields'},
+         noise(4608, 0, 1, 3, 2)),
+        ('noise where an interval brings just an emergency picture',
+         {**tall, 'bits': 60, 'buffer': 1, 'search': 0}, noise(4608, 0, 1, 3, 2, 50, 51)),
+        ('noise in interlaced frames, where an interval brings just an emergency picture',
+         {**tall, 'bits': 60, 'buffer': 1, 'scan': 'frames'}, noise(4608, 0, 1, 3, 2)),
+        ('noise in fields, where an interval brings just an emergency picture',
+         {**tall, 'bits': 86, 'buffer': 1, 'scan': 'fields'}, noise(4608, 0, 1, 3, 2)),
+        ('edges in film', {**tall, 'rate': 4, 'bits': 800, 'buffer': 8, 'scan': 'frames', 'pulldown': True},
+         edges(4608, 0, 3, 9, 6, 12, 15, 18)),
+        ('noise in three groups', {**small, 'bits': 1500, 'buffer': 12, 'group': 3, 'workers': 4},
+         noise(3456, 0, 1, 3, 2, 50, 51, 52, 90)),
+        ('a size that is no whole macroblocks', {**small, 'width': 34, 'height': 22, 'bits': 500, 'buffer': 5},
+         edges(1122, 0, 3, 9, 6)),
+        ('fields of 36 lines with content',
+         {**tall, 'width': 34, 'height': 36, 'bits': 900, 'buffer': 9, 'scan': 'fields'}, noise(1836, 0, 1, 3)),
+        ('interlaced frames of 36 lines with content',
+         {**tall, 'width': 34, 'height': 36, 'bits': 900, 'buffer': 9, 'scan': 'frames'}, noise(1836, 0, 1, 3)),
+        ('noise in I frames at a high rate', {**small, 'bits': 6000, 'buffer': 60, 'group': 1, 'step': 1},
+         noise(3456, 0, 1, 3, 2, 50, 51, 52, 90)),
+        ('noise in groups of three at a high rate', {**small, 'bits': 6000, 'buffer': 60, 'group': 3},
+         noise(3456, 0, 1, 3, 2, 50, 51, 52, 90))
+    ]
+
+
 def contents():
     heading('frames with content')
     luma = ['%02X' % ((7 * c + 11 * y) % 256) for y in range(32) for c in range(16)]
     content('two rows by two workers', {**TALL, 'workers': 2}, ['= slanted 256*80'], recon='r',
             comment='Luma is 7 c + 11 y modulo 256 in line y and column c.')
     assert read_bytes(STREAMS, '= slanted').hex(' ').upper().split() == luma
-    small = dict(width=48, height=48, rate=3, search=3)
-    tall = dict(width=48, height=64, rate=3, search=2)
-
-    def noise(size, *places):
-        return ['= noise from %d first %d' % (place, size) for place in places]
-
-    def edges(size, *places):
-        return ['%d*pattern from %d first %d' % (size + 100, place, size) for place in places]
-    for name, settings, frames in (
-            ('noise that moves', {**small, 'bits': 2000, 'buffer': 16}, noise(3456, 0, 1, 3, 2, 50, 51)),
-            ('noise at a low rate', {**small, 'bits': 120, 'buffer': 2}, noise(3456, 0, 1, 3, 2, 50, 51)),
-            ('edges', {**small, 'bits': 600, 'buffer': 6}, edges(3456, 0, 3, 9, 6, 12, 15, 40)),
-            ('edges in closed groups', {**small, 'bits': 600, 'buffer': 6, 'group': 4, 'step': 2, 'closed': True},
-             edges(3456, 0, 3, 9, 6, 12, 15, 40, 1, 90)),
-            ('edges with search 0', {**small, 'bits': 600, 'buffer': 6, 'search': 0}, edges(3456, 0, 3, 9, 6)),
-            ('edges with search 15', {**small, 'bits': 600, 'buffer': 6, 'search': 15}, edges(3456, 0, 30, 90)),
-            ('noise in interlaced frames', {**tall, 'bits': 2500, 'buffer': 20, 'scan': 'frames'},
-             noise(4608, 0, 1, 3, 2)),
-            ('edges in interlaced frames', {**tall, 'bits': 700, 'buffer': 7, 'search': 4, 'scan': 'frames'},
-             edges(4608, 0, 3, 9, 6, 12)),
-            ('noise in interlaced frames at a low rate', {**tall, 'bits': 160, 'buffer': 2, 'scan': 'frames'},
-             noise(4608, 0, 1, 3, 2)),
-            ('noise in fields', {**tall, 'bits': 2500, 'buffer': 20, 'scan': 'fields'}, noise(4608, 0, 1, 3, 2)),
-            ('edges in fields', {**tall, 'bits': 700, 'buffer': 7, 'search': 3, 'scan': 'fields'},
-             edges(4608, 0, 3, 9, 6, 12)),
-            ('noise in fields at a low rate', {**tall, 'bits': 160, 'buffer': 2, 'scan': 'fields'},
-             noise(4608, 0, 1, 3, 2)),
-            ('noise where an interval brings just an emergency picture',
-             {**tall, 'bits': 60, 'buffer': 1, 'search': 0}, noise(4608, 0, 1, 3, 2, 50, 51)),
-            ('noise in interlaced frames, where an interval brings just an emergency picture',
-             {**tall, 'bits': 60, 'buffer': 1, 'scan': 'frames'}, noise(4608, 0, 1, 3, 2)),
-            ('noise in fields, where an interval brings just an emergency picture',
-             {**tall, 'bits': 86, 'buffer': 1, 'scan': 'fields'}, noise(4608, 0, 1, 3, 2)),
-            ('edges in film', {**tall, 'rate': 4, 'bits': 800, 'buffer': 8, 'scan': 'frames', 'pulldown': True},
-             edges(4608, 0, 3, 9, 6, 12, 15, 18)),
-            ('noise in three groups', {**small, 'bits': 1500, 'buffer': 12, 'group': 3, 'workers': 4},
-             noise(3456, 0, 1, 3, 2, 50, 51, 52, 90)),
-            ('a size that is no whole macroblocks', {**small, 'width': 34, 'height': 22, 'bits': 500, 'buffer': 5},
-             edges(1122, 0, 3, 9, 6)),
-            ('fields of 36 lines with content',
-             {**tall, 'width': 34, 'height': 36, 'bits': 900, 'buffer': 9, 'scan': 'fields'}, noise(1836, 0, 1, 3)),
-            ('interlaced frames of 36 lines with content',
-             {**tall, 'width': 34, 'height': 36, 'bits': 900, 'buffer': 9, 'scan': 'frames'}, noise(1836, 0, 1, 3)),
-            ('noise in I frames at a high rate', {**small, 'bits': 6000, 'buffer': 60, 'group': 1, 'step': 1},
-             noise(3456, 0, 1, 3, 2, 50, 51, 52, 90)),
-            ('noise in groups of three at a high rate', {**small, 'bits': 6000, 'buffer': 60, 'group': 3},
-             noise(3456, 0, 1, 3, 2, 50, 51, 52, 90))):
+    for name, settings, frames in clips():
         content(name, settings, frames)
         # one group of each scan by one worker and by four
         if name in ('noise that moves', 'noise in interlaced frames', 'noise in fields'):
             content(name + ', by four workers', {**settings, 'workers': 4}, frames)
+    small = SMALL_CLIP
     stripes = {**small, 'bits': 2000, 'buffer': 16, 'step': 1}
     content('slanted stripes that move', stripes,
             ['= stripes from %d first 2304 1152*80' % place for place in (0, 2, 1, 4, 1)],
@@ -249,6 +262,98 @@ def contents():
     content('slanted stripes that move by half a sample', stripes, [
         '= stripes first 2304 1152*80', '= half_stripes first 2304 1152*80',
         '= half_stripes from 2 first 2304 1152*80'])
+
+
+def slope(name, step, width, *starts):
+    """Lines of a stream whose sample k is step k, with the first ones as named."""
+    return ['= %s from %d first %d' % (name, start * pow(step, -1, 256) % 256, width) for start in starts]
+
+
+def slanted(width, height, count, across=7, down=11, time=5, odd=0):
+    """Frames of luma (across c + down y + odd (y mod 2) + time t) mod 256 and grey chroma."""
+    chroma = '%d*80' % (2 * ((width + 1) // 2) * ((height + 1) // 2))
+    starts = [[down * y + odd * (y % 2) + time * t for y in range(height)] for t in range(count)]
+    return [[*slope('by_%d' % across, across, width, *frame), chroma] for frame in starts]
+
+
+def beside_even(width, height, count):
+    """Frames whose first 24 columns are even, and whose others move."""
+    chroma = '%d*80' % (2 * ((width + 1) // 2) * ((height + 1) // 2))
+    frames = []
+    for t in range(count):
+        moving = slope('by_37', 37, width - 24, *[37 * 24 + 23 * y + 9 * t for y in range(height)])
+        frames.append([line for one in moving for line in ('24*%02X' % (100 + t), one)] + [chroma])
+    return frames
+
+
+def by_source():
+    heading('plans by the source')
+    even = {'plan': 'even'}
+    case('by the source: a grey frame', {**SMALL, **even})
+    case('by the source: two grey frames', {**SMALL, **even}, 2)
+    case('by the source: two grey frames at 15 Mbit/s', {**SMALL, 'bits': 37500, 'buffer': 112, **even}, 2)
+    case('by the source: six grey frames at the least rate', {**WIDE, 'bits': 3266, 'buffer': 58, 'search': 0, **even}, 6)
+    case('by the source: 13 grey frames of fields in groups of 4',
+         {**TALL, 'scan': 'fields', 'bits': 200, 'buffer': 2, 'group': 4, 'step': 2, **even}, 13)
+    line = dict(width=32, height=16, rate=3, search=2, buffer=1)
+    content('by the source: a frame of slanted lines', {**line, 'bits': 200, **even}, slanted(32, 16, 1),
+            comment='Luma of frame t, line y and column c is 7 c + 11 y + 5 t modulo 256.')
+    content('by the source: slanted lines, and a last group of one picture', {**line, 'bits': 300, **even},
+            slanted(32, 16, 13))
+    content('by the source: slanted lines in fields of 20 lines',
+            {**line, 'width': 18, 'height': 20, 'rate': 5, 'bits': 300, 'scan': 'fields', 'group': 2, 'step': 2, 'search': 1,
+             **even}, slanted(18, 20, 4))
+    fields = {**line, 'height': 32, 'bits': 300, 'buffer': 2, 'search': 3}
+    content('by the source: interlaced frames, whose fields are far apart', {**fields, 'scan': 'frames', **even},
+            slanted(32, 32, 4, 5, 3, 8, 40),
+            comment='The lines of the bottom field are 40 above those of the top field.')
+    content('by the source: fields that are far apart', {**fields, 'scan': 'fields', 'step': 2, **even},
+            slanted(32, 32, 3, 5, 3, 8, 40))
+    content('by the source: even columns, and behind them others that move',
+            {**line, 'width': 80, 'bits': 90, **even}, beside_even(80, 16, 5),
+            comment='Behind the even macroblocks of a row the quantiser rises.')
+    for name, settings, frames in clips():
+        content('by the source: ' + name, {**settings, **even}, frames)
+    small, tall = SMALL_CLIP, TALL_CLIP
+    for name, settings, frames in (
+            ('a cut', {**small, 'bits': 400, 'buffer': 4}, edges(3456, 0, 3, 9) + noise(3456, 0, 1, 2, 3, 4)),
+            ('a cut in fields', {**tall, 'bits': 500, 'buffer': 4, 'scan': 'fields', 'group': 4, 'step': 2},
+             edges(4608, 0, 3) + noise(4608, 0, 1, 2)),
+            ('cuts in groups of two', {**small, 'bits': 400, 'buffer': 4, 'group': 2, 'step': 2, 'closed': True},
+             edges(3456, 0) + noise(3456, 0, 1) + edges(3456, 90, 93) + noise(3456, 50)),
+            ('a still picture', {**small, 'bits': 300, 'buffer': 3}, edges(3456, *[0] * 8)),
+            ('an even picture before noise', {**small, 'bits': 300, 'buffer': 3},
+             ['3456*20'] * 4 + noise(3456, 0, 1, 2)),
+            ('noise that becomes even', {**small, 'bits': 300, 'buffer': 3, 'group': 4, 'step': 1},
+             noise(3456, 0, 1, 2) + ['3456*20'] * 4),
+            ('one frame of noise among even ones, for which more is kept than is held',
+             {**small, 'bits': 300, 'buffer': 1, 'search': 2}, ['3456*20'] * 6 + noise(3456, 0) + ['3456*20'] * 3),
+            ('one frame of noise among still ones, for which more is kept than is held',
+             {**small, 'bits': 300, 'buffer': 1, 'search': 2},
+             edges(3456, *[0] * 6) + noise(3456, 0) + edges(3456, 0, 0, 0)),
+            ('P pictures alone', {**small, 'bits': 300, 'buffer': 3, 'group': 5, 'step': 1},
+             edges(3456, 0, 3, 6, 9, 50, 53, 56)),
+            ('noise at High level', {**small, 'bits': 20000, 'buffer': 100, 'rate': 8, 'level': 'high'},
+             noise(3456, 0, 1, 3, 2)),
+            ('film in closed groups of 4', {**tall, 'rate': 5, 'bits': 800, 'buffer': 8, 'scan': 'frames', 'pulldown': True,
+                                            'group': 4, 'step': 2, 'closed': True}, edges(4608, 0, 3, 9, 6, 12, 15)),
+            ('film with search 0', {**tall, 'rate': 4, 'bits': 800, 'buffer': 8, 'scan': 'frames', 'pulldown': True,
+                                'search': 0}, noise(4608, 0, 1, 2, 3, 4))):
+        content('by the source: ' + name, {**settings, **even}, frames)
+        if name in ('a cut', 'a cut in fields', 'film in closed groups of 4'):
+            content('by the source: %s, by eight workers' % name, {**settings, 'workers': 8, **even}, frames)
+    content('by weights, as it is said', {**small, 'bits': 400, 'buffer': 4, 'plan': 'weights'},
+            edges(3456, 0, 3, 9) + noise(3456, 0, 1))
+    content('by weights, where it is not said', {**small, 'bits': 400, 'buffer': 4},
+            edges(3456, 0, 3, 9) + noise(3456, 0, 1))
+    assert CASES[-1][2][-2:] == CASES[-2][2][-2:]
+    one = {**SMALL, 'group': 1, 'step': 1, **even}
+    case('by the source: settings that do not pass', {**SMALL, 'bits': 30, **even}, 0, more=['input 384*80'])
+    case('by the source: no frame', {**SMALL, **even}, 0)
+    case('by the source: a byte behind nine frames, in closed groups of four',
+         {**SMALL, 'group': 4, 'step': 2, 'closed': True, **even}, 9, 1, recon='r')
+    case('by the source: each call of the input fails in turn', one, 3, recon='r', more=['each input'])
+    case('by the source: each call of the output fails in turn', one, 3, recon='r', more=['each output'])
 
 
 def tests():
@@ -302,6 +407,9 @@ def words():
             ('another level', plain + ' --level low'), ('a flag twice', plain + ' --closed --closed'),
             ('an option without its value', plain + ' --delay'), ('help', 'encode --help'),
             ('a reconstruction without a name', plain + ' --recon'),
+            ('another plan', plain + ' --plan odd'), ('a plan of no letters', plain + ' --plan='),
+            ('a plan with a capital', plain + ' --plan Even'), ('a plan without its word', plain + ' --plan'),
+            ('a plan twice', plain + ' --plan even --plan even'),
             ('the beginning of an option', plain + ' --work 2')):
         case(name, None, words=line, instead=usage)
     grey = wanted(Settings(**SMALL), 1, 0, None)
@@ -309,7 +417,9 @@ def words():
     case('with equal signs', None, words='encode --width=16 --height=16 --rate=3 --bits=100 --buffer=1', instead=grey,
          comment="By clap's rule on words.")
     case('with all that stands unless said', None, words=plain + ' --group 12 --step 3 --scan progressive --search 15'
-         ' --aspect 2 --workers 1 --level main --delay 27189', instead=grey)
+         ' --aspect 2 --workers 1 --level main --delay 27189 --plan weights', instead=grey)
+    case('a plan with an equal sign', None, words=plain + ' --plan=even',
+         instead=wanted(Settings(**SMALL, plan='even'), 1, 0, None))
 
 
 def endings():
@@ -362,6 +472,9 @@ def endpoints():
     case('each call of the input fails in turn, without a place for reconstructions', SMALL, 2, more=['each input'])
 
 
+for step in (5, 7, 37):
+    known('by_%d' % step, *[' '.join('%02X' % (step * k % 256) for k in range(first, first + 34))
+                            for first in range(0, 340, 34)])
 TEXTURED = '= interlaced_textured', '= fields_textured', '= nine_textured', '= six_textured'
 known('noise', *TEXTURED, *TEXTURED, *TEXTURED)
 for name, values in (('stripes', (16, 80, 200, 120)), ('half_stripes', (48, 140, 160, 68))):

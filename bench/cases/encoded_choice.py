@@ -3,13 +3,15 @@ candidates in order, and the first of least score among those that fit. It share
 bench/cases/encoded.py makes streams with it.
 
 A candidate's score is 8 times the sum of squared differences of its 384 samples plus its bits times the square of
-twice the quantiser that is planned. It fits where it has at most 4,608 bits, and leaves 31 bits for each later
-macroblock of its slice. The candidates are: to hold (intra with the predictors' levels; forward or backward by the
-vector 0 from the same lines), to skip, intra, and each prediction without a block and with blocks; what has
-coefficients at the planned quantiser and at 8 more, and in interlaced frames with both orders of lines."""
+twice the quantiser of its macroblock, which is the planned one, or above it where the plan goes by the source. It fits
+where it has at most 4,608 bits, and leaves 31 bits for each later macroblock of its slice. The candidates are: to hold
+(intra with the predictors' levels; forward or backward by the vector 0 from the same lines), to skip, intra, and each
+prediction without a block and with blocks; what has coefficients at the macroblock's quantiser and at 8 more, and in
+interlaced frames with both orders of lines."""
 
 from copy import deepcopy
 
+from encoded_plans import activities_of, quantiser_at
 from pictures_decoder import Mode, Prediction, lines_of, scale_of
 from pictures_writer import B, BOTTOM, FIELD, FRAME, I, OTHER, P, TOP, Macroblock, SliceWriter, flat, unit
 from slices import ALTERNATE, INTRA, ZIGZAG, inverse
@@ -151,6 +153,12 @@ class Search:
         return total
 
 
+def limits(s, cap):
+    """The most bits of each slice of a picture."""
+    rest = (cap - 416 - s.rows * s.slice_bits) // 8
+    return [s.slice_bits + 8 * (rest // s.rows) + 8 * (row < rest % s.rows) for row in range(s.rows)]
+
+
 class Coder:
     """Codes pictures one by one, and keeps their frames."""
 
@@ -159,8 +167,12 @@ class Coder:
         self.sources = [padded(s, raw) for raw in frames]
         self.anchors, self.shown = [], {}
 
-    def slices(self, p, job, quantiser, cap):
-        s, self.p, self.q = self.s, p, quantiser
+    def activities(self, jobs):
+        return activities_of(self.sources, jobs, self.s.rows, self.s.columns)
+
+    def slices(self, p, job, quantiser, cap, activities=None):
+        """The slices of a picture, and their work: the bits of each macroblock times its quantiser."""
+        s, self.p, self.planned = self.s, p, quantiser
         self.kind = Kind(p.alternate)
         if job.structure != BOTTOM:
             self.frame = [[[0] * len(line) for line in plane] for plane in self.sources[job.display]]
@@ -175,23 +187,23 @@ class Coder:
         self.target, self.source = self.frame, self.sources[job.display]
         if job.structure != FRAME:
             self.target, self.source = lines_of(self.frame, own), lines_of(self.source, own)
-        rest = cap - 416 - s.rows * s.slice_bits
-        data = b''
-        for row in range(s.rows):
-            limit = s.slice_bits + 8 * (rest // (8 * s.rows)) + 8 * (row < rest // 8 % s.rows)
-            data += unit(row + 1, self.slice(row, limit))
+        data, self.work = b'', 0
+        for row, limit in enumerate(limits(s, cap)):
+            data += unit(row + 1, self.slice(row, limit, activities and activities[row]))
         if job.structure != TOP:
             if job.kind != B:
                 self.anchors = (self.anchors + [self.frame])[-2:]
             self.shown[job.display] = self.frame
-        return data
+        return data, self.work
 
-    def slice(self, row, limit):
-        writer, skipped, last = SliceWriter(self.p, self.q), 0, None
-        self.current = self.q
+    def slice(self, row, limit, activities):
+        writer, skipped, last, work = SliceWriter(self.p, self.planned), 0, None, 0
+        self.current = self.planned
         columns = self.s.columns
         for column in range(columns):
-            room = min(MOST_BITS, limit - 32 - len(writer.bits) - 31 * (columns - 1 - column))
+            left = limit - 32 - len(writer.bits) - 31 * (columns - column)
+            self.q = quantiser_at(self.planned, activities, column, work, left)
+            room = min(MOST_BITS, left + 31)
             source = square(self.source, row, column)
             best = None
             for m, samples, mode in self.candidates(writer, row, column, source, skipped, last):
@@ -213,9 +225,11 @@ class Coder:
                 if self.p.kind == P:
                     writer.predictors.reset()
                 continue
+            work += self.q * (len(after.bits) - len(writer.bits))
             writer, skipped, last = after, 0, mode or 'intra'
             if m.code is not None:
                 self.current = m.code
+        self.work += work
         return writer.bits
 
     def put(self, row, column, samples):
@@ -344,17 +358,26 @@ class Grey:
     def __init__(self, s):
         self.s = s
 
-    def slices(self, p, job, quantiser, cap):
-        row = [flat(128)] * self.s.columns
+    def activities(self, jobs):
+        return [[[256] * self.s.columns] * self.s.rows for _ in jobs]
+
+    def slices(self, p, job, quantiser, cap, activities=None):
+        last = self.s.columns - 1
+        row = {column: flat(128) for column in range(last + 1)}
         if job.kind != I:
-            row = [self.held(job)] + [self.held(job, self.s.columns - 2)] * (self.s.columns > 1)
-        data = b''
-        for at in range(self.s.rows):
-            writer = SliceWriter(p, quantiser)
-            for m in row:
+            row = {0: self.held(job), last: self.held(job, max(0, last - 1))}
+        data, work = b'', 0
+        for at, limit in enumerate(limits(self.s, cap)):
+            writer, of_row = SliceWriter(p, quantiser), 0
+            for column, m in row.items():
+                before = len(writer.bits)
+                left = limit - 32 - before - 31 * (last + 1 - column)
                 writer.add(m)
+                q = quantiser_at(quantiser, activities and activities[at], column, of_row, left)
+                of_row += q * (len(writer.bits) - before)
+            work += of_row
             data += unit(at + 1, writer.bits)
-        return data
+        return data, work
 
     def frames_shown(self):
         return []

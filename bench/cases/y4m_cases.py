@@ -177,7 +177,9 @@ def same():
             'rate code 8 at High 1440 level', 'full buffers with film', 'a time code of a second',
             'two rows by two workers', 'edges in closed groups', 'edges in interlaced frames', 'edges in fields',
             'edges in film', 'a size that is no whole macroblocks', 'grey frames with reconstructions: 1',
-            'grey frames with reconstructions: 2', 'six frames with reconstructions', 'fields with reconstructions'):
+            'grey frames with reconstructions: 2', 'six frames with reconstructions', 'fields with reconstructions',
+            'by the source: two grey frames', 'by the source: a cut', 'by the source: edges in film',
+            'by the source: noise in fields', 'by weights, as it is said'):
         like(name)
     for name in ('noise in three groups', 'noise in fields'):
         for workers in (1, 2, 8, 16):
@@ -284,6 +286,8 @@ def words():
             ('another level', plain + ' --level low'), ('a flag twice', plain + ' --closed --closed'),
             ('an option without its value', plain + ' --delay'), ('help', 'encode-y4m --help'),
             ('a reconstruction without a name', plain + ' --recon'), ('the beginning of an option', plain + ' --work 2'),
+            ('another plan', plain + ' --plan odd'), ('a plan of no letters', plain + ' --plan='),
+            ('a plan twice', plain + ' --plan weights --plan even'),
             ('in capitals', plain.replace('y4m', 'Y4M')), ('the end of its name', plain.replace('encode-', '')),
             ('encode, without sizes', plain.replace('-y4m', ''))):
         case('words, ' + name, None, HEAD, FRAME, words=line, instead=usage)
@@ -292,7 +296,7 @@ def words():
     case('in another order', None, HEAD, FRAME, words='encode-y4m --buffer 1 --bits 100', instead=grey)
     case('with equal signs', None, HEAD, FRAME, words='encode-y4m --bits=100 --buffer=1', instead=grey)
     case('with all that stands unless said', None, HEAD, FRAME, words=plain + ' --group 12 --step 3 --scan progressive'
-         ' --search 15 --aspect 2 --workers 1 --level main --delay 27189', instead=grey)
+         ' --search 15 --aspect 2 --workers 1 --level main --delay 27189 --plan weights', instead=grey)
 
 
 def frame_faults():

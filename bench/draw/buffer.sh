@@ -2,7 +2,8 @@
 # Draws the pictures of the decoder's buffer that docs/ENCODER.md shows.
 #
 # One is of a stream as `encode` writes it, one of the same with a first delay that is too short, and one of film with
-# pulldown. `check` must give the line that stands below each picture. It wants python3.
+# pulldown; two are of a clip with a cut, by each plan. `check` must give the line that stands below each picture. It wants
+# python3.
 #
 #     bench/draw/buffer.sh PROGRAM [PICTURES [FOLDER]]
 #
@@ -15,6 +16,14 @@ set -eu
 pictures=$(realpath "${2:-$bench/../docs/pictures}")
 begin "$1" "${3:-/tmp/buffer}"
 raw 176 144 50
+
+# the clip, whose second half is its negative
+python3 - "$clip" > cut.yuv <<'END_OF_CUT'
+import sys
+data = open(sys.argv[1], 'rb').read()
+half = len(data) // 2
+sys.stdout.buffer.write(data[:half] + data[half:].translate(bytes(range(255, -1, -1))))
+END_OF_CUT
 
 # coded STREAM OPTION ..: two seconds at 600 kbit/s, with a buffer of 327,680 bits.
 coded() {
@@ -35,16 +44,21 @@ draw() {
     grep -qF "check: $(sed 's/^lawful .* bytes [0-9]* //' <<< "$line")" "$pictures/$2.svg"
 }
 
-coded even --rate 3
-draw even buffer "Two seconds at 600 kbit/s, as encode codes them"
+coded plain --rate 3
+draw plain buffer "Two seconds at 600 kbit/s, as encode codes them"
 python3 - "$bench/cases" <<'END_OF_CHANGE'
 import sys
 sys.path.insert(0, sys.argv[1])
 from verdicts import Parser
 from verdicts_cases import with_delay
-data = open('even.m2v', 'rb').read()
+data = open('plain.m2v', 'rb').read()
 open('late.m2v', 'wb').write(with_delay(data, 0, Parser(data).coded[0].delay // 4))
 END_OF_CHANGE
 draw late buffer_under "The same with a quarter of the first delay: the buffer runs under"
 coded film --rate 5 --scan frames --pulldown
 draw film buffer_film "Film at 24 frames a second, shown as 30 by pulldown"
+clip=cut.yuv
+for plan in weights even; do
+    coded $plan --rate 3 --plan $plan
+    draw $plan buffer_$plan "A pan that turns to its negative, --plan $plan"
+done

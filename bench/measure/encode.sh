@@ -20,9 +20,9 @@ four=$clip
 raw 720 576 "$frames"
 tell_missing ffmpeg mpeg2enc mpeg2dec valgrind
 
-# words WORKERS: those of `encode`, by the rate, the scan and the reach at hand.
+# words WORKERS: those of `encode`, by the rate, the scan, the plan and the reach at hand.
 words() {
-    echo encode --width 720 --height 576 --rate 3 --bits $((mbits * 2500)) --buffer 112 --search "$reach" --scan "$scan" --workers "$1"
+    echo encode --width 720 --height 576 --rate 3 --bits $((mbits * 2500)) --buffer 112 --search "$reach" --scan "$scan" --plan "$plan" --workers "$1"
 }
 
 # ours INPUT STREAM WORKERS
@@ -39,11 +39,11 @@ figures() {
     bytes=$(stat -c %s "$1")
 }
 
-# by_us REACH SCAN NAME: the row of vectors of so many samples at most.
+# by_us REACH SCAN PLAN NAME: the row of vectors of so many samples at most.
 by_us() {
-    local workers stream reach=$1 scan=$2 one=$2$1-$mbits-1.m2v took used cells=() processor=""
+    local workers stream reach=$1 scan=$2 plan=$3 one=$2$1-$3-$mbits-1.m2v took used cells=() processor=""
     for workers in 1 2 4; do
-        stream=$scan$reach-$mbits-$workers.m2v
+        stream=$scan$reach-$plan-$mbits-$workers.m2v
         read -r took used <<< "$(cost "$frames" ours "$clip" "$stream" "$workers")"
         cells+=("$took")
         processor=${processor:-$used}
@@ -54,7 +54,7 @@ by_us() {
     if has mpeg2dec; then mpeg2dec -o null "$one" > mpeg2dec.log 2>&1; fi
     figures "$one"
     # shellcheck disable=SC2046
-    row "\`encode\`, $3, $reach far" "${cells[@]}" "$processor" "$psnr" "$bytes" "$(instructions 4 "$four" "$program" $(words 1))"
+    row "\`encode\`, $4, $reach far" "${cells[@]}" "$processor" "$psnr" "$bytes" "$(instructions 4 "$four" "$program" $(words 1))"
 }
 
 # ffmpeg by one thread, with the words of its search. Its -me_range counts half samples, and -dia_size has 1,024 and the samples
@@ -83,9 +83,10 @@ by_mpeg2enc() {
 for mbits in 4 6; do
     echo "| $mbits Mbit/s | 1 worker | 2 workers | 4 workers | processor, ms a frame | PSNR | bytes | million instructions a frame |"
     echo "|---|---|---|---|---|---|---|---|"
-    by_us 15 progressive progressive
-    by_us 7 progressive progressive
-    by_us 15 frames "frames of two fields"
+    by_us 15 progressive weights progressive
+    by_us 15 progressive even "progressive, \`--plan even\`"
+    by_us 7 progressive weights progressive
+    by_us 15 frames weights "frames of two fields"
     if has ffmpeg; then
         by_ffmpeg "exhaustive search, 15 far" -me_range 30 -dia_size 1039
         by_ffmpeg "exhaustive search, 7 far" -me_range 14 -dia_size 1031

@@ -17,6 +17,31 @@ failed=0
 
 # bytes HEX..: the bytes of hexadecimal numbers.
 bytes() { printf "$(printf '\\x%s' $*)"; }
+# clip WIDTH HEIGHT FRAMES LUMA: raw frames, their luma by frame t, line y and column c, with grey chroma. A draw is that of
+# `make 1`: its state has four parts of 16 bits, the lowest first.
+clip() {
+  printf "$(awk -v w="$1" -v h="$2" -v n="$3" "
+    function draw(  i, j, next_state) {
+      for (i = 0; i < 4; i++) {
+        next_state[i] += add[i]
+        for (j = 0; i + j < 4; j++) next_state[i + j] += state[i] * times[j]
+      }
+      for (i = 0; i < 4; i++) {
+        next_state[i + 1] += int(next_state[i] / 65536)
+        state[i] = next_state[i] % 65536
+      }
+      return int(state[3] / 256)
+    }
+    BEGIN {
+      state[0] = 1; state[1] = state[2] = state[3] = 0
+      times[0] = 32557; times[1] = 19605; times[2] = 62509; times[3] = 22609
+      add[0] = 33103; add[1] = 63335; add[2] = 31614; add[3] = 5125
+      for (t = 0; t < n; t++) {
+        for (y = 0; y < h; y++) for (c = 0; c < w; c++) printf \"\\\\x%02x\", $4
+        for (i = 0; i < w * h / 2; i++) printf \"\\\\x80\"
+      }
+    }")"
+}
 # grey N: N bytes of value 128.
 grey() { head -c "$1" /dev/zero | tr '\0' '\200'; }
 
@@ -106,6 +131,57 @@ tell 'make: its figures are those of check' "$(
   found=$("$program" check < made 2>&1 | sed -n 's/^lawful frames 48 .* \(low .*\)/\1/p')
   [ "$told" ] && [ "$told" = "$found" ] || echo "make: $(cat err); check: $found")"
 
+# streams by --plan even are what bench/cases/encoded.py makes of the frames: their lines and their sums
+even() {
+  local name=$1 line=$2 sum=$3
+  shift 3
+  "$program" encode "$@" --plan even < in > out 2> err
+  tell "encode by the source: $name" "$(
+    [ "$(cat err)" = "$line" ] || echo "the line is '$(head -c 200 err)'"
+    [ "$(sha256sum < out)" = "$sum  -" ] || echo 'the stream is another one')"
+}
+clip 48 48 14 '(t < 5 ? (c + y + 2 * t) % 64 + 64 : (29 * c + 41 * y + 13 * t) % 256)' > in
+for workers in 1 4; do
+  even "a cut, workers: $workers" 'frames 14 pictures 14 bytes 14806 stuffing 1397' \
+    9acc070acc7a873eec035d66ba0cdcc4d4017f73d5be0789c4e0ed50143008b5 \
+    --width 48 --height 48 --rate 3 --bits 500 --buffer 3 --group 6 --step 3 --search 2 --workers $workers
+done
+cp out in
+holds 'check: a cut by the source' 0 'lawful frames 14 pictures 14 bytes 14806 low 0 high 49148 delays 0' none check
+noisy='(3 * c + 2 * y + 5 * t) % 128 + 32 + int(draw() / 16)'
+# its sixth picture is the worked plan of docs/ENCODER.md
+clip 48 32 14 "$noisy" > in
+even 'noise in two groups' 'frames 14 pictures 14 bytes 9076 stuffing 0' \
+  996f058685299e3d373aa6781182af02dce96ace27f3061f56ffb339dc57fc05 \
+  --width 48 --height 32 --rate 3 --bits 300 --buffer 2 --search 3
+clip 32 32 9 "$noisy" > in
+even 'closed groups of 4' 'frames 9 pictures 9 bytes 3956 stuffing 0' \
+  72b23daf6d1b1306c51fba0b23216c90c71c1849fc7420000c54599edfafaec2 \
+  --width 32 --height 32 --rate 3 --bits 200 --buffer 2 --group 4 --step 2 --closed --search 2
+clip 64 32 4 "$noisy" > in
+even 'High level' 'frames 4 pictures 4 bytes 5258 stuffing 0' 33973de1e13acaa479a24a56ef785f61fc92ab08165064306f1257c1f7d0a544 \
+  --width 64 --height 32 --rate 8 --bits 4000 --buffer 20 --level high --search 2
+clip 32 32 6 '(7 * c + 11 * y + 5 * t) % 256' > in
+even 'vectors 15 samples far' 'frames 6 pictures 6 bytes 1718 stuffing 20' \
+  c2c9acc6e693a8a318d6a5d91bc6d59fdff571220ef93149b6fb212a005aa8c9 --width 32 --height 32 --rate 3 --bits 300 --buffer 3
+clip 32 32 7 '(t < 5 ? (c + y + 2 * t) % 64 + 64 : (29 * c + 41 * y + 13 * t) % 256)' > in
+even 'groups of one frame' 'frames 7 pictures 7 bytes 4185 stuffing 1068' \
+  65ac87774c829a8f8cb5fa0e2719f0951f124c0514ab04a7e705885f74a2d5f0 \
+  --width 32 --height 32 --rate 3 --bits 300 --buffer 2 --group 1 --step 1
+clip 32 64 5 '(5 * c + 3 * y + 40 * (y % 2) + 8 * t) % 256' > in
+even fields 'frames 5 pictures 10 bytes 3218 stuffing 0' 60022bece0da715f4aa55cec296c0dc0a854fcc2290dd89f20a28d84043067e8 \
+  --width 32 --height 64 --rate 3 --bits 400 --buffer 3 --scan fields --group 4 --step 2 --search 3
+clip 32 32 9 '(t < 5 ? (c + y + 2 * t) % 64 + 64 : (29 * c + 41 * y + 13 * t) % 256)' > in
+even film 'frames 9 pictures 9 bytes 5862 stuffing 1460' 9d4f4da26a91306b10a727f5dd95d3195ea369d1caa356d1dfa3c8b269b2f115 \
+  --width 32 --height 32 --rate 4 --bits 300 --buffer 2 --scan frames --pulldown --group 4 --step 2 --search 2
+cp frame in
+holds 'encode by weights' 0 'frames 1 pictures 1 bytes 60 stuffing 0' one.m2v encode "${small[@]}" --plan weights
+bytes $coded ${first/43 94/0B 94} $end > even.m2v
+holds 'encode by the source: a grey frame' 0 'frames 1 pictures 1 bytes 60 stuffing 0' even.m2v encode "${small[@]}" --plan even
+cp frame.y4m in
+holds 'encode-y4m by the source' 0 'frames 1 pictures 1 bytes 60 stuffing 0' even.m2v encode-y4m --bits 100 --buffer 1 --plan even
+cp none in
+
 # ---- words and settings
 holds 'no words' 2 usage none
 holds 'no such command' 2 usage none frobnicate
@@ -114,6 +190,7 @@ holds 'a word too few' 2 usage none flat 16 16 3
 holds 'a word of byte FF' 2 usage none flat 16 16 3 "$(printf '\377')"
 holds 'a command of byte FF' 2 usage none "$(printf '\377')"
 holds 'flat: quantiser 32' 3 'unfit rule 7 have 32 need 31' none flat 16 16 3 32
+holds 'encode: another plan' 2 usage none encode "${small[@]}" --plan odd
 holds 'encode: group 10 by 3' 3 'unfit rule 6 have 1 need 0' none encode "${small[@]}" --group 10 --step 3
 holds 'decode: no workers' 3 'unfit rule 6 have 0 need 1' none decode --workers 0
 holds 'cut: no groups' 3 'unfit rule 9 have 0 need 1' none cut 0 0

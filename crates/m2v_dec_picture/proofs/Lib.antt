@@ -6,3 +6,4 @@ pub mod Ranges
 pub mod RuleLaws
 pub mod FrameLaws
 pub mod BlockLaws
+pub mod PassLaws

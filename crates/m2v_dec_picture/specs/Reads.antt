@@ -1,7 +1,9 @@
 -- What the readers of a slice answer: what reading gives, and the samples of the tree.
 use Rattle.std.specs.Prelude.{◌≡◌, ◌⊎◌, ℕ, ◌-◌, ℤ, Bool, true, false, not, List, [], ◌∷◌, ◌++◌, length, filter, Result, Ok, Err}
 use Rattle.m2v_bits.specs.Bits.{all_zero}
+use Rattle.m2v_plane.specs.declared.planes.Plane.{Plane}
 use Rattle.m2v_plane.specs.Samples.{Samples}
+use Rattle.m2v_pred.specs.declared.mode.MbPlace.{MbPlace}
 use Rattle.m2v_quant.specs.declared.kind.Levels.{Levels}
 use Rattle.m2v_recon.specs.Steps.{levels_of}
 use Rattle.m2v_macro.specs.declared.values.MacroSyntax.{MacroSyntax}
@@ -44,6 +46,10 @@ TellsBlocks (Err e) levels rest read = read ≡ Err (e.kind, e.left)
 
 -- ---- macroblocks
 
+-- what is put changes nothing
+abbrev pub PutsNothing : Put → Type 0
+PutsNothing put = (at : MbPlace) (new : Plane → ℕ → ℕ → ℕ) (now : Samples) → put at new now ≡ now
+
 -- the rule on what a macroblock and those skipped before it are predicted from that is broken: that they read inside
 -- their references comes first
 abbrev pub Breaks : SliceSetup → SliceState → MacroSyntax → ℕ → Stop → Type 0
@@ -83,3 +89,9 @@ TellsSlice put s refs covered row old before (Ok end) new now =
     (x : Slice) × ((slice_at s covered row).read old ≡ Ok (x, new)) × (end.covered ≡ x.covered) × (end.large ≡ large_in x)
     × (now ≡ all_painted put s refs (slice_start s.context row covered x.info.quantiser) x.macroblocks before)
 TellsSlice put s refs covered row old before (Err e) new now = (slice_at s covered row).read old ≡ Err (e.kind, e.left)
+
+-- a slice of a row was read: the address behind its last macroblock, and how many of them are large; or the fault and its
+-- place
+abbrev pub PassesSlice : SliceSetup → ℕ → ℕ → List Bool → Result SliceEnd Stop → List Bool → Type 0
+PassesSlice s covered row old (Ok end) new = (x : Slice) × ((slice_at s covered row).read old ≡ Ok (x, new)) × (end.covered ≡ x.covered) × (end.large ≡ large_in x)
+PassesSlice s covered row old (Err e) new = (slice_at s covered row).read old ≡ Err (e.kind, e.left)

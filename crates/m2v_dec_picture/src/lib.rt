@@ -1,6 +1,7 @@
 //! The slices of pictures, read and painted (clauses 6.2.4, 7.2 and 7.6 of ISO/IEC 13818-2): a slice header, and macroblocks
 //! with their blocks until the rest of the unit is zero, each predicted from references, rebuilt and put into a frame or
-//! into a macroblock row; and the frames at hand while pictures are decoded, into which slices are painted.
+//! into a macroblock row; and the frames at hand while pictures are decoded, into which slices are painted. What is told of
+//! a slice depends on no sample, so slices may also be read and put nowhere.
 #![tactic(auto)]
 
 mod basis;
@@ -11,14 +12,17 @@ mod increments;
 mod located;
 mod macroblocks;
 mod paint;
+mod pass;
 mod prediction;
 mod rules;
 mod scratch;
 mod slices;
 mod target;
+mod zeros;
 
 pub use basis::PictureBasis;
 pub use gallery::{FramesAtHand, Gallery, Reading, backward_view, forward_view};
+pub use pass::SlicePass;
 pub use scratch::Scratch;
 pub use slices::{SliceEnd, read_slice};
 pub use target::Target;

@@ -20,7 +20,8 @@ use m2v_plane::RefView;
 use m2v_pred::Block16;
 use m2v_recon::rebuild_block;
 
-/// Puts the macroblocks that are skipped before one: each is its prediction. `before` is the state before them.
+/// Puts the macroblocks that are skipped before one: each is its prediction. `before` is the state before them. A target
+/// that wants no samples gets none.
 pub fn paint_gap<V: RefView, T: Target>(
     basis: &PictureBasis<V>,
     row: u32,
@@ -46,6 +47,9 @@ pub fn paint_gap<V: RefView, T: Target>(
         before.now (first_skipped before.now) x.now.gap.count (T.samples out.old) }
     ensures takes { (p : MbPlaceOf) → T.Takes out.old p → T.Takes out.new p }
 {
+    if !out.wants() {
+        return;
+    }
     let gap = x.gap;
     if gap.count == 0 {
         return;
@@ -88,7 +92,7 @@ fn predict_own<V: RefView>(
 }
 
 /// Puts a macroblock, whose levels `scratch` has. `before` is the state before it and those skipped before it, `state` that
-/// behind its elements.
+/// behind its elements. A target that wants no samples gets none.
 pub fn paint_own<V: RefView, T: Target>(
     basis: &PictureBasis<V>,
     row: u32,
@@ -119,6 +123,9 @@ pub fn paint_own<V: RefView, T: Target>(
     ensures levels { scratch.new.levels ≡ scratch.old.levels }
     ensures takes { (p : MbPlaceOf) → T.Takes out.old p → T.Takes out.new p }
 {
+    if !out.wants() {
+        return;
+    }
     let block = &mut scratch.block;
     predict_own(basis, row, before, x, block);
     let context = &basis.setup.context;

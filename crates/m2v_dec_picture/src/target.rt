@@ -1,14 +1,15 @@
-ghost use Rattle.std.specs.Prelude.{ℕ, ◌≡◌};
+ghost use Rattle.std.specs.Prelude.{ℕ, ◌≡◌, true, false};
 ghost use Rattle.m2v_plane.specs.declared.planes.Plane.{Plane};
 ghost use Rattle.m2v_plane.specs.Samples.{Samples};
 ghost use Rattle.m2v_pred.specs.declared.mode.MbPlace.{MbPlace};
 ghost use Rattle.m2v_pred.specs.Predicted.{block_by};
 ghost use Rattle.m2v_model.specs.Samples.{Put};
+ghost use Rattle.m2v_dec_picture.specs.Reads.{PutsNothing};
 
 use m2v_plane::{Frame, Plane, RowSamples};
 use m2v_pred::{Block16, MbPlace, own_lines};
 
-/// What macroblocks are put into: a frame, or one macroblock row.
+/// What macroblocks are put into: a frame, one macroblock row, or nothing.
 pub trait Target {
     /// Its samples.
     ghost samples: { Self → Samples };
@@ -18,6 +19,10 @@ pub trait Target {
 
     /// The place is one of its own.
     ghost Takes: { Self → MbPlace → Type 0 };
+
+    /// Whether it wants samples. Where it doesn't, what is put changes nothing, and needn't be put.
+    fn wants(&self) -> bool
+        ensures same { result ≡ false → PutsNothing placed };
 
     /// Puts the samples of a macroblock.
     fn put(&mut self, at: MbPlace, block: &Block16)
@@ -37,6 +42,11 @@ impl Target for Frame {
     ghost placed = { put_in_frame };
 
     ghost Takes = { λ f at. IsPlace at f.dims };
+
+    #[inline(always)]
+    fn wants(&self) -> bool {
+        true
+    }
 
     #[inline(always)]
     fn put(&mut self, at: MbPlace, block: &Block16) {
@@ -59,9 +69,36 @@ impl Target for RowSamples {
     ghost Takes = { λ r at. at.column < r.dims.mb_width };
 
     #[inline(always)]
+    fn wants(&self) -> bool {
+        true
+    }
+
+    #[inline(always)]
     fn put(&mut self, at: MbPlace, block: &Block16) {
         self.set_square(Plane::Y, at.column, &block.at[..256]);
         self.set_square(Plane::Cb, at.column, &block.at[256..320]);
         self.set_square(Plane::Cr, at.column, &block.at[320..384]);
     }
+}
+
+/// In the place of a frame, where slices are read for what else they tell.
+#[derive(Drop)]
+pub struct NoSamples;
+
+impl Target for NoSamples {
+    ghost use Rattle.m2v_plane.specs.Fields.{no_samples};
+
+    ghost samples = { λ n. no_samples };
+
+    ghost placed = { λ at f now. now };
+
+    ghost Takes = { λ n at. Unit {0} };
+
+    #[inline(always)]
+    fn wants(&self) -> bool {
+        false
+    }
+
+    #[inline(always)]
+    fn put(&mut self, at: MbPlace, block: &Block16) {}
 }

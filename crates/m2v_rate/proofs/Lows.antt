@@ -64,11 +64,11 @@ interval_high : (s : Settings) (u : ℕ) → Bounds s → IsInterval s u → s.b
 interval_high s u b (inl e) = rw (longest_arrives s, e) (mul-le-mul_left s.bits (longest_long s b))
 interval_high s u b (inr e) = rw (longest_arrives s, e) (omega arith)
 
-income_low : (s : Settings) (u : ℕ) → Bounds s → IsInterval s u → 1800 * least_of s ≤ s.bits * u
+pub income_low : (s : Settings) (u : ℕ) → Bounds s → IsInterval s u → 1800 * least_of s ≤ s.bits * u
 unfolding arrival_of
 income_low s u b i = omega (arith, b.time.arrives, mul-le-mul_left s.bits (interval_low s u b i))
 
-income_high : (s : Settings) (u : ℕ) → Bounds s → IsInterval s u → s.bits * u + 14400 ≤ 1800 * buffer_bits s
+pub income_high : (s : Settings) (u : ℕ) → Bounds s → IsInterval s u → s.bits * u + 14400 ≤ 1800 * buffer_bits s
 income_high s u b i = omega (arith, b.time.takes, interval_high s u b i)
 
 -- ---- the account of a group

@@ -1,13 +1,11 @@
 -- What the code's steps over a ledger need and give.
-use Rattle.std.proofs.Common.{◌≡◌, ℕ, zero, suc, ◌+◌, ◌-◌, ◌*◌, ◌/◌, ◌≤◌, ◌<◌, ◌^◌, inl, inr, min, max, length, get_or, refl, arith, add-one, Bool, true, false, nat_eq, if◌then◌else◌, Option, Some}
+use Rattle.std.proofs.Common.{◌≡◌, ℕ, zero, suc, ◌+◌, ◌-◌, ◌*◌, ◌≤◌, ◌<◌, ◌^◌, inl, inr, min, length, get_or, refl, arith, add-one, Bool, true, false, nat_eq, if◌then◌else◌, Some}
 use Rattle.m2v_set.specs.declared.settings.Settings.{Settings}
 use Rattle.m2v_set.specs.declared.settings.Scan.{Scan}
 use Rattle.m2v_set.specs.declared.settings.Scan.TheVariants.{Progressive, Frames, Fields}
-use Rattle.m2v_set.specs.Numbers.{buffer_bits, least_of, field_units, field_time, film_time, picture_time, interval_of, longest_interval_of, IsInterval}
+use Rattle.m2v_set.specs.Numbers.{buffer_bits, field_units, field_time, film_time, picture_time, interval_of, longest_interval_of, IsInterval}
 use Rattle.m2v_vbv.specs.Account.{State}
-use Rattle.m2v_rate.specs.declared.values.Plan.{Plan}
-use Rattle.m2v_rate.specs.declared.values.Known.{Known}
-use Rattle.m2v_rate.specs.Plans.{Entries, income, removed, account_at, first_open, low_behind, mean_behind, Low, last_of, last_known, target_of, quantiser_by, plan_of}
+use Rattle.m2v_rate.specs.Plans.{Entries, income, removed, account_at, low_behind, mean_behind, known_at, last_of, last_known}
 use Rattle.m2v_rate.specs.Steady.{IsSteady, IsLedger}
 use Rattle.m2v_rate.proofs.Lows.{removals_at, rate_at, buffer_at, gain_high, held_most, size_whole}
 use Rattle.m2v_rate.proofs.Targets.{buffer_small}
@@ -111,16 +109,6 @@ unfolding last_known
 last_none l kind = refl
 
 pub last_more : (l : Entries) (kind n : ℕ) → last_known l kind (n + 1)
-    ≡ (if nat_eq (get_or l.kinds n 0) kind then Some (record { bits = get_or l.sizes n 0; q = get_or l.quantisers n 0 }) else last_known l kind n)
+    ≡ (if nat_eq (get_or l.kinds n 0) kind then Some (known_at l n) else last_known l kind n)
 unfolding last_known
 last_more l kind n = rw add-one refl
-
--- ---- a plan
-
-pub plan_by : (l : Entries) (s : Settings) (p kind first low target least cap q : ℕ) (last : Option Known) → l.settings ≡ s
-    → kind ≡ get_or l.kinds p 0 → first ≡ first_open p → last ≡ last_known l kind first → target ≡ target_of l p
-    → low ≡ Low l p → least ≡ least_of s → cap ≡ 8 * (min (low / 1800) (max least (2 * target)) / 8) → q ≡ quantiser_by last target
-    → (let x : Plan = record { q = q; cap = cap; target = target } in x ≡ plan_of l p)
-unfolding plan_of
-plan_by l s p kind first low target least cap q last es ek ef el et ew em ec eq =
-    rw (eq, el, ek, ef, ec, ew, em, ← es, et) refl

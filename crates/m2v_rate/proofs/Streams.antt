@@ -1,8 +1,8 @@
 -- A stream that is coded by its plans is safe.
-use Rattle.std.proofs.Common.{◌≡◌, ℕ, zero, suc, ◌+◌, ◌-◌, ◌*◌, ◌≤◌, ◌<◌, List, [], ◌∷◌, ◌++◌, map, length, get_or, refl, sym, ap, subst, ◌∙◌, arith, append_assoc, add-one}
+use Rattle.std.proofs.Common.{◌≡◌, ℕ, zero, suc, ◌+◌, ◌-◌, ◌*◌, ◌≤◌, ◌<◌, ◌^◌, List, [], ◌∷◌, ◌++◌, map, length, get_or, refl, sym, ap, subst, ◌∙◌, arith, append_assoc, add-one}
 use Rattle.std.specs.List.{range_with_len}
 use Rattle.std.proofs.lemmas.List.{append-nil, get_or-map, length-map}
-use Rattle.std.proofs.lemmas.List.Elements.{All-map}
+use Rattle.std.proofs.lemmas.List.Elements.{All-nil, All-map}
 use Rattle.std.proofs.lemmas.List.FromFn.{map-range_with_len_more}
 use Rattle.std.proofs.lemmas.List.Sums.{sum_by-append, sum_by-cons}
 use Rattle.m2v_set.specs.declared.settings.Settings.{Settings}
@@ -13,11 +13,12 @@ use Rattle.m2v_vbv.specs.Annex.{Start, Removal, removed, held_endless, Safe}
 use Rattle.m2v_vbv.specs.Account.{State, after, stuffing_of, arriving, account_of}
 use Rattle.m2v_vbv.proofs.Sums.{Exact, account_push, exact_push, exact_none, opening_is}
 use Rattle.m2v_rate.specs.declared.values.Plan.{Plan}
-use Rattle.m2v_rate.specs.Plans.{Entries, income, account_at, first_open, Low, plan_of, target_of, fresh}
-use Rattle.m2v_rate.specs.Steady.{IsBegun, IsSteady, IsLedger}
+use Rattle.m2v_rate.specs.Sharing.{IsPictureActivity}
+use Rattle.m2v_rate.specs.Plans.{Entries, income, account_at, first_open, Low, plan_of, fresh}
+use Rattle.m2v_rate.specs.Steady.{IsPlan, IsBegun, IsSteady, IsLedger}
 use Rattle.m2v_rate.specs.Safety.{Picture, closed, IsCoded, AreCoded, removal_at, ending_at, group_removals, removals, after_groups, sent, Keeps}
 use Rattle.m2v_rate.proofs.Lows.{rate_at, buffer_at, gain_high, held_least, held_most, held_tight, left_whole, low_least, low_below, cap_held, size_whole}
-use Rattle.m2v_rate.proofs.Keeps.{cap_low, cap_is, cap_least}
+use Rattle.m2v_rate.proofs.BothPlans.{plan_is}
 
 -- ---- a group
 
@@ -33,17 +34,24 @@ closed_begun l g h coded = record {
 }
 
 none : Picture
-none = record { kind = 0; interval = 0; size = 0; plan = record { q = 0; cap = 0; target = 0 } }
+none = record { kind = 0; interval = 0; activity = 0; size = 0; work = 0; plan = record { q = 0; cap = 0; target = 0 } }
 
 -- each size leaves room for an end code
 size_room : (l : Entries) (g : List Picture) (j : ℕ) → IsCoded l g → j < length g → get_or (closed l g).sizes j 0 + 32 ≤ get_or (closed l g).caps j 0
 size_room l g j coded lt =
     omega (arith, get_or-map (λ (x : Picture). x.size) g j none 0 lt, get_or-map (λ (x : Picture). x.plan.cap) g j none 0 lt, coded.sizes j none lt)
 
-cap_within : (l : Entries) (g : List Picture) (j : ℕ) → IsCoded l g → j < length g → 1800 * get_or (closed l g).caps j 0 ≤ Low (closed l g) j
-cap_within l g j coded lt =
-    let same : (get_or g j none).plan.cap ≡ (plan_of (closed l g) j).cap = ap (λ (x : Plan). x.cap) (coded.plans j none lt) in
-    omega (arith, get_or-map (λ (x : Picture). x.plan.cap) g j none 0 lt, same, cap_low (closed l g) j)
+-- each plan is one with which the buffer is safe
+plan_at : (l : Entries) (g : List Picture) (j : ℕ) → IsBegun l → IsCoded l g → j < length g → IsPlan l.settings (Low (closed l g) j) (plan_of (closed l g) j)
+plan_at l g j h coded lt =
+    plan_is (closed l g) j (closed_begun l g h coded) (omega (arith, lt, length-map g (λ (x : Picture). x.kind)))
+
+cap_at : (l : Entries) (g : List Picture) (j : ℕ) → IsCoded l g → j < length g → get_or (closed l g).caps j 0 ≡ (plan_of (closed l g) j).cap
+cap_at l g j coded lt =
+    get_or-map (λ (x : Picture). x.plan.cap) g j none 0 lt ∙ ap (λ (x : Plan). x.cap) (coded.plans j none lt)
+
+cap_low : (l : Entries) (g : List Picture) (j : ℕ) → IsBegun l → IsCoded l g → j < length g → 1800 * get_or (closed l g).caps j 0 ≤ Low (closed l g) j
+cap_low l g j h coded lt = omega (arith, cap_at l g j coded lt, (plan_at l g j h coded lt).held)
 
 pub closed_steady : (l : Entries) (g : List Picture) → IsBegun l → IsCoded l g → IsSteady (closed l g)
 closed_steady l g h coded =
@@ -60,16 +68,12 @@ closed_steady l g h coded =
       known = omega (arith, sizes, caps);
       ahead = omega (arith, sizes, caps);
       sizes = λ j lt. omega (arith, size_room l g j coded (omega (arith, sizes)));
-      caps = λ j lt. cap_within l g j coded (omega (arith, caps));
+      caps = λ j lt. cap_low l g j h coded (omega (arith, caps));
     }
 
 -- a cap leaves room for an emergency picture
-cap_room : (l : Entries) (g : List Picture) (j : ℕ) → IsCoded l g → IsSteady (closed l g) → j < length g → least_of l.settings ≤ get_or (closed l g).caps j 0
-cap_room l g j coded steady lt =
-    let c = closed l g in
-    let same : (get_or g j none).plan.cap ≡ (plan_of c j).cap = ap (λ (x : Plan). x.cap) (coded.plans j none lt) in
-    let picture : j < length c.kinds = omega (arith, length-map g (λ (x : Picture). x.kind)) in
-    omega (arith, get_or-map (λ (x : Picture). x.plan.cap) g j none 0 lt, same, cap_is c j, cap_least c j (target_of c j) steady picture)
+cap_room : (l : Entries) (g : List Picture) (j : ℕ) → IsBegun l → IsCoded l g → j < length g → least_of l.settings ≤ get_or (closed l g).caps j 0
+cap_room l g j h coded lt = omega (arith, cap_at l g j coded lt, (plan_at l g j h coded lt).least)
 
 -- a picture is whole with its zero bytes
 gone_whole : (c : Entries) (j : ℕ) → IsSteady c → j < length c.sizes → 1800 * (removal_at c j).bits ≤ (account_at c j).held
@@ -187,6 +191,15 @@ fresh_ledger s passes = record {
     sizes = λ j lt. absurd (omega (arith, lt));
     caps = λ j lt. absurd (omega (arith, lt));
   };
+  measured = record {
+    active = refl;
+    activities = λ even. All-nil IsPictureActivity;
+    worked = refl;
+    works = All-nil (λ (w : ℕ). w < 2 ^ 29);
+    last_i = tt;
+    last_p = tt;
+    last_b = tt;
+  };
 }
 
 removed_split : (before : List Removal) (r : Removal) (later : List Removal) → removed (before ++ r ∷ later) ≡ removed before + (r.bits + removed later)
@@ -272,8 +285,8 @@ keeps l g p h coded lt =
     record {
       least = low_least c f (p - f) steady.begun (omega (arith, kinds));
       low = low_below c p steady.begun (omega (arith, kinds)) (λ j less. steady.sizes j (omega (arith, sizes)));
-      cap = cap_within l g p coded lt;
-      room = cap_room l g p coded steady lt;
+      cap = cap_low l g p h coded lt;
+      room = cap_room l g p h coded lt;
       size = size_room l g p coded lt;
       whole = gone_whole c p steady (omega (arith, sizes));
       most = held_most c p steady.begun (omega (arith, kinds));

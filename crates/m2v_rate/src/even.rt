@@ -1,7 +1,6 @@
 //! How what a group may take is shared, and the plan of a picture.
-ghost use Rattle.std.specs.Prelude.{◌≡◌, ◌+◌, ◌-◌, ◌*◌, ◌^◌, ◌<◌, ◌≤◌, min, length, sum_by};
-ghost use Rattle.std.specs.List.{range_with_len};
-ghost use Rattle.m2v_rate.specs.Sharing.{from_on, ahead, income, need, needs, pool, share, quantiser, target, lack, reserve, most, even_plan, IsOutlook};
+ghost use Rattle.std.specs.Prelude.{◌≡◌, ◌+◌, ◌-◌, ◌*◌, ◌^◌, ◌<◌, ◌≤◌, min, length};
+ghost use Rattle.m2v_rate.specs.Sharing.{from_on, income, need, needs, pool, share, quantiser, target, lack, reserve, most, even_plan, IsOutlook};
 
 use crate::outlook::{Outlook, coarseness};
 

@@ -1,8 +1,7 @@
 //! What the plan by the source is made of.
-ghost use Rattle.std.specs.Prelude.{◌≡◌, ◌+◌, ◌≤◌, ◌<◌, true, IfSome, length};
-ghost use Rattle.m2v_set.specs.Numbers.{least_of};
+ghost use Rattle.std.specs.Prelude.{◌≡◌, ◌+◌, ◌≤◌, ◌<◌, true, length};
 ghost use Rattle.m2v_set.specs.Rules.{is_even};
-ghost use Rattle.m2v_rate.specs.Sharing.{IsMeasured, IsOutlook};
+ghost use Rattle.m2v_rate.specs.Sharing.{IsOutlook};
 ghost use Rattle.m2v_rate.specs.Plans.{incomes_of as incomes_in, last_measured, outlook_of as outlook_in};
 
 use crate::columns::Numbers;
@@ -15,6 +14,7 @@ use crate::states::{arriving, low_before, mean_before};
 pub fn incomes_of(ledger: &Ledger) -> Numbers
     ensures value { result ≡ incomes_in ledger.now }
 {
+    let _steady = ledger.settings();
     let mut incomes = Numbers::none();
     for j in 0..ledger.pictures() {
         incomes.push((arriving(ledger, j) / 1800) as u32);
@@ -26,7 +26,6 @@ pub fn incomes_of(ledger: &Ledger) -> Numbers
 fn last_measured(ledger: &Ledger, kind: u8, p: u32) -> Option<Measured>
     requires known { p ≤ length ledger.now.sizes + 3 }
     ensures value { result ≡ last_measured ledger.now kind p }
-    ensures measured { IfSome result IsMeasured }
 {
     match last_before(ledger, kind, p.saturating_sub(3)) {
         Some(known) => Some(known.measured),
@@ -44,6 +43,7 @@ pub fn outlook_of<'a>(ledger: &'a Ledger, incomes: &'a Numbers, p: u32) -> Outlo
     ensures value { result ≡ outlook_in ledger.now p }
     ensures group { IsOutlook result }
 {
+    let _steady = ledger.settings();
     Outlook {
         kinds: ledger.kinds(),
         activities: ledger.activities(),

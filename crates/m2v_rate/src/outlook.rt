@@ -1,5 +1,5 @@
 //! What a plan is made of.
-ghost use Rattle.std.specs.Prelude.{◌≡◌, ◌^◌, ◌<◌, ◌≤◌, IfSome, length, slice_index};
+ghost use Rattle.std.specs.Prelude.{◌≡◌, ◌^◌, ◌<◌, ◌≤◌, IfSome, length};
 ghost use Rattle.m2v_rate.specs.Sharing.{complexity, coarseness, last_of, kind_at, complexity_at, need, income, IsMeasured, IsPictureActivity, IsIncome, IsOutlook};
 
 use std::marker::Model;

@@ -12,8 +12,8 @@ use Rattle.m2v_macroblock.specs.m2v_macro.declared.values.SliceState.{SliceState
 use Rattle.m2v_macroblock.specs.Texts.{macroblock_text}
 use Rattle.m2v_macroblock.specs.m2v_recon.Macro.{plane_with}
 use Rattle.m2v_choose.specs.Decisions.{Decision}
-use Rattle.m2v_choose.specs.Choice.{candidate_at, choice_of}
-use Rattle.m2v_slice.specs.Slices.{SliceTask, Begun, room, decision, with_candidate, begun}
+use Rattle.m2v_choose.specs.Choice.{bits_taken, candidate_at, choice_of}
+use Rattle.m2v_slice.specs.Slices.{SliceTask, Begun, room, quantiser_at, decision, with_candidate, begun}
 use Rattle.m2v_slice.specs.Laws.{IsRow}
 
 -- two planes of a row of macroblocks that agree in the first n columns
@@ -61,6 +61,7 @@ record AgreeSo (t : SliceTask) (n : ℕ) (a b : Begun) : Type 0 where
   same_dims : b.row.dims ≡ t.source.dims
   state : a.state ≡ b.state
   text : a.text ≡ b.text
+  work : a.work ≡ b.work
   macroblocks : a.macroblocks ≡ b.macroblocks
   luma : Agree 16 t.source.dims.mb_width n a.row.luma b.row.luma
   cb : Agree 8 t.source.dims.mb_width n a.row.cb b.row.cb
@@ -68,10 +69,10 @@ record AgreeSo (t : SliceTask) (n : ℕ) (a b : Begun) : Type 0 where
 
 module _ (t : SliceTask) (n : ℕ) (a b : Begun) (h : AgreeSo t n a b) where
   same_decision : decision t a n ≡ decision t b n
-  unfolding decision room
+  unfolding decision room quantiser_at
   same_decision =
-      let f = λ (st : SliceState) (text : List Bool). decision t (record { state = st; text = text; row = a.row; macroblocks = a.macroblocks }) n in
-      λ i. f (h.state i) (h.text i)
+      let f = λ (st : SliceState) (text : List Bool) (work : ℕ). decision t (record { state = st; text = text; row = a.row; work = work; macroblocks = a.macroblocks }) n in
+      λ i. f (h.state i) (h.text i) (h.work i)
 
   step_agrees : AgreeSo t (suc n) (with_candidate (decision t a n) a (choice_of (decision t a n))) (with_candidate (decision t a n) b (choice_of (decision t a n)))
   unfolding with_candidate decision
@@ -84,6 +85,7 @@ module _ (t : SliceTask) (n : ℕ) (a b : Begun) (h : AgreeSo t n a b) where
         same_dims = h.same_dims;
         state = refl;
         text = λ i. if x.skip then h.text i else h.text i ++ macroblock_text d.context (h.state i) x.macroblock;
+        work = λ i. h.work i + d.limits.q * bits_taken d x;
         macroblocks = λ i. if x.skip then h.macroblocks i else h.macroblocks i ++ x.macroblock ∷ [];
         luma = wide 16 (omega arith) (candidate_at d x Y) a.row.luma b.row.luma h.luma;
         cb = wide 8 (omega arith) (candidate_at d x Cb) a.row.cb b.row.cb h.cb;
@@ -109,6 +111,7 @@ module _ (t : SliceTask) (a b : Samples) (first : IsRow t a) (second : IsRow t b
     same_dims = second.dims;
     state = refl;
     text = refl;
+    work = refl;
     macroblocks = refl;
     luma = none_agree 16 t.source.dims.mb_width a.luma b.luma (rw (← first.dims) first.rows.luma) (rw (← second.dims) second.rows.luma);
     cb = none_agree 8 t.source.dims.mb_width a.cb b.cb (rw (← first.dims) first.rows.cb) (rw (← second.dims) second.rows.cb);
@@ -131,4 +134,4 @@ module _ (t : SliceTask) (a b : Samples) (first : IsRow t a) (second : IsRow t b
       let cb = all_agree 8 w (begun t a n).row.cb (begun t b n).row.cb (omega arith) (subst (λ (k : ℕ). Agree 8 w k (begun t a n).row.cb (begun t b n).row.cb) e h.cb) in
       let cr = all_agree 8 w (begun t a n).row.cr (begun t b n).row.cr (omega arith) (subst (λ (k : ℕ). Agree 8 w k (begun t a n).row.cr (begun t b n).row.cr) e h.cr) in
       let dims = h.dims ∙ sym h.same_dims in
-      λ i. record { state = h.state i; text = h.text i; row = record { dims = dims i; luma = luma i; cb = cb i; cr = cr i }; macroblocks = h.macroblocks i }
+      λ i. record { state = h.state i; text = h.text i; row = record { dims = dims i; luma = luma i; cb = cb i; cr = cr i }; work = h.work i; macroblocks = h.macroblocks i }

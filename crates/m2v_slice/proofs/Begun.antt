@@ -11,9 +11,10 @@ use Rattle.m2v_order.specs.declared.jobs.PictureJob.{PictureJob}
 use Rattle.m2v_order.specs.Groups.{Group}
 use Rattle.m2v_order.specs.Times.{intervals_of, anchor_after, interval_behind}
 use Rattle.m2v_rate.specs.Plans.{Entries, begun}
-use Rattle.m2v_rate.specs.Steady.{IsBegun, IsLedger}
-use Rattle.m2v_rate.proofs.Keeps.{begins_steady}
-use Rattle.m2v_slice.specs.Conditions.{IsBegunFor}
+use Rattle.m2v_rate.specs.Steady.{IsBegun}
+use Rattle.m2v_rate.proofs.Lows.{held_least, held_most, removals_at, rate_at, buffer_at}
+use Rattle.m2v_slice.specs.Books.{picture_activities}
+use Rattle.m2v_slice.specs.Conditions.{IsSteadyLedger, IsBegunFor}
 
 pub times_length : (s : Settings) (last : Option ℕ) (jobs : List PictureJob) → length (intervals_of s last jobs) ≡ length jobs
 unfolding intervals_of
@@ -33,30 +34,41 @@ times_are s last (job ∷ more) =
 -- the ledger of the next group
 pub begun_ledger : (s : Settings) (g : Group Samples) (from : Entries) → from.settings ≡ s → IsBegun from
     → from.account.removals + length from.kinds < 2 ^ 39 → length g.pictures ≤ 126
-    → IsLedger (begun from (map (λ (j : PictureJob). j.kind) g.pictures) (intervals_of s g.before g.pictures))
+    → IsSteadyLedger (begun from (map (λ (j : PictureJob). j.kind) g.pictures) (intervals_of s g.before g.pictures) (picture_activities s g.frames g.pictures))
 begun_ledger s g from settings h removals few =
-    let kinds = map (λ (j : PictureJob). j.kind) g.pictures in
+    let n = length from.kinds in
     let times = intervals_of s g.before g.pictures in
     let count = length-map g.pictures (λ (j : PictureJob). j.kind) in
-    begins_steady from (length from.kinds) (begun from kinds times) h (omega arith) (record {
-      settings = refl;
-      account = refl;
+    record {
       few = omega (arith, few, count);
-      timed = times_length s g.before g.pictures ∙ sym count;
-      times = subst (λ (t : Settings). All (IsInterval t) times) (sym settings) (times_are s g.before g.pictures);
-      sizes = refl;
-      quantisers = refl;
-      caps = refl;
-      targets = refl;
-      removals = removals;
-    })
+      removals = omega (arith, removals, removals_at from n);
+      steady = record {
+        begun = record {
+          passes = h.passes;
+          rate = rate_at from n h;
+          buffer = buffer_at from n h;
+          least = held_least from n h (omega arith);
+          most = held_most from n h (omega arith);
+          timed = times_length s g.before g.pictures ∙ sym count;
+          times = subst (λ (t : Settings). All (IsInterval t) times) (sym settings) (times_are s g.before g.pictures);
+        };
+        planned = omega arith;
+        targeted = refl;
+        quantised = refl;
+        known = omega arith;
+        ahead = omega arith;
+        sizes = λ j lt. absurd (omega (arith, lt));
+        caps = λ j lt. absurd (omega (arith, lt));
+      };
+    }
 
 pub begun_for : (s : Settings) (g : Group Samples) (from l : Entries) → from.settings ≡ s → IsBegun from
     → from.account.removals + length from.kinds < 2 ^ 39 → length g.pictures ≤ 126
-    → l ≡ begun from (map (λ (j : PictureJob). j.kind) g.pictures) (intervals_of s g.before g.pictures) → IsBegunFor s g l
+    → l ≡ begun from (map (λ (j : PictureJob). j.kind) g.pictures) (intervals_of s g.before g.pictures) (picture_activities s g.frames g.pictures)
+    → IsBegunFor s g l
 begun_for s g from l settings h removals few is = record {
   from = from;
   settings = settings;
   begun = is;
-  ledger = subst IsLedger (sym is) (begun_ledger s g from settings h removals few);
+  ledger = subst IsSteadyLedger (sym is) (begun_ledger s g from settings h removals few);
 }

@@ -15,7 +15,7 @@ abbrev pub none : CodedPicture
 none = record { plan = no_plan; slices = [] }
 
 abbrev pub no_slice : CodedSlice
-no_slice = record { text = []; row = no_samples }
+no_slice = record { text = []; row = no_samples; work = 0 }
 
 pub count : (b : Book) (n : ℕ) → length (coded b n) ≡ n
 unfolding coded

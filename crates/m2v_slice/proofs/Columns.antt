@@ -20,10 +20,11 @@ use Rattle.m2v_choose.specs.Decisions.{Decision, Candidate, place_of}
 use Rattle.m2v_choose.specs.Choice.{candidate_at, choice_of, state_behind}
 use Rattle.m2v_choose.specs.Laws.{StaysInside}
 use Rattle.m2v_choose.specs.Trials.{IsBefore}
-use Rattle.m2v_slice.specs.Slices.{SliceTask, Begun, room, decision, with_candidate, begun}
+use Rattle.m2v_slice.specs.Slices.{SliceTask, Begun, room, quantiser_at, decision, with_candidate, begun}
 use Rattle.m2v_slice.specs.Laws.{IsSlice, Keeps}
 use Rattle.m2v_slice.specs.Steps.{HasReferences, CanCode, row_place, decision_at, text_of}
 use Rattle.m2v_slice.proofs.Choices.{choice_there}
+use Rattle.m2v_slice.proofs.Candidates.{bits_are}
 use Rattle.m2v_slice.proofs.Keeps.{keeps_some, skip_where, limits_here, fits_here, held_here, writable_here}
 use Rattle.m2v_slice.proofs.Fits.{place_here, chosen}
 use Rattle.m2v_slice.proofs.Motions.{written_can, skipped_can}
@@ -53,6 +54,14 @@ module _ (t : SliceTask) (row : Samples) where
   unfolding begun with_candidate decision
   row_suc n = refl
 
+  work_suc : (n : ℕ) → (begun t row (suc n)).work
+      ≡ (begun t row n).work + quantiser_at t (begun t row n) n * length (text_of (decision t (begun t row n) n) (choice_of (decision t (begun t row n) n)))
+  unfolding begun with_candidate decision
+  work_suc n =
+      let s = begun t row n in
+      let d = decision t s n in
+      ap (λ (bits : ℕ). s.work + quantiser_at t s n * bits) (sym (bits_are d (choice_of d)))
+
   pub state_more : (n : ℕ) → (begun t row (n + 1)).state ≡ state_behind (decision t (begun t row n) n) (choice_of (decision t (begun t row n) n))
   state_more n = ap (λ (k : ℕ). (begun t row k).state) (omega arith) ∙ state_suc n
 
@@ -62,10 +71,15 @@ module _ (t : SliceTask) (row : Samples) where
   pub row_more : (n : ℕ) → (begun t row (n + 1)).row ≡ with_macroblock 1 0 n (candidate_at (decision t (begun t row n) n) (choice_of (decision t (begun t row n) n))) (begun t row n).row
   row_more n = ap (λ (k : ℕ). (begun t row k).row) (omega arith) ∙ row_suc n
 
+  pub work_more : (n : ℕ) → (begun t row (n + 1)).work
+      ≡ (begun t row n).work + quantiser_at t (begun t row n) n * length (text_of (decision t (begun t row n) n) (choice_of (decision t (begun t row n) n)))
+  work_more n = ap (λ (k : ℕ). (begun t row k).work) (omega arith) ∙ work_suc n
+
 -- what a macroblock is decided by, as the program has it
-pub decision_is : (t : SliceTask) (s : Begun) (n : ℕ) (st : SliceState) (limits : Limits) (bits : ℕ) → st ≡ s.state → bits ≡ 38 + length s.text
+pub decision_is : (t : SliceTask) (s : Begun) (n : ℕ) (st : SliceState) (limits : Limits) (bits q : ℕ) → st ≡ s.state → bits ≡ 38 + length s.text
+    → q ≡ quantiser_at t s n
     → limits ≡ record {
-      q = t.q;
+      q = q;
       search = t.search;
       room = t.cap - bits - 31 * (t.context.columns - 1 - n);
       first = nat_eq n 0;
@@ -75,9 +89,9 @@ pub decision_is : (t : SliceTask) (s : Begun) (n : ℕ) (st : SliceState) (limit
     }
     → decision_at t.source t.forward t.backward t.context st limits ≡ decision t s n
 unfolding decision room
-decision_is t s n st limits bits same len is =
+decision_is t s n st limits bits q same len coarse is =
     let all : limits ≡ (decision t s n).limits = is ∙ (λ i. record {
-      q = t.q;
+      q = coarse i;
       search = t.search;
       room = t.cap - len i - 31 * (t.context.columns - 1 - n);
       first = nat_eq n 0;
@@ -89,7 +103,7 @@ decision_is t s n st limits bits same len is =
 
 -- as long as the text so far and its header
 pub long_so : (t : SliceTask) → IsSlice t → (row : Samples) (n bits : ℕ) → n < t.context.columns → bits ≡ 38 + length (begun t row n).text
-    → bits + 31 * (t.context.columns - 1 - n) ≤ t.cap
+    → bits + 31 * (t.context.columns - n) ≤ t.cap
 long_so t slice row n bits small len = let h = keeps_some t slice row n (omega (arith, small)) in omega (arith, h.1.room, len, small)
 
 pub short_so : (t : SliceTask) → IsSlice t → (row : Samples) (n : ℕ) → n ≤ t.context.columns → length (begun t row n).text ≤ 4608 * n

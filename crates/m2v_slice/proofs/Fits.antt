@@ -48,6 +48,7 @@ module _ (t : SliceTask) (slice : IsSlice t) where
         cap = omega (arith, all, len, six, h.1.room, h.1.covers refl, slice.edge);
         most = omega (arith, all, len, six, h.1.most);
         edge = unit_edge (t.row + 1) (head ++ s.text);
+        work = omega (arith, all, len, six, h.1.work);
       }
 
   pub last_written : (row : Samples) (n : ℕ) → suc n ≡ t.context.columns → (choice_of (decision t (begun t row n) n)).skip ≡ false

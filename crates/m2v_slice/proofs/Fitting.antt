@@ -45,9 +45,9 @@ plan_has : (d : Dims) (x : EncodeShared) (plan : _) (ledger : _) → x ≡ part.
 unfolding HasDims
 plan_has d x plan ledger e = subst (HasDims d) (sym e) tt
 
-slice_has : (d : Dims) (x : EncodeShared) (row : Samples) (bits : ℕ) → x ≡ part.Slice row bits → d ≡ row.dims → HasDims d x
+slice_has : (d : Dims) (x : EncodeShared) (row : Samples) (bits work : ℕ) → x ≡ part.Slice row bits work → d ≡ row.dims → HasDims d x
 unfolding HasDims
-slice_has d x row bits e same = subst (HasDims d) (sym e) same
+slice_has d x row bits work e same = subst (HasDims d) (sym e) same
 
 pub shared_dims : (b : Book) → IsBook b → (j : ℕ) → j < jobs_of b → HasDims (dims_of b.settings) (shared_of b j)
 shared_dims b h j lt = elim (cases_eq (part_of_job b j) 0) [
@@ -55,7 +55,7 @@ shared_dims b h j lt = elim (cases_eq (part_of_job b j) 0) [
   | inr n ↦
       let p = picture_of_job b j in
       let r = part_of_job b j - 1 in
-      slice_has (dims_of b.settings) (shared_of b j) (slice_in b j).row (length (slice_in b j).text) (shared_slice b j n)
+      slice_has (dims_of b.settings) (shared_of b j) (slice_in b j).row (length (slice_in b j).text) (slice_in b j).work (shared_slice b j n)
       (sym (slice_size b h (p + 1) p r (job_picture b j lt) (omega arith) (omega (arith, part_small b j, n))))
 ]
 
@@ -77,12 +77,12 @@ slice_needs_few b j n =
 pub fits_plan : (b : Book) (x : EncodeShared) (c : Cached) → FitsCache b c → FitsCache b (with_plan x c)
 unfolding with_plan
 fits_plan b (part.Plan plan ledger) c h = record { room = h.room; size = h.size }
-fits_plan b (part.Slice row bits) c h = h
+fits_plan b (part.Slice row bits work) c h = h
 
 pub fits_bits : (b : Book) (x : EncodeShared) (c : Cached) → FitsCache b c → FitsCache b (with_bits x c)
 unfolding with_bits
 fits_bits b (part.Plan plan ledger) c h = h
-fits_bits b (part.Slice row bits) c h = record { room = h.room; size = h.size }
+fits_bits b (part.Slice row bits work) c h = record { room = h.room; size = h.size }
 
 all_set : (d : Dims) (rows : List Samples) (k : ℕ) (row : Samples) → k < length rows → d ≡ row.dims
     → All (λ (x : Samples). x.dims ≡ d) rows → All (λ (x : Samples). x.dims ≡ d) (slice_set rows k row)
@@ -94,7 +94,7 @@ all_set d rows k row lt same each i e small = elim (cases_eq i k) [
 pub fits_row : (b : Book) (k : ℕ) (x : EncodeShared) (c : Cached) → k < 12 → HasDims (dims_of b.settings) x → FitsCache b c → FitsCache b (with_row k x c)
 unfolding with_row HasDims
 fits_row b k (part.Plan plan ledger) c lt same h = h
-fits_row b k (part.Slice row bits) c lt same h = record {
+fits_row b k (part.Slice row bits work) c lt same h = record {
   room = length-set c.rows k row ∙ h.room;
   size = all_set (dims_of b.settings) c.rows k row (omega (arith, lt, h.room)) same h.size;
 }
@@ -134,7 +134,7 @@ learned_row b j at x c n is =
 pub shared_slice_fits : (b : Book) (j : ℕ) (x : EncodeShared) → (part_of_job b j ≡ 0 → ⊥) → FitsShared b j x → IsSlicePart x × HasDims (dims_of b.settings) x
 unfolding FitsShared IsSlicePart HasDims
 shared_slice_fits b j (part.Plan plan ledger) n h = absurd (n h)
-shared_slice_fits b j (part.Slice row bits) n h = (tt, sym h.1)
+shared_slice_fits b j (part.Slice row bits work) n h = (tt, sym h.1)
 
 pub piece_slice_fits : (b : Book) (j : ℕ) (x : EncodePiece) (slice : CodedSlice) → x ≡ piece.Slice slice → FitsPiece b j x
     → (part_of_job b j ≡ 0 → ⊥) × (slice.row.dims ≡ dims_of b.settings) × (length slice.text ≤ most_bits_of (mb_width_of b.settings))

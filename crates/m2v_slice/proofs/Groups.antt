@@ -1,5 +1,5 @@
 -- What is known of a book's pictures.
-use Rattle.std.proofs.Common.{◌≡◌, ℕ, ◌+◌, ◌*◌, ◌/◌, ◌<◌, ◌≤◌, ◌⊎◌, [], ◌∷◌, length, get_or, refl, sym, ap, subst, ◌∙◌, arith, inl, inr}
+use Rattle.std.proofs.Common.{◌≡◌, ℕ, ◌+◌, ◌*◌, ◌/◌, ◌<◌, ◌≤◌, ◌⊎◌, List, [], ◌∷◌, length, get_or, refl, sym, ap, subst, ◌∙◌, arith, inl, inr}
 use Rattle.std.specs.Prelude.{All}
 use Rattle.std.proofs.lemmas.List.Elements.{All-nil, All-cons}
 use Rattle.m2v_plane.specs.Sizes.{IsSize, part_of}
@@ -12,13 +12,15 @@ use Rattle.m2v_set.specs.declared.settings.Scan.TheVariants.{Progressive, Frames
 use Rattle.m2v_set.specs.Numbers.{dims_of, rows_by, frame_rows_by}
 use Rattle.m2v_set.specs.Rules.{Passes}
 use Rattle.m2v_set.specs.Bounds.{Bounds}
+use Rattle.m2v_set.proofs.Facts.{bounds}
 use Rattle.m2v_order.specs.declared.jobs.PictureJob.{PictureJob}
 use Rattle.m2v_order.specs.Coding.{structures}
 use Rattle.m2v_order.specs.Calls.{IsFromIntra}
 use Rattle.m2v_order.specs.Groups.{Group, Queue, first_of, group_of, IsSoundQueue}
-use Rattle.m2v_order.specs.Whole.{IsKind, fields_of}
+use Rattle.m2v_order.specs.Whole.{IsKind, fields_of, IsGroupOf}
 use Rattle.m2v_order.proofs.Queues.{grouped, top_of, Due, due_is, Turn, turn_is, group_places}
 use Rattle.m2v_order.proofs.Turns.{turn_intra}
+use Rattle.m2v_enc_activity.specs.Activity.{IsPictureOf, rows_in}
 use Rattle.m2v_rate.specs.Plans.{Entries}
 use Rattle.m2v_rate.proofs.Caps.{step_some}
 use Rattle.m2v_slice.specs.Books.{Book, rows, no_job, job_at}
@@ -90,14 +92,56 @@ row_within Progressive height n r is lt = rows_whole n ((height + 15) / 16) r ((
 row_within Frames height n r is lt = rows_whole n (2 * ((height + 31) / 32)) r (2 * ((height + 31) / 32)) is lt refl
 row_within Fields height n r is lt = rows_field n ((height + 31) / 32) r is lt
 
--- ---- a book's pictures
+-- the macroblock rows of a picture are those of the settings
+pub rows_one : (scan : Scan) (height n : ℕ) → HasStructure scan n → part_of (own_lines n) (frame_rows_by scan height) ≡ rows_by scan height
+unfolding rows_by frame_rows_by
+rows_one Progressive height n is = rw is refl
+rows_one Frames height n is = rw is refl
+rows_one Fields height n (inl e) = rw e (omega arith)
+rows_one Fields height n (inr e) = rw e (omega arith)
 
--- what is known of a picture
-pub record IsPicture (b : Book) (p : ℕ) : Type 0 where
-  pub kind : IsKind (job_at b p)
-  pub structure : HasStructure b.settings.scan (job_at b p).structure
-  pub frame : (job_at b p).frame < length b.frames
-  pub display : (job_at b p).frame ≤ (job_at b p).display
+rows_some : (scan : Scan) (height : ℕ) → 1 ≤ height → 1 ≤ rows_by scan height
+unfolding rows_by frame_rows_by
+rows_some Progressive height some = omega arith
+rows_some Frames height some = omega arith
+rows_some Fields height some = omega arith
+
+-- ---- pictures of a group, and of a book
+
+-- what is known of a picture of a group
+pub record IsPictureIn (s : Settings) (frames : List Samples) (j : PictureJob) : Type 0 where
+  pub kind : IsKind j
+  pub structure : HasStructure s.scan j.structure
+  pub frame : j.frame < length frames
+  pub display : j.frame ≤ j.display
+
+abbrev IsPlaced : ℕ → ℕ → PictureJob → Type 0
+IsPlaced first count j = (j.display ≡ first + j.frame) × (j.frame < count)
+
+module _ (s : Settings) (g : Group Samples) (passes : Passes s) (h : IsGroupOf s g) where
+  -- the turn of the queue that handed the group out
+  pub turn_of : Turn h.queue
+  turn_of =
+      let q = h.queue in
+      turn_is q (grouped q.settings (subst Passes (sym h.settings) passes)) h.sound (due_is q h.due)
+
+  places_of : All (IsPlaced (first_of h.queue) (length g.frames)) g.pictures
+  places_of =
+      subst (λ (x : Group Samples). All (IsPlaced (first_of h.queue) (length x.frames)) x.pictures) (sym h.is) (group_places h.queue h.sound turn_of)
+
+  pub pictures_in : All (IsPictureIn s g.frames) g.pictures
+  pictures_in p d lt =
+      let place = places_of p d lt in
+      let all = all_flat (λ (j : PictureJob). HasStructure s.scan j.structure) (fields_of s.scan) h.heads (structures_of s.scan) in
+      record {
+        kind = h.kinds p d lt;
+        structure = subst (All (λ (j : PictureJob). HasStructure s.scan j.structure)) (sym h.fields) all p d lt;
+        frame = place.1;
+        display = omega (arith, place.0);
+      }
+
+abbrev pub IsPicture : Book → ℕ → Type 0
+IsPicture b p = IsPictureIn b.settings b.frames (job_at b p)
 
 pub passes_of : (b : Book) → IsBook b → Passes b.settings
 passes_of b h =
@@ -107,31 +151,8 @@ passes_of b h =
 abbrev group_in : (b : Book) → IsBook b → Group Samples
 group_in b h = record { frames = b.frames; pictures = b.pictures; before = h.last }
 
--- the turn of the queue that handed the group out
-turn_of : (b : Book) (h : IsBook b) → Turn h.group.queue
-turn_of b h =
-    let q = h.group.queue in
-    let passes : Passes q.settings = subst Passes (sym h.group.settings) (passes_of b h) in
-    turn_is q (grouped q.settings passes) h.group.sound (due_is q h.group.due)
-
-abbrev IsPlaced : ℕ → ℕ → PictureJob → Type 0
-IsPlaced first count j = (j.display ≡ first + j.frame) × (j.frame < count)
-
-places_of : (b : Book) (h : IsBook b) → All (IsPlaced (first_of h.group.queue) (length b.frames)) b.pictures
-places_of b h =
-    subst (λ (g : Group Samples). All (IsPlaced (first_of h.group.queue) (length g.frames)) g.pictures) (sym h.group.is)
-    (group_places h.group.queue h.group.sound (turn_of b h))
-
 pub picture_is_one : (b : Book) → IsBook b → (p : ℕ) → p < length b.pictures → IsPicture b p
-picture_is_one b h p lt =
-    let place = places_of b h p no_job lt in
-    let all = all_flat (λ (j : PictureJob). HasStructure b.settings.scan j.structure) (fields_of b.settings.scan) h.group.heads (structures_of b.settings.scan) in
-    record {
-      kind = h.group.kinds p no_job lt;
-      structure = subst (All (λ (j : PictureJob). HasStructure b.settings.scan j.structure)) (sym h.group.fields) all p no_job lt;
-      frame = place.1;
-      display = omega (arith, place.0);
-    }
+picture_is_one b h p lt = pictures_in b.settings (group_in b h) (passes_of b h) h.group p no_job lt
 
 begins : (q : Queue Samples) → Passes q.settings → IsSoundQueue q → Due q → Turn q → IsFromIntra (group_of q).pictures
 unfolding group_of
@@ -143,8 +164,26 @@ pub from_intra : (b : Book) → IsBook b → IsFromIntra b.pictures
 from_intra b h =
     let q = h.group.queue in
     let passes : Passes q.settings = subst Passes (sym h.group.settings) (passes_of b h) in
-    subst (λ (g : Group Samples). IsFromIntra g.pictures) (sym h.group.is) (begins q passes h.group.sound (due_is q h.group.due) (turn_of b h))
+    subst (λ (g : Group Samples). IsFromIntra g.pictures) (sym h.group.is) (begins q passes h.group.sound (due_is q h.group.due) (turn_of b.settings (group_in b h) (passes_of b h) h.group))
 
 -- the source of a picture is of the settings' size
 pub source_size : (b : Book) → IsBook b → (p : ℕ) → p < length b.pictures → (get_or b.frames (job_at b p).frame no_samples).dims ≡ dims_of b.settings
 source_size b h p lt = h.sizes (job_at b p).frame no_samples (picture_is_one b h p lt).frame
+
+-- a picture has so many rows
+pub rows_are : (s : Settings) (n : ℕ) → HasStructure s.scan n → rows_in (dims_of s) n ≡ rows_by s.scan s.height
+unfolding dims_of
+rows_are s n is = rows_one s.scan s.height n is
+
+-- a group's pictures can be looked at
+pub looked_at : (s : Settings) (g : Group Samples) → Passes s → IsGroupOf s g
+    → All (IsPictureOf (length g.frames)) g.pictures × All (λ (j : PictureJob). 1 ≤ rows_in (dims_of s) j.structure) g.pictures
+looked_at s g passes h = (
+  λ p d lt.
+      let x = pictures_in s g passes h p d lt in
+      let low = structure_low s.scan (get_or g.pictures p d).structure x.structure in
+      record { frame = x.frame; kind = x.kind.0; known = x.kind.1; structure = low.0; whole = low.1 },
+  λ p d lt.
+      let x = pictures_in s g passes h p d lt in
+      omega (arith, rows_are s (get_or g.pictures p d).structure x.structure, rows_some s.scan s.height (omega (arith, (bounds s passes).size.tall, step_some s.scan))),
+)

@@ -30,9 +30,11 @@ use Rattle.m2v_choose.proofs.DcKept.{start_dc, choice_dc}
 use Rattle.m2v_choose.proofs.Kept.{choice_leaves}
 use Rattle.m2v_choose.proofs.Held.{hold_fits, own_choice_fits}
 use Rattle.m2v_choose.proofs.Written.{choice_written}
-use Rattle.m2v_slice.specs.Slices.{SliceTask, Begun, room, decision, with_candidate, begun}
+use Rattle.m2v_slice.specs.Slices.{SliceTask, Begun, room, quantiser_at, decision, with_candidate, begun}
 use Rattle.m2v_slice.specs.Laws.{IsSlice, Keeps, skipped_before}
 use Rattle.m2v_slice.proofs.Choices.{choice_there}
+use Rattle.m2v_slice.proofs.Candidates.{skipped_bits}
+use Rattle.m2v_slice.proofs.Quantisers.{quantiser_code, skipped_work, written_work}
 
 -- ---- where a macroblock may stand
 
@@ -75,7 +77,13 @@ later_step c st row n g first at before small skip =
 -- ---- behind a candidate
 
 skipped_is : (d : Decision) (s : Begun) (x : Candidate) → x.skip ≡ true
-    → with_candidate d s x ≡ record { state = d.state; text = s.text; row = with_macroblock 1 0 d.limits.column (candidate_at d x) s.row; macroblocks = s.macroblocks }
+    → with_candidate d s x ≡ record {
+      state = d.state;
+      text = s.text;
+      row = with_macroblock 1 0 d.limits.column (candidate_at d x) s.row;
+      work = s.work + d.limits.q * bits_taken d x;
+      macroblocks = s.macroblocks;
+    }
 unfolding with_candidate
 skipped_is d s x e = rw e refl
 
@@ -84,6 +92,7 @@ written_is : (d : Decision) (s : Begun) (x : Candidate) → x.skip ≡ false
       state = after_macroblock d.context d.state x.macroblock;
       text = s.text ++ macroblock_text d.context s.state x.macroblock;
       row = with_macroblock 1 0 d.limits.column (candidate_at d x) s.row;
+      work = s.work + d.limits.q * bits_taken d x;
       macroblocks = s.macroblocks ++ x.macroblock ∷ [];
     }
 unfolding with_candidate
@@ -121,6 +130,7 @@ module _ (t : SliceTask) (slice : IsSlice t) where
     direction = λ k lt. absurd (omega arith);
     room = omega (arith, slice.least);
     most = omega arith;
+    work = omega arith;
     covers = λ e. refl;
   }
 
@@ -150,7 +160,7 @@ module _ (t : SliceTask) (slice : IsSlice t) where
 
     pub limits_here : AreLimits (decision t s n).limits
     unfolding decision
-    limits_here = record { q = slice.q; search = slice.search }
+    limits_here = record { q = quantiser_code t s n slice.q; search = slice.search }
 
     pub fits_here : Fits (decision t s n) (choice_of (decision t s n))
     unfolding decision room
@@ -212,6 +222,7 @@ module _ (t : SliceTask) (slice : IsSlice t) where
           direction = λ three lt. keeps.direction three h.0;
           room = omega (arith, keeps.room, h.1.0);
           most = omega (arith, keeps.most);
+          work = skipped_work s.work (quantiser_at t s n) (bits_taken d (choice_of d)) (31 * length s.text) (skipped_bits d (choice_of d) e) keeps.work;
           covers = λ last. absurd (omega (arith, last, h.1.0));
         })
       where
@@ -252,6 +263,7 @@ module _ (t : SliceTask) (slice : IsSlice t) where
           direction = λ three lt. b_type x.macroblock.syntax.kind (b_kind t.context.kind x.macroblock.syntax.kind three written.macro.kind);
           room = omega (arith, keeps.room, small, fits.room, room_here, bits, len);
           most = omega (arith, keeps.most, fits.most, bits, len);
+          work = written_work s.work (quantiser_at t s n) (bits_taken d x) (length s.text) (length (s.text ++ text)) (quantiser_code t s n slice.q).1 keeps.work (omega (arith, len, bits));
           covers = λ last. refl;
         })
 

@@ -56,26 +56,26 @@ pub shared_plan : (b : Book) (j : ℕ) → part_of_job b j ≡ 0
 unfolding shared_part
 shared_plan b j e = ap shared_part (value_plan b j e)
 
-pub shared_slice : (b : Book) (j : ℕ) → (part_of_job b j ≡ 0 → ⊥) → shared_of b j ≡ part.Slice (slice_in b j).row (length (slice_in b j).text)
+pub shared_slice : (b : Book) (j : ℕ) → (part_of_job b j ≡ 0 → ⊥) → shared_of b j ≡ part.Slice (slice_in b j).row (length (slice_in b j).text) (slice_in b j).work
 unfolding shared_part
 shared_slice b j n = ap shared_part (value_slice b j n)
 
 -- ---- learning
 
 learn_plan : (b : Book) (j : ℕ) (plan : Plan) (ledger : Entries) (c : Cached)
-    → learned_of b j 0 (part.Plan plan ledger) c ≡ record c { plan = plan; ledger = ledger; bits = 0 }
+    → learned_of b j 0 (part.Plan plan ledger) c ≡ record c { plan = plan; ledger = ledger; bits = 0; work = 0 }
 unfolding learned_of with_plan
 learn_plan b j plan ledger c = refl
 
-learn_bits : (b : Book) (j k : ℕ) (row : Samples) (bits : ℕ) (c : Cached) → part_of_job b j ≡ 0
-    → learned_of b j (suc k) (part.Slice row bits) c ≡ record c { bits = min (c.bits + bits) (2 ^ 64 - 1) }
+learn_bits : (b : Book) (j k : ℕ) (row : Samples) (bits work : ℕ) (c : Cached) → part_of_job b j ≡ 0
+    → learned_of b j (suc k) (part.Slice row bits work) c ≡ record c { bits = min (c.bits + bits) (2 ^ 64 - 1); work = min (c.work + work) (2 ^ 64 - 1) }
 unfolding learned_of with_bits with_row
-learn_bits b j k row bits c e = cond-true (nat_eq (part_of_job b j) 0) _ _ (eq-eqb (part_of_job b j) 0 e)
+learn_bits b j k row bits work c e = cond-true (nat_eq (part_of_job b j) 0) _ _ (eq-eqb (part_of_job b j) 0 e)
 
-learn_row : (b : Book) (j k : ℕ) (row : Samples) (bits : ℕ) (c : Cached) → (part_of_job b j ≡ 0 → ⊥)
-    → learned_of b j (suc k) (part.Slice row bits) c ≡ record c { rows = slice_set c.rows k row }
+learn_row : (b : Book) (j k : ℕ) (row : Samples) (bits work : ℕ) (c : Cached) → (part_of_job b j ≡ 0 → ⊥)
+    → learned_of b j (suc k) (part.Slice row bits work) c ≡ record c { rows = slice_set c.rows k row }
 unfolding learned_of with_bits with_row
-learn_row b j k row bits c n = cond-false (nat_eq (part_of_job b j) 0) _ _ (ne_eqb (part_of_job b j) 0 n)
+learn_row b j k row bits work c n = cond-false (nat_eq (part_of_job b j) 0) _ _ (ne_eqb (part_of_job b j) 0 n)
 
 -- a job that makes a slice
 abbrev pub IsSliceJob : Book → ℕ → Type 0
@@ -92,7 +92,7 @@ abbrev pub ledger_in : Book → ℕ → Entries
 ledger_in b j = let done = coded b (picture_of_job b j + 1) in ledger_with b done (first_open (picture_of_job b j)) done
 
 first_learned : (b : Book) (j first : ℕ) (rest : List ℕ) (c : Cached) → part_of_job b first ≡ 0
-    → learned_so_far b j (first ∷ rest) 1 c ≡ record c { plan = plan_in b first; ledger = ledger_in b first; bits = 0 }
+    → learned_so_far b j (first ∷ rest) 1 c ≡ record c { plan = plan_in b first; ledger = ledger_in b first; bits = 0; work = 0 }
 unfolding cache_after
 first_learned b j first rest c e =
     ap (λ x. learned_of b j 0 x c) (shared_plan b first e) ∙ learn_plan b j (plan_in b first) (ledger_in b first) c
@@ -114,7 +114,7 @@ next_row b j first rest n c is need =
     let d = learned_so_far b j (first ∷ rest) (suc n) c in
     let i = get_or rest n 0 in
     ap (λ x. learned_of b j (suc n) x d) (shared_slice b i need)
-    ∙ learn_row b j n (slice_in b i).row (length (slice_in b i).text) d is
+    ∙ learn_row b j n (slice_in b i).row (length (slice_in b i).text) (slice_in b i).work d is
 
 pub after_rows : (b : Book) (j first : ℕ) (rest : List ℕ) (n : ℕ) (c : Cached) → IsSliceJob b j → part_of_job b first ≡ 0
     → ((k : ℕ) → k < n → IsSliceJob b (get_or rest k 0)) → n ≤ length c.rows
@@ -137,48 +137,66 @@ after_rows b j first rest (suc n) c is e each le =
       size = length-set before.rows n x ∙ h.size;
     })
 
--- ---- bits
+-- ---- bits and work
 
--- the bits of the first n of these slices
-unfoldable pub bits_before : Book → List ℕ → ℕ → ℕ
-bits_before b rest zero = 0
-bits_before b rest (suc n) = bits_before b rest n + length (slice_in b (get_or rest n 0)).text
+-- a sum over the first n of these slices
+unfoldable pub sum_before : (CodedSlice → ℕ) → Book → List ℕ → ℕ → ℕ
+sum_before f b rest zero = 0
+sum_before f b rest (suc n) = sum_before f b rest n + f (slice_in b (get_or rest n 0))
+
+pub sum_more : (f : CodedSlice → ℕ) (b : Book) (rest : List ℕ) (n : ℕ) → sum_before f b rest (suc n) ≡ sum_before f b rest n + f (slice_in b (get_or rest n 0))
+unfolding sum_before
+sum_more f b rest n = refl
+
+pub sum_none : (f : CodedSlice → ℕ) (b : Book) (rest : List ℕ) → 0 ≡ sum_before f b rest 0
+unfolding sum_before
+sum_none f b rest = refl
+
+abbrev pub bits_of_slice : CodedSlice → ℕ
+bits_of_slice x = length x.text
+
+abbrev pub work_of_slice : CodedSlice → ℕ
+work_of_slice x = x.work
+
+-- none of these sums passes a number of 64 bits
+abbrev pub AreSmall : Book → List ℕ → ℕ → Type 0
+AreSmall b rest n = (k : ℕ) → k ≤ n → (sum_before bits_of_slice b rest k < 2 ^ 64) × (sum_before work_of_slice b rest k < 2 ^ 64)
 
 pub record HasBits (b : Book) (first : ℕ) (rest : List ℕ) (n : ℕ) (c : Cached) : Type 0 where
   pub ledger : c.ledger ≡ ledger_in b first
-  pub bits : c.bits ≡ bits_before b rest n
+  pub bits : c.bits ≡ sum_before bits_of_slice b rest n
+  pub work : c.work ≡ sum_before work_of_slice b rest n
 
 next_bits : (b : Book) (j first : ℕ) (rest : List ℕ) (n : ℕ) (c : Cached) → part_of_job b j ≡ 0 → IsSliceJob b (get_or rest n 0)
     → learned_so_far b j (first ∷ rest) (suc (suc n)) c
-    ≡ (let d = learned_so_far b j (first ∷ rest) (suc n) c in record d { bits = min (d.bits + length (slice_in b (get_or rest n 0)).text) (2 ^ 64 - 1) })
+    ≡ (let d = learned_so_far b j (first ∷ rest) (suc n) c in record d {
+      bits = min (d.bits + length (slice_in b (get_or rest n 0)).text) (2 ^ 64 - 1);
+      work = min (d.work + (slice_in b (get_or rest n 0)).work) (2 ^ 64 - 1);
+    })
 unfolding cache_after
 next_bits b j first rest n c is need =
     let d = learned_so_far b j (first ∷ rest) (suc n) c in
     let i = get_or rest n 0 in
     ap (λ x. learned_of b j (suc n) x d) (shared_slice b i need)
-    ∙ learn_bits b j n (slice_in b i).row (length (slice_in b i).text) d is
+    ∙ learn_bits b j n (slice_in b i).row (length (slice_in b i).text) (slice_in b i).work d is
 
-pub bits_more : (b : Book) (rest : List ℕ) (n : ℕ) → bits_before b rest (suc n) ≡ bits_before b rest n + length (slice_in b (get_or rest n 0)).text
-unfolding bits_before
-bits_more b rest n = refl
-
-pub bits_none : (b : Book) (rest : List ℕ) → 0 ≡ bits_before b rest 0
-unfolding bits_before
-bits_none b rest = refl
-
-bounded : (x y m z : ℕ) → x ≡ m → y + m ≡ z → z < 2 ^ 64 → min (x + y) (2 ^ 64 - 1) ≡ z
+bounded : (x y m z : ℕ) → x ≡ m → z ≡ m + y → z < 2 ^ 64 → min (x + y) (2 ^ 64 - 1) ≡ z
 bounded x y m z e f lt = omega arith
 
 pub after_bits : (b : Book) (j first : ℕ) (rest : List ℕ) (n : ℕ) (c : Cached) → part_of_job b j ≡ 0 → part_of_job b first ≡ 0
-    → ((k : ℕ) → k < n → IsSliceJob b (get_or rest k 0)) → ((k : ℕ) → k ≤ n → bits_before b rest k < 2 ^ 64)
+    → ((k : ℕ) → k < n → IsSliceJob b (get_or rest k 0)) → AreSmall b rest n
     → HasBits b first rest n (learned_so_far b j (first ∷ rest) (suc n) c)
 after_bits b j first rest zero c is e each small =
     subst (HasBits b first rest 0) (sym (first_learned b j first rest c e))
-    (record { ledger = refl; bits = bits_none b rest })
+    (record { ledger = refl; bits = sum_none bits_of_slice b rest; work = sum_none work_of_slice b rest })
 after_bits b j first rest (suc n) c is e each small =
     let before = learned_so_far b j (first ∷ rest) (suc n) c in
-    let x = length (slice_in b (get_or rest n 0)).text in
+    let x = slice_in b (get_or rest n 0) in
     let h = after_bits b j first rest n c is e (λ k lt. each k (omega arith)) (λ k le. small k (omega arith)) in
-    let more : x + bits_before b rest n ≡ bits_before b rest (suc n) = omega (arith, bits_more b rest n) in
+    let few = small (suc n) (omega arith) in
     subst (HasBits b first rest (suc n)) (sym (next_bits b j first rest n c is (each n (omega arith))))
-    (record { ledger = h.ledger; bits = bounded before.bits x (bits_before b rest n) (bits_before b rest (suc n)) h.bits more (small (suc n) (omega arith)) })
+    (record {
+      ledger = h.ledger;
+      bits = bounded before.bits (length x.text) (sum_before bits_of_slice b rest n) (sum_before bits_of_slice b rest (suc n)) h.bits (sum_more bits_of_slice b rest n) few.0;
+      work = bounded before.work x.work (sum_before work_of_slice b rest n) (sum_before work_of_slice b rest (suc n)) h.work (sum_more work_of_slice b rest n) few.1;
+    })

@@ -1,11 +1,14 @@
 pub mod Choices
 pub mod Candidates
+pub mod Quantisers
 pub mod Keeps
 pub mod Motions
 pub mod AnySize
 pub mod Fits
 pub mod AnyRow
 pub mod Columns
+pub mod SoFar
+pub mod SliceCaps
 pub mod Whole
 pub mod TextLengths
 pub mod Coded
@@ -23,6 +26,7 @@ pub mod Activities
 pub mod Firsts
 pub mod Works
 pub mod Planned
+pub mod Parts
 pub mod Stands
 pub mod Existing
 pub mod Near

@@ -1,31 +1,29 @@
 -- A slice of a picture, of what its cache knows.
-use Rattle.std.proofs.Common.{◌≡◌, ◌≢◌, ℕ, ◌+◌, ◌*◌, ◌%◌, ◌<◌, ◌≤◌, length, get_or, refl, sym, ap, subst, ◌∙◌, arith, inl, inr}
+use Rattle.std.proofs.Common.{◌≡◌, ℕ, ◌+◌, ◌^◌, ◌<◌, ◌≤◌, List, length, get_or, refl, sym, ap, subst, ◌∙◌, arith, inl, inr}
 use Rattle.std.specs.Prelude.{nat_eq}
 use Rattle.std.proofs.lemmas.Bool.{cases_eq, cond-true, eq-eqb, ne_eqb}
-use Rattle.m2v_plane.specs.declared.planes.Plane.TheVariants.{Y}
-use Rattle.m2v_plane.specs.Sizes.{lines_of}
 use Rattle.m2v_plane.specs.Samples.{Samples}
 use Rattle.m2v_plane.specs.Fields.{no_samples}
-use Rattle.m2v_pred.specs.Motion.{own_lines}
 use Rattle.m2v_set.specs.declared.settings.Settings.{Settings}
-use Rattle.m2v_set.specs.Numbers.{dims_of, mb_width_of, slice_least}
+use Rattle.m2v_set.specs.Numbers.{dims_of, mb_width_of}
+use Rattle.m2v_set.proofs.Facts.{bounds}
 use Rattle.m2v_order.specs.declared.jobs.PictureJob.{PictureJob}
 use Rattle.m2v_macroblock.specs.m2v_macro.declared.values.PictureContext.{PictureContext}
 use Rattle.m2v_rate.specs.declared.values.Plan.{Plan}
 use Rattle.m2v_rate.specs.Plans.{slice_cap_of}
-use Rattle.m2v_choose.specs.Trials.{IsRead}
 use Rattle.m2v_slice.specs.Slices.{SliceTask, CodedSlice, slice_of, most_bits_of}
 use Rattle.m2v_slice.specs.Laws.{IsSlice}
-use Rattle.m2v_slice.specs.Steps.{row_place}
+use Rattle.m2v_slice.specs.Steps.{HasReferences, row_place}
 use Rattle.m2v_slice.proofs.Fits.{slice_fits}
 use Rattle.m2v_slice.specs.Headers.{IsJob, context_of, extension_of}
-use Rattle.m2v_slice.specs.Books.{Book, rows, job_at, coded, slice_at, forward_number, reference, task_of}
+use Rattle.m2v_slice.specs.Books.{Book, rows, job_at, coded, slice_at, slice_activities, forward_number, reference, task_of}
 use Rattle.m2v_slice.specs.Cached.{Cached}
 use Rattle.m2v_slice.specs.Conditions.{IsBook}
 use Rattle.m2v_slice.specs.Windows.{Window, HoldsLine}
 use Rattle.m2v_slice.specs.Works.{HasLearnedSlice}
 use Rattle.m2v_slice.proofs.Coded.{slice_is}
-use Rattle.m2v_slice.proofs.Groups.{picture_is_one, structure_low, source_size}
+use Rattle.m2v_slice.proofs.Groups.{passes_of, picture_is_one, structure_low, source_size}
+use Rattle.m2v_slice.proofs.SliceCaps.{cap_small}
 use Rattle.m2v_slice.proofs.Steady.{IsPlan, task_is}
 use Rattle.m2v_slice.proofs.Sound.{plan_is_good}
 use Rattle.m2v_slice.proofs.Near.{Refers, is_read}
@@ -63,58 +61,98 @@ module _ (b : Book) (h : IsBook b) (p r : ℕ) (c : Cached) (known : HasLearnedS
   window_of n = record { book = b; picture = p; number = n; row = r }
 
   -- what the code of a slice is asked for
-  pub record MayCode (context : PictureContext) (source : Samples) (most reach : ℕ) : Type 0 where
-    pub columns : context.columns ≡ source.dims.mb_width
-    pub row : 16 * r + 16 ≤ lines_of source.dims Y (own_lines context.extension.structure)
-    pub search : reach ≤ 15
-    pub least : slice_least context.columns ≤ most
-    pub whole : most % 8 ≡ 0
-    pub size : source.dims ≡ dims_of b.settings
-    pub forward : context.kind ≢ 1 → IsRead (dims_of b.settings) (HoldsLine b p (forward_number (job_at b p).kind) r) (row_place context r)
-    pub backward : context.kind ≡ 3 → IsRead (dims_of b.settings) (HoldsLine b p 0 r) (row_place context r)
-    pub value : (let t : SliceTask = record {
-      source = source;
-      forward = reference b (coded b p) p (forward_number (job_at b p).kind);
-      backward = reference b (coded b p) p 0;
-      context = context;
-      row = r;
-      q = c.plan.q;
-      cap = most;
-      search = reach;
-    } in slice_of t ≡ slice_at (coded b (p + 1)) p r)
+  pub record MayCode (v w : Window) (t : SliceTask) : Type 0 where
+    pub slice : IsSlice t
+    pub references : HasReferences t.context.kind t.source.dims (row_place t.context r) (dims_of v.book.settings) (dims_of w.book.settings)
+        (HoldsLine v.book v.picture v.number v.row) (HoldsLine w.book w.picture w.number w.row)
+    pub most : t.cap < 2 ^ 24
+    pub size : t.source.dims ≡ dims_of b.settings
+    pub columns : (dims_of b.settings).mb_width ≡ t.context.columns
+    pub value : slice_of t ≡ slice_at (coded b (p + 1)) p r
 
   slice_here : slice_of (task_of b (coded b p) p c.plan r) ≡ slice_at (coded b (p + 1)) p r
   slice_here =
       ap (λ (x : Plan). slice_of (task_of b (coded b p) p x r)) known.plan ∙ sym (slice_is b (p + 1) p r (omega arith) small)
 
-  source_here : Samples
-  source_here = get_or b.frames (job_at b p).frame no_samples
+  at_code : MayCode (window_of (forward_number (job_at b p).kind)) (window_of 0) (task_of b (coded b p) p c.plan r)
+  unfolding task_of context_of extension_of dims_of
+  at_code =
+      let size = source_size b h p lt in
+      record {
+        slice = is_task;
+        references = record {
+          forward = λ n. is_read b h p (forward_number (job_at b p).kind) r lt small n (forward_refers (job_at b p).kind);
+          forward_size = λ n. sym size;
+          backward = λ e. is_read b h p 0 r lt small (λ f. omega (arith, e, f)) (inl refl);
+          backward_size = λ e. sym size;
+        };
+        most = cap_small b.settings (bounds b.settings (passes_of b h)) c.plan.cap r plan_known.most;
+        size = size;
+        columns = refl;
+        value = slice_here;
+      }
 
-  at_code : MayCode (context_of b.settings (job_at b p)) (get_or b.frames (job_at b p).frame no_samples) (slice_cap_of b.settings c.plan.cap r) b.settings.search
-  unfolding task_of context_of extension_of
-  at_code = record {
-    columns = is_task.columns;
-    row = is_task.row;
-    search = is_task.search;
-    least = is_task.least;
-    whole = is_task.edge;
-    size = source_size b h p lt;
-    forward = λ n. is_read b h p (forward_number (job_at b p).kind) r lt small n (forward_refers (job_at b p).kind);
-    backward = λ e. is_read b h p 0 r lt small (λ f. omega (arith, e, f)) (inl refl);
-    value = slice_here;
+  -- of the same parts
+  task_same : (v w : Window) (source : Samples) (context : PictureContext) (q most search : ℕ) (activities : List ℕ)
+      → v ≡ window_of (forward_number (job_at b p).kind) → w ≡ window_of 0 → source ≡ get_or b.frames (job_at b p).frame no_samples
+      → context ≡ context_of b.settings (job_at b p) → q ≡ c.plan.q → most ≡ slice_cap_of b.settings c.plan.cap r → search ≡ b.settings.search
+      → activities ≡ slice_activities b p r
+      → (let t : SliceTask = record {
+        source = source;
+        forward = reference v.book (coded v.book v.picture) v.picture v.number;
+        backward = reference w.book (coded w.book w.picture) w.picture w.number;
+        context = context;
+        row = r;
+        q = q;
+        cap = most;
+        search = search;
+        activities = activities;
+      } in t ≡ task_of b (coded b p) p c.plan r)
+  unfolding task_of
+  task_same v w source context q most search activities ev ew es ec eq em er ea = λ i. record {
+    source = es i;
+    forward = reference (ev i).book (coded (ev i).book (ev i).picture) (ev i).picture (ev i).number;
+    backward = reference (ew i).book (coded (ew i).book (ew i).picture) (ew i).picture (ew i).number;
+    context = ec i;
+    row = r;
+    q = eq i;
+    cap = em i;
+    search = er i;
+    activities = ea i;
   }
 
-  pub may_code : (s : Settings) (job : PictureJob) (context : PictureContext) (source : Samples) (most search : ℕ) → s ≡ b.settings → job ≡ job_at b p
-      → context ≡ context_of s job → source ≡ get_or b.frames (job_at b p).frame no_samples → most ≡ slice_cap_of s c.plan.cap r → search ≡ s.search
-      → MayCode context source most search
-  may_code s job context source most search es ej ec eo em ef =
-      let x : context ≡ context_of b.settings (job_at b p) = ec ∙ ap (λ (t : Settings). context_of t job) es ∙ ap (context_of b.settings) ej in
-      let y : most ≡ slice_cap_of b.settings c.plan.cap r = em ∙ ap (λ (t : Settings). slice_cap_of t c.plan.cap r) es in
-      let z : search ≡ b.settings.search = ef ∙ ap (λ (t : Settings). t.search) es in
-      subst (λ (k : PictureContext). MayCode k source most search) (sym x)
-      (subst (λ (k : Samples). MayCode (context_of b.settings (job_at b p)) k most search) (sym eo)
-      (subst (λ (k : ℕ). MayCode (context_of b.settings (job_at b p)) (get_or b.frames (job_at b p).frame no_samples) k search) (sym y)
-      (subst (λ (k : ℕ). MayCode (context_of b.settings (job_at b p)) (get_or b.frames (job_at b p).frame no_samples) (slice_cap_of b.settings c.plan.cap r) k) (sym z) at_code)))
+  pub may_code : (v w : Window) (source : Samples) (context : PictureContext) (q most search : ℕ) (activities : List ℕ) (s : Settings) (job : PictureJob)
+      → v ≡ window_of (forward_number (job_at b p).kind) → w ≡ window_of 0 → source ≡ get_or b.frames (job_at b p).frame no_samples
+      → s ≡ b.settings → job ≡ job_at b p → context ≡ context_of s job → q ≡ c.plan.q → most ≡ slice_cap_of s c.plan.cap r → search ≡ s.search
+      → activities ≡ slice_activities b p r
+      → MayCode v w (record {
+        source = source;
+        forward = reference v.book (coded v.book v.picture) v.picture v.number;
+        backward = reference w.book (coded w.book w.picture) w.picture w.number;
+        context = context;
+        row = r;
+        q = q;
+        cap = most;
+        search = search;
+        activities = activities;
+      })
+  may_code v w source context q most search activities s job ev ew es et ej ec eq em er ea =
+      let n = forward_number (job_at b p).kind in
+      let same = task_same v w source context q most search activities ev ew es (ec ∙ ap (λ (t : Settings). context_of t job) et ∙ ap (context_of b.settings) ej) eq
+      (em ∙ ap (λ (t : Settings). slice_cap_of t c.plan.cap r) et) (er ∙ ap (λ (t : Settings). t.search) et) ea in
+      let here : SliceTask = record {
+        source = source;
+        forward = reference v.book (coded v.book v.picture) v.picture v.number;
+        backward = reference w.book (coded w.book w.picture) w.picture w.number;
+        context = context;
+        row = r;
+        q = q;
+        cap = most;
+        search = search;
+        activities = activities;
+      } in
+      subst (λ (x : Window). MayCode x w here) (sym ev)
+      (subst (λ (x : Window). MayCode (window_of n) x here) (sym ew) (subst (MayCode (window_of n) (window_of 0)) (sym same) at_code))
 
   text_most : length (slice_of (task_of b (coded b p) p c.plan r)).text ≤ most_bits_of (mb_width_of b.settings)
   unfolding task_of context_of
@@ -122,47 +160,3 @@ module _ (b : Book) (h : IsBook b) (p r : ℕ) (c : Cached) (known : HasLearnedS
 
   pub slice_few : length (slice_at (coded b (p + 1)) p r).text ≤ most_bits_of (mb_width_of b.settings)
   slice_few = subst (λ (x : CodedSlice). length x.text ≤ most_bits_of (mb_width_of b.settings)) slice_here text_most
-
--- by windows that are these
-pub by_windows : (v w x y : Window) (source : Samples) (context : PictureContext) (row q most search : ℕ) → v ≡ x → w ≡ y
-    → slice_of (record {
-      source = source;
-      forward = reference v.book (coded v.book v.picture) v.picture v.number;
-      backward = reference w.book (coded w.book w.picture) w.picture w.number;
-      context = context;
-      row = row;
-      q = q;
-      cap = most;
-      search = search;
-    })
-    ≡ slice_of (record {
-      source = source;
-      forward = reference x.book (coded x.book x.picture) x.picture x.number;
-      backward = reference y.book (coded y.book y.picture) y.picture y.number;
-      context = context;
-      row = row;
-      q = q;
-      cap = most;
-      search = search;
-    })
-by_windows v w x y source context row q most search e f =
-    ap (λ (u : Window). slice_of (record {
-      source = source;
-      forward = reference u.book (coded u.book u.picture) u.picture u.number;
-      backward = reference w.book (coded w.book w.picture) w.picture w.number;
-      context = context;
-      row = row;
-      q = q;
-      cap = most;
-      search = search;
-    })) e
-    ∙ ap (λ (u : Window). slice_of (record {
-      source = source;
-      forward = reference x.book (coded x.book x.picture) x.picture x.number;
-      backward = reference u.book (coded u.book u.picture) u.picture u.number;
-      context = context;
-      row = row;
-      q = q;
-      cap = most;
-      search = search;
-    })) f

@@ -1,5 +1,5 @@
 -- Each slice of a book can be coded within its cap, and each size lies within the cap of its plan.
-use Rattle.std.proofs.Common.{◌≡◌, ℕ, zero, suc, ◌+◌, ◌*◌, ◌/◌, ◌%◌, ◌<◌, ◌≤◌, true, false, cond, List, [], ◌∷◌, ◌++◌, length, map, take, Option, Some, None, refl, sym, ap, subst, ◌∙◌, arith}
+use Rattle.std.proofs.Common.{◌≡◌, ℕ, zero, suc, ◌+◌, ◌*◌, ◌/◌, ◌%◌, ◌<◌, ◌≤◌, true, false, cond, List, [], ◌∷◌, ◌++◌, length, map, take, refl, sym, ap, subst, ◌∙◌, arith}
 use Rattle.std.specs.Prelude.{nat_eq, nat_lt, sum_by, Bool}
 use Rattle.std.specs.List.{range_with_len}
 use Rattle.std.proofs.lemmas.Bool.{cond_both}
@@ -16,18 +16,18 @@ use Rattle.m2v_set.specs.Bounds.{Bounds}
 use Rattle.m2v_set.proofs.Facts.{bounds}
 use Rattle.m2v_order.specs.declared.jobs.PictureJob.{PictureJob}
 use Rattle.m2v_rate.specs.declared.values.Plan.{Plan}
-use Rattle.m2v_rate.specs.declared.values.Known.{Known}
-use Rattle.m2v_rate.specs.Plans.{Entries, first_open, target_of, quantiser_by, plan_of, spare, slice_cap_of, with_plan, with_size}
+use Rattle.m2v_rate.specs.Plans.{Entries, first_open, plan_of, spare, slice_cap_of, with_plan, with_size}
 use Rattle.m2v_rate.specs.Steady.{IsSteady}
 use Rattle.m2v_rate.proofs.Caps.{slices_sum}
 use Rattle.m2v_rate.proofs.Targets.{sum_more}
-use Rattle.m2v_rate.proofs.Keeps.{cap_is, cap_least, cap_most}
+use Rattle.m2v_rate.proofs.Keeps.{cap_most}
+use Rattle.m2v_rate.proofs.BothPlans.{plan_is}
 use Rattle.m2v_choose.specs.Own.{IsOwn}
 use Rattle.m2v_slice.specs.Slices.{CodedSlice, slice_of}
 use Rattle.m2v_slice.specs.Laws.{IsSlice}
 use Rattle.m2v_slice.proofs.Fits.{slice_fits}
 use Rattle.m2v_slice.specs.Headers.{begins_group, context_of, extension_of, header_bits}
-use Rattle.m2v_slice.specs.Books.{Book, CodedPicture, rows, job_at, picture_at, size_of, ledger_with, ledger_for, task_of, next_picture, coded}
+use Rattle.m2v_slice.specs.Books.{Book, CodedPicture, rows, job_at, picture_at, size_of, work_of, ledger_with, ledger_for, task_of, next_picture, coded}
 use Rattle.m2v_slice.specs.Conditions.{IsBook}
 use Rattle.m2v_slice.proofs.Coded.{count, picture_is, coded_more, picture_stays, slices_are}
 use Rattle.m2v_slice.proofs.Groups.{size_is, structure_low, row_within, passes_of, picture_is_one, source_size}
@@ -41,25 +41,14 @@ pub record IsPlan (s : Settings) (x : Plan) : Type 0 where
   pub bytes : x.cap % 8 ≡ 0
   pub q : (1 ≤ x.q) × (x.q ≤ 31)
 
-quantiser_fits : (k : Option Known) (target : ℕ) → (1 ≤ quantiser_by k target) × (quantiser_by k target ≤ 31)
-unfolding quantiser_by
-quantiser_fits None target = (omega arith, omega arith)
-quantiser_fits (Some k) target = (omega arith, omega arith)
-
-plan_q : (l : Entries) (p : ℕ) → (1 ≤ (plan_of l p).q) × ((plan_of l p).q ≤ 31)
-unfolding plan_of
-plan_q l p = quantiser_fits _ (target_of l p)
-
 pub plan_good : (l : Entries) (p : ℕ) → IsSteady l → p < length l.kinds → IsPlan l.settings (plan_of l p)
 plan_good l p h lt =
-    let e = cap_is l p in
-    let low = cap_least l p (target_of l p) h lt in
-    let high = cap_most l p (target_of l p) h lt in
+    let is = plan_is l p h.begun lt in
     record {
-      least = omega (arith, e, low);
-      most = omega (arith, e, high);
-      bytes = omega (arith, e);
-      q = plan_q l p;
+      least = is.least;
+      most = cap_most l p h.begun lt;
+      bytes = is.bytes;
+      q = is.code;
     }
 
 -- ---- slices
@@ -131,6 +120,19 @@ sum_within f g (suc n) each =
     subst (λ (m : ℕ). sum_by len (map f (range_with_len 0 m)) ≤ sum_by g (range_with_len 0 m)) e
     (omega (arith, rec, more, caps, here, each n (omega arith)))
 
+works_within : (f : ℕ → CodedSlice) (n : ℕ) → ((r : ℕ) → r < n → (f r).work ≤ 31 * length (f r).text)
+    → sum_by (λ (x : CodedSlice). x.work) (map f (range_with_len 0 n)) ≤ 31 * sum_by (λ (x : CodedSlice). length x.text) (map f (range_with_len 0 n))
+works_within f zero each = omega arith
+works_within f (suc n) each =
+    let len = λ (x : CodedSlice). length x.text in
+    let work = λ (x : CodedSlice). x.work in
+    let rec = works_within f n (λ r lt. each r (omega arith)) in
+    let bits = sum_by-map-range_with_len_more len f 0 n n (omega arith) in
+    let more = sum_by-map-range_with_len_more work f 0 n n (omega arith) in
+    let e : n + 1 ≡ suc n = omega arith in
+    subst (λ (m : ℕ). sum_by work (map f (range_with_len 0 m)) ≤ 31 * sum_by len (map f (range_with_len 0 m))) e
+    (omega (arith, rec, bits, more, each n (omega arith)))
+
 pub header_small : (job : PictureJob) → header_bits job ≤ 376
 unfolding header_bits
 header_small job = cond_both (begins_group job) _ _ (λ (n : ℕ). n ≤ 376) (λ e. omega arith)
@@ -152,6 +154,22 @@ next_within b h p lt good =
     let sum = slices_sum b.settings x.plan.cap (passes_of b h) good.least good.bytes in
     let enough : 416 ≤ x.plan.cap = least_enough b.settings x.plan.cap good.least in
     omega (arith, within, same, sum, enough)
+
+-- the work of a picture is at most 31 times the bits of its slices
+pub next_work : (b : Book) → IsBook b → (p : ℕ) → p < length b.pictures → IsPlan b.settings (next_picture b (coded b p)).plan
+    → sum_by (λ (x : CodedSlice). x.work) (next_picture b (coded b p)).slices ≤ 31 * sum_by (λ (x : CodedSlice). length x.text) (next_picture b (coded b p)).slices
+next_work b h p lt good =
+    let x = next_picture b (coded b p) in
+    subst (λ (xs : List CodedSlice). sum_by (λ (s : CodedSlice). s.work) xs ≤ 31 * sum_by (λ (s : CodedSlice). length s.text) xs) (sym (slices_are b p))
+    (works_within (λ r. slice_of (task_of b (coded b p) p x.plan r)) (rows b)
+    (λ r small. (slice_fits (task_of b (coded b p) p x.plan r) (task_is b h (coded b p) p x.plan r lt small good)).work))
+
+pub work_within : (b : Book) → IsBook b → (n p : ℕ) → p < n → p < length b.pictures → IsPlan b.settings (picture_at (coded b n) p).plan
+    → work_of (coded b n) p ≤ 31 * size_of b (coded b n) p
+work_within b h n p below lt good =
+    let is = picture_is b n p below in
+    subst (λ (x : CodedPicture). sum_by (λ (s : CodedSlice). s.work) x.slices ≤ 31 * (header_bits (job_at b p) + sum_by (λ (s : CodedSlice). length s.text) x.slices)) (sym is)
+    (omega (arith, next_work b h p lt (subst (λ (x : CodedPicture). IsPlan b.settings x.plan) is good)))
 
 pub size_within : (b : Book) → IsBook b → (n p : ℕ) → p < n → p < length b.pictures → IsPlan b.settings (picture_at (coded b n) p).plan
     → size_of b (coded b n) p ≤ (picture_at (coded b n) p).plan.cap
@@ -184,6 +202,11 @@ sizes_stay b n p m le lm =
     same_map (size_of b (coded b p)) (size_of b (coded b m)) n
     (λ i lt. ap (λ (x : CodedPicture). header_bits (job_at b i) + sum_by (λ (s : CodedSlice). length s.text) x.slices) (picture_stays b p m i (omega arith) (omega arith)))
 
+pub works_stay : (b : Book) (n p m : ℕ) → n ≤ p → n ≤ m → map (work_of (coded b p)) (range_with_len 0 n) ≡ map (work_of (coded b m)) (range_with_len 0 n)
+works_stay b n p m le lm =
+    same_map (work_of (coded b p)) (work_of (coded b m)) n
+    (λ i lt. ap (λ (x : CodedPicture). sum_by (λ (s : CodedSlice). s.work) x.slices) (picture_stays b p m i (omega arith) (omega arith)))
+
 plans_more : (b : Book) (p : ℕ) (f : CodedPicture → ℕ) → map f (coded b (p + 1)) ≡ map f (coded b p) ++ f (next_picture b (coded b p)) ∷ []
 plans_more b p f = ap (map f) (coded_more b p) ∙ map-append f (coded b p) (next_picture b (coded b p) ∷ [])
 
@@ -193,12 +216,17 @@ unfolding ledger_with
 ledger_planned b n p le =
     rw (
       sizes_stay b n (p + 1) p (omega arith) le,
+      works_stay b n (p + 1) p (omega arith) le,
       plans_more b p (λ (x : CodedPicture). x.plan.q),
       plans_more b p (λ (x : CodedPicture). x.plan.cap),
       plans_more b p (λ (x : CodedPicture). x.plan.target),
     ) refl
 
--- a size more is known
-pub ledger_known : (b : Book) (n p : ℕ) → ledger_at b (n + 1) p ≡ with_size (ledger_at b n p) (size_of b (coded b p) n)
+-- a size and a work more are known
+pub ledger_known : (b : Book) (n p : ℕ) → ledger_at b (n + 1) p ≡ with_size (ledger_at b n p) (size_of b (coded b p) n) (work_of (coded b p) n)
 unfolding ledger_with
-ledger_known b n p = rw (map-range_with_len_more (size_of b (coded b p)) 0 n n (omega arith)) refl
+ledger_known b n p =
+    rw (
+      map-range_with_len_more (size_of b (coded b p)) 0 n n (omega arith),
+      map-range_with_len_more (work_of (coded b p)) 0 n n (omega arith),
+    ) refl

@@ -41,3 +41,7 @@ module _ (t : SliceTask) where
   pub slice_row_is : (row : Samples) → IsRow t row → t.context.columns ≡ t.source.dims.mb_width → (begun t row t.context.columns).row ≡ (slice_of t).row
   unfolding slice_of
   slice_row_is row is columns = ap (λ (s : Begun). s.row) (same_begun t row (blank t.source.dims 1) is blank_row t.context.columns columns)
+
+  pub slice_work_is : (row : Samples) → IsRow t row → t.context.columns ≡ t.source.dims.mb_width → (begun t row t.context.columns).work ≡ (slice_of t).work
+  unfolding slice_of
+  slice_work_is row is columns = ap (λ (s : Begun). s.work) (same_begun t row (blank t.source.dims 1) is blank_row t.context.columns columns)

@@ -18,9 +18,9 @@ use Rattle.m2v_slice.specs.Windows.{needed, first_near, count_near, plan_needs, 
 use Rattle.m2v_slice.specs.Works.{HasLearnedPlan, HasLearnedSlice}
 use Rattle.m2v_slice.specs.Needs.{all_flat, all_range, slice_few, needed_below}
 use Rattle.m2v_slice.proofs.Coded.{picture_is, slice_stays, slice_is, slices_are}
-use Rattle.m2v_slice.proofs.Learned.{IsSliceJob, slice_in, plan_in, ledger_in, plan_picture, plan_part, slice_picture, slice_part, HasRows, after_rows, bits_before, bits_more, bits_none, HasBits, after_bits}
+use Rattle.m2v_slice.proofs.Learned.{IsSliceJob, slice_in, plan_in, ledger_in, plan_picture, plan_part, slice_picture, slice_part, HasRows, after_rows, sum_before, sum_more, sum_none, bits_of_slice, work_of_slice, AreSmall, HasBits, after_bits}
 use Rattle.m2v_slice.proofs.Groups.{passes_of}
-use Rattle.m2v_slice.proofs.Steady.{IsPlan, same_map, next_within}
+use Rattle.m2v_slice.proofs.Steady.{IsPlan, same_map, next_within, next_work}
 use Rattle.m2v_slice.proofs.Sound.{plan_is_good}
 
 -- ---- needs
@@ -143,53 +143,56 @@ all_at b q k lt = get_or-map-range_with_len (slice_job b q) 0 (rows b) k k 0 lt 
 all_length : (b : Book) (q : ℕ) → length (all_slices b q) ≡ rows b
 all_length b q = length-map-range_with_len (slice_job b q) 0 (rows b)
 
-slice_text : Book → ℕ → ℕ → CodedSlice
-slice_text b q r = slice_at (coded b (q + 1)) q r
+abbrev sum_of : (CodedSlice → ℕ) → Book → ℕ → ℕ → ℕ
+sum_of f b q n = sum_by f (map (λ r. slice_at (coded b (q + 1)) q r) (range_with_len 0 n))
 
-abbrev sum_of : Book → ℕ → ℕ → ℕ
-sum_of b q n = sum_by (λ (x : CodedSlice). length x.text) (map (λ r. slice_at (coded b (q + 1)) q r) (range_with_len 0 n))
-
-bits_sum : (b : Book) (q n : ℕ) → n ≤ rows b → bits_before b (all_slices b q) n ≡ sum_of b q n
-bits_sum b q zero le = sym (bits_none b (all_slices b q))
-bits_sum b q (suc n) le =
-    let len = λ (x : CodedSlice). length x.text in
+sum_is : (f : CodedSlice → ℕ) (b : Book) (q n : ℕ) → n ≤ rows b → sum_before f b (all_slices b q) n ≡ sum_of f b q n
+sum_is f b q zero le = sym (sum_none f b (all_slices b q))
+sum_is f b q (suc n) le =
     let e : n + 1 ≡ suc n = omega arith in
-    let f = λ (r : ℕ). slice_at (coded b (q + 1)) q r in
-    let here = ap (λ (j : ℕ). length (slice_in b j).text) (all_at b q n (omega arith)) ∙ ap len (slice_in_is b q n (omega arith)) in
-    let more = sum_by-map-range_with_len_more len f 0 n n (omega arith) in
-    let whole = ap (λ (m : ℕ). sum_by len (map f (range_with_len 0 m))) e in
-    omega (arith, bits_more b (all_slices b q) n, bits_sum b q n (omega arith), here, more, whole)
+    let g = λ (r : ℕ). slice_at (coded b (q + 1)) q r in
+    let here = ap (λ (j : ℕ). f (slice_in b j)) (all_at b q n (omega arith)) ∙ ap f (slice_in_is b q n (omega arith)) in
+    let more = sum_by-map-range_with_len_more f g 0 n n (omega arith) in
+    let whole = ap (λ (m : ℕ). sum_by f (map g (range_with_len 0 m))) e in
+    omega (arith, sum_more f b (all_slices b q) n, sum_is f b q n (omega arith), here, more, whole)
 
-bits_rise : (b : Book) (rest : List ℕ) (n k : ℕ) → bits_before b rest n ≤ bits_before b rest (n + k)
-bits_rise b rest n zero = let e : n + 0 ≡ n = omega arith in omega (arith, ap (bits_before b rest) e)
-bits_rise b rest n (suc k) =
+sum_rise : (f : CodedSlice → ℕ) (b : Book) (rest : List ℕ) (n k : ℕ) → sum_before f b rest n ≤ sum_before f b rest (n + k)
+sum_rise f b rest n zero = let e : n + 0 ≡ n = omega arith in omega (arith, ap (sum_before f b rest) e)
+sum_rise f b rest n (suc k) =
     let e : n + suc k ≡ suc (n + k) = omega arith in
-    omega (arith, ap (bits_before b rest) e, bits_more b rest (n + k), bits_rise b rest n k)
+    omega (arith, ap (sum_before f b rest) e, sum_more f b rest (n + k), sum_rise f b rest n k)
 
--- the bits of all slices of a picture
-slices_sum : (b : Book) (n q : ℕ) → q < n → sum_of b q (rows b) ≡ sum_by (λ (x : CodedSlice). length x.text) (picture_at (coded b n) q).slices
-slices_sum b n q lt =
-    let len = λ (x : CodedSlice). length x.text in
+-- the sum over all slices of a picture
+slices_sum : (f : CodedSlice → ℕ) (b : Book) (n q : ℕ) → q < n → sum_of f b q (rows b) ≡ sum_by f (picture_at (coded b n) q).slices
+slices_sum f b n q lt =
     let x = next_picture b (coded b q) in
     let same = same_map (λ r. slice_at (coded b (q + 1)) q r) (λ r. slice_of (task_of b (coded b q) q x.plan r)) (rows b)
     (λ r small. slice_is b (q + 1) q r (omega arith) small
     ∙ ap (λ (y : CodedPicture). slice_of (task_of b (coded b q) q y.plan r)) (picture_is b (q + 1) q (omega arith))) in
-    ap (sum_by len) (same ∙ sym (slices_are b q)) ∙ ap (λ (y : CodedPicture). sum_by len y.slices) (sym (picture_is b n q lt))
+    ap (sum_by f) (same ∙ sym (slices_are b q)) ∙ ap (λ (y : CodedPicture). sum_by f y.slices) (sym (picture_is b n q lt))
 
 next_plan_good : (b : Book) → IsBook b → (q : ℕ) → q < length b.pictures → IsPlan b.settings (next_picture b (coded b q)).plan
 next_plan_good b h q lt =
     subst (λ (x : CodedPicture). IsPlan b.settings x.plan) (picture_is b (q + 1) q (omega arith)) (plan_is_good b h (q + 1) q (omega arith) (omega arith))
 
-bits_few : (b : Book) → IsBook b → (q k : ℕ) → q < length b.pictures → k ≤ rows b → bits_before b (all_slices b q) k < 2 ^ 64
-bits_few b h q k lt le =
-    let rise = bits_rise b (all_slices b q) k (rows b - k) in
+-- a sum over the first slices is at most that over all
+sum_within : (f : CodedSlice → ℕ) (b : Book) (q k : ℕ) → k ≤ rows b → sum_before f b (all_slices b q) k ≤ sum_by f (next_picture b (coded b q)).slices
+sum_within f b q k le =
+    let rise = sum_rise f b (all_slices b q) k (rows b - k) in
     let e : k + (rows b - k) ≡ rows b = omega arith in
-    let all = bits_sum b q (rows b) (omega arith) in
-    let same = slices_sum b (q + 1) q (omega arith) ∙ ap (λ (y : CodedPicture). sum_by (λ (x : CodedSlice). length x.text) y.slices) (picture_is b (q + 1) q (omega arith)) in
+    let all = sum_is f b q (rows b) (omega arith) in
+    let same = slices_sum f b (q + 1) q (omega arith) ∙ ap (λ (y : CodedPicture). sum_by f y.slices) (picture_is b (q + 1) q (omega arith)) in
+    omega (arith, rise, ap (sum_before f b (all_slices b q)) e, all, same)
+
+sums_few : (b : Book) → IsBook b → (q : ℕ) → q < length b.pictures → AreSmall b (all_slices b q) (rows b)
+sums_few b h q lt k le =
     let good = next_plan_good b h q lt in
-    let within = next_within b h q lt good in
-    let size = (bounds b.settings (passes_of b h)).size in
-    omega (arith, rise, ap (bits_before b (all_slices b q)) e, all, same, within, good.most, size.buffer)
+    let bits = next_within b h q lt good in
+    let work = next_work b h q lt good in
+    let size = (bounds b.settings (passes_of b h)).size in (
+      omega (arith, sum_within bits_of_slice b q k le, bits, good.most, size.buffer),
+      omega (arith, sum_within work_of_slice b q k le, work, bits, good.most, size.buffer),
+    )
 
 all_slice_jobs : (b : Book) (q k : ℕ) → k < rows b → IsSliceJob b (get_or (all_slices b q) k 0)
 all_slice_jobs b q k lt e = omega (arith, ap (part_of_job b) (all_at b q k lt), slice_part b q k lt, e)
@@ -208,7 +211,7 @@ plan_rest_all b p le = cond-false (nat_lt p 4) _ _ (le-ltb p 4 le)
 
 -- behind the plan before, and the bits of these slices
 bits_known : (b : Book) (j p : ℕ) (rest : List ℕ) (c d : Cached) → part_of_job b j ≡ 0 → IsAfter b j (plan_job b (p - 1) ∷ rest) c d
-    → ((k : ℕ) → k < length rest → IsSliceJob b (get_or rest k 0)) → ((k : ℕ) → k ≤ length rest → bits_before b rest k < 2 ^ 64)
+    → ((k : ℕ) → k < length rest → IsSliceJob b (get_or rest k 0)) → AreSmall b rest (length rest)
     → HasBits b (plan_job b (p - 1)) rest (length rest) d
 bits_known b j p rest c d is e each small =
     subst (HasBits b (plan_job b (p - 1)) rest (length rest)) (sym e)
@@ -225,12 +228,13 @@ early b j p c d lt is e = record {
       let after : IsAfter b j (plan_job b (p - 1) ∷ []) c d =
       subst (λ (xs : List ℕ). IsAfter b j xs c d) (plan_needs_are b p some ∙ ap (λ (xs : List ℕ). plan_job b (p - 1) ∷ xs) (plan_rest_none b p lt)) e in
       ledger_before b p d.ledger some
-      (bits_known b j p [] c d is after (λ k none. absurd (omega arith)) (λ k none. bits_zero b k none)).ledger;
+      (bits_known b j p [] c d is after (λ k none. absurd (omega arith)) (λ k none. (sum_zero bits_of_slice b k none, sum_zero work_of_slice b k none))).ledger;
   bits = λ four. absurd (omega arith);
+  work = λ four. absurd (omega arith);
 }
   where
-    bits_zero : (b : Book) (k : ℕ) → k ≤ 0 → bits_before b [] k < 2 ^ 64
-    bits_zero b k le = let e : k ≡ 0 = omega arith in omega (arith, ap (bits_before b []) e, bits_none b [])
+    sum_zero : (f : CodedSlice → ℕ) (b : Book) (k : ℕ) → k ≤ 0 → sum_before f b [] k < 2 ^ 64
+    sum_zero f b k le = let e : k ≡ 0 = omega arith in omega (arith, ap (sum_before f b []) e, sum_none f b [])
 
 late : (b : Book) → IsBook b → (j p : ℕ) (c d : Cached) → 4 ≤ p → p < length b.pictures → part_of_job b j ≡ 0 → IsAfter b j (plan_needs b p) c d → HasLearnedPlan b p d
 late b h j p c d four lt is e =
@@ -240,10 +244,11 @@ late b h j p c d four lt is e =
     let long = all_length b q in
     let known = bits_known b j p (all_slices b q) c d is after
     (λ k small. all_slice_jobs b q k (omega (arith, small, long)))
-    (λ k small. bits_few b h q k (omega arith) (omega (arith, small, long))) in
+    (λ k small. sums_few b h q (omega arith) k (omega (arith, small, long))) in
     record {
       ledger = λ some. ledger_before b p d.ledger some known.ledger;
-      bits = λ again. known.bits ∙ ap (bits_before b (all_slices b q)) long ∙ bits_sum b q (rows b) (omega arith) ∙ slices_sum b p q (omega arith);
+      bits = λ again. known.bits ∙ ap (sum_before bits_of_slice b (all_slices b q)) long ∙ sum_is bits_of_slice b q (rows b) (omega arith) ∙ slices_sum bits_of_slice b p q (omega arith);
+      work = λ again. known.work ∙ ap (sum_before work_of_slice b (all_slices b q)) long ∙ sum_is work_of_slice b q (rows b) (omega arith) ∙ slices_sum work_of_slice b p q (omega arith);
     }
 
 pub plan_learned : (b : Book) → IsBook b → (j : ℕ) (c d : Cached) → picture_of_job b j < length b.pictures → part_of_job b j ≡ 0

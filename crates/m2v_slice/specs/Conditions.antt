@@ -1,5 +1,5 @@
 -- What a book is made of, and what holds of each book.
-use Rattle.std.specs.Prelude.{ℕ, ◌≡◌, All, map, Option, IfSome, is_some}
+use Rattle.std.specs.Prelude.{ℕ, ◌≡◌, ◌≤◌, ◌<◌, ◌^◌, All, map, length, Option, IfSome, is_some}
 use Rattle.m2v_plane.specs.Samples.{Samples}
 use Rattle.m2v_set.specs.declared.settings.Settings.{Settings}
 use Rattle.m2v_set.specs.Numbers.{dims_of}
@@ -8,8 +8,15 @@ use Rattle.m2v_order.specs.Groups.{Group}
 use Rattle.m2v_order.specs.Times.{intervals_of}
 use Rattle.m2v_order.specs.Whole.{IsGroupOf}
 use Rattle.m2v_rate.specs.Plans.{Entries, begun}
-use Rattle.m2v_rate.specs.Steady.{IsLedger}
+use Rattle.m2v_rate.specs.Steady.{IsSteady}
 use Rattle.m2v_slice.specs.Books.{Book, picture_activities}
+
+-- what holds of a ledger whatever was measured: it is steady, has room for its group, and the account can go on. Samples of a
+-- book are any numbers, so no more is known of its activities
+pub record IsSteadyLedger (l : Entries) : Type 0 where
+  pub few : length l.kinds ≤ 126
+  pub removals : l.account.removals < 2 ^ 39
+  pub steady : IsSteady l
 
 -- the ledger of some stream with these settings begins this group, of which nothing is known or planned
 pub record IsBegunFor (s : Settings) (g : Group Samples) (l : Entries) : Type 0 where
@@ -17,7 +24,7 @@ pub record IsBegunFor (s : Settings) (g : Group Samples) (l : Entries) : Type 0 
   pub settings : from.settings ≡ s
   pub begun : l ≡ begun from (map (λ (j : PictureJob). j.kind) g.pictures) (intervals_of s g.before g.pictures)
       (picture_activities s g.frames g.pictures)
-  pub ledger : IsLedger l
+  pub ledger : IsSteadyLedger l
 
 -- a book is that of a group of its settings, with frames of their size; the anchor before the group is there exactly where
 -- one was coded before

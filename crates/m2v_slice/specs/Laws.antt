@@ -1,5 +1,5 @@
 -- What a slice is coded of, and what holds behind each of its macroblocks.
-use Rattle.std.specs.Prelude.{ℕ, ◌≡◌, ◌+◌, ◌-◌, ◌*◌, ◌%◌, ◌<◌, ◌≤◌, ◌⊎◌, true, false, nat_eq, [], All, length, pos, ◌-ℤ◌}
+use Rattle.std.specs.Prelude.{ℕ, ◌≡◌, ◌+◌, ◌-◌, ◌*◌, ◌%◌, ◌<◌, ◌≤◌, ◌⊎◌, true, false, nat_eq, List, [], All, length, pos, ◌-ℤ◌}
 use Rattle.m2v_plane.specs.declared.planes.Plane.TheVariants.{Y}
 use Rattle.m2v_plane.specs.Sizes.{IsSize, lines_of}
 use Rattle.m2v_plane.specs.Samples.{Samples, HasRows}
@@ -18,6 +18,10 @@ pub record AreActivities (columns : ℕ) (activities : List ℕ) : Type 0 where
   pub count : length activities ≡ columns
   pub range : All IsActivity activities
 
+-- those of a slice: none, or those of its row
+abbrev pub AreSliceActivities : ℕ → List ℕ → Type 0
+AreSliceActivities columns activities = (activities ≡ []) ⊎ AreActivities columns activities
+
 -- a slice of a picture of this encoder, whose macroblocks can all be held within its cap
 pub record IsSlice (t : SliceTask) : Type 0 where
   pub own : IsOwn t.context
@@ -28,7 +32,6 @@ pub record IsSlice (t : SliceTask) : Type 0 where
   pub search : t.search ≤ 15
   pub least : slice_least t.context.columns ≤ t.cap
   pub edge : t.cap % 8 ≡ 0
-  pub activities : (t.activities ≡ []) ⊎ AreActivities t.context.columns t.activities
 
 -- how many macroblocks are skipped right before the one of a column
 abbrev pub skipped_before : SliceTask → Begun → ℕ → ℕ

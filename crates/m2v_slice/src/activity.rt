@@ -4,6 +4,7 @@ ghost use Rattle.m2v_plane.specs.Samples.{Samples};
 ghost use Rattle.m2v_set.specs.Numbers.{dims_of};
 ghost use Rattle.m2v_set.specs.Rules.{is_even};
 ghost use Rattle.m2v_order.specs.Whole.{IsGroupOf, handed};
+ghost use Rattle.m2v_enc_activity.specs.Activity.{IsActivity};
 ghost use Rattle.m2v_rate.specs.Sharing.{IsPictureActivity};
 ghost use Rattle.m2v_slice.specs.Books.{macroblock_activities, picture_activities};
 
@@ -41,6 +42,7 @@ pub fn source_activities(
         ≡ macroblock_activities settings.now group.now.frames.items group.now.pictures.items) }
     ensures pictures { IfOk result (λ a. a.pictures.items
         ≡ picture_activities settings.now group.now.frames.items group.now.pictures.items) }
+    ensures range { IfOk result (λ a. All IsActivity a.macroblocks.items) }
     ensures sums { is_even settings.now.planning ≡ true
         → IfOk result (λ a. All IsPictureActivity a.pictures.items) }
 {

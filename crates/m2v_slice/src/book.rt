@@ -1,9 +1,11 @@
 //! The book of a group.
-ghost use Rattle.std.specs.Prelude.{◌≡◌, ◌+◌, ◌*◌, ◌<◌, ◌≤◌, All, IfSome, IfOk, is_some, length, slice_index_or};
+ghost use Rattle.std.specs.Prelude.{◌≡◌, ◌+◌, ◌*◌, ◌<◌, ◌≤◌, All, IfSome, IfOk, is_some, length, take, drop, slice_index_or};
 ghost use Rattle.m2v_plane.specs.Samples.{Samples};
 ghost use Rattle.m2v_plane.specs.Fields.{no_samples};
 ghost use Rattle.m2v_set.specs.Numbers.{dims_of, rows_by};
 ghost use Rattle.m2v_order.specs.Whole.{IsGroupOf, handed};
+ghost use Rattle.m2v_enc_activity.specs.Activity.{IsActivity};
+ghost use Rattle.m2v_slice.specs.Laws.{AreSliceActivities};
 ghost use Rattle.m2v_slice.specs.Books.{Book, macroblock_activities, slice_activities, rows, job_at, plan_job, picture_of_job, part_of_job};
 ghost use Rattle.m2v_slice.specs.Conditions.{IsBook, IsBegunFor};
 ghost use Rattle.m2v_slice.specs.Jobs.{jobs_of};
@@ -30,6 +32,14 @@ fn rows_of(settings: &Passed) -> u32
     }
 }
 
+/// So many numbers, from one on.
+fn part_of(all: &[u32], from: usize, count: usize) -> &[u32]
+    requires within { from + count ≤ length all.now }
+    ensures value { result.now ≡ take count (drop from all.now) }
+{
+    &all[from..from + count]
+}
+
 /// The jobs of a group of pictures: for each picture, in coding order, its plan and then its slices from the top.
 ///
 /// Contracts see its settings, the frames in display order, the pictures in coding order, the reconstruction of the anchor
@@ -45,7 +55,8 @@ pub struct EncodeBook {
 }
 
 impl Model for EncodeBook {
-    ghost use Rattle.std.specs.Prelude.{◌≡◌};
+    ghost use Rattle.std.specs.Prelude.{◌≡◌, All};
+    ghost use Rattle.m2v_enc_activity.specs.Activity.{IsActivity};
     ghost use Rattle.m2v_slice.specs.Books.{Book, macroblock_activities};
     ghost use Rattle.m2v_slice.specs.Conditions.{IsBook};
 
@@ -65,7 +76,8 @@ impl Model for EncodeBook {
       pictures = b.pictures.items;
       before = b.before;
       ledger = b.ledger;
-    }) × (b.activities.items ≡ macroblock_activities b.settings b.frames.items b.pictures.items) };
+    }) × (b.activities.items ≡ macroblock_activities b.settings b.frames.items b.pictures.items)
+        × All IsActivity b.activities.items };
 }
 
 impl EncodeBook {
@@ -86,6 +98,7 @@ impl EncodeBook {
         requires group { IsGroupOf settings.now (handed group) }
         requires activities { activities.items
             ≡ macroblock_activities settings.now group.frames.items group.pictures.items }
+        requires range { All IsActivity activities.items }
         requires sizes { All (λ (f : Samples). f.dims ≡ dims_of settings.now) group.frames.items }
         requires before { is_some before ≡ is_some group.before }
         requires size { IfSome before (λ f. f.dims ≡ dims_of settings.now) }
@@ -183,19 +196,30 @@ impl EncodeBook {
         self.frame(self.job(p).frame)
     }
 
+    /// The activities of the group's macroblocks.
+    fn activities(&self) -> &[u32]
+        ensures value { result.now ≡ macroblock_activities self.now.settings self.now.frames
+            self.now.pictures }
+        ensures range { All IsActivity result.now }
+    {
+        &self.activities
+    }
+
     /// The activities of the macroblocks of slice r of picture p, where the plan goes by the source.
-    #[tactic(auto, unfolding(crate::specs::Books::slice_activities))]
     pub(crate) fn slice_activities(&self, p: u32, r: u32) -> &[u32]
         requires picture { p < length self.now.pictures }
         requires row { r < rows self.now }
         ensures value { result.now ≡ slice_activities self.now p r }
+        ensures range { AreSliceActivities (dims_of self.now.settings).mb_width result.now }
     {
-        match self.settings.settings().planning {
+        // a group has at most 126 pictures
+        let _pictures = self.pictures();
+        match self.settings().settings().planning {
             Planning::Weights => &[],
             Planning::Even => {
-                let columns = self.settings.dims().mb_width as usize;
+                let columns = self.settings().dims().mb_width as usize;
                 let from = (p * self.rows() + r) as usize * columns;
-                &self.activities[from..from + columns]
+                part_of(self.activities(), from, columns)
             }
         }
     }

@@ -32,8 +32,8 @@ pub use laws::{
     law_headers, law_slice_any_row, law_slice_chosen, law_slice_covers, law_slice_fits,
     law_slice_keeps,
 };
-pub use m2v_enc_activity::GroupActivities;
 pub use lengths::{bits_to_code, header_bits};
+pub use m2v_enc_activity::GroupActivities;
 pub use picture::picture_context;
 pub use pieces::{EncodePiece, EncodeShared};
 pub use slice::{SliceOut, code_slice};

@@ -16,7 +16,10 @@ pub enum EncodePiece {
 #[derive(Drop)]
 pub enum EncodeShared {
     /// The plan of a picture, and the ledger that knows it.
-    Plan { plan: Plan, ledger: Ledger },
+    Plan {
+        plan: Plan,
+        ledger: Ledger,
+    },
     /// The samples of a slice, how many bits it has, and its work.
     Slice {
         row: RowSamples,

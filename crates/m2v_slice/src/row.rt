@@ -3,7 +3,7 @@ ghost use Rattle.std.specs.Prelude.{◌≡◌, ◌+◌, ◌-◌, ◌*◌, ◌^�
 ghost use Rattle.m2v_rate.specs.Sharing.{raised, IsSliceSoFar};
 ghost use Rattle.m2v_choose.specs.Own.{IsCode};
 ghost use Rattle.m2v_slice.specs.Slices.{begun, held_bits, slice_header_bits};
-ghost use Rattle.m2v_slice.specs.Laws.{IsSlice};
+ghost use Rattle.m2v_slice.specs.Laws.{AreSliceActivities, IsSlice};
 ghost use Rattle.m2v_slice.specs.Steps.{HasReferences, row_place, task_by};
 
 use crate::macroblocks::code_macroblock;
@@ -63,18 +63,18 @@ impl Effort {
         requires q { IsCode plan.now.q }
         requires slice { 0 < column → 0 < length plan.now.activities.now
             → IsSliceSoFar (record {
-          work = self.now.work;
-          before = self.now.before;
-          ahead = self.now.ahead;
-          left = left;
-        }) }
+              work = self.now.work;
+              before = self.now.before;
+              ahead = self.now.ahead;
+              left = left;
+            }) }
         ensures value { result ≡ (if nat_eq column 0 || nat_eq (length plan.now.activities.now) 0
-        then plan.now.q else raised plan.now.q (record {
-          work = self.now.work;
-          before = self.now.before;
-          ahead = self.now.ahead;
-          left = left;
-        })) }
+            then plan.now.q else raised plan.now.q (record {
+              work = self.now.work;
+              before = self.now.before;
+              ahead = self.now.ahead;
+              left = left;
+            })) }
         ensures code { IsCode result }
     {
         if column == 0 || plan.activities.len() == 0 {
@@ -154,6 +154,8 @@ pub fn code_row<V: RefView>(
 ) -> u64
     requires slice { IsSlice (task_by source.now (V.at forward.now) (V.at backward.now) context.now
         plan.now) }
+    requires activities { AreSliceActivities context.now.columns plan.now.activities.now }
+    requires most { 0 < length plan.now.activities.now → plan.now.cap < 2 ^ 24 }
     requires references { HasReferences context.now.kind source.now.dims
         (row_place context.now plan.now.row)
         (V.size forward.now) (V.size backward.now) (V.Holds forward.now) (V.Holds backward.now) }

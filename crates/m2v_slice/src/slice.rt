@@ -1,5 +1,5 @@
 //! A slice with its start code and its header.
-ghost use Rattle.std.specs.Prelude.{◌≡◌, ◌≢◌, ◌+◌, ◌*◌, ◌/◌, ◌%◌, ◌≤◌, ◌<◌, ◌++◌, IfOk, [], length};
+ghost use Rattle.std.specs.Prelude.{◌≡◌, ◌≢◌, ◌+◌, ◌*◌, ◌/◌, ◌%◌, ◌^◌, ◌≤◌, ◌<◌, ◌++◌, IfOk, [], length};
 ghost use Rattle.m2v_bits.specs.Bits.{bits, start_code};
 ghost use Rattle.m2v_head.specs.Texts.{slice_text};
 ghost use Rattle.m2v_plane.specs.declared.planes.Plane.TheVariants.{Y};
@@ -10,7 +10,7 @@ ghost use Rattle.m2v_pred.specs.Motion.{own_lines};
 ghost use Rattle.m2v_choose.specs.Own.{IsOwn, IsCode};
 ghost use Rattle.m2v_choose.specs.Trials.{IsRead};
 ghost use Rattle.m2v_slice.specs.Slices.{CodedSlice, slice_info, slice_of, slice_header_bits, most_bits_of};
-ghost use Rattle.m2v_slice.specs.Laws.{IsSlice};
+ghost use Rattle.m2v_slice.specs.Laws.{AreSliceActivities, IsSlice};
 ghost use Rattle.m2v_slice.specs.Steps.{HasReferences, row_place, task_by};
 
 use crate::row::{RowPlan, code_row};
@@ -55,6 +55,8 @@ fn write_slice<V: RefView>(
 ) -> u64
     requires slice { IsSlice (task_by source.now (V.at forward.now) (V.at backward.now) context.now
         plan.now) }
+    requires activities { AreSliceActivities context.now.columns plan.now.activities.now }
+    requires most { 0 < length plan.now.activities.now → plan.now.cap < 2 ^ 24 }
     requires references { HasReferences context.now.kind source.now.dims
         (row_place context.now plan.now.row)
         (V.size forward.now) (V.size backward.now) (V.Holds forward.now) (V.Holds backward.now) }
@@ -114,11 +116,7 @@ impl SliceOut {
         let row = RowSamples::blank(alloc, dims)?;
         let room = (38 + 4608 * dims.mb_width as usize + 7) / 8;
         let bits = BitWriter::over(vec![in alloc; 0; room]?);
-        Ok(SliceOut {
-            bits,
-            row,
-            work: 0,
-        })
+        Ok(SliceOut { bits, row, work: 0 })
     }
 
     /// The bytes of the slice, with its start code.
@@ -154,6 +152,8 @@ pub(crate) fn code_row_slice<V: RefView>(
 )
     requires slice { IsSlice (task_by source.now (V.at forward.now) (V.at backward.now) context.now
         plan.now) }
+    requires activities { AreSliceActivities context.now.columns plan.now.activities.now }
+    requires most { 0 < length plan.now.activities.now → plan.now.cap < 2 ^ 24 }
     requires references { HasReferences context.now.kind source.now.dims
         (row_place context.now plan.now.row)
         (V.size forward.now) (V.size backward.now) (V.Holds forward.now) (V.Holds backward.now) }

@@ -8,7 +8,14 @@ use Rattle.m2v_model.specs.Samples.{skipped_painted}
 use Rattle.m2v_dec_picture.specs.Reads.{seen_by}
 use Rattle.m2v_dec_picture.specs.Conditions.{CanPredict, place_in}
 use Rattle.m2v_dec_picture.proofs.RuleLaws.{gap_can, gap_some, gap_place, gap_painted, gap_over, gap_none, in_gap}
+use Rattle.m2v_dec_picture.proofs.PassLaws.{gap_same}
 use Rattle.m2v_dec_picture.proofs.paint.paint_gap.Goals as goal
+
+pub returns-then-not-wants-clause-value : goal.returns-then-not-wants-clause-value
+returns-then-not-wants-clause-value g c =
+    let refs = seen_by (g.V.RefView.at c.args.basis.now.forward.now) (g.V.RefView.at c.args.basis.now.backward.now) in
+    let same = c.wants.ensures.same c.if-not-wants.true in
+    gap_same g.T.Target.placed same c.args.basis.now.setup.now refs c.args.before.now (first_skipped c.args.before.now) c.args.x.now.gap.count (g.T.Target.samples c.args.out.now)
 
 pub returns-then-gap-eq0-clause-value : goal.returns-then-gap-eq0-clause-value
 returns-then-gap-eq0-clause-value g c =

@@ -3,11 +3,19 @@ use Rattle.m2v_pred.specs.declared.mode.MbPlace.{MbPlace}
 use Rattle.m2v_recon.specs.Macro.{macro_sample}
 use Rattle.m2v_recon.specs.Steps.{levels_of}
 use Rattle.m2v_macro.specs.declared.values.SliceState.{SliceState}
-use Rattle.m2v_macroblock.specs.Macroblocks.{kind_for}
+use Rattle.m2v_macroblock.specs.Macroblocks.{kind_for, macroblock_of}
 use Rattle.m2v_macroblock.specs.Predictions.{prediction_of, sample_at}
 use Rattle.m2v_model.specs.Samples.{own_painted}
 use Rattle.m2v_dec_picture.proofs.RuleLaws.{own_place}
+use Rattle.m2v_dec_picture.specs.Reads.{seen_by}
+use Rattle.m2v_dec_picture.proofs.PassLaws.{own_same}
 use Rattle.m2v_dec_picture.proofs.paint.paint_own.Goals as goal
+
+pub returns-then-not-wants-clause-value : goal.returns-then-not-wants-clause-value
+returns-then-not-wants-clause-value g c =
+    let refs = seen_by (g.V.RefView.at c.args.basis.now.forward.now) (g.V.RefView.at c.args.basis.now.backward.now) in
+    let same = c.wants.ensures.same c.if-not-wants.true in
+    own_same g.T.Target.placed same c.args.basis.now.setup.now refs c.args.before.now (macroblock_of c.args.x.now.syntax c.args.scratch.now.levels) (g.T.Target.samples c.args.out.now)
 
 pub returns-clause-value : goal.returns-clause-value
 unfolding own_painted sample_at
