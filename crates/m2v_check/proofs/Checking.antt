@@ -23,7 +23,7 @@ use Rattle.m2v_dec_piece.specs.Cutting.{Cutting, left_of, open_pieces}
 use Rattle.m2v_dec_piece.specs.Stepping.{Handed}
 use Rattle.m2v_decode.specs.Decoding.{Decoding, at_start, between, Advanced, whole_of}
 use Rattle.m2v_decode.specs.Answers.{start_of}
-use Rattle.m2v_decode.specs.Reading.{Reading, nothing_read, Follows}
+use Rattle.m2v_decode.specs.Reading.{Reading, Follows}
 use Rattle.m2v_decode.specs.Progress.{before_all, HasPut, Progress}
 use Rattle.m2v_decode.proofs.Going.{gave, moved_some}
 use Rattle.m2v_check.specs.declared.judge.Judge.{Judge}

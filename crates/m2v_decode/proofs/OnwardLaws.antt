@@ -1,20 +1,17 @@
 -- A piece whose picture was read elsewhere: what its headers say of the decoder that takes it in, and what it tells.
-use Rattle.std.proofs.Common.{◌≡◌, ◌⊎◌, ℕ, ◌+◌, ◌*◌, ◌<◌, ◌≤◌, Bool, true, false, List, [], ◌∷◌, ◌++◌, length, Option, Some, None, is_some, option_to_list, Ok, refl, sym, ap, subst, ◌∙◌, arith}
-use Rattle.std.specs.Prelude.{nat_eq, not, ◌&&◌, ◌||◌, if◌then◌else◌, IsSome}
+use Rattle.std.proofs.Common.{◌≡◌, ℕ, ◌+◌, ◌*◌, ◌<◌, Bool, true, false, [], ◌++◌, length, Option, Some, None, is_some, option_to_list, Ok, refl, sym, ap, subst, ◌∙◌, arith}
+use Rattle.std.specs.Prelude.{not, ◌&&◌, ◌||◌, if◌then◌else◌, IsSome}
 use Rattle.std.proofs.lemmas.Bool.{or_parts}
-use Rattle.std.proofs.lemmas.List.{append-nil, length-append}
+use Rattle.std.proofs.lemmas.List.{length-append}
 use Rattle.m2v_plane.specs.declared.dims.Dims.{Dims}
 use Rattle.m2v_plane.specs.Sizes.{IsSize}
 use Rattle.m2v_plane.specs.Samples.{Samples, blank}
 use Rattle.m2v_plane.specs.Fields.{or_none}
 use Rattle.m2v_order.specs.Display.{Holder, handed, held_after}
-use Rattle.m2v_head.specs.declared.picture.PictureInfo.{PictureInfo}
-use Rattle.m2v_head.specs.declared.picture.PictureExtension.{PictureExtension}
 use Rattle.m2v_model.specs.declared.setup.SliceSetup.{SliceSetup}
 use Rattle.m2v_model.specs.declared.notes.PictureNote.{PictureNote}
 use Rattle.m2v_model.specs.declared.state.Sequence.{Sequence}
 use Rattle.m2v_model.specs.declared.state.Open.{Open}
-use Rattle.m2v_model.specs.declared.state.FirstField.{FirstField}
 use Rattle.m2v_model.specs.declared.state.State.{State}
 use Rattle.m2v_model.specs.Units.{cut}
 use Rattle.m2v_model.specs.States.{dims_of, is_b, is_frame, is_frame_end, drops, opened, first_or, one_anchor_more, after_sequence, after_group, after_picture, after_end, slice_setup}
@@ -26,7 +23,7 @@ use Rattle.m2v_dec_piece.specs.declared.answer.Piece.{Piece}
 use Rattle.m2v_dec_piece.specs.declared.answer.Fault.{Fault}
 use Rattle.m2v_dec_rows.specs.m2v_dec_unit.Among.{AreMatrices}
 use Rattle.m2v_model.specs.m2v_macroblock.Conditions.{IsMatrix}
-use Rattle.m2v_dec_rows.specs.m2v_dec_picture.Conditions.{IsSetup, rows_in}
+use Rattle.m2v_dec_rows.specs.m2v_dec_picture.Conditions.{rows_in}
 use Rattle.m2v_dec_rows.specs.m2v_dec_picture.Frames.{Frames, store_of, HaveSize}
 use Rattle.m2v_dec_rows.specs.declared.opened.Opened.{Opened}
 use Rattle.m2v_dec_rows.specs.Rows.{Slices, Placed, row_fault, slices_painted}
@@ -45,10 +42,10 @@ use Rattle.m2v_dec_rows.proofs.UpToPicture.{Leads, here, by_sequence, by_group}
 use Rattle.m2v_dec_rows.proofs.Entering.{Enters, enters}
 use Rattle.m2v_decode.specs.declared.course.Course.{Course}
 use Rattle.m2v_decode.specs.Decoding.{Agrees, queue_of, decoded_of, dropped_in, Onward}
-use Rattle.m2v_decode.specs.Course.{between_of, IsFresh, FitsOpen, HaveSizes, HasFirstField, HasAnchors, AreSound, IsSoundCourse, frame_list}
+use Rattle.m2v_decode.specs.Course.{between_of, IsFresh, FitsOpen, HaveSizes, HasAnchors, AreSound, IsSoundCourse, frame_list}
 use Rattle.m2v_decode.specs.Rebuilt.{IsRebuilt, refs_for, frame_begun, open_of, frames_behind}
 use Rattle.m2v_decode.specs.Taking.{CanTake, queue_behind, frame_ended, TookIn}
-use Rattle.m2v_decode.proofs.FrameLaws.{field_same, no_field, waiting_there, waits, reads_none, sizes_next, begun_anchors, left_by}
+use Rattle.m2v_decode.proofs.FrameLaws.{field_same, no_field, waiting_there, reads_none, sizes_next, begun_anchors, left_by}
 use Rattle.m2v_decode.proofs.CourseLaws.{one_listed, one_dropped, handed_few, few_dropped}
 use Rattle.m2v_decode.proofs.EndLaws.{seen_as}
 use Rattle.m2v_decode.proofs.TookLaws.{begun_current, begun_sized, begun_whole, ended_same}

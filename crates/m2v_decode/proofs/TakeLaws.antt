@@ -1,14 +1,12 @@
 -- The rows of a picture set into the frame that is open.
 use Rattle.std.proofs.Common.{◌≡◌, ℕ, suc, ◌+◌, ◌*◌, ◌/◌, ◌<◌, ◌≤◌, Bool, true, false, Option, Some, None, refl, sym, ap, subst, ◌∙◌, arith}
 use Rattle.std.specs.Prelude.{nat_eq, IfSome, if◌then◌else◌}
-use Rattle.std.proofs.lemmas.Bool.{cases_Bool}
 use Rattle.m2v_plane.specs.declared.dims.Dims.{Dims}
 use Rattle.m2v_plane.specs.declared.planes.Lines.{Lines}
 use Rattle.m2v_plane.specs.Sizes.{part_of}
 use Rattle.m2v_plane.specs.Samples.{Samples, with_row}
 use Rattle.m2v_dec_rows.specs.m2v_pred.Motion.{own_lines, field_lines}
 use Rattle.m2v_model.specs.Pictures.{on_frame}
-use Rattle.m2v_dec_rows.specs.m2v_dec_picture.Frames.{Frames}
 use Rattle.m2v_dec_rows.specs.InFrames.{rows_set}
 use Rattle.m2v_dec_rows.proofs.RowsSet.{set_dims}
 

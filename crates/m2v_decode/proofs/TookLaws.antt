@@ -5,7 +5,7 @@ use Rattle.std.proofs.lemmas.List.{length-replicate}
 use Rattle.m2v_plane.specs.declared.dims.Dims.{Dims}
 use Rattle.m2v_plane.specs.Samples.{Samples, HasRows, blank}
 use Rattle.m2v_plane.specs.Fields.{or_none}
-use Rattle.m2v_order.specs.Display.{Holder, handed, held_after}
+use Rattle.m2v_order.specs.Display.{handed, held_after}
 use Rattle.m2v_model.specs.declared.state.Sequence.{Sequence}
 use Rattle.m2v_model.specs.declared.state.Open.{Open}
 use Rattle.m2v_model.specs.declared.state.State.{State}
@@ -19,8 +19,8 @@ use Rattle.m2v_dec_rows.proofs.RowsSet.{set_dims, set_sized}
 use Rattle.m2v_decode.specs.declared.course.Course.{Course}
 use Rattle.m2v_decode.specs.Decoding.{queue_of}
 use Rattle.m2v_decode.specs.Course.{Ended, frame_list}
-use Rattle.m2v_decode.specs.Rebuilt.{open_of, frame_begun, frames_behind}
-use Rattle.m2v_decode.specs.Taking.{CanTake, queue_behind, frame_ended, TookIn}
+use Rattle.m2v_decode.specs.Rebuilt.{open_of, frame_begun}
+use Rattle.m2v_decode.specs.Taking.{CanTake, queue_behind, TookIn}
 
 -- the frame with which a picture begins is there
 pub begun_current : (second : Bool) (c : Option Samples) (d e : Dims) → (second ≡ true → IsSome c) → d ≡ e

@@ -1,5 +1,5 @@
 -- A decoder at work takes in a picture whose rows were read elsewhere.
-use Rattle.std.specs.Prelude.{◌≡◌, ℕ, ◌+◌, true, false, ◌++◌, Option, Some, None, IsSome, if◌then◌else◌}
+use Rattle.std.specs.Prelude.{◌≡◌, ◌+◌, true, false, ◌++◌, Option, Some, None, IsSome, if◌then◌else◌}
 use Rattle.m2v_plane.specs.Sizes.{IsSize}
 use Rattle.m2v_plane.specs.Samples.{Samples}
 use Rattle.m2v_order.specs.Display.{Holder, handed, held_after}

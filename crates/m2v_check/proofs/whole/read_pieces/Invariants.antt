@@ -1,4 +1,4 @@
-use Rattle.std.proofs.Common.{◌≡◌, ◌≤◌, ◌-◌, ◌^◌, None, false}
+use Rattle.std.proofs.Common.{◌≡◌, ◌≤◌, ◌-◌, ◌^◌, false}
 use Rattle.m2v_port.specs.Ends.{change}
 use Rattle.m2v_check.proofs.Checking.{SoFar}
 use Rattle.m2v_check.proofs.whole.read_pieces.Given as goal

@@ -1,4 +1,4 @@
-use Rattle.std.proofs.Common.{◌≡◌, true, false, refl, ap, sym, subst, ◌∙◌}
+use Rattle.std.proofs.Common.{false}
 use Rattle.std.proofs.lemmas.Bool.{both_ways}
 use Rattle.m2v_decode.proofs.OnwardLaws.{can_take, sound_behind, none_behind, onward}
 use Rattle.m2v_decode.proofs.decoder.Decoder.rebuilt.Goals as goal
