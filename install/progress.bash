@@ -46,7 +46,7 @@ take_away() {
 
 # Shows the line each second until the first byte of the program's own comes, or it ends; that byte and what follows is passed on.
 watch() {
-    local pid start=$SECONDS shown="" byte="" status columns before
+    local pid start=$SECONDS shown="" byte="" status columns before far
     # an interrupt ends the program, and by that this too
     trap '' INT
     trap 'take_away; exit' TERM HUP
@@ -69,8 +69,11 @@ watch() {
         if ! in_front; then
             flock -u 8 2> /dev/null
         elif is_ours; then
+            # nothing where the program has just ended
+            far=$(line)
+            [ "$far" ] || continue
             before=${#shown}
-            shown="puckerledge: $(line)"
+            shown="puckerledge: $far"
             shown=${shown:0:columns - 1}
             printf -v shown '%-*s' "$before" "$shown"
             printf '\r%s' "$shown" >&2
