@@ -32,6 +32,12 @@ frame_line Whole line = line
 frame_line Top line = 2 * line
 frame_line Bottom line = 2 * line + 1
 
+-- how far a line of the whole frame, or of one field, begins behind the one before, in a plane of so many columns
+abbrev pub stride_in : Lines → ℕ → ℕ
+stride_in Whole columns = columns
+stride_in Top columns = 2 * columns
+stride_in Bottom columns = 2 * columns
+
 -- how many of so many lines of a frame are lines of the whole frame, or of one field
 abbrev pub part_of : Lines → ℕ → ℕ
 part_of Whole count = count

@@ -1,4 +1,4 @@
-ghost use Rattle.std.specs.Prelude.{◌≡◌, ◌+◌, ◌<◌, ◌≤◌, IsSome, IfSome, Option};
+ghost use Rattle.std.specs.Prelude.{ℕ, ◌≡◌, ◌+◌, ◌-◌, ◌*◌, ◌<◌, ◌≤◌, IsSome, IfSome, Option, drop, length, take};
 ghost use Rattle.std.specs.Option.{option_map};
 ghost use Rattle.m2v_plane.specs.Sizes.{IsSize, lines_of, columns_of};
 ghost use Rattle.m2v_plane.specs.Samples.{sample_in, line_part};
@@ -6,7 +6,7 @@ ghost use Rattle.m2v_plane.specs.Samples.{sample_in, line_part};
 use crate::dims::Dims;
 use crate::frame::Frame;
 use crate::planes::{Lines, Plane};
-use crate::view::RefView;
+use crate::view::{RefView, Window};
 use std::marker::Model;
 
 /// A reference whose top field stands in one frame and whose bottom field in another, or not at all. It is read as a
@@ -73,6 +73,32 @@ fn lent<'b>(
     }
 }
 
+/// Parts of lines of a frame that is there, lent at once.
+#[inline(always)]
+fn lent_window<'b>(
+    frame: &Option<&'b Frame>,
+    plane: Plane,
+    lines: Lines,
+    line: u32,
+    count: u32,
+    column: u32,
+    len: u32,
+) -> Option<Window<'b>>
+    requires some { 1 ≤ count }
+    requires lines { IfSome frame.now
+        (λ f. (k : ℕ) → k < count → line + k < lines_of f.now.dims plane lines) }
+    requires within { IfSome frame.now (λ f. column + len ≤ columns_of f.now.dims plane) }
+    ensures fits { IfSome result (λ w. (count - 1) * w.stride + len ≤ length w.samples.now) }
+    ensures value { IfSome frame.now (λ f. IfSome result (λ w. (k : ℕ) → k < count
+        → take len (drop (k * w.stride) w.samples.now)
+        ≡ line_part (sample_in f.now plane lines (line + k)) column len)) }
+{
+    match frame {
+        Some(frame) => frame.window(plane, lines, line, count, column, len),
+        None => None,
+    }
+}
+
 impl<'a> RefView for FieldView<'a> {
     ghost use Rattle.m2v_plane.specs.Fields.{HoldsLine, sample_at};
 
@@ -94,6 +120,32 @@ impl<'a> RefView for FieldView<'a> {
             Lines::Whole => lent(&self.top, plane, Lines::Whole, line, column, len),
             Lines::Top => lent(&self.top, plane, Lines::Top, line, column, len),
             Lines::Bottom => lent(&self.bottom, plane, Lines::Bottom, line, column, len),
+        }
+    }
+
+    #[inline(always)]
+    #[tactic(auto, unfolding(crate::specs::Fields::lines_there, crate::specs::Fields::sample_from))]
+    fn window(
+        &self,
+        plane: Plane,
+        lines: Lines,
+        line: u32,
+        count: u32,
+        column: u32,
+        len: u32,
+    ) -> Option<Window<'_>> {
+        match lines {
+            Lines::Whole => lent_window(&self.top, plane, Lines::Whole, line, count, column, len),
+            Lines::Top => lent_window(&self.top, plane, Lines::Top, line, count, column, len),
+            Lines::Bottom => lent_window(
+                &self.bottom,
+                plane,
+                Lines::Bottom,
+                line,
+                count,
+                column,
+                len,
+            ),
         }
     }
 }

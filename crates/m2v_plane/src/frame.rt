@@ -5,10 +5,10 @@ ghost use Rattle.m2v_plane.specs.Raw.{frame_bytes, pad, crop};
 
 use crate::Memory;
 use crate::dims::Dims;
-use crate::moves::{self, line_start};
+use crate::moves::{self, line_start, stride_of};
 use crate::planes::{Lines, Plane};
 use crate::row::RowSamples;
-use crate::view::RefView;
+use crate::view::{RefView, Window};
 use std::alloc::Global;
 use std::marker::Model;
 
@@ -318,6 +318,25 @@ impl RefView for Frame {
         let (total, columns) = (self.dims.mb_rows as usize, self.dims.mb_width as usize);
         let from = line_start(lines, line as usize, side * total, side * columns) + column as usize;
         &self.plane(plane)[from..from + len as usize]
+    }
+
+    #[inline(always)]
+    fn window(
+        &self,
+        plane: Plane,
+        lines: Lines,
+        line: u32,
+        _count: u32,
+        column: u32,
+        _len: u32,
+    ) -> Option<Window<'_>> {
+        let side = plane.side() as usize;
+        let (total, columns) = (self.dims.mb_rows as usize, self.dims.mb_width as usize);
+        let from = line_start(lines, line as usize, side * total, side * columns) + column as usize;
+        Some(Window {
+            samples: &self.plane(plane)[from..],
+            stride: stride_of(lines, side * columns),
+        })
     }
 
     #[inline(always)]

@@ -16,7 +16,7 @@ pub use frame::{Frame, FrameRoom};
 pub use laws::{law_crop_pad, law_raw_cut};
 pub use planes::{Lines, Plane};
 pub use row::{RowRoom, RowSamples};
-pub use view::RefView;
+pub use view::{RefView, Window};
 
 /// Want of memory.
 pub type Memory = std::alloc::AllocError;

@@ -1,7 +1,7 @@
 //! Whole lines, moved by slices.
 ghost use Rattle.std.specs.Prelude.{◌⊎◌, ◌%◌, ℕ, ◌≡◌, ◌≤◌, ◌<◌, ◌*◌, ◌+◌, ◌-◌, ◌^◌, length, vec_len, slice_index, min, drop, replicate};
 ghost use Rattle.std.specs.List.{range_with_len};
-ghost use Rattle.m2v_plane.specs.Sizes.{frame_line, part_of};
+ghost use Rattle.m2v_plane.specs.Sizes.{frame_line, part_of, stride_in};
 ghost use Rattle.m2v_plane.specs.Samples.{plane_with_lines, plane_with_row, plane_with_square, put, square_of};
 ghost use Rattle.m2v_plane.specs.Raw.{padded, shown};
 
@@ -72,6 +72,18 @@ pub fn line_start(lines: Lines, line: usize, total: usize, columns: usize) -> us
     ensures within { result + columns ≤ total * columns }
 {
     place_of(lines, line) * columns
+}
+
+/// How far a line of the whole frame or of one field begins behind the one before.
+#[inline(always)]
+pub fn stride_of(lines: Lines, columns: usize) -> usize
+    requires { columns ≤ 2 ^ 12 }
+    ensures { result ≡ stride_in lines columns }
+{
+    match lines {
+        Lines::Whole => columns,
+        Lines::Top | Lines::Bottom => 2 * columns,
+    }
 }
 
 /// One macroblock row of the whole frame or of one field.

@@ -1,5 +1,5 @@
 //! Views of reference samples.
-ghost use Rattle.std.specs.Prelude.{◌≡◌, ℕ, ◌+◌, ◌≤◌, ◌<◌, length};
+ghost use Rattle.std.specs.Prelude.{◌≡◌, ℕ, ◌+◌, ◌-◌, ◌*◌, ◌≤◌, ◌<◌, IfSome, drop, length, take};
 ghost use Rattle.m2v_plane.specs.declared.dims.Dims.{Dims};
 ghost use Rattle.m2v_plane.specs.declared.planes.Plane.{Plane};
 ghost use Rattle.m2v_plane.specs.declared.planes.Lines.{Lines};
@@ -8,6 +8,15 @@ ghost use Rattle.m2v_plane.specs.Samples.{line_part};
 
 use crate::dims::Dims;
 use crate::planes::{Lines, Plane};
+
+/// Lines of a reference that stand in one slice, one behind another. The first begins where the slice does.
+#[derive(Clone, Copy)]
+pub struct Window<'a> {
+    /// The samples, from the first line's on.
+    pub samples: &'a [u8],
+    /// How far each line begins behind the one before.
+    pub stride: usize,
+}
 
 /// Samples of a reference picture, as prediction reads them. What is read is the view's sample at that place, so two
 /// reads of one place agree.
@@ -32,6 +41,30 @@ pub trait RefView {
         requires held { Holds self.now plane lines line }
         requires within { column + len ≤ columns_of (size self.now) plane }
         ensures value { result.now ≡ line_part (at self.now plane lines line) column len };
+
+    /// Parts of `count` lines one after another, lent at once: `len` samples of each from `column` on. Or None, of a view
+    /// whose lines don't stand in one slice: then each is lent by [`RefView::line`]. The last part ends within the slice,
+    /// so each does.
+    #[inline(always)]
+    fn window(
+        &self,
+        plane: Plane,
+        lines: Lines,
+        line: u32,
+        count: u32,
+        column: u32,
+        len: u32,
+    ) -> Option<Window<'_>>
+        requires some { 1 ≤ count }
+        requires held { (k : ℕ) → k < count → Holds self.now plane lines (line + k) }
+        requires within { column + len ≤ columns_of (size self.now) plane }
+        ensures fits { IfSome result (λ w. (count - 1) * w.stride + len ≤ length w.samples.now) }
+        ensures value { IfSome result (λ w. (k : ℕ) → k < count
+            → take len (drop (k * w.stride) w.samples.now)
+            ≡ line_part (at self.now plane lines (line + k)) column len) }
+    {
+        None
+    }
 
     /// One sample, of a line that the view holds. Loops read by [`RefView::line`] or [`RefView::copy_line`].
     #[inline(always)]
