@@ -1,8 +1,8 @@
--- Pairs with short codes.
+-- Pairs with short codes, and the end of a block.
 use Rattle.std.specs.Prelude.{◌≡◌, ℕ, ◌≤◌, Bool, List, Ok, length, drop, ℤ, pos}
 use Rattle.m2v_bits.specs.Bits.{number, ahead}
 use Rattle.m2v_vlc.specs.declared.values.Coefficient.{Coefficient}
-use Rattle.m2v_vlc.specs.declared.values.Coefficient.TheVariants.{Pair}
+use Rattle.m2v_vlc.specs.declared.values.Coefficient.TheVariants.{End, Pair}
 use Rattle.m2v_vlc.specs.declared.values.CodeFault.TheVariants.{Truncated, NoCode}
 use Rattle.m2v_vlc.specs.Codes.{Row, code_at}
 use Rattle.m2v_vlc.specs.Coefficients.{IsCoefficient}
@@ -19,6 +19,12 @@ pub record Stands (t : List (Row Coefficient)) (nine : ℕ) (p : ShortPair) : Ty
   pub reads : (bs : List Bool) → nine ≡ number (ahead 9 bs) → p.2 ≤ length bs
       → (code_at Truncated NoCode t).read bs ≡ Ok (Pair p.1 p.0, drop p.2 bs)
 
--- what stands for no pair
+-- what nine bits begin with is the code of the end of the block, in the same way
+pub record Ends (t : List (Row Coefficient)) (nine : ℕ) (p : ShortPair) : Type 0 where
+  pub short : p.2 ≤ 9
+  pub reads : (bs : List Bool) → nine ≡ number (ahead 9 bs) → p.2 ≤ length bs
+      → (code_at Truncated NoCode t).read bs ≡ Ok (End, drop p.2 bs)
+
+-- what stands for neither
 abbrev pub nothing : ShortPair
 nothing = (pos 0, 64, 0)

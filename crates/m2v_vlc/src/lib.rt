@@ -39,7 +39,7 @@ pub use motion::{
 };
 pub use pattern::{bits_pattern, code_pattern, read_pattern, write_pattern};
 pub use rows::Code;
-pub use short::short_pair;
+pub use short::{short_first, short_pair};
 pub use size::{
     bits_dc_chroma, bits_dc_luma, code_dc_chroma, code_dc_luma, read_dc_chroma, read_dc_luma,
     write_dc_chroma, write_dc_luma,
