@@ -7,6 +7,8 @@ pub mod Passed
 pub mod Places
 pub mod Projections
 pub mod Rows
+pub mod RowSteps
+pub mod FourLanes
 pub mod Shifts
 pub mod Sums
 pub mod InPlace

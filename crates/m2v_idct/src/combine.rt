@@ -32,8 +32,7 @@ pub fn combine_terms(t: &Terms, n: u32) -> [i32; 8]
     ensures { result ≡ combine t.now.a1 t.now.a7 t.now.a5 t.now.a3 t.now.e2 t.now.e6 t.now.p t.now.m
         n }
 {
-    // rows drop 8 bits, and go one by one
-    join_parts(even_part(t), odd_part(t, n == 8), n)
+    join_parts(even_part(t), odd_part(t), n)
 }
 
 // What is added to and taken from the even part.
@@ -46,7 +45,7 @@ struct Odd {
 }
 
 #[inline(always)]
-fn odd_part(t: &Terms, alone: bool) -> Odd
+fn odd_part(t: &Terms) -> Odd
     requires a1 { Within 82000000 t.now.a1 }
     requires a7 { Within 82000000 t.now.a7 }
     requires a5 { Within 82000000 t.now.a5 }
@@ -64,8 +63,8 @@ fn odd_part(t: &Terms, alone: bool) -> Odd
     let r = difference(t.a7, t.a3);
     Odd {
         o0: sum(t.a1, t.a5),
-        o1: scale_by(wide_sum(p, r), alone),
-        o2: scale_by(wide_difference(p, r), alone),
+        o1: scale(wide_sum(p, r)),
+        o2: scale(wide_difference(p, r)),
         o3: sum(t.a7, t.a3),
     }
 }
@@ -189,44 +188,6 @@ fn shift_difference(x: i32, y: i32, n: u32) -> i32
     ensures { result ≡ int_shr (x -ℤ y) n }
 {
     (x - y) >> n
-}
-
-// 181 / 256 of t to the nearest: in 64 bits where it stands alone, else in 32, of which four fit a lane.
-#[inline(always)]
-fn scale_by(t: i32, alone: bool) -> i32
-    requires { Within 328000000 t }
-    ensures value { result ≡ scaled t }
-    ensures within { Within 235000000 result }
-{
-    if alone { scale_alone(t) } else { scale(t) }
-}
-
-#[inline(always)]
-#[tactic(auto, unfolding(crate::specs::Inverse::scaled))]
-fn scale_alone(t: i32) -> i32
-    requires { Within 328000000 t }
-    ensures value { result ≡ scaled t }
-    ensures within { Within 235000000 result }
-{
-    narrow(wide(t))
-}
-
-#[inline(always)]
-fn wide(t: i32) -> i64
-    requires { Within 328000000 t }
-    ensures value { result ≡ pos 181 *ℤ t +ℤ pos 128 }
-    ensures within { Within 60000000000 result }
-{
-    181 * i64::from(t) + 128
-}
-
-#[inline(always)]
-fn narrow(sum: i64) -> i32
-    requires { Within 60000000000 sum }
-    ensures value { result ≡ int_shr sum 8 }
-    ensures within { Within 235000000 result }
-{
-    (sum >> 8) as i32
 }
 
 // 181 / 256 of t to the nearest, in two parts: 181 times t does not fit 32 bits.

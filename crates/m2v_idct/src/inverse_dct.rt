@@ -6,7 +6,8 @@ ghost use Rattle.m2v_idct.specs.Ranges.{IsCoefficient, IsSample, Within};
 
 use crate::block::{column_at, put_row, row_at};
 use crate::combine::combine_terms;
-use crate::terms::{column_terms, row_terms};
+use crate::row_lanes::full_row;
+use crate::terms::column_terms;
 
 /// The 64 samples or differences of samples, each clipped to -256 to 255, of a block of coefficients,
 /// each from -2048 to 2047, by Annex A of ISO/IEC 13818-2 in the whole numbers of the reference decoder
@@ -138,7 +139,7 @@ fn transform_row(block: &mut [i32; 64], y: usize)
     if is_zero(&coefficients) {
         return;
     }
-    put_row(block, y, &row_results(&coefficients));
+    put_row(block, y, &full_row(&coefficients));
 }
 
 #[inline(always)]
@@ -178,32 +179,6 @@ fn put_clipped(out: &mut [i32; 64], x: usize, results: &[i32; 8])
 }
 
 #[inline(always)]
-fn row_results(b: &[i32; 8]) -> [i32; 8]
-    requires { All (Within 2048) b.now }
-    ensures { result ≡ row (nth b.now) }
-{
-    if b[1] != 0 {
-        // most rows: neither of the two below
-        return full_row(b);
-    }
-    if is_flat(b) {
-        [eight_times(b[0]); 8]
-    } else if is_last(b) {
-        [2, -6, 9, -11, 11, -9, 6, -2]
-    } else {
-        full_row(b)
-    }
-}
-
-#[inline(always)]
-fn full_row(b: &[i32; 8]) -> [i32; 8]
-    requires { All (Within 2048) b.now }
-    ensures { result ≡ row (nth b.now) }
-{
-    combine_terms(&row_terms(b), 8)
-}
-
-#[inline(always)]
 fn column_results(c: &[i32; 8]) -> [i32; 8]
     requires { All (Within 160000) c.now }
     ensures { result ≡ column (nth c.now) }
@@ -221,36 +196,4 @@ fn is_zero(b: &[i32; 8]) -> bool
         bits |= b[k].unsigned_abs();
     }
     bits == 0
-}
-
-// Only the first of a row's coefficients may be other than 0.
-#[inline(always)]
-fn is_flat(b: &[i32; 8]) -> bool
-    ensures { IsTrue result → (k : ℕ) → 1 ≤ k → k < 8 → nth b.now k ≡ pos 0 }
-{
-    b[1] == 0 && b[2] == 0 && b[3] == 0 && b[4] == 0 && b[5] == 0 && b[6] == 0 && b[7] == 0
-}
-
-// A row of zeros but for a 1 at its end: what mismatch control leaves in the last line of every other block.
-#[inline(always)]
-fn is_last(b: &[i32; 8]) -> bool
-    ensures zeros { IsTrue result → (k : ℕ) → k < 7 → nth b.now k ≡ pos 0 }
-    ensures one { IsTrue result → nth b.now 7 ≡ pos 1 }
-{
-    b[0] == 0
-        && b[1] == 0
-        && b[2] == 0
-        && b[3] == 0
-        && b[4] == 0
-        && b[5] == 0
-        && b[6] == 0
-        && b[7] == 1
-}
-
-#[inline(always)]
-fn eight_times(z: i32) -> i32
-    requires { Within 2048 z }
-    ensures { result ≡ pos 8 *ℤ z }
-{
-    8 * z
 }

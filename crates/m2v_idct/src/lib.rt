@@ -6,7 +6,9 @@ mod block;
 mod combine;
 mod forward_dct;
 mod inverse_dct;
+mod lanes;
 mod products;
+mod row_lanes;
 mod terms;
 
 pub use forward_dct::{forward, forward_dc, forward_in_place};

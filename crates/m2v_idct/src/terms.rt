@@ -18,31 +18,6 @@ const W6: i32 = 1108;
 
 const W7: i32 = 565;
 
-// The terms of a row of coefficients.
-#[inline(always)]
-pub fn row_terms(b: &[i32; 8]) -> Terms
-    requires { All (Within 2048) b.now }
-    ensures a1 { result.a1 ≡ w1 *ℤ nth b.now 1 +ℤ w7 *ℤ nth b.now 7 }
-    ensures a7 { result.a7 ≡ w7 *ℤ nth b.now 1 -ℤ w1 *ℤ nth b.now 7 }
-    ensures a5 { result.a5 ≡ w3 *ℤ nth b.now 3 +ℤ w5 *ℤ nth b.now 5 }
-    ensures a3 { result.a3 ≡ w3 *ℤ nth b.now 5 -ℤ w5 *ℤ nth b.now 3 }
-    ensures e2 { result.e2 ≡ w2 *ℤ nth b.now 2 +ℤ w6 *ℤ nth b.now 6 }
-    ensures e6 { result.e6 ≡ w6 *ℤ nth b.now 2 -ℤ w2 *ℤ nth b.now 6 }
-    ensures p { result.p ≡ pos 2048 *ℤ (nth b.now 0 +ℤ nth b.now 4) +ℤ pos 128 }
-    ensures m { result.m ≡ pos 2048 *ℤ (nth b.now 0 -ℤ nth b.now 4) +ℤ pos 128 }
-{
-    Terms {
-        a1: one_plus(b[1], b[7]),
-        a7: one_minus(b[1], b[7]),
-        a5: three_plus(b[3], b[5]),
-        a3: three_minus(b[5], b[3]),
-        e2: two_plus(b[2], b[6]),
-        e6: two_minus(b[2], b[6]),
-        p: row_sum(b[0], b[4]),
-        m: row_difference(b[0], b[4]),
-    }
-}
-
 // The terms of a column of what the rows leave.
 #[inline(always)]
 pub fn column_terms(c: &[i32; 8]) -> Terms
@@ -143,24 +118,6 @@ fn eighth_of(t: i32) -> i32
     ensures within { Within 82000000 result }
 {
     (t + 4) >> 3
-}
-
-#[inline(always)]
-fn row_sum(x: i32, y: i32) -> i32
-    requires x { Within 2048 x }
-    requires y { Within 2048 y }
-    ensures { result ≡ pos 2048 *ℤ (x +ℤ y) +ℤ pos 128 }
-{
-    2048 * (x + y) + 128
-}
-
-#[inline(always)]
-fn row_difference(x: i32, y: i32) -> i32
-    requires x { Within 2048 x }
-    requires y { Within 2048 y }
-    ensures { result ≡ pos 2048 *ℤ (x -ℤ y) +ℤ pos 128 }
-{
-    2048 * (x - y) + 128
 }
 
 #[inline(always)]

@@ -19,7 +19,7 @@ returns-clause-o1 c =
     let p = simp to_z-of_z at c.difference-p.ensures.value in
     let r = simp to_z-of_z at c.difference-r.ensures.value in
     let w = simp to_z-of_z at c.wide_sum.ensures.value in
-    passed 235000000 c.scale_by.result (omega arith) c.scale_by.ensures.within ∙ (simp to_z-of_z at c.scale_by.ensures.value)
+    passed 235000000 c.scale.result (omega arith) c.scale.ensures.within ∙ (simp to_z-of_z at c.scale.ensures.value)
     ∙ ap scaled (w ∙ (λ i. p i +ℤ r i))
 
 pub returns-clause-o2 : goal.returns-clause-o2
@@ -35,5 +35,5 @@ returns-clause-o2 c =
     let p = simp to_z-of_z at c.difference-p.ensures.value in
     let r = simp to_z-of_z at c.difference-r.ensures.value in
     let w = simp to_z-of_z at c.wide_difference.ensures.value in
-    passed 235000000 c.scale_by-2.result (omega arith) c.scale_by-2.ensures.within ∙ (simp to_z-of_z at c.scale_by-2.ensures.value)
+    passed 235000000 c.scale-2.result (omega arith) c.scale-2.ensures.within ∙ (simp to_z-of_z at c.scale-2.ensures.value)
     ∙ ap scaled (w ∙ (λ i. p i -ℤ r i))

@@ -6,8 +6,8 @@ use Rattle.m2v_idct.proofs.Rows.{row_listed}
 use Rattle.m2v_idct.proofs.InPlace.{all_listed, zero_row}
 use Rattle.m2v_idct.proofs.inverse_dct.transform_row.Goals as goal
 
-pub row_results-requires : goal.row_results-requires
-row_results-requires c = all_listed (Within 2048) (at c.args.block.now c.args.y) c.row_at-coefficients.result c.row_at-coefficients.ensures c.requires.within
+pub full_row-requires : goal.full_row-requires
+full_row-requires c = all_listed (Within 2048) (at c.args.block.now c.args.y) c.row_at-coefficients.result c.row_at-coefficients.ensures c.requires.within
 
 pub returns-then-is_zero-clause-row : goal.returns-then-is_zero-clause-row
 returns-then-is_zero-clause-row c = zero_row c.args.block.now c.args.y c.row_at-coefficients.result c.row_at-coefficients.ensures (c.if-is_zero.ensures refl)
@@ -16,4 +16,4 @@ pub returns-clause-row : goal.returns-clause-row
 unfolding after_rows
 returns-clause-row c k lk =
     c.put_row.ensures.row k lk
-    ∙ ap (λ zs. get_or zs k (pos 0)) (c.row_results.ensures ∙ row_listed (at c.args.block.now c.args.y) c.row_at-coefficients.result c.row_at-coefficients.ensures)
+    ∙ ap (λ zs. get_or zs k (pos 0)) (c.full_row.ensures ∙ row_listed (at c.args.block.now c.args.y) c.row_at-coefficients.result c.row_at-coefficients.ensures)

@@ -1,0 +1,23 @@
+use Rattle.std.proofs.Common.{arith, refl, List, [], ◌∷◌, All, ℤ, pos, neg_ℤ, ◌+ℤ◌, ◌*ℤ◌}
+use Rattle.std.proofs.lemmas.Int.{ints}
+use Rattle.m2v_idct.specs.Ranges.{Within}
+use Rattle.m2v_idct.proofs.FourLanes.{asked, four_within, zipped, zipped_within, sum_bound}
+use Rattle.m2v_idct.proofs.lanes.rounding.Goals as goal
+
+abbrev constants : List ℤ
+constants = pos 128 ∷ pos 128 ∷ pos 128 ∷ pos 128 ∷ []
+
+small : All (Within 128) constants
+small = four_within 128 _ _ _ _ (omega (arith, ints), omega (arith, ints)) (omega (arith, ints), omega (arith, ints)) (omega (arith, ints), omega (arith, ints)) (omega (arith, ints), omega (arith, ints))
+
+pub overflow_add-result : goal.overflow_add-result
+overflow_add-result c = asked 16777216 128 17000000 (λ (a b : ℤ). a +ℤ b) (sum_bound 16777216 128 17000000 (omega arith)) (omega arith) (omega arith) (omega arith) c.args.x constants c.requires small
+
+pub returns : goal.returns
+returns c =
+    let e = zipped 16777216 128 17000000 (λ (a b : ℤ). a +ℤ b) (sum_bound 16777216 128 17000000 (omega arith)) (omega arith) (omega arith) (omega arith) c.args.x constants c.requires small in
+    rw e
+    (record {
+      value = refl;
+      within = zipped_within 16777216 128 17000000 (λ (a b : ℤ). a +ℤ b) (sum_bound 16777216 128 17000000 (omega arith)) (omega arith) (omega arith) (omega arith) c.args.x constants c.requires small;
+    })
