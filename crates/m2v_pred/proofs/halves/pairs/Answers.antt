@@ -1,4 +1,4 @@
-use Rattle.std.proofs.Common.{◌≡◌, ◌+◌, ◌-◌, ◌<◌, ◌∙◌, ap, ap₂, get_or, arith}
+use Rattle.std.proofs.Common.{◌+◌, ◌<◌, ◌∙◌, ap, ap₂, get_or, arith}
 use Rattle.std.proofs.lemmas.List.{get_or-take}
 use Rattle.m2v_plane.proofs.Places.{part_at}
 use Rattle.m2v_pred.proofs.halves.pairs.Goals as goal

@@ -1,4 +1,4 @@
-use Rattle.std.proofs.Common.{◌≡◌, ℕ, ◌+◌, ◌%◌, ◌<◌, sym, subst}
+use Rattle.std.proofs.Common.{ℕ, ◌+◌, ◌%◌, ◌<◌, sym, subst}
 use Rattle.m2v_pred.specs.declared.patch.Patch.{Patch}
 use Rattle.m2v_pred.specs.Patches.{IsPatch, PatchedFrom}
 use Rattle.m2v_pred.proofs.Lines.{all_placed}
