@@ -5,7 +5,7 @@ ghost use Rattle.m2v_plane.specs.Raw.{frame_bytes, pad, crop};
 
 use crate::Memory;
 use crate::dims::Dims;
-use crate::moves::{self, line_start, stride_of};
+use crate::moves::{self, Square, line_start, stride_of};
 use crate::planes::{Lines, Plane};
 use crate::row::RowSamples;
 use crate::view::{RefView, Window};
@@ -262,24 +262,30 @@ impl Frame {
         match plane {
             Plane::Y => {
                 let (lines_in, wide) = (16 * total, 16 * columns);
-                moves::set_square(
-                    &mut self.luma,
-                    lines_in,
-                    wide,
-                    16,
-                    lines,
+                let square = Square {
+                    side: 16,
                     row,
                     column,
-                    samples,
-                );
+                };
+                moves::set_square(&mut self.luma, lines_in, wide, lines, square, samples);
             }
             Plane::Cb => {
                 let (lines_in, wide) = (8 * total, 8 * columns);
-                moves::set_square(&mut self.cb, lines_in, wide, 8, lines, row, column, samples);
+                let square = Square {
+                    side: 8,
+                    row,
+                    column,
+                };
+                moves::set_square(&mut self.cb, lines_in, wide, lines, square, samples);
             }
             Plane::Cr => {
                 let (lines_in, wide) = (8 * total, 8 * columns);
-                moves::set_square(&mut self.cr, lines_in, wide, 8, lines, row, column, samples);
+                let square = Square {
+                    side: 8,
+                    row,
+                    column,
+                };
+                moves::set_square(&mut self.cr, lines_in, wide, lines, square, samples);
             }
         }
     }

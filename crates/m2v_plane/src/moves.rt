@@ -148,28 +148,38 @@ fn copy_side(out: &mut [u8], line: &[u8])
     }
 }
 
+/// Where a macroblock's square lies in a plane: so many lines of as many samples, in a macroblock row and column.
+#[derive(Clone, Copy)]
+pub struct Square {
+    /// Its side.
+    pub side: usize,
+    /// The macroblock row.
+    pub row: usize,
+    /// The macroblock in its row.
+    pub column: usize,
+}
+
 /// The square of one macroblock of the whole frame or of one field.
 #[inline(always)]
 pub fn set_square(
     plane: &mut [u8],
     total: usize,
     columns: usize,
-    side: usize,
     lines: Lines,
-    row: usize,
-    column: usize,
+    square: Square,
     samples: &[u8],
 )
     requires whole { length plane.old ≡ total * columns }
-    requires side { (side ≡ 16) ⊎ (side ≡ 8) }
-    requires row { row * side + side ≤ part_of lines total }
-    requires column { side * column + side ≤ columns }
-    requires samples { length samples.now ≡ side * side }
+    requires side { (square.side ≡ 16) ⊎ (square.side ≡ 8) }
+    requires row { square.row * square.side + square.side ≤ part_of lines total }
+    requires column { square.side * square.column + square.side ≤ columns }
+    requires samples { length samples.now ≡ square.side * square.side }
     requires total { total ≤ 2 ^ 12 }
     requires columns { columns ≤ 2 ^ 12 }
-    ensures value { plane.new ≡ plane_with_square total columns side lines row column
-        (square_of side samples.now) plane.old }
+    ensures value { plane.new ≡ plane_with_square total columns square.side lines square.row
+        square.column (square_of square.side samples.now) plane.old }
 {
+    let Square { side, row, column } = square;
     for line in 0..side {
         let at = line_start(lines, row * side + line, total, columns) + side * column;
         let from = side * line;

@@ -5,7 +5,7 @@ ghost use Rattle.m2v_plane.specs.declared.planes.Lines.TheVariants.{Whole};
 
 use crate::Memory;
 use crate::dims::Dims;
-use crate::moves::{self, put_part};
+use crate::moves::{self, Square, put_part};
 use crate::planes::{Lines, Plane};
 use std::alloc::Global;
 use std::marker::Model;
@@ -206,15 +206,30 @@ impl RowSamples {
         match plane {
             Plane::Y => {
                 let wide = 16 * columns;
-                moves::set_square(luma, 16, wide, 16, lines, 0, column, samples);
+                let square = Square {
+                    side: 16,
+                    row: 0,
+                    column,
+                };
+                moves::set_square(luma, 16, wide, lines, square, samples);
             }
             Plane::Cb => {
                 let wide = 8 * columns;
-                moves::set_square(cb, 8, wide, 8, lines, 0, column, samples);
+                let square = Square {
+                    side: 8,
+                    row: 0,
+                    column,
+                };
+                moves::set_square(cb, 8, wide, lines, square, samples);
             }
             Plane::Cr => {
                 let wide = 8 * columns;
-                moves::set_square(cr, 8, wide, 8, lines, 0, column, samples);
+                let square = Square {
+                    side: 8,
+                    row: 0,
+                    column,
+                };
+                moves::set_square(cr, 8, wide, lines, square, samples);
             }
         }
     }

@@ -9,5 +9,5 @@ abbrev pub invariant-loop-line : goal.invariant-loop-line
 invariant-loop-line l =
     ((r c : ℕ) → r < l.fn.total → c < l.fn.columns
     → get_or l.plane (r * l.fn.columns + c) 0
-    ≡ mixed l.fn.columns l.fn.side l.fn.lines l.fn.row l.line l.fn.plane
-    (square_line l.fn.columns l.fn.side l.fn.column l.fn.lines l.fn.row l.fn.plane (square_of l.fn.side l.fn.samples)) r c)
+    ≡ mixed l.fn.columns l.fn.square.side l.fn.lines l.fn.square.row l.line l.fn.plane
+    (square_line l.fn.columns l.fn.square.side l.fn.square.column l.fn.lines l.fn.square.row l.fn.plane (square_of l.fn.square.side l.fn.samples)) r c)
