@@ -2,6 +2,7 @@
 //! matrices, the inverse quantisation with its mismatch control, and the encoder's quantiser.
 #![tactic(auto)]
 
+mod block_levels;
 mod forward;
 mod inverse;
 mod kind;
@@ -9,6 +10,7 @@ mod matrices;
 mod positions;
 mod scans;
 
+pub use block_levels::BlockLevels;
 pub use forward::{dc_level, quantise};
 pub use inverse::dequantise;
 pub use kind::{BlockKind, Levels};
