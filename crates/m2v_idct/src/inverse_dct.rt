@@ -193,7 +193,7 @@ fn is_zero(b: &[i32; 8]) -> bool
 {
     let mut bits = 0;
     for k in 0..8 {
-        bits |= b[k].unsigned_abs();
+        bits |= b[k].cast_unsigned();
     }
     bits == 0
 }
