@@ -1,5 +1,5 @@
 -- Bounds of a column's results.
-use Rattle.std.proofs.Common.{◌≡◌, ℕ, ◌<◌, All, List, [], ◌∷◌, get_or, arith, ℤ, pos, negsuc, ◌+ℤ◌, ◌-ℤ◌, ◌*ℤ◌, ◌≤ℤ◌}
+use Rattle.std.proofs.Common.{ℕ, ◌<◌, All, get_or, arith, ℤ, pos, negsuc, ◌+ℤ◌, ◌-ℤ◌, ◌*ℤ◌, ◌≤ℤ◌}
 use Rattle.std.specs.Int.{int_shr}
 use Rattle.std.proofs.lemmas.Int.{ints}
 use Rattle.std.proofs.lemmas.List.Elements.{All-from_recursion}
@@ -51,9 +51,19 @@ combined a1 a7 a5 a3 e2 e6 p m h1 h7 h5 h3 g2 g6 hp hm =
     let hy = wide_scaled ((a1 -ℤ a5) -ℤ (a7 -ℤ a3)) (omega (arith, ints, h1, h5, h7, h3), omega (arith, ints, h1, h5, h7, h3)) in
     let ho = pair_within a1 a5 h1 h5 in
     let hl = pair_within a7 a3 h7 h3 in
-    All-from_recursion (Within 30000) (combine a1 a7 a5 a3 e2 e6 p m 14)
-    (plus_plus p e2 (a1 +ℤ a5) hp g2 ho, (plus_plus m e6 x hm g6 hx, (minus_plus m e6 y hm g6 hy, (minus_plus p e2 (a7 +ℤ a3) hp g2 hl,
-    (minus_minus p e2 (a7 +ℤ a3) hp g2 hl, (minus_minus m e6 y hm g6 hy, (plus_minus m e6 x hm g6 hx, (plus_minus p e2 (a1 +ℤ a5) hp g2 ho, tt))))))))
+    All-from_recursion (Within 30000) (combine a1 a7 a5 a3 e2 e6 p m 14) (
+      plus_plus p e2 (a1 +ℤ a5) hp g2 ho,
+      (
+        plus_plus m e6 x hm g6 hx,
+        (
+          minus_plus m e6 y hm g6 hy,
+          (
+            minus_plus p e2 (a7 +ℤ a3) hp g2 hl,
+            (minus_minus p e2 (a7 +ℤ a3) hp g2 hl, (minus_minus m e6 y hm g6 hy, (plus_minus m e6 x hm g6 hx, (plus_minus p e2 (a1 +ℤ a5) hp g2 ho, tt)))),
+          ),
+        ),
+      ),
+    )
 
 an_eighth : (t : ℤ) → Within 650000000 t → Within 82000000 (eighth t)
 unfolding eighth
