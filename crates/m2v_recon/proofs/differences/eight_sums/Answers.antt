@@ -1,4 +1,4 @@
-use Rattle.std.proofs.Common.{◌≡◌, ◌≢◌, ℕ, ◌+◌, ◌<◌, ◌∙◌, length, set, arith, ap, w32, get_or-set_other, get_or-set_same, below_more, ◌+ℤ◌, pos}
+use Rattle.std.proofs.Common.{◌≡◌, ◌≢◌, ◌+◌, ◌<◌, ◌∙◌, length, set, arith, ap, w32, get_or-set_other, get_or-set_same, below_more, ◌+ℤ◌, pos}
 use Rattle.std.proofs.lemmas.Int.{to_z-of_z}
 use Rattle.std.proofs.Math.ListN.{length-set}
 use mir.Val.{SFits}
