@@ -41,6 +41,7 @@ fn base(intra: bool, sample: u8) -> u8
     if intra { 0 } else { sample }
 }
 
+/// A sample and its difference.
 #[inline(always)]
 fn clamped_sum(sample: u8, difference: i32) -> u8
     requires { Within 30000 difference }
