@@ -4,8 +4,6 @@ use Rattle.std.proofs.lemmas.List.{get_or-replicate}
 use Rattle.std.proofs.lemmas.List.Elements.{All-from_get_or}
 use Rattle.std.specs.Int.Bits.{bit_or}
 use Rattle.std.proofs.lemmas.Nat.{le_or_l, le_or_r}
-use Rattle.std.specs.Prelude.{unsigned_abs}
-use Rattle.std.proofs.Common.{negsuc}
 use Rattle.m2v_idct.specs.Block.{at}
 use Rattle.m2v_idct.specs.Inverse.{after_rows, row}
 use Rattle.m2v_idct.proofs.Rows.{row_flat, row_listed}
@@ -53,7 +51,3 @@ zero_row b y xs e none k lt =
 -- no bit is set in a number joined with another
 pub joined_zero : (a b : ℕ) → bit_or a b ≡ 0 → (a ≡ 0) × (b ≡ 0)
 joined_zero a b e = (omega (arith, e, le_or_l a b), omega (arith, e, le_or_r a b))
-
-pub size_zero : (z : ℤ) → unsigned_abs z ≡ 0 → z ≡ pos 0
-size_zero (pos n) e = ap pos e
-size_zero (negsuc n) e = absurd (omega arith)

@@ -1,5 +1,6 @@
 pub mod Blocks
 pub mod Bounds
+pub mod Columns
 pub mod Factors
 pub mod ForwardSums
 pub mod Parts

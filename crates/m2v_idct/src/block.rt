@@ -50,3 +50,15 @@ pub fn put_row(rows: &mut [i32; 64], y: usize, results: &[i32; 8])
         rows[8 * y + k] = results[k];
     }
 }
+
+// Writes column x.
+#[inline(always)]
+pub fn put_column(block: &mut [i32; 64], x: usize, results: &[i32; 8])
+    requires { x < 8 }
+    ensures column { (k : ℕ) → k < 8 → nth block.new (8 * k + x) ≡ nth results.now k }
+    ensures rest { (i : ℕ) → ((k : ℕ) → k < 8 → i ≢ 8 * k + x) → nth block.new i ≡ nth block.old i }
+{
+    for k in 0..8 {
+        block[8 * k + x] = results[k];
+    }
+}

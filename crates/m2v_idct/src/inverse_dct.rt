@@ -1,10 +1,10 @@
 ghost use Rattle.std.specs.Int.{int_shr};
-ghost use Rattle.std.specs.Prelude.{◌+ℤ◌, ◌≤ℤ◌, ◌⊎◌, replicate, ◌≡◌, ◌<◌, ◌≤◌, ◌+◌, ◌*◌, ℕ, ◌≢◌, All, IsTrue, ◌∷◌, [], pos, ◌*ℤ◌};
+ghost use Rattle.std.specs.Prelude.{◌+ℤ◌, ◌≤ℤ◌, ◌⊎◌, map, replicate, ◌≡◌, ◌<◌, ◌≤◌, ◌+◌, ◌*◌, ℕ, ◌≢◌, All, IsTrue, ◌∷◌, [], pos, ◌*ℤ◌};
 ghost use Rattle.m2v_idct.specs.Block.{at, nth};
 ghost use Rattle.m2v_idct.specs.Inverse.{after_rows, clip, column, inverse_at, inverse_of, row};
 ghost use Rattle.m2v_idct.specs.Ranges.{IsCoefficient, IsSample, Within};
 
-use crate::block::{column_at, put_row, row_at};
+use crate::block::{column_at, put_column, put_row, row_at};
 use crate::combine::combine_terms;
 use crate::row_lanes::full_row;
 use crate::terms::column_terms;
@@ -28,13 +28,33 @@ pub fn inverse_in_place(block: &mut [i32; 64])
     ensures value { block.new ≡ inverse_of block.old }
     ensures samples { All IsSample block.new }
 {
+    inverse_unclipped(block);
+    clip_all(block);
+}
+
+/// The same, for a caller that clamps the sum with a sample: not yet clipped to -256 to 255.
+pub fn inverse_unclipped(block: &mut [i32; 64])
+    requires { All IsCoefficient block.old }
+    ensures value { map clip block.new ≡ inverse_of block.old }
+    ensures within { All (Within 30000) block.new }
+{
     if has_mean(block) {
         let dc = block[0];
-        fill(block, clipped_mean(dc));
+        fill(block, mean(dc));
         return;
     }
     transform_rows(block);
     transform_columns(block);
+}
+
+// Clips each number to a sample.
+#[inline(always)]
+fn clip_all(block: &mut [i32; 64])
+    ensures { (k : ℕ) → k < 64 → nth block.new k ≡ clip (nth block.old k) }
+{
+    for k in 0..64 {
+        block[k] = block[k].clamp(-256, 255);
+    }
 }
 
 // All 64 results are one number: only the mean stands, and perhaps the 1 of mismatch control, which is too small to
@@ -82,6 +102,7 @@ fn mean(c: i32) -> i32
     ensures value { result ≡ int_shr (c +ℤ pos 4) 3 }
     ensures low { (pos 8 *ℤ result) ≤ℤ (c +ℤ pos 4) }
     ensures high { (c +ℤ pos 4) ≤ℤ (pos 8 *ℤ result +ℤ pos 7) }
+    ensures within { Within 30000 result }
 {
     (c + 4) >> 3
 }
@@ -100,19 +121,10 @@ fn is_far(c: i32, mean: i32) -> bool
 }
 
 #[inline(always)]
-fn clipped_mean(c: i32) -> i32
-    requires { Within 2048 c }
-    ensures value { result ≡ clip (int_shr (c +ℤ pos 4) 3) }
-    ensures sample { IsSample result }
-{
-    mean(c).clamp(-256, 255)
-}
-
-#[inline(always)]
 fn fill(block: &mut [i32; 64], value: i32)
-    requires { IsSample value }
+    requires { Within 30000 value }
     ensures value { block.new ≡ replicate 64 value }
-    ensures samples { All IsSample block.new }
+    ensures within { All (Within 30000) block.new }
 {
     *block = [value; 64];
 }
@@ -146,7 +158,7 @@ fn transform_row(block: &mut [i32; 64], y: usize)
 fn transform_columns(block: &mut [i32; 64])
     requires { All (Within 160000) block.old }
     ensures { (y x : ℕ) → y < 8 → x < 8
-        → nth block.new (8 * y + x) ≡ clip (nth (column (λ k. at block.old k x)) y) }
+        → nth block.new (8 * y + x) ≡ nth (column (λ k. at block.old k x)) y }
 {
     for x in 0..8 {
         transform_column(block, x);
@@ -159,23 +171,11 @@ fn transform_column(block: &mut [i32; 64], x: usize)
     requires x { x < 8 }
     requires within { (k : ℕ) → k < 8 → Within 160000 (at block.old k x) }
     ensures column { (k : ℕ) → k < 8 → nth block.new (8 * k + x)
-        ≡ clip (nth (column (λ j. at block.old j x)) k) }
+        ≡ nth (column (λ j. at block.old j x)) k }
     ensures rest { (i : ℕ) → ((k : ℕ) → k < 8 → i ≢ 8 * k + x) → nth block.new i ≡ nth block.old i }
 {
     let left = column_at(block, x);
-    put_clipped(block, x, &column_results(&left));
-}
-
-// Writes the results of a column, each clipped to a sample.
-#[inline(always)]
-fn put_clipped(out: &mut [i32; 64], x: usize, results: &[i32; 8])
-    requires { x < 8 }
-    ensures column { (k : ℕ) → k < 8 → nth out.new (8 * k + x) ≡ clip (nth results.now k) }
-    ensures rest { (i : ℕ) → ((k : ℕ) → k < 8 → i ≢ 8 * k + x) → nth out.new i ≡ nth out.old i }
-{
-    for k in 0..8 {
-        out[8 * k + x] = results[k].clamp(-256, 255);
-    }
+    put_column(block, x, &column_results(&left));
 }
 
 #[inline(always)]
@@ -193,7 +193,7 @@ fn is_zero(b: &[i32; 8]) -> bool
 {
     let mut bits = 0;
     for k in 0..8 {
-        bits |= b[k].unsigned_abs();
+        bits |= b[k].cast_unsigned();
     }
     bits == 0
 }

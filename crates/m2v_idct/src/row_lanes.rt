@@ -5,7 +5,10 @@ ghost use Rattle.m2v_idct.specs.Inverse.{row};
 ghost use Rattle.m2v_idct.specs.Ranges.{Within};
 ghost use Rattle.m2v_idct.specs.RowSums.{even_sums, middle_scaled, odd_sums};
 
-use crate::lanes::{Fours, in_fours, joined, less_of, middle_rounding, minus, pair, plus, rounding, shifted, times, two_pairs};
+use crate::lanes::{
+    Fours, in_fours, joined, less_of, middle_rounding, minus, pair, plus, rounding, shifted, times,
+    two_pairs,
+};
 use std::simd::prelude::*;
 
 // The four sums of the even coefficients.

@@ -1,11 +1,11 @@
 -- Luma blocks in 16 lines of 16.
-use Rattle.std.proofs.Common.{◌≡◌, ◌≢◌, ℕ, ◌^◌, ◌+ℤ◌, ◌+◌, ◌-◌, ◌*◌, ◌%◌, ◌<◌, ◌≤◌, Bool, true, false, ◌&&◌, cond, nat_lt, List, [], length, map, get_or, replicate, refl, ap, sym, ◌∙◌, arith, ℤ, pos, inl, inr}
+use Rattle.std.proofs.Common.{◌≡◌, ◌≢◌, ℕ, ◌^◌, ◌+ℤ◌, ◌+◌, ◌-◌, ◌*◌, ◌%◌, ◌<◌, ◌≤◌, Bool, true, false, ◌&&◌, cond, nat_lt, List, length, map, get_or, replicate, refl, ap, subst, sym, ◌∙◌, arith, ℤ, pos, inl, inr}
 use Rattle.std.proofs.lemmas.Bool.{cases_lt, cases_eq}
 use Rattle.std.proofs.lemmas.Bool.Decides.{nat_tests}
 use Rattle.std.proofs.lemmas.List.{get_or-map}
 use Rattle.m2v_pred.specs.m2v_plane.declared.planes.Plane.TheVariants.{Y}
 use Rattle.m2v_idct.specs.Block.{nth}
-use Rattle.m2v_idct.specs.Ranges.{IsSample}
+use Rattle.m2v_idct.specs.Ranges.{Within}
 use Rattle.m2v_idct.proofs.Passed.{fits}
 use Rattle.std.proofs.lemmas.Int.{ints, clamps, to_z-of_z}
 use mir.Syntax.{w32}
@@ -13,7 +13,7 @@ use mir.Val.{SFits, to_z, of_z}
 use Rattle.m2v_quant.specs.declared.kind.BlockKind.{BlockKind}
 use Rattle.m2v_recon.specs.Macro.{clamped, BlockPlace, block_of, is_alone, is_coded, kind_at, residual}
 use Rattle.m2v_quant.specs.Coefficients.{coefficients_of}
-use Rattle.m2v_idct.specs.Inverse.{inverse_of}
+use Rattle.m2v_idct.specs.Inverse.{clip, inverse_of}
 use Rattle.m2v_recon.specs.Steps.{luma_line, luma_place, difference_at, rebuilt, own_list}
 
 one_more : (k n : ℕ) → k ≢ n → nat_lt k n ≡ nat_lt k (n + 1)
@@ -41,19 +41,25 @@ plus_none x lt = omega (arith, ints, clamps)
 pub not_added : (coded : Bool) (levels : List ℤ) (kind : BlockKind) (i x : ℕ) → coded ≡ false → x < 2 ^ 8 → x ≡ rebuilt coded levels kind i x
 not_added coded levels kind i x off lt = sym (ap (λ b. rebuilt b levels kind i x) off ∙ plus_none x lt)
 
-pub added : (coded : Bool) (levels : List ℤ) (kind : BlockKind) (i x : ℕ) (values : List ℤ) → coded ≡ true → values ≡ inverse_of (coefficients_of levels kind)
-    → plus kind.intra x (nth values i) ≡ rebuilt coded levels kind i x
-added coded levels kind i x values on are =
-    ap (λ zs. plus kind.intra x (nth zs i)) are ∙ sym (ap (λ b. rebuilt b levels kind i x) on)
+-- what is clamped needs no clip before
+pub clip_kept : (x : ℕ) (z : ℤ) → x < 2 ^ 8 → plus false x z ≡ plus false x (clip z)
+clip_kept x z small = omega (arith, ints, clamps)
+
+pub added : (coded : Bool) (levels : List ℤ) (kind : BlockKind) (i x : ℕ) (values : List ℤ) → coded ≡ true
+    → map clip values ≡ inverse_of (coefficients_of levels kind) → i < length values
+    → plus kind.intra x (clip (nth values i)) ≡ rebuilt coded levels kind i x
+added coded levels kind i x values on are inside =
+    ap (λ z. plus kind.intra x z) (sym (get_or-map clip values i (pos 0) (pos 0) inside) ∙ ap (λ zs. nth zs i) are)
+    ∙ sym (ap (λ b. rebuilt b levels kind i x) on)
 
 -- one line more
-pub lines_more : (field : Bool) (block n at : ℕ) (intra : Bool) (old mid new : List ℕ) (values : List ℤ) → at ≡ luma_place field block n
-    → ((k j : ℕ) → k < n → j < 8 → spot mid (luma_place field block k + j) ≡ plus intra (spot old (luma_place field block k + j)) (nth values (8 * k + j)))
+pub lines_more : (field : Bool) (block n at : ℕ) (intra : Bool) (old mid new : List ℕ) (d : ℕ → ℤ) → at ≡ luma_place field block n
+    → ((k j : ℕ) → k < n → j < 8 → spot mid (luma_place field block k + j) ≡ plus intra (spot old (luma_place field block k + j)) (d (8 * k + j)))
     → ((i : ℕ) → ((k j : ℕ) → k < n → j < 8 → i ≢ luma_place field block k + j) → spot mid i ≡ spot old i)
-    → ((j : ℕ) → j < 8 → spot new (at + j) ≡ plus intra (spot mid (at + j)) (nth values (8 * n + j)))
+    → ((j : ℕ) → j < 8 → spot new (at + j) ≡ plus intra (spot mid (at + j)) (d (8 * n + j)))
     → ((i : ℕ) → i < at → spot new i ≡ spot mid i)
-    → (k j : ℕ) → k < n + 1 → j < 8 → spot new (luma_place field block k + j) ≡ plus intra (spot old (luma_place field block k + j)) (nth values (8 * k + j))
-lines_more field block n at intra old mid new values place before rest within stay k j lt small =
+    → (k j : ℕ) → k < n + 1 → j < 8 → spot new (luma_place field block k + j) ≡ plus intra (spot old (luma_place field block k + j)) (d (8 * k + j))
+lines_more field block n at intra old mid new d place before rest within stay k j lt small =
     elim (cases_lt k n) [
       | inl less ↦
           let later = place_later field block k n less in
@@ -64,7 +70,23 @@ lines_more field block n at intra old mid new values place before rest within st
           let untouched : spot mid (at + j) ≡ spot old (at + j) =
           rest (at + j) (λ m i less low. let later = place_later field block m n less in λ same. absurd (omega (arith, later, same, place))) in
           ap (spot new) at_is ∙ within j small
-          ∙ (λ i. plus intra ((untouched ∙ ap (spot old) (sym at_is)) i) (nth values (8 * (sym here) i + j)))
+          ∙ (λ i. plus intra ((untouched ∙ ap (spot old) (sym at_is)) i) (d (8 * (sym here) i + j)))
+    ]
+
+-- eight samples more of a block whose lines stand one behind another
+pub eight_more : (n : ℕ) (intra : Bool) (old mid new : List ℕ) (d : ℕ → ℤ)
+    → ((i : ℕ) → i < 8 * n → spot mid i ≡ plus intra (spot old i) (d i))
+    → ((i : ℕ) → 8 * n ≤ i → spot mid i ≡ spot old i)
+    → ((j : ℕ) → j < 8 → spot new (8 * n + j) ≡ plus intra (spot mid (8 * n + j)) (d (8 * n + j)))
+    → ((i : ℕ) → i < 8 * n → spot new i ≡ spot mid i)
+    → (i : ℕ) → i < 8 * (n + 1) → spot new i ≡ plus intra (spot old i) (d i)
+eight_more n intra old mid new d done rest within before i lt =
+    elim (cases_lt i (8 * n)) [
+      | inl less ↦ before i less ∙ done i less
+      | inr more ↦
+          let at_is : 8 * n + (i - 8 * n) ≡ i = omega (arith, more) in
+          subst (λ k. spot new k ≡ plus intra (spot mid k) (d k)) at_is (within (i - 8 * n) (omega (arith, more, lt)))
+          ∙ ap (λ x. plus intra x (d i)) (rest i more)
     ]
 
 -- what is written nowhere stays
@@ -87,10 +109,10 @@ rest_more field block n at old mid new place before low high i other =
     ]
 
 -- a sample's difference fits its type
-pub sample_fits : (z : ℤ) → IsSample z → SFits w32 z
-sample_fits z is = fits 256 z (omega arith) (is.0, omega (arith, ints, is.1))
+pub sample_fits : (z : ℤ) → Within 30000 z → SFits w32 z
+sample_fits z is = fits 30000 z (omega arith) is
 
-pub sample_passed : (z : ℤ) → IsSample z → IsSample (to_z w32 (of_z w32 z))
+pub sample_passed : (z : ℤ) → Within 30000 z → Within 30000 (to_z w32 (of_z w32 z))
 sample_passed z is = rw (to_z-of_z w32 z (sample_fits z is)) is
 
 -- where a luma sample stands among its block's, and back

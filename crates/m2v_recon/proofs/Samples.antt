@@ -1,5 +1,5 @@
 -- The samples of a macroblock's planes.
-use Rattle.std.proofs.Common.{◌≡◌, ℕ, ◌+◌, ◌*◌, ◌<◌, ◌^◌, Bool, true, false, ◌&&◌, cond, zero, suc, List, [], length, get_or, take, drop, replicate, refl, ap, sym, ◌∙◌, arith, ℤ, pos, ◌+ℤ◌}
+use Rattle.std.proofs.Common.{◌≡◌, ℕ, ◌+◌, ◌*◌, ◌<◌, ◌^◌, Bool, true, false, ◌&&◌, cond, zero, suc, List, length, get_or, take, drop, refl, ap, sym, ◌∙◌, arith, ℤ, pos, ◌+ℤ◌}
 use Rattle.std.proofs.lemmas.List.{get_or-take, get_or-drop}
 use Rattle.m2v_pred.specs.m2v_plane.declared.planes.Plane.{Plane}
 use Rattle.m2v_pred.specs.m2v_plane.declared.planes.Plane.TheVariants.{Y, Cb, Cr}
@@ -13,7 +13,7 @@ use Rattle.m2v_pred.specs.Predicted.{block_by}
 use Rattle.m2v_pred.proofs.Blocks.{block-at}
 use Rattle.m2v_recon.specs.Macro.{block_of, is_alone, is_coded, kind_at, kind_of, residual, clamped, macro_sample, plane_with, with_macroblock}
 use Rattle.m2v_recon.specs.Steps.{difference_at, own_list, rebuilt}
-use Rattle.m2v_recon.proofs.Luma.{block_below, not_added, plus_none}
+use Rattle.m2v_recon.proofs.Luma.{block_below, plus_none}
 
 -- luma samples
 pub luma_is : (pred : List ℕ) (levels : List (List ℤ)) (pattern : ℕ) (luma chroma : BlockKind) (field : Bool) (samples : List ℕ) → length samples ≡ 256

@@ -1,9 +1,5 @@
 -- A macroblock's planes one by one.
-use Rattle.std.specs.Prelude.{ℕ, ◌+◌, ◌*◌, ◌/◌, ◌%◌, Bool, true, false, ◌&&◌, nat_eq, nat_lt, if◌then◌else◌, List, [], map, replicate, slice_index, slice_index_or, ℤ, pos, ◌+ℤ◌}
-use Rattle.m2v_pred.specs.m2v_plane.declared.planes.Plane.{Plane}
-use Rattle.m2v_pred.specs.m2v_plane.declared.planes.Plane.TheVariants.{Y, Cb, Cr}
-use Rattle.m2v_pred.specs.m2v_plane.Sizes.{side, columns_of}
-use Rattle.m2v_pred.specs.m2v_plane.Samples.{Samples, plane_by}
+use Rattle.std.specs.Prelude.{ℕ, ◌+◌, ◌*◌, ◌/◌, ◌%◌, Bool, true, false, ◌&&◌, if◌then◌else◌, List, [], map, replicate, slice_index_or, ℤ, pos, ◌+ℤ◌}
 use Rattle.m2v_quant.specs.declared.kind.BlockKind.{BlockKind}
 use Rattle.m2v_quant.specs.declared.kind.Levels.{Levels}
 use Rattle.m2v_quant.specs.Coefficients.{coefficients_of}

@@ -2,15 +2,16 @@
 ghost use Rattle.std.specs.Prelude.{ℕ, ◌≡◌, ◌≢◌, ◌+◌, ◌-◌, ◌*◌, ◌/◌, ◌%◌, ◌≤◌, ◌<◌, All, IsTrue, cond, map, slice_index, slice_index_or, length, ℤ, pos, ◌+ℤ◌};
 ghost use Rattle.m2v_quant.specs.Kinds.{IsKind, IsLevel};
 ghost use Rattle.m2v_quant.specs.Coefficients.{coefficients_of};
-ghost use Rattle.m2v_idct.specs.Inverse.{inverse_of};
+ghost use Rattle.m2v_idct.specs.Inverse.{clip, inverse_of};
 ghost use Rattle.m2v_idct.specs.Block.{nth};
-ghost use Rattle.m2v_idct.specs.Ranges.{IsSample};
+ghost use Rattle.m2v_idct.specs.Ranges.{Within};
 ghost use Rattle.m2v_pred.specs.m2v_plane.declared.planes.Plane.TheVariants.{Y};
 ghost use Rattle.m2v_recon.specs.Macro.{clamped, is_alone, is_coded, residual, block_of, kind_at};
 ghost use Rattle.m2v_recon.specs.Steps.{luma_line, luma_place, rebuilt};
 
-use m2v_idct::inverse_in_place;
+use m2v_idct::inverse_unclipped;
 use m2v_quant::{BlockKind, BlockLevels};
+use std::simd::prelude::*;
 
 /// Whether a block is coded: its bit `32 >> block` of the pattern is 1 (clause 6.3.17.4).
 #[inline(always)]
@@ -21,15 +22,15 @@ pub fn is_coded(pattern: u8, block: u32) -> bool
     (pattern >> (5 - block)) % 2 == 1
 }
 
-/// The differences of a coded block.
+/// The differences of a coded block, not yet clipped.
 fn differences<L: BlockLevels>(levels: &L, kind: &BlockKind, out: &mut [i32; 64])
     requires kind { IsKind kind.now }
     requires levels { All IsLevel (L.list levels.now) }
-    ensures value { out.new ≡ inverse_of (coefficients_of (L.list levels.now) kind.now) }
-    ensures samples { All IsSample out.new }
+    ensures value { map clip out.new ≡ inverse_of (coefficients_of (L.list levels.now) kind.now) }
+    ensures within { All (Within 30000) out.new }
 {
     levels.coefficients(kind, out);
-    inverse_in_place(out);
+    inverse_unclipped(out);
 }
 
 /// What a difference is added to: nothing in an intra block.
@@ -42,11 +43,20 @@ fn base(intra: bool, sample: u8) -> u8
 
 /// A sample and its difference.
 #[inline(always)]
-fn sum(sample: u8, difference: i32) -> u8
-    requires { IsSample difference }
+fn clamped_sum(sample: u8, difference: i32) -> u8
+    requires { Within 30000 difference }
     ensures value { result ≡ clamped (pos sample +ℤ difference) }
 {
     (i32::from(sample) + difference).clamp(0, 255) as u8
+}
+
+/// A sample and its difference, clipped: what is clamped needs no clip before.
+#[inline(always)]
+fn sum(sample: u8, difference: i32) -> u8
+    requires { Within 30000 difference }
+    ensures value { result ≡ clamped (pos sample +ℤ clip difference) }
+{
+    clamped_sum(sample, difference)
 }
 
 /// Where line k of a luma block begins in 16 lines of 16.
@@ -65,23 +75,63 @@ fn luma_place(dct_field: bool, block: usize, k: usize) -> usize
     16 * line + 8 * (block % 2)
 }
 
+/// A line of eight samples with what is added to them, or that alone in an intra block. In an array of its own, which
+/// never leaves the registers.
+#[inline(always)]
+fn eight_sums(samples: &[u8], from: usize, intra: bool, values: &[i32; 64], at: usize) -> [u8; 8]
+    requires from { from + 8 ≤ length samples.now }
+    requires at { at + 8 ≤ 64 }
+    requires values { All (Within 30000) values.now }
+    ensures { (j : ℕ) → j < 8
+        → slice_index result j
+        ≡ clamped (pos (cond intra 0 (slice_index samples.now (from + j)))
+        +ℤ clip (nth values.now (at + j))) }
+{
+    let mut line = [0; 8];
+    for j in 0..8 {
+        line[j] = sum(base(intra, samples[from + j]), values[at + j]);
+    }
+    line
+}
+
+/// Eight samples, put by one move.
+#[inline(always)]
+fn put_all(out: &mut [u8], line: &[u8; 8])
+    requires { length out.old ≡ 8 }
+    ensures value { out.new ≡ line.now }
+{
+    u8x8::from_array(*line).copy_to_slice(out);
+}
+
+/// The same in the place of eight others.
+#[inline(always)]
+fn put_eight(samples: &mut [u8], from: usize, line: &[u8; 8])
+    requires { from + 8 ≤ length samples.old }
+    ensures within { (j : ℕ) → j < 8
+        → slice_index samples.new (from + j) ≡ slice_index line.now j }
+    ensures before { (i : ℕ) → i < from → slice_index samples.new i ≡ slice_index samples.old i }
+    ensures behind { (i : ℕ) → from + 8 ≤ i → slice_index samples.new i
+        ≡ slice_index samples.old i }
+{
+    put_all(&mut samples[from..from + 8], line);
+}
+
 /// Adds a line of eight to samples, or puts it in their place in an intra block.
 #[inline(always)]
 fn add_eight(samples: &mut [u8], from: usize, intra: bool, values: &[i32; 64], at: usize)
     requires from { from + 8 ≤ length samples.old }
     requires at { at + 8 ≤ 64 }
-    requires values { All IsSample values.now }
+    requires values { All (Within 30000) values.now }
     ensures within { (j : ℕ) → j < 8
         → slice_index samples.new (from + j)
-        ≡ clamped (pos (cond intra 0 (slice_index samples.old (from + j))) +ℤ nth values.now
-        (at + j)) }
+        ≡ clamped (pos (cond intra 0 (slice_index samples.old (from + j)))
+        +ℤ clip (nth values.now (at + j))) }
     ensures before { (i : ℕ) → i < from → slice_index samples.new i ≡ slice_index samples.old i }
     ensures behind { (i : ℕ) → from + 8 ≤ i → slice_index samples.new i
         ≡ slice_index samples.old i }
 {
-    for j in 0..8 {
-        samples[from + j] = sum(base(intra, samples[from + j]), values[at + j]);
-    }
+    let line = eight_sums(samples, from, intra, values, at);
+    put_eight(samples, from, &line);
 }
 
 /// Adds the lines of a luma block to 16 lines of 16 samples, in frame or in field order.
@@ -89,11 +139,11 @@ fn add_eight(samples: &mut [u8], from: usize, intra: bool, values: &[i32; 64], a
 fn add_block(samples: &mut [u8], dct_field: bool, block: usize, intra: bool, values: &[i32; 64])
     requires samples { length samples.old ≡ 256 }
     requires block { block < 4 }
-    requires values { All IsSample values.now }
+    requires values { All (Within 30000) values.now }
     ensures lines { (k j : ℕ) → k < 8 → j < 8
         → slice_index samples.new (luma_place dct_field block k + j)
         ≡ clamped (pos (cond intra 0 (slice_index samples.old (luma_place dct_field block k + j)))
-        +ℤ nth values.now (8 * k + j)) }
+        +ℤ clip (nth values.now (8 * k + j))) }
     ensures rest { (i : ℕ) → ((k j : ℕ) → k < 8 → j < 8 → i ≢ luma_place dct_field block k + j)
         → slice_index samples.new i ≡ slice_index samples.old i }
 {
@@ -175,13 +225,13 @@ pub fn add_luma<L: BlockLevels>(
 #[inline(always)]
 fn add_all(samples: &mut [u8], intra: bool, values: &[i32; 64])
     requires samples { length samples.old ≡ 64 }
-    requires values { All IsSample values.now }
+    requires values { All (Within 30000) values.now }
     ensures { (i : ℕ) → i < 64
         → slice_index samples.new i
-        ≡ clamped (pos (cond intra 0 (slice_index samples.old i)) +ℤ nth values.now i) }
+        ≡ clamped (pos (cond intra 0 (slice_index samples.old i)) +ℤ clip (nth values.now i)) }
 {
-    for i in 0..64 {
-        samples[i] = sum(base(intra, samples[i]), values[i]);
+    for k in 0..8 {
+        add_eight(samples, 8 * k, intra, values, 8 * k);
     }
 }
 

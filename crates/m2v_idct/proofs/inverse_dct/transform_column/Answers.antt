@@ -1,6 +1,5 @@
 use Rattle.std.proofs.Common.{◌∙◌, ap, get_or, pos}
 use Rattle.m2v_idct.specs.Block.{at}
-use Rattle.m2v_idct.specs.Inverse.{clip}
 use Rattle.m2v_idct.specs.Ranges.{Within}
 use Rattle.m2v_idct.proofs.Rows.{column_listed}
 use Rattle.m2v_idct.proofs.InPlace.{all_listed}
@@ -11,5 +10,5 @@ column_results-requires c = all_listed (Within 160000) (λ j. at c.args.block.no
 
 pub returns-clause-column : goal.returns-clause-column
 returns-clause-column c k lk =
-    c.put_clipped.ensures.column k lk
-    ∙ ap (λ zs. clip (get_or zs k (pos 0))) (c.column_results.ensures ∙ column_listed (λ j. at c.args.block.now j c.args.x) c.column_at-left.result c.column_at-left.ensures)
+    c.put_column.ensures.column k lk
+    ∙ ap (λ zs. get_or zs k (pos 0)) (c.column_results.ensures ∙ column_listed (λ j. at c.args.block.now j c.args.x) c.column_at-left.result c.column_at-left.ensures)

@@ -1,6 +1,6 @@
 use Rattle.std.proofs.Common.{◌≡◌, ℕ, ◌<◌, ◌+◌, ◌*◌, ◌∙◌, arith, ap, get_or, below_more, subst, sym, pos}
 use Rattle.m2v_idct.specs.Block.{at}
-use Rattle.m2v_idct.specs.Inverse.{clip, column}
+use Rattle.m2v_idct.specs.Inverse.{column}
 use Rattle.m2v_idct.specs.Ranges.{Within}
 use Rattle.m2v_idct.proofs.Rows.{column_same}
 use Rattle.m2v_idct.proofs.inverse_dct.transform_columns.Goals as goal
@@ -18,10 +18,10 @@ loop-x-preserved c =
     let n = c.loop-x.x in
     record {
       done = λ y x ly lx.
-          below_more (λ j. (k : ℕ) → k < 8 → get_or new (8 * k + j) (pos 0) ≡ clip (get_or (column (λ i. at old i j)) k (pos 0))) n
+          below_more (λ j. (k : ℕ) → k < 8 → get_or new (8 * k + j) (pos 0) ≡ get_or (column (λ i. at old i j)) k (pos 0)) n
           (λ j l k lk. c.transform_column.ensures.rest (8 * k + j) (λ i li. omega arith) ∙ c.loop-x.invariant.done k j lk l)
           (λ k lk. c.transform_column.ensures.column k lk
-          ∙ ap (λ zs. clip (get_or zs k (pos 0))) (column_same (λ i. at mid i n) (λ i. at old i n) (λ i li. c.loop-x.invariant.rest i n li (omega arith) (omega arith))))
+          ∙ ap (λ zs. get_or zs k (pos 0)) (column_same (λ i. at mid i n) (λ i. at old i n) (λ i li. c.loop-x.invariant.rest i n li (omega arith) (omega arith))))
           x lx y ly;
       rest = λ y x ly l8 lx. c.transform_column.ensures.rest (8 * y + x) (λ i li. omega arith) ∙ c.loop-x.invariant.rest y x ly (omega arith) lx;
     }

@@ -1,4 +1,4 @@
-use Rattle.std.proofs.Common.{arith, refl, List, [], ◌∷◌, All, ℤ, pos, neg_ℤ, ◌+ℤ◌, ◌*ℤ◌}
+use Rattle.std.proofs.Common.{arith, refl, List, [], ◌∷◌, All, ℤ, pos, ◌+ℤ◌}
 use Rattle.std.proofs.lemmas.Int.{ints}
 use Rattle.m2v_idct.specs.Ranges.{Within}
 use Rattle.m2v_idct.proofs.FourLanes.{asked, four_within, zipped, zipped_within, sum_bound}

@@ -1,7 +1,5 @@
-use Rattle.std.proofs.Common.{◌≡◌, ℕ, ◌<◌, ◌∙◌, All, List, ap, arith, get_or, length, sym, ℤ, pos}
-use Rattle.std.proofs.lemmas.List.Elements.{All-same}
-use Rattle.m2v_idct.specs.Ranges.{Within}
-use Rattle.m2v_idct.specs.RowSums.{both_ways, even_sums, middle_scaled, odd_sums}
+use Rattle.std.proofs.Common.{ℕ, ◌<◌, ◌∙◌, List, arith, get_or, ℤ, pos}
+use Rattle.m2v_idct.specs.RowSums.{both_ways}
 use Rattle.m2v_idct.proofs.RowSteps.{added, again, again_within, middle_odd, middle_odd_within, odd_told_within, row_by_sums, shifted_down, subtracted}
 use Rattle.m2v_idct.proofs.row_lanes.full_row.Goals as goal
 

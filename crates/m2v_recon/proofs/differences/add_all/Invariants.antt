@@ -1,10 +1,11 @@
-use Rattle.std.proofs.Common.{◌≡◌, ℕ, ◌<◌, ◌≤◌, length}
+use Rattle.std.proofs.Common.{◌≡◌, ℕ, ◌<◌, ◌≤◌, ◌*◌}
 use Rattle.m2v_idct.specs.Block.{nth}
+use Rattle.m2v_idct.specs.Inverse.{clip}
 use Rattle.m2v_recon.proofs.Luma.{spot, plus}
 use Rattle.m2v_recon.proofs.differences.add_all.Given as goal
 
-abbrev pub invariant-loop-i : goal.invariant-loop-i
-invariant-loop-i l = record {
-  done : (k : ℕ) → k < l.i → spot l.samples k ≡ plus l.intra (spot l.fn.samples k) (nth l.values k);
-  rest : (k : ℕ) → l.i ≤ k → spot l.samples k ≡ spot l.fn.samples k;
+abbrev pub invariant-loop-k : goal.invariant-loop-k
+invariant-loop-k l = record {
+  done : (i : ℕ) → i < 8 * l.k → spot l.samples i ≡ plus l.intra (spot l.fn.samples i) (clip (nth l.values i));
+  rest : (i : ℕ) → 8 * l.k ≤ i → spot l.samples i ≡ spot l.fn.samples i;
 }

@@ -1,4 +1,6 @@
 use Rattle.std.proofs.Common.{arith}
+use Rattle.m2v_idct.specs.Block.{nth}
+use Rattle.m2v_idct.specs.Inverse.{clip}
 use Rattle.m2v_recon.proofs.Luma.{lines_more, rest_more}
 use Rattle.m2v_recon.proofs.differences.add_block.Goals as goal
 
@@ -7,7 +9,7 @@ loop-k-preserved c =
     let w = c.add_eight.ensures in
     let n = c.loop-k.k in
     record {
-      lines = lines_more c.args.dct_field c.args.block n c.luma_place.result c.args.intra c.args.samples.now c.loop-k.samples c.add_eight.new.samples c.args.values.now
+      lines = lines_more c.args.dct_field c.args.block n c.luma_place.result c.args.intra c.args.samples.now c.loop-k.samples c.add_eight.new.samples (λ i. clip (nth c.args.values.now i))
           c.luma_place.ensures.value c.loop-k.invariant.lines c.loop-k.invariant.rest w.within w.before;
       rest = rest_more c.args.dct_field c.args.block n c.luma_place.result c.args.samples.now c.loop-k.samples c.add_eight.new.samples
           c.luma_place.ensures.value c.loop-k.invariant.rest w.before w.behind;

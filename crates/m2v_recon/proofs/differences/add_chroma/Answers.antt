@@ -1,4 +1,4 @@
-use Rattle.std.proofs.Common.{◌∙◌}
+use Rattle.std.proofs.Common.{arith, ◌∙◌}
 use Rattle.m2v_recon.proofs.Luma.{not_added, added, spot}
 use Rattle.m2v_recon.proofs.differences.add_chroma.Goals as goal
 
@@ -11,5 +11,6 @@ pub returns : goal.returns
 returns g c = record {
   value = λ i lt.
       c.add_all.ensures i lt
-      ∙ added c.args.coded (g.L.BlockLevels.list c.args.levels.now) c.args.kind.now i (spot c.args.samples.now i) c.differences.new.out c.if-not-coded.false c.differences.ensures.value;
+      ∙ added c.args.coded (g.L.BlockLevels.list c.args.levels.now) c.args.kind.now i (spot c.args.samples.now i) c.differences.new.out c.if-not-coded.false c.differences.ensures.value
+      (omega (arith, c.differences.array_long));
 }

@@ -1,4 +1,4 @@
-use Rattle.std.proofs.Common.{◌≡◌, ◌∙◌, map, arith}
+use Rattle.std.proofs.Common.{◌∙◌, map, arith}
 use Rattle.m2v_recon.specs.Macro.{is_coded, kind_at}
 use Rattle.m2v_recon.specs.Steps.{own_list, rebuilt}
 use Rattle.m2v_recon.proofs.Luma.{not_added, own_is, spot}
