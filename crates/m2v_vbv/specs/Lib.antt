@@ -1,2 +1,4 @@
 pub mod Annex
 pub mod Account
+pub mod Buffer
+pub mod BufferWorked
