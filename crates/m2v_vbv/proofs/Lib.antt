@@ -1,2 +1,5 @@
 pub mod Sums
 pub mod Waits
+pub mod Fine
+pub mod Constant
+pub mod Varying
