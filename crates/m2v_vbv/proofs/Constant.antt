@@ -1,11 +1,11 @@
 -- The account at constant rate, up to its first failure: Annex C's sums.
-use Rattle.std.proofs.Common.{◌≡◌, ℕ, ◌+◌, ◌-◌, ◌*◌, ◌/◌, ◌<◌, ◌≤◌, ◌⊎◌, ◌↔◌, inl, inr, min, Bool, true, false, ◌||◌, ltb, List, [], ◌∷◌, ◌++◌, length, refl, sym, ap, ◌∙◌, subst, arith, append_assoc}
+use Rattle.std.proofs.Common.{◌≡◌, ℕ, ◌+◌, ◌-◌, ◌*◌, ◌/◌, ◌<◌, ◌≤◌, ◌⊎◌, ◌↔◌, inl, inr, min, Bool, true, false, ◌||◌, ltb, List, [], ◌∷◌, ◌++◌, refl, sym, ap, ◌∙◌, subst, arith, append_assoc}
 use Rattle.std.proofs.lemmas.Bool.{ltb-false, ltb-true, le-ltb, lt-ltb, or_parts, or_from}
 use Rattle.std.proofs.lemmas.List.{append-nil}
 use Rattle.std.proofs.lemmas.List.Sums.{sum_by_push}
 use Rattle.m2v_vbv.specs.Annex.{Start, Removal, removed, time_of, arrived, held_endless, Held, Safe}
 use Rattle.m2v_vbv.specs.Account.{State, after, arriving, account_of}
-use Rattle.m2v_vbv.specs.Buffer.{Picture, Buffer, constant_start, size_of, have_of, is_over, is_under, delay_of, told, next, removal_of, removals, left, run, tells, fails}
+use Rattle.m2v_vbv.specs.Buffer.{Picture, Buffer, constant_start, size_of, have_of, is_over, is_under, told, next, removal_of, removals, left, run, tells, fails}
 use Rattle.m2v_vbv.specs.Deliveries.{NoneFails, as_buffer, IsSafeAt, IsUnsafeAt, SafeIn, FailsFirst, UnsafeFirst}
 use Rattle.m2v_vbv.proofs.Sums.{Exact, exact_none, exact_push, account_push, opening_is}
 use Rattle.m2v_vbv.proofs.Fine.{left_cons, wait_fine, full_fine}
@@ -219,7 +219,7 @@ pub first_is : (start : Start) (step rest : ℕ) (ps : List Picture) (p : Pictur
 first_is start step rest ps p = (
   λ f. (safe_to start step rest ps f.0, (fails_is start step rest ps p f.0).0 f.1),
   λ u.
-    let none = safe_from start step rest ps u.0 in (none, (fails_is start step rest ps p none).1 u.1),
+      let none = safe_from start step rest ps u.0 in (none, (fails_is start step rest ps p none).1 u.1),
 )
 
 plain : (start : Start) (ps : List Picture) → removed (removals ps) + 0 ≡ removed (removals ps)
@@ -250,7 +250,7 @@ pub delay_is : (start : Start) (step rest : ℕ) (ps : List Picture) (p : Pictur
     → fails (told (run (constant_start start step) ps rest) p rest) ≡ false
     → start.s ≤ removed (removals ps) + p.code_bits
     → (told (run (constant_start start step) ps rest) p rest).delay
-        ≡ arriving (account_of start (removals ps)) (removed (removals ps) + p.code_bits) / (8 * start.k)
+    ≡ arriving (account_of start (removals ps)) (removed (removals ps) + p.code_bits) / (8 * start.k)
 delay_is start step rest ps p none fine le =
     let e = account_is start step rest ps none in
     ap (λ b. (told b p rest).delay) e ∙ delay_at start step rest (removals ps) p (subst (λ b. fails (told b p rest) ≡ false) e fine) le

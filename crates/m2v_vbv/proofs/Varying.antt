@@ -1,9 +1,9 @@
 -- The account at variable rate: the process of C.3.2, and the kindest delivery.
-use Rattle.std.proofs.Common.{◌≡◌, ℕ, zero, suc, ◌+◌, ◌-◌, ◌*◌, ◌<◌, ◌≤◌, min, max, Bool, true, false, List, [], ◌∷◌, refl, sym, ap, ◌∙◌, subst, arith}
+use Rattle.std.proofs.Common.{◌≡◌, ℕ, zero, suc, ◌+◌, ◌-◌, ◌*◌, ◌<◌, ◌≤◌, min, max, Bool, true, false, List, [], ◌∷◌, refl, sym, ◌∙◌, arith}
 use Rattle.std.proofs.Math.Nat.{mul-suc}
 use Rattle.std.proofs.lemmas.Bool.{ltb-false, ltb-true, le-ltb, or_parts, or_from}
-use Rattle.m2v_vbv.specs.Buffer.{Inflow, Picture, Buffer, size_of, reach, have_of, is_over, is_under, wait_of, full_of, told, next, left, tells, fails}
-use Rattle.m2v_vbv.specs.Deliveries.{NoneFails, filled, held_next, FollowsProcess, Delivers, HasInTime, HoldsNoMore, amounts_of}
+use Rattle.m2v_vbv.specs.Buffer.{Inflow, Picture, Buffer, size_of, have_of, is_over, is_under, wait_of, told, next, left, tells}
+use Rattle.m2v_vbv.specs.Deliveries.{NoneFails, filled, FollowsProcess, Delivers, HasInTime, HoldsNoMore, amounts_of}
 use Rattle.m2v_vbv.proofs.Fine.{left_cons, wait_fine, full_fine}
 
 abbrev inflow : ℕ → ℕ → ℕ → Inflow
@@ -25,12 +25,12 @@ closed k room rest held (suc x) a b = rw (closed k room rest held x a b) (omega 
 
 fine_amounts : (h size bits more arriving : ℕ) → 1800 * bits ≤ min (min h size) (1800 * (bits + more))
     → min (min (min h size - 1800 * bits + arriving) size) (1800 * more)
-        ≡ min (min (min h size) (1800 * (bits + more)) - 1800 * bits + arriving) (min size (1800 * more))
+    ≡ min (min (min h size) (1800 * (bits + more)) - 1800 * bits + arriving) (min size (1800 * more))
 fine_amounts h size bits more arriving le = omega arith
 
 late_amounts : (h size bits more waited arriving : ℕ) → min (min h size) (1800 * (bits + more)) < 1800 * bits
     → min (min (min (min h size + waited) (max size (1800 * bits)) - 1800 * bits + arriving) size) (1800 * more)
-        ≡ min (min (min (min h size) (1800 * (bits + more)) + waited) (min (max size (1800 * bits)) (1800 * (bits + more))) - 1800 * bits + arriving) (min size (1800 * more))
+    ≡ min (min (min (min h size) (1800 * (bits + more)) + waited) (min (max size (1800 * bits)) (1800 * (bits + more))) - 1800 * bits + arriving) (min size (1800 * more))
 late_amounts h size bits more waited arriving lt = omega arith
 
 amounts_fine : (k size step n t h : ℕ) (p : Picture) (more : ℕ) → is_under (varying k size step n t h) p.bits (p.bits + more) ≡ false
@@ -93,9 +93,9 @@ holds_no_more k size step n t h most behind (p ∷ ps) (o ∷ os) le d =
     let b : Buffer = next (varying k size step n t h) p rest in (
       omega arith,
       λ fine.
-        let e = (or_parts _ _ fine).0 in
-        let is = after_fine k size step n t h p rest e in
-        holds_no_more k size step b.removals b.time b.held (o - 1800 * p.bits + k * p.units) behind ps os (omega (arith, is)) d.3,
+          let e = (or_parts _ _ fine).0 in
+          let is = after_fine k size step n t h p rest e in
+          holds_no_more k size step b.removals b.time b.held (o - 1800 * p.bits + k * p.units) behind ps os (omega (arith, is)) d.3,
     )
 
 pub all_in_time : (k size step n t h most behind : ℕ) (ps : List Picture) (os : List ℕ) → most ≤ h

@@ -190,7 +190,8 @@ impl Buffer {
         requires wait { wait < 2 ^ 54 }
         ensures value { let size = size_of self.now.inflow in
             let kept = if nat_lt size have then size else reach self.now in
-            result ≡ (if nat_lt have need then min (kept + self.now.inflow.k * wait) (max size need) else kept) }
+            let come = min (kept + self.now.inflow.k * wait) (max size need) in
+            result ≡ (if nat_lt have need then come else kept) }
         ensures most { result - need ≤ max self.now.held (2 ^ 52) }
     {
         let size = self.size();

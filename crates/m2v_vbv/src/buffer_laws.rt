@@ -1,8 +1,8 @@
 // What the account of a buffer means that goes on behind a failure.
-ghost use Rattle.std.specs.Prelude.{◌≡◌, ℕ, ◌+◌, ◌*◌, ◌/◌, ◌<◌, ◌≤◌, ◌↔◌, min, true, false, List};
+ghost use Rattle.std.specs.Prelude.{◌≡◌, ℕ, ◌+◌, ◌-◌, ◌*◌, ◌/◌, ◌<◌, ◌≤◌, ◌↔◌, min, true, false, List};
 ghost use Rattle.m2v_vbv.specs.Annex.{Start, removed, Held, Safe};
 ghost use Rattle.m2v_vbv.specs.Account.{arriving, account_of};
-ghost use Rattle.m2v_vbv.specs.Buffer.{Picture, Buffer, constant_start, variable_start, size_of, have_of, is_over, told, removal_of, removals, run, tells, fails};
+ghost use Rattle.m2v_vbv.specs.Buffer.{Picture, Buffer, constant_start, variable_start, size_of, have_of, is_over, is_under, wait_of, full_of, told, removal_of, removals, run, tells, fails};
 ghost use Rattle.m2v_vbv.specs.Deliveries.{NoneFails, as_buffer, SafeIn, FailsFirst, UnsafeFirst, FollowsProcess, Delivers, HasInTime, HoldsNoMore};
 ghost use Rattle.m2v_vbv.specs.BufferWorked.{constant_buffer, variable_buffer, kept, kept_told, late, late_told, waited_told, filled, filled_told, roomy, roomy_told, large, large_told};
 
@@ -16,6 +16,18 @@ pub fn law_buffer_worked()
     ensures filled { tells (constant_buffer 1) filled 0 ≡ filled_told }
     ensures roomy { tells variable_buffer roomy 0 ≡ roomy_told }
     ensures large { tells variable_buffer large 0 ≡ large_told }
+{}
+
+/// A decoder waits only for a picture that isn't whole, as long as it must: at the end of the wait it is whole, if the
+/// buffer wasn't over, and a step sooner it wouldn't have been.
+pub fn law_waits()
+    ensures none { (b : Buffer) (bits rest : ℕ) → is_under b bits rest ≡ false
+        → wait_of b bits rest ≡ 0 }
+    ensures whole { (b : Buffer) (bits rest : ℕ) → 1 ≤ b.inflow.k → 1 ≤ b.inflow.step
+        → is_over b rest ≡ false → 1800 * bits ≤ full_of b bits rest }
+    ensures fewest { (b : Buffer) (bits rest : ℕ) → 1 ≤ b.inflow.k → 1 ≤ b.inflow.step
+        → is_under b bits rest ≡ true
+        → have_of b rest + b.inflow.k * (wait_of b bits rest - b.inflow.step) < 1800 * bits }
 {}
 
 /// At constant rate, up to the first failure, the buffer is the account by Annex C's sums: what is held, what fails, and the
@@ -49,8 +61,8 @@ pub fn law_constant_rate()
         let b = constant_start start step in NoneFails (tells b ps rest)
         → fails (told (run b ps rest) p rest) ≡ false
         → start.s ≤ removed (removals ps) + p.code_bits
-        → (told (run b ps rest) p rest).delay
-        ≡ arriving (account_of start (removals ps)) (removed (removals ps) + p.code_bits) / (8 * start.k) }
+        → (told (run b ps rest) p rest).delay ≡ arriving (account_of start (removals ps))
+        (removed (removals ps) + p.code_bits) / (8 * start.k) }
 {}
 
 /// At variable rate a buffer never runs over, and what is held is what the process of C.3.2 holds, from a buffer that is

@@ -1,4 +1,4 @@
-use Rattle.std.proofs.Common.{◌≡◌, ℕ, ◌*◌, ◌≤◌, List, min, arith}
+use Rattle.std.proofs.Common.{◌*◌, arith}
 use Rattle.m2v_vbv.specs.Buffer.{variable_start, tells}
 use Rattle.m2v_vbv.specs.Deliveries.{amounts_of}
 use Rattle.m2v_vbv.proofs.Varying.{follows_process, holds_no_more, all_in_time, delivers, within_room, no_overflow}
