@@ -1,4 +1,5 @@
 ghost use Rattle.std.specs.Prelude.{◌≡◌, ℕ, ◌+◌, ◌-◌, ◌*◌, ◌/◌, ◌<◌, ◌≤◌, ◌^◌, min, max, nat_lt, if◌then◌else◌};
+ghost use Rattle.std.specs.Int.{div_ceil};
 ghost use Rattle.m2v_vbv.specs.Buffer.{constant_start, variable_start, size_of, reach, have_of, kept_of, wait_for, full_of, told, next};
 
 use crate::removed::Removed;
@@ -180,7 +181,14 @@ impl Buffer {
         ensures value { result ≡ wait_for self.now.inflow missing }
         ensures most { result < 2 ^ 53 + 2 ^ 20 }
     {
-        self.step * missing.div_ceil(self.k * self.step)
+        self.step * self.steps(missing)
+    }
+
+    /// How many steps of waiting bring so much.
+    fn steps(&self, missing: u64) -> u64
+        ensures value { result ≡ div_ceil missing (self.now.inflow.k * self.now.inflow.step) }
+    {
+        missing.div_ceil(self.k * self.step)
     }
 
     /// What is there when a picture is removed that asks for so much, where so much was held when it was due and the

@@ -1,8 +1,8 @@
 // What the account of a buffer means that goes on behind a failure.
-ghost use Rattle.std.specs.Prelude.{◌≡◌, ℕ, ◌+◌, ◌-◌, ◌*◌, ◌/◌, ◌<◌, ◌≤◌, ◌↔◌, min, true, false, List};
+ghost use Rattle.std.specs.Prelude.{◌≡◌, ℕ, ◌+◌, ◌-◌, ◌*◌, ◌/◌, ◌<◌, ◌≤◌, ◌↔◌, min, true, false, List, ◌++◌};
 ghost use Rattle.m2v_vbv.specs.Annex.{Start, removed, Held, Safe};
 ghost use Rattle.m2v_vbv.specs.Account.{arriving, account_of};
-ghost use Rattle.m2v_vbv.specs.Buffer.{Picture, Buffer, constant_start, variable_start, size_of, have_of, is_over, is_under, wait_of, full_of, told, removal_of, removals, run, tells, fails};
+ghost use Rattle.m2v_vbv.specs.Buffer.{Picture, Buffer, constant_start, variable_start, size_of, reach, have_of, is_over, is_under, wait_of, full_of, told, next, removal_of, removals, left, run, tells, fails};
 ghost use Rattle.m2v_vbv.specs.Deliveries.{NoneFails, as_buffer, SafeIn, FailsFirst, UnsafeFirst, FollowsProcess, Delivers, HasInTime, HoldsNoMore};
 ghost use Rattle.m2v_vbv.specs.BufferWorked.{constant_buffer, variable_buffer, kept, kept_told, late, late_told, waited_told, filled, filled_told, roomy, roomy_told, large, large_told};
 
@@ -28,6 +28,21 @@ pub fn law_waits()
     ensures fewest { (b : Buffer) (bits rest : ℕ) → 1 ≤ b.inflow.k → 1 ≤ b.inflow.step
         → is_under b bits rest ≡ true
         → have_of b rest + b.inflow.k * (wait_of b bits rest - b.inflow.step) < 1800 * bits }
+{}
+
+/// One removal after another: what is told of pictures, others behind them, is what is told of the first ones and then of
+/// the others. A removal is settled once as many bits are known as could be held: what is told then, and the buffer behind
+/// it, don't depend on how many follow.
+pub fn law_one_by_one()
+    ensures told { (b : Buffer) (ps : List Picture) (qs : List Picture) (behind : ℕ) →
+        let rest = left qs behind in tells b (ps ++ qs) behind
+        ≡ tells b ps rest ++ tells (run b ps rest) qs behind }
+    ensures run { (b : Buffer) (ps : List Picture) (qs : List Picture) (behind : ℕ)
+        → run b (ps ++ qs) behind ≡ run (run b ps (left qs behind)) qs behind }
+    ensures settled { (b : Buffer) (p : Picture) (rest : ℕ) (known : ℕ) → reach b ≤ 1800 * rest
+        → reach b ≤ 1800 * known → told b p rest ≡ told b p known }
+    ensures next { (b : Buffer) (p : Picture) (rest : ℕ) (known : ℕ) → reach b ≤ 1800 * rest
+        → reach b ≤ 1800 * known → next b p rest ≡ next b p known }
 {}
 
 /// At constant rate, up to the first failure, the buffer is the account by Annex C's sums: what is held, what fails, and the

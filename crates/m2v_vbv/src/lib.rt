@@ -10,7 +10,9 @@ mod removed;
 
 pub use account::Account;
 pub use buffer::Buffer;
-pub use buffer_laws::{law_buffer_worked, law_constant_rate, law_variable_rate, law_waits};
+pub use buffer_laws::{
+    law_buffer_worked, law_constant_rate, law_one_by_one, law_variable_rate, law_waits,
+};
 pub use fault::AccountFault;
 pub use laws::law_held;
 pub use removed::Removed;
