@@ -56,26 +56,6 @@ fn eight_from_means(
     plus(upper, lower)
 }
 
-/// The same of sixteen lines.
-#[inline(always)]
-fn sixteen_from_means(
-    block: &[u8],
-    window: &[u8],
-    from: usize,
-    behind: usize,
-    stride: usize,
-) -> u32x16
-    requires block { length block.now ≡ 256 }
-    requires within { from + behind + 15 * stride + 16 ≤ length window.now }
-    ensures len { length result ≡ 16 }
-    ensures sum { sum_l result ≡ sad block.now (means_at 16 window.now from behind stride) }
-    ensures most { sum_l result ≤ 65280 }
-{
-    let upper = eight_from_means(&block[0..128], window, from, behind, stride);
-    let lower = eight_from_means(&block[128..256], window, from + 8 * stride, behind, stride);
-    plus(upper, lower)
-}
-
 /// The sum of the absolute differences between a block of 8 or 16 lines of 16 samples, which stand one after another, and the
 /// means of as many lines of a window, the first of them at `place` and each `stride` behind the one before, and of the
 /// samples `behind` them. Call it with constants behind `place`.
@@ -93,11 +73,19 @@ pub fn sad_from_means(
     requires within { place + behind + (lines - 1) * stride + 16 ≤ length window.now }
     ensures value { result ≡ sad block.now (means_at lines window.now place behind stride) }
 {
-    if lines == 16 {
-        total(sixteen_from_means(block, window, place, behind, stride))
-    } else {
-        total(eight_from_means(block, window, place, behind, stride))
+    // each eight lines are summed up by themselves, so that the processor's own sum of differences is found in both
+    let upper = total(eight_from_means(&block[0..128], window, place, behind, stride));
+    if lines == 8 {
+        return upper;
     }
+    let lower = total(eight_from_means(
+        &block[128..256],
+        window,
+        place + 8 * stride,
+        behind,
+        stride,
+    ));
+    upper + lower
 }
 
 /// How far a line of a block lies from the means of four samples each of a window: two side by side, and the two below
@@ -153,20 +141,6 @@ fn eight_from_quarters(block: &[u8], window: &[u8], from: usize, stride: usize) 
     plus(upper, lower)
 }
 
-/// The same of sixteen lines.
-#[inline(always)]
-fn sixteen_from_quarters(block: &[u8], window: &[u8], from: usize, stride: usize) -> u32x16
-    requires block { length block.now ≡ 256 }
-    requires within { from + 16 * stride + 17 ≤ length window.now }
-    ensures len { length result ≡ 16 }
-    ensures sum { sum_l result ≡ sad block.now (quarters_at 16 window.now from stride) }
-    ensures most { sum_l result ≤ 65280 }
-{
-    let upper = eight_from_quarters(&block[0..128], window, from, stride);
-    let lower = eight_from_quarters(&block[128..256], window, from + 8 * stride, stride);
-    plus(upper, lower)
-}
-
 /// The sum of the absolute differences between a block of 8 or 16 lines of 16 samples, which stand one after another, and the
 /// means of four samples each of a window: those of lines, the first of them at `place` and each `stride` behind the one
 /// before, those to their right, and the two below them. Call it with a constant stride.
@@ -183,9 +157,11 @@ pub fn sad_from_quarters(
     requires within { place + lines * stride + 17 ≤ length window.now }
     ensures value { result ≡ sad block.now (quarters_at lines window.now place stride) }
 {
-    if lines == 16 {
-        total(sixteen_from_quarters(block, window, place, stride))
-    } else {
-        total(eight_from_quarters(block, window, place, stride))
+    // each eight lines are summed up by themselves, so that the processor's own sum of differences is found in both
+    let upper = total(eight_from_quarters(&block[0..128], window, place, stride));
+    if lines == 8 {
+        return upper;
     }
+    let lower = total(eight_from_quarters(&block[128..256], window, place + 8 * stride, stride));
+    upper + lower
 }
