@@ -26,7 +26,7 @@ lines_at-add (suc m) n w p s =
 length-line : (w : List ℕ) (p : ℕ) → p + 16 ≤ length w → length (take 16 (drop p w)) ≡ 16
 length-line w p fits = length-take-le 16 (drop p w) (omega (arith, length-drop p w))
 
-length-lines_at : (n : ℕ) (w : List ℕ) (p s : ℕ) → p + (n - 1) * s + 16 ≤ length w → length (lines_at n w p s) ≡ 16 * n
+pub length-lines_at : (n : ℕ) (w : List ℕ) (p s : ℕ) → p + (n - 1) * s + 16 ≤ length w → length (lines_at n w p s) ≡ 16 * n
 unfolding lines_at
 length-lines_at zero w p s fits = refl
 length-lines_at (suc zero) w p s fits =
@@ -71,7 +71,7 @@ lines_part k (suc m) n w p s le fits =
         let h : k + m ≤ n - 1 = omega arith in
         omega (arith, mul-le-mul_right s h)
 
-one_line : (w : List ℕ) (p s : ℕ) → lines_at 1 w p s ≡ take 16 (drop p w)
+pub one_line : (w : List ℕ) (p s : ℕ) → lines_at 1 w p s ≡ take 16 (drop p w)
 unfolding lines_at
 one_line w p s = append-nil (take 16 (drop p w))
 
@@ -80,7 +80,33 @@ pub line_part : (k n : ℕ) (w : List ℕ) (p s : ℕ) → k + 1 ≤ n → p + (
     → take 16 (drop (16 * k) (lines_at n w p s)) ≡ take 16 (drop (p + k * s) w)
 line_part k n w p s le fits = lines_part k 1 n w p s le fits ∙ one_line w (p + k * s) s
 
--- the sum over four lines
+-- the sum over four lines of 16
+pub four_parts : (xs ys : List ℕ) (a b c d : ℕ) → length xs ≡ 64 → length ys ≡ 64
+    → a ≡ sad (take 16 (drop 0 xs)) (take 16 (drop 0 ys)) → b ≡ sad (take 16 (drop 16 xs)) (take 16 (drop 16 ys))
+    → c ≡ sad (take 16 (drop 32 xs)) (take 16 (drop 32 ys)) → d ≡ sad (take 16 (drop 48 xs)) (take 16 (drop 48 ys))
+    → a + b + (c + d) ≡ sad xs ys
+four_parts xs ys a b c d len other ea eb ec ed =
+    let s1 : a ≡ sum (take 16 (zip2 apart xs ys)) = omega (arith, sad_step xs ys 0 16 0 a (omega arith) refl ea) in
+    let s2 = sad_step xs ys 16 32 a b (omega arith) s1 eb in
+    let s3 = sad_step xs ys 32 48 (a + b) c (omega arith) s2 ec in
+    let s4 = sad_step xs ys 48 64 (a + b + c) d (omega arith) s3 ed in
+    omega (arith, s4 ∙ summed_all xs ys 64 (len ∙ sym other) (omega arith))
+
+-- the sum over the upper and the lower half
+pub two_parts : (m : ℕ) (xs ys : List ℕ) (a b : ℕ) → length xs ≡ 16 * (m + m) → length ys ≡ 16 * (m + m)
+    → a ≡ sad (take (16 * m) (drop 0 xs)) (take (16 * m) (drop 0 ys))
+    → b ≡ sad (take (16 * m) (drop (16 * m) xs)) (take (16 * m) (drop (16 * m) ys))
+    → a + b ≡ sad xs ys
+two_parts m xs ys a b len other ea eb =
+    let none : 16 * m - 0 ≡ 16 * m = omega arith in
+    let rest : 16 * (m + m) - 16 * m ≡ 16 * m = omega arith in
+    let one = sad_step xs ys 0 (16 * m) 0 a (omega arith) refl
+    (ea ∙ ap (λ k. sad (take k (drop 0 xs)) (take k (drop 0 ys))) (sym none)) in
+    let two = sad_step xs ys (16 * m) (16 * (m + m)) a b (omega arith) (omega (arith, one))
+    (eb ∙ ap (λ k. sad (take k (drop (16 * m) xs)) (take k (drop (16 * m) ys))) (sym rest)) in
+    two ∙ summed_all xs ys (16 * (m + m)) (len ∙ sym other) (omega (arith, len))
+
+-- the sum over four lines of a window
 pub sad_four : (xs w : List ℕ) (p s a b c d : ℕ) → length xs ≡ 64 → p + 3 * s + 16 ≤ length w
     → a ≡ sad (take 16 (drop 0 xs)) (take 16 (drop p w))
     → b ≡ sad (take 16 (drop 16 xs)) (take 16 (drop (p + s) w))
@@ -89,24 +115,14 @@ pub sad_four : (xs w : List ℕ) (p s a b c d : ℕ) → length xs ≡ 64 → p 
     → a + b + (c + d) ≡ sad xs (lines_at 4 w p s)
 sad_four xs w p s a b c d len fits ea eb ec ed =
     let ys = lines_at 4 w p s in
-    let z = zip2 apart xs ys in
-    let same : length xs ≡ length ys = len ∙ sym (length-lines_at 4 w p s fits) in
     let line = λ (k : ℕ) (h : k + 1 ≤ 4). line_part k 4 w p s h fits in
     let place0 : p + 0 * s ≡ p = omega arith in
     let place1 : p + 1 * s ≡ p + s = omega arith in
-    let s1 : a ≡ sum (take 16 z) =
-    omega (
-      arith,
-      sad_step xs ys 0 16 0 a (omega arith) refl
-          (ea ∙ ap (λ q. sad (take 16 (drop 0 xs)) (take 16 (drop q w))) (sym place0) ∙ ap (sad (take 16 (drop 0 xs))) (sym (line 0 (omega arith)))),
-    ) in
-    let s2 = sad_step xs ys 16 32 a b (omega arith) s1
-    (eb ∙ ap (λ q. sad (take 16 (drop 16 xs)) (take 16 (drop q w))) (sym place1) ∙ ap (sad (take 16 (drop 16 xs))) (sym (line 1 (omega arith)))) in
-    let s3 = sad_step xs ys 32 48 (a + b) c (omega arith) s2
-    (ec ∙ ap (sad (take 16 (drop 32 xs))) (sym (line 2 (omega arith)))) in
-    let s4 = sad_step xs ys 48 64 (a + b + c) d (omega arith) s3
-    (ed ∙ ap (sad (take 16 (drop 48 xs))) (sym (line 3 (omega arith)))) in
-    omega (arith, s4 ∙ summed_all xs ys 64 same (omega arith))
+    four_parts xs ys a b c d len (length-lines_at 4 w p s fits)
+    (ea ∙ ap (λ q. sad (take 16 (drop 0 xs)) (take 16 (drop q w))) (sym place0) ∙ ap (sad (take 16 (drop 0 xs))) (sym (line 0 (omega arith))))
+    (eb ∙ ap (λ q. sad (take 16 (drop 16 xs)) (take 16 (drop q w))) (sym place1) ∙ ap (sad (take 16 (drop 16 xs))) (sym (line 1 (omega arith))))
+    (ec ∙ ap (sad (take 16 (drop 32 xs))) (sym (line 2 (omega arith))))
+    (ed ∙ ap (sad (take 16 (drop 48 xs))) (sym (line 3 (omega arith))))
 
 -- four lines more
 pub sad_lines : (xs w own : List ℕ) (n k p s t r q : ℕ) → k + 4 ≤ n → p + (n - 1) * s + 16 ≤ length w
@@ -134,17 +150,7 @@ pub sad_two : (m : ℕ) (xs w : List ℕ) (p s q a b : ℕ) → length xs ≡ 16
     → a ≡ sad (take (16 * m) (drop 0 xs)) (lines_at m w p s) → b ≡ sad (take (16 * m) (drop (16 * m) xs)) (lines_at m w q s)
     → a + b ≡ sad xs (lines_at (m + m) w p s)
 sad_two m xs w p s q a b len fits place ea eb =
-    let ys = lines_at (m + m) w p s in
     let start : p + 0 * s ≡ p = omega arith in
-    let upper : take (16 * m) (drop 0 ys) ≡ lines_at m w p s = lines_part 0 m (m + m) w p s (omega arith) fits ∙ ap (λ k. lines_at m w k s) start in
-    let lower : take (16 * m) (drop (16 * m) ys) ≡ lines_at m w q s =
-    lines_part m m (m + m) w p s (omega arith) fits ∙ ap (λ k. lines_at m w k s) (sym place) in
-    let none : 16 * m - 0 ≡ 16 * m = omega arith in
-    let rest : 16 * (m + m) - 16 * m ≡ 16 * m = omega arith in
-    let one = sad_step xs ys 0 (16 * m) 0 a (omega arith) refl
-    (ea ∙ ap (sad (take (16 * m) (drop 0 xs))) (sym upper) ∙ ap (λ k. sad (take k (drop 0 xs)) (take k (drop 0 ys))) (sym none)) in
-    let two = sad_step xs ys (16 * m) (16 * (m + m)) a b (omega arith) (omega (arith, one))
-    (eb ∙ ap (sad (take (16 * m) (drop (16 * m) xs))) (sym lower)
-    ∙ ap (λ k. sad (take k (drop (16 * m) xs)) (take k (drop (16 * m) ys))) (sym rest)) in
-    let same : length xs ≡ length ys = len ∙ sym (length-lines_at (m + m) w p s fits) in
-    two ∙ summed_all xs ys (16 * (m + m)) same (omega (arith, len))
+    two_parts m xs (lines_at (m + m) w p s) a b len (length-lines_at (m + m) w p s fits)
+    (ea ∙ ap (sad (take (16 * m) (drop 0 xs))) (sym (lines_part 0 m (m + m) w p s (omega arith) fits ∙ ap (λ k. lines_at m w k s) start)))
+    (eb ∙ ap (sad (take (16 * m) (drop (16 * m) xs))) (sym (lines_part m m (m + m) w p s (omega arith) fits ∙ ap (λ k. lines_at m w k s) (sym place))))

@@ -5,20 +5,21 @@ ghost use Rattle.m2v_search.specs.Spots.{spot_sad, middle, whole_spot, half_spot
 use crate::difference::sad_of;
 use crate::passing::best_by_bounds;
 use crate::scan::best_of;
+use crate::scratch::SearchScratch;
 use crate::spot::{Area, Best, Spot, within_reach};
 
 /// The best place of the window: of all in whole samples, and then of those half a sample around it.
 pub fn best_spot(
     block: &[u8],
     count: u32,
-    window: &[u8],
+    scratch: &mut SearchScratch,
     area: Area,
     across: u32,
     down: u32,
 ) -> Best
     requires count { (count ≡ 8) ⊎ (count ≡ 16) }
     requires block { length block.now ≡ 16 * count }
-    requires window { length window.now ≡ 2304 }
+    requires window { length scratch.old.window ≡ 2304 }
     requires across { across ≤ 15 }
     requires down { down + 1 ≤ count }
     requires top { area.top ≤ count }
@@ -27,9 +28,9 @@ pub fn best_spot(
     requires right { 32 ≤ area.right }
     requires high { area.bottom ≤ 3 * count }
     requires wide { area.right ≤ 48 }
-    ensures spot { result.spot ≡ half_spot (spot_sad block.now count window.now) count area
-        (whole_spot (spot_sad block.now count window.now) count area across down) }
-    ensures sad { result.sad ≡ spot_sad block.now count window.now result.spot }
+    ensures spot { result.spot ≡ half_spot (spot_sad block.now count scratch.old.window) count area
+        (whole_spot (spot_sad block.now count scratch.old.window) count area across down) }
+    ensures sad { result.sad ≡ spot_sad block.now count scratch.old.window result.spot }
     ensures near { IsNear count area (2 * across + 1) (2 * down + 1) result.spot }
 {
     let spot = Spot {
@@ -38,17 +39,25 @@ pub fn best_spot(
     };
     let best = Best {
         spot,
-        sad: sad_of(block, count as usize, window, spot),
+        sad: sad_of(block, count as usize, &scratch.window, spot),
     };
-    let best = best_whole(block, count, window, area, across, down, best);
-    best_half(block, count, window, area, 2 * across, 2 * down, best)
+    let best = best_whole(block, count, scratch, area, across, down, best);
+    best_half(
+        block,
+        count,
+        &scratch.window,
+        area,
+        2 * across,
+        2 * down,
+        best,
+    )
 }
 
 /// The best place in whole samples, the middle first.
 fn best_whole(
     block: &[u8],
     count: u32,
-    window: &[u8],
+    scratch: &mut SearchScratch,
     area: Area,
     across: u32,
     down: u32,
@@ -56,7 +65,7 @@ fn best_whole(
 ) -> Best
     requires count { (count ≡ 8) ⊎ (count ≡ 16) }
     requires block { length block.now ≡ 16 * count }
-    requires window { length window.now ≡ 2304 }
+    requires window { length scratch.old.window ≡ 2304 }
     requires across { across ≤ 15 }
     requires down { down + 1 ≤ count }
     requires top { area.top ≤ count }
@@ -66,15 +75,16 @@ fn best_whole(
     requires high { area.bottom ≤ 3 * count }
     requires wide { area.right ≤ 48 }
     requires middle { best.spot ≡ middle count }
-    requires known { best.sad ≡ spot_sad block.now count window.now best.spot }
-    ensures spot { result.spot ≡ whole_spot (spot_sad block.now count window.now) count area across
+    requires known { best.sad ≡ spot_sad block.now count scratch.old.window best.spot }
+    ensures spot { result.spot ≡ whole_spot (spot_sad block.now count scratch.old.window) count area across
         down }
-    ensures sad { result.sad ≡ spot_sad block.now count window.now result.spot }
+    ensures sad { result.sad ≡ spot_sad block.now count scratch.old.window result.spot }
     ensures near { IsNear count area (2 * across) (2 * down) result.spot }
+    ensures same { scratch.new.window ≡ scratch.old.window }
 {
     let lines = within_reach(count, down, area.top, area.bottom, count);
     let columns = within_reach(16, across, area.left, area.right, 16);
-    best_by_bounds(block, count as usize, window, lines, columns, best)
+    best_by_bounds(block, count as usize, scratch, lines, columns, best)
 }
 
 /// The best place half a sample around one, that one first.

@@ -2,7 +2,7 @@
 ghost use Rattle.std.specs.Prelude.{◌≡◌, ◌+◌, ◌*◌, ◌%◌, ◌≤◌, ◌⊎◌, ◌↔◌, IsNone, IfSome, length};
 ghost use Rattle.m2v_search.specs.Spots.{spot_sad};
 
-use crate::half::half_lines;
+use crate::half::half_sad;
 use crate::spot::Spot;
 use m2v_kernel::sad_at_until;
 
@@ -23,7 +23,7 @@ pub fn spot_sad_until(
     ensures none { IsNone result ↔ (limit ≤ spot_sad block.now count window.now spot) }
     ensures some { IfSome result (λ s. s ≡ spot_sad block.now count window.now spot) }
 {
-    if spot.y % 2 == 0 && spot.x % 2 == 0 {
+    if spot.y % 2 + spot.x % 2 == 0 {
         let place = (spot.y / 2 * 48 + spot.x / 2) as usize;
         sad_at_until(block, count, window, place, 48, limit)
     } else {
@@ -39,12 +39,12 @@ fn half_sad_until(block: &[u8], count: usize, window: &[u8], spot: Spot, limit: 
     requires window { length window.now ≡ 2304 }
     requires y { spot.y + 2 * count ≤ 96 }
     requires x { spot.x ≤ 64 }
+    requires half { 1 ≤ spot.y % 2 + spot.x % 2 }
     ensures none { IsNone result ↔ (limit ≤ spot_sad block.now count window.now spot) }
     ensures some { IfSome result (λ s. s ≡ spot_sad block.now count window.now spot) }
 {
-    let mut lines = [0; 256];
-    half_lines(window, count, spot, &mut lines);
-    sad_at_until(block, count, &lines, 0, 16, limit)
+    let sad = half_sad(block, count, window, spot);
+    if sad >= limit { None } else { Some(sad) }
 }
 
 /// The sum of differences at whole samples.

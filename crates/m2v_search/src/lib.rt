@@ -10,6 +10,7 @@ mod laws;
 mod parts;
 mod passing;
 mod scan;
+mod scratch;
 mod sliding;
 mod spot;
 mod vector;
@@ -17,4 +18,5 @@ mod window;
 
 pub use form::SearchForm;
 pub use laws::law_first_least;
-pub use vector::{Found, best_vector};
+pub use scratch::SearchScratch;
+pub use vector::{Found, best_vector, best_vector_in};

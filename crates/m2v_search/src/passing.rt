@@ -8,6 +8,7 @@ ghost use Rattle.m2v_search.specs.Bounds.{cut};
 
 use crate::difference::spot_sad_until;
 use crate::parts::{block_parts, lowest};
+use crate::scratch::SearchScratch;
 use crate::sliding::all_bounds;
 use crate::spot::{Best, Span, Spot};
 
@@ -16,6 +17,20 @@ use crate::spot::{Best, Span, Spot};
 struct SoFar {
     best: Best,
     below: u32,
+}
+
+/// Places of a line.
+#[derive(Clone, Copy)]
+struct Row {
+    y: u32,
+    columns: Span,
+}
+
+/// Places line by line.
+#[derive(Clone, Copy)]
+struct Places {
+    lines: Span,
+    columns: Span,
 }
 
 /// Differences of a line at which a place is near: four a sample.
@@ -83,8 +98,7 @@ fn passed_eight(
     block: &[u8],
     count: usize,
     window: &[u8],
-    y: u32,
-    columns: Span,
+    row: Row,
     bounds: &[u16],
     limit: u32,
     so_far: SoFar,
@@ -92,31 +106,34 @@ fn passed_eight(
     requires count { (count ≡ 8) ⊎ (count ≡ 16) }
     requires block { length block.now ≡ 16 * count }
     requires window { length window.now ≡ 2304 }
-    requires y { y + count ≤ 48 }
-    requires some { columns.first < columns.end }
-    requires x { columns.end ≤ 32 }
-    requires eight { columns.end ≤ columns.first / 8 * 8 + 8 }
+    requires y { row.y + count ≤ 48 }
+    requires some { row.columns.first < row.columns.end }
+    requires x { row.columns.end ≤ 32 }
+    requires eight { row.columns.end ≤ row.columns.first / 8 * 8 + 8 }
     requires len { length bounds.now ≡ 32 }
-    requires bounds { (x : ℕ) → columns.first ≤ x → x < columns.end
+    requires bounds { (x : ℕ) → row.columns.first ≤ x → x < row.columns.end
         → slice_index bounds.now x ≤ spot_sad block.now count window.now
-        (record { y = 2 * y; x = 2 * x }) }
+        (record { y = 2 * row.y; x = 2 * x }) }
     requires known { so_far.best.sad ≡ spot_sad block.now count window.now so_far.best.spot }
     requires below { so_far.below ≡ min so_far.best.sad limit }
     ensures spot { result.best.spot
         ≡ least (cut limit (spot_sad block.now count window.now)) so_far.best.spot
-        (map (λ x. record { y = 2 * y; x = 2 * x })
-        (range_with_len columns.first (columns.end - columns.first))) }
+        (map (λ x. record { y = 2 * row.y; x = 2 * x })
+        (range_with_len row.columns.first (row.columns.end - row.columns.first))) }
     ensures sad { result.best.sad ≡ spot_sad block.now count window.now result.best.spot }
     ensures below { result.below ≡ min result.best.sad limit }
 {
-    let least = lowest_eight(bounds, columns.first / 8 * 8);
+    let least = lowest_eight(bounds, row.columns.first / 8 * 8);
     if so_far.below <= least {
         return so_far;
     }
     let mut so_far = so_far;
-    for x in columns.first..columns.end {
+    for x in row.columns.first..row.columns.end {
         let bound = u32::from(bounds[x as usize]);
-        let spot = Spot { y: 2 * y, x: 2 * x };
+        let spot = Spot {
+            y: 2 * row.y,
+            x: 2 * x,
+        };
         so_far = tried_below(block, count, window, so_far, spot, bound, limit);
     }
     so_far
@@ -141,8 +158,7 @@ fn passed_line(
     block: &[u8],
     count: usize,
     window: &[u8],
-    y: u32,
-    columns: Span,
+    row: Row,
     bounds: &[u16],
     limit: u32,
     best: Best,
@@ -150,17 +166,17 @@ fn passed_line(
     requires count { (count ≡ 8) ⊎ (count ≡ 16) }
     requires block { length block.now ≡ 16 * count }
     requires window { length window.now ≡ 2304 }
-    requires y { y + count ≤ 48 }
-    requires some { columns.first ≤ columns.end }
-    requires x { columns.end ≤ 32 }
+    requires y { row.y + count ≤ 48 }
+    requires some { row.columns.first ≤ row.columns.end }
+    requires x { row.columns.end ≤ 32 }
     requires len { length bounds.now ≡ 32 }
-    requires bounds { (x : ℕ) → columns.first ≤ x → x < columns.end
+    requires bounds { (x : ℕ) → row.columns.first ≤ x → x < row.columns.end
         → slice_index bounds.now x ≤ spot_sad block.now count window.now
-        (record { y = 2 * y; x = 2 * x }) }
+        (record { y = 2 * row.y; x = 2 * x }) }
     requires known { best.sad ≡ spot_sad block.now count window.now best.spot }
     ensures spot { result.spot ≡ least (cut limit (spot_sad block.now count window.now)) best.spot
-        (map (λ x. record { y = 2 * y; x = 2 * x })
-        (range_with_len columns.first (columns.end - columns.first))) }
+        (map (λ x. record { y = 2 * row.y; x = 2 * x })
+        (range_with_len row.columns.first (row.columns.end - row.columns.first))) }
     ensures sad { result.sad ≡ spot_sad block.now count window.now result.spot }
 {
     let least = u32::from(lowest(bounds));
@@ -169,11 +185,14 @@ fn passed_line(
         return best;
     }
     let mut so_far = SoFar { best, below };
-    let mut x = columns.first;
-    while x < columns.end {
-        let end = end_of_eight(x, columns.end);
-        let eight = Span { first: x, end };
-        so_far = passed_eight(block, count, window, y, eight, bounds, limit, so_far);
+    let mut x = row.columns.first;
+    while x < row.columns.end {
+        let end = end_of_eight(x, row.columns.end);
+        let eight = Row {
+            y: row.y,
+            columns: Span { first: x, end },
+        };
+        so_far = passed_eight(block, count, window, eight, bounds, limit, so_far);
         x = end;
     }
     so_far.best
@@ -198,30 +217,33 @@ fn passed(
     count: usize,
     window: &[u8],
     bounds: &[u16; 1024],
-    lines: Span,
-    columns: Span,
+    places: Places,
     limit: u32,
     best: Best,
 ) -> Best
     requires count { (count ≡ 8) ⊎ (count ≡ 16) }
     requires block { length block.now ≡ 16 * count }
     requires window { length window.now ≡ 2304 }
-    requires bound { (y x : ℕ) → lines.first ≤ y → y < lines.end
-        → columns.first ≤ x → x < columns.end → slice_index bounds.now (32 * y + x)
+    requires bound { (y x : ℕ) → places.lines.first ≤ y → y < places.lines.end
+        → places.columns.first ≤ x → x < places.columns.end → slice_index bounds.now (32 * y + x)
         ≤ spot_sad block.now count window.now (record { y = 2 * y; x = 2 * x }) }
-    requires lines { lines.first ≤ lines.end }
-    requires columns { columns.first ≤ columns.end }
-    requires y { lines.end ≤ 2 * count }
-    requires x { columns.end ≤ 32 }
+    requires lines { places.lines.first ≤ places.lines.end }
+    requires columns { places.columns.first ≤ places.columns.end }
+    requires y { places.lines.end ≤ 2 * count }
+    requires x { places.columns.end ≤ 32 }
     requires known { best.sad ≡ spot_sad block.now count window.now best.spot }
     ensures spot { result.spot ≡ least (cut limit (spot_sad block.now count window.now)) best.spot
-        (spots 2 lines columns) }
+        (spots 2 places.lines places.columns) }
     ensures sad { result.sad ≡ spot_sad block.now count window.now result.spot }
 {
     let mut best = best;
-    for y in lines.first..lines.end {
+    for y in places.lines.first..places.lines.end {
         let line = line_of(bounds, y);
-        best = passed_line(block, count, window, y, columns, line, limit, best);
+        let row = Row {
+            y,
+            columns: places.columns,
+        };
+        best = passed_line(block, count, window, row, line, limit, best);
     }
     best
 }
@@ -348,26 +370,28 @@ fn limit_for(
 pub fn best_by_bounds(
     block: &[u8],
     count: usize,
-    window: &[u8],
+    scratch: &mut SearchScratch,
     lines: Span,
     columns: Span,
     best: Best,
 ) -> Best
     requires count { (count ≡ 8) ⊎ (count ≡ 16) }
     requires block { length block.now ≡ 16 * count }
-    requires window { length window.now ≡ 2304 }
+    requires window { length scratch.old.window ≡ 2304 }
     requires lines { lines.first < lines.end }
     requires columns { columns.first < columns.end }
     requires y { lines.end ≤ 2 * count }
     requires x { columns.end ≤ 32 }
-    requires known { best.sad ≡ spot_sad block.now count window.now best.spot }
-    ensures spot { result.spot ≡ least (spot_sad block.now count window.now) best.spot
+    requires known { best.sad ≡ spot_sad block.now count scratch.old.window best.spot }
+    ensures spot { result.spot ≡ least (spot_sad block.now count scratch.old.window) best.spot
         (spots 2 lines columns) }
-    ensures sad { result.sad ≡ spot_sad block.now count window.now result.spot }
+    ensures sad { result.sad ≡ spot_sad block.now count scratch.old.window result.spot }
+    ensures same { scratch.new.window ≡ scratch.old.window }
 {
+    let SearchScratch { window, bounds } = scratch;
     let parts = block_parts(block, count);
-    let mut bounds = [0; 1024];
-    all_bounds(window, count, lines, &parts, &mut bounds);
-    let limit = limit_for(block, count, window, &bounds, lines, columns, best);
-    passed(block, count, window, &bounds, lines, columns, limit, best)
+    all_bounds(window, count, lines, &parts, bounds);
+    let limit = limit_for(block, count, window, bounds, lines, columns, best);
+    let places = Places { lines, columns };
+    passed(block, count, window, bounds, places, limit, best)
 }

@@ -7,6 +7,7 @@ ghost use Rattle.m2v_search.specs.Near.{IsFormIn, HasNear, Reaches};
 
 use crate::best::best_spot;
 use crate::form::{SearchForm, block_lines, reach};
+use crate::scratch::SearchScratch;
 use crate::spot::Best;
 use crate::window::{area_of, own_lines, samples_around};
 use m2v_plane::RefView;
@@ -64,17 +65,43 @@ pub fn best_vector<V: RefView>(
         (record { x = result.x; y = result.y }) ≡ true }
     ensures within { Reaches form search result.x result.y }
 {
+    let mut scratch = SearchScratch::new();
+    best_vector_in(source, view, at, form, search, &mut scratch)
+}
+
+/// The vector that `best_vector` finds, in room that is lent: whatever stands in it before.
+pub fn best_vector_in<V: RefView>(
+    source: &Block16,
+    view: &V,
+    at: MbPlace,
+    form: SearchForm,
+    search: u32,
+    scratch: &mut SearchScratch,
+) -> Found
+    requires search { search ≤ 15 }
+    requires place { IsPlace at (V.size view.now) }
+    requires form { IsFormIn at.structure form }
+    requires near { HasNear (V.Holds view.now) (V.size view.now) at
+        (block_lines form at.row).lines }
+    ensures value { record { x = result.x; y = result.y }
+        ≡ vector_of (V.size view.now) (V.at view.now Y) source.now.at at.row at.column form search }
+    ensures sad { result.sad ≡ vector_sad (V.at view.now Y) source.now.at (block_lines form at.row)
+        at.column
+        (record { x = result.x; y = result.y }) }
+    ensures inside { vector_inside (V.size view.now) (block_lines form at.row) at.column
+        (record { x = result.x; y = result.y }) ≡ true }
+    ensures within { Reaches form search result.x result.y }
+{
     let dims = view.dims();
     let lines = block_lines(form, at.row);
     let area = area_of(dims, &lines, at.column);
     let own = own_lines(source, &lines);
-    let mut window = [0; 2304];
-    samples_around(view, &lines, at.column, area, &mut window);
+    samples_around(view, &lines, at.column, area, &mut scratch.window);
     let block = &own[..16 * lines.count as usize];
     let best = best_spot(
         block,
         lines.count,
-        &window,
+        scratch,
         area,
         search,
         reach(form, search),

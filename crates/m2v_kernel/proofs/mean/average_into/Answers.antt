@@ -1,4 +1,4 @@
-use Rattle.std.proofs.Common.{◌≡◌, ◌≢◌, ℕ, get_or, get_or-set_other, length, sym, ap, arith}
+use Rattle.std.proofs.Common.{◌≢◌, get_or, get_or-set_other, sym, ap, arith}
 use Rattle.m2v_kernel.specs.Sums.{mean}
 use Rattle.m2v_kernel.proofs.Steps.{stored_more, stored_all}
 use Rattle.m2v_kernel.proofs.mean.average_into.Goals as goal

@@ -7,12 +7,13 @@ use Rattle.m2v_search.proofs.best.best_whole.Goals as goal
 pub returns : goal.returns
 unfolding whole_spot
 returns c =
-    let cost = spot_sad c.args.block.now c.args.count c.args.window.now in
+    let cost = spot_sad c.args.block.now c.args.count c.args.scratch.now.window in
     let is : c.best_by_bounds.result.spot ≡ whole_spot cost c.args.count c.args.area c.args.across c.args.down =
     c.best_by_bounds.ensures.spot ∙ (λ i. least cost (c.requires.middle i) (spots 2 (c.within_reach-lines.ensures.value i) (c.within_reach-columns.ensures.value i))) in
     record {
       spot = is;
       sad = c.best_by_bounds.ensures.sad;
+      same = c.best_by_bounds.ensures.same;
       near = subst (IsNear c.args.count c.args.area (2 * c.args.across) (2 * c.args.down)) (sym is)
           (whole_near cost c.args.count c.args.area c.args.across c.args.down (omega arith) (omega arith) (omega arith) (omega arith) (omega arith) (omega arith) (omega arith));
     }

@@ -12,10 +12,10 @@ pub returns-then-so_far-least-clause-spot : goal.returns-then-so_far-least-claus
 returns-then-so_far-least-clause-spot c =
     let cost = spot_sad c.args.block.now c.args.count c.args.window.now in
     let f = cut c.args.limit cost in
-    let first = c.args.columns.first in
-    let spot : ℕ → Spot = λ x. record { y = 2 * c.args.y; x = 2 * x } in
-    sym (least_kept f c.args.so_far.best.spot (line_spots 2 c.args.y first (c.args.columns.end - first))
-    (All_line (λ t. f c.args.so_far.best.spot ≤ f t) spot first (c.args.columns.end - first)
+    let first = c.args.row.columns.first in
+    let spot : ℕ → Spot = λ x. record { y = 2 * c.args.row.y; x = 2 * x } in
+    sym (least_kept f c.args.so_far.best.spot (line_spots 2 c.args.row.y first (c.args.row.columns.end - first))
+    (All_line (λ t. f c.args.so_far.best.spot ≤ f t) spot first (c.args.row.columns.end - first)
     (λ x le lt. omega (
       arith,
       c.requires.known,
@@ -26,7 +26,7 @@ returns-then-so_far-least-clause-spot c =
 
 pub loop-x-init : goal.loop-x-init
 loop-x-init c = record {
-  spot = line_none (cut c.args.limit (spot_sad c.args.block.now c.args.count c.args.window.now)) c.args.so_far.best.spot 2 c.args.y c.args.columns.first;
+  spot = line_none (cut c.args.limit (spot_sad c.args.block.now c.args.count c.args.window.now)) c.args.so_far.best.spot 2 c.args.row.y c.args.row.columns.first;
   sad = c.requires.known;
   below = c.requires.below;
 }
@@ -34,17 +34,17 @@ loop-x-init c = record {
 pub loop-x-preserved : goal.loop-x-preserved
 loop-x-preserved c = record {
   spot = line_more (cut c.args.limit (spot_sad c.args.block.now c.args.count c.args.window.now)) c.args.so_far.best.spot c.loop-x.so_far.best.spot c.tried_below-so_far.result.best.spot
-      2 c.args.y c.args.columns.first c.loop-x.x (omega arith) c.loop-x.invariant.spot c.tried_below-so_far.ensures.spot;
+      2 c.args.row.y c.args.row.columns.first c.loop-x.x (omega arith) c.loop-x.invariant.spot c.tried_below-so_far.ensures.spot;
   sad = c.tried_below-so_far.ensures.sad;
   below = c.tried_below-so_far.ensures.below;
 }
 
 pub returns : goal.returns
 returns c =
-    let all : c.loop-x.x - c.args.columns.first ≡ c.args.columns.end - c.args.columns.first = omega arith in
+    let all : c.loop-x.x - c.args.row.columns.first ≡ c.args.row.columns.end - c.args.row.columns.first = omega arith in
     record {
       spot = c.loop-x.invariant.spot
-          ∙ ap (λ n. least (cut c.args.limit (spot_sad c.args.block.now c.args.count c.args.window.now)) c.args.so_far.best.spot (line_spots 2 c.args.y c.args.columns.first n)) all;
+          ∙ ap (λ n. least (cut c.args.limit (spot_sad c.args.block.now c.args.count c.args.window.now)) c.args.so_far.best.spot (line_spots 2 c.args.row.y c.args.row.columns.first n)) all;
       sad = c.loop-x.invariant.sad;
       below = c.loop-x.invariant.below;
     }

@@ -8,7 +8,7 @@ use Rattle.m2v_search.proofs.passing.passed_eight.Given as goal
 abbrev pub invariant-loop-x : goal.invariant-loop-x
 invariant-loop-x l = record {
   spot : l.so_far.best.spot ≡ least (cut l.limit (spot_sad l.block l.count l.window)) l.initial.so_far.best.spot
-      (line_spots 2 l.y l.fn.columns.first (l.x - l.fn.columns.first));
+      (line_spots 2 l.row.y l.fn.row.columns.first (l.x - l.fn.row.columns.first));
   sad : l.so_far.best.sad ≡ spot_sad l.block l.count l.window l.so_far.best.spot;
   below : l.so_far.below ≡ min l.so_far.best.sad l.limit;
 }
