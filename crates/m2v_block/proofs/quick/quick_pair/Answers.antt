@@ -21,13 +21,13 @@ returns-then-at-lt64-clause-read c =
     let rest : c.skip.new.self.rest ≡ drop pair.2 c.args.input.now.rest = ap (λ (u : Unread). u.rest) c.skip.ensures in
     rw (level, rest) (quick c.args.one s pair.1 pair.0 c.args.input.now.rest (drop pair.2 c.args.input.now.rest) c.requires.some c.if-at-lt64.true e)
 
-pub returns-clause-read : goal.returns-clause-read
-returns-clause-read c =
+pub returns-then-pair-clause-read : goal.returns-then-pair-clause-read
+returns-then-pair-clause-read c =
     let pair = c.short_pair-pair.result.now in
     let is : pair.1 ≡ 128 = omega arith in
     let ends = c.short_pair-pair.ensures.ends is in
     let enough : pair.2 ≤ length c.args.input.now.rest = omega (arith, ends.short, c.in_ok-nine.ensures.left refl) in
     let e = ends.reads c.args.input.now.rest c.in_ok-nine.ensures.value enough in
     let s : Scan = record { filled = c.args.filled; levels = c.args.out.now.at } in
-    let rest : c.skip-2.new.self.rest ≡ drop pair.2 c.args.input.now.rest = ap (λ (u : Unread). u.rest) c.skip-2.ensures in
+    let rest : c.skip-then-pair.new.self.rest ≡ drop pair.2 c.args.input.now.rest = ap (λ (u : Unread). u.rest) c.skip-then-pair.ensures in
     rw rest (quick_end c.args.one s c.args.input.now.rest (drop pair.2 c.args.input.now.rest) c.requires.some e)
