@@ -1,6 +1,6 @@
-ghost use Rattle.std.specs.Prelude.{◌≡◌, ◌<◌, ◌≤◌, slice_index_or, All, IfSome, IsNone, Ok, pos, true, false};
+ghost use Rattle.std.specs.Prelude.{◌≡◌, ◌<◌, ◌≤◌, length, slice_index_or, All, IfSome, IfOk, IfErr, IsErr, IsNone, Ok, pos, true, false};
 ghost use Rattle.m2v_quant.specs.Kinds.{IsLevel};
-ghost use Rattle.m2v_block.specs.Blocks.{pair_at};
+ghost use Rattle.m2v_block.specs.Blocks.{pair_at, pairs_at, EndsBy};
 
 use m2v_bits::BitReader;
 use m2v_quant::Levels;
@@ -9,7 +9,7 @@ use m2v_vlc::{long_pair, short_first, short_pair};
 /// Reads a pair with a long code by one look, if one stands well before the end of the bits: that a pair was read, and how many
 /// places are filled then.
 #[inline(always)]
-fn quick_long(
+pub fn quick_long(
     input: &mut BitReader,
     one: bool,
     filled: usize,
@@ -46,45 +46,76 @@ fn quick_long(
     Some((true, at + 1))
 }
 
-/// Reads a pair or the end of the block by one look, or by two where the code is long, well before the end of the bits:
-/// whether a pair was read, and how many places are filled then.
+/// Reads a pair with a short code by one look, well before the end of the bits: how many places are filled then. Where no such
+/// pair stands, how many bits the end of the block has, and 0 where it is not told.
 #[inline(always)]
-pub fn quick_pair(
+fn quick_pair(
     input: &mut BitReader,
     one: bool,
     filled: usize,
     out: &mut Levels,
-) -> Option<(bool, usize)>
+) -> Result<usize, u8>
     requires filled { filled ≤ 64 }
     requires some { 0 < filled }
     requires levels { All IsLevel out.old.at }
-    ensures read { IfSome result (λ x. (pair_at one (record {
+    ensures read { IfOk result (λ next. (pair_at one (record {
       filled = filled;
       levels = out.old.at;
     })).read input.old.rest ≡ Ok (
-      (x.0, record { filled = x.1; levels = out.new.at }),
+      (true, record { filled = next; levels = out.new.at }),
       input.new.rest,
     )) }
-    ensures none { IsNone result → out.new ≡ out.old }
-    ensures here { IsNone result → input.new ≡ input.old }
+    ensures ended { IfErr result (λ n. 0 < n
+        → EndsBy one (record { filled = filled; levels = out.new.at }) input.new.rest n) }
+    ensures none { IsErr result → out.new ≡ out.old }
+    ensures here { IsErr result → input.new ≡ input.old }
     ensures text { input.new.text ≡ input.old.text }
-    ensures within { IfSome result (λ x. (filled ≤ x.1) × (x.1 ≤ 64)) }
+    ensures within { IfOk result (λ next. (filled < next) × (next ≤ 64)) }
     ensures dc { slice_index_or out.new.at 0 (pos 0) ≡ slice_index_or out.old.at 0 (pos 0) }
     ensures levels { All IsLevel out.new.at }
 {
-    let nine = input.peek_inside(9)?;
+    let Some(nine) = input.peek_inside(9) else {
+        return Err(0);
+    };
     let pair = short_pair(one, nine);
     let at = filled + pair.1 as usize;
-    if at < 64 {
-        out.at[at] = i32::from(pair.0);
-        input.skip(pair.2);
-        return Some((true, at + 1));
+    if at >= 64 {
+        return Err(if pair.1 == 128 { pair.2 } else { 0 });
     }
-    if pair.1 == 128 {
-        input.skip(pair.2);
-        return Some((false, filled));
+    out.at[at] = i32::from(pair.0);
+    input.skip(pair.2);
+    Ok(at + 1)
+}
+
+/// Reads pairs with short codes, as many as stand there: how many places are filled then, and how many bits the end of the block
+/// has that stands behind them, 0 where it is not told.
+#[inline(always)]
+pub fn quick_pairs(input: &mut BitReader, one: bool, from: usize, out: &mut Levels) -> (usize, u8)
+    requires filled { from ≤ 64 }
+    requires some { 0 < from }
+    requires levels { All IsLevel out.old.at }
+    ensures read { (pairs_at one (record {
+      filled = result.0;
+      levels = out.new.at;
+    })).read input.new.rest ≡ (pairs_at one (record {
+      filled = from;
+      levels = out.old.at;
+    })).read input.old.rest }
+    ensures ended { 0 < result.1
+        → EndsBy one (record { filled = result.0; levels = out.new.at }) input.new.rest result.1 }
+    ensures text { input.new.text ≡ input.old.text }
+    ensures less { length input.new.rest ≤ length input.old.rest }
+    ensures within { (from ≤ result.0) × (result.0 ≤ 64) }
+    ensures dc { slice_index_or out.new.at 0 (pos 0) ≡ slice_index_or out.old.at 0 (pos 0) }
+    ensures levels { All IsLevel out.new.at }
+{
+    let mut filled = from;
+    loop {
+        match quick_pair(input, one, filled, out) {
+            Ok(next) => filled = next,
+            Err(ended) => return (filled, ended),
+        }
     }
-    quick_long(input, one, filled, out)
 }
 
 /// Reads the first pair of a block that is not intra by one look, if it has a short code well before the end of the bits: how

@@ -6,7 +6,7 @@ ghost use Rattle.m2v_block.specs.Blocks.{difference, IsDc, is_dc, size_at, dc_at
 
 use crate::fault::BlockFault;
 use crate::fault::BlockFault::{Code, DcRange, ForbiddenLevel, Overrun};
-use crate::quick::{quick_first, quick_pair};
+use crate::quick::{quick_first, quick_long, quick_pairs};
 use m2v_bits::{BitReader, check, number};
 use m2v_quant::{BlockKind, Levels};
 use m2v_vlc::CodeFault::Truncated;
@@ -244,7 +244,7 @@ fn far_pair(
     read
 }
 
-/// Reads a pair or the end of the block, behind the first place: by one look in most cases.
+/// Reads a pair or the end of the block where no short code stands: by one look in most cases.
 #[inline(always)]
 fn next_pair(
     input: &mut BitReader,
@@ -262,7 +262,7 @@ fn next_pair(
     ensures dc { slice_index_or out.new.at 0 (pos 0) ≡ slice_index_or out.old.at 0 (pos 0) }
     ensures levels { All IsLevel out.new.at }
 {
-    if let Some(x) = quick_pair(input, one, filled, out) {
+    if let Some(x) = quick_long(input, one, filled, out) {
         return Ok(x);
     }
     far_pair(input, one, filled, out)
@@ -282,7 +282,12 @@ fn pairs(input: &mut BitReader, one: bool, from: usize, out: &mut Levels) -> Res
 {
     let mut filled = from;
     loop {
-        let (more, next) = next_pair(input, one, filled, out)?;
+        let (next, ended) = quick_pairs(input, one, filled, out);
+        if ended > 0 {
+            input.skip(ended);
+            return Ok(());
+        }
+        let (more, next) = next_pair(input, one, next, out)?;
         filled = next;
         if !more {
             return Ok(());
