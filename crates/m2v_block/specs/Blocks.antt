@@ -2,6 +2,7 @@
 use Rattle.std.specs.Prelude.{◌≡◌, ◌≤◌, ℕ, ◌+◌, ◌-◌, ◌^◌, Bool, true, false, cond, ◌&&◌, not, nat_lt, nat_le, nat_eq, Result, Ok, Err, List, ◌∷◌, length, drop, slice_index_or, slice_set, replicate, if◌then◌else◌, ℤ, pos, ◌+ℤ◌, ◌-ℤ◌, ◌≤ℤ◌, ◌<ℤ◌, int_lt, int_le}
 use Rattle.m2v_bits.specs.Syntax.{done, rule, choose, repeated, ◌>>=◌}
 use Rattle.m2v_bits.specs.Leaves.{bits_at}
+use Rattle.m2v_bits.specs.Bits.{number, ahead}
 use Rattle.m2v_bits.specs.Elements.{BitSyntax, left_at}
 use Rattle.m2v_vlc.specs.declared.values.Coefficient.{Coefficient}
 use Rattle.m2v_vlc.specs.declared.values.Coefficient.TheVariants.{End, Escape, Pair}
@@ -124,3 +125,9 @@ GivesEnd (Err e) levels rest read = read ≡ Err (e, length rest)
 pub record EndsBy (one : Bool) (s : Scan) (bs : List Bool) (n : ℕ) : Type 0 where
   pub enough : n ≤ length bs
   pub reads : (pair_at one s).read bs ≡ Ok ((false, s), drop n bs)
+
+-- 32 bits were looked at, and of them so many used since then
+pub record Looked (look used : ℕ) (rest : List Bool) : Type 0 where
+  pub from : List Bool
+  pub bits : look ≡ number (ahead 32 from)
+  pub here : rest ≡ drop used from

@@ -1,6 +1,7 @@
-ghost use Rattle.std.specs.Prelude.{◌≡◌, ◌<◌, ◌≤◌, length, slice_index_or, All, IfSome, IfOk, IfErr, IsErr, IsNone, Ok, pos, true, false};
+ghost use Rattle.std.specs.Prelude.{◌≡◌, ◌<◌, ◌≤◌, Bool, List, drop, length, slice_index_or, All, IfSome, IfOk, IfErr, IsErr, IsNone, Ok, pos, true, false};
+ghost use Rattle.m2v_bits.specs.Bits.{number, ahead};
 ghost use Rattle.m2v_quant.specs.Kinds.{IsLevel};
-ghost use Rattle.m2v_block.specs.Blocks.{pair_at, pairs_at, EndsBy};
+ghost use Rattle.m2v_block.specs.Blocks.{pair_at, pairs_at, EndsBy, Looked};
 
 use m2v_bits::BitReader;
 use m2v_quant::Levels;
@@ -46,37 +47,59 @@ pub fn quick_long(
     Some((true, at + 1))
 }
 
-/// Reads a pair with a short code by one look, well before the end of the bits: how many places are filled then. Where no such
-/// pair stands, how many bits the end of the block has, and 0 where it is not told.
+/// What a look told.
+#[derive(Clone, Copy)]
+struct Told {
+    /// How many places are filled then.
+    filled: usize,
+    /// Where no short code of a pair stands behind the pairs: how many bits the end of the block has, 0 where it is not told.
+    ended: Option<u8>,
+}
+
+/// Nine bits behind the first `used` of 32 bits.
+#[inline(always)]
+fn nine_at(bits: u32, used: u8) -> u32
+    requires used { used ≤ 23 }
+    ensures value { (rest : List Bool) → Looked bits used rest
+        → result ≡ number (ahead 9 rest) }
+    ensures below { result < 512 }
+{
+    (bits >> (23 - used)) % 512
+}
+
+/// Reads a pair whose short code nine bits begin with, well before the end of the bits: how many places are filled then, and how
+/// many bits the code has. Where no such pair stands, how many bits the end of the block has, and 0 where it is not told.
 #[inline(always)]
 fn quick_pair(
     input: &mut BitReader,
     one: bool,
+    nine: u32,
     filled: usize,
     out: &mut Levels,
-) -> Result<usize, u8>
+) -> Result<(usize, u8), u8>
     requires filled { filled ≤ 64 }
     requires some { 0 < filled }
     requires levels { All IsLevel out.old.at }
-    ensures read { IfOk result (λ next. (pair_at one (record {
+    requires nine { nine ≡ number (ahead 9 input.old.rest) }
+    requires below { nine < 512 }
+    requires left { 9 ≤ length input.old.rest }
+    ensures read { IfOk result (λ x. (pair_at one (record {
       filled = filled;
       levels = out.old.at;
     })).read input.old.rest ≡ Ok (
-      (true, record { filled = next; levels = out.new.at }),
+      (true, record { filled = x.0; levels = out.new.at }),
       input.new.rest,
     )) }
+    ensures moved { IfOk result (λ x. (x.1 ≤ 9) × (input.new.rest ≡ drop x.1 input.old.rest)) }
     ensures ended { IfErr result (λ n. 0 < n
         → EndsBy one (record { filled = filled; levels = out.new.at }) input.new.rest n) }
     ensures none { IsErr result → out.new ≡ out.old }
     ensures here { IsErr result → input.new ≡ input.old }
     ensures text { input.new.text ≡ input.old.text }
-    ensures within { IfOk result (λ next. (filled < next) × (next ≤ 64)) }
+    ensures within { IfOk result (λ x. (filled < x.0) × (x.0 ≤ 64)) }
     ensures dc { slice_index_or out.new.at 0 (pos 0) ≡ slice_index_or out.old.at 0 (pos 0) }
     ensures levels { All IsLevel out.new.at }
 {
-    let Some(nine) = input.peek_inside(9) else {
-        return Err(0);
-    };
     let pair = short_pair(one, nine);
     let at = filled + pair.1 as usize;
     if at >= 64 {
@@ -84,7 +107,135 @@ fn quick_pair(
     }
     out.at[at] = i32::from(pair.0);
     input.skip(pair.2);
-    Ok(at + 1)
+    Ok((at + 1, pair.2))
+}
+
+/// Reads the third pair of a look.
+#[inline(always)]
+fn third_pair(
+    input: &mut BitReader,
+    one: bool,
+    bits: u32,
+    used: u8,
+    filled: usize,
+    out: &mut Levels,
+) -> Told
+    requires filled { filled ≤ 64 }
+    requires some { 0 < filled }
+    requires levels { All IsLevel out.old.at }
+    requires used { used ≤ 18 }
+    requires looked { Looked bits used input.old.rest }
+    requires left { 9 ≤ length input.old.rest }
+    ensures read { (pairs_at one (record {
+      filled = result.filled;
+      levels = out.new.at;
+    })).read input.new.rest ≡ (pairs_at one (record {
+      filled = filled;
+      levels = out.old.at;
+    })).read input.old.rest }
+    ensures ended { IfSome result.ended (λ n. 0 < n → EndsBy one (record {
+      filled = result.filled;
+      levels = out.new.at;
+    }) input.new.rest n) }
+    ensures text { input.new.text ≡ input.old.text }
+    ensures less { length input.new.rest ≤ length input.old.rest }
+    ensures within { (filled ≤ result.filled) × (result.filled ≤ 64) }
+    ensures more { IsNone result.ended → filled < result.filled }
+    ensures dc { slice_index_or out.new.at 0 (pos 0) ≡ slice_index_or out.old.at 0 (pos 0) }
+    ensures levels { All IsLevel out.new.at }
+{
+    match quick_pair(input, one, nine_at(bits, used), filled, out) {
+        Ok((next, _)) => Told {
+            filled: next,
+            ended: None,
+        },
+        Err(ended) => Told {
+            filled,
+            ended: Some(ended),
+        },
+    }
+}
+
+/// Reads the second pair of a look, and the third.
+#[inline(always)]
+fn second_pair(
+    input: &mut BitReader,
+    one: bool,
+    bits: u32,
+    used: u8,
+    filled: usize,
+    out: &mut Levels,
+) -> Told
+    requires filled { filled ≤ 64 }
+    requires some { 0 < filled }
+    requires levels { All IsLevel out.old.at }
+    requires used { used ≤ 9 }
+    requires looked { Looked bits used input.old.rest }
+    requires left { 18 ≤ length input.old.rest }
+    ensures read { (pairs_at one (record {
+      filled = result.filled;
+      levels = out.new.at;
+    })).read input.new.rest ≡ (pairs_at one (record {
+      filled = filled;
+      levels = out.old.at;
+    })).read input.old.rest }
+    ensures ended { IfSome result.ended (λ n. 0 < n → EndsBy one (record {
+      filled = result.filled;
+      levels = out.new.at;
+    }) input.new.rest n) }
+    ensures text { input.new.text ≡ input.old.text }
+    ensures less { length input.new.rest ≤ length input.old.rest }
+    ensures within { (filled ≤ result.filled) × (result.filled ≤ 64) }
+    ensures more { IsNone result.ended → filled < result.filled }
+    ensures dc { slice_index_or out.new.at 0 (pos 0) ≡ slice_index_or out.old.at 0 (pos 0) }
+    ensures levels { All IsLevel out.new.at }
+{
+    match quick_pair(input, one, nine_at(bits, used), filled, out) {
+        Ok((next, len)) => third_pair(input, one, bits, used + len, next, out),
+        Err(ended) => Told {
+            filled,
+            ended: Some(ended),
+        },
+    }
+}
+
+/// Reads up to three pairs with short codes by one look at 32 bits, well before the end of the bits.
+#[inline(always)]
+fn quick_three(input: &mut BitReader, one: bool, filled: usize, out: &mut Levels) -> Told
+    requires filled { filled ≤ 64 }
+    requires some { 0 < filled }
+    requires levels { All IsLevel out.old.at }
+    ensures read { (pairs_at one (record {
+      filled = result.filled;
+      levels = out.new.at;
+    })).read input.new.rest ≡ (pairs_at one (record {
+      filled = filled;
+      levels = out.old.at;
+    })).read input.old.rest }
+    ensures ended { IfSome result.ended (λ n. 0 < n → EndsBy one (record {
+      filled = result.filled;
+      levels = out.new.at;
+    }) input.new.rest n) }
+    ensures text { input.new.text ≡ input.old.text }
+    ensures less { length input.new.rest ≤ length input.old.rest }
+    ensures within { (filled ≤ result.filled) × (result.filled ≤ 64) }
+    ensures more { IsNone result.ended → filled < result.filled }
+    ensures dc { slice_index_or out.new.at 0 (pos 0) ≡ slice_index_or out.old.at 0 (pos 0) }
+    ensures levels { All IsLevel out.new.at }
+{
+    let Some(bits) = input.peek_inside(32) else {
+        return Told {
+            filled,
+            ended: Some(0),
+        };
+    };
+    match quick_pair(input, one, nine_at(bits, 0), filled, out) {
+        Ok((next, len)) => second_pair(input, one, bits, len, next, out),
+        Err(ended) => Told {
+            filled,
+            ended: Some(ended),
+        },
+    }
 }
 
 /// Reads pairs with short codes, as many as stand there: how many places are filled then, and how many bits the end of the block
@@ -111,9 +262,10 @@ pub fn quick_pairs(input: &mut BitReader, one: bool, from: usize, out: &mut Leve
 {
     let mut filled = from;
     loop {
-        match quick_pair(input, one, filled, out) {
-            Ok(next) => filled = next,
-            Err(ended) => return (filled, ended),
+        let told = quick_three(input, one, filled, out);
+        filled = told.filled;
+        if let Some(ended) = told.ended {
+            return (filled, ended);
         }
     }
 }

@@ -1,4 +1,4 @@
-use Rattle.std.proofs.Common.{arith, rules, ap, ◌∙◌, ◌≡◌, ◌<◌, ◌≤◌, refl, length, drop}
+use Rattle.std.proofs.Common.{arith, rules, ap, ◌∙◌, ◌≡◌, ◌<◌, ◌≤◌, length, drop}
 use Rattle.std.proofs.lemmas.Int.{to_z-of_z}
 use mir.Syntax.{w16, w32}
 use mir.Val.{SFits, to_z, of_z}
@@ -12,9 +12,8 @@ returns-clause-read c =
     let pair = c.short_pair-pair.result.now in
     let run : pair.1 < 64 = omega arith in
     let stands = c.short_pair-pair.ensures.stands run in
-    let left : 57 ≤ length c.args.input.now.rest = c.in-Some.ensures.left refl in
-    let enough : pair.2 ≤ length c.args.input.now.rest = omega (arith, stands.short, left) in
-    let e = stands.reads c.args.input.now.rest c.in-Some.ensures.value enough in
+    let enough : pair.2 ≤ length c.args.input.now.rest = omega (arith, stands.short, c.requires.left) in
+    let e = stands.reads c.args.input.now.rest c.requires.nine enough in
     let s : Scan = record { filled = c.args.filled; levels = c.args.out.now.at } in
     let f : SFits w32 c.from.result = search rules in
     let g : SFits w16 pair.0 = search rules in
@@ -26,8 +25,7 @@ pub returns-then-pair-clause-ended : goal.returns-then-pair-clause-ended
 returns-then-pair-clause-ended c =
     let pair = c.short_pair-pair.result.now in
     let ends = c.short_pair-pair.ensures.ends c.if-pair.true in
-    let left : 57 ≤ length c.args.input.now.rest = c.in-Some.ensures.left refl in
-    let enough : pair.2 ≤ length c.args.input.now.rest = omega (arith, ends.short, left) in
-    let e = ends.reads c.args.input.now.rest c.in-Some.ensures.value enough in
+    let enough : pair.2 ≤ length c.args.input.now.rest = omega (arith, ends.short, c.requires.left) in
+    let e = ends.reads c.args.input.now.rest c.requires.nine enough in
     let s : Scan = record { filled = c.args.filled; levels = c.args.out.now.at } in
     λ some. record { enough = enough; reads = quick_end c.args.one s c.args.input.now.rest (drop pair.2 c.args.input.now.rest) c.requires.some e }
