@@ -1,5 +1,5 @@
 -- What is read of a block stands there, and what stands there is read: a block has one reading.
-use Rattle.std.proofs.Common.{◌≡◌, ℕ, ◌+◌, Bool, true, false, List, length, subst, ap, ◌∙◌, sym, refl, ◌<◌, ℤ, arith}
+use Rattle.std.proofs.Common.{◌≡◌, ℕ, ◌+◌, Bool, true, false, List, length, subst, ap, ◌∙◌, sym, refl, ◌<◌, ℤ, arith, zero-add}
 use Rattle.std.specs.Prelude.{nat_eq, ◌&&◌, if◌then◌else◌, slice_set}
 use Rattle.std.proofs.lemmas.Bool.{eqb-true, lt-ltb, false_from_ne_true}
 use Rattle.m2v_bits.specs.Syntax.{renamed, choose, seq, bind, here, rule, done}
@@ -9,7 +9,7 @@ use Rattle.m2v_vlc.specs.declared.values.CodeFault.TheVariants as codes
 use Rattle.m2v_vlc.specs.declared.values.Coefficient.{Coefficient}
 use Rattle.m2v_vlc.specs.declared.values.Coefficient.TheVariants.{End, Escape, Pair}
 use Rattle.m2v_vlc.specs.Codes.{Row, code_at}
-use Rattle.m2v_vlc.specs.Coefficients.{coefficient_zero, coefficient_one}
+use Rattle.m2v_vlc.specs.Coefficients.{coefficient_zero, coefficient_one, first_zero}
 use Rattle.m2v_vlc.proofs.Sizes.{dc_luma_strict, dc_chroma_strict}
 use Rattle.m2v_vlc.proofs.Coefficients.{coefficient_zero_strict, coefficient_one_strict}
 use Rattle.m2v_vlc.proofs.Firsts.{first_zero_strict}
@@ -119,3 +119,22 @@ quick true s run level bs rest some fits e =
 quick false s run level bs rest some fits e =
     let first : nat_eq s.filled 0 ≡ false = false_from_ne_true (nat_eq s.filled 0) (λ z. absurd (omega (arith, some, eqb-true s.filled 0 z))) in
     rw (first, e, lt-ltb (s.filled + run) 64 fits) refl
+
+-- the end of a block by the table that holds behind the first place
+pub quick_end : (one : Bool) (s : Scan) (bs rest : List Bool) → 0 < s.filled
+    → (code_at codes.Truncated codes.NoCode (if one then coefficient_one else coefficient_zero)).read bs ≡ good (End, rest)
+    → (pair_at one s).read bs ≡ good ((false, s), rest)
+unfolding pair_at coefficient_at code_from choose renamed seq bind here done
+quick_end true s bs rest some e =
+    let first : nat_eq s.filled 0 ≡ false = false_from_ne_true (nat_eq s.filled 0) (λ z. absurd (omega (arith, some, eqb-true s.filled 0 z))) in
+    rw (first, e) refl
+quick_end false s bs rest some e =
+    let first : nat_eq s.filled 0 ≡ false = false_from_ne_true (nat_eq s.filled 0) (λ z. absurd (omega (arith, some, eqb-true s.filled 0 z))) in
+    rw (first, e) refl
+
+-- a pair at the first place of a block that is not intra
+pub quick_begin : (levels : List ℤ) (run : ℕ) (level : ℤ) (bs rest : List Bool) → run < 64
+    → (code_at codes.Truncated codes.NoCode first_zero).read bs ≡ good (Pair run level, rest)
+    → (pair_at false (record { filled = 0; levels = levels })).read bs ≡ good ((true, record { filled = run + 1; levels = slice_set levels run level }), rest)
+unfolding pair_at coefficient_at placed code_from choose renamed seq bind here rule done
+quick_begin levels run level bs rest fits e = rw (e, zero-add run, lt-ltb run 64 fits) refl

@@ -5,6 +5,7 @@
 mod dc;
 mod fault;
 mod laws;
+mod quick;
 mod read;
 mod write;
 

@@ -6,12 +6,13 @@ ghost use Rattle.m2v_block.specs.Blocks.{difference, IsDc, is_dc, size_at, dc_at
 
 use crate::fault::BlockFault;
 use crate::fault::BlockFault::{Code, DcRange, ForbiddenLevel, Overrun};
+use crate::quick::{quick_first, quick_pair};
 use m2v_bits::{BitReader, check, number};
 use m2v_quant::{BlockKind, Levels};
 use m2v_vlc::CodeFault::Truncated;
 use m2v_vlc::{
     Coefficient, read_coefficient_one, read_coefficient_zero, read_dc_chroma, read_dc_luma,
-    read_first_zero, short_pair,
+    read_first_zero,
 };
 
 /// The size of a DC difference, by table B.12 for luma and table B.13 for chroma.
@@ -192,7 +193,8 @@ fn coefficient<'a>(
 }
 
 /// Reads a pair or the end of the block: whether a pair was read, and how many places are filled then.
-#[inline(always)]
+#[cold]
+#[inline(never)]
 #[tactic(auto, unfolding(crate::specs::Blocks::pair_at, m2v_bits::specs::Syntax::seq, m2v_bits::specs::Syntax::bind, m2v_bits::specs::Syntax::here))]
 fn pair(
     input: &mut BitReader,
@@ -216,65 +218,54 @@ fn pair(
     coefficient(input, &start, filled, c, out)
 }
 
-/// Reads a pair with a short code by one look, if there is one well before the end of the bits: how many places are filled
-/// then.
+/// Reads a pair or the end of the block where one look doesn't tell it, by a reader of its own: the place of `input` can stay in
+/// a register.
 #[inline(always)]
-fn quick_pair(input: &mut BitReader, one: bool, filled: usize, out: &mut Levels) -> Option<usize>
+fn far_pair(
+    input: &mut BitReader,
+    one: bool,
+    filled: usize,
+    out: &mut Levels,
+) -> Result<(bool, usize), BlockFault>
+    requires filled { filled ≤ 64 }
+    requires levels { All IsLevel out.old.at }
+    ensures exact { GivesScan result out.new.at input.new.rest
+        ((pair_at one (record { filled = filled; levels = out.old.at })).read input.old.rest) }
+    ensures text { input.new.text ≡ input.old.text }
+    ensures within { IfOk result (λ x. (filled ≤ x.1) × (x.1 ≤ 64)) }
+    ensures more { IfOk result (λ x. x.0 ≡ true → 0 < x.1) }
+    ensures dc { 0 < filled → slice_index_or out.new.at 0 (pos 0)
+        ≡ slice_index_or out.old.at 0 (pos 0) }
+    ensures levels { All IsLevel out.new.at }
+{
+    let mut far = input.fork();
+    let read = pair(&mut far, one, filled, out);
+    *input = far;
+    read
+}
+
+/// Reads a pair or the end of the block, behind the first place: by one look in most cases.
+#[inline(always)]
+fn next_pair(
+    input: &mut BitReader,
+    one: bool,
+    filled: usize,
+    out: &mut Levels,
+) -> Result<(bool, usize), BlockFault>
     requires filled { filled ≤ 64 }
     requires some { 0 < filled }
     requires levels { All IsLevel out.old.at }
-    ensures read { IfSome result (λ next. (pair_at one (record {
-      filled = filled;
-      levels = out.old.at;
-    })).read input.old.rest ≡ Ok (
-      (true, record { filled = next; levels = out.new.at }),
-      input.new.rest,
-    )) }
-    ensures none { IsNone result → out.new ≡ out.old }
-    ensures here { IsNone result → input.new ≡ input.old }
+    ensures exact { GivesScan result out.new.at input.new.rest
+        ((pair_at one (record { filled = filled; levels = out.old.at })).read input.old.rest) }
     ensures text { input.new.text ≡ input.old.text }
-    ensures within { IfSome result (λ next. (filled < next) × (next ≤ 64)) }
+    ensures within { IfOk result (λ x. (filled ≤ x.1) × (x.1 ≤ 64)) }
     ensures dc { slice_index_or out.new.at 0 (pos 0) ≡ slice_index_or out.old.at 0 (pos 0) }
     ensures levels { All IsLevel out.new.at }
 {
-    let nine = input.peek_inside(9)?;
-    let pair = short_pair(one, nine);
-    let at = filled + pair.1 as usize;
-    if at >= 64 {
-        return None;
+    if let Some(x) = quick_pair(input, one, filled, out) {
+        return Ok(x);
     }
-    out.at[at] = i32::from(pair.0);
-    input.skip(pair.2);
-    Some(at + 1)
-}
-
-/// Reads pairs with short codes, as many as stand there: how many places are filled then. The reader's place stays in a
-/// register meanwhile.
-#[inline(always)]
-fn quick_pairs(input: &mut BitReader, one: bool, from: usize, out: &mut Levels) -> usize
-    requires filled { from ≤ 64 }
-    requires some { 0 < from }
-    requires levels { All IsLevel out.old.at }
-    ensures read { (pairs_at one (record {
-      filled = result;
-      levels = out.new.at;
-    })).read input.new.rest ≡ (pairs_at one (record {
-      filled = from;
-      levels = out.old.at;
-    })).read input.old.rest }
-    ensures text { input.new.text ≡ input.old.text }
-    ensures less { length input.new.rest ≤ length input.old.rest }
-    ensures within { (from ≤ result) × (result ≤ 64) }
-    ensures dc { slice_index_or out.new.at 0 (pos 0) ≡ slice_index_or out.old.at 0 (pos 0) }
-    ensures levels { All IsLevel out.new.at }
-{
-    let mut ahead = input.fork();
-    let mut filled = from;
-    while let Some(next) = quick_pair(&mut ahead, one, filled, out) {
-        filled = next;
-    }
-    *input = ahead;
-    filled
+    far_pair(input, one, filled, out)
 }
 
 /// Reads pairs up to the end of the block.
@@ -291,8 +282,7 @@ fn pairs(input: &mut BitReader, one: bool, from: usize, out: &mut Levels) -> Res
 {
     let mut filled = from;
     loop {
-        filled = quick_pairs(input, one, filled, out);
-        let (more, next) = pair(input, one, filled, out)?;
+        let (more, next) = next_pair(input, one, filled, out)?;
         filled = next;
         if !more {
             return Ok(());
@@ -302,7 +292,7 @@ fn pairs(input: &mut BitReader, one: bool, from: usize, out: &mut Levels) -> Res
 
 /// Reads the pairs behind the DC level of an intra block: which table holds is asked once.
 #[inline(always)]
-fn intra_pairs(input: &mut BitReader, one: bool, out: &mut Levels) -> Result<(), BlockFault>
+fn pairs_by(input: &mut BitReader, one: bool, out: &mut Levels) -> Result<(), BlockFault>
     requires levels { All IsLevel out.old.at }
     ensures exact { GivesEnd result out.new.at input.new.rest
         ((pairs_at one (record { filled = 1; levels = out.old.at })).read input.old.rest) }
@@ -316,7 +306,56 @@ fn intra_pairs(input: &mut BitReader, one: bool, out: &mut Levels) -> Result<(),
     pairs(input, false, 1, out)
 }
 
+/// Reads the pairs behind the DC level of an intra block, by a reader of its own, whose place stays in a register.
+#[inline(always)]
+fn intra_pairs(input: &mut BitReader, one: bool, out: &mut Levels) -> Result<(), BlockFault>
+    requires levels { All IsLevel out.old.at }
+    ensures exact { GivesEnd result out.new.at input.new.rest
+        ((pairs_at one (record { filled = 1; levels = out.old.at })).read input.old.rest) }
+    ensures text { input.new.text ≡ input.old.text }
+    ensures levels { All IsLevel out.new.at }
+    ensures dc { slice_index_or out.new.at 0 (pos 0) ≡ slice_index_or out.old.at 0 (pos 0) }
+{
+    let mut ahead = input.fork();
+    let read = pairs_by(&mut ahead, one, out);
+    *input = ahead;
+    read
+}
+
+/// Reads the first pair of a block that is not intra, where no block ends: by one look in most cases.
+#[inline(always)]
+fn first_pair(input: &mut BitReader, out: &mut Levels) -> Result<(bool, usize), BlockFault>
+    requires levels { All IsLevel out.old.at }
+    ensures exact { GivesScan result out.new.at input.new.rest
+        ((pair_at false (record { filled = 0; levels = out.old.at })).read input.old.rest) }
+    ensures text { input.new.text ≡ input.old.text }
+    ensures within { IfOk result (λ x. x.1 ≤ 64) }
+    ensures more { IfOk result (λ x. x.0 ≡ true → 0 < x.1) }
+    ensures levels { All IsLevel out.new.at }
+{
+    if let Some(next) = quick_first(input, out) {
+        return Ok((true, next));
+    }
+    far_pair(input, false, 0, out)
+}
+
 /// Reads all pairs of a block that is not intra. The first of them goes by itself: none behind it can be the first.
+#[inline(always)]
+fn first_and_pairs(input: &mut BitReader, out: &mut Levels) -> Result<(), BlockFault>
+    requires levels { All IsLevel out.old.at }
+    ensures exact { GivesEnd result out.new.at input.new.rest
+        ((pairs_at false (record { filled = 0; levels = out.old.at })).read input.old.rest) }
+    ensures text { input.new.text ≡ input.old.text }
+    ensures levels { All IsLevel out.new.at }
+{
+    let (more, next) = first_pair(input, out)?;
+    if !more {
+        return Ok(());
+    }
+    pairs(input, false, next, out)
+}
+
+/// Reads all pairs of a block that is not intra, by a reader of its own, whose place stays in a register.
 #[inline(always)]
 fn all_pairs(input: &mut BitReader, out: &mut Levels) -> Result<(), BlockFault>
     requires levels { All IsLevel out.old.at }
@@ -325,11 +364,10 @@ fn all_pairs(input: &mut BitReader, out: &mut Levels) -> Result<(), BlockFault>
     ensures text { input.new.text ≡ input.old.text }
     ensures levels { All IsLevel out.new.at }
 {
-    let (more, next) = pair(input, false, 0, out)?;
-    if !more {
-        return Ok(());
-    }
-    pairs(input, false, next, out)
+    let mut ahead = input.fork();
+    let read = first_and_pairs(&mut ahead, out);
+    *input = ahead;
+    read
 }
 
 /// The DC level of an intra block, and 0 for another.

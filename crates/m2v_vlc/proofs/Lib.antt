@@ -8,6 +8,7 @@ pub mod Motions
 pub mod Sizes
 pub mod Places
 pub mod Coefficients
-pub mod Shorts
 pub mod Firsts
+pub mod Shorts
+pub mod Longs
 pub mod TableLaws

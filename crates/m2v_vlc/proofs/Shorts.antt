@@ -1,6 +1,6 @@
 -- The look-ups of pairs with short codes, checked by computing against the rows' look-ups.
-use Rattle.std.proofs.Common.{◌≡◌, ℕ, ◌+◌, ◌-◌, ◌/◌, ◌<◌, ◌≤◌, Bool, true, eqb, leb, List, length, get_or, drop, Option, Some, None, Ok, inl, inr, refl, ap, ap₂, subst, ◌∙◌, arith}
-use Rattle.std.specs.Prelude.{◌&&◌, slice_get}
+use Rattle.std.proofs.Common.{◌≡◌, ℕ, ◌+◌, ◌-◌, ◌/◌, ◌<◌, ◌≤◌, Bool, true, eqb, leb, List, length, get_or, drop, Option, Some, None, Ok, inl, inr, refl, sym, ap, ap₂, subst, ◌∙◌, arith}
+use Rattle.std.specs.Prelude.{◌&&◌, slice_get, pos}
 use Rattle.std.proofs.lemmas.Bool.{cases_lt, eqb-true, leb-true, and_parts}
 use Rattle.std.specs.List.{list_all}
 use Rattle.m2v_bits.specs.Bits.{number, ahead}
@@ -13,71 +13,117 @@ use Rattle.m2v_vlc.specs.declared.one_rows.TheConstants.{ONE_BY_9}
 use Rattle.m2v_vlc.specs.declared.zero_short.TheConstants.{ZERO_SHORT}
 use Rattle.m2v_vlc.specs.declared.one_short.TheConstants.{ONE_SHORT}
 use Rattle.m2v_vlc.specs.Codes.{Row, code_at}
-use Rattle.m2v_vlc.specs.Values.{same_signed}
+use Rattle.m2v_vlc.specs.Values.{same_signed, minus}
 use Rattle.m2v_vlc.specs.Lookups.{IsTable, Points}
-use Rattle.m2v_vlc.specs.Shorts.{ShortPair, Stands, nothing}
-use Rattle.m2v_vlc.specs.Coefficients.{coefficient_zero, coefficient_one, pairs_zero, pairs_one, signed}
+use Rattle.m2v_vlc.specs.Shorts.{ShortPair, Stands, Ends, nothing}
+use Rattle.m2v_vlc.specs.Coefficients.{coefficient_zero, coefficient_one, first_zero, pairs_zero, pairs_one, signed}
 use Rattle.m2v_vlc.proofs.LookupLaws.{reads_row, get_in, peeked}
 use Rattle.m2v_vlc.proofs.Places.{is_small, small_range}
 use Rattle.m2v_vlc.proofs.ValueLaws.{signed_sound, below, agree, all_in}
 use Rattle.m2v_vlc.proofs.Coefficients.{coefficient_zero_table, coefficient_zero_known, zero_by_9, coefficient_one_table, coefficient_one_known, one_by_9}
+use Rattle.m2v_vlc.proofs.Firsts.{first_same, first_plus, first_minus}
 
--- ---- an entry is the pair of the row that the rows' look-up points to
+-- ---- an entry is the pair, or the end, of the row that the rows' look-up points to
 
-abbrev is_pair : Coefficient → ℕ → ShortPair → Bool
-is_pair End len e = leb 64 e.1
-is_pair Escape len e = leb 64 e.1
-is_pair (Pair run level) len e = eqb run e.1 && (same_signed level e.0 && (eqb len e.2 && leb len 9))
+abbrev pub is_entry : ℕ → Coefficient → ℕ → ShortPair → Bool
+is_entry w End len e = eqb e.1 128 && (eqb len e.2 && leb len w)
+is_entry w Escape len e = eqb e.1 64
+is_entry w (Pair run level) len e = leb run 31 && (eqb run e.1 && (same_signed level e.0 && (eqb len e.2 && leb len w)))
 
-abbrev is_short : Option (Row Coefficient) → ShortPair → Bool
-is_short None e = leb 64 e.1
-is_short (Some r) e = is_pair r.value r.len e
+abbrev pub is_short : ℕ → Option (Row Coefficient) → ShortPair → Bool
+is_short w None e = eqb e.1 64
+is_short w (Some r) e = is_entry w r.value r.len e
 
-pair_is : (v : Coefficient) (len : ℕ) (e : ShortPair) → is_pair v len e ≡ true → e.1 < 64 → (v ≡ Pair e.1 e.0) × (len ≡ e.2) × (e.2 ≤ 9)
-pair_is End len e h lt = absurd (omega (arith, lt, leb-true 64 e.1 h))
-pair_is Escape len e h lt = absurd (omega (arith, lt, leb-true 64 e.1 h))
-pair_is (Pair run level) len e h lt =
-    let a = and_parts (eqb run e.1) (same_signed level e.0 && (eqb len e.2 && leb len 9)) h in
-    let b = and_parts (same_signed level e.0) (eqb len e.2 && leb len 9) a.1 in
-    let c = and_parts (eqb len e.2) (leb len 9) b.1 in
-    let same : len ≡ e.2 = eqb-true len e.2 c.0 in
-    (ap₂ Pair (eqb-true run e.1 a.0) (signed_sound level e.0 b.0), same, omega (arith, same, leb-true len 9 c.1))
+pair_is : (w : ℕ) (v : Coefficient) (len : ℕ) (e : ShortPair) → is_entry w v len e ≡ true → e.1 < 64 → (v ≡ Pair e.1 e.0) × (len ≡ e.2) × (e.2 ≤ w)
+pair_is w End len e h lt = absurd (omega (arith, lt, eqb-true e.1 128 (and_parts (eqb e.1 128) (eqb len e.2 && leb len w) h).0))
+pair_is w Escape len e h lt = absurd (omega (arith, lt, eqb-true e.1 64 h))
+pair_is w (Pair run level) len e h lt =
+    let a = and_parts (leb run 31) (eqb run e.1 && (same_signed level e.0 && (eqb len e.2 && leb len w))) h in
+    let b = and_parts (eqb run e.1) (same_signed level e.0 && (eqb len e.2 && leb len w)) a.1 in
+    let c = and_parts (same_signed level e.0) (eqb len e.2 && leb len w) b.1 in
+    let d = and_parts (eqb len e.2) (leb len w) c.1 in
+    let same : len ≡ e.2 = eqb-true len e.2 d.0 in
+    (ap₂ Pair (eqb-true run e.1 b.0) (signed_sound level e.0 c.0), same, omega (arith, same, leb-true len w d.1))
 
-short_is : (o : Option (Row Coefficient)) (e : ShortPair) → is_short o e ≡ true → e.1 < 64 → (r : Row Coefficient) × (o ≡ Some r) × (r.value ≡ Pair e.1 e.0) × (r.len ≡ e.2) × (e.2 ≤ 9)
-short_is None e h lt = absurd (omega (arith, lt, leb-true 64 e.1 h))
-short_is (Some r) e h lt = let p = pair_is r.value r.len e h lt in (r, refl, p.0, p.1, p.2)
+end_is : (w : ℕ) (v : Coefficient) (len : ℕ) (e : ShortPair) → is_entry w v len e ≡ true → e.1 ≡ 128 → (v ≡ End) × (len ≡ e.2) × (e.2 ≤ w)
+end_is w End len e h is =
+    let a = and_parts (eqb e.1 128) (eqb len e.2 && leb len w) h in
+    let b = and_parts (eqb len e.2) (leb len w) a.1 in
+    let same : len ≡ e.2 = eqb-true len e.2 b.0 in
+    (refl, same, omega (arith, same, leb-true len w b.1))
+end_is w Escape len e h is = absurd (omega (arith, is, eqb-true e.1 64 h))
+end_is w (Pair run level) len e h is =
+    let a = and_parts (leb run 31) (eqb run e.1 && (same_signed level e.0 && (eqb len e.2 && leb len w))) h in
+    let b = and_parts (eqb run e.1) (same_signed level e.0 && (eqb len e.2 && leb len w)) a.1 in
+    absurd (omega (arith, is, leb-true run 31 a.0, eqb-true run e.1 b.0))
+
+-- a row of the value, with the code's bits
+abbrev pub Found : ℕ → Option (Row Coefficient) → Coefficient → ℕ → Type 0
+Found w o v len = (r : Row Coefficient) × (o ≡ Some r) × (r.value ≡ v) × (r.len ≡ len) × (len ≤ w)
+
+pub pair_row : (w : ℕ) (o : Option (Row Coefficient)) (e : ShortPair) → is_short w o e ≡ true → e.1 < 64 → Found w o (Pair e.1 e.0) e.2
+pair_row w None e h lt = absurd (omega (arith, lt, eqb-true e.1 64 h))
+pair_row w (Some r) e h lt = let p = pair_is w r.value r.len e h lt in (r, refl, p.0, p.1, p.2)
+
+pub end_row : (w : ℕ) (o : Option (Row Coefficient)) (e : ShortPair) → is_short w o e ≡ true → e.1 ≡ 128 → Found w o End e.2
+end_row w None e h is = absurd (omega (arith, is, eqb-true e.1 64 h))
+end_row w (Some r) e h is = let p = end_is w r.value r.len e h is in (r, refl, p.0, p.1, p.2)
 
 -- ---- what is read
 
-reads : (t : List (Row Coefficient)) (i : ℕ) (p : ShortPair) (r : Row Coefficient) (bs : List Bool) → IsTable t → Points t i bs → slice_get t i ≡ Some r → r.value ≡ Pair p.1 p.0 → r.len ≡ p.2 → p.2 ≤ length bs → (code_at Truncated NoCode t).read bs ≡ Ok (Pair p.1 p.0, drop p.2 bs)
-reads t i p r bs is at get value len enough = reads_row Truncated NoCode t i r bs is at get (omega (arith, len, enough)) ∙ ap₂ (λ v n. good (v, drop n bs)) value len
+-- the rows' look-up by nine bits points to the row whose code stands there
+abbrev PointsBy : List (Row Coefficient) → List ℕ → Type 0
+PointsBy t by = (bs : List Bool) (q i : ℕ) → q ≡ number (ahead 17 bs) → q < 131072 → 2048 ≤ q → i ≡ get_or by (q / 256 - 8) 0 → Points t i bs
 
--- an entry behind the first eight, which stand for nothing
-stands : (t : List (Row Coefficient)) (by : List ℕ) (entries : List ShortPair) (k : ℕ) (p : ShortPair) → IsTable t → list_all (λ r. is_small r.value) t ≡ true
-    → ((bs : List Bool) (q i : ℕ) → q ≡ number (ahead 17 bs) → q < 131072 → 2048 ≤ q → i ≡ get_or by (q / 256 - 8) 0 → Points t i bs)
-    → below (λ n. (get_or entries n nothing).1) 8 ≡ below (λ n. 64) 8
-    → below (λ n. is_short (slice_get t (get_or by n 0)) (get_or entries (8 + n) nothing)) 504 ≡ below (λ n. true) 504
-    → k < 512 → get_or entries k nothing ≡ p → p.1 < 64 → Stands t k p
-stands t by entries k p table known points few all lt entry run =
+-- the entries are those of the rows, behind the first eight, which stand for nothing
+record AreShorts (t : List (Row Coefficient)) (by : List ℕ) (entries : List ShortPair) : Type 0 where
+  table : IsTable t
+  known : list_all (λ r. is_small r.value) t ≡ true
+  points : PointsBy t by
+  few : below (λ n. (get_or entries n nothing).1) 8 ≡ below (λ n. 64) 8
+  all : below (λ n. is_short 9 (slice_get t (get_or by n 0)) (get_or entries (8 + n) nothing)) 504 ≡ below (λ n. true) 504
+
+-- an entry that stands for something is that of a row
+entry_is : (t : List (Row Coefficient)) (by : List ℕ) (entries : List ShortPair) (k : ℕ) (p : ShortPair) → AreShorts t by entries
+    → k < 512 → get_or entries k nothing ≡ p → (p.1 ≡ 64 → ⊥) → (8 ≤ k) × (is_short 9 (slice_get t (get_or by (k - 8) 0)) p ≡ true)
+entry_is t by entries k p are lt entry other =
     elim (cases_lt k 8) [
-      | inl small ↦ absurd (omega (arith, run, agree (λ n. (get_or entries n nothing).1) (λ n. 64) 8 k few small, ap (λ (e : ShortPair). e.1) entry))
+      | inl small ↦ absurd (other (sym (ap (λ (e : ShortPair). e.1) entry) ∙ agree (λ n. (get_or entries n nothing).1) (λ n. 64) 8 k are.few small))
       | inr large ↦
           let n = k - 8 in
-          let i = get_or by n 0 in
           let same : 8 + n ≡ k = omega arith in
           let here : get_or entries (8 + n) nothing ≡ p = rw same entry in
-          let holds : is_short (slice_get t i) p ≡ true = subst (λ (x : ShortPair). is_short (slice_get t i) x ≡ true) here (agree (λ n. is_short (slice_get t (get_or by n 0)) (get_or entries (8 + n) nothing)) (λ n. true) 504 n all (omega arith)) in
-          let found = short_is (slice_get t i) p holds run in
-          let r = found.0 in
-          record {
-            short = found.4;
-            range = small_range (Pair p.1 p.0) (subst (λ (x : Coefficient). is_small x ≡ true) found.2 (all_in is_small t r known (get_in t i r found.1)));
-            reads = λ bs nine enough.
-                let seventeen = number (ahead 17 bs) in
-                let high : k ≡ seventeen / 256 = nine ∙ peeked 9 bs (omega arith) in
-                reads t i p r bs table (points bs seventeen i refl (omega (arith, high, lt)) (omega (arith, high, large)) (ap (λ (x : ℕ). get_or by (x - 8) 0) high)) found.1 found.2 found.3 enough;
-          }
+          (large, subst (λ (x : ShortPair). is_short 9 (slice_get t (get_or by n 0)) x ≡ true) here (agree (λ n. is_short 9 (slice_get t (get_or by n 0)) (get_or entries (8 + n) nothing)) (λ n. true) 504 n are.all (omega arith)))
     ]
+
+reads : (t : List (Row Coefficient)) (by : List ℕ) (k : ℕ) (v : Coefficient) (len : ℕ) (bs : List Bool) → IsTable t → PointsBy t by → k < 512 → 8 ≤ k
+    → Found 9 (slice_get t (get_or by (k - 8) 0)) v len → k ≡ number (ahead 9 bs) → len ≤ length bs → (code_at Truncated NoCode t).read bs ≡ Ok (v, drop len bs)
+reads t by k v len bs table points lt large (r, get, value, same, short) nine enough =
+    let i = get_or by (k - 8) 0 in
+    let seventeen = number (ahead 17 bs) in
+    let high : k ≡ seventeen / 256 = nine ∙ peeked 9 bs (omega arith) in
+    let at = points bs seventeen i refl (omega (arith, high, lt)) (omega (arith, high, large)) (ap (λ (x : ℕ). get_or by (x - 8) 0) high) in
+    reads_row Truncated NoCode t i r bs table at get (omega (arith, same, enough)) ∙ ap₂ (λ w n. good (w, drop n bs)) value same
+
+stands : (t : List (Row Coefficient)) (by : List ℕ) (entries : List ShortPair) (k : ℕ) (p : ShortPair) → AreShorts t by entries → k < 512 → get_or entries k nothing ≡ p → p.1 < 64 → Stands 9 t k p
+stands t by entries k p are lt entry run =
+    let e = entry_is t by entries k p are lt entry (λ is. absurd (omega (arith, is, run))) in
+    let found = pair_row 9 (slice_get t (get_or by (k - 8) 0)) p e.1 run in
+    let r = found.0 in
+    record {
+      short = found.4;
+      range = small_range (Pair p.1 p.0) (subst (λ (x : Coefficient). is_small x ≡ true) found.2 (all_in is_small t r are.known (get_in t (get_or by (k - 8) 0) r found.1)));
+      reads = λ bs nine enough. reads t by k (Pair p.1 p.0) p.2 bs are.table are.points lt e.0 found nine enough;
+    }
+
+ends : (t : List (Row Coefficient)) (by : List ℕ) (entries : List ShortPair) (k : ℕ) (p : ShortPair) → AreShorts t by entries → k < 512 → get_or entries k nothing ≡ p → p.1 ≡ 128 → Ends 9 t k p
+ends t by entries k p are lt entry run =
+    let e = entry_is t by entries k p are lt entry (λ is. absurd (omega (arith, is, run))) in
+    let found = end_row 9 (slice_get t (get_or by (k - 8) 0)) p e.1 run in
+    record {
+      short = found.4;
+      reads = λ bs nine enough. reads t by k End p.2 bs are.table are.points lt e.0 found nine enough;
+    }
 
 -- ---- table B.14
 
@@ -85,12 +131,18 @@ zero_first : below (λ n. (get_or ZERO_SHORT n nothing).1) 8 ≡ below (λ n. 64
 unfolding below
 zero_first = refl
 
-zero_all : below (λ n. is_short (slice_get coefficient_zero (get_or ZERO_BY_9 n 0)) (get_or ZERO_SHORT (8 + n) nothing)) 504 ≡ below (λ n. true) 504
+zero_all : below (λ n. is_short 9 (slice_get coefficient_zero (get_or ZERO_BY_9 n 0)) (get_or ZERO_SHORT (8 + n) nothing)) 504 ≡ below (λ n. true) 504
 unfolding below coefficient_zero pairs_zero signed same_signed
 zero_all = refl
 
-pub zero_stands : (k : ℕ) (p : ShortPair) → k < 512 → get_or ZERO_SHORT k nothing ≡ p → p.1 < 64 → Stands coefficient_zero k p
-zero_stands k p lt entry run = stands coefficient_zero ZERO_BY_9 ZERO_SHORT k p coefficient_zero_table coefficient_zero_known zero_by_9 zero_first zero_all lt entry run
+zero_are : AreShorts coefficient_zero ZERO_BY_9 ZERO_SHORT
+zero_are = record { table = coefficient_zero_table; known = coefficient_zero_known; points = zero_by_9; few = zero_first; all = zero_all }
+
+pub zero_stands : (k : ℕ) (p : ShortPair) → k < 512 → get_or ZERO_SHORT k nothing ≡ p → p.1 < 64 → Stands 9 coefficient_zero k p
+zero_stands k p lt entry run = stands coefficient_zero ZERO_BY_9 ZERO_SHORT k p zero_are lt entry run
+
+pub zero_ends : (k : ℕ) (p : ShortPair) → k < 512 → get_or ZERO_SHORT k nothing ≡ p → p.1 ≡ 128 → Ends 9 coefficient_zero k p
+zero_ends k p lt entry run = ends coefficient_zero ZERO_BY_9 ZERO_SHORT k p zero_are lt entry run
 
 -- ---- table B.15
 
@@ -98,9 +150,39 @@ one_first : below (λ n. (get_or ONE_SHORT n nothing).1) 8 ≡ below (λ n. 64) 
 unfolding below
 one_first = refl
 
-one_all : below (λ n. is_short (slice_get coefficient_one (get_or ONE_BY_9 n 0)) (get_or ONE_SHORT (8 + n) nothing)) 504 ≡ below (λ n. true) 504
+one_all : below (λ n. is_short 9 (slice_get coefficient_one (get_or ONE_BY_9 n 0)) (get_or ONE_SHORT (8 + n) nothing)) 504 ≡ below (λ n. true) 504
 unfolding below coefficient_one pairs_one signed same_signed
 one_all = refl
 
-pub one_stands : (k : ℕ) (p : ShortPair) → k < 512 → get_or ONE_SHORT k nothing ≡ p → p.1 < 64 → Stands coefficient_one k p
-one_stands k p lt entry run = stands coefficient_one ONE_BY_9 ONE_SHORT k p coefficient_one_table coefficient_one_known one_by_9 one_first one_all lt entry run
+one_are : AreShorts coefficient_one ONE_BY_9 ONE_SHORT
+one_are = record { table = coefficient_one_table; known = coefficient_one_known; points = one_by_9; few = one_first; all = one_all }
+
+pub one_stands : (k : ℕ) (p : ShortPair) → k < 512 → get_or ONE_SHORT k nothing ≡ p → p.1 < 64 → Stands 9 coefficient_one k p
+one_stands k p lt entry run = stands coefficient_one ONE_BY_9 ONE_SHORT k p one_are lt entry run
+
+pub one_ends : (k : ℕ) (p : ShortPair) → k < 512 → get_or ONE_SHORT k nothing ≡ p → p.1 ≡ 128 → Ends 9 coefficient_one k p
+one_ends k p lt entry run = ends coefficient_one ONE_BY_9 ONE_SHORT k p one_are lt entry run
+
+-- ---- table B.14 at the first coefficient of a block that is not intra
+
+-- where the first bit is 0 its table reads what table B.14 reads
+pub first_stands : (k : ℕ) (p : ShortPair) → k < 256 → Stands 9 coefficient_zero k p → Stands 9 first_zero k p
+first_stands k p lt is = record {
+  short = is.short;
+  range = is.range;
+  reads = λ bs nine enough. first_same bs (omega (arith, lt, nine, peeked 9 bs (omega arith), peeked 2 bs (omega arith))) ∙ is.reads bs nine enough;
+}
+
+pub plus_stands : (k : ℕ) → 256 ≤ k → k < 384 → Stands 9 first_zero k (pos 1, 0, 2)
+plus_stands k from lt = record {
+  short = omega arith;
+  range = small_range (Pair 0 (pos 1)) refl;
+  reads = λ bs nine enough. first_plus bs (omega (arith, from, lt, nine, peeked 9 bs (omega arith), peeked 2 bs (omega arith))) enough;
+}
+
+pub minus_stands : (k : ℕ) → 384 ≤ k → k < 512 → Stands 9 first_zero k (minus 1, 0, 2)
+minus_stands k from lt = record {
+  short = omega arith;
+  range = small_range (Pair 0 (minus 1)) refl;
+  reads = λ bs nine enough. first_minus bs (omega (arith, from, lt, nine, peeked 9 bs (omega arith), peeked 2 bs (omega arith))) enough;
+}

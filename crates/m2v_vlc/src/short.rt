@@ -1,14 +1,20 @@
-ghost use Rattle.std.specs.Prelude.{◌≡◌, ◌<◌, if◌then◌else◌, length, slice_index_or};
-ghost use Rattle.m2v_vlc.specs.Coefficients.{coefficient_zero, coefficient_one};
-ghost use Rattle.m2v_vlc.specs.Shorts.{Stands, nothing};
+ghost use Rattle.std.specs.Prelude.{◌≡◌, ◌<◌, ◌≤◌, if◌then◌else◌, length, slice_index_or};
+ghost use Rattle.m2v_vlc.specs.Coefficients.{coefficient_zero, coefficient_one, first_zero};
+ghost use Rattle.m2v_vlc.specs.Shorts.{Stands, Ends, nothing};
 
 use crate::one_short::ONE_SHORT;
 use crate::values::ShortPair;
 use crate::zero_short::ZERO_SHORT;
 
+/// Run 0 and level 1 as the first coefficient of a block that is not intra.
+static FIRST_PLUS: ShortPair = (1, 0, 2);
+
+/// Run 0 and level -1 as the first coefficient of a block that is not intra.
+static FIRST_MINUS: ShortPair = (-1, 0, 2);
+
 /// What a look-up holds at i.
 #[inline(always)]
-fn entry_at(lookup: &[ShortPair], i: u32) -> &ShortPair
+pub fn entry_at(lookup: &[ShortPair], i: u32) -> &ShortPair
     requires { i < length lookup.now }
     ensures { result.now ≡ slice_index_or lookup.now i nothing }
 {
@@ -19,7 +25,8 @@ fn entry_at(lookup: &[ShortPair], i: u32) -> &ShortPair
 #[inline(always)]
 fn zero_short(nine: u32) -> &'static ShortPair
     requires { nine < 512 }
-    ensures stands { result.now.1 < 64 → Stands coefficient_zero nine result.now }
+    ensures stands { result.now.1 < 64 → Stands 9 coefficient_zero nine result.now }
+    ensures ends { result.now.1 ≡ 128 → Ends 9 coefficient_zero nine result.now }
 {
     entry_at(&ZERO_SHORT, nine)
 }
@@ -28,22 +35,53 @@ fn zero_short(nine: u32) -> &'static ShortPair
 #[inline(always)]
 fn one_short(nine: u32) -> &'static ShortPair
     requires { nine < 512 }
-    ensures stands { result.now.1 < 64 → Stands coefficient_one nine result.now }
+    ensures stands { result.now.1 < 64 → Stands 9 coefficient_one nine result.now }
+    ensures ends { result.now.1 ≡ 128 → Ends 9 coefficient_one nine result.now }
 {
     entry_at(&ONE_SHORT, nine)
 }
 
-/// The pair whose code, of nine bits at most, nine bits begin with, by table B.15 where `one` and else by table B.14; run 64
-/// where they begin with no pair's. Most coefficients are read so, with one look.
+/// The pair whose code, of nine bits at most, nine bits begin with, by table B.15 where `one` and else by table B.14; run 128
+/// where they begin with the end of the block, and run 64 for anything else. Most coefficients are read so, with one look.
 #[inline(always)]
 pub fn short_pair(one: bool, nine: u32) -> &'static ShortPair
     requires { nine < 512 }
     ensures stands { result.now.1 < 64
-        → Stands (if one then coefficient_one else coefficient_zero) nine result.now }
+        → Stands 9 (if one then coefficient_one else coefficient_zero) nine result.now }
+    ensures ends { result.now.1 ≡ 128
+        → Ends 9 (if one then coefficient_one else coefficient_zero) nine result.now }
 {
     if one {
         one_short(nine)
     } else {
         zero_short(nine)
+    }
+}
+
+/// Run 0 and level 1 or -1, which a 1 begins where it is the first coefficient.
+#[inline(always)]
+fn first_unit(nine: u32) -> &'static ShortPair
+    requires from { 256 ≤ nine }
+    requires below { nine < 512 }
+    ensures stands { Stands 9 first_zero nine result.now }
+{
+    if nine < 384 {
+        &FIRST_PLUS
+    } else {
+        &FIRST_MINUS
+    }
+}
+
+/// The pair whose code, of nine bits at most, nine bits begin with by table B.14 at the first coefficient of a block that is
+/// not intra; run 64 where they begin with no pair's.
+#[inline(always)]
+pub fn short_first(nine: u32) -> &'static ShortPair
+    requires { nine < 512 }
+    ensures stands { result.now.1 < 64 → Stands 9 first_zero nine result.now }
+{
+    if nine < 256 {
+        zero_short(nine)
+    } else {
+        first_unit(nine)
     }
 }

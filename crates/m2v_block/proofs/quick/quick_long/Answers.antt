@@ -5,15 +5,15 @@ use mir.Val.{SFits, to_z, of_z}
 use Rattle.m2v_bits.specs.Bits.{Unread}
 use Rattle.m2v_block.specs.Blocks.{Scan}
 use Rattle.m2v_block.proofs.BlockLaws.{quick}
-use Rattle.m2v_block.proofs.read.quick_pair.Goals as goal
+use Rattle.m2v_block.proofs.quick.quick_long.Goals as goal
 
 pub returns-clause-read : goal.returns-clause-read
 returns-clause-read c =
-    let pair = c.short_pair-pair.result.now in
+    let pair = c.long_pair-pair.result.now in
     let run : pair.1 < 64 = omega arith in
-    let stands = c.short_pair-pair.ensures.stands run in
-    let enough : pair.2 ≤ length c.args.input.now.rest = omega (arith, stands.short, c.in_ok-nine.ensures.left refl) in
-    let e = stands.reads c.args.input.now.rest c.in_ok-nine.ensures.value enough in
+    let stands = c.long_pair-pair.ensures.stands run in
+    let enough : pair.2 ≤ length c.args.input.now.rest = omega (arith, stands.short, c.in_ok-seventeen.ensures.left refl) in
+    let e = stands.reads c.args.input.now.rest c.in_ok-seventeen.ensures.value enough in
     let s : Scan = record { filled = c.args.filled; levels = c.args.out.now.at } in
     let f : SFits w32 c.from.result = search rules in
     let g : SFits w16 pair.0 = search rules in
