@@ -32,6 +32,7 @@ loop-more-preserved c =
       text = c.in_ok-more.ensures.text ∙ c.loop-more.invariant.text;
       above = omega (arith, c.loop-more.invariant.above, within);
       within = within.1;
+      clear = c.in_ok-more.ensures.clear;
       levels = c.in_ok-more.ensures.levels;
       dc = c.in_ok-more.ensures.dc ∙ c.loop-more.invariant.dc;
     }
