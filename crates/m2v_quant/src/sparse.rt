@@ -8,7 +8,7 @@ ghost use Rattle.m2v_quant.specs.Sparse.{AreKept, IsClearFrom, spread};
 
 use crate::block_levels::BlockLevels;
 use crate::inverse::{put_coefficient, turned};
-use crate::kind::BlockKind;
+use crate::kind::{BlockKind, Levels};
 use std::marker::Model;
 
 /// A level and its position in scan order.
@@ -110,6 +110,28 @@ impl SparseLevels {
     {
         self.first
     }
+
+    /// All 64 levels.
+    pub fn dense(&self) -> Levels
+        ensures value { result ≡ self.now }
+    {
+        Levels {
+            at: all_of(self.first, &self.later, self.count),
+        }
+    }
+}
+
+/// The first level and those that are kept behind it, among zeros.
+fn all_of(first: i32, later: &[LevelAt; 63], count: usize) -> [i32; 64]
+    requires kept { AreKept first later.now count }
+    ensures value { result ≡ spread first later.now count }
+{
+    let mut at = [0; 64];
+    at[0] = first;
+    for i in 0..count {
+        at[later[i].position as usize] = i32::from(later[i].level);
+    }
+    at
 }
 
 /// The place of one kept level more, and the parity with it.
