@@ -1,11 +1,45 @@
-ghost use Rattle.std.specs.Prelude.{◌≡◌, ◌<◌, ◌≤◌, Bool, List, drop, length, slice_index_or, All, IfSome, IfOk, IfErr, IsErr, IsNone, Ok, pos, true, false};
+ghost use Rattle.std.specs.Prelude.{◌≡◌, ◌≢◌, ◌+◌, ◌<◌, ◌≤◌, Bool, List, drop, length, slice_index_or, slice_set, All, IfSome, IfOk, IfErr, IsErr, IsNone, Ok, pos, true, false};
 ghost use Rattle.m2v_bits.specs.Bits.{number, ahead};
 ghost use Rattle.m2v_quant.specs.Kinds.{IsLevel};
+ghost use Rattle.m2v_quant.specs.Sparse.{IsClearFrom};
 ghost use Rattle.m2v_block.specs.Blocks.{pair_at, pairs_at, EndsBy, Looked};
 
 use m2v_bits::BitReader;
-use m2v_quant::Levels;
+use m2v_quant::SparseLevels;
 use m2v_vlc::{long_pair, short_first, short_pair};
+
+/// Sets a level behind all that aren't 0.
+#[inline(always)]
+pub fn set(out: &mut SparseLevels, at: usize, level: i32)
+    requires at { at < 64 }
+    requires level { IsLevel level }
+    requires some { level ≢ pos 0 }
+    requires clear { IsClearFrom at out.old.at }
+    requires levels { All IsLevel out.old.at }
+    ensures value { out.new.at ≡ slice_set out.old.at at level }
+    ensures clear { IsClearFrom (at + 1) out.new.at }
+    ensures levels { All IsLevel out.new.at }
+    ensures dc { 0 < at → slice_index_or out.new.at 0 (pos 0) ≡ slice_index_or out.old.at 0 (pos 0) }
+{
+    out.put(at, level);
+}
+
+/// The same, behind the first position.
+#[inline(always)]
+fn set_later(out: &mut SparseLevels, at: usize, level: i32)
+    requires later { 1 ≤ at }
+    requires at { at < 64 }
+    requires level { IsLevel level }
+    requires some { level ≢ pos 0 }
+    requires clear { IsClearFrom at out.old.at }
+    requires levels { All IsLevel out.old.at }
+    ensures value { out.new.at ≡ slice_set out.old.at at level }
+    ensures clear { IsClearFrom (at + 1) out.new.at }
+    ensures levels { All IsLevel out.new.at }
+    ensures dc { slice_index_or out.new.at 0 (pos 0) ≡ slice_index_or out.old.at 0 (pos 0) }
+{
+    out.put_later(at, level);
+}
 
 /// Reads a pair with a long code by one look, if one stands well before the end of the bits: that a pair was read, and how many
 /// places are filled then.
@@ -14,10 +48,11 @@ pub fn quick_long(
     input: &mut BitReader,
     one: bool,
     filled: usize,
-    out: &mut Levels,
+    out: &mut SparseLevels,
 ) -> Option<(bool, usize)>
     requires filled { filled ≤ 64 }
     requires some { 0 < filled }
+    requires clear { IsClearFrom filled out.old.at }
     requires levels { All IsLevel out.old.at }
     ensures read { IfSome result (λ x. (pair_at one (record {
       filled = filled;
@@ -30,6 +65,7 @@ pub fn quick_long(
     ensures here { IsNone result → input.new ≡ input.old }
     ensures text { input.new.text ≡ input.old.text }
     ensures within { IfSome result (λ x. (filled ≤ x.1) × (x.1 ≤ 64)) }
+    ensures clear { IfSome result (λ x. IsClearFrom x.1 out.new.at) }
     ensures dc { slice_index_or out.new.at 0 (pos 0) ≡ slice_index_or out.old.at 0 (pos 0) }
     ensures levels { All IsLevel out.new.at }
 {
@@ -42,7 +78,7 @@ pub fn quick_long(
     if at >= 64 {
         return None;
     }
-    out.at[at] = i32::from(pair.0);
+    set_later(out, at, i32::from(pair.0));
     input.skip(pair.2);
     Some((true, at + 1))
 }
@@ -75,10 +111,11 @@ fn quick_pair(
     one: bool,
     nine: u32,
     filled: usize,
-    out: &mut Levels,
+    out: &mut SparseLevels,
 ) -> Result<(usize, u8), u8>
     requires filled { filled ≤ 64 }
     requires some { 0 < filled }
+    requires clear { IsClearFrom filled out.old.at }
     requires levels { All IsLevel out.old.at }
     requires nine { nine ≡ number (ahead 9 input.old.rest) }
     requires below { nine < 512 }
@@ -97,6 +134,7 @@ fn quick_pair(
     ensures here { IsErr result → input.new ≡ input.old }
     ensures text { input.new.text ≡ input.old.text }
     ensures within { IfOk result (λ x. (filled < x.0) × (x.0 ≤ 64)) }
+    ensures clear { IfOk result (λ x. IsClearFrom x.0 out.new.at) }
     ensures dc { slice_index_or out.new.at 0 (pos 0) ≡ slice_index_or out.old.at 0 (pos 0) }
     ensures levels { All IsLevel out.new.at }
 {
@@ -105,7 +143,7 @@ fn quick_pair(
     if at >= 64 {
         return Err(if pair.1 == 128 { pair.2 } else { 0 });
     }
-    out.at[at] = i32::from(pair.0);
+    set_later(out, at, i32::from(pair.0));
     input.skip(pair.2);
     Ok((at + 1, pair.2))
 }
@@ -118,10 +156,11 @@ fn third_pair(
     bits: u32,
     used: u8,
     filled: usize,
-    out: &mut Levels,
+    out: &mut SparseLevels,
 ) -> Told
     requires filled { filled ≤ 64 }
     requires some { 0 < filled }
+    requires clear { IsClearFrom filled out.old.at }
     requires levels { All IsLevel out.old.at }
     requires used { used ≤ 18 }
     requires looked { Looked bits used input.old.rest }
@@ -140,6 +179,7 @@ fn third_pair(
     ensures text { input.new.text ≡ input.old.text }
     ensures less { length input.new.rest ≤ length input.old.rest }
     ensures within { (filled ≤ result.filled) × (result.filled ≤ 64) }
+    ensures clear { IsClearFrom result.filled out.new.at }
     ensures more { IsNone result.ended → filled < result.filled }
     ensures dc { slice_index_or out.new.at 0 (pos 0) ≡ slice_index_or out.old.at 0 (pos 0) }
     ensures levels { All IsLevel out.new.at }
@@ -164,10 +204,11 @@ fn second_pair(
     bits: u32,
     used: u8,
     filled: usize,
-    out: &mut Levels,
+    out: &mut SparseLevels,
 ) -> Told
     requires filled { filled ≤ 64 }
     requires some { 0 < filled }
+    requires clear { IsClearFrom filled out.old.at }
     requires levels { All IsLevel out.old.at }
     requires used { used ≤ 9 }
     requires looked { Looked bits used input.old.rest }
@@ -186,6 +227,7 @@ fn second_pair(
     ensures text { input.new.text ≡ input.old.text }
     ensures less { length input.new.rest ≤ length input.old.rest }
     ensures within { (filled ≤ result.filled) × (result.filled ≤ 64) }
+    ensures clear { IsClearFrom result.filled out.new.at }
     ensures more { IsNone result.ended → filled < result.filled }
     ensures dc { slice_index_or out.new.at 0 (pos 0) ≡ slice_index_or out.old.at 0 (pos 0) }
     ensures levels { All IsLevel out.new.at }
@@ -201,9 +243,10 @@ fn second_pair(
 
 /// Reads up to three pairs with short codes by one look at 32 bits, well before the end of the bits.
 #[inline(always)]
-fn quick_three(input: &mut BitReader, one: bool, filled: usize, out: &mut Levels) -> Told
+fn quick_three(input: &mut BitReader, one: bool, filled: usize, out: &mut SparseLevels) -> Told
     requires filled { filled ≤ 64 }
     requires some { 0 < filled }
+    requires clear { IsClearFrom filled out.old.at }
     requires levels { All IsLevel out.old.at }
     ensures read { (pairs_at one (record {
       filled = result.filled;
@@ -219,6 +262,7 @@ fn quick_three(input: &mut BitReader, one: bool, filled: usize, out: &mut Levels
     ensures text { input.new.text ≡ input.old.text }
     ensures less { length input.new.rest ≤ length input.old.rest }
     ensures within { (filled ≤ result.filled) × (result.filled ≤ 64) }
+    ensures clear { IsClearFrom result.filled out.new.at }
     ensures more { IsNone result.ended → filled < result.filled }
     ensures dc { slice_index_or out.new.at 0 (pos 0) ≡ slice_index_or out.old.at 0 (pos 0) }
     ensures levels { All IsLevel out.new.at }
@@ -241,9 +285,15 @@ fn quick_three(input: &mut BitReader, one: bool, filled: usize, out: &mut Levels
 /// Reads pairs with short codes, as many as stand there: how many places are filled then, and how many bits the end of the block
 /// has that stands behind them, 0 where it is not told.
 #[inline(always)]
-pub fn quick_pairs(input: &mut BitReader, one: bool, from: usize, out: &mut Levels) -> (usize, u8)
+pub fn quick_pairs(
+    input: &mut BitReader,
+    one: bool,
+    from: usize,
+    out: &mut SparseLevels,
+) -> (usize, u8)
     requires filled { from ≤ 64 }
     requires some { 0 < from }
+    requires clear { IsClearFrom from out.old.at }
     requires levels { All IsLevel out.old.at }
     ensures read { (pairs_at one (record {
       filled = result.0;
@@ -257,6 +307,7 @@ pub fn quick_pairs(input: &mut BitReader, one: bool, from: usize, out: &mut Leve
     ensures text { input.new.text ≡ input.old.text }
     ensures less { length input.new.rest ≤ length input.old.rest }
     ensures within { (from ≤ result.0) × (result.0 ≤ 64) }
+    ensures clear { IsClearFrom result.0 out.new.at }
     ensures dc { slice_index_or out.new.at 0 (pos 0) ≡ slice_index_or out.old.at 0 (pos 0) }
     ensures levels { All IsLevel out.new.at }
 {
@@ -273,7 +324,8 @@ pub fn quick_pairs(input: &mut BitReader, one: bool, from: usize, out: &mut Leve
 /// Reads the first pair of a block that is not intra by one look, if it has a short code well before the end of the bits: how
 /// many places are filled then.
 #[inline(always)]
-pub fn quick_first(input: &mut BitReader, out: &mut Levels) -> Option<usize>
+pub fn quick_first(input: &mut BitReader, out: &mut SparseLevels) -> Option<usize>
+    requires clear { IsClearFrom 0 out.old.at }
     requires levels { All IsLevel out.old.at }
     ensures read { IfSome result (λ next. (pair_at false (record {
       filled = 0;
@@ -286,6 +338,7 @@ pub fn quick_first(input: &mut BitReader, out: &mut Levels) -> Option<usize>
     ensures here { IsNone result → input.new ≡ input.old }
     ensures text { input.new.text ≡ input.old.text }
     ensures within { IfSome result (λ next. (0 < next) × (next ≤ 64)) }
+    ensures clear { IfSome result (λ next. IsClearFrom next out.new.at) }
     ensures levels { All IsLevel out.new.at }
 {
     let nine = input.peek_inside(9)?;
@@ -294,7 +347,7 @@ pub fn quick_first(input: &mut BitReader, out: &mut Levels) -> Option<usize>
     if at >= 64 {
         return None;
     }
-    out.at[at] = i32::from(pair.0);
+    set(out, at, i32::from(pair.0));
     input.skip(pair.2);
     Some(at + 1)
 }

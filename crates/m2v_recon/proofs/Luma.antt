@@ -1,5 +1,5 @@
 -- Luma blocks in 16 lines of 16.
-use Rattle.std.proofs.Common.{◌≡◌, ◌≢◌, ℕ, ◌^◌, ◌+ℤ◌, ◌+◌, ◌-◌, ◌*◌, ◌%◌, ◌<◌, ◌≤◌, Bool, true, false, ◌&&◌, cond, nat_lt, List, [], length, get_or, replicate, refl, ap, sym, ◌∙◌, arith, ℤ, pos, inl, inr}
+use Rattle.std.proofs.Common.{◌≡◌, ◌≢◌, ℕ, ◌^◌, ◌+ℤ◌, ◌+◌, ◌-◌, ◌*◌, ◌%◌, ◌<◌, ◌≤◌, Bool, true, false, ◌&&◌, cond, nat_lt, List, [], length, map, get_or, replicate, refl, ap, sym, ◌∙◌, arith, ℤ, pos, inl, inr}
 use Rattle.std.proofs.lemmas.Bool.{cases_lt, cases_eq}
 use Rattle.std.proofs.lemmas.Bool.Decides.{nat_tests}
 use Rattle.std.proofs.lemmas.List.{get_or-map}
@@ -11,11 +11,10 @@ use Rattle.std.proofs.lemmas.Int.{ints, clamps, to_z-of_z}
 use mir.Syntax.{w32}
 use mir.Val.{SFits, to_z, of_z}
 use Rattle.m2v_quant.specs.declared.kind.BlockKind.{BlockKind}
-use Rattle.m2v_quant.specs.declared.kind.Levels.{Levels}
 use Rattle.m2v_recon.specs.Macro.{clamped, BlockPlace, block_of, is_alone, is_coded, kind_at, residual}
 use Rattle.m2v_quant.specs.Coefficients.{coefficients_of}
 use Rattle.m2v_idct.specs.Inverse.{inverse_of}
-use Rattle.m2v_recon.specs.Steps.{luma_line, luma_place, difference_at, rebuilt, levels_of}
+use Rattle.m2v_recon.specs.Steps.{luma_line, luma_place, difference_at, rebuilt, own_list}
 
 one_more : (k n : ℕ) → k ≢ n → nat_lt k n ≡ nat_lt k (n + 1)
 one_more k n ne = grind (arith, nat_tests)
@@ -119,17 +118,19 @@ pub line_below : (field : Bool) (block k j : ℕ) → block < 4 → k < 8 → j 
 line_below false block k j b kk jj = (omega arith, omega arith, omega arith)
 line_below true block k j b kk jj = (omega arith, omega arith, omega arith)
 
+-- the levels of a block, as what holds them shows them
+pub own_is : {L : Type 0} (list : L → List ℤ) (xs : List L) (k : ℕ) (d : L) → k < length xs → list (get_or xs k d) ≡ own_list (map list xs) k
+own_is list xs k d lt = sym (get_or-map list xs k d (replicate 64 (pos 0)) lt)
+
 -- a block's differences are those that the definition adds
-pub residual_is : (levels : List Levels) (kinds : List BlockKind) (pattern block : ℕ) (coded : Bool) (place : BlockPlace) → place.block ≡ block → block < 4
-    → block < length levels → coded ≡ is_coded pattern block
-    → difference_at coded (get_or levels block (record { at = [] })).at (kind_at kinds 0) (8 * place.line + place.column)
-    ≡ residual (levels_of levels) pattern (kind_at kinds 0) (kind_at kinds 1) place
+pub residual_is : (lists : List (List ℤ)) (kinds : List BlockKind) (pattern block : ℕ) (coded : Bool) (place : BlockPlace) → place.block ≡ block → block < 4
+    → coded ≡ is_coded pattern block
+    → difference_at coded (own_list lists block) (kind_at kinds 0) (8 * place.line + place.column)
+    ≡ residual lists pattern (kind_at kinds 0) (kind_at kinds 1) place
 unfolding residual
-residual_is levels kinds pattern block coded place same below inside told =
+residual_is lists kinds pattern block coded place same below told =
     let small : nat_lt place.block 4 ≡ true = luma_block place.block (omega (arith, same, below)) in
-    let own : get_or (levels_of levels) place.block (replicate 64 (pos 0)) ≡ (get_or levels block (record { at = [] })).at =
-    ap (λ k. get_or (levels_of levels) k (replicate 64 (pos 0))) same
-    ∙ get_or-map (λ (l : Levels). l.at) levels block (record { at = [] }) (replicate 64 (pos 0)) inside in
+    let own : own_list lists place.block ≡ own_list lists block = ap (own_list lists) same in
     let is : coded ≡ is_coded pattern place.block = told ∙ ap (is_coded pattern) (sym same) in
     sym (rw (own, small, ← is) refl)
   where
@@ -146,20 +147,20 @@ alone_is kinds pattern block coded place same below told =
     (λ i. is i && (cond ((sym small) i) (kind_at kinds 0) (kind_at kinds 1)).intra)
 
 -- one block more of luma
-pub luma_more : (levels : List Levels) (kinds : List BlockKind) (pattern block : ℕ) (coded field : Bool) (old mid new : List ℕ) → block < 4 → block < length levels
+pub luma_more : (lists : List (List ℤ)) (kinds : List BlockKind) (pattern block : ℕ) (coded field : Bool) (old mid new : List ℕ) → block < 4
     → coded ≡ is_coded pattern block
     → ((r c : ℕ) → r < 16 → c < 16 → spot mid (16 * r + c)
     ≡ cond (nat_lt (block_of field Y r c).block block)
-    (plus (is_alone pattern (kind_at kinds 0) (kind_at kinds 1) (block_of field Y r c)) (spot old (16 * r + c)) (residual (levels_of levels) pattern (kind_at kinds 0) (kind_at kinds 1) (block_of field Y r c))) (spot old (16 * r + c)))
+    (plus (is_alone pattern (kind_at kinds 0) (kind_at kinds 1) (block_of field Y r c)) (spot old (16 * r + c)) (residual lists pattern (kind_at kinds 0) (kind_at kinds 1) (block_of field Y r c))) (spot old (16 * r + c)))
     → ((k j : ℕ) → k < 8 → j < 8 → spot new (luma_place field block k + j)
-    ≡ rebuilt coded (get_or levels block (record { at = [] })).at (kind_at kinds 0) (8 * k + j) (spot mid (luma_place field block k + j)))
+    ≡ rebuilt coded (own_list lists block) (kind_at kinds 0) (8 * k + j) (spot mid (luma_place field block k + j)))
     → ((i : ℕ) → ((k j : ℕ) → k < 8 → j < 8 → i ≢ luma_place field block k + j) → spot new i ≡ spot mid i)
     → (r c : ℕ) → r < 16 → c < 16 → spot new (16 * r + c)
     ≡ cond (nat_lt (block_of field Y r c).block (block + 1))
-    (plus (is_alone pattern (kind_at kinds 0) (kind_at kinds 1) (block_of field Y r c)) (spot old (16 * r + c)) (residual (levels_of levels) pattern (kind_at kinds 0) (kind_at kinds 1) (block_of field Y r c))) (spot old (16 * r + c))
-luma_more levels kinds pattern block coded field old mid new below inside told before lines rest r c lt small =
+    (plus (is_alone pattern (kind_at kinds 0) (kind_at kinds 1) (block_of field Y r c)) (spot old (16 * r + c)) (residual lists pattern (kind_at kinds 0) (kind_at kinds 1) (block_of field Y r c))) (spot old (16 * r + c))
+luma_more lists kinds pattern block coded field old mid new below told before lines rest r c lt small =
     let place = block_of field Y r c in
-    let difference = residual (levels_of levels) pattern (kind_at kinds 0) (kind_at kinds 1) place in
+    let difference = residual lists pattern (kind_at kinds 0) (kind_at kinds 1) place in
     let was = spot old (16 * r + c) in
     let alone = is_alone pattern (kind_at kinds 0) (kind_at kinds 1) place in
     let within = block_below field r c lt small in
@@ -170,7 +171,7 @@ luma_more levels kinds pattern block coded field old mid new below inside told b
           let done : nat_lt place.block (block + 1) ≡ true = is_less place.block (block + 1) (omega arith) in
           let open_yet : nat_lt place.block block ≡ false = ap (λ b. nat_lt b block) here ∙ not_itself block in
           let untouched : spot mid (16 * r + c) ≡ was = before r c lt small ∙ ap (λ b. cond b (plus alone was difference) was) open_yet in
-          let added = residual_is levels kinds pattern block coded place here below inside told in
+          let added = residual_is lists kinds pattern block coded place here below told in
           let is = alone_is kinds pattern block coded place here below told in
           ap (spot new) (sym at_is) ∙ lines place.line place.column within.1 within.2
           ∙ (λ i. plus (is i) ((ap (spot mid) at_is ∙ untouched) i) (added i))

@@ -1,6 +1,6 @@
 -- The samples of a macroblock's planes.
 use Rattle.std.proofs.Common.{◌≡◌, ℕ, ◌+◌, ◌*◌, ◌<◌, ◌^◌, Bool, true, false, ◌&&◌, cond, zero, suc, List, [], length, get_or, take, drop, replicate, refl, ap, sym, ◌∙◌, arith, ℤ, pos, ◌+ℤ◌}
-use Rattle.std.proofs.lemmas.List.{get_or-map, get_or-take, get_or-drop}
+use Rattle.std.proofs.lemmas.List.{get_or-take, get_or-drop}
 use Rattle.m2v_pred.specs.m2v_plane.declared.planes.Plane.{Plane}
 use Rattle.m2v_pred.specs.m2v_plane.declared.planes.Plane.TheVariants.{Y, Cb, Cr}
 use Rattle.m2v_pred.specs.m2v_plane.declared.planes.Lines.TheVariants.{Whole}
@@ -9,11 +9,10 @@ use Rattle.m2v_pred.specs.m2v_plane.Samples.{Samples, plane_by, plane_with_squar
 use Rattle.m2v_pred.proofs.m2v_plane.Places.{part_at, plane_is}
 use Rattle.m2v_pred.proofs.m2v_plane.Squares.{square_same}
 use Rattle.m2v_quant.specs.declared.kind.BlockKind.{BlockKind}
-use Rattle.m2v_quant.specs.declared.kind.Levels.{Levels}
 use Rattle.m2v_pred.specs.Predicted.{block_by}
 use Rattle.m2v_pred.proofs.Blocks.{block-at}
 use Rattle.m2v_recon.specs.Macro.{block_of, is_alone, is_coded, kind_at, kind_of, residual, clamped, macro_sample, plane_with, with_macroblock}
-use Rattle.m2v_recon.specs.Steps.{difference_at, levels_of, rebuilt}
+use Rattle.m2v_recon.specs.Steps.{difference_at, own_list, rebuilt}
 use Rattle.m2v_recon.proofs.Luma.{block_below, not_added, plus_none}
 
 -- luma samples
@@ -31,23 +30,19 @@ luma_is pred levels pattern luma chroma field samples len are =
     (get_or-take 256 pred (16 * l + c) 0 (omega arith)))
 
 -- chroma samples
-blue_residual : (levels : List Levels) (kinds : List BlockKind) (pattern : ℕ) (coded field : Bool) (l c : ℕ) → 4 < length levels → coded ≡ is_coded pattern 4
-    → difference_at coded (get_or levels 4 (record { at = [] })).at (kind_at kinds 1) (8 * l + c)
-    ≡ residual (levels_of levels) pattern (kind_at kinds 0) (kind_at kinds 1) (block_of field Cb l c)
+blue_residual : (lists : List (List ℤ)) (kinds : List BlockKind) (pattern : ℕ) (coded field : Bool) (l c : ℕ) → coded ≡ is_coded pattern 4
+    → difference_at coded (own_list lists 4) (kind_at kinds 1) (8 * l + c)
+    ≡ residual lists pattern (kind_at kinds 0) (kind_at kinds 1) (block_of field Cb l c)
 unfolding residual block_of
-blue_residual levels kinds pattern coded false l c inside told =
-    sym (rw (get_or-map (λ (b : Levels). b.at) levels 4 (record { at = [] }) (replicate 64 (pos 0)) inside, ← told) refl)
-blue_residual levels kinds pattern coded true l c inside told =
-    sym (rw (get_or-map (λ (b : Levels). b.at) levels 4 (record { at = [] }) (replicate 64 (pos 0)) inside, ← told) refl)
+blue_residual lists kinds pattern coded false l c told = sym (rw (← told) refl)
+blue_residual lists kinds pattern coded true l c told = sym (rw (← told) refl)
 
-red_residual : (levels : List Levels) (kinds : List BlockKind) (pattern : ℕ) (coded field : Bool) (l c : ℕ) → 5 < length levels → coded ≡ is_coded pattern 5
-    → difference_at coded (get_or levels 5 (record { at = [] })).at (kind_at kinds 1) (8 * l + c)
-    ≡ residual (levels_of levels) pattern (kind_at kinds 0) (kind_at kinds 1) (block_of field Cr l c)
+red_residual : (lists : List (List ℤ)) (kinds : List BlockKind) (pattern : ℕ) (coded field : Bool) (l c : ℕ) → coded ≡ is_coded pattern 5
+    → difference_at coded (own_list lists 5) (kind_at kinds 1) (8 * l + c)
+    ≡ residual lists pattern (kind_at kinds 0) (kind_at kinds 1) (block_of field Cr l c)
 unfolding residual block_of
-red_residual levels kinds pattern coded false l c inside told =
-    sym (rw (get_or-map (λ (b : Levels). b.at) levels 5 (record { at = [] }) (replicate 64 (pos 0)) inside, ← told) refl)
-red_residual levels kinds pattern coded true l c inside told =
-    sym (rw (get_or-map (λ (b : Levels). b.at) levels 5 (record { at = [] }) (replicate 64 (pos 0)) inside, ← told) refl)
+red_residual lists kinds pattern coded false l c told = sym (rw (← told) refl)
+red_residual lists kinds pattern coded true l c told = sym (rw (← told) refl)
 
 -- whether they are results alone
 blue_alone : (kinds : List BlockKind) (pattern : ℕ) (coded field : Bool) (l c : ℕ) → coded ≡ is_coded pattern 4
@@ -62,34 +57,34 @@ unfolding block_of
 red_alone kinds pattern coded false l c told = ap (λ b. b && (kind_at kinds 1).intra) told
 red_alone kinds pattern coded true l c told = ap (λ b. b && (kind_at kinds 1).intra) told
 
-pub blue_is : (pred : List ℕ) (levels : List Levels) (kinds : List BlockKind) (pattern : ℕ) (coded field : Bool) (samples : List ℕ) → length samples ≡ 64
-    → 4 < length levels → coded ≡ is_coded pattern 4
+pub blue_is : (pred : List ℕ) (lists : List (List ℤ)) (kinds : List BlockKind) (pattern : ℕ) (coded field : Bool) (samples : List ℕ) → length samples ≡ 64
+    → coded ≡ is_coded pattern 4
     → ((i : ℕ) → i < 64 → get_or samples i 0
-    ≡ rebuilt coded (get_or levels 4 (record { at = [] })).at (kind_at kinds 1) i (get_or (take 64 (drop 256 pred)) i 0))
-    → samples ≡ plane_by 8 8 (macro_sample pred (levels_of levels) pattern (kind_at kinds 0) (kind_at kinds 1) field Cb)
+    ≡ rebuilt coded (own_list lists 4) (kind_at kinds 1) i (get_or (take 64 (drop 256 pred)) i 0))
+    → samples ≡ plane_by 8 8 (macro_sample pred lists pattern (kind_at kinds 0) (kind_at kinds 1) field Cb)
 unfolding macro_sample
-blue_is pred levels kinds pattern coded field samples len inside told are =
-    plane_is samples 8 8 (macro_sample pred (levels_of levels) pattern (kind_at kinds 0) (kind_at kinds 1) field Cb) len
+blue_is pred lists kinds pattern coded field samples len told are =
+    plane_is samples 8 8 (macro_sample pred lists pattern (kind_at kinds 0) (kind_at kinds 1) field Cb) len
     (λ l c lt small.
     let spot : l * 8 + c ≡ 8 * l + c = omega arith in
     let sample = part_at pred 256 64 (8 * l + c) (omega arith) in
-    let difference = blue_residual levels kinds pattern coded field l c inside told in
+    let difference = blue_residual lists kinds pattern coded field l c told in
     let alone = blue_alone kinds pattern coded field l c told in
     ap (λ k. get_or samples k 0) spot ∙ are (8 * l + c) (omega arith) ∙ (λ i. clamped (pos (cond (alone i) 0 (sample i)) +ℤ difference i)))
 
-pub red_is : (pred : List ℕ) (levels : List Levels) (kinds : List BlockKind) (pattern : ℕ) (coded field : Bool) (samples : List ℕ) → length samples ≡ 64
-    → 5 < length levels → coded ≡ is_coded pattern 5
+pub red_is : (pred : List ℕ) (lists : List (List ℤ)) (kinds : List BlockKind) (pattern : ℕ) (coded field : Bool) (samples : List ℕ) → length samples ≡ 64
+    → coded ≡ is_coded pattern 5
     → ((i : ℕ) → i < 64 → get_or samples i 0
-    ≡ rebuilt coded (get_or levels 5 (record { at = [] })).at (kind_at kinds 1) i (get_or (drop 64 (drop 256 pred)) i 0))
-    → samples ≡ plane_by 8 8 (macro_sample pred (levels_of levels) pattern (kind_at kinds 0) (kind_at kinds 1) field Cr)
+    ≡ rebuilt coded (own_list lists 5) (kind_at kinds 1) i (get_or (drop 64 (drop 256 pred)) i 0))
+    → samples ≡ plane_by 8 8 (macro_sample pred lists pattern (kind_at kinds 0) (kind_at kinds 1) field Cr)
 unfolding macro_sample
-red_is pred levels kinds pattern coded field samples len inside told are =
-    plane_is samples 8 8 (macro_sample pred (levels_of levels) pattern (kind_at kinds 0) (kind_at kinds 1) field Cr) len
+red_is pred lists kinds pattern coded field samples len told are =
+    plane_is samples 8 8 (macro_sample pred lists pattern (kind_at kinds 0) (kind_at kinds 1) field Cr) len
     (λ l c lt small.
     let spot : l * 8 + c ≡ 8 * l + c = omega arith in
     let place : 256 + (64 + (8 * l + c)) ≡ 320 + (8 * l + c) = omega arith in
     let sample = get_or-drop 64 (drop 256 pred) (8 * l + c) 0 ∙ get_or-drop 256 pred (64 + (8 * l + c)) 0 ∙ ap (λ k. get_or pred k 0) place in
-    let difference = red_residual levels kinds pattern coded field l c inside told in
+    let difference = red_residual lists kinds pattern coded field l c told in
     let alone = red_alone kinds pattern coded field l c told in
     ap (λ k. get_or samples k 0) spot ∙ are (8 * l + c) (omega arith) ∙ (λ i. clamped (pos (cond (alone i) 0 (sample i)) +ℤ difference i)))
 

@@ -1,5 +1,5 @@
 -- A macroblock's planes one by one.
-use Rattle.std.specs.Prelude.{ℕ, ◌+◌, ◌*◌, ◌/◌, ◌%◌, Bool, true, false, ◌&&◌, nat_eq, nat_lt, if◌then◌else◌, List, [], map, slice_index, slice_index_or, ℤ, pos, ◌+ℤ◌}
+use Rattle.std.specs.Prelude.{ℕ, ◌+◌, ◌*◌, ◌/◌, ◌%◌, Bool, true, false, ◌&&◌, nat_eq, nat_lt, if◌then◌else◌, List, [], map, replicate, slice_index, slice_index_or, ℤ, pos, ◌+ℤ◌}
 use Rattle.m2v_pred.specs.m2v_plane.declared.planes.Plane.{Plane}
 use Rattle.m2v_pred.specs.m2v_plane.declared.planes.Plane.TheVariants.{Y, Cb, Cr}
 use Rattle.m2v_pred.specs.m2v_plane.Sizes.{side, columns_of}
@@ -31,6 +31,10 @@ rebuilt coded levels kind place sample =
 -- the levels of each block
 abbrev pub levels_of : List Levels → List (List ℤ)
 levels_of levels = map (λ l. l.at) levels
+
+-- the levels of block k
+abbrev pub own_list : List (List ℤ) → ℕ → List ℤ
+own_list lists k = slice_index_or lists k (replicate 64 (pos 0))
 
 -- the levels of number k
 abbrev pub level_list : List Levels → ℕ → List ℤ

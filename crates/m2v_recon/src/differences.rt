@@ -1,6 +1,5 @@
 //! What is added to a prediction.
-ghost use Rattle.std.specs.Prelude.{ℕ, ◌≡◌, ◌≢◌, ◌+◌, ◌-◌, ◌*◌, ◌/◌, ◌%◌, ◌≤◌, ◌<◌, All, IsTrue, cond, slice_index, slice_index_or, length, ℤ, pos, ◌+ℤ◌};
-ghost use Rattle.m2v_quant.specs.declared.kind.Levels.{Levels};
+ghost use Rattle.std.specs.Prelude.{ℕ, ◌≡◌, ◌≢◌, ◌+◌, ◌-◌, ◌*◌, ◌/◌, ◌%◌, ◌≤◌, ◌<◌, All, IsTrue, cond, map, slice_index, slice_index_or, length, ℤ, pos, ◌+ℤ◌};
 ghost use Rattle.m2v_quant.specs.Kinds.{IsKind, IsLevel};
 ghost use Rattle.m2v_quant.specs.Coefficients.{coefficients_of};
 ghost use Rattle.m2v_idct.specs.Inverse.{inverse_of};
@@ -8,10 +7,10 @@ ghost use Rattle.m2v_idct.specs.Block.{nth};
 ghost use Rattle.m2v_idct.specs.Ranges.{IsSample};
 ghost use Rattle.m2v_pred.specs.m2v_plane.declared.planes.Plane.TheVariants.{Y};
 ghost use Rattle.m2v_recon.specs.Macro.{clamped, is_alone, is_coded, residual, block_of, kind_at};
-ghost use Rattle.m2v_recon.specs.Steps.{luma_line, luma_place, rebuilt, levels_of};
+ghost use Rattle.m2v_recon.specs.Steps.{luma_line, luma_place, rebuilt};
 
 use m2v_idct::inverse_in_place;
-use m2v_quant::{BlockKind, Levels, dequantise};
+use m2v_quant::{BlockKind, BlockLevels};
 
 /// Whether a block is coded: its bit `32 >> block` of the pattern is 1 (clause 6.3.17.4).
 #[inline(always)]
@@ -23,13 +22,13 @@ pub fn is_coded(pattern: u8, block: u32) -> bool
 }
 
 /// The differences of a coded block.
-fn differences(levels: &Levels, kind: &BlockKind, out: &mut [i32; 64])
+fn differences<L: BlockLevels>(levels: &L, kind: &BlockKind, out: &mut [i32; 64])
     requires kind { IsKind kind.now }
-    requires levels { All IsLevel levels.now.at }
-    ensures value { out.new ≡ inverse_of (coefficients_of levels.now.at kind.now) }
+    requires levels { All IsLevel (L.list levels.now) }
+    ensures value { out.new ≡ inverse_of (coefficients_of (L.list levels.now) kind.now) }
     ensures samples { All IsSample out.new }
 {
-    dequantise(levels, kind, out);
+    levels.coefficients(kind, out);
     inverse_in_place(out);
 }
 
@@ -111,22 +110,22 @@ fn add_block(samples: &mut [u8], dct_field: bool, block: usize, intra: bool, val
 
 /// Adds a luma block's differences, none where it isn't coded. `room` is for the block.
 #[inline(always)]
-fn add_coded(
+fn add_coded<L: BlockLevels>(
     samples: &mut [u8],
     dct_field: bool,
     block: usize,
     coded: bool,
-    levels: &Levels,
+    levels: &L,
     kind: &BlockKind,
     room: &mut [i32; 64],
 )
     requires samples { length samples.old ≡ 256 }
     requires block { block < 4 }
     requires kind { IsKind kind.now }
-    requires levels { All IsLevel levels.now.at }
+    requires levels { All IsLevel (L.list levels.now) }
     ensures lines { (k j : ℕ) → k < 8 → j < 8
         → slice_index samples.new (luma_place dct_field block k + j)
-        ≡ rebuilt coded levels.now.at kind.now (8 * k + j)
+        ≡ rebuilt coded (L.list levels.now) kind.now (8 * k + j)
         (slice_index samples.old (luma_place dct_field block k + j)) }
     ensures rest { (i : ℕ) → ((k j : ℕ) → k < 8 → j < 8 → i ≢ luma_place dct_field block k + j)
         → slice_index samples.new i ≡ slice_index samples.old i }
@@ -140,9 +139,9 @@ fn add_coded(
 
 /// Adds the differences of luma to 16 lines of 16 samples. `room` is for a block.
 #[inline(always)]
-pub fn add_luma(
+pub fn add_luma<L: BlockLevels>(
     samples: &mut [u8],
-    levels: &[Levels; 6],
+    levels: &[L; 6],
     pattern: u8,
     kinds: &[BlockKind; 2],
     dct_field: bool,
@@ -150,12 +149,12 @@ pub fn add_luma(
 )
     requires samples { length samples.old ≡ 256 }
     requires kinds { All IsKind kinds.now }
-    requires levels { All (λ l. All IsLevel l.at) levels.now }
+    requires levels { All (λ l. All IsLevel (L.list l)) levels.now }
     ensures value { (l c : ℕ) → l < 16 → c < 16 → slice_index samples.new (16 * l + c)
         ≡ clamped (
         pos (cond (is_alone pattern (kind_at kinds.now 0) (kind_at kinds.now 1)
         (block_of dct_field Y l c)) 0 (slice_index samples.old (16 * l + c)))
-        +ℤ residual (levels_of levels.now) pattern (kind_at kinds.now 0) (kind_at kinds.now 1)
+        +ℤ residual (map L.list levels.now) pattern (kind_at kinds.now 0) (kind_at kinds.now 1)
         (block_of dct_field Y l c)) }
 {
     for block in 0..4 {
@@ -188,18 +187,18 @@ fn add_all(samples: &mut [u8], intra: bool, values: &[i32; 64])
 
 /// Adds the differences of a chroma block, none where it isn't coded. `room` is for the block.
 #[inline(always)]
-pub fn add_chroma(
+pub fn add_chroma<L: BlockLevels>(
     samples: &mut [u8],
     coded: bool,
-    levels: &Levels,
+    levels: &L,
     kind: &BlockKind,
     room: &mut [i32; 64],
 )
     requires samples { length samples.old ≡ 64 }
     requires kind { IsKind kind.now }
-    requires levels { All IsLevel levels.now.at }
+    requires levels { All IsLevel (L.list levels.now) }
     ensures value { (i : ℕ) → i < 64 → slice_index samples.new i
-        ≡ rebuilt coded levels.now.at kind.now i (slice_index samples.old i) }
+        ≡ rebuilt coded (L.list levels.now) kind.now i (slice_index samples.old i) }
 {
     if !coded {
         return;

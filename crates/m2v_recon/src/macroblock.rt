@@ -1,23 +1,23 @@
 //! The samples of a macroblock.
-ghost use Rattle.std.specs.Prelude.{ℕ, ◌≡◌, ◌+◌, ◌*◌, ◌<◌, All, cond, length, slice_index, pos, ◌+ℤ◌};
+ghost use Rattle.std.specs.Prelude.{ℕ, ◌≡◌, ◌+◌, ◌*◌, ◌<◌, All, cond, length, map, slice_index, pos, ◌+ℤ◌};
 ghost use Rattle.m2v_pred.specs.m2v_plane.declared.planes.Plane.TheVariants.{Y};
 ghost use Rattle.m2v_quant.specs.Kinds.{IsKind, IsLevel};
 ghost use Rattle.m2v_pred.specs.Predicted.{block_by};
 ghost use Rattle.m2v_recon.specs.Macro.{block_of, clamped, is_alone, is_coded, kind_at, macro_sample, residual, with_macroblock};
-ghost use Rattle.m2v_recon.specs.Steps.{level_list, levels_of, rebuilt};
+ghost use Rattle.m2v_recon.specs.Steps.{own_list, rebuilt};
 
 use crate::differences::{add_chroma, add_luma, is_coded};
 use m2v_pred::Block16;
 use m2v_pred::plane::{Plane, RowSamples};
-use m2v_quant::{BlockKind, Levels};
+use m2v_quant::{BlockKind, BlockLevels};
 
 /// The samples of the three planes, written over their prediction.
 #[inline(always)]
-fn rebuild_planes(
+fn rebuild_planes<L: BlockLevels>(
     luma: &mut [u8],
     blue: &mut [u8],
     red: &mut [u8],
-    levels: &[Levels; 6],
+    levels: &[L; 6],
     pattern: u8,
     kinds: &[BlockKind; 2],
     dct_field: bool,
@@ -26,18 +26,18 @@ fn rebuild_planes(
     requires blue { length blue.old ≡ 64 }
     requires red { length red.old ≡ 64 }
     requires kinds { All IsKind kinds.now }
-    requires levels { All (λ l. All IsLevel l.at) levels.now }
+    requires levels { All (λ l. All IsLevel (L.list l)) levels.now }
     ensures luma { (l c : ℕ) → l < 16 → c < 16 → slice_index luma.new (16 * l + c)
         ≡ clamped (
         pos (cond (is_alone pattern (kind_at kinds.now 0) (kind_at kinds.now 1)
         (block_of dct_field Y l c)) 0 (slice_index luma.old (16 * l + c)))
-        +ℤ residual (levels_of levels.now) pattern (kind_at kinds.now 0) (kind_at kinds.now 1)
+        +ℤ residual (map L.list levels.now) pattern (kind_at kinds.now 0) (kind_at kinds.now 1)
         (block_of dct_field Y l c)) }
     ensures blue { (i : ℕ) → i < 64 → slice_index blue.new i
-        ≡ rebuilt (is_coded pattern 4) (level_list levels.now 4) (kind_at kinds.now 1) i
+        ≡ rebuilt (is_coded pattern 4) (own_list (map L.list levels.now) 4) (kind_at kinds.now 1) i
         (slice_index blue.old i) }
     ensures red { (i : ℕ) → i < 64 → slice_index red.new i
-        ≡ rebuilt (is_coded pattern 5) (level_list levels.now 5) (kind_at kinds.now 1) i
+        ≡ rebuilt (is_coded pattern 5) (own_list (map L.list levels.now) 5) (kind_at kinds.now 1) i
         (slice_index red.old i) }
 {
     if pattern == 0 {
@@ -55,17 +55,17 @@ fn rebuild_planes(
 /// the coefficients of each block whose bit `32 >> i` of `pattern` is set, clamped to 0 to 255. A block of an intra
 /// macroblock is its transform alone, whatever the prediction holds. The kinds are those of luma and of chroma blocks;
 /// with `dct_field` luma blocks hold the lines of a field each. Takes no memory.
-pub fn rebuild_block(
+pub fn rebuild_block<L: BlockLevels>(
     block: &mut Block16,
-    levels: &[Levels; 6],
+    levels: &[L; 6],
     pattern: u8,
     kinds: &[BlockKind; 2],
     dct_field: bool,
 )
     requires kinds { All IsKind kinds.now }
-    requires levels { All (λ l. All IsLevel l.at) levels.now }
+    requires levels { All (λ l. All IsLevel (L.list l)) levels.now }
     ensures value { block.new.at ≡ block_by
-        (macro_sample block.old.at (levels_of levels.now) pattern (kind_at kinds.now 0)
+        (macro_sample block.old.at (map L.list levels.now) pattern (kind_at kinds.now 0)
         (kind_at kinds.now 1) dct_field) }
 {
     let (luma, chroma) = block.at.split_at_mut(256);
@@ -75,9 +75,9 @@ pub fn rebuild_block(
 
 /// Writes the samples of one macroblock, those of [`rebuild_block`], at its column of a row, and nothing else of the row.
 /// Takes no memory.
-pub fn rebuild(
+pub fn rebuild<L: BlockLevels>(
     pred: &Block16,
-    levels: &[Levels; 6],
+    levels: &[L; 6],
     pattern: u8,
     kinds: &[BlockKind; 2],
     dct_field: bool,
@@ -85,10 +85,10 @@ pub fn rebuild(
     out: &mut RowSamples,
 )
     requires kinds { All IsKind kinds.now }
-    requires levels { All (λ l. All IsLevel l.at) levels.now }
+    requires levels { All (λ l. All IsLevel (L.list l)) levels.now }
     requires column { column < out.old.dims.mb_width }
     ensures value { out.new ≡ with_macroblock 1 0 column
-        (macro_sample pred.now.at (levels_of levels.now) pattern (kind_at kinds.now 0)
+        (macro_sample pred.now.at (map L.list levels.now) pattern (kind_at kinds.now 0)
         (kind_at kinds.now 1) dct_field) out.old }
 {
     let mut block = *pred;

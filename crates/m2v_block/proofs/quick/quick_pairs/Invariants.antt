@@ -1,5 +1,6 @@
 use Rattle.std.proofs.Common.{◌≡◌, ◌-◌, ◌≤◌, All, length, get_or, pos}
 use Rattle.m2v_quant.specs.Kinds.{IsLevel}
+use Rattle.m2v_quant.specs.Sparse.{IsClearFrom}
 use Rattle.m2v_block.specs.Blocks.{pairs_at}
 use Rattle.m2v_block.proofs.quick.quick_pairs.Given as goal
 
@@ -10,6 +11,7 @@ invariant-loop-ended l = record {
   less : length l.input.rest ≤ length l.fn.input.rest;
   above : l.from ≤ l.filled;
   within : l.filled ≤ 64;
+  clear : IsClearFrom l.filled l.out.at;
   levels : All IsLevel l.out.at;
   dc : get_or l.out.at 0 (pos 0) ≡ get_or l.fn.out.at 0 (pos 0);
 }

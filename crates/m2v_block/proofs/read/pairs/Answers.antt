@@ -35,6 +35,7 @@ loop-input-preserved c =
       text = c.in_ok-more.ensures.text ∙ quick.text ∙ c.loop-input.invariant.text;
       above = omega (arith, quick.within, within, c.loop-input.invariant.above);
       within = within.1;
+      clear = c.in_ok-more.ensures.clear;
       levels = c.in_ok-more.ensures.levels;
       dc = c.in_ok-more.ensures.dc ∙ quick.dc ∙ c.loop-input.invariant.dc;
     }
