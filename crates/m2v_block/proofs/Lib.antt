@@ -6,3 +6,4 @@ mod Marking
 pub mod DcSpellings
 pub mod Spellings
 pub use Rattle.m2v_vlc.proofs as m2v_vlc
+pub mod Looks

@@ -1,7 +1,8 @@
 -- The syntax of a block (clauses 6.2.6 and 7.2 of ISO/IEC 13818-2): its elements in reading order, each rule where it is looked at.
-use Rattle.std.specs.Prelude.{◌≡◌, ℕ, ◌+◌, ◌-◌, ◌^◌, Bool, true, false, cond, ◌&&◌, not, nat_lt, nat_le, nat_eq, Result, Ok, Err, List, ◌∷◌, length, slice_index_or, slice_set, replicate, if◌then◌else◌, ℤ, pos, ◌+ℤ◌, ◌-ℤ◌, ◌≤ℤ◌, ◌<ℤ◌, int_lt, int_le}
+use Rattle.std.specs.Prelude.{◌≡◌, ◌≤◌, ℕ, ◌+◌, ◌-◌, ◌^◌, Bool, true, false, cond, ◌&&◌, not, nat_lt, nat_le, nat_eq, Result, Ok, Err, List, ◌∷◌, length, drop, slice_index_or, slice_set, replicate, if◌then◌else◌, ℤ, pos, ◌+ℤ◌, ◌-ℤ◌, ◌≤ℤ◌, ◌<ℤ◌, int_lt, int_le}
 use Rattle.m2v_bits.specs.Syntax.{done, rule, choose, repeated, ◌>>=◌}
 use Rattle.m2v_bits.specs.Leaves.{bits_at}
+use Rattle.m2v_bits.specs.Bits.{number, ahead}
 use Rattle.m2v_bits.specs.Elements.{BitSyntax, left_at}
 use Rattle.m2v_vlc.specs.declared.values.Coefficient.{Coefficient}
 use Rattle.m2v_vlc.specs.declared.values.Coefficient.TheVariants.{End, Escape, Pair}
@@ -119,3 +120,14 @@ GivesLevels (Err e) levels rest read = read ≡ Err (e, length rest)
 abbrev pub GivesEnd : Result (Unit {0}) BlockFault → List ℤ → List Bool → Result (Scan × List Bool) (BlockFault × ℕ) → Type 0
 GivesEnd (Ok _) levels rest read = (p : ℕ) × (read ≡ Ok (record { filled = p; levels = levels }, rest))
 GivesEnd (Err e) levels rest read = read ≡ Err (e, length rest)
+
+-- the end of the block stands at the head of the bits, and has n of them
+pub record EndsBy (one : Bool) (s : Scan) (bs : List Bool) (n : ℕ) : Type 0 where
+  pub enough : n ≤ length bs
+  pub reads : (pair_at one s).read bs ≡ Ok ((false, s), drop n bs)
+
+-- 32 bits were looked at, and of them so many used since then
+pub record Looked (look used : ℕ) (rest : List Bool) : Type 0 where
+  pub from : List Bool
+  pub bits : look ≡ number (ahead 32 from)
+  pub here : rest ≡ drop used from

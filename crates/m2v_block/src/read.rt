@@ -1,14 +1,15 @@
-ghost use Rattle.std.specs.Prelude.{◌≡◌, ◌+◌, ◌^◌, ◌<◌, ◌≤◌, ◌+ℤ◌, nat_eq, Bool, true, false, cond, ◌&&◌, ◌∷◌, length, replicate, slice_index_or, All, IfOk, IfSome, IsNone, OnErr, Ok, ℤ, pos};
+ghost use Rattle.std.specs.Prelude.{◌≡◌, ◌≢◌, ◌+◌, ◌^◌, ◌<◌, ◌≤◌, ◌+ℤ◌, nat_eq, Bool, true, false, cond, ◌&&◌, ◌∷◌, length, replicate, slice_index_or, All, IfOk, IfSome, IsNone, OnErr, Ok, ℤ, pos};
 ghost use Rattle.m2v_bits.specs.Syntax.{Gives};
 ghost use Rattle.m2v_vlc.specs.Coefficients.{IsCoefficient};
 ghost use Rattle.m2v_quant.specs.Kinds.{IsKind, IsLevel};
+ghost use Rattle.m2v_quant.specs.Sparse.{IsClearFrom};
 ghost use Rattle.m2v_block.specs.Blocks.{difference, IsDc, is_dc, size_at, dc_at, placed, escaped, is_allowed, coefficient_at, code_from, pair_at, pairs_at, opened, first_at, block_at, predictor_after, GivesScan, GivesLevels, GivesEnd};
 
 use crate::fault::BlockFault;
 use crate::fault::BlockFault::{Code, DcRange, ForbiddenLevel, Overrun};
-use crate::quick::{quick_first, quick_pair};
+use crate::quick::{quick_first, quick_long, quick_pairs, set};
 use m2v_bits::{BitReader, check, number};
-use m2v_quant::{BlockKind, Levels};
+use m2v_quant::{BlockKind, SparseLevels};
 use m2v_vlc::CodeFault::Truncated;
 use m2v_vlc::{
     Coefficient, read_coefficient_one, read_coefficient_zero, read_dc_chroma, read_dc_luma,
@@ -89,12 +90,14 @@ fn placed<'a>(
     filled: usize,
     run: u8,
     level: i32,
-    out: &mut Levels,
+    out: &mut SparseLevels,
 ) -> Result<(bool, usize), BlockFault>
     requires filled { filled ≤ 64 }
     requires run { run < 64 }
     requires level { IsLevel level }
+    requires some { level ≢ pos 0 }
     requires text { start.now.text ≡ input.old.text }
+    requires clear { IsClearFrom filled out.old.at }
     requires levels { All IsLevel out.old.at }
     ensures exact { GivesScan result out.new.at input.new.rest
         ((placed (length start.now.rest) run level (record {
@@ -103,6 +106,7 @@ fn placed<'a>(
         })).read input.old.rest) }
     ensures text { input.new.text ≡ input.old.text }
     ensures within { IfOk result (λ x. (filled ≤ x.1) × (x.1 ≤ 64)) }
+    ensures clear { IfOk result (λ x. IsClearFrom x.1 out.new.at) }
     ensures more { IfOk result (λ x. x.0 ≡ true → 0 < x.1) }
     ensures dc { 0 < filled → slice_index_or out.new.at 0 (pos 0)
         ≡ slice_index_or out.old.at 0 (pos 0) }
@@ -110,7 +114,7 @@ fn placed<'a>(
 {
     let at = filled + run as usize;
     check(input, start, at < 64, Overrun)?;
-    out.at[at] = level;
+    set(out, at, level);
     Ok((true, at + 1))
 }
 
@@ -130,6 +134,7 @@ fn escaped(n: u32) -> i32
     requires below { n < 2 ^ 12 }
     requires allowed { is_allowed n ≡ true }
     ensures value { result ≡ escaped n }
+    ensures some { result ≢ pos 0 }
     ensures within { IsLevel result }
 {
     if n < 2048 { n as i32 } else { n as i32 - 4096 }
@@ -163,17 +168,19 @@ fn coefficient<'a>(
     start: &BitReader<'a>,
     filled: usize,
     c: Coefficient,
-    out: &mut Levels,
+    out: &mut SparseLevels,
 ) -> Result<(bool, usize), BlockFault>
     requires filled { filled ≤ 64 }
     requires range { IsCoefficient c }
     requires text { start.now.text ≡ input.old.text }
+    requires clear { IsClearFrom filled out.old.at }
     requires levels { All IsLevel out.old.at }
     ensures exact { GivesScan result out.new.at input.new.rest
         ((coefficient_at (length start.now.rest) (record { filled = filled; levels = out.old.at })
         c).read input.old.rest) }
     ensures text { input.new.text ≡ input.old.text }
     ensures within { IfOk result (λ x. (filled ≤ x.1) × (x.1 ≤ 64)) }
+    ensures clear { IfOk result (λ x. IsClearFrom x.1 out.new.at) }
     ensures more { IfOk result (λ x. x.0 ≡ true → 0 < x.1) }
     ensures dc { 0 < filled → slice_index_or out.new.at 0 (pos 0)
         ≡ slice_index_or out.old.at 0 (pos 0) }
@@ -200,14 +207,16 @@ fn pair(
     input: &mut BitReader,
     one: bool,
     filled: usize,
-    out: &mut Levels,
+    out: &mut SparseLevels,
 ) -> Result<(bool, usize), BlockFault>
     requires filled { filled ≤ 64 }
+    requires clear { IsClearFrom filled out.old.at }
     requires levels { All IsLevel out.old.at }
     ensures exact { GivesScan result out.new.at input.new.rest
         ((pair_at one (record { filled = filled; levels = out.old.at })).read input.old.rest) }
     ensures text { input.new.text ≡ input.old.text }
     ensures within { IfOk result (λ x. (filled ≤ x.1) × (x.1 ≤ 64)) }
+    ensures clear { IfOk result (λ x. IsClearFrom x.1 out.new.at) }
     ensures more { IfOk result (λ x. x.0 ≡ true → 0 < x.1) }
     ensures dc { 0 < filled → slice_index_or out.new.at 0 (pos 0)
         ≡ slice_index_or out.old.at 0 (pos 0) }
@@ -225,14 +234,16 @@ fn far_pair(
     input: &mut BitReader,
     one: bool,
     filled: usize,
-    out: &mut Levels,
+    out: &mut SparseLevels,
 ) -> Result<(bool, usize), BlockFault>
     requires filled { filled ≤ 64 }
+    requires clear { IsClearFrom filled out.old.at }
     requires levels { All IsLevel out.old.at }
     ensures exact { GivesScan result out.new.at input.new.rest
         ((pair_at one (record { filled = filled; levels = out.old.at })).read input.old.rest) }
     ensures text { input.new.text ≡ input.old.text }
     ensures within { IfOk result (λ x. (filled ≤ x.1) × (x.1 ≤ 64)) }
+    ensures clear { IfOk result (λ x. IsClearFrom x.1 out.new.at) }
     ensures more { IfOk result (λ x. x.0 ≡ true → 0 < x.1) }
     ensures dc { 0 < filled → slice_index_or out.new.at 0 (pos 0)
         ≡ slice_index_or out.old.at 0 (pos 0) }
@@ -244,25 +255,27 @@ fn far_pair(
     read
 }
 
-/// Reads a pair or the end of the block, behind the first place: by one look in most cases.
+/// Reads a pair or the end of the block where no short code stands: by one look in most cases.
 #[inline(always)]
 fn next_pair(
     input: &mut BitReader,
     one: bool,
     filled: usize,
-    out: &mut Levels,
+    out: &mut SparseLevels,
 ) -> Result<(bool, usize), BlockFault>
     requires filled { filled ≤ 64 }
     requires some { 0 < filled }
+    requires clear { IsClearFrom filled out.old.at }
     requires levels { All IsLevel out.old.at }
     ensures exact { GivesScan result out.new.at input.new.rest
         ((pair_at one (record { filled = filled; levels = out.old.at })).read input.old.rest) }
     ensures text { input.new.text ≡ input.old.text }
     ensures within { IfOk result (λ x. (filled ≤ x.1) × (x.1 ≤ 64)) }
+    ensures clear { IfOk result (λ x. IsClearFrom x.1 out.new.at) }
     ensures dc { slice_index_or out.new.at 0 (pos 0) ≡ slice_index_or out.old.at 0 (pos 0) }
     ensures levels { All IsLevel out.new.at }
 {
-    if let Some(x) = quick_pair(input, one, filled, out) {
+    if let Some(x) = quick_long(input, one, filled, out) {
         return Ok(x);
     }
     far_pair(input, one, filled, out)
@@ -270,9 +283,15 @@ fn next_pair(
 
 /// Reads pairs up to the end of the block.
 #[inline(always)]
-fn pairs(input: &mut BitReader, one: bool, from: usize, out: &mut Levels) -> Result<(), BlockFault>
+fn pairs(
+    input: &mut BitReader,
+    one: bool,
+    from: usize,
+    out: &mut SparseLevels,
+) -> Result<(), BlockFault>
     requires filled { from ≤ 64 }
     requires some { 0 < from }
+    requires clear { IsClearFrom from out.old.at }
     requires levels { All IsLevel out.old.at }
     ensures exact { GivesEnd result out.new.at input.new.rest
         ((pairs_at one (record { filled = from; levels = out.old.at })).read input.old.rest) }
@@ -282,7 +301,12 @@ fn pairs(input: &mut BitReader, one: bool, from: usize, out: &mut Levels) -> Res
 {
     let mut filled = from;
     loop {
-        let (more, next) = next_pair(input, one, filled, out)?;
+        let (next, ended) = quick_pairs(input, one, filled, out);
+        if ended > 0 {
+            input.skip(ended);
+            return Ok(());
+        }
+        let (more, next) = next_pair(input, one, next, out)?;
         filled = next;
         if !more {
             return Ok(());
@@ -292,7 +316,8 @@ fn pairs(input: &mut BitReader, one: bool, from: usize, out: &mut Levels) -> Res
 
 /// Reads the pairs behind the DC level of an intra block: which table holds is asked once.
 #[inline(always)]
-fn pairs_by(input: &mut BitReader, one: bool, out: &mut Levels) -> Result<(), BlockFault>
+fn pairs_by(input: &mut BitReader, one: bool, out: &mut SparseLevels) -> Result<(), BlockFault>
+    requires clear { IsClearFrom 1 out.old.at }
     requires levels { All IsLevel out.old.at }
     ensures exact { GivesEnd result out.new.at input.new.rest
         ((pairs_at one (record { filled = 1; levels = out.old.at })).read input.old.rest) }
@@ -308,7 +333,8 @@ fn pairs_by(input: &mut BitReader, one: bool, out: &mut Levels) -> Result<(), Bl
 
 /// Reads the pairs behind the DC level of an intra block, by a reader of its own, whose place stays in a register.
 #[inline(always)]
-fn intra_pairs(input: &mut BitReader, one: bool, out: &mut Levels) -> Result<(), BlockFault>
+fn intra_pairs(input: &mut BitReader, one: bool, out: &mut SparseLevels) -> Result<(), BlockFault>
+    requires clear { IsClearFrom 1 out.old.at }
     requires levels { All IsLevel out.old.at }
     ensures exact { GivesEnd result out.new.at input.new.rest
         ((pairs_at one (record { filled = 1; levels = out.old.at })).read input.old.rest) }
@@ -324,12 +350,14 @@ fn intra_pairs(input: &mut BitReader, one: bool, out: &mut Levels) -> Result<(),
 
 /// Reads the first pair of a block that is not intra, where no block ends: by one look in most cases.
 #[inline(always)]
-fn first_pair(input: &mut BitReader, out: &mut Levels) -> Result<(bool, usize), BlockFault>
+fn first_pair(input: &mut BitReader, out: &mut SparseLevels) -> Result<(bool, usize), BlockFault>
+    requires clear { IsClearFrom 0 out.old.at }
     requires levels { All IsLevel out.old.at }
     ensures exact { GivesScan result out.new.at input.new.rest
         ((pair_at false (record { filled = 0; levels = out.old.at })).read input.old.rest) }
     ensures text { input.new.text ≡ input.old.text }
     ensures within { IfOk result (λ x. x.1 ≤ 64) }
+    ensures clear { IfOk result (λ x. IsClearFrom x.1 out.new.at) }
     ensures more { IfOk result (λ x. x.0 ≡ true → 0 < x.1) }
     ensures levels { All IsLevel out.new.at }
 {
@@ -341,7 +369,8 @@ fn first_pair(input: &mut BitReader, out: &mut Levels) -> Result<(bool, usize), 
 
 /// Reads all pairs of a block that is not intra. The first of them goes by itself: none behind it can be the first.
 #[inline(always)]
-fn first_and_pairs(input: &mut BitReader, out: &mut Levels) -> Result<(), BlockFault>
+fn first_and_pairs(input: &mut BitReader, out: &mut SparseLevels) -> Result<(), BlockFault>
+    requires clear { IsClearFrom 0 out.old.at }
     requires levels { All IsLevel out.old.at }
     ensures exact { GivesEnd result out.new.at input.new.rest
         ((pairs_at false (record { filled = 0; levels = out.old.at })).read input.old.rest) }
@@ -357,7 +386,8 @@ fn first_and_pairs(input: &mut BitReader, out: &mut Levels) -> Result<(), BlockF
 
 /// Reads all pairs of a block that is not intra, by a reader of its own, whose place stays in a register.
 #[inline(always)]
-fn all_pairs(input: &mut BitReader, out: &mut Levels) -> Result<(), BlockFault>
+fn all_pairs(input: &mut BitReader, out: &mut SparseLevels) -> Result<(), BlockFault>
+    requires clear { IsClearFrom 0 out.old.at }
     requires levels { All IsLevel out.old.at }
     ensures exact { GivesEnd result out.new.at input.new.rest
         ((pairs_at false (record { filled = 0; levels = out.old.at })).read input.old.rest) }
@@ -381,6 +411,7 @@ fn first(input: &mut BitReader, kind: &BlockKind, predictor: i32) -> Result<i32,
     ensures text { input.new.text ≡ input.old.text }
     ensures range { IfOk result (λ v. IsLevel v) }
     ensures dc { kind.now.intra ≡ true → IfOk result (λ v. IsDc kind.now.precision v) }
+    ensures none { kind.now.intra ≡ false → IfOk result (λ v. v ≡ pos 0) }
 {
     if kind.intra {
         dc(input, kind.luma, kind.precision, predictor)
@@ -391,22 +422,23 @@ fn first(input: &mut BitReader, kind: &BlockKind, predictor: i32) -> Result<i32,
 
 /// All levels become 0.
 #[inline(always)]
-fn clear(out: &mut Levels)
+fn clear(out: &mut SparseLevels)
     ensures { out.new.at ≡ replicate 64 (pos 0) }
 {
-    out.at = [0; 64];
+    out.open(0);
 }
 
 /// The DC level stands among zeros.
 #[inline(always)]
-fn open(dc: i32, out: &mut Levels)
-    requires zeros { out.old.at ≡ replicate 64 (pos 0) }
+fn open(dc: i32, out: &mut SparseLevels)
     requires range { IsLevel dc }
     ensures value { out.new.at ≡ dc ∷ replicate 63 (pos 0) }
+    ensures clear { IsClearFrom 1 out.new.at }
+    ensures none { dc ≡ pos 0 → IsClearFrom 0 out.new.at }
     ensures levels { All IsLevel out.new.at }
     ensures first { slice_index_or out.new.at 0 (pos 0) ≡ dc }
 {
-    out.at[0] = dc;
+    out.open(dc);
 }
 
 /// Reads a block (clauses 6.2.6 and 7.2): its 64 levels in scan order, each from -2047 to 2047, with the DC level of an
@@ -421,7 +453,7 @@ pub fn read_block(
     kind: &BlockKind,
     table_one: bool,
     dc_pred: &mut i32,
-    out: &mut Levels,
+    out: &mut SparseLevels,
 ) -> Result<(), BlockFault>
     requires kind { IsKind kind.now }
     requires predictor { kind.now.intra ≡ true → IsDc kind.now.precision dc_pred.old }

@@ -3,3 +3,4 @@ pub mod Reconstruction
 pub mod Scanned
 mod Zeros
 mod Placed
+pub mod Kept

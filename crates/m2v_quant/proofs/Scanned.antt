@@ -1,5 +1,5 @@
 -- Coefficients of the first levels alone: one level more, a level that is 0, eight of them.
-use Rattle.std.proofs.Common.{◌≡◌, ◌≢◌, ℕ, zero, suc, ◌+◌, ◌-◌, ◌*◌, ◌/◌, ◌%◌, ◌^◌, ◌<◌, ◌≤◌, Bool, true, false, refl, ap, sym, ◌∙◌, arith, List, length, map, take, get_or, set, replicate, get_or-set_other, get_or-set_same, ℤ, pos, ◌+ℤ◌, inl, inr}
+use Rattle.std.proofs.Common.{◌≡◌, ◌≢◌, ℕ, zero, suc, ◌+◌, ◌-◌, ◌*◌, ◌/◌, ◌%◌, ◌^◌, ◌<◌, ◌≤◌, Bool, true, false, refl, ap, sym, subst, ◌∙◌, arith, List, length, map, take, get_or, set, replicate, get_or-set_other, get_or-set_same, ℤ, pos, ◌+ℤ◌, inl, inr}
 use Rattle.std.specs.Prelude.{unsigned_abs, slice_index, if◌then◌else◌, ◌*ℤ◌, neg_ℤ, All}
 use Rattle.std.specs.Int.{int_max, int_min}
 use Rattle.std.specs.Int.RustNames.{int_div}
@@ -15,8 +15,9 @@ use Rattle.m2v_quant.specs.declared.kind.BlockKind.{BlockKind}
 use Rattle.m2v_quant.specs.Kinds.{IsCoefficient}
 use Rattle.m2v_quant.specs.Scans.{zigzag, alternate, scan_order}
 use Rattle.m2v_quant.specs.Coefficients.{position, ac_coefficient, dc_coefficient, saturated, saturated_of, saturated_at, coefficient_sum}
-use Rattle.m2v_quant.specs.Prefix.{IsUpTo}
+use Rattle.m2v_quant.specs.Prefix.{AreSaturated, IsUpTo}
 use Rattle.m2v_quant.proofs.Reconstruction.{parity_more}
+use Rattle.m2v_quant.proofs.Zeros.{zeros_at}
 
 -- the level at p, 0 behind the first n
 abbrev first : List ℤ → ℕ → ℕ → ℤ
@@ -154,6 +155,21 @@ one_other levels n p len ne =
 elsewhere : (b : Bool) (n k : ℕ) → k < 64 → (k ≡ slice_index (scan_order b) n → ⊥) → position b k ≡ n → ⊥
 elsewhere b n k lt ne e = ne (sym (scan_position b k lt) ∙ ap (slice_index (scan_order b)) e)
 
+-- one place more is written, where a 0 counted
+changed : (g h : ℕ → ℤ) (out : List ℤ) (parity place : ℕ) (c : ℤ) (more : ℕ) → length out ≡ 64 → place < 64
+    → g place ≡ pos 0 → h place ≡ c → ((k : ℕ) → k < 64 → (k ≡ place → ⊥) → h k ≡ g k) → more ≡ (parity + unsigned_abs c) % 2
+    → ((k : ℕ) → k < 64 → get_or out k (pos 0) ≡ g k) → parity ≡ unsigned_abs (coefficient_sum 64 g) % 2
+    → ((k : ℕ) → k < 64 → get_or (set out place c) k (pos 0) ≡ h k) × (more ≡ unsigned_abs (coefficient_sum 64 h) % 2)
+changed g h out parity place c more out_len inside was here other after value parity_is = (
+  λ k l.
+      elim (cases_eq k place) [
+        | inl same ↦ let room : place < length out = omega arith in rw same (rw get_or-set_same (sym here))
+        | inr ne ↦ let apart : k ≢ place = ne in rw get_or-set_other (value k l ∙ sym (other k l ne))
+      ],
+  after ∙ parity_more parity (coefficient_sum 64 g) c parity_is
+      ∙ ap (λ z. unsigned_abs z % 2) (ap (λ z. coefficient_sum 64 g +ℤ z) (sym here) ∙ sym (sum_put 64 place g h inside was other)),
+)
+
 -- one level more
 pub one_put : (levels : List ℤ) (kind : BlockKind) (n : ℕ) (out : List ℤ) (parity place : ℕ) (c : ℤ) (more : ℕ)
     → length levels ≡ 64 → length out ≡ 64 → n < 64 → place < 64 → place ≡ slice_index (scan_order kind.alternate) n
@@ -170,16 +186,29 @@ one_put levels kind n out parity place c more len out_len lt inside at value aft
     let other : (k : ℕ) → k < 64 → (k ≡ place → ⊥) → new k ≡ old k =
     λ k l ne. at_same levels kind (n + 1) n k
     (one_other levels n (position kind.alternate k) (omega arith) (elsewhere kind.alternate n k l (λ e. ne (e ∙ sym at)))) in
-    record {
-      value = λ k l.
-          elim (cases_eq k place) [
-            | inl same ↦ let room : place < length out = omega arith in rw same (rw get_or-set_same (sym here))
-            | inr ne ↦ let apart : k ≢ place = ne in rw get_or-set_other (h.value k l ∙ sym (other k l ne))
-          ];
-      parity_is =
-          after ∙ parity_more parity (coefficient_sum 64 old) c h.parity_is
-          ∙ ap (λ z. unsigned_abs z % 2) (ap (λ z. coefficient_sum 64 old +ℤ z) (sym here) ∙ sym (sum_put 64 place old new inside was other));
-    }
+    let both = changed old new out parity place c more out_len inside was here other after h.value h.parity_is in
+    record { value = both.0; parity_is = both.1 }
+
+-- a level is set where a 0 stood
+pub level_set : (levels : List ℤ) (kind : BlockKind) (n : ℕ) (v : ℤ) (out : List ℤ) (parity place : ℕ) (c : ℤ) (more : ℕ)
+    → length levels ≡ 64 → length out ≡ 64 → n < 64 → place < 64 → place ≡ slice_index (scan_order kind.alternate) n
+    → get_or levels n (pos 0) ≡ pos 0 → c ≡ saturated_of kind place v → more ≡ (parity + unsigned_abs c) % 2
+    → AreSaturated levels kind out parity → AreSaturated (set levels n v) kind (set out place c) more
+unfolding saturated_at
+level_set levels kind n v out parity place c more len out_len lt inside at free value after h =
+    let old = saturated_at levels kind in
+    let new = saturated_at (set levels n v) kind in
+    let room : n < length levels = omega arith in
+    let turn : position kind.alternate place ≡ n = ap (position kind.alternate) at ∙ position_scan kind.alternate n lt in
+    let was : old place ≡ pos 0 = at_level levels kind place (pos 0) (ap (λ p. get_or levels p (pos 0)) turn ∙ free) ∙ saturated_zero kind place in
+    let here : new place ≡ c =
+    at_level (set levels n v) kind place v (ap (λ p. get_or (set levels n v) p (pos 0)) turn ∙ rw get_or-set_same refl) ∙ sym value in
+    let other : (k : ℕ) → k < 64 → (k ≡ place → ⊥) → new k ≡ old k =
+    λ k l ne.
+    let apart : position kind.alternate k ≢ n = elsewhere kind.alternate n k l (λ e. ne (e ∙ sym at)) in
+    at_level (set levels n v) kind k (get_or levels (position kind.alternate k) (pos 0)) (rw get_or-set_other refl) in
+    let both = changed old new out parity place c more out_len inside was here other after h.value h.parity_is in
+    record { value = both.0; parity_is = both.1 }
 
 -- nothing is read yet
 pub nothing_yet : (levels : List ℤ) (kind : BlockKind) → IsUpTo levels kind 0 (replicate 64 (pos 0)) 0
@@ -207,15 +236,32 @@ within_at : (levels : List ℤ) (kind : BlockKind) (k : ℕ) → IsCoefficient (
 unfolding saturated_at
 within_at levels kind k = within_of kind k _
 
+-- all levels are 0
+pub none_saturated : (kind : BlockKind) → AreSaturated (replicate 64 (pos 0)) kind (replicate 64 (pos 0)) 0
+unfolding coefficient_sum
+none_saturated kind =
+    let zero_at : (k : ℕ) → saturated_at (replicate 64 (pos 0)) kind k ≡ pos 0 =
+    λ k. at_level (replicate 64 (pos 0)) kind k (pos 0) (zeros_at 64 (position kind.alternate k)) ∙ saturated_zero kind k in
+    record {
+      value = λ k lt. get_or-replicate 64 k (pos 0) (pos 0) lt ∙ sym (zero_at k);
+      parity_is = ap (λ z. unsigned_abs z % 2) (sym (sum_same 64 (saturated_at (replicate 64 (pos 0)) kind) (λ _. pos 0) (λ k lt. zero_at k)));
+    }
+
+-- the whole block
+pub all_saturated : (levels : List ℤ) (kind : BlockKind) (out : List ℤ) (parity : ℕ) → length out ≡ 64 → AreSaturated levels kind out parity
+    → (out ≡ map (saturated_at levels kind) (range_with_len 0 64)) × (parity ≡ unsigned_abs (coefficient_sum 64 (saturated_at levels kind)) % 2) × All IsCoefficient out
+all_saturated levels kind out parity out_len h = (
+  fill_by_all (saturated_at levels kind) out 64 (pos 0) out_len h.value,
+  h.parity_is,
+  All-from_get_or IsCoefficient out (pos 0) (λ i l. rw (h.value i (omega arith)) (within_at levels kind i)),
+)
+
 -- all are read
 pub all_read : (levels : List ℤ) (kind : BlockKind) (out : List ℤ) (parity : ℕ) → length levels ≡ 64 → length out ≡ 64 → IsUpTo levels kind 64 out parity
     → (out ≡ map (saturated_at levels kind) (range_with_len 0 64)) × (parity ≡ unsigned_abs (coefficient_sum 64 (saturated_at levels kind)) % 2) × All IsCoefficient out
 all_read levels kind out parity len out_len h =
-    let e : take 64 levels ≡ levels = take_all 64 levels (omega arith) in (
-      fill_by_all (saturated_at levels kind) out 64 (pos 0) out_len (λ k lt. h.value k lt ∙ ap (λ ls. saturated_at ls kind k) e),
-      h.parity_is ∙ ap (λ ls. unsigned_abs (coefficient_sum 64 (saturated_at ls kind)) % 2) e,
-      All-from_get_or IsCoefficient out (pos 0) (λ i l. rw (h.value i (omega arith)) (within_at (take 64 levels) kind i)),
-    )
+    let e : take 64 levels ≡ levels = take_all 64 levels (omega arith) in
+    all_saturated levels kind out parity out_len (subst (λ (ls : List ℤ). AreSaturated ls kind out parity) e (record { value = h.value; parity_is = h.parity_is }))
 
 -- no bit is set in a number joined with another
 pub joined_zero : (a b : ℕ) → bit_or a b ≡ 0 → (a ≡ 0) × (b ≡ 0)

@@ -1,8 +1,18 @@
--- Coefficients whose level is 0.
-use Rattle.std.proofs.Common.{◌≡◌, ℕ, ◌+◌, ◌*◌, ◌/◌, ◌<◌, Bool, ap, arith, ℤ, pos, negsuc, neg_ℤ}
+-- Zeros, and coefficients whose level is 0.
+use Rattle.std.proofs.Common.{◌≡◌, ℕ, ◌+◌, ◌*◌, ◌/◌, ◌<◌, Bool, ap, arith, get_or, replicate, ℤ, pos, negsuc, neg_ℤ, inl, inr}
+use Rattle.std.proofs.lemmas.Bool.{cases_lt}
+use Rattle.std.proofs.lemmas.List.{get_or-replicate, get_or_past, length-replicate}
 use Rattle.std.specs.Prelude.{cond, min, unsigned_abs}
 use Rattle.std.proofs.Math.Nat.{div-eq_of_lt}
 use Rattle.m2v_quant.specs.Quantiser.{ac_level, with_sign}
+
+-- all of them
+pub zeros_at : (n i : ℕ) → get_or (replicate n (pos 0)) i (pos 0) ≡ pos 0
+zeros_at n i =
+    elim (cases_lt i n) [
+      | inl lt ↦ get_or-replicate n i (pos 0) (pos 0) lt
+      | inr ge ↦ get_or_past (replicate n (pos 0)) i (pos 0) (omega (arith, ge, length-replicate n (pos 0)))
+    ]
 
 none_signed : (z : ℤ) (n : ℕ) → n ≡ 0 → with_sign z n ≡ pos 0
 unfolding with_sign

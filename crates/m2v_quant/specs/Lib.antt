@@ -5,3 +5,4 @@ pub mod Coefficients
 pub mod Matrices
 pub mod Quantiser
 pub mod Marks
+pub mod Sparse

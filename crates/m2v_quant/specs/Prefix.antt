@@ -7,3 +7,8 @@ use Rattle.m2v_quant.specs.Coefficients.{saturated_at, coefficient_sum}
 pub record IsUpTo (levels : List ℤ) (kind : BlockKind) (n : ℕ) (out : List ℤ) (parity : ℕ) : Type 0 where
   pub value : (k : ℕ) → k < 64 → slice_index_or out k (pos 0) ≡ saturated_at (take n levels) kind k
   pub parity_is : parity ≡ unsigned_abs (coefficient_sum 64 (saturated_at (take n levels) kind)) % 2
+
+-- the coefficients of levels before mismatch control, and the parity of their sum
+pub record AreSaturated (levels : List ℤ) (kind : BlockKind) (out : List ℤ) (parity : ℕ) : Type 0 where
+  pub value : (k : ℕ) → k < 64 → slice_index_or out k (pos 0) ≡ saturated_at levels kind k
+  pub parity_is : parity ≡ unsigned_abs (coefficient_sum 64 (saturated_at levels kind)) % 2

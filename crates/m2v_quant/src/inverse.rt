@@ -108,7 +108,7 @@ fn parity_with(parity: u32, coefficient: i32) -> u32
 /// A coefficient of the other parity.
 #[inline(always)]
 #[tactic(auto, unfolding(crate::specs::Coefficients::other_parity))]
-fn turned(coefficient: i32) -> i32
+pub fn turned(coefficient: i32) -> i32
     requires { IsCoefficient coefficient }
     ensures value { result ≡ other_parity coefficient }
     ensures within { IsCoefficient result }
@@ -122,7 +122,7 @@ fn turned(coefficient: i32) -> i32
 
 /// The place of one level more, and the parity with it.
 #[inline(always)]
-fn put_coefficient(
+pub fn put_coefficient(
     level: i32,
     kind: &BlockKind,
     intra: bool,

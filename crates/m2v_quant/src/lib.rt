@@ -9,6 +9,7 @@ mod kind;
 mod matrices;
 mod positions;
 mod scans;
+mod sparse;
 
 pub use block_levels::BlockLevels;
 pub use forward::{dc_level, quantise};
@@ -16,3 +17,4 @@ pub use inverse::dequantise;
 pub use kind::{BlockKind, Levels};
 pub use matrices::default_matrix;
 pub use scans::{scale_of, scan};
+pub use sparse::{LevelAt, SparseLevels};

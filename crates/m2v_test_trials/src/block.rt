@@ -7,7 +7,7 @@ ghost use Rattle.m2v_block.specs.Texts.{IsBlock};
 
 use m2v_bits::{BitReader, BitWriter};
 use m2v_block::{BlockFault, block_bits, read_block, write_block};
-use m2v_quant::{BlockKind, Levels, default_matrix};
+use m2v_quant::{BlockKind, Levels, SparseLevels, default_matrix};
 use m2v_vlc::CodeFault;
 use std::alloc::AllocError;
 
@@ -44,10 +44,12 @@ fn block(dc: u8, level: i32) -> Levels
 fn read(bits: u32, intra: bool, one: bool) -> (Result<(), BlockFault>, u64, i32, i32) {
     let bytes = bits.to_be_bytes();
     let mut input = BitReader::new(&bytes);
-    let mut out = Levels { at: [7; 64] };
+    let mut out = SparseLevels::new();
+    out.open(7);
     let mut pred = 128;
     let read = read_block(&mut input, &kind(intra, true), one, &mut pred, &mut out);
-    (read, input.place(), out.at[0], out.at[1])
+    let levels = out.dense();
+    (read, input.place(), levels.at[0], levels.at[1])
 }
 
 #[test]

@@ -10,4 +10,5 @@ pub mod Places
 pub mod Coefficients
 pub mod Firsts
 pub mod Shorts
+pub mod Longs
 pub mod TableLaws

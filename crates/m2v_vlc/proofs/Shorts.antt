@@ -25,49 +25,49 @@ use Rattle.m2v_vlc.proofs.Firsts.{first_same, first_plus, first_minus}
 
 -- ---- an entry is the pair, or the end, of the row that the rows' look-up points to
 
-abbrev is_entry : Coefficient → ℕ → ShortPair → Bool
-is_entry End len e = eqb e.1 128 && (eqb len e.2 && leb len 9)
-is_entry Escape len e = eqb e.1 64
-is_entry (Pair run level) len e = leb run 31 && (eqb run e.1 && (same_signed level e.0 && (eqb len e.2 && leb len 9)))
+abbrev pub is_entry : ℕ → Coefficient → ℕ → ShortPair → Bool
+is_entry w End len e = eqb e.1 128 && (eqb len e.2 && leb len w)
+is_entry w Escape len e = eqb e.1 64
+is_entry w (Pair run level) len e = leb run 31 && (eqb run e.1 && (same_signed level e.0 && (eqb len e.2 && leb len w)))
 
-abbrev is_short : Option (Row Coefficient) → ShortPair → Bool
-is_short None e = eqb e.1 64
-is_short (Some r) e = is_entry r.value r.len e
+abbrev pub is_short : ℕ → Option (Row Coefficient) → ShortPair → Bool
+is_short w None e = eqb e.1 64
+is_short w (Some r) e = is_entry w r.value r.len e
 
-pair_is : (v : Coefficient) (len : ℕ) (e : ShortPair) → is_entry v len e ≡ true → e.1 < 64 → (v ≡ Pair e.1 e.0) × (len ≡ e.2) × (e.2 ≤ 9)
-pair_is End len e h lt = absurd (omega (arith, lt, eqb-true e.1 128 (and_parts (eqb e.1 128) (eqb len e.2 && leb len 9) h).0))
-pair_is Escape len e h lt = absurd (omega (arith, lt, eqb-true e.1 64 h))
-pair_is (Pair run level) len e h lt =
-    let a = and_parts (leb run 31) (eqb run e.1 && (same_signed level e.0 && (eqb len e.2 && leb len 9))) h in
-    let b = and_parts (eqb run e.1) (same_signed level e.0 && (eqb len e.2 && leb len 9)) a.1 in
-    let c = and_parts (same_signed level e.0) (eqb len e.2 && leb len 9) b.1 in
-    let d = and_parts (eqb len e.2) (leb len 9) c.1 in
+pair_is : (w : ℕ) (v : Coefficient) (len : ℕ) (e : ShortPair) → is_entry w v len e ≡ true → e.1 < 64 → (v ≡ Pair e.1 e.0) × (len ≡ e.2) × (e.2 ≤ w)
+pair_is w End len e h lt = absurd (omega (arith, lt, eqb-true e.1 128 (and_parts (eqb e.1 128) (eqb len e.2 && leb len w) h).0))
+pair_is w Escape len e h lt = absurd (omega (arith, lt, eqb-true e.1 64 h))
+pair_is w (Pair run level) len e h lt =
+    let a = and_parts (leb run 31) (eqb run e.1 && (same_signed level e.0 && (eqb len e.2 && leb len w))) h in
+    let b = and_parts (eqb run e.1) (same_signed level e.0 && (eqb len e.2 && leb len w)) a.1 in
+    let c = and_parts (same_signed level e.0) (eqb len e.2 && leb len w) b.1 in
+    let d = and_parts (eqb len e.2) (leb len w) c.1 in
     let same : len ≡ e.2 = eqb-true len e.2 d.0 in
-    (ap₂ Pair (eqb-true run e.1 b.0) (signed_sound level e.0 c.0), same, omega (arith, same, leb-true len 9 d.1))
+    (ap₂ Pair (eqb-true run e.1 b.0) (signed_sound level e.0 c.0), same, omega (arith, same, leb-true len w d.1))
 
-end_is : (v : Coefficient) (len : ℕ) (e : ShortPair) → is_entry v len e ≡ true → e.1 ≡ 128 → (v ≡ End) × (len ≡ e.2) × (e.2 ≤ 9)
-end_is End len e h is =
-    let a = and_parts (eqb e.1 128) (eqb len e.2 && leb len 9) h in
-    let b = and_parts (eqb len e.2) (leb len 9) a.1 in
+end_is : (w : ℕ) (v : Coefficient) (len : ℕ) (e : ShortPair) → is_entry w v len e ≡ true → e.1 ≡ 128 → (v ≡ End) × (len ≡ e.2) × (e.2 ≤ w)
+end_is w End len e h is =
+    let a = and_parts (eqb e.1 128) (eqb len e.2 && leb len w) h in
+    let b = and_parts (eqb len e.2) (leb len w) a.1 in
     let same : len ≡ e.2 = eqb-true len e.2 b.0 in
-    (refl, same, omega (arith, same, leb-true len 9 b.1))
-end_is Escape len e h is = absurd (omega (arith, is, eqb-true e.1 64 h))
-end_is (Pair run level) len e h is =
-    let a = and_parts (leb run 31) (eqb run e.1 && (same_signed level e.0 && (eqb len e.2 && leb len 9))) h in
-    let b = and_parts (eqb run e.1) (same_signed level e.0 && (eqb len e.2 && leb len 9)) a.1 in
+    (refl, same, omega (arith, same, leb-true len w b.1))
+end_is w Escape len e h is = absurd (omega (arith, is, eqb-true e.1 64 h))
+end_is w (Pair run level) len e h is =
+    let a = and_parts (leb run 31) (eqb run e.1 && (same_signed level e.0 && (eqb len e.2 && leb len w))) h in
+    let b = and_parts (eqb run e.1) (same_signed level e.0 && (eqb len e.2 && leb len w)) a.1 in
     absurd (omega (arith, is, leb-true run 31 a.0, eqb-true run e.1 b.0))
 
 -- a row of the value, with the code's bits
-abbrev Found : Option (Row Coefficient) → Coefficient → ℕ → Type 0
-Found o v len = (r : Row Coefficient) × (o ≡ Some r) × (r.value ≡ v) × (r.len ≡ len) × (len ≤ 9)
+abbrev pub Found : ℕ → Option (Row Coefficient) → Coefficient → ℕ → Type 0
+Found w o v len = (r : Row Coefficient) × (o ≡ Some r) × (r.value ≡ v) × (r.len ≡ len) × (len ≤ w)
 
-pair_row : (o : Option (Row Coefficient)) (e : ShortPair) → is_short o e ≡ true → e.1 < 64 → Found o (Pair e.1 e.0) e.2
-pair_row None e h lt = absurd (omega (arith, lt, eqb-true e.1 64 h))
-pair_row (Some r) e h lt = let p = pair_is r.value r.len e h lt in (r, refl, p.0, p.1, p.2)
+pub pair_row : (w : ℕ) (o : Option (Row Coefficient)) (e : ShortPair) → is_short w o e ≡ true → e.1 < 64 → Found w o (Pair e.1 e.0) e.2
+pair_row w None e h lt = absurd (omega (arith, lt, eqb-true e.1 64 h))
+pair_row w (Some r) e h lt = let p = pair_is w r.value r.len e h lt in (r, refl, p.0, p.1, p.2)
 
-end_row : (o : Option (Row Coefficient)) (e : ShortPair) → is_short o e ≡ true → e.1 ≡ 128 → Found o End e.2
-end_row None e h is = absurd (omega (arith, is, eqb-true e.1 64 h))
-end_row (Some r) e h is = let p = end_is r.value r.len e h is in (r, refl, p.0, p.1, p.2)
+pub end_row : (w : ℕ) (o : Option (Row Coefficient)) (e : ShortPair) → is_short w o e ≡ true → e.1 ≡ 128 → Found w o End e.2
+end_row w None e h is = absurd (omega (arith, is, eqb-true e.1 64 h))
+end_row w (Some r) e h is = let p = end_is w r.value r.len e h is in (r, refl, p.0, p.1, p.2)
 
 -- ---- what is read
 
@@ -81,11 +81,11 @@ record AreShorts (t : List (Row Coefficient)) (by : List ℕ) (entries : List Sh
   known : list_all (λ r. is_small r.value) t ≡ true
   points : PointsBy t by
   few : below (λ n. (get_or entries n nothing).1) 8 ≡ below (λ n. 64) 8
-  all : below (λ n. is_short (slice_get t (get_or by n 0)) (get_or entries (8 + n) nothing)) 504 ≡ below (λ n. true) 504
+  all : below (λ n. is_short 9 (slice_get t (get_or by n 0)) (get_or entries (8 + n) nothing)) 504 ≡ below (λ n. true) 504
 
 -- an entry that stands for something is that of a row
 entry_is : (t : List (Row Coefficient)) (by : List ℕ) (entries : List ShortPair) (k : ℕ) (p : ShortPair) → AreShorts t by entries
-    → k < 512 → get_or entries k nothing ≡ p → (p.1 ≡ 64 → ⊥) → (8 ≤ k) × (is_short (slice_get t (get_or by (k - 8) 0)) p ≡ true)
+    → k < 512 → get_or entries k nothing ≡ p → (p.1 ≡ 64 → ⊥) → (8 ≤ k) × (is_short 9 (slice_get t (get_or by (k - 8) 0)) p ≡ true)
 entry_is t by entries k p are lt entry other =
     elim (cases_lt k 8) [
       | inl small ↦ absurd (other (sym (ap (λ (e : ShortPair). e.1) entry) ∙ agree (λ n. (get_or entries n nothing).1) (λ n. 64) 8 k are.few small))
@@ -93,11 +93,11 @@ entry_is t by entries k p are lt entry other =
           let n = k - 8 in
           let same : 8 + n ≡ k = omega arith in
           let here : get_or entries (8 + n) nothing ≡ p = rw same entry in
-          (large, subst (λ (x : ShortPair). is_short (slice_get t (get_or by n 0)) x ≡ true) here (agree (λ n. is_short (slice_get t (get_or by n 0)) (get_or entries (8 + n) nothing)) (λ n. true) 504 n are.all (omega arith)))
+          (large, subst (λ (x : ShortPair). is_short 9 (slice_get t (get_or by n 0)) x ≡ true) here (agree (λ n. is_short 9 (slice_get t (get_or by n 0)) (get_or entries (8 + n) nothing)) (λ n. true) 504 n are.all (omega arith)))
     ]
 
 reads : (t : List (Row Coefficient)) (by : List ℕ) (k : ℕ) (v : Coefficient) (len : ℕ) (bs : List Bool) → IsTable t → PointsBy t by → k < 512 → 8 ≤ k
-    → Found (slice_get t (get_or by (k - 8) 0)) v len → k ≡ number (ahead 9 bs) → len ≤ length bs → (code_at Truncated NoCode t).read bs ≡ Ok (v, drop len bs)
+    → Found 9 (slice_get t (get_or by (k - 8) 0)) v len → k ≡ number (ahead 9 bs) → len ≤ length bs → (code_at Truncated NoCode t).read bs ≡ Ok (v, drop len bs)
 reads t by k v len bs table points lt large (r, get, value, same, short) nine enough =
     let i = get_or by (k - 8) 0 in
     let seventeen = number (ahead 17 bs) in
@@ -105,10 +105,10 @@ reads t by k v len bs table points lt large (r, get, value, same, short) nine en
     let at = points bs seventeen i refl (omega (arith, high, lt)) (omega (arith, high, large)) (ap (λ (x : ℕ). get_or by (x - 8) 0) high) in
     reads_row Truncated NoCode t i r bs table at get (omega (arith, same, enough)) ∙ ap₂ (λ w n. good (w, drop n bs)) value same
 
-stands : (t : List (Row Coefficient)) (by : List ℕ) (entries : List ShortPair) (k : ℕ) (p : ShortPair) → AreShorts t by entries → k < 512 → get_or entries k nothing ≡ p → p.1 < 64 → Stands t k p
+stands : (t : List (Row Coefficient)) (by : List ℕ) (entries : List ShortPair) (k : ℕ) (p : ShortPair) → AreShorts t by entries → k < 512 → get_or entries k nothing ≡ p → p.1 < 64 → Stands 9 t k p
 stands t by entries k p are lt entry run =
     let e = entry_is t by entries k p are lt entry (λ is. absurd (omega (arith, is, run))) in
-    let found = pair_row (slice_get t (get_or by (k - 8) 0)) p e.1 run in
+    let found = pair_row 9 (slice_get t (get_or by (k - 8) 0)) p e.1 run in
     let r = found.0 in
     record {
       short = found.4;
@@ -116,10 +116,10 @@ stands t by entries k p are lt entry run =
       reads = λ bs nine enough. reads t by k (Pair p.1 p.0) p.2 bs are.table are.points lt e.0 found nine enough;
     }
 
-ends : (t : List (Row Coefficient)) (by : List ℕ) (entries : List ShortPair) (k : ℕ) (p : ShortPair) → AreShorts t by entries → k < 512 → get_or entries k nothing ≡ p → p.1 ≡ 128 → Ends t k p
+ends : (t : List (Row Coefficient)) (by : List ℕ) (entries : List ShortPair) (k : ℕ) (p : ShortPair) → AreShorts t by entries → k < 512 → get_or entries k nothing ≡ p → p.1 ≡ 128 → Ends 9 t k p
 ends t by entries k p are lt entry run =
     let e = entry_is t by entries k p are lt entry (λ is. absurd (omega (arith, is, run))) in
-    let found = end_row (slice_get t (get_or by (k - 8) 0)) p e.1 run in
+    let found = end_row 9 (slice_get t (get_or by (k - 8) 0)) p e.1 run in
     record {
       short = found.4;
       reads = λ bs nine enough. reads t by k End p.2 bs are.table are.points lt e.0 found nine enough;
@@ -131,17 +131,17 @@ zero_first : below (λ n. (get_or ZERO_SHORT n nothing).1) 8 ≡ below (λ n. 64
 unfolding below
 zero_first = refl
 
-zero_all : below (λ n. is_short (slice_get coefficient_zero (get_or ZERO_BY_9 n 0)) (get_or ZERO_SHORT (8 + n) nothing)) 504 ≡ below (λ n. true) 504
+zero_all : below (λ n. is_short 9 (slice_get coefficient_zero (get_or ZERO_BY_9 n 0)) (get_or ZERO_SHORT (8 + n) nothing)) 504 ≡ below (λ n. true) 504
 unfolding below coefficient_zero pairs_zero signed same_signed
 zero_all = refl
 
 zero_are : AreShorts coefficient_zero ZERO_BY_9 ZERO_SHORT
 zero_are = record { table = coefficient_zero_table; known = coefficient_zero_known; points = zero_by_9; few = zero_first; all = zero_all }
 
-pub zero_stands : (k : ℕ) (p : ShortPair) → k < 512 → get_or ZERO_SHORT k nothing ≡ p → p.1 < 64 → Stands coefficient_zero k p
+pub zero_stands : (k : ℕ) (p : ShortPair) → k < 512 → get_or ZERO_SHORT k nothing ≡ p → p.1 < 64 → Stands 9 coefficient_zero k p
 zero_stands k p lt entry run = stands coefficient_zero ZERO_BY_9 ZERO_SHORT k p zero_are lt entry run
 
-pub zero_ends : (k : ℕ) (p : ShortPair) → k < 512 → get_or ZERO_SHORT k nothing ≡ p → p.1 ≡ 128 → Ends coefficient_zero k p
+pub zero_ends : (k : ℕ) (p : ShortPair) → k < 512 → get_or ZERO_SHORT k nothing ≡ p → p.1 ≡ 128 → Ends 9 coefficient_zero k p
 zero_ends k p lt entry run = ends coefficient_zero ZERO_BY_9 ZERO_SHORT k p zero_are lt entry run
 
 -- ---- table B.15
@@ -150,37 +150,37 @@ one_first : below (λ n. (get_or ONE_SHORT n nothing).1) 8 ≡ below (λ n. 64) 
 unfolding below
 one_first = refl
 
-one_all : below (λ n. is_short (slice_get coefficient_one (get_or ONE_BY_9 n 0)) (get_or ONE_SHORT (8 + n) nothing)) 504 ≡ below (λ n. true) 504
+one_all : below (λ n. is_short 9 (slice_get coefficient_one (get_or ONE_BY_9 n 0)) (get_or ONE_SHORT (8 + n) nothing)) 504 ≡ below (λ n. true) 504
 unfolding below coefficient_one pairs_one signed same_signed
 one_all = refl
 
 one_are : AreShorts coefficient_one ONE_BY_9 ONE_SHORT
 one_are = record { table = coefficient_one_table; known = coefficient_one_known; points = one_by_9; few = one_first; all = one_all }
 
-pub one_stands : (k : ℕ) (p : ShortPair) → k < 512 → get_or ONE_SHORT k nothing ≡ p → p.1 < 64 → Stands coefficient_one k p
+pub one_stands : (k : ℕ) (p : ShortPair) → k < 512 → get_or ONE_SHORT k nothing ≡ p → p.1 < 64 → Stands 9 coefficient_one k p
 one_stands k p lt entry run = stands coefficient_one ONE_BY_9 ONE_SHORT k p one_are lt entry run
 
-pub one_ends : (k : ℕ) (p : ShortPair) → k < 512 → get_or ONE_SHORT k nothing ≡ p → p.1 ≡ 128 → Ends coefficient_one k p
+pub one_ends : (k : ℕ) (p : ShortPair) → k < 512 → get_or ONE_SHORT k nothing ≡ p → p.1 ≡ 128 → Ends 9 coefficient_one k p
 one_ends k p lt entry run = ends coefficient_one ONE_BY_9 ONE_SHORT k p one_are lt entry run
 
 -- ---- table B.14 at the first coefficient of a block that is not intra
 
 -- where the first bit is 0 its table reads what table B.14 reads
-pub first_stands : (k : ℕ) (p : ShortPair) → k < 256 → Stands coefficient_zero k p → Stands first_zero k p
+pub first_stands : (k : ℕ) (p : ShortPair) → k < 256 → Stands 9 coefficient_zero k p → Stands 9 first_zero k p
 first_stands k p lt is = record {
   short = is.short;
   range = is.range;
   reads = λ bs nine enough. first_same bs (omega (arith, lt, nine, peeked 9 bs (omega arith), peeked 2 bs (omega arith))) ∙ is.reads bs nine enough;
 }
 
-pub plus_stands : (k : ℕ) → 256 ≤ k → k < 384 → Stands first_zero k (pos 1, 0, 2)
+pub plus_stands : (k : ℕ) → 256 ≤ k → k < 384 → Stands 9 first_zero k (pos 1, 0, 2)
 plus_stands k from lt = record {
   short = omega arith;
   range = small_range (Pair 0 (pos 1)) refl;
   reads = λ bs nine enough. first_plus bs (omega (arith, from, lt, nine, peeked 9 bs (omega arith), peeked 2 bs (omega arith))) enough;
 }
 
-pub minus_stands : (k : ℕ) → 384 ≤ k → k < 512 → Stands first_zero k (minus 1, 0, 2)
+pub minus_stands : (k : ℕ) → 384 ≤ k → k < 512 → Stands 9 first_zero k (minus 1, 0, 2)
 minus_stands k from lt = record {
   short = omega arith;
   range = small_range (Pair 0 (minus 1)) refl;

@@ -1,4 +1,4 @@
--- Pairs with short codes, and the end of a block.
+-- Pairs and the end of a block, told by one look at so many bits.
 use Rattle.std.specs.Prelude.{◌≡◌, ℕ, ◌≤◌, Bool, List, Ok, length, drop, ℤ, pos}
 use Rattle.m2v_bits.specs.Bits.{number, ahead}
 use Rattle.m2v_vlc.specs.declared.values.Coefficient.{Coefficient}
@@ -11,18 +11,17 @@ use Rattle.m2v_vlc.specs.Coefficients.{IsCoefficient}
 abbrev pub ShortPair : Type 0
 ShortPair = ℤ × ℕ × ℕ
 
--- what nine bits begin with is the code of a pair of the table: wherever they stand, and the code's bits are there, the pair is
--- read
-pub record Stands (t : List (Row Coefficient)) (nine : ℕ) (p : ShortPair) : Type 0 where
-  pub short : p.2 ≤ 9
+-- what w bits begin with is the code of a pair of the table: wherever they stand, and the code's bits are there, the pair is read
+pub record Stands (w : ℕ) (t : List (Row Coefficient)) (look : ℕ) (p : ShortPair) : Type 0 where
+  pub short : p.2 ≤ w
   pub range : IsCoefficient (Pair p.1 p.0)
-  pub reads : (bs : List Bool) → nine ≡ number (ahead 9 bs) → p.2 ≤ length bs
+  pub reads : (bs : List Bool) → look ≡ number (ahead w bs) → p.2 ≤ length bs
       → (code_at Truncated NoCode t).read bs ≡ Ok (Pair p.1 p.0, drop p.2 bs)
 
--- what nine bits begin with is the code of the end of the block, in the same way
-pub record Ends (t : List (Row Coefficient)) (nine : ℕ) (p : ShortPair) : Type 0 where
-  pub short : p.2 ≤ 9
-  pub reads : (bs : List Bool) → nine ≡ number (ahead 9 bs) → p.2 ≤ length bs
+-- what w bits begin with is the code of the end of the block, in the same way
+pub record Ends (w : ℕ) (t : List (Row Coefficient)) (look : ℕ) (p : ShortPair) : Type 0 where
+  pub short : p.2 ≤ w
+  pub reads : (bs : List Bool) → look ≡ number (ahead w bs) → p.2 ≤ length bs
       → (code_at Truncated NoCode t).read bs ≡ Ok (End, drop p.2 bs)
 
 -- what stands for neither

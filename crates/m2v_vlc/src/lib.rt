@@ -9,8 +9,11 @@ mod increment_rows;
 mod kind;
 mod kind_rows;
 mod laws;
+mod long;
+mod longest;
 mod motion;
 mod motion_rows;
+mod one_long;
 mod one_rows;
 mod one_short;
 mod pattern;
@@ -20,6 +23,7 @@ mod short;
 mod size;
 mod size_rows;
 mod values;
+mod zero_long;
 mod zero_rows;
 mod zero_short;
 
@@ -34,6 +38,7 @@ pub use kind::{
     read_type_i, read_type_p, write_type_b, write_type_i, write_type_p,
 };
 pub use laws::law_tables;
+pub use long::long_pair;
 pub use motion::{
     bits_dmv, bits_motion, code_dmv, code_motion, read_dmv, read_motion, write_dmv, write_motion,
 };

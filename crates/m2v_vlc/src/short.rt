@@ -14,7 +14,7 @@ static FIRST_MINUS: ShortPair = (-1, 0, 2);
 
 /// What a look-up holds at i.
 #[inline(always)]
-fn entry_at(lookup: &[ShortPair], i: u32) -> &ShortPair
+pub fn entry_at(lookup: &[ShortPair], i: u32) -> &ShortPair
     requires { i < length lookup.now }
     ensures { result.now ≡ slice_index_or lookup.now i nothing }
 {
@@ -25,8 +25,8 @@ fn entry_at(lookup: &[ShortPair], i: u32) -> &ShortPair
 #[inline(always)]
 fn zero_short(nine: u32) -> &'static ShortPair
     requires { nine < 512 }
-    ensures stands { result.now.1 < 64 → Stands coefficient_zero nine result.now }
-    ensures ends { result.now.1 ≡ 128 → Ends coefficient_zero nine result.now }
+    ensures stands { result.now.1 < 64 → Stands 9 coefficient_zero nine result.now }
+    ensures ends { result.now.1 ≡ 128 → Ends 9 coefficient_zero nine result.now }
 {
     entry_at(&ZERO_SHORT, nine)
 }
@@ -35,8 +35,8 @@ fn zero_short(nine: u32) -> &'static ShortPair
 #[inline(always)]
 fn one_short(nine: u32) -> &'static ShortPair
     requires { nine < 512 }
-    ensures stands { result.now.1 < 64 → Stands coefficient_one nine result.now }
-    ensures ends { result.now.1 ≡ 128 → Ends coefficient_one nine result.now }
+    ensures stands { result.now.1 < 64 → Stands 9 coefficient_one nine result.now }
+    ensures ends { result.now.1 ≡ 128 → Ends 9 coefficient_one nine result.now }
 {
     entry_at(&ONE_SHORT, nine)
 }
@@ -47,9 +47,9 @@ fn one_short(nine: u32) -> &'static ShortPair
 pub fn short_pair(one: bool, nine: u32) -> &'static ShortPair
     requires { nine < 512 }
     ensures stands { result.now.1 < 64
-        → Stands (if one then coefficient_one else coefficient_zero) nine result.now }
+        → Stands 9 (if one then coefficient_one else coefficient_zero) nine result.now }
     ensures ends { result.now.1 ≡ 128
-        → Ends (if one then coefficient_one else coefficient_zero) nine result.now }
+        → Ends 9 (if one then coefficient_one else coefficient_zero) nine result.now }
 {
     if one {
         one_short(nine)
@@ -63,7 +63,7 @@ pub fn short_pair(one: bool, nine: u32) -> &'static ShortPair
 fn first_unit(nine: u32) -> &'static ShortPair
     requires from { 256 ≤ nine }
     requires below { nine < 512 }
-    ensures stands { Stands first_zero nine result.now }
+    ensures stands { Stands 9 first_zero nine result.now }
 {
     if nine < 384 {
         &FIRST_PLUS
@@ -77,7 +77,7 @@ fn first_unit(nine: u32) -> &'static ShortPair
 #[inline(always)]
 pub fn short_first(nine: u32) -> &'static ShortPair
     requires { nine < 512 }
-    ensures stands { result.now.1 < 64 → Stands first_zero nine result.now }
+    ensures stands { result.now.1 < 64 → Stands 9 first_zero nine result.now }
 {
     if nine < 256 {
         zero_short(nine)

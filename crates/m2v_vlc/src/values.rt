@@ -42,7 +42,7 @@ pub enum Coefficient {
     Pair { run: u8, level: i16 },
 }
 
-/// A pair with a short code, in four bytes: the level, within 40 and not 0; how many coefficients are 0 before it, up to 31;
-/// and how many bits the code has, nine at most. In place of the run, 128 stands for the end of the block, and 64 for no pair
-/// with a short code.
+/// A pair and its code, in four bytes: the level, within 40 and not 0; how many coefficients are 0 before it, up to 31; and how
+/// many bits the code has, seventeen at most. In place of the run, 128 stands for the end of the block, and 64 for no pair that
+/// the look-up knows.
 pub type ShortPair = (i16, u8, u8);

@@ -17,4 +17,4 @@ returns-clause-read c =
     let g : SFits w16 pair.0 = search rules in
     let level : to_z w32 (of_z w32 c.from.result) ≡ pair.0 = to_z-of_z w32 c.from.result f ∙ c.from.ensures ∙ to_z-of_z w16 pair.0 g in
     let rest : c.skip.new.self.rest ≡ drop pair.2 c.args.input.now.rest = ap (λ (u : Unread). u.rest) c.skip.ensures in
-    rw (level, rest) (quick_begin c.args.out.now.at pair.1 pair.0 c.args.input.now.rest (drop pair.2 c.args.input.now.rest) run e)
+    rw (c.set.ensures.value, level, rest) (quick_begin c.args.out.now.at pair.1 pair.0 c.args.input.now.rest (drop pair.2 c.args.input.now.rest) run e)
