@@ -77,8 +77,8 @@ fn quick_long(
     if at >= 64 {
         return None;
     }
-    set_later(out, at, i32::from(pair.0));
     input.skip(pair.2);
+    set_later(out, at, i32::from(pair.0));
     Some((true, at + 1))
 }
 
@@ -114,8 +114,8 @@ pub fn quick_pair(
     let pair = short_pair(one, nine);
     let at = filled + pair.1 as usize;
     if at < 64 {
-        set_later(out, at, i32::from(pair.0));
         input.skip(pair.2);
+        set_later(out, at, i32::from(pair.0));
         return Some((true, at + 1));
     }
     if pair.1 == 128 {
@@ -151,7 +151,7 @@ pub fn quick_first(input: &mut BitReader, out: &mut SparseLevels) -> Option<usiz
     if at >= 64 {
         return None;
     }
-    set(out, at, i32::from(pair.0));
     input.skip(pair.2);
+    set(out, at, i32::from(pair.0));
     Some(at + 1)
 }
