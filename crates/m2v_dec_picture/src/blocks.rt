@@ -3,7 +3,7 @@ ghost use Rattle.m2v_bits.specs.Syntax.{choose, done, renamed};
 ghost use Rattle.m2v_quant.specs.Kinds.{IsKind, IsLevel};
 ghost use Rattle.m2v_macroblock.specs.m2v_block.Blocks.{block_at, IsDc};
 ghost use Rattle.m2v_recon.specs.Steps.{levels_of};
-ghost use Rattle.m2v_macroblock.specs.Macroblocks.{predictor as predictor_of};
+ghost use Rattle.m2v_macroblock.specs.Macroblocks.{predictor as predictor_of, dc_after as dc_after_of};
 ghost use Rattle.m2v_model.specs.Faults as faults;
 ghost use Rattle.m2v_model.specs.Slices.{block_in, blocks_from};
 ghost use Rattle.m2v_dec_picture.specs.Conditions.{AreDc, AreKinds, AreFine, last_dc};
@@ -13,16 +13,16 @@ use m2v_bits::BitReader;
 use m2v_macro::{MacroSyntax, PictureContext, SliceState};
 use m2v_macroblock::block::read_block;
 use m2v_model::{Stop, of_block, stopped};
-use m2v_quant::{BlockKind, Levels};
+use m2v_quant::{BlockKind, SparseLevels};
 use m2v_recon::is_coded;
 
 /// All levels become 0.
 #[inline(always)]
-fn clear(out: &mut Levels)
+fn clear(out: &mut SparseLevels)
     ensures value { out.new.at ≡ replicate 64 (pos 0) }
     ensures levels { All IsLevel out.new.at }
 {
-    out.at = [0; 64];
+    out.open(0);
 }
 
 /// A coded block's levels.
@@ -33,7 +33,7 @@ fn coded_block(
     kind: &BlockKind,
     table_one: bool,
     predictor: i32,
-    out: &mut Levels,
+    out: &mut SparseLevels,
 ) -> Result<(), Stop>
     requires kind { IsKind kind.now }
     requires predictor { kind.now.intra ≡ true → IsDc kind.now.precision predictor }
@@ -60,7 +60,7 @@ fn block(
     table_one: bool,
     coded: bool,
     predictor: i32,
-    out: &mut Levels,
+    out: &mut SparseLevels,
 ) -> Result<(), Stop>
     requires kind { IsKind kind.now }
     requires predictor { kind.now.intra ≡ true → IsDc kind.now.precision predictor }
@@ -83,7 +83,7 @@ fn block(
 /// The DC predictor of a block: that of its component, or the DC level of the luma block before it (clause 7.2.1).
 #[inline(always)]
 #[tactic(auto, unfolding(m2v_macroblock::specs::Macroblocks::predictor))]
-fn predictor(dc: &[i32; 3], levels: &[Levels; 6], block: usize) -> i32
+fn predictor(dc: &[i32; 3], levels: &[SparseLevels; 6], block: usize) -> i32
     requires { block < 6 }
     ensures { result ≡ predictor_of dc.now (levels_of levels.now) block }
 {
@@ -92,7 +92,25 @@ fn predictor(dc: &[i32; 3], levels: &[Levels; 6], block: usize) -> i32
     } else if block == 0 {
         dc[0]
     } else {
-        levels[block - 1].at[0]
+        levels[block - 1].first_level()
+    }
+}
+
+/// The DC predictors of Y, Cb and Cr behind a macroblock's blocks: in an intra macroblock the DC levels of the last
+/// block of each, else those before (clause 7.2.1).
+#[inline(always)]
+#[tactic(auto, unfolding(m2v_macroblock::specs::Macroblocks::dc_after))]
+pub fn dc_after(intra: bool, levels: &[SparseLevels; 6], dc: [i32; 3]) -> [i32; 3]
+    ensures { result ≡ dc_after_of intra (levels_of levels.now) dc }
+{
+    if intra {
+        [
+            levels[3].first_level(),
+            levels[4].first_level(),
+            levels[5].first_level(),
+        ]
+    } else {
+        dc
     }
 }
 
@@ -104,7 +122,7 @@ fn next_block(
     state: &SliceState,
     kinds: &[BlockKind; 2],
     k: usize,
-    out: &mut [Levels; 6],
+    out: &mut [SparseLevels; 6],
 ) -> Result<(), Stop>
     requires block { k < 6 }
     requires kinds { AreKinds c.now m.now state.now kinds.now }
@@ -116,6 +134,7 @@ fn next_block(
     ensures text { input.new.text ≡ input.old.text }
     ensures left { IfErr result (λ e. e.left ≤ length input.old.text) }
     ensures fine { OnOk result (All (AreFine c.now m.now) (take (k + 1) (levels_of out.new))) }
+    ensures long { length out.new ≡ 6 }
 {
     let dc = predictor(&state.dc, out, k);
     let one = c.extension.intra_vlc_format;
@@ -132,7 +151,7 @@ pub fn blocks(
     m: &MacroSyntax,
     state: &SliceState,
     kinds: &[BlockKind; 2],
-    out: &mut [Levels; 6],
+    out: &mut [SparseLevels; 6],
 ) -> Result<(), Stop>
     requires kinds { AreKinds c.now m.now state.now kinds.now }
     requires dc { AreDc c.now.extension.dc_precision state.now.dc }

@@ -13,7 +13,7 @@ ghost use Rattle.m2v_dec_picture.specs.Conditions.{IsPicture, IsSetup, IsState, 
 ghost use Rattle.m2v_dec_picture.specs.Reads.{TellsMacroblock, TellsRound, TellsRow, seen_by};
 
 use crate::basis::PictureBasis;
-use crate::blocks::blocks;
+use crate::blocks::{blocks, dc_after};
 use crate::gap::{column, gap_before};
 use crate::located::Located;
 use crate::paint::{paint_gap, paint_own};
@@ -23,10 +23,10 @@ use crate::slice_kinds::SliceKinds;
 use crate::target::Target;
 use m2v_bits::BitReader;
 use m2v_macro::{MacroSyntax, PictureContext, SliceState, read_macro};
-use m2v_macroblock::{dc_after, mode};
+use m2v_macroblock::mode;
 use m2v_model::{SliceSetup, Stop, of_macro, stopped};
 use m2v_plane::RefView;
-use m2v_quant::Levels;
+use m2v_quant::SparseLevels;
 
 /// What is told of a macroblock beside its samples.
 #[derive(Clone, Copy, Debug, PartialEq, Eq)]
@@ -81,7 +81,7 @@ fn macroblock(
     row: u32,
     state: &mut SliceState,
     kinds: &mut SliceKinds,
-    levels: &mut [Levels; 6],
+    levels: &mut [SparseLevels; 6],
 ) -> Result<Located, Stop>
     requires setup { IsSetup s.now }
     requires row { row < rows_in s.now }

@@ -1,13 +1,13 @@
 use m2v_pred::Block16;
-use m2v_quant::Levels;
+use m2v_quant::SparseLevels;
 
 /// What one macroblock after another is worked out in.
-#[derive(Clone, Copy, Debug, PartialEq, Eq)]
+#[derive(Drop)]
 pub struct Scratch {
     /// The samples of a macroblock.
     pub block: Block16,
     /// The levels of its six blocks.
-    pub levels: [Levels; 6],
+    pub levels: [SparseLevels; 6],
 }
 
 impl Scratch {
@@ -15,7 +15,14 @@ impl Scratch {
     pub fn new() -> Scratch {
         Scratch {
             block: Block16 { at: [0; 384] },
-            levels: [Levels { at: [0; 64] }; 6],
+            levels: [
+                SparseLevels::new(),
+                SparseLevels::new(),
+                SparseLevels::new(),
+                SparseLevels::new(),
+                SparseLevels::new(),
+                SparseLevels::new(),
+            ],
         }
     }
 }

@@ -14,7 +14,7 @@ use std::marker::Model;
 /// A level and its position in scan order.
 #[derive(Clone, Copy, Debug, PartialEq, Eq)]
 pub struct LevelAt {
-    pub position: u8,
+    pub position: u16,
     pub level: i16,
 }
 
@@ -78,7 +78,7 @@ impl SparseLevels {
         ensures clear { IsClearFrom (position + 1) self.new.at }
     {
         self.later[self.count] = LevelAt {
-            position: position as u8,
+            position: position as u16,
             level: level as i16,
         };
         self.count += 1;
@@ -161,7 +161,7 @@ fn put_kept(
         x.now.level)) % 2 }
 {
     let level = i32::from(x.level);
-    put_coefficient(level, kind, intra, alternate, x.position, out, parity)
+    put_coefficient(level, kind, intra, alternate, x.position as u8, out, parity)
 }
 
 /// The coefficients of the first level and of so many that are kept behind it, where all are 0 yet. Whether the block is

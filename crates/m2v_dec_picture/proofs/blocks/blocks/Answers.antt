@@ -27,7 +27,7 @@ loop-k-preserved c =
           ∙ ap (λ (n : ℕ). (blocks_from ctx m st k n before).read t) (sym e) ∙ c.loop-k.invariant.read;
       text = c.in_ok-next_block.ensures.text ∙ c.loop-k.invariant.text;
       fine = c.in_ok-next_block.ensures.fine;
-      long = c.next_block.array_long;
+      long = c.in_ok-next_block.ensures.long;
     }
 
 pub returns-in_err-next_block-clause-exact : goal.returns-in_err-next_block-clause-exact

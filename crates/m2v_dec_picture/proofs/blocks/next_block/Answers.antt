@@ -2,6 +2,7 @@ use Rattle.std.proofs.Common.{◌∙◌, arith, take}
 use Rattle.std.specs.Prelude.{nat_lt}
 use Rattle.std.proofs.lemmas.Int.{to_z-of_z}
 use Rattle.std.proofs.lemmas.List.{length-map}
+use Rattle.std.proofs.Math.ListN.{length-set}
 use mir.Syntax.{w32}
 use Rattle.m2v_quant.specs.declared.kind.Levels.{Levels}
 use Rattle.m2v_recon.specs.Steps.{levels_of}
@@ -33,3 +34,6 @@ returns-clause-fine c =
     (λ dc. fine_more c.args.c.now c.args.m.now c.args.out.now c.args.k c.block.new.out (omega (arith, c.told-out, c.requires.block)) c.requires.before
     (own_fine c.args.c.now c.args.m.now c.args.state.now (nat_lt c.args.k 4) _ c.block.new.out.at kind c.block.ensures.levels dc))
     c.block.ensures.dc
+
+pub returns-clause-long : goal.returns-clause-long
+returns-clause-long c = length-set c.args.out.now c.args.k c.block.new.out ∙ c.told-out
