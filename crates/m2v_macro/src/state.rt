@@ -1,6 +1,6 @@
-ghost use Rattle.std.specs.Prelude.{◌≡◌, ◌+◌, ◌-◌, ◌*◌, ◌≤◌, ◌<◌, ◌^◌, ◌&&◌, ◌||◌, not, nat_eq, cond, if◌then◌else◌, true, false, replicate, length, slice_index_or, pos, neg_ℤ, ◌≤ℤ◌, ◌+ℤ◌, ◌-ℤ◌};
+ghost use Rattle.std.specs.Prelude.{◌≡◌, ◌+◌, ◌-◌, ◌*◌, ◌≤◌, ◌<◌, ◌^◌, ◌&&◌, ◌||◌, not, nat_eq, cond, if◌then◌else◌, true, false, replicate, length, pos, neg_ℤ, ◌≤ℤ◌, ◌+ℤ◌, ◌-ℤ◌};
 ghost use Rattle.m2v_vector.specs.Vectors.{scale, IsVector};
-ghost use Rattle.m2v_vector.specs.Predictors.{zero, AreSmall, resets as resets_of, has_vectors as has_vectors_of, has_two as has_two_of, is_halved as is_halved_of, left_by as left_by_of, entry_after, predictors_after};
+ghost use Rattle.m2v_vector.specs.Predictors.{zero, AreSmall, predictors_after};
 ghost use Rattle.m2v_macro.specs.States.{is_field as is_field_of, address, skipped as skipped_of, motion as motion_of, pmv_before as pmv_before_of, dc_reset as dc_reset_of, dc_behind as dc_behind_of, at_start as at_start_of, after as after_of};
 ghost use Rattle.m2v_macro.specs.Macros.{f_codes_of};
 ghost use Rattle.m2v_macro.specs.Conditions.{IsContext, IsReady, IsAddress, ArePredictors, IsMacro, is_used};
@@ -38,6 +38,23 @@ fn skipped(context: &PictureContext) -> Motion
     motion.field_picture = is_field(context);
     motion.kind = context.kind;
     motion.concealment = context.extension.concealment;
+    motion
+}
+
+/// What a macroblock does to the predictors.
+#[inline(always)]
+fn motion(context: &PictureContext, m: &MacroSyntax) -> Motion
+    ensures { result ≡ motion_of context.now m.now }
+{
+    let mut motion = skipped(context);
+    motion.intra = m.kind.intra;
+    motion.forward = m.kind.forward;
+    motion.backward = m.kind.backward;
+    motion.form = m.form;
+    let first = m.vectors[0];
+    let second = m.vectors[1];
+    motion.vectors[0] = first;
+    motion.vectors[1] = second;
     motion
 }
 
@@ -88,107 +105,6 @@ fn quantiser_behind(state: &SliceState, m: &MacroSyntax) -> u8
     }
 }
 
-/// Whether a macroblock makes all predictors 0.
-#[inline(always)]
-#[tactic(auto, unfolding(m2v_vector::specs::Predictors::resets))]
-fn resets(context: &PictureContext, m: &MacroSyntax) -> bool
-    ensures { result ≡ resets_of (motion_of context.now m.now) }
-{
-    if m.kind.intra {
-        return !context.extension.concealment;
-    }
-    context.kind == 2 && !m.kind.forward
-}
-
-/// Whether a macroblock has vectors of a direction; concealment vectors are forward ones.
-#[inline(always)]
-#[tactic(auto, unfolding(m2v_vector::specs::Predictors::has_vectors))]
-fn has_vectors(context: &PictureContext, m: &MacroSyntax, direction: usize) -> bool
-    ensures { result ≡ has_vectors_of (motion_of context.now m.now) direction }
-{
-    if direction == 0 {
-        return m.kind.forward || (m.kind.intra && context.extension.concealment);
-    }
-    m.kind.backward
-}
-
-/// Whether a direction of a macroblock has two vectors.
-#[inline(always)]
-#[tactic(auto, unfolding(m2v_vector::specs::Predictors::has_two))]
-fn has_two(context: &PictureContext, m: &MacroSyntax) -> bool
-    ensures { result ≡ has_two_of (is_field_of context.now) m.now.form }
-{
-    if is_field(context) {
-        return m.form == 2;
-    }
-    m.form == 1
-}
-
-/// Whether the vectors of a macroblock are those of fields in a frame picture.
-#[inline(always)]
-#[tactic(auto, unfolding(m2v_vector::specs::Predictors::is_halved))]
-fn is_halved(context: &PictureContext, m: &MacroSyntax) -> bool
-    ensures { result ≡ is_halved_of (is_field_of context.now) m.now.form }
-{
-    !is_field(context) && (m.form == 1 || m.form == 3)
-}
-
-/// The entry that a vector leaves.
-#[inline(always)]
-#[tactic(auto, unfolding(m2v_vector::specs::Predictors::left_by))]
-fn left_by(halved: bool, v: &[i32; 2]) -> [i32; 2]
-    requires low { neg_ℤ (pos (2 ^ 16)) ≤ℤ slice_index_or v.now 1 (pos 0) }
-    requires high { slice_index_or v.now 1 (pos 0) ≤ℤ pos (2 ^ 16) }
-    ensures { result ≡ left_by_of halved v.now }
-{
-    if halved {
-        return [v[0], 2 * v[1]];
-    }
-    [v[0], v[1]]
-}
-
-/// An entry of a direction behind a macroblock.
-#[inline(always)]
-#[tactic(auto, unfolding(m2v_vector::specs::Predictors::entry_after))]
-fn entry_behind(
-    context: &PictureContext,
-    m: &MacroSyntax,
-    p: &Pmv,
-    entry: usize,
-    direction: usize,
-) -> [i32; 2]
-    requires entry { entry < 2 }
-    requires direction { direction < 2 }
-    requires small { AreSmall m.now.vectors }
-    ensures { result ≡ entry_after (motion_of context.now m.now) p.now entry direction }
-{
-    if !has_vectors(context, m, direction) {
-        return p.at[entry][direction];
-    }
-    if has_two(context, m) {
-        return left_by(is_halved(context, m), &m.vectors[entry][direction]);
-    }
-    left_by(is_halved(context, m), &m.vectors[0][direction])
-}
-
-/// The predictors behind a macroblock that goes by these (clauses 7.6.3.3 and 7.6.3.4).
-#[inline(always)]
-#[tactic(auto, unfolding(m2v_vector::specs::Predictors::predictors_after))]
-fn entries_behind(context: &PictureContext, m: &MacroSyntax, p: &Pmv) -> Pmv
-    requires { AreSmall m.now.vectors }
-    ensures { result ≡ predictors_after (motion_of context.now m.now) p.now }
-{
-    if resets(context, m) {
-        return Pmv::zero();
-    }
-    let mut next = Pmv::zero();
-    next.at[0][0] = entry_behind(context, m, p, 0, 0);
-    next.at[0][1] = entry_behind(context, m, p, 0, 1);
-    next.at[1][0] = entry_behind(context, m, p, 1, 0);
-    next.at[1][1] = entry_behind(context, m, p, 1, 1);
-    next
-}
-
 /// The predictors of vectors behind a macroblock.
 #[inline(always)]
 fn pmv_behind(context: &PictureContext, state: &SliceState, m: &MacroSyntax) -> Pmv
@@ -196,8 +112,8 @@ fn pmv_behind(context: &PictureContext, state: &SliceState, m: &MacroSyntax) -> 
     ensures { result ≡ predictors_after (motion_of context.now m.now)
         (pmv_before_of context.now state.now m.now.increment) }
 {
-    let before = pmv_before(context, state, m.increment);
-    entries_behind(context, m, &before)
+    let motion = motion(context, m);
+    pmv_before(context, state, m.increment).after(&motion)
 }
 
 /// The address of a macroblock.
