@@ -7,3 +7,4 @@ pub mod RuleLaws
 pub mod FrameLaws
 pub mod BlockLaws
 pub mod PassLaws
+pub mod Decoded

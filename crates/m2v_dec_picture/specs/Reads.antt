@@ -18,7 +18,6 @@ use Rattle.m2v_model.specs.Modes.{all_inside, references_decoded}
 use Rattle.m2v_model.specs.Samples.{References, Put, painted, all_painted}
 use Rattle.m2v_model.specs.Slices.{Row, Slice, macroblock_at, macroblocks_at, slice_start, slice_at, is_large, large_in}
 use Rattle.m2v_model.specs.declared.stop.Stop.{Stop}
-use Rattle.m2v_dec_picture.specs.declared.located.Located.{Located}
 use Rattle.m2v_dec_picture.specs.declared.macroblocks.Round.{Round}
 use Rattle.m2v_dec_picture.specs.declared.slices.SliceEnd.{SliceEnd}
 
@@ -57,10 +56,15 @@ Breaks s st m left e =
     ((all_inside s st m ≡ false) × (e ≡ record { kind = VectorOutside; left = left }))
     ⊎ ((all_inside s st m ≡ true) × (references_decoded s st m ≡ false) × (e ≡ record { kind = MissingReference; left = left }))
 
+-- a macroblock's elements
+abbrev pub TellsElements : Result (Unit {0}) Stop → MacroSyntax → List Bool → Result (MacroSyntax × List Bool) (FaultKind × ℕ) → Type 0
+TellsElements (Ok _) m rest read = read ≡ Ok (m, rest)
+TellsElements (Err e) m rest read = read ≡ Err (e.kind, e.left)
+
 -- a macroblock and the levels of its blocks
-abbrev pub TellsMacroblock : Result Located Stop → List Levels → List Bool → Result (Macroblock × List Bool) (FaultKind × ℕ) → Type 0
-TellsMacroblock (Ok x) levels rest read = read ≡ Ok (macroblock_of x.syntax levels, rest)
-TellsMacroblock (Err e) levels rest read = read ≡ Err (e.kind, e.left)
+abbrev pub TellsMacroblock : Result (Unit {0}) Stop → MacroSyntax → List Levels → List Bool → Result (Macroblock × List Bool) (FaultKind × ℕ) → Type 0
+TellsMacroblock (Ok _) m levels rest read = read ≡ Ok (macroblock_of m levels, rest)
+TellsMacroblock (Err e) m levels rest read = read ≡ Err (e.kind, e.left)
 
 -- what a picture is predicted from, as the views show it
 abbrev pub seen_by : View → View → References

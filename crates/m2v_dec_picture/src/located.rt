@@ -10,3 +10,19 @@ pub struct Located {
     pub column: u32,
     pub gap: Gap,
 }
+
+impl Located {
+    /// A macroblock that has nothing.
+    #[inline(always)]
+    pub fn blank() -> Located {
+        Located {
+            syntax: MacroSyntax::blank(),
+            mode: Mode::none(),
+            column: 0,
+            gap: Gap {
+                column: 0,
+                count: 0,
+            },
+        }
+    }
+}

@@ -8,9 +8,8 @@ ghost use Rattle.m2v_macro.specs.Conditions.{IsMacro};
 ghost use Rattle.m2v_macroblock.specs.Modes.{mode_of};
 ghost use Rattle.m2v_model.specs.Faults as faults;
 ghost use Rattle.m2v_model.specs.Slices.{macroblock_at};
-ghost use Rattle.m2v_model.specs.Stops.{Tells};
 ghost use Rattle.m2v_dec_picture.specs.Conditions.{IsPicture, IsSetup, IsState, AreSliceKinds, AreDc, LiesInRow, rows_in, place_in, HoldsForward, HoldsBackward, CanPaint, IsColumn, IsGap, last_dc, GoesOn, AreFew};
-ghost use Rattle.m2v_dec_picture.specs.Reads.{TellsMacroblock, TellsRound, TellsRow, seen_by};
+ghost use Rattle.m2v_dec_picture.specs.Reads.{TellsElements, TellsMacroblock, TellsRound, TellsRow, seen_by};
 
 use crate::basis::PictureBasis;
 use crate::blocks::{blocks, dc_after};
@@ -22,7 +21,7 @@ use crate::scratch::Scratch;
 use crate::slice_kinds::SliceKinds;
 use crate::target::Target;
 use m2v_bits::BitReader;
-use m2v_macro::{MacroSyntax, PictureContext, SliceState, read_macro};
+use m2v_macro::{MacroSyntax, PictureContext, SliceState, read_macro_into};
 use m2v_macroblock::mode;
 use m2v_model::{SliceSetup, Stop, of_macro, stopped};
 use m2v_plane::RefView;
@@ -55,25 +54,26 @@ fn elements(
     c: &PictureContext,
     row: u32,
     state: &mut SliceState,
-) -> Result<MacroSyntax, Stop>
+    m: &mut MacroSyntax,
+) -> Result<(), Stop>
     requires picture { IsPicture c.now }
     requires state { IsState c.now row state.old }
-    ensures exact { Tells result input.new.rest
+    ensures exact { TellsElements result m.new input.new.rest
         ((renamed faults.of_macro (macro_at c.now state.old)).read input.old.rest) }
     ensures text { input.new.text ≡ input.old.text }
     ensures left { IfErr result (λ e. e.left ≤ length input.old.text) }
-    ensures fits { IfOk result (λ m. IsMacro c.now state.old m) }
-    ensures state { IfOk result (λ m. state.new ≡ after c.now state.old m) }
-    ensures inside { IfOk result (λ m. IsState c.now row state.new) }
-    ensures place { IfOk result (λ m. LiesInRow c.now row state.new.address) }
+    ensures fits { OnOk result (IsMacro c.now state.old m.new) }
+    ensures state { OnOk result (state.new ≡ after c.now state.old m.new) }
+    ensures inside { OnOk result (IsState c.now row state.new) }
+    ensures place { OnOk result (LiesInRow c.now row state.new.address) }
 {
-    match read_macro(input, c, state) {
-        Ok(m) => Ok(m),
+    match read_macro_into(input, c, state, m) {
+        Ok(()) => Ok(()),
         Err(e) => Err(stopped(input, of_macro(e))),
     }
 }
 
-/// A macroblock with the levels of its blocks. The state is that behind its elements.
+/// A macroblock, read into `x`, with the levels of its blocks. The state is that behind its elements.
 #[tactic(auto, unfolding(m2v_model::specs::Slices::macroblock_at, m2v_bits::specs::Syntax::here, m2v_bits::specs::Syntax::rule, m2v_bits::specs::Syntax::seq, m2v_bits::specs::Syntax::bind, m2v_bits::specs::Syntax::done))]
 fn macroblock(
     input: &mut BitReader,
@@ -82,46 +82,41 @@ fn macroblock(
     state: &mut SliceState,
     kinds: &mut SliceKinds,
     levels: &mut [SparseLevels; 6],
-) -> Result<Located, Stop>
+    x: &mut Located,
+) -> Result<(), Stop>
     requires setup { IsSetup s.now }
     requires row { row < rows_in s.now }
     requires state { IsState s.now.context row state.old }
     requires kinds { AreSliceKinds s.now.context kinds.old }
-    ensures exact { TellsMacroblock result levels.new input.new.rest
+    ensures exact { TellsMacroblock result x.new.syntax levels.new input.new.rest
         ((macroblock_at s.now state.old).read input.old.rest) }
     ensures text { input.new.text ≡ input.old.text }
     ensures left { IfErr result (λ e. e.left ≤ length input.old.text) }
-    ensures can { IfOk result (λ x. CanPaint s.now state.old x.syntax) }
-    ensures gap { IfOk result (λ x. IsGap s.now.context row state.old x.syntax x.gap) }
-    ensures column { IfOk result (λ x. IsColumn s.now.context row state.old x.syntax x.column) }
-    ensures mode { IfOk result (λ x. x.mode ≡ mode_of s.now.context x.syntax) }
-    ensures state { IfOk result (λ x. state.new ≡ after s.now.context state.old x.syntax) }
-    ensures inside { IfOk result (λ x. IsState s.now.context row state.new) }
-    ensures place { IfOk result (λ x. LiesInRow s.now.context row state.new.address) }
+    ensures can { OnOk result (CanPaint s.now state.old x.new.syntax) }
+    ensures gap { OnOk result (IsGap s.now.context row state.old x.new.syntax x.new.gap) }
+    ensures column { OnOk result (IsColumn s.now.context row state.old x.new.syntax x.new.column) }
+    ensures mode { OnOk result (x.new.mode ≡ mode_of s.now.context x.new.syntax) }
+    ensures state { OnOk result (state.new ≡ after s.now.context state.old x.new.syntax) }
+    ensures inside { OnOk result (IsState s.now.context row state.new) }
+    ensures place { OnOk result (LiesInRow s.now.context row state.new.address) }
     ensures kinds { OnOk result (AreSliceKinds s.now.context kinds.new) }
-    ensures quantiser { IfOk result (λ x. kinds.new.quantiser
-        ≡ (after s.now.context state.old x.syntax).quantiser) }
+    ensures quantiser { OnOk result (kinds.new.quantiser
+        ≡ (after s.now.context state.old x.new.syntax).quantiser) }
     ensures levels { OnOk result (All (λ l. All IsLevel l.at) levels.new) }
-    ensures dc { IfOk result (λ x. x.syntax.kind.intra ≡ true
+    ensures dc { OnOk result (x.new.syntax.kind.intra ≡ true
         → AreDc s.now.context.extension.dc_precision (last_dc levels.new)) }
 {
     let before = *state;
     let left = bits_left(input);
-    let syntax = elements(input, &s.context, row, state)?;
-    let gap = gap_before(&s.context, row, &before, &syntax);
-    let column = column(&s.context, row, state);
-    let mode = mode(&s.context, &syntax);
-    let x = Located {
-        syntax,
-        mode,
-        column,
-        gap,
-    };
-    check(s, row, &before, &x, left)?;
+    elements(input, &s.context, row, state, &mut x.syntax)?;
+    x.gap = gap_before(&s.context, row, &before, &x.syntax);
+    x.column = column(&s.context, row, state);
+    x.mode = mode(&s.context, &x.syntax);
+    check(s, row, &before, x, left)?;
     kinds.set_quantiser(&s.context, state.quantiser);
-    let own = kinds.of(&s.context, syntax.kind.intra);
-    blocks(input, &s.context, &syntax, state, own, levels)?;
-    Ok(x)
+    let own = kinds.of(&s.context, x.syntax.kind.intra);
+    blocks(input, &s.context, &x.syntax, state, own, levels)?;
+    Ok(())
 }
 
 /// One macroblock, put with those skipped before it.
@@ -159,7 +154,16 @@ fn next_macroblock<V: RefView, T: Target>(
 {
     let before = *state;
     let start = bits_left(input);
-    let x = macroblock(input, basis.setup, row, state, kinds, &mut scratch.levels)?;
+    let mut x = Located::blank();
+    macroblock(
+        input,
+        basis.setup,
+        row,
+        state,
+        kinds,
+        &mut scratch.levels,
+        &mut x,
+    )?;
     let end = bits_left(input);
     paint_gap(basis, row, &before, &x, &mut scratch.block, out);
     paint_own(basis, row, &before, &x, kinds, scratch, out);

@@ -53,9 +53,9 @@ fn part_decoded(
     own && (mode.form != Form::Dual || lines_there(fields[0], fields[1], other))
 }
 
-/// Whether what a macroblock reads in a direction was decoded.
+/// Whether what the parts of a macroblock read in a direction was decoded.
 #[tactic(auto, unfolding(m2v_model::specs::Modes::direction_decoded))]
-fn direction_decoded(fields: [bool; 2], mode: &Mode, direction: usize, structure: u8) -> bool
+fn parts_decoded(fields: [bool; 2], mode: &Mode, direction: usize, structure: u8) -> bool
     requires direction { direction < 2 }
     ensures { result ≡ direction_decoded_of (slice_index_or fields 0 false)
         (slice_index_or fields 1 false) mode.now direction structure }
@@ -63,6 +63,20 @@ fn direction_decoded(fields: [bool; 2], mode: &Mode, direction: usize, structure
     part_decoded(fields, mode, direction, structure, 0)
         && (part_count(mode.form, structure) == 1
             || part_decoded(fields, mode, direction, structure, 1))
+}
+
+/// Whether what a macroblock reads in a direction was decoded. Where both fields were, its parts aren't looked at.
+#[inline(always)]
+#[tactic(auto, using(crate::proofs::Decoded::whole_decoded))]
+fn direction_decoded(fields: [bool; 2], mode: &Mode, direction: usize, structure: u8) -> bool
+    requires direction { direction < 2 }
+    ensures { result ≡ direction_decoded_of (slice_index_or fields 0 false)
+        (slice_index_or fields 1 false) mode.now direction structure }
+{
+    if fields[0] && fields[1] {
+        return true;
+    }
+    parts_decoded(fields, mode, direction, structure)
 }
 
 /// Whether the fields that a macroblock is predicted from were decoded.

@@ -20,6 +20,6 @@ pub use increments::begins_before;
 pub use laws::{law_one_reading, law_round_trip, law_two_texts};
 pub use m2v_head as head;
 pub use m2v_vector as vector;
-pub use read::read_macro;
+pub use read::{read_macro, read_macro_into};
 pub use values::{MacroSyntax, PictureContext, SliceState};
 pub use write::{macro_bits, put_macro, write_macro};

@@ -1,26 +1,27 @@
-ghost use Rattle.std.specs.Prelude.{◌≡◌, ◌≤◌, ◌<◌, ◌^◌, ◌||◌, true, false, IfOk, OnErr, length};
+ghost use Rattle.std.specs.Prelude.{◌≡◌, ◌≤◌, ◌<◌, ◌^◌, ◌||◌, true, false, IfOk, OnOk, OnErr, length};
 ghost use Rattle.m2v_bits.specs.Syntax.{Gives};
 ghost use Rattle.m2v_macro.specs.States.{is_field as is_field_of, pmv_before as pmv_before_of, after};
 ghost use Rattle.m2v_macro.specs.Vectors.{shape_of as shape_as};
 ghost use Rattle.m2v_macro.specs.Macros.{no_kind, macro_of, directions_at, macro_at, is_concealed as is_concealed_of, f_codes_of};
+ghost use Rattle.m2v_macro.specs.Reading.{GivesMacro};
 ghost use Rattle.m2v_macro.specs.Conditions.{IsContext, IsReady, IsAddress, IsDirection, IsMacro, has_type, is_used, ArePredictors, AreScales};
 
 use crate::fault::MacroFault;
 use crate::increments::step;
 use crate::modes::{dct, form, has_forward, is_field, kind, marker, pattern, quantiser};
 use crate::state::pmv_before;
-use crate::values::{Direction, MacroSyntax, PictureContext, SliceState, copied};
+use crate::values::{Direction, MacroSyntax, PictureContext, SliceState};
 use crate::vectors::{direction, shape_of};
 use m2v_bits::BitReader;
 use m2v_vector::Pmv;
 use m2v_vlc::MbType;
 
-/// A macroblock that has the vectors of both directions, and nothing else yet.
+/// A macroblock gets the vectors of both directions, and nothing else yet.
 #[inline(always)]
-fn with_vectors(forward: &Direction, backward: &Direction) -> MacroSyntax
-    ensures { result ≡ macro_of 0 no_kind 0 false 0 forward.now backward.now 0 }
+fn set_vectors(m: &mut MacroSyntax, forward: &Direction, backward: &Direction)
+    ensures { m.new ≡ macro_of 0 no_kind 0 false 0 forward.now backward.now 0 }
 {
-    let mut m = MacroSyntax::blank();
+    *m = MacroSyntax::blank();
     m.vectors[0][0] = forward.first.vector;
     m.vectors[0][1] = backward.first.vector;
     m.vectors[1][0] = forward.second.vector;
@@ -30,21 +31,20 @@ fn with_vectors(forward: &Direction, backward: &Direction) -> MacroSyntax
         [forward.second.bottom, backward.second.bottom],
     ];
     m.dmvector = forward.first.dmvector;
-    m
 }
 
-/// A macroblock of its elements.
+/// A macroblock gets its other elements.
 #[inline(always)]
-fn made(
+fn set_modes(
+    m: &mut MacroSyntax,
     increment: u32,
     kind: MbType,
     form: u8,
     dct_field: bool,
     quantiser: u8,
-    vectors: &MacroSyntax,
     pattern: u8,
-) -> MacroSyntax
-    ensures { result ≡ record vectors.now {
+)
+    ensures { m.new ≡ record m.old {
       increment = increment;
       kind = kind;
       form = form;
@@ -53,14 +53,12 @@ fn made(
       pattern = pattern;
     } }
 {
-    let mut m = copied(vectors);
     m.increment = increment;
     m.kind = kind;
     m.form = form;
     m.dct_field = dct_field;
     m.quantiser = quantiser;
     m.pattern = pattern;
-    m
 }
 
 /// The vectors of a macroblock's directions, and the marker behind concealment vectors.
@@ -98,21 +96,23 @@ fn directions(
     Ok((forward, backward))
 }
 
-/// Reads a macroblock up to its blocks.
+/// Reads a macroblock up to its blocks into `m`.
+#[inline(always)]
 #[tactic(auto, unfolding(crate::specs::Macros::macro_at, m2v_bits::specs::Syntax::seq, m2v_bits::specs::Syntax::bind, m2v_bits::specs::Syntax::done))]
 fn macroblock(
     input: &mut BitReader,
     context: &PictureContext,
     state: &SliceState,
-) -> Result<MacroSyntax, MacroFault>
+    m: &mut MacroSyntax,
+) -> Result<(), MacroFault>
     requires context { IsContext context.now }
     requires state { IsReady context.now state.now }
     requires address { IsAddress state.now.address }
     requires next { state.now.next ≤ 2 ^ 16 }
-    ensures exact { Gives result input.new.rest
+    ensures exact { GivesMacro result m.new input.new.rest
         ((macro_at context.now state.now).read input.old.rest) }
     ensures text { input.new.text ≡ input.old.text }
-    ensures fits { IfOk result (λ m. IsMacro context.now state.now m) }
+    ensures fits { OnOk result (IsMacro context.now state.now m.new) }
 {
     let increment = step(input, context, state)?;
     let kind = kind(input, context.kind)?;
@@ -122,10 +122,37 @@ fn macroblock(
     let pmv = pmv_before(context, state, increment);
     let (forward, backward) = directions(input, context, kind, form, &pmv)?;
     let pattern = pattern(input, kind)?;
-    let vectors = with_vectors(&forward, &backward);
-    Ok(made(
-        increment, kind, form, dct_field, quantiser, &vectors, pattern,
-    ))
+    set_vectors(m, &forward, &backward);
+    set_modes(m, increment, kind, form, dct_field, quantiser, pattern);
+    Ok(())
+}
+
+/// Reads a macroblock up to its blocks (clauses 6.2.5 and 6.3.17) into `m`, and leaves the state behind it, as
+/// [`read_macro`] does, with nothing made to be handed on. Nothing is said of what stands in `m` after an error.
+///
+/// # Errors
+/// Those of [`read_macro`].
+pub fn read_macro_into(
+    input: &mut BitReader,
+    context: &PictureContext,
+    state: &mut SliceState,
+    m: &mut MacroSyntax,
+) -> Result<(), MacroFault>
+    requires context { IsContext context.now }
+    requires state { IsReady context.now state.old }
+    requires address { IsAddress state.old.address }
+    requires next { state.old.next ≤ 2 ^ 16 }
+    ensures exact { GivesMacro result m.new input.new.rest
+        ((macro_at context.now state.old).read input.old.rest) }
+    ensures text { input.new.text ≡ input.old.text }
+    ensures fits { OnOk result (IsMacro context.now state.old m.new) }
+    ensures state { OnOk result (state.new ≡ after context.now state.old m.new) }
+    ensures ready { OnOk result (IsReady context.now state.new) }
+    ensures same { OnErr result (state.new ≡ state.old) }
+{
+    macroblock(input, context, state, m)?;
+    state.go_on(context, m);
+    Ok(())
 }
 
 /// Reads a macroblock up to its blocks (clauses 6.2.5 and 6.3.17), and leaves the state behind it. The DC predictors
@@ -152,7 +179,7 @@ pub fn read_macro(
     ensures ready { IfOk result (λ m. IsReady context.now state.new) }
     ensures same { OnErr result (state.new ≡ state.old) }
 {
-    let m = macroblock(input, context, state)?;
-    *state = state.after(context, &m);
+    let mut m = MacroSyntax::blank();
+    read_macro_into(input, context, state, &mut m)?;
     Ok(m)
 }

@@ -151,25 +151,40 @@ impl SliceState {
         }
     }
 
-    /// The state behind a macroblock (clauses 7.2.1 and 7.6.3), but for what its blocks do to the DC predictors.
+    /// The state becomes that behind a macroblock (clauses 7.2.1 and 7.6.3), but for what its blocks do to the DC
+    /// predictors.
+    #[inline(always)]
     #[tactic(auto, unfolding(crate::specs::States::after))]
+    pub fn go_on(&mut self, context: &PictureContext, m: &MacroSyntax)
+        requires context { IsContext context.now }
+        requires address { IsAddress self.old.address }
+        requires fits { IsMacro context.now self.old m.now }
+        ensures { self.new ≡ after_of context.now self.old m.now }
+    {
+        // all of these look at the state before
+        let dc = dc_behind(context, self, m);
+        let pmv = pmv_behind(context, self, m);
+        let quantiser = quantiser_behind(self, m);
+        let address = address_of(self, m);
+        self.dc = dc;
+        self.pmv = pmv;
+        self.quantiser = quantiser;
+        self.address = address;
+        self.forward = m.kind.forward;
+        self.backward = m.kind.backward;
+        self.intra = m.kind.intra;
+        self.first = false;
+    }
+
+    /// The state behind a macroblock (clauses 7.2.1 and 7.6.3), but for what its blocks do to the DC predictors.
     pub fn after(&self, context: &PictureContext, m: &MacroSyntax) -> SliceState
         requires context { IsContext context.now }
         requires address { IsAddress self.now.address }
         requires fits { IsMacro context.now self.now m.now }
         ensures { result ≡ after_of context.now self.now m.now }
     {
-        let dc = dc_behind(context, self, m);
-        SliceState {
-            quantiser: quantiser_behind(self, m),
-            dc,
-            pmv: pmv_behind(context, self, m),
-            forward: m.kind.forward,
-            backward: m.kind.backward,
-            intra: m.kind.intra,
-            first: false,
-            address: address_of(self, m),
-            next: self.next,
-        }
+        let mut next = *self;
+        next.go_on(context, m);
+        next
     }
 }

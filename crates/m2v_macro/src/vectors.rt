@@ -59,6 +59,7 @@ fn residual(input: &mut BitReader, f_code: u8, code: i8) -> Result<u32, MacroFau
 }
 
 /// A component of a vector, behind its predictor (clauses 6.2.5.2.1 and 7.6.3.1).
+#[inline(always)]
 #[tactic(auto, unfolding(crate::specs::Vectors::component_at, m2v_bits::specs::Syntax::seq, m2v_bits::specs::Syntax::bind, m2v_bits::specs::Syntax::renamed, m2v_bits::specs::Syntax::done))]
 fn component(input: &mut BitReader, f_code: u8, predictor: i32) -> Result<i32, MacroFault>
     requires least { 1 ≤ f_code }
@@ -112,6 +113,7 @@ pub fn is_half_vector(f_code: u8, v: i32) -> bool
 }
 
 /// The vertical component of a vector, behind its predictor.
+#[inline(always)]
 #[tactic(auto, unfolding(crate::specs::Vectors::vertical_at, m2v_bits::specs::Syntax::seq, m2v_bits::specs::Syntax::bind, m2v_bits::specs::Syntax::here, m2v_bits::specs::Syntax::done))]
 fn vertical(
     input: &mut BitReader,
@@ -136,6 +138,7 @@ fn vertical(
 }
 
 /// A vector behind its reference field bit.
+#[inline(always)]
 #[tactic(auto, unfolding(crate::specs::Vectors::vector_at, m2v_bits::specs::Syntax::seq, m2v_bits::specs::Syntax::bind, m2v_bits::specs::Syntax::done))]
 fn vector(
     input: &mut BitReader,
@@ -179,9 +182,10 @@ fn bit(input: &mut BitReader, told: bool) -> Result<bool, MacroFault>
     Ok(false)
 }
 
-/// A vector with its reference field bit (clause 6.2.5.2).
+/// A vector behind its reference field bit, and that bit.
+#[inline(always)]
 #[tactic(auto, unfolding(crate::specs::Vectors::selected_at, m2v_bits::specs::Syntax::seq, m2v_bits::specs::Syntax::bind))]
-fn selected(
+fn bit_and_vector(
     input: &mut BitReader,
     shape: &Shape,
     f_code: &[u8; 2],
@@ -196,6 +200,26 @@ fn selected(
 {
     let bottom = bit(input, shape.bit)?;
     vector(input, shape, f_code, predictor, bottom)
+}
+
+/// A vector with its reference field bit (clause 6.2.5.2). The reader's place stays in a register meanwhile.
+fn selected<'a>(
+    input: &mut BitReader<'a>,
+    shape: &Shape,
+    f_code: &[u8; 2],
+    predictor: &[i32; 2],
+) -> Result<Selected, MacroFault>
+    requires scales { AreScales f_code.now }
+    requires predictor { IsPair f_code.now predictor.now }
+    ensures exact { Gives result input.new.rest
+        ((selected_at shape.now f_code.now predictor.now).read input.old.rest) }
+    ensures text { input.new.text ≡ input.old.text }
+    ensures selected { IfOk result (λ s. IsSelected shape.now f_code.now s) }
+{
+    let mut ahead = input.fork();
+    let read = bit_and_vector(&mut ahead, shape, f_code, predictor);
+    *input = ahead;
+    read
 }
 
 /// What stands for a vector that there is not.

@@ -128,6 +128,7 @@ impl Pmv {
     }
 
     /// The predictors after a macroblock, or after skipped ones (clauses 7.6.3.3 and 7.6.3.4).
+    #[inline(always)]
     #[tactic(auto, unfolding(crate::specs::Predictors::predictors_after))]
     pub fn after(&self, m: &Motion) -> Pmv
         requires { AreSmall m.now.vectors }

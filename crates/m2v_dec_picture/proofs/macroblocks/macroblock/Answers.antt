@@ -6,18 +6,18 @@ use Rattle.m2v_dec_picture.proofs.macroblocks.macroblock.Goals as goal
 
 pub check-requires-clause-column : goal.check-requires-clause-column
 check-requires-clause-column c =
-    column_is c.args.s.now.context c.args.row c.args.state.now c.in_ok-syntax.syntax c.elements.new.state c.column-column.result
-    c.in_ok-syntax.ensures.state c.column-column.ensures.value c.column-column.ensures.below
+    column_is c.args.s.now.context c.args.row c.args.state.now c.elements.new.m c.elements.new.state c.column-x.result
+    c.in_ok-elements.ensures.state c.column-x.ensures.value c.column-x.ensures.below
 
 pub returns-clause-column : goal.returns-clause-column
 returns-clause-column c =
-    column_is c.args.s.now.context c.args.row c.args.state.now c.in_ok-syntax.syntax c.elements.new.state c.column-column.result
-    c.in_ok-syntax.ensures.state c.column-column.ensures.value c.column-column.ensures.below
+    column_is c.args.s.now.context c.args.row c.args.state.now c.elements.new.m c.elements.new.state c.column-x.result
+    c.in_ok-elements.ensures.state c.column-x.ensures.value c.column-x.ensures.below
 
 pub blocks-requires-clause-kinds : goal.blocks-requires-clause-kinds
 blocks-requires-clause-kinds c =
     let ctx = c.args.s.now.context in
-    let intra = c.in_ok-syntax.syntax.kind.intra in
+    let intra = c.elements.new.m.kind.intra in
     record {
       value = c.of-own.ensures.value
           ∙ ap (λ (q : ℕ). kind_for ctx intra true q ∷ kind_for ctx intra false q ∷ []) c.set_quantiser.ensures.quantiser;
@@ -26,4 +26,4 @@ blocks-requires-clause-kinds c =
 
 pub returns-clause-quantiser : goal.returns-clause-quantiser
 returns-clause-quantiser c =
-    c.set_quantiser.ensures.quantiser ∙ ap (λ (z : SliceState). z.quantiser) c.in_ok-syntax.ensures.state
+    c.set_quantiser.ensures.quantiser ∙ ap (λ (z : SliceState). z.quantiser) c.in_ok-elements.ensures.state
