@@ -76,8 +76,8 @@ fn best_whole(
     requires wide { area.right ≤ 48 }
     requires middle { best.spot ≡ middle count }
     requires known { best.sad ≡ spot_sad block.now count scratch.old.window best.spot }
-    ensures spot { result.spot ≡ whole_spot (spot_sad block.now count scratch.old.window) count area across
-        down }
+    ensures spot { result.spot ≡ whole_spot (spot_sad block.now count scratch.old.window) count area
+        across down }
     ensures sad { result.sad ≡ spot_sad block.now count scratch.old.window result.spot }
     ensures near { IsNear count area (2 * across) (2 * down) result.spot }
     ensures same { scratch.new.window ≡ scratch.old.window }

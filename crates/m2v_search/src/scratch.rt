@@ -1,7 +1,7 @@
 //! What a search writes before it reads it.
 
-/// Room for the samples around a macroblock and for bounds of the difference at each place. A search reads of it only what it
-/// has written, so one serves any number of searches, and none clears it.
+/// Room for the samples around a macroblock and for bounds of the difference at each place. A search reads of it only what
+/// it has written, so one serves any number of searches, and none clears it.
 #[derive(Drop)]
 pub struct SearchScratch {
     /// The samples around the macroblock, 48 lines of 48.
