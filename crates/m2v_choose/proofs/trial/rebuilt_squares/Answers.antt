@@ -1,4 +1,4 @@
-use Rattle.std.proofs.Common.{ℕ, List, [], ◌∷◌, ap, ◌∙◌, true, false}
+use Rattle.std.proofs.Common.{ℕ, List, [], ◌∷◌, ap, ◌∙◌, true, false, arith}
 use Rattle.m2v_quant.specs.declared.kind.BlockKind.{BlockKind}
 use Rattle.m2v_macro.specs.States.{after}
 use Rattle.m2v_recon.specs.Macro.{macro_sample, kind_at}
@@ -14,8 +14,8 @@ use Rattle.m2v_choose.proofs.trial.rebuilt_squares.Goals as goal
 pub kinds-kinds-requires-clause-picture : goal.kinds-kinds-requires-clause-picture
 kinds-kinds-requires-clause-picture c = own_picture c.args.task.now.context.now c.requires.task.asked.own
 
-pub rebuild_block-requires-clause-levels : goal.rebuild_block-requires-clause-levels
-rebuild_block-requires-clause-levels c = each_level c.args.levels.now c.requires.writable.levels
+pub rebuild_block-requires : goal.rebuild_block-requires
+rebuild_block-requires c = (omega arith, (c.kinds-kinds.ensures.kinds, each_level c.args.levels.now c.requires.writable.levels))
 
 pub returns-clause-value : goal.returns-clause-value
 unfolding rebuilt_by sample_at after
