@@ -90,34 +90,33 @@ fn tell_gate<B: JobBook, G: Gate>(_book: &B, gate: &G, number: u32, j: u32, told
     gate.done(number, j, told);
 }
 
-// Does one job that the pass has claimed, and publishes it.
-pub(crate) fn work_one<R: Wait, B: JobBook, G: Gate>(
+// Does one job that the worker's pass has claimed, and publishes it.
+fn work_one<R: Wait, B: JobBook, G: Gate>(
     rt: &R,
     book: &B,
     board: &Board<B>,
     gate: &G,
-    number: u32,
-    pass: &mut Pass<B>,
-    cache: &mut B::Cache,
+    worker: &mut Worker<B>,
     j: u32,
 )
     requires board { (book_of board.now ≡ book.now) × (jobs_of board.now ≡ B.jobs book.now) }
-    requires pass { IsPassOf board.now pass.old }
+    requires pass { IsPassOf board.now worker.old.pass }
     requires job { j < B.jobs book.now }
-    requires cache { B.fits_cache book.now cache.old }
-    requires slot { (x : _) × (slot_of pass.old j ≡ Some x)
+    requires cache { B.fits_cache book.now worker.old.cache }
+    requires slot { (x : _) × (slot_of worker.old.pass j ≡ Some x)
         × Has (IsBlank (B.fits_piece (book_of board.now)) (B.fits_shared (book_of board.now))) j x }
-    ensures pass { IsPassOf board.now pass.new × ((view pass.new).passes ≡ (view pass.old).passes) }
-    ensures shown { slot_of pass.new j ≡ None }
-    ensures others { (i : ℕ) → i ≢ j → slot_of pass.new i ≡ slot_of pass.old i }
-    ensures fits { B.fits_cache book.now cache.new }
+    ensures pass { IsPassOf board.now worker.new.pass
+        × ((view worker.new.pass).passes ≡ (view worker.old.pass).passes) }
+    ensures shown { slot_of worker.new.pass j ≡ None }
+    ensures others { (i : ℕ) → i ≢ j → slot_of worker.new.pass i ≡ slot_of worker.old.pass i }
+    ensures fits { B.fits_cache book.now worker.new.cache }
 {
-    let mut post = board.take(pass, j);
-    gate.pass(number, j);
-    learn_all(rt, book, board, pass, cache, j);
-    let told = fill(book, cache, j, &mut post);
-    tell_gate(book, gate, number, j, told);
-    board.publish(pass, j, post);
+    let mut post = board.take(&mut worker.pass, j);
+    gate.pass(worker.number, j);
+    learn_all(rt, book, board, &mut worker.pass, &mut worker.cache, j);
+    let told = fill(book, &worker.cache, j, &mut post);
+    tell_gate(book, gate, worker.number, j, told);
+    board.publish(&mut worker.pass, j, post);
 }
 
 // Claims a job and does it. False where no job was left.
@@ -139,16 +138,7 @@ pub(crate) fn one_turn<R: Wait, B: JobBook, G: Gate>(
     match board.claim(&mut worker.pass) {
         None => false,
         Some(j) => {
-            work_one(
-                rt,
-                book,
-                board,
-                gate,
-                worker.number,
-                &mut worker.pass,
-                &mut worker.cache,
-                j,
-            );
+            work_one(rt, book, board, gate, worker, j);
             true
         }
     }
