@@ -76,7 +76,7 @@ before levels kind = map (saturated_at levels kind) (range_with_len 0 64)
 at_before : (levels : List ℤ) (kind : BlockKind) (xs : List ℤ) (k : ℕ) → xs ≡ before levels kind → k < 64 → get_or xs k (pos 0) ≡ saturated_at levels kind k
 at_before levels kind xs k e lt = ap (λ (ys : List ℤ). get_or ys k (pos 0)) e ∙ get_or-map-range_with_len (saturated_at levels kind) 0 64 k k (pos 0) lt (omega arith)
 
-pub odd_block : (levels : List ℤ) (kind : BlockKind) (xs : List ℤ) → length xs ≡ 64 → xs ≡ before levels kind → (unsigned_abs (coefficient_sum 64 (saturated_at levels kind)) % 2 ≡ 0 → ⊥) → xs ≡ coefficients_of levels kind
+odd_block : (levels : List ℤ) (kind : BlockKind) (xs : List ℤ) → length xs ≡ 64 → xs ≡ before levels kind → (unsigned_abs (coefficient_sum 64 (saturated_at levels kind)) % 2 ≡ 0 → ⊥) → xs ≡ coefficients_of levels kind
 unfolding coefficients_of
 odd_block levels kind xs len e odd = fill_by_all (coefficient_at levels kind) xs 64 (pos 0) len (λ k lt. at_before levels kind xs k e lt ∙ sym (odd_place levels kind k odd))
 
@@ -87,7 +87,16 @@ even_place levels kind xs v len e even is k lt = elim (cases_eq k 63) [
   | inr ne ↦ let apart : k ≢ 63 = ne in rw get_or-set_other (at_before levels kind xs k e lt ∙ sym (other_place levels kind k ne))
 ]
 
-pub even_block : (levels : List ℤ) (kind : BlockKind) (xs : List ℤ) (v : ℤ) → length xs ≡ 64 → xs ≡ before levels kind → unsigned_abs (coefficient_sum 64 (saturated_at levels kind)) % 2 ≡ 0 → v ≡ other_parity (get_or xs 63 (pos 0))
+even_block : (levels : List ℤ) (kind : BlockKind) (xs : List ℤ) (v : ℤ) → length xs ≡ 64 → xs ≡ before levels kind → unsigned_abs (coefficient_sum 64 (saturated_at levels kind)) % 2 ≡ 0 → v ≡ other_parity (get_or xs 63 (pos 0))
     → set xs 63 v ≡ coefficients_of levels kind
 unfolding coefficients_of
 even_block levels kind xs v len e even is = fill_by_all (coefficient_at levels kind) (set xs 63 v) 64 (pos 0) (length-set xs 63 v ∙ len) (even_place levels kind xs v len e even is)
+
+-- with mismatch control
+pub mismatched : (levels : List ℤ) (kind : BlockKind) (xs ys : List ℤ) (parity : ℕ) → length xs ≡ 64 → xs ≡ before levels kind
+    → parity ≡ unsigned_abs (coefficient_sum 64 (saturated_at levels kind)) % 2
+    → (parity ≡ 0 → ys ≡ set xs 63 (other_parity (get_or xs 63 (pos 0)))) → (parity ≢ 0 → ys ≡ xs) → ys ≡ coefficients_of levels kind
+mismatched levels kind xs ys parity len e is even odd = elim (cases_eq parity 0) [
+  | inl none ↦ even none ∙ even_block levels kind xs _ len e (sym is ∙ none) refl
+  | inr some ↦ odd some ∙ odd_block levels kind xs len e (λ none. some (is ∙ none))
+]

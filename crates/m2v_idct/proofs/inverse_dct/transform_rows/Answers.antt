@@ -1,4 +1,5 @@
-use Rattle.std.proofs.Common.{◌≡◌, ℕ, ◌<◌, ◌+◌, ◌*◌, ◌∙◌, arith, get_or, below_more, subst, sym, pos}
+use Rattle.std.proofs.Common.{◌≡◌, ℕ, ◌<◌, ◌+◌, ◌*◌, ◌/◌, ◌∙◌, ap, arith, get_or, below_more, subst, sym, pos}
+use Rattle.std.specs.Int.{bit_at}
 use Rattle.m2v_idct.specs.Inverse.{after_rows}
 use Rattle.m2v_idct.specs.Ranges.{Within}
 use Rattle.m2v_idct.proofs.Passed.{coefficient_within}
@@ -8,7 +9,14 @@ use Rattle.m2v_idct.proofs.inverse_dct.transform_rows.Goals as goal
 pub transform_row-requires-clause-within : goal.transform_row-requires-clause-within
 transform_row-requires-clause-within c k lk =
     let n = c.loop-y.y in
-    subst (Within 2048) (sym (c.loop-y.invariant.rest n k (omega arith) (omega arith) lk)) (coefficient_within _ (c.requires (8 * n + k) (pos 0) (omega (arith, c.told-block))))
+    subst (Within 2048) (sym (c.loop-y.invariant.rest n k (omega arith) (omega arith) lk)) (coefficient_within _ (c.requires.coefficients (8 * n + k) (pos 0) (omega (arith, c.told-block))))
+
+pub transform_row-requires-clause-rows : goal.transform_row-requires-clause-rows
+transform_row-requires-clause-rows c none k lk =
+    let n = c.loop-y.y in
+    let e : (8 * n + k) / 8 ≡ n = omega arith in
+    c.loop-y.invariant.rest n k (omega arith) (omega arith) lk
+    ∙ c.requires.rows (8 * n + k) (omega arith) (ap (bit_at c.args.rows) e ∙ none)
 
 pub loop-y-preserved : goal.loop-y-preserved
 loop-y-preserved c =
