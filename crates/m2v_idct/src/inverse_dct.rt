@@ -151,29 +151,53 @@ fn fill(block: &mut [i32; 64], value: i32)
     *block = [value; 64];
 }
 
+// Goes from one row that has a coefficient to the next. Most have none, and no result.
 #[inline(always)]
 fn transform_rows(block: &mut [i32; 64], rows: u32)
     requires coefficients { All IsCoefficient block.old }
     requires rows { IsInRows rows block.old }
     ensures { (y x : ℕ) → y < 8 → x < 8 → nth block.new (8 * y + x) ≡ after_rows block.old y x }
 {
-    for y in 0..8 {
-        transform_row(block, y, rows);
+    let mut left = rows % 256;
+    while left != 0 {
+        let y = first_row(left);
+        transform_row(block, y);
+        left = without(left, y);
     }
 }
 
-// Puts the results of line y in its place. Most lines have no coefficient, and no result.
+// The first of some rows.
 #[inline(always)]
-fn transform_row(block: &mut [i32; 64], y: usize, rows: u32)
+fn first_row(rows: u32) -> usize
+    requires some { 0 < rows }
+    requires below { rows < 256 }
+    ensures below { result < 8 }
+    ensures here { bit_at rows result ≡ 1 }
+{
+    rows.trailing_zeros() as usize
+}
+
+// Some rows without one of them.
+#[inline(always)]
+fn without(rows: u32, y: usize) -> u32
+    requires below { rows < 256 }
     requires y { y < 8 }
-    requires rows { bit_at rows y ≡ 0 → (k : ℕ) → k < 8 → at block.old y k ≡ pos 0 }
+    requires here { bit_at rows y ≡ 1 }
+    ensures less { result < rows }
+    ensures gone { bit_at result y ≡ 0 }
+    ensures others { (i : ℕ) → i < 8 → i ≢ y → bit_at result i ≡ bit_at rows i }
+{
+    rows & !(1 << y)
+}
+
+// Puts the results of line y in its place.
+#[inline(always)]
+fn transform_row(block: &mut [i32; 64], y: usize)
+    requires y { y < 8 }
     requires within { (k : ℕ) → k < 8 → Within 2048 (at block.old y k) }
     ensures row { (k : ℕ) → k < 8 → nth block.new (8 * y + k) ≡ after_rows block.old y k }
     ensures rest { (i : ℕ) → ((k : ℕ) → k < 8 → i ≢ 8 * y + k) → nth block.new i ≡ nth block.old i }
 {
-    if is_empty(rows, y) {
-        return;
-    }
     let coefficients = row_at(block, y);
     put_row(block, y, &full_row(&coefficients));
 }
@@ -208,13 +232,4 @@ fn column_results(c: &[i32; 8]) -> [i32; 8]
     ensures { result ≡ column (nth c.now) }
 {
     combine_terms(&column_terms(c), 14)
-}
-
-// Row y is one of those that have no coefficient.
-#[inline(always)]
-fn is_empty(rows: u32, y: usize) -> bool
-    requires { y < 8 }
-    ensures { IsTrue result → bit_at rows y ≡ 0 }
-{
-    (rows >> y) % 2 == 0
 }
