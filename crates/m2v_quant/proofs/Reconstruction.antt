@@ -1,13 +1,18 @@
 -- Reconstruction by size and sign is that of the standard, and a sum's parity goes by the sizes.
-use Rattle.std.proofs.Common.{◌≡◌, ℕ, zero, suc, ◌+◌, ◌*◌, ◌/◌, ◌%◌, ◌^◌, ◌<◌, Bool, true, false, cond, refl, ap, sym, ◌∙◌, arith, List, length, map, get_or, set, get_or-set_other, get_or-set_same, below_more, ◌≢◌, ℤ, pos, negsuc, ◌+ℤ◌, ◌*ℤ◌, inl, inr}
+use Rattle.std.proofs.Common.{◌≡◌, ℕ, zero, suc, ◌+◌, ◌*◌, ◌/◌, ◌%◌, ◌^◌, ◌<◌, ◌≤◌, Bool, true, false, cond, refl, ap, sym, ◌∙◌, arith, List, length, map, get_or, set, get_or-set_other, get_or-set_same, below_more, ◌≢◌, ℤ, pos, negsuc, ◌+ℤ◌, ◌*ℤ◌, inl, inr}
 use Rattle.std.specs.Prelude.{neg_ℤ, min, unsigned_abs}
 use Rattle.std.specs.Int.RustNames.{int_div}
 use Rattle.std.specs.List.{range_with_len}
+use Rattle.std.specs.Int.Bits.{bit_xor}
+use Rattle.std.proofs.lemmas.Nat.Bits.{bit_at_lowest, bit_at_xor}
 use Rattle.std.proofs.lemmas.Int.{ints}
 use Rattle.std.proofs.lemmas.Bool.{ne_eqb, eq-eqb, cases_eq}
 use Rattle.std.proofs.lemmas.List.FromFn.{fill_by_all, get_or-map-range_with_len}
 use Rattle.std.proofs.Math.ListN.{length-set}
 use Rattle.m2v_quant.specs.declared.kind.BlockKind.{BlockKind}
+use mir.Syntax.{w32}
+use mir.Val.{of_z}
+use Rattle.m2v_quant.specs.Kinds.{IsCoefficient}
 use Rattle.m2v_quant.specs.Quantiser.{with_sign}
 use Rattle.m2v_quant.specs.Coefficients.{ac_coefficient, dc_coefficient, saturated_at, coefficient_sum, other_parity, coefficient_at, coefficients_of}
 
@@ -45,6 +50,20 @@ parity_more p (pos a) (pos b) e = omega (arith, ints)
 parity_more p (pos a) (negsuc b) e = omega (arith, ints)
 parity_more p (negsuc a) (pos b) e = omega (arith, ints)
 parity_more p (negsuc a) (negsuc b) e = omega (arith, ints)
+
+-- a level other than 0 has a size
+pub some_size : (z : ℤ) → z ≢ pos 0 → 1 ≤ unsigned_abs z
+some_size (pos zero) some = absurd (some refl)
+some_size (pos (suc n)) some = omega arith
+some_size (negsuc n) some = omega arith
+
+-- bits that are mixed have the parity of the sum
+pub mixed_parity : (a b : ℕ) → bit_xor a b % 2 ≡ (a + b) % 2
+mixed_parity a b = let mixed = bit_at_xor a b 0 in omega (arith, mixed, bit_at_lowest (bit_xor a b), bit_at_lowest a, bit_at_lowest b)
+
+pub bits_parity : (z : ℤ) → IsCoefficient z → of_z w32 z % 2 ≡ unsigned_abs z % 2
+bits_parity (pos n) h = omega (arith, ints, h.0, h.1)
+bits_parity (negsuc n) h = omega (arith, ints, h.0, h.1)
 
 -- one more place is written
 pub write_next : (P : ℕ → ℤ → Type 0) (xs : List ℤ) (n : ℕ) (v : ℤ) → n < length xs → ((k : ℕ) → k < n → P k (get_or xs k (pos 0))) → P n v

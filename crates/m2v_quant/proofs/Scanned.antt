@@ -1,13 +1,13 @@
 -- Coefficients of the first levels alone: one level more, a level that is 0, eight of them.
 use Rattle.std.proofs.Common.{◌≡◌, ◌≢◌, ℕ, zero, suc, ◌+◌, ◌-◌, ◌*◌, ◌/◌, ◌%◌, ◌^◌, ◌<◌, ◌≤◌, Bool, true, false, refl, ap, sym, subst, ◌∙◌, arith, List, length, map, take, get_or, set, replicate, get_or-set_other, get_or-set_same, ℤ, pos, ◌+ℤ◌, inl, inr, w32}
-use Rattle.std.specs.Prelude.{unsigned_abs, slice_index, if◌then◌else◌, ◌*ℤ◌, neg_ℤ, All}
+use Rattle.std.specs.Prelude.{unsigned_abs, nat_eq, ◌&&◌, slice_index, if◌then◌else◌, ◌*ℤ◌, neg_ℤ, All}
 use Rattle.std.specs.Int.{int_max, int_min}
 use Rattle.std.specs.Int.RustNames.{int_div}
 use Rattle.std.specs.List.{range_with_len}
 use Rattle.std.specs.Int.Bits.{bit_or}
 use Rattle.std.proofs.lemmas.Nat.{le_or_l, le_or_r}
 use Rattle.std.proofs.lemmas.Int.{ints, clamps}
-use Rattle.std.proofs.lemmas.Bool.{cases_eq, cases_lt}
+use Rattle.std.proofs.lemmas.Bool.{cases_eq, cases_lt, ne_eqb}
 use Rattle.std.proofs.lemmas.List.{get_or-take, get_or_past, length-take-le, get_or-replicate, take_all}
 use Rattle.std.proofs.lemmas.List.Elements.{All-from_get_or}
 use Rattle.std.proofs.lemmas.List.FromFn.{fill_by_all, get_or-map-range_with_len}
@@ -174,6 +174,29 @@ changed g h out parity place c more out_len inside was here other after value pa
       ∙ ap (λ z. unsigned_abs z % 2) (ap (λ z. coefficient_sum 64 g +ℤ z) (sym here) ∙ sym (sum_put 64 place g h inside was other)),
 )
 
+-- behind the first position stand other places than the first
+first_position : (b : Bool) → position b 0 ≡ 0
+unfolding position scan_order zigzag alternate
+first_position false = refl
+first_position true = refl
+
+pub later_place : (b : Bool) (i : ℕ) → 1 ≤ i → i < 64 → 1 ≤ slice_index (scan_order b) i
+later_place b i some lt = elim (cases_eq (slice_index (scan_order b) i) 0) [
+  | inl none ↦ absurd (omega (arith, some, sym (position_scan b i lt) ∙ ap (position b) none ∙ first_position b))
+  | inr other ↦ omega (arith, other)
+]
+
+-- where no DC coefficient stands
+second : (b t : Bool) (x y : ℤ) → t ≡ false → (if b && t then x else y) ≡ y
+second true t x y e = rw e refl
+second false t x y e = refl
+
+pub later_is : (kind : BlockKind) (place : ℕ) (level : ℤ) → 1 ≤ place
+    → saturated (ac_coefficient kind.intra (slice_index kind.matrix place * kind.scale) level) ≡ saturated_of kind place level
+unfolding saturated_of
+later_is kind place level some =
+    sym (ap saturated (second kind.intra (nat_eq place 0) _ _ (ne_eqb place 0 (λ e. absurd (omega (arith, e, some))))))
+
 -- one row more is marked
 pub mark_here : (rows k : ℕ) → k < 32 → bit_at (bit_or rows (1 * 2 ^ k % 2 ^ 32)) k ≡ 1
 mark_here rows k lt = bit_at_set_same w32 rows k lt
@@ -192,7 +215,7 @@ rows_put before after place c out here others h k lt none = elim (cases_eq k pla
 -- one level more
 pub one_put : (levels : List ℤ) (kind : BlockKind) (n : ℕ) (out : List ℤ) (told : Told) (place : ℕ) (c : ℤ) (more : Told)
     → length levels ≡ 64 → length out ≡ 64 → n < 64 → place < 64 → place ≡ slice_index (scan_order kind.alternate) n
-    → c ≡ saturated_of kind place (get_or levels n (pos 0)) → more.parity ≡ (told.parity + unsigned_abs c) % 2
+    → c ≡ saturated_of kind place (get_or levels n (pos 0)) → more.parity % 2 ≡ (told.parity + unsigned_abs c) % 2
     → bit_at more.rows (place / 8) ≡ 1 → ((y : ℕ) → bit_at more.rows y ≡ 0 → bit_at told.rows y ≡ 0)
     → IsUpTo levels kind n out told → IsUpTo levels kind (n + 1) (set out place c) more
 one_put levels kind n out told place c more len out_len lt inside at value after row rows h =
@@ -206,13 +229,13 @@ one_put levels kind n out told place c more len out_len lt inside at value after
     let other : (k : ℕ) → k < 64 → (k ≡ place → ⊥) → new k ≡ old k =
     λ k l ne. at_same levels kind (n + 1) n k
     (one_other levels n (position kind.alternate k) (omega arith) (elsewhere kind.alternate n k l (λ e. ne (e ∙ sym at)))) in
-    let both = changed old new out told.parity place c more.parity out_len inside was here other after h.value h.parity_is in
+    let both = changed old new out (told.parity % 2) place c (more.parity % 2) out_len inside was here other (omega (arith, after)) h.value h.parity_is in
     record { value = both.0; parity_is = both.1; rows = rows_put told.rows more.rows place c out row rows h.rows }
 
 -- a level is set where a 0 stood
 pub level_set : (levels : List ℤ) (kind : BlockKind) (n : ℕ) (v : ℤ) (out : List ℤ) (told : Told) (place : ℕ) (c : ℤ) (more : Told)
     → length levels ≡ 64 → length out ≡ 64 → n < 64 → place < 64 → place ≡ slice_index (scan_order kind.alternate) n
-    → get_or levels n (pos 0) ≡ pos 0 → c ≡ saturated_of kind place v → more.parity ≡ (told.parity + unsigned_abs c) % 2
+    → get_or levels n (pos 0) ≡ pos 0 → c ≡ saturated_of kind place v → more.parity % 2 ≡ (told.parity + unsigned_abs c) % 2
     → bit_at more.rows (place / 8) ≡ 1 → ((y : ℕ) → bit_at more.rows y ≡ 0 → bit_at told.rows y ≡ 0)
     → AreSaturated levels kind out told → AreSaturated (set levels n v) kind (set out place c) more
 unfolding saturated_at
@@ -228,7 +251,7 @@ level_set levels kind n v out told place c more len out_len lt inside at free va
     λ k l ne.
     let apart : position kind.alternate k ≢ n = elsewhere kind.alternate n k l (λ e. ne (e ∙ sym at)) in
     at_level (set levels n v) kind k (get_or levels (position kind.alternate k) (pos 0)) (rw get_or-set_other refl) in
-    let both = changed old new out told.parity place c more.parity out_len inside was here other after h.value h.parity_is in
+    let both = changed old new out (told.parity % 2) place c (more.parity % 2) out_len inside was here other (omega (arith, after)) h.value h.parity_is in
     record { value = both.0; parity_is = both.1; rows = rows_put told.rows more.rows place c out row rows h.rows }
 
 -- nothing is read yet
@@ -272,7 +295,7 @@ none_saturated kind =
 
 -- the whole block
 pub all_saturated : (levels : List ℤ) (kind : BlockKind) (out : List ℤ) (told : Told) → length out ≡ 64 → AreSaturated levels kind out told
-    → (out ≡ map (saturated_at levels kind) (range_with_len 0 64)) × (told.parity ≡ unsigned_abs (coefficient_sum 64 (saturated_at levels kind)) % 2) × All IsCoefficient out
+    → (out ≡ map (saturated_at levels kind) (range_with_len 0 64)) × (told.parity % 2 ≡ unsigned_abs (coefficient_sum 64 (saturated_at levels kind)) % 2) × All IsCoefficient out
 all_saturated levels kind out told out_len h = (
   fill_by_all (saturated_at levels kind) out 64 (pos 0) out_len h.value,
   h.parity_is,
@@ -281,7 +304,7 @@ all_saturated levels kind out told out_len h = (
 
 -- all are read
 pub all_read : (levels : List ℤ) (kind : BlockKind) (out : List ℤ) (told : Told) → length levels ≡ 64 → length out ≡ 64 → IsUpTo levels kind 64 out told
-    → (out ≡ map (saturated_at levels kind) (range_with_len 0 64)) × (told.parity ≡ unsigned_abs (coefficient_sum 64 (saturated_at levels kind)) % 2) × All IsCoefficient out
+    → (out ≡ map (saturated_at levels kind) (range_with_len 0 64)) × (told.parity % 2 ≡ unsigned_abs (coefficient_sum 64 (saturated_at levels kind)) % 2) × All IsCoefficient out
 all_read levels kind out told len out_len h =
     let e : take 64 levels ≡ levels = take_all 64 levels (omega arith) in
     all_saturated levels kind out told out_len (subst (λ (ls : List ℤ). AreSaturated ls kind out told) e (record { value = h.value; parity_is = h.parity_is; rows = h.rows }))

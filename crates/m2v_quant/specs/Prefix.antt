@@ -12,11 +12,11 @@ AreInRows rows out = (k : ℕ) → k < 64 → bit_at rows (k / 8) ≡ 0 → slic
 -- the coefficients before mismatch control of the first n levels alone, the parity of their sum, and their rows
 pub record IsUpTo (levels : List ℤ) (kind : BlockKind) (n : ℕ) (out : List ℤ) (told : Told) : Type 0 where
   pub value : (k : ℕ) → k < 64 → slice_index_or out k (pos 0) ≡ saturated_at (take n levels) kind k
-  pub parity_is : told.parity ≡ unsigned_abs (coefficient_sum 64 (saturated_at (take n levels) kind)) % 2
+  pub parity_is : told.parity % 2 ≡ unsigned_abs (coefficient_sum 64 (saturated_at (take n levels) kind)) % 2
   pub rows : AreInRows told.rows out
 
 -- the coefficients of levels before mismatch control, the parity of their sum, and their rows
 pub record AreSaturated (levels : List ℤ) (kind : BlockKind) (out : List ℤ) (told : Told) : Type 0 where
   pub value : (k : ℕ) → k < 64 → slice_index_or out k (pos 0) ≡ saturated_at levels kind k
-  pub parity_is : told.parity ≡ unsigned_abs (coefficient_sum 64 (saturated_at levels kind)) % 2
+  pub parity_is : told.parity % 2 ≡ unsigned_abs (coefficient_sum 64 (saturated_at levels kind)) % 2
   pub rows : AreInRows told.rows out

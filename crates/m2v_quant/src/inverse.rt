@@ -31,14 +31,25 @@ fn extra(intra: bool, size: u32) -> u32
     if intra { 0 } else { size.min(1) }
 }
 
-/// The size of a coefficient by that of its level.
+/// The same of a level that isn't 0.
 #[inline(always)]
-fn ac_size(intra: bool, step: u32, size: u32) -> u32
+fn some_extra(intra: bool, _size: u32) -> u32
+    requires { 1 ≤ _size }
+    ensures value { result ≡ cond intra 0 (min _size 1) }
+    ensures most { result ≤ 1 }
+{
+    if intra { 0 } else { 1 }
+}
+
+/// The size of a coefficient by that of its level, and by what is added to twice that.
+#[inline(always)]
+fn ac_size(extra: u32, step: u32, size: u32) -> u32
+    requires extra { extra ≤ 1 }
     requires step { step ≤ 28560 }
     requires size { size ≤ 2047 }
-    ensures { result ≡ (2 * size + cond intra 0 (min size 1)) * step / 32 }
+    ensures { result ≡ (2 * size + extra) * step / 32 }
 {
-    (2 * size + extra(intra, size)) * step / 32
+    (2 * size + extra) * step / 32
 }
 
 /// A number of this size and the sign of `like`, kept within -2048 to 2047.
@@ -63,7 +74,21 @@ fn ac(intra: bool, step: u32, level: i32) -> i32
     ensures value { result ≡ saturated (ac_coefficient intra step level) }
     ensures within { IsCoefficient result }
 {
-    kept(level, ac_size(intra, step, level.unsigned_abs()))
+    let size = level.unsigned_abs();
+    kept(level, ac_size(extra(intra, size), step, size))
+}
+
+/// The same of a level that isn't 0.
+#[inline(always)]
+fn some_ac(intra: bool, step: u32, level: i32) -> i32
+    requires step { step ≤ 28560 }
+    requires level { IsLevel level }
+    requires some { level ≢ pos 0 }
+    ensures value { result ≡ saturated (ac_coefficient intra step level) }
+    ensures within { IsCoefficient result }
+{
+    let size = level.unsigned_abs();
+    kept(level, ac_size(some_extra(intra, size), step, size))
 }
 
 /// An intra DC coefficient.
@@ -95,15 +120,28 @@ fn coefficient(kind: &BlockKind, intra: bool, place: u8, level: i32) -> i32
     ac(intra, step(kind, place), level)
 }
 
-/// The parity of a sum with one more number.
+/// The coefficient of a raster place other than the first, by its level, which isn't 0.
+#[inline(always)]
+pub fn later_coefficient(kind: &BlockKind, intra: bool, place: u8, level: i32) -> i32
+    requires kind { IsKind kind.now }
+    requires intra { kind.now.intra ≡ intra }
+    requires later { 1 ≤ place }
+    requires place { place < 64 }
+    requires level { IsLevel level }
+    requires some { level ≢ pos 0 }
+    ensures value { result ≡ saturated_of kind.now place level }
+    ensures within { IsCoefficient result }
+{
+    some_ac(intra, step(kind, place), level)
+}
+
+/// A number of the parity of a sum with one more number.
 #[inline(always)]
 fn parity_with(parity: u32, coefficient: i32) -> u32
-    requires parity { parity < 2 }
-    requires coefficient { IsCoefficient coefficient }
-    ensures value { result ≡ (parity + unsigned_abs coefficient) % 2 }
-    ensures below { result < 2 }
+    requires { IsCoefficient coefficient }
+    ensures { result % 2 ≡ (parity + unsigned_abs coefficient) % 2 }
 {
-    (parity + coefficient.unsigned_abs()) % 2
+    parity ^ coefficient.cast_unsigned()
 }
 
 /// A coefficient of the other parity.
@@ -124,7 +162,7 @@ pub fn turned(coefficient: i32) -> i32
 /// What is told of the coefficients that are put.
 #[derive(Clone, Copy)]
 pub struct Told {
-    /// The parity of their sum.
+    /// It is even where their sum is.
     pub parity: u32,
     /// The rows of the block in which they stand: bit y is 0 where none stands in row y.
     pub rows: u32,
@@ -138,6 +176,23 @@ fn rows_with(rows: u32, place: u8) -> u32
     ensures others { (y : ℕ) → bit_at result y ≡ 0 → bit_at rows y ≡ 0 }
 {
     rows | (1 << (place / 8))
+}
+
+/// Puts one coefficient more, and tells it with the others.
+#[inline(always)]
+pub fn put_at(place: u8, coefficient: i32, out: &mut [i32; 64], told: Told) -> Told
+    requires place { place < 64 }
+    requires coefficient { IsCoefficient coefficient }
+    ensures value { out.new ≡ slice_set out.old place coefficient }
+    ensures parity { result.parity % 2 ≡ (told.parity + unsigned_abs coefficient) % 2 }
+    ensures row { bit_at result.rows (place / 8) ≡ 1 }
+    ensures rows { (y : ℕ) → bit_at result.rows y ≡ 0 → bit_at told.rows y ≡ 0 }
+{
+    out[place as usize] = coefficient;
+    Told {
+        parity: parity_with(told.parity, coefficient),
+        rows: rows_with(told.rows, place),
+    }
 }
 
 /// The place of one level more, and what is told with it.
@@ -156,23 +211,17 @@ pub fn put_coefficient(
     requires intra { kind.now.intra ≡ intra }
     requires alternate { kind.now.alternate ≡ alternate }
     requires i { i < 64 }
-    requires parity { told.parity < 2 }
     ensures value { out.new ≡ slice_set out.old (slice_index (scan_order kind.now.alternate) i)
         (saturated_of kind.now (slice_index (scan_order kind.now.alternate) i) level) }
     ensures within { slice_index (scan_order kind.now.alternate) i < 64 }
-    ensures parity { result.parity
+    ensures parity { result.parity % 2
         ≡ (told.parity + unsigned_abs
         (saturated_of kind.now (slice_index (scan_order kind.now.alternate) i) level)) % 2 }
     ensures row { bit_at result.rows (slice_index (scan_order kind.now.alternate) i / 8) ≡ 1 }
     ensures rows { (y : ℕ) → bit_at result.rows y ≡ 0 → bit_at told.rows y ≡ 0 }
 {
     let place = scan(alternate, i);
-    let c = coefficient(kind, intra, place, level);
-    out[place as usize] = c;
-    Told {
-        parity: parity_with(told.parity, c),
-        rows: rows_with(told.rows, place),
-    }
+    put_at(place, coefficient(kind, intra, place, level), out, told)
 }
 
 /// The coefficients of one level more.
@@ -343,7 +392,7 @@ fn saturate(levels: &Levels, kind: &BlockKind, out: &mut [i32; 64]) -> Told
     requires kind { IsKind kind.now }
     requires levels { All IsLevel levels.now.at }
     ensures value { out.new ≡ map (saturated_at levels.now.at kind.now) (range_with_len 0 64) }
-    ensures parity { result.parity
+    ensures parity { result.parity % 2
         ≡ unsigned_abs (coefficient_sum 64 (saturated_at levels.now.at kind.now)) % 2 }
     ensures rows { AreInRows result.rows out.new }
     ensures within { All IsCoefficient out.new }
@@ -358,13 +407,13 @@ fn saturate(levels: &Levels, kind: &BlockKind, out: &mut [i32; 64]) -> Told
 pub fn turn_last(out: &mut [i32; 64], told: Told) -> u32
     requires within { All IsCoefficient out.old }
     requires rows { AreInRows told.rows out.old }
-    ensures even { told.parity ≡ 0
+    ensures even { told.parity % 2 ≡ 0
         → out.new ≡ slice_set out.old 63 (other_parity (slice_index_or out.old 63 (pos 0))) }
-    ensures odd { told.parity ≢ 0 → out.new ≡ out.old }
+    ensures odd { told.parity % 2 ≢ 0 → out.new ≡ out.old }
     ensures rows { AreInRows result out.new }
     ensures within { All IsCoefficient out.new }
 {
-    if told.parity != 0 {
+    if told.parity % 2 != 0 {
         return told.rows;
     }
     out[63] = turned(out[63]);

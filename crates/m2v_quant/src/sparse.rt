@@ -8,8 +8,9 @@ ghost use Rattle.m2v_quant.specs.Prefix.{AreInRows, AreSaturated};
 ghost use Rattle.m2v_quant.specs.Sparse.{AreKept, IsClearFrom, spread};
 
 use crate::block_levels::BlockLevels;
-use crate::inverse::{Told, put_coefficient, turn_last};
+use crate::inverse::{Told, later_coefficient, put_at, put_coefficient, turn_last};
 use crate::kind::{BlockKind, Levels};
+use crate::scans::scan;
 use std::marker::Model;
 
 /// A level and its position in scan order.
@@ -145,18 +146,19 @@ fn put_kept(
     out: &mut [i32; 64],
     told: Told,
 ) -> Told
+    requires later { 1 ≤ x.now.position }
     requires position { x.now.position < 64 }
     requires level { IsLevel x.now.level }
+    requires some { x.now.level ≢ pos 0 }
     requires kind { IsKind kind.now }
     requires intra { kind.now.intra ≡ intra }
     requires alternate { kind.now.alternate ≡ alternate }
-    requires parity { told.parity < 2 }
     ensures value { out.new ≡ slice_set out.old (slice_index (scan_order kind.now.alternate)
         x.now.position)
         (saturated_of kind.now (slice_index (scan_order kind.now.alternate) x.now.position)
         x.now.level) }
     ensures within { slice_index (scan_order kind.now.alternate) x.now.position < 64 }
-    ensures parity { result.parity
+    ensures parity { result.parity % 2
         ≡ (told.parity + unsigned_abs
         (saturated_of kind.now (slice_index (scan_order kind.now.alternate) x.now.position)
         x.now.level)) % 2 }
@@ -164,8 +166,14 @@ fn put_kept(
         (slice_index (scan_order kind.now.alternate) x.now.position / 8) ≡ 1 }
     ensures rows { (y : ℕ) → bit_at result.rows y ≡ 0 → bit_at told.rows y ≡ 0 }
 {
+    let place = scan(alternate, x.position as u8);
     let level = i32::from(x.level);
-    put_coefficient(level, kind, intra, alternate, x.position as u8, out, told)
+    put_at(
+        place,
+        later_coefficient(kind, intra, place, level),
+        out,
+        told,
+    )
 }
 
 /// The coefficients of the first level and of so many that are kept behind it, where all are 0 yet. Whether the block is
@@ -250,7 +258,7 @@ fn saturate(
     requires kind { IsKind kind.now }
     ensures value { out.new ≡ map (saturated_at (spread first later.now count) kind.now)
         (range_with_len 0 64) }
-    ensures parity { result.parity ≡ unsigned_abs (coefficient_sum 64
+    ensures parity { result.parity % 2 ≡ unsigned_abs (coefficient_sum 64
         (saturated_at (spread first later.now count) kind.now)) % 2 }
     ensures rows { AreInRows result.rows out.new }
     ensures within { All IsCoefficient out.new }

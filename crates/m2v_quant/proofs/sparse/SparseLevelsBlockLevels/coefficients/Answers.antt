@@ -1,4 +1,4 @@
-use Rattle.std.proofs.Common.{◌∙◌}
+use Rattle.std.proofs.Common.{◌%◌, ◌∙◌}
 use Rattle.std.proofs.lemmas.Int.{to_z-of_z}
 use mir.Syntax.{w32}
 use mir.Val.{SFits}
@@ -12,6 +12,6 @@ pub returns-clause-value : goal.returns-clause-value
 returns-clause-value c =
     let s = c.self.inside in
     let first : SFits w32 s.first = level_fits s.first c.self.invariant.first_is in
-    mismatched (spread s.first s.later s.count) c.args.kind.now c.saturate-told.new.out c.turn_last.new.out c.saturate-told.result.parity c.saturate-told.array_long
+    mismatched (spread s.first s.later s.count) c.args.kind.now c.saturate-told.new.out c.turn_last.new.out (c.saturate-told.result.parity % 2) c.saturate-told.array_long
     (simp to_z-of_z at c.saturate-told.ensures.value) (simp to_z-of_z at c.saturate-told.ensures.parity) c.turn_last.ensures.even c.turn_last.ensures.odd
     ∙ (λ i. coefficients_of (c.self.view_is i).at c.args.kind.now)
