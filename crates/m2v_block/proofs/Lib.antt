@@ -7,3 +7,4 @@ pub mod DcSpellings
 pub mod Spellings
 pub use Rattle.m2v_vlc.proofs as m2v_vlc
 pub mod Looks
+pub mod Escapes

@@ -27,3 +27,20 @@ nine_ahead look used rest l le =
 
 pub looked_on : (look used n : ℕ) (rest next : List Bool) → Looked look used rest → next ≡ drop n rest → Looked look (used + n) next
 looked_on look used n rest next l is = record { from = l.from; bits = l.bits; here = is ∙ ap (drop n) l.here ∙ drop-drop n used l.from }
+
+-- the code, the run and the level of an escape
+pub escape_look : (look : ℕ) (bs : List Bool) → look ≡ number (ahead 24 bs)
+    → (look / 2 ^ 18 ≡ number (ahead 6 bs)) × (look / 4096 % 64 ≡ number (ahead 6 (drop 6 bs))) × (look % 4096 ≡ number (ahead 12 (drop 12 bs)))
+escape_look look bs e =
+    let a = ahead 6 bs in
+    let b = ahead 6 (drop 6 bs) in
+    let c = ahead 12 (drop 6 (drop 6 bs)) in
+    let d = ahead 18 (drop 6 bs) in
+    let first : number (a ++ d) ≡ number a * 2 ^ 18 + number d = rw (length-ahead 18 (drop 6 bs)) at (number-append a d) in
+    let second : number (b ++ c) ≡ number b * 2 ^ 12 + number c = rw (length-ahead 12 (drop 6 (drop 6 bs))) at (number-append b c) in
+    let whole : look ≡ number a * 2 ^ 18 + number d = e ∙ ap number (ahead-add 6 18 bs) ∙ first in
+    let later : number d ≡ number b * 2 ^ 12 + number c = ap number (ahead-add 6 12 (drop 6 bs)) ∙ second in
+    let run : number b < 2 ^ 6 = rw (length-ahead 6 (drop 6 bs)) at (number_below b) in
+    let level : number c < 2 ^ 12 = rw (length-ahead 12 (drop 6 (drop 6 bs))) at (number_below c) in
+    let same : number c ≡ number (ahead 12 (drop 12 bs)) = ap (λ (xs : List Bool). number (ahead 12 xs)) (drop-drop 6 6 bs) in
+    (omega (arith, whole, later, run, level), omega (arith, whole, later, run, level), omega (arith, whole, later, run, level) ∙ same)

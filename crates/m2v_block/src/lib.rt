@@ -3,6 +3,7 @@
 #![tactic(auto)]
 
 mod dc;
+mod escape;
 mod fault;
 mod laws;
 mod quick;

@@ -6,7 +6,7 @@ ghost use Rattle.m2v_block.specs.Blocks.{pair_at, pairs_at, EndsBy, Looked};
 
 use m2v_bits::BitReader;
 use m2v_quant::SparseLevels;
-use m2v_vlc::{long_pair, short_first, short_pair};
+use m2v_vlc::{long_first, long_pair, short_first, short_pair};
 
 /// Sets a level behind all that aren't 0.
 #[inline(always)]
@@ -343,6 +343,40 @@ pub fn quick_first(input: &mut BitReader, out: &mut SparseLevels) -> Option<usiz
 {
     let nine = input.peek_inside(9)?;
     let pair = short_first(nine);
+    let at = pair.1 as usize;
+    if at >= 64 {
+        return None;
+    }
+    set(out, at, i32::from(pair.0));
+    input.skip(pair.2);
+    Some(at + 1)
+}
+
+/// Reads the first pair of a block that is not intra by one look, if it has a long code well before the end of the bits: how
+/// many places are filled then.
+#[inline(always)]
+pub fn quick_long_first(input: &mut BitReader, out: &mut SparseLevels) -> Option<usize>
+    requires clear { IsClearFrom 0 out.old.at }
+    requires levels { All IsLevel out.old.at }
+    ensures read { IfSome result (λ next. (pair_at false (record {
+      filled = 0;
+      levels = out.old.at;
+    })).read input.old.rest ≡ Ok (
+      (true, record { filled = next; levels = out.new.at }),
+      input.new.rest,
+    )) }
+    ensures none { IsNone result → out.new ≡ out.old }
+    ensures here { IsNone result → input.new ≡ input.old }
+    ensures text { input.new.text ≡ input.old.text }
+    ensures within { IfSome result (λ next. (0 < next) × (next ≤ 64)) }
+    ensures clear { IfSome result (λ next. IsClearFrom next out.new.at) }
+    ensures levels { All IsLevel out.new.at }
+{
+    let seventeen = input.peek_inside(17)?;
+    if seventeen >= 2048 {
+        return None;
+    }
+    let pair = long_first(seventeen);
     let at = pair.1 as usize;
     if at >= 64 {
         return None;

@@ -5,9 +5,10 @@ ghost use Rattle.m2v_quant.specs.Kinds.{IsKind, IsLevel};
 ghost use Rattle.m2v_quant.specs.Sparse.{IsClearFrom};
 ghost use Rattle.m2v_block.specs.Blocks.{difference, IsDc, is_dc, size_at, dc_at, placed, escaped, is_allowed, coefficient_at, code_from, pair_at, pairs_at, opened, first_at, block_at, predictor_after, GivesScan, GivesLevels, GivesEnd};
 
+use crate::escape::{escaped, is_allowed, quick_escape};
 use crate::fault::BlockFault;
 use crate::fault::BlockFault::{Code, DcRange, ForbiddenLevel, Overrun};
-use crate::quick::{quick_first, quick_long, quick_pairs, set};
+use crate::quick::{quick_first, quick_long, quick_long_first, quick_pairs, set};
 use m2v_bits::{BitReader, check, number};
 use m2v_quant::{BlockKind, SparseLevels};
 use m2v_vlc::CodeFault::Truncated;
@@ -116,28 +117,6 @@ fn placed<'a>(
     check(input, start, at < 64, Overrun)?;
     set(out, at, level);
     Ok((true, at + 1))
-}
-
-/// Whether an escape's level is neither 0 nor -2048.
-#[inline(always)]
-#[tactic(auto, unfolding(crate::specs::Blocks::is_allowed))]
-fn is_allowed(n: u32) -> bool
-    ensures { result ≡ is_allowed n }
-{
-    n != 0 && n != 2048
-}
-
-/// The level behind an escape.
-#[inline(always)]
-#[tactic(auto, unfolding(crate::specs::Blocks::escaped, crate::specs::Blocks::is_allowed))]
-fn escaped(n: u32) -> i32
-    requires below { n < 2 ^ 12 }
-    requires allowed { is_allowed n ≡ true }
-    ensures value { result ≡ escaped n }
-    ensures some { result ≢ pos 0 }
-    ensures within { IsLevel result }
-{
-    if n < 2048 { n as i32 } else { n as i32 - 4096 }
 }
 
 /// A code of the table that holds at this place.
@@ -278,6 +257,9 @@ fn next_pair(
     if let Some(x) = quick_long(input, one, filled, out) {
         return Ok(x);
     }
+    if let Some(next) = quick_escape(input, one, filled, out) {
+        return Ok((true, next));
+    }
     far_pair(input, one, filled, out)
 }
 
@@ -362,6 +344,12 @@ fn first_pair(input: &mut BitReader, out: &mut SparseLevels) -> Result<(bool, us
     ensures levels { All IsLevel out.new.at }
 {
     if let Some(next) = quick_first(input, out) {
+        return Ok((true, next));
+    }
+    if let Some(next) = quick_long_first(input, out) {
+        return Ok((true, next));
+    }
+    if let Some(next) = quick_escape(input, false, 0, out) {
         return Ok((true, next));
     }
     far_pair(input, false, 0, out)

@@ -1,23 +1,18 @@
 ghost use Rattle.std.specs.Prelude.{◌≡◌, ◌<◌, ◌+◌, ◌*◌, ℕ, ◌≢◌, ◌∷◌, []};
 ghost use Rattle.m2v_idct.specs.Block.{at, nth};
+ghost use Rattle.m2v_idct.specs.Ranges.{Within};
+
+use std::simd::prelude::*;
 
 // The numbers of line y, from the left.
 #[inline(always)]
 pub fn row_at(b: &[i32; 64], y: usize) -> [i32; 8]
-    requires { y < 8 }
+    requires y { y < 8 }
+    requires within { (k : ℕ) → k < 8 → Within 2048 (at b.now y k) }
     ensures { result ≡ at b.now y 0 ∷ at b.now y 1 ∷ at b.now y 2 ∷ at b.now y 3
         ∷ at b.now y 4 ∷ at b.now y 5 ∷ at b.now y 6 ∷ at b.now y 7 ∷ [] }
 {
-    [
-        b[8 * y],
-        b[8 * y + 1],
-        b[8 * y + 2],
-        b[8 * y + 3],
-        b[8 * y + 4],
-        b[8 * y + 5],
-        b[8 * y + 6],
-        b[8 * y + 7],
-    ]
+    i32x8::from_slice(&b[8 * y..8 * y + 8]).to_array()
 }
 
 // The numbers of column x, from the top.

@@ -1,8 +1,8 @@
-ghost use Rattle.std.specs.Int.{int_shr};
-ghost use Rattle.std.specs.Prelude.{◌+ℤ◌, ◌≤ℤ◌, ◌⊎◌, map, replicate, ◌≡◌, ◌<◌, ◌≤◌, ◌+◌, ◌*◌, ℕ, ◌≢◌, All, IsTrue, ◌∷◌, [], pos, ◌*ℤ◌};
+ghost use Rattle.std.specs.Int.{bit_at, int_shr};
+ghost use Rattle.std.specs.Prelude.{◌+ℤ◌, ◌≤ℤ◌, ◌⊎◌, map, replicate, ◌≡◌, ◌<◌, ◌≤◌, ◌+◌, ◌*◌, ◌/◌, ℕ, ◌≢◌, All, IsTrue, ◌∷◌, [], pos, ◌*ℤ◌};
 ghost use Rattle.m2v_idct.specs.Block.{at, nth};
 ghost use Rattle.m2v_idct.specs.Inverse.{after_rows, clip, column, inverse_at, inverse_of, row};
-ghost use Rattle.m2v_idct.specs.Ranges.{IsCoefficient, IsSample, Within};
+ghost use Rattle.m2v_idct.specs.Ranges.{IsCoefficient, IsInRows, IsSample, Within};
 
 use crate::block::{column_at, put_column, put_row, row_at};
 use crate::combine::combine_terms;
@@ -38,12 +38,22 @@ pub fn inverse_unclipped(block: &mut [i32; 64])
     ensures value { map clip block.new ≡ inverse_of block.old }
     ensures within { All (Within 30000) block.new }
 {
-    if has_mean(block) {
+    inverse_by_rows(block, 255);
+}
+
+/// The same, for a caller that knows where coefficients stand: bit y of `rows` is 0 only where row y has none other than 0.
+pub fn inverse_by_rows(block: &mut [i32; 64], rows: u32)
+    requires coefficients { All IsCoefficient block.old }
+    requires rows { IsInRows rows block.old }
+    ensures value { map clip block.new ≡ inverse_of block.old }
+    ensures within { All (Within 30000) block.new }
+{
+    if has_mean(block, rows) {
         let dc = block[0];
         fill(block, mean(dc));
         return;
     }
-    transform_rows(block);
+    transform_rows(block, rows);
     transform_columns(block);
 }
 
@@ -58,14 +68,15 @@ fn clip_all(block: &mut [i32; 64])
 }
 
 // All 64 results are one number: only the mean stands, and perhaps the 1 of mismatch control, which is too small to
-// show where the mean isn't near a half. Looks at two coefficients first, one of which mostly stands elsewhere.
+// show where the mean isn't near a half.
 #[inline(always)]
-fn has_mean(block: &[i32; 64]) -> bool
-    requires { All IsCoefficient block.now }
+fn has_mean(block: &[i32; 64], rows: u32) -> bool
+    requires coefficients { All IsCoefficient block.now }
+    requires rows { IsInRows rows block.now }
     ensures { IsTrue result → (y x : ℕ) → y < 8 → x < 8
         → inverse_at block.now y x ≡ clip (int_shr (nth block.now 0 +ℤ pos 4) 3) }
 {
-    if block[1] != 0 || block[8] != 0 {
+    if !is_middle_empty(rows) {
         return false;
     }
     if !is_small(block[63]) {
@@ -84,14 +95,25 @@ fn is_small(z: i32) -> bool
     z == 0 || z == 1
 }
 
-// All between the first and the last are 0.
+// No row between the first and the last has a coefficient.
+#[inline(always)]
+fn is_middle_empty(rows: u32) -> bool
+    ensures { IsTrue result → (y : ℕ) → 1 ≤ y → y < 7 → bit_at rows y ≡ 0 }
+{
+    rows / 2 % 64 == 0
+}
+
+// All but the first in the first row, and all but the last in the last row, are 0.
 #[inline(always)]
 fn are_zero(block: &[i32; 64]) -> bool
-    ensures { IsTrue result → (k : ℕ) → 1 ≤ k → k < 63 → nth block.now k ≡ pos 0 }
+    ensures { IsTrue result → (j : ℕ) → j < 7
+        → (nth block.now (1 + j) ≡ pos 0) × (nth block.now (56 + j) ≡ pos 0) }
 {
     let mut bits = 0;
-    for k in 1..63 {
-        bits |= block[k].cast_unsigned();
+    for j in 0..7 {
+        let first = block[1 + j].cast_unsigned();
+        let last = block[56 + j].cast_unsigned();
+        bits |= first | last;
     }
     bits == 0
 }
@@ -129,17 +151,46 @@ fn fill(block: &mut [i32; 64], value: i32)
     *block = [value; 64];
 }
 
+// Goes from one row that has a coefficient to the next. Most have none, and no result.
 #[inline(always)]
-fn transform_rows(block: &mut [i32; 64])
-    requires { All IsCoefficient block.old }
+fn transform_rows(block: &mut [i32; 64], rows: u32)
+    requires coefficients { All IsCoefficient block.old }
+    requires rows { IsInRows rows block.old }
     ensures { (y x : ℕ) → y < 8 → x < 8 → nth block.new (8 * y + x) ≡ after_rows block.old y x }
 {
-    for y in 0..8 {
+    let mut left = rows % 256;
+    while left != 0 {
+        let y = first_row(left);
         transform_row(block, y);
+        left = without(left, y);
     }
 }
 
-// Puts the results of line y in its place. Most lines have no coefficient, and no result.
+// The first of some rows.
+#[inline(always)]
+fn first_row(rows: u32) -> usize
+    requires some { 0 < rows }
+    requires below { rows < 256 }
+    ensures below { result < 8 }
+    ensures here { bit_at rows result ≡ 1 }
+{
+    rows.trailing_zeros() as usize
+}
+
+// Some rows without one of them.
+#[inline(always)]
+fn without(rows: u32, y: usize) -> u32
+    requires below { rows < 256 }
+    requires y { y < 8 }
+    requires here { bit_at rows y ≡ 1 }
+    ensures less { result < rows }
+    ensures gone { bit_at result y ≡ 0 }
+    ensures others { (i : ℕ) → i < 8 → i ≢ y → bit_at result i ≡ bit_at rows i }
+{
+    rows & !(1 << y)
+}
+
+// Puts the results of line y in its place.
 #[inline(always)]
 fn transform_row(block: &mut [i32; 64], y: usize)
     requires y { y < 8 }
@@ -148,9 +199,6 @@ fn transform_row(block: &mut [i32; 64], y: usize)
     ensures rest { (i : ℕ) → ((k : ℕ) → k < 8 → i ≢ 8 * y + k) → nth block.new i ≡ nth block.old i }
 {
     let coefficients = row_at(block, y);
-    if is_zero(&coefficients) {
-        return;
-    }
     put_row(block, y, &full_row(&coefficients));
 }
 
@@ -184,16 +232,4 @@ fn column_results(c: &[i32; 8]) -> [i32; 8]
     ensures { result ≡ column (nth c.now) }
 {
     combine_terms(&column_terms(c), 14)
-}
-
-// A row has no coefficient other than 0.
-#[inline(always)]
-fn is_zero(b: &[i32; 8]) -> bool
-    ensures { IsTrue result → (k : ℕ) → k < 8 → nth b.now k ≡ pos 0 }
-{
-    let mut bits = 0;
-    for k in 0..8 {
-        bits |= b[k].cast_unsigned();
-    }
-    bits == 0
 }

@@ -12,4 +12,4 @@ mod row_lanes;
 mod terms;
 
 pub use forward_dct::{forward, forward_dc, forward_in_place};
-pub use inverse_dct::{inverse, inverse_in_place, inverse_unclipped};
+pub use inverse_dct::{inverse, inverse_by_rows, inverse_in_place, inverse_unclipped};

@@ -1,13 +1,18 @@
 -- Reconstruction by size and sign is that of the standard, and a sum's parity goes by the sizes.
-use Rattle.std.proofs.Common.{◌≡◌, ℕ, zero, suc, ◌+◌, ◌*◌, ◌/◌, ◌%◌, ◌^◌, ◌<◌, Bool, true, false, cond, refl, ap, sym, ◌∙◌, arith, List, length, map, get_or, set, get_or-set_other, get_or-set_same, below_more, ◌≢◌, ℤ, pos, negsuc, ◌+ℤ◌, ◌*ℤ◌, inl, inr}
+use Rattle.std.proofs.Common.{◌≡◌, ℕ, zero, suc, ◌+◌, ◌*◌, ◌/◌, ◌%◌, ◌^◌, ◌<◌, ◌≤◌, Bool, true, false, cond, refl, ap, sym, ◌∙◌, arith, List, length, map, get_or, set, get_or-set_other, get_or-set_same, below_more, ◌≢◌, ℤ, pos, negsuc, ◌+ℤ◌, ◌*ℤ◌, inl, inr}
 use Rattle.std.specs.Prelude.{neg_ℤ, min, unsigned_abs}
 use Rattle.std.specs.Int.RustNames.{int_div}
 use Rattle.std.specs.List.{range_with_len}
+use Rattle.std.specs.Int.Bits.{bit_xor}
+use Rattle.std.proofs.lemmas.Nat.Bits.{bit_at_lowest, bit_at_xor}
 use Rattle.std.proofs.lemmas.Int.{ints}
 use Rattle.std.proofs.lemmas.Bool.{ne_eqb, eq-eqb, cases_eq}
 use Rattle.std.proofs.lemmas.List.FromFn.{fill_by_all, get_or-map-range_with_len}
 use Rattle.std.proofs.Math.ListN.{length-set}
 use Rattle.m2v_quant.specs.declared.kind.BlockKind.{BlockKind}
+use mir.Syntax.{w32}
+use mir.Val.{of_z}
+use Rattle.m2v_quant.specs.Kinds.{IsCoefficient}
 use Rattle.m2v_quant.specs.Quantiser.{with_sign}
 use Rattle.m2v_quant.specs.Coefficients.{ac_coefficient, dc_coefficient, saturated_at, coefficient_sum, other_parity, coefficient_at, coefficients_of}
 
@@ -46,6 +51,20 @@ parity_more p (pos a) (negsuc b) e = omega (arith, ints)
 parity_more p (negsuc a) (pos b) e = omega (arith, ints)
 parity_more p (negsuc a) (negsuc b) e = omega (arith, ints)
 
+-- a level other than 0 has a size
+pub some_size : (z : ℤ) → z ≢ pos 0 → 1 ≤ unsigned_abs z
+some_size (pos zero) some = absurd (some refl)
+some_size (pos (suc n)) some = omega arith
+some_size (negsuc n) some = omega arith
+
+-- bits that are mixed have the parity of the sum
+pub mixed_parity : (a b : ℕ) → bit_xor a b % 2 ≡ (a + b) % 2
+mixed_parity a b = let mixed = bit_at_xor a b 0 in omega (arith, mixed, bit_at_lowest (bit_xor a b), bit_at_lowest a, bit_at_lowest b)
+
+pub bits_parity : (z : ℤ) → IsCoefficient z → of_z w32 z % 2 ≡ unsigned_abs z % 2
+bits_parity (pos n) h = omega (arith, ints, h.0, h.1)
+bits_parity (negsuc n) h = omega (arith, ints, h.0, h.1)
+
 -- one more place is written
 pub write_next : (P : ℕ → ℤ → Type 0) (xs : List ℤ) (n : ℕ) (v : ℤ) → n < length xs → ((k : ℕ) → k < n → P k (get_or xs k (pos 0))) → P n v
     → (k : ℕ) → k < n + 1 → P k (get_or (set xs n v) k (pos 0))
@@ -76,7 +95,7 @@ before levels kind = map (saturated_at levels kind) (range_with_len 0 64)
 at_before : (levels : List ℤ) (kind : BlockKind) (xs : List ℤ) (k : ℕ) → xs ≡ before levels kind → k < 64 → get_or xs k (pos 0) ≡ saturated_at levels kind k
 at_before levels kind xs k e lt = ap (λ (ys : List ℤ). get_or ys k (pos 0)) e ∙ get_or-map-range_with_len (saturated_at levels kind) 0 64 k k (pos 0) lt (omega arith)
 
-pub odd_block : (levels : List ℤ) (kind : BlockKind) (xs : List ℤ) → length xs ≡ 64 → xs ≡ before levels kind → (unsigned_abs (coefficient_sum 64 (saturated_at levels kind)) % 2 ≡ 0 → ⊥) → xs ≡ coefficients_of levels kind
+odd_block : (levels : List ℤ) (kind : BlockKind) (xs : List ℤ) → length xs ≡ 64 → xs ≡ before levels kind → (unsigned_abs (coefficient_sum 64 (saturated_at levels kind)) % 2 ≡ 0 → ⊥) → xs ≡ coefficients_of levels kind
 unfolding coefficients_of
 odd_block levels kind xs len e odd = fill_by_all (coefficient_at levels kind) xs 64 (pos 0) len (λ k lt. at_before levels kind xs k e lt ∙ sym (odd_place levels kind k odd))
 
@@ -87,7 +106,16 @@ even_place levels kind xs v len e even is k lt = elim (cases_eq k 63) [
   | inr ne ↦ let apart : k ≢ 63 = ne in rw get_or-set_other (at_before levels kind xs k e lt ∙ sym (other_place levels kind k ne))
 ]
 
-pub even_block : (levels : List ℤ) (kind : BlockKind) (xs : List ℤ) (v : ℤ) → length xs ≡ 64 → xs ≡ before levels kind → unsigned_abs (coefficient_sum 64 (saturated_at levels kind)) % 2 ≡ 0 → v ≡ other_parity (get_or xs 63 (pos 0))
+even_block : (levels : List ℤ) (kind : BlockKind) (xs : List ℤ) (v : ℤ) → length xs ≡ 64 → xs ≡ before levels kind → unsigned_abs (coefficient_sum 64 (saturated_at levels kind)) % 2 ≡ 0 → v ≡ other_parity (get_or xs 63 (pos 0))
     → set xs 63 v ≡ coefficients_of levels kind
 unfolding coefficients_of
 even_block levels kind xs v len e even is = fill_by_all (coefficient_at levels kind) (set xs 63 v) 64 (pos 0) (length-set xs 63 v ∙ len) (even_place levels kind xs v len e even is)
+
+-- with mismatch control
+pub mismatched : (levels : List ℤ) (kind : BlockKind) (xs ys : List ℤ) (parity : ℕ) → length xs ≡ 64 → xs ≡ before levels kind
+    → parity ≡ unsigned_abs (coefficient_sum 64 (saturated_at levels kind)) % 2
+    → (parity ≡ 0 → ys ≡ set xs 63 (other_parity (get_or xs 63 (pos 0)))) → (parity ≢ 0 → ys ≡ xs) → ys ≡ coefficients_of levels kind
+mismatched levels kind xs ys parity len e is even odd = elim (cases_eq parity 0) [
+  | inl none ↦ even none ∙ even_block levels kind xs _ len e (sym is ∙ none) refl
+  | inr some ↦ odd some ∙ odd_block levels kind xs len e (λ none. some (is ∙ none))
+]

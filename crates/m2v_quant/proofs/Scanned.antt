@@ -1,21 +1,24 @@
 -- Coefficients of the first levels alone: one level more, a level that is 0, eight of them.
-use Rattle.std.proofs.Common.{◌≡◌, ◌≢◌, ℕ, zero, suc, ◌+◌, ◌-◌, ◌*◌, ◌/◌, ◌%◌, ◌^◌, ◌<◌, ◌≤◌, Bool, true, false, refl, ap, sym, subst, ◌∙◌, arith, List, length, map, take, get_or, set, replicate, get_or-set_other, get_or-set_same, ℤ, pos, ◌+ℤ◌, inl, inr}
-use Rattle.std.specs.Prelude.{unsigned_abs, slice_index, if◌then◌else◌, ◌*ℤ◌, neg_ℤ, All}
+use Rattle.std.proofs.Common.{◌≡◌, ◌≢◌, ℕ, zero, suc, ◌+◌, ◌-◌, ◌*◌, ◌/◌, ◌%◌, ◌^◌, ◌<◌, ◌≤◌, Bool, true, false, refl, ap, sym, subst, ◌∙◌, arith, List, length, map, take, get_or, set, replicate, get_or-set_other, get_or-set_same, ℤ, pos, ◌+ℤ◌, inl, inr, w32}
+use Rattle.std.specs.Prelude.{unsigned_abs, nat_eq, ◌&&◌, slice_index, if◌then◌else◌, ◌*ℤ◌, neg_ℤ, All}
 use Rattle.std.specs.Int.{int_max, int_min}
 use Rattle.std.specs.Int.RustNames.{int_div}
 use Rattle.std.specs.List.{range_with_len}
 use Rattle.std.specs.Int.Bits.{bit_or}
 use Rattle.std.proofs.lemmas.Nat.{le_or_l, le_or_r}
 use Rattle.std.proofs.lemmas.Int.{ints, clamps}
-use Rattle.std.proofs.lemmas.Bool.{cases_eq, cases_lt}
+use Rattle.std.proofs.lemmas.Bool.{cases_eq, cases_lt, ne_eqb}
 use Rattle.std.proofs.lemmas.List.{get_or-take, get_or_past, length-take-le, get_or-replicate, take_all}
 use Rattle.std.proofs.lemmas.List.Elements.{All-from_get_or}
 use Rattle.std.proofs.lemmas.List.FromFn.{fill_by_all, get_or-map-range_with_len}
+use Rattle.std.specs.Int.{bit_at}
+use Rattle.std.proofs.lemmas.Nat.Bits.{bit_at_or, bit_at_set_same}
+use Rattle.m2v_quant.specs.declared.inverse.Told.{Told}
 use Rattle.m2v_quant.specs.declared.kind.BlockKind.{BlockKind}
 use Rattle.m2v_quant.specs.Kinds.{IsCoefficient}
 use Rattle.m2v_quant.specs.Scans.{zigzag, alternate, scan_order}
 use Rattle.m2v_quant.specs.Coefficients.{position, ac_coefficient, dc_coefficient, saturated, saturated_of, saturated_at, coefficient_sum}
-use Rattle.m2v_quant.specs.Prefix.{AreSaturated, IsUpTo}
+use Rattle.m2v_quant.specs.Prefix.{AreInRows, AreSaturated, IsUpTo}
 use Rattle.m2v_quant.proofs.Reconstruction.{parity_more}
 use Rattle.m2v_quant.proofs.Zeros.{zeros_at}
 
@@ -118,11 +121,12 @@ sum_put (suc n) p g h lt none other =
     ]
 
 -- what is known of the levels read so far holds of more of them where these are 0
-pub same_up_to : (levels : List ℤ) (kind : BlockKind) (n m : ℕ) (out : List ℤ) (parity : ℕ)
-    → ((p : ℕ) → first levels n p ≡ first levels m p) → IsUpTo levels kind n out parity → IsUpTo levels kind m out parity
-same_up_to levels kind n m out parity e h = record {
+pub same_up_to : (levels : List ℤ) (kind : BlockKind) (n m : ℕ) (out : List ℤ) (told : Told)
+    → ((p : ℕ) → first levels n p ≡ first levels m p) → IsUpTo levels kind n out told → IsUpTo levels kind m out told
+same_up_to levels kind n m out told e h = record {
   value = λ k lt. h.value k lt ∙ at_same levels kind n m k (e (position kind.alternate k));
   parity_is = h.parity_is ∙ ap (λ z. unsigned_abs z % 2) (sum_same 64 _ _ (λ k lt. at_same levels kind n m k (e (position kind.alternate k))));
+  rows = h.rows;
 }
 
 pub more_zeros : (levels : List ℤ) (n d p : ℕ) → n + d ≤ length levels → ((j : ℕ) → j < d → get_or levels (n + j) (pos 0) ≡ pos 0) → first levels n p ≡ first levels (n + d) p
@@ -139,10 +143,10 @@ more_zeros levels n d p len zeros =
           ]
     ]
 
-pub skipped : (levels : List ℤ) (kind : BlockKind) (n d : ℕ) (out : List ℤ) (parity : ℕ)
+pub skipped : (levels : List ℤ) (kind : BlockKind) (n d : ℕ) (out : List ℤ) (told : Told)
     → n + d ≤ length levels → ((j : ℕ) → j < d → get_or levels (n + j) (pos 0) ≡ pos 0)
-    → IsUpTo levels kind n out parity → IsUpTo levels kind (n + d) out parity
-skipped levels kind n d out parity len zeros h = same_up_to levels kind n (n + d) out parity (λ p. more_zeros levels n d p len zeros) h
+    → IsUpTo levels kind n out told → IsUpTo levels kind (n + d) out told
+skipped levels kind n d out told len zeros h = same_up_to levels kind n (n + d) out told (λ p. more_zeros levels n d p len zeros) h
 
 one_other : (levels : List ℤ) (n p : ℕ) → n < length levels → (p ≡ n → ⊥) → first levels (n + 1) p ≡ first levels n p
 one_other levels n p len ne =
@@ -170,12 +174,51 @@ changed g h out parity place c more out_len inside was here other after value pa
       ∙ ap (λ z. unsigned_abs z % 2) (ap (λ z. coefficient_sum 64 g +ℤ z) (sym here) ∙ sym (sum_put 64 place g h inside was other)),
 )
 
+-- behind the first position stand other places than the first
+first_position : (b : Bool) → position b 0 ≡ 0
+unfolding position scan_order zigzag alternate
+first_position false = refl
+first_position true = refl
+
+pub later_place : (b : Bool) (i : ℕ) → 1 ≤ i → i < 64 → 1 ≤ slice_index (scan_order b) i
+later_place b i some lt = elim (cases_eq (slice_index (scan_order b) i) 0) [
+  | inl none ↦ absurd (omega (arith, some, sym (position_scan b i lt) ∙ ap (position b) none ∙ first_position b))
+  | inr other ↦ omega (arith, other)
+]
+
+-- where no DC coefficient stands
+second : (b t : Bool) (x y : ℤ) → t ≡ false → (if b && t then x else y) ≡ y
+second true t x y e = rw e refl
+second false t x y e = refl
+
+pub later_is : (kind : BlockKind) (place : ℕ) (level : ℤ) → 1 ≤ place
+    → saturated (ac_coefficient kind.intra (slice_index kind.matrix place * kind.scale) level) ≡ saturated_of kind place level
+unfolding saturated_of
+later_is kind place level some =
+    sym (ap saturated (second kind.intra (nat_eq place 0) _ _ (ne_eqb place 0 (λ e. absurd (omega (arith, e, some))))))
+
+-- one row more is marked
+pub mark_here : (rows k : ℕ) → k < 32 → bit_at (bit_or rows (1 * 2 ^ k % 2 ^ 32)) k ≡ 1
+mark_here rows k lt = bit_at_set_same w32 rows k lt
+
+pub marked_before : (rows b y : ℕ) → bit_at (bit_or rows b) y ≡ 0 → bit_at rows y ≡ 0
+marked_before rows b y e = let both = bit_at_or rows b y in omega (arith, e, both)
+
+-- one place more is written in a row that is marked
+pub rows_put : (before after place : ℕ) (c : ℤ) (out : List ℤ) → bit_at after (place / 8) ≡ 1 → ((y : ℕ) → bit_at after y ≡ 0 → bit_at before y ≡ 0)
+    → AreInRows before out → AreInRows after (set out place c)
+rows_put before after place c out here others h k lt none = elim (cases_eq k place) [
+  | inl same ↦ absurd (omega (arith, sym (ap (λ (j : ℕ). bit_at after (j / 8)) same) ∙ none, here))
+  | inr ne ↦ let apart : k ≢ place = ne in rw get_or-set_other (h k lt (others (k / 8) none))
+]
+
 -- one level more
-pub one_put : (levels : List ℤ) (kind : BlockKind) (n : ℕ) (out : List ℤ) (parity place : ℕ) (c : ℤ) (more : ℕ)
+pub one_put : (levels : List ℤ) (kind : BlockKind) (n : ℕ) (out : List ℤ) (told : Told) (place : ℕ) (c : ℤ) (more : Told)
     → length levels ≡ 64 → length out ≡ 64 → n < 64 → place < 64 → place ≡ slice_index (scan_order kind.alternate) n
-    → c ≡ saturated_of kind place (get_or levels n (pos 0)) → more ≡ (parity + unsigned_abs c) % 2
-    → IsUpTo levels kind n out parity → IsUpTo levels kind (n + 1) (set out place c) more
-one_put levels kind n out parity place c more len out_len lt inside at value after h =
+    → c ≡ saturated_of kind place (get_or levels n (pos 0)) → more.parity % 2 ≡ (told.parity + unsigned_abs c) % 2
+    → bit_at more.rows (place / 8) ≡ 1 → ((y : ℕ) → bit_at more.rows y ≡ 0 → bit_at told.rows y ≡ 0)
+    → IsUpTo levels kind n out told → IsUpTo levels kind (n + 1) (set out place c) more
+one_put levels kind n out told place c more len out_len lt inside at value after row rows h =
     let old = saturated_at (take n levels) kind in
     let new = saturated_at (take (n + 1) levels) kind in
     let turn : position kind.alternate place ≡ n = ap (position kind.alternate) at ∙ position_scan kind.alternate n lt in
@@ -186,16 +229,17 @@ one_put levels kind n out parity place c more len out_len lt inside at value aft
     let other : (k : ℕ) → k < 64 → (k ≡ place → ⊥) → new k ≡ old k =
     λ k l ne. at_same levels kind (n + 1) n k
     (one_other levels n (position kind.alternate k) (omega arith) (elsewhere kind.alternate n k l (λ e. ne (e ∙ sym at)))) in
-    let both = changed old new out parity place c more out_len inside was here other after h.value h.parity_is in
-    record { value = both.0; parity_is = both.1 }
+    let both = changed old new out (told.parity % 2) place c (more.parity % 2) out_len inside was here other (omega (arith, after)) h.value h.parity_is in
+    record { value = both.0; parity_is = both.1; rows = rows_put told.rows more.rows place c out row rows h.rows }
 
 -- a level is set where a 0 stood
-pub level_set : (levels : List ℤ) (kind : BlockKind) (n : ℕ) (v : ℤ) (out : List ℤ) (parity place : ℕ) (c : ℤ) (more : ℕ)
+pub level_set : (levels : List ℤ) (kind : BlockKind) (n : ℕ) (v : ℤ) (out : List ℤ) (told : Told) (place : ℕ) (c : ℤ) (more : Told)
     → length levels ≡ 64 → length out ≡ 64 → n < 64 → place < 64 → place ≡ slice_index (scan_order kind.alternate) n
-    → get_or levels n (pos 0) ≡ pos 0 → c ≡ saturated_of kind place v → more ≡ (parity + unsigned_abs c) % 2
-    → AreSaturated levels kind out parity → AreSaturated (set levels n v) kind (set out place c) more
+    → get_or levels n (pos 0) ≡ pos 0 → c ≡ saturated_of kind place v → more.parity % 2 ≡ (told.parity + unsigned_abs c) % 2
+    → bit_at more.rows (place / 8) ≡ 1 → ((y : ℕ) → bit_at more.rows y ≡ 0 → bit_at told.rows y ≡ 0)
+    → AreSaturated levels kind out told → AreSaturated (set levels n v) kind (set out place c) more
 unfolding saturated_at
-level_set levels kind n v out parity place c more len out_len lt inside at free value after h =
+level_set levels kind n v out told place c more len out_len lt inside at free value after row rows h =
     let old = saturated_at levels kind in
     let new = saturated_at (set levels n v) kind in
     let room : n < length levels = omega arith in
@@ -207,11 +251,11 @@ level_set levels kind n v out parity place c more len out_len lt inside at free 
     λ k l ne.
     let apart : position kind.alternate k ≢ n = elsewhere kind.alternate n k l (λ e. ne (e ∙ sym at)) in
     at_level (set levels n v) kind k (get_or levels (position kind.alternate k) (pos 0)) (rw get_or-set_other refl) in
-    let both = changed old new out parity place c more out_len inside was here other after h.value h.parity_is in
-    record { value = both.0; parity_is = both.1 }
+    let both = changed old new out (told.parity % 2) place c (more.parity % 2) out_len inside was here other (omega (arith, after)) h.value h.parity_is in
+    record { value = both.0; parity_is = both.1; rows = rows_put told.rows more.rows place c out row rows h.rows }
 
 -- nothing is read yet
-pub nothing_yet : (levels : List ℤ) (kind : BlockKind) → IsUpTo levels kind 0 (replicate 64 (pos 0)) 0
+pub nothing_yet : (levels : List ℤ) (kind : BlockKind) → IsUpTo levels kind 0 (replicate 64 (pos 0)) (record { parity = 0; rows = 0 })
 unfolding coefficient_sum
 nothing_yet levels kind =
     let zero_at : (k : ℕ) → saturated_at (take 0 levels) kind k ≡ pos 0 =
@@ -219,6 +263,7 @@ nothing_yet levels kind =
     record {
       value = λ k lt. get_or-replicate 64 k (pos 0) (pos 0) lt ∙ sym (zero_at k);
       parity_is = ap (λ z. unsigned_abs z % 2) (sym (sum_same 64 (saturated_at (take 0 levels) kind) (λ _. pos 0) (λ k lt. zero_at k)));
+      rows = λ k lt _. get_or-replicate 64 k (pos 0) (pos 0) lt;
     }
 
 clamped : (z : ℤ) → IsCoefficient (int_max (int_min z (pos 2047)) (neg_ℤ (pos 2048)))
@@ -237,7 +282,7 @@ unfolding saturated_at
 within_at levels kind k = within_of kind k _
 
 -- all levels are 0
-pub none_saturated : (kind : BlockKind) → AreSaturated (replicate 64 (pos 0)) kind (replicate 64 (pos 0)) 0
+pub none_saturated : (kind : BlockKind) → AreSaturated (replicate 64 (pos 0)) kind (replicate 64 (pos 0)) (record { parity = 0; rows = 0 })
 unfolding coefficient_sum
 none_saturated kind =
     let zero_at : (k : ℕ) → saturated_at (replicate 64 (pos 0)) kind k ≡ pos 0 =
@@ -245,23 +290,24 @@ none_saturated kind =
     record {
       value = λ k lt. get_or-replicate 64 k (pos 0) (pos 0) lt ∙ sym (zero_at k);
       parity_is = ap (λ z. unsigned_abs z % 2) (sym (sum_same 64 (saturated_at (replicate 64 (pos 0)) kind) (λ _. pos 0) (λ k lt. zero_at k)));
+      rows = λ k lt _. get_or-replicate 64 k (pos 0) (pos 0) lt;
     }
 
 -- the whole block
-pub all_saturated : (levels : List ℤ) (kind : BlockKind) (out : List ℤ) (parity : ℕ) → length out ≡ 64 → AreSaturated levels kind out parity
-    → (out ≡ map (saturated_at levels kind) (range_with_len 0 64)) × (parity ≡ unsigned_abs (coefficient_sum 64 (saturated_at levels kind)) % 2) × All IsCoefficient out
-all_saturated levels kind out parity out_len h = (
+pub all_saturated : (levels : List ℤ) (kind : BlockKind) (out : List ℤ) (told : Told) → length out ≡ 64 → AreSaturated levels kind out told
+    → (out ≡ map (saturated_at levels kind) (range_with_len 0 64)) × (told.parity % 2 ≡ unsigned_abs (coefficient_sum 64 (saturated_at levels kind)) % 2) × All IsCoefficient out
+all_saturated levels kind out told out_len h = (
   fill_by_all (saturated_at levels kind) out 64 (pos 0) out_len h.value,
   h.parity_is,
   All-from_get_or IsCoefficient out (pos 0) (λ i l. rw (h.value i (omega arith)) (within_at levels kind i)),
 )
 
 -- all are read
-pub all_read : (levels : List ℤ) (kind : BlockKind) (out : List ℤ) (parity : ℕ) → length levels ≡ 64 → length out ≡ 64 → IsUpTo levels kind 64 out parity
-    → (out ≡ map (saturated_at levels kind) (range_with_len 0 64)) × (parity ≡ unsigned_abs (coefficient_sum 64 (saturated_at levels kind)) % 2) × All IsCoefficient out
-all_read levels kind out parity len out_len h =
+pub all_read : (levels : List ℤ) (kind : BlockKind) (out : List ℤ) (told : Told) → length levels ≡ 64 → length out ≡ 64 → IsUpTo levels kind 64 out told
+    → (out ≡ map (saturated_at levels kind) (range_with_len 0 64)) × (told.parity % 2 ≡ unsigned_abs (coefficient_sum 64 (saturated_at levels kind)) % 2) × All IsCoefficient out
+all_read levels kind out told len out_len h =
     let e : take 64 levels ≡ levels = take_all 64 levels (omega arith) in
-    all_saturated levels kind out parity out_len (subst (λ (ls : List ℤ). AreSaturated ls kind out parity) e (record { value = h.value; parity_is = h.parity_is }))
+    all_saturated levels kind out told out_len (subst (λ (ls : List ℤ). AreSaturated ls kind out told) e (record { value = h.value; parity_is = h.parity_is; rows = h.rows }))
 
 -- no bit is set in a number joined with another
 pub joined_zero : (a b : ℕ) → bit_or a b ≡ 0 → (a ≡ 0) × (b ≡ 0)

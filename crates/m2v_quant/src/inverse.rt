@@ -1,8 +1,9 @@
-ghost use Rattle.std.specs.Prelude.{◌≡◌, ◌+◌, ◌*◌, ◌/◌, ◌%◌, ◌^◌, ◌<◌, ◌≤◌, ◌∷◌, [], cond, min, slice_index, slice_index_or, slice_set, ◌-◌, IsTrue, ℕ, All, ℤ, pos, ◌*ℤ◌, unsigned_abs, nat_eq, if◌then◌else◌, map, replicate};
+ghost use Rattle.std.specs.Prelude.{◌≡◌, ◌≢◌, ◌+◌, ◌*◌, ◌/◌, ◌%◌, ◌^◌, ◌<◌, ◌≤◌, ◌∷◌, [], cond, min, slice_index, slice_index_or, slice_set, ◌-◌, IsTrue, ℕ, All, ℤ, pos, ◌*ℤ◌, unsigned_abs, nat_eq, if◌then◌else◌, map, replicate};
 ghost use Rattle.std.specs.List.{range_with_len};
+ghost use Rattle.std.specs.Int.{bit_at};
 ghost use Rattle.m2v_quant.specs.Kinds.{IsKind, IsLevel, IsCoefficient};
 ghost use Rattle.m2v_quant.specs.Quantiser.{with_sign};
-ghost use Rattle.m2v_quant.specs.Prefix.{IsUpTo};
+ghost use Rattle.m2v_quant.specs.Prefix.{AreInRows, IsUpTo};
 ghost use Rattle.m2v_quant.specs.Scans.{scan_order};
 ghost use Rattle.m2v_quant.specs.Coefficients.{ac_coefficient, dc_coefficient, saturated, saturated_of, saturated_at, coefficients_of, coefficient_sum, other_parity};
 
@@ -30,14 +31,25 @@ fn extra(intra: bool, size: u32) -> u32
     if intra { 0 } else { size.min(1) }
 }
 
-/// The size of a coefficient by that of its level.
+/// The same of a level that isn't 0.
 #[inline(always)]
-fn ac_size(intra: bool, step: u32, size: u32) -> u32
+fn some_extra(intra: bool, _size: u32) -> u32
+    requires { 1 ≤ _size }
+    ensures value { result ≡ cond intra 0 (min _size 1) }
+    ensures most { result ≤ 1 }
+{
+    if intra { 0 } else { 1 }
+}
+
+/// The size of a coefficient by that of its level, and by what is added to twice that.
+#[inline(always)]
+fn ac_size(extra: u32, step: u32, size: u32) -> u32
+    requires extra { extra ≤ 1 }
     requires step { step ≤ 28560 }
     requires size { size ≤ 2047 }
-    ensures { result ≡ (2 * size + cond intra 0 (min size 1)) * step / 32 }
+    ensures { result ≡ (2 * size + extra) * step / 32 }
 {
-    (2 * size + extra(intra, size)) * step / 32
+    (2 * size + extra) * step / 32
 }
 
 /// A number of this size and the sign of `like`, kept within -2048 to 2047.
@@ -62,7 +74,21 @@ fn ac(intra: bool, step: u32, level: i32) -> i32
     ensures value { result ≡ saturated (ac_coefficient intra step level) }
     ensures within { IsCoefficient result }
 {
-    kept(level, ac_size(intra, step, level.unsigned_abs()))
+    let size = level.unsigned_abs();
+    kept(level, ac_size(extra(intra, size), step, size))
+}
+
+/// The same of a level that isn't 0.
+#[inline(always)]
+fn some_ac(intra: bool, step: u32, level: i32) -> i32
+    requires step { step ≤ 28560 }
+    requires level { IsLevel level }
+    requires some { level ≢ pos 0 }
+    ensures value { result ≡ saturated (ac_coefficient intra step level) }
+    ensures within { IsCoefficient result }
+{
+    let size = level.unsigned_abs();
+    kept(level, ac_size(some_extra(intra, size), step, size))
 }
 
 /// An intra DC coefficient.
@@ -94,15 +120,28 @@ fn coefficient(kind: &BlockKind, intra: bool, place: u8, level: i32) -> i32
     ac(intra, step(kind, place), level)
 }
 
-/// The parity of a sum with one more number.
+/// The coefficient of a raster place other than the first, by its level, which isn't 0.
+#[inline(always)]
+pub fn later_coefficient(kind: &BlockKind, intra: bool, place: u8, level: i32) -> i32
+    requires kind { IsKind kind.now }
+    requires intra { kind.now.intra ≡ intra }
+    requires later { 1 ≤ place }
+    requires place { place < 64 }
+    requires level { IsLevel level }
+    requires some { level ≢ pos 0 }
+    ensures value { result ≡ saturated_of kind.now place level }
+    ensures within { IsCoefficient result }
+{
+    some_ac(intra, step(kind, place), level)
+}
+
+/// A number of the parity of a sum with one more number.
 #[inline(always)]
 fn parity_with(parity: u32, coefficient: i32) -> u32
-    requires parity { parity < 2 }
-    requires coefficient { IsCoefficient coefficient }
-    ensures value { result ≡ (parity + unsigned_abs coefficient) % 2 }
-    ensures below { result < 2 }
+    requires { IsCoefficient coefficient }
+    ensures { result % 2 ≡ (parity + unsigned_abs coefficient) % 2 }
 {
-    (parity + coefficient.unsigned_abs()) % 2
+    parity ^ coefficient.cast_unsigned()
 }
 
 /// A coefficient of the other parity.
@@ -120,7 +159,43 @@ pub fn turned(coefficient: i32) -> i32
     }
 }
 
-/// The place of one level more, and the parity with it.
+/// What is told of the coefficients that are put.
+#[derive(Clone, Copy)]
+pub struct Told {
+    /// It is even where their sum is.
+    pub parity: u32,
+    /// The rows of the block in which they stand: bit y is 0 where none stands in row y.
+    pub rows: u32,
+}
+
+/// Rows with that of one more place.
+#[inline(always)]
+fn rows_with(rows: u32, place: u8) -> u32
+    requires { place < 64 }
+    ensures here { bit_at result (place / 8) ≡ 1 }
+    ensures others { (y : ℕ) → bit_at result y ≡ 0 → bit_at rows y ≡ 0 }
+{
+    rows | (1 << (place / 8))
+}
+
+/// Puts one coefficient more, and tells it with the others.
+#[inline(always)]
+pub fn put_at(place: u8, coefficient: i32, out: &mut [i32; 64], told: Told) -> Told
+    requires place { place < 64 }
+    requires coefficient { IsCoefficient coefficient }
+    ensures value { out.new ≡ slice_set out.old place coefficient }
+    ensures parity { result.parity % 2 ≡ (told.parity + unsigned_abs coefficient) % 2 }
+    ensures row { bit_at result.rows (place / 8) ≡ 1 }
+    ensures rows { (y : ℕ) → bit_at result.rows y ≡ 0 → bit_at told.rows y ≡ 0 }
+{
+    out[place as usize] = coefficient;
+    Told {
+        parity: parity_with(told.parity, coefficient),
+        rows: rows_with(told.rows, place),
+    }
+}
+
+/// The place of one level more, and what is told with it.
 #[inline(always)]
 pub fn put_coefficient(
     level: i32,
@@ -129,25 +204,24 @@ pub fn put_coefficient(
     alternate: bool,
     i: u8,
     out: &mut [i32; 64],
-    parity: u32,
-) -> u32
+    told: Told,
+) -> Told
     requires level { IsLevel level }
     requires kind { IsKind kind.now }
     requires intra { kind.now.intra ≡ intra }
     requires alternate { kind.now.alternate ≡ alternate }
     requires i { i < 64 }
-    requires parity { parity < 2 }
     ensures value { out.new ≡ slice_set out.old (slice_index (scan_order kind.now.alternate) i)
         (saturated_of kind.now (slice_index (scan_order kind.now.alternate) i) level) }
     ensures within { slice_index (scan_order kind.now.alternate) i < 64 }
-    ensures parity { result
-        ≡ (parity + unsigned_abs
+    ensures parity { result.parity % 2
+        ≡ (told.parity + unsigned_abs
         (saturated_of kind.now (slice_index (scan_order kind.now.alternate) i) level)) % 2 }
+    ensures row { bit_at result.rows (slice_index (scan_order kind.now.alternate) i / 8) ≡ 1 }
+    ensures rows { (y : ℕ) → bit_at result.rows y ≡ 0 → bit_at told.rows y ≡ 0 }
 {
     let place = scan(alternate, i);
-    let c = coefficient(kind, intra, place, level);
-    out[place as usize] = c;
-    parity_with(parity, c)
+    put_at(place, coefficient(kind, intra, place, level), out, told)
 }
 
 /// The coefficients of one level more.
@@ -159,21 +233,21 @@ fn put_level(
     alternate: bool,
     i: u8,
     out: &mut [i32; 64],
-    parity: u32,
-) -> u32
+    told: Told,
+) -> Told
     requires kind { IsKind kind.now }
     requires intra { kind.now.intra ≡ intra }
     requires alternate { kind.now.alternate ≡ alternate }
     requires levels { All IsLevel levels.now.at }
     requires i { i < 64 }
-    requires before { IsUpTo levels.now.at kind.now i out.old parity }
+    requires before { IsUpTo levels.now.at kind.now i out.old told }
     ensures { IsUpTo levels.now.at kind.now (i + 1) out.new result }
 {
     let level = levels.at[i as usize];
     if level == 0 {
-        return parity;
+        return told;
     }
-    put_coefficient(level, kind, intra, alternate, i, out, parity)
+    put_coefficient(level, kind, intra, alternate, i, out, told)
 }
 
 /// Whether so many levels are 0, from one on.
@@ -212,17 +286,17 @@ fn put_four(
     alternate: bool,
     from: u8,
     out: &mut [i32; 64],
-    parity: u32,
-) -> u32
+    told: Told,
+) -> Told
     requires kind { IsKind kind.now }
     requires intra { kind.now.intra ≡ intra }
     requires alternate { kind.now.alternate ≡ alternate }
     requires levels { All IsLevel levels.now.at }
     requires from { from ≤ 60 }
-    requires before { IsUpTo levels.now.at kind.now from out.old parity }
+    requires before { IsUpTo levels.now.at kind.now from out.old told }
     ensures { IsUpTo levels.now.at kind.now (from + 4) out.new result }
 {
-    let one = put_level(levels, kind, intra, alternate, from, out, parity);
+    let one = put_level(levels, kind, intra, alternate, from, out, told);
     let two = put_level(levels, kind, intra, alternate, from + 1, out, one);
     let three = put_level(levels, kind, intra, alternate, from + 2, out, two);
     put_level(levels, kind, intra, alternate, from + 3, out, three)
@@ -237,20 +311,20 @@ fn put_group(
     alternate: bool,
     from: u8,
     out: &mut [i32; 64],
-    parity: u32,
-) -> u32
+    told: Told,
+) -> Told
     requires kind { IsKind kind.now }
     requires intra { kind.now.intra ≡ intra }
     requires alternate { kind.now.alternate ≡ alternate }
     requires levels { All IsLevel levels.now.at }
     requires from { from ≤ 56 }
-    requires before { IsUpTo levels.now.at kind.now from out.old parity }
+    requires before { IsUpTo levels.now.at kind.now from out.old told }
     ensures { IsUpTo levels.now.at kind.now (from + 8) out.new result }
 {
     if is_empty(levels, from, 8) {
-        return parity;
+        return told;
     }
-    let half = put_four(levels, kind, intra, alternate, from, out, parity);
+    let half = put_four(levels, kind, intra, alternate, from, out, told);
     put_four(levels, kind, intra, alternate, from + 4, out, half)
 }
 
@@ -264,7 +338,7 @@ fn put_groups(
     alternate: bool,
     end: u8,
     out: &mut [i32; 64],
-) -> u32
+) -> Told
     requires kind { IsKind kind.now }
     requires intra { kind.now.intra ≡ intra }
     requires alternate { kind.now.alternate ≡ alternate }
@@ -273,16 +347,16 @@ fn put_groups(
     requires zeros { out.old ≡ replicate 64 (pos 0) }
     ensures { IsUpTo levels.now.at kind.now (8 * end) out.new result }
 {
-    let mut parity = 0;
+    let mut told = Told { parity: 0, rows: 0 };
     for group in 0..end {
-        parity = put_group(levels, kind, intra, alternate, 8 * group, out, parity);
+        told = put_group(levels, kind, intra, alternate, 8 * group, out, told);
     }
-    parity
+    told
 }
 
 /// The same, by the kind's scan.
 #[inline(always)]
-fn put_by_scan(levels: &Levels, kind: &BlockKind, intra: bool, end: u8, out: &mut [i32; 64]) -> u32
+fn put_by_scan(levels: &Levels, kind: &BlockKind, intra: bool, end: u8, out: &mut [i32; 64]) -> Told
     requires kind { IsKind kind.now }
     requires intra { kind.now.intra ≡ intra }
     requires levels { All IsLevel levels.now.at }
@@ -298,7 +372,7 @@ fn put_by_scan(levels: &Levels, kind: &BlockKind, intra: bool, end: u8, out: &mu
 
 /// The same, by what the kind says.
 #[inline(always)]
-fn put_by_kind(levels: &Levels, kind: &BlockKind, end: u8, out: &mut [i32; 64]) -> u32
+fn put_by_kind(levels: &Levels, kind: &BlockKind, end: u8, out: &mut [i32; 64]) -> Told
     requires kind { IsKind kind.now }
     requires levels { All IsLevel levels.now.at }
     requires end { end ≤ 8 }
@@ -311,20 +385,53 @@ fn put_by_kind(levels: &Levels, kind: &BlockKind, end: u8, out: &mut [i32; 64]) 
     put_by_scan(levels, kind, false, end, out)
 }
 
-/// The coefficients of levels before mismatch control, and the parity of their sum. Most levels are 0, and stand in
+/// The coefficients of levels before mismatch control, and what is told of them. Most levels are 0, and stand in
 /// groups: what is written is the places of the others.
 #[inline(always)]
-fn saturate(levels: &Levels, kind: &BlockKind, out: &mut [i32; 64]) -> u32
+fn saturate(levels: &Levels, kind: &BlockKind, out: &mut [i32; 64]) -> Told
     requires kind { IsKind kind.now }
     requires levels { All IsLevel levels.now.at }
     ensures value { out.new ≡ map (saturated_at levels.now.at kind.now) (range_with_len 0 64) }
-    ensures parity { result
+    ensures parity { result.parity % 2
         ≡ unsigned_abs (coefficient_sum 64 (saturated_at levels.now.at kind.now)) % 2 }
+    ensures rows { AreInRows result.rows out.new }
     ensures within { All IsCoefficient out.new }
 {
     *out = [0; 64];
     let end = groups(levels);
     put_by_kind(levels, kind, end, out)
+}
+
+/// Turns the last of the coefficients where the sum of all is even: which rows hold one other than 0 then.
+#[inline(always)]
+pub fn turn_last(out: &mut [i32; 64], told: Told) -> u32
+    requires within { All IsCoefficient out.old }
+    requires rows { AreInRows told.rows out.old }
+    ensures even { told.parity % 2 ≡ 0
+        → out.new ≡ slice_set out.old 63 (other_parity (slice_index_or out.old 63 (pos 0))) }
+    ensures odd { told.parity % 2 ≢ 0 → out.new ≡ out.old }
+    ensures rows { AreInRows result out.new }
+    ensures within { All IsCoefficient out.new }
+{
+    if told.parity % 2 != 0 {
+        return told.rows;
+    }
+    out[63] = turned(out[63]);
+    rows_with(told.rows, 63)
+}
+
+/// The 64 coefficients of a block, those of [`dequantise`], and which rows hold one other than 0: bit y is 0 where row y
+/// holds none.
+#[inline(always)]
+pub fn dequantise_rows(levels: &Levels, kind: &BlockKind, out: &mut [i32; 64]) -> u32
+    requires kind { IsKind kind.now }
+    requires levels { All IsLevel levels.now.at }
+    ensures value { out.new ≡ coefficients_of levels.now.at kind.now }
+    ensures rows { AreInRows result out.new }
+    ensures coefficients { All IsCoefficient out.new }
+{
+    let told = saturate(levels, kind, out);
+    turn_last(out, told)
 }
 
 /// The 64 coefficients of a block in raster order, each from -2048 to 2047, of its levels (clauses 7.3 and 7.4):
@@ -335,8 +442,5 @@ pub fn dequantise(levels: &Levels, kind: &BlockKind, out: &mut [i32; 64])
     ensures value { out.new ≡ coefficients_of levels.now.at kind.now }
     ensures coefficients { All IsCoefficient out.new }
 {
-    let parity = saturate(levels, kind, out);
-    if parity == 0 {
-        out[63] = turned(out[63]);
-    }
+    dequantise_rows(levels, kind, out);
 }

@@ -1,14 +1,16 @@
-ghost use Rattle.std.specs.Prelude.{◌≡◌, ◌≢◌, ◌+◌, ◌%◌, ◌<◌, ◌≤◌, ◌∷◌, All, map, pos, replicate, slice_index, slice_index_or, slice_set, unsigned_abs};
+ghost use Rattle.std.specs.Prelude.{ℕ, ◌≡◌, ◌≢◌, ◌+◌, ◌/◌, ◌%◌, ◌<◌, ◌≤◌, ◌∷◌, All, map, pos, replicate, slice_index, slice_index_or, slice_set, unsigned_abs};
 ghost use Rattle.std.specs.List.{range_with_len};
+ghost use Rattle.std.specs.Int.{bit_at};
 ghost use Rattle.m2v_quant.specs.Kinds.{IsKind, IsLevel, IsCoefficient};
 ghost use Rattle.m2v_quant.specs.Scans.{scan_order};
 ghost use Rattle.m2v_quant.specs.Coefficients.{saturated_of, saturated_at, coefficient_sum};
-ghost use Rattle.m2v_quant.specs.Prefix.{AreSaturated};
+ghost use Rattle.m2v_quant.specs.Prefix.{AreInRows, AreSaturated};
 ghost use Rattle.m2v_quant.specs.Sparse.{AreKept, IsClearFrom, spread};
 
 use crate::block_levels::BlockLevels;
-use crate::inverse::{put_coefficient, turned};
+use crate::inverse::{Told, later_coefficient, put_at, put_coefficient, turn_last};
 use crate::kind::{BlockKind, Levels};
+use crate::scans::scan;
 use std::marker::Model;
 
 /// A level and its position in scan order.
@@ -134,7 +136,7 @@ fn all_of(first: i32, later: &[LevelAt; 63], count: usize) -> [i32; 64]
     at
 }
 
-/// The place of one kept level more, and the parity with it.
+/// The place of one kept level more, and what is told with it.
 #[inline(always)]
 fn put_kept(
     x: &LevelAt,
@@ -142,26 +144,36 @@ fn put_kept(
     intra: bool,
     alternate: bool,
     out: &mut [i32; 64],
-    parity: u32,
-) -> u32
+    told: Told,
+) -> Told
+    requires later { 1 ≤ x.now.position }
     requires position { x.now.position < 64 }
     requires level { IsLevel x.now.level }
+    requires some { x.now.level ≢ pos 0 }
     requires kind { IsKind kind.now }
     requires intra { kind.now.intra ≡ intra }
     requires alternate { kind.now.alternate ≡ alternate }
-    requires parity { parity < 2 }
     ensures value { out.new ≡ slice_set out.old (slice_index (scan_order kind.now.alternate)
         x.now.position)
         (saturated_of kind.now (slice_index (scan_order kind.now.alternate) x.now.position)
         x.now.level) }
     ensures within { slice_index (scan_order kind.now.alternate) x.now.position < 64 }
-    ensures parity { result
-        ≡ (parity + unsigned_abs
+    ensures parity { result.parity % 2
+        ≡ (told.parity + unsigned_abs
         (saturated_of kind.now (slice_index (scan_order kind.now.alternate) x.now.position)
         x.now.level)) % 2 }
+    ensures row { bit_at result.rows
+        (slice_index (scan_order kind.now.alternate) x.now.position / 8) ≡ 1 }
+    ensures rows { (y : ℕ) → bit_at result.rows y ≡ 0 → bit_at told.rows y ≡ 0 }
 {
+    let place = scan(alternate, x.position as u8);
     let level = i32::from(x.level);
-    put_coefficient(level, kind, intra, alternate, x.position as u8, out, parity)
+    put_at(
+        place,
+        later_coefficient(kind, intra, place, level),
+        out,
+        told,
+    )
 }
 
 /// The coefficients of the first level and of so many that are kept behind it, where all are 0 yet. Whether the block is
@@ -175,7 +187,7 @@ fn put_all(
     intra: bool,
     alternate: bool,
     out: &mut [i32; 64],
-) -> u32
+) -> Told
     requires kept { AreKept first later.now count }
     requires kind { IsKind kind.now }
     requires intra { kind.now.intra ≡ intra }
@@ -183,11 +195,12 @@ fn put_all(
     requires zeros { out.old ≡ replicate 64 (pos 0) }
     ensures { AreSaturated (spread first later.now count) kind.now out.new result }
 {
-    let mut parity = put_coefficient(first, kind, intra, alternate, 0, out, 0);
+    let none = Told { parity: 0, rows: 0 };
+    let mut told = put_coefficient(first, kind, intra, alternate, 0, out, none);
     for i in 0..count {
-        parity = put_kept(&later[i], kind, intra, alternate, out, parity);
+        told = put_kept(&later[i], kind, intra, alternate, out, told);
     }
-    parity
+    told
 }
 
 /// The same, by the kind's scan.
@@ -199,7 +212,7 @@ fn put_by_scan(
     kind: &BlockKind,
     intra: bool,
     out: &mut [i32; 64],
-) -> u32
+) -> Told
     requires kept { AreKept first later.now count }
     requires kind { IsKind kind.now }
     requires intra { kind.now.intra ≡ intra }
@@ -220,7 +233,7 @@ fn put_by_kind(
     count: usize,
     kind: &BlockKind,
     out: &mut [i32; 64],
-) -> u32
+) -> Told
     requires kept { AreKept first later.now count }
     requires kind { IsKind kind.now }
     requires zeros { out.old ≡ replicate 64 (pos 0) }
@@ -232,7 +245,7 @@ fn put_by_kind(
     put_by_scan(first, later, count, kind, false, out)
 }
 
-/// The coefficients before mismatch control, and the parity of their sum.
+/// The coefficients before mismatch control, and what is told of them.
 #[inline(always)]
 fn saturate(
     first: i32,
@@ -240,13 +253,14 @@ fn saturate(
     count: usize,
     kind: &BlockKind,
     out: &mut [i32; 64],
-) -> u32
+) -> Told
     requires kept { AreKept first later.now count }
     requires kind { IsKind kind.now }
     ensures value { out.new ≡ map (saturated_at (spread first later.now count) kind.now)
         (range_with_len 0 64) }
-    ensures parity { result ≡ unsigned_abs (coefficient_sum 64
+    ensures parity { result.parity % 2 ≡ unsigned_abs (coefficient_sum 64
         (saturated_at (spread first later.now count) kind.now)) % 2 }
+    ensures rows { AreInRows result.rows out.new }
     ensures within { All IsCoefficient out.new }
 {
     *out = [0; 64];
@@ -256,10 +270,8 @@ fn saturate(
 impl BlockLevels for SparseLevels {
     ghost list = { λ l. l.at };
 
-    fn coefficients(&self, kind: &BlockKind, out: &mut [i32; 64]) {
-        let parity = saturate(self.first, &self.later, self.count, kind, out);
-        if parity == 0 {
-            out[63] = turned(out[63]);
-        }
+    fn coefficients(&self, kind: &BlockKind, out: &mut [i32; 64]) -> u32 {
+        let told = saturate(self.first, &self.later, self.count, kind, out);
+        turn_last(out, told)
     }
 }

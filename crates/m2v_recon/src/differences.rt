@@ -9,7 +9,7 @@ ghost use Rattle.m2v_pred.specs.m2v_plane.declared.planes.Plane.TheVariants.{Y};
 ghost use Rattle.m2v_recon.specs.Macro.{clamped, is_alone, is_coded, residual, block_of, kind_at};
 ghost use Rattle.m2v_recon.specs.Steps.{luma_line, luma_place, rebuilt};
 
-use m2v_idct::inverse_unclipped;
+use m2v_idct::inverse_by_rows;
 use m2v_quant::{BlockKind, BlockLevels};
 use std::simd::prelude::*;
 
@@ -29,8 +29,8 @@ fn differences<L: BlockLevels>(levels: &L, kind: &BlockKind, out: &mut [i32; 64]
     ensures value { map clip out.new ≡ inverse_of (coefficients_of (L.list levels.now) kind.now) }
     ensures within { All (Within 30000) out.new }
 {
-    levels.coefficients(kind, out);
-    inverse_unclipped(out);
+    let rows = levels.coefficients(kind, out);
+    inverse_by_rows(out, rows);
 }
 
 /// What a difference is added to: nothing in an intra block.

@@ -12,3 +12,4 @@ pub mod Firsts
 pub mod Shorts
 pub mod Longs
 pub mod TableLaws
+pub mod Escapes

@@ -173,6 +173,13 @@ first_stands k p lt is = record {
   reads = λ bs nine enough. first_same bs (omega (arith, lt, nine, peeked 9 bs (omega arith), peeked 2 bs (omega arith))) ∙ is.reads bs nine enough;
 }
 
+pub first_long_stands : (k : ℕ) (p : ShortPair) → k < 2048 → Stands 17 coefficient_zero k p → Stands 17 first_zero k p
+first_long_stands k p lt is = record {
+  short = is.short;
+  range = is.range;
+  reads = λ bs seventeen enough. first_same bs (omega (arith, lt, seventeen, peeked 2 bs (omega arith))) ∙ is.reads bs seventeen enough;
+}
+
 pub plus_stands : (k : ℕ) → 256 ≤ k → k < 384 → Stands 9 first_zero k (pos 1, 0, 2)
 plus_stands k from lt = record {
   short = omega arith;

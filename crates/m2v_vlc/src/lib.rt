@@ -38,7 +38,7 @@ pub use kind::{
     read_type_i, read_type_p, write_type_b, write_type_i, write_type_p,
 };
 pub use laws::law_tables;
-pub use long::long_pair;
+pub use long::{long_first, long_pair};
 pub use motion::{
     bits_dmv, bits_motion, code_dmv, code_motion, read_dmv, read_motion, write_dmv, write_motion,
 };

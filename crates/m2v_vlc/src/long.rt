@@ -1,5 +1,5 @@
 ghost use Rattle.std.specs.Prelude.{◌≡◌, ◌<◌, ◌≤◌, if◌then◌else◌};
-ghost use Rattle.m2v_vlc.specs.Coefficients.{coefficient_zero, coefficient_one};
+ghost use Rattle.m2v_vlc.specs.Coefficients.{coefficient_zero, coefficient_one, first_zero};
 ghost use Rattle.m2v_vlc.specs.Shorts.{Stands};
 
 use crate::longest::LONGEST;
@@ -47,4 +47,13 @@ pub fn long_pair(one: bool, seventeen: u32) -> &'static ShortPair
     } else {
         zero_long(seventeen)
     }
+}
+
+/// The same by table B.14 at the first coefficient of a block that is not intra, which has the same long codes.
+#[inline(always)]
+pub fn long_first(seventeen: u32) -> &'static ShortPair
+    requires { seventeen < 2048 }
+    ensures stands { result.now.1 < 64 → Stands 17 first_zero seventeen result.now }
+{
+    zero_long(seventeen)
 }

@@ -12,6 +12,9 @@ pub returns-clause-value : goal.returns-clause-value
 returns-clause-value c =
     let level = c.ranges.level in
     let fits : SFits w32 c.kept.result = record { sfits = c.kept.type_inv } in
-    let size = simp to_z-of_z at c.unsigned_abs.ensures.value in
+    let size = simp to_z-of_z at c.unsigned_abs-size.ensures.value in
     let kept = simp to_z-of_z at c.kept.ensures.value in
-    to_z-of_z w32 c.kept.result fits ∙ kept ∙ ap saturated (ap (with_sign c.args.level) (c.ac_size.ensures ∙ ap (λ (n : ℕ). (2 * n + cond c.args.intra 0 (min n 1)) * c.args.step / 32) size) ∙ ac_is c.args.intra c.args.step c.args.level)
+    let sized = c.ac_size.ensures
+    ∙ ap (λ (n : ℕ). (2 * c.unsigned_abs-size.result + n) * c.args.step / 32) c.extra.ensures.value
+    ∙ ap (λ (n : ℕ). (2 * n + cond c.args.intra 0 (min n 1)) * c.args.step / 32) size in
+    to_z-of_z w32 c.kept.result fits ∙ kept ∙ ap saturated (ap (with_sign c.args.level) sized ∙ ac_is c.args.intra c.args.step c.args.level)

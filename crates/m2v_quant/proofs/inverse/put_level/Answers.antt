@@ -13,7 +13,7 @@ returns-then-level-eq0 c =
     let len : length levels ≡ 64 = search rules in
     let fits : SFits w32 (get_or levels c.args.i (pos 0)) = search rules in
     let zero = simp to_z-of_z at (ap (to_z w32) c.if-level-eq0.true) in
-    skipped levels c.args.kind.now c.args.i 1 c.args.out.now c.args.parity (omega arith)
+    skipped levels c.args.kind.now c.args.i 1 c.args.out.now c.args.told (omega arith)
     (λ j lt. let e : c.args.i + j ≡ c.args.i = omega arith in ap (λ p. get_or levels p (pos 0)) e ∙ zero) c.requires.before
 
 pub returns : goal.returns
@@ -24,5 +24,5 @@ returns c =
     let fits : SFits w32 (get_or levels c.args.i (pos 0)) = search rules in
     let place = slice_index (scan_order kind.alternate) c.args.i in
     rw (simp to_z-of_z at c.put_coefficient.ensures.value)
-    (one_put levels kind c.args.i c.args.out.now c.args.parity place (saturated_of kind place (get_or levels c.args.i (pos 0))) c.put_coefficient.result
-    len c.told-out c.requires.i c.put_coefficient.ensures.within refl refl (simp to_z-of_z at c.put_coefficient.ensures.parity) c.requires.before)
+    (one_put levels kind c.args.i c.args.out.now c.args.told place (saturated_of kind place (get_or levels c.args.i (pos 0))) c.put_coefficient.result
+    len c.told-out c.requires.i c.put_coefficient.ensures.within refl refl (simp to_z-of_z at c.put_coefficient.ensures.parity) c.put_coefficient.ensures.row c.put_coefficient.ensures.rows c.requires.before)

@@ -17,10 +17,10 @@ loop-i-init c =
     let v = c.args.first in
     let place = slice_index (scan_order kind.alternate) 0 in
     let fits = c.ranges.first in
-    rw (to_z-of_z w32 v fits, simp to_z-of_z at c.put_coefficient-parity.ensures.value, c.requires.zeros)
-    (level_set (replicate 64 (pos 0)) kind 0 v (replicate 64 (pos 0)) 0 place (saturated_of kind place v) c.put_coefficient-parity.result
-    (length-replicate 64 (pos 0)) (length-replicate 64 (pos 0)) (omega arith) c.put_coefficient-parity.ensures.within refl (zeros_at 64 0) refl
-    (simp to_z-of_z at c.put_coefficient-parity.ensures.parity) (none_saturated kind))
+    rw (to_z-of_z w32 v fits, simp to_z-of_z at c.put_coefficient-told.ensures.value, c.requires.zeros)
+    (level_set (replicate 64 (pos 0)) kind 0 v (replicate 64 (pos 0)) (record { parity = 0; rows = 0 }) place (saturated_of kind place v) c.put_coefficient-told.result
+    (length-replicate 64 (pos 0)) (length-replicate 64 (pos 0)) (omega arith) c.put_coefficient-told.ensures.within refl (zeros_at 64 0) refl
+    (simp to_z-of_z at c.put_coefficient-told.ensures.parity) c.put_coefficient-told.ensures.row c.put_coefficient-told.ensures.rows (none_saturated kind))
 
 pub loop-i-preserved : goal.loop-i-preserved
 loop-i-preserved c =
@@ -34,6 +34,6 @@ loop-i-preserved c =
     let fits = c.ranges.first in
     let len : length c.loop-i.out ≡ 64 = search rules in
     let before = simp to_z-of_z at c.loop-i.invariant in
-    simp to_z-of_z (rw (c.put_kept-parity.ensures.value, spread_more c.args.first later i)
-    (level_set levels kind x.position x.level c.loop-i.out c.loop-i.parity place (saturated_of kind place x.level) c.put_kept-parity.result
-    (length_spread c.args.first later i) len kept.inside c.put_kept-parity.ensures.within refl kept.free refl c.put_kept-parity.ensures.parity before))
+    simp to_z-of_z (rw (c.put_kept-told.ensures.value, spread_more c.args.first later i)
+    (level_set levels kind x.position x.level c.loop-i.out c.loop-i.told place (saturated_of kind place x.level) c.put_kept-told.result
+    (length_spread c.args.first later i) len kept.inside c.put_kept-told.ensures.within refl kept.free refl c.put_kept-told.ensures.parity c.put_kept-told.ensures.row c.put_kept-told.ensures.rows before))

@@ -7,4 +7,4 @@ pub returns : goal.returns
 returns c =
     let fits = c.ranges.first in
     let all = all_saturated (spread c.args.first c.args.later.now c.args.count) c.args.kind.now c.put_by_kind.new.out c.put_by_kind.result c.put_by_kind.array_long (simp to_z-of_z at c.put_by_kind.ensures) in
-    record { value = all.0; parity = all.1; within = all.2 }
+    record { value = all.0; parity = all.1; rows = c.put_by_kind.ensures.rows; within = all.2 }
