@@ -10,7 +10,7 @@ use Rattle.m2v_idct.specs.Ranges.{IsInRows}
 use Rattle.std.proofs.lemmas.Nat.{and_le_l, le_or_l, le_or_r}
 use Rattle.m2v_idct.specs.Block.{at}
 use Rattle.m2v_idct.specs.Inverse.{after_rows, row}
-use Rattle.m2v_idct.proofs.Rows.{row_flat, row_listed}
+use Rattle.m2v_idct.proofs.Rows.{row_flat}
 
 -- eight numbers by their places
 pub listed_at : (g : ℕ → ℤ) (k : ℕ) → k < 8 → get_or (g 0 ∷ g 1 ∷ g 2 ∷ g 3 ∷ g 4 ∷ g 5 ∷ g 6 ∷ g 7 ∷ []) k (pos 0) ≡ g k

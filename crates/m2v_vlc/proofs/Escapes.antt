@@ -1,5 +1,5 @@
 -- The escape, of six bits in each table of coefficients.
-use Rattle.std.proofs.Common.{◌≡◌, ℕ, ◌-◌, ◌/◌, ◌^◌, ◌≤◌, Bool, true, List, length, drop, inl, inr, refl, sym, ap, ◌∙◌, arith}
+use Rattle.std.proofs.Common.{◌≡◌, ◌-◌, ◌/◌, ◌^◌, ◌≤◌, Bool, true, List, length, drop, inl, inr, refl, sym, ap, ◌∙◌, arith}
 use Rattle.m2v_bits.specs.Bits.{number, ahead}
 use Rattle.m2v_bits.proofs.Cursor.{ahead_take}
 use Rattle.m2v_bits.proofs.SyntaxLaws.{good}

@@ -1,9 +1,9 @@
-use Rattle.std.proofs.Common.{arith, rules, ap, sym, ◌∙◌, ◌≡◌, ◌≤◌, ◌+◌, ◌/◌, ◌%◌, refl, length, drop, true, subst}
+use Rattle.std.proofs.Common.{arith, rules, ap, sym, ◌∙◌, ◌≤◌, ◌/◌, ◌%◌, refl, length}
 use Rattle.std.proofs.lemmas.Int.{to_z-of_z}
 use mir.Syntax.{w32}
 use mir.Val.{SFits}
 use Rattle.m2v_bits.specs.Bits.{Unread}
-use Rattle.m2v_block.specs.Blocks.{Scan, is_allowed}
+use Rattle.m2v_block.specs.Blocks.{Scan}
 use Rattle.m2v_block.proofs.Looks.{escape_look}
 use Rattle.m2v_block.proofs.Escapes.{escape_read}
 use Rattle.m2v_block.proofs.escape.quick_escape.Goals as goal

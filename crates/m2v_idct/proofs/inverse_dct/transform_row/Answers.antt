@@ -1,4 +1,4 @@
-use Rattle.std.proofs.Common.{◌∙◌, ap, get_or, refl, pos}
+use Rattle.std.proofs.Common.{◌∙◌, ap, get_or, pos}
 use Rattle.m2v_idct.specs.Block.{at}
 use Rattle.m2v_idct.specs.Inverse.{after_rows}
 use Rattle.m2v_idct.specs.Ranges.{Within}

@@ -1,5 +1,4 @@
-use Rattle.std.proofs.Common.{◌∙◌, ◌≡◌, ◌%◌, arith, w32, of_z}
-use Rattle.std.specs.Prelude.{unsigned_abs}
+use Rattle.std.proofs.Common.{◌∙◌, arith}
 use Rattle.std.proofs.lemmas.Int.{to_z-of_z}
 use Rattle.m2v_quant.proofs.Reconstruction.{bits_parity, mixed_parity}
 use Rattle.m2v_quant.proofs.inverse.parity_with.Goals as goal

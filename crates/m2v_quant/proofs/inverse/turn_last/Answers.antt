@@ -1,4 +1,4 @@
-use Rattle.std.proofs.Common.{get_or, pos, rules, sym, ap, ◌∙◌, set}
+use Rattle.std.proofs.Common.{get_or, pos, rules, ap, ◌∙◌, set}
 use Rattle.std.proofs.lemmas.Int.{to_z-of_z}
 use Rattle.std.proofs.lemmas.List.Elements.{All-set}
 use mir.Syntax.{w32}
