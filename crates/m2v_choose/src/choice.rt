@@ -15,8 +15,9 @@ ghost use Rattle.m2v_choose.specs.Trials.{References, decided, references_of, Is
 use crate::coding::intra_syntax;
 use crate::motion::plain_form;
 use crate::predictions::{moving_syntax, predict_moving};
+use crate::scratch::ChoiceScratch;
 use crate::task::{Task, task_of};
-use crate::trial::{Best, no_levels};
+use crate::trial::{Best, no_levels, no_prediction};
 use crate::values::{Choice, Limits};
 use crate::vectors::{FieldVector, Vectors, no_vector, place_of};
 use m2v_macro::{PictureContext, SliceState};
@@ -70,14 +71,13 @@ fn hold_intra(task: &Task) -> Best
         → candidate_of result.choice ≡ hold_of (decided r task.now) }
     ensures rated { (r : References) → IsRated (decided r task.now) result }
 {
-    let none = Block16 { at: [0; 384] };
     let syntax = intra_syntax(task, task.state.quantiser, false);
     let levels = held_levels(task);
-    Best::held(task, &syntax, &levels, &none)
+    Best::held(task, &syntax, &levels, no_prediction())
 }
 
 /// The macroblock as it is held in a P or B picture: by vector zero, forward or backward.
-fn hold_still<V: RefView>(task: &Task, forward: &V, backward: &V) -> Best
+fn hold_still<V: RefView>(task: &Task, forward: &V, backward: &V, prediction: &mut Block16) -> Best
     requires task { IsTask task.now }
     requires kind { (task.now.context.now.kind ≡ 2) ⊎ (task.now.context.now.kind ≡ 3) }
     requires references { AreReferences task.now.context.now.kind (place_for task.now)
@@ -94,13 +94,12 @@ fn hold_still<V: RefView>(task: &Task, forward: &V, backward: &V) -> Best
     let kind = task.context.kind;
     let form = plain_form(task.context);
     let m = moving_syntax(task, form, kind == 2, kind == 3, &still, &still);
-    let mut prediction = Block16 { at: [0; 384] };
-    predict_moving(task, forward, backward, &m, &mut prediction);
-    Best::held(task, &m, &no_levels(), &prediction)
+    predict_moving(task, forward, backward, &m, prediction);
+    Best::held(task, &m, no_levels(), prediction)
 }
 
 /// The macroblock as it is held: the first candidate.
-fn hold<V: RefView>(task: &Task, forward: &V, backward: &V) -> Best
+fn hold<V: RefView>(task: &Task, forward: &V, backward: &V, prediction: &mut Block16) -> Best
     requires task { IsTask task.now }
     requires references { AreReferences task.now.context.now.kind (place_for task.now)
         (V.size forward.now) (V.size backward.now)
@@ -115,7 +114,7 @@ fn hold<V: RefView>(task: &Task, forward: &V, backward: &V) -> Best
     if task.context.kind == 1 {
         return hold_intra(task);
     }
-    hold_still(task, forward, backward)
+    hold_still(task, forward, backward, prediction)
 }
 
 /// Whether the macroblock may be skipped: it is neither the first nor the last one of its slice, and in a B picture not
@@ -146,7 +145,13 @@ fn may_skip<V: RefView>(task: &Task, forward: &V, mode: &Mode) -> bool
 
 impl Best {
     /// Tries to skip the macroblock, where it may be skipped.
-    fn try_skip<V: RefView>(&mut self, task: &Task, forward: &V, backward: &V)
+    fn try_skip<V: RefView>(
+        &mut self,
+        task: &Task,
+        forward: &V,
+        backward: &V,
+        prediction: &mut Block16,
+    )
         requires task { IsTask task.now }
         requires direction { HasDirection task.now.context.now task.now.state.now
             task.now.limits.now }
@@ -162,14 +167,18 @@ impl Best {
         if !may_skip(task, forward, &mode) {
             return;
         }
-        let mut prediction = Block16 { at: [0; 384] };
-        predict(forward, backward, &mode, place_of(task), &mut prediction);
-        self.try_skipped(task, &prediction);
+        predict(forward, backward, &mode, place_of(task), prediction);
+        self.try_skipped(task, prediction);
     }
 }
 
 /// What is chosen of a macroblock: of the candidates that are short enough, the first of least score.
-fn choose_for<V: RefView>(task: &Task, forward: &V, backward: &V) -> Choice
+fn choose_for<V: RefView>(
+    task: &Task,
+    forward: &V,
+    backward: &V,
+    scratch: &mut ChoiceScratch,
+) -> Choice
     requires task { IsTask task.now }
     requires direction { HasDirection task.now.context.now task.now.state.now task.now.limits.now }
     requires references { AreReferences task.now.context.now.kind (place_for task.now)
@@ -182,10 +191,10 @@ fn choose_for<V: RefView>(task: &Task, forward: &V, backward: &V) -> Choice
         (references_of (V.size forward.now) (V.at forward.now) (V.at backward.now)) task.now in
         result.bits ≡ bits_taken d (choice_of d) }
 {
-    let mut best = hold(task, forward, backward);
-    best.try_skip(task, forward, backward);
-    best.try_intra(task);
-    best.try_predictions(task, forward, backward);
+    let mut best = hold(task, forward, backward, &mut scratch.trial.prediction);
+    best.try_skip(task, forward, backward, &mut scratch.trial.prediction);
+    best.try_intra(task, &mut scratch.trial.coding);
+    best.try_predictions(task, forward, backward, scratch);
     best.choice
 }
 
@@ -226,6 +235,53 @@ pub fn choose<V: RefView>(
     ensures most { result.bits ≤ 4608 }
     ensures fits { result.bits ≤ limits.now.room }
 {
+    let mut scratch = ChoiceScratch::new();
+    choose_in(
+        source,
+        forward,
+        backward,
+        context,
+        state,
+        limits,
+        &mut scratch,
+    )
+}
+
+/// What `choose` chooses, in room that is lent: whatever stands in it before.
+pub fn choose_in<V: RefView>(
+    source: &Block16,
+    forward: &V,
+    backward: &V,
+    context: &PictureContext,
+    state: &SliceState,
+    limits: &Limits,
+    scratch: &mut ChoiceScratch,
+) -> Choice
+    requires own { IsOwn context.now }
+    requires state { IsOwnState state.now }
+    requires dc { AreDc 0 state.now.dc }
+    requires direction { HasDirection context.now state.now limits.now }
+    requires address { IsBefore context.now state.now limits.now }
+    requires limits { AreLimits limits.now }
+    requires row { limits.now.row < 72 }
+    requires column { limits.now.column < context.now.columns }
+    requires forward { context.now.kind ≢ 1
+        → IsRead (V.size forward.now) (V.Holds forward.now) (place_at context.now limits.now) }
+    requires backward { context.now.kind ≡ 3
+        → IsRead (V.size backward.now) (V.Holds backward.now) (place_at context.now limits.now) }
+    requires sizes { context.now.kind ≡ 3 → V.size backward.now ≡ V.size forward.now }
+    requires room { let d = decision (V.size forward.now) source.now.at (V.at forward.now)
+        (V.at backward.now) context.now state.now limits.now in
+        bits_taken d (hold_of d) ≤ limits.now.room }
+    ensures value { candidate_of result
+        ≡ choice_of (decision (V.size forward.now) source.now.at (V.at forward.now)
+        (V.at backward.now) context.now state.now limits.now) }
+    ensures bits { let d = decision (V.size forward.now) source.now.at (V.at forward.now)
+        (V.at backward.now) context.now state.now limits.now in
+        result.bits ≡ bits_taken d (choice_of d) }
+    ensures most { result.bits ≤ 4608 }
+    ensures fits { result.bits ≤ limits.now.room }
+{
     let task = task_of(source, context, state, limits);
-    choose_for(&task, forward, backward)
+    choose_for(&task, forward, backward, scratch)
 }

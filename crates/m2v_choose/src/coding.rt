@@ -9,12 +9,31 @@ ghost use Rattle.m2v_choose.specs.Own.{IsCode};
 ghost use Rattle.m2v_choose.specs.Trials.{References, decided, IsTask, IsRated, Tried, CanCode, has_types, sends_code, with_blocks as with_blocks_of, transforms_of};
 
 use crate::blocks::{pattern_of, quantise_blocks, transform};
+use crate::scratch::CodingScratch;
 use crate::task::Task;
-use crate::trial::{Best, no_levels};
+use crate::trial::Best;
 use m2v_macro::{MacroSyntax, PictureContext};
 use m2v_macroblock::kinds;
 use m2v_pred::Block16;
 use m2v_quant::Levels;
+
+/// A macroblock that has a prediction, before its blocks: its elements, and the samples of its prediction.
+#[derive(Clone, Copy)]
+pub struct Uncoded<'a> {
+    /// Its elements without blocks.
+    pub bare: &'a MacroSyntax,
+    /// The samples of its prediction.
+    pub prediction: &'a Block16,
+}
+
+/// The transforms of the six blocks: by DCT type 0, and by DCT type 1 where the picture has it.
+#[derive(Clone, Copy)]
+pub struct Transforms<'a> {
+    /// Those by DCT type 0.
+    pub frame: &'a [[i32; 64]; 6],
+    /// Those by DCT type 1.
+    pub field: &'a [[i32; 64]; 6],
+}
 
 /// Whether dct_type stands in the picture.
 #[inline(always)]
@@ -96,10 +115,10 @@ pub fn intra_syntax(task: &Task, q: u8, dct_field: bool) -> MacroSyntax
 /// The transforms by DCT type 1, where the picture has it.
 #[inline(always)]
 pub fn transform_fields(task: &Task, prediction: &Block16, out: &mut [[i32; 64]; 6])
-    requires coefficients { All (All IsCoefficient) out.old }
     ensures value { has_types task.now.context.now ≡ true
         → out.new ≡ transforms_of task.now.source.now.at prediction.now.at true }
-    ensures coefficients { All (All IsCoefficient) out.new }
+    ensures coefficients { has_types task.now.context.now ≡ true
+        → All (All IsCoefficient) out.new }
 {
     if has_dct_type(task.context) {
         transform(task.source, prediction, true, out);
@@ -111,8 +130,7 @@ impl Best {
     fn try_coding(
         &mut self,
         task: &Task,
-        bare: &MacroSyntax,
-        prediction: &Block16,
+        plain: &Uncoded,
         transforms: &[[i32; 64]; 6],
         q: u8,
         dct_field: bool,
@@ -121,12 +139,13 @@ impl Best {
         requires task { IsTask task.now }
         requires q { IsCode q }
         requires dct { dct_field ≡ true → has_types task.now.context.now ≡ true }
-        requires bare { CanCode task.now bare.now }
+        requires bare { CanCode task.now plain.now.bare.now }
         requires coefficients { All (All IsCoefficient) transforms.now }
         ensures tried { (r : References) (p : Prediction)
-            → bare.now ≡ uncoded_syntax (decided r task.now) p
-            → prediction.now.at ≡ samples_by (decided r task.now) p
-            → transforms.now ≡ transforms_of task.now.source.now.at prediction.now.at dct_field
+            → plain.now.bare.now ≡ uncoded_syntax (decided r task.now) p
+            → plain.now.prediction.now.at ≡ samples_by (decided r task.now) p
+            → transforms.now
+            ≡ transforms_of task.now.source.now.at plain.now.prediction.now.at dct_field
             → IsRated (decided r task.now) self.old
             → Tried (decided r task.now) self.old self.new
             (filter has_block (coded_by (decided r task.now) p
@@ -138,65 +157,68 @@ impl Best {
         if pattern == 0 {
             return;
         }
-        let syntax = with_blocks(bare, sends(task, q), q, dct_field, pattern);
-        self.try_written(task, &syntax, room, prediction);
+        let syntax = with_blocks(plain.bare, sends(task, q), q, dct_field, pattern);
+        self.try_written(task, &syntax, room, plain.prediction);
     }
 
     /// Tries a prediction by a quantiser, with both DCT types where the picture has them.
     fn try_codings_at(
         &mut self,
         task: &Task,
-        bare: &MacroSyntax,
-        prediction: &Block16,
-        frame: &[[i32; 64]; 6],
-        field: &[[i32; 64]; 6],
+        plain: &Uncoded,
+        transforms: &Transforms,
         q: u8,
         room: &mut [Levels; 6],
     )
         requires task { IsTask task.now }
         requires q { IsCode q }
-        requires bare { CanCode task.now bare.now }
-        requires frame { All (All IsCoefficient) frame.now }
-        requires field { All (All IsCoefficient) field.now }
+        requires bare { CanCode task.now plain.now.bare.now }
+        requires frame { All (All IsCoefficient) transforms.now.frame.now }
+        requires field { has_types task.now.context.now ≡ true
+            → All (All IsCoefficient) transforms.now.field.now }
         ensures tried { (r : References) (p : Prediction)
-            → bare.now ≡ uncoded_syntax (decided r task.now) p
-            → prediction.now.at ≡ samples_by (decided r task.now) p
-            → frame.now ≡ transforms_of task.now.source.now.at prediction.now.at false
-            → (has_types task.now.context.now ≡ true
-            → field.now ≡ transforms_of task.now.source.now.at prediction.now.at true)
+            → plain.now.bare.now ≡ uncoded_syntax (decided r task.now) p
+            → plain.now.prediction.now.at ≡ samples_by (decided r task.now) p
+            → transforms.now.frame.now
+            ≡ transforms_of task.now.source.now.at plain.now.prediction.now.at false
+            → (has_types task.now.context.now ≡ true → transforms.now.field.now
+            ≡ transforms_of task.now.source.now.at plain.now.prediction.now.at true)
             → IsRated (decided r task.now) self.old
             → Tried (decided r task.now) self.old self.new
             (filter has_block (map (coded_by (decided r task.now) p)
             (codings_at (decided r task.now) q))) }
     {
-        self.try_coding(task, bare, prediction, frame, q, false, room);
+        self.try_coding(task, plain, transforms.frame, q, false, room);
         if has_dct_type(task.context) {
-            self.try_coding(task, bare, prediction, field, q, true, room);
+            self.try_coding(task, plain, transforms.field, q, true, room);
         }
     }
 
     /// Tries all codings of a prediction, in order.
-    pub fn try_codings(&mut self, task: &Task, bare: &MacroSyntax, prediction: &Block16)
+    pub fn try_codings(&mut self, task: &Task, plain: &Uncoded, scratch: &mut CodingScratch)
         requires task { IsTask task.now }
-        requires bare { CanCode task.now bare.now }
+        requires bare { CanCode task.now plain.now.bare.now }
         ensures tried { (r : References) (p : Prediction)
-            → bare.now ≡ uncoded_syntax (decided r task.now) p
-            → prediction.now.at ≡ samples_by (decided r task.now) p
+            → plain.now.bare.now ≡ uncoded_syntax (decided r task.now) p
+            → plain.now.prediction.now.at ≡ samples_by (decided r task.now) p
             → IsRated (decided r task.now) self.old
             → Tried (decided r task.now) self.old self.new
             (filter has_block (map (coded_by (decided r task.now) p)
             (codings (decided r task.now)))) }
     {
-        let mut room = no_levels();
-        let mut frame = [[0; 64]; 6];
-        let mut field = [[0; 64]; 6];
-        transform(task.source, prediction, false, &mut frame);
-        transform_fields(task, prediction, &mut field);
+        let CodingScratch {
+            frame,
+            field,
+            levels,
+        } = scratch;
+        transform(task.source, plain.prediction, false, frame);
+        transform_fields(task, plain.prediction, field);
+        let transforms = Transforms { frame, field };
         let q = task.limits.q;
-        self.try_codings_at(task, bare, prediction, &frame, &field, q, &mut room);
+        self.try_codings_at(task, plain, &transforms, q, levels);
         let second = second_q(q);
         if second != q {
-            self.try_codings_at(task, bare, prediction, &frame, &field, second, &mut room);
+            self.try_codings_at(task, plain, &transforms, second, levels);
         }
     }
 }

@@ -9,7 +9,8 @@ ghost use Rattle.m2v_choose.specs.Decisions.{Prediction, uncoded_syntax, written
 ghost use Rattle.m2v_choose.specs.Candidates.{prediction, predictions_by, samples_by, by_prediction};
 ghost use Rattle.m2v_choose.specs.Trials.{References, decided, references_of, IsTask, IsRead, IsRated, Tried, Predicts, CanCode, CanPredict, CanTry, direction_by, moving_syntax as moving_syntax_of, place_for};
 
-use crate::coding::{sends, with_blocks};
+use crate::coding::{Uncoded, sends, with_blocks};
+use crate::scratch::{CodingScratch, TrialScratch};
 use crate::task::Task;
 use crate::trial::{Best, no_levels};
 use crate::vectors::{FieldVector, Vectors, no_vector, place_of};
@@ -97,7 +98,7 @@ impl Best {
             (cond uncoded (written bare.now no_levels_of ∷ []) []) }
     {
         if uncoded {
-            self.try_written(task, bare, &no_levels(), prediction);
+            self.try_written(task, bare, no_levels(), prediction);
         }
     }
 
@@ -105,22 +106,23 @@ impl Best {
     fn try_predicted(
         &mut self,
         task: &Task,
-        bare: &MacroSyntax,
+        plain: &Uncoded,
         uncoded: bool,
-        prediction: &Block16,
+        scratch: &mut CodingScratch,
     )
         requires task { IsTask task.now }
-        requires code { CanCode task.now bare.now }
-        requires stands { uncoded ≡ true → IsMacro task.now.context.now task.now.first bare.now }
-        requires pattern { bare.now.pattern ≡ 0 }
+        requires code { CanCode task.now plain.now.bare.now }
+        requires stands { uncoded ≡ true
+            → IsMacro task.now.context.now task.now.first plain.now.bare.now }
+        requires pattern { plain.now.bare.now.pattern ≡ 0 }
         ensures tried { (r : References) (p : Prediction)
-            → bare.now ≡ uncoded_syntax (decided r task.now) p → p.uncoded ≡ uncoded
-            → prediction.now.at ≡ samples_by (decided r task.now) p
+            → plain.now.bare.now ≡ uncoded_syntax (decided r task.now) p → p.uncoded ≡ uncoded
+            → plain.now.prediction.now.at ≡ samples_by (decided r task.now) p
             → IsRated (decided r task.now) self.old
             → Tried (decided r task.now) self.old self.new (by_prediction (decided r task.now) p) }
     {
-        self.try_uncoded(task, bare, uncoded, prediction);
-        self.try_codings(task, bare, prediction);
+        self.try_uncoded(task, plain.bare, uncoded, plain.prediction);
+        self.try_codings(task, plain, scratch);
     }
 
     /// Tries a prediction.
@@ -131,6 +133,7 @@ impl Best {
         backward: &V,
         bare: &MacroSyntax,
         uncoded: bool,
+        scratch: &mut TrialScratch,
     )
         requires task { IsTask task.now }
         requires can { CanTry task.now (V.size forward.now) (V.Holds forward.now)
@@ -142,8 +145,9 @@ impl Best {
             bare.now ≡ uncoded_syntax d p → p.uncoded ≡ uncoded → IsRated d self.old
             → Tried d self.old self.new (by_prediction d p) }
     {
-        let mut prediction = Block16 { at: [0; 384] };
-        predict_moving(task, forward, backward, bare, &mut prediction);
-        self.try_predicted(task, bare, uncoded, &prediction);
+        let TrialScratch { prediction, coding } = scratch;
+        predict_moving(task, forward, backward, bare, prediction);
+        let plain = Uncoded { bare, prediction };
+        self.try_predicted(task, &plain, uncoded, coding);
     }
 }

@@ -1,5 +1,5 @@
 //! The best candidate of a macroblock so far, and candidates that are tried against it.
-ghost use Rattle.std.specs.Prelude.{◌≡◌, ℕ, ◌+◌, ◌*◌, ◌^◌, ◌≤◌, ◌<◌, ◌&&◌, nat_le, if◌then◌else◌, [], ◌∷◌, false};
+ghost use Rattle.std.specs.Prelude.{◌≡◌, ℕ, ◌+◌, ◌*◌, ◌^◌, ◌≤◌, ◌<◌, ◌&&◌, nat_le, if◌then◌else◌, [], ◌∷◌, false, replicate};
 ghost use Rattle.m2v_macro.specs.Conditions.{IsMacro};
 ghost use Rattle.m2v_macroblock.specs.Macroblocks.{macroblock_of};
 ghost use Rattle.m2v_macroblock.specs.Modes.{skipped_mode};
@@ -19,12 +19,31 @@ use m2v_pred::Block16;
 use m2v_quant::Levels;
 use m2v_recon::rebuild_block;
 
+static NO_LEVELS: [Levels; 6] = [
+    Levels { at: [0; 64] },
+    Levels { at: [0; 64] },
+    Levels { at: [0; 64] },
+    Levels { at: [0; 64] },
+    Levels { at: [0; 64] },
+    Levels { at: [0; 64] },
+];
+
 /// Six blocks without levels.
-pub fn no_levels() -> [Levels; 6]
-    ensures { levels_of result ≡ no_levels_of }
+#[inline(always)]
+pub fn no_levels() -> &'static [Levels; 6]
+    ensures { levels_of result.now ≡ no_levels_of }
 {
-    let none = Levels { at: [0; 64] };
-    [none, none, none, none, none, none]
+    &NO_LEVELS
+}
+
+static NO_PREDICTION: Block16 = Block16 { at: [0; 384] };
+
+/// The prediction of an intra macroblock: samples 0.
+#[inline(always)]
+pub fn no_prediction() -> &'static Block16
+    ensures { result.now.at ≡ replicate 384 0 }
+{
+    &NO_PREDICTION
 }
 
 /// The best candidate so far.
@@ -172,7 +191,7 @@ impl Best {
         let score = 8 * u64::from(squared(task.source, prediction));
         if score < self.score {
             let syntax = MacroSyntax::blank();
-            self.take(&syntax, &no_levels(), 0, score);
+            self.take(&syntax, no_levels(), 0, score);
             self.choice.skip = true;
         }
     }

@@ -28,6 +28,6 @@ returns c = record {
       c.intra_syntax-syntax.ensures.value c.requires.transforms c.kinds-kinds.ensures.value c.quantise_blocks.ensures.value r c.args.self.now c.try_written.new.self
       (c.try_written.ensures.tried r
       (intra_predicts t c.intra_syntax-syntax.result c.args.transforms.now ls c.args.q c.args.dct_field c.kinds-kinds.result
-      c.intra_syntax-syntax.ensures.value c.requires.transforms c.kinds-kinds.ensures.value c.quantise_blocks.ensures.value r c.args.none.now.at c.requires.none)
+      c.intra_syntax-syntax.ensures.value c.requires.transforms c.kinds-kinds.ensures.value c.quantise_blocks.ensures.value r c.no_prediction.result.now.at c.no_prediction.ensures)
       rated);
 }

@@ -4,12 +4,12 @@ use Rattle.m2v_choose.proofs.trial.Best.try_uncoded.Goals as goal
 
 pub try_written-requires-clause-writable : goal.try_written-requires-clause-writable
 try_written-requires-clause-writable c =
-    uncoded_writable c.args.task.now.context.now c.args.task.now.first c.args.bare.now (levels_of c.no_levels.result) c.requires.pattern c.no_levels.ensures (c.requires.stands c.if-uncoded.true)
+    uncoded_writable c.args.task.now.context.now c.args.task.now.first c.args.bare.now (levels_of c.no_levels.result.now) c.requires.pattern c.no_levels.ensures (c.requires.stands c.if-uncoded.true)
 
 pub returns-then-uncoded : goal.returns-then-uncoded
 returns-then-uncoded c = record {
   tried = λ r predicts rated.
-      uncoded_tried r c.args.task.now c.args.bare.now c.args.self.now c.try_written.new.self c.args.uncoded (levels_of c.no_levels.result) c.if-uncoded.true c.no_levels.ensures
+      uncoded_tried r c.args.task.now c.args.bare.now c.args.self.now c.try_written.new.self c.args.uncoded (levels_of c.no_levels.result.now) c.if-uncoded.true c.no_levels.ensures
       (c.try_written.ensures.tried r predicts rated);
 }
 
