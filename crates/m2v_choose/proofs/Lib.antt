@@ -8,6 +8,7 @@ pub mod Worked
 pub mod Stands
 pub mod Written
 pub mod Sums
+pub mod Leading
 pub mod Tried
 pub mod Coded
 pub mod IntraCoded

@@ -1,5 +1,5 @@
 //! The choice of a macroblock.
-ghost use Rattle.std.specs.Prelude.{◌≡◌, ◌≢◌, ◌≤◌, ◌<◌, ◌⊎◌, true, false, cond, IsTrue, slice_index_or, pos, replicate, [], ◌∷◌};
+ghost use Rattle.std.specs.Prelude.{◌≡◌, ◌≢◌, ◌≤◌, ◌<◌, ◌+◌, ◌⊎◌, true, false, cond, IsTrue, slice_index_or, pos, replicate, [], ◌∷◌};
 ghost use Rattle.m2v_plane.specs.declared.dims.Dims.{Dims};
 ghost use Rattle.m2v_pred.specs.Vectors.{IsInside, IsPlace};
 ghost use Rattle.m2v_recon.specs.Steps.{levels_of};
@@ -8,7 +8,7 @@ ghost use Rattle.m2v_macroblock.specs.Predictions.{View};
 ghost use Rattle.m2v_macroblock.specs.Conditions.{AreDc};
 ghost use Rattle.m2v_choose.specs.Decisions.{Decision, skipped, increment_of};
 ghost use Rattle.m2v_choose.specs.Candidates.{still_vector as still_vector_of, held_levels as held_levels_of, hold as hold_of, may_skip as may_skip_of};
-ghost use Rattle.m2v_choose.specs.Choice.{bits_taken, choice_of};
+ghost use Rattle.m2v_choose.specs.Choice.{bits_taken, choice_of, score};
 ghost use Rattle.m2v_choose.specs.Own.{IsOwn, IsOwnState, AreLimits};
 ghost use Rattle.m2v_choose.specs.Trials.{References, decided, references_of, IsTask, IsRead, IsRated, Tried, AreReferences, IsBefore, HasDirection, decision, place_at, candidate_of, direction_by, place_for};
 
@@ -70,6 +70,8 @@ fn hold_intra(task: &Task) -> Best
     ensures candidate { (r : References)
         → candidate_of result.choice ≡ hold_of (decided r task.now) }
     ensures rated { (r : References) → IsRated (decided r task.now) result }
+    ensures score { (r : References) → result.below
+        ≡ score (decided r task.now) (candidate_of result.choice) }
 {
     let syntax = intra_syntax(task, task.state.quantiser, false);
     let levels = held_levels(task);
@@ -89,6 +91,9 @@ fn hold_still<V: RefView>(task: &Task, forward: &V, backward: &V, prediction: &m
     ensures rated { IsRated (decided
         (references_of (V.size forward.now) (V.at forward.now) (V.at backward.now)) task.now)
         result }
+    ensures score { result.below ≡ score (decided
+        (references_of (V.size forward.now) (V.at forward.now) (V.at backward.now)) task.now)
+        (candidate_of result.choice) }
 {
     let still = still_vector(task.context);
     let kind = task.context.kind;
@@ -110,6 +115,9 @@ fn hold<V: RefView>(task: &Task, forward: &V, backward: &V, prediction: &mut Blo
     ensures rated { IsRated (decided
         (references_of (V.size forward.now) (V.at forward.now) (V.at backward.now)) task.now)
         result }
+    ensures score { result.below ≡ score (decided
+        (references_of (V.size forward.now) (V.at forward.now) (V.at backward.now)) task.now)
+        (candidate_of result.choice) }
 {
     if task.context.kind == 1 {
         return hold_intra(task);
@@ -172,7 +180,20 @@ impl Best {
     }
 }
 
-/// What is chosen of a macroblock: of the candidates that are short enough, the first of least score.
+/// Below what a candidate must score to be taken in the place of one that comes before it, and of one that comes behind it
+/// and wins no tie.
+#[inline(always)]
+fn limit_of(before: u64, behind: u64) -> u64
+    ensures most { result ≤ before }
+    ensures near { result ≤ behind + 1 }
+    ensures one { (result ≡ before) ⊎ (result ≡ behind + 1) }
+{
+    if behind < before { behind + 1 } else { before }
+}
+
+/// What is chosen of a macroblock: of the candidates that are short enough, the first of least score. Predictions by
+/// vectors are tried first, though they come last: intra macroblocks and the type without a direction, which seldom score
+/// less, are then looked at only as far as they score no more.
 fn choose_for<V: RefView>(
     task: &Task,
     forward: &V,
@@ -193,9 +214,16 @@ fn choose_for<V: RefView>(
 {
     let mut best = hold(task, forward, backward, &mut scratch.trial.prediction);
     best.try_skip(task, forward, backward, &mut scratch.trial.prediction);
+    let mut later = best;
+    later.try_later(task, forward, backward, scratch);
+    let limit = limit_of(best.below, later.below);
+    best.below = limit;
     best.try_intra(task, &mut scratch.trial.coding);
-    best.try_predictions(task, forward, backward, scratch);
-    best.choice
+    best.try_zero(task, forward, backward, &mut scratch.trial);
+    if best.below < limit {
+        return best.choice;
+    }
+    later.choice
 }
 
 /// What is chosen of a macroblock (clauses 6.2.5 and 6.3.17): of all candidates that have at most 4,608 bits and at most the

@@ -1,10 +1,10 @@
 //! The predictions that a macroblock has, by its picture: what is searched, and in which directions.
-ghost use Rattle.std.specs.Prelude.{◌≡◌, ◌≢◌, Bool, ◌||◌, ◌⊎◌, true, false, cond, nat_eq, [], ◌∷◌};
+ghost use Rattle.std.specs.Prelude.{◌≡◌, ◌≢◌, Bool, ◌||◌, ◌⊎◌, true, false, cond, []};
 ghost use Rattle.std.specs.List.{flat_map};
 ghost use Rattle.m2v_macro.specs.declared.values.Direction.{Direction};
 ghost use Rattle.m2v_choose.specs.Decisions.{has_dct_type as has_dct_type_of};
-ghost use Rattle.m2v_choose.specs.Candidates.{plain_form as plain_form_of, plain_direction as plain_direction_of, field_direction as field_direction_of, prediction, predictions_by, zero_prediction, predictions, by_prediction};
-ghost use Rattle.m2v_choose.specs.Trials.{References, decided, references_of, IsTask, IsRead, IsRated, Tried, CanTry, Goes, AreReferences, direction_by, moving_syntax as moving_syntax_of, place_for};
+ghost use Rattle.m2v_choose.specs.Candidates.{plain_form as plain_form_of, plain_direction as plain_direction_of, field_direction as field_direction_of, prediction, predictions_by, by_prediction};
+ghost use Rattle.m2v_choose.specs.Trials.{References, decided, references_of, IsTask, IsRead, IsRated, Tried, CanTry, Goes, zero_predictions, later_predictions, AreReferences, direction_by, moving_syntax as moving_syntax_of, place_for};
 
 use crate::coding::{has_dct_type, no_form};
 use crate::predictions::moving_syntax;
@@ -166,7 +166,7 @@ impl Best {
     }
 
     /// Tries the type without a direction, in a P picture.
-    fn try_zero<V: RefView>(
+    pub fn try_zero<V: RefView>(
         &mut self,
         task: &Task,
         forward: &V,
@@ -180,8 +180,7 @@ impl Best {
         ensures tried { let d = decided
             (references_of (V.size forward.now) (V.at forward.now) (V.at backward.now)) task.now in
             IsRated d self.old → Tried d self.old self.new
-            (flat_map (by_prediction d)
-            (cond (nat_eq task.now.context.now.kind 2) (zero_prediction d ∷ []) [])) }
+            (flat_map (by_prediction d) (zero_predictions d)) }
     {
         if task.context.kind == 2 {
             let none = no_vectors();
@@ -256,8 +255,8 @@ impl Best {
         }
     }
 
-    /// Tries all predictions of the picture, in order.
-    pub fn try_predictions<V: RefView>(
+    /// Tries all predictions of the picture but the type without a direction, in order.
+    pub fn try_later<V: RefView>(
         &mut self,
         task: &Task,
         forward: &V,
@@ -271,12 +270,11 @@ impl Best {
         ensures tried { let d = decided
             (references_of (V.size forward.now) (V.at forward.now) (V.at backward.now)) task.now in
             IsRated d self.old → Tried d self.old self.new
-            (flat_map (by_prediction d) (predictions d)) }
+            (flat_map (by_prediction d) (later_predictions d)) }
     {
         if task.context.kind == 1 {
             return;
         }
-        self.try_zero(task, forward, backward, &mut scratch.trial);
         self.try_plain(task, forward, backward, scratch);
         self.try_fields(task, forward, backward, scratch);
     }

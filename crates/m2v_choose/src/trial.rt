@@ -6,7 +6,7 @@ ghost use Rattle.m2v_macroblock.specs.Modes.{skipped_mode};
 ghost use Rattle.m2v_recon.specs.Steps.{levels_of};
 ghost use Rattle.m2v_pred.specs.Predicted.{predicted, block_by};
 ghost use Rattle.m2v_choose.specs.Decisions.{place_of, skipped, written, no_levels as no_levels_of};
-ghost use Rattle.m2v_choose.specs.Choice.{squared as squared_of, bits_taken};
+ghost use Rattle.m2v_choose.specs.Choice.{squared as squared_of, bits_taken, score};
 ghost use Rattle.m2v_choose.specs.Laws.{IsWritable};
 ghost use Rattle.m2v_choose.specs.Trials.{decided, References, IsTask, IsRated, Tried, Predicts, candidate_of, rebuilt_by};
 
@@ -51,8 +51,8 @@ pub fn no_prediction() -> &'static Block16
 pub struct Best {
     /// What is chosen with it.
     pub choice: Choice,
-    /// Its score.
-    pub score: u64,
+    /// Below what another one must score to be taken in its place: its score, or a lower limit.
+    pub below: u64,
 }
 
 /// What bits cost in a score.
@@ -138,13 +138,13 @@ impl Best {
         ensures syntax { self.new.choice.syntax ≡ syntax.now }
         ensures levels { self.new.choice.levels ≡ levels.now }
         ensures bits { self.new.choice.bits ≡ bits }
-        ensures score { self.new.score ≡ score }
+        ensures below { self.new.below ≡ score }
     {
         self.choice.skip = false;
         self.choice.syntax = *syntax;
         self.choice.levels = *levels;
         self.choice.bits = bits;
-        self.score = score;
+        self.below = score;
     }
 
     /// Tries a written candidate, whose prediction has these samples.
@@ -169,11 +169,11 @@ impl Best {
             return;
         }
         let cost = bit_cost(task.limits, bits);
-        if cost >= self.score {
+        if cost >= self.below {
             return;
         }
         let score = 8 * u64::from(rebuilt_squares(task, syntax, levels, prediction)) + cost;
-        if score < self.score {
+        if score < self.below {
             self.take(syntax, levels, bits, score);
         }
     }
@@ -189,7 +189,7 @@ impl Best {
             → Tried (decided r task.now) self.old self.new (skipped ∷ []) }
     {
         let score = 8 * u64::from(squared(task.source, prediction));
-        if score < self.score {
+        if score < self.below {
             let syntax = MacroSyntax::blank();
             self.take(&syntax, no_levels(), 0, score);
             self.choice.skip = true;
@@ -211,6 +211,8 @@ impl Best {
             ≡ written syntax.now (levels_of levels.now) }
         ensures rated { (r : References) → Predicts r task.now syntax.now prediction.now.at
             → IsRated (decided r task.now) result }
+        ensures score { (r : References) → Predicts r task.now syntax.now prediction.now.at
+            → result.below ≡ score (decided r task.now) (candidate_of result.choice) }
     {
         let bits = bits_of(task, syntax, levels);
         let squares = rebuilt_squares(task, syntax, levels, prediction);
@@ -221,7 +223,7 @@ impl Best {
                 levels: *levels,
                 bits,
             },
-            score: 8 * u64::from(squares) + bit_cost(task.limits, bits),
+            below: 8 * u64::from(squares) + bit_cost(task.limits, bits),
         }
     }
 }

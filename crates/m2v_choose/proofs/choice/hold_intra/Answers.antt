@@ -16,3 +16,8 @@ pub returns-clause-rated : goal.returns-clause-rated
 returns-clause-rated c = λ r.
     c.held.ensures.rated r
     (held_predicts c.args.task.now c.intra_syntax-syntax.result (levels_of c.held_levels-levels.result) c.requires.task c.intra_syntax-syntax.ensures.value c.held_levels-levels.ensures.value r c.no_prediction.result.now.at c.no_prediction.ensures)
+
+pub returns-clause-score : goal.returns-clause-score
+returns-clause-score c = λ r.
+    c.held.ensures.score r
+    (held_predicts c.args.task.now c.intra_syntax-syntax.result (levels_of c.held_levels-levels.result) c.requires.task c.intra_syntax-syntax.ensures.value c.held_levels-levels.ensures.value r c.no_prediction.result.now.at c.no_prediction.ensures)

@@ -40,3 +40,8 @@ pub returns-clause-rated : goal.returns-clause-rated
 returns-clause-rated g c =
     let r = references_of (g.V.RefView.size c.args.forward.now) (g.V.RefView.at c.args.forward.now) (g.V.RefView.at c.args.backward.now) in
     c.held.ensures.rated r c.predict_moving.ensures
+
+pub returns-clause-score : goal.returns-clause-score
+returns-clause-score g c =
+    let r = references_of (g.V.RefView.size c.args.forward.now) (g.V.RefView.at c.args.forward.now) (g.V.RefView.at c.args.backward.now) in
+    c.held.ensures.score r c.predict_moving.ensures

@@ -38,10 +38,10 @@ returns-then-score-self c = record {
       let new = c.take.new.self in
       let same : candidate_of new.choice ≡ x =
       λ i. record { skip = c.take.ensures.skip i; macroblock = record { syntax = c.take.ensures.syntax i; levels = levels_of (c.take.ensures.levels i) } } in
-      let whole : new.score ≡ score_of d x = c.take.ensures.score ∙ ap (λ (k : ℕ). 8 * k + c.bit_cost-cost.result) c.from.ensures ∙ score in
+      let whole : new.below ≡ score_of d x = c.take.ensures.below ∙ ap (λ (k : ℕ). 8 * k + c.bit_cost-cost.result) c.from.ensures ∙ score in
       taken d x c.args.self.now rated new same (c.take.ensures.bits ∙ bits) whole
       (sym (fits_is d x c.bits_of-bits.result bits) ∙ sym c.fits.ensures ∙ c.if-not-fits.false)
-      (omega (arith, c.take.ensures.score, c.if-score-self.true));
+      (omega (arith, c.take.ensures.below, c.if-score-self.true));
 }
 
 pub returns-else-score-self : goal.returns-else-score-self
