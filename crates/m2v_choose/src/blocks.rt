@@ -19,7 +19,7 @@ use m2v_quant::{BlockKind, Levels, quantise};
 /// Where a line of a block begins among the samples of its macroblock.
 #[inline(always)]
 #[tactic(auto, unfolding(crate::specs::Decisions::block_place))]
-fn line_place(dct_field: bool, block: usize, line: usize) -> usize
+pub fn line_place(dct_field: bool, block: usize, line: usize) -> usize
     requires block { block < 6 }
     requires line { line < 8 }
     ensures value { (j : ℕ) → j < 8 → block_place dct_field block (8 * line + j) ≡ result + j }

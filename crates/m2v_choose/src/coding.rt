@@ -6,10 +6,11 @@ ghost use Rattle.m2v_macro.specs.Macros.{no_form as no_form_of};
 ghost use Rattle.m2v_choose.specs.Decisions.{Prediction, uncoded_syntax, intra_syntax as intra_syntax_of};
 ghost use Rattle.m2v_choose.specs.Candidates.{second_q as second_q_of, codings_at, codings, samples_by, coded_by, has_block, intra_by};
 ghost use Rattle.m2v_choose.specs.Own.{IsCode};
-ghost use Rattle.m2v_choose.specs.Trials.{References, decided, IsTask, IsRated, Tried, CanCode, has_types, sends_code, with_blocks as with_blocks_of, transforms_of};
+ghost use Rattle.m2v_choose.specs.Trials.{References, decided, IsTask, IsRated, Tried, CanCode, has_types, AreSquares, HasSquares, block_squared, uncoded_squared, sends_code, with_blocks as with_blocks_of, transforms_of};
 
 use crate::blocks::{pattern_of, quantise_blocks, transform};
 use crate::scratch::CodingScratch;
+use crate::squares::{part_squares, uncoded_squares};
 use crate::task::Task;
 use crate::trial::Best;
 use m2v_macro::{MacroSyntax, PictureContext};
@@ -24,6 +25,10 @@ pub struct Uncoded<'a> {
     pub bare: &'a MacroSyntax,
     /// The samples of its prediction.
     pub prediction: &'a Block16,
+    /// The squares of its blocks by DCT type 0.
+    pub frame: &'a [u32; 6],
+    /// Those by DCT type 1, where the picture has it.
+    pub field: &'a [u32; 6],
 }
 
 /// The transforms of the six blocks: by DCT type 0, and by DCT type 1 where the picture has it.
@@ -99,6 +104,7 @@ pub fn intra_syntax(task: &Task, q: u8, dct_field: bool) -> MacroSyntax
     ensures value { (r : References)
         → result ≡ intra_syntax_of (decided r task.now) (record { q = q; dct_field = dct_field }) }
     ensures increment { result.increment ≡ task.now.increment }
+    ensures pattern { result.pattern ≡ 63 }
 {
     let send = sends(task, q);
     let mut m = MacroSyntax::blank();
@@ -125,6 +131,32 @@ pub fn transform_fields(task: &Task, prediction: &Block16, out: &mut [[i32; 64];
     }
 }
 
+/// The squares of the blocks of a prediction by DCT type 1, where the picture has it.
+#[inline(always)]
+pub fn field_squares(task: &Task, prediction: &Block16, out: &mut [u32; 6])
+    ensures { has_types task.now.context.now ≡ true
+        → AreSquares true task.now.source.now.at prediction.now.at out.new }
+{
+    if has_dct_type(task.context) {
+        part_squares(task.source, prediction, true, out);
+    }
+}
+
+/// The squares of the blocks of a prediction that have no level.
+#[inline(always)]
+fn still_squares(task: &Task, plain: &Uncoded, dct_field: bool, pattern: u8) -> u32
+    requires squares { HasSquares task.now plain.now }
+    requires dct { dct_field ≡ true → has_types task.now.context.now ≡ true }
+    ensures value { result ≡ uncoded_squared pattern (block_squared dct_field
+        task.now.source.now.at plain.now.prediction.now.at) }
+    ensures most { result ≤ 49939200 }
+{
+    if dct_field {
+        return uncoded_squares(plain.field, pattern);
+    }
+    uncoded_squares(plain.frame, pattern)
+}
+
 impl Best {
     /// Tries a prediction with coded blocks. `room` is for levels.
     fn try_coding(
@@ -140,6 +172,7 @@ impl Best {
         requires q { IsCode q }
         requires dct { dct_field ≡ true → has_types task.now.context.now ≡ true }
         requires bare { CanCode task.now plain.now.bare.now }
+        requires squares { HasSquares task.now plain.now }
         requires coefficients { All (All IsCoefficient) transforms.now }
         ensures tried { (r : References) (p : Prediction)
             → plain.now.bare.now ≡ uncoded_syntax (decided r task.now) p
@@ -158,7 +191,8 @@ impl Best {
             return;
         }
         let syntax = with_blocks(plain.bare, sends(task, q), q, dct_field, pattern);
-        self.try_written(task, &syntax, room, plain.prediction);
+        let still = still_squares(task, plain, dct_field, pattern);
+        self.try_written(task, &syntax, room, plain.prediction, still);
     }
 
     /// Tries a prediction by a quantiser, with both DCT types where the picture has them.
@@ -173,6 +207,7 @@ impl Best {
         requires task { IsTask task.now }
         requires q { IsCode q }
         requires bare { CanCode task.now plain.now.bare.now }
+        requires squares { HasSquares task.now plain.now }
         requires frame { All (All IsCoefficient) transforms.now.frame.now }
         requires field { has_types task.now.context.now ≡ true
             → All (All IsCoefficient) transforms.now.field.now }
@@ -198,6 +233,7 @@ impl Best {
     pub fn try_codings(&mut self, task: &Task, plain: &Uncoded, scratch: &mut CodingScratch)
         requires task { IsTask task.now }
         requires bare { CanCode task.now plain.now.bare.now }
+        requires squares { HasSquares task.now plain.now }
         ensures tried { (r : References) (p : Prediction)
             → plain.now.bare.now ≡ uncoded_syntax (decided r task.now) p
             → plain.now.prediction.now.at ≡ samples_by (decided r task.now) p

@@ -36,7 +36,7 @@ impl Best {
         let kinds = kinds(task.context, true, q);
         quantise_blocks(transforms, &kinds, room);
         let syntax = intra_syntax(task, q, dct_field);
-        self.try_written(task, &syntax, room, no_prediction());
+        self.try_written(task, &syntax, room, no_prediction(), 0);
     }
 
     /// Tries an intra macroblock by a quantiser, with both DCT types where the picture has them.

@@ -7,7 +7,7 @@ use Rattle.m2v_choose.specs.Decisions.{written}
 use Rattle.m2v_macro.specs.declared.values.MacroSyntax.{MacroSyntax}
 use Rattle.m2v_choose.specs.Decisions.{pattern_of}
 use Rattle.m2v_choose.specs.Laws.{IsWritable}
-use Rattle.m2v_choose.specs.Trials.{decided, Tried, with_blocks, sends_code, Predicts}
+use Rattle.m2v_choose.specs.Trials.{decided, Tried, block_squared, uncoded_squared, with_blocks, sends_code, Predicts}
 use Rattle.m2v_choose.proofs.Tried.{own_picture}
 use Rattle.m2v_choose.proofs.Coded.{kinds_flat, coded_writable, kinds_plain, predicts, coding_none, coding_some}
 use Rattle.m2v_choose.proofs.trial.Best.try_coding.Goals as goal
@@ -41,6 +41,12 @@ try_written-requires-clause-writable c =
     subst (λ (x : MacroSyntax). IsWritable t.context.now t.first (record { syntax = x; levels = ls })) (sym same)
     (coded_writable t.context.now t.first m ls c.requires.bare.other c.pattern_of-pattern.ensures.value within
     (c.requires.bare.macro q c.args.dct_field pattern c.requires.q c.requires.dct some c.pattern_of-pattern.ensures.most))
+
+pub try_written-requires-clause-still : goal.try_written-requires-clause-still
+try_written-requires-clause-still c =
+    let s = c.args.task.now.source.now.at in
+    let p = c.args.plain.now.prediction.now.at in
+    c.still_squares-still.ensures.value ∙ ap (λ (x : MacroSyntax). uncoded_squared x.pattern (block_squared x.dct_field s p)) (sym c.with_blocks-syntax.ensures)
 
 pub returns : goal.returns
 returns c = record {
