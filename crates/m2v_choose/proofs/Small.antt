@@ -1,7 +1,8 @@
 -- Blocks that have no level: no coefficient reaches the scale.
-use Rattle.std.proofs.Common.{◌≡◌, ℕ, ◌+◌, ◌*◌, ◌/◌, ◌<◌, ◌≤◌, Bool, true, false, ◌&&◌, List, replicate, refl, ap, sym, ◌∙◌, arith, ℤ, pos, negsuc, neg_ℤ}
-use Rattle.std.specs.Prelude.{nat_eq, nat_lt, min, if◌then◌else◌, slice_index, slice_index_or, unsigned_abs}
-use Rattle.std.proofs.lemmas.Bool.{ltb-true}
+use Rattle.std.proofs.Common.{◌≡◌, inl, inr, ℕ, ◌+◌, ◌*◌, ◌/◌, ◌<◌, ◌≤◌, Bool, true, false, ◌&&◌, List, replicate, refl, ap, sym, ◌∙◌, arith, ℤ, pos, negsuc, neg_ℤ}
+use Rattle.std.specs.Prelude.{bit_or, nat_eq, nat_lt, min, if◌then◌else◌, slice_index, slice_index_or, unsigned_abs}
+use Rattle.std.proofs.lemmas.Bool.{ltb-true, cases_eq, ne_eqb}
+use Rattle.std.proofs.lemmas.Nat.{le_or_l, le_or_r}
 use Rattle.std.proofs.lemmas.List.{get_or-replicate}
 use Rattle.std.proofs.lemmas.List.FromFn.{fill_by_all}
 use Rattle.std.proofs.Math.Nat.{div-eq_of_lt}
@@ -55,3 +56,19 @@ unfolding levels_of
 no_levels_at f kind some other plain e =
     fill_by_all (level_at f kind) (replicate 64 (pos 0)) 64 (pos 0) refl
     (λ i lt. get_or-replicate 64 i (pos 0) (pos 0) lt ∙ sym (small_at f kind i lt some other plain e))
+
+-- sizes that are joined are 0 where each is
+pub or_zero : (a b : ℕ) → nat_eq (bit_or a b) 0 ≡ (nat_eq a 0 && nat_eq b 0)
+or_zero a b =
+    elim (cases_eq a 0) [
+      | inl e ↦
+          elim (cases_eq b 0) [
+            | inl f ↦ ap (λ (n : ℕ). nat_eq (bit_or n b) 0) e ∙ ap (λ (n : ℕ). nat_eq (bit_or 0 n) 0) f ∙ sym (ap (λ (n : ℕ). nat_eq n 0 && nat_eq b 0) e ∙ ap (λ (n : ℕ). nat_eq n 0) f)
+            | inr g ↦
+                ne_eqb (bit_or a b) 0 (λ h. g (omega (arith, h, le_or_r a b)))
+                ∙ sym (ap (λ (n : ℕ). nat_eq n 0 && nat_eq b 0) e ∙ ne_eqb b 0 g)
+          ]
+      | inr g ↦
+          ne_eqb (bit_or a b) 0 (λ h. g (omega (arith, h, le_or_l a b)))
+          ∙ sym (ap (λ (t : Bool). t && nat_eq b 0) (ne_eqb a 0 g))
+    ]

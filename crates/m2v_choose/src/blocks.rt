@@ -199,12 +199,16 @@ pub fn quantise_blocks(transforms: &[[i32; 64]; 6], kinds: &[BlockKind; 2], out:
     }
 }
 
-/// Whether a block has no level but 0.
+/// Whether a block has no level but 0. All are looked at, by lanes, and none ends the loop.
 #[inline(always)]
-fn is_empty(levels: &Levels) -> bool
-    ensures { result ≡ is_empty_of levels.now.at }
+fn is_empty(levels: &[i32; 64]) -> bool
+    ensures { result ≡ is_empty_of levels.now }
 {
-    levels.at.iter().all(|level| level.unsigned_abs() == 0)
+    let mut sizes = 0;
+    for k in 0..64 {
+        sizes |= levels[k].unsigned_abs();
+    }
+    sizes == 0
 }
 
 /// A block's bit in the pattern.
@@ -212,7 +216,7 @@ fn is_empty(levels: &Levels) -> bool
 fn pattern_bit(levels: &Levels, bit: u8) -> u8
     ensures { result ≡ cond (is_empty_of levels.now.at) 0 bit }
 {
-    if is_empty(levels) { 0 } else { bit }
+    if is_empty(&levels.at) { 0 } else { bit }
 }
 
 /// The coded block pattern of levels.
