@@ -1,5 +1,5 @@
 //! The blocks of a macroblock: what is transformed, the transforms, the levels, and the pattern.
-ghost use Rattle.std.specs.Prelude.{IsTrue, slice_index_or, false, unsigned_abs, ℕ, ◌≡◌, ◌≤◌, ◌<◌, ◌+◌, ◌*◌, All, cond, pos, ◌-ℤ◌};
+ghost use Rattle.std.specs.Prelude.{IsTrue, slice_index_or, true, false, unsigned_abs, ℕ, ◌≡◌, ◌≤◌, ◌<◌, ◌+◌, ◌*◌, All, cond, pos, ◌-ℤ◌};
 ghost use Rattle.std.specs.List.{list_all};
 ghost use Rattle.m2v_quant.specs.Matrices.{default_matrix};
 ghost use Rattle.m2v_quant.specs.Kinds.{IsKind, IsLevel};
@@ -112,6 +112,46 @@ pub fn transform(source: &Block16, prediction: &Block16, dct_field: bool, out: &
 {
     for block in 0..6usize {
         transform_one(source, prediction, dct_field, block, &mut out[block]);
+    }
+}
+
+/// The transform of a block's differences by DCT type 1: of a chroma block that by DCT type 0, which `frame` holds.
+#[inline(always)]
+fn block_by_fields(
+    source: &Block16,
+    prediction: &Block16,
+    frame: &[[i32; 64]; 6],
+    block: usize,
+    out: &mut [i32; 64],
+)
+    requires block { block < 6 }
+    requires frame { frame.now ≡ transforms_of source.now.at prediction.now.at false }
+    requires known { All (All IsCoefficient) frame.now }
+    ensures value { out.new ≡ forward_of
+        (differences_of source.now.at prediction.now.at true block) }
+    ensures coefficients { All IsCoefficient out.new }
+{
+    if block >= 4 {
+        *out = frame[block];
+        return;
+    }
+    transform_one(source, prediction, true, block, out);
+}
+
+/// The transforms by DCT type 1, behind those by DCT type 0.
+pub fn transform_by_fields(
+    source: &Block16,
+    prediction: &Block16,
+    frame: &[[i32; 64]; 6],
+    out: &mut [[i32; 64]; 6],
+)
+    requires frame { frame.now ≡ transforms_of source.now.at prediction.now.at false }
+    requires known { All (All IsCoefficient) frame.now }
+    ensures value { out.new ≡ transforms_of source.now.at prediction.now.at true }
+    ensures coefficients { All (All IsCoefficient) out.new }
+{
+    for block in 0..6usize {
+        block_by_fields(source, prediction, frame, block, &mut out[block]);
     }
 }
 

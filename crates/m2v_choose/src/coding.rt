@@ -8,7 +8,7 @@ ghost use Rattle.m2v_choose.specs.Candidates.{second_q as second_q_of, codings_a
 ghost use Rattle.m2v_choose.specs.Own.{IsCode};
 ghost use Rattle.m2v_choose.specs.Trials.{References, decided, IsTask, IsRated, Tried, CanCode, has_types, AreSquares, HasSquares, block_squared, uncoded_squared, sends_code, with_blocks as with_blocks_of, transforms_of};
 
-use crate::blocks::{pattern_of, quantise_blocks, transform};
+use crate::blocks::{pattern_of, quantise_blocks, transform, transform_by_fields};
 use crate::scratch::CodingScratch;
 use crate::squares::{part_squares, uncoded_squares};
 use crate::task::Task;
@@ -120,14 +120,22 @@ pub fn intra_syntax(task: &Task, q: u8, dct_field: bool) -> MacroSyntax
 
 /// The transforms by DCT type 1, where the picture has it.
 #[inline(always)]
-pub fn transform_fields(task: &Task, prediction: &Block16, out: &mut [[i32; 64]; 6])
+pub fn transform_fields(
+    task: &Task,
+    prediction: &Block16,
+    frame: &[[i32; 64]; 6],
+    out: &mut [[i32; 64]; 6],
+)
+    requires frame { frame.now
+        ≡ transforms_of task.now.source.now.at prediction.now.at false }
+    requires known { All (All IsCoefficient) frame.now }
     ensures value { has_types task.now.context.now ≡ true
         → out.new ≡ transforms_of task.now.source.now.at prediction.now.at true }
     ensures coefficients { has_types task.now.context.now ≡ true
         → All (All IsCoefficient) out.new }
 {
     if has_dct_type(task.context) {
-        transform(task.source, prediction, true, out);
+        transform_by_fields(task.source, prediction, frame, out);
     }
 }
 
@@ -248,7 +256,7 @@ impl Best {
             levels,
         } = scratch;
         transform(task.source, plain.prediction, false, frame);
-        transform_fields(task, plain.prediction, field);
+        transform_fields(task, plain.prediction, frame, field);
         let transforms = Transforms { frame, field };
         let q = task.limits.q;
         self.try_codings_at(task, plain, &transforms, q, levels);

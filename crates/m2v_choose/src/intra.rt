@@ -73,7 +73,7 @@ impl Best {
             levels,
         } = scratch;
         transform(task.source, no_prediction(), false, frame);
-        transform_fields(task, no_prediction(), field);
+        transform_fields(task, no_prediction(), frame, field);
         let transforms = Transforms { frame, field };
         let q = task.limits.q;
         self.try_intra_at(task, &transforms, q, levels);
