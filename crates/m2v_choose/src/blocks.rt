@@ -87,8 +87,8 @@ fn differences(
     }
 }
 
-/// The transform of a block's differences.
-#[inline(always)]
+/// The transform of a block's differences. One body for all that call it, with the transform inside.
+#[inline(never)]
 fn transform_one(
     source: &Block16,
     prediction: &Block16,
