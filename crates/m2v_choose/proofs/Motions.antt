@@ -2,7 +2,7 @@
 use Rattle.std.proofs.Common.{◌≡◌, ◌≢◌, ℕ, Bool, true, false, cond, ◌||◌, ◌⊎◌, inl, inr, List, [], ◌∷◌, ◌++◌, refl, ap, sym, ◌∙◌, subst, arith}
 use Rattle.std.specs.Prelude.{nat_eq, if◌then◌else◌}
 use Rattle.std.specs.List.{flat_map}
-use Rattle.std.proofs.lemmas.Bool.{eqb-true}
+use Rattle.std.proofs.lemmas.Bool.{eqb-true, eq-eqb}
 use Rattle.std.proofs.lemmas.Grind.{flat_map-append}
 use Rattle.m2v_plane.specs.declared.dims.Dims.{Dims}
 use Rattle.m2v_plane.specs.declared.planes.Plane.{Plane}
@@ -21,11 +21,10 @@ use Rattle.m2v_search.specs.Near.{HasNear}
 use Rattle.m2v_choose.specs.declared.task.Task.{Task}
 use Rattle.m2v_choose.specs.declared.trial.Best.{Best}
 use Rattle.m2v_choose.specs.Decisions.{Decision, Candidate, Prediction, has_dct_type, uncoded_syntax, coded_syntax}
-use Rattle.m2v_choose.specs.Candidates.{plain_form, plain_direction, field_direction, prediction, predictions_by, zero_prediction, predictions, still_vector, still_prediction, by_prediction}
-use Rattle.m2v_choose.specs.Trials.{References, decided, IsTask, IsReference, AreReferences, Goes, has_types, CanCode, CanTry, moving_syntax, place_for, IsRated, Tried}
+use Rattle.m2v_choose.specs.Candidates.{plain_form, plain_direction, field_direction, prediction, predictions_by, zero_prediction, still_vector, still_prediction, by_prediction}
+use Rattle.m2v_choose.specs.Trials.{References, decided, IsTask, IsReference, AreReferences, Goes, has_types, CanCode, CanTry, moving_syntax, place_for, IsRated, Tried, later_predictions}
 use Rattle.m2v_choose.proofs.Stands.{PredictionStands, uncoded_macro, coded_macro, first_of, second_of, plain_told_one, fields_one, zero_one, still_prediction_stands}
 use Rattle.m2v_choose.proofs.Inside.{ModeFits, fits_inside, fits_forward, fits_backward, plain_fits, fields_fit, zero_prediction_fits, still_prediction_fits}
-use Rattle.m2v_choose.proofs.InsideLaws.{no_predictions}
 use Rattle.m2v_choose.proofs.Tried.{first_step, tried_on, tried_none}
 
 -- which directions a macroblock's motion has
@@ -224,23 +223,24 @@ module _ (d : Decision) where
   pub fields_tried : (b : Bool) (ps : List Prediction) (old new : Best) → b ≡ true → Tried d old new (flat_map (by_prediction d) ps) → Tried d old new (flat_map (by_prediction d) (cond b ps []))
   fields_tried b ps old new e tried = first_of (λ (qs : List Prediction). Tried d old new (flat_map (by_prediction d) qs)) b ps [] e tried
 
-  pub no_predictions_tried : (old : Best) → d.context.kind ≡ 1 → IsRated d old → Tried d old old (flat_map (by_prediction d) (predictions d))
-  no_predictions_tried old one rated = subst (λ (ps : List Prediction). Tried d old old (flat_map (by_prediction d) ps)) (sym (no_predictions d one)) (tried_none d old rated)
+  pub no_later_tried : (old : Best) → d.context.kind ≡ 1 → IsRated d old → Tried d old old (flat_map (by_prediction d) (later_predictions d))
+  unfolding later_predictions
+  no_later_tried old one rated =
+      first_of (λ (ps : List Prediction). Tried d old old (flat_map (by_prediction d) ps)) (nat_eq d.context.kind 1) []
+      (predictions_by d (plain_form d.context) (plain_direction d d.forward) (plain_direction d d.backward) ++ cond (has_dct_type d) (predictions_by d 1 (field_direction d d.forward) (field_direction d d.backward)) [])
+      (eq-eqb d.context.kind 1 one) (tried_none d old rated)
 
-  pub predictions_tried : (a m n z : Best) → nat_eq d.context.kind 1 ≡ false
-      → Tried d a m (flat_map (by_prediction d) (cond (nat_eq d.context.kind 2) (zero_prediction d ∷ []) []))
-      → Tried d m n (flat_map (by_prediction d) (predictions_by d (plain_form d.context) (plain_direction d d.forward) (plain_direction d d.backward)))
-      → Tried d n z (flat_map (by_prediction d) (cond (has_dct_type d) (predictions_by d 1 (field_direction d d.forward) (field_direction d d.backward)) []))
-      → Tried d a z (flat_map (by_prediction d) (predictions d))
-  unfolding predictions
-  predictions_tried a m n z e p q s =
+  pub later_tried : (a m z : Best) → nat_eq d.context.kind 1 ≡ false
+      → Tried d a m (flat_map (by_prediction d) (predictions_by d (plain_form d.context) (plain_direction d d.forward) (plain_direction d d.backward)))
+      → Tried d m z (flat_map (by_prediction d) (cond (has_dct_type d) (predictions_by d 1 (field_direction d d.forward) (field_direction d d.backward)) []))
+      → Tried d a z (flat_map (by_prediction d) (later_predictions d))
+  unfolding later_predictions
+  later_tried a m z e p q =
       let f = by_prediction d in
-      let x = cond (nat_eq d.context.kind 2) (zero_prediction d ∷ []) [] in
       let y = predictions_by d (plain_form d.context) (plain_direction d d.forward) (plain_direction d d.backward) in
       let w = cond (has_dct_type d) (predictions_by d 1 (field_direction d d.forward) (field_direction d d.backward)) [] in
-      second_of (λ (ps : List Prediction). Tried d a z (flat_map f ps)) (nat_eq d.context.kind 1) [] (x ++ y ++ w) e
-      (subst (Tried d a z) (ap (λ (zs : List Candidate). zs ++ flat_map f w) (sym (flat_map-append f x y)) ∙ sym (flat_map-append f (x ++ y) w))
-      (tried_on d a n z (flat_map f x ++ flat_map f y) (flat_map f w) (tried_on d a m n (flat_map f x) (flat_map f y) p q) s))
+      second_of (λ (ps : List Prediction). Tried d a z (flat_map f ps)) (nat_eq d.context.kind 1) [] (y ++ w) e
+      (subst (Tried d a z) (sym (flat_map-append f y w)) (tried_on d a m z (flat_map f y) (flat_map f w) p q))
 
 pub zero_bare : (d : Decision) → (zero_prediction d).uncoded ≡ false
 zero_bare d = refl

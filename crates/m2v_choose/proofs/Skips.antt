@@ -1,9 +1,10 @@
 -- A skipped macroblock's prediction.
-use Rattle.std.proofs.Common.{◌≡◌, ℕ, ◌<◌, ◌≤◌, Bool, true, false, cond, ◌&&◌, ◌||◌, not, ◌⊎◌, inl, inr, List, [], ◌∷◌, ◌++◌, refl, ap, sym, ◌∙◌, subst, arith, ℤ}
-use Rattle.std.specs.Prelude.{nat_eq, unsigned_abs, map}
+use Rattle.std.proofs.Common.{◌≡◌, ℕ, ◌<◌, ◌≤◌, Bool, true, false, cond, ◌&&◌, ◌||◌, not, ◌⊎◌, inl, inr, List, [], ◌∷◌, ◌++◌, ◌+◌, filter, append_assoc, refl, ap, sym, ◌∙◌, subst, arith, ℤ}
+use Rattle.std.specs.Prelude.{nat_eq, nat_lt, unsigned_abs, map, if◌then◌else◌}
 use Rattle.std.specs.List.{flat_map}
 use Rattle.std.proofs.lemmas.Int.{ints}
-use Rattle.std.proofs.lemmas.Bool.{and_parts, eqb-true, true≢false}
+use Rattle.std.proofs.lemmas.Bool.{and_parts, eqb-true, ne_eqb, le-ltb, lt-ltb, true≢false}
+use Rattle.std.proofs.lemmas.Grind.{flat_map-append}
 use Rattle.m2v_plane.specs.declared.dims.Dims.{Dims}
 use Rattle.m2v_plane.specs.declared.planes.Plane.{Plane}
 use Rattle.m2v_plane.specs.declared.planes.Lines.{Lines}
@@ -17,20 +18,22 @@ use Rattle.m2v_pred.specs.Vectors.{IsPlace, IsInside, DirectionInside, HoldsRead
 use Rattle.m2v_pred.specs.Inside.{is_inside}
 use Rattle.m2v_macroblock.specs.Modes.{zero_motion, without_motion_type, skipped_mode}
 use Rattle.m2v_search.specs.Near.{HasNear}
+use Rattle.m2v_search.specs.Least.{least}
 use Rattle.m2v_choose.specs.declared.task.Task.{Task}
 use Rattle.m2v_choose.specs.declared.trial.Best.{Best}
-use Rattle.m2v_choose.specs.Decisions.{Decision, increment_of, Candidate, place_of, skipped}
-use Rattle.m2v_choose.specs.Candidates.{may_skip, hold, codings, intra_by, by_prediction, predictions, others}
-use Rattle.m2v_choose.specs.Choice.{bits_taken, choice_of}
+use Rattle.m2v_choose.specs.Decisions.{Decision, increment_of, Candidate, Prediction, place_of, skipped, has_dct_type}
+use Rattle.m2v_choose.specs.Candidates.{may_skip, hold, codings, intra_by, by_prediction, plain_form, plain_direction, field_direction, predictions_by, zero_prediction, predictions, others}
+use Rattle.m2v_choose.specs.Choice.{bits_taken, choice_of, score, fits}
 use Rattle.m2v_choose.specs.Own.{IsOwn, AreNear}
 use Rattle.m2v_choose.specs.Laws.{Fits}
 use Rattle.m2v_choose.proofs.Chosen.{choice_fits}
 use Rattle.m2v_choose.proofs.Held.{hold_fits}
-use Rattle.m2v_choose.specs.Trials.{References, decided, IsTask, IsReference, AreReferences, HasDirection, place_for, candidate_of, best_of, IsRated, Tried}
+use Rattle.m2v_choose.specs.Trials.{References, decided, IsTask, IsReference, AreReferences, HasDirection, place_for, candidate_of, IsRated, Leader, leader_of, led, Tried, zero_predictions, later_predictions}
 use Rattle.m2v_choose.proofs.Stands.{first_of, second_of}
 use Rattle.m2v_choose.proofs.Stays.{SourceNear, direction_held}
 use Rattle.m2v_choose.proofs.Inside.{fits_inside, fits_forward, zero_fits, plain_source, plain_parts, plain_single, only_part, own_near}
 use Rattle.m2v_choose.proofs.Tried.{tried_on, tried_none}
+use Rattle.m2v_choose.proofs.Leading.{led_on, swapped, led_least, yes_is, no_is}
 
 -- what a skipped macroblock's motion reads can be read
 pub record SkipReads (kind : ℕ) (place : MbPlace) (d : Dims) (ahead behind : Plane → Lines → ℕ → Type 0) (mode : Mode) : Type 0 where
@@ -137,19 +140,69 @@ module _ (d : Decision) where
   pub skip_left : (b : Bool) (old : Best) → may_skip d ≡ b → b ≡ false → IsRated d old → Tried d old old (cond (may_skip d) (skipped ∷ []) [])
   skip_left b old same e rated = second_of (Tried d old old) (may_skip d) (skipped ∷ []) [] (same ∙ e) (tried_none d old rated)
 
-  pub others_tried : (a m n z : Best) → Tried d a m (cond (may_skip d) (skipped ∷ []) []) → Tried d m n (map (intra_by d) (codings d)) → Tried d n z (flat_map (by_prediction d) (predictions d)) → Tried d a z (others d)
-  unfolding others
-  others_tried a m n z p q s =
-      let x = cond (may_skip d) (skipped ∷ []) [] in
-      let y = map (intra_by d) (codings d) in
-      tried_on d a n z (x ++ y) (flat_map (by_prediction d) (predictions d)) (tried_on d a m n x y p q) s
+  -- the candidates behind hold by the order in which they are tried
+  before_all : List Candidate
+  before_all = cond (may_skip d) (skipped ∷ []) []
 
-  pub chosen : (a z : Best) → candidate_of a.choice ≡ hold d → Tried d a z (others d) → candidate_of z.choice ≡ choice_of d
-  unfolding best_of choice_of
-  chosen a z held tried = tried.best ∙ ap (λ (x : Candidate). best_of d x (others d)) held
+  earlier : List Candidate
+  earlier = map (intra_by d) (codings d) ++ flat_map (by_prediction d) (zero_predictions d)
 
-  pub chosen_bits : (a z : Best) → candidate_of a.choice ≡ hold d → Tried d a z (others d) → z.choice.bits ≡ bits_taken d (choice_of d)
-  chosen_bits a z held tried = tried.rated.bits ∙ ap (bits_taken d) (chosen a z held tried)
+  later : List Candidate
+  later = flat_map (by_prediction d) (later_predictions d)
+
+  predictions_split : predictions d ≡ zero_predictions d ++ later_predictions d
+  unfolding predictions later_predictions
+  predictions_split =
+      parts (nat_eq d.context.kind 1) (nat_eq d.context.kind 2) (zero_prediction d ∷ []) (predictions_by d (plain_form d.context) (plain_direction d d.forward) (plain_direction d d.backward))
+      (cond (has_dct_type d) (predictions_by d 1 (field_direction d d.forward) (field_direction d d.backward)) [])
+      (λ one. ne_eqb d.context.kind 2 (λ two. omega (arith, two, eqb-true d.context.kind 1 one)))
+    where
+      parts : (one two : Bool) (z y w : List Prediction) → (one ≡ true → two ≡ false) → cond one [] (cond two z [] ++ y ++ w) ≡ cond two z [] ++ cond one [] (y ++ w)
+      parts true true z y w h = absurd (true≢false (h refl))
+      parts true false z y w h = refl
+      parts false true z y w h = append_assoc z y w
+      parts false false z y w h = refl
+
+  others_split : others d ≡ before_all ++ (earlier ++ later)
+  unfolding others before_all earlier later
+  others_split =
+      let f = by_prediction d in
+      let s = cond (may_skip d) (skipped ∷ []) [] in
+      let i = map (intra_by d) (codings d) in
+      let x = flat_map f (zero_predictions d) in
+      let l = flat_map f (later_predictions d) in
+      ap (λ (zs : List Candidate). s ++ i ++ zs) (ap (flat_map f) predictions_split ∙ flat_map-append f (zero_predictions d) (later_predictions d))
+      ∙ append_assoc s i (x ++ l) ∙ ap (λ (zs : List Candidate). s ++ zs) (sym (append_assoc i x l))
+
+  pub earlier_tried : (a m z : Best) → Tried d a m (map (intra_by d) (codings d)) → Tried d m z (flat_map (by_prediction d) (zero_predictions d))
+      → Tried d a z (map (intra_by d) (codings d) ++ flat_map (by_prediction d) (zero_predictions d))
+  earlier_tried a m z p q = tried_on d a m z (map (intra_by d) (codings d)) (flat_map (by_prediction d) (zero_predictions d)) p q
+
+  module _ (h a p i : Best) (limit : ℕ) (held : candidate_of h.choice ≡ hold d) (scored : h.below ≡ score d (candidate_of h.choice))
+      (skip : Tried d h a (cond (may_skip d) (skipped ∷ []) [])) (behind : Tried d a p (flat_map (by_prediction d) (later_predictions d)))
+      (before : Tried d (record a { below = limit }) i (map (intra_by d) (codings d) ++ flat_map (by_prediction d) (zero_predictions d)))
+      (most : limit ≤ a.below) (near : limit ≤ p.below + 1) (one : (limit ≡ a.below) ⊎ (limit ≡ p.below + 1)) where
+    picked : (if nat_lt i.below limit then leader_of i else leader_of p).candidate ≡ choice_of d
+    unfolding choice_of before_all earlier later
+    picked =
+        let rest = earlier ++ later in
+        swapped d (leader_of a) (leader_of p) (leader_of i) earlier later limit behind.best before.best most near one
+        ∙ ap (λ (l : Leader). (led d l rest).candidate) skip.best ∙ ap (λ (l : Leader). l.candidate) (sym (led_on d (leader_of h) before_all rest))
+        ∙ ap (λ (xs : List Candidate). (led d (leader_of h) xs).candidate) (sym others_split)
+        ∙ (led_least d (leader_of h) (others d) scored).0
+        ∙ ap (λ (x : Candidate). least (score d) x (filter (fits d) (others d))) held
+
+    pub chosen_before : i.below < limit → candidate_of i.choice ≡ choice_of d
+    chosen_before lt = ap (λ (l : Leader). l.candidate) (sym (yes_is (nat_lt i.below limit) (leader_of i) (leader_of p) (lt-ltb i.below limit lt))) ∙ picked
+
+    pub chosen_behind : limit ≤ i.below → candidate_of p.choice ≡ choice_of d
+    chosen_behind le = ap (λ (l : Leader). l.candidate) (sym (no_is (nat_lt i.below limit) (leader_of i) (leader_of p) (le-ltb i.below limit le))) ∙ picked
+
+    pub bits_before : i.below < limit → i.choice.bits ≡ bits_taken d (choice_of d)
+    bits_before lt = before.rated.bits ∙ ap (bits_taken d) (chosen_before lt)
+
+    pub bits_behind : limit ≤ i.below → p.choice.bits ≡ bits_taken d (choice_of d)
+    bits_behind le = behind.rated.bits ∙ ap (bits_taken d) (chosen_behind le)
 
 -- ---- bits
 

@@ -1,7 +1,8 @@
 -- Blocks that have no level: no coefficient reaches the scale.
-use Rattle.std.proofs.Common.{◌≡◌, ℕ, ◌+◌, ◌*◌, ◌/◌, ◌<◌, ◌≤◌, Bool, true, false, ◌&&◌, List, replicate, refl, ap, sym, ◌∙◌, arith, ℤ, pos, negsuc, neg_ℤ}
-use Rattle.std.specs.Prelude.{nat_eq, nat_lt, min, if◌then◌else◌, slice_index, slice_index_or, unsigned_abs}
-use Rattle.std.proofs.lemmas.Bool.{ltb-true}
+use Rattle.std.proofs.Common.{◌≡◌, inl, inr, [], length, get_or, subst, ℕ, ◌+◌, ◌*◌, ◌/◌, ◌<◌, ◌≤◌, Bool, true, false, ◌&&◌, List, replicate, refl, ap, sym, ◌∙◌, arith, ℤ, pos, negsuc, neg_ℤ}
+use Rattle.std.specs.Prelude.{bit_or, nat_eq, nat_lt, min, if◌then◌else◌, slice_index, slice_index_or, unsigned_abs}
+use Rattle.std.proofs.lemmas.Bool.{ltb-true, cases_eq, cases_lt, ne_eqb}
+use Rattle.std.proofs.lemmas.Nat.{le_or_l, le_or_r}
 use Rattle.std.proofs.lemmas.List.{get_or-replicate}
 use Rattle.std.proofs.lemmas.List.FromFn.{fill_by_all}
 use Rattle.std.proofs.Math.Nat.{div-eq_of_lt}
@@ -10,6 +11,9 @@ use Rattle.m2v_quant.specs.declared.kind.BlockKind.{BlockKind}
 use Rattle.m2v_quant.specs.Quantiser.{levels_of, level_at, ac_level, with_sign, dc_level}
 use Rattle.m2v_quant.specs.Scans.{scan_order, zigzag, alternate}
 use Rattle.m2v_quant.specs.Matrices.{default_matrix}
+use Rattle.m2v_idct.specs.Forward.{forward_of}
+use Rattle.m2v_choose.specs.Decisions.{block_place, differences}
+use Rattle.m2v_choose.specs.Trials.{transforms_of}
 
 scan_zigzag : below (λ i. nat_lt (slice_index (scan_order false) i) 64) 64 ≡ below (λ i. true) 64
 unfolding below scan_order zigzag
@@ -55,3 +59,40 @@ unfolding levels_of
 no_levels_at f kind some other plain e =
     fill_by_all (level_at f kind) (replicate 64 (pos 0)) 64 (pos 0) refl
     (λ i lt. get_or-replicate 64 i (pos 0) (pos 0) lt ∙ sym (small_at f kind i lt some other plain e))
+
+-- sizes that are joined are 0 where each is
+pub or_zero : (a b : ℕ) → nat_eq (bit_or a b) 0 ≡ (nat_eq a 0 && nat_eq b 0)
+or_zero a b =
+    elim (cases_eq a 0) [
+      | inl e ↦
+          elim (cases_eq b 0) [
+            | inl f ↦ ap (λ (n : ℕ). nat_eq (bit_or n b) 0) e ∙ ap (λ (n : ℕ). nat_eq (bit_or 0 n) 0) f ∙ sym (ap (λ (n : ℕ). nat_eq n 0 && nat_eq b 0) e ∙ ap (λ (n : ℕ). nat_eq n 0) f)
+            | inr g ↦
+                ne_eqb (bit_or a b) 0 (λ h. g (omega (arith, h, le_or_r a b)))
+                ∙ sym (ap (λ (n : ℕ). nat_eq n 0 && nat_eq b 0) e ∙ ne_eqb b 0 g)
+          ]
+      | inr g ↦
+          ne_eqb (bit_or a b) 0 (λ h. g (omega (arith, h, le_or_l a b)))
+          ∙ sym (ap (λ (t : Bool). t && nat_eq b 0) (ne_eqb a 0 g))
+    ]
+
+-- transforms of chroma blocks are the same by both DCT types
+pub six_transforms : (s p : List ℕ) → length (transforms_of s p false) ≡ 6
+unfolding transforms_of
+six_transforms s p = refl
+
+four_fields : (s p : List ℕ) → get_or (transforms_of s p false) 4 [] ≡ forward_of (differences s p true 4)
+unfolding transforms_of differences block_place
+four_fields s p = refl
+
+five_fields : (s p : List ℕ) → get_or (transforms_of s p false) 5 [] ≡ forward_of (differences s p true 5)
+unfolding transforms_of differences block_place
+five_fields s p = refl
+
+pub chroma_fields : (s p : List ℕ) (b : ℕ) (frame : List (List ℤ)) → frame ≡ transforms_of s p false → 4 ≤ b → b < 6 → get_or frame b [] ≡ forward_of (differences s p true b)
+chroma_fields s p b frame same le lt =
+    ap (λ (xs : List (List ℤ)). get_or xs b []) same
+    ∙ elim (cases_lt b 5) [
+      | inl four ↦ let e : 4 ≡ b = omega (arith, le, four) in subst (λ (n : ℕ). get_or (transforms_of s p false) n [] ≡ forward_of (differences s p true n)) e (four_fields s p)
+      | inr five ↦ let e : 5 ≡ b = omega (arith, lt, five) in subst (λ (n : ℕ). get_or (transforms_of s p false) n [] ≡ forward_of (differences s p true n)) e (five_fields s p)
+    ]

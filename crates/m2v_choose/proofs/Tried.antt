@@ -1,11 +1,11 @@
 -- Candidates that are tried: what their bits are counted by, what they score, and which is the better one.
-use Rattle.std.proofs.Common.{◌≡◌, ℕ, ◌+◌, ◌-◌, ◌*◌, ◌^◌, ◌<◌, ◌≤◌, Bool, true, false, cond, ◌&&◌, not, All, List, [], ◌∷◌, ◌++◌, filter, refl, ap, sym, ◌∙◌, subst, arith, ℤ, pos, neg_ℤ, ◌+ℤ◌}
+use Rattle.std.proofs.Common.{◌≡◌, ℕ, ◌+◌, ◌-◌, ◌*◌, ◌^◌, ◌<◌, ◌≤◌, Bool, true, false, ◌&&◌, not, All, List, [], ◌∷◌, ◌++◌, refl, ap, sym, ◌∙◌, subst, arith, ℤ, pos, neg_ℤ, ◌+ℤ◌}
 use Rattle.std.specs.Prelude.{nat_eq, nat_le, nat_lt, if◌then◌else◌, int_le}
 use Rattle.std.specs.List.{range_with_len, flat_map, list_all}
 use Rattle.std.proofs.lemmas.Int.{ints}
 use Rattle.std.proofs.lemmas.Bool.{and_parts, le-leb, lt-ltb, le-ltb, leb-true, ltb-true}
 use Rattle.std.proofs.lemmas.List.Sums.{AllPass-from_list_all}
-use Rattle.std.proofs.lemmas.List.Elements.{All-nil, All-cons, All-head, All-tail, All-weaker, filter-append}
+use Rattle.std.proofs.lemmas.List.Elements.{All-nil, All-cons, All-head, All-tail, All-weaker}
 use Rattle.m2v_quant.specs.declared.kind.Levels.{Levels}
 use Rattle.m2v_quant.specs.Kinds.{IsLevel}
 use Rattle.m2v_quant.specs.Matrices.{default_matrix, intra_matrix}
@@ -24,14 +24,14 @@ use Rattle.m2v_macroblock.specs.Texts.{block_in_text, macroblock_text}
 use Rattle.m2v_macroblock.specs.Predictions.{sample_at}
 use Rattle.m2v_macroblock.specs.Conditions.{AreDc, IsMatrix, IsPicture}
 use Rattle.m2v_pred.specs.Predicted.{predicted, block_by}
-use Rattle.m2v_search.specs.Least.{least, better}
 use Rattle.m2v_choose.specs.declared.task.Task.{Task}
 use Rattle.m2v_choose.specs.declared.trial.Best.{Best}
 use Rattle.m2v_choose.specs.Decisions.{Decision, Candidate, place_of, increment_of, skipped, written}
 use Rattle.m2v_choose.specs.Choice.{bits_taken, candidate_at, squared, score, fits}
 use Rattle.m2v_choose.specs.Own.{IsOwn, IsOwnState}
-use Rattle.m2v_choose.specs.Trials.{as_first, References, decided, IsTask, candidate_of, rebuilt_by, Predicts, IsRated, best_of, Tried}
+use Rattle.m2v_choose.specs.Trials.{as_first, References, decided, IsTask, candidate_of, rebuilt_by, Predicts, IsRated, Leader, leader_of, led, Tried}
 use Rattle.m2v_choose.proofs.Chosen.{either}
+use Rattle.m2v_choose.proofs.Leading.{led_on}
 use Rattle.m2v_choose.proofs.Kept.{before_near}
 use Rattle.m2v_choose.proofs.OwnReady.{own_context, own_ready}
 use Rattle.m2v_choose.proofs.DcKept.{reset_own}
@@ -129,35 +129,33 @@ same_text c st x =
 module _ (d : Decision) (x : Candidate) (old : Best) (rated : IsRated d old) where
   -- one that doesn't fit is passed over
   pub left_out : fits d x ≡ false → Tried d old old (x ∷ [])
-  unfolding best_of least
+  unfolding led
   left_out e = record { best = rw e refl; rated = rated }
 
-  not_better : (b : Bool) → score d (candidate_of old.choice) ≤ score d x → candidate_of old.choice ≡ least (score d) (candidate_of old.choice) (cond b (x ∷ []) [])
-  unfolding least better
-  not_better true le = rw (le-ltb (score d x) (score d (candidate_of old.choice)) le) refl
+  not_better : (b : Bool) → old.below ≤ score d x
+      → leader_of old ≡ (if b && nat_lt (score d x) old.below then record { candidate = x; below = score d x } else leader_of old)
+  not_better true le = rw (le-ltb (score d x) old.below le) refl
   not_better false le = refl
 
   -- one that isn't better is left
-  pub kept : old.score ≤ score d x → Tried d old old (x ∷ [])
-  unfolding best_of
-  kept le = record { best = not_better (fits d x) (omega (arith, le, rated.score_is)); rated = rated }
+  pub kept : old.below ≤ score d x → Tried d old old (x ∷ [])
+  unfolding led
+  kept le = record { best = not_better (fits d x) le; rated = rated }
 
-  is_better : score d x < score d (candidate_of old.choice) → x ≡ least (score d) (candidate_of old.choice) (x ∷ [])
-  unfolding least better
-  is_better lt = rw (lt-ltb (score d x) (score d (candidate_of old.choice)) lt) refl
+  rated_as : (new : Best) → candidate_of new.choice ≡ x → new.choice.bits ≡ bits_taken d x → IsRated d new
+  rated_as new same bits = record { bits = bits ∙ ap (bits_taken d) (sym same) }
 
-  rated_as : (new : Best) → candidate_of new.choice ≡ x → new.choice.bits ≡ bits_taken d x → new.score ≡ score d x → IsRated d new
-  rated_as new same bits points = record {
-    bits = bits ∙ ap (bits_taken d) (sym same);
-    score_is = points ∙ ap (score d) (sym same);
-  }
+  is_better : (b : Bool) → b ≡ true → score d x < old.below
+      → record { candidate = x; below = score d x } ≡ (if b && nat_lt (score d x) old.below then record { candidate = x; below = score d x } else leader_of old)
+  is_better true e lt = rw (lt-ltb (score d x) old.below lt) refl
+  is_better false e lt = absurd cc
 
   -- a better one is taken
-  pub taken : (new : Best) → candidate_of new.choice ≡ x → new.choice.bits ≡ bits_taken d x → new.score ≡ score d x → fits d x ≡ true → new.score < old.score → Tried d old new (x ∷ [])
-  unfolding best_of
+  pub taken : (new : Best) → candidate_of new.choice ≡ x → new.choice.bits ≡ bits_taken d x → new.below ≡ score d x → fits d x ≡ true → new.below < old.below → Tried d old new (x ∷ [])
+  unfolding led
   taken new same bits points e lt = record {
-    best = same ∙ rw e (is_better (omega (arith, lt, points, rated.score_is)));
-    rated = rated_as new same bits points;
+    best = (λ i. record { candidate = same i; below = points i }) ∙ is_better (fits d x) e (omega (arith, lt, points));
+    rated = rated_as new same bits;
   }
 
 pub fits_is : (d : Decision) (x : Candidate) (bits : ℕ) → bits ≡ bits_taken d x → (nat_le bits 4608 && nat_le bits d.limits.room) ≡ fits d x
@@ -182,23 +180,14 @@ skipped_score r t prediction e =
 
 -- ---- one list behind another
 
-least_on : {A : Type 0} (cost : A → ℕ) (best : A) (xs ys : List A) → least cost best (xs ++ ys) ≡ least cost (least cost best xs) ys
-unfolding least
-least_on cost best [] ys = refl
-least_on cost best (x ∷ xs) ys = least_on cost (better cost best x) xs ys
-
-best_on : (d : Decision) (best : Candidate) (xs ys : List Candidate) → best_of d best (xs ++ ys) ≡ best_of d (best_of d best xs) ys
-unfolding best_of
-best_on d best xs ys = ap (least (score d) best) (filter-append (fits d) xs ys) ∙ least_on (score d) best (filter (fits d) xs) (filter (fits d) ys)
-
 pub tried_on : (d : Decision) (a b c : Best) (xs ys : List Candidate) → Tried d a b xs → Tried d b c ys → Tried d a c (xs ++ ys)
 tried_on d a b c xs ys p q = record {
-  best = q.best ∙ ap (λ (x : Candidate). best_of d x ys) p.best ∙ sym (best_on d (candidate_of a.choice) xs ys);
+  best = q.best ∙ ap (λ (l : Leader). led d l ys) p.best ∙ sym (led_on d (leader_of a) xs ys);
   rated = q.rated;
 }
 
 pub tried_none : (d : Decision) (a : Best) → IsRated d a → Tried d a a []
-unfolding best_of least
+unfolding led
 tried_none d a rated = record { best = refl; rated = rated }
 
 -- ---- levels of blocks

@@ -1,5 +1,5 @@
 -- Words of the choice's code: the blocks of a macroblock, and the best candidate so far.
-use Rattle.std.specs.Prelude.{ℕ, ◌≢◌, ◌||◌, filter, IsTrue, false, not, cond, ◌&&◌, ◌≡◌, ◌⊎◌, ◌<◌, ◌≤◌, ◌+◌, ◌-◌, ◌*◌, Bool, true, nat_eq, List, [], map, slice_index, slice_index_or, if◌then◌else◌, ℤ, pos, neg_ℤ, ◌-ℤ◌, ◌≤ℤ◌, ◌<ℤ◌, unsigned_abs}
+use Rattle.std.specs.Prelude.{ℕ, ◌≢◌, ◌||◌, IsTrue, false, not, cond, ◌&&◌, ◌≡◌, ◌⊎◌, ◌<◌, ◌≤◌, ◌+◌, ◌-◌, ◌*◌, Bool, true, nat_eq, nat_lt, List, [], ◌∷◌, ◌++◌, map, slice_index, slice_index_or, sum_by, if◌then◌else◌, ℤ, pos, neg_ℤ, ◌-ℤ◌, ◌≤ℤ◌, ◌<ℤ◌, unsigned_abs}
 use Rattle.std.specs.List.{range_with_len, list_all}
 use Rattle.m2v_plane.specs.declared.dims.Dims.{Dims}
 use Rattle.m2v_plane.specs.declared.planes.Lines.{Lines}
@@ -7,7 +7,7 @@ use Rattle.m2v_plane.specs.declared.planes.Plane.{Plane}
 use Rattle.m2v_quant.specs.declared.kind.BlockKind.{BlockKind}
 use Rattle.m2v_quant.specs.Quantiser.{levels_of}
 use Rattle.m2v_idct.specs.Forward.{forward_of}
-use Rattle.m2v_recon.specs.Macro.{kind_of}
+use Rattle.m2v_recon.specs.Macro.{kind_of, kind_at, is_coded, macro_sample}
 use Rattle.m2v_macro.specs.declared.values.SliceState.{SliceState}
 use Rattle.m2v_macro.specs.declared.values.PictureContext.{PictureContext}
 use Rattle.m2v_macro.specs.States.{is_field, skips, pmv_before, dc_reset}
@@ -24,7 +24,6 @@ use Rattle.m2v_pred.specs.Predicted.{block_by}
 use Rattle.m2v_macroblock.specs.Macroblocks.{Macroblock, macroblock_of}
 use Rattle.m2v_macroblock.specs.Conditions.{AreDc}
 use Rattle.m2v_macroblock.specs.Predictions.{View, prediction_of, sample_at}
-use Rattle.m2v_search.specs.Least.{least}
 use Rattle.m2v_search.specs.Near.{HasNear, is_field as is_field_line}
 use Rattle.m2v_choose.specs.declared.values.Limits.{Limits}
 use Rattle.m2v_choose.specs.declared.values.Choice.{Choice}
@@ -32,8 +31,10 @@ use Rattle.m2v_choose.specs.declared.trial.Best.{Best}
 use Rattle.m2v_choose.specs.declared.vectors.FieldVector.{FieldVector}
 use Rattle.m2v_choose.specs.declared.vectors.Vectors.{Vectors}
 use Rattle.m2v_choose.specs.declared.task.Task.{Task}
-use Rattle.m2v_choose.specs.Decisions.{Decision, Candidate, place_of, increment_of, block_place, differences}
-use Rattle.m2v_choose.specs.Choice.{bits_taken, score, fits}
+use Rattle.m2v_choose.specs.declared.coding.Uncoded.{Uncoded}
+use Rattle.m2v_choose.specs.Decisions.{Decision, Candidate, Prediction, has_dct_type, place_of, increment_of, block_place, differences}
+use Rattle.m2v_choose.specs.Candidates.{plain_form, plain_direction, field_direction, predictions_by, zero_prediction}
+use Rattle.m2v_choose.specs.Choice.{bits_taken, score, fits, square_at}
 use Rattle.m2v_choose.specs.Own.{IsOwn, IsCode, IsOwnState, AreLimits}
 
 -- a block has no level but 0
@@ -52,6 +53,29 @@ transforms_of source prediction dct_field = map (λ block. forward_of (differenc
 -- levels of transforms, by the kinds of luma and of chroma blocks
 unfoldable pub quantised_by : List (List ℤ) → BlockKind → BlockKind → List (List ℤ)
 quantised_by transforms luma chroma = map (λ block. levels_of (slice_index_or transforms block []) (kind_of luma chroma block)) (range_with_len 0 6)
+
+-- ---- squares of blocks
+
+-- the squares of a block's samples
+unfoldable pub block_squared : Bool → List ℕ → List ℕ → ℕ → ℕ
+block_squared dct_field source samples block =
+    sum_by (λ line. sum_by (λ c. square_at source samples (block_place dct_field block (8 * line) + c)) (range_with_len 0 8)) (range_with_len 0 8)
+
+-- of the blocks that are coded, and of the others
+unfoldable pub coded_squared : ℕ → (ℕ → ℕ) → ℕ
+coded_squared pattern squares = sum_by (λ block. cond (is_coded pattern block) (squares block) 0) (range_with_len 0 6)
+
+unfoldable pub uncoded_squared : ℕ → (ℕ → ℕ) → ℕ
+uncoded_squared pattern squares = sum_by (λ block. cond (is_coded pattern block) 0 (squares block)) (range_with_len 0 6)
+
+-- these are the squares of a prediction's blocks
+pub record AreSquares (dct_field : Bool) (source prediction squares : List ℕ) : Type 0 where
+  pub value : (b : ℕ) → b < 6 → slice_index squares b ≡ block_squared dct_field source prediction b
+  pub most : (b : ℕ) → b < 6 → slice_index squares b ≤ 8323200
+
+-- the samples of a macroblock as they are rebuilt, by the kinds of its blocks
+abbrev pub rebuilt_with : List ℕ → MacroSyntax → List (List ℤ) → List BlockKind → List ℕ
+rebuilt_with prediction m levels kinds = block_by (macro_sample prediction levels m.pattern (kind_at kinds 0) (kind_at kinds 1) m.dct_field)
 
 -- ---- where a macroblock stands
 
@@ -125,19 +149,37 @@ rebuilt_by t prediction x = block_by (sample_at t.context.now t.state.now predic
 abbrev pub Predicts : References → Task → MacroSyntax → List ℕ → Type 0
 Predicts r t m prediction = prediction ≡ prediction_of r.forward r.backward t.context.now (place_of (decided r t)) m
 
--- its bits and its score are those of the definition
+-- its bits are those of the definition
 pub record IsRated (d : Decision) (b : Best) : Type 0 where
   pub bits : b.choice.bits ≡ bits_taken d (candidate_of b.choice)
-  pub score_is : b.score ≡ score d (candidate_of b.choice)
 
--- the first of least score of one and of those that fit
-unfoldable pub best_of : Decision → Candidate → List Candidate → Candidate
-best_of d best xs = least (score d) best (filter (fits d) xs)
+-- the candidate that leads, and below what another one must score to lead in its place
+pub record Leader : Type 0 where
+  pub candidate : Candidate
+  pub below : ℕ
+
+abbrev pub leader_of : Best → Leader
+leader_of b = record { candidate = candidate_of b.choice; below = b.below }
+
+-- the one that leads behind candidates, in order
+unfoldable pub led : Decision → Leader → List Candidate → Leader
+led d a [] = a
+led d a (x ∷ xs) = led d (if fits d x && nat_lt (score d x) a.below then record { candidate = x; below = score d x } else a) xs
 
 -- candidates were tried
 pub record Tried (d : Decision) (old new : Best) (xs : List Candidate) : Type 0 where
-  pub best : candidate_of new.choice ≡ best_of d (candidate_of old.choice) xs
+  pub best : leader_of new ≡ led d (leader_of old) xs
   pub rated : IsRated d new
+
+-- the type without a direction, in a P picture, and the predictions behind it
+abbrev pub zero_predictions : Decision → List Prediction
+zero_predictions d = cond (nat_eq d.context.kind 2) (zero_prediction d ∷ []) []
+
+unfoldable pub later_predictions : Decision → List Prediction
+later_predictions d =
+    cond (nat_eq d.context.kind 1) []
+    (predictions_by d (plain_form d.context) (plain_direction d d.forward) (plain_direction d d.backward)
+    ++ cond (has_dct_type d) (predictions_by d 1 (field_direction d d.forward) (field_direction d d.backward)) [])
 
 -- ---- codings
 
@@ -169,6 +211,11 @@ pub record CanCode (t : Task) (m : MacroSyntax) : Type 0 where
   pub other : m.kind.intra ≡ false
   pub macro : (q : ℕ) (dct_field : Bool) (pattern : ℕ) → IsCode q → (dct_field ≡ true → has_types t.context.now ≡ true) → 0 < pattern → pattern < 64
       → IsMacro t.context.now t.first (with_blocks m (sends_code t.state.now q) q dct_field pattern)
+
+-- the squares of its blocks are known: by DCT type 0, and by DCT type 1 where the picture has it
+pub record HasSquares (t : Task) (plain : Uncoded) : Type 0 where
+  pub frame : AreSquares false t.source.now.at plain.prediction.now.at plain.frame.now
+  pub field : has_types t.context.now ≡ true → AreSquares true t.source.now.at plain.prediction.now.at plain.field.now
 
 -- ---- references
 

@@ -1,5 +1,5 @@
 //! The blocks of a macroblock: what is transformed, the transforms, the levels, and the pattern.
-ghost use Rattle.std.specs.Prelude.{IsTrue, slice_index_or, false, unsigned_abs, ℕ, ◌≡◌, ◌≤◌, ◌<◌, ◌+◌, ◌*◌, All, cond, pos, ◌-ℤ◌};
+ghost use Rattle.std.specs.Prelude.{IsTrue, slice_index_or, true, false, unsigned_abs, ℕ, ◌≡◌, ◌≤◌, ◌<◌, ◌+◌, ◌*◌, All, cond, pos, ◌-ℤ◌};
 ghost use Rattle.std.specs.List.{list_all};
 ghost use Rattle.m2v_quant.specs.Matrices.{default_matrix};
 ghost use Rattle.m2v_quant.specs.Kinds.{IsKind, IsLevel};
@@ -19,7 +19,7 @@ use m2v_quant::{BlockKind, Levels, quantise};
 /// Where a line of a block begins among the samples of its macroblock.
 #[inline(always)]
 #[tactic(auto, unfolding(crate::specs::Decisions::block_place))]
-fn line_place(dct_field: bool, block: usize, line: usize) -> usize
+pub fn line_place(dct_field: bool, block: usize, line: usize) -> usize
     requires block { block < 6 }
     requires line { line < 8 }
     ensures value { (j : ℕ) → j < 8 → block_place dct_field block (8 * line + j) ≡ result + j }
@@ -87,8 +87,8 @@ fn differences(
     }
 }
 
-/// The transform of a block's differences.
-#[inline(always)]
+/// The transform of a block's differences. One body for all that call it, with the transform inside.
+#[inline(never)]
 fn transform_one(
     source: &Block16,
     prediction: &Block16,
@@ -112,6 +112,46 @@ pub fn transform(source: &Block16, prediction: &Block16, dct_field: bool, out: &
 {
     for block in 0..6usize {
         transform_one(source, prediction, dct_field, block, &mut out[block]);
+    }
+}
+
+/// The transform of a block's differences by DCT type 1: of a chroma block that by DCT type 0, which `frame` holds.
+#[inline(always)]
+fn block_by_fields(
+    source: &Block16,
+    prediction: &Block16,
+    frame: &[[i32; 64]; 6],
+    block: usize,
+    out: &mut [i32; 64],
+)
+    requires block { block < 6 }
+    requires frame { frame.now ≡ transforms_of source.now.at prediction.now.at false }
+    requires known { All (All IsCoefficient) frame.now }
+    ensures value { out.new ≡ forward_of
+        (differences_of source.now.at prediction.now.at true block) }
+    ensures coefficients { All IsCoefficient out.new }
+{
+    if block >= 4 {
+        *out = frame[block];
+        return;
+    }
+    transform_one(source, prediction, true, block, out);
+}
+
+/// The transforms by DCT type 1, behind those by DCT type 0.
+pub fn transform_by_fields(
+    source: &Block16,
+    prediction: &Block16,
+    frame: &[[i32; 64]; 6],
+    out: &mut [[i32; 64]; 6],
+)
+    requires frame { frame.now ≡ transforms_of source.now.at prediction.now.at false }
+    requires known { All (All IsCoefficient) frame.now }
+    ensures value { out.new ≡ transforms_of source.now.at prediction.now.at true }
+    ensures coefficients { All (All IsCoefficient) out.new }
+{
+    for block in 0..6usize {
+        block_by_fields(source, prediction, frame, block, &mut out[block]);
     }
 }
 
@@ -199,12 +239,16 @@ pub fn quantise_blocks(transforms: &[[i32; 64]; 6], kinds: &[BlockKind; 2], out:
     }
 }
 
-/// Whether a block has no level but 0.
+/// Whether a block has no level but 0. All are looked at, by lanes, and none ends the loop.
 #[inline(always)]
-fn is_empty(levels: &Levels) -> bool
-    ensures { result ≡ is_empty_of levels.now.at }
+fn is_empty(levels: &[i32; 64]) -> bool
+    ensures { result ≡ is_empty_of levels.now }
 {
-    levels.at.iter().all(|level| level.unsigned_abs() == 0)
+    let mut sizes = 0;
+    for k in 0..64 {
+        sizes |= levels[k].unsigned_abs();
+    }
+    sizes == 0
 }
 
 /// A block's bit in the pattern.
@@ -212,7 +256,7 @@ fn is_empty(levels: &Levels) -> bool
 fn pattern_bit(levels: &Levels, bit: u8) -> u8
     ensures { result ≡ cond (is_empty_of levels.now.at) 0 bit }
 {
-    if is_empty(levels) { 0 } else { bit }
+    if is_empty(&levels.at) { 0 } else { bit }
 }
 
 /// The coded block pattern of levels.

@@ -1,5 +1,5 @@
 //! The choice of a macroblock.
-ghost use Rattle.std.specs.Prelude.{◌≡◌, ◌≢◌, ◌≤◌, ◌<◌, ◌⊎◌, true, false, cond, IsTrue, slice_index_or, pos, replicate, [], ◌∷◌};
+ghost use Rattle.std.specs.Prelude.{◌≡◌, ◌≢◌, ◌≤◌, ◌<◌, ◌+◌, ◌⊎◌, true, false, cond, IsTrue, slice_index_or, pos, replicate, [], ◌∷◌};
 ghost use Rattle.m2v_plane.specs.declared.dims.Dims.{Dims};
 ghost use Rattle.m2v_pred.specs.Vectors.{IsInside, IsPlace};
 ghost use Rattle.m2v_recon.specs.Steps.{levels_of};
@@ -8,15 +8,16 @@ ghost use Rattle.m2v_macroblock.specs.Predictions.{View};
 ghost use Rattle.m2v_macroblock.specs.Conditions.{AreDc};
 ghost use Rattle.m2v_choose.specs.Decisions.{Decision, skipped, increment_of};
 ghost use Rattle.m2v_choose.specs.Candidates.{still_vector as still_vector_of, held_levels as held_levels_of, hold as hold_of, may_skip as may_skip_of};
-ghost use Rattle.m2v_choose.specs.Choice.{bits_taken, choice_of};
+ghost use Rattle.m2v_choose.specs.Choice.{bits_taken, choice_of, score};
 ghost use Rattle.m2v_choose.specs.Own.{IsOwn, IsOwnState, AreLimits};
 ghost use Rattle.m2v_choose.specs.Trials.{References, decided, references_of, IsTask, IsRead, IsRated, Tried, AreReferences, IsBefore, HasDirection, decision, place_at, candidate_of, direction_by, place_for};
 
 use crate::coding::intra_syntax;
 use crate::motion::plain_form;
 use crate::predictions::{moving_syntax, predict_moving};
+use crate::scratch::ChoiceScratch;
 use crate::task::{Task, task_of};
-use crate::trial::{Best, no_levels};
+use crate::trial::{Best, no_levels, no_prediction};
 use crate::values::{Choice, Limits};
 use crate::vectors::{FieldVector, Vectors, no_vector, place_of};
 use m2v_macro::{PictureContext, SliceState};
@@ -69,15 +70,16 @@ fn hold_intra(task: &Task) -> Best
     ensures candidate { (r : References)
         → candidate_of result.choice ≡ hold_of (decided r task.now) }
     ensures rated { (r : References) → IsRated (decided r task.now) result }
+    ensures score { (r : References) → result.below
+        ≡ score (decided r task.now) (candidate_of result.choice) }
 {
-    let none = Block16 { at: [0; 384] };
     let syntax = intra_syntax(task, task.state.quantiser, false);
     let levels = held_levels(task);
-    Best::held(task, &syntax, &levels, &none)
+    Best::held(task, &syntax, &levels, no_prediction())
 }
 
 /// The macroblock as it is held in a P or B picture: by vector zero, forward or backward.
-fn hold_still<V: RefView>(task: &Task, forward: &V, backward: &V) -> Best
+fn hold_still<V: RefView>(task: &Task, forward: &V, backward: &V, prediction: &mut Block16) -> Best
     requires task { IsTask task.now }
     requires kind { (task.now.context.now.kind ≡ 2) ⊎ (task.now.context.now.kind ≡ 3) }
     requires references { AreReferences task.now.context.now.kind (place_for task.now)
@@ -89,18 +91,20 @@ fn hold_still<V: RefView>(task: &Task, forward: &V, backward: &V) -> Best
     ensures rated { IsRated (decided
         (references_of (V.size forward.now) (V.at forward.now) (V.at backward.now)) task.now)
         result }
+    ensures score { result.below ≡ score (decided
+        (references_of (V.size forward.now) (V.at forward.now) (V.at backward.now)) task.now)
+        (candidate_of result.choice) }
 {
     let still = still_vector(task.context);
     let kind = task.context.kind;
     let form = plain_form(task.context);
     let m = moving_syntax(task, form, kind == 2, kind == 3, &still, &still);
-    let mut prediction = Block16 { at: [0; 384] };
-    predict_moving(task, forward, backward, &m, &mut prediction);
-    Best::held(task, &m, &no_levels(), &prediction)
+    predict_moving(task, forward, backward, &m, prediction);
+    Best::held(task, &m, no_levels(), prediction)
 }
 
 /// The macroblock as it is held: the first candidate.
-fn hold<V: RefView>(task: &Task, forward: &V, backward: &V) -> Best
+fn hold<V: RefView>(task: &Task, forward: &V, backward: &V, prediction: &mut Block16) -> Best
     requires task { IsTask task.now }
     requires references { AreReferences task.now.context.now.kind (place_for task.now)
         (V.size forward.now) (V.size backward.now)
@@ -111,11 +115,14 @@ fn hold<V: RefView>(task: &Task, forward: &V, backward: &V) -> Best
     ensures rated { IsRated (decided
         (references_of (V.size forward.now) (V.at forward.now) (V.at backward.now)) task.now)
         result }
+    ensures score { result.below ≡ score (decided
+        (references_of (V.size forward.now) (V.at forward.now) (V.at backward.now)) task.now)
+        (candidate_of result.choice) }
 {
     if task.context.kind == 1 {
         return hold_intra(task);
     }
-    hold_still(task, forward, backward)
+    hold_still(task, forward, backward, prediction)
 }
 
 /// Whether the macroblock may be skipped: it is neither the first nor the last one of its slice, and in a B picture not
@@ -146,7 +153,13 @@ fn may_skip<V: RefView>(task: &Task, forward: &V, mode: &Mode) -> bool
 
 impl Best {
     /// Tries to skip the macroblock, where it may be skipped.
-    fn try_skip<V: RefView>(&mut self, task: &Task, forward: &V, backward: &V)
+    fn try_skip<V: RefView>(
+        &mut self,
+        task: &Task,
+        forward: &V,
+        backward: &V,
+        prediction: &mut Block16,
+    )
         requires task { IsTask task.now }
         requires direction { HasDirection task.now.context.now task.now.state.now
             task.now.limits.now }
@@ -162,14 +175,31 @@ impl Best {
         if !may_skip(task, forward, &mode) {
             return;
         }
-        let mut prediction = Block16 { at: [0; 384] };
-        predict(forward, backward, &mode, place_of(task), &mut prediction);
-        self.try_skipped(task, &prediction);
+        predict(forward, backward, &mode, place_of(task), prediction);
+        self.try_skipped(task, prediction);
     }
 }
 
-/// What is chosen of a macroblock: of the candidates that are short enough, the first of least score.
-fn choose_for<V: RefView>(task: &Task, forward: &V, backward: &V) -> Choice
+/// Below what a candidate must score to be taken in the place of one that comes before it, and of one that comes behind it
+/// and wins no tie.
+#[inline(always)]
+fn limit_of(before: u64, behind: u64) -> u64
+    ensures most { result ≤ before }
+    ensures near { result ≤ behind + 1 }
+    ensures one { (result ≡ before) ⊎ (result ≡ behind + 1) }
+{
+    if behind < before { behind + 1 } else { before }
+}
+
+/// What is chosen of a macroblock: of the candidates that are short enough, the first of least score. Predictions by
+/// vectors are tried first, though they come last: intra macroblocks and the type without a direction, which seldom score
+/// less, are then looked at only as far as they score no more.
+fn choose_for<V: RefView>(
+    task: &Task,
+    forward: &V,
+    backward: &V,
+    scratch: &mut ChoiceScratch,
+) -> Choice
     requires task { IsTask task.now }
     requires direction { HasDirection task.now.context.now task.now.state.now task.now.limits.now }
     requires references { AreReferences task.now.context.now.kind (place_for task.now)
@@ -182,11 +212,18 @@ fn choose_for<V: RefView>(task: &Task, forward: &V, backward: &V) -> Choice
         (references_of (V.size forward.now) (V.at forward.now) (V.at backward.now)) task.now in
         result.bits ≡ bits_taken d (choice_of d) }
 {
-    let mut best = hold(task, forward, backward);
-    best.try_skip(task, forward, backward);
-    best.try_intra(task);
-    best.try_predictions(task, forward, backward);
-    best.choice
+    let mut best = hold(task, forward, backward, &mut scratch.trial.prediction);
+    best.try_skip(task, forward, backward, &mut scratch.trial.prediction);
+    let mut later = best;
+    later.try_later(task, forward, backward, scratch);
+    let limit = limit_of(best.below, later.below);
+    best.below = limit;
+    best.try_intra(task, &mut scratch.trial.coding);
+    best.try_zero(task, forward, backward, &mut scratch.trial);
+    if best.below < limit {
+        return best.choice;
+    }
+    later.choice
 }
 
 /// What is chosen of a macroblock (clauses 6.2.5 and 6.3.17): of all candidates that have at most 4,608 bits and at most the
@@ -226,6 +263,53 @@ pub fn choose<V: RefView>(
     ensures most { result.bits ≤ 4608 }
     ensures fits { result.bits ≤ limits.now.room }
 {
+    let mut scratch = ChoiceScratch::new();
+    choose_in(
+        source,
+        forward,
+        backward,
+        context,
+        state,
+        limits,
+        &mut scratch,
+    )
+}
+
+/// What `choose` chooses, in room that is lent: whatever stands in it before.
+pub fn choose_in<V: RefView>(
+    source: &Block16,
+    forward: &V,
+    backward: &V,
+    context: &PictureContext,
+    state: &SliceState,
+    limits: &Limits,
+    scratch: &mut ChoiceScratch,
+) -> Choice
+    requires own { IsOwn context.now }
+    requires state { IsOwnState state.now }
+    requires dc { AreDc 0 state.now.dc }
+    requires direction { HasDirection context.now state.now limits.now }
+    requires address { IsBefore context.now state.now limits.now }
+    requires limits { AreLimits limits.now }
+    requires row { limits.now.row < 72 }
+    requires column { limits.now.column < context.now.columns }
+    requires forward { context.now.kind ≢ 1
+        → IsRead (V.size forward.now) (V.Holds forward.now) (place_at context.now limits.now) }
+    requires backward { context.now.kind ≡ 3
+        → IsRead (V.size backward.now) (V.Holds backward.now) (place_at context.now limits.now) }
+    requires sizes { context.now.kind ≡ 3 → V.size backward.now ≡ V.size forward.now }
+    requires room { let d = decision (V.size forward.now) source.now.at (V.at forward.now)
+        (V.at backward.now) context.now state.now limits.now in
+        bits_taken d (hold_of d) ≤ limits.now.room }
+    ensures value { candidate_of result
+        ≡ choice_of (decision (V.size forward.now) source.now.at (V.at forward.now)
+        (V.at backward.now) context.now state.now limits.now) }
+    ensures bits { let d = decision (V.size forward.now) source.now.at (V.at forward.now)
+        (V.at backward.now) context.now state.now limits.now in
+        result.bits ≡ bits_taken d (choice_of d) }
+    ensures most { result.bits ≤ 4608 }
+    ensures fits { result.bits ≤ limits.now.room }
+{
     let task = task_of(source, context, state, limits);
-    choose_for(&task, forward, backward)
+    choose_for(&task, forward, backward, scratch)
 }

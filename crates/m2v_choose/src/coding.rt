@@ -6,15 +6,39 @@ ghost use Rattle.m2v_macro.specs.Macros.{no_form as no_form_of};
 ghost use Rattle.m2v_choose.specs.Decisions.{Prediction, uncoded_syntax, intra_syntax as intra_syntax_of};
 ghost use Rattle.m2v_choose.specs.Candidates.{second_q as second_q_of, codings_at, codings, samples_by, coded_by, has_block, intra_by};
 ghost use Rattle.m2v_choose.specs.Own.{IsCode};
-ghost use Rattle.m2v_choose.specs.Trials.{References, decided, IsTask, IsRated, Tried, CanCode, has_types, sends_code, with_blocks as with_blocks_of, transforms_of};
+ghost use Rattle.m2v_choose.specs.Trials.{References, decided, IsTask, IsRated, Tried, CanCode, has_types, AreSquares, HasSquares, block_squared, uncoded_squared, sends_code, with_blocks as with_blocks_of, transforms_of};
 
-use crate::blocks::{pattern_of, quantise_blocks, transform};
+use crate::blocks::{pattern_of, quantise_blocks, transform, transform_by_fields};
+use crate::scratch::CodingScratch;
+use crate::squares::{part_squares, uncoded_squares};
 use crate::task::Task;
-use crate::trial::{Best, no_levels};
+use crate::trial::Best;
 use m2v_macro::{MacroSyntax, PictureContext};
 use m2v_macroblock::kinds;
 use m2v_pred::Block16;
 use m2v_quant::Levels;
+
+/// A macroblock that has a prediction, before its blocks: its elements, and the samples of its prediction.
+#[derive(Clone, Copy)]
+pub struct Uncoded<'a> {
+    /// Its elements without blocks.
+    pub bare: &'a MacroSyntax,
+    /// The samples of its prediction.
+    pub prediction: &'a Block16,
+    /// The squares of its blocks by DCT type 0.
+    pub frame: &'a [u32; 6],
+    /// Those by DCT type 1, where the picture has it.
+    pub field: &'a [u32; 6],
+}
+
+/// The transforms of the six blocks: by DCT type 0, and by DCT type 1 where the picture has it.
+#[derive(Clone, Copy)]
+pub struct Transforms<'a> {
+    /// Those by DCT type 0.
+    pub frame: &'a [[i32; 64]; 6],
+    /// Those by DCT type 1.
+    pub field: &'a [[i32; 64]; 6],
+}
 
 /// Whether dct_type stands in the picture.
 #[inline(always)]
@@ -80,6 +104,7 @@ pub fn intra_syntax(task: &Task, q: u8, dct_field: bool) -> MacroSyntax
     ensures value { (r : References)
         → result ≡ intra_syntax_of (decided r task.now) (record { q = q; dct_field = dct_field }) }
     ensures increment { result.increment ≡ task.now.increment }
+    ensures pattern { result.pattern ≡ 63 }
 {
     let send = sends(task, q);
     let mut m = MacroSyntax::blank();
@@ -95,15 +120,49 @@ pub fn intra_syntax(task: &Task, q: u8, dct_field: bool) -> MacroSyntax
 
 /// The transforms by DCT type 1, where the picture has it.
 #[inline(always)]
-pub fn transform_fields(task: &Task, prediction: &Block16, out: &mut [[i32; 64]; 6])
-    requires coefficients { All (All IsCoefficient) out.old }
+pub fn transform_fields(
+    task: &Task,
+    prediction: &Block16,
+    frame: &[[i32; 64]; 6],
+    out: &mut [[i32; 64]; 6],
+)
+    requires frame { frame.now
+        ≡ transforms_of task.now.source.now.at prediction.now.at false }
+    requires known { All (All IsCoefficient) frame.now }
     ensures value { has_types task.now.context.now ≡ true
         → out.new ≡ transforms_of task.now.source.now.at prediction.now.at true }
-    ensures coefficients { All (All IsCoefficient) out.new }
+    ensures coefficients { has_types task.now.context.now ≡ true
+        → All (All IsCoefficient) out.new }
 {
     if has_dct_type(task.context) {
-        transform(task.source, prediction, true, out);
+        transform_by_fields(task.source, prediction, frame, out);
     }
+}
+
+/// The squares of the blocks of a prediction by DCT type 1, where the picture has it.
+#[inline(always)]
+pub fn field_squares(task: &Task, prediction: &Block16, out: &mut [u32; 6])
+    ensures { has_types task.now.context.now ≡ true
+        → AreSquares true task.now.source.now.at prediction.now.at out.new }
+{
+    if has_dct_type(task.context) {
+        part_squares(task.source, prediction, true, out);
+    }
+}
+
+/// The squares of the blocks of a prediction that have no level.
+#[inline(always)]
+fn still_squares(task: &Task, plain: &Uncoded, dct_field: bool, pattern: u8) -> u32
+    requires squares { HasSquares task.now plain.now }
+    requires dct { dct_field ≡ true → has_types task.now.context.now ≡ true }
+    ensures value { result ≡ uncoded_squared pattern (block_squared dct_field
+        task.now.source.now.at plain.now.prediction.now.at) }
+    ensures most { result ≤ 49939200 }
+{
+    if dct_field {
+        return uncoded_squares(plain.field, pattern);
+    }
+    uncoded_squares(plain.frame, pattern)
 }
 
 impl Best {
@@ -111,8 +170,7 @@ impl Best {
     fn try_coding(
         &mut self,
         task: &Task,
-        bare: &MacroSyntax,
-        prediction: &Block16,
+        plain: &Uncoded,
         transforms: &[[i32; 64]; 6],
         q: u8,
         dct_field: bool,
@@ -121,12 +179,14 @@ impl Best {
         requires task { IsTask task.now }
         requires q { IsCode q }
         requires dct { dct_field ≡ true → has_types task.now.context.now ≡ true }
-        requires bare { CanCode task.now bare.now }
+        requires bare { CanCode task.now plain.now.bare.now }
+        requires squares { HasSquares task.now plain.now }
         requires coefficients { All (All IsCoefficient) transforms.now }
         ensures tried { (r : References) (p : Prediction)
-            → bare.now ≡ uncoded_syntax (decided r task.now) p
-            → prediction.now.at ≡ samples_by (decided r task.now) p
-            → transforms.now ≡ transforms_of task.now.source.now.at prediction.now.at dct_field
+            → plain.now.bare.now ≡ uncoded_syntax (decided r task.now) p
+            → plain.now.prediction.now.at ≡ samples_by (decided r task.now) p
+            → transforms.now
+            ≡ transforms_of task.now.source.now.at plain.now.prediction.now.at dct_field
             → IsRated (decided r task.now) self.old
             → Tried (decided r task.now) self.old self.new
             (filter has_block (coded_by (decided r task.now) p
@@ -138,65 +198,71 @@ impl Best {
         if pattern == 0 {
             return;
         }
-        let syntax = with_blocks(bare, sends(task, q), q, dct_field, pattern);
-        self.try_written(task, &syntax, room, prediction);
+        let syntax = with_blocks(plain.bare, sends(task, q), q, dct_field, pattern);
+        let still = still_squares(task, plain, dct_field, pattern);
+        self.try_written(task, &syntax, room, plain.prediction, still);
     }
 
     /// Tries a prediction by a quantiser, with both DCT types where the picture has them.
     fn try_codings_at(
         &mut self,
         task: &Task,
-        bare: &MacroSyntax,
-        prediction: &Block16,
-        frame: &[[i32; 64]; 6],
-        field: &[[i32; 64]; 6],
+        plain: &Uncoded,
+        transforms: &Transforms,
         q: u8,
         room: &mut [Levels; 6],
     )
         requires task { IsTask task.now }
         requires q { IsCode q }
-        requires bare { CanCode task.now bare.now }
-        requires frame { All (All IsCoefficient) frame.now }
-        requires field { All (All IsCoefficient) field.now }
+        requires bare { CanCode task.now plain.now.bare.now }
+        requires squares { HasSquares task.now plain.now }
+        requires frame { All (All IsCoefficient) transforms.now.frame.now }
+        requires field { has_types task.now.context.now ≡ true
+            → All (All IsCoefficient) transforms.now.field.now }
         ensures tried { (r : References) (p : Prediction)
-            → bare.now ≡ uncoded_syntax (decided r task.now) p
-            → prediction.now.at ≡ samples_by (decided r task.now) p
-            → frame.now ≡ transforms_of task.now.source.now.at prediction.now.at false
-            → (has_types task.now.context.now ≡ true
-            → field.now ≡ transforms_of task.now.source.now.at prediction.now.at true)
+            → plain.now.bare.now ≡ uncoded_syntax (decided r task.now) p
+            → plain.now.prediction.now.at ≡ samples_by (decided r task.now) p
+            → transforms.now.frame.now
+            ≡ transforms_of task.now.source.now.at plain.now.prediction.now.at false
+            → (has_types task.now.context.now ≡ true → transforms.now.field.now
+            ≡ transforms_of task.now.source.now.at plain.now.prediction.now.at true)
             → IsRated (decided r task.now) self.old
             → Tried (decided r task.now) self.old self.new
             (filter has_block (map (coded_by (decided r task.now) p)
             (codings_at (decided r task.now) q))) }
     {
-        self.try_coding(task, bare, prediction, frame, q, false, room);
+        self.try_coding(task, plain, transforms.frame, q, false, room);
         if has_dct_type(task.context) {
-            self.try_coding(task, bare, prediction, field, q, true, room);
+            self.try_coding(task, plain, transforms.field, q, true, room);
         }
     }
 
     /// Tries all codings of a prediction, in order.
-    pub fn try_codings(&mut self, task: &Task, bare: &MacroSyntax, prediction: &Block16)
+    pub fn try_codings(&mut self, task: &Task, plain: &Uncoded, scratch: &mut CodingScratch)
         requires task { IsTask task.now }
-        requires bare { CanCode task.now bare.now }
+        requires bare { CanCode task.now plain.now.bare.now }
+        requires squares { HasSquares task.now plain.now }
         ensures tried { (r : References) (p : Prediction)
-            → bare.now ≡ uncoded_syntax (decided r task.now) p
-            → prediction.now.at ≡ samples_by (decided r task.now) p
+            → plain.now.bare.now ≡ uncoded_syntax (decided r task.now) p
+            → plain.now.prediction.now.at ≡ samples_by (decided r task.now) p
             → IsRated (decided r task.now) self.old
             → Tried (decided r task.now) self.old self.new
             (filter has_block (map (coded_by (decided r task.now) p)
             (codings (decided r task.now)))) }
     {
-        let mut room = no_levels();
-        let mut frame = [[0; 64]; 6];
-        let mut field = [[0; 64]; 6];
-        transform(task.source, prediction, false, &mut frame);
-        transform_fields(task, prediction, &mut field);
+        let CodingScratch {
+            frame,
+            field,
+            levels,
+        } = scratch;
+        transform(task.source, plain.prediction, false, frame);
+        transform_fields(task, plain.prediction, frame, field);
+        let transforms = Transforms { frame, field };
         let q = task.limits.q;
-        self.try_codings_at(task, bare, prediction, &frame, &field, q, &mut room);
+        self.try_codings_at(task, plain, &transforms, q, levels);
         let second = second_q(q);
         if second != q {
-            self.try_codings_at(task, bare, prediction, &frame, &field, second, &mut room);
+            self.try_codings_at(task, plain, &transforms, second, levels);
         }
     }
 }

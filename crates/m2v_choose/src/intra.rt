@@ -6,19 +6,18 @@ ghost use Rattle.m2v_choose.specs.Own.{IsCode};
 ghost use Rattle.m2v_choose.specs.Trials.{References, decided, IsTask, IsRated, Tried, has_types, transforms_of};
 
 use crate::blocks::{quantise_blocks, transform};
-use crate::coding::{has_dct_type, intra_syntax, second_q, transform_fields};
+use crate::coding::{Transforms, has_dct_type, intra_syntax, second_q, transform_fields};
+use crate::scratch::CodingScratch;
 use crate::task::Task;
-use crate::trial::{Best, no_levels};
+use crate::trial::{Best, no_prediction};
 use m2v_macroblock::kinds;
-use m2v_pred::Block16;
 use m2v_quant::Levels;
 
 impl Best {
-    /// Tries an intra macroblock. `none` is a prediction of zeros, `room` is for levels.
+    /// Tries an intra macroblock. `room` is for levels.
     fn try_intra_coding(
         &mut self,
         task: &Task,
-        none: &Block16,
         transforms: &[[i32; 64]; 6],
         q: u8,
         dct_field: bool,
@@ -27,7 +26,6 @@ impl Best {
         requires task { IsTask task.now }
         requires q { IsCode q }
         requires dct { dct_field ≡ true → has_types task.now.context.now ≡ true }
-        requires none { none.now.at ≡ replicate 384 0 }
         requires transforms { transforms.now
             ≡ transforms_of task.now.source.now.at (replicate 384 0) dct_field }
         requires coefficients { All (All IsCoefficient) transforms.now }
@@ -38,55 +36,50 @@ impl Best {
         let kinds = kinds(task.context, true, q);
         quantise_blocks(transforms, &kinds, room);
         let syntax = intra_syntax(task, q, dct_field);
-        self.try_written(task, &syntax, room, none);
+        self.try_written(task, &syntax, room, no_prediction(), 0);
     }
 
     /// Tries an intra macroblock by a quantiser, with both DCT types where the picture has them.
-    fn try_intra_at(
-        &mut self,
-        task: &Task,
-        none: &Block16,
-        frame: &[[i32; 64]; 6],
-        field: &[[i32; 64]; 6],
-        q: u8,
-        room: &mut [Levels; 6],
-    )
+    fn try_intra_at(&mut self, task: &Task, transforms: &Transforms, q: u8, room: &mut [Levels; 6])
         requires task { IsTask task.now }
         requires q { IsCode q }
-        requires none { none.now.at ≡ replicate 384 0 }
-        requires frame { frame.now ≡ transforms_of task.now.source.now.at (replicate 384 0) false }
-        requires field { has_types task.now.context.now ≡ true
-            → field.now ≡ transforms_of task.now.source.now.at (replicate 384 0) true }
-        requires first { All (All IsCoefficient) frame.now }
-        requires second { All (All IsCoefficient) field.now }
+        requires frame { transforms.now.frame.now
+            ≡ transforms_of task.now.source.now.at (replicate 384 0) false }
+        requires field { has_types task.now.context.now ≡ true → transforms.now.field.now
+            ≡ transforms_of task.now.source.now.at (replicate 384 0) true }
+        requires first { All (All IsCoefficient) transforms.now.frame.now }
+        requires second { has_types task.now.context.now ≡ true
+            → All (All IsCoefficient) transforms.now.field.now }
         ensures tried { (r : References) → IsRated (decided r task.now) self.old
             → Tried (decided r task.now) self.old self.new
             (map (intra_by (decided r task.now)) (codings_at (decided r task.now) q)) }
     {
-        self.try_intra_coding(task, none, frame, q, false, room);
+        self.try_intra_coding(task, transforms.frame, q, false, room);
         if has_dct_type(task.context) {
-            self.try_intra_coding(task, none, field, q, true, room);
+            self.try_intra_coding(task, transforms.field, q, true, room);
         }
     }
 
     /// Tries all codings of an intra macroblock, in order.
-    pub fn try_intra(&mut self, task: &Task)
+    pub fn try_intra(&mut self, task: &Task, scratch: &mut CodingScratch)
         requires task { IsTask task.now }
         ensures tried { (r : References) → IsRated (decided r task.now) self.old
             → Tried (decided r task.now) self.old self.new
             (map (intra_by (decided r task.now)) (codings (decided r task.now))) }
     {
-        let none = Block16 { at: [0; 384] };
-        let mut room = no_levels();
-        let mut frame = [[0; 64]; 6];
-        let mut field = [[0; 64]; 6];
-        transform(task.source, &none, false, &mut frame);
-        transform_fields(task, &none, &mut field);
+        let CodingScratch {
+            frame,
+            field,
+            levels,
+        } = scratch;
+        transform(task.source, no_prediction(), false, frame);
+        transform_fields(task, no_prediction(), frame, field);
+        let transforms = Transforms { frame, field };
         let q = task.limits.q;
-        self.try_intra_at(task, &none, &frame, &field, q, &mut room);
+        self.try_intra_at(task, &transforms, q, levels);
         let second = second_q(q);
         if second != q {
-            self.try_intra_at(task, &none, &frame, &field, second, &mut room);
+            self.try_intra_at(task, &transforms, second, levels);
         }
     }
 }

@@ -1,5 +1,5 @@
 //! The predictions of a macroblock, in order: each without blocks where it may be, and with coded blocks.
-ghost use Rattle.std.specs.Prelude.{◌≡◌, ◌≢◌, ℕ, Bool, ◌||◌, true, false, cond, nat_eq, IsTrue, [], ◌∷◌};
+ghost use Rattle.std.specs.Prelude.{◌≡◌, ◌≢◌, ◌≤◌, ℕ, Bool, ◌||◌, true, false, cond, nat_eq, IsTrue, [], ◌∷◌};
 ghost use Rattle.std.specs.List.{flat_map};
 ghost use Rattle.m2v_macro.specs.declared.values.Direction.{Direction};
 ghost use Rattle.m2v_macro.specs.Conditions.{IsMacro};
@@ -7,9 +7,12 @@ ghost use Rattle.m2v_macro.specs.Macros.{no_vectors};
 ghost use Rattle.m2v_macroblock.specs.Predictions.{prediction_of};
 ghost use Rattle.m2v_choose.specs.Decisions.{Prediction, uncoded_syntax, written, no_levels as no_levels_of};
 ghost use Rattle.m2v_choose.specs.Candidates.{prediction, predictions_by, samples_by, by_prediction};
-ghost use Rattle.m2v_choose.specs.Trials.{References, decided, references_of, IsTask, IsRead, IsRated, Tried, Predicts, CanCode, CanPredict, CanTry, direction_by, moving_syntax as moving_syntax_of, place_for};
+ghost use Rattle.m2v_choose.specs.Choice.{squared as squared_of};
+ghost use Rattle.m2v_choose.specs.Trials.{HasSquares, References, decided, references_of, IsTask, IsRead, IsRated, Tried, Predicts, CanCode, CanPredict, CanTry, direction_by, moving_syntax as moving_syntax_of, place_for};
 
-use crate::coding::{sends, with_blocks};
+use crate::coding::{Uncoded, field_squares, sends, with_blocks};
+use crate::scratch::{CodingScratch, TrialScratch};
+use crate::squares::{part_squares, uncoded_squares};
 use crate::task::Task;
 use crate::trial::{Best, no_levels};
 use crate::vectors::{FieldVector, Vectors, no_vector, place_of};
@@ -86,18 +89,27 @@ pub fn predict_moving<V: RefView>(
 
 impl Best {
     /// Tries a prediction without blocks, where it may be without.
-    fn try_uncoded(&mut self, task: &Task, bare: &MacroSyntax, uncoded: bool, prediction: &Block16)
+    fn try_uncoded(
+        &mut self,
+        task: &Task,
+        bare: &MacroSyntax,
+        uncoded: bool,
+        prediction: &Block16,
+        whole: u32,
+    )
         requires task { IsTask task.now }
         requires increment { bare.now.increment ≡ task.now.increment }
         requires stands { uncoded ≡ true → IsMacro task.now.context.now task.now.first bare.now }
         requires pattern { bare.now.pattern ≡ 0 }
+        requires whole { whole ≡ squared_of task.now.source.now.at prediction.now.at }
+        requires most { whole ≤ 49939200 }
         ensures tried { (r : References) → Predicts r task.now bare.now prediction.now.at
             → IsRated (decided r task.now) self.old
             → Tried (decided r task.now) self.old self.new
             (cond uncoded (written bare.now no_levels_of ∷ []) []) }
     {
         if uncoded {
-            self.try_written(task, bare, &no_levels(), prediction);
+            self.try_written(task, bare, no_levels(), prediction, whole);
         }
     }
 
@@ -105,22 +117,25 @@ impl Best {
     fn try_predicted(
         &mut self,
         task: &Task,
-        bare: &MacroSyntax,
+        plain: &Uncoded,
         uncoded: bool,
-        prediction: &Block16,
+        scratch: &mut CodingScratch,
     )
         requires task { IsTask task.now }
-        requires code { CanCode task.now bare.now }
-        requires stands { uncoded ≡ true → IsMacro task.now.context.now task.now.first bare.now }
-        requires pattern { bare.now.pattern ≡ 0 }
+        requires code { CanCode task.now plain.now.bare.now }
+        requires stands { uncoded ≡ true
+            → IsMacro task.now.context.now task.now.first plain.now.bare.now }
+        requires pattern { plain.now.bare.now.pattern ≡ 0 }
+        requires squares { HasSquares task.now plain.now }
         ensures tried { (r : References) (p : Prediction)
-            → bare.now ≡ uncoded_syntax (decided r task.now) p → p.uncoded ≡ uncoded
-            → prediction.now.at ≡ samples_by (decided r task.now) p
+            → plain.now.bare.now ≡ uncoded_syntax (decided r task.now) p → p.uncoded ≡ uncoded
+            → plain.now.prediction.now.at ≡ samples_by (decided r task.now) p
             → IsRated (decided r task.now) self.old
             → Tried (decided r task.now) self.old self.new (by_prediction (decided r task.now) p) }
     {
-        self.try_uncoded(task, bare, uncoded, prediction);
-        self.try_codings(task, bare, prediction);
+        let whole = uncoded_squares(plain.frame, 0);
+        self.try_uncoded(task, plain.bare, uncoded, plain.prediction, whole);
+        self.try_codings(task, plain, scratch);
     }
 
     /// Tries a prediction.
@@ -131,6 +146,7 @@ impl Best {
         backward: &V,
         bare: &MacroSyntax,
         uncoded: bool,
+        scratch: &mut TrialScratch,
     )
         requires task { IsTask task.now }
         requires can { CanTry task.now (V.size forward.now) (V.Holds forward.now)
@@ -142,8 +158,17 @@ impl Best {
             bare.now ≡ uncoded_syntax d p → p.uncoded ≡ uncoded → IsRated d self.old
             → Tried d self.old self.new (by_prediction d p) }
     {
-        let mut prediction = Block16 { at: [0; 384] };
-        predict_moving(task, forward, backward, bare, &mut prediction);
-        self.try_predicted(task, bare, uncoded, &prediction);
+        let TrialScratch { prediction, coding } = scratch;
+        predict_moving(task, forward, backward, bare, prediction);
+        let (mut frame, mut field) = ([0; 6], [0; 6]);
+        part_squares(task.source, prediction, false, &mut frame);
+        field_squares(task, prediction, &mut field);
+        let plain = Uncoded {
+            bare,
+            prediction,
+            frame: &frame,
+            field: &field,
+        };
+        self.try_predicted(task, &plain, uncoded, coding);
     }
 }

@@ -1,10 +1,13 @@
 //! Squares of differences of samples.
-ghost use Rattle.std.specs.Prelude.{◌≡◌, ◌≤◌, ◌+◌, ◌*◌, ◌^◌, sum_by};
+ghost use Rattle.std.specs.Prelude.{◌≡◌, ℕ, ◌≤◌, ◌<◌, ◌+◌, ◌*◌, ◌^◌, cond, slice_index, sum_by};
 ghost use Rattle.std.specs.List.{range_with_len};
 ghost use Rattle.m2v_kernel.specs.Sums.{apart};
 ghost use Rattle.m2v_choose.specs.Choice.{square_at, plane_squared as plane_squared_of, squared as squared_of};
+ghost use Rattle.m2v_choose.specs.Trials.{block_squared as block_squared_of, uncoded_squared, AreSquares};
 
+use crate::blocks::line_place;
 use m2v_pred::Block16;
+use m2v_recon::is_coded;
 
 /// The square of how far two samples lie apart.
 #[inline(always)]
@@ -56,4 +59,47 @@ pub fn squared(source: &Block16, samples: &Block16) -> u32
     plane_squared(source, samples, 16, 0)
         + plane_squared(source, samples, 8, 256)
         + plane_squared(source, samples, 8, 320)
+}
+
+/// The squares of a block's samples.
+pub fn block_squared(source: &Block16, samples: &Block16, dct_field: bool, block: usize) -> u32
+    requires block { block < 6 }
+    ensures value { result ≡ block_squared_of dct_field source.now.at samples.now.at block }
+    ensures most { result ≤ 8323200 }
+{
+    let mut sum = 0;
+    for line in 0..8 {
+        sum += line_squared(source, samples, line_place(dct_field, block, line), 8);
+    }
+    sum
+}
+
+/// The squares of the six blocks of a prediction.
+pub fn part_squares(source: &Block16, samples: &Block16, dct_field: bool, out: &mut [u32; 6])
+    ensures { AreSquares dct_field source.now.at samples.now.at out.new }
+{
+    for block in 0..6usize {
+        out[block] = block_squared(source, samples, dct_field, block);
+    }
+}
+
+/// The squares of the blocks that aren't coded.
+pub fn uncoded_squares(squares: &[u32; 6], pattern: u8) -> u32
+    requires most { (b : ℕ) → b < 6 → slice_index squares.now b ≤ 8323200 }
+    ensures value { result ≡ uncoded_squared pattern (slice_index squares.now) }
+    ensures most { result ≤ 49939200 }
+{
+    let mut sum = 0;
+    for block in 0..6usize {
+        sum += uncoded_square(squares[block], is_coded(pattern, block as u32));
+    }
+    sum
+}
+
+/// The squares of a block that isn't coded, 0 of one that is.
+#[inline(always)]
+fn uncoded_square(square: u32, coded: bool) -> u32
+    ensures { result ≡ cond coded 0 square }
+{
+    if coded { 0 } else { square }
 }

@@ -1,30 +1,51 @@
 //! The best candidate of a macroblock so far, and candidates that are tried against it.
-ghost use Rattle.std.specs.Prelude.{◌≡◌, ℕ, ◌+◌, ◌*◌, ◌^◌, ◌≤◌, ◌<◌, ◌&&◌, nat_le, if◌then◌else◌, [], ◌∷◌, false};
+ghost use Rattle.std.specs.Prelude.{◌≡◌, ℕ, ◌+◌, ◌*◌, ◌^◌, ◌≤◌, ◌<◌, ◌&&◌, ◌⊎◌, All, true, cond, slice_index, nat_le, if◌then◌else◌, [], ◌∷◌, false, replicate};
 ghost use Rattle.m2v_macro.specs.Conditions.{IsMacro};
 ghost use Rattle.m2v_macroblock.specs.Macroblocks.{macroblock_of};
 ghost use Rattle.m2v_macroblock.specs.Modes.{skipped_mode};
+ghost use Rattle.m2v_quant.specs.Kinds.{IsKind, IsLevel};
+ghost use Rattle.m2v_recon.specs.Macro.{is_coded as is_coded_in};
 ghost use Rattle.m2v_recon.specs.Steps.{levels_of};
 ghost use Rattle.m2v_pred.specs.Predicted.{predicted, block_by};
 ghost use Rattle.m2v_choose.specs.Decisions.{place_of, skipped, written, no_levels as no_levels_of};
-ghost use Rattle.m2v_choose.specs.Choice.{squared as squared_of, bits_taken};
+ghost use Rattle.m2v_choose.specs.Choice.{squared as squared_of, bits_taken, score};
 ghost use Rattle.m2v_choose.specs.Laws.{IsWritable};
-ghost use Rattle.m2v_choose.specs.Trials.{decided, References, IsTask, IsRated, Tried, Predicts, candidate_of, rebuilt_by};
+ghost use Rattle.m2v_choose.specs.Trials.{decided, References, IsTask, IsRated, Tried, Predicts, candidate_of, rebuilt_by, block_squared as block_squared_of, coded_squared, uncoded_squared, rebuilt_with};
 
-use crate::squares::squared;
+use crate::squares::{block_squared, squared};
 use crate::task::Task;
 use crate::values::{Choice, Limits};
 use m2v_macro::MacroSyntax;
 use m2v_macroblock::{kinds, macroblock_bits};
 use m2v_pred::Block16;
-use m2v_quant::Levels;
-use m2v_recon::rebuild_block;
+use m2v_quant::{BlockKind, Levels};
+use m2v_recon::{is_coded, rebuild_block};
+
+static NO_LEVELS: [Levels; 6] = [
+    Levels { at: [0; 64] },
+    Levels { at: [0; 64] },
+    Levels { at: [0; 64] },
+    Levels { at: [0; 64] },
+    Levels { at: [0; 64] },
+    Levels { at: [0; 64] },
+];
 
 /// Six blocks without levels.
-pub fn no_levels() -> [Levels; 6]
-    ensures { levels_of result ≡ no_levels_of }
+#[inline(always)]
+pub fn no_levels() -> &'static [Levels; 6]
+    ensures { levels_of result.now ≡ no_levels_of }
 {
-    let none = Levels { at: [0; 64] };
-    [none, none, none, none, none, none]
+    &NO_LEVELS
+}
+
+static NO_PREDICTION: Block16 = Block16 { at: [0; 384] };
+
+/// The prediction of an intra macroblock: samples 0.
+#[inline(always)]
+pub fn no_prediction() -> &'static Block16
+    ensures { result.now.at ≡ replicate 384 0 }
+{
+    &NO_PREDICTION
 }
 
 /// The best candidate so far.
@@ -32,8 +53,8 @@ pub fn no_levels() -> [Levels; 6]
 pub struct Best {
     /// What is chosen with it.
     pub choice: Choice,
-    /// Its score.
-    pub score: u64,
+    /// Below what another one must score to be taken in its place: its score, or a lower limit.
+    pub below: u64,
 }
 
 /// What bits cost in a score.
@@ -97,6 +118,125 @@ fn rebuilt_squares(
     squared(task.source, &rebuilt)
 }
 
+/// The pattern of one block.
+#[inline(always)]
+fn single(block: u32) -> u8
+    requires block { block < 6 }
+    ensures { is_coded_in result block ≡ true }
+{
+    32 >> block
+}
+
+/// The squares of one coded block: of its source less its samples as they are rebuilt.
+#[inline(always)]
+fn rebuilt_block(
+    source: &Block16,
+    syntax: &MacroSyntax,
+    levels: &[Levels; 6],
+    prediction: &Block16,
+    kinds: &[BlockKind; 2],
+    block: usize,
+) -> u32
+    requires block { block < 6 }
+    requires kinds { All IsKind kinds.now }
+    requires levels { All (λ l. All IsLevel l.at) levels.now }
+    requires coded { is_coded_in syntax.now.pattern block ≡ true }
+    ensures value { result ≡ block_squared_of syntax.now.dct_field source.now.at
+        (rebuilt_with prediction.now.at syntax.now (levels_of levels.now) kinds.now) block }
+    ensures most { result ≤ 8323200 }
+{
+    let mut rebuilt = *prediction;
+    let one = single(block as u32);
+    rebuild_block(&mut rebuilt, levels, one, kinds, syntax.dct_field);
+    block_squared(source, &rebuilt, syntax.dct_field, block)
+}
+
+/// The squares of a block, 0 where it isn't coded.
+#[inline(always)]
+fn coded_block(
+    source: &Block16,
+    syntax: &MacroSyntax,
+    levels: &[Levels; 6],
+    prediction: &Block16,
+    kinds: &[BlockKind; 2],
+    block: usize,
+) -> u32
+    requires block { block < 6 }
+    requires kinds { All IsKind kinds.now }
+    requires levels { All (λ l. All IsLevel l.at) levels.now }
+    ensures value { result ≡ cond (is_coded_in syntax.now.pattern block)
+        (block_squared_of syntax.now.dct_field source.now.at
+        (rebuilt_with prediction.now.at syntax.now (levels_of levels.now) kinds.now) block) 0 }
+    ensures most { result ≤ 8323200 }
+{
+    if !is_coded(syntax.pattern, block as u32) {
+        return 0;
+    }
+    rebuilt_block(source, syntax, levels, prediction, kinds, block)
+}
+
+/// The squares of the coded blocks, rebuilt one after another. Where eight times those of the first blocks reach a limit
+/// they are told, and no further one is rebuilt.
+fn squares_until(
+    source: &Block16,
+    syntax: &MacroSyntax,
+    levels: &[Levels; 6],
+    prediction: &Block16,
+    kinds: &[BlockKind; 2],
+    limit: u64,
+) -> u32
+    requires kinds { All IsKind kinds.now }
+    requires levels { All (λ l. All IsLevel l.at) levels.now }
+    ensures most { result ≤ coded_squared syntax.now.pattern
+        (block_squared_of syntax.now.dct_field source.now.at
+        (rebuilt_with prediction.now.at syntax.now (levels_of levels.now) kinds.now)) }
+    ensures enough { (result ≡ coded_squared syntax.now.pattern
+        (block_squared_of syntax.now.dct_field source.now.at
+        (rebuilt_with prediction.now.at syntax.now (levels_of levels.now) kinds.now)))
+        ⊎ (limit ≤ 8 * result) }
+    ensures bound { result ≤ 49939200 }
+{
+    let mut sum = 0;
+    for block in 0..6usize {
+        sum += coded_block(source, syntax, levels, prediction, kinds, block);
+        if limit <= 8 * u64::from(sum) {
+            return sum;
+        }
+    }
+    sum
+}
+
+/// Samples are bytes.
+#[inline(always)]
+fn are_bytes(samples: &[u8])
+    ensures { (k : ℕ) → slice_index samples.now k < 2 ^ 8 }
+{}
+
+/// The squares of a written macroblock's coded blocks, as long as eight times them lie below a limit.
+fn coded_squares(
+    task: &Task,
+    syntax: &MacroSyntax,
+    levels: &[Levels; 6],
+    prediction: &Block16,
+    limit: u64,
+) -> u32
+    requires task { IsTask task.now }
+    requires writable { IsWritable task.now.context.now task.now.first
+        (macroblock_of syntax.now levels.now) }
+    ensures most { result ≤ coded_squared syntax.now.pattern
+        (block_squared_of syntax.now.dct_field task.now.source.now.at
+        (rebuilt_by task.now prediction.now.at (macroblock_of syntax.now levels.now))) }
+    ensures enough { (result ≡ coded_squared syntax.now.pattern
+        (block_squared_of syntax.now.dct_field task.now.source.now.at
+        (rebuilt_by task.now prediction.now.at (macroblock_of syntax.now levels.now))))
+        ⊎ (limit ≤ 8 * result) }
+    ensures bound { result ≤ 49939200 }
+{
+    let quantiser = quantiser_behind(task, syntax);
+    let kinds = kinds(task.context, syntax.kind.intra, quantiser);
+    squares_until(task.source, syntax, levels, prediction, &kinds, limit)
+}
+
 /// How many bits a written macroblock takes.
 #[inline(always)]
 fn bits_of(task: &Task, syntax: &MacroSyntax, levels: &[Levels; 6]) -> u32
@@ -119,42 +259,49 @@ impl Best {
         ensures syntax { self.new.choice.syntax ≡ syntax.now }
         ensures levels { self.new.choice.levels ≡ levels.now }
         ensures bits { self.new.choice.bits ≡ bits }
-        ensures score { self.new.score ≡ score }
+        ensures below { self.new.below ≡ score }
     {
         self.choice.skip = false;
         self.choice.syntax = *syntax;
         self.choice.levels = *levels;
         self.choice.bits = bits;
-        self.score = score;
+        self.below = score;
     }
 
-    /// Tries a written candidate, whose prediction has these samples.
+    /// Tries a written candidate, whose prediction has these samples. `still` are the squares of its blocks without levels,
+    /// whose samples are the prediction's.
     pub fn try_written(
         &mut self,
         task: &Task,
         syntax: &MacroSyntax,
         levels: &[Levels; 6],
         prediction: &Block16,
+        still: u32,
     )
         requires task { IsTask task.now }
         requires increment { syntax.now.increment ≡ task.now.increment }
         requires writable { IsWritable task.now.context.now task.now.first
             (macroblock_of syntax.now levels.now) }
+        requires still { still ≡ uncoded_squared syntax.now.pattern (block_squared_of
+            syntax.now.dct_field task.now.source.now.at prediction.now.at) }
+        requires most { still ≤ 49939200 }
         ensures tried { (r : References) → Predicts r task.now syntax.now prediction.now.at
             → IsRated (decided r task.now) self.old
             → Tried (decided r task.now) self.old self.new
             (written syntax.now (levels_of levels.now) ∷ []) }
     {
+        are_bytes(&prediction.at);
         let bits = bits_of(task, syntax, levels);
         if !fits(task.limits, bits) {
             return;
         }
-        let cost = bit_cost(task.limits, bits);
-        if cost >= self.score {
+        let cost = bit_cost(task.limits, bits) + 8 * u64::from(still);
+        if cost >= self.below {
             return;
         }
-        let score = 8 * u64::from(rebuilt_squares(task, syntax, levels, prediction)) + cost;
-        if score < self.score {
+        let squares = coded_squares(task, syntax, levels, prediction, self.below - cost);
+        let score = 8 * u64::from(squares) + cost;
+        if score < self.below {
             self.take(syntax, levels, bits, score);
         }
     }
@@ -170,9 +317,9 @@ impl Best {
             → Tried (decided r task.now) self.old self.new (skipped ∷ []) }
     {
         let score = 8 * u64::from(squared(task.source, prediction));
-        if score < self.score {
+        if score < self.below {
             let syntax = MacroSyntax::blank();
-            self.take(&syntax, &no_levels(), 0, score);
+            self.take(&syntax, no_levels(), 0, score);
             self.choice.skip = true;
         }
     }
@@ -192,6 +339,8 @@ impl Best {
             ≡ written syntax.now (levels_of levels.now) }
         ensures rated { (r : References) → Predicts r task.now syntax.now prediction.now.at
             → IsRated (decided r task.now) result }
+        ensures score { (r : References) → Predicts r task.now syntax.now prediction.now.at
+            → result.below ≡ score (decided r task.now) (candidate_of result.choice) }
     {
         let bits = bits_of(task, syntax, levels);
         let squares = rebuilt_squares(task, syntax, levels, prediction);
@@ -202,7 +351,7 @@ impl Best {
                 levels: *levels,
                 bits,
             },
-            score: 8 * u64::from(squares) + bit_cost(task.limits, bits),
+            below: 8 * u64::from(squares) + bit_cost(task.limits, bits),
         }
     }
 }

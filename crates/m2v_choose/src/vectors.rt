@@ -9,7 +9,7 @@ ghost use Rattle.m2v_choose.specs.Trials.{References, decided, IsTask, IsRead, p
 use crate::task::Task;
 use m2v_plane::{Lines, RefView};
 use m2v_pred::MbPlace;
-use m2v_search::{Found, SearchForm, best_vector};
+use m2v_search::{Found, SearchForm, SearchScratch, best_vector_in};
 
 /// A vector, and whether it is that of the bottom field of its reference.
 #[derive(Clone, Copy)]
@@ -53,7 +53,7 @@ pub fn place_of(task: &Task) -> MbPlace
 }
 
 /// The vector of a form of search in a reference.
-fn search<V: RefView>(task: &Task, view: &V, form: SearchForm) -> Found
+fn search<V: RefView>(task: &Task, view: &V, form: SearchForm, scratch: &mut SearchScratch) -> Found
     requires task { IsTask task.now }
     requires view { IsRead (V.size view.now) (V.Holds view.now) (place_for task.now) }
     requires form { IsFormIn task.now.context.now.extension.structure form }
@@ -63,7 +63,8 @@ fn search<V: RefView>(task: &Task, view: &V, form: SearchForm) -> Found
     ensures sad { (r : References) → r.dims ≡ V.size view.now
         → result.sad ≡ sad_for (decided r task.now) (V.at view.now) form }
 {
-    best_vector(task.source, view, place_of(task), form, task.limits.search)
+    let at = place_of(task);
+    best_vector_in(task.source, view, at, form, task.limits.search, scratch)
 }
 
 /// The vector that was found, as one of the whole frame or of a field.
@@ -108,7 +109,12 @@ fn field(bottom: bool) -> Lines
 }
 
 /// The vector of a field picture, in the one or the other reference field.
-fn field_picture<V: RefView>(task: &Task, view: &V, bottom: bool) -> FieldVector
+fn field_picture<V: RefView>(
+    task: &Task,
+    view: &V,
+    bottom: bool,
+    scratch: &mut SearchScratch,
+) -> FieldVector
     requires task { IsTask task.now }
     requires view { IsRead (V.size view.now) (V.Holds view.now) (place_for task.now) }
     requires structure { task.now.context.now.extension.structure ≢ 3 }
@@ -122,6 +128,7 @@ fn field_picture<V: RefView>(task: &Task, view: &V, bottom: bool) -> FieldVector
         SearchForm::FieldPicture {
             reference: field(bottom),
         },
+        scratch,
     );
     let other = search(
         task,
@@ -129,12 +136,18 @@ fn field_picture<V: RefView>(task: &Task, view: &V, bottom: bool) -> FieldVector
         SearchForm::FieldPicture {
             reference: other_field(bottom),
         },
+        scratch,
     );
     better(&same, &other, bottom)
 }
 
 /// The vector of the top or the bottom lines of a frame, in the one or the other reference field.
-fn field_of_frame<V: RefView>(task: &Task, view: &V, bottom: bool) -> FieldVector
+fn field_of_frame<V: RefView>(
+    task: &Task,
+    view: &V,
+    bottom: bool,
+    scratch: &mut SearchScratch,
+) -> FieldVector
     requires task { IsTask task.now }
     requires view { IsRead (V.size view.now) (V.Holds view.now) (place_for task.now) }
     requires structure { task.now.context.now.extension.structure ≡ 3 }
@@ -150,6 +163,7 @@ fn field_of_frame<V: RefView>(task: &Task, view: &V, bottom: bool) -> FieldVecto
             target,
             reference: field(bottom),
         },
+        scratch,
     );
     let other = search(
         task,
@@ -158,34 +172,35 @@ fn field_of_frame<V: RefView>(task: &Task, view: &V, bottom: bool) -> FieldVecto
             target,
             reference: other_field(bottom),
         },
+        scratch,
     );
     better(&same, &other, bottom)
 }
 
 /// One vector: of the whole frame in a frame picture, of a reference field in a field picture.
 #[tactic(auto, unfolding(crate::specs::Candidates::plain_direction))]
-pub fn plain_direction<V: RefView>(task: &Task, view: &V) -> Vectors
+pub fn plain_direction<V: RefView>(task: &Task, view: &V, scratch: &mut SearchScratch) -> Vectors
     requires task { IsTask task.now }
     requires view { IsRead (V.size view.now) (V.Holds view.now) (place_for task.now) }
     ensures value { (r : References) → r.dims ≡ V.size view.now
         → direction_by result ≡ plain_direction_of (decided r task.now) (V.at view.now) }
 {
     if task.context.extension.structure == 3 {
-        let whole = search(task, view, SearchForm::Whole);
+        let whole = search(task, view, SearchForm::Whole, scratch);
         return Vectors {
             first: found_vector(&whole, false),
             second: no_vector(),
         };
     }
     Vectors {
-        first: field_picture(task, view, task.context.extension.structure == 2),
+        first: field_picture(task, view, task.context.extension.structure == 2, scratch),
         second: no_vector(),
     }
 }
 
 /// Two vectors in a frame picture: for the top lines, and then for the bottom lines.
 #[tactic(auto, unfolding(crate::specs::Candidates::field_direction))]
-pub fn field_direction<V: RefView>(task: &Task, view: &V) -> Vectors
+pub fn field_direction<V: RefView>(task: &Task, view: &V, scratch: &mut SearchScratch) -> Vectors
     requires task { IsTask task.now }
     requires view { IsRead (V.size view.now) (V.Holds view.now) (place_for task.now) }
     requires structure { task.now.context.now.extension.structure ≡ 3 }
@@ -193,7 +208,7 @@ pub fn field_direction<V: RefView>(task: &Task, view: &V) -> Vectors
         → direction_by result ≡ field_direction_of (decided r task.now) (V.at view.now) }
 {
     Vectors {
-        first: field_of_frame(task, view, false),
-        second: field_of_frame(task, view, true),
+        first: field_of_frame(task, view, false, scratch),
+        second: field_of_frame(task, view, true, scratch),
     }
 }

@@ -37,7 +37,7 @@ pub fn predict_by<V: RefView>(
     predict(forward, backward, mode, at, out);
 }
 
-/// Predicts a macroblock that is written. `out` is blank, and stays so where the macroblock is intra.
+/// Predicts a macroblock that is written: by samples 0 where it is intra.
 #[tactic(auto, unfolding(m2v_macroblock::specs::Predictions::prediction_of))]
 pub fn predict_written<V: RefView>(
     forward: &V,
@@ -49,7 +49,6 @@ pub fn predict_written<V: RefView>(
 )
     requires context { IsContext context.now }
     requires stands { CanStand context.now m.now }
-    requires blank { out.old.at ≡ replicate 384 0 }
     requires can { m.now.kind.intra ≡ false → (d : Dims)
         × CanPredict d at (V.size forward.now) (V.size backward.now) (V.Holds forward.now)
         (V.Holds backward.now) (mode_of context.now m.now) }
@@ -57,6 +56,7 @@ pub fn predict_written<V: RefView>(
         ≡ prediction_of (V.at forward.now) (V.at backward.now) context.now at m.now }
 {
     if m.kind.intra {
+        out.at = [0; 384];
         return;
     }
     let mode = mode(context, m);

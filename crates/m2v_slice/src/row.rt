@@ -6,7 +6,7 @@ ghost use Rattle.m2v_slice.specs.Slices.{begun, held_bits, slice_header_bits};
 ghost use Rattle.m2v_slice.specs.Laws.{AreSliceActivities, IsSlice};
 ghost use Rattle.m2v_slice.specs.Steps.{HasReferences, row_place, task_by};
 
-use crate::macroblocks::code_macroblock;
+use crate::macroblocks::{SliceBasis, SliceScratch, code_macroblock};
 use m2v_bits::BitWriter;
 use m2v_choose::Limits;
 use m2v_macroblock::macro_library::{PictureContext, SliceState};
@@ -177,14 +177,19 @@ pub fn code_row<V: RefView>(
     let next = plan.row * context.columns;
     let mut state = SliceState::at_start(context, plan.row, plan.q, next);
     let mut effort = Effort::start(plan.activities);
+    let basis = SliceBasis {
+        source,
+        forward,
+        backward,
+        context,
+    };
+    let mut scratch = SliceScratch::new();
     for column in 0..context.columns {
         let from = bits.bit_len();
         let left = plan.cap - from - 31 * u64::from(context.columns - column);
         let q = effort.quantiser(plan, column, left);
         let limits = limits_at(plan, q, context.columns, from, column);
-        code_macroblock(
-            source, forward, backward, context, &limits, &mut state, bits, row,
-        );
+        code_macroblock(&basis, &limits, &mut state, bits, row, &mut scratch);
         effort.add(plan, column, q, bits.bit_len() - from);
     }
     effort.work

@@ -10,3 +10,8 @@ pub returns-then-task-eq1-clause-rated : goal.returns-then-task-eq1-clause-rated
 returns-then-task-eq1-clause-rated g c =
     let r = references_of (g.V.RefView.size c.args.forward.now) (g.V.RefView.at c.args.forward.now) (g.V.RefView.at c.args.backward.now) in
     c.hold_intra.ensures.rated r
+
+pub returns-then-task-eq1-clause-score : goal.returns-then-task-eq1-clause-score
+returns-then-task-eq1-clause-score g c =
+    let r = references_of (g.V.RefView.size c.args.forward.now) (g.V.RefView.at c.args.forward.now) (g.V.RefView.at c.args.backward.now) in
+    c.hold_intra.ensures.score r

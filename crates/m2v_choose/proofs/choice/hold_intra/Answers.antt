@@ -1,4 +1,4 @@
-use Rattle.std.proofs.Common.{refl, ◌∙◌}
+use Rattle.std.proofs.Common.{◌∙◌}
 use Rattle.m2v_recon.specs.Steps.{levels_of}
 use Rattle.m2v_choose.proofs.Holding.{held_writable, held_is, held_predicts}
 use Rattle.m2v_choose.proofs.choice.hold_intra.Goals as goal
@@ -15,4 +15,9 @@ returns-clause-candidate c = λ r.
 pub returns-clause-rated : goal.returns-clause-rated
 returns-clause-rated c = λ r.
     c.held.ensures.rated r
-    (held_predicts c.args.task.now c.intra_syntax-syntax.result (levels_of c.held_levels-levels.result) c.requires.task c.intra_syntax-syntax.ensures.value c.held_levels-levels.ensures.value r _ refl)
+    (held_predicts c.args.task.now c.intra_syntax-syntax.result (levels_of c.held_levels-levels.result) c.requires.task c.intra_syntax-syntax.ensures.value c.held_levels-levels.ensures.value r c.no_prediction.result.now.at c.no_prediction.ensures)
+
+pub returns-clause-score : goal.returns-clause-score
+returns-clause-score c = λ r.
+    c.held.ensures.score r
+    (held_predicts c.args.task.now c.intra_syntax-syntax.result (levels_of c.held_levels-levels.result) c.requires.task c.intra_syntax-syntax.ensures.value c.held_levels-levels.ensures.value r c.no_prediction.result.now.at c.no_prediction.ensures)

@@ -29,14 +29,19 @@ pub held-requires-clause-writable : goal.held-requires-clause-writable
 held-requires-clause-writable g c =
     let r = references_of (g.V.RefView.size c.args.forward.now) (g.V.RefView.at c.args.forward.now) (g.V.RefView.at c.args.backward.now) in
     let can = still_try c.args.task.now r c.requires.task c.moving_syntax-m.result c.plain_form-form.result (direction_by c.still_vector-still.result) c.moving_syntax-m.ensures c.plain_form-form.ensures c.still_vector-still.ensures c.requires.kind (g.V.RefView.Holds c.args.forward.now) (g.V.RefView.Holds c.args.backward.now) (g.V.RefView.size c.args.backward.now) c.requires.references in
-    uncoded_writable c.args.task.now.context.now c.args.task.now.first c.moving_syntax-m.result (levels_of c.no_levels.result) can.pattern c.no_levels.ensures (can.macro refl)
+    uncoded_writable c.args.task.now.context.now c.args.task.now.first c.moving_syntax-m.result (levels_of c.no_levels.result.now) can.pattern c.no_levels.ensures (can.macro refl)
 
 pub returns-clause-candidate : goal.returns-clause-candidate
 returns-clause-candidate g c =
     let r = references_of (g.V.RefView.size c.args.forward.now) (g.V.RefView.at c.args.forward.now) (g.V.RefView.at c.args.backward.now) in
-    c.held.ensures.candidate ∙ still_held c.args.task.now r c.moving_syntax-m.result (levels_of c.no_levels.result) c.requires.kind (still_made c.args.task.now r c.requires.task c.moving_syntax-m.result c.plain_form-form.result (direction_by c.still_vector-still.result) c.moving_syntax-m.ensures c.plain_form-form.ensures c.still_vector-still.ensures c.requires.kind) c.no_levels.ensures
+    c.held.ensures.candidate ∙ still_held c.args.task.now r c.moving_syntax-m.result (levels_of c.no_levels.result.now) c.requires.kind (still_made c.args.task.now r c.requires.task c.moving_syntax-m.result c.plain_form-form.result (direction_by c.still_vector-still.result) c.moving_syntax-m.ensures c.plain_form-form.ensures c.still_vector-still.ensures c.requires.kind) c.no_levels.ensures
 
 pub returns-clause-rated : goal.returns-clause-rated
 returns-clause-rated g c =
     let r = references_of (g.V.RefView.size c.args.forward.now) (g.V.RefView.at c.args.forward.now) (g.V.RefView.at c.args.backward.now) in
     c.held.ensures.rated r c.predict_moving.ensures
+
+pub returns-clause-score : goal.returns-clause-score
+returns-clause-score g c =
+    let r = references_of (g.V.RefView.size c.args.forward.now) (g.V.RefView.at c.args.forward.now) (g.V.RefView.at c.args.backward.now) in
+    c.held.ensures.score r c.predict_moving.ensures

@@ -7,7 +7,7 @@ use Rattle.m2v_choose.specs.Decisions.{written}
 use Rattle.m2v_macro.specs.declared.values.MacroSyntax.{MacroSyntax}
 use Rattle.m2v_choose.specs.Decisions.{pattern_of}
 use Rattle.m2v_choose.specs.Laws.{IsWritable}
-use Rattle.m2v_choose.specs.Trials.{decided, Tried, with_blocks, sends_code, Predicts}
+use Rattle.m2v_choose.specs.Trials.{decided, Tried, block_squared, uncoded_squared, with_blocks, sends_code, Predicts}
 use Rattle.m2v_choose.proofs.Tried.{own_picture}
 use Rattle.m2v_choose.proofs.Coded.{kinds_flat, coded_writable, kinds_plain, predicts, coding_none, coding_some}
 use Rattle.m2v_choose.proofs.trial.Best.try_coding.Goals as goal
@@ -24,7 +24,7 @@ quantise_blocks-requires-clause-precision c = kinds_plain c.args.task.now.contex
 pub returns-then-pattern-eq0 : goal.returns-then-pattern-eq0
 returns-then-pattern-eq0 c = record {
   tried = λ r p same samples made rated.
-      coding_none r c.args.task.now p c.args.bare.now same c.args.prediction.now.at c.args.transforms.now (levels_of c.quantise_blocks.new.out) c.args.q c.args.dct_field c.kinds-kinds.result
+      coding_none r c.args.task.now p c.args.plain.now.bare.now same c.args.plain.now.prediction.now.at c.args.transforms.now (levels_of c.quantise_blocks.new.out) c.args.q c.args.dct_field c.kinds-kinds.result
       samples made c.kinds-kinds.ensures.value c.quantise_blocks.ensures.value (sym c.pattern_of-pattern.ensures.value ∙ c.if-pattern-eq0.true) c.args.self.now rated;
 }
 
@@ -34,13 +34,19 @@ try_written-requires-clause-writable c =
     let q = c.args.q in
     let ls = levels_of c.quantise_blocks.new.out in
     let pattern = c.pattern_of-pattern.result in
-    let m = with_blocks c.args.bare.now (sends_code t.state.now q) q c.args.dct_field pattern in
-    let same : c.with_blocks-syntax.result ≡ m = c.with_blocks-syntax.ensures ∙ ap (λ (b : Bool). with_blocks c.args.bare.now b q c.args.dct_field pattern) c.sends.ensures in
+    let m = with_blocks c.args.plain.now.bare.now (sends_code t.state.now q) q c.args.dct_field pattern in
+    let same : c.with_blocks-syntax.result ≡ m = c.with_blocks-syntax.ensures ∙ ap (λ (b : Bool). with_blocks c.args.plain.now.bare.now b q c.args.dct_field pattern) c.sends.ensures in
     let some : 0 < pattern = omega (arith, c.if-pattern-eq0.false) in
     let within = All-map (All IsLevel) (λ (l : Levels). l.at) c.quantise_blocks.new.out c.quantise_blocks.ensures.levels in
     subst (λ (x : MacroSyntax). IsWritable t.context.now t.first (record { syntax = x; levels = ls })) (sym same)
     (coded_writable t.context.now t.first m ls c.requires.bare.other c.pattern_of-pattern.ensures.value within
     (c.requires.bare.macro q c.args.dct_field pattern c.requires.q c.requires.dct some c.pattern_of-pattern.ensures.most))
+
+pub try_written-requires-clause-still : goal.try_written-requires-clause-still
+try_written-requires-clause-still c =
+    let s = c.args.task.now.source.now.at in
+    let p = c.args.plain.now.prediction.now.at in
+    c.still_squares-still.ensures.value ∙ ap (λ (x : MacroSyntax). uncoded_squared x.pattern (block_squared x.dct_field s p)) (sym c.with_blocks-syntax.ensures)
 
 pub returns : goal.returns
 returns c = record {
@@ -50,12 +56,12 @@ returns c = record {
       let dct = c.args.dct_field in
       let ls = levels_of c.quantise_blocks.new.out in
       let pattern = c.pattern_of-pattern.result in
-      let full : c.with_blocks-syntax.result ≡ with_blocks c.args.bare.now (sends_code t.state.now q) q dct (pattern_of ls) =
-      c.with_blocks-syntax.ensures ∙ (λ i. with_blocks c.args.bare.now (c.sends.ensures i) q dct (c.pattern_of-pattern.ensures.value i)) in
+      let full : c.with_blocks-syntax.result ≡ with_blocks c.args.plain.now.bare.now (sends_code t.state.now q) q dct (pattern_of ls) =
+      c.with_blocks-syntax.ensures ∙ (λ i. with_blocks c.args.plain.now.bare.now (c.sends.ensures i) q dct (c.pattern_of-pattern.ensures.value i)) in
       let some : 0 < pattern_of ls = omega (arith, c.if-pattern-eq0.false, c.pattern_of-pattern.ensures.value) in
-      let told : Predicts r t c.with_blocks-syntax.result c.args.prediction.now.at =
-      subst (λ (x : MacroSyntax). Predicts r t x c.args.prediction.now.at) (sym full) (predicts r t p c.args.bare.now same c.args.prediction.now.at q dct (pattern_of ls) samples) in
-      coding_some r t p c.args.bare.now same c.args.prediction.now.at c.args.transforms.now ls q dct c.kinds-kinds.result
+      let told : Predicts r t c.with_blocks-syntax.result c.args.plain.now.prediction.now.at =
+      subst (λ (x : MacroSyntax). Predicts r t x c.args.plain.now.prediction.now.at) (sym full) (predicts r t p c.args.plain.now.bare.now same c.args.plain.now.prediction.now.at q dct (pattern_of ls) samples) in
+      coding_some r t p c.args.plain.now.bare.now same c.args.plain.now.prediction.now.at c.args.transforms.now ls q dct c.kinds-kinds.result
       samples made c.kinds-kinds.ensures.value c.quantise_blocks.ensures.value some c.args.self.now c.try_written.new.self
       (subst (λ (x : MacroSyntax). Tried (decided r t) c.args.self.now c.try_written.new.self (written x ls ∷ [])) full (c.try_written.ensures.tried r told rated));
 }

@@ -9,7 +9,7 @@ returns-then-task-eq2 g c = record {
   tried = λ f b p q rated.
       let r = references_of (g.V.RefView.size c.args.forward.now) (g.V.RefView.at c.args.forward.now) (g.V.RefView.at c.args.backward.now) in
       let d = decided r c.args.task.now in
-      one_direction d c.args.form f b c.args.self.now c.try_moving.new.self (eq-eqb _ _ c.if-task-eq2.true) (c.try_moving.ensures.tried f b (λ e. p) (λ e. absurd cc) rated);
+      one_direction d c.args.searched.now.form f b c.args.self.now c.try_moving.new.self (eq-eqb _ _ c.if-task-eq2.true) (c.try_moving.ensures.tried f b (λ e. p) (λ e. absurd cc) rated);
 }
 
 pub returns : goal.returns
@@ -21,5 +21,5 @@ returns g c = record {
       let first = c.try_moving.ensures.tried f b (λ e. p) (λ e. absurd cc) rated in
       let second = c.try_moving-2.ensures.tried f b (λ e. absurd cc) (λ e. q three) first.rated in
       let third = c.try_moving-3.ensures.tried f b (λ e. p) (λ e. q three) second.rated in
-      three_directions d c.args.form f b c.args.self.now c.try_moving.new.self c.try_moving-2.new.self c.try_moving-3.new.self (ne_eqb _ _ c.if-task-eq2.false) first second third;
+      three_directions d c.args.searched.now.form f b c.args.self.now c.try_moving.new.self c.try_moving-2.new.self c.try_moving-3.new.self (ne_eqb _ _ c.if-task-eq2.false) first second third;
 }

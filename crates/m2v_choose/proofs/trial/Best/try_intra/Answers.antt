@@ -1,16 +1,10 @@
-use Rattle.std.proofs.Common.{◌≡◌, ℕ, All, map, subst, replicate, pos, sym, ◌∙◌, ap, true, false, arith}
-use Rattle.std.proofs.lemmas.Int.{ints}
+use Rattle.std.proofs.Common.{◌≡◌, ℕ, map, subst, sym, ◌∙◌, ap, true, false}
 use Rattle.std.proofs.lemmas.Bool.{eq-eqb, ne_eqb}
-use Rattle.std.proofs.lemmas.List.Elements.{All-replicate}
-use Rattle.m2v_idct.specs.Ranges.{IsCoefficient}
 use Rattle.std.specs.Prelude.{nat_eq}
 use Rattle.m2v_choose.specs.Trials.{decided, Tried}
 use Rattle.m2v_choose.specs.Candidates.{second_q as second_of, intra_by, codings_at}
 use Rattle.m2v_choose.proofs.IntraCoded.{tried_once, tried_twice}
 use Rattle.m2v_choose.proofs.trial.Best.try_intra.Goals as goal
-
-pub transform_fields-requires : goal.transform_fields-requires
-transform_fields-requires c = record { coefficients = All-replicate (All IsCoefficient) 6 (replicate 64 (pos 0)) (All-replicate IsCoefficient 64 (pos 0) (omega (arith, ints), omega (arith, ints))) }
 
 pub returns-then-second-q : goal.returns-then-second-q
 returns-then-second-q c = record {

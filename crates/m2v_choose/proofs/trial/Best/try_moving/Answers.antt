@@ -8,7 +8,7 @@ use Rattle.m2v_choose.proofs.trial.Best.try_moving.Goals as goal
 pub try_prediction-requires-clause-size : goal.try_prediction-requires-clause-size
 try_prediction-requires-clause-size g c = λ e.
     c.requires.size
-    (sym (moving_backward c.args.task.now.increment c.args.form c.args.has_forward c.args.has_backward (direction_by c.args.ahead.now) (direction_by c.args.behind.now))
+    (sym (moving_backward c.args.task.now.increment c.args.searched.now.form c.args.goes.forward c.args.goes.backward (direction_by c.args.searched.now.ahead) (direction_by c.args.searched.now.behind))
     ∙ ap (λ (m : MacroSyntax). m.kind.backward) (sym c.moving_syntax-m.ensures) ∙ e)
 
 pub returns : goal.returns
@@ -16,7 +16,7 @@ returns g c = record {
   tried = λ f b p q rated.
       let t = c.args.task.now in
       let r = references_of (g.V.RefView.size c.args.forward.now) (g.V.RefView.at c.args.forward.now) (g.V.RefView.at c.args.backward.now) in
-      c.try_prediction.ensures.tried (prediction c.args.form c.args.has_forward c.args.has_backward f b)
-      (c.moving_syntax-m.ensures ∙ moving_is t r c.args.form c.args.has_forward c.args.has_backward (direction_by c.args.ahead.now) (direction_by c.args.behind.now) f b c.requires.task p q)
+      c.try_prediction.ensures.tried (prediction c.args.searched.now.form c.args.goes.forward c.args.goes.backward f b)
+      (c.moving_syntax-m.ensures ∙ moving_is t r c.args.searched.now.form c.args.goes.forward c.args.goes.backward (direction_by c.args.searched.now.ahead) (direction_by c.args.searched.now.behind) f b c.requires.task p q)
       refl rated;
 }

@@ -14,10 +14,10 @@ returns-then-score-self c = record {
       let new = c.take.new.self in
       let same : candidate_of (record new.choice { skip = true }) ≡ skipped =
       λ i. record { skip = true; macroblock = record { syntax = (c.take.ensures.syntax ∙ c.blank-syntax.ensures) i; levels = (ap levels_of c.take.ensures.levels ∙ c.no_levels.ensures) i } } in
-      let score : new.score ≡ score_of d skipped =
-      c.take.ensures.score ∙ ap (λ (s : ℕ). 8 * s) (c.from-score.ensures ∙ c.squared.ensures.value) ∙ sym (skipped_score r t c.args.prediction.now.at predicts) in
-      taken d skipped c.args.self.now rated (record { choice = record new.choice { skip = true }; score = new.score }) same
-      (c.take.ensures.bits ∙ sym (skipped_bits d)) score (skipped_fits d) (omega (arith, c.take.ensures.score, c.if-score-self.true));
+      let score : new.below ≡ score_of d skipped =
+      c.take.ensures.below ∙ ap (λ (s : ℕ). 8 * s) (c.from-score.ensures ∙ c.squared.ensures.value) ∙ sym (skipped_score r t c.args.prediction.now.at predicts) in
+      taken d skipped c.args.self.now rated (record { choice = record new.choice { skip = true }; below = new.below }) same
+      (c.take.ensures.bits ∙ sym (skipped_bits d)) score (skipped_fits d) (omega (arith, c.take.ensures.below, c.if-score-self.true));
 }
 
 pub returns-else-score-self : goal.returns-else-score-self

@@ -1,9 +1,10 @@
-use Rattle.std.proofs.Common.{◌≡◌, ℕ, ◌+◌, ◌*◌, ap, sym, ◌∙◌, arith}
+use Rattle.std.proofs.Common.{◌≡◌, ◌+◌, ◌*◌, sym, ◌∙◌, inl, inr, refl, arith}
 use Rattle.m2v_recon.specs.Steps.{levels_of}
 use Rattle.m2v_choose.specs.Decisions.{written}
-use Rattle.m2v_choose.specs.Choice.{score as score_of}
-use Rattle.m2v_choose.specs.Trials.{decided, candidate_of}
-use Rattle.m2v_choose.proofs.Tried.{left_out, kept, taken, fits_is, points, cost_least}
+use Rattle.m2v_choose.specs.Choice.{squared}
+use Rattle.m2v_choose.specs.Trials.{decided, candidate_of, rebuilt_by}
+use Rattle.m2v_choose.proofs.Tried.{left_out, kept, taken, fits_is, points}
+use Rattle.m2v_choose.proofs.PartSquares.{written_squares}
 use Rattle.m2v_choose.proofs.trial.Best.try_written.Goals as goal
 
 pub returns-then-not-fits : goal.returns-then-not-fits
@@ -21,8 +22,10 @@ returns-then-cost-self c = record {
       let d = decided r t in
       let m = c.args.syntax.now in
       let ls = levels_of c.args.levels.now in
-      let least = cost_least r t m ls c.args.prediction.now.at c.bit_cost-cost.result c.bits_of-bits.result predicts c.bit_cost-cost.ensures.value (c.bits_of-bits.ensures.value r) in
-      kept d (written m ls) c.args.self.now rated (omega (arith, least, c.if-cost-self.true));
+      let p = c.args.prediction.now.at in
+      let whole = written_squares t p m ls c.are_bytes.ensures in
+      let score = points r t m ls p (squared t.source.now.at (rebuilt_by t p (record { syntax = m; levels = ls }))) c.bit_cost.result c.bits_of-bits.result predicts refl c.bit_cost.ensures.value (c.bits_of-bits.ensures.value r) in
+      kept d (written m ls) c.args.self.now rated (omega (arith, score, whole, c.requires.still, c.from.ensures, c.if-cost-self.true));
 }
 
 pub returns-then-score-self : goal.returns-then-score-self
@@ -32,16 +35,23 @@ returns-then-score-self c = record {
       let d = decided r t in
       let m = c.args.syntax.now in
       let ls = levels_of c.args.levels.now in
+      let p = c.args.prediction.now.at in
       let x = written m ls in
       let bits = c.bits_of-bits.ensures.value r in
-      let score = points r t m ls c.args.prediction.now.at c.rebuilt_squares.result c.bit_cost-cost.result c.bits_of-bits.result predicts c.rebuilt_squares.ensures.value c.bit_cost-cost.ensures.value bits in
+      let whole = written_squares t p m ls c.are_bytes.ensures in
+      let all = squared t.source.now.at (rebuilt_by t p (record { syntax = m; levels = ls })) in
+      let score = points r t m ls p all c.bit_cost.result c.bits_of-bits.result predicts refl c.bit_cost.ensures.value bits in
+      let squares : 8 * c.from-2.result + (c.bit_cost.result + 8 * c.from.result) ≡ 8 * all + c.bit_cost.result =
+      elim c.coded_squares-squares.ensures.enough [
+        | inl same ↦ omega (arith, same, whole, c.requires.still, c.from.ensures, c.from-2.ensures)
+        | inr over ↦ absurd (omega (arith, over, c.from.ensures, c.from-2.ensures, c.if-score-self.true, c.if-cost-self.false))
+      ] in
       let new = c.take.new.self in
       let same : candidate_of new.choice ≡ x =
       λ i. record { skip = c.take.ensures.skip i; macroblock = record { syntax = c.take.ensures.syntax i; levels = levels_of (c.take.ensures.levels i) } } in
-      let whole : new.score ≡ score_of d x = c.take.ensures.score ∙ ap (λ (k : ℕ). 8 * k + c.bit_cost-cost.result) c.from.ensures ∙ score in
-      taken d x c.args.self.now rated new same (c.take.ensures.bits ∙ bits) whole
+      taken d x c.args.self.now rated new same (c.take.ensures.bits ∙ bits) (c.take.ensures.below ∙ squares ∙ score)
       (sym (fits_is d x c.bits_of-bits.result bits) ∙ sym c.fits.ensures ∙ c.if-not-fits.false)
-      (omega (arith, c.take.ensures.score, c.if-score-self.true));
+      (omega (arith, c.take.ensures.below, c.if-score-self.true));
 }
 
 pub returns-else-score-self : goal.returns-else-score-self
@@ -51,9 +61,9 @@ returns-else-score-self c = record {
       let d = decided r t in
       let m = c.args.syntax.now in
       let ls = levels_of c.args.levels.now in
+      let p = c.args.prediction.now.at in
       let x = written m ls in
-      let bits = c.bits_of-bits.ensures.value r in
-      let score = points r t m ls c.args.prediction.now.at c.rebuilt_squares.result c.bit_cost-cost.result c.bits_of-bits.result predicts c.rebuilt_squares.ensures.value c.bit_cost-cost.ensures.value bits in
-      let whole : 8 * c.from.result + c.bit_cost-cost.result ≡ score_of d x = ap (λ (k : ℕ). 8 * k + c.bit_cost-cost.result) c.from.ensures ∙ score in
-      kept d x c.args.self.now rated (omega (arith, whole, c.if-score-self.false));
+      let whole = written_squares t p m ls c.are_bytes.ensures in
+      let score = points r t m ls p (squared t.source.now.at (rebuilt_by t p (record { syntax = m; levels = ls }))) c.bit_cost.result c.bits_of-bits.result predicts refl c.bit_cost.ensures.value (c.bits_of-bits.ensures.value r) in
+      kept d x c.args.self.now rated (omega (arith, score, whole, c.requires.still, c.from.ensures, c.from-2.ensures, c.coded_squares-squares.ensures.most, c.if-score-self.false));
 }

@@ -4,8 +4,8 @@ use Rattle.m2v_choose.specs.Choice.{bits_taken, choice_of}
 use Rattle.m2v_choose.specs.Laws.{Fits}
 use Rattle.m2v_choose.specs.Trials.{decided, decision, references_of}
 use Rattle.m2v_choose.proofs.Skips.{choice_short}
-use Rattle.m2v_choose.proofs.choice.choose.Given as given
-use Rattle.m2v_choose.proofs.choice.choose.Goals as goal
+use Rattle.m2v_choose.proofs.choice.choose_in.Given as given
+use Rattle.m2v_choose.proofs.choice.choose_in.Goals as goal
 
 -- what is decided
 decision_of : (g : given.Over) (c : goal.After-choose_for g) → Decision
