@@ -7,7 +7,7 @@ use mir.Syntax.{w32}
 use mir.Val.{SFits, to_z, of_z}
 use Rattle.m2v_bits.specs.Bits.{bits_of, number, ahead}
 use Rattle.m2v_bits.specs.Syntax.{seq, bind, choose, done, renamed}
-use Rattle.m2v_vlc.specs.Codes.{code_at, row_at, begins, is_cut}
+use Rattle.m2v_vlc.specs.Codes.{code_at, row_at, begins}
 use Rattle.m2v_vlc.specs.Tables.{motion}
 use Rattle.m2v_vector.specs.Vectors.{scale, IsVector, difference, wrapped, joined, half}
 use Rattle.m2v_vector.proofs.Wrapping.{wrap_none}
