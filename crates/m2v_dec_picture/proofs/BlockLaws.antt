@@ -1,6 +1,7 @@
 -- The blocks of a macroblock, one behind another.
-use Rattle.std.proofs.Common.{◌≡◌, ℕ, zero, suc, ◌+◌, ◌<◌, ◌≤◌, Bool, true, false, List, [], ◌∷◌, ◌++◌, ℤ, pos, refl, sym, ap, ◌∙◌, subst, arith, length, take, map, Ok, Err, All}
-use Rattle.std.specs.Prelude.{◌/◌, nat_lt, replicate, slice_index_or, slice_set, Result, OnOk}
+use Rattle.std.proofs.Common.{◌≡◌, ℕ, zero, suc, ◌+◌, ◌<◌, ◌≤◌, Bool, true, false, List, [], ◌∷◌, ◌++◌, ℤ, pos, refl, sym, ap, ◌∙◌, subst, inl, inr, arith, length, take, map, Ok, Err, All}
+use Rattle.std.specs.Prelude.{◌/◌, cond, nat_lt, replicate, slice_index_or, slice_set, Result, OnOk}
+use Rattle.std.proofs.lemmas.Bool.{cases_Bool}
 use Rattle.std.proofs.lemmas.Int.{to_z-of_z}
 use mir.Syntax.{w32}
 use mir.Val.{SFits, to_z, of_z}
@@ -11,7 +12,7 @@ use Rattle.m2v_bits.specs.Syntax.{seq, bind, choose, done, renamed}
 use Rattle.m2v_quant.specs.declared.kind.BlockKind.{BlockKind}
 use Rattle.m2v_quant.specs.declared.kind.Levels.{Levels}
 use Rattle.m2v_quant.specs.Kinds.{IsKind, IsLevel}
-use Rattle.m2v_macroblock.specs.m2v_block.Blocks.{block_at, IsDc}
+use Rattle.m2v_macroblock.specs.m2v_block.Blocks.{first_at, block_at, IsDc}
 use Rattle.m2v_recon.specs.Macro.{is_coded}
 use Rattle.m2v_recon.specs.Steps.{levels_of}
 use Rattle.m2v_macro.specs.declared.values.MacroSyntax.{MacroSyntax}
@@ -112,20 +113,35 @@ both_kinds c intra quantiser kinds picture q e =
 
 -- a predictor as it is handed on is in its range
 pub predictor_passed : (c : PictureContext) (m : MacroSyntax) (st : SliceState) (ls : List (List ℤ)) (k : ℕ) (luma : Bool) (kind : BlockKind) (p : ℤ) → k < 6 → length ls ≡ 6
-    → AreDc c.extension.dc_precision st.dc → All (AreFine c m) (take k ls) → kind ≡ kind_for c m.kind.intra luma st.quantiser → p ≡ predictor st.dc ls k → SFits w32 p
+    → AreDc c.extension.dc_precision st.dc → All (AreFine c m) (take k ls) → kind ≡ kind_for c m.kind.intra luma st.quantiser → (m.kind.intra ≡ true → p ≡ predictor st.dc ls k) → SFits w32 p
     → kind.intra ≡ true → IsDc kind.precision (to_z w32 (of_z w32 p))
 unfolding kind_for
 predictor_passed c m st ls k luma kind p lt len d fine e same fits intra =
+    let of_intra = sym (ap (λ (b : BlockKind). b.intra) e) ∙ intra in
     subst (λ (z : ℤ). IsDc kind.precision z) (sym (to_z-of_z w32 p fits))
-    (subst (λ (z : ℤ). IsDc kind.precision z) (sym (same ∙ predicted_by st.dc ls k lt))
+    (subst (λ (z : ℤ). IsDc kind.precision z) (sym (same of_intra ∙ predicted_by st.dc ls k lt))
     (subst (λ (n : ℕ). IsDc n (predictor st.dc (take k ls) k)) (sym (ap (λ (b : BlockKind). b.precision) e))
-    (predictor_fine c m st.dc ls k lt len d fine (sym (ap (λ (b : BlockKind). b.intra) e) ∙ intra))))
+    (predictor_fine c m st.dc ls k lt len d fine of_intra)))
 
-pub as_block : (c : PictureContext) (m : MacroSyntax) (st : SliceState) (k : ℕ) (before : List (List ℤ)) (coded : Bool) (kind : BlockKind) (dc : ℤ)
-    → coded ≡ is_coded m.pattern k → kind ≡ kind_for c m.kind.intra (nat_lt k 4) st.quantiser → dc ≡ predictor st.dc before k
-    → choose coded (renamed of_block (block_at kind c.extension.intra_vlc_format dc)) (done (replicate 64 (pos 0))) ≡ block_in c m st k before
-unfolding block_in
-as_block c m st k before coded kind dc a b d = λ i. choose (a i) (renamed of_block (block_at (b i) c.extension.intra_vlc_format (d i))) (done (replicate 64 (pos 0)))
+-- a block that isn't intra is read by no predictor
+any_predictor : (kind : BlockKind) (one : Bool) (p q : ℤ) (t : List Bool) → (kind.intra ≡ true → p ≡ q)
+    → (renamed of_block (block_at kind one p)).read t ≡ (renamed of_block (block_at kind one q)).read t
+unfolding block_at first_at choose seq bind done renamed
+any_predictor kind one p q t same = elim (cases_Bool kind.intra) [
+  | inl intra ↦ ap (λ (z : ℤ). (renamed of_block (block_at kind one z)).read t) (same intra)
+  | inr other ↦ rw other refl
+]
+
+pub as_block : (c : PictureContext) (m : MacroSyntax) (st : SliceState) (k : ℕ) (before : List (List ℤ)) (coded : Bool) (kind : BlockKind) (dc : ℤ) (t : List Bool)
+    → coded ≡ is_coded m.pattern k → kind ≡ kind_for c m.kind.intra (nat_lt k 4) st.quantiser → (m.kind.intra ≡ true → dc ≡ predictor st.dc before k)
+    → (choose coded (renamed of_block (block_at kind c.extension.intra_vlc_format dc)) (done (replicate 64 (pos 0)))).read t ≡ (block_in c m st k before).read t
+unfolding block_in kind_for choose
+as_block c m st k before coded kind dc t a b d =
+    let one = c.extension.intra_vlc_format in
+    let own = predictor st.dc before k in
+    let any = any_predictor kind one dc own t (λ e. d (sym (ap (λ (x : BlockKind). x.intra) b) ∙ e)) in
+    (λ i. cond coded (any i) ((done (replicate 64 (pos 0))).read t))
+    ∙ (λ i. (choose (a i) (renamed of_block (block_at (b i) one own)) (done (replicate 64 (pos 0)))).read t)
 
 pub tells_block : (r : Result (Unit {0}) Stop) (own : List ℤ) (before now : List (List ℤ)) (rest : List Bool) (x y : Result (List ℤ × List Bool) (FaultKind × ℕ))
     → x ≡ y → TellsLevels r own rest x → now ≡ before ++ own ∷ [] → TellsBlock r before now rest y

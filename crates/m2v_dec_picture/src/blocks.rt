@@ -96,6 +96,18 @@ fn predictor(dc: &[i32; 3], levels: &[SparseLevels; 6], block: usize) -> i32
     }
 }
 
+/// The DC predictor of a block of an intra macroblock. Blocks of others have none, and 0 stands in its place.
+#[inline(always)]
+fn predictor_if(intra: bool, dc: &[i32; 3], levels: &[SparseLevels; 6], block: usize) -> i32
+    requires { block < 6 }
+    ensures { intra ≡ true → result ≡ predictor_of dc.now (levels_of levels.now) block }
+{
+    if intra {
+        return predictor(dc, levels, block);
+    }
+    0
+}
+
 /// The DC predictors of Y, Cb and Cr behind a macroblock's blocks: in an intra macroblock the DC levels of the last
 /// block of each, else those before (clause 7.2.1).
 #[inline(always)]
@@ -136,7 +148,7 @@ fn next_block(
     ensures fine { OnOk result (All (AreFine c.now m.now) (take (k + 1) (levels_of out.new))) }
     ensures long { length out.new ≡ 6 }
 {
-    let dc = predictor(&state.dc, out, k);
+    let dc = predictor_if(m.kind.intra, &state.dc, out, k);
     let one = c.extension.intra_vlc_format;
     let coded = is_coded(m.pattern, k as u32);
     block(input, &kinds[k / 4], one, coded, dc, &mut out[k])

@@ -80,6 +80,7 @@ fn direction_decoded(fields: [bool; 2], mode: &Mode, direction: usize, structure
 }
 
 /// Whether the fields that a macroblock is predicted from were decoded.
+#[inline(always)]
 #[tactic(auto, unfolding(m2v_model::specs::Modes::is_decoded))]
 fn is_decoded(references: &[bool; 4], structure: u8, mode: &Mode) -> bool
     ensures { result ≡ is_decoded_of references.now structure mode.now }

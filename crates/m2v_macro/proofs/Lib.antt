@@ -12,3 +12,4 @@ pub mod MacroSpellings
 pub mod Decisions
 pub use Rattle.m2v_head.proofs as m2v_head
 pub use Rattle.m2v_vector.proofs as m2v_vector
+pub mod Plain

@@ -1,5 +1,6 @@
 pub mod Faults
 pub mod States
+pub mod Plain
 pub mod Vectors
 pub mod Macros
 pub mod Conditions

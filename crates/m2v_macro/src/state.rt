@@ -2,6 +2,7 @@ ghost use Rattle.std.specs.Prelude.{◌≡◌, ◌+◌, ◌-◌, ◌*◌, ◌≤
 ghost use Rattle.m2v_vector.specs.Vectors.{scale, IsVector};
 ghost use Rattle.m2v_vector.specs.Predictors.{zero, AreSmall, predictors_after};
 ghost use Rattle.m2v_macro.specs.States.{is_field as is_field_of, address, skipped as skipped_of, motion as motion_of, pmv_before as pmv_before_of, dc_reset as dc_reset_of, dc_behind as dc_behind_of, at_start as at_start_of, after as after_of};
+ghost use Rattle.m2v_macro.specs.Plain.{is_plain as is_plain_of, plain_entry as plain_entry_of};
 ghost use Rattle.m2v_macro.specs.Macros.{f_codes_of};
 ghost use Rattle.m2v_macro.specs.Conditions.{IsContext, IsReady, IsAddress, ArePredictors, IsMacro, is_used};
 
@@ -105,6 +106,52 @@ fn quantiser_behind(state: &SliceState, m: &MacroSyntax) -> u8
     }
 }
 
+/// Whether a macroblock is predicted forward, and has one vector of each direction that it has, of the picture's own
+/// lines. Most are so.
+#[inline(always)]
+fn is_plain(context: &PictureContext, m: &MacroSyntax) -> bool
+    ensures { result ≡ is_plain_of context.now m.now }
+{
+    let one = if is_field(context) { 1 } else { 2 };
+    !m.kind.intra && m.kind.forward && m.form == one
+}
+
+/// An entry behind a macroblock that has one vector of a direction, or none.
+#[inline(always)]
+#[tactic(auto, unfolding(m2v_vector::specs::Predictors::left_by))]
+fn plain_entry(
+    m: &MacroSyntax,
+    told: bool,
+    before: &Pmv,
+    entry: usize,
+    direction: usize,
+) -> [i32; 2]
+    requires entry { entry < 2 }
+    requires direction { direction < 2 }
+    ensures { result ≡ plain_entry_of m.now told before.now entry direction }
+{
+    if told {
+        let vector = &m.vectors[0][direction];
+        return [vector[0], vector[1]];
+    }
+    before.at[entry][direction]
+}
+
+/// The predictors of vectors behind such a macroblock.
+#[inline(always)]
+#[tactic(auto, using(crate::proofs::Plain::plain_after))]
+fn plain_behind(context: &PictureContext, m: &MacroSyntax, before: &Pmv) -> Pmv
+    requires { is_plain_of context.now m.now ≡ true }
+    ensures { result ≡ predictors_after (motion_of context.now m.now) before.now }
+{
+    let mut next = Pmv::zero();
+    next.at[0][0] = plain_entry(m, m.kind.forward, before, 0, 0);
+    next.at[0][1] = plain_entry(m, m.kind.backward, before, 0, 1);
+    next.at[1][0] = plain_entry(m, m.kind.forward, before, 1, 0);
+    next.at[1][1] = plain_entry(m, m.kind.backward, before, 1, 1);
+    next
+}
+
 /// The predictors of vectors behind a macroblock.
 #[inline(always)]
 fn pmv_behind(context: &PictureContext, state: &SliceState, m: &MacroSyntax) -> Pmv
@@ -112,8 +159,12 @@ fn pmv_behind(context: &PictureContext, state: &SliceState, m: &MacroSyntax) -> 
     ensures { result ≡ predictors_after (motion_of context.now m.now)
         (pmv_before_of context.now state.now m.now.increment) }
 {
+    let before = pmv_before(context, state, m.increment);
+    if is_plain(context, m) {
+        return plain_behind(context, m, &before);
+    }
     let motion = motion(context, m);
-    pmv_before(context, state, m.increment).after(&motion)
+    before.after(&motion)
 }
 
 /// The address of a macroblock.

@@ -1,4 +1,4 @@
-ghost use Rattle.std.specs.Prelude.{◌≡◌, ◌+◌, ◌-◌, ◌*◌, ◌≤◌, ◌<◌, ◌^◌, ◌&&◌, ◌||◌, not, nat_eq, cond, true, false, IfOk, length, slice_index, slice_index_or, pos, neg_ℤ, ◌≤ℤ◌, ◌<ℤ◌};
+ghost use Rattle.std.specs.Prelude.{◌≡◌, ◌+◌, ◌-◌, ◌*◌, ◌≤◌, ◌<◌, ◌^◌, ◌&&◌, ◌||◌, not, nat_eq, cond, true, false, ◌∷◌, IfOk, length, drop, slice_index, slice_index_or, pos, neg_ℤ, ◌≤ℤ◌, ◌<ℤ◌};
 ghost use Rattle.m2v_bits.specs.Syntax.{Gives, choose, done};
 ghost use Rattle.m2v_vector.specs.Vectors.{scale, IsVector, half as half_of};
 ghost use Rattle.m2v_vector.specs.Predictors.{pair_of};
@@ -58,10 +58,18 @@ fn residual(input: &mut BitReader, f_code: u8, code: i8) -> Result<u32, MacroFau
     Ok(0)
 }
 
-/// A component of a vector, behind its predictor (clauses 6.2.5.2.1 and 7.6.3.1).
+/// Whether a difference of 0 stands ahead, which is spelled by a bit 1.
+#[inline(always)]
+fn is_still(input: &BitReader) -> bool
+    ensures { result ≡ true → input.now.rest ≡ true ∷ drop 1 input.now.rest }
+{
+    input.peek(1) == 1
+}
+
+/// A component of a vector, behind its predictor, whatever difference stands there.
 #[inline(always)]
 #[tactic(auto, unfolding(crate::specs::Vectors::component_at, m2v_bits::specs::Syntax::seq, m2v_bits::specs::Syntax::bind, m2v_bits::specs::Syntax::renamed, m2v_bits::specs::Syntax::done))]
-fn component(input: &mut BitReader, f_code: u8, predictor: i32) -> Result<i32, MacroFault>
+fn any_component(input: &mut BitReader, f_code: u8, predictor: i32) -> Result<i32, MacroFault>
     requires least { 1 ≤ f_code }
     requires most { f_code ≤ 9 }
     requires predictor { IsVector (scale f_code) predictor }
@@ -73,6 +81,25 @@ fn component(input: &mut BitReader, f_code: u8, predictor: i32) -> Result<i32, M
     let code = read_motion(input)?;
     let residual = residual(input, f_code, code)?;
     Ok(join(predictor, code, residual, f_code))
+}
+
+/// A component of a vector, behind its predictor (clauses 6.2.5.2.1 and 7.6.3.1). Where the difference is 0 the predictor
+/// is the component.
+#[inline(always)]
+fn component(input: &mut BitReader, f_code: u8, predictor: i32) -> Result<i32, MacroFault>
+    requires least { 1 ≤ f_code }
+    requires most { f_code ≤ 9 }
+    requires predictor { IsVector (scale f_code) predictor }
+    ensures exact { Gives result input.new.rest
+        ((component_at f_code predictor).read input.old.rest) }
+    ensures text { input.new.text ≡ input.old.text }
+    ensures within { IfOk result (λ v. IsVector (scale f_code) v) }
+{
+    if is_still(input) {
+        input.skip(1);
+        return Ok(predictor);
+    }
+    any_component(input, f_code, predictor)
 }
 
 /// The dmvector of a component in dual prime, 0 elsewhere.

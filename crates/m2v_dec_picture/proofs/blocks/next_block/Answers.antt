@@ -1,4 +1,4 @@
-use Rattle.std.proofs.Common.{◌∙◌, arith, take}
+use Rattle.std.proofs.Common.{◌≡◌, ◌∙◌, true, arith, take}
 use Rattle.std.specs.Prelude.{nat_lt}
 use Rattle.std.proofs.lemmas.Int.{to_z-of_z}
 use Rattle.std.proofs.lemmas.List.{length-map}
@@ -16,15 +16,16 @@ pub block-requires-clause-predictor : goal.block-requires-clause-predictor
 block-requires-clause-predictor c =
     let len = length-map c.args.out.now (λ (l : Levels). l.at) ∙ c.told-out in
     let kind = kind_at c.args.c.now c.args.m.now c.args.state.now c.args.kinds.now c.args.k _ c.requires.block c.requires.kinds in
-    predictor_passed c.args.c.now c.args.m.now c.args.state.now (levels_of c.args.out.now) c.args.k (nat_lt c.args.k 4) _ c.predictor-dc.result
-    c.requires.block len c.requires.dc c.requires.before kind c.predictor-dc.ensures (record { sfits = c.predictor-dc.type_inv })
+    predictor_passed c.args.c.now c.args.m.now c.args.state.now (levels_of c.args.out.now) c.args.k (nat_lt c.args.k 4) _ c.predictor_if-dc.result
+    c.requires.block len c.requires.dc c.requires.before kind c.predictor_if-dc.ensures (record { sfits = c.predictor_if-dc.type_inv })
 
 pub returns-clause-exact : goal.returns-clause-exact
 returns-clause-exact c =
     let kind = kind_at c.args.c.now c.args.m.now c.args.state.now c.args.kinds.now c.args.k _ c.requires.block c.requires.kinds in
-    let dc = to_z-of_z w32 c.predictor-dc.result (record { sfits = c.predictor-dc.type_inv }) ∙ c.predictor-dc.ensures ∙ predicted_by c.args.state.now.dc (levels_of c.args.out.now) c.args.k c.requires.block in
-    let same = as_block c.args.c.now c.args.m.now c.args.state.now c.args.k (take c.args.k (levels_of c.args.out.now)) _ _ _ c.is_coded-coded.ensures.value kind dc in
-    tells_block c.block.result c.block.new.out.at _ _ _ _ _ (λ i. (same i).read c.args.input.now.rest) c.block.ensures.exact
+    let fits = to_z-of_z w32 c.predictor_if-dc.result (record { sfits = c.predictor_if-dc.type_inv }) in
+    let dc = λ (intra : c.args.m.now.kind.intra ≡ true). fits ∙ c.predictor_if-dc.ensures intra ∙ predicted_by c.args.state.now.dc (levels_of c.args.out.now) c.args.k c.requires.block in
+    let same = as_block c.args.c.now c.args.m.now c.args.state.now c.args.k (take c.args.k (levels_of c.args.out.now)) _ _ _ c.args.input.now.rest c.is_coded-coded.ensures.value kind dc in
+    tells_block c.block.result c.block.new.out.at _ _ _ _ _ same c.block.ensures.exact
     (levels_more c.args.out.now c.args.k c.block.new.out (omega (arith, c.told-out, c.requires.block)))
 
 pub returns-clause-fine : goal.returns-clause-fine
