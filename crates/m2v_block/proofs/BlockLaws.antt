@@ -26,7 +26,7 @@ coded_takes table s = record { less = s.takes.less }
 coded_strict : {V : Type 0} (table : List (Row V)) → Strict length (code_at codes.Truncated codes.NoCode table) → Strict length (coded table)
 coded_strict table s = record { lawful = renamed_lawful of_code s.lawful; takes = coded_takes table s }
 
-size_strict : (luma : Bool) → Strict length (size_at luma)
+pub size_strict : (luma : Bool) → Strict length (size_at luma)
 unfolding size_at
 size_strict luma = choose_strict luma (coded_strict _ (dc_luma_strict codes.Truncated codes.NoCode)) (coded_strict _ (dc_chroma_strict codes.Truncated codes.NoCode))
 

@@ -1,4 +1,4 @@
--- Nine bits out of 32 that were looked at.
+-- Bits out of those that were looked at.
 use Rattle.std.proofs.Common.{◌≡◌, ℕ, ◌+◌, ◌-◌, ◌*◌, ◌/◌, ◌%◌, ◌^◌, ◌<◌, ◌≤◌, Bool, List, ◌++◌, drop, ap, ◌∙◌, sym, arith}
 use Rattle.std.proofs.lemmas.List.{drop-drop}
 use Rattle.std.proofs.lemmas.Nat.{shr_high, mod_low}
@@ -7,22 +7,29 @@ use Rattle.m2v_bits.proofs.Bits.{number_below, number-append}
 use Rattle.m2v_bits.proofs.Cursor.{length-ahead, ahead-add}
 use Rattle.m2v_block.specs.Blocks.{Looked}
 
+-- n bits behind the first `used` of w bits
+pub part_ahead : (w look used n : ℕ) (bs : List Bool) → look ≡ number (ahead w bs) → used + n ≤ w → look / 2 ^ (w - used - n) % 2 ^ n ≡ number (ahead n (drop used bs))
+part_ahead w look used n bs at le =
+    let s = w - used - n in
+    let sum : (used + n) + s ≡ w = omega (arith, le) in
+    let a = ahead used bs in
+    let b = ahead n (drop used bs) in
+    let f = ahead (used + n) bs in
+    let c = ahead s (drop (used + n) bs) in
+    let parts : ahead w bs ≡ f ++ c = rw sum at (ahead-add (used + n) s bs) in
+    let low : number c < 2 ^ s = rw (length-ahead s (drop (used + n) bs)) at (number_below c) in
+    let small : number b < 2 ^ n = rw (length-ahead n (drop used bs)) at (number_below b) in
+    let whole : number (f ++ c) ≡ number f * 2 ^ s + number c = rw (length-ahead s (drop (used + n) bs)) at (number-append f c) in
+    let front : number (a ++ b) ≡ number a * 2 ^ n + number b = rw (length-ahead n (drop used bs)) at (number-append a b) in
+    ap (λ (x : ℕ). x / 2 ^ s % 2 ^ n) (at ∙ ap number parts ∙ whole)
+    ∙ ap (λ (x : ℕ). x % 2 ^ n) (shr_high (number f) s (number c) low ∙ ap number (ahead-add used n bs) ∙ front)
+    ∙ mod_low (number a) n (number b) small
+
 pub nine_ahead : (look used : ℕ) (rest : List Bool) → Looked look used rest → used ≤ 23 → look / 2 ^ (23 - used) % 512 ≡ number (ahead 9 rest)
 nine_ahead look used rest l le =
-    let s = 23 - used in
-    let sum : (used + 9) + s ≡ 32 = omega arith in
-    let a = ahead used l.from in
-    let b = ahead 9 (drop used l.from) in
-    let f = ahead (used + 9) l.from in
-    let c = ahead s (drop (used + 9) l.from) in
-    let parts : ahead 32 l.from ≡ f ++ c = rw sum at (ahead-add (used + 9) s l.from) in
-    let low : number c < 2 ^ s = rw (length-ahead s (drop (used + 9) l.from)) at (number_below c) in
-    let small : number b < 2 ^ 9 = rw (length-ahead 9 (drop used l.from)) at (number_below b) in
-    let whole : number (f ++ c) ≡ number f * 2 ^ s + number c = rw (length-ahead s (drop (used + 9) l.from)) at (number-append f c) in
-    let front : number (a ++ b) ≡ number a * 2 ^ 9 + number b = rw (length-ahead 9 (drop used l.from)) at (number-append a b) in
-    ap (λ (x : ℕ). x / 2 ^ s % 512) (l.bits ∙ ap number parts ∙ whole)
-    ∙ ap (λ (x : ℕ). x % 512) (shr_high (number f) s (number c) low ∙ ap number (ahead-add used 9 l.from) ∙ front)
-    ∙ mod_low (number a) 9 (number b) small
+    let shift : 23 - used ≡ 32 - used - 9 = omega arith in
+    ap (λ (s : ℕ). look / 2 ^ s % 512) shift
+    ∙ part_ahead 32 look used 9 l.from l.bits (omega (arith, le))
     ∙ ap (λ (x : List Bool). number (ahead 9 x)) (sym l.here)
 
 pub looked_on : (look used n : ℕ) (rest next : List Bool) → Looked look used rest → next ≡ drop n rest → Looked look (used + n) next

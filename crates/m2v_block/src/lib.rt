@@ -8,6 +8,7 @@ mod fault;
 mod laws;
 mod quick;
 mod read;
+mod read_dc;
 mod write;
 
 pub use dc::write_dc;

@@ -3,84 +3,17 @@ ghost use Rattle.m2v_bits.specs.Syntax.{Gives};
 ghost use Rattle.m2v_vlc.specs.Coefficients.{IsCoefficient};
 ghost use Rattle.m2v_quant.specs.Kinds.{IsKind, IsLevel};
 ghost use Rattle.m2v_quant.specs.Sparse.{IsClearFrom};
-ghost use Rattle.m2v_block.specs.Blocks.{difference, IsDc, is_dc, size_at, dc_at, placed, escaped, is_allowed, coefficient_at, code_from, pair_at, pairs_at, opened, first_at, block_at, predictor_after, GivesScan, GivesLevels, GivesEnd};
+ghost use Rattle.m2v_block.specs.Blocks.{IsDc, placed, escaped, is_allowed, coefficient_at, code_from, pair_at, pairs_at, opened, first_at, block_at, predictor_after, GivesScan, GivesLevels, GivesEnd};
 
 use crate::escape::{escaped, is_allowed, quick_escape};
 use crate::fault::BlockFault;
-use crate::fault::BlockFault::{Code, DcRange, ForbiddenLevel, Overrun};
+use crate::fault::BlockFault::{Code, ForbiddenLevel, Overrun};
 use crate::quick::{quick_first, quick_long, quick_long_first, quick_pairs, set};
+use crate::read_dc::dc;
 use m2v_bits::{BitReader, check, number};
 use m2v_quant::{BlockKind, SparseLevels};
 use m2v_vlc::CodeFault::Truncated;
-use m2v_vlc::{
-    Coefficient, read_coefficient_one, read_coefficient_zero, read_dc_chroma, read_dc_luma,
-    read_first_zero,
-};
-
-/// The size of a DC difference, by table B.12 for luma and table B.13 for chroma.
-#[inline(always)]
-#[tactic(auto, unfolding(crate::specs::Blocks::size_at, m2v_bits::specs::Syntax::choose, m2v_bits::specs::Syntax::renamed))]
-fn size(input: &mut BitReader, luma: bool) -> Result<u8, BlockFault>
-    ensures exact { Gives result input.new.rest ((size_at luma).read input.old.rest) }
-    ensures text { input.new.text ≡ input.old.text }
-    ensures size { IfOk result (λ v. v < 12) }
-{
-    if luma {
-        let size = read_dc_luma(input)?;
-        Ok(size)
-    } else {
-        let size = read_dc_chroma(input)?;
-        Ok(size)
-    }
-}
-
-/// The difference that a size and so many bits mean.
-#[inline(always)]
-#[tactic(auto, using(crate::proofs::Ranges::power_most), unfolding(crate::specs::Blocks::difference))]
-fn difference(size: u8, bits: u32) -> i32
-    requires size { size < 12 }
-    requires bits { bits < 2 ^ size }
-    ensures value { result ≡ difference size bits }
-    ensures within { IsLevel result }
-{
-    if size == 0 {
-        return 0;
-    }
-    if bits >= 1 << (size - 1) {
-        return bits as i32;
-    }
-    (bits as i32 + 1) - (1 << size)
-}
-
-/// Whether a DC level is in its range.
-#[inline(always)]
-#[tactic(auto, unfolding(crate::specs::Blocks::is_dc))]
-fn is_dc(precision: u8, level: i32) -> bool
-    requires { precision ≤ 3 }
-    ensures value { result ≡ is_dc precision level }
-    ensures held { result ≡ true → IsDc precision level }
-{
-    level >= 0 && level < 1 << (8 + precision)
-}
-
-/// The DC level of an intra block.
-#[inline(always)]
-#[tactic(auto, unfolding(crate::specs::Blocks::dc_at, m2v_bits::specs::Syntax::seq, m2v_bits::specs::Syntax::bind, m2v_bits::specs::Syntax::here, m2v_bits::specs::Syntax::rule, m2v_bits::specs::Syntax::done))]
-fn dc(input: &mut BitReader, luma: bool, precision: u8, predictor: i32) -> Result<i32, BlockFault>
-    requires precision { precision ≤ 3 }
-    requires predictor { IsDc precision predictor }
-    ensures exact { Gives result input.new.rest
-        ((dc_at luma precision predictor).read input.old.rest) }
-    ensures text { input.new.text ≡ input.old.text }
-    ensures range { IfOk result (λ v. IsDc precision v) }
-{
-    let start = input.fork();
-    let size = size(input, luma)?;
-    let bits = number(input, size, Code(Truncated))?;
-    let level = predictor + difference(size, bits);
-    check(input, &start, is_dc(precision, level), DcRange)?;
-    Ok(level)
-}
+use m2v_vlc::{Coefficient, read_coefficient_one, read_coefficient_zero, read_first_zero};
 
 /// A run of zeros and a level behind it.
 #[inline(always)]

@@ -1,7 +1,7 @@
 -- Codings of a prediction, as they are tried.
-use Rattle.std.proofs.Common.{◌≡◌, ℕ, zero, suc, ◌<◌, Bool, true, false, cond, All, List, [], ◌∷◌, ◌++◌, filter, map, refl, ap, sym, ◌∙◌, subst, ℤ}
+use Rattle.std.proofs.Common.{◌≡◌, ℕ, zero, suc, ◌<◌, Bool, true, false, cond, All, List, [], ◌∷◌, ◌++◌, filter, map, refl, ap, sym, ◌∙◌, subst, ℤ, inl, inr}
 use Rattle.std.specs.Prelude.{nat_eq, nat_lt, slice_index_or}
-use Rattle.std.proofs.lemmas.Bool.{lt-ltb}
+use Rattle.std.proofs.lemmas.Bool.{cases_Bool, lt-ltb}
 use Rattle.std.proofs.lemmas.List.{map-append}
 use Rattle.std.proofs.lemmas.List.Elements.{All-nil, All-cons, All-head, All-tail, filter-append}
 use Rattle.m2v_quant.specs.declared.kind.BlockKind.{BlockKind}
@@ -77,10 +77,10 @@ predicts_blocks : (f b : View) (c : PictureContext) (place : MbPlace) (m : Macro
 unfolding prediction_of mode_of told_mode opposite_parity_vectors
 predicts_blocks f b c place m send q dct pattern = refl
 
-none_coded : (x : Candidate) → x.macroblock.syntax.pattern ≡ 0 → filter has_block (x ∷ []) ≡ []
+pub none_coded : (x : Candidate) → x.macroblock.syntax.pattern ≡ 0 → filter has_block (x ∷ []) ≡ []
 none_coded x e = rw e refl
 
-some_coded : (x : Candidate) → 0 < x.macroblock.syntax.pattern → filter has_block (x ∷ []) ≡ x ∷ []
+pub some_coded : (x : Candidate) → 0 < x.macroblock.syntax.pattern → filter has_block (x ∷ []) ≡ x ∷ []
 some_coded x lt = rw (lt-ltb 0 x.macroblock.syntax.pattern lt) refl
 
 module _ (r : References) (t : Task) (p : Prediction) (bare : MacroSyntax) (same : bare ≡ uncoded_syntax (decided r t) p) where
@@ -181,3 +181,18 @@ module _ (d : Decision) (p : Prediction) where
       subst (Tried d old new)
       (sym (filter-append has_block first second) ∙ ap (filter has_block) (all_codings f false (sym e) (codings_at d (second_q d.limits.q)) refl))
       (tried_on d old mid new (filter has_block first) (filter has_block second) a b)
+
+  -- none of the codings changes anything
+  module _ (a : Best) (frame : (q : ℕ) → Tried d a a (filter has_block (coded_by d p (record { q = q; dct_field = false }) ∷ [])))
+      (field : has_dct_type d ≡ true → (q : ℕ) → Tried d a a (filter has_block (coded_by d p (record { q = q; dct_field = true }) ∷ []))) where
+    none_at : (q : ℕ) → Tried d a a (filter has_block (map (coded_by d p) (codings_at d q)))
+    none_at q = elim (cases_Bool (has_dct_type d)) [
+      | inl has ↦ tried_two q a a a has (frame q) (field has q)
+      | inr not ↦ tried_one q a a not (frame q)
+    ]
+
+    pub tried_nothing : Tried d a a (filter has_block (map (coded_by d p) (codings d)))
+    tried_nothing = elim (cases_Bool (nat_eq (second_q d.limits.q) d.limits.q)) [
+      | inl same ↦ tried_once a a same (none_at d.limits.q)
+      | inr other ↦ tried_twice a a a other (none_at d.limits.q) (none_at (second_q d.limits.q))
+    ]

@@ -24,3 +24,6 @@ pub mod Skips
 pub mod Asked
 pub mod Small
 pub use Rattle.m2v_search.proofs as m2v_search
+pub mod Headers
+pub mod Cheapest
+pub mod CheapestIntra

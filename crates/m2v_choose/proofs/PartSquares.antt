@@ -234,7 +234,7 @@ module _ (dct : Bool) (s p : List ℕ) (ls : List (List ℤ)) (pattern : ℕ) (l
   uncoded_sample b i k true e lt = absurd cc
   uncoded_sample b i k false e lt = plus_none (get_or p k 0) lt
 
-sum_below_same : (f g : ℕ → ℕ) (n : ℕ) → ((k : ℕ) → k < n → f k ≡ g k) → sum_by f (range_with_len 0 n) ≡ sum_by g (range_with_len 0 n)
+pub sum_below_same : (f g : ℕ → ℕ) (n : ℕ) → ((k : ℕ) → k < n → f k ≡ g k) → sum_by f (range_with_len 0 n) ≡ sum_by g (range_with_len 0 n)
 sum_below_same f g zero h = refl
 sum_below_same f g (suc n) h =
     let one : suc n ≡ n + 1 = omega arith in

@@ -1,5 +1,5 @@
 -- Words of the choice's code: the blocks of a macroblock, and the best candidate so far.
-use Rattle.std.specs.Prelude.{ℕ, ◌≢◌, ◌||◌, IsTrue, false, not, cond, ◌&&◌, ◌≡◌, ◌⊎◌, ◌<◌, ◌≤◌, ◌+◌, ◌-◌, ◌*◌, Bool, true, nat_eq, nat_lt, List, [], ◌∷◌, ◌++◌, map, slice_index, slice_index_or, sum_by, if◌then◌else◌, ℤ, pos, neg_ℤ, ◌-ℤ◌, ◌≤ℤ◌, ◌<ℤ◌, unsigned_abs}
+use Rattle.std.specs.Prelude.{ℕ, min, length, ◌^◌, ◌≢◌, ◌||◌, IsTrue, false, not, cond, ◌&&◌, ◌≡◌, ◌⊎◌, ◌<◌, ◌≤◌, ◌+◌, ◌-◌, ◌*◌, Bool, true, nat_eq, nat_lt, List, [], ◌∷◌, ◌++◌, map, slice_index, slice_index_or, sum_by, if◌then◌else◌, ℤ, pos, neg_ℤ, ◌-ℤ◌, ◌≤ℤ◌, ◌<ℤ◌, unsigned_abs}
 use Rattle.std.specs.List.{range_with_len, list_all}
 use Rattle.m2v_plane.specs.declared.dims.Dims.{Dims}
 use Rattle.m2v_plane.specs.declared.planes.Lines.{Lines}
@@ -13,6 +13,7 @@ use Rattle.m2v_macro.specs.declared.values.PictureContext.{PictureContext}
 use Rattle.m2v_macro.specs.States.{is_field, skips, pmv_before, dc_reset}
 use Rattle.m2v_macro.specs.Conditions.{IsMacro}
 use Rattle.m2v_macro.specs.Macros.{macro_of, no_vectors}
+use Rattle.m2v_macro.specs.Texts.{macro_text}
 use Rattle.m2v_macroblock.specs.Modes.{mode_of}
 use Rattle.m2v_macro.specs.declared.values.MacroSyntax.{MacroSyntax}
 use Rattle.m2v_macro.specs.declared.values.Selected.{Selected}
@@ -212,10 +213,30 @@ pub record CanCode (t : Task) (m : MacroSyntax) : Type 0 where
   pub macro : (q : ℕ) (dct_field : Bool) (pattern : ℕ) → IsCode q → (dct_field ≡ true → has_types t.context.now ≡ true) → 0 < pattern → pattern < 64
       → IsMacro t.context.now t.first (with_blocks m (sends_code t.state.now q) q dct_field pattern)
 
--- the squares of its blocks are known: by DCT type 0, and by DCT type 1 where the picture has it
-pub record HasSquares (t : Task) (plain : Uncoded) : Type 0 where
+-- at least so many bits stand before the blocks of a macroblock that has a prediction and coded blocks
+abbrev pub IsHeader : Task → MacroSyntax → ℕ → Type 0
+IsHeader t m n = (q : ℕ) (dct_field : Bool) (pattern : ℕ) → 0 < pattern → pattern < 64
+    → n ≤ length (macro_text t.context.now t.state.now (with_blocks m (sends_code t.state.now q) q dct_field pattern))
+
+-- the least that a macroblock with coded blocks scores, where a bit costs so much, so many bits stand before its blocks, and
+-- these are the squares of its prediction: a block that isn't coded adds eight times its squares, and a coded one has at
+-- least four bits
+unfoldable pub coded_least : ℕ → ℕ → (ℕ → ℕ) → ℕ
+coded_least bit header squares = bit * header + sum_by (λ b. min (8 * squares b) (bit * 4)) (range_with_len 0 6)
+
+-- so much at least a prediction scores with coded blocks, by a DCT type
+pub record IsLeast (t : Task) (plain : Uncoded) (dct_field : Bool) (least : ℕ) : Type 0 where
+  pub header : ℕ
+  pub bits : IsHeader t plain.bare.now header
+  pub value : least ≡ coded_least ((2 * t.limits.now.q) ^ 2) header (block_squared dct_field t.source.now.at plain.prediction.now.at)
+
+-- the squares of its blocks are known, and the least that it scores with coded blocks: by DCT type 0, and by DCT type 1 where
+-- the picture has it
+pub record IsMeasured (t : Task) (plain : Uncoded) : Type 0 where
   pub frame : AreSquares false t.source.now.at plain.prediction.now.at plain.frame.now
   pub field : has_types t.context.now ≡ true → AreSquares true t.source.now.at plain.prediction.now.at plain.field.now
+  pub least : IsLeast t plain false plain.frame_least
+  pub field_least : has_types t.context.now ≡ true → IsLeast t plain true plain.field_least
 
 -- ---- references
 

@@ -1,18 +1,18 @@
 //! The codings of a prediction and of an intra macroblock: quantisers and DCT types, in order.
-ghost use Rattle.std.specs.Prelude.{◌≡◌, ℕ, ◌≤◌, ◌<◌, ◌&&◌, not, nat_eq, cond, min, ◌+◌, true, false, All, [], ◌∷◌, filter, map, replicate};
+ghost use Rattle.std.specs.Prelude.{◌≡◌, ℕ, ◌≤◌, ◌<◌, ◌&&◌, not, nat_eq, cond, min, ◌+◌, ◌*◌, ◌^◌, true, false, All, IsTrue, slice_index, [], ◌∷◌, filter, map, replicate};
 ghost use Rattle.m2v_idct.specs.Ranges.{IsCoefficient};
 ghost use Rattle.m2v_macro.specs.States.{is_field};
 ghost use Rattle.m2v_macro.specs.Macros.{no_form as no_form_of};
 ghost use Rattle.m2v_choose.specs.Decisions.{Prediction, uncoded_syntax, intra_syntax as intra_syntax_of};
 ghost use Rattle.m2v_choose.specs.Candidates.{second_q as second_q_of, codings_at, codings, samples_by, coded_by, has_block, intra_by};
 ghost use Rattle.m2v_choose.specs.Own.{IsCode};
-ghost use Rattle.m2v_choose.specs.Trials.{References, decided, IsTask, IsRated, Tried, CanCode, has_types, AreSquares, HasSquares, block_squared, uncoded_squared, sends_code, with_blocks as with_blocks_of, transforms_of};
+ghost use Rattle.m2v_choose.specs.Trials.{References, decided, IsTask, IsRated, Tried, CanCode, has_types, AreSquares, IsMeasured, block_squared, coded_least, uncoded_squared, sends_code, with_blocks as with_blocks_of, transforms_of};
 
 use crate::blocks::{pattern_of, quantise_blocks, transform, transform_by_fields};
 use crate::scratch::CodingScratch;
-use crate::squares::{part_squares, uncoded_squares};
+use crate::squares::{least_blocks, part_squares, uncoded_squares};
 use crate::task::Task;
-use crate::trial::Best;
+use crate::trial::{Best, are_bytes, bit_cost};
 use m2v_macro::{MacroSyntax, PictureContext};
 use m2v_macroblock::kinds;
 use m2v_pred::Block16;
@@ -29,6 +29,10 @@ pub struct Uncoded<'a> {
     pub frame: &'a [u32; 6],
     /// Those by DCT type 1, where the picture has it.
     pub field: &'a [u32; 6],
+    /// At least so much it scores with coded blocks by DCT type 0.
+    pub frame_least: u64,
+    /// And by DCT type 1, where the picture has it.
+    pub field_least: u64,
 }
 
 /// The transforms of the six blocks: by DCT type 0, and by DCT type 1 where the picture has it.
@@ -153,7 +157,7 @@ pub fn field_squares(task: &Task, prediction: &Block16, out: &mut [u32; 6])
 /// The squares of the blocks of a prediction that have no level.
 #[inline(always)]
 fn still_squares(task: &Task, plain: &Uncoded, dct_field: bool, pattern: u8) -> u32
-    requires squares { HasSquares task.now plain.now }
+    requires measured { IsMeasured task.now plain.now }
     requires dct { dct_field ≡ true → has_types task.now.context.now ≡ true }
     ensures value { result ≡ uncoded_squared pattern (block_squared dct_field
         task.now.source.now.at plain.now.prediction.now.at) }
@@ -165,7 +169,70 @@ fn still_squares(task: &Task, plain: &Uncoded, dct_field: bool, pattern: u8) -> 
     uncoded_squares(plain.frame, pattern)
 }
 
+/// At least so much a prediction scores with coded blocks, by a DCT type: `squares` are those of its blocks, and at least so
+/// many bits stand before them.
+pub fn least_score(task: &Task, squares: &[u32; 6], header: u32) -> u64
+    requires most { (b : ℕ) → b < 6 → slice_index squares.now b ≤ 8323200 }
+    ensures value { result ≡ coded_least ((2 * task.now.limits.now.q) ^ 2) header
+        (slice_index squares.now) }
+{
+    bit_cost(task.limits, header) + least_blocks(squares, bit_cost(task.limits, 4))
+}
+
+/// The least that a prediction scores with coded blocks, by a DCT type.
+#[inline(always)]
+fn least_of(plain: &Uncoded, dct_field: bool) -> u64
+    ensures frame { dct_field ≡ false → result ≡ plain.now.frame_least }
+    ensures field { dct_field ≡ true → result ≡ plain.now.field_least }
+{
+    if dct_field {
+        plain.field_least
+    } else {
+        plain.frame_least
+    }
+}
+
 impl Best {
+    /// Whether a prediction scores no less than the best so far, however it is coded by a DCT type. That is known before it is
+    /// transformed.
+    #[inline(always)]
+    fn rules_out(&self, task: &Task, plain: &Uncoded, dct_field: bool) -> bool
+        requires bare { CanCode task.now plain.now.bare.now }
+        requires measured { IsMeasured task.now plain.now }
+        requires dct { dct_field ≡ true → has_types task.now.context.now ≡ true }
+        ensures { IsTrue result → (r : References) (p : Prediction) (q : ℕ)
+            → plain.now.bare.now ≡ uncoded_syntax (decided r task.now) p
+            → plain.now.prediction.now.at ≡ samples_by (decided r task.now) p
+            → IsRated (decided r task.now) self.now
+            → Tried (decided r task.now) self.now self.now
+            (filter has_block (coded_by (decided r task.now) p
+            (record { q = q; dct_field = dct_field }) ∷ [])) }
+    {
+        are_bytes(&plain.prediction.at);
+        least_of(plain, dct_field) >= self.below
+    }
+
+    /// Whether it scores no less by any coding.
+    fn rules_out_all(&self, task: &Task, plain: &Uncoded) -> bool
+        requires bare { CanCode task.now plain.now.bare.now }
+        requires measured { IsMeasured task.now plain.now }
+        ensures { IsTrue result → (r : References) (p : Prediction)
+            → plain.now.bare.now ≡ uncoded_syntax (decided r task.now) p
+            → plain.now.prediction.now.at ≡ samples_by (decided r task.now) p
+            → IsRated (decided r task.now) self.now
+            → Tried (decided r task.now) self.now self.now
+            (filter has_block (map (coded_by (decided r task.now) p)
+            (codings (decided r task.now)))) }
+    {
+        if !self.rules_out(task, plain, false) {
+            return false;
+        }
+        if has_dct_type(task.context) {
+            return self.rules_out(task, plain, true);
+        }
+        true
+    }
+
     /// Tries a prediction with coded blocks. `room` is for levels.
     fn try_coding(
         &mut self,
@@ -180,7 +247,7 @@ impl Best {
         requires q { IsCode q }
         requires dct { dct_field ≡ true → has_types task.now.context.now ≡ true }
         requires bare { CanCode task.now plain.now.bare.now }
-        requires squares { HasSquares task.now plain.now }
+        requires measured { IsMeasured task.now plain.now }
         requires coefficients { All (All IsCoefficient) transforms.now }
         ensures tried { (r : References) (p : Prediction)
             → plain.now.bare.now ≡ uncoded_syntax (decided r task.now) p
@@ -192,6 +259,9 @@ impl Best {
             (filter has_block (coded_by (decided r task.now) p
             (record { q = q; dct_field = dct_field }) ∷ [])) }
     {
+        if self.rules_out(task, plain, dct_field) {
+            return;
+        }
         let kinds = kinds(task.context, false, q);
         quantise_blocks(transforms, &kinds, room);
         let pattern = pattern_of(room);
@@ -215,7 +285,7 @@ impl Best {
         requires task { IsTask task.now }
         requires q { IsCode q }
         requires bare { CanCode task.now plain.now.bare.now }
-        requires squares { HasSquares task.now plain.now }
+        requires measured { IsMeasured task.now plain.now }
         requires frame { All (All IsCoefficient) transforms.now.frame.now }
         requires field { has_types task.now.context.now ≡ true
             → All (All IsCoefficient) transforms.now.field.now }
@@ -241,7 +311,7 @@ impl Best {
     pub fn try_codings(&mut self, task: &Task, plain: &Uncoded, scratch: &mut CodingScratch)
         requires task { IsTask task.now }
         requires bare { CanCode task.now plain.now.bare.now }
-        requires squares { HasSquares task.now plain.now }
+        requires measured { IsMeasured task.now plain.now }
         ensures tried { (r : References) (p : Prediction)
             → plain.now.bare.now ≡ uncoded_syntax (decided r task.now) p
             → plain.now.prediction.now.at ≡ samples_by (decided r task.now) p
@@ -250,6 +320,9 @@ impl Best {
             (filter has_block (map (coded_by (decided r task.now) p)
             (codings (decided r task.now)))) }
     {
+        if self.rules_out_all(task, plain) {
+            return;
+        }
         let CodingScratch {
             frame,
             field,

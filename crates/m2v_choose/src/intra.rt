@@ -1,5 +1,5 @@
 //! Intra macroblocks: how one is held, and the codings of one, in order.
-ghost use Rattle.std.specs.Prelude.{◌≡◌, ◌≤◌, ◌<◌, true, false, All, [], ◌∷◌, map, replicate};
+ghost use Rattle.std.specs.Prelude.{◌≡◌, ◌≤◌, ◌<◌, true, false, All, IsTrue, [], ◌∷◌, map, replicate};
 ghost use Rattle.m2v_idct.specs.Ranges.{IsCoefficient};
 ghost use Rattle.m2v_choose.specs.Candidates.{codings_at, codings, intra_by};
 ghost use Rattle.m2v_choose.specs.Own.{IsCode};
@@ -9,7 +9,7 @@ use crate::blocks::{quantise_blocks, transform};
 use crate::coding::{Transforms, has_dct_type, intra_syntax, second_q, transform_fields};
 use crate::scratch::CodingScratch;
 use crate::task::Task;
-use crate::trial::{Best, no_prediction};
+use crate::trial::{Best, bit_cost, no_prediction};
 use m2v_macroblock::kinds;
 use m2v_quant::Levels;
 
@@ -60,6 +60,20 @@ impl Best {
         }
     }
 
+    /// Whether an intra macroblock scores no less than the best so far, however it is coded: in a P or B picture its type has
+    /// at least five bits (tables B.3 and B.4), and each block four.
+    fn rules_out_intra(&self, task: &Task) -> bool
+        requires task { IsTask task.now }
+        ensures { IsTrue result → (r : References) → IsRated (decided r task.now) self.now
+            → Tried (decided r task.now) self.now self.now
+            (map (intra_by (decided r task.now)) (codings (decided r task.now))) }
+    {
+        if task.context.kind == 1 {
+            return false;
+        }
+        bit_cost(task.limits, 5 + 6 * 4) >= self.below
+    }
+
     /// Tries all codings of an intra macroblock, in order.
     pub fn try_intra(&mut self, task: &Task, scratch: &mut CodingScratch)
         requires task { IsTask task.now }
@@ -67,6 +81,9 @@ impl Best {
             → Tried (decided r task.now) self.old self.new
             (map (intra_by (decided r task.now)) (codings (decided r task.now))) }
     {
+        if self.rules_out_intra(task) {
+            return;
+        }
         let CodingScratch {
             frame,
             field,

@@ -1,5 +1,5 @@
 //! The predictions of a macroblock, in order: each without blocks where it may be, and with coded blocks.
-ghost use Rattle.std.specs.Prelude.{◌≡◌, ◌≢◌, ◌≤◌, ℕ, Bool, ◌||◌, true, false, cond, nat_eq, IsTrue, [], ◌∷◌};
+ghost use Rattle.std.specs.Prelude.{◌≡◌, ◌≢◌, ◌≤◌, ◌*◌, ◌^◌, ◌<◌, slice_index, ℕ, Bool, ◌||◌, true, false, cond, nat_eq, IsTrue, [], ◌∷◌};
 ghost use Rattle.std.specs.List.{flat_map};
 ghost use Rattle.m2v_macro.specs.declared.values.Direction.{Direction};
 ghost use Rattle.m2v_macro.specs.Conditions.{IsMacro};
@@ -8,13 +8,13 @@ ghost use Rattle.m2v_macroblock.specs.Predictions.{prediction_of};
 ghost use Rattle.m2v_choose.specs.Decisions.{Prediction, uncoded_syntax, written, no_levels as no_levels_of};
 ghost use Rattle.m2v_choose.specs.Candidates.{prediction, predictions_by, samples_by, by_prediction};
 ghost use Rattle.m2v_choose.specs.Choice.{squared as squared_of};
-ghost use Rattle.m2v_choose.specs.Trials.{HasSquares, References, decided, references_of, IsTask, IsRead, IsRated, Tried, Predicts, CanCode, CanPredict, CanTry, direction_by, moving_syntax as moving_syntax_of, place_for};
+ghost use Rattle.m2v_choose.specs.Trials.{IsMeasured, IsHeader, coded_least, has_types, References, decided, references_of, IsTask, IsRead, IsRated, Tried, Predicts, CanCode, CanPredict, CanTry, direction_by, moving_syntax as moving_syntax_of, place_for};
 
-use crate::coding::{Uncoded, field_squares, sends, with_blocks};
+use crate::coding::{Uncoded, field_squares, has_dct_type, least_score, sends, with_blocks};
 use crate::scratch::{CodingScratch, TrialScratch};
 use crate::squares::{part_squares, uncoded_squares};
 use crate::task::Task;
-use crate::trial::{Best, no_levels};
+use crate::trial::{Best, bits_of, no_levels};
 use crate::vectors::{FieldVector, Vectors, no_vector, place_of};
 use m2v_macro::MacroSyntax;
 use m2v_macroblock::mode;
@@ -87,6 +87,35 @@ pub fn predict_moving<V: RefView>(
     predict(forward, backward, &mode, place_of(task), out);
 }
 
+/// At least so many bits stand before the blocks of a prediction with coded blocks: one more than it has without blocks, where
+/// it may be without.
+fn header_bits(task: &Task, bare: &MacroSyntax, uncoded: bool) -> u32
+    requires task { IsTask task.now }
+    requires code { CanCode task.now bare.now }
+    requires stands { uncoded ≡ true → IsMacro task.now.context.now task.now.first bare.now }
+    requires pattern { bare.now.pattern ≡ 0 }
+    ensures { IsHeader task.now bare.now result }
+{
+    if !uncoded {
+        return 0;
+    }
+    bits_of(task, bare, no_levels()) + 1
+}
+
+/// The least that a prediction scores with coded blocks by DCT type 1, where the picture has it.
+#[inline(always)]
+fn field_least(task: &Task, squares: &[u32; 6], header: u32) -> u64
+    requires most { has_types task.now.context.now ≡ true
+        → (b : ℕ) → b < 6 → slice_index squares.now b ≤ 8323200 }
+    ensures { has_types task.now.context.now ≡ true
+        → result ≡ coded_least ((2 * task.now.limits.now.q) ^ 2) header (slice_index squares.now) }
+{
+    if has_dct_type(task.context) {
+        return least_score(task, squares, header);
+    }
+    0
+}
+
 impl Best {
     /// Tries a prediction without blocks, where it may be without.
     fn try_uncoded(
@@ -126,7 +155,7 @@ impl Best {
         requires stands { uncoded ≡ true
             → IsMacro task.now.context.now task.now.first plain.now.bare.now }
         requires pattern { plain.now.bare.now.pattern ≡ 0 }
-        requires squares { HasSquares task.now plain.now }
+        requires measured { IsMeasured task.now plain.now }
         ensures tried { (r : References) (p : Prediction)
             → plain.now.bare.now ≡ uncoded_syntax (decided r task.now) p → p.uncoded ≡ uncoded
             → plain.now.prediction.now.at ≡ samples_by (decided r task.now) p
@@ -163,11 +192,14 @@ impl Best {
         let (mut frame, mut field) = ([0; 6], [0; 6]);
         part_squares(task.source, prediction, false, &mut frame);
         field_squares(task, prediction, &mut field);
+        let header = header_bits(task, bare, uncoded);
         let plain = Uncoded {
             bare,
             prediction,
             frame: &frame,
             field: &field,
+            frame_least: least_score(task, &frame, header),
+            field_least: field_least(task, &field, header),
         };
         self.try_predicted(task, &plain, uncoded, coding);
     }

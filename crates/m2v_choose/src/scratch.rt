@@ -23,8 +23,8 @@ pub struct TrialScratch {
     pub coding: CodingScratch,
 }
 
-/// Room for the choice of a macroblock. A choice reads of it only what it has written, so one serves any number of choices,
-/// and none clears it.
+/// Room for the choice of a macroblock. Whatever stands in it before, the choice is the same, so one serves any number of
+/// choices, and none clears it.
 #[derive(Drop)]
 pub struct ChoiceScratch {
     /// Room for a search.

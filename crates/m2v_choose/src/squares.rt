@@ -1,5 +1,5 @@
 //! Squares of differences of samples.
-ghost use Rattle.std.specs.Prelude.{◌≡◌, ℕ, ◌≤◌, ◌<◌, ◌+◌, ◌*◌, ◌^◌, cond, slice_index, sum_by};
+ghost use Rattle.std.specs.Prelude.{◌≡◌, ℕ, ◌≤◌, ◌<◌, ◌+◌, ◌*◌, ◌^◌, cond, min, slice_index, sum_by};
 ghost use Rattle.std.specs.List.{range_with_len};
 ghost use Rattle.m2v_kernel.specs.Sums.{apart};
 ghost use Rattle.m2v_choose.specs.Choice.{square_at, plane_squared as plane_squared_of, squared as squared_of};
@@ -102,4 +102,19 @@ fn uncoded_square(square: u32, coded: bool) -> u32
     ensures { result ≡ cond coded 0 square }
 {
     if coded { 0 } else { square }
+}
+
+/// The least that six blocks add to a score where they may be coded: of each eight times its squares, or what four bits cost
+/// where that is less.
+pub fn least_blocks(squares: &[u32; 6], four: u64) -> u64
+    requires most { (b : ℕ) → b < 6 → slice_index squares.now b ≤ 8323200 }
+    ensures value { result ≡ sum_by (λ b. min (8 * slice_index squares.now b) four)
+        (range_with_len 0 6) }
+    ensures most { result ≤ 2 ^ 38 }
+{
+    let mut sum = 0;
+    for block in 0..6usize {
+        sum += (8 * u64::from(squares[block])).min(four);
+    }
+    sum
 }

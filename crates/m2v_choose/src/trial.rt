@@ -59,7 +59,7 @@ pub struct Best {
 
 /// What bits cost in a score.
 #[inline(always)]
-fn bit_cost(limits: &Limits, bits: u32) -> u64
+pub fn bit_cost(limits: &Limits, bits: u32) -> u64
     ensures value { result ≡ (2 * limits.now.q) ^ 2 * bits }
     ensures most { result ≤ 2 ^ 52 }
 {
@@ -208,7 +208,7 @@ fn squares_until(
 
 /// Samples are bytes.
 #[inline(always)]
-fn are_bytes(samples: &[u8])
+pub fn are_bytes(samples: &[u8])
     ensures { (k : ℕ) → slice_index samples.now k < 2 ^ 8 }
 {}
 
@@ -239,7 +239,7 @@ fn coded_squares(
 
 /// How many bits a written macroblock takes.
 #[inline(always)]
-fn bits_of(task: &Task, syntax: &MacroSyntax, levels: &[Levels; 6]) -> u32
+pub fn bits_of(task: &Task, syntax: &MacroSyntax, levels: &[Levels; 6]) -> u32
     requires task { IsTask task.now }
     requires increment { syntax.now.increment ≡ task.now.increment }
     requires writable { IsWritable task.now.context.now task.now.first

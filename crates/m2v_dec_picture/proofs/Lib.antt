@@ -8,3 +8,4 @@ pub mod FrameLaws
 pub mod BlockLaws
 pub mod PassLaws
 pub mod Decoded
+pub mod Alone

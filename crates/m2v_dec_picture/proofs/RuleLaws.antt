@@ -189,15 +189,6 @@ pub gap_none : (put : Put) (s : SliceSetup) (refs : References) (st : SliceState
 unfolding skipped_painted
 gap_none put s refs st at count now e = rw e refl
 
--- the prediction of an intra macroblock
-pub own_intra : (f b : View) (c : PictureContext) (at : MbPlace) (m : MacroSyntax) → m.kind.intra ≡ true → prediction_of f b c at m ≡ replicate 384 0
-unfolding prediction_of
-own_intra f b c at m e = by_intra m.kind.intra e
-  where
-    by_intra : (intra : Bool) → intra ≡ true → (if intra then replicate 384 0 else block_by (predicted f b (mode_of c m) at)) ≡ replicate 384 0
-    by_intra true e = refl
-    by_intra false e = absurd cc
-
 -- the prediction of a macroblock that isn't intra
 pub own_prediction : (f b : View) (c : PictureContext) (at : MbPlace) (m : MacroSyntax) → m.kind.intra ≡ false → prediction_of f b c at m ≡ block_by (predicted f b (mode_of c m) at)
 unfolding prediction_of

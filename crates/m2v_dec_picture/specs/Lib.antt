@@ -1,3 +1,4 @@
 pub mod Conditions
 pub mod Reads
 pub mod Frames
+pub mod Due

@@ -5,15 +5,17 @@ ghost use Rattle.m2v_plane.specs.Samples.{blank, with_row};
 ghost use Rattle.m2v_model.specs.States.{dims_of, is_frame_end};
 ghost use Rattle.m2v_model.specs.Pictures.{on_frame, picture_begun, picture_ended};
 ghost use Rattle.m2v_dec_picture.specs.Conditions.{IsSetup, rows_in};
-ghost use Rattle.m2v_dec_picture.specs.Frames.{none_at_hand, store_of, reading_of, forward_top, forward_bottom, backward_frame, HasReferences, HaveSize, PaintsSlice};
+ghost use Rattle.m2v_dec_picture.specs.Frames.{none_at_hand, store_of, reading_of, HasReferences, HaveSize, PaintsSlice};
 
 use crate::Memory;
 use crate::basis::PictureBasis;
 use crate::scratch::Scratch;
+use crate::shared::{DueFrame, SharedFrame};
 use crate::slices::{SliceEnd, read_slice};
+use crate::views::{backward_shared, forward_shared};
 use m2v_bits::BitReader;
 use m2v_model::{FaultKind, Open, Sequence, SliceSetup, Stop};
-use m2v_plane::{Dims, FieldView, Frame, Lines, RowSamples};
+use m2v_plane::{Dims, Frame, Lines, RowSamples};
 use std::alloc::Global;
 use std::marker::Model;
 
@@ -42,10 +44,15 @@ pub struct FramesAtHand {
 ///
 /// A frame that isn't needed any more is kept, and a later picture is painted into it, so that memory is asked for a few
 /// times in a stream alone. A second field is painted into a copy of its frame, and its first field is read as it was.
+///
+/// An anchor is shown while it is a reference, and its last holder puts it back among the spare ones. A frame is made only
+/// where none is spare, so there are never more than were in use at once: the two anchors, the picture that is open, its
+/// first field, and room for a copy of each anchor that waits for the display or is due. Where frames come back as they are
+/// due, that is one room, which stands where the anchor before the last one stood: four frames, and five with field pictures.
 #[derive(Drop)]
 pub struct Gallery {
-    older: Option<Frame>,
-    newer: Option<Frame>,
+    older: Option<SharedFrame>,
+    newer: Option<SharedFrame>,
     current: Option<Frame>,
     first_field: Option<Frame>,
     reading: Option<Reading>,
@@ -113,6 +120,20 @@ fn copy_of_some(
     }
 }
 
+/// A copy of a shared frame that is there.
+fn copy_of_shared(
+    alloc: Global,
+    spare: &mut Vec<Frame>,
+    frame: &Option<SharedFrame>,
+) -> Result<Option<Frame>, Memory>
+    ensures { IfOk result (λ f. f ≡ frame.now) }
+{
+    match frame {
+        Some(frame) => Ok(Some(copy_of(alloc, spare, frame.frame())?)),
+        None => Ok(None),
+    }
+}
+
 /// Keeps a frame that isn't needed any more. Without memory it is dropped.
 fn keep(spare: &mut Vec<Frame>, frame: Option<Frame>) {
     if let Some(frame) = frame {
@@ -120,55 +141,38 @@ fn keep(spare: &mut Vec<Frame>, frame: Option<Frame>) {
     }
 }
 
-/// The view of the forward reference of the picture whose slices are read: of a second P field each field stands in a frame
-/// of its own. All frames have this size.
-pub fn forward_view<'a>(
-    dims: Dims,
-    reading: &Option<Reading>,
-    older: &'a Option<Frame>,
-    newer: &'a Option<Frame>,
-    first_field: &'a Option<Frame>,
-) -> FieldView<'a>
-    requires size { IsSize dims }
-    requires older { IfSome older.now (λ f. f.dims ≡ dims) }
-    requires newer { IfSome newer.now (λ f. f.dims ≡ dims) }
-    requires first { IfSome first_field.now (λ f. f.dims ≡ dims) }
-    ensures dims { result.dims ≡ dims }
-    ensures top { result.top ≡ forward_top reading.now older.now newer.now first_field.now }
-    ensures bottom { result.bottom ≡ forward_bottom reading.now older.now newer.now
-        first_field.now }
-{
-    match reading {
-        None => FieldView::new(dims, None, None),
-        Some(r) => {
-            if r.kind == 3 {
-                FieldView::new(dims, older.as_ref(), older.as_ref())
-            } else if !r.second_field {
-                FieldView::new(dims, newer.as_ref(), newer.as_ref())
-            } else if r.structure == 1 {
-                FieldView::new(dims, newer.as_ref(), first_field.as_ref())
-            } else {
-                FieldView::new(dims, first_field.as_ref(), newer.as_ref())
-            }
-        }
+/// Keeps a frame that isn't a reference any more, where it isn't on its way to the display either.
+fn keep_last(spare: &mut Vec<Frame>, frame: Option<SharedFrame>) {
+    if let Some(frame) = frame {
+        keep(spare, frame.give_up());
     }
 }
 
-/// The view of the backward reference, which B pictures alone have. All frames have this size.
-pub fn backward_view<'a>(
-    dims: Dims,
-    reading: &Option<Reading>,
-    newer: &'a Option<Frame>,
-) -> FieldView<'a>
-    requires size { IsSize dims }
-    requires newer { IfSome newer.now (λ f. f.dims ≡ dims) }
-    ensures dims { result.dims ≡ dims }
-    ensures top { result.top ≡ backward_frame reading.now newer.now }
-    ensures bottom { result.bottom ≡ backward_frame reading.now newer.now }
+/// The frame of an anchor that ends, as a reference and for the display. The room for a copy is a spare frame.
+fn both_ways(
+    alloc: Global,
+    spare: &mut Vec<Frame>,
+    frame: Option<Frame>,
+) -> Result<(Option<SharedFrame>, Option<DueFrame>), Memory>
+    ensures kept { IfOk result (λ p. p.0 ≡ frame) }
+    ensures shown { IfOk result (λ p. p.1 ≡ frame) }
 {
-    match reading {
-        Some(r) if r.kind == 3 => FieldView::new(dims, newer.as_ref(), newer.as_ref()),
-        _ => FieldView::new(dims, None, None),
+    let Some(frame) = frame else {
+        return Ok((None, None));
+    };
+    let room = some_frame(alloc, spare, frame.dims())?;
+    let kept = SharedFrame::new(alloc, frame)?;
+    let shown = DueFrame::shared(kept.share()?, room);
+    Ok((Some(kept), Some(shown)))
+}
+
+/// A frame that no picture is predicted from, for the display.
+fn for_display(frame: Option<Frame>) -> Option<DueFrame>
+    ensures { result ≡ frame }
+{
+    match frame {
+        Some(frame) => Some(DueFrame::alone(frame)),
+        None => None,
     }
 }
 
@@ -195,6 +199,15 @@ impl Gallery {
         keep(&mut self.spare, Some(frame));
     }
 
+    /// Takes back a frame that was shown. It is kept where it isn't a reference any more, and so is the room for its copy.
+    pub fn take_back(&mut self, due: DueFrame)
+        ensures same { self.new ≡ self.old }
+    {
+        let (frame, room) = due.give_up();
+        keep(&mut self.spare, frame);
+        keep(&mut self.spare, room);
+    }
+
     /// Copies of the frames at hand.
     pub fn at_hand(&mut self, alloc: Global) -> Result<FramesAtHand, Memory>
         ensures same { self.new ≡ self.old }
@@ -206,8 +219,8 @@ impl Gallery {
             }) }
     {
         Ok(FramesAtHand {
-            older: copy_of_some(alloc, &mut self.spare, &self.older)?,
-            newer: copy_of_some(alloc, &mut self.spare, &self.newer)?,
+            older: copy_of_shared(alloc, &mut self.spare, &self.older)?,
+            newer: copy_of_shared(alloc, &mut self.spare, &self.newer)?,
             waiting: copy_of_some(alloc, &mut self.spare, &self.current)?,
         })
     }
@@ -306,14 +319,14 @@ impl Gallery {
                 left: 0,
             });
         };
-        let forward = forward_view(
+        let forward = forward_shared(
             s.dims,
             &self.reading,
             &self.older,
             &self.newer,
             &self.first_field,
         );
-        let backward = backward_view(s.dims, &self.reading, &self.newer);
+        let backward = backward_shared(s.dims, &self.reading, &self.newer);
         let basis = PictureBasis {
             setup: s,
             forward: &forward,
@@ -337,8 +350,8 @@ impl Gallery {
         }
     }
 
-    /// The picture that is open ends. Answers the frame that it ends, for the display: that of an anchor is a copy.
-    pub fn end(&mut self, alloc: Global, p: &Open) -> Result<Option<Frame>, Memory>
+    /// The picture that is open ends. Answers the frame that it ends, for the display: an anchor stays a reference too.
+    pub fn end(&mut self, alloc: Global, p: &Open) -> Result<Option<DueFrame>, Memory>
         ensures value { OnOk result (store_of self.new
             ≡ picture_ended (Some p.now) (store_of self.old)) }
         ensures frame { IfOk result
@@ -352,16 +365,13 @@ impl Gallery {
             return Ok(None);
         }
         if p.info.kind == 3 {
-            return Ok(self.current.take());
+            return Ok(for_display(self.current.take()));
         }
-        // the anchor before the last one isn't needed any more: the copy takes its place
-        keep(&mut self.spare, self.older.take());
-        let shown = match &self.current {
-            Some(frame) => Some(copy_of(alloc, &mut self.spare, frame)?),
-            None => None,
-        };
+        // the anchor before the last one isn't needed any more: its memory is the room for a copy
+        keep_last(&mut self.spare, self.older.take());
+        let (kept, shown) = both_ways(alloc, &mut self.spare, self.current.take())?;
         self.older = self.newer.take();
-        self.newer = self.current.take();
+        self.newer = kept;
         Ok(shown)
     }
 }

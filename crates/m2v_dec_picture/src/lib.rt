@@ -16,17 +16,21 @@ mod pass;
 mod prediction;
 mod rules;
 mod scratch;
+mod shared;
 mod slice_kinds;
 mod slices;
 mod target;
+mod views;
 mod zeros;
 
 pub use basis::PictureBasis;
-pub use gallery::{FramesAtHand, Gallery, Reading, backward_view, forward_view};
+pub use gallery::{FramesAtHand, Gallery, Reading};
 pub use pass::SlicePass;
 pub use scratch::Scratch;
+pub use shared::DueFrame;
 pub use slices::{SliceEnd, read_slice};
 pub use target::Target;
+pub use views::{backward_view, forward_view};
 
 /// Want of memory.
 pub type Memory = std::alloc::AllocError;

@@ -14,7 +14,6 @@ ghost use Rattle.m2v_dec_picture.specs.Reads.{TellsElements, TellsMacroblock, Te
 use crate::basis::PictureBasis;
 use crate::blocks::{blocks, dc_after};
 use crate::gap::{column, gap_before};
-use crate::located::Located;
 use crate::paint::{paint_gap, paint_own};
 use crate::rules::check;
 use crate::scratch::Scratch;
@@ -25,7 +24,6 @@ use m2v_macro::{MacroSyntax, PictureContext, SliceState, read_macro_into};
 use m2v_macroblock::mode;
 use m2v_model::{SliceSetup, Stop, of_macro, stopped};
 use m2v_plane::RefView;
-use m2v_quant::SparseLevels;
 
 /// What is told of a macroblock beside its samples.
 #[derive(Clone, Copy, Debug, PartialEq, Eq)]
@@ -73,49 +71,62 @@ fn elements(
     }
 }
 
-/// A macroblock, read into `x`, with the levels of its blocks. The state is that behind its elements.
+/// A macroblock, read into `scratch.found`, and the levels of its blocks into `scratch.levels`. `before` is the state before
+/// it, `state` becomes that behind its elements.
 #[tactic(auto, unfolding(m2v_model::specs::Slices::macroblock_at, m2v_bits::specs::Syntax::here, m2v_bits::specs::Syntax::rule, m2v_bits::specs::Syntax::seq, m2v_bits::specs::Syntax::bind, m2v_bits::specs::Syntax::done))]
 fn macroblock(
     input: &mut BitReader,
     s: &SliceSetup,
     row: u32,
+    before: &SliceState,
     state: &mut SliceState,
     kinds: &mut SliceKinds,
-    levels: &mut [SparseLevels; 6],
-    x: &mut Located,
+    scratch: &mut Scratch,
 ) -> Result<(), Stop>
     requires setup { IsSetup s.now }
     requires row { row < rows_in s.now }
+    requires before { state.old ≡ before.now }
     requires state { IsState s.now.context row state.old }
     requires kinds { AreSliceKinds s.now.context kinds.old }
-    ensures exact { TellsMacroblock result x.new.syntax levels.new input.new.rest
-        ((macroblock_at s.now state.old).read input.old.rest) }
+    ensures exact { TellsMacroblock result scratch.new.found.syntax scratch.new.levels
+        input.new.rest ((macroblock_at s.now state.old).read input.old.rest) }
     ensures text { input.new.text ≡ input.old.text }
     ensures left { IfErr result (λ e. e.left ≤ length input.old.text) }
-    ensures can { OnOk result (CanPaint s.now state.old x.new.syntax) }
-    ensures gap { OnOk result (IsGap s.now.context row state.old x.new.syntax x.new.gap) }
-    ensures column { OnOk result (IsColumn s.now.context row state.old x.new.syntax x.new.column) }
-    ensures mode { OnOk result (x.new.mode ≡ mode_of s.now.context x.new.syntax) }
-    ensures state { OnOk result (state.new ≡ after s.now.context state.old x.new.syntax) }
+    ensures can { OnOk result (CanPaint s.now state.old scratch.new.found.syntax) }
+    ensures gap { OnOk result (IsGap s.now.context row state.old scratch.new.found.syntax
+        scratch.new.found.gap) }
+    ensures column { OnOk result (IsColumn s.now.context row state.old scratch.new.found.syntax
+        scratch.new.found.column) }
+    ensures mode { OnOk result (scratch.new.found.mode
+        ≡ mode_of s.now.context scratch.new.found.syntax) }
+    ensures state { OnOk result (state.new
+        ≡ after s.now.context state.old scratch.new.found.syntax) }
     ensures inside { OnOk result (IsState s.now.context row state.new) }
     ensures place { OnOk result (LiesInRow s.now.context row state.new.address) }
     ensures kinds { OnOk result (AreSliceKinds s.now.context kinds.new) }
     ensures quantiser { OnOk result (kinds.new.quantiser
-        ≡ (after s.now.context state.old x.new.syntax).quantiser) }
-    ensures levels { OnOk result (All (λ l. All IsLevel l.at) levels.new) }
-    ensures dc { OnOk result (x.new.syntax.kind.intra ≡ true
-        → AreDc s.now.context.extension.dc_precision (last_dc levels.new)) }
+        ≡ (after s.now.context state.old scratch.new.found.syntax).quantiser) }
+    ensures levels { OnOk result (All (λ l. All IsLevel l.at) scratch.new.levels) }
+    ensures dc { OnOk result (scratch.new.found.syntax.kind.intra ≡ true
+        → AreDc s.now.context.extension.dc_precision (last_dc scratch.new.levels)) }
 {
-    let before = *state;
+    let x = &mut scratch.found;
     let left = bits_left(input);
     elements(input, &s.context, row, state, &mut x.syntax)?;
-    x.gap = gap_before(&s.context, row, &before, &x.syntax);
+    x.gap = gap_before(&s.context, row, before, &x.syntax);
     x.column = column(&s.context, row, state);
     x.mode = mode(&s.context, &x.syntax);
-    check(s, row, &before, x, left)?;
+    check(s, row, before, x, left)?;
     kinds.set_quantiser(&s.context, state.quantiser);
     let own = kinds.of(&s.context, x.syntax.kind.intra);
-    blocks(input, &s.context, &x.syntax, state, own, levels)?;
+    blocks(
+        input,
+        &s.context,
+        &x.syntax,
+        state,
+        own,
+        &mut scratch.levels,
+    )?;
     Ok(())
 }
 
@@ -154,20 +165,11 @@ fn next_macroblock<V: RefView, T: Target>(
 {
     let before = *state;
     let start = bits_left(input);
-    let mut x = Located::blank();
-    macroblock(
-        input,
-        basis.setup,
-        row,
-        state,
-        kinds,
-        &mut scratch.levels,
-        &mut x,
-    )?;
+    macroblock(input, basis.setup, row, &before, state, kinds, scratch)?;
     let end = bits_left(input);
-    paint_gap(basis, row, &before, &x, &mut scratch.block, out);
-    paint_own(basis, row, &before, &x, kinds, scratch, out);
-    state.dc = dc_after(x.syntax.kind.intra, &scratch.levels, state.dc);
+    paint_gap(basis, row, &before, &scratch.found, &mut scratch.block, out);
+    paint_own(basis, row, &before, kinds, scratch, out);
+    state.dc = dc_after(scratch.found.syntax.kind.intra, &scratch.levels, state.dc);
     Ok(Round {
         more: !input.rest_is_zero(),
         large: start.saturating_sub(end) > 4608,

@@ -1,4 +1,4 @@
-ghost use Rattle.std.specs.Prelude.{◌≡◌, ℕ, ◌+◌, ◌*◌, ◌<◌, ◌≤◌, All};
+ghost use Rattle.std.specs.Prelude.{◌≡◌, ℕ, ◌+◌, ◌*◌, ◌<◌, ◌≤◌, All, false};
 ghost use Rattle.m2v_quant.specs.Kinds.{IsLevel};
 ghost use Rattle.m2v_pred.specs.declared.mode.MbPlace.{MbPlace as MbPlaceOf};
 ghost use Rattle.m2v_macro.specs.States.{after};
@@ -63,7 +63,8 @@ pub fn paint_gap<V: RefView, T: Target>(
     }
 }
 
-/// The prediction of a macroblock by its mode: samples 0 of an intra one.
+/// The prediction of a macroblock by its mode. An intra one has none, and the block stays as it is: all of its blocks are
+/// coded, and no sample of it depends on what the block holds.
 fn predict_own<V: RefView>(
     basis: &PictureBasis<V>,
     row: u32,
@@ -81,24 +82,22 @@ fn predict_own<V: RefView>(
         (V.Holds basis.now.forward.now) }
     requires backward { HoldsBackward basis.now.setup.now (V.size basis.now.backward.now)
         (V.Holds basis.now.backward.now) }
-    ensures value { block.new.at
+    ensures value { x.now.syntax.kind.intra ≡ false → block.new.at
         ≡ prediction_of (V.at basis.now.forward.now) (V.at basis.now.backward.now)
         basis.now.setup.now.context (place_in basis.now.setup.now row x.now.column) x.now.syntax }
 {
     if x.syntax.kind.intra {
-        block.at.fill(0);
         return;
     }
     predict(basis, &x.mode, place(basis.setup, row, x.column), block);
 }
 
-/// Puts a macroblock, whose levels `scratch` has. `before` is the state before it and those skipped before it, the
-/// kinds are those at its quantiser code. A target that wants no samples gets none.
+/// Puts the macroblock that `scratch` has. `before` is the state before it and those skipped before it, the kinds are
+/// those at its quantiser code. A target that wants no samples gets none.
 pub fn paint_own<V: RefView, T: Target>(
     basis: &PictureBasis<V>,
     row: u32,
     before: &SliceState,
-    x: &Located,
     kinds: &SliceKinds,
     scratch: &mut Scratch,
     out: &mut T,
@@ -107,27 +106,30 @@ pub fn paint_own<V: RefView, T: Target>(
     requires row { row < rows_in basis.now.setup.now }
     requires kinds { AreSliceKinds basis.now.setup.now.context kinds.now }
     requires quantiser { kinds.now.quantiser
-        ≡ (after basis.now.setup.now.context before.now x.now.syntax).quantiser }
-    requires can { CanPaint basis.now.setup.now before.now x.now.syntax }
-    requires mode { x.now.mode ≡ mode_of basis.now.setup.now.context x.now.syntax }
-    requires column { IsColumn basis.now.setup.now.context row before.now x.now.syntax
-        x.now.column }
+        ≡ (after basis.now.setup.now.context before.now scratch.old.found.syntax).quantiser }
+    requires can { CanPaint basis.now.setup.now before.now scratch.old.found.syntax }
+    requires mode { scratch.old.found.mode
+        ≡ mode_of basis.now.setup.now.context scratch.old.found.syntax }
+    requires column { IsColumn basis.now.setup.now.context row before.now scratch.old.found.syntax
+        scratch.old.found.column }
     requires levels { All (λ l. All IsLevel l.at) scratch.old.levels }
     requires forward { HoldsForward basis.now.setup.now (V.size basis.now.forward.now)
         (V.Holds basis.now.forward.now) }
     requires backward { HoldsBackward basis.now.setup.now (V.size basis.now.backward.now)
         (V.Holds basis.now.backward.now) }
-    requires takes { T.Takes out.old (place_in basis.now.setup.now row x.now.column) }
+    requires takes { T.Takes out.old (place_in basis.now.setup.now row scratch.old.found.column) }
     ensures value { T.samples out.new
         ≡ own_painted T.placed basis.now.setup.now
         (seen_by (V.at basis.now.forward.now) (V.at basis.now.backward.now))
-        before.now (macroblock_of x.now.syntax scratch.old.levels) (T.samples out.old) }
+        before.now (macroblock_of scratch.old.found.syntax scratch.old.levels) (T.samples out.old) }
     ensures levels { scratch.new.levels ≡ scratch.old.levels }
+    ensures found { scratch.new.found ≡ scratch.old.found }
     ensures takes { (p : MbPlaceOf) → T.Takes out.old p → T.Takes out.new p }
 {
     if !out.wants() {
         return;
     }
+    let x = &scratch.found;
     let block = &mut scratch.block;
     predict_own(basis, row, before, x, block);
     let context = &basis.setup.context;

@@ -1,3 +1,4 @@
+use crate::located::Located;
 use m2v_pred::Block16;
 use m2v_quant::SparseLevels;
 
@@ -8,6 +9,8 @@ pub struct Scratch {
     pub block: Block16,
     /// The levels of its six blocks.
     pub levels: [SparseLevels; 6],
+    /// What is read of it, and where it stands.
+    pub found: Located,
 }
 
 impl Scratch {
@@ -23,6 +26,7 @@ impl Scratch {
                 SparseLevels::new(),
                 SparseLevels::new(),
             ],
+            found: Located::blank(),
         }
     }
 }

@@ -2,11 +2,11 @@
 use Rattle.std.proofs.Common.{◌≡◌, ℕ, zero, suc, ◌+◌, ◌≤◌, ◌<◌, ◌^◌, Bool, true, false, List, [], ◌∷◌, ◌++◌, length, take, drop, Option, Some, None, refl, sym, ap, subst, ◌∙◌, append_assoc, arith}
 use Rattle.std.specs.Prelude.{nat_eq, nat_le, not, ◌&&◌, if◌then◌else◌}
 use Rattle.std.proofs.lemmas.Bool.{lt-leb, ne_eqb}
-use Rattle.std.proofs.lemmas.List.{length-take-le, take-append-drop}
+use Rattle.std.proofs.lemmas.List.{length-drop, length-take-le, take-append-drop}
 use Rattle.m2v_model.specs.declared.phase.Phase.{Phase}
 use Rattle.m2v_model.specs.declared.phase.Phase.TheVariants.{Before, Headers, Picture}
 use Rattle.m2v_model.specs.Pieces.{limit, Limit, too_large, most_input, most_bytes}
-use Rattle.m2v_dec_piece.specs.Cutting.{Held, Fits, Took, TookAll, IsRun, behind, limit_in, limit_of, pieces_behind, start_behind}
+use Rattle.m2v_dec_piece.specs.Cutting.{Held, Fits, Took, TookAll, IsRun, behind, limit_in, limit_of, pieces_behind, start_behind, follows_behind}
 use Rattle.m2v_dec_piece.specs.Stepping.{Reaches, before_more}
 use Rattle.m2v_dec_piece.proofs.LimitLaws.{behind_none, behind_more, limit_of_more, limit_of_stays}
 use Rattle.m2v_dec_piece.proofs.PairLaws.{run_tail, run_last, run_pair}
@@ -35,12 +35,13 @@ front_fits h xs ys none = by_case (limit_of h xs) refl
     by_case (Some l) e = absurd (let some = limit_of_stays h xs ys l e in let no : None ≡ Some l = sym none ∙ some in cc)
 
 took_none : (h : Held) → Fits h → TookAll h [] h
-took_none h fits = record { pieces = λ text. refl; start = λ text. refl; more = omega arith; phase = refl; onward = omega arith; fits = fits }
+took_none h fits = record { pieces = λ text. refl; start = λ text. refl; follows = λ text. refl; more = omega arith; phase = refl; onward = omega arith; fits = fits }
 
 took_more : (h now new : Held) (b : ℕ) (bs : List ℕ) → Took h b now → now.phase ≡ h.phase → TookAll now bs new → TookAll h (b ∷ bs) new
 took_more h now new b bs one phase all = record {
   pieces = λ text. one.pieces (bs ++ text) ∙ all.pieces text;
   start = λ text. one.start (bs ++ text) ∙ all.start text;
+  follows = λ text. one.follows (bs ++ text) ∙ all.follows text;
   more = omega (arith, one.more, all.more);
   phase = all.phase ∙ phase;
   onward = omega (arith, one.onward, all.onward);
@@ -109,6 +110,8 @@ took_reaches h new chunk n some within t bound =
     record {
       pieces = λ rest. ap (pieces_behind h) (sym (split rest)) ∙ t.pieces (drop n chunk ++ rest);
       start = λ rest. ap (start_behind h) (sym (split rest)) ∙ t.start (drop n chunk ++ rest);
+      follows = λ rest. ap (follows_behind h) (sym (split rest)) ∙ t.follows (drop n chunk ++ rest);
+      took = omega (arith, t.more, len, length-drop n chunk, within);
       onward = t.onward;
       fits = t.fits;
       less = omega (arith, t.more, len, some, bound, ap before_more t.phase);

@@ -1,4 +1,6 @@
 pub mod PieceLaws
+pub mod FollowingLaws
+pub mod TextLaws
 pub mod TrimLaws
 pub mod LimitLaws
 pub mod WholeLaws

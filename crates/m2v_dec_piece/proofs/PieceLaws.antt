@@ -10,7 +10,7 @@ use Rattle.m2v_model.specs.Pieces.{grouped, phase_after, begins_piece, is_end, b
 use Rattle.m2v_dec_piece.specs.Cutting.{open_pieces, open_start, sure_after, place_after, prefix}
 
 -- a byte at which no start code begins
-cut_plain : (b : ℕ) (t : List ℕ) → begins_code (b ∷ t) ≡ false → cut 0 (b ∷ t) ≡ (b ∷ (cut 0 t).0, (cut 0 t).1)
+pub cut_plain : (b : ℕ) (t : List ℕ) → begins_code (b ∷ t) ≡ false → cut 0 (b ∷ t) ≡ (b ∷ (cut 0 t).0, (cut 0 t).1)
 unfolding cut
 cut_plain b t off = cond-false (begins_code (b ∷ t)) _ _ off
 
@@ -27,7 +27,7 @@ start_byte Headers place b t off = refl
 start_byte Picture place b t off = refl
 
 -- before the first piece what was passed over doesn't matter
-before_any : (xs ys : List ℕ) (us : List (List ℕ)) → grouped Before xs us ≡ grouped Before ys us
+pub before_any : (xs ys : List ℕ) (us : List (List ℕ)) → grouped Before xs us ≡ grouped Before ys us
 unfolding grouped
 before_any xs ys [] = refl
 before_any xs ys (u ∷ us) = refl
@@ -40,7 +40,7 @@ before_same xs ys t = before_any (xs ++ (cut 0 t).0) (ys ++ (cut 0 t).0) (cut 0 
 abbrev code : ℕ → List ℕ
 code v = 0 ∷ 0 ∷ 1 ∷ v ∷ []
 
-cut_code : (v : ℕ) (t : List ℕ) → cut 0 (0 ∷ 0 ∷ 1 ∷ v ∷ t) ≡ ([], (0 ∷ 0 ∷ 1 ∷ v ∷ (cut 0 t).0) ∷ (cut 0 t).1)
+pub cut_code : (v : ℕ) (t : List ℕ) → cut 0 (0 ∷ 0 ∷ 1 ∷ v ∷ t) ≡ ([], (0 ∷ 0 ∷ 1 ∷ v ∷ (cut 0 t).0) ∷ (cut 0 t).1)
 unfolding cut
 cut_code v t = refl
 
@@ -121,18 +121,18 @@ place_three Before place a b c = omega arith
 place_three Headers place a b c = refl
 place_three Picture place a b c = refl
 
-no_code_0 : (b : ℕ) (t : List ℕ) → nat_eq b 0 ≡ false → begins_code (b ∷ t) ≡ false
+pub no_code_0 : (b : ℕ) (t : List ℕ) → nat_eq b 0 ≡ false → begins_code (b ∷ t) ≡ false
 no_code_0 b [] off = refl
 no_code_0 b (x ∷ []) off = refl
 no_code_0 b (x ∷ y ∷ []) off = refl
 no_code_0 b (x ∷ y ∷ z ∷ t) off = rw off refl
 
-no_code_1 : (b : ℕ) (t : List ℕ) → nat_eq b 0 ≡ false → begins_code (0 ∷ b ∷ t) ≡ false
+pub no_code_1 : (b : ℕ) (t : List ℕ) → nat_eq b 0 ≡ false → begins_code (0 ∷ b ∷ t) ≡ false
 no_code_1 b [] off = refl
 no_code_1 b (x ∷ []) off = refl
 no_code_1 b (x ∷ y ∷ t) off = rw off refl
 
-no_code_2 : (b : ℕ) (t : List ℕ) → nat_eq b 1 ≡ false → begins_code (0 ∷ 0 ∷ b ∷ t) ≡ false
+pub no_code_2 : (b : ℕ) (t : List ℕ) → nat_eq b 1 ≡ false → begins_code (0 ∷ 0 ∷ b ∷ t) ≡ false
 no_code_2 b [] off = refl
 no_code_2 b (x ∷ t) off = rw off refl
 

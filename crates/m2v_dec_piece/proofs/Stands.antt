@@ -6,7 +6,8 @@ use Rattle.m2v_dec_piece.specs.declared.answer.Piece.{Piece}
 use Rattle.m2v_dec_piece.specs.declared.answer.DecodeError.{DecodeError}
 use Rattle.m2v_dec_piece.specs.declared.answer.DecodeError.TheVariants as errors
 use Rattle.m2v_dec_piece.specs.Reads.{Refilled}
-use Rattle.m2v_dec_piece.specs.Cutting.{Held, Fits, open_pieces, open_start, pieces_behind, start_behind, PieceStops, IsReading, AtPiece, phase_for, is_begun, prefix, taken_by, Cutting, IsPiece}
+use Rattle.m2v_dec_piece.specs.Following.{following_in}
+use Rattle.m2v_dec_piece.specs.Cutting.{Held, Fits, open_pieces, open_start, pieces_behind, start_behind, follows_behind, PieceStops, IsReading, AtPiece, phase_for, is_begun, prefix, taken_by, Cutting, IsPiece}
 use Rattle.m2v_model.specs.Pieces.{limit, grouped, piece_of}
 use Rattle.std.specs.Option.{option_map}
 use Rattle.std.proofs.lemmas.List.{length-append}
@@ -24,12 +25,13 @@ by_first [] rest b lt e = absurd (omega arith)
 by_first (x ∷ xs) rest b lt e = ap (λ (y : ℕ). y ∷ (xs ++ rest)) e
 
 pub whole_stood : (h new : Held) (b : ℕ) (t : List ℕ) → IsWhole h b new → (pieces_behind h (b ∷ t) ≡ new.sure ∷ open_pieces Headers [] (0 ∷ 0 ∷ 1 ∷ b ∷ t)) × (start_behind h (b ∷ t) ≡ new.place)
+    × (follows_behind h (b ∷ t) ≡ following_in true (0 ∷ 0 ∷ 1 ∷ b ∷ t))
 unfolding open_start
-whole_stood h new b t w = rw (w.same, w.ahead, w.phase) (ends_piece h.sure b t w.begins, refl)
+whole_stood h new b t w = rw (w.same, w.ahead, w.phase) (ends_piece h.sure b t w.begins, refl, refl)
 
-pub last_stood : (h new : Held) (b : ℕ) (t : List ℕ) → IsLast h b new → (pieces_behind h (b ∷ t) ≡ new.sure ∷ []) × (start_behind h (b ∷ t) ≡ new.place)
+pub last_stood : (h new : Held) (b : ℕ) (t : List ℕ) → IsLast h b new → (pieces_behind h (b ∷ t) ≡ new.sure ∷ []) × (start_behind h (b ∷ t) ≡ new.place) × (follows_behind h (b ∷ t) ≡ t)
 unfolding open_start
-last_stood h new b t l = rw (l.value) (l.ends.pieces t, rw (l.ahead, l.phase) (sym l.ends.place))
+last_stood h new b t l = rw (l.value) (l.ends.pieces t, rw (l.ahead, l.phase) (sym l.ends.place), l.ends.follows t)
 
 -- why a byte isn't taken is an error of a cutter
 pub reading_stops : (start : ℕ) (pieces : List (List ℕ)) (e : DecodeError) → PieceStops start pieces e → IsReading e
@@ -84,6 +86,8 @@ module _ (h h' : Held) (chunk chunk' : List ℕ) (left left' : Option (List ℕ)
     moved = moves_on a.moved b.moved;
     pieces = λ rest. ap (pieces_behind h) (regrouped b.bytes rest) ∙ a.pieces (b.bytes ++ rest) ∙ b.pieces rest;
     start = λ rest. ap (start_behind h) (regrouped b.bytes rest) ∙ a.start (b.bytes ++ rest) ∙ b.start rest;
+    follows = λ rest. ap (follows_behind h) (regrouped b.bytes rest) ∙ a.follows (b.bytes ++ rest) ∙ b.follows rest;
+    took = omega (arith, a.took, b.took, length-append a.bytes b.bytes);
     onward = omega (arith, a.onward, b.onward);
     fits = b.fits;
   }
@@ -99,10 +103,10 @@ module _ (h h' : Held) (chunk chunk' : List ℕ) (left left' : Option (List ℕ)
   }
 
   stood_on : (stand : Stand) (text : List ℕ) (text' : List ℕ) (h'' : Held) (chunk'' rest : List ℕ) → pieces_behind h text ≡ pieces_behind h' text' → start_behind h text ≡ start_behind h' text'
-      → Stood stand h' text' h'' chunk'' rest → Stood stand h text h'' chunk'' rest
-  stood_on Boundary text text' h'' chunk'' rest pieces start b = (pieces ∙ b.0, start ∙ b.1, b.2)
-  stood_on Ending text text' h'' chunk'' rest pieces start b = (pieces ∙ b.0, start ∙ b.1)
-  stood_on Over text text' h'' chunk'' rest pieces start b = (pieces ∙ b.0, start ∙ b.1, b.2, b.3)
+      → follows_behind h text ≡ follows_behind h' text' → Stood stand h' text' h'' chunk'' rest → Stood stand h text h'' chunk'' rest
+  stood_on Boundary text text' h'' chunk'' rest pieces start follows b = (pieces ∙ b.0, start ∙ b.1, b.2, follows ∙ b.3)
+  stood_on Ending text text' h'' chunk'' rest pieces start follows b = (pieces ∙ b.0, start ∙ b.1, follows ∙ b.2, b.3)
+  stood_on Over text text' h'' chunk'' rest pieces start follows b = (pieces ∙ b.0, start ∙ b.1, b.2, b.3, follows ∙ b.4, b.5)
 
   pub looked_on : (stand : Stand) (h'' : Held) (chunk'' : List ℕ) (left'' : Option (List ℕ)) → Looked stand h' chunk' left' h'' chunk'' left'' → Looked stand h chunk left h'' chunk'' left''
   looked_on stand h'' chunk'' left'' b = record {
@@ -112,8 +116,10 @@ module _ (h h' : Held) (chunk chunk' : List ℕ) (left left' : Option (List ℕ)
         stood_on stand _ (chunk' ++ (b.bytes ++ rest)) h'' chunk'' rest
         (ap (pieces_behind h) (regrouped b.bytes rest) ∙ a.pieces (b.bytes ++ rest))
         (ap (start_behind h) (regrouped b.bytes rest) ∙ a.start (b.bytes ++ rest))
+        (ap (follows_behind h) (regrouped b.bytes rest) ∙ a.follows (b.bytes ++ rest))
         (b.stood rest told);
     full = b.full;
+    took = omega (arith, a.took, b.took, length-append a.bytes b.bytes);
     onward = omega (arith, a.onward, b.onward);
     fits = b.fits;
   }

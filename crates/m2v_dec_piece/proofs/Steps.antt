@@ -6,8 +6,10 @@ use Rattle.m2v_model.specs.declared.phase.Phase.{Phase}
 use Rattle.m2v_model.specs.declared.phase.Phase.TheVariants.{Before, Headers, Picture}
 use Rattle.m2v_model.specs.Pieces.{limit, phase_after, grouped, piece_of}
 use Rattle.m2v_dec_piece.specs.declared.answer.DecodeError.{DecodeError}
-use Rattle.m2v_dec_piece.specs.Cutting.{Held, Fits, prefix, open_pieces, open_start, pieces_behind, start_behind, behind, limit_of, place_after, sure_after, limit_in, LimitErr, PieceStops, Took, StopsAt, GoesOn, phase_behind, code_of, Ends, FirstBegun, Finished}
+use Rattle.m2v_dec_piece.specs.Following.{following_in}
+use Rattle.m2v_dec_piece.specs.Cutting.{Held, Fits, prefix, open_pieces, open_start, pieces_behind, start_behind, behind, limit_of, place_after, sure_after, limit_in, LimitErr, PieceStops, Took, StopsAt, GoesOn, phase_behind, code_of, Ends, FirstBegun, Finished, is_begun}
 use Rattle.m2v_dec_piece.proofs.PieceLaws.{third_zero, third_zero_start, settled, settled_start, passes_unit, passes_start, goes_on, goes_on_behind, no_end, behind_is_open, behind_not_before, Begins, begins_behind, ends_text, begins_first, starts_first, ends_at, ends_start}
+use Rattle.m2v_dec_piece.proofs.FollowingLaws.{follows_zero, follows_other, follows_unit, follows_first, follows_end, follows_none}
 use Rattle.m2v_dec_piece.proofs.LimitLaws.{fits_more, stopped, stops_piece, stops_before, started, same_before, grown, grown_picture, picture_begin}
 
 -- how many bytes were taken in all
@@ -27,6 +29,7 @@ took_zero h new two fits is none =
     (record {
       pieces = λ text. rw two (third_zero h.phase h.sure text);
       start = λ text. rw two (third_zero_start h.phase h.place text);
+      follows = λ text. rw two (follows_zero (is_begun h.phase) text);
       more = omega (arith, after_more h.phase h.place h.sure (0 ∷ []));
       onward = after_onward h.phase h.place (0 ∷ []);
       fits = fits_more h (0 ∷ []) fits none;
@@ -51,6 +54,7 @@ took_other h new b le some one fits is none =
     (record {
       pieces = λ text. settled h.phase h.sure h.ahead b text le some one;
       start = λ text. settled_start h.phase h.place h.ahead b text le some one;
+      follows = λ text. follows_other (is_begun h.phase) h.ahead b text le some one;
       more = omega (arith, after_more h.phase h.place h.sure (prefix h.ahead ++ b ∷ []), length-append (prefix h.ahead) (b ∷ []), length_prefix h.ahead (omega (arith, le)));
       onward = after_onward h.phase h.place (prefix h.ahead ++ b ∷ []);
       fits = record { limit = f.limit; none = f.none };
@@ -78,6 +82,7 @@ took_longer h new b next fits is =
     (record {
       pieces = λ text. ap (open_pieces h.phase h.sure) (sym (ap (λ (x : List ℕ). x ++ text) next ∙ append_assoc (prefix h.ahead) (b ∷ []) text));
       start = λ text. ap (open_start h.phase h.place) (sym (ap (λ (x : List ℕ). x ++ text) next ∙ append_assoc (prefix h.ahead) (b ∷ []) text));
+      follows = λ text. ap (following_in (is_begun h.phase)) (sym (ap (λ (x : List ℕ). x ++ text) next ∙ append_assoc (prefix h.ahead) (b ∷ []) text));
       more = omega arith;
       onward = omega arith;
       fits = record { limit = fits.limit; none = fits.none };
@@ -118,6 +123,7 @@ took_unit h new v three goes fits is none =
     (record {
       pieces = λ text. rw three (unit_pieces h.phase h.sure v text goes);
       start = λ text. rw three (unit_start h.phase h.place v text goes);
+      follows = λ text. rw three (follows_unit h.phase v text goes);
       more = omega (arith, after_more h.phase h.place h.sure (code_of v));
       onward = after_onward h.phase h.place (code_of v);
       fits = record { limit = f.limit; none = unit_none h.phase h.sure v f.none };
@@ -145,6 +151,8 @@ ends_here h new three phase fits is none =
     subst (λ (x : Held). Ends h x) (sym is)
     (record {
       pieces = λ text. rw (three, phase) (ends_text h.sure text);
+      follows = λ text. rw (three, phase) (follows_end text);
+      ahead = refl;
       place = rw phase refl;
       more = omega (arith, three, after_more h.phase h.place h.sure (code_of 0xB7));
       some = rw phase (omega (arith, length-append h.sure (code_of 0xB7)));
@@ -168,6 +176,7 @@ begun_here h new three phase fits is =
     (record {
       pieces = λ text. rw (three, phase, fits.none phase) (begins_first [] text);
       start = λ text. rw (three, phase) (starts_first h.place text);
+      follows = λ text. rw (three, phase) (follows_first text);
       is = refl;
       fits = record { limit = fits.limit; none = λ e. absurd cc };
     })
@@ -186,6 +195,8 @@ finished_here h new le fits is none =
     (record {
       pieces = ends_at h.phase h.sure h.ahead le ∙ same_end h.phase h.sure (prefix h.ahead);
       start = ends_start h.phase h.place h.ahead le;
+      follows = follows_none (is_begun h.phase) h.ahead le;
+      ahead = refl;
       phase = refl;
       taken = omega (arith, after_more h.phase h.place h.sure (prefix h.ahead), length_prefix h.ahead le);
       onward = after_onward h.phase h.place (prefix h.ahead);
@@ -250,6 +261,8 @@ unfolding open_pieces open_start
 finished_none h none fits = record {
   pieces = ap (λ (n : ℕ). open_pieces h.phase h.sure (prefix n ++ [])) none ∙ ends_at h.phase h.sure 0 (omega arith) ∙ ap (λ (x : List ℕ). grouped h.phase x []) (append-nil h.sure);
   start = ap (λ (n : ℕ). open_start h.phase h.place (prefix n ++ [])) none ∙ ends_start h.phase h.place 0 (omega arith) ∙ place_none h.phase h.place;
+  follows = ap (λ (n : ℕ). following_in (is_begun h.phase) (prefix n ++ [])) none ∙ follows_none (is_begun h.phase) 0 (omega arith);
+  ahead = none;
   phase = refl;
   taken = refl;
   onward = omega arith;

@@ -4,6 +4,7 @@ use Rattle.m2v_model.specs.declared.phase.Phase.{Phase}
 use Rattle.m2v_model.specs.declared.phase.Phase.TheVariants.{Before, Headers, Picture}
 use Rattle.m2v_model.specs.Units.{cut}
 use Rattle.m2v_model.specs.Pieces.{grouped, before_pieces, limit, Limit, too_long, too_large, most_input, trimmed, phase_after, is_end, begins_piece}
+use Rattle.m2v_dec_piece.specs.Following.{following_in}
 use Rattle.m2v_dec_piece.specs.declared.answer.Piece.{Piece}
 use Rattle.m2v_dec_piece.specs.declared.answer.DecodeError.{DecodeError}
 use Rattle.m2v_dec_piece.specs.declared.answer.DecodeError.TheVariants as errors
@@ -24,6 +25,12 @@ prefix n = take n (0 ∷ 0 ∷ 1 ∷ [])
 abbrev pub taken_by : Held → ℕ
 taken_by h = h.place + (length h.sure + h.ahead)
 
+-- whether the first sequence header was seen
+abbrev pub is_begun : Phase → Bool
+is_begun Before = false
+is_begun Headers = true
+is_begun Picture = true
+
 -- the pieces of a text behind bytes that the piece at hand has already
 unfoldable pub open_pieces : Phase → List ℕ → List ℕ → List (List ℕ)
 open_pieces phase sure text = grouped phase (sure ++ (cut 0 text).0) (cut 0 text).1
@@ -40,6 +47,10 @@ pieces_behind h text = open_pieces h.phase h.sure (prefix h.ahead ++ text)
 
 abbrev pub start_behind : Held → List ℕ → ℕ
 start_behind h text = open_start h.phase h.place (prefix h.ahead ++ text)
+
+-- the text that follows their sequence
+abbrev pub follows_behind : Held → List ℕ → List ℕ
+follows_behind h text = following_in (is_begun h.phase) (prefix h.ahead ++ text)
 
 -- behind bytes that are sure: those before the first piece are passed over
 abbrev pub place_after : Phase → ℕ → List ℕ → ℕ
@@ -107,6 +118,7 @@ PieceStops place pieces (errors.Stream f) = ⊥
 pub record Took (old : Held) (b : ℕ) (new : Held) : Type 0 where
   pub pieces : (text : List ℕ) → pieces_behind old (b ∷ text) ≡ pieces_behind new text
   pub start : (text : List ℕ) → start_behind old (b ∷ text) ≡ start_behind new text
+  pub follows : (text : List ℕ) → follows_behind old (b ∷ text) ≡ follows_behind new text
   pub more : new.place + (length new.sure + new.ahead) ≡ suc (old.place + (length old.sure + old.ahead))
   pub onward : old.place ≤ new.place
   pub fits : Fits new
@@ -123,6 +135,7 @@ IsRun bytes = HasNoPair (length bytes) bytes
 pub record TookAll (old : Held) (bytes : List ℕ) (new : Held) : Type 0 where
   pub pieces : (text : List ℕ) → pieces_behind old (bytes ++ text) ≡ pieces_behind new text
   pub start : (text : List ℕ) → start_behind old (bytes ++ text) ≡ start_behind new text
+  pub follows : (text : List ℕ) → follows_behind old (bytes ++ text) ≡ follows_behind new text
   pub more : new.place + (length new.sure + new.ahead) ≡ length bytes + (old.place + (length old.sure + old.ahead))
   pub phase : new.phase ≡ old.phase
   pub onward : old.place ≤ new.place
@@ -151,6 +164,8 @@ GoesOn Picture value = begins_piece value ≡ false
 -- the end code was taken, and all that is held is the last piece
 pub record Ends (old new : Held) : Type 0 where
   pub pieces : (text : List ℕ) → pieces_behind old (0xB7 ∷ text) ≡ new.sure ∷ []
+  pub follows : (text : List ℕ) → follows_behind old (0xB7 ∷ text) ≡ text
+  pub ahead : new.ahead ≡ 0
   pub place : new.place ≡ old.place
   pub more : taken_by new ≡ suc (taken_by old)
   pub some : 1 ≤ length new.sure
@@ -160,6 +175,7 @@ pub record Ends (old new : Held) : Type 0 where
 pub record FirstBegun (old new : Held) : Type 0 where
   pub pieces : (text : List ℕ) → pieces_behind old (0xB3 ∷ text) ≡ pieces_behind new (0xB3 ∷ text)
   pub start : (text : List ℕ) → start_behind old (0xB3 ∷ text) ≡ start_behind new (0xB3 ∷ text)
+  pub follows : (text : List ℕ) → follows_behind old (0xB3 ∷ text) ≡ follows_behind new (0xB3 ∷ text)
   pub is : new ≡ record old { phase = Headers }
   pub fits : Fits new
 
@@ -167,6 +183,8 @@ pub record FirstBegun (old new : Held) : Type 0 where
 pub record Finished (old new : Held) : Type 0 where
   pub pieces : pieces_behind old [] ≡ grouped new.phase new.sure []
   pub start : start_behind old [] ≡ new.place
+  pub follows : follows_behind old [] ≡ []
+  pub ahead : new.ahead ≡ 0
   pub phase : new.phase ≡ old.phase
   pub taken : taken_by new ≡ taken_by old
   pub onward : old.place ≤ new.place
@@ -195,11 +213,10 @@ left_of c text = if c.ended then [] else open_pieces (phase_for c.begun) [] (c.u
 abbrev pub start_of : Cutting → List ℕ → ℕ
 start_of c text = if c.ended then c.place else open_start (phase_for c.begun) c.place (c.unread ++ text)
 
--- whether the first sequence header was seen
-abbrev pub is_begun : Phase → Bool
-is_begun Before = false
-is_begun Headers = true
-is_begun Picture = true
+-- The text that follows the sequence, where this text follows what is read. Behind the end code, or at the end of the
+-- input, it is what is left.
+abbrev pub follows_of : Cutting → List ℕ → List ℕ
+follows_of c text = if c.ended then c.unread ++ text else following_in c.begun (c.unread ++ text)
 
 -- a piece is about to begin: nothing of it is held but a prefix
 pub record AtPiece (h : Held) : Type 0 where

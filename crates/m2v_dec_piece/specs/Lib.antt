@@ -1,4 +1,6 @@
 pub mod Cutting
+pub mod Following
 pub mod Reads
 pub mod Sound
 pub mod Stepping
+pub mod Texts

@@ -4,6 +4,7 @@ use Rattle.m2v_port.specs.Port.{Moves}
 use Rattle.m2v_model.specs.declared.phase.Phase.{Phase}
 use Rattle.m2v_model.specs.declared.phase.Phase.TheVariants.{Before, Headers, Picture}
 use Rattle.m2v_model.specs.Pieces.{begins_piece, grouped}
+use Rattle.m2v_dec_piece.specs.Following.{following_in}
 use Rattle.m2v_dec_piece.specs.declared.answer.Piece.{Piece}
 use Rattle.m2v_dec_piece.specs.declared.answer.DecodeError.{DecodeError}
 use Rattle.m2v_dec_piece.specs.declared.answer.DecodeError.TheVariants as errors
@@ -11,7 +12,7 @@ use Rattle.m2v_dec_piece.specs.declared.taking.Byte.{Byte}
 use Rattle.m2v_dec_piece.specs.declared.taking.Byte.TheVariants.{Used, First, Whole, Last}
 use Rattle.m2v_dec_piece.specs.declared.cutter.Stand.{Stand}
 use Rattle.m2v_dec_piece.specs.declared.cutter.Stand.TheVariants.{Boundary, Ending, Over}
-use Rattle.m2v_dec_piece.specs.Cutting.{Held, taken_by, Fits, Took, FirstBegun, Ends, open_pieces, pieces_behind, start_behind, PieceStops, Cutting, left_of, start_of, IsPiece}
+use Rattle.m2v_dec_piece.specs.Cutting.{Held, taken_by, Fits, Took, FirstBegun, Ends, open_pieces, pieces_behind, start_behind, follows_behind, PieceStops, Cutting, left_of, start_of, follows_of, IsPiece}
 
 -- the piece at hand is whole, and stays as it is
 pub record IsWhole (old : Held) (b : ℕ) (new : Held) : Type 0 where
@@ -56,10 +57,13 @@ abbrev pub Stood : Stand → Held → List ℕ → Held → List ℕ → List �
 -- the piece is whole, and the next one begins with what is left
 Stood Boundary h text new chunk rest =
     (pieces_behind h text ≡ new.sure ∷ open_pieces Headers [] (0 ∷ 0 ∷ 1 ∷ (chunk ++ rest))) × (start_behind h text ≡ new.place) × (new.ahead ≡ 3)
--- the end code was taken
-Stood Ending h text new chunk rest = (pieces_behind h text ≡ new.sure ∷ []) × (start_behind h text ≡ new.place)
+    × (follows_behind h text ≡ following_in true (0 ∷ 0 ∷ 1 ∷ (chunk ++ rest)))
+-- the end code was taken, and what is left follows it
+Stood Ending h text new chunk rest = (pieces_behind h text ≡ new.sure ∷ []) × (start_behind h text ≡ new.place) × (follows_behind h text ≡ chunk ++ rest) × (new.ahead ≡ 0)
 -- the input has ended
-Stood Over h text new chunk rest = (pieces_behind h text ≡ grouped new.phase new.sure []) × (start_behind h text ≡ new.place) × (rest ≡ []) × (chunk ≡ [])
+Stood Over h text new chunk rest =
+    (pieces_behind h text ≡ grouped new.phase new.sure []) × (start_behind h text ≡ new.place) × (rest ≡ []) × (chunk ≡ [])
+    × (follows_behind h text ≡ []) × (new.ahead ≡ 0)
 
 -- some bytes are held wherever the next piece begins or the end code stands
 abbrev pub IsFull : Stand → Held → Type 0
@@ -71,6 +75,8 @@ IsFull Over h = Unit {0}
 pub record Reaches (h : Held) (chunk : List ℕ) (h' : Held) (chunk' : List ℕ) : Type 0 where
   pub pieces : (rest : List ℕ) → pieces_behind h (chunk ++ rest) ≡ pieces_behind h' (chunk' ++ rest)
   pub start : (rest : List ℕ) → start_behind h (chunk ++ rest) ≡ start_behind h' (chunk' ++ rest)
+  pub follows : (rest : List ℕ) → follows_behind h (chunk ++ rest) ≡ follows_behind h' (chunk' ++ rest)
+  pub took : taken_by h' + length chunk' ≡ taken_by h + length chunk
   pub onward : h.place ≤ h'.place
   pub fits : Fits h'
   pub less : measure_of h' < measure_of h
@@ -79,6 +85,7 @@ pub record Reaches (h : Held) (chunk : List ℕ) (h' : Held) (chunk' : List ℕ)
 abbrev pub Turned : Option Stand → Held → List ℕ → Held → List ℕ → Type 0
 Turned None h chunk h' chunk' = Reaches h chunk h' chunk'
 Turned (Some stand) h chunk h' chunk' = Fits h' × ((rest : List ℕ) → Stood stand h (chunk ++ rest) h' chunk' rest) × IsFull stand h' × (h.place ≤ h'.place)
+    × (taken_by h' + length chunk' ≡ taken_by h + length chunk)
 
 -- bytes were read and used, and the pieces of the text are those of what is held then and of what is left
 pub record Advanced (h : Held) (chunk : List ℕ) (left : Option (List ℕ)) (h' : Held) (chunk' : List ℕ) (left' : Option (List ℕ)) : Type 0 where
@@ -86,6 +93,8 @@ pub record Advanced (h : Held) (chunk : List ℕ) (left : Option (List ℕ)) (h'
   pub moved : Moves left bytes left'
   pub pieces : (rest : List ℕ) → pieces_behind h (chunk ++ (bytes ++ rest)) ≡ pieces_behind h' (chunk' ++ rest)
   pub start : (rest : List ℕ) → start_behind h (chunk ++ (bytes ++ rest)) ≡ start_behind h' (chunk' ++ rest)
+  pub follows : (rest : List ℕ) → follows_behind h (chunk ++ (bytes ++ rest)) ≡ follows_behind h' (chunk' ++ rest)
+  pub took : taken_by h' + length chunk' ≡ (taken_by h + length chunk) + length bytes
   pub onward : h.place ≤ h'.place
   pub fits : Fits h'
 
@@ -95,6 +104,7 @@ pub record Looked (stand : Stand) (h : Held) (chunk : List ℕ) (left : Option (
   pub moved : Moves left bytes left'
   pub stood : (rest : List ℕ) → left' ≡ Some rest → Stood stand h (chunk ++ (bytes ++ rest)) h' chunk' rest
   pub full : IsFull stand h'
+  pub took : taken_by h' + length chunk' ≡ (taken_by h + length chunk) + length bytes
   pub onward : h.place ≤ h'.place
   pub fits : Fits h'
 
@@ -139,11 +149,14 @@ abbrev pub LastOf : Option Piece → Held → Held → Type 0
 LastOf None h h' = (grouped h.phase h.sure [] ≡ []) × (h'.place ≡ h.place)
 LastOf (Some p) h h' = (grouped h.phase h.sure [] ≡ h.sure ∷ []) × IsPiece p h.place h.sure × (h'.place ≡ p.place + p.length)
 
--- the next piece of the text that is held and left, where the source tells it
+-- The next piece of the text that is held and left, where the source tells it. The text that follows the sequence stays
+-- as it is, and each byte that was read is handed out, passed over or held.
 pub record Handed (old : Cutting) (left : Option (List ℕ)) (new : Cutting) (left' : Option (List ℕ)) (piece : Option Piece) : Type 0 where
   pub bytes : List ℕ
   pub moved : Moves left bytes left'
   pub next : (rest : List ℕ) → left' ≡ Some rest → NextPiece piece (start_of old (bytes ++ rest)) (left_of old (bytes ++ rest)) new (left_of new rest)
+  pub behind : (rest : List ℕ) → left' ≡ Some rest → follows_of old (bytes ++ rest) ≡ follows_of new rest
+  pub place : new.place + length new.unread ≡ (old.place + length old.unread) + length bytes
 
 -- why there is none
 pub record Stopped (old : Cutting) (left left' : Option (List ℕ)) (e : DecodeError) : Type 0 where

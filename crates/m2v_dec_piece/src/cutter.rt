@@ -1,6 +1,6 @@
 ghost use Rattle.std.specs.Prelude.{◌≡◌, ℕ, ◌+◌, ◌≤◌, ◌<◌, ◌^◌, ◌++◌, List, [], length, IfOk, IfSome, IfErr, OnOk, IsErrOf, Ok, Err, Some, None, true, false, IfNone};
 ghost use Rattle.m2v_port.specs.Port.{Rose};
-ghost use Rattle.m2v_dec_piece.specs.Cutting.{Fits, PieceStops, IsReading, pieces_behind, start_behind, taken_by};
+ghost use Rattle.m2v_dec_piece.specs.Cutting.{Fits, AtPiece, PieceStops, IsReading, pieces_behind, start_behind, taken_by};
 ghost use Rattle.m2v_dec_piece.specs.Sound.{IsSoundPiece, GoesOnward};
 ghost use Rattle.m2v_dec_piece.specs.Stepping.{Reaches, Turned, Rounded, Looked, Fails, Handed, Stopped, LastOf, Spends, Keeps};
 
@@ -157,8 +157,12 @@ fn last(hand: &mut Hand, alloc: Global) -> Result<Option<Piece>, Memory>
     ensures most { OnOk result (hand.new.place ≤ 2 ^ 36) }
     ensures begun { IfOk result (λ piece. IfSome piece (λ p. hand.new.phase ≡ Phase.Headers)) }
     ensures taken { OnOk result (taken_by hand.new ≡ taken_by hand.old) }
+    ensures at { OnOk result (AtPiece hand.new) }
+    ensures ahead { OnOk result (hand.new.ahead ≡ hand.old.ahead) }
+    ensures few { OnOk result (hand.new.ahead ≤ 3) }
 {
     let _place = hand.place();
+    let _held = hand.ahead();
     if hand.is_empty() {
         return Ok(None);
     }
@@ -192,7 +196,7 @@ impl Model for Cutter {
       failed = c.failed;
     } };
 
-    ghost invariant = { λ c. c.failed ≡ false → c.ended ≡ false → AtPiece c.hand };
+    ghost invariant = { λ c. c.failed ≡ false → AtPiece c.hand };
 }
 
 impl Cutter {
@@ -267,6 +271,17 @@ impl Cutter {
                 Ok(piece)
             }
         }
+    }
+
+    /// Goes on with the text that follows the sequence, once no piece of that is left: the next piece is the first one of
+    /// this text, from its own first sequence header on. Places and limits count on from the input's first byte.
+    pub fn go_on(&mut self)
+        requires ended { self.old.ended ≡ true }
+        requires going { self.old.failed ≡ false }
+        ensures { self.new ≡ record self.old { begun = false; ended = false } }
+    {
+        self.hand.go_on();
+        self.ended = false;
     }
 
     /// The place of what was read and neither handed out nor passed over before the first piece.

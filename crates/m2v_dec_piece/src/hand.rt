@@ -1,7 +1,7 @@
-ghost use Rattle.std.specs.Prelude.{◌≡◌, ◌↔◌, ◌+◌, ◌-◌, ◌≤◌, ◌<◌, ◌^◌, ◌++◌, ◌∷◌, [], length, take, replicate, min, IfOk, IfErr, OnOk, IsTrue, Ok, Err, None, false, nat_eq};
+ghost use Rattle.std.specs.Prelude.{◌≡◌, ◌↔◌, ◌+◌, ◌-◌, ◌≤◌, ◌<◌, ◌^◌, ◌++◌, ◌∷◌, [], length, take, replicate, min, IfOk, IfErr, OnOk, IsTrue, Ok, Err, None, false, nat_eq, true};
 ghost use Rattle.m2v_model.specs.Pieces.{limit, phase_after};
 ghost use Rattle.m2v_dec_piece.specs.Sound.{IsSoundPiece};
-ghost use Rattle.m2v_dec_piece.specs.Cutting.{Held, Fits, IsRun, TookAll, prefix, behind, limit_of, IsPiece, LimitErr, Took, StopsAt, PieceStops, pieces_behind, start_behind, code_of, phase_behind, GoesOn, Ends, FirstBegun, Finished};
+ghost use Rattle.m2v_dec_piece.specs.Cutting.{Held, Fits, IsRun, TookAll, prefix, behind, limit_of, IsPiece, LimitErr, Took, StopsAt, PieceStops, pieces_behind, start_behind, code_of, phase_behind, GoesOn, Ends, FirstBegun, Finished, AtPiece};
 
 use crate::runs::{append_all, run_of};
 use crate::{DecodeError, Memory, Piece};
@@ -129,6 +129,7 @@ impl Hand {
     pub fn is_empty(&self) -> bool
         ensures value { IsTrue result ↔ (self.now.sure ≡ []) }
         ensures some { result ≡ false → 1 ≤ length self.now.sure }
+        ensures at { result ≡ true → AtPiece self.now }
     {
         self.bytes.len() as u64 + self.zeros == 0
     }
@@ -399,6 +400,7 @@ impl Hand {
         }) }
         ensures sound { IfOk result (λ p. 1 ≤ length self.old.sure → IsSoundPiece p) }
         ensures most { OnOk result (self.new.place ≤ 2 ^ 36) }
+        ensures few { OnOk result (self.new.ahead ≤ 3) }
     {
         let (place, zeros) = (self.place, self.zeros);
         let length = self.bytes.len() as u64 + zeros;
@@ -412,5 +414,13 @@ impl Hand {
             place,
             length,
         })
+    }
+
+    /// Another text begins behind the last piece: again what stands before a sequence header is passed over.
+    pub fn go_on(&mut self)
+        requires none { self.old.sure ≡ [] }
+        ensures { self.new ≡ record self.old { phase = Phase.Before } }
+    {
+        self.phase = Phase::Before;
     }
 }

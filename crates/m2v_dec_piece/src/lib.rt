@@ -5,11 +5,13 @@ mod answer;
 mod chunk;
 mod cutter;
 mod hand;
+mod laws;
 mod runs;
 mod taking;
 
 pub use answer::{DecodeError, Fault, Piece};
 pub use cutter::Cutter;
+pub use laws::{law_next_text, law_text_after};
 
 /// Want of memory.
 pub type Memory = std::alloc::AllocError;

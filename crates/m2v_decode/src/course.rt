@@ -10,12 +10,11 @@ ghost use Rattle.m2v_decode.specs.Decoding.{queue_of};
 ghost use Rattle.m2v_decode.specs.Course.{note_or as first_of, IsFresh, IsSoundCourse, Steps, Showed, Counted, Ended, Closed, Begun};
 
 use crate::Memory;
-use m2v_dec_rows::dec_picture::Gallery;
+use m2v_dec_rows::dec_picture::{DueFrame, Gallery};
 use m2v_dec_rows::dec_unit::{Header, crowded_by, enter, opened};
 use m2v_head::{GroupInfo, MatrixInfo, PictureExtension, PictureInfo};
 use m2v_model::{Notes, Open, PictureNote, Sequence, State};
-use m2v_order::DisplayQueue;
-use m2v_plane::Frame;
+use m2v_order::AnchorQueue;
 use std::alloc::Global;
 
 /// A decoder at work: the headers in force, the frames at hand, the frames on their way to the display, and what is noted
@@ -24,8 +23,8 @@ use std::alloc::Global;
 pub struct Course {
     pub state: State,
     pub gallery: Gallery,
-    pub queue: DisplayQueue,
-    pub ready: Vec<Frame>,
+    pub queue: AnchorQueue<DueFrame>,
+    pub ready: Vec<DueFrame>,
     pub pictures: u64,
     pub dropped: u64,
     pub shown: u64,
@@ -63,7 +62,7 @@ pub fn one_if(holds: bool) -> u64
 impl Course {
     /// A frame that a picture ended, if there is one: it is shown at once, or held, and another one is shown in its place.
     #[tactic(auto, unfolding(m2v_order::specs::Display::handed, m2v_order::specs::Display::held_after))]
-    fn show(&mut self, frame: Option<Frame>, kind: u8) -> Result<(), Memory>
+    fn show(&mut self, frame: Option<DueFrame>, kind: u8) -> Result<(), Memory>
         ensures { OnOk result (Showed self.old frame kind self.new) }
     {
         let Some(frame) = frame else {
@@ -131,7 +130,7 @@ impl Course {
             ≡ record self.old { queue = queue_of self.new.queue.low_delay self.old.queue.anchor } }
     {
         if self.state.first.is_none() {
-            self.queue = DisplayQueue::new(s.extension.low_delay);
+            self.queue = AnchorQueue::new(s.extension.low_delay);
         }
     }
 

@@ -16,11 +16,11 @@ use crate::notes::nothing_noted;
 use crate::reading::text_ends;
 use crate::rebuilt::PictureRows;
 use m2v_dec_piece::{DecodeError, Fault, Piece};
-use m2v_dec_rows::dec_picture::Gallery;
+use m2v_dec_rows::dec_picture::{DueFrame, Gallery};
 use m2v_dec_rows::dec_unit::{UnitReader, code_bits, first_state};
 use m2v_dec_rows::{Opened, read_headers};
 use m2v_model::{Notes, State};
-use m2v_order::DisplayQueue;
+use m2v_order::AnchorQueue;
 use m2v_plane::Frame;
 use std::alloc::Global;
 use std::marker::Model;
@@ -70,7 +70,7 @@ impl Decoder {
         let course = Course {
             state: first_state(),
             gallery: Gallery::new(alloc),
-            queue: DisplayQueue::new(false),
+            queue: AnchorQueue::new(false),
             ready: Vec::new(alloc),
             pictures: 0,
             dropped: 0,
@@ -113,6 +113,14 @@ impl Decoder {
         ensures same { self.new ≡ self.old }
     {
         self.course.gallery.recycle(frame);
+    }
+
+    /// Takes back a frame that was handed out to be read where it stands. A later picture is painted into it where it isn't a
+    /// reference any more.
+    pub fn take_back(&mut self, due: DueFrame)
+        ensures same { self.new ≡ self.old }
+    {
+        self.course.gallery.take_back(due);
     }
 
     /// Reads a piece, of those of one text in order, each as a cutter hands it out. Answers what is noted of it.
@@ -191,8 +199,8 @@ impl Decoder {
     }
 
     /// Moves past a piece by its headers alone, and decodes none of its samples. Answers the picture in it, whose rows
-    /// `read_row` reads; None where it has none. Behind this call headers alone may be read: `piece`, `due` and `end` may not
-    /// be called any more, since the frames of the picture aren't at hand.
+    /// `read_row` reads; None where it has none. Behind this call headers alone may be read: `piece`, `due`, `next_due` and
+    /// `end` may not be called any more, since the frames of the picture aren't at hand.
     ///
     /// # Errors
     /// The first fault of the piece, where no picture stands before it: a fault behind a picture's headers is told with the
@@ -238,8 +246,21 @@ impl Decoder {
         }
     }
 
-    /// The next frame that is due and wasn't handed out; behind the end the last anchor too.
+    /// The next frame that is due and wasn't handed out, to be kept; behind the end the last anchor too. A frame that is a
+    /// reference still is copied.
     pub fn due(&mut self) -> Option<Frame>
+        requires going { self.old.failed ≡ false }
+        ensures { MatchOption result ((due_of self.old ≡ []) × (self.new ≡ self.old))
+            (λ frame. HandsOut self.old frame self.new) }
+    {
+        match self.next_due() {
+            Some(due) => Some(due.into_frame()),
+            None => None,
+        }
+    }
+
+    /// The same frame, to be read where it stands.
+    pub fn next_due(&mut self) -> Option<DueFrame>
         requires going { self.old.failed ≡ false }
         ensures { MatchOption result ((due_of self.old ≡ []) × (self.new ≡ self.old))
             (λ frame. HandsOut self.old frame self.new) }

@@ -62,9 +62,9 @@ pub fn put_due<K: Sink>(
         (change K.held K.faults output.old output.new)) }
     ensures output { SinkStays K.ready K.name K.faults output.old output.new }
 {
-    while let Some(frame) = decoder.due() {
-        put_frame(alloc, &frame, raw, output)?;
-        decoder.recycle(frame);
+    while let Some(due) = decoder.next_due() {
+        put_frame(alloc, due.frame(), raw, output)?;
+        decoder.take_back(due);
     }
     Ok(())
 }

@@ -10,6 +10,7 @@ ghost use Rattle.m2v_encode.specs.Answers.{AllCoded, Stops};
 ghost use Rattle.m2v_encode.specs.Steps.{ReadStops, FrameRead, NoneRead, FrameStops, HasRoom, IsFew, GoesOn, DueCoded, DueStops, EndCoded, EndStops, book_by};
 
 use crate::answer::{EncodeError, Summary};
+use crate::crew::Crew;
 use crate::group::Coder;
 use crate::pictures::put_bytes;
 use crate::reading::{goes_on, read_bytes};
@@ -117,12 +118,10 @@ impl Coder {
     /// Codes the group that is due, if one is.
     fn code_due<R: Threads + Wait + Sync, K: Sink, N: Sink, G: Gate + Sync>(
         &mut self,
-        rt: &R,
-        alloc: Global,
+        crew: &Crew<R, G>,
         queue: &mut Reorder,
         output: &mut K,
         recon: &mut N,
-        gate: &G,
     ) -> Result<(), EncodeError>
         requires room { HasRoom self.old }
         requires settings { queue.old.settings ≡ self.old.settings }
@@ -146,8 +145,8 @@ impl Coder {
         ensures output { SinkStays K.ready K.name K.faults output.old output.new }
         ensures recon { SinkStays N.ready N.name N.faults recon.old recon.new }
     {
-        match queue.next_group(alloc) {
-            Ok(Some(group)) => self.code_group(rt, alloc, group, false, output, recon, gate),
+        match queue.next_group(crew.alloc) {
+            Ok(Some(group)) => self.code_group(crew, group, false, output, recon),
             Ok(None) => Ok(()),
             Err(_) => Err(EncodeError::Memory),
         }
@@ -156,12 +155,10 @@ impl Coder {
     /// Ends the stream: codes the last group, and writes a sequence end code.
     fn finish<R: Threads + Wait + Sync, K: Sink, N: Sink, G: Gate + Sync>(
         &mut self,
-        rt: &R,
-        alloc: Global,
+        crew: &Crew<R, G>,
         queue: &mut Reorder,
         output: &mut K,
         recon: &mut N,
-        gate: &G,
     ) -> Result<Summary, EncodeError>
         requires room { HasRoom self.old }
         requires settings { queue.old.settings ≡ self.old.settings }
@@ -183,9 +180,9 @@ impl Coder {
         ensures recon { SinkStays N.ready N.name N.faults recon.old recon.new }
     {
         queue.end();
-        match queue.next_group(alloc) {
+        match queue.next_group(crew.alloc) {
             Ok(Some(group)) => {
-                self.code_group(rt, alloc, group, true, output, recon, gate)?;
+                self.code_group(crew, group, true, output, recon)?;
                 put_bytes(&END, output)?;
                 self.total.bytes += 4;
                 Ok(self.total)
@@ -198,13 +195,11 @@ impl Coder {
     /// Codes all frames of the input.
     fn code_all<R: Threads + Wait + Sync, S: Source, K: Sink, N: Sink, G: Gate + Sync>(
         &mut self,
-        rt: &R,
-        alloc: Global,
+        crew: &Crew<R, G>,
         queue: &mut Reorder,
         input: &mut S,
         output: &mut K,
         recon: &mut N,
-        gate: &G,
     ) -> Result<Summary, EncodeError>
         requires room { HasRoom self.old }
         requires ledger { self.old.ledger ≡ fresh self.old.settings }
@@ -235,15 +230,15 @@ impl Coder {
         // the settings pass, so a frame has bytes
         let _known = self.settings.settings();
         for _number in 0..MOST {
-            if !self.next_frame(alloc, input, queue)? {
-                return self.finish(rt, alloc, queue, output, recon, gate);
+            if !self.next_frame(crew.alloc, input, queue)? {
+                return self.finish(crew, queue, output, recon);
             }
-            self.code_due(rt, alloc, queue, output, recon, gate)?;
+            self.code_due(crew, queue, output, recon)?;
         }
         if goes_on(input)? {
             return Err(EncodeError::TooManyFrames);
         }
-        self.finish(rt, alloc, queue, output, recon, gate)
+        self.finish(crew, queue, output, recon)
     }
 }
 
@@ -284,5 +279,6 @@ pub(crate) fn encode_to<R: Threads + Wait + Sync, S: Source, K: Sink, N: Sink, G
     let Ok(mut queue) = Reorder::new(alloc, settings) else {
         return Err(EncodeError::Memory);
     };
-    coder.code_all(rt, alloc, &mut queue, input, output, recon, gate)
+    let crew = Crew { rt, alloc, gate };
+    coder.code_all(&crew, &mut queue, input, output, recon)
 }

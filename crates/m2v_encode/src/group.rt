@@ -13,6 +13,7 @@ ghost use Rattle.m2v_slice.specs.Books.{rows};
 ghost use Rattle.m2v_encode.specs.Steps.{HasRoom, IsFew, GoesOn, GroupCoded, GroupStops, book_by};
 
 use crate::answer::{EncodeError, Summary};
+use crate::crew::Crew;
 use crate::done::DoneGroup;
 use m2v_bits::BitWriter;
 use m2v_board::Gate;
@@ -139,10 +140,8 @@ impl Coder {
     /// Makes a book of the group, and does its jobs by as many workers as the settings say.
     fn do_jobs<R: Threads + Wait + Sync, G: Gate + Sync>(
         &mut self,
-        rt: &R,
-        alloc: Global,
+        crew: &Crew<R, G>,
         group: GroupJobs,
-        gate: &G,
     ) -> Result<DoneGroup, Memory>
         requires going { GoesOn self.old (is_some group.before) }
         requires few { IsFew self.old.total }
@@ -156,6 +155,7 @@ impl Coder {
         ensures raw { self.new.raw ≡ self.old.raw }
         ensures headers { self.new.headers ≡ self.old.headers }
     {
+        let alloc = crew.alloc;
         let pictures = copy_of(alloc, &group.pictures)?;
         let frames = group.frames.len() as u32;
         let rows = rows_of(&self.settings);
@@ -176,7 +176,7 @@ impl Coder {
         )?;
         let workers = self.settings.settings().workers;
         let bench = Bench::for_book(alloc, &book, workers)?;
-        let done = run_jobs(rt, &book, bench, gate);
+        let done = run_jobs(crew.rt, &book, bench, crew.gate);
         Ok(DoneGroup {
             settings: self.settings,
             pictures,
@@ -191,13 +191,11 @@ impl Coder {
     /// last one of the stream.
     pub(crate) fn code_group<R: Threads + Wait + Sync, K: Sink, N: Sink, G: Gate + Sync>(
         &mut self,
-        rt: &R,
-        alloc: Global,
+        crew: &Crew<R, G>,
         group: GroupJobs,
         ends: bool,
         output: &mut K,
         recon: &mut N,
-        gate: &G,
     ) -> Result<(), EncodeError>
         requires room { HasRoom self.old }
         requires going { GoesOn self.old (is_some group.before) }
@@ -223,7 +221,7 @@ impl Coder {
         ensures output { SinkStays K.ready K.name K.faults output.old output.new }
         ensures recon { SinkStays N.ready N.name N.faults recon.old recon.new }
     {
-        let Ok(done) = self.do_jobs(rt, alloc, group, gate) else {
+        let Ok(done) = self.do_jobs(crew, group) else {
             return Err(EncodeError::Memory);
         };
         // a group that is done has its book
@@ -236,7 +234,7 @@ impl Coder {
             &mut self.total,
             output,
         )?;
-        self.before = done.put_frames(alloc, &mut self.raw, recon)?;
+        self.before = done.put_frames(crew.alloc, &mut self.raw, recon)?;
         Ok(())
     }
 }

@@ -7,6 +7,7 @@
 
 mod answer;
 mod coding;
+mod crew;
 mod done;
 mod frames;
 mod group;
@@ -16,4 +17,5 @@ mod unshown;
 mod whole;
 
 pub use answer::{EncodeError, Summary};
+pub use crew::Crew;
 pub use whole::encode;

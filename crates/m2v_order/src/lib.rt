@@ -8,7 +8,7 @@ mod laws;
 mod reorder;
 mod times;
 
-pub use display::DisplayQueue;
+pub use display::{AnchorQueue, DisplayQueue};
 pub use jobs::{GroupJobs, PictureJob};
 pub use laws::{law_display, law_groups};
 pub use m2v_set::plane;

@@ -1,2 +1,3 @@
+pub mod EightLanes
 pub mod Luma
 pub mod Samples

@@ -5,11 +5,7 @@ use Rattle.std.proofs.lemmas.Bool.Decides.{nat_tests}
 use Rattle.std.proofs.lemmas.List.{get_or-map}
 use Rattle.m2v_pred.specs.m2v_plane.declared.planes.Plane.TheVariants.{Y}
 use Rattle.m2v_idct.specs.Block.{nth}
-use Rattle.m2v_idct.specs.Ranges.{Within}
-use Rattle.m2v_idct.proofs.Passed.{fits}
-use Rattle.std.proofs.lemmas.Int.{ints, clamps, to_z-of_z}
-use mir.Syntax.{w32}
-use mir.Val.{SFits, to_z, of_z}
+use Rattle.std.proofs.lemmas.Int.{ints, clamps}
 use Rattle.m2v_quant.specs.declared.kind.BlockKind.{BlockKind}
 use Rattle.m2v_recon.specs.Macro.{clamped, BlockPlace, block_of, is_alone, is_coded, kind_at, residual}
 use Rattle.m2v_quant.specs.Coefficients.{coefficients_of}
@@ -44,6 +40,9 @@ not_added coded levels kind i x off lt = sym (ap (λ b. rebuilt b levels kind i 
 -- what is clamped needs no clip before
 pub clip_kept : (x : ℕ) (z : ℤ) → x < 2 ^ 8 → plus false x z ≡ plus false x (clip z)
 clip_kept x z small = omega (arith, ints, clamps)
+
+pub alone_kept : (x : ℕ) (z : ℤ) → clamped z ≡ plus true x (clip z)
+alone_kept x z = omega (arith, ints, clamps)
 
 pub added : (coded : Bool) (levels : List ℤ) (kind : BlockKind) (i x : ℕ) (values : List ℤ) → coded ≡ true
     → map clip values ≡ inverse_of (coefficients_of levels kind) → i < length values
@@ -107,13 +106,6 @@ rest_more field block n at old mid new place before low high i other =
             | inr behind ↦ high i behind ∙ stays
           ]
     ]
-
--- a sample's difference fits its type
-pub sample_fits : (z : ℤ) → Within 30000 z → SFits w32 z
-sample_fits z is = fits 30000 z (omega arith) is
-
-pub sample_passed : (z : ℤ) → Within 30000 z → Within 30000 (to_z w32 (of_z w32 z))
-sample_passed z is = rw (to_z-of_z w32 z (sample_fits z is)) is
 
 -- where a luma sample stands among its block's, and back
 pub place_again : (field : Bool) (l c : ℕ) → l < 16 → c < 16

@@ -9,6 +9,7 @@ ghost use Rattle.m2v_pred.specs.m2v_plane.declared.planes.Plane.TheVariants.{Y};
 ghost use Rattle.m2v_recon.specs.Macro.{clamped, is_alone, is_coded, residual, block_of, kind_at};
 ghost use Rattle.m2v_recon.specs.Steps.{luma_line, luma_place, rebuilt};
 
+use crate::lanes::{eight_differences, eight_samples, nearest, plus};
 use m2v_idct::inverse_by_rows;
 use m2v_quant::{BlockKind, BlockLevels};
 use std::simd::prelude::*;
@@ -33,32 +34,6 @@ fn differences<L: BlockLevels>(levels: &L, kind: &BlockKind, out: &mut [i32; 64]
     inverse_by_rows(out, rows);
 }
 
-/// What a difference is added to: nothing in an intra block.
-#[inline(always)]
-fn base(intra: bool, sample: u8) -> u8
-    ensures value { result ≡ cond intra 0 sample }
-{
-    if intra { 0 } else { sample }
-}
-
-/// A sample and its difference.
-#[inline(always)]
-fn clamped_sum(sample: u8, difference: i32) -> u8
-    requires { Within 30000 difference }
-    ensures value { result ≡ clamped (pos sample +ℤ difference) }
-{
-    (i32::from(sample) + difference).clamp(0, 255) as u8
-}
-
-/// A sample and its difference, clipped: what is clamped needs no clip before.
-#[inline(always)]
-fn sum(sample: u8, difference: i32) -> u8
-    requires { Within 30000 difference }
-    ensures value { result ≡ clamped (pos sample +ℤ clip difference) }
-{
-    clamped_sum(sample, difference)
-}
-
 /// Where line k of a luma block begins in 16 lines of 16.
 #[inline(always)]
 fn luma_place(dct_field: bool, block: usize, k: usize) -> usize
@@ -78,20 +53,26 @@ fn luma_place(dct_field: bool, block: usize, k: usize) -> usize
 /// A line of eight samples with what is added to them, or that alone in an intra block. In an array of its own, which
 /// never leaves the registers.
 #[inline(always)]
-fn eight_sums(samples: &[u8], from: usize, intra: bool, values: &[i32; 64], at: usize) -> [u8; 8]
+fn eight_sums<const INTRA: bool>(
+    samples: &[u8],
+    from: usize,
+    values: &[i32; 64],
+    at: usize,
+) -> [u8; 8]
     requires from { from + 8 ≤ length samples.now }
     requires at { at + 8 ≤ 64 }
     requires values { All (Within 30000) values.now }
     ensures { (j : ℕ) → j < 8
         → slice_index result j
-        ≡ clamped (pos (cond intra 0 (slice_index samples.now (from + j)))
+        ≡ clamped (pos (cond INTRA 0 (slice_index samples.now (from + j)))
         +ℤ clip (nth values.now (at + j))) }
 {
-    let mut line = [0; 8];
-    for j in 0..8 {
-        line[j] = sum(base(intra, samples[from + j]), values[at + j]);
+    let differences = i16x8::from_array(eight_differences(values, at));
+    if INTRA {
+        return nearest(differences).to_array();
     }
-    line
+    let samples = i16x8::from_array(eight_samples(samples, from));
+    nearest(plus(samples, differences)).to_array()
 }
 
 /// Eight samples, put by one move.
@@ -118,20 +99,43 @@ fn put_eight(samples: &mut [u8], from: usize, line: &[u8; 8])
 
 /// Adds a line of eight to samples, or puts it in their place in an intra block.
 #[inline(always)]
-fn add_eight(samples: &mut [u8], from: usize, intra: bool, values: &[i32; 64], at: usize)
+fn add_eight<const INTRA: bool>(samples: &mut [u8], from: usize, values: &[i32; 64], at: usize)
     requires from { from + 8 ≤ length samples.old }
     requires at { at + 8 ≤ 64 }
     requires values { All (Within 30000) values.now }
     ensures within { (j : ℕ) → j < 8
         → slice_index samples.new (from + j)
-        ≡ clamped (pos (cond intra 0 (slice_index samples.old (from + j)))
+        ≡ clamped (pos (cond INTRA 0 (slice_index samples.old (from + j)))
         +ℤ clip (nth values.now (at + j))) }
     ensures before { (i : ℕ) → i < from → slice_index samples.new i ≡ slice_index samples.old i }
     ensures behind { (i : ℕ) → from + 8 ≤ i → slice_index samples.new i
         ≡ slice_index samples.old i }
 {
-    let line = eight_sums(samples, from, intra, values, at);
+    let line = eight_sums::<INTRA>(samples, from, values, at);
     put_eight(samples, from, &line);
+}
+
+/// Adds the lines of a luma block to 16 lines of 16 samples. With constants the lines' distances are constants too, and
+/// nothing is asked of each line.
+#[inline(always)]
+fn add_lines<const FIELD: bool, const INTRA: bool>(
+    samples: &mut [u8],
+    block: usize,
+    values: &[i32; 64],
+)
+    requires samples { length samples.old ≡ 256 }
+    requires block { block < 4 }
+    requires values { All (Within 30000) values.now }
+    ensures lines { (k j : ℕ) → k < 8 → j < 8
+        → slice_index samples.new (luma_place FIELD block k + j)
+        ≡ clamped (pos (cond INTRA 0 (slice_index samples.old (luma_place FIELD block k + j)))
+        +ℤ clip (nth values.now (8 * k + j))) }
+    ensures rest { (i : ℕ) → ((k j : ℕ) → k < 8 → j < 8 → i ≢ luma_place FIELD block k + j)
+        → slice_index samples.new i ≡ slice_index samples.old i }
+{
+    for k in 0..8 {
+        add_eight::<INTRA>(samples, luma_place(FIELD, block, k), values, 8 * k);
+    }
 }
 
 /// Adds the lines of a luma block to 16 lines of 16 samples, in frame or in field order.
@@ -147,14 +151,11 @@ fn add_block(samples: &mut [u8], dct_field: bool, block: usize, intra: bool, val
     ensures rest { (i : ℕ) → ((k j : ℕ) → k < 8 → j < 8 → i ≢ luma_place dct_field block k + j)
         → slice_index samples.new i ≡ slice_index samples.old i }
 {
-    for k in 0..8 {
-        add_eight(
-            samples,
-            luma_place(dct_field, block, k),
-            intra,
-            values,
-            8 * k,
-        );
+    match (dct_field, intra) {
+        (false, false) => add_lines::<false, false>(samples, block, values),
+        (false, true) => add_lines::<false, true>(samples, block, values),
+        (true, false) => add_lines::<true, false>(samples, block, values),
+        (true, true) => add_lines::<true, true>(samples, block, values),
     }
 }
 
@@ -221,6 +222,20 @@ pub fn add_luma<L: BlockLevels>(
     }
 }
 
+/// Adds 64 differences to as many samples. With a constant nothing is asked of each line.
+#[inline(always)]
+fn add_rows<const INTRA: bool>(samples: &mut [u8], values: &[i32; 64])
+    requires samples { length samples.old ≡ 64 }
+    requires values { All (Within 30000) values.now }
+    ensures { (i : ℕ) → i < 64
+        → slice_index samples.new i
+        ≡ clamped (pos (cond INTRA 0 (slice_index samples.old i)) +ℤ clip (nth values.now i)) }
+{
+    for k in 0..8 {
+        add_eight::<INTRA>(samples, 8 * k, values, 8 * k);
+    }
+}
+
 /// Adds 64 differences to as many samples, or puts them in their place in an intra block.
 #[inline(always)]
 fn add_all(samples: &mut [u8], intra: bool, values: &[i32; 64])
@@ -230,8 +245,10 @@ fn add_all(samples: &mut [u8], intra: bool, values: &[i32; 64])
         → slice_index samples.new i
         ≡ clamped (pos (cond intra 0 (slice_index samples.old i)) +ℤ clip (nth values.now i)) }
 {
-    for k in 0..8 {
-        add_eight(samples, 8 * k, intra, values, 8 * k);
+    if intra {
+        add_rows::<true>(samples, values);
+    } else {
+        add_rows::<false>(samples, values);
     }
 }
 

@@ -3,6 +3,7 @@
 #![tactic(auto)]
 
 mod differences;
+mod lanes;
 mod macroblock;
 
 pub use differences::is_coded;

@@ -1,12 +1,12 @@
 //! The best place of a window: in whole samples first, and then half a sample around it.
-ghost use Rattle.std.specs.Prelude.{◌≡◌, ◌+◌, ◌*◌, ◌≤◌, ◌⊎◌, length};
-ghost use Rattle.m2v_search.specs.Spots.{spot_sad, middle, whole_spot, half_spot, IsNear};
+ghost use Rattle.std.specs.Prelude.{◌≡◌, ◌+◌, ◌*◌, ◌≤◌, ◌<◌, ◌⊎◌, length};
+ghost use Rattle.m2v_search.specs.Spots.{spot_sad, whole_spot, half_spot, IsNear};
 
 use crate::difference::sad_of;
 use crate::passing::best_by_bounds;
 use crate::scan::best_of;
-use crate::scratch::SearchScratch;
-use crate::spot::{Area, Best, Spot, within_reach};
+use crate::scratch::{Likely, SearchScratch, with_found};
+use crate::spot::{Area, Best, Places, Spot, within_reach};
 
 /// The best place of the window: of all in whole samples, and then of those half a sample around it.
 pub fn best_spot(
@@ -16,6 +16,7 @@ pub fn best_spot(
     area: Area,
     across: u32,
     down: u32,
+    kind: usize,
 ) -> Best
     requires count { (count ≡ 8) ⊎ (count ≡ 16) }
     requires block { length block.now ≡ 16 * count }
@@ -28,20 +29,15 @@ pub fn best_spot(
     requires right { 32 ≤ area.right }
     requires high { area.bottom ≤ 3 * count }
     requires wide { area.right ≤ 48 }
+    requires kind { kind < 6 }
     ensures spot { result.spot ≡ half_spot (spot_sad block.now count scratch.old.window) count area
         (whole_spot (spot_sad block.now count scratch.old.window) count area across down) }
     ensures sad { result.sad ≡ spot_sad block.now count scratch.old.window result.spot }
     ensures near { IsNear count area (2 * across + 1) (2 * down + 1) result.spot }
 {
-    let spot = Spot {
-        y: 2 * count,
-        x: 32,
-    };
-    let best = Best {
-        spot,
-        sad: sad_of(block, count as usize, &scratch.window, spot),
-    };
-    let best = best_whole(block, count, scratch, area, across, down, best);
+    let likely = scratch.likely[kind];
+    let best = best_whole(block, count, scratch, area, across, down, likely);
+    scratch.likely[kind] = with_found(likely, best.spot);
     best_half(
         block,
         count,
@@ -61,7 +57,7 @@ fn best_whole(
     area: Area,
     across: u32,
     down: u32,
-    best: Best,
+    likely: Likely,
 ) -> Best
     requires count { (count ≡ 8) ⊎ (count ≡ 16) }
     requires block { length block.now ≡ 16 * count }
@@ -74,17 +70,24 @@ fn best_whole(
     requires right { 32 ≤ area.right }
     requires high { area.bottom ≤ 3 * count }
     requires wide { area.right ≤ 48 }
-    requires middle { best.spot ≡ middle count }
-    requires known { best.sad ≡ spot_sad block.now count scratch.old.window best.spot }
     ensures spot { result.spot ≡ whole_spot (spot_sad block.now count scratch.old.window) count area
         across down }
     ensures sad { result.sad ≡ spot_sad block.now count scratch.old.window result.spot }
     ensures near { IsNear count area (2 * across) (2 * down) result.spot }
     ensures same { scratch.new.window ≡ scratch.old.window }
 {
+    let spot = Spot {
+        y: 2 * count,
+        x: 32,
+    };
+    let best = Best {
+        spot,
+        sad: sad_of(block, count as usize, &scratch.window, spot),
+    };
     let lines = within_reach(count, down, area.top, area.bottom, count);
     let columns = within_reach(16, across, area.left, area.right, 16);
-    best_by_bounds(block, count as usize, scratch, lines, columns, best)
+    let places = Places { lines, columns };
+    best_by_bounds(block, count as usize, scratch, places, likely, best)
 }
 
 /// The best place half a sample around one, that one first.

@@ -4,9 +4,11 @@
 
 mod best;
 mod difference;
+mod far;
 mod form;
 mod half;
 mod laws;
+mod marks;
 mod parts;
 mod passing;
 mod scan;

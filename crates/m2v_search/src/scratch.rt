@@ -1,22 +1,53 @@
-//! What a search writes before it reads it.
+//! What a search writes before it reads it, and where the searches before found the best places.
+use crate::spot::Spot;
 
-/// Room for the samples around a macroblock and for bounds of the difference at each place. A search reads of it only what
+/// The best places in whole samples that the last two searches of a kind found, from the corner of the window. Two, since
+/// searches in two references go by turns. Any place serves: a search only looks there first.
+#[derive(Clone, Copy)]
+pub struct Likely {
+    /// The last one.
+    pub last: Spot,
+    /// The one before it.
+    pub before: Spot,
+}
+
+/// Room for the samples around a macroblock and for sums over its parts at each place. A search reads of these only what
 /// it has written, so one serves any number of searches, and none clears it.
 #[derive(Drop)]
 pub struct SearchScratch {
     /// The samples around the macroblock, 48 lines of 48.
     pub window: [u8; 2304],
-    /// A bound of the difference at each place, 32 lines of 32.
-    pub bounds: [u16; 1024],
+    /// The sums over parts at each place, 40 lines of 48.
+    pub sums: [u16; 1920],
+    /// Likely places, by the kind of search.
+    pub likely: [Likely; 6],
 }
 
 impl SearchScratch {
     /// Room for searches.
     #[inline(always)]
     pub fn new() -> SearchScratch {
+        let corner = Spot { y: 0, x: 0 };
+        let none = Likely {
+            last: corner,
+            before: corner,
+        };
         SearchScratch {
             window: [0; 2304],
-            bounds: [0; 1024],
+            sums: [0; 1920],
+            likely: [none, none, none, none, none, none],
         }
+    }
+}
+
+/// The likely places with one more.
+#[inline(always)]
+pub fn with_found(likely: Likely, found: Spot) -> Likely {
+    Likely {
+        last: Spot {
+            y: found.y / 2,
+            x: found.x / 2,
+        },
+        before: likely.last,
     }
 }

@@ -6,7 +6,7 @@ ghost use Rattle.m2v_search.specs.Search.{block_lines, vector_sad, vector_inside
 ghost use Rattle.m2v_search.specs.Near.{IsFormIn, HasNear, Reaches};
 
 use crate::best::best_spot;
-use crate::form::{SearchForm, block_lines, reach};
+use crate::form::{SearchForm, block_lines, kind, reach};
 use crate::scratch::SearchScratch;
 use crate::spot::Best;
 use crate::window::{area_of, own_lines, samples_around};
@@ -105,6 +105,7 @@ pub fn best_vector_in<V: RefView>(
         area,
         search,
         reach(form, search),
+        kind(form),
     );
     vector_found(best, lines.count)
 }

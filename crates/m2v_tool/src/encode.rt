@@ -17,7 +17,7 @@ use crate::words::{
 };
 use clap::{ArgMatches, Command};
 use m2v_board::Gate;
-use m2v_make::encode::{EncodeError, Summary, encode};
+use m2v_make::encode::{Crew, EncodeError, Summary, encode};
 use m2v_port::{NamedSink, PortError, Sink, Source, SureFile};
 use m2v_set::{Level, Passed, Planning, Scan, Settings, Unfit};
 use std::alloc::{AllocError, Global};
@@ -321,14 +321,12 @@ fn encoded_alone<R: Threads + Wait + Sync, S: Source, K: Sink, N: NamedSink, G: 
 
 /// Opens the place for reconstructions under this name, and codes the raw frames of the input.
 fn encoded_beside<R: Threads + Wait + Sync, S: Source, K: Sink, N: NamedSink, G: Gate + Sync>(
-    rt: &R,
-    alloc: Global,
+    crew: &Crew<R, G>,
     passed: &Passed,
     name: &str,
     input: &mut S,
     output: &mut K,
     recon: &mut N,
-    gate: &G,
 ) -> EncodeOutcome
     requires output { IsTrue (K.ready output.old) }
     requires recon { IsFalse (N.ready recon.old) }
@@ -350,7 +348,8 @@ fn encoded_beside<R: Threads + Wait + Sync, S: Source, K: Sink, N: NamedSink, G:
         Ok(()) => {}
         Err(error) => return EncodeOutcome::Unopened(error),
     }
-    match encode(rt, alloc, passed, input, output, Some(recon), gate) {
+    let Crew { rt, alloc, gate } = crew;
+    match encode(*rt, *alloc, passed, input, output, Some(recon), *gate) {
         Ok(summary) => EncodeOutcome::Coded(summary),
         Err(error) => EncodeOutcome::Stopped(error),
     }
@@ -387,7 +386,8 @@ pub(crate) fn encoded<R: Threads + Wait + Sync, S: Source, K: Sink, N: NamedSink
     match &meant.recon {
         Some(name) => {
             let name = name.as_str();
-            encoded_beside(rt, alloc, &passed, name, input, output, recon, gate)
+            let crew = Crew { rt, alloc, gate };
+            encoded_beside(&crew, &passed, name, input, output, recon)
         }
         None => encoded_alone(rt, alloc, &passed, input, output, recon, gate),
     }

@@ -1,21 +1,11 @@
-use Rattle.std.proofs.Common.{ℕ, ◌≡◌, ◌∙◌, sym, ap, subst, rules}
-use Rattle.std.specs.Prelude.{length, replicate}
+use Rattle.std.proofs.Common.{◌∙◌, sym, ap, subst}
 use Rattle.m2v_pred.specs.declared.mode.Mode.{Mode}
 use Rattle.m2v_pred.specs.declared.mode.MbPlace.{MbPlace}
 use Rattle.m2v_pred.specs.Predicted.{block_by, predicted}
 use Rattle.m2v_macroblock.specs.Modes.{mode_of}
 use Rattle.m2v_dec_picture.specs.Conditions.{CanPredict, place_in}
-use Rattle.m2v_dec_picture.proofs.RuleLaws.{own_can, own_some, own_intra, own_prediction}
+use Rattle.m2v_dec_picture.proofs.RuleLaws.{own_can, own_some, own_prediction}
 use Rattle.m2v_dec_picture.proofs.paint.predict_own.Goals as goal
-
-pub returns-then-x : goal.returns-then-x
-returns-then-x g c =
-    let s = c.args.basis.now.setup.now in
-    let f = g.V.RefView.at c.args.basis.now.forward.now in
-    let b = g.V.RefView.at c.args.basis.now.backward.now in
-    let long : length c.args.block.now.at ≡ 384 = search rules in
-    let clear = c.fill.ensures.after (λ y e. e) ∙ ap (λ (n : ℕ). replicate n 0) long in
-    record { value = clear ∙ sym (own_intra f b s.context (place_in s c.args.row c.args.x.now.column) c.args.x.now.syntax c.if-x.true) }
 
 pub predict-requires-clause-can : goal.predict-requires-clause-can
 predict-requires-clause-can g c =
@@ -32,7 +22,7 @@ returns g c =
     let f = g.V.RefView.at c.args.basis.now.forward.now in
     let b = g.V.RefView.at c.args.basis.now.backward.now in
     record {
-      value = c.predict.ensures.value
+      value = λ e. c.predict.ensures.value
           ∙ ap (λ (mode : Mode). block_by (predicted f b mode c.place.result)) c.requires.mode
           ∙ ap (λ (at : MbPlace). block_by (predicted f b (mode_of s.context c.args.x.now.syntax) at)) c.place.ensures
           ∙ sym (own_prediction f b s.context (place_in s c.args.row c.args.x.now.column) c.args.x.now.syntax c.if-x.false);

@@ -1,5 +1,6 @@
-use Rattle.std.proofs.Common.{ℕ, ◌≤◌, length, arith, List, [], ◌++◌, drop, sym, ap, subst, ◌∙◌}
-use Rattle.m2v_dec_piece.specs.Cutting.{Held, Fits, PieceStops, pieces_behind, start_behind}
+use Rattle.std.proofs.lemmas.List.{length-drop}
+use Rattle.std.proofs.Common.{ℕ, ◌+◌, ◌≤◌, length, arith, List, [], ◌++◌, drop, sym, ap, subst, ◌∙◌}
+use Rattle.m2v_dec_piece.specs.Cutting.{Held, Fits, PieceStops, pieces_behind, start_behind, taken_by}
 use Rattle.m2v_dec_piece.specs.declared.taking.Byte.{Byte}
 use Rattle.m2v_dec_piece.specs.Stepping.{Takes, IsWhole, IsLast}
 use Rattle.m2v_dec_piece.proofs.Stands.{by_first, whole_stood, last_stood, reading_stops}
@@ -22,9 +23,10 @@ returns-in-Ok-Whole-clause-ok c =
       λ rest.
           let e = by_first c.args.chunk.now rest c.first-b.result c.requires.some c.first-b.ensures in
           let s = whole_stood h c.take.new.hand c.first-b.result (drop 1 c.args.chunk.now ++ rest) w in
-          rw (← e) (s.0, s.1, ap (λ (x : Held). x.ahead) w.same ∙ w.ahead),
+          rw (← e) (s.0, s.1, ap (λ (x : Held). x.ahead) w.same ∙ w.ahead, s.2),
       subst (λ (x : Held). 1 ≤ length x.sure) (sym w.same) (c.ahead-held.ensures.picture w.phase),
       omega (arith, ap (λ (x : Held). x.place) w.same),
+      ap (λ (x : Held). taken_by x + length c.args.chunk.now) w.same,
     )
 
 pub returns-in-Ok-Last-clause-ok : goal.returns-in-Ok-Last-clause-ok
@@ -35,7 +37,8 @@ returns-in-Ok-Last-clause-ok c =
       λ rest.
           let e = by_first c.args.chunk.now rest c.first-b.result c.requires.some c.first-b.ensures in
           let s = last_stood h c.take.new.hand c.first-b.result (drop 1 c.args.chunk.now ++ rest) l in
-          rw (← e) (s.0, s.1),
+          rw (← e) (s.0, s.1, s.2 ∙ ap (λ (x : List ℕ). x ++ rest) (sym c.skip.ensures), l.ends.ahead),
       l.ends.some,
       omega (arith, l.ends.place),
+      omega (arith, l.ends.more, ap length c.skip.ensures, length-drop 1 c.args.chunk.now, c.requires.some),
     )

@@ -1,19 +1,19 @@
-use Rattle.std.proofs.Common.{arith}
-use Rattle.m2v_idct.specs.Block.{nth}
-use Rattle.m2v_idct.specs.Inverse.{clip}
-use Rattle.m2v_recon.proofs.Luma.{lines_more, rest_more}
+use Rattle.std.proofs.Common.{◌≢◌, ◌+◌, Bool, subst}
+use Rattle.m2v_recon.specs.Steps.{luma_place}
 use Rattle.m2v_recon.proofs.differences.add_block.Goals as goal
 
-pub loop-k-preserved : goal.loop-k-preserved
-loop-k-preserved c =
-    let w = c.add_eight.ensures in
-    let n = c.loop-k.k in
-    record {
-      lines = lines_more c.args.dct_field c.args.block n c.luma_place.result c.args.intra c.args.samples.now c.loop-k.samples c.add_eight.new.samples (λ i. clip (nth c.args.values.now i))
-          c.luma_place.ensures.value c.loop-k.invariant.lines c.loop-k.invariant.rest w.within w.before;
-      rest = rest_more c.args.dct_field c.args.block n c.luma_place.result c.args.samples.now c.loop-k.samples c.add_eight.new.samples
-          c.luma_place.ensures.value c.loop-k.invariant.rest w.before w.behind;
-    }
+pub returns-in-true-true-clause-rest : goal.returns-in-true-true-clause-rest
+returns-in-true-true-clause-rest c i other =
+    c.add_lines.ensures.rest i (λ k j lt small. subst (λ (f : Bool). i ≢ luma_place f c.args.block k + j) c.in-true-true.is-0 (other k j lt small))
 
-pub returns-clause-rest : goal.returns-clause-rest
-returns-clause-rest c = λ i other. c.loop-k.invariant.rest i (λ k j lt small. other k j (omega arith) small)
+pub returns-in-true-false-clause-rest : goal.returns-in-true-false-clause-rest
+returns-in-true-false-clause-rest c i other =
+    c.add_lines-in-true-false.ensures.rest i (λ k j lt small. subst (λ (f : Bool). i ≢ luma_place f c.args.block k + j) c.in-true-false.is-0 (other k j lt small))
+
+pub returns-in-false-true-clause-rest : goal.returns-in-false-true-clause-rest
+returns-in-false-true-clause-rest c i other =
+    c.add_lines-in-false-true.ensures.rest i (λ k j lt small. subst (λ (f : Bool). i ≢ luma_place f c.args.block k + j) c.in-false-true.is-0 (other k j lt small))
+
+pub returns-in-false-false-clause-rest : goal.returns-in-false-false-clause-rest
+returns-in-false-false-clause-rest c i other =
+    c.add_lines-in-false-false.ensures.rest i (λ k j lt small. subst (λ (f : Bool). i ≢ luma_place f c.args.block k + j) c.in-false-false.is-0 (other k j lt small))

@@ -1,30 +1,42 @@
-use Rattle.std.proofs.Common.{◌≡◌, ◌≢◌, ◌+◌, ◌<◌, ◌∙◌, length, set, arith, ap, w32, get_or-set_other, get_or-set_same, below_more, ◌+ℤ◌, pos}
-use Rattle.std.proofs.lemmas.Int.{to_z-of_z}
-use Rattle.std.proofs.Math.ListN.{length-set}
-use mir.Val.{SFits}
+use Rattle.std.proofs.Common.{not, nat_eq, ◌≡◌, ◌≢◌, ℕ, true, ◌+◌, ◌∙◌, arith, ap, rules, sym, ◌+ℤ◌}
+use Rattle.std.proofs.lemmas.Bool.{ne_eqb}
 use Rattle.m2v_idct.specs.Block.{nth}
 use Rattle.m2v_idct.specs.Inverse.{clip}
 use Rattle.m2v_recon.specs.Macro.{clamped}
-use Rattle.m2v_recon.proofs.Luma.{sample_fits, sample_passed, spot, plus}
+use Rattle.m2v_recon.proofs.EightLanes.{alone_at, passed_within, sum_at}
+use Rattle.m2v_recon.proofs.Luma.{alone_kept, clip_kept, spot, plus}
 use Rattle.m2v_recon.proofs.differences.eight_sums.Goals as goal
 
-pub sum-requires : goal.sum-requires
-sum-requires c = sample_passed _ (c.requires.values (c.args.at + c.loop-j.j) (pos 0) (omega arith))
+-- a constant that isn't 0 is true
+is_set : (n : ℕ) → n ≢ 0 → not (nat_eq n 0) ≡ true
+is_set n some = ap not (ne_eqb n 0 some)
 
-pub loop-j-preserved : goal.loop-j-preserved
-loop-j-preserved c =
-    let n = c.loop-j.j in
-    let from = c.args.from in
-    let d = c.args.values.now in
-    let mid = c.loop-j.line in
-    let old = c.args.samples.now in
-    let fits : SFits w32 (nth d (c.args.at + n)) = sample_fits (nth d (c.args.at + n)) (c.requires.values (c.args.at + n) (pos 0) (omega arith)) in
-    let value = simp to_z-of_z at c.sum.ensures.value in
-    let len : length mid ≡ 8 = c.loop-j.invariant.len in
-    let inside : n < length mid = omega arith in
-    record {
-      len = simp length-set len;
-      done = below_more (λ k. spot (set mid n c.sum.result) k ≡ plus c.args.intra (spot old (from + k)) (clip (nth d (c.args.at + k)))) n
-          (λ k lt. let other : k ≢ n = omega arith in rw get_or-set_other (c.loop-j.invariant.done k lt))
-          (rw get_or-set_same (value ∙ ap (λ x. clamped (pos x +ℤ clip (nth d (c.args.at + n)))) c.base.ensures.value));
-    }
+pub nearest-requires-clause-within : goal.nearest-requires-clause-within
+nearest-requires-clause-within g c = passed_within 30000 30255 c.eight_differences-differences.result (omega arith) (omega arith) c.eight_differences-differences.ensures.within
+
+pub returns-then-this-ne0 : goal.returns-then-this-ne0
+returns-then-this-ne0 g c j lt =
+    let d = nth c.args.values.now (c.args.at + j) in
+    alone_at c.nearest.result c.eight_differences-differences.result j (search rules) c.eight_differences-differences.ensures.within c.nearest.ensures lt
+    ∙ ap clamped (c.eight_differences-differences.ensures.value j lt)
+    ∙ alone_kept (spot c.args.samples.now (c.args.from + j)) d
+    ∙ ap (λ b. plus b (spot c.args.samples.now (c.args.from + j)) (clip d)) (sym (is_set g.row.INTRA c.if-this-ne0.true))
+
+pub plus-requires-clause-x : goal.plus-requires-clause-x
+plus-requires-clause-x g c = passed_within 255 255 c.eight_samples-samples.result (omega arith) (omega arith) c.eight_samples-samples.ensures.within
+
+pub plus-requires-clause-y : goal.plus-requires-clause-y
+plus-requires-clause-y g c = passed_within 30000 30000 c.eight_differences-differences.result (omega arith) (omega arith) c.eight_differences-differences.ensures.within
+
+pub nearest-requires-2-clause-within : goal.nearest-requires-2-clause-within
+nearest-requires-2-clause-within g c = passed_within 30255 30255 c.plus.result (omega arith) (omega arith) c.plus.ensures.within
+
+pub returns : goal.returns
+returns g c j lt =
+    let d = nth c.args.values.now (c.args.at + j) in
+    let x = spot c.args.samples.now (c.args.from + j) in
+    sum_at c.nearest-2.result c.plus.result c.eight_samples-samples.result c.eight_differences-differences.result j (search rules) (search rules)
+    c.eight_samples-samples.ensures.within c.eight_differences-differences.ensures.within c.plus.ensures.within c.plus.ensures.value c.nearest-2.ensures lt
+    ∙ (λ i. clamped (c.eight_samples-samples.ensures.value j lt i +ℤ c.eight_differences-differences.ensures.value j lt i))
+    ∙ clip_kept x d (c.type_inv.samples (c.args.from + j)).fits
+    ∙ ap (λ n. plus (not (nat_eq n 0)) x (clip d)) (sym c.if-this-ne0.false)

@@ -1,6 +1,6 @@
 use Rattle.std.proofs.Common.{◌≡◌, ◌*◌, ◌∙◌, arith, sym, subst}
 use Rattle.m2v_search.specs.Least.{least}
-use Rattle.m2v_search.specs.Spots.{spots, spot_sad, whole_spot, IsNear}
+use Rattle.m2v_search.specs.Spots.{spots, spot_sad, middle, whole_spot, IsNear}
 use Rattle.m2v_search.proofs.Near.{whole_near}
 use Rattle.m2v_search.proofs.best.best_whole.Goals as goal
 
@@ -9,7 +9,7 @@ unfolding whole_spot
 returns c =
     let cost = spot_sad c.args.block.now c.args.count c.args.scratch.now.window in
     let is : c.best_by_bounds.result.spot ≡ whole_spot cost c.args.count c.args.area c.args.across c.args.down =
-    c.best_by_bounds.ensures.spot ∙ (λ i. least cost (c.requires.middle i) (spots 2 (c.within_reach-lines.ensures.value i) (c.within_reach-columns.ensures.value i))) in
+    c.best_by_bounds.ensures.spot ∙ (λ i. least cost (middle c.args.count) (spots 2 (c.within_reach-lines.ensures.value i) (c.within_reach-columns.ensures.value i))) in
     record {
       spot = is;
       sad = c.best_by_bounds.ensures.sad;

@@ -7,7 +7,7 @@ pub try_uncoded-requires-clause-whole : goal.try_uncoded-requires-clause-whole
 try_uncoded-requires-clause-whole c =
     let s = c.args.task.now.source.now.at in
     let p = c.args.plain.now.prediction.now.at in
-    c.uncoded_squares-whole.ensures.value ∙ uncoded_known 0 false s p c.args.plain.now.frame.now c.requires.squares.frame ∙ all_uncoded false s p
+    c.uncoded_squares-whole.ensures.value ∙ uncoded_known 0 false s p c.args.plain.now.frame.now c.requires.measured.frame ∙ all_uncoded false s p
 
 pub returns : goal.returns
 returns c = record {

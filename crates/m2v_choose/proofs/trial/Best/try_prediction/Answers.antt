@@ -1,6 +1,26 @@
+use Rattle.std.proofs.Common.{◌*◌, ◌^◌, ◌∙◌, true, false}
 use Rattle.m2v_choose.specs.Trials.{references_of}
 use Rattle.m2v_choose.proofs.Predicted.{samples_told}
+use Rattle.m2v_choose.proofs.Cheapest.{least_known}
 use Rattle.m2v_choose.proofs.trial.Best.try_prediction.Goals as goal
+
+pub try_predicted-requires-clause-measured : goal.try_predicted-requires-clause-measured
+try_predicted-requires-clause-measured g c =
+    let t = c.args.task.now in
+    let bit = (2 * t.limits.now.q) ^ 2 in
+    let n = c.header_bits-header.result in
+    let s = t.source.now.at in
+    let p = c.predict_moving.new.out.at in
+    record {
+      frame = c.part_squares.ensures;
+      field = c.field_squares.ensures;
+      least = record { header = n; bits = c.header_bits-header.ensures; value = c.least_score.ensures.value ∙ least_known bit n false s p c.part_squares.new.out c.part_squares.ensures };
+      field_least = λ has. record {
+        header = n;
+        bits = c.header_bits-header.ensures;
+        value = c.field_least.ensures has ∙ least_known bit n true s p c.field_squares.new.out (c.field_squares.ensures has);
+      };
+    }
 
 pub returns : goal.returns
 returns g c = record {

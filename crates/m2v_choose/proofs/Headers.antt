@@ -1,0 +1,275 @@
+-- The bits before the blocks of a macroblock that has a prediction: with coded blocks at least one more than without.
+use Rattle.std.proofs.Common.{◌≡◌, ℕ, zero, suc, ◌+◌, ◌≤◌, ◌<◌, Bool, true, false, ◌&&◌, ◌||◌, not, ◌⊎◌, inl, inr, [], ◌∷◌, ◌++◌, length, refl, ap, sym, ◌∙◌, subst, arith}
+use Rattle.std.specs.Prelude.{nat_le, nat_eq, if◌then◌else◌}
+use Rattle.std.proofs.lemmas.Bool.{leb-true, eqb-true, cases_eq}
+use Rattle.std.proofs.lemmas.List.{length-append}
+use Rattle.m2v_bits.specs.Bits.{bits_of}
+use Rattle.m2v_bits.proofs.Bits.{length-bits_of}
+use Rattle.m2v_bits.proofs.Texts.{left_length}
+use Rattle.m2v_recon.specs.Macro.{is_coded}
+use Rattle.m2v_vlc.specs.declared.values.MbType.{MbType}
+use Rattle.m2v_vlc.specs.Codes.{code_of}
+use Rattle.m2v_vlc.specs.Tables.{type_p, type_p_code, type_b, type_b_code, block_pattern, pattern_code}
+use Rattle.m2v_vlc.specs.Values.{has_type_i, has_type_p, has_type_b}
+use Rattle.m2v_vlc.proofs.ValueLaws.{below, agree}
+use Rattle.m2v_macro.specs.declared.values.MacroSyntax.{MacroSyntax}
+use Rattle.m2v_macro.specs.declared.values.SliceState.{SliceState}
+use Rattle.m2v_macro.specs.declared.values.PictureContext.{PictureContext}
+use Rattle.m2v_macro.specs.States.{after, is_field, pmv_before}
+use Rattle.m2v_macro.specs.Macros.{has_form, has_dct}
+use Rattle.m2v_macro.specs.Conditions.{IsMacro, has_type}
+use Rattle.m2v_macro.proofs.Types.{of_i, of_p, of_b}
+use Rattle.m2v_macro.specs.Texts.{macro_text, modes_text, directions_text, pattern_text, kind_text, increment_text, form_text, dct_text, quantiser_text, marker_text}
+use Rattle.m2v_macroblock.specs.Macroblocks.{Macroblock}
+use Rattle.m2v_macroblock.specs.Texts.{block_in_text, blocks_text, macroblock_text}
+use Rattle.m2v_choose.specs.Trials.{with_blocks}
+
+-- ---- types
+
+abbrev bare_kind : Bool → Bool → MbType
+bare_kind f b = record { quant = false; forward = f; backward = b; pattern = false; intra = false }
+
+abbrev coded_kind : Bool → Bool → Bool → MbType
+coded_kind f b send = record { quant = send; forward = f; backward = b; pattern = true; intra = false }
+
+types_p : (f b send : Bool) → has_type_p (bare_kind f b) ≡ true → length (type_p_code (bare_kind f b)) ≤ length (type_p_code (coded_kind f b send)) + 2
+unfolding type_p code_of
+types_p true false true e = omega (arith, length-bits_of 3 1, length-bits_of 5 2)
+types_p true false false e = omega (arith, length-bits_of 3 1, length-bits_of 1 1)
+types_p true true send e = absurd cc
+types_p false true send e = absurd cc
+types_p false false send e = absurd cc
+
+types_b : (f b send : Bool) → has_type_b (bare_kind f b) ≡ true → length (type_b_code (bare_kind f b)) ≤ length (type_b_code (coded_kind f b send)) + 2
+unfolding type_b code_of
+types_b true false true e = omega (arith, length-bits_of 4 2, length-bits_of 6 3)
+types_b true false false e = omega (arith, length-bits_of 4 2, length-bits_of 4 3)
+types_b true true true e = omega (arith, length-bits_of 2 2, length-bits_of 5 2)
+types_b true true false e = omega (arith, length-bits_of 2 2, length-bits_of 2 3)
+types_b false true true e = omega (arith, length-bits_of 3 2, length-bits_of 6 2)
+types_b false true false e = omega (arith, length-bits_of 3 2, length-bits_of 3 3)
+types_b false false send e = absurd cc
+
+-- a type with blocks has at most two bits fewer than the same one without
+kinds_near : (k : ℕ) (f b send : Bool) → (k ≡ 2) ⊎ (k ≡ 3) → has_type k (bare_kind f b) ≡ true → length (kind_text k (bare_kind f b)) ≤ length (kind_text k (coded_kind f b send)) + 2
+unfolding has_type kind_text
+kinds_near k f b send (inl two) has = rw two (types_p f b send (rw two at has))
+kinds_near k f b send (inr three) has = rw three (types_b f b send (rw three at has))
+
+-- ---- patterns
+
+either_true : (a b : Bool) → (a || b) ≡ true → (a ≡ true) ⊎ (b ≡ true)
+either_true true b e = inl refl
+either_true false b e = inr e
+
+unfoldable is_long : ℕ → Bool
+is_long p = nat_eq p 0 || nat_le 3 (length (pattern_code p))
+
+all_long : below is_long 64 ≡ below (λ p. true) 64
+unfolding below is_long code_of block_pattern bits_of
+all_long = refl
+
+some_long : (p : ℕ) → 0 < p → p < 64 → 3 ≤ length (pattern_code p)
+unfolding is_long
+some_long p some most = elim (either_true (nat_eq p 0) (nat_le 3 (length (pattern_code p))) (agree is_long (λ p. true) 64 p all_long most)) [
+  | inl none ↦ absurd (omega (arith, eqb-true p 0 none, some))
+  | inr long ↦ leb-true 3 (length (pattern_code p)) long
+]
+
+-- ---- the elements before the blocks
+
+-- a macroblock that has a prediction and no blocks
+pub record IsBare (m : MacroSyntax) : Type 0 where
+  pub quant : m.kind.quant ≡ false
+  pub pattern : m.kind.pattern ≡ false
+  pub intra : m.kind.intra ≡ false
+
+pub text_length : (c : PictureContext) (st : SliceState) (x : MacroSyntax) → length (macro_text c st x)
+    ≡ length (increment_text x.increment) + (length (kind_text c.kind x.kind) + (length (form_text c x.kind x.form)
+    + (length (dct_text c x.kind x.dct_field) + length (quantiser_text x.kind x.quantiser))))
+    + (length (directions_text c (pmv_before c st x.increment) x) + length (pattern_text x.kind x.pattern))
+unfolding macro_text modes_text
+text_length c st x =
+    let quant = quantiser_text x.kind x.quantiser in
+    let dct = dct_text c x.kind x.dct_field in
+    let form = form_text c x.kind x.form in
+    let kind = kind_text c.kind x.kind in
+    let inc = increment_text x.increment in
+    let directions = directions_text c (pmv_before c st x.increment) x in
+    let pattern = pattern_text x.kind x.pattern in
+    omega (
+      arith,
+      length-append (inc ++ (kind ++ (form ++ (dct ++ quant)))) (directions ++ pattern),
+      length-append directions pattern,
+      length-append inc (kind ++ (form ++ (dct ++ quant))),
+      length-append kind (form ++ (dct ++ quant)),
+      length-append form (dct ++ quant),
+      length-append dct quant,
+    )
+
+module _ (c : PictureContext) (st : SliceState) (m : MacroSyntax) (bare : IsBare m) where
+  kind_is : m.kind ≡ bare_kind m.kind.forward m.kind.backward
+  kind_is = λ i. record { quant = bare.quant i; forward = m.kind.forward; backward = m.kind.backward; pattern = bare.pattern i; intra = bare.intra i }
+
+  no_dct : dct_text c m.kind m.dct_field ≡ []
+  unfolding dct_text has_dct
+  no_dct = rw (bare.intra, bare.pattern) (none (is_field c) c.extension.frame_pred_frame_dct)
+    where
+      none : (f p : Bool) → (if not f && (not p && (false || false)) then m.dct_field ∷ [] else []) ≡ []
+      none true p = refl
+      none false true = refl
+      none false false = refl
+
+  no_quantiser : quantiser_text m.kind m.quantiser ≡ []
+  unfolding quantiser_text
+  no_quantiser = rw bare.quant refl
+
+  no_pattern : pattern_text m.kind m.pattern ≡ []
+  unfolding pattern_text
+  no_pattern = rw (bare.intra, bare.pattern) refl
+
+  module _ (send : Bool) (q : ℕ) (dct_field : Bool) (pattern : ℕ) where
+    coded_is : (with_blocks m send q dct_field pattern).kind ≡ coded_kind m.kind.forward m.kind.backward send
+    coded_is = λ i. record { quant = send; forward = m.kind.forward; backward = m.kind.backward; pattern = true; intra = bare.intra i }
+
+    same_directions : directions_text c (pmv_before c st m.increment) (with_blocks m send q dct_field pattern) ≡ directions_text c (pmv_before c st m.increment) m
+    unfolding directions_text marker_text
+    same_directions = refl
+
+    same_form : form_text c (with_blocks m send q dct_field pattern).kind m.form ≡ form_text c m.kind m.form
+    unfolding form_text has_form
+    same_form = refl
+
+    pattern_is : pattern_text (with_blocks m send q dct_field pattern).kind pattern ≡ pattern_code pattern
+    unfolding pattern_text
+    pattern_is = rw bare.intra refl
+
+    -- with coded blocks it has at least one bit more
+    pub header_least : (c.kind ≡ 2) ⊎ (c.kind ≡ 3) → has_type c.kind m.kind ≡ true → 0 < pattern → pattern < 64
+        → length (macro_text c st m) + 1 ≤ length (macro_text c st (with_blocks m send q dct_field pattern))
+    header_least kind has some most =
+        let x = with_blocks m send q dct_field pattern in
+        let near = kinds_near c.kind m.kind.forward m.kind.backward send kind (subst (λ (k : MbType). has_type c.kind k ≡ true) kind_is has) in
+        omega (
+          arith,
+          text_length c st m,
+          text_length c st x,
+          near,
+          some_long pattern some most,
+          ap (λ (k : MbType). length (kind_text c.kind k)) kind_is,
+          ap (λ (k : MbType). length (kind_text c.kind k)) coded_is,
+          ap length no_dct,
+          ap length no_quantiser,
+          ap length no_pattern,
+          ap length same_directions,
+          ap length same_form,
+          ap length pattern_is,
+        )
+
+-- ---- without blocks
+
+no_quant_p : (a f b : Bool) → has_type_p (record { quant = a; forward = f; backward = b; pattern = false; intra = false }) ≡ true → a ≡ false
+no_quant_p false f b e = refl
+no_quant_p true true true e = absurd cc
+no_quant_p true true false e = absurd cc
+no_quant_p true false true e = absurd cc
+no_quant_p true false false e = absurd cc
+
+no_quant_b : (a f b : Bool) → has_type_b (record { quant = a; forward = f; backward = b; pattern = false; intra = false }) ≡ true → a ≡ false
+no_quant_b false f b e = refl
+no_quant_b true true true e = absurd cc
+no_quant_b true true false e = absurd cc
+no_quant_b true false true e = absurd cc
+no_quant_b true false false e = absurd cc
+
+-- a macroblock without blocks that has a prediction and can stand in a picture
+module _ (c : PictureContext) (st : SliceState) (m : MacroSyntax) (fits : IsMacro c st m) (other : m.kind.intra ≡ false) (none : m.pattern ≡ 0) (low : 1 ≤ c.kind) (high : c.kind ≤ 3) where
+  pattern_none : (b : Bool) → m.kind.pattern ≡ b → m.kind.pattern ≡ false
+  pattern_none true e = absurd (omega (arith, (fits.pattern other e).0, none))
+  pattern_none false e = e
+
+  not_intra : c.kind ≡ 1 → ⊥
+  not_intra one =
+      let is = of_i c.kind m.kind one fits.kind in
+      let no : false ≡ true = sym (no_i m.kind.quant m.kind.forward m.kind.backward m.kind.pattern) ∙ subst (λ (b : Bool). has_type_i (record { quant = m.kind.quant; forward = m.kind.forward; backward = m.kind.backward; pattern = m.kind.pattern; intra = b }) ≡ true) other is in
+      absurd cc
+    where
+      no_i : (a f b p : Bool) → has_type_i (record { quant = a; forward = f; backward = b; pattern = p; intra = false }) ≡ false
+      no_i true true true true = refl
+      no_i true true true false = refl
+      no_i true true false true = refl
+      no_i true true false false = refl
+      no_i true false true true = refl
+      no_i true false true false = refl
+      no_i true false false true = refl
+      no_i true false false false = refl
+      no_i false true true true = refl
+      no_i false true true false = refl
+      no_i false true false true = refl
+      no_i false true false false = refl
+      no_i false false true true = refl
+      no_i false false true false = refl
+      no_i false false false true = refl
+      no_i false false false false = refl
+
+  pub kind_known : (c.kind ≡ 2) ⊎ (c.kind ≡ 3)
+  kind_known = elim (cases_eq c.kind 2) [
+    | inl two ↦ inl two
+    | inr less ↦ inr (by_three not_intra less)
+  ]
+    where
+      three : (k : ℕ) → 1 ≤ k → k ≤ 3 → (k ≡ 1 → ⊥) → (k ≡ 2 → ⊥) → k ≡ 3
+      three zero a b x y = absurd (omega (arith, a))
+      three (suc zero) a b x y = absurd (x refl)
+      three (suc (suc zero)) a b x y = absurd (y refl)
+      three (suc (suc (suc k))) a b x y = omega (arith, b)
+
+      by_three : (c.kind ≡ 1 → ⊥) → (c.kind ≡ 2 → ⊥) → c.kind ≡ 3
+      by_three one two = elim (cases_eq c.kind 1) [
+        | inl is ↦ absurd (one is)
+        | inr other ↦ three c.kind low high other two
+      ]
+
+  pub is_bare : IsBare m
+  is_bare =
+      let pattern = pattern_none m.kind.pattern refl in
+      let same : m.kind ≡ record { quant = m.kind.quant; forward = m.kind.forward; backward = m.kind.backward; pattern = false; intra = false } =
+      λ i. record { quant = m.kind.quant; forward = m.kind.forward; backward = m.kind.backward; pattern = pattern i; intra = other i } in
+      record {
+        quant = elim kind_known [
+          | inl two ↦ no_quant_p m.kind.quant m.kind.forward m.kind.backward (subst (λ (v : MbType). has_type_p v ≡ true) same (of_p c.kind m.kind two fits.kind))
+          | inr three ↦ no_quant_b m.kind.quant m.kind.forward m.kind.backward (subst (λ (v : MbType). has_type_b v ≡ true) same (of_b c.kind m.kind not_intra (λ two. omega (arith, two, three)) fits.kind))
+        ];
+        pattern = pattern;
+        intra = other;
+      }
+
+-- a macroblock without coded blocks has its elements alone
+module _ (c : PictureContext) (st : SliceState) (x : Macroblock) (none : x.syntax.pattern ≡ 0) where
+  alone : length (blocks_text c (after c st x.syntax) x 0 6) ≡ 0
+  unfolding block_in_text
+  alone =
+      let text = block_in_text c (after c st x.syntax) x in
+      let no = λ (b : ℕ) (e : is_coded 0 b ≡ false). nothing b e in
+      omega (
+        arith,
+        left_length text 6 0 (omega arith),
+        left_length text 6 1 (omega arith),
+        left_length text 6 2 (omega arith),
+        left_length text 6 3 (omega arith),
+        left_length text 6 4 (omega arith),
+        left_length text 6 5 (omega arith),
+        no 0 refl,
+        no 1 refl,
+        no 2 refl,
+        no 3 refl,
+        no 4 refl,
+        no 5 refl,
+      )
+    where
+      nothing : (b : ℕ) → is_coded 0 b ≡ false → length (block_in_text c (after c st x.syntax) x b) ≡ 0
+      nothing b e = rw (none, e) refl
+
+  pub text_alone : length (macroblock_text c st x) ≡ length (macro_text c st x.syntax)
+  unfolding macroblock_text
+  text_alone = omega (arith, length-append (macro_text c st x.syntax) (blocks_text c (after c st x.syntax) x 0 6), alone)
