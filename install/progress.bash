@@ -44,6 +44,15 @@ take_away() {
     shown=""
 }
 
+# Before the program's own words: its line goes, or that of another in the pipe, which shows it again after them.
+make_room() {
+    if [ "$shown" ]; then
+        take_away
+    elif ! flock -n 8 2> /dev/null; then
+        printf '\r%*s\r' "$((columns - 1))" '' >&2
+    fi
+}
+
 # Shows the line each second until the first byte of the program's own comes, or it ends; that byte and what follows is passed on.
 watch() {
     local pid start=$SECONDS shown="" byte="" status columns before far
@@ -79,11 +88,12 @@ watch() {
             printf '\r%s' "$shown" >&2
         fi
     done
-    take_away
     if [ "$status" = 0 ]; then
+        make_room
         printf '%s' "$byte" >&2
         exec cat >&2 8>&-
     fi
+    take_away
 }
 
 trap : INT

@@ -226,6 +226,7 @@ def on_a_terminal(front):
             'file': pool.submit(with_file, 'slow'), 'pipe': pool.submit(with_pipe, 'slow'), 'silent': pool.submit(with_file, 'silent'),
             'quiet': pool.submit(with_file, 'slow', PUCKERLEDGE_QUIET='1'), 'short': pool.submit(with_file, 'end', STAND_IN_STATUS='5'),
             'two': pool.submit(with_file, 'slow', script='"$0" decode | "$0" pack'),
+            'late': pool.submit(with_file, 'slow', script='(sleep 2.5; "$0" decode) | "$0" pack'),
             'interrupt': pool.submit(with_file, 'for_ever', keys=interrupts), 'term': pool.submit(with_file, 'for_ever', keys=kills),
         }
     return {name: run.result() for name, run in runs.items()}
@@ -237,10 +238,13 @@ def shows_progress(cases, front, runs):
         cases.tell('%s, %s: progress' % (front.name, name), '' if re.search(wanted, found.output) else repr(found.output))
         cases.same('%s, %s: the line alone stands in the end' % (front.name, name), found.lines(), ['frames 1', ''])
         cases.same('%s, %s: the status' % (front.name, name), os.waitstatus_to_exitcode(found.status), 9)
-    cases.same(front.name + ': of two in a pipe each has its line', runs['two'].lines(), ['frames 1', 'frames 1', ''])
-    cases.tell(front.name + ': and the first alone shows how far it is', '' if re.fullmatch(
-        rb'(\rpuckerledge: \d+ % [^\r]*)+\r *\rframes 1\r\n(\rpuckerledge: \d+ kB[^\r]*)*(\r *\r)?frames 1\r\n',
-        runs['two'].output) else repr(runs['two'].output))
+    # the one that reads the file asks for the terminal first, but on a busy machine the other may have it before
+    for name, shows in (('two', rb'%|kB'), ('late', rb'kB')):
+        found = runs[name]
+        cases.same('%s, %s in a pipe: each has its line' % (front.name, name), found.lines(), ['frames 1', 'frames 1', ''])
+        cases.tell('%s, %s in a pipe: what shows how far it is goes before words' % (front.name, name), '' if re.fullmatch(
+            rb'(\rpuckerledge: \d+ (%b) [^\r]*)+\r *\rframes 1\r\n((\rpuckerledge: \d+ kB[^\r]*)+\r *\r)?frames 1\r\n' % shows,
+            found.output) else repr(found.output))
     cases.same(front.name + ': no line, so none stays', (runs['silent'].lines(), os.waitstatus_to_exitcode(runs['silent'].status)), ([''], 3))
     cases.same(front.name + ': quiet', (runs['quiet'].output, os.waitstatus_to_exitcode(runs['quiet'].status)), (b'frames 1\r\n', 9))
     cases.same(front.name + ': short', (runs['short'].output, os.waitstatus_to_exitcode(runs['short'].status)), (b'', 5))
