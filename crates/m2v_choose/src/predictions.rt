@@ -19,7 +19,7 @@ use crate::vectors::{FieldVector, Vectors, no_vector, place_of};
 use m2v_macro::MacroSyntax;
 use m2v_macroblock::mode;
 use m2v_plane::RefView;
-use m2v_pred::{Block16, predict};
+use m2v_pred::{Block16, predict_in};
 
 /// The vectors of a direction that is told, or none.
 #[inline(always)]
@@ -65,12 +65,14 @@ pub fn moving_syntax(
     m
 }
 
-/// Predicts a macroblock by its own motion, or forward by vector 0 where it has none.
+/// Predicts a macroblock by its own motion, or forward by vector 0 where it has none. `second` is room for the second of two
+/// predictions whose mean is taken.
 pub fn predict_moving<V: RefView>(
     task: &Task,
     forward: &V,
     backward: &V,
     bare: &MacroSyntax,
+    second: &mut Block16,
     out: &mut Block16,
 )
     requires task { IsTask task.now }
@@ -84,7 +86,7 @@ pub fn predict_moving<V: RefView>(
     let q = task.state.quantiser;
     let coded = with_blocks(bare, sends(task, q), q, false, 63);
     let mode = mode(task.context, &coded);
-    predict(forward, backward, &mode, place_of(task), out);
+    predict_in(forward, backward, &mode, place_of(task), second, out);
 }
 
 /// At least so many bits stand before the blocks of a prediction with coded blocks: one more than it has without blocks, where
@@ -187,8 +189,12 @@ impl Best {
             bare.now ≡ uncoded_syntax d p → p.uncoded ≡ uncoded → IsRated d self.old
             → Tried d self.old self.new (by_prediction d p) }
     {
-        let TrialScratch { prediction, coding } = scratch;
-        predict_moving(task, forward, backward, bare, prediction);
+        let TrialScratch {
+            prediction,
+            second,
+            coding,
+        } = scratch;
+        predict_moving(task, forward, backward, bare, second, prediction);
         let (mut frame, mut field) = ([0; 6], [0; 6]);
         part_squares(task.source, prediction, false, &mut frame);
         field_squares(task, prediction, &mut field);
