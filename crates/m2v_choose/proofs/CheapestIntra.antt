@@ -1,11 +1,10 @@
 -- The least that a coding of an intra macroblock scores in a P or B picture: the bits of its type and of its blocks.
-use Rattle.std.proofs.Common.{◌≡◌, ℕ, ◌+◌, ◌*◌, ◌^◌, ◌≤◌, ◌<◌, Bool, true, false, ◌⊎◌, inl, inr, List, [], ◌∷◌, ◌++◌, length, map, refl, ap, sym, ◌∙◌, subst, arith, ℤ}
-use Rattle.std.specs.Prelude.{nat_lt, if◌then◌else◌}
+use Rattle.std.proofs.Common.{◌≡◌, ℕ, ◌*◌, ◌^◌, ◌≤◌, Bool, true, false, ◌⊎◌, inl, inr, List, [], ◌∷◌, length, map, refl, arith}
+use Rattle.std.specs.Prelude.{nat_lt}
 use Rattle.std.proofs.lemmas.List.{length-append}
 use Rattle.std.proofs.Math.Nat.{mul-le-mul_left}
 use Rattle.m2v_bits.proofs.Bits.{length-bits_of}
 use Rattle.m2v_bits.proofs.Texts.{left_length}
-use Rattle.m2v_vlc.specs.declared.values.MbType.{MbType}
 use Rattle.m2v_vlc.specs.Codes.{code_of}
 use Rattle.m2v_vlc.specs.Tables.{type_p, type_b}
 use Rattle.m2v_recon.specs.Macro.{is_coded}
@@ -17,9 +16,9 @@ use Rattle.m2v_macroblock.specs.Macroblocks.{Macroblock, kind_for, block_levels,
 use Rattle.m2v_macroblock.specs.Texts.{block_in_text, blocks_text, macroblock_text}
 use Rattle.m2v_macroblock.proofs.m2v_block.Shortest.{intra_least}
 use Rattle.m2v_choose.specs.declared.trial.Best.{Best}
-use Rattle.m2v_choose.specs.Decisions.{Decision, Candidate, Coding, intra_syntax}
+use Rattle.m2v_choose.specs.Decisions.{Decision, Coding, intra_syntax}
 use Rattle.m2v_choose.specs.Candidates.{intra_by}
-use Rattle.m2v_choose.specs.Choice.{bits_taken, score, squared, samples_of}
+use Rattle.m2v_choose.specs.Choice.{bits_taken, score}
 use Rattle.m2v_choose.specs.Own.{IsOwn}
 use Rattle.m2v_choose.specs.Trials.{IsRated, Tried}
 use Rattle.m2v_choose.proofs.Headers.{text_length}

@@ -1,5 +1,5 @@
 -- Words of the choice's code: the blocks of a macroblock, and the best candidate so far.
-use Rattle.std.specs.Prelude.{ℕ, min, length, ◌^◌, ◌≢◌, ◌||◌, IsTrue, false, not, cond, ◌&&◌, ◌≡◌, ◌⊎◌, ◌<◌, ◌≤◌, ◌+◌, ◌-◌, ◌*◌, Bool, true, nat_eq, nat_lt, List, [], ◌∷◌, ◌++◌, map, slice_index, slice_index_or, sum_by, if◌then◌else◌, ℤ, pos, neg_ℤ, ◌-ℤ◌, ◌≤ℤ◌, ◌<ℤ◌, unsigned_abs}
+use Rattle.std.specs.Prelude.{ℕ, min, length, ◌^◌, ◌≢◌, ◌||◌, IsTrue, false, not, cond, ◌&&◌, ◌≡◌, ◌⊎◌, ◌<◌, ◌≤◌, ◌+◌, ◌-◌, ◌*◌, Bool, true, nat_eq, nat_lt, List, [], ◌∷◌, ◌++◌, map, slice_index, slice_index_or, sum_by, if◌then◌else◌, ℤ, pos, neg_ℤ, ◌-ℤ◌, ◌≤ℤ◌, ◌<ℤ◌, unsigned_abs, Option, IfSome, is_some}
 use Rattle.std.specs.List.{range_with_len, list_all}
 use Rattle.m2v_plane.specs.declared.dims.Dims.{Dims}
 use Rattle.m2v_plane.specs.declared.planes.Lines.{Lines}
@@ -33,7 +33,7 @@ use Rattle.m2v_choose.specs.declared.vectors.FieldVector.{FieldVector}
 use Rattle.m2v_choose.specs.declared.vectors.Vectors.{Vectors}
 use Rattle.m2v_choose.specs.declared.task.Task.{Task}
 use Rattle.m2v_choose.specs.declared.coding.Uncoded.{Uncoded}
-use Rattle.m2v_choose.specs.Decisions.{Decision, Candidate, Prediction, has_dct_type, place_of, increment_of, block_place, differences}
+use Rattle.m2v_choose.specs.Decisions.{Decision, Candidate, Prediction, has_dct_type, place_of, increment_of, block_place, differences, written, no_levels}
 use Rattle.m2v_choose.specs.Candidates.{plain_form, plain_direction, field_direction, predictions_by, zero_prediction}
 use Rattle.m2v_choose.specs.Choice.{bits_taken, score, fits, square_at}
 use Rattle.m2v_choose.specs.Own.{IsOwn, IsCode, IsOwnState, AreLimits}
@@ -217,6 +217,11 @@ pub record CanCode (t : Task) (m : MacroSyntax) : Type 0 where
 abbrev pub IsHeader : Task → MacroSyntax → ℕ → Type 0
 IsHeader t m n = (q : ℕ) (dct_field : Bool) (pattern : ℕ) → 0 < pattern → pattern < 64
     → n ≤ length (macro_text t.context.now t.state.now (with_blocks m (sends_code t.state.now q) q dct_field pattern))
+
+-- so many bits a prediction takes without blocks, where it may be without
+pub record IsAlone (t : Task) (m : MacroSyntax) (alone : Option ℕ) : Type 0 where
+  pub macro : is_some alone ≡ true → IsMacro t.context.now t.first m
+  pub bits : IfSome alone (λ n. (r : References) → n ≡ bits_taken (decided r t) (written m no_levels))
 
 -- the least that a macroblock with coded blocks scores, where a bit costs so much, so many bits stand before its blocks, and
 -- these are the squares of its prediction: a block that isn't coded adds eight times its squares, and a coded one has at

@@ -15,7 +15,7 @@ ghost use Rattle.m2v_choose.specs.Trials.{References, decided, references_of, Is
 use crate::coding::intra_syntax;
 use crate::motion::plain_form;
 use crate::predictions::{moving_syntax, predict_moving};
-use crate::scratch::ChoiceScratch;
+use crate::scratch::{ChoiceScratch, TrialScratch};
 use crate::task::{Task, task_of};
 use crate::trial::{Best, no_levels, no_prediction};
 use crate::values::{Choice, Limits};
@@ -23,7 +23,7 @@ use crate::vectors::{FieldVector, Vectors, no_vector, place_of};
 use m2v_macro::{PictureContext, SliceState};
 use m2v_macroblock::skipped_mode;
 use m2v_plane::RefView;
-use m2v_pred::{Block16, Mode, inside, predict};
+use m2v_pred::{Block16, Mode, inside, predict_in};
 use m2v_quant::Levels;
 
 /// Vector zero; in a field picture from the field of the same parity.
@@ -79,7 +79,12 @@ fn hold_intra(task: &Task) -> Best
 }
 
 /// The macroblock as it is held in a P or B picture: by vector zero, forward or backward.
-fn hold_still<V: RefView>(task: &Task, forward: &V, backward: &V, prediction: &mut Block16) -> Best
+fn hold_still<V: RefView>(
+    task: &Task,
+    forward: &V,
+    backward: &V,
+    scratch: &mut TrialScratch,
+) -> Best
     requires task { IsTask task.now }
     requires kind { (task.now.context.now.kind ≡ 2) ⊎ (task.now.context.now.kind ≡ 3) }
     requires references { AreReferences task.now.context.now.kind (place_for task.now)
@@ -99,12 +104,17 @@ fn hold_still<V: RefView>(task: &Task, forward: &V, backward: &V, prediction: &m
     let kind = task.context.kind;
     let form = plain_form(task.context);
     let m = moving_syntax(task, form, kind == 2, kind == 3, &still, &still);
-    predict_moving(task, forward, backward, &m, prediction);
+    let TrialScratch {
+        prediction,
+        second,
+        ..
+    } = scratch;
+    predict_moving(task, forward, backward, &m, second, prediction);
     Best::held(task, &m, no_levels(), prediction)
 }
 
 /// The macroblock as it is held: the first candidate.
-fn hold<V: RefView>(task: &Task, forward: &V, backward: &V, prediction: &mut Block16) -> Best
+fn hold<V: RefView>(task: &Task, forward: &V, backward: &V, scratch: &mut TrialScratch) -> Best
     requires task { IsTask task.now }
     requires references { AreReferences task.now.context.now.kind (place_for task.now)
         (V.size forward.now) (V.size backward.now)
@@ -122,7 +132,7 @@ fn hold<V: RefView>(task: &Task, forward: &V, backward: &V, prediction: &mut Blo
     if task.context.kind == 1 {
         return hold_intra(task);
     }
-    hold_still(task, forward, backward, prediction)
+    hold_still(task, forward, backward, scratch)
 }
 
 /// Whether the macroblock may be skipped: it is neither the first nor the last one of its slice, and in a B picture not
@@ -158,7 +168,7 @@ impl Best {
         task: &Task,
         forward: &V,
         backward: &V,
-        prediction: &mut Block16,
+        scratch: &mut TrialScratch,
     )
         requires task { IsTask task.now }
         requires direction { HasDirection task.now.context.now task.now.state.now
@@ -175,7 +185,12 @@ impl Best {
         if !may_skip(task, forward, &mode) {
             return;
         }
-        predict(forward, backward, &mode, place_of(task), prediction);
+        let TrialScratch {
+            prediction,
+            second,
+            ..
+        } = scratch;
+        predict_in(forward, backward, &mode, place_of(task), second, prediction);
         self.try_skipped(task, prediction);
     }
 }
@@ -212,8 +227,8 @@ fn choose_for<V: RefView>(
         (references_of (V.size forward.now) (V.at forward.now) (V.at backward.now)) task.now in
         result.bits ≡ bits_taken d (choice_of d) }
 {
-    let mut best = hold(task, forward, backward, &mut scratch.trial.prediction);
-    best.try_skip(task, forward, backward, &mut scratch.trial.prediction);
+    let mut best = hold(task, forward, backward, &mut scratch.trial);
+    best.try_skip(task, forward, backward, &mut scratch.trial);
     let mut later = best;
     later.try_later(task, forward, backward, scratch);
     let limit = limit_of(best.below, later.below);

@@ -1,5 +1,5 @@
 //! The predictions of a macroblock, in order: each without blocks where it may be, and with coded blocks.
-ghost use Rattle.std.specs.Prelude.{◌≡◌, ◌≢◌, ◌≤◌, ◌*◌, ◌^◌, ◌<◌, slice_index, ℕ, Bool, ◌||◌, true, false, cond, nat_eq, IsTrue, [], ◌∷◌};
+ghost use Rattle.std.specs.Prelude.{◌≡◌, ◌≢◌, ◌≤◌, ◌*◌, ◌^◌, ◌<◌, slice_index, ℕ, Bool, ◌||◌, true, false, cond, is_some, nat_eq, IsTrue, [], ◌∷◌};
 ghost use Rattle.std.specs.List.{flat_map};
 ghost use Rattle.m2v_macro.specs.declared.values.Direction.{Direction};
 ghost use Rattle.m2v_macro.specs.Conditions.{IsMacro};
@@ -8,7 +8,7 @@ ghost use Rattle.m2v_macroblock.specs.Predictions.{prediction_of};
 ghost use Rattle.m2v_choose.specs.Decisions.{Prediction, uncoded_syntax, written, no_levels as no_levels_of};
 ghost use Rattle.m2v_choose.specs.Candidates.{prediction, predictions_by, samples_by, by_prediction};
 ghost use Rattle.m2v_choose.specs.Choice.{squared as squared_of};
-ghost use Rattle.m2v_choose.specs.Trials.{IsMeasured, IsHeader, coded_least, has_types, References, decided, references_of, IsTask, IsRead, IsRated, Tried, Predicts, CanCode, CanPredict, CanTry, direction_by, moving_syntax as moving_syntax_of, place_for};
+ghost use Rattle.m2v_choose.specs.Trials.{IsMeasured, IsHeader, IsAlone, coded_least, has_types, References, decided, references_of, IsTask, IsRead, IsRated, Tried, Predicts, CanCode, CanPredict, CanTry, direction_by, moving_syntax as moving_syntax_of, place_for};
 
 use crate::coding::{Uncoded, field_squares, has_dct_type, least_score, sends, with_blocks};
 use crate::scratch::{CodingScratch, TrialScratch};
@@ -19,7 +19,7 @@ use crate::vectors::{FieldVector, Vectors, no_vector, place_of};
 use m2v_macro::MacroSyntax;
 use m2v_macroblock::mode;
 use m2v_plane::RefView;
-use m2v_pred::{Block16, predict};
+use m2v_pred::{Block16, predict_in};
 
 /// The vectors of a direction that is told, or none.
 #[inline(always)]
@@ -65,12 +65,14 @@ pub fn moving_syntax(
     m
 }
 
-/// Predicts a macroblock by its own motion, or forward by vector 0 where it has none.
+/// Predicts a macroblock by its own motion, or forward by vector 0 where it has none. `second` is room for the second of two
+/// predictions whose mean is taken.
 pub fn predict_moving<V: RefView>(
     task: &Task,
     forward: &V,
     backward: &V,
     bare: &MacroSyntax,
+    second: &mut Block16,
     out: &mut Block16,
 )
     requires task { IsTask task.now }
@@ -84,22 +86,40 @@ pub fn predict_moving<V: RefView>(
     let q = task.state.quantiser;
     let coded = with_blocks(bare, sends(task, q), q, false, 63);
     let mode = mode(task.context, &coded);
-    predict(forward, backward, &mode, place_of(task), out);
+    predict_in(forward, backward, &mode, place_of(task), second, out);
 }
 
-/// At least so many bits stand before the blocks of a prediction with coded blocks: one more than it has without blocks, where
-/// it may be without.
-fn header_bits(task: &Task, bare: &MacroSyntax, uncoded: bool) -> u32
+/// What is counted of a prediction before it is transformed.
+#[derive(Clone, Copy)]
+struct Counted {
+    /// Its bits without blocks, where it may be without.
+    alone: Option<u32>,
+    /// At least so many bits stand before its blocks.
+    header: u32,
+}
+
+/// Counts the bits of a prediction without blocks, where it may be without. With coded blocks it has at least one more before
+/// them.
+fn count_alone(task: &Task, bare: &MacroSyntax, uncoded: bool) -> Counted
     requires task { IsTask task.now }
     requires code { CanCode task.now bare.now }
     requires stands { uncoded ≡ true → IsMacro task.now.context.now task.now.first bare.now }
     requires pattern { bare.now.pattern ≡ 0 }
-    ensures { IsHeader task.now bare.now result }
+    ensures some { is_some result.alone ≡ uncoded }
+    ensures alone { IsAlone task.now bare.now result.alone }
+    ensures header { IsHeader task.now bare.now result.header }
 {
     if !uncoded {
-        return 0;
+        return Counted {
+            alone: None,
+            header: 0,
+        };
     }
-    bits_of(task, bare, no_levels()) + 1
+    let bits = bits_of(task, bare, no_levels());
+    Counted {
+        alone: Some(bits),
+        header: bits + 1,
+    }
 }
 
 /// The least that a prediction scores with coded blocks by DCT type 1, where the picture has it.
@@ -117,53 +137,53 @@ fn field_least(task: &Task, squares: &[u32; 6], header: u32) -> u64
 }
 
 impl Best {
-    /// Tries a prediction without blocks, where it may be without.
+    /// Tries a prediction without blocks, where it may be without: `alone` are its bits.
     fn try_uncoded(
         &mut self,
         task: &Task,
         bare: &MacroSyntax,
-        uncoded: bool,
+        alone: Option<u32>,
         prediction: &Block16,
         whole: u32,
     )
         requires task { IsTask task.now }
-        requires increment { bare.now.increment ≡ task.now.increment }
-        requires stands { uncoded ≡ true → IsMacro task.now.context.now task.now.first bare.now }
+        requires alone { IsAlone task.now bare.now alone }
         requires pattern { bare.now.pattern ≡ 0 }
         requires whole { whole ≡ squared_of task.now.source.now.at prediction.now.at }
         requires most { whole ≤ 49939200 }
         ensures tried { (r : References) → Predicts r task.now bare.now prediction.now.at
             → IsRated (decided r task.now) self.old
             → Tried (decided r task.now) self.old self.new
-            (cond uncoded (written bare.now no_levels_of ∷ []) []) }
+            (cond (is_some alone) (written bare.now no_levels_of ∷ []) []) }
     {
-        if uncoded {
-            self.try_written(task, bare, no_levels(), prediction, whole);
+        if let Some(bits) = alone {
+            self.try_counted(task, bare, no_levels(), bits, prediction, whole);
         }
     }
 
-    /// Tries a prediction that has these samples: without blocks where it may be, and all its codings.
+    /// Tries a prediction that has these samples: without blocks where it may be, and all its codings. `alone` are its bits
+    /// without blocks.
     fn try_predicted(
         &mut self,
         task: &Task,
         plain: &Uncoded,
-        uncoded: bool,
+        alone: Option<u32>,
         scratch: &mut CodingScratch,
     )
         requires task { IsTask task.now }
         requires code { CanCode task.now plain.now.bare.now }
-        requires stands { uncoded ≡ true
-            → IsMacro task.now.context.now task.now.first plain.now.bare.now }
+        requires alone { IsAlone task.now plain.now.bare.now alone }
         requires pattern { plain.now.bare.now.pattern ≡ 0 }
         requires measured { IsMeasured task.now plain.now }
         ensures tried { (r : References) (p : Prediction)
-            → plain.now.bare.now ≡ uncoded_syntax (decided r task.now) p → p.uncoded ≡ uncoded
+            → plain.now.bare.now ≡ uncoded_syntax (decided r task.now) p
+            → p.uncoded ≡ is_some alone
             → plain.now.prediction.now.at ≡ samples_by (decided r task.now) p
             → IsRated (decided r task.now) self.old
             → Tried (decided r task.now) self.old self.new (by_prediction (decided r task.now) p) }
     {
         let whole = uncoded_squares(plain.frame, 0);
-        self.try_uncoded(task, plain.bare, uncoded, plain.prediction, whole);
+        self.try_uncoded(task, plain.bare, alone, plain.prediction, whole);
         self.try_codings(task, plain, scratch);
     }
 
@@ -187,12 +207,16 @@ impl Best {
             bare.now ≡ uncoded_syntax d p → p.uncoded ≡ uncoded → IsRated d self.old
             → Tried d self.old self.new (by_prediction d p) }
     {
-        let TrialScratch { prediction, coding } = scratch;
-        predict_moving(task, forward, backward, bare, prediction);
+        let TrialScratch {
+            prediction,
+            second,
+            coding,
+        } = scratch;
+        predict_moving(task, forward, backward, bare, second, prediction);
         let (mut frame, mut field) = ([0; 6], [0; 6]);
         part_squares(task.source, prediction, false, &mut frame);
         field_squares(task, prediction, &mut field);
-        let header = header_bits(task, bare, uncoded);
+        let Counted { alone, header } = count_alone(task, bare, uncoded);
         let plain = Uncoded {
             bare,
             prediction,
@@ -201,6 +225,6 @@ impl Best {
             frame_least: least_score(task, &frame, header),
             field_least: field_least(task, &field, header),
         };
-        self.try_predicted(task, &plain, uncoded, coding);
+        self.try_predicted(task, &plain, alone, coding);
     }
 }

@@ -19,6 +19,8 @@ pub struct CodingScratch {
 pub struct TrialScratch {
     /// The samples of its prediction.
     pub prediction: Block16,
+    /// Those of the second of two predictions whose mean it is.
+    pub second: Block16,
     /// Its blocks.
     pub coding: CodingScratch,
 }
@@ -41,6 +43,7 @@ impl ChoiceScratch {
             search: SearchScratch::new(),
             trial: TrialScratch {
                 prediction: Block16 { at: [0; 384] },
+                second: Block16 { at: [0; 384] },
                 coding: CodingScratch {
                     frame: [[0; 64]; 6],
                     field: [[0; 64]; 6],

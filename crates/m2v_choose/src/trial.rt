@@ -290,8 +290,34 @@ impl Best {
             → Tried (decided r task.now) self.old self.new
             (written syntax.now (levels_of levels.now) ∷ []) }
     {
-        are_bytes(&prediction.at);
         let bits = bits_of(task, syntax, levels);
+        self.try_counted(task, syntax, levels, bits, prediction, still);
+    }
+
+    /// Tries a written candidate whose bits are counted, as [`try_written`](Self::try_written) does.
+    pub fn try_counted(
+        &mut self,
+        task: &Task,
+        syntax: &MacroSyntax,
+        levels: &[Levels; 6],
+        bits: u32,
+        prediction: &Block16,
+        still: u32,
+    )
+        requires task { IsTask task.now }
+        requires writable { IsWritable task.now.context.now task.now.first
+            (macroblock_of syntax.now levels.now) }
+        requires bits { (r : References) → bits
+            ≡ bits_taken (decided r task.now) (written syntax.now (levels_of levels.now)) }
+        requires still { still ≡ uncoded_squared syntax.now.pattern (block_squared_of
+            syntax.now.dct_field task.now.source.now.at prediction.now.at) }
+        requires most { still ≤ 49939200 }
+        ensures tried { (r : References) → Predicts r task.now syntax.now prediction.now.at
+            → IsRated (decided r task.now) self.old
+            → Tried (decided r task.now) self.old self.new
+            (written syntax.now (levels_of levels.now) ∷ []) }
+    {
+        are_bytes(&prediction.at);
         if !fits(task.limits, bits) {
             return;
         }

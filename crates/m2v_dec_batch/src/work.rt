@@ -149,6 +149,9 @@ impl DecodeBook {
             first.now) r }
     {
         let reading = reading_of(self.header(p));
+        let older = older.as_ref();
+        let newer = newer.as_ref();
+        let first = first.as_ref();
         let forward = forward_view(self.dims(), &reading, older, newer, first);
         let backward = backward_view(self.dims(), &reading, newer);
         read_piece(self.picture(p), r, &forward, &backward, row)

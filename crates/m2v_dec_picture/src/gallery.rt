@@ -12,7 +12,7 @@ use crate::basis::PictureBasis;
 use crate::scratch::Scratch;
 use crate::shared::{DueFrame, SharedFrame};
 use crate::slices::{SliceEnd, read_slice};
-use crate::views::{backward_shared, forward_shared};
+use crate::views::{backward_view, forward_view, lent};
 use m2v_bits::BitReader;
 use m2v_model::{FaultKind, Open, Sequence, SliceSetup, Stop};
 use m2v_plane::{Dims, Frame, Lines, RowSamples};
@@ -319,14 +319,11 @@ impl Gallery {
                 left: 0,
             });
         };
-        let forward = forward_shared(
-            s.dims,
-            &self.reading,
-            &self.older,
-            &self.newer,
-            &self.first_field,
-        );
-        let backward = backward_shared(s.dims, &self.reading, &self.newer);
+        let older = lent(&self.older);
+        let newer = lent(&self.newer);
+        let first = self.first_field.as_ref();
+        let forward = forward_view(s.dims, &self.reading, older, newer, first);
+        let backward = backward_view(s.dims, &self.reading, newer);
         let basis = PictureBasis {
             setup: s,
             forward: &forward,

@@ -167,7 +167,15 @@ fn next_macroblock<V: RefView, T: Target>(
     let start = bits_left(input);
     macroblock(input, basis.setup, row, &before, state, kinds, scratch)?;
     let end = bits_left(input);
-    paint_gap(basis, row, &before, &scratch.found, &mut scratch.block, out);
+    paint_gap(
+        basis,
+        row,
+        &before,
+        &scratch.found,
+        &mut scratch.second,
+        &mut scratch.block,
+        out,
+    );
     paint_own(basis, row, &before, kinds, scratch, out);
     state.dc = dc_after(scratch.found.syntax.kind.intra, &scratch.levels, state.dc);
     Ok(Round {

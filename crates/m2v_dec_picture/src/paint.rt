@@ -21,13 +21,14 @@ use m2v_plane::RefView;
 use m2v_pred::Block16;
 use m2v_recon::rebuild_block;
 
-/// Puts the macroblocks that are skipped before one: each is its prediction. `before` is the state before them. A target
-/// that wants no samples gets none.
+/// Puts the macroblocks that are skipped before one: each is its prediction. `before` is the state before them, `second`
+/// room for the second of two predictions. A target that wants no samples gets none.
 pub fn paint_gap<V: RefView, T: Target>(
     basis: &PictureBasis<V>,
     row: u32,
     before: &SliceState,
     x: &Located,
+    second: &mut Block16,
     block: &mut Block16,
     out: &mut T,
 )
@@ -58,7 +59,7 @@ pub fn paint_gap<V: RefView, T: Target>(
     let mode = skipped_mode(&basis.setup.context, before);
     for k in 0..gap.count {
         let at = place(basis.setup, row, gap.column + k);
-        predict(basis, &mode, at, block);
+        predict(basis, &mode, at, second, block);
         out.put(at, block);
     }
 }
@@ -70,6 +71,7 @@ fn predict_own<V: RefView>(
     row: u32,
     before: &SliceState,
     x: &Located,
+    second: &mut Block16,
     block: &mut Block16,
 )
     requires setup { IsSetup basis.now.setup.now }
@@ -89,7 +91,8 @@ fn predict_own<V: RefView>(
     if x.syntax.kind.intra {
         return;
     }
-    predict(basis, &x.mode, place(basis.setup, row, x.column), block);
+    let at = place(basis.setup, row, x.column);
+    predict(basis, &x.mode, at, second, block);
 }
 
 /// Puts the macroblock that `scratch` has. `before` is the state before it and those skipped before it, the kinds are
@@ -131,7 +134,7 @@ pub fn paint_own<V: RefView, T: Target>(
     }
     let x = &scratch.found;
     let block = &mut scratch.block;
-    predict_own(basis, row, before, x, block);
+    predict_own(basis, row, before, x, &mut scratch.second, block);
     let context = &basis.setup.context;
     let m = &x.syntax;
     let own = kinds.of(context, m.kind.intra);

@@ -5,7 +5,7 @@ ghost use Rattle.m2v_dec_picture.specs.Conditions.{HoldsForward, HoldsBackward, 
 use crate::basis::PictureBasis;
 use m2v_model::SliceSetup;
 use m2v_plane::RefView;
-use m2v_pred::{Block16, MbPlace, Mode, predict as predict_by};
+use m2v_pred::{Block16, MbPlace, Mode, predict_in};
 
 /// The place of a macroblock of the picture.
 #[inline(always)]
@@ -19,8 +19,14 @@ pub fn place(s: &SliceSetup, row: u32, column: u32) -> MbPlace
     }
 }
 
-/// Predicts a macroblock (clauses 7.6.4 to 7.6.7).
-pub fn predict<V: RefView>(basis: &PictureBasis<V>, mode: &Mode, at: MbPlace, block: &mut Block16)
+/// Predicts a macroblock (clauses 7.6.4 to 7.6.7). `second` is room for the second of two predictions whose mean is taken.
+pub fn predict<V: RefView>(
+    basis: &PictureBasis<V>,
+    mode: &Mode,
+    at: MbPlace,
+    second: &mut Block16,
+    block: &mut Block16,
+)
     requires can { CanPredict basis.now.setup.now mode.now at }
     requires forward { HoldsForward basis.now.setup.now (V.size basis.now.forward.now)
         (V.Holds basis.now.forward.now) }
@@ -30,5 +36,5 @@ pub fn predict<V: RefView>(basis: &PictureBasis<V>, mode: &Mode, at: MbPlace, bl
         ≡ block_by (predicted (V.at basis.now.forward.now) (V.at basis.now.backward.now)
         mode.now at) }
 {
-    predict_by(basis.forward, basis.backward, mode, at, block);
+    predict_in(basis.forward, basis.backward, mode, at, second, block);
 }

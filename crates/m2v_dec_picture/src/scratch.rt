@@ -7,6 +7,8 @@ use m2v_quant::SparseLevels;
 pub struct Scratch {
     /// The samples of a macroblock.
     pub block: Block16,
+    /// Room for the second of two predictions whose mean is taken, whatever it holds.
+    pub second: Block16,
     /// The levels of its six blocks.
     pub levels: [SparseLevels; 6],
     /// What is read of it, and where it stands.
@@ -18,6 +20,7 @@ impl Scratch {
     pub fn new() -> Scratch {
         Scratch {
             block: Block16 { at: [0; 384] },
+            second: Block16 { at: [0; 384] },
             levels: [
                 SparseLevels::new(),
                 SparseLevels::new(),

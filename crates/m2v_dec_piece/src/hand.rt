@@ -402,12 +402,14 @@ impl Hand {
         ensures most { OnOk result (self.new.place ≤ 2 ^ 36) }
         ensures few { OnOk result (self.new.ahead ≤ 3) }
     {
+        // the next piece is about as long
+        let next = Vec::with_capacity(alloc, self.bytes.len())?;
         let (place, zeros) = (self.place, self.zeros);
         let length = self.bytes.len() as u64 + zeros;
         self.phase = Phase::Headers;
         self.place = place + length;
         self.zeros = 0;
-        let mut bytes = mem::replace(&mut self.bytes, Vec::new(alloc));
+        let mut bytes = mem::replace(&mut self.bytes, next);
         pad(&mut bytes, zeros)?;
         Ok(Piece {
             bytes,

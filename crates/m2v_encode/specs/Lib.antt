@@ -4,6 +4,5 @@ pub mod Places
 pub mod Rebuilt
 pub mod Steps
 pub use Rattle.m2v_law_headline.specs.m2v_enc_stream
-pub use Rattle.m2v_law_headline.specs.m2v_law_safe
 pub use Rattle.m2v_law_headline.specs.m2v_law_shown
 pub use Rattle.m2v_law_headline.specs.m2v_law_tree

@@ -10,9 +10,9 @@ use Rattle.m2v_model.specs.Pieces.{pieces}
 use Rattle.m2v_model.specs.Decoding.{low_delay_of}
 use Rattle.m2v_model.specs.Lawful.{Numbered}
 use Rattle.m2v_model.specs.Buffering.{account_by, account_in, unsafe_in}
-use Rattle.m2v_law_shown.specs.m2v_law_safe.Sent.{SentPicture, Sent}
+use Rattle.m2v_law_shown.specs.m2v_enc_stream.Sent.{SentPicture, Sent}
 use Rattle.m2v_law_shown.proofs.m2v_enc_stream.Workers.{coded_same, recon_same}
-use Rattle.m2v_law_shown.proofs.m2v_law_safe.Begins.{stream_begins}
+use Rattle.m2v_law_shown.proofs.m2v_enc_stream.Begins.{stream_begins}
 use Rattle.m2v_law_shown.specs.m2v_law_tree.Trees.{groups_of, tree_of}
 use Rattle.m2v_law_shown.proofs.m2v_law_tree.Follows.{stream_follows}
 use Rattle.m2v_law_shown.proofs.m2v_law_tree.Streams.{stream_stands}

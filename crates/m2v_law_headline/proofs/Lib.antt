@@ -13,6 +13,5 @@ pub mod ToldDelays
 pub mod Orders
 pub mod Headline
 pub use Rattle.m2v_law_shown.proofs.m2v_enc_stream
-pub use Rattle.m2v_law_shown.proofs.m2v_law_safe
 pub use Rattle.m2v_law_shown.proofs as m2v_law_shown
 pub use Rattle.m2v_law_shown.proofs.m2v_law_tree

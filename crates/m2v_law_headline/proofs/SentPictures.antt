@@ -9,8 +9,8 @@ use Rattle.m2v_law_shown.specs.m2v_slice.Headers.{bits_to_code}
 use Rattle.m2v_law_shown.specs.m2v_slice.Books.{Book, job_at}
 use Rattle.m2v_law_shown.specs.m2v_slice.Conditions.{IsBook}
 use Rattle.m2v_law_shown.specs.m2v_enc_stream.Streams.{Progress, group_coded, book_of}
-use Rattle.m2v_law_shown.specs.m2v_law_safe.Removals.{coded_of, ledger_of}
-use Rattle.m2v_law_shown.specs.m2v_law_safe.Sent.{SentPicture, place_at, sent_at, group_sent, groups_sent}
+use Rattle.m2v_law_shown.specs.m2v_enc_stream.Removals.{coded_of, ledger_of}
+use Rattle.m2v_law_shown.specs.m2v_enc_stream.Sent.{SentPicture, place_at, sent_at, group_sent, groups_sent}
 use Rattle.m2v_law_shown.proofs.m2v_law_tree.Groups.{MayFollow, AllFollow}
 use Rattle.m2v_law_headline.specs.Texts.{in_group, in_groups, bits_at, code_at}
 use Rattle.m2v_law_headline.proofs.Ends.{with_end, end_append, groups_some}

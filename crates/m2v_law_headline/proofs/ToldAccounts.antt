@@ -13,13 +13,13 @@ use Rattle.m2v_model.specs.Pieces.{pieces}
 use Rattle.m2v_model.specs.Lawful.{Numbered, rate_of, buffer_of}
 use Rattle.m2v_model.specs.Buffering.{StreamAccount, intervals, sizes, bits_of_piece, joined_removals, removals, unsafe_in}
 use Rattle.m2v_model.proofs.VerdictLaws.{judged_by_all}
-use Rattle.m2v_law_shown.specs.m2v_law_safe.Sent.{SentPicture, Sent, removal_of}
-use Rattle.m2v_law_shown.proofs.m2v_law_safe.Begins.{stream_begins}
-use Rattle.m2v_law_shown.proofs.m2v_law_safe.Units.{stream_units}
-use Rattle.m2v_law_shown.proofs.m2v_law_safe.Flat.{stream_sent}
-use Rattle.m2v_law_shown.proofs.m2v_law_safe.Streams.{stream_bits}
-use Rattle.m2v_law_shown.proofs.m2v_law_safe.Groups.{all_coded}
-use Rattle.m2v_law_shown.specs.m2v_law_safe.Removals.{Seen}
+use Rattle.m2v_law_shown.specs.m2v_enc_stream.Sent.{SentPicture, Sent, removal_of}
+use Rattle.m2v_law_shown.proofs.m2v_enc_stream.Begins.{stream_begins}
+use Rattle.m2v_law_shown.proofs.m2v_enc_stream.Units.{stream_units}
+use Rattle.m2v_law_shown.proofs.m2v_enc_stream.Flat.{stream_sent}
+use Rattle.m2v_law_shown.proofs.m2v_enc_stream.Streams.{stream_bits}
+use Rattle.m2v_law_shown.proofs.m2v_enc_stream.Groups.{all_coded}
+use Rattle.m2v_law_shown.specs.m2v_enc_stream.Removals.{Seen}
 use Rattle.m2v_rate.proofs.Streams.{stream_safe}
 use Rattle.m2v_law_shown.specs.m2v_law_tree.Trees.{sequence_by, groups_of}
 use Rattle.m2v_law_shown.proofs.m2v_law_tree.SliceUnits.{Spelled}

@@ -11,8 +11,8 @@ use Rattle.m2v_law_shown.specs.m2v_enc_stream.Streams.{Coded, at_start}
 use Rattle.m2v_model.specs.Pieces.{pieces}
 use Rattle.m2v_model.specs.Lawful.{Numbered}
 use Rattle.m2v_model.specs.Buffering.{StreamAccount, sizes, bits_of_piece, code_bits, codes, exact_delay, exact_delays, exact_delays_from, other_delays}
-use Rattle.m2v_law_shown.specs.m2v_law_safe.Sent.{SentPicture, Sent, removal_of, AreExact}
-use Rattle.m2v_law_shown.proofs.m2v_law_safe.Exact.{stream_exact}
+use Rattle.m2v_law_shown.specs.m2v_enc_stream.Sent.{SentPicture, Sent, removal_of, AreExact}
+use Rattle.m2v_law_shown.proofs.m2v_enc_stream.Exact.{stream_exact}
 use Rattle.m2v_law_shown.specs.m2v_law_tree.Trees.{groups_of}
 use Rattle.m2v_law_shown.proofs.m2v_law_tree.SliceUnits.{Spelled}
 use Rattle.m2v_law_shown.proofs.m2v_law_tree.Follows.{stream_follows}

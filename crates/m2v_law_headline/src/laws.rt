@@ -10,7 +10,7 @@ ghost use Rattle.m2v_model.specs.Pieces.{pieces};
 ghost use Rattle.m2v_model.specs.Lawful.{Numbered};
 ghost use Rattle.m2v_model.specs.Buffering.{sizes, bits_of_piece, code_bits, codes, first_code};
 ghost use Rattle.m2v_model.specs.Buffering.{StreamAccount, unsafe_in, exact_delays, other_delays};
-ghost use Rattle.m2v_law_shown.specs.m2v_law_safe.Sent.{SentPicture, Sent};
+ghost use Rattle.m2v_law_shown.specs.m2v_enc_stream.Sent.{SentPicture, Sent};
 ghost use Rattle.m2v_law_headline.specs.Texts.{picture_texts, picture_bits, picture_codes};
 ghost use Rattle.m2v_law_headline.specs.Texts.{code_places, Taken, ends_of};
 ghost use Rattle.m2v_law_headline.specs.Accounts.{AreTold, account_told, delay_in};

@@ -16,7 +16,7 @@ use Rattle.m2v_model.specs.Pictures.{Events}
 use Rattle.m2v_model.specs.Lawful.{all_numbered}
 use Rattle.m2v_model.specs.Buffering.{intervals}
 use Rattle.m2v_law_tree.specs.Trees.{groups_of, tree_of}
-use Rattle.m2v_law_safe.proofs.m2v_enc_stream.Queues.{stream_some}
+use Rattle.m2v_enc_stream.proofs.Queues.{stream_some}
 use Rattle.m2v_law_shown.specs.Own.{own_sequence, FitsScan}
 use Rattle.m2v_law_shown.specs.Telling.{told_all}
 use Rattle.m2v_law_shown.proofs.Jobs.{IsFit, group_fits}

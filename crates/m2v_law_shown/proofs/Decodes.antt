@@ -2,7 +2,7 @@
 use Rattle.std.proofs.Common.{ℕ, ◌≤◌, List, length, sym}
 use Rattle.m2v_set.specs.declared.settings.Settings.{Settings}
 use Rattle.m2v_set.specs.Rules.{Passes}
-use Rattle.m2v_law_safe.specs.m2v_enc_stream.Streams.{Coded, Recon}
+use Rattle.m2v_enc_stream.specs.Streams.{Coded, Recon}
 use Rattle.m2v_model.specs.Decoding.{Decodes}
 use Rattle.m2v_model.proofs.Unique.{exactly_one}
 use Rattle.m2v_law_tree.proofs.CalmSlices.{slice_calm}

@@ -22,7 +22,7 @@ use Rattle.m2v_slice.proofs.Coded.{count, slice_is, plan_is}
 use Rattle.m2v_slice.proofs.Groups.{HasStructure, picture_is_one, source_size}
 use Rattle.m2v_slice.proofs.Steady.{IsPlan, task_is}
 use Rattle.m2v_slice.proofs.Sound.{plan_is_good}
-use Rattle.m2v_law_safe.specs.m2v_enc_stream.Streams.{picture_with, frame_of}
+use Rattle.m2v_enc_stream.specs.Streams.{picture_with, frame_of}
 use Rattle.m2v_model.specs.Samples.{References}
 use Rattle.m2v_law_tree.specs.m2v_law_chain.Painting.{lines_in}
 use Rattle.m2v_law_tree.specs.Trees.{task_at}

@@ -11,11 +11,11 @@ use Rattle.m2v_order.specs.Whole.{IsGroupOf}
 use Rattle.m2v_order.proofs.Queues.{grouped, due_is, turn_is, sound_next}
 use Rattle.m2v_order.proofs.Wholes.{group_is}
 use Rattle.m2v_slice.specs.Conditions.{IsBook}
-use Rattle.m2v_law_safe.proofs.m2v_enc_stream.Queues.{from_due, from_none, from_zero, sound_waiting}
-use Rattle.m2v_law_safe.specs.m2v_enc_stream.Streams.{Progress, at_start, book_of, group_coded, groups_from, waiting}
-use Rattle.m2v_law_safe.specs.Removals.{groups_of}
-use Rattle.m2v_law_safe.proofs.m2v_enc_stream.Places.{delay_small}
-use Rattle.m2v_law_safe.proofs.m2v_enc_stream.Stands.{HaveBooks, have_books}
+use Rattle.m2v_enc_stream.proofs.Queues.{from_due, from_none, from_zero, sound_waiting}
+use Rattle.m2v_enc_stream.specs.Streams.{Progress, at_start, book_of, group_coded, groups_from, waiting}
+use Rattle.m2v_enc_stream.specs.Removals.{groups_of}
+use Rattle.m2v_enc_stream.proofs.Places.{delay_small}
+use Rattle.m2v_enc_stream.proofs.Stands.{HaveBooks, have_books}
 use Rattle.m2v_law_shown.proofs.Steps.{delay_from}
 
 -- ---- books and delays

@@ -20,7 +20,7 @@ use Rattle.m2v_order.proofs.Queues.{true_false}
 use Rattle.m2v_slice.specs.Books.{Book, no_job, job_at, coded}
 use Rattle.m2v_slice.specs.Conditions.{IsBook}
 use Rattle.m2v_slice.proofs.Groups.{passes_of}
-use Rattle.m2v_law_safe.specs.m2v_enc_stream.Streams.{frame_or, anchor_frame}
+use Rattle.m2v_enc_stream.specs.Streams.{frame_or, anchor_frame}
 use Rattle.m2v_law_shown.specs.Showing.{ShowAll}
 use Rattle.m2v_law_shown.specs.Stores.{frame_in, newer_behind}
 use Rattle.m2v_law_shown.specs.Runs.{raw_behind}

@@ -10,7 +10,7 @@ use Rattle.m2v_slice.specs.Headers.{begins_group, group_from, picture_of, extens
 use Rattle.m2v_rate.specs.Plans.{Entries}
 use Rattle.m2v_slice.specs.Books.{Book, rows, job_at}
 use Rattle.m2v_slice.specs.Conditions.{IsBook}
-use Rattle.m2v_law_safe.specs.m2v_enc_stream.Streams.{delay_at}
+use Rattle.m2v_enc_stream.specs.Streams.{delay_at}
 use Rattle.m2v_model.specs.declared.state.Open.{Open}
 use Rattle.m2v_model.specs.declared.state.State.{State}
 use Rattle.m2v_model.specs.States as model

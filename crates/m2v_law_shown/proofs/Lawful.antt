@@ -2,7 +2,7 @@
 use Rattle.std.proofs.Common.{◌≡◌, ℕ, ◌≤◌, Bool, List, [], length, ap, ◌∙◌}
 use Rattle.m2v_set.specs.declared.settings.Settings.{Settings}
 use Rattle.m2v_set.specs.Rules.{Passes}
-use Rattle.m2v_law_safe.specs.m2v_enc_stream.Streams.{Coded}
+use Rattle.m2v_enc_stream.specs.Streams.{Coded}
 use Rattle.m2v_model.specs.Decoding.{low_delay_of}
 use Rattle.m2v_model.specs.Lawful.{breaches, breaches_of, Lawful}
 use Rattle.m2v_law_tree.specs.Trees.{groups_of, tree_of}

@@ -17,7 +17,7 @@ use Rattle.m2v_order.proofs.Anchors.{Between, range_within}
 use Rattle.m2v_order.proofs.Pictures.{all_flat, all_jobs}
 use Rattle.m2v_slice.specs.Books.{Book, job_at, no_job, has_lines}
 use Rattle.m2v_slice.specs.Conditions.{IsBook}
-use Rattle.m2v_law_safe.specs.m2v_enc_stream.Streams.{picture_with}
+use Rattle.m2v_enc_stream.specs.Streams.{picture_with}
 
 -- ---- numbers, none of which stands twice
 

@@ -18,9 +18,9 @@ use Rattle.m2v_rate.specs.Plans.{Entries}
 use Rattle.m2v_slice.specs.Books.{Book, no_job, rows, job_at, coded}
 use Rattle.m2v_slice.specs.Conditions.{IsBook}
 use Rattle.m2v_slice.proofs.Groups.{picture_is_one}
-use Rattle.m2v_law_safe.specs.m2v_enc_stream.Streams.{delay_at, pictures_text, frame_of}
-use Rattle.m2v_law_safe.specs.Removals.{coded_of, ledger_of}
-use Rattle.m2v_law_safe.specs.Sent.{sent_at}
+use Rattle.m2v_enc_stream.specs.Streams.{delay_at, pictures_text, frame_of}
+use Rattle.m2v_enc_stream.specs.Removals.{coded_of, ledger_of}
+use Rattle.m2v_enc_stream.specs.Sent.{sent_at}
 use Rattle.m2v_model.specs.declared.state.Open.{Open}
 use Rattle.m2v_model.specs.declared.state.State.{State}
 use Rattle.m2v_model.specs.States.{is_frame_end, is_b}

@@ -15,8 +15,8 @@ use Rattle.m2v_order.specs.Groups.{Group}
 use Rattle.m2v_order.specs.Calls.{jobs_in}
 use Rattle.m2v_slice.specs.Headers.{begins_group, sequence_extension_of}
 use Rattle.m2v_slice.specs.Books.{Book, job_at}
-use Rattle.m2v_law_safe.specs.m2v_enc_stream.Streams.{Progress, at_start, book_of, group_coded, groups_coded, coded_all, Recon}
-use Rattle.m2v_law_safe.specs.Sent.{SentPicture, sent_at, group_sent, groups_sent}
+use Rattle.m2v_enc_stream.specs.Streams.{Progress, at_start, book_of, group_coded, groups_coded, coded_all, Recon}
+use Rattle.m2v_enc_stream.specs.Sent.{SentPicture, sent_at, group_sent, groups_sent}
 use Rattle.m2v_model.specs.declared.state.FirstField.{FirstField}
 use Rattle.m2v_model.specs.declared.state.State.{State}
 use Rattle.m2v_model.specs.States.{at_first}
@@ -28,7 +28,7 @@ use Rattle.m2v_model.proofs.EventLaws.{pictures_in-append}
 use Rattle.m2v_law_tree.specs.Trees.{sequence_by, group_parts, groups_parts, groups_of, tree_of}
 use Rattle.m2v_law_tree.specs.States.{state_with, waiting_behind, anchors_behind}
 use Rattle.m2v_law_tree.proofs.Turns.{none_behind, anchors_end}
-use Rattle.m2v_law_safe.proofs.m2v_enc_stream.Queues.{stream_some}
+use Rattle.m2v_enc_stream.proofs.Queues.{stream_some}
 use Rattle.m2v_law_shown.specs.Showing.{ShowAll}
 use Rattle.m2v_law_shown.specs.Stores.{frame_in}
 use Rattle.m2v_law_shown.specs.Telling.{headers, told, told_all}

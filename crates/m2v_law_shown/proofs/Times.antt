@@ -12,9 +12,9 @@ use Rattle.m2v_order.specs.Times.{interval_behind, anchor_after, intervals_of}
 use Rattle.m2v_order.proofs.Intra.{test_other}
 use Rattle.m2v_order.proofs.Turns.{next_first, turn_last}
 use Rattle.m2v_order.proofs.Queues.{grouped, top_of, due_is, Turn, turn_is, sound_next}
-use Rattle.m2v_law_safe.specs.m2v_enc_stream.Streams.{groups_from, waiting}
-use Rattle.m2v_law_safe.specs.Removals.{groups_of}
-use Rattle.m2v_law_safe.proofs.m2v_enc_stream.Queues.{from_due, from_none, from_zero, first_is, sound_waiting}
+use Rattle.m2v_enc_stream.specs.Streams.{groups_from, waiting}
+use Rattle.m2v_enc_stream.specs.Removals.{groups_of}
+use Rattle.m2v_enc_stream.proofs.Queues.{from_due, from_none, from_zero, first_is, sound_waiting}
 
 -- ---- times of pictures behind others
 

@@ -21,7 +21,7 @@ use Rattle.m2v_model.specs.m2v_macroblock.Predictions.{View}
 use Rattle.m2v_slice.specs.Books.{Book, job_at, slice_at, has_lines, line_in, anchors_before, nth, picture_sample, coded}
 use Rattle.m2v_slice.specs.Conditions.{IsBook}
 use Rattle.m2v_slice.proofs.Groups.{HasStructure, picture_is_one}
-use Rattle.m2v_law_safe.specs.m2v_enc_stream.Streams.{frame_of}
+use Rattle.m2v_enc_stream.specs.Streams.{frame_of}
 use Rattle.m2v_model.specs.Pictures as pictures
 use Rattle.m2v_law_tree.specs.m2v_law_chain.Painting.{frame_by}
 use Rattle.m2v_law_shown.specs.Rows.{samples_of}

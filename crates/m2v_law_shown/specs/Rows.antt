@@ -9,7 +9,7 @@ use Rattle.m2v_set.specs.Numbers.{dims_of}
 use Rattle.m2v_slice.specs.Slices.{SliceTask}
 use Rattle.m2v_slice.specs.Laws.{IsSlice}
 use Rattle.m2v_slice.specs.Books.{Book, CodedPicture, picture_sample}
-use Rattle.m2v_law_safe.specs.m2v_enc_stream.Streams.{picture_with}
+use Rattle.m2v_enc_stream.specs.Streams.{picture_with}
 use Rattle.m2v_model.specs.Samples.{References}
 use Rattle.m2v_law_tree.specs.m2v_law_chain.Painting.{lines_in}
 use Rattle.m2v_law_shown.specs.Views.{AreReferencesOf, HasRowOf, slice_in}

@@ -4,7 +4,7 @@ use Rattle.m2v_plane.specs.declared.planes.Lines.TheVariants.{Top}
 use Rattle.m2v_plane.specs.Samples.{Samples}
 use Rattle.m2v_set.specs.Numbers.{dims_of}
 use Rattle.m2v_slice.specs.Books.{Book, rows, job_at, coded}
-use Rattle.m2v_law_safe.specs.m2v_enc_stream.Streams.{frame_of}
+use Rattle.m2v_enc_stream.specs.Streams.{frame_of}
 use Rattle.m2v_model.specs.Pictures.{Store}
 use Rattle.m2v_law_tree.specs.m2v_law_chain.Painting.{IsPainted}
 use Rattle.m2v_law_shown.specs.Rows.{samples_of}

@@ -9,7 +9,7 @@ use Rattle.m2v_model.specs.Lawful.{Numbered, all_numbered}
 use Rattle.m2v_law_tree.specs.Trees.{groups_of, tree_of}
 use Rattle.m2v_law_shown.specs.Own.{own_sequence}
 use Rattle.m2v_law_shown.specs.Telling.{told_all, IsMade}
-use Rattle.m2v_law_safe.specs.Sent.{SentPicture, Sent}
+use Rattle.m2v_enc_stream.specs.Sent.{SentPicture, Sent}
 
 -- a job with a picture, and its parts
 abbrev pub Made : Type 0

@@ -23,48 +23,48 @@ mode-mode-requires-clause-fits g c =
     (t.first, subst (IsMacro t.context.now t.first) (sym same) (c.requires.code.macro q false 63 c.requires.task.asked.state.quantiser (λ e. absurd cc) (omega arith) (omega arith)))
 
 -- the motion is that of the macroblock
-mode_is : (g : given.Over) (c : goal.After-predict-arg-1 g) → c.mode-mode.result ≡ mode_of c.args.task.now.context.now c.args.bare.now
+mode_is : (g : given.Over) (c : goal.After-predict_in-arg-2-1 g) → c.mode-mode.result ≡ mode_of c.args.task.now.context.now c.args.bare.now
 mode_is g c =
     c.mode-mode.ensures.value ∙ ap (mode_of c.args.task.now.context.now) c.with_blocks-coded.ensures
     ∙ mode_blocks c.args.task.now.context.now c.args.bare.now _ _ _ _
 
-pub predict-requires-clause-some : goal.predict-requires-clause-some
-predict-requires-clause-some g c = subst (λ (m : Mode). (m.forward ≡ true) ⊎ (m.backward ≡ true)) (sym (mode_is g c)) c.requires.predict.some
+pub predict_in-requires-clause-some : goal.predict_in-requires-clause-some
+predict_in-requires-clause-some g c = subst (λ (m : Mode). (m.forward ≡ true) ⊎ (m.backward ≡ true)) (sym (mode_is g c)) c.requires.predict.some
 
-pub predict-requires-clause-size : goal.predict-requires-clause-size
-predict-requires-clause-size g c = λ f b. c.requires.size (c.requires.predict.told (subst (λ (m : Mode). m.backward ≡ true) (mode_is g c) b))
+pub predict_in-requires-clause-size : goal.predict_in-requires-clause-size
+predict_in-requires-clause-size g c = λ f b. c.requires.size (c.requires.predict.told (subst (λ (m : Mode). m.backward ≡ true) (mode_is g c) b))
 
-size_of : (g : given.Over) (c : goal.After-predict-arg-1 g)
+size_of : (g : given.Over) (c : goal.After-predict_in-arg-2-1 g)
     → size_read c.mode-mode.result (g.V.RefView.size c.args.forward.now) (g.V.RefView.size c.args.backward.now) ≡ g.V.RefView.size c.args.forward.now
 size_of g c =
     ap (λ (m : Mode). size_read m (g.V.RefView.size c.args.forward.now) (g.V.RefView.size c.args.backward.now)) (mode_is g c)
     ∙ size_is (mode_of c.args.task.now.context.now c.args.bare.now) (g.V.RefView.size c.args.forward.now) (g.V.RefView.size c.args.backward.now) c.requires.predict.some
     (λ e. c.requires.size (c.requires.predict.told e))
 
-pub predict-requires-clause-place : goal.predict-requires-clause-place
-predict-requires-clause-place g c =
+pub predict_in-requires-clause-place : goal.predict_in-requires-clause-place
+predict_in-requires-clause-place g c =
     subst (IsPlace c.place_of.result) (sym (size_of g c)) (subst (λ (p : MbPlace). IsPlace p (g.V.RefView.size c.args.forward.now)) (sym c.place_of.ensures) c.requires.predict.lies)
 
-pub predict-requires-clause-inside : goal.predict-requires-clause-inside
-predict-requires-clause-inside g c =
+pub predict_in-requires-clause-inside : goal.predict_in-requires-clause-inside
+predict_in-requires-clause-inside g c =
     let d = g.V.RefView.size c.args.forward.now in
     subst (IsInside c.mode-mode.result c.place_of.result) (sym (size_of g c))
     (subst (λ (p : MbPlace). IsInside c.mode-mode.result p d) (sym c.place_of.ensures)
     (subst (λ (m : Mode). IsInside m (place_for c.args.task.now) d) (sym (mode_is g c)) c.requires.predict.inside))
 
-pub predict-requires-clause-forward : goal.predict-requires-clause-forward
-predict-requires-clause-forward g c = λ e.
+pub predict_in-requires-clause-forward : goal.predict_in-requires-clause-forward
+predict_in-requires-clause-forward g c = λ e.
     let h = c.requires.predict.forward (subst (λ (m : Mode). m.forward ≡ true) (mode_is g c) e) in
     let holds = g.V.RefView.Holds c.args.forward.now in
     subst (HoldsRead holds c.mode-mode.result 0) (sym c.place_of.ensures) (subst (λ (m : Mode). HoldsRead holds m 0 (place_for c.args.task.now)) (sym (mode_is g c)) h)
 
-pub predict-requires-clause-backward : goal.predict-requires-clause-backward
-predict-requires-clause-backward g c = λ e.
+pub predict_in-requires-clause-backward : goal.predict_in-requires-clause-backward
+predict_in-requires-clause-backward g c = λ e.
     let h = c.requires.predict.backward (subst (λ (m : Mode). m.backward ≡ true) (mode_is g c) e) in
     let holds = g.V.RefView.Holds c.args.backward.now in
     subst (HoldsRead holds c.mode-mode.result 1) (sym c.place_of.ensures) (subst (λ (m : Mode). HoldsRead holds m 1 (place_for c.args.task.now)) (sym (mode_is g c)) h)
 
-mode_told : (g : given.Over) (c : goal.After-predict g) → c.mode-mode.result ≡ mode_of c.args.task.now.context.now c.args.bare.now
+mode_told : (g : given.Over) (c : goal.After-predict_in g) → c.mode-mode.result ≡ mode_of c.args.task.now.context.now c.args.bare.now
 mode_told g c =
     c.mode-mode.ensures.value ∙ ap (mode_of c.args.task.now.context.now) c.with_blocks-coded.ensures
     ∙ mode_blocks c.args.task.now.context.now c.args.bare.now _ _ _ _
@@ -73,5 +73,5 @@ pub returns : goal.returns
 returns g c =
     let f = g.V.RefView.at c.args.forward.now in
     let b = g.V.RefView.at c.args.backward.now in
-    c.predict.ensures.value ∙ (λ i. block_by (predicted f b (mode_told g c i) (c.place_of.ensures i)))
+    c.predict_in.ensures.value ∙ (λ i. block_by (predicted f b (mode_told g c i) (c.place_of.ensures i)))
     ∙ predicted_is f b c.args.task.now.context.now (place_for c.args.task.now) c.args.bare.now c.requires.code.other

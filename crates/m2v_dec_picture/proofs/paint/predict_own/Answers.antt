@@ -13,7 +13,7 @@ predict-requires-clause-can g c =
     let m = c.args.x.now.syntax in
     let some = own_some s c.args.before.now m c.if-x.false in
     let can = own_can s c.args.row c.args.x.now.column c.args.before.now m c.requires.setup c.requires.row c.requires.can c.requires.column some in
-    subst (λ (at : MbPlace). CanPredict s c.args.x.now.mode at) (sym c.place.ensures)
+    subst (λ (at : MbPlace). CanPredict s c.args.x.now.mode at) (sym c.place-at.ensures)
     (subst (λ (mode : Mode). CanPredict s mode (place_in s c.args.row c.args.x.now.column)) (sym c.requires.mode) can)
 
 pub returns : goal.returns
@@ -23,7 +23,7 @@ returns g c =
     let b = g.V.RefView.at c.args.basis.now.backward.now in
     record {
       value = λ e. c.predict.ensures.value
-          ∙ ap (λ (mode : Mode). block_by (predicted f b mode c.place.result)) c.requires.mode
-          ∙ ap (λ (at : MbPlace). block_by (predicted f b (mode_of s.context c.args.x.now.syntax) at)) c.place.ensures
+          ∙ ap (λ (mode : Mode). block_by (predicted f b mode c.place-at.result)) c.requires.mode
+          ∙ ap (λ (at : MbPlace). block_by (predicted f b (mode_of s.context c.args.x.now.syntax) at)) c.place-at.ensures
           ∙ sym (own_prediction f b s.context (place_in s c.args.row c.args.x.now.column) c.args.x.now.syntax c.if-x.false);
     }

@@ -7,15 +7,15 @@ use Rattle.m2v_dec_picture.proofs.Held.{held_read, has_direction, read_size}
 use Rattle.m2v_pred.proofs.Tested.{inside_is}
 use Rattle.m2v_dec_picture.proofs.prediction.predict.Goals as goal
 
-pub predict-requires-clause-inside : goal.predict-requires-clause-inside
-predict-requires-clause-inside g c =
+pub predict_in-requires-clause-inside : goal.predict_in-requires-clause-inside
+predict_in-requires-clause-inside g c =
     let s = c.args.basis.now.setup.now in
     let size = read_size c.args.mode.now s.dims (g.V.RefView.size c.args.basis.now.forward.now) (g.V.RefView.size c.args.basis.now.backward.now) c.requires.forward.size_is c.requires.backward.size_is in
     subst (IsInside c.args.mode.now c.args.at) (sym size) (inside_is c.args.mode.now c.args.at s.dims c.requires.can.inside)
 
-pub predict-requires-clause-forward : goal.predict-requires-clause-forward
+pub predict_in-requires-clause-forward : goal.predict_in-requires-clause-forward
 unfolding is_decoded
-predict-requires-clause-forward g c = λ has.
+predict_in-requires-clause-forward g c = λ has.
     let s = c.args.basis.now.setup.now in
     let mode = c.args.mode.now in
     let at = c.args.at in
@@ -27,9 +27,9 @@ predict-requires-clause-forward g c = λ has.
     held_read s (g.V.RefView.size c.args.basis.now.forward.now) (g.V.RefView.Holds c.args.basis.now.forward.now) top bottom mode 0 at c.requires.forward
     ((inside_is mode at s.dims c.requires.can.inside).forward has) (has_direction mode.forward f has p.0)
 
-pub predict-requires-clause-backward : goal.predict-requires-clause-backward
+pub predict_in-requires-clause-backward : goal.predict_in-requires-clause-backward
 unfolding is_decoded
-predict-requires-clause-backward g c = λ has.
+predict_in-requires-clause-backward g c = λ has.
     let s = c.args.basis.now.setup.now in
     let mode = c.args.mode.now in
     let at = c.args.at in

@@ -16,22 +16,22 @@ returns-then-not-may_skip g c = record {
       skip_left (decided r c.args.task.now) c.may_skip.result c.args.self.now (sym (c.may_skip.ensures.value (g.V.RefView.at c.args.forward.now) (g.V.RefView.at c.args.backward.now))) c.if-not-may_skip.true rated;
 }
 
-pub predict-requires-clause-some : goal.predict-requires-clause-some
-predict-requires-clause-some g c =
+pub predict_in-requires-clause-some : goal.predict_in-requires-clause-some
+predict_in-requires-clause-some g c =
     let r = references_of (g.V.RefView.size c.args.forward.now) (g.V.RefView.at c.args.forward.now) (g.V.RefView.at c.args.backward.now) in
     let h = skip_reads c.args.task.now r (g.V.RefView.Holds c.args.forward.now) (g.V.RefView.Holds c.args.backward.now) c.requires.task (g.V.RefView.size c.args.backward.now) c.requires.references
     (sym (c.may_skip.ensures.value (g.V.RefView.at c.args.forward.now) (g.V.RefView.at c.args.backward.now)) ∙ c.if-not-may_skip.false) c.requires.direction (c.may_skip.ensures.inside c.if-not-may_skip.false) in
     subst (λ (m : Mode). (m.forward ≡ true) ⊎ (m.backward ≡ true)) (sym c.skipped_mode-mode.ensures.value) h.some
 
-pub predict-requires-clause-size : goal.predict-requires-clause-size
-predict-requires-clause-size g c = λ f b.
+pub predict_in-requires-clause-size : goal.predict_in-requires-clause-size
+predict_in-requires-clause-size g c = λ f b.
     let r = references_of (g.V.RefView.size c.args.forward.now) (g.V.RefView.at c.args.forward.now) (g.V.RefView.at c.args.backward.now) in
     let h = skip_reads c.args.task.now r (g.V.RefView.Holds c.args.forward.now) (g.V.RefView.Holds c.args.backward.now) c.requires.task (g.V.RefView.size c.args.backward.now) c.requires.references
     (sym (c.may_skip.ensures.value (g.V.RefView.at c.args.forward.now) (g.V.RefView.at c.args.backward.now)) ∙ c.if-not-may_skip.false) c.requires.direction (c.may_skip.ensures.inside c.if-not-may_skip.false) in
     c.requires.references.sizes (h.three (subst (λ (m : Mode). m.backward ≡ true) c.skipped_mode-mode.ensures.value b))
 
-pub predict-requires-clause-place : goal.predict-requires-clause-place
-predict-requires-clause-place g c =
+pub predict_in-requires-clause-place : goal.predict_in-requires-clause-place
+predict_in-requires-clause-place g c =
     let r = references_of (g.V.RefView.size c.args.forward.now) (g.V.RefView.at c.args.forward.now) (g.V.RefView.at c.args.backward.now) in
     let h = skip_reads c.args.task.now r (g.V.RefView.Holds c.args.forward.now) (g.V.RefView.Holds c.args.backward.now) c.requires.task (g.V.RefView.size c.args.backward.now) c.requires.references
     (sym (c.may_skip.ensures.value (g.V.RefView.at c.args.forward.now) (g.V.RefView.at c.args.backward.now)) ∙ c.if-not-may_skip.false) c.requires.direction (c.may_skip.ensures.inside c.if-not-may_skip.false) in
@@ -41,8 +41,8 @@ predict-requires-clause-place g c =
     ap (λ (m : Mode). size_read m f b) c.skipped_mode-mode.ensures.value ∙ size_is (skipped_mode c.args.task.now.context.now c.args.task.now.state.now) f b h.some (λ e. c.requires.references.sizes (h.three e)) in
     subst (IsPlace c.place_of.result) (sym size) (subst (λ (p : MbPlace). IsPlace p f) (sym c.place_of.ensures) h.lies)
 
-pub predict-requires-clause-inside : goal.predict-requires-clause-inside
-predict-requires-clause-inside g c =
+pub predict_in-requires-clause-inside : goal.predict_in-requires-clause-inside
+predict_in-requires-clause-inside g c =
     let r = references_of (g.V.RefView.size c.args.forward.now) (g.V.RefView.at c.args.forward.now) (g.V.RefView.at c.args.backward.now) in
     let h = skip_reads c.args.task.now r (g.V.RefView.Holds c.args.forward.now) (g.V.RefView.Holds c.args.backward.now) c.requires.task (g.V.RefView.size c.args.backward.now) c.requires.references
     (sym (c.may_skip.ensures.value (g.V.RefView.at c.args.forward.now) (g.V.RefView.at c.args.backward.now)) ∙ c.if-not-may_skip.false) c.requires.direction (c.may_skip.ensures.inside c.if-not-may_skip.false) in
@@ -54,8 +54,8 @@ predict-requires-clause-inside g c =
     (subst (λ (p : MbPlace). IsInside c.skipped_mode-mode.result p f) (sym c.place_of.ensures)
     (subst (λ (m : Mode). IsInside m (place_for c.args.task.now) f) (sym c.skipped_mode-mode.ensures.value) h.inside))
 
-pub predict-requires-clause-forward : goal.predict-requires-clause-forward
-predict-requires-clause-forward g c = λ e.
+pub predict_in-requires-clause-forward : goal.predict_in-requires-clause-forward
+predict_in-requires-clause-forward g c = λ e.
     let r = references_of (g.V.RefView.size c.args.forward.now) (g.V.RefView.at c.args.forward.now) (g.V.RefView.at c.args.backward.now) in
     let h = skip_reads c.args.task.now r (g.V.RefView.Holds c.args.forward.now) (g.V.RefView.Holds c.args.backward.now) c.requires.task (g.V.RefView.size c.args.backward.now) c.requires.references
     (sym (c.may_skip.ensures.value (g.V.RefView.at c.args.forward.now) (g.V.RefView.at c.args.backward.now)) ∙ c.if-not-may_skip.false) c.requires.direction (c.may_skip.ensures.inside c.if-not-may_skip.false) in
@@ -63,8 +63,8 @@ predict-requires-clause-forward g c = λ e.
     subst (HoldsRead holds c.skipped_mode-mode.result 0) (sym c.place_of.ensures)
     (subst (λ (m : Mode). HoldsRead holds m 0 (place_for c.args.task.now)) (sym c.skipped_mode-mode.ensures.value) (h.forward (subst (λ (m : Mode). m.forward ≡ true) c.skipped_mode-mode.ensures.value e)))
 
-pub predict-requires-clause-backward : goal.predict-requires-clause-backward
-predict-requires-clause-backward g c = λ e.
+pub predict_in-requires-clause-backward : goal.predict_in-requires-clause-backward
+predict_in-requires-clause-backward g c = λ e.
     let r = references_of (g.V.RefView.size c.args.forward.now) (g.V.RefView.at c.args.forward.now) (g.V.RefView.at c.args.backward.now) in
     let h = skip_reads c.args.task.now r (g.V.RefView.Holds c.args.forward.now) (g.V.RefView.Holds c.args.backward.now) c.requires.task (g.V.RefView.size c.args.backward.now) c.requires.references
     (sym (c.may_skip.ensures.value (g.V.RefView.at c.args.forward.now) (g.V.RefView.at c.args.backward.now)) ∙ c.if-not-may_skip.false) c.requires.direction (c.may_skip.ensures.inside c.if-not-may_skip.false) in
@@ -79,5 +79,5 @@ returns g c = record {
       let f = g.V.RefView.at c.args.forward.now in
       let b = g.V.RefView.at c.args.backward.now in
       skip_tried (decided r c.args.task.now) c.may_skip.result c.args.self.now c.try_skipped.new.self (sym (c.may_skip.ensures.value (g.V.RefView.at c.args.forward.now) (g.V.RefView.at c.args.backward.now))) c.if-not-may_skip.false
-      (c.try_skipped.ensures.tried r (c.predict.ensures.value ∙ (λ i. block_by (predicted f b (c.skipped_mode-mode.ensures.value i) (c.place_of.ensures i)))) rated);
+      (c.try_skipped.ensures.tried r (c.predict_in.ensures.value ∙ (λ i. block_by (predicted f b (c.skipped_mode-mode.ensures.value i) (c.place_of.ensures i)))) rated);
 }

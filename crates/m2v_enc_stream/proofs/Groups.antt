@@ -7,8 +7,8 @@ use Rattle.m2v_order.specs.Groups.{Group}
 use Rattle.m2v_rate.specs.Plans.{Entries, fresh}
 use Rattle.m2v_rate.specs.Safety.{closed, IsCoded, AreCoded}
 use Rattle.m2v_enc_stream.specs.Streams.{Progress, at_start, book_of, group_coded}
-use Rattle.m2v_law_safe.specs.Removals.{ledger_of, seen_of, groups_seen, Seen}
-use Rattle.m2v_law_safe.proofs.Closed.{is_coded, closed_is}
+use Rattle.m2v_enc_stream.specs.Removals.{ledger_of, seen_of, groups_seen, Seen}
+use Rattle.m2v_enc_stream.proofs.Closed.{is_coded, closed_is}
 use Rattle.m2v_enc_stream.proofs.Stands.{HasBook, HaveBooks, have_books, ledger_next}
 
 pub group_coded_is : (s : Settings) (x : Progress) (g : Group Samples) → HasBook s x g → IsCoded x.ledger (seen_of (book_of s x g))

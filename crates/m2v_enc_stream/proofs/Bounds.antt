@@ -11,13 +11,13 @@ use Rattle.m2v_vbv.specs.Account.{arriving, account_of}
 use Rattle.m2v_order.specs.Groups.{Group}
 use Rattle.m2v_rate.specs.Plans.{start_of}
 use Rattle.m2v_rate.specs.Safety.{sent}
-use Rattle.m2v_enc_stream.specs.m2v_slice.Headers.{bits_to_code}
-use Rattle.m2v_enc_stream.specs.m2v_slice.Books.{job_at}
+use Rattle.m2v_slice.specs.Headers.{bits_to_code}
+use Rattle.m2v_slice.specs.Books.{job_at}
 use Rattle.m2v_enc_stream.specs.Streams.{book_of, delay_at}
-use Rattle.m2v_law_safe.specs.Removals.{ledger_of, groups_seen, begun_by, begins_at, removed_before}
-use Rattle.m2v_enc_stream.proofs.m2v_slice.Firsts.{first_code}
+use Rattle.m2v_enc_stream.specs.Removals.{ledger_of, groups_seen, begun_by, begins_at, removed_before}
+use Rattle.m2v_slice.proofs.Firsts.{first_code}
 use Rattle.m2v_enc_stream.proofs.Places as places
-use Rattle.m2v_law_safe.proofs.Delays.{IsPlaced, delay_exact}
+use Rattle.m2v_enc_stream.proofs.Delays.{IsPlaced, delay_exact}
 
 pub delay_small : (s : Settings) (earlier : List (Group Samples)) (g : Group Samples) (ends : Bool) (p : ℕ) → p < length g.pictures → IsPlaced s earlier g
     → (let b = book_of s (begun_by s earlier) g in delay_at (ledger_of b) (job_at b p) p (begins_at s earlier g ends p) ≤ 65534)

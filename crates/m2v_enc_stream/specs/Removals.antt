@@ -8,7 +8,7 @@ use Rattle.m2v_order.specs.declared.jobs.PictureJob.{PictureJob}
 use Rattle.m2v_order.specs.Groups.{Group}
 use Rattle.m2v_rate.specs.Plans.{Entries, fresh}
 use Rattle.m2v_rate.specs.Safety.{Picture, closed, group_removals, after_groups, sent}
-use Rattle.m2v_enc_stream.specs.m2v_slice.Books.{Book, CodedPicture, coded, picture_at, job_at, size_of, work_of, ledger_behind}
+use Rattle.m2v_slice.specs.Books.{Book, CodedPicture, coded, picture_at, job_at, size_of, work_of, ledger_behind}
 use Rattle.m2v_enc_stream.specs.Streams.{Progress, at_start, book_of, group_coded, groups_begun, delay_at, pictures_text}
 pub use Rattle.m2v_enc_stream.specs.Streams.{groups_of}
 

@@ -7,10 +7,10 @@ use Rattle.m2v_set.specs.Numbers.{delay_of}
 use Rattle.m2v_vbv.specs.Annex.{Start, Removal, removed}
 use Rattle.m2v_vbv.specs.Account.{arriving, account_of}
 use Rattle.m2v_order.specs.Groups.{Group}
-use Rattle.m2v_enc_stream.specs.m2v_slice.Headers.{bits_to_code}
-use Rattle.m2v_enc_stream.specs.m2v_slice.Books.{Book, job_at}
+use Rattle.m2v_slice.specs.Headers.{bits_to_code}
+use Rattle.m2v_slice.specs.Books.{Book, job_at}
 use Rattle.m2v_enc_stream.specs.Streams.{Progress, at_start, book_of, group_coded, delay_at, picture_text, pictures_text}
-use Rattle.m2v_law_safe.specs.Removals.{coded_of, ledger_of, groups_of, job_of, delay_told, removed_before}
+use Rattle.m2v_enc_stream.specs.Removals.{coded_of, ledger_of, groups_of, job_of, delay_told, removed_before}
 
 -- a picture: its bits, from its headers up to those of the next one, which of these go up to and with its picture start
 -- code, the time behind it, and its vbv_delay

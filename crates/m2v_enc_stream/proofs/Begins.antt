@@ -5,14 +5,14 @@ use Rattle.m2v_plane.specs.Samples.{Samples}
 use Rattle.m2v_set.specs.declared.settings.Settings.{Settings}
 use Rattle.m2v_set.specs.Rules.{Passes}
 use Rattle.m2v_order.specs.Groups.{Group, group_of, after_group}
-use Rattle.m2v_enc_stream.specs.m2v_slice.Books.{Book}
-use Rattle.m2v_enc_stream.specs.m2v_slice.Conditions.{IsBook}
+use Rattle.m2v_slice.specs.Books.{Book}
+use Rattle.m2v_slice.specs.Conditions.{IsBook}
 use Rattle.m2v_enc_stream.specs.Streams.{at_start, book_of, group_coded, groups_begun, groups_from, waiting}
-use Rattle.m2v_law_safe.specs.Sent.{SentPicture, sent_at, group_sent, groups_sent, Sent, Begins}
-use Rattle.m2v_enc_stream.proofs.m2v_slice.Firsts.{first_code}
+use Rattle.m2v_enc_stream.specs.Sent.{SentPicture, sent_at, group_sent, groups_sent, Sent, Begins}
+use Rattle.m2v_slice.proofs.Firsts.{first_code}
 use Rattle.m2v_enc_stream.proofs.Queues.{first_group}
-use Rattle.m2v_law_safe.proofs.Delays.{IsPlaced, placed}
-use Rattle.m2v_law_safe.proofs.Bounds.{delay_first}
+use Rattle.m2v_enc_stream.proofs.Delays.{IsPlaced, placed}
+use Rattle.m2v_enc_stream.proofs.Bounds.{delay_first}
 
 -- a list begins with a group's first picture
 record IsHead (b : Book) (at : ℕ) (xs : List SentPicture) : Type 0 where

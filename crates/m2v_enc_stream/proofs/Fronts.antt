@@ -11,15 +11,15 @@ use Rattle.m2v_order.specs.Groups.{Group}
 use Rattle.m2v_order.proofs.Orders.{range_append}
 use Rattle.m2v_rate.specs.Plans.{Entries}
 use Rattle.m2v_rate.specs.Safety.{closed, group_removals, sent}
-use Rattle.m2v_enc_stream.specs.m2v_slice.Books.{Book}
+use Rattle.m2v_slice.specs.Books.{Book}
 use Rattle.m2v_enc_stream.specs.Streams.{Progress, at_start, book_of, group_coded, groups_begun}
-use Rattle.m2v_law_safe.specs.Removals.{seen_of, groups_seen, begun_by, IsIn}
-use Rattle.m2v_law_safe.specs.Sent.{SentPicture, removal_of, sent_at, group_sent, groups_sent, StandsAt}
+use Rattle.m2v_enc_stream.specs.Removals.{seen_of, groups_seen, begun_by, IsIn}
+use Rattle.m2v_enc_stream.specs.Sent.{SentPicture, removal_of, sent_at, group_sent, groups_sent, StandsAt}
 use Rattle.m2v_enc_stream.proofs.Stands.{HaveBooks}
-use Rattle.m2v_law_safe.proofs.Groups.{behind}
-use Rattle.m2v_law_safe.proofs.Delays.{placed, delay_exact}
-use Rattle.m2v_law_safe.proofs.Flat.{whole_group}
-use Rattle.m2v_law_safe.proofs.Exact.{before_is}
+use Rattle.m2v_enc_stream.proofs.Groups.{behind}
+use Rattle.m2v_enc_stream.proofs.Delays.{placed, delay_exact}
+use Rattle.m2v_enc_stream.proofs.Flat.{whole_group}
+use Rattle.m2v_enc_stream.proofs.Exact.{before_is}
 
 -- ---- a group
 

@@ -9,15 +9,15 @@ use Rattle.m2v_order.specs.Groups.{Group}
 use Rattle.m2v_rate.specs.Plans.{Entries, account_at, fresh, start_of}
 use Rattle.m2v_rate.specs.Safety.{closed, IsCoded, AreCoded, group_removals, after_groups, sent}
 use Rattle.m2v_rate.proofs.Streams.{account_is}
-use Rattle.m2v_enc_stream.specs.m2v_slice.Headers.{bits_to_code}
-use Rattle.m2v_enc_stream.specs.m2v_slice.Books.{job_at}
+use Rattle.m2v_slice.specs.Headers.{bits_to_code}
+use Rattle.m2v_slice.specs.Books.{job_at}
 use Rattle.m2v_enc_stream.specs.Streams.{Progress, at_start, book_of, group_coded, groups_begun, delay_at}
-use Rattle.m2v_law_safe.specs.Removals.{ledger_of, seen_of, groups_seen, groups_of, begun_by, begins_at, removed_before}
-use Rattle.m2v_enc_stream.proofs.m2v_slice.Ledgers.{whole_settings}
-use Rattle.m2v_law_safe.proofs.Closed.{seen_length}
+use Rattle.m2v_enc_stream.specs.Removals.{ledger_of, seen_of, groups_seen, groups_of, begun_by, begins_at, removed_before}
+use Rattle.m2v_slice.proofs.Ledgers.{whole_settings}
+use Rattle.m2v_enc_stream.proofs.Closed.{seen_length}
 use Rattle.m2v_enc_stream.proofs.Stands.{HasBook, HaveBooks, have_books}
-use Rattle.m2v_law_safe.proofs.Groups.{group_coded_is, group_closed, are_coded}
-use Rattle.m2v_law_safe.proofs.Texts.{pictures_bits, removed_both, behind_groups}
+use Rattle.m2v_enc_stream.proofs.Groups.{group_coded_is, group_closed, are_coded}
+use Rattle.m2v_enc_stream.proofs.Texts.{pictures_bits, removed_both, behind_groups}
 
 -- ---- a group of the stream
 

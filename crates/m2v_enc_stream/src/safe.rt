@@ -12,12 +12,12 @@ ghost use Rattle.m2v_order.specs.Groups.{Group};
 ghost use Rattle.m2v_order.specs.Times.{intervals_of};
 ghost use Rattle.m2v_rate.specs.Plans.{fresh, start_of};
 ghost use Rattle.m2v_rate.specs.Safety.{closed, AreCoded, removals, after_groups};
-ghost use Rattle.m2v_enc_stream.specs.m2v_slice.Headers.{bits_to_code};
+ghost use Rattle.m2v_slice.specs.Headers.{bits_to_code};
 ghost use Rattle.m2v_enc_stream.specs.Streams.{at_start, book_of, coded_all};
-ghost use Rattle.m2v_law_safe.specs.Removals.{Seen, IsIn, groups_of, job_of, begins_at, delay_told};
-ghost use Rattle.m2v_law_safe.specs.Removals.{ledger_of, seen_of, groups_seen, begun_by};
-ghost use Rattle.m2v_law_safe.specs.Removals.{removed_before};
-ghost use Rattle.m2v_law_safe.specs.Sent.{SentPicture, Sent, StandsAt, Begins, removal_of, AreExact};
+ghost use Rattle.m2v_enc_stream.specs.Removals.{Seen, IsIn, groups_of, job_of, begins_at, delay_told};
+ghost use Rattle.m2v_enc_stream.specs.Removals.{ledger_of, seen_of, groups_seen, begun_by};
+ghost use Rattle.m2v_enc_stream.specs.Removals.{removed_before};
+ghost use Rattle.m2v_enc_stream.specs.Sent.{SentPicture, Sent, StandsAt, Begins, removal_of, AreExact};
 
 /// The encoder's stream never breaks the decoder's buffer, with settings that pass and at most
 /// 999,999 frames.

@@ -9,15 +9,15 @@ use Rattle.m2v_vbv.specs.Annex.{Removal, removed}
 use Rattle.m2v_order.specs.Groups.{Group}
 use Rattle.m2v_rate.specs.Plans.{Entries}
 use Rattle.m2v_rate.specs.Safety.{closed, removal_at, group_removals, after_groups, sent}
-use Rattle.m2v_enc_stream.specs.m2v_slice.Books.{Book}
-use Rattle.m2v_enc_stream.specs.m2v_slice.Conditions.{IsBook}
+use Rattle.m2v_slice.specs.Books.{Book}
+use Rattle.m2v_slice.specs.Conditions.{IsBook}
 use Rattle.m2v_enc_stream.specs.Streams.{Progress, book_of, group_coded, groups_begun, picture_text, pictures_text}
-use Rattle.m2v_law_safe.specs.Removals.{coded_of, ledger_of, seen_of, groups_seen}
-use Rattle.m2v_enc_stream.proofs.m2v_slice.Ledgers.{size_at}
+use Rattle.m2v_enc_stream.specs.Removals.{coded_of, ledger_of, seen_of, groups_seen}
+use Rattle.m2v_slice.proofs.Ledgers.{size_at}
 use Rattle.m2v_enc_stream.proofs.Pictures.{picture_length, zeros_on}
 use Rattle.m2v_enc_stream.proofs.Stands.{HasBook, HaveBooks, group_text_is}
-use Rattle.m2v_law_safe.proofs.Closed.{seen_length}
-use Rattle.m2v_law_safe.proofs.Groups.{group_closed, behind}
+use Rattle.m2v_enc_stream.proofs.Closed.{seen_length}
+use Rattle.m2v_enc_stream.proofs.Groups.{group_closed, behind}
 
 -- ---- pictures
 

@@ -10,12 +10,12 @@ use Rattle.m2v_rate.specs.Plans.{Entries, fresh, start_of}
 use Rattle.m2v_rate.specs.Safety.{Picture, closed, group_removals, after_groups, sent}
 use Rattle.m2v_enc_stream.specs.Streams.{Progress, at_start, book_of, group_coded, groups_begun}
 use Rattle.m2v_enc_stream.proofs.Queues.{begun_more}
-use Rattle.m2v_law_safe.specs.Removals.{seen_of, groups_seen, groups_of, begun_by, removed_before}
-use Rattle.m2v_law_safe.specs.Sent.{SentPicture, removal_of, sent_at, group_sent, groups_sent, Sent, IsExact, AreExact}
-use Rattle.m2v_law_safe.proofs.Closed.{seen_length}
-use Rattle.m2v_law_safe.proofs.Delays.{IsPlaced, placed, delay_exact}
-use Rattle.m2v_law_safe.proofs.Bounds.{delay_small}
-use Rattle.m2v_law_safe.proofs.Flat.{group_more, group_is}
+use Rattle.m2v_enc_stream.specs.Removals.{seen_of, groups_seen, groups_of, begun_by, removed_before}
+use Rattle.m2v_enc_stream.specs.Sent.{SentPicture, removal_of, sent_at, group_sent, groups_sent, Sent, IsExact, AreExact}
+use Rattle.m2v_enc_stream.proofs.Closed.{seen_length}
+use Rattle.m2v_enc_stream.proofs.Delays.{IsPlaced, placed, delay_exact}
+use Rattle.m2v_enc_stream.proofs.Bounds.{delay_small}
+use Rattle.m2v_enc_stream.proofs.Flat.{group_more, group_is}
 
 -- ---- lists
 

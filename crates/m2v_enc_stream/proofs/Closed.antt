@@ -11,16 +11,16 @@ use Rattle.m2v_rate.specs.Plans.{Entries, first_open, plan_of, begun}
 use Rattle.m2v_rate.specs.Seen.{Told, told, Agree, SeesSame}
 use Rattle.m2v_rate.specs.Safety.{Picture, closed, IsCoded}
 use Rattle.m2v_rate.proofs.Same.{plan_same}
-use Rattle.m2v_enc_stream.specs.m2v_slice.Slices.{CodedSlice}
-use Rattle.m2v_enc_stream.specs.m2v_slice.Headers.{header_bits}
-use Rattle.m2v_enc_stream.specs.m2v_slice.Books.{Book, CodedPicture, no_job, job_at, coded, picture_at, size_of, work_of, told_with, ledger_with}
-use Rattle.m2v_enc_stream.specs.m2v_slice.Conditions.{IsBook}
-use Rattle.m2v_enc_stream.proofs.m2v_slice.Coded.{none, count, picture_is, picture_stays, plan_is}
-use Rattle.m2v_enc_stream.proofs.m2v_slice.Steady.{IsPlan, header_small, next_within, ledger_at, ledger_for_is, sizes_stay, works_stay}
-use Rattle.m2v_enc_stream.proofs.m2v_slice.Sound.{plan_is_good}
-use Rattle.m2v_enc_stream.proofs.m2v_slice.Ledgers.{times_count}
-use Rattle.m2v_enc_stream.proofs.m2v_slice.Activities.{activities_count}
-use Rattle.m2v_law_safe.specs.Removals.{coded_of, ledger_of, seen_at, seen_of}
+use Rattle.m2v_slice.specs.Slices.{CodedSlice}
+use Rattle.m2v_slice.specs.Headers.{header_bits}
+use Rattle.m2v_slice.specs.Books.{Book, CodedPicture, no_job, job_at, coded, picture_at, size_of, work_of, told_with, ledger_with}
+use Rattle.m2v_slice.specs.Conditions.{IsBook}
+use Rattle.m2v_slice.proofs.Coded.{none, count, picture_is, picture_stays, plan_is}
+use Rattle.m2v_slice.proofs.Steady.{IsPlan, header_small, next_within, ledger_at, ledger_for_is, sizes_stay, works_stay}
+use Rattle.m2v_slice.proofs.Sound.{plan_is_good}
+use Rattle.m2v_slice.proofs.Ledgers.{times_count}
+use Rattle.m2v_slice.proofs.Activities.{activities_count}
+use Rattle.m2v_enc_stream.specs.Removals.{coded_of, ledger_of, seen_at, seen_of}
 
 -- ---- the pictures one by one
 

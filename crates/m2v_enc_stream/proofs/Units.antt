@@ -8,14 +8,14 @@ use Rattle.m2v_set.specs.declared.settings.Settings.{Settings}
 use Rattle.m2v_set.specs.Rules.{Passes}
 use Rattle.m2v_order.specs.Groups.{Group}
 use Rattle.m2v_order.specs.Times.{intervals_of}
-use Rattle.m2v_enc_stream.specs.m2v_slice.Books.{Book}
-use Rattle.m2v_enc_stream.specs.m2v_slice.Conditions.{IsBook}
+use Rattle.m2v_slice.specs.Books.{Book}
+use Rattle.m2v_slice.specs.Conditions.{IsBook}
 use Rattle.m2v_enc_stream.specs.Streams.{Progress, at_start, book_of, group_coded}
-use Rattle.m2v_law_safe.specs.Removals.{groups_of}
-use Rattle.m2v_law_safe.specs.Sent.{SentPicture, sent_at, group_sent, groups_sent, Sent}
-use Rattle.m2v_enc_stream.proofs.m2v_slice.Ledgers.{times_count}
+use Rattle.m2v_enc_stream.specs.Removals.{groups_of}
+use Rattle.m2v_enc_stream.specs.Sent.{SentPicture, sent_at, group_sent, groups_sent, Sent}
+use Rattle.m2v_slice.proofs.Ledgers.{times_count}
 use Rattle.m2v_enc_stream.proofs.Stands.{HaveBooks, have_books}
-use Rattle.m2v_law_safe.proofs.Flat.{group_more}
+use Rattle.m2v_enc_stream.proofs.Flat.{group_more}
 
 abbrev units_of : List SentPicture → List ℕ
 units_of xs = map (λ (x : SentPicture). x.units) xs

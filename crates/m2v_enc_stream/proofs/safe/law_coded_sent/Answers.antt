@@ -2,15 +2,15 @@ use Rattle.std.proofs.Common.{subst, ap, ◌∙◌, List}
 use Rattle.m2v_vbv.specs.Annex.{Removal, removed, Safe}
 use Rattle.m2v_rate.specs.Plans.{start_of}
 use Rattle.m2v_rate.proofs.Streams.{stream_safe}
-use Rattle.m2v_law_safe.specs.Removals.{Seen}
-use Rattle.m2v_law_safe.proofs.Groups.{all_coded}
-use Rattle.m2v_law_safe.proofs.Streams.{stream_bits}
-use Rattle.m2v_law_safe.proofs.Flat.{stream_sent}
-use Rattle.m2v_law_safe.proofs.Exact.{stream_exact}
-use Rattle.m2v_law_safe.proofs.Fronts.{stream_at}
-use Rattle.m2v_law_safe.proofs.Begins.{stream_begins}
-use Rattle.m2v_law_safe.proofs.Units.{stream_units}
-use Rattle.m2v_law_safe.proofs.laws.law_coded_sent.Goals as goal
+use Rattle.m2v_enc_stream.specs.Removals.{Seen}
+use Rattle.m2v_enc_stream.proofs.Groups.{all_coded}
+use Rattle.m2v_enc_stream.proofs.Streams.{stream_bits}
+use Rattle.m2v_enc_stream.proofs.Flat.{stream_sent}
+use Rattle.m2v_enc_stream.proofs.Exact.{stream_exact}
+use Rattle.m2v_enc_stream.proofs.Fronts.{stream_at}
+use Rattle.m2v_enc_stream.proofs.Begins.{stream_begins}
+use Rattle.m2v_enc_stream.proofs.Units.{stream_units}
+use Rattle.m2v_enc_stream.proofs.safe.law_coded_sent.Goals as goal
 
 pub returns-clause-removals : goal.returns-clause-removals
 returns-clause-removals c = stream_sent

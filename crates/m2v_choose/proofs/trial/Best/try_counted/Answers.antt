@@ -5,14 +5,14 @@ use Rattle.m2v_choose.specs.Choice.{squared}
 use Rattle.m2v_choose.specs.Trials.{decided, candidate_of, rebuilt_by}
 use Rattle.m2v_choose.proofs.Tried.{left_out, kept, taken, fits_is, points}
 use Rattle.m2v_choose.proofs.PartSquares.{written_squares}
-use Rattle.m2v_choose.proofs.trial.Best.try_written.Goals as goal
+use Rattle.m2v_choose.proofs.trial.Best.try_counted.Goals as goal
 
 pub returns-then-not-fits : goal.returns-then-not-fits
 returns-then-not-fits c = record {
   tried = λ r predicts rated.
       let d = decided r c.args.task.now in
       let x = written c.args.syntax.now (levels_of c.args.levels.now) in
-      left_out d x c.args.self.now rated (sym (fits_is d x c.bits_of-bits.result (c.bits_of-bits.ensures.value r)) ∙ sym c.fits.ensures ∙ c.if-not-fits.true);
+      left_out d x c.args.self.now rated (sym (fits_is d x c.args.bits (c.requires.bits r)) ∙ sym c.fits.ensures ∙ c.if-not-fits.true);
 }
 
 pub returns-then-cost-self : goal.returns-then-cost-self
@@ -24,7 +24,7 @@ returns-then-cost-self c = record {
       let ls = levels_of c.args.levels.now in
       let p = c.args.prediction.now.at in
       let whole = written_squares t p m ls c.are_bytes.ensures in
-      let score = points r t m ls p (squared t.source.now.at (rebuilt_by t p (record { syntax = m; levels = ls }))) c.bit_cost.result c.bits_of-bits.result predicts refl c.bit_cost.ensures.value (c.bits_of-bits.ensures.value r) in
+      let score = points r t m ls p (squared t.source.now.at (rebuilt_by t p (record { syntax = m; levels = ls }))) c.bit_cost.result c.args.bits predicts refl c.bit_cost.ensures.value (c.requires.bits r) in
       kept d (written m ls) c.args.self.now rated (omega (arith, score, whole, c.requires.still, c.from.ensures, c.if-cost-self.true));
 }
 
@@ -37,10 +37,10 @@ returns-then-score-self c = record {
       let ls = levels_of c.args.levels.now in
       let p = c.args.prediction.now.at in
       let x = written m ls in
-      let bits = c.bits_of-bits.ensures.value r in
+      let bits = c.requires.bits r in
       let whole = written_squares t p m ls c.are_bytes.ensures in
       let all = squared t.source.now.at (rebuilt_by t p (record { syntax = m; levels = ls })) in
-      let score = points r t m ls p all c.bit_cost.result c.bits_of-bits.result predicts refl c.bit_cost.ensures.value bits in
+      let score = points r t m ls p all c.bit_cost.result c.args.bits predicts refl c.bit_cost.ensures.value bits in
       let squares : 8 * c.from-2.result + (c.bit_cost.result + 8 * c.from.result) ≡ 8 * all + c.bit_cost.result =
       elim c.coded_squares-squares.ensures.enough [
         | inl same ↦ omega (arith, same, whole, c.requires.still, c.from.ensures, c.from-2.ensures)
@@ -50,7 +50,7 @@ returns-then-score-self c = record {
       let same : candidate_of new.choice ≡ x =
       λ i. record { skip = c.take.ensures.skip i; macroblock = record { syntax = c.take.ensures.syntax i; levels = levels_of (c.take.ensures.levels i) } } in
       taken d x c.args.self.now rated new same (c.take.ensures.bits ∙ bits) (c.take.ensures.below ∙ squares ∙ score)
-      (sym (fits_is d x c.bits_of-bits.result bits) ∙ sym c.fits.ensures ∙ c.if-not-fits.false)
+      (sym (fits_is d x c.args.bits bits) ∙ sym c.fits.ensures ∙ c.if-not-fits.false)
       (omega (arith, c.take.ensures.below, c.if-score-self.true));
 }
 
@@ -64,6 +64,6 @@ returns-else-score-self c = record {
       let p = c.args.prediction.now.at in
       let x = written m ls in
       let whole = written_squares t p m ls c.are_bytes.ensures in
-      let score = points r t m ls p (squared t.source.now.at (rebuilt_by t p (record { syntax = m; levels = ls }))) c.bit_cost.result c.bits_of-bits.result predicts refl c.bit_cost.ensures.value (c.bits_of-bits.ensures.value r) in
+      let score = points r t m ls p (squared t.source.now.at (rebuilt_by t p (record { syntax = m; levels = ls }))) c.bit_cost.result c.args.bits predicts refl c.bit_cost.ensures.value (c.requires.bits r) in
       kept d x c.args.self.now rated (omega (arith, score, whole, c.requires.still, c.from.ensures, c.from-2.ensures, c.coded_squares-squares.ensures.most, c.if-score-self.false));
 }

@@ -1,11 +1,11 @@
 use Rattle.std.proofs.Common.{[], sym}
 use Rattle.m2v_rate.proofs.Streams.{stream_safe}
-use Rattle.m2v_law_safe.specs.Removals.{Seen}
-use Rattle.m2v_law_safe.proofs.Groups.{all_coded}
-use Rattle.m2v_law_safe.proofs.Delays.{placed, place_is, delay_exact}
-use Rattle.m2v_law_safe.proofs.Bounds.{delay_small, delay_first}
-use Rattle.m2v_law_safe.proofs.Streams.{stream_bits}
-use Rattle.m2v_law_safe.proofs.laws.law_coded_safe.Goals as goal
+use Rattle.m2v_enc_stream.specs.Removals.{Seen}
+use Rattle.m2v_enc_stream.proofs.Groups.{all_coded}
+use Rattle.m2v_enc_stream.proofs.Delays.{placed, place_is, delay_exact}
+use Rattle.m2v_enc_stream.proofs.Bounds.{delay_small, delay_first}
+use Rattle.m2v_enc_stream.proofs.Streams.{stream_bits}
+use Rattle.m2v_enc_stream.proofs.safe.law_coded_safe.Goals as goal
 
 pub returns-clause-coded : goal.returns-clause-coded
 returns-clause-coded c = λ s frames passes few. all_coded s frames passes few

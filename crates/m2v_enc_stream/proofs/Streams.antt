@@ -12,17 +12,17 @@ use Rattle.m2v_vbv.specs.Annex.{Removal, removed}
 use Rattle.m2v_order.specs.Groups.{Group}
 use Rattle.m2v_rate.specs.Plans.{Entries, fresh}
 use Rattle.m2v_rate.specs.Safety.{closed, ending_at, group_removals, removals}
-use Rattle.m2v_enc_stream.specs.m2v_slice.Books.{Book}
-use Rattle.m2v_enc_stream.specs.m2v_slice.Conditions.{IsBook}
+use Rattle.m2v_slice.specs.Books.{Book}
+use Rattle.m2v_slice.specs.Conditions.{IsBook}
 use Rattle.m2v_enc_stream.specs.Streams.{Progress, at_start, book_of, group_coded, groups_coded, coded_all, zeros_of, picture_text, pictures_text}
-use Rattle.m2v_law_safe.specs.Removals.{coded_of, ledger_of, seen_of, groups_seen, groups_of, Seen}
-use Rattle.m2v_enc_stream.proofs.m2v_slice.Ledgers.{whole_kinds, size_at}
+use Rattle.m2v_enc_stream.specs.Removals.{coded_of, ledger_of, seen_of, groups_seen, groups_of, Seen}
+use Rattle.m2v_slice.proofs.Ledgers.{whole_kinds, size_at}
 use Rattle.m2v_enc_stream.proofs.Pictures.{picture_length}
 use Rattle.m2v_enc_stream.proofs.Queues.{stream_some}
 use Rattle.m2v_enc_stream.proofs.Stands.{HasBook, HaveBooks, have_books, group_text_is}
-use Rattle.m2v_law_safe.proofs.Closed.{seen_length}
-use Rattle.m2v_law_safe.proofs.Groups.{group_closed, behind}
-use Rattle.m2v_law_safe.proofs.Texts.{pictures_bits, group_bits, removed_both}
+use Rattle.m2v_enc_stream.proofs.Closed.{seen_length}
+use Rattle.m2v_enc_stream.proofs.Groups.{group_closed, behind}
+use Rattle.m2v_enc_stream.proofs.Texts.{pictures_bits, group_bits, removed_both}
 
 -- ---- the last group
 

@@ -10,18 +10,18 @@ use Rattle.m2v_vbv.specs.Annex.{Removal}
 use Rattle.m2v_order.specs.Groups.{Group}
 use Rattle.m2v_rate.specs.Plans.{Entries, fresh}
 use Rattle.m2v_rate.specs.Safety.{closed, removal_at, ending_at, group_removals, removals}
-use Rattle.m2v_enc_stream.specs.m2v_slice.Books.{Book, ledger_with}
-use Rattle.m2v_enc_stream.specs.m2v_slice.Conditions.{IsBook}
+use Rattle.m2v_slice.specs.Books.{Book, ledger_with}
+use Rattle.m2v_slice.specs.Conditions.{IsBook}
 use Rattle.m2v_enc_stream.specs.Streams.{Progress, at_start, book_of, group_coded}
-use Rattle.m2v_law_safe.specs.Removals.{ledger_of, seen_of, groups_seen, groups_of, Seen}
-use Rattle.m2v_law_safe.specs.Sent.{removal_of, place_at, sent_at, group_sent, groups_sent, Sent}
-use Rattle.m2v_enc_stream.proofs.m2v_slice.Ledgers.{whole_kinds, size_at}
-use Rattle.m2v_law_safe.proofs.Closed.{seen_length}
+use Rattle.m2v_enc_stream.specs.Removals.{ledger_of, seen_of, groups_seen, groups_of, Seen}
+use Rattle.m2v_enc_stream.specs.Sent.{removal_of, place_at, sent_at, group_sent, groups_sent, Sent}
+use Rattle.m2v_slice.proofs.Ledgers.{whole_kinds, size_at}
+use Rattle.m2v_enc_stream.proofs.Closed.{seen_length}
 use Rattle.m2v_enc_stream.proofs.Stands.{HasBook, HaveBooks, have_books}
-use Rattle.m2v_law_safe.proofs.Groups.{group_closed, behind}
+use Rattle.m2v_enc_stream.proofs.Groups.{group_closed, behind}
 use Rattle.m2v_enc_stream.proofs.Pictures.{picture_length}
-use Rattle.m2v_law_safe.proofs.Texts.{picture_bits}
-use Rattle.m2v_law_safe.proofs.Streams.{zeros_none}
+use Rattle.m2v_enc_stream.proofs.Texts.{picture_bits}
+use Rattle.m2v_enc_stream.proofs.Streams.{zeros_none}
 
 -- ---- removals
 
