@@ -7,7 +7,7 @@ use Rattle.m2v_audit.specs.declared.records.Finding.{Finding}
 use Rattle.m2v_audit.specs.declared.records.FailureRecord.{FailureRecord}
 use Rattle.m2v_audit.specs.declared.records.EndRecord.{EndRecord}
 
--- 720 x 576 at 25 Hz, Main Profile at Main Level, interlaced, at 6 Mbit/s
+-- 720 x 576 at 25 Hz, Main Profile at Main Level, interlaced, of low delay, at 6 Mbit/s at most
 abbrev pub television : SequenceRecord
 television = record {
   sequence = 0;

@@ -17,7 +17,7 @@ pub(crate) enum Column<'a> {
 impl Column<'_> {
     /// A number.
     #[tactic(auto, unfolding(crate::specs::Lines::told))]
-    pub(crate) fn count(n: u64) -> Column<'static>
+    pub(crate) fn of(n: u64) -> Column<'static>
         ensures { told result ≡ number n }
     {
         Column::Number(u128::from(n))

@@ -39,7 +39,7 @@ impl Lines {
         self.text.as_slice()
     }
 
-    /// Takes the lines away, and keeps their memory.
+    /// Takes the lines away.
     pub fn clear(&mut self)
         ensures { self.new.text.items ≡ [] }
     {
@@ -54,7 +54,7 @@ impl Lines {
         print(
             &mut self.text,
             "audit",
-            &[Column::count(1), Column::Word(rules)],
+            &[Column::of(1), Column::Word(rules)],
         )
     }
 
@@ -74,9 +74,9 @@ impl Lines {
             &mut self.text,
             "skipped",
             &[
-                Column::count(s.sequence),
-                Column::count(s.byte),
-                Column::count(s.bytes),
+                Column::of(s.sequence),
+                Column::of(s.byte),
+                Column::of(s.bytes),
             ],
         )
     }
@@ -90,17 +90,17 @@ impl Lines {
             &mut self.text,
             "sequence",
             &[
-                Column::count(s.sequence),
-                Column::count(s.bit),
-                Column::count(s.width),
-                Column::count(s.height),
-                Column::count(s.frame_rate_code),
-                Column::count(s.aspect),
-                Column::count(s.profile_and_level),
+                Column::of(s.sequence),
+                Column::of(s.bit),
+                Column::of(s.width),
+                Column::of(s.height),
+                Column::of(s.frame_rate_code),
+                Column::of(s.aspect),
+                Column::of(s.profile_and_level),
                 Column::flag(s.progressive),
                 Column::flag(s.low_delay),
-                Column::count(s.bit_rate),
-                Column::count(s.vbv_buffer_size),
+                Column::of(s.bit_rate),
+                Column::of(s.vbv_buffer_size),
                 Column::Word(rate_word(s.rate)),
             ],
         )
@@ -115,16 +115,16 @@ impl Lines {
             &mut self.text,
             "picture",
             &[
-                Column::count(p.sequence),
-                Column::count(p.picture),
-                Column::count(p.bit),
+                Column::of(p.sequence),
+                Column::of(p.picture),
+                Column::of(p.bit),
                 Column::Word(type_word(p.kind)),
                 Column::Word(structure_word(p.structure)),
-                Column::count(p.temporal_reference),
-                Column::count(p.bits),
-                Column::count(p.zeros),
-                Column::count(p.vbv_delay),
-                Column::count(p.fields),
+                Column::of(p.temporal_reference),
+                Column::of(p.bits),
+                Column::of(p.zeros),
+                Column::of(p.vbv_delay),
+                Column::of(p.fields),
                 Column::flag(p.dropped),
             ],
         )
@@ -139,14 +139,14 @@ impl Lines {
             &mut self.text,
             "held",
             &[
-                Column::count(h.sequence),
-                Column::count(h.picture),
+                Column::of(h.sequence),
+                Column::of(h.picture),
                 Column::Number(h.time),
-                Column::count(h.before),
-                Column::count(h.taken),
-                Column::count(h.after),
+                Column::of(h.before),
+                Column::of(h.taken),
+                Column::of(h.after),
                 Column::Number(h.delay),
-                Column::count(h.wait),
+                Column::of(h.wait),
             ],
         )
     }
@@ -160,10 +160,10 @@ impl Lines {
             &mut self.text,
             "breach",
             &[
-                Column::count(f.sequence),
-                Column::count(f.picture),
-                Column::count(f.bit),
-                Column::count(u64::from(f.rule)),
+                Column::of(f.sequence),
+                Column::of(f.picture),
+                Column::of(f.bit),
+                Column::of(u64::from(f.rule)),
                 Column::Word(name_of(f.rule)),
                 Column::Number(f.have),
                 Column::Number(f.need),
@@ -180,14 +180,14 @@ impl Lines {
             &mut self.text,
             "failure",
             &[
-                Column::count(f.sequence),
-                Column::count(f.picture),
-                Column::count(f.bit),
+                Column::of(f.sequence),
+                Column::of(f.picture),
+                Column::of(f.bit),
                 Column::Word(failure_word(f.kind)),
                 Column::Number(f.time),
                 Column::Number(f.have),
                 Column::Number(f.need),
-                Column::count(f.wait),
+                Column::of(f.wait),
             ],
         )
     }
@@ -200,11 +200,7 @@ impl Lines {
         print(
             &mut self.text,
             "fault",
-            &[
-                Column::count(sequence),
-                Column::count(bit),
-                Column::Word(kind),
-            ],
+            &[Column::of(sequence), Column::of(bit), Column::Word(kind)],
         )
     }
 
@@ -216,7 +212,7 @@ impl Lines {
         print(
             &mut self.text,
             "limit",
-            &[Column::count(sequence), Column::Word(limit_word(kind))],
+            &[Column::of(sequence), Column::Word(limit_word(kind))],
         )
     }
 
@@ -229,10 +225,10 @@ impl Lines {
             &mut self.text,
             "count",
             &[
-                Column::count(c.sequence),
-                Column::count(u64::from(c.rule)),
-                Column::count(c.how_often),
-                Column::count(c.picture),
+                Column::of(c.sequence),
+                Column::of(u64::from(c.rule)),
+                Column::of(c.how_often),
+                Column::of(c.picture),
             ],
         )
     }
@@ -246,17 +242,17 @@ impl Lines {
             &mut self.text,
             "end",
             &[
-                Column::count(e.sequence),
-                Column::count(e.pictures),
-                Column::count(e.frames),
-                Column::count(e.groups),
-                Column::count(e.bytes),
-                Column::count(e.breaches),
-                Column::count(e.failures),
-                Column::count(e.warnings),
-                Column::count(e.low),
-                Column::count(e.high),
-                Column::count(e.delays),
+                Column::of(e.sequence),
+                Column::of(e.pictures),
+                Column::of(e.frames),
+                Column::of(e.groups),
+                Column::of(e.bytes),
+                Column::of(e.breaches),
+                Column::of(e.failures),
+                Column::of(e.warnings),
+                Column::of(e.low),
+                Column::of(e.high),
+                Column::of(e.delays),
                 Column::Number(e.time),
             ],
         )
@@ -271,12 +267,12 @@ impl Lines {
             &mut self.text,
             "total",
             &[
-                Column::count(t.sequences),
-                Column::count(t.pictures),
-                Column::count(t.bytes),
-                Column::count(t.breaches),
-                Column::count(t.failures),
-                Column::count(t.warnings),
+                Column::of(t.sequences),
+                Column::of(t.pictures),
+                Column::of(t.bytes),
+                Column::of(t.breaches),
+                Column::of(t.failures),
+                Column::of(t.warnings),
             ],
         )
     }

@@ -1,5 +1,5 @@
 //! What the records of the report tell. Sequences are numbered from 0, pictures from 0 in each sequence, in coding order.
-//! Places are counted from the begin of the input.
+//! Places are counted from the beginning of the input.
 use crate::words::{FailureKind, PictureType, RateKind, Structure};
 
 /// Bytes that are no part of a sequence: before one, or after the last.
