@@ -1,3 +1,17 @@
 //! What `audit` tells of a stream: the lines of its report, and the account of the buffer as it is told, picture by picture
 //! (Annex C of ISO/IEC 13818-2).
 #![tactic(auto)]
+
+mod line;
+mod lines;
+mod records;
+mod words;
+mod worked;
+
+pub use lines::Lines;
+pub use records::{
+    CountRecord, EndRecord, FailureRecord, Finding, HeldRecord, PictureRecord, SequenceRecord,
+    SkippedRecord, TotalRecord,
+};
+pub use words::{FailureKind, LimitKind, PictureType, RateKind, Structure};
+pub use worked::law_lines_worked;

@@ -1,0 +1,145 @@
+//! What the records of the report tell. Sequences are numbered from 0, pictures from 0 in each sequence, in coding order.
+//! Places are counted from the beginning of the input.
+use crate::words::{FailureKind, PictureType, RateKind, Structure};
+
+/// Bytes that are no part of a sequence: before one, or after the last.
+#[derive(Clone, Copy, Debug, PartialEq, Eq)]
+pub struct SkippedRecord {
+    pub sequence: u64,
+    /// The place of the first of them.
+    pub byte: u64,
+    /// How many there are.
+    pub bytes: u64,
+}
+
+/// A sequence, by its first header.
+#[derive(Clone, Copy, Debug, PartialEq, Eq)]
+pub struct SequenceRecord {
+    pub sequence: u64,
+    pub bit: u64,
+    pub width: u64,
+    pub height: u64,
+    pub frame_rate_code: u64,
+    /// The code of its aspect ratio (aspect_ratio_information).
+    pub aspect: u64,
+    pub profile_and_level: u64,
+    pub progressive: bool,
+    pub low_delay: bool,
+    /// In units of 400 bit/s.
+    pub bit_rate: u64,
+    /// In units of 16,384 bits.
+    pub vbv_buffer_size: u64,
+    pub rate: RateKind,
+}
+
+/// A picture.
+#[derive(Clone, Copy, Debug, PartialEq, Eq)]
+pub struct PictureRecord {
+    pub sequence: u64,
+    pub picture: u64,
+    pub bit: u64,
+    pub kind: PictureType,
+    pub structure: Structure,
+    pub temporal_reference: u64,
+    /// The bits of its piece: its headers, its slices and the zero bytes after them.
+    pub bits: u64,
+    /// The bits of the zero bytes that end it.
+    pub zeros: u64,
+    pub vbv_delay: u64,
+    /// For how many fields it is shown.
+    pub fields: u64,
+    /// It isn't decoded, as it wants a reference that isn't there.
+    pub dropped: bool,
+}
+
+/// What the decoder's buffer holds when a picture is removed from it.
+#[derive(Clone, Copy, Debug, PartialEq, Eq)]
+pub struct HeldRecord {
+    pub sequence: u64,
+    pub picture: u64,
+    /// When it is due, from when the first picture was due, in units of 1/720,000 s.
+    pub time: u128,
+    /// The bits that are held, rounded down.
+    pub before: u64,
+    /// The bits that it takes.
+    pub taken: u64,
+    /// The bits that are held after it, rounded down.
+    pub after: u64,
+    /// The delay (vbv_delay) that its removal implies; 65535 at variable rate.
+    pub delay: u128,
+    /// How long the decoder waits for it, in units of 1/720,000 s.
+    pub wait: u64,
+}
+
+/// A breach of a rule.
+#[derive(Clone, Copy, Debug, PartialEq, Eq)]
+pub struct Finding {
+    pub sequence: u64,
+    pub picture: u64,
+    pub bit: u64,
+    pub rule: u8,
+    /// What stands there.
+    pub have: u128,
+    /// What the rule wants.
+    pub need: u128,
+}
+
+/// A failure of the decoder's buffer.
+#[derive(Clone, Copy, Debug, PartialEq, Eq)]
+pub struct FailureRecord {
+    pub sequence: u64,
+    pub picture: u64,
+    pub bit: u64,
+    pub kind: FailureKind,
+    /// When the picture is due, from when the first picture was due, in units of 1/720,000 s.
+    pub time: u128,
+    /// What is held, in units of 1/1800 bit.
+    pub have: u128,
+    /// What the picture takes or, where more is held than there is room for, what the buffer takes.
+    pub need: u128,
+    /// How long the decoder waits for the picture, in units of 1/720,000 s.
+    pub wait: u64,
+}
+
+/// How often a rule was told in a sequence.
+#[derive(Clone, Copy, Debug, PartialEq, Eq)]
+pub struct CountRecord {
+    pub sequence: u64,
+    pub rule: u8,
+    pub how_often: u64,
+    /// The picture where it was told first.
+    pub picture: u64,
+}
+
+/// What there was in a sequence, at its end.
+#[derive(Clone, Copy, Debug, PartialEq, Eq)]
+pub struct EndRecord {
+    pub sequence: u64,
+    pub pictures: u64,
+    /// The frames that are shown.
+    pub frames: u64,
+    pub groups: u64,
+    pub bytes: u64,
+    pub breaches: u64,
+    pub failures: u64,
+    pub warnings: u64,
+    /// The least number of bits that the buffer held after a picture.
+    pub low: u64,
+    /// The greatest number of bits that the buffer held before a picture.
+    pub high: u64,
+    /// The pictures whose vbv_delay isn't the one that their removal implies.
+    pub delays: u64,
+    /// The time of its pictures, in units of 1/720,000 s.
+    pub time: u128,
+}
+
+/// What there was in the whole input.
+#[derive(Clone, Copy, Debug, PartialEq, Eq)]
+pub struct TotalRecord {
+    pub sequences: u64,
+    pub pictures: u64,
+    pub bytes: u64,
+    pub breaches: u64,
+    pub failures: u64,
+    pub warnings: u64,
+}
