@@ -155,7 +155,7 @@ impl Buffer {
     }
 
     /// What is there when the next picture is due, in a stream without an end.
-    fn reach(&self) -> u128
+    pub fn reach(&self) -> u128
         ensures value { result ≡ reach self.now }
         ensures most { result ≤ self.now.held }
     {
