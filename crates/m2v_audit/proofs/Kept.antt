@@ -1,21 +1,16 @@
 -- What an account keeps as bits come and pictures are removed.
-use Rattle.std.proofs.Common.{◌≡◌, ℕ, ◌+◌, ◌-◌, ◌*◌, ◌^◌, ◌<◌, ◌≤◌, List, [], ◌∷◌, ◌++◌, Option, Some, None, refl, sym, ap, subst, ◌∙◌, arith}
-use Rattle.std.specs.Prelude.{map}
-use Rattle.std.specs.List.{AllByRecursion}
-use Rattle.std.specs.Option.{option_map, option_to_list}
+use Rattle.std.proofs.Common.{◌≡◌, ℕ, ◌+◌, ◌-◌, List, [], ◌∷◌, ◌++◌, Option, Some, None, refl, ap, ◌∙◌, arith}
+use Rattle.std.specs.Option.{option_to_list}
 use Rattle.std.proofs.lemmas.List.{map-append}
-use Rattle.std.proofs.lemmas.List.Sums.{sum_by-cons}
-use Rattle.m2v_vbv.specs.Annex.{Removal, removed}
-use Rattle.m2v_vbv.specs.Buffer.{Picture, Buffer, told, next, removals, left}
+use Rattle.m2v_vbv.specs.Buffer.{Picture, Buffer, next, left}
+use Rattle.m2v_vbv.proofs.Fine.{left_cons as more_left}
 use Rattle.m2v_vbv.proofs.Steps.{left_append}
 use Rattle.m2v_audit.specs.declared.account.Due.{Due}
-use Rattle.m2v_audit.specs.Account.{picture_of, pictures, IsPicture, IsSound, last_bits, longer}
+use Rattle.m2v_audit.specs.Account.{picture_of, pictures, IsSound, last_bits}
 
 -- bits by one picture more
 pub left_cons : (d : Due) (ds : List Due) (n : ℕ) → left (pictures (d ∷ ds)) n ≡ d.bits + left (pictures ds) n
-left_cons d ds n =
-    let e = sum_by-cons (λ (r : Removal). r.bits) (record { bits = d.bits; units = d.units }) (removals (pictures ds)) in
-    omega (arith, e)
+left_cons d ds n = more_left (picture_of d) (pictures ds) n
 
 pub left_both : (ds es : List Due) (n : ℕ) → left (pictures (ds ++ es)) n ≡ left (pictures ds) (left (pictures es) n)
 left_both ds es n = ap (λ ps. left ps n) (map-append picture_of ds es) ∙ left_append (pictures ds) (pictures es) n

@@ -1,13 +1,12 @@
 -- What is told of removals, one after another and all at once.
-use Rattle.std.proofs.Common.{◌≡◌, ℕ, ◌+◌, ◌-◌, ◌*◌, ◌≤◌, Bool, true, false, List, [], ◌∷◌, ◌++◌, Option, Some, None, refl, sym, ap, subst, ◌∙◌, arith}
-use Rattle.std.specs.Prelude.{if◌then◌else◌, IsNone}
-use Rattle.std.specs.List.{zip}
-use Rattle.std.specs.Option.{option_map, option_to_list}
+use Rattle.std.proofs.Common.{◌≡◌, ℕ, true, false, List, [], ◌∷◌, ◌++◌, Option, Some, None, refl, sym, ap, subst, ◌∙◌}
+use Rattle.std.specs.Prelude.{IsNone}
+use Rattle.std.specs.Option.{option_to_list}
 use Rattle.m2v_vbv.specs.declared.removed.Removed.{Removed}
-use Rattle.m2v_vbv.specs.Buffer.{Picture, Buffer, reach, told, next, left, tells}
+use Rattle.m2v_vbv.specs.Buffer.{Buffer, told, next, left, tells}
 use Rattle.m2v_audit.specs.declared.account.Due.{Due}
-use Rattle.m2v_audit.specs.Account.{picture_of, pictures, Told, all_told, Account, untold, last_bits, known, settles, Step, removing, first_of, first_settled, first_left, Tells, settled_of, behind_settled, settled, after_settled, ended}
-use Rattle.m2v_audit.proofs.Kept.{left_cons, left_both, known_is}
+use Rattle.m2v_audit.specs.Account.{picture_of, pictures, Told, Account, last_bits, known, settles, removing, first_of, first_left, Tells, settled_of, behind_settled, settled, after_settled, ended}
+use Rattle.m2v_audit.proofs.Kept.{known_is}
 
 -- ---- one removal
 
@@ -89,16 +88,20 @@ end_says a (Some t) new says = record { told = left_told a.buffer a.waiting a.la
 
 -- ---- what is settled
 
-open_told : (b : Buffer) (d : Due) (ds : List Due) (n : ℕ) → settles b (left (pictures (d ∷ ds)) n) ≡ false → settled_of b (d ∷ ds) n ≡ []
+pub open_told : (b : Buffer) (d : Due) (ds : List Due) (n : ℕ) → settles b (left (pictures (d ∷ ds)) n) ≡ false → settled_of b (d ∷ ds) n ≡ []
 unfolding settled_of
 open_told b d ds n e = rw e refl
 
-one_told : (b : Buffer) (d : Due) (ds : List Due) (n : ℕ) → let k = left (pictures (d ∷ ds)) n in settles b k ≡ true
+pub open_behind : (b : Buffer) (d : Due) (ds : List Due) (n : ℕ) → settles b (left (pictures (d ∷ ds)) n) ≡ false → behind_settled b (d ∷ ds) n ≡ (b, d ∷ ds)
+unfolding behind_settled
+open_behind b d ds n e = rw e refl
+
+pub one_told : (b : Buffer) (d : Due) (ds : List Due) (n : ℕ) → let k = left (pictures (d ∷ ds)) n in settles b k ≡ true
     → settled_of b (d ∷ ds) n ≡ (d, told b (picture_of d) k) ∷ settled_of (next b (picture_of d) k) ds n
 unfolding settled_of
 one_told b d ds n e = rw e refl
 
-one_behind : (b : Buffer) (d : Due) (ds : List Due) (n : ℕ) → let k = left (pictures (d ∷ ds)) n in settles b k ≡ true
+pub one_behind : (b : Buffer) (d : Due) (ds : List Due) (n : ℕ) → let k = left (pictures (d ∷ ds)) n in settles b k ≡ true
     → behind_settled b (d ∷ ds) n ≡ behind_settled (next b (picture_of d) k) ds n
 unfolding behind_settled
 one_behind b d ds n e = rw e refl
@@ -107,7 +110,7 @@ one_behind b d ds n e = rw e refl
 pub record Settled (a : Account) (r : Option Told) (new : Account) : Type 0 where
   pub told : settled a ≡ option_to_list r ++ settled new
   pub after : after_settled new ≡ after_settled a
-  pub none : IsNone r → settled a ≡ []
+  pub none : IsNone r → (settled a ≡ []) × (new ≡ after_settled a)
 
 settled_first : (a : Account) (d : Due) (ds : List Due) → a.waiting ≡ d ∷ ds → settles a.buffer (known a) ≡ true → (x : Told × Account) → removing a d ds a.last ≡ x
     → (settled a ≡ x.0 ∷ settled x.1) × (after_settled x.1 ≡ after_settled a)
@@ -128,8 +131,8 @@ settled_first a d ds w e x is =
 pub settle_says : (b : Buffer) (ds : List Due) (last : Option Due) (total : ℕ) (r : Option Told) (new : Account) →
     let a : Account = record { buffer = b; waiting = ds; last = last; total = total } in
     settles b (known a) ≡ true → Tells (first_of ds a) a r new → Settled a r new
-unfolding first_of settled_of
-settle_says b [] last total None new e says = record { told = ap settled (sym says.1); after = ap after_settled says.1; none = λ _. refl }
+unfolding first_of settled_of behind_settled
+settle_says b [] last total None new e says = record { told = ap settled (sym says.1); after = ap after_settled says.1; none = λ _. (refl, says.1) }
 settle_says b [] last total (Some t) new e says = absurd cc
 settle_says b (d ∷ ds) last total None new e says = let f = says.0 in absurd cc
 settle_says b (d ∷ ds) last total (Some t) new e says =
@@ -140,7 +143,11 @@ settle_says b (d ∷ ds) last total (Some t) new e says =
 
 pub open_says : (b : Buffer) (ds : List Due) (last : Option Due) (total : ℕ) →
     let a : Account = record { buffer = b; waiting = ds; last = last; total = total } in
-    settles b (known a) ≡ false → settled a ≡ []
-unfolding settled_of
-open_says b [] last total e = refl
-open_says b (d ∷ ds) last total e = open_told b d ds (last_bits last) (subst (λ (k : ℕ). settles b k ≡ false) (known_is (d ∷ ds) last) e)
+    settles b (known a) ≡ false → (settled a ≡ []) × (a ≡ after_settled a)
+unfolding settled_of behind_settled
+open_says b [] last total e = (refl, refl)
+open_says b (d ∷ ds) last total e =
+    let n = last_bits last in
+    let f = subst (λ (k : ℕ). settles b k ≡ false) (known_is (d ∷ ds) last) e in
+    let with : Buffer × List Due → Account = λ p. record { buffer = p.0; waiting = p.1; last = last; total = total } in
+    (open_told b d ds n f, ap with (sym (open_behind b d ds n f)))

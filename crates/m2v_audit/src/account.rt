@@ -109,7 +109,7 @@ impl Account {
         ensures exact { Tells (first_settled self.old) self.old result self.new }
         ensures told { settled self.old ≡ option_to_list result ++ settled self.new }
         ensures after { after_settled self.new ≡ after_settled self.old }
-        ensures none { IsNone result → settled self.old ≡ [] }
+        ensures none { IsNone result → (settled self.old ≡ []) × (self.new ≡ after_settled self.old) }
     {
         if self.is_settled() {
             self.first()

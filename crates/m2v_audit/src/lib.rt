@@ -3,5 +3,7 @@
 #![tactic(auto)]
 
 mod account;
+mod account_laws;
 
 pub use account::{Account, Due};
+pub use account_laws::{law_as_soon_as_settled, law_told_in_all};

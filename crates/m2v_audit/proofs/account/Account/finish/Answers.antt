@@ -1,4 +1,4 @@
-use Rattle.std.proofs.Common.{◌≡◌, Some, ap, ◌∙◌}
+use Rattle.std.proofs.Common.{Some, ap, ◌∙◌}
 use Rattle.m2v_audit.specs.Account.{Account}
 use Rattle.m2v_audit.proofs.Telling.{none_first, first_too, none_before, end_says}
 use Rattle.m2v_audit.proofs.account.Account.finish.Goals as goal

@@ -1,4 +1,4 @@
-use Rattle.std.proofs.Common.{◌≡◌, sym, ◌∙◌}
+use Rattle.std.proofs.Common.{sym}
 use Rattle.m2v_audit.proofs.Telling.{settle_says, open_says}
 use Rattle.m2v_audit.proofs.account.Account.settle.Goals as goal
 
