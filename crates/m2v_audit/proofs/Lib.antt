@@ -1,1 +1,4 @@
 pub mod LineLaws
+pub mod Kept
+pub mod Telling
+pub mod Reports

@@ -2,12 +2,16 @@
 //! (Annex C of ISO/IEC 13818-2).
 #![tactic(auto)]
 
+mod account;
+mod account_laws;
 mod line;
 mod lines;
 mod records;
 mod words;
 mod worked;
 
+pub use account::{Account, Due};
+pub use account_laws::{law_as_soon_as_settled, law_told_in_all};
 pub use lines::Lines;
 pub use records::{
     CountRecord, EndRecord, FailureRecord, Finding, HeldRecord, PictureRecord, SequenceRecord,
