@@ -6,4 +6,4 @@ mod account;
 mod account_laws;
 
 pub use account::{Account, Due};
-pub use account_laws::{law_as_soon_as_settled, law_told_in_all};
+pub use account_laws::{law_account_worked, law_as_soon_as_settled, law_told_in_all};
