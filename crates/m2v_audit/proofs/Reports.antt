@@ -3,6 +3,8 @@ use Rattle.std.proofs.Common.{◌≡◌, ℕ, ◌+◌, ◌*◌, ◌<◌, ◌≤�
 use Rattle.std.specs.List.{AllByRecursion}
 use Rattle.std.specs.Option.{option_to_list}
 use Rattle.std.proofs.lemmas.Bool.{cases_Bool, leb-true, leb-false}
+use Rattle.std.specs.Prelude.{map}
+use Rattle.std.proofs.lemmas.Slice.Zip.{firsts-zip, seconds-zip}
 use Rattle.m2v_vbv.specs.Buffer.{Picture, Buffer, reach, have_of, told, next, left, tells}
 use Rattle.m2v_vbv.specs.declared.removed.Removed.{Removed}
 use Rattle.m2v_vbv.proofs.Steps.{settled_told, settled_next}
@@ -75,6 +77,19 @@ told_onward a (more n ∷ es) =
 
 pub told_in_all : (b : Buffer) (first : Due) (es : List Event) → reported (opened b first) es ≡ all_told b (read (Some first) es)
 told_in_all b first es = told_onward (opened b first) es
+
+-- ---- what is told of whole pictures
+
+as_many : (b : Buffer) (ds : List Due) → length (tells b (pictures ds) 0) ≡ length ds
+unfolding tells
+as_many b [] = refl
+as_many b (d ∷ ds) = let e = as_many (next b (picture_of d) (left (pictures (d ∷ ds)) 0)) ds in omega (arith, e)
+
+pub each_told : (b : Buffer) (ds : List Due) → map (λ (t : Told). t.0) (all_told b ds) ≡ ds
+each_told b ds = firsts-zip ds (tells b (pictures ds) 0) (as_many b ds)
+
+pub removals_told : (b : Buffer) (ds : List Due) → map (λ (t : Told). t.1) (all_told b ds) ≡ tells b (pictures ds) 0
+removals_told b ds = seconds-zip ds (tells b (pictures ds) 0) (as_many b ds)
 
 -- ---- when a removal is settled
 

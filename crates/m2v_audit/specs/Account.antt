@@ -107,6 +107,9 @@ first_left (d ∷ ds) last a = Some (removing a d ds last)
 first_left [] (Some d) a = Some (removing a d [] None)
 first_left [] None a = None
 
+abbrev pub first_ended : Account → Step
+first_ended a = first_left a.waiting a.last a
+
 -- what is told, and what stands behind it; where nothing is told, the account stays
 abbrev pub Tells : Step → Account → Option Told → Account → Type 0
 Tells step old None new = (step ≡ None) × (new ≡ old)

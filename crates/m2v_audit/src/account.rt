@@ -1,10 +1,10 @@
 // The account of a sequence's buffer as it is told. What is held ends with the stream, so a removal is told once as many
-// bits are known as could be held, or at the sequence's end: until then its picture waits in a queue, which is as long as
-// the buffer holds pictures.
+// bits are known as could be held, or at the sequence's end: until then its picture waits in a queue, which is as long
+// as the buffer holds pictures.
 ghost use Rattle.std.specs.Prelude.{◌≡◌, ℕ, ◌+◌, ◌*◌, ◌<◌, ◌≤◌, ◌^◌, [], ◌++◌, OnOk, OnErr, IsNone};
 ghost use Rattle.std.specs.Option.{option_map, option_to_list};
 ghost use Rattle.m2v_vbv.specs.Buffer.{Buffer as Held, Picture, told, next};
-ghost use Rattle.m2v_audit.specs.Account.{IsPicture, Account as State, opened, with_picture, with_more, longer, last_bits, untold, known as known_of, settles, first_of, first_settled, first_left, Tells, settled, after_settled, ended};
+ghost use Rattle.m2v_audit.specs.Account.{IsPicture, Account as State, opened, with_picture, with_more, longer, last_bits, untold, known as known_of, settles, first_of, first_settled, first_left, first_ended, Tells, settled, after_settled, ended};
 
 use m2v_vbv::{Buffer, Removed};
 use std::alloc::{AllocError, Global};
@@ -28,9 +28,10 @@ pub struct Due {
     pub delay: u64,
 }
 
-/// The account of a sequence's buffer, which tells each removal as soon as no bit that follows can change what is told.
+/// The account of a sequence's buffer, which tells each removal as soon as no bit that follows can change what is told
+/// of it.
 ///
-/// Contracts see it as the buffer behind the removals that were told, the whole pictures that wait, the last picture, of
+/// Contracts see it as the buffer after the removals that were told, the whole pictures that wait, the last picture, of
 /// which more bits may follow, and the bits of all pictures so far.
 #[derive(Drop)]
 pub struct Account {
@@ -109,7 +110,8 @@ impl Account {
         ensures exact { Tells (first_settled self.old) self.old result self.new }
         ensures told { settled self.old ≡ option_to_list result ++ settled self.new }
         ensures after { after_settled self.new ≡ after_settled self.old }
-        ensures none { IsNone result → (settled self.old ≡ []) × (self.new ≡ after_settled self.old) }
+        ensures none { IsNone result → settled self.old ≡ [] }
+        ensures all { IsNone result → self.new ≡ after_settled self.old }
     {
         if self.is_settled() {
             self.first()
@@ -120,7 +122,7 @@ impl Account {
 
     /// At the sequence's end: the next removal of all that are left, that of the last picture too.
     pub fn finish(&mut self) -> Option<(Due, Removed)>
-        ensures exact { Tells (first_left self.old.waiting self.old.last self.old) self.old result self.new }
+        ensures exact { Tells (first_ended self.old) self.old result self.new }
         ensures told { ended self.old ≡ option_to_list result ++ ended self.new }
         ensures none { IsNone result → ended self.old ≡ [] }
     {
@@ -152,11 +154,10 @@ impl Account {
         let known = self.known();
         let due = self.waiting.pop_front()?;
         self.whole -= due.bits;
-        Some((
-            due,
-            self.buffer
-                .remove(due.bits, due.code_bits, due.units, known),
-        ))
+        let removed = self
+            .buffer
+            .remove(due.bits, due.code_bits, due.units, known);
+        Some((due, removed))
     }
 
     /// Removes the last picture, where none waits before it.
@@ -166,11 +167,10 @@ impl Account {
     {
         let known = self.known();
         let due = self.last.take()?;
-        Some((
-            due,
-            self.buffer
-                .remove(due.bits, due.code_bits, due.units, known),
-        ))
+        let removed = self
+            .buffer
+            .remove(due.bits, due.code_bits, due.units, known);
+        Some((due, removed))
     }
 }
 

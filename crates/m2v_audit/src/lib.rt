@@ -11,7 +11,7 @@ mod words;
 mod worked;
 
 pub use account::{Account, Due};
-pub use account_laws::{law_as_soon_as_settled, law_told_in_all};
+pub use account_laws::{law_account_worked, law_as_soon_as_settled, law_told_in_all};
 pub use lines::Lines;
 pub use records::{
     CountRecord, EndRecord, FailureRecord, Finding, HeldRecord, PictureRecord, SequenceRecord,

@@ -18,11 +18,11 @@ pub invariant_of-self-2 : goal.invariant_of-self-2
 invariant_of-self-2 c =
     let s = c.self.inside in
     let sound = subst (λ (xs : List Due). IsSound s.buffer xs s.whole s.last s.total) c.in_ok-due.ensures.items c.self.invariant in
-    sound_first s.buffer c.remove.new.self c.in_ok-due.due c.pop_front.new.self.items s.whole s.last s.total (picture_of c.in_ok-due.due) c.known-known.result c.remove.ensures.next sound
+    sound_first s.buffer c.remove-removed.new.self c.in_ok-due.due c.pop_front.new.self.items s.whole s.last s.total (picture_of c.in_ok-due.due) c.known-known.result c.remove-removed.ensures.next sound
 
 pub returns : goal.returns
 returns c =
     let s = c.self.inside in
     let old : Account = record { buffer = s.buffer; waiting = s.waiting.items; last = s.last; total = s.total } in
-    let is = first_is old c.in_ok-due.due c.pop_front.new.self.items c.known-known.result c.remove.result c.remove.new.self c.in_ok-due.ensures.items in
-    rw (← c.self.view_is) (record { exact = is (c.known-known.ensures.value ∙ ap known (sym c.self.view_is)) c.remove.ensures.told c.remove.ensures.next })
+    let is = first_is old c.in_ok-due.due c.pop_front.new.self.items c.known-known.result c.remove-removed.result c.remove-removed.new.self c.in_ok-due.ensures.items in
+    rw (← c.self.view_is) (record { exact = is (c.known-known.ensures.value ∙ ap known (sym c.self.view_is)) c.remove-removed.ensures.told c.remove-removed.ensures.next })
