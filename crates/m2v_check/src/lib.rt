@@ -27,5 +27,7 @@ pub use laws::{law_account, law_rules};
 pub use m2v_dec_piece::{DecodeError, Fault};
 pub use m2v_decode as decode;
 pub use m2v_vbv::AccountFault;
+pub use picture_rules::{rules_from_12, rules_to_10};
+pub use sequence_rules::sequence_rules;
 pub use verdict::{Figures, Verdict};
 pub use whole::check;
