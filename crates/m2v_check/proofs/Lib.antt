@@ -1,4 +1,5 @@
 pub mod Firsts
+pub mod Told
 pub mod Merging
 pub mod Displaying
 pub mod Placing

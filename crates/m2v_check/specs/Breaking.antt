@@ -1,5 +1,5 @@
 -- What is told of a broken rule, and the pictures that the rules are asked about.
-use Rattle.std.specs.Prelude.{◌||◌, not, [], ◌∷◌, Option, Some, None}
+use Rattle.std.specs.Prelude.{◌||◌, not, List, [], ◌∷◌, ◌++◌, Option, Some, None}
 use Rattle.std.specs.Option.{option_map}
 use Rattle.m2v_plane.specs.Fields.{or_none}
 use Rattle.m2v_model.specs.declared.notes.PictureNote.{PictureNote}
@@ -29,6 +29,15 @@ untold b = record { rule = b.rule; picture = b.picture; have = b.have; need = b.
 
 abbrev pub found : Breaches → Option BrokenRule
 found bs = option_map untold (first_of bs)
+
+-- the breach that is told at one place where a rule may be broken, and those of several in turn
+abbrev pub told_at : Option BrokenRule → Breaches
+told_at None = []
+told_at (Some b) = told b ∷ []
+
+abbrev pub told_by : List (Option BrokenRule) → Breaches
+told_by [] = []
+told_by (o ∷ os) = told_at o ++ told_by os
 
 -- what a note tells of a picture; its samples are of no matter to the rules
 abbrev pub noted_picture : PictureNote → Picture

@@ -1,6 +1,6 @@
 ghost use Rattle.std.specs.Prelude.{◌≡◌, ℕ};
 ghost use Rattle.m2v_model.specs.Lawful.{breach, judge, at_most, within};
-ghost use Rattle.m2v_check.specs.Breaking.{told, first_some, found};
+ghost use Rattle.m2v_check.specs.Breaking.{told, told_at, told_by, first_some, found};
 
 /// A rule that a stream breaks, and the two numbers that it compares.
 #[derive(Clone, Copy, Debug, PartialEq, Eq)]
@@ -25,16 +25,28 @@ pub fn either(a: Option<BrokenRule>, b: Option<BrokenRule>) -> Option<BrokenRule
     }
 }
 
+/// The first breach of several places in turn.
+pub fn first_of(places: &[Option<BrokenRule>]) -> Option<BrokenRule>
+    ensures value { result ≡ found (told_by places.now) }
+{
+    for place in places {
+        if let Some(broken) = place {
+            return Some(*broken);
+        }
+    }
+    None
+}
+
 /// The breach of a rule that may hold.
 pub fn judge(holds: bool, broken: BrokenRule) -> Option<BrokenRule>
-    ensures value { result ≡ found (judge holds (told broken)) }
+    ensures value { told_at result ≡ judge holds (told broken) }
 {
     if holds { None } else { Some(broken) }
 }
 
 /// A rule that what the stream has is at most what is needed.
 pub fn at_most(rule: u8, picture: u64, have: u128, need: u128) -> Option<BrokenRule>
-    ensures value { result ≡ found (at_most rule picture have need) }
+    ensures value { told_at result ≡ at_most rule picture have need }
 {
     let broken = BrokenRule {
         rule,
@@ -47,7 +59,7 @@ pub fn at_most(rule: u8, picture: u64, have: u128, need: u128) -> Option<BrokenR
 
 /// A rule that what the stream has lies from one bound to another; the nearer one is needed.
 pub fn within(rule: u8, picture: u64, have: u128, low: u128, high: u128) -> Option<BrokenRule>
-    ensures value { result ≡ found (within rule picture have low high) }
+    ensures value { told_at result ≡ within rule picture have low high }
 {
     if have < low {
         return Some(BrokenRule {

@@ -3,9 +3,9 @@ ghost use Rattle.std.specs.Prelude.{◌≡◌, ◌<◌, ◌++◌, slice_index, s
 ghost use Rattle.m2v_model.specs.Headers.{uses_backward};
 ghost use Rattle.m2v_model.specs.States.{is_frame};
 ghost use Rattle.m2v_model.specs.Lawful.{at_most, level_in, most_horizontal, has_forward_vectors, f_code_of, horizontal_rule, vertical_rule, intra_rule, crowd_rule, repeat_rule, progressive_rule, precision_rule};
-ghost use Rattle.m2v_check.specs.Breaking.{found, numbered_of, noted_picture};
+ghost use Rattle.m2v_check.specs.Breaking.{told_at, told_by, numbered_of, noted_picture};
 
-use crate::broken::{BrokenRule, at_most, either, judge};
+use crate::broken::{BrokenRule, at_most, judge};
 use crate::coded::CodedPicture;
 use crate::level::{level_of, most_horizontal};
 use m2v_head::{PictureExtension, PictureInfo};
@@ -26,7 +26,7 @@ pub fn is_b(info: &PictureInfo) -> bool
 
 /// A rule on an f_code, where it is used.
 fn f_code_rule(used: bool, rule: u8, picture: u64, code: u8, most: u8) -> Option<BrokenRule>
-    ensures value { result ≡ found (if used then at_most rule picture code most else []) }
+    ensures value { told_at result ≡ (if used then at_most rule picture code most else []) }
 {
     if !used {
         return None;
@@ -53,9 +53,9 @@ fn f_code(e: &PictureExtension, direction: usize, component: usize) -> u8
 }
 
 /// Horizontal f_codes.
-#[tactic(auto, using(crate::proofs::Firsts::found_more), unfolding(m2v_model::specs::Lawful::horizontal_rule))]
-fn horizontal_rule(p: &CodedPicture) -> Option<BrokenRule>
-    ensures value { result ≡ found (horizontal_rule (numbered_of p.now)) }
+#[tactic(auto, unfolding(m2v_model::specs::Lawful::horizontal_rule))]
+fn horizontal_rule(p: &CodedPicture) -> [Option<BrokenRule>; 2]
+    ensures value { told_by result ≡ horizontal_rule (numbered_of p.now) }
 {
     let most = most_horizontal(level_of(p.sequence.extension.profile_and_level));
     let e = &p.note.extension;
@@ -63,7 +63,7 @@ fn horizontal_rule(p: &CodedPicture) -> Option<BrokenRule>
     let forward = f_code_rule(has_forward_vectors(p), 8, p.number, fore, most);
     let back = f_code(e, 1, 0);
     let backward = f_code_rule(is_b(&p.note.info), 8, p.number, back, most);
-    either(forward, backward)
+    [forward, backward]
 }
 
 /// The greatest vertical f_code of a picture.
@@ -74,9 +74,9 @@ fn most_vertical(e: &PictureExtension) -> u8
 }
 
 /// Vertical f_codes.
-#[tactic(auto, using(crate::proofs::Firsts::found_more), unfolding(m2v_model::specs::Lawful::vertical_rule))]
-fn vertical_rule(p: &CodedPicture) -> Option<BrokenRule>
-    ensures value { result ≡ found (vertical_rule (numbered_of p.now)) }
+#[tactic(auto, unfolding(m2v_model::specs::Lawful::vertical_rule))]
+fn vertical_rule(p: &CodedPicture) -> [Option<BrokenRule>; 2]
+    ensures value { told_by result ≡ vertical_rule (numbered_of p.now) }
 {
     let most = most_vertical(&p.note.extension);
     let e = &p.note.extension;
@@ -84,13 +84,13 @@ fn vertical_rule(p: &CodedPicture) -> Option<BrokenRule>
     let forward = f_code_rule(has_forward_vectors(p), 9, p.number, fore, most);
     let back = f_code(e, 1, 1);
     let backward = f_code_rule(is_b(&p.note.info), 9, p.number, back, most);
-    either(forward, backward)
+    [forward, backward]
 }
 
 /// The first picture behind a group header is an I picture.
 #[tactic(auto, unfolding(m2v_model::specs::Lawful::intra_rule))]
 fn intra_rule(p: &CodedPicture) -> Option<BrokenRule>
-    ensures value { result ≡ found (intra_rule (numbered_of p.now)) }
+    ensures value { told_at result ≡ intra_rule (numbered_of p.now) }
 {
     let kind = p.note.info.kind;
     let broken = BrokenRule {
@@ -105,7 +105,7 @@ fn intra_rule(p: &CodedPicture) -> Option<BrokenRule>
 /// At most two macroblocks of a row are large.
 #[tactic(auto, unfolding(m2v_model::specs::Lawful::crowd_rule))]
 fn crowd_rule(p: &CodedPicture) -> Option<BrokenRule>
-    ensures value { result ≡ found (crowd_rule (numbered_of p.now)) }
+    ensures value { told_at result ≡ crowd_rule (numbered_of p.now) }
 {
     let crowded = p.note.crowded;
     at_most(12, p.number, u128::from(crowded), 2)
@@ -114,7 +114,7 @@ fn crowd_rule(p: &CodedPicture) -> Option<BrokenRule>
 /// Fields are repeated in progressive frames of interlaced sequences alone, where the rate is constant.
 #[tactic(auto, unfolding(m2v_model::specs::Lawful::repeat_rule))]
 fn repeat_rule(constant: bool, p: &CodedPicture) -> Option<BrokenRule>
-    ensures value { result ≡ found (repeat_rule constant (numbered_of p.now)) }
+    ensures value { told_at result ≡ repeat_rule constant (numbered_of p.now) }
 {
     let broken = BrokenRule {
         rule: 13,
@@ -130,7 +130,7 @@ fn repeat_rule(constant: bool, p: &CodedPicture) -> Option<BrokenRule>
 /// In a progressive sequence frames have frame prediction, and then they are progressive.
 #[tactic(auto, unfolding(m2v_model::specs::Lawful::progressive_rule))]
 fn progressive_rule(p: &CodedPicture) -> Option<BrokenRule>
-    ensures value { result ≡ found (progressive_rule (numbered_of p.now)) }
+    ensures value { told_at result ≡ progressive_rule (numbered_of p.now) }
 {
     let broken = BrokenRule {
         rule: 14,
@@ -149,30 +149,39 @@ fn progressive_rule(p: &CodedPicture) -> Option<BrokenRule>
 /// The precision of DC coefficients.
 #[tactic(auto, unfolding(m2v_model::specs::Lawful::precision_rule))]
 fn precision_rule(p: &CodedPicture) -> Option<BrokenRule>
-    ensures value { result ≡ found (precision_rule (numbered_of p.now)) }
+    ensures value { told_at result ≡ precision_rule (numbered_of p.now) }
 {
     let precision = p.note.extension.dc_precision;
     at_most(15, p.number, u128::from(precision), 2)
 }
 
-/// The first rule before that on temporal_reference that a picture breaks.
-pub fn breach_before(p: &CodedPicture) -> Option<BrokenRule>
-    ensures value { result
-        ≡ found (horizontal_rule (numbered_of p.now) ++ vertical_rule (numbered_of p.now)
-        ++ intra_rule (numbered_of p.now)) }
+/// The rules on a picture that come before the one on its place, by number: at each place the breach, where there is one.
+pub fn rules_to_10(p: &CodedPicture) -> [Option<BrokenRule>; 5]
+    ensures value { told_by result
+        ≡ horizontal_rule (numbered_of p.now) ++ vertical_rule (numbered_of p.now)
+        ++ intra_rule (numbered_of p.now) }
 {
-    let first = horizontal_rule(p);
-    let tail = either(vertical_rule(p), intra_rule(p));
-    either(first, tail)
+    let horizontal = horizontal_rule(p);
+    let vertical = vertical_rule(p);
+    [
+        horizontal[0],
+        horizontal[1],
+        vertical[0],
+        vertical[1],
+        intra_rule(p),
+    ]
 }
 
-/// The first rule behind that on temporal_reference that a picture breaks, where the rate is constant or isn't.
-pub fn breach_behind(constant: bool, p: &CodedPicture) -> Option<BrokenRule>
-    ensures value { result
-        ≡ found (crowd_rule (numbered_of p.now) ++ repeat_rule constant (numbered_of p.now)
-        ++ progressive_rule (numbered_of p.now) ++ precision_rule (numbered_of p.now)) }
+/// Those that come after the one on its place, in a stream at constant rate or not.
+pub fn rules_from_12(constant: bool, p: &CodedPicture) -> [Option<BrokenRule>; 4]
+    ensures value { told_by result
+        ≡ crowd_rule (numbered_of p.now) ++ repeat_rule constant (numbered_of p.now)
+        ++ progressive_rule (numbered_of p.now) ++ precision_rule (numbered_of p.now) }
 {
-    let first = either(crowd_rule(p), repeat_rule(constant, p));
-    let second = either(progressive_rule(p), precision_rule(p));
-    either(first, second)
+    [
+        crowd_rule(p),
+        repeat_rule(constant, p),
+        progressive_rule(p),
+        precision_rule(p),
+    ]
 }

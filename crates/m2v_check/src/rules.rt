@@ -4,9 +4,9 @@ ghost use Rattle.std.specs.Option.{option_map};
 ghost use Rattle.m2v_model.specs.States.{first_or};
 ghost use Rattle.m2v_check.specs.Running.{low_delay_with, lesser, no_rules, with_sequence, with_group, coded_next, constant_with, ends_frame, unplaced_of, begun_with, placed_with, with_picture, broken_in};
 
-use crate::broken::{BrokenRule, either};
+use crate::broken::{BrokenRule, either, first_of};
 use crate::coded::CodedPicture;
-use crate::picture_rules::{breach_before, breach_behind, is_b, is_frame};
+use crate::picture_rules::{is_b, is_frame, rules_from_12, rules_to_10};
 use crate::places::{Places, Unplaced};
 use crate::sequence_rules::sequence_breach;
 use m2v_model::{PictureNote, Sequence};
@@ -140,8 +140,8 @@ impl Rules {
         let unplaced = Unplaced {
             number: p.number,
             reference: p.note.info.temporal_reference,
-            before: breach_before(p),
-            behind: breach_behind(constant, p),
+            before: first_of(&rules_to_10(p)),
+            behind: first_of(&rules_from_12(constant, p)),
         };
         self.begin(p.first_in_group);
         self.place(&p.note, unplaced);

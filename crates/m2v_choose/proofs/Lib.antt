@@ -27,3 +27,4 @@ pub use Rattle.m2v_search.proofs as m2v_search
 pub mod Headers
 pub mod Cheapest
 pub mod CheapestIntra
+pub mod Means

@@ -11,6 +11,7 @@ use Rattle.m2v_plane.specs.Sizes.{IsSize}
 use Rattle.m2v_macro.specs.declared.values.MacroSyntax.{MacroSyntax}
 use Rattle.m2v_macro.specs.declared.values.PictureContext.{PictureContext}
 use Rattle.m2v_macro.specs.declared.values.Direction.{Direction}
+use Rattle.m2v_macro.specs.States.{is_field}
 use Rattle.m2v_macro.specs.Macros.{no_vectors, macro_of, no_form}
 use Rattle.m2v_pred.specs.Motion.{no_motion}
 use Rattle.m2v_pred.specs.declared.source.Parts.{Parts}
@@ -100,6 +101,19 @@ moving_is t r form hf hb a b f g task p q =
 pub moving_backward : (increment form : ℕ) (hf hb : Bool) (a b : Direction) → (moving_syntax increment form hf hb a b).kind.backward ≡ hb
 unfolding moving_syntax
 moving_backward increment form hf hb a b = refl
+
+pub moving_pattern : (increment form : ℕ) (hf hb : Bool) (a b : Direction) → (moving_syntax increment form hf hb a b).pattern ≡ 0
+unfolding moving_syntax
+moving_pattern increment form hf hb a b = refl
+
+-- the motion type of one vector isn't dual prime
+pub plain_single : (c : PictureContext) (form : ℕ) → form ≡ plain_form c → form ≢ 3
+unfolding plain_form
+plain_single c form same = by_test (is_field c) form same
+  where
+    by_test : (field : Bool) (n : ℕ) → n ≡ (if field then 1 else 2) → n ≢ 3
+    by_test true n e = λ three. omega (arith, e, three)
+    by_test false n e = λ three. omega (arith, e, three)
 
 pub zero_is : (t : Task) (r : References) (form : ℕ) (a b : Direction) → IsTask t → form ≡ no_form t.context.now
     → moving_syntax t.increment form false false a b ≡ uncoded_syntax (decided r t) (zero_prediction (decided r t))

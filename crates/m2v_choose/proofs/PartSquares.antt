@@ -1,8 +1,9 @@
 -- The squares of a macroblock's blocks: what they add up to, and which of them are those of the prediction.
 use Rattle.std.proofs.Common.{◌≡◌, ℕ, zero, suc, ◌+◌, ◌*◌, ◌/◌, ◌%◌, ◌^◌, ◌<◌, ◌≤◌, Bool, true, false, ◌&&◌, inl, inr, List, [], ◌∷◌, get_or, ◌-◌, refl, ap, sym, ◌∙◌, subst, arith, ℤ, pos, ◌+ℤ◌, replicate}
-use Rattle.std.specs.Prelude.{cond, if◌then◌else◌, slice_index, slice_index_or}
+use Rattle.std.specs.Prelude.{◌≢◌, cond, if◌then◌else◌, nat_eq, slice_index, slice_index_or}
 use Rattle.std.specs.List.{range_with_len, sum_by}
 use Rattle.std.proofs.lemmas.Bool.{cases_lt, lt-ltb}
+use Rattle.std.proofs.lemmas.Bool.Decides.{nat_tests}
 use Rattle.std.proofs.lemmas.List.Sums.{sum_by-cons}
 use Rattle.m2v_plane.specs.declared.planes.Plane.{Plane}
 use Rattle.m2v_plane.specs.declared.planes.Plane.TheVariants.{Y, Cb, Cr}
@@ -17,13 +18,14 @@ use Rattle.m2v_kernel.specs.Sums.{apart}
 use Rattle.m2v_recon.proofs.Luma.{line_below, plus_none}
 use Rattle.m2v_choose.specs.Decisions.{block_place}
 use Rattle.m2v_choose.specs.Choice.{square_at, plane_squared, squared}
-use Rattle.m2v_choose.specs.Trials.{block_squared, coded_squared, uncoded_squared, AreSquares, rebuilt_by}
+use Rattle.m2v_choose.specs.Trials.{block_squared, coded_squared, uncoded_squared, AreSquares, AreAlike, rebuilt_by}
 use Rattle.m2v_choose.specs.declared.task.Task.{Task}
 use Rattle.m2v_macro.specs.declared.values.MacroSyntax.{MacroSyntax}
 use Rattle.m2v_macro.specs.States.{after}
 use Rattle.m2v_macroblock.specs.Macroblocks.{kind_for}
 use Rattle.m2v_macroblock.specs.Predictions.{sample_at}
 use Rattle.m2v_choose.proofs.Sums.{sum_more, sum_same}
+use Rattle.m2v_vlc.proofs.ValueLaws.{below, agree}
 
 -- ---- sums
 
@@ -270,6 +272,34 @@ coded_alike dct s p ls one pattern luma chroma b lt first second =
     ∙ ap (λ (k : Bool). rebuilt_at dct s p ls one luma chroma k b (8 * l + c) (block_place dct b (8 * l) + c)) (first ∙ sym second)
     ∙ sym (block_sample dct s p ls pattern luma chroma b l c lt ll small))
 
+-- a block is rebuilt from its own samples alone
+pub own_alike : (dct : Bool) (s x p : List ℕ) (ls : List (List ℤ)) (pattern : ℕ) (luma chroma : BlockKind) (b : ℕ) → b < 6 → AreAlike dct b x p
+    → block_squared dct s (block_by (macro_sample x ls pattern luma chroma dct)) b ≡ block_squared dct s (block_by (macro_sample p ls pattern luma chroma dct)) b
+unfolding samples rebuilt_at
+own_alike dct s x p ls pattern luma chroma b lt alike =
+    let difference = λ (i : ℕ). if is_coded pattern b then slice_index_or (inverse_of (coefficients_of (slice_index_or ls b (replicate 64 (pos 0))) (kind_of luma chroma b))) i (pos 0) else pos 0 in
+    same_block dct s (block_by (macro_sample x ls pattern luma chroma dct)) (block_by (macro_sample p ls pattern luma chroma dct)) b
+    (λ l c ll small.
+    block_sample dct s x ls pattern luma chroma b l c lt ll small
+    ∙ ap (λ (k : ℕ). clamped (pos (if is_coded pattern b && (kind_of luma chroma b).intra then 0 else k) +ℤ difference (8 * l + c))) (alike.at l c ll small)
+    ∙ sym (block_sample dct s p ls pattern luma chroma b l c lt ll small))
+
+-- a block that isn't coded keeps its samples
+pub other_alike : (dct : Bool) (p : List ℕ) (ls : List (List ℤ)) (pattern : ℕ) (luma chroma : BlockKind) (b : ℕ) → b < 6 → is_coded pattern b ≡ false
+    → ((k : ℕ) → get_or p k 0 < 2 ^ 8) → AreAlike dct b (block_by (macro_sample p ls pattern luma chroma dct)) p
+unfolding samples
+other_alike dct p ls pattern luma chroma b lt off bytes = record {
+  at = λ l c ll small.
+      block_sample dct p p ls pattern luma chroma b l c lt ll small
+      ∙ uncoded_sample dct p p ls pattern luma chroma b (8 * l + c) (block_place dct b (8 * l) + c) (is_coded pattern b) off (bytes (block_place dct b (8 * l) + c));
+}
+
+pub alike_itself : (dct : Bool) (b : ℕ) (x : List ℕ) → AreAlike dct b x x
+alike_itself dct b x = record { at = λ l c ll small. refl }
+
+pub alike_on : (dct : Bool) (b : ℕ) (x y z : List ℕ) → AreAlike dct b x y → AreAlike dct b y z → AreAlike dct b x z
+alike_on dct b x y z first second = record { at = λ l c ll small. first.at l c ll small ∙ second.at l c ll small }
+
 -- the squares of all blocks: of those that are coded as they are rebuilt, of the others as they are predicted
 pub all_squares : (dct : Bool) (s p : List ℕ) (ls : List (List ℤ)) (pattern : ℕ) (luma chroma : BlockKind) → ((k : ℕ) → get_or p k 0 < 2 ^ 8)
     → squared s (block_by (macro_sample p ls pattern luma chroma dct))
@@ -303,6 +333,29 @@ single_coded (suc (suc (suc zero))) lt = refl
 single_coded (suc (suc (suc (suc zero)))) lt = refl
 single_coded (suc (suc (suc (suc (suc zero))))) lt = refl
 single_coded (suc (suc (suc (suc (suc (suc n)))))) lt = absurd (omega (arith, lt))
+
+-- the place of the one bit that is 1 in it
+one_bit : (b k : ℕ) → b < 6 → k < 6 → is_coded (32 / 2 ^ b) k ≡ nat_eq k b
+unfolding below
+one_bit zero k lt small = agree (λ j. is_coded 32 j) (λ j. nat_eq j 0) 6 k refl small
+one_bit (suc zero) k lt small = agree (λ j. is_coded 16 j) (λ j. nat_eq j 1) 6 k refl small
+one_bit (suc (suc zero)) k lt small = agree (λ j. is_coded 8 j) (λ j. nat_eq j 2) 6 k refl small
+one_bit (suc (suc (suc zero))) k lt small = agree (λ j. is_coded 4 j) (λ j. nat_eq j 3) 6 k refl small
+one_bit (suc (suc (suc (suc zero)))) k lt small = agree (λ j. is_coded 2 j) (λ j. nat_eq j 4) 6 k refl small
+one_bit (suc (suc (suc (suc (suc zero))))) k lt small = agree (λ j. is_coded 1 j) (λ j. nat_eq j 5) 6 k refl small
+one_bit (suc (suc (suc (suc (suc (suc n)))))) k lt small = absurd (omega (arith, lt))
+
+-- and of no other
+pub single_alone : (b k : ℕ) → b < 6 → k < 6 → k ≢ b → is_coded (32 / 2 ^ b) k ≡ false
+single_alone b k lt small ne = one_bit b k lt small ∙ not_same k b ne
+  where
+    not_same : (m n : ℕ) → m ≢ n → nat_eq m n ≡ false
+    not_same m n ne = grind (arith, nat_tests)
+
+-- where no block is coded, there are no squares
+pub none_coded : (f : ℕ → ℕ) → coded_squared 0 f ≡ 0
+unfolding coded_squared
+none_coded f = refl
 
 -- where all blocks are coded, none is left
 pub none_uncoded : (f : ℕ → ℕ) → uncoded_squared 63 f ≡ 0

@@ -74,6 +74,10 @@ pub record AreSquares (dct_field : Bool) (source prediction squares : List ℕ) 
   pub value : (b : ℕ) → b < 6 → slice_index squares b ≡ block_squared dct_field source prediction b
   pub most : (b : ℕ) → b < 6 → slice_index squares b ≤ 8323200
 
+-- samples of a macroblock that agree in a block
+pub record AreAlike (dct_field : Bool) (b : ℕ) (x y : List ℕ) : Type 0 where
+  pub at : (l c : ℕ) → l < 8 → c < 8 → slice_index x (block_place dct_field b (8 * l) + c) ≡ slice_index y (block_place dct_field b (8 * l) + c)
+
 -- the samples of a macroblock as they are rebuilt, by the kinds of its blocks
 abbrev pub rebuilt_with : List ℕ → MacroSyntax → List (List ℤ) → List BlockKind → List ℕ
 rebuilt_with prediction m levels kinds = block_by (macro_sample prediction levels m.pattern (kind_at kinds 0) (kind_at kinds 1) m.dct_field)

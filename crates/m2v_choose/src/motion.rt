@@ -2,9 +2,11 @@
 ghost use Rattle.std.specs.Prelude.{◌≡◌, ◌≢◌, Bool, ◌||◌, ◌⊎◌, true, false, cond, []};
 ghost use Rattle.std.specs.List.{flat_map};
 ghost use Rattle.m2v_macro.specs.declared.values.Direction.{Direction};
+ghost use Rattle.m2v_macro.specs.Conditions.{IsMacro};
+ghost use Rattle.m2v_macroblock.specs.Predictions.{prediction_of};
 ghost use Rattle.m2v_choose.specs.Decisions.{has_dct_type as has_dct_type_of};
 ghost use Rattle.m2v_choose.specs.Candidates.{plain_form as plain_form_of, plain_direction as plain_direction_of, field_direction as field_direction_of, prediction, predictions_by, by_prediction};
-ghost use Rattle.m2v_choose.specs.Trials.{References, decided, references_of, IsTask, IsRead, IsRated, Tried, CanTry, Goes, zero_predictions, later_predictions, AreReferences, direction_by, moving_syntax as moving_syntax_of, place_for};
+ghost use Rattle.m2v_choose.specs.Trials.{References, decided, references_of, IsTask, IsRead, IsRated, Tried, CanCode, CanTry, Goes, zero_predictions, later_predictions, AreReferences, direction_by, moving_syntax as moving_syntax_of, place_for};
 
 use crate::coding::{has_dct_type, no_form};
 use crate::predictions::moving_syntax;
@@ -12,6 +14,7 @@ use crate::scratch::{ChoiceScratch, TrialScratch};
 use crate::task::Task;
 use crate::trial::Best;
 use crate::vectors::{Vectors, field_direction, no_vector, plain_direction};
+use m2v_kernel::average_into;
 use m2v_macro::PictureContext;
 use m2v_plane::RefView;
 use m2v_search::SearchScratch;
@@ -38,11 +41,6 @@ const FORWARD: Directions = Directions {
 
 const BACKWARD: Directions = Directions {
     forward: false,
-    backward: true,
-};
-
-const BOTH: Directions = Directions {
-    forward: true,
     backward: true,
 };
 
@@ -100,7 +98,7 @@ fn field_backward<V: RefView>(task: &Task, backward: &V, scratch: &mut SearchScr
 }
 
 impl Best {
-    /// Tries a prediction by a motion type, with vectors in its directions.
+    /// Tries a prediction by a motion type, with vectors in its directions. Its samples then stand in the room.
     fn try_moving<V: RefView>(
         &mut self,
         task: &Task,
@@ -123,6 +121,11 @@ impl Best {
             → (goes.backward ≡ true → direction_by searched.now.behind ≡ b)
             → IsRated d self.old → Tried d self.old self.new
             (by_prediction d (prediction searched.now.form goes.forward goes.backward f b)) }
+        ensures samples { scratch.new.prediction.at ≡ prediction_of (V.at forward.now)
+            (V.at backward.now) task.now.context.now (place_for task.now)
+            (moving_syntax_of task.now.increment searched.now.form goes.forward goes.backward
+            (direction_by searched.now.ahead) (direction_by searched.now.behind)) }
+        ensures kept { scratch.new.ahead ≡ scratch.old.ahead }
     {
         let Searched {
             form,
@@ -131,6 +134,47 @@ impl Best {
         } = searched;
         let m = moving_syntax(task, *form, goes.forward, goes.backward, ahead, behind);
         self.try_prediction(task, forward, backward, &m, true, scratch);
+    }
+
+    /// Tries the prediction in both directions by a motion type: the mean of the one forward, which stands in `ahead`, and
+    /// of the one backward.
+    fn try_both(&mut self, task: &Task, searched: &Searched, scratch: &mut TrialScratch)
+        requires task { IsTask task.now }
+        requires code { CanCode task.now
+            (moving_syntax_of task.now.increment searched.now.form true true
+            (direction_by searched.now.ahead) (direction_by searched.now.behind)) }
+        requires stands { IsMacro task.now.context.now task.now.first
+            (moving_syntax_of task.now.increment searched.now.form true true
+            (direction_by searched.now.ahead) (direction_by searched.now.behind)) }
+        requires form { searched.now.form ≢ 3 }
+        ensures tried { (r : References) (f b : Direction)
+            → scratch.old.ahead.at ≡ prediction_of r.forward r.backward task.now.context.now
+            (place_for task.now) (moving_syntax_of task.now.increment searched.now.form true false
+            (direction_by searched.now.ahead) (direction_by searched.now.behind))
+            → scratch.old.prediction.at ≡ prediction_of r.forward r.backward task.now.context.now
+            (place_for task.now) (moving_syntax_of task.now.increment searched.now.form false true
+            (direction_by searched.now.ahead) (direction_by searched.now.behind))
+            → direction_by searched.now.ahead ≡ f → direction_by searched.now.behind ≡ b
+            → IsRated (decided r task.now) self.old
+            → Tried (decided r task.now) self.old self.new (by_prediction (decided r task.now)
+            (prediction searched.now.form true true f b)) }
+    {
+        let TrialScratch {
+            prediction,
+            ahead,
+            coding,
+            ..
+        } = scratch;
+        average_into(&mut ahead.at, &prediction.at);
+        let m = moving_syntax(
+            task,
+            searched.form,
+            true,
+            true,
+            &searched.ahead,
+            &searched.behind,
+        );
+        self.try_samples(task, &m, true, ahead, coding);
     }
 
     /// Tries the predictions by a motion type: forward in a P picture; forward, backward and both in a B picture.
@@ -149,6 +193,7 @@ impl Best {
             (moving_syntax_of task.now.increment searched.now.form hf hb
             (direction_by searched.now.ahead) (direction_by searched.now.behind)) true }
         requires size { task.now.context.now.kind ≡ 3 → V.size backward.now ≡ V.size forward.now }
+        requires form { searched.now.form ≢ 3 }
         ensures tried { (f b : Direction)
             → let d = decided (references_of (V.size forward.now) (V.at forward.now)
             (V.at backward.now)) task.now in
@@ -161,8 +206,9 @@ impl Best {
         if task.context.kind == 2 {
             return;
         }
+        scratch.ahead = scratch.prediction;
         self.try_moving(task, forward, backward, searched, BACKWARD, scratch);
-        self.try_moving(task, forward, backward, searched, BOTH, scratch);
+        self.try_both(task, searched, scratch);
     }
 
     /// Tries the type without a direction, in a P picture.

@@ -187,7 +187,41 @@ impl Best {
         self.try_codings(task, plain, scratch);
     }
 
-    /// Tries a prediction.
+    /// Tries a prediction that has these samples.
+    pub fn try_samples(
+        &mut self,
+        task: &Task,
+        bare: &MacroSyntax,
+        uncoded: bool,
+        prediction: &Block16,
+        coding: &mut CodingScratch,
+    )
+        requires task { IsTask task.now }
+        requires code { CanCode task.now bare.now }
+        requires stands { uncoded ≡ true → IsMacro task.now.context.now task.now.first bare.now }
+        requires pattern { bare.now.pattern ≡ 0 }
+        ensures tried { (r : References) (p : Prediction)
+            → bare.now ≡ uncoded_syntax (decided r task.now) p → p.uncoded ≡ uncoded
+            → prediction.now.at ≡ samples_by (decided r task.now) p
+            → IsRated (decided r task.now) self.old
+            → Tried (decided r task.now) self.old self.new (by_prediction (decided r task.now) p) }
+    {
+        let (mut frame, mut field) = ([0; 6], [0; 6]);
+        part_squares(task.source, prediction, false, &mut frame);
+        field_squares(task, prediction, &mut field);
+        let Counted { alone, header } = count_alone(task, bare, uncoded);
+        let plain = Uncoded {
+            bare,
+            prediction,
+            frame: &frame,
+            field: &field,
+            frame_least: least_score(task, &frame, header),
+            field_least: field_least(task, &field, header),
+        };
+        self.try_predicted(task, &plain, alone, coding);
+    }
+
+    /// Tries a prediction, whose samples then stand in the room.
     pub fn try_prediction<V: RefView>(
         &mut self,
         task: &Task,
@@ -206,25 +240,17 @@ impl Best {
             (V.at backward.now)) task.now in
             bare.now ≡ uncoded_syntax d p → p.uncoded ≡ uncoded → IsRated d self.old
             → Tried d self.old self.new (by_prediction d p) }
+        ensures samples { scratch.new.prediction.at ≡ prediction_of (V.at forward.now)
+            (V.at backward.now) task.now.context.now (place_for task.now) bare.now }
+        ensures kept { scratch.new.ahead ≡ scratch.old.ahead }
     {
         let TrialScratch {
             prediction,
             second,
             coding,
+            ..
         } = scratch;
         predict_moving(task, forward, backward, bare, second, prediction);
-        let (mut frame, mut field) = ([0; 6], [0; 6]);
-        part_squares(task.source, prediction, false, &mut frame);
-        field_squares(task, prediction, &mut field);
-        let Counted { alone, header } = count_alone(task, bare, uncoded);
-        let plain = Uncoded {
-            bare,
-            prediction,
-            frame: &frame,
-            field: &field,
-            frame_least: least_score(task, &frame, header),
-            field_least: field_least(task, &field, header),
-        };
-        self.try_predicted(task, &plain, alone, coding);
+        self.try_samples(task, bare, uncoded, prediction, coding);
     }
 }

@@ -21,6 +21,8 @@ pub struct TrialScratch {
     pub prediction: Block16,
     /// Those of the second of two predictions whose mean it is.
     pub second: Block16,
+    /// Those of the forward prediction, while the prediction in both directions isn't made yet.
+    pub ahead: Block16,
     /// Its blocks.
     pub coding: CodingScratch,
 }
@@ -44,6 +46,7 @@ impl ChoiceScratch {
             trial: TrialScratch {
                 prediction: Block16 { at: [0; 384] },
                 second: Block16 { at: [0; 384] },
+                ahead: Block16 { at: [0; 384] },
                 coding: CodingScratch {
                     frame: [[0; 64]; 6],
                     field: [[0; 64]; 6],

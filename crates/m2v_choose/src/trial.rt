@@ -1,5 +1,5 @@
 //! The best candidate of a macroblock so far, and candidates that are tried against it.
-ghost use Rattle.std.specs.Prelude.{◌≡◌, ℕ, ◌+◌, ◌*◌, ◌^◌, ◌≤◌, ◌<◌, ◌&&◌, ◌⊎◌, All, true, cond, slice_index, nat_le, if◌then◌else◌, [], ◌∷◌, false, replicate};
+ghost use Rattle.std.specs.Prelude.{◌≡◌, ◌≢◌, ℕ, ◌+◌, ◌*◌, ◌^◌, ◌≤◌, ◌<◌, ◌&&◌, ◌⊎◌, All, true, cond, slice_index, nat_le, if◌then◌else◌, [], ◌∷◌, false, replicate};
 ghost use Rattle.m2v_macro.specs.Conditions.{IsMacro};
 ghost use Rattle.m2v_macroblock.specs.Macroblocks.{macroblock_of};
 ghost use Rattle.m2v_macroblock.specs.Modes.{skipped_mode};
@@ -10,7 +10,7 @@ ghost use Rattle.m2v_pred.specs.Predicted.{predicted, block_by};
 ghost use Rattle.m2v_choose.specs.Decisions.{place_of, skipped, written, no_levels as no_levels_of};
 ghost use Rattle.m2v_choose.specs.Choice.{squared as squared_of, bits_taken, score};
 ghost use Rattle.m2v_choose.specs.Laws.{IsWritable};
-ghost use Rattle.m2v_choose.specs.Trials.{decided, References, IsTask, IsRated, Tried, Predicts, candidate_of, rebuilt_by, block_squared as block_squared_of, coded_squared, uncoded_squared, rebuilt_with};
+ghost use Rattle.m2v_choose.specs.Trials.{decided, References, IsTask, IsRated, Tried, Predicts, candidate_of, rebuilt_by, block_squared as block_squared_of, AreAlike, coded_squared, uncoded_squared, rebuilt_with};
 
 use crate::squares::{block_squared, squared};
 use crate::task::Task;
@@ -122,18 +122,20 @@ fn rebuilt_squares(
 #[inline(always)]
 fn single(block: u32) -> u8
     requires block { block < 6 }
-    ensures { is_coded_in result block ≡ true }
+    ensures coded { is_coded_in result block ≡ true }
+    ensures alone { (b : ℕ) → b < 6 → b ≢ block → is_coded_in result b ≡ false }
 {
     32 >> block
 }
 
-/// The squares of one coded block: of its source less its samples as they are rebuilt.
+/// The squares of one coded block: of its source less its samples as they are rebuilt. They are written over those of its
+/// prediction, and no other block is touched.
 #[inline(always)]
 fn rebuilt_block(
     source: &Block16,
     syntax: &MacroSyntax,
     levels: &[Levels; 6],
-    prediction: &Block16,
+    rebuilt: &mut Block16,
     kinds: &[BlockKind; 2],
     block: usize,
 ) -> u32
@@ -142,22 +144,24 @@ fn rebuilt_block(
     requires levels { All (λ l. All IsLevel l.at) levels.now }
     requires coded { is_coded_in syntax.now.pattern block ≡ true }
     ensures value { result ≡ block_squared_of syntax.now.dct_field source.now.at
-        (rebuilt_with prediction.now.at syntax.now (levels_of levels.now) kinds.now) block }
+        (rebuilt_with rebuilt.old.at syntax.now (levels_of levels.now) kinds.now) block }
     ensures most { result ≤ 8323200 }
+    ensures rest { (b : ℕ) → b < 6 → b ≢ block
+        → AreAlike syntax.now.dct_field b rebuilt.new.at rebuilt.old.at }
 {
-    let mut rebuilt = *prediction;
+    are_bytes(&rebuilt.at);
     let one = single(block as u32);
-    rebuild_block(&mut rebuilt, levels, one, kinds, syntax.dct_field);
-    block_squared(source, &rebuilt, syntax.dct_field, block)
+    rebuild_block(rebuilt, levels, one, kinds, syntax.dct_field);
+    block_squared(source, rebuilt, syntax.dct_field, block)
 }
 
-/// The squares of a block, 0 where it isn't coded.
+/// The squares of a block, 0 where it isn't coded. It is rebuilt over its prediction, and no other block is touched.
 #[inline(always)]
 fn coded_block(
     source: &Block16,
     syntax: &MacroSyntax,
     levels: &[Levels; 6],
-    prediction: &Block16,
+    rebuilt: &mut Block16,
     kinds: &[BlockKind; 2],
     block: usize,
 ) -> u32
@@ -166,17 +170,19 @@ fn coded_block(
     requires levels { All (λ l. All IsLevel l.at) levels.now }
     ensures value { result ≡ cond (is_coded_in syntax.now.pattern block)
         (block_squared_of syntax.now.dct_field source.now.at
-        (rebuilt_with prediction.now.at syntax.now (levels_of levels.now) kinds.now) block) 0 }
+        (rebuilt_with rebuilt.old.at syntax.now (levels_of levels.now) kinds.now) block) 0 }
     ensures most { result ≤ 8323200 }
+    ensures rest { (b : ℕ) → b < 6 → b ≢ block
+        → AreAlike syntax.now.dct_field b rebuilt.new.at rebuilt.old.at }
 {
     if !is_coded(syntax.pattern, block as u32) {
         return 0;
     }
-    rebuilt_block(source, syntax, levels, prediction, kinds, block)
+    rebuilt_block(source, syntax, levels, rebuilt, kinds, block)
 }
 
-/// The squares of the coded blocks, rebuilt one after another. Where eight times those of the first blocks reach a limit
-/// they are told, and no further one is rebuilt.
+/// The squares of the coded blocks, rebuilt one after another in one copy of the prediction: they share no sample. Where
+/// eight times those of the first blocks reach a limit they are told, and no further one is rebuilt.
 fn squares_until(
     source: &Block16,
     syntax: &MacroSyntax,
@@ -196,9 +202,13 @@ fn squares_until(
         ⊎ (limit ≤ 8 * result) }
     ensures bound { result ≤ 49939200 }
 {
+    if syntax.pattern == 0 {
+        return 0;
+    }
+    let mut rebuilt = *prediction;
     let mut sum = 0;
     for block in 0..6usize {
-        sum += coded_block(source, syntax, levels, prediction, kinds, block);
+        sum += coded_block(source, syntax, levels, &mut rebuilt, kinds, block);
         if limit <= 8 * u64::from(sum) {
             return sum;
         }

@@ -1,8 +1,8 @@
-use Rattle.std.proofs.Common.{ℕ, List, ap, ◌∙◌}
+use Rattle.std.proofs.Common.{ℕ, List, ap, sym, subst, ◌∙◌}
 use Rattle.m2v_recon.specs.Macro.{kind_at}
 use Rattle.m2v_recon.specs.Steps.{levels_of}
-use Rattle.m2v_choose.specs.Trials.{block_squared}
-use Rattle.m2v_choose.proofs.PartSquares.{coded_alike}
+use Rattle.m2v_choose.specs.Trials.{AreAlike, block_squared}
+use Rattle.m2v_choose.proofs.PartSquares.{coded_alike, other_alike}
 use Rattle.m2v_choose.proofs.trial.rebuilt_block.Goals as goal
 
 pub returns-clause-value : goal.returns-clause-value
@@ -11,4 +11,12 @@ returns-clause-value c =
     let kinds = c.args.kinds.now in
     let s = c.args.source.now.at in
     c.block_squared.ensures.value ∙ ap (λ (x : List ℕ). block_squared m.dct_field s x c.args.block) c.rebuild_block.ensures.value
-    ∙ coded_alike m.dct_field s c.args.prediction.now.at (levels_of c.args.levels.now) c.single-one.result m.pattern (kind_at kinds 0) (kind_at kinds 1) c.args.block c.requires.block c.single-one.ensures c.requires.coded
+    ∙ coded_alike m.dct_field s c.args.rebuilt.now.at (levels_of c.args.levels.now) c.single-one.result m.pattern (kind_at kinds 0) (kind_at kinds 1) c.args.block c.requires.block c.single-one.ensures.coded c.requires.coded
+
+pub returns-clause-rest : goal.returns-clause-rest
+returns-clause-rest c =
+    λ b lt other.
+    let m = c.args.syntax.now in
+    let kinds = c.args.kinds.now in
+    subst (λ (x : List ℕ). AreAlike m.dct_field b x c.args.rebuilt.now.at) (sym c.rebuild_block.ensures.value)
+    (other_alike m.dct_field c.args.rebuilt.now.at (levels_of c.args.levels.now) c.single-one.result (kind_at kinds 0) (kind_at kinds 1) b lt (c.single-one.ensures.alone b lt other) c.are_bytes.ensures)

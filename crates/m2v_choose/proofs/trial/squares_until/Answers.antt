@@ -1,19 +1,42 @@
-use Rattle.std.proofs.Common.{◌≡◌, ◌≤◌, ◌+◌, ℕ, cond, arith, ap, ◌∙◌, inl}
+use Rattle.std.proofs.Common.{◌≡◌, ◌≢◌, ◌≤◌, ◌+◌, ℕ, cond, arith, ap, sym, ◌∙◌, inl}
 use Rattle.std.specs.List.{range_with_len, sum_by}
-use Rattle.m2v_recon.specs.Macro.{is_coded}
+use Rattle.m2v_recon.specs.Macro.{is_coded, kind_at}
 use Rattle.m2v_recon.specs.Steps.{levels_of}
 use Rattle.m2v_choose.specs.Trials.{block_squared, rebuilt_with, coded_squared}
 use Rattle.m2v_choose.proofs.Sums.{sum_more}
-use Rattle.m2v_choose.proofs.PartSquares.{front_sum}
+use Rattle.m2v_choose.proofs.PartSquares.{front_sum, none_coded, own_alike, alike_itself, alike_on}
 use Rattle.m2v_choose.proofs.trial.squares_until.Goals as goal
+
+pub returns-then-syntax-eq0-clause-enough : goal.returns-then-syntax-eq0-clause-enough
+returns-then-syntax-eq0-clause-enough c =
+    let m = c.args.syntax.now in
+    let squares = block_squared m.dct_field c.args.source.now.at (rebuilt_with c.args.prediction.now.at m (levels_of c.args.levels.now) c.args.kinds.now) in
+    let none : m.pattern ≡ 0 = omega arith in
+    inl (sym (ap (λ (k : ℕ). coded_squared k squares) none ∙ none_coded squares))
+
+pub loop-block-init : goal.loop-block-init
+loop-block-init c = record {
+  value = omega arith;
+  rest = λ b le lt. alike_itself c.args.syntax.now.dct_field b c.args.prediction.now.at;
+  most = omega arith;
+}
 
 pub loop-block-preserved : goal.loop-block-preserved
 loop-block-preserved c =
     let m = c.args.syntax.now in
     let n = c.loop-block.block in
-    let f = λ (b : ℕ). cond (is_coded m.pattern b) (block_squared m.dct_field c.args.source.now.at (rebuilt_with c.args.prediction.now.at m (levels_of c.args.levels.now) c.args.kinds.now) b) 0 in
+    let s = c.args.source.now.at in
+    let ls = levels_of c.args.levels.now in
+    let kinds = c.args.kinds.now in
+    let p = c.args.prediction.now.at in
+    let f = λ (b : ℕ). cond (is_coded m.pattern b) (block_squared m.dct_field s (rebuilt_with p m ls kinds) b) 0 in
+    let own = own_alike m.dct_field s c.loop-block.rebuilt.at p ls m.pattern (kind_at kinds 0) (kind_at kinds 1) n (omega arith) (c.loop-block.invariant.rest n (omega arith) (omega arith)) in
+    let same : c.coded_block-sum.result ≡ f n = c.coded_block-sum.ensures.value ∙ ap (λ (x : ℕ). cond (is_coded m.pattern n) x 0) own in
     record {
-      value = omega (arith, sum_more f n, c.loop-block.invariant.value, c.coded_block-sum.ensures.value);
+      value = omega (arith, sum_more f n, c.loop-block.invariant.value, same);
+      rest = λ b le lt.
+          let later : b ≢ n = omega (arith, le) in
+          alike_on m.dct_field b c.coded_block-sum.new.rebuilt.at c.loop-block.rebuilt.at p (c.coded_block-sum.ensures.rest b lt later) (c.loop-block.invariant.rest b (omega (arith, le)) lt);
       most = omega (arith, c.loop-block.invariant.most, c.coded_block-sum.ensures.most);
     }
 
@@ -35,7 +58,13 @@ unfolding coded_squared
 returns-then-limit-from-clause-most c =
     let m = c.args.syntax.now in
     let n = c.loop-block.block in
-    let f = λ (b : ℕ). cond (is_coded m.pattern b) (block_squared m.dct_field c.args.source.now.at (rebuilt_with c.args.prediction.now.at m (levels_of c.args.levels.now) c.args.kinds.now) b) 0 in
+    let s = c.args.source.now.at in
+    let ls = levels_of c.args.levels.now in
+    let kinds = c.args.kinds.now in
+    let p = c.args.prediction.now.at in
+    let f = λ (b : ℕ). cond (is_coded m.pattern b) (block_squared m.dct_field s (rebuilt_with p m ls kinds) b) 0 in
     let front : sum_by f (range_with_len 0 (n + 1)) ≤ sum_by f (range_with_len 0 6) = front_sum f (n + 1) (omega arith) in
-    let sum : c.loop-block.sum + c.coded_block-sum.result ≡ sum_by f (range_with_len 0 (n + 1)) = omega (arith, sum_more f n, c.loop-block.invariant.value, c.coded_block-sum.ensures.value) in
+    let own = own_alike m.dct_field s c.loop-block.rebuilt.at p ls m.pattern (kind_at kinds 0) (kind_at kinds 1) n (omega arith) (c.loop-block.invariant.rest n (omega arith) (omega arith)) in
+    let same : c.coded_block-sum.result ≡ f n = c.coded_block-sum.ensures.value ∙ ap (λ (x : ℕ). cond (is_coded m.pattern n) x 0) own in
+    let sum : c.loop-block.sum + c.coded_block-sum.result ≡ sum_by f (range_with_len 0 (n + 1)) = omega (arith, sum_more f n, c.loop-block.invariant.value, same) in
     omega (arith, sum, front)

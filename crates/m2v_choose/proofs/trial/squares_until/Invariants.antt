@@ -1,12 +1,13 @@
-use Rattle.std.proofs.Common.{◌≡◌, ◌≤◌, ◌*◌, cond}
+use Rattle.std.proofs.Common.{◌≡◌, ◌≤◌, ◌<◌, ◌*◌, ℕ, cond}
 use Rattle.std.specs.List.{range_with_len, sum_by}
 use Rattle.m2v_recon.specs.Macro.{is_coded}
 use Rattle.m2v_recon.specs.Steps.{levels_of}
-use Rattle.m2v_choose.specs.Trials.{block_squared, rebuilt_with}
+use Rattle.m2v_choose.specs.Trials.{AreAlike, block_squared, rebuilt_with}
 use Rattle.m2v_choose.proofs.trial.squares_until.Given as goal
 
 abbrev pub invariant-loop-block : goal.invariant-loop-block
 invariant-loop-block l = record {
   value : l.sum ≡ sum_by (λ b. cond (is_coded l.syntax.pattern b) (block_squared l.syntax.dct_field l.source.at (rebuilt_with l.prediction.at l.syntax (levels_of l.levels) l.kinds) b) 0) (range_with_len 0 l.block);
+  rest : (b : ℕ) → l.block ≤ b → b < 6 → AreAlike l.syntax.dct_field b l.rebuilt.at l.prediction.at;
   most : l.sum ≤ 8323200 * l.block;
 }

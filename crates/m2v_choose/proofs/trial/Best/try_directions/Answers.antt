@@ -1,5 +1,6 @@
-use Rattle.std.proofs.Common.{◌≡◌, inl, inr}
+use Rattle.std.proofs.Common.{◌≡◌, ap, ◌∙◌, inl, inr}
 use Rattle.std.proofs.lemmas.Bool.{eq-eqb, ne_eqb}
+use Rattle.m2v_pred.specs.declared.block.Block16.{Block16}
 use Rattle.m2v_choose.specs.Trials.{decided, references_of}
 use Rattle.m2v_choose.proofs.Motions.{one_direction, three_directions}
 use Rattle.m2v_choose.proofs.trial.Best.try_directions.Goals as goal
@@ -20,6 +21,7 @@ returns g c = record {
       let three : c.args.task.now.context.now.kind ≡ 3 = elim c.requires.kind [ inl two ↦ absurd (c.if-task-eq2.false two) | inr is ↦ is ] in
       let first = c.try_moving.ensures.tried f b (λ e. p) (λ e. absurd cc) rated in
       let second = c.try_moving-2.ensures.tried f b (λ e. absurd cc) (λ e. q three) first.rated in
-      let third = c.try_moving-3.ensures.tried f b (λ e. p) (λ e. q three) second.rated in
-      three_directions d c.args.searched.now.form f b c.args.self.now c.try_moving.new.self c.try_moving-2.new.self c.try_moving-3.new.self (ne_eqb _ _ c.if-task-eq2.false) first second third;
+      let ahead = ap (λ (x : Block16). x.at) c.try_moving-2.ensures.kept ∙ c.try_moving.ensures.samples in
+      let third = c.try_both.ensures.tried r f b ahead c.try_moving-2.ensures.samples p (q three) second.rated in
+      three_directions d c.args.searched.now.form f b c.args.self.now c.try_moving.new.self c.try_moving-2.new.self c.try_both.new.self (ne_eqb _ _ c.if-task-eq2.false) first second third;
 }

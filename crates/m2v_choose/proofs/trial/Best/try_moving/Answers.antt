@@ -1,7 +1,8 @@
 use Rattle.std.proofs.Common.{refl, sym, ◌∙◌, ap}
 use Rattle.m2v_macro.specs.declared.values.MacroSyntax.{MacroSyntax}
 use Rattle.m2v_choose.specs.Candidates.{prediction}
-use Rattle.m2v_choose.specs.Trials.{references_of, direction_by}
+use Rattle.m2v_macroblock.specs.Predictions.{prediction_of}
+use Rattle.m2v_choose.specs.Trials.{references_of, direction_by, place_for}
 use Rattle.m2v_choose.proofs.Motions.{moving_is, moving_backward}
 use Rattle.m2v_choose.proofs.trial.Best.try_moving.Goals as goal
 
@@ -19,4 +20,7 @@ returns g c = record {
       c.try_prediction.ensures.tried (prediction c.args.searched.now.form c.args.goes.forward c.args.goes.backward f b)
       (c.moving_syntax-m.ensures ∙ moving_is t r c.args.searched.now.form c.args.goes.forward c.args.goes.backward (direction_by c.args.searched.now.ahead) (direction_by c.args.searched.now.behind) f b c.requires.task p q)
       refl rated;
+  samples = c.try_prediction.ensures.samples
+      ∙ ap (prediction_of (g.V.RefView.at c.args.forward.now) (g.V.RefView.at c.args.backward.now) c.args.task.now.context.now (place_for c.args.task.now)) c.moving_syntax-m.ensures;
+  kept = c.try_prediction.ensures.kept;
 }

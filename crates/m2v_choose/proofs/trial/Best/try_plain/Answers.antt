@@ -3,7 +3,7 @@ use Rattle.m2v_plane.specs.Sizes.{IsSize}
 use Rattle.std.specs.List.{flat_map}
 use Rattle.m2v_choose.specs.Candidates.{plain_direction, predictions_by, by_prediction}
 use Rattle.m2v_choose.specs.Trials.{decided, references_of, direction_by, Tried}
-use Rattle.m2v_choose.proofs.Motions.{plain_can}
+use Rattle.m2v_choose.proofs.Motions.{plain_can, plain_single}
 use Rattle.m2v_choose.proofs.trial.Best.try_plain.Goals as goal
 
 pub try_directions-requires-clause-can : goal.try_directions-requires-clause-can
@@ -15,6 +15,9 @@ try_directions-requires-clause-can g c = λ hf hb goes.
     plain_can t r (g.V.RefView.Holds c.args.forward.now) (g.V.RefView.Holds c.args.backward.now) c.requires.task (g.V.RefView.size c.args.backward.now) c.requires.references size moves
     c.plain_form-form.result hf hb (direction_by c.plain_direction-ahead.result) (direction_by c.plain_backward-behind.result) c.plain_form-form.ensures goes
     (c.plain_direction-ahead.ensures.value r refl) (λ three. c.plain_backward-behind.ensures.value three r (sym (c.requires.references.sizes three)))
+
+pub try_directions-requires-clause-form : goal.try_directions-requires-clause-form
+try_directions-requires-clause-form g c = plain_single c.args.task.now.context.now c.plain_form-form.result c.plain_form-form.ensures
 
 pub returns : goal.returns
 returns g c = record {
