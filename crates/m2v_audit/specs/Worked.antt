@@ -1,11 +1,17 @@
--- Worked records, whose lines are written out by hand in the law on them.
-use Rattle.std.specs.Prelude.{true, false}
+-- Worked records and a worked report, whose lines are written out by hand in the laws on them.
+use Rattle.std.specs.Prelude.{true, false, []}
+use Rattle.m2v_vbv.specs.declared.removed.Removed.{Removed}
+use Rattle.m2v_audit.specs.declared.account.Due.{Due}
 use Rattle.m2v_audit.specs.declared.words.RateKind.TheVariants as rates
 use Rattle.m2v_audit.specs.declared.words.FailureKind.TheVariants as failures
 use Rattle.m2v_audit.specs.declared.records.SequenceRecord.{SequenceRecord}
 use Rattle.m2v_audit.specs.declared.records.Finding.{Finding}
 use Rattle.m2v_audit.specs.declared.records.FailureRecord.{FailureRecord}
 use Rattle.m2v_audit.specs.declared.records.EndRecord.{EndRecord}
+use Rattle.m2v_audit.specs.declared.report.Broken.{Broken}
+use Rattle.m2v_audit.specs.declared.report.Rate.{Rate}
+use Rattle.m2v_audit.specs.declared.report.SequenceTotals.{SequenceTotals}
+use Rattle.m2v_audit.specs.Report.{Report, no_tally, with_breach, with_removal, with_end}
 
 -- 720 x 576 at 25 Hz, Main Profile at Main Level, interlaced, of low delay, at 6 Mbit/s at most
 abbrev pub television : SequenceRecord
@@ -57,3 +63,40 @@ ended = record {
   delays = 1;
   time = 259200;
 }
+
+-- a report of sequence 2, which tells each picture: at constant rate picture 3 breaks rule 11, picture 4 asks for a bit
+-- that isn't there when it is due, and its delay is a tick off
+abbrev pub misplaced : Broken
+misplaced = record { picture = 3; bit = 12345; rule = 11; have = 7; need = 5 }
+
+abbrev pub steady : Rate
+steady = record { constant = true; low_delay = false; size = 3303014400 }
+
+abbrev pub lacking : Due
+lacking = record {
+  number = 4;
+  bit = 20000;
+  bits = 6;
+  code_bits = 4;
+  units = 28800;
+  delay = 700;
+}
+
+abbrev pub removed_late : Removed
+removed_late = record {
+  time = 115200;
+  have = 9000;
+  need = 10800;
+  is_over = false;
+  is_under = true;
+  wait = 12;
+  delay = 701;
+}
+
+abbrev pub totals : SequenceTotals
+totals = record { pictures = 5; frames = 4; groups = 1; bytes = 64000 }
+
+abbrev pub worked_report : Report
+worked_report =
+    let begun : Report = record { text = []; tally = no_tally; sequence = 2; pictures = true } in
+    with_end (with_removal (with_breach begun misplaced) steady lacking removed_late) totals

@@ -7,6 +7,8 @@ mod account_laws;
 mod line;
 mod lines;
 mod records;
+mod report;
+mod tally;
 mod words;
 mod worked;
 
@@ -17,5 +19,7 @@ pub use records::{
     CountRecord, EndRecord, FailureRecord, Finding, HeldRecord, PictureRecord, SequenceRecord,
     SkippedRecord, TotalRecord,
 };
+pub use report::{Broken, Rate, Report, SequenceTotals};
+pub use tally::{RuleCount, Tally};
 pub use words::{FailureKind, LimitKind, PictureType, RateKind, Structure};
-pub use worked::law_lines_worked;
+pub use worked::{law_lines_worked, law_report_worked};
