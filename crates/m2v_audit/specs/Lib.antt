@@ -3,3 +3,5 @@ pub mod Worked
 pub mod Account
 pub mod AccountWorked
 pub mod Report
+pub mod Front
+pub mod WorkedPiece

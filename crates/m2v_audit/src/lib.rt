@@ -1,9 +1,11 @@
-//! What `audit` tells of a stream: the lines of its report, and the account of the buffer as it is told, picture by picture
-//! (Annex C of ISO/IEC 13818-2).
+//! What `audit` tells of a stream: the lines of its report, the headers before each picture (clauses 6.2.2.1 and 6.2.2.6 of
+//! ISO/IEC 13818-2), and the account of the buffer as it is told, picture by picture (Annex C).
 #![tactic(auto)]
 
 mod account;
 mod account_laws;
+mod front_laws;
+mod headers;
 mod line;
 mod lines;
 mod records;
@@ -14,10 +16,12 @@ mod worked;
 
 pub use account::{Account, Due};
 pub use account_laws::{law_account_worked, law_as_soon_as_settled, law_told_in_all};
+pub use front_laws::{law_front_placed, law_front_worked};
+pub use headers::{PieceHeader, front};
 pub use lines::Lines;
 pub use records::{
-    CountRecord, EndRecord, FailureRecord, Finding, HeldRecord, PictureRecord, SequenceRecord,
-    SkippedRecord, TotalRecord,
+    CountRecord, EndRecord, FailureRecord, Finding, GroupRecord, HeldRecord, PictureRecord,
+    SequenceRecord, SkippedRecord, TotalRecord,
 };
 pub use report::{Broken, Rate, Report, SequenceTotals};
 pub use tally::{RuleCount, Tally};
