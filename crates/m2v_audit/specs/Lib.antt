@@ -1,3 +1,4 @@
 pub mod Lines
 pub mod Worked
 pub mod Account
+pub mod Places

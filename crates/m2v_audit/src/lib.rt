@@ -6,6 +6,7 @@ mod account;
 mod account_laws;
 mod line;
 mod lines;
+mod places;
 mod records;
 mod words;
 mod worked;
@@ -13,6 +14,7 @@ mod worked;
 pub use account::{Account, Due};
 pub use account_laws::{law_as_soon_as_settled, law_told_in_all};
 pub use lines::Lines;
+pub use places::{Misplaced, Places, Waiting, WaitingFrame};
 pub use records::{
     CountRecord, EndRecord, FailureRecord, Finding, HeldRecord, PictureRecord, SequenceRecord,
     SkippedRecord, TotalRecord,
