@@ -2,3 +2,4 @@ pub mod LineLaws
 pub mod Kept
 pub mod Telling
 pub mod Reports
+pub mod Showing

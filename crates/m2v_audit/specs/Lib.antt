@@ -2,3 +2,4 @@ pub mod Lines
 pub mod Worked
 pub mod Account
 pub mod Places
+pub mod Times

@@ -8,6 +8,8 @@ mod line;
 mod lines;
 mod places;
 mod records;
+mod times;
+mod times_laws;
 mod words;
 mod worked;
 
@@ -19,5 +21,7 @@ pub use records::{
     CountRecord, EndRecord, FailureRecord, Finding, HeldRecord, PictureRecord, SequenceRecord,
     SkippedRecord, TotalRecord,
 };
+pub use times::{Times, fields_of};
+pub use times_laws::law_times_as_checked;
 pub use words::{FailureKind, LimitKind, PictureType, RateKind, Structure};
 pub use worked::law_lines_worked;
