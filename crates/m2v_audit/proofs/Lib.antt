@@ -4,3 +4,4 @@ pub mod Telling
 pub mod Reports
 pub mod Counting
 pub mod Placed
+pub mod Showing

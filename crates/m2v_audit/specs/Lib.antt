@@ -5,3 +5,5 @@ pub mod AccountWorked
 pub mod Report
 pub mod Front
 pub mod WorkedPiece
+pub mod Places
+pub mod Times

@@ -8,9 +8,12 @@ mod front_laws;
 mod headers;
 mod line;
 mod lines;
+mod places;
 mod records;
 mod report;
 mod tally;
+mod times;
+mod times_laws;
 mod words;
 mod worked;
 
@@ -19,11 +22,14 @@ pub use account_laws::{law_account_worked, law_as_soon_as_settled, law_told_in_a
 pub use front_laws::{law_front_placed, law_front_worked};
 pub use headers::{PieceHeader, front};
 pub use lines::Lines;
+pub use places::{Misplaced, Places, Waiting, WaitingFrame};
 pub use records::{
     CountRecord, EndRecord, FailureRecord, Finding, GroupRecord, HeldRecord, PictureRecord,
     SequenceRecord, SkippedRecord, TotalRecord,
 };
 pub use report::{Broken, Rate, Report, SequenceTotals};
 pub use tally::{RuleCount, Tally};
+pub use times::{Times, fields_of};
+pub use times_laws::law_times_as_checked;
 pub use words::{FailureKind, LimitKind, PictureType, RateKind, Structure};
 pub use worked::{law_lines_worked, law_report_worked};
