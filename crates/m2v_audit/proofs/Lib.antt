@@ -3,3 +3,4 @@ pub mod Kept
 pub mod Telling
 pub mod Reports
 pub mod Showing
+pub mod Beginning

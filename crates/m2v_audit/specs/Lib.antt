@@ -3,3 +3,4 @@ pub mod Worked
 pub mod Account
 pub mod Places
 pub mod Times
+pub mod Opening

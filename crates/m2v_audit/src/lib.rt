@@ -6,6 +6,7 @@ mod account;
 mod account_laws;
 mod line;
 mod lines;
+mod opening;
 mod places;
 mod records;
 mod times;
@@ -16,6 +17,7 @@ mod worked;
 pub use account::{Account, Due};
 pub use account_laws::{law_as_soon_as_settled, law_told_in_all};
 pub use lines::Lines;
+pub use opening::{first_buffer, kind_of};
 pub use places::{Misplaced, Places, Waiting, WaitingFrame};
 pub use records::{
     CountRecord, EndRecord, FailureRecord, Finding, HeldRecord, PictureRecord, SequenceRecord,
