@@ -5,3 +5,4 @@ pub mod Reports
 pub mod Counting
 pub mod Placed
 pub mod Showing
+pub mod Beginning

@@ -7,3 +7,4 @@ pub mod Front
 pub mod WorkedPiece
 pub mod Places
 pub mod Times
+pub mod Opening

@@ -8,6 +8,7 @@ mod front_laws;
 mod headers;
 mod line;
 mod lines;
+mod opening;
 mod places;
 mod records;
 mod report;
@@ -22,6 +23,7 @@ pub use account_laws::{law_account_worked, law_as_soon_as_settled, law_told_in_a
 pub use front_laws::{law_front_placed, law_front_worked};
 pub use headers::{PieceHeader, front};
 pub use lines::Lines;
+pub use opening::{first_buffer, kind_of};
 pub use places::{Misplaced, Places, Waiting, WaitingFrame};
 pub use records::{
     CountRecord, EndRecord, FailureRecord, Finding, GroupRecord, HeldRecord, PictureRecord,
