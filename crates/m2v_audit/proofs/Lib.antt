@@ -6,3 +6,5 @@ pub mod Counting
 pub mod Placed
 pub mod Showing
 pub mod Beginning
+pub mod RuleNumbers
+pub mod ZeroLaws

@@ -8,3 +8,5 @@ pub mod WorkedPiece
 pub mod Places
 pub mod Times
 pub mod Opening
+pub mod Findings
+pub mod Auditing

@@ -4,22 +4,29 @@
 
 mod account;
 mod account_laws;
+mod auditing;
+mod auditor;
+mod findings;
 mod front_laws;
 mod headers;
 mod line;
 mod lines;
 mod opening;
+mod pictures;
 mod places;
 mod records;
 mod report;
 mod tally;
 mod times;
 mod times_laws;
+mod told;
 mod words;
 mod worked;
+mod zeros;
 
 pub use account::{Account, Due};
 pub use account_laws::{law_account_worked, law_as_soon_as_settled, law_told_in_all};
+pub use auditor::Auditor;
 pub use front_laws::{law_front_placed, law_front_worked};
 pub use headers::{PieceHeader, front};
 pub use lines::Lines;
