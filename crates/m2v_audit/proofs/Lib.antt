@@ -8,3 +8,4 @@ pub mod Showing
 pub mod Beginning
 pub mod RuleNumbers
 pub mod ZeroLaws
+pub mod Counted

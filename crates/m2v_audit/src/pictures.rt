@@ -27,7 +27,6 @@ fn is_shown(note: &PictureNote) -> bool
 }
 
 /// Tells the breaches of a picture, but for rule 11.
-#[tactic(auto, using(crate::proofs::RuleNumbers::to_10_are, crate::proofs::RuleNumbers::from_12_are))]
 fn tell_rules(report: &mut Report, constant: bool, p: &CodedPicture) -> Result<(), AllocError>
     ensures { OnOk result (report.new ≡ with_rules report.old constant p.now) }
 {
