@@ -10,3 +10,4 @@ pub mod Times
 pub mod Opening
 pub mod Findings
 pub mod Auditing
+pub mod WorkedAuditing

@@ -28,7 +28,7 @@ mod zeros;
 pub use account::{Account, Due};
 pub use account_laws::{law_account_worked, law_as_soon_as_settled, law_told_in_all};
 pub use auditor::Auditor;
-pub use auditor_laws::law_bytes_counted;
+pub use auditor_laws::{law_auditing_worked, law_bytes_counted};
 pub use front_laws::{law_front_placed, law_front_worked};
 pub use headers::{PieceHeader, front};
 pub use lines::Lines;
