@@ -3,3 +3,7 @@ pub mod Worked
 pub mod Account
 pub mod AccountWorked
 pub mod Report
+pub mod FaultWords
+pub mod Auditing
+pub mod Audited
+pub mod Leading
