@@ -3,3 +3,7 @@ pub mod Kept
 pub mod Telling
 pub mod Reports
 pub mod Counting
+pub mod LeadLaws
+pub mod PieceSteps
+pub mod PieceTelling
+pub mod TextSteps

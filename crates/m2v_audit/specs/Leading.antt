@@ -51,22 +51,21 @@ pub record PieceTold (r : Reading) (a : Auditing) (p : Piece) (held : Change) (r
   pub grown : Grows held.old (after_piece a p.place (whole_of p) (noted notes)).report.text held.new
   pub auditing : a' ≡ cleared (after_piece a p.place (whole_of p) (noted notes))
 
--- it was read, and a prefix of what it tells was put
-pub record PieceCut (r : Reading) (a : Auditing) (p : Piece) (held : Change) : Type 0 where
+-- it was read as a decoder reads it, and a prefix of what it tells was put
+pub record PieceCut (d : Decoding) (a : Auditing) (p : Piece) (held : Change) : Type 0 where
   pub notes : Notes
   pub behind : Reading
-  pub leads : (d : Decoding) → Follows r d → LeadsOn d p.place (whole_of p) notes behind
+  pub leads : LeadsOn d p.place (whole_of p) notes behind
   pub grown : GrowsByPrefix held.old (after_piece a p.place (whole_of p) (noted notes)).report.text held.new
 
 -- why not
-abbrev pub PieceFails : Reading → Auditing → Piece → Change → Auditing → DecodeError → Type 0
-PieceFails r a p held a' errors.Read = ⊥
-PieceFails r a p held a' errors.Write = held.Failed × PieceCut r a p held
-PieceFails r a p held a' (errors.Stream f) =
-    ((d : Decoding) → Follows r d → piece_read (between d) (p.place + length (whole_of p)) (whole_of p) ≡ Err (f.kind, f.place)) × (a' ≡ a) × (held.new ≡ held.old)
-PieceFails r a p held a' errors.TooLong = ⊥
-PieceFails r a p held a' errors.PictureTooLarge = ⊥
-PieceFails r a p held a' errors.Memory = (held.new ≡ held.old) ⊎ PieceCut r a p held
+abbrev pub PieceFails : Decoding → Auditing → Piece → Change → Auditing → DecodeError → Type 0
+PieceFails d a p held a' errors.Read = ⊥
+PieceFails d a p held a' errors.Write = held.Failed × PieceCut d a p held
+PieceFails d a p held a' (errors.Stream f) = (piece_read (between d) (p.place + length (whole_of p)) (whole_of p) ≡ Err (f.kind, f.place)) × (a' ≡ a) × (held.new ≡ held.old)
+PieceFails d a p held a' errors.TooLong = ⊥
+PieceFails d a p held a' errors.PictureTooLarge = ⊥
+PieceFails d a p held a' errors.Memory = (held.new ≡ held.old) ⊎ PieceCut d a p held
 
 -- ---- the pieces of a text
 

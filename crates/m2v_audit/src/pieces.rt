@@ -4,8 +4,9 @@ ghost use Rattle.m2v_port.specs.Ends.{change, SinkStays};
 ghost use Rattle.m2v_port.specs.Port.{Grows};
 ghost use Rattle.m2v_model.specs.ByPieces.{at_start};
 ghost use Rattle.m2v_dec_piece.specs.Sound.{IsSoundPiece};
+ghost use Rattle.m2v_decode.specs.Decoding.{Decoding};
 ghost use Rattle.m2v_decode.specs.Progress.{Cuts};
-ghost use Rattle.m2v_decode.specs.Reading.{nothing_read};
+ghost use Rattle.m2v_decode.specs.Reading.{nothing_read, Follows};
 ghost use Rattle.m2v_audit.specs.Auditing.{cleared};
 ghost use Rattle.m2v_audit.specs.Leading.{PieceTold, PieceFails, AreTold, IsTextRead, pieces_from, TextStops};
 
@@ -58,8 +59,9 @@ fn tell_piece<K: Sink>(
     requires output { IsTrue (K.ready output.old) }
     ensures ok { OnOk result (PieceTold reader.old auditor.old piece.now
         (change K.held K.faults output.old output.new) reader.new auditor.new) }
-    ensures err { IfErr result (PieceFails reader.old auditor.old piece.now
-        (change K.held K.faults output.old output.new) auditor.new) }
+    ensures err { IfErr result (λ e. (d : Decoding) → Follows reader.old d
+        → PieceFails d auditor.old piece.now
+        (change K.held K.faults output.old output.new) auditor.new e) }
     ensures output { SinkStays K.ready K.name K.faults output.old output.new }
 {
     let notes = reader.piece(alloc, piece)?;
