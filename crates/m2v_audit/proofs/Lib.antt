@@ -7,3 +7,4 @@ pub mod LeadLaws
 pub mod PieceSteps
 pub mod PieceTelling
 pub mod TextSteps
+pub mod TextEnds
