@@ -3,6 +3,11 @@ pub mod Kept
 pub mod Telling
 pub mod Reports
 pub mod Counting
+pub mod Placed
+pub mod Showing
+pub mod Beginning
+pub mod RuleNumbers
+pub mod ZeroLaws
 pub mod LeadLaws
 pub mod PieceSteps
 pub mod PieceTelling

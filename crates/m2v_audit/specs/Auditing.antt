@@ -1,48 +1,388 @@
--- A sequence that is audited, piece by piece. (A stand-in, until the real one is here.)
-use Rattle.std.specs.Prelude.{ℕ, ◌+◌, ◌-◌, ◌^◌, min, Bool, true, false, List, [], ◌++◌, length, if◌then◌else◌}
+-- A sequence that is audited, piece by piece: what is kept of it, and what each piece tells.
+use Rattle.std.specs.Prelude.{ℕ, ◌+◌, ◌-◌, ◌*◌, ◌≤◌, ◌≡◌, ◌^◌, ◌++◌, Bool, true, false, ◌&&◌, not, nat_eq, if◌then◌else◌, List, [], ◌∷◌, length, slice_get, Option, Some, None}
+use Rattle.std.specs.Option.{option_map}
+use Rattle.m2v_model.specs.m2v_macroblock.m2v_head.declared.sequence.SequenceInfo.{SequenceInfo}
+use Rattle.m2v_model.specs.m2v_macroblock.m2v_head.declared.sequence.SequenceExtension.{SequenceExtension}
+use Rattle.m2v_model.specs.m2v_macroblock.m2v_head.declared.group.GroupInfo.{GroupInfo}
+use Rattle.m2v_model.specs.declared.state.Sequence.{Sequence}
+use Rattle.m2v_model.specs.declared.notes.PictureNote.{PictureNote}
+use Rattle.m2v_model.specs.States.{first_or, width_of, height_of, is_b}
+use Rattle.m2v_model.specs.Pieces.{zeros_last}
 use Rattle.m2v_model.specs.PieceNotes.{PieceNotes}
-use Rattle.m2v_audit.specs.Lines.{flag}
-use Rattle.m2v_audit.specs.Report.{Report, no_tally, with_skipped, with_end}
+use Rattle.m2v_model.specs.Lawful.{rate_of, buffer_of, sequence_breaches, horizontal_rule, vertical_rule, intra_rule, crowd_rule, repeat_rule, progressive_rule, precision_rule}
+use Rattle.m2v_check.specs.declared.coded.CodedPicture.{CodedPicture}
+use Rattle.m2v_check.specs.Breaking.{numbered_of}
+use Rattle.m2v_check.specs.Running.{ends_frame}
+use Rattle.m2v_vbv.specs.Buffer.{Buffer}
+use Rattle.m2v_audit.specs.declared.account.Due.{Due}
+use Rattle.m2v_audit.specs.declared.auditing.Auditing.{Auditing}
+use Rattle.m2v_audit.specs.declared.headers.PieceHeader.{PieceHeader}
+use Rattle.m2v_audit.specs.declared.headers.PieceHeader.TheVariants as headers
+use Rattle.m2v_audit.specs.declared.places.Waiting.{Waiting}
+use Rattle.m2v_audit.specs.declared.records.SequenceRecord.{SequenceRecord}
+use Rattle.m2v_audit.specs.declared.records.GroupRecord.{GroupRecord}
+use Rattle.m2v_audit.specs.declared.records.PictureRecord.{PictureRecord}
+use Rattle.m2v_audit.specs.declared.report.Rate.{Rate}
+use Rattle.m2v_audit.specs.declared.report.SequenceTotals.{SequenceTotals}
+use Rattle.m2v_audit.specs.declared.words.LimitKind.{LimitKind}
+use Rattle.m2v_audit.specs.declared.words.PictureType.{PictureType}
+use Rattle.m2v_audit.specs.declared.words.PictureType.TheVariants as types
+use Rattle.m2v_audit.specs.declared.words.RateKind.{RateKind}
+use Rattle.m2v_audit.specs.declared.words.Structure.{Structure}
+use Rattle.m2v_audit.specs.declared.words.Structure.TheVariants as structures
+use Rattle.m2v_audit.specs.Account.{Account, opened, with_picture as account_with, with_more as account_more, settled, after_settled, ended as all_left}
+use Rattle.m2v_audit.specs.Findings.{with_breaches, with_misplaced, with_removals}
+use Rattle.m2v_audit.specs.Front.{front_of}
+use Rattle.m2v_audit.specs.Opening.{kind_of, first_buffer}
+use Rattle.m2v_audit.specs.Places.{no_places, with_field, with_frame, told_with_frame, group_closed, told_at_close}
+use Rattle.m2v_audit.specs.Report.{Report, no_tally, one_more, with_skipped, with_begin, with_group_line, with_picture_line, with_fault, with_limit, with_end}
+use Rattle.m2v_audit.specs.Times.{opened as first_times, fields_of, time_of, after as times_after}
+pub use Rattle.m2v_audit.specs.declared.auditing.Auditing.{Auditing}
 
--- its report so far, where it was begun by its record `sequence`, where its text begins, its pictures and bytes
-pub record Auditing : Type 0 where
-  pub report : Report
-  pub begun : Bool
-  pub start : ℕ
-  pub pictures : ℕ
-  pub bytes : ℕ
+-- ---- what is kept
 
--- before the first piece of the sequence of a number, whose text begins at a byte
+-- no sequence: nothing is known of how its buffer is filled
+abbrev pub no_rate : Rate
+no_rate = record { constant = true; low_delay = false; size = 0 }
+
+-- nothing was read of the sequence of this number, whose text begins at a byte of the input
 abbrev pub nothing : ℕ → Bool → ℕ → Auditing
 nothing number each start = record {
   report = record { text = []; tally = no_tally; sequence = number; pictures = each };
-  begun = false;
   start = start;
+  first = None;
+  sequence = None;
+  first_in_group = false;
   pictures = 0;
+  groups = 0;
+  frames = 0;
   bytes = 0;
+  constant = true;
+  places = no_places false;
+  times = first_times false 0;
+  rate = no_rate;
+  account = None;
 }
 
--- its record `sequence` was written
-abbrev pub is_begun : Auditing → Bool
-is_begun a = a.begun
+abbrev pub sequence_of : SequenceInfo × SequenceExtension → Sequence
+sequence_of s = record { info = s.0; extension = s.1 }
 
--- what was told is taken away
+abbrev pub longer : ℕ → Auditing → Auditing
+longer bytes a = record a { bytes = a.bytes + bytes }
+
+-- ---- the beginning
+
+-- a sequence by its first header, which stands at a bit of the input
+abbrev pub sequence_record : ℕ → ℕ → Sequence → RateKind → SequenceRecord
+sequence_record number bit s rate = record {
+  sequence = number;
+  bit = bit;
+  width = width_of s;
+  height = height_of s;
+  frame_rate_code = s.info.frame_rate_code;
+  aspect = s.info.aspect;
+  profile_and_level = s.extension.profile_and_level;
+  progressive = s.extension.progressive_sequence;
+  low_delay = s.extension.low_delay;
+  bit_rate = rate_of s;
+  vbv_buffer_size = buffer_of s;
+  rate = rate;
+}
+
+-- the first vbv_delay doesn't say that the rate is variable (clause 6.3.9); without a picture the rate counts as constant
+abbrev pub is_constant : Option PictureNote → Bool
+is_constant None = true
+is_constant (Some n) = not (nat_eq n.info.vbv_delay 65535)
+
+-- how the buffer is filled, by the first header and the first picture
+abbrev pub rate_with : Sequence → Option PictureNote → Rate
+rate_with s n = record { constant = is_constant n; low_delay = s.extension.low_delay; size = 1800 * (16384 * buffer_of s) }
+
+-- the sequence begins, with its first header and the picture of its first piece
+abbrev pub with_first : Auditing → ℕ → Sequence → Option PictureNote → Auditing
+with_first a place s n = record a {
+  report = with_begin a.report (place - a.start) a.start (sequence_record a.report.sequence (8 * place) s (kind_of s n));
+  places = no_places s.extension.low_delay;
+  times = first_times s.extension.low_delay s.info.frame_rate_code;
+  rate = rate_with s n;
+}
+
+abbrev pub begun_by : Auditing → ℕ → Option (SequenceInfo × SequenceExtension) → Option PictureNote → Auditing
+begun_by a place None n = a
+begun_by a place (Some s) n = with_first a place (sequence_of s) n
+
+-- with its first piece, which begins with the first sequence header
+abbrev pub begun : Option Sequence → Auditing → ℕ → PieceNotes → Auditing
+begun (Some first) a place notes = a
+begun None a place notes = begun_by a place (slice_get notes.sequences 0) notes.picture
+
+-- ---- headers
+
+-- a sequence header at a bit of the input: its rules, by number
+abbrev pub with_sequence : Auditing → ℕ → Sequence → Auditing
+with_sequence a bit s = record a {
+  report = with_breaches a.report a.pictures bit (sequence_breaches (s ∷ []));
+  first = Some (first_or a.first s);
+  sequence = Some s;
+}
+
+abbrev pub group_record : ℕ → ℕ → ℕ → ℕ → GroupInfo → GroupRecord
+group_record number group bit picture g = record {
+  sequence = number;
+  group = group;
+  bit = bit;
+  picture = picture;
+  drop_frame = g.drop;
+  hours = g.hours;
+  minutes = g.minutes;
+  seconds = g.seconds;
+  pictures = g.pictures;
+  closed = g.closed_gop;
+  broken = g.broken_link;
+}
+
+-- a group header: the group before it ends, and with it what waits for rule 11 is told; then the group
+abbrev pub with_group : Auditing → ℕ → GroupInfo → Auditing
+with_group a bit g = record a {
+  report = with_group_line (with_misplaced a.report (told_at_close a.places)) (group_record a.report.sequence a.groups bit a.pictures g);
+  first_in_group = true;
+  groups = one_more a.groups;
+  places = group_closed a.places;
+}
+
+-- a header, and of a sequence header what was noted of it
+unfoldable pub with_header : Auditing → PieceHeader → Option (SequenceInfo × SequenceExtension) → Auditing
+with_header a (headers.Sequence bit) None = a
+with_header a (headers.Sequence bit) (Some s) = with_sequence a bit (sequence_of s)
+with_header a (headers.Group bit g) s = with_group a bit g
+
+-- how many sequence headers it is
+unfoldable pub sequences_of : PieceHeader → ℕ
+sequences_of (headers.Sequence bit) = 1
+sequences_of (headers.Group bit g) = 0
+
+-- headers in turn; so many sequence headers stand before them among those that were noted of the piece
+unfoldable pub with_headers : Auditing → List (SequenceInfo × SequenceExtension) → ℕ → List PieceHeader → Auditing
+with_headers a ss k [] = a
+with_headers a ss k (h ∷ hs) = with_headers (with_header a h (slice_get ss k)) ss (k + sequences_of h) hs
+
+-- ---- a picture
+
+-- where its start code begins
+abbrev pub bit_of : PictureNote → ℕ
+bit_of n = n.code_end - 32
+
+-- the picture among the others
+abbrev pub coded : Auditing → Sequence → PictureNote → CodedPicture
+coded a s n = record { number = a.pictures; sequence = s; first_in_group = a.first_in_group; note = n }
+
+-- whether the rate is constant, which the first picture says
+abbrev pub constant_with : Auditing → CodedPicture → Bool
+constant_with a p = if nat_eq p.number 0 then not (nat_eq p.note.info.vbv_delay 65535) else a.constant
+
+-- its frame is shown
+abbrev pub is_shown : PictureNote → Bool
+is_shown n = ends_frame n && not n.dropped
+
+-- it is counted
+abbrev pub counted : Auditing → CodedPicture → Auditing
+counted a p = record a {
+  first_in_group = false;
+  pictures = a.pictures + 1;
+  frames = if is_shown p.note then one_more a.frames else a.frames;
+  constant = constant_with a p;
+}
+
+abbrev pub type_of : ℕ → PictureType
+type_of kind = if nat_eq kind 1 then types.I else if nat_eq kind 2 then types.P else types.B
+
+abbrev pub structure_of : ℕ → Structure
+structure_of structure = if nat_eq structure 1 then structures.Top else if nat_eq structure 2 then structures.Bottom else structures.Frame
+
+-- what is told of a picture whose piece has so many bytes, of which so many zero bytes end it
+abbrev pub picture_record : ℕ → CodedPicture → ℕ → ℕ → PictureRecord
+picture_record number p bytes zeros = record {
+  sequence = number;
+  picture = p.number;
+  bit = bit_of p.note;
+  kind = type_of p.note.info.kind;
+  structure = structure_of p.note.extension.structure;
+  temporal_reference = p.note.info.temporal_reference;
+  bits = 8 * bytes;
+  zeros = 8 * zeros;
+  vbv_delay = p.note.info.vbv_delay;
+  fields = fields_of p.sequence p.note;
+  dropped = p.note.dropped;
+}
+
+-- a picture's breaches, one after another
+abbrev pub with_rules : Report → Bool → CodedPicture → Report
+with_rules r constant p =
+    let n = numbered_of p in
+    with_breaches (with_breaches r p.number (bit_of p.note) (horizontal_rule n ++ vertical_rule n ++ intra_rule n))
+    p.number (bit_of p.note) (crowd_rule n ++ repeat_rule constant n ++ progressive_rule n ++ precision_rule n)
+
+-- where each picture is told its record; then its rules by number, but for 11
+abbrev pub with_told : Auditing → CodedPicture → ℕ → ℕ → Auditing
+with_told a p bytes zeros = record a {
+  report = with_rules (with_picture_line a.report (picture_record a.report.sequence p bytes zeros)) a.constant p;
+}
+
+abbrev pub waiting_of : CodedPicture → Waiting
+waiting_of p = record { number = p.number; bit = bit_of p.note; reference = p.note.info.temporal_reference }
+
+-- then rule 11 of the frames whose place is known by it
+abbrev pub with_place : Auditing → CodedPicture → Auditing
+with_place a p =
+    if ends_frame p.note then record a {
+      report = with_misplaced a.report (told_with_frame a.places (waiting_of p) (is_b p.note.info.kind));
+      places = with_frame a.places (waiting_of p) (is_b p.note.info.kind);
+    }
+    else record a { places = with_field a.places (waiting_of p) }
+
+-- ---- the account
+
+-- a picture as the buffer sees it, of a piece that begins at a byte of the input and has so many bytes
+abbrev pub due_of : Auditing → CodedPicture → ℕ → ℕ → Due
+due_of a p place bytes = record {
+  number = p.number;
+  bit = bit_of p.note;
+  bits = 8 * bytes;
+  code_bits = p.note.code_end - 8 * place;
+  units = time_of a.times p.sequence p.note;
+  delay = p.note.info.vbv_delay;
+}
+
+-- it is opened with the first picture, where the sequence has one
+abbrev pub opened_by : Option Sequence → PictureNote → Due → Option Account
+opened_by None n d = None
+opened_by (Some first) n d = option_map (λ (b : Buffer). opened b d) (first_buffer first n d.code_bits)
+
+-- and goes on with each other one
+abbrev pub account_by : Option Account → Option Sequence → PictureNote → Due → Option Account
+account_by None first n d = if nat_eq d.number 0 then opened_by first n d else None
+account_by (Some x) first n d = Some (account_with x d)
+
+abbrev pub with_account : Auditing → CodedPicture → ℕ → ℕ → Auditing
+with_account a p place bytes = record a {
+  times = times_after a.times p.sequence p.note;
+  account = account_by a.account a.first p.note (due_of a p place bytes);
+}
+
+-- ---- a piece
+
+-- a picture of a piece that begins at a byte of the input and has so many bytes, of which so many zero bytes end it
+abbrev pub with_coded : Auditing → CodedPicture → ℕ → ℕ → ℕ → Auditing
+with_coded a p place bytes zeros = with_account (with_place (with_told (counted a p) p bytes zeros) p) p place bytes
+
+-- its picture behind a sequence header, or where it has none more bits of the picture before it
+abbrev pub with_note : Auditing → Option Sequence → Option PictureNote → ℕ → ℕ → ℕ → Auditing
+with_note a s None place bytes ending = record a { account = option_map (λ (x : Account). account_more x (8 * bytes)) a.account }
+with_note a None (Some n) place bytes ending = a
+with_note a (Some s) (Some n) place bytes ending = with_coded a (coded a s n) place bytes ending
+
+abbrev pub pictured : Auditing → ℕ → ℕ → ℕ → Option PictureNote → Auditing
+pictured a place bytes zeros n = with_note a a.sequence n place bytes zeros
+
+-- the removals that are settled by now, in turn
+abbrev pub settled_by : Auditing → Option Account → Auditing
+settled_by a None = a
+settled_by a (Some x) = record a { report = with_removals a.report a.rate (settled x); account = Some (after_settled x) }
+
+abbrev pub with_settled : Auditing → Auditing
+with_settled a = settled_by a a.account
+
+-- the headers of a piece that begins at a byte of the input, and before the first ones the sequence
+abbrev pub fronted : Auditing → ℕ → List ℕ → PieceNotes → Auditing
+fronted a place piece notes = with_headers (begun a.first a place notes) notes.sequences 0 (front_of place piece)
+
+-- all that is told of a piece whose bytes are counted
+abbrev pub told : Auditing → ℕ → List ℕ → PieceNotes → Auditing
+told a place piece notes = with_settled (pictured (fronted a place piece notes) place (length piece) (zeros_last piece) notes.picture)
+
+-- a piece that begins at a byte of the input, with what is noted of it
+unfoldable pub after_piece : Auditing → ℕ → List ℕ → PieceNotes → Auditing
+after_piece a place piece notes = told (longer (length piece) a) place piece notes
+
+-- ---- the end
+
+abbrev pub totals_of : Auditing → SequenceTotals
+totals_of a = record { pictures = a.pictures; frames = a.frames; groups = a.groups; bytes = a.bytes }
+
+-- the removals that are left
+abbrev pub with_left : Report → Rate → Option Account → Report
+with_left r rate None = r
+with_left r rate (Some x) = with_removals r rate (all_left x)
+
+-- nothing follows: what waits for rule 11, the removals that are left, and what there was in all
+abbrev pub finished : Auditing → Auditing
+finished a = record a {
+  report = with_end (with_left (with_misplaced a.report (told_at_close a.places)) a.rate a.account) (totals_of a);
+  places = group_closed a.places;
+  account = None;
+}
+
+-- of a text without a sequence nothing is told
+abbrev pub ended_by : Option Sequence → Auditing → Auditing
+ended_by None a = a
+ended_by (Some first) a = finished a
+
+unfoldable pub ended : Auditing → Auditing
+ended a = ended_by a.first a
+
+-- it ends early: what there was is told where a sequence began, and what waits isn't
+abbrev pub stopped_by : Option Sequence → Auditing → Auditing
+stopped_by None a = a
+stopped_by (Some first) a = record a { report = with_end a.report (totals_of a) }
+
+-- by a fault of a kind at a bit of the input, or by a limit
+abbrev pub faulty : Auditing → ℕ → List ℕ → Auditing
+faulty a bit kind = stopped_by a.first (record a { report = with_fault a.report bit kind })
+
+abbrev pub limited : Auditing → LimitKind → Auditing
+limited a kind = stopped_by a.first (record a { report = with_limit a.report kind })
+
+-- a text without a sequence, which ends before a byte of the input: all of it is skipped
+abbrev pub skipped_to : Auditing → ℕ → Auditing
+skipped_to a end = record a { report = with_skipped a.report (end - a.start) a.start }
+
+-- ---- its text
+
+-- its report's lines are taken away
 abbrev pub cleared : Auditing → Auditing
 cleared a = record a { report = record a.report { text = [] } }
 
--- behind a piece that begins at a byte
-unfoldable pub after_piece : Auditing → ℕ → List ℕ → PieceNotes → Auditing
-after_piece a place whole notes = record a {
-  report = with_skipped a.report (length whole) place;
-  begun = true;
-  bytes = min (a.bytes + length whole) (2 ^ 64 - 1);
-}
+-- ---- what is always so
 
--- what was counted till now is told, where its record `sequence` was written; what waits isn't
-unfoldable pub stopped : Auditing → Auditing
-stopped a =
-    if a.begun then record a { report = with_end a.report (record { pictures = a.pictures; frames = 0; groups = 0; bytes = a.bytes }) } else a
+abbrev pub total_of : Option Account → ℕ
+total_of None = 0
+total_of (Some x) = x.total
 
--- at the end of its text
-unfoldable pub ended : Auditing → Auditing
-ended a = record a { report = with_end a.report (record { pictures = a.pictures; frames = 0; groups = 0; bytes = a.bytes }) }
+-- a group shows no more frames than the sequence has pictures, each picture has a byte at least, and the account has no more
+-- bits than came
+pub record IsSound (a : Auditing) : Type 0 where
+  pub shown : a.places.shown ≤ a.pictures
+  pub pictures : a.pictures ≤ a.bytes
+  pub total : total_of a.account ≤ 8 * a.bytes
+  pub most : a.bytes ≤ 2 ^ 36
+
+-- a piece of so many bytes is counted among the bytes, and nothing else of it yet
+pub record HasRoom (a : Auditing) (bytes : ℕ) : Type 0 where
+  pub shown : a.places.shown ≤ a.pictures
+  pub pictures : a.pictures + bytes ≤ a.bytes
+  pub total : total_of a.account + 8 * bytes ≤ 8 * a.bytes
+  pub most : a.bytes ≤ 2 ^ 36
+
+-- headers and rules change nothing of that
+pub record Keeps (old new : Auditing) : Type 0 where
+  pub shown : new.places.shown ≤ old.places.shown
+  pub pictures : new.pictures ≡ old.pictures
+  pub bytes : new.bytes ≡ old.bytes
+  pub total : total_of new.account ≡ total_of old.account
+
+-- nor what is told at the end
+pub record Lessens (old new : Auditing) : Type 0 where
+  pub shown : new.places.shown ≤ old.places.shown
+  pub pictures : new.pictures ≡ old.pictures
+  pub bytes : new.bytes ≡ old.bytes
+  pub total : total_of new.account ≤ total_of old.account

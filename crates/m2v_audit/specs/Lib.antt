@@ -3,7 +3,13 @@ pub mod Worked
 pub mod Account
 pub mod AccountWorked
 pub mod Report
-pub mod FaultWords
+pub mod Front
+pub mod WorkedPiece
+pub mod Places
+pub mod Times
+pub mod Opening
+pub mod Findings
 pub mod Auditing
+pub mod FaultWords
 pub mod Audited
 pub mod Leading

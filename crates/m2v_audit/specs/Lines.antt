@@ -15,6 +15,7 @@ use Rattle.m2v_audit.specs.declared.words.LimitKind.{LimitKind}
 use Rattle.m2v_audit.specs.declared.words.LimitKind.TheVariants as limits
 use Rattle.m2v_audit.specs.declared.records.SkippedRecord.{SkippedRecord}
 use Rattle.m2v_audit.specs.declared.records.SequenceRecord.{SequenceRecord}
+use Rattle.m2v_audit.specs.declared.records.GroupRecord.{GroupRecord}
 use Rattle.m2v_audit.specs.declared.records.PictureRecord.{PictureRecord}
 use Rattle.m2v_audit.specs.declared.records.HeldRecord.{HeldRecord}
 use Rattle.m2v_audit.specs.declared.records.Finding.{Finding}
@@ -115,6 +116,12 @@ sequence_line s = line_of (codes "sequence")
     ∷ flag s.progressive ∷ flag s.low_delay
     ∷ number s.bit_rate ∷ number s.vbv_buffer_size ∷ word (rate_word s.rate) ∷ [])
 
+abbrev pub group_line : GroupRecord → List ℕ
+group_line g = line_of (codes "group")
+    (number g.sequence ∷ number g.group ∷ number g.bit ∷ number g.picture
+    ∷ flag g.drop_frame ∷ number g.hours ∷ number g.minutes ∷ number g.seconds ∷ number g.pictures
+    ∷ flag g.closed ∷ flag g.broken ∷ [])
+
 abbrev pub picture_line : PictureRecord → List ℕ
 picture_line p = line_of (codes "picture")
     (number p.sequence ∷ number p.picture ∷ number p.bit
@@ -175,6 +182,10 @@ columns_lines =
     ∷ codes "frame_rate_code" ∷ codes "aspect" ∷ codes "profile_and_level"
     ∷ codes "progressive" ∷ codes "low_delay"
     ∷ codes "bit_rate" ∷ codes "vbv_buffer_size" ∷ codes "rate" ∷ [])
+    ++ columns_line (codes "group")
+    (codes "sequence" ∷ codes "group" ∷ codes "bit" ∷ codes "picture"
+    ∷ codes "drop" ∷ codes "hours" ∷ codes "minutes" ∷ codes "seconds" ∷ codes "pictures"
+    ∷ codes "closed" ∷ codes "broken" ∷ [])
     ++ columns_line (codes "picture")
     (codes "sequence" ∷ codes "picture" ∷ codes "bit"
     ∷ codes "type" ∷ codes "structure" ∷ codes "temporal_reference"

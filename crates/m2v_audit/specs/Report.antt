@@ -4,7 +4,10 @@ use Rattle.std.specs.Option.{unwrap_or}
 use Rattle.m2v_vbv.specs.declared.removed.Removed.{Removed}
 use Rattle.m2v_audit.specs.declared.account.Due.{Due}
 use Rattle.m2v_audit.specs.declared.words.FailureKind.TheVariants as failures
+use Rattle.m2v_audit.specs.declared.words.LimitKind.{LimitKind}
 use Rattle.m2v_audit.specs.declared.records.SequenceRecord.{SequenceRecord}
+use Rattle.m2v_audit.specs.declared.records.GroupRecord.{GroupRecord}
+use Rattle.m2v_audit.specs.declared.records.PictureRecord.{PictureRecord}
 use Rattle.m2v_audit.specs.declared.records.HeldRecord.{HeldRecord}
 use Rattle.m2v_audit.specs.declared.records.Finding.{Finding}
 use Rattle.m2v_audit.specs.declared.records.FailureRecord.{FailureRecord}
@@ -14,7 +17,7 @@ use Rattle.m2v_audit.specs.declared.tally.Tally.{Tally}
 use Rattle.m2v_audit.specs.declared.report.Broken.{Broken}
 use Rattle.m2v_audit.specs.declared.report.Rate.{Rate}
 use Rattle.m2v_audit.specs.declared.report.SequenceTotals.{SequenceTotals}
-use Rattle.m2v_audit.specs.Lines.{skipped_line, sequence_line, held_line, breach_line, failure_line, count_line, end_line}
+use Rattle.m2v_audit.specs.Lines.{skipped_line, sequence_line, group_line, picture_line, held_line, breach_line, failure_line, fault_line, limit_line, count_line, end_line}
 
 -- ---- what is counted
 
@@ -186,6 +189,24 @@ with_skipped r skipped start =
 
 abbrev pub with_begin : Report → ℕ → ℕ → SequenceRecord → Report
 with_begin r skipped start s = with_text (with_skipped r skipped start) (sequence_line s)
+
+-- ---- headers and pictures, where each picture is told
+
+abbrev pub with_group_line : Report → GroupRecord → Report
+with_group_line r g = if r.pictures then with_text r (group_line g) else r
+
+abbrev pub with_picture_line : Report → PictureRecord → Report
+with_picture_line r p = if r.pictures then with_text r (picture_line p) else r
+
+-- ---- what ends it early
+
+-- a fault of a kind, at a bit of the input
+abbrev pub with_fault : Report → ℕ → List ℕ → Report
+with_fault r bit kind = with_text r (fault_line r.sequence bit kind)
+
+-- a limit that the input passes
+abbrev pub with_limit : Report → LimitKind → Report
+with_limit r kind = with_text r (limit_line r.sequence kind)
 
 -- ---- its end
 

@@ -5,6 +5,7 @@ use Rattle.m2v_audit.specs.declared.account.Due.{Due}
 use Rattle.m2v_audit.specs.declared.words.RateKind.TheVariants as rates
 use Rattle.m2v_audit.specs.declared.words.FailureKind.TheVariants as failures
 use Rattle.m2v_audit.specs.declared.records.SequenceRecord.{SequenceRecord}
+use Rattle.m2v_audit.specs.declared.records.GroupRecord.{GroupRecord}
 use Rattle.m2v_audit.specs.declared.records.Finding.{Finding}
 use Rattle.m2v_audit.specs.declared.records.FailureRecord.{FailureRecord}
 use Rattle.m2v_audit.specs.declared.records.EndRecord.{EndRecord}
@@ -28,6 +29,22 @@ television = record {
   bit_rate = 15000;
   vbv_buffer_size = 112;
   rate = rates.Variable;
+}
+
+-- the third group of a sequence, with the time 01:02:03 and four pictures, closed
+abbrev pub third : GroupRecord
+third = record {
+  sequence = 0;
+  group = 2;
+  bit = 976;
+  picture = 24;
+  drop_frame = false;
+  hours = 1;
+  minutes = 2;
+  seconds = 3;
+  pictures = 4;
+  closed = true;
+  broken = false;
 }
 
 -- a width above that of the level

@@ -1,117 +1,211 @@
-//! A sequence that is audited, piece by piece. (A stand-in, until the real one is here.)
-ghost use Rattle.std.specs.Prelude.{◌≡◌, OnOk};
+//! A sequence that is audited, piece by piece.
+ghost use Rattle.std.specs.Prelude.{◌≡◌, ◌+◌, ◌*◌, ◌≤◌, ◌<◌, ◌^◌, OnOk, IfSome, is_some};
 ghost use Rattle.m2v_model.specs.PieceNotes.{noted};
-ghost use Rattle.m2v_decode.specs.Decoding.{whole_of};
 ghost use Rattle.m2v_dec_piece.specs.Sound.{IsSoundPiece};
-ghost use Rattle.m2v_audit.specs.Auditing.{nothing, is_begun, cleared, after_piece, stopped as stopped_at, ended};
+ghost use Rattle.m2v_check.specs.m2v_decode.Decoding.{whole_of};
+ghost use Rattle.m2v_check.specs.Judging.{IsPlaced};
+ghost use Rattle.m2v_audit.specs.Auditing.{nothing, fronted, told, after_piece, totals_of, finished, ended, stopped_by, faulty, limited, skipped_to, cleared, IsSound, HasRoom, Keeps, Lessens};
 
-use crate::report::{Report, SequenceTotals};
+use crate::auditing::Auditing;
+use crate::findings::{tell_ended, tell_misplaced};
+use crate::headers::front;
+use crate::report::SequenceTotals;
 use crate::tally::Tally;
-use m2v_decode::Piece;
+use crate::words::LimitKind;
+use crate::zeros::{zeros_at_end, zeros_of};
+use m2v_dec_piece::Piece;
+use m2v_dec_unit::UnitReader;
 use m2v_model::Notes;
 use std::alloc::{AllocError, Global};
 use std::marker::Model;
 
-/// A sequence that is audited.
+/// The account, the rules and the report of a sequence, which is handed to it piece by piece. What it tells is appended to
+/// its report, whose text the caller takes away when it likes; where memory runs out, nothing is said of it.
+///
+/// Contracts see it as the report so far, and what is kept of the pieces.
 #[derive(Drop)]
 pub struct Auditor {
-    report: Report,
-    begun: bool,
-    start: u64,
-    pictures: u64,
-    bytes: u64,
+    kept: Auditing,
 }
 
 impl Model for Auditor {
-    ghost use Rattle.m2v_audit.specs.Auditing.{Auditing};
+    ghost use Rattle.m2v_audit.specs.Auditing.{Auditing as State, IsSound};
 
-    ghost Value = { Auditing };
+    ghost Value = { State };
 
-    ghost view = { λ a. record {
-      report = a.report;
-      begun = a.begun;
-      start = a.start;
-      pictures = a.pictures;
-      bytes = a.bytes;
-    } };
+    ghost view = { λ a. a.kept };
+
+    ghost invariant = { λ a. IsSound a.kept };
 }
 
-impl Auditor {
-    /// Nothing was read of the sequence of this number, whose text begins at a byte.
-    pub fn new(alloc: Global, number: u64, each: bool, start: u64) -> Auditor
-        ensures { result ≡ nothing number each start }
+impl Auditing {
+    /// The sequence and the headers of a piece.
+    fn front(&mut self, alloc: Global, piece: &Piece, notes: &Notes) -> Result<(), AllocError>
+        requires piece { IsSoundPiece piece.now }
+        requires few { self.old.places.shown < 2 ^ 61 }
+        ensures value { OnOk result (self.new
+            ≡ fronted self.old piece.now.place (whole_of piece.now) (noted notes.now)) }
+        ensures keeps { Keeps self.old self.new }
     {
-        Auditor {
-            report: Report::new(alloc, number, each),
-            begun: false,
-            start,
-            pictures: 0,
-            bytes: 0,
+        self.begin_once(piece.place, notes)?;
+        let mut units = UnitReader::new(&piece.bytes, zeros_of(piece));
+        let headers = front(alloc, &mut units, 8 * piece.place)?;
+        self.headers(&headers, &notes.sequences)
+    }
+
+    /// A piece that is counted among the bytes.
+    fn counted_piece(
+        &mut self,
+        alloc: Global,
+        piece: &Piece,
+        notes: &Notes,
+    ) -> Result<(), AllocError>
+        requires piece { IsSoundPiece piece.now }
+        requires picture { IfSome notes.now.picture
+            (λ n. IsPlaced n piece.now.place piece.now.length) }
+        requires room { HasRoom self.old piece.now.length }
+        ensures value { OnOk result (self.new
+            ≡ told self.old piece.now.place (whole_of piece.now) (noted notes.now)) }
+        ensures sound { IsSound self.new }
+    {
+        self.front(alloc, piece, notes)?;
+        let zeros = zeros_at_end(piece);
+        self.note(alloc, &notes.picture, piece.place, piece.length, zeros)?;
+        self.settle()
+    }
+
+    /// Tells what is left at the end of a sequence.
+    fn finish(&mut self) -> Result<(), AllocError>
+        requires few { self.old.places.shown < 2 ^ 61 }
+        ensures value { OnOk result (self.new ≡ finished self.old) }
+        ensures keeps { Lessens self.old self.new }
+    {
+        let told = self.places.close();
+        tell_misplaced(&mut self.report, &told)?;
+        if let Some(mut account) = self.account.take() {
+            tell_ended(&mut self.report, &self.rate, &mut account)?;
+        }
+        let totals = self.totals();
+        self.report.finish(&totals)
+    }
+
+    /// What there was.
+    fn totals(&self) -> SequenceTotals
+        ensures { result ≡ totals_of self.now }
+    {
+        SequenceTotals {
+            pictures: self.pictures,
+            frames: self.frames,
+            groups: self.groups,
+            bytes: self.bytes,
         }
     }
 
-    /// A piece was read.
+    /// Tells what there was, where a sequence began.
+    fn stop(&mut self) -> Result<(), AllocError>
+        ensures value { OnOk result (self.new ≡ stopped_by self.old.first self.old) }
+        ensures keeps { Keeps self.old self.new }
+    {
+        let totals = self.totals();
+        match self.first {
+            Some(_) => self.report.finish(&totals),
+            None => Ok(()),
+        }
+    }
+}
+
+impl Auditor {
+    /// Nothing was read of the sequence of this number, whose text begins at the byte `start` of the input. `each` says
+    /// whether each picture is told.
+    pub fn new(alloc: Global, number: u64, each: bool, start: u64) -> Auditor
+        ensures value { result ≡ nothing number each start }
+    {
+        Auditor {
+            kept: Auditing::new(alloc, number, each, start),
+        }
+    }
+
+    /// Takes the next piece, with what is noted of it.
+    #[tactic(auto, unfolding(crate::specs::Auditing::after_piece))]
     pub fn piece(&mut self, alloc: Global, piece: &Piece, notes: &Notes) -> Result<(), AllocError>
-        requires sound { IsSoundPiece piece.now }
-        ensures { OnOk result
-            (self.new ≡ after_piece self.old piece.now.place (whole_of piece.now) (noted notes.now)) }
+        requires piece { IsSoundPiece piece.now }
+        requires bytes { self.old.bytes + piece.now.length ≤ 2 ^ 36 }
+        requires picture { IfSome notes.now.picture
+            (λ n. IsPlaced n piece.now.place piece.now.length) }
+        ensures value { OnOk result (self.new
+            ≡ after_piece self.old piece.now.place (whole_of piece.now) (noted notes.now)) }
     {
-        Err(AllocError)
+        self.kept.bytes += piece.length;
+        self.kept.counted_piece(alloc, piece, notes)
     }
 
-    /// The sequence ends.
+    /// The sequence ends: what waits is told, and what there was in all.
+    #[tactic(auto, unfolding(crate::specs::Auditing::ended))]
     pub fn finish(&mut self) -> Result<(), AllocError>
-        ensures { OnOk result (self.new ≡ ended self.old) }
+        ensures value { OnOk result (self.new ≡ ended self.old) }
     {
-        Err(AllocError)
+        match self.kept.first {
+            Some(_) => self.kept.finish(),
+            None => Ok(()),
+        }
     }
 
-    /// The sequence stops.
-    pub fn stop(&mut self) -> Result<(), AllocError>
-        ensures { OnOk result (self.new ≡ stopped_at self.old) }
+    /// A fault of a kind ends the sequence, at a bit of the input. What waits isn't told.
+    pub fn fault(&mut self, bit: u64, kind: &str) -> Result<(), AllocError>
+        ensures value { OnOk result (self.new ≡ faulty self.old bit kind.now) }
     {
-        Err(AllocError)
+        self.kept.report.fault(bit, kind)?;
+        self.kept.stop()
     }
 
-    /// The bytes that were told.
+    /// A limit ends the sequence. What waits isn't told.
+    pub fn limit(&mut self, kind: LimitKind) -> Result<(), AllocError>
+        ensures value { OnOk result (self.new ≡ limited self.old kind) }
+    {
+        self.kept.report.limit(kind)?;
+        self.kept.stop()
+    }
+
+    /// The text ends before a byte of the input, and has no sequence: all of it is skipped.
+    pub fn skip(&mut self, end: u64) -> Result<(), AllocError>
+        ensures value { OnOk result (self.new ≡ skipped_to self.old end) }
+    {
+        let skipped = end.saturating_sub(self.kept.start);
+        self.kept.report.skipped(skipped, self.kept.start)
+    }
+
+    /// The bytes of its report's lines.
     pub fn bytes(&self) -> &[u8]
-        ensures { result.now ≡ self.now.report.text }
+        ensures value { result.now ≡ self.now.report.text }
     {
-        self.report.bytes()
+        self.kept.report.bytes()
     }
 
-    /// Takes away what was told.
+    /// Takes the lines away.
     pub fn clear(&mut self)
-        ensures { self.new ≡ cleared self.old }
+        ensures value { self.new ≡ cleared self.old }
     {
-        self.report.clear();
+        self.kept.report.clear();
     }
 
-    /// Whether its record `sequence` was written.
-    pub fn is_begun(&self) -> bool
-        ensures { result ≡ is_begun self.now }
-    {
-        self.begun
-    }
-
-    /// How many pictures it has.
-    pub fn pictures(&self) -> u64
-        ensures { result ≡ self.now.pictures }
-    {
-        self.pictures
-    }
-
-    /// How many bytes it has.
-    pub fn length(&self) -> u64
-        ensures { result ≡ self.now.bytes }
-    {
-        self.bytes
-    }
-
-    /// What is counted.
+    /// What is counted of the sequence's breaches and failures.
     pub fn tally(&self) -> Tally
-        ensures { result ≡ self.now.report.tally }
+        ensures value { result ≡ self.now.report.tally }
     {
-        self.report.tally()
+        self.kept.report.tally()
+    }
+
+    /// What there was in the sequence so far.
+    pub fn totals(&self) -> SequenceTotals
+        ensures value { result ≡ totals_of self.now }
+    {
+        self.kept.totals()
+    }
+
+    /// A sequence header came.
+    pub fn has_begun(&self) -> bool
+        ensures value { result ≡ is_some self.now.first }
+    {
+        self.kept.first.is_some()
     }
 }

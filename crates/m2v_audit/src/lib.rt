@@ -1,34 +1,51 @@
-//! What `audit` tells of a stream: the lines of its report, and the account of the buffer as it is told, picture by picture
-//! (Annex C of ISO/IEC 13818-2).
+//! What `audit` tells of a stream: the lines of its report, the headers before each picture (clauses 6.2.2.1 and 6.2.2.6 of
+//! ISO/IEC 13818-2), and the account of the buffer as it is told, picture by picture (Annex C).
 #![tactic(auto)]
 
 mod account;
 mod account_laws;
+mod auditing;
 mod auditor;
 mod fault_word;
+mod findings;
+mod front_laws;
+mod headers;
 mod line;
 mod lines;
+mod opening;
 mod outcome;
+mod pictures;
 mod pieces;
+mod places;
 mod records;
 mod report;
 mod tally;
+mod times;
+mod times_laws;
 mod texts;
+mod told;
 mod whole;
 mod words;
 mod worked;
+mod zeros;
 
 pub use account::{Account, Due};
 pub use account_laws::{law_account_worked, law_as_soon_as_settled, law_told_in_all};
 pub use auditor::Auditor;
+pub use front_laws::{law_front_placed, law_front_worked};
+pub use headers::{PieceHeader, front};
 pub use lines::Lines;
 pub use outcome::{Ending, Outcome};
+pub use opening::{first_buffer, kind_of};
+pub use places::{Misplaced, Places, Waiting, WaitingFrame};
 pub use records::{
-    CountRecord, EndRecord, FailureRecord, Finding, HeldRecord, PictureRecord, SequenceRecord,
-    SkippedRecord, TotalRecord,
+    CountRecord, EndRecord, FailureRecord, Finding, GroupRecord, HeldRecord, PictureRecord,
+    SequenceRecord, SkippedRecord, TotalRecord,
 };
 pub use report::{Broken, Rate, Report, SequenceTotals};
 pub use tally::{RuleCount, Tally};
+pub use times::{Times, fields_of};
+pub use times_laws::law_times_as_checked;
 pub use words::{FailureKind, LimitKind, PictureType, RateKind, Structure};
 pub use whole::audit;
 pub use worked::{law_lines_worked, law_report_worked};

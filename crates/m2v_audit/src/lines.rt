@@ -1,11 +1,11 @@
 //! The lines of the report, record by record.
 ghost use Rattle.std.specs.Prelude.{◌≡◌, ◌++◌, [], OnOk};
-ghost use Rattle.m2v_audit.specs.Lines.{audit_line, columns_lines, skipped_line, sequence_line, picture_line, held_line, breach_line, failure_line, fault_line, limit_line, count_line, end_line, total_line};
+ghost use Rattle.m2v_audit.specs.Lines.{audit_line, columns_lines, skipped_line, sequence_line, group_line, picture_line, held_line, breach_line, failure_line, fault_line, limit_line, count_line, end_line, total_line};
 
 use crate::line::{Column, print};
 use crate::records::{
-    CountRecord, EndRecord, FailureRecord, Finding, HeldRecord, PictureRecord, SequenceRecord,
-    SkippedRecord, TotalRecord,
+    CountRecord, EndRecord, FailureRecord, Finding, GroupRecord, HeldRecord, PictureRecord,
+    SequenceRecord, SkippedRecord, TotalRecord,
 };
 use crate::words::{
     LimitKind, column_names, failure_word, limit_word, name_of, rate_word, structure_word,
@@ -102,6 +102,30 @@ impl Lines {
                 Column::of(s.bit_rate),
                 Column::of(s.vbv_buffer_size),
                 Column::Word(rate_word(s.rate)),
+            ],
+        )
+    }
+
+    /// A group of pictures header.
+    pub fn group(&mut self, g: &GroupRecord) -> Result<(), AllocError>
+        ensures { OnOk result (self.new.text.items
+            ≡ self.old.text.items ++ group_line g.now) }
+    {
+        print(
+            &mut self.text,
+            "group",
+            &[
+                Column::of(g.sequence),
+                Column::of(g.group),
+                Column::of(g.bit),
+                Column::of(g.picture),
+                Column::flag(g.drop_frame),
+                Column::of(g.hours),
+                Column::of(g.minutes),
+                Column::of(g.seconds),
+                Column::of(g.pictures),
+                Column::flag(g.closed),
+                Column::flag(g.broken),
             ],
         )
     }

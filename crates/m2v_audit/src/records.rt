@@ -32,6 +32,27 @@ pub struct SequenceRecord {
     pub rate: RateKind,
 }
 
+/// A group of pictures header.
+#[derive(Clone, Copy, Debug, PartialEq, Eq)]
+pub struct GroupRecord {
+    pub sequence: u64,
+    /// Its number in the sequence, from 0.
+    pub group: u64,
+    pub bit: u64,
+    /// The number of the next picture.
+    pub picture: u64,
+    /// Its time code passes over numbers of pictures, as at 29.97 Hz (drop_frame_flag).
+    pub drop_frame: bool,
+    pub hours: u64,
+    pub minutes: u64,
+    pub seconds: u64,
+    pub pictures: u64,
+    /// No B picture before its second anchor wants the group before (closed_gop).
+    pub closed: bool,
+    /// The B pictures before its second anchor lack the group before (broken_link).
+    pub broken: bool,
+}
+
 /// A picture.
 #[derive(Clone, Copy, Debug, PartialEq, Eq)]
 pub struct PictureRecord {

@@ -1,14 +1,15 @@
 // The report of a sequence as it grows.
 ghost use Rattle.std.specs.Prelude.{◌≡◌, ◌<◌, ◌≤◌, [], OnOk};
-ghost use Rattle.m2v_audit.specs.Report.{no_tally, with_breach, held_of, under_of, over_of, with_failure, with_held, with_under, with_over, with_removal, with_skipped, with_begin, with_count, with_counts, end_of, with_end};
+ghost use Rattle.m2v_audit.specs.Report.{no_tally, with_breach, held_of, under_of, over_of, with_failure, with_held, with_under, with_over, with_removal, with_skipped, with_begin, with_group_line, with_picture_line, with_fault, with_limit, with_count, with_counts, end_of, with_end};
 
 use crate::account::Due;
 use crate::lines::Lines;
 use crate::records::{
-    CountRecord, EndRecord, FailureRecord, Finding, HeldRecord, SequenceRecord, SkippedRecord,
+    CountRecord, EndRecord, FailureRecord, Finding, GroupRecord, HeldRecord, PictureRecord,
+    SequenceRecord, SkippedRecord,
 };
 use crate::tally::{Tally, after_of, before_of};
-use crate::words::FailureKind;
+use crate::words::{FailureKind, LimitKind};
 use m2v_vbv::Removed;
 use std::alloc::{AllocError, Global};
 use std::marker::Model;
@@ -126,6 +127,49 @@ impl Report {
         self.lines.sequence(s)
     }
 
+    /// The number of the sequence.
+    pub fn number(&self) -> u64
+        ensures { result ≡ self.now.sequence }
+    {
+        self.sequence
+    }
+
+    /// A group header, where each picture is told.
+    pub fn group(&mut self, g: &GroupRecord) -> Result<(), AllocError>
+        ensures { OnOk result (self.new ≡ with_group_line self.old g.now) }
+    {
+        if self.pictures {
+            self.lines.group(g)
+        } else {
+            Ok(())
+        }
+    }
+
+    /// A picture, where each is told.
+    pub fn picture(&mut self, p: &PictureRecord) -> Result<(), AllocError>
+        ensures { OnOk result (self.new ≡ with_picture_line self.old p.now) }
+    {
+        if self.pictures {
+            self.lines.picture(p)
+        } else {
+            Ok(())
+        }
+    }
+
+    /// The stream has a fault of a kind, at a bit of the input.
+    pub fn fault(&mut self, bit: u64, kind: &str) -> Result<(), AllocError>
+        ensures { OnOk result (self.new ≡ with_fault self.old bit kind.now) }
+    {
+        self.lines.fault(self.sequence, bit, kind)
+    }
+
+    /// The input passes a limit.
+    pub fn limit(&mut self, kind: LimitKind) -> Result<(), AllocError>
+        ensures { OnOk result (self.new ≡ with_limit self.old kind) }
+    {
+        self.lines.limit(self.sequence, kind)
+    }
+
     /// A rule is broken.
     pub fn breach(&mut self, b: &Broken) -> Result<(), AllocError>
         requires least { 1 ≤ b.now.rule }
@@ -164,8 +208,8 @@ impl Report {
         self.lines.end(&end)
     }
 
-    /// Bytes before the sequence, where there are some.
-    fn skipped(&mut self, skipped: u64, start: u64) -> Result<(), AllocError>
+    /// Bytes that are no part of a sequence, where there are some, the first of them at the byte `start`.
+    pub fn skipped(&mut self, skipped: u64, start: u64) -> Result<(), AllocError>
         ensures { OnOk result (self.new ≡ with_skipped self.old skipped start) }
     {
         if skipped == 0 {

@@ -148,6 +148,8 @@ pub(crate) fn column_names() -> &'static str
         "columns\tskipped\tsequence\tbyte\tbytes\n",
         "columns\tsequence\tsequence\tbit\twidth\theight\tframe_rate_code\taspect\tprofile_and_level",
         "\tprogressive\tlow_delay\tbit_rate\tvbv_buffer_size\trate\n",
+        "columns\tgroup\tsequence\tgroup\tbit\tpicture",
+        "\tdrop\thours\tminutes\tseconds\tpictures\tclosed\tbroken\n",
         "columns\tpicture\tsequence\tpicture\tbit\ttype\tstructure\ttemporal_reference",
         "\tbits\tzeros\tvbv_delay\tfields\tdropped\n",
         "columns\theld\tsequence\tpicture\ttime\tbefore\ttaken\tafter\tdelay\twait\n",

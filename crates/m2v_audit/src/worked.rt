@@ -1,13 +1,14 @@
 //! Worked lines, and a worked report.
 ghost use Rattle.std.specs.Prelude.{◌≡◌, ◌++◌, codes};
-ghost use Rattle.m2v_audit.specs.Lines.{sequence_line, breach_line, failure_line, end_line, columns_lines, audit_line};
-ghost use Rattle.m2v_audit.specs.Worked.{television, too_wide, too_late, ended, worked_report};
+ghost use Rattle.m2v_audit.specs.Lines.{sequence_line, group_line, breach_line, failure_line, end_line, columns_lines, audit_line};
+ghost use Rattle.m2v_audit.specs.Worked.{television, third, too_wide, too_late, ended, worked_report};
 
 /// The lines of some records, written out.
 pub fn law_lines_worked()
     ensures audit { audit_line (codes "main") ≡ codes "audit\t1\tmain\n" }
     ensures sequence { sequence_line television
         ≡ codes "sequence\t0\t32\t720\t576\t3\t2\t72\t0\t1\t15000\t112\tvariable\n" }
+    ensures group { group_line third ≡ codes "group\t0\t2\t976\t24\t0\t1\t2\t3\t4\t1\t0\n" }
     ensures breach { breach_line too_wide ≡ codes "breach\t0\t3\t12345\t2\twidth\t721\t720\n" }
     ensures failure { failure_line too_late
         ≡ codes "failure\t1\t10\t80000\tunder\t288000\t1800\t3600\t12\n" }

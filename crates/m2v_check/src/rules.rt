@@ -6,9 +6,9 @@ ghost use Rattle.m2v_check.specs.Running.{low_delay_with, lesser, no_rules, with
 
 use crate::broken::{BrokenRule, either, first_of};
 use crate::coded::CodedPicture;
+use crate::header_rules::sequence_breach;
 use crate::picture_rules::{is_b, is_frame, rules_from_12, rules_to_10};
 use crate::places::{Places, Unplaced};
-use crate::sequence_rules::sequence_breach;
 use m2v_model::{PictureNote, Sequence};
 
 /// The vbv_delay of a stream at variable rate (clause 6.3.9).

@@ -5,4 +5,4 @@ use Rattle.m2v_audit.proofs.worked.law_lines_worked.Goals as goal
 
 pub returns : goal.returns
 unfolding column_text name_of rate_word failure_word digits
-returns c = record { audit = refl; sequence = refl; breach = refl; failure = refl; end = refl }
+returns c = record { audit = refl; sequence = refl; group = refl; breach = refl; failure = refl; end = refl }

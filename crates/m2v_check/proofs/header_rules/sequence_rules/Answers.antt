@@ -1,5 +1,5 @@
 use Rattle.m2v_check.proofs.Told.{eight_told}
-use Rattle.m2v_check.proofs.sequence_rules.sequence_rules.Goals as goal
+use Rattle.m2v_check.proofs.header_rules.sequence_rules.Goals as goal
 
 pub returns : goal.returns
 returns c = record {

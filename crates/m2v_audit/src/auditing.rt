@@ -1,0 +1,228 @@
+//! What is kept of a sequence that is audited, and how headers and pictures change it.
+ghost use Rattle.std.specs.Prelude.{◌≡◌, ◌+◌, ◌*◌, ◌≤◌, ◌<◌, ◌^◌, [], ◌∷◌, slice_get, OnOk};
+ghost use Rattle.m2v_model.specs.PieceNotes.{noted};
+ghost use Rattle.m2v_model.specs.States.{first_or};
+ghost use Rattle.m2v_audit.specs.Auditing.{nothing, sequence_of, with_first, begun_by, begun, with_sequence, with_group, with_header, sequences_of, with_headers, Keeps};
+
+use crate::account::Account;
+use crate::findings::{tell_breaches, tell_misplaced};
+use crate::headers::PieceHeader;
+use crate::opening::kind_of;
+use crate::places::Places;
+use crate::report::{Rate, Report};
+use crate::times::Times;
+use crate::told::{group_record, rate_with, sequence_record};
+use m2v_check::sequence_rules;
+use m2v_model::macro_library::head::{GroupInfo, SequenceExtension, SequenceInfo};
+use m2v_model::{Notes, PictureNote, Sequence};
+use std::alloc::{AllocError, Global};
+
+/// What is kept of a sequence that is audited.
+#[derive(Drop)]
+pub struct Auditing {
+    pub(crate) report: Report,
+    /// The byte of the input where the sequence's text begins.
+    pub(crate) start: u64,
+    /// The first sequence header, and the last one.
+    pub(crate) first: Option<Sequence>,
+    pub(crate) sequence: Option<Sequence>,
+    /// A group header came, and no picture after it.
+    pub(crate) first_in_group: bool,
+    pub(crate) pictures: u64,
+    pub(crate) groups: u64,
+    /// The frames that are shown.
+    pub(crate) frames: u64,
+    pub(crate) bytes: u64,
+    /// The first vbv_delay doesn't say that the rate is variable.
+    pub(crate) constant: bool,
+    /// Where frames stand in their group.
+    pub(crate) places: Places,
+    /// The times of removals.
+    pub(crate) times: Times,
+    /// How the buffer is filled.
+    pub(crate) rate: Rate,
+    /// The buffer's account, where the sequence has one.
+    pub(crate) account: Option<Account>,
+}
+
+/// A sequence header with what its extension says.
+fn sequence_of(pair: &(SequenceInfo, SequenceExtension)) -> Sequence
+    ensures { result ≡ sequence_of pair.now }
+{
+    Sequence {
+        info: pair.0,
+        extension: pair.1,
+    }
+}
+
+impl PieceHeader {
+    /// How many sequence headers it is.
+    #[tactic(auto, unfolding(crate::specs::Auditing::sequences_of))]
+    fn sequences(&self) -> usize
+        ensures value { result ≡ sequences_of self.now }
+        ensures most { result ≤ 1 }
+    {
+        match self {
+            PieceHeader::Sequence { .. } => 1,
+            PieceHeader::Group { .. } => 0,
+        }
+    }
+}
+
+impl Auditing {
+    /// Nothing was read of the sequence of this number, whose text begins at a byte of the input.
+    pub(crate) fn new(alloc: Global, number: u64, each: bool, start: u64) -> Auditing
+        ensures { result ≡ nothing number each start }
+    {
+        Auditing {
+            report: Report::new(alloc, number, each),
+            start,
+            first: None,
+            sequence: None,
+            first_in_group: false,
+            pictures: 0,
+            groups: 0,
+            frames: 0,
+            bytes: 0,
+            constant: true,
+            places: Places::new(false),
+            times: Times::new(false, 0),
+            rate: Rate {
+                constant: true,
+                low_delay: false,
+                size: 0,
+            },
+            account: None,
+        }
+    }
+
+    /// The sequence begins, with its first header, which stands at a byte of the input, and the picture of its first piece.
+    fn begin(
+        &mut self,
+        place: u64,
+        s: &Sequence,
+        note: &Option<PictureNote>,
+    ) -> Result<(), AllocError>
+        requires place { place ≤ 2 ^ 36 }
+        ensures value { OnOk result (self.new ≡ with_first self.old place s.now note.now) }
+        ensures keeps { Keeps self.old self.new }
+    {
+        let low_delay = s.extension.low_delay;
+        self.places = Places::new(low_delay);
+        self.times = Times::new(low_delay, s.info.frame_rate_code);
+        self.rate = rate_with(s, note);
+        let record = sequence_record(self.report.number(), 8 * place, s, kind_of(s, note));
+        let skipped = place.saturating_sub(self.start);
+        self.report.begin(skipped, self.start, &record)
+    }
+
+    /// The sequence begins, where its first piece has a sequence header.
+    fn begin_by(
+        &mut self,
+        place: u64,
+        sequences: &[(SequenceInfo, SequenceExtension)],
+        note: &Option<PictureNote>,
+    ) -> Result<(), AllocError>
+        requires place { place ≤ 2 ^ 36 }
+        ensures value { OnOk result (self.new
+            ≡ begun_by self.old place (slice_get sequences.now 0) note.now) }
+        ensures keeps { Keeps self.old self.new }
+    {
+        match sequences.first() {
+            Some(pair) => self.begin(place, &sequence_of(pair), note),
+            None => Ok(()),
+        }
+    }
+
+    /// The sequence begins, with its first piece.
+    pub(crate) fn begin_once(&mut self, place: u64, notes: &Notes) -> Result<(), AllocError>
+        requires place { place ≤ 2 ^ 36 }
+        ensures value { OnOk result (self.new
+            ≡ begun self.old.first self.old place (noted notes.now)) }
+        ensures keeps { Keeps self.old self.new }
+    {
+        match self.first {
+            Some(_) => Ok(()),
+            None => self.begin_by(place, &notes.sequences, &notes.picture),
+        }
+    }
+
+    /// A sequence header at a bit of the input.
+    #[tactic(auto, using(crate::proofs::RuleNumbers::sequence_are))]
+    fn sequence(&mut self, bit: u64, s: &Sequence) -> Result<(), AllocError>
+        ensures value { OnOk result (self.new ≡ with_sequence self.old bit s.now) }
+        ensures keeps { Keeps self.old self.new }
+    {
+        tell_breaches(&mut self.report, self.pictures, bit, &sequence_rules(s))?;
+        self.first = Some(first_or(&self.first, s));
+        self.sequence = Some(*s);
+        Ok(())
+    }
+
+    /// A group header at a bit of the input: the group before it ends.
+    fn group(&mut self, bit: u64, g: &GroupInfo) -> Result<(), AllocError>
+        requires few { self.old.places.shown < 2 ^ 61 }
+        ensures value { OnOk result (self.new ≡ with_group self.old bit g.now) }
+        ensures keeps { Keeps self.old self.new }
+    {
+        let number = self.report.number();
+        let record = group_record(number, self.groups, bit, self.pictures, g);
+        let told = self.places.close();
+        tell_misplaced(&mut self.report, &told)?;
+        self.report.group(&record)?;
+        self.first_in_group = true;
+        self.groups = self.groups.saturating_add(1);
+        Ok(())
+    }
+
+    /// A header, and of a sequence header the next of what was noted of them.
+    #[tactic(auto, unfolding(crate::specs::Auditing::with_header))]
+    fn header(
+        &mut self,
+        header: &PieceHeader,
+        noted: &[(SequenceInfo, SequenceExtension)],
+        next: usize,
+    ) -> Result<(), AllocError>
+        requires few { self.old.places.shown < 2 ^ 61 }
+        ensures value { OnOk result (self.new
+            ≡ with_header self.old header.now (slice_get noted.now next)) }
+        ensures keeps { Keeps self.old self.new }
+    {
+        match header {
+            PieceHeader::Group { bit, info } => self.group(*bit, info),
+            PieceHeader::Sequence { bit } => match noted.get(next) {
+                Some(pair) => self.sequence(*bit, &sequence_of(pair)),
+                None => Ok(()),
+            },
+        }
+    }
+
+    /// The headers of a piece, in turn, with what was noted of its sequence headers.
+    #[tactic(auto, unfolding(crate::specs::Auditing::with_headers))]
+    pub(crate) fn headers(
+        &mut self,
+        headers: &[PieceHeader],
+        noted: &[(SequenceInfo, SequenceExtension)],
+    ) -> Result<(), AllocError>
+        requires few { self.old.places.shown < 2 ^ 61 }
+        ensures value { OnOk result (self.new ≡ with_headers self.old noted.now 0 headers.now) }
+        ensures keeps { Keeps self.old self.new }
+    {
+        let mut next = 0;
+        for header in headers {
+            self.header(header, noted, next)?;
+            next += header.sequences();
+        }
+        Ok(())
+    }
+}
+
+/// The first sequence header.
+fn first_or(first: &Option<Sequence>, s: &Sequence) -> Sequence
+    ensures { result ≡ first_or first.now s.now }
+{
+    match first {
+        Some(first) => *first,
+        None => *s,
+    }
+}
