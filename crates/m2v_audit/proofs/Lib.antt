@@ -11,5 +11,7 @@ pub mod ZeroLaws
 pub mod LeadLaws
 pub mod PieceSteps
 pub mod PieceTelling
+pub mod BytesAfter
 pub mod TextSteps
 pub mod TextEnds
+pub mod TextReports

@@ -1,6 +1,6 @@
 -- A piece is read, audited and told: what its calls make of it.
-use Rattle.std.proofs.Common.{◌≡◌, ◌⊎◌, inl, inr, ℕ, List, Option, Some, None, Result, Ok, Err, OnOk, refl, sym, ap, subst, ◌∙◌}
-use Rattle.std.specs.Prelude.{IfErr}
+use Rattle.std.proofs.Common.{◌≡◌, ◌⊎◌, inl, inr, ℕ, List, Option, Some, None, Result, Ok, Err, OnOk, refl, sym, ap, subst, ◌∙◌, arith}
+use Rattle.std.specs.Prelude.{IfErr, IfSome}
 use Rattle.m2v_port.specs.Ends.{Change, change}
 use Rattle.m2v_port.specs.Port.{Grows, GrowsByPrefix}
 use Rattle.m2v_model.specs.declared.notes.Notes.{Notes}
@@ -8,11 +8,37 @@ use Rattle.m2v_model.specs.PieceNotes.{noted}
 use Rattle.m2v_dec_piece.specs.declared.answer.Piece.{Piece}
 use Rattle.m2v_dec_piece.specs.declared.answer.DecodeError.{DecodeError}
 use Rattle.m2v_dec_piece.specs.declared.answer.DecodeError.TheVariants as errors
-use Rattle.m2v_decode.specs.Decoding.{Decoding, whole_of, Refuses}
+use Rattle.m2v_dec_piece.specs.Sound.{IsSoundPiece}
+use Rattle.m2v_model.specs.declared.state.State.{State}
+use Rattle.m2v_decode.specs.Decoding.{Decoding, at_start, whole_of, Refuses}
+use Rattle.m2v_decode.proofs.EndLaws.{whole_length}
+use Rattle.m2v_check.specs.Judging.{IsPlaced}
+use Rattle.m2v_check.proofs.Checking.{note_placed, shut_behind}
 use Rattle.m2v_decode.specs.Reading.{Reading, Follows, LeadsOn}
 use Rattle.m2v_decode.specs.Progress.{Cuts}
 use Rattle.m2v_audit.specs.Auditing.{Auditing, cleared, after_piece}
 use Rattle.m2v_audit.specs.Leading.{PieceTold, PieceCut, PieceFails}
+
+-- a decoder that has come as far as a reader, with no frame at hand
+leader : Reading → Decoding
+leader r = record at_start { state = r.state; ended = r.ended; failed = r.failed; pictures = r.pictures; dropped = r.dropped; shown = r.frames }
+
+follows_leader : (r : Reading) → Follows r (leader r)
+unfolding leader
+follows_leader r = record { state = refl; pictures = refl; dropped = refl; frames = omega arith; ended = refl; failed = refl; reading = refl }
+
+-- where the picture stands that is noted of a piece
+pub placed : (r r' : Reading) (p : Piece) (notes : Notes) → IsSoundPiece p → r.state.picture ≡ None → ((d : Decoding) → Follows r d → LeadsOn d p.place (whole_of p) notes r') → IfSome notes.picture (λ n. IsPlaced n p.place p.length)
+unfolding leader
+placed r r' p notes sound shut leads =
+    let led = leads (leader r) (follows_leader r) in
+    note_placed (leader r) p.place p.length (whole_of p) notes led.behind led.advanced (sym (whole_length p sound)) shut
+
+-- no picture is open behind it
+pub shut_then : (r r' : Reading) (p : Piece) (notes : Notes) (d : Decoding) → Follows r d → r.state.picture ≡ None → LeadsOn d p.place (whole_of p) notes r' → r'.state.picture ≡ None
+shut_then r r' p notes d f shut led =
+    let before : d.state.picture ≡ None = ap (λ (s : State). s.picture) f.state ∙ shut in
+    ap (λ (s : State). s.picture) (sym led.follows.state) ∙ shut_behind d p.place (whole_of p) notes led.behind led.advanced before
 
 module _ {K : Type 0} (held : K → Option (List ℕ)) (faults : K → ℕ) (r : Reading) (a : Auditing) (p : Piece) where
   abbrev output : K → K → Change

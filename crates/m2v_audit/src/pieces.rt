@@ -1,5 +1,5 @@
 //! The pieces of a text: each is read, audited, and what it tells is written.
-ghost use Rattle.std.specs.Prelude.{◌≡◌, ◌+◌, ◌≤◌, ◌^◌, IsTrue, IfOk, IfErr, OnOk, true, false};
+ghost use Rattle.std.specs.Prelude.{◌≡◌, ◌+◌, ◌≤◌, ◌^◌, IsTrue, IfOk, IfErr, OnOk, None, true, false};
 ghost use Rattle.m2v_port.specs.Ends.{change, SinkStays};
 ghost use Rattle.m2v_port.specs.Port.{Grows};
 ghost use Rattle.m2v_model.specs.ByPieces.{at_start};
@@ -56,6 +56,8 @@ fn tell_piece<K: Sink>(
     requires going { reader.old.failed ≡ false }
     requires before { reader.old.ended ≡ false }
     requires counted { reader.old.pictures + piece.now.length ≤ 2 ^ 60 }
+    requires shut { reader.old.state.picture ≡ None }
+    requires bytes { auditor.old.bytes + piece.now.length ≤ 2 ^ 36 }
     requires output { IsTrue (K.ready output.old) }
     ensures ok { OnOk result (PieceTold reader.old auditor.old piece.now
         (change K.held K.faults output.old output.new) reader.new auditor.new) }
@@ -82,6 +84,7 @@ fn tell_pieces<S: Source, K: Sink>(
 ) -> Result<bool, DecodeError>
     requires going { cutter.old.failed ≡ false }
     requires reader { reader.old ≡ nothing_read }
+    requires bytes { auditor.old.bytes ≤ cutter.old.place }
     requires output { IsTrue (K.ready output.old) }
     ensures ok { IfOk result (λ optional. AreTold
         (change S.left S.faults input.old input.new)
@@ -121,6 +124,7 @@ pub(crate) fn read_text<S: Source, K: Sink>(
     output: &mut K,
 ) -> Result<bool, DecodeError>
     requires going { cutter.old.failed ≡ false }
+    requires bytes { auditor.old.bytes ≤ cutter.old.place }
     requires output { IsTrue (K.ready output.old) }
     ensures ok { IfOk result (λ optional. IsTextRead
         (change S.left S.faults input.old input.new)

@@ -1,4 +1,4 @@
-use Rattle.std.proofs.Common.{◌≡◌, ◌≤◌, ◌-◌, ◌^◌, false}
+use Rattle.std.proofs.Common.{◌≡◌, ◌≤◌, ◌-◌, ◌^◌, false, None}
 use Rattle.m2v_port.specs.Ends.{change, SinkStays}
 use Rattle.m2v_audit.proofs.TextSteps.{SoFar}
 use Rattle.m2v_audit.proofs.pieces.tell_pieces.Given as goal
@@ -10,6 +10,8 @@ invariant-loop-e g l = record {
   still : l.reader.ended ≡ false;
   sound : l.reader.failed ≡ false;
   counted : l.reader.pictures ≤ l.cutter.place;
+  shut : l.reader.state.picture ≡ None;
+  bytes : l.auditor.bytes ≤ l.cutter.place;
   onward : l.fn.cutter.place ≤ l.cutter.place;
   output : SinkStays g.K.Sink.ready g.K.Sink.name g.K.Sink.faults l.fn.output l.output;
   input : g.S.Source.faults l.fn.input ≤ g.S.Source.faults l.input;
