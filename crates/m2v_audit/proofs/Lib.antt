@@ -10,8 +10,8 @@ pub mod RuleNumbers
 pub mod ZeroLaws
 pub mod LeadLaws
 pub mod PieceSteps
-pub mod PieceTelling
 pub mod BytesAfter
+pub mod PieceTelling
 pub mod TextSteps
 pub mod TextEnds
 pub mod TextReports

@@ -1,5 +1,5 @@
 -- A piece is read, audited and told: what its calls make of it.
-use Rattle.std.proofs.Common.{◌≡◌, ◌⊎◌, inl, inr, ℕ, List, Option, Some, None, Result, Ok, Err, OnOk, refl, sym, ap, subst, ◌∙◌, arith}
+use Rattle.std.proofs.Common.{◌≡◌, ◌⊎◌, inl, inr, ℕ, ◌+◌, List, length, Option, Some, None, Result, Ok, Err, OnOk, refl, sym, ap, subst, ◌∙◌, arith}
 use Rattle.std.specs.Prelude.{IfErr, IfSome}
 use Rattle.m2v_port.specs.Ends.{Change, change}
 use Rattle.m2v_port.specs.Port.{Grows, GrowsByPrefix}
@@ -17,6 +17,7 @@ use Rattle.m2v_check.proofs.Checking.{note_placed, shut_behind}
 use Rattle.m2v_decode.specs.Reading.{Reading, Follows, LeadsOn}
 use Rattle.m2v_decode.specs.Progress.{Cuts}
 use Rattle.m2v_audit.specs.Auditing.{Auditing, cleared, after_piece}
+use Rattle.m2v_audit.proofs.BytesAfter.{bytes_after}
 use Rattle.m2v_audit.specs.Leading.{PieceTold, PieceCut, PieceFails}
 
 -- a decoder that has come as far as a reader, with no frame at hand
@@ -39,6 +40,10 @@ pub shut_then : (r r' : Reading) (p : Piece) (notes : Notes) (d : Decoding) → 
 shut_then r r' p notes d f shut led =
     let before : d.state.picture ≡ None = ap (λ (s : State). s.picture) f.state ∙ shut in
     ap (λ (s : State). s.picture) (sym led.follows.state) ∙ shut_behind d p.place (whole_of p) notes led.behind led.advanced before
+
+-- its bytes are counted
+pub bytes_then : (r r' : Reading) (a a' : Auditing) (p : Piece) (h : Change) → PieceTold r a p h r' a' → a'.bytes ≡ a.bytes + length (whole_of p)
+bytes_then r r' a a' p h t = ap (λ (x : Auditing). x.bytes) t.auditing ∙ bytes_after a p.place (whole_of p) (noted t.notes)
 
 module _ {K : Type 0} (held : K → Option (List ℕ)) (faults : K → ℕ) (r : Reading) (a : Auditing) (p : Piece) where
   abbrev output : K → K → Change

@@ -3,9 +3,7 @@ use Rattle.std.proofs.lemmas.Result.{err_from_is_err_and}
 use Rattle.m2v_port.proofs.Runs.{rose_since, stays_here, stays_on}
 use Rattle.m2v_decode.proofs.EndLaws.{whole_length}
 use Rattle.m2v_audit.proofs.TextSteps.{so_none, so_more, so_all, stops_on, cutter_stops, piece_stops}
-use Rattle.m2v_audit.specs.Auditing.{Auditing}
-use Rattle.m2v_audit.proofs.BytesAfter.{bytes_after}
-use Rattle.m2v_audit.proofs.PieceTelling.{shut_then}
+use Rattle.m2v_audit.proofs.PieceTelling.{bytes_then, shut_then}
 use Rattle.m2v_audit.proofs.pieces.tell_pieces.Goals as goal
 
 pub loop-e-init : goal.loop-e-init
@@ -70,9 +68,9 @@ loop-e-preserved g c =
       still = sym then.ended ∙ advanced.going;
       sound = sym then.failed ∙ advanced.sound;
       counted = let before = so.follows.pictures in omega (arith, inv.counted, before, then.pictures, advanced.counted, advanced.few, whole, onward.0, onward.1);
-      shut = shut_then _ _ _ _ so.decoder so.follows inv.shut leads;
+      shut = shut_then _ _ c.in-Ok-Some.piece told.notes so.decoder so.follows inv.shut leads;
       bytes =
-          let added = ap (λ (a : Auditing). a.bytes) told.auditing ∙ bytes_after _ c.in-Ok-Some.piece.place _ _ in
+          let added = bytes_then _ _ _ _ c.in-Ok-Some.piece _ told in
           omega (arith, inv.bytes, added, whole, onward.0, onward.1);
       onward = omega (arith, inv.onward, onward.0, onward.1);
       output = stays_on inv.output c.tell_piece.ensures.output;
