@@ -15,3 +15,4 @@ pub mod PieceTelling
 pub mod TextSteps
 pub mod TextEnds
 pub mod TextReports
+pub mod AllTexts

@@ -133,7 +133,7 @@ texts_told (suc n) each later t start text =
 
 -- the report of an input, by whether each picture is told and the name of the rule set
 abbrev pub audited : Bool → List ℕ → List ℕ → Audited
-audited each rules text = then_comes (audit_line rules ++ columns_lines) (texts_told (suc (length text)) each false none_counted 0 text)
+audited each rules text = then_comes (audit_line rules ++ columns_lines) (texts_told (1 + length text) each false none_counted 0 text)
 
 abbrev pub audit_report : Bool → List ℕ → List ℕ → List ℕ
 audit_report each rules text = (audited each rules text).report

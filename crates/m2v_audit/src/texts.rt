@@ -141,6 +141,7 @@ fn tell_text<S: Source, K: Sink>(
         (change K.held K.faults output.old output.new)
         (texts_from n each later totals.old cutter.old) each totals.new cutter.old cutter.new
         ending) }
+    ensures most { cutter.old.place ≤ 2 ^ 36 }
     ensures over { IfOk result (λ ending. IfNone ending (cutter.new.ended ≡ true)) }
     ensures going { IfOk result (λ ending. IfNone ending (cutter.new.failed ≡ false)) }
     ensures err { IfErr result (λ e. (n : ℕ) → length cutter.old.unread < n → Stops
