@@ -8,9 +8,9 @@ pub mod Showing
 pub mod Beginning
 pub mod RuleNumbers
 pub mod ZeroLaws
+pub mod Counted
 pub mod LeadLaws
 pub mod PieceSteps
-pub mod BytesAfter
 pub mod PieceTelling
 pub mod TextSteps
 pub mod TextEnds

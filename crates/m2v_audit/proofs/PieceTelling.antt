@@ -17,7 +17,7 @@ use Rattle.m2v_check.proofs.Checking.{note_placed, shut_behind}
 use Rattle.m2v_decode.specs.Reading.{Reading, Follows, LeadsOn}
 use Rattle.m2v_decode.specs.Progress.{Cuts}
 use Rattle.m2v_audit.specs.Auditing.{Auditing, cleared, after_piece}
-use Rattle.m2v_audit.proofs.BytesAfter.{bytes_after}
+use Rattle.m2v_audit.proofs.Counted.{bytes_after}
 use Rattle.m2v_audit.specs.Leading.{PieceTold, PieceCut, PieceFails}
 
 -- a decoder that has come as far as a reader, with no frame at hand

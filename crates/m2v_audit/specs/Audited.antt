@@ -2,7 +2,7 @@
 --
 -- Text 0 is the input, and behind each text comes what follows its sequence (`text_after`), so that each is a suffix of the
 -- input. Places are counted from the input's first byte. A fault or a limit ends the report.
-use Rattle.std.specs.Prelude.{◌≡◌, ℕ, zero, suc, ◌+◌, ◌-◌, ◌^◌, min, nat_lt, Bool, true, false, if◌then◌else◌, List, [], ◌∷◌, ◌++◌, length, Option, Some, None, is_some, Ok, Err}
+use Rattle.std.specs.Prelude.{◌≡◌, ℕ, zero, suc, ◌+◌, ◌-◌, ◌^◌, min, nat_eq, nat_lt, Bool, true, false, if◌then◌else◌, List, [], ◌∷◌, ◌++◌, length, Option, Some, None, Ok, Err}
 use Rattle.m2v_model.specs.declared.fault.FaultKind.{FaultKind}
 use Rattle.m2v_model.specs.Pieces.{pieces, before_pieces, Limit, too_long, too_large, limit, most_input}
 use Rattle.m2v_model.specs.PieceNotes.{notes_of}
@@ -14,9 +14,9 @@ use Rattle.m2v_audit.specs.declared.records.TotalRecord.{TotalRecord}
 use Rattle.m2v_audit.specs.declared.outcome.Ending.{Ending}
 use Rattle.m2v_audit.specs.declared.outcome.Ending.TheVariants as endings
 use Rattle.m2v_audit.specs.declared.outcome.Outcome.{Outcome}
-use Rattle.m2v_audit.specs.Lines.{audit_line, columns_lines, total_line}
+use Rattle.m2v_audit.specs.Lines.{audit_line, columns_lines, skipped_line, fault_line, limit_line, total_line}
 use Rattle.m2v_audit.specs.FaultWords.{fault_word}
-use Rattle.m2v_audit.specs.Auditing.{Auditing, nothing, cleared, after_piece, faulty, limited, skipped_to, ended}
+use Rattle.m2v_audit.specs.Auditing.{Auditing, nothing, is_begun, cleared, after_piece, stopped, ended}
 
 -- ---- what is counted of all sequences
 
@@ -27,10 +27,10 @@ none_counted = record { sequences = 0; pictures = 0; bytes = 0; breaches = 0; fa
 abbrev pub sum_of : ℕ → ℕ → ℕ
 sum_of n more = min (n + more) (2 ^ 64 - 1)
 
--- with a sequence more, which counts where it has begun
+-- with a sequence more, which counts where it was begun
 abbrev pub counted_with : TotalRecord → Auditing → TotalRecord
 counted_with t a = record {
-  sequences = sum_of t.sequences (if is_some a.first then 1 else 0);
+  sequences = sum_of t.sequences (if is_begun a then 1 else 0);
   pictures = sum_of t.pictures a.pictures;
   bytes = sum_of t.bytes a.bytes;
   breaches = sum_of t.breaches a.report.tally.breaches;
@@ -53,21 +53,21 @@ then_comes lines x = record { report = lines ++ x.report; outcome = x.outcome }
 abbrev pub totalled : TotalRecord → Ending → Audited
 totalled t e = record { report = total_line t; outcome = record { totals = t; ending = e } }
 
--- a sequence is over: its lines, and then what follows, by what is counted with it
-abbrev pub closed : TotalRecord → Auditing → (TotalRecord → Audited) → Audited
-closed t a next = then_comes a.report.text (next (counted_with t a))
-
 -- ---- where it stops
 
--- a sequence stops by a fault or a limit, which is told, and then what was counted till then; nothing is told of what waits
-unfoldable pub stopped_with : Auditing → Ending → Auditing
-stopped_with a endings.Whole = a
-stopped_with a (endings.Fault f) = faulty a f.place (fault_word f.kind)
-stopped_with a (endings.Limit l) = limited a l
+-- the line that says why a sequence stops
+unfoldable pub stopping_line : ℕ → Ending → List ℕ
+stopping_line sequence endings.Whole = []
+stopping_line sequence (endings.Fault f) = fault_line sequence f.place (fault_word f.kind)
+stopping_line sequence (endings.Limit l) = limit_line sequence l
 
--- and with it the report
+-- it, and what was counted till then; nothing is told of what waits
+abbrev pub stopping_text : TotalRecord → Auditing → Ending → List ℕ
+stopping_text t a e = stopping_line t.sequences e ++ (stopped a).report.text
+
+-- a sequence stops, and with it the report
 abbrev pub stopped_by : TotalRecord → Auditing → Ending → Audited
-stopped_by t a e = closed t (stopped_with a e) (λ counted. totalled counted e)
+stopped_by t a e = then_comes (stopping_text t a e) (totalled (counted_with t (stopped a)) e)
 
 -- by a fault and its place in bits
 abbrev pub by_fault : TotalRecord → Auditing → FaultKind × ℕ → Audited
@@ -91,10 +91,11 @@ unless_passed (Some l) t a x = by_limit t a l
 
 -- ---- a text, piece by piece
 
--- What goes along with the pieces of a text: what is counted of the sequences before it, and what comes behind its sequence,
--- by what is counted then and the byte where that ends.
+-- What goes along with the pieces of a text: what is counted of the sequences before it, the byte where it begins, and what
+-- comes behind its sequence, by what is counted then and the byte where that ends.
 pub record Telling : Type 0 where
   pub totals : TotalRecord
+  pub start : ℕ
   pub next : TotalRecord → ℕ → Audited
 
 -- a piece that begins at a byte was read: its lines come, and then what follows them
@@ -104,10 +105,15 @@ piece_told x a at p (Ok read) next =
     then_comes behind.report.text (next (cleared behind) read.1)
 piece_told x a at p (Err f) next = by_fault x.totals a f
 
+-- bytes that are no part of a sequence, from a byte on, where there are some
+abbrev pub skipped_text : ℕ → ℕ → ℕ → List ℕ
+skipped_text sequence start bytes =
+    if nat_eq bytes 0 then [] else skipped_line (record { sequence = sequence; byte = start; bytes = bytes })
+
 -- Behind the last piece, which ends at a byte. A text that needs no sequence and has none is skipped, and the report ends.
 abbrev pub end_told : Telling → Bool → Auditing → ℕ → Course → Audited
-end_told x true a at read = closed x.totals (skipped_to a at) (λ counted. totalled counted endings.Whole)
-end_told x false a at (Ok read) = closed x.totals (ended a) (λ counted. x.next counted at)
+end_told x true a at read = then_comes (skipped_text x.totals.sequences x.start (at - x.start)) (totalled x.totals endings.Whole)
+end_told x false a at (Ok read) = then_comes (ended a).report.text (x.next (counted_with x.totals (ended a)) at)
 end_told x false a at (Err f) = by_fault x.totals a f
 
 -- The pieces of a text from here on, the first at a byte, and the end of the text. `optional`: no piece came yet, and the
@@ -126,7 +132,7 @@ unfoldable pub texts_told : ℕ → Bool → Bool → TotalRecord → ℕ → Li
 texts_told zero each later t start text = totalled t endings.Whole
 texts_told (suc n) each later t start text =
     pieces_told
-    (record { totals = t; next = λ counted end. texts_told n each true counted end (text_after text) })
+    (record { totals = t; start = start; next = λ counted end. texts_told n each true counted end (text_after text) })
     later (nothing t.sequences each start) at_start (start + length (before_pieces text)) (pieces text)
 
 -- ---- the whole

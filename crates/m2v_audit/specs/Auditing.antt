@@ -1,12 +1,12 @@
 -- A sequence that is audited, piece by piece: what is kept of it, and what each piece tells.
-use Rattle.std.specs.Prelude.{ℕ, ◌+◌, ◌-◌, ◌*◌, ◌≤◌, ◌≡◌, ◌^◌, ◌++◌, Bool, true, false, ◌&&◌, not, nat_eq, if◌then◌else◌, List, [], ◌∷◌, length, slice_get, Option, Some, None}
+use Rattle.std.specs.Prelude.{ℕ, ◌+◌, ◌-◌, ◌*◌, ◌≤◌, ◌≡◌, ◌^◌, ◌++◌, Bool, true, false, ◌&&◌, not, nat_eq, if◌then◌else◌, List, [], ◌∷◌, length, slice_get, is_some, Option, Some, None}
 use Rattle.std.specs.Option.{option_map}
 use Rattle.m2v_model.specs.m2v_macroblock.m2v_head.declared.sequence.SequenceInfo.{SequenceInfo}
 use Rattle.m2v_model.specs.m2v_macroblock.m2v_head.declared.sequence.SequenceExtension.{SequenceExtension}
 use Rattle.m2v_model.specs.m2v_macroblock.m2v_head.declared.group.GroupInfo.{GroupInfo}
 use Rattle.m2v_model.specs.declared.state.Sequence.{Sequence}
 use Rattle.m2v_model.specs.declared.notes.PictureNote.{PictureNote}
-use Rattle.m2v_model.specs.States.{first_or, width_of, height_of, is_b}
+use Rattle.m2v_model.specs.States.{width_of, height_of, is_b}
 use Rattle.m2v_model.specs.Pieces.{zeros_last}
 use Rattle.m2v_model.specs.PieceNotes.{PieceNotes}
 use Rattle.m2v_model.specs.Lawful.{rate_of, buffer_of, sequence_breaches, horizontal_rule, vertical_rule, intra_rule, crowd_rule, repeat_rule, progressive_rule, precision_rule}
@@ -24,7 +24,6 @@ use Rattle.m2v_audit.specs.declared.records.GroupRecord.{GroupRecord}
 use Rattle.m2v_audit.specs.declared.records.PictureRecord.{PictureRecord}
 use Rattle.m2v_audit.specs.declared.report.Rate.{Rate}
 use Rattle.m2v_audit.specs.declared.report.SequenceTotals.{SequenceTotals}
-use Rattle.m2v_audit.specs.declared.words.LimitKind.{LimitKind}
 use Rattle.m2v_audit.specs.declared.words.PictureType.{PictureType}
 use Rattle.m2v_audit.specs.declared.words.PictureType.TheVariants as types
 use Rattle.m2v_audit.specs.declared.words.RateKind.{RateKind}
@@ -35,7 +34,7 @@ use Rattle.m2v_audit.specs.Findings.{with_breaches, with_misplaced, with_removal
 use Rattle.m2v_audit.specs.Front.{front_of}
 use Rattle.m2v_audit.specs.Opening.{kind_of, first_buffer}
 use Rattle.m2v_audit.specs.Places.{no_places, with_field, with_frame, told_with_frame, group_closed, told_at_close}
-use Rattle.m2v_audit.specs.Report.{Report, no_tally, one_more, with_skipped, with_begin, with_group_line, with_picture_line, with_fault, with_limit, with_end}
+use Rattle.m2v_audit.specs.Report.{Report, no_tally, one_more, with_begin, with_group_line, with_picture_line, with_end}
 use Rattle.m2v_audit.specs.Times.{opened as first_times, fields_of, time_of, after as times_after}
 pub use Rattle.m2v_audit.specs.declared.auditing.Auditing.{Auditing}
 
@@ -63,6 +62,10 @@ nothing number each start = record {
   rate = no_rate;
   account = None;
 }
+
+-- the sequence was told
+abbrev pub is_begun : Auditing → Bool
+is_begun a = is_some a.first
 
 abbrev pub sequence_of : SequenceInfo × SequenceExtension → Sequence
 sequence_of s = record { info = s.0; extension = s.1 }
@@ -98,10 +101,11 @@ is_constant (Some n) = not (nat_eq n.info.vbv_delay 65535)
 abbrev pub rate_with : Sequence → Option PictureNote → Rate
 rate_with s n = record { constant = is_constant n; low_delay = s.extension.low_delay; size = 1800 * (16384 * buffer_of s) }
 
--- the sequence begins, with its first header and the picture of its first piece
+-- the sequence begins, with its first header and the picture of its first piece: it is told
 abbrev pub with_first : Auditing → ℕ → Sequence → Option PictureNote → Auditing
 with_first a place s n = record a {
   report = with_begin a.report (place - a.start) a.start (sequence_record a.report.sequence (8 * place) s (kind_of s n));
+  first = Some s;
   places = no_places s.extension.low_delay;
   times = first_times s.extension.low_delay s.info.frame_rate_code;
   rate = rate_with s n;
@@ -122,7 +126,6 @@ begun None a place notes = begun_by a place (slice_get notes.sequences 0) notes.
 abbrev pub with_sequence : Auditing → ℕ → Sequence → Auditing
 with_sequence a bit s = record a {
   report = with_breaches a.report a.pictures bit (sequence_breaches (s ∷ []));
-  first = Some (first_or a.first s);
   sequence = Some s;
 }
 
@@ -330,21 +333,13 @@ ended_by (Some first) a = finished a
 unfoldable pub ended : Auditing → Auditing
 ended a = ended_by a.first a
 
--- it ends early: what there was is told where a sequence began, and what waits isn't
+-- it stops early, by a fault or a limit: what there was is told where it began, and what waits isn't
 abbrev pub stopped_by : Option Sequence → Auditing → Auditing
 stopped_by None a = a
 stopped_by (Some first) a = record a { report = with_end a.report (totals_of a) }
 
--- by a fault of a kind at a bit of the input, or by a limit
-abbrev pub faulty : Auditing → ℕ → List ℕ → Auditing
-faulty a bit kind = stopped_by a.first (record a { report = with_fault a.report bit kind })
-
-abbrev pub limited : Auditing → LimitKind → Auditing
-limited a kind = stopped_by a.first (record a { report = with_limit a.report kind })
-
--- a text without a sequence, which ends before a byte of the input: all of it is skipped
-abbrev pub skipped_to : Auditing → ℕ → Auditing
-skipped_to a end = record a { report = with_skipped a.report (end - a.start) a.start }
+unfoldable pub stopped : Auditing → Auditing
+stopped a = stopped_by a.first a
 
 -- ---- its text
 

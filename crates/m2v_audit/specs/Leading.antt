@@ -17,10 +17,10 @@ use Rattle.m2v_decode.specs.Progress.{Cuts}
 use Rattle.m2v_audit.specs.declared.records.TotalRecord.{TotalRecord}
 use Rattle.m2v_audit.specs.declared.outcome.Ending.{Ending}
 use Rattle.m2v_audit.specs.declared.outcome.Outcome.{Outcome}
-use Rattle.m2v_audit.specs.Auditing.{Auditing, cleared, after_piece, skipped_to, ended}
+use Rattle.m2v_audit.specs.Auditing.{Auditing, cleared, after_piece, ended}
 use Rattle.m2v_audit.specs.declared.words.LimitKind.TheVariants as limits
 use Rattle.m2v_audit.specs.declared.outcome.Ending.TheVariants as endings
-use Rattle.m2v_audit.specs.Audited.{Audited, Telling, then_comes, totalled, closed, end_told, by_fault, by_limit, pieces_told, texts_told, audited}
+use Rattle.m2v_audit.specs.Audited.{Audited, Telling, then_comes, totalled, counted_with, skipped_text, end_told, by_fault, by_limit, pieces_told, texts_told, audited}
 
 -- ---- from one place to another
 
@@ -99,8 +99,8 @@ TextStops left held old a errors.Memory = IsCut left held old
 
 -- what is told behind the end of a text
 abbrev pub behind_text : Bool → Auditing → ℕ → Onward Telling
-behind_text true a at = λ x rest. closed x.totals (skipped_to a at) (λ counted. totalled counted endings.Whole)
-behind_text false a at = λ x rest. closed x.totals (ended a) (λ counted. x.next counted at)
+behind_text true a at = λ x rest. then_comes (skipped_text x.totals.sequences x.start (at - x.start)) (totalled x.totals endings.Whole)
+behind_text false a at = λ x rest. then_comes (ended a).report.text (x.next (counted_with x.totals (ended a)) at)
 
 -- a text was read to its end; `optional`: it has no sequence, and needs none
 pub record IsTextRead (left held : Change) (later : Bool) (a : Auditing) (c : Cutting) (optional : Bool) (a' : Auditing) (c' : Cutting) : Type 0 where

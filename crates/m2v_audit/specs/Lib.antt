@@ -10,6 +10,7 @@ pub mod Times
 pub mod Opening
 pub mod Findings
 pub mod Auditing
+pub mod WorkedAuditing
 pub mod FaultWords
 pub mod Audited
 pub mod Leading

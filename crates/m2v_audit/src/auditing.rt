@@ -1,7 +1,6 @@
 //! What is kept of a sequence that is audited, and how headers and pictures change it.
-ghost use Rattle.std.specs.Prelude.{◌≡◌, ◌+◌, ◌*◌, ◌≤◌, ◌<◌, ◌^◌, [], ◌∷◌, slice_get, OnOk};
+ghost use Rattle.std.specs.Prelude.{◌≡◌, ◌≤◌, ◌<◌, ◌^◌, slice_get, OnOk};
 ghost use Rattle.m2v_model.specs.PieceNotes.{noted};
-ghost use Rattle.m2v_model.specs.States.{first_or};
 ghost use Rattle.m2v_audit.specs.Auditing.{nothing, sequence_of, with_first, begun_by, begun, with_sequence, with_group, with_header, sequences_of, with_headers, Keeps};
 
 use crate::account::Account;
@@ -23,8 +22,9 @@ pub struct Auditing {
     pub(crate) report: Report,
     /// The byte of the input where the sequence's text begins.
     pub(crate) start: u64,
-    /// The first sequence header, and the last one.
+    /// The first sequence header, once the sequence was told.
     pub(crate) first: Option<Sequence>,
+    /// The last one.
     pub(crate) sequence: Option<Sequence>,
     /// A group header came, and no picture after it.
     pub(crate) first_in_group: bool,
@@ -108,6 +108,7 @@ impl Auditing {
         ensures keeps { Keeps self.old self.new }
     {
         let low_delay = s.extension.low_delay;
+        self.first = Some(*s);
         self.places = Places::new(low_delay);
         self.times = Times::new(low_delay, s.info.frame_rate_code);
         self.rate = rate_with(s, note);
@@ -148,13 +149,11 @@ impl Auditing {
     }
 
     /// A sequence header at a bit of the input.
-    #[tactic(auto, using(crate::proofs::RuleNumbers::sequence_are))]
     fn sequence(&mut self, bit: u64, s: &Sequence) -> Result<(), AllocError>
         ensures value { OnOk result (self.new ≡ with_sequence self.old bit s.now) }
         ensures keeps { Keeps self.old self.new }
     {
         tell_breaches(&mut self.report, self.pictures, bit, &sequence_rules(s))?;
-        self.first = Some(first_or(&self.first, s));
         self.sequence = Some(*s);
         Ok(())
     }
@@ -214,15 +213,5 @@ impl Auditing {
             next += header.sequences();
         }
         Ok(())
-    }
-}
-
-/// The first sequence header.
-fn first_or(first: &Option<Sequence>, s: &Sequence) -> Sequence
-    ensures { result ≡ first_or first.now s.now }
-{
-    match first {
-        Some(first) => *first,
-        None => *s,
     }
 }

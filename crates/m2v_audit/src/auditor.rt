@@ -1,17 +1,16 @@
 //! A sequence that is audited, piece by piece.
-ghost use Rattle.std.specs.Prelude.{◌≡◌, ◌+◌, ◌*◌, ◌≤◌, ◌<◌, ◌^◌, OnOk, IfSome, is_some};
+ghost use Rattle.std.specs.Prelude.{◌≡◌, ◌+◌, ◌≤◌, ◌<◌, ◌^◌, OnOk, IfSome};
 ghost use Rattle.m2v_model.specs.PieceNotes.{noted};
 ghost use Rattle.m2v_dec_piece.specs.Sound.{IsSoundPiece};
 ghost use Rattle.m2v_check.specs.m2v_decode.Decoding.{whole_of};
 ghost use Rattle.m2v_check.specs.Judging.{IsPlaced};
-ghost use Rattle.m2v_audit.specs.Auditing.{nothing, fronted, told, after_piece, totals_of, finished, ended, stopped_by, faulty, limited, skipped_to, cleared, IsSound, HasRoom, Keeps, Lessens};
+ghost use Rattle.m2v_audit.specs.Auditing.{nothing, fronted, told, after_piece, totals_of, finished, ended, stopped_by, stopped, is_begun, cleared, IsSound, HasRoom, Keeps, Lessens};
 
 use crate::auditing::Auditing;
 use crate::findings::{tell_ended, tell_misplaced};
 use crate::headers::front;
 use crate::report::SequenceTotals;
 use crate::tally::Tally;
-use crate::words::LimitKind;
 use crate::zeros::{zeros_at_end, zeros_of};
 use m2v_dec_piece::Piece;
 use m2v_dec_unit::UnitReader;
@@ -22,7 +21,7 @@ use std::marker::Model;
 /// The account, the rules and the report of a sequence, which is handed to it piece by piece. What it tells is appended to
 /// its report, whose text the caller takes away when it likes; where memory runs out, nothing is said of it.
 ///
-/// Contracts see it as the report so far, and what is kept of the pieces.
+/// Contracts see it as what is kept of the sequence, its report so far among it.
 #[derive(Drop)]
 pub struct Auditor {
     kept: Auditing,
@@ -118,7 +117,7 @@ impl Auditor {
     /// Nothing was read of the sequence of this number, whose text begins at the byte `start` of the input. `each` says
     /// whether each picture is told.
     pub fn new(alloc: Global, number: u64, each: bool, start: u64) -> Auditor
-        ensures value { result ≡ nothing number each start }
+        ensures { result ≡ nothing number each start }
     {
         Auditor {
             kept: Auditing::new(alloc, number, each, start),
@@ -132,7 +131,7 @@ impl Auditor {
         requires bytes { self.old.bytes + piece.now.length ≤ 2 ^ 36 }
         requires picture { IfSome notes.now.picture
             (λ n. IsPlaced n piece.now.place piece.now.length) }
-        ensures value { OnOk result (self.new
+        ensures { OnOk result (self.new
             ≡ after_piece self.old piece.now.place (whole_of piece.now) (noted notes.now)) }
     {
         self.kept.bytes += piece.length;
@@ -142,7 +141,7 @@ impl Auditor {
     /// The sequence ends: what waits is told, and what there was in all.
     #[tactic(auto, unfolding(crate::specs::Auditing::ended))]
     pub fn finish(&mut self) -> Result<(), AllocError>
-        ensures value { OnOk result (self.new ≡ ended self.old) }
+        ensures { OnOk result (self.new ≡ ended self.old) }
     {
         match self.kept.first {
             Some(_) => self.kept.finish(),
@@ -150,62 +149,53 @@ impl Auditor {
         }
     }
 
-    /// A fault of a kind ends the sequence, at a bit of the input. What waits isn't told.
-    pub fn fault(&mut self, bit: u64, kind: &str) -> Result<(), AllocError>
-        ensures value { OnOk result (self.new ≡ faulty self.old bit kind.now) }
+    /// The sequence stops early, by a fault or a limit: what there was is told where it began, and what waits isn't.
+    #[tactic(auto, unfolding(crate::specs::Auditing::stopped))]
+    pub fn stop(&mut self) -> Result<(), AllocError>
+        ensures { OnOk result (self.new ≡ stopped self.old) }
     {
-        self.kept.report.fault(bit, kind)?;
         self.kept.stop()
-    }
-
-    /// A limit ends the sequence. What waits isn't told.
-    pub fn limit(&mut self, kind: LimitKind) -> Result<(), AllocError>
-        ensures value { OnOk result (self.new ≡ limited self.old kind) }
-    {
-        self.kept.report.limit(kind)?;
-        self.kept.stop()
-    }
-
-    /// The text ends before a byte of the input, and has no sequence: all of it is skipped.
-    pub fn skip(&mut self, end: u64) -> Result<(), AllocError>
-        ensures value { OnOk result (self.new ≡ skipped_to self.old end) }
-    {
-        let skipped = end.saturating_sub(self.kept.start);
-        self.kept.report.skipped(skipped, self.kept.start)
     }
 
     /// The bytes of its report's lines.
     pub fn bytes(&self) -> &[u8]
-        ensures value { result.now ≡ self.now.report.text }
+        ensures { result.now ≡ self.now.report.text }
     {
         self.kept.report.bytes()
     }
 
     /// Takes the lines away.
     pub fn clear(&mut self)
-        ensures value { self.new ≡ cleared self.old }
+        ensures { self.new ≡ cleared self.old }
     {
         self.kept.report.clear();
     }
 
-    /// What is counted of the sequence's breaches and failures.
-    pub fn tally(&self) -> Tally
-        ensures value { result ≡ self.now.report.tally }
-    {
-        self.kept.report.tally()
-    }
-
-    /// What there was in the sequence so far.
-    pub fn totals(&self) -> SequenceTotals
-        ensures value { result ≡ totals_of self.now }
-    {
-        self.kept.totals()
-    }
-
-    /// A sequence header came.
-    pub fn has_begun(&self) -> bool
-        ensures value { result ≡ is_some self.now.first }
+    /// The sequence was told.
+    pub fn is_begun(&self) -> bool
+        ensures { result ≡ is_begun self.now }
     {
         self.kept.first.is_some()
+    }
+
+    /// How many pictures it has.
+    pub fn pictures(&self) -> u64
+        ensures { result ≡ self.now.pictures }
+    {
+        self.kept.pictures
+    }
+
+    /// How many bytes it has.
+    pub fn length(&self) -> u64
+        ensures { result ≡ self.now.bytes }
+    {
+        self.kept.bytes
+    }
+
+    /// What is counted of its breaches and failures.
+    pub fn tally(&self) -> Tally
+        ensures { result ≡ self.now.report.tally }
+    {
+        self.kept.report.tally()
     }
 }

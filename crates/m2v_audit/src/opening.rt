@@ -9,7 +9,7 @@ use m2v_model::{PictureNote, Sequence};
 use m2v_vbv::Buffer;
 
 /// The vbv_delay of a sequence at variable rate (clause 6.3.9).
-const VARIABLE: u32 = 65_535;
+pub(crate) const VARIABLE: u32 = 65_535;
 
 /// A number lies from 1 to a bound.
 fn is_within(have: u64, most: u64) -> bool

@@ -45,11 +45,10 @@ impl TotalRecord {
         ensures { result ≡ counted_with self.now auditor.now }
     {
         let tally = auditor.tally();
-        let there = auditor.totals();
         TotalRecord {
-            sequences: self.sequences.saturating_add(u64::from(auditor.has_begun())),
-            pictures: self.pictures.saturating_add(there.pictures),
-            bytes: self.bytes.saturating_add(there.bytes),
+            sequences: self.sequences.saturating_add(u64::from(auditor.is_begun())),
+            pictures: self.pictures.saturating_add(auditor.pictures()),
+            bytes: self.bytes.saturating_add(auditor.length()),
             breaches: self.breaches.saturating_add(tally.breaches),
             failures: self.failures.saturating_add(tally.failures),
             warnings: self.warnings.saturating_add(tally.warnings),

@@ -9,15 +9,12 @@ ghost use Rattle.m2v_audit.specs.Times.{after as times_after};
 use crate::account::{Account, Due};
 use crate::auditing::Auditing;
 use crate::findings::{tell_breaches, tell_misplaced, tell_settled};
-use crate::opening::first_buffer;
+use crate::opening::{VARIABLE, first_buffer};
 use crate::report::Report;
 use crate::told::{bit_of, picture_record, waiting_of};
 use m2v_check::{CodedPicture, ends_frame, is_b, rules_from_12, rules_to_10};
 use m2v_model::{PictureNote, Sequence};
 use std::alloc::{AllocError, Global};
-
-/// The vbv_delay of a sequence at variable rate (clause 6.3.9).
-const VARIABLE: u32 = 65_535;
 
 /// The frame of a picture is shown with it.
 fn is_shown(note: &PictureNote) -> bool
@@ -27,7 +24,6 @@ fn is_shown(note: &PictureNote) -> bool
 }
 
 /// Tells the breaches of a picture, but for rule 11.
-#[tactic(auto, using(crate::proofs::RuleNumbers::to_10_are, crate::proofs::RuleNumbers::from_12_are))]
 fn tell_rules(report: &mut Report, constant: bool, p: &CodedPicture) -> Result<(), AllocError>
     ensures { OnOk result (report.new ≡ with_rules report.old constant p.now) }
 {

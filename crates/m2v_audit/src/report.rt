@@ -208,8 +208,8 @@ impl Report {
         self.lines.end(&end)
     }
 
-    /// Bytes that are no part of a sequence, where there are some, the first of them at the byte `start`.
-    pub fn skipped(&mut self, skipped: u64, start: u64) -> Result<(), AllocError>
+    /// Bytes before the sequence, where there are some.
+    fn skipped(&mut self, skipped: u64, start: u64) -> Result<(), AllocError>
         ensures { OnOk result (self.new ≡ with_skipped self.old skipped start) }
     {
         if skipped == 0 {

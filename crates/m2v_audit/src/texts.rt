@@ -3,15 +3,16 @@ ghost use Rattle.std.specs.Prelude.{◌≡◌, ◌+◌, ◌-◌, ◌≤◌, ◌<
 ghost use Rattle.m2v_port.specs.Ends.{change, SinkStays};
 ghost use Rattle.m2v_port.specs.Port.{Grows};
 ghost use Rattle.m2v_decode.specs.Progress.{Cuts, before_all};
-ghost use Rattle.m2v_audit.specs.Auditing.{skipped_to, ended};
-ghost use Rattle.m2v_audit.specs.Audited.{counted_with, none_counted, stopped_with};
+ghost use Rattle.m2v_audit.specs.Auditing.{stopped, ended};
+ghost use Rattle.m2v_audit.specs.Audited.{counted_with, none_counted, skipped_text, stopping_line as line_of_stop, stopping_text};
 ghost use Rattle.m2v_audit.specs.Leading.{as_ending, texts_from, total_from, LeadsTo, Stops, TextTold};
 
 use crate::auditor::Auditor;
 use crate::fault_word::fault_word;
+use crate::lines::Lines;
 use crate::outcome::Ending;
 use crate::pieces::{put, read_text};
-use crate::records::TotalRecord;
+use crate::records::{SkippedRecord, TotalRecord};
 use crate::words::LimitKind;
 use m2v_decode::{Cutter, DecodeError};
 use m2v_port::{Sink, Source};
@@ -32,42 +33,44 @@ fn ending_of(e: DecodeError) -> Result<Ending, DecodeError>
     }
 }
 
-/// Writes what a sequence has told, and counts it.
-fn close<K: Sink>(
-    totals: &mut TotalRecord,
-    auditor: &Auditor,
-    output: &mut K,
-) -> Result<(), DecodeError>
-    requires output { IsTrue (K.ready output.old) }
-    ensures grown { OnOk result (Grows (K.held output.old) auditor.now.report.text
-        (K.held output.new)) }
-    ensures totals { totals.new ≡ counted_with totals.old auditor.now }
-    ensures err { IfErr result (Cuts auditor.now.report.text
-        (change K.held K.faults output.old output.new)) }
-    ensures output { SinkStays K.ready K.name K.faults output.old output.new }
+/// The line that says why a sequence stops.
+#[tactic(auto, unfolding(crate::specs::Audited::stopping_line))]
+fn stopping_line(lines: &mut Lines, sequence: u64, ending: Ending) -> Result<(), AllocError>
+    ensures { OnOk result (lines.new.text.items
+        ≡ lines.old.text.items ++ line_of_stop sequence ending) }
 {
-    *totals = totals.with(auditor);
-    put(auditor.bytes(), output)
+    match ending {
+        Ending::Whole => Ok(()),
+        Ending::Fault(f) => lines.fault(sequence, f.place, fault_word(f.kind)),
+        Ending::Limit(kind) => lines.limit(sequence, kind),
+    }
 }
 
 /// A text that needs no sequence and has none is skipped.
 fn skip<K: Sink>(
+    alloc: Global,
+    sequence: u64,
+    start: u64,
     end: u64,
-    totals: &mut TotalRecord,
-    auditor: &mut Auditor,
     output: &mut K,
 ) -> Result<(), DecodeError>
     requires output { IsTrue (K.ready output.old) }
     ensures grown { OnOk result (Grows (K.held output.old)
-        (skipped_to auditor.old end).report.text (K.held output.new)) }
-    ensures totals { OnOk result (totals.new
-        ≡ counted_with totals.old (skipped_to auditor.old end)) }
-    ensures err { IfErr result (Cuts (skipped_to auditor.old end).report.text
+        (skipped_text sequence start (end - start)) (K.held output.new)) }
+    ensures err { IfErr result (Cuts (skipped_text sequence start (end - start))
         (change K.held K.faults output.old output.new)) }
     ensures output { SinkStays K.ready K.name K.faults output.old output.new }
 {
-    auditor.skip(end)?;
-    close(totals, auditor, output)
+    let mut lines = Lines::new(alloc);
+    let bytes = end.saturating_sub(start);
+    if bytes != 0 {
+        lines.skipped(&SkippedRecord {
+            sequence,
+            byte: start,
+            bytes,
+        })?;
+    }
+    put(lines.bytes(), output)
 }
 
 /// A sequence ends with its text.
@@ -77,32 +80,21 @@ fn finish<K: Sink>(
     output: &mut K,
 ) -> Result<(), DecodeError>
     requires output { IsTrue (K.ready output.old) }
-    ensures grown { OnOk result (Grows (K.held output.old)
-        (ended auditor.old).report.text (K.held output.new)) }
-    ensures totals { OnOk result (totals.new
-        ≡ counted_with totals.old (ended auditor.old)) }
+    ensures grown { OnOk result (Grows (K.held output.old) (ended auditor.old).report.text
+        (K.held output.new)) }
+    ensures totals { OnOk result (totals.new ≡ counted_with totals.old (ended auditor.old)) }
     ensures err { IfErr result (Cuts (ended auditor.old).report.text
         (change K.held K.faults output.old output.new)) }
     ensures output { SinkStays K.ready K.name K.faults output.old output.new }
 {
     auditor.finish()?;
-    close(totals, auditor, output)
-}
-
-/// What stops a sequence is told, and what was counted till then.
-#[tactic(auto, unfolding(crate::specs::Audited::stopped_with))]
-fn tell_stop(auditor: &mut Auditor, ending: Ending) -> Result<(), AllocError>
-    ensures { OnOk result (auditor.new ≡ stopped_with auditor.old ending) }
-{
-    match ending {
-        Ending::Whole => Ok(()),
-        Ending::Fault(f) => auditor.fault(f.place, fault_word(f.kind)),
-        Ending::Limit(kind) => auditor.limit(kind),
-    }
+    *totals = totals.with(auditor);
+    put(auditor.bytes(), output)
 }
 
 /// A sequence stops by a fault or a limit.
 fn stop<K: Sink>(
+    alloc: Global,
     ending: Ending,
     totals: &mut TotalRecord,
     auditor: &mut Auditor,
@@ -110,15 +102,18 @@ fn stop<K: Sink>(
 ) -> Result<(), DecodeError>
     requires output { IsTrue (K.ready output.old) }
     ensures grown { OnOk result (Grows (K.held output.old)
-        (stopped_with auditor.old ending).report.text (K.held output.new)) }
-    ensures totals { OnOk result (totals.new
-        ≡ counted_with totals.old (stopped_with auditor.old ending)) }
-    ensures err { IfErr result (Cuts (stopped_with auditor.old ending).report.text
+        (stopping_text totals.old auditor.old ending) (K.held output.new)) }
+    ensures totals { OnOk result (totals.new ≡ counted_with totals.old (stopped auditor.old)) }
+    ensures err { IfErr result (Cuts (stopping_text totals.old auditor.old ending)
         (change K.held K.faults output.old output.new)) }
     ensures output { SinkStays K.ready K.name K.faults output.old output.new }
 {
-    tell_stop(auditor, ending)?;
-    close(totals, auditor, output)
+    let mut lines = Lines::new(alloc);
+    stopping_line(&mut lines, totals.sequences, ending)?;
+    auditor.stop()?;
+    *totals = totals.with(auditor);
+    put(lines.bytes(), output)?;
+    put(auditor.bytes(), output)
 }
 
 /// Reads a text, and writes the report of its sequence. `later`: the text needs no sequence. Answers how the audit ends,
@@ -155,7 +150,7 @@ fn tell_text<S: Source, K: Sink>(
     let mut auditor = Auditor::new(alloc, totals.sequences, each, start);
     match read_text(alloc, later, cutter, &mut auditor, input, output) {
         Ok(true) => {
-            skip(cutter.end(), totals, &mut auditor, output)?;
+            skip(alloc, totals.sequences, start, cutter.end(), output)?;
             Ok(Some(Ending::Whole))
         }
         Ok(false) => {
@@ -164,7 +159,7 @@ fn tell_text<S: Source, K: Sink>(
         }
         Err(e) => {
             let ending = ending_of(e)?;
-            stop(ending, totals, &mut auditor, output)?;
+            stop(alloc, ending, totals, &mut auditor, output)?;
             Ok(Some(ending))
         }
     }

@@ -1,7 +1,8 @@
 //! What the report tells of a sequence header, a group header and a picture.
-ghost use Rattle.std.specs.Prelude.{◌≡◌, ◌*◌, ◌≤◌, ◌<◌, ◌^◌, not, nat_eq};
+ghost use Rattle.std.specs.Prelude.{◌≡◌, ◌≤◌, ◌^◌};
 ghost use Rattle.m2v_audit.specs.Auditing.{sequence_record, group_record, type_of, structure_of, bit_of, picture_record, is_constant, rate_with, waiting_of};
 
+use crate::opening::VARIABLE;
 use crate::places::Waiting;
 use crate::records::{GroupRecord, PictureRecord, SequenceRecord};
 use crate::report::Rate;
@@ -10,9 +11,6 @@ use crate::words::{PictureType, RateKind, Structure};
 use m2v_check::{CodedPicture, buffer_of, rate_of};
 use m2v_model::macro_library::head::GroupInfo;
 use m2v_model::{PictureNote, Sequence};
-
-/// The vbv_delay of a sequence at variable rate (clause 6.3.9).
-const VARIABLE: u32 = 65_535;
 
 /// A sequence, by its first header, which stands at a bit of the input.
 pub(crate) fn sequence_record(number: u64, bit: u64, s: &Sequence, rate: RateKind) -> SequenceRecord

@@ -9,11 +9,11 @@ returns-in_err-notes-clause-err g c =
 
 pub returns-clause-ok : goal.returns-clause-ok
 returns-clause-ok g c =
-    told g.K.Sink.held g.K.Sink.faults c.args.reader.now c.args.auditor.now c.args.piece.now c.put_told.result _ _ c.in_ok-notes.notes _ _ _ c.in_ok-notes.ensures.ok c.in_ok-piece.ensures.value c.put_told.ensures.grown c.put_told.ensures.auditor
+    told g.K.Sink.held g.K.Sink.faults c.args.reader.now c.args.auditor.now c.args.piece.now c.put_told.result _ _ c.in_ok-notes.notes _ _ _ c.in_ok-notes.ensures.ok c.in_ok-piece.ensures c.put_told.ensures.grown c.put_told.ensures.auditor
 
 pub returns-clause-err : goal.returns-clause-err
 returns-clause-err g c =
-    cut_off g.K.Sink.held g.K.Sink.faults c.args.reader.now c.args.auditor.now c.args.piece.now c.put_told.result _ _ c.in_ok-notes.notes c.piece.new.self _ _ c.in_ok-notes.ensures.ok c.in_ok-piece.ensures.value c.put_told.ensures.err
+    cut_off g.K.Sink.held g.K.Sink.faults c.args.reader.now c.args.auditor.now c.args.piece.now c.put_told.result _ _ c.in_ok-notes.notes c.piece.new.self _ _ c.in_ok-notes.ensures.ok c.in_ok-piece.ensures c.put_told.ensures.err
 
 pub piece-requires-2-clause-picture : goal.piece-requires-2-clause-picture
 piece-requires-2-clause-picture g c = placed c.args.reader.now _ c.args.piece.now c.in_ok-notes.notes c.requires.piece c.requires.shut c.in_ok-notes.ensures.ok

@@ -1,0 +1,27 @@
+use Rattle.std.proofs.Common.{refl}
+use Rattle.std.specs.Fmt as fmt
+use Rattle.m2v_bits.specs.Bits as bitsBits
+use Rattle.m2v_bits.specs.Elements as bitsElements
+use Rattle.m2v_bits.specs.Leaves as bitsLeaves
+use Rattle.m2v_bits.specs.Syntax as bitsSyntax
+use Rattle.m2v_set.specs.Numbers as numbers
+use Rattle.m2v_model.specs.m2v_macroblock.m2v_head.Elements as headElements
+use Rattle.m2v_model.specs.m2v_macroblock.m2v_head.Headers as headHeaders
+use Rattle.m2v_model.specs.Faults as modelFaults
+use Rattle.m2v_model.specs.Headers as modelHeaders
+use Rattle.m2v_model.specs.Lawful as lawful
+use Rattle.m2v_model.specs.Pieces as modelPieces
+use Rattle.m2v_model.specs.Units as modelUnits
+use Rattle.m2v_vbv.specs.Buffer as buffer
+use Rattle.m2v_audit.specs.Account as account
+use Rattle.m2v_audit.specs.Auditing as auditing
+use Rattle.m2v_audit.specs.Findings as findings
+use Rattle.m2v_audit.specs.Front as front
+use Rattle.m2v_audit.specs.Lines as lines
+use Rattle.m2v_audit.specs.Report as report
+use Rattle.m2v_audit.specs.WorkedPiece as worked
+use Rattle.m2v_audit.proofs.auditor_laws.law_auditing_worked.Goals as goal
+
+pub returns : goal.returns
+unfolding fmt.digits bitsBits.bits_of bitsBits.number bitsBits.all_zero bitsElements.flag_at bitsLeaves.bits_at bitsLeaves.end_at bitsSyntax.bind bitsSyntax.done bitsSyntax.seq bitsSyntax.here bitsSyntax.rule bitsSyntax.renamed headElements.marker_at headHeaders.group_at numbers.field_units numbers.field_time numbers.limits_of modelFaults.of_head modelHeaders.whole_header modelHeaders.group_in modelPieces.zeros_first modelUnits.cut lawful.level_of lawful.most_horizontal lawful.level_rule lawful.width_rule lawful.height_rule lawful.frame_rate_rule lawful.luma_rule lawful.rate_rule lawful.buffer_rule lawful.horizontal_rule lawful.vertical_rule lawful.intra_rule lawful.crowd_rule lawful.repeat_rule lawful.progressive_rule lawful.precision_rule buffer.told buffer.next buffer.tells account.settled_of account.behind_settled auditing.with_header auditing.sequences_of auditing.with_headers auditing.after_piece auditing.ended findings.with_breaches findings.with_misplaced findings.with_removals front.group_at front.header_at front.headers_from lines.column_text lines.name_of lines.rate_word lines.type_word lines.structure_word lines.failure_word report.with_counts worked.sequence_units worked.group_unit worked.picture_unit
+returns c = record { begun = refl; over = refl }
