@@ -21,9 +21,9 @@ mod places;
 mod records;
 mod report;
 mod tally;
+mod texts;
 mod times;
 mod times_laws;
-mod texts;
 mod told;
 mod whole;
 mod words;
@@ -37,8 +37,8 @@ pub use auditor_laws::{law_auditing_worked, law_bytes_counted};
 pub use front_laws::{law_front_placed, law_front_worked};
 pub use headers::{PieceHeader, front};
 pub use lines::Lines;
-pub use outcome::{Ending, Outcome};
 pub use opening::{first_buffer, kind_of};
+pub use outcome::{Ending, Outcome};
 pub use places::{Misplaced, Places, Waiting, WaitingFrame};
 pub use records::{
     CountRecord, EndRecord, FailureRecord, Finding, GroupRecord, HeldRecord, PictureRecord,
@@ -48,6 +48,6 @@ pub use report::{Broken, Rate, Report, SequenceTotals};
 pub use tally::{RuleCount, Tally};
 pub use times::{Times, fields_of};
 pub use times_laws::law_times_as_checked;
-pub use words::{FailureKind, LimitKind, PictureType, RateKind, Structure};
 pub use whole::audit;
+pub use words::{FailureKind, LimitKind, PictureType, RateKind, Structure};
 pub use worked::{law_lines_worked, law_report_worked};

@@ -21,7 +21,7 @@ pub returns-in_err-end-clause-err : goal.returns-in_err-end-clause-err
 returns-in_err-end-clause-err g c =
     let p = err_from_is_err_and c.from_residual-in_err-end.result c.from_residual-in_err-end.ensures.1 in
     rw (p.1, p.2) (total_fails g.S.Source.left g.S.Source.faults g.K.Sink.held g.K.Sink.faults c.args.each c.args.rules.now _ _ _ _ _ _ _ c.in_ok-ending.ending c.in_err-end.field-0.0
-        c.tell_texts.ensures.input c.begin.ensures.output.counts c.tell_texts.ensures.output.counts c.in_ok-begin.ensures.grown c.in_ok-ending.ensures.ok c.in_err-end.ensures.err)
+    c.tell_texts.ensures.input c.begin.ensures.output.counts c.tell_texts.ensures.output.counts c.in_ok-begin.ensures.grown c.in_ok-ending.ensures.ok c.in_err-end.ensures.err)
 
 pub returns-clause-ok : goal.returns-clause-ok
 returns-clause-ok g c =
