@@ -9,3 +9,10 @@ pub mod Beginning
 pub mod RuleNumbers
 pub mod ZeroLaws
 pub mod Counted
+pub mod LeadLaws
+pub mod PieceSteps
+pub mod PieceTelling
+pub mod TextSteps
+pub mod TextEnds
+pub mod TextReports
+pub mod AllTexts

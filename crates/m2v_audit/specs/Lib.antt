@@ -11,3 +11,6 @@ pub mod Opening
 pub mod Findings
 pub mod Auditing
 pub mod WorkedAuditing
+pub mod FaultWords
+pub mod Audited
+pub mod Leading
