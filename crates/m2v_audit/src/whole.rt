@@ -46,7 +46,7 @@ fn end<K: Sink>(alloc: Global, totals: &TotalRecord, output: &mut K) -> Result<(
 }
 
 /// Audits an input: reads it to its end, behind sequence end codes too, or to its first fault or the limit that it passes
-/// before, and writes the report of its sequences (see `docs/COMMANDS.md`). `each`: each picture is told. `rules` is the
+/// before, and writes the report of its sequences. `each`: each picture is told. `rules` is the
 /// name of the rule set. Answers what is counted of all sequences, and how the audit ends.
 ///
 /// # Errors
