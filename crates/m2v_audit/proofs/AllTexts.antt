@@ -8,8 +8,8 @@ use Rattle.m2v_dec_piece.specs.declared.answer.DecodeError.{DecodeError}
 use Rattle.m2v_dec_piece.specs.declared.answer.DecodeError.TheVariants as errors
 use Rattle.m2v_dec_piece.specs.Cutting.{Cutting}
 use Rattle.m2v_dec_piece.specs.Texts.{anew}
-use Rattle.m2v_decode.specs.Answers.{OfText}
-use Rattle.m2v_decode.specs.Progress.{Cuts, before_all}
+use Rattle.m2v_check.specs.m2v_decode.Answers.{OfText}
+use Rattle.m2v_check.specs.m2v_decode.Progress.{Cuts, before_all}
 use Rattle.m2v_audit.specs.declared.records.TotalRecord.{TotalRecord}
 use Rattle.m2v_audit.specs.declared.outcome.Ending.{Ending}
 use Rattle.m2v_audit.specs.declared.outcome.Outcome.{Outcome}

@@ -6,8 +6,8 @@ use Rattle.m2v_port.specs.Port.{Moves, Grows, GrowsByPrefix}
 use Rattle.m2v_port.proofs.Runs.{rose_since, moves_on, moves_nothing, grows_on, grows_by_nothing, grows_by_none, prefix_on, prefix_of_more}
 use Rattle.m2v_dec_piece.specs.declared.answer.DecodeError.{DecodeError}
 use Rattle.m2v_dec_piece.specs.declared.answer.DecodeError.TheVariants as errors
-use Rattle.m2v_decode.specs.Progress.{Cuts}
-use Rattle.m2v_decode.proofs.Going.{moved_some}
+use Rattle.m2v_check.specs.m2v_decode.Progress.{Cuts}
+use Rattle.m2v_check.proofs.m2v_decode.Going.{moved_some}
 use Rattle.m2v_audit.specs.Audited.{Audited, then_comes}
 use Rattle.m2v_audit.specs.Leading.{Onward, LeadsTo, IsCut, Stops}
 

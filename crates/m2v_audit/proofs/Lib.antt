@@ -16,3 +16,4 @@ pub mod TextSteps
 pub mod TextEnds
 pub mod TextReports
 pub mod AllTexts
+pub use Rattle.m2v_check.proofs as m2v_check

@@ -10,12 +10,12 @@ use Rattle.m2v_dec_piece.specs.declared.answer.DecodeError.{DecodeError}
 use Rattle.m2v_dec_piece.specs.declared.answer.DecodeError.TheVariants as errors
 use Rattle.m2v_dec_piece.specs.Sound.{IsSoundPiece}
 use Rattle.m2v_model.specs.declared.state.State.{State}
-use Rattle.m2v_decode.specs.Decoding.{Decoding, at_start, whole_of, Refuses}
-use Rattle.m2v_decode.proofs.EndLaws.{whole_length}
+use Rattle.m2v_check.specs.m2v_decode.Decoding.{Decoding, at_start, whole_of, Refuses}
+use Rattle.m2v_check.proofs.m2v_decode.EndLaws.{whole_length}
 use Rattle.m2v_check.specs.Judging.{IsPlaced}
 use Rattle.m2v_check.proofs.Checking.{note_placed, shut_behind}
-use Rattle.m2v_decode.specs.Reading.{Reading, Follows, LeadsOn}
-use Rattle.m2v_decode.specs.Progress.{Cuts}
+use Rattle.m2v_check.specs.m2v_decode.Reading.{Reading, Follows, LeadsOn}
+use Rattle.m2v_check.specs.m2v_decode.Progress.{Cuts}
 use Rattle.m2v_audit.specs.Auditing.{Auditing, cleared, after_piece}
 use Rattle.m2v_audit.proofs.Counted.{bytes_after}
 use Rattle.m2v_audit.specs.Leading.{PieceTold, PieceCut, PieceFails}

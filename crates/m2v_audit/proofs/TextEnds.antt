@@ -12,9 +12,9 @@ use Rattle.m2v_model.specs.ByPieces.{Between, Course, at_start, end_read}
 use Rattle.m2v_dec_piece.specs.declared.answer.Fault.{Fault}
 use Rattle.m2v_dec_piece.specs.declared.answer.DecodeError.TheVariants as errors
 use Rattle.m2v_dec_piece.specs.Cutting.{Cutting}
-use Rattle.m2v_decode.specs.Decoding.{Decoding, between, Finished}
-use Rattle.m2v_decode.specs.Reading.{Reading}
-use Rattle.m2v_decode.proofs.EndLaws.{end_broken}
+use Rattle.m2v_check.specs.m2v_decode.Decoding.{Decoding, between, Finished}
+use Rattle.m2v_check.specs.m2v_decode.Reading.{Reading}
+use Rattle.m2v_check.proofs.m2v_decode.EndLaws.{end_broken}
 use Rattle.m2v_audit.specs.Auditing.{Auditing}
 use Rattle.m2v_audit.specs.Audited.{then_comes, end_told}
 use Rattle.m2v_audit.specs.Leading.{pieces_from, AreTold, IsTextRead, TextStops}

@@ -13,12 +13,13 @@ use Rattle.m2v_dec_piece.specs.declared.answer.DecodeError.{DecodeError}
 use Rattle.m2v_dec_piece.specs.declared.answer.DecodeError.TheVariants as errors
 use Rattle.m2v_dec_piece.specs.Following.{following_in, text_after}
 use Rattle.m2v_dec_piece.specs.Cutting.{Cutting, phase_for, open_start, open_pieces, start_of, left_of, follows_of}
-use Rattle.m2v_decode.specs.Progress.{Cuts}
+use Rattle.m2v_check.specs.m2v_decode.Progress.{Cuts}
 use Rattle.m2v_audit.specs.declared.records.TotalRecord.{TotalRecord}
 use Rattle.m2v_audit.specs.declared.outcome.Ending.{Ending}
 use Rattle.m2v_audit.specs.declared.outcome.Ending.TheVariants as endings
 use Rattle.m2v_audit.specs.Auditing.{Auditing, nothing, stopped, ended}
-use Rattle.m2v_audit.specs.Audited.{Audited, Telling, then_comes, totalled, counted_with, skipped_text, stopping_text, stopped_by, limit_kind, pieces_told, texts_told}
+use Rattle.m2v_audit.specs.Lines.{skipped_text}
+use Rattle.m2v_audit.specs.Audited.{Audited, Telling, then_comes, totalled, counted_with, stopping_text, stopped_by, limit_kind, pieces_told, texts_told}
 use Rattle.m2v_audit.specs.Leading.{Onward, LeadsTo, IsCut, pieces_from, behind_text, IsTextRead, TextStops, as_ending, texts_from, total_from, GoesOn, Stops}
 use Rattle.m2v_audit.proofs.LeadLaws.{both_come, leads_on, leads_put, stops_put, stops_on}
 

@@ -15,10 +15,10 @@ use Rattle.m2v_dec_piece.specs.declared.answer.DecodeError.TheVariants as errors
 use Rattle.m2v_dec_piece.specs.Cutting.{Cutting, IsReading, left_of, start_of, follows_of}
 use Rattle.m2v_dec_piece.specs.Sound.{IsSoundPiece}
 use Rattle.m2v_dec_piece.specs.Stepping.{Handed, Stopped}
-use Rattle.m2v_decode.specs.Decoding.{Decoding, at_start as first_decoding, between, Advanced, whole_of}
-use Rattle.m2v_decode.specs.Reading.{Reading, nothing_read, Follows, LeadsOn}
-use Rattle.m2v_decode.proofs.Following.{follows_none}
-use Rattle.m2v_decode.proofs.Going.{Gave, gave, moved_some}
+use Rattle.m2v_check.specs.m2v_decode.Decoding.{Decoding, at_start as first_decoding, between, Advanced, whole_of}
+use Rattle.m2v_check.specs.m2v_decode.Reading.{Reading, nothing_read, Follows, LeadsOn}
+use Rattle.m2v_check.proofs.m2v_decode.Following.{follows_none}
+use Rattle.m2v_check.proofs.m2v_decode.Going.{Gave, gave, moved_some}
 use Rattle.m2v_audit.specs.Auditing.{Auditing, cleared, after_piece}
 use Rattle.m2v_audit.specs.Audited.{Audited, Telling, then_comes, by_fault, by_limit, pieces_told, end_told}
 use Rattle.m2v_audit.specs.Leading.{Onward, LeadsTo, IsCut, PieceTold, PieceCut, PieceFails, pieces_from, end_from, AreTold, TextStops}

@@ -14,7 +14,7 @@ use Rattle.m2v_audit.specs.declared.records.TotalRecord.{TotalRecord}
 use Rattle.m2v_audit.specs.declared.outcome.Ending.{Ending}
 use Rattle.m2v_audit.specs.declared.outcome.Ending.TheVariants as endings
 use Rattle.m2v_audit.specs.declared.outcome.Outcome.{Outcome}
-use Rattle.m2v_audit.specs.Lines.{audit_line, columns_lines, skipped_line, fault_line, limit_line, total_line}
+use Rattle.m2v_audit.specs.Lines.{audit_line, columns_lines, skipped_text, fault_line, limit_line, total_line}
 use Rattle.m2v_audit.specs.FaultWords.{fault_word}
 use Rattle.m2v_audit.specs.Auditing.{Auditing, nothing, is_begun, cleared, after_piece, stopped, ended}
 
@@ -104,11 +104,6 @@ piece_told x a at p (Ok read) next =
     let behind = after_piece a at p (notes_of at p read.0) in
     then_comes behind.report.text (next (cleared behind) read.1)
 piece_told x a at p (Err f) next = by_fault x.totals a f
-
--- bytes that are no part of a sequence, from a byte on, where there are some
-abbrev pub skipped_text : ℕ → ℕ → ℕ → List ℕ
-skipped_text sequence start bytes =
-    if nat_eq bytes 0 then [] else skipped_line (record { sequence = sequence; byte = start; bytes = bytes })
 
 -- Behind the last piece, which ends at a byte. A text that needs no sequence and has none is skipped, and the report ends.
 abbrev pub end_told : Telling → Bool → Auditing → ℕ → Course → Audited

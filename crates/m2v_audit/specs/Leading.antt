@@ -10,17 +10,18 @@ use Rattle.m2v_dec_piece.specs.declared.answer.Piece.{Piece}
 use Rattle.m2v_dec_piece.specs.declared.answer.DecodeError.{DecodeError}
 use Rattle.m2v_dec_piece.specs.declared.answer.DecodeError.TheVariants as errors
 use Rattle.m2v_dec_piece.specs.Cutting.{Cutting, left_of, start_of, follows_of}
-use Rattle.m2v_decode.specs.Decoding.{Decoding, between, whole_of}
-use Rattle.m2v_decode.specs.Reading.{Reading, Follows, LeadsOn}
-use Rattle.m2v_decode.specs.Answers.{OfText}
-use Rattle.m2v_decode.specs.Progress.{Cuts}
+use Rattle.m2v_check.specs.m2v_decode.Decoding.{Decoding, between, whole_of}
+use Rattle.m2v_check.specs.m2v_decode.Reading.{Reading, Follows, LeadsOn}
+use Rattle.m2v_check.specs.m2v_decode.Answers.{OfText}
+use Rattle.m2v_check.specs.m2v_decode.Progress.{Cuts}
 use Rattle.m2v_audit.specs.declared.records.TotalRecord.{TotalRecord}
 use Rattle.m2v_audit.specs.declared.outcome.Ending.{Ending}
 use Rattle.m2v_audit.specs.declared.outcome.Outcome.{Outcome}
 use Rattle.m2v_audit.specs.Auditing.{Auditing, cleared, after_piece, ended}
+use Rattle.m2v_audit.specs.Lines.{skipped_text}
 use Rattle.m2v_audit.specs.declared.words.LimitKind.TheVariants as limits
 use Rattle.m2v_audit.specs.declared.outcome.Ending.TheVariants as endings
-use Rattle.m2v_audit.specs.Audited.{Audited, Telling, then_comes, totalled, counted_with, skipped_text, end_told, by_fault, by_limit, pieces_told, texts_told, audited}
+use Rattle.m2v_audit.specs.Audited.{Audited, Telling, then_comes, totalled, counted_with, end_told, by_fault, by_limit, pieces_told, texts_told, audited}
 
 -- ---- from one place to another
 

@@ -14,3 +14,4 @@ pub mod WorkedAuditing
 pub mod FaultWords
 pub mod Audited
 pub mod Leading
+pub use Rattle.m2v_check.specs as m2v_check

@@ -1,5 +1,5 @@
 -- The lines (records) of the report: what a line is, and the line of each kind of record.
-use Rattle.std.specs.Prelude.{ℕ, Bool, List, [], ◌∷◌, ◌++◌, ◌==◌, map, codes, decimal, if◌then◌else◌}
+use Rattle.std.specs.Prelude.{ℕ, Bool, List, [], ◌∷◌, ◌++◌, ◌==◌, nat_eq, map, codes, decimal, if◌then◌else◌}
 use Rattle.std.specs.List.{flat_map}
 use Rattle.m2v_audit.specs.declared.line.Column.{Column as Printed}
 use Rattle.m2v_audit.specs.declared.line.Column.TheVariants as printed
@@ -13,7 +13,6 @@ use Rattle.m2v_audit.specs.declared.words.FailureKind.{FailureKind}
 use Rattle.m2v_audit.specs.declared.words.FailureKind.TheVariants as failures
 use Rattle.m2v_audit.specs.declared.words.LimitKind.{LimitKind}
 use Rattle.m2v_audit.specs.declared.words.LimitKind.TheVariants as limits
-use Rattle.m2v_audit.specs.declared.records.SkippedRecord.{SkippedRecord}
 use Rattle.m2v_audit.specs.declared.records.SequenceRecord.{SequenceRecord}
 use Rattle.m2v_audit.specs.declared.records.GroupRecord.{GroupRecord}
 use Rattle.m2v_audit.specs.declared.records.PictureRecord.{PictureRecord}
@@ -105,9 +104,14 @@ limit_word limits.TooLarge = codes "too_large"
 abbrev pub audit_line : List ℕ → List ℕ
 audit_line rules = line_of (codes "audit") (number 1 ∷ word rules ∷ [])
 
-abbrev pub skipped_line : SkippedRecord → List ℕ
-skipped_line s = line_of (codes "skipped")
-    (number s.sequence ∷ number s.byte ∷ number s.bytes ∷ [])
+-- so many bytes that are no part of a sequence, the first of them at `byte`
+abbrev pub skipped_line : ℕ → ℕ → ℕ → List ℕ
+skipped_line sequence byte bytes = line_of (codes "skipped")
+    (number sequence ∷ number byte ∷ number bytes ∷ [])
+
+-- the same, where there are some
+abbrev pub skipped_text : ℕ → ℕ → ℕ → List ℕ
+skipped_text sequence byte bytes = if nat_eq bytes 0 then [] else skipped_line sequence byte bytes
 
 abbrev pub sequence_line : SequenceRecord → List ℕ
 sequence_line s = line_of (codes "sequence")

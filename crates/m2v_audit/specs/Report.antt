@@ -4,7 +4,6 @@ use Rattle.std.specs.Option.{unwrap_or}
 use Rattle.m2v_vbv.specs.declared.removed.Removed.{Removed}
 use Rattle.m2v_audit.specs.declared.account.Due.{Due}
 use Rattle.m2v_audit.specs.declared.words.FailureKind.TheVariants as failures
-use Rattle.m2v_audit.specs.declared.words.LimitKind.{LimitKind}
 use Rattle.m2v_audit.specs.declared.records.SequenceRecord.{SequenceRecord}
 use Rattle.m2v_audit.specs.declared.records.GroupRecord.{GroupRecord}
 use Rattle.m2v_audit.specs.declared.records.PictureRecord.{PictureRecord}
@@ -17,7 +16,7 @@ use Rattle.m2v_audit.specs.declared.tally.Tally.{Tally}
 use Rattle.m2v_audit.specs.declared.report.Broken.{Broken}
 use Rattle.m2v_audit.specs.declared.report.Rate.{Rate}
 use Rattle.m2v_audit.specs.declared.report.SequenceTotals.{SequenceTotals}
-use Rattle.m2v_audit.specs.Lines.{skipped_line, sequence_line, group_line, picture_line, held_line, breach_line, failure_line, fault_line, limit_line, count_line, end_line}
+use Rattle.m2v_audit.specs.Lines.{skipped_text, sequence_line, group_line, picture_line, held_line, breach_line, failure_line, count_line, end_line}
 
 -- ---- what is counted
 
@@ -181,14 +180,9 @@ with_removal r rate d t =
 
 -- ---- the beginning of a sequence
 
--- bytes before it that are no part of a sequence, the first of them at `start`
-abbrev pub with_skipped : Report → ℕ → ℕ → Report
-with_skipped r skipped start =
-    if nat_eq skipped 0 then r
-    else with_text r (skipped_line (record { sequence = r.sequence; byte = start; bytes = skipped }))
-
+-- behind so many bytes that are no part of a sequence, the first of them at `start`
 abbrev pub with_begin : Report → ℕ → ℕ → SequenceRecord → Report
-with_begin r skipped start s = with_text (with_skipped r skipped start) (sequence_line s)
+with_begin r skipped start s = with_text (with_text r (skipped_text r.sequence start skipped)) (sequence_line s)
 
 -- ---- headers and pictures, where each picture is told
 
@@ -197,16 +191,6 @@ with_group_line r g = if r.pictures then with_text r (group_line g) else r
 
 abbrev pub with_picture_line : Report → PictureRecord → Report
 with_picture_line r p = if r.pictures then with_text r (picture_line p) else r
-
--- ---- what ends it early
-
--- a fault of a kind, at a bit of the input
-abbrev pub with_fault : Report → ℕ → List ℕ → Report
-with_fault r bit kind = with_text r (fault_line r.sequence bit kind)
-
--- a limit that the input passes
-abbrev pub with_limit : Report → LimitKind → Report
-with_limit r kind = with_text r (limit_line r.sequence kind)
 
 -- ---- its end
 

@@ -42,7 +42,7 @@ pub use outcome::{Ending, Outcome};
 pub use places::{Misplaced, Places, Waiting, WaitingFrame};
 pub use records::{
     CountRecord, EndRecord, FailureRecord, Finding, GroupRecord, HeldRecord, PictureRecord,
-    SequenceRecord, SkippedRecord, TotalRecord,
+    SequenceRecord, TotalRecord,
 };
 pub use report::{Broken, Rate, Report, SequenceTotals};
 pub use tally::{RuleCount, Tally};

@@ -1,11 +1,11 @@
 //! The lines of the report, record by record.
 ghost use Rattle.std.specs.Prelude.{◌≡◌, ◌++◌, [], OnOk};
-ghost use Rattle.m2v_audit.specs.Lines.{audit_line, columns_lines, skipped_line, sequence_line, group_line, picture_line, held_line, breach_line, failure_line, fault_line, limit_line, count_line, end_line, total_line};
+ghost use Rattle.m2v_audit.specs.Lines.{audit_line, columns_lines, skipped_text, sequence_line, group_line, picture_line, held_line, breach_line, failure_line, fault_line, limit_line, count_line, end_line, total_line};
 
 use crate::line::{Column, print};
 use crate::records::{
     CountRecord, EndRecord, FailureRecord, Finding, GroupRecord, HeldRecord, PictureRecord,
-    SequenceRecord, SkippedRecord, TotalRecord,
+    SequenceRecord, TotalRecord,
 };
 use crate::words::{
     LimitKind, column_names, failure_word, limit_word, name_of, rate_word, structure_word,
@@ -65,18 +65,21 @@ impl Lines {
         self.text.extend_from_slice(column_names().as_bytes())
     }
 
-    /// Bytes that are no part of a sequence.
-    pub fn skipped(&mut self, s: &SkippedRecord) -> Result<(), AllocError>
+    /// So many bytes that are no part of a sequence, the first of them at `byte`, where there are some.
+    pub fn skipped(&mut self, sequence: u64, byte: u64, bytes: u64) -> Result<(), AllocError>
         ensures { OnOk result (self.new.text.items
-            ≡ self.old.text.items ++ skipped_line s.now) }
+            ≡ self.old.text.items ++ skipped_text sequence byte bytes) }
     {
+        if bytes == 0 {
+            return Ok(());
+        }
         print(
             &mut self.text,
             "skipped",
             &[
-                Column::of(s.sequence),
-                Column::of(s.byte),
-                Column::of(s.bytes),
+                Column::of(sequence),
+                Column::of(byte),
+                Column::of(bytes),
             ],
         )
     }

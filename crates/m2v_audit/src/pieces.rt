@@ -4,14 +4,14 @@ ghost use Rattle.m2v_port.specs.Ends.{change, SinkStays};
 ghost use Rattle.m2v_port.specs.Port.{Grows};
 ghost use Rattle.m2v_model.specs.ByPieces.{at_start};
 ghost use Rattle.m2v_dec_piece.specs.Sound.{IsSoundPiece};
-ghost use Rattle.m2v_decode.specs.Decoding.{Decoding};
-ghost use Rattle.m2v_decode.specs.Progress.{Cuts};
-ghost use Rattle.m2v_decode.specs.Reading.{nothing_read, Follows};
+ghost use Rattle.m2v_check.specs.m2v_decode.Decoding.{Decoding};
+ghost use Rattle.m2v_check.specs.m2v_decode.Progress.{Cuts};
+ghost use Rattle.m2v_check.specs.m2v_decode.Reading.{nothing_read, Follows};
 ghost use Rattle.m2v_audit.specs.Auditing.{cleared};
 ghost use Rattle.m2v_audit.specs.Leading.{PieceTold, PieceFails, AreTold, IsTextRead, pieces_from, TextStops};
 
 use crate::auditor::Auditor;
-use m2v_decode::{Cutter, DecodeError, Piece, Reader};
+use m2v_check::decode::{Cutter, DecodeError, Piece, Reader};
 use m2v_port::{PortError, Sink, Source};
 use std::alloc::Global;
 

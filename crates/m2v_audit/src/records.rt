@@ -2,16 +2,6 @@
 //! Places are counted from the beginning of the input.
 use crate::words::{FailureKind, PictureType, RateKind, Structure};
 
-/// Bytes that are no part of a sequence: before one, or after the last.
-#[derive(Clone, Copy, Debug, PartialEq, Eq)]
-pub struct SkippedRecord {
-    pub sequence: u64,
-    /// The place of the first of them.
-    pub byte: u64,
-    /// How many there are.
-    pub bytes: u64,
-}
-
 /// A sequence, by its first header.
 #[derive(Clone, Copy, Debug, PartialEq, Eq)]
 pub struct SequenceRecord {

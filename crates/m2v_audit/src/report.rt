@@ -1,15 +1,15 @@
 // The report of a sequence as it grows.
 ghost use Rattle.std.specs.Prelude.{◌≡◌, ◌<◌, ◌≤◌, [], OnOk};
-ghost use Rattle.m2v_audit.specs.Report.{no_tally, with_breach, held_of, under_of, over_of, with_failure, with_held, with_under, with_over, with_removal, with_skipped, with_begin, with_group_line, with_picture_line, with_fault, with_limit, with_count, with_counts, end_of, with_end};
+ghost use Rattle.m2v_audit.specs.Report.{no_tally, with_breach, held_of, under_of, over_of, with_failure, with_held, with_under, with_over, with_removal, with_begin, with_group_line, with_picture_line, with_count, with_counts, end_of, with_end};
 
 use crate::account::Due;
 use crate::lines::Lines;
 use crate::records::{
     CountRecord, EndRecord, FailureRecord, Finding, GroupRecord, HeldRecord, PictureRecord,
-    SequenceRecord, SkippedRecord,
+    SequenceRecord,
 };
 use crate::tally::{Tally, after_of, before_of};
-use crate::words::{FailureKind, LimitKind};
+use crate::words::FailureKind;
 use m2v_vbv::Removed;
 use std::alloc::{AllocError, Global};
 use std::marker::Model;
@@ -123,7 +123,7 @@ impl Report {
     pub fn begin(&mut self, skipped: u64, start: u64, s: &SequenceRecord) -> Result<(), AllocError>
         ensures { OnOk result (self.new ≡ with_begin self.old skipped start s.now) }
     {
-        self.skipped(skipped, start)?;
+        self.lines.skipped(self.sequence, start, skipped)?;
         self.lines.sequence(s)
     }
 
@@ -154,20 +154,6 @@ impl Report {
         } else {
             Ok(())
         }
-    }
-
-    /// The stream has a fault of a kind, at a bit of the input.
-    pub fn fault(&mut self, bit: u64, kind: &str) -> Result<(), AllocError>
-        ensures { OnOk result (self.new ≡ with_fault self.old bit kind.now) }
-    {
-        self.lines.fault(self.sequence, bit, kind)
-    }
-
-    /// The input passes a limit.
-    pub fn limit(&mut self, kind: LimitKind) -> Result<(), AllocError>
-        ensures { OnOk result (self.new ≡ with_limit self.old kind) }
-    {
-        self.lines.limit(self.sequence, kind)
     }
 
     /// A rule is broken.
@@ -206,20 +192,6 @@ impl Report {
         let end = self.end(totals);
         self.counts()?;
         self.lines.end(&end)
-    }
-
-    /// Bytes before the sequence, where there are some.
-    fn skipped(&mut self, skipped: u64, start: u64) -> Result<(), AllocError>
-        ensures { OnOk result (self.new ≡ with_skipped self.old skipped start) }
-    {
-        if skipped == 0 {
-            return Ok(());
-        }
-        self.lines.skipped(&SkippedRecord {
-            sequence: self.sequence,
-            byte: start,
-            bytes: skipped,
-        })
     }
 
     /// What the buffer holds, where each picture is told.

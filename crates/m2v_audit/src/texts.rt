@@ -2,9 +2,10 @@
 ghost use Rattle.std.specs.Prelude.{◌≡◌, ◌+◌, ◌-◌, ◌≤◌, ◌<◌, ◌^◌, ◌++◌, ℕ, length, [], IsTrue, IfOk, IfErr, IfNone, OnOk, false, true};
 ghost use Rattle.m2v_port.specs.Ends.{change, SinkStays};
 ghost use Rattle.m2v_port.specs.Port.{Grows};
-ghost use Rattle.m2v_decode.specs.Progress.{Cuts, before_all};
+ghost use Rattle.m2v_check.specs.m2v_decode.Progress.{Cuts, before_all};
 ghost use Rattle.m2v_audit.specs.Auditing.{stopped, ended};
-ghost use Rattle.m2v_audit.specs.Audited.{counted_with, none_counted, skipped_text, stopping_line as line_of_stop, stopping_text};
+ghost use Rattle.m2v_audit.specs.Audited.{counted_with, none_counted, stopping_line as line_of_stop, stopping_text};
+ghost use Rattle.m2v_audit.specs.Lines.{skipped_text};
 ghost use Rattle.m2v_audit.specs.Leading.{as_ending, texts_from, total_from, LeadsTo, Stops, TextTold};
 
 use crate::auditor::Auditor;
@@ -12,9 +13,9 @@ use crate::fault_word::fault_word;
 use crate::lines::Lines;
 use crate::outcome::Ending;
 use crate::pieces::{put, read_text};
-use crate::records::{SkippedRecord, TotalRecord};
+use crate::records::TotalRecord;
 use crate::words::LimitKind;
-use m2v_decode::{Cutter, DecodeError};
+use m2v_check::decode::{Cutter, DecodeError};
 use m2v_port::{Sink, Source};
 use std::alloc::{AllocError, Global};
 
@@ -62,14 +63,7 @@ fn skip<K: Sink>(
     ensures output { SinkStays K.ready K.name K.faults output.old output.new }
 {
     let mut lines = Lines::new(alloc);
-    let bytes = end.saturating_sub(start);
-    if bytes != 0 {
-        lines.skipped(&SkippedRecord {
-            sequence,
-            byte: start,
-            bytes,
-        })?;
-    }
+    lines.skipped(sequence, start, end.saturating_sub(start))?;
     put(lines.bytes(), output)
 }
 

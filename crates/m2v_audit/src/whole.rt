@@ -2,8 +2,8 @@
 ghost use Rattle.std.specs.Prelude.{◌≡◌, ◌≤◌, ◌++◌, IsTrue, IfOk, IfErr, OnOk};
 ghost use Rattle.m2v_port.specs.Ends.{change, SinkStays};
 ghost use Rattle.m2v_port.specs.Port.{Grows};
-ghost use Rattle.m2v_decode.specs.Answers.{OfText};
-ghost use Rattle.m2v_decode.specs.Progress.{Cuts};
+ghost use Rattle.m2v_check.specs.m2v_decode.Answers.{OfText};
+ghost use Rattle.m2v_check.specs.m2v_decode.Progress.{Cuts};
 ghost use Rattle.m2v_audit.specs.Lines.{audit_line, columns_lines, total_line};
 ghost use Rattle.m2v_audit.specs.Leading.{IsAudited, Fails};
 
@@ -12,7 +12,7 @@ use crate::outcome::Outcome;
 use crate::pieces::put;
 use crate::records::TotalRecord;
 use crate::texts::tell_texts;
-use m2v_decode::{Cutter, DecodeError};
+use m2v_check::decode::{Cutter, DecodeError};
 use m2v_port::{Sink, Source};
 use std::alloc::Global;
 

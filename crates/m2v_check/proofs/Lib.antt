@@ -22,3 +22,4 @@ pub mod Checking
 pub mod Summing
 pub mod Verdicts
 pub use Rattle.m2v_model.proofs as m2v_model
+pub use Rattle.m2v_decode.proofs as m2v_decode

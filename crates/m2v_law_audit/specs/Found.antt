@@ -1,0 +1,127 @@
+-- What the pieces of a sequence tell, as lists: its breaches in turn, and the removals that are told.
+use Rattle.std.specs.Prelude.{ℕ, ◌+◌, Bool, if◌then◌else◌, List, [], ◌∷◌, ◌++◌, map, length, slice_get, Option, Some, None, Ok, Err}
+use Rattle.std.specs.List.{flat_map}
+use Rattle.std.specs.Option.{option_to_list}
+use Rattle.m2v_model.specs.m2v_macroblock.m2v_head.declared.sequence.SequenceInfo.{SequenceInfo}
+use Rattle.m2v_model.specs.m2v_macroblock.m2v_head.declared.sequence.SequenceExtension.{SequenceExtension}
+use Rattle.m2v_model.specs.declared.state.Sequence.{Sequence}
+use Rattle.m2v_model.specs.declared.notes.PictureNote.{PictureNote}
+use Rattle.m2v_model.specs.Lawful.{Breaches, sequence_breaches, horizontal_rule, vertical_rule, intra_rule, crowd_rule, repeat_rule, progressive_rule, precision_rule}
+use Rattle.m2v_model.specs.Pieces.{zeros_last}
+use Rattle.m2v_model.specs.PieceNotes.{PieceNotes, notes_of}
+use Rattle.m2v_model.specs.ByPieces.{Between, Course, piece_read}
+use Rattle.m2v_model.specs.States.{is_b}
+use Rattle.m2v_audit.specs.m2v_check.declared.coded.CodedPicture.{CodedPicture}
+use Rattle.m2v_audit.specs.m2v_check.Breaking.{numbered_of}
+use Rattle.m2v_audit.specs.m2v_check.Running.{ends_frame}
+use Rattle.m2v_vbv.specs.declared.removed.Removed.{Removed}
+use Rattle.m2v_audit.specs.declared.account.Due.{Due}
+use Rattle.m2v_audit.specs.declared.headers.PieceHeader.{PieceHeader}
+use Rattle.m2v_audit.specs.declared.headers.PieceHeader.TheVariants as headers
+use Rattle.m2v_audit.specs.declared.places.Misplaced.{Misplaced}
+use Rattle.m2v_audit.specs.declared.places.Places.{Places}
+use Rattle.m2v_audit.specs.declared.records.Finding.{Finding}
+use Rattle.m2v_audit.specs.declared.records.FailureRecord.{FailureRecord}
+use Rattle.m2v_audit.specs.declared.report.Rate.{Rate}
+use Rattle.m2v_audit.specs.Account.{Account, Told, settled, ended as all_left}
+use Rattle.m2v_audit.specs.Auditing.{Auditing, sequence_of, sequences_of, bit_of, coded, counted, waiting_of, with_header, with_headers, begun, longer, fronted, pictured, cleared, after_piece}
+use Rattle.m2v_audit.specs.Findings.{broken_at, misplaced_at}
+use Rattle.m2v_audit.specs.Front.{front_of}
+use Rattle.m2v_audit.specs.Places.{told_with_frame, told_at_close}
+use Rattle.m2v_audit.specs.Report.{finding_of, under_of, over_of}
+
+-- ---- breaches
+
+-- breaches that stand at a bit and are told of a picture
+abbrev pub found_at : ℕ → ℕ → ℕ → Breaches → List Finding
+found_at sequence picture bit bs = map (λ b. finding_of sequence (broken_at picture bit b)) bs
+
+-- frames that stand at another place than they say (rule 11)
+abbrev pub found_misplaced : ℕ → List (Option Misplaced) → List Finding
+found_misplaced sequence ms = flat_map (λ m. map (λ x. finding_of sequence (misplaced_at x)) (option_to_list m)) ms
+
+-- at a header: of a sequence header its rules, at a group header what waits for rule 11
+abbrev pub header_found : Auditing → PieceHeader → Option (SequenceInfo × SequenceExtension) → List Finding
+header_found a (headers.Sequence bit) None = []
+header_found a (headers.Sequence bit) (Some s) = found_at a.report.sequence a.pictures bit (sequence_breaches (sequence_of s ∷ []))
+header_found a (headers.Group bit g) s = found_misplaced a.report.sequence (told_at_close a.places)
+
+-- at headers in turn, as many sequence headers standing before them among those that were noted
+unfoldable pub headers_found : Auditing → List (SequenceInfo × SequenceExtension) → ℕ → List PieceHeader → List Finding
+headers_found a ss k [] = []
+headers_found a ss k (h ∷ hs) = header_found a h (slice_get ss k) ++ headers_found (with_header a h (slice_get ss k)) ss (k + sequences_of h) hs
+
+-- at a picture: its rules by number, but for 11
+abbrev pub rules_of : Bool → CodedPicture → Breaches
+rules_of constant p =
+    let n = numbered_of p in
+    (horizontal_rule n ++ vertical_rule n ++ intra_rule n) ++ (crowd_rule n ++ repeat_rule constant n ++ progressive_rule n ++ precision_rule n)
+
+-- then rule 11 of the frames whose place is known by it
+abbrev pub places_found : ℕ → Places → CodedPicture → List Finding
+places_found sequence o p =
+    if ends_frame p.note then found_misplaced sequence (told_with_frame o (waiting_of p) (is_b p.note.info.kind)) else []
+
+abbrev pub coded_found : Auditing → CodedPicture → List Finding
+coded_found a p =
+    let then = counted a p in
+    found_at a.report.sequence p.number (bit_of p.note) (rules_of then.constant p) ++ places_found a.report.sequence a.places p
+
+abbrev pub note_found : Auditing → Option Sequence → Option PictureNote → List Finding
+note_found a s None = []
+note_found a None (Some n) = []
+note_found a (Some s) (Some n) = coded_found a (coded a s n)
+
+-- at a piece
+abbrev pub piece_found : Auditing → ℕ → List ℕ → PieceNotes → List Finding
+piece_found a place piece notes =
+    let first = begun a.first (longer (length piece) a) place notes in
+    let front = fronted (longer (length piece) a) place piece notes in
+    headers_found first notes.sequences 0 (front_of place piece) ++ note_found front front.sequence notes.picture
+
+-- at the end of the sequence
+abbrev pub end_found : Auditing → List Finding
+end_found a = found_misplaced a.report.sequence (told_at_close a.places)
+
+-- ---- removals
+
+abbrev pub settled_in : Option Account → List Told
+settled_in None = []
+settled_in (Some x) = settled x
+
+abbrev pub left_in : Option Account → List Told
+left_in None = []
+left_in (Some x) = all_left x
+
+-- the removals that are told at a piece: those that are settled behind its picture
+abbrev pub piece_removals : Auditing → ℕ → List ℕ → PieceNotes → List Told
+piece_removals a place piece notes =
+    settled_in (pictured (fronted (longer (length piece) a) place piece notes) place (length piece) (zeros_last piece) notes.picture).account
+
+-- the failures of a removal: under before over
+abbrev pub failures_of : ℕ → Rate → Told → List FailureRecord
+failures_of sequence rate t =
+    (if t.1.is_under then under_of sequence rate t.0 t.1 ∷ [] else [])
+    ++ (if t.1.is_over then over_of sequence rate t.0 t.1 ∷ [] else [])
+
+-- ---- a whole sequence
+
+-- a list that each piece adds to, and the end of the sequence
+abbrev pub along : {T : Type 0} → (Auditing → ℕ → List ℕ → PieceNotes → List T) → (Auditing → List T) → Auditing → ℕ → List ℕ → Course
+    → (Auditing → Between → List T) → List T
+along here last a at p (Ok read) next =
+    let notes = notes_of at p read.0 in
+    here a at p notes ++ next (cleared (after_piece a at p notes)) read.1
+along here last a at p (Err f) next = last a
+
+unfoldable pub all_along : {T : Type 0} → (Auditing → ℕ → List ℕ → PieceNotes → List T) → (Auditing → List T) → Auditing → Between → ℕ → List (List ℕ) → List T
+all_along here last a b at [] = last a
+all_along here last a b at (p ∷ ps) = along here last a at p (piece_read b (at + length p) p) (λ a' b'. all_along here last a' b' (at + length p) ps)
+
+-- the breaches that are told from here on
+abbrev pub all_found : Auditing → Between → ℕ → List (List ℕ) → List Finding
+all_found = all_along piece_found end_found
+
+-- the removals that are told from here on
+abbrev pub all_removals : Auditing → Between → ℕ → List (List ℕ) → List Told
+all_removals = all_along piece_removals (λ a. left_in a.account)

@@ -1,0 +1,6 @@
+pub mod Sequences
+pub mod Parts
+pub mod Found
+pub mod Breaches
+pub mod Accounts
+pub mod Verdicts

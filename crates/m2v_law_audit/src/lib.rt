@@ -1,0 +1,6 @@
+//! What the report of `audit` says of a stream, in the words of the standard and of the verifier.
+#![tactic(auto)]
+
+mod laws;
+
+pub use laws::law_nothing;
