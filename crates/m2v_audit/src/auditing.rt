@@ -19,30 +19,30 @@ use std::alloc::{AllocError, Global};
 /// What is kept of a sequence that is audited.
 #[derive(Drop)]
 pub struct Auditing {
-    pub(crate) report: Report,
+    pub report: Report,
     /// The byte of the input where the sequence's text begins.
-    pub(crate) start: u64,
+    pub start: u64,
     /// The first sequence header, once the sequence was told.
-    pub(crate) first: Option<Sequence>,
+    pub first: Option<Sequence>,
     /// The last one.
-    pub(crate) sequence: Option<Sequence>,
+    pub sequence: Option<Sequence>,
     /// A group header came, and no picture after it.
-    pub(crate) first_in_group: bool,
-    pub(crate) pictures: u64,
-    pub(crate) groups: u64,
+    pub first_in_group: bool,
+    pub pictures: u64,
+    pub groups: u64,
     /// The frames that are shown.
-    pub(crate) frames: u64,
-    pub(crate) bytes: u64,
+    pub frames: u64,
+    pub bytes: u64,
     /// The first vbv_delay doesn't say that the rate is variable.
-    pub(crate) constant: bool,
+    pub constant: bool,
     /// Where frames stand in their group.
-    pub(crate) places: Places,
+    pub places: Places,
     /// The times of removals.
-    pub(crate) times: Times,
+    pub times: Times,
     /// How the buffer is filled.
-    pub(crate) rate: Rate,
+    pub rate: Rate,
     /// The buffer's account, where the sequence has one.
-    pub(crate) account: Option<Account>,
+    pub account: Option<Account>,
 }
 
 /// A sequence header with what its extension says.

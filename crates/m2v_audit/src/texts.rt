@@ -9,7 +9,7 @@ ghost use Rattle.m2v_audit.specs.Lines.{skipped_text};
 ghost use Rattle.m2v_audit.specs.Leading.{as_ending, texts_from, total_from, LeadsTo, Stops, TextTold};
 
 use crate::auditor::Auditor;
-use crate::fault_word::fault_word;
+use crate::fault_words::fault_word;
 use crate::lines::Lines;
 use crate::outcome::Ending;
 use crate::pieces::{put, read_text};

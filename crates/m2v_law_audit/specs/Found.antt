@@ -24,7 +24,8 @@ use Rattle.m2v_audit.specs.declared.records.Finding.{Finding}
 use Rattle.m2v_audit.specs.declared.records.FailureRecord.{FailureRecord}
 use Rattle.m2v_audit.specs.declared.report.Rate.{Rate}
 use Rattle.m2v_audit.specs.Account.{Account, Told, settled, ended as all_left}
-use Rattle.m2v_audit.specs.Auditing.{Auditing, sequence_of, sequences_of, bit_of, coded, counted, waiting_of, with_header, with_headers, begun, longer, fronted, pictured, cleared, after_piece}
+use Rattle.m2v_audit.specs.declared.auditing.Auditing.{Auditing}
+use Rattle.m2v_audit.specs.Auditing.{sequence_of, sequences_of, bit_of, coded, counted, waiting_of, with_header, with_headers, begun, longer, fronted, pictured, cleared, after_piece}
 use Rattle.m2v_audit.specs.Findings.{broken_at, misplaced_at}
 use Rattle.m2v_audit.specs.Front.{front_of}
 use Rattle.m2v_audit.specs.Places.{told_with_frame, told_at_close}
@@ -64,8 +65,8 @@ places_found sequence o p =
 
 abbrev pub coded_found : Auditing → CodedPicture → List Finding
 coded_found a p =
-    let then = counted a p in
-    found_at a.report.sequence p.number (bit_of p.note) (rules_of then.constant p) ++ places_found a.report.sequence a.places p
+    let behind = counted a p in
+    found_at a.report.sequence p.number (bit_of p.note) (rules_of behind.constant p) ++ places_found a.report.sequence a.places p
 
 abbrev pub note_found : Auditing → Option Sequence → Option PictureNote → List Finding
 note_found a s None = []

@@ -5,7 +5,8 @@ use Rattle.m2v_model.specs.PieceNotes.{notes_of}
 use Rattle.m2v_model.specs.Streams.{Sofar}
 use Rattle.m2v_model.specs.Decoding.{Stream}
 use Rattle.m2v_model.specs.ByPieces.{Between, Course, at_start, piece_read, end_of}
-use Rattle.m2v_audit.specs.Auditing.{Auditing, nothing, cleared, after_piece, ended}
+use Rattle.m2v_audit.specs.declared.auditing.Auditing.{Auditing}
+use Rattle.m2v_audit.specs.Auditing.{nothing, cleared, after_piece, ended}
 use Rattle.m2v_audit.specs.Audited.{Telling, then_comes, counted_with, pieces_told, limit_at}
 
 -- lines that were told, and what is kept behind them; the lines of a piece are taken away from what is kept

@@ -1,7 +1,7 @@
 -- What status 0 says: the command was done, and the whole line of that is on report.
-use Rattle.std.proofs.Common.{◌≡◌, inl, inr, ℕ, suc, refl, sym, ◌∙◌, arith, subst}
-use Rattle.std.specs.Prelude.{◌==◌, if◌then◌else◌}
-use Rattle.std.proofs.lemmas.Bool.{cases_Bool, cond-true, cond-false, eq-eqb}
+use Rattle.std.proofs.Common.{◌≡◌, inl, inr, ℕ, Bool, true, false, suc, refl, sym, ◌∙◌, arith, subst}
+use Rattle.std.specs.Prelude.{◌==◌, ◌&&◌, nat_eq, if◌then◌else◌}
+use Rattle.std.proofs.lemmas.Bool.{cases_Bool, cond-true, cond-false, eq-eqb, eqb-true, both_true}
 use Rattle.m2v_port.specs.Port.{Grows}
 use Rattle.m2v_port.specs.declared.error.PortError.{PortError}
 use Rattle.m2v_port.specs.declared.error.PortError.TheVariants as calls
@@ -27,6 +27,14 @@ use Rattle.m2v_vbv.specs.declared.fault.AccountFault.TheVariants.{Under, Over}
 use Rattle.m2v_make.specs.declared.answer.MakeError.{MakeError}
 use Rattle.m2v_make.specs.declared.answer.MakeError.TheVariants as make_errors
 use Rattle.m2v_make.specs.Making.{Makes}
+use Rattle.m2v_audit.specs.declared.outcome.Outcome.{Outcome as Audit}
+use Rattle.m2v_audit.specs.declared.outcome.Ending.{Ending as Audited}
+use Rattle.m2v_audit.specs.declared.outcome.Ending.TheVariants as audits
+use Rattle.m2v_audit.specs.declared.words.LimitKind.TheVariants as limits
+use Rattle.m2v_audit.specs.declared.records.TotalRecord.{TotalRecord}
+use Rattle.m2v_tool.specs.declared.audit.AuditWords.{AuditWords}
+use Rattle.m2v_tool.specs.declared.audit.AuditOutcome.{AuditOutcome}
+use Rattle.m2v_tool.specs.declared.audit.AuditOutcome.TheVariants.{Reported, Stopped}
 use Rattle.m2v_tool.specs.declared.flat.FlatOutcome.{FlatOutcome}
 use Rattle.m2v_tool.specs.declared.flat.FlatOutcome.TheVariants as flats
 use Rattle.m2v_tool.specs.declared.flat.FlatWords.{FlatWords}
@@ -47,17 +55,19 @@ use Rattle.m2v_tool.specs.declared.unpack.UnpackOutcome.{UnpackOutcome}
 use Rattle.m2v_tool.specs.declared.unpack.UnpackOutcome.TheVariants as unpacks
 use Rattle.m2v_tool.specs.declared.encode_y4m.Y4mOutcome.{Y4mOutcome}
 use Rattle.m2v_tool.specs.declared.encode_y4m.Y4mOutcome.TheVariants as texts
+use Rattle.m2v_model.specs.Pieces.{too_long, too_large}
 use Rattle.m2v_tool.specs.Endings.{Ending, Success, line_of, Told, whole, cut, unfit_ending, ending_past, stream_fault}
 use Rattle.m2v_tool.specs.EncodeWords.{Meant}
 use Rattle.m2v_tool.specs.Coding.{FlatDone, FlatComes, coding_stopped, flat_ending, flat_coded_ending}
 use Rattle.m2v_tool.specs.Encoding.{EncodeDone, EncodeComes, encoding_stopped, unopened_ending, encoded_ending, encode_ending}
 use Rattle.m2v_tool.specs.Decoding.{DecodeDone, DecodeComes, decoding_stopped, shown_ending, decode_ending}
 use Rattle.m2v_tool.specs.Checking.{CheckComes, HasPassed, lawful_ending, variable_ending, account_ending, verdict_ending, check_ending}
+use Rattle.m2v_tool.specs.Auditing.{AuditDone, AuditComes, clean_ending, found_ending, whole_ending, limit_ending, audited_ending, audit_ending}
 use Rattle.m2v_tool.specs.Making.{MakeComes, made_ending, making_stopped, make_ending}
 use Rattle.m2v_tool.specs.Cutting.{CutDone, CutComes, none_asked, cutting_stopped, cut_out_ending, cut_ending}
 use Rattle.m2v_tool.specs.Packing.{PackDone, PackComes, UnpackComes, y4m_fault, packed_ending, packing_stopped, unpacking_stopped, pack_ending, unpack_ending}
 use Rattle.m2v_tool.specs.Y4mCoding.{TextDone, Y4mComes, unread_ending, y4m_ending}
-use Rattle.m2v_tool.specs.Runs.{Run, work_of}
+use Rattle.m2v_tool.specs.Runs.{Run, work_of, NoneFailed, Succeeds}
 
 -- ---- what was told with status 0
 
@@ -240,6 +250,39 @@ text_done r m (texts.Encoded (encodes.Unfit u)) c t none = refused (unfit_ending
 text_done r m (texts.Encoded (encodes.Unopened e)) c t none = refused (unopened_ending e) r t (shut_stops e) none
 text_done r m (texts.Encoded (encodes.Stopped e)) c t none = refused (encoding_stopped e) r t (encode_stops e) none
 text_done r m (texts.Broken fault) c t none = refused (y4m_fault fault) r t (14, refl) none
+
+both_zero : (b c : ℕ) → nat_eq b 0 && nat_eq c 0 ≡ true → (b ≡ 0) × (c ≡ 0)
+both_zero b c is = let e = both_true (nat_eq b 0) (nat_eq c 0) is in (eqb-true b 0 e.0, eqb-true c 0 e.1)
+
+whole_done : (r : Run) (w : AuditWords) (t : TotalRecord) → AuditComes w r.input r.output (Reported (record { totals = t; ending = audits.Whole })) → Told (whole_ending t) r.status r.report
+    → r.status ≡ 0 → Success (AuditDone w r.input r.output) clean_ending r.report
+unfolding AuditComes whole_ending clean_ending found_ending
+whole_done r w t c told none = elim (cases_Bool (nat_eq t.breaches 0 && nat_eq t.failures 0)) [
+  | inl is ↦
+      let zeros = both_zero t.breaches t.failures is in
+      record {
+        outcome = t;
+        is = record { audited = c; breaches = zeros.0; failures = zeros.1 };
+        line = line (clean_ending t) r (subst (λ (b : Bool). Told (if b then clean_ending t else found_ending t) r.status r.report) is told) none;
+      }
+  | inr isnt ↦ refused (found_ending t) r (subst (λ (b : Bool). Told (if b then clean_ending t else found_ending t) r.status r.report) isnt told) (17, refl) none
+]
+
+pub audit_done : (r : Run) (w : AuditWords) (o : AuditOutcome) → AuditComes w r.input r.output o → Told (audit_ending o) r.status r.report → r.status ≡ 0
+    → Success (AuditDone w r.input r.output) clean_ending r.report
+unfolding audit_ending audited_ending limit_ending stream_fault ending_past
+audit_done r w (Reported (record { totals = t; ending = audits.Whole })) c told none = whole_done r w t c told none
+audit_done r w (Reported (record { totals = t; ending = audits.Fault f })) c told none = refused (stream_fault f) r told (8, refl) none
+audit_done r w (Reported (record { totals = t; ending = audits.Limit limits.TooLong })) c told none = refused (ending_past too_long) r told (12, refl) none
+audit_done r w (Reported (record { totals = t; ending = audits.Limit limits.TooLarge })) c told none = refused (ending_past too_large) r told (13, refl) none
+audit_done r w (Stopped e) c told none = refused (decoding_stopped e) r told (decode_stops e) none
+
+-- where no endpoint fails, success is told, unless memory runs out
+pub clean_told : (r : Run) (t : TotalRecord) → NoneFailed r → Told (clean_ending t) r.status r.report → Succeeds r
+unfolding clean_ending
+clean_told r t well (whole is g) = inl is
+clean_told r t well (cut (inl is) g) = inr is
+clean_told r t well (cut (inr is) g) = absurd (well.report is.0)
 
 -- ---- where memory ran out before the words were read
 

@@ -8,6 +8,7 @@ pub mod CuttingLaws
 pub mod PackingLaws
 pub mod DecodingLaws
 pub mod CheckingLaws
+pub mod AuditingLaws
 pub mod EncodingLaws
 pub mod Y4mCodingLaws
 pub mod MakingLaws

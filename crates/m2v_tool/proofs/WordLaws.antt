@@ -6,11 +6,13 @@ use Rattle.clap.specs.Walk.{Text}
 use Rattle.m2v_y4m.specs.declared.header.Y4mHeader.{Y4mHeader}
 use Rattle.m2v_tool.specs.declared.flat.FlatWords.{FlatWords}
 use Rattle.m2v_tool.specs.declared.encode.EncodeWords.{EncodeWords}
+use Rattle.m2v_tool.specs.declared.audit.AuditWords.{AuditWords}
 use Rattle.m2v_tool.specs.declared.cut.CutWords.{CutWords}
 use Rattle.m2v_tool.specs.declared.command.Command.{Command}
-use Rattle.m2v_tool.specs.declared.command.Command.TheVariants.{Flat, Encode, Decode, Check, Make, Cut, Pack, Unpack, EncodeY4m}
+use Rattle.m2v_tool.specs.declared.command.Command.TheVariants.{Flat, Encode, Decode, Check, Audit, Make, Cut, Pack, Unpack, EncodeY4m}
 use Rattle.m2v_tool.specs.EncodeWords.{encode_meant, words_of}
 use Rattle.m2v_tool.specs.Decoding.{decode_meant}
+use Rattle.m2v_tool.specs.Auditing.{audit_meant}
 use Rattle.m2v_tool.specs.Making.{make_meant}
 use Rattle.m2v_tool.specs.Cutting.{cut_meant}
 use Rattle.m2v_tool.specs.Packing.{pack_meant}
@@ -24,6 +26,7 @@ data Kind : Type 0 where
   encodes : Kind
   decodes : Kind
   checks : Kind
+  audits : Kind
   makes : Kind
   cuts : Kind
   packs : Kind
@@ -35,6 +38,7 @@ kind_of (Flat w) = flats
 kind_of (Encode w) = encodes
 kind_of (Decode workers) = decodes
 kind_of Check = checks
+kind_of (Audit w) = audits
 kind_of (Make seed) = makes
 kind_of (Cut w) = cuts
 kind_of (Pack h) = packs
@@ -48,6 +52,7 @@ kind_named name =
     else if bytes_eq name (codes "encode") then encodes
     else if bytes_eq name (codes "decode") then decodes
     else if bytes_eq name (codes "check") then checks
+    else if bytes_eq name (codes "audit") then audits
     else if bytes_eq name (codes "make") then makes
     else if bytes_eq name (codes "cut") then cuts
     else if bytes_eq name (codes "pack") then packs
@@ -59,6 +64,7 @@ by_name name others (Flat w) m = ap kind_named m.0
 by_name name others (Encode w) m = ap kind_named m.0
 by_name name others (Decode workers) m = ap kind_named m.0
 by_name name others Check m = ap kind_named m.0
+by_name name others (Audit w) m = ap kind_named m.0
 by_name name others (Make seed) m = ap kind_named m.0
 by_name name others (Cut w) m = ap kind_named m.0
 by_name name others (Pack h) m = ap kind_named m.0
@@ -71,6 +77,7 @@ Payload flats = FlatWords
 Payload encodes = EncodeWords
 Payload decodes = ℕ
 Payload checks = Unit {0}
+Payload audits = AuditWords
 Payload makes = ℕ
 Payload cuts = CutWords
 Payload packs = Y4mHeader
@@ -82,6 +89,7 @@ payload (Flat w) = w
 payload (Encode w) = w
 payload (Decode workers) = workers
 payload Check = tt
+payload (Audit w) = w
 payload (Make seed) = seed
 payload (Cut w) = w
 payload (Pack h) = h
@@ -94,6 +102,7 @@ command_of flats w = Flat w
 command_of encodes w = Encode w
 command_of decodes workers = Decode workers
 command_of checks u = Check
+command_of audits w = Audit w
 command_of makes seed = Make seed
 command_of cuts w = Cut w
 command_of packs h = Pack h
@@ -105,6 +114,7 @@ again (Flat w) = refl
 again (Encode w) = refl
 again (Decode workers) = refl
 again Check = refl
+again (Audit w) = refl
 again (Make seed) = refl
 again (Cut w) = refl
 again (Pack h) = refl
@@ -117,6 +127,7 @@ Says flats others w = flat_meant others ≡ Some w
 Says encodes others w = encode_meant others ≡ Some (words_of w)
 Says decodes others workers = decode_meant others ≡ Some workers
 Says checks others u = Unit {0}
+Says audits others w = audit_meant others ≡ Some w
 Says makes others seed = make_meant others ≡ Some seed
 Says cuts others w = cut_meant others ≡ Some w
 Says packs others h = pack_meant others ≡ Some h
@@ -128,6 +139,7 @@ said name others (Flat w) m = m.1
 said name others (Encode w) m = m.1
 said name others (Decode workers) m = m.1
 said name others Check m = tt
+said name others (Audit w) m = m.1
 said name others (Make seed) m = m.1
 said name others (Cut w) m = m.1
 said name others (Pack h) m = m.1
@@ -149,6 +161,7 @@ module _ (P : Command → Type 0) (alike : (v w : EncodeWords) → words_of v �
   one_payload encodes others x y f g p = alike x y (one_some _ (words_of x) (words_of y) f g) p
   one_payload decodes others x y f g p = subst (λ (n : ℕ). P (Decode n)) (one_some _ x y f g) p
   one_payload checks others x y f g p = p
+  one_payload audits others x y f g p = subst (λ (w : AuditWords). P (Audit w)) (one_some _ x y f g) p
   one_payload makes others x y f g p = subst (λ (n : ℕ). P (Make n)) (one_some _ x y f g) p
   one_payload cuts others x y f g p = subst (λ (w : CutWords). P (Cut w)) (one_some _ x y f g) p
   one_payload packs others x y f g p = subst (λ (h : Y4mHeader). P (Pack h)) (one_some _ x y f g) p

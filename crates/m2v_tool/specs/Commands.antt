@@ -3,6 +3,7 @@ use Rattle.std.specs.Prelude.{ℕ, List}
 use Rattle.m2v_tool.specs.declared.flat.FlatWords.{FlatWords}
 use Rattle.m2v_tool.specs.declared.encode.EncodeWords.{EncodeWords}
 use Rattle.m2v_y4m.specs.declared.header.Y4mHeader.{Y4mHeader}
+use Rattle.m2v_tool.specs.declared.audit.AuditWords.{AuditWords}
 use Rattle.m2v_tool.specs.declared.cut.CutWords.{CutWords}
 use Rattle.m2v_tool.specs.declared.command.Command.{Command}
 use Rattle.m2v_tool.specs.declared.command.Command.TheVariants as commands
@@ -16,6 +17,7 @@ use Rattle.m2v_tool.specs.EncodeWords.{words_of}
 use Rattle.m2v_tool.specs.Encoding.{EncodeComes, EncodeKeeps, encode_ending}
 use Rattle.m2v_tool.specs.Decoding.{DecodeComes, DecodeKeeps, decode_ending}
 use Rattle.m2v_tool.specs.Checking.{CheckComes, CheckKeeps, check_ending}
+use Rattle.m2v_tool.specs.Auditing.{AuditComes, AuditKeeps, audit_ending}
 use Rattle.m2v_tool.specs.Making.{MakeComes, MakeKeeps, make_ending}
 use Rattle.m2v_tool.specs.Cutting.{CutComes, CutKeeps, cut_ending}
 use Rattle.m2v_tool.specs.Y4mCoding.{Y4mComes, Y4mKeeps, y4m_ending}
@@ -36,6 +38,9 @@ Comes words k (outcomes.Decode o) =
     × k.recon.Unchanged
 Comes words k (outcomes.Check o) =
     Means words commands.Check × CheckComes k.input o × k.output.Unchanged × k.recon.Unchanged
+Comes words k (outcomes.Audit o) =
+    (w : AuditWords) × Means words (commands.Audit w) × AuditComes w k.input k.output o
+    × k.recon.Unchanged
 Comes words k (outcomes.Make o) =
     (seed : ℕ) × Means words (commands.Make seed) × MakeComes seed k.output o
     × k.input.Unchanged × k.recon.Unchanged
@@ -58,6 +63,7 @@ ending_of (outcomes.Flat o) = flat_ending o
 ending_of (outcomes.Encode o) = encode_ending o
 ending_of (outcomes.Decode o) = decode_ending o
 ending_of (outcomes.Check o) = check_ending o
+ending_of (outcomes.Audit o) = audit_ending o
 ending_of (outcomes.Make o) = make_ending o
 ending_of (outcomes.Cut o) = cut_ending o
 ending_of (outcomes.Pack o) = pack_ending o
@@ -70,6 +76,7 @@ Keeps (commands.Flat w) r = FlatKeeps w r
 Keeps (commands.Encode w) r = EncodeKeeps (words_of w) r
 Keeps (commands.Decode workers) r = DecodeKeeps workers r
 Keeps commands.Check r = CheckKeeps r
+Keeps (commands.Audit w) r = AuditKeeps w r
 Keeps (commands.Make seed) r = MakeKeeps seed r
 Keeps (commands.Cut w) r = CutKeeps w r
 Keeps (commands.Pack h) r = PackKeeps h r

@@ -3,10 +3,9 @@ use Rattle.std.specs.Prelude.{ℕ, ◌≡◌, ◌⊎◌, ◌==◌, List, [], ◌
 use Rattle.m2v_port.specs.Ends.{Change}
 use Rattle.m2v_port.specs.Port.{Grows, GrowsByPrefix}
 use Rattle.m2v_set.specs.declared.unfit.Unfit.{Unfit}
-use Rattle.m2v_model.specs.declared.fault.FaultKind.{FaultKind}
-use Rattle.m2v_model.specs.declared.fault.FaultKind.TheVariants as kinds
 use Rattle.m2v_model.specs.Pieces.{Limit, too_long, too_large}
 use Rattle.m2v_dec_piece.specs.declared.answer.Fault.{Fault}
+use Rattle.m2v_audit.specs.FaultWords.{fault_word}
 use Rattle.m2v_tool.specs.declared.report.Report.{Report}
 
 -- a status, and the texts and the numbers of its line, one text before each number
@@ -92,30 +91,10 @@ unfoldable pub ending_past : Limit → Ending
 ending_past too_long = plain 13 (codes "too long")
 ending_past too_large = plain 14 (codes "picture too large")
 
--- the name of a kind of fault
-unfoldable pub name_of : FaultKind → List ℕ
-name_of kinds.NoSequence = codes "NoSequence"
-name_of kinds.NotMpeg2 = codes "NotMpeg2"
-name_of kinds.Unsupported = codes "Unsupported"
-name_of kinds.Truncated = codes "Truncated"
-name_of kinds.NoCode = codes "NoCode"
-name_of kinds.BadMarker = codes "BadMarker"
-name_of kinds.Forbidden = codes "Forbidden"
-name_of kinds.SequenceChanged = codes "SequenceChanged"
-name_of kinds.SliceOrder = codes "SliceOrder"
-name_of kinds.MissingMacroblocks = codes "MissingMacroblocks"
-name_of kinds.SkipRule = codes "SkipRule"
-name_of kinds.VectorRange = codes "VectorRange"
-name_of kinds.VectorOutside = codes "VectorOutside"
-name_of kinds.Overrun = codes "Overrun"
-name_of kinds.DcRange = codes "DcRange"
-name_of kinds.MissingReference = codes "MissingReference"
-name_of kinds.FieldPair = codes "FieldPair"
-
 -- of a stream with this first fault
 unfoldable pub stream_fault : Fault → Ending
 stream_fault f = record {
   status = 9;
-  texts = ((codes "stream " ++ name_of f.kind) ++ codes " at bit ") ∷ [];
+  texts = ((codes "stream " ++ fault_word f.kind) ++ codes " at bit ") ∷ [];
   numbers = f.place ∷ [];
 }

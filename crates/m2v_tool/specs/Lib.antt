@@ -7,6 +7,7 @@ pub mod Inputs
 pub mod Coding
 pub mod Decoding
 pub mod Checking
+pub mod Auditing
 pub mod Encoding
 pub mod Making
 pub mod Commands

@@ -4,6 +4,7 @@ ghost use Rattle.m2v_tool.specs.Endings.{IsReport};
 ghost use Rattle.m2v_tool.specs.Words.{Means, MeansBy, NoCommand};
 ghost use Rattle.m2v_tool.specs.Commands.{ending_of};
 
+use crate::audit::{AuditOutcome, AuditWords, audit_words};
 use crate::check::{CheckOutcome, check_words};
 use crate::cut::{CutOutcome, CutWords, cut_words};
 use crate::decode::{DecodeOutcome, decode_words};
@@ -28,6 +29,8 @@ pub enum Command {
     Decode(u32),
     /// A stream is judged.
     Check,
+    /// All that is wrong with a stream is reported.
+    Audit(AuditWords),
     /// The stream of a seed is made.
     Make(u64),
     /// Groups of a stream are copied.
@@ -55,6 +58,8 @@ pub enum Outcome {
     Decode(DecodeOutcome),
     /// What came of `check`.
     Check(CheckOutcome),
+    /// What came of `audit`.
+    Audit(AuditOutcome),
     /// What came of `make`.
     Make(MakeOutcome),
     /// What came of `cut`.
@@ -80,6 +85,7 @@ impl Outcome {
             Outcome::Encode(outcome) => outcome.report(alloc),
             Outcome::Decode(outcome) => outcome.report(alloc),
             Outcome::Check(outcome) => outcome.report(alloc),
+            Outcome::Audit(outcome) => outcome.report(alloc),
             Outcome::Make(outcome) => outcome.report(alloc),
             Outcome::Cut(outcome) => outcome.report(alloc),
             Outcome::Pack(outcome) => outcome.report(alloc),
@@ -112,6 +118,10 @@ fn meant_by(alloc: Global, name: &str, others: &[String]) -> Result<Option<Comma
             let taken = check_words(alloc, others)?;
             Ok(taken.then_some(Command::Check))
         }
+        "audit" => match audit_words(alloc, others)? {
+            Some(meant) => Ok(Some(Command::Audit(meant))),
+            None => Ok(None),
+        },
         "make" => match make_words(alloc, others)? {
             Some(seed) => Ok(Some(Command::Make(seed))),
             None => Ok(None),

@@ -1,6 +1,7 @@
 //! The program: its command words, its one call `run`, and its report lines.
 #![tactic(auto)]
 
+mod audit;
 mod check;
 mod command;
 mod cut;

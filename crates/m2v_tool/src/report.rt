@@ -1,10 +1,10 @@
 ghost use Rattle.std.specs.Prelude.{◌≡◌, ◌++◌, [], ◌==◌, codes, decimal, map, length, nat_lt, slice_index, if◌then◌else◌, IfOk, OnOk};
 ghost use Rattle.m2v_model.specs.Pieces.{too_large, too_long};
-ghost use Rattle.m2v_tool.specs.Endings.{IsReport, ending_past, line_text, name_of, no_frames, no_memory, read_fault, short_frame, stream_fault, too_many_frames, unfit_ending, usage, write_fault};
+ghost use Rattle.m2v_tool.specs.Endings.{IsReport, ending_past, line_text, no_frames, no_memory, read_fault, short_frame, stream_fault, too_many_frames, unfit_ending, usage, write_fault};
 
 use itoa::Buffer;
+use m2v_audit::fault_word;
 use m2v_cut::decode::Fault;
-use m2v_model::FaultKind;
 use m2v_set::Unfit;
 use std::alloc::{AllocError, Global};
 
@@ -120,35 +120,9 @@ pub(crate) fn stream_fault(alloc: Global, fault: &Fault) -> Result<Report, Alloc
     ensures { IfOk result (λ r. IsReport r (stream_fault fault.now)) }
 {
     let mut text = String::from_str(alloc, "stream ")?;
-    text.push_str(name_of(fault.kind))?;
+    text.push_str(fault_word(fault.kind))?;
     text.push_str(" at bit ")?;
     Report::new(alloc, 9, &[text.as_str()], &[u128::from(fault.place)])
-}
-
-/// The name of a kind of fault.
-#[tactic(auto, unfolding(crate::specs::Endings::name_of))]
-fn name_of(kind: FaultKind) -> &'static str
-    ensures { result.now ≡ name_of kind }
-{
-    match kind {
-        FaultKind::NoSequence => "NoSequence",
-        FaultKind::NotMpeg2 => "NotMpeg2",
-        FaultKind::Unsupported => "Unsupported",
-        FaultKind::Truncated => "Truncated",
-        FaultKind::NoCode => "NoCode",
-        FaultKind::BadMarker => "BadMarker",
-        FaultKind::Forbidden => "Forbidden",
-        FaultKind::SequenceChanged => "SequenceChanged",
-        FaultKind::SliceOrder => "SliceOrder",
-        FaultKind::MissingMacroblocks => "MissingMacroblocks",
-        FaultKind::SkipRule => "SkipRule",
-        FaultKind::VectorRange => "VectorRange",
-        FaultKind::VectorOutside => "VectorOutside",
-        FaultKind::Overrun => "Overrun",
-        FaultKind::DcRange => "DcRange",
-        FaultKind::MissingReference => "MissingReference",
-        FaultKind::FieldPair => "FieldPair",
-    }
 }
 
 /// Texts and numbers in turn, and a newline.

@@ -3,6 +3,7 @@ ghost use Rattle.m2v_port.specs.Ends.{change, SinkStays};
 ghost use Rattle.m2v_tool.specs.Endings.{Told};
 ghost use Rattle.m2v_tool.specs.Commands.{Comes, Kept, ending_of};
 
+use crate::audit::audited;
 use crate::check::judged;
 use crate::command::{Command, Outcome, meaning};
 use crate::cut::cut_out;
@@ -58,6 +59,7 @@ fn carried_out<R: Threads + Wait + Sync, S: Source, K: Sink, N: NamedSink, G: Ga
             Outcome::Decode(decoded(rt, alloc, workers, input, output, gate))
         }
         Ok(Some(Command::Check)) => Outcome::Check(judged(alloc, input)),
+        Ok(Some(Command::Audit(meant))) => Outcome::Audit(audited(alloc, &meant, input, output)),
         Ok(Some(Command::Make(seed))) => Outcome::Make(made(rt, alloc, seed, output, gate)),
         Ok(Some(Command::Cut(meant))) => Outcome::Cut(cut_out(alloc, &meant, input, output)),
         Ok(Some(Command::Pack(header))) => {
@@ -102,8 +104,9 @@ fn reported<E: Sink>(alloc: Global, outcome: &Outcome, report: &mut E) -> Status
 /// `words` are those behind the program's name. `flat W H CODE Q` codes the raw frames of `input`, 1 to 999,999 of them,
 /// each W by H samples, to `output` by the flat profile, with the frame rate code CODE and the quantiser code Q.
 /// `decode` decodes the stream of `input` (ISO/IEC 13818-2) and writes the frames that it shows to `output` as raw
-/// video, in display order, with workers that `rt` runs and `gate` lets in. `check` says of the stream of `input` whether it keeps the rules of its level, and whether the
-/// decoder's buffer bears it. `make SEED` writes a large lawful stream of a seed. `encode` codes the raw frames of `input`
+/// video, in display order, with workers that `rt` runs and `gate` lets in. `check` says of the stream of `input` whether
+/// it keeps the rules of its level, and whether the decoder's buffer bears it; `audit` writes to `output` all that is wrong
+/// with the sequences of `input`. `make SEED` writes a large lawful stream of a seed. `encode` codes the raw frames of `input`
 /// to `output` by its options, with workers that `rt` runs and `gate` lets in; where its words name a file, `recon` is
 /// opened under this name, and gets the frames that the stream decodes to. `cut FROM COUNT` copies whole groups of the
 /// stream of `input` to `output`, so many from number FROM on. `pack W H CODE` writes the raw frames of `input` as a

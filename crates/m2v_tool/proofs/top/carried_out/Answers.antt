@@ -64,3 +64,9 @@ unfolding Comes
 returns-in-Ok-Some-EncodeY4m-clause-comes g c =
     let read = c.in-Ok-Some-EncodeY4m in
     (_, means_of _ _ _ _ read.field-0-is read.field-0-0-is read.ensures.found, c.encoded_text.ensures.comes)
+
+pub returns-in-Ok-Some-Audit-clause-comes : goal.returns-in-Ok-Some-Audit-clause-comes
+unfolding Comes
+returns-in-Ok-Some-Audit-clause-comes g c =
+    let read = c.in-Ok-Some-Audit in
+    (_, means_of _ _ _ _ read.field-0-is read.field-0-0-is read.ensures.found, c.audited.ensures.comes, refl)

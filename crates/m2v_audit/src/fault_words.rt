@@ -6,7 +6,7 @@ use m2v_model::FaultKind;
 
 /// The word of a kind of fault (see `docs/BITSTREAM.md`).
 #[tactic(auto, unfolding(crate::specs::FaultWords::fault_word))]
-pub(crate) fn fault_word(kind: FaultKind) -> &'static str
+pub fn fault_word(kind: FaultKind) -> &'static str
     ensures { result.now ≡ word_of kind }
 {
     match kind {

@@ -1,0 +1,65 @@
+-- What follows from what `audit` did and what was told of it.
+use Rattle.std.proofs.Common.{◌≡◌, inl, inr, ℕ, List, Some, refl, sym, subst, ap, ◌∙◌, arith}
+use Rattle.m2v_port.specs.Ends.{Tells}
+use Rattle.m2v_port.proofs.Runs.{tells}
+use Rattle.m2v_cut.proofs.m2v_decode.AnswerLaws.{of_text}
+use Rattle.m2v_dec_piece.specs.declared.answer.DecodeError.{DecodeError}
+use Rattle.m2v_dec_piece.specs.declared.answer.DecodeError.TheVariants as errors
+use Rattle.m2v_audit.specs.declared.outcome.Outcome.{Outcome as Audit}
+use Rattle.m2v_audit.specs.Leading.{IsAudited, IsBegun, Fails}
+use Rattle.m2v_tool.specs.declared.audit.AuditWords.{AuditWords}
+use Rattle.m2v_tool.specs.declared.audit.AuditOutcome.{AuditOutcome}
+use Rattle.m2v_tool.specs.declared.audit.AuditOutcome.TheVariants.{Reported, Stopped}
+use Rattle.m2v_tool.specs.Endings.{Ending, Told, whole, cut}
+use Rattle.m2v_tool.specs.Decoding.{decoding_stopped}
+use Rattle.m2v_tool.specs.Auditing.{name_of_rules, outcome_of, AuditComes, clean_ending, reported_ending, audit_ending, AuditAnswer, AuditKeeps}
+use Rattle.m2v_tool.specs.Runs.{Run, work_of, IsUntouched, Yields, NoneFailed, Succeeds}
+use Rattle.m2v_tool.proofs.EndingLaws.{refusal, or_memory}
+use Rattle.m2v_tool.proofs.DoneLaws.{audit_done, no_success, clean_told}
+
+module _ (r : Run) (w : AuditWords) where
+  module _ (text : List ℕ) (told : r.input.old ≡ Some text) where
+    -- the answer to the text
+    abbrev Said : Type 0
+    Said = AuditAnswer r w text
+
+    reported_as : (o : Audit) → IsAudited w.pictures (name_of_rules w.rules) text r.output o → Told (reported_ending o) r.status r.report → Said
+    reported_as o i t = record { report = i.grown; told = subst (λ (x : Audit). Told (reported_ending x) r.status r.report) i.outcome t }
+
+    stopped_as : (e : DecodeError) → Fails w.pictures (name_of_rules w.rules) r.input r.output e → Told (decoding_stopped e) r.status r.report → Yields r Said
+    unfolding decoding_stopped
+    stopped_as errors.Read c t = or_memory r Said 7 (refusal (decoding_stopped errors.Read) r.status 7 r.report t refl refl) (λ is. Yields.read is c.0)
+    stopped_as errors.Write c t = or_memory r Said 8 (refusal (decoding_stopped errors.Write) r.status 8 r.report t refl refl) (λ is. Yields.write is c.0)
+    stopped_as (errors.Stream f) c t = absurd c
+    stopped_as errors.TooLong c t = absurd c
+    stopped_as errors.PictureTooLarge c t = absurd c
+    stopped_as errors.Memory c t = or_memory r Said 12 (refusal (decoding_stopped errors.Memory) r.status 12 r.report t refl refl) (λ is. Yields.memory is)
+
+    answer_at : (o : AuditOutcome) → AuditComes w r.input r.output o → Told (audit_ending o) r.status r.report → Yields r Said
+    unfolding AuditComes audit_ending
+    answer_at (Reported o) c t =
+        Yields.said (reported_as o (of_text r.input (λ bytes. IsAudited w.pictures (name_of_rules w.rules) bytes r.output o) text told c) t)
+    answer_at (Stopped e) c t = stopped_as e c t
+
+    clean_as : reported_ending (outcome_of w text) ≡ clean_ending (outcome_of w text).totals → NoneFailed r → Yields r Said → Succeeds r
+    clean_as is well (Yields.said a) = clean_told r (outcome_of w text).totals well (subst (λ (e : Ending). Told e r.status r.report) is a.told)
+    clean_as is well (Yields.read seven f) = absurd (well.input f)
+    clean_as is well (Yields.write eight f) = absurd (well.output f)
+    clean_as is well (Yields.memory twelve) = inr twelve
+
+  pub audit_keeps : (o : AuditOutcome) → AuditComes w r.input r.output o → Told (audit_ending o) r.status r.report → AuditKeeps w r
+  audit_keeps o c t = record {
+    done = audit_done r w o c t;
+    answer = tells r.input (λ text. Yields r (AuditAnswer r w text)) (λ text told. answer_at text told o c t);
+    clean = tells r.input (λ text. reported_ending (outcome_of w text) ≡ clean_ending (outcome_of w text).totals → NoneFailed r → Succeeds r)
+        (λ text told is well. clean_as text told is well (answer_at text told o c t));
+  }
+
+  -- where memory ran out before the words were read
+  pub audit_unread : IsUntouched (work_of r) → r.status ≡ 12 → AuditKeeps w r
+  audit_unread untouched is = record {
+    done = no_success r is;
+    answer = tells r.input (λ text. Yields r (AuditAnswer r w text)) (λ text told. Yields.memory is);
+    clean = tells r.input (λ text. reported_ending (outcome_of w text) ≡ clean_ending (outcome_of w text).totals → NoneFailed r → Succeeds r)
+        (λ text told e well. inr is);
+  }
