@@ -1,1 +1,2 @@
 pub mod PartsJoined
+pub mod PartsFound

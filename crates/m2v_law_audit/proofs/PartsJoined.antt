@@ -1,6 +1,6 @@
 -- Lines that come one after another: what they tell, and what is counted of it.
-use Rattle.std.proofs.Common.{◌≡◌, ℕ, ◌+◌, ◌-◌, ◌^◌, ◌≤◌, Bool, true, false, List, [], ◌∷◌, ◌++◌, length, refl, sym, ap, subst, ◌∙◌, append_assoc, arith, length-append}
-use Rattle.std.specs.Prelude.{min, if◌then◌else◌}
+use Rattle.std.proofs.Common.{◌≡◌, ℕ, suc, ◌+◌, ◌-◌, ◌^◌, ◌≤◌, Bool, true, false, List, [], ◌∷◌, ◌++◌, length, refl, sym, ap, subst, ◌∙◌, append_assoc, arith, length-append}
+use Rattle.std.specs.Prelude.{nat_eq, min, not, ◌&&◌, take, if◌then◌else◌}
 use Rattle.std.specs.List.{flat_map, AllByRecursion}
 use Rattle.std.proofs.lemmas.List.{append-nil}
 use Rattle.std.proofs.lemmas.Grind.{flat_map-append}
@@ -117,17 +117,51 @@ adds_counted t h e f = record {
   pictures = h.pictures;
 }
 
+-- a text of no lines came
+pub empty_adds : {n : ℕ} (r : Report) → IsOf n r → Adds r (with_text r []) [] []
+empty_adds r is = record {
+  text = [];
+  grown = refl;
+  tells = none_told;
+  breached = none_more r.tally.breaches is.breaches;
+  failed = none_more r.tally.failures is.failures;
+  sequence = refl;
+  pictures = refl;
+}
+
 -- ---- one line
 
 one_told : (p : Part) → IsPart p → Tells (text_of p) (breaches_in (p ∷ [])) (failures_in (p ∷ []))
 one_told p is = record { parts = p ∷ []; lines = sym (append-nil (text_of p)); each = (is, tt); are_breaches = refl; are_failures = refl }
 
+abbrev pub first_letter : List ℕ → ℕ
+first_letter [] = 0
+first_letter (c ∷ cs) = c
+
+taken : (n : ℕ) (line : List ℕ) → first_letter (take (suc n) line) ≡ first_letter line
+taken n [] = refl
+taken n (c ∷ cs) = refl
+
+-- neither `b` nor `f`
+abbrev pub is_another : ℕ → Bool
+is_another c = not (nat_eq c 98) && not (nat_eq c 102)
+
+is_other : (line : List ℕ) → is_another (first_letter line) ≡ true → IsPart (other line)
+is_other line e = (
+  λ breach.
+      let b : first_letter line ≡ 98 = sym (taken 6 line) ∙ ap first_letter breach in
+      let same : false ≡ true = ap is_another (sym b) ∙ e in absurd cc,
+  λ failure.
+      let f : first_letter line ≡ 102 = sym (taken 7 line) ∙ ap first_letter failure in
+      let same : false ≡ true = ap is_another (sym f) ∙ e in absurd cc,
+)
+
 -- a line that tells neither a breach nor a failure
-pub line_adds : {n : ℕ} (r : Report) (line : List ℕ) → IsOf n r → IsPart (other line) → Adds r (with_text r line) [] []
+pub line_adds : {n : ℕ} (r : Report) (line : List ℕ) → IsOf n r → is_another (first_letter line) ≡ true → Adds r (with_text r line) [] []
 line_adds r line of is = record {
   text = line;
   grown = refl;
-  tells = one_told (other line) is;
+  tells = one_told (other line) (is_other line is);
   breached = none_more r.tally.breaches of.breaches;
   failed = none_more r.tally.failures of.failures;
   sequence = refl;
@@ -135,7 +169,7 @@ line_adds r line of is = record {
 }
 
 -- the same where there is one
-pub maybe_adds : {n : ℕ} (b : Bool) (r : Report) (line : List ℕ) → IsOf n r → IsPart (other line) → Adds r (if b then with_text r line else r) [] []
+pub maybe_adds : {n : ℕ} (b : Bool) (r : Report) (line : List ℕ) → IsOf n r → is_another (first_letter line) ≡ true → Adds r (if b then with_text r line else r) [] []
 maybe_adds true r line of is = line_adds r line of is
 maybe_adds false r line of is = adds_none r of
 
