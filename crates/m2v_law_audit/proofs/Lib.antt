@@ -1,2 +1,3 @@
 pub mod PartsJoined
 pub mod PartsFound
+pub mod PartsPieces
