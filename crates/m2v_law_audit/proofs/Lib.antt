@@ -1,3 +1,5 @@
 pub mod PartsJoined
 pub mod PartsFound
 pub mod PartsPieces
+pub mod PartsKept
+pub mod ReportParts

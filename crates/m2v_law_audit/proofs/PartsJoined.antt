@@ -50,7 +50,7 @@ pub record IsOf (sequence : ℕ) (r : Report) : Type 0 where
   pub breaches : r.tally.breaches ≤ 2 ^ 64 - 1
   pub failures : r.tally.failures ≤ 2 ^ 64 - 1
 
-none_more : (n : ℕ) → n ≤ 2 ^ 64 - 1 → n ≡ more_by n 0
+pub none_more : (n : ℕ) → n ≤ 2 ^ 64 - 1 → n ≡ more_by n 0
 none_more n most = omega (arith, most)
 
 more_within : (n more : ℕ) → more_by n more ≤ 2 ^ 64 - 1
@@ -60,7 +60,7 @@ more_within n more = omega arith
 pub more_on : (n m k : ℕ) → more_by (more_by n m) k ≡ more_by n (m + k)
 more_on n m k = omega arith
 
-counted_on : {V : Type 0} (a b c : ℕ) (xs ys : List V) → b ≡ more_by a (length xs) → c ≡ more_by b (length ys) → c ≡ more_by a (length (xs ++ ys))
+pub counted_on : {V : Type 0} (a b c : ℕ) (xs ys : List V) → b ≡ more_by a (length xs) → c ≡ more_by b (length ys) → c ≡ more_by a (length (xs ++ ys))
 counted_on a b c xs ys e f = f ∙ ap (λ (n : ℕ). more_by n (length ys)) e ∙ more_on a (length xs) (length ys) ∙ ap (more_by a) (sym (length-append xs ys))
 
 -- ---- reports

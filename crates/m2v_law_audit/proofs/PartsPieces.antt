@@ -77,10 +77,10 @@ coded_adds {n} a p place bytes zeros of =
     let of_told : IsOf a.report.sequence told.report = of_then own before in
     adds_on before (place_adds (ends_frame p.note) told _ _ a.places p of_told refl refl)
 
-note_adds : {n : ℕ} (a : Auditing) (s : Option Sequence) (p : Option PictureNote) (place bytes zeros : ℕ) → IsOf n a.report → Adds a.report (with_note a s p place bytes zeros).report (note_found a s p) []
-note_adds a s None place bytes zeros of = adds_none a.report of
-note_adds a None (Some p) place bytes zeros of = adds_none a.report of
-note_adds a (Some s) (Some p) place bytes zeros of = coded_adds a (coded a s p) place bytes zeros of
+note_adds : {n : ℕ} (a : Auditing) (s : Option Sequence) (p : Option PictureNote) (place bytes ending : ℕ) → IsOf n a.report → Adds a.report (with_note a s p place bytes ending).report (note_found a s p) []
+note_adds a s None place bytes ending of = adds_none a.report of
+note_adds a None (Some p) place bytes ending of = adds_none a.report of
+note_adds a (Some s) (Some p) place bytes ending of = coded_adds a (coded a s p) place bytes ending of
 
 -- ---- removals
 
