@@ -3,3 +3,4 @@ pub mod PartsFound
 pub mod PartsPieces
 pub mod PartsKept
 pub mod ReportParts
+pub mod ReportStands
