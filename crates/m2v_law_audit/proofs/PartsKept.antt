@@ -18,7 +18,7 @@ use Rattle.m2v_audit.specs.declared.places.Waiting.{Waiting}
 use Rattle.m2v_audit.specs.declared.records.Finding.{Finding}
 use Rattle.m2v_audit.specs.declared.report.Rate.{Rate}
 use Rattle.m2v_audit.specs.Account.{Account, with_more as account_more}
-use Rattle.m2v_audit.specs.Auditing.{longer, begun, begun_by, with_header, sequences_of, with_headers, coded, counted, with_told, with_place, with_note, settled_by, fronted, pictured, after_piece}
+use Rattle.m2v_audit.specs.Auditing.{sequence_of, rate_with, longer, begun, begun_by, with_header, sequences_of, with_headers, coded, counted, with_told, with_place, with_note, settled_by, fronted, pictured, after_piece}
 use Rattle.m2v_audit.specs.Front.{front_of}
 use Rattle.m2v_audit.specs.Places.{anchor_misplaced, field_misplaced, waiting_in}
 use Rattle.m2v_law_audit.specs.Found.{found_misplaced, end_found, settled_in, left_in, piece_removals}
@@ -71,6 +71,15 @@ pub stays_after : (a : Auditing) (place : ℕ) (piece : List ℕ) (notes : Piece
     → beginning_of (after_piece a place piece notes) ≡ beginning_of a
 stays_after a place piece notes s e =
     kept_after a place piece notes ∙ ap (λ (f : Option Sequence). beginning_of (begun f (longer (length piece) a) place notes)) e
+
+-- the sequence begins with the first sequence header of a piece
+pub begun_with : (a : Auditing) (place : ℕ) (piece : List ℕ) (notes : PieceNotes) (s : SequenceInfo × SequenceExtension) (ss : List (SequenceInfo × SequenceExtension)) → a.first ≡ None → notes.sequences ≡ s ∷ ss
+    → beginning_of (after_piece a place piece notes) ≡ (Some (sequence_of s), rate_with (sequence_of s) notes.picture)
+begun_with a place piece notes s ss none e =
+    let b : Auditing = longer (length piece) a in
+    kept_after a place piece notes
+    ∙ ap (λ (f : Option Sequence). beginning_of (begun f b place notes)) none
+    ∙ ap (λ (l : List (SequenceInfo × SequenceExtension)). beginning_of (begun_by b place (slice_get l 0) notes.picture)) e
 
 -- ---- where no sequence began
 

@@ -3,13 +3,13 @@ use Rattle.std.proofs.Common.{◌≡◌, ℕ, ◌+◌, ◌-◌, ◌*◌, Bool, t
 use Rattle.m2v_bits.specs.Syntax.{seq, bind, rule, done}
 use Rattle.m2v_model.specs.declared.fault.FaultKind.{FaultKind}
 use Rattle.m2v_model.specs.declared.fault.FaultKind.TheVariants.{NoSequence}
+use Rattle.m2v_model.specs.States.{none_waits}
 use Rattle.m2v_model.specs.Streams.{Sofar, text_end}
 use Rattle.m2v_model.specs.Pictures.{Events}
 use Rattle.m2v_model.specs.Pieces.{pieces, before_pieces, Limit}
 use Rattle.m2v_model.specs.PieceNotes.{notes_of}
 use Rattle.m2v_model.specs.Decoding.{Stream, frames_of}
 use Rattle.m2v_model.specs.ByPieces.{Between, Course, at_start, behind as events_behind, unit_read, units_read, piece_read, end_of, end_read, text_ended, continued, text_read}
-use Rattle.m2v_model.specs.States.{none_waits}
 use Rattle.m2v_model.proofs.FlowLaws.{read_err}
 use Rattle.m2v_model.proofs.PieceLaws.{placed, piece_is, piece_none, rest_read, rest_none, rest_more, text_rest, by_pieces}
 use Rattle.m2v_model.proofs.Unique.{exactly_one}

@@ -1,11 +1,15 @@
 //! What stands in the report of a sequence, and that it stands so in the report of an input.
-ghost use Rattle.std.specs.Prelude.{◌≡◌, ℕ, Bool, List, length};
+ghost use Rattle.std.specs.Prelude.{◌≡◌, ℕ, ◌+◌, Bool, List, ◌∷◌, length, Ok};
 ghost use Rattle.std.specs.List.{flat_map};
+ghost use Rattle.m2v_model.specs.m2v_macroblock.m2v_head.declared.sequence.SequenceInfo.{SequenceInfo};
+ghost use Rattle.m2v_model.specs.m2v_macroblock.m2v_head.declared.sequence.SequenceExtension.{SequenceExtension};
 ghost use Rattle.m2v_model.specs.Pieces.{pieces};
+ghost use Rattle.m2v_model.specs.PieceNotes.{notes_of};
+ghost use Rattle.m2v_model.specs.Pictures.{Events};
 ghost use Rattle.m2v_model.specs.Streams.{Sofar};
 ghost use Rattle.m2v_model.specs.Decoding.{Stream};
-ghost use Rattle.m2v_model.specs.ByPieces.{at_start};
-ghost use Rattle.m2v_audit.specs.Auditing.{nothing};
+ghost use Rattle.m2v_model.specs.ByPieces.{Between, at_start, piece_read};
+ghost use Rattle.m2v_audit.specs.Auditing.{nothing, sequence_of, rate_with};
 ghost use Rattle.m2v_audit.specs.Audited.{Telling};
 ghost use Rattle.m2v_law_audit.specs.Sequences.{sequence_report, first_byte, PassNone, StandsIn};
 ghost use Rattle.m2v_law_audit.specs.Parts.{Tells, more_by};
@@ -20,7 +24,8 @@ pub fn law_sequence()
 {}
 
 /// The report of a sequence, whatever its text, tells the breaches of its pieces and of its end, and the failures of the
-/// removals that are told, in turn and no others; and it counts both.
+/// removals that are told, in turn and no others; and it counts both. How the buffer is filled is what the first sequence
+/// header of its first piece says, and that piece's picture.
 pub fn law_parts()
     ensures tells { (each : Bool) (number start : ℕ) (text : List ℕ) →
         let r = sequence_report each number start text in
@@ -39,4 +44,13 @@ pub fn law_parts()
         let removals = all_removals a at_start (first_byte start text) (pieces text) in
         let failures = flat_map (failures_of number r.kept.rate) removals in
         r.kept.report.tally.failures ≡ more_by 0 (length failures) }
+    ensures rate { (each : Bool) (number start : ℕ) (text p : List ℕ) (ps : List (List ℕ))
+        (x : Events × Between) (s : SequenceInfo × SequenceExtension)
+        (ss : List (SequenceInfo × SequenceExtension)) →
+        let at = first_byte start text in
+        let notes = notes_of at p x.0 in
+        pieces text ≡ p ∷ ps → piece_read at_start (at + length p) p ≡ Ok x
+        → notes.sequences ≡ s ∷ ss
+        → (sequence_report each number start text).kept.rate
+        ≡ rate_with (sequence_of s) notes.picture }
 {}
