@@ -1,10 +1,10 @@
 -- What each call of a report adds to it: lines, and the breaches and failures that they tell.
-use Rattle.std.proofs.Common.{◌≡◌, ℕ, zero, suc, ◌+◌, Bool, true, false, List, [], ◌∷◌, ◌++◌, map, Option, Some, None, refl, sym, ap, subst, ◌∙◌}
+use Rattle.std.proofs.Common.{ℕ, zero, suc, Bool, true, false, List, [], ◌∷◌, ◌++◌, Option, Some, None, refl, sym, subst}
 use Rattle.std.specs.Prelude.{nat_eq, if◌then◌else◌}
 use Rattle.std.specs.List.{flat_map}
-use Rattle.std.proofs.lemmas.List.{append-nil, map-append}
+use Rattle.std.proofs.lemmas.List.{map-append}
 use Rattle.m2v_vbv.specs.declared.removed.Removed.{Removed}
-use Rattle.m2v_model.specs.Lawful.{Breach, Breaches, horizontal_rule, vertical_rule, intra_rule, crowd_rule, repeat_rule, progressive_rule, precision_rule}
+use Rattle.m2v_model.specs.Lawful.{Breaches, horizontal_rule, vertical_rule, intra_rule, crowd_rule, repeat_rule, progressive_rule, precision_rule}
 use Rattle.m2v_audit.specs.m2v_check.declared.coded.CodedPicture.{CodedPicture}
 use Rattle.m2v_audit.specs.m2v_check.Breaking.{numbered_of}
 use Rattle.m2v_audit.specs.declared.account.Due.{Due}
@@ -21,10 +21,10 @@ use Rattle.m2v_audit.specs.Account.{Account, Told}
 use Rattle.m2v_audit.specs.Auditing.{bit_of, with_rules, with_left}
 use Rattle.m2v_audit.specs.Findings.{broken_at, misplaced_at, with_breaches, with_misplaced, with_removals}
 use Rattle.m2v_audit.specs.Lines.{skipped_line, sequence_line, group_line, picture_line, held_line, count_line, end_line}
-use Rattle.m2v_audit.specs.Report.{Report, with_text, with_due, held_of, under_of, over_of, with_failure, with_held, with_under, with_over, with_removal, with_begin, with_group_line, with_picture_line, count_of, with_count, with_counts, end_of, with_end, with_breach}
+use Rattle.m2v_audit.specs.Report.{Report, with_text, with_due, held_of, under_of, over_of, with_failure, with_held, with_under, with_over, with_removal, with_begin, with_group_line, with_picture_line, count_of, with_counts, end_of, with_end, with_breach}
 use Rattle.m2v_law_audit.specs.Parts.{Adds}
 use Rattle.m2v_law_audit.specs.Found.{found_at, found_misplaced, failures_of, rules_of, left_in}
-use Rattle.m2v_law_audit.proofs.PartsJoined.{IsOf, adds_on, failures_on, of_then, adds_none, adds_counted, empty_adds, line_adds, maybe_adds, breach_adds, failure_adds}
+use Rattle.m2v_law_audit.proofs.PartsJoined.{IsOf, adds_on, of_then, adds_none, adds_counted, empty_adds, line_adds, maybe_adds, breach_adds, failure_adds}
 
 -- ---- breaches
 

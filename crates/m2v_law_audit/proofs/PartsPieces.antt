@@ -1,5 +1,5 @@
 -- What a piece of a sequence adds to its report, and the end of the sequence.
-use Rattle.std.proofs.Common.{◌≡◌, ℕ, ◌+◌, Bool, true, false, List, [], ◌∷◌, ◌++◌, length, Option, Some, None, refl, sym, ap, subst, ◌∙◌}
+use Rattle.std.proofs.Common.{◌≡◌, ℕ, ◌+◌, Bool, true, false, List, [], ◌∷◌, ◌++◌, length, Option, Some, None, refl, sym, subst}
 use Rattle.std.specs.Prelude.{slice_get, if◌then◌else◌}
 use Rattle.std.specs.List.{flat_map}
 use Rattle.std.proofs.lemmas.List.{append-nil}
@@ -20,13 +20,13 @@ use Rattle.m2v_audit.specs.declared.places.Places.{Places}
 use Rattle.m2v_audit.specs.declared.records.Finding.{Finding}
 use Rattle.m2v_audit.specs.declared.records.FailureRecord.{FailureRecord}
 use Rattle.m2v_audit.specs.Account.{Account, settled}
-use Rattle.m2v_audit.specs.Auditing.{sequence_of, longer, begun, begun_by, group_record, with_header, sequences_of, with_headers, coded, counted, waiting_of, picture_record, with_told, with_place, with_coded, with_note, bit_of, settled_by, fronted, pictured, after_piece, totals_of, with_left, finished}
-use Rattle.m2v_audit.specs.Findings.{with_breaches, with_misplaced}
+use Rattle.m2v_audit.specs.Auditing.{sequence_of, longer, begun, begun_by, group_record, with_header, sequences_of, with_headers, coded, counted, waiting_of, picture_record, with_told, with_coded, with_note, settled_by, fronted, pictured, after_piece, totals_of, finished}
+use Rattle.m2v_audit.specs.Findings.{with_misplaced}
 use Rattle.m2v_audit.specs.Front.{front_of}
 use Rattle.m2v_audit.specs.Places.{told_with_frame, told_at_close}
 use Rattle.m2v_audit.specs.Report.{Report, with_picture_line}
 use Rattle.m2v_law_audit.specs.Parts.{Adds}
-use Rattle.m2v_law_audit.specs.Found.{found_misplaced, header_found, headers_found, places_found, coded_found, note_found, piece_found, end_found, settled_in, left_in, piece_removals, failures_of}
+use Rattle.m2v_law_audit.specs.Found.{found_misplaced, header_found, headers_found, coded_found, note_found, piece_found, settled_in, left_in, piece_removals, failures_of}
 use Rattle.m2v_law_audit.proofs.PartsJoined.{IsOf, adds_on, failures_on, of_then, of_own, adds_none}
 use Rattle.m2v_law_audit.proofs.PartsFound.{breaches_add, misplaced_add, rules_add, removals_add, left_add, begin_adds, group_adds, picture_adds, end_adds}
 

@@ -1,5 +1,5 @@
 -- The report of a sequence tells what its pieces tell, and counts it.
-use Rattle.std.proofs.Common.{◌≡◌, ℕ, ◌+◌, ◌-◌, ◌^◌, ◌≤◌, Bool, List, [], ◌∷◌, ◌++◌, length, Option, Some, None, Result, Ok, Err, refl, sym, ap, subst, ◌∙◌, arith}
+use Rattle.std.proofs.Common.{◌≡◌, ℕ, ◌+◌, Bool, List, [], ◌∷◌, ◌++◌, length, Option, Some, None, Ok, Err, refl, sym, ap, subst, ◌∙◌, arith}
 use Rattle.std.specs.List.{flat_map}
 use Rattle.std.proofs.lemmas.Grind.{flat_map-append}
 use Rattle.m2v_model.specs.m2v_macroblock.m2v_head.declared.sequence.SequenceInfo.{SequenceInfo}
@@ -14,7 +14,7 @@ use Rattle.m2v_audit.specs.declared.records.Finding.{Finding}
 use Rattle.m2v_audit.specs.declared.records.FailureRecord.{FailureRecord}
 use Rattle.m2v_audit.specs.declared.report.Rate.{Rate}
 use Rattle.m2v_audit.specs.Account.{Told}
-use Rattle.m2v_audit.specs.Auditing.{nothing, sequence_of, rate_with, cleared, after_piece, ended, ended_by, finished}
+use Rattle.m2v_audit.specs.Auditing.{nothing, sequence_of, rate_with, cleared, after_piece, ended, ended_by}
 use Rattle.m2v_audit.specs.Report.{Report}
 use Rattle.m2v_law_audit.specs.Sequences.{SequenceReport, at_end, behind, by_piece, reported, first_byte, sequence_report}
 use Rattle.m2v_law_audit.specs.Parts.{Tells, more_by, Adds}
@@ -104,13 +104,13 @@ piece_reports a place piece notes r bs ts ready rest =
     let gone = piece_removals a place piece notes in
     let n = a.report.sequence in
     let here : flat_map (failures_of n b.rate) gone ≡ flat_map (failures_of n r.kept.rate) gone =
-        same_failures n b.first b.rate r.kept.rate gone (none_removed a place piece notes ready.bare) (λ s e. ap (λ (x : Option Sequence × Rate). x.1) (rest.stays s e)) in
+    same_failures n b.first b.rate r.kept.rate gone (none_removed a place piece notes ready.bare) (λ s e. ap (λ (x : Option Sequence × Rate). x.1) (rest.stays s e)) in
     let later : flat_map (failures_of b.report.sequence r.kept.rate) ts ≡ flat_map (failures_of n r.kept.rate) ts =
-        ap (λ (k : ℕ). flat_map (failures_of k r.kept.rate) ts) h.sequence in
+    ap (λ (k : ℕ). flat_map (failures_of k r.kept.rate) ts) h.sequence in
     let both : flat_map (failures_of n b.rate) gone ++ flat_map (failures_of b.report.sequence r.kept.rate) ts ≡ flat_map (failures_of n r.kept.rate) (gone ++ ts) =
-        ap (λ (l : List FailureRecord). l ++ flat_map (failures_of b.report.sequence r.kept.rate) ts) here
-        ∙ ap (λ (l : List FailureRecord). flat_map (failures_of n r.kept.rate) gone ++ l) later
-        ∙ sym (flat_map-append (failures_of n r.kept.rate) gone ts) in
+    ap (λ (l : List FailureRecord). l ++ flat_map (failures_of b.report.sequence r.kept.rate) ts) here
+    ∙ ap (λ (l : List FailureRecord). flat_map (failures_of n r.kept.rate) gone ++ l) later
+    ∙ sym (flat_map-append (failures_of n r.kept.rate) gone ts) in
     record {
       tells = subst (λ (fs : List FailureRecord). Tells (b.report.text ++ r.lines) (found ++ bs) fs) both (both_tell (told_alone ready.text h) rest.tells);
       breaches = counted_on a.report.tally.breaches b.report.tally.breaches r.kept.report.tally.breaches found bs h.breached rest.breaches;

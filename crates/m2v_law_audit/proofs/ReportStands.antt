@@ -1,5 +1,5 @@
 -- The report of a stream without a fault stands in the report of an input, and what follows it behind.
-use Rattle.std.proofs.Common.{◌≡◌, ℕ, ◌+◌, ◌-◌, ◌*◌, Bool, true, false, cond, List, [], ◌∷◌, ◌++◌, length, Option, Some, None, Result, Ok, Err, refl, sym, ap, subst, ◌∙◌, append_assoc}
+use Rattle.std.proofs.Common.{◌≡◌, ℕ, ◌+◌, ◌-◌, ◌*◌, Bool, true, false, cond, List, [], ◌∷◌, ◌++◌, length, Option, Ok, Err, refl, sym, ap, subst, ◌∙◌, append_assoc}
 use Rattle.m2v_bits.specs.Syntax.{seq, bind, rule, done}
 use Rattle.m2v_model.specs.declared.fault.FaultKind.{FaultKind}
 use Rattle.m2v_model.specs.declared.fault.FaultKind.TheVariants.{NoSequence}
@@ -14,9 +14,9 @@ use Rattle.m2v_model.proofs.FlowLaws.{read_err}
 use Rattle.m2v_model.proofs.PieceLaws.{placed, piece_is, piece_none, rest_read, rest_none, rest_more, text_rest, by_pieces}
 use Rattle.m2v_model.proofs.Unique.{exactly_one}
 use Rattle.m2v_audit.specs.declared.auditing.Auditing.{Auditing}
-use Rattle.m2v_audit.specs.Auditing.{nothing, cleared, after_piece, ended}
-use Rattle.m2v_audit.specs.Audited.{Audited, Telling, then_comes, counted_with, unless_passed, piece_told, end_told, pieces_told, limit_at}
-use Rattle.m2v_law_audit.specs.Sequences.{SequenceReport, at_end, behind, by_piece, reported, first_byte, sequence_report, PassNone, StandsIn}
+use Rattle.m2v_audit.specs.Auditing.{nothing, cleared, after_piece}
+use Rattle.m2v_audit.specs.Audited.{Audited, Telling, then_comes, counted_with, unless_passed, piece_told, end_told, pieces_told}
+use Rattle.m2v_law_audit.specs.Sequences.{SequenceReport, behind, by_piece, reported, first_byte, PassNone, StandsIn}
 
 -- ---- a stream is read by its pieces
 
@@ -101,10 +101,10 @@ module _ (x : Telling) where
       let behind_it = came_behind z.0 (rest_read z.1 (before + length p) ps) y e in
       let told = after_piece a at p (notes_of at p z.0) in
       let next : pieces_told x false (cleared told) z.1 to ps ≡ told_with (reported (cleared told) z.1 to ps) (end_of to ps) =
-          rest (cleared told) z.1 false (before + length p) behind_it.0 behind_it.1 pass (λ none. refl) in
+      rest (cleared told) z.1 false (before + length p) behind_it.0 behind_it.1 pass (λ none. refl) in
       let own = reported (cleared told) z.1 to ps in
       let here : then_comes told.report.text (pieces_told x false (cleared told) z.1 to ps) ≡ told_with (behind told.report.text own) (end_of to ps) =
-          ap (then_comes told.report.text) next ∙ sym (then_on told.report.text own.lines _) in
+      ap (then_comes told.report.text) next ∙ sym (then_on told.report.text own.lines _) in
       subst (λ (r : Course). piece_told x a at p r (λ a' b'. pieces_told x false a' b' to ps) ≡ told_with (by_piece a at p r (λ a' b'. reported a' b' to ps)) (end_of to ps))
       (sym (piece_elsewhere b (before + length p) to p z is)) here
   piece_stands at p ps a b before y (Err f) is e pass rest = absurd cc
