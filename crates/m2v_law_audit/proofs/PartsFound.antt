@@ -25,6 +25,7 @@ use Rattle.m2v_audit.specs.Report.{Report, with_text, with_due, held_of, under_o
 use Rattle.m2v_law_audit.specs.Parts.{Adds}
 use Rattle.m2v_law_audit.specs.Found.{found_at, found_misplaced, failures_of, rules_of, left_in}
 use Rattle.m2v_law_audit.proofs.PartsJoined.{IsOf, adds_on, of_then, adds_none, adds_counted, empty_adds, line_adds, maybe_adds, breach_adds, failure_adds}
+use Rattle.m2v_law_audit.proofs.PartsLines.{skipped_is, sequence_is, group_is, picture_is, held_is, count_is, end_is}
 
 -- ---- breaches
 
@@ -56,7 +57,7 @@ rules_add {n} r constant p of =
 -- ---- removals
 
 held_adds : {n : ℕ} (r : Report) (rate : Rate) (d : Due) (t : Removed) → IsOf n r → Adds r (with_held r rate d t) [] []
-held_adds r rate d t of = maybe_adds r.pictures r (held_line (held_of r.sequence rate d t)) of refl
+held_adds r rate d t of = maybe_adds r.pictures r (held_line (held_of r.sequence rate d t)) of refl (held_is (held_of r.sequence rate d t))
 
 failed : {n : ℕ} (b : Bool) (r : Report) (f : ℕ → FailureRecord) → IsOf n r → Adds r (if b then with_failure r (f r.sequence) else r) [] (if b then f n ∷ [] else [])
 failed true r f of = subst (λ (k : ℕ). Adds r (with_failure r (f r.sequence)) [] (f k ∷ [])) of.is (failure_adds r (f r.sequence) of)
@@ -90,23 +91,23 @@ left_add r rate (Some x) of = removals_add r rate _ of
 
 skipped_adds : {n : ℕ} (b : Bool) (r : Report) (sequence start skipped : ℕ) → IsOf n r → Adds r (with_text r (if b then [] else skipped_line sequence start skipped)) [] []
 skipped_adds true r sequence start skipped of = empty_adds r of
-skipped_adds false r sequence start skipped of = line_adds r (skipped_line sequence start skipped) of refl
+skipped_adds false r sequence start skipped of = line_adds r (skipped_line sequence start skipped) of refl (skipped_is sequence start skipped)
 
 pub begin_adds : {n : ℕ} (r : Report) (skipped start : ℕ) (s : SequenceRecord) → IsOf n r → Adds r (with_begin r skipped start s) [] []
 begin_adds r skipped start s of =
     let first = skipped_adds (nat_eq skipped 0) r r.sequence start skipped of in
-    adds_on first (line_adds _ (sequence_line s) (of_then of first) refl)
+    adds_on first (line_adds _ (sequence_line s) (of_then of first) refl (sequence_is s))
 
 pub group_adds : {n : ℕ} (r : Report) (g : GroupRecord) → IsOf n r → Adds r (with_group_line r g) [] []
-group_adds r g of = maybe_adds r.pictures r (group_line g) of refl
+group_adds r g of = maybe_adds r.pictures r (group_line g) of refl (group_is g)
 
 pub picture_adds : {n : ℕ} (r : Report) (p : PictureRecord) → IsOf n r → Adds r (with_picture_line r p) [] []
-picture_adds r p of = maybe_adds r.pictures r (picture_line p) of refl
+picture_adds r p of = maybe_adds r.pictures r (picture_line p) of refl (picture_is p)
 
 -- how often a rule was broken, where it was
 counted : {n : ℕ} (none : Bool) (r : Report) (c : CountRecord) → IsOf n r → Adds r (if none then r else with_text r (count_line c)) [] []
 counted true r c of = adds_none r of
-counted false r c of = line_adds r (count_line c) of refl
+counted false r c of = line_adds r (count_line c) of refl (count_is c)
 
 counts_add : {n : ℕ} (rules : ℕ) (r : Report) → IsOf n r → Adds r (with_counts rules r) [] []
 unfolding with_counts
@@ -118,4 +119,4 @@ counts_add (suc rules) r of =
 pub end_adds : {n : ℕ} (r : Report) (totals : SequenceTotals) → IsOf n r → Adds r (with_end r totals) [] []
 end_adds r totals of =
     let first = counts_add 15 r of in
-    adds_on first (line_adds (with_counts 15 r) (end_line (end_of r totals)) (of_then of first) refl)
+    adds_on first (line_adds (with_counts 15 r) (end_line (end_of r totals)) (of_then of first) refl (end_is (end_of r totals)))

@@ -9,7 +9,7 @@ use Rattle.m2v_audit.specs.declared.records.FailureRecord.{FailureRecord}
 use Rattle.m2v_audit.specs.declared.report.Broken.{Broken}
 use Rattle.m2v_audit.specs.declared.tally.Tally.{Tally}
 use Rattle.m2v_audit.specs.Report.{Report, with_text, finding_of, with_breach, with_failure}
-use Rattle.m2v_law_audit.specs.Parts.{Part, breach, failure, other, text_of, IsPart, breaches_in, failures_in, Tells, more_by, Adds}
+use Rattle.m2v_law_audit.specs.Parts.{Part, breach, failure, other, text_of, IsLine, IsPart, breaches_in, failures_in, Tells, more_by, Adds}
 
 -- ---- two texts
 
@@ -146,8 +146,9 @@ taken n (c ∷ cs) = refl
 abbrev pub is_another : ℕ → Bool
 is_another c = not (nat_eq c 98) && not (nat_eq c 102)
 
-is_other : (line : List ℕ) → is_another (first_letter line) ≡ true → IsPart (other line)
-is_other line e = (
+is_other : (line : List ℕ) → is_another (first_letter line) ≡ true → IsLine line → IsPart (other line)
+is_other line e is = (
+  is,
   λ breach.
       let b : first_letter line ≡ 98 = sym (taken 6 line) ∙ ap first_letter breach in
       let same : false ≡ true = ap is_another (sym b) ∙ e in absurd cc,
@@ -157,11 +158,11 @@ is_other line e = (
 )
 
 -- a line that tells neither a breach nor a failure
-pub line_adds : {n : ℕ} (r : Report) (line : List ℕ) → IsOf n r → is_another (first_letter line) ≡ true → Adds r (with_text r line) [] []
-line_adds r line of is = record {
+pub line_adds : {n : ℕ} (r : Report) (line : List ℕ) → IsOf n r → is_another (first_letter line) ≡ true → IsLine line → Adds r (with_text r line) [] []
+line_adds r line of is one = record {
   text = line;
   grown = refl;
-  tells = one_told (other line) (is_other line is);
+  tells = one_told (other line) (is_other line is one);
   breached = none_more r.tally.breaches of.breaches;
   failed = none_more r.tally.failures of.failures;
   sequence = refl;
@@ -169,9 +170,9 @@ line_adds r line of is = record {
 }
 
 -- the same where there is one
-pub maybe_adds : {n : ℕ} (b : Bool) (r : Report) (line : List ℕ) → IsOf n r → is_another (first_letter line) ≡ true → Adds r (if b then with_text r line else r) [] []
-maybe_adds true r line of is = line_adds r line of is
-maybe_adds false r line of is = adds_none r of
+pub maybe_adds : {n : ℕ} (b : Bool) (r : Report) (line : List ℕ) → IsOf n r → is_another (first_letter line) ≡ true → IsLine line → Adds r (if b then with_text r line else r) [] []
+maybe_adds true r line of is one = line_adds r line of is one
+maybe_adds false r line of is one = adds_none r of
 
 pub breach_adds : {n : ℕ} (r : Report) (b : Broken) → IsOf n r → Adds r (with_breach r b) (finding_of n b ∷ []) []
 breach_adds {n} r b of = subst (λ (k : ℕ). Adds r (with_breach r b) (finding_of k b ∷ []) []) of.is (record {

@@ -5,4 +5,4 @@ mod laws;
 mod report_laws;
 
 pub use laws::law_nothing;
-pub use report_laws::{law_parts, law_sequence};
+pub use report_laws::{law_parts, law_sequence, law_told_by_lines};

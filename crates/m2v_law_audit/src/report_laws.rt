@@ -9,10 +9,13 @@ ghost use Rattle.m2v_model.specs.Pictures.{Events};
 ghost use Rattle.m2v_model.specs.Streams.{Sofar};
 ghost use Rattle.m2v_model.specs.Decoding.{Stream};
 ghost use Rattle.m2v_model.specs.ByPieces.{Between, at_start, piece_read};
+ghost use Rattle.m2v_audit.specs.declared.records.Finding.{Finding};
+ghost use Rattle.m2v_audit.specs.declared.records.FailureRecord.{FailureRecord};
 ghost use Rattle.m2v_audit.specs.Auditing.{nothing, sequence_of, rate_with};
 ghost use Rattle.m2v_audit.specs.Audited.{Telling};
 ghost use Rattle.m2v_law_audit.specs.Sequences.{sequence_report, first_byte, PassNone, StandsIn};
 ghost use Rattle.m2v_law_audit.specs.Parts.{Tells, more_by};
+ghost use Rattle.m2v_law_audit.specs.ByLines.{TellsByLines};
 ghost use Rattle.m2v_law_audit.specs.Found.{all_found, all_removals, failures_of};
 
 /// In the report of an input stands, for a text that is a stream without a fault and passes no limit, the report of its
@@ -53,4 +56,11 @@ pub fn law_parts()
         → notes.sequences ≡ s ∷ ss
         → (sequence_report each number start text).kept.rate
         ≡ rate_with (sequence_of s) notes.picture }
+{}
+
+/// Whatever breaches and failures a text tells: cut behind each newline, its lines that begin with `breach` are those of
+/// the breaches, in turn, and its lines that begin with `failure` those of the failures; so it hides no other.
+pub fn law_told_by_lines()
+    ensures { (text : List ℕ) (bs : List Finding) (fs : List FailureRecord) → Tells text bs fs
+        → TellsByLines text bs fs }
 {}
