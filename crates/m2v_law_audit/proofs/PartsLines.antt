@@ -87,6 +87,10 @@ failure_within failures.Big = refl
 
 -- ---- lines
 
+pub halves : (a b : Bool) → (a && b) ≡ true → (a ≡ true) × (b ≡ true)
+halves true b h = (refl, h)
+halves false b h = absurd cc
+
 -- a column whose word holds no newline
 abbrev is_plain : Column → Bool
 is_plain (number n) = true
@@ -105,10 +109,6 @@ columns_within [] e = refl
 columns_within (c ∷ cs) e =
     let both = halves (is_plain c) (list_all is_plain cs) e in
     list_all-append is_within (part_of c) (flat_map part_of cs) ∙ both_true (column_within c both.0) (columns_within cs both.1)
-  where
-    halves : (a b : Bool) → (a && b) ≡ true → (a ≡ true) × (b ≡ true)
-    halves true b h = (refl, h)
-    halves false b h = absurd cc
 
 line_is : (kind : List ℕ) (cs : List Column) → within kind ≡ true → list_all is_plain cs ≡ true → IsLine (line_of kind cs)
 line_is kind cs e f = record {

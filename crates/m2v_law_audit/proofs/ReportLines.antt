@@ -1,6 +1,6 @@
 -- A text of parts, line by line.
 use Rattle.std.proofs.Common.{◌≡◌, inl, inr, ℕ, Bool, true, false, List, [], ◌∷◌, ◌++◌, map, length, refl, sym, ap, ◌∙◌, append_assoc}
-use Rattle.std.specs.Prelude.{nat_eq, not, ◌&&◌, codes, take, if◌then◌else◌}
+use Rattle.std.specs.Prelude.{nat_eq, not, codes, take, if◌then◌else◌}
 use Rattle.std.specs.List.{flat_map, filter, list_all, AllByRecursion}
 use Rattle.std.proofs.lemmas.Bool.{cases_Bool, eqb-true}
 use Rattle.m2v_audit.specs.declared.records.Finding.{Finding}
@@ -8,13 +8,9 @@ use Rattle.m2v_audit.specs.declared.records.FailureRecord.{FailureRecord}
 use Rattle.m2v_audit.specs.Lines.{breach_line, failure_line}
 use Rattle.m2v_law_audit.specs.Parts.{Part, breach, failure, other, text_of, is_within, IsLine, IsPart, breaches_in, failures_in, Tells}
 use Rattle.m2v_law_audit.specs.ByLines.{before_lines, lines_of, begins, TellsByLines}
-use Rattle.m2v_law_audit.proofs.PartsLines.{breach_is, failure_is}
+use Rattle.m2v_law_audit.proofs.PartsLines.{halves, breach_is, failure_is}
 
 -- ---- a line, and what follows it
-
-halves : (a b : Bool) → (a && b) ≡ true → (a ≡ true) × (b ≡ true)
-halves true b h = (refl, h)
-halves false b h = absurd cc
 
 no_newline : (b : Bool) → not b ≡ true → b ≡ false
 no_newline true e = absurd cc
