@@ -1,5 +1,6 @@
 pub mod Sequences
 pub mod Parts
+pub mod ByLines
 pub mod Found
 pub mod Breaches
 pub mod Accounts

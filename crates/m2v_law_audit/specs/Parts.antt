@@ -1,6 +1,6 @@
 -- Lines of a report taken apart: those that tell a breach, those that tell a failure of the buffer, and others.
-use Rattle.std.specs.Prelude.{◌≡◌, ℕ, ◌+◌, ◌-◌, ◌^◌, min, List, [], ◌∷◌, ◌++◌, take, length, codes}
-use Rattle.std.specs.List.{flat_map, AllByRecursion}
+use Rattle.std.specs.Prelude.{◌≡◌, ℕ, ◌+◌, ◌-◌, ◌^◌, min, Bool, true, not, nat_eq, List, [], ◌∷◌, ◌++◌, take, length, codes}
+use Rattle.std.specs.List.{flat_map, list_all, AllByRecursion}
 use Rattle.m2v_audit.specs.declared.records.Finding.{Finding}
 use Rattle.m2v_audit.specs.declared.records.FailureRecord.{FailureRecord}
 use Rattle.m2v_audit.specs.Lines.{breach_line, failure_line}
@@ -16,11 +16,21 @@ text_of (breach f) = breach_line f
 text_of (failure f) = failure_line f
 text_of (other line) = line
 
--- a line that tells neither: its kind is another
+-- a byte other than a newline
+abbrev pub is_within : ℕ → Bool
+is_within c = not (nat_eq c 10)
+
+-- one line: a newline stands at its end, and none before
+pub record IsLine (line : List ℕ) : Type 0 where
+  pub front : List ℕ
+  pub whole : line ≡ front ++ codes "\n"
+  pub within : list_all is_within front ≡ true
+
+-- one line that tells neither: its kind is another
 abbrev pub IsPart : Part → Type 0
 IsPart (breach f) = Unit {0}
 IsPart (failure f) = Unit {0}
-IsPart (other line) = (take 7 line ≡ codes "breach\t" → ⊥) × (take 8 line ≡ codes "failure\t" → ⊥)
+IsPart (other line) = IsLine line × (take 7 line ≡ codes "breach\t" → ⊥) × (take 8 line ≡ codes "failure\t" → ⊥)
 
 abbrev pub breaches_in : List Part → List Finding
 breaches_in [] = []

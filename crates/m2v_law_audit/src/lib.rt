@@ -2,5 +2,7 @@
 #![tactic(auto)]
 
 mod laws;
+mod report_laws;
 
 pub use laws::law_nothing;
+pub use report_laws::{law_parts, law_sequence, law_told_by_lines};

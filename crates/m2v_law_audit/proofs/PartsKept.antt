@@ -1,0 +1,159 @@
+-- What stays of a sequence behind a piece; and that nothing waits to be told where none began.
+use Rattle.std.proofs.Common.{◌≡◌, ℕ, ◌+◌, ◌*◌, Bool, true, false, List, [], ◌∷◌, ◌++◌, length, Option, Some, None, refl, sym, ap, ◌∙◌}
+use Rattle.std.specs.Prelude.{slice_get, if◌then◌else◌}
+use Rattle.std.specs.Option.{option_map}
+use Rattle.m2v_model.specs.m2v_macroblock.m2v_head.declared.sequence.SequenceInfo.{SequenceInfo}
+use Rattle.m2v_model.specs.m2v_macroblock.m2v_head.declared.sequence.SequenceExtension.{SequenceExtension}
+use Rattle.m2v_model.specs.declared.state.Sequence.{Sequence}
+use Rattle.m2v_model.specs.declared.notes.PictureNote.{PictureNote}
+use Rattle.m2v_model.specs.Pieces.{zeros_last}
+use Rattle.m2v_model.specs.PieceNotes.{PieceNotes}
+use Rattle.m2v_audit.specs.m2v_check.declared.coded.CodedPicture.{CodedPicture}
+use Rattle.m2v_audit.specs.m2v_check.Running.{ends_frame}
+use Rattle.m2v_audit.specs.declared.auditing.Auditing.{Auditing}
+use Rattle.m2v_audit.specs.declared.headers.PieceHeader.{PieceHeader}
+use Rattle.m2v_audit.specs.declared.headers.PieceHeader.TheVariants as headers
+use Rattle.m2v_audit.specs.declared.places.WaitingFrame.{WaitingFrame}
+use Rattle.m2v_audit.specs.declared.places.Waiting.{Waiting}
+use Rattle.m2v_audit.specs.declared.report.Rate.{Rate}
+use Rattle.m2v_audit.specs.Account.{Account, with_more as account_more}
+use Rattle.m2v_audit.specs.Auditing.{sequence_of, rate_with, longer, begun, begun_by, with_header, sequences_of, with_headers, coded, counted, with_told, with_place, with_note, settled_by, fronted, pictured, after_piece}
+use Rattle.m2v_audit.specs.Front.{front_of}
+use Rattle.m2v_audit.specs.Places.{anchor_misplaced, field_misplaced, waiting_in}
+use Rattle.m2v_law_audit.specs.Found.{found_misplaced, end_found, settled_in, left_in, piece_removals}
+
+-- ---- the first sequence header, and how the buffer is filled
+
+abbrev pub beginning_of : Auditing → Option Sequence × Rate
+beginning_of a = (a.first, a.rate)
+
+by_place : (is_frame : Bool) (a b : Auditing) (v : Option Sequence × Rate) → beginning_of a ≡ v → beginning_of b ≡ v → beginning_of (if is_frame then a else b) ≡ v
+by_place true a b v x y = x
+by_place false a b v x y = y
+
+one_header : (a : Auditing) (h : PieceHeader) (s : Option (SequenceInfo × SequenceExtension)) → beginning_of (with_header a h s) ≡ beginning_of a
+unfolding with_header
+one_header a (headers.Sequence bit) None = refl
+one_header a (headers.Sequence bit) (Some s) = refl
+one_header a (headers.Group bit g) s = refl
+
+all_headers : (a : Auditing) (ss : List (SequenceInfo × SequenceExtension)) (k : ℕ) (hs : List PieceHeader) → beginning_of (with_headers a ss k hs) ≡ beginning_of a
+unfolding with_headers
+all_headers a ss k [] = refl
+all_headers a ss k (h ∷ hs) = all_headers (with_header a h (slice_get ss k)) ss (k + sequences_of h) hs ∙ one_header a h (slice_get ss k)
+
+placing : (a : Auditing) (p : CodedPicture) → beginning_of (with_place a p) ≡ beginning_of a
+placing a p = by_place (ends_frame p.note) _ _ (beginning_of a) refl refl
+
+noting : (a : Auditing) (s : Option Sequence) (n : Option PictureNote) (place bytes ending : ℕ) → beginning_of (with_note a s n place bytes ending) ≡ beginning_of a
+noting a s None place bytes ending = refl
+noting a None (Some n) place bytes ending = refl
+noting a (Some s) (Some n) place bytes ending = let p : CodedPicture = coded a s n in placing (with_told (counted a p) p bytes ending) p
+
+settling : (a : Auditing) (x : Option Account) → beginning_of (settled_by a x) ≡ beginning_of a
+settling a None = refl
+settling a (Some x) = refl
+
+-- they are those that it had when it began
+pub kept_after : (a : Auditing) (place : ℕ) (piece : List ℕ) (notes : PieceNotes)
+    → beginning_of (after_piece a place piece notes) ≡ beginning_of (begun a.first (longer (length piece) a) place notes)
+unfolding after_piece
+kept_after a place piece notes =
+    let b : Auditing = longer (length piece) a in
+    let c : Auditing = fronted b place piece notes in
+    let d : Auditing = pictured c place (length piece) (zeros_last piece) notes.picture in
+    settling d d.account
+    ∙ noting c c.sequence notes.picture place (length piece) (zeros_last piece)
+    ∙ all_headers (begun a.first b place notes) notes.sequences 0 (front_of place piece)
+
+pub stays_after : (a : Auditing) (place : ℕ) (piece : List ℕ) (notes : PieceNotes) (s : Sequence) → a.first ≡ Some s
+    → beginning_of (after_piece a place piece notes) ≡ beginning_of a
+stays_after a place piece notes s e =
+    kept_after a place piece notes ∙ ap (λ (f : Option Sequence). beginning_of (begun f (longer (length piece) a) place notes)) e
+
+-- the sequence begins with the first sequence header of a piece
+pub begun_with : (a : Auditing) (place : ℕ) (piece : List ℕ) (notes : PieceNotes) (s : SequenceInfo × SequenceExtension) (ss : List (SequenceInfo × SequenceExtension)) → a.first ≡ None → notes.sequences ≡ s ∷ ss
+    → beginning_of (after_piece a place piece notes) ≡ (Some (sequence_of s), rate_with (sequence_of s) notes.picture)
+begun_with a place piece notes s ss none e =
+    let b : Auditing = longer (length piece) a in
+    kept_after a place piece notes
+    ∙ ap (λ (f : Option Sequence). beginning_of (begun f b place notes)) none
+    ∙ ap (λ (l : List (SequenceInfo × SequenceExtension)). beginning_of (begun_by b place (slice_get l 0) notes.picture)) e
+
+-- ---- where no sequence began
+
+-- nothing waits to be told
+pub record IsBare (a : Auditing) : Type 0 where
+  pub sequence : a.sequence ≡ None
+  pub anchor : a.places.anchor ≡ None
+  pub begun : a.places.begun ≡ None
+  pub account : a.account ≡ None
+
+bare_header : (a : Auditing) (h : PieceHeader) → IsBare a → IsBare (with_header a h None)
+unfolding with_header
+bare_header a (headers.Sequence bit) is = is
+bare_header a (headers.Group bit g) is = record { sequence = is.sequence; anchor = refl; begun = refl; account = is.account }
+
+bare_headers : (a : Auditing) (k : ℕ) (hs : List PieceHeader) → IsBare a → IsBare (with_headers a [] k hs)
+unfolding with_headers
+bare_headers a k [] is = is
+bare_headers a k (h ∷ hs) is = bare_headers (with_header a h None) (k + sequences_of h) hs (bare_header a h is)
+
+bare_noted : (a : Auditing) (s : Option Sequence) (n : Option PictureNote) (place bytes ending : ℕ) → s ≡ None → IsBare a → IsBare (with_note a s n place bytes ending)
+bare_noted a s None place bytes ending e is = record {
+  sequence = is.sequence;
+  anchor = is.anchor;
+  begun = is.begun;
+  account = ap (option_map (λ (x : Account). account_more x (8 * bytes))) is.account;
+}
+bare_noted a None (Some n) place bytes ending e is = is
+bare_noted a (Some s) (Some n) place bytes ending e is = absurd cc
+
+bare_settled : (a : Auditing) (x : Option Account) → x ≡ None → IsBare a → IsBare (settled_by a x)
+bare_settled a None e is = is
+bare_settled a (Some x) e is = absurd cc
+
+bare_front : (first : Option Sequence) (a : Auditing) (place : ℕ) (notes : PieceNotes) (hs : List PieceHeader) → a.first ≡ first → (a.first ≡ None → IsBare a) → (begun first a place notes).first ≡ None
+    → IsBare (with_headers (begun first a place notes) notes.sequences 0 hs)
+bare_front (Some s) a place notes hs e bare none = let f : Some s ≡ None = sym e ∙ none in absurd cc
+bare_front None a place notes hs e bare none = by notes.sequences none
+  where
+    by : (ss : List (SequenceInfo × SequenceExtension)) → (begun_by a place (slice_get ss 0) notes.picture).first ≡ None
+        → IsBare (with_headers (begun_by a place (slice_get ss 0) notes.picture) ss 0 hs)
+    by [] f = bare_headers a 0 hs (bare e)
+    by (s ∷ ss) f = absurd cc
+
+module _ (a : Auditing) (place : ℕ) (piece : List ℕ) (notes : PieceNotes) where
+  -- a piece in which no sequence begins either
+  bare_pictured : (a.first ≡ None → IsBare a) → (after_piece a place piece notes).first ≡ None
+      → IsBare (pictured (fronted (longer (length piece) a) place piece notes) place (length piece) (zeros_last piece) notes.picture)
+  bare_pictured bare none =
+      let b : Auditing = longer (length piece) a in
+      let c : Auditing = fronted b place piece notes in
+      let first : (begun a.first b place notes).first ≡ None = ap (λ (x : Option Sequence × Rate). x.0) (sym (kept_after a place piece notes)) ∙ none in
+      let still : b.first ≡ None → IsBare b = λ e. let is = bare e in record { sequence = is.sequence; anchor = is.anchor; begun = is.begun; account = is.account } in
+      let is_c : IsBare c = bare_front a.first b place notes (front_of place piece) refl still first in
+      bare_noted c c.sequence notes.picture place (length piece) (zeros_last piece) is_c.sequence is_c
+
+  pub bare_after : (a.first ≡ None → IsBare a) → (after_piece a place piece notes).first ≡ None → IsBare (after_piece a place piece notes)
+  unfolding after_piece
+  bare_after bare none =
+      let d : Auditing = pictured (fronted (longer (length piece) a) place piece notes) place (length piece) (zeros_last piece) notes.picture in
+      let is : IsBare d = bare_pictured bare none in
+      bare_settled d d.account is.account is
+
+  pub none_removed : (a.first ≡ None → IsBare a) → (after_piece a place piece notes).first ≡ None → piece_removals a place piece notes ≡ []
+  none_removed bare none = ap settled_in (bare_pictured bare none).account
+
+none_misplaced : (n : ℕ) (anchor : Option WaitingFrame) (begun : Option Waiting) (shown place : ℕ) → anchor ≡ None → begun ≡ None
+    → found_misplaced n (anchor_misplaced anchor shown ++ field_misplaced begun place ∷ []) ≡ []
+none_misplaced n None None shown place e f = refl
+none_misplaced n None (Some p) shown place e f = absurd cc
+none_misplaced n (Some x) begun shown place e f = absurd cc
+
+-- at the end nothing is found
+pub none_found : (a : Auditing) → IsBare a → end_found a ≡ []
+none_found a is = none_misplaced a.report.sequence a.places.anchor a.places.begun a.places.shown (a.places.shown + waiting_in a.places) is.anchor is.begun
+
+pub none_left : (a : Auditing) → IsBare a → left_in a.account ≡ []
+none_left a is = ap left_in is.account

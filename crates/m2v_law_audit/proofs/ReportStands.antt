@@ -1,0 +1,128 @@
+-- The report of a stream without a fault stands in the report of an input, and what follows it behind.
+use Rattle.std.proofs.Common.{◌≡◌, ℕ, ◌+◌, ◌-◌, ◌*◌, Bool, true, false, cond, List, [], ◌∷◌, ◌++◌, length, Option, Ok, Err, refl, sym, ap, subst, ◌∙◌, append_assoc}
+use Rattle.m2v_bits.specs.Syntax.{seq, bind, rule, done}
+use Rattle.m2v_model.specs.declared.fault.FaultKind.{FaultKind}
+use Rattle.m2v_model.specs.declared.fault.FaultKind.TheVariants.{NoSequence}
+use Rattle.m2v_model.specs.States.{none_waits}
+use Rattle.m2v_model.specs.Streams.{Sofar, text_end}
+use Rattle.m2v_model.specs.Pictures.{Events}
+use Rattle.m2v_model.specs.Pieces.{pieces, before_pieces, Limit}
+use Rattle.m2v_model.specs.PieceNotes.{notes_of}
+use Rattle.m2v_model.specs.Decoding.{Stream, frames_of}
+use Rattle.m2v_model.specs.ByPieces.{Between, Course, at_start, behind as events_behind, unit_read, units_read, piece_read, end_of, end_read, text_ended, continued, text_read}
+use Rattle.m2v_model.proofs.FlowLaws.{read_err}
+use Rattle.m2v_model.proofs.PieceLaws.{placed, piece_is, piece_none, rest_read, rest_none, rest_more, text_rest, by_pieces}
+use Rattle.m2v_model.proofs.Unique.{exactly_one}
+use Rattle.m2v_audit.specs.declared.auditing.Auditing.{Auditing}
+use Rattle.m2v_audit.specs.Auditing.{nothing, cleared, after_piece}
+use Rattle.m2v_audit.specs.Audited.{Audited, Telling, then_comes, counted_with, unless_passed, piece_told, end_told, pieces_told}
+use Rattle.m2v_law_audit.specs.Sequences.{SequenceReport, behind, by_piece, reported, first_byte, PassNone, StandsIn}
+
+-- ---- a stream is read by its pieces
+
+-- it's read without a fault, and behind its last piece its end
+pub stream_read : (text : List ℕ) (tree : Sofar) → Stream text tree → (x : Events × Between) × (rest_read at_start (length (before_pieces text)) (pieces text) ≡ Ok x)
+stream_read text tree s = by (text_read text) refl
+  where
+    by : (r : Course) → text_read text ≡ r → (x : Events × Between) × (rest_read at_start (length (before_pieces text)) (pieces text) ≡ Ok x)
+    by (Ok x) e = (x, sym (text_rest text) ∙ e)
+    by (Err f) e = absurd ((exactly_one text).not_both (frames_of tree) f.1 f.0 (record { tree = tree; stream = s; shown = refl }) ((by_pieces text).fault f.0 f.1 e))
+
+-- a text without a piece has no sequence
+none_begun : (end : ℕ) → end_read at_start end ≡ Err (NoSequence, 8 * end - 0)
+unfolding unit_read text_end seq bind rule done
+none_begun end = ap (text_ended end) (piece_none at_start end ∙ ap (placed end) (read_err at_start [] (NoSequence, 0) refl))
+
+not_both : (r : Course) (f : FaultKind × ℕ) (x : Events × Between) → r ≡ Err f → r ≡ Ok x → ⊥
+not_both (Ok z) f x e g = absurd cc
+not_both (Err z) f x e g = absurd cc
+
+some_piece : (at : ℕ) (x : Events × Between) → rest_read at_start at [] ≡ Ok x → ⊥
+some_piece at x e = not_both (end_read at_start at) (NoSequence, 8 * at - 0) x (none_begun at) (sym (rest_none at_start at) ∙ e)
+
+-- ---- wherever it begins
+
+elsewhere : (end to : ℕ) (r : Course) (x : Events × Between) → placed end r ≡ Ok x → placed to r ≡ Ok x
+elsewhere end to (Ok y) x e = e
+elsewhere end to (Err f) x e = absurd cc
+
+-- what is read of a piece is the same wherever it ends
+piece_elsewhere : (b : Between) (end to : ℕ) (p : List ℕ) (x : Events × Between) → piece_read b end p ≡ Ok x → piece_read b to p ≡ Ok x
+piece_elsewhere b end to p x e = piece_is b to p ∙ elsewhere end to _ x (sym (piece_is b end p) ∙ e)
+
+none_due : (c : Bool) (z x : Events × Between) (f g : FaultKind × ℕ) → cond c (Ok z) (Err f) ≡ Ok x → cond c (Ok z) (Err g) ≡ Ok x
+none_due true z x f g e = e
+none_due false z x f g e = absurd cc
+
+ended_by : (end to : ℕ) (r : Course) (x : Events × Between) → text_ended end (placed end r) ≡ Ok x → text_ended to (placed to r) ≡ Ok x
+ended_by end to (Ok z) x e = none_due (none_waits z.1.state.waiting) z x _ _ e
+ended_by end to (Err f) x e = absurd cc
+
+end_elsewhere : (b : Between) (end to : ℕ) (x : Events × Between) → end_read b end ≡ Ok x → end_read b to ≡ Ok x
+end_elsewhere b end to x e =
+    ap (text_ended to) (piece_none b to) ∙ ended_by end to (units_read b []) x (ap (text_ended end) (sym (piece_none b end)) ∙ e)
+
+-- what comes behind events is read without a fault where both are
+came_behind : (es : Events) (r : Course) (x : Events × Between) → events_behind es r ≡ Ok x → (y : Events × Between) × (r ≡ Ok y)
+came_behind es (Ok y) x e = (y, refl)
+came_behind es (Err f) x e = absurd cc
+
+then_on : (xs ys : List ℕ) (a : Audited) → then_comes (xs ++ ys) a ≡ then_comes xs (then_comes ys a)
+then_on xs ys a = ap (λ (l : List ℕ). record { report = l; outcome = a.outcome }) (append_assoc xs ys a.report)
+
+-- ---- what is told of it
+
+module _ (x : Telling) where
+  -- a report, and what comes behind it, as its last piece ends at a byte
+  abbrev told_with : SequenceReport → ℕ → Audited
+  told_with own end = then_comes own.lines (x.next (counted_with x.totals own.kept) end)
+
+  -- a text without a fault from a byte on; its pieces were read as if they began elsewhere
+  abbrev Onward : ℕ → List (List ℕ) → Type 0
+  Onward at ps = (a : Auditing) (b : Between) (optional : Bool) (before : ℕ) (y : Events × Between) → rest_read b before ps ≡ Ok y → PassNone at ps → (ps ≡ [] → optional ≡ false)
+      → pieces_told x optional a b at ps ≡ told_with (reported a b at ps) (end_of at ps)
+
+  end_stands : (at : ℕ) → Onward at []
+  unfolding pieces_told reported end_of
+  end_stands at a b optional before y e pass off =
+      let read : end_read b at ≡ Ok y = end_elsewhere b before at y (sym (rest_none b before) ∙ e) in
+      ap (λ (l : Option Limit). unless_passed l x.totals a (end_told x optional a at (end_read b at))) pass
+      ∙ ap (λ (o : Bool). end_told x o a at (end_read b at)) (off refl)
+      ∙ ap (end_told x false a at) read
+
+  piece_stands : (at : ℕ) (p : List ℕ) (ps : List (List ℕ)) (a : Auditing) (b : Between) (before : ℕ) (y : Events × Between) (read : Course)
+      → piece_read b (before + length p) p ≡ read → continued read (λ next. rest_read next (before + length p) ps) ≡ Ok y
+      → PassNone (at + length p) ps → Onward (at + length p) ps
+      → piece_told x a at p (piece_read b (at + length p) p) (λ a' b'. pieces_told x false a' b' (at + length p) ps)
+      ≡ told_with (by_piece a at p (piece_read b (at + length p) p) (λ a' b'. reported a' b' (at + length p) ps)) (end_of (at + length p) ps)
+  unfolding continued
+  piece_stands at p ps a b before y (Ok z) is e pass rest =
+      let to = at + length p in
+      let behind_it = came_behind z.0 (rest_read z.1 (before + length p) ps) y e in
+      let told = after_piece a at p (notes_of at p z.0) in
+      let next : pieces_told x false (cleared told) z.1 to ps ≡ told_with (reported (cleared told) z.1 to ps) (end_of to ps) =
+      rest (cleared told) z.1 false (before + length p) behind_it.0 behind_it.1 pass (λ none. refl) in
+      let own = reported (cleared told) z.1 to ps in
+      let here : then_comes told.report.text (pieces_told x false (cleared told) z.1 to ps) ≡ told_with (behind told.report.text own) (end_of to ps) =
+      ap (then_comes told.report.text) next ∙ sym (then_on told.report.text own.lines _) in
+      subst (λ (r : Course). piece_told x a at p r (λ a' b'. pieces_told x false a' b' to ps) ≡ told_with (by_piece a at p r (λ a' b'. reported a' b' to ps)) (end_of to ps))
+      (sym (piece_elsewhere b (before + length p) to p z is)) here
+  piece_stands at p ps a b before y (Err f) is e pass rest = absurd cc
+
+  stands_on : (at : ℕ) (ps : List (List ℕ)) → Onward at ps
+  unfolding pieces_told reported end_of
+  stands_on at [] a b optional before y e pass off = end_stands at a b optional before y e pass off
+  stands_on at (p ∷ ps) a b optional before y e pass off =
+      let to = at + length p in
+      ap (λ (l : Option Limit). unless_passed l x.totals a (piece_told x a at p (piece_read b to p) (λ a' b'. pieces_told x false a' b' to ps))) pass.0
+      ∙ piece_stands at p ps a b before y (piece_read b (before + length p) p) refl (sym (rest_more b before p ps) ∙ e) pass.1 (stands_on to ps)
+
+no_piece : (ps : List (List ℕ)) (at : ℕ) (y : Events × Between) → rest_read at_start at ps ≡ Ok y → ps ≡ [] → ⊥
+no_piece ps at y e none = some_piece at y (ap (rest_read at_start at) (sym none) ∙ e)
+
+pub stands_in : (text : List ℕ) (tree : Sofar) → Stream text tree → (each : Bool) (x : Telling) (later : Bool) → PassNone (first_byte x.start text) (pieces text) → StandsIn each x later text
+stands_in text tree s each x later pass =
+    let read = stream_read text tree s in
+    let before = length (before_pieces text) in
+    stands_on x (first_byte x.start text) (pieces text) (nothing x.totals.sequences each x.start) at_start later before read.0 read.1 pass
+    (λ none. absurd (no_piece (pieces text) before read.0 read.1 none))
