@@ -1,6 +1,8 @@
 //! What the report of `audit` says of a stream, in the words of the standard and of the verifier.
 #![tactic(auto)]
 
+mod account_laws;
 mod laws;
 
+pub use account_laws::law_variable;
 pub use laws::law_nothing;
