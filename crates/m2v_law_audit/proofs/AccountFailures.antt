@@ -74,36 +74,29 @@ begins_if true rate b x e =
     (refl, ap (λ (y : Beginning). y.rate) (sym is), ap (λ (y : Beginning). y.buffer) (sym is))
 begins_if false rate b x e = absurd cc
 
--- all of it is there
-pub record HasBegun (at : ℕ) (o : Option Sequence) (ps : List (List ℕ)) (ns : List Numbered) (x : Beginning) : Type 0 where
-  pub sequence : Sequence
-  pub piece : List ℕ
-  pub pieces : List (List ℕ)
-  pub first : Numbered
-  pub others : List Numbered
-  pub sequence_is : o ≡ Some sequence
-  pub pieces_are : ps ≡ piece ∷ pieces
-  pub pictures_are : ns ≡ first ∷ others
-  pub begins : Begins sequence at piece first x
+pub begins_so : (s : Sequence) (at : ℕ) (p : List ℕ) (ps : List (List ℕ)) (n : Numbered) (ns : List Numbered) (x : Beginning) → beginning_by (Some s) at (p ∷ ps) (n ∷ ns) ≡ Some x → Begins s at p n x
+begins_so s at p ps n ns x e =
+    let note = note_of (8 * at + code_bits p) n.picture in
+    let h = begins_if (has_account s) (rate_with s (Some note)) (buffer_at_first s note (code_bits p)) x e in
+    record { has = h.0; rate = h.1; buffer = h.2 }
 
-pub has_begun : (at : ℕ) (o : Option Sequence) (ps : List (List ℕ)) (ns : List Numbered) (x : Beginning) → beginning_by o at ps ns ≡ Some x → HasBegun at o ps ns x
+-- with those that there are
+record HasBegun (at : ℕ) (x : Beginning) : Type 0 where
+  sequence : Sequence
+  piece : List ℕ
+  first : Numbered
+  begins : Begins sequence at piece first x
+
+has_begun : (at : ℕ) (o : Option Sequence) (ps : List (List ℕ)) (ns : List Numbered) (x : Beginning) → beginning_by o at ps ns ≡ Some x → HasBegun at x
 has_begun at None ps ns x e = absurd cc
 has_begun at (Some s) [] ns x e = absurd cc
 has_begun at (Some s) (p ∷ ps) [] x e = absurd cc
-has_begun at (Some s) (p ∷ ps) (n ∷ ns) x e =
-    let note = note_of (8 * at + code_bits p) n.picture in
-    let h = begins_if (has_account s) (rate_with s (Some note)) (buffer_at_first s note (code_bits p)) x e in
-    record {
-      sequence = s;
-      piece = p;
-      pieces = ps;
-      first = n;
-      others = ns;
-      sequence_is = refl;
-      pieces_are = refl;
-      pictures_are = refl;
-      begins = record { has = h.0; rate = h.1; buffer = h.2 };
-    }
+has_begun at (Some s) (p ∷ ps) (n ∷ ns) x e = record {
+  sequence = s;
+  piece = p;
+  first = n;
+  begins = begins_so s at p ps n ns x e;
+}
 
 -- ---- at variable rate
 

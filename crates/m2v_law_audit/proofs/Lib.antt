@@ -1,1 +1,5 @@
 pub mod AccountFailures
+pub mod AccountFirst
+pub mod AccountDues
+pub mod AccountReading
+pub mod AccountChecked
