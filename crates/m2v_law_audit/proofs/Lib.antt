@@ -3,3 +3,5 @@ pub mod AccountFirst
 pub mod AccountDues
 pub mod AccountReading
 pub mod AccountChecked
+pub mod RemovalHeaders
+pub mod RemovalPieces

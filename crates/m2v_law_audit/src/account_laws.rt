@@ -1,8 +1,21 @@
 //! What the account of a stream's buffer tells, and what it has to do with the verifier's account and with deliveries.
-ghost use Rattle.std.specs.Prelude.{ℕ, List};
+ghost use Rattle.std.specs.Prelude.{◌≡◌, ℕ, Bool, List};
 ghost use Rattle.m2v_model.specs.Streams.{Sofar};
 ghost use Rattle.m2v_model.specs.Decoding.{Stream};
-ghost use Rattle.m2v_law_audit.specs.Accounts.{FailsAsChecked, FailsWhereNoneDelivers};
+ghost use Rattle.m2v_model.specs.Pieces.{pieces};
+ghost use Rattle.m2v_model.specs.ByPieces.{at_start};
+ghost use Rattle.m2v_audit.specs.Auditing.{nothing};
+ghost use Rattle.m2v_law_audit.specs.Sequences.{first_byte};
+ghost use Rattle.m2v_law_audit.specs.Found.{all_removals};
+ghost use Rattle.m2v_law_audit.specs.Accounts.{beginning_in, dues_in, removals_by, FailsAsChecked, FailsWhereNoneDelivers};
+
+/// The removals that are told of a stream, piece by piece as soon as each is settled and then at the end, are those of all
+/// its pictures once each of them is whole, in turn.
+pub fn law_removals()
+    ensures { (text : List ℕ) (tree : Sofar) → Stream text tree → (each : Bool) (number start : ℕ)
+        → all_removals (nothing number each start) at_start (first_byte start text) (pieces text)
+        ≡ removals_by (beginning_in start text tree) (dues_in start text tree) }
+{}
 
 /// At constant rate, where no frame is repeated in a progressive sequence, a stream's first failure that is told is the first
 /// one of the verifier's account, by the picture, the kind and the amounts; and none is told where that account has none.

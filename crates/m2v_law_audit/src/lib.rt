@@ -4,5 +4,5 @@
 mod account_laws;
 mod laws;
 
-pub use account_laws::{law_constant, law_variable};
+pub use account_laws::{law_constant, law_removals, law_variable};
 pub use laws::law_nothing;
