@@ -5,3 +5,4 @@ pub mod AccountReading
 pub mod AccountChecked
 pub mod RemovalHeaders
 pub mod RemovalPieces
+pub mod RemovalTurns
