@@ -5,4 +5,6 @@ pub mod AccountReading
 pub mod AccountChecked
 pub mod RemovalHeaders
 pub mod RemovalPieces
+pub mod RemovalEvents
 pub mod RemovalTurns
+pub mod RemovalFailures

@@ -34,107 +34,9 @@ use Rattle.m2v_law_audit.specs.Sequences.{first_byte}
 use Rattle.m2v_law_audit.specs.Accounts.{due_at, dues_from, dues_by, dues_in, Beginning, with_buffer, beginning_by, beginning_in, numbered_in, removals_by}
 use Rattle.m2v_law_audit.proofs.AccountDues.{all_bits}
 use Rattle.m2v_law_audit.proofs.AccountReading.{Turn, Turns, in_pieces}
+use Rattle.m2v_law_audit.proofs.RemovalEvents.{note_at, bits_of, dues_read, rest_one, none_left, none_numbered, HasHeader, first_so}
 use Rattle.m2v_law_audit.proofs.RemovalHeaders.{last_header}
 use Rattle.m2v_law_audit.proofs.RemovalPieces.{Stands, begun_at, Moves, more_moves, picture_moves}
-
--- ---- how bits come
-
--- a picture whose piece begins at a byte of the input, as it is noted
-abbrev note_at : ℕ → List ℕ → Numbered → PictureNote
-note_at at p n = note_of (8 * at + code_bits p) n.picture
-
--- the bits of pieces that have these pictures: piece i has picture i, and behind the last picture no other one comes
-abbrev bits_of : Times → ℕ → List (List ℕ) → List Numbered → List Event
-bits_of t at [] ns = []
-bits_of t at (p ∷ ps) [] = more (bits_of_piece p) ∷ bits_of t (at + length p) ps []
-bits_of t at (p ∷ ps) (n ∷ ns) = picture (due_at t at (bits_of_piece p) p n) ∷ bits_of (after t n.sequence (note_at at p n)) (at + length p) ps ns
-
--- the last picture has all bits that follow
-last_read : (t u : Times) (at end bits : ℕ) (p : List ℕ) (n : Numbered) (ps : List (List ℕ)) → read (Some (due_at t at bits p n)) (bits_of u end ps []) ≡ due_at t at (bits + all_bits ps) p n ∷ []
-unfolding read
-last_read t u at end bits p n [] = ap (λ (b : ℕ). due_at t at b p n ∷ []) (omega arith)
-last_read t u at end bits p n (q ∷ ps) =
-    let count : (bits + bits_of_piece q) + all_bits ps ≡ bits + all_bits (q ∷ ps) = omega (arith, sum_by-cons (λ (x : ℕ). x) (bits_of_piece q) (map bits_of_piece ps)) in
-    last_read t u at (end + length q) (bits + bits_of_piece q) p n ps ∙ ap (λ (b : ℕ). due_at t at b p n ∷ []) count
-
--- they are the stream's pictures, as its buffer sees them
-dues_read : (t : Times) (at : ℕ) (p : List ℕ) (ps : List (List ℕ)) (n : Numbered) (ns : List Numbered)
-    → read (Some (due_at t at (bits_of_piece p) p n)) (bits_of (after t n.sequence (note_at at p n)) (at + length p) ps ns) ≡ dues_from t at (p ∷ ps) (n ∷ ns)
-unfolding read dues_from
-dues_read t at p ps n [] =
-    last_read t (after t n.sequence (note_at at p n)) at (at + length p) (bits_of_piece p) p n ps
-    ∙ ap (λ (b : ℕ). due_at t at b p n ∷ []) (sym (sum_by-cons (λ (x : ℕ). x) (bits_of_piece p) (map bits_of_piece ps)))
-dues_read t at p [] n (m ∷ ns) = refl
-dues_read t at p (q ∷ ps) n (m ∷ ns) = ap (λ (ds : List Due). due_at t at (bits_of_piece p) p n ∷ ds) (dues_read (after t n.sequence (note_at at p n)) (at + length p) q ps m ns)
-
--- ---- pictures among the others
-
--- what follows a piece, whose pictures were so many
-record Rest (o : Option Sequence) (number : ℕ) (es : Events) (ns : List Numbered) : Type 0 where
-  group : ℕ
-  first_in_group : Bool
-  frames : ℕ
-  is : ns ≡ numbered o group first_in_group number frames es
-
-rest_none : (o : Option Sequence) (group : ℕ) (first_in_group : Bool) (number frames : ℕ) (es fs : Events) → pictures_in es ≡ [] → Rest (last_in o es) number fs (numbered o group first_in_group number frames (es ++ fs))
-unfolding numbered
-rest_none o group first_in_group number frames [] fs e = record { group = group; first_in_group = first_in_group; frames = frames; is = refl }
-rest_none o group first_in_group number frames (sequence_header s ∷ es) fs e =
-    let r = rest_none (Some s) group first_in_group number frames es fs e in
-    record { group = r.group; first_in_group = r.first_in_group; frames = r.frames; is = r.is }
-rest_none o group first_in_group number frames (group_header g ∷ es) fs e =
-    let r = rest_none o (group + 1) true number frames es fs e in
-    record { group = r.group; first_in_group = r.first_in_group; frames = r.frames; is = r.is }
-rest_none o group first_in_group number frames (coded_picture p ∷ es) fs e = absurd cc
-
--- one picture, and what follows it
-record OneRest (o : Option Sequence) (number : ℕ) (own : Events) (q : Picture) (es : Events) (ns : List Numbered) : Type 0 where
-  first : Numbered
-  group : ℕ
-  first_in_group : Bool
-  frames : ℕ
-  is : ns ≡ first ∷ numbered (last_in o own) group first_in_group (number + 1) frames es
-  number_is : first.number ≡ number
-  same : q ≡ first.picture
-  headed : last_in o own ≡ Some first.sequence
-
-rest_one : (o : Option Sequence) (group : ℕ) (first_in_group : Bool) (number frames : ℕ) (own es : Events) (q : Picture) → PictureLast own → AreHeaded o own → pictures_in own ≡ q ∷ []
-    → OneRest o number own q es (numbered o group first_in_group number frames (own ++ es))
-unfolding numbered
-rest_one o group first_in_group number frames [] es q last headed e = absurd cc
-rest_one o group first_in_group number frames (sequence_header s ∷ own) es q last headed e =
-    let r = rest_one (Some s) group first_in_group number frames own es q last headed e in
-    record { first = r.first; group = r.group; first_in_group = r.first_in_group; frames = r.frames; is = r.is; number_is = r.number_is; same = r.same; headed = r.headed }
-rest_one o group first_in_group number frames (group_header g ∷ own) es q last headed e =
-    let r = rest_one o (group + 1) true number frames own es q last headed e in
-    record { first = r.first; group = r.group; first_in_group = r.first_in_group; frames = r.frames; is = r.is; number_is = r.number_is; same = r.same; headed = r.headed }
-rest_one None group first_in_group number frames (coded_picture p ∷ own) es q last headed e = let none = headed.0 in absurd cc
-rest_one (Some s) group first_in_group number frames (coded_picture p ∷ own) es q last headed e =
-    let n : Numbered = record { number = number; sequence = s; group = group; first_in_group = first_in_group; frame = frames; picture = p } in
-    let count : ℕ = if p.ends_frame then frames + 1 else frames in
-    let same : p ≡ q = cc in
-    let stays : last_in (Some s) own ≡ Some s = ap (last_in (Some s)) last in
-    record {
-      first = n;
-      group = group;
-      first_in_group = false;
-      frames = count;
-      is = ap (λ (l : Events). n ∷ numbered (Some s) group false (number + 1) count (l ++ es)) last ∙ ap (λ (z : Option Sequence). n ∷ numbered z group false (number + 1) count es) (sym stays);
-      number_is = refl;
-      same = sym same;
-      headed = stays;
-    }
-
--- behind a piece without a picture no other one comes
-none_left : (n : ℕ) (b : Between) (ps : List (List ℕ)) (es : Events) → n ≡ 0 → IsOne n ps → Turns b ps es → (ps ≡ []) × (es ≡ [])
-none_left n b [] es e one turns = (refl, turns)
-none_left n b (p ∷ ps) es e one turns = absurd (omega (arith, e, one))
-
-none_numbered : (o : Option Sequence) (group : ℕ) (first_in_group : Bool) (number frames : ℕ) (own rest es : Events) → es ≡ own ++ rest → rest ≡ [] → pictures_in own ≡ [] → numbered o group first_in_group number frames es ≡ []
-unfolding numbered
-none_numbered o group first_in_group number frames own rest es are none e =
-    let r = rest_none o group first_in_group number frames own [] e in
-    ap (numbered o group first_in_group number frames) (are ∙ ap (λ (l : Events). own ++ l) none) ∙ r.is
 
 -- ---- piece by piece
 
@@ -224,18 +126,6 @@ on_from (p ∷ ps) b es a at f o k t x group first_in_group frames turns h so =
 
 -- ---- the first piece
 
--- where it tells a picture it tells a sequence header before, which is the first one of the stream
-record HasHeader (own : Events) : Type 0 where
-  header : Sequence
-  noted : slice_get (map header_pair (sequences_in own)) 0 ≡ Some (header_pair header)
-  first : first_in None own ≡ Some header
-
-has_header : (own : Events) (q : Picture) (qs : Pictures) → AreHeaded None own → pictures_in own ≡ q ∷ qs → HasHeader own
-has_header [] q qs headed e = absurd cc
-has_header (sequence_header s ∷ own) q qs headed e = record { header = s; noted = refl; first = first_stays s own }
-has_header (group_header g ∷ own) q qs headed e = let h = has_header own q qs headed e in record { header = h.header; noted = h.noted; first = h.first }
-has_header (coded_picture p ∷ own) q qs headed e = let none = headed.0 in absurd cc
-
 -- the sequence begins with it
 first_begun : (a : Auditing) (at : ℕ) (p : List ℕ) (own : Events) → a.first ≡ None → (h : HasHeader own)
     → begun_at a at p own ≡ with_first (longer (length p) a) at h.header (notes_of at p own).picture
@@ -244,7 +134,7 @@ first_begun a at p own none h =
     let b = longer (length p) a in
     let notes = notes_of at p own in
     ap (λ (z : Option Sequence). begun z b at notes) none
-    ∙ ap (λ (s : Option (SequenceInfo × SequenceExtension)). begun_by b at s notes.picture) h.noted
+    ∙ ap (λ (ss : List (SequenceInfo × SequenceExtension)). begun_by b at (slice_get ss 0) notes.picture) h.noted
 
 -- whatever it tells, no account began before it
 no_account : (a : Auditing) (at : ℕ) (s : Option (SequenceInfo × SequenceExtension)) (n : Option PictureNote) → (begun_by a at s n).account ≡ a.account
@@ -283,49 +173,63 @@ first_told p ps es u turns a at s n group first_in_group frames t rate (Some b) 
 abbrev AllTold : Auditing → ℕ → List (List ℕ) → Option Sequence → List Numbered → Type 0
 AllTold a at ps o ns = all_removals a at_start at ps ≡ removals_by (beginning_by o at ps ns) (dues_by o at ps ns)
 
+-- a first piece without a picture
+none_at_first : (p : List ℕ) (ps : List (List ℕ)) (es : Events) (each : Bool) (number start at : ℕ) → (u : Turn at_start p ps es) → Turns u.next ps u.rest → pictures_in u.own ≡ []
+    → AllTold (nothing number each start) at (p ∷ ps) (first_in None es) (all_numbered es)
+unfolding all_along
+none_at_first p ps es each number start at u turns none =
+    let a : Auditing = nothing number each start in
+    let o : Option Sequence = first_in None es in
+    let c : Auditing = begun_at a at p u.own in
+    let last = last_header at_start at p u.own u.next c u.read u.ordered in
+    let notes = notes_of at p u.own in
+    let stands : Stands c c.first c.sequence c.pictures c.times None = record {
+      first_is = refl;
+      last_is = refl;
+      number_is = refl;
+      times_are = refl;
+      account_is = no_account (longer (length p) a) at (slice_get notes.sequences 0) notes.picture;
+    } in
+    let m = more_moves a at p u.own c.first c.sequence c.pictures c.times None last stands none in
+    let left = none_left (length (pictures_in u.own)) u.next ps u.rest (ap length none) u.one turns in
+    let rest : all_removals (behind a at p u.own) u.next (at + length p) ps ≡ [] =
+    ap (all_removals (behind a at p u.own) u.next (at + length p)) left.0 ∙ ap left_in (m.behind).account_is in
+    let all : all_numbered es ≡ [] = none_numbered None 0 false 0 0 u.own u.rest es u.are left.1 none in
+    subst (AllTold a at (p ∷ ps) o) (sym all) (one_piece a at_start at p ps es u ∙ (λ i. m.told i ++ rest i) ∙ no_pictures o at p ps (dues_by o at (p ∷ ps) []))
+
+-- a first piece with a picture
+one_at_first : (p : List ℕ) (ps : List (List ℕ)) (es : Events) (each : Bool) (number start at : ℕ) → (u : Turn at_start p ps es) → Turns u.next ps u.rest → (q : Picture) → pictures_in u.own ≡ q ∷ []
+    → AllTold (nothing number each start) at (p ∷ ps) (first_in None es) (all_numbered es)
+one_at_first p ps es each number start at u turns q one =
+    let a : Auditing = nothing number each start in
+    let c : Auditing = begun_at a at p u.own in
+    let last = last_header at_start at p u.own u.next c u.read u.ordered in
+    let f = first_so u.own u.rest es q u.are u.last u.headed one in
+    let r = f.one in
+    let s : Sequence = (f.has).header in
+    let t : Times = first_times s.extension.low_delay s.info.frame_rate_code in
+    let n : Numbered = r.first in
+    let note : PictureNote = note_at at p n in
+    let d : Due = due_at t at (bits_of_piece p) p n in
+    let buffer : Option Buffer = first_buffer s note (code_bits p) in
+    let starts : Stands c (Some s) None 0 t None =
+    subst (λ (z : Auditing). Stands z (Some s) None 0 t None) (sym (first_begun a at p u.own refl f.has)) (record { first_is = refl; last_is = refl; number_is = refl; times_are = refl; account_is = refl }) in
+    let m = picture_moves a at p u.own n (Some s) None 0 t None last starts (one ∙ ap (λ (p : Picture). p ∷ []) r.same) r.headed r.number_is in
+    let account : account_by None (Some s) note d ≡ option_map (λ (b : Buffer). opened b d) buffer = ap (λ (z : ℕ). if nat_eq z 0 then opened_by (Some s) note d else None) r.number_is in
+    let moves = subst (Moves a at p (notes_of at p u.own) (Some s) (last_in None u.own) 1 (after t n.sequence note)) account m in
+    let first = f.first in
+    let all = r.is in
+    subst (λ (x : Option Sequence × List Numbered). AllTold a at (p ∷ ps) x.0 x.1) (λ i. (sym first i, sym all i))
+    (first_told p ps es u turns a at s n r.group r.first_in_group r.frames t (rate_with s (Some note)) buffer moves)
+
 from_start : (ps : List (List ℕ)) (es : Events) (each : Bool) (number start at : ℕ) → Turns at_start ps es → AllTold (nothing number each start) at ps (first_in None es) (all_numbered es)
 unfolding all_along
 from_start [] es each number start at turns = no_pieces (first_in None es) at (all_numbered es) (dues_by (first_in None es) at [] (all_numbered es))
 from_start (p ∷ ps) es each number start at turns =
-    let a : Auditing = nothing number each start in
-    let o : Option Sequence = first_in None es in
     let u = turns.0 in
-    let c : Auditing = begun_at a at p u.own in
-    let last = last_header at_start at p u.own u.next c u.read u.ordered in
     elim (none_or_one u.own u.last) [
-      | inl none ↦
-          let notes = notes_of at p u.own in
-          let stands : Stands c c.first c.sequence c.pictures c.times None = record {
-            first_is = refl;
-            last_is = refl;
-            number_is = refl;
-            times_are = refl;
-            account_is = no_account (longer (length p) a) at (slice_get notes.sequences 0) notes.picture;
-          } in
-          let m = more_moves a at p u.own c.first c.sequence c.pictures c.times None last stands none in
-          let left = none_left (length (pictures_in u.own)) u.next ps u.rest (ap length none) u.one turns.1 in
-          let rest : all_removals (behind a at p u.own) u.next (at + length p) ps ≡ [] =
-          ap (all_removals (behind a at p u.own) u.next (at + length p)) left.0 ∙ ap left_in (m.behind).account_is in
-          let all : all_numbered es ≡ [] = none_numbered None 0 false 0 0 u.own u.rest es u.are left.1 none in
-          subst (AllTold a at (p ∷ ps) o) (sym all) (one_piece a at_start at p ps es u ∙ (λ i. m.told i ++ rest i) ∙ no_pictures o at p ps (dues_by o at (p ∷ ps) []))
-      | inr one ↦
-          let h = has_header u.own one.0 [] u.headed one.1 in
-          let s : Sequence = h.header in
-          let t : Times = first_times s.extension.low_delay s.info.frame_rate_code in
-          let r = rest_one None 0 false 0 0 u.own u.rest one.0 u.last u.headed one.1 in
-          let n : Numbered = r.first in
-          let note : PictureNote = note_at at p n in
-          let d : Due = due_at t at (bits_of_piece p) p n in
-          let buffer : Option Buffer = first_buffer s note (code_bits p) in
-          let starts : Stands c (Some s) None 0 t None =
-          subst (λ (z : Auditing). Stands z (Some s) None 0 t None) (sym (first_begun a at p u.own refl h)) (record { first_is = refl; last_is = refl; number_is = refl; times_are = refl; account_is = refl }) in
-          let m = picture_moves a at p u.own n (Some s) None 0 t None last starts (one.1 ∙ ap (λ (q : Picture). q ∷ []) r.same) r.headed r.number_is in
-          let account : account_by None (Some s) note d ≡ option_map (λ (b : Buffer). opened b d) buffer = ap (λ (z : ℕ). if nat_eq z 0 then opened_by (Some s) note d else None) r.number_is in
-          let moves = subst (Moves a at p (notes_of at p u.own) (Some s) (last_in None u.own) 1 (after t n.sequence note)) account m in
-          let first : o ≡ Some s = ap (first_in None) u.are ∙ first-append None u.own u.rest ∙ ap (λ (z : Option Sequence). first_in z u.rest) h.first ∙ first_stays s u.rest in
-          let all = ap (numbered None 0 false 0 0) u.are ∙ r.is in
-          subst (λ (x : Option Sequence × List Numbered). AllTold a at (p ∷ ps) x.0 x.1) (λ i. (sym first i, sym all i))
-          (first_told p ps es u turns.1 a at s n r.group r.first_in_group r.frames t (rate_with s (Some note)) buffer moves)
+      | inl none ↦ none_at_first p ps es each number start at u turns.1 none
+      | inr one ↦ one_at_first p ps es each number start at u turns.1 one.0 one.1
     ]
 
 -- the removals that are told of a stream
