@@ -1,10 +1,8 @@
 -- At constant rate a stream's failures begin as those of the verifier's account do.
 use Rattle.std.proofs.Common.{◌≡◌, ℕ, ◌+◌, ◌*◌, ◌≤◌, Bool, true, false, not, List, [], ◌∷◌, length, Option, Some, None, refl, sym, ap, subst, ◌∙◌, arith, le_trans}
-use Rattle.std.specs.Prelude.{if◌then◌else◌}
 use Rattle.std.specs.List.{flat_map, AllByRecursion}
 use Rattle.m2v_vbv.specs.Annex.{removed}
 use Rattle.m2v_vbv.specs.Buffer.{Buffer, constant_start, removals, left}
-use Rattle.m2v_vbv.specs.declared.fault.AccountFault.{AccountFault}
 use Rattle.m2v_model.specs.declared.state.Sequence.{Sequence}
 use Rattle.m2v_model.specs.PieceNotes.{note_of}
 use Rattle.m2v_model.specs.Streams.{Sofar}
@@ -23,7 +21,7 @@ use Rattle.m2v_law_audit.specs.Sequences.{first_byte}
 use Rattle.m2v_law_audit.specs.Accounts.{Beginning, dues_from, dues_by, beginning_by, numbered_in, failures_by, FirstAgree, IsOnceAmong, FailsAsChecked}
 use Rattle.m2v_law_audit.proofs.AccountFailures.{Begins, begins_so}
 use Rattle.m2v_law_audit.proofs.AccountFirst.{agrees_all}
-use Rattle.m2v_law_audit.proofs.AccountDues.{all_bits, bits_are, removals_are, EndsSo, InTurn, dues_in_turn, in_turn, few_numbered, all_end}
+use Rattle.m2v_law_audit.proofs.AccountDues.{bits_are, removals_are, EndsSo, InTurn, dues_in_turn, in_turn, few_numbered, all_end}
 use Rattle.m2v_law_audit.proofs.AccountReading.{in_pieces, few_pictures}
 
 not_true : (b : Bool) → not b ≡ true → b ≡ false

@@ -1,13 +1,12 @@
 -- The pictures of a stream as its buffer sees them, beside those of the verifier's account: the same bits and the same times.
-use Rattle.std.proofs.Common.{◌≡◌, ℕ, zero, suc, ◌+◌, ◌≤◌, Bool, true, false, ◌||◌, not, List, [], ◌∷◌, length, map, Option, Some, None, refl, sym, ap, ◌∙◌, arith}
-use Rattle.std.specs.Prelude.{sum, if◌then◌else◌}
+use Rattle.std.proofs.Common.{◌≡◌, ℕ, ◌+◌, ◌≤◌, Bool, true, false, ◌||◌, not, List, [], ◌∷◌, length, map, Option, Some, None, refl, sym, ap, ◌∙◌, arith}
+use Rattle.std.specs.Prelude.{if◌then◌else◌}
 use Rattle.std.specs.List.{AllByRecursion}
 use Rattle.std.proofs.lemmas.List.Sums.{sum_by-cons}
 use Rattle.m2v_vbv.specs.Annex.{Removal, removed}
 use Rattle.m2v_vbv.specs.Buffer.{removals}
 use Rattle.m2v_model.specs.States.{is_frame}
-use Rattle.m2v_model.specs.PieceNotes.{note_of}
-use Rattle.m2v_model.specs.Pictures.{Picture, Pictures, Events, sequence_header, group_header, coded_picture, pictures_in}
+use Rattle.m2v_model.specs.Pictures.{Events, sequence_header, group_header, coded_picture, pictures_in}
 use Rattle.m2v_model.specs.declared.state.Sequence.{Sequence}
 use Rattle.m2v_model.specs.Lawful.{Numbered, numbered}
 use Rattle.m2v_model.specs.Buffering.{bits_of_piece, sizes, intervals, joined_removals}
@@ -16,18 +15,14 @@ use Rattle.m2v_audit.specs.m2v_check.declared.times.Times.{Times as Checked}
 use Rattle.m2v_audit.specs.m2v_check.Breaking.{numbered_of}
 use Rattle.m2v_audit.specs.m2v_check.Holding.{time_behind, repeats_behind}
 use Rattle.m2v_audit.specs.m2v_check.Laws.{Alternates}
-use Rattle.m2v_audit.specs.declared.account.Due.{Due}
-use Rattle.m2v_audit.specs.Account.{picture_of, pictures}
+use Rattle.m2v_audit.specs.Account.{pictures}
 use Rattle.m2v_audit.specs.Times.{Times, IsOnce, opened, time_of, after, times}
 use Rattle.m2v_audit.proofs.Showing.{all_times}
-use Rattle.m2v_law_audit.specs.Accounts.{coded_at, due_at, dues_from, IsOnceAmong}
+use Rattle.m2v_audit.proofs.m2v_check.Listed.{all_bits}
+use Rattle.m2v_law_audit.specs.Accounts.{coded_at, dues_from, IsOnceAmong}
 use Rattle.m2v_law_audit.proofs.AccountFirst.{AreNumbered}
 
 -- ---- bits
-
--- the bits of pieces
-abbrev pub all_bits : List (List ℕ) → ℕ
-all_bits ps = sum (map bits_of_piece ps)
 
 -- where there is a piece for each picture, all bits of pieces are those of some picture
 pub bits_are : (t : Times) (at : ℕ) (p : List ℕ) (ps : List (List ℕ)) (n : Numbered) (ns : List Numbered) → length ns ≤ length ps → removed (removals (pictures (dues_from t at (p ∷ ps) (n ∷ ns)))) ≡ all_bits (p ∷ ps)

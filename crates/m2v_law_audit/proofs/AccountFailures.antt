@@ -1,7 +1,7 @@
 -- The failures that are told of removals: none exactly where no removal fails; and at variable rate exactly where some delivery
 -- has each picture in time.
-use Rattle.std.proofs.Common.{◌≡◌, ℕ, ◌+◌, ◌*◌, ◌≤◌, ◌↔◌, Bool, true, false, ◌||◌, List, [], ◌∷◌, ◌++◌, Option, Some, None, refl, sym, ap, subst, ◌∙◌, arith}
-use Rattle.std.specs.Prelude.{map, not, nat_eq, if◌then◌else◌}
+use Rattle.std.proofs.Common.{◌≡◌, ℕ, ◌+◌, ◌*◌, ◌↔◌, Bool, true, false, ◌||◌, List, [], ◌∷◌, ◌++◌, Option, Some, None, refl, sym, ap, subst, ◌∙◌, arith}
+use Rattle.std.specs.Prelude.{map, not, if◌then◌else◌}
 use Rattle.std.specs.List.{flat_map}
 use Rattle.m2v_vbv.specs.declared.removed.Removed.{Removed}
 use Rattle.m2v_vbv.specs.Buffer.{Buffer, size_of, variable_start, tells}

@@ -1,11 +1,11 @@
 -- At constant rate the first failure that is told of a stream's buffer is the first of the verifier's account.
-use Rattle.std.proofs.Common.{◌≡◌, ℕ, ◌+◌, ◌*◌, ◌<◌, ◌≤◌, ◌↔◌, Bool, true, false, ◌||◌, not, List, [], ◌∷◌, ◌++◌, length, Some, inl, inr, refl, sym, ap, subst, ◌∙◌, arith}
+use Rattle.std.proofs.Common.{◌≡◌, ℕ, ◌+◌, ◌*◌, ◌<◌, ◌↔◌, Bool, true, false, ◌||◌, not, List, [], ◌∷◌, ◌++◌, length, Some, inl, inr, refl, sym, ap, subst, ◌∙◌, arith}
 use Rattle.std.specs.Prelude.{nat_le, if◌then◌else◌}
 use Rattle.std.specs.List.{flat_map}
 use Rattle.std.proofs.lemmas.Bool.{cases_Bool, leb-true, leb-false}
 use Rattle.std.proofs.lemmas.List.{map-append, length-append}
 use Rattle.std.proofs.lemmas.List.Sums.{sum_by_push}
-use Rattle.m2v_vbv.specs.Annex.{Start, Removal, removed, Held}
+use Rattle.m2v_vbv.specs.Annex.{Removal, removed, Held}
 use Rattle.m2v_vbv.specs.Buffer.{Picture, Buffer, constant_start, told, next, removal_of, removals, left, run, tells, fails}
 use Rattle.m2v_vbv.specs.Deliveries.{NoneFails}
 use Rattle.m2v_vbv.specs.declared.removed.Removed.{Removed}

@@ -1,13 +1,11 @@
 -- A stream as it is read piece by piece: what each piece tells, and what stands before and behind it.
-use Rattle.std.proofs.Common.{◌≡◌, ℕ, ◌+◌, ◌*◌, ◌≤◌, Bool, true, false, cond, List, [], ◌∷◌, ◌++◌, length, Option, Some, None, Ok, Err, refl, sym, ap, subst, ◌∙◌, arith}
+use Rattle.std.proofs.Common.{◌≡◌, ℕ, ◌+◌, ◌*◌, ◌≤◌, Bool, true, false, cond, List, [], ◌∷◌, ◌++◌, length, Option, None, Ok, Err, refl, sym, ap, subst, ◌∙◌, arith}
 use Rattle.std.proofs.lemmas.List.{append-nil, length-append}
-use Rattle.m2v_model.specs.declared.state.Sequence.{Sequence}
-use Rattle.m2v_model.specs.declared.state.State.{State}
 use Rattle.m2v_model.specs.declared.state.Open.{Open}
 use Rattle.m2v_model.specs.declared.fault.FaultKind.{FaultKind}
 use Rattle.m2v_model.specs.declared.fault.FaultKind.TheVariants.{FieldPair}
 use Rattle.m2v_model.specs.Units.{Units, cut}
-use Rattle.m2v_model.specs.States.{at_first, none_waits}
+use Rattle.m2v_model.specs.States.{none_waits}
 use Rattle.m2v_model.specs.Streams.{Sofar, sequence, group, picture, matrices, slice, unread_slice, skipped_unit, ending, over, after}
 use Rattle.m2v_model.specs.Pictures.{Store, Events, closed, pictures_in}
 use Rattle.m2v_model.specs.Pieces.{pieces, before_pieces}
@@ -18,7 +16,7 @@ use Rattle.m2v_model.proofs.PieceLaws.{by_pieces}
 use Rattle.m2v_model.proofs.TurnLaws.{pictures_in_turn}
 use Rattle.m2v_model.proofs.Unique.{exactly_one}
 use Rattle.m2v_audit.specs.m2v_check.Laws.{Alternates}
-use Rattle.m2v_audit.proofs.m2v_check.Telling.{AtLast, InFront, by_units, first_in, last_in, AreHeaded, IsGoodPicture, IsGoodState, Says, says_on, says_nothing, units_say}
+use Rattle.m2v_audit.proofs.m2v_check.Telling.{AtLast, InFront, by_units, first_in, last_in, AreHeaded, IsGoodState, Says, says_on, says_nothing, units_say}
 use Rattle.m2v_audit.proofs.m2v_check.Ordered.{AreOrdered, IsOrdered, PictureLast, pieces_ordered, units_ordered}
 use Rattle.m2v_audit.proofs.m2v_check.Checking.{units_of_piece}
 

@@ -1,41 +1,25 @@
 -- How the bits of a stream's pieces come, and the pictures among the others that its pieces tell.
-use Rattle.std.proofs.Common.{◌≡◌, ℕ, zero, suc, ◌+◌, ◌*◌, ◌<◌, ◌≤◌, Bool, true, false, List, [], ◌∷◌, ◌++◌, length, map, Option, Some, None, Ok, option_map, option_to_list, inl, inr, refl, sym, ap, subst, ◌∙◌, arith}
-use Rattle.std.specs.Prelude.{nat_eq, slice_get, sum, if◌then◌else◌}
-use Rattle.std.proofs.lemmas.Bool.{ne_eqb}
-use Rattle.std.proofs.lemmas.List.{append-nil}
+use Rattle.std.proofs.Common.{◌≡◌, ℕ, ◌+◌, ◌*◌, Bool, true, false, List, [], ◌∷◌, ◌++◌, length, map, Option, Some, None, refl, sym, ap, subst, ◌∙◌, arith}
+use Rattle.std.specs.Prelude.{if◌then◌else◌}
 use Rattle.std.proofs.lemmas.List.Sums.{sum_by-cons}
-use Rattle.m2v_vbv.specs.Buffer.{Buffer}
 use Rattle.m2v_model.specs.m2v_macroblock.m2v_head.declared.sequence.SequenceInfo.{SequenceInfo}
 use Rattle.m2v_model.specs.m2v_macroblock.m2v_head.declared.sequence.SequenceExtension.{SequenceExtension}
 use Rattle.m2v_model.specs.declared.state.Sequence.{Sequence}
 use Rattle.m2v_model.specs.declared.notes.PictureNote.{PictureNote}
-use Rattle.m2v_model.specs.Streams.{Sofar}
 use Rattle.m2v_model.specs.Pictures.{Picture, Pictures, Events, sequence_header, group_header, coded_picture, pictures_in}
-use Rattle.m2v_model.specs.Pieces.{pieces}
-use Rattle.m2v_model.specs.PieceNotes.{header_pair, note_of, notes_of}
-use Rattle.m2v_model.specs.Decoding.{Stream, events}
+use Rattle.m2v_model.specs.PieceNotes.{header_pair, note_of}
 use Rattle.m2v_model.specs.Lawful.{Numbered, numbered, all_numbered, sequences_in}
 use Rattle.m2v_model.specs.Buffering.{bits_of_piece, code_bits}
-use Rattle.m2v_model.specs.ByPieces.{Between, Course, at_start, piece_read, IsOne}
-use Rattle.m2v_model.proofs.PieceLaws.{placed, piece_is}
+use Rattle.m2v_model.specs.ByPieces.{Between, IsOne}
 use Rattle.m2v_audit.specs.declared.account.Due.{Due}
-use Rattle.m2v_audit.specs.declared.auditing.Auditing.{Auditing}
-use Rattle.m2v_audit.specs.declared.report.Rate.{Rate}
-use Rattle.m2v_audit.specs.Account.{Told, all_told, Account, opened, with_picture, with_more, settled, settled_of, behind_settled, after_settled, Event, picture, more, reported, read}
-use Rattle.m2v_audit.specs.Auditing.{nothing, longer, begun, begun_by, with_first, rate_with, cleared, after_piece, opened_by, account_by}
-use Rattle.m2v_audit.specs.Opening.{first_buffer}
-use Rattle.m2v_audit.specs.Times.{Times, opened as first_times, after}
-use Rattle.m2v_audit.proofs.Reports.{told_in_all}
+use Rattle.m2v_audit.specs.Account.{Event, picture, more, read}
+use Rattle.m2v_audit.specs.Times.{Times, after}
 use Rattle.m2v_audit.proofs.m2v_check.Telling.{first_in, last_in, first-append, AreHeaded}
 use Rattle.m2v_audit.proofs.m2v_check.Ordered.{PictureLast}
-use Rattle.m2v_audit.proofs.m2v_check.Onward.{first_stays, none_or_one}
-use Rattle.m2v_law_audit.specs.Found.{along, all_along, all_removals, piece_removals, settled_in, left_in}
-use Rattle.m2v_law_audit.specs.Sequences.{first_byte}
-use Rattle.m2v_law_audit.specs.Accounts.{due_at, dues_from, dues_by, dues_in, Beginning, with_buffer, beginning_by, beginning_in, numbered_in, removals_by}
-use Rattle.m2v_law_audit.proofs.AccountDues.{all_bits}
-use Rattle.m2v_law_audit.proofs.AccountReading.{Turn, Turns, in_pieces}
-use Rattle.m2v_law_audit.proofs.RemovalHeaders.{last_header}
-use Rattle.m2v_law_audit.proofs.RemovalPieces.{Stands, begun_at, Moves, more_moves, picture_moves}
+use Rattle.m2v_audit.proofs.m2v_check.Onward.{first_stays}
+use Rattle.m2v_audit.proofs.m2v_check.Listed.{all_bits}
+use Rattle.m2v_law_audit.specs.Accounts.{due_at, dues_from}
+use Rattle.m2v_law_audit.proofs.AccountReading.{Turns}
 
 -- ---- how bits come
 

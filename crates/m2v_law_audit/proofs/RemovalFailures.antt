@@ -1,14 +1,13 @@
 -- The failures of the removals that are told of a stream are those of the stream, at the rate that its first piece says.
-use Rattle.std.proofs.Common.{◌≡◌, ℕ, ◌+◌, ◌*◌, Bool, false, List, [], ◌∷◌, length, map, Option, Some, None, Ok, inl, inr, refl, sym, ap, subst, ◌∙◌}
+use Rattle.std.proofs.Common.{◌≡◌, ℕ, ◌+◌, ◌*◌, Bool, false, List, [], ◌∷◌, length, Option, Some, None, Ok, inl, inr, refl, sym, ap, subst, ◌∙◌}
 use Rattle.std.specs.List.{flat_map}
 use Rattle.m2v_model.specs.m2v_macroblock.m2v_head.declared.sequence.SequenceInfo.{SequenceInfo}
 use Rattle.m2v_model.specs.m2v_macroblock.m2v_head.declared.sequence.SequenceExtension.{SequenceExtension}
 use Rattle.m2v_model.specs.declared.state.Sequence.{Sequence}
-use Rattle.m2v_model.specs.declared.notes.PictureNote.{PictureNote}
 use Rattle.m2v_model.specs.Streams.{Sofar}
-use Rattle.m2v_model.specs.Pictures.{Picture, Pictures, Events, pictures_in}
+use Rattle.m2v_model.specs.Pictures.{Picture, Events, pictures_in}
 use Rattle.m2v_model.specs.Pieces.{pieces}
-use Rattle.m2v_model.specs.PieceNotes.{PieceNotes, header_pair, first_note, notes_of}
+use Rattle.m2v_model.specs.PieceNotes.{header_pair, first_note, notes_of}
 use Rattle.m2v_model.specs.Decoding.{Stream, events}
 use Rattle.m2v_model.specs.Lawful.{Numbered, numbered, all_numbered}
 use Rattle.m2v_model.specs.Buffering.{code_bits}
@@ -113,17 +112,17 @@ begins_with text tree stream start x e =
 pub record LinesTell (each : Bool) (number start : ℕ) (text : List ℕ) : Type 0 where
   pub findings : List Finding
   pub tells :
-    let r = sequence_report each number start text in
-    Tells r.lines findings (flat_map (failures_of number r.kept.rate) (all_removals (nothing number each start) at_start (first_byte start text) (pieces text)))
+      let r = sequence_report each number start text in
+      Tells r.lines findings (flat_map (failures_of number r.kept.rate) (all_removals (nothing number each start) at_start (first_byte start text) (pieces text)))
   pub counted :
-    let r = sequence_report each number start text in
-    let failures = flat_map (failures_of number r.kept.rate) (all_removals (nothing number each start) at_start (first_byte start text) (pieces text)) in
-    r.kept.report.tally.failures ≡ more_by 0 (length failures)
+      let r = sequence_report each number start text in
+      let failures = flat_map (failures_of number r.kept.rate) (all_removals (nothing number each start) at_start (first_byte start text) (pieces text)) in
+      r.kept.report.tally.failures ≡ more_by 0 (length failures)
   pub rate : (p : List ℕ) (ps : List (List ℕ)) (x : Events × Between) (s : SequenceInfo × SequenceExtension) (ss : List (SequenceInfo × SequenceExtension)) →
-    let at = first_byte start text in
-    let notes = notes_of at p x.0 in
-    pieces text ≡ p ∷ ps → piece_read at_start (at + length p) p ≡ Ok x → notes.sequences ≡ s ∷ ss
-    → (sequence_report each number start text).kept.rate ≡ rate_with (sequence_of s) notes.picture
+      let at = first_byte start text in
+      let notes = notes_of at p x.0 in
+      pieces text ≡ p ∷ ps → piece_read at_start (at + length p) p ≡ Ok x → notes.sequences ≡ s ∷ ss
+      → (sequence_report each number start text).kept.rate ≡ rate_with (sequence_of s) notes.picture
 
 -- then the report of a stream tells the stream's failures, and counts them
 pub tells_all_failures : (text : List ℕ) (tree : Sofar) → Stream text tree → ((each : Bool) (number start : ℕ) → LinesTell each number start text) → TellsAllFailures text tree

@@ -28,7 +28,7 @@ pub fn law_removals()
 {}
 
 /// At constant rate, where no frame is repeated in a progressive sequence, a stream's first failure that is told is the first
-/// one of the verifier's account, by the picture, the kind and the amounts; and none is told where that account has none.
+/// one of the verifier's account, by picture, kind and amounts; and none is told exactly where that account has none.
 pub fn law_constant()
     ensures { (text : List ℕ) (tree : Sofar) → Stream text tree → FailsAsChecked text tree }
 {}
