@@ -6,3 +6,13 @@ pub mod PartsKept
 pub mod ReportParts
 pub mod ReportStands
 pub mod ReportLines
+pub mod AccountFailures
+pub mod AccountFirst
+pub mod AccountDues
+pub mod AccountReading
+pub mod AccountChecked
+pub mod RemovalHeaders
+pub mod RemovalPieces
+pub mod RemovalEvents
+pub mod RemovalTurns
+pub mod RemovalFailures

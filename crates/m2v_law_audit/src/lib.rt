@@ -1,8 +1,10 @@
 //! What the report of `audit` says of a stream, in the words of the standard and of the verifier.
 #![tactic(auto)]
 
+mod account_laws;
 mod laws;
 mod report_laws;
 
+pub use account_laws::{law_constant, law_removals, law_variable};
 pub use laws::law_nothing;
 pub use report_laws::{law_parts, law_sequence, law_told_by_lines};

@@ -1,0 +1,189 @@
+-- What a piece does to the account, and to what the account of later pieces goes by.
+use Rattle.std.proofs.Common.{◌≡◌, ℕ, ◌+◌, ◌-◌, ◌*◌, Bool, true, false, List, [], ◌∷◌, length, map, Option, Some, None, option_map, refl, sym, ap, subst, ◌∙◌, arith}
+use Rattle.std.specs.Prelude.{slice_get, if◌then◌else◌}
+use Rattle.m2v_model.specs.m2v_macroblock.m2v_head.declared.sequence.SequenceInfo.{SequenceInfo}
+use Rattle.m2v_model.specs.m2v_macroblock.m2v_head.declared.sequence.SequenceExtension.{SequenceExtension}
+use Rattle.m2v_model.specs.declared.state.Sequence.{Sequence}
+use Rattle.m2v_model.specs.declared.notes.PictureNote.{PictureNote}
+use Rattle.m2v_model.specs.Pictures.{Events, pictures_in}
+use Rattle.m2v_model.specs.Pieces.{zeros_last}
+use Rattle.m2v_model.specs.PieceNotes.{PieceNotes, header_pair, note_of, first_note, notes_of}
+use Rattle.m2v_model.specs.Lawful.{Numbered, sequences_in}
+use Rattle.m2v_model.specs.Buffering.{bits_of_piece, code_bits}
+use Rattle.m2v_audit.specs.m2v_check.declared.coded.CodedPicture.{CodedPicture}
+use Rattle.m2v_audit.specs.m2v_check.Running.{ends_frame}
+use Rattle.m2v_audit.specs.declared.account.Due.{Due}
+use Rattle.m2v_audit.specs.declared.auditing.Auditing.{Auditing}
+use Rattle.m2v_audit.specs.declared.headers.PieceHeader.{PieceHeader}
+use Rattle.m2v_audit.specs.declared.headers.PieceHeader.TheVariants as headers
+use Rattle.m2v_audit.specs.Account.{Account, with_more, after_settled}
+use Rattle.m2v_audit.specs.Auditing.{longer, begun, with_header, sequences_of, with_headers, coded, counted, with_told, with_place, account_by, with_coded, with_note, pictured, settled_by, with_settled, cleared, fronted, after_piece}
+use Rattle.m2v_audit.specs.Front.{front_of}
+use Rattle.m2v_audit.specs.Times.{Times, time_of, after}
+use Rattle.m2v_audit.proofs.m2v_check.Telling.{last_in}
+use Rattle.m2v_law_audit.specs.Found.{settled_in, piece_removals}
+use Rattle.m2v_law_audit.specs.Accounts.{due_at}
+
+-- ---- what the account goes by
+
+-- the first sequence header and the last one, how many pictures came, what is kept of their times, and the account
+pub record Stands (a : Auditing) (first last : Option Sequence) (number : ℕ) (times : Times) (account : Option Account) : Type 0 where
+  pub first_is : a.first ≡ first
+  pub last_is : a.sequence ≡ last
+  pub number_is : a.pictures ≡ number
+  pub times_are : a.times ≡ times
+  pub account_is : a.account ≡ account
+
+-- nothing else is of matter to it
+same_stands : (a b : Auditing) (f o : Option Sequence) (k : ℕ) (t : Times) (x : Option Account) → b.first ≡ a.first → b.sequence ≡ a.sequence → b.pictures ≡ a.pictures → b.times ≡ a.times → b.account ≡ a.account → Stands a f o k t x → Stands b f o k t x
+same_stands a b f o k t x ef eo ek et ex h = record {
+  first_is = ef ∙ h.first_is;
+  last_is = eo ∙ h.last_is;
+  number_is = ek ∙ h.number_is;
+  times_are = et ∙ h.times_are;
+  account_is = ex ∙ h.account_is;
+}
+
+stands_if : (w : Bool) (a b : Auditing) (f o : Option Sequence) (k : ℕ) (t : Times) (x : Option Account) → Stands a f o k t x → Stands b f o k t x → Stands (if w then a else b) f o k t x
+stands_if true a b f o k t x g h = g
+stands_if false a b f o k t x g h = h
+
+-- ---- headers
+
+one_header : (a : Auditing) (h : PieceHeader) (s : Option (SequenceInfo × SequenceExtension)) (f o : Option Sequence) (k : ℕ) (t : Times) (x : Option Account) → Stands a f o k t x → Stands (with_header a h s) f (with_header a h s).sequence k t x
+unfolding with_header
+one_header a (headers.Sequence bit) None f o k t x h = record { first_is = h.first_is; last_is = refl; number_is = h.number_is; times_are = h.times_are; account_is = h.account_is }
+one_header a (headers.Sequence bit) (Some s) f o k t x h = record { first_is = h.first_is; last_is = refl; number_is = h.number_is; times_are = h.times_are; account_is = h.account_is }
+one_header a (headers.Group bit g) s f o k t x h = record { first_is = h.first_is; last_is = refl; number_is = h.number_is; times_are = h.times_are; account_is = h.account_is }
+
+-- headers change the sequence header in force alone
+all_headers : (a : Auditing) (ss : List (SequenceInfo × SequenceExtension)) (j : ℕ) (hs : List PieceHeader) (f o : Option Sequence) (k : ℕ) (t : Times) (x : Option Account) → Stands a f o k t x
+    → Stands (with_headers a ss j hs) f (with_headers a ss j hs).sequence k t x
+unfolding with_headers
+all_headers a ss j [] f o k t x h = record { first_is = h.first_is; last_is = refl; number_is = h.number_is; times_are = h.times_are; account_is = h.account_is }
+all_headers a ss j (h ∷ hs) f o k t x stands =
+    let b = with_header a h (slice_get ss j) in
+    all_headers b ss (j + sequences_of h) hs f b.sequence k t x (one_header a h (slice_get ss j) f o k t x stands)
+
+-- ---- a picture
+
+-- where its frame stands in its group is of no matter
+placed_stands : (a : Auditing) (p : CodedPicture) (f o : Option Sequence) (k : ℕ) (t : Times) (x : Option Account) → Stands a f o k t x → Stands (with_place a p) f o k t x
+placed_stands a p f o k t x h = stands_if (ends_frame p.note) _ _ f o k t x (same_stands a _ f o k t x refl refl refl refl refl h) (same_stands a _ f o k t x refl refl refl refl refl h)
+
+-- a picture as the buffer sees it, with its number and what is kept of the times before it
+abbrev due_by : ℕ → Times → Sequence → PictureNote → ℕ → ℕ → Due
+due_by k t s n place bytes = record {
+  number = k;
+  bit = n.code_end - 32;
+  bits = 8 * bytes;
+  code_bits = n.code_end - 8 * place;
+  units = time_of t s n;
+  delay = n.info.vbv_delay;
+}
+
+coded_stands : (a : Auditing) (s : Sequence) (n : PictureNote) (place bytes zeros : ℕ) (f o : Option Sequence) (k : ℕ) (t : Times) (x : Option Account) → Stands a f o k t x
+    → Stands (with_coded a (coded a s n) place bytes zeros) f o (k + 1) (after t s n) (account_by x f n (due_by k t s n place bytes))
+coded_stands a s n place bytes zeros f o k t x h =
+    let p = coded a s n in
+    let b = with_told (counted a p) p bytes zeros in
+    let counted_stands : Stands b f o (k + 1) t x = record {
+      first_is = h.first_is;
+      last_is = h.last_is;
+      number_is = ap (λ (m : ℕ). m + 1) h.number_is;
+      times_are = h.times_are;
+      account_is = h.account_is;
+    } in
+    let g = placed_stands b p f o (k + 1) t x counted_stands in
+    record {
+      first_is = g.first_is;
+      last_is = g.last_is;
+      number_is = g.number_is;
+      times_are = ap (λ (u : Times). after u s n) g.times_are;
+      account_is = λ i. account_by (g.account_is i) (g.first_is i) n (due_by (h.number_is i) (g.times_are i) s n place bytes);
+    }
+
+-- ---- what is settled
+
+settled_stands : (a : Auditing) (y : Option Account) (f o : Option Sequence) (k : ℕ) (t : Times) (x : Option Account) → a.account ≡ y → Stands a f o k t x → Stands (cleared (settled_by a y)) f o k t (option_map after_settled y)
+settled_stands a None f o k t x e h = record { first_is = h.first_is; last_is = h.last_is; number_is = h.number_is; times_are = h.times_are; account_is = e }
+settled_stands a (Some z) f o k t x e h = record { first_is = h.first_is; last_is = h.last_is; number_is = h.number_is; times_are = h.times_are; account_is = refl }
+
+-- ---- a piece
+
+-- what a piece tells of removals, and what stands behind it, where the account came to this
+pub record Moves (a : Auditing) (place : ℕ) (piece : List ℕ) (notes : PieceNotes) (first last : Option Sequence) (number : ℕ) (times : Times) (account : Option Account) : Type 0 where
+  pub told : piece_removals a place piece notes ≡ settled_in account
+  pub behind : Stands (cleared (after_piece a place piece notes)) first last number times (option_map after_settled account)
+
+moved : (a : Auditing) (place : ℕ) (piece : List ℕ) (notes : PieceNotes) (f o : Option Sequence) (k : ℕ) (t : Times) (x : Option Account)
+    → Stands (pictured (fronted (longer (length piece) a) place piece notes) place (length piece) (zeros_last piece) notes.picture) f o k t x → Moves a place piece notes f o k t x
+unfolding after_piece
+moved a place piece notes f o k t x h =
+    let d = pictured (fronted (longer (length piece) a) place piece notes) place (length piece) (zeros_last piece) notes.picture in
+    record {
+      told = ap settled_in h.account_is;
+      behind = subst (λ (y : Option Account). Stands (cleared (with_settled d)) f o k t (option_map after_settled y)) h.account_is (settled_stands d d.account f o k t x refl h);
+    }
+
+noted_picture : (place : ℕ) (piece : List ℕ) (es : Events) → (notes_of place piece es).picture ≡ first_note (8 * place + code_bits piece) (pictures_in es)
+unfolding notes_of
+noted_picture place piece es = refl
+
+-- the beginning of a sequence, before the headers of its piece
+abbrev pub begun_at : Auditing → ℕ → List ℕ → Events → Auditing
+begun_at a place piece es = let b = longer (length piece) a in begun b.first b place (notes_of place piece es)
+
+-- the headers of a piece leave in force the last sequence header that it tells
+abbrev pub LastIsIn : Auditing → ℕ → List ℕ → Events → Type 0
+LastIsIn a place piece es = (with_headers a (map header_pair (sequences_in es)) 0 (front_of place piece)).sequence ≡ last_in a.sequence es
+
+fronted_stands : (a : Auditing) (place : ℕ) (piece : List ℕ) (es : Events) (f o : Option Sequence) (k : ℕ) (t : Times) (x : Option Account) → LastIsIn (begun_at a place piece es) place piece es → Stands (begun_at a place piece es) f o k t x
+    → Stands (fronted (longer (length piece) a) place piece (notes_of place piece es)) f (last_in o es) k t x
+unfolding notes_of
+fronted_stands a place piece es f o k t x last h =
+    let b = begun_at a place piece es in
+    let g = all_headers b (map header_pair (sequences_in es)) 0 (front_of place piece) f o k t x h in
+    record {
+      first_is = g.first_is;
+      last_is = last ∙ ap (λ (s : Option Sequence). last_in s es) h.last_is;
+      number_is = g.number_is;
+      times_are = g.times_are;
+      account_is = g.account_is;
+    }
+
+-- a piece without a picture: the last picture has more bits
+pub more_moves : (a : Auditing) (place : ℕ) (piece : List ℕ) (es : Events) (f o : Option Sequence) (k : ℕ) (t : Times) (x : Option Account) → LastIsIn (begun_at a place piece es) place piece es → Stands (begun_at a place piece es) f o k t x → pictures_in es ≡ []
+    → Moves a place piece (notes_of place piece es) f (last_in o es) k t (option_map (λ (y : Account). with_more y (bits_of_piece piece)) x)
+more_moves a place piece es f o k t x last h none =
+    let notes = notes_of place piece es in
+    let c = fronted (longer (length piece) a) place piece notes in
+    let g = fronted_stands a place piece es f o k t x last h in
+    let picture : notes.picture ≡ None = noted_picture place piece es ∙ ap (first_note (8 * place + code_bits piece)) none in
+    let is : pictured c place (length piece) (zeros_last piece) notes.picture ≡ with_note c c.sequence None place (length piece) (zeros_last piece) =
+    ap (λ (n : Option PictureNote). with_note c c.sequence n place (length piece) (zeros_last piece)) picture in
+    moved a place piece notes f (last_in o es) k t (option_map (λ (y : Account). with_more y (bits_of_piece piece)) x)
+    (subst (λ (d : Auditing). Stands d f (last_in o es) k t (option_map (λ (y : Account). with_more y (bits_of_piece piece)) x)) (sym is)
+    (record { first_is = g.first_is; last_is = g.last_is; number_is = g.number_is; times_are = g.times_are; account_is = ap (option_map (λ (y : Account). with_more y (bits_of_piece piece))) g.account_is }))
+
+-- a piece with a picture: the account goes on with it, or begins
+pub picture_moves : (a : Auditing) (place : ℕ) (piece : List ℕ) (es : Events) (m : Numbered) (f o : Option Sequence) (k : ℕ) (t : Times) (x : Option Account) → LastIsIn (begun_at a place piece es) place piece es → Stands (begun_at a place piece es) f o k t x
+    → pictures_in es ≡ m.picture ∷ [] → last_in o es ≡ Some m.sequence → m.number ≡ k → let n : PictureNote = note_of (8 * place + code_bits piece) m.picture in
+    Moves a place piece (notes_of place piece es) f (last_in o es) (k + 1) (after t m.sequence n) (account_by x f n (due_at t place (bits_of_piece piece) piece m))
+picture_moves a place piece es m f o k t x last h one headed number =
+    let notes = notes_of place piece es in
+    let c = fronted (longer (length piece) a) place piece notes in
+    let s = m.sequence in
+    let n : PictureNote = note_of (8 * place + code_bits piece) m.picture in
+    let g = fronted_stands a place piece es f o k t x last h in
+    let picture : notes.picture ≡ Some n = noted_picture place piece es ∙ ap (first_note (8 * place + code_bits piece)) one in
+    let is : pictured c place (length piece) (zeros_last piece) notes.picture ≡ with_coded c (coded c s n) place (length piece) (zeros_last piece) =
+    ap (λ (n : Option PictureNote). with_note c c.sequence n place (length piece) (zeros_last piece)) picture
+    ∙ ap (λ (z : Option Sequence). with_note c z (Some n) place (length piece) (zeros_last piece)) (g.last_is ∙ headed) in
+    let code : n.code_end - 8 * place ≡ code_bits piece = omega arith in
+    let due : due_by k t s n place (length piece) ≡ due_at t place (bits_of_piece piece) piece m =
+    λ i. record { number = sym number i; bit = n.code_end - 32; bits = bits_of_piece piece; code_bits = code i; units = time_of t s n; delay = n.info.vbv_delay } in
+    moved a place piece notes f (last_in o es) (k + 1) (after t s n) (account_by x f n (due_at t place (bits_of_piece piece) piece m))
+    (subst (λ (d : Auditing). Stands d f (last_in o es) (k + 1) (after t s n) (account_by x f n (due_at t place (bits_of_piece piece) piece m))) (sym is)
+    (subst (λ (d : Due). Stands (with_coded c (coded c s n) place (length piece) (zeros_last piece)) f (last_in o es) (k + 1) (after t s n) (account_by x f n d)) due
+    (coded_stands c s n place (length piece) (zeros_last piece) f (last_in o es) k t x g)))
