@@ -1,0 +1,2 @@
+pub mod BreachCounts
+pub mod BreachPlaces
