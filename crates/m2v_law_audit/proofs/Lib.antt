@@ -1,2 +1,3 @@
 pub mod BreachCounts
 pub mod BreachPlaces
+pub mod BreachEvents
