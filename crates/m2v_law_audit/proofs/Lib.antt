@@ -1,3 +1,5 @@
 pub mod BreachCounts
 pub mod BreachPlaces
 pub mod BreachEvents
+pub mod EventsUnits
+pub mod EventsFront
