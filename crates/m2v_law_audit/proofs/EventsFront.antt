@@ -1,10 +1,12 @@
 -- The headers before the picture of a piece are what it tells before its picture: each in turn, and of the same kind.
-use Rattle.std.proofs.Common.{◌≡◌, ℕ, zero, suc, ◌+◌, ◌*◌, ◌<◌, Bool, true, false, List, [], ◌∷◌, ◌++◌, length, Option, Some, None, Result, Ok, Err, refl, sym, ap, subst, ◌∙◌, arith}
-use Rattle.std.specs.Prelude.{nat_eq, if◌then◌else◌}
+use Rattle.std.proofs.Common.{◌≡◌, ℕ, zero, suc, ◌+◌, ◌*◌, ◌<◌, Bool, true, false, List, [], ◌∷◌, ◌++◌, length, map, Option, Some, None, Result, Ok, Err, refl, sym, ap, subst, ◌∙◌, append_assoc, arith}
+use Rattle.std.specs.Prelude.{nat_eq, slice_get, if◌then◌else◌}
 use Rattle.std.proofs.lemmas.Bool.{eqb-true}
-use Rattle.std.proofs.lemmas.List.{append-nil}
+use Rattle.std.proofs.lemmas.List.{append-nil, length-append}
 use Rattle.m2v_bits.specs.Syntax.{bind}
 use Rattle.m2v_bits.proofs.SyntaxLaws.{good}
+use Rattle.m2v_model.specs.m2v_macroblock.m2v_head.declared.sequence.SequenceInfo.{SequenceInfo}
+use Rattle.m2v_model.specs.m2v_macroblock.m2v_head.declared.sequence.SequenceExtension.{SequenceExtension}
 use Rattle.m2v_model.specs.m2v_macroblock.m2v_head.declared.group.GroupInfo.{GroupInfo}
 use Rattle.m2v_model.specs.declared.fault.FaultKind.{FaultKind}
 use Rattle.m2v_model.specs.declared.state.Sequence.{Sequence}
@@ -17,16 +19,21 @@ use Rattle.m2v_model.specs.Headers.{whole_header, group_in}
 use Rattle.m2v_model.specs.Pieces.{begins_piece, is_end}
 use Rattle.m2v_model.specs.Streams.{Part, sequence, group, picture, matrices, slice, unread_slice, skipped_unit, ending, over, after, value_of}
 use Rattle.m2v_model.specs.Pictures.{Store, Events, sequence_header, group_header, coded_picture, closed, told_by}
+use Rattle.m2v_model.specs.Lawful.{sequences_in}
+use Rattle.m2v_model.specs.PieceNotes.{header_pair, notes_of}
 use Rattle.m2v_model.specs.ByPieces.{Between, Course, behind, unit_read, after_part, units_read}
 use Rattle.m2v_audit.proofs.m2v_check.m2v_model.HeaderLaws.{whole_header_lawful, group_lawful}
-use Rattle.m2v_audit.proofs.m2v_check.m2v_model.SplitLaws.{KnownAt, known_at}
+use Rattle.m2v_audit.proofs.m2v_check.m2v_model.SplitLaws.{IsKnown, KnownAt, known_at}
 use Rattle.m2v_audit.proofs.m2v_check.m2v_model.FlowLaws.{part_read, read_once, unit_less}
 use Rattle.m2v_audit.proofs.m2v_check.m2v_decode.m2v_dec_rows.UnitGifts.{IsLast, unit_says}
+use Rattle.m2v_audit.proofs.m2v_check.Telling.{last_in}
 use Rattle.m2v_audit.proofs.m2v_check.Ordered.{HeadersFirst}
+use Rattle.m2v_audit.specs.declared.auditing.Auditing.{Auditing}
+use Rattle.m2v_audit.specs.Auditing.{with_sequence, with_group, with_header, sequences_of, with_headers}
 use Rattle.m2v_audit.specs.declared.headers.PieceHeader.{PieceHeader}
 use Rattle.m2v_audit.specs.declared.headers.PieceHeader.TheVariants as headers
 use Rattle.m2v_audit.specs.Front.{group_at, header_at, headers_from, front_of}
-use Rattle.m2v_law_audit.proofs.EventsUnits.{IsPlain, ReadsGroup, HasExtension, IsPartOf, IsAtEnd, unit_is, known_on}
+use Rattle.m2v_law_audit.proofs.EventsUnits.{IsPlain, ReadsGroup, HasExtension, IsPartOf, IsAtEnd, unit_is, known_plain, known_on}
 
 -- ---- headers and events
 
@@ -44,6 +51,10 @@ Fronts (headers.Group bit g ∷ hs) [] = ⊥
 Fronts (headers.Group bit g ∷ hs) (sequence_header s ∷ es) = ⊥
 Fronts (headers.Group bit g ∷ hs) (group_header h ∷ es) = (g ≡ h) × Fronts hs es
 Fronts (headers.Group bit g ∷ hs) (coded_picture p ∷ es) = ⊥
+
+-- a sequence header as it is noted
+abbrev pub Pair : Type 0
+Pair = SequenceInfo × SequenceExtension
 
 -- no unit stands behind an end code
 abbrev pub EndsLast : Units → Type 0
@@ -262,3 +273,78 @@ front_fronted b (u ∷ us) mid over es next fits ih = absurd fits
 pub front_is : (b : Between) (p : List ℕ) (es : Events) (next : Between) (place : ℕ) → units_read b (cut 0 p).1 ≡ Ok (es, next) → KnownAt b.state (cut 0 p).1 → HeadersFirst false (cut 0 p).1 → EndsLast (cut 0 p).1
     → b.state.picture ≡ None → Fronts (front_of place p) es
 front_is b p es next place e k h l shut = (by_parts Fronted last_fronted front_fronted b (cut 0 p).1 es next k e).1 h l shut (8 * place)
+
+-- ---- a sequence header is in force behind units
+
+abbrev Known : Claim
+Known b us es next = KnownAt b.state us → IsKnown next.state
+
+end_known : (st : State) (us : Units) → IsAtEnd us → KnownAt st us → IsKnown st
+end_known st [] a k = k
+end_known st (u ∷ us) a k = known_plain st u k (end_plain (value_of u) a).1
+
+last_known : AtLast Known
+unfolding after
+last_known b us (sequence s) a l = absurd l
+last_known b us (group g) a l = absurd l
+last_known b us (picture info extension) a l = absurd l
+last_known b us (matrices m) a l = absurd l
+last_known b us (slice row x) a l = absurd l
+last_known b us (unread_slice row u) a l = absurd l
+last_known b us (skipped_unit u) a l = absurd l
+last_known b us ending a l = λ k. end_known b.state us a k
+last_known b us over a l = λ k. end_known b.state us a k
+
+front_known : InFront Known
+front_known b us mid p es next fits ih = λ k. ih (known_at (after b.state p) mid (known_on b.state us p mid k fits))
+
+pub units_known : (b : Between) (us : Units) (es : Events) (next : Between) → units_read b us ≡ Ok (es, next) → KnownAt b.state us → IsKnown next.state
+units_known b us es next e k = by_parts Known last_known front_known b us es next k e k
+
+-- ---- the last sequence header
+
+-- what was noted of sequence headers, of which so many were passed, goes on with these
+pub record GoesOn (ss : List Pair) (k : ℕ) (later : List Pair) : Type 0 where
+  pub before : List Pair
+  pub are : ss ≡ before ++ later
+  pub passed : k ≡ length before
+
+pub all_go_on : (ss : List Pair) → GoesOn ss 0 ss
+all_go_on ss = record { before = []; are = refl; passed = refl }
+
+get_seam : (before : List Pair) (s : Pair) (later : List Pair) → slice_get (before ++ s ∷ later) (length before) ≡ Some s
+get_seam [] s later = refl
+get_seam (x ∷ before) s later = get_seam before s later
+
+pub first_of_rest : (ss : List Pair) (k : ℕ) (s : Pair) (later : List Pair) → GoesOn ss k (s ∷ later) → slice_get ss k ≡ Some s
+first_of_rest ss k s later g = (λ i. slice_get (g.are i) (g.passed i)) ∙ get_seam g.before s later
+
+pub go_on_behind : (ss : List Pair) (k : ℕ) (s : Pair) (later : List Pair) → GoesOn ss k (s ∷ later) → GoesOn ss (k + 1) later
+go_on_behind ss k s later g = record {
+  before = g.before ++ s ∷ [];
+  are = g.are ∙ sym (append_assoc g.before (s ∷ []) later);
+  passed = omega (arith, g.passed, length-append g.before (s ∷ []));
+}
+
+last_of : (hs : List PieceHeader) (es : Events) (a : Auditing) (ss : List Pair) (k : ℕ) → Fronts hs es → GoesOn ss k (map header_pair (sequences_in es)) → (with_headers a ss k hs).sequence ≡ last_in a.sequence es
+unfolding with_headers with_header sequences_of
+last_of [] [] a ss k f g = refl
+last_of [] (sequence_header s ∷ es) a ss k f g = absurd f
+last_of [] (group_header x ∷ es) a ss k f g = absurd f
+last_of [] (coded_picture p ∷ es) a ss k f g = sym (ap (last_in a.sequence) f)
+last_of (headers.Sequence bit ∷ hs) [] a ss k f g = absurd f
+last_of (headers.Sequence bit ∷ hs) (sequence_header s ∷ es) a ss k f g =
+    let later = map header_pair (sequences_in es) in
+    ap (λ (o : Option Pair). (with_headers (with_header a (headers.Sequence bit) o) ss (k + 1) hs).sequence) (first_of_rest ss k (header_pair s) later g)
+    ∙ last_of hs es (with_sequence a bit s) ss (k + 1) f (go_on_behind ss k (header_pair s) later g)
+last_of (headers.Sequence bit ∷ hs) (group_header x ∷ es) a ss k f g = absurd f
+last_of (headers.Sequence bit ∷ hs) (coded_picture p ∷ es) a ss k f g = absurd f
+last_of (headers.Group bit x ∷ hs) [] a ss k f g = absurd f
+last_of (headers.Group bit x ∷ hs) (sequence_header s ∷ es) a ss k f g = absurd f
+last_of (headers.Group bit x ∷ hs) (group_header y ∷ es) a ss k f g = last_of hs es (with_group a bit x) ss (k + 0) f.1 (subst (λ (n : ℕ). GoesOn ss n (map header_pair (sequences_in es))) (omega arith) g)
+last_of (headers.Group bit x ∷ hs) (coded_picture p ∷ es) a ss k f g = absurd f
+
+-- Behind the headers of a piece the last sequence header is that of its events, or the one before.
+pub last_sequence : (a : Auditing) (place : ℕ) (p : List ℕ) (es : Events) → Fronts (front_of place p) es → (with_headers a (notes_of place p es).sequences 0 (front_of place p)).sequence ≡ last_in a.sequence es
+unfolding notes_of
+last_sequence a place p es f = last_of (front_of place p) es a (map header_pair (sequences_in es)) 0 f (all_go_on (map header_pair (sequences_in es)))

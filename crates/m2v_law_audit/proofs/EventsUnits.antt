@@ -260,7 +260,7 @@ unit_is st (u ∷ us) x mid k e =
 
 -- ---- a sequence header is in force behind it
 
-known_plain : (st : State) (u : List ℕ) → KnownBy st u → nat_eq (value_of u) 0xB3 ≡ false → IsKnown st
+pub known_plain : (st : State) (u : List ℕ) → KnownBy st u → nat_eq (value_of u) 0xB3 ≡ false → IsKnown st
 known_plain st u k off = elim (cases_Bool (is_some st.sequence)) [
   | inl on ↦ on
   | inr none ↦ let h = rw (none, off) at k in absurd cc
