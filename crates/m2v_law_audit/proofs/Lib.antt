@@ -3,3 +3,4 @@ pub mod BreachPlaces
 pub mod BreachEvents
 pub mod EventsUnits
 pub mod EventsFront
+pub mod EventsPieces
