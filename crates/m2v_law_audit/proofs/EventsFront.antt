@@ -25,7 +25,7 @@ use Rattle.m2v_model.specs.ByPieces.{Between, Course, behind, unit_read, after_p
 use Rattle.m2v_audit.proofs.m2v_check.m2v_model.HeaderLaws.{whole_header_lawful, group_lawful}
 use Rattle.m2v_audit.proofs.m2v_check.m2v_model.SplitLaws.{IsKnown, KnownAt, known_at}
 use Rattle.m2v_audit.proofs.m2v_check.m2v_model.FlowLaws.{part_read, read_once, unit_less}
-use Rattle.m2v_audit.proofs.m2v_check.m2v_decode.m2v_dec_rows.UnitGifts.{IsLast, unit_says}
+use Rattle.m2v_audit.proofs.m2v_check.m2v_decode.m2v_dec_rows.UnitGifts.{IsLast, first_value, unit_says}
 use Rattle.m2v_audit.proofs.m2v_check.Telling.{last_in}
 use Rattle.m2v_audit.proofs.m2v_check.Ordered.{HeadersFirst}
 use Rattle.m2v_audit.specs.declared.auditing.Auditing.{Auditing}
@@ -273,6 +273,26 @@ front_fronted b (u ∷ us) mid over es next fits ih = absurd fits
 pub front_is : (b : Between) (p : List ℕ) (es : Events) (next : Between) (place : ℕ) → units_read b (cut 0 p).1 ≡ Ok (es, next) → KnownAt b.state (cut 0 p).1 → HeadersFirst false (cut 0 p).1 → EndsLast (cut 0 p).1
     → b.state.picture ≡ None → Fronts (front_of place p) es
 front_is b p es next place e k h l shut = (by_parts Fronted last_fronted front_fronted b (cut 0 p).1 es next k e).1 h l shut (8 * place)
+
+-- a sequence header stands first among events
+abbrev pub BeginsBySequence : Events → Type 0
+BeginsBySequence es = (s : Sequence) × (later : Events) × (es ≡ sequence_header s ∷ later)
+
+first_event : (bit : ℕ) (hs : List PieceHeader) (es : Events) → Fronts (headers.Sequence bit ∷ hs) es → BeginsBySequence es
+first_event bit hs [] f = absurd f
+first_event bit hs (sequence_header s ∷ es) f = (s, es, refl)
+first_event bit hs (group_header g ∷ es) f = absurd f
+first_event bit hs (coded_picture p ∷ es) f = absurd f
+
+first_unit : (bit : ℕ) (us : Units) (es : Events) → first_value us ≡ Some 0xB3 → Fronts (headers_from bit us) es → BeginsBySequence es
+first_unit bit [] es e f = absurd cc
+first_unit bit (u ∷ us) es e f =
+    let same : value_of u ≡ 0xB3 = cc in
+    first_event bit (headers_from (bit + 8 * length u) us) es (subst (λ (hs : List PieceHeader). Fronts hs es) (from_sequence bit u us same) f)
+
+-- A piece whose first unit is a sequence header tells that first.
+pub begins_by_sequence : (place : ℕ) (p : List ℕ) (es : Events) → first_value (cut 0 p).1 ≡ Some 0xB3 → Fronts (front_of place p) es → BeginsBySequence es
+begins_by_sequence place p es e f = first_unit (8 * place) (cut 0 p).1 es e f
 
 -- ---- a sequence header is in force behind units
 

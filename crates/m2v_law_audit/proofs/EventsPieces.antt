@@ -115,6 +115,10 @@ unfolding grouped
 before_cut [] a = (tt, tt)
 before_cut (u ∷ us) a = first_cut _ us u refl (before_cut us a.3) a
 
+-- A text's first piece begins with a sequence header.
+pub text_begins : (text : List ℕ) → BeginWith 0xB3 (pieces text)
+text_begins text = (before_cut (cut 0 text).1 (cut_cuts text).are_units).1
+
 -- ---- pieces that come next
 
 abbrev pub KnownFirst : State → List (List ℕ) → Type 0

@@ -4,3 +4,4 @@ pub mod BreachEvents
 pub mod EventsUnits
 pub mod EventsFront
 pub mod EventsPieces
+pub mod BreachJudged
