@@ -5,3 +5,4 @@ pub mod EventsUnits
 pub mod EventsFront
 pub mod EventsPieces
 pub mod BreachJudged
+pub mod BreachPieces
