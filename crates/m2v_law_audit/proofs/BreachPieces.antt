@@ -40,7 +40,7 @@ kept a = record { sequence = a.sequence; first_in_group = a.first_in_group; pict
 abbrev pub judged : List Finding → Breaches
 judged fs = map as_judged fs
 
-judged-append : (xs ys : List Finding) → judged (xs ++ ys) ≡ judged xs ++ judged ys
+pub judged-append : (xs ys : List Finding) → judged (xs ++ ys) ≡ judged xs ++ judged ys
 judged-append xs ys = map-append as_judged xs ys
 
 -- ---- events, and others behind them
@@ -102,15 +102,15 @@ note_kept a (Some s) n place bytes ending = coded_kept a (coded a s n) place byt
 -- ---- headers, and then a picture
 
 -- what headers and a picture tell, and what they leave
-abbrev found_in : Auditing → List Pair → ℕ → List PieceHeader → Option PictureNote → List Finding
+abbrev pub found_in : Auditing → List Pair → ℕ → List PieceHeader → Option PictureNote → List Finding
 found_in a ss k hs n = let front = with_headers a ss k hs in headers_found a ss k hs ++ note_found front front.sequence n
 
-abbrev left_by : Auditing → List Pair → ℕ → List PieceHeader → Option PictureNote → ℕ → ℕ → ℕ → Auditing
+abbrev pub left_by : Auditing → List Pair → ℕ → List PieceHeader → Option PictureNote → ℕ → ℕ → ℕ → Auditing
 left_by a ss k hs n place bytes ending = let front = with_headers a ss k hs in noted_with front front.sequence n place bytes ending
 
-record Follows (a : Auditing) (ss : List Pair) (k : ℕ) (hs : List PieceHeader) (end : ℕ) (es : Events) : Type 0 where
-  says : judged (found_in a ss k hs (first_note end (pictures_in es))) ≡ told_before (kept a) (marked end es)
-  leaves : (place bytes ending : ℕ) → kept (left_by a ss k hs (first_note end (pictures_in es)) place bytes ending) ≡ kept_behind (kept a) (marked end es)
+pub record Follows (a : Auditing) (ss : List Pair) (k : ℕ) (hs : List PieceHeader) (end : ℕ) (es : Events) : Type 0 where
+  pub says : judged (found_in a ss k hs (first_note end (pictures_in es))) ≡ told_before (kept a) (marked end es)
+  pub leaves : (place bytes ending : ℕ) → kept (left_by a ss k hs (first_note end (pictures_in es)) place bytes ending) ≡ kept_behind (kept a) (marked end es)
 
 -- one header, and then others
 abbrev found_by : Auditing → PieceHeader → Option Pair → List Pair → ℕ → List PieceHeader → Option PictureNote → List Finding
@@ -149,7 +149,7 @@ header_more a b h s e ss k hs end es get is next here note f =
           ∙ f.leaves place bytes ending ∙ ap (λ (x : Kept). kept_behind x (marked end es)) next;
     }
 
-follows : (hs : List PieceHeader) (es : Events) (a : Auditing) (ss : List Pair) (k end : ℕ) → Fronts hs es → GoesOn ss k (map header_pair (sequences_in es)) → Follows a ss k hs end es
+pub follows : (hs : List PieceHeader) (es : Events) (a : Auditing) (ss : List Pair) (k end : ℕ) → Fronts hs es → GoesOn ss k (map header_pair (sequences_in es)) → Follows a ss k hs end es
 unfolding headers_found with_headers with_header sequences_of
 follows [] [] a ss k end f g = record { says = refl; leaves = λ place bytes ending. refl }
 follows [] (sequence_header s ∷ es) a ss k end f g = absurd f

@@ -6,3 +6,4 @@ pub mod EventsFront
 pub mod EventsPieces
 pub mod BreachJudged
 pub mod BreachPieces
+pub mod BreachTexts

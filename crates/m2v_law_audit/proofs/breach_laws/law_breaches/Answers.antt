@@ -1,8 +1,8 @@
-use Rattle.std.proofs.Common.{refl}
-use Rattle.m2v_law_audit.proofs.BreachEvents.{told}
-use Rattle.m2v_law_audit.proofs.EventsPieces.{all_ready, text_tells}
-use Rattle.m2v_law_audit.proofs.BreachPieces.{kept}
+use Rattle.m2v_law_audit.proofs.BreachTexts.{all_told, as_many}
 use Rattle.m2v_law_audit.proofs.breach_laws.law_breaches.Goals as goal
 
-pub returns : goal.returns
-returns c = record { same = refl }
+pub returns-clause-same : goal.returns-clause-same
+returns-clause-same c = all_told
+
+pub returns-clause-count : goal.returns-clause-count
+returns-clause-count c = as_many
