@@ -16,3 +16,12 @@ pub mod RemovalPieces
 pub mod RemovalEvents
 pub mod RemovalTurns
 pub mod RemovalFailures
+pub mod BreachCounts
+pub mod BreachPlaces
+pub mod BreachEvents
+pub mod EventsUnits
+pub mod EventsFront
+pub mod EventsPieces
+pub mod BreachJudged
+pub mod BreachPieces
+pub mod BreachTexts

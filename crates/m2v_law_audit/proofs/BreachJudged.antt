@@ -1,0 +1,159 @@
+-- A finding as the verifier has it: a rule on a picture tells of that picture, and one on a sequence header of picture 0.
+use Rattle.std.proofs.Common.{◌≡◌, ℕ, ◌+◌, ◌*◌, Bool, true, false, List, [], ◌∷◌, ◌++◌, length, map, Option, Some, None, Ok, Err, refl, sym, ap, subst, ◌∙◌, append_assoc, inl, inr, arith}
+use Rattle.std.specs.Prelude.{nat_le, nat_lt, slice_get, if◌then◌else◌}
+use Rattle.std.specs.List.{flat_map, AllByRecursion}
+use Rattle.std.proofs.lemmas.Bool.{cases_Bool}
+use Rattle.std.proofs.lemmas.List.{append-nil, map-append}
+use Rattle.m2v_model.specs.declared.state.Sequence.{Sequence}
+use Rattle.m2v_model.specs.declared.notes.PictureNote.{PictureNote}
+use Rattle.m2v_model.specs.Headers.{uses_backward}
+use Rattle.m2v_model.specs.States.{is_frame, is_b}
+use Rattle.m2v_model.specs.Units.{cut}
+use Rattle.m2v_model.specs.Lawful.{Breach, Breaches, breach, judge, at_most, within, limits_in, level_in, most_horizontal, rate_of, buffer_of, has_forward_vectors, f_code_of, Numbered, level_rule, width_rule, height_rule, frame_rate_rule, luma_rule, rate_rule, buffer_rule, sequence_breaches, f_code_rule, horizontal_rule, vertical_rule, intra_rule, crowd_rule, repeat_rule, progressive_rule, precision_rule}
+use Rattle.m2v_audit.specs.declared.records.Finding.{Finding}
+use Rattle.m2v_audit.specs.declared.places.Misplaced.{Misplaced}
+use Rattle.m2v_law_audit.specs.Breaches.{as_judged}
+use Rattle.m2v_law_audit.specs.Found.{found_at, found_misplaced}
+use Rattle.m2v_law_audit.proofs.BreachCounts.{place_breach, place_breaches, other_rules}
+
+-- ---- findings as the verifier has them
+
+-- what is told of a picture is the breach itself: sequence headers count as picture 0
+abbrev IsOf : ℕ → Breach → Type 0
+IsOf picture b = (if nat_le b.rule 7 then 0 else picture) ≡ b.picture
+
+abbrev pub AreOf : ℕ → Breaches → Type 0
+AreOf picture bs = AllByRecursion (IsOf picture) bs
+
+pub judged_as : (sequence picture bit : ℕ) (bs : Breaches) → AreOf picture bs → map as_judged (found_at sequence picture bit bs) ≡ bs
+judged_as sequence picture bit [] h = refl
+judged_as sequence picture bit (b ∷ bs) h = λ i. breach b.rule (h.0 i) b.have b.need ∷ judged_as sequence picture bit bs h.1 i
+
+pub judged_places : (sequence : ℕ) (ms : List (Option Misplaced)) → map as_judged (found_misplaced sequence ms) ≡ place_breaches ms
+unfolding place_breaches
+judged_places sequence [] = refl
+judged_places sequence (None ∷ ms) = judged_places sequence ms
+judged_places sequence (Some m ∷ ms) = ap (λ (bs : Breaches). breach 11 m.number m.have m.need ∷ bs) (judged_places sequence ms)
+
+-- ---- of which picture the rules tell
+
+both : (picture : ℕ) (xs ys : Breaches) → AreOf picture xs → AreOf picture ys → AreOf picture (xs ++ ys)
+both picture [] ys a b = b
+both picture (x ∷ xs) ys a b = (a.0, both picture xs ys a.1 b)
+
+one_judged : (picture : ℕ) (holds : Bool) (b : Breach) → IsOf picture b → AreOf picture (judge holds b)
+one_judged picture true b h = tt
+one_judged picture false b h = (h, tt)
+
+one_within : (picture : ℕ) (low : Bool) (b : Breach) (bs : Breaches) → IsOf picture b → AreOf picture bs → AreOf picture (if low then b ∷ [] else bs)
+one_within picture true b bs h k = (h, tt)
+one_within picture false b bs h k = k
+
+one_used : (picture : ℕ) (used : Bool) (bs : Breaches) → AreOf picture bs → AreOf picture (if used then bs else [])
+one_used picture true bs h = h
+one_used picture false bs h = tt
+
+of_first : (picture : ℕ) (f : Sequence → Breaches) (s : Sequence) → AreOf picture (f s) → AreOf picture (flat_map f (s ∷ []))
+of_first picture f s h = both picture (f s) [] h tt
+
+level_of : (picture : ℕ) (s : Sequence) → AreOf picture (level_rule s)
+unfolding level_rule
+level_of picture s = one_judged picture _ _ refl
+
+width_of : (picture : ℕ) (s : Sequence) → AreOf picture (width_rule s)
+unfolding width_rule
+width_of picture s = one_judged picture _ _ refl
+
+height_of : (picture : ℕ) (s : Sequence) → AreOf picture (height_rule s)
+unfolding height_rule
+height_of picture s = one_judged picture _ _ refl
+
+frame_rate_of : (picture : ℕ) (s : Sequence) → AreOf picture (frame_rate_rule s)
+unfolding frame_rate_rule
+frame_rate_of picture s =
+    let code = s.info.frame_rate_code in
+    let most = (limits_in s).codes in
+    let change = 32 * s.extension.rate_n + s.extension.rate_d in
+    both picture (within 4 0 code 1 most) (at_most 4 0 change 0)
+    (one_within picture (nat_lt code 1) (breach 4 0 code 1) (at_most 4 0 code most) refl (one_judged picture _ _ refl))
+    (one_judged picture (nat_le change 0) (breach 4 0 change 0) refl)
+
+luma_of : (picture : ℕ) (s : Sequence) → AreOf picture (luma_rule s)
+unfolding luma_rule
+luma_of picture s = one_judged picture _ _ refl
+
+bits_of : (picture : ℕ) (s : Sequence) → AreOf picture (rate_rule s)
+unfolding rate_rule
+bits_of picture s = one_within picture (nat_lt (rate_of s) 1) (breach 6 0 (rate_of s) 1) (at_most 6 0 (rate_of s) (limits_in s).bits) refl (one_judged picture _ _ refl)
+
+held_of : (picture : ℕ) (s : Sequence) → AreOf picture (buffer_rule s)
+unfolding buffer_rule
+held_of picture s = one_within picture (nat_lt (buffer_of s) 1) (breach 7 0 (buffer_of s) 1) (at_most 7 0 (buffer_of s) (limits_in s).buffer) refl (one_judged picture _ _ refl)
+
+pub header_of : (picture : ℕ) (s : Sequence) → AreOf picture (sequence_breaches (s ∷ []))
+header_of picture s =
+    let ss : List Sequence = s ∷ [] in
+    let a : Breaches = flat_map level_rule ss in
+    let b : Breaches = flat_map width_rule ss in
+    let c : Breaches = flat_map height_rule ss in
+    let d : Breaches = flat_map frame_rate_rule ss in
+    let e : Breaches = flat_map luma_rule ss in
+    let f : Breaches = flat_map rate_rule ss in
+    let g : Breaches = flat_map buffer_rule ss in
+    both picture (a ++ b ++ c ++ d ++ e ++ f) g
+    (both picture (a ++ b ++ c ++ d ++ e) f
+    (both picture (a ++ b ++ c ++ d) e
+    (both picture (a ++ b ++ c) d
+    (both picture (a ++ b) c (both picture a b (of_first picture level_rule s (level_of picture s)) (of_first picture width_rule s (width_of picture s))) (of_first picture height_rule s (height_of picture s)))
+    (of_first picture frame_rate_rule s (frame_rate_of picture s)))
+    (of_first picture luma_rule s (luma_of picture s)))
+    (of_first picture rate_rule s (bits_of picture s)))
+    (of_first picture buffer_rule s (held_of picture s))
+
+codes_of : (rule component : ℕ) (limit : Numbered → ℕ) (n : Numbered) → nat_le rule 7 ≡ false → AreOf n.number (f_code_rule rule component limit n)
+codes_of rule component limit n late =
+    let forward = at_most rule n.number (f_code_of n.picture 0 component) (limit n) in
+    let backward = at_most rule n.number (f_code_of n.picture 1 component) (limit n) in
+    let is_forward = has_forward_vectors n.picture in
+    let is_backward = uses_backward n.picture.info.kind in
+    let own : (if nat_le rule 7 then 0 else n.number) ≡ n.number = rw late refl in
+    both n.number (if is_forward then forward else []) (if is_backward then backward else [])
+    (one_used n.number is_forward forward (one_judged n.number _ _ own))
+    (one_used n.number is_backward backward (one_judged n.number _ _ own))
+
+horizontal_of : (n : Numbered) → AreOf n.number (horizontal_rule n)
+unfolding horizontal_rule
+horizontal_of n = codes_of 8 0 (λ m. most_horizontal (level_in m.sequence)) n refl
+
+vertical_of : (n : Numbered) → AreOf n.number (vertical_rule n)
+unfolding vertical_rule
+vertical_of n = codes_of 9 1 (λ m. if is_frame m.picture.extension then 5 else 4) n refl
+
+intra_of : (n : Numbered) → AreOf n.number (intra_rule n)
+unfolding intra_rule
+intra_of n = one_judged n.number _ _ refl
+
+crowd_of : (n : Numbered) → AreOf n.number (crowd_rule n)
+unfolding crowd_rule
+crowd_of n = one_judged n.number _ _ refl
+
+repeat_of : (c : Bool) (n : Numbered) → AreOf n.number (repeat_rule c n)
+unfolding repeat_rule
+repeat_of c n = one_judged n.number _ _ refl
+
+progressive_of : (n : Numbered) → AreOf n.number (progressive_rule n)
+unfolding progressive_rule
+progressive_of n = one_judged n.number _ _ refl
+
+precision_of : (n : Numbered) → AreOf n.number (precision_rule n)
+unfolding precision_rule
+precision_of n = one_judged n.number _ _ refl
+
+pub others_of : (c : Bool) (n : Numbered) → AreOf n.number (other_rules c n)
+unfolding other_rules
+others_of c n =
+    both n.number (horizontal_rule n ++ vertical_rule n ++ intra_rule n) (crowd_rule n ++ repeat_rule c n ++ progressive_rule n ++ precision_rule n)
+    (both n.number (horizontal_rule n ++ vertical_rule n) (intra_rule n) (both n.number (horizontal_rule n) (vertical_rule n) (horizontal_of n) (vertical_of n)) (intra_of n))
+    (both n.number (crowd_rule n ++ repeat_rule c n ++ progressive_rule n) (precision_rule n)
+    (both n.number (crowd_rule n ++ repeat_rule c n) (progressive_rule n) (both n.number (crowd_rule n) (repeat_rule c n) (crowd_of n) (repeat_of c n)) (progressive_of n))
+    (precision_of n))
