@@ -1,36 +1,41 @@
 -- A stream as it is read piece by piece: what each piece tells, and what stands before and behind it.
-use Rattle.std.proofs.Common.{◌≡◌, ℕ, ◌+◌, ◌*◌, ◌≤◌, Bool, true, false, cond, List, [], ◌∷◌, ◌++◌, length, Option, None, Ok, Err, refl, sym, ap, subst, ◌∙◌, arith}
+use Rattle.std.proofs.Common.{◌≡◌, ℕ, ◌+◌, ◌*◌, ◌≤◌, Bool, true, false, cond, List, [], ◌∷◌, ◌++◌, length, None, Ok, Err, refl, sym, ap, subst, ◌∙◌, arith}
 use Rattle.std.proofs.lemmas.List.{append-nil, length-append}
-use Rattle.m2v_model.specs.declared.state.Open.{Open}
 use Rattle.m2v_model.specs.declared.fault.FaultKind.{FaultKind}
 use Rattle.m2v_model.specs.declared.fault.FaultKind.TheVariants.{FieldPair}
 use Rattle.m2v_model.specs.Units.{Units, cut}
 use Rattle.m2v_model.specs.States.{none_waits}
 use Rattle.m2v_model.specs.Streams.{Sofar, sequence, group, picture, matrices, slice, unread_slice, skipped_unit, ending, over, after}
-use Rattle.m2v_model.specs.Pictures.{Store, Events, closed, pictures_in}
+use Rattle.m2v_model.specs.Pictures.{Events, pictures_in}
 use Rattle.m2v_model.specs.Pieces.{pieces, before_pieces}
+use Rattle.m2v_model.specs.PieceNotes.{PieceNotes, notes_of}
 use Rattle.m2v_model.specs.Decoding.{Stream, events, frames_of}
-use Rattle.m2v_model.specs.ByPieces.{Between, Course, at_start, units_read, piece_read, behind, continued, pieces_read, end_of, text_ended, end_read, text_read, IsOne, TellInTurn}
+use Rattle.m2v_model.specs.ByPieces.{Between, Course, at_start, read_of, units_read, piece_read, behind, continued, pieces_read, end_of, text_ended, end_read, text_read, IsOne, TellInTurn}
 use Rattle.m2v_model.proofs.EventLaws.{pictures_in-append}
-use Rattle.m2v_model.proofs.PieceLaws.{by_pieces}
+use Rattle.m2v_model.proofs.PieceLaws.{placed, piece_is, by_pieces}
 use Rattle.m2v_model.proofs.TurnLaws.{pictures_in_turn}
 use Rattle.m2v_model.proofs.Unique.{exactly_one}
 use Rattle.m2v_audit.specs.m2v_check.Laws.{Alternates}
-use Rattle.m2v_audit.proofs.m2v_check.Telling.{AtLast, InFront, by_units, first_in, last_in, AreHeaded, IsGoodState, Says, says_on, says_nothing, units_say}
-use Rattle.m2v_audit.proofs.m2v_check.Ordered.{AreOrdered, IsOrdered, PictureLast, pieces_ordered, units_ordered}
+use Rattle.m2v_audit.proofs.m2v_check.Telling.{AtLast, InFront, by_units, first_in, last_in, AreHeaded, Says, says_on, says_nothing}
+use Rattle.m2v_audit.proofs.m2v_check.Ordered.{PictureLast}
 use Rattle.m2v_audit.proofs.m2v_check.Checking.{units_of_piece}
+use Rattle.m2v_audit.specs.declared.auditing.Auditing.{Auditing}
+use Rattle.m2v_audit.specs.Auditing.{longer, begun, cleared, after_piece}
+use Rattle.m2v_audit.specs.Front.{front_of}
+use Rattle.m2v_law_audit.specs.Found.{along, all_along}
+use Rattle.m2v_law_audit.proofs.EventsFront.{Fronts, closed_none}
+use Rattle.m2v_law_audit.proofs.EventsPieces.{AreReady, piece_says, all_ready}
 
 -- ---- what one piece tells
 
--- a piece between others: what it tells, and what is told behind it
+-- a piece between others: what it tells, its headers first, and what is told behind it
 pub record Turn (b : Between) (p : List ℕ) (later : List (List ℕ)) (es : Events) : Type 0 where
   pub own : Events
   pub next : Between
   pub rest : Events
   pub read : units_read b (cut 0 p).1 ≡ Ok (own, next)
   pub are : es ≡ own ++ rest
-  pub ordered : IsOrdered p
-  pub shut : b.state.picture ≡ None
+  pub fronts : (place : ℕ) → Fronts (front_of place p) own
   pub last : PictureLast own
   pub headed : AreHeaded b.state.sequence own
   pub sequence : next.state.sequence ≡ last_in b.state.sequence own
@@ -51,7 +56,7 @@ record Continued (c : Course) (f : Between → Course) (es : Events) (last : Bet
   later : f next ≡ Ok (rest, last)
   are : es ≡ own ++ rest
 
-behind_ok : (own : Events) (r : Course) (es : Events) (last : Between) → behind own r ≡ Ok (es, last) → (rest : Events) × (r ≡ Ok (rest, last)) × (es ≡ own ++ rest)
+pub behind_ok : (own : Events) (r : Course) (es : Events) (last : Between) → behind own r ≡ Ok (es, last) → (rest : Events) × (r ≡ Ok (rest, last)) × (es ≡ own ++ rest)
 behind_ok own (Ok x) es last e =
     let is : (own ++ x.0, x.1) ≡ (es, last) = cc in
     (x.0, ap (λ (y : Events × Between). Ok (x.0, y.1)) is, sym (ap (λ (y : Events × Between). y.0) is))
@@ -70,40 +75,39 @@ record HasTurns (b : Between) (ps : List (List ℕ)) (es : Events) (last : Betwe
   says : Says b.state es last.state
   shut : last.state.picture ≡ None
 
-turns_of : (ps : List (List ℕ)) (b : Between) (at : ℕ) (es : Events) (last : Between) → pieces_read b at ps ≡ Ok (es, last) → TellInTurn b at ps → AreOrdered ps → IsGoodState b.state → b.state.picture ≡ None → HasTurns b ps es last
+turns_of : (ps : List (List ℕ)) (b : Between) (at : ℕ) (es : Events) (last : Between) → pieces_read b at ps ≡ Ok (es, last) → TellInTurn b at ps → AreReady b ps → HasTurns b ps es last
 unfolding pieces_read
-turns_of [] b at es last e turn ordered good shut =
+turns_of [] b at es last e turn ready =
     let is : ([], b) ≡ (es, last) = cc in
     let none : es ≡ [] = sym (ap (λ (x : Events × Between). x.0) is) in
     let same : b ≡ last = ap (λ (x : Events × Between). x.1) is in
     record {
       turns = none;
-      says = subst (λ (x : Events × Between). Says b.state x.0 x.1.state) is (says_nothing b.state good);
-      shut = subst (λ (x : Between). x.state.picture ≡ None) same shut;
+      says = subst (λ (x : Events × Between). Says b.state x.0 x.1.state) is (says_nothing b.state ready.good);
+      shut = subst (λ (x : Between). x.state.picture ≡ None) same ready.shut;
     }
-turns_of (p ∷ ps) b at es last e turn ordered good shut =
+turns_of (p ∷ ps) b at es last e turn ready =
     let end = at + length p in
     let h = continued_ok (piece_read b end p) (λ next. pieces_read next end ps) es last e in
     let read = units_of_piece b end p (h.own, h.next) h.first in
-    let says = units_say b (cut 0 p).1 h.own h.next read good in
+    let s = piece_says b p ps h.own h.next ready read in
     let one = turn h.own h.next h.first in
-    let more = turns_of ps h.next end h.rest last h.later one.1 ordered.1 says.0.good says.1 in
+    let more = turns_of ps h.next end h.rest last h.later one.1 s.ready in
     let here : Turn b p ps es = record {
       own = h.own;
       next = h.next;
       rest = h.rest;
       read = read;
       are = h.are;
-      ordered = ordered.0;
-      shut = shut;
-      last = units_ordered b (cut 0 p).1 h.own h.next read ordered.0 shut;
-      headed = says.0.headed;
-      sequence = says.0.sequence;
+      fronts = s.fronts;
+      last = s.last;
+      headed = (s.says).headed;
+      sequence = (s.says).sequence;
       one = one.0;
     } in
     record {
       turns = (here, more.turns);
-      says = subst (λ (x : Events). Says b.state x last.state) (sym h.are) (says_on b.state h.next.state last.state h.own h.rest says.0 more.says);
+      says = subst (λ (x : Events). Says b.state x last.state) (sym h.are) (says_on b.state h.next.state last.state h.own h.rest s.says more.says);
       shut = more.shut;
     }
 
@@ -112,9 +116,6 @@ turns_of (p ∷ ps) b at es last e turn ordered good shut =
 -- behind a picture that ended nothing is told, and the first sequence header stays
 abbrev TellsNothing : Between → Units → Events → Between → Type 0
 TellsNothing b us es next = us ≡ [] → b.state.picture ≡ None → (es ≡ []) × (next.state.first ≡ b.state.first)
-
-closed_none : (o : Option Open) (store : Store) → o ≡ None → closed o store ≡ []
-closed_none o store e = ap (λ (p : Option Open). closed p store) e
 
 nothing_last : AtLast TellsNothing
 unfolding after
@@ -151,16 +152,17 @@ end_tells b end es last e shut =
 
 -- ---- a stream
 
--- what is read of a stream
-stream_reads : (text : List ℕ) (tree : Sofar) → Stream text tree → (c : Course) → text_read text ≡ c → (last : Between) × (c ≡ Ok (events tree, last)) × (last.state.first ≡ tree.state.first)
-stream_reads text tree stream (Ok x) e =
-    let r = (by_pieces text).stands x.0 x.1 e in
-    let same : r.tree ≡ tree = (exactly_one text).one_tree r.tree tree r.stream stream in
-    let own : x.0 ≡ events tree = ap (λ (y : Events × Between). y.0) r.told ∙ ap events same in
-    let first : (x.1).state.first ≡ tree.state.first = ap (λ (y : Events × Between). (y.1).state.first) r.told ∙ ap (λ (t : Sofar). t.state.first) same in
-    (x.1, ap (λ (es : Events). Ok (es, x.1)) own, first)
-stream_reads text tree stream (Err f) e =
-    absurd ((exactly_one text).not_both (frames_of tree) f.1 f.0 (record { tree = tree; stream = stream; shown = refl }) ((by_pieces text).fault f.0 f.1 e))
+-- A stream is read without a fault: its parts.
+pub stream_read : (text : List ℕ) (tree : Sofar) → Stream text tree → text_read text ≡ Ok (read_of at_start tree)
+stream_read text tree stream = by (text_read text) refl
+  where
+    by : (c : Course) → text_read text ≡ c → c ≡ Ok (read_of at_start tree)
+    by (Ok x) e =
+        let r = (by_pieces text).stands x.0 x.1 e in
+        let same : r.tree ≡ tree = (exactly_one text).one_tree r.tree tree r.stream stream in
+        ap (λ (y : Events × Between). Ok y) r.told ∙ ap (λ (t : Sofar). Ok (read_of at_start t)) same
+    by (Err f) e =
+        absurd ((exactly_one text).not_both (frames_of tree) f.1 f.0 (record { tree = tree; stream = stream; shown = refl }) ((by_pieces text).fault f.0 f.1 e))
 
 -- its pieces tell its headers and pictures in turn
 pub record InPieces (text : List ℕ) (tree : Sofar) : Type 0 where
@@ -172,16 +174,34 @@ pub in_pieces : (text : List ℕ) (tree : Sofar) → Stream text tree → InPiec
 unfolding text_read
 in_pieces text tree stream =
     let at = length (before_pieces text) in
-    let whole = stream_reads text tree stream (text_read text) refl in
-    let h = continued_ok (pieces_read at_start at (pieces text)) (λ last. end_read last (end_of at (pieces text))) (events tree) whole.0 whole.1 in
-    let all = turns_of (pieces text) at_start at h.own h.next h.first (pictures_in_turn text) (pieces_ordered text) tt refl in
-    let end = end_tells h.next (end_of at (pieces text)) h.rest whole.0 h.later all.shut in
+    let whole : Between = (read_of at_start tree).1 in
+    let h = continued_ok (pieces_read at_start at (pieces text)) (λ last. end_read last (end_of at (pieces text))) (events tree) whole (stream_read text tree stream) in
+    let all = turns_of (pieces text) at_start at h.own h.next h.first (pictures_in_turn text) (all_ready text) in
+    let end = end_tells h.next (end_of at (pieces text)) h.rest whole h.later all.shut in
     let own : h.own ≡ events tree = sym (append-nil h.own) ∙ ap (λ (x : Events). h.own ++ x) (sym end.0) ∙ sym h.are in
     record {
       turns = subst (Turns at_start (pieces text)) own all.turns;
-      first = sym whole.2 ∙ end.1 ∙ all.says.first ∙ ap (first_in None) own;
+      first = end.1 ∙ all.says.first ∙ ap (first_in None) own;
       alternates = subst (λ (x : Events). Alternates false (pictures_in x)) own all.says.alternates;
     }
+
+-- ---- what is told along pieces
+
+-- what stands before the headers of a piece, and behind the piece
+abbrev pub begun_at : Auditing → ℕ → List ℕ → Events → Auditing
+begun_at a at p es = begun a.first (longer (length p) a) at (notes_of at p es)
+
+abbrev pub behind_piece : Auditing → ℕ → List ℕ → Events → Auditing
+behind_piece a at p es = cleared (after_piece a at p (notes_of at p es))
+
+-- a list that each piece adds to: what a piece adds, and then what follows it
+pub one_piece : {T : Type 0} (here : Auditing → ℕ → List ℕ → PieceNotes → List T) (last : Auditing → List T) (a : Auditing) (b : Between) (at : ℕ) (p : List ℕ) (ps : List (List ℕ)) (es : Events) → (t : Turn b p ps es)
+    → all_along here last a b at (p ∷ ps) ≡ here a at p (notes_of at p t.own) ++ all_along here last (behind_piece a at p t.own) t.next (at + length p) ps
+unfolding all_along
+one_piece here last a b at p ps es t =
+    let end = at + length p in
+    let is : piece_read b end p ≡ Ok (t.own, t.next) = piece_is b end p ∙ ap (placed end) t.read in
+    ap (λ (c : Course). along here last a at p c (λ x y. all_along here last x y end ps)) is
 
 -- ---- how many pictures there are
 

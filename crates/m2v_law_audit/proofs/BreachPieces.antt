@@ -31,7 +31,6 @@ use Rattle.m2v_law_audit.proofs.BreachCounts.{place_breaches, other_rules}
 use Rattle.m2v_law_audit.proofs.BreachJudged.{judged_as, judged_places, header_of, others_of}
 use Rattle.m2v_law_audit.proofs.BreachEvents.{Kept, Marked, plain, marked, coming, with_coded, with_note, with_event, places_told, coded_told, note_told, event_told, told}
 use Rattle.m2v_law_audit.proofs.EventsFront.{Pair, Fronts, GoesOn, all_go_on, first_of_rest, go_on_behind}
-use Rattle.m2v_law_audit.proofs.EventsPieces.{AreReady, Tell, piece_says}
 
 -- what is kept for the rules
 abbrev pub kept : Auditing → Kept

@@ -150,7 +150,7 @@ Fronted b us es next =
     (HeadersFirst true us → Fronts [] es)
     × (HeadersFirst false us → EndsLast us → b.state.picture ≡ None → (bit : ℕ) → Fronts (headers_from bit us) es)
 
-closed_none : (o : Option Open) (store : Store) → o ≡ None → closed o store ≡ []
+pub closed_none : (o : Option Open) (store : Store) → o ≡ None → closed o store ≡ []
 closed_none o store e = ap (λ (p : Option Open). closed p store) e
 
 closed_fronts : (o : Option Open) (store : Store) → Fronts [] (closed o store)

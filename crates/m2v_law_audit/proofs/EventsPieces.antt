@@ -1,29 +1,24 @@
 -- The pieces of a text, read one after another: what holds of each, and that they tell what the whole text does.
-use Rattle.std.proofs.Common.{◌≡◌, ℕ, ◌+◌, ◌*◌, Bool, true, false, cond, List, [], ◌∷◌, ◌++◌, length, take, Option, Some, None, Ok, Err, inl, inr, refl, sym, ap, subst, ◌∙◌, append_assoc}
-use Rattle.std.specs.Prelude.{nat_eq, is_some, ◌||◌, if◌then◌else◌}
+use Rattle.std.proofs.Common.{◌≡◌, ℕ, ◌+◌, Bool, true, false, List, [], ◌∷◌, ◌++◌, take, Some, None, Ok, inl, inr, refl, sym, ap, subst, ◌∙◌, append_assoc}
+use Rattle.std.specs.Prelude.{nat_eq, is_some, if◌then◌else◌}
 use Rattle.std.proofs.lemmas.Bool.{cases_Bool, eqb-true}
 use Rattle.std.proofs.lemmas.List.{append-nil}
-use Rattle.m2v_bits.specs.Syntax.{seq, rule, done}
 use Rattle.m2v_model.specs.declared.phase.Phase.{Phase}
 use Rattle.m2v_model.specs.declared.phase.Phase.TheVariants as phases
 use Rattle.m2v_model.specs.declared.state.State.{State}
 use Rattle.m2v_model.specs.Units.{Units, cut, joined, AreUnits}
-use Rattle.m2v_model.specs.States.{at_first, none_waits}
-use Rattle.m2v_model.specs.Streams.{Part, Sofar, sequence, group, picture, matrices, slice, unread_slice, skipped_unit, ending, over, value_of, units_from, stream_from, stream_at}
-use Rattle.m2v_model.specs.Pictures.{Events, closed, pictures_in}
-use Rattle.m2v_model.specs.Pieces.{phase_after, begins_piece, is_end, piece_of, grouped, pieces, before_pieces}
-use Rattle.m2v_model.specs.Decoding.{Stream, events}
-use Rattle.m2v_model.specs.ByPieces.{Between, Course, at_start, read_of, units_read, piece_read, behind, continued, pieces_read, end_of, text_ended, end_read, text_read}
-use Rattle.m2v_audit.proofs.m2v_check.m2v_model.CutLaws.{cut_cuts, cuts_is, cut_units, joined-append, are_before, are_behind, are_code}
+use Rattle.m2v_model.specs.States.{at_first}
+use Rattle.m2v_model.specs.Streams.{sequence, picture, value_of}
+use Rattle.m2v_model.specs.Pictures.{Events}
+use Rattle.m2v_model.specs.Pieces.{phase_after, is_end, piece_of, grouped, pieces}
+use Rattle.m2v_model.specs.ByPieces.{Between, at_start, units_read}
+use Rattle.m2v_audit.proofs.m2v_check.m2v_model.CutLaws.{cut_cuts, cut_units, joined-append, are_before, are_behind, are_code}
 use Rattle.m2v_audit.proofs.m2v_check.m2v_model.ShiftLaws.{NoEnds}
-use Rattle.m2v_audit.proofs.m2v_check.m2v_model.SplitLaws.{IsKnown, KnownBy, KnownAt, known_at}
-use Rattle.m2v_audit.proofs.m2v_check.m2v_model.PieceLaws.{placed, piece_is, piece_whole, IsOpen, open_after, no_ends-append, value_code, sequence_goes, finished, text_is}
-use Rattle.m2v_audit.proofs.m2v_check.m2v_model.StreamLaws.{units_lawful}
-use Rattle.m2v_audit.proofs.m2v_check.m2v_decode.m2v_dec_rows.UnitGifts.{PartFits, IsLast, IsOnward, first_value}
-use Rattle.m2v_audit.proofs.m2v_check.Telling.{first_in, AtLast, InFront, by_units, IsGoodState, Says, says_on, says_nothing, units_say}
+use Rattle.m2v_audit.proofs.m2v_check.m2v_model.SplitLaws.{IsKnown, KnownAt, known_at}
+use Rattle.m2v_audit.proofs.m2v_check.m2v_model.PieceLaws.{piece_whole, IsOpen, open_after, no_ends-append, sequence_goes}
+use Rattle.m2v_audit.proofs.m2v_check.m2v_decode.m2v_dec_rows.UnitGifts.{first_value}
+use Rattle.m2v_audit.proofs.m2v_check.Telling.{IsGoodState, Says, units_say}
 use Rattle.m2v_audit.proofs.m2v_check.Ordered.{AreOrdered, PictureLast, pieces_ordered, units_ordered}
-use Rattle.m2v_audit.proofs.m2v_check.Checking.{units_of_piece}
-use Rattle.m2v_audit.specs.m2v_check.Laws.{Alternates}
 use Rattle.m2v_audit.specs.Front.{front_of}
 use Rattle.m2v_law_audit.proofs.EventsFront.{Fronts, EndsLast, front_is, units_known}
 
@@ -173,122 +168,3 @@ piece_says b p ps es next r e =
       fronts = λ place. front_is b p es next place e r.known r.ordered.0 r.ends.0 r.shut;
       ready = record { good = s.0.good; shut = s.1; ordered = r.ordered.1; ends = r.ends.1; known = later_known next.state ps (units_known b us es next e r.known) };
     }
-
--- ---- what pieces tell
-
--- pieces that are read without a fault tell these events, and leave what stands behind them
-abbrev pub Tell : Between → List (List ℕ) → Events → Between → Type 0
-Tell b [] es last = (es ≡ []) × (b ≡ last)
-Tell b (p ∷ ps) es last = (fs : Events) × (next : Between) × (gs : Events) × (units_read b (cut 0 p).1 ≡ Ok (fs, next)) × Tell next ps gs last × (es ≡ fs ++ gs)
-
--- what is read of a course and then of what follows it
-record Both (c : Course) (f : Between → Course) (es : Events) (last : Between) : Type 0 where
-  first : Events
-  mid : Between
-  later : Events
-  read : c ≡ Ok (first, mid)
-  rest : f mid ≡ Ok (later, last)
-  are : es ≡ first ++ later
-
-behind_ok : (fs : Events) (c : Course) (es : Events) (last : Between) → behind fs c ≡ Ok (es, last) → (gs : Events) × (c ≡ Ok (gs, last)) × (es ≡ fs ++ gs)
-behind_ok fs (Ok x) es last e =
-    let same : (fs ++ x.0, x.1) ≡ (es, last) = cc in
-    (x.0, ap (λ (b : Between). Ok (x.0, b)) (ap (λ (y : Events × Between). y.1) same), sym (ap (λ (y : Events × Between). y.0) same))
-behind_ok fs (Err f) es last e = absurd cc
-
-both_ok : (c : Course) (f : Between → Course) (es : Events) (last : Between) → continued c f ≡ Ok (es, last) → Both c f es last
-unfolding continued
-both_ok (Ok x) f es last e =
-    let b = behind_ok x.0 (f x.1) es last e in
-    record { first = x.0; mid = x.1; later = b.0; read = refl; rest = b.1; are = b.2 }
-both_ok (Err g) f es last e = absurd cc
-
-pieces_tell : (b : Between) (at : ℕ) (ps : List (List ℕ)) (es : Events) (last : Between) → pieces_read b at ps ≡ Ok (es, last) → Tell b ps es last
-unfolding pieces_read
-pieces_tell b at [] es last e =
-    let same : ([], b) ≡ (es, last) = cc in
-    (sym (ap (λ (y : Events × Between). y.0) same), ap (λ (y : Events × Between). y.1) same)
-pieces_tell b at (p ∷ ps) es last e =
-    let x = both_ok (piece_read b (at + length p) p) (λ next. pieces_read next (at + length p) ps) es last e in
-    (x.first, x.mid, x.later, units_of_piece b (at + length p) p (x.first, x.mid) x.read, pieces_tell x.mid (at + length p) ps x.later last x.rest, x.are)
-
--- what they tell together
-pub all_say : (b : Between) (ps : List (List ℕ)) (es : Events) (last : Between) → AreReady b ps → Tell b ps es last → Says b.state es last.state × (last.state.picture ≡ None)
-all_say b [] es last r t =
-    subst (λ (c : Between). Says b.state es c.state × (c.state.picture ≡ None)) t.1 (subst (λ (l : Events). Says b.state l b.state) (sym t.0) (says_nothing b.state r.good), r.shut)
-all_say b (p ∷ ps) es last r t =
-    let first = piece_says b p ps t.0 t.1 r t.3 in
-    let more = all_say t.1 ps t.2 last first.ready t.4 in
-    (subst (λ (l : Events). Says b.state l last.state) (sym t.5) (says_on b.state t.1.state last.state t.0 t.2 first.says more.0), more.1)
-
--- ---- the whole text
-
--- behind the last piece nothing more is told
-abbrev Nothing : Between → Units → Events → Between → Type 0
-Nothing b us es next = us ≡ [] → b.state.picture ≡ None → es ≡ []
-
-last_nothing : AtLast Nothing
-last_nothing b us (sequence s) l = absurd l
-last_nothing b us (group g) l = absurd l
-last_nothing b us (picture info extension) l = absurd l
-last_nothing b us (matrices m) l = absurd l
-last_nothing b us (slice row x) l = absurd l
-last_nothing b us (unread_slice row u) l = absurd l
-last_nothing b us (skipped_unit u) l = absurd l
-last_nothing b us ending l = λ none shut. ap (λ o. closed o b.store) shut
-last_nothing b us over l = λ none shut. ap (λ o. closed o b.store) shut
-
-front_nothing : InFront Nothing
-front_nothing b [] mid p es next fits onward ih = absurd onward
-front_nothing b (u ∷ us) mid p es next fits onward ih = λ none shut. absurd cc
-
-ended_ok : (end : ℕ) (c : Course) (x : Events × Between) → text_ended end c ≡ Ok x → c ≡ Ok x
-ended_ok end (Ok y) x e = elim (cases_Bool (none_waits (y.1).state.waiting)) [
-  | inl on ↦ rw on at e
-  | inr off ↦ let h = rw off at e in absurd cc
-]
-ended_ok end (Err f) x e = absurd cc
-
-end_tells : (b last : Between) (end : ℕ) (es : Events) → b.state.picture ≡ None → end_read b end ≡ Ok (es, last) → es ≡ []
-unfolding cut
-end_tells b last end es shut e = by_units Nothing last_nothing front_nothing b [] es last (units_of_piece b end [] (es, last) (ended_ok end (piece_read b end []) (es, last) e)) refl shut
-
--- a text that is a stream, as it is read
-record IsStream (us : Units) (tree : Sofar) : Type 0 where
-  read : units_read at_start us ≡ Ok (read_of at_start tree)
-  paired : none_waits tree.state.waiting ≡ true
-
-stream_is : (us : Units) (tree : Sofar) (rest : Units) → stream_at.Stands tree us rest → IsStream us tree
-unfolding stream_at stream_from seq rule done units_read
-stream_is us tree rest x =
-    let e = (units_lawful at_first).only x.0 us x.1 x.2 in
-    let same : x.0 ≡ tree = sym x.3.3.0 in
-    let r : units_read at_start us ≡ Ok (read_of at_start x.0) = rw e refl in
-    record {
-      read = r ∙ ap (λ (t : Sofar). Ok (read_of at_start t)) same;
-      paired = ap (λ (t : Sofar). none_waits t.state.waiting) (sym same) ∙ x.3.2.0;
-    }
-
--- What a stream tells is what its pieces tell, one after another.
-pub record TextTells (text : List ℕ) (tree : Sofar) : Type 0 where
-  pub last : Between
-  pub tell : Tell at_start (pieces text) (events tree) last
-  pub alternates : Alternates false (pictures_in (events tree))
-  pub first : tree.state.first ≡ first_in None (events tree)
-
-pub text_tells : (text : List ℕ) (tree : Sofar) → Stream text tree → TextTells text tree
-unfolding text_read
-text_tells text tree s =
-    let us = (cut 0 text).1 in
-    let at : ℕ = length (before_pieces text) in
-    let end : ℕ = end_of at (pieces text) in
-    let units : s.units ≡ us = ap (λ (x : List ℕ × Units). x.1) (sym (cuts_is text s.front s.units s.cuts)) in
-    let x = stream_is us tree s.rest (subst (λ (l : Units). stream_at.Stands tree l s.rest) units s.stands) in
-    let whole : text_read text ≡ Ok (read_of at_start tree) = text_is text ∙ ap (finished (length text)) x.read ∙ rw x.paired refl in
-    let y = both_ok (pieces_read at_start at (pieces text)) (λ last. end_read last end) (events tree) (read_of at_start tree).1 whole in
-    let tell = pieces_tell at_start at (pieces text) y.first y.mid y.read in
-    let shut = (all_say at_start (pieces text) y.first y.mid (all_ready text) tell).1 in
-    let none = end_tells y.mid (read_of at_start tree).1 end y.later shut y.rest in
-    let are : y.first ≡ events tree = sym (y.are ∙ ap (λ (l : Events). y.first ++ l) none ∙ append-nil y.first) in
-    let says = (units_say at_start us (events tree) (read_of at_start tree).1 x.read tt).0 in
-    record { last = y.mid; tell = subst (λ (l : Events). Tell at_start (pieces text) l y.mid) are tell; alternates = says.alternates; first = says.first }

@@ -11,7 +11,6 @@ pub mod AccountFirst
 pub mod AccountDues
 pub mod AccountReading
 pub mod AccountChecked
-pub mod RemovalHeaders
 pub mod RemovalPieces
 pub mod RemovalEvents
 pub mod RemovalTurns

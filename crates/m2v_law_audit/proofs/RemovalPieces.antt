@@ -1,5 +1,5 @@
 -- What a piece does to the account, and to what the account of later pieces goes by.
-use Rattle.std.proofs.Common.{◌≡◌, ℕ, ◌+◌, ◌-◌, ◌*◌, Bool, true, false, List, [], ◌∷◌, length, map, Option, Some, None, option_map, refl, sym, ap, subst, ◌∙◌, arith}
+use Rattle.std.proofs.Common.{◌≡◌, ℕ, ◌+◌, ◌-◌, ◌*◌, Bool, true, false, List, [], ◌∷◌, length, Option, Some, None, option_map, refl, sym, ap, subst, ◌∙◌, arith}
 use Rattle.std.specs.Prelude.{slice_get, if◌then◌else◌}
 use Rattle.m2v_model.specs.m2v_macroblock.m2v_head.declared.sequence.SequenceInfo.{SequenceInfo}
 use Rattle.m2v_model.specs.m2v_macroblock.m2v_head.declared.sequence.SequenceExtension.{SequenceExtension}
@@ -7,8 +7,8 @@ use Rattle.m2v_model.specs.declared.state.Sequence.{Sequence}
 use Rattle.m2v_model.specs.declared.notes.PictureNote.{PictureNote}
 use Rattle.m2v_model.specs.Pictures.{Events, pictures_in}
 use Rattle.m2v_model.specs.Pieces.{zeros_last}
-use Rattle.m2v_model.specs.PieceNotes.{PieceNotes, header_pair, note_of, first_note, notes_of}
-use Rattle.m2v_model.specs.Lawful.{Numbered, sequences_in}
+use Rattle.m2v_model.specs.PieceNotes.{PieceNotes, note_of, first_note, notes_of}
+use Rattle.m2v_model.specs.Lawful.{Numbered}
 use Rattle.m2v_model.specs.Buffering.{bits_of_piece, code_bits}
 use Rattle.m2v_audit.specs.m2v_check.declared.coded.CodedPicture.{CodedPicture}
 use Rattle.m2v_audit.specs.m2v_check.Running.{ends_frame}
@@ -17,12 +17,14 @@ use Rattle.m2v_audit.specs.declared.auditing.Auditing.{Auditing}
 use Rattle.m2v_audit.specs.declared.headers.PieceHeader.{PieceHeader}
 use Rattle.m2v_audit.specs.declared.headers.PieceHeader.TheVariants as headers
 use Rattle.m2v_audit.specs.Account.{Account, with_more, after_settled}
-use Rattle.m2v_audit.specs.Auditing.{longer, begun, with_header, sequences_of, with_headers, coded, counted, with_told, with_place, account_by, with_coded, with_note, pictured, settled_by, with_settled, cleared, fronted, after_piece}
+use Rattle.m2v_audit.specs.Auditing.{longer, with_header, sequences_of, with_headers, coded, counted, with_told, with_place, account_by, with_coded, with_note, pictured, settled_by, with_settled, cleared, fronted, after_piece}
 use Rattle.m2v_audit.specs.Front.{front_of}
 use Rattle.m2v_audit.specs.Times.{Times, time_of, after}
 use Rattle.m2v_audit.proofs.m2v_check.Telling.{last_in}
 use Rattle.m2v_law_audit.specs.Found.{settled_in, piece_removals}
 use Rattle.m2v_law_audit.specs.Accounts.{due_at}
+use Rattle.m2v_law_audit.proofs.AccountReading.{begun_at}
+use Rattle.m2v_law_audit.proofs.EventsFront.{Fronts, last_sequence}
 
 -- ---- what the account goes by
 
@@ -130,35 +132,27 @@ noted_picture : (place : ℕ) (piece : List ℕ) (es : Events) → (notes_of pla
 unfolding notes_of
 noted_picture place piece es = refl
 
--- the beginning of a sequence, before the headers of its piece
-abbrev pub begun_at : Auditing → ℕ → List ℕ → Events → Auditing
-begun_at a place piece es = let b = longer (length piece) a in begun b.first b place (notes_of place piece es)
-
 -- the headers of a piece leave in force the last sequence header that it tells
-abbrev pub LastIsIn : Auditing → ℕ → List ℕ → Events → Type 0
-LastIsIn a place piece es = (with_headers a (map header_pair (sequences_in es)) 0 (front_of place piece)).sequence ≡ last_in a.sequence es
-
-fronted_stands : (a : Auditing) (place : ℕ) (piece : List ℕ) (es : Events) (f o : Option Sequence) (k : ℕ) (t : Times) (x : Option Account) → LastIsIn (begun_at a place piece es) place piece es → Stands (begun_at a place piece es) f o k t x
+fronted_stands : (a : Auditing) (place : ℕ) (piece : List ℕ) (es : Events) (f o : Option Sequence) (k : ℕ) (t : Times) (x : Option Account) → Fronts (front_of place piece) es → Stands (begun_at a place piece es) f o k t x
     → Stands (fronted (longer (length piece) a) place piece (notes_of place piece es)) f (last_in o es) k t x
-unfolding notes_of
-fronted_stands a place piece es f o k t x last h =
+fronted_stands a place piece es f o k t x fronts h =
     let b = begun_at a place piece es in
-    let g = all_headers b (map header_pair (sequences_in es)) 0 (front_of place piece) f o k t x h in
+    let g = all_headers b (notes_of place piece es).sequences 0 (front_of place piece) f o k t x h in
     record {
       first_is = g.first_is;
-      last_is = last ∙ ap (λ (s : Option Sequence). last_in s es) h.last_is;
+      last_is = last_sequence b place piece es fronts ∙ ap (λ (s : Option Sequence). last_in s es) h.last_is;
       number_is = g.number_is;
       times_are = g.times_are;
       account_is = g.account_is;
     }
 
 -- a piece without a picture: the last picture has more bits
-pub more_moves : (a : Auditing) (place : ℕ) (piece : List ℕ) (es : Events) (f o : Option Sequence) (k : ℕ) (t : Times) (x : Option Account) → LastIsIn (begun_at a place piece es) place piece es → Stands (begun_at a place piece es) f o k t x → pictures_in es ≡ []
+pub more_moves : (a : Auditing) (place : ℕ) (piece : List ℕ) (es : Events) (f o : Option Sequence) (k : ℕ) (t : Times) (x : Option Account) → Fronts (front_of place piece) es → Stands (begun_at a place piece es) f o k t x → pictures_in es ≡ []
     → Moves a place piece (notes_of place piece es) f (last_in o es) k t (option_map (λ (y : Account). with_more y (bits_of_piece piece)) x)
-more_moves a place piece es f o k t x last h none =
+more_moves a place piece es f o k t x fronts h none =
     let notes = notes_of place piece es in
     let c = fronted (longer (length piece) a) place piece notes in
-    let g = fronted_stands a place piece es f o k t x last h in
+    let g = fronted_stands a place piece es f o k t x fronts h in
     let picture : notes.picture ≡ None = noted_picture place piece es ∙ ap (first_note (8 * place + code_bits piece)) none in
     let is : pictured c place (length piece) (zeros_last piece) notes.picture ≡ with_note c c.sequence None place (length piece) (zeros_last piece) =
     ap (λ (n : Option PictureNote). with_note c c.sequence n place (length piece) (zeros_last piece)) picture in
@@ -167,15 +161,15 @@ more_moves a place piece es f o k t x last h none =
     (record { first_is = g.first_is; last_is = g.last_is; number_is = g.number_is; times_are = g.times_are; account_is = ap (option_map (λ (y : Account). with_more y (bits_of_piece piece))) g.account_is }))
 
 -- a piece with a picture: the account goes on with it, or begins
-pub picture_moves : (a : Auditing) (place : ℕ) (piece : List ℕ) (es : Events) (m : Numbered) (f o : Option Sequence) (k : ℕ) (t : Times) (x : Option Account) → LastIsIn (begun_at a place piece es) place piece es → Stands (begun_at a place piece es) f o k t x
+pub picture_moves : (a : Auditing) (place : ℕ) (piece : List ℕ) (es : Events) (m : Numbered) (f o : Option Sequence) (k : ℕ) (t : Times) (x : Option Account) → Fronts (front_of place piece) es → Stands (begun_at a place piece es) f o k t x
     → pictures_in es ≡ m.picture ∷ [] → last_in o es ≡ Some m.sequence → m.number ≡ k → let n : PictureNote = note_of (8 * place + code_bits piece) m.picture in
     Moves a place piece (notes_of place piece es) f (last_in o es) (k + 1) (after t m.sequence n) (account_by x f n (due_at t place (bits_of_piece piece) piece m))
-picture_moves a place piece es m f o k t x last h one headed number =
+picture_moves a place piece es m f o k t x fronts h one headed number =
     let notes = notes_of place piece es in
     let c = fronted (longer (length piece) a) place piece notes in
     let s = m.sequence in
     let n : PictureNote = note_of (8 * place + code_bits piece) m.picture in
-    let g = fronted_stands a place piece es f o k t x last h in
+    let g = fronted_stands a place piece es f o k t x fronts h in
     let picture : notes.picture ≡ Some n = noted_picture place piece es ∙ ap (first_note (8 * place + code_bits piece)) one in
     let is : pictured c place (length piece) (zeros_last piece) notes.picture ≡ with_coded c (coded c s n) place (length piece) (zeros_last piece) =
     ap (λ (n : Option PictureNote). with_note c c.sequence n place (length piece) (zeros_last piece)) picture

@@ -1,5 +1,5 @@
 -- The removals that are told of a stream, piece by piece and at its end, are those of all its pictures once each of them is whole.
-use Rattle.std.proofs.Common.{◌≡◌, ℕ, ◌+◌, ◌<◌, Bool, false, List, [], ◌∷◌, ◌++◌, length, Option, Some, None, Ok, option_map, inl, inr, refl, sym, ap, subst, ◌∙◌, arith}
+use Rattle.std.proofs.Common.{◌≡◌, ℕ, ◌+◌, ◌<◌, Bool, false, List, [], ◌∷◌, ◌++◌, length, Option, Some, None, option_map, inl, inr, refl, sym, ap, subst, ◌∙◌, arith}
 use Rattle.std.specs.Prelude.{nat_eq, slice_get, if◌then◌else◌}
 use Rattle.std.proofs.lemmas.Bool.{ne_eqb}
 use Rattle.m2v_vbv.specs.Buffer.{Buffer}
@@ -14,42 +14,28 @@ use Rattle.m2v_model.specs.PieceNotes.{notes_of}
 use Rattle.m2v_model.specs.Decoding.{Stream, events}
 use Rattle.m2v_model.specs.Lawful.{Numbered, numbered, all_numbered}
 use Rattle.m2v_model.specs.Buffering.{bits_of_piece, code_bits}
-use Rattle.m2v_model.specs.ByPieces.{Between, Course, at_start, piece_read}
-use Rattle.m2v_model.proofs.PieceLaws.{placed, piece_is}
+use Rattle.m2v_model.specs.ByPieces.{Between, at_start}
 use Rattle.m2v_audit.specs.declared.account.Due.{Due}
 use Rattle.m2v_audit.specs.declared.auditing.Auditing.{Auditing}
 use Rattle.m2v_audit.specs.declared.report.Rate.{Rate}
 use Rattle.m2v_audit.specs.Account.{Told, all_told, Account, opened, with_picture, with_more, settled, settled_of, behind_settled, after_settled, reported}
-use Rattle.m2v_audit.specs.Auditing.{nothing, longer, begun, begun_by, with_first, rate_with, cleared, after_piece, opened_by, account_by}
+use Rattle.m2v_audit.specs.Auditing.{nothing, longer, begun, begun_by, with_first, rate_with, opened_by, account_by}
 use Rattle.m2v_audit.specs.Opening.{first_buffer}
 use Rattle.m2v_audit.specs.Times.{Times, opened as first_times, after}
 use Rattle.m2v_audit.proofs.Reports.{told_in_all}
 use Rattle.m2v_audit.proofs.m2v_check.Telling.{first_in, last_in, AreHeaded}
 use Rattle.m2v_audit.proofs.m2v_check.Onward.{none_or_one}
-use Rattle.m2v_law_audit.specs.Found.{along, all_along, all_removals, piece_removals, settled_in, left_in}
+use Rattle.m2v_law_audit.specs.Found.{all_along, all_removals, piece_removals, settled_in, left_in}
 use Rattle.m2v_law_audit.specs.Sequences.{first_byte}
 use Rattle.m2v_law_audit.specs.Accounts.{due_at, dues_from, dues_by, dues_in, with_buffer, beginning_by, beginning_in, numbered_in, removals_by}
-use Rattle.m2v_law_audit.proofs.AccountReading.{Turn, Turns, in_pieces}
+use Rattle.m2v_law_audit.proofs.AccountReading.{Turn, Turns, in_pieces, begun_at, behind_piece, one_piece}
 use Rattle.m2v_law_audit.proofs.RemovalEvents.{note_at, bits_of, dues_read, rest_one, none_left, none_numbered, HasHeader, first_so}
-use Rattle.m2v_law_audit.proofs.RemovalHeaders.{last_header}
-use Rattle.m2v_law_audit.proofs.RemovalPieces.{Stands, begun_at, Moves, more_moves, picture_moves}
+use Rattle.m2v_law_audit.proofs.RemovalPieces.{Stands, Moves, more_moves, picture_moves}
 
 -- ---- piece by piece
 
 abbrev left_told : Auditing → List Told
 left_told a = left_in a.account
-
-abbrev behind : Auditing → ℕ → List ℕ → Events → Auditing
-behind a at p es = cleared (after_piece a at p (notes_of at p es))
-
--- a piece, and then what follows it
-one_piece : (a : Auditing) (b : Between) (at : ℕ) (p : List ℕ) (ps : List (List ℕ)) (es : Events) → (t : Turn b p ps es)
-    → all_removals a b at (p ∷ ps) ≡ piece_removals a at p (notes_of at p t.own) ++ all_removals (behind a at p t.own) t.next (at + length p) ps
-unfolding all_along
-one_piece a b at p ps es t =
-    let end = at + length p in
-    let is : piece_read b end p ≡ Ok (t.own, t.next) = piece_is b end p ∙ ap (placed end) t.read in
-    ap (λ (c : Course). along piece_removals left_told a at p c (λ x y. all_along piece_removals left_told x y end ps)) is
 
 -- the sequence was told already
 later_begun : (a : Auditing) (at : ℕ) (p : List ℕ) (es : Events) (f : Sequence) (o : Option Sequence) (k : ℕ) (t : Times) (x : Option Account) → Stands a (Some f) o k t x → Stands (begun_at a at p es) (Some f) o k t x
@@ -66,24 +52,23 @@ none_from [] b es a at f o k t turns h so some = ap left_in h.account_is
 none_from (p ∷ ps) b es a at f o k t turns h so some =
     let u = turns.0 in
     let starts = later_begun a at p u.own f o k t None h in
-    let last = last_header b at p u.own u.next (begun_at a at p u.own) u.read u.ordered in
     let stays : u.next.state.sequence ≡ last_in o u.own = u.sequence ∙ ap (λ (z : Option Sequence). last_in z u.own) so in
     elim (none_or_one u.own u.last) [
       | inl none ↦
-          let m = more_moves a at p u.own (Some f) o k t None last starts none in
-          let rest = none_from ps u.next u.rest (behind a at p u.own) (at + length p) f (last_in o u.own) k t turns.1 m.behind stays some in
-          one_piece a b at p ps es u ∙ (λ i. m.told i ++ rest i)
+          let m = more_moves a at p u.own (Some f) o k t None (u.fronts at) starts none in
+          let rest = none_from ps u.next u.rest (behind_piece a at p u.own) (at + length p) f (last_in o u.own) k t turns.1 m.behind stays some in
+          one_piece piece_removals left_told a b at p ps es u ∙ (λ i. m.told i ++ rest i)
       | inr one ↦
           let r = rest_one o 0 false k 0 u.own [] one.0 u.last (subst (λ (z : Option Sequence). AreHeaded z u.own) so u.headed) one.1 in
           let n = r.first in
           let d = due_at t at (bits_of_piece p) p n in
-          let m = picture_moves a at p u.own n (Some f) o k t None last starts (one.1 ∙ ap (λ (q : Picture). q ∷ []) r.same) r.headed r.number_is in
+          let m = picture_moves a at p u.own n (Some f) o k t None (u.fronts at) starts (one.1 ∙ ap (λ (q : Picture). q ∷ []) r.same) r.headed r.number_is in
           let later : nat_eq n.number 0 ≡ false = ne_eqb n.number 0 (λ e. omega (arith, e, r.number_is, some)) in
           let none : account_by None (Some f) (note_at at p n) d ≡ None = ap (λ (w : Bool). if w then opened_by (Some f) (note_at at p n) d else None) later in
-          let stands = subst (λ (x : Option Account). Stands (behind a at p u.own) (Some f) (last_in o u.own) (k + 1) (after t n.sequence (note_at at p n)) (option_map after_settled x)) none m.behind in
+          let stands = subst (λ (x : Option Account). Stands (behind_piece a at p u.own) (Some f) (last_in o u.own) (k + 1) (after t n.sequence (note_at at p n)) (option_map after_settled x)) none m.behind in
           let told = m.told ∙ ap settled_in none in
-          let rest = none_from ps u.next u.rest (behind a at p u.own) (at + length p) f (last_in o u.own) (k + 1) (after t n.sequence (note_at at p n)) turns.1 stands stays (omega arith) in
-          one_piece a b at p ps es u ∙ (λ i. told i ++ rest i)
+          let rest = none_from ps u.next u.rest (behind_piece a at p u.own) (at + length p) f (last_in o u.own) (k + 1) (after t n.sequence (note_at at p n)) turns.1 stands stays (omega arith) in
+          one_piece piece_removals left_told a b at p ps es u ∙ (λ i. told i ++ rest i)
     ]
 
 -- with an account, what is told is what it tells while the bits of these pieces come, and at their end
@@ -95,17 +80,16 @@ on_from (p ∷ ps) b es a at f o k t x group first_in_group frames turns h so =
     let u = turns.0 in
     let end = at + length p in
     let starts = later_begun a at p u.own f o k t (Some x) h in
-    let last = last_header b at p u.own u.next (begun_at a at p u.own) u.read u.ordered in
     let stays : u.next.state.sequence ≡ last_in o u.own = u.sequence ∙ ap (λ (z : Option Sequence). last_in z u.own) so in
     elim (none_or_one u.own u.last) [
       | inl none ↦
-          let m = more_moves a at p u.own (Some f) o k t (Some x) last starts none in
+          let m = more_moves a at p u.own (Some f) o k t (Some x) (u.fronts at) starts none in
           let y : Account = with_more x (bits_of_piece p) in
           let left = none_left (length (pictures_in u.own)) u.next ps u.rest (ap length none) u.one turns.1 in
           let all : numbered o group first_in_group k frames es ≡ [] = none_numbered o group first_in_group k frames u.own u.rest es u.are left.1 none in
-          let rest = on_from ps u.next u.rest (behind a at p u.own) end f (last_in o u.own) k t (after_settled y) 0 false 0 turns.1 m.behind stays in
+          let rest = on_from ps u.next u.rest (behind_piece a at p u.own) end f (last_in o u.own) k t (after_settled y) 0 false 0 turns.1 m.behind stays in
           let ended : numbered (last_in o u.own) 0 false k 0 u.rest ≡ [] = none_numbered (last_in o u.own) 0 false k 0 [] u.rest u.rest refl left.1 refl in
-          one_piece a b at p ps es u
+          one_piece piece_removals left_told a b at p ps es u
           ∙ (λ i. m.told i ++ rest i)
           ∙ ap (λ (ns : List Numbered). settled y ++ reported (after_settled y) (bits_of t end ps ns)) ended
           ∙ ap (λ (ns : List Numbered). reported x (bits_of t at (p ∷ ps) ns)) (sym all)
@@ -113,9 +97,9 @@ on_from (p ∷ ps) b es a at f o k t x group first_in_group frames turns h so =
           let r = rest_one o group first_in_group k frames u.own u.rest one.0 u.last (subst (λ (z : Option Sequence). AreHeaded z u.own) so u.headed) one.1 in
           let n = r.first in
           let y : Account = with_picture x (due_at t at (bits_of_piece p) p n) in
-          let m = picture_moves a at p u.own n (Some f) o k t (Some x) last starts (one.1 ∙ ap (λ (q : Picture). q ∷ []) r.same) r.headed r.number_is in
-          let rest = on_from ps u.next u.rest (behind a at p u.own) end f (last_in o u.own) (k + 1) (after t n.sequence (note_at at p n)) (after_settled y) r.group r.first_in_group r.frames turns.1 m.behind stays in
-          one_piece a b at p ps es u
+          let m = picture_moves a at p u.own n (Some f) o k t (Some x) (u.fronts at) starts (one.1 ∙ ap (λ (q : Picture). q ∷ []) r.same) r.headed r.number_is in
+          let rest = on_from ps u.next u.rest (behind_piece a at p u.own) end f (last_in o u.own) (k + 1) (after t n.sequence (note_at at p n)) (after_settled y) r.group r.first_in_group r.frames turns.1 m.behind stays in
+          one_piece piece_removals left_told a b at p ps es u
           ∙ (λ i. m.told i ++ rest i)
           ∙ ap (λ (ns : List Numbered). reported x (bits_of t at (p ∷ ps) ns)) (sym (ap (numbered o group first_in_group k frames) u.are ∙ r.is))
     ]
@@ -153,14 +137,14 @@ first_told : (p : List ℕ) (ps : List (List ℕ)) (es : Events) → (u : Turn a
     → all_removals a at_start at (p ∷ ps) ≡ removals_by (with_buffer rate first) (dues_from t at (p ∷ ps) (n ∷ numbered (last_in None u.own) group first_in_group 1 frames u.rest))
 unfolding settled_of behind_settled
 first_told p ps es u turns a at s n group first_in_group frames t rate None m =
-    let rest = none_from ps u.next u.rest (behind a at p u.own) (at + length p) s (last_in None u.own) 1 (after t n.sequence (note_at at p n)) turns m.behind u.sequence (omega arith) in
-    one_piece a at_start at p ps es u ∙ (λ i. m.told i ++ rest i)
+    let rest = none_from ps u.next u.rest (behind_piece a at p u.own) (at + length p) s (last_in None u.own) 1 (after t n.sequence (note_at at p n)) turns m.behind u.sequence (omega arith) in
+    one_piece piece_removals left_told a at_start at p ps es u ∙ (λ i. m.told i ++ rest i)
 first_told p ps es u turns a at s n group first_in_group frames t rate (Some b) m =
     let d : Due = due_at t at (bits_of_piece p) p n in
     let next : Times = after t n.sequence (note_at at p n) in
     let ns : List Numbered = numbered (last_in None u.own) group first_in_group 1 frames u.rest in
-    let rest = on_from ps u.next u.rest (behind a at p u.own) (at + length p) s (last_in None u.own) 1 next (opened b d) group first_in_group frames turns m.behind u.sequence in
-    one_piece a at_start at p ps es u
+    let rest = on_from ps u.next u.rest (behind_piece a at p u.own) (at + length p) s (last_in None u.own) 1 next (opened b d) group first_in_group frames turns m.behind u.sequence in
+    one_piece piece_removals left_told a at_start at p ps es u
     ∙ (λ i. m.told i ++ rest i)
     ∙ told_in_all b d (bits_of next (at + length p) ps ns)
     ∙ ap (all_told b) (dues_read t at p ps n ns)
@@ -177,7 +161,6 @@ none_at_first p ps es each number start at u turns none =
     let a : Auditing = nothing number each start in
     let o : Option Sequence = first_in None es in
     let c : Auditing = begun_at a at p u.own in
-    let last = last_header at_start at p u.own u.next c u.read u.ordered in
     let notes = notes_of at p u.own in
     let stands : Stands c c.first c.sequence c.pictures c.times None = record {
       first_is = refl;
@@ -186,12 +169,12 @@ none_at_first p ps es each number start at u turns none =
       times_are = refl;
       account_is = no_account (longer (length p) a) at (slice_get notes.sequences 0) notes.picture;
     } in
-    let m = more_moves a at p u.own c.first c.sequence c.pictures c.times None last stands none in
+    let m = more_moves a at p u.own c.first c.sequence c.pictures c.times None (u.fronts at) stands none in
     let left = none_left (length (pictures_in u.own)) u.next ps u.rest (ap length none) u.one turns in
-    let rest : all_removals (behind a at p u.own) u.next (at + length p) ps ≡ [] =
-    ap (all_removals (behind a at p u.own) u.next (at + length p)) left.0 ∙ ap left_in (m.behind).account_is in
+    let rest : all_removals (behind_piece a at p u.own) u.next (at + length p) ps ≡ [] =
+    ap (all_removals (behind_piece a at p u.own) u.next (at + length p)) left.0 ∙ ap left_in (m.behind).account_is in
     let all : all_numbered es ≡ [] = none_numbered None 0 false 0 0 u.own u.rest es u.are left.1 none in
-    subst (AllTold a at (p ∷ ps) o) (sym all) (one_piece a at_start at p ps es u ∙ (λ i. m.told i ++ rest i) ∙ no_pictures o at p ps (dues_by o at (p ∷ ps) []))
+    subst (AllTold a at (p ∷ ps) o) (sym all) (one_piece piece_removals left_told a at_start at p ps es u ∙ (λ i. m.told i ++ rest i) ∙ no_pictures o at p ps (dues_by o at (p ∷ ps) []))
 
 -- a first piece with a picture
 one_at_first : (p : List ℕ) (ps : List (List ℕ)) (es : Events) (each : Bool) (number start at : ℕ) → (u : Turn at_start p ps es) → Turns u.next ps u.rest → (q : Picture) → pictures_in u.own ≡ q ∷ []
@@ -199,7 +182,6 @@ one_at_first : (p : List ℕ) (ps : List (List ℕ)) (es : Events) (each : Bool)
 one_at_first p ps es each number start at u turns q one =
     let a : Auditing = nothing number each start in
     let c : Auditing = begun_at a at p u.own in
-    let last = last_header at_start at p u.own u.next c u.read u.ordered in
     let f = first_so u.own u.rest es q u.are u.last u.headed one in
     let r = f.one in
     let s : Sequence = (f.has).header in
@@ -210,7 +192,7 @@ one_at_first p ps es each number start at u turns q one =
     let buffer : Option Buffer = first_buffer s note (code_bits p) in
     let starts : Stands c (Some s) None 0 t None =
     subst (λ (z : Auditing). Stands z (Some s) None 0 t None) (sym (first_begun a at p u.own refl f.has)) (record { first_is = refl; last_is = refl; number_is = refl; times_are = refl; account_is = refl }) in
-    let m = picture_moves a at p u.own n (Some s) None 0 t None last starts (one ∙ ap (λ (p : Picture). p ∷ []) r.same) r.headed r.number_is in
+    let m = picture_moves a at p u.own n (Some s) None 0 t None (u.fronts at) starts (one ∙ ap (λ (p : Picture). p ∷ []) r.same) r.headed r.number_is in
     let account : account_by None (Some s) note d ≡ option_map (λ (b : Buffer). opened b d) buffer = ap (λ (z : ℕ). if nat_eq z 0 then opened_by (Some s) note d else None) r.number_is in
     let moves = subst (Moves a at p (notes_of at p u.own) (Some s) (last_in None u.own) 1 (after t n.sequence note)) account m in
     let first = f.first in

@@ -8,25 +8,22 @@ use Rattle.m2v_model.specs.Streams.{Sofar, text_end}
 use Rattle.m2v_model.specs.Pictures.{Events}
 use Rattle.m2v_model.specs.Pieces.{pieces, before_pieces, Limit}
 use Rattle.m2v_model.specs.PieceNotes.{notes_of}
-use Rattle.m2v_model.specs.Decoding.{Stream, frames_of}
-use Rattle.m2v_model.specs.ByPieces.{Between, Course, at_start, behind as events_behind, unit_read, units_read, piece_read, end_of, end_read, text_ended, continued, text_read}
+use Rattle.m2v_model.specs.Decoding.{Stream}
+use Rattle.m2v_model.specs.ByPieces.{Between, Course, at_start, read_of, unit_read, units_read, piece_read, end_of, end_read, text_ended, continued}
 use Rattle.m2v_model.proofs.FlowLaws.{read_err}
-use Rattle.m2v_model.proofs.PieceLaws.{placed, piece_is, piece_none, rest_read, rest_none, rest_more, text_rest, by_pieces}
-use Rattle.m2v_model.proofs.Unique.{exactly_one}
+use Rattle.m2v_model.proofs.PieceLaws.{placed, piece_is, piece_none, rest_read, rest_none, rest_more, text_rest}
 use Rattle.m2v_audit.specs.declared.auditing.Auditing.{Auditing}
 use Rattle.m2v_audit.specs.Auditing.{nothing, cleared, after_piece}
 use Rattle.m2v_audit.specs.Audited.{Audited, Telling, then_comes, counted_with, unless_passed, piece_told, end_told, pieces_told}
 use Rattle.m2v_law_audit.specs.Sequences.{SequenceReport, behind, by_piece, reported, first_byte, PassNone, StandsIn}
+use Rattle.m2v_audit.proofs.m2v_check.Checking.{units_of_piece}
+use Rattle.m2v_law_audit.proofs.AccountReading.{behind_ok, stream_read}
 
 -- ---- a stream is read by its pieces
 
 -- it's read without a fault, and behind its last piece its end
-pub stream_read : (text : List ℕ) (tree : Sofar) → Stream text tree → (x : Events × Between) × (rest_read at_start (length (before_pieces text)) (pieces text) ≡ Ok x)
-stream_read text tree s = by (text_read text) refl
-  where
-    by : (r : Course) → text_read text ≡ r → (x : Events × Between) × (rest_read at_start (length (before_pieces text)) (pieces text) ≡ Ok x)
-    by (Ok x) e = (x, sym (text_rest text) ∙ e)
-    by (Err f) e = absurd ((exactly_one text).not_both (frames_of tree) f.1 f.0 (record { tree = tree; stream = s; shown = refl }) ((by_pieces text).fault f.0 f.1 e))
+rest_of : (text : List ℕ) (tree : Sofar) → Stream text tree → rest_read at_start (length (before_pieces text)) (pieces text) ≡ Ok (read_of at_start tree)
+rest_of text tree s = sym (text_rest text) ∙ stream_read text tree s
 
 -- a text without a piece has no sequence
 none_begun : (end : ℕ) → end_read at_start end ≡ Err (NoSequence, 8 * end - 0)
@@ -42,13 +39,9 @@ some_piece at x e = not_both (end_read at_start at) (NoSequence, 8 * at - 0) x (
 
 -- ---- wherever it begins
 
-elsewhere : (end to : ℕ) (r : Course) (x : Events × Between) → placed end r ≡ Ok x → placed to r ≡ Ok x
-elsewhere end to (Ok y) x e = e
-elsewhere end to (Err f) x e = absurd cc
-
 -- what is read of a piece is the same wherever it ends
 piece_elsewhere : (b : Between) (end to : ℕ) (p : List ℕ) (x : Events × Between) → piece_read b end p ≡ Ok x → piece_read b to p ≡ Ok x
-piece_elsewhere b end to p x e = piece_is b to p ∙ elsewhere end to _ x (sym (piece_is b end p) ∙ e)
+piece_elsewhere b end to p x e = piece_is b to p ∙ ap (placed to) (units_of_piece b end p x e)
 
 none_due : (c : Bool) (z x : Events × Between) (f g : FaultKind × ℕ) → cond c (Ok z) (Err f) ≡ Ok x → cond c (Ok z) (Err g) ≡ Ok x
 none_due true z x f g e = e
@@ -61,11 +54,6 @@ ended_by end to (Err f) x e = absurd cc
 end_elsewhere : (b : Between) (end to : ℕ) (x : Events × Between) → end_read b end ≡ Ok x → end_read b to ≡ Ok x
 end_elsewhere b end to x e =
     ap (text_ended to) (piece_none b to) ∙ ended_by end to (units_read b []) x (ap (text_ended end) (sym (piece_none b end)) ∙ e)
-
--- what comes behind events is read without a fault where both are
-came_behind : (es : Events) (r : Course) (x : Events × Between) → events_behind es r ≡ Ok x → (y : Events × Between) × (r ≡ Ok y)
-came_behind es (Ok y) x e = (y, refl)
-came_behind es (Err f) x e = absurd cc
 
 then_on : (xs ys : List ℕ) (a : Audited) → then_comes (xs ++ ys) a ≡ then_comes xs (then_comes ys a)
 then_on xs ys a = ap (λ (l : List ℕ). record { report = l; outcome = a.outcome }) (append_assoc xs ys a.report)
@@ -98,10 +86,10 @@ module _ (x : Telling) where
   unfolding continued
   piece_stands at p ps a b before y (Ok z) is e pass rest =
       let to = at + length p in
-      let behind_it = came_behind z.0 (rest_read z.1 (before + length p) ps) y e in
+      let later = behind_ok z.0 (rest_read z.1 (before + length p) ps) y.0 y.1 e in
       let told = after_piece a at p (notes_of at p z.0) in
       let next : pieces_told x false (cleared told) z.1 to ps ≡ told_with (reported (cleared told) z.1 to ps) (end_of to ps) =
-      rest (cleared told) z.1 false (before + length p) behind_it.0 behind_it.1 pass (λ none. refl) in
+      rest (cleared told) z.1 false (before + length p) (later.0, y.1) later.1 pass (λ none. refl) in
       let own = reported (cleared told) z.1 to ps in
       let here : then_comes told.report.text (pieces_told x false (cleared told) z.1 to ps) ≡ told_with (behind told.report.text own) (end_of to ps) =
       ap (then_comes told.report.text) next ∙ sym (then_on told.report.text own.lines _) in
@@ -122,7 +110,8 @@ no_piece ps at y e none = some_piece at y (ap (rest_read at_start at) (sym none)
 
 pub stands_in : (text : List ℕ) (tree : Sofar) → Stream text tree → (each : Bool) (x : Telling) (later : Bool) → PassNone (first_byte x.start text) (pieces text) → StandsIn each x later text
 stands_in text tree s each x later pass =
-    let read = stream_read text tree s in
+    let whole = read_of at_start tree in
+    let read = rest_of text tree s in
     let before = length (before_pieces text) in
-    stands_on x (first_byte x.start text) (pieces text) (nothing x.totals.sequences each x.start) at_start later before read.0 read.1 pass
-    (λ none. absurd (no_piece (pieces text) before read.0 read.1 none))
+    stands_on x (first_byte x.start text) (pieces text) (nothing x.totals.sequences each x.start) at_start later before whole read pass
+    (λ none. absurd (no_piece (pieces text) before whole read none))

@@ -14,8 +14,6 @@ use Rattle.m2v_model.specs.States.{is_b}
 use Rattle.m2v_audit.specs.m2v_check.declared.coded.CodedPicture.{CodedPicture}
 use Rattle.m2v_audit.specs.m2v_check.Breaking.{numbered_of}
 use Rattle.m2v_audit.specs.m2v_check.Running.{ends_frame}
-use Rattle.m2v_vbv.specs.declared.removed.Removed.{Removed}
-use Rattle.m2v_audit.specs.declared.account.Due.{Due}
 use Rattle.m2v_audit.specs.declared.headers.PieceHeader.{PieceHeader}
 use Rattle.m2v_audit.specs.declared.headers.PieceHeader.TheVariants as headers
 use Rattle.m2v_audit.specs.declared.places.Misplaced.{Misplaced}
@@ -25,7 +23,7 @@ use Rattle.m2v_audit.specs.declared.records.FailureRecord.{FailureRecord}
 use Rattle.m2v_audit.specs.declared.report.Rate.{Rate}
 use Rattle.m2v_audit.specs.Account.{Account, Told, settled, ended as all_left}
 use Rattle.m2v_audit.specs.declared.auditing.Auditing.{Auditing}
-use Rattle.m2v_audit.specs.Auditing.{sequence_of, sequences_of, bit_of, coded, counted, waiting_of, with_header, with_headers, begun, longer, fronted, pictured, cleared, after_piece}
+use Rattle.m2v_audit.specs.Auditing.{sequence_of, sequences_of, bit_of, coded, counted, waiting_of, with_header, begun, longer, fronted, pictured, cleared, after_piece}
 use Rattle.m2v_audit.specs.Findings.{broken_at, misplaced_at}
 use Rattle.m2v_audit.specs.Front.{front_of}
 use Rattle.m2v_audit.specs.Places.{told_with_frame, told_at_close}

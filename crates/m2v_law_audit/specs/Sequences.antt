@@ -2,8 +2,6 @@
 use Rattle.std.specs.Prelude.{◌≡◌, ℕ, ◌+◌, Bool, List, [], ◌∷◌, ◌++◌, length, None, Ok, Err}
 use Rattle.m2v_model.specs.Pieces.{pieces, before_pieces}
 use Rattle.m2v_model.specs.PieceNotes.{notes_of}
-use Rattle.m2v_model.specs.Streams.{Sofar}
-use Rattle.m2v_model.specs.Decoding.{Stream}
 use Rattle.m2v_model.specs.ByPieces.{Between, Course, at_start, piece_read, end_of}
 use Rattle.m2v_audit.specs.declared.auditing.Auditing.{Auditing}
 use Rattle.m2v_audit.specs.Auditing.{nothing, cleared, after_piece, ended}
