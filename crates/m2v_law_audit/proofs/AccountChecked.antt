@@ -1,6 +1,7 @@
 -- At constant rate a stream's failures begin as those of the verifier's account do.
-use Rattle.std.proofs.Common.{◌≡◌, ℕ, ◌+◌, ◌*◌, ◌≤◌, Bool, true, false, not, List, [], ◌∷◌, length, Option, Some, None, refl, sym, ap, subst, ◌∙◌, arith, le_trans}
+use Rattle.std.proofs.Common.{◌≡◌, ℕ, ◌+◌, ◌*◌, ◌≤◌, true, false, List, [], ◌∷◌, length, Option, Some, None, refl, sym, ap, subst, ◌∙◌, arith, le_trans}
 use Rattle.std.specs.List.{flat_map, AllByRecursion}
+use Rattle.std.proofs.lemmas.Bool.{not-true}
 use Rattle.m2v_vbv.specs.Annex.{removed}
 use Rattle.m2v_vbv.specs.Buffer.{Buffer, constant_start, removals, left}
 use Rattle.m2v_model.specs.declared.state.Sequence.{Sequence}
@@ -24,15 +25,11 @@ use Rattle.m2v_law_audit.proofs.AccountFirst.{agrees_all}
 use Rattle.m2v_law_audit.proofs.AccountDues.{bits_are, removals_are, EndsSo, InTurn, dues_in_turn, in_turn, few_numbered, all_end}
 use Rattle.m2v_law_audit.proofs.AccountReading.{in_pieces, few_pictures}
 
-not_true : (b : Bool) → not b ≡ true → b ≡ false
-not_true true e = absurd cc
-not_true false e = refl
-
 begins_constant : (s : Sequence) (at : ℕ) (p : List ℕ) (n : Numbered) (x : Beginning) → Begins s at p n x → x.rate.constant ≡ true
     → x.buffer ≡ constant_start (start_of s (note_of (8 * at + code_bits p) n.picture) (code_bits p)) (step_of s)
 begins_constant s at p n x h constant =
     let note = note_of (8 * at + code_bits p) n.picture in
-    let off : varies note ≡ false = not_true (varies note) (sym (ap (λ (r : Rate). r.constant) h.rate) ∙ constant) in
+    let off : varies note ≡ false = not-true (varies note) (sym (ap (λ (r : Rate). r.constant) h.rate) ∙ constant) in
     h.buffer ∙ rw off refl
 
 -- with a first sequence header, a first piece and a first picture

@@ -1,8 +1,9 @@
 -- The failures that are told of removals: none exactly where no removal fails; and at variable rate exactly where some delivery
 -- has each picture in time.
 use Rattle.std.proofs.Common.{◌≡◌, ℕ, ◌+◌, ◌*◌, ◌↔◌, Bool, true, false, ◌||◌, List, [], ◌∷◌, ◌++◌, Option, Some, None, refl, sym, ap, subst, ◌∙◌, arith}
-use Rattle.std.specs.Prelude.{map, not, if◌then◌else◌}
+use Rattle.std.specs.Prelude.{map, if◌then◌else◌}
 use Rattle.std.specs.List.{flat_map}
+use Rattle.std.proofs.lemmas.Bool.{not-false}
 use Rattle.m2v_vbv.specs.declared.removed.Removed.{Removed}
 use Rattle.m2v_vbv.specs.Buffer.{Buffer, size_of, variable_start, tells}
 use Rattle.m2v_vbv.specs.Deliveries.{NoneFails, Delivers, HasInTime, amounts_of}
@@ -100,14 +101,10 @@ has_begun at (Some s) (p ∷ ps) (n ∷ ns) x e = record {
 
 -- ---- at variable rate
 
-not_not : (b : Bool) → not b ≡ false → b ≡ true
-not_not true e = refl
-not_not false e = absurd cc
-
 begins_full : (s : Sequence) (at : ℕ) (p : List ℕ) (n : Numbered) (x : Beginning) → Begins s at p n x → x.rate.constant ≡ false → x.buffer ≡ variable_start (rate_of s) (buffer_bits_of s) (step_of s)
 begins_full s at p n x h varying =
     let note = note_of (8 * at + code_bits p) n.picture in
-    let on : varies note ≡ true = not_not (varies note) (sym (ap (λ (r : Rate). r.constant) h.rate) ∙ varying) in
+    let on : varies note ≡ true = not-false (varies note) (sym (ap (λ (r : Rate). r.constant) h.rate) ∙ varying) in
     h.buffer ∙ rw on refl
 
 -- some delivery has each picture in time

@@ -41,6 +41,10 @@ pub record Turn (b : Between) (p : List ℕ) (later : List (List ℕ)) (es : Eve
   pub sequence : next.state.sequence ≡ last_in b.state.sequence own
   pub one : IsOne (length (pictures_in own)) later
 
+-- it is read so wherever it ends
+pub turn_read : (b : Between) (p : List ℕ) (later : List (List ℕ)) (es : Events) (t : Turn b p later es) (end : ℕ) → piece_read b end p ≡ Ok (t.own, t.next)
+turn_read b p later es t end = piece_is b end p ∙ ap (placed end) t.read
+
 -- pieces in turn, from what stands before them
 abbrev pub Turns : Between → List (List ℕ) → Events → Type 0
 Turns b [] es = es ≡ []
@@ -136,18 +140,21 @@ nothing_front b (u ∷ us) mid p es next fits onward ih = λ none shut. absurd c
 abbrev whole_or : Bool → Events × Between → FaultKind × ℕ → Course
 whole_or w x f = cond w (Ok x) (Err f)
 
-ended_by : (w : Bool) (x y : Events × Between) (f : FaultKind × ℕ) → whole_or w x f ≡ Ok y → x ≡ y
-ended_by true x y f e = cc
+ended_by : (w : Bool) (x y : Events × Between) (f : FaultKind × ℕ) → whole_or w x f ≡ Ok y → (w ≡ true) × (x ≡ y)
+ended_by true x y f e = (refl, cc)
 ended_by false x y f e = absurd cc
 
-ended_ok : (end : ℕ) (c : Course) (y : Events × Between) → text_ended end c ≡ Ok y → c ≡ Ok y
-ended_ok end (Ok x) y e = ap (λ (z : Events × Between). Ok z) (ended_by (none_waits (x.1).state.waiting) x y (FieldPair, 8 * end) e)
+-- a text that ends without a fault: what is read, and that no second field is due
+pub ended_ok : (end : ℕ) (c : Course) (y : Events × Between) → text_ended end c ≡ Ok y → (c ≡ Ok y) × (none_waits (y.1).state.waiting ≡ true)
+ended_ok end (Ok x) y e =
+    let h = ended_by (none_waits (x.1).state.waiting) x y (FieldPair, 8 * end) e in
+    (ap (λ (z : Events × Between). Ok z) h.1, ap (λ (z : Events × Between). none_waits (z.1).state.waiting) (sym h.1) ∙ h.0)
 ended_ok end (Err f) y e = absurd cc
 
 end_tells : (b : Between) (end : ℕ) (es : Events) (last : Between) → end_read b end ≡ Ok (es, last) → b.state.picture ≡ None → (es ≡ []) × (last.state.first ≡ b.state.first)
 unfolding cut
 end_tells b end es last e shut =
-    let read = units_of_piece b end [] (es, last) (ended_ok end (piece_read b end []) (es, last) e) in
+    let read = units_of_piece b end [] (es, last) (ended_ok end (piece_read b end []) (es, last) e).0 in
     by_units TellsNothing nothing_last nothing_front b [] es last read refl shut
 
 -- ---- a stream
@@ -200,8 +207,7 @@ pub one_piece : {T : Type 0} (here : Auditing → ℕ → List ℕ → PieceNote
 unfolding all_along
 one_piece here last a b at p ps es t =
     let end = at + length p in
-    let is : piece_read b end p ≡ Ok (t.own, t.next) = piece_is b end p ∙ ap (placed end) t.read in
-    ap (λ (c : Course). along here last a at p c (λ x y. all_along here last x y end ps)) is
+    ap (λ (c : Course). along here last a at p c (λ x y. all_along here last x y end ps)) (turn_read b p ps es t end)
 
 -- ---- how many pictures there are
 

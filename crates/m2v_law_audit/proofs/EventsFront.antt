@@ -1,6 +1,6 @@
 -- The headers before the picture of a piece are what it tells before its picture: each in turn, and of the same kind.
 use Rattle.std.proofs.Common.{◌≡◌, ℕ, zero, suc, ◌+◌, ◌*◌, ◌<◌, Bool, true, false, List, [], ◌∷◌, ◌++◌, length, map, Option, Some, None, Result, Ok, Err, refl, sym, ap, subst, ◌∙◌, append_assoc, arith}
-use Rattle.std.specs.Prelude.{nat_eq, slice_get, if◌then◌else◌}
+use Rattle.std.specs.Prelude.{nat_eq, slice_get}
 use Rattle.std.proofs.lemmas.Bool.{eqb-true}
 use Rattle.std.proofs.lemmas.List.{append-nil, length-append}
 use Rattle.m2v_bits.specs.Syntax.{bind}
@@ -11,11 +11,9 @@ use Rattle.m2v_model.specs.m2v_macroblock.m2v_head.declared.group.GroupInfo.{Gro
 use Rattle.m2v_model.specs.declared.fault.FaultKind.{FaultKind}
 use Rattle.m2v_model.specs.declared.state.Sequence.{Sequence}
 use Rattle.m2v_model.specs.declared.state.Open.{Open}
-use Rattle.m2v_model.specs.declared.state.State.{State}
 use Rattle.m2v_model.specs.Units.{Units, cut, body}
 use Rattle.m2v_model.specs.Slices.{large_in}
 use Rattle.m2v_model.specs.States.{with_slice, with_unread_slice}
-use Rattle.m2v_model.specs.Headers.{whole_header, group_in}
 use Rattle.m2v_model.specs.Pieces.{begins_piece, is_end}
 use Rattle.m2v_model.specs.Streams.{Part, sequence, group, picture, matrices, slice, unread_slice, skipped_unit, ending, over, after, value_of}
 use Rattle.m2v_model.specs.Pictures.{Store, Events, sequence_header, group_header, coded_picture, closed, told_by}
@@ -23,7 +21,7 @@ use Rattle.m2v_model.specs.Lawful.{sequences_in}
 use Rattle.m2v_model.specs.PieceNotes.{header_pair, notes_of}
 use Rattle.m2v_model.specs.ByPieces.{Between, Course, behind, unit_read, after_part, units_read}
 use Rattle.m2v_audit.proofs.m2v_check.m2v_model.HeaderLaws.{whole_header_lawful, group_lawful}
-use Rattle.m2v_audit.proofs.m2v_check.m2v_model.SplitLaws.{IsKnown, KnownAt, known_at}
+use Rattle.m2v_audit.proofs.m2v_check.m2v_model.SplitLaws.{KnownAt, known_at}
 use Rattle.m2v_audit.proofs.m2v_check.m2v_model.FlowLaws.{part_read, read_once, unit_less}
 use Rattle.m2v_audit.proofs.m2v_check.m2v_decode.m2v_dec_rows.UnitGifts.{IsLast, first_value, unit_says}
 use Rattle.m2v_audit.proofs.m2v_check.Telling.{last_in}
@@ -33,7 +31,7 @@ use Rattle.m2v_audit.specs.Auditing.{with_sequence, with_group, with_header, seq
 use Rattle.m2v_audit.specs.declared.headers.PieceHeader.{PieceHeader}
 use Rattle.m2v_audit.specs.declared.headers.PieceHeader.TheVariants as headers
 use Rattle.m2v_audit.specs.Front.{group_at, header_at, headers_from, front_of}
-use Rattle.m2v_law_audit.proofs.EventsUnits.{IsPlain, ReadsGroup, HasExtension, IsPartOf, IsAtEnd, unit_is, known_plain, known_on}
+use Rattle.m2v_law_audit.proofs.EventsUnits.{IsPlain, ReadsGroup, HasExtension, IsPartOf, IsAtEnd, unit_is, known_on}
 
 -- ---- headers and events
 
@@ -293,33 +291,6 @@ first_unit bit (u ∷ us) es e f =
 -- A piece whose first unit is a sequence header tells that first.
 pub begins_by_sequence : (place : ℕ) (p : List ℕ) (es : Events) → first_value (cut 0 p).1 ≡ Some 0xB3 → Fronts (front_of place p) es → BeginsBySequence es
 begins_by_sequence place p es e f = first_unit (8 * place) (cut 0 p).1 es e f
-
--- ---- a sequence header is in force behind units
-
-abbrev Known : Claim
-Known b us es next = KnownAt b.state us → IsKnown next.state
-
-end_known : (st : State) (us : Units) → IsAtEnd us → KnownAt st us → IsKnown st
-end_known st [] a k = k
-end_known st (u ∷ us) a k = known_plain st u k (end_plain (value_of u) a).1
-
-last_known : AtLast Known
-unfolding after
-last_known b us (sequence s) a l = absurd l
-last_known b us (group g) a l = absurd l
-last_known b us (picture info extension) a l = absurd l
-last_known b us (matrices m) a l = absurd l
-last_known b us (slice row x) a l = absurd l
-last_known b us (unread_slice row u) a l = absurd l
-last_known b us (skipped_unit u) a l = absurd l
-last_known b us ending a l = λ k. end_known b.state us a k
-last_known b us over a l = λ k. end_known b.state us a k
-
-front_known : InFront Known
-front_known b us mid p es next fits ih = λ k. ih (known_at (after b.state p) mid (known_on b.state us p mid k fits))
-
-pub units_known : (b : Between) (us : Units) (es : Events) (next : Between) → units_read b us ≡ Ok (es, next) → KnownAt b.state us → IsKnown next.state
-units_known b us es next e k = by_parts Known last_known front_known b us es next k e k
 
 -- ---- the last sequence header
 

@@ -14,13 +14,14 @@ use Rattle.m2v_model.specs.Pieces.{phase_after, is_end, piece_of, grouped, piece
 use Rattle.m2v_model.specs.ByPieces.{Between, at_start, units_read}
 use Rattle.m2v_audit.proofs.m2v_check.m2v_model.CutLaws.{cut_cuts, cut_units, joined-append, are_before, are_behind, are_code}
 use Rattle.m2v_audit.proofs.m2v_check.m2v_model.ShiftLaws.{NoEnds}
+use Rattle.m2v_model.proofs.CountLaws.{Told, pictures_told}
 use Rattle.m2v_audit.proofs.m2v_check.m2v_model.SplitLaws.{IsKnown, KnownAt, known_at}
 use Rattle.m2v_audit.proofs.m2v_check.m2v_model.PieceLaws.{piece_whole, IsOpen, open_after, no_ends-append, sequence_goes}
 use Rattle.m2v_audit.proofs.m2v_check.m2v_decode.m2v_dec_rows.UnitGifts.{first_value}
 use Rattle.m2v_audit.proofs.m2v_check.Telling.{IsGoodState, Says, units_say}
 use Rattle.m2v_audit.proofs.m2v_check.Ordered.{AreOrdered, PictureLast, pieces_ordered, units_ordered}
 use Rattle.m2v_audit.specs.Front.{front_of}
-use Rattle.m2v_law_audit.proofs.EventsFront.{Fronts, EndsLast, front_is, units_known}
+use Rattle.m2v_law_audit.proofs.EventsFront.{Fronts, EndsLast, front_is}
 
 -- ---- how a text is cut
 
@@ -166,5 +167,5 @@ piece_says b p ps es next r e =
       says = s.0;
       last = units_ordered b us es next e r.ordered.0 r.shut;
       fronts = λ place. front_is b p es next place e r.known r.ordered.0 r.ends.0 r.shut;
-      ready = record { good = s.0.good; shut = s.1; ordered = r.ordered.1; ends = r.ends.1; known = later_known next.state ps (units_known b us es next e r.known) };
+      ready = record { good = s.0.good; shut = s.1; ordered = r.ordered.1; ends = r.ends.1; known = later_known next.state ps (subst (Told b us) e (pictures_told b us r.known)).2 };
     }

@@ -13,7 +13,8 @@ use Rattle.m2v_law_audit.specs.Parts.{Part, breach, failure, other, text_of, IsL
 
 -- ---- two texts
 
-both_all : {V : Type 0} (P : V → Type 0) (xs ys : List V) → AllByRecursion P xs → AllByRecursion P ys → AllByRecursion P (xs ++ ys)
+-- what holds of each of two lists
+pub both_all : {V : Type 0} (P : V → Type 0) (xs ys : List V) → AllByRecursion P xs → AllByRecursion P ys → AllByRecursion P (xs ++ ys)
 both_all P [] ys p q = q
 both_all P (x ∷ xs) ys p q = (p.0, both_all P xs ys p.1 q)
 

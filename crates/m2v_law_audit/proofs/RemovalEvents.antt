@@ -1,6 +1,7 @@
 -- How the bits of a stream's pieces come, and the pictures among the others that its pieces tell.
 use Rattle.std.proofs.Common.{◌≡◌, ℕ, ◌+◌, ◌*◌, Bool, true, false, List, [], ◌∷◌, ◌++◌, length, map, Option, Some, None, refl, sym, ap, subst, ◌∙◌, arith}
 use Rattle.std.specs.Prelude.{if◌then◌else◌}
+use Rattle.std.proofs.lemmas.List.{append-nil}
 use Rattle.std.proofs.lemmas.List.Sums.{sum_by-cons}
 use Rattle.m2v_model.specs.m2v_macroblock.m2v_head.declared.sequence.SequenceInfo.{SequenceInfo}
 use Rattle.m2v_model.specs.m2v_macroblock.m2v_head.declared.sequence.SequenceExtension.{SequenceExtension}
@@ -53,23 +54,12 @@ dues_read t at p (q ∷ ps) n (m ∷ ns) = ap (λ (ds : List Due). due_at t at (
 
 -- ---- pictures among the others
 
--- what follows a piece, whose pictures were so many
-record Rest (o : Option Sequence) (number : ℕ) (es : Events) (ns : List Numbered) : Type 0 where
-  group : ℕ
-  first_in_group : Bool
-  frames : ℕ
-  is : ns ≡ numbered o group first_in_group number frames es
-
-rest_none : (o : Option Sequence) (group : ℕ) (first_in_group : Bool) (number frames : ℕ) (es fs : Events) → pictures_in es ≡ [] → Rest (last_in o es) number fs (numbered o group first_in_group number frames (es ++ fs))
+no_numbered : (o : Option Sequence) (group : ℕ) (first_in_group : Bool) (number frames : ℕ) (es : Events) → pictures_in es ≡ [] → numbered o group first_in_group number frames es ≡ []
 unfolding numbered
-rest_none o group first_in_group number frames [] fs e = record { group = group; first_in_group = first_in_group; frames = frames; is = refl }
-rest_none o group first_in_group number frames (sequence_header s ∷ es) fs e =
-    let r = rest_none (Some s) group first_in_group number frames es fs e in
-    record { group = r.group; first_in_group = r.first_in_group; frames = r.frames; is = r.is }
-rest_none o group first_in_group number frames (group_header g ∷ es) fs e =
-    let r = rest_none o (group + 1) true number frames es fs e in
-    record { group = r.group; first_in_group = r.first_in_group; frames = r.frames; is = r.is }
-rest_none o group first_in_group number frames (coded_picture p ∷ es) fs e = absurd cc
+no_numbered o group first_in_group number frames [] e = refl
+no_numbered o group first_in_group number frames (sequence_header s ∷ es) e = no_numbered (Some s) group first_in_group number frames es e
+no_numbered o group first_in_group number frames (group_header g ∷ es) e = no_numbered o (group + 1) true number frames es e
+no_numbered o group first_in_group number frames (coded_picture p ∷ es) e = absurd cc
 
 -- one picture, and what follows it
 pub record OneRest (o : Option Sequence) (number : ℕ) (own : Events) (q : Picture) (es : Events) (ns : List Numbered) : Type 0 where
@@ -115,10 +105,9 @@ none_left n b [] es e one turns = (refl, turns)
 none_left n b (p ∷ ps) es e one turns = absurd (omega (arith, e, one))
 
 pub none_numbered : (o : Option Sequence) (group : ℕ) (first_in_group : Bool) (number frames : ℕ) (own rest es : Events) → es ≡ own ++ rest → rest ≡ [] → pictures_in own ≡ [] → numbered o group first_in_group number frames es ≡ []
-unfolding numbered
 none_numbered o group first_in_group number frames own rest es are none e =
-    let r = rest_none o group first_in_group number frames own [] e in
-    ap (numbered o group first_in_group number frames) (are ∙ ap (λ (l : Events). own ++ l) none) ∙ r.is
+    ap (numbered o group first_in_group number frames) (are ∙ ap (λ (l : Events). own ++ l) none ∙ append-nil own)
+    ∙ no_numbered o group first_in_group number frames own e
 
 -- ---- the first piece
 

@@ -12,7 +12,6 @@ use Rattle.m2v_model.specs.Decoding.{Stream, events}
 use Rattle.m2v_model.specs.Lawful.{Numbered, numbered, all_numbered}
 use Rattle.m2v_model.specs.Buffering.{code_bits}
 use Rattle.m2v_model.specs.ByPieces.{Between, at_start, piece_read}
-use Rattle.m2v_model.proofs.PieceLaws.{placed, piece_is}
 use Rattle.m2v_audit.specs.declared.records.Finding.{Finding}
 use Rattle.m2v_audit.specs.declared.records.FailureRecord.{FailureRecord}
 use Rattle.m2v_audit.specs.declared.report.Rate.{Rate}
@@ -26,7 +25,7 @@ use Rattle.m2v_law_audit.specs.Sequences.{sequence_report, first_byte}
 use Rattle.m2v_law_audit.specs.Parts.{Tells, more_by}
 use Rattle.m2v_law_audit.specs.Accounts.{Beginning, beginning_by, beginning_in, dues_in, numbered_in, removals_by, failures_by, failures_of_stream, TellsAllFailures}
 use Rattle.m2v_law_audit.proofs.AccountFailures.{begins_so}
-use Rattle.m2v_law_audit.proofs.AccountReading.{Turns, in_pieces}
+use Rattle.m2v_law_audit.proofs.AccountReading.{Turns, turn_read, in_pieces}
 use Rattle.m2v_law_audit.proofs.RemovalEvents.{note_at, none_left, none_numbered, first_so}
 use Rattle.m2v_law_audit.proofs.RemovalTurns.{removals_in}
 
@@ -93,7 +92,7 @@ first_piece at (p ∷ ps) es x turns e =
             header = header_pair s;
             others = (f.has).others;
             are = refl;
-            read = piece_is at_start (at + length p) p ∙ ap (placed (at + length p)) u.read;
+            read = turn_read at_start p ps es u (at + length p);
             noted = (f.has).noted;
             rate = begins.rate ∙ ap (rate_with s) (sym (noted_first at p u.own one.0 n one.1 (f.one).same));
           }

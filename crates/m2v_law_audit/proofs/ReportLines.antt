@@ -1,8 +1,8 @@
 -- A text of parts, line by line.
 use Rattle.std.proofs.Common.{◌≡◌, inl, inr, ℕ, Bool, true, false, List, [], ◌∷◌, ◌++◌, map, length, refl, sym, ap, ◌∙◌, append_assoc}
-use Rattle.std.specs.Prelude.{nat_eq, not, codes, take, if◌then◌else◌}
+use Rattle.std.specs.Prelude.{nat_eq, codes, take, if◌then◌else◌}
 use Rattle.std.specs.List.{flat_map, filter, list_all, AllByRecursion}
-use Rattle.std.proofs.lemmas.Bool.{cases_Bool, eqb-true}
+use Rattle.std.proofs.lemmas.Bool.{cases_Bool, eqb-true, not-true}
 use Rattle.m2v_audit.specs.declared.records.Finding.{Finding}
 use Rattle.m2v_audit.specs.declared.records.FailureRecord.{FailureRecord}
 use Rattle.m2v_audit.specs.Lines.{breach_line, failure_line}
@@ -12,16 +12,12 @@ use Rattle.m2v_law_audit.proofs.PartsLines.{halves, breach_is, failure_is}
 
 -- ---- a line, and what follows it
 
-no_newline : (b : Bool) → not b ≡ true → b ≡ false
-no_newline true e = absurd cc
-no_newline false e = refl
-
 front_cut : (front rest : List ℕ) → list_all is_within front ≡ true → lines_of (front ++ (10 ∷ rest)) ≡ (front ++ (10 ∷ [])) ∷ lines_of rest
 front_cut [] rest e = refl
 front_cut (c ∷ front) rest e =
     let both = halves (is_within c) (list_all is_within front) e in
     let tail = front ++ (10 ∷ rest) in
-    ap (λ (b : Bool). if b then (c ∷ []) ∷ lines_of tail else before_lines c (lines_of tail)) (no_newline (nat_eq c 10) both.0)
+    ap (λ (b : Bool). if b then (c ∷ []) ∷ lines_of tail else before_lines c (lines_of tail)) (not-true (nat_eq c 10) both.0)
     ∙ ap (before_lines c) (front_cut front rest both.1)
 
 line_cut : (line rest : List ℕ) → IsLine line → lines_of (line ++ rest) ≡ line ∷ lines_of rest

@@ -1,15 +1,14 @@
 -- The report of a stream without a fault stands in the report of an input, and what follows it behind.
-use Rattle.std.proofs.Common.{◌≡◌, ℕ, ◌+◌, ◌-◌, ◌*◌, Bool, true, false, cond, List, [], ◌∷◌, ◌++◌, length, Option, Ok, Err, refl, sym, ap, subst, ◌∙◌, append_assoc}
+use Rattle.std.proofs.Common.{◌≡◌, ℕ, ◌+◌, ◌-◌, ◌*◌, Bool, false, List, [], ◌∷◌, ◌++◌, length, Option, Ok, Err, refl, sym, ap, subst, ◌∙◌, append_assoc}
 use Rattle.m2v_bits.specs.Syntax.{seq, bind, rule, done}
 use Rattle.m2v_model.specs.declared.fault.FaultKind.{FaultKind}
 use Rattle.m2v_model.specs.declared.fault.FaultKind.TheVariants.{NoSequence}
-use Rattle.m2v_model.specs.States.{none_waits}
 use Rattle.m2v_model.specs.Streams.{Sofar, text_end}
 use Rattle.m2v_model.specs.Pictures.{Events}
 use Rattle.m2v_model.specs.Pieces.{pieces, before_pieces, Limit}
 use Rattle.m2v_model.specs.PieceNotes.{notes_of}
 use Rattle.m2v_model.specs.Decoding.{Stream}
-use Rattle.m2v_model.specs.ByPieces.{Between, Course, at_start, read_of, unit_read, units_read, piece_read, end_of, end_read, text_ended, continued}
+use Rattle.m2v_model.specs.ByPieces.{Between, Course, at_start, read_of, unit_read, piece_read, end_of, end_read, text_ended, continued}
 use Rattle.m2v_model.proofs.FlowLaws.{read_err}
 use Rattle.m2v_model.proofs.PieceLaws.{placed, piece_is, piece_none, rest_read, rest_none, rest_more, text_rest}
 use Rattle.m2v_audit.specs.declared.auditing.Auditing.{Auditing}
@@ -17,7 +16,7 @@ use Rattle.m2v_audit.specs.Auditing.{nothing, cleared, after_piece}
 use Rattle.m2v_audit.specs.Audited.{Audited, Telling, then_comes, counted_with, unless_passed, piece_told, end_told, pieces_told}
 use Rattle.m2v_law_audit.specs.Sequences.{SequenceReport, behind, by_piece, reported, first_byte, PassNone, StandsIn}
 use Rattle.m2v_audit.proofs.m2v_check.Checking.{units_of_piece}
-use Rattle.m2v_law_audit.proofs.AccountReading.{behind_ok, stream_read}
+use Rattle.m2v_law_audit.proofs.AccountReading.{behind_ok, ended_ok, stream_read}
 
 -- ---- a stream is read by its pieces
 
@@ -43,17 +42,10 @@ some_piece at x e = not_both (end_read at_start at) (NoSequence, 8 * at - 0) x (
 piece_elsewhere : (b : Between) (end to : ℕ) (p : List ℕ) (x : Events × Between) → piece_read b end p ≡ Ok x → piece_read b to p ≡ Ok x
 piece_elsewhere b end to p x e = piece_is b to p ∙ ap (placed to) (units_of_piece b end p x e)
 
-none_due : (c : Bool) (z x : Events × Between) (f g : FaultKind × ℕ) → cond c (Ok z) (Err f) ≡ Ok x → cond c (Ok z) (Err g) ≡ Ok x
-none_due true z x f g e = e
-none_due false z x f g e = absurd cc
-
-ended_by : (end to : ℕ) (r : Course) (x : Events × Between) → text_ended end (placed end r) ≡ Ok x → text_ended to (placed to r) ≡ Ok x
-ended_by end to (Ok z) x e = none_due (none_waits z.1.state.waiting) z x _ _ e
-ended_by end to (Err f) x e = absurd cc
-
 end_elsewhere : (b : Between) (end to : ℕ) (x : Events × Between) → end_read b end ≡ Ok x → end_read b to ≡ Ok x
 end_elsewhere b end to x e =
-    ap (text_ended to) (piece_none b to) ∙ ended_by end to (units_read b []) x (ap (text_ended end) (sym (piece_none b end)) ∙ e)
+    let h = ended_ok end (piece_read b end []) x e in
+    ap (text_ended to) (piece_elsewhere b end to [] x h.0) ∙ rw h.1 refl
 
 then_on : (xs ys : List ℕ) (a : Audited) → then_comes (xs ++ ys) a ≡ then_comes xs (then_comes ys a)
 then_on xs ys a = ap (λ (l : List ℕ). record { report = l; outcome = a.outcome }) (append_assoc xs ys a.report)
