@@ -1,7 +1,8 @@
 -- What stays of a sequence behind a piece; and that nothing waits to be told where none began.
-use Rattle.std.proofs.Common.{◌≡◌, ℕ, ◌+◌, ◌*◌, Bool, true, false, List, [], ◌∷◌, ◌++◌, length, Option, Some, None, refl, sym, ap, ◌∙◌}
-use Rattle.std.specs.Prelude.{slice_get, if◌then◌else◌}
+use Rattle.std.proofs.Common.{◌≡◌, ℕ, ◌+◌, ◌*◌, List, [], ◌∷◌, ◌++◌, length, Option, Some, None, inl, inr, refl, sym, ap, ◌∙◌}
+use Rattle.std.specs.Prelude.{slice_get}
 use Rattle.std.specs.Option.{option_map}
+use Rattle.std.proofs.lemmas.Bool.{cases_Bool}
 use Rattle.m2v_model.specs.m2v_macroblock.m2v_head.declared.sequence.SequenceInfo.{SequenceInfo}
 use Rattle.m2v_model.specs.m2v_macroblock.m2v_head.declared.sequence.SequenceExtension.{SequenceExtension}
 use Rattle.m2v_model.specs.declared.state.Sequence.{Sequence}
@@ -19,36 +20,45 @@ use Rattle.m2v_audit.specs.declared.report.Rate.{Rate}
 use Rattle.m2v_audit.specs.Account.{Account, with_more as account_more}
 use Rattle.m2v_audit.specs.Auditing.{sequence_of, rate_with, longer, begun, begun_by, with_header, sequences_of, with_headers, coded, counted, with_told, with_place, with_note, settled_by, fronted, pictured, after_piece}
 use Rattle.m2v_audit.specs.Front.{front_of}
+use Rattle.m2v_audit.specs.Times.{Times}
 use Rattle.m2v_audit.specs.Places.{anchor_misplaced, field_misplaced, waiting_in}
 use Rattle.m2v_law_audit.specs.Found.{found_misplaced, end_found, settled_in, left_in, piece_removals}
+
+-- ---- what headers don't touch
+
+-- the first sequence header and how the buffer is filled, how many pictures came, what is kept of their times, and the account
+abbrev pub Untouched : Type 0
+Untouched = Option Sequence × Rate × ℕ × Times × Option Account
+
+abbrev pub untouched_in : Auditing → Untouched
+untouched_in a = (a.first, a.rate, a.pictures, a.times, a.account)
+
+one_header : (a : Auditing) (h : PieceHeader) (s : Option (SequenceInfo × SequenceExtension)) → untouched_in (with_header a h s) ≡ untouched_in a
+unfolding with_header
+one_header a (headers.Sequence bit) None = refl
+one_header a (headers.Sequence bit) (Some s) = refl
+one_header a (headers.Group bit g) s = refl
+
+pub all_headers : (a : Auditing) (ss : List (SequenceInfo × SequenceExtension)) (k : ℕ) (hs : List PieceHeader) → untouched_in (with_headers a ss k hs) ≡ untouched_in a
+unfolding with_headers
+all_headers a ss k [] = refl
+all_headers a ss k (h ∷ hs) = all_headers (with_header a h (slice_get ss k)) ss (k + sequences_of h) hs ∙ one_header a h (slice_get ss k)
+
+-- where the frame of a picture stands in its group changes none of it either, nor the last sequence header
+pub placing : (a : Auditing) (p : CodedPicture) → (untouched_in (with_place a p) ≡ untouched_in a) × ((with_place a p).sequence ≡ a.sequence)
+placing a p = elim (cases_Bool (ends_frame p.note)) [ inl on ↦ rw on (refl, refl) | inr off ↦ rw off (refl, refl) ]
 
 -- ---- the first sequence header, and how the buffer is filled
 
 abbrev pub beginning_of : Auditing → Option Sequence × Rate
 beginning_of a = (a.first, a.rate)
 
-by_place : (is_frame : Bool) (a b : Auditing) (v : Option Sequence × Rate) → beginning_of a ≡ v → beginning_of b ≡ v → beginning_of (if is_frame then a else b) ≡ v
-by_place true a b v x y = x
-by_place false a b v x y = y
-
-one_header : (a : Auditing) (h : PieceHeader) (s : Option (SequenceInfo × SequenceExtension)) → beginning_of (with_header a h s) ≡ beginning_of a
-unfolding with_header
-one_header a (headers.Sequence bit) None = refl
-one_header a (headers.Sequence bit) (Some s) = refl
-one_header a (headers.Group bit g) s = refl
-
-all_headers : (a : Auditing) (ss : List (SequenceInfo × SequenceExtension)) (k : ℕ) (hs : List PieceHeader) → beginning_of (with_headers a ss k hs) ≡ beginning_of a
-unfolding with_headers
-all_headers a ss k [] = refl
-all_headers a ss k (h ∷ hs) = all_headers (with_header a h (slice_get ss k)) ss (k + sequences_of h) hs ∙ one_header a h (slice_get ss k)
-
-placing : (a : Auditing) (p : CodedPicture) → beginning_of (with_place a p) ≡ beginning_of a
-placing a p = by_place (ends_frame p.note) _ _ (beginning_of a) refl refl
-
 noting : (a : Auditing) (s : Option Sequence) (n : Option PictureNote) (place bytes ending : ℕ) → beginning_of (with_note a s n place bytes ending) ≡ beginning_of a
 noting a s None place bytes ending = refl
 noting a None (Some n) place bytes ending = refl
-noting a (Some s) (Some n) place bytes ending = let p : CodedPicture = coded a s n in placing (with_told (counted a p) p bytes ending) p
+noting a (Some s) (Some n) place bytes ending =
+    let p : CodedPicture = coded a s n in
+    ap (λ (x : Untouched). (x.0, x.1)) (placing (with_told (counted a p) p bytes ending) p).0
 
 settling : (a : Auditing) (x : Option Account) → beginning_of (settled_by a x) ≡ beginning_of a
 settling a None = refl
@@ -64,7 +74,7 @@ kept_after a place piece notes =
     let d : Auditing = pictured c place (length piece) (zeros_last piece) notes.picture in
     settling d d.account
     ∙ noting c c.sequence notes.picture place (length piece) (zeros_last piece)
-    ∙ all_headers (begun a.first b place notes) notes.sequences 0 (front_of place piece)
+    ∙ ap (λ (x : Untouched). (x.0, x.1)) (all_headers (begun a.first b place notes) notes.sequences 0 (front_of place piece))
 
 pub stays_after : (a : Auditing) (place : ℕ) (piece : List ℕ) (notes : PieceNotes) (s : Sequence) → a.first ≡ Some s
     → beginning_of (after_piece a place piece notes) ≡ beginning_of a

@@ -1,8 +1,5 @@
 -- What a piece does to the account, and to what the account of later pieces goes by.
-use Rattle.std.proofs.Common.{◌≡◌, ℕ, ◌+◌, ◌-◌, ◌*◌, Bool, true, false, List, [], ◌∷◌, length, Option, Some, None, option_map, refl, sym, ap, subst, ◌∙◌, arith}
-use Rattle.std.specs.Prelude.{slice_get, if◌then◌else◌}
-use Rattle.m2v_model.specs.m2v_macroblock.m2v_head.declared.sequence.SequenceInfo.{SequenceInfo}
-use Rattle.m2v_model.specs.m2v_macroblock.m2v_head.declared.sequence.SequenceExtension.{SequenceExtension}
+use Rattle.std.proofs.Common.{◌≡◌, ℕ, ◌+◌, ◌-◌, ◌*◌, List, [], ◌∷◌, length, Option, Some, None, option_map, refl, sym, ap, subst, ◌∙◌, arith}
 use Rattle.m2v_model.specs.declared.state.Sequence.{Sequence}
 use Rattle.m2v_model.specs.declared.notes.PictureNote.{PictureNote}
 use Rattle.m2v_model.specs.Pictures.{Events, pictures_in}
@@ -11,18 +8,16 @@ use Rattle.m2v_model.specs.PieceNotes.{PieceNotes, note_of, first_note, notes_of
 use Rattle.m2v_model.specs.Lawful.{Numbered}
 use Rattle.m2v_model.specs.Buffering.{bits_of_piece, code_bits}
 use Rattle.m2v_audit.specs.m2v_check.declared.coded.CodedPicture.{CodedPicture}
-use Rattle.m2v_audit.specs.m2v_check.Running.{ends_frame}
 use Rattle.m2v_audit.specs.declared.account.Due.{Due}
 use Rattle.m2v_audit.specs.declared.auditing.Auditing.{Auditing}
-use Rattle.m2v_audit.specs.declared.headers.PieceHeader.{PieceHeader}
-use Rattle.m2v_audit.specs.declared.headers.PieceHeader.TheVariants as headers
 use Rattle.m2v_audit.specs.Account.{Account, with_more, after_settled}
-use Rattle.m2v_audit.specs.Auditing.{longer, with_header, sequences_of, with_headers, coded, counted, with_told, with_place, account_by, with_coded, with_note, pictured, settled_by, with_settled, cleared, fronted, after_piece}
+use Rattle.m2v_audit.specs.Auditing.{longer, with_headers, coded, counted, with_told, with_place, account_by, with_coded, with_note, pictured, settled_by, with_settled, cleared, fronted, after_piece}
 use Rattle.m2v_audit.specs.Front.{front_of}
 use Rattle.m2v_audit.specs.Times.{Times, time_of, after}
 use Rattle.m2v_audit.proofs.m2v_check.Telling.{last_in}
 use Rattle.m2v_law_audit.specs.Found.{settled_in, piece_removals}
 use Rattle.m2v_law_audit.specs.Accounts.{due_at}
+use Rattle.m2v_law_audit.proofs.PartsKept.{Untouched, untouched_in, all_headers, placing}
 use Rattle.m2v_law_audit.proofs.AccountReading.{begun_at}
 use Rattle.m2v_law_audit.proofs.EventsFront.{Fronts, last_sequence}
 
@@ -36,42 +31,23 @@ pub record Stands (a : Auditing) (first last : Option Sequence) (number : ℕ) (
   pub times_are : a.times ≡ times
   pub account_is : a.account ≡ account
 
--- nothing else is of matter to it
-same_stands : (a b : Auditing) (f o : Option Sequence) (k : ℕ) (t : Times) (x : Option Account) → b.first ≡ a.first → b.sequence ≡ a.sequence → b.pictures ≡ a.pictures → b.times ≡ a.times → b.account ≡ a.account → Stands a f o k t x → Stands b f o k t x
-same_stands a b f o k t x ef eo ek et ex h = record {
-  first_is = ef ∙ h.first_is;
-  last_is = eo ∙ h.last_is;
-  number_is = ek ∙ h.number_is;
-  times_are = et ∙ h.times_are;
-  account_is = ex ∙ h.account_is;
+-- with the last sequence header that stands then, where the others are as they were
+untouched_stands : (a b : Auditing) (f o : Option Sequence) (k : ℕ) (t : Times) (x : Option Account) → untouched_in b ≡ untouched_in a → Stands a f o k t x → Stands b f b.sequence k t x
+untouched_stands a b f o k t x e h = record {
+  first_is = ap (λ (y : Untouched). y.0) e ∙ h.first_is;
+  last_is = refl;
+  number_is = ap (λ (y : Untouched). y.2) e ∙ h.number_is;
+  times_are = ap (λ (y : Untouched). y.3) e ∙ h.times_are;
+  account_is = ap (λ (y : Untouched). y.4) e ∙ h.account_is;
 }
-
-stands_if : (w : Bool) (a b : Auditing) (f o : Option Sequence) (k : ℕ) (t : Times) (x : Option Account) → Stands a f o k t x → Stands b f o k t x → Stands (if w then a else b) f o k t x
-stands_if true a b f o k t x g h = g
-stands_if false a b f o k t x g h = h
-
--- ---- headers
-
-one_header : (a : Auditing) (h : PieceHeader) (s : Option (SequenceInfo × SequenceExtension)) (f o : Option Sequence) (k : ℕ) (t : Times) (x : Option Account) → Stands a f o k t x → Stands (with_header a h s) f (with_header a h s).sequence k t x
-unfolding with_header
-one_header a (headers.Sequence bit) None f o k t x h = record { first_is = h.first_is; last_is = refl; number_is = h.number_is; times_are = h.times_are; account_is = h.account_is }
-one_header a (headers.Sequence bit) (Some s) f o k t x h = record { first_is = h.first_is; last_is = refl; number_is = h.number_is; times_are = h.times_are; account_is = h.account_is }
-one_header a (headers.Group bit g) s f o k t x h = record { first_is = h.first_is; last_is = refl; number_is = h.number_is; times_are = h.times_are; account_is = h.account_is }
-
--- headers change the sequence header in force alone
-all_headers : (a : Auditing) (ss : List (SequenceInfo × SequenceExtension)) (j : ℕ) (hs : List PieceHeader) (f o : Option Sequence) (k : ℕ) (t : Times) (x : Option Account) → Stands a f o k t x
-    → Stands (with_headers a ss j hs) f (with_headers a ss j hs).sequence k t x
-unfolding with_headers
-all_headers a ss j [] f o k t x h = record { first_is = h.first_is; last_is = refl; number_is = h.number_is; times_are = h.times_are; account_is = h.account_is }
-all_headers a ss j (h ∷ hs) f o k t x stands =
-    let b = with_header a h (slice_get ss j) in
-    all_headers b ss (j + sequences_of h) hs f b.sequence k t x (one_header a h (slice_get ss j) f o k t x stands)
 
 -- ---- a picture
 
 -- where its frame stands in its group is of no matter
 placed_stands : (a : Auditing) (p : CodedPicture) (f o : Option Sequence) (k : ℕ) (t : Times) (x : Option Account) → Stands a f o k t x → Stands (with_place a p) f o k t x
-placed_stands a p f o k t x h = stands_if (ends_frame p.note) _ _ f o k t x (same_stands a _ f o k t x refl refl refl refl refl h) (same_stands a _ f o k t x refl refl refl refl refl h)
+placed_stands a p f o k t x h =
+    let e = placing a p in
+    subst (λ (s : Option Sequence). Stands (with_place a p) f s k t x) (e.1 ∙ h.last_is) (untouched_stands a (with_place a p) f o k t x e.0 h)
 
 -- a picture as the buffer sees it, with its number and what is kept of the times before it
 abbrev due_by : ℕ → Times → Sequence → PictureNote → ℕ → ℕ → Due
@@ -137,7 +113,9 @@ fronted_stands : (a : Auditing) (place : ℕ) (piece : List ℕ) (es : Events) (
     → Stands (fronted (longer (length piece) a) place piece (notes_of place piece es)) f (last_in o es) k t x
 fronted_stands a place piece es f o k t x fronts h =
     let b = begun_at a place piece es in
-    let g = all_headers b (notes_of place piece es).sequences 0 (front_of place piece) f o k t x h in
+    let ss = (notes_of place piece es).sequences in
+    let hs = front_of place piece in
+    let g = untouched_stands b (with_headers b ss 0 hs) f o k t x (all_headers b ss 0 hs) h in
     record {
       first_is = g.first_is;
       last_is = last_sequence b place piece es fronts ∙ ap (λ (s : Option Sequence). last_in s es) h.last_is;
