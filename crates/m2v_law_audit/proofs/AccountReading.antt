@@ -159,7 +159,7 @@ end_tells b end es last e shut =
 
 -- ---- a stream
 
--- A stream is read without a fault: its parts.
+-- a stream is read without a fault, and what is read is what stands in it
 pub stream_read : (text : List ℕ) (tree : Sofar) → Stream text tree → text_read text ≡ Ok (read_of at_start tree)
 stream_read text tree stream = by (text_read text) refl
   where

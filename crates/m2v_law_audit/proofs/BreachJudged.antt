@@ -2,6 +2,7 @@
 use Rattle.std.proofs.Common.{◌≡◌, ℕ, ◌+◌, ◌*◌, Bool, true, false, List, [], ◌∷◌, ◌++◌, map, Option, Some, None, refl, ap}
 use Rattle.std.specs.Prelude.{nat_le, nat_lt, if◌then◌else◌}
 use Rattle.std.specs.List.{flat_map, AllByRecursion}
+use Rattle.std.proofs.ByRecursion.{All-append}
 use Rattle.m2v_model.specs.declared.state.Sequence.{Sequence}
 use Rattle.m2v_model.specs.Headers.{uses_backward}
 use Rattle.m2v_model.specs.States.{is_frame}
@@ -9,7 +10,6 @@ use Rattle.m2v_model.specs.Lawful.{Breach, Breaches, breach, judge, at_most, wit
 use Rattle.m2v_audit.specs.declared.places.Misplaced.{Misplaced}
 use Rattle.m2v_law_audit.specs.Breaches.{as_judged}
 use Rattle.m2v_law_audit.specs.Found.{found_at, found_misplaced}
-use Rattle.m2v_law_audit.proofs.PartsJoined.{both_all}
 use Rattle.m2v_law_audit.proofs.BreachCounts.{place_breaches, other_rules}
 
 -- ---- findings as the verifier has them
@@ -34,7 +34,7 @@ judged_places sequence (Some m ∷ ms) = ap (λ (bs : Breaches). breach 11 m.num
 -- ---- of which picture the rules tell
 
 both : (picture : ℕ) (xs ys : Breaches) → AreOf picture xs → AreOf picture ys → AreOf picture (xs ++ ys)
-both picture = both_all (IsOf picture)
+both picture = All-append (IsOf picture)
 
 one_judged : (picture : ℕ) (holds : Bool) (b : Breach) → IsOf picture b → AreOf picture (judge holds b)
 one_judged picture true b h = tt

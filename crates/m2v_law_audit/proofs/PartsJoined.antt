@@ -1,7 +1,7 @@
 -- Lines that come one after another: what they tell, and what is counted of it.
 use Rattle.std.proofs.Common.{◌≡◌, ℕ, suc, ◌+◌, ◌-◌, ◌^◌, ◌≤◌, Bool, true, false, List, [], ◌∷◌, ◌++◌, length, refl, sym, ap, subst, ◌∙◌, append_assoc, arith, length-append}
 use Rattle.std.specs.Prelude.{nat_eq, not, ◌&&◌, take, if◌then◌else◌}
-use Rattle.std.specs.List.{AllByRecursion}
+use Rattle.std.proofs.ByRecursion.{All-append}
 use Rattle.std.proofs.lemmas.List.{append-nil}
 use Rattle.std.proofs.lemmas.Grind.{flat_map-append}
 use Rattle.m2v_audit.specs.declared.records.Finding.{Finding}
@@ -12,11 +12,6 @@ use Rattle.m2v_audit.specs.Report.{Report, with_text, finding_of, with_breach, w
 use Rattle.m2v_law_audit.specs.Parts.{Part, breach, failure, other, text_of, IsLine, IsPart, breaches_in, failures_in, Tells, more_by, Adds}
 
 -- ---- two texts
-
--- what holds of each of two lists
-pub both_all : {V : Type 0} (P : V → Type 0) (xs ys : List V) → AllByRecursion P xs → AllByRecursion P ys → AllByRecursion P (xs ++ ys)
-both_all P [] ys p q = q
-both_all P (x ∷ xs) ys p q = (p.0, both_all P xs ys p.1 q)
 
 breaches_both : (ps qs : List Part) → breaches_in (ps ++ qs) ≡ breaches_in ps ++ breaches_in qs
 breaches_both [] qs = refl
@@ -38,7 +33,7 @@ pub both_tell : {x y : List ℕ} {bs cs : List Finding} {fs gs : List FailureRec
 both_tell {x} {y} {bs} {cs} {fs} {gs} t u = record {
   parts = t.parts ++ u.parts;
   lines = rw (t.lines, u.lines) (sym (flat_map-append text_of t.parts u.parts));
-  each = both_all IsPart t.parts u.parts t.each u.each;
+  each = All-append IsPart t.parts u.parts t.each u.each;
   are_breaches = breaches_both t.parts u.parts ∙ rw (t.are_breaches, u.are_breaches) refl;
   are_failures = failures_both t.parts u.parts ∙ rw (t.are_failures, u.are_failures) refl;
 }

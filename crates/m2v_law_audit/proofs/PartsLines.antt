@@ -1,10 +1,10 @@
 -- Each line of a report is one line: its columns hold no newline.
 use Rattle.std.proofs.Common.{◌≡◌, ℕ, zero, suc, ◌+◌, ◌/◌, ◌%◌, Bool, true, false, List, [], ◌∷◌, ◌++◌, refl, ap, ◌∙◌, arith}
-use Rattle.std.specs.Prelude.{nat_lt, not, ◌&&◌, ◌==◌, codes, decimal, if◌then◌else◌}
+use Rattle.std.specs.Prelude.{nat_lt, not, ◌==◌, codes, decimal, if◌then◌else◌}
 use Rattle.std.specs.Fmt.{digits, digits_onto, digit_glyph}
 use Rattle.std.specs.List.{flat_map, list_all}
 use Rattle.std.specs.Cmp.Derive.{both_true}
-use Rattle.std.proofs.lemmas.Bool.{ne_eqb}
+use Rattle.std.proofs.lemmas.Bool.{and_parts, ne_eqb}
 use Rattle.std.proofs.lemmas.List.Folds.{list_all-append}
 use Rattle.m2v_audit.specs.declared.words.RateKind.{RateKind}
 use Rattle.m2v_audit.specs.declared.words.RateKind.TheVariants as rates
@@ -87,10 +87,6 @@ failure_within failures.Big = refl
 
 -- ---- lines
 
-pub halves : (a b : Bool) → (a && b) ≡ true → (a ≡ true) × (b ≡ true)
-halves true b h = (refl, h)
-halves false b h = absurd cc
-
 -- a column whose word holds no newline
 abbrev is_plain : Column → Bool
 is_plain (number n) = true
@@ -107,7 +103,7 @@ part_of c = codes "\t" ++ column_text c
 columns_within : (cs : List Column) → list_all is_plain cs ≡ true → within (flat_map part_of cs) ≡ true
 columns_within [] e = refl
 columns_within (c ∷ cs) e =
-    let both = halves (is_plain c) (list_all is_plain cs) e in
+    let both = and_parts (is_plain c) (list_all is_plain cs) e in
     list_all-append is_within (part_of c) (flat_map part_of cs) ∙ both_true (column_within c both.0) (columns_within cs both.1)
 
 line_is : (kind : List ℕ) (cs : List Column) → within kind ≡ true → list_all is_plain cs ≡ true → IsLine (line_of kind cs)

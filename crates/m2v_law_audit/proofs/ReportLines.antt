@@ -2,20 +2,20 @@
 use Rattle.std.proofs.Common.{◌≡◌, inl, inr, ℕ, Bool, true, false, List, [], ◌∷◌, ◌++◌, map, length, refl, sym, ap, ◌∙◌, append_assoc}
 use Rattle.std.specs.Prelude.{nat_eq, codes, take, if◌then◌else◌}
 use Rattle.std.specs.List.{flat_map, filter, list_all, AllByRecursion}
-use Rattle.std.proofs.lemmas.Bool.{cases_Bool, eqb-true, not-true}
+use Rattle.std.proofs.lemmas.Bool.{cases_Bool, and_parts, eqb-true, not-true}
 use Rattle.m2v_audit.specs.declared.records.Finding.{Finding}
 use Rattle.m2v_audit.specs.declared.records.FailureRecord.{FailureRecord}
 use Rattle.m2v_audit.specs.Lines.{breach_line, failure_line}
 use Rattle.m2v_law_audit.specs.Parts.{Part, breach, failure, other, text_of, is_within, IsLine, IsPart, breaches_in, failures_in, Tells}
 use Rattle.m2v_law_audit.specs.ByLines.{before_lines, lines_of, begins, TellsByLines}
-use Rattle.m2v_law_audit.proofs.PartsLines.{halves, breach_is, failure_is}
+use Rattle.m2v_law_audit.proofs.PartsLines.{breach_is, failure_is}
 
 -- ---- a line, and what follows it
 
 front_cut : (front rest : List ℕ) → list_all is_within front ≡ true → lines_of (front ++ (10 ∷ rest)) ≡ (front ++ (10 ∷ [])) ∷ lines_of rest
 front_cut [] rest e = refl
 front_cut (c ∷ front) rest e =
-    let both = halves (is_within c) (list_all is_within front) e in
+    let both = and_parts (is_within c) (list_all is_within front) e in
     let tail = front ++ (10 ∷ rest) in
     ap (λ (b : Bool). if b then (c ∷ []) ∷ lines_of tail else before_lines c (lines_of tail)) (not-true (nat_eq c 10) both.0)
     ∙ ap (before_lines c) (front_cut front rest both.1)
@@ -45,7 +45,7 @@ front_is : (word line : List ℕ) → begins word line ≡ true → take (length
 front_is [] line e = refl
 front_is (k ∷ ks) [] e = absurd cc
 front_is (k ∷ ks) (c ∷ cs) e =
-    let both = halves (nat_eq k c) (begins ks cs) e in
+    let both = and_parts (nat_eq k c) (begins ks cs) e in
     ap (λ (x : ℕ). x ∷ take (length ks) cs) (sym (eqb-true k c both.0)) ∙ ap (λ (l : List ℕ). k ∷ l) (front_is ks cs both.1)
 
 other_begins : (word line : List ℕ) → (take (length word) line ≡ word → ⊥) → begins word line ≡ false
