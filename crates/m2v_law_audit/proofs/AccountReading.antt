@@ -1,6 +1,10 @@
 -- A stream as it is read piece by piece: what each piece tells, and what stands before and behind it.
-use Rattle.std.proofs.Common.{◌≡◌, ℕ, ◌+◌, ◌*◌, ◌≤◌, Bool, true, false, cond, List, [], ◌∷◌, ◌++◌, length, None, Ok, Err, refl, sym, ap, subst, ◌∙◌, arith}
+use Rattle.std.proofs.Common.{◌≡◌, ℕ, ◌+◌, ◌*◌, ◌≤◌, Bool, true, false, cond, List, [], ◌∷◌, ◌++◌, length, map, Option, Some, None, Ok, Err, refl, sym, ap, subst, ◌∙◌, arith}
+use Rattle.std.specs.Prelude.{slice_get}
 use Rattle.std.proofs.lemmas.List.{append-nil, length-append}
+use Rattle.m2v_model.specs.m2v_macroblock.m2v_head.declared.sequence.SequenceInfo.{SequenceInfo}
+use Rattle.m2v_model.specs.m2v_macroblock.m2v_head.declared.sequence.SequenceExtension.{SequenceExtension}
+use Rattle.m2v_model.specs.declared.state.Sequence.{Sequence}
 use Rattle.m2v_model.specs.declared.fault.FaultKind.{FaultKind}
 use Rattle.m2v_model.specs.declared.fault.FaultKind.TheVariants.{FieldPair}
 use Rattle.m2v_model.specs.Units.{Units, cut}
@@ -8,7 +12,8 @@ use Rattle.m2v_model.specs.States.{none_waits}
 use Rattle.m2v_model.specs.Streams.{Sofar, sequence, group, picture, matrices, slice, unread_slice, skipped_unit, ending, over, after}
 use Rattle.m2v_model.specs.Pictures.{Events, pictures_in}
 use Rattle.m2v_model.specs.Pieces.{pieces, before_pieces}
-use Rattle.m2v_model.specs.PieceNotes.{PieceNotes, notes_of}
+use Rattle.m2v_model.specs.PieceNotes.{PieceNotes, header_pair, notes_of}
+use Rattle.m2v_model.specs.Lawful.{sequences_in}
 use Rattle.m2v_model.specs.Decoding.{Stream, events, frames_of}
 use Rattle.m2v_model.specs.ByPieces.{Between, Course, at_start, read_of, units_read, piece_read, behind, continued, pieces_read, end_of, text_ended, end_read, text_read, IsOne, TellInTurn}
 use Rattle.m2v_model.proofs.EventLaws.{pictures_in-append}
@@ -16,14 +21,16 @@ use Rattle.m2v_model.proofs.PieceLaws.{placed, piece_is, by_pieces}
 use Rattle.m2v_model.proofs.TurnLaws.{pictures_in_turn}
 use Rattle.m2v_model.proofs.Unique.{exactly_one}
 use Rattle.m2v_audit.specs.m2v_check.Laws.{Alternates}
-use Rattle.m2v_audit.proofs.m2v_check.Telling.{AtLast, InFront, by_units, first_in, last_in, AreHeaded, Says, says_on, says_nothing}
+use Rattle.m2v_audit.proofs.m2v_check.Telling.{AtLast, InFront, by_units, first_in, last_in, first-append, AreHeaded, Says, says_on, says_nothing}
 use Rattle.m2v_audit.proofs.m2v_check.Ordered.{PictureLast}
+use Rattle.m2v_audit.proofs.m2v_check.Onward.{first_stays}
+use Rattle.m2v_audit.proofs.m2v_check.m2v_decode.m2v_dec_rows.UnitGifts.{first_value}
 use Rattle.m2v_audit.proofs.m2v_check.Checking.{units_of_piece}
 use Rattle.m2v_audit.specs.declared.auditing.Auditing.{Auditing}
-use Rattle.m2v_audit.specs.Auditing.{longer, begun, cleared, after_piece}
+use Rattle.m2v_audit.specs.Auditing.{longer, begun, begun_by, with_first, cleared, after_piece}
 use Rattle.m2v_audit.specs.Front.{front_of}
 use Rattle.m2v_law_audit.specs.Found.{along, all_along}
-use Rattle.m2v_law_audit.proofs.EventsFront.{Fronts, closed_none}
+use Rattle.m2v_law_audit.proofs.EventsFront.{Fronts, closed_none, begins_by_sequence}
 use Rattle.m2v_law_audit.proofs.EventsPieces.{AreReady, piece_says, all_ready}
 
 -- ---- what one piece tells
@@ -208,6 +215,41 @@ unfolding all_along
 one_piece here last a b at p ps es t =
     let end = at + length p in
     ap (λ (c : Course). along here last a at p c (λ x y. all_along here last x y end ps)) (turn_read b p ps es t end)
+
+-- ---- the first piece
+
+-- a sequence header stands first in what is told
+pub record HasHeader (own : Events) : Type 0 where
+  pub header : Sequence
+  pub others : List (SequenceInfo × SequenceExtension)
+  pub noted : map header_pair (sequences_in own) ≡ header_pair header ∷ others
+  pub first : first_in None own ≡ Some header
+
+-- so it does in a piece whose first unit is one
+pub first_header : (at : ℕ) (p : List ℕ) (own : Events) → first_value (cut 0 p).1 ≡ Some 0xB3 → Fronts (front_of at p) own → HasHeader own
+first_header at p own value fronts =
+    let b = begins_by_sequence at p own value fronts in
+    record {
+      header = b.0;
+      others = map header_pair (sequences_in b.1);
+      noted = ap (λ (es : Events). map header_pair (sequences_in es)) b.2;
+      first = ap (first_in None) b.2 ∙ first_stays b.0 b.1;
+    }
+
+-- whatever follows, it is the first one
+pub header_stays : (own rest es : Events) → es ≡ own ++ rest → (h : HasHeader own) → first_in None es ≡ Some h.header
+header_stays own rest es are h =
+    ap (first_in None) are ∙ first-append None own rest ∙ ap (λ (o : Option Sequence). first_in o rest) h.first ∙ first_stays h.header rest
+
+-- the sequence begins with it
+pub first_begun : (a : Auditing) (at : ℕ) (p : List ℕ) (own : Events) → a.first ≡ None → (h : HasHeader own)
+    → begun_at a at p own ≡ with_first (longer (length p) a) at h.header (notes_of at p own).picture
+unfolding notes_of
+first_begun a at p own none h =
+    let b = longer (length p) a in
+    let notes = notes_of at p own in
+    ap (λ (z : Option Sequence). begun z b at notes) none
+    ∙ ap (λ (ss : List (SequenceInfo × SequenceExtension)). begun_by b at (slice_get ss 0) notes.picture) h.noted
 
 -- ---- how many pictures there are
 

@@ -4,7 +4,7 @@ use Rattle.std.specs.Prelude.{count_by}
 use Rattle.std.proofs.lemmas.List.{length-map}
 use Rattle.std.proofs.lemmas.List.Sums.{sum_by-cons}
 use Rattle.m2v_model.specs.declared.state.Sequence.{Sequence}
-use Rattle.m2v_model.specs.Pictures.{Events, sequence_header, pictures_in}
+use Rattle.m2v_model.specs.Pictures.{Events, pictures_in}
 use Rattle.m2v_model.specs.Pieces.{zeros_last, pieces}
 use Rattle.m2v_model.specs.PieceNotes.{notes_of, header_pair}
 use Rattle.m2v_model.specs.Lawful.{Breach, Breaches, breaches, breaches_of, sequences_in}
@@ -13,7 +13,6 @@ use Rattle.m2v_model.specs.Streams.{Sofar}
 use Rattle.m2v_model.specs.Decoding.{Stream, events, low_delay_of}
 use Rattle.m2v_model.specs.ByPieces.{Between, at_start}
 use Rattle.m2v_audit.specs.m2v_check.Laws.{Alternates}
-use Rattle.m2v_audit.proofs.m2v_check.Onward.{first_stays}
 use Rattle.m2v_audit.proofs.m2v_check.Telling.{first_in}
 use Rattle.m2v_audit.specs.declared.records.Finding.{Finding}
 use Rattle.m2v_audit.specs.declared.auditing.Auditing.{Auditing}
@@ -29,9 +28,9 @@ use Rattle.m2v_law_audit.proofs.BreachCounts.{many, place_breaches}
 use Rattle.m2v_law_audit.proofs.BreachJudged.{judged_places}
 use Rattle.m2v_law_audit.proofs.BreachEvents.{Kept, Marked, plain, marked, at_first, told, as_many_told}
 use Rattle.m2v_law_audit.proofs.BreachPieces.{kept, judged, judged-append, told_before, kept_behind, told-append, plain-append, plain_marked, Follows, follows}
-use Rattle.m2v_law_audit.proofs.EventsFront.{Fronts, all_go_on, begins_by_sequence}
+use Rattle.m2v_law_audit.proofs.EventsFront.{Fronts, all_go_on}
 use Rattle.m2v_law_audit.proofs.EventsPieces.{BeginWith, text_begins}
-use Rattle.m2v_law_audit.proofs.AccountReading.{Turn, Turns, in_pieces, begun_at, behind_piece, one_piece}
+use Rattle.m2v_law_audit.proofs.AccountReading.{Turn, Turns, in_pieces, begun_at, behind_piece, one_piece, first_header, header_stays, first_begun}
 use Rattle.m2v_law_audit.proofs.PartsKept.{kept_after}
 
 -- ---- one piece
@@ -112,15 +111,6 @@ later_told (p ∷ ps) a b at es x e turns =
     let begins_so : begun_at a at p u.own ≡ longer (length p) a = ap (λ (o : Option Sequence). begun o (longer (length p) a) at (notes_of at p u.own)) e in
     piece_told a b at p ps es (kept a) u (ap kept begins_so) (λ c first. later_told ps c u.next (at + length p) u.rest x (first ∙ ap (λ (y : Auditing). y.first) begins_so ∙ e) turns.1)
 
--- the first piece, whose events begin with a sequence header
-opening_first : (number start : ℕ) (each : Bool) (place : ℕ) (p : List ℕ) (es : Events) (s : Sequence) (later : Events) → es ≡ sequence_header s ∷ later → (begun_at (nothing number each start) place p es).first ≡ Some s
-unfolding notes_of
-opening_first number start each place p es s later e = ap (λ (l : Events). (begun_at (nothing number each start) place p l).first) e
-
-opening_kept : (number start : ℕ) (each : Bool) (place : ℕ) (p : List ℕ) (es : Events) (s : Sequence) (later : Events) → es ≡ sequence_header s ∷ later → kept (begun_at (nothing number each start) place p es) ≡ at_first s.extension.low_delay
-unfolding notes_of
-opening_kept number start each place p es s later e = ap (λ (l : Events). kept (begun_at (nothing number each start) place p l)) e
-
 -- all pieces, of which the first begins with a sequence header
 first_told : (ps : List (List ℕ)) (number start : ℕ) (each low : Bool) (at : ℕ) (es : Events) → BeginWith 0xB3 ps → Turns at_start ps es → low ≡ low_delay_of (first_in None es)
     → ToldAs (all_found (nothing number each start) at_start at ps) (at_first low) es
@@ -131,12 +121,11 @@ first_told [] number start each low at es begins turns e =
 first_told (p ∷ ps) number start each low at es begins turns e =
     let a = nothing number each start in
     let u = turns.0 in
-    let h = begins_by_sequence at p u.own begins (u.fronts at) in
-    let first : low ≡ h.0.extension.low_delay =
-    e ∙ ap (λ (l : Events). low_delay_of (first_in None l)) (u.are ∙ ap (λ (l : Events). l ++ u.rest) h.2) ∙ ap low_delay_of (first_stays h.0 (h.1 ++ u.rest)) in
-    let sequence : (begun_at a at p u.own).first ≡ Some h.0 = opening_first number start each at p u.own h.0 h.1 h.2 in
-    let begins_so : kept (begun_at a at p u.own) ≡ at_first low = opening_kept number start each at p u.own h.0 h.1 h.2 ∙ ap at_first (sym first) in
-    piece_told a at_start at p ps es (at_first low) u begins_so (λ c is. later_told ps c u.next (at + length p) u.rest h.0 (is ∙ sequence) turns.1)
+    let h = first_header at p u.own begins (u.fronts at) in
+    let is = first_begun a at p u.own refl h in
+    let first : low ≡ (h.header).extension.low_delay = e ∙ ap low_delay_of (header_stays u.own u.rest es u.are h) in
+    let begins_so : kept (begun_at a at p u.own) ≡ at_first low = ap kept is ∙ ap at_first (sym first) in
+    piece_told a at_start at p ps es (at_first low) u begins_so (λ c same. later_told ps c u.next (at + length p) u.rest h.header (same ∙ ap (λ (x : Auditing). x.first) is) turns.1)
 
 -- ---- the law
 

@@ -3,24 +3,21 @@ use Rattle.std.proofs.Common.{◌≡◌, ℕ, ◌+◌, ◌*◌, Bool, true, fals
 use Rattle.std.specs.Prelude.{if◌then◌else◌}
 use Rattle.std.proofs.lemmas.List.{append-nil}
 use Rattle.std.proofs.lemmas.List.Sums.{sum_by-cons}
-use Rattle.m2v_model.specs.m2v_macroblock.m2v_head.declared.sequence.SequenceInfo.{SequenceInfo}
-use Rattle.m2v_model.specs.m2v_macroblock.m2v_head.declared.sequence.SequenceExtension.{SequenceExtension}
 use Rattle.m2v_model.specs.declared.state.Sequence.{Sequence}
 use Rattle.m2v_model.specs.declared.notes.PictureNote.{PictureNote}
-use Rattle.m2v_model.specs.Pictures.{Picture, Pictures, Events, sequence_header, group_header, coded_picture, pictures_in}
-use Rattle.m2v_model.specs.PieceNotes.{header_pair, note_of}
-use Rattle.m2v_model.specs.Lawful.{Numbered, numbered, all_numbered, sequences_in}
+use Rattle.m2v_model.specs.Pictures.{Picture, Events, sequence_header, group_header, coded_picture, pictures_in}
+use Rattle.m2v_model.specs.PieceNotes.{note_of}
+use Rattle.m2v_model.specs.Lawful.{Numbered, numbered, all_numbered}
 use Rattle.m2v_model.specs.Buffering.{bits_of_piece, code_bits}
 use Rattle.m2v_model.specs.ByPieces.{Between, IsOne}
 use Rattle.m2v_audit.specs.declared.account.Due.{Due}
 use Rattle.m2v_audit.specs.Account.{Event, picture, more, read}
 use Rattle.m2v_audit.specs.Times.{Times, after}
-use Rattle.m2v_audit.proofs.m2v_check.Telling.{first_in, last_in, first-append, AreHeaded}
+use Rattle.m2v_audit.proofs.m2v_check.Telling.{first_in, last_in, AreHeaded}
 use Rattle.m2v_audit.proofs.m2v_check.Ordered.{PictureLast}
-use Rattle.m2v_audit.proofs.m2v_check.Onward.{first_stays}
 use Rattle.m2v_audit.proofs.m2v_check.Listed.{all_bits}
 use Rattle.m2v_law_audit.specs.Accounts.{due_at, dues_from}
-use Rattle.m2v_law_audit.proofs.AccountReading.{Turns}
+use Rattle.m2v_law_audit.proofs.AccountReading.{Turns, HasHeader, header_stays}
 
 -- ---- how bits come
 
@@ -111,32 +108,16 @@ none_numbered o group first_in_group number frames own rest es are none e =
 
 -- ---- the first piece
 
--- where it tells a picture it tells a sequence header before
-pub record HasHeader (own : Events) : Type 0 where
-  pub header : Sequence
-  pub others : List (SequenceInfo × SequenceExtension)
-  pub noted : map header_pair (sequences_in own) ≡ header_pair header ∷ others
-  pub first : first_in None own ≡ Some header
-
-has_header : (own : Events) (q : Picture) (qs : Pictures) → AreHeaded None own → pictures_in own ≡ q ∷ qs → HasHeader own
-has_header [] q qs headed e = absurd cc
-has_header (sequence_header s ∷ own) q qs headed e = record { header = s; others = map header_pair (sequences_in own); noted = refl; first = first_stays s own }
-has_header (group_header g ∷ own) q qs headed e =
-    let h = has_header own q qs headed e in
-    record { header = h.header; others = h.others; noted = h.noted; first = h.first }
-has_header (coded_picture p ∷ own) q qs headed e = let none = headed.0 in absurd cc
-
--- that is the first one of the stream, and the picture the first one
+-- its sequence header is the first one of the stream, and its picture the first one
 pub record FirstSo (own rest es : Events) (q : Picture) : Type 0 where
   pub has : HasHeader own
   pub first : first_in None es ≡ Some has.header
   pub one : OneRest None 0 own q rest (all_numbered es)
 
-pub first_so : (own rest es : Events) (q : Picture) → es ≡ own ++ rest → PictureLast own → AreHeaded None own → pictures_in own ≡ q ∷ [] → FirstSo own rest es q
-first_so own rest es q are last headed e =
-    let h = has_header own q [] headed e in
+pub first_so : (own rest es : Events) (q : Picture) → HasHeader own → es ≡ own ++ rest → PictureLast own → AreHeaded None own → pictures_in own ≡ q ∷ [] → FirstSo own rest es q
+first_so own rest es q h are last headed e =
     record {
       has = h;
-      first = ap (first_in None) are ∙ first-append None own rest ∙ ap (λ (z : Option Sequence). first_in z rest) h.first ∙ first_stays h.header rest;
+      first = header_stays own rest es are h;
       one = subst (λ (l : Events). OneRest None 0 own q rest (all_numbered l)) (sym are) (rest_one None 0 false 0 0 own rest q last headed e);
     }

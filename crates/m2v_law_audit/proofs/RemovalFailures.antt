@@ -25,7 +25,8 @@ use Rattle.m2v_law_audit.specs.Sequences.{sequence_report, first_byte}
 use Rattle.m2v_law_audit.specs.Parts.{Tells, more_by}
 use Rattle.m2v_law_audit.specs.Accounts.{Beginning, beginning_by, beginning_in, dues_in, numbered_in, removals_by, failures_by, failures_of_stream, TellsAllFailures}
 use Rattle.m2v_law_audit.proofs.AccountFailures.{begins_so}
-use Rattle.m2v_law_audit.proofs.AccountReading.{Turns, turn_read, in_pieces}
+use Rattle.m2v_law_audit.proofs.AccountReading.{Turns, turn_read, in_pieces, first_header}
+use Rattle.m2v_law_audit.proofs.EventsPieces.{BeginWith, text_begins}
 use Rattle.m2v_law_audit.proofs.RemovalEvents.{note_at, none_left, none_numbered, first_so}
 use Rattle.m2v_law_audit.proofs.RemovalTurns.{removals_in}
 
@@ -64,27 +65,27 @@ noted_first : (at : ℕ) (p : List ℕ) (own : Events) (q : Picture) (n : Number
 unfolding notes_of
 noted_first at p own q n one same = ap (first_note (8 * at + code_bits p)) (one ∙ ap (λ (z : Picture). z ∷ []) same)
 
-first_piece : (at : ℕ) (ps : List (List ℕ)) (es : Events) (x : Beginning) → Turns at_start ps es → beginning_by (first_in None es) at ps (all_numbered es) ≡ Some x → FirstPiece at ps x
+first_piece : (at : ℕ) (ps : List (List ℕ)) (es : Events) (x : Beginning) → BeginWith 0xB3 ps → Turns at_start ps es → beginning_by (first_in None es) at ps (all_numbered es) ≡ Some x → FirstPiece at ps x
 unfolding notes_of
-first_piece at [] es x turns e = no_piece (first_in None es) e
+first_piece at [] es x begins turns e = no_piece (first_in None es) e
   where
     no_piece : (o : Option Sequence) → beginning_by o at [] (all_numbered es) ≡ Some x → FirstPiece at [] x
     no_piece None e = absurd cc
     no_piece (Some s) e = absurd cc
-first_piece at (p ∷ ps) es x turns e =
+first_piece at (p ∷ ps) es x begins turns e =
     let u = turns.0 in
     elim (none_or_one u.own u.last) [
       | inl none ↦
           let left = none_left (length (pictures_in u.own)) u.next ps u.rest (ap length none) u.one turns.1 in
           absurd (none_begins (first_in None es) at p ps (all_numbered es) x (none_numbered None 0 false 0 0 u.own u.rest es u.are left.1 none) e)
       | inr one ↦
-          let f = first_so u.own u.rest es one.0 u.are u.last u.headed one.1 in
+          let f = first_so u.own u.rest es one.0 (first_header at p u.own begins (u.fronts at)) u.are u.last u.headed one.1 in
           let s : Sequence = (f.has).header in
           let n : Numbered = (f.one).first in
           let first = f.first in
           let all = (f.one).is in
           let ns : List Numbered = numbered (last_in None u.own) (f.one).group (f.one).first_in_group 1 (f.one).frames u.rest in
-          let begins = begins_so s at p ps n ns x ((λ i. beginning_by (sym first i) at (p ∷ ps) (sym all i)) ∙ e) in
+          let account = begins_so s at p ps n ns x ((λ i. beginning_by (sym first i) at (p ∷ ps) (sym all i)) ∙ e) in
           record {
             piece = p;
             later = ps;
@@ -94,7 +95,7 @@ first_piece at (p ∷ ps) es x turns e =
             are = refl;
             read = turn_read at_start p ps es u (at + length p);
             noted = (f.has).noted;
-            rate = begins.rate ∙ ap (rate_with s) (sym (noted_first at p u.own one.0 n one.1 (f.one).same));
+            rate = account.rate ∙ ap (rate_with s) (sym (noted_first at p u.own one.0 n one.1 (f.one).same));
           }
     ]
 
@@ -102,7 +103,7 @@ first_piece at (p ∷ ps) es x turns e =
 pub begins_with : (text : List ℕ) (tree : Sofar) → Stream text tree → (start : ℕ) (x : Beginning) → beginning_in start text tree ≡ Some x → FirstPiece (first_byte start text) (pieces text) x
 begins_with text tree stream start x e =
     let r = in_pieces text tree stream in
-    first_piece (first_byte start text) (pieces text) (events tree) x r.turns (ap (λ (o : Option Sequence). beginning_by o (first_byte start text) (pieces text) (numbered_in tree)) (sym r.first) ∙ e)
+    first_piece (first_byte start text) (pieces text) (events tree) x (text_begins text) r.turns (ap (λ (o : Option Sequence). beginning_by o (first_byte start text) (pieces text) (numbered_in tree)) (sym r.first) ∙ e)
 
 -- ---- the report
 

@@ -19,7 +19,7 @@ use Rattle.m2v_audit.specs.declared.account.Due.{Due}
 use Rattle.m2v_audit.specs.declared.auditing.Auditing.{Auditing}
 use Rattle.m2v_audit.specs.declared.report.Rate.{Rate}
 use Rattle.m2v_audit.specs.Account.{Told, all_told, Account, opened, with_picture, with_more, settled, settled_of, behind_settled, after_settled, reported}
-use Rattle.m2v_audit.specs.Auditing.{nothing, longer, begun, begun_by, with_first, rate_with, opened_by, account_by}
+use Rattle.m2v_audit.specs.Auditing.{nothing, longer, begun, begun_by, rate_with, opened_by, account_by}
 use Rattle.m2v_audit.specs.Opening.{first_buffer}
 use Rattle.m2v_audit.specs.Times.{Times, opened as first_times, after}
 use Rattle.m2v_audit.proofs.Reports.{told_in_all}
@@ -28,8 +28,9 @@ use Rattle.m2v_audit.proofs.m2v_check.Onward.{none_or_one}
 use Rattle.m2v_law_audit.specs.Found.{all_along, all_removals, piece_removals, settled_in, left_in}
 use Rattle.m2v_law_audit.specs.Sequences.{first_byte}
 use Rattle.m2v_law_audit.specs.Accounts.{due_at, dues_from, dues_by, dues_in, with_buffer, beginning_by, beginning_in, numbered_in, removals_by}
-use Rattle.m2v_law_audit.proofs.AccountReading.{Turn, Turns, in_pieces, begun_at, behind_piece, one_piece}
-use Rattle.m2v_law_audit.proofs.RemovalEvents.{note_at, bits_of, dues_read, rest_one, none_left, none_numbered, HasHeader, first_so}
+use Rattle.m2v_law_audit.proofs.AccountReading.{Turn, Turns, in_pieces, begun_at, behind_piece, one_piece, first_header, first_begun}
+use Rattle.m2v_law_audit.proofs.EventsPieces.{BeginWith, text_begins}
+use Rattle.m2v_law_audit.proofs.RemovalEvents.{note_at, bits_of, dues_read, rest_one, none_left, none_numbered, first_so}
 use Rattle.m2v_law_audit.proofs.RemovalPieces.{Stands, Moves, more_moves, picture_moves}
 
 -- ---- piece by piece
@@ -106,16 +107,6 @@ on_from (p ∷ ps) b es a at f o k t x group first_in_group frames turns h so =
 
 -- ---- the first piece
 
--- the sequence begins with it
-first_begun : (a : Auditing) (at : ℕ) (p : List ℕ) (own : Events) → a.first ≡ None → (h : HasHeader own)
-    → begun_at a at p own ≡ with_first (longer (length p) a) at h.header (notes_of at p own).picture
-unfolding notes_of
-first_begun a at p own none h =
-    let b = longer (length p) a in
-    let notes = notes_of at p own in
-    ap (λ (z : Option Sequence). begun z b at notes) none
-    ∙ ap (λ (ss : List (SequenceInfo × SequenceExtension)). begun_by b at (slice_get ss 0) notes.picture) h.noted
-
 -- whatever it tells, no account began before it
 no_account : (a : Auditing) (at : ℕ) (s : Option (SequenceInfo × SequenceExtension)) (n : Option PictureNote) → (begun_by a at s n).account ≡ a.account
 no_account a at None n = refl
@@ -177,12 +168,12 @@ none_at_first p ps es each number start at u turns none =
     subst (AllTold a at (p ∷ ps) o) (sym all) (one_piece piece_removals left_told a at_start at p ps es u ∙ (λ i. m.told i ++ rest i) ∙ no_pictures o at p ps (dues_by o at (p ∷ ps) []))
 
 -- a first piece with a picture
-one_at_first : (p : List ℕ) (ps : List (List ℕ)) (es : Events) (each : Bool) (number start at : ℕ) → (u : Turn at_start p ps es) → Turns u.next ps u.rest → (q : Picture) → pictures_in u.own ≡ q ∷ []
+one_at_first : (p : List ℕ) (ps : List (List ℕ)) (es : Events) (each : Bool) (number start at : ℕ) → BeginWith 0xB3 (p ∷ ps) → (u : Turn at_start p ps es) → Turns u.next ps u.rest → (q : Picture) → pictures_in u.own ≡ q ∷ []
     → AllTold (nothing number each start) at (p ∷ ps) (first_in None es) (all_numbered es)
-one_at_first p ps es each number start at u turns q one =
+one_at_first p ps es each number start at begins u turns q one =
     let a : Auditing = nothing number each start in
     let c : Auditing = begun_at a at p u.own in
-    let f = first_so u.own u.rest es q u.are u.last u.headed one in
+    let f = first_so u.own u.rest es q (first_header at p u.own begins (u.fronts at)) u.are u.last u.headed one in
     let r = f.one in
     let s : Sequence = (f.has).header in
     let t : Times = first_times s.extension.low_delay s.info.frame_rate_code in
@@ -200,14 +191,14 @@ one_at_first p ps es each number start at u turns q one =
     subst (λ (x : Option Sequence × List Numbered). AllTold a at (p ∷ ps) x.0 x.1) (λ i. (sym first i, sym all i))
     (first_told p ps es u turns a at s n r.group r.first_in_group r.frames t (rate_with s (Some note)) buffer moves)
 
-from_start : (ps : List (List ℕ)) (es : Events) (each : Bool) (number start at : ℕ) → Turns at_start ps es → AllTold (nothing number each start) at ps (first_in None es) (all_numbered es)
+from_start : (ps : List (List ℕ)) (es : Events) (each : Bool) (number start at : ℕ) → BeginWith 0xB3 ps → Turns at_start ps es → AllTold (nothing number each start) at ps (first_in None es) (all_numbered es)
 unfolding all_along
-from_start [] es each number start at turns = no_pieces (first_in None es) at (all_numbered es) (dues_by (first_in None es) at [] (all_numbered es))
-from_start (p ∷ ps) es each number start at turns =
+from_start [] es each number start at begins turns = no_pieces (first_in None es) at (all_numbered es) (dues_by (first_in None es) at [] (all_numbered es))
+from_start (p ∷ ps) es each number start at begins turns =
     let u = turns.0 in
     elim (none_or_one u.own u.last) [
       | inl none ↦ none_at_first p ps es each number start at u turns.1 none
-      | inr one ↦ one_at_first p ps es each number start at u turns.1 one.0 one.1
+      | inr one ↦ one_at_first p ps es each number start at begins u turns.1 one.0 one.1
     ]
 
 -- the removals that are told of a stream
@@ -216,4 +207,4 @@ pub removals_in : (text : List ℕ) (tree : Sofar) → Stream text tree → (eac
 removals_in text tree stream each number start =
     let r = in_pieces text tree stream in
     subst (λ (o : Option Sequence). AllTold (nothing number each start) (first_byte start text) (pieces text) o (numbered_in tree)) (sym r.first)
-    (from_start (pieces text) (events tree) each number start (first_byte start text) r.turns)
+    (from_start (pieces text) (events tree) each number start (first_byte start text) (text_begins text) r.turns)
