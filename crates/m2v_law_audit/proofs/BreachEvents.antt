@@ -1,12 +1,12 @@
 -- What is told of events one after another, of each as soon as it is known: as often as the verifier's rules are broken.
-use Rattle.std.proofs.Common.{◌≡◌, ℕ, zero, suc, ◌+◌, ◌-◌, ◌<◌, Bool, true, false, List, [], ◌∷◌, ◌++◌, map, Option, Some, None, refl, sym, ap, subst, ◌∙◌, append_assoc, arith, inl, inr}
-use Rattle.std.specs.Prelude.{if◌then◌else◌, nat_eq, ◌||◌, not}
+use Rattle.std.proofs.Common.{◌≡◌, ℕ, zero, suc, ◌+◌, ◌-◌, ◌<◌, Bool, true, false, List, [], ◌∷◌, ◌++◌, Option, Some, None, refl, sym, ap, subst, ◌∙◌, append_assoc, arith}
+use Rattle.std.specs.Prelude.{if◌then◌else◌, nat_eq, not}
 use Rattle.std.specs.List.{flat_map}
-use Rattle.std.proofs.lemmas.Bool.{cases_Bool, eqb-true}
+use Rattle.std.proofs.lemmas.Bool.{eqb-true}
 use Rattle.std.proofs.lemmas.List.{append-nil}
 use Rattle.m2v_model.specs.declared.state.Sequence.{Sequence}
 use Rattle.m2v_model.specs.declared.notes.PictureNote.{PictureNote}
-use Rattle.m2v_model.specs.States.{is_frame, is_b}
+use Rattle.m2v_model.specs.States.{is_b}
 use Rattle.m2v_model.specs.Pictures.{Picture, Pictures, Event, Events, sequence_header, group_header, coded_picture, pictures_in}
 use Rattle.m2v_model.specs.PieceNotes.{note_of}
 use Rattle.m2v_model.specs.Lawful.{Breach, Breaches, Numbered, numbered, all_numbered, is_variable, frames_of_group, sequences_in, sequence_breaches, picture_breaches, breaches, horizontal_rule, vertical_rule, intra_rule, crowd_rule, repeat_rule, progressive_rule, precision_rule}
@@ -15,7 +15,7 @@ use Rattle.m2v_audit.specs.m2v_check.Breaking.{numbered_of}
 use Rattle.m2v_audit.specs.m2v_check.Running.{ends_frame}
 use Rattle.m2v_audit.specs.m2v_check.Laws.{Alternates}
 use Rattle.m2v_audit.specs.declared.places.Places.{Places}
-use Rattle.m2v_audit.specs.Auditing.{waiting_of, bit_of}
+use Rattle.m2v_audit.specs.Auditing.{waiting_of}
 use Rattle.m2v_audit.specs.Places.{no_places, with_field, with_frame, told_with_frame, group_closed, told_at_close}
 use Rattle.m2v_law_audit.proofs.BreachCounts.{many, many_none, many-append, place_breaches, other_rules, waits_as, one_header}
 use Rattle.m2v_law_audit.proofs.BreachPlaces.{Counted, ended, group_ended, counted_none, with_first, with_whole}

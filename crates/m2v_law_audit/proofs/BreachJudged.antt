@@ -1,20 +1,15 @@
 -- A finding as the verifier has it: a rule on a picture tells of that picture, and one on a sequence header of picture 0.
-use Rattle.std.proofs.Common.{◌≡◌, ℕ, ◌+◌, ◌*◌, Bool, true, false, List, [], ◌∷◌, ◌++◌, length, map, Option, Some, None, Ok, Err, refl, sym, ap, subst, ◌∙◌, append_assoc, inl, inr, arith}
-use Rattle.std.specs.Prelude.{nat_le, nat_lt, slice_get, if◌then◌else◌}
+use Rattle.std.proofs.Common.{◌≡◌, ℕ, ◌+◌, ◌*◌, Bool, true, false, List, [], ◌∷◌, ◌++◌, map, Option, Some, None, refl, ap}
+use Rattle.std.specs.Prelude.{nat_le, nat_lt, if◌then◌else◌}
 use Rattle.std.specs.List.{flat_map, AllByRecursion}
-use Rattle.std.proofs.lemmas.Bool.{cases_Bool}
-use Rattle.std.proofs.lemmas.List.{append-nil, map-append}
 use Rattle.m2v_model.specs.declared.state.Sequence.{Sequence}
-use Rattle.m2v_model.specs.declared.notes.PictureNote.{PictureNote}
 use Rattle.m2v_model.specs.Headers.{uses_backward}
-use Rattle.m2v_model.specs.States.{is_frame, is_b}
-use Rattle.m2v_model.specs.Units.{cut}
+use Rattle.m2v_model.specs.States.{is_frame}
 use Rattle.m2v_model.specs.Lawful.{Breach, Breaches, breach, judge, at_most, within, limits_in, level_in, most_horizontal, rate_of, buffer_of, has_forward_vectors, f_code_of, Numbered, level_rule, width_rule, height_rule, frame_rate_rule, luma_rule, rate_rule, buffer_rule, sequence_breaches, f_code_rule, horizontal_rule, vertical_rule, intra_rule, crowd_rule, repeat_rule, progressive_rule, precision_rule}
-use Rattle.m2v_audit.specs.declared.records.Finding.{Finding}
 use Rattle.m2v_audit.specs.declared.places.Misplaced.{Misplaced}
 use Rattle.m2v_law_audit.specs.Breaches.{as_judged}
 use Rattle.m2v_law_audit.specs.Found.{found_at, found_misplaced}
-use Rattle.m2v_law_audit.proofs.BreachCounts.{place_breach, place_breaches, other_rules}
+use Rattle.m2v_law_audit.proofs.BreachCounts.{place_breaches, other_rules}
 
 -- ---- findings as the verifier has them
 

@@ -1,19 +1,14 @@
 -- What the pieces of a sequence tell of its rules is what is told of their events.
-use Rattle.std.proofs.Common.{◌≡◌, ℕ, ◌+◌, ◌*◌, Bool, true, false, List, [], ◌∷◌, ◌++◌, length, map, Option, Some, None, Ok, refl, sym, ap, subst, ◌∙◌, append_assoc, inl, inr, arith}
+use Rattle.std.proofs.Common.{◌≡◌, ℕ, ◌+◌, Bool, true, false, List, [], ◌∷◌, ◌++◌, map, Option, Some, None, refl, sym, ap, subst, ◌∙◌, append_assoc, inl, inr, arith}
 use Rattle.std.specs.Prelude.{slice_get, if◌then◌else◌}
 use Rattle.std.proofs.lemmas.Bool.{cases_Bool}
 use Rattle.std.proofs.lemmas.List.{append-nil, map-append}
 use Rattle.m2v_model.specs.declared.state.Sequence.{Sequence}
 use Rattle.m2v_model.specs.declared.notes.PictureNote.{PictureNote}
 use Rattle.m2v_model.specs.States.{is_b}
-use Rattle.m2v_model.specs.Units.{cut}
 use Rattle.m2v_model.specs.Pictures.{Event, Events, sequence_header, group_header, coded_picture, pictures_in}
-use Rattle.m2v_model.specs.Pieces.{zeros_last}
-use Rattle.m2v_model.specs.PieceNotes.{PieceNotes, notes_of, note_of, first_note, header_pair}
+use Rattle.m2v_model.specs.PieceNotes.{note_of, first_note, header_pair}
 use Rattle.m2v_model.specs.Lawful.{Breaches, sequences_in}
-use Rattle.m2v_model.specs.Buffering.{code_bits}
-use Rattle.m2v_model.specs.ByPieces.{Between, Course, piece_read, units_read}
-use Rattle.m2v_audit.proofs.m2v_check.m2v_model.PieceLaws.{placed, piece_is}
 use Rattle.m2v_audit.specs.m2v_check.declared.coded.CodedPicture.{CodedPicture}
 use Rattle.m2v_audit.specs.m2v_check.Breaking.{numbered_of}
 use Rattle.m2v_audit.specs.m2v_check.Running.{ends_frame}
@@ -21,17 +16,14 @@ use Rattle.m2v_audit.specs.declared.headers.PieceHeader.{PieceHeader}
 use Rattle.m2v_audit.specs.declared.headers.PieceHeader.TheVariants as headers
 use Rattle.m2v_audit.specs.declared.records.Finding.{Finding}
 use Rattle.m2v_audit.specs.declared.auditing.Auditing.{Auditing}
-use Rattle.m2v_audit.specs.Account.{Account}
-use Rattle.m2v_audit.specs.Auditing.{bit_of, coded, counted, waiting_of, with_sequence, with_group, with_header, sequences_of, with_headers, begun, longer, fronted, pictured, with_note as noted_with, with_coded as coded_with, settled_by, with_settled, told as told_with, cleared, after_piece}
-use Rattle.m2v_audit.specs.Front.{front_of}
-use Rattle.m2v_audit.specs.Places.{told_with_frame, with_frame, with_field}
+use Rattle.m2v_audit.specs.Auditing.{bit_of, coded, counted, waiting_of, with_sequence, with_group, with_header, sequences_of, with_headers, with_note as noted_with, with_coded as coded_with}
+use Rattle.m2v_audit.specs.Places.{told_with_frame}
 use Rattle.m2v_law_audit.specs.Breaches.{as_judged}
-use Rattle.m2v_law_audit.specs.Found.{found_at, found_misplaced, header_found, headers_found, rules_of, places_found, coded_found, note_found, piece_found, end_found, along, all_found}
+use Rattle.m2v_law_audit.specs.Found.{found_at, found_misplaced, header_found, headers_found, rules_of, places_found, coded_found, note_found}
 use Rattle.m2v_law_audit.proofs.BreachCounts.{place_breaches, other_rules}
 use Rattle.m2v_law_audit.proofs.BreachJudged.{judged_as, judged_places, header_of, others_of}
-use Rattle.m2v_law_audit.proofs.BreachEvents.{Kept, Marked, plain, marked, coming, with_coded, with_note, with_event, places_told, coded_told, note_told, event_told, told}
-use Rattle.m2v_law_audit.proofs.EventsFront.{Pair, Fronts, GoesOn, all_go_on, first_of_rest, go_on_behind}
-use Rattle.m2v_law_audit.proofs.EventsPieces.{AreReady, Tell, piece_says}
+use Rattle.m2v_law_audit.proofs.BreachEvents.{Kept, Marked, plain, marked, with_coded, with_note, with_event, coded_told, note_told, event_told, told}
+use Rattle.m2v_law_audit.proofs.EventsFront.{Pair, Fronts, GoesOn, first_of_rest, go_on_behind}
 
 -- what is kept for the rules
 abbrev pub kept : Auditing → Kept

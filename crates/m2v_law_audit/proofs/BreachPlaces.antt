@@ -1,11 +1,11 @@
 -- Rule 11 as it is told of the frames of a group: what was told so far, and what waits for its place, whatever follows.
-use Rattle.std.proofs.Common.{◌≡◌, ℕ, zero, suc, ◌+◌, ◌<◌, ◌%◌, Bool, true, false, List, [], ◌∷◌, ◌++◌, length, Option, Some, None, option_to_list, refl, sym, ap, subst, ◌∙◌, append_assoc, arith, inl, inr}
+use Rattle.std.proofs.Common.{◌≡◌, ℕ, zero, suc, ◌+◌, ◌<◌, Bool, true, false, List, [], ◌∷◌, ◌++◌, length, Option, Some, None, option_to_list, refl, sym, ap, subst, ◌∙◌, append_assoc, arith, inl, inr}
 use Rattle.std.specs.Prelude.{◌||◌}
 use Rattle.std.specs.List.{flat_map}
 use Rattle.std.proofs.lemmas.Bool.{cases_Bool}
 use Rattle.std.proofs.lemmas.List.{append-nil, length-append}
 use Rattle.std.proofs.lemmas.List.Concat.{flat_map-append}
-use Rattle.m2v_order.specs.Display.{Order, handed, held_after}
+use Rattle.m2v_order.specs.Display.{Order}
 use Rattle.m2v_model.specs.States.{is_b}
 use Rattle.m2v_model.specs.Lawful.{Breach, Breaches, Numbered, display_place, frames_of_group, place_in_group, picture_breaches}
 use Rattle.m2v_audit.specs.m2v_check.declared.places.UnplacedFrame.{UnplacedFrame}

@@ -9,7 +9,7 @@ use Rattle.m2v_model.specs.declared.notes.PictureNote.{PictureNote}
 use Rattle.m2v_model.specs.Units.{cut}
 use Rattle.m2v_model.specs.Pictures.{Events, sequence_header, pictures_in}
 use Rattle.m2v_model.specs.Pieces.{zeros_last, pieces}
-use Rattle.m2v_model.specs.PieceNotes.{PieceNotes, notes_of, header_pair}
+use Rattle.m2v_model.specs.PieceNotes.{notes_of, header_pair}
 use Rattle.m2v_model.specs.Lawful.{Breach, Breaches, breaches, breaches_of, sequences_in}
 use Rattle.m2v_model.specs.Buffering.{code_bits}
 use Rattle.m2v_model.specs.Streams.{Sofar}
@@ -25,7 +25,7 @@ use Rattle.m2v_audit.specs.declared.headers.PieceHeader.TheVariants as headers
 use Rattle.m2v_audit.specs.declared.records.Finding.{Finding}
 use Rattle.m2v_audit.specs.declared.auditing.Auditing.{Auditing}
 use Rattle.m2v_audit.specs.Account.{Account}
-use Rattle.m2v_audit.specs.Auditing.{nothing, with_header, with_headers, begun, longer, pictured, with_note, settled_by, with_settled, told as told_with, cleared, after_piece}
+use Rattle.m2v_audit.specs.Auditing.{nothing, with_header, with_headers, begun, longer, pictured, with_note, settled_by, cleared, after_piece}
 use Rattle.m2v_audit.specs.Front.{front_of}
 use Rattle.m2v_audit.specs.Places.{told_at_close}
 use Rattle.m2v_law_audit.specs.Sequences.{first_byte}
@@ -34,9 +34,9 @@ use Rattle.m2v_law_audit.specs.Found.{piece_found, end_found, along, all_along, 
 use Rattle.m2v_law_audit.proofs.BreachCounts.{many, place_breaches}
 use Rattle.m2v_law_audit.proofs.BreachJudged.{judged_places}
 use Rattle.m2v_law_audit.proofs.BreachEvents.{Kept, Marked, plain, marked, at_first, told, as_many_told}
-use Rattle.m2v_law_audit.proofs.BreachPieces.{kept, judged, judged-append, told_before, kept_behind, told-append, plain-append, plain_marked, found_in, left_by, Follows, follows}
-use Rattle.m2v_law_audit.proofs.EventsFront.{Pair, Fronts, GoesOn, all_go_on, begins_by_sequence}
-use Rattle.m2v_law_audit.proofs.EventsPieces.{BeginWith, AreReady, Tell, PieceSays, piece_says, text_begins, all_ready, text_tells}
+use Rattle.m2v_law_audit.proofs.BreachPieces.{kept, judged, judged-append, told_before, kept_behind, told-append, plain-append, plain_marked, Follows, follows}
+use Rattle.m2v_law_audit.proofs.EventsFront.{Pair, Fronts, all_go_on, begins_by_sequence}
+use Rattle.m2v_law_audit.proofs.EventsPieces.{BeginWith, AreReady, Tell, piece_says, text_begins, all_ready, text_tells}
 
 -- ---- one piece
 

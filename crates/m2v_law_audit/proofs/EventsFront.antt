@@ -1,6 +1,6 @@
 -- The headers before the picture of a piece are what it tells before its picture: each in turn, and of the same kind.
 use Rattle.std.proofs.Common.{◌≡◌, ℕ, zero, suc, ◌+◌, ◌*◌, ◌<◌, Bool, true, false, List, [], ◌∷◌, ◌++◌, length, map, Option, Some, None, Result, Ok, Err, refl, sym, ap, subst, ◌∙◌, append_assoc, arith}
-use Rattle.std.specs.Prelude.{nat_eq, slice_get, if◌then◌else◌}
+use Rattle.std.specs.Prelude.{nat_eq, slice_get}
 use Rattle.std.proofs.lemmas.Bool.{eqb-true}
 use Rattle.std.proofs.lemmas.List.{append-nil, length-append}
 use Rattle.m2v_bits.specs.Syntax.{bind}
@@ -15,7 +15,6 @@ use Rattle.m2v_model.specs.declared.state.State.{State}
 use Rattle.m2v_model.specs.Units.{Units, cut, body}
 use Rattle.m2v_model.specs.Slices.{large_in}
 use Rattle.m2v_model.specs.States.{with_slice, with_unread_slice}
-use Rattle.m2v_model.specs.Headers.{whole_header, group_in}
 use Rattle.m2v_model.specs.Pieces.{begins_piece, is_end}
 use Rattle.m2v_model.specs.Streams.{Part, sequence, group, picture, matrices, slice, unread_slice, skipped_unit, ending, over, after, value_of}
 use Rattle.m2v_model.specs.Pictures.{Store, Events, sequence_header, group_header, coded_picture, closed, told_by}

@@ -1,6 +1,6 @@
 -- The pieces of a text, read one after another: what holds of each, and that they tell what the whole text does.
-use Rattle.std.proofs.Common.{◌≡◌, ℕ, ◌+◌, ◌*◌, Bool, true, false, cond, List, [], ◌∷◌, ◌++◌, length, take, Option, Some, None, Ok, Err, inl, inr, refl, sym, ap, subst, ◌∙◌, append_assoc}
-use Rattle.std.specs.Prelude.{nat_eq, is_some, ◌||◌, if◌then◌else◌}
+use Rattle.std.proofs.Common.{◌≡◌, ℕ, ◌+◌, Bool, true, false, List, [], ◌∷◌, ◌++◌, length, take, Some, None, Ok, Err, inl, inr, refl, sym, ap, subst, ◌∙◌, append_assoc}
+use Rattle.std.specs.Prelude.{nat_eq, is_some, if◌then◌else◌}
 use Rattle.std.proofs.lemmas.Bool.{cases_Bool, eqb-true}
 use Rattle.std.proofs.lemmas.List.{append-nil}
 use Rattle.m2v_bits.specs.Syntax.{seq, rule, done}
@@ -9,17 +9,17 @@ use Rattle.m2v_model.specs.declared.phase.Phase.TheVariants as phases
 use Rattle.m2v_model.specs.declared.state.State.{State}
 use Rattle.m2v_model.specs.Units.{Units, cut, joined, AreUnits}
 use Rattle.m2v_model.specs.States.{at_first, none_waits}
-use Rattle.m2v_model.specs.Streams.{Part, Sofar, sequence, group, picture, matrices, slice, unread_slice, skipped_unit, ending, over, value_of, units_from, stream_from, stream_at}
+use Rattle.m2v_model.specs.Streams.{Sofar, sequence, group, picture, matrices, slice, unread_slice, skipped_unit, ending, over, value_of, stream_from, stream_at}
 use Rattle.m2v_model.specs.Pictures.{Events, closed, pictures_in}
-use Rattle.m2v_model.specs.Pieces.{phase_after, begins_piece, is_end, piece_of, grouped, pieces, before_pieces}
+use Rattle.m2v_model.specs.Pieces.{phase_after, is_end, piece_of, grouped, pieces, before_pieces}
 use Rattle.m2v_model.specs.Decoding.{Stream, events}
 use Rattle.m2v_model.specs.ByPieces.{Between, Course, at_start, read_of, units_read, piece_read, behind, continued, pieces_read, end_of, text_ended, end_read, text_read}
 use Rattle.m2v_audit.proofs.m2v_check.m2v_model.CutLaws.{cut_cuts, cuts_is, cut_units, joined-append, are_before, are_behind, are_code}
 use Rattle.m2v_audit.proofs.m2v_check.m2v_model.ShiftLaws.{NoEnds}
-use Rattle.m2v_audit.proofs.m2v_check.m2v_model.SplitLaws.{IsKnown, KnownBy, KnownAt, known_at}
-use Rattle.m2v_audit.proofs.m2v_check.m2v_model.PieceLaws.{placed, piece_is, piece_whole, IsOpen, open_after, no_ends-append, value_code, sequence_goes, finished, text_is}
+use Rattle.m2v_audit.proofs.m2v_check.m2v_model.SplitLaws.{IsKnown, KnownAt, known_at}
+use Rattle.m2v_audit.proofs.m2v_check.m2v_model.PieceLaws.{piece_whole, IsOpen, open_after, no_ends-append, sequence_goes, finished, text_is}
 use Rattle.m2v_audit.proofs.m2v_check.m2v_model.StreamLaws.{units_lawful}
-use Rattle.m2v_audit.proofs.m2v_check.m2v_decode.m2v_dec_rows.UnitGifts.{PartFits, IsLast, IsOnward, first_value}
+use Rattle.m2v_audit.proofs.m2v_check.m2v_decode.m2v_dec_rows.UnitGifts.{first_value}
 use Rattle.m2v_audit.proofs.m2v_check.Telling.{first_in, AtLast, InFront, by_units, IsGoodState, Says, says_on, says_nothing, units_say}
 use Rattle.m2v_audit.proofs.m2v_check.Ordered.{AreOrdered, PictureLast, pieces_ordered, units_ordered}
 use Rattle.m2v_audit.proofs.m2v_check.Checking.{units_of_piece}

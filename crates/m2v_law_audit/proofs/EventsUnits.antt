@@ -1,6 +1,6 @@
 -- What one unit of a stream gives, where a sequence header is in force or the unit is one: a header from a unit of its own
 -- value alone, and which units it takes.
-use Rattle.std.proofs.Common.{◌≡◌, ℕ, ◌-◌, ◌<◌, ◌≤◌, Bool, true, false, List, [], ◌∷◌, Option, Some, None, inl, inr, refl, sym, ap, subst, ◌∙◌, arith}
+use Rattle.std.proofs.Common.{◌≡◌, ℕ, ◌-◌, ◌<◌, Bool, true, false, List, [], ◌∷◌, Option, Some, None, inl, inr, refl, sym, ap, subst, ◌∙◌, arith}
 use Rattle.std.specs.Prelude.{nat_eq, nat_le, is_some}
 use Rattle.std.proofs.lemmas.Bool.{cases_Bool, eqb-true, leb-true}
 use Rattle.m2v_bits.specs.Syntax.{done, seq, rule, choose, here}
@@ -15,7 +15,7 @@ use Rattle.m2v_model.specs.Faults.{InUnit}
 use Rattle.m2v_model.specs.Headers.{whole_header, group_in}
 use Rattle.m2v_model.specs.Looking.{refuse}
 use Rattle.m2v_model.specs.Pieces.{is_end}
-use Rattle.m2v_model.specs.Streams.{Part, Among, sequence, group, picture, matrices, slice, unread_slice, skipped_unit, ending, over, after, value_of, close, no_second_field_due, id_at, extension_in, extension_behind, sequence_unit, group_unit, picture_unit, matrix_unit, extension_unit, read_slice, slice_in, slice_unit, end_unit, onward, final, later_unit, known_unit, text_end}
+use Rattle.m2v_model.specs.Streams.{Part, Among, sequence, group, picture, matrices, slice, unread_slice, skipped_unit, ending, over, after, value_of, close, no_second_field_due, id_at, extension_in, extension_behind, sequence_unit, group_unit, picture_unit, matrix_unit, extension_unit, read_slice, slice_in, slice_unit, onward, final, later_unit, known_unit, text_end}
 use Rattle.m2v_model.specs.ByPieces.{unit_read}
 use Rattle.m2v_audit.proofs.m2v_check.m2v_model.StreamLaws.{known_lawful, text_end_lawful}
 use Rattle.m2v_audit.proofs.m2v_check.m2v_model.SplitLaws.{IsKnown, KnownBy, KnownAt}
