@@ -25,3 +25,4 @@ pub mod EventsPieces
 pub mod BreachJudged
 pub mod BreachPieces
 pub mod BreachTexts
+pub mod VerdictTells

@@ -1,0 +1,8 @@
+use Rattle.m2v_law_audit.proofs.VerdictTells.{tells_all, all_failures}
+use Rattle.m2v_law_audit.proofs.verdict_laws.law_verdicts.Goals as goal
+
+pub returns-clause-breaches : goal.returns-clause-breaches
+returns-clause-breaches c = tells_all
+
+pub returns-clause-failures : goal.returns-clause-failures
+returns-clause-failures c = all_failures
