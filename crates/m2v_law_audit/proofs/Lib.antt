@@ -26,3 +26,5 @@ pub mod BreachJudged
 pub mod BreachPieces
 pub mod BreachTexts
 pub mod VerdictTells
+pub mod VerdictRules
+pub mod VerdictLaws
