@@ -48,13 +48,15 @@ module _ (asks : Breach → Bool) where
   seven : (a b c d e f g : Breaches)
       → many asks (a ++ b ++ c ++ d ++ e ++ f ++ g) ≡ many asks a + many asks b + many asks c + many asks d + many asks e + many asks f + many asks g
   seven a b c d e f g =
-      omega (arith,
+      omega (
+        arith,
         many-append (a ++ b ++ c ++ d ++ e ++ f) g,
         many-append (a ++ b ++ c ++ d ++ e) f,
         many-append (a ++ b ++ c ++ d) e,
         many-append (a ++ b ++ c) d,
         many-append (a ++ b) c,
-        many-append a b)
+        many-append a b,
+      )
 
   abbrev all_seven : List Sequence → ℕ
   all_seven ss =
@@ -67,10 +69,19 @@ module _ (asks : Breach → Bool) where
   -- the breaches of sequence headers are those of each
   pub one_header : (s : Sequence) (ss : List Sequence) → many asks (sequence_breaches (s ∷ ss)) ≡ many asks (sequence_breaches (s ∷ [])) + many asks (sequence_breaches ss)
   one_header s ss =
-      omega (arith,
-        seven_rules (s ∷ ss), seven_rules (s ∷ []), seven_rules ss,
-        one_more level_rule s ss, one_more width_rule s ss, one_more height_rule s ss, one_more frame_rate_rule s ss,
-        one_more luma_rule s ss, one_more rate_rule s ss, one_more buffer_rule s ss)
+      omega (
+        arith,
+        seven_rules (s ∷ ss),
+        seven_rules (s ∷ []),
+        seven_rules ss,
+        one_more level_rule s ss,
+        one_more width_rule s ss,
+        one_more height_rule s ss,
+        one_more frame_rate_rule s ss,
+        one_more luma_rule s ss,
+        one_more rate_rule s ss,
+        one_more buffer_rule s ss,
+      )
 
   -- ---- pictures
 
@@ -93,7 +104,8 @@ module _ (asks : Breach → Bool) where
       let f = progressive_rule n in
       let g = precision_rule n in
       let own : place_breach (misplaced (waits_as bit n) (place_in_group low all n)) ≡ r = judged_place (nat_eq n.picture.info.temporal_reference place) n.number bit n.picture.info.temporal_reference place in
-      omega (arith,
+      omega (
+        arith,
         ap (many asks) own,
         many-append (h ++ v ++ i ++ r ++ d ++ e ++ f) g,
         many-append (h ++ v ++ i ++ r ++ d ++ e) f,
@@ -103,7 +115,8 @@ module _ (asks : Breach → Bool) where
         many-append (h ++ v ++ i) (d ++ e ++ f ++ g),
         many-append (d ++ e ++ f) g,
         many-append (d ++ e) f,
-        many-append d e)
+        many-append d e,
+      )
 
   -- ---- frames at their places
 

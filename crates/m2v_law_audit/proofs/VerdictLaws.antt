@@ -1,8 +1,9 @@
 -- Of a stream at constant rate a report finds nothing exactly where the verifier calls the stream lawful.
-use Rattle.std.proofs.Common.{◌≡◌, ℕ, ◌+◌, ◌*◌, ◌-◌, ◌^◌, ◌≤◌, ◌↔◌, Bool, true, false, not, List, [], ◌∷◌, length, map, sum, Option, Some, None, refl, sym, ap, subst, ◌∙◌, arith, le_trans}
+use Rattle.std.proofs.Common.{◌≡◌, ℕ, ◌+◌, ◌*◌, ◌≤◌, ◌↔◌, Bool, true, false, not, List, [], ◌∷◌, length, map, sum, Option, Some, None, refl, sym, ap, subst, ◌∙◌, arith, le_trans}
 use Rattle.std.specs.Prelude.{if◌then◌else◌}
 use Rattle.std.proofs.lemmas.List.{nil_from_length}
 use Rattle.m2v_vbv.specs.declared.fault.AccountFault.{AccountFault}
+use Rattle.m2v_vbv.specs.Buffer.{Buffer}
 use Rattle.m2v_model.specs.declared.state.Sequence.{Sequence}
 use Rattle.m2v_model.specs.PieceNotes.{note_of}
 use Rattle.m2v_model.specs.Pieces.{pieces}
@@ -38,11 +39,12 @@ constant_so (Some s) at [] ns x e steady = absurd cc
 constant_so (Some s) at (p ∷ ps) [] x e steady = absurd cc
 constant_so (Some s) at (p ∷ ps) (n ∷ ns) x e steady = ap (λ (r : Rate). r.constant) (begins_so s at p ps n ns x e).rate ∙ ap not steady
 
-none_if : (has : Bool) (rate : Rate) (x : Beginning) → has ≡ true → with_buffer rate (if has then Some x.buffer else None) ≡ None → ⊥
-none_if true rate x h e = absurd cc
-none_if false rate x h e = absurd cc
+-- by a header that has an account one begins
+some_begins : (has : Bool) (rate : Rate) (b : Buffer) → has ≡ true → with_buffer rate (if has then Some b else None) ≡ None → ⊥
+some_begins true rate b h e = absurd cc
+some_begins false rate b h e = absurd cc
 
--- where none begins by a header that has one, there is no header or no picture, and the verifier has none either
+-- where the first sequence header has an account and none begins, there is no header or no picture, and nothing is unsafe
 none_unsafe : (low_delay : Bool) (o : Option Sequence) (at : ℕ) (ps : List (List ℕ)) (ns : List Numbered) → length ns ≤ length ps → ((s : Sequence) → o ≡ Some s → has_account s ≡ true) → beginning_by o at ps ns ≡ None
     → unsafe_in (account_by low_delay o ps ns) ≡ []
 none_unsafe low_delay None at ps ns le has e = refl
@@ -50,8 +52,7 @@ none_unsafe low_delay (Some s) at ps [] le has e = refl
 none_unsafe low_delay (Some s) at [] (n ∷ ns) le has e = absurd (omega (arith, le))
 none_unsafe low_delay (Some s) at (p ∷ ps) (n ∷ ns) le has e =
     let note = note_of (8 * at + code_bits p) n.picture in
-    let rate = rate_with s (Some note) in
-    absurd (none_if (has_account s) rate (record { rate = rate; buffer = buffer_at_first s note (code_bits p) }) (has s refl) e)
+    absurd (some_begins (has_account s) (rate_with s (Some note)) (buffer_at_first s note (code_bits p)) (has s refl) e)
 
 -- where the first ones agree, neither has one or both have
 none_both : (fs : List FailureRecord) (gs : List AccountFault) → FirstAgree fs gs → (fs ≡ []) ↔ (gs ≡ [])
@@ -60,6 +61,7 @@ none_both [] (g ∷ gs) h = absurd h
 none_both (f ∷ fs) [] h = absurd h
 none_both (f ∷ fs) (g ∷ gs) h = (λ e. absurd cc, λ e. absurd cc)
 
+-- by how the account begins, if one does
 none_by : (text : List ℕ) (tree : Sofar) → Stream text tree → is_variable (numbered_in tree) ≡ false → Keeps (events tree) → (number start : ℕ) (o : Option Beginning) → beginning_in start text tree ≡ o
     → (failures_of_stream number start text tree ≡ []) ↔ (unsafe_in (account_in text tree) ≡ [])
 none_by text tree stream steady keeps number start None e =
@@ -82,11 +84,12 @@ none_where_safe text tree stream steady lawful number start =
 
 -- ---- verdicts
 
+-- where none is counted there is none
 uncounted : (n : ℕ) → more_by 0 n ≡ 0 → n ≡ 0
 uncounted n e = omega (arith, e)
 
-found_lawful : (text : List ℕ) (tree : Sofar) → Stream text tree → (each : Bool) (number start : ℕ) → FindsNothing (sequence_report each number start text) → is_variable (numbered_in tree) ≡ false → (f : Figures) × IsLawful text f
-found_lawful text tree stream each number start found steady =
+lawful_where_finds : (text : List ℕ) (tree : Sofar) → Stream text tree → (each : Bool) (number start : ℕ) → FindsNothing (sequence_report each number start text) → is_variable (numbered_in tree) ≡ false → (f : Figures) × IsLawful text f
+lawful_where_finds text tree stream each number start found steady =
     let bs : Breaches = breaches_of tree in
     let fs : List FailureRecord = failures_of_stream number start text tree in
     let lawful : bs ≡ [] = nil_from_length bs (uncounted (length bs) (sym (tells_all text tree stream each number start).counted ∙ found.0)) in
@@ -110,21 +113,23 @@ found_lawful text tree stream each number start found steady =
       },
     )
 
-lawful_found : (text : List ℕ) (tree : Sofar) → Stream text tree → (each : Bool) (number start : ℕ) (f : Figures) → IsLawful text f → FindsNothing (sequence_report each number start text) × (is_variable (numbered_in tree) ≡ false)
-lawful_found text tree stream each number start f is =
+finds_where_lawful : (text : List ℕ) (tree : Sofar) → Stream text tree → (each : Bool) (number start : ℕ) (f : Figures) → IsLawful text f → FindsNothing (sequence_report each number start text) × (is_variable (numbered_in tree) ≡ false)
+finds_where_lawful text tree stream each number start f is =
     let one = λ (t : Sofar) (s : Stream text t). (exactly_one text).one_tree t tree s stream in
     let lawful : breaches_of tree ≡ [] = subst (λ (t : Sofar). breaches_of t ≡ []) (one is.lawful.tree is.lawful.stream) is.lawful.lawful in
     let steady : is_variable (numbered_in tree) ≡ false = subst (λ (t : Sofar). is_variable (numbered_in t) ≡ false) (one is.constant.tree is.constant.stream) is.constant.rate in
     let safe : unsafe_in (account_in text tree) ≡ [] = subst (λ (t : Sofar). unsafe_in (account_in text t) ≡ []) (one is.safe.tree is.safe.stream) is.safe.safe in
-    let none = (none_where_safe text tree stream steady lawful number start).1 safe in
-    ((
-      (tells_all text tree stream each number start).counted ∙ ap (λ (bs : Breaches). more_by 0 (length bs)) lawful,
-      (all_failures text tree stream each number start).counted ∙ ap (λ (fs : List FailureRecord). more_by 0 (length fs)) none,
-    ), steady)
+    let none = (none_where_safe text tree stream steady lawful number start).1 safe in (
+      (
+        (tells_all text tree stream each number start).counted ∙ ap (λ (bs : Breaches). more_by 0 (length bs)) lawful,
+        (all_failures text tree stream each number start).counted ∙ ap (λ (fs : List FailureRecord). more_by 0 (length fs)) none,
+      ),
+      steady,
+    )
 
 -- nothing is found, and the rate isn't variable, exactly where the verifier calls the stream lawful
 pub finds_nothing_where_lawful : (text : List ℕ) (tree : Sofar) → Stream text tree → FindsNothingWhereLawful text tree
 finds_nothing_where_lawful text tree stream each number start = (
-  λ h. found_lawful text tree stream each number start h.0 h.1,
-  λ l. lawful_found text tree stream each number start l.0 l.1,
+  λ h. lawful_where_finds text tree stream each number start h.0 h.1,
+  λ l. finds_where_lawful text tree stream each number start l.0 l.1,
 )

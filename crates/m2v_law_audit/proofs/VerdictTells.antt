@@ -1,5 +1,5 @@
 -- The report of a stream tells the breaches of the stream and the failures of its buffer, and counts both.
-use Rattle.std.proofs.Common.{◌≡◌, ℕ, Bool, List, Option, ap, ◌∙◌}
+use Rattle.std.proofs.Common.{ℕ, Bool, List, Option, ap, ◌∙◌}
 use Rattle.m2v_model.specs.declared.state.Sequence.{Sequence}
 use Rattle.m2v_model.specs.Pieces.{pieces}
 use Rattle.m2v_model.specs.Streams.{Sofar}
@@ -9,10 +9,10 @@ use Rattle.m2v_audit.specs.declared.report.Rate.{Rate}
 use Rattle.m2v_audit.specs.Auditing.{nothing}
 use Rattle.m2v_law_audit.specs.Sequences.{first_byte}
 use Rattle.m2v_law_audit.specs.Parts.{more_by}
-use Rattle.m2v_law_audit.specs.Found.{all_found, all_removals}
+use Rattle.m2v_law_audit.specs.Found.{all_found}
 use Rattle.m2v_law_audit.specs.Breaches.{TellsAll}
 use Rattle.m2v_law_audit.specs.Accounts.{TellsAllFailures}
-use Rattle.m2v_law_audit.proofs.ReportParts.{failures_by, parts_of, begun_by_first}
+use Rattle.m2v_law_audit.proofs.ReportParts.{parts_of, begun_by_first}
 use Rattle.m2v_law_audit.proofs.BreachTexts.{all_told, as_many}
 use Rattle.m2v_law_audit.proofs.RemovalFailures.{LinesTell, tells_all_failures}
 

@@ -17,11 +17,11 @@ pub fn law_breaches()
     ensures same { (text : List ℕ) (tree : Sofar) → Stream text tree →
         (each : Bool) (number start : ℕ) →
         let found = all_found (nothing number each start) at_start
-            (first_byte start text) (pieces text) in
+        (first_byte start text) (pieces text) in
         AreSame (map as_judged found) (breaches_of tree) }
     ensures count { (text : List ℕ) (tree : Sofar) → Stream text tree →
         (each : Bool) (number start : ℕ) →
         let found = all_found (nothing number each start) at_start
-            (first_byte start text) (pieces text) in
+        (first_byte start text) (pieces text) in
         length found ≡ length (breaches_of tree) }
 {}

@@ -7,8 +7,8 @@ ghost use Rattle.m2v_law_audit.specs.Accounts.{TellsAllFailures};
 ghost use Rattle.m2v_law_audit.specs.Verdicts.{FindsNothingWhereLawful};
 
 /// The report of a stream without a fault, whichever sequence of the input it is and wherever it stands, tells the breaches
-/// that the verifier's rules define, and the failures of its buffer, each as often as it comes, and it counts both. It finds
-/// neither, and its rate isn't variable, exactly where the verifier calls the stream lawful.
+/// that the verifier's rules define, each as often as it comes, and the failures of the stream's buffer, in turn; it tells no
+/// others, and counts both. It counts neither, and the rate isn't variable, exactly where the verifier calls the stream lawful.
 pub fn law_verdicts()
     ensures breaches { (text : List ℕ) (tree : Sofar) → Stream text tree → TellsAll text tree }
     ensures failures { (text : List ℕ) (tree : Sofar) → Stream text tree
