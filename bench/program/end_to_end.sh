@@ -141,7 +141,7 @@ end/0/2/2/1/84/0/0/0/0/672/0/28800
 total/1/2/84/0/0/0'
 reports 'audit: each picture' 0 'clean sequences 1 pictures 2 bytes 84 warnings 0' 'audit/1/main
 sequence/0/0/16/16/3/2/72/1/0/100/1/constant
-group/0/0/176/0/0/0/0/0/0/0/1/0
+group/0/0/176/0/0/0/0/0/0/1/0
 picture/0/0/240/I/frame/0/448/0/27189/2/0
 picture/0/1/448/P/frame/1/192/0/30321/2/0
 held/0/0/0/672/448/224/27189/0
