@@ -79,6 +79,19 @@ ends() {
   tell "$name" "${fault#; }"
 }
 
+# reports NAME STATUS LINE RECORDS WORD..: runs `audit` on the file `in`. RECORDS are those of the report but for the lines that
+# name columns, `/` for a tab.
+reports() {
+  local name=$1 status=$2 line=$3 records=$4 fault="" ended
+  shift 4
+  timeout 60 "$program" audit "$@" < in > out 2> err
+  ended=$?
+  [ "$ended" = "$status" ] || fault="status $ended, not $status"
+  [ "$(cat err)" = "$line" ] || fault="$fault; the line is '$(head -c 200 err)', not '$line'"
+  [ "$(grep -v '^columns' out | tr '\t' /)" = "$records" ] || fault="$fault; the report isn't what it should be"
+  tell "$name" "${fault#; }"
+}
+
 : > none
 grey 384 > frame
 grey 768 > frames
@@ -121,6 +134,28 @@ cp two.m2v in
 holds 'decode: two frames' 0 'frames 2 pictures 2 dropped 0' frames decode
 holds 'check: lawful' 0 'lawful frames 2 pictures 2 bytes 84 low 0 high 672 delays 0' none check
 holds 'cut: the one group' 0 'groups 1 bytes 84' two.m2v cut 0 1
+# its pieces have 56, 24 and 4 bytes; 672 bits are the whole stream, and are there when the first picture is removed
+reports 'audit: nothing found' 0 'clean sequences 1 pictures 2 bytes 84 warnings 0' 'audit/1/main
+sequence/0/0/16/16/3/2/72/1/0/100/1/constant
+end/0/2/2/1/84/0/0/0/0/672/0/28800
+total/1/2/84/0/0/0'
+reports 'audit: each picture' 0 'clean sequences 1 pictures 2 bytes 84 warnings 0' 'audit/1/main
+sequence/0/0/16/16/3/2/72/1/0/100/1/constant
+group/0/0/176/0/0/0/0/0/0/1/0
+picture/0/0/240/I/frame/0/448/0/27189/2/0
+picture/0/1/448/P/frame/1/192/0/30321/2/0
+held/0/0/0/672/448/224/27189/0
+held/0/1/28800/224/224/0/30321/0
+end/0/2/2/1/84/0/0/0/0/672/0/28800
+total/1/2/84/0/0/0' --pictures
+cat two.m2v flat.m2v > in
+reports 'audit: another sequence, of variable rate' 0 'clean sequences 2 pictures 3 bytes 136 warnings 0' 'audit/1/main
+sequence/0/0/16/16/3/2/72/1/0/100/1/constant
+end/0/2/2/1/84/0/0/0/0/672/0/28800
+sequence/1/672/16/16/3/1/72/1/0/37500/112/variable
+end/1/1/1/0/52/0/0/0/0/416/0/0
+total/2/3/136/0/0/0' --for main
+cp two.m2v in
 cp none in
 # the stream of seed 1 is what bench/cases/made.py makes of it: its bytes and their sum
 "$program" make 1 > made 2> err < none
@@ -212,6 +247,13 @@ bytes $sequence $extension $picture 00 00 01 01 03 94 A5 22 20 $end > in
 holds 'decode: quantiser 0' 9 'stream Forbidden at bit 344' none decode
 bytes $sequence 00 00 01 B5 14 9A 00 01 00 00 $picture $slice $end > in
 holds 'check: another profile' 10 'unlawful rule 1 picture 0 have 73 need 72' none check
+# profile_and_level 73 is rule 1; the one picture is what is left of a stream of variable rate
+reports 'audit: another profile' 18 'found sequences 1 pictures 1 bytes 52 breaches 1 failures 0 warnings 0' 'audit/1/main
+sequence/0/0/16/16/3/1/73/1/0/37500/112/variable
+breach/0/0/0/1/level/73/72
+count/0/1/1/0
+end/0/1/1/0/52/1/0/0/0/416/0/0
+total/1/1/52/1/0/0'
 bytes $coded ${first/0B 51 A8/08 00 00} $end > in
 holds 'check: a delay of 0' 11 'buffer under picture 0 have 489600 need 864000' none check
 { bytes $sequence $extension 00 00 01 B2; grey 2097152; bytes $picture $slice $end; } > in

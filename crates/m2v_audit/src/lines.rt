@@ -76,11 +76,7 @@ impl Lines {
         print(
             &mut self.text,
             "skipped",
-            &[
-                Column::of(sequence),
-                Column::of(byte),
-                Column::of(bytes),
-            ],
+            &[Column::of(sequence), Column::of(byte), Column::of(bytes)],
         )
     }
 

@@ -24,3 +24,6 @@ pub mod EventsPieces
 pub mod BreachJudged
 pub mod BreachPieces
 pub mod BreachTexts
+pub mod VerdictTells
+pub mod VerdictRules
+pub mod VerdictLaws

@@ -1,4 +1,4 @@
-//! What a report finds of the rules that the verifier looks at.
+// What a report finds of the rules that the verifier looks at.
 ghost use Rattle.std.specs.Prelude.{◌≡◌, ℕ, Bool, List, map, length};
 ghost use Rattle.m2v_model.specs.Pieces.{pieces};
 ghost use Rattle.m2v_model.specs.Streams.{Sofar};

@@ -1,16 +1,15 @@
 -- What follows from what `audit` did and what was told of it.
-use Rattle.std.proofs.Common.{◌≡◌, inl, inr, ℕ, List, Some, refl, sym, subst, ap, ◌∙◌, arith}
-use Rattle.m2v_port.specs.Ends.{Tells}
+use Rattle.std.proofs.Common.{◌≡◌, inr, ℕ, List, Some, refl, subst}
 use Rattle.m2v_port.proofs.Runs.{tells}
 use Rattle.m2v_cut.proofs.m2v_decode.AnswerLaws.{of_text}
 use Rattle.m2v_dec_piece.specs.declared.answer.DecodeError.{DecodeError}
 use Rattle.m2v_dec_piece.specs.declared.answer.DecodeError.TheVariants as errors
 use Rattle.m2v_audit.specs.declared.outcome.Outcome.{Outcome as Audit}
-use Rattle.m2v_audit.specs.Leading.{IsAudited, IsBegun, Fails}
+use Rattle.m2v_audit.specs.Leading.{IsAudited, Fails}
 use Rattle.m2v_tool.specs.declared.audit.AuditWords.{AuditWords}
 use Rattle.m2v_tool.specs.declared.audit.AuditOutcome.{AuditOutcome}
 use Rattle.m2v_tool.specs.declared.audit.AuditOutcome.TheVariants.{Reported, Stopped}
-use Rattle.m2v_tool.specs.Endings.{Ending, Told, whole, cut}
+use Rattle.m2v_tool.specs.Endings.{Ending, Told}
 use Rattle.m2v_tool.specs.Decoding.{decoding_stopped}
 use Rattle.m2v_tool.specs.Auditing.{name_of_rules, outcome_of, AuditComes, clean_ending, reported_ending, audit_ending, AuditAnswer, AuditKeeps}
 use Rattle.m2v_tool.specs.Runs.{Run, work_of, IsUntouched, Yields, NoneFailed, Succeeds}

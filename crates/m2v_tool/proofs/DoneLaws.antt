@@ -1,7 +1,7 @@
 -- What status 0 says: the command was done, and the whole line of that is on report.
 use Rattle.std.proofs.Common.{◌≡◌, inl, inr, ℕ, Bool, true, false, suc, refl, sym, ◌∙◌, arith, subst}
 use Rattle.std.specs.Prelude.{◌==◌, ◌&&◌, nat_eq, if◌then◌else◌}
-use Rattle.std.proofs.lemmas.Bool.{cases_Bool, cond-true, cond-false, eq-eqb, eqb-true, both_true}
+use Rattle.std.proofs.lemmas.Bool.{cases_Bool, cond-true, cond-false, eq-eqb, eqb-true}
 use Rattle.m2v_port.specs.Port.{Grows}
 use Rattle.m2v_port.specs.declared.error.PortError.{PortError}
 use Rattle.m2v_port.specs.declared.error.PortError.TheVariants as calls
@@ -27,7 +27,6 @@ use Rattle.m2v_vbv.specs.declared.fault.AccountFault.TheVariants.{Under, Over}
 use Rattle.m2v_make.specs.declared.answer.MakeError.{MakeError}
 use Rattle.m2v_make.specs.declared.answer.MakeError.TheVariants as make_errors
 use Rattle.m2v_make.specs.Making.{Makes}
-use Rattle.m2v_audit.specs.declared.outcome.Outcome.{Outcome as Audit}
 use Rattle.m2v_audit.specs.declared.outcome.Ending.{Ending as Audited}
 use Rattle.m2v_audit.specs.declared.outcome.Ending.TheVariants as audits
 use Rattle.m2v_audit.specs.declared.words.LimitKind.TheVariants as limits
@@ -251,8 +250,12 @@ text_done r m (texts.Encoded (encodes.Unopened e)) c t none = refused (unopened_
 text_done r m (texts.Encoded (encodes.Stopped e)) c t none = refused (encoding_stopped e) r t (encode_stops e) none
 text_done r m (texts.Broken fault) c t none = refused (y4m_fault fault) r t (14, refl) none
 
+both_hold : (p q : Bool) → p && q ≡ true → (p ≡ true) × (q ≡ true)
+both_hold true q is = (refl, is)
+both_hold false q is = absurd cc
+
 both_zero : (b c : ℕ) → nat_eq b 0 && nat_eq c 0 ≡ true → (b ≡ 0) × (c ≡ 0)
-both_zero b c is = let e = both_true (nat_eq b 0) (nat_eq c 0) is in (eqb-true b 0 e.0, eqb-true c 0 e.1)
+both_zero b c is = let e = both_hold (nat_eq b 0) (nat_eq c 0) is in (eqb-true b 0 e.0, eqb-true c 0 e.1)
 
 whole_done : (r : Run) (w : AuditWords) (t : TotalRecord) → AuditComes w r.input r.output (Reported (record { totals = t; ending = audits.Whole })) → Told (whole_ending t) r.status r.report
     → r.status ≡ 0 → Success (AuditDone w r.input r.output) clean_ending r.report
@@ -268,13 +271,18 @@ whole_done r w t c told none = elim (cases_Bool (nat_eq t.breaches 0 && nat_eq t
   | inr isnt ↦ refused (found_ending t) r (subst (λ (b : Bool). Told (if b then clean_ending t else found_ending t) r.status r.report) isnt told) (17, refl) none
 ]
 
+audit_by : (r : Run) (w : AuditWords) (t : TotalRecord) (e : Audited) → AuditComes w r.input r.output (Reported (record { totals = t; ending = e })) → Told (audited_ending t e) r.status r.report
+    → r.status ≡ 0 → Success (AuditDone w r.input r.output) clean_ending r.report
+unfolding audited_ending limit_ending stream_fault ending_past
+audit_by r w t audits.Whole c told none = whole_done r w t c told none
+audit_by r w t (audits.Fault f) c told none = refused (stream_fault f) r told (8, refl) none
+audit_by r w t (audits.Limit limits.TooLong) c told none = refused (ending_past too_long) r told (12, refl) none
+audit_by r w t (audits.Limit limits.TooLarge) c told none = refused (ending_past too_large) r told (13, refl) none
+
 pub audit_done : (r : Run) (w : AuditWords) (o : AuditOutcome) → AuditComes w r.input r.output o → Told (audit_ending o) r.status r.report → r.status ≡ 0
     → Success (AuditDone w r.input r.output) clean_ending r.report
-unfolding audit_ending audited_ending limit_ending stream_fault ending_past
-audit_done r w (Reported (record { totals = t; ending = audits.Whole })) c told none = whole_done r w t c told none
-audit_done r w (Reported (record { totals = t; ending = audits.Fault f })) c told none = refused (stream_fault f) r told (8, refl) none
-audit_done r w (Reported (record { totals = t; ending = audits.Limit limits.TooLong })) c told none = refused (ending_past too_long) r told (12, refl) none
-audit_done r w (Reported (record { totals = t; ending = audits.Limit limits.TooLarge })) c told none = refused (ending_past too_large) r told (13, refl) none
+unfolding audit_ending
+audit_done r w (Reported o) c told none = audit_by r w o.totals o.ending c told none
 audit_done r w (Stopped e) c told none = refused (decoding_stopped e) r told (decode_stops e) none
 
 -- where no endpoint fails, success is told, unless memory runs out

@@ -7,7 +7,6 @@ use Rattle.m2v_port.specs.Ends.{Change, Tells}
 use Rattle.m2v_port.specs.Port.{Grows}
 use Rattle.m2v_model.specs.Pieces.{too_long, too_large}
 use Rattle.m2v_cut.specs.m2v_decode.Answers.{OfText}
-use Rattle.m2v_dec_piece.specs.declared.answer.DecodeError.{DecodeError}
 use Rattle.m2v_audit.specs.declared.outcome.Outcome.{Outcome as Audit}
 use Rattle.m2v_audit.specs.declared.outcome.Ending.{Ending as Audited}
 use Rattle.m2v_audit.specs.declared.outcome.Ending.TheVariants as audits

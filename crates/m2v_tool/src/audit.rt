@@ -198,7 +198,13 @@ pub(crate) fn audited<S: Source, K: Sink>(
     ensures output { SinkStays K.ready K.name K.faults output.old output.new }
     ensures input { S.faults input.old ≤ S.faults input.new }
 {
-    match audit(alloc, meant.pictures, name_of_rules(meant.rules), input, output) {
+    match audit(
+        alloc,
+        meant.pictures,
+        name_of_rules(meant.rules),
+        input,
+        output,
+    ) {
         Ok(outcome) => AuditOutcome::Reported(outcome),
         Err(error) => AuditOutcome::Stopped(error),
     }
