@@ -12,7 +12,6 @@ use Rattle.m2v_model.specs.Decoding.{Stream, events}
 use Rattle.m2v_model.specs.Lawful.{Numbered, numbered, all_numbered}
 use Rattle.m2v_model.specs.Buffering.{code_bits}
 use Rattle.m2v_model.specs.ByPieces.{Between, at_start, piece_read}
-use Rattle.m2v_audit.specs.declared.records.Finding.{Finding}
 use Rattle.m2v_audit.specs.declared.records.FailureRecord.{FailureRecord}
 use Rattle.m2v_audit.specs.declared.report.Rate.{Rate}
 use Rattle.m2v_audit.specs.declared.account.Due.{Due}
@@ -20,7 +19,7 @@ use Rattle.m2v_audit.specs.Account.{all_told}
 use Rattle.m2v_audit.specs.Auditing.{nothing, sequence_of, rate_with}
 use Rattle.m2v_audit.proofs.m2v_check.Telling.{first_in, last_in}
 use Rattle.m2v_audit.proofs.m2v_check.Onward.{none_or_one}
-use Rattle.m2v_law_audit.specs.Found.{failures_of, all_removals}
+use Rattle.m2v_law_audit.specs.Found.{failures_of, all_found, all_removals}
 use Rattle.m2v_law_audit.specs.Sequences.{sequence_report, first_byte}
 use Rattle.m2v_law_audit.specs.Parts.{Tells, more_by}
 use Rattle.m2v_law_audit.specs.Accounts.{Beginning, beginning_by, beginning_in, dues_in, numbered_in, removals_by, failures_by, failures_of_stream, TellsAllFailures}
@@ -29,6 +28,7 @@ use Rattle.m2v_law_audit.proofs.AccountReading.{Turns, turn_read, in_pieces, fir
 use Rattle.m2v_law_audit.proofs.EventsPieces.{BeginWith, text_begins}
 use Rattle.m2v_law_audit.proofs.RemovalEvents.{note_at, none_left, none_numbered, first_so}
 use Rattle.m2v_law_audit.proofs.RemovalTurns.{removals_in}
+use Rattle.m2v_law_audit.proofs.ReportParts.{parts_of, begun_by_first}
 
 -- ---- failures
 
@@ -107,33 +107,19 @@ begins_with text tree stream start x e =
 
 -- ---- the report
 
--- what laws on reports say of the report of a text: it tells some breaches, and the failures of the removals that are told, at
--- the rate that its first piece says; and it counts these
-pub record LinesTell (each : Bool) (number start : ℕ) (text : List ℕ) : Type 0 where
-  pub findings : List Finding
-  pub tells :
-      let r = sequence_report each number start text in
-      Tells r.lines findings (flat_map (failures_of number r.kept.rate) (all_removals (nothing number each start) at_start (first_byte start text) (pieces text)))
-  pub counted :
-      let r = sequence_report each number start text in
-      let failures = flat_map (failures_of number r.kept.rate) (all_removals (nothing number each start) at_start (first_byte start text) (pieces text)) in
-      r.kept.report.tally.failures ≡ more_by 0 (length failures)
-  pub rate : (p : List ℕ) (ps : List (List ℕ)) (x : Events × Between) (s : SequenceInfo × SequenceExtension) (ss : List (SequenceInfo × SequenceExtension)) →
-      let at = first_byte start text in
-      let notes = notes_of at p x.0 in
-      pieces text ≡ p ∷ ps → piece_read at_start (at + length p) p ≡ Ok x → notes.sequences ≡ s ∷ ss
-      → (sequence_report each number start text).kept.rate ≡ rate_with (sequence_of s) notes.picture
-
--- then the report of a stream tells the stream's failures, and counts them
-pub tells_all_failures : (text : List ℕ) (tree : Sofar) → Stream text tree → ((each : Bool) (number start : ℕ) → LinesTell each number start text) → TellsAllFailures text tree
-tells_all_failures text tree stream lines each number start =
+-- the report of a stream tells the stream's failures, and counts them
+pub tells_all_failures : (text : List ℕ) (tree : Sofar) → Stream text tree → TellsAllFailures text tree
+tells_all_failures text tree stream each number start =
     let r = sequence_report each number start text in
-    let l = lines each number start in
+    let parts = parts_of each number start text in
+    let findings = all_found (nothing number each start) at_start (first_byte start text) (pieces text) in
     let same : (x : Beginning) → beginning_in start text tree ≡ Some x → r.kept.rate ≡ x.rate =
-    λ x e. let f = begins_with text tree stream start x e in l.rate f.piece f.later f.told f.header f.others f.are f.read f.noted ∙ sym f.rate in
+    λ x e.
+    let f = begins_with text tree stream start x e in
+    ap (λ (y : Option Sequence × Rate). y.1) (begun_by_first each number start text f.piece f.later f.told f.header f.others f.are f.read f.noted) ∙ sym f.rate in
     let are = failures_in text tree stream each number start r.kept.rate same in
     record {
-      findings = l.findings;
-      tells = subst (Tells r.lines l.findings) are l.tells;
-      counted = l.counted ∙ ap (λ (fs : List FailureRecord). more_by 0 (length fs)) are;
+      findings = findings;
+      tells = subst (Tells r.lines findings) are parts.tells;
+      counted = parts.failures ∙ ap (λ (fs : List FailureRecord). more_by 0 (length fs)) are;
     }

@@ -27,7 +27,8 @@ use Rattle.m2v_law_audit.proofs.AccountFailures.{begins_so}
 use Rattle.m2v_law_audit.proofs.AccountDues.{few_numbered}
 use Rattle.m2v_law_audit.proofs.AccountReading.{in_pieces, few_pictures}
 use Rattle.m2v_law_audit.proofs.AccountChecked.{fails_as_checked}
-use Rattle.m2v_law_audit.proofs.VerdictTells.{tells_all, all_failures}
+use Rattle.m2v_law_audit.proofs.RemovalFailures.{tells_all_failures}
+use Rattle.m2v_law_audit.proofs.VerdictTells.{tells_all}
 use Rattle.m2v_law_audit.proofs.VerdictRules.{Keeps, keeps_where}
 
 -- ---- failures
@@ -93,7 +94,7 @@ lawful_where_finds text tree stream each number start found steady =
     let bs : Breaches = breaches_of tree in
     let fs : List FailureRecord = failures_of_stream number start text tree in
     let lawful : bs ≡ [] = nil_from_length bs (uncounted (length bs) (sym (tells_all text tree stream each number start).counted ∙ found.0)) in
-    let none : fs ≡ [] = nil_from_length fs (uncounted (length fs) (sym (all_failures text tree stream each number start).counted ∙ found.1)) in
+    let none : fs ≡ [] = nil_from_length fs (uncounted (length fs) (sym (tells_all_failures text tree stream each number start).counted ∙ found.1)) in
     let b : BufferFigures = figures_in text tree in
     let f : Figures = record {
       frames = length (frames_of tree);
@@ -122,7 +123,7 @@ finds_where_lawful text tree stream each number start f is =
     let none = (none_where_safe text tree stream steady lawful number start).1 safe in (
       (
         (tells_all text tree stream each number start).counted ∙ ap (λ (bs : Breaches). more_by 0 (length bs)) lawful,
-        (all_failures text tree stream each number start).counted ∙ ap (λ (fs : List FailureRecord). more_by 0 (length fs)) none,
+        (tells_all_failures text tree stream each number start).counted ∙ ap (λ (fs : List FailureRecord). more_by 0 (length fs)) none,
       ),
       steady,
     )
