@@ -25,3 +25,6 @@ pub mod EventsPieces
 pub mod BreachJudged
 pub mod BreachPieces
 pub mod BreachTexts
+pub mod MovedReports
+pub mod MovedKept
+pub mod MovedSteps
