@@ -28,3 +28,4 @@ pub mod BreachTexts
 pub mod MovedReports
 pub mod MovedKept
 pub mod MovedSteps
+pub mod MovedPieces

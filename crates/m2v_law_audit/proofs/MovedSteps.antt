@@ -26,6 +26,7 @@ use Rattle.m2v_audit.specs.declared.places.Waiting.{Waiting}
 use Rattle.m2v_audit.specs.declared.words.RateKind.{RateKind}
 use Rattle.m2v_audit.specs.Account.{Account, with_more as account_more, settled, after_settled}
 use Rattle.m2v_audit.specs.Auditing.{sequence_of, longer, sequence_record, with_first, begun_by, begun, with_sequence, group_record, with_group, with_header, sequences_of, with_headers, bit_of, coded, counted, picture_record, with_told, waiting_of, with_place, due_of, account_by, with_account, with_coded, with_note, settled_by, pictured, with_settled}
+use Rattle.m2v_audit.specs.Findings.{with_misplaced, with_removals}
 use Rattle.m2v_audit.specs.Front.{group_told, group_at, header_at, headers_from, front_of}
 use Rattle.m2v_audit.specs.Lines.{sequence_line, group_line, picture_line}
 use Rattle.m2v_audit.specs.Opening.{kind_of}
@@ -50,10 +51,10 @@ pub record Moves (n k : ℕ) (a b : Auditing) : Type 0 where
   pub rest : b ≡ beside k b.report a
 
 -- a step on both
-abbrev Steps : ℕ → ℕ → Auditing → Auditing → (Auditing → Auditing) → Type 0
+abbrev pub Steps : ℕ → ℕ → Auditing → Auditing → (Auditing → Auditing) → Type 0
 Steps n k a next step = (r : Report) → Together n k a.report r → Moves n k next (step (beside k r a))
 
-step_both : {n k : ℕ} {a b : Auditing} (next : Auditing) (step : Auditing → Auditing) → Moves n k a b → Steps n k a next step → Moves n k next (step b)
+pub step_both : {n k : ℕ} {a b : Auditing} (next : Auditing) (step : Auditing → Auditing) → Moves n k a b → Steps n k a next step → Moves n k next (step b)
 step_both {n} {k} {a} {b} next step h by = subst (λ (x : Auditing). Moves n k next (step x)) (sym h.rest) (by b.report h.report)
 
 choose_both : {n k : ℕ} (c : Bool) (a b x y : Auditing) → Moves n k a x → Moves n k b y → Moves n k (if c then a else b) (if c then x else y)
@@ -74,7 +75,7 @@ as_far k place start = omega arith
 abbrev begin_line : ℕ → ℕ → Sequence → Option PictureNote → List ℕ
 begin_line number bit s n = sequence_line (sequence_record number bit s (kind_of s n))
 
-module _ {n k : ℕ} {a : Auditing} {r : Report} (place : ℕ) (s : Sequence) (t : Together n k a.report r) where
+module _ {n k : ℕ} (a : Auditing) (r : Report) (place : ℕ) (s : Sequence) (t : Together n k a.report r) where
   begin_both : (p q : Option PictureNote) → kind_of s q ≡ kind_of s p
       → Together n k (with_first a place s p).report (with_first (beside k r a) (place + k) s q).report
   begin_both p q e =
@@ -94,17 +95,17 @@ module _ {n k : ℕ} {a : Auditing} {r : Report} (place : ℕ) (s : Sequence) (t
 abbrev pub notes_on : ℕ → PieceNotes → PieceNotes
 notes_on k notes = record notes { picture = option_map (note_on k) notes.picture }
 
-begun_with : {n k : ℕ} {a : Auditing} {r : Report} (first : Option Sequence) (place : ℕ) (notes : PieceNotes) → Together n k a.report r
+begun_with : {n k : ℕ} (a : Auditing) (r : Report) (first : Option Sequence) (place : ℕ) (notes : PieceNotes) → Together n k a.report r
     → Moves n k (begun first a place notes) (begun first (beside k r a) (place + k) (notes_on k notes))
-begun_with (Some first) place notes t = record { report = t; rest = refl }
-begun_with {n} {k} {a} {r} None place notes t = by (slice_get notes.sequences 0)
+begun_with a r (Some first) place notes t = record { report = t; rest = refl }
+begun_with {n} {k} a r None place notes t = by (slice_get notes.sequences 0)
   where
     by : (s : Option (SequenceInfo × SequenceExtension)) → Moves n k (begun_by a place s notes.picture) (begun_by (beside k r a) (place + k) s (option_map (note_on k) notes.picture))
     by None = record { report = t; rest = refl }
-    by (Some s) = first_both place (sequence_of s) t notes.picture
+    by (Some s) = first_both a r place (sequence_of s) t notes.picture
 
 pub begun_both : {n k : ℕ} {a b : Auditing} (place : ℕ) (notes : PieceNotes) → Moves n k a b → Moves n k (begun a.first a place notes) (begun b.first b (place + k) (notes_on k notes))
-begun_both {n} {k} {a} place notes m = step_both (begun a.first a place notes) (λ x. begun x.first x (place + k) (notes_on k notes)) m (λ r t. begun_with a.first place notes t)
+begun_both {n} {k} {a} place notes m = step_both (begun a.first a place notes) (λ x. begun x.first x (place + k) (notes_on k notes)) m (λ r t. begun_with a r a.first place notes t)
 
 -- ---- headers
 
@@ -213,16 +214,17 @@ waiting_further k p e = ap (λ (bit : ℕ). record (waiting_of p) { bit = bit })
 
 place_both : {n k : ℕ} {a b : Auditing} (p : CodedPicture) → IsFurther k p.note → Moves n k a b → Moves n k (with_place a p) (with_place b (coded_on k p))
 place_both {n} {k} {a} p e m = step_both (with_place a p) (λ x. with_place x (coded_on k p)) m (λ r t.
-    let is_anchor = is_b p.note.info.kind in
+    let b = is_b p.note.info.kind in
     let w = waiting_further k p e in
+    let told = told_with_frame (places_on k a.places) (waiting_of (coded_on k p)) b in
     choose_both (ends_frame p.note) _ _ _ _
     (record {
       report =
-          misplaced_told (told_with_frame a.places (waiting_of p) is_anchor) (told_with_frame (places_on k a.places) (waiting_of (coded_on k p)) is_anchor)
-          (ap (λ (x : Waiting). told_with_frame (places_on k a.places) x is_anchor) w ∙ frame_told k a.places (waiting_of p) is_anchor)
+          misplaced_told (told_with_frame a.places (waiting_of p) b) told
+          (ap (λ (x : Waiting). told_with_frame (places_on k a.places) x b) w ∙ frame_told k a.places (waiting_of p) b)
           t;
-      rest = ap (λ (o : Places). record (beside k _ a) { places = o })
-          (ap (λ (x : Waiting). with_frame (places_on k a.places) x is_anchor) w ∙ frame_kept k a.places (waiting_of p) is_anchor);
+      rest = ap (λ (o : Places). record (beside k (with_misplaced r told) a) { places = o })
+          (ap (λ (x : Waiting). with_frame (places_on k a.places) x b) w ∙ frame_kept k a.places (waiting_of p) b);
     })
     (record { report = t; rest = ap (λ (x : Waiting). record (beside k r a) { places = record (places_on k a.places) { begun = Some x } }) w }))
 
@@ -255,27 +257,28 @@ abbrev pub AreFurther : ℕ → Option PictureNote → Type 0
 AreFurther k None = Unit {0}
 AreFurther k (Some p) = IsFurther k p
 
-note_both : {n k : ℕ} {a : Auditing} {r : Report} (s : Option Sequence) (p : Option PictureNote) (place bytes ending : ℕ) → AreFurther k p → Together n k a.report r
+note_both : {n k : ℕ} (a : Auditing) (r : Report) (s : Option Sequence) (p : Option PictureNote) (place bytes ending : ℕ) → AreFurther k p → Together n k a.report r
     → Moves n k (with_note a s p place bytes ending) (with_note (beside k r a) s (option_map (note_on k) p) (place + k) bytes ending)
-note_both {n} {k} {a} {r} s None place bytes ending e t = record {
+note_both {n} {k} a r s None place bytes ending e t = record {
   report = t;
   rest = ap (λ (x : Option Account). record (beside k r a) { account = x }) (more_same k a.account (8 * bytes));
 }
-note_both None (Some p) place bytes ending e t = record { report = t; rest = refl }
-note_both {n} {k} {a} {r} (Some s) (Some p) place bytes ending e t = coded_both (coded a s p) place bytes ending e (record { report = t; rest = refl })
+note_both a r None (Some p) place bytes ending e t = record { report = t; rest = refl }
+note_both {n} {k} a r (Some s) (Some p) place bytes ending e t =
+    coded_both {a = a} {b = beside k r a} (coded a s p) place bytes ending e (record { report = t; rest = refl })
 
 pub pictured_both : {n k : ℕ} {a b : Auditing} (p : Option PictureNote) (place bytes zeros : ℕ) → AreFurther k p → Moves n k a b → Moves n k (pictured a place bytes zeros p) (pictured b (place + k) bytes zeros (option_map (note_on k) p))
 pictured_both {n} {k} {a} p place bytes zeros e m = step_both (pictured a place bytes zeros p) (λ x. pictured x (place + k) bytes zeros (option_map (note_on k) p)) m
-    (λ r t. note_both a.sequence p place bytes zeros e t)
+    (λ r t. note_both a r a.sequence p place bytes zeros e t)
 
 -- ---- removals
 
-settled_with : {n k : ℕ} {a : Auditing} {r : Report} (x : Option Account) → Together n k a.report r → Moves n k (settled_by a x) (settled_by (beside k r a) (option_map (account_on k) x))
-settled_with None t = record { report = t; rest = refl }
-settled_with {n} {k} {a} (Some x) t = record {
+settled_with : {n k : ℕ} (a : Auditing) (r : Report) (x : Option Account) → Together n k a.report r → Moves n k (settled_by a x) (settled_by (beside k r a) (option_map (account_on k) x))
+settled_with a r None t = record { report = t; rest = refl }
+settled_with {n} {k} a r (Some x) t = record {
   report = removals_told a.rate (settled x) (settled (account_on k x)) (settled_same k x) t;
-  rest = ap (λ (y : Account). record (beside k _ a) { account = Some y }) (after_same k x);
+  rest = ap (λ (y : Account). record (beside k (with_removals r a.rate (settled (account_on k x))) a) { account = Some y }) (after_same k x);
 }
 
 pub settled_both : {n k : ℕ} {a b : Auditing} → Moves n k a b → Moves n k (with_settled a) (with_settled b)
-settled_both {n} {k} {a} m = step_both (with_settled a) (λ x. with_settled x) m (λ r t. settled_with a.account t)
+settled_both {n} {k} {a} m = step_both (with_settled a) (λ x. with_settled x) m (λ r t. settled_with a r a.account t)
