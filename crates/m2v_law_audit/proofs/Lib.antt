@@ -29,3 +29,4 @@ pub mod MovedReports
 pub mod MovedKept
 pub mod MovedSteps
 pub mod MovedPieces
+pub mod MovedTexts

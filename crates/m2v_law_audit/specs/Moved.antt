@@ -1,7 +1,10 @@
 -- The report of a sequence as records, and the same records of a sequence that stands further on: behind other sequences, and at
 -- another place of the input.
-use Rattle.std.specs.Prelude.{◌≡◌, ℕ, ◌+◌, ◌*◌, Bool, List, map}
+use Rattle.std.specs.Prelude.{◌≡◌, ℕ, suc, ◌+◌, ◌*◌, Bool, true, List, ◌++◌, length, map}
 use Rattle.std.specs.List.{flat_map}
+use Rattle.m2v_model.specs.Pieces.{pieces}
+use Rattle.m2v_model.specs.ByPieces.{end_of}
+use Rattle.m2v_audit.specs.m2v_check.m2v_dec_piece.Following.{text_after}
 use Rattle.m2v_audit.specs.declared.auditing.Auditing.{Auditing}
 use Rattle.m2v_audit.specs.declared.records.SequenceRecord.{SequenceRecord}
 use Rattle.m2v_audit.specs.declared.records.GroupRecord.{GroupRecord}
@@ -11,9 +14,11 @@ use Rattle.m2v_audit.specs.declared.records.Finding.{Finding}
 use Rattle.m2v_audit.specs.declared.records.FailureRecord.{FailureRecord}
 use Rattle.m2v_audit.specs.declared.records.CountRecord.{CountRecord}
 use Rattle.m2v_audit.specs.declared.records.EndRecord.{EndRecord}
+use Rattle.m2v_audit.specs.declared.records.TotalRecord.{TotalRecord}
 use Rattle.m2v_audit.specs.Auditing.{is_begun}
-use Rattle.m2v_audit.specs.Lines.{skipped_line, sequence_line, group_line, picture_line, held_line, breach_line, failure_line, count_line, end_line}
-use Rattle.m2v_law_audit.specs.Sequences.{sequence_report}
+use Rattle.m2v_audit.specs.Audited.{then_comes, none_counted, counted_with, texts_told, audited}
+use Rattle.m2v_audit.specs.Lines.{audit_line, columns_lines, skipped_line, sequence_line, group_line, picture_line, held_line, breach_line, failure_line, count_line, end_line}
+use Rattle.m2v_law_audit.specs.Sequences.{sequence_report, first_byte}
 
 -- a record of a sequence's report
 pub data Record : Type 0 where
@@ -67,3 +72,22 @@ pub record IsMoved (each : Bool) (number start : ℕ) (text : List ℕ) : Type 0
   pub alone : (sequence_report each 0 0 text).lines ≡ flat_map record_text records
   pub further : (sequence_report each number start text).lines ≡ flat_map record_text (map (moved number start) records)
   pub counted : CountAlike (sequence_report each 0 0 text).kept (sequence_report each number start text).kept
+
+-- ---- text after text
+
+-- Behind a report's first lines stands that of the first text's sequence, and then those of the texts that follow it.
+abbrev pub BeginsWith : Bool → List ℕ → List ℕ → Type 0
+BeginsWith each rules text =
+    let own = sequence_report each 0 0 text in
+    let end = end_of (first_byte 0 text) (pieces text) in
+    audited each rules text
+    ≡ then_comes ((audit_line rules ++ columns_lines) ++ own.lines)
+    (texts_told (length text) each true (counted_with none_counted own.kept) end (text_after text))
+
+-- So does the report of a later text, which begins at a byte, and of no more texts than a number and it.
+abbrev pub GoesOnWith : ℕ → Bool → TotalRecord → ℕ → List ℕ → Type 0
+GoesOnWith n each t start text =
+    let own = sequence_report each t.sequences start text in
+    let end = end_of (first_byte start text) (pieces text) in
+    texts_told (suc n) each true t start text
+    ≡ then_comes own.lines (texts_told n each true (counted_with t own.kept) end (text_after text))

@@ -10,5 +10,5 @@ mod report_laws;
 pub use account_laws::{law_constant, law_removals, law_variable};
 pub use breach_laws::law_breaches;
 pub use laws::law_nothing;
-pub use moved_laws::law_moved;
+pub use moved_laws::{law_moved, law_onward};
 pub use report_laws::{law_parts, law_sequence, law_told_by_lines};
