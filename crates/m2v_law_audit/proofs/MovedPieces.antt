@@ -1,5 +1,5 @@
 -- The report of a sequence that stands further on is that of its text by itself, moved on.
-use Rattle.std.proofs.Common.{◌≡◌, ℕ, ◌+◌, ◌-◌, ◌*◌, ◌≤◌, Bool, true, false, List, [], ◌∷◌, ◌++◌, length, Ok, Err, Option, Some, None, refl, sym, ap, subst, ◌∙◌, arith}
+use Rattle.std.proofs.Common.{◌≡◌, ℕ, ◌+◌, ◌-◌, ◌*◌, Bool, List, [], ◌∷◌, ◌++◌, length, Ok, Err, Option, Some, None, refl, sym, ap, subst, ◌∙◌, arith}
 use Rattle.std.specs.Prelude.{map}
 use Rattle.std.specs.List.{flat_map}
 use Rattle.std.specs.Option.{option_map}
@@ -10,17 +10,17 @@ use Rattle.m2v_model.specs.declared.notes.PictureNote.{PictureNote}
 use Rattle.m2v_model.specs.Units.{cut}
 use Rattle.m2v_model.specs.Pictures.{Pictures, Events, pictures_in}
 use Rattle.m2v_model.specs.Pieces.{zeros_last, pieces, before_pieces}
-use Rattle.m2v_model.specs.PieceNotes.{PieceNotes, note_of, first_note, notes_of}
+use Rattle.m2v_model.specs.PieceNotes.{PieceNotes, first_note, notes_of}
 use Rattle.m2v_model.specs.Buffering.{code_bits}
-use Rattle.m2v_model.specs.ByPieces.{Between, Course, at_start, units_read, piece_read}
+use Rattle.m2v_model.specs.ByPieces.{Between, Course, at_start, units_read}
 use Rattle.m2v_model.proofs.PieceLaws.{placed, piece_is}
 use Rattle.m2v_audit.specs.declared.auditing.Auditing.{Auditing}
 use Rattle.m2v_audit.specs.declared.report.Rate.{Rate}
 use Rattle.m2v_audit.specs.Account.{Account, ended as all_left}
-use Rattle.m2v_audit.specs.Auditing.{nothing, longer, begun, fronted, pictured, with_settled, after_piece, totals_of, with_left, finished, ended_by, ended, cleared, is_begun}
+use Rattle.m2v_audit.specs.Auditing.{nothing, after_piece, totals_of, with_left, finished, ended_by, ended, cleared, is_begun}
 use Rattle.m2v_audit.specs.Places.{told_at_close}
 use Rattle.m2v_audit.specs.Report.{Report}
-use Rattle.m2v_law_audit.specs.Sequences.{SequenceReport, behind, at_end, by_piece, reported, first_byte, sequence_report}
+use Rattle.m2v_law_audit.specs.Sequences.{SequenceReport, behind, at_end, by_piece, reported, sequence_report}
 use Rattle.m2v_law_audit.specs.Moved.{Record, record_text, moved, CountAlike, IsMoved}
 use Rattle.m2v_law_audit.proofs.MovedReports.{Together, misplaced_told, removals_told, end_comes, note_on}
 use Rattle.m2v_law_audit.proofs.MovedKept.{places_on, account_on, close_told, left_same}

@@ -1,5 +1,5 @@
 -- Two runs of one sequence, of which one stands further on: what each step does to both.
-use Rattle.std.proofs.Common.{◌≡◌, ℕ, ◌+◌, ◌-◌, ◌*◌, ◌≤◌, Bool, true, false, List, [], ◌∷◌, ◌++◌, length, Result, Ok, Err, Option, Some, None, refl, sym, ap, subst, ◌∙◌, arith}
+use Rattle.std.proofs.Common.{◌≡◌, ℕ, ◌+◌, ◌-◌, ◌*◌, Bool, true, false, List, [], ◌∷◌, ◌++◌, length, Result, Ok, Err, Option, Some, None, refl, sym, ap, subst, ◌∙◌, arith}
 use Rattle.std.specs.Prelude.{nat_eq, map, slice_get, if◌then◌else◌}
 use Rattle.std.specs.Option.{option_map}
 use Rattle.std.proofs.lemmas.List.{map-append}
@@ -24,15 +24,14 @@ use Rattle.m2v_audit.specs.declared.headers.PieceHeader.TheVariants as headers
 use Rattle.m2v_audit.specs.declared.places.Places.{Places}
 use Rattle.m2v_audit.specs.declared.places.Waiting.{Waiting}
 use Rattle.m2v_audit.specs.declared.words.RateKind.{RateKind}
-use Rattle.m2v_audit.specs.Account.{Account, with_more as account_more, settled, after_settled}
+use Rattle.m2v_audit.specs.Account.{Account, settled}
 use Rattle.m2v_audit.specs.Auditing.{sequence_of, longer, sequence_record, with_first, begun_by, begun, with_sequence, group_record, with_group, with_header, sequences_of, with_headers, bit_of, coded, counted, picture_record, with_told, waiting_of, with_place, due_of, account_by, with_account, with_coded, with_note, settled_by, pictured, with_settled}
 use Rattle.m2v_audit.specs.Findings.{with_misplaced, with_removals}
 use Rattle.m2v_audit.specs.Front.{group_told, group_at, header_at, headers_from, front_of}
 use Rattle.m2v_audit.specs.Lines.{sequence_line, group_line, picture_line}
 use Rattle.m2v_audit.specs.Opening.{kind_of}
-use Rattle.m2v_audit.specs.Places.{group_closed, with_frame, told_with_frame, told_at_close}
+use Rattle.m2v_audit.specs.Places.{with_frame, told_with_frame, told_at_close}
 use Rattle.m2v_audit.specs.Report.{Report}
-use Rattle.m2v_law_audit.specs.Moved.{record_text, moved, of_sequence, of_group, of_picture}
 use Rattle.m2v_law_audit.proofs.MovedReports.{Together, breaches_at, misplaced_told, removals_told, begin_comes, group_comes, picture_comes, rules_come, note_on, coded_on, due_on}
 use Rattle.m2v_law_audit.proofs.MovedKept.{waiting_on, places_on, frame_told, frame_kept, close_told, account_on, settled_same, after_same, more_same, account_same}
 

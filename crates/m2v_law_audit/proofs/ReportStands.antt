@@ -67,7 +67,7 @@ came_behind : (es : Events) (r : Course) (x : Events × Between) → events_behi
 came_behind es (Ok y) x e = (y, refl)
 came_behind es (Err f) x e = absurd cc
 
-pub then_on : (xs ys : List ℕ) (a : Audited) → then_comes (xs ++ ys) a ≡ then_comes xs (then_comes ys a)
+then_on : (xs ys : List ℕ) (a : Audited) → then_comes (xs ++ ys) a ≡ then_comes xs (then_comes ys a)
 then_on xs ys a = ap (λ (l : List ℕ). record { report = l; outcome = a.outcome }) (append_assoc xs ys a.report)
 
 -- ---- what is told of it
