@@ -84,7 +84,7 @@ BeginsWith each rules text =
     ≡ then_comes ((audit_line rules ++ columns_lines) ++ own.lines)
     (texts_told (length text) each true (counted_with none_counted own.kept) end (text_after text))
 
--- So does the report of a later text, which begins at a byte, and of no more texts than a number and it.
+-- The same of a later text, which begins at a byte of the input, and of no more than a number of texts behind it.
 abbrev pub GoesOnWith : ℕ → Bool → TotalRecord → ℕ → List ℕ → Type 0
 GoesOnWith n each t start text =
     let own = sequence_report each t.sequences start text in
