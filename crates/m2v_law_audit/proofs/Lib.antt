@@ -27,3 +27,8 @@ pub mod BreachTexts
 pub mod VerdictTells
 pub mod VerdictRules
 pub mod VerdictLaws
+pub mod MovedReports
+pub mod MovedKept
+pub mod MovedSteps
+pub mod MovedPieces
+pub mod MovedTexts

@@ -5,3 +5,4 @@ pub mod Found
 pub mod Breaches
 pub mod Accounts
 pub mod Verdicts
+pub mod Moved

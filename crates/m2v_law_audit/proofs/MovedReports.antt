@@ -1,0 +1,252 @@
+-- Two reports of which one has the records of the other, moved on: what each call of a report does to both.
+use Rattle.std.proofs.Common.{◌≡◌, ℕ, zero, suc, ◌+◌, ◌*◌, Bool, true, false, List, [], ◌∷◌, ◌++◌, Option, Some, None, sym, ap, subst, ◌∙◌}
+use Rattle.std.specs.Prelude.{nat_eq, map, if◌then◌else◌}
+use Rattle.std.specs.List.{flat_map}
+use Rattle.std.specs.Option.{option_map}
+use Rattle.std.proofs.lemmas.List.{append-nil, map-append}
+use Rattle.std.proofs.lemmas.Grind.{flat_map-append}
+use Rattle.m2v_vbv.specs.declared.removed.Removed.{Removed}
+use Rattle.m2v_model.specs.declared.notes.PictureNote.{PictureNote}
+use Rattle.m2v_model.specs.Lawful.{Breaches, horizontal_rule, vertical_rule, intra_rule, crowd_rule, repeat_rule, progressive_rule, precision_rule}
+use Rattle.m2v_audit.specs.m2v_check.declared.coded.CodedPicture.{CodedPicture}
+use Rattle.m2v_audit.specs.m2v_check.Breaking.{numbered_of}
+use Rattle.m2v_audit.specs.declared.account.Due.{Due}
+use Rattle.m2v_audit.specs.declared.places.Misplaced.{Misplaced}
+use Rattle.m2v_audit.specs.declared.records.SequenceRecord.{SequenceRecord}
+use Rattle.m2v_audit.specs.declared.records.GroupRecord.{GroupRecord}
+use Rattle.m2v_audit.specs.declared.records.PictureRecord.{PictureRecord}
+use Rattle.m2v_audit.specs.declared.records.FailureRecord.{FailureRecord}
+use Rattle.m2v_audit.specs.declared.report.Broken.{Broken}
+use Rattle.m2v_audit.specs.declared.report.Rate.{Rate}
+use Rattle.m2v_audit.specs.declared.report.SequenceTotals.{SequenceTotals}
+use Rattle.m2v_audit.specs.declared.tally.RuleCount.{RuleCount}
+use Rattle.m2v_audit.specs.declared.tally.Tally.{Tally}
+use Rattle.m2v_audit.specs.Account.{Told}
+use Rattle.m2v_audit.specs.Auditing.{bit_of, with_rules}
+use Rattle.m2v_audit.specs.Findings.{broken_at, misplaced_at, with_breaches, with_misplaced, with_removals}
+use Rattle.m2v_audit.specs.Lines.{skipped_line, sequence_line, group_line, picture_line, held_line, breach_line, failure_line, count_line, end_line}
+use Rattle.m2v_audit.specs.Report.{Report, with_text, with_rule, with_failing, with_due, finding_of, with_breach, held_of, under_of, over_of, with_failure, with_held, with_under, with_over, with_removal, with_begin, with_group_line, with_picture_line, count_of, with_count, with_counts, end_of, with_end}
+use Rattle.m2v_law_audit.specs.Moved.{Record, of_skipped, of_sequence, of_group, of_picture, of_held, of_breach, of_failure, of_count, of_end, record_text, moved}
+
+-- a report's records, and another report that has them, so many sequences and so many bytes further on; both count the same
+pub record Together (n k : ℕ) (r s : Report) : Type 0 where
+  pub records : List Record
+  pub own : r.text ≡ flat_map record_text records
+  pub other : s.text ≡ flat_map record_text (map (moved n k) records)
+  pub tally : s.tally ≡ r.tally
+  pub sequence : s.sequence ≡ r.sequence + n
+  pub pictures : s.pictures ≡ r.pictures
+
+-- ---- one record
+
+one_behind : (rs : List Record) (x : Record) → flat_map record_text rs ++ record_text x ≡ flat_map record_text (rs ++ x ∷ [])
+one_behind rs x =
+    ap (λ (l : List ℕ). flat_map record_text rs ++ l) (sym (append-nil (record_text x))) ∙ sym (flat_map-append record_text rs (x ∷ []))
+
+-- a record comes, and other things may be counted then
+counted_line : {n k : ℕ} {r s : Report} (x : Record) (line : List ℕ) (t u : Tally) → Together n k r s → line ≡ record_text (moved n k x) → u ≡ t
+    → Together n k (record r { text = r.text ++ record_text x; tally = t }) (record s { text = s.text ++ line; tally = u })
+counted_line {n} {k} {r} {s} x line t u h e same = record {
+  records = h.records ++ x ∷ [];
+  own = ap (λ (l : List ℕ). l ++ record_text x) h.own ∙ one_behind h.records x;
+  other =
+      ap (λ (l : List ℕ). s.text ++ l) e
+      ∙ ap (λ (l : List ℕ). l ++ record_text (moved n k x)) h.other
+      ∙ one_behind (map (moved n k) h.records) (moved n k x)
+      ∙ ap (λ (rs : List Record). flat_map record_text rs) (sym (map-append (moved n k) h.records (x ∷ [])));
+  tally = same;
+  sequence = h.sequence;
+  pictures = h.pictures;
+}
+
+line_comes : {n k : ℕ} {r s : Report} (x : Record) (line : List ℕ) → Together n k r s → line ≡ record_text (moved n k x) → Together n k (with_text r (record_text x)) (with_text s line)
+line_comes {n} {k} {r} {s} x line h e = counted_line x line r.tally s.tally h e h.tally
+
+-- where there is one
+line_chosen : {n k : ℕ} {r s : Report} (b : Bool) (x : Record) (line : List ℕ) → Together n k r s → line ≡ record_text (moved n k x)
+    → Together n k (if b then with_text r (record_text x) else r) (if b then with_text s line else s)
+line_chosen true x line h e = line_comes x line h e
+line_chosen false x line h e = h
+
+-- where each picture is told
+each_line : {n k : ℕ} {r s : Report} (x : Record) (line : List ℕ) → Together n k r s → line ≡ record_text (moved n k x)
+    → Together n k (if r.pictures then with_text r (record_text x) else r) (if s.pictures then with_text s line else s)
+each_line {n} {k} {r} {s} x line h e =
+    subst (λ (b : Bool). Together n k (if r.pictures then with_text r (record_text x) else r) (if b then with_text s line else s))
+    (sym h.pictures) (line_chosen r.pictures x line h e)
+
+no_line : {n k : ℕ} {r s : Report} → Together n k r s → Together n k (with_text r []) (with_text s [])
+no_line {n} {k} {r} {s} h = record {
+  records = h.records;
+  own = append-nil r.text ∙ h.own;
+  other = append-nil s.text ∙ h.other;
+  tally = h.tally;
+  sequence = h.sequence;
+  pictures = h.pictures;
+}
+
+-- both count something
+both_count : {n k : ℕ} {r s : Report} (f : Tally → Tally) → Together n k r s → Together n k (record r { tally = f r.tally }) (record s { tally = f s.tally })
+both_count f h = record {
+  records = h.records;
+  own = h.own;
+  other = h.other;
+  tally = ap f h.tally;
+  sequence = h.sequence;
+  pictures = h.pictures;
+}
+
+-- ---- breaches
+
+abbrev pub broken_on : ℕ → Broken → Broken
+broken_on k b = record b { bit = b.bit + 8 * k }
+
+breach_comes : {n k : ℕ} {r s : Report} (b : Broken) → Together n k r s → Together n k (with_breach r b) (with_breach s (broken_on k b))
+breach_comes {n} {k} {r} {s} b h =
+    counted_line (of_breach (finding_of r.sequence b)) (breach_line (finding_of s.sequence (broken_on k b)))
+    (with_rule r.tally b.rule b.picture) (with_rule s.tally b.rule b.picture) h
+    (ap (λ (q : ℕ). breach_line (finding_of q (broken_on k b))) h.sequence)
+    (ap (λ (t : Tally). with_rule t b.rule b.picture) h.tally)
+
+breaches_come : {n k : ℕ} (r s : Report) (picture bit : ℕ) (bs : Breaches) → Together n k r s → Together n k (with_breaches r picture bit bs) (with_breaches s picture (bit + 8 * k) bs)
+unfolding with_breaches
+breaches_come r s picture bit [] h = h
+breaches_come {n} {k} r s picture bit (b ∷ bs) h =
+    breaches_come (with_breach r (broken_at picture bit b)) (with_breach s (broken_at picture (bit + 8 * k) b)) picture bit bs (breach_comes (broken_at picture bit b) h)
+
+-- the same at a bit that is so many bytes further on
+pub breaches_at : {n k : ℕ} {r s : Report} (picture bit other : ℕ) (bs : Breaches) → other ≡ bit + 8 * k → Together n k r s → Together n k (with_breaches r picture bit bs) (with_breaches s picture other bs)
+breaches_at {n} {k} {r} {s} picture bit other bs e h =
+    subst (λ (b : ℕ). Together n k (with_breaches r picture bit bs) (with_breaches s picture b bs)) (sym e) (breaches_come r s picture bit bs h)
+
+abbrev pub misplaced_on : ℕ → Misplaced → Misplaced
+misplaced_on k m = record m { bit = m.bit + 8 * k }
+
+abbrev pub maybe_on : ℕ → Option Misplaced → Option Misplaced
+maybe_on k m = option_map (misplaced_on k) m
+
+misplaced_come : {n k : ℕ} (r s : Report) (ms : List (Option Misplaced)) → Together n k r s → Together n k (with_misplaced r ms) (with_misplaced s (map (maybe_on k) ms))
+unfolding with_misplaced
+misplaced_come r s [] h = h
+misplaced_come r s (None ∷ ms) h = misplaced_come r s ms h
+misplaced_come {n} {k} r s (Some m ∷ ms) h =
+    misplaced_come (with_breach r (misplaced_at m)) (with_breach s (misplaced_at (misplaced_on k m))) ms (breach_comes (misplaced_at m) h)
+
+pub misplaced_told : {n k : ℕ} {r s : Report} (ms other : List (Option Misplaced)) → other ≡ map (maybe_on k) ms → Together n k r s → Together n k (with_misplaced r ms) (with_misplaced s other)
+misplaced_told {n} {k} {r} {s} ms other e h =
+    subst (λ (l : List (Option Misplaced)). Together n k (with_misplaced r ms) (with_misplaced s l)) (sym e) (misplaced_come r s ms h)
+
+-- ---- removals
+
+abbrev pub due_on : ℕ → Due → Due
+due_on k d = record d { bit = d.bit + 8 * k }
+
+abbrev pub told_on : ℕ → Told → Told
+told_on k t = (due_on k t.0, t.1)
+
+failure_chosen : {n k : ℕ} {r s : Report} (b : Bool) (f g : FailureRecord) → Together n k r s → failure_line g ≡ record_text (moved n k (of_failure f))
+    → Together n k (if b then with_failure r f else r) (if b then with_failure s g else s)
+failure_chosen {n} {k} {r} {s} true f g h e =
+    counted_line (of_failure f) (failure_line g) (with_failing r.tally) (with_failing s.tally) h e (ap (λ (t : Tally). with_failing t) h.tally)
+failure_chosen false f g h e = h
+
+module _ (k : ℕ) (rate : Rate) (d : Due) (t : Removed) where
+  held_comes : {n : ℕ} {r s : Report} → Together n k r s → Together n k (with_held r rate d t) (with_held s rate (due_on k d) t)
+  held_comes {n} {r} {s} h =
+      each_line (of_held (held_of r.sequence rate d t)) (held_line (held_of s.sequence rate (due_on k d) t)) h
+      (ap (λ (q : ℕ). held_line (held_of q rate (due_on k d) t)) h.sequence)
+
+  under_comes : {n : ℕ} {r s : Report} → Together n k r s → Together n k (with_under r rate d t) (with_under s rate (due_on k d) t)
+  under_comes {n} {r} {s} h =
+      failure_chosen t.is_under (under_of r.sequence rate d t) (under_of s.sequence rate (due_on k d) t) h
+      (ap (λ (q : ℕ). failure_line (under_of q rate (due_on k d) t)) h.sequence)
+
+  over_comes : {n : ℕ} {r s : Report} → Together n k r s → Together n k (with_over r rate d t) (with_over s rate (due_on k d) t)
+  over_comes {n} {r} {s} h =
+      failure_chosen t.is_over (over_of r.sequence rate d t) (over_of s.sequence rate (due_on k d) t) h
+      (ap (λ (q : ℕ). failure_line (over_of q rate (due_on k d) t)) h.sequence)
+
+  removal_comes : {n : ℕ} {r s : Report} → Together n k r s → Together n k (with_removal r rate d t) (with_removal s rate (due_on k d) t)
+  removal_comes h = both_count (λ (x : Tally). with_due x rate.constant d t) (over_comes (under_comes (held_comes h)))
+
+removals_come : {n k : ℕ} (r s : Report) (rate : Rate) (ts : List Told) → Together n k r s → Together n k (with_removals r rate ts) (with_removals s rate (map (told_on k) ts))
+unfolding with_removals
+removals_come r s rate [] h = h
+removals_come {n} {k} r s rate (t ∷ ts) h =
+    removals_come (with_removal r rate t.0 t.1) (with_removal s rate (due_on k t.0) t.1) rate ts (removal_comes k rate t.0 t.1 h)
+
+pub removals_told : {n k : ℕ} {r s : Report} (rate : Rate) (ts other : List Told) → other ≡ map (told_on k) ts → Together n k r s → Together n k (with_removals r rate ts) (with_removals s rate other)
+removals_told {n} {k} {r} {s} rate ts other e h =
+    subst (λ (l : List Told). Together n k (with_removals r rate ts) (with_removals s rate l)) (sym e) (removals_come r s rate ts h)
+
+-- ---- other lines
+
+skipped_chosen : {n k : ℕ} {r s : Report} (none : Bool) (start skipped : ℕ) → Together n k r s
+    → Together n k (with_text r (if none then [] else skipped_line r.sequence start skipped)) (with_text s (if none then [] else skipped_line s.sequence (start + k) skipped))
+skipped_chosen true start skipped h = no_line h
+skipped_chosen {n} {k} {r} {s} false start skipped h =
+    line_comes (of_skipped r.sequence start skipped) (skipped_line s.sequence (start + k) skipped) h
+    (ap (λ (q : ℕ). skipped_line q (start + k) skipped) h.sequence)
+
+pub begin_comes : {n k : ℕ} {r s : Report} (skipped other start : ℕ) (x y : SequenceRecord) → other ≡ skipped → sequence_line y ≡ record_text (moved n k (of_sequence x)) → Together n k r s
+    → Together n k (with_begin r skipped start x) (with_begin s other (start + k) y)
+begin_comes {n} {k} {r} {s} skipped other start x y e f h =
+    subst (λ (m : ℕ). Together n k (with_begin r skipped start x) (with_begin s m (start + k) y)) (sym e)
+    (line_comes (of_sequence x) (sequence_line y) (skipped_chosen (nat_eq skipped 0) start skipped h) f)
+
+pub group_comes : {n k : ℕ} {r s : Report} (g other : GroupRecord) → group_line other ≡ record_text (moved n k (of_group g)) → Together n k r s → Together n k (with_group_line r g) (with_group_line s other)
+group_comes g other e h = each_line (of_group g) (group_line other) h e
+
+pub picture_comes : {n k : ℕ} {r s : Report} (p other : PictureRecord) → picture_line other ≡ record_text (moved n k (of_picture p)) → Together n k r s → Together n k (with_picture_line r p) (with_picture_line s other)
+picture_comes p other e h = each_line (of_picture p) (picture_line other) h e
+
+-- ---- the end
+
+-- how often a rule was broken, where it was
+abbrev count_by : RuleCount → Report → ℕ → Report
+count_by c r rule =
+    if nat_eq c.how_often 0 then r
+    else with_text r (count_line (record { sequence = r.sequence; rule = rule; how_often = c.how_often; picture = c.picture }))
+
+count_chosen : {n k : ℕ} {r s : Report} (none : Bool) (c : RuleCount) (rule : ℕ) → Together n k r s
+    → Together n k (if none then r else with_text r (count_line (record { sequence = r.sequence; rule = rule; how_often = c.how_often; picture = c.picture })))
+    (if none then s else with_text s (count_line (record { sequence = s.sequence; rule = rule; how_often = c.how_often; picture = c.picture })))
+count_chosen true c rule h = h
+count_chosen {n} {k} {r} {s} false c rule h =
+    line_comes (of_count (record { sequence = r.sequence; rule = rule; how_often = c.how_often; picture = c.picture })) _ h
+    (ap (λ (q : ℕ). count_line (record { sequence = q; rule = rule; how_often = c.how_often; picture = c.picture })) h.sequence)
+
+count_comes : {n k : ℕ} {r s : Report} (rule : ℕ) → Together n k r s → Together n k (with_count r rule) (with_count s rule)
+count_comes {n} {k} {r} {s} rule h =
+    let c = count_of r.tally rule in
+    subst (λ (t : Tally). Together n k (with_count r rule) (count_by (count_of t rule) s rule)) (sym h.tally) (count_chosen (nat_eq c.how_often 0) c rule h)
+
+counts_come : {n k : ℕ} {r s : Report} (rules : ℕ) → Together n k r s → Together n k (with_counts rules r) (with_counts rules s)
+unfolding with_counts
+counts_come zero h = h
+counts_come (suc rules) h = count_comes (suc rules) (counts_come rules h)
+
+-- the end of a sequence of this number, by what was counted
+abbrev end_by : ℕ → Tally → SequenceTotals → List ℕ
+end_by sequence tally totals = end_line (end_of (record { text = []; tally = tally; sequence = sequence; pictures = true }) totals)
+
+pub end_comes : {n k : ℕ} {r s : Report} (totals : SequenceTotals) → Together n k r s → Together n k (with_end r totals) (with_end s totals)
+end_comes {n} {k} {r} {s} totals h =
+    line_comes (of_end (end_of r totals)) (end_line (end_of s totals)) (counts_come 15 h)
+    (ap (λ (q : ℕ). end_by q s.tally totals) h.sequence ∙ ap (λ (t : Tally). end_by (r.sequence + n) t totals) h.tally)
+
+-- ---- a picture's rules
+
+abbrev pub note_on : ℕ → PictureNote → PictureNote
+note_on k n = record n { code_end = n.code_end + 8 * k }
+
+abbrev pub coded_on : ℕ → CodedPicture → CodedPicture
+coded_on k p = record p { note = note_on k p.note }
+
+pub rules_come : {n k : ℕ} {r s : Report} (constant : Bool) (p : CodedPicture) → bit_of (note_on k p.note) ≡ bit_of p.note + 8 * k → Together n k r s
+    → Together n k (with_rules r constant p) (with_rules s constant (coded_on k p))
+rules_come {n} {k} constant p e h =
+    let c = numbered_of p in
+    let xs : Breaches = horizontal_rule c ++ vertical_rule c ++ intra_rule c in
+    let ys : Breaches = crowd_rule c ++ repeat_rule constant c ++ progressive_rule c ++ precision_rule c in
+    breaches_at p.number (bit_of p.note) (bit_of (note_on k p.note)) ys e (breaches_at p.number (bit_of p.note) (bit_of (note_on k p.note)) xs e h)
