@@ -41,7 +41,7 @@ def case_lines(name, words, inputs, more, answer):
     wanted = (['status %d' % status] if status else []) + (['report ' + line] if line else [])
     if output:
         wanted += output_lines(output, any(text.startswith(('each', 'prefix')) for text in more))
-    return ['case audit: ' + name, 'words ' + words, *inputs, *more, *wanted]
+    return ['case audit' + name, 'words ' + words, *inputs, *more, *wanted]
 
 
 def input_lines(parts):
@@ -58,7 +58,7 @@ def new_case(name, parts, words='audit', more=(), fault=None, comment='', wanted
     inputs = list(input_lines(parts))
     answer = wanted or report(bytes_in(inputs), '--pictures' in words, fault=fault)
     answer = (*said, answer[2]) if said else answer
-    return [*comment_lines(comment), *case_lines(name, words, inputs, more, answer)]
+    return [*comment_lines(comment), *case_lines(': ' + name, words, inputs, more, answer)]
 
 
 # what `audit` answers where `check` says this
@@ -75,7 +75,7 @@ def again():
         status, line = int(said.get('status', 0)), said['report']
         answer = report(bytes_in(inputs), fault=fault_in(status, line))
         assert answer[0] in ANSWERS[line.split()[0]] and (answer[0] < 9 or answer[0] == 18 or answer[1] == line), name
-        yield case_lines(name.removeprefix('check: '), 'audit', inputs, (), answer)
+        yield case_lines(' as ' + name, 'audit', inputs, (), answer)
 
 
 def table():

@@ -1,15 +1,17 @@
 #!/usr/bin/env python3
-"""Gives `decode` and `check` 10,000 damaged streams: each is to be answered at once and in little memory.
+"""Gives `decode`, `check` and `audit` 10,000 damaged streams: each is to be answered at once and in little memory.
 
     bench/stress/damage.py PROGRAM [COUNT] [SEED]
 
 PROGRAM is the built program. Streams of I, P and B pictures, of frames and fields, with every kind of prediction, are
 those that bench/cases/pictures.py makes, and some that PROGRAM itself encodes. COUNT of them (10,000 where no number is
-given) are damaged: bits turned, bytes replaced, taken out, doubled or exchanged, start codes put in, units exchanged,
-the end cut off. Of each, `decode` and `check` must end within 10 seconds and 256 MB with one of their statuses and its
-line, and `decode` with whole frames; by four workers, which may take 1 GB of addresses, it must give the same. Then
-streams of a megabyte that are dear to read are timed beside an ordinary one: many tiny slices, many headers, the
-longest escapes.
+given), some of them two streams one behind the other, are damaged: bits turned, bytes replaced, taken out, doubled or
+exchanged, start codes put in, units exchanged, the end cut off. Of each, `decode`, `check` and `audit` must end within 10
+seconds and 256 MB with one of their statuses and its line, and `decode` with whole frames; by four workers, which may
+take 1 GB of addresses, it must give the same. The report of `audit`, with each picture told and without, must be the one
+that bench/cases/audited.py makes, where a fault is the one that `check` tells of the text in which it is; and its records of
+the first sequence must go with what `check` says. Then streams of a megabyte that are dear to read are timed beside an
+ordinary one: many tiny slices, many headers, the longest escapes.
 
 It ends with status 1 where a stream was not so answered; that stream is left in /tmp/damaged."""
 
@@ -28,6 +30,7 @@ from pathlib import Path
 CASES = Path(__file__).resolve().parent.parent / 'cases'
 sys.path.insert(0, str(CASES))
 
+from audited import report, texts
 from pictures_writer import ESCAPED_INCREMENT, FRAME, I, INCREMENT, Picture, headers, sequence
 
 KIND = (r'(NoSequence|NotMpeg2|Unsupported|Truncated|NoCode|BadMarker|Forbidden|SequenceChanged|SliceOrder|'
@@ -39,6 +42,9 @@ LINES = {
                  r'variable frames \d+ pictures \d+ bytes \d+)',
               9: r'stream %s at bit \d+' % KIND, 10: r'unlawful rule \d+ picture \d+ have \d+ need \d+',
               11: r'buffer (under|over) picture \d+ have \d+ need \d+', 13: 'too long', 14: 'picture too large'},
+    'audit': {0: r'clean sequences \d+ pictures \d+ bytes \d+ warnings 0', 9: r'stream %s at bit \d+' % KIND,
+              13: 'too long', 14: 'picture too large',
+              18: r'found sequences \d+ pictures \d+ bytes \d+ breaches \d+ failures \d+ warnings 0'},
 }
 SECONDS, MEMORY, MEMORY_BY_FOUR = 10, 256 << 20, 1 << 30
 BY_FOUR = 'decode --workers 4'
@@ -75,16 +81,60 @@ def trouble(program, data):
             return '%s answered %d: %s' % (command, status, line), answers
         if command == 'check' and output:
             return 'check wrote %d bytes' % len(output), answers
-    decoded, checked = answers
+    decoded, checked, _ = answers
     if (decoded[1] == 9) != (checked[1] == 9):
         return 'decode and check differ: %d and %d' % (decoded[1], checked[1]), answers
     try:
         by_four = run(program, BY_FOUR, data, memory=MEMORY_BY_FOUR)[:3]
+        audited = audit_trouble(program, data, said)
     except subprocess.TimeoutExpired:
-        return '%s did not end within %d seconds' % (BY_FOUR, SECONDS), answers
+        return '%s, or audit, did not end within %d seconds' % (BY_FOUR, SECONDS), answers
     if by_four != said['decode']:
         return '%s answered %d: %s, and %d bytes' % (BY_FOUR, *by_four[:2], len(by_four[2])), answers
-    return None, answers
+    return audited, answers
+
+
+def audit_trouble(program, data, said):
+    """What is wrong with the reports on a stream, where something is."""
+    if not agrees(said['check'], said['audit'][2].decode()):
+        return 'check and audit differ: %s' % said['check'][1]
+    fault = first_fault(program, data)
+    for command, pictures in (('audit', False), ('audit --pictures', True)):
+        answer = said[command] if command in said else run(program, command, data)[:3]
+        try:
+            wanted = report(data, pictures, fault=fault)
+        except (AssertionError, KeyError, IndexError, AttributeError, TypeError) as trouble_here:
+            return 'audited.py finds no report: %r' % trouble_here
+        if answer != wanted:
+            return '%s answered %d: %s, and %d bytes, not %d: %s' % (command, *answer[:2], len(answer[2]), *wanted[:2])
+    return None
+
+
+def first_fault(program, data):
+    """The kind and the place of the first fault of the input, as `check` tells it of the text that begins there. A text
+    behind an end code needs no sequence."""
+    for start, pieces, _ in texts(data):
+        if start and not pieces:
+            return None
+        status, line, _, _ = run(program, 'check', data[start:])
+        if status == 9:
+            return line.split()[1], 8 * start + int(line.split()[4])
+        if status in (13, 14):
+            return None
+
+
+def agrees(checked, output):
+    """Whether the records of the first sequence go with a verdict on it."""
+    records = [line.split('\t') for line in output.splitlines() if not line.startswith(('audit', 'columns'))]
+    if not records or records[-1][0] != 'total':
+        return False
+    kinds = [r[0] for r in records if r[1] == '0']
+    rate = next((r[12] for r in records if r[:2] == ['sequence', '0']), None)
+    if checked[0] in (0, 10, 11) and not {'sequence', 'end'} <= set(kinds):
+        return False
+    broken, failed = 'breach' in kinds, 'failure' in kinds
+    return {0: not broken and (rate == 'variable' if checked[1].startswith('variable') else not failed),
+            10: broken, 11: not broken and failed and rate == 'constant'}.get(checked[0], True)
 
 
 def units(data):
@@ -209,7 +259,7 @@ def main():
         whole = streams(program, folder)
     print('%d whole streams' % len(whole))
     counts = Counter()
-    work = (damaged(draw, draw.choice(whole)) for _ in range(count))
+    work = (damaged(draw, draw.choice(whole) + draw.choice([b'', b'', draw.choice(whole)])) for _ in range(count))
     with ThreadPoolExecutor(os.cpu_count()) as pool:
         for data, (wrong, answers) in pool.map(lambda data: (data, trouble(program, data)), list(work)):
             counts.update(answers)
