@@ -1,13 +1,13 @@
 #!/usr/bin/env python3
 """Writes the report of `audit` on a stream, by the rules alone.
 
-    bench/cases/audited.py [--pictures] [--fault KIND BIT] < STREAM
+    bench/cases/audited.py [--pictures] < STREAM
     bench/cases/audited.py --self-test [COUNT] [SEED]
 
-It shares nothing with the program: the streams are read by the parser of bench/cases/verdicts.py, whose rules 1 to 15 these
-are, the account of the buffer is that of bench/cases/audited_account.py, and the lines are put together by
-bench/cases/audited_records.py. It finds no faults: where a stream has one, it is handed in. --self-test draws accounts and
-streams, and holds the report against a simulation in time and against the verdicts of `check`.
+It shares nothing with the program: faults are found by bench/cases/faults.py, what comes before them is read by the parser
+of bench/cases/verdicts.py, whose rules 1 to 15 these are, the account of the buffer is that of
+bench/cases/audited_account.py, and the lines are put together by bench/cases/audited_records.py. --self-test draws accounts
+and streams, and holds the report against a simulation in time and against the verdicts of `check`.
 
 A text is the input, and then what stands behind each sequence end code. Of each the pieces are told in turn, a piece
 being a picture with the headers before it, up to the next header, picture or end behind it."""
@@ -18,6 +18,7 @@ from dataclasses import dataclass
 
 from audited_account import account, fields, rate_of
 from audited_records import Records, head, line
+from faults import first_fault
 from pictures_writer import B, I, P
 from verdicts import (END, GROUP, PICTURE, SEQUENCE, Coded, Group, Parser, Sequence, header_breaches, parts,
                       picture_breaches)
@@ -46,18 +47,16 @@ def texts(data):
         start, onward = end, bool(units) and units[-1][1] == END
 
 
-def stop_in(data, pieces, fault):
+def stop_in(data, start, pieces):
     """The first piece that isn't told, or the end behind all of them, and the record and the line that say why."""
-    def said(kind, bit):
-        return ('fault', bit, kind), (9, 'stream %s at bit %d' % (kind, bit))
-    if not pieces:
-        return 0, *said('NoSequence', 8 * len(data))
+    fault = first_fault(data, start)
+    said = (('fault', fault[1], fault[0]), (9, 'stream %s at bit %d' % fault)) if fault else (None, None)
     for number, (begin, end) in enumerate(pieces):
         if len(data[begin:end].rstrip(b'\0')) > MOST_BYTES:
             return number, ('limit', 'too_large'), (14, 'picture too large')
         if fault and (fault[1] < 8 * end or fault[1] == 8 * end and fault[0] not in AHEAD):
-            return number, *said(*fault)
-    return len(pieces), *(said(*fault) if fault else (None, None))
+            return number, *said
+    return len(pieces), *said
 
 
 # ---- places in display order
@@ -96,7 +95,7 @@ def misplaced(stream, low_delay):
 
 @dataclass
 class Picture:
-    """A picture: where it begins, the bits of its piece and what follows it, and those up to the end of its start code."""
+    """A picture: where it begins, the bits of its piece and what follows it, and those to the end of its start code."""
     coded: Coded
     bit: int
     bits: int
@@ -129,8 +128,8 @@ class Told:
         s, begin = self.first, self.pieces[0][0]
         if start < begin:
             self.records.put('skipped', start, begin - start)
-        self.records.put('sequence', 8 * begin, s.width, s.height, s.code, s.aspect, s.level, s.progressive, s.low_delay,
-                         s.rate, s.buffer, self.rate)
+        self.records.put('sequence', 8 * begin, s.width, s.height, s.code, s.aspect, s.level, s.progressive,
+                         s.low_delay, s.rate, s.buffer, self.rate)
 
     def piece(self, begin, end):
         while self.headers and self.headers[0][0] < 8 * end:
@@ -205,14 +204,14 @@ def ending(told):
     return 0, 'clean %s warnings %d' % (counts, warnings)
 
 
-def report(data, pictures=False, rules='main', fault=None):
-    """The status, the line and the output of an input, whose first fault, if it has one, is this kind at this bit."""
+def report(data, pictures=False, rules='main'):
+    """The status, the line and the output of an input."""
     told, lines, answer = [], [head(rules)], None
     for start, pieces, end in texts(data):
         if not pieces and start > 0:
             lines += [line('skipped', len(told), start, end - start)] if start < end else []
             break
-        stop, record, answer = stop_in(data, pieces, fault if fault and (fault[1] < 8 * end or end == len(data)) else None)
+        stop, record, answer = stop_in(data, start, pieces)
         sequence = Told(len(told), pictures, data, start, pieces[:stop]) if stop else None
         records = sequence.records if sequence else Records(len(told), pictures)
         if record:
@@ -235,11 +234,7 @@ def main():
         import audited_trials
         audited_trials.main(*map(int, words[1:]))
         return
-    fault = None
-    if '--fault' in words:
-        at = words.index('--fault')
-        fault = words[at + 1], int(words[at + 2])
-    status, said, output = report(sys.stdin.buffer.read(), '--pictures' in words, fault=fault)
+    status, said, output = report(sys.stdin.buffer.read(), '--pictures' in words)
     sys.stdout.buffer.write(output)
     print(said, file=sys.stderr)
     sys.exit(status)

@@ -15,7 +15,7 @@ UNIT = 1800
 
 @dataclass
 class Inflow:
-    """How bits come: the rate, what the buffer takes, the step in which a decoder waits, and whether the rate varies."""
+    """How bits come: the rate, what the buffer takes, in what steps a decoder waits, and whether the rate varies."""
     k: int
     size: int
     step: int
@@ -108,8 +108,8 @@ def rate_of(first, pictures):
 
 
 def filled(first, pictures, sizes):
-    """How the buffer is filled behind a first sequence header, what came when the first picture is due, and the pictures,
-    where each has so many bits and so many of them up to the end of its start code."""
+    """How the buffer is filled behind a first sequence header, what came when the first picture is due, and the
+    pictures, where each has so many bits and so many of them up to the end of its start code."""
     field, varies = FIELD_UNITS[first.code], pictures[0].delay == 65535
     flow = Inflow(first.rate, UNIT * 16384 * first.buffer, 2 * field if first.low_delay else 1, varies)
     at_first = flow.size if varies else UNIT * sizes[0][1] + 8 * flow.k * pictures[0].delay

@@ -1,5 +1,5 @@
-"""The streams of the cases of `audit` on the decoder's buffer, which bench/cases/audited_cases.py prints. Behind `small` and
-`interlaced` 1,600 bits come in the time of a frame at 25 frames a second, and the buffer takes 16,384."""
+"""The streams of the cases of `audit` on the decoder's buffer, which bench/cases/audited_cases.py prints. Behind `small`
+and `interlaced` 1,600 bits come in the time of a frame at 25 frames a second, and the buffer takes 16,384."""
 
 from audited_streams import case, each, section
 from pictures_writer import B, END, I, P, group
@@ -29,14 +29,13 @@ def rates():
                        ('a frame rate that is multiplied', dict(n=1)), ('a frame rate that is divided', dict(d=1))):
         each('no account: ' + name, small(**more) + picture)
     each('an account: a frame rate above the level', small(code=6) + picture)
-    each('an account: another level and another DC precision', small(level=73) + group(1) + one(I, precision=3, delay=20000)
-         + END)
+    each('an account: another level and another DC precision', small(level=73) + group(1)
+         + one(I, precision=3, delay=20000) + END)
     each('no account in a later header', small() + group(1) + one(I, delay=20000) + small(rate=0, code=0) + one(P, 1)
          + END, comment='The first one counts.')
-    each('a constant rate that varies in the second picture', with_delay(at(20000, small() + group(1) + one(I) + one(P, 1)
-                                                                            + END), 1, VARIABLE))
-    each('a variable rate that is constant in the second picture', with_delay(small() + group(1) + one(I) + one(P, 1)
-                                                                              + END, 1, 20000))
+    two = small() + group(1) + one(I) + one(P, 1) + END
+    each('a constant rate that varies in the second picture', with_delay(at(20000, two), 1, VARIABLE))
+    each('a variable rate that is constant in the second picture', with_delay(two, 1, 20000))
 
 
 def under():

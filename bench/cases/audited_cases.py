@@ -2,8 +2,7 @@
 """Prints the cases of `audit`: what is wanted is the report that bench/cases/audited.py makes by the rules alone.
 
 Streams are changes of those of the table, or put together by bench/cases/pictures_writer.py, and all those of the cases of
-`check` once more. A fault's place is that of the case of `decode` or `check` on the same stream, moved by the bytes before
-it."""
+`check` once more."""
 
 import audited_buffers  # its sections stand behind those of audited_streams
 from audited import report
@@ -31,11 +30,6 @@ def output_lines(output, whole):
     yield from ('length %d' % len(output), 'sum %d' % total)
 
 
-def fault_in(status, line):
-    words = line.split()
-    return (words[1], int(words[4])) if status == 9 else None
-
-
 def case_lines(name, words, inputs, more, answer):
     status, line, output = answer
     wanted = (['status %d' % status] if status else []) + (['report ' + line] if line else [])
@@ -56,7 +50,8 @@ def bytes_in(lines):
 def new_case(name, parts, words='audit', more=(), fault=None, comment='', wanted=None, said=None):
     """A stream with its report, unless another answer is wanted, or another status and line are said."""
     inputs = list(input_lines(parts))
-    answer = wanted or report(bytes_in(inputs), '--pictures' in words, fault=fault)
+    answer = wanted or report(bytes_in(inputs), '--pictures' in words)
+    assert bool(fault) == (answer[0] == 9) and (not fault or answer[1] == 'stream %s at bit %d' % fault), name
     answer = (*said, answer[2]) if said else answer
     return [*comment_lines(comment), *case_lines(': ' + name, words, inputs, more, answer)]
 
@@ -73,7 +68,7 @@ def again():
         inputs = ['%s %s' % line for line in lines if line[0] == 'input']
         said = dict(lines)
         status, line = int(said.get('status', 0)), said['report']
-        answer = report(bytes_in(inputs), fault=fault_in(status, line))
+        answer = report(bytes_in(inputs))
         assert answer[0] in ANSWERS[line.split()[0]] and (answer[0] < 9 or answer[0] == 18 or answer[1] == line), name
         yield case_lines(' as ' + name, 'audit', inputs, (), answer)
 

@@ -8,10 +8,10 @@ those that bench/cases/pictures.py makes, and some that PROGRAM itself encodes. 
 given), some of them two streams one behind the other, are damaged: bits turned, bytes replaced, taken out, doubled or
 exchanged, start codes put in, units exchanged, the end cut off. Of each, `decode`, `check` and `audit` must end within 10
 seconds and 256 MB with one of their statuses and its line, and `decode` with whole frames; by four workers, which may
-take 1 GB of addresses, it must give the same. The report of `audit`, with each picture told and without, must be the one
-that bench/cases/audited.py makes, where a fault is the one that `check` tells of the text in which it is; and its records of
-the first sequence must go with what `check` says. Then streams of a megabyte that are dear to read are timed beside an
-ordinary one: many tiny slices, many headers, the longest escapes.
+take 1 GB of addresses, it must give the same. A fault must be the one that bench/cases/faults.py finds, and the report of
+`audit`, with each picture told and without, the one that bench/cases/audited.py makes, whose records of the first sequence
+must go with what `check` says. Then streams of a megabyte that are dear to read are timed beside an ordinary one: many
+tiny slices, many headers, the longest escapes.
 
 It ends with status 1 where a stream was not so answered; that stream is left in /tmp/damaged."""
 
@@ -30,7 +30,8 @@ from pathlib import Path
 CASES = Path(__file__).resolve().parent.parent / 'cases'
 sys.path.insert(0, str(CASES))
 
-from audited import report, texts
+from audited import report
+from faults import first_fault
 from pictures_writer import ESCAPED_INCREMENT, FRAME, I, INCREMENT, Picture, headers, sequence
 
 KIND = (r'(NoSequence|NotMpeg2|Unsupported|Truncated|NoCode|BadMarker|Forbidden|SequenceChanged|SliceOrder|'
@@ -47,7 +48,7 @@ LINES = {
               18: r'found sequences \d+ pictures \d+ bytes \d+ breaches \d+ failures \d+ warnings 0'},
 }
 SECONDS, MEMORY, MEMORY_BY_FOUR = 10, 256 << 20, 1 << 30
-BY_FOUR = 'decode --workers 4'
+BY_FOUR, EACH = 'decode --workers 4', 'audit --pictures'
 END = b'\0\0\1\xb7'
 
 
@@ -81,46 +82,29 @@ def trouble(program, data):
             return '%s answered %d: %s' % (command, status, line), answers
         if command == 'check' and output:
             return 'check wrote %d bytes' % len(output), answers
-    decoded, checked, _ = answers
-    if (decoded[1] == 9) != (checked[1] == 9):
-        return 'decode and check differ: %d and %d' % (decoded[1], checked[1]), answers
+    fault = first_fault(data)
+    for command in ('decode', 'check'):
+        if (said[command][1] if said[command][0] == 9 else None) != (fault and 'stream %s at bit %d' % fault):
+            return '%s answered %d: %s, where the fault is %s' % (command, *said[command][:2], fault), answers
     try:
         by_four = run(program, BY_FOUR, data, memory=MEMORY_BY_FOUR)[:3]
-        audited = audit_trouble(program, data, said)
+        told = run(program, EACH, data)[:3]
     except subprocess.TimeoutExpired:
-        return '%s, or audit, did not end within %d seconds' % (BY_FOUR, SECONDS), answers
+        return '%s, or %s, did not end within %d seconds' % (BY_FOUR, EACH, SECONDS), answers
     if by_four != said['decode']:
         return '%s answered %d: %s, and %d bytes' % (BY_FOUR, *by_four[:2], len(by_four[2])), answers
-    return audited, answers
+    return audit_trouble(data, said['check'], said['audit'], told), answers
 
 
-def audit_trouble(program, data, said):
+def audit_trouble(data, checked, short, told):
     """What is wrong with the reports on a stream, where something is."""
-    if not agrees(said['check'], said['audit'][2].decode()):
-        return 'check and audit differ: %s' % said['check'][1]
-    fault = first_fault(program, data)
-    for command, pictures in (('audit', False), ('audit --pictures', True)):
-        answer = said[command] if command in said else run(program, command, data)[:3]
-        try:
-            wanted = report(data, pictures, fault=fault)
-        except (AssertionError, KeyError, IndexError, AttributeError, TypeError) as trouble_here:
-            return 'audited.py finds no report: %r' % trouble_here
+    for command, answer, pictures in (('audit', short, False), (EACH, told, True)):
+        wanted = report(data, pictures)
         if answer != wanted:
             return '%s answered %d: %s, and %d bytes, not %d: %s' % (command, *answer[:2], len(answer[2]), *wanted[:2])
+    if not agrees(checked, short[2].decode()):
+        return 'check and audit differ: %s' % checked[1]
     return None
-
-
-def first_fault(program, data):
-    """The kind and the place of the first fault of the input, as `check` tells it of the text that begins there. A text
-    behind an end code needs no sequence."""
-    for start, pieces, _ in texts(data):
-        if start and not pieces:
-            return None
-        status, line, _, _ = run(program, 'check', data[start:])
-        if status == 9:
-            return line.split()[1], 8 * start + int(line.split()[4])
-        if status in (13, 14):
-            return None
 
 
 def agrees(checked, output):
@@ -234,6 +218,7 @@ def dear():
         'escapes for all coefficients, 16 by 16': of_a_megabyte(small, intra(0) + longest),
         'user data without end, 16 by 16': of_a_megabyte(small + intra(0), b'\0\0\1\xb2')[:-4] + plain + END,
         'group headers without pictures, 16 by 16': of_a_megabyte(small, b'\0\0\1\xb8\0\x08\0\0'),
+        'sequences without pictures, 16 by 16': of_a_megabyte(b'', small + END),
     }
 
 
