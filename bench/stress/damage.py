@@ -10,8 +10,8 @@ exchanged, start codes put in, units exchanged, the end cut off. Of each, `decod
 seconds and 256 MB with one of their statuses and its line, and `decode` with whole frames; by four workers, which may
 take 1 GB of addresses, it must give the same. A fault must be the one that bench/cases/faults.py finds, and the report of
 `audit`, with each picture told and without, the one that bench/cases/audited.py makes, whose records of the first sequence
-must go with what `check` says. Then streams of a megabyte that are dear to read are timed beside an ordinary one: many
-tiny slices, many headers, the longest escapes.
+must go with what `check` says. Then streams of a megabyte that are dear to read are timed beside an ordinary one, and
+their reports looked at: many tiny slices, many headers, many sequences, the longest escapes.
 
 It ends with status 1 where a stream was not so answered; that stream is left in /tmp/damaged."""
 
@@ -257,9 +257,12 @@ def main():
     print('ordinary, %d bytes: ' % len(data) + ', '.join('%s %.2f s a megabyte' % it for it in base.items()))
     for name, data in dear().items():
         for command in LINES:
-            status, line, _, took = run(program, command, data, 120)
+            status, line, output, took = run(program, command, data, 120)
             print('%s, %d bytes: %s %d (%s), %.2f s, %.1f times' % (name, len(data), command, status, line, took,
                                                                     took / base[command]))
+            if command == 'audit' and (status, line, output) != report(data):
+                Path('/tmp/damaged').write_bytes(data)
+                sys.exit('%s: another report is wanted; the stream is /tmp/damaged' % name)
 
 
 if __name__ == '__main__':
