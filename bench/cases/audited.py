@@ -3,11 +3,13 @@
 
     bench/cases/audited.py [--pictures] < STREAM
     bench/cases/audited.py --self-test [COUNT] [SEED]
+    bench/cases/audited.py --program 'PROGRAM audit' [COUNT] [SEED]
 
 It shares nothing with the program: faults are found by bench/cases/faults.py, what comes before them is read by the parser
 of bench/cases/verdicts.py, whose rules 1 to 15 these are, the account of the buffer is that of
 bench/cases/audited_account.py, and the lines are put together by bench/cases/audited_records.py. --self-test draws accounts
-and streams, and holds the report against a simulation in time and against the verdicts of `check`.
+and streams, and holds the report against a simulation in time and against the verdicts of `check`. --program holds a program
+against the report, on the streams of the table, drawn ones and damaged ones.
 
 A text is the input, and then what stands behind each sequence end code. Of each the pieces are told in turn, a piece
 being a picture with the headers before it, up to the next header, picture or end behind it."""
@@ -233,6 +235,10 @@ def main():
     if words[:1] == ['--self-test']:
         import audited_trials
         audited_trials.main(*map(int, words[1:]))
+        return
+    if words[:1] == ['--program']:
+        import audited_trials
+        audited_trials.hold_program(words[1], *map(int, words[2:]))
         return
     status, said, output = report(sys.stdin.buffer.read(), '--pictures' in words)
     sys.stdout.buffer.write(output)

@@ -3,6 +3,7 @@ in which bits come unit by unit, and its reports on drawn streams against what `
 rule on places as it runs, and against each other."""
 
 import random
+import subprocess
 from bisect import bisect_left
 from collections import Counter
 
@@ -10,6 +11,7 @@ from audited import report, texts
 from audited_account import UNIT, Inflow, filled, rate_of, removals, removed
 from audited_records import RULES
 from pictures_writer import B, BOTTOM, END, I, P, TOP, group, sequence
+from table_lines import read_bytes, read_table
 from verdicts import Account, Coded, Group, Parser, breaches, verdict
 from verdicts_cases import WOVEN, one, with_delay
 
@@ -311,6 +313,54 @@ def try_streams(count, seed):
             try_in_time(data, told)
         before = data
     return seen
+
+
+# ---- a program held against the reports
+
+def table_streams():
+    """The inputs of all cases on streams, each once."""
+    streams, cases = read_table()
+    inputs = {}
+    for lines in cases.values():
+        if dict(lines).get('words', '').split()[:1] in (['decode'], ['check'], ['audit']):
+            inputs.setdefault(b''.join(read_bytes(streams, rest) for key, rest in lines if key == 'input'))
+    return list(inputs)
+
+
+def damaged_streams(draw, whole, count):
+    """Streams with a few bits turned, and one behind the other."""
+    for _ in range(count):
+        data = bytearray(draw.choice(whole) + draw.choice([b'', b'', draw.choice(whole)]))
+        for _ in range(draw.choice([0, 1, 1, 2, 5]) if data else 0):
+            data[draw.randrange(len(data))] ^= 1 << draw.randrange(8)
+        yield bytes(data)
+
+
+def first_other(output, wanted):
+    """The first line of each that differs."""
+    lines = zip(output.splitlines() + [b'nothing'], wanted.splitlines() + [b'nothing'])
+    return next((a.decode('ascii', 'replace'), b.decode()) for a, b in lines if a != b)
+
+
+def hold_program(program, count=2000, seed=1):
+    """Gives the streams of the table, drawn ones and damaged ones to a program that writes the report of its input, told
+    by words; answers how many reports were the same, and the least stream with another one."""
+    draw, wrong, same = random.Random(seed), [], 0
+    whole = table_streams()
+    drawn = [drawn_stream(draw) for _ in range(count)]
+    small = [data for data in whole + drawn if len(data) < 5000]
+    for data in [*whole, *drawn, *damaged_streams(draw, small, count)]:
+        for words in ([], ['--pictures']):
+            output = subprocess.run([*program.split(), *words], input=data, capture_output=True, check=False).stdout
+            wanted = report(data, bool(words))[2]
+            same += output == wanted
+            if output != wanted:
+                wrong.append((len(data), words, data, output, wanted))
+    print('%d reports are the same, %d are not' % (same, len(wrong)))
+    if wrong:
+        _, words, data, output, wanted = min(wrong)
+        hold(False, 'of %d bytes, by the words %s: %s, and %s is wanted' % (len(data), words, *first_other(output, wanted)),
+             data)
 
 
 def main(count=4000, seed=1):
