@@ -2,7 +2,7 @@
 """Prints the cases of `check` on a grey frame's stream that is changed byte by byte.
 
 Each place is counted in bits by the rules; where `decode` is asked the same, its cases stand further up, and the two
-must say the same fault."""
+must say the same fault. What `audit` is to say of these streams bench/cases/audited_cases.py prints, as of all of `check`."""
 
 from table_lines import comment_lines, read_table
 

@@ -61,9 +61,22 @@ class Sequence:
     d: int
     progressive: int
     low_delay: int
+    aspect: int
 
     def limits(self):
         return LEVELS.get(self.level, LEVELS[72])
+
+
+@dataclass
+class Group:
+    """What a group header says."""
+    drop: int
+    hours: int
+    minutes: int
+    seconds: int
+    pictures: int
+    closed: int
+    broken: int
 
 
 @dataclass
@@ -84,9 +97,11 @@ class Coded:
     concealment: int
     repeat: int
     progressive: int
+    top_first: int
     code_end: int
     bits: int = 0
     crowded: int = 0
+    dropped: bool = False
 
     def used(self, part):
         """The used f_codes of a part, 0 across or 1 down: forward, then backward."""
@@ -107,13 +122,28 @@ class Crowds(SliceReader):
         self.begin = self.reader.place
 
 
+def parts(data, start=0):
+    """Units from the first sequence header up to the end code: where each begins, its value, and where it ends."""
+    units, at = [], data.find(b'\0\0\1', start)
+    while 0 <= at < len(data) - 3:
+        value, following = data[at + 3], data.find(b'\0\0\1', at + 4)
+        end = following if 0 <= following < len(data) - 3 else len(data)
+        if units or value == SEQUENCE:
+            units.append((at, value, at + 4 if value == END else end))
+            if value == END:
+                break
+        at = following
+    return units
+
+
 class Parser(Decoder):
-    """Reads a stream without its samples: sequence headers and pictures, from the first sequence header on."""
+    """Reads a stream without its samples: sequence headers, group headers and pictures, from the first sequence header
+    on. All of them stand in `headers`, each behind the byte where it begins."""
 
     def __init__(self, data):
         super().__init__()
-        self.sequences, self.coded, self.groups, self.leads = [], [], 0, False
-        units = self.parts(data)
+        self.sequences, self.coded, self.headers, self.groups, self.leads = [], [], [], 0, False
+        units = parts(data)
         self.first, self.end = units[0][0], units[-1][2]
         starts = [self.first]
         self.units_left = [(value, Reader(data[at + 4:end]), at) for at, value, end in units]
@@ -131,28 +161,19 @@ class Parser(Decoder):
             picture.bits = 8 * (stop - start)
         self.total = 8 * (self.end - self.first)
 
-    def parts(self, data):
-        """Units from the first sequence header up to the end code: where each begins, its value, and where it ends."""
-        units, at = [], data.find(b'\0\0\1')
-        while 0 <= at < len(data) - 3:
-            value, following = data[at + 3], data.find(b'\0\0\1', at + 4)
-            end = following if 0 <= following < len(data) - 3 else len(data)
-            if units or value == SEQUENCE:
-                units.append((at, value, at + 4 if value == END else end))
-                if value == END:
-                    break
-            at = following
-        return units
-
     def take(self, value, reader, at):
         if value == SEQUENCE:
             self.take_sequence(reader, self.extension())
+            self.headers.append((at, self.sequences[-1]))
         elif value == GROUP:
-            reader.number(25)
-            self.closed, self.leads = reader.number(1), True
+            drop, hours, minutes, _, *others = (reader.number(bits) for bits in (1, 5, 6, 1, 6, 6, 1, 1))
+            group = Group(drop, hours, minutes, *others)
+            self.closed, self.leads = group.closed, True
             self.groups += 1
+            self.headers.append((at, group))
         elif value == PICTURE:
             self.take_picture(reader, self.extension(), 8 * (at - self.first) + 32)
+            self.headers.append((at, self.coded[-1]))
         elif 1 <= value <= 0xAF and not self.dropping:
             Crowds(self, reader, value - 1).read()
 
@@ -163,14 +184,13 @@ class Parser(Decoder):
 
     def take_sequence(self, reader, extension):
         width, height = reader.number(12), reader.number(12)
-        reader.number(4)
-        code, rate, _, buffer = (reader.number(bits) for bits in (4, 18, 1, 10))
+        aspect, code, rate, _, buffer = (reader.number(bits) for bits in (4, 4, 18, 1, 10))
         _, level, progressive, _, _, _ = (extension.number(bits) for bits in (4, 8, 1, 2, 2, 2))
         rate += extension.number(12) << 18
         extension.number(1)
         buffer += extension.number(8) << 10
         low_delay, n, d = (extension.number(bits) for bits in (1, 2, 5))
-        self.sequences.append(Sequence(level, width, height, code, rate, buffer, n, d, progressive, low_delay))
+        self.sequences.append(Sequence(level, width, height, code, rate, buffer, n, d, progressive, low_delay, aspect))
         reader.place = extension.place = 0
         self.sequence(reader, extension)
 
@@ -178,15 +198,17 @@ class Parser(Decoder):
         temporal, kind, delay = (reader.number(bits) for bits in (10, 3, 16))
         extension.number(4)
         f_codes = [extension.number(4) for _ in range(4)]
-        precision, structure, _, frame_only, concealment, _, _, _, repeat, _, progressive = (
+        precision, structure, top_first, frame_only, concealment, _, _, _, repeat, _, progressive = (
             extension.number(bits) for bits in (2, 2, 1, 1, 1, 1, 1, 1, 1, 1, 1))
         ends_frame = structure == FRAME or self.waits
-        frame = sum(picture.ends_frame for picture in self.coded)
+        frame = self.coded[-1].frame + self.coded[-1].ends_frame if self.coded else 0
         self.coded.append(Coded(self.sequences[-1], self.groups, self.leads, frame, ends_frame, kind, temporal, delay,
-                                f_codes, precision, structure, frame_only, concealment, repeat, progressive, code_end))
+                                f_codes, precision, structure, frame_only, concealment, repeat, progressive, top_first,
+                                code_end))
         self.leads, self.crowds = False, {}
         reader.place = extension.place = 0
         self.open(reader, extension)
+        self.coded[-1].dropped = self.dropping
 
     def close(self):
         if self.picture:
@@ -201,23 +223,32 @@ class Parser(Decoder):
         self.frames.append(frame)
 
 
-# ---- rules: what breaks one, as picture, have and need
+# ---- rules: what breaks one, as have and need
 
-def at_most(picture, have, need):
-    return [] if have <= need else [(picture, have, need)]
+def at_most(have, need):
+    return [] if have <= need else [(have, need)]
 
 
-def within(picture, have, low, high):
-    return [(picture, have, low)] if have < low else at_most(picture, have, high)
+def within(have, low, high):
+    return [(have, low)] if have < low else at_most(have, high)
 
 
 def frame_rate(s):
-    return within(0, s.code, 1, s.limits()[2]) + at_most(0, 32 * s.n + s.d, 0)
+    return within(s.code, 1, s.limits()[2]) + at_most(32 * s.n + s.d, 0)
 
 
 def luma_rate(s):
     units = 2 * FIELD_UNITS.get(s.code, 0)
-    return at_most(0, 720000 * s.width * s.height, s.limits()[3] * units)
+    return at_most(720000 * s.width * s.height, s.limits()[3] * units)
+
+
+def header_breaches(s):
+    """What a sequence header breaks: rule, have, need."""
+    for rule, broken in enumerate((
+            [] if s.level in LEVELS else [(s.level, 72)], at_most(s.width, s.limits()[0]),
+            at_most(s.height, s.limits()[1]), frame_rate(s), luma_rate(s), within(s.rate, 1, s.limits()[4]),
+            within(s.buffer, 1, s.limits()[5])), 1):
+        yield from ((rule, have, need) for have, need in broken)
 
 
 def places(pictures, low_delay):
@@ -241,30 +272,32 @@ def places(pictures, low_delay):
     return found
 
 
+def picture_breaches(p, constant):
+    """What a picture breaks by itself, so but for rule 11: rule, have, need."""
+    may_repeat = not p.sequence.progressive and p.progressive and p.structure == FRAME
+    is_progressive = p.frame_only and p.progressive
+    for rule, broken in (
+            (8, [b for f in p.used(0) if p.sequence.level not in (70, 68) for b in at_most(f, 8)]),
+            (9, [b for f in p.used(1) for b in at_most(f, 5 if p.structure == FRAME else 4)]),
+            (10, [(p.kind, 1)] if p.leads_group and p.kind != I else []),
+            (12, at_most(p.crowded, 2)),
+            (13, [(1, 0)] if constant and p.repeat and not may_repeat else []),
+            (14, [(0, 1)] if p.sequence.progressive and not is_progressive else []),
+            (15, at_most(p.precision, 2))):
+        yield from ((rule, have, need) for have, need in broken)
+
+
 def breaches(stream):
     """All that is broken: picture, rule, have, need."""
     sequences, pictures = stream.sequences, stream.coded
     for s in sequences:
-        for rule, broken in enumerate((
-                [] if s.level in LEVELS else [(0, s.level, 72)], at_most(0, s.width, s.limits()[0]),
-                at_most(0, s.height, s.limits()[1]), frame_rate(s), luma_rate(s), within(0, s.rate, 1, s.limits()[4]),
-                within(0, s.buffer, 1, s.limits()[5])), 1):
-            yield from ((picture, rule, have, need) for picture, have, need in broken)
+        yield from ((0, *broken) for broken in header_breaches(s))
     place = places(pictures, bool(sequences[0].low_delay))
     for number, p in enumerate(pictures):
         wanted = place[p.frame] % 1024
-        may_repeat = not p.sequence.progressive and p.progressive and p.structure == FRAME
-        is_progressive = p.frame_only and p.progressive
-        for rule, broken in (
-                (8, [b for f in p.used(0) if p.sequence.level not in (70, 68) for b in at_most(number, f, 8)]),
-                (9, [b for f in p.used(1) for b in at_most(number, f, 5 if p.structure == FRAME else 4)]),
-                (10, [(number, p.kind, 1)] if p.leads_group and p.kind != I else []),
-                (11, [(number, p.temporal, wanted)] if p.temporal != wanted else []),
-                (12, at_most(number, p.crowded, 2)),
-                (13, [(number, 1, 0)] if pictures[0].delay != 65535 and p.repeat and not may_repeat else []),
-                (14, [(number, 0, 1)] if p.sequence.progressive and not is_progressive else []),
-                (15, at_most(number, p.precision, 2))):
-            yield from ((picture, rule, have, need) for picture, have, need in broken)
+        if p.temporal != wanted:
+            yield number, 11, p.temporal, wanted
+        yield from ((number, *broken) for broken in picture_breaches(p, pictures[0].delay != 65535))
 
 
 # ---- the buffer

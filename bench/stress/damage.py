@@ -1,15 +1,17 @@
 #!/usr/bin/env python3
-"""Gives `decode` and `check` 10,000 damaged streams: each is to be answered at once and in little memory.
+"""Gives `decode`, `check` and `audit` 10,000 damaged streams: each is to be answered at once and in little memory.
 
     bench/stress/damage.py PROGRAM [COUNT] [SEED]
 
 PROGRAM is the built program. Streams of I, P and B pictures, of frames and fields, with every kind of prediction, are
 those that bench/cases/pictures.py makes, and some that PROGRAM itself encodes. COUNT of them (10,000 where no number is
-given) are damaged: bits turned, bytes replaced, taken out, doubled or exchanged, start codes put in, units exchanged,
-the end cut off. Of each, `decode` and `check` must end within 10 seconds and 256 MB with one of their statuses and its
-line, and `decode` with whole frames; by four workers, which may take 1 GB of addresses, it must give the same. Then
-streams of a megabyte that are dear to read are timed beside an ordinary one: many tiny slices, many headers, the
-longest escapes.
+given), some of them two streams one behind the other, are damaged: bits turned, bytes replaced, taken out, doubled or
+exchanged, start codes put in, units exchanged, the end cut off. Of each, `decode`, `check` and `audit` must end within 10
+seconds and 256 MB with one of their statuses and its line, and `decode` with whole frames; by four workers, which may
+take 1 GB of addresses, it must give the same. A fault must be the one that bench/cases/faults.py finds, and the report of
+`audit`, with each picture told and without, the one that bench/cases/audited.py makes, whose records of the first sequence
+must go with what `check` says. Then streams of a megabyte that are dear to read are timed beside an ordinary one, and
+their reports looked at: many tiny slices, many headers, many sequences, the longest escapes.
 
 It ends with status 1 where a stream was not so answered; that stream is left in /tmp/damaged."""
 
@@ -28,6 +30,8 @@ from pathlib import Path
 CASES = Path(__file__).resolve().parent.parent / 'cases'
 sys.path.insert(0, str(CASES))
 
+from audited import report
+from faults import first_fault
 from pictures_writer import ESCAPED_INCREMENT, FRAME, I, INCREMENT, Picture, headers, sequence
 
 KIND = (r'(NoSequence|NotMpeg2|Unsupported|Truncated|NoCode|BadMarker|Forbidden|SequenceChanged|SliceOrder|'
@@ -39,9 +43,12 @@ LINES = {
                  r'variable frames \d+ pictures \d+ bytes \d+)',
               9: r'stream %s at bit \d+' % KIND, 10: r'unlawful rule \d+ picture \d+ have \d+ need \d+',
               11: r'buffer (under|over) picture \d+ have \d+ need \d+', 13: 'too long', 14: 'picture too large'},
+    'audit': {0: r'clean sequences \d+ pictures \d+ bytes \d+ warnings 0', 9: r'stream %s at bit \d+' % KIND,
+              13: 'too long', 14: 'picture too large',
+              18: r'found sequences \d+ pictures \d+ bytes \d+ breaches \d+ failures \d+ warnings 0'},
 }
 SECONDS, MEMORY, MEMORY_BY_FOUR = 10, 256 << 20, 1 << 30
-BY_FOUR = 'decode --workers 4'
+BY_FOUR, EACH = 'decode --workers 4', 'audit --pictures'
 END = b'\0\0\1\xb7'
 
 
@@ -75,16 +82,43 @@ def trouble(program, data):
             return '%s answered %d: %s' % (command, status, line), answers
         if command == 'check' and output:
             return 'check wrote %d bytes' % len(output), answers
-    decoded, checked = answers
-    if (decoded[1] == 9) != (checked[1] == 9):
-        return 'decode and check differ: %d and %d' % (decoded[1], checked[1]), answers
+    fault = first_fault(data)
+    for command in ('decode', 'check'):
+        if (said[command][1] if said[command][0] == 9 else None) != (fault and 'stream %s at bit %d' % fault):
+            return '%s answered %d: %s, where the fault is %s' % (command, *said[command][:2], fault), answers
     try:
         by_four = run(program, BY_FOUR, data, memory=MEMORY_BY_FOUR)[:3]
+        told = run(program, EACH, data)[:3]
     except subprocess.TimeoutExpired:
-        return '%s did not end within %d seconds' % (BY_FOUR, SECONDS), answers
+        return '%s, or %s, did not end within %d seconds' % (BY_FOUR, EACH, SECONDS), answers
     if by_four != said['decode']:
         return '%s answered %d: %s, and %d bytes' % (BY_FOUR, *by_four[:2], len(by_four[2])), answers
-    return None, answers
+    return audit_trouble(data, said['check'], said['audit'], told), answers
+
+
+def audit_trouble(data, checked, short, told):
+    """What is wrong with the reports on a stream, where something is."""
+    for command, answer, pictures in (('audit', short, False), (EACH, told, True)):
+        wanted = report(data, pictures)
+        if answer != wanted:
+            return '%s answered %d: %s, and %d bytes, not %d: %s' % (command, *answer[:2], len(answer[2]), *wanted[:2])
+    if not agrees(checked, short[2].decode()):
+        return 'check and audit differ: %s' % checked[1]
+    return None
+
+
+def agrees(checked, output):
+    """Whether the records of the first sequence go with a verdict on it."""
+    records = [line.split('\t') for line in output.splitlines() if not line.startswith(('audit', 'columns'))]
+    if not records or records[-1][0] != 'total':
+        return False
+    kinds = [r[0] for r in records if r[1] == '0']
+    rate = next((r[12] for r in records if r[:2] == ['sequence', '0']), None)
+    if checked[0] in (0, 10, 11) and not {'sequence', 'end'} <= set(kinds):
+        return False
+    broken, failed = 'breach' in kinds, 'failure' in kinds
+    return {0: not broken and (rate == 'variable' if checked[1].startswith('variable') else not failed),
+            10: broken, 11: not broken and failed and rate == 'constant'}.get(checked[0], True)
 
 
 def units(data):
@@ -184,6 +218,7 @@ def dear():
         'escapes for all coefficients, 16 by 16': of_a_megabyte(small, intra(0) + longest),
         'user data without end, 16 by 16': of_a_megabyte(small + intra(0), b'\0\0\1\xb2')[:-4] + plain + END,
         'group headers without pictures, 16 by 16': of_a_megabyte(small, b'\0\0\1\xb8\0\x08\0\0'),
+        'sequences without pictures, 16 by 16': of_a_megabyte(b'', small + END),
     }
 
 
@@ -209,7 +244,7 @@ def main():
         whole = streams(program, folder)
     print('%d whole streams' % len(whole))
     counts = Counter()
-    work = (damaged(draw, draw.choice(whole)) for _ in range(count))
+    work = (damaged(draw, draw.choice(whole) + draw.choice([b'', b'', draw.choice(whole)])) for _ in range(count))
     with ThreadPoolExecutor(os.cpu_count()) as pool:
         for data, (wrong, answers) in pool.map(lambda data: (data, trouble(program, data)), list(work)):
             counts.update(answers)
@@ -222,9 +257,12 @@ def main():
     print('ordinary, %d bytes: ' % len(data) + ', '.join('%s %.2f s a megabyte' % it for it in base.items()))
     for name, data in dear().items():
         for command in LINES:
-            status, line, _, took = run(program, command, data, 120)
+            status, line, output, took = run(program, command, data, 120)
             print('%s, %d bytes: %s %d (%s), %.2f s, %.1f times' % (name, len(data), command, status, line, took,
                                                                     took / base[command]))
+            if command == 'audit' and (status, line, output) != report(data):
+                Path('/tmp/damaged').write_bytes(data)
+                sys.exit('%s: another report is wanted; the stream is /tmp/damaged' % name)
 
 
 if __name__ == '__main__':

@@ -100,6 +100,8 @@ def main():
                 ('decode', ['decode'], plain),
                 ('decode by two workers', ['decode', '--workers', '2'], plain),
                 ('check', ['check'], plain),
+                ('audit', ['audit'], plain + plain),
+                ('audit with each picture', ['audit', '--pictures'], plain + plain),
                 ('make', ['make', '1'], b''),
         ):
             tried(program, name, words, data, shim, folder)

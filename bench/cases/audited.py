@@ -1,0 +1,250 @@
+#!/usr/bin/env python3
+"""Writes the report of `audit` on a stream, by the rules alone.
+
+    bench/cases/audited.py [--pictures] < STREAM
+    bench/cases/audited.py --self-test [COUNT] [SEED]
+    bench/cases/audited.py --program 'PROGRAM audit' [COUNT] [SEED]
+
+It shares nothing with the program: faults are found by bench/cases/faults.py, what comes before them is read by the parser
+of bench/cases/verdicts.py, whose rules 1 to 15 these are, the account of the buffer is that of
+bench/cases/audited_account.py, and the lines are put together by bench/cases/audited_records.py. --self-test draws accounts
+and streams, and holds the report against a simulation in time and against the verdicts of `check`. --program holds a program
+against the report, on the streams of the table, drawn ones and damaged ones.
+
+A text is the input, and then what stands behind each sequence end code. Of each the pieces are told in turn, a piece
+being a picture with the headers before it, up to the next header, picture or end behind it."""
+
+import sys
+from collections import defaultdict, deque
+from dataclasses import dataclass
+
+from audited_account import account, fields, rate_of
+from audited_records import Records, head, line
+from faults import first_fault
+from pictures_writer import B, I, P
+from verdicts import (END, GROUP, PICTURE, SEQUENCE, Coded, Group, Parser, Sequence, header_breaches, parts,
+                      picture_breaches)
+
+MOST_BYTES = 2097152
+# faults that are told at the header or the end that they are found at; others at an edge end the piece before it
+AHEAD = ('FieldPair', 'SequenceChanged', 'MissingReference')
+STRUCTURES = {1: 'top', 2: 'bottom', 3: 'frame'}
+TYPES = {I: 'I', P: 'P', B: 'B'}
+
+
+# ---- texts and pieces
+
+def texts(data):
+    """Each text: where it begins, the bytes of each of its pieces, and where the next one begins or the input ends."""
+    start, onward = 0, True
+    while onward:
+        units, edges, pictured = parts(data, start), [], False
+        for at, value, _ in units:
+            if not edges or pictured and value in (PICTURE, SEQUENCE, END, GROUP):
+                edges.append(at)
+                pictured = False
+            pictured = pictured or value == PICTURE
+        end = units[-1][2] if units else len(data)
+        yield start, list(zip(edges, edges[1:] + [end])), end
+        start, onward = end, bool(units) and units[-1][1] == END
+
+
+def stop_in(data, start, pieces):
+    """The first piece that isn't told, or the end behind all of them, and the record and the line that say why."""
+    fault = first_fault(data, start)
+    said = (('fault', fault[1], fault[0]), (9, 'stream %s at bit %d' % fault)) if fault else (None, None)
+    for number, (begin, end) in enumerate(pieces):
+        if len(data[begin:end].rstrip(b'\0')) > MOST_BYTES:
+            return number, ('limit', 'too_large'), (14, 'picture too large')
+        if fault and (fault[1] < 8 * end or fault[1] == 8 * end and fault[0] not in AHEAD):
+            return number, *said
+    return len(pieces), *said
+
+
+# ---- places in display order
+
+def shown_in_order(frames, low_delay):
+    """The frames of a group, sorted: an anchor comes right before the one decoded next, and the last one last."""
+    keys, behind = [], len(frames)
+    for number, frame in reversed(list(enumerate(frames))):
+        anchor = frame[-1][1].kind != B and not low_delay
+        keys.append((behind - 0.5 if anchor else number, number))
+        behind = number if anchor else behind
+    return [number for _, number in sorted(keys)]
+
+
+def misplaced(stream, low_delay):
+    """What breaks rule 11 by what it is known: by the picture that ends a frame or by the group header of a number."""
+    frames, told = defaultdict(list), defaultdict(list)
+    for number, p in enumerate(stream.coded):
+        frames[p.frame].append((number, p))
+    groups = defaultdict(list)
+    for frame in frames.values():
+        if frame[-1][1].ends_frame:
+            groups[frame[-1][1].group].append(frame)
+    for group, members in groups.items():
+        anchors = [number for number, frame in enumerate(members) if frame[-1][1].kind != B]
+        following = dict(zip(anchors, anchors[1:]))
+        for place, number in enumerate(shown_in_order(members, low_delay)):
+            known = number if low_delay or number not in anchors else following.get(number)
+            by = ('group', group) if known is None else ('picture', members[known][-1][0])
+            told[by] += [(number, p.temporal, place % 1024) for number, p in members[number]
+                         if p.temporal != place % 1024]
+    return told
+
+
+# ---- a sequence
+
+@dataclass
+class Picture:
+    """A picture: where it begins, the bits of its piece and what follows it, and those to the end of its start code."""
+    coded: Coded
+    bit: int
+    bits: int
+    code_bits: int
+
+
+class Told:
+    """What is told of a sequence: of its pieces up to the one where it stops."""
+
+    def __init__(self, number, each, data, start, pieces):
+        self.records, self.pieces, self.data = Records(number, each), pieces, data
+        base, end = pieces[0][0], pieces[-1][1]
+        stream = Parser(data[base:end])
+        self.headers = deque((8 * (base + at), header) for at, header in stream.headers)
+        self.first, self.low_delay = stream.sequences[0], bool(stream.sequences[0].low_delay)
+        self.misplaced = misplaced(stream, self.low_delay)
+        self.pictures = [Picture(header, bit, 0, 0) for bit, header in self.headers if isinstance(header, Coded)]
+        for p, (begin, end) in zip(self.pictures, pieces):
+            p.bits, p.code_bits = 8 * (end - begin), p.bit + 32 - 8 * begin
+        if self.pictures:
+            self.pictures[-1].bits = 8 * (pieces[-1][1] - pieces[len(self.pictures) - 1][0])
+        self.rate = rate_of(self.first, stream.coded)
+        self.removals = account(self.first, stream.coded, [(p.bits, p.code_bits) for p in self.pictures])
+        self.at = self.groups = self.told = self.gone = 0
+        self.begin(start)
+        for piece in pieces:
+            self.piece(*piece)
+
+    def begin(self, start):
+        s, begin = self.first, self.pieces[0][0]
+        if start < begin:
+            self.records.put('skipped', start, begin - start)
+        self.records.put('sequence', 8 * begin, s.width, s.height, s.code, s.aspect, s.level, s.progressive,
+                         s.low_delay, s.rate, s.buffer, self.rate)
+
+    def piece(self, begin, end):
+        while self.headers and self.headers[0][0] < 8 * end:
+            bit, header = self.headers.popleft()
+            if isinstance(header, Sequence):
+                for broken in header_breaches(header):
+                    self.records.breach(self.at, bit, *broken)
+            elif isinstance(header, Group):
+                self.group(bit, header)
+            else:
+                self.picture(bit, header, begin, end)
+        # a removal is told once its picture is whole and no more bits change what is told of it
+        while self.told < min(self.at - 1, len(self.removals)):
+            r = self.removals[self.told]
+            if 1800 * (8 * (end - self.pieces[0][0]) - self.gone) < r.reach:
+                break
+            self.removal(r)
+
+    def group(self, bit, g):
+        self.places(('group', self.groups))
+        self.records.put_each('group', self.groups, bit, self.at, g.drop, g.hours, g.minutes, g.seconds, g.pictures,
+                              g.closed, g.broken)
+        self.groups += 1
+
+    def picture(self, bit, p, begin, end):
+        piece = self.data[begin:end]
+        self.records.put_each('picture', self.at, bit, TYPES[p.kind], STRUCTURES[p.structure], p.temporal,
+                              8 * len(piece), 8 * (len(piece) - len(piece.rstrip(b'\0'))), p.delay, fields(p),
+                              int(p.dropped))
+        for broken in picture_breaches(p, self.pictures[0].coded.delay != 65535):
+            self.records.breach(self.at, bit, *broken)
+        self.places(('picture', self.at))
+        self.at += 1
+
+    def places(self, by):
+        for number, have, need in self.misplaced[by]:
+            self.records.breach(number, self.pictures[number].bit, 11, have, need)
+
+    def removal(self, r):
+        p = self.pictures[self.told]
+        self.records.removal(self.told, p.bit, p.coded, r, self.first, self.rate == 'constant')
+        self.gone, self.told = self.gone + p.bits, self.told + 1
+
+    def left(self):
+        """At the end: the places of the last group, and the removals that are left."""
+        self.places(('group', self.groups))
+        for r in self.removals[self.told:]:
+            self.removal(r)
+
+    def end(self):
+        coded = [p.coded for p in self.pictures]
+        self.records.end(len(coded), sum(p.ends_frame and not p.dropped for p in coded), self.groups, self.size())
+
+    def size(self):
+        return self.pieces[-1][1] - self.pieces[0][0]
+
+
+# ---- the whole
+
+def totals(told):
+    """The sums of the sequences: pictures, bytes, breaches, failures and warnings."""
+    return (sum(len(t.pictures) for t in told), sum(t.size() for t in told), sum(t.records.breaches() for t in told),
+            sum(t.records.failures for t in told), 0)
+
+
+def ending(told):
+    """The status and the line where all was read."""
+    pictures, size, breaches, failures, warnings = totals(told)
+    counts = 'sequences %d pictures %d bytes %d' % (len(told), pictures, size)
+    if breaches or failures:
+        return 18, 'found %s breaches %d failures %d warnings %d' % (counts, breaches, failures, warnings)
+    return 0, 'clean %s warnings %d' % (counts, warnings)
+
+
+def report(data, pictures=False, rules='main'):
+    """The status, the line and the output of an input."""
+    told, lines, answer = [], [head(rules)], None
+    for start, pieces, end in texts(data):
+        if not pieces and start > 0:
+            lines += [line('skipped', len(told), start, end - start)] if start < end else []
+            break
+        stop, record, answer = stop_in(data, start, pieces)
+        sequence = Told(len(told), pictures, data, start, pieces[:stop]) if stop else None
+        records = sequence.records if sequence else Records(len(told), pictures)
+        if record:
+            records.put(*record)
+        else:
+            sequence.left()
+        if sequence:
+            sequence.end()
+            told.append(sequence)
+        lines += records.lines
+        if record:
+            break
+    lines.append(line('total', len(told), *totals(told)))
+    return *(answer or ending(told)), ''.join(lines).encode()
+
+
+def main():
+    words = sys.argv[1:]
+    if words[:1] == ['--self-test']:
+        import audited_trials
+        audited_trials.main(*map(int, words[1:]))
+        return
+    if words[:1] == ['--program']:
+        import audited_trials
+        audited_trials.hold_program(words[1], *map(int, words[2:]))
+        return
+    status, said, output = report(sys.stdin.buffer.read(), '--pictures' in words)
+    sys.stdout.buffer.write(output)
+    print(said, file=sys.stderr)
+    sys.exit(status)
+
+
+if __name__ == '__main__':
+    main()
