@@ -21,7 +21,10 @@ SECOND = 720000
 # units of 1/720,000 s that a field takes, by frame_rate_code
 FIELDS = {1: 15015, 2: 15000, 3: 14400, 4: 12012, 5: 12000, 6: 7200, 7: 6006, 8: 6000}
 COLOURS = {'I': '#c64600', 'P': '#1a5fb4', 'B': '#62a0ea'}
-GREY, RED = '#666', '#c01c28'
+GREY, RED, PALE = '#666', '#c01c28', ' fill-opacity=".3"'
+# seconds between two numbers of the axis
+STEPS = (0.2, 0.5, 1, 2, 5, 10, 20, 60, 120, 300, 600, 1200, 3600, 7200, 36000, 360000)
+LATE = 'fill="%s" fill-opacity=".15"' % RED
 # letters over a line stay readable
 HALO = ' fill="%s" stroke="#fff" stroke-width="3" paint-order="stroke"' % GREY
 
@@ -32,7 +35,7 @@ class Report:
     """The records of a report, by their kinds; the columns of each have the names that the report gives them."""
 
     def __init__(self, lines):
-        kinds, self.records = {}, defaultdict(list)
+        kinds, self.records, self.by_sequence = {}, defaultdict(list), defaultdict(list)
         for line in lines:
             kind, *cells = line.rstrip('\n').split('\t')
             # a report that breaks off may do so inside a line
@@ -41,11 +44,13 @@ class Report:
             if kind == 'columns':
                 kinds[cells[0]] = namedtuple(cells[0], cells[1:], rename=True)
             elif kind in kinds:
-                self.records[kind].append(kinds[kind](*(int(cell) if cell.isdigit() else cell for cell in cells)))
+                record = kinds[kind](*(int(cell) if cell.isdigit() else cell for cell in cells))
+                self.records[kind].append(record)
+                self.by_sequence[kind, getattr(record, 'sequence', None)].append(record)
 
     def of(self, kind, number):
         """The records of a kind that a sequence has."""
-        return [record for record in self.records[kind] if record.sequence == number]
+        return self.by_sequence[kind, number]
 
 
 class Sequence:
@@ -172,7 +177,7 @@ class Panel(namedtuple('Panel', 'top height end most')):
             y = self.down(full)
             paths[kind, ''] += 'M%.1f,%.1fV%.1fh%.1fV%.1fz' % (x, self.top + self.height, y, wide, self.top + self.height)
             if pale:
-                paths[kind, ' fill-opacity=".3"'] += 'M%.1f,%.1fV%.1fh%.1fV%.1fz' % (x, y, self.down(full + pale), wide, y)
+                paths[kind, PALE] += 'M%.1f,%.1fV%.1fh%.1fV%.1fz' % (x, y, self.down(full + pale), wide, y)
         for (kind, more), path in paths.items():
             yield '<path d="%s" fill="%s"%s/>' % (path, COLOURS[kind], more)
 
@@ -200,7 +205,7 @@ def held_bits(sequence, end, top):
     panel, waits, signs = Panel(top + 20, HELD, end, 1.1 * most), [r for r in sequence.held if r.wait], []
     yield text(LEFT, top + 12, 'bits in the buffer', more=' fill="%s"' % GREY)
     for r in waits:
-        yield block(panel.across(r.time), panel.down(most), ACROSS * r.wait / end, panel.height / 1.1, 'fill="%s" fill-opacity=".15"' % RED)
+        yield block(panel.across(r.time), panel.down(most), ACROSS * r.wait / end, panel.height / 1.1, LATE)
     yield from panel.scale(most, 5)
     y = panel.down(sequence.size)
     yield line([(LEFT, y), (WIDTH - RIGHT, y)], 'stroke="%s" stroke-dasharray="4 3"' % GREY)
@@ -214,7 +219,7 @@ def held_bits(sequence, end, top):
     if places:
         signs.append((lambda x, y: circle(x, y - 4), 'failure'))
     if waits:
-        signs.append((square('fill="%s" fill-opacity=".15"' % RED), 'the decoder waits'))
+        signs.append((square(LATE), 'the decoder waits'))
     yield from legend(signs, top + 12)
 
 
@@ -228,7 +233,7 @@ def sizes(sequence, end, top):
     signs = [(square('fill="%s"' % COLOURS[kind]), kind) for kind in 'IPB' if kind in kinds]
     # where some can be seen
     if any(picture.zeros / 8 > most / SIZES for picture in sequence.pictures):
-        signs.append((square('fill="%s" fill-opacity=".3"' % COLOURS['P']), 'zero bytes'))
+        signs.append((square('fill="%s"%s' % (COLOURS['P'], PALE)), 'zero bytes'))
     places = [panel.across(sequence.spans[group.picture][0]) for group in sequence.groups if group.picture < len(sequence.spans)]
     # of those that stand too close one is enough
     marks = ''.join(mark(x, panel.top + SIZES + 2) for x in {int(x / 4): x for x in places}.values())
@@ -250,7 +255,7 @@ def by_picture(sequence, values, words, end, top):
 def axis(sequence, end, top):
     """The axis of time, in seconds or in fields."""
     unit = SECOND if sequence.field else 1
-    step = next(step for step in (0.2, 0.5, 1, 2, 5, 10, 20, 60, 120, 300, 600, 1200, 3600, 7200, 36000, 360000, end) if end / unit / step <= 12)
+    step = next((step for step in STEPS if end / unit / step <= 12), STEPS[-1])
     yield line([(LEFT, top), (WIDTH - RIGHT, top)], 'stroke="#999"')
     for count in range(0, int(end / unit / step) + 1):
         x, time = LEFT + ACROSS * count * step * unit / end, round(count * step, 1)

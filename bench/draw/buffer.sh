@@ -26,7 +26,8 @@ said() {
         !(($1, "sequence") in at) || cell("sequence") != 0 { next }
         $1 == "sequence" { rate = cell("rate") }
         $1 == "failure" && failure == "" {
-            failure = "buffer " (cell("kind") == "over" ? "over" : "under") " picture " cell("picture") " have " cell("have") " need " cell("need")
+            kind = cell("kind") == "over" ? "over" : "under"
+            failure = "buffer " kind " picture " cell("picture") " have " cell("have") " need " cell("need")
         }
         $1 == "end" {
             counts = "frames " cell("frames") " pictures " cell("pictures") " bytes " cell("bytes")

@@ -29,13 +29,16 @@ from pictures_decoder import scale_of
 # so many groups, failures and sequences are shown at most
 WORST, FAILURES, SEQUENCES = 4, 10, 4
 # what the statuses of check and of audit mean
-VERDICTS = {0: 'keeps all rules', 9: 'not readable', 10: 'breaks a rule', 11: 'fails the decoder\'s buffer', 13: 'too long', 14: 'not readable'}
-AUDITS = {0: 'nothing is found', 9: 'not readable to its end', 13: 'too long', 14: 'not readable to its end', 18: 'something is found'}
+REFUSED = {9: 'not readable', 13: 'too long', 14: 'not readable'}
+VERDICTS = {0: 'keeps all rules', 10: 'breaks a rule', 11: 'fails the decoder\'s buffer', **REFUSED}
+AUDITS = {0: 'nothing is found', 18: 'something is found', **REFUSED}
 SHAPES = {2: '4:3', 3: '16:9', 4: '2.21:1'}
 STYLE = '''body { font: 15px/1.5 sans-serif; color: #222; max-width: 800px; margin: 24px auto; padding: 0 16px }
 h1 { font-size: 22px; overflow-wrap: anywhere } h2 { font-size: 17px; margin-top: 28px } h3 { font-size: 15px; margin-top: 20px }
-code { background: #f3f3f3; padding: 1px 4px } table { border-collapse: collapse } td, th { padding: 4px 12px 4px 0; text-align: left; vertical-align: top }
-td.n, th.n { text-align: right } .ok { color: #26733a } .bad { color: #c01c28 } svg { max-width: 100%; height: auto } img { display: block }'''
+code { background: #f3f3f3; padding: 1px 4px } table { border-collapse: collapse }
+td, th { padding: 4px 12px 4px 0; text-align: left; vertical-align: top }
+td.n, th.n { text-align: right } .ok { color: #26733a } .bad { color: #c01c28 }
+svg { max-width: 100%; height: auto } img { display: block }'''
 
 Group = namedtuple('Group', 'number begin time pictures bits scale low first found')
 
@@ -176,8 +179,8 @@ def row(cells, tag='td'):
 
 def table(names, rows):
     """A table whose first column has words, and the others numbers."""
-    lines = [row([(cell, at > 0) for at, cell in enumerate(cells)], tag) for cells, tag in [(names, 'th'), *((cells, 'td') for cells in rows)]]
-    return '<table>%s</table>' % ''.join(lines)
+    lines = [(names, 'th')] + [(cells, 'td') for cells in rows]
+    return '<table>%s</table>' % ''.join(row([(cell, at > 0) for at, cell in enumerate(cells)], tag) for cells, tag in lines)
 
 
 def time_of(sequence, number):
@@ -253,18 +256,24 @@ def on_sequence(program, path, data, report, sequence):
     yield from worst_groups(program, path, sequence, values, found)
 
 
+def spoken(command, meanings, ended):
+    """What a command says, and what that means."""
+    status, line, _ = ended
+    meaning = meanings.get(status, 'no verdict') + (', the buffer isn\'t looked at' if line.startswith('variable') else '')
+    yield '<p>%s: <strong class="%s">%s</strong> <code>%s</code></p>' % (command, 'bad' if status else 'ok', escape(meaning), escape(line))
+
+
 def page(program, path):
     with open(path, 'rb') as file:
         data = file.read()
-    verdict, (status, line, output) = run(program, path, 'check'), run(program, path, 'audit', '--pictures')
-    report = Report(output.splitlines(keepends=True))
+    verdict, audit = run(program, path, 'check'), run(program, path, 'audit', '--pictures')
+    report = Report(audit[2].splitlines(keepends=True))
     sequences = {first.sequence: Sequence(report, first.sequence) for first in report.records['sequence']}
     name = escape(os.path.basename(path))
     yield '<!DOCTYPE html><html lang="en"><head><meta charset="utf-8"><title>%s</title><style>%s</style></head><body>' % (name, STYLE)
     yield '<h1>%s</h1>' % name
-    by_check = 'keeps all rules, at variable rate' if verdict[1].startswith('variable') else VERDICTS.get(verdict[0], 'no verdict')
-    for command, ended, meaning, said in (('check', verdict[0], by_check, verdict[1]), ('audit', status, AUDITS.get(status, 'no report'), line)):
-        yield '<p>%s: <strong class="%s">%s</strong> <code>%s</code></p>' % (command, 'bad' if ended else 'ok', escape(meaning), escape(said))
+    yield from spoken('check', VERDICTS, verdict)
+    yield from spoken('audit', AUDITS, audit)
     yield '<p>%d bytes, SHA-256 <code style="overflow-wrap: anywhere">%s</code></p>' % (len(data), hashlib.sha256(data).hexdigest())
     found = list(findings(report, sequences))
     if found:
