@@ -272,13 +272,14 @@ def figures(sequence):
     if first.rate == 'none':
         words.append('no account of the buffer' if sequence.field else 'no account of the buffer, time in fields')
     elif end:
-        words.append('low %d high %d' % (end.low, end.high) + (' delays %d' % end.delays if first.rate == 'constant' else ''))
-    if end:
-        words += ['%s %d' % (name, count) for name, count in (('failures', end.failures), ('breaches', end.breaches)) if count]
-    else:
-        words.append('the report breaks off')
+        delays = ' delays %d' % end.delays if first.rate == 'constant' else ''
+        words.append('low %d high %d%s failures %d' % (end.low, end.high, delays, end.failures))
+    if end and end.breaches:
+        words.append('breaches %d' % end.breaches)
     if sequence.stop:
         words.append(sequence.stop.kind + (' at bit %d' % sequence.stop.bit if hasattr(sequence.stop, 'bit') else ''))
+    if not end:
+        words.append('the report breaks off')
     return 'audit: ' + ', '.join(words), bool(end and not (end.failures or end.breaches or sequence.stop))
 
 
