@@ -4,11 +4,11 @@
     puckerledge audit --pictures < STREAM | bench/draw/buffer.py [SEQUENCE [TITLE]] > PICTURE.svg
 
 SEQUENCE is its number in the report, 0 where none is given. All amounts and times are those of the report, whose columns are
-found by their names. What is held stands before and after each removal. In between bits come, at variable rate until the
-buffer is full; where a picture is late they come on until it is there, and it is removed then. Failures are marked. Below, on
-the same time, is a bar for each picture, from its removal to the next one; the zero bytes that end it are pale, and each group
-has a mark. Where there is no account of the buffer the bars stand alone, each as wide as its fields are shown, and so do those
-behind the last removal that a report tells which a fault ended."""
+found by their names. Above is what the buffer holds before and after each removal. In between bits come at the stream's rate,
+at variable rate until the buffer is full; where a picture is late they come on until it is there, and it is removed then.
+Failures are marked. Below, on the same time, is a bar for each picture, from its removal to the time of the next one; the zero
+bytes that end it are pale, and each group has a mark. Where there is no account of the buffer the bars stand alone, each as wide
+as its fields are shown; so do the last bars where a fault ended the report before their removals were told."""
 
 import sys
 from collections import defaultdict, namedtuple
@@ -207,15 +207,15 @@ def held_bits(sequence, end, top):
     for r in waits:
         yield block(panel.across(r.time), panel.down(most), ACROSS * r.wait / end, panel.height / 1.1, LATE)
     yield from panel.scale(most, 5)
-    y = panel.down(sequence.size)
-    yield line([(LEFT, y), (WIDTH - RIGHT, y)], 'stroke="%s" stroke-dasharray="4 3"' % GREY)
+    full = panel.down(sequence.size)
+    yield line([(LEFT, full), (WIDTH - RIGHT, full)], 'stroke="%s" stroke-dasharray="4 3"' % GREY)
     yield line(panel.course(points), 'stroke="#1a5fb4" stroke-width="1.4"')
-    yield text(WIDTH - RIGHT, y - 4, 'the buffer, {:,} bits'.format(sequence.size), 'end', HALO)
     before = {r.picture: r.before for r in sequence.held}
     places = [panel.place((failure.time, before[failure.picture])) for failure in sequence.failures]
     # of those that stand in one place one is enough
     for x, y in {(round(x), round(y)): (x, y) for x, y in places}.values():
         yield circle(x, y)
+    yield text(WIDTH - RIGHT, full - 4, 'the buffer, {:,} bits'.format(sequence.size), 'end', HALO)
     if places:
         signs.append((lambda x, y: circle(x, y - 4), 'failure'))
     if waits:
@@ -286,7 +286,7 @@ def figures(sequence):
 def titled(first):
     """A title where none is given."""
     rates = {'constant': 'constant rate, %g kbit/s', 'variable': 'variable rate, at most %g kbit/s'}
-    rate = rates[first.rate] % (first.bit_rate * 0.4) if first.rate in rates else 'no account of a rate'
+    rate = rates[first.rate] % (first.bit_rate * 0.4) if first.rate in rates else 'no account of the buffer'
     return 'Sequence %d: %d by %d, %s' % (first.sequence, first.width, first.height, rate)
 
 

@@ -35,7 +35,7 @@ AUDITS = {0: 'nothing is found', 18: 'something is found', **REFUSED}
 SHAPES = {2: '4:3', 3: '16:9', 4: '2.21:1'}
 STYLE = '''body { font: 15px/1.5 sans-serif; color: #222; max-width: 800px; margin: 24px auto; padding: 0 16px }
 h1 { font-size: 22px; overflow-wrap: anywhere } h2 { font-size: 17px; margin-top: 28px } h3 { font-size: 15px; margin-top: 20px }
-code { background: #f3f3f3; padding: 1px 4px } table { border-collapse: collapse }
+code { background: #f3f3f3; padding: 1px 4px; font-size: 12px } table { border-collapse: collapse }
 td, th { padding: 4px 12px 4px 0; text-align: left; vertical-align: top }
 td.n, th.n { text-align: right } .ok { color: #26733a } .bad { color: #c01c28 }
 svg { max-width: 100%; height: auto } img { display: block }'''
