@@ -1,14 +1,14 @@
 #!/usr/bin/env python3
 """Writes a page on a stream, as quality control hands it on, on standard output.
 
-It is one HTML file without scripts or files from elsewhere. It has the program's verdict, the buffer and the bits and quantiser
-of each picture over time, and the worst groups with a small picture of each.
+It is one HTML file without scripts or files from elsewhere. It has the program's verdict, what `audit` found, and of each
+sequence the buffer and the bits and quantiser of each picture over time, and the worst groups with a small picture of each.
 
     bench/draw/report.py PROGRAM STREAM > PAGE.html
 
-The verdict and the pictures are the program's (`check`, `decode`); the drawings are those of bench/draw/buffer.py. The worst groups
-are the one at which a rule or the buffer fails, and those with the coarsest quantisers. Of a stream that isn't readable the page
-has the verdict alone."""
+Verdict, report and pictures are the program's (`check`, `audit`, `decode`); the drawings are those of bench/draw/buffer.py, and the
+quantisers are read here, from the headers of slices. The worst groups are those in which something was found, and those with
+the coarsest quantisers. Of a stream that isn't readable the page has what was told up to the fault."""
 
 import hashlib
 import os
@@ -23,59 +23,99 @@ from struct import pack
 
 sys.path.insert(0, str(Path(__file__).resolve().parent.parent / 'cases'))
 
-from buffer import NAMES, SECOND, Headers, drawn, means
-from pictures_writer import B, I, P
-from verdicts import Account, intervals, places
+from buffer import SECOND, Report, Sequence, drawn
+from pictures_decoder import scale_of
 
-WORST = 4
-# what the statuses of check mean
-MEANING = {0: 'keeps all rules', 9: 'not readable', 10: 'breaks a rule', 11: 'fails the decoder\'s buffer', 13: 'too long', 14: 'not readable'}
+# so many groups, failures and sequences are shown at most
+WORST, FAILURES, SEQUENCES = 4, 10, 4
+# what the statuses of check and of audit mean
+REFUSED = {9: 'not readable', 13: 'too long', 14: 'not readable'}
+VERDICTS = {0: 'keeps all rules', 10: 'breaks a rule', 11: 'fails the decoder\'s buffer', **REFUSED}
+AUDITS = {0: 'nothing is found', 18: 'something is found', **REFUSED}
+SHAPES = {2: '4:3', 3: '16:9', 4: '2.21:1'}
 STYLE = '''body { font: 15px/1.5 sans-serif; color: #222; max-width: 800px; margin: 24px auto; padding: 0 16px }
-h1 { font-size: 22px; overflow-wrap: anywhere } h2 { font-size: 17px; margin-top: 28px }
-code { background: #f3f3f3; padding: 1px 4px } table { border-collapse: collapse } td, th { padding: 4px 12px 4px 0; text-align: left; vertical-align: top }
-td.n, th.n { text-align: right } .ok { color: #26733a } .bad { color: #c01c28 } svg { max-width: 100%; height: auto } img { display: block }'''
+h1 { font-size: 22px; overflow-wrap: anywhere } h2 { font-size: 17px; margin-top: 28px } h3 { font-size: 15px; margin-top: 20px }
+code { background: #f3f3f3; padding: 1px 4px; font-size: 12px } table { border-collapse: collapse }
+td, th { padding: 4px 12px 4px 0; text-align: left; vertical-align: top }
+td.n, th.n { text-align: right } .ok { color: #26733a } .bad { color: #c01c28 }
+svg { max-width: 100%; height: auto } img { display: block }'''
 
-Group = namedtuple('Group', 'number begin time pictures bits scale low first')
+Group = namedtuple('Group', 'number begin time pictures bits scale low first found')
 
 
-def checked(program, path):
+def run(program, path, *words):
+    """The status, the line and the output of a command that reads the stream."""
     with open(path, 'rb') as file:
-        run = subprocess.run([program, 'check'], stdin=file, stderr=subprocess.PIPE, text=True, check=False)
-    return run.returncode, run.stderr.strip()
+        done = subprocess.run([program, *words], stdin=file, capture_output=True, text=True, check=False)
+    return done.returncode, done.stderr.strip(), done.stdout
+
+
+# ---- quantisers
+
+def scales(data, begin, end):
+    """The quantiser scales of a picture's slices."""
+    found, kind, at = [], 0, data.find(b'\0\0\1', begin, end)
+    while 0 <= at < end - 7:
+        value, code = data[at + 3], data[at + 4] >> 3
+        # the picture coding extension says by which table codes are meant
+        if value == 0xB5 and data[at + 4] >> 4 == 8:
+            kind = data[at + 7] >> 4 & 1
+        elif 1 <= value <= 0xAF and code:
+            found.append(scale_of(kind, code))
+        at = data.find(b'\0\0\1', at + 4, end)
+    return found
+
+
+def means(data, sequence):
+    """The mean scale of each picture's slices."""
+    found, end = [], sequence.first.bit
+    for picture in sequence.pictures:
+        end += picture.bits
+        of_slices = scales(data, picture.bit // 8, end // 8)
+        found.append(sum(of_slices) / max(1, len(of_slices)))
+    return found
 
 
 # ---- groups
 
-def groups_of(stream):
-    """Each group: its number, its first picture, its time, pictures and bits, the mean scale of its quantisers, the least that a
-    picture of it leaves in the buffer, and its I frame's place among the frames that are shown."""
-    shown_before, found, account, scales = 0, [], None, means(stream)
-    if stream.coded[0].delay != 65535:
-        account = Account(stream)
-    order, times, time = places(stream.coded, bool(stream.sequences[0].low_delay)), [], 0
-    for interval in intervals(stream):
-        times.append(time)
-        time += interval
-    numbers = {}
-    for at, picture in enumerate(stream.coded):
-        numbers.setdefault(picture.group, []).append(at)
-    for count, members in enumerate(numbers.values()):
-        lost = sum(not stream.shown[at] for at in members)
-        low = min(account.held[at] - account.taken[at] for at in members) // 1800 if account else None
-        first = shown_before + order[stream.coded[members[0]].frame] - lost
-        found.append(Group(count, members[0], times[members[0]] / SECOND, len(members), sum(stream.coded[at].bits for at in members),
-                           sum(scales[at] for at in members) / len(members), low, first))
-        shown_before += sum(stream.coded[at].ends_frame for at in members) - lost
+def frames_of(sequence):
+    """The frames of a sequence in coding order: of each its last picture's number, its type, and whether it is shown."""
+    found, waits = [], False
+    for number, picture in enumerate(sequence.pictures):
+        waits = picture.structure != 'frame' and not waits
+        if not waits:
+            found.append((number, picture.type, not picture.dropped))
     return found
 
 
-def worst(groups, line):
-    """The group of the picture that the verdict names, and those with the coarsest quantisers."""
-    words = line.split()
-    named = int(words[words.index('picture') + 1]) if 'picture' in words else None
-    at_fault = [group for group in groups if named is not None and group.begin <= named < group.begin + group.pictures]
-    coarse = sorted((group for group in groups if group not in at_fault), key=lambda group: -group.scale)
-    return (at_fault + coarse)[:WORST]
+def first_shown(frames, low_delay):
+    """How many frames of a group are shown before its first one: the B frames behind it up to the next anchor."""
+    count = 0
+    for _, kind, shown in frames[1:]:
+        if kind != 'B' or low_delay or frames[0][1] == 'B':
+            break
+        count += shown
+    return count
+
+
+def groups_of(sequence, values, found):
+    """Each group: its number, its first picture, its time, pictures and bits, the mean scale of its quantisers, the least that a
+    picture of it leaves in the buffer, its first frame's place among the frames that are shown, and how often something was
+    found in it."""
+    starts = {0: '–', **{group.picture: group.group for group in sequence.groups if group.picture < len(sequence.pictures)}}
+    edges, frames, shown_before = sorted(starts) + [len(sequence.pictures)], frames_of(sequence), 0
+    for begin, end in zip(edges, edges[1:]):
+        members = [frame for frame in frames if begin <= frame[0] < end]
+        yield Group(starts[begin], begin, sequence.spans[begin][0], end - begin, sum(p.bits for p in sequence.pictures[begin:end]),
+                    sum(values[begin:end]) / (end - begin), min((r.after for r in sequence.held[begin:end]), default=None),
+                    shown_before + first_shown(members, sequence.first.low_delay), sum(begin <= number < end for number in found))
+        shown_before += sum(shown for _, _, shown in members)
+
+
+def worst(groups):
+    """Those in which something was found, and those with the coarsest quantisers."""
+    at_fault = [group for group in groups if group.found]
+    return (at_fault[:WORST] + sorted((group for group in groups if not group.found), key=lambda group: -group.scale))[:WORST]
 
 
 # ---- small pictures
@@ -114,18 +154,20 @@ def small(frame, width, height, aspect):
     return rows
 
 
-def frames_at(program, path, wanted, size):
-    """The frames of some places among those that `decode` writes."""
+def frames_at(program, path, begin, wanted, size):
+    """The frames of some places among those that `decode` writes of the stream from this byte on."""
     found, workers = {}, min(16, os.cpu_count() or 1)
-    with open(path, 'rb') as file, subprocess.Popen(
-            [program, 'decode', '--workers', str(workers)], stdin=file, stdout=subprocess.PIPE, stderr=subprocess.DEVNULL) as run:
-        for place in range(max(wanted, default=-1) + 1):
-            frame = run.stdout.read(size)
-            if len(frame) < size:
-                break
-            if place in wanted:
-                found[place] = frame
-        run.kill()
+    with open(path, 'rb', buffering=0) as file:
+        file.seek(begin)
+        with subprocess.Popen([program, 'decode', '--workers', str(workers)], stdin=file, stdout=subprocess.PIPE,
+                              stderr=subprocess.DEVNULL) as decoder:
+            for place in range(max(wanted, default=-1) + 1):
+                frame = decoder.stdout.read(size)
+                if len(frame) < size:
+                    break
+                if place in wanted:
+                    found[place] = frame
+            decoder.kill()
     return found
 
 
@@ -135,54 +177,113 @@ def row(cells, tag='td'):
     return '<tr>%s</tr>' % ''.join('<%s%s>%s</%s>' % (tag, ' class="n"' if numeric else '', cell, tag) for cell, numeric in cells)
 
 
-def facts(stream, data):
-    sequence, pictures = stream.sequences[0], stream.coded
-    kinds = ', '.join('%d %s' % (count, NAMES[kind]) for kind in (I, P, B) if (count := sum(p.kind == kind for p in pictures)))
-    shape = {2: '4:3', 3: '16:9', 4: '2.21:1'}.get(data[stream.first + 7] >> 4, 'square samples')
-    seconds = sum(intervals(stream)) / SECOND
-    yield 'size', '%d by %d, %s, %s' % (sequence.width, sequence.height, shape, 'progressive' if sequence.progressive else 'interlaced')
-    yield 'time', '%.2f s, %d pictures (%s) in %d groups' % (seconds, len(pictures), kinds, len({p.group for p in pictures}))
-    yield 'rate', '%.1f kbit/s in the header, %.1f kbit/s in the mean; a buffer of %d bits' % (
-        sequence.rate * 0.4, stream.total / max(1e-9, seconds) / 1000, 16384 * sequence.buffer)
+def table(names, rows):
+    """A table whose first column has words, and the others numbers."""
+    lines = [(names, 'th')] + [(cells, 'td') for cells in rows]
+    return '<table>%s</table>' % ''.join(row([(cell, at > 0) for at, cell in enumerate(cells)], tag) for cells, tag in lines)
 
 
-def drawings(program, path, data, line):
-    stream = Headers(data)
-    yield '<table>%s</table>' % ''.join(row([(name, False), (escape(words), False)]) for name, words in facts(stream, data))
-    is_variable = stream.coded[0].delay == 65535
-    yield '<h2>%s over time</h2>' % ('Bits and quantiser' if is_variable else 'Buffer, bits and quantiser')
-    yield '\n'.join(drawn(stream, 'Variable rate: no buffer is looked at' if is_variable else 'What the decoder\'s buffer holds', True))
-    groups = worst(groups_of(stream), line)
-    sequence = stream.sequences[0]
-    size = sequence.width * sequence.height + 2 * ((sequence.width + 1) // 2) * ((sequence.height + 1) // 2)
-    frames = frames_at(program, path, {group.first for group in groups}, size)
-    yield '<h2>The worst groups</h2>'
-    yield '<p>The one at which the verdict is, if any, then those with the coarsest quantisers; of each its I frame.</p><table>'
-    yield row([('', False), ('group', True), ('at', True), ('pictures', True), ('kbit', True), ('quantiser', True), ('least held, bits', True)], 'th')
+def time_of(sequence, number):
+    """When a picture is removed, as the drawings have it."""
+    known = sequence.field and number < len(sequence.spans)
+    return '%.2f s' % (sequence.spans[number][0] / SECOND) if known else '–'
+
+
+def findings(report, sequences):
+    """Each rule that is broken, with its first breach, and the failures of the buffer."""
+    firsts = {}
+    for breach in report.records['breach'] + report.records['warning']:
+        firsts.setdefault((breach.sequence, breach.rule), breach)
+    rows = []
+    for count in report.records['count']:
+        first = firsts[count.sequence, count.rule]
+        rows.append(('rule %d, %s' % (count.rule, first.name), count.sequence, count.how_often, first.picture,
+                     time_of(sequences[count.sequence], first.picture), first.bit // 8, first.have, first.need))
+    if rows:
+        yield table(('broken', 'sequence', 'how often', 'first at picture', 'at', 'byte', 'has', 'needs'), rows)
+    rows = [('buffer, %s' % failure.kind, failure.sequence, failure.picture, '%.2f s' % (failure.time / SECOND), failure.bit // 8,
+             failure.have // 1800, failure.need // 1800, '%.3f s' % (failure.wait / SECOND)) for failure in report.records['failure']]
+    if rows:
+        yield table(('failure', 'sequence', 'picture', 'at', 'byte', 'has, bits', 'needs, bits', 'decoder waits'), rows[:FAILURES])
+    if len(rows) > FAILURES:
+        yield '<p>and %d more failures</p>' % (len(rows) - FAILURES)
+    for skipped in report.records['skipped']:
+        yield '<p>%d bytes from byte %d on belong to no sequence.</p>' % (skipped.bytes, skipped.byte)
+
+
+def facts(sequence):
+    first, pictures = sequence.first, sequence.pictures
+    kinds = ', '.join('%d %s' % (count, kind) for kind in 'IPB' if (count := sum(p.type == kind for p in pictures)))
+    # without those for which the decoder waits
+    seconds = sum(end - begin for begin, end in sequence.spans) / SECOND if sequence.field else 0
+    mean = ', %.1f kbit/s in the mean' % (sum(p.bits for p in pictures) / seconds / 1000) if seconds else ''
+    yield 'size', '%d by %d, %s, %s' % (
+        first.width, first.height, SHAPES.get(first.aspect, 'square samples'), 'progressive' if first.progressive else 'interlaced')
+    yield 'time', '%s%d pictures (%s) in %d groups' % ('%.2f s, ' % seconds if seconds else '', len(pictures), kinds, len(sequence.groups))
+    yield 'rate', '%s: %.1f kbit/s in the header%s; a buffer of %d bits' % (
+        {'none': 'no account'}.get(first.rate, first.rate), first.bit_rate * 0.4, mean, sequence.size)
+
+
+def worst_groups(program, path, sequence, values, found):
+    """A table of them, with small pictures."""
+    first, groups = sequence.first, worst(list(groups_of(sequence, values, found)))
+    size = first.width * first.height + 2 * ((first.width + 1) // 2) * ((first.height + 1) // 2)
+    frames, rows = frames_at(program, path, first.bit // 8, {group.first for group in groups}, size), []
     for group in groups:
         picture = ''
         if group.first in frames:
-            image = png(small(frames[group.first], sequence.width, sequence.height, data[stream.first + 7] >> 4))
-            picture = '<img alt="group %d" src="data:image/png;base64,%s">' % (group.number, b64encode(image).decode())
-        low = '–' if group.low is None else '%d' % group.low
-        yield row([(picture, False)] + [(cell, True) for cell in (
-            group.number, '%.2f s' % group.time, group.pictures, '%.0f' % (group.bits / 1000), '%.1f' % group.scale, low)])
-    yield '</table>'
+            image = png(small(frames[group.first], first.width, first.height, first.aspect))
+            picture = '<img alt="group %s" src="data:image/png;base64,%s">' % (group.number, b64encode(image).decode())
+        rows.append((picture, group.number, time_of(sequence, group.begin), group.pictures, '%.0f' % (group.bits / 1000),
+                     '%.1f' % group.scale, '–' if group.low is None else group.low, group.found))
+    yield '<h3>The worst groups</h3>'
+    yield '<p>Those in which something was found, if any, then those with the coarsest quantisers; of each its first frame.</p>'
+    yield table(('', 'group', 'at', 'pictures', 'kbit', 'quantiser', 'least held, bits', 'found'), rows)
+
+
+def on_sequence(program, path, data, report, sequence):
+    """The facts of a sequence, its drawing and its worst groups."""
+    number = sequence.first.sequence
+    yield '<h2>Sequence %d</h2>' % number
+    if not sequence.pictures:
+        yield '<p>It has no pictures.</p>'
+        return
+    values = means(data, sequence)
+    found = [r.picture for kind in ('breach', 'failure') for r in report.of(kind, number)]
+    yield '<table>%s</table>' % ''.join(row([(name, False), (escape(words), False)]) for name, words in facts(sequence))
+    yield '\n'.join(drawn(sequence, 'What the decoder\'s buffer holds' if sequence.held else 'No account of the buffer', values,
+                          'quantiser scale of each picture, the mean of its slices'))
+    yield from worst_groups(program, path, sequence, values, found)
+
+
+def spoken(command, meanings, ended):
+    """What a command says, and what that means."""
+    status, line, _ = ended
+    meaning = meanings.get(status, 'no verdict') + (', the buffer isn\'t looked at' if line.startswith('variable') else '')
+    yield '<p>%s: <strong class="%s">%s</strong> <code>%s</code></p>' % (command, 'bad' if status else 'ok', escape(meaning), escape(line))
 
 
 def page(program, path):
     with open(path, 'rb') as file:
         data = file.read()
-    status, line = checked(program, path)
+    verdict, audit = run(program, path, 'check'), run(program, path, 'audit', '--pictures')
+    report = Report(audit[2].splitlines(keepends=True))
+    sequences = {first.sequence: Sequence(report, first.sequence) for first in report.records['sequence']}
     name = escape(os.path.basename(path))
     yield '<!DOCTYPE html><html lang="en"><head><meta charset="utf-8"><title>%s</title><style>%s</style></head><body>' % (name, STYLE)
     yield '<h1>%s</h1>' % name
-    yield '<p><strong class="%s">%s</strong>: <code>%s</code></p>' % (
-        'bad' if status else 'ok', escape(MEANING.get(status, 'no verdict')), escape(line))
+    yield from spoken('check', VERDICTS, verdict)
+    yield from spoken('audit', AUDITS, audit)
     yield '<p>%d bytes, SHA-256 <code style="overflow-wrap: anywhere">%s</code></p>' % (len(data), hashlib.sha256(data).hexdigest())
-    if status in (0, 10, 11):
-        yield from drawings(program, path, data, line)
-    yield '<p style="color: #666">By puckerledge check, of which it is proved that it gives the one verdict of a stream.</p></body></html>'
+    found = list(findings(report, sequences))
+    if found:
+        yield '<h2>What is found</h2>' + '\n'.join(found)
+    for sequence in list(sequences.values())[:SEQUENCES]:
+        yield from on_sequence(program, path, data, report, sequence)
+    if len(sequences) > SEQUENCES:
+        yield '<p>and %d more sequences</p>' % (len(sequences) - SEQUENCES)
+    yield ('<p style="color: #666">By puckerledge, of which it is proved that check gives the one verdict of a stream, and audit its one '
+           'report.</p></body></html>')
 
 
 def main():

@@ -1,8 +1,8 @@
 #!/usr/bin/env bash
 # Writes a page on a stream, as quality control hands it on, into a file.
 #
-# It has the program's verdict, the buffer, bits and quantisers over time, and the worst groups with a small picture of each, in
-# one HTML file that needs no other. It wants python3.
+# It has the program's verdict, what `audit` found, the buffer, bits and quantisers over time, and the worst groups with a small
+# picture of each, in one HTML file that needs no other. It wants python3.
 #
 #     bench/draw/report.sh PROGRAM STREAM [PAGE.html]
 #
