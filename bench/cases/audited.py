@@ -86,7 +86,8 @@ def misplaced(stream, low_delay):
         anchors = [number for number, frame in enumerate(members) if frame[-1][1].kind != B]
         following = dict(zip(anchors, anchors[1:]))
         for place, number in enumerate(shown_in_order(members, low_delay)):
-            known = number if low_delay or number not in anchors else following.get(number)
+            at_once = low_delay or members[number][-1][1].kind == B
+            known = number if at_once else following.get(number)
             by = ('group', group) if known is None else ('picture', members[known][-1][0])
             told[by] += [(number, p.temporal, place % 1024) for number, p in members[number]
                          if p.temporal != place % 1024]
