@@ -32,3 +32,4 @@ pub mod MovedKept
 pub mod MovedSteps
 pub mod MovedPieces
 pub mod MovedTexts
+pub mod FigureTallies
