@@ -33,3 +33,5 @@ pub mod MovedSteps
 pub mod MovedPieces
 pub mod MovedTexts
 pub mod FigureTallies
+pub mod FigureCounts
+pub mod FigureLevels
