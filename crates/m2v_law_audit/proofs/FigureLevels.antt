@@ -107,7 +107,7 @@ dues_of ts = map (λ (t : Told). t.0) ts
 dues_told : (b : Buffer) (ds : List Due) → dues_of (all_told b ds) ≡ ds
 unfolding tells
 dues_told b [] = refl
-dues_told b (d ∷ ds) = ap (λ (l : List Due). d ∷ l) (dues_told _ ds)
+dues_told b (d ∷ ds) = ap (λ (l : List Due). d ∷ l) (dues_told (next b (picture_of d) (left (pictures (d ∷ ds)) 0)) ds)
 
 abbrev most_held : StreamAccount → List Removal → List Removal → ℕ
 most_held a before rs = greatest (map (λ (x : ℕ × ℕ). x.0) (amounts_from a before rs))
@@ -137,7 +137,10 @@ none_left b p = let bits = left_cons p [] 0 in omega (arith, bits)
 low_from : (constant : Bool) (x : Levels) (b : Buffer) (d : Due) (ds : List Due) → (with_all constant x (all_told b (d ∷ ds))).0 ≡ Some 0
 unfolding tells
 low_from constant x b d [] = ap (λ (n : ℕ). Some n) (least_zero x.0 _ (none_left b (picture_of d)))
-low_from constant x b d (c ∷ ds) = low_from constant (with_one constant x _) _ c ds
+low_from constant x b d (c ∷ ds) =
+    let p : Picture = picture_of d in
+    let rest : ℕ = left (pictures (d ∷ c ∷ ds)) 0 in
+    low_from constant (with_one constant x (d, told b p rest)) (next b p rest) c ds
 
 -- ---- delays
 
@@ -153,7 +156,7 @@ off_of start (d ∷ ds) = off_from start (removal_of (picture_of d) ∷ []) ds
 
 -- one delay, which is exact or isn't
 one_off : (w : Bool) (n m : ℕ) → more_by (if not w then one_more n else n) m ≡ more_by n ((if w then 0 else 1) + m)
-one_off true n m = refl
+one_off true n m = omega arith
 one_off false n m = omega arith
 
 off_kept : (number delay exact least n m : ℕ) → number ≡ suc least → more_by (if true && not (nat_eq number 0) && not (nat_eq delay exact) then one_more n else n) m ≡ more_by n ((if nat_eq delay exact then 0 else 1) + m)

@@ -35,3 +35,4 @@ pub mod MovedTexts
 pub mod FigureTallies
 pub mod FigureCounts
 pub mod FigureLevels
+pub mod FigureFrames
