@@ -1,6 +1,6 @@
 -- How many frames a stream shows, counted by its pictures: those that end a frame and aren't dropped.
 use Rattle.std.proofs.Common.{◌≡◌, ℕ, ◌+◌, ◌-◌, ◌*◌, ◌^◌, ◌≤◌, ◌<◌, Bool, true, false, ◌||◌, not, List, [], ◌∷◌, ◌++◌, length, map, Option, Some, None, option_to_list, inl, inr, refl, sym, ap, subst, ◌∙◌, arith}
-use Rattle.std.specs.Prelude.{◌&&◌, ◌==◌, nat_eq, filter, slice_index, if◌then◌else◌}
+use Rattle.std.specs.Prelude.{◌&&◌, ◌==◌, nat_eq, filter, take, slice_index, if◌then◌else◌}
 use Rattle.std.proofs.lemmas.Bool.{cases_Bool}
 use Rattle.std.proofs.lemmas.List.{length-append}
 use Rattle.m2v_order.specs.m2v_plane.Raw.{crop}
@@ -13,7 +13,8 @@ use Rattle.m2v_model.specs.declared.state.Open.{Open}
 use Rattle.m2v_model.specs.declared.state.State.{State}
 use Rattle.m2v_model.specs.States.{is_b, is_frame, at_first, with_slice, with_unread_slice}
 use Rattle.m2v_model.specs.Units.{Units, cut, joined, AreUnits}
-use Rattle.m2v_model.specs.Streams.{Sofar, Part, sequence, group, picture, matrices, slice, unread_slice, skipped_unit, ending, over, large_in}
+use Rattle.m2v_model.specs.Slices.{large_in}
+use Rattle.m2v_model.specs.Streams.{Sofar, Part, sequence, group, picture, matrices, slice, unread_slice, skipped_unit, ending, over}
 use Rattle.m2v_model.specs.Streams.{after as state_after}
 use Rattle.m2v_model.specs.Pictures.{Picture, Pictures, Store, no_frames, Event, Events, sequence_header, group_header, coded_picture, pictures_in, picture_of, closed, told_by, store_after, events_from, is_ending, typed, frames_in}
 use Rattle.m2v_model.specs.Pieces.{phase_after, begins_piece, is_end, piece_of, grouped, pieces}
@@ -211,16 +212,26 @@ few_grouped [] phases.Before bytes = omega arith
 few_grouped [] phases.Headers bytes = few_piece bytes
 few_grouped [] phases.Picture bytes = few_piece bytes
 few_grouped (u ∷ us) phases.Before bytes =
-    let on = few_grouped us phases.Headers u in
-    let off = few_grouped us phases.Before [] in
-    few_if _ _ _ (1 + length (u ∷ us)) (omega (arith, on)) (omega (arith, off))
+    let most : ℕ = 1 + length (u ∷ us) in
+    let on : length (grouped phases.Headers u us) ≤ most = omega (arith, few_grouped us phases.Headers u) in
+    let off : length (grouped phases.Before [] us) ≤ most = omega (arith, few_grouped us phases.Before []) in
+    few_if (nat_eq (slice_index u 3) 0xB3) (grouped phases.Headers u us) (grouped phases.Before [] us) most on off
 few_grouped (u ∷ us) phases.Headers bytes =
-    let on = few_grouped us (phase_after phases.Headers (slice_index u 3)) (bytes ++ u) in
-    few_if _ _ _ (1 + length (u ∷ us)) (omega arith) (omega (arith, on))
+    let most : ℕ = 1 + length (u ∷ us) in
+    let phase = phase_after phases.Headers (slice_index u 3) in
+    let last : length ((bytes ++ take 4 u) ∷ []) ≤ most = omega arith in
+    let on : length (grouped phase (bytes ++ u) us) ≤ most = omega (arith, few_grouped us phase (bytes ++ u)) in
+    few_if (is_end (slice_index u 3)) ((bytes ++ take 4 u) ∷ []) (grouped phase (bytes ++ u) us) most last on
 few_grouped (u ∷ us) phases.Picture bytes =
-    let next = few_grouped us (phase_after phases.Headers (slice_index u 3)) u in
-    let on = few_grouped us phases.Picture (bytes ++ u) in
-    few_if _ _ _ (1 + length (u ∷ us)) (omega arith) (few_if _ _ _ (1 + length (u ∷ us)) (omega (arith, next)) (omega (arith, on)))
+    let most : ℕ = 1 + length (u ∷ us) in
+    let phase = phase_after phases.Headers (slice_index u 3) in
+    let begins : Bool = begins_piece (slice_index u 3) in
+    let next = bytes ∷ grouped phase u us in
+    let same = grouped phases.Picture (bytes ++ u) us in
+    let last : length (bytes ∷ take 4 u ∷ []) ≤ most = omega arith in
+    let on : length next ≤ most = omega (arith, few_grouped us phase u) in
+    let off : length same ≤ most = omega (arith, few_grouped us phases.Picture (bytes ++ u)) in
+    few_if (is_end (slice_index u 3)) (bytes ∷ take 4 u ∷ []) (if begins then next else same) most last (few_if begins next same most on off)
 
 few_units : (us : Units) → AreUnits us → 4 * length us ≤ length (joined us)
 few_units [] a = omega arith

@@ -36,3 +36,4 @@ pub mod FigureTallies
 pub mod FigureCounts
 pub mod FigureLevels
 pub mod FigureFrames
+pub mod FigureLaws
