@@ -1,5 +1,5 @@
 -- What is counted of a stream as it is read piece by piece: its pictures, the frames that they show, and its bytes.
-use Rattle.std.proofs.Common.{◌≡◌, ℕ, ◌+◌, ◌*◌, ◌≤◌, Bool, true, false, List, [], ◌∷◌, ◌++◌, length, map, Option, Some, None, inl, inr, refl, sym, ap, subst, ◌∙◌, arith}
+use Rattle.std.proofs.Common.{◌≡◌, ℕ, ◌+◌, ◌-◌, ◌*◌, ◌^◌, ◌≤◌, Bool, true, false, List, [], ◌∷◌, ◌++◌, length, map, Option, Some, None, inl, inr, refl, sym, ap, subst, ◌∙◌, arith}
 use Rattle.std.specs.Prelude.{sum, slice_get, if◌then◌else◌}
 use Rattle.std.proofs.lemmas.List.{length-append}
 use Rattle.std.proofs.lemmas.List.Sums.{sum_by-cons}
@@ -8,7 +8,7 @@ use Rattle.m2v_model.specs.m2v_macroblock.m2v_head.declared.sequence.SequenceExt
 use Rattle.m2v_model.specs.declared.state.Sequence.{Sequence}
 use Rattle.m2v_model.specs.declared.notes.PictureNote.{PictureNote}
 use Rattle.m2v_model.specs.Streams.{Sofar}
-use Rattle.m2v_model.specs.Pictures.{Picture, Pictures, Events, pictures_in}
+use Rattle.m2v_model.specs.Pictures.{Pictures, Events, pictures_in}
 use Rattle.m2v_model.specs.Pieces.{pieces, zeros_last}
 use Rattle.m2v_model.specs.PieceNotes.{PieceNotes, note_of, first_note, notes_of}
 use Rattle.m2v_model.specs.Decoding.{Stream, events}
@@ -21,12 +21,12 @@ use Rattle.m2v_audit.specs.declared.auditing.Auditing.{Auditing}
 use Rattle.m2v_audit.specs.declared.headers.PieceHeader.{PieceHeader}
 use Rattle.m2v_audit.specs.declared.headers.PieceHeader.TheVariants as headers
 use Rattle.m2v_audit.specs.Account.{Account}
-use Rattle.m2v_audit.specs.Auditing.{nothing, longer, begun, begun_by, with_header, sequences_of, with_headers, is_shown, coded, counted, with_told, with_place, with_note, settled_by, fronted, pictured, after_piece, ended, ended_by}
+use Rattle.m2v_audit.specs.Auditing.{nothing, longer, begun, begun_by, with_header, sequences_of, with_headers, is_shown, coded, counted, with_told, with_note, settled_by, fronted, pictured, after_piece, ended, ended_by}
 use Rattle.m2v_audit.specs.Front.{front_of}
 use Rattle.m2v_audit.specs.Report.{one_more}
 use Rattle.m2v_audit.proofs.m2v_check.Telling.{last_in, AreHeaded}
 use Rattle.m2v_audit.proofs.m2v_check.Onward.{none_or_one}
-use Rattle.m2v_law_audit.specs.Sequences.{SequenceReport, by_piece, reported, first_byte, sequence_report}
+use Rattle.m2v_law_audit.specs.Sequences.{by_piece, reported, first_byte, sequence_report}
 use Rattle.m2v_law_audit.proofs.AccountReading.{Turn, Turns, turn_read, in_pieces, begun_at, behind_piece}
 use Rattle.m2v_law_audit.proofs.EventsFront.{Fronts, last_sequence}
 use Rattle.m2v_law_audit.proofs.RemovalEvents.{rest_one}
@@ -50,6 +50,11 @@ counted_in a = (numbers_in a, a.sequence)
 -- frames shown, behind a picture
 abbrev pub shown_with : ℕ → PictureNote → ℕ
 shown_with frames n = if is_shown n then one_more frames else frames
+
+-- what was counted by 64 bits still is, with one more
+pub few_counted : (more : Bool) (n : ℕ) → n ≤ 2 ^ 64 - 1 → (if more then one_more n else n) ≤ 2 ^ 64 - 1
+few_counted true n le = omega (arith, le)
+few_counted false n le = le
 
 -- ---- a piece
 

@@ -16,17 +16,17 @@ use Rattle.m2v_model.specs.Units.{Units, cut, joined, AreUnits}
 use Rattle.m2v_model.specs.Slices.{large_in}
 use Rattle.m2v_model.specs.Streams.{Sofar, Part, sequence, group, picture, matrices, slice, unread_slice, skipped_unit, ending, over}
 use Rattle.m2v_model.specs.Streams.{after as state_after}
-use Rattle.m2v_model.specs.Pictures.{Picture, Pictures, Store, no_frames, Event, Events, sequence_header, group_header, coded_picture, pictures_in, picture_of, closed, told_by, store_after, events_from, is_ending, typed, frames_in}
+use Rattle.m2v_model.specs.Pictures.{Picture, Pictures, Store, no_frames, Events, sequence_header, group_header, pictures_in, picture_of, closed, told_by, store_after, events_from, is_ending, typed, frames_in}
 use Rattle.m2v_model.specs.Pieces.{phase_after, begins_piece, is_end, piece_of, grouped, pieces}
 use Rattle.m2v_model.specs.PieceNotes.{note_of}
-use Rattle.m2v_model.specs.Decoding.{Stream, events, pictures, low_delay_of, is_dropped, frames_of}
+use Rattle.m2v_model.specs.Decoding.{Stream, pictures, low_delay_of, is_dropped, frames_of}
 use Rattle.m2v_model.proofs.CutLaws.{cut_cuts}
 use Rattle.m2v_model.proofs.EventLaws.{pictures_in-append}
 use Rattle.m2v_audit.specs.m2v_check.Laws.{Alternates}
 use Rattle.m2v_audit.specs.Report.{one_more}
 use Rattle.m2v_law_audit.specs.Parts.{more_by}
 use Rattle.m2v_law_audit.proofs.AccountReading.{in_pieces}
-use Rattle.m2v_law_audit.proofs.FigureCounts.{shown_with, shown_by}
+use Rattle.m2v_law_audit.proofs.FigureCounts.{shown_with, shown_by, few_counted}
 
 -- ---- dropped pictures
 
@@ -126,10 +126,6 @@ kept_so false true h = let f : false ≡ true = h refl in absurd cc
 one_counted : (c : Bool) (n m : ℕ) → more_by (if c then one_more n else n) m ≡ more_by n ((if c then 1 else 0) + m)
 one_counted true n m = omega arith
 one_counted false n m = omega arith
-
-few_counted : (c : Bool) (n : ℕ) → n ≤ 2 ^ 64 - 1 → (if c then one_more n else n) ≤ 2 ^ 64 - 1
-few_counted true n le = omega (arith, le)
-few_counted false n le = le
 
 shown_are : (waits : Bool) (n : ℕ) (ps : Pictures) → Alternates waits ps → AllDrop ps → n ≤ 2 ^ 64 - 1 → shown_by n ps ≡ more_by n (shown_in ps)
 shown_are waits n [] alternates drops le = omega (arith, le)

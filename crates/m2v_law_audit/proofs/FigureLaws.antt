@@ -1,5 +1,5 @@
 -- Of a stream that the verifier calls lawful the report has the verifier's figures.
-use Rattle.std.proofs.Common.{◌≡◌, ℕ, ◌+◌, ◌-◌, ◌*◌, ◌^◌, ◌≤◌, ◌<◌, Bool, true, false, not, List, [], ◌∷◌, ◌++◌, length, map, sum, Option, Some, None, inl, inr, refl, sym, ap, subst, ◌∙◌, arith, le_trans}
+use Rattle.std.proofs.Common.{◌≡◌, ℕ, ◌+◌, ◌-◌, ◌*◌, ◌^◌, ◌≤◌, ◌<◌, Bool, true, false, not, List, [], ◌∷◌, ◌++◌, length, map, Option, Some, None, inl, inr, refl, sym, ap, subst, ◌∙◌, arith, le_trans}
 use Rattle.std.specs.Prelude.{drop, nat_eq, if◌then◌else◌}
 use Rattle.std.specs.List.{AllByRecursion}
 use Rattle.std.specs.Option.{unwrap_or}
@@ -17,7 +17,7 @@ use Rattle.m2v_model.specs.Pictures.{Events, pictures_in}
 use Rattle.m2v_model.specs.Decoding.{Stream, events, frames_of, low_delay_of}
 use Rattle.m2v_model.specs.Decoding.{pictures as stream_pictures}
 use Rattle.m2v_model.specs.ByPieces.{at_start}
-use Rattle.m2v_model.specs.Lawful.{Numbered, is_variable, breaches_of, all_numbered}
+use Rattle.m2v_model.specs.Lawful.{Numbered, is_variable, breaches_of}
 use Rattle.m2v_model.specs.Buffering.{BufferFigures, StreamAccount, bits_of_piece, code_bits, codes, account_from, account_by, exact_delays, exact_delays_from, other_delays, figures_of, figures_in}
 use Rattle.m2v_model.proofs.Unique.{exactly_one}
 use Rattle.m2v_audit.specs.m2v_check.declared.verdict.Figures.{Figures}
@@ -34,7 +34,7 @@ use Rattle.m2v_audit.proofs.m2v_check.Onward.{none_or_one}
 use Rattle.m2v_law_audit.specs.Sequences.{first_byte, sequence_report}
 use Rattle.m2v_law_audit.specs.Parts.{more_by}
 use Rattle.m2v_law_audit.specs.Accounts.{Beginning, with_buffer, dues_from, dues_by, dues_in, beginning_by, beginning_in, numbered_in, removals_by, failures_by, failures_of_stream, IsOnceAmong}
-use Rattle.m2v_law_audit.specs.Figures.{SameFigures, TellsFigures}
+use Rattle.m2v_law_audit.specs.Figures.{TellsFigures}
 use Rattle.m2v_law_audit.proofs.AccountFailures.{Begins, begins_so, none_of_all}
 use Rattle.m2v_law_audit.proofs.AccountDues.{bits_are, removals_are, EndsSo, InTurn, dues_in_turn, in_turn, few_numbered, all_end}
 use Rattle.m2v_law_audit.proofs.AccountReading.{Turns, in_pieces, few_pictures}
@@ -45,8 +45,8 @@ use Rattle.m2v_law_audit.proofs.ReportParts.{begun_by_first}
 use Rattle.m2v_law_audit.proofs.VerdictRules.{keeps_where}
 use Rattle.m2v_law_audit.proofs.VerdictLaws.{finds_nothing_where_lawful}
 use Rattle.m2v_law_audit.proofs.FigureTallies.{Levels, levels_in, with_all, levels_told}
-use Rattle.m2v_law_audit.proofs.FigureCounts.{Numbers, numbers_in, counts_of}
-use Rattle.m2v_law_audit.proofs.FigureLevels.{StandBehind, off_of, delays_are, KeepsFigures, keeps_figures}
+use Rattle.m2v_law_audit.proofs.FigureCounts.{Numbers, counts_of}
+use Rattle.m2v_law_audit.proofs.FigureLevels.{StandBehind, off_of, delays_are, keeps_figures}
 use Rattle.m2v_law_audit.proofs.FigureFrames.{frames_counted, few_pieces}
 
 -- ---- with a first sequence header, a first piece and a first picture

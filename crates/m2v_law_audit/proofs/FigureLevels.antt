@@ -1,5 +1,5 @@
 -- What is kept of the removals of a stream at constant rate, where none fails: the figures of the verifier's account.
-use Rattle.std.proofs.Common.{◌≡◌, ℕ, suc, ◌+◌, ◌-◌, ◌*◌, ◌/◌, ◌≤◌, ◌<◌, ◌^◌, min, max, Bool, true, false, not, List, [], ◌∷◌, ◌++◌, length, map, Option, Some, None, refl, sym, ap, subst, ◌∙◌, arith}
+use Rattle.std.proofs.Common.{◌≡◌, ℕ, suc, ◌+◌, ◌-◌, ◌/◌, ◌≤◌, ◌<◌, ◌^◌, max, Bool, true, false, not, List, [], ◌∷◌, ◌++◌, length, map, Option, Some, None, refl, sym, ap, subst, ◌∙◌, arith}
 use Rattle.std.specs.Prelude.{◌&&◌, nat_eq, drop, if◌then◌else◌}
 use Rattle.std.specs.Option.{unwrap_or}
 use Rattle.std.proofs.lemmas.Bool.{ne_eqb}
@@ -23,6 +23,7 @@ use Rattle.m2v_audit.proofs.m2v_check.Listed.{low_is}
 use Rattle.m2v_law_audit.specs.Accounts.{coded_at, due_at, dues_from}
 use Rattle.m2v_law_audit.specs.Parts.{more_by}
 use Rattle.m2v_law_audit.proofs.AccountFirst.{AreNumbered}
+use Rattle.m2v_law_audit.proofs.FigureCounts.{few_counted}
 use Rattle.m2v_law_audit.proofs.FigureTallies.{Levels, with_one, with_all}
 
 -- ---- removals by Annex C
@@ -164,17 +165,13 @@ off_kept number delay exact k n m e =
     let later : nat_eq number 0 ≡ false = ne_eqb number 0 (λ z. omega (arith, e, z)) in
     rw later (one_off (nat_eq delay exact) n m)
 
-few_kept : (b : Bool) (n : ℕ) → n ≤ 2 ^ 64 - 1 → (if b then one_more n else n) ≤ 2 ^ 64 - 1
-few_kept true n le = omega (arith, le)
-few_kept false n le = le
-
 off_told : (a : StreamAccount) (before : List Removal) (k : ℕ) (x : Levels) (ts : List Told) → AreExact a before ts → AreNumbered (k + 1) (dues_of ts) → x.2 ≤ 2 ^ 64 - 1 → (with_all true x ts).2 ≡ more_by x.2 (off_from a.start before (dues_of ts))
 off_told a before k x [] exact numbers le = omega (arith, le)
 off_told a before k x (t ∷ ts) exact numbers le =
     let behind = before ++ removal_of (picture_of t.0) ∷ [] in
     let later : ℕ = off_from a.start behind (dues_of ts) in
     let delay : ℕ = exact_delay a.start before (removed before + t.0.code_bits) in
-    off_told a behind (k + 1) (with_one true x t) ts exact.2 numbers.1 (few_kept _ x.2 le)
+    off_told a behind (k + 1) (with_one true x t) ts exact.2 numbers.1 (few_counted _ x.2 le)
     ∙ ap (λ (e : ℕ). more_by (if true && not (nat_eq t.0.number 0) && not (nat_eq t.0.delay e) then one_more x.2 else x.2) later) exact.1
     ∙ off_kept t.0.number t.0.delay delay k x.2 later (numbers.0 ∙ omega arith)
 
@@ -186,7 +183,7 @@ off_all : (a : StreamAccount) (x : Levels) (ts : List Told) → AreExact a [] ts
 off_all a x [] exact numbers le = omega (arith, le)
 off_all a x (t ∷ ts) exact numbers le =
     let first = first_kept t.0.number t.0.delay t.1.delay x.2 numbers.0 in
-    off_told a (removal_of (picture_of t.0) ∷ []) 0 (with_one true x t) ts exact.2 numbers.1 (few_kept _ x.2 le)
+    off_told a (removal_of (picture_of t.0) ∷ []) 0 (with_one true x t) ts exact.2 numbers.1 (few_counted _ x.2 le)
     ∙ ap (λ (n : ℕ). more_by n (off_from a.start (removal_of (picture_of t.0) ∷ []) (dues_of ts))) first
 
 -- they are those of the verifier

@@ -20,11 +20,11 @@ use Rattle.m2v_audit.specs.declared.places.Misplaced.{Misplaced}
 use Rattle.m2v_audit.specs.declared.report.Rate.{Rate}
 use Rattle.m2v_audit.specs.declared.report.SequenceTotals.{SequenceTotals}
 use Rattle.m2v_audit.specs.Account.{Account, Told, settled}
-use Rattle.m2v_audit.specs.Auditing.{nothing, sequence_of, longer, begun, begun_by, group_record, with_header, sequences_of, with_headers, bit_of, coded, counted, picture_record, with_rules, with_told, with_place, with_coded, with_note, settled_by, fronted, pictured, after_piece, cleared, totals_of, with_left, finished, ended, ended_by}
+use Rattle.m2v_audit.specs.Auditing.{nothing, sequence_of, longer, begun, begun_by, with_header, sequences_of, with_headers, bit_of, coded, counted, picture_record, with_rules, with_told, with_place, with_coded, with_note, settled_by, fronted, pictured, after_piece, cleared, totals_of, with_left, finished, ended, ended_by}
 use Rattle.m2v_audit.specs.Findings.{broken_at, misplaced_at, with_breaches, with_misplaced, with_removals}
 use Rattle.m2v_audit.specs.Front.{front_of}
 use Rattle.m2v_audit.specs.Places.{told_at_close}
-use Rattle.m2v_audit.specs.Report.{Report, one_more, before_of, after_of, least, is_off, with_text, with_breach, with_failure, with_held, with_under, with_over, with_removal, with_group_line, with_picture_line, count_of, with_counts, with_end}
+use Rattle.m2v_audit.specs.Report.{Report, one_more, before_of, after_of, least, is_off, with_breach, with_held, with_under, with_over, with_removal, with_picture_line, count_of, with_counts, with_end}
 use Rattle.m2v_law_audit.specs.Found.{piece_removals, settled_in, left_in, along, all_along, all_removals}
 use Rattle.m2v_law_audit.specs.Sequences.{SequenceReport, at_end, by_piece, reported, first_byte, sequence_report}
 use Rattle.m2v_law_audit.proofs.PartsKept.{beginning_of, stays_after, IsBare, bare_after, none_removed, none_left}

@@ -5,8 +5,8 @@ use Rattle.m2v_audit.specs.m2v_check.declared.verdict.Figures.{Figures}
 use Rattle.m2v_law_audit.specs.Sequences.{SequenceReport, sequence_report}
 
 -- A report counts as many frames shown, pictures and bytes as the verifier, and tells its figures of the buffer: the least that
--- a picture leaves and the most that is held, in bits, rounded down, and how many delays behind the first aren't exact. Where
--- no picture leaves anything, the least is 0.
+-- a picture leaves and the most that is held, in bits, rounded down, and how many delays behind the first aren't exact. Without
+-- a picture all three are 0.
 pub record SameFigures (r : SequenceReport) (f : Figures) : Type 0 where
   pub frames : r.kept.frames ≡ f.frames
   pub pictures : r.kept.pictures ≡ f.pictures
