@@ -32,3 +32,8 @@ pub mod MovedKept
 pub mod MovedSteps
 pub mod MovedPieces
 pub mod MovedTexts
+pub mod FigureTallies
+pub mod FigureCounts
+pub mod FigureLevels
+pub mod FigureFrames
+pub mod FigureLaws

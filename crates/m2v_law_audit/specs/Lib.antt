@@ -6,3 +6,4 @@ pub mod Breaches
 pub mod Accounts
 pub mod Verdicts
 pub mod Moved
+pub mod Figures

@@ -1,0 +1,246 @@
+-- What a report keeps of the removals that it tells: the least that is left and the most that is held, and how many delays are
+-- off. Nothing else that is told changes it.
+use Rattle.std.proofs.Common.{◌≡◌, ℕ, zero, suc, ◌+◌, max, Bool, true, false, List, [], ◌∷◌, ◌++◌, length, Option, Some, None, Ok, Err, refl, sym, ap, ◌∙◌}
+use Rattle.std.specs.Prelude.{nat_eq, slice_get, if◌then◌else◌}
+use Rattle.m2v_model.specs.m2v_macroblock.m2v_head.declared.sequence.SequenceInfo.{SequenceInfo}
+use Rattle.m2v_model.specs.m2v_macroblock.m2v_head.declared.sequence.SequenceExtension.{SequenceExtension}
+use Rattle.m2v_model.specs.declared.state.Sequence.{Sequence}
+use Rattle.m2v_model.specs.declared.notes.PictureNote.{PictureNote}
+use Rattle.m2v_model.specs.Lawful.{Breaches, sequence_breaches, horizontal_rule, vertical_rule, intra_rule, crowd_rule, repeat_rule, progressive_rule, precision_rule}
+use Rattle.m2v_model.specs.Pieces.{pieces, zeros_last}
+use Rattle.m2v_model.specs.PieceNotes.{PieceNotes, notes_of}
+use Rattle.m2v_model.specs.ByPieces.{Between, Course, at_start, piece_read}
+use Rattle.m2v_audit.specs.m2v_check.declared.coded.CodedPicture.{CodedPicture}
+use Rattle.m2v_audit.specs.m2v_check.Breaking.{numbered_of}
+use Rattle.m2v_audit.specs.m2v_check.Running.{ends_frame}
+use Rattle.m2v_audit.specs.declared.auditing.Auditing.{Auditing}
+use Rattle.m2v_audit.specs.declared.headers.PieceHeader.{PieceHeader}
+use Rattle.m2v_audit.specs.declared.headers.PieceHeader.TheVariants as headers
+use Rattle.m2v_audit.specs.declared.places.Misplaced.{Misplaced}
+use Rattle.m2v_audit.specs.declared.report.Rate.{Rate}
+use Rattle.m2v_audit.specs.declared.report.SequenceTotals.{SequenceTotals}
+use Rattle.m2v_audit.specs.Account.{Account, Told, settled}
+use Rattle.m2v_audit.specs.Auditing.{nothing, sequence_of, longer, begun, begun_by, with_header, sequences_of, with_headers, bit_of, coded, counted, picture_record, with_rules, with_told, with_place, with_coded, with_note, settled_by, fronted, pictured, after_piece, cleared, totals_of, with_left, finished, ended, ended_by}
+use Rattle.m2v_audit.specs.Findings.{broken_at, misplaced_at, with_breaches, with_misplaced, with_removals}
+use Rattle.m2v_audit.specs.Front.{front_of}
+use Rattle.m2v_audit.specs.Places.{told_at_close}
+use Rattle.m2v_audit.specs.Report.{Report, one_more, before_of, after_of, least, is_off, with_breach, with_held, with_under, with_over, with_removal, with_picture_line, count_of, with_counts, with_end}
+use Rattle.m2v_law_audit.specs.Found.{piece_removals, settled_in, left_in, along, all_along, all_removals}
+use Rattle.m2v_law_audit.specs.Sequences.{SequenceReport, at_end, by_piece, reported, first_byte, sequence_report}
+use Rattle.m2v_law_audit.proofs.PartsKept.{beginning_of, stays_after, IsBare, bare_after, none_removed, none_left}
+
+-- ---- what is kept
+
+-- the least that a removal left, the most that was held, and how many delays are off
+abbrev pub Levels : Type 0
+Levels = Option ℕ × ℕ × ℕ
+
+abbrev pub levels_in : Report → Levels
+levels_in r = (r.tally.low, r.tally.high, r.tally.delays)
+
+abbrev pub with_one : Bool → Levels → Told → Levels
+with_one constant x t = (
+  Some (least x.0 (after_of t.1)),
+  max x.1 (before_of t.1),
+  if is_off constant t.0 t.1 then one_more x.2 else x.2,
+)
+
+-- behind removals, in turn
+abbrev pub with_all : Bool → Levels → List Told → Levels
+with_all constant x [] = x
+with_all constant x (t ∷ ts) = with_all constant (with_one constant x t) ts
+
+all_on : (constant : Bool) (x : Levels) (ts us : List Told) → with_all constant x (ts ++ us) ≡ with_all constant (with_all constant x ts) us
+all_on constant x [] us = refl
+all_on constant x (t ∷ ts) us = all_on constant (with_one constant x t) ts us
+
+-- ---- calls of a report
+
+either : (b : Bool) (r s : Report) (x : Levels) → levels_in r ≡ x → levels_in s ≡ x → levels_in (if b then r else s) ≡ x
+either true r s x e f = e
+either false r s x e f = f
+
+breaches_keep : (r : Report) (picture bit : ℕ) (bs : Breaches) → levels_in (with_breaches r picture bit bs) ≡ levels_in r
+unfolding with_breaches
+breaches_keep r picture bit [] = refl
+breaches_keep r picture bit (b ∷ bs) = breaches_keep (with_breach r (broken_at picture bit b)) picture bit bs
+
+misplaced_keep : (r : Report) (ms : List (Option Misplaced)) → levels_in (with_misplaced r ms) ≡ levels_in r
+unfolding with_misplaced
+misplaced_keep r [] = refl
+misplaced_keep r (None ∷ ms) = misplaced_keep r ms
+misplaced_keep r (Some m ∷ ms) = misplaced_keep (with_breach r (misplaced_at m)) ms
+
+rules_keep : (r : Report) (constant : Bool) (p : CodedPicture) → levels_in (with_rules r constant p) ≡ levels_in r
+rules_keep r constant p =
+    let c = numbered_of p in
+    let xs : Breaches = horizontal_rule c ++ vertical_rule c ++ intra_rule c in
+    let ys : Breaches = crowd_rule c ++ repeat_rule constant c ++ progressive_rule c ++ precision_rule c in
+    breaches_keep (with_breaches r p.number (bit_of p.note) xs) p.number (bit_of p.note) ys ∙ breaches_keep r p.number (bit_of p.note) xs
+
+removal_kept : (r : Report) (rate : Rate) (t : Told) → levels_in (with_removal r rate t.0 t.1) ≡ with_one rate.constant (levels_in r) t
+removal_kept r rate t =
+    let held : Report = with_held r rate t.0 t.1 in
+    let under : Report = with_under held rate t.0 t.1 in
+    let first : levels_in held ≡ levels_in r = either r.pictures _ r (levels_in r) refl refl in
+    let next : levels_in under ≡ levels_in held = either t.1.is_under _ held (levels_in held) refl refl in
+    let last : levels_in (with_over under rate t.0 t.1) ≡ levels_in under = either t.1.is_over _ under (levels_in under) refl refl in
+    ap (λ (x : Levels). with_one rate.constant x t) (last ∙ next ∙ first)
+
+removals_kept : (r : Report) (rate : Rate) (ts : List Told) → levels_in (with_removals r rate ts) ≡ with_all rate.constant (levels_in r) ts
+unfolding with_removals
+removals_kept r rate [] = refl
+removals_kept r rate (t ∷ ts) = removals_kept (with_removal r rate t.0 t.1) rate ts ∙ ap (λ (x : Levels). with_all rate.constant x ts) (removal_kept r rate t)
+
+left_kept : (r : Report) (rate : Rate) (x : Option Account) → levels_in (with_left r rate x) ≡ with_all rate.constant (levels_in r) (left_in x)
+left_kept r rate None = refl
+left_kept r rate (Some x) = removals_kept r rate _
+
+counts_keep : (n : ℕ) (r : Report) → levels_in (with_counts n r) ≡ levels_in r
+unfolding with_counts
+counts_keep zero r = refl
+counts_keep (suc n) r =
+    either (nat_eq (count_of (with_counts n r).tally (suc n)).how_often 0) (with_counts n r) _ (levels_in r) (counts_keep n r) (counts_keep n r)
+
+end_keeps : (r : Report) (totals : SequenceTotals) → levels_in (with_end r totals) ≡ levels_in r
+end_keeps r totals = counts_keep 15 r
+
+-- ---- a piece
+
+begun_keeps : (first : Option Sequence) (a : Auditing) (place : ℕ) (notes : PieceNotes) → levels_in (begun first a place notes).report ≡ levels_in a.report
+begun_keeps (Some s) a place notes = refl
+begun_keeps None a place notes = by (slice_get notes.sequences 0)
+  where
+    by : (s : Option (SequenceInfo × SequenceExtension)) → levels_in (begun_by a place s notes.picture).report ≡ levels_in a.report
+    by None = refl
+    by (Some s) = refl
+
+header_keeps : (a : Auditing) (h : PieceHeader) (s : Option (SequenceInfo × SequenceExtension)) → levels_in (with_header a h s).report ≡ levels_in a.report
+unfolding with_header
+header_keeps a (headers.Sequence bit) None = refl
+header_keeps a (headers.Sequence bit) (Some s) = breaches_keep a.report a.pictures bit (sequence_breaches (sequence_of s ∷ []))
+header_keeps a (headers.Group bit g) s =
+    let r : Report = with_misplaced a.report (told_at_close a.places) in
+    either r.pictures _ r (levels_in r) refl refl ∙ misplaced_keep a.report (told_at_close a.places)
+
+headers_keep : (a : Auditing) (ss : List (SequenceInfo × SequenceExtension)) (k : ℕ) (hs : List PieceHeader) → levels_in (with_headers a ss k hs).report ≡ levels_in a.report
+unfolding with_headers
+headers_keep a ss k [] = refl
+headers_keep a ss k (h ∷ hs) = headers_keep (with_header a h (slice_get ss k)) ss (k + sequences_of h) hs ∙ header_keeps a h (slice_get ss k)
+
+either_place : (b : Bool) (a c : Auditing) (x : Levels) → levels_in a.report ≡ x → levels_in c.report ≡ x → levels_in (if b then a else c).report ≡ x
+either_place true a c x e f = e
+either_place false a c x e f = f
+
+coded_keeps : (a : Auditing) (p : CodedPicture) (place bytes zeros : ℕ) → levels_in (with_coded a p place bytes zeros).report ≡ levels_in a.report
+coded_keeps a p place bytes zeros =
+    let c : Auditing = counted a p in
+    let line : Report = with_picture_line a.report (picture_record a.report.sequence p bytes zeros) in
+    let told : Auditing = with_told c p bytes zeros in
+    let placed : levels_in (with_place told p).report ≡ levels_in told.report = either_place (ends_frame p.note) _ _ (levels_in told.report) (misplaced_keep told.report _) refl in
+    placed ∙ rules_keep line c.constant p ∙ either a.report.pictures _ a.report (levels_in a.report) refl refl
+
+note_keeps : (a : Auditing) (s : Option Sequence) (n : Option PictureNote) (place bytes ending : ℕ) → levels_in (with_note a s n place bytes ending).report ≡ levels_in a.report
+note_keeps a s None place bytes ending = refl
+note_keeps a None (Some n) place bytes ending = refl
+note_keeps a (Some s) (Some n) place bytes ending = coded_keeps a (coded a s n) place bytes ending
+
+settled_kept : (a : Auditing) (x : Option Account) → levels_in (settled_by a x).report ≡ with_all (settled_by a x).rate.constant (levels_in a.report) (settled_in x)
+settled_kept a None = refl
+settled_kept a (Some x) = removals_kept a.report a.rate (settled x)
+
+piece_kept : (a : Auditing) (place : ℕ) (piece : List ℕ) (notes : PieceNotes)
+    → levels_in (after_piece a place piece notes).report ≡ with_all (after_piece a place piece notes).rate.constant (levels_in a.report) (piece_removals a place piece notes)
+unfolding after_piece
+piece_kept a place piece notes =
+    let b : Auditing = longer (length piece) a in
+    let c : Auditing = begun b.first b place notes in
+    let d : Auditing = fronted b place piece notes in
+    let e : Auditing = pictured d place (length piece) (zeros_last piece) notes.picture in
+    let before : levels_in e.report ≡ levels_in a.report =
+    note_keeps d d.sequence notes.picture place (length piece) (zeros_last piece)
+    ∙ headers_keep c notes.sequences 0 (front_of place piece) ∙ begun_keeps b.first b place notes in
+    settled_kept e e.account ∙ ap (λ (x : Levels). with_all (settled_by e e.account).rate.constant x (settled_in e.account)) before
+
+-- ---- the end
+
+finished_kept : (a : Auditing) → levels_in (finished a).report ≡ with_all a.rate.constant (levels_in a.report) (left_in a.account)
+finished_kept a =
+    let waits : Report = with_misplaced a.report (told_at_close a.places) in
+    end_keeps (with_left waits a.rate a.account) (totals_of a)
+    ∙ left_kept waits a.rate a.account
+    ∙ ap (λ (x : Levels). with_all a.rate.constant x (left_in a.account)) (misplaced_keep a.report (told_at_close a.places))
+
+-- ---- pieces
+
+-- from here on these removals are told, at the rate that stands at the end; and a sequence that began stays
+record Sums (a : Auditing) (r : SequenceReport) (ts : List Told) : Type 0 where
+  levels : levels_in r.kept.report ≡ with_all r.kept.rate.constant (levels_in a.report) ts
+  stays : (s : Sequence) → a.first ≡ Some s → beginning_of r.kept ≡ beginning_of a
+
+end_by : Auditing → Option Sequence → SequenceReport
+end_by a first = record { lines = (ended_by first a).report.text; kept = ended_by first a }
+
+ends_by : (a : Auditing) (first : Option Sequence) → a.first ≡ first → (a.first ≡ None → IsBare a) → Sums a (end_by a first) (left_in a.account)
+unfolding end_by
+ends_by a None e bare =
+    record {
+      levels = ap (with_all a.rate.constant (levels_in a.report)) (sym (none_left a (bare e)));
+      stays = λ s f. refl;
+    }
+ends_by a (Some s) e bare = record { levels = finished_kept a; stays = λ t f. refl }
+
+ends : (a : Auditing) → (a.first ≡ None → IsBare a) → Sums a (at_end a) (left_in a.account)
+unfolding ended end_by
+ends a bare = ends_by a a.first refl bare
+
+-- where no sequence began, no removal is told; else the rate stays
+same_levels : (x : Levels) (first : Option Sequence) (rate last : Rate) (ts : List Told) → (first ≡ None → ts ≡ []) → ((s : Sequence) → first ≡ Some s → last ≡ rate) → with_all rate.constant x ts ≡ with_all last.constant x ts
+same_levels x None rate last ts none same = ap (with_all rate.constant x) (none refl) ∙ sym (ap (with_all last.constant x) (none refl))
+same_levels x (Some s) rate last ts none same = sym (ap (λ (r : Rate). with_all r.constant x ts) (same s refl))
+
+bare_behind : (a : Auditing) (place : ℕ) (piece : List ℕ) (notes : PieceNotes) → (a.first ≡ None → IsBare a) → (after_piece a place piece notes).first ≡ None → IsBare (cleared (after_piece a place piece notes))
+bare_behind a place piece notes bare none =
+    let is = bare_after a place piece notes bare none in
+    record { sequence = is.sequence; anchor = is.anchor; begun = is.begun; account = is.account }
+
+sums_on : (a : Auditing) (place : ℕ) (piece : List ℕ) (notes : PieceNotes) (lines : List ℕ) (r : SequenceReport) (ts : List Told) → (a.first ≡ None → IsBare a) → Sums (cleared (after_piece a place piece notes)) r ts
+    → Sums a (record { lines = lines; kept = r.kept }) (piece_removals a place piece notes ++ ts)
+sums_on a place piece notes lines r ts bare rest =
+    let b : Auditing = after_piece a place piece notes in
+    let gone = piece_removals a place piece notes in
+    let x : Levels = levels_in a.report in
+    let constant = r.kept.rate.constant in
+    let here : levels_in b.report ≡ with_all constant x gone =
+    piece_kept a place piece notes ∙ same_levels x b.first b.rate r.kept.rate gone (none_removed a place piece notes bare) (λ s e. ap (λ (y : Option Sequence × Rate). y.1) (rest.stays s e)) in
+    record {
+      levels = rest.levels ∙ ap (λ (y : Levels). with_all constant y ts) here ∙ sym (all_on constant x gone ts);
+      stays = λ s e.
+          let stays = stays_after a place piece notes s e in
+          rest.stays s (ap (λ (y : Option Sequence × Rate). y.0) stays ∙ e) ∙ stays;
+    }
+
+-- what holds from a byte on, whatever was read and told before
+abbrev Onward : ℕ → List (List ℕ) → Type 0
+Onward at ps = (a : Auditing) (b : Between) → (a.first ≡ None → IsBare a) → Sums a (reported a b at ps) (all_removals a b at ps)
+
+one_on : (a : Auditing) (at : ℕ) (p : List ℕ) (ps : List (List ℕ)) (read : Course) → (a.first ≡ None → IsBare a) → Onward (at + length p) ps
+    → Sums a (by_piece a at p read (λ a' b'. reported a' b' (at + length p) ps)) (along piece_removals (λ x. left_in x.account) a at p read (λ a' b'. all_removals a' b' (at + length p) ps))
+one_on a at p ps (Ok read) bare rest =
+    let to = at + length p in
+    let notes = notes_of at p read.0 in
+    let next : Auditing = cleared (after_piece a at p notes) in
+    sums_on a at p notes _ (reported next read.1 to ps) (all_removals next read.1 to ps) bare (rest next read.1 (bare_behind a at p notes bare))
+one_on a at p ps (Err f) bare rest = ends a bare
+
+onward : (at : ℕ) (ps : List (List ℕ)) → Onward at ps
+unfolding reported all_along
+onward at [] a b bare = ends a bare
+onward at (p ∷ ps) a b bare = one_on a at p ps (piece_read b (at + length p) p) bare (onward (at + length p) ps)
+
+-- what is kept of all removals of a sequence
+pub levels_told : (each : Bool) (number start : ℕ) (text : List ℕ) →
+    let r = sequence_report each number start text in
+    levels_in r.kept.report ≡ with_all r.kept.rate.constant (None, 0, 0) (all_removals (nothing number each start) at_start (first_byte start text) (pieces text))
+levels_told each number start text =
+    (onward (first_byte start text) (pieces text) (nothing number each start) at_start (λ none. record { sequence = refl; anchor = refl; begun = refl; account = refl })).levels

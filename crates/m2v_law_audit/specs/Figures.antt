@@ -1,0 +1,20 @@
+-- The figures of a report beside those of the verifier.
+use Rattle.std.specs.Prelude.{◌≡◌, ℕ, Bool, List}
+use Rattle.std.specs.Option.{unwrap_or}
+use Rattle.m2v_audit.specs.m2v_check.declared.verdict.Figures.{Figures}
+use Rattle.m2v_law_audit.specs.Sequences.{SequenceReport, sequence_report}
+
+-- A report counts as many frames shown, pictures and bytes as the verifier, and tells its figures of the buffer: the least that
+-- a picture leaves and the most that is held, in bits, rounded down, and how many delays behind the first aren't exact. Without
+-- a picture all three are 0.
+pub record SameFigures (r : SequenceReport) (f : Figures) : Type 0 where
+  pub frames : r.kept.frames ≡ f.frames
+  pub pictures : r.kept.pictures ≡ f.pictures
+  pub bytes : r.kept.bytes ≡ f.bytes
+  pub low : unwrap_or r.kept.report.tally.low 0 ≡ f.low
+  pub high : r.kept.report.tally.high ≡ f.high
+  pub delays : r.kept.report.tally.delays ≡ f.delays
+
+-- the report of a text does so, whichever sequence of the input it is and wherever it stands
+abbrev pub TellsFigures : List ℕ → Figures → Type 0
+TellsFigures text f = (each : Bool) (number start : ℕ) → SameFigures (sequence_report each number start text) f

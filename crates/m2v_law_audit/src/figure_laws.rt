@@ -1,0 +1,16 @@
+//! What a report counts of a stream, and what it says of the stream's buffer, where the verifier calls the stream lawful.
+ghost use Rattle.std.specs.Prelude.{ℕ, ◌<◌, ◌^◌, List, length};
+ghost use Rattle.m2v_model.specs.Streams.{Sofar};
+ghost use Rattle.m2v_model.specs.Decoding.{Stream};
+ghost use Rattle.m2v_audit.specs.m2v_check.declared.verdict.Figures.{Figures};
+ghost use Rattle.m2v_audit.specs.m2v_check.Meaning.{IsLawful};
+ghost use Rattle.m2v_law_audit.specs.Figures.{TellsFigures};
+
+/// Of a stream that the verifier calls lawful, with some figures, the report has the same ones, whichever sequence of the
+/// input it is and wherever it stands: frames shown, pictures and bytes, the least that a picture leaves in the buffer, the
+/// most that is held, and how many delays behind the first aren't exact. What is counted in a report stops at 2^64 - 1, so
+/// the stream has fewer bytes than 2^64; no input has as many.
+pub fn law_figures()
+    ensures { (text : List ℕ) (tree : Sofar) → Stream text tree → length text < 2 ^ 64
+        → (f : Figures) → IsLawful text f → TellsFigures text f }
+{}
