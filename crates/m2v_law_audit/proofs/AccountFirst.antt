@@ -73,16 +73,16 @@ AreNumbered k [] = Unit {0}
 AreNumbered k (d ∷ ds) = (d.number ≡ k) × AreNumbered (k + 1) ds
 
 -- the removals so far, none of which fails, and the buffer behind them
-record Behind (a : StreamAccount) (step : ℕ) (before : List Picture) (rs : List Removal) (b : Buffer) (rest : ℕ) : Type 0 where
-  are : removals before ≡ rs
-  none : NoneFails (tells (constant_start a.start step) before rest)
-  buffer : run (constant_start a.start step) before rest ≡ b
-  all : removed rs + rest ≡ a.total
+pub record Behind (a : StreamAccount) (step : ℕ) (before : List Picture) (rs : List Removal) (b : Buffer) (rest : ℕ) : Type 0 where
+  pub are : removals before ≡ rs
+  pub none : NoneFails (tells (constant_start a.start step) before rest)
+  pub buffer : run (constant_start a.start step) before rest ≡ b
+  pub all : removed rs + rest ≡ a.total
 
 left_one : (p : Picture) (ps : List Picture) → left (p ∷ []) (left ps 0) ≡ left (p ∷ ps) 0
 left_one p ps = omega (arith, left_cons p [] (left ps 0), left_cons p ps 0)
 
-one_behind : (a : StreamAccount) (step : ℕ) (before : List Picture) (rs : List Removal) (b : Buffer) (p : Picture) (ps : List Picture) → Behind a step before rs b (left (p ∷ ps) 0) → fails (told b p (left (p ∷ ps) 0)) ≡ false
+pub one_behind : (a : StreamAccount) (step : ℕ) (before : List Picture) (rs : List Removal) (b : Buffer) (p : Picture) (ps : List Picture) → Behind a step before rs b (left (p ∷ ps) 0) → fails (told b p (left (p ∷ ps) 0)) ≡ false
     → Behind a step (before ++ p ∷ []) (rs ++ removal_of p ∷ []) (next b p (left (p ∷ ps) 0)) (left ps 0)
 unfolding run tells
 one_behind a step before rs b p ps h fine =
@@ -102,6 +102,16 @@ one_behind a step before rs b p ps h fine =
       all = omega (arith, h.all, left_cons p ps 0, sum_by_push (λ (r : Removal). r.bits) rs (removal_of p));
     }
 
+-- what is held then, by Annex C
+held_by_all : (a : StreamAccount) (step : ℕ) (before : List Picture) (rs : List Removal) (b : Buffer) (rest : ℕ) → Behind a step before rs b rest → Held a.start (removed (removals before) + rest) (removals before) ≡ Held a.start a.total rs
+held_by_all a step before rs b rest h =
+    ap (λ (l : List Removal). Held a.start (removed l + rest) l) h.are ∙ ap (λ (n : ℕ). Held a.start n rs) h.all
+
+pub held_behind : (a : StreamAccount) (step : ℕ) (before : List Picture) (rs : List Removal) (b : Buffer) (p : Picture) (rest : ℕ) → Behind a step before rs b rest → (told b p rest).have ≡ Held a.start a.total rs
+unfolding told
+held_behind a step before rs b p rest h =
+    ap (λ (c : Buffer). (told c p rest).have) (sym h.buffer) ∙ held_is a.start step rest before h.none ∙ held_by_all a step before rs b rest h
+
 agrees_from : (number : ℕ) (rate : Rate) (a : StreamAccount) (step : ℕ) (before : List Picture) (rs : List Removal) (b : Buffer) (ds : List Due) → rate.size ≡ 1800 * a.start.buffer_bits → AreNumbered (length rs) ds
     → Behind a step before rs b (left (pictures ds) 0) → FirstAgree (flat_map (failures_of number rate) (all_told b ds)) (unsafe_from a rs (removals (pictures ds)))
 unfolding tells told unsafe_from unsafe_at
@@ -111,9 +121,8 @@ agrees_from number rate a step before rs b (d ∷ ds) size numbers h =
     let rest : ℕ = left (pictures (d ∷ ds)) 0 in
     let t : Removed = told b p rest in
     let held : ℕ = Held a.start a.total rs in
-    let held_then : Held a.start (removed (removals before) + rest) (removals before) ≡ held =
-    ap (λ (l : List Removal). Held a.start (removed l + rest) l) h.are ∙ ap (λ (n : ℕ). Held a.start n rs) h.all in
-    let have : t.have ≡ held = ap (λ (c : Buffer). (told c p rest).have) (sym h.buffer) ∙ held_is a.start step rest before h.none ∙ held_then in
+    let held_then : Held a.start (removed (removals before) + rest) (removals before) ≡ held = held_by_all a step before rs b rest h in
+    let have : t.have ≡ held = held_behind a step before rs b p rest h in
     let under : (t.is_under ≡ true) ↔ (held < 1800 * d.bits) =
     subst (λ (c : Buffer). ((told c p rest).is_under ≡ true) ↔ (held < 1800 * d.bits)) h.buffer
     (subst (λ (n : ℕ). ((told (run (constant_start a.start step) before rest) p rest).is_under ≡ true) ↔ (n < 1800 * d.bits)) held_then (under_is a.start step rest before p h.none)) in

@@ -30,6 +30,7 @@ use Rattle.m2v_law_audit.specs.Sequences.{by_piece, reported, first_byte, sequen
 use Rattle.m2v_law_audit.proofs.AccountReading.{Turn, Turns, turn_read, in_pieces, begun_at, behind_piece}
 use Rattle.m2v_law_audit.proofs.EventsFront.{Fronts, last_sequence}
 use Rattle.m2v_law_audit.proofs.RemovalEvents.{rest_one}
+use Rattle.m2v_law_audit.proofs.RemovalPieces.{noted_picture}
 
 -- ---- what is counted
 
@@ -110,10 +111,6 @@ noted_counts a (Some s) (Some n) place bytes ending headed =
 settled_counts : (a : Auditing) (x : Option Account) → counted_in (settled_by a x) ≡ counted_in a
 settled_counts a None = refl
 settled_counts a (Some x) = refl
-
-noted_picture : (place : ℕ) (piece : List ℕ) (es : Events) → (notes_of place piece es).picture ≡ first_note (8 * place + code_bits piece) (pictures_in es)
-unfolding notes_of
-noted_picture place piece es = refl
 
 piece_counts : (a : Auditing) (place : ℕ) (piece : List ℕ) (es : Events) → Fronts (front_of place piece) es → (last_in a.sequence es ≡ None → pictures_in es ≡ [])
     → counted_in (behind_piece a place piece es) ≡ with_picture ((a.pictures, a.frames, a.bytes + length piece), last_in a.sequence es) (first_note (8 * place + code_bits piece) (pictures_in es))

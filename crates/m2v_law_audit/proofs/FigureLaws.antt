@@ -1,4 +1,5 @@
--- Of a stream that the verifier calls lawful the report has the verifier's figures.
+-- The report of a stream counts its frames, pictures and bytes; of one that the verifier calls lawful it has the verifier's
+-- figures.
 use Rattle.std.proofs.Common.{◌≡◌, ℕ, ◌+◌, ◌-◌, ◌*◌, ◌^◌, ◌≤◌, ◌<◌, Bool, true, false, not, List, [], ◌∷◌, ◌++◌, length, map, Option, Some, None, inl, inr, refl, sym, ap, subst, ◌∙◌, arith, le_trans}
 use Rattle.std.specs.Prelude.{drop, nat_eq, if◌then◌else◌}
 use Rattle.std.specs.List.{AllByRecursion}
@@ -34,16 +35,15 @@ use Rattle.m2v_audit.proofs.m2v_check.Onward.{none_or_one}
 use Rattle.m2v_law_audit.specs.Sequences.{first_byte, sequence_report}
 use Rattle.m2v_law_audit.specs.Parts.{more_by}
 use Rattle.m2v_law_audit.specs.Accounts.{Beginning, with_buffer, dues_from, dues_by, dues_in, beginning_by, beginning_in, numbered_in, removals_by, failures_by, failures_of_stream, IsOnceAmong}
-use Rattle.m2v_law_audit.specs.Figures.{TellsFigures}
+use Rattle.m2v_law_audit.specs.Figures.{CountsAll, TellsFigures}
 use Rattle.m2v_law_audit.proofs.AccountFailures.{Begins, begins_so, none_of_all}
 use Rattle.m2v_law_audit.proofs.AccountDues.{bits_are, removals_are, EndsSo, InTurn, dues_in_turn, in_turn, few_numbered, all_end}
 use Rattle.m2v_law_audit.proofs.AccountReading.{Turns, in_pieces, few_pictures}
 use Rattle.m2v_law_audit.proofs.RemovalEvents.{none_left}
 use Rattle.m2v_law_audit.proofs.RemovalTurns.{removals_in}
-use Rattle.m2v_law_audit.proofs.RemovalFailures.{begins_with, tells_all_failures}
-use Rattle.m2v_law_audit.proofs.ReportParts.{begun_by_first}
+use Rattle.m2v_law_audit.proofs.RemovalFailures.{rate_is, tells_all_failures}
 use Rattle.m2v_law_audit.proofs.VerdictRules.{keeps_where}
-use Rattle.m2v_law_audit.proofs.VerdictLaws.{finds_nothing_where_lawful}
+use Rattle.m2v_law_audit.proofs.VerdictLaws.{uncounted, finds_nothing_where_lawful}
 use Rattle.m2v_law_audit.proofs.FigureTallies.{Levels, levels_in, with_all, levels_told}
 use Rattle.m2v_law_audit.proofs.FigureCounts.{Numbers, counts_of}
 use Rattle.m2v_law_audit.proofs.FigureLevels.{StandBehind, off_of, delays_are, keeps_figures}
@@ -141,16 +141,6 @@ figures_by at (Some s) (p ∷ ps) (n ∷ ns) constant le most has steady once en
 
 -- ---- the report
 
--- where none is counted there is none
-uncounted : (n : ℕ) → more_by 0 n ≡ 0 → n ≡ 0
-uncounted n e = omega (arith, e)
-
--- the rate of the report is that with which the account begins
-rate_is : (text : List ℕ) (tree : Sofar) → Stream text tree → (each : Bool) (number start : ℕ) (x : Beginning) → beginning_in start text tree ≡ Some x → (sequence_report each number start text).kept.rate ≡ x.rate
-rate_is text tree stream each number start x e =
-    let f = begins_with text tree stream start x e in
-    ap (λ (y : Option Sequence × Rate). y.1) (begun_by_first each number start text f.piece f.later f.told f.header f.others f.are f.read f.noted) ∙ sym f.rate
-
 -- none of its removals fails
 none_fails : (text : List ℕ) (tree : Sofar) (number start : ℕ) (x : Beginning) → failures_of_stream number start text tree ≡ [] → beginning_in start text tree ≡ Some x → NoneFails (tells x.buffer (pictures (dues_in start text tree)) 0)
 none_fails text tree number start x none e =
@@ -180,20 +170,30 @@ kept_figures text tree stream lt f is each number start =
     keeps.once (all_end false None 0 false 0 0 (events tree) r.alternates) (in_turn None 0 false 0 0 (events tree)) (first_fits (pieces text) (events tree) ns r.turns numbered)
     (λ x e. (ap (λ (y : Rate). y.constant) (rate_is text tree stream each number start x e), none_fails text tree number start x none e)))
 
+-- the report counts the stream's frames, pictures and bytes
+pub counts_all : (text : List ℕ) (tree : Sofar) → Stream text tree → length text < 2 ^ 64 → CountsAll text tree
+counts_all text tree stream lt each number start =
+    let r = in_pieces text tree stream in
+    let counts = counts_of text tree stream each number start in
+    let few : length (stream_pictures tree) ≤ 2 ^ 64 - 1 = le_trans (few_pictures at_start (pieces text) (events tree) r.turns) (few_pieces text lt) in
+    record {
+      frames = ap (λ (x : Numbers). x.1) counts ∙ frames_counted text tree stream few;
+      pictures = ap (λ (x : Numbers). x.0) counts;
+      bytes = ap (λ (x : Numbers). x.2) counts;
+    }
+
 -- the report has the verifier's figures
 pub same_figures : (text : List ℕ) (tree : Sofar) → Stream text tree → length text < 2 ^ 64 → (f : Figures) → IsLawful text f → TellsFigures text f
 same_figures text tree stream lt f is each number start =
-    let r = in_pieces text tree stream in
-    let counts = counts_of text tree stream each number start in
+    let counts = counts_all text tree stream lt each number start in
     let one : is.counts.tree ≡ tree = (exactly_one text).one_tree is.counts.tree tree is.counts.stream stream in
     let same : is.buffer.tree ≡ tree = (exactly_one text).one_tree is.buffer.tree tree is.buffer.stream stream in
     let figures : figures_in text tree ≡ buffer_figures f = sym (is.buffer.figures ∙ ap (figures_in text) same) in
-    let few : length (stream_pictures tree) ≤ 2 ^ 64 - 1 = le_trans (few_pictures at_start (pieces text) (events tree) r.turns) (few_pieces text lt) in
     let kept = kept_figures text tree stream lt f is each number start in
     record {
-      frames = ap (λ (x : Numbers). x.1) counts ∙ frames_counted text tree stream few ∙ sym (is.counts.frames ∙ ap (λ (t : Sofar). length (frames_of t)) one);
-      pictures = ap (λ (x : Numbers). x.0) counts ∙ sym (is.counts.pictures ∙ ap (λ (t : Sofar). length (stream_pictures t)) one);
-      bytes = ap (λ (x : Numbers). x.2) counts ∙ sym is.counts.bytes;
+      frames = counts.frames ∙ sym (is.counts.frames ∙ ap (λ (t : Sofar). length (frames_of t)) one);
+      pictures = counts.pictures ∙ sym (is.counts.pictures ∙ ap (λ (t : Sofar). length (stream_pictures t)) one);
+      bytes = counts.bytes ∙ sym is.counts.bytes;
       low = kept.low ∙ ap (λ (g : BufferFigures). g.low) figures;
       high = kept.high ∙ ap (λ (g : BufferFigures). g.high) figures;
       delays = kept.delays ∙ ap (λ (g : BufferFigures). g.delays) figures;

@@ -22,7 +22,7 @@ use Rattle.m2v_audit.specs.Times.{Times, after}
 use Rattle.m2v_audit.proofs.m2v_check.Listed.{low_is}
 use Rattle.m2v_law_audit.specs.Accounts.{coded_at, due_at, dues_from}
 use Rattle.m2v_law_audit.specs.Parts.{more_by}
-use Rattle.m2v_law_audit.proofs.AccountFirst.{AreNumbered}
+use Rattle.m2v_law_audit.proofs.AccountFirst.{AreNumbered, Behind, one_behind, held_behind}
 use Rattle.m2v_law_audit.proofs.FigureCounts.{few_counted}
 use Rattle.m2v_law_audit.proofs.FigureTallies.{Levels, with_one, with_all}
 
@@ -45,59 +45,27 @@ stand_on : (s at to : ℕ) (d : Due) (ds : List Due) → to ≡ at + d.bits → 
 stand_on s at to d [] e h = tt
 stand_on s at to d (c ∷ ds) e h = (omega (arith, e, h.1), omega (arith, e, h.1))
 
--- the pictures so far, none of whose removals fails, and the buffer behind them
-record Behind (a : StreamAccount) (step : ℕ) (before : List Picture) (b : Buffer) (rest : ℕ) : Type 0 where
-  none : NoneFails (tells (constant_start a.start step) before rest)
-  buffer : run (constant_start a.start step) before rest ≡ b
-  all : removed (removals before) + rest ≡ a.total
+delay_at : (a : StreamAccount) (step : ℕ) (before : List Picture) (rs : List Removal) (b : Buffer) (p : Picture) (rest : ℕ) → Behind a step before rs b rest → fails (told b p rest) ≡ false → a.start.s ≤ removed rs + p.code_bits
+    → (told b p rest).delay ≡ exact_delay a.start rs (removed rs + p.code_bits)
+delay_at a step before rs b p rest h fine le =
+    let here : fails (told (run (constant_start a.start step) before rest) p rest) ≡ false = ap (λ (c : Buffer). fails (told c p rest)) h.buffer ∙ fine in
+    let stands : a.start.s ≤ removed (removals before) + p.code_bits = subst (λ (l : List Removal). a.start.s ≤ removed l + p.code_bits) (sym h.are) le in
+    ap (λ (c : Buffer). (told c p rest).delay) (sym h.buffer)
+    ∙ delay_is a.start step rest before p h.none here stands
+    ∙ ap (λ (l : List Removal). exact_delay a.start l (removed l + p.code_bits)) h.are
 
-none_both : (xs ys : List Removed) → NoneFails xs → NoneFails ys → NoneFails (xs ++ ys)
-none_both [] ys x y = y
-none_both (t ∷ xs) ys x y = (x.0, none_both xs ys x.1 y)
-
-one_behind : (a : StreamAccount) (step : ℕ) (before : List Picture) (b : Buffer) (p : Picture) (ps : List Picture) → Behind a step before b (left (p ∷ ps) 0) → fails (told b p (left (p ∷ ps) 0)) ≡ false
-    → Behind a step (before ++ p ∷ []) (next b p (left (p ∷ ps) 0)) (left ps 0)
-unfolding run tells
-one_behind a step before b p ps h fine =
-    let start : Buffer = constant_start a.start step in
-    let rest : ℕ = left (p ∷ ps) 0 in
-    let behind : ℕ = left ps 0 in
-    let same : left (p ∷ []) behind ≡ rest = omega (arith, left_cons p [] behind, left_cons p ps 0) in
-    let here : fails (told (run start before rest) p rest) ≡ false = ap (λ (c : Buffer). fails (told c p rest)) h.buffer ∙ fine in
-    let told_is : tells start (before ++ p ∷ []) behind ≡ tells start before rest ++ told (run start before rest) p rest ∷ [] =
-    tells_append start before (p ∷ []) behind ∙ ap (λ (n : ℕ). tells start before n ++ told (run start before n) p n ∷ []) same in
-    let run_is : run start (before ++ p ∷ []) behind ≡ next (run start before rest) p rest =
-    run_append start before (p ∷ []) behind ∙ ap (λ (n : ℕ). next (run start before n) p n) same in
-    let push : removed (removals (before ++ p ∷ [])) ≡ removed (removals before) + p.bits = ap removed (map-append removal_of before (p ∷ [])) ∙ sum_by_push (λ (r : Removal). r.bits) (removals before) (removal_of p) in
-    record {
-      none = subst NoneFails (sym told_is) (none_both (tells start before rest) (told (run start before rest) p rest ∷ []) h.none (here, tt));
-      buffer = run_is ∙ ap (λ (c : Buffer). next c p rest) h.buffer;
-      all = omega (arith, h.all, left_cons p ps 0, push);
-    }
-
-held_at : (a : StreamAccount) (step : ℕ) (before : List Picture) (b : Buffer) (p : Picture) (rest : ℕ) → Behind a step before b rest → (told b p rest).have ≡ Held a.start a.total (removals before)
-unfolding told
-held_at a step before b p rest h =
-    ap (λ (c : Buffer). have_of c rest) (sym h.buffer) ∙ held_is a.start step rest before h.none ∙ ap (λ (n : ℕ). Held a.start n (removals before)) h.all
-
-delay_at : (a : StreamAccount) (step : ℕ) (before : List Picture) (b : Buffer) (p : Picture) (rest : ℕ) → Behind a step before b rest → fails (told b p rest) ≡ false → a.start.s ≤ removed (removals before) + p.code_bits
-    → (told b p rest).delay ≡ exact_delay a.start (removals before) (removed (removals before) + p.code_bits)
-delay_at a step before b p rest h fine le =
-    ap (λ (c : Buffer). (told c p rest).delay) (sym h.buffer) ∙ delay_is a.start step rest before p h.none (ap (λ (c : Buffer). fails (told c p rest)) h.buffer ∙ fine) le
-
-exact_from : (a : StreamAccount) (step : ℕ) (before : List Picture) (b : Buffer) (ds : List Due) → Behind a step before b (left (pictures ds) 0) → NoneFails (tells b (pictures ds) 0) → StandBehind a.start.s (removed (removals before)) ds
-    → AreExact a (removals before) (all_told b ds)
+exact_from : (a : StreamAccount) (step : ℕ) (before : List Picture) (rs : List Removal) (b : Buffer) (ds : List Due) → Behind a step before rs b (left (pictures ds) 0) → NoneFails (tells b (pictures ds) 0) → StandBehind a.start.s (removed rs) ds
+    → AreExact a rs (all_told b ds)
 unfolding tells
-exact_from a step before b [] h none stand = tt
-exact_from a step before b (d ∷ ds) h none stand =
+exact_from a step before rs b [] h none stand = tt
+exact_from a step before rs b (d ∷ ds) h none stand =
     let p : Picture = picture_of d in
     let rest : ℕ = left (pictures (d ∷ ds)) 0 in
-    let push : removals (before ++ p ∷ []) ≡ removals before ++ removal_of p ∷ [] = map-append removal_of before (p ∷ []) in
-    let bits : removed (removals (before ++ p ∷ [])) ≡ removed (removals before) + d.bits = ap removed push ∙ sum_by_push (λ (r : Removal). r.bits) (removals before) (removal_of p) in
-    let later = exact_from a step (before ++ p ∷ []) (next b p rest) ds (one_behind a step before b p (pictures ds) h none.0) none.1 (stand_on a.start.s (removed (removals before)) (removed (removals (before ++ p ∷ []))) d ds bits stand) in (
-      held_at a step before b p rest h,
-      delay_at a step before b p rest h none.0 stand.0,
-      subst (λ (rs : List Removal). AreExact a rs (all_told (next b p rest) ds)) push later,
+    let more : List Removal = rs ++ removal_of p ∷ [] in
+    let bits : removed more ≡ removed rs + d.bits = sum_by_push (λ (r : Removal). r.bits) rs (removal_of p) in (
+      held_behind a step before rs b p rest h,
+      delay_at a step before rs b p rest h none.0 stand.0,
+      exact_from a step (before ++ p ∷ []) more (next b p rest) ds (one_behind a step before rs b p (pictures ds) h none.0) none.1 (stand_on a.start.s (removed rs) (removed more) d ds bits stand),
     )
 
 -- ---- the most that is held
@@ -235,7 +203,7 @@ keeps_figures a step ds numbers total are stand none =
     let b : Buffer = constant_start a.start step in
     let ts : List Told = all_told b ds in
     let same : dues_of ts ≡ ds = dues_told b ds in
-    let exact : AreExact a [] ts = exact_from a step [] b ds (record { none = tt; buffer = refl; all = omega (arith, total) }) none stand in
+    let exact : AreExact a [] ts = exact_from a step [] [] b ds (record { are = refl; none = tt; buffer = refl; all = omega (arith, total) }) none stand in
     record {
       low = low_all a b ds are total;
       high =

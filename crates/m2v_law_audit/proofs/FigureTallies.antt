@@ -27,7 +27,8 @@ use Rattle.m2v_audit.specs.Places.{told_at_close}
 use Rattle.m2v_audit.specs.Report.{Report, one_more, before_of, after_of, least, is_off, with_breach, with_held, with_under, with_over, with_removal, with_picture_line, count_of, with_counts, with_end}
 use Rattle.m2v_law_audit.specs.Found.{piece_removals, settled_in, left_in, along, all_along, all_removals}
 use Rattle.m2v_law_audit.specs.Sequences.{SequenceReport, at_end, by_piece, reported, first_byte, sequence_report}
-use Rattle.m2v_law_audit.proofs.PartsKept.{beginning_of, stays_after, IsBare, bare_after, none_removed, none_left}
+use Rattle.m2v_law_audit.proofs.PartsKept.{beginning_of, stays_after, IsBare, bare_behind, none_removed, none_left}
+use Rattle.m2v_law_audit.proofs.ReportParts.{end_by}
 
 -- ---- what is kept
 
@@ -178,11 +179,7 @@ record Sums (a : Auditing) (r : SequenceReport) (ts : List Told) : Type 0 where
   levels : levels_in r.kept.report ≡ with_all r.kept.rate.constant (levels_in a.report) ts
   stays : (s : Sequence) → a.first ≡ Some s → beginning_of r.kept ≡ beginning_of a
 
-end_by : Auditing → Option Sequence → SequenceReport
-end_by a first = record { lines = (ended_by first a).report.text; kept = ended_by first a }
-
 ends_by : (a : Auditing) (first : Option Sequence) → a.first ≡ first → (a.first ≡ None → IsBare a) → Sums a (end_by a first) (left_in a.account)
-unfolding end_by
 ends_by a None e bare =
     record {
       levels = ap (with_all a.rate.constant (levels_in a.report)) (sym (none_left a (bare e)));
@@ -191,18 +188,13 @@ ends_by a None e bare =
 ends_by a (Some s) e bare = record { levels = finished_kept a; stays = λ t f. refl }
 
 ends : (a : Auditing) → (a.first ≡ None → IsBare a) → Sums a (at_end a) (left_in a.account)
-unfolding ended end_by
+unfolding ended
 ends a bare = ends_by a a.first refl bare
 
 -- where no sequence began, no removal is told; else the rate stays
 same_levels : (x : Levels) (first : Option Sequence) (rate last : Rate) (ts : List Told) → (first ≡ None → ts ≡ []) → ((s : Sequence) → first ≡ Some s → last ≡ rate) → with_all rate.constant x ts ≡ with_all last.constant x ts
 same_levels x None rate last ts none same = ap (with_all rate.constant x) (none refl) ∙ sym (ap (with_all last.constant x) (none refl))
 same_levels x (Some s) rate last ts none same = sym (ap (λ (r : Rate). with_all r.constant x ts) (same s refl))
-
-bare_behind : (a : Auditing) (place : ℕ) (piece : List ℕ) (notes : PieceNotes) → (a.first ≡ None → IsBare a) → (after_piece a place piece notes).first ≡ None → IsBare (cleared (after_piece a place piece notes))
-bare_behind a place piece notes bare none =
-    let is = bare_after a place piece notes bare none in
-    record { sequence = is.sequence; anchor = is.anchor; begun = is.begun; account = is.account }
 
 sums_on : (a : Auditing) (place : ℕ) (piece : List ℕ) (notes : PieceNotes) (lines : List ℕ) (r : SequenceReport) (ts : List Told) → (a.first ≡ None → IsBare a) → Sums (cleared (after_piece a place piece notes)) r ts
     → Sums a (record { lines = lines; kept = r.kept }) (piece_removals a place piece notes ++ ts)

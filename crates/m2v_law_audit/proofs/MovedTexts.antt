@@ -1,19 +1,16 @@
 -- Text after text: the report of an input is that of its first sequence, and then those of the texts behind it.
-use Rattle.std.proofs.Common.{◌≡◌, ℕ, suc, ◌+◌, Bool, true, false, List, ◌++◌, length, sym, ap, ◌∙◌, append_assoc, arith}
+use Rattle.std.proofs.Common.{◌≡◌, ℕ, suc, ◌+◌, Bool, true, false, List, ◌++◌, length, ap, ◌∙◌, arith}
 use Rattle.m2v_model.specs.Streams.{Sofar}
 use Rattle.m2v_model.specs.Pieces.{pieces}
 use Rattle.m2v_model.specs.Decoding.{Stream}
 use Rattle.m2v_audit.specs.m2v_check.m2v_dec_piece.Following.{text_after}
 use Rattle.m2v_audit.specs.declared.records.TotalRecord.{TotalRecord}
-use Rattle.m2v_audit.specs.Audited.{Audited, Telling, then_comes, none_counted, texts_told}
+use Rattle.m2v_audit.specs.Audited.{Telling, then_comes, none_counted, texts_told}
 use Rattle.m2v_audit.specs.Lines.{audit_line, columns_lines}
+use Rattle.m2v_audit.proofs.LeadLaws.{both_come}
 use Rattle.m2v_law_audit.specs.Sequences.{first_byte, sequence_report, PassNone}
 use Rattle.m2v_law_audit.specs.Moved.{BeginsWith, GoesOnWith}
 use Rattle.m2v_law_audit.proofs.ReportStands.{stands_in}
-
--- lines before lines
-lines_first : (xs ys : List ℕ) (x : Audited) → then_comes xs (then_comes ys x) ≡ then_comes (xs ++ ys) x
-lines_first xs ys x = ap (λ (l : List ℕ). record { report = l; outcome = x.outcome }) (sym (append_assoc xs ys x.report))
 
 module _ (text : List ℕ) (tree : Sofar) (s : Stream text tree) (each : Bool) where
   -- what goes along with a text, of which no more than a number follow
@@ -31,4 +28,4 @@ module _ (text : List ℕ) (tree : Sofar) (s : Stream text tree) (each : Bool) w
       let more : 1 + length text ≡ suc (length text) = omega arith in
       ap (λ (n : ℕ). then_comes lines (texts_told n each false none_counted 0 text)) more
       ∙ ap (then_comes lines) (stands_in text tree s each (telling_of (length text) none_counted 0) false pass)
-      ∙ lines_first lines (sequence_report each 0 0 text).lines _
+      ∙ both_come lines (sequence_report each 0 0 text).lines _

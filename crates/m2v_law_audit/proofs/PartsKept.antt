@@ -18,7 +18,7 @@ use Rattle.m2v_audit.specs.declared.places.WaitingFrame.{WaitingFrame}
 use Rattle.m2v_audit.specs.declared.places.Waiting.{Waiting}
 use Rattle.m2v_audit.specs.declared.report.Rate.{Rate}
 use Rattle.m2v_audit.specs.Account.{Account, with_more as account_more}
-use Rattle.m2v_audit.specs.Auditing.{sequence_of, rate_with, longer, begun, begun_by, with_header, sequences_of, with_headers, coded, counted, with_told, with_place, with_note, settled_by, fronted, pictured, after_piece}
+use Rattle.m2v_audit.specs.Auditing.{sequence_of, rate_with, longer, begun, begun_by, with_header, sequences_of, with_headers, coded, counted, with_told, with_place, with_note, settled_by, fronted, pictured, after_piece, cleared}
 use Rattle.m2v_audit.specs.Front.{front_of}
 use Rattle.m2v_audit.specs.Times.{Times}
 use Rattle.m2v_audit.specs.Places.{anchor_misplaced, field_misplaced, waiting_in}
@@ -145,12 +145,18 @@ module _ (a : Auditing) (place : ℕ) (piece : List ℕ) (notes : PieceNotes) wh
       let is_c : IsBare c = bare_front a.first b place notes (front_of place piece) refl still first in
       bare_noted c c.sequence notes.picture place (length piece) (zeros_last piece) is_c.sequence is_c
 
-  pub bare_after : (a.first ≡ None → IsBare a) → (after_piece a place piece notes).first ≡ None → IsBare (after_piece a place piece notes)
+  bare_after : (a.first ≡ None → IsBare a) → (after_piece a place piece notes).first ≡ None → IsBare (after_piece a place piece notes)
   unfolding after_piece
   bare_after bare none =
       let d : Auditing = pictured (fronted (longer (length piece) a) place piece notes) place (length piece) (zeros_last piece) notes.picture in
       let is : IsBare d = bare_pictured bare none in
       bare_settled d d.account is.account is
+
+  -- and where its lines were taken away
+  pub bare_behind : (a.first ≡ None → IsBare a) → (after_piece a place piece notes).first ≡ None → IsBare (cleared (after_piece a place piece notes))
+  bare_behind bare none =
+      let is = bare_after bare none in
+      record { sequence = is.sequence; anchor = is.anchor; begun = is.begun; account = is.account }
 
   pub none_removed : (a.first ≡ None → IsBare a) → (after_piece a place piece notes).first ≡ None → piece_removals a place piece notes ≡ []
   none_removed bare none = ap settled_in (bare_pictured bare none).account

@@ -100,12 +100,18 @@ first_piece at (p ∷ ps) es x begins turns e =
     ]
 
 -- of a stream whose account begins
-pub begins_with : (text : List ℕ) (tree : Sofar) → Stream text tree → (start : ℕ) (x : Beginning) → beginning_in start text tree ≡ Some x → FirstPiece (first_byte start text) (pieces text) x
+begins_with : (text : List ℕ) (tree : Sofar) → Stream text tree → (start : ℕ) (x : Beginning) → beginning_in start text tree ≡ Some x → FirstPiece (first_byte start text) (pieces text) x
 begins_with text tree stream start x e =
     let r = in_pieces text tree stream in
     first_piece (first_byte start text) (pieces text) (events tree) x (text_begins text) r.turns (ap (λ (o : Option Sequence). beginning_by o (first_byte start text) (pieces text) (numbered_in tree)) (sym r.first) ∙ e)
 
 -- ---- the report
+
+-- the rate of the report is that with which the account begins
+pub rate_is : (text : List ℕ) (tree : Sofar) → Stream text tree → (each : Bool) (number start : ℕ) (x : Beginning) → beginning_in start text tree ≡ Some x → (sequence_report each number start text).kept.rate ≡ x.rate
+rate_is text tree stream each number start x e =
+    let f = begins_with text tree stream start x e in
+    ap (λ (y : Option Sequence × Rate). y.1) (begun_by_first each number start text f.piece f.later f.told f.header f.others f.are f.read f.noted) ∙ sym f.rate
 
 -- the report of a stream tells the stream's failures, and counts them
 pub tells_all_failures : (text : List ℕ) (tree : Sofar) → Stream text tree → TellsAllFailures text tree
@@ -113,11 +119,7 @@ tells_all_failures text tree stream each number start =
     let r = sequence_report each number start text in
     let parts = parts_of each number start text in
     let findings = all_found (nothing number each start) at_start (first_byte start text) (pieces text) in
-    let same : (x : Beginning) → beginning_in start text tree ≡ Some x → r.kept.rate ≡ x.rate =
-    λ x e.
-    let f = begins_with text tree stream start x e in
-    ap (λ (y : Option Sequence × Rate). y.1) (begun_by_first each number start text f.piece f.later f.told f.header f.others f.are f.read f.noted) ∙ sym f.rate in
-    let are = failures_in text tree stream each number start r.kept.rate same in
+    let are = failures_in text tree stream each number start r.kept.rate (rate_is text tree stream each number start) in
     record {
       findings = findings;
       tells = subst (Tells r.lines findings) are parts.tells;

@@ -104,7 +104,8 @@ moved a place piece notes f o k t x h =
       behind = subst (λ (y : Option Account). Stands (cleared (with_settled d)) f o k t (option_map after_settled y)) h.account_is (settled_stands d d.account f o k t x refl h);
     }
 
-noted_picture : (place : ℕ) (piece : List ℕ) (es : Events) → (notes_of place piece es).picture ≡ first_note (8 * place + code_bits piece) (pictures_in es)
+-- the picture that is noted of a piece is the first one that it tells
+pub noted_picture : (place : ℕ) (piece : List ℕ) (es : Events) → (notes_of place piece es).picture ≡ first_note (8 * place + code_bits piece) (pictures_in es)
 unfolding notes_of
 noted_picture place piece es = refl
 

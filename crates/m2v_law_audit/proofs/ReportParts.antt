@@ -21,7 +21,7 @@ use Rattle.m2v_law_audit.specs.Parts.{Tells, more_by, Adds}
 use Rattle.m2v_law_audit.specs.Found.{failures_of, piece_found, end_found, piece_removals, left_in, along, all_along, all_found, all_removals}
 use Rattle.m2v_law_audit.proofs.PartsJoined.{IsOf, none_told, both_tell, counted_on, none_more, of_then}
 use Rattle.m2v_law_audit.proofs.PartsPieces.{piece_adds, finished_adds}
-use Rattle.m2v_law_audit.proofs.PartsKept.{beginning_of, stays_after, begun_with, IsBare, bare_after, none_removed, none_found, none_left}
+use Rattle.m2v_law_audit.proofs.PartsKept.{beginning_of, stays_after, begun_with, IsBare, bare_behind, none_removed, none_found, none_left}
 
 -- its lines were taken away, no more was counted than 64 bits can count, and without a sequence nothing waits
 pub record IsReady (a : Auditing) : Type 0 where
@@ -46,7 +46,7 @@ told_alone {old} {new} {bs} {fs} none h =
 
 -- ---- the end
 
-abbrev end_by : Auditing → Option Sequence → SequenceReport
+abbrev pub end_by : Auditing → Option Sequence → SequenceReport
 end_by a first = record { lines = (ended_by first a).report.text; kept = ended_by first a }
 
 ends_by : (a : Auditing) (first : Option Sequence) → a.first ≡ first → IsReady a → Reports a (end_by a first) (end_found a) (left_in a.account)
@@ -89,9 +89,7 @@ ready_after a place piece notes ready =
     record {
       text = refl;
       counts = record { is = refl; breaches = of.breaches; failures = of.failures };
-      bare = λ none.
-          let is = bare_after a place piece notes ready.bare none in
-          record { sequence = is.sequence; anchor = is.anchor; begun = is.begun; account = is.account };
+      bare = bare_behind a place piece notes ready.bare;
     }
 
 piece_reports : (a : Auditing) (place : ℕ) (piece : List ℕ) (notes : PieceNotes) (r : SequenceReport) (bs : List Finding) (ts : List Told) → IsReady a

@@ -1,5 +1,5 @@
 -- The report of a stream without a fault stands in the report of an input, and what follows it behind.
-use Rattle.std.proofs.Common.{◌≡◌, ℕ, ◌+◌, ◌-◌, ◌*◌, Bool, false, List, [], ◌∷◌, ◌++◌, length, Option, Ok, Err, refl, sym, ap, subst, ◌∙◌, append_assoc}
+use Rattle.std.proofs.Common.{◌≡◌, ℕ, ◌+◌, ◌-◌, ◌*◌, Bool, false, List, [], ◌∷◌, length, Option, Ok, Err, refl, sym, ap, subst, ◌∙◌}
 use Rattle.m2v_bits.specs.Syntax.{seq, bind, rule, done}
 use Rattle.m2v_model.specs.declared.fault.FaultKind.{FaultKind}
 use Rattle.m2v_model.specs.declared.fault.FaultKind.TheVariants.{NoSequence}
@@ -16,6 +16,7 @@ use Rattle.m2v_audit.specs.Auditing.{nothing, cleared, after_piece}
 use Rattle.m2v_audit.specs.Audited.{Audited, Telling, then_comes, counted_with, unless_passed, piece_told, end_told, pieces_told}
 use Rattle.m2v_law_audit.specs.Sequences.{SequenceReport, behind, by_piece, reported, first_byte, PassNone, StandsIn}
 use Rattle.m2v_audit.proofs.m2v_check.Checking.{units_of_piece}
+use Rattle.m2v_audit.proofs.LeadLaws.{both_come}
 use Rattle.m2v_law_audit.proofs.AccountReading.{behind_ok, ended_ok, stream_read}
 
 -- ---- a stream is read by its pieces
@@ -46,9 +47,6 @@ end_elsewhere : (b : Between) (end to : ℕ) (x : Events × Between) → end_rea
 end_elsewhere b end to x e =
     let h = ended_ok end (piece_read b end []) x e in
     ap (text_ended to) (piece_elsewhere b end to [] x h.0) ∙ rw h.1 refl
-
-then_on : (xs ys : List ℕ) (a : Audited) → then_comes (xs ++ ys) a ≡ then_comes xs (then_comes ys a)
-then_on xs ys a = ap (λ (l : List ℕ). record { report = l; outcome = a.outcome }) (append_assoc xs ys a.report)
 
 -- ---- what is told of it
 
@@ -84,7 +82,7 @@ module _ (x : Telling) where
       rest (cleared told) z.1 false (before + length p) (later.0, y.1) later.1 pass (λ none. refl) in
       let own = reported (cleared told) z.1 to ps in
       let here : then_comes told.report.text (pieces_told x false (cleared told) z.1 to ps) ≡ told_with (behind told.report.text own) (end_of to ps) =
-      ap (then_comes told.report.text) next ∙ sym (then_on told.report.text own.lines _) in
+      ap (then_comes told.report.text) next ∙ both_come told.report.text own.lines _ in
       subst (λ (r : Course). piece_told x a at p r (λ a' b'. pieces_told x false a' b' to ps) ≡ told_with (by_piece a at p r (λ a' b'. reported a' b' to ps)) (end_of to ps))
       (sym (piece_elsewhere b (before + length p) to p z is)) here
   piece_stands at p ps a b before y (Err f) is e pass rest = absurd cc

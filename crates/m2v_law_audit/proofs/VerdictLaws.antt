@@ -86,7 +86,7 @@ none_where_safe text tree stream steady lawful number start =
 -- ---- verdicts
 
 -- where none is counted there is none
-uncounted : (n : ℕ) → more_by 0 n ≡ 0 → n ≡ 0
+pub uncounted : (n : ℕ) → more_by 0 n ≡ 0 → n ≡ 0
 uncounted n e = omega (arith, e)
 
 lawful_where_finds : (text : List ℕ) (tree : Sofar) → Stream text tree → (each : Bool) (number start : ℕ) → FindsNothing (sequence_report each number start text) → is_variable (numbered_in tree) ≡ false → (f : Figures) × IsLawful text f
