@@ -3,15 +3,12 @@ use Rattle.std.proofs.Common.{◌≡◌, ℕ, suc, ◌+◌, ◌-◌, ◌/◌, �
 use Rattle.std.specs.Prelude.{◌&&◌, nat_eq, drop, if◌then◌else◌}
 use Rattle.std.specs.Option.{unwrap_or}
 use Rattle.std.proofs.lemmas.Bool.{ne_eqb}
-use Rattle.std.proofs.lemmas.List.{map-append}
 use Rattle.std.proofs.lemmas.List.Sums.{sum_by_push}
 use Rattle.m2v_vbv.specs.Annex.{Start, Removal, removed, Held}
-use Rattle.m2v_vbv.specs.Buffer.{Picture, Buffer, constant_start, have_of, told, next, removal_of, removals, left, run, tells, fails}
+use Rattle.m2v_vbv.specs.Buffer.{Picture, Buffer, constant_start, told, next, removal_of, removals, left, run, tells, fails}
 use Rattle.m2v_vbv.specs.Deliveries.{NoneFails}
-use Rattle.m2v_vbv.specs.declared.removed.Removed.{Removed}
 use Rattle.m2v_vbv.proofs.Fine.{left_cons}
-use Rattle.m2v_vbv.proofs.Steps.{run_append, tells_append}
-use Rattle.m2v_vbv.proofs.Constant.{held_is, delay_is}
+use Rattle.m2v_vbv.proofs.Constant.{delay_is}
 use Rattle.m2v_model.specs.Lawful.{Numbered}
 use Rattle.m2v_model.specs.Buffering.{StreamAccount, bits_of_piece, code_bits, codes, amounts_from, least, greatest, low_of, high_of, exact_delay, exact_delays_from, other_delays}
 use Rattle.m2v_audit.specs.declared.account.Due.{Due}

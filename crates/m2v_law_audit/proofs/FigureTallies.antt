@@ -20,7 +20,7 @@ use Rattle.m2v_audit.specs.declared.places.Misplaced.{Misplaced}
 use Rattle.m2v_audit.specs.declared.report.Rate.{Rate}
 use Rattle.m2v_audit.specs.declared.report.SequenceTotals.{SequenceTotals}
 use Rattle.m2v_audit.specs.Account.{Account, Told, settled}
-use Rattle.m2v_audit.specs.Auditing.{nothing, sequence_of, longer, begun, begun_by, with_header, sequences_of, with_headers, bit_of, coded, counted, picture_record, with_rules, with_told, with_place, with_coded, with_note, settled_by, fronted, pictured, after_piece, cleared, totals_of, with_left, finished, ended, ended_by}
+use Rattle.m2v_audit.specs.Auditing.{nothing, sequence_of, longer, begun, begun_by, with_header, sequences_of, with_headers, bit_of, coded, counted, picture_record, with_rules, with_told, with_place, with_coded, with_note, settled_by, fronted, pictured, after_piece, cleared, totals_of, with_left, finished, ended}
 use Rattle.m2v_audit.specs.Findings.{broken_at, misplaced_at, with_breaches, with_misplaced, with_removals}
 use Rattle.m2v_audit.specs.Front.{front_of}
 use Rattle.m2v_audit.specs.Places.{told_at_close}
