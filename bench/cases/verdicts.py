@@ -143,7 +143,7 @@ class Parser(Decoder):
     def __init__(self, data):
         super().__init__()
         self.sequences, self.coded, self.headers, self.groups, self.leads = [], [], [], 0, False
-        units = self.parts(data)
+        units = parts(data)
         self.first, self.end = units[0][0], units[-1][2]
         starts = [self.first]
         self.units_left = [(value, Reader(data[at + 4:end]), at) for at, value, end in units]
@@ -160,9 +160,6 @@ class Parser(Decoder):
         for picture, start, stop in zip(self.coded, starts, starts[1:len(self.coded)] + [self.end]):
             picture.bits = 8 * (stop - start)
         self.total = 8 * (self.end - self.first)
-
-    def parts(self, data):
-        return parts(data)
 
     def take(self, value, reader, at):
         if value == SEQUENCE:
