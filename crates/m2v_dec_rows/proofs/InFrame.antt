@@ -9,7 +9,7 @@ use Rattle.m2v_plane.specs.declared.planes.Lines.TheVariants.{Whole}
 use Rattle.m2v_plane.specs.Samples.{is_among, number_among, plane_with_row, plane_with_square}
 use Rattle.m2v_plane.proofs.Places.{plane_is}
 use Rattle.m2v_plane.proofs.RawVideo.{length-plane_by, plane_at}
-use Rattle.m2v_law_chain.proofs.Painting.{in_columns}
+use Rattle.m2v_model.proofs.Painting.{in_columns}
 
 -- A row of a plane and the plane of a frame, where so many macroblocks of the row were painted in both: there they are
 -- alike, and in its other rows the frame is as it was.

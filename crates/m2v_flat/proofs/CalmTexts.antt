@@ -16,8 +16,8 @@ use Rattle.m2v_plane.specs.Samples.{Samples}
 use Rattle.m2v_flat.specs.declared.settings.FlatSettings.{FlatSettings}
 use Rattle.m2v_flat.specs.Flat.{flat_sequence, flat_sequence_extension, flat_picture, flat_picture_extension, flat_slice, level, predictor, block_text, blocks_text, end_of_block, macroblock_text, row_text}
 use Rattle.m2v_flat.proofs.UnitLaws.{sequence_extension_length, slice_length}
-use Rattle.m2v_law_chain.specs.Texts.{Calm, IsCalm}
-use Rattle.m2v_law_chain.proofs.Calm.{calm_more, calm_less, calm_then, calm_any, calm_one, some_one, calm_end, calm_whole, calm_texts}
+use Rattle.m2v_model.specs.Texts.{Calm, IsCalm}
+use Rattle.m2v_model.proofs.Calm.{calm_more, calm_less, calm_then, calm_any, calm_one, some_one, calm_end, calm_whole, calm_texts}
 
 -- ---- blocks
 

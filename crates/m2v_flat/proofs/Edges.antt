@@ -9,7 +9,7 @@ use Rattle.m2v_plane.specs.Samples.{Samples}
 use Rattle.m2v_plane.specs.Raw.{pad}
 use Rattle.m2v_flat.specs.declared.settings.FlatSettings.{FlatSettings}
 use Rattle.m2v_flat.specs.Flat.{flat_sequence, flat_sequence_extension, flat_picture, flat_picture_extension, flat_slice, row_text, slice_unit, slices_units, sequence_units, picture_units, pictures_from, begun_text, flat_text, frame_units, Flat, FlatBegun, FlatFrame}
-use Rattle.m2v_law_chain.proofs.Edges.{texts_edge, packed_none}
+use Rattle.m2v_model.proofs.Edges.{texts_edge, packed_none}
 
 -- ---- the edge of a byte
 

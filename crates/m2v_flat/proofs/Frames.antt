@@ -19,7 +19,7 @@ use Rattle.m2v_model.specs.Streams.{Part, sequence, ending, after}
 use Rattle.m2v_model.specs.Pictures.{Store, no_frames, slice_painted, Picture, Pictures, picture_of, sequence_header, coded_picture, Events, pictures_in, closed, picture_ended, picture_begun, frames_in, events_from}
 use Rattle.m2v_order.specs.Display.{Shown}
 use Rattle.m2v_model.specs.Decoding.{is_dropped, raw_frames, shown}
-use Rattle.m2v_law_chain.proofs.Painting.{blank_painted}
+use Rattle.m2v_model.proofs.Painting.{blank_painted}
 use Rattle.m2v_flat.specs.Told.{decoded, decoded_from}
 use Rattle.m2v_flat.specs.Tree.{flat_setup, flat_row, flat_rows, flat_macroblocks, state_before, sequence_of, open_picture, state_with, state_in, pictures_parts, stream_parts}
 use Rattle.m2v_flat.proofs.Painting.{HasSamples, all_samples, row_has}

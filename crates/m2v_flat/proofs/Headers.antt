@@ -10,8 +10,8 @@ use Rattle.m2v_flat.specs.declared.settings.FlatSettings.{FlatSettings}
 use Rattle.m2v_flat.specs.Flat.{flat_sequence, flat_sequence_extension, flat_picture, flat_picture_extension}
 use Rattle.m2v_model.specs.Looking.{number_from}
 use Rattle.m2v_model.specs.Headers.{whole_header, sequence_in, sequence_extension_in, picture_in, picture_extension_in}
-use Rattle.m2v_law_chain.specs.Texts.{ended}
-use Rattle.m2v_law_chain.proofs.Headers.{behind, whole_stands, IdStands, plain_stands, f_codes_stand, coding_stands as coding_shows}
+use Rattle.m2v_model.specs.Texts.{ended}
+use Rattle.m2v_model.proofs.Headers.{behind, whole_stands, IdStands, plain_stands, f_codes_stand, coding_stands as coding_shows}
 
 -- ---- sequences
 

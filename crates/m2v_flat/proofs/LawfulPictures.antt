@@ -12,7 +12,7 @@ use Rattle.m2v_model.specs.Pictures.{coded_picture}
 use Rattle.m2v_model.specs.Lawful.{Numbered, numbered, horizontal_rule, vertical_rule, intra_rule, frames_of_group, display_place, place_in_group, reference_rule, crowd_rule, repeat_rule, progressive_rule, precision_rule, picture_breaches}
 use Rattle.m2v_flat.specs.Told.{decoded_from}
 use Rattle.m2v_flat.specs.Numbered.{counted, counted_from, intra_from}
-use Rattle.m2v_law_chain.proofs.Judging.{judge_none, most_none}
+use Rattle.m2v_model.proofs.Judging.{judge_none, most_none}
 
 -- ---- the pictures, numbered
 

@@ -23,8 +23,8 @@ use Rattle.m2v_macroblock.specs.Macroblocks.{kind_for}
 use Rattle.m2v_macroblock.specs.Modes.{first_skipped}
 use Rattle.m2v_macroblock.specs.Predictions.{prediction_of, sample_at}
 use Rattle.m2v_model.specs.Samples.{References, put_in_frame, all_painted}
-use Rattle.m2v_law_chain.specs.Painting.{IsPainted, LiesIn, own_sample, IsPartOf, ArePartsOf, after_macroblocks}
-use Rattle.m2v_law_chain.proofs.Painting.{all_more, frame_all}
+use Rattle.m2v_model.specs.Painting.{IsPainted, LiesIn, own_sample, IsPartOf, ArePartsOf, after_macroblocks}
+use Rattle.m2v_model.proofs.Painting.{all_more, frame_all}
 use Rattle.m2v_flat.specs.Tree.{flat_context, flat_setup, flat_macroblock, flat_macroblocks, state_inside, state_before}
 use Rattle.m2v_flat.proofs.Macroblocks.{inside_is, after_is, none_skipped}
 

@@ -21,13 +21,13 @@ use Rattle.m2v_model.specs.States.{at_first, one_anchor_more, with_slice, is_com
 use Rattle.m2v_model.specs.Slices.{slice_at, large_in}
 use Rattle.m2v_model.specs.Streams.{sequence, picture, slice, after, read_slice, slice_in, slice_unit, onward, later_unit, known_unit}
 use Rattle.m2v_flat.specs.Tree.{flat_setup, flat_row, flat_rows, sequence_of, flat_open, open_picture, state_with, state_in, pictures_parts}
-use Rattle.m2v_law_chain.specs.Texts.{ended, unit_bytes}
+use Rattle.m2v_model.specs.Texts.{ended, unit_bytes}
 use Rattle.m2v_flat.proofs.Slices.{slice_stands, none_large}
-use Rattle.m2v_law_chain.proofs.Headers.{behind, inside_stands}
-use Rattle.m2v_law_chain.proofs.HeaderUnits as reading
+use Rattle.m2v_model.proofs.Headers.{behind, inside_stands}
+use Rattle.m2v_model.proofs.HeaderUnits as reading
 use Rattle.m2v_flat.proofs.Headers.{sequence_fits, sequence_stands, extension_stands, picture_stands, coding_stands, sequence_id, picture_id}
-use Rattle.m2v_law_chain.specs.Chains.{Reads, Chain, nothing, link}
-use Rattle.m2v_law_chain.proofs.Chains.{chain_then}
+use Rattle.m2v_model.specs.Chains.{Reads, Chain, nothing, link}
+use Rattle.m2v_model.proofs.Chains.{chain_then}
 
 -- ---- the units
 

@@ -12,7 +12,7 @@ use Rattle.m2v_flat.specs.Answers.{HasPassed}
 use Rattle.m2v_flat.specs.Tree.{sequence_of}
 use Rattle.m2v_model.specs.States.{width_of, height_of}
 use Rattle.m2v_model.specs.Lawful.{level_of, level_rule, width_rule, height_rule, frame_rate_rule, luma_rule, rate_rule, buffer_rule, sequence_breaches}
-use Rattle.m2v_law_chain.proofs.Judging.{most_none, within_none}
+use Rattle.m2v_model.proofs.Judging.{most_none, within_none}
 
 -- ---- what settings that passed keep to
 

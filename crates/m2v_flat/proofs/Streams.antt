@@ -15,12 +15,12 @@ use Rattle.m2v_model.specs.Streams.{Part, Sofar, sequence, ending, after, stream
 use Rattle.m2v_model.specs.Pictures.{no_frames, events_from, pictures_in}
 use Rattle.m2v_model.specs.Decoding.{Stream, Decodes, low_delay_of, shown}
 use Rattle.m2v_flat.specs.Tree.{sequence_of, state_with, pictures_parts, stream_parts}
-use Rattle.m2v_law_chain.specs.Texts.{Packs}
-use Rattle.m2v_law_chain.proofs.Units.{packs_none, packs_unit, packs_append, packs_map, cuts_of}
-use Rattle.m2v_law_chain.proofs.Ends.{end_bytes, end_packs, end_stands}
+use Rattle.m2v_model.specs.Texts.{Packs}
+use Rattle.m2v_model.proofs.Units.{packs_none, packs_unit, packs_append, packs_map, cuts_of}
+use Rattle.m2v_model.proofs.Ends.{end_bytes, end_packs, end_stands}
 use Rattle.m2v_flat.proofs.CalmTexts.{sequence_calm, sequence_extension_calm, picture_calm, picture_extension_calm, slice_calm}
-use Rattle.m2v_law_chain.specs.Chains.{Chain, link}
-use Rattle.m2v_law_chain.proofs.Chains.{rounds_of, stream_of}
+use Rattle.m2v_model.specs.Chains.{Chain, link}
+use Rattle.m2v_model.proofs.Chains.{rounds_of, stream_of}
 use Rattle.m2v_flat.proofs.Pictures.{IsFlat, is_flat, IsWhole, sequence_bytes, extension_bytes, picture_bytes, coding_bytes, slice_bytes, rows_bytes, pictures_bytes, sequence_reads, pictures_chain}
 use Rattle.m2v_flat.proofs.Frames.{parts_show, first_state}
 

@@ -14,9 +14,9 @@ use Rattle.m2v_law_shown.specs.m2v_enc_stream.Streams.{zeros_of, delay_at, pictu
 use Rattle.m2v_model.specs.Units.{Units, cut}
 use Rattle.m2v_model.specs.Buffering.{before_picture, bits_of_piece, code_bits}
 use Rattle.m2v_model.proofs.CutLaws.{are_before, cut_units}
-use Rattle.m2v_law_shown.specs.m2v_law_chain.Texts.{ended, unit_bytes}
+use Rattle.m2v_model.specs.Texts.{ended, unit_bytes}
 use Rattle.m2v_law_shown.proofs.m2v_enc_stream.Pictures.{picture_length}
-use Rattle.m2v_law_shown.proofs.m2v_law_chain.Ends.{end_bytes, end_packs}
+use Rattle.m2v_model.proofs.Ends.{end_bytes, end_packs}
 use Rattle.m2v_law_shown.proofs.m2v_law_tree.Zeros.{padded_cuts}
 use Rattle.m2v_law_shown.proofs.m2v_law_tree.SliceUnits.{Spelled}
 use Rattle.m2v_law_shown.proofs.m2v_law_tree.Pictures.{sequence_bytes, extension_bytes, group_bytes, picture_bytes, coding_bytes}

@@ -12,7 +12,7 @@ use Rattle.m2v_model.specs.declared.phase.Phase.TheVariants.{Before}
 use Rattle.m2v_model.specs.Units.{Units, Cuts, joined}
 use Rattle.m2v_model.specs.Pieces.{grouped, is_end, pieces}
 use Rattle.m2v_model.proofs.CutLaws.{cuts_is}
-use Rattle.m2v_law_shown.proofs.m2v_law_chain.Ends.{end_bytes, end_packs}
+use Rattle.m2v_model.proofs.Ends.{end_bytes, end_packs}
 use Rattle.m2v_law_shown.specs.m2v_law_tree.Trees.{groups_of}
 use Rattle.m2v_law_shown.proofs.m2v_law_tree.Zeros.{padded_cuts}
 use Rattle.m2v_law_shown.proofs.m2v_law_tree.SliceUnits.{Spelled}

@@ -15,7 +15,7 @@ use Rattle.m2v_slice.specs.Headers.{picture_of}
 use Rattle.m2v_model.specs.Lawful.{Numbered, frames_of_group, display_place, place_in_group, reference_rule, picture_breaches}
 use Rattle.m2v_law_shown.specs.Own.{ends, IsOwnPicture}
 use Rattle.m2v_law_shown.specs.Places.{behind, frames_from, HavePlaces, AreOwn}
-use Rattle.m2v_law_tree.proofs.m2v_law_chain.Judging.{judge_none}
+use Rattle.m2v_model.proofs.Judging.{judge_none}
 use Rattle.m2v_law_shown.proofs.Pictures.{picture_keeps, picture_none}
 use Rattle.m2v_law_shown.proofs.Places.{group_shown}
 use Rattle.m2v_law_shown.proofs.Jobs.{IsFit, group_fits}

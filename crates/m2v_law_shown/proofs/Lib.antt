@@ -32,7 +32,6 @@ pub mod Times
 pub mod TellsNumbers
 pub mod Intervals
 pub mod Account
-pub use Rattle.m2v_law_tree.proofs.m2v_law_chain
 pub use Rattle.m2v_enc_stream.proofs as m2v_enc_stream
 pub use Rattle.m2v_law_tree.proofs as m2v_law_tree
 pub use Rattle.m2v_slice.proofs as m2v_slice

@@ -31,8 +31,8 @@ use Rattle.m2v_slice.proofs.Columns.{can_code}
 use Rattle.m2v_model.specs.declared.setup.SliceSetup.{SliceSetup}
 use Rattle.m2v_model.specs.Slices.{slice_start}
 use Rattle.m2v_model.specs.Samples.{References, put_in_frame, all_painted}
-use Rattle.m2v_law_tree.specs.m2v_law_chain.Painting.{IsPainted, lines_in, LiesIn, skipped_sample, IsPartOf, ArePartsOf, after_macroblocks}
-use Rattle.m2v_law_tree.proofs.m2v_law_chain.Painting.{all_more}
+use Rattle.m2v_model.specs.Painting.{IsPainted, lines_in, LiesIn, skipped_sample, IsPartOf, ArePartsOf, after_macroblocks}
+use Rattle.m2v_model.proofs.Painting.{all_more}
 use Rattle.m2v_law_tree.specs.Slices.{setup_of, slice_read}
 use Rattle.m2v_law_shown.specs.Views.{AreReferencesOf, HasRowOf}
 use Rattle.m2v_law_shown.proofs.Reading.{predicted_same, block_same}

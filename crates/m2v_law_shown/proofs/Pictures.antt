@@ -13,7 +13,7 @@ use Rattle.m2v_order.specs.Times.{repeats}
 use Rattle.m2v_slice.specs.Headers.{sequence_extension_of, picture_of, extension_of, begins_group, is_film, IsJob}
 use Rattle.m2v_model.specs.Lawful.{Breaches, at_most, Numbered, most_horizontal, level_in, horizontal_rule, vertical_rule, intra_rule, crowd_rule, repeat_rule, progressive_rule, precision_rule, reference_rule, picture_breaches}
 use Rattle.m2v_law_shown.specs.Own.{IsOwnPicture, FitsScan, BreaksNone}
-use Rattle.m2v_law_tree.proofs.m2v_law_chain.Judging.{judge_none, most_none}
+use Rattle.m2v_model.proofs.Judging.{judge_none, most_none}
 
 -- a type is one of three
 pub by_kind : (P : ℕ → Type 0) (k : ℕ) → 1 ≤ k → k ≤ 3 → P 1 → P 2 → P 3 → P k

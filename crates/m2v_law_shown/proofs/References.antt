@@ -26,7 +26,7 @@ use Rattle.m2v_slice.proofs.Groups.{HasStructure, picture_is_one, source_size}
 use Rattle.m2v_model.specs.Samples.{References}
 use Rattle.m2v_model.specs.Pictures.{Store, second_field_of, references_by}
 use Rattle.m2v_model.specs.Pictures as pictures
-use Rattle.m2v_law_tree.specs.m2v_law_chain.Painting.{HasPart, IsPainted}
+use Rattle.m2v_model.specs.Painting.{HasPart, IsPainted}
 use Rattle.m2v_law_tree.specs.Trees.{task_at}
 use Rattle.m2v_law_shown.specs.Views.{AgreeInside, AreReferencesOf}
 use Rattle.m2v_law_shown.specs.Rows.{samples_of}

@@ -11,8 +11,8 @@ use Rattle.m2v_plane.specs.Samples.{Samples, blank, is_among}
 use Rattle.m2v_slice.specs.Slices.{SliceTask}
 use Rattle.m2v_model.specs.Slices.{slice_start}
 use Rattle.m2v_model.specs.Samples.{References}
-use Rattle.m2v_law_tree.specs.m2v_law_chain.Painting.{IsPainted, frame_by, lines_in}
-use Rattle.m2v_law_tree.proofs.m2v_law_chain.Painting.{part_none, blank_painted, frame_all, frame_fields, all_kept}
+use Rattle.m2v_model.specs.Painting.{IsPainted, frame_by, lines_in}
+use Rattle.m2v_model.proofs.Painting.{part_none, blank_painted, frame_all, frame_fields, all_kept}
 use Rattle.m2v_law_tree.specs.Slices.{setup_of, slice_read}
 use Rattle.m2v_law_shown.specs.Views.{slice_in}
 use Rattle.m2v_law_shown.specs.Rows.{rows_in, IsRowOf}

@@ -16,7 +16,7 @@ use Rattle.m2v_model.specs.declared.state.Sequence.{Sequence}
 use Rattle.m2v_model.specs.States.{width_of, height_of}
 use Rattle.m2v_model.specs.Lawful.{Breaches, level_of, level_rule, width_rule, height_rule, frame_rate_rule, luma_rule, rate_rule, buffer_rule, rate_of, buffer_of, limits_in, is_level, sequence_breaches}
 use Rattle.m2v_law_shown.specs.Own.{own_sequence}
-use Rattle.m2v_law_tree.proofs.m2v_law_chain.Judging.{judge_none, most_none, within_none}
+use Rattle.m2v_model.proofs.Judging.{judge_none, most_none, within_none}
 
 -- ---- rules that hold
 

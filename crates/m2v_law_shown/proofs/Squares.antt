@@ -16,7 +16,7 @@ use Rattle.m2v_slice.specs.m2v_choose.Decisions.{Decision}
 use Rattle.m2v_slice.specs.Slices.{SliceTask, Begun, decision, with_candidate, begun, slice_of}
 use Rattle.m2v_slice.specs.Laws.{IsSlice}
 use Rattle.m2v_slice.proofs.Columns.{row_dims}
-use Rattle.m2v_law_tree.specs.m2v_law_chain.Painting.{lines_in, LiesIn}
+use Rattle.m2v_model.specs.Painting.{lines_in, LiesIn}
 use Rattle.m2v_law_shown.specs.Views.{HasRowOf}
 
 -- ---- one square of a row

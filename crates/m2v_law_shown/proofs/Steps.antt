@@ -28,7 +28,7 @@ use Rattle.m2v_model.specs.Samples.{References}
 use Rattle.m2v_model.specs.Streams.{Part}
 use Rattle.m2v_model.specs.Pictures.{Store, Picture, Pictures, Events, no_references, coded_picture, picture_ended, is_ending, typed, frames_in}
 use Rattle.m2v_model.specs.Pictures as pictures
-use Rattle.m2v_law_tree.specs.m2v_law_chain.Painting.{IsPainted}
+use Rattle.m2v_model.specs.Painting.{IsPainted}
 use Rattle.m2v_law_tree.specs.Trees.{task_at, picture_parts, pictures_parts}
 use Rattle.m2v_law_tree.specs.States.{open_at, waiting_behind, anchors_behind}
 use Rattle.m2v_law_shown.specs.Views.{AreReferencesOf}

@@ -23,7 +23,7 @@ use Rattle.m2v_slice.specs.Conditions.{IsBook}
 use Rattle.m2v_slice.proofs.Groups.{HasStructure, picture_is_one}
 use Rattle.m2v_enc_stream.specs.Streams.{frame_of}
 use Rattle.m2v_model.specs.Pictures as pictures
-use Rattle.m2v_law_tree.specs.m2v_law_chain.Painting.{frame_by}
+use Rattle.m2v_model.specs.Painting.{frame_by}
 use Rattle.m2v_law_shown.specs.Rows.{samples_of}
 use Rattle.m2v_law_shown.specs.Stores.{ends_anchor, frame_in, newer_behind, older_behind}
 use Rattle.m2v_slice.proofs.Firsts.{first_kind}

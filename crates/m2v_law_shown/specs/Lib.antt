@@ -8,7 +8,6 @@ pub mod Own
 pub mod Places
 pub mod Telling
 pub mod Told
-pub use Rattle.m2v_law_tree.specs.m2v_law_chain
 pub use Rattle.m2v_enc_stream.specs as m2v_enc_stream
 pub use Rattle.m2v_law_tree.specs as m2v_law_tree
 pub use Rattle.m2v_slice.specs as m2v_slice

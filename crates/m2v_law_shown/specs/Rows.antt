@@ -11,7 +11,7 @@ use Rattle.m2v_slice.specs.Laws.{IsSlice}
 use Rattle.m2v_slice.specs.Books.{Book, CodedPicture, picture_sample}
 use Rattle.m2v_enc_stream.specs.Streams.{picture_with}
 use Rattle.m2v_model.specs.Samples.{References}
-use Rattle.m2v_law_tree.specs.m2v_law_chain.Painting.{lines_in}
+use Rattle.m2v_model.specs.Painting.{lines_in}
 use Rattle.m2v_law_shown.specs.Views.{AreReferencesOf, HasRowOf, slice_in}
 
 -- a frame with the first n slices of a picture

@@ -6,7 +6,7 @@ use Rattle.m2v_set.specs.Numbers.{dims_of}
 use Rattle.m2v_slice.specs.Books.{Book, rows, job_at, coded}
 use Rattle.m2v_enc_stream.specs.Streams.{frame_of}
 use Rattle.m2v_model.specs.Pictures.{Store}
-use Rattle.m2v_law_tree.specs.m2v_law_chain.Painting.{IsPainted}
+use Rattle.m2v_model.specs.Painting.{IsPainted}
 use Rattle.m2v_law_shown.specs.Rows.{samples_of}
 
 -- a picture ends an anchor: an I or P frame picture, or the second field of one

@@ -13,9 +13,9 @@ use Rattle.m2v_set.specs.Rules.{is_progressive}
 use Rattle.m2v_order.specs.declared.jobs.PictureJob.{PictureJob}
 use Rattle.m2v_slice.specs.Headers.{profile_of, sequence_of, sequence_extension_of, group_from, picture_of, extension_of}
 use Rattle.m2v_slice.proofs.TextLengths.{sequence_extension_length, picture_length}
-use Rattle.m2v_law_chain.specs.Texts.{Calm, ended, IsCalm}
-use Rattle.m2v_law_chain.proofs.Calm.{calm_then, calm_any, calm_one, some_one, calm_end, calm_whole}
-use Rattle.m2v_law_chain.proofs.Headers.{plain}
+use Rattle.m2v_model.specs.Texts.{Calm, ended, IsCalm}
+use Rattle.m2v_model.proofs.Calm.{calm_then, calm_any, calm_one, some_one, calm_end, calm_whole}
+use Rattle.m2v_model.proofs.Headers.{plain}
 use Rattle.m2v_law_tree.proofs.Headers.{plain_is, size_bounds, by_kind}
 
 -- ---- sequences

@@ -9,8 +9,8 @@ use Rattle.m2v_bits.specs.Syntax.{Syntax, done, seq, here, rule, choose, renamed
 use Rattle.m2v_bits.specs.Leaves.{bits_at, zero_at}
 use Rattle.m2v_bits.proofs.Bits.{length-bits_of}
 use Rattle.m2v_vlc.specs.Codes.{Row, In, code, code_at}
-use Rattle.m2v_law_chain.specs.Texts.{Calm}
-use Rattle.m2v_law_chain.proofs.Calm.{calm_more, calm_less, calm_then, calm_any, calm_one, some_one}
+use Rattle.m2v_model.specs.Texts.{Calm}
+use Rattle.m2v_model.proofs.Calm.{calm_more, calm_less, calm_then, calm_any, calm_one, some_one}
 
 -- ---- the front of a text
 

@@ -19,9 +19,9 @@ use Rattle.m2v_model.specs.declared.state.State.{State}
 use Rattle.m2v_model.specs.Units.{Units}
 use Rattle.m2v_model.specs.States.{at_first, is_complete, none_waits}
 use Rattle.m2v_model.specs.Streams.{Part}
-use Rattle.m2v_law_chain.specs.Chains.{Chain, nothing}
-use Rattle.m2v_law_chain.proofs.Chains.{chain_then}
-use Rattle.m2v_law_chain.proofs.Units.{packs_none}
+use Rattle.m2v_model.specs.Chains.{Chain, nothing}
+use Rattle.m2v_model.proofs.Chains.{chain_then}
+use Rattle.m2v_model.proofs.Units.{packs_none}
 use Rattle.m2v_law_tree.specs.Trees.{sequence_by, pictures_parts, group_parts, groups_parts}
 use Rattle.m2v_law_tree.specs.States.{state_with, open_at, waiting_behind, anchors_behind}
 use Rattle.m2v_law_tree.proofs.Turns.{IsCounted, none_behind, anchors_end}

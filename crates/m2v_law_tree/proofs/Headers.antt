@@ -22,8 +22,8 @@ use Rattle.m2v_slice.specs.Headers.{profile_of, sequence_of, sequence_extension_
 use Rattle.m2v_slice.proofs.Groups.{HasStructure}
 use Rattle.m2v_model.specs.Looking.{number_from}
 use Rattle.m2v_model.specs.Headers.{whole_header, sequence_in, sequence_extension_in, group_in, picture_in, is_structure, f_codes_at, picture_extension_in}
-use Rattle.m2v_law_chain.specs.Texts.{ended}
-use Rattle.m2v_law_chain.proofs.Headers.{behind, whole_stands, IdStands, plain, plain_stands, f_codes_stand, coding_stands as coding_shows}
+use Rattle.m2v_model.specs.Texts.{ended}
+use Rattle.m2v_model.proofs.Headers.{behind, whole_stands, IdStands, plain, plain_stands, f_codes_stand, coding_stands as coding_shows}
 
 -- ---- sequences
 

@@ -19,4 +19,3 @@ pub mod States
 pub mod Streams
 pub mod Turns
 pub mod Zeros
-pub use Rattle.m2v_law_chain.proofs as m2v_law_chain

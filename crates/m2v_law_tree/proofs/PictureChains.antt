@@ -32,10 +32,10 @@ use Rattle.m2v_model.specs.declared.state.State.{State}
 use Rattle.m2v_model.specs.Units.{Units}
 use Rattle.m2v_model.specs.States.{is_complete, none_waits, is_same_sequence}
 use Rattle.m2v_model.specs.Streams.{Part, sequence, group, picture, after}
-use Rattle.m2v_law_chain.specs.Texts.{Packs}
-use Rattle.m2v_law_chain.specs.Chains.{Reads, Chain, nothing, link}
-use Rattle.m2v_law_chain.proofs.Chains.{chain_then}
-use Rattle.m2v_law_chain.proofs.Units.{packs_none, packs_unit, packs_append}
+use Rattle.m2v_model.specs.Texts.{Packs}
+use Rattle.m2v_model.specs.Chains.{Reads, Chain, nothing, link}
+use Rattle.m2v_model.proofs.Chains.{chain_then}
+use Rattle.m2v_model.proofs.Units.{packs_none, packs_unit, packs_append}
 use Rattle.m2v_law_tree.specs.Slices.{slice_body}
 use Rattle.m2v_law_tree.specs.Trees.{sequence_by, header_parts, task_at, picture_parts}
 use Rattle.m2v_law_tree.specs.States.{waiting_behind, anchors_behind}

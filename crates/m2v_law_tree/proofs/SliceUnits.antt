@@ -22,9 +22,9 @@ use Rattle.m2v_model.specs.Units.{Units}
 use Rattle.m2v_model.specs.States.{picture_rows, slice_setup}
 use Rattle.m2v_model.specs.Slices.{slice_at, large_in}
 use Rattle.m2v_model.specs.Streams.{Part, slice, after, read_slice, slice_in, slice_unit, onward, later_unit, known_unit}
-use Rattle.m2v_law_chain.specs.Texts.{unit_bytes, IsCalm}
-use Rattle.m2v_law_chain.specs.Chains.{Reads, Chain, nothing, link}
-use Rattle.m2v_law_chain.proofs.Chains.{chain_then}
+use Rattle.m2v_model.specs.Texts.{unit_bytes, IsCalm}
+use Rattle.m2v_model.specs.Chains.{Reads, Chain, nothing, link}
+use Rattle.m2v_model.proofs.Chains.{chain_then}
 use Rattle.m2v_law_tree.specs.Slices.{AreDecoded, setup_of, slice_body, slice_read}
 use Rattle.m2v_law_tree.specs.Trees.{sequence_by, task_at, slice_parts}
 use Rattle.m2v_law_tree.specs.States.{open_at}

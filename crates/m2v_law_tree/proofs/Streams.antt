@@ -13,9 +13,9 @@ use Rattle.m2v_model.specs.Units.{Units, Cuts}
 use Rattle.m2v_model.specs.States.{at_first, none_waits}
 use Rattle.m2v_model.specs.Streams.{Part, Sofar, ending, after, unit_round, stream_at}
 use Rattle.m2v_model.specs.Decoding.{Stream}
-use Rattle.m2v_law_chain.specs.Chains.{Chain, nothing, link}
-use Rattle.m2v_law_chain.proofs.Ends.{end_bytes, end_packs, end_stands}
-use Rattle.m2v_law_chain.proofs.Chains.{rounds_of, stream_of}
+use Rattle.m2v_model.specs.Chains.{Chain, nothing, link}
+use Rattle.m2v_model.proofs.Ends.{end_bytes, end_packs, end_stands}
+use Rattle.m2v_model.proofs.Chains.{rounds_of, stream_of}
 use Rattle.m2v_law_tree.specs.Trees.{groups_of, groups_parts, state_behind, tree_of}
 use Rattle.m2v_law_tree.specs.States.{state_with}
 use Rattle.m2v_law_tree.proofs.Zeros.{padded_cuts}

@@ -11,9 +11,9 @@ use Rattle.m2v_bits.specs.Bits.{bits_of, number, bits, packed, unit, to_edge}
 use Rattle.m2v_bits.proofs.Units.{unit_edge, packed-append}
 use Rattle.m2v_model.specs.Faults.{InUnit}
 use Rattle.m2v_model.specs.Units.{begins_code, joined, Clear, AreUnits, Cuts, Units, inside}
-use Rattle.m2v_law_chain.specs.Texts.{ended, unit_bytes, IsCalm, IsTidy, Packs}
-use Rattle.m2v_law_chain.proofs.Calm.{calm_end}
-use Rattle.m2v_law_chain.proofs.Units.{ended_bits, are_units, joined_append, packs_unit}
+use Rattle.m2v_model.specs.Texts.{ended, unit_bytes, IsCalm, IsTidy, Packs}
+use Rattle.m2v_model.proofs.Calm.{calm_end}
+use Rattle.m2v_model.proofs.Units.{ended_bits, are_units, joined_append, packs_unit}
 
 -- a unit, and zero bytes behind it
 abbrev pub padded : List ℕ → ℕ → List ℕ

@@ -4,7 +4,7 @@ ghost use Rattle.std.specs.Prelude.{ℕ, ◌≡◌, ◌*◌, ◌++◌, List, Boo
 ghost use Rattle.m2v_slice.specs.Slices.{SliceTask};
 ghost use Rattle.m2v_slice.specs.Laws.{IsSlice};
 ghost use Rattle.m2v_model.specs.Slices.{slice_at, large_in};
-ghost use Rattle.m2v_law_chain.specs.Texts.{IsCalm};
+ghost use Rattle.m2v_model.specs.Texts.{IsCalm};
 ghost use Rattle.m2v_law_tree.specs.Slices.{AreDecoded, setup_of, slice_body, slice_read};
 ghost use Rattle.m2v_set.specs.declared.settings.Settings.{Settings};
 ghost use Rattle.m2v_set.specs.Rules.{Passes};

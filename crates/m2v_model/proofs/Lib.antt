@@ -17,3 +17,12 @@ pub mod VerdictLaws
 pub mod Fronts
 pub mod Worked
 pub mod Verdicts
+pub mod Calm
+pub mod Chains
+pub mod Edges
+pub mod Painting
+pub mod Units
+pub mod Headers
+pub mod HeaderUnits
+pub mod Ends
+pub mod Judging

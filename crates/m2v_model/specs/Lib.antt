@@ -21,6 +21,9 @@ pub mod Outside
 pub mod FieldStreams
 pub mod Worked
 pub mod Verdicts
+pub mod Texts
+pub mod Chains
+pub mod Painting
 pub use Rattle.m2v_macroblock.specs.m2v_macro
 pub use Rattle.m2v_macroblock.specs as m2v_macroblock
 pub use Rattle.m2v_macroblock.specs.m2v_pred

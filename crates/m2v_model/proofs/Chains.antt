@@ -5,7 +5,7 @@ use Rattle.m2v_model.specs.declared.state.State.{State}
 use Rattle.m2v_model.specs.Units.{Units, unit_at, unit_bits}
 use Rattle.m2v_model.specs.States.{at_first, none_waits}
 use Rattle.m2v_model.specs.Streams.{Part, Sofar, after, next_unit, unit_round, units_from, stream_from, stream_at}
-use Rattle.m2v_law_chain.specs.Chains.{Reads, Chain, nothing, link, sofar}
+use Rattle.m2v_model.specs.Chains.{Reads, Chain, nothing, link, sofar}
 
 pub chain_then : {a b c : State} {ps qs : List Part} {us vs : Units} → Chain a ps us b → Chain b qs vs c → Chain a (ps ++ qs) (us ++ vs) c
 chain_then nothing g = g

@@ -11,9 +11,9 @@ use Rattle.m2v_model.specs.Units.{unit_at, unit_bits}
 use Rattle.m2v_model.specs.Headers.{whole_header, sequence_in, sequence_extension_in, picture_in, picture_extension_in}
 use Rattle.m2v_model.specs.States.{is_complete, none_waits, is_same_sequence, is_progressive, is_second_field_due, has_anchor}
 use Rattle.m2v_model.specs.Streams.{sequence, picture, close, no_second_field_due, extension_behind, sequence_unit, picture_unit, onward, later_unit, known_unit}
-use Rattle.m2v_law_chain.specs.Texts.{ended, unit_bytes}
-use Rattle.m2v_law_chain.specs.Chains.{Reads}
-use Rattle.m2v_law_chain.proofs.Headers.{IdStands, inside_stands, extension_in_stands}
+use Rattle.m2v_model.specs.Texts.{ended, unit_bytes}
+use Rattle.m2v_model.specs.Chains.{Reads}
+use Rattle.m2v_model.proofs.Headers.{IdStands, inside_stands, extension_in_stands}
 
 pub sequence_reads : (st : State) (info : SequenceInfo) (extension : SequenceExtension) (t e : List Bool)
     → (whole_header sequence_in).Stands info (ended t) [] → (whole_header (sequence_extension_in info)).Stands extension (ended e) [] → IdStands 1 e

@@ -15,16 +15,16 @@ use Rattle.m2v_plane.specs.Sizes.{side}
 use Rattle.m2v_plane.specs.Samples.{Samples, plane_by, is_among, number_among, plane_with_square, blank}
 use Rattle.m2v_plane.proofs.Places.{plane_is, line_fits}
 use Rattle.m2v_plane.proofs.RawVideo.{length-plane_by, plane_at}
-use Rattle.m2v_model.specs.m2v_pred.declared.mode.MbPlace.{MbPlace}
-use Rattle.m2v_model.specs.m2v_pred.Motion.{own_lines}
-use Rattle.m2v_model.specs.m2v_macro.declared.values.SliceState.{SliceState}
-use Rattle.m2v_model.specs.m2v_macro.declared.values.PictureContext.{PictureContext}
-use Rattle.m2v_model.specs.m2v_macro.States.{after}
-use Rattle.m2v_model.specs.m2v_macroblock.Macroblocks.{Macroblock, after_macroblock}
-use Rattle.m2v_model.specs.m2v_macroblock.Modes.{place_of, address_of, skipped_before, first_skipped}
+use Rattle.m2v_macroblock.specs.m2v_pred.declared.mode.MbPlace.{MbPlace}
+use Rattle.m2v_macroblock.specs.m2v_pred.Motion.{own_lines}
+use Rattle.m2v_macroblock.specs.m2v_macro.declared.values.SliceState.{SliceState}
+use Rattle.m2v_macroblock.specs.m2v_macro.declared.values.PictureContext.{PictureContext}
+use Rattle.m2v_macroblock.specs.m2v_macro.States.{after}
+use Rattle.m2v_macroblock.specs.Macroblocks.{Macroblock, after_macroblock}
+use Rattle.m2v_macroblock.specs.Modes.{place_of, address_of, skipped_before, first_skipped}
 use Rattle.m2v_model.specs.declared.setup.SliceSetup.{SliceSetup}
 use Rattle.m2v_model.specs.Samples.{References, with_squares, put_in_frame, skipped_painted, own_painted, painted, all_painted}
-use Rattle.m2v_law_chain.specs.Painting.{HasPart, IsPainted, frame_by, lines_in, LiesIn, skipped_sample, own_sample, IsPartOf, ArePartsOf, after_macroblocks}
+use Rattle.m2v_model.specs.Painting.{HasPart, IsPainted, frame_by, lines_in, LiesIn, skipped_sample, own_sample, IsPartOf, ArePartsOf, after_macroblocks}
 
 -- ---- planes
 

@@ -7,10 +7,10 @@ use Rattle.m2v_model.specs.declared.state.State.{State}
 use Rattle.m2v_model.specs.Units.{unit_at, unit_bits}
 use Rattle.m2v_model.specs.States.{is_complete, none_waits}
 use Rattle.m2v_model.specs.Streams.{Part, ending, after, close, no_second_field_due, end_unit, final, later_unit, known_unit, next_unit, unit_round}
-use Rattle.m2v_law_chain.specs.Texts.{unit_bytes, Packs}
-use Rattle.m2v_law_chain.specs.Chains.{sofar}
-use Rattle.m2v_law_chain.proofs.Units.{packs_unit}
-use Rattle.m2v_law_chain.proofs.Calm.{calm_end}
+use Rattle.m2v_model.specs.Texts.{unit_bytes, Packs}
+use Rattle.m2v_model.specs.Chains.{sofar}
+use Rattle.m2v_model.proofs.Units.{packs_unit}
+use Rattle.m2v_model.proofs.Calm.{calm_end}
 
 abbrev pub end_bytes : List ℕ
 end_bytes = unit_bytes 0xB7 []

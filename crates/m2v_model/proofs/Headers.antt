@@ -19,8 +19,8 @@ use Rattle.m2v_model.specs.Looking.{number_from, look, looking}
 use Rattle.m2v_model.specs.Units.{Units, inside}
 use Rattle.m2v_model.specs.Headers.{whole_header, size_of, size_at, sequence_extension_in, is_f_code, uses_forward, uses_backward, f_code_at, f_codes_at, is_structure, picture_extension_in}
 use Rattle.m2v_model.specs.Streams.{id_at, extension_in}
-use Rattle.m2v_law_chain.specs.Texts.{ended, unit_bytes}
-use Rattle.m2v_law_chain.proofs.Units.{ended_bits}
+use Rattle.m2v_model.specs.Texts.{ended, unit_bytes}
+use Rattle.m2v_model.proofs.Units.{ended_bits}
 
 -- ---- units
 

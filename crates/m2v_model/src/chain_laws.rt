@@ -1,3 +1,5 @@
+//! What streams of any profile are proved with: no prefix of a start code in a text, units one behind another, chains of
+//! parts, and frames and fields whose macroblocks are painted in raster order.
 ghost use Rattle.std.specs.Prelude.{◌≡◌, ℕ, ◌*◌, ◌<◌, [], ◌++◌, List, Bool};
 ghost use Rattle.m2v_bits.specs.Bits.{packed};
 ghost use Rattle.m2v_bits.specs.Syntax.{Rounds};
@@ -5,17 +7,17 @@ ghost use Rattle.m2v_plane.specs.declared.dims.Dims.{Dims};
 ghost use Rattle.m2v_plane.specs.declared.planes.Plane.{Plane};
 ghost use Rattle.m2v_plane.specs.declared.planes.Lines.TheVariants.{Whole, Top, Bottom};
 ghost use Rattle.m2v_plane.specs.Samples.{Samples, plane_by};
-ghost use Rattle.m2v_model.specs.m2v_macro.declared.values.SliceState.{SliceState};
-ghost use Rattle.m2v_model.specs.m2v_macroblock.Macroblocks.{Macroblock};
-ghost use Rattle.m2v_model.specs.m2v_macroblock.Modes.{first_skipped};
+ghost use Rattle.m2v_macroblock.specs.m2v_macro.declared.values.SliceState.{SliceState};
+ghost use Rattle.m2v_macroblock.specs.Macroblocks.{Macroblock};
+ghost use Rattle.m2v_macroblock.specs.Modes.{first_skipped};
 ghost use Rattle.m2v_model.specs.declared.setup.SliceSetup.{SliceSetup};
 ghost use Rattle.m2v_model.specs.declared.state.State.{State};
 ghost use Rattle.m2v_model.specs.Samples.{References, put_in_frame, all_painted};
 ghost use Rattle.m2v_model.specs.Units.{Units, Cuts};
 ghost use Rattle.m2v_model.specs.Streams.{Part, Sofar, unit_round};
-ghost use Rattle.m2v_law_chain.specs.Texts.{Packs};
-ghost use Rattle.m2v_law_chain.specs.Chains.{Chain};
-ghost use Rattle.m2v_law_chain.specs.Painting.{HasPart, IsPainted, lines_in, ArePartsOf, after_macroblocks};
+ghost use Rattle.m2v_model.specs.Texts.{Packs};
+ghost use Rattle.m2v_model.specs.Chains.{Chain};
+ghost use Rattle.m2v_model.specs.Painting.{HasPart, IsPainted, lines_in, ArePartsOf, after_macroblocks};
 
 /// A text that packs units, in none of which a prefix of a start code stands, is cut into these units.
 pub fn law_cut()

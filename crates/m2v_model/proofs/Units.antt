@@ -9,11 +9,11 @@ use Rattle.std.proofs.Math.Nat.{mod-eq_of_lt}
 use Rattle.std.proofs.Math.Bool.{and-false}
 use Rattle.m2v_bits.specs.Bits.{bits_of, number, bits, packed, start_code, to_edge, unit}
 use Rattle.m2v_bits.proofs.Bits.{number-bits_of, bits_of-number}
-use Rattle.m2v_law_chain.specs.Texts.{Calm, ended, unit_bytes, IsCalm, IsTidy, Packs}
+use Rattle.m2v_model.specs.Texts.{Calm, ended, unit_bytes, IsCalm, IsTidy, Packs}
 use Rattle.m2v_bits.proofs.Units.{start_length, unit_edge, packed-append}
-use Rattle.m2v_law_chain.proofs.Edges.{packed_none}
+use Rattle.m2v_model.proofs.Edges.{packed_none}
 use Rattle.m2v_model.specs.Units.{begins_code, joined, Clear, AreUnits, Cuts, Units}
-use Rattle.m2v_law_chain.proofs.Calm.{calm_zeros, calm_rest}
+use Rattle.m2v_model.proofs.Calm.{calm_zeros, calm_rest}
 
 -- ---- one unit
 

@@ -6,14 +6,14 @@ use Rattle.m2v_plane.specs.declared.planes.Plane.TheVariants.{Y, Cb, Cr}
 use Rattle.m2v_plane.specs.declared.planes.Lines.{Lines}
 use Rattle.m2v_plane.specs.Sizes.{side}
 use Rattle.m2v_plane.specs.Samples.{Samples, plane_by, is_among, number_among}
-use Rattle.m2v_model.specs.m2v_pred.Motion.{own_lines}
-use Rattle.m2v_model.specs.m2v_pred.Predicted.{predicted}
-use Rattle.m2v_model.specs.m2v_macro.declared.values.SliceState.{SliceState}
-use Rattle.m2v_model.specs.m2v_macro.declared.values.PictureContext.{PictureContext}
-use Rattle.m2v_model.specs.m2v_macro.States.{address}
-use Rattle.m2v_model.specs.m2v_macroblock.Macroblocks.{Macroblock, after_macroblock}
-use Rattle.m2v_model.specs.m2v_macroblock.Modes.{place_of, address_of, skipped_before, first_skipped, skipped_mode}
-use Rattle.m2v_model.specs.m2v_macroblock.Predictions.{prediction_of, sample_at}
+use Rattle.m2v_macroblock.specs.m2v_pred.Motion.{own_lines}
+use Rattle.m2v_macroblock.specs.m2v_pred.Predicted.{predicted}
+use Rattle.m2v_macroblock.specs.m2v_macro.declared.values.SliceState.{SliceState}
+use Rattle.m2v_macroblock.specs.m2v_macro.declared.values.PictureContext.{PictureContext}
+use Rattle.m2v_macroblock.specs.m2v_macro.States.{address}
+use Rattle.m2v_macroblock.specs.Macroblocks.{Macroblock, after_macroblock}
+use Rattle.m2v_macroblock.specs.Modes.{place_of, address_of, skipped_before, first_skipped, skipped_mode}
+use Rattle.m2v_macroblock.specs.Predictions.{prediction_of, sample_at}
 use Rattle.m2v_model.specs.declared.setup.SliceSetup.{SliceSetup}
 use Rattle.m2v_model.specs.Samples.{References}
 

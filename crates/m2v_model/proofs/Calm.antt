@@ -5,7 +5,7 @@ use Rattle.std.proofs.lemmas.List.{take_all, length-replicate}
 use Rattle.std.proofs.Math.Nat.{mod-eq_of_lt}
 use Rattle.m2v_bits.specs.Bits.{bits_of, number, all_zero, to_edge}
 use Rattle.m2v_bits.proofs.Bits.{length-bits_of, number-bits_of, zero_not}
-use Rattle.m2v_law_chain.specs.Texts.{Calm, ended, IsCalm}
+use Rattle.m2v_model.specs.Texts.{Calm, ended, IsCalm}
 
 pub calm_more : (t : List Bool) (k l m : ℕ) → k ≤ l → Calm k t m → Calm l t m
 calm_more [] k l m le h = omega arith

@@ -1,5 +1,0 @@
-use Rattle.m2v_law_chain.proofs.Painting.{all_more}
-use Rattle.m2v_law_chain.proofs.laws.law_macroblocks_painted.Goals as goal
-
-pub returns : goal.returns
-returns c d s refs st xs at now = all_more s refs st xs d at now
