@@ -2,6 +2,7 @@ pub mod Blocks
 pub mod Bounds
 pub mod Columns
 pub mod Factors
+pub mod ForwardSteps
 pub mod ForwardSums
 pub mod Parts
 pub mod Passed
@@ -10,6 +11,7 @@ pub mod Projections
 pub mod Rows
 pub mod RowSteps
 pub mod FourLanes
+pub mod AllLanes
 pub mod Shifts
 pub mod Sums
 pub mod InPlace

@@ -4,7 +4,10 @@
 
 mod block;
 mod combine;
+mod forward_columns;
 mod forward_dct;
+mod forward_lanes;
+mod forward_rows;
 mod inverse_dct;
 mod lanes;
 mod products;

@@ -1,0 +1,44 @@
+//! The first half of the forward transform: the sums of a line's samples, each times a cosine, in two parts of 16 bits.
+ghost use Rattle.std.specs.Prelude.{ℕ, ◌≡◌, ◌<◌, ◌≢◌, ◌+◌, ◌*◌, All, length, map, pos, ◌*ℤ◌};
+ghost use Rattle.m2v_idct.specs.Block.{at, nth};
+ghost use Rattle.m2v_idct.specs.Forward.{projection};
+ghost use Rattle.m2v_idct.specs.ForwardLanes.{eight, high_of, low_of};
+ghost use Rattle.m2v_idct.specs.Ranges.{IsSample, Within};
+
+use crate::block::row_at;
+use crate::forward_lanes::{Parts, added, first_pairs, fold_line, product_sums, second_pairs, split};
+use std::simd::prelude::*;
+
+// The sums of a line's samples, each times eight times a cosine: what is above 16 bits is moved down by the fewest steps.
+#[inline(always)]
+fn line_sums(f: &[i32; 8]) -> i32x8
+    requires { All (Within 256) f.now }
+    ensures value { result ≡ eight (λ u. pos 8 *ℤ projection u (nth f.now)) }
+    ensures within { All (Within 67200000) result }
+{
+    let x = fold_line(f);
+    let c = i16x16::from_array([
+        23168, 23168, 32136, 27248, 30272, 12536, 27248, -6392, 23168, -23168, 18208, -32136,
+        12536, -30272, 6392, -18208,
+    ]);
+    let d = i16x16::from_array([
+        23168, 23168, 18208, 6392, -12536, -30272, -32136, -18208, -23168, 23168, 6392, 27248,
+        30272, -12536, 27248, -32136,
+    ]);
+    added(
+        product_sums(c, first_pairs(x)),
+        product_sums(d, second_pairs(x)),
+    )
+}
+
+// Writes line y.
+#[inline(always)]
+fn put_line(rows: &mut [i16; 64], y: usize, x: i16x8)
+    requires y { y < 8 }
+    requires len { length x ≡ 8 }
+    requires within { All (Within 8191) x }
+    ensures row { (k : ℕ) → k < 8 → nth rows.new (8 * y + k) ≡ nth x k }
+    ensures rest { (i : ℕ) → ((k : ℕ) → k < 8 → i ≢ 8 * y + k) → nth rows.new i ≡ nth rows.old i }
+{
+    x.copy_to_slice(&mut rows[8 * y..8 * y + 8]);
+}
