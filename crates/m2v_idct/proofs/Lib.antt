@@ -2,11 +2,13 @@ pub mod Blocks
 pub mod Bounds
 pub mod Columns
 pub mod Factors
+pub mod ForwardRows
 pub mod ForwardSteps
 pub mod ForwardSums
 pub mod Parts
 pub mod Passed
 pub mod Places
+pub mod PutLines
 pub mod Projections
 pub mod Rows
 pub mod RowSteps
