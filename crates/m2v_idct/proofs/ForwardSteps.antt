@@ -7,7 +7,7 @@ use lib.Lanes.{zip2}
 use mir.Syntax.{w16, w32}
 use mir.Val.{to_z, of_z}
 use Rattle.m2v_idct.specs.Forward.{rounded}
-use Rattle.m2v_idct.specs.ForwardLanes.{eight, folded, four_times, high_of, low_of}
+use Rattle.m2v_idct.specs.ForwardLanes.{all_rounded, eight, folded, four_times, high_of, low_of, neighbours, weighed, woven}
 use Rattle.m2v_idct.specs.Ranges.{Within}
 use Rattle.m2v_idct.proofs.AllLanes.{all_eight, fits_short, fits_word, short_told, word_told, told_as, told_as_within, told_is, told_within, wider}
 use Rattle.m2v_idct.proofs.FourLanes.{difference_bound, sum_bound, zipped_within}
@@ -179,10 +179,10 @@ half a = a +ℤ pos 33554432
 abbrev drop : ℤ → ℤ
 drop a = int_shr a 13
 
-all_rounded : (hs ls : List ℤ) → map drop (zip2 (λ (a b : ℤ). a +ℤ b) hs (map drop (map half ls))) ≡ zip2 (λ h l. rounded (pos 8192 *ℤ h +ℤ l)) hs ls
-all_rounded [] ls = refl
-all_rounded (h ∷ hs) [] = refl
-all_rounded (h ∷ hs) (l ∷ ls) = λ i. rounded_is h l i ∷ all_rounded hs ls i
+all_dropped : (hs ls : List ℤ) → map drop (zip2 (λ (a b : ℤ). a +ℤ b) hs (map drop (map half ls))) ≡ all_rounded hs ls
+all_dropped [] ls = refl
+all_dropped (h ∷ hs) [] = refl
+all_dropped (h ∷ hs) (l ∷ ls) = λ i. rounded_is h l i ∷ all_dropped hs ls i
 
 drop_small : (z : ℤ) → Within 1200000000 z → Within 600000000 (drop z)
 drop_small z h = let l = shr13_low z in let u = shr13_high z in (omega (arith, ints, h, l, u), omega (arith, ints, h, l, u))
@@ -219,7 +219,23 @@ module _ (h l : List ℤ) (hh : All (Within 536870912) h) (hl : All (Within 5368
     pub sum_within : All (Within 1200000000) (word_told s)
     sum_within = told_as_within w32 2147483647 fits_word 1200000000 s _ (omega arith) s_is sums_small
 
-    pub rounded_are : (r : List ℤ) → r ≡ map drop (word_told s) → word_told r ≡ zip2 (λ x y. rounded (pos 8192 *ℤ x +ℤ y)) h l
-    rounded_are r er =
-        let e = er ∙ ap (map drop) (told_as w32 2147483647 fits_word 1200000000 s _ (omega arith) s_is sums_small) in
-        told_as w32 2147483647 fits_word 600000000 r _ (omega arith) e (all_mapped 1200000000 600000000 drop drop_small _ sums_small) ∙ all_rounded h l
+    module _ (r : List ℤ) (er : r ≡ map drop (word_told s)) where
+      end_is : r ≡ map drop (zip2 (λ (x y : ℤ). x +ℤ y) h (map drop (map half l)))
+      end_is = er ∙ ap (map drop) (told_as w32 2147483647 fits_word 1200000000 s _ (omega arith) s_is sums_small)
+
+      end_small : All (Within 600000000) (map drop (zip2 (λ (x y : ℤ). x +ℤ y) h (map drop (map half l))))
+      end_small = all_mapped 1200000000 600000000 drop drop_small _ sums_small
+
+      pub rounded_are : word_told r ≡ all_rounded h l
+      rounded_are = told_as w32 2147483647 fits_word 600000000 r _ (omega arith) end_is end_small ∙ all_dropped h l
+
+      pub rounded_within : All (Within 600000000) (word_told r)
+      rounded_within = told_as_within w32 2147483647 fits_word 600000000 r _ (omega arith) end_is end_small
+
+-- a line that is woven of two, with the weights that are passed on
+pub weighed_told : (x m r : List ℤ) (a b a' b' : ℤ) → All (Within 32767) x → a' ≡ a → b' ≡ b → m ≡ woven (λ k. a') (λ k. b') → All (Within 4096) m
+    → r ≡ neighbours (zip2 (λ (y z : ℤ). y *ℤ z) (short_told x) (short_told m)) → All (Within 268435456) r → word_told r ≡ weighed x a b
+weighed_told x m r a b a' b' hx ea eb em hm er hr =
+    let x_is = told_is w16 32767 fits_short x hx in
+    let m_is : short_told m ≡ woven (λ k. a) (λ k. b) = told_is w16 32767 fits_short m (wider 4096 32767 (omega arith) m hm) ∙ em ∙ (λ i. woven (λ k. ea i) (λ k. eb i)) in
+    told_is w32 2147483647 fits_word r (wider 268435456 2147483647 (omega arith) r hr) ∙ er ∙ (λ i. neighbours (zip2 (λ (y z : ℤ). y *ℤ z) (x_is i) (m_is i)))

@@ -2,6 +2,7 @@ pub mod Blocks
 pub mod Bounds
 pub mod Columns
 pub mod Factors
+pub mod ForwardColumns
 pub mod ForwardRows
 pub mod ForwardSteps
 pub mod ForwardSums

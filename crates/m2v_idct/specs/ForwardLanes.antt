@@ -1,7 +1,9 @@
 -- What the forward transform by lanes keeps: lines of eight numbers, two of them woven into one, and the parts of a sum.
 use Rattle.std.specs.Prelude.{ℕ, List, [], ◌∷◌, ℤ, pos, ◌+◌, ◌*◌, ◌+ℤ◌, ◌-ℤ◌, ◌*ℤ◌}
 use Rattle.std.specs.Int.{int_shr}
+use Rattle.std.specs.Simd.Lanes.{zip2}
 use Rattle.m2v_idct.specs.Block.{nth}
+use Rattle.m2v_idct.specs.Forward.{rounded}
 
 -- a line of eight
 abbrev pub eight : (ℕ → ℤ) → List ℤ
@@ -35,3 +37,27 @@ folded f =
 abbrev pub four_times : ℤ → ℤ → ℤ → ℤ → List ℤ
 four_times a b c d =
     a ∷ b ∷ c ∷ d ∷ a ∷ b ∷ c ∷ d ∷ a ∷ b ∷ c ∷ d ∷ a ∷ b ∷ c ∷ d ∷ []
+
+-- of two lines that are woven, a times the one and b times the other
+abbrev pub weighed : List ℤ → ℤ → ℤ → List ℤ
+weighed x a b = neighbours (zip2 (λ y z. y *ℤ z) x (woven (λ k. a) (λ k. b)))
+
+-- sums in their two parts, in the scale of coefficients
+abbrev pub all_rounded : List ℤ → List ℤ → List ℤ
+all_rounded = zip2 (λ h l. rounded (pos 8192 *ℤ h +ℤ l))
+
+-- of the lines of a block, the even part of the columns' even parts, two lines woven, and the odd one
+abbrev pub evens_of : (ℕ → ℕ → ℤ) → List ℤ
+evens_of p =
+    woven (λ k. p 0 k +ℤ p 7 k +ℤ (p 3 k +ℤ p 4 k)) (λ k. p 1 k +ℤ p 6 k +ℤ (p 2 k +ℤ p 5 k))
+
+abbrev pub odds_of : (ℕ → ℕ → ℤ) → List ℤ
+odds_of p =
+    woven (λ k. p 0 k +ℤ p 7 k -ℤ (p 3 k +ℤ p 4 k)) (λ k. p 1 k +ℤ p 6 k -ℤ (p 2 k +ℤ p 5 k))
+
+-- the odd parts of the two lines at each end, and of those in the middle
+abbrev pub outer_of : (ℕ → ℕ → ℤ) → List ℤ
+outer_of p = woven (λ k. p 0 k -ℤ p 7 k) (λ k. p 1 k -ℤ p 6 k)
+
+abbrev pub inner_of : (ℕ → ℕ → ℤ) → List ℤ
+inner_of p = woven (λ k. p 3 k -ℤ p 4 k) (λ k. p 2 k -ℤ p 5 k)

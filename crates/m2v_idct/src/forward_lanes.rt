@@ -4,8 +4,7 @@ ghost use Rattle.std.specs.Prelude.{◌≡◌, ◌-◌, All, ◌∷◌, [], ◌+
 ghost use Rattle.std.specs.Int.{int_shr};
 ghost use Rattle.std.specs.Simd.Lanes.{zip2};
 ghost use Rattle.m2v_idct.specs.Block.{nth};
-ghost use Rattle.m2v_idct.specs.Forward.{rounded};
-ghost use Rattle.m2v_idct.specs.ForwardLanes.{eight, folded, four_times, high_of, low_of, neighbours, woven};
+ghost use Rattle.m2v_idct.specs.ForwardLanes.{all_rounded, eight, folded, four_times, high_of, low_of, neighbours, weighed, woven};
 ghost use Rattle.m2v_idct.specs.Ranges.{Within};
 
 use std::simd::prelude::*;
@@ -198,7 +197,8 @@ pub fn rounded_lanes(high: i32x8, low: i32x8) -> i32x8
     requires low_len { length low ≡ 8 }
     requires high { All (Within 536870912) high }
     requires low { All (Within 536870912) low }
-    ensures { result ≡ zip2 (λ h l. rounded (pos 8192 *ℤ h +ℤ l)) high low }
+    ensures value { result ≡ all_rounded high low }
+    ensures within { All (Within 600000000) result }
 {
     dropped(carried(high, dropped(with_half(low))))
 }
@@ -253,4 +253,28 @@ pub fn split(x: i32x8) -> Parts
         high: narrow(high),
         low: narrow(low),
     }
+}
+
+// Two numbers in turn.
+#[inline(always)]
+fn alternating(a: i16, b: i16) -> i16x16
+    requires a { Within 4096 a }
+    requires b { Within 4096 b }
+    ensures value { result ≡ woven (λ k. a) (λ k. b) }
+    ensures within { All (Within 4096) result }
+{
+    i16x16::from_array([a, b, a, b, a, b, a, b, a, b, a, b, a, b, a, b])
+}
+
+// Of two lines that are woven, a times the one and b times the other.
+#[inline(always)]
+pub fn weigh(x: i16x16, a: i16, b: i16) -> i32x8
+    requires len { length x ≡ 16 }
+    requires x { All (Within 32767) x }
+    requires a { Within 4096 a }
+    requires b { Within 4096 b }
+    ensures value { result ≡ weighed x a b }
+    ensures within { All (Within 268435456) result }
+{
+    product_sums(x, alternating(a, b))
 }
