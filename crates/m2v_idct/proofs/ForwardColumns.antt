@@ -220,3 +220,28 @@ module _ (p q : ℕ → ℕ → ℤ) (k : ℕ) where
   pub sum_7 : pos 8192 *ℤ all_odds p (pos 799) (neg_ℤ (pos 2276)) (pos 3406) (neg_ℤ (pos 4017)) +ℤ all_odds q (pos 799) (neg_ℤ (pos 2276)) (pos 3406) (neg_ℤ (pos 4017)) ≡ projection 7 both
   unfolding projection sum_below cosine
   sum_7 = omega (arith, ints)
+
+-- sums with the weights that are passed on
+pub weights_told : (x r : List ℤ) (a b a' b' : ℤ) → All (Within 32767) x → a' ≡ a → b' ≡ b → r ≡ weighed (short_told x) a' b' → All (Within 268435456) r
+    → word_told r ≡ weighed x a b
+weights_told x r a b a' b' hx ea eb er hr =
+    let x_is = told_is w16 32767 fits_short x hx in
+    told_is w32 2147483647 fits_word r (wider 268435456 2147483647 (omega arith) r hr) ∙ er ∙ (λ i. weighed (x_is i) (ea i) (eb i))
+
+-- a lane of a line that is passed on
+pub even_told_at : (x y r : List ℤ) (f g u v : ℕ → ℤ) (a b : ℤ) → x ≡ woven f g → All (Within 32767) (woven f g) → y ≡ woven u v → All (Within 32767) (woven u v)
+    → r ≡ all_rounded (weighed (short_told x) a b) (weighed (short_told y) a b) → All (Within 600000000) r
+    → (k : ℕ) → k < 8 → get_or (word_told r) k (pos 0) ≡ rounded (pos 8192 *ℤ (f k *ℤ a +ℤ g k *ℤ b) +ℤ (u k *ℤ a +ℤ v k *ℤ b))
+even_told_at x y r f g u v a b ex hx ey hy er hr k lk =
+    let x_is = told_as w16 32767 fits_short 32767 x (woven f g) (omega arith) ex hx in
+    let y_is = told_as w16 32767 fits_short 32767 y (woven u v) (omega arith) ey hy in
+    let r_is = told_is w32 2147483647 fits_word r (wider 600000000 2147483647 (omega arith) r hr) ∙ er ∙ (λ i. all_rounded (weighed (x_is i) a b) (weighed (y_is i) a b)) in
+    ap (λ (t : List ℤ). get_or t k (pos 0)) r_is ∙ even_lane f g u v a b k lk
+
+pub odd_told_at : (x x' y y' r : List ℤ) (f g f' g' u v u' v' : ℕ → ℤ) (a b c d : ℤ) → x ≡ woven f g → x' ≡ woven f' g' → y ≡ woven u v → y' ≡ woven u' v'
+    → r ≡ all_rounded (two_weighed x x' a b c d) (two_weighed y y' a b c d) → All (Within 600000000) r
+    → (k : ℕ) → k < 8 → get_or (word_told r) k (pos 0)
+    ≡ rounded (pos 8192 *ℤ (f k *ℤ a +ℤ g k *ℤ b +ℤ (f' k *ℤ d +ℤ g' k *ℤ c)) +ℤ (u k *ℤ a +ℤ v k *ℤ b +ℤ (u' k *ℤ d +ℤ v' k *ℤ c)))
+odd_told_at x x' y y' r f g f' g' u v u' v' a b c d ex ex' ey ey' er hr k lk =
+    let r_is = told_is w32 2147483647 fits_word r (wider 600000000 2147483647 (omega arith) r hr) ∙ er ∙ (λ i. all_rounded (two_weighed (ex i) (ex' i) a b c d) (two_weighed (ey i) (ey' i) a b c d)) in
+    ap (λ (t : List ℤ). get_or t k (pos 0)) r_is ∙ odd_lane f g f' g' u v u' v' a b c d k lk

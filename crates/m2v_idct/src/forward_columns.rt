@@ -106,3 +106,46 @@ fn put_line(out: &mut [i32; 64], v: usize, x: i32x8)
 {
     x.copy_to_slice(&mut out[8 * v..8 * v + 8]);
 }
+
+// A line of coefficients with cosines that change their signs.
+#[inline(always)]
+fn odd_line(high: Folded, low: Folded, a: i16, b: i16, c: i16, d: i16) -> i32x8
+    requires high_outer_len { length high.outer ≡ 16 }
+    requires high_inner_len { length high.inner ≡ 16 }
+    requires low_outer_len { length low.outer ≡ 16 }
+    requires low_inner_len { length low.inner ≡ 16 }
+    requires high_outer { All (Within 32767) high.outer }
+    requires high_inner { All (Within 32767) high.inner }
+    requires low_outer { All (Within 32767) low.outer }
+    requires low_inner { All (Within 32767) low.inner }
+    requires a { Within 4096 a }
+    requires b { Within 4096 b }
+    requires c { Within 4096 c }
+    requires d { Within 4096 d }
+    ensures value { result ≡ all_rounded
+        (zip2 (λ y z. y +ℤ z) (weighed high.outer a b) (weighed high.inner d c))
+        (zip2 (λ y z. y +ℤ z) (weighed low.outer a b) (weighed low.inner d c)) }
+    ensures within { All (Within 600000000) result }
+{
+    rounded_lanes(odd_sums(high, a, b, c, d), odd_sums(low, a, b, c, d))
+}
+
+// The coefficients, of the two parts of the sums of each line.
+#[inline(always)]
+pub fn transform_columns(high: &[i16; 64], low: &[i16; 64], out: &mut [i32; 64])
+    requires high { All (Within 8191) high.now }
+    requires low { All (Within 8191) low.now }
+    ensures { (v k : ℕ) → v < 8 → k < 8 → nth out.new (8 * v + k)
+        ≡ rounded (projection v (λ y. pos 8192 *ℤ at high.now y k +ℤ at low.now y k)) }
+{
+    let h = fold_columns(high);
+    let l = fold_columns(low);
+    put_line(out, 0, even_line(h.even, l.even, 2896, 2896));
+    put_line(out, 1, odd_line(h, l, 4017, 3406, 2276, 799));
+    put_line(out, 2, even_line(h.odd, l.odd, 3784, 1567));
+    put_line(out, 3, odd_line(h, l, 3406, -799, -4017, -2276));
+    put_line(out, 4, even_line(h.even, l.even, 2896, -2896));
+    put_line(out, 5, odd_line(h, l, 2276, -4017, 799, 3406));
+    put_line(out, 6, even_line(h.odd, l.odd, 1567, -3784));
+    put_line(out, 7, odd_line(h, l, 799, -2276, 3406, -4017));
+}
