@@ -1,5 +1,5 @@
 -- Lanes of any width that are passed or computed stand in a goal as their bits, read again; what operations on them leave.
-use Rattle.std.proofs.Common.{zero, suc, replicate, ◌≡◌, ℕ, ◌<◌, ◌≤◌, ◌^◌, ◌+◌, ◌-◌, ◌*◌, ◌++◌, ◌+ℤ◌, ◌∙◌, List, [], ◌∷◌, All, length, map, get_or, arith, refl, ap, sym, subst, ℤ, pos, negsuc}
+use Rattle.std.proofs.Common.{zero, suc, replicate, ◌≡◌, ℕ, ◌<◌, ◌≤◌, ◌+◌, ◌-◌, ◌*◌, ◌++◌, ◌+ℤ◌, ◌∙◌, List, [], ◌∷◌, All, length, map, get_or, arith, refl, ap, ℤ, pos, negsuc}
 use Rattle.std.proofs.lemmas.Int.{ints, to_z-of_z}
 use Rattle.std.proofs.lemmas.List.Elements.{All-head, All-replicate, All-same, All-tail, All-weaker}
 use lib.Lanes.{zip2, Each1, Each2}

@@ -1,7 +1,7 @@
 -- Columns by lanes: what the even and the odd parts of a part's lines are, and that they give the sums.
-use Rattle.std.proofs.Common.{◌≡◌, ℕ, ◌<◌, ◌≤◌, ◌+◌, ◌-◌, ◌*◌, ◌∙◌, List, [], ◌∷◌, All, length, map, get_or, take, arith, refl, ap, sym, ℤ, pos, neg_ℤ, ◌+ℤ◌, ◌-ℤ◌, ◌*ℤ◌, ◌≤ℤ◌}
+use Rattle.std.proofs.Common.{◌≡◌, ℕ, ◌<◌, ◌≤◌, ◌+◌, ◌*◌, ◌∙◌, List, [], All, length, get_or, arith, refl, ap, ℤ, pos, neg_ℤ, ◌+ℤ◌, ◌-ℤ◌, ◌*ℤ◌}
 use Rattle.std.proofs.lemmas.Int.{ints}
-use Rattle.std.proofs.lemmas.List.Elements.{All-from_recursion, All-same}
+use Rattle.std.proofs.lemmas.List.Elements.{All-from_recursion}
 use lib.Lanes.{zip2}
 use mir.Syntax.{w16, w32}
 use Rattle.m2v_idct.specs.Block.{at, nth}
@@ -9,7 +9,7 @@ use Rattle.m2v_idct.specs.Forward.{cosine, projection, rounded}
 use Rattle.m2v_idct.specs.ForwardLanes.{all_rounded, eight, evens_of, inner_of, odds_of, outer_of, weighed, woven}
 use Rattle.m2v_idct.specs.Ranges.{Within}
 use Rattle.m2v_idct.specs.Sums.{sum_below}
-use Rattle.m2v_idct.proofs.AllLanes.{all_eight, fits_short, fits_word, short_told, word_told, told_as, told_as_within, told_is, told_within, wider}
+use Rattle.m2v_idct.proofs.AllLanes.{all_eight, fits_short, fits_word, short_told, word_told, told_as, told_as_within, told_is, wider}
 use Rattle.m2v_idct.proofs.Projections.{eight_cases}
 use Rattle.m2v_idct.proofs.FourLanes.{difference_bound, sum_bound, zipped_within}
 

@@ -1,7 +1,7 @@
 -- A line by lanes has eight times the sums of its samples, each times a cosine.
-use Rattle.std.proofs.Common.{◌≡◌, ℕ, ◌<◌, ◌≤◌, ◌+◌, ◌-◌, ◌*◌, ◌∙◌, List, [], ◌∷◌, All, length, map, get_or, arith, refl, ap, sym, ℤ, pos, neg_ℤ, ◌+ℤ◌, ◌-ℤ◌, ◌*ℤ◌, ◌≤ℤ◌}
+use Rattle.std.proofs.Common.{◌≡◌, ℕ, ◌<◌, ◌≤◌, ◌∙◌, List, [], ◌∷◌, All, length, map, get_or, arith, ap, sym, ℤ, pos, neg_ℤ, ◌+ℤ◌, ◌*ℤ◌, ◌≤ℤ◌}
 use Rattle.std.proofs.lemmas.Int.{ints}
-use Rattle.std.proofs.lemmas.List.Elements.{All-from_recursion, All-same}
+use Rattle.std.proofs.lemmas.List.Elements.{All-from_recursion}
 use lib.Lanes.{zip2}
 use mir.Syntax.{w16, w32}
 use Rattle.m2v_idct.specs.Block.{at, nth}
@@ -9,7 +9,7 @@ use Rattle.m2v_idct.specs.Forward.{cosine, projection}
 use Rattle.m2v_idct.specs.ForwardLanes.{eight, folded, four_times, neighbours}
 use Rattle.m2v_idct.specs.Ranges.{IsSample, Within}
 use Rattle.m2v_idct.specs.Sums.{sum_below}
-use Rattle.m2v_idct.proofs.AllLanes.{all_eight, eight_at, fits_short, fits_word, short_told, word_told, told_as, told_as_within, told_is, told_within, wider}
+use Rattle.m2v_idct.proofs.AllLanes.{all_eight, eight_at, fits_short, fits_word, short_told, word_told, told_as, told_as_within, told_is, wider}
 use Rattle.m2v_idct.proofs.Bounds.{single_between}
 use Rattle.m2v_idct.proofs.ForwardSteps.{all_mapped}
 use Rattle.m2v_idct.proofs.Projections.{projection_listed}

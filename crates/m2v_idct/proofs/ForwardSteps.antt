@@ -1,15 +1,14 @@
 -- What the steps of the forward transform by lanes leave.
-use Rattle.std.proofs.Common.{◌≡◌, ℕ, ◌<◌, ◌≤◌, ◌^◌, ◌+◌, ◌-◌, ◌*◌, ◌∙◌, List, [], ◌∷◌, All, length, map, get_or, arith, refl, ap, sym, ℤ, pos, negsuc, ◌+ℤ◌, ◌-ℤ◌, ◌*ℤ◌, ◌≤ℤ◌}
+use Rattle.std.proofs.Common.{◌≡◌, ℕ, ◌<◌, ◌≤◌, ◌-◌, ◌∙◌, List, [], ◌∷◌, All, length, map, get_or, arith, refl, ap, ℤ, pos, negsuc, ◌+ℤ◌, ◌-ℤ◌, ◌*ℤ◌, ◌≤ℤ◌}
 use Rattle.std.specs.Int.{int_shr}
 use Rattle.std.proofs.lemmas.Int.{ints}
-use Rattle.std.proofs.lemmas.List.Elements.{All-cons, All-from_recursion, All-head, All-nil, All-same, All-tail}
+use Rattle.std.proofs.lemmas.List.Elements.{All-cons, All-from_recursion, All-head, All-nil, All-tail}
 use lib.Lanes.{zip2}
 use mir.Syntax.{w16, w32}
-use mir.Val.{to_z, of_z}
 use Rattle.m2v_idct.specs.Forward.{rounded}
-use Rattle.m2v_idct.specs.ForwardLanes.{all_rounded, eight, folded, four_times, high_of, low_of, neighbours, weighed, woven}
+use Rattle.m2v_idct.specs.ForwardLanes.{all_rounded, eight, folded, high_of, low_of, neighbours, weighed, woven}
 use Rattle.m2v_idct.specs.Ranges.{Within}
-use Rattle.m2v_idct.proofs.AllLanes.{all_eight, fits_short, fits_word, short_told, word_told, told_as, told_as_within, told_is, told_within, wider}
+use Rattle.m2v_idct.proofs.AllLanes.{all_eight, fits_short, fits_word, short_told, word_told, told_as, told_as_within, told_is, wider}
 use Rattle.m2v_idct.proofs.FourLanes.{difference_bound, sum_bound, zipped_within}
 use Rattle.m2v_idct.proofs.Shifts.{shr3_high, shr3_low, shr26_low, shr26_high}
 
@@ -239,3 +238,10 @@ weighed_told x m r a b a' b' hx ea eb em hm er hr =
     let x_is = told_is w16 32767 fits_short x hx in
     let m_is : short_told m ≡ woven (λ k. a) (λ k. b) = told_is w16 32767 fits_short m (wider 4096 32767 (omega arith) m hm) ∙ em ∙ (λ i. woven (λ k. ea i) (λ k. eb i)) in
     told_is w32 2147483647 fits_word r (wider 268435456 2147483647 (omega arith) r hr) ∙ er ∙ (λ i. neighbours (zip2 (λ (y z : ℤ). y *ℤ z) (x_is i) (m_is i)))
+
+-- the two parts of a sum are the sum
+pub parts_join : (z : ℤ) → pos 8192 *ℤ high_of (pos 8 *ℤ z) +ℤ low_of (pos 8 *ℤ z) ≡ z
+parts_join z =
+    let y = pos 8 *ℤ z in
+    let b = rest_between y in let l = shr3_low (rest y) in let u = shr3_high (rest y) in
+    omega (arith, ints, b, l, u)

@@ -1,12 +1,10 @@
 pub mod Blocks
 pub mod Bounds
 pub mod Columns
-pub mod Factors
 pub mod ForwardColumns
 pub mod ForwardRows
 pub mod ForwardSteps
 pub mod ForwardSums
-pub mod Parts
 pub mod Passed
 pub mod Places
 pub mod PutLines

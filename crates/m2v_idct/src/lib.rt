@@ -10,7 +10,6 @@ mod forward_lanes;
 mod forward_rows;
 mod inverse_dct;
 mod lanes;
-mod products;
 mod row_lanes;
 mod terms;
 

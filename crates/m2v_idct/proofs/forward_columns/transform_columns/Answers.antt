@@ -1,9 +1,8 @@
-use Rattle.std.proofs.Common.{◌≡◌, ℕ, ◌<◌, ◌+◌, ◌*◌, ◌-◌, ◌∙◌, List, All, length, arith, ap, sym, ℤ, pos, neg_ℤ, ◌+ℤ◌, ◌-ℤ◌, ◌*ℤ◌}
+use Rattle.std.proofs.Common.{◌≡◌, ℕ, ◌<◌, ◌∙◌, List, All, arith, ap, ℤ, pos, neg_ℤ, ◌+ℤ◌, ◌-ℤ◌}
 use Rattle.std.proofs.lemmas.List.Elements.{All-same}
 use mir.Syntax.{w16, w32}
 use Rattle.m2v_idct.specs.Block.{at}
 use Rattle.m2v_idct.specs.Forward.{projection, rounded}
-use Rattle.m2v_idct.specs.ForwardLanes.{evens_of, inner_of, odds_of, outer_of}
 use Rattle.m2v_idct.specs.Ranges.{Within}
 use Rattle.m2v_idct.proofs.AllLanes.{fits_short, fits_word, short_told, told_as_within, told_within}
 use Rattle.m2v_idct.proofs.ForwardColumns.{both, even_told_at, evens_small, inners_small, odd_told_at, odds_small, outers_small, sum_0, sum_1, sum_2, sum_3, sum_4, sum_5, sum_6, sum_7}

@@ -1,4 +1,4 @@
-use Rattle.std.proofs.Common.{◌≡◌, length, arith}
+use Rattle.std.proofs.Common.{arith}
 use mir.Syntax.{w32}
 use Rattle.m2v_idct.proofs.AllLanes.{fits_word, told_as_within, told_within}
 use Rattle.m2v_idct.proofs.ForwardSteps.{evens, evens_are, evens_small, line_folded, odds, odds_are, odds_small}

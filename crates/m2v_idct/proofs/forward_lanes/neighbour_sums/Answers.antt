@@ -1,4 +1,4 @@
-use Rattle.std.proofs.Common.{arith, List, [], ◌∷◌, ℤ}
+use Rattle.std.proofs.Common.{arith, [], ◌∷◌}
 use Rattle.std.proofs.lemmas.List.Elements.{All-same}
 use Rattle.m2v_idct.specs.ForwardLanes.{neighbours}
 use Rattle.m2v_idct.specs.Ranges.{Within}

@@ -1,4 +1,4 @@
-use Rattle.std.proofs.Common.{[], arith, refl}
+use Rattle.std.proofs.Common.{arith, refl}
 use mir.Syntax.{w32}
 use Rattle.m2v_idct.proofs.AllLanes.{fits_word, told_within}
 use Rattle.m2v_idct.proofs.ForwardSteps.{carry_within, half_within, rounded_are, rounded_within, sum_within}

@@ -1,4 +1,4 @@
-use Rattle.std.proofs.Common.{arith, refl, ◌+ℤ◌, ℤ}
+use Rattle.std.proofs.Common.{arith, ◌+ℤ◌, ℤ}
 use Rattle.m2v_idct.proofs.FourLanes.{sum_bound}
 use Rattle.m2v_idct.proofs.AllLanes.{fits_short, both_asked, both_are}
 use Rattle.m2v_idct.proofs.forward_lanes.sums.Goals as goal

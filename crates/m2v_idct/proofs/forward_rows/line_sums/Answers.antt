@@ -1,7 +1,6 @@
-use Rattle.std.proofs.Common.{◌≡◌, ℕ, ◌<◌, List, All, length, get_or, arith, refl, ℤ, pos}
+use Rattle.std.proofs.Common.{ℕ, List, get_or, arith, refl, ℤ, pos}
 use Rattle.std.proofs.lemmas.Int.{ints}
 use mir.Syntax.{w32}
-use Rattle.m2v_idct.specs.Ranges.{IsSample}
 use Rattle.m2v_idct.proofs.AllLanes.{fits_word, told_within}
 use Rattle.m2v_idct.proofs.ForwardRows.{firsts_within, folded_within, samples_of, seconds_within, sums_are, sums_within}
 use Rattle.m2v_idct.proofs.forward_rows.line_sums.Goals as goal

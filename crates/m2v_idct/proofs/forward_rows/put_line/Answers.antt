@@ -1,5 +1,4 @@
 use Rattle.std.proofs.Common.{◌≡◌, ◌∙◌, ◌+◌, ◌*◌, ◌-◌, length, get_or, arith, ap, pos, List, ℤ}
-use Rattle.std.proofs.lemmas.List.{length-map}
 use borrow.Rule.Slice.PartMut.{put_mid}
 use mir.Syntax.{w16}
 use Rattle.m2v_idct.proofs.AllLanes.{fits_short, short_told, told_is, wider}

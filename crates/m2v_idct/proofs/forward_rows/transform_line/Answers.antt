@@ -1,11 +1,8 @@
-use Rattle.std.proofs.Common.{◌≡◌, ◌∙◌, arith, ap, get_or, map, pos, ◌*ℤ◌, List, ℤ, ℕ}
-use mir.Syntax.{w16, w32}
-use Rattle.m2v_idct.specs.Block.{nth}
-use Rattle.m2v_idct.specs.Forward.{projection}
-use Rattle.m2v_idct.specs.ForwardLanes.{eight, high_of, low_of}
-use Rattle.m2v_idct.specs.Ranges.{Within}
-use Rattle.m2v_idct.proofs.AllLanes.{fits_short, fits_word, short_told, told_as, told_is, told_within, wider}
-use Rattle.m2v_idct.proofs.ForwardRows.{part_at, part_small, part_told}
+use Rattle.std.proofs.Common.{◌∙◌, arith}
+use mir.Syntax.{w32}
+use Rattle.m2v_idct.specs.ForwardLanes.{high_of, low_of}
+use Rattle.m2v_idct.proofs.AllLanes.{fits_word, told_within}
+use Rattle.m2v_idct.proofs.ForwardRows.{part_small, part_told}
 use Rattle.m2v_idct.proofs.ForwardSteps.{high_small, low_small}
 use Rattle.m2v_idct.proofs.forward_rows.transform_line.Goals as goal
 

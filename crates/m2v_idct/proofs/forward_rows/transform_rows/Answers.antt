@@ -1,4 +1,4 @@
-use Rattle.std.proofs.Common.{◌≡◌, ℕ, ◌<◌, arith, pos, ◌*ℤ◌, ℤ}
+use Rattle.std.proofs.Common.{ℕ, arith, pos, ◌*ℤ◌, ℤ}
 use Rattle.m2v_idct.specs.Block.{at}
 use Rattle.m2v_idct.specs.Forward.{projection}
 use Rattle.m2v_idct.specs.ForwardLanes.{high_of, low_of}
