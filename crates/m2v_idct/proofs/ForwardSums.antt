@@ -5,7 +5,7 @@ use Rattle.m2v_idct.specs.Sums.{sum_below}
 use Rattle.m2v_idct.specs.Block.{at}
 use Rattle.m2v_idct.specs.Forward.{cosine, forward_at, projection, rounded}
 use Rattle.m2v_idct.specs.Ranges.{IsCoefficient, IsDoubleSum}
-use Rattle.m2v_idct.proofs.Sums.{sum_below-same, sum_below-times, sum_below-lines, sum_below-turned, times_turned}
+use Rattle.m2v_idct.proofs.Sums.{sum_below-same, sum_below-times, sum_below-lines, times_times}
 use Rattle.m2v_idct.proofs.Shifts.{shr26_low, shr26_high}
 
 -- the cosine at 0 is everywhere the same
@@ -31,17 +31,16 @@ pub mean_is : (f : List ℤ) (s : ℤ) → s ≡ sum_below 64 (λ k. get_or f k 
 unfolding forward_at
 mean_is f s e r h = h ∙ ap (λ t. int_shr (t +ℤ pos 33554432) 26) (ap (λ t. pos 8386816 *ℤ t) e ∙ sym (double_zero f))
 
--- down the block first, then across it
-pub forward_by_parts : (f : List ℤ) (v u : ℕ) → forward_at f v u ≡ rounded (projection u (λ x. projection v (λ y. at f y x)))
+-- across the block first, then down it
+pub forward_by_lines : (f : List ℤ) (v u : ℕ) → forward_at f v u ≡ rounded (projection v (λ y. projection u (at f y)))
 unfolding forward_at projection
-forward_by_parts f v u =
+forward_by_lines f v u =
     ap rounded
-    (sum_below-turned 8 8 (λ y x. cosine v y *ℤ cosine u x *ℤ at f y x)
-    ∙ sum_below-same 8 (λ x. sum_below 8 (λ y. cosine v y *ℤ cosine u x *ℤ at f y x))
-    (λ x. cosine u x *ℤ sum_below 8 (λ y. cosine v y *ℤ at f y x))
-    (λ x l. sum_below-same 8 (λ y. cosine v y *ℤ cosine u x *ℤ at f y x) (λ y. cosine u x *ℤ (cosine v y *ℤ at f y x))
-    (λ y m. times_turned (cosine v y) (cosine u x) (at f y x))
-    ∙ sum_below-times 8 (cosine u x) (λ y. cosine v y *ℤ at f y x)))
+    (sum_below-same 8 (λ y. sum_below 8 (λ x. cosine v y *ℤ cosine u x *ℤ at f y x))
+    (λ y. cosine v y *ℤ sum_below 8 (λ x. cosine u x *ℤ at f y x))
+    (λ y l. sum_below-same 8 (λ x. cosine v y *ℤ cosine u x *ℤ at f y x) (λ x. cosine v y *ℤ (cosine u x *ℤ at f y x))
+    (λ x m. times_times (cosine v y) (cosine u x) (at f y x))
+    ∙ sum_below-times 8 (cosine v y) (λ x. cosine u x *ℤ at f y x)))
 
 pub rounded_within : (z : ℤ) → IsDoubleSum z → IsCoefficient (rounded z)
 rounded_within z h =

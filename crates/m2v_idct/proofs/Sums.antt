@@ -70,13 +70,6 @@ unfolding sum_below
 sum_below-zero zero = refl
 sum_below-zero (suc n) = ap (λ s. s +ℤ pos 0) (sum_below-zero n)
 
--- the order of two sums
-pub sum_below-turned : (n m : ℕ) (g : ℕ → ℕ → ℤ) → sum_below n (λ y. sum_below m (λ x. g y x)) ≡ sum_below m (λ x. sum_below n (λ y. g y x))
-unfolding sum_below
-sum_below-turned zero m g = sym (sum_below-zero m)
-sum_below-turned (suc n) m g =
-    ap (λ s. s +ℤ sum_below m (λ x. g n x)) (sum_below-turned n m g) ∙ sym (sum_below-plus m (λ x. sum_below n (λ y. g y x)) (λ x. g n x))
-
 plus_times : (a b c : ℤ) → (a +ℤ b) *ℤ c ≡ a *ℤ c +ℤ b *ℤ c
 plus_times a b c =
     *ℤ_comm (a +ℤ b) c ∙ sym (times_plus c a b) ∙ (λ i. *ℤ_comm c a i +ℤ *ℤ_comm c b i)
@@ -94,12 +87,8 @@ times_times_up (suc n) b c =
     ap (λ z. z *ℤ c) (suc_ℤ-*ℤ (pos n) b) ∙ plus_times (pos n *ℤ b) b c
     ∙ ap (λ z. z +ℤ b *ℤ c) (times_times_up n b c) ∙ sym (suc_ℤ-*ℤ (pos n) (b *ℤ c))
 
-times_times : (a b c : ℤ) → a *ℤ b *ℤ c ≡ a *ℤ (b *ℤ c)
+pub times_times : (a b c : ℤ) → a *ℤ b *ℤ c ≡ a *ℤ (b *ℤ c)
 times_times (pos n) b c = times_times_up n b c
 times_times (negsuc n) b c =
     ap (λ z. z *ℤ c) (neg_times (pos (suc n)) b) ∙ neg_times (pos (suc n) *ℤ b) c
     ∙ ap neg_ℤ (times_times_up (suc n) b c) ∙ sym (neg_times (pos (suc n)) (b *ℤ c))
-
--- the second factor comes first
-pub times_turned : (a b c : ℤ) → a *ℤ b *ℤ c ≡ b *ℤ (a *ℤ c)
-times_turned a b c = ap (λ z. z *ℤ c) (*ℤ_comm a b) ∙ times_times b a c

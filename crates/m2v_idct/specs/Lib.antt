@@ -1,5 +1,6 @@
 pub mod Block
 pub mod Forward
+pub mod ForwardLanes
 pub mod Inverse
 pub mod Ranges
 pub mod RowSums

@@ -4,10 +4,12 @@
 
 mod block;
 mod combine;
+mod forward_columns;
 mod forward_dct;
+mod forward_lanes;
+mod forward_rows;
 mod inverse_dct;
 mod lanes;
-mod products;
 mod row_lanes;
 mod terms;
 

@@ -1,0 +1,21 @@
+use Rattle.std.proofs.Common.{◌≡◌, ◌∙◌, ◌+◌, ◌*◌, ◌-◌, length, get_or, arith, ap, pos, List, ℤ}
+use borrow.Rule.Slice.PartMut.{put_mid}
+use mir.Syntax.{w16}
+use Rattle.m2v_idct.proofs.AllLanes.{fits_short, short_told, told_is, wider}
+use Rattle.m2v_idct.proofs.PutLines.{line_else, line_here, whole_line}
+use Rattle.m2v_idct.proofs.forward_rows.put_line.Goals as goal
+
+pub returns : goal.returns
+returns c =
+    let xs = c.args.rows.now in
+    let y = c.args.y in
+    let n = 8 * y + 8 - 8 * y in
+    let ln : n ≡ 8 = omega arith in
+    let x = short_told c.args.x in
+    let x_is : x ≡ c.args.x = told_is w16 32767 fits_short c.args.x (wider 8191 32767 (omega arith) c.args.x c.requires.within) in
+    let lx : length x ≡ 8 = ap (λ (t : List ℤ). length t) x_is ∙ c.requires.len in
+    let whole = whole_line xs x y n c.told-rows lx c.requires.y ln in
+    record {
+      row = λ k lk. ap (λ t. get_or (put_mid (8 * y) n xs t) (8 * y + k) (pos 0)) whole ∙ line_here xs x y n c.told-rows lx c.requires.y ln k lk ∙ ap (λ (t : List ℤ). get_or t k (pos 0)) x_is;
+      rest = λ i h. ap (λ t. get_or (put_mid (8 * y) n xs t) i (pos 0)) whole ∙ line_else xs x y n c.told-rows lx c.requires.y ln i h;
+    }
