@@ -1,0 +1,6 @@
+use Rattle.std.proofs.Common.{w64}
+use Rattle.std.proofs.lemmas.Nat.Bits.{bit_at-trailing_zeros}
+use Rattle.m2v_quant.proofs.marks.first_place.Goals as goal
+
+pub returns-clause-here : goal.returns-clause-here
+returns-clause-here c = (bit_at-trailing_zeros w64 c.args.marks c.requires c.ranges.marks.fits).1
