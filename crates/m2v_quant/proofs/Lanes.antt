@@ -1,20 +1,19 @@
 -- What lanes leave of coefficients, of their sizes and of limits.
-use Rattle.std.proofs.Common.{◌≡◌, ℕ, zero, suc, ◌-◌, ◌*◌, ◌/◌, ◌%◌, ◌^◌, ◌<◌, ◌≤◌, ◌∙◌, Bool, true, false, cond, List, [], ◌∷◌, All, length, map, get_or, take, replicate, arith, refl, ap, sym, ℤ, pos, negsuc, ◌≤ℤ◌}
+use Rattle.std.proofs.Common.{◌≡◌, ℕ, zero, suc, ◌-◌, ◌*◌, ◌/◌, ◌%◌, ◌^◌, ◌<◌, ◌≤◌, ◌∙◌, Bool, true, false, not, cond, List, [], ◌∷◌, All, length, map, get_or, take, replicate, arith, refl, ap, sym, ℤ, pos, negsuc, ◌≤ℤ◌, inl, inr}
 use Rattle.std.specs.Prelude.{nat_eq, nat_lt, unsigned_abs, IsTrue}
-use Rattle.std.proofs.lemmas.Bool.{eqb-true, lt-ltb, le-ltb}
+use Rattle.std.proofs.lemmas.Bool.{cases_eq, eqb-true, lt-ltb, le-ltb, ne_eqb, true≢false}
 use Rattle.std.proofs.lemmas.Int.{ints, to_z-of_z, to_z_pos}
 use Rattle.std.specs.Int.{bit_at}
 use Rattle.std.proofs.Math.Nat.{mul-le-mul}
 use Rattle.std.proofs.lemmas.List.{ext_get_or, get_or-map, get_or-replicate, length-map, take_all}
 use Rattle.std.proofs.lemmas.List.Elements.{All-from_get_or, All-get_or, All-head, All-tail}
-use Rattle.std.proofs.lemmas.Nat.Bits.{bit_at_ones}
-use Rattle.std.proofs.lemmas.Simd.{bit_mask_l, bitmask_splat, get_or-zip2, length-zip2, mask_l-mod}
+use Rattle.std.proofs.lemmas.Simd.{bit_mask_l, bitmask_splat, none_from_empty_mask, get_or-zip2, length-zip2, mask_l-mod}
 use lib.Lanes.{zip2, sel_l, mask_l, top, Each1}
 use lib.Signed.{lt_z}
 use borrow.Rule.Simd.Lanes.{act1, act2, Asks1}
 use borrow.Table.Row.{s_int}
 use mir.Facts.{to_z-neg}
-use mir.Syntax.{w8, w16, w32, cast, eq, lt, mask, shr, signed, unsigned, wrap_mul, wrap_sub}
+use mir.Syntax.{w8, w16, w32, cast, ne, lt, mask, shr, signed, unsigned, wrap_mul, wrap_sub}
 use mir.Val.{SFits, to_z, of_z}
 use native.Mathlib.Nat.{suc_inj}
 use Rattle.m2v_quant.specs.declared.kind.BlockKind.{BlockKind}
@@ -274,21 +273,18 @@ flat_limited kind e h other flat =
     ∙ ap pos (sym step)
     ∙ sym (limit_at kind p (pos 0) inside ∙ (λ i. pos (limit_of (other i) (flat p lp i * kind.scale)))))
 
-abbrev same : ℕ → ℕ → ℕ
-same = act2 (mask eq) (s_int w8) (s_int w8) (s_int w8)
+abbrev differs : ℕ → ℕ → ℕ
+differs = act2 (mask ne) (s_int w8) (s_int w8) (s_int w8)
 
-set_only : (b : Bool) → bit_of b ≡ 1 → b ≡ true
-set_only true e = refl
-set_only false e = absurd (omega (arith, e))
+equal : (a b : ℕ) → not (nat_eq a b) ≡ false → a ≡ b
+equal a b e = elim (cases_eq a b) [ inl is ↦ is | inr ne_ ↦ absurd (true≢false (sym (ap not (ne_eqb a b ne_)) ∙ e)) ]
 
-pub all_sixteen : (ms : List ℕ) → length ms ≡ 64
-    → IsTrue (nat_eq (mask_l (map (top 7) (zip2 same (take 64 ms) (replicate 64 16))) % 2 ^ 64) 18446744073709551615)
-    → (p : ℕ) → p < 64 → get_or ms p 0 ≡ 16
-all_sixteen ms e all p lp =
+twice : (b : Bool) → not (not b) ≡ true → b ≡ true
+twice true e = refl
+twice false e = absurd (true≢false (sym e))
+
+pub all_sixteen : (ms : List ℕ) → length ms ≡ 64 → IsTrue (not (not (nat_eq (mask_l (map (top 7) (zip2 differs (take 64 ms) (replicate 64 16))) % 2 ^ 64) 0))) → (p : ℕ) → p < 64 → get_or ms p 0 ≡ 16
+all_sixteen ms e none p lp =
     let whole : take 64 ms ≡ ms = take_all 64 ms (omega (arith, e)) in
-    let bits = map (λ m. nat_eq m 16) ms in
-    let told : mask_l (map (top 7) (zip2 same (take 64 ms) (replicate 64 16))) % 2 ^ 64 ≡ mask_l bits =
-    ap (λ xs. mask_l (map (top 7) (zip2 same xs (replicate 64 16))) % 2 ^ 64) whole ∙ bitmask_splat w8 nat_eq ms 64 16 e (omega arith) in
-    let ones : mask_l bits ≡ 18446744073709551615 = sym told ∙ eqb-true _ _ all in
-    let bit : bit_of (get_or bits p false) ≡ 1 = sym (bit_mask_l bits p) ∙ ap (λ n. bit_at n p) ones ∙ bit_at_ones 64 p lp in
-    eqb-true (get_or ms p 0) 16 (sym (get_or-map (λ m. nat_eq m 16) ms p 0 false (omega (arith, e, lp))) ∙ set_only _ bit)
+    let told = bitmask_splat w8 (λ (a b : ℕ). not (nat_eq a b)) (take 64 ms) 64 16 (ap length whole ∙ e) (omega arith) in
+    equal (get_or ms p 0) 16 (none_from_empty_mask (λ (m : ℕ). not (nat_eq m 16)) ms 0 64 0 (omega (arith, e)) (sym told ∙ eqb-true _ 0 (twice _ none)) p (omega arith) (omega (arith, lp)))

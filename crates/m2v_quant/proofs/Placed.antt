@@ -2,11 +2,9 @@
 use Rattle.std.proofs.Common.{◌≡◌, ◌≢◌, ℕ, suc, ◌^◌, ◌<◌, ◌≤◌, Bool, true, false, not, cond, refl, ap, sym, subst, ◌∙◌, arith, List, length, map, get_or, set, replicate, get_or-set_other, get_or-set_same, ℤ, pos, negsuc, w64, inl, inr}
 use Rattle.std.specs.Prelude.{slice_index, if◌then◌else◌, ◌&&◌, nat_eq, unsigned_abs}
 use Rattle.std.specs.Int.{bit_at, trailing_zeros}
-use Rattle.std.specs.Int.Bits.{bit_and}
 use Rattle.std.specs.List.{range_with_len}
 use Rattle.std.proofs.lemmas.Int.{ints}
-use Rattle.std.proofs.lemmas.Bool.{cases_Bool, cases_eq, cases_lt, eqb-true, ne_eqb, ltb-true, true≢false}
-use Rattle.std.proofs.lemmas.Nat.{and_le_l}
+use Rattle.std.proofs.lemmas.Bool.{cases_Bool, cases_eq, eqb-true, ne_eqb, ltb-true, true≢false}
 use Rattle.std.proofs.lemmas.Nat.Bits.{bit_at-trailing_zeros, bit_at-zero}
 use Rattle.std.proofs.lemmas.List.Elements.{All-set, All-replicate}
 use Rattle.std.proofs.lemmas.List.Folds.{list_all_at}
@@ -100,7 +98,7 @@ placed_level f kind p lt later =
 -- one level more
 pub one_placed : (f : List ℤ) (kind : BlockKind) (left less n : ℕ) (levels : List ℤ) (v : ℤ) (i : ℕ)
     → length levels ≡ 64 → n < 64 → (kind.intra ≡ true → n ≡ 0 → ⊥) → i ≡ position kind.alternate n → v ≡ level_of_place f kind n → IsLevel v
-    → ((p : ℕ) → p < 64 → (p ≡ n → ⊥) → bit_at less p ≡ bit_at left p) → ArePlacedBut left f kind levels → ArePlacedBut less f kind (set levels i v)
+    → ((p : ℕ) → (p ≡ n → ⊥) → bit_at less p ≡ bit_at left p) → ArePlacedBut left f kind levels → ArePlacedBut less f kind (set levels i v)
 one_placed f kind left less n levels v i len lt later at is level others h =
     let b = kind.alternate in
     let room : i < length levels = omega (arith, len, at, position_below b n lt) in
@@ -111,7 +109,7 @@ one_placed f kind left less n levels v i len lt later at is level others h =
                 ap (λ k. get_or (set levels i v) (position b k) (pos 0)) same
                 ∙ ap (λ k. get_or (set levels i v) k (pos 0)) (sym at) ∙ rw get_or-set_same is ∙ sym (placed_level f kind n lt later)
                 ∙ sym (ap (λ k. level_at f kind (position b k)) same)
-            | inr ne ↦ let apart : position b p ≢ i = λ e. positions_differ b p n l lt ne (e ∙ at) in rw get_or-set_other (h.done p l (sym (others p l ne) ∙ none))
+            | inr ne ↦ let apart : position b p ≢ i = λ e. positions_differ b p n l lt ne (e ∙ at) in rw get_or-set_other (h.done p l (sym (others p ne) ∙ none))
           ];
       within = All-set IsLevel levels i v level h.within;
     }
@@ -131,15 +129,6 @@ all_placed f kind left levels len e h =
 -- places of two bits
 pub apart_from : (marks p k : ℕ) → bit_at marks k ≡ 0 → bit_at marks p ≡ 1 → p ≡ k → ⊥
 apart_from marks p k none one e = absurd (omega (arith, one, none, ap (bit_at marks) e))
-
--- a number with one bit less
-pub cleared_less : (n mask y : ℕ) → bit_at n y ≡ 1 → bit_at (bit_and n mask) y ≡ 0 → bit_and n mask < n
-cleared_less n mask y one none =
-    let most = and_le_l n mask in
-    elim (cases_lt (bit_and n mask) n) [
-      | inl less ↦ less
-      | inr ge ↦ let same : bit_and n mask ≡ n = omega (arith, most, ge) in absurd (omega (arith, sym (ap (λ (m : ℕ). bit_at m y) same) ∙ none, one))
-    ]
 
 -- levels by their marks
 abbrev bit_of : Bool → ℕ

@@ -46,18 +46,18 @@ cut_down : (a step : ℕ) → int_div (neg_ℤ (pos a)) (pos step) ≡ neg_ℤ (
 cut_down zero step = let e : 0 / step ≡ 0 = omega arith in rw e refl
 cut_down (suc a) step = refl
 
-sixteen_below : (a : ℕ) → pos 16 *ℤ negsuc a ≡ neg_ℤ (pos (16 * suc a))
-sixteen_below a = omega (arith, ints)
+negative : (a h : ℕ) → pos 16 *ℤ negsuc a +ℤ neg_ℤ (pos h) ≡ neg_ℤ (pos (16 * suc a + h))
+negative a h = omega (arith, ints)
 
-pub other_is : (step : ℕ) (f : ℤ) → int_max (int_min (int_div (pos 16 *ℤ f) (pos step)) (pos 2047)) (neg_ℤ (pos 2047)) ≡ ac_level false step f
+pub level_is : (intra : Bool) (step : ℕ) (f : ℤ)
+    → int_max (int_min (int_div (pos 16 *ℤ f +ℤ with_sign f (cond intra (step / 2) 0)) (pos step)) (pos 2047)) (neg_ℤ (pos 2047)) ≡ ac_level intra step f
 unfolding ac_level with_sign
-other_is step (pos a) =
-    let sixteenths : 16 * a + 0 ≡ 16 * a = omega arith in
-    rw sixteenths (omega (arith, ints, clamps))
-other_is step (negsuc a) =
-    let sixteenths : 16 * suc a + 0 ≡ 16 * suc a = omega arith in
-    let quotient : int_div (pos 16 *ℤ negsuc a) (pos step) ≡ neg_ℤ (pos (16 * suc a / step)) = ap (λ (z : ℤ). int_div z (pos step)) (sixteen_below a) ∙ cut_down (16 * suc a) step in
-    rw (quotient, sixteenths) (omega (arith, ints, clamps))
+level_is intra step (pos a) = omega (arith, ints, clamps)
+level_is intra step (negsuc a) =
+    let h = cond intra (step / 2) 0 in
+    let quotient : int_div (pos 16 *ℤ negsuc a +ℤ neg_ℤ (pos h)) (pos step) ≡ neg_ℤ (pos ((16 * suc a + h) / step)) =
+    ap (λ (z : ℤ). int_div z (pos step)) (negative a h) ∙ cut_down (16 * suc a + h) step in
+    rw quotient (omega (arith, ints, clamps))
 
 pub dc_is : (precision : ℕ) (level : ℤ) → with_sign level ((8 / 2 ^ precision) * unsigned_abs level) ≡ dc_coefficient precision level
 unfolding with_sign dc_coefficient

@@ -10,6 +10,16 @@ use Rattle.m2v_quant.specs.Quantiser.{ac_level, level_at}
 abbrev pub level_of_place : List ℤ → BlockKind → ℕ → ℤ
 level_of_place f kind p = ac_level kind.intra (slice_index kind.matrix p * kind.scale) (slice_index_or f p (pos 0))
 
+-- a matrix is 16 everywhere
+abbrev pub IsFlat : List ℕ → Type 0
+IsFlat matrix = (p : ℕ) → p < 64 → slice_index matrix p ≡ 16
+
+-- the product of matrix value and scale is this at each raster place
+pub record IsStepOf (kind : BlockKind) (step : ℕ) : Type 0 where
+  pub least : 1 ≤ step
+  pub most : step ≤ 28560
+  pub each : (p : ℕ) → p < 64 → slice_index kind.matrix p * kind.scale ≡ step
+
 -- the size up to which a coefficient that is no intra DC has the level 0, by the product of matrix value and scale
 abbrev pub limit_of : Bool → ℕ → ℕ
 limit_of intra step = (step - 1) / cond intra 32 16

@@ -1,13 +1,13 @@
-ghost use Rattle.std.specs.Prelude.{◌≡◌, ◌+◌, ◌*◌, ◌/◌, ◌<◌, ◌≤◌, ◌&&◌, not, nat_eq, min, replicate, true, false, All, pos, neg_ℤ, ◌≤ℤ◌, ◌+ℤ◌, ◌*ℤ◌, unsigned_abs};
+ghost use Rattle.std.specs.Prelude.{◌≡◌, ◌*◌, ◌/◌, ◌<◌, ◌≤◌, ◌&&◌, not, cond, nat_eq, replicate, true, false, All, IfSome, slice_index, pos, neg_ℤ, ◌≤ℤ◌, ◌+ℤ◌, ◌*ℤ◌, unsigned_abs};
 ghost use Rattle.std.specs.Int.{bit_at, int_shr, int_max, int_min};
 ghost use Rattle.std.specs.Int.RustNames.{int_div};
 ghost use Rattle.m2v_quant.specs.Kinds.{IsKind, IsLevel, IsTransformed};
-ghost use Rattle.m2v_quant.specs.Marks.{level_of_place, ArePlacedBut};
+ghost use Rattle.m2v_quant.specs.Marks.{level_of_place, AreMarked, ArePlacedBut, IsStepOf};
 ghost use Rattle.m2v_quant.specs.Quantiser.{dc_level, with_sign, ac_level, levels_of, is_empty};
 
 use crate::inverse::step;
 use crate::kind::{BlockKind, Levels};
-use crate::marks::{first_place, intra_marks, other_marks, without};
+use crate::marks::{behind_first, first_place, flat_marks, intra_marks, is_flat, other_marks};
 use crate::positions::position;
 
 /// An eighth, to the nearest.
@@ -44,84 +44,89 @@ pub fn dc_level(f: i32) -> i32
     kept(eighth(f))
 }
 
-/// The size of a level of an intra block by that of its coefficient, to the nearest.
-#[inline(always)]
-fn intra_size(step: u32, size: u32) -> u32
-    requires least { 1 ≤ step }
-    requires most { step ≤ 28560 }
-    requires size { size ≤ 4096 }
-    ensures value { result ≡ min ((16 * size + step / 2) / step) 2047 }
-    ensures most { result ≤ 2047 }
-{
-    ((16 * size + step / 2) / step).min(2047)
-}
-
-/// A number of this size and the sign of `like`.
+/// What is added before a division that is to go to the nearest in an intra block, and to be cut toward zero in another.
 #[inline(always)]
 #[tactic(auto, unfolding(crate::specs::Quantiser::with_sign))]
-fn signed(like: i32, size: u32) -> i32
-    requires { size ≤ 2047 }
-    ensures value { result ≡ with_sign like size }
-    ensures within { IsLevel result }
+fn half(intra: bool, step: u32, f: i32) -> i32
+    requires { step ≤ 28560 }
+    ensures value { result ≡ with_sign f (cond intra (step / 2) 0) }
+    ensures low { neg_ℤ (pos 14280) ≤ℤ result }
+    ensures high { result ≤ℤ pos 14280 }
 {
-    if like < 0 {
-        -(size as i32)
+    if !intra {
+        return 0;
+    }
+    if f < 0 {
+        -((step / 2) as i32)
     } else {
-        size as i32
+        (step / 2) as i32
     }
 }
 
-/// The level of a coefficient of an intra block that is no DC.
+/// Sixteen times a coefficient, and what is added.
 #[inline(always)]
-#[tactic(auto, unfolding(crate::specs::Quantiser::ac_level))]
-fn intra_level(step: u32, f: i32) -> i32
-    requires least { 1 ≤ step }
+fn sixteenths(intra: bool, step: u32, f: i32) -> i32
     requires most { step ≤ 28560 }
     requires range { IsTransformed f }
-    ensures value { result ≡ ac_level true step f }
-    ensures within { IsLevel result }
+    ensures value { result ≡ pos 16 *ℤ f +ℤ with_sign f (cond intra (step / 2) 0) }
+    ensures low { neg_ℤ (pos 79816) ≤ℤ result }
+    ensures high { result ≤ℤ pos 79816 }
 {
-    signed(f, intra_size(step, f.unsigned_abs()))
+    16 * f + half(intra, step, f)
 }
 
-/// Sixteen times a coefficient over a step, cut toward zero.
+/// These over a step. Division of signed numbers spares the steps by size and sign.
 #[inline(always)]
-fn quotient(step: u32, f: i32) -> i32
+fn quotient(intra: bool, step: u32, f: i32) -> i32
     requires least { 1 ≤ step }
     requires most { step ≤ 28560 }
     requires range { IsTransformed f }
-    ensures { result ≡ int_div (pos 16 *ℤ f) (pos step) }
+    ensures { result ≡ int_div (pos 16 *ℤ f +ℤ with_sign f (cond intra (step / 2) 0)) (pos step) }
 {
-    16 * f / step as i32
+    sixteenths(intra, step, f) / step as i32
 }
 
-/// The level of a coefficient of a block that isn't intra. A division of signed numbers spares the steps by size and sign.
+/// The level of a coefficient that is no intra DC.
 #[inline(always)]
-fn other_level(step: u32, f: i32) -> i32
+fn ac_level(intra: bool, step: u32, f: i32) -> i32
     requires least { 1 ≤ step }
     requires most { step ≤ 28560 }
     requires range { IsTransformed f }
-    ensures value { result ≡ ac_level false step f }
+    ensures value { result ≡ ac_level intra step f }
     ensures within { IsLevel result }
 {
-    quotient(step, f).min(2047).max(-2047)
+    quotient(intra, step, f).min(2047).max(-2047)
+}
+
+/// The step of a raster place: `flat`, where that is the one of all places.
+#[inline(always)]
+fn step_of(kind: &BlockKind, flat: Option<u32>, place: u8) -> u32
+    requires kind { IsKind kind.now }
+    requires flat { IfSome flat (IsStepOf kind.now) }
+    requires place { place < 64 }
+    ensures value { result ≡ slice_index kind.now.matrix place * kind.now.scale }
+    ensures least { 1 ≤ result }
+    ensures most { result ≤ 28560 }
+{
+    match flat {
+        Some(all) => all,
+        None => step(kind, place),
+    }
 }
 
 /// The level of a raster place that is no intra DC. Whether the block is intra is the kind's, once more, so that it isn't
 /// asked at each place.
 #[inline(always)]
-fn place_level(f: &[i32; 64], kind: &BlockKind, intra: bool, place: u8) -> i32
+fn place_level(f: &[i32; 64], kind: &BlockKind, intra: bool, flat: Option<u32>, place: u8) -> i32
     requires kind { IsKind kind.now }
     requires intra { kind.now.intra ≡ intra }
+    requires flat { IfSome flat (IsStepOf kind.now) }
     requires coefficients { All IsTransformed f.now }
     requires place { place < 64 }
     ensures value { result ≡ level_of_place f.now kind.now place }
     ensures within { IsLevel result }
 {
-    if intra {
-        return intra_level(step(kind, place), f[place as usize]);
-    }
-    other_level(step(kind, place), f[place as usize])
+    ac_level(intra, step_of(kind, flat, place), f[place as usize])
 }
 
 /// Puts the level of the first raster place that is left: which are left behind it. Whether the block goes by the alternate
@@ -131,12 +136,14 @@ fn put_first(
     f: &[i32; 64],
     kind: &BlockKind,
     intra: bool,
+    flat: Option<u32>,
     alternate: bool,
     left: u64,
     levels: &mut [i32; 64],
 ) -> u64
     requires kind { IsKind kind.now }
     requires intra { kind.now.intra ≡ intra }
+    requires flat { IfSome flat (IsStepOf kind.now) }
     requires alternate { kind.now.alternate ≡ alternate }
     requires coefficients { All IsTransformed f.now }
     requires some { 0 < left }
@@ -147,8 +154,8 @@ fn put_first(
     ensures placed { ArePlacedBut result f.now kind.now levels.new }
 {
     let place = first_place(left);
-    levels[position(alternate, place) as usize] = place_level(f, kind, intra, place);
-    without(left, place)
+    levels[position(alternate, place) as usize] = place_level(f, kind, intra, flat, place);
+    behind_first(left, place)
 }
 
 /// Puts the levels of all raster places that are marked, where the others stand.
@@ -157,12 +164,14 @@ fn put_marked(
     f: &[i32; 64],
     kind: &BlockKind,
     intra: bool,
+    flat: Option<u32>,
     alternate: bool,
     marks: u64,
     levels: &mut [i32; 64],
 )
     requires kind { IsKind kind.now }
     requires intra { kind.now.intra ≡ intra }
+    requires flat { IfSome flat (IsStepOf kind.now) }
     requires alternate { kind.now.alternate ≡ alternate }
     requires coefficients { All IsTransformed f.now }
     requires later { intra ≡ true → bit_at marks 0 ≡ 0 }
@@ -172,15 +181,23 @@ fn put_marked(
 {
     let mut left = marks;
     while left != 0 {
-        left = put_first(f, kind, intra, alternate, left, levels);
+        left = put_first(f, kind, intra, flat, alternate, left, levels);
     }
 }
 
 /// The same by the kind's scan.
 #[inline(always)]
-fn put_by_scan(f: &[i32; 64], kind: &BlockKind, intra: bool, marks: u64, levels: &mut [i32; 64])
+fn put_by_scan(
+    f: &[i32; 64],
+    kind: &BlockKind,
+    intra: bool,
+    flat: Option<u32>,
+    marks: u64,
+    levels: &mut [i32; 64],
+)
     requires kind { IsKind kind.now }
     requires intra { kind.now.intra ≡ intra }
+    requires flat { IfSome flat (IsStepOf kind.now) }
     requires coefficients { All IsTransformed f.now }
     requires later { intra ≡ true → bit_at marks 0 ≡ 0 }
     requires before { ArePlacedBut marks f.now kind.now levels.old }
@@ -188,13 +205,36 @@ fn put_by_scan(f: &[i32; 64], kind: &BlockKind, intra: bool, marks: u64, levels:
     ensures levels { All IsLevel levels.new }
 {
     if kind.alternate {
-        put_marked(f, kind, intra, true, marks, levels);
+        put_marked(f, kind, intra, flat, true, marks, levels);
     } else {
-        put_marked(f, kind, intra, false, marks, levels);
+        put_marked(f, kind, intra, flat, false, marks, levels);
     }
 }
 
-/// The levels of a block that isn't intra, among zeros: whether any isn't 0.
+/// The levels of a block that isn't intra, among zeros, by its marks: whether any isn't 0.
+#[inline(always)]
+fn put_other(
+    f: &[i32; 64],
+    kind: &BlockKind,
+    flat: Option<u32>,
+    marks: u64,
+    levels: &mut [i32; 64],
+) -> bool
+    requires kind { IsKind kind.now }
+    requires intra { kind.now.intra ≡ false }
+    requires flat { IfSome flat (IsStepOf kind.now) }
+    requires coefficients { All IsTransformed f.now }
+    requires marks { AreMarked 0 f.now kind.now marks }
+    requires zeros { levels.old ≡ replicate 64 (pos 0) }
+    ensures value { levels.new ≡ levels_of f.now kind.now }
+    ensures levels { All IsLevel levels.new }
+    ensures some { result ≡ not (is_empty (levels_of f.now kind.now)) }
+{
+    put_by_scan(f, kind, false, flat, marks, levels);
+    marks != 0
+}
+
+/// The levels of a block that isn't intra, among zeros: whether any isn't 0. Its matrix mostly is flat.
 #[inline(always)]
 fn quantise_other(f: &[i32; 64], kind: &BlockKind, levels: &mut [i32; 64]) -> bool
     requires kind { IsKind kind.now }
@@ -205,9 +245,10 @@ fn quantise_other(f: &[i32; 64], kind: &BlockKind, levels: &mut [i32; 64]) -> bo
     ensures levels { All IsLevel levels.new }
     ensures some { result ≡ not (is_empty (levels_of f.now kind.now)) }
 {
-    let marks = other_marks(f, kind);
-    put_by_scan(f, kind, false, marks, levels);
-    marks != 0
+    if is_flat(&kind.matrix) {
+        return put_other(f, kind, Some(16 * kind.scale), flat_marks(f, kind), levels);
+    }
+    put_other(f, kind, None, other_marks(f, kind), levels)
 }
 
 /// Whether there is a mark, or a DC level other than 0.
@@ -232,7 +273,7 @@ fn quantise_intra(f: &[i32; 64], kind: &BlockKind, levels: &mut [i32; 64]) -> bo
     let marks = intra_marks(f, kind);
     let dc = dc_level(f[0]);
     levels[0] = dc;
-    put_by_scan(f, kind, true, marks, levels);
+    put_by_scan(f, kind, true, None, marks, levels);
     has_some(marks, dc)
 }
 

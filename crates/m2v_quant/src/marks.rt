@@ -1,8 +1,8 @@
 //! At which raster places of a block a level other than 0 stands, as bits. Most places have none: lanes tell which do.
-ghost use Rattle.std.specs.Prelude.{◌≡◌, ◌≢◌, ℕ, ◌<◌, ◌≤◌, All, IsTrue, true, false, cond, slice_index, pos};
+ghost use Rattle.std.specs.Prelude.{◌≡◌, ◌≢◌, ℕ, ◌<◌, ◌≤◌, All, IsTrue, true, false, cond, pos};
 ghost use Rattle.std.specs.Int.{bit_at};
 ghost use Rattle.m2v_quant.specs.Kinds.{IsKind, IsTransformed};
-ghost use Rattle.m2v_quant.specs.Marks.{AreMarked, limits_of};
+ghost use Rattle.m2v_quant.specs.Marks.{AreMarked, IsFlat, limits_of};
 
 use crate::kind::BlockKind;
 use std::simd::prelude::*;
@@ -54,7 +54,7 @@ fn limits(kind: &BlockKind, intra: bool) -> i16x64
 fn flat_limits(kind: &BlockKind) -> i16x64
     requires kind { IsKind kind.now }
     requires intra { kind.now.intra ≡ false }
-    requires flat { (p : ℕ) → p < 64 → slice_index kind.now.matrix p ≡ 16 }
+    requires flat { IsFlat kind.now.matrix }
     ensures { result ≡ limits_of kind.now }
 {
     i16x64::splat((kind.scale - 1) as i16)
@@ -62,34 +62,56 @@ fn flat_limits(kind: &BlockKind) -> i16x64
 
 /// Whether a matrix is 16 everywhere.
 #[inline(always)]
-fn is_flat(matrix: &[u8; 64]) -> bool
-    ensures { IsTrue result → (p : ℕ) → p < 64 → slice_index matrix.now p ≡ 16 }
+pub fn is_flat(matrix: &[u8; 64]) -> bool
+    ensures { IsTrue result → IsFlat matrix.now }
 {
-    u8x64::from_slice(matrix).simd_eq(u8x64::splat(16)).all()
+    !u8x64::from_slice(matrix).simd_ne(u8x64::splat(16)).any()
 }
 
-/// The first raster place of some.
+/// The first raster place that is marked.
 #[inline(always)]
 pub fn first_place(marks: u64) -> u8
     requires { 0 < marks }
     ensures below { result < 64 }
     ensures here { bit_at marks result ≡ 1 }
+    ensures before { (p : ℕ) → p < result → bit_at marks p ≡ 0 }
 {
     marks.trailing_zeros() as u8
 }
 
-/// Marks without that of one place.
+/// Marks without that of the first place.
 #[inline(always)]
-pub fn without(marks: u64, place: u8) -> u64
-    requires { place < 64 }
-    ensures less { bit_at marks place ≡ 1 → result < marks }
-    ensures gone { bit_at result place ≡ 0 }
-    ensures others { (p : ℕ) → p < 64 → p ≢ place → bit_at result p ≡ bit_at marks p }
+pub fn behind_first(marks: u64, _first: u8) -> u64
+    requires here { bit_at marks _first ≡ 1 }
+    requires before { (p : ℕ) → p < _first → bit_at marks p ≡ 0 }
+    ensures less { result < marks }
+    ensures others { (p : ℕ) → p ≢ _first → bit_at result p ≡ bit_at marks p }
 {
-    marks & !(1 << place)
+    marks & (marks - 1)
 }
 
-/// The marks of a block that isn't intra. Its matrix mostly is flat.
+/// Marks without that of place 0.
+#[inline(always)]
+fn but_first(marks: u64) -> u64
+    ensures none { bit_at result 0 ≡ 0 }
+    ensures others { (p : ℕ) → p < 64 → p ≢ 0 → bit_at result p ≡ bit_at marks p }
+{
+    marks & !1
+}
+
+/// The marks of a block that isn't intra, where the matrix is 16 everywhere.
+#[inline(always)]
+pub fn flat_marks(f: &[i32; 64], kind: &BlockKind) -> u64
+    requires kind { IsKind kind.now }
+    requires intra { kind.now.intra ≡ false }
+    requires flat { IsFlat kind.now.matrix }
+    requires coefficients { All IsTransformed f.now }
+    ensures { AreMarked 0 f.now kind.now result }
+{
+    marks_above(f, kind, flat_limits(kind))
+}
+
+/// The marks of a block that isn't intra.
 #[inline(always)]
 pub fn other_marks(f: &[i32; 64], kind: &BlockKind) -> u64
     requires kind { IsKind kind.now }
@@ -97,9 +119,6 @@ pub fn other_marks(f: &[i32; 64], kind: &BlockKind) -> u64
     requires coefficients { All IsTransformed f.now }
     ensures { AreMarked 0 f.now kind.now result }
 {
-    if is_flat(&kind.matrix) {
-        return marks_above(f, kind, flat_limits(kind));
-    }
     marks_above(f, kind, limits(kind, false))
 }
 
@@ -112,5 +131,5 @@ pub fn intra_marks(f: &[i32; 64], kind: &BlockKind) -> u64
     ensures first { bit_at result 0 ≡ 0 }
     ensures later { AreMarked 1 f.now kind.now result }
 {
-    without(marks_above(f, kind, limits(kind, true)), 0)
+    but_first(marks_above(f, kind, limits(kind, true)))
 }

@@ -2,7 +2,4 @@ use Rattle.m2v_quant.proofs.Lanes.{limits_passed}
 use Rattle.m2v_quant.proofs.marks.other_marks.Goals as goal
 
 pub marks_above-requires-clause-limits : goal.marks_above-requires-clause-limits
-marks_above-requires-clause-limits c = limits_passed c.args.kind.now c.flat_limits.result c.requires.kind c.flat_limits.ensures
-
-pub marks_above-requires-2-clause-limits : goal.marks_above-requires-2-clause-limits
-marks_above-requires-2-clause-limits c = limits_passed c.args.kind.now c.limits.result c.requires.kind c.limits.ensures
+marks_above-requires-clause-limits c = limits_passed c.args.kind.now c.limits.result c.requires.kind c.limits.ensures

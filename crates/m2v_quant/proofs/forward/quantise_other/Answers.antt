@@ -1,8 +1,0 @@
-use Rattle.m2v_quant.proofs.Placed.{some_other, zeros_placed}
-use Rattle.m2v_quant.proofs.forward.quantise_other.Goals as goal
-
-pub put_by_scan-requires-clause-before : goal.put_by_scan-requires-clause-before
-put_by_scan-requires-clause-before c = rw c.requires.zeros (zeros_placed c.args.f.now c.args.kind.now c.other_marks-marks.result c.requires.intra c.other_marks-marks.ensures)
-
-pub returns-clause-some : goal.returns-clause-some
-returns-clause-some c = some_other c.args.f.now c.args.kind.now c.other_marks-marks.result c.other_marks-marks.type_inv c.requires.intra c.other_marks-marks.ensures
