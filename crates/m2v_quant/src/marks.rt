@@ -26,6 +26,7 @@ fn marks_above(f: &[i32; 64], kind: &BlockKind, limits: i16x64) -> u64
     requires limits { limits ≡ limits_of kind.now }
     ensures { AreMarked 0 f.now kind.now result }
 {
+    // a matrix has 64 numbers, which only the field says
     let _matrix = &kind.matrix;
     narrowed(f).abs().simd_gt(limits).to_bitmask()
 }
@@ -79,7 +80,7 @@ pub fn first_place(marks: u64) -> u8
     marks.trailing_zeros() as u8
 }
 
-/// Marks without that of the first place.
+/// Marks without that of the first place: a number less 1 has 0 there, and behind it the same bits.
 #[inline(always)]
 pub fn behind_first(marks: u64, _first: u8) -> u64
     requires here { bit_at marks _first ≡ 1 }
