@@ -1,11 +1,12 @@
 -- Reconstruction by size and sign is that of the standard, and a sum's parity goes by the sizes.
 use Rattle.std.proofs.Common.{◌≡◌, ℕ, zero, suc, ◌+◌, ◌*◌, ◌/◌, ◌%◌, ◌^◌, ◌<◌, ◌≤◌, Bool, true, false, cond, refl, ap, sym, ◌∙◌, arith, List, length, map, get_or, set, get_or-set_other, get_or-set_same, below_more, ◌≢◌, ℤ, pos, negsuc, ◌+ℤ◌, ◌*ℤ◌, inl, inr}
 use Rattle.std.specs.Prelude.{neg_ℤ, min, unsigned_abs}
+use Rattle.std.specs.Int.{int_max, int_min}
 use Rattle.std.specs.Int.RustNames.{int_div}
 use Rattle.std.specs.List.{range_with_len}
 use Rattle.std.specs.Int.Bits.{bit_xor}
 use Rattle.std.proofs.lemmas.Nat.Bits.{bit_at_lowest, bit_at_xor}
-use Rattle.std.proofs.lemmas.Int.{ints}
+use Rattle.std.proofs.lemmas.Int.{clamps, ints}
 use Rattle.std.proofs.lemmas.Bool.{ne_eqb, eq-eqb, cases_eq}
 use Rattle.std.proofs.lemmas.List.FromFn.{fill_by_all, get_or-map-range_with_len}
 use Rattle.std.proofs.Math.ListN.{length-set}
@@ -13,7 +14,7 @@ use Rattle.m2v_quant.specs.declared.kind.BlockKind.{BlockKind}
 use mir.Syntax.{w32}
 use mir.Val.{of_z}
 use Rattle.m2v_quant.specs.Kinds.{IsCoefficient}
-use Rattle.m2v_quant.specs.Quantiser.{with_sign}
+use Rattle.m2v_quant.specs.Quantiser.{ac_level, with_sign}
 use Rattle.m2v_quant.specs.Coefficients.{ac_coefficient, dc_coefficient, saturated_at, coefficient_sum, other_parity, coefficient_at, coefficients_of}
 
 negated : (a s : ℕ) → neg_ℤ (pos a) *ℤ pos s ≡ neg_ℤ (pos (a * s))
@@ -39,6 +40,24 @@ ac_is intra step (pos n) = sym (ap (λ (z : ℤ). int_div (z *ℤ pos step) (pos
 ac_is intra step (negsuc n) =
     let m = 2 * suc n + cond intra 0 (min (suc n) 1) in
     sym (ap (λ (z : ℤ). int_div (z *ℤ pos step) (pos 32)) (doubled intra n) ∙ ap (λ (z : ℤ). int_div z (pos 32)) (negated m step) ∙ divided (m * step))
+
+-- the encoder's division cuts toward zero too
+cut_down : (a step : ℕ) → int_div (neg_ℤ (pos a)) (pos step) ≡ neg_ℤ (pos (a / step))
+cut_down zero step = let e : 0 / step ≡ 0 = omega arith in rw e refl
+cut_down (suc a) step = refl
+
+negative : (a h : ℕ) → pos 16 *ℤ negsuc a +ℤ neg_ℤ (pos h) ≡ neg_ℤ (pos (16 * suc a + h))
+negative a h = omega (arith, ints)
+
+pub level_is : (intra : Bool) (step : ℕ) (f : ℤ)
+    → int_max (int_min (int_div (pos 16 *ℤ f +ℤ with_sign f (cond intra (step / 2) 0)) (pos step)) (pos 2047)) (neg_ℤ (pos 2047)) ≡ ac_level intra step f
+unfolding ac_level with_sign
+level_is intra step (pos a) = omega (arith, ints, clamps)
+level_is intra step (negsuc a) =
+    let h = cond intra (step / 2) 0 in
+    let quotient : int_div (pos 16 *ℤ negsuc a +ℤ neg_ℤ (pos h)) (pos step) ≡ neg_ℤ (pos ((16 * suc a + h) / step)) =
+    ap (λ (z : ℤ). int_div z (pos step)) (negative a h) ∙ cut_down (16 * suc a + h) step in
+    rw quotient (omega (arith, ints, clamps))
 
 pub dc_is : (precision : ℕ) (level : ℤ) → with_sign level ((8 / 2 ^ precision) * unsigned_abs level) ≡ dc_coefficient precision level
 unfolding with_sign dc_coefficient

@@ -175,7 +175,7 @@ changed g h out parity place c more out_len inside was here other after value pa
 )
 
 -- behind the first position stand other places than the first
-first_position : (b : Bool) → position b 0 ≡ 0
+pub first_position : (b : Bool) → position b 0 ≡ 0
 unfolding position scan_order zigzag alternate
 first_position false = refl
 first_position true = refl

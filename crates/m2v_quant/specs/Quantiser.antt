@@ -1,6 +1,6 @@
 -- The encoder's quantiser. The standard leaves it free; this is the project's own choice.
 use Rattle.std.specs.Prelude.{ℕ, ◌+◌, ◌*◌, ◌/◌, Bool, cond, ◌&&◌, nat_eq, min, List, map, slice_index, slice_index_or, if◌then◌else◌, ℤ, pos, negsuc, neg_ℤ, ◌+ℤ◌, unsigned_abs}
-use Rattle.std.specs.List.{range_with_len}
+use Rattle.std.specs.List.{range_with_len, list_all}
 use Rattle.std.specs.Int.{int_shr, int_max, int_min}
 use Rattle.m2v_quant.specs.declared.kind.BlockKind.{BlockKind}
 use Rattle.m2v_quant.specs.Scans.{scan_order}
@@ -29,3 +29,7 @@ level_at f kind i =
 -- the 64 levels in scan order
 unfoldable pub levels_of : List ℤ → BlockKind → List ℤ
 levels_of f kind = map (level_at f kind) (range_with_len 0 64)
+
+-- a block has no level but 0
+abbrev pub is_empty : List ℤ → Bool
+is_empty levels = list_all (λ level. nat_eq (unsigned_abs level) 0) levels

@@ -1,11 +1,13 @@
-ghost use Rattle.std.specs.Prelude.{◌≡◌, ◌+◌, ◌*◌, ◌/◌, ◌<◌, ◌≤◌, cond, min, slice_index, slice_index_or, replicate, ℕ, IsTrue, true, false, All, ℤ, pos, neg_ℤ, ◌≤ℤ◌, ◌+ℤ◌};
-ghost use Rattle.std.specs.Int.{int_shr, int_max, int_min};
+ghost use Rattle.std.specs.Prelude.{◌≡◌, ◌*◌, ◌/◌, ◌<◌, ◌≤◌, ◌&&◌, not, cond, nat_eq, replicate, true, false, All, IfSome, slice_index, pos, neg_ℤ, ◌≤ℤ◌, ◌+ℤ◌, ◌*ℤ◌, unsigned_abs};
+ghost use Rattle.std.specs.Int.{bit_at, int_shr, int_max, int_min};
+ghost use Rattle.std.specs.Int.RustNames.{int_div};
 ghost use Rattle.m2v_quant.specs.Kinds.{IsKind, IsLevel, IsTransformed};
-ghost use Rattle.m2v_quant.specs.Marks.{level_of_place, AreMarks, ArePlaced};
-ghost use Rattle.m2v_quant.specs.Quantiser.{dc_level, with_sign, ac_level, levels_of};
+ghost use Rattle.m2v_quant.specs.Marks.{level_of_place, AreMarked, ArePlacedBut, IsStepOf};
+ghost use Rattle.m2v_quant.specs.Quantiser.{dc_level, with_sign, ac_level, levels_of, is_empty};
 
 use crate::inverse::step;
 use crate::kind::{BlockKind, Levels};
+use crate::marks::{behind_first, first_place, flat_marks, intra_marks, is_flat, other_marks};
 use crate::positions::position;
 
 /// An eighth, to the nearest.
@@ -42,50 +44,50 @@ pub fn dc_level(f: i32) -> i32
     kept(eighth(f))
 }
 
-/// What is added before a division that is to go to the nearest in an intra block, and to be cut down in another.
-#[inline(always)]
-fn half(intra: bool, step: u32) -> u32
-    ensures value { result ≡ cond intra (step / 2) 0 }
-    ensures most { result ≤ step }
-{
-    if intra { step / 2 } else { 0 }
-}
-
-/// The size of a level by that of its coefficient.
-#[inline(always)]
-fn ac_size(intra: bool, step: u32, size: u32) -> u32
-    requires least { 1 ≤ step }
-    requires most { step ≤ 28560 }
-    requires size { size ≤ 4096 }
-    ensures value { result ≡ min ((16 * size + cond intra (step / 2) 0) / step) 2047 }
-    ensures most { result ≤ 2047 }
-{
-    // most are 0, and need no division
-    let sixteenths = 16 * size + half(intra, step);
-    if sixteenths < step {
-        return 0;
-    }
-    (sixteenths / step).min(2047)
-}
-
-/// A number of this size and the sign of `like`.
+/// What is added before a division that is to go to the nearest in an intra block, and to be cut toward zero in another.
 #[inline(always)]
 #[tactic(auto, unfolding(crate::specs::Quantiser::with_sign))]
-fn signed(like: i32, size: u32) -> i32
-    requires { size ≤ 2047 }
-    ensures value { result ≡ with_sign like size }
-    ensures within { IsLevel result }
+fn half(intra: bool, step: u32, f: i32) -> i32
+    requires { step ≤ 28560 }
+    ensures value { result ≡ with_sign f (cond intra (step / 2) 0) }
+    ensures low { neg_ℤ (pos 14280) ≤ℤ result }
+    ensures high { result ≤ℤ pos 14280 }
 {
-    if like < 0 {
-        -(size as i32)
-    } else {
-        size as i32
+    if !intra {
+        return 0;
     }
+    if f < 0 {
+        -((step / 2) as i32)
+    } else {
+        (step / 2) as i32
+    }
+}
+
+/// Sixteen times a coefficient, and what is added.
+#[inline(always)]
+fn sixteenths(intra: bool, step: u32, f: i32) -> i32
+    requires most { step ≤ 28560 }
+    requires range { IsTransformed f }
+    ensures value { result ≡ pos 16 *ℤ f +ℤ with_sign f (cond intra (step / 2) 0) }
+    ensures low { neg_ℤ (pos 79816) ≤ℤ result }
+    ensures high { result ≤ℤ pos 79816 }
+{
+    16 * f + half(intra, step, f)
+}
+
+/// These over a step. Division of signed numbers spares the steps by size and sign.
+#[inline(always)]
+fn quotient(intra: bool, step: u32, f: i32) -> i32
+    requires least { 1 ≤ step }
+    requires most { step ≤ 28560 }
+    requires range { IsTransformed f }
+    ensures { result ≡ int_div (pos 16 *ℤ f +ℤ with_sign f (cond intra (step / 2) 0)) (pos step) }
+{
+    sixteenths(intra, step, f) / step as i32
 }
 
 /// The level of a coefficient that is no intra DC.
 #[inline(always)]
-#[tactic(auto, unfolding(crate::specs::Quantiser::ac_level))]
 fn ac_level(intra: bool, step: u32, f: i32) -> i32
     requires least { 1 ≤ step }
     requires most { step ≤ 28560 }
@@ -93,199 +95,201 @@ fn ac_level(intra: bool, step: u32, f: i32) -> i32
     ensures value { result ≡ ac_level intra step f }
     ensures within { IsLevel result }
 {
-    signed(f, ac_size(intra, step, f.unsigned_abs()))
+    quotient(intra, step, f).min(2047).max(-2047)
 }
 
-/// 0 where a coefficient that is no intra DC has the level 0.
+/// The step of a raster place: `flat`, where that is the one of all places.
 #[inline(always)]
-fn mark(intra: bool, step: u32, f: i32) -> u32
-    requires least { 1 ≤ step }
-    requires most { step ≤ 28560 }
-    requires range { IsTransformed f }
-    ensures none { result ≡ 0 → ac_level intra step f ≡ pos 0 }
+fn step_of(kind: &BlockKind, flat: Option<u32>, place: u8) -> u32
+    requires kind { IsKind kind.now }
+    requires flat { IfSome flat (IsStepOf kind.now) }
+    requires place { place < 64 }
+    ensures value { result ≡ slice_index kind.now.matrix place * kind.now.scale }
+    ensures least { 1 ≤ result }
+    ensures most { result ≤ 28560 }
 {
-    if 16 * f.unsigned_abs() + half(intra, step) < step {
-        0
-    } else {
-        1
+    match flat {
+        Some(all) => all,
+        None => step(kind, place),
     }
 }
 
-/// Marks the raster places at which a level other than 0 may stand, as if none were an intra DC: 0 where none does.
+/// The level of a raster place that is no intra DC. Whether the block is intra is the kind's, once more, so that it isn't
+/// asked at each place.
 #[inline(always)]
-fn mark_all(f: &[i32; 64], kind: &BlockKind, intra: bool, marks: &mut [u32; 64])
+fn place_level(f: &[i32; 64], kind: &BlockKind, intra: bool, flat: Option<u32>, place: u8) -> i32
     requires kind { IsKind kind.now }
     requires intra { kind.now.intra ≡ intra }
-    requires coefficients { All IsTransformed f.now }
-    ensures { AreMarks f.now kind.now marks.new }
-{
-    for p in 0..64u8 {
-        marks[p as usize] = mark(intra, step(kind, p), f[p as usize]);
-    }
-}
-
-/// The level of a raster place that is no intra DC.
-#[inline(always)]
-fn place_level(f: &[i32; 64], kind: &BlockKind, intra: bool, place: u8) -> i32
-    requires kind { IsKind kind.now }
-    requires intra { kind.now.intra ≡ intra }
+    requires flat { IfSome flat (IsStepOf kind.now) }
     requires coefficients { All IsTransformed f.now }
     requires place { place < 64 }
     ensures value { result ≡ level_of_place f.now kind.now place }
     ensures within { IsLevel result }
 {
-    ac_level(intra, step(kind, place), f[place as usize])
+    ac_level(intra, step_of(kind, flat, place), f[place as usize])
 }
 
-/// The level of one raster place more. Whether the block is intra and goes by the alternate scan is the kind's, once more,
-/// so that neither is asked at each place.
+/// Puts the level of the first raster place that is left: which are left behind it. Whether the block goes by the alternate
+/// scan is the kind's, once more.
 #[inline(always)]
-fn put_place(
+fn put_first(
     f: &[i32; 64],
     kind: &BlockKind,
     intra: bool,
+    flat: Option<u32>,
     alternate: bool,
-    place: u8,
-    marks: &[u32; 64],
+    left: u64,
+    levels: &mut [i32; 64],
+) -> u64
+    requires kind { IsKind kind.now }
+    requires intra { kind.now.intra ≡ intra }
+    requires flat { IfSome flat (IsStepOf kind.now) }
+    requires alternate { kind.now.alternate ≡ alternate }
+    requires coefficients { All IsTransformed f.now }
+    requires some { 0 < left }
+    requires later { intra ≡ true → bit_at left 0 ≡ 0 }
+    requires before { ArePlacedBut left f.now kind.now levels.old }
+    ensures less { result < left }
+    ensures later { intra ≡ true → bit_at result 0 ≡ 0 }
+    ensures placed { ArePlacedBut result f.now kind.now levels.new }
+{
+    let place = first_place(left);
+    levels[position(alternate, place) as usize] = place_level(f, kind, intra, flat, place);
+    behind_first(left, place)
+}
+
+/// Puts the levels of all raster places that are marked, where the others stand.
+#[inline(always)]
+fn put_marked(
+    f: &[i32; 64],
+    kind: &BlockKind,
+    intra: bool,
+    flat: Option<u32>,
+    alternate: bool,
+    marks: u64,
     levels: &mut [i32; 64],
 )
     requires kind { IsKind kind.now }
     requires intra { kind.now.intra ≡ intra }
+    requires flat { IfSome flat (IsStepOf kind.now) }
     requires alternate { kind.now.alternate ≡ alternate }
     requires coefficients { All IsTransformed f.now }
-    requires place { place < 64 }
-    requires marks { AreMarks f.now kind.now marks.now }
-    requires before { ArePlaced place f.now kind.now levels.old }
-    ensures { ArePlaced (place + 1) f.now kind.now levels.new }
+    requires later { intra ≡ true → bit_at marks 0 ≡ 0 }
+    requires before { ArePlacedBut marks f.now kind.now levels.old }
+    ensures value { levels.new ≡ levels_of f.now kind.now }
+    ensures levels { All IsLevel levels.new }
 {
-    if marks[place as usize] == 0 {
-        return;
+    let mut left = marks;
+    while left != 0 {
+        left = put_first(f, kind, intra, flat, alternate, left, levels);
     }
-    levels[position(alternate, place) as usize] = place_level(f, kind, intra, place);
 }
 
-/// Whether eight marks are 0, from one on.
+/// The same by the kind's scan.
 #[inline(always)]
-fn is_unmarked(marks: &[u32; 64], from: u8) -> bool
-    requires { from ≤ 56 }
-    ensures { IsTrue result → (j : ℕ) → j < 8 → slice_index marks.now (from + j) ≡ 0 }
-{
-    let mut bits = 0;
-    for j in 0..8u8 {
-        bits |= marks[(from + j) as usize];
-    }
-    bits == 0
-}
-
-/// The levels of four raster places more.
-#[inline(always)]
-fn put_four(
+fn put_by_scan(
     f: &[i32; 64],
     kind: &BlockKind,
     intra: bool,
-    alternate: bool,
-    from: u8,
-    marks: &[u32; 64],
+    flat: Option<u32>,
+    marks: u64,
     levels: &mut [i32; 64],
 )
     requires kind { IsKind kind.now }
     requires intra { kind.now.intra ≡ intra }
-    requires alternate { kind.now.alternate ≡ alternate }
+    requires flat { IfSome flat (IsStepOf kind.now) }
     requires coefficients { All IsTransformed f.now }
-    requires from { from ≤ 60 }
-    requires marks { AreMarks f.now kind.now marks.now }
-    requires before { ArePlaced from f.now kind.now levels.old }
-    ensures { ArePlaced (from + 4) f.now kind.now levels.new }
+    requires later { intra ≡ true → bit_at marks 0 ≡ 0 }
+    requires before { ArePlacedBut marks f.now kind.now levels.old }
+    ensures value { levels.new ≡ levels_of f.now kind.now }
+    ensures levels { All IsLevel levels.new }
 {
-    put_place(f, kind, intra, alternate, from, marks, levels);
-    put_place(f, kind, intra, alternate, from + 1, marks, levels);
-    put_place(f, kind, intra, alternate, from + 2, marks, levels);
-    put_place(f, kind, intra, alternate, from + 3, marks, levels);
-}
-
-/// The levels of one row of the block more.
-#[inline(always)]
-fn put_row(
-    f: &[i32; 64],
-    kind: &BlockKind,
-    intra: bool,
-    alternate: bool,
-    from: u8,
-    marks: &[u32; 64],
-    levels: &mut [i32; 64],
-)
-    requires kind { IsKind kind.now }
-    requires intra { kind.now.intra ≡ intra }
-    requires alternate { kind.now.alternate ≡ alternate }
-    requires coefficients { All IsTransformed f.now }
-    requires from { from ≤ 56 }
-    requires marks { AreMarks f.now kind.now marks.now }
-    requires before { ArePlaced from f.now kind.now levels.old }
-    ensures { ArePlaced (from + 8) f.now kind.now levels.new }
-{
-    if is_unmarked(marks, from) {
-        return;
-    }
-    put_four(f, kind, intra, alternate, from, marks, levels);
-    put_four(f, kind, intra, alternate, from + 4, marks, levels);
-}
-
-/// The levels of all rows, as if none were an intra DC.
-#[inline(always)]
-fn put_rows(
-    f: &[i32; 64],
-    kind: &BlockKind,
-    intra: bool,
-    alternate: bool,
-    marks: &[u32; 64],
-    levels: &mut [i32; 64],
-)
-    requires kind { IsKind kind.now }
-    requires intra { kind.now.intra ≡ intra }
-    requires alternate { kind.now.alternate ≡ alternate }
-    requires coefficients { All IsTransformed f.now }
-    requires marks { AreMarks f.now kind.now marks.now }
-    requires zeros { levels.old ≡ replicate 64 (pos 0) }
-    ensures { ArePlaced 64 f.now kind.now levels.new }
-{
-    for row in 0..8u8 {
-        put_row(f, kind, intra, alternate, 8 * row, marks, levels);
-    }
-}
-
-/// The same where nothing is marked yet, by the kind's scan.
-#[inline(always)]
-fn put_by_scan(f: &[i32; 64], kind: &BlockKind, intra: bool, levels: &mut [i32; 64])
-    requires kind { IsKind kind.now }
-    requires intra { kind.now.intra ≡ intra }
-    requires coefficients { All IsTransformed f.now }
-    requires zeros { levels.old ≡ replicate 64 (pos 0) }
-    ensures { ArePlaced 64 f.now kind.now levels.new }
-{
-    // most levels are 0: by lanes it is found which
-    let mut marks = [0; 64];
-    mark_all(f, kind, intra, &mut marks);
     if kind.alternate {
-        put_rows(f, kind, intra, true, &marks, levels);
+        put_marked(f, kind, intra, flat, true, marks, levels);
     } else {
-        put_rows(f, kind, intra, false, &marks, levels);
+        put_marked(f, kind, intra, flat, false, marks, levels);
     }
+}
+
+/// The levels of a block that isn't intra, among zeros, by its marks: whether any isn't 0.
+#[inline(always)]
+fn put_other(
+    f: &[i32; 64],
+    kind: &BlockKind,
+    flat: Option<u32>,
+    marks: u64,
+    levels: &mut [i32; 64],
+) -> bool
+    requires kind { IsKind kind.now }
+    requires intra { kind.now.intra ≡ false }
+    requires flat { IfSome flat (IsStepOf kind.now) }
+    requires coefficients { All IsTransformed f.now }
+    requires marks { AreMarked 0 f.now kind.now marks }
+    requires zeros { levels.old ≡ replicate 64 (pos 0) }
+    ensures value { levels.new ≡ levels_of f.now kind.now }
+    ensures levels { All IsLevel levels.new }
+    ensures some { result ≡ not (is_empty (levels_of f.now kind.now)) }
+{
+    put_by_scan(f, kind, false, flat, marks, levels);
+    marks != 0
+}
+
+/// The levels of a block that isn't intra, among zeros: whether any isn't 0. Its matrix mostly is flat.
+#[inline(always)]
+fn quantise_other(f: &[i32; 64], kind: &BlockKind, levels: &mut [i32; 64]) -> bool
+    requires kind { IsKind kind.now }
+    requires intra { kind.now.intra ≡ false }
+    requires coefficients { All IsTransformed f.now }
+    requires zeros { levels.old ≡ replicate 64 (pos 0) }
+    ensures value { levels.new ≡ levels_of f.now kind.now }
+    ensures levels { All IsLevel levels.new }
+    ensures some { result ≡ not (is_empty (levels_of f.now kind.now)) }
+{
+    if is_flat(&kind.matrix) {
+        return put_other(f, kind, Some(16 * kind.scale), flat_marks(f, kind), levels);
+    }
+    put_other(f, kind, None, other_marks(f, kind), levels)
+}
+
+/// Whether there is a mark, or a DC level other than 0.
+#[inline(always)]
+fn has_some(marks: u64, dc: i32) -> bool
+    ensures { result ≡ not (nat_eq marks 0 && nat_eq (unsigned_abs dc) 0) }
+{
+    marks != 0 || dc != 0
+}
+
+/// The levels of an intra block, among zeros: whether any isn't 0.
+#[inline(always)]
+fn quantise_intra(f: &[i32; 64], kind: &BlockKind, levels: &mut [i32; 64]) -> bool
+    requires kind { IsKind kind.now }
+    requires intra { kind.now.intra ≡ true }
+    requires coefficients { All IsTransformed f.now }
+    requires zeros { levels.old ≡ replicate 64 (pos 0) }
+    ensures value { levels.new ≡ levels_of f.now kind.now }
+    ensures levels { All IsLevel levels.new }
+    ensures some { result ≡ not (is_empty (levels_of f.now kind.now)) }
+{
+    let marks = intra_marks(f, kind);
+    let dc = dc_level(f[0]);
+    levels[0] = dc;
+    put_by_scan(f, kind, true, None, marks, levels);
+    has_some(marks, dc)
 }
 
 /// The 64 levels of a block in scan order, each from -2047 to 2047, of its coefficients in raster order, each from -4096
-/// to 4095. Precision is 0.
-pub fn quantise(f: &[i32; 64], kind: &BlockKind, out: &mut Levels)
+/// to 4095, and whether any isn't 0. Precision is 0.
+pub fn quantise(f: &[i32; 64], kind: &BlockKind, out: &mut Levels) -> bool
     requires kind { IsKind kind.now }
     requires precision { kind.now.precision ≡ 0 }
     requires coefficients { All IsTransformed f.now }
     ensures value { out.new.at ≡ levels_of f.now kind.now }
     ensures levels { All IsLevel out.new.at }
+    ensures some { result ≡ not (is_empty out.new.at) }
 {
     out.at = [0; 64];
     if kind.intra {
-        put_by_scan(f, kind, true, &mut out.at);
-        out.at[0] = dc_level(f[0]);
-    } else {
-        put_by_scan(f, kind, false, &mut out.at);
+        return quantise_intra(f, kind, &mut out.at);
     }
+    quantise_other(f, kind, &mut out.at)
 }

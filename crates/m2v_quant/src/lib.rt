@@ -6,6 +6,7 @@ mod block_levels;
 mod forward;
 mod inverse;
 mod kind;
+mod marks;
 mod matrices;
 mod positions;
 mod scans;
