@@ -3,6 +3,8 @@ pub mod Ranges
 pub mod BlockLaws
 pub mod Written
 pub mod Shortest
+pub mod PairLengths
+pub mod Counted
 mod Marking
 pub mod DcSpellings
 pub mod Spellings

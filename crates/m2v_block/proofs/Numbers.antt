@@ -1,7 +1,10 @@
 -- The numbers of DC differences.
-use Rattle.std.proofs.Common.{◌≡◌, ℕ, ◌+◌, ◌-◌, ◌^◌, ◌<◌, ◌≤◌, ℤ, pos, negsuc, ◌<ℤ◌, ◌≤ℤ◌, zero, suc, Bool, true, false, Option, Some, inl, inr, length, refl, ap, sym, arith}
+use Rattle.std.proofs.Common.{◌≡◌, ℕ, ◌+◌, ◌*◌, ◌-◌, w32, pow-suc, ◌^◌, ◌<◌, ◌≤◌, ℤ, pos, negsuc, ◌<ℤ◌, ◌≤ℤ◌, zero, suc, Bool, true, false, Option, Some, inl, inr, length, refl, ap, sym, arith}
 use Rattle.std.specs.Prelude.{unsigned_abs, find, unwrap_or, ◌==◌, ◌/◌}
 use Rattle.std.specs.List.{range_with_len}
+use Rattle.std.specs.Int.{leading_zeros}
+use Rattle.std.proofs.Math.Nat.{pow-le-pow_right, lt-div-mul-add, div-eq_of_lt}
+use Rattle.std.proofs.lemmas.Nat.{leading_top, pow_pos}
 use Rattle.std.proofs.lemmas.Int.{ints}
 use Rattle.std.proofs.lemmas.Bool.{eq-eqb, ne_eqb, cases_lt, cases_Bool}
 use Rattle.m2v_block.specs.Dc.{number_of, size_of, size_code, dc_text}
@@ -33,6 +36,43 @@ unfolding size_of
 least_size magnitude r lt none is =
     let found = find_least (λ s. magnitude / 2 ^ s == 0) 0 12 r (omega arith) (omega arith) (λ k from to. ne_eqb (magnitude / 2 ^ k) 0 (none k to)) (eq-eqb (magnitude / 2 ^ r) 0 is) in
     sym (ap (λ (o : Option ℕ). unwrap_or o 12) found)
+
+-- the size by the highest bit of twice a magnitude and one
+pub size_by_top : (magnitude j : ℕ) → j < 12 → 2 ^ j ≤ 2 * magnitude + 1 → magnitude < 2 ^ j → j ≡ size_of magnitude
+size_by_top magnitude j lt low high =
+    least_size magnitude j lt
+    (λ k less none.
+    let most : 2 ^ suc k ≤ 2 ^ j = pow-le-pow_right {n = 2} (omega arith) {i = suc k} {j = j} (omega arith) in
+    let twice = pow-suc 2 k in
+    let above = lt-div-mul-add {a = magnitude} {b = 2 ^ k} (pow_pos k) in
+    let here : magnitude < 0 * 2 ^ k + 2 ^ k = rw (← none) above in
+    omega (arith, most, twice, low, here))
+    (div-eq_of_lt high)
+
+pub size_small : (magnitude j : ℕ) → magnitude < 2 ^ 11 → 2 ^ j ≤ 2 * magnitude + 1 → j < 12
+size_small magnitude j small low = elim (cases_lt j 12) [
+  | inl inside ↦ inside
+  | inr past ↦
+      let most : 2 ^ 12 ≤ 2 ^ j = pow-le-pow_right {n = 2} (omega arith) {i = 12} {j = j} past in
+      absurd (omega (arith, most, low, small))
+]
+
+-- what is told by the zeros before the highest bit
+pub record IsSize (magnitude r : ℕ) : Type 0 where
+  pub value : r ≡ size_of magnitude
+  pub most : r < 12
+  pub fits : magnitude < 2 ^ r
+
+pub size_by_zeros : (magnitude odd r : ℕ) → magnitude < 2 ^ 11 → odd ≡ 2 * magnitude + 1 → r ≡ 31 - leading_zeros w32 odd → IsSize magnitude r
+size_by_zeros magnitude odd r small is at =
+    let top = leading_top 32 odd (omega arith) (omega (arith, small)) in
+    let j = top.0 in
+    let same : r ≡ j = omega (arith, at, top.1) in
+    let low : 2 ^ j ≤ 2 * magnitude + 1 = omega (arith, is, top.2) in
+    let twice = pow-suc 2 j in
+    let high : magnitude < 2 ^ j = omega (arith, is, twice, top.3) in
+    let few = size_small magnitude j small low in
+    rw same (record { value = size_by_top magnitude j few low high; most = few; fits = high })
 
 within_range : (p : ℕ → Bool) (a n end : ℕ) → a + n ≡ end → unwrap_or (find p (range_with_len a n)) end ≤ end
 within_range p a zero end e = omega arith

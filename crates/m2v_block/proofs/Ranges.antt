@@ -33,6 +33,12 @@ dc_difference precision (pos a) (pos b) le p q =
 dc_difference precision (pos a) (negsuc b) le p q = absurd (omega (arith, ints, q.0))
 dc_difference precision (negsuc a) b le p q = absurd (omega (arith, ints, p.0))
 
+-- a DC level of a precision is one of the greatest precision
+pub dc_wider : (precision : ℕ) (z : ℤ) → precision ≤ 3 → IsDc precision z → IsDc 3 z
+dc_wider precision z le h =
+    let most : 2 ^ (8 + precision) ≤ 2048 = power_most (8 + precision) (omega arith) in
+    (h.0, omega (arith, ints, h.1, most))
+
 pub zeros_levels : All IsLevel (replicate 64 (pos 0))
 zeros_levels =
     let zero : IsLevel (pos 0) = (omega (arith, ints), omega (arith, ints)) in

@@ -47,7 +47,7 @@ code_most true one c = first_zero_length c
 code_most false true c = coefficient_one_length c
 code_most false false c = coefficient_zero_length c
 
-escape_is : (first one : Bool) (run : ℕ) (level : ℤ) → length (escape_text first one run level) ≡ 24
+pub escape_is : (first one : Bool) (run : ℕ) (level : ℤ) → length (escape_text first one run level) ≡ 24
 unfolding escape_text
 escape_is first one run level =
     omega (arith, length-append (code_text first one Escape) (bits_of 6 run ++ bits_of 12 (twelve level)), length-append (bits_of 6 run) (bits_of 12 (twelve level)), length-bits_of 6 run, length-bits_of 12 (twelve level), escape_length first one)

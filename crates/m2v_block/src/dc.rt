@@ -15,12 +15,8 @@ fn size(magnitude: u32) -> u8
     ensures most { result < 12 }
     ensures fits { magnitude < 2 ^ result }
 {
-    for size in 0..11u8 {
-        if magnitude >> size == 0 {
-            return size;
-        }
-    }
-    11
+    let odd = 2 * magnitude + 1;
+    (31 - odd.leading_zeros()) as u8
 }
 
 /// The code of a size, by table B.12 for luma and table B.13 for chroma.
@@ -77,6 +73,18 @@ pub fn put_dc<O: BitOutput>(difference: i32, luma: bool, out: &mut O)
     let size = size(difference.unsigned_abs());
     put_size(luma, size, out);
     out.append(number_of(size, difference), size);
+}
+
+/// How many bits a DC difference within -2047 to 2047 takes.
+#[inline(always)]
+#[tactic(auto, using(m2v_bits::proofs::Cursor::lengths), unfolding(crate::specs::Dc::dc_text))]
+pub fn dc_bits(difference: i32, luma: bool) -> u32
+    requires { unsigned_abs difference < 2 ^ 11 }
+    ensures value { result ≡ length (dc_text luma difference) }
+    ensures most { result < 32 }
+{
+    let size = size(difference.unsigned_abs());
+    u32::from(code_of(luma, size).len) + u32::from(size)
 }
 
 /// Appends a DC difference within -2047 to 2047: the code of its size, by table B.12 for luma and table B.13 for

@@ -9,7 +9,7 @@ ghost use Rattle.m2v_block.specs.Texts.{IsBlock, code_text, twelve, escape_text,
 ghost use Rattle.m2v_block.specs.Marked.{AreMarked};
 
 use crate::dc::put_dc;
-use m2v_bits::{BitCount, BitOutput, BitWriter};
+use m2v_bits::{BitOutput, BitWriter};
 use m2v_quant::{BlockKind, Levels};
 use m2v_vlc::{Code, Coefficient, code_coefficient_one, code_coefficient_zero, code_first_zero};
 use std::simd::prelude::*;
@@ -17,7 +17,7 @@ use std::simd::prelude::*;
 /// The code by the table that holds there, of no bits where it has none.
 #[inline(always)]
 #[tactic(auto, unfolding(crate::specs::Texts::code_text))]
-fn code_of(first: bool, one: bool, c: Coefficient) -> Code
+pub fn code_of(first: bool, one: bool, c: Coefficient) -> Code
     ensures spelled { spelled result ≡ code_text first one c }
     ensures width { result.len ≤ 17 }
     ensures fits { result.number < 2 ^ result.len }
@@ -86,7 +86,7 @@ fn escape_of(run: u8, level: i32) -> Code
 
 /// The code of a pair, or the escape where there is none.
 #[inline(always)]
-fn pair_code(first: bool, one: bool, run: u8, level: i32) -> Code
+pub fn pair_code(first: bool, one: bool, run: u8, level: i32) -> Code
     requires run { run < 64 }
     requires level { IsLevel level }
     ensures spelled { spelled result ≡ pair_text first one run level }
@@ -126,7 +126,7 @@ fn marks(levels: &Levels) -> u64
 
 /// The same from a place of the scan on.
 #[inline(always)]
-fn marks_from(levels: &Levels, from: u8) -> u64
+pub fn marks_from(levels: &Levels, from: usize) -> u64
     requires from { from ≤ 64 }
     requires levels { All IsLevel levels.now.at }
     ensures { AreMarked levels.now.at from result }
@@ -140,7 +140,7 @@ fn marks_from(levels: &Levels, from: u8) -> u64
 
 /// How many levels from this place on are 0, before one that isn't.
 #[inline(always)]
-fn run_at(levels: &Levels, at: u8, rest: u64) -> u8
+pub fn run_at(levels: &Levels, at: usize, rest: u64) -> u8
     requires some { 0 < rest }
     requires marks { AreMarked levels.now.at at rest }
     ensures within { at + result < 64 }
@@ -153,7 +153,7 @@ fn run_at(levels: &Levels, at: u8, rest: u64) -> u8
 
 /// The marks of what stands behind a run and its level.
 #[inline(always)]
-fn marks_behind(_levels: &Levels, _at: u8, rest: u64, run: u8) -> u64
+pub fn marks_behind(_levels: &Levels, _at: usize, rest: u64, run: u8) -> u64
     requires run { run < 64 }
     requires marks { AreMarked _levels.now.at _at rest }
     ensures { AreMarked _levels.now.at (_at + run + 1) result }
@@ -164,7 +164,7 @@ fn marks_behind(_levels: &Levels, _at: u8, rest: u64, run: u8) -> u64
 /// Appends the levels from a place of the scan on, and the end of the block. Most levels are 0: by lanes it is found which
 /// aren't.
 #[inline(always)]
-fn put_pairs<O: BitOutput>(levels: &Levels, from: u8, first: bool, one: bool, out: &mut O)
+fn put_pairs<O: BitOutput>(levels: &Levels, from: usize, first: bool, one: bool, out: &mut O)
     requires from { from ≤ 64 }
     requires levels { All IsLevel levels.now.at }
     requires room { length (pairs_text first one 0 (drop from levels.now.at)) ≤ O.space out.old }
@@ -176,10 +176,10 @@ fn put_pairs<O: BitOutput>(levels: &Levels, from: u8, first: bool, one: bool, ou
     let mut rest = marks_from(levels, from);
     while rest != 0 {
         let run = run_at(levels, at, rest);
-        put_pair(none, one, run, levels.at[(at + run) as usize], out);
+        put_pair(none, one, run, levels.at[at + run as usize], out);
         none = false;
         rest = marks_behind(levels, at, rest, run);
-        at = at + run + 1;
+        at = at + run as usize + 1;
     }
     put_code(false, one, Coefficient::End, out);
 }
@@ -236,19 +236,4 @@ pub fn write_block(
     if kind.intra {
         *dc_pred = levels.at[0];
     }
-}
-
-/// How many bits `write_block` takes for a block, at most 1538: 64 escaped pairs, and the end. Nothing is written.
-pub fn block_bits(levels: &Levels, kind: &BlockKind, table_one: bool, dc_pred: i32) -> u32
-    requires kind { IsKind kind.now }
-    requires levels { IsBlock kind.now levels.now.at }
-    requires predictor { kind.now.intra ≡ true → IsDc kind.now.precision dc_pred }
-    ensures value { result ≡ length (block_text kind.now table_one dc_pred levels.now.at) }
-    ensures most { result ≤ 1538 }
-{
-    // 64 levels: the count holds their bits
-    let _levels = &levels.at;
-    let mut count = BitCount { bits: 0 };
-    put_block(levels, kind, table_one, dc_pred, &mut count);
-    count.bits
 }

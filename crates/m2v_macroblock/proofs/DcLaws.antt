@@ -49,7 +49,7 @@ dc_left c true ls dc d h = h refl
 dc_left c false ls dc d h = d
 
 -- all blocks of an intra macroblock are coded
-all_coded : (block : ℕ) → block < 6 → is_coded 63 block ≡ true
+pub all_coded : (block : ℕ) → block < 6 → is_coded 63 block ≡ true
 all_coded zero lt = refl
 all_coded (suc zero) lt = refl
 all_coded (suc (suc zero)) lt = refl

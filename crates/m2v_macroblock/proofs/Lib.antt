@@ -6,3 +6,4 @@ pub use Rattle.m2v_block.proofs as m2v_block
 pub use Rattle.m2v_macro.proofs.m2v_head
 pub use Rattle.m2v_macro.proofs as m2v_macro
 pub use Rattle.m2v_recon.proofs as m2v_recon
+pub mod Counted

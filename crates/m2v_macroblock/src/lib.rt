@@ -3,14 +3,16 @@
 #![tactic(auto)]
 
 mod blocks;
+mod count;
 mod modes;
 mod write;
 
 pub use blocks::{dc_after, kind_for, kinds};
+pub use count::macroblock_bits;
 pub use m2v_block as block;
 pub use m2v_block::vlc;
 pub use m2v_macro as macro_library;
 pub use m2v_macro::head;
 pub use m2v_recon as recon;
 pub use modes::{mode, skipped_mode};
-pub use write::{macroblock_bits, write_macroblock};
+pub use write::write_macroblock;

@@ -8,7 +8,7 @@ ghost use Rattle.m2v_macroblock.specs.Texts.{block_in_text, blocks_text, text_wr
 ghost use Rattle.m2v_macroblock.specs.Conditions.{IsPicture, AreDc, AreBlocks, AreWritable};
 
 use crate::blocks::{dc_after, kind_for, predictor};
-use m2v_bits::{BitCount, BitOutput, BitWriter};
+use m2v_bits::{BitOutput, BitWriter};
 use m2v_block::put_block;
 use m2v_block::quant::Levels;
 use m2v_macro::{MacroSyntax, PictureContext, SliceState, put_macro};
@@ -115,41 +115,4 @@ pub fn write_macroblock(
     put_macroblock(x, levels, context, state, &behind, out);
     *state = behind;
     state.dc = dc_after(x.kind.intra, levels, state.dc);
-}
-
-/// A block has 64 levels.
-#[inline(always)]
-fn whole(levels: &Levels)
-    ensures { length levels.now.at ≡ 64 }
-{
-    let _levels = &levels.at;
-}
-
-/// How many bits `write_macroblock` takes for a macroblock. Nothing is written.
-pub fn macroblock_bits(
-    x: &MacroSyntax,
-    levels: &[Levels; 6],
-    context: &PictureContext,
-    state: &SliceState,
-) -> u32
-    requires picture { IsPicture context.now }
-    requires state { IsReady context.now state.now }
-    requires address { IsAddress state.now.address }
-    requires dc { AreDc context.now.extension.dc_precision state.now.dc }
-    requires fits { IsMacro context.now state.now x.now }
-    requires blocks { AreBlocks context.now state.now (macroblock_of x.now levels.now) }
-    ensures value { result ≡ length (text_written context.now state.now x.now levels.now) }
-    ensures most { result ≤ 2 ^ 22 }
-{
-    // 64 levels each: the count holds their bits
-    whole(&levels[0]);
-    whole(&levels[1]);
-    whole(&levels[2]);
-    whole(&levels[3]);
-    whole(&levels[4]);
-    whole(&levels[5]);
-    let behind = state.after(context, x);
-    let mut count = BitCount { bits: 0 };
-    put_macroblock(x, levels, context, state, &behind, &mut count);
-    count.bits
 }

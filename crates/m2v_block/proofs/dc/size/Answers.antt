@@ -1,11 +1,12 @@
-use Rattle.std.proofs.Common.{arith, ◌≡◌}
-use Rattle.m2v_block.proofs.Numbers.{least_size}
+use Rattle.std.proofs.Common.{refl}
+use Rattle.m2v_block.proofs.Numbers.{size_by_zeros}
 use Rattle.m2v_block.proofs.dc.size.Goals as goal
 
-pub returns-then-magnitude-size-eq0-clause-value : goal.returns-then-magnitude-size-eq0-clause-value
-returns-then-magnitude-size-eq0-clause-value c = least_size c.args.magnitude c.loop-size.size (omega arith) c.loop-size.invariant c.if-magnitude-size-eq0.true
-
 pub returns-clause-value : goal.returns-clause-value
-returns-clause-value c =
-    let end : c.loop-size.size ≡ 11 = omega arith in
-    least_size c.args.magnitude 11 (omega arith) (rw end at c.loop-size.invariant) (omega arith)
+returns-clause-value c = (size_by_zeros c.args.magnitude _ _ c.requires refl refl).value
+
+pub returns-clause-most : goal.returns-clause-most
+returns-clause-most c = (size_by_zeros c.args.magnitude _ _ c.requires refl refl).most
+
+pub returns-clause-fits : goal.returns-clause-fits
+returns-clause-fits c = (size_by_zeros c.args.magnitude _ _ c.requires refl refl).fits
