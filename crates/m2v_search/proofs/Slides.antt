@@ -1,5 +1,5 @@
 -- Sums of eight lines, from one line of the window to the next, and sums over parts by them.
-use Rattle.std.proofs.Common.{◌≡◌, ℕ, ◌+◌, ◌*◌, ◌<◌, ◌≤◌, List, length, get_or, set, ap, subst, sym, ◌∙◌, arith, inl, inr}
+use Rattle.std.proofs.Common.{◌≡◌, ℕ, zero, suc, refl, replicate, ◌+◌, ◌*◌, ◌<◌, ◌≤◌, List, length, get_or, set, ap, subst, sym, ◌∙◌, arith, inl, inr}
 use Rattle.std.proofs.lemmas.Bool.{cases_lt}
 use Rattle.std.proofs.lemmas.List.{get_or-set_same, get_or-set_other}
 use Rattle.m2v_kernel.specs.Sums.{apart}
@@ -99,3 +99,12 @@ put_next P xs n v inside h here k lt = elim (cases_lt k n) [
       let same : n ≡ k = omega arith in
       subst (λ j. P j (get_or (set xs n v) j 0)) same (subst (P n) (sym (get_or-set_same xs n v 0 inside)) here)
 ]
+
+-- numbers that are all 0
+abbrev blank : ℕ → List ℕ
+blank n = replicate n 0
+
+pub zeros : (n k : ℕ) → get_or (blank n) k 0 ≡ 0
+zeros zero k = refl
+zeros (suc n) zero = refl
+zeros (suc n) (suc k) = zeros n k

@@ -28,7 +28,7 @@ struct Row {
     columns: Span,
 }
 
-/// The better of the best so far and one place more, of which a bound is known, as long as they lie below a limit.
+/// The better of the best so far and one place more, as long as they lie below a limit.
 #[inline(always)]
 fn tried_below(
     block: &[u8],
@@ -36,7 +36,6 @@ fn tried_below(
     window: &[u8],
     so_far: SoFar,
     spot: Spot,
-    bound: u32,
     limit: u32,
 ) -> SoFar
     requires count { (count ≡ 8) ⊎ (count ≡ 16) }
@@ -44,7 +43,6 @@ fn tried_below(
     requires window { length window.now ≡ 2304 }
     requires y { spot.y + 2 * count ≤ 96 }
     requires x { spot.x ≤ 64 }
-    requires bound { bound ≤ spot_sad block.now count window.now spot }
     requires known { so_far.best.sad ≡ spot_sad block.now count window.now so_far.best.spot }
     requires below { so_far.below ≡ min so_far.best.sad limit }
     ensures spot { result.best.spot
@@ -53,9 +51,6 @@ fn tried_below(
     ensures below { result.below ≡ min result.best.sad limit }
     ensures lower { result.below ≤ so_far.below }
 {
-    if so_far.below <= bound {
-        return so_far;
-    }
     match spot_sad_until(block, count, window, spot, so_far.below) {
         Some(sad) => SoFar {
             best: Best { spot, sad },
@@ -107,15 +102,14 @@ fn passed_line(
     let mut so_far = so_far;
     let first = row.columns.first;
     let bits = bits_from(bounds, so_far.below, first);
-    let mut marks = next_mark(first, bits, row.columns.end);
+    let mut marks = next_mark(first, bits);
     while marks.at < row.columns.end {
-        let bound = u32::from(bounds[marks.at as usize]);
         let spot = Spot {
             y: 2 * row.y,
             x: 2 * marks.at,
         };
-        so_far = tried_below(block, count, window, so_far, spot, bound, limit);
-        marks = next_mark(marks.at + 1, marks.bits >> 1, row.columns.end);
+        so_far = tried_below(block, count, window, so_far, spot, limit);
+        marks = next_mark(marks.at + 1, marks.bits >> 1);
     }
     so_far
 }
