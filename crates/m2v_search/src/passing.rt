@@ -4,7 +4,7 @@ ghost use Rattle.std.specs.Prelude.{ℕ, ◌≡◌, ◌+◌, ◌-◌, ◌*◌, �
 ghost use Rattle.std.specs.List.{range_with_len};
 ghost use Rattle.m2v_search.specs.Least.{better, least};
 ghost use Rattle.m2v_search.specs.Spots.{spot_sad, spots};
-ghost use Rattle.m2v_search.specs.Bounds.{cut, AreSums, IsEnough};
+ghost use Rattle.m2v_search.specs.Bounds.{cut, AreSumsFor, IsEnough};
 
 use crate::difference::spot_sad_until;
 use crate::far::line_bounds;
@@ -128,7 +128,7 @@ fn passed(
     requires count { (count ≡ 8) ⊎ (count ≡ 16) }
     requires block { length block.now ≡ 16 * count }
     requires window { length window.now ≡ 2304 }
-    requires known_sums { AreSums (slice_index window.now) places.lines.first
+    requires known_sums { AreSumsFor count (slice_index window.now) places.lines.first
         (places.lines.end + count - 8) (slice_index sums.now) }
     requires lines { places.lines.first ≤ places.lines.end }
     requires columns { places.columns.first ≤ places.columns.end }
@@ -251,6 +251,6 @@ pub fn best_by_bounds(
     let limit = limit_for(block, count, window, places, likely, best);
     let first = places.lines.first as usize;
     let end = places.lines.end as usize + count - 8;
-    put_sums(window, first, end, sums);
+    put_sums(window, count, first, end, sums);
     passed(block, count, window, sums, places, limit, best)
 }
