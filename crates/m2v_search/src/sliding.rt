@@ -35,13 +35,7 @@ fn put_wide_sums(window: &[u8], first: usize, end: usize, sums: &mut [u16; 1920]
 }
 
 /// Puts the sums that bounds of a block of so many lines are made of, of some lines of the window.
-pub fn put_sums(
-    window: &[u8],
-    count: usize,
-    first: usize,
-    end: usize,
-    sums: &mut [u16; 1920],
-)
+pub fn put_sums(window: &[u8], count: usize, first: usize, end: usize, sums: &mut [u16; 1920])
     requires count { (count ≡ 8) ⊎ (count ≡ 16) }
     requires window { length window.now ≡ 2304 }
     requires some { first < end }

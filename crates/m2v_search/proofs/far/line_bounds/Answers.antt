@@ -50,9 +50,9 @@ returns-then-count-eq16 c = record {
         arith,
         c.bounds_by_both.ensures.value k lt,
         wide_known h.upper c.line_of-upper.result.now (part_sum 48 f) (48 * y) k lt
-        (λ j few. c.line_of-upper.ensures.value j (omega arith) ∙ sums y j (omega arith) (omega arith) few),
+            (λ j few. c.line_of-upper.ensures.value j (omega arith) ∙ sums y j (omega arith) (omega arith) few),
         wide_known h.lower c.line_of-lower.result.now (part_sum 48 f) (48 * (y + 8)) k lt
-        (λ j few. c.line_of-lower.ensures.value j (omega arith) ∙ sums (y + 8) j (omega arith) (omega arith) few),
+            (λ j few. c.line_of-lower.ensures.value j (omega arith) ∙ sums (y + 8) j (omega arith) (omega arith) few),
         ap (half_far h.lower (part_sum 48 f)) below,
         bound_sixteen c.args.count f h (48 * y + k) (omega arith),
       );
@@ -70,7 +70,7 @@ returns-else-count-eq16 c = record {
         arith,
         c.bounds_by_one.ensures.value k lt,
         half_known h.upper c.line_of-line.result.now (part_sum 48 f) (48 * y) k lt
-        (λ j few. c.line_of-line.ensures.value j (omega arith) ∙ sums y j (omega arith) (omega arith) few),
+            (λ j few. c.line_of-line.ensures.value j (omega arith) ∙ sums y j (omega arith) (omega arith) few),
         bound_eight c.args.count f h (48 * y + k) (omega arith),
       );
   most = c.bounds_by_one.ensures.most;
