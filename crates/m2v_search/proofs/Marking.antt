@@ -2,7 +2,7 @@
 use Rattle.std.proofs.Common.{◌≡◌, ℕ, ◌+◌, ◌-◌, ◌/◌, ◌%◌, ◌^◌, ◌<◌, ◌≤◌, Bool, true, false, List, map, take, replicate, length, get_or, refl, sym, ap, ◌∙◌, arith, w16, w64, inl, inr}
 use Rattle.std.specs.Prelude.{cond, min}
 use Rattle.std.specs.Int.{bit_at, trailing_zeros}
-use Rattle.std.proofs.Math.Nat.{div-div-eq-div-mul}
+use Rattle.std.proofs.Math.Nat.{div-div-eq-div-mul, zero-div}
 use Rattle.std.proofs.lemmas.Nat.{pow-add}
 use Rattle.std.proofs.lemmas.Nat.Bits.{bit_at-trailing_zeros, bit_at-zero}
 use Rattle.std.proofs.lemmas.Bool.{lt-ltb, cases_lt}
@@ -67,3 +67,19 @@ none_before bits k fits below = elim (cases_lt 0 bits) [
   | inl some ↦ (bit_at-trailing_zeros w64 bits some fits).2 k below
   | inr zero_ ↦ let e : bits ≡ 0 = omega arith in ap (λ n. bit_at n k) e ∙ bit_at-zero k
 ]
+
+-- a shift by as many places as bits have is one by none: no bit is set then
+pub bits_behind : (bits at : ℕ) → bits < 2 ^ 64 → bits / 2 ^ (trailing_zeros w64 bits % 64) ≡ bits / 2 ^ (at + trailing_zeros w64 bits - at)
+bits_behind bits at fits =
+    let t = trailing_zeros w64 bits in
+    let there : t ≡ at + t - at = omega arith in
+    elim (cases_lt 0 bits) [
+      | inl some ↦
+          let low : t < 64 = (bit_at-trailing_zeros w64 bits some fits).0 in
+          let same : t % 64 ≡ at + t - at = omega arith in
+          ap (λ (n : ℕ). bits / 2 ^ n) same
+      | inr zero_ ↦
+          let e : bits ≡ 0 = omega arith in
+          ap (λ (n : ℕ). n / 2 ^ (t % 64)) e ∙ zero-div (2 ^ (t % 64))
+          ∙ sym (ap (λ (n : ℕ). n / 2 ^ (at + t - at)) e ∙ zero-div (2 ^ (at + t - at)))
+    ]

@@ -1,10 +1,10 @@
 -- Sums of eight lines, from one line of the window to the next, and sums over parts by them.
-use Rattle.std.proofs.Common.{◌≡◌, ℕ, ◌+◌, ◌*◌, ◌<◌, ◌≤◌, List, length, get_or, set, ap, subst, sym, ◌∙◌, arith, inl, inr}
+use Rattle.std.proofs.Common.{◌≡◌, ℕ, zero, suc, refl, replicate, ◌+◌, ◌*◌, ◌<◌, ◌≤◌, List, length, get_or, set, ap, subst, sym, ◌∙◌, arith, inl, inr}
 use Rattle.std.proofs.lemmas.Bool.{cases_lt}
 use Rattle.std.proofs.lemmas.List.{get_or-set_same, get_or-set_other}
 use Rattle.m2v_kernel.specs.Sums.{apart}
 use Rattle.m2v_search.specs.declared.parts.Parts.{Parts}
-use Rattle.m2v_search.specs.Bounds.{column_sum, four_sum, part_sum, pair_far, half_far, AreSums}
+use Rattle.m2v_search.specs.Bounds.{twice, column_sum, four_sum, part_sum, pair_far, half_far, wide_far, AreSums, AreWideSums, AreSumsFor}
 
 pub column_least : (f : ℕ → ℕ) (a : ℕ) → f a ≤ column_sum 48 f a
 unfolding column_sum
@@ -83,12 +83,52 @@ sums_more f first line old new is here before = record {
   ];
 }
 
+pub wide_more : (f : ℕ → ℕ) (first line : ℕ) (old new : List ℕ)
+    → AreWideSums f first line (λ i. get_or old i 0)
+    → ((k : ℕ) → k < 40 → get_or new (48 * line + k) 0 ≡ twice 4 (part_sum 48 f) (48 * line + k))
+    → ((i : ℕ) → i < 48 * line → get_or new i 0 ≡ get_or old i 0)
+    → AreWideSums f first (line + 1) (λ i. get_or new i 0)
+wide_more f first line old new is here before = record {
+  value = λ y x le lt few. elim (cases_lt y line) [
+    | inl less ↦ before (48 * y + x) (omega arith) ∙ is.value y x le less few
+    | inr more ↦
+        let same : y ≡ line = omega arith in
+        ap (λ n. get_or new (48 * n + x) 0) same ∙ here x few ∙ ap (λ n. twice 4 (part_sum 48 f) (48 * n + x)) (sym same)
+  ];
+}
+
+pub no_wide_sums : (f : ℕ → ℕ) (first : ℕ) (sums : ℕ → ℕ) → AreWideSums f first first sums
+no_wide_sums f first sums = record { value = λ y x le lt few. absurd (omega arith) }
+
+-- sums over two parts side by side lie no farther apart than the parts do
+wide_least : (a b c d : ℕ) → apart (a + b) (c + d) ≤ apart a c + apart b d
+wide_least a b c d = omega arith
+
+pub wide_known : (p : Parts) (xs : List ℕ) (sums : ℕ → ℕ) (from k : ℕ) → k < 32 → ((j : ℕ) → j < 40 → get_or xs j 0 ≡ twice 4 sums (from + j))
+    → wide_far p (λ i. get_or xs i 0) k ≤ half_far p sums (from + k)
+unfolding wide_far half_far pair_far
+wide_known p xs sums from k few is =
+    let at : (m n : ℕ) → m ≡ n → sums m ≡ sums n = λ m n e. ap sums e in
+    omega (
+      arith,
+      is k (omega arith),
+      is (k + 8) (omega arith),
+      at (from + (k + 8)) (from + k + 8) (omega arith),
+      at (from + (k + 8) + 4) (from + k + 8 + 4) (omega arith),
+      wide_least p.first p.second (sums (from + k)) (sums (from + k + 4)),
+      wide_least p.third p.fourth (sums (from + k + 8)) (sums (from + k + 8 + 4)),
+    )
+
 pub no_sums : (f : ℕ → ℕ) (first : ℕ) (sums : ℕ → ℕ) → AreSums f first first sums
 no_sums f first sums = record { value = λ y x le lt few. absurd (omega arith) }
 
 -- some of these lines
-pub some_sums : (f : ℕ → ℕ) (first end a b : ℕ) (sums : ℕ → ℕ) → AreSums f first end sums → first ≤ a → b ≤ end → AreSums f a b sums
-some_sums f first end a b sums is low high = record { value = λ y x le lt few. is.value y x (omega arith) (omega arith) few }
+pub some_sums : (count : ℕ) (f : ℕ → ℕ) (first end a b : ℕ) (sums : ℕ → ℕ) → AreSumsFor count f first end sums → first ≤ a → b ≤ end
+    → AreSumsFor count f a b sums
+some_sums count f first end a b sums is low high = record {
+  narrow = λ e. record { value = λ y x le lt few. (is.narrow e).value y x (omega arith) (omega arith) few };
+  wide = λ e. record { value = λ y x le lt few. (is.wide e).value y x (omega arith) (omega arith) few };
+}
 
 -- one number more is put
 pub put_next : (P : ℕ → ℕ → Type 0) (xs : List ℕ) (n v : ℕ) → n < length xs → ((k : ℕ) → k < n → P k (get_or xs k 0)) → P n v
@@ -99,3 +139,12 @@ put_next P xs n v inside h here k lt = elim (cases_lt k n) [
       let same : n ≡ k = omega arith in
       subst (λ j. P j (get_or (set xs n v) j 0)) same (subst (P n) (sym (get_or-set_same xs n v 0 inside)) here)
 ]
+
+-- numbers that are all 0
+abbrev blank : ℕ → List ℕ
+blank n = replicate n 0
+
+pub zeros : (n k : ℕ) → get_or (blank n) k 0 ≡ 0
+zeros zero k = refl
+zeros (suc n) zero = refl
+zeros (suc n) (suc k) = zeros n k

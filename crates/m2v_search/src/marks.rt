@@ -36,19 +36,18 @@ pub fn bits_from(bounds: &[u16; 32], limit: u32, at: u32) -> u64
     bits_below(bounds, limit) >> at
 }
 
-/// Of the bits from a column on, those from the first one that is 1, or from the end on.
+/// Of the bits from a column on, those from the first one that is 1: far behind all columns where none is.
 #[inline(always)]
-pub fn next_mark(at: u32, bits: u64, end: u32) -> Marks
-    requires at { at ≤ end }
-    requires end { end ≤ 32 }
+pub fn next_mark(at: u32, bits: u64) -> Marks
+    requires at { at ≤ 32 }
     ensures least { at ≤ result.at }
-    ensures most { result.at ≤ end }
+    ensures most { result.at ≤ 96 }
     ensures none { (k : ℕ) → at + k < result.at → bit_at bits k ≡ 0 }
     ensures bits { result.bits ≡ bits / 2 ^ (result.at - at) }
 {
-    let next = (at + bits.trailing_zeros()).min(end);
+    let none = bits.trailing_zeros();
     Marks {
-        at: next,
-        bits: bits >> (next - at),
+        at: at + none,
+        bits: bits >> (none % 64),
     }
 }

@@ -4,7 +4,7 @@ ghost use Rattle.std.specs.Prelude.{ℕ, ◌≡◌, ◌+◌, ◌-◌, ◌*◌, �
 ghost use Rattle.std.specs.List.{range_with_len};
 ghost use Rattle.m2v_search.specs.Least.{better, least};
 ghost use Rattle.m2v_search.specs.Spots.{spot_sad, spots};
-ghost use Rattle.m2v_search.specs.Bounds.{cut, AreSums, IsEnough};
+ghost use Rattle.m2v_search.specs.Bounds.{cut, AreSumsFor, IsEnough};
 
 use crate::difference::spot_sad_until;
 use crate::far::line_bounds;
@@ -28,7 +28,7 @@ struct Row {
     columns: Span,
 }
 
-/// The better of the best so far and one place more, of which a bound is known, as long as they lie below a limit.
+/// The better of the best so far and one place more, as long as they lie below a limit.
 #[inline(always)]
 fn tried_below(
     block: &[u8],
@@ -36,7 +36,6 @@ fn tried_below(
     window: &[u8],
     so_far: SoFar,
     spot: Spot,
-    bound: u32,
     limit: u32,
 ) -> SoFar
     requires count { (count ≡ 8) ⊎ (count ≡ 16) }
@@ -44,7 +43,6 @@ fn tried_below(
     requires window { length window.now ≡ 2304 }
     requires y { spot.y + 2 * count ≤ 96 }
     requires x { spot.x ≤ 64 }
-    requires bound { bound ≤ spot_sad block.now count window.now spot }
     requires known { so_far.best.sad ≡ spot_sad block.now count window.now so_far.best.spot }
     requires below { so_far.below ≡ min so_far.best.sad limit }
     ensures spot { result.best.spot
@@ -53,9 +51,6 @@ fn tried_below(
     ensures below { result.below ≡ min result.best.sad limit }
     ensures lower { result.below ≤ so_far.below }
 {
-    if so_far.below <= bound {
-        return so_far;
-    }
     match spot_sad_until(block, count, window, spot, so_far.below) {
         Some(sad) => SoFar {
             best: Best { spot, sad },
@@ -107,15 +102,14 @@ fn passed_line(
     let mut so_far = so_far;
     let first = row.columns.first;
     let bits = bits_from(bounds, so_far.below, first);
-    let mut marks = next_mark(first, bits, row.columns.end);
+    let mut marks = next_mark(first, bits);
     while marks.at < row.columns.end {
-        let bound = u32::from(bounds[marks.at as usize]);
         let spot = Spot {
             y: 2 * row.y,
             x: 2 * marks.at,
         };
-        so_far = tried_below(block, count, window, so_far, spot, bound, limit);
-        marks = next_mark(marks.at + 1, marks.bits >> 1, row.columns.end);
+        so_far = tried_below(block, count, window, so_far, spot, limit);
+        marks = next_mark(marks.at + 1, marks.bits >> 1);
     }
     so_far
 }
@@ -134,7 +128,7 @@ fn passed(
     requires count { (count ≡ 8) ⊎ (count ≡ 16) }
     requires block { length block.now ≡ 16 * count }
     requires window { length window.now ≡ 2304 }
-    requires known_sums { AreSums (slice_index window.now) places.lines.first
+    requires known_sums { AreSumsFor count (slice_index window.now) places.lines.first
         (places.lines.end + count - 8) (slice_index sums.now) }
     requires lines { places.lines.first ≤ places.lines.end }
     requires columns { places.columns.first ≤ places.columns.end }
@@ -257,6 +251,6 @@ pub fn best_by_bounds(
     let limit = limit_for(block, count, window, places, likely, best);
     let first = places.lines.first as usize;
     let end = places.lines.end as usize + count - 8;
-    put_sums(window, first, end, sums);
+    put_sums(window, count, first, end, sums);
     passed(block, count, window, sums, places, limit, best)
 }

@@ -1,11 +1,12 @@
 //! The sums over parts at each place of the window, line by line: those of eight lines slide down by one line.
-ghost use Rattle.std.specs.Prelude.{◌≡◌, ◌≤◌, ◌<◌, length, slice_index};
-ghost use Rattle.m2v_search.specs.Bounds.{AreSums};
+ghost use Rattle.std.specs.Prelude.{ℕ, ◌≡◌, ◌≤◌, ◌<◌, ◌⊎◌, length, slice_index};
+ghost use Rattle.m2v_search.specs.Bounds.{AreSums, AreWideSums, AreSumsFor};
 
-use crate::parts::{columns_at, next_columns, put_line_sums};
+use crate::parts::{columns_at, next_columns, put_line_sums, put_wide_line};
 
 /// Puts the sums over parts at 44 places of each of some lines of the window.
-pub fn put_sums(window: &[u8], first: usize, end: usize, sums: &mut [u16; 1920])
+#[inline(always)]
+fn put_narrow_sums(window: &[u8], first: usize, end: usize, sums: &mut [u16; 1920])
     requires window { length window.now ≡ 2304 }
     requires some { first < end }
     requires end { end ≤ 40 }
@@ -15,5 +16,35 @@ pub fn put_sums(window: &[u8], first: usize, end: usize, sums: &mut [u16; 1920])
     for line in first..end {
         put_line_sums(sums, line, &columns);
         next_columns(window, line, &mut columns);
+    }
+}
+
+/// Puts the sums over two parts side by side at 40 places of each of some lines of the window.
+#[inline(always)]
+fn put_wide_sums(window: &[u8], first: usize, end: usize, sums: &mut [u16; 1920])
+    requires window { length window.now ≡ 2304 }
+    requires some { first < end }
+    requires end { end ≤ 40 }
+    ensures value { AreWideSums (slice_index window.now) first end (slice_index sums.new) }
+{
+    let mut columns = columns_at(window, first);
+    for line in first..end {
+        put_wide_line(sums, line, &columns);
+        next_columns(window, line, &mut columns);
+    }
+}
+
+/// Puts the sums that bounds of a block of so many lines are made of, of some lines of the window.
+pub fn put_sums(window: &[u8], count: usize, first: usize, end: usize, sums: &mut [u16; 1920])
+    requires count { (count ≡ 8) ⊎ (count ≡ 16) }
+    requires window { length window.now ≡ 2304 }
+    requires some { first < end }
+    requires end { end ≤ 40 }
+    ensures value { AreSumsFor count (slice_index window.now) first end (slice_index sums.new) }
+{
+    if count == 16 {
+        put_wide_sums(window, first, end, sums);
+    } else {
+        put_narrow_sums(window, first, end, sums);
     }
 }

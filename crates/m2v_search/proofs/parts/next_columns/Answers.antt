@@ -30,4 +30,5 @@ returns c = record {
         ap (column_sum 48 f) next,
         ap f far,
       );
+  rest = c.slide.ensures.rest;
 }

@@ -1,27 +1,8 @@
-use Rattle.std.proofs.Common.{ℕ, ◌+◌, ◌*◌, get_or, ◌∙◌, arith}
-use Rattle.m2v_search.specs.Bounds.{column_sum, part_sum}
-use Rattle.m2v_search.proofs.Slides.{column_most, four_known, sums_more, no_sums}
+use Rattle.std.proofs.Common.{arith}
 use Rattle.m2v_search.proofs.sliding.put_sums.Goals as goal
 
-pub loop-line-init : goal.loop-line-init
-loop-line-init c = record {
-  columns = c.columns_at-columns.ensures.value;
-  sums = no_sums (λ i. get_or c.args.window.now i 0) c.args.first (λ i. get_or c.args.sums.now i 0);
-}
+pub returns-then-count-eq16 : goal.returns-then-count-eq16
+returns-then-count-eq16 c = record { value = record { narrow = λ is. absurd (omega arith); wide = λ is. c.put_wide_sums.ensures.value } }
 
-pub put_line_sums-requires-clause-most : goal.put_line_sums-requires-clause-most
-put_line_sums-requires-clause-most c = λ k lt.
-    let f = λ (i : ℕ). get_or c.args.window.now i 0 in
-    omega (arith, c.loop-line.invariant.columns k lt, column_most f (λ i. omega (arith, c.type_inv.window i)) (48 * c.loop-line.line + k))
-
-pub loop-line-preserved : goal.loop-line-preserved
-unfolding part_sum
-loop-line-preserved c =
-    let f = λ (i : ℕ). get_or c.args.window.now i 0 in
-    record {
-      columns = c.next_columns.ensures.value;
-      sums = sums_more f c.args.first c.loop-line.line c.loop-line.sums c.put_line_sums.new.sums c.loop-line.invariant.sums
-          (λ k lt. c.put_line_sums.ensures.value k lt
-          ∙ four_known c.loop-line.columns (column_sum 48 f) (48 * c.loop-line.line) k (λ j le below. c.loop-line.invariant.columns j (omega arith)))
-          c.put_line_sums.ensures.before;
-    }
+pub returns-else-count-eq16 : goal.returns-else-count-eq16
+returns-else-count-eq16 c = record { value = record { narrow = λ is. c.put_narrow_sums.ensures.value; wide = λ is. absurd (omega arith) } }
