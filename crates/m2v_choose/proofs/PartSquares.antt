@@ -62,7 +62,7 @@ sum_both : (f g : ℕ → ℕ) (xs : List ℕ) → sum_by (λ x. f x + g x) xs �
 sum_both f g [] = refl
 sum_both f g (x ∷ xs) = omega (arith, sum_by-cons (λ y. f y + g y) x xs, sum_by-cons f x xs, sum_by-cons g x xs, sum_both f g xs)
 
-six : (f : ℕ → ℕ) → sum_by f (range_with_len 0 6) ≡ f 0 + f 1 + f 2 + f 3 + f 4 + f 5
+pub six : (f : ℕ → ℕ) → sum_by f (range_with_len 0 6) ≡ f 0 + f 1 + f 2 + f 3 + f 4 + f 5
 six f =
     let e0 : sum_by f (range_with_len 0 1) ≡ sum_by f (range_with_len 0 0) + f 0 = sum_more f 0 in
     let e1 : sum_by f (range_with_len 0 2) ≡ sum_by f (range_with_len 0 1) + f 1 = sum_more f 1 in
