@@ -89,7 +89,7 @@ module _ (d : Decision) where
       ∙ no_is (nat_lt (led d a xs).below a.below) (led d a xs) a (le-ltb (led d a xs).below a.below le)
 
   -- candidates that come first may be looked at last, only as far as they score no more than the others
-  pub swapped : (a p i : Leader) (xs ys : List Candidate) (limit : ℕ) → p ≡ led d a ys → i ≡ led d (at a.candidate limit) xs
+  swapped : (a p i : Leader) (xs ys : List Candidate) (limit : ℕ) → p ≡ led d a ys → i ≡ led d (at a.candidate limit) xs
       → limit ≤ a.below → limit ≤ p.below + 1 → (limit ≡ a.below) ⊎ (limit ≡ p.below + 1)
       → (if nat_lt i.below limit then i else p).candidate ≡ (led d a (xs ++ ys)).candidate
   swapped a p i xs ys limit is_p is_i most near one =
@@ -123,6 +123,30 @@ module _ (d : Decision) where
                   ]
             ]
       ]
+
+  -- so they may be looked at from the one that leads by then
+  pub swapped_on : (a p i : Leader) (xs ys : List Candidate) (limit : ℕ) → p ≡ led d a ys → i ≡ led d (at p.candidate limit) xs
+      → limit ≤ a.below → limit ≤ p.below + 1 → (limit ≡ a.below) ⊎ (limit ≡ p.below + 1)
+      → i.candidate ≡ (led d a (xs ++ ys)).candidate
+  swapped_on a p i xs ys limit is_p is_i most near one =
+      let r = led d a xs in
+      let other = led d (at a.candidate limit) xs in
+      let candidate = λ (l : Leader). l.candidate in
+      let pick = λ (l : Leader). if nat_lt l.below limit then l else p in
+      let mine : i ≡ (if nat_lt r.below limit then r else at p.candidate limit) = is_i ∙ cut p.candidate limit a xs most in
+      let theirs : other ≡ (if nat_lt r.below limit then r else at a.candidate limit) = cut a.candidate limit a xs most in
+      elim (cases_lt r.below limit) [
+        | inl lt ↦
+            let e = lt-ltb r.below limit lt in
+            ap candidate (mine ∙ yes_is (nat_lt r.below limit) r (at p.candidate limit) e
+            ∙ sym (ap pick (theirs ∙ yes_is (nat_lt r.below limit) r (at a.candidate limit) e) ∙ yes_is (nat_lt r.below limit) r p e))
+        | inr ge ↦
+            let e = le-ltb r.below limit ge in
+            let none : nat_lt limit limit ≡ false = le-ltb limit limit (let le : limit ≤ limit = omega arith in le) in
+            ap candidate (mine ∙ no_is (nat_lt r.below limit) r (at p.candidate limit) e)
+            ∙ sym (ap candidate (ap pick (theirs ∙ no_is (nat_lt r.below limit) r (at a.candidate limit) e) ∙ no_is (nat_lt limit limit) (at a.candidate limit) p none))
+      ]
+      ∙ swapped a p other xs ys limit is_p refl most near one
 
   -- who leads is the first of least score
   abbrev pub LeastBehind : Leader → List Candidate → Type 0

@@ -20,6 +20,7 @@ pub mod Better
 pub mod Predicted
 pub mod Motions
 pub mod Holding
+pub mod Still
 pub mod Skips
 pub mod Asked
 pub mod Small

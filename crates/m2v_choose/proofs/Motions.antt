@@ -1,6 +1,6 @@
 -- What is searched can be tried.
 use Rattle.std.proofs.Common.{◌≡◌, ◌≢◌, ℕ, Bool, true, false, cond, ◌||◌, ◌⊎◌, inl, inr, List, [], ◌∷◌, ◌++◌, refl, ap, sym, ◌∙◌, subst, arith}
-use Rattle.std.specs.Prelude.{nat_eq, if◌then◌else◌}
+use Rattle.std.specs.Prelude.{nat_eq, if◌then◌else◌, ⊤}
 use Rattle.std.specs.List.{flat_map}
 use Rattle.std.proofs.lemmas.Bool.{eqb-true, eq-eqb}
 use Rattle.std.proofs.lemmas.Grind.{flat_map-append}
@@ -24,6 +24,7 @@ use Rattle.m2v_choose.specs.declared.trial.Best.{Best}
 use Rattle.m2v_choose.specs.Decisions.{Decision, Candidate, Prediction, has_dct_type, uncoded_syntax, coded_syntax}
 use Rattle.m2v_choose.specs.Candidates.{plain_form, plain_direction, field_direction, prediction, predictions_by, zero_prediction, still_vector, still_prediction, by_prediction}
 use Rattle.m2v_choose.specs.Trials.{References, decided, IsTask, IsReference, AreReferences, Goes, has_types, CanCode, CanTry, moving_syntax, place_for, IsRated, Tried, later_predictions}
+use Rattle.m2v_choose.proofs.IntraCoded.{no_references}
 use Rattle.m2v_choose.proofs.Stands.{PredictionStands, uncoded_macro, coded_macro, first_of, second_of, plain_told_one, fields_one, zero_one, still_prediction_stands}
 use Rattle.m2v_choose.proofs.Inside.{ModeFits, fits_inside, fits_forward, fits_backward, plain_fits, fields_fit, zero_prediction_fits, still_prediction_fits}
 use Rattle.m2v_choose.proofs.Tried.{first_step, tried_on, tried_none}
@@ -172,6 +173,13 @@ module _ (t : Task) (r : References) (ahead behind : Plane → Lines → ℕ →
       can_try t r ahead behind task x (fields_one d task.asked.own task.asked.bounds.search has hf hb goes) (moving_syntax t.increment 1 hf hb a b) true Fields
       (moving_is t r 1 hf hb a b (field_direction d d.forward) (field_direction d d.backward) task (λ e. p) (λ e. q (back e)))
       refl (fields_fit d size read.lies task.asked.bounds.search hf hb (goes_some t.context.now.kind hf hb goes) frame) read.lies (λ e. read.near) (λ e. near_behind (back e))
+
+pub zero_code : (t : Task) → IsTask t → (form : ℕ) (a b : Direction) → form ≡ no_form t.context.now → t.context.now.kind ≡ 2 → CanCode t (moving_syntax t.increment form false false a b)
+zero_code t task form a b same two =
+    let r = no_references in
+    let d = decided r t in
+    let none = λ (plane : Plane) (lines : Lines) (line : ℕ). ⊤ in
+    subst (CanCode t) (sym (zero_is t r form a b task same)) (code t r none none task (zero_prediction d) (zero_one d task.asked.own two))
 
 -- by vector zero nothing is searched
 module _ (t : Task) (r : References) (ahead behind : Plane → Lines → ℕ → Type 0) (task : IsTask t) (other : Dims) (refs : AreReferences t.context.now.kind (place_for t) r.dims other ahead behind) where

@@ -62,7 +62,7 @@ sum_both : (f g : ℕ → ℕ) (xs : List ℕ) → sum_by (λ x. f x + g x) xs �
 sum_both f g [] = refl
 sum_both f g (x ∷ xs) = omega (arith, sum_by-cons (λ y. f y + g y) x xs, sum_by-cons f x xs, sum_by-cons g x xs, sum_both f g xs)
 
-six : (f : ℕ → ℕ) → sum_by f (range_with_len 0 6) ≡ f 0 + f 1 + f 2 + f 3 + f 4 + f 5
+pub six : (f : ℕ → ℕ) → sum_by f (range_with_len 0 6) ≡ f 0 + f 1 + f 2 + f 3 + f 4 + f 5
 six f =
     let e0 : sum_by f (range_with_len 0 1) ≡ sum_by f (range_with_len 0 0) + f 0 = sum_more f 0 in
     let e1 : sum_by f (range_with_len 0 2) ≡ sum_by f (range_with_len 0 1) + f 1 = sum_more f 1 in
@@ -387,3 +387,14 @@ unfolding rebuilt_by sample_at
 written_squares t p m ls bytes =
     let q = (after t.context.now t.state.now m).quantiser in
     all_squares m.dct_field t.source.now.at p ls m.pattern (kind_for t.context.now m.kind.intra true q) (kind_for t.context.now m.kind.intra false q) bytes
+
+-- of one without coded blocks
+pub still_squares : (t : Task) (p : List ℕ) (m : MacroSyntax) (ls : List (List ℤ)) → ((k : ℕ) → get_or p k 0 < 2 ^ 8) → m.pattern ≡ 0
+    → squared t.source.now.at (rebuilt_by t p (record { syntax = m; levels = ls })) ≡ squared t.source.now.at p
+still_squares t p m ls bytes none =
+    let s = t.source.now.at in
+    let f = block_squared m.dct_field s (rebuilt_by t p (record { syntax = m; levels = ls })) in
+    let g = block_squared m.dct_field s p in
+    let coded : coded_squared m.pattern f ≡ 0 = ap (λ (k : ℕ). coded_squared k f) none ∙ none_coded f in
+    let rest : uncoded_squared m.pattern g ≡ squared s p = ap (λ (k : ℕ). uncoded_squared k g) none ∙ all_uncoded m.dct_field s p in
+    omega (arith, written_squares t p m ls bytes, coded, rest)

@@ -1,9 +1,9 @@
 -- A skipped macroblock's prediction.
 use Rattle.std.proofs.Common.{◌≡◌, ℕ, ◌<◌, ◌≤◌, Bool, true, false, cond, ◌&&◌, ◌||◌, not, ◌⊎◌, inl, inr, List, [], ◌∷◌, ◌++◌, ◌+◌, filter, append_assoc, refl, ap, sym, ◌∙◌, subst, arith, ℤ}
-use Rattle.std.specs.Prelude.{nat_eq, nat_lt, unsigned_abs, map, if◌then◌else◌}
+use Rattle.std.specs.Prelude.{nat_eq, unsigned_abs, map}
 use Rattle.std.specs.List.{flat_map}
 use Rattle.std.proofs.lemmas.Int.{ints}
-use Rattle.std.proofs.lemmas.Bool.{and_parts, eqb-true, ne_eqb, le-ltb, lt-ltb, true≢false}
+use Rattle.std.proofs.lemmas.Bool.{and_parts, eqb-true, ne_eqb, true≢false}
 use Rattle.std.proofs.lemmas.Grind.{flat_map-append}
 use Rattle.m2v_plane.specs.declared.dims.Dims.{Dims}
 use Rattle.m2v_plane.specs.declared.planes.Plane.{Plane}
@@ -33,7 +33,7 @@ use Rattle.m2v_choose.proofs.Stands.{first_of, second_of}
 use Rattle.m2v_choose.proofs.Stays.{SourceNear, direction_held}
 use Rattle.m2v_choose.proofs.Inside.{fits_inside, fits_forward, zero_fits, plain_source, plain_parts, plain_single, only_part, own_near}
 use Rattle.m2v_choose.proofs.Tried.{tried_on, tried_none}
-use Rattle.m2v_choose.proofs.Leading.{led_on, swapped, led_least, yes_is, no_is}
+use Rattle.m2v_choose.proofs.Leading.{led_on, swapped_on, led_least}
 
 -- what a skipped macroblock's motion reads can be read
 pub record SkipReads (kind : ℕ) (place : MbPlace) (d : Dims) (ahead behind : Plane → Lines → ℕ → Type 0) (mode : Mode) : Type 0 where
@@ -180,29 +180,20 @@ module _ (d : Decision) where
 
   module _ (h a p i : Best) (limit : ℕ) (held : candidate_of h.choice ≡ hold d) (scored : h.below ≡ score d (candidate_of h.choice))
       (skip : Tried d h a (cond (may_skip d) (skipped ∷ []) [])) (behind : Tried d a p (flat_map (by_prediction d) (later_predictions d)))
-      (before : Tried d (record a { below = limit }) i (map (intra_by d) (codings d) ++ flat_map (by_prediction d) (zero_predictions d)))
+      (before : Tried d (record p { below = limit }) i (map (intra_by d) (codings d) ++ flat_map (by_prediction d) (zero_predictions d)))
       (most : limit ≤ a.below) (near : limit ≤ p.below + 1) (one : (limit ≡ a.below) ⊎ (limit ≡ p.below + 1)) where
-    picked : (if nat_lt i.below limit then leader_of i else leader_of p).candidate ≡ choice_of d
+    pub chosen_all : candidate_of i.choice ≡ choice_of d
     unfolding choice_of before_all earlier later
-    picked =
+    chosen_all =
         let rest = earlier ++ later in
-        swapped d (leader_of a) (leader_of p) (leader_of i) earlier later limit behind.best before.best most near one
+        swapped_on d (leader_of a) (leader_of p) (leader_of i) earlier later limit behind.best before.best most near one
         ∙ ap (λ (l : Leader). (led d l rest).candidate) skip.best ∙ ap (λ (l : Leader). l.candidate) (sym (led_on d (leader_of h) before_all rest))
         ∙ ap (λ (xs : List Candidate). (led d (leader_of h) xs).candidate) (sym others_split)
         ∙ (led_least d (leader_of h) (others d) scored).0
         ∙ ap (λ (x : Candidate). least (score d) x (filter (fits d) (others d))) held
 
-    pub chosen_before : i.below < limit → candidate_of i.choice ≡ choice_of d
-    chosen_before lt = ap (λ (l : Leader). l.candidate) (sym (yes_is (nat_lt i.below limit) (leader_of i) (leader_of p) (lt-ltb i.below limit lt))) ∙ picked
-
-    pub chosen_behind : limit ≤ i.below → candidate_of p.choice ≡ choice_of d
-    chosen_behind le = ap (λ (l : Leader). l.candidate) (sym (no_is (nat_lt i.below limit) (leader_of i) (leader_of p) (le-ltb i.below limit le))) ∙ picked
-
-    pub bits_before : i.below < limit → i.choice.bits ≡ bits_taken d (choice_of d)
-    bits_before lt = before.rated.bits ∙ ap (bits_taken d) (chosen_before lt)
-
-    pub bits_behind : limit ≤ i.below → p.choice.bits ≡ bits_taken d (choice_of d)
-    bits_behind le = behind.rated.bits ∙ ap (bits_taken d) (chosen_behind le)
+    pub bits_all : i.choice.bits ≡ bits_taken d (choice_of d)
+    bits_all = before.rated.bits ∙ ap (bits_taken d) chosen_all
 
 -- ---- bits
 

@@ -1,7 +1,10 @@
 -- Sums and lists by number, one more at their end.
-use Rattle.std.proofs.Common.{◌≡◌, ◌≢◌, ℕ, zero, suc, ◌+◌, ◌<◌, length, set, get_or, map, subst, below_more, get_or-set_other, get_or-set_same, List, [], ◌∷◌, ◌++◌, ap, sym, refl, ◌∙◌, arith, add-zero}
+use Rattle.std.proofs.Common.{◌≡◌, ◌≢◌, ℕ, zero, suc, ◌+◌, ◌*◌, ◌<◌, ◌≤◌, length, set, get_or, map, subst, below_more, get_or-set_other, get_or-set_same, List, [], ◌∷◌, ◌++◌, ap, sym, refl, ◌∙◌, arith, add-zero}
 use Rattle.std.specs.List.{range_with_len, sum_by}
+use Rattle.std.specs.Simd.Lanes.{sum_l}
+use Rattle.std.specs.Prelude.{slice_index}
 use Rattle.std.proofs.lemmas.List.{length-map, map-set}
+use Rattle.std.proofs.lemmas.List.FromFn.{fill_by_all}
 use Rattle.std.proofs.lemmas.List.Sums.{sum_by_push, sum_by-cons}
 
 range_more : (a n : ℕ) → range_with_len a (suc n) ≡ range_with_len a n ++ (a + n) ∷ []
@@ -34,3 +37,30 @@ pub set_next_of : {A B : Type 0} (f : A → B) (P : ℕ → B → Type 0) (xs : 
 set_next_of {B = B} f P xs d n v inside h here k lt =
     let len : length (map f xs) ≡ length xs = length-map xs f in
     subst (λ (ys : List B). P k (get_or ys k d)) (sym (map-set f xs n v)) (set_next P (map f xs) d n (f v) (omega (arith, len)) h here k lt)
+
+-- ---- lanes
+
+sum_lanes : (f : ℕ → ℕ) (xs : List ℕ) → sum_l (map f xs) ≡ sum_by f xs
+sum_lanes f [] = refl
+sum_lanes f (x ∷ xs) = omega (arith, sum_lanes f xs, sum_by-cons f x xs)
+
+pub lanes_sum : (f : ℕ → ℕ) (xs : List ℕ) (n : ℕ) → length xs ≡ n → ((k : ℕ) → k < n → get_or xs k 0 ≡ f k) → sum_l xs ≡ sum_by f (range_with_len 0 n)
+lanes_sum f xs n len h = ap sum_l (fill_by_all f xs n 0 len h) ∙ sum_lanes f (range_with_len 0 n)
+
+-- of squares of samples' differences
+pub lanes_most : (xs : List ℕ) → ((k : ℕ) → k < length xs → get_or xs k 0 ≤ 65025) → sum_l xs ≤ 65025 * length xs
+lanes_most [] h = omega arith
+lanes_most (x ∷ xs) h =
+    let l : length (x ∷ xs) ≡ length xs + 1 = omega arith in
+    omega (arith, l, h 0 (omega (arith, l)), lanes_most xs (λ k lt. h (suc k) (omega (arith, lt, l))))
+
+-- ---- six of them
+
+pub six_places : (P : ℕ → ℕ → Type 0) (a b c d e g : ℕ) → P 0 a → P 1 b → P 2 c → P 3 d → P 4 e → P 5 g → (k : ℕ) → k < 6 → P k (slice_index (a ∷ b ∷ c ∷ d ∷ e ∷ g ∷ []) k)
+six_places P a b c d e g p0 p1 p2 p3 p4 p5 zero lt = p0
+six_places P a b c d e g p0 p1 p2 p3 p4 p5 (suc zero) lt = p1
+six_places P a b c d e g p0 p1 p2 p3 p4 p5 (suc (suc zero)) lt = p2
+six_places P a b c d e g p0 p1 p2 p3 p4 p5 (suc (suc (suc zero))) lt = p3
+six_places P a b c d e g p0 p1 p2 p3 p4 p5 (suc (suc (suc (suc zero)))) lt = p4
+six_places P a b c d e g p0 p1 p2 p3 p4 p5 (suc (suc (suc (suc (suc zero))))) lt = p5
+six_places P a b c d e g p0 p1 p2 p3 p4 p5 (suc (suc (suc (suc (suc (suc n)))))) lt = absurd (omega (arith, lt))

@@ -14,14 +14,14 @@ use Rattle.m2v_macro.specs.States.{is_field, skips, pmv_before, dc_reset}
 use Rattle.m2v_macro.specs.Conditions.{IsMacro}
 use Rattle.m2v_macro.specs.Macros.{macro_of, no_vectors}
 use Rattle.m2v_macro.specs.Texts.{macro_text}
-use Rattle.m2v_macroblock.specs.Modes.{mode_of}
+use Rattle.m2v_macroblock.specs.Modes.{mode_of, zero_motion}
 use Rattle.m2v_macro.specs.declared.values.MacroSyntax.{MacroSyntax}
 use Rattle.m2v_macro.specs.declared.values.Selected.{Selected}
 use Rattle.m2v_macro.specs.declared.values.Direction.{Direction}
 use Rattle.m2v_vector.specs.Predictors.{zeros}
 use Rattle.m2v_pred.specs.declared.mode.MbPlace.{MbPlace}
 use Rattle.m2v_pred.specs.Vectors.{IsPlace, IsInside, HoldsRead}
-use Rattle.m2v_pred.specs.Predicted.{block_by}
+use Rattle.m2v_pred.specs.Predicted.{block_by, predicted}
 use Rattle.m2v_macroblock.specs.Macroblocks.{Macroblock, macroblock_of}
 use Rattle.m2v_macroblock.specs.Conditions.{AreDc}
 use Rattle.m2v_macroblock.specs.Predictions.{View, prediction_of, sample_at}
@@ -256,6 +256,11 @@ IsReference structure l = (structure ≡ 3) ⊎ IsTrue (is_field_line l)
 -- where the macroblock lies
 abbrev pub place_for : Task → MbPlace
 place_for t = record { row = t.limits.now.row; column = t.limits.now.column; structure = t.context.now.extension.structure }
+
+-- these are the samples of a P picture's prediction by vector zero: that of the held macroblock, of a skipped one and of the
+-- type without a direction
+abbrev pub IsStill : References → Task → List ℕ → Type 0
+IsStill r t samples = t.context.now.kind ≡ 2 → samples ≡ block_by (predicted r.forward r.backward (zero_motion t.context.now) (place_for t))
 
 -- a reference of this size can be read: the macroblock lies in it, and it holds the rows that are near
 pub record IsRead (d : Dims) (holds : Plane → Lines → ℕ → Type 0) (place : MbPlace) : Type 0 where

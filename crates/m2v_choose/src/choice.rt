@@ -1,21 +1,23 @@
 //! The choice of a macroblock.
-ghost use Rattle.std.specs.Prelude.{◌≡◌, ◌≢◌, ◌≤◌, ◌<◌, ◌+◌, ◌⊎◌, true, false, cond, IsTrue, slice_index_or, pos, replicate, [], ◌∷◌};
+ghost use Rattle.std.specs.Prelude.{◌≡◌, ◌≢◌, ◌≤◌, ◌<◌, ◌+◌, ◌⊎◌, true, false, cond, IsTrue, slice_index_or, pos, replicate, List, ℕ, [], ◌∷◌};
 ghost use Rattle.m2v_plane.specs.declared.dims.Dims.{Dims};
 ghost use Rattle.m2v_pred.specs.Vectors.{IsInside, IsPlace};
+ghost use Rattle.m2v_pred.specs.Predicted.{predicted, block_by};
 ghost use Rattle.m2v_recon.specs.Steps.{levels_of};
 ghost use Rattle.m2v_macroblock.specs.Modes.{skipped_mode as skipped_mode_of};
 ghost use Rattle.m2v_macroblock.specs.Predictions.{View};
 ghost use Rattle.m2v_macroblock.specs.Conditions.{AreDc};
 ghost use Rattle.m2v_choose.specs.Decisions.{Decision, skipped, increment_of};
 ghost use Rattle.m2v_choose.specs.Candidates.{still_vector as still_vector_of, held_levels as held_levels_of, hold as hold_of, may_skip as may_skip_of};
-ghost use Rattle.m2v_choose.specs.Choice.{bits_taken, choice_of, score};
+ghost use Rattle.m2v_choose.specs.Choice.{bits_taken, choice_of, score, squared as squared_of};
 ghost use Rattle.m2v_choose.specs.Own.{IsOwn, IsOwnState, AreLimits};
-ghost use Rattle.m2v_choose.specs.Trials.{References, decided, references_of, IsTask, IsRead, IsRated, Tried, AreReferences, IsBefore, HasDirection, decision, place_at, candidate_of, direction_by, place_for};
+ghost use Rattle.m2v_choose.specs.Trials.{References, decided, references_of, IsTask, IsRead, IsRated, IsStill, Tried, AreReferences, IsBefore, HasDirection, decision, place_at, candidate_of, direction_by, place_for};
 
 use crate::coding::intra_syntax;
 use crate::motion::plain_form;
 use crate::predictions::{moving_syntax, predict_moving};
-use crate::scratch::{ChoiceScratch, TrialScratch};
+use crate::scratch::{ChoiceScratch, SearchedScratch, TrialScratch};
+use crate::squares::squared;
 use crate::task::{Task, task_of};
 use crate::trial::{Best, no_levels, no_prediction};
 use crate::values::{Choice, Limits};
@@ -63,76 +65,96 @@ fn held_levels(task: &Task) -> [Levels; 6]
     [luma, luma, luma, luma, blue, red]
 }
 
-/// The macroblock as it is held in an I picture.
-fn hold_intra(task: &Task) -> Best
-    requires task { IsTask task.now }
-    requires kind { task.now.context.now.kind ≡ 1 }
-    ensures candidate { (r : References)
-        → candidate_of result.choice ≡ hold_of (decided r task.now) }
-    ensures rated { (r : References) → IsRated (decided r task.now) result }
-    ensures score { (r : References) → result.below
-        ≡ score (decided r task.now) (candidate_of result.choice) }
-{
-    let syntax = intra_syntax(task, task.state.quantiser, false);
-    let levels = held_levels(task);
-    Best::held(task, &syntax, &levels, no_prediction())
-}
-
-/// The macroblock as it is held in a P or B picture: by vector zero, forward or backward.
-fn hold_still<V: RefView>(
-    task: &Task,
-    forward: &V,
-    backward: &V,
-    scratch: &mut TrialScratch,
-) -> Best
-    requires task { IsTask task.now }
-    requires kind { (task.now.context.now.kind ≡ 2) ⊎ (task.now.context.now.kind ≡ 3) }
-    requires references { AreReferences task.now.context.now.kind (place_for task.now)
-        (V.size forward.now) (V.size backward.now)
-        (V.Holds forward.now) (V.Holds backward.now) }
-    ensures candidate { candidate_of result.choice
-        ≡ hold_of (decided (references_of (V.size forward.now) (V.at forward.now)
-        (V.at backward.now)) task.now) }
-    ensures rated { IsRated (decided
-        (references_of (V.size forward.now) (V.at forward.now) (V.at backward.now)) task.now)
-        result }
-    ensures score { result.below ≡ score (decided
-        (references_of (V.size forward.now) (V.at forward.now) (V.at backward.now)) task.now)
-        (candidate_of result.choice) }
-{
-    let still = still_vector(task.context);
-    let kind = task.context.kind;
-    let form = plain_form(task.context);
-    let m = moving_syntax(task, form, kind == 2, kind == 3, &still, &still);
-    let TrialScratch {
-        prediction,
-        second,
-        ..
-    } = scratch;
-    predict_moving(task, forward, backward, &m, second, prediction);
-    Best::held(task, &m, no_levels(), prediction)
-}
-
-/// The macroblock as it is held: the first candidate.
-fn hold<V: RefView>(task: &Task, forward: &V, backward: &V, scratch: &mut TrialScratch) -> Best
-    requires task { IsTask task.now }
-    requires references { AreReferences task.now.context.now.kind (place_for task.now)
-        (V.size forward.now) (V.size backward.now)
-        (V.Holds forward.now) (V.Holds backward.now) }
-    ensures candidate { candidate_of result.choice
-        ≡ hold_of (decided (references_of (V.size forward.now) (V.at forward.now)
-        (V.at backward.now)) task.now) }
-    ensures rated { IsRated (decided
-        (references_of (V.size forward.now) (V.at forward.now) (V.at backward.now)) task.now)
-        result }
-    ensures score { result.below ≡ score (decided
-        (references_of (V.size forward.now) (V.at forward.now) (V.at backward.now)) task.now)
-        (candidate_of result.choice) }
-{
-    if task.context.kind == 1 {
-        return hold_intra(task);
+impl Best {
+    /// Holds the macroblock in an I picture.
+    fn hold_intra(&mut self, task: &Task)
+        requires task { IsTask task.now }
+        requires kind { task.now.context.now.kind ≡ 1 }
+        ensures candidate { (r : References)
+            → candidate_of self.new.choice ≡ hold_of (decided r task.now) }
+        ensures rated { (r : References) → IsRated (decided r task.now) self.new }
+        ensures score { (r : References) → self.new.below
+            ≡ score (decided r task.now) (candidate_of self.new.choice) }
+    {
+        let syntax = intra_syntax(task, task.state.quantiser, false);
+        let levels = held_levels(task);
+        self.hold_written(task, &syntax, &levels, no_prediction());
     }
-    hold_still(task, forward, backward, scratch)
+
+    /// Holds the macroblock in a P or B picture: by vector zero, forward or backward. Leaves the samples of its prediction,
+    /// and tells their squares.
+    fn hold_still<V: RefView>(
+        &mut self,
+        task: &Task,
+        forward: &V,
+        backward: &V,
+        second: &mut Block16,
+        still: &mut Block16,
+    ) -> u32
+        requires task { IsTask task.now }
+        requires kind { (task.now.context.now.kind ≡ 2) ⊎ (task.now.context.now.kind ≡ 3) }
+        requires references { AreReferences task.now.context.now.kind (place_for task.now)
+            (V.size forward.now) (V.size backward.now)
+            (V.Holds forward.now) (V.Holds backward.now) }
+        ensures candidate { candidate_of self.new.choice
+            ≡ hold_of (decided (references_of (V.size forward.now) (V.at forward.now)
+            (V.at backward.now)) task.now) }
+        ensures rated { IsRated (decided
+            (references_of (V.size forward.now) (V.at forward.now) (V.at backward.now)) task.now)
+            self.new }
+        ensures score { self.new.below ≡ score (decided
+            (references_of (V.size forward.now) (V.at forward.now) (V.at backward.now)) task.now)
+            (candidate_of self.new.choice) }
+        ensures still { IsStill
+            (references_of (V.size forward.now) (V.at forward.now) (V.at backward.now)) task.now
+            still.new.at }
+        ensures squares { result ≡ squared_of task.now.source.now.at still.new.at }
+        ensures most { result ≤ 49939200 }
+    {
+        let vector = still_vector(task.context);
+        let kind = task.context.kind;
+        let form = plain_form(task.context);
+        let m = moving_syntax(task, form, kind == 2, kind == 3, &vector, &vector);
+        predict_moving(task, forward, backward, &m, second, still);
+        self.hold_written(task, &m, no_levels(), still)
+    }
+
+    /// Holds the macroblock: the first candidate. In a P or B picture leaves the samples of its prediction, and tells their
+    /// squares.
+    fn hold<V: RefView>(
+        &mut self,
+        task: &Task,
+        forward: &V,
+        backward: &V,
+        second: &mut Block16,
+        still: &mut Block16,
+    ) -> u32
+        requires task { IsTask task.now }
+        requires references { AreReferences task.now.context.now.kind (place_for task.now)
+            (V.size forward.now) (V.size backward.now)
+            (V.Holds forward.now) (V.Holds backward.now) }
+        ensures candidate { candidate_of self.new.choice
+            ≡ hold_of (decided (references_of (V.size forward.now) (V.at forward.now)
+            (V.at backward.now)) task.now) }
+        ensures rated { IsRated (decided
+            (references_of (V.size forward.now) (V.at forward.now) (V.at backward.now)) task.now)
+            self.new }
+        ensures score { self.new.below ≡ score (decided
+            (references_of (V.size forward.now) (V.at forward.now) (V.at backward.now)) task.now)
+            (candidate_of self.new.choice) }
+        ensures still { IsStill
+            (references_of (V.size forward.now) (V.at forward.now) (V.at backward.now)) task.now
+            still.new.at }
+        ensures squares { task.now.context.now.kind ≡ 2
+            → result ≡ squared_of task.now.source.now.at still.new.at }
+        ensures most { result ≤ 49939200 }
+    {
+        if task.context.kind == 1 {
+            self.hold_intra(task);
+            return 0;
+        }
+        self.hold_still(task, forward, backward, second, still)
+    }
 }
 
 /// Whether the macroblock may be skipped: it is neither the first nor the last one of its slice, and in a B picture not
@@ -162,12 +184,13 @@ fn may_skip<V: RefView>(task: &Task, forward: &V, mode: &Mode) -> bool
 }
 
 impl Best {
-    /// Tries to skip the macroblock, where it may be skipped.
+    /// Tries to skip the macroblock, where it may be skipped. `still` are the squares of the held one in a P picture.
     fn try_skip<V: RefView>(
         &mut self,
         task: &Task,
         forward: &V,
         backward: &V,
+        still: u32,
         scratch: &mut TrialScratch,
     )
         requires task { IsTask task.now }
@@ -176,13 +199,21 @@ impl Best {
         requires references { AreReferences task.now.context.now.kind (place_for task.now)
             (V.size forward.now) (V.size backward.now)
             (V.Holds forward.now) (V.Holds backward.now) }
-        ensures tried { let d = decided
-            (references_of (V.size forward.now) (V.at forward.now) (V.at backward.now)) task.now in
-            IsRated d self.old → Tried d self.old self.new
+        requires most { still ≤ 49939200 }
+        ensures tried { (samples : List ℕ) → let r = references_of (V.size forward.now)
+            (V.at forward.now) (V.at backward.now) in
+            let d = decided r task.now in
+            IsStill r task.now samples
+            → (task.now.context.now.kind ≡ 2 → still ≡ squared_of task.now.source.now.at samples)
+            → IsRated d self.old → Tried d self.old self.new
             (cond (may_skip_of d) (skipped ∷ []) []) }
     {
         let mode = skipped_mode(task.context, task.state);
         if !may_skip(task, forward, &mode) {
+            return;
+        }
+        if task.context.kind == 2 {
+            self.try_skipped(task, still);
             return;
         }
         let TrialScratch {
@@ -191,7 +222,7 @@ impl Best {
             ..
         } = scratch;
         predict_in(forward, backward, &mode, place_of(task), second, prediction);
-        self.try_skipped(task, prediction);
+        self.try_skipped(task, squared(task.source, prediction));
     }
 }
 
@@ -206,39 +237,39 @@ fn limit_of(before: u64, behind: u64) -> u64
     if behind < before { behind + 1 } else { before }
 }
 
-/// What is chosen of a macroblock: of the candidates that are short enough, the first of least score. Predictions by
-/// vectors are tried first, though they come last: intra macroblocks and the type without a direction, which seldom score
-/// less, are then looked at only as far as they score no more.
-fn choose_for<V: RefView>(
-    task: &Task,
-    forward: &V,
-    backward: &V,
-    scratch: &mut ChoiceScratch,
-) -> Choice
-    requires task { IsTask task.now }
-    requires direction { HasDirection task.now.context.now task.now.state.now task.now.limits.now }
-    requires references { AreReferences task.now.context.now.kind (place_for task.now)
-        (V.size forward.now) (V.size backward.now)
-        (V.Holds forward.now) (V.Holds backward.now) }
-    ensures value { candidate_of result
-        ≡ choice_of (decided (references_of (V.size forward.now) (V.at forward.now)
-        (V.at backward.now)) task.now) }
-    ensures bits { let d = decided
-        (references_of (V.size forward.now) (V.at forward.now) (V.at backward.now)) task.now in
-        result.bits ≡ bits_taken d (choice_of d) }
-{
-    let mut best = hold(task, forward, backward, &mut scratch.trial);
-    best.try_skip(task, forward, backward, &mut scratch.trial);
-    let mut later = best;
-    later.try_later(task, forward, backward, scratch);
-    let limit = limit_of(best.below, later.below);
-    best.below = limit;
-    best.try_intra(task, &mut scratch.trial.coding);
-    best.try_zero(task, forward, backward, &mut scratch.trial);
-    if best.below < limit {
-        return best.choice;
+impl Best {
+    /// Decides a macroblock: of the candidates that are short enough, the first of least score. Predictions by vectors are
+    /// tried first, though they come last: intra macroblocks and the type without a direction, which seldom score less, are
+    /// then looked at only as far as they score no more.
+    fn decide<V: RefView>(
+        &mut self,
+        task: &Task,
+        forward: &V,
+        backward: &V,
+        still: &mut Block16,
+        scratch: &mut SearchedScratch,
+    )
+        requires task { IsTask task.now }
+        requires direction { HasDirection task.now.context.now task.now.state.now
+            task.now.limits.now }
+        requires references { AreReferences task.now.context.now.kind (place_for task.now)
+            (V.size forward.now) (V.size backward.now)
+            (V.Holds forward.now) (V.Holds backward.now) }
+        ensures value { candidate_of self.new.choice
+            ≡ choice_of (decided (references_of (V.size forward.now) (V.at forward.now)
+            (V.at backward.now)) task.now) }
+        ensures bits { let d = decided
+            (references_of (V.size forward.now) (V.at forward.now) (V.at backward.now)) task.now in
+            self.new.choice.bits ≡ bits_taken d (choice_of d) }
+    {
+        let squares = self.hold(task, forward, backward, &mut scratch.trial.second, still);
+        self.try_skip(task, forward, backward, squares, &mut scratch.trial);
+        let before = self.below;
+        self.try_later(task, forward, backward, scratch);
+        self.below = limit_of(before, self.below);
+        self.try_intra(task, &mut scratch.trial.coding);
+        self.try_zero(task, still, &mut scratch.trial.coding);
     }
-    later.choice
 }
 
 /// What is chosen of a macroblock (clauses 6.2.5 and 6.3.17): of all candidates that have at most 4,608 bits and at most the
@@ -326,5 +357,11 @@ pub fn choose_in<V: RefView>(
     ensures fits { result.bits ≤ limits.now.room }
 {
     let task = task_of(source, context, state, limits);
-    choose_for(&task, forward, backward, scratch)
+    let ChoiceScratch {
+        best,
+        still,
+        searched,
+    } = scratch;
+    best.decide(&task, forward, backward, still, searched);
+    best.choice
 }

@@ -6,17 +6,18 @@ ghost use Rattle.m2v_macro.specs.Conditions.{IsMacro};
 ghost use Rattle.m2v_macroblock.specs.Predictions.{prediction_of};
 ghost use Rattle.m2v_choose.specs.Decisions.{has_dct_type as has_dct_type_of};
 ghost use Rattle.m2v_choose.specs.Candidates.{plain_form as plain_form_of, plain_direction as plain_direction_of, field_direction as field_direction_of, prediction, predictions_by, by_prediction};
-ghost use Rattle.m2v_choose.specs.Trials.{References, decided, references_of, IsTask, IsRead, IsRated, Tried, CanCode, CanTry, Goes, zero_predictions, later_predictions, AreReferences, direction_by, moving_syntax as moving_syntax_of, place_for};
+ghost use Rattle.m2v_choose.specs.Trials.{References, decided, references_of, IsTask, IsRead, IsRated, IsStill, Tried, CanCode, CanTry, Goes, zero_predictions, later_predictions, AreReferences, direction_by, moving_syntax as moving_syntax_of, place_for};
 
 use crate::coding::{has_dct_type, no_form};
 use crate::predictions::moving_syntax;
-use crate::scratch::{ChoiceScratch, TrialScratch};
+use crate::scratch::{CodingScratch, SearchedScratch, TrialScratch};
 use crate::task::Task;
 use crate::trial::Best;
 use crate::vectors::{Vectors, field_direction, no_vector, plain_direction};
 use m2v_kernel::average_into;
 use m2v_macro::PictureContext;
 use m2v_plane::RefView;
+use m2v_pred::Block16;
 use m2v_search::SearchScratch;
 
 /// What was searched: a motion type, and the vectors of both directions.
@@ -211,27 +212,19 @@ impl Best {
         self.try_both(task, searched, scratch);
     }
 
-    /// Tries the type without a direction, in a P picture.
-    pub fn try_zero<V: RefView>(
-        &mut self,
-        task: &Task,
-        forward: &V,
-        backward: &V,
-        scratch: &mut TrialScratch,
-    )
+    /// Tries the type without a direction, in a P picture: its prediction is that of the held macroblock, which is told.
+    pub fn try_zero(&mut self, task: &Task, still: &Block16, coding: &mut CodingScratch)
         requires task { IsTask task.now }
-        requires references { AreReferences task.now.context.now.kind (place_for task.now)
-            (V.size forward.now) (V.size backward.now)
-            (V.Holds forward.now) (V.Holds backward.now) }
-        ensures tried { let d = decided
-            (references_of (V.size forward.now) (V.at forward.now) (V.at backward.now)) task.now in
-            IsRated d self.old → Tried d self.old self.new
-            (flat_map (by_prediction d) (zero_predictions d)) }
+        ensures tried { (r : References) → IsStill r task.now still.now.at
+            → IsRated (decided r task.now) self.old
+            → Tried (decided r task.now) self.old self.new
+            (flat_map (by_prediction (decided r task.now))
+            (zero_predictions (decided r task.now))) }
     {
         if task.context.kind == 2 {
             let none = no_vectors();
             let m = moving_syntax(task, no_form(task.context), false, false, &none, &none);
-            self.try_prediction(task, forward, backward, &m, false, scratch);
+            self.try_samples(task, &m, false, still, coding);
         }
     }
 
@@ -241,7 +234,7 @@ impl Best {
         task: &Task,
         forward: &V,
         backward: &V,
-        scratch: &mut ChoiceScratch,
+        scratch: &mut SearchedScratch,
     )
         requires task { IsTask task.now }
         requires kind { (task.now.context.now.kind ≡ 2) ⊎ (task.now.context.now.kind ≡ 3) }
@@ -255,7 +248,7 @@ impl Best {
             (plain_direction_of d d.backward))) }
     {
         let _size = forward.dims();
-        let ChoiceScratch { search, trial } = scratch;
+        let SearchedScratch { search, trial } = scratch;
         let ahead = plain_direction(task, forward, search);
         let behind = plain_backward(task, backward, search);
         let form = plain_form(task.context);
@@ -273,7 +266,7 @@ impl Best {
         task: &Task,
         forward: &V,
         backward: &V,
-        scratch: &mut ChoiceScratch,
+        scratch: &mut SearchedScratch,
     )
         requires task { IsTask task.now }
         requires kind { (task.now.context.now.kind ≡ 2) ⊎ (task.now.context.now.kind ≡ 3) }
@@ -289,7 +282,7 @@ impl Best {
     {
         if has_dct_type(task.context) {
             let _size = forward.dims();
-            let ChoiceScratch { search, trial } = scratch;
+            let SearchedScratch { search, trial } = scratch;
             let ahead = field_direction(task, forward, search);
             let behind = field_backward(task, backward, search);
             let searched = Searched {
@@ -307,7 +300,7 @@ impl Best {
         task: &Task,
         forward: &V,
         backward: &V,
-        scratch: &mut ChoiceScratch,
+        scratch: &mut SearchedScratch,
     )
         requires task { IsTask task.now }
         requires references { AreReferences task.now.context.now.kind (place_for task.now)

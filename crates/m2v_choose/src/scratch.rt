@@ -1,4 +1,7 @@
 //! What a choice writes before it reads it.
+use crate::trial::Best;
+use crate::values::Choice;
+use m2v_macro::MacroSyntax;
 use m2v_pred::Block16;
 use m2v_quant::Levels;
 use m2v_search::SearchScratch;
@@ -27,14 +30,25 @@ pub struct TrialScratch {
     pub coding: CodingScratch,
 }
 
-/// Room for the choice of a macroblock. Whatever stands in it before, the choice is the same, so one serves any number of
-/// choices, and none clears it.
+/// Room for the candidates that are searched for.
 #[derive(Drop)]
-pub struct ChoiceScratch {
+pub struct SearchedScratch {
     /// Room for a search.
     pub search: SearchScratch,
     /// Room for a candidate.
     pub trial: TrialScratch,
+}
+
+/// Room for the choice of a macroblock. Whatever stands in it before, the choice is the same, so one serves any number of
+/// choices, and none clears it.
+#[derive(Drop)]
+pub struct ChoiceScratch {
+    /// The best candidate so far, which is never moved: it is large.
+    pub best: Best,
+    /// The samples of the prediction by vector zero.
+    pub still: Block16,
+    /// Room for the candidates.
+    pub searched: SearchedScratch,
 }
 
 impl ChoiceScratch {
@@ -42,15 +56,27 @@ impl ChoiceScratch {
     pub fn new() -> ChoiceScratch {
         let none = Levels { at: [0; 64] };
         ChoiceScratch {
-            search: SearchScratch::new(),
-            trial: TrialScratch {
-                prediction: Block16 { at: [0; 384] },
-                second: Block16 { at: [0; 384] },
-                ahead: Block16 { at: [0; 384] },
-                coding: CodingScratch {
-                    frame: [[0; 64]; 6],
-                    field: [[0; 64]; 6],
+            best: Best {
+                choice: Choice {
+                    skip: true,
+                    syntax: MacroSyntax::blank(),
                     levels: [none, none, none, none, none, none],
+                    bits: 0,
+                },
+                below: 0,
+            },
+            still: Block16 { at: [0; 384] },
+            searched: SearchedScratch {
+                search: SearchScratch::new(),
+                trial: TrialScratch {
+                    prediction: Block16 { at: [0; 384] },
+                    second: Block16 { at: [0; 384] },
+                    ahead: Block16 { at: [0; 384] },
+                    coding: CodingScratch {
+                        frame: [[0; 64]; 6],
+                        field: [[0; 64]; 6],
+                        levels: [none, none, none, none, none, none],
+                    },
                 },
             },
         }

@@ -1,13 +1,15 @@
 //! Squares of differences of samples.
-ghost use Rattle.std.specs.Prelude.{◌≡◌, ℕ, ◌≤◌, ◌<◌, ◌+◌, ◌*◌, ◌^◌, cond, min, slice_index, sum_by};
+ghost use Rattle.std.specs.Prelude.{◌≡◌, ℕ, ◌≤◌, ◌<◌, ◌+◌, ◌*◌, ◌^◌, cond, length, min, slice_index, sum_by};
 ghost use Rattle.std.specs.List.{range_with_len};
+ghost use Rattle.std.specs.Simd.Lanes.{sum_l};
 ghost use Rattle.m2v_kernel.specs.Sums.{apart};
-ghost use Rattle.m2v_choose.specs.Choice.{square_at, plane_squared as plane_squared_of, squared as squared_of};
+ghost use Rattle.m2v_choose.specs.Choice.{square_at, squared as squared_of};
 ghost use Rattle.m2v_choose.specs.Trials.{block_squared as block_squared_of, uncoded_squared, AreSquares};
 
 use crate::blocks::line_place;
 use m2v_pred::Block16;
 use m2v_recon::is_coded;
+use std::simd::prelude::*;
 
 /// The square of how far two samples lie apart.
 #[inline(always)]
@@ -19,46 +21,67 @@ fn square(x: u8, y: u8) -> u32
     far * far
 }
 
-/// The squares of so many samples of a line.
+/// The squares of eight samples of a line, side by side.
 #[inline(always)]
-fn line_squared(source: &Block16, samples: &Block16, from: usize, side: usize) -> u32
-    requires side { side ≤ 16 }
-    requires within { from + side ≤ 384 }
-    ensures value { result ≡ sum_by (λ c. square_at source.now.at samples.now.at (from + c))
-        (range_with_len 0 side) }
-    ensures most { result ≤ 1040400 }
+fn eight_squares(source: &Block16, samples: &Block16, from: usize) -> [u32; 8]
+    requires within { from + 8 ≤ 384 }
+    ensures value { (c : ℕ) → c < 8
+        → slice_index result c ≡ square_at source.now.at samples.now.at (from + c) }
+    ensures most { (c : ℕ) → c < 8 → slice_index result c ≤ 65025 }
 {
-    let mut sum = 0;
-    for c in 0..side {
-        sum += square(source.at[from + c], samples.at[from + c]);
+    let mut squares = [0; 8];
+    for c in 0..8 {
+        squares[c] = square(source.at[from + c], samples.at[from + c]);
     }
-    sum
+    squares
 }
 
-/// The squares of a plane of a macroblock, which begins at `from`.
+/// The same as lanes, so that the processor's own sum of products of neighbours is found.
 #[inline(always)]
-fn plane_squared(source: &Block16, samples: &Block16, side: usize, from: usize) -> u32
-    requires side { side ≤ 16 }
-    requires within { from + side * side ≤ 384 }
-    ensures value { result ≡ plane_squared_of source.now.at samples.now.at side from }
-    ensures most { result ≤ 16646400 }
+fn eight_lanes(source: &Block16, samples: &Block16, from: usize) -> u32x8
+    requires within { from + 8 ≤ 384 }
+    ensures len { length result ≡ 8 }
+    ensures sum { sum_l result ≡ sum_by (λ c. square_at source.now.at samples.now.at (from + c))
+        (range_with_len 0 8) }
+    ensures most { sum_l result ≤ 520200 }
 {
-    let mut sum = 0;
-    for line in 0..side {
-        sum += line_squared(source, samples, from + side * line, side);
-    }
-    sum
+    u32x8::from_array(eight_squares(source, samples, from))
 }
 
-/// The squares of the differences of all samples of a macroblock.
-#[tactic(auto, unfolding(crate::specs::Choice::squared))]
-pub fn squared(source: &Block16, samples: &Block16) -> u32
-    ensures value { result ≡ squared_of source.now.at samples.now.at }
-    ensures most { result ≤ 49939200 }
+/// The sums of lanes.
+#[inline(always)]
+fn plus(x: u32x8, y: u32x8) -> u32x8
+    requires x { length x ≡ 8 }
+    requires y { length y ≡ 8 }
+    requires fits { sum_l x + sum_l y < 2 ^ 32 }
+    ensures len { length result ≡ 8 }
+    ensures sum { sum_l result ≡ sum_l x + sum_l y }
 {
-    plane_squared(source, samples, 16, 0)
-        + plane_squared(source, samples, 8, 256)
-        + plane_squared(source, samples, 8, 320)
+    x.strict_add(y)
+}
+
+/// The sum of all lanes.
+#[inline(always)]
+fn total(x: u32x8) -> u32
+    requires { sum_l x < 2 ^ 32 }
+    ensures { result ≡ sum_l x }
+{
+    x.strict_reduce_sum()
+}
+
+/// The squares of a block's samples. Inlined, so that where its lines lie is known where the block is.
+#[inline(always)]
+fn lines_squared(source: &Block16, samples: &Block16, dct_field: bool, block: usize) -> u32
+    requires block { block < 6 }
+    ensures value { result ≡ block_squared_of dct_field source.now.at samples.now.at block }
+    ensures most { result ≤ 8323200 }
+{
+    let mut sums = u32x8::splat(0);
+    for line in 0..8 {
+        let from = line_place(dct_field, block, line);
+        sums = plus(sums, eight_lanes(source, samples, from));
+    }
+    total(sums)
 }
 
 /// The squares of a block's samples.
@@ -67,20 +90,36 @@ pub fn block_squared(source: &Block16, samples: &Block16, dct_field: bool, block
     ensures value { result ≡ block_squared_of dct_field source.now.at samples.now.at block }
     ensures most { result ≤ 8323200 }
 {
-    let mut sum = 0;
-    for line in 0..8 {
-        sum += line_squared(source, samples, line_place(dct_field, block, line), 8);
-    }
-    sum
+    lines_squared(source, samples, dct_field, block)
 }
 
 /// The squares of the six blocks of a prediction.
+#[inline(never)]
 pub fn part_squares(source: &Block16, samples: &Block16, dct_field: bool, out: &mut [u32; 6])
     ensures { AreSquares dct_field source.now.at samples.now.at out.new }
 {
-    for block in 0..6usize {
-        out[block] = block_squared(source, samples, dct_field, block);
-    }
+    *out = [
+        lines_squared(source, samples, dct_field, 0),
+        lines_squared(source, samples, dct_field, 1),
+        lines_squared(source, samples, dct_field, 2),
+        lines_squared(source, samples, dct_field, 3),
+        lines_squared(source, samples, dct_field, 4),
+        lines_squared(source, samples, dct_field, 5),
+    ];
+}
+
+/// The squares of the differences of all samples of a macroblock.
+#[inline(never)]
+pub fn squared(source: &Block16, samples: &Block16) -> u32
+    ensures value { result ≡ squared_of source.now.at samples.now.at }
+    ensures most { result ≤ 49939200 }
+{
+    lines_squared(source, samples, false, 0)
+        + lines_squared(source, samples, false, 1)
+        + lines_squared(source, samples, false, 2)
+        + lines_squared(source, samples, false, 3)
+        + lines_squared(source, samples, false, 4)
+        + lines_squared(source, samples, false, 5)
 }
 
 /// The squares of the blocks that aren't coded.

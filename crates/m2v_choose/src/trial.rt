@@ -1,5 +1,5 @@
 //! The best candidate of a macroblock so far, and candidates that are tried against it.
-ghost use Rattle.std.specs.Prelude.{◌≡◌, ◌≢◌, ℕ, ◌+◌, ◌*◌, ◌^◌, ◌≤◌, ◌<◌, ◌&&◌, ◌⊎◌, All, true, cond, slice_index, nat_le, if◌then◌else◌, [], ◌∷◌, false, replicate};
+ghost use Rattle.std.specs.Prelude.{◌≡◌, ◌≢◌, ℕ, ◌+◌, ◌*◌, ◌^◌, ◌≤◌, ◌<◌, ◌&&◌, ◌⊎◌, All, List, true, cond, slice_index, nat_le, if◌then◌else◌, [], ◌∷◌, false, replicate};
 ghost use Rattle.m2v_macro.specs.Conditions.{IsMacro};
 ghost use Rattle.m2v_macroblock.specs.Macroblocks.{macroblock_of};
 ghost use Rattle.m2v_macroblock.specs.Modes.{skipped_mode};
@@ -103,8 +103,14 @@ fn rebuilt_squares(
         (macroblock_of syntax.now levels.now) }
     ensures value { result ≡ squared_of task.now.source.now.at
         (rebuilt_by task.now prediction.now.at (macroblock_of syntax.now levels.now)) }
+    ensures still { syntax.now.pattern ≡ 0
+        → result ≡ squared_of task.now.source.now.at prediction.now.at }
     ensures most { result ≤ 49939200 }
 {
+    are_bytes(&prediction.at);
+    if syntax.pattern == 0 {
+        return squared(task.source, prediction);
+    }
     let quantiser = quantiser_behind(task, syntax);
     let kinds = kinds(task.context, syntax.kind.intra, quantiser);
     let mut rebuilt = *prediction;
@@ -342,17 +348,19 @@ impl Best {
         }
     }
 
-    /// Tries to skip the macroblock, whose prediction has these samples.
-    pub fn try_skipped(&mut self, task: &Task, prediction: &Block16)
+    /// Tries to skip the macroblock, whose prediction has these squares.
+    pub fn try_skipped(&mut self, task: &Task, squares: u32)
         requires task { IsTask task.now }
-        ensures tried { (r : References)
-            → prediction.now.at ≡ block_by
+        requires most { squares ≤ 49939200 }
+        ensures tried { (r : References) (prediction : List ℕ)
+            → prediction ≡ block_by
             (predicted r.forward r.backward
             (skipped_mode task.now.context.now task.now.state.now) (place_of (decided r task.now)))
+            → squares ≡ squared_of task.now.source.now.at prediction
             → IsRated (decided r task.now) self.old
             → Tried (decided r task.now) self.old self.new (skipped ∷ []) }
     {
-        let score = 8 * u64::from(squared(task.source, prediction));
+        let score = 8 * u64::from(squares);
         if score < self.below {
             let syntax = MacroSyntax::blank();
             self.take(&syntax, no_levels(), 0, score);
@@ -360,34 +368,32 @@ impl Best {
         }
     }
 
-    /// The macroblock as it is held: the first candidate, whatever its bits are.
-    pub fn held(
+    /// Holds the macroblock: the first candidate, whatever its bits are. Tells the squares of its samples.
+    pub fn hold_written(
+        &mut self,
         task: &Task,
         syntax: &MacroSyntax,
         levels: &[Levels; 6],
         prediction: &Block16,
-    ) -> Best
+    ) -> u32
         requires task { IsTask task.now }
         requires increment { syntax.now.increment ≡ task.now.increment }
         requires writable { IsWritable task.now.context.now task.now.first
             (macroblock_of syntax.now levels.now) }
-        ensures candidate { candidate_of result.choice
+        ensures candidate { candidate_of self.new.choice
             ≡ written syntax.now (levels_of levels.now) }
         ensures rated { (r : References) → Predicts r task.now syntax.now prediction.now.at
-            → IsRated (decided r task.now) result }
+            → IsRated (decided r task.now) self.new }
         ensures score { (r : References) → Predicts r task.now syntax.now prediction.now.at
-            → result.below ≡ score (decided r task.now) (candidate_of result.choice) }
+            → self.new.below ≡ score (decided r task.now) (candidate_of self.new.choice) }
+        ensures still { syntax.now.pattern ≡ 0
+            → result ≡ squared_of task.now.source.now.at prediction.now.at }
+        ensures most { result ≤ 49939200 }
     {
         let bits = bits_of(task, syntax, levels);
         let squares = rebuilt_squares(task, syntax, levels, prediction);
-        Best {
-            choice: Choice {
-                skip: false,
-                syntax: *syntax,
-                levels: *levels,
-                bits,
-            },
-            below: 8 * u64::from(squares) + bit_cost(task.limits, bits),
-        }
+        let score = 8 * u64::from(squares) + bit_cost(task.limits, bits);
+        self.take(syntax, levels, bits, score);
+        squares
     }
 }

@@ -8,10 +8,10 @@ use Rattle.m2v_choose.proofs.choice.choose_in.Given as given
 use Rattle.m2v_choose.proofs.choice.choose_in.Goals as goal
 
 -- what is decided
-decision_of : (g : given.Over) (c : goal.After-choose_for g) → Decision
+decision_of : (g : given.Over) (c : goal.After-result-1 g) → Decision
 decision_of g c = decision (g.V.RefView.size c.args.forward.now) c.args.source.now.at (g.V.RefView.at c.args.forward.now) (g.V.RefView.at c.args.backward.now) c.args.context.now c.args.state.now c.args.limits.now
 
-short : (g : given.Over) (c : goal.After-choose_for g) → Fits (decision_of g c) (choice_of (decision_of g c))
+short : (g : given.Over) (c : goal.After-result-1 g) → Fits (decision_of g c) (choice_of (decision_of g c))
 unfolding decision_of
 short g c =
     let r = references_of (g.V.RefView.size c.args.forward.now) (g.V.RefView.at c.args.forward.now) (g.V.RefView.at c.args.backward.now) in
@@ -31,7 +31,7 @@ short g c =
     let columns = ap (λ (x : Decision). x.context.columns) same in
     choice_short d c.requires.own c.requires.state.predictors (omega (arith, increment, task.some)) (omega (arith, increment, task.most, columns)) c.requires.room
 
-bits_is : (g : given.Over) (c : goal.After-choose_for g) → c.choose_for.result.bits ≡ bits_taken (decision_of g c) (choice_of (decision_of g c))
+bits_is : (g : given.Over) (c : goal.After-result-1 g) → c.decide.new.self.choice.bits ≡ bits_taken (decision_of g c) (choice_of (decision_of g c))
 unfolding decision_of
 bits_is g c =
     let r = references_of (g.V.RefView.size c.args.forward.now) (g.V.RefView.at c.args.forward.now) (g.V.RefView.at c.args.backward.now) in
@@ -45,7 +45,7 @@ bits_is g c =
       state = c.task_of-task.ensures.state i;
       limits = c.task_of-task.ensures.limits i;
     } in
-    c.choose_for.ensures.bits ∙ ap (λ (d : Decision). bits_taken d (choice_of d)) same
+    c.decide.ensures.bits ∙ ap (λ (d : Decision). bits_taken d (choice_of d)) same
 
 pub returns-clause-most : goal.returns-clause-most
 returns-clause-most g c = let h = short g c in omega (arith, h.most, bits_is g c)

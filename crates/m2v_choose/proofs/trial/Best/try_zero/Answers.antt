@@ -1,42 +1,40 @@
 use Rattle.std.proofs.Common.{false, sym, ◌∙◌, ap, subst}
 use Rattle.std.specs.Prelude.{nat_eq, ◌∷◌, []}
-use Rattle.std.proofs.lemmas.Bool.{eq-eqb, ne_eqb, true≢false}
+use Rattle.std.proofs.lemmas.Bool.{eq-eqb, ne_eqb}
 use Rattle.m2v_macro.specs.declared.values.MacroSyntax.{MacroSyntax}
 use Rattle.m2v_choose.specs.Candidates.{zero_prediction}
-use Rattle.m2v_choose.specs.Trials.{decided, references_of, direction_by, CanTry}
-use Rattle.m2v_choose.proofs.Motions.{zero_can, zero_is, zero_tried, nothing_tried, moving_backward, zero_bare}
+use Rattle.m2v_choose.specs.Trials.{decided, direction_by, CanCode}
+use Rattle.m2v_choose.proofs.Motions.{zero_code, zero_is, zero_tried, nothing_tried, moving_pattern, zero_bare}
+use Rattle.m2v_choose.proofs.Still.{zero_samples}
 use Rattle.m2v_choose.proofs.trial.Best.try_zero.Goals as goal
 
-pub try_prediction-requires-clause-can : goal.try_prediction-requires-clause-can
-try_prediction-requires-clause-can g c =
-    let r = references_of (g.V.RefView.size c.args.forward.now) (g.V.RefView.at c.args.forward.now) (g.V.RefView.at c.args.backward.now) in
-    let t = c.args.task.now in
+pub try_samples-requires-clause-code : goal.try_samples-requires-clause-code
+try_samples-requires-clause-code c =
     let none = direction_by c.no_vectors-none.result in
-    subst (λ (m : MacroSyntax). CanTry t r.dims (g.V.RefView.Holds c.args.forward.now) (g.V.RefView.Holds c.args.backward.now) m false) (sym c.moving_syntax-m.ensures)
-    (zero_can t r (g.V.RefView.Holds c.args.forward.now) (g.V.RefView.Holds c.args.backward.now) c.requires.task (g.V.RefView.size c.args.backward.now) c.requires.references
-    c.no_form.result none none c.no_form.ensures c.if-task-eq2.true)
+    subst (CanCode c.args.task.now) (sym c.moving_syntax-m.ensures) (zero_code c.args.task.now c.requires.task c.no_form.result none none c.no_form.ensures c.if-task-eq2.true)
 
-pub try_prediction-requires-clause-size : goal.try_prediction-requires-clause-size
-try_prediction-requires-clause-size g c = λ e.
-    let t = c.args.task.now in
+pub try_samples-requires-clause-stands : goal.try_samples-requires-clause-stands
+try_samples-requires-clause-stands c = λ e. absurd cc
+
+pub try_samples-requires-clause-pattern : goal.try_samples-requires-clause-pattern
+try_samples-requires-clause-pattern c =
     let none = direction_by c.no_vectors-none.result in
-    absurd (true≢false (sym e ∙ ap (λ (m : MacroSyntax). m.kind.backward) c.moving_syntax-m.ensures ∙ moving_backward t.increment c.no_form.result false false none none))
+    ap (λ (m : MacroSyntax). m.pattern) c.moving_syntax-m.ensures ∙ moving_pattern c.args.task.now.increment c.no_form.result false false none none
 
 pub returns-then-task-eq2 : goal.returns-then-task-eq2
-returns-then-task-eq2 g c = record {
-  tried = λ rated.
-      let r = references_of (g.V.RefView.size c.args.forward.now) (g.V.RefView.at c.args.forward.now) (g.V.RefView.at c.args.backward.now) in
+returns-then-task-eq2 c = record {
+  tried = λ r still rated.
       let t = c.args.task.now in
       let d = decided r t in
       let none = direction_by c.no_vectors-none.result in
-      zero_tried d c.args.self.now c.try_prediction.new.self (eq-eqb _ _ c.if-task-eq2.true)
-      (c.try_prediction.ensures.tried (zero_prediction d) (c.moving_syntax-m.ensures ∙ zero_is t r c.no_form.result none none c.requires.task c.no_form.ensures) (zero_bare d) rated);
+      zero_tried d c.args.self.now c.try_samples.new.self (eq-eqb _ _ c.if-task-eq2.true)
+      (c.try_samples.ensures.tried r (zero_prediction d) (c.moving_syntax-m.ensures ∙ zero_is t r c.no_form.result none none c.requires.task c.no_form.ensures) (zero_bare d)
+      (still c.if-task-eq2.true ∙ sym (zero_samples t r)) rated);
 }
 
 pub returns-else-task-eq2 : goal.returns-else-task-eq2
-returns-else-task-eq2 g c = record {
-  tried = λ rated.
-      let r = references_of (g.V.RefView.size c.args.forward.now) (g.V.RefView.at c.args.forward.now) (g.V.RefView.at c.args.backward.now) in
+returns-else-task-eq2 c = record {
+  tried = λ r still rated.
       let d = decided r c.args.task.now in
       nothing_tried d (nat_eq d.context.kind 2) (zero_prediction d ∷ []) c.args.self.now (ne_eqb _ _ c.if-task-eq2.false) rated;
 }
