@@ -16,7 +16,9 @@ mod size;
 mod state;
 mod stop;
 
-pub use chain_laws::{law_chained, law_cut, law_fields_painted, law_macroblocks_painted, law_painted};
+pub use chain_laws::{
+    law_chained, law_cut, law_fields_painted, law_macroblocks_painted, law_painted,
+};
 pub use fault::FaultKind;
 pub use laws::{
     law_by_pieces, law_macroblock_spelled, law_one_verdict, law_pictures_in_turn, law_prefix,

@@ -19,7 +19,7 @@ loop-rest-preserved c =
     let fits : SFits w32 (get_or levels (at + run) (pos 0)) = search rules in
     let level = to_z w32 (of_z w32 (get_or levels (at + run) (pos 0))) in
     let next = ap length (next_pair false one levels at run level (omega (arith, len, c.run_at-run.ensures.within)) c.run_at-run.ensures.zeros (to_z-of_z w32 (get_or levels (at + run) (pos 0)) fits) c.run_at-run.ensures.some)
-        ∙ length-append (pair_text false one run level) (pairs_text false one 0 (drop (at + run + 1) levels)) in
+    ∙ length-append (pair_text false one run level) (pairs_text false one 0 (drop (at + run + 1) levels)) in
     let whole = pairs_bound one (drop c.args.from levels) (omega (arith, length-drop c.args.from levels, len)) in
     record {
       bits = omega (arith, c.loop-rest.invariant.bits, next, c.pair_bits-bits.ensures.value);
