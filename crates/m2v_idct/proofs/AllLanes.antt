@@ -129,9 +129,11 @@ module _ (p : List ℤ) (long : length p ≡ 16) (small : All (Within 134217728)
   two_lanes =
       let h = wider 134217728 2147483647 (omega arith) p small in
       let a = small (2 * k) (pos 0) (omega (arith, long, lt)) in
-      let b = small (2 * k + 1) (pos 0) (omega (arith, long, lt)) in
-      (left_lane w32 2147483647 fits_word p p (2 * k) (omega (arith, long, lt)) h, left_lane w32 2147483647 fits_word p p (2 * k + 1) (omega (arith, long, lt)) h,
-       (omega (arith, ints, a, b), omega (arith, ints, a, b)))
+      let b = small (2 * k + 1) (pos 0) (omega (arith, long, lt)) in (
+        left_lane w32 2147483647 fits_word p p (2 * k) (omega (arith, long, lt)) h,
+        left_lane w32 2147483647 fits_word p p (2 * k + 1) (omega (arith, long, lt)) h,
+        (omega (arith, ints, a, b), omega (arith, ints, a, b)),
+      )
 
   pub neighbours_fit : SFits w32 (lane p (2 * k) +ℤ lane p (2 * k + 1))
   neighbours_fit = rw (two_lanes.0, two_lanes.1) (fits 268435456 _ (omega arith) two_lanes.2)

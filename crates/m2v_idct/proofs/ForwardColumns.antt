@@ -25,9 +25,31 @@ module _ (part : List ℤ) (long : length part ≡ 64) (small : All (Within 8191
   woven_small y z ly lz =
       let f = λ (k : ℕ) (lk : k < 8). at_small y ly k lk in
       let g = λ (k : ℕ) (lk : k < 8). at_small z lz k lk in
-      All-from_recursion (Within 8191) (woven (at part y) (at part z))
-      (f 0 (omega arith), (g 0 (omega arith), (f 1 (omega arith), (g 1 (omega arith), (f 2 (omega arith), (g 2 (omega arith), (f 3 (omega arith), (g 3 (omega arith),
-      (f 4 (omega arith), (g 4 (omega arith), (f 5 (omega arith), (g 5 (omega arith), (f 6 (omega arith), (g 6 (omega arith), (f 7 (omega arith), (g 7 (omega arith), tt))))))))))))))))
+      All-from_recursion (Within 8191) (woven (at part y) (at part z)) (
+        f 0 (omega arith),
+        (
+          g 0 (omega arith),
+          (
+            f 1 (omega arith),
+            (
+              g 1 (omega arith),
+              (
+                f 2 (omega arith),
+                (
+                  g 2 (omega arith),
+                  (
+                    f 3 (omega arith),
+                    (
+                      g 3 (omega arith),
+                      (f 4 (omega arith), (g 4 (omega arith), (f 5 (omega arith), (g 5 (omega arith), (f 6 (omega arith), (g 6 (omega arith), (f 7 (omega arith), (g 7 (omega arith), tt)))))))),
+                    ),
+                  ),
+                ),
+              ),
+            ),
+          ),
+        ),
+      )
 
   -- two of them woven
   module _ (y z : ℕ) (ly : y < 8) (lz : z < 8) (a b r : List ℤ) (ea : a ≡ eight (at part y)) (eb : b ≡ eight (at part z)) where

@@ -132,9 +132,9 @@ module _ (g : ℕ → ℤ) where
           s_is : s ≡ eight (λ u. pos 8 *ℤ projection u g)
           s_is =
               let a_is = told_is w32 2147483647 fits_word a (wider 268435456 2147483647 (omega arith) a ha) ∙ ea
-                  ∙ ap (λ (t : List ℤ). neighbours (times first_cosines t)) (told_as w16 32767 fits_short 512 p _ (omega arith) p_is first_small) in
+              ∙ ap (λ (t : List ℤ). neighbours (times first_cosines t)) (told_as w16 32767 fits_short 512 p _ (omega arith) p_is first_small) in
               let b_is = told_is w32 2147483647 fits_word b (wider 268435456 2147483647 (omega arith) b hb) ∙ eb
-                  ∙ ap (λ (t : List ℤ). neighbours (times second_cosines t)) (told_as w16 32767 fits_short 512 q _ (omega arith) q_is second_small) in
+              ∙ ap (λ (t : List ℤ). neighbours (times second_cosines t)) (told_as w16 32767 fits_short 512 q _ (omega arith) q_is second_small) in
               es ∙ (λ i. zip2 (λ (y z : ℤ). y +ℤ z) (a_is i) (b_is i)) ∙ lanes_are
 
           pub sums_are : word_told s ≡ eight (λ u. pos 8 *ℤ projection u g)

@@ -82,9 +82,6 @@ shr16_high (negsuc a) = omega (arith, ints)
 pub high_small : (z : ℤ) → Within 67200000 z → Within 1100 (high_of z)
 high_small z h = let l = shr16_low z in let u = shr16_high z in (omega (arith, ints, h, l, u), omega (arith, ints, h, l, u))
 
-
-
-
 abbrev rest : ℤ → ℤ
 rest z = z -ℤ pos 65536 *ℤ high_of z
 

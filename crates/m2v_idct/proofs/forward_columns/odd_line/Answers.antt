@@ -30,9 +30,9 @@ returns c =
     let ec = to_z-of_z w16 c.args.c c.ranges.c in let ed = to_z-of_z w16 c.args.d c.ranges.d in
     let x = c.args.high in let y = c.args.low in
     let h = told_is w32 2147483647 fits_word c.odd_sums.result (wider 536870912 2147483647 (omega arith) c.odd_sums.result c.odd_sums.ensures.within) ∙ c.odd_sums.ensures.value
-        ∙ (λ i. two_weighed x.outer x.inner (ea i) (eb i) (ec i) (ed i)) in
+    ∙ (λ i. two_weighed x.outer x.inner (ea i) (eb i) (ec i) (ed i)) in
     let l = told_is w32 2147483647 fits_word c.odd_sums-2.result (wider 536870912 2147483647 (omega arith) c.odd_sums-2.result c.odd_sums-2.ensures.within) ∙ c.odd_sums-2.ensures.value
-        ∙ (λ i. two_weighed y.outer y.inner (ea i) (eb i) (ec i) (ed i)) in
+    ∙ (λ i. two_weighed y.outer y.inner (ea i) (eb i) (ec i) (ed i)) in
     let r = c.rounded_lanes.result in
     record {
       value = told_is w32 2147483647 fits_word r (wider 600000000 2147483647 (omega arith) r c.rounded_lanes.ensures.within) ∙ c.rounded_lanes.ensures.value ∙ (λ i. all_rounded (h i) (l i));

@@ -114,29 +114,29 @@ returns c =
     let g : ℕ → ℕ → ℤ = λ v k. rounded (projection v (both p q k)) in
     let h = c.fold_columns-h in let l = c.fold_columns-l in
     let r0 = λ (k : ℕ) (lk : k < 8). c.put_line.ensures.row k lk ∙ even_told_at h.result.even l.result.even c.even_line.result (λ k. p 0 k +ℤ p 7 k +ℤ (p 3 k +ℤ p 4 k)) (λ k. p 1 k +ℤ p 6 k +ℤ (p 2 k +ℤ p 5 k)) (λ k. q 0 k +ℤ q 7 k +ℤ (q 3 k +ℤ q 4 k)) (λ k. q 1 k +ℤ q 6 k +ℤ (q 2 k +ℤ q 5 k))
-        (pos 2896) (pos 2896) h.ensures.even (evens_small c.args.high.now c.told-high c.requires.high) l.ensures.even (evens_small c.args.low.now c.told-low c.requires.low)
-        c.even_line.ensures.value c.even_line.ensures.within k lk ∙ ap rounded (sum_0 p q k) in
+    (pos 2896) (pos 2896) h.ensures.even (evens_small c.args.high.now c.told-high c.requires.high) l.ensures.even (evens_small c.args.low.now c.told-low c.requires.low)
+    c.even_line.ensures.value c.even_line.ensures.within k lk ∙ ap rounded (sum_0 p q k) in
     let r1 = λ (k : ℕ) (lk : k < 8). c.put_line-2.ensures.row k lk ∙ odd_told_at h.result.outer h.result.inner l.result.outer l.result.inner c.odd_line.result
-        (λ k. p 0 k -ℤ p 7 k) (λ k. p 1 k -ℤ p 6 k) (λ k. p 3 k -ℤ p 4 k) (λ k. p 2 k -ℤ p 5 k) (λ k. q 0 k -ℤ q 7 k) (λ k. q 1 k -ℤ q 6 k) (λ k. q 3 k -ℤ q 4 k) (λ k. q 2 k -ℤ q 5 k)
-        (pos 4017) (pos 3406) (pos 2276) (pos 799) h.ensures.outer h.ensures.inner l.ensures.outer l.ensures.inner c.odd_line.ensures.value c.odd_line.ensures.within k lk ∙ ap rounded (sum_1 p q k) in
+    (λ k. p 0 k -ℤ p 7 k) (λ k. p 1 k -ℤ p 6 k) (λ k. p 3 k -ℤ p 4 k) (λ k. p 2 k -ℤ p 5 k) (λ k. q 0 k -ℤ q 7 k) (λ k. q 1 k -ℤ q 6 k) (λ k. q 3 k -ℤ q 4 k) (λ k. q 2 k -ℤ q 5 k)
+    (pos 4017) (pos 3406) (pos 2276) (pos 799) h.ensures.outer h.ensures.inner l.ensures.outer l.ensures.inner c.odd_line.ensures.value c.odd_line.ensures.within k lk ∙ ap rounded (sum_1 p q k) in
     let r2 = λ (k : ℕ) (lk : k < 8). c.put_line-3.ensures.row k lk ∙ even_told_at h.result.odd l.result.odd c.even_line-2.result (λ k. p 0 k +ℤ p 7 k -ℤ (p 3 k +ℤ p 4 k)) (λ k. p 1 k +ℤ p 6 k -ℤ (p 2 k +ℤ p 5 k)) (λ k. q 0 k +ℤ q 7 k -ℤ (q 3 k +ℤ q 4 k)) (λ k. q 1 k +ℤ q 6 k -ℤ (q 2 k +ℤ q 5 k))
-        (pos 3784) (pos 1567) h.ensures.odd (odds_small c.args.high.now c.told-high c.requires.high) l.ensures.odd (odds_small c.args.low.now c.told-low c.requires.low)
-        c.even_line-2.ensures.value c.even_line-2.ensures.within k lk ∙ ap rounded (sum_2 p q k) in
+    (pos 3784) (pos 1567) h.ensures.odd (odds_small c.args.high.now c.told-high c.requires.high) l.ensures.odd (odds_small c.args.low.now c.told-low c.requires.low)
+    c.even_line-2.ensures.value c.even_line-2.ensures.within k lk ∙ ap rounded (sum_2 p q k) in
     let r3 = λ (k : ℕ) (lk : k < 8). c.put_line-4.ensures.row k lk ∙ odd_told_at h.result.outer h.result.inner l.result.outer l.result.inner c.odd_line-2.result
-        (λ k. p 0 k -ℤ p 7 k) (λ k. p 1 k -ℤ p 6 k) (λ k. p 3 k -ℤ p 4 k) (λ k. p 2 k -ℤ p 5 k) (λ k. q 0 k -ℤ q 7 k) (λ k. q 1 k -ℤ q 6 k) (λ k. q 3 k -ℤ q 4 k) (λ k. q 2 k -ℤ q 5 k)
-        (pos 3406) (neg_ℤ (pos 799)) (neg_ℤ (pos 4017)) (neg_ℤ (pos 2276)) h.ensures.outer h.ensures.inner l.ensures.outer l.ensures.inner c.odd_line-2.ensures.value c.odd_line-2.ensures.within k lk ∙ ap rounded (sum_3 p q k) in
+    (λ k. p 0 k -ℤ p 7 k) (λ k. p 1 k -ℤ p 6 k) (λ k. p 3 k -ℤ p 4 k) (λ k. p 2 k -ℤ p 5 k) (λ k. q 0 k -ℤ q 7 k) (λ k. q 1 k -ℤ q 6 k) (λ k. q 3 k -ℤ q 4 k) (λ k. q 2 k -ℤ q 5 k)
+    (pos 3406) (neg_ℤ (pos 799)) (neg_ℤ (pos 4017)) (neg_ℤ (pos 2276)) h.ensures.outer h.ensures.inner l.ensures.outer l.ensures.inner c.odd_line-2.ensures.value c.odd_line-2.ensures.within k lk ∙ ap rounded (sum_3 p q k) in
     let r4 = λ (k : ℕ) (lk : k < 8). c.put_line-5.ensures.row k lk ∙ even_told_at h.result.even l.result.even c.even_line-3.result (λ k. p 0 k +ℤ p 7 k +ℤ (p 3 k +ℤ p 4 k)) (λ k. p 1 k +ℤ p 6 k +ℤ (p 2 k +ℤ p 5 k)) (λ k. q 0 k +ℤ q 7 k +ℤ (q 3 k +ℤ q 4 k)) (λ k. q 1 k +ℤ q 6 k +ℤ (q 2 k +ℤ q 5 k))
-        (pos 2896) (neg_ℤ (pos 2896)) h.ensures.even (evens_small c.args.high.now c.told-high c.requires.high) l.ensures.even (evens_small c.args.low.now c.told-low c.requires.low)
-        c.even_line-3.ensures.value c.even_line-3.ensures.within k lk ∙ ap rounded (sum_4 p q k) in
+    (pos 2896) (neg_ℤ (pos 2896)) h.ensures.even (evens_small c.args.high.now c.told-high c.requires.high) l.ensures.even (evens_small c.args.low.now c.told-low c.requires.low)
+    c.even_line-3.ensures.value c.even_line-3.ensures.within k lk ∙ ap rounded (sum_4 p q k) in
     let r5 = λ (k : ℕ) (lk : k < 8). c.put_line-6.ensures.row k lk ∙ odd_told_at h.result.outer h.result.inner l.result.outer l.result.inner c.odd_line-3.result
-        (λ k. p 0 k -ℤ p 7 k) (λ k. p 1 k -ℤ p 6 k) (λ k. p 3 k -ℤ p 4 k) (λ k. p 2 k -ℤ p 5 k) (λ k. q 0 k -ℤ q 7 k) (λ k. q 1 k -ℤ q 6 k) (λ k. q 3 k -ℤ q 4 k) (λ k. q 2 k -ℤ q 5 k)
-        (pos 2276) (neg_ℤ (pos 4017)) (pos 799) (pos 3406) h.ensures.outer h.ensures.inner l.ensures.outer l.ensures.inner c.odd_line-3.ensures.value c.odd_line-3.ensures.within k lk ∙ ap rounded (sum_5 p q k) in
+    (λ k. p 0 k -ℤ p 7 k) (λ k. p 1 k -ℤ p 6 k) (λ k. p 3 k -ℤ p 4 k) (λ k. p 2 k -ℤ p 5 k) (λ k. q 0 k -ℤ q 7 k) (λ k. q 1 k -ℤ q 6 k) (λ k. q 3 k -ℤ q 4 k) (λ k. q 2 k -ℤ q 5 k)
+    (pos 2276) (neg_ℤ (pos 4017)) (pos 799) (pos 3406) h.ensures.outer h.ensures.inner l.ensures.outer l.ensures.inner c.odd_line-3.ensures.value c.odd_line-3.ensures.within k lk ∙ ap rounded (sum_5 p q k) in
     let r6 = λ (k : ℕ) (lk : k < 8). c.put_line-7.ensures.row k lk ∙ even_told_at h.result.odd l.result.odd c.even_line-4.result (λ k. p 0 k +ℤ p 7 k -ℤ (p 3 k +ℤ p 4 k)) (λ k. p 1 k +ℤ p 6 k -ℤ (p 2 k +ℤ p 5 k)) (λ k. q 0 k +ℤ q 7 k -ℤ (q 3 k +ℤ q 4 k)) (λ k. q 1 k +ℤ q 6 k -ℤ (q 2 k +ℤ q 5 k))
-        (pos 1567) (neg_ℤ (pos 3784)) h.ensures.odd (odds_small c.args.high.now c.told-high c.requires.high) l.ensures.odd (odds_small c.args.low.now c.told-low c.requires.low)
-        c.even_line-4.ensures.value c.even_line-4.ensures.within k lk ∙ ap rounded (sum_6 p q k) in
+    (pos 1567) (neg_ℤ (pos 3784)) h.ensures.odd (odds_small c.args.high.now c.told-high c.requires.high) l.ensures.odd (odds_small c.args.low.now c.told-low c.requires.low)
+    c.even_line-4.ensures.value c.even_line-4.ensures.within k lk ∙ ap rounded (sum_6 p q k) in
     let r7 = λ (k : ℕ) (lk : k < 8). c.put_line-8.ensures.row k lk ∙ odd_told_at h.result.outer h.result.inner l.result.outer l.result.inner c.odd_line-4.result
-        (λ k. p 0 k -ℤ p 7 k) (λ k. p 1 k -ℤ p 6 k) (λ k. p 3 k -ℤ p 4 k) (λ k. p 2 k -ℤ p 5 k) (λ k. q 0 k -ℤ q 7 k) (λ k. q 1 k -ℤ q 6 k) (λ k. q 3 k -ℤ q 4 k) (λ k. q 2 k -ℤ q 5 k)
-        (pos 799) (neg_ℤ (pos 2276)) (pos 3406) (neg_ℤ (pos 4017)) h.ensures.outer h.ensures.inner l.ensures.outer l.ensures.inner c.odd_line-4.ensures.value c.odd_line-4.ensures.within k lk ∙ ap rounded (sum_7 p q k) in
+    (λ k. p 0 k -ℤ p 7 k) (λ k. p 1 k -ℤ p 6 k) (λ k. p 3 k -ℤ p 4 k) (λ k. p 2 k -ℤ p 5 k) (λ k. q 0 k -ℤ q 7 k) (λ k. q 1 k -ℤ q 6 k) (λ k. q 3 k -ℤ q 4 k) (λ k. q 2 k -ℤ q 5 k)
+    (pos 799) (neg_ℤ (pos 2276)) (pos 3406) (neg_ℤ (pos 4017)) h.ensures.outer h.ensures.inner l.ensures.outer l.ensures.inner c.odd_line-4.ensures.value c.odd_line-4.ensures.within k lk ∙ ap rounded (sum_7 p q k) in
     let d0 = line_more 0 c.args.out.now c.put_line.new.out g (λ v k lv lk. absurd (omega arith)) r0 c.put_line.ensures.rest in
     let d1 = line_more 1 c.put_line.new.out c.put_line-2.new.out g d0 r1 c.put_line-2.ensures.rest in
     let d2 = line_more 2 c.put_line-2.new.out c.put_line-3.new.out g d1 r2 c.put_line-3.ensures.rest in

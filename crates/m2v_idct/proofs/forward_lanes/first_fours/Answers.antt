@@ -5,9 +5,19 @@ use Rattle.m2v_idct.proofs.forward_lanes.first_fours.Goals as goal
 pub overflow_cast-result : goal.overflow_cast-result
 overflow_cast-result c =
     let l = of_left c.args.x c.args.y c.requires.x c.requires.y c.requires.x_within c.requires.y_within in
-    let r = of_right c.args.x c.args.y c.requires.x c.requires.y c.requires.x_within c.requires.y_within in
-    ((l 0 (omega arith)).0, ((l 1 (omega arith)).0, ((l 2 (omega arith)).0, ((l 3 (omega arith)).0,
-    ((r 0 (omega arith)).0, ((r 1 (omega arith)).0, ((r 2 (omega arith)).0, ((r 3 (omega arith)).0, tt))))))))
+    let r = of_right c.args.x c.args.y c.requires.x c.requires.y c.requires.x_within c.requires.y_within in (
+      (l 0 (omega arith)).0,
+      (
+        (l 1 (omega arith)).0,
+        (
+          (l 2 (omega arith)).0,
+          (
+            (l 3 (omega arith)).0,
+            ((r 0 (omega arith)).0, ((r 1 (omega arith)).0, ((r 2 (omega arith)).0, ((r 3 (omega arith)).0, tt)))),
+          ),
+        ),
+      ),
+    )
 
 pub returns : goal.returns
 returns c =
