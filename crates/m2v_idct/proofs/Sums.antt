@@ -12,7 +12,7 @@ times_zero c = omega (arith, ints)
 pub plus_plus : (a b c : ℤ) → (a +ℤ b) +ℤ c ≡ a +ℤ (b +ℤ c)
 plus_plus a b c = omega (arith, ints)
 
-pub crossed : (a b c d : ℤ) → (a +ℤ b) +ℤ (c +ℤ d) ≡ (a +ℤ c) +ℤ (b +ℤ d)
+crossed : (a b c d : ℤ) → (a +ℤ b) +ℤ (c +ℤ d) ≡ (a +ℤ c) +ℤ (b +ℤ d)
 crossed a b c d = omega (arith, ints)
 
 crossed_less : (a b c d : ℤ) → (a -ℤ b) +ℤ (c -ℤ d) ≡ (a +ℤ c) -ℤ (b +ℤ d)
@@ -28,7 +28,7 @@ times_plus_down zero a b = omega (arith, ints)
 times_plus_down (suc n) a b =
     rw (pred_ℤ-*ℤ (negsuc n) a, pred_ℤ-*ℤ (negsuc n) b, pred_ℤ-*ℤ (negsuc n) (a +ℤ b), ← times_plus_down n a b) (crossed_less (negsuc n *ℤ a) a (negsuc n *ℤ b) b)
 
-pub times_plus : (c a b : ℤ) → c *ℤ a +ℤ c *ℤ b ≡ c *ℤ (a +ℤ b)
+times_plus : (c a b : ℤ) → c *ℤ a +ℤ c *ℤ b ≡ c *ℤ (a +ℤ b)
 times_plus (pos n) a b = times_plus_up n a b
 times_plus (negsuc n) a b = times_plus_down n a b
 
@@ -53,22 +53,12 @@ unfolding sum_below
 sum_below-times zero c g = times_zero c
 sum_below-times (suc n) c g = ap (λ s. s +ℤ c *ℤ g n) (sum_below-times n c g) ∙ times_plus c (sum_below n g) (g n)
 
-pub sum_below-plus : (n : ℕ) (g h : ℕ → ℤ) → sum_below n (λ k. g k +ℤ h k) ≡ sum_below n g +ℤ sum_below n h
-unfolding sum_below
-sum_below-plus zero g h = refl
-sum_below-plus (suc n) g h = ap (λ s. s +ℤ (g n +ℤ h n)) (sum_below-plus n g h) ∙ crossed (sum_below n g) (sum_below n h) (g n) (h n)
-
 -- n lines of m are n times m
 pub sum_below-lines : (n m : ℕ) (g : ℕ → ℤ) → sum_below n (λ y. sum_below m (λ x. g (m * y + x))) ≡ sum_below (m * n) g
 unfolding sum_below
 sum_below-lines zero m g = rw mul-zero refl
 sum_below-lines (suc n) m g =
     ap (λ s. s +ℤ sum_below m (λ x. g (m * n + x))) (sum_below-lines n m g) ∙ sym (sum_below-add (m * n) m g) ∙ (let e : m * n + m ≡ m * suc n = omega arith in ap (λ k. sum_below k g) e)
-
-pub sum_below-zero : (n : ℕ) → sum_below n (λ k. pos 0) ≡ pos 0
-unfolding sum_below
-sum_below-zero zero = refl
-sum_below-zero (suc n) = ap (λ s. s +ℤ pos 0) (sum_below-zero n)
 
 plus_times : (a b c : ℤ) → (a +ℤ b) *ℤ c ≡ a *ℤ c +ℤ b *ℤ c
 plus_times a b c =

@@ -31,8 +31,8 @@ fn two_lines(part: &[i16; 64], y: usize, z: usize) -> i16x16
     weave(line(part, y), line(part, z))
 }
 
-// The even and the odd parts of the columns, as lines that are woven: of the even parts the even and the odd part
-// again, and of the odd ones the outer and the inner lines.
+// Of the columns' even parts the even and the odd part again, and of their odd parts the outer and the inner lines. Each
+// is two lines, woven into one.
 #[derive(Clone, Copy)]
 struct Folded {
     even: i16x16,

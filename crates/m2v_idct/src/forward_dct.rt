@@ -1,7 +1,7 @@
-ghost use Rattle.std.specs.Prelude.{◌≡◌, ◌<◌, ◌+◌, ◌*◌, ℕ, All, ◌*ℤ◌, ◌≤ℤ◌, map, pos, neg_ℤ};
-ghost use Rattle.m2v_idct.specs.Block.{at, nth};
-ghost use Rattle.m2v_idct.specs.Forward.{forward_at, forward_of, projection, projections, rounded};
-ghost use Rattle.m2v_idct.specs.Ranges.{IsCoefficient, IsDoubleSum, IsSample, Within};
+ghost use Rattle.std.specs.Prelude.{◌≡◌, All, ◌*ℤ◌, ◌≤ℤ◌, pos, neg_ℤ};
+ghost use Rattle.m2v_idct.specs.Block.{nth};
+ghost use Rattle.m2v_idct.specs.Forward.{forward_at, forward_of, rounded};
+ghost use Rattle.m2v_idct.specs.Ranges.{IsCoefficient, IsDoubleSum, IsSample};
 ghost use Rattle.m2v_idct.specs.Sums.{sum_below};
 
 use crate::forward_columns::transform_columns;

@@ -1,5 +1,5 @@
 //! The steps of which the forward transform is made, each on all lanes: 16 bits hold what is multiplied, and 32 the sums
-//! of the products of neighbours, which is one instruction of the processor.
+//! of the products of neighbours.
 ghost use Rattle.std.specs.Prelude.{◌≡◌, ◌-◌, All, ◌∷◌, [], ◌+ℤ◌, ◌-ℤ◌, ◌*ℤ◌, length, map, pos};
 ghost use Rattle.std.specs.Int.{int_shr};
 ghost use Rattle.std.specs.Simd.Lanes.{zip2};
@@ -9,7 +9,7 @@ ghost use Rattle.m2v_idct.specs.Ranges.{Within};
 
 use std::simd::prelude::*;
 
-// A number of either line in turn.
+// A number of either line in turn, so that those which are multiplied and added are neighbours.
 #[inline(always)]
 pub fn weave(x: i16x8, y: i16x8) -> i16x16
     requires x { length x ≡ 8 }
@@ -21,6 +21,7 @@ pub fn weave(x: i16x8, y: i16x8) -> i16x16
     x.shuffle(y, [0, 8, 1, 9, 2, 10, 3, 11, 4, 12, 5, 13, 6, 14, 7, 15])
 }
 
+// Lines that are woven, each plus another.
 #[inline(always)]
 pub fn sums(x: i16x16, y: i16x16) -> i16x16
     requires x { All (Within 16383) x }
@@ -30,6 +31,7 @@ pub fn sums(x: i16x16, y: i16x16) -> i16x16
     x.strict_add(y)
 }
 
+// Lines that are woven, each less another.
 #[inline(always)]
 pub fn differences(x: i16x16, y: i16x16) -> i16x16
     requires x { All (Within 16383) x }
@@ -39,6 +41,7 @@ pub fn differences(x: i16x16, y: i16x16) -> i16x16
     x.strict_sub(y)
 }
 
+// Products in 32 bits.
 #[inline(always)]
 fn products(x: i16x16, y: i16x16) -> i32x16
     requires x { All (Within 32767) x }
@@ -49,6 +52,7 @@ fn products(x: i16x16, y: i16x16) -> i32x16
     x.cast::<i32>().strict_mul(y.cast::<i32>())
 }
 
+// With the products above, one instruction of the processor for each four sums.
 #[inline(always)]
 fn neighbour_sums(p: i32x16) -> i32x8
     requires len { length p ≡ 16 }
@@ -119,6 +123,7 @@ fn first_fours(x: i32x8, y: i32x8) -> i16x8
     both.cast::<i16>()
 }
 
+// What is above the low sixteen bits.
 #[inline(always)]
 fn above(x: i32x8) -> i32x8
     requires len { length x ≡ 8 }
@@ -128,6 +133,7 @@ fn above(x: i32x8) -> i32x8
     x >> i32x8::splat(16)
 }
 
+// The same, moved up again.
 #[inline(always)]
 fn raised(x: i32x8) -> i32x8
     requires len { length x ≡ 8 }
@@ -137,6 +143,7 @@ fn raised(x: i32x8) -> i32x8
     i32x8::splat(65536).strict_mul(x)
 }
 
+// What that leaves of a number.
 #[inline(always)]
 fn less(x: i32x8, y: i32x8) -> i32x8
     requires x { All (Within 67200000) x }
@@ -146,6 +153,7 @@ fn less(x: i32x8, y: i32x8) -> i32x8
     x.strict_sub(y)
 }
 
+// Numbers that were made eight times as large.
 #[inline(always)]
 fn eighths(x: i32x8) -> i32x8
     requires len { length x ≡ 8 }
@@ -155,6 +163,7 @@ fn eighths(x: i32x8) -> i32x8
     x >> i32x8::splat(3)
 }
 
+// In 16 bits.
 #[inline(always)]
 fn narrow(x: i32x8) -> i16x8
     requires { All (Within 8191) x }
@@ -163,6 +172,7 @@ fn narrow(x: i32x8) -> i16x8
     x.cast::<i16>()
 }
 
+// With the half that rounds.
 #[inline(always)]
 fn with_half(x: i32x8) -> i32x8
     requires len { length x ≡ 8 }
@@ -172,6 +182,7 @@ fn with_half(x: i32x8) -> i32x8
     x.strict_add(i32x8::splat(1 << 25))
 }
 
+// Drops the low thirteen bits.
 #[inline(always)]
 fn dropped(x: i32x8) -> i32x8
     requires len { length x ≡ 8 }
@@ -181,6 +192,7 @@ fn dropped(x: i32x8) -> i32x8
     x >> i32x8::splat(13)
 }
 
+// The high sums, with what the low ones add to them.
 #[inline(always)]
 fn carried(x: i32x8, y: i32x8) -> i32x8
     requires x { All (Within 536870912) x }

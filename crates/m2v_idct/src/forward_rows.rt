@@ -1,5 +1,5 @@
 //! The first half of the forward transform: the sums of a line's samples, each times a cosine, in two parts of 16 bits.
-ghost use Rattle.std.specs.Prelude.{ℕ, ◌≡◌, ◌<◌, ◌≢◌, ◌+◌, ◌*◌, All, length, map, pos, ◌*ℤ◌};
+ghost use Rattle.std.specs.Prelude.{ℕ, ◌≡◌, ◌<◌, ◌≢◌, ◌+◌, ◌*◌, All, length, pos, ◌*ℤ◌};
 ghost use Rattle.m2v_idct.specs.Block.{at, nth};
 ghost use Rattle.m2v_idct.specs.Forward.{projection};
 ghost use Rattle.m2v_idct.specs.ForwardLanes.{eight, high_of, low_of};
@@ -9,7 +9,7 @@ use crate::block::row_at;
 use crate::forward_lanes::{added, first_pairs, fold_line, product_sums, second_pairs, split};
 use std::simd::prelude::*;
 
-// The sums of a line's samples, each times eight times a cosine: what is above 16 bits is moved down by the fewest steps.
+// The sums of a line's samples, each times eight times a cosine, so that 16 bits are where such a sum is cut in two.
 #[inline(always)]
 fn line_sums(f: &[i32; 8]) -> i32x8
     requires { All IsSample f.now }
