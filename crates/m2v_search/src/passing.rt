@@ -28,6 +28,20 @@ struct Row {
     columns: Span,
 }
 
+/// The best so far, where it is a place that was looked at just now. Few are, so this stays out of the loop.
+#[cold]
+#[inline(never)]
+fn found_at(spot: Spot, sad: u32) -> SoFar
+    ensures spot { result.best.spot ≡ spot }
+    ensures sad { result.best.sad ≡ sad }
+    ensures below { result.below ≡ sad }
+{
+    SoFar {
+        best: Best { spot, sad },
+        below: sad,
+    }
+}
+
 /// The better of the best so far and one place more, as long as they lie below a limit.
 #[inline(always)]
 fn tried_below(
@@ -52,10 +66,7 @@ fn tried_below(
     ensures lower { result.below ≤ so_far.below }
 {
     match spot_sad_until(block, count, window, spot, so_far.below) {
-        Some(sad) => SoFar {
-            best: Best { spot, sad },
-            below: sad,
-        },
+        Some(sad) => found_at(spot, sad),
         None => so_far,
     }
 }
