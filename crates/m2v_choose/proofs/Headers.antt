@@ -26,7 +26,7 @@ use Rattle.m2v_choose.specs.Trials.{with_blocks}
 
 -- ---- types
 
-abbrev bare_kind : Bool → Bool → MbType
+abbrev pub bare_kind : Bool → Bool → MbType
 bare_kind f b = record { quant = false; forward = f; backward = b; pattern = false; intra = false }
 
 abbrev coded_kind : Bool → Bool → Bool → MbType
@@ -69,7 +69,7 @@ all_long : below is_long 64 ≡ below (λ p. true) 64
 unfolding below is_long code_of block_pattern bits_of
 all_long = refl
 
-some_long : (p : ℕ) → 0 < p → p < 64 → 3 ≤ length (pattern_code p)
+pub some_long : (p : ℕ) → 0 < p → p < 64 → 3 ≤ length (pattern_code p)
 unfolding is_long
 some_long p some most = elim (either_true (nat_eq p 0) (nat_le 3 (length (pattern_code p))) (agree is_long (λ p. true) 64 p all_long most)) [
   | inl none ↦ absurd (omega (arith, eqb-true p 0 none, some))

@@ -28,4 +28,5 @@ pub use Rattle.m2v_search.proofs as m2v_search
 pub mod Headers
 pub mod Cheapest
 pub mod CheapestIntra
+pub mod Settled
 pub mod Means

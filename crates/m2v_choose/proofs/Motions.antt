@@ -26,7 +26,7 @@ use Rattle.m2v_choose.specs.Candidates.{plain_form, plain_direction, field_direc
 use Rattle.m2v_choose.specs.Trials.{References, decided, IsTask, IsReference, AreReferences, Goes, has_types, CanCode, CanTry, moving_syntax, place_for, IsRated, Tried, later_predictions}
 use Rattle.m2v_choose.proofs.IntraCoded.{no_references}
 use Rattle.m2v_choose.proofs.Stands.{PredictionStands, uncoded_macro, coded_macro, first_of, second_of, plain_told_one, fields_one, zero_one, still_prediction_stands}
-use Rattle.m2v_choose.proofs.Inside.{ModeFits, fits_inside, fits_forward, fits_backward, plain_fits, fields_fit, zero_prediction_fits, still_prediction_fits}
+use Rattle.m2v_choose.proofs.Inside.{ModeFits, fits_inside, fits_forward, fits_backward, plain_fits, fields_fit, still_prediction_fits}
 use Rattle.m2v_choose.proofs.Tried.{first_step, tried_on, tried_none}
 
 -- which directions a macroblock's motion has
@@ -183,13 +183,6 @@ zero_code t task form a b same two =
 
 -- by vector zero nothing is searched
 module _ (t : Task) (r : References) (ahead behind : Plane → Lines → ℕ → Type 0) (task : IsTask t) (other : Dims) (refs : AreReferences t.context.now.kind (place_for t) r.dims other ahead behind) where
-  pub zero_can : (form : ℕ) (a b : Direction) → form ≡ no_form t.context.now → t.context.now.kind ≡ 2 → CanTry t r.dims ahead behind (moving_syntax t.increment form false false a b) false
-  zero_can form a b same two =
-      let d = decided r t in
-      let read = refs.forward (λ one. omega (arith, one, two)) in
-      can_try t r ahead behind task (zero_prediction d) (zero_one d task.asked.own two) (moving_syntax t.increment form false false a b) false One (zero_is t r form a b task same)
-      refl (zero_prediction_fits d read.lies) read.lies (λ e. read.near) (λ e. absurd cc)
-
   pub still_can : (form : ℕ) (hf hb : Bool) (a b : Direction) → form ≡ plain_form t.context.now → (t.context.now.kind ≡ 2) ⊎ (t.context.now.kind ≡ 3)
       → hf ≡ nat_eq t.context.now.kind 2 → hb ≡ nat_eq t.context.now.kind 3 → a ≡ still_vector t.context.now → b ≡ still_vector t.context.now
       → CanTry t r.dims ahead behind (moving_syntax t.increment form hf hb a b) true

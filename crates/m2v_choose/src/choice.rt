@@ -1,5 +1,6 @@
 //! The choice of a macroblock.
-ghost use Rattle.std.specs.Prelude.{◌≡◌, ◌≢◌, ◌≤◌, ◌<◌, ◌+◌, ◌⊎◌, true, false, cond, IsTrue, slice_index_or, pos, replicate, List, ℕ, [], ◌∷◌};
+ghost use Rattle.std.specs.Prelude.{◌≡◌, ◌≢◌, ◌≤◌, ◌<◌, ◌+◌, ◌⊎◌, ◌++◌, true, false, cond, map, IsTrue, slice_index_or, pos, replicate, List, ℕ, [], ◌∷◌};
+ghost use Rattle.std.specs.List.{flat_map};
 ghost use Rattle.m2v_plane.specs.declared.dims.Dims.{Dims};
 ghost use Rattle.m2v_pred.specs.Vectors.{IsInside, IsPlace};
 ghost use Rattle.m2v_pred.specs.Predicted.{predicted, block_by};
@@ -8,10 +9,10 @@ ghost use Rattle.m2v_macroblock.specs.Modes.{skipped_mode as skipped_mode_of};
 ghost use Rattle.m2v_macroblock.specs.Predictions.{View};
 ghost use Rattle.m2v_macroblock.specs.Conditions.{AreDc};
 ghost use Rattle.m2v_choose.specs.Decisions.{Decision, skipped, increment_of};
-ghost use Rattle.m2v_choose.specs.Candidates.{still_vector as still_vector_of, held_levels as held_levels_of, hold as hold_of, may_skip as may_skip_of};
+ghost use Rattle.m2v_choose.specs.Candidates.{still_vector as still_vector_of, held_levels as held_levels_of, hold as hold_of, may_skip as may_skip_of, codings, intra_by, by_prediction};
 ghost use Rattle.m2v_choose.specs.Choice.{bits_taken, choice_of, score, squared as squared_of};
 ghost use Rattle.m2v_choose.specs.Own.{IsOwn, IsOwnState, AreLimits};
-ghost use Rattle.m2v_choose.specs.Trials.{References, decided, references_of, IsTask, IsRead, IsRated, IsStill, Tried, AreReferences, IsBefore, HasDirection, decision, place_at, candidate_of, direction_by, place_for};
+ghost use Rattle.m2v_choose.specs.Trials.{References, decided, references_of, IsTask, IsRead, IsRated, IsStill, zero_predictions, later_predictions, Tried, AreReferences, IsBefore, HasDirection, decision, place_at, candidate_of, direction_by, place_for};
 
 use crate::coding::intra_syntax;
 use crate::motion::plain_form;
@@ -19,7 +20,7 @@ use crate::predictions::{moving_syntax, predict_moving};
 use crate::scratch::{ChoiceScratch, SearchedScratch, TrialScratch};
 use crate::squares::squared;
 use crate::task::{Task, task_of};
-use crate::trial::{Best, no_levels, no_prediction};
+use crate::trial::{Best, bit_cost, no_levels, no_prediction};
 use crate::values::{Choice, Limits};
 use crate::vectors::{FieldVector, Vectors, no_vector, place_of};
 use m2v_macro::{PictureContext, SliceState};
@@ -238,6 +239,25 @@ fn limit_of(before: u64, behind: u64) -> u64
 }
 
 impl Best {
+    /// Whether hold or skip scores no more than any other candidate's bits alone: in a P or B picture each has at least three,
+    /// one of its address and two of its type or of its pattern (tables B.1, B.3, B.4 and B.9). Then nothing is searched.
+    #[inline(always)]
+    fn is_settled(&self, task: &Task) -> bool
+        requires task { IsTask task.now }
+        ensures { IsTrue result → (r : References) → IsRated (decided r task.now) self.now
+            → (Tried (decided r task.now) self.now self.now (map (intra_by (decided r task.now))
+            (codings (decided r task.now)) ++ flat_map (by_prediction (decided r task.now))
+            (zero_predictions (decided r task.now))))
+            × (Tried (decided r task.now) self.now self.now
+            (flat_map (by_prediction (decided r task.now))
+            (later_predictions (decided r task.now)))) }
+    {
+        if task.context.kind == 1 {
+            return false;
+        }
+        bit_cost(task.limits, 3) >= self.below
+    }
+
     /// Decides a macroblock: of the candidates that are short enough, the first of least score. Predictions by vectors are
     /// tried first, though they come last: intra macroblocks and the type without a direction, which seldom score less, are
     /// then looked at only as far as they score no more.
@@ -264,6 +284,9 @@ impl Best {
     {
         let squares = self.hold(task, forward, backward, &mut scratch.trial.second, still);
         self.try_skip(task, forward, backward, squares, &mut scratch.trial);
+        if self.is_settled(task) {
+            return;
+        }
         let before = self.below;
         self.try_later(task, forward, backward, scratch);
         self.below = limit_of(before, self.below);
