@@ -52,7 +52,8 @@ pub struct ChoiceScratch {
 }
 
 impl ChoiceScratch {
-    /// Room for choices.
+    /// Room for choices. In place, so that nothing of it is moved.
+    #[inline(always)]
     pub fn new() -> ChoiceScratch {
         let none = Levels { at: [0; 64] };
         ChoiceScratch {

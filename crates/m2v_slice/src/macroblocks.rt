@@ -45,7 +45,8 @@ pub struct SliceScratch {
 }
 
 impl SliceScratch {
-    /// Room for macroblocks.
+    /// Room for macroblocks. In place, so that nothing of it is moved.
+    #[inline(always)]
     pub fn new() -> SliceScratch {
         SliceScratch {
             block: Block16 { at: [0; 384] },
