@@ -1,4 +1,4 @@
-use Rattle.std.proofs.Common.{arith, refl, ap, length}
+use Rattle.std.proofs.Common.{arith, ap, length}
 use Rattle.m2v_bits.proofs.Texts.{left_length, left_none}
 use Rattle.m2v_macro.specs.States.{after}
 use Rattle.m2v_macroblock.specs.Macroblocks.{macroblock_of}
