@@ -1,8 +1,8 @@
 -- How many bits the blocks of a macroblock take.
-use Rattle.std.proofs.Common.{◌≡◌, ℕ, zero, suc, ◌+◌, ◌^◌, ◌<◌, ◌≤◌, Bool, true, false, List, [], length, ℤ, pos, refl, sym, ap, subst, ◌∙◌, arith}
+use Rattle.std.proofs.Common.{◌≡◌, ℕ, zero, suc, ◌<◌, Bool, true, false, List, [], length, ℤ, pos, refl, sym, subst, ◌∙◌, arith}
 use Rattle.std.proofs.Math.ListN.{get_or-map}
 use Rattle.std.specs.Prelude.{All, nat_lt, slice_index_or}
-use Rattle.std.proofs.lemmas.Int.{ints, to_z-of_z}
+use Rattle.std.proofs.lemmas.Int.{to_z-of_z}
 use mir.Syntax.{w32}
 use mir.Val.{SFits, to_z, of_z}
 use Rattle.m2v_bits.proofs.Texts.{left_length}
@@ -17,7 +17,7 @@ use Rattle.m2v_macro.specs.declared.values.SliceState.{SliceState}
 use Rattle.m2v_macro.specs.declared.values.PictureContext.{PictureContext}
 use Rattle.m2v_recon.specs.Macro.{is_coded}
 use Rattle.m2v_recon.specs.Steps.{levels_of, level_list}
-use Rattle.m2v_macroblock.specs.Macroblocks.{Macroblock, macroblock_of, kind_for, block_levels, dc_of, predictor}
+use Rattle.m2v_macroblock.specs.Macroblocks.{Macroblock, macroblock_of, kind_for, block_levels, predictor}
 use Rattle.m2v_macroblock.specs.Texts.{block_in_text, blocks_text}
 use Rattle.m2v_macroblock.specs.Conditions.{IsPicture, AreBlocks, AreWritable}
 use Rattle.m2v_macroblock.proofs.DcLaws.{all_coded}

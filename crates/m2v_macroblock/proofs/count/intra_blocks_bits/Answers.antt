@@ -1,4 +1,4 @@
-use Rattle.std.proofs.Common.{arith, refl, ap, length}
+use Rattle.std.proofs.Common.{arith, ap, length}
 use Rattle.m2v_bits.proofs.Texts.{left_length, left_none}
 use Rattle.m2v_macro.specs.States.{after}
 use Rattle.m2v_macroblock.specs.Macroblocks.{macroblock_of}
@@ -9,8 +9,8 @@ pub loop-block-preserved : goal.loop-block-preserved
 loop-block-preserved c =
     let text = block_in_text c.args.context.now (after c.args.context.now c.args.state.now c.args.x.now) (macroblock_of c.args.x.now c.args.levels.now) in
     record {
-      bits = omega (arith, c.loop-block.invariant.bits, c.intra_one_bits.ensures.value, left_length text 6 c.loop-block.block (omega arith));
-      most = omega (arith, c.loop-block.invariant.most, c.intra_one_bits.ensures.most);
+      bits = omega (arith, c.loop-block.invariant.bits, c.intra_one_bits-bits.ensures.value, left_length text 6 c.loop-block.block (omega arith));
+      most = omega (arith, c.loop-block.invariant.most, c.intra_one_bits-bits.ensures.most);
     }
 
 pub returns-clause-value : goal.returns-clause-value

@@ -7,7 +7,7 @@ use Rattle.m2v_macroblock.proofs.Counted.{own_levels, one_counted, one_none, is_
 use Rattle.m2v_macroblock.proofs.count.other_one_bits.Goals as goal
 
 pub other_bits-requires : goal.other_bits-requires
-other_bits-requires c = other_within c.args._context.now c.args._state.now c.args.x.now c.args.levels.now c.args.block c.requires.block (sym c.if-is_coded.ensures.value) c.requires.blocks
+other_bits-requires c = record { levels = other_within c.args._context.now c.args._state.now c.args.x.now c.args.levels.now c.args.block c.requires.block (sym c.if-is_coded.ensures.value) c.requires.blocks }
 
 pub returns-then-is_coded-clause-value : goal.returns-then-is_coded-clause-value
 returns-then-is_coded-clause-value c =
