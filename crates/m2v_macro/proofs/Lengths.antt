@@ -28,7 +28,7 @@ use Rattle.m2v_macro.specs.States.{is_field, pmv_before}
 use Rattle.m2v_macro.specs.Vectors.{shape_of, has_residual}
 use Rattle.m2v_macro.specs.Macros.{has_form, has_dct, is_concealed, f_codes_of}
 use Rattle.m2v_macro.specs.Conditions.{IsContext, IsMacro, AreScales, forward_of, backward_of}
-use Rattle.m2v_macro.specs.Texts.{flag, escapes_text, increment_text, kind_text, form_text, dct_text, quantiser_text, marker_text, pattern_text, modes_text, directions_text, macro_text, direction_text, second_text, selected_text, bit_text, vector_text, part_text, predictor_at, component_text, difference_text, residual_text, dm_text}
+use Rattle.m2v_macro.specs.Texts.{flag, escapes_text, increment_text, increment_text, kind_text, form_text, dct_text, quantiser_text, marker_text, pattern_text, modes_text, directions_text, macro_text, direction_text, second_text, selected_text, bit_text, vector_text, part_text, predictor_at, component_text, difference_text, residual_text, dm_text}
 use Rattle.m2v_macro.proofs.Steps.{order_small}
 use Rattle.m2v_macro.proofs.Ready.{used_forward, used_backward}
 
@@ -40,6 +40,14 @@ escapes_one (suc n) some = let less : suc n - 1 ≡ n = omega arith in rw less r
 escape_bits : length (increment_code Escape) ≡ 11
 unfolding increment row_of bits_of same_increment
 escape_bits = refl
+
+-- a small increment has no escapes
+pub near_step : (n : ℕ) → 1 ≤ n → n ≤ 33 → increment_code (Step n) ≡ increment_text n
+unfolding increment_text escapes_text
+near_step n some most =
+    let none : (n - 1) / 33 ≡ 0 = omega (arith, some, most) in
+    let step : (n - 1) % 33 + 1 ≡ n = omega (arith, some, most) in
+    rw (none, step) refl
 
 pub escapes_bits : (n : ℕ) → length (escapes_text n) ≡ n * 11
 unfolding escapes_text

@@ -202,6 +202,15 @@ impl SliceState {
         }
     }
 
+    /// The DC predictors that a macroblock's blocks go by: those of the state behind its elements.
+    #[inline(always)]
+    pub fn dc_behind(&self, context: &PictureContext, m: &MacroSyntax) -> [i32; 3]
+        requires { context.now.extension.dc_precision ≤ 3 }
+        ensures { result ≡ dc_behind_of context.now self.now m.now }
+    {
+        dc_behind(context, self, m)
+    }
+
     /// The state becomes that behind a macroblock (clauses 7.2.1 and 7.6.3), but for what its blocks do to the DC
     /// predictors.
     #[inline(always)]

@@ -48,6 +48,10 @@ fn put_step<O: BitOutput>(increment: u32, out: &mut O)
     requires room { length (increment_text increment) ≤ O.space out.old }
     ensures { Gains O.took O.space out.old (increment_text increment) out.new }
 {
+    if increment <= 33 {
+        put_increment(Increment::Step(increment as u8), out);
+        return;
+    }
     put_escapes((increment - 1) / 33, out);
     put_increment(Increment::Step(((increment - 1) % 33 + 1) as u8), out);
 }

@@ -49,6 +49,7 @@ fn put_part<O: BitOutput>(
 }
 
 /// Appends a vector.
+#[inline(always)]
 #[tactic(auto, using(m2v_bits::proofs::Cursor::lengths), unfolding(crate::specs::Texts::vector_text))]
 fn put_vector<O: BitOutput>(
     shape: &Shape,
@@ -82,6 +83,7 @@ fn put_bit<O: BitOutput>(told: bool, bottom: bool, out: &mut O)
 }
 
 /// Appends a vector with its reference field bit.
+#[inline(always)]
 #[tactic(auto, using(m2v_bits::proofs::Cursor::lengths), unfolding(crate::specs::Texts::selected_text))]
 fn put_selected<O: BitOutput>(
     shape: &Shape,
@@ -100,6 +102,25 @@ fn put_selected<O: BitOutput>(
 {
     put_bit(shape.bit, s.bottom, out);
     put_vector(shape, f_code, predictor, s, out);
+}
+
+/// Appends a second vector as `put_selected` does: few macroblocks have one.
+#[cold]
+#[inline(never)]
+fn put_far<O: BitOutput>(
+    shape: Shape,
+    f_code: &[u8; 2],
+    predictor: [i32; 2],
+    s: Selected,
+    out: &mut O,
+)
+    requires scales { AreScales f_code.now }
+    requires predictor { IsPair f_code.now predictor }
+    requires selected { IsSelected shape f_code.now s }
+    requires room { length (selected_text shape f_code.now predictor s) ≤ O.space out.old }
+    ensures { Gains O.took O.space out.old (selected_text shape f_code.now predictor s) out.new }
+{
+    put_selected(&shape, f_code, &predictor, &s, out);
 }
 
 /// Appends the second vector of a direction, where there are two.
@@ -121,11 +142,12 @@ fn put_second<O: BitOutput>(
         out.new }
 {
     if shape.two {
-        put_selected(shape, f_code, predictor, s, out);
+        put_far(*shape, f_code, *predictor, *s, out);
     }
 }
 
 /// Appends the vectors of a direction that is told, and nothing of one that isn't.
+#[inline(always)]
 #[tactic(auto, using(m2v_bits::proofs::Cursor::lengths, m2v_bits::proofs::Outputs::gains_none), unfolding(crate::specs::Texts::direction_text))]
 pub fn put_direction<O: BitOutput>(
     told: bool,
