@@ -53,18 +53,6 @@ kinds_plain c intra q kinds e same =
     let P = λ (kind : BlockKind). kind.precision ≡ 0 in
     subst (All P) (sym same) (All-cons P (kind_for c intra true q) (kind_for c intra false q ∷ []) e (All-cons P (kind_for c intra false q) [] e (All-nil P)))
 
--- the matrix of blocks that aren't intra is flat
-pub kinds_flat : (c : PictureContext) (intra : Bool) (q : ℕ) (kinds : List BlockKind) → c.non_intra ≡ default_matrix false
-    → kinds ≡ kind_for c intra true q ∷ kind_for c intra false q ∷ [] → All (λ (kind : BlockKind). kind.intra ≡ false → kind.matrix ≡ default_matrix false) kinds
-unfolding kind_for
-kinds_flat c intra q kinds e same =
-    let P = λ (kind : BlockKind). kind.intra ≡ false → kind.matrix ≡ default_matrix false in
-    subst (All P) (sym same) (All-cons P (kind_for c intra true q) (kind_for c intra false q ∷ []) (flat intra) (All-cons P (kind_for c intra false q) [] (flat intra) (All-nil P)))
-  where
-    flat : (b : Bool) → b ≡ false → cond b c.intra c.non_intra ≡ default_matrix false
-    flat true is = absurd cc
-    flat false is = e
-
 -- ---- what is tried
 
 pub same_levels : (d : Decision) (prediction : List ℕ) (intra : Bool) (k : Coding)

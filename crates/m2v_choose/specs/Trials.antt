@@ -6,6 +6,7 @@ use Rattle.m2v_plane.specs.declared.planes.Lines.{Lines}
 use Rattle.m2v_plane.specs.declared.planes.Plane.{Plane}
 use Rattle.m2v_quant.specs.declared.kind.BlockKind.{BlockKind}
 use Rattle.m2v_quant.specs.Quantiser.{levels_of}
+pub use Rattle.m2v_quant.specs.Quantiser.{is_empty}
 use Rattle.m2v_idct.specs.Forward.{forward_of}
 use Rattle.m2v_recon.specs.Macro.{kind_of, kind_at, is_coded, macro_sample}
 use Rattle.m2v_macro.specs.declared.values.SliceState.{SliceState}
@@ -37,10 +38,6 @@ use Rattle.m2v_choose.specs.Decisions.{Decision, Candidate, Prediction, has_dct_
 use Rattle.m2v_choose.specs.Candidates.{plain_form, plain_direction, field_direction, predictions_by, zero_prediction}
 use Rattle.m2v_choose.specs.Choice.{bits_taken, score, fits, square_at}
 use Rattle.m2v_choose.specs.Own.{IsOwn, IsCode, IsOwnState, AreLimits}
-
--- a block has no level but 0
-abbrev pub is_empty : List ℤ → Bool
-is_empty levels = list_all (λ level. nat_eq (unsigned_abs level) 0) levels
 
 -- a difference of a block
 abbrev pub difference_at : List ℕ → List ℕ → Bool → ℕ → ℕ → ℤ

@@ -1,7 +1,5 @@
 //! The blocks of a macroblock: what is transformed, the transforms, the levels, and the pattern.
-ghost use Rattle.std.specs.Prelude.{IsTrue, slice_index_or, true, false, unsigned_abs, ℕ, ◌≡◌, ◌≤◌, ◌<◌, ◌+◌, ◌*◌, All, cond, pos, ◌-ℤ◌};
-ghost use Rattle.std.specs.List.{list_all};
-ghost use Rattle.m2v_quant.specs.Matrices.{default_matrix};
+ghost use Rattle.std.specs.Prelude.{true, false, not, ℕ, ◌≡◌, ◌≤◌, ◌<◌, ◌+◌, ◌*◌, All, cond, pos, ◌-ℤ◌};
 ghost use Rattle.m2v_quant.specs.Kinds.{IsKind, IsLevel};
 ghost use Rattle.m2v_quant.specs.Quantiser.{levels_of as quantised};
 ghost use Rattle.m2v_recon.specs.Macro.{kind_at, kind_of};
@@ -10,7 +8,7 @@ ghost use Rattle.m2v_idct.specs.Ranges.{IsSample, IsCoefficient};
 ghost use Rattle.m2v_idct.specs.Forward.{forward_of};
 ghost use Rattle.m2v_recon.specs.Steps.{levels_of};
 ghost use Rattle.m2v_choose.specs.Decisions.{block_place, differences as differences_of, pattern_of as pattern_in};
-ghost use Rattle.m2v_choose.specs.Trials.{is_empty as is_empty_of, difference_at, transforms_of, quantised_by};
+ghost use Rattle.m2v_choose.specs.Trials.{is_empty, difference_at, transforms_of, quantised_by};
 
 use m2v_idct::forward_in_place;
 use m2v_pred::Block16;
@@ -101,8 +99,11 @@ fn transform_one(
         (differences_of source.now.at prediction.now.at dct_field block) }
     ensures coefficients { All IsCoefficient out.new }
 {
-    differences(source, prediction, dct_field, block, out);
-    forward_in_place(out);
+    // in an array of its own, which no other reference can reach: so the differences are made by lanes
+    let mut own = [0; 64];
+    differences(source, prediction, dct_field, block, &mut own);
+    forward_in_place(&mut own);
+    *out = own;
 }
 
 /// The transforms of the differences of the six blocks.
@@ -155,120 +156,65 @@ pub fn transform_by_fields(
     }
 }
 
-/// The larger of two numbers.
+/// The kind of a block, of those of luma and of chroma blocks.
 #[inline(always)]
-fn larger(a: u32, b: u32) -> u32
-    ensures one { a ≤ result }
-    ensures other { b ≤ result }
-{
-    if a < b { b } else { a }
-}
-
-/// Whether all coefficients have a size below this. All are looked at, by lanes, and none ends the loop.
-#[inline(always)]
-fn are_below(transform: &[i32; 64], scale: u32) -> bool
-    ensures { IsTrue result → (k : ℕ) → k < 64
-        → unsigned_abs (slice_index_or transform.now k (pos 0)) < scale }
-{
-    let mut most = 0;
-    for k in 0..64 {
-        most = larger(most, transform[k].unsigned_abs());
-    }
-    most < scale
-}
-
-/// Whether no coefficient of a block that isn't intra reaches its scale: then it has no level, as its matrix is flat.
-#[inline(always)]
-fn has_none(transform: &[i32; 64], kind: &BlockKind) -> bool
-    ensures other { IsTrue result → kind.now.intra ≡ false }
-    ensures small { IsTrue result → (k : ℕ) → k < 64
-        → unsigned_abs (slice_index_or transform.now k (pos 0)) < kind.now.scale }
-{
-    !kind.intra && are_below(transform, kind.scale)
-}
-
-/// The levels of a block of a kind.
-#[inline(always)]
-fn quantise_kind(transform: &[i32; 64], kind: &BlockKind, out: &mut Levels)
-    requires kind { IsKind kind.now }
-    requires precision { kind.now.precision ≡ 0 }
-    requires plain { kind.now.intra ≡ false → kind.now.matrix ≡ default_matrix false }
-    requires coefficients { All IsCoefficient transform.now }
-    ensures value { out.new.at ≡ quantised transform.now kind.now }
-    ensures levels { All IsLevel out.new.at }
-{
-    if has_none(transform, kind) {
-        out.at = [0; 64];
-        return;
-    }
-    quantise(transform, kind, out);
-}
-
-/// The levels of a block.
-#[inline(always)]
-fn quantise_one(transform: &[i32; 64], kinds: &[BlockKind; 2], block: usize, out: &mut Levels)
+fn kind_of_block(kinds: &[BlockKind; 2], block: usize) -> &BlockKind
     requires kinds { All IsKind kinds.now }
     requires precision { All (λ kind. kind.precision ≡ 0) kinds.now }
-    requires plain { All (λ kind. kind.intra ≡ false
-        → kind.matrix ≡ default_matrix false) kinds.now }
+    ensures value { result.now ≡ kind_of (kind_at kinds.now 0) (kind_at kinds.now 1) block }
+    ensures kind { IsKind result.now }
+    ensures precision { result.now.precision ≡ 0 }
+{
+    if block < 4 { &kinds[0] } else { &kinds[1] }
+}
+
+/// The levels of a block: whether any isn't 0.
+#[inline(always)]
+fn quantise_one(
+    transform: &[i32; 64],
+    kinds: &[BlockKind; 2],
+    block: usize,
+    out: &mut Levels,
+) -> bool
+    requires kinds { All IsKind kinds.now }
+    requires precision { All (λ kind. kind.precision ≡ 0) kinds.now }
     requires coefficients { All IsCoefficient transform.now }
     ensures value { out.new.at
         ≡ quantised transform.now (kind_of (kind_at kinds.now 0) (kind_at kinds.now 1) block) }
     ensures levels { All IsLevel out.new.at }
+    ensures some { result ≡ not (is_empty out.new.at) }
 {
-    if block < 4 {
-        quantise_kind(transform, &kinds[0], out);
-    } else {
-        quantise_kind(transform, &kinds[1], out);
-    }
+    quantise(transform, kind_of_block(kinds, block), out)
 }
 
-/// The levels of the six blocks, by the kinds of luma and of chroma blocks.
-pub fn quantise_blocks(transforms: &[[i32; 64]; 6], kinds: &[BlockKind; 2], out: &mut [Levels; 6])
+/// The pattern with one block more, behind those that it holds.
+#[inline(always)]
+fn pattern_with(pattern: u8, some: bool) -> u8
+    requires { pattern < 32 }
+    ensures { result ≡ 2 * pattern + cond some 1 0 }
+{
+    if some { 2 * pattern + 1 } else { 2 * pattern }
+}
+
+/// The levels of the six blocks, by the kinds of luma and of chroma blocks, and their coded block pattern.
+pub fn quantise_blocks(
+    transforms: &[[i32; 64]; 6],
+    kinds: &[BlockKind; 2],
+    out: &mut [Levels; 6],
+) -> u8
     requires kinds { All IsKind kinds.now }
     requires precision { All (λ kind. kind.precision ≡ 0) kinds.now }
-    requires plain { All (λ kind. kind.intra ≡ false
-        → kind.matrix ≡ default_matrix false) kinds.now }
     requires coefficients { All (All IsCoefficient) transforms.now }
     ensures value { levels_of out.new
         ≡ quantised_by transforms.now (kind_at kinds.now 0) (kind_at kinds.now 1) }
     ensures levels { All (λ l. All IsLevel l.at) out.new }
-{
-    for block in 0..6usize {
-        quantise_one(&transforms[block], kinds, block, &mut out[block]);
-    }
-}
-
-/// Whether a block has no level but 0. All are looked at, by lanes, and none ends the loop.
-#[inline(always)]
-fn is_empty(levels: &[i32; 64]) -> bool
-    ensures { result ≡ is_empty_of levels.now }
-{
-    let mut sizes = 0;
-    for k in 0..64 {
-        sizes |= levels[k].unsigned_abs();
-    }
-    sizes == 0
-}
-
-/// A block's bit in the pattern.
-#[inline(always)]
-fn pattern_bit(levels: &Levels, bit: u8) -> u8
-    ensures { result ≡ cond (is_empty_of levels.now.at) 0 bit }
-{
-    if is_empty(&levels.at) { 0 } else { bit }
-}
-
-/// The coded block pattern of levels.
-#[tactic(auto, unfolding(crate::specs::Decisions::pattern_of))]
-pub fn pattern_of(levels: &[Levels; 6]) -> u8
-    ensures value { result ≡ pattern_in (levels_of levels.now) }
+    ensures pattern { result ≡ pattern_in (levels_of out.new) }
     ensures most { result < 64 }
 {
-    pattern_bit(&levels[0], 32)
-        + pattern_bit(&levels[1], 16)
-        + pattern_bit(&levels[2], 8)
-        + pattern_bit(&levels[3], 4)
-        + pattern_bit(&levels[4], 2)
-        + pattern_bit(&levels[5], 1)
+    let mut pattern = 0;
+    for block in 0..6usize {
+        let some = quantise_one(&transforms[block], kinds, block, &mut out[block]);
+        pattern = pattern_with(pattern, some);
+    }
+    pattern
 }

@@ -9,38 +9,35 @@ use Rattle.m2v_choose.specs.Decisions.{pattern_of}
 use Rattle.m2v_choose.specs.Laws.{IsWritable}
 use Rattle.m2v_choose.specs.Trials.{decided, Tried, block_squared, uncoded_squared, with_blocks, sends_code, Predicts}
 use Rattle.m2v_choose.proofs.Tried.{own_picture}
-use Rattle.m2v_choose.proofs.Coded.{kinds_flat, coded_writable, kinds_plain, predicts, coding_none, coding_some}
+use Rattle.m2v_choose.proofs.Coded.{coded_writable, kinds_plain, predicts, coding_none, coding_some}
 use Rattle.m2v_choose.proofs.trial.Best.try_coding.Goals as goal
 
 pub kinds-kinds-requires-clause-picture : goal.kinds-kinds-requires-clause-picture
 kinds-kinds-requires-clause-picture c = own_picture c.args.task.now.context.now c.requires.task.asked.own
 
-pub quantise_blocks-requires-clause-plain : goal.quantise_blocks-requires-clause-plain
-quantise_blocks-requires-clause-plain c = kinds_flat c.args.task.now.context.now false c.args.q c.kinds-kinds.result c.requires.task.asked.own.non_intra c.kinds-kinds.ensures.value
-
-pub quantise_blocks-requires-clause-precision : goal.quantise_blocks-requires-clause-precision
-quantise_blocks-requires-clause-precision c = kinds_plain c.args.task.now.context.now _ c.args.q c.kinds-kinds.result c.requires.task.asked.own.precision c.kinds-kinds.ensures.value
+pub quantise_blocks-pattern-requires-clause-precision : goal.quantise_blocks-pattern-requires-clause-precision
+quantise_blocks-pattern-requires-clause-precision c = kinds_plain c.args.task.now.context.now _ c.args.q c.kinds-kinds.result c.requires.task.asked.own.precision c.kinds-kinds.ensures.value
 
 pub returns-then-pattern-eq0 : goal.returns-then-pattern-eq0
 returns-then-pattern-eq0 c = record {
   tried = λ r p same samples made rated.
-      coding_none r c.args.task.now p c.args.plain.now.bare.now same c.args.plain.now.prediction.now.at c.args.transforms.now (levels_of c.quantise_blocks.new.out) c.args.q c.args.dct_field c.kinds-kinds.result
-      samples made c.kinds-kinds.ensures.value c.quantise_blocks.ensures.value (sym c.pattern_of-pattern.ensures.value ∙ c.if-pattern-eq0.true) c.args.self.now rated;
+      coding_none r c.args.task.now p c.args.plain.now.bare.now same c.args.plain.now.prediction.now.at c.args.transforms.now (levels_of c.quantise_blocks-pattern.new.out) c.args.q c.args.dct_field c.kinds-kinds.result
+      samples made c.kinds-kinds.ensures.value c.quantise_blocks-pattern.ensures.value (sym c.quantise_blocks-pattern.ensures.pattern ∙ c.if-pattern-eq0.true) c.args.self.now rated;
 }
 
 pub try_written-requires-clause-writable : goal.try_written-requires-clause-writable
 try_written-requires-clause-writable c =
     let t = c.args.task.now in
     let q = c.args.q in
-    let ls = levels_of c.quantise_blocks.new.out in
-    let pattern = c.pattern_of-pattern.result in
+    let ls = levels_of c.quantise_blocks-pattern.new.out in
+    let pattern = c.quantise_blocks-pattern.result in
     let m = with_blocks c.args.plain.now.bare.now (sends_code t.state.now q) q c.args.dct_field pattern in
     let same : c.with_blocks-syntax.result ≡ m = c.with_blocks-syntax.ensures ∙ ap (λ (b : Bool). with_blocks c.args.plain.now.bare.now b q c.args.dct_field pattern) c.sends.ensures in
     let some : 0 < pattern = omega (arith, c.if-pattern-eq0.false) in
-    let within = All-map (All IsLevel) (λ (l : Levels). l.at) c.quantise_blocks.new.out c.quantise_blocks.ensures.levels in
+    let within = All-map (All IsLevel) (λ (l : Levels). l.at) c.quantise_blocks-pattern.new.out c.quantise_blocks-pattern.ensures.levels in
     subst (λ (x : MacroSyntax). IsWritable t.context.now t.first (record { syntax = x; levels = ls })) (sym same)
-    (coded_writable t.context.now t.first m ls c.requires.bare.other c.pattern_of-pattern.ensures.value within
-    (c.requires.bare.macro q c.args.dct_field pattern c.requires.q c.requires.dct some c.pattern_of-pattern.ensures.most))
+    (coded_writable t.context.now t.first m ls c.requires.bare.other c.quantise_blocks-pattern.ensures.pattern within
+    (c.requires.bare.macro q c.args.dct_field pattern c.requires.q c.requires.dct some c.quantise_blocks-pattern.ensures.most))
 
 pub try_written-requires-clause-still : goal.try_written-requires-clause-still
 try_written-requires-clause-still c =
@@ -54,14 +51,14 @@ returns c = record {
       let t = c.args.task.now in
       let q = c.args.q in
       let dct = c.args.dct_field in
-      let ls = levels_of c.quantise_blocks.new.out in
-      let pattern = c.pattern_of-pattern.result in
+      let ls = levels_of c.quantise_blocks-pattern.new.out in
+      let pattern = c.quantise_blocks-pattern.result in
       let full : c.with_blocks-syntax.result ≡ with_blocks c.args.plain.now.bare.now (sends_code t.state.now q) q dct (pattern_of ls) =
-      c.with_blocks-syntax.ensures ∙ (λ i. with_blocks c.args.plain.now.bare.now (c.sends.ensures i) q dct (c.pattern_of-pattern.ensures.value i)) in
-      let some : 0 < pattern_of ls = omega (arith, c.if-pattern-eq0.false, c.pattern_of-pattern.ensures.value) in
+      c.with_blocks-syntax.ensures ∙ (λ i. with_blocks c.args.plain.now.bare.now (c.sends.ensures i) q dct (c.quantise_blocks-pattern.ensures.pattern i)) in
+      let some : 0 < pattern_of ls = omega (arith, c.if-pattern-eq0.false, c.quantise_blocks-pattern.ensures.pattern) in
       let told : Predicts r t c.with_blocks-syntax.result c.args.plain.now.prediction.now.at =
       subst (λ (x : MacroSyntax). Predicts r t x c.args.plain.now.prediction.now.at) (sym full) (predicts r t p c.args.plain.now.bare.now same c.args.plain.now.prediction.now.at q dct (pattern_of ls) samples) in
       coding_some r t p c.args.plain.now.bare.now same c.args.plain.now.prediction.now.at c.args.transforms.now ls q dct c.kinds-kinds.result
-      samples made c.kinds-kinds.ensures.value c.quantise_blocks.ensures.value some c.args.self.now c.try_written.new.self
+      samples made c.kinds-kinds.ensures.value c.quantise_blocks-pattern.ensures.value some c.args.self.now c.try_written.new.self
       (subst (λ (x : MacroSyntax). Tried (decided r t) c.args.self.now c.try_written.new.self (written x ls ∷ [])) full (c.try_written.ensures.tried r told rated));
 }

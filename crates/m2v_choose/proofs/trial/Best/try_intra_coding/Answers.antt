@@ -1,7 +1,7 @@
 use Rattle.std.proofs.Common.{true, ℕ, ap, sym, ◌∙◌}
 use Rattle.m2v_recon.specs.Steps.{levels_of}
 use Rattle.m2v_choose.proofs.Tried.{own_picture}
-use Rattle.m2v_choose.proofs.Coded.{kinds_flat, kinds_plain}
+use Rattle.m2v_choose.proofs.Coded.{kinds_plain}
 use Rattle.m2v_choose.proofs.IntraCoded.{intra_writable, intra_predicts, intra_tried}
 use Rattle.m2v_choose.specs.Trials.{block_squared, uncoded_squared}
 use Rattle.m2v_choose.proofs.PartSquares.{none_uncoded}
@@ -9,9 +9,6 @@ use Rattle.m2v_choose.proofs.trial.Best.try_intra_coding.Goals as goal
 
 pub kinds-kinds-requires-clause-picture : goal.kinds-kinds-requires-clause-picture
 kinds-kinds-requires-clause-picture c = own_picture c.args.task.now.context.now c.requires.task.asked.own
-
-pub quantise_blocks-requires-clause-plain : goal.quantise_blocks-requires-clause-plain
-quantise_blocks-requires-clause-plain c = kinds_flat c.args.task.now.context.now true c.args.q c.kinds-kinds.result c.requires.task.asked.own.non_intra c.kinds-kinds.ensures.value
 
 pub quantise_blocks-requires-clause-precision : goal.quantise_blocks-requires-clause-precision
 quantise_blocks-requires-clause-precision c = kinds_plain c.args.task.now.context.now true c.args.q c.kinds-kinds.result c.requires.task.asked.own.precision c.kinds-kinds.ensures.value
