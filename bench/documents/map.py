@@ -9,6 +9,10 @@ status is 1 where the table isn't what would be."""
 import sys
 from pathlib import Path
 
+sys.path.insert(0, str(Path(__file__).resolve().parent.parent))
+
+from crates import listed  # noqa: E402
+
 TOP = Path(__file__).resolve().parent.parent.parent
 PAGE = TOP / 'docs' / 'MAP.md'
 BEGIN, END = '<!-- bench/run map writes what follows -->\n', '<!-- to here -->'
@@ -21,12 +25,6 @@ GROUPS = {
     'Commands': ('m2v_flat', 'm2v_check', 'm2v_audit', 'm2v_cut', 'm2v_make', 'm2v_y4m', 'm2v_tool', 'm2v_main'),
     'Tests': ('m2v_test_',),
 }
-
-
-def names():
-    """The crates, lowest first."""
-    lines = (line.split('#')[0].strip() for line in (TOP / 'crates.txt').read_text().splitlines())
-    return [line.split(':')[0].split()[0] for line in lines if line]
 
 
 def group_of(name):
@@ -45,7 +43,7 @@ def said(name):
 def table():
     for group in GROUPS:
         yield from ('', '| %s | What it is |' % group, '|---|---|')
-        for name in names():
+        for name in listed(TOP / 'crates.txt'):
             if group_of(name) == group:
                 yield '| [`%s`](../crates/%s/README.md) | %s |' % (name, name, said(name))
     yield ''
