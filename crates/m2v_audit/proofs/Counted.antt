@@ -7,8 +7,8 @@ use Rattle.m2v_model.specs.declared.state.Sequence.{Sequence}
 use Rattle.m2v_model.specs.declared.notes.PictureNote.{PictureNote}
 use Rattle.m2v_model.specs.Pieces.{zeros_last}
 use Rattle.m2v_model.specs.PieceNotes.{PieceNotes}
-use Rattle.m2v_check.specs.declared.coded.CodedPicture.{CodedPicture}
-use Rattle.m2v_check.specs.Running.{ends_frame}
+use Rattle.m2v_strict.specs.m2v_check.declared.coded.CodedPicture.{CodedPicture}
+use Rattle.m2v_strict.specs.m2v_check.Running.{ends_frame}
 use Rattle.m2v_audit.specs.declared.headers.PieceHeader.{PieceHeader}
 use Rattle.m2v_audit.specs.declared.headers.PieceHeader.TheVariants as headers
 use Rattle.m2v_audit.specs.Account.{Account}

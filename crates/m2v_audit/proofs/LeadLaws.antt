@@ -1,13 +1,13 @@
 -- The report on its way: one part after another.
-use Rattle.std.proofs.Common.{◌≡◌, ℕ, ◌+◌, ◌≤◌, List, [], ◌++◌, length, Option, Some, None, Result, Ok, Err, refl, sym, ap, subst, ◌∙◌, append_assoc, arith}
+use Rattle.std.proofs.Common.{◌≡◌, ℕ, ◌≤◌, List, [], ◌++◌, Option, Result, Ok, Err, refl, sym, ap, subst, ◌∙◌, append_assoc}
 use Rattle.std.specs.Prelude.{IfErr}
 use Rattle.m2v_port.specs.Ends.{Change, change}
 use Rattle.m2v_port.specs.Port.{Moves, Grows, GrowsByPrefix}
 use Rattle.m2v_port.proofs.Runs.{rose_since, moves_on, moves_nothing, grows_on, grows_by_nothing, grows_by_none, prefix_on, prefix_of_more}
 use Rattle.m2v_dec_piece.specs.declared.answer.DecodeError.{DecodeError}
 use Rattle.m2v_dec_piece.specs.declared.answer.DecodeError.TheVariants as errors
-use Rattle.m2v_check.specs.m2v_decode.Progress.{Cuts}
-use Rattle.m2v_check.proofs.m2v_decode.Going.{moved_some}
+use Rattle.m2v_strict.specs.m2v_check.m2v_decode.Progress.{Cuts}
+use Rattle.m2v_strict.proofs.m2v_check.m2v_decode.Going.{moved_some}
 use Rattle.m2v_audit.specs.Audited.{Audited, then_comes}
 use Rattle.m2v_audit.specs.Leading.{Onward, LeadsTo, IsCut, Stops}
 

@@ -6,7 +6,6 @@ pub mod Counting
 pub mod Placed
 pub mod Showing
 pub mod Beginning
-pub mod RuleNumbers
 pub mod ZeroLaws
 pub mod Counted
 pub mod LeadLaws
@@ -16,4 +15,4 @@ pub mod TextSteps
 pub mod TextEnds
 pub mod TextReports
 pub mod AllTexts
-pub use Rattle.m2v_check.proofs as m2v_check
+pub use Rattle.m2v_strict.proofs.m2v_check

@@ -1,5 +1,5 @@
 -- A piece is read, audited and told: what its calls make of it.
-use Rattle.std.proofs.Common.{◌≡◌, ◌⊎◌, inl, inr, ℕ, ◌+◌, List, length, Option, Some, None, Result, Ok, Err, OnOk, refl, sym, ap, subst, ◌∙◌, arith}
+use Rattle.std.proofs.Common.{◌≡◌, inl, inr, ℕ, ◌+◌, List, length, Option, None, Result, Ok, Err, OnOk, refl, sym, ap, subst, ◌∙◌, arith}
 use Rattle.std.specs.Prelude.{IfErr, IfSome}
 use Rattle.m2v_port.specs.Ends.{Change, change}
 use Rattle.m2v_port.specs.Port.{Grows, GrowsByPrefix}
@@ -10,12 +10,12 @@ use Rattle.m2v_dec_piece.specs.declared.answer.DecodeError.{DecodeError}
 use Rattle.m2v_dec_piece.specs.declared.answer.DecodeError.TheVariants as errors
 use Rattle.m2v_dec_piece.specs.Sound.{IsSoundPiece}
 use Rattle.m2v_model.specs.declared.state.State.{State}
-use Rattle.m2v_check.specs.m2v_decode.Decoding.{Decoding, at_start, whole_of, Refuses}
-use Rattle.m2v_check.proofs.m2v_decode.EndLaws.{whole_length}
-use Rattle.m2v_check.specs.Judging.{IsPlaced}
-use Rattle.m2v_check.proofs.Checking.{note_placed, shut_behind}
-use Rattle.m2v_check.specs.m2v_decode.Reading.{Reading, Follows, LeadsOn}
-use Rattle.m2v_check.specs.m2v_decode.Progress.{Cuts}
+use Rattle.m2v_strict.specs.m2v_check.m2v_decode.Decoding.{Decoding, at_start, whole_of, Refuses}
+use Rattle.m2v_strict.proofs.m2v_check.m2v_decode.EndLaws.{whole_length}
+use Rattle.m2v_strict.specs.m2v_check.Judging.{IsPlaced}
+use Rattle.m2v_strict.proofs.m2v_check.Checking.{note_placed, shut_behind}
+use Rattle.m2v_strict.specs.m2v_check.m2v_decode.Reading.{Reading, Follows, LeadsOn}
+use Rattle.m2v_strict.specs.m2v_check.m2v_decode.Progress.{Cuts}
 use Rattle.m2v_audit.specs.Auditing.{Auditing, cleared, after_piece}
 use Rattle.m2v_audit.proofs.Counted.{bytes_after}
 use Rattle.m2v_audit.specs.Leading.{PieceTold, PieceCut, PieceFails}

@@ -5,11 +5,11 @@ use Rattle.std.specs.List.{AllByRecursion}
 use Rattle.m2v_set.specs.Numbers.{field_time}
 use Rattle.m2v_model.specs.States.{is_frame}
 use Rattle.m2v_model.specs.Buffering.{time_shown, intervals}
-use Rattle.m2v_check.specs.declared.coded.CodedPicture.{CodedPicture}
-use Rattle.m2v_check.specs.declared.times.Times.{Times as Checked}
-use Rattle.m2v_check.specs.Breaking.{numbered_of}
-use Rattle.m2v_check.specs.Running.{ends_frame}
-use Rattle.m2v_check.specs.Holding.{time_behind}
+use Rattle.m2v_strict.specs.m2v_check.declared.coded.CodedPicture.{CodedPicture}
+use Rattle.m2v_strict.specs.m2v_check.declared.times.Times.{Times as Checked}
+use Rattle.m2v_strict.specs.m2v_check.Breaking.{numbered_of}
+use Rattle.m2v_strict.specs.m2v_check.Running.{ends_frame}
+use Rattle.m2v_strict.specs.m2v_check.Holding.{time_behind}
 use Rattle.m2v_audit.specs.Times.{frame_fields, Times, after, times, is_anchor, IsOnce, as_checked, checked_after, IsSameStep, AreIntervals}
 
 -- three fields or two

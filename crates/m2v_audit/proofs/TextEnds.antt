@@ -1,9 +1,7 @@
 -- The end of a text: it is skipped, its sequence ends there, or it has a fault.
-use Rattle.std.proofs.Common.{◌≡◌, ◌⊎◌, inl, inr, ℕ, ◌*◌, ◌<◌, Bool, true, false, List, [], ◌∷◌, ◌++◌, Option, Some, None, Result, Ok, Err, refl, sym, ap, subst, ◌∙◌}
-use Rattle.std.specs.Prelude.{IfOk}
+use Rattle.std.proofs.Common.{◌≡◌, ◌⊎◌, inl, inr, ℕ, ◌*◌, ◌<◌, Bool, true, false, [], Ok, Err, refl, sym, ap, ◌∙◌}
 use Rattle.m2v_port.specs.Ends.{Change}
 use Rattle.m2v_bits.specs.Syntax.{seq, bind, rule, done}
-use Rattle.m2v_model.specs.declared.fault.FaultKind.{FaultKind}
 use Rattle.m2v_model.specs.declared.fault.FaultKind.TheVariants.{NoSequence}
 use Rattle.m2v_model.specs.States.{at_first}
 use Rattle.m2v_model.specs.Streams.{text_end}
@@ -12,9 +10,9 @@ use Rattle.m2v_model.specs.ByPieces.{Between, Course, at_start, end_read}
 use Rattle.m2v_dec_piece.specs.declared.answer.Fault.{Fault}
 use Rattle.m2v_dec_piece.specs.declared.answer.DecodeError.TheVariants as errors
 use Rattle.m2v_dec_piece.specs.Cutting.{Cutting}
-use Rattle.m2v_check.specs.m2v_decode.Decoding.{Decoding, between, Finished}
-use Rattle.m2v_check.specs.m2v_decode.Reading.{Reading}
-use Rattle.m2v_check.proofs.m2v_decode.EndLaws.{end_broken}
+use Rattle.m2v_strict.specs.m2v_check.m2v_decode.Decoding.{Decoding, between, Finished}
+use Rattle.m2v_strict.specs.m2v_check.m2v_decode.Reading.{Reading}
+use Rattle.m2v_strict.proofs.m2v_check.m2v_decode.EndLaws.{end_broken}
 use Rattle.m2v_audit.specs.Auditing.{Auditing}
 use Rattle.m2v_audit.specs.Audited.{then_comes, end_told}
 use Rattle.m2v_audit.specs.Leading.{pieces_from, AreTold, IsTextRead, TextStops}

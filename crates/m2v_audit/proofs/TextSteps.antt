@@ -1,28 +1,27 @@
 -- The pieces of a text on their way: what stands between two pieces, and where they stop.
-use Rattle.std.proofs.Common.{◌≡◌, ◌⊎◌, inl, inr, ℕ, ◌+◌, ◌<◌, ◌≤◌, Bool, true, false, List, [], ◌∷◌, ◌++◌, length, Option, Some, None, Ok, Err, refl, sym, ap, subst, ◌∙◌, append_assoc, arith}
-use Rattle.std.specs.Prelude.{if◌then◌else◌}
+use Rattle.std.proofs.Common.{◌≡◌, ◌⊎◌, inl, inr, ℕ, ◌+◌, ◌<◌, ◌≤◌, Bool, true, false, List, [], ◌∷◌, ◌++◌, length, Option, Some, None, refl, sym, ap, subst, ◌∙◌, append_assoc, arith}
 use Rattle.std.proofs.lemmas.List.{length-append}
 use Rattle.m2v_port.specs.Ends.{Change, change}
-use Rattle.m2v_port.specs.Port.{Moves, Grows, GrowsByPrefix}
+use Rattle.m2v_port.specs.Port.{Grows, GrowsByPrefix}
 use Rattle.m2v_port.proofs.Runs.{rose_since, grows_by_nothing, prefix_of_more}
-use Rattle.m2v_model.specs.Pieces.{too_long, too_large, limit, most_input}
+use Rattle.m2v_model.specs.Pieces.{too_long, too_large, most_input}
 use Rattle.m2v_model.specs.declared.notes.Notes.{Notes}
 use Rattle.m2v_model.specs.PieceNotes.{noted}
-use Rattle.m2v_model.specs.ByPieces.{Between, at_start, piece_read, end_read}
+use Rattle.m2v_model.specs.ByPieces.{Between, at_start}
 use Rattle.m2v_dec_piece.specs.declared.answer.Piece.{Piece}
 use Rattle.m2v_dec_piece.specs.declared.answer.DecodeError.{DecodeError}
 use Rattle.m2v_dec_piece.specs.declared.answer.DecodeError.TheVariants as errors
 use Rattle.m2v_dec_piece.specs.Cutting.{Cutting, IsReading, left_of, start_of, follows_of}
 use Rattle.m2v_dec_piece.specs.Sound.{IsSoundPiece}
 use Rattle.m2v_dec_piece.specs.Stepping.{Handed, Stopped}
-use Rattle.m2v_check.specs.m2v_decode.Decoding.{Decoding, at_start as first_decoding, between, Advanced, whole_of}
-use Rattle.m2v_check.specs.m2v_decode.Reading.{Reading, nothing_read, Follows, LeadsOn}
-use Rattle.m2v_check.proofs.m2v_decode.Following.{follows_none}
-use Rattle.m2v_check.proofs.m2v_decode.Going.{Gave, gave, moved_some}
+use Rattle.m2v_strict.specs.m2v_check.m2v_decode.Decoding.{Decoding, at_start as first_decoding, between, Advanced, whole_of}
+use Rattle.m2v_strict.specs.m2v_check.m2v_decode.Reading.{Reading, nothing_read, Follows}
+use Rattle.m2v_strict.proofs.m2v_check.m2v_decode.Following.{follows_none}
+use Rattle.m2v_strict.proofs.m2v_check.m2v_decode.Going.{Gave, gave, moved_some}
 use Rattle.m2v_audit.specs.Auditing.{Auditing, cleared, after_piece}
-use Rattle.m2v_audit.specs.Audited.{Audited, Telling, then_comes, by_fault, by_limit, pieces_told, end_told}
-use Rattle.m2v_audit.specs.Leading.{Onward, LeadsTo, IsCut, PieceTold, PieceCut, PieceFails, pieces_from, end_from, AreTold, TextStops}
-use Rattle.m2v_audit.proofs.LeadLaws.{leads_none, leads_on, leads_cut, leads_put, cut_here, cut_there}
+use Rattle.m2v_audit.specs.Audited.{Audited, Telling, then_comes, by_fault, by_limit, pieces_told}
+use Rattle.m2v_audit.specs.Leading.{Onward, LeadsTo, IsCut, PieceTold, PieceCut, PieceFails, pieces_from, AreTold, TextStops}
+use Rattle.m2v_audit.proofs.LeadLaws.{leads_none, leads_on, leads_cut, cut_here, cut_there}
 use Rattle.m2v_audit.proofs.PieceSteps.{piece_step, piece_fault, limit_step, too_long_at, too_large_at, end_step}
 
 -- the pieces so far were told

@@ -2,7 +2,7 @@
 --
 -- Text 0 is the input, and behind each text comes what follows its sequence (`text_after`), so that each is a suffix of the
 -- input. Places are counted from the input's first byte. A fault or a limit ends the report.
-use Rattle.std.specs.Prelude.{◌≡◌, ℕ, zero, suc, ◌+◌, ◌-◌, ◌^◌, min, nat_eq, nat_lt, Bool, true, false, if◌then◌else◌, List, [], ◌∷◌, ◌++◌, length, Option, Some, None, Ok, Err}
+use Rattle.std.specs.Prelude.{ℕ, zero, suc, ◌+◌, ◌-◌, ◌^◌, min, nat_lt, Bool, true, false, if◌then◌else◌, List, [], ◌∷◌, ◌++◌, length, Option, Some, None, Ok, Err}
 use Rattle.m2v_model.specs.declared.fault.FaultKind.{FaultKind}
 use Rattle.m2v_model.specs.Pieces.{pieces, before_pieces, Limit, too_long, too_large, limit, most_input}
 use Rattle.m2v_model.specs.PieceNotes.{notes_of}
@@ -17,6 +17,8 @@ use Rattle.m2v_audit.specs.declared.outcome.Outcome.{Outcome}
 use Rattle.m2v_audit.specs.Lines.{audit_line, columns_lines, skipped_text, fault_line, limit_line, total_line}
 use Rattle.m2v_audit.specs.FaultWords.{fault_word}
 use Rattle.m2v_audit.specs.Auditing.{Auditing, nothing, is_begun, cleared, after_piece, stopped, ended}
+use Rattle.m2v_audit.specs.declared.asked.Asked.{Asked}
+use Rattle.m2v_strict.specs.RuleSets.{name_of}
 
 -- ---- what is counted of all sequences
 
@@ -123,22 +125,22 @@ pieces_told x optional a b at (p ∷ ps) =
 
 -- The texts from here on, the first at a byte. The first text of the input needs a sequence, a later one doesn't. Each text
 -- is shorter than the one before, so a number above its length is as much as is needed.
-unfoldable pub texts_told : ℕ → Bool → Bool → TotalRecord → ℕ → List ℕ → Audited
-texts_told zero each later t start text = totalled t endings.Whole
-texts_told (suc n) each later t start text =
+unfoldable pub texts_told : ℕ → Asked → Bool → TotalRecord → ℕ → List ℕ → Audited
+texts_told zero asked later t start text = totalled t endings.Whole
+texts_told (suc n) asked later t start text =
     pieces_told
-    (record { totals = t; start = start; next = λ counted end. texts_told n each true counted end (text_after text) })
-    later (nothing t.sequences each start) at_start (start + length (before_pieces text)) (pieces text)
+    (record { totals = t; start = start; next = λ counted end. texts_told n asked true counted end (text_after text) })
+    later (nothing t.sequences asked start) at_start (start + length (before_pieces text)) (pieces text)
 
 -- ---- the whole
 
--- the report of an input, by whether each picture is told and the name of the rule set
-abbrev pub audited : Bool → List ℕ → List ℕ → Audited
-audited each rules text = then_comes (audit_line rules ++ columns_lines) (texts_told (1 + length text) each false none_counted 0 text)
+-- the report of an input, by what is asked for
+abbrev pub audited : Asked → List ℕ → Audited
+audited asked text = then_comes (audit_line (name_of asked.rules) ++ columns_lines) (texts_told (1 + length text) asked false none_counted 0 text)
 
-abbrev pub audit_report : Bool → List ℕ → List ℕ → List ℕ
-audit_report each rules text = (audited each rules text).report
+abbrev pub audit_report : Asked → List ℕ → List ℕ
+audit_report asked text = (audited asked text).report
 
 -- what comes of it
-abbrev pub audit_outcome : Bool → List ℕ → List ℕ → Outcome
-audit_outcome each rules text = (audited each rules text).outcome
+abbrev pub audit_outcome : Asked → List ℕ → Outcome
+audit_outcome asked text = (audited asked text).outcome

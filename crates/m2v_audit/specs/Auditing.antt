@@ -6,14 +6,23 @@ use Rattle.m2v_model.specs.m2v_macroblock.m2v_head.declared.sequence.SequenceExt
 use Rattle.m2v_model.specs.m2v_macroblock.m2v_head.declared.group.GroupInfo.{GroupInfo}
 use Rattle.m2v_model.specs.declared.state.Sequence.{Sequence}
 use Rattle.m2v_model.specs.declared.notes.PictureNote.{PictureNote}
-use Rattle.m2v_model.specs.States.{width_of, height_of, is_b}
+use Rattle.m2v_model.specs.States.{width_of, height_of, first_or, is_b}
 use Rattle.m2v_model.specs.Pieces.{zeros_last}
 use Rattle.m2v_model.specs.PieceNotes.{PieceNotes}
 use Rattle.m2v_model.specs.Lawful.{rate_of, buffer_of, sequence_breaches, horizontal_rule, vertical_rule, intra_rule, crowd_rule, repeat_rule, progressive_rule, precision_rule}
-use Rattle.m2v_check.specs.declared.coded.CodedPicture.{CodedPicture}
-use Rattle.m2v_check.specs.Breaking.{numbered_of}
-use Rattle.m2v_check.specs.Running.{ends_frame}
+use Rattle.m2v_strict.specs.m2v_check.declared.coded.CodedPicture.{CodedPicture}
+use Rattle.m2v_strict.specs.m2v_check.Breaking.{numbered_of}
+use Rattle.m2v_strict.specs.m2v_check.Running.{ends_frame}
+use Rattle.m2v_strict.specs.declared.rule_set.RuleSet.{RuleSet}
+use Rattle.m2v_strict.specs.declared.runs.Runs.{Runs}
+use Rattle.m2v_strict.specs.Remarks.{Remarks}
+use Rattle.m2v_strict.specs.SequenceRules.{level_remarks, header_rule, extension_rule, sequence_warnings}
+use Rattle.m2v_strict.specs.GroupRules.{group_remarks}
+use Rattle.m2v_strict.specs.PictureRules.{delay_remarks, f_code_rule, full_pel_rule, field_rule, frame_remarks, picture_warnings}
+use Rattle.m2v_strict.specs.DvdRules.{no_runs, runs_at_group, runs_with}
+use Rattle.m2v_strict.specs.SetRules.{set_remarks, set_group_remarks, set_picture_remarks}
 use Rattle.m2v_vbv.specs.Buffer.{Buffer}
+use Rattle.m2v_audit.specs.declared.asked.Asked.{Asked}
 use Rattle.m2v_audit.specs.declared.account.Due.{Due}
 use Rattle.m2v_audit.specs.declared.auditing.Auditing.{Auditing}
 use Rattle.m2v_audit.specs.declared.headers.PieceHeader.{PieceHeader}
@@ -30,7 +39,7 @@ use Rattle.m2v_audit.specs.declared.words.RateKind.{RateKind}
 use Rattle.m2v_audit.specs.declared.words.Structure.{Structure}
 use Rattle.m2v_audit.specs.declared.words.Structure.TheVariants as structures
 use Rattle.m2v_audit.specs.Account.{Account, opened, with_picture as account_with, with_more as account_more, settled, after_settled, ended as all_left}
-use Rattle.m2v_audit.specs.Findings.{with_breaches, with_misplaced, with_removals}
+use Rattle.m2v_audit.specs.Findings.{with_breaches, with_remarks, with_misplaced, with_removals}
 use Rattle.m2v_audit.specs.Front.{front_of}
 use Rattle.m2v_audit.specs.Opening.{kind_of, first_buffer}
 use Rattle.m2v_audit.specs.Places.{no_places, with_field, with_frame, told_with_frame, group_closed, told_at_close}
@@ -45,13 +54,16 @@ abbrev pub no_rate : Rate
 no_rate = record { constant = true; low_delay = false; size = 0 }
 
 -- nothing was read of the sequence of this number, whose text begins at a byte of the input
-abbrev pub nothing : ℕ → Bool → ℕ → Auditing
-nothing number each start = record {
-  report = record { text = []; tally = no_tally; sequence = number; pictures = each };
+abbrev pub nothing : ℕ → Asked → ℕ → Auditing
+nothing number asked start = record {
+  report = record { text = []; tally = no_tally; sequence = number; pictures = asked.pictures };
+  rules = asked.rules;
   start = start;
   first = None;
   sequence = None;
+  headed = false;
   first_in_group = false;
+  runs = no_runs;
   pictures = 0;
   groups = 0;
   frames = 0;
@@ -122,11 +134,26 @@ begun None a place notes = begun_by a place (slice_get notes.sequences 0) notes.
 
 -- ---- headers
 
--- a sequence header at a bit of the input: its rules, by number
+-- what a set of rules remarks of a sequence header
+abbrev pub with_set_remarks : Report → RuleSet → ℕ → ℕ → Sequence → Report
+with_set_remarks r rules picture bit s = with_remarks r picture bit (set_remarks rules s)
+
+-- what the stricter rules remark of a sequence header, beside the first one of its sequence
+abbrev pub with_sequence_remarks : Report → RuleSet → ℕ → ℕ → Sequence → Sequence → Report
+with_sequence_remarks r rules picture bit first s =
+    let level = with_remarks r picture bit (level_remarks s) in
+    let header = with_remarks level picture bit (header_rule first s) in
+    let extension = with_remarks header picture bit (extension_rule first s) in
+    with_set_remarks (with_remarks extension picture bit (sequence_warnings rules s)) rules picture bit s
+
+-- a sequence header at a bit of the input: the verifier's rules, by number, and then the stricter ones
 abbrev pub with_sequence : Auditing → ℕ → Sequence → Auditing
 with_sequence a bit s = record a {
-  report = with_breaches a.report a.pictures bit (sequence_breaches (s ∷ []));
+  report =
+      with_sequence_remarks (with_breaches a.report a.pictures bit (sequence_breaches (s ∷ []))) a.rules a.pictures bit
+      (first_or a.first s) s;
   sequence = Some s;
+  headed = true;
 }
 
 abbrev pub group_record : ℕ → ℕ → ℕ → ℕ → GroupInfo → GroupRecord
@@ -144,11 +171,25 @@ group_record number group bit picture g = record {
   broken = g.broken_link;
 }
 
--- a group header: the group before it ends, and with it what waits for rule 11 is told; then the group
+-- what the stricter rules remark of a group header, in a sequence with this header
+abbrev pub with_group_remarks : Report → RuleSet → Bool → ℕ → ℕ → Sequence → GroupInfo → Report
+with_group_remarks r rules headed picture bit s g =
+    with_remarks (with_remarks r picture bit (group_remarks s.info.frame_rate_code g)) picture bit (set_group_remarks rules headed)
+
+-- the same, where a sequence header came
+abbrev pub with_group_by : Report → RuleSet → Bool → ℕ → ℕ → Option Sequence → GroupInfo → Report
+with_group_by r rules headed picture bit None g = r
+with_group_by r rules headed picture bit (Some s) g = with_group_remarks r rules headed picture bit s g
+
+-- a group header: the group before it ends, and with it what waits for rule 11 is told; then the group, and its rules
 abbrev pub with_group : Auditing → ℕ → GroupInfo → Auditing
 with_group a bit g = record a {
-  report = with_group_line (with_misplaced a.report (told_at_close a.places)) (group_record a.report.sequence a.groups bit a.pictures g);
+  report =
+      with_group_by
+      (with_group_line (with_misplaced a.report (told_at_close a.places)) (group_record a.report.sequence a.groups bit a.pictures g))
+      a.rules a.headed a.pictures bit a.sequence g;
   first_in_group = true;
+  runs = runs_at_group a.runs;
   groups = one_more a.groups;
   places = group_closed a.places;
 }
@@ -190,6 +231,7 @@ is_shown n = ends_frame n && not n.dropped
 -- it is counted
 abbrev pub counted : Auditing → CodedPicture → Auditing
 counted a p = record a {
+  headed = false;
   first_in_group = false;
   pictures = a.pictures + 1;
   frames = if is_shown p.note then one_more a.frames else a.frames;
@@ -225,10 +267,32 @@ with_rules r constant p =
     with_breaches (with_breaches r p.number (bit_of p.note) (horizontal_rule n ++ vertical_rule n ++ intra_rule n))
     p.number (bit_of p.note) (crowd_rule n ++ repeat_rule constant n ++ progressive_rule n ++ precision_rule n)
 
--- where each picture is told its record; then its rules by number, but for 11
+-- what the stricter rules remark of a picture, rule after rule
+abbrev pub with_picture_remarks : Report → Bool → CodedPicture → Report
+with_picture_remarks r constant p =
+    let with : Report → Remarks → Report = λ r ms. with_remarks r p.number (bit_of p.note) ms in
+    let delays = with r (delay_remarks constant p) in
+    let codes = with delays (f_code_rule p) in
+    let vectors = with codes (full_pel_rule p.note.info) in
+    let fields = with vectors (field_rule constant p) in
+    with (with fields (frame_remarks constant p)) (picture_warnings p)
+
+-- then what a set of rules remarks of it, behind what the pictures before it come to
+abbrev pub with_set_picture_remarks : Report → RuleSet → Runs → CodedPicture → Report
+with_set_picture_remarks r rules before p =
+    with_remarks r p.number (bit_of p.note) (set_picture_remarks rules before p (fields_of p.sequence p.note))
+
+abbrev pub with_all_remarks : Report → RuleSet → Bool → Runs → CodedPicture → Report
+with_all_remarks r rules constant before p = with_set_picture_remarks (with_picture_remarks r constant p) rules before p
+
+-- where each picture is told its record; then its rules by number, but for 11: the verifier's, and then the stricter ones
 abbrev pub with_told : Auditing → CodedPicture → ℕ → ℕ → Auditing
 with_told a p bytes zeros = record a {
-  report = with_rules (with_picture_line a.report (picture_record a.report.sequence p bytes zeros)) a.constant p;
+  report =
+      with_all_remarks
+      (with_rules (with_picture_line a.report (picture_record a.report.sequence p bytes zeros)) a.constant p)
+      a.rules a.constant a.runs p;
+  runs = runs_with a.runs p (fields_of p.sequence p.note);
 }
 
 abbrev pub waiting_of : CodedPicture → Waiting

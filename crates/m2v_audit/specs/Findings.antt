@@ -1,36 +1,47 @@
 -- Several findings that the report tells one after another.
-use Rattle.std.specs.Prelude.{ℕ, List, [], ◌∷◌, Option, Some, None, ◌≤◌}
-use Rattle.std.specs.List.{AllByRecursion}
+use Rattle.std.specs.Prelude.{ℕ, List, [], ◌∷◌, Option, Some, None}
 use Rattle.m2v_model.specs.Lawful.{Breach, Breaches}
+use Rattle.m2v_strict.specs.declared.remark.Remark.{Remark}
+use Rattle.m2v_strict.specs.Remarks.{Remarks}
 use Rattle.m2v_audit.specs.declared.places.Misplaced.{Misplaced}
 use Rattle.m2v_audit.specs.declared.report.Broken.{Broken}
 use Rattle.m2v_audit.specs.declared.report.Rate.{Rate}
 use Rattle.m2v_audit.specs.Account.{Told}
-use Rattle.m2v_audit.specs.Report.{Report, with_breach, with_removal}
+use Rattle.m2v_audit.specs.Report.{Report, with_breach, with_finding, with_removal}
 
 -- ---- breaches
 
 -- a breach that stands at a bit of the input and is told of a picture
 abbrev pub broken_at : ℕ → ℕ → Breach → Broken
-broken_at picture bit b = record { picture = picture; bit = bit; rule = b.rule; have = b.have; need = b.need }
+broken_at picture bit b = record { picture = picture; bit = bit; rule = b.rule; element = None; have = b.have; need = b.need }
 
 -- breaches, in turn
 unfoldable pub with_breaches : Report → ℕ → ℕ → Breaches → Report
 with_breaches r picture bit [] = r
 with_breaches r picture bit (b ∷ bs) = with_breaches (with_breach r (broken_at picture bit b)) picture bit bs
 
--- the number of a rule that is counted
-pub record IsRule (b : Breach) : Type 0 where
-  pub least : 1 ≤ b.rule
-  pub most : b.rule ≤ 15
+-- ---- what the stricter rules remark
 
-abbrev pub AreRules : Breaches → Type 0
-AreRules bs = AllByRecursion IsRule bs
+-- of a header that stands at a bit of the input and is told of a picture
+abbrev pub remarked_at : ℕ → ℕ → Remark → Broken
+remarked_at picture bit m = record {
+  picture = picture;
+  bit = bit;
+  rule = m.rule;
+  element = Some m.element;
+  have = m.have;
+  need = m.need;
+}
+
+-- breaches and warnings, in turn
+unfoldable pub with_remarks : Report → ℕ → ℕ → Remarks → Report
+with_remarks r picture bit [] = r
+with_remarks r picture bit (m ∷ ms) = with_remarks (with_finding r (remarked_at picture bit m)) picture bit ms
 
 -- ---- frames that stand at another place than they say (rule 11)
 
 abbrev pub misplaced_at : Misplaced → Broken
-misplaced_at m = record { picture = m.number; bit = m.bit; rule = 11; have = m.have; need = m.need }
+misplaced_at m = record { picture = m.number; bit = m.bit; rule = 11; element = None; have = m.have; need = m.need }
 
 -- those that are told, in turn
 unfoldable pub with_misplaced : Report → List (Option Misplaced) → Report

@@ -1,19 +1,18 @@
 -- The report on its way: what was told from a place on is the lines that were put, and then what is told from here on.
-use Rattle.std.specs.Prelude.{◌≡◌, ◌⊎◌, ℕ, ◌+◌, ◌-◌, ◌<◌, Bool, true, false, List, [], ◌++◌, length, Option, Some, None, Result, Ok, Err}
+use Rattle.std.specs.Prelude.{◌≡◌, ◌⊎◌, ℕ, ◌+◌, ◌-◌, ◌<◌, Bool, true, false, List, ◌++◌, length, Option, Some, None, Result, Ok, Err}
 use Rattle.m2v_port.specs.Ends.{Change}
 use Rattle.m2v_port.specs.Port.{Moves, Grows, GrowsByPrefix}
 use Rattle.m2v_model.specs.declared.notes.Notes.{Notes}
-use Rattle.m2v_model.specs.Pieces.{Limit, too_long, too_large}
+use Rattle.m2v_model.specs.Pieces.{too_long, too_large}
 use Rattle.m2v_model.specs.PieceNotes.{noted}
 use Rattle.m2v_model.specs.ByPieces.{Between, at_start, piece_read, end_read}
 use Rattle.m2v_dec_piece.specs.declared.answer.Piece.{Piece}
 use Rattle.m2v_dec_piece.specs.declared.answer.DecodeError.{DecodeError}
 use Rattle.m2v_dec_piece.specs.declared.answer.DecodeError.TheVariants as errors
 use Rattle.m2v_dec_piece.specs.Cutting.{Cutting, left_of, start_of, follows_of}
-use Rattle.m2v_check.specs.m2v_decode.Decoding.{Decoding, between, whole_of}
-use Rattle.m2v_check.specs.m2v_decode.Reading.{Reading, Follows, LeadsOn}
-use Rattle.m2v_check.specs.m2v_decode.Answers.{OfText}
-use Rattle.m2v_check.specs.m2v_decode.Progress.{Cuts}
+use Rattle.m2v_strict.specs.m2v_check.m2v_decode.Decoding.{Decoding, between, whole_of}
+use Rattle.m2v_strict.specs.m2v_check.m2v_decode.Reading.{Reading, Follows, LeadsOn}
+use Rattle.m2v_strict.specs.m2v_check.m2v_decode.Answers.{OfText}
 use Rattle.m2v_audit.specs.declared.records.TotalRecord.{TotalRecord}
 use Rattle.m2v_audit.specs.declared.outcome.Ending.{Ending}
 use Rattle.m2v_audit.specs.declared.outcome.Outcome.{Outcome}
@@ -22,6 +21,7 @@ use Rattle.m2v_audit.specs.Lines.{skipped_text}
 use Rattle.m2v_audit.specs.declared.words.LimitKind.TheVariants as limits
 use Rattle.m2v_audit.specs.declared.outcome.Ending.TheVariants as endings
 use Rattle.m2v_audit.specs.Audited.{Audited, Telling, then_comes, totalled, counted_with, end_told, by_fault, by_limit, pieces_told, texts_told, audited}
+use Rattle.m2v_audit.specs.declared.asked.Asked.{Asked}
 
 -- ---- from one place to another
 
@@ -122,24 +122,24 @@ as_ending errors.Memory = Err errors.Memory
 -- ---- texts
 
 -- what is told from here on, where a text begins; n is a number for what is left to be read
-abbrev pub texts_from : ℕ → Bool → Bool → TotalRecord → Cutting → Onward (Unit {0})
-texts_from n each later t c = λ x rest. texts_told (n + length rest) each later t c.place (c.unread ++ rest)
+abbrev pub texts_from : ℕ → Asked → Bool → TotalRecord → Cutting → Onward (Unit {0})
+texts_from n asked later t c = λ x rest. texts_told (n + length rest) asked later t c.place (c.unread ++ rest)
 
 -- the last line is left
 abbrev pub total_from : TotalRecord → Ending → Onward (Unit {0})
 total_from t e = λ x rest. totalled t e
 
 -- another text follows, which begins where the cutter goes on
-pub record GoesOn (left held : Change) (old : Onward (Unit {0})) (each : Bool) (t : TotalRecord) (c c' : Cutting) : Type 0 where
+pub record GoesOn (left held : Change) (old : Onward (Unit {0})) (asked : Asked) (t : TotalRecord) (c c' : Cutting) : Type 0 where
   pub number : ℕ
   pub enough : length c'.unread < number
-  pub leads : LeadsTo left held old (texts_from number each true t c')
+  pub leads : LeadsTo left held old (texts_from number asked true t c')
   pub onward : c.place < c'.place
 
 -- a text was told: the next one follows, or the audit ends
-abbrev pub TextTold : Change → Change → Onward (Unit {0}) → Bool → TotalRecord → Cutting → Cutting → Option Ending → Type 0
-TextTold left held old each t c c' None = GoesOn left held old each t c c'
-TextTold left held old each t c c' (Some e) = LeadsTo left held old (total_from t e)
+abbrev pub TextTold : Change → Change → Onward (Unit {0}) → Asked → TotalRecord → Cutting → Cutting → Option Ending → Type 0
+TextTold left held old asked t c c' None = GoesOn left held old asked t c c'
+TextTold left held old asked t c c' (Some e) = LeadsTo left held old (total_from t e)
 
 -- the errors that are left: those of input, output and memory
 abbrev pub Stops : {X : Type 0} → Change → Change → Onward X → DecodeError → Type 0
@@ -153,23 +153,23 @@ Stops left held old errors.Memory = IsCut left held old
 -- ---- the whole
 
 -- what is told of an input
-abbrev pub all_told : Bool → List ℕ → Onward (Unit {0})
-all_told each rules = λ x text. audited each rules text
+abbrev pub all_told : Asked → Onward (Unit {0})
+all_told asked = λ x text. audited asked text
 
 -- The text was audited as a whole: output has grown by its report, and this comes of it.
-pub record IsAudited (each : Bool) (rules text : List ℕ) (held : Change) (o : Outcome) : Type 0 where
-  pub grown : Grows held.old (audited each rules text).report held.new
-  pub outcome : o ≡ (audited each rules text).outcome
+pub record IsAudited (asked : Asked) (text : List ℕ) (held : Change) (o : Outcome) : Type 0 where
+  pub grown : Grows held.old (audited asked text).report held.new
+  pub outcome : o ≡ (audited asked text).outcome
 
 -- a prefix of its report was written
-pub record IsBegun (each : Bool) (rules text : List ℕ) (held : Change) : Type 0 where
-  pub grown : GrowsByPrefix held.old (audited each rules text).report held.new
+pub record IsBegun (asked : Asked) (text : List ℕ) (held : Change) : Type 0 where
+  pub grown : GrowsByPrefix held.old (audited asked text).report held.new
 
 -- When each error comes, and what stands then. A fault and a limit are no error: they are told.
-abbrev pub Fails : Bool → List ℕ → Change → Change → DecodeError → Type 0
-Fails each rules left held errors.Read = left.Failed × OfText left (λ text. IsBegun each rules text held)
-Fails each rules left held errors.Write = held.Failed × OfText left (λ text. IsBegun each rules text held)
-Fails each rules left held (errors.Stream f) = ⊥
-Fails each rules left held errors.TooLong = ⊥
-Fails each rules left held errors.PictureTooLarge = ⊥
-Fails each rules left held errors.Memory = OfText left (λ text. IsBegun each rules text held)
+abbrev pub Fails : Asked → Change → Change → DecodeError → Type 0
+Fails asked left held errors.Read = left.Failed × OfText left (λ text. IsBegun asked text held)
+Fails asked left held errors.Write = held.Failed × OfText left (λ text. IsBegun asked text held)
+Fails asked left held (errors.Stream f) = ⊥
+Fails asked left held errors.TooLong = ⊥
+Fails asked left held errors.PictureTooLarge = ⊥
+Fails asked left held errors.Memory = OfText left (λ text. IsBegun asked text held)

@@ -14,4 +14,5 @@ pub mod WorkedAuditing
 pub mod FaultWords
 pub mod Audited
 pub mod Leading
-pub use Rattle.m2v_check.specs as m2v_check
+pub use Rattle.m2v_strict.specs.m2v_check
+pub use Rattle.m2v_strict.specs as m2v_strict

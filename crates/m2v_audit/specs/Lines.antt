@@ -1,6 +1,8 @@
 -- The lines (records) of the report: what a line is, and the line of each kind of record.
-use Rattle.std.specs.Prelude.{ℕ, Bool, List, [], ◌∷◌, ◌++◌, ◌==◌, nat_eq, map, codes, decimal, if◌then◌else◌}
+use Rattle.std.specs.Prelude.{ℕ, Bool, List, [], ◌∷◌, ◌++◌, ◌==◌, nat_eq, map, codes, decimal, if◌then◌else◌, Option, Some, None}
 use Rattle.std.specs.List.{flat_map}
+use Rattle.m2v_strict.specs.declared.element.Element.{Element}
+use Rattle.m2v_strict.specs.Elements.{word_of}
 use Rattle.m2v_audit.specs.declared.line.Column.{Column as Printed}
 use Rattle.m2v_audit.specs.declared.line.Column.TheVariants as printed
 use Rattle.m2v_audit.specs.declared.words.RateKind.{RateKind}
@@ -70,6 +72,11 @@ name_of rule =
     if rule == 15 then codes "intra_dc_precision" else
     codes "unknown"
 
+-- what is broken: an element that is told, or else what its rule is named by
+unfoldable pub name_with : ℕ → Option Element → List ℕ
+name_with rule None = name_of rule
+name_with rule (Some element) = word_of element
+
 -- the rate at which the buffer is filled; `none` where there is no account
 unfoldable pub rate_word : RateKind → List ℕ
 rate_word rates.Constant = codes "constant"
@@ -137,10 +144,17 @@ held_line h = line_of (codes "held")
     (number h.sequence ∷ number h.picture ∷ number h.time
     ∷ number h.before ∷ number h.taken ∷ number h.after ∷ number h.delay ∷ number h.wait ∷ [])
 
+-- of a breach, and of a warning
+abbrev pub finding_columns : Finding → List Column
+finding_columns f =
+    number f.sequence ∷ number f.picture ∷ number f.bit
+    ∷ number f.rule ∷ word (name_with f.rule f.element) ∷ number f.have ∷ number f.need ∷ []
+
 abbrev pub breach_line : Finding → List ℕ
-breach_line f = line_of (codes "breach")
-    (number f.sequence ∷ number f.picture ∷ number f.bit
-    ∷ number f.rule ∷ word (name_of f.rule) ∷ number f.have ∷ number f.need ∷ [])
+breach_line f = line_of (codes "breach") (finding_columns f)
+
+abbrev pub warning_line : Finding → List ℕ
+warning_line f = line_of (codes "warning") (finding_columns f)
 
 abbrev pub failure_line : FailureRecord → List ℕ
 failure_line f = line_of (codes "failure")
@@ -198,6 +212,9 @@ columns_lines =
     (codes "sequence" ∷ codes "picture" ∷ codes "time"
     ∷ codes "before" ∷ codes "taken" ∷ codes "after" ∷ codes "delay" ∷ codes "wait" ∷ [])
     ++ columns_line (codes "breach")
+    (codes "sequence" ∷ codes "picture" ∷ codes "bit"
+    ∷ codes "rule" ∷ codes "name" ∷ codes "have" ∷ codes "need" ∷ [])
+    ++ columns_line (codes "warning")
     (codes "sequence" ∷ codes "picture" ∷ codes "bit"
     ∷ codes "rule" ∷ codes "name" ∷ codes "have" ∷ codes "need" ∷ [])
     ++ columns_line (codes "failure")

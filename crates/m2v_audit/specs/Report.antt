@@ -1,7 +1,8 @@
 -- The report of a sequence as it grows: each call appends its lines, and counts what they tell.
-use Rattle.std.specs.Prelude.{ℕ, zero, suc, ◌+◌, ◌-◌, ◌/◌, ◌^◌, min, max, Bool, ◌&&◌, not, nat_eq, if◌then◌else◌, List, ◌++◌, replicate, slice_index_or, slice_set, Option, Some, None}
+use Rattle.std.specs.Prelude.{ℕ, zero, suc, ◌+◌, ◌-◌, ◌/◌, ◌^◌, min, max, Bool, ◌&&◌, not, nat_eq, nat_lt, if◌then◌else◌, List, ◌++◌, replicate, slice_index_or, slice_set, Option, Some, None}
 use Rattle.std.specs.Option.{unwrap_or}
 use Rattle.m2v_vbv.specs.declared.removed.Removed.{Removed}
+use Rattle.m2v_strict.specs.Remarks.{is_warning}
 use Rattle.m2v_audit.specs.declared.account.Due.{Due}
 use Rattle.m2v_audit.specs.declared.words.FailureKind.TheVariants as failures
 use Rattle.m2v_audit.specs.declared.records.SequenceRecord.{SequenceRecord}
@@ -16,7 +17,7 @@ use Rattle.m2v_audit.specs.declared.tally.Tally.{Tally}
 use Rattle.m2v_audit.specs.declared.report.Broken.{Broken}
 use Rattle.m2v_audit.specs.declared.report.Rate.{Rate}
 use Rattle.m2v_audit.specs.declared.report.SequenceTotals.{SequenceTotals}
-use Rattle.m2v_audit.specs.Lines.{skipped_text, sequence_line, group_line, picture_line, held_line, breach_line, failure_line, count_line, end_line}
+use Rattle.m2v_audit.specs.Lines.{skipped_text, sequence_line, group_line, picture_line, held_line, breach_line, warning_line, failure_line, count_line, end_line}
 
 -- ---- what is counted
 
@@ -37,7 +38,7 @@ once_more c picture = record {
 
 abbrev pub no_tally : Tally
 no_tally = record {
-  counts = replicate 16 never;
+  counts = replicate 96 never;
   breaches = 0;
   failures = 0;
   warnings = 0;
@@ -50,11 +51,23 @@ no_tally = record {
 abbrev pub count_of : Tally → ℕ → RuleCount
 count_of t rule = slice_index_or t.counts rule never
 
+-- a rule is told once more, at a picture; there is none from 96 on
+abbrev pub counts_with : Tally → ℕ → ℕ → List RuleCount
+counts_with t rule picture =
+    if nat_lt rule 96 then slice_set t.counts rule (once_more (count_of t rule) picture) else t.counts
+
 -- a rule is broken at a picture
 abbrev pub with_rule : Tally → ℕ → ℕ → Tally
 with_rule t rule picture = record t {
-  counts = slice_set t.counts rule (once_more (count_of t rule) picture);
+  counts = counts_with t rule picture;
   breaches = one_more t.breaches;
+}
+
+-- a warning comes at a picture
+abbrev pub with_warned : Tally → ℕ → ℕ → Tally
+with_warned t rule picture = record t {
+  counts = counts_with t rule picture;
+  warnings = one_more t.warnings;
 }
 
 -- the buffer fails once more
@@ -108,6 +121,7 @@ finding_of sequence b = record {
   picture = b.picture;
   bit = b.bit;
   rule = b.rule;
+  element = b.element;
   have = b.have;
   need = b.need;
 }
@@ -117,6 +131,17 @@ with_breach r b = record r {
   text = r.text ++ breach_line (finding_of r.sequence b);
   tally = with_rule r.tally b.rule b.picture;
 }
+
+-- ---- a warning
+
+abbrev pub with_warning : Report → Broken → Report
+with_warning r b = record r {
+  text = r.text ++ warning_line (finding_of r.sequence b);
+  tally = with_warned r.tally b.rule b.picture;
+}
+
+abbrev pub with_finding : Report → Broken → Report
+with_finding r b = if is_warning b.rule then with_warning r b else with_breach r b
 
 -- ---- a removal
 
@@ -228,4 +253,4 @@ end_of r totals = record {
 }
 
 abbrev pub with_end : Report → SequenceTotals → Report
-with_end r totals = with_text (with_counts 15 r) (end_line (end_of r totals))
+with_end r totals = with_text (with_counts 95 r) (end_line (end_of r totals))

@@ -6,11 +6,11 @@ use Rattle.m2v_model.specs.declared.state.Sequence.{Sequence}
 use Rattle.m2v_model.specs.declared.notes.PictureNote.{PictureNote}
 use Rattle.m2v_model.specs.States.{is_frame, is_b}
 use Rattle.m2v_model.specs.Buffering.{intervals}
-use Rattle.m2v_check.specs.declared.coded.CodedPicture.{CodedPicture}
-use Rattle.m2v_check.specs.declared.times.Times.{Times as Checked}
-use Rattle.m2v_check.specs.Breaking.{numbered_of}
-use Rattle.m2v_check.specs.Running.{ends_frame}
-use Rattle.m2v_check.specs.Holding.{time_behind, repeats_behind}
+use Rattle.m2v_strict.specs.m2v_check.declared.coded.CodedPicture.{CodedPicture}
+use Rattle.m2v_strict.specs.m2v_check.declared.times.Times.{Times as Checked}
+use Rattle.m2v_strict.specs.m2v_check.Breaking.{numbered_of}
+use Rattle.m2v_strict.specs.m2v_check.Running.{ends_frame}
+use Rattle.m2v_strict.specs.m2v_check.Holding.{time_behind, repeats_behind}
 
 -- ---- fields
 

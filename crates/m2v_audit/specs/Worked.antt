@@ -1,6 +1,7 @@
 -- Worked records and a worked report, whose lines are written out by hand in the laws on them.
-use Rattle.std.specs.Prelude.{true, false, []}
+use Rattle.std.specs.Prelude.{true, false, [], Some, None}
 use Rattle.m2v_vbv.specs.declared.removed.Removed.{Removed}
+use Rattle.m2v_strict.specs.declared.element.Element.TheVariants as elements
 use Rattle.m2v_audit.specs.declared.account.Due.{Due}
 use Rattle.m2v_audit.specs.declared.words.RateKind.TheVariants as rates
 use Rattle.m2v_audit.specs.declared.words.FailureKind.TheVariants as failures
@@ -12,7 +13,7 @@ use Rattle.m2v_audit.specs.declared.records.EndRecord.{EndRecord}
 use Rattle.m2v_audit.specs.declared.report.Broken.{Broken}
 use Rattle.m2v_audit.specs.declared.report.Rate.{Rate}
 use Rattle.m2v_audit.specs.declared.report.SequenceTotals.{SequenceTotals}
-use Rattle.m2v_audit.specs.Report.{Report, no_tally, with_breach, with_removal, with_end}
+use Rattle.m2v_audit.specs.Report.{Report, no_tally, with_finding, with_removal, with_end}
 
 -- 720 x 576 at 25 Hz, Main Profile at Main Level, interlaced, of low delay, at 6 Mbit/s at most
 abbrev pub television : SequenceRecord
@@ -49,7 +50,39 @@ third = record {
 
 -- a width above that of the level
 abbrev pub too_wide : Finding
-too_wide = record { sequence = 0; picture = 3; bit = 12345; rule = 2; have = 721; need = 720 }
+too_wide = record {
+  sequence = 0;
+  picture = 3;
+  bit = 12345;
+  rule = 2;
+  element = None;
+  have = 721;
+  need = 720;
+}
+
+-- a group whose hour is none
+abbrev pub no_hour : Finding
+no_hour = record {
+  sequence = 0;
+  picture = 3;
+  bit = 12345;
+  rule = 24;
+  element = Some elements.TimeCodeHours;
+  have = 24;
+  need = 23;
+}
+
+-- a height of 1152 lines
+abbrev pub too_high : Finding
+too_high = record {
+  sequence = 0;
+  picture = 0;
+  bit = 96;
+  rule = 52;
+  element = Some elements.Height;
+  have = 1152;
+  need = 1088;
+}
 
 -- a picture for which the decoder waits
 abbrev pub too_late : FailureRecord
@@ -84,7 +117,25 @@ ended = record {
 -- a report of sequence 2, which tells each picture: at constant rate picture 3 breaks rule 11, picture 4 asks for a bit
 -- that isn't there when it is due, and its delay is a tick off
 abbrev pub misplaced : Broken
-misplaced = record { picture = 3; bit = 12345; rule = 11; have = 7; need = 5 }
+misplaced = record {
+  picture = 3;
+  bit = 12345;
+  rule = 11;
+  element = None;
+  have = 7;
+  need = 5;
+}
+
+-- its group header follows another sequence's pictures
+abbrev pub cut_off : Broken
+cut_off = record {
+  picture = 4;
+  bit = 19000;
+  rule = 56;
+  element = Some elements.BrokenLink;
+  have = 1;
+  need = 0;
+}
 
 abbrev pub steady : Rate
 steady = record { constant = true; low_delay = false; size = 3303014400 }
@@ -116,4 +167,4 @@ totals = record { pictures = 5; frames = 4; groups = 1; bytes = 64000 }
 abbrev pub worked_report : Report
 worked_report =
     let begun : Report = record { text = []; tally = no_tally; sequence = 2; pictures = true } in
-    with_end (with_removal (with_breach begun misplaced) steady lacking removed_late) totals
+    with_end (with_removal (with_finding (with_finding begun misplaced) cut_off) steady lacking removed_late) totals

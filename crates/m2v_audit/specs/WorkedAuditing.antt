@@ -6,6 +6,7 @@ use Rattle.m2v_model.specs.m2v_macroblock.m2v_head.declared.picture.PictureInfo.
 use Rattle.m2v_model.specs.m2v_macroblock.m2v_head.declared.picture.PictureExtension.{PictureExtension}
 use Rattle.m2v_model.specs.declared.notes.PictureNote.{PictureNote}
 use Rattle.m2v_model.specs.PieceNotes.{PieceNotes}
+use Rattle.m2v_strict.specs.declared.rule_set.RuleSet.TheVariants as sets
 use Rattle.m2v_audit.specs.WorkedPiece.{sequence_units, group_unit, picture_unit}
 use Rattle.m2v_audit.specs.Auditing.{Auditing, nothing, after_piece, ended}
 
@@ -97,7 +98,7 @@ last_notes = record { sequences = []; group = false; picture = None }
 
 -- the sequence begins at byte 100 of a text that begins at byte 90
 abbrev pub begun : Auditing
-begun = after_piece (nothing 0 true 90) 100 first_piece first_notes
+begun = after_piece (nothing 0 (record { rules = sets.Main; pictures = true }) 90) 100 first_piece first_notes
 
 abbrev pub over : Auditing
 over = ended (after_piece begun 140 last_piece last_notes)

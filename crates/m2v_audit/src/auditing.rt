@@ -1,33 +1,42 @@
 //! What is kept of a sequence that is audited, and how headers and pictures change it.
 ghost use Rattle.std.specs.Prelude.{◌≡◌, ◌≤◌, ◌<◌, ◌^◌, slice_get, OnOk};
 ghost use Rattle.m2v_model.specs.PieceNotes.{noted};
-ghost use Rattle.m2v_audit.specs.Auditing.{nothing, sequence_of, with_first, begun_by, begun, with_sequence, with_group, with_header, sequences_of, with_headers, Keeps};
+ghost use Rattle.m2v_audit.specs.Auditing.{nothing, sequence_of, with_first, begun_by, begun, with_sequence, with_group_by, with_group, with_header, sequences_of, with_headers, Keeps};
 
 use crate::account::Account;
-use crate::findings::{tell_breaches, tell_misplaced};
+use crate::asked::Asked;
+use crate::findings::{Place, tell_breaches, tell_misplaced};
 use crate::headers::PieceHeader;
 use crate::opening::kind_of;
 use crate::places::Places;
+use crate::remarks::{tell_group, tell_sequence};
 use crate::report::{Rate, Report};
 use crate::times::Times;
 use crate::told::{group_record, rate_with, sequence_record};
-use m2v_check::sequence_rules;
 use m2v_model::macro_library::head::{GroupInfo, SequenceExtension, SequenceInfo};
 use m2v_model::{Notes, PictureNote, Sequence};
+use m2v_strict::check::sequence_rules;
+use m2v_strict::{RuleSet, Runs};
 use std::alloc::{AllocError, Global};
 
 /// What is kept of a sequence that is audited.
 #[derive(Drop)]
 pub struct Auditing {
     pub report: Report,
+    /// The rules that are looked at beside those of the Main profile.
+    pub rules: RuleSet,
     /// The byte of the input where the sequence's text begins.
     pub start: u64,
     /// The first sequence header, once the sequence was told.
     pub first: Option<Sequence>,
     /// The last one.
     pub sequence: Option<Sequence>,
+    /// A sequence header came, and no picture after it.
+    pub headed: bool,
     /// A group header came, and no picture after it.
     pub first_in_group: bool,
+    /// What the pictures so far come to.
+    pub runs: Runs,
     pub pictures: u64,
     pub groups: u64,
     /// The frames that are shown.
@@ -71,15 +80,18 @@ impl PieceHeader {
 
 impl Auditing {
     /// Nothing was read of the sequence of this number, whose text begins at a byte of the input.
-    pub(crate) fn new(alloc: Global, number: u64, each: bool, start: u64) -> Auditing
-        ensures { result ≡ nothing number each start }
+    pub(crate) fn new(alloc: Global, number: u64, asked: Asked, start: u64) -> Auditing
+        ensures { result ≡ nothing number asked start }
     {
         Auditing {
-            report: Report::new(alloc, number, each),
+            report: Report::new(alloc, number, asked.pictures),
+            rules: asked.rules,
             start,
             first: None,
             sequence: None,
+            headed: false,
             first_in_group: false,
+            runs: Runs::new(),
             pictures: 0,
             groups: 0,
             frames: 0,
@@ -154,8 +166,38 @@ impl Auditing {
         ensures keeps { Keeps self.old self.new }
     {
         tell_breaches(&mut self.report, self.pictures, bit, &sequence_rules(s))?;
+        let first = self.first.unwrap_or(*s);
+        let place = self.place_at(bit);
+        tell_sequence(&mut self.report, self.rules, place, &first, s)?;
         self.sequence = Some(*s);
+        self.headed = true;
         Ok(())
+    }
+
+    /// Where a header at a bit of the input stands.
+    fn place_at(&self, bit: u64) -> Place
+        ensures picture { result.picture ≡ self.now.pictures }
+        ensures bit { result.bit ≡ bit }
+    {
+        Place {
+            picture: self.pictures,
+            bit,
+        }
+    }
+
+    /// What the stricter rules remark of a group header at a bit of the input, where a sequence header came before it.
+    fn group_remarks(&mut self, bit: u64, g: &GroupInfo) -> Result<(), AllocError>
+        ensures value { OnOk result (self.new ≡ record self.old {
+          report = with_group_by self.old.report self.old.rules self.old.headed
+              self.old.pictures bit self.old.sequence g.now;
+        }) }
+        ensures keeps { Keeps self.old self.new }
+    {
+        let place = self.place_at(bit);
+        match &self.sequence {
+            Some(s) => tell_group(&mut self.report, self.rules, self.headed, place, s, g),
+            None => Ok(()),
+        }
     }
 
     /// A group header at a bit of the input: the group before it ends.
@@ -169,7 +211,9 @@ impl Auditing {
         let told = self.places.close();
         tell_misplaced(&mut self.report, &told)?;
         self.report.group(&record)?;
+        self.group_remarks(bit, g)?;
         self.first_in_group = true;
+        self.runs.group();
         self.groups = self.groups.saturating_add(1);
         Ok(())
     }

@@ -2,10 +2,11 @@
 ghost use Rattle.std.specs.Prelude.{◌≡◌, ◌+◌, ◌≤◌, ◌<◌, ◌^◌, OnOk, IfSome};
 ghost use Rattle.m2v_model.specs.PieceNotes.{noted};
 ghost use Rattle.m2v_dec_piece.specs.Sound.{IsSoundPiece};
-ghost use Rattle.m2v_check.specs.m2v_decode.Decoding.{whole_of};
-ghost use Rattle.m2v_check.specs.Judging.{IsPlaced};
+ghost use Rattle.m2v_strict.specs.m2v_check.m2v_decode.Decoding.{whole_of};
+ghost use Rattle.m2v_strict.specs.m2v_check.Judging.{IsPlaced};
 ghost use Rattle.m2v_audit.specs.Auditing.{nothing, fronted, told, after_piece, totals_of, finished, ended, stopped_by, stopped, is_begun, cleared, IsSound, HasRoom, Keeps, Lessens};
 
+use crate::asked::Asked;
 use crate::auditing::Auditing;
 use crate::findings::{tell_ended, tell_misplaced};
 use crate::headers::front;
@@ -114,13 +115,12 @@ impl Auditing {
 }
 
 impl Auditor {
-    /// Nothing was read of the sequence of this number, whose text begins at the byte `start` of the input. `each` says
-    /// whether each picture is told.
-    pub fn new(alloc: Global, number: u64, each: bool, start: u64) -> Auditor
-        ensures { result ≡ nothing number each start }
+    /// Nothing was read of the sequence of this number, whose text begins at the byte `start` of the input.
+    pub fn new(alloc: Global, number: u64, asked: Asked, start: u64) -> Auditor
+        ensures { result ≡ nothing number asked start }
     {
         Auditor {
-            kept: Auditing::new(alloc, number, each, start),
+            kept: Auditing::new(alloc, number, asked, start),
         }
     }
 

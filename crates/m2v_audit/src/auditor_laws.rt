@@ -17,10 +17,12 @@ pub fn law_auditing_worked()
         ++ codes "sequence\t0\t800\t720\t576\t3\t2\t72\t0\t0\t15000\t112\tvariable\n"
         ++ codes "group\t0\t0\t976\t0\t0\t1\t2\t3\t4\t1\t0\n"
         ++ codes "picture\t0\t0\t1040\tI\tframe\t2\t320\t16\t65535\t3\t0\n"
-        ++ codes "breach\t0\t0\t1040\t15\tintra_dc_precision\t3\t2\n" }
+        ++ codes "breach\t0\t0\t1040\t15\tintra_dc_precision\t3\t2\n"
+        ++ codes "breach\t0\t0\t1040\t34\tframe_pred_frame_dct\t0\t1\n" }
     ensures over { over.report.text ≡ begun.report.text
         ++ codes "breach\t0\t0\t1040\t11\ttemporal_reference\t2\t0\n"
         ++ codes "held\t0\t0\t0\t352\t352\t0\t65535\t0\n"
         ++ codes "count\t0\t11\t1\t0\n" ++ codes "count\t0\t15\t1\t0\n"
-        ++ codes "end\t0\t1\t1\t1\t44\t2\t0\t0\t0\t352\t0\t0\n" }
+        ++ codes "count\t0\t34\t1\t0\n"
+        ++ codes "end\t0\t1\t1\t1\t44\t3\t0\t0\t0\t352\t0\t0\n" }
 {}

@@ -1,13 +1,15 @@
 //! Several findings that the report tells one after another.
 ghost use Rattle.std.specs.Prelude.{◌≡◌, OnOk};
-ghost use Rattle.m2v_check.specs.Breaking.{told_by};
+ghost use Rattle.m2v_strict.specs.m2v_check.Breaking.{told_by};
+ghost use Rattle.m2v_strict.specs.Remarks.{told_by as remarks_by};
 ghost use Rattle.m2v_audit.specs.Account.{settled, after_settled, ended};
-ghost use Rattle.m2v_audit.specs.Findings.{AreRules, with_breaches, with_misplaced, with_removals};
+ghost use Rattle.m2v_audit.specs.Findings.{with_breaches, with_remarks, with_misplaced, with_removals};
 
 use crate::account::Account;
 use crate::places::Misplaced;
 use crate::report::{Broken, Rate, Report};
-use m2v_check::BrokenRule;
+use m2v_strict::Remark;
+use m2v_strict::check::BrokenRule;
 use std::alloc::AllocError;
 
 /// Tells the breaches of some rules at a bit of the input, of a picture.
@@ -18,7 +20,6 @@ pub(crate) fn tell_breaches(
     bit: u64,
     places: &[Option<BrokenRule>],
 ) -> Result<(), AllocError>
-    requires rules { AreRules (told_by places.now) }
     ensures value { OnOk result (report.new
         ≡ with_breaches report.old picture bit (told_by places.now)) }
 {
@@ -28,8 +29,41 @@ pub(crate) fn tell_breaches(
                 picture,
                 bit,
                 rule: broken.rule,
+                element: None,
                 have: broken.have,
                 need: broken.need,
+            })?;
+        }
+    }
+    Ok(())
+}
+
+/// Where a header stands: the picture of which it is told, and its bit in the input.
+#[derive(Clone, Copy)]
+pub(crate) struct Place {
+    pub picture: u64,
+    pub bit: u64,
+}
+
+/// Tells what some stricter rules remark of a header.
+#[tactic(auto, unfolding(crate::specs::Findings::with_remarks))]
+pub(crate) fn tell_remarks(
+    report: &mut Report,
+    place: Place,
+    remarks: &[Option<Remark>],
+) -> Result<(), AllocError>
+    ensures { OnOk result (report.new
+        ≡ with_remarks report.old place.picture place.bit (remarks_by remarks.now)) }
+{
+    for each in remarks {
+        if let Some(remark) = each {
+            report.finding(&Broken {
+                picture: place.picture,
+                bit: place.bit,
+                rule: remark.rule,
+                element: Some(remark.element),
+                have: remark.have,
+                need: remark.need,
             })?;
         }
     }
@@ -50,6 +84,7 @@ pub(crate) fn tell_misplaced(
                 picture: misplaced.number,
                 bit: misplaced.bit,
                 rule: 11,
+                element: None,
                 have: misplaced.have,
                 need: misplaced.need,
             })?;

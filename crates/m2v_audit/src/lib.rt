@@ -4,6 +4,7 @@
 
 mod account;
 mod account_laws;
+mod asked;
 mod auditing;
 mod auditor;
 mod auditor_laws;
@@ -19,6 +20,7 @@ mod pictures;
 mod pieces;
 mod places;
 mod records;
+mod remarks;
 mod report;
 mod tally;
 mod texts;
@@ -32,6 +34,7 @@ mod zeros;
 
 pub use account::{Account, Due};
 pub use account_laws::{law_account_worked, law_as_soon_as_settled, law_told_in_all};
+pub use asked::Asked;
 pub use auditing::Auditing;
 pub use auditor::Auditor;
 pub use auditor_laws::{law_auditing_worked, law_bytes_counted};
@@ -39,6 +42,7 @@ pub use fault_words::fault_word;
 pub use front_laws::{law_front_placed, law_front_worked};
 pub use headers::{PieceHeader, front};
 pub use lines::Lines;
+pub use m2v_strict::RuleSet;
 pub use opening::{first_buffer, kind_of};
 pub use outcome::{Ending, Outcome};
 pub use places::{Misplaced, Places, Waiting, WaitingFrame};

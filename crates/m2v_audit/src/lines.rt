@@ -1,6 +1,6 @@
 //! The lines of the report, record by record.
-ghost use Rattle.std.specs.Prelude.{◌≡◌, ◌++◌, [], OnOk};
-ghost use Rattle.m2v_audit.specs.Lines.{audit_line, columns_lines, skipped_text, sequence_line, group_line, picture_line, held_line, breach_line, failure_line, fault_line, limit_line, count_line, end_line, total_line};
+ghost use Rattle.std.specs.Prelude.{◌≡◌, ◌++◌, map, [], OnOk};
+ghost use Rattle.m2v_audit.specs.Lines.{audit_line, columns_lines, skipped_text, sequence_line, group_line, picture_line, held_line, breach_line, warning_line, finding_columns, told, failure_line, fault_line, limit_line, count_line, end_line, total_line};
 
 use crate::line::{Column, print};
 use crate::records::{
@@ -8,7 +8,7 @@ use crate::records::{
     SequenceRecord, TotalRecord,
 };
 use crate::words::{
-    LimitKind, column_names, failure_word, limit_word, name_of, rate_word, structure_word,
+    LimitKind, column_names, failure_word, limit_word, name_with, rate_word, structure_word,
     type_word,
 };
 use std::alloc::{AllocError, Global};
@@ -179,19 +179,15 @@ impl Lines {
         ensures { OnOk result (self.new.text.items
             ≡ self.old.text.items ++ breach_line f.now) }
     {
-        print(
-            &mut self.text,
-            "breach",
-            &[
-                Column::of(f.sequence),
-                Column::of(f.picture),
-                Column::of(f.bit),
-                Column::of(u64::from(f.rule)),
-                Column::Word(name_of(f.rule)),
-                Column::Number(f.have),
-                Column::Number(f.need),
-            ],
-        )
+        print(&mut self.text, "breach", &finding_columns(f))
+    }
+
+    /// A warning.
+    pub fn warning(&mut self, f: &Finding) -> Result<(), AllocError>
+        ensures { OnOk result (self.new.text.items
+            ≡ self.old.text.items ++ warning_line f.now) }
+    {
+        print(&mut self.text, "warning", &finding_columns(f))
     }
 
     /// A failure of the buffer.
@@ -299,4 +295,20 @@ impl Lines {
             ],
         )
     }
+}
+
+/// The columns of a breach, and of a warning.
+#[tactic(auto, unfolding(crate::specs::Lines::told))]
+fn finding_columns(f: &Finding) -> [Column<'static>; 7]
+    ensures { map told result ≡ finding_columns f.now }
+{
+    [
+        Column::of(f.sequence),
+        Column::of(f.picture),
+        Column::of(f.bit),
+        Column::of(u64::from(f.rule)),
+        Column::Word(name_with(f.rule, f.element)),
+        Column::Number(f.have),
+        Column::Number(f.need),
+    ]
 }

@@ -4,8 +4,8 @@ ghost use Rattle.m2v_model.specs.Lawful.{rate_rule, buffer_rule};
 ghost use Rattle.m2v_audit.specs.Opening.{keeps, has_frame_rate, has_account, kind_of, step_of, buffer_at_first, first_buffer, CanBegin};
 
 use crate::words::RateKind;
-use m2v_check::{bounds_at, buffer_of, level_of, rate_of, time_of_field};
 use m2v_model::{PictureNote, Sequence};
+use m2v_strict::check::{bounds_at, buffer_of, level_of, rate_of, time_of_field};
 use m2v_vbv::Buffer;
 
 /// The vbv_delay of a sequence at variable rate (clause 6.3.9).

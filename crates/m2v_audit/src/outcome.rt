@@ -5,7 +5,7 @@ ghost use Rattle.m2v_audit.specs.Audited.{none_counted, counted_with};
 use crate::auditor::Auditor;
 use crate::records::TotalRecord;
 use crate::words::LimitKind;
-use m2v_check::decode::Fault;
+use m2v_strict::check::decode::Fault;
 
 /// How an audit ends.
 #[derive(Clone, Copy, Debug, PartialEq, Eq)]

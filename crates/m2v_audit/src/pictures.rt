@@ -1,7 +1,7 @@
 //! How a picture changes what is kept of a sequence that is audited: its rules, its place in its group, and the account.
 ghost use Rattle.std.specs.Prelude.{◌≡◌, ◌+◌, ◌*◌, ◌≤◌, ◌<◌, ◌^◌, OnOk, IfSome};
 ghost use Rattle.std.specs.Option.{option_map};
-ghost use Rattle.m2v_check.specs.Judging.{IsPlaced};
+ghost use Rattle.m2v_strict.specs.m2v_check.Judging.{IsPlaced};
 ghost use Rattle.m2v_audit.specs.Account.{Account as State, IsPicture, with_more};
 ghost use Rattle.m2v_audit.specs.Auditing.{coded, constant_with, is_shown, counted, with_rules, with_told, with_place, due_of, opened_by, account_by, with_account, with_coded, pictured, with_settled, total_of, IsSound, HasRoom, Keeps};
 ghost use Rattle.m2v_audit.specs.Times.{after as times_after};
@@ -10,10 +10,11 @@ use crate::account::{Account, Due};
 use crate::auditing::Auditing;
 use crate::findings::{tell_breaches, tell_misplaced, tell_settled};
 use crate::opening::{VARIABLE, first_buffer};
+use crate::remarks::tell_picture;
 use crate::report::Report;
 use crate::told::{bit_of, picture_record, waiting_of};
-use m2v_check::{CodedPicture, ends_frame, is_b, rules_from_12, rules_to_10};
 use m2v_model::{PictureNote, Sequence};
+use m2v_strict::check::{CodedPicture, ends_frame, is_b, rules_from_12, rules_to_10};
 use std::alloc::{AllocError, Global};
 
 /// The frame of a picture is shown with it.
@@ -119,6 +120,7 @@ impl Auditing {
         ensures { self.new ≡ counted self.old p.now }
     {
         self.constant = self.constant_with(p);
+        self.headed = false;
         self.first_in_group = false;
         self.pictures += 1;
         if is_shown(&p.note) {
@@ -135,7 +137,10 @@ impl Auditing {
     {
         let record = picture_record(self.report.number(), p, bytes, zeros);
         self.report.picture(&record)?;
-        tell_rules(&mut self.report, self.constant, p)
+        tell_rules(&mut self.report, self.constant, p)?;
+        tell_picture(&mut self.report, self.rules, self.constant, &self.runs, p)?;
+        self.runs.picture(p, record.fields);
+        Ok(())
     }
 
     /// Gives the picture's frame its place, and tells which frames stand wrong by it.

@@ -4,15 +4,15 @@ ghost use Rattle.m2v_port.specs.Ends.{change, SinkStays};
 ghost use Rattle.m2v_port.specs.Port.{Grows};
 ghost use Rattle.m2v_model.specs.ByPieces.{at_start};
 ghost use Rattle.m2v_dec_piece.specs.Sound.{IsSoundPiece};
-ghost use Rattle.m2v_check.specs.m2v_decode.Decoding.{Decoding};
-ghost use Rattle.m2v_check.specs.m2v_decode.Progress.{Cuts};
-ghost use Rattle.m2v_check.specs.m2v_decode.Reading.{nothing_read, Follows};
+ghost use Rattle.m2v_strict.specs.m2v_check.m2v_decode.Decoding.{Decoding};
+ghost use Rattle.m2v_strict.specs.m2v_check.m2v_decode.Progress.{Cuts};
+ghost use Rattle.m2v_strict.specs.m2v_check.m2v_decode.Reading.{nothing_read, Follows};
 ghost use Rattle.m2v_audit.specs.Auditing.{cleared};
 ghost use Rattle.m2v_audit.specs.Leading.{PieceTold, PieceFails, AreTold, IsTextRead, pieces_from, TextStops};
 
 use crate::auditor::Auditor;
-use m2v_check::decode::{Cutter, DecodeError, Piece, Reader};
 use m2v_port::{PortError, Sink, Source};
+use m2v_strict::check::decode::{Cutter, DecodeError, Piece, Reader};
 use std::alloc::Global;
 
 /// Writes bytes.

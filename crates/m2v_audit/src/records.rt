@@ -1,6 +1,7 @@
 //! What the records of the report tell. Sequences are numbered from 0, pictures from 0 in each sequence, in coding order.
 //! Places are counted from the beginning of the input.
 use crate::words::{FailureKind, PictureType, RateKind, Structure};
+use m2v_strict::Element;
 
 /// A sequence, by its first header.
 #[derive(Clone, Copy, Debug, PartialEq, Eq)]
@@ -82,13 +83,15 @@ pub struct HeldRecord {
     pub wait: u64,
 }
 
-/// A breach of a rule.
+/// A breach of a rule, or a warning.
 #[derive(Clone, Copy, Debug, PartialEq, Eq)]
 pub struct Finding {
     pub sequence: u64,
     pub picture: u64,
     pub bit: u64,
     pub rule: u8,
+    /// The element that breaks it, where its rule isn't named by itself.
+    pub element: Option<Element>,
     /// What stands there.
     pub have: u128,
     /// What the rule wants.

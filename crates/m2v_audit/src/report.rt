@@ -1,6 +1,6 @@
 // The report of a sequence as it grows.
 ghost use Rattle.std.specs.Prelude.{◌≡◌, ◌<◌, ◌≤◌, [], OnOk};
-ghost use Rattle.m2v_audit.specs.Report.{no_tally, with_breach, held_of, under_of, over_of, with_failure, with_held, with_under, with_over, with_removal, with_begin, with_group_line, with_picture_line, with_count, with_counts, end_of, with_end};
+ghost use Rattle.m2v_audit.specs.Report.{no_tally, finding_of, with_breach, with_warning, with_finding, held_of, under_of, over_of, with_failure, with_held, with_under, with_over, with_removal, with_begin, with_group_line, with_picture_line, with_count, with_counts, end_of, with_end};
 
 use crate::account::Due;
 use crate::lines::Lines;
@@ -10,6 +10,7 @@ use crate::records::{
 };
 use crate::tally::{Tally, after_of, before_of};
 use crate::words::FailureKind;
+use m2v_strict::{Element, is_warning};
 use m2v_vbv::Removed;
 use std::alloc::{AllocError, Global};
 use std::marker::Model;
@@ -17,15 +18,17 @@ use std::marker::Model;
 /// The delay that is told at variable rate (vbv_delay, clause 6.3.9).
 const VARIABLE: u128 = 65_535;
 
-/// A rule that is broken at a picture.
+/// A rule that is broken at a picture, or a warning.
 #[derive(Clone, Copy, Debug, PartialEq, Eq)]
 pub struct Broken {
     /// Its number in the sequence, in coding order.
     pub picture: u64,
     /// The place in the input, in bits.
     pub bit: u64,
-    /// The rule's number, 1 to 15.
+    /// The number of the rule or of the warning (`m2v_strict::is_warning`), 1 to 95.
     pub rule: u8,
+    /// The element that breaks it, where its rule isn't named by itself.
+    pub element: Option<Element>,
     /// What stands there.
     pub have: u128,
     /// What the rule wants.
@@ -158,20 +161,30 @@ impl Report {
 
     /// A rule is broken.
     pub fn breach(&mut self, b: &Broken) -> Result<(), AllocError>
-        requires least { 1 ≤ b.now.rule }
-        requires most { b.now.rule ≤ 15 }
         ensures { OnOk result (self.new ≡ with_breach self.old b.now) }
     {
-        self.lines.breach(&Finding {
-            sequence: self.sequence,
-            picture: b.picture,
-            bit: b.bit,
-            rule: b.rule,
-            have: b.have,
-            need: b.need,
-        })?;
+        self.lines.breach(&finding_of(self.sequence, b))?;
         self.tally.breach(b.rule, b.picture);
         Ok(())
+    }
+
+    /// A warning.
+    fn warning(&mut self, b: &Broken) -> Result<(), AllocError>
+        ensures { OnOk result (self.new ≡ with_warning self.old b.now) }
+    {
+        self.lines.warning(&finding_of(self.sequence, b))?;
+        self.tally.warning(b.rule, b.picture);
+        Ok(())
+    }
+
+    /// A rule is broken, or a warning comes, by its number.
+    pub fn finding(&mut self, b: &Broken) -> Result<(), AllocError>
+        ensures { OnOk result (self.new ≡ with_finding self.old b.now) }
+    {
+        if is_warning(b.rule) {
+            return self.warning(b);
+        }
+        self.breach(b)
     }
 
     /// A picture is removed from the buffer.
@@ -235,9 +248,9 @@ impl Report {
 
     /// How often each rule was broken that was.
     fn counts(&mut self) -> Result<(), AllocError>
-        ensures { OnOk result (self.new ≡ with_counts 15 self.old) }
+        ensures { OnOk result (self.new ≡ with_counts 95 self.old) }
     {
-        for rule in 1..16 {
+        for rule in 1..96 {
             self.count(rule)?;
         }
         Ok(())
@@ -245,7 +258,7 @@ impl Report {
 
     /// How often a rule was broken, where it was.
     fn count(&mut self, rule: u8) -> Result<(), AllocError>
-        requires { rule < 16 }
+        requires { rule < 96 }
         ensures { OnOk result (self.new ≡ with_count self.old rule) }
     {
         let count = self.tally.count(rule);
@@ -278,6 +291,21 @@ impl Report {
             delays: self.tally.delays,
             time: self.tally.time,
         }
+    }
+}
+
+/// What is told of a breach, and of a warning.
+fn finding_of(sequence: u64, b: &Broken) -> Finding
+    ensures { result ≡ finding_of sequence b.now }
+{
+    Finding {
+        sequence,
+        picture: b.picture,
+        bit: b.bit,
+        rule: b.rule,
+        element: b.element,
+        have: b.have,
+        need: b.need,
     }
 }
 

@@ -1,6 +1,6 @@
 //! What is counted of a sequence.
 ghost use Rattle.std.specs.Prelude.{◌≡◌, ◌<◌};
-ghost use Rattle.m2v_audit.specs.Report.{once_more, no_tally, count_of, with_rule, with_failing, before_of, after_of, least, is_off, with_due};
+ghost use Rattle.m2v_audit.specs.Report.{once_more, no_tally, count_of, counts_with, with_rule, with_warned, with_failing, before_of, after_of, least, is_off, with_due};
 
 use crate::account::Due;
 use m2v_vbv::Removed;
@@ -33,7 +33,7 @@ impl RuleCount {
 #[derive(Clone, Copy, Debug, PartialEq, Eq)]
 pub struct Tally {
     /// How often each rule was broken: rule n in place n, and none in place 0.
-    pub counts: [RuleCount; 16],
+    pub counts: [RuleCount; 96],
     pub breaches: u64,
     pub failures: u64,
     pub warnings: u64,
@@ -56,7 +56,7 @@ impl Tally {
             counts: [RuleCount {
                 how_often: 0,
                 picture: 0,
-            }; 16],
+            }; 96],
             breaches: 0,
             failures: 0,
             warnings: 0,
@@ -69,19 +69,35 @@ impl Tally {
 
     /// How often a rule was broken.
     pub(crate) fn count(&self, rule: u8) -> RuleCount
-        requires { rule < 16 }
+        requires { rule < 96 }
         ensures { result ≡ count_of self.now rule }
     {
         self.counts[usize::from(rule)]
     }
 
+    /// A rule is told once more, at a picture.
+    fn rule(&mut self, rule: u8, picture: u64)
+        ensures { self.new ≡ record self.old { counts = counts_with self.old rule picture } }
+    {
+        if rule < 96 {
+            self.counts[usize::from(rule)] = self.count(rule).once_more(picture);
+        }
+    }
+
     /// A rule is broken at a picture.
     pub(crate) fn breach(&mut self, rule: u8, picture: u64)
-        requires { rule < 16 }
         ensures { self.new ≡ with_rule self.old rule picture }
     {
-        self.counts[usize::from(rule)] = self.count(rule).once_more(picture);
+        self.rule(rule, picture);
         self.breaches = self.breaches.saturating_add(1);
+    }
+
+    /// A warning comes at a picture.
+    pub(crate) fn warning(&mut self, rule: u8, picture: u64)
+        ensures { self.new ≡ with_warned self.old rule picture }
+    {
+        self.rule(rule, picture);
+        self.warnings = self.warnings.saturating_add(1);
     }
 
     /// The buffer fails.

@@ -2,12 +2,13 @@
 ghost use Rattle.std.specs.Prelude.{◌≡◌, ◌+◌, ◌-◌, ◌≤◌, ◌<◌, ◌^◌, ◌++◌, ℕ, length, [], IsTrue, IfOk, IfErr, IfNone, OnOk, false, true};
 ghost use Rattle.m2v_port.specs.Ends.{change, SinkStays};
 ghost use Rattle.m2v_port.specs.Port.{Grows};
-ghost use Rattle.m2v_check.specs.m2v_decode.Progress.{Cuts, before_all};
+ghost use Rattle.m2v_strict.specs.m2v_check.m2v_decode.Progress.{Cuts, before_all};
 ghost use Rattle.m2v_audit.specs.Auditing.{stopped, ended};
 ghost use Rattle.m2v_audit.specs.Audited.{counted_with, none_counted, stopping_line as line_of_stop, stopping_text};
 ghost use Rattle.m2v_audit.specs.Lines.{skipped_text};
 ghost use Rattle.m2v_audit.specs.Leading.{as_ending, texts_from, total_from, LeadsTo, Stops, TextTold};
 
+use crate::asked::Asked;
 use crate::auditor::Auditor;
 use crate::fault_words::fault_word;
 use crate::lines::Lines;
@@ -15,8 +16,8 @@ use crate::outcome::Ending;
 use crate::pieces::{put, read_text};
 use crate::records::TotalRecord;
 use crate::words::LimitKind;
-use m2v_check::decode::{Cutter, DecodeError};
 use m2v_port::{Sink, Source};
+use m2v_strict::check::decode::{Cutter, DecodeError};
 use std::alloc::{AllocError, Global};
 
 /// How an audit ends by an error of a text; Read, Write and Memory are errors of the audit.
@@ -114,7 +115,7 @@ fn stop<K: Sink>(
 /// where it does.
 fn tell_text<S: Source, K: Sink>(
     alloc: Global,
-    each: bool,
+    asked: Asked,
     later: bool,
     totals: &mut TotalRecord,
     cutter: &mut Cutter,
@@ -128,7 +129,7 @@ fn tell_text<S: Source, K: Sink>(
     ensures ok { IfOk result (λ ending. (n : ℕ) → length cutter.old.unread < n → TextTold
         (change S.left S.faults input.old input.new)
         (change K.held K.faults output.old output.new)
-        (texts_from n each later totals.old cutter.old) each totals.new cutter.old cutter.new
+        (texts_from n asked later totals.old cutter.old) asked totals.new cutter.old cutter.new
         ending) }
     ensures most { cutter.old.place ≤ 2 ^ 36 }
     ensures over { IfOk result (λ ending. IfNone ending (cutter.new.ended ≡ true)) }
@@ -136,12 +137,12 @@ fn tell_text<S: Source, K: Sink>(
     ensures err { IfErr result (λ e. (n : ℕ) → length cutter.old.unread < n → Stops
         (change S.left S.faults input.old input.new)
         (change K.held K.faults output.old output.new)
-        (texts_from n each later totals.old cutter.old) e) }
+        (texts_from n asked later totals.old cutter.old) e) }
     ensures output { SinkStays K.ready K.name K.faults output.old output.new }
     ensures input { S.faults input.old ≤ S.faults input.new }
 {
     let start = cutter.place();
-    let mut auditor = Auditor::new(alloc, totals.sequences, each, start);
+    let mut auditor = Auditor::new(alloc, totals.sequences, asked, start);
     match read_text(alloc, later, cutter, &mut auditor, input, output) {
         Ok(true) => {
             skip(alloc, totals.sequences, start, cutter.end(), output)?;
@@ -162,7 +163,7 @@ fn tell_text<S: Source, K: Sink>(
 /// Reads text after text, and writes the report of each. Answers how the audit ends.
 pub(crate) fn tell_texts<S: Source, K: Sink>(
     alloc: Global,
-    each: bool,
+    asked: Asked,
     totals: &mut TotalRecord,
     cutter: &mut Cutter,
     input: &mut S,
@@ -174,17 +175,17 @@ pub(crate) fn tell_texts<S: Source, K: Sink>(
     ensures ok { IfOk result (λ ending. LeadsTo
         (change S.left S.faults input.old input.new)
         (change K.held K.faults output.old output.new)
-        (texts_from 1 each false none_counted before_all) (total_from totals.new ending)) }
+        (texts_from 1 asked false none_counted before_all) (total_from totals.new ending)) }
     ensures err { IfErr result (Stops
         (change S.left S.faults input.old input.new)
         (change K.held K.faults output.old output.new)
-        (texts_from 1 each false none_counted before_all)) }
+        (texts_from 1 asked false none_counted before_all)) }
     ensures output { SinkStays K.ready K.name K.faults output.old output.new }
     ensures input { S.faults input.old ≤ S.faults input.new }
 {
     let mut later = false;
     loop {
-        match tell_text(alloc, each, later, totals, cutter, input, output)? {
+        match tell_text(alloc, asked, later, totals, cutter, input, output)? {
             Some(ending) => return Ok(ending),
             None => {}
         }

@@ -2,8 +2,8 @@
 ghost use Rattle.std.specs.Prelude.{◌≡◌, ◌≤◌, ◌<◌, ◌^◌, not, ◌&&◌, if◌then◌else◌};
 ghost use Rattle.m2v_audit.specs.Times.{fields_of, frame_fields, is_anchor, opened, fields_until_next, time_of, last_with, after};
 
-use m2v_check::{ends_frame, is_b, is_frame, time_of_field};
 use m2v_model::{PictureNote, Sequence};
+use m2v_strict::check::{ends_frame, is_b, is_frame, time_of_field};
 use std::marker::Model;
 
 /// For how many fields a frame picture is shown (clause 6.3.10).

@@ -1,8 +1,8 @@
 // What the times from one removal to the next have to do with those that `check` goes by.
 ghost use Rattle.std.specs.Prelude.{ℕ, Bool, List};
 ghost use Rattle.std.specs.List.{AllByRecursion};
-ghost use Rattle.m2v_check.specs.declared.coded.CodedPicture.{CodedPicture};
-ghost use Rattle.m2v_check.specs.declared.times.Times.{Times as Checked};
+ghost use Rattle.m2v_strict.specs.m2v_check.declared.coded.CodedPicture.{CodedPicture};
+ghost use Rattle.m2v_strict.specs.m2v_check.declared.times.Times.{Times as Checked};
 ghost use Rattle.m2v_audit.specs.Times.{IsOnce, IsSameStep, AreIntervals};
 
 /// Where no frame is repeated in a progressive sequence, the times are those of the account by which `check` judges: one

@@ -8,9 +8,9 @@ use crate::records::{GroupRecord, PictureRecord, SequenceRecord};
 use crate::report::Rate;
 use crate::times::fields_of;
 use crate::words::{PictureType, RateKind, Structure};
-use m2v_check::{CodedPicture, buffer_of, rate_of};
 use m2v_model::macro_library::head::GroupInfo;
 use m2v_model::{PictureNote, Sequence};
+use m2v_strict::check::{CodedPicture, buffer_of, rate_of};
 
 /// A sequence, by its first header, which stands at a bit of the input.
 pub(crate) fn sequence_record(number: u64, bit: u64, s: &Sequence, rate: RateKind) -> SequenceRecord

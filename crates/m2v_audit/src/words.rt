@@ -1,6 +1,8 @@
 //! The words of the report.
 ghost use Rattle.std.specs.Prelude.{◌≡◌};
-ghost use Rattle.m2v_audit.specs.Lines.{columns_lines, name_of, rate_word, type_word, structure_word, failure_word, limit_word};
+ghost use Rattle.m2v_audit.specs.Lines.{columns_lines, name_of, name_with, rate_word, type_word, structure_word, failure_word, limit_word};
+
+use m2v_strict::Element;
 
 /// The rate at which the buffer is filled.
 #[derive(Clone, Copy, Debug, PartialEq, Eq)]
@@ -80,6 +82,17 @@ pub(crate) fn name_of(rule: u8) -> &'static str
     }
 }
 
+/// The name of what is broken: an element that is told, or else what its rule is named by.
+#[tactic(auto, unfolding(crate::specs::Lines::name_with))]
+pub(crate) fn name_with(rule: u8, element: Option<Element>) -> &'static str
+    ensures { result.now ≡ name_with rule element }
+{
+    match element {
+        Some(element) => element.word(),
+        None => name_of(rule),
+    }
+}
+
 /// The word of a rate.
 #[tactic(auto, unfolding(crate::specs::Lines::rate_word))]
 pub(crate) fn rate_word(rate: RateKind) -> &'static str
@@ -154,6 +167,7 @@ pub(crate) fn column_names() -> &'static str
         "\tbits\tzeros\tvbv_delay\tfields\tdropped\n",
         "columns\theld\tsequence\tpicture\ttime\tbefore\ttaken\tafter\tdelay\twait\n",
         "columns\tbreach\tsequence\tpicture\tbit\trule\tname\thave\tneed\n",
+        "columns\twarning\tsequence\tpicture\tbit\trule\tname\thave\tneed\n",
         "columns\tfailure\tsequence\tpicture\tbit\tkind\ttime\thave\tneed\twait\n",
         "columns\tfault\tsequence\tbit\tkind\n",
         "columns\tlimit\tsequence\tkind\n",

@@ -2,7 +2,7 @@
 ghost use Rattle.std.specs.Prelude.{◌≡◌, ◌-◌, ◌≤◌, ◌&&◌, nat_lt, nat_eq, length, slice_index};
 ghost use Rattle.m2v_model.specs.Pieces.{zeros_last};
 ghost use Rattle.m2v_dec_piece.specs.Sound.{IsSoundPiece};
-ghost use Rattle.m2v_check.specs.m2v_decode.Decoding.{whole_of};
+ghost use Rattle.m2v_strict.specs.m2v_check.m2v_decode.Decoding.{whole_of};
 
 use m2v_dec_piece::Piece;
 

@@ -1,31 +1,42 @@
--- A finding as the verifier has it: a rule on a picture tells of that picture, and one on a sequence header of picture 0.
-use Rattle.std.proofs.Common.{◌≡◌, ℕ, ◌+◌, ◌*◌, Bool, true, false, List, [], ◌∷◌, ◌++◌, map, Option, Some, None, refl, ap}
+-- A finding as the verifier has it: a rule on a picture tells of that picture, and one on a sequence header of picture 0; each rule
+-- is one from 1 to 15.
+use Rattle.std.proofs.Common.{◌≡◌, ℕ, ◌+◌, ◌*◌, Bool, true, false, List, [], ◌∷◌, ◌++◌, map, Option, Some, None, refl, ap, ◌∙◌}
 use Rattle.std.specs.Prelude.{nat_le, nat_lt, if◌then◌else◌}
 use Rattle.std.specs.List.{flat_map, AllByRecursion}
 use Rattle.std.proofs.ByRecursion.{All-append}
+use Rattle.std.proofs.lemmas.List.{map-append}
+use Rattle.std.proofs.lemmas.List.Elements.{filter-append}
 use Rattle.m2v_model.specs.declared.state.Sequence.{Sequence}
 use Rattle.m2v_model.specs.Headers.{uses_backward}
 use Rattle.m2v_model.specs.States.{is_frame}
 use Rattle.m2v_model.specs.Lawful.{Breach, Breaches, breach, judge, at_most, within, limits_in, level_in, most_horizontal, rate_of, buffer_of, has_forward_vectors, f_code_of, Numbered, level_rule, width_rule, height_rule, frame_rate_rule, luma_rule, rate_rule, buffer_rule, sequence_breaches, f_code_rule, horizontal_rule, vertical_rule, intra_rule, crowd_rule, repeat_rule, progressive_rule, precision_rule}
 use Rattle.m2v_audit.specs.declared.places.Misplaced.{Misplaced}
+use Rattle.m2v_audit.specs.declared.records.Finding.{Finding}
 use Rattle.m2v_law_audit.specs.Breaches.{as_judged}
-use Rattle.m2v_law_audit.specs.Found.{found_at, found_misplaced}
+use Rattle.m2v_law_audit.specs.Found.{found_at, found_misplaced, judged_in}
 use Rattle.m2v_law_audit.proofs.BreachCounts.{place_breaches, other_rules}
 
 -- ---- findings as the verifier has them
 
--- what is told of a picture is the breach itself: sequence headers count as picture 0
+-- those of the rules that the verifier looks at
+abbrev pub judged : List Finding → Breaches
+judged fs = map as_judged (judged_in fs)
+
+pub judged-append : (xs ys : List Finding) → judged (xs ++ ys) ≡ judged xs ++ judged ys
+judged-append xs ys = ap (map as_judged) (filter-append _ xs ys) ∙ map-append as_judged (judged_in xs) (judged_in ys)
+
+-- what is told of a picture is the breach itself: sequence headers count as picture 0; and it is of such a rule
 abbrev IsOf : ℕ → Breach → Type 0
-IsOf picture b = (if nat_le b.rule 7 then 0 else picture) ≡ b.picture
+IsOf picture b = ((if nat_le b.rule 7 then 0 else picture) ≡ b.picture) × (nat_le b.rule 15 ≡ true)
 
 abbrev pub AreOf : ℕ → Breaches → Type 0
 AreOf picture bs = AllByRecursion (IsOf picture) bs
 
-pub judged_as : (sequence picture bit : ℕ) (bs : Breaches) → AreOf picture bs → map as_judged (found_at sequence picture bit bs) ≡ bs
+pub judged_as : (sequence picture bit : ℕ) (bs : Breaches) → AreOf picture bs → judged (found_at sequence picture bit bs) ≡ bs
 judged_as sequence picture bit [] h = refl
-judged_as sequence picture bit (b ∷ bs) h = λ i. breach b.rule (h.0 i) b.have b.need ∷ judged_as sequence picture bit bs h.1 i
+judged_as sequence picture bit (b ∷ bs) h = rw h.0.1 (λ i. breach b.rule (h.0.0 i) b.have b.need ∷ judged_as sequence picture bit bs h.1 i)
 
-pub judged_places : (sequence : ℕ) (ms : List (Option Misplaced)) → map as_judged (found_misplaced sequence ms) ≡ place_breaches ms
+pub judged_places : (sequence : ℕ) (ms : List (Option Misplaced)) → judged (found_misplaced sequence ms) ≡ place_breaches ms
 unfolding place_breaches
 judged_places sequence [] = refl
 judged_places sequence (None ∷ ms) = judged_places sequence ms
@@ -53,15 +64,15 @@ of_first picture f s h = both picture (f s) [] h tt
 
 level_of : (picture : ℕ) (s : Sequence) → AreOf picture (level_rule s)
 unfolding level_rule
-level_of picture s = one_judged picture _ _ refl
+level_of picture s = one_judged picture _ _ (refl, refl)
 
 width_of : (picture : ℕ) (s : Sequence) → AreOf picture (width_rule s)
 unfolding width_rule
-width_of picture s = one_judged picture _ _ refl
+width_of picture s = one_judged picture _ _ (refl, refl)
 
 height_of : (picture : ℕ) (s : Sequence) → AreOf picture (height_rule s)
 unfolding height_rule
-height_of picture s = one_judged picture _ _ refl
+height_of picture s = one_judged picture _ _ (refl, refl)
 
 frame_rate_of : (picture : ℕ) (s : Sequence) → AreOf picture (frame_rate_rule s)
 unfolding frame_rate_rule
@@ -70,20 +81,26 @@ frame_rate_of picture s =
     let most = (limits_in s).codes in
     let change = 32 * s.extension.rate_n + s.extension.rate_d in
     both picture (within 4 0 code 1 most) (at_most 4 0 change 0)
-    (one_within picture (nat_lt code 1) (breach 4 0 code 1) (at_most 4 0 code most) refl (one_judged picture _ _ refl))
-    (one_judged picture (nat_le change 0) (breach 4 0 change 0) refl)
+    (one_within picture (nat_lt code 1) (breach 4 0 code 1) (at_most 4 0 code most) (refl, refl) (one_judged picture _ _ (refl, refl)))
+    (one_judged picture (nat_le change 0) (breach 4 0 change 0) (refl, refl))
 
 luma_of : (picture : ℕ) (s : Sequence) → AreOf picture (luma_rule s)
 unfolding luma_rule
-luma_of picture s = one_judged picture _ _ refl
+luma_of picture s = one_judged picture _ _ (refl, refl)
 
 bits_of : (picture : ℕ) (s : Sequence) → AreOf picture (rate_rule s)
 unfolding rate_rule
-bits_of picture s = one_within picture (nat_lt (rate_of s) 1) (breach 6 0 (rate_of s) 1) (at_most 6 0 (rate_of s) (limits_in s).bits) refl (one_judged picture _ _ refl)
+bits_of picture s =
+    let rate = rate_of s in
+    one_within picture (nat_lt rate 1) (breach 6 0 rate 1) (at_most 6 0 rate (limits_in s).bits) (refl, refl)
+    (one_judged picture _ _ (refl, refl))
 
 held_of : (picture : ℕ) (s : Sequence) → AreOf picture (buffer_rule s)
 unfolding buffer_rule
-held_of picture s = one_within picture (nat_lt (buffer_of s) 1) (breach 7 0 (buffer_of s) 1) (at_most 7 0 (buffer_of s) (limits_in s).buffer) refl (one_judged picture _ _ refl)
+held_of picture s =
+    let size = buffer_of s in
+    one_within picture (nat_lt size 1) (breach 7 0 size 1) (at_most 7 0 size (limits_in s).buffer) (refl, refl)
+    (one_judged picture _ _ (refl, refl))
 
 pub header_of : (picture : ℕ) (s : Sequence) → AreOf picture (sequence_breaches (s ∷ []))
 header_of picture s =
@@ -105,44 +122,45 @@ header_of picture s =
     (of_first picture rate_rule s (bits_of picture s)))
     (of_first picture buffer_rule s (held_of picture s))
 
-codes_of : (rule component : ℕ) (limit : Numbered → ℕ) (n : Numbered) → nat_le rule 7 ≡ false → AreOf n.number (f_code_rule rule component limit n)
-codes_of rule component limit n late =
+codes_of : (rule component : ℕ) (limit : Numbered → ℕ) (n : Numbered) → nat_le rule 7 ≡ false → nat_le rule 15 ≡ true
+    → AreOf n.number (f_code_rule rule component limit n)
+codes_of rule component limit n late most =
     let forward = at_most rule n.number (f_code_of n.picture 0 component) (limit n) in
     let backward = at_most rule n.number (f_code_of n.picture 1 component) (limit n) in
     let is_forward = has_forward_vectors n.picture in
     let is_backward = uses_backward n.picture.info.kind in
     let own : (if nat_le rule 7 then 0 else n.number) ≡ n.number = rw late refl in
     both n.number (if is_forward then forward else []) (if is_backward then backward else [])
-    (one_used n.number is_forward forward (one_judged n.number _ _ own))
-    (one_used n.number is_backward backward (one_judged n.number _ _ own))
+    (one_used n.number is_forward forward (one_judged n.number _ _ (own, most)))
+    (one_used n.number is_backward backward (one_judged n.number _ _ (own, most)))
 
 horizontal_of : (n : Numbered) → AreOf n.number (horizontal_rule n)
 unfolding horizontal_rule
-horizontal_of n = codes_of 8 0 (λ m. most_horizontal (level_in m.sequence)) n refl
+horizontal_of n = codes_of 8 0 (λ m. most_horizontal (level_in m.sequence)) n refl refl
 
 vertical_of : (n : Numbered) → AreOf n.number (vertical_rule n)
 unfolding vertical_rule
-vertical_of n = codes_of 9 1 (λ m. if is_frame m.picture.extension then 5 else 4) n refl
+vertical_of n = codes_of 9 1 (λ m. if is_frame m.picture.extension then 5 else 4) n refl refl
 
 intra_of : (n : Numbered) → AreOf n.number (intra_rule n)
 unfolding intra_rule
-intra_of n = one_judged n.number _ _ refl
+intra_of n = one_judged n.number _ _ (refl, refl)
 
 crowd_of : (n : Numbered) → AreOf n.number (crowd_rule n)
 unfolding crowd_rule
-crowd_of n = one_judged n.number _ _ refl
+crowd_of n = one_judged n.number _ _ (refl, refl)
 
 repeat_of : (c : Bool) (n : Numbered) → AreOf n.number (repeat_rule c n)
 unfolding repeat_rule
-repeat_of c n = one_judged n.number _ _ refl
+repeat_of c n = one_judged n.number _ _ (refl, refl)
 
 progressive_of : (n : Numbered) → AreOf n.number (progressive_rule n)
 unfolding progressive_rule
-progressive_of n = one_judged n.number _ _ refl
+progressive_of n = one_judged n.number _ _ (refl, refl)
 
 precision_of : (n : Numbered) → AreOf n.number (precision_rule n)
 unfolding precision_rule
-precision_of n = one_judged n.number _ _ refl
+precision_of n = one_judged n.number _ _ (refl, refl)
 
 pub others_of : (c : Bool) (n : Numbered) → AreOf n.number (other_rules c n)
 unfolding other_rules

@@ -2,13 +2,14 @@
 use Rattle.std.proofs.Common.{◌≡◌, ℕ, ◌+◌, Bool, true, false, List, [], ◌∷◌, ◌++◌, map, Option, Some, None, refl, sym, ap, subst, ◌∙◌, append_assoc, inl, inr, arith}
 use Rattle.std.specs.Prelude.{slice_get, if◌then◌else◌}
 use Rattle.std.proofs.lemmas.Bool.{cases_Bool}
-use Rattle.std.proofs.lemmas.List.{append-nil, map-append}
+use Rattle.std.proofs.lemmas.List.{append-nil}
+use Rattle.m2v_model.specs.m2v_macroblock.m2v_head.declared.group.GroupInfo.{GroupInfo}
 use Rattle.m2v_model.specs.declared.state.Sequence.{Sequence}
 use Rattle.m2v_model.specs.declared.notes.PictureNote.{PictureNote}
-use Rattle.m2v_model.specs.States.{is_b}
+use Rattle.m2v_model.specs.States.{first_or, is_b}
 use Rattle.m2v_model.specs.Pictures.{Event, Events, sequence_header, group_header, coded_picture, pictures_in}
 use Rattle.m2v_model.specs.PieceNotes.{note_of, first_note, header_pair}
-use Rattle.m2v_model.specs.Lawful.{Breaches, sequences_in}
+use Rattle.m2v_model.specs.Lawful.{Breaches, sequences_in, sequence_breaches}
 use Rattle.m2v_audit.specs.m2v_check.declared.coded.CodedPicture.{CodedPicture}
 use Rattle.m2v_audit.specs.m2v_check.Breaking.{numbered_of}
 use Rattle.m2v_audit.specs.m2v_check.Running.{ends_frame}
@@ -17,11 +18,12 @@ use Rattle.m2v_audit.specs.declared.headers.PieceHeader.TheVariants as headers
 use Rattle.m2v_audit.specs.declared.records.Finding.{Finding}
 use Rattle.m2v_audit.specs.declared.auditing.Auditing.{Auditing}
 use Rattle.m2v_audit.specs.Auditing.{bit_of, coded, counted, waiting_of, with_sequence, with_group, with_header, sequences_of, with_headers, with_note as noted_with, with_coded as coded_with}
-use Rattle.m2v_audit.specs.Places.{told_with_frame}
+use Rattle.m2v_audit.specs.Places.{told_with_frame, told_at_close}
 use Rattle.m2v_law_audit.specs.Breaches.{as_judged}
-use Rattle.m2v_law_audit.specs.Found.{found_at, found_misplaced, header_found, headers_found, rules_of, places_found, coded_found, note_found}
+use Rattle.m2v_law_audit.specs.Found.{judged_in, found_at, found_misplaced, sequence_found, group_found, picture_found, header_found, headers_found, rules_of, places_found, coded_found, note_found}
 use Rattle.m2v_law_audit.proofs.BreachCounts.{place_breaches, other_rules}
-use Rattle.m2v_law_audit.proofs.BreachJudged.{judged_as, judged_places, header_of, others_of}
+use Rattle.m2v_law_audit.proofs.BreachJudged.{judged, judged-append, judged_as, judged_places, header_of, others_of}
+use Rattle.m2v_law_audit.proofs.BreachStricter.{sequence_stricter, group_stricter, picture_stricter}
 use Rattle.m2v_law_audit.proofs.BreachEvents.{Kept, Marked, plain, marked, with_coded, with_note, with_event, coded_told, note_told, event_told, told}
 use Rattle.m2v_law_audit.proofs.EventsFront.{Pair, Fronts, GoesOn, first_of_rest, go_on_behind}
 
@@ -29,11 +31,9 @@ use Rattle.m2v_law_audit.proofs.EventsFront.{Pair, Fronts, GoesOn, first_of_rest
 abbrev pub kept : Auditing → Kept
 kept a = record { sequence = a.sequence; first_in_group = a.first_in_group; pictures = a.pictures; constant = a.constant; places = a.places }
 
-abbrev pub judged : List Finding → Breaches
-judged fs = map as_judged fs
-
-pub judged-append : (xs ys : List Finding) → judged (xs ++ ys) ≡ judged xs ++ judged ys
-judged-append xs ys = map-append as_judged xs ys
+-- what the stricter rules find is none of the verifier's
+beside : (fs gs : List Finding) (bs : Breaches) → judged fs ≡ bs → judged_in gs ≡ [] → judged (fs ++ gs) ≡ bs
+beside fs gs bs e f = judged-append fs gs ∙ (λ i. e i ++ map as_judged (f i)) ∙ append-nil bs
 
 -- ---- events, and others behind them
 
@@ -72,9 +72,13 @@ unfolding other_rules
 coded_judged a p e =
     let c = (counted a p).constant in
     let rules = found_at a.report.sequence p.number (bit_of p.note) (rules_of c p) in
+    let stricter = picture_found a.report.sequence a.rules c a.runs p in
     let misplaced = told_with_frame a.places (waiting_of p) (is_b p.note.info.kind) in
-    judged-append rules (places_found a.report.sequence a.places p)
-    ∙ (λ i. judged_as a.report.sequence p.number (bit_of p.note) (rules_of c p) (others_of c (numbered_of p)) i
+    let as_told : judged (rules ++ stricter) ≡ rules_of c p =
+    beside rules stricter (rules_of c p) (judged_as a.report.sequence p.number (bit_of p.note) (rules_of c p) (others_of c (numbered_of p)))
+    (picture_stricter a.report.sequence a.rules c a.runs p) in
+    judged-append (rules ++ stricter) (places_found a.report.sequence a.places p)
+    ∙ (λ i. as_told i
     ++ judged_if (ends_frame p.note) (found_misplaced a.report.sequence misplaced) (place_breaches misplaced) (judged_places a.report.sequence misplaced) i)
 
 note_judged : (a : Auditing) (o : Option Sequence) (n : PictureNote) → judged (note_found a o (Some n)) ≡ note_told (kept a) o n
@@ -90,6 +94,28 @@ coded_kept a p place bytes ending e = elim (cases_Bool (ends_frame p.note)) [
 note_kept : (a : Auditing) (o : Option Sequence) (n : PictureNote) (place bytes ending : ℕ) → kept (noted_with a o (Some n) place bytes ending) ≡ with_note (kept a) o n
 note_kept a None n place bytes ending = refl
 note_kept a (Some s) n place bytes ending = coded_kept a (coded a s n) place bytes ending refl
+
+-- ---- headers
+
+header_judged : (a : Auditing) (bit : ℕ) (s : Sequence) →
+    let n = a.report.sequence in
+    let bs = sequence_breaches (s ∷ []) in
+    judged (found_at n a.pictures bit bs ++ sequence_found n a.rules a.pictures bit (first_or a.first s) s) ≡ bs
+header_judged a bit s =
+    let n = a.report.sequence in
+    let bs = sequence_breaches (s ∷ []) in
+    beside (found_at n a.pictures bit bs) (sequence_found n a.rules a.pictures bit (first_or a.first s) s) bs
+    (judged_as n a.pictures bit bs (header_of a.pictures s)) (sequence_stricter n a.rules a.pictures bit (first_or a.first s) s)
+
+group_judged : (a : Auditing) (bit : ℕ) (g : GroupInfo) →
+    let n = a.report.sequence in
+    let ms = told_at_close a.places in
+    judged (found_misplaced n ms ++ group_found n a.rules a.headed a.pictures bit a.sequence g) ≡ place_breaches ms
+group_judged a bit g =
+    let n = a.report.sequence in
+    let ms = told_at_close a.places in
+    beside (found_misplaced n ms) (group_found n a.rules a.headed a.pictures bit a.sequence g) (place_breaches ms)
+    (judged_places n ms) (group_stricter n a.rules a.headed a.pictures bit a.sequence g)
 
 -- ---- headers, and then a picture
 
@@ -155,12 +181,14 @@ follows (headers.Sequence bit ∷ hs) [] a ss k end f g = absurd f
 follows (headers.Sequence bit ∷ hs) (sequence_header s ∷ es) a ss k end f g =
     let later = map header_pair (sequences_in es) in
     header_more a (with_sequence a bit s) (headers.Sequence bit) (Some (header_pair s)) (sequence_header s) ss k hs end es (first_of_rest ss k (header_pair s) later g) refl refl
-    (judged_as a.report.sequence a.pictures bit _ (header_of a.pictures s)) refl (follows hs es (with_sequence a bit s) ss (k + 1) end f (go_on_behind ss k (header_pair s) later g))
+    (header_judged a bit s) refl (follows hs es (with_sequence a bit s) ss (k + 1) end f (go_on_behind ss k (header_pair s) later g))
 follows (headers.Sequence bit ∷ hs) (group_header x ∷ es) a ss k end f g = absurd f
 follows (headers.Sequence bit ∷ hs) (coded_picture p ∷ es) a ss k end f g = absurd f
 follows (headers.Group bit x ∷ hs) [] a ss k end f g = absurd f
 follows (headers.Group bit x ∷ hs) (sequence_header s ∷ es) a ss k end f g = absurd f
 follows (headers.Group bit x ∷ hs) (group_header y ∷ es) a ss k end f g =
     header_more a (with_group a bit x) (headers.Group bit x) (slice_get ss k) (group_header y) ss k hs end es refl refl refl
-    (judged_places a.report.sequence _) refl (follows hs es (with_group a bit x) ss (k + 0) end f.1 (subst (λ (n : ℕ). GoesOn ss n (map header_pair (sequences_in es))) (omega arith) g))
+    (group_judged a bit x) refl
+    (follows hs es (with_group a bit x) ss (k + 0) end f.1
+    (subst (λ (n : ℕ). GoesOn ss n (map header_pair (sequences_in es))) (omega arith) g))
 follows (headers.Group bit x ∷ hs) (coded_picture p ∷ es) a ss k end f g = absurd f

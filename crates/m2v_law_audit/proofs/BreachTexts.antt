@@ -1,4 +1,4 @@
--- The breaches that the pieces of a stream tell are those that the verifier's rules define, each as often as it comes.
+-- The breaches of the rules 1 to 15 that the pieces of a stream tell are those that the verifier's rules define, each as often as it comes.
 use Rattle.std.proofs.Common.{◌≡◌, ℕ, ◌+◌, ◌*◌, Bool, true, false, List, [], ◌∷◌, ◌++◌, length, map, Option, Some, None, refl, sym, ap, subst, ◌∙◌, arith}
 use Rattle.std.specs.Prelude.{count_by}
 use Rattle.std.proofs.lemmas.List.{length-map}
@@ -21,13 +21,14 @@ use Rattle.m2v_audit.specs.Account.{Account}
 use Rattle.m2v_audit.specs.Auditing.{nothing, with_headers, begun, longer, pictured, settled_by, after_piece}
 use Rattle.m2v_audit.specs.Front.{front_of}
 use Rattle.m2v_audit.specs.Places.{told_at_close}
+use Rattle.m2v_audit.specs.declared.asked.Asked.{Asked}
 use Rattle.m2v_law_audit.specs.Sequences.{first_byte}
 use Rattle.m2v_law_audit.specs.Breaches.{AreSame, as_judged}
-use Rattle.m2v_law_audit.specs.Found.{piece_found, end_found, all_along, all_found}
+use Rattle.m2v_law_audit.specs.Found.{piece_found, end_found, all_along, all_found, findings_of, judged_in}
 use Rattle.m2v_law_audit.proofs.BreachCounts.{many, place_breaches}
-use Rattle.m2v_law_audit.proofs.BreachJudged.{judged_places}
+use Rattle.m2v_law_audit.proofs.BreachJudged.{judged, judged-append, judged_places}
 use Rattle.m2v_law_audit.proofs.BreachEvents.{Kept, Marked, plain, marked, at_first, told, as_many_told}
-use Rattle.m2v_law_audit.proofs.BreachPieces.{kept, judged, judged-append, told_before, kept_behind, told-append, plain-append, plain_marked, Follows, follows}
+use Rattle.m2v_law_audit.proofs.BreachPieces.{kept, told_before, kept_behind, told-append, plain-append, plain_marked, Follows, follows}
 use Rattle.m2v_law_audit.proofs.EventsFront.{Fronts, all_go_on}
 use Rattle.m2v_law_audit.proofs.EventsPieces.{BeginWith, text_begins}
 use Rattle.m2v_law_audit.proofs.AccountReading.{Turn, Turns, in_pieces, begun_at, behind_piece, one_piece, first_header, header_stays, first_begun}
@@ -112,14 +113,15 @@ later_told (p ∷ ps) a b at es x e turns =
     piece_told a b at p ps es (kept a) u (ap kept begins_so) (λ c first. later_told ps c u.next (at + length p) u.rest x (first ∙ ap (λ (y : Auditing). y.first) begins_so ∙ e) turns.1)
 
 -- all pieces, of which the first begins with a sequence header
-first_told : (ps : List (List ℕ)) (number start : ℕ) (each low : Bool) (at : ℕ) (es : Events) → BeginWith 0xB3 ps → Turns at_start ps es → low ≡ low_delay_of (first_in None es)
-    → ToldAs (all_found (nothing number each start) at_start at ps) (at_first low) es
+first_told : (ps : List (List ℕ)) (number start : ℕ) (asked : Asked) (low : Bool) (at : ℕ) (es : Events)
+    → BeginWith 0xB3 ps → Turns at_start ps es → low ≡ low_delay_of (first_in None es)
+    → ToldAs (all_found (nothing number asked start) at_start at ps) (at_first low) es
 unfolding told all_along place_breaches
-first_told [] number start each low at es begins turns e =
-    subst (ToldAs (all_found (nothing number each start) at_start at []) (at_first low)) (sym turns)
+first_told [] number start asked low at es begins turns e =
+    subst (ToldAs (all_found (nothing number asked start) at_start at []) (at_first low)) (sym turns)
     (record { marks = []; are = refl; says = refl })
-first_told (p ∷ ps) number start each low at es begins turns e =
-    let a = nothing number each start in
+first_told (p ∷ ps) number start asked low at es begins turns e =
+    let a = nothing number asked start in
     let u = turns.0 in
     let h = first_header at p u.own begins (u.fronts at) in
     let is = first_begun a at p u.own refl h in
@@ -129,18 +131,18 @@ first_told (p ∷ ps) number start each low at es begins turns e =
 
 -- ---- the law
 
-text_told : (text : List ℕ) (tree : Sofar) → Stream text tree → (each : Bool) (number start : ℕ)
-    → ToldAs (all_found (nothing number each start) at_start (first_byte start text) (pieces text)) (at_first (low_delay_of tree.state.first)) (events tree)
-text_told text tree s each number start =
+text_told : (text : List ℕ) (tree : Sofar) → Stream text tree → (asked : Asked) (number start : ℕ)
+    → ToldAs (findings_of asked number start text) (at_first (low_delay_of tree.state.first)) (events tree)
+text_told text tree s asked number start =
     let r = in_pieces text tree s in
-    first_told (pieces text) number start each (low_delay_of tree.state.first) (first_byte start text) (events tree) (text_begins text) r.turns (ap low_delay_of r.first)
+    first_told (pieces text) number start asked (low_delay_of tree.state.first) (first_byte start text) (events tree) (text_begins text) r.turns (ap low_delay_of r.first)
 
--- The breaches that are told of a stream are those that it has, each as often as it comes.
-pub all_told : (text : List ℕ) (tree : Sofar) → Stream text tree → (each : Bool) (number start : ℕ)
-    → AreSame (map as_judged (all_found (nothing number each start) at_start (first_byte start text) (pieces text))) (breaches_of tree)
+-- The breaches of these rules that are told of a stream are those that it has, each as often as it comes.
+pub all_told : (text : List ℕ) (tree : Sofar) → Stream text tree → (asked : Asked) (number start : ℕ)
+    → AreSame (map as_judged (judged_in (findings_of asked number start text))) (breaches_of tree)
 unfolding many
-all_told text tree s each number start asks =
-    let t = text_told text tree s each number start in
+all_told text tree s asked number start asks =
+    let t = text_told text tree s asked number start in
     let low = low_delay_of tree.state.first in
     let alternates : Alternates false (pictures_in (plain t.marks)) = subst (λ (es : Events). Alternates false (pictures_in es)) (sym t.are) (in_pieces text tree s).alternates in
     ap (many asks) t.says ∙ as_many_told asks low t.marks alternates ∙ ap (λ (es : Events). many asks (breaches low es)) t.are
@@ -151,8 +153,8 @@ counts_all [] = refl
 counts_all (b ∷ bs) = let more = counts_all bs in sum_by-cons (λ (x : Breach). 1) b bs ∙ omega (arith, more)
 
 -- And as many are told as it has.
-pub as_many : (text : List ℕ) (tree : Sofar) → Stream text tree → (each : Bool) (number start : ℕ)
-    → length (all_found (nothing number each start) at_start (first_byte start text) (pieces text)) ≡ length (breaches_of tree)
-as_many text tree s each number start =
-    let fs = all_found (nothing number each start) at_start (first_byte start text) (pieces text) in
-    sym (length-map fs as_judged) ∙ sym (counts_all (map as_judged fs)) ∙ all_told text tree s each number start (λ (b : Breach). true) ∙ counts_all (breaches_of tree)
+pub as_many : (text : List ℕ) (tree : Sofar) → Stream text tree → (asked : Asked) (number start : ℕ)
+    → length (judged_in (findings_of asked number start text)) ≡ length (breaches_of tree)
+as_many text tree s asked number start =
+    let fs = judged_in (findings_of asked number start text) in
+    sym (length-map fs as_judged) ∙ sym (counts_all (map as_judged fs)) ∙ all_told text tree s asked number start (λ (b : Breach). true) ∙ counts_all (breaches_of tree)

@@ -26,6 +26,7 @@ use Rattle.m2v_audit.specs.Front.{front_of}
 use Rattle.m2v_audit.specs.Report.{one_more}
 use Rattle.m2v_audit.proofs.m2v_check.Telling.{last_in, AreHeaded}
 use Rattle.m2v_audit.proofs.m2v_check.Onward.{none_or_one}
+use Rattle.m2v_audit.specs.declared.asked.Asked.{Asked}
 use Rattle.m2v_law_audit.specs.Sequences.{by_piece, reported, first_byte, sequence_report}
 use Rattle.m2v_law_audit.proofs.AccountReading.{Turn, Turns, turn_read, in_pieces, begun_at, behind_piece}
 use Rattle.m2v_law_audit.proofs.EventsFront.{Fronts, last_sequence}
@@ -202,10 +203,10 @@ counts_from (p ∷ ps) b es a at turns so =
     ∙ counted_on (numbers_in a) (numbers_in next) p ps u.own u.rest es u.are (ap (λ (x : Counted). x.0) counts)
 
 -- of a stream: its pictures, the frames that they show, and the bytes of its pieces
-pub counts_of : (text : List ℕ) (tree : Sofar) → Stream text tree → (each : Bool) (number start : ℕ)
-    → numbers_in (sequence_report each number start text).kept ≡ (length (pictures_in (events tree)), shown_by 0 (pictures_in (events tree)), sum (map length (pieces text)))
-counts_of text tree stream each number start =
+pub counts_of : (text : List ℕ) (tree : Sofar) → Stream text tree → (asked : Asked) (number start : ℕ)
+    → numbers_in (sequence_report asked number start text).kept ≡ (length (pictures_in (events tree)), shown_by 0 (pictures_in (events tree)), sum (map length (pieces text)))
+counts_of text tree stream asked number start =
     let pictures : 0 + length (pictures_in (events tree)) ≡ length (pictures_in (events tree)) = omega arith in
     let bytes : 0 + sum (map length (pieces text)) ≡ sum (map length (pieces text)) = omega arith in
-    counts_from (pieces text) at_start (events tree) (nothing number each start) (first_byte start text) (in_pieces text tree stream).turns refl
+    counts_from (pieces text) at_start (events tree) (nothing number asked start) (first_byte start text) (in_pieces text tree stream).turns refl
     ∙ (λ i. (pictures i, shown_by 0 (pictures_in (events tree)), bytes i))

@@ -32,6 +32,7 @@ use Rattle.m2v_audit.specs.Opening.{has_account, varies, step_of, start_of, buff
 use Rattle.m2v_audit.specs.Times.{Times, opened}
 use Rattle.m2v_audit.proofs.m2v_check.Ordered.{code_within}
 use Rattle.m2v_audit.proofs.m2v_check.Onward.{none_or_one}
+use Rattle.m2v_audit.specs.declared.asked.Asked.{Asked}
 use Rattle.m2v_law_audit.specs.Sequences.{first_byte, sequence_report}
 use Rattle.m2v_law_audit.specs.Parts.{more_by}
 use Rattle.m2v_law_audit.specs.Accounts.{Beginning, with_buffer, dues_from, dues_by, dues_in, beginning_by, beginning_in, numbered_in, removals_by, failures_by, failures_of_stream, IsOnceAmong}
@@ -148,33 +149,33 @@ none_fails text tree number start x none e =
     (none_of_all number x.rate x.buffer ds).0 (sym (ap (λ (o : Option Beginning). failures_by number o ds) e) ∙ none)
 
 -- what is kept of a stream that the verifier calls lawful are the figures of its account
-kept_figures : (text : List ℕ) (tree : Sofar) → Stream text tree → length text < 2 ^ 64 → (f : Figures) → IsLawful text f → (each : Bool) (number start : ℕ)
-    → AreFigures (levels_in (sequence_report each number start text).kept.report) (figures_in text tree)
-kept_figures text tree stream lt f is each number start =
+kept_figures : (text : List ℕ) (tree : Sofar) → Stream text tree → length text < 2 ^ 64 → (f : Figures) → IsLawful text f → (asked : Asked) (number start : ℕ)
+    → AreFigures (levels_in (sequence_report asked number start text).kept.report) (figures_in text tree)
+kept_figures text tree stream lt f is asked number start =
     let r = in_pieces text tree stream in
-    let kept = sequence_report each number start text in
+    let kept = sequence_report asked number start text in
     let at = first_byte start text in
     let ns = numbered_in tree in
     let same : is.lawful.tree ≡ tree = (exactly_one text).one_tree is.lawful.tree tree is.lawful.stream stream in
     let lawful : breaches_of tree ≡ [] = subst (λ (t : Sofar). breaches_of t ≡ []) same is.lawful.lawful in
-    let finds = (finds_nothing_where_lawful text tree stream each number start).1 (f, is) in
+    let finds = (finds_nothing_where_lawful text tree stream asked number start).1 (f, is) in
     let keeps = keeps_where (low_delay_of tree.state.first) (events tree) finds.1 lawful in
     let fs : List FailureRecord = failures_of_stream number start text tree in
-    let none : fs ≡ [] = nil_from_length fs (uncounted (length fs) (sym (tells_all_failures text tree stream each number start).counted ∙ finds.0.1)) in
+    let none : fs ≡ [] = nil_from_length fs (uncounted (length fs) (sym (tells_all_failures text tree stream asked number start).counted ∙ finds.0.1)) in
     let numbered = few_numbered None 0 false 0 0 (events tree) in
     let few : length ns ≤ length (pieces text) = le_trans numbered (few_pictures at_start (pieces text) (events tree) r.turns) in
     let removals : levels_in kept.kept.report ≡ with_all kept.kept.rate.constant (None, 0, 0) (removals_by (beginning_in start text tree) (dues_in start text tree)) =
-    levels_told each number start text ∙ ap (with_all kept.kept.rate.constant (None, 0, 0)) (removals_in text tree stream each number start) in
+    levels_told asked number start text ∙ ap (with_all kept.kept.rate.constant (None, 0, 0)) (removals_in text tree stream asked number start) in
     subst (λ (x : Levels). AreFigures x (figures_in text tree)) (sym removals)
     (figures_by at tree.state.first (pieces text) ns kept.kept.rate.constant few (le_trans few (few_pieces text lt)) (λ s e. keeps.account s (sym r.first ∙ e)) finds.1
     keeps.once (all_end false None 0 false 0 0 (events tree) r.alternates) (in_turn None 0 false 0 0 (events tree)) (first_fits (pieces text) (events tree) ns r.turns numbered)
-    (λ x e. (ap (λ (y : Rate). y.constant) (rate_is text tree stream each number start x e), none_fails text tree number start x none e)))
+    (λ x e. (ap (λ (y : Rate). y.constant) (rate_is text tree stream asked number start x e), none_fails text tree number start x none e)))
 
 -- the report counts the stream's frames, pictures and bytes
 pub counts_all : (text : List ℕ) (tree : Sofar) → Stream text tree → length text < 2 ^ 64 → CountsAll text tree
-counts_all text tree stream lt each number start =
+counts_all text tree stream lt asked number start =
     let r = in_pieces text tree stream in
-    let counts = counts_of text tree stream each number start in
+    let counts = counts_of text tree stream asked number start in
     let few : length (stream_pictures tree) ≤ 2 ^ 64 - 1 = le_trans (few_pictures at_start (pieces text) (events tree) r.turns) (few_pieces text lt) in
     record {
       frames = ap (λ (x : Numbers). x.1) counts ∙ frames_counted text tree stream few;
@@ -184,12 +185,12 @@ counts_all text tree stream lt each number start =
 
 -- the report has the verifier's figures
 pub same_figures : (text : List ℕ) (tree : Sofar) → Stream text tree → length text < 2 ^ 64 → (f : Figures) → IsLawful text f → TellsFigures text f
-same_figures text tree stream lt f is each number start =
-    let counts = counts_all text tree stream lt each number start in
+same_figures text tree stream lt f is asked number start =
+    let counts = counts_all text tree stream lt asked number start in
     let one : is.counts.tree ≡ tree = (exactly_one text).one_tree is.counts.tree tree is.counts.stream stream in
     let same : is.buffer.tree ≡ tree = (exactly_one text).one_tree is.buffer.tree tree is.buffer.stream stream in
     let figures : figures_in text tree ≡ buffer_figures f = sym (is.buffer.figures ∙ ap (figures_in text) same) in
-    let kept = kept_figures text tree stream lt f is each number start in
+    let kept = kept_figures text tree stream lt f is asked number start in
     record {
       frames = counts.frames ∙ sym (is.counts.frames ∙ ap (λ (t : Sofar). length (frames_of t)) one);
       pictures = counts.pictures ∙ sym (is.counts.pictures ∙ ap (λ (t : Sofar). length (stream_pictures t)) one);

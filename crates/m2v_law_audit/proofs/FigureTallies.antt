@@ -4,27 +4,39 @@ use Rattle.std.proofs.Common.{◌≡◌, ℕ, zero, suc, ◌+◌, max, Bool, tru
 use Rattle.std.specs.Prelude.{nat_eq, slice_get, if◌then◌else◌}
 use Rattle.m2v_model.specs.m2v_macroblock.m2v_head.declared.sequence.SequenceInfo.{SequenceInfo}
 use Rattle.m2v_model.specs.m2v_macroblock.m2v_head.declared.sequence.SequenceExtension.{SequenceExtension}
+use Rattle.m2v_model.specs.m2v_macroblock.m2v_head.declared.group.GroupInfo.{GroupInfo}
 use Rattle.m2v_model.specs.declared.state.Sequence.{Sequence}
 use Rattle.m2v_model.specs.declared.notes.PictureNote.{PictureNote}
 use Rattle.m2v_model.specs.Lawful.{Breaches, sequence_breaches, horizontal_rule, vertical_rule, intra_rule, crowd_rule, repeat_rule, progressive_rule, precision_rule}
+use Rattle.m2v_model.specs.States.{first_or}
 use Rattle.m2v_model.specs.Pieces.{pieces, zeros_last}
 use Rattle.m2v_model.specs.PieceNotes.{PieceNotes, notes_of}
 use Rattle.m2v_model.specs.ByPieces.{Between, Course, at_start, piece_read}
 use Rattle.m2v_audit.specs.m2v_check.declared.coded.CodedPicture.{CodedPicture}
 use Rattle.m2v_audit.specs.m2v_check.Breaking.{numbered_of}
 use Rattle.m2v_audit.specs.m2v_check.Running.{ends_frame}
+use Rattle.m2v_audit.specs.m2v_strict.declared.rule_set.RuleSet.{RuleSet}
+use Rattle.m2v_audit.specs.m2v_strict.declared.runs.Runs.{Runs}
+use Rattle.m2v_audit.specs.m2v_strict.Remarks.{Remarks, is_warning}
+use Rattle.m2v_audit.specs.m2v_strict.SequenceRules.{level_remarks, header_rule, extension_rule, sequence_warnings}
+use Rattle.m2v_audit.specs.m2v_strict.GroupRules.{group_remarks}
+use Rattle.m2v_audit.specs.m2v_strict.PictureRules.{delay_remarks, f_code_rule, full_pel_rule, field_rule, frame_remarks, picture_warnings}
+use Rattle.m2v_audit.specs.m2v_strict.SetRules.{set_remarks, set_group_remarks, set_picture_remarks}
 use Rattle.m2v_audit.specs.declared.auditing.Auditing.{Auditing}
 use Rattle.m2v_audit.specs.declared.headers.PieceHeader.{PieceHeader}
 use Rattle.m2v_audit.specs.declared.headers.PieceHeader.TheVariants as headers
 use Rattle.m2v_audit.specs.declared.places.Misplaced.{Misplaced}
+use Rattle.m2v_audit.specs.declared.report.Broken.{Broken}
 use Rattle.m2v_audit.specs.declared.report.Rate.{Rate}
 use Rattle.m2v_audit.specs.declared.report.SequenceTotals.{SequenceTotals}
 use Rattle.m2v_audit.specs.Account.{Account, Told, settled}
-use Rattle.m2v_audit.specs.Auditing.{nothing, sequence_of, longer, begun, begun_by, with_header, sequences_of, with_headers, bit_of, coded, counted, picture_record, with_rules, with_told, with_place, with_coded, with_note, settled_by, fronted, pictured, after_piece, cleared, totals_of, with_left, finished, ended}
-use Rattle.m2v_audit.specs.Findings.{broken_at, misplaced_at, with_breaches, with_misplaced, with_removals}
+use Rattle.m2v_audit.specs.Auditing.{nothing, sequence_of, longer, begun, begun_by, with_sequence_remarks, group_record, with_group_by, with_header, sequences_of, with_headers, bit_of, coded, counted, picture_record, with_rules, with_picture_remarks, with_all_remarks, with_told, with_place, with_coded, with_note, settled_by, fronted, pictured, after_piece, cleared, totals_of, with_left, finished, ended}
+use Rattle.m2v_audit.specs.Findings.{broken_at, remarked_at, misplaced_at, with_breaches, with_remarks, with_misplaced, with_removals}
 use Rattle.m2v_audit.specs.Front.{front_of}
 use Rattle.m2v_audit.specs.Places.{told_at_close}
-use Rattle.m2v_audit.specs.Report.{Report, one_more, before_of, after_of, least, is_off, with_breach, with_held, with_under, with_over, with_removal, with_picture_line, count_of, with_counts, with_end}
+use Rattle.m2v_audit.specs.Report.{Report, one_more, before_of, after_of, least, is_off, with_breach, with_warning, with_finding, with_held, with_under, with_over, with_removal, with_group_line, with_picture_line, count_of, with_counts, with_end}
+use Rattle.m2v_audit.specs.Times.{fields_of}
+use Rattle.m2v_audit.specs.declared.asked.Asked.{Asked}
 use Rattle.m2v_law_audit.specs.Found.{piece_removals, settled_in, left_in, along, all_along, all_removals}
 use Rattle.m2v_law_audit.specs.Sequences.{SequenceReport, at_end, by_piece, reported, first_byte, sequence_report}
 use Rattle.m2v_law_audit.proofs.PartsKept.{beginning_of, stays_after, IsBare, bare_behind, none_removed, none_left}
@@ -66,6 +78,60 @@ unfolding with_breaches
 breaches_keep r picture bit [] = refl
 breaches_keep r picture bit (b ∷ bs) = breaches_keep (with_breach r (broken_at picture bit b)) picture bit bs
 
+finding_keeps : (r : Report) (b : Broken) → levels_in (with_finding r b) ≡ levels_in r
+finding_keeps r b = either (is_warning b.rule) (with_warning r b) (with_breach r b) (levels_in r) refl refl
+
+remarks_keep : (r : Report) (picture bit : ℕ) (ms : Remarks) → levels_in (with_remarks r picture bit ms) ≡ levels_in r
+unfolding with_remarks
+remarks_keep r picture bit [] = refl
+remarks_keep r picture bit (m ∷ ms) =
+    let b : Broken = remarked_at picture bit m in
+    remarks_keep (with_finding r b) picture bit ms ∙ finding_keeps r b
+
+-- what is remarked of a sequence header, of a group header and of a picture
+sequence_remarks_keep : (r : Report) (rules : RuleSet) (picture bit : ℕ) (first s : Sequence)
+    → levels_in (with_sequence_remarks r rules picture bit first s) ≡ levels_in r
+sequence_remarks_keep r rules picture bit first s =
+    let level : Report = with_remarks r picture bit (level_remarks s) in
+    let header : Report = with_remarks level picture bit (header_rule first s) in
+    let extension : Report = with_remarks header picture bit (extension_rule first s) in
+    let warnings : Report = with_remarks extension picture bit (sequence_warnings rules s) in
+    remarks_keep warnings picture bit (set_remarks rules s)
+    ∙ remarks_keep extension picture bit (sequence_warnings rules s)
+    ∙ remarks_keep header picture bit (extension_rule first s)
+    ∙ remarks_keep level picture bit (header_rule first s)
+    ∙ remarks_keep r picture bit (level_remarks s)
+
+group_remarks_keep : (r : Report) (rules : RuleSet) (headed : Bool) (picture bit : ℕ) (s : Option Sequence) (g : GroupInfo)
+    → levels_in (with_group_by r rules headed picture bit s g) ≡ levels_in r
+group_remarks_keep r rules headed picture bit None g = refl
+group_remarks_keep r rules headed picture bit (Some s) g =
+    let times : Report = with_remarks r picture bit (group_remarks s.info.frame_rate_code g) in
+    remarks_keep times picture bit (set_group_remarks rules headed)
+    ∙ remarks_keep r picture bit (group_remarks s.info.frame_rate_code g)
+
+picture_remarks_keep : (r : Report) (constant : Bool) (p : CodedPicture) → levels_in (with_picture_remarks r constant p) ≡ levels_in r
+picture_remarks_keep r constant p =
+    let bit = bit_of p.note in
+    let delays : Report = with_remarks r p.number bit (delay_remarks constant p) in
+    let codes : Report = with_remarks delays p.number bit (f_code_rule p) in
+    let vectors : Report = with_remarks codes p.number bit (full_pel_rule p.note.info) in
+    let fields : Report = with_remarks vectors p.number bit (field_rule constant p) in
+    let frames : Report = with_remarks fields p.number bit (frame_remarks constant p) in
+    remarks_keep frames p.number bit (picture_warnings p)
+    ∙ remarks_keep fields p.number bit (frame_remarks constant p)
+    ∙ remarks_keep vectors p.number bit (field_rule constant p)
+    ∙ remarks_keep codes p.number bit (full_pel_rule p.note.info)
+    ∙ remarks_keep delays p.number bit (f_code_rule p)
+    ∙ remarks_keep r p.number bit (delay_remarks constant p)
+
+all_remarks_keep : (r : Report) (rules : RuleSet) (constant : Bool) (before : Runs) (p : CodedPicture)
+    → levels_in (with_all_remarks r rules constant before p) ≡ levels_in r
+all_remarks_keep r rules constant before p =
+    let stricter : Report = with_picture_remarks r constant p in
+    remarks_keep stricter p.number (bit_of p.note) (set_picture_remarks rules before p (fields_of p.sequence p.note))
+    ∙ picture_remarks_keep r constant p
+
 misplaced_keep : (r : Report) (ms : List (Option Misplaced)) → levels_in (with_misplaced r ms) ≡ levels_in r
 unfolding with_misplaced
 misplaced_keep r [] = refl
@@ -104,7 +170,7 @@ counts_keep (suc n) r =
     either (nat_eq (count_of (with_counts n r).tally (suc n)).how_often 0) (with_counts n r) _ (levels_in r) (counts_keep n r) (counts_keep n r)
 
 end_keeps : (r : Report) (totals : SequenceTotals) → levels_in (with_end r totals) ≡ levels_in r
-end_keeps r totals = counts_keep 15 r
+end_keeps r totals = counts_keep 95 r
 
 -- ---- a piece
 
@@ -119,10 +185,16 @@ begun_keeps None a place notes = by (slice_get notes.sequences 0)
 header_keeps : (a : Auditing) (h : PieceHeader) (s : Option (SequenceInfo × SequenceExtension)) → levels_in (with_header a h s).report ≡ levels_in a.report
 unfolding with_header
 header_keeps a (headers.Sequence bit) None = refl
-header_keeps a (headers.Sequence bit) (Some s) = breaches_keep a.report a.pictures bit (sequence_breaches (sequence_of s ∷ []))
+header_keeps a (headers.Sequence bit) (Some s) =
+    let bs : Breaches = sequence_breaches (sequence_of s ∷ []) in
+    let r : Report = with_breaches a.report a.pictures bit bs in
+    sequence_remarks_keep r a.rules a.pictures bit (first_or a.first (sequence_of s)) (sequence_of s)
+    ∙ breaches_keep a.report a.pictures bit bs
 header_keeps a (headers.Group bit g) s =
     let r : Report = with_misplaced a.report (told_at_close a.places) in
-    either r.pictures _ r (levels_in r) refl refl ∙ misplaced_keep a.report (told_at_close a.places)
+    let line : Report = with_group_line r (group_record a.report.sequence a.groups bit a.pictures g) in
+    group_remarks_keep line a.rules a.headed a.pictures bit a.sequence g
+    ∙ either r.pictures _ r (levels_in r) refl refl ∙ misplaced_keep a.report (told_at_close a.places)
 
 headers_keep : (a : Auditing) (ss : List (SequenceInfo × SequenceExtension)) (k : ℕ) (hs : List PieceHeader) → levels_in (with_headers a ss k hs).report ≡ levels_in a.report
 unfolding with_headers
@@ -139,7 +211,8 @@ coded_keeps a p place bytes zeros =
     let line : Report = with_picture_line a.report (picture_record a.report.sequence p bytes zeros) in
     let told : Auditing = with_told c p bytes zeros in
     let placed : levels_in (with_place told p).report ≡ levels_in told.report = either_place (ends_frame p.note) _ _ (levels_in told.report) (misplaced_keep told.report _) refl in
-    placed ∙ rules_keep line c.constant p ∙ either a.report.pictures _ a.report (levels_in a.report) refl refl
+    placed ∙ all_remarks_keep (with_rules line c.constant p) c.rules c.constant c.runs p ∙ rules_keep line c.constant p
+    ∙ either a.report.pictures _ a.report (levels_in a.report) refl refl
 
 note_keeps : (a : Auditing) (s : Option Sequence) (n : Option PictureNote) (place bytes ending : ℕ) → levels_in (with_note a s n place bytes ending).report ≡ levels_in a.report
 note_keeps a s None place bytes ending = refl
@@ -231,8 +304,8 @@ onward at [] a b bare = ends a bare
 onward at (p ∷ ps) a b bare = one_on a at p ps (piece_read b (at + length p) p) bare (onward (at + length p) ps)
 
 -- what is kept of all removals of a sequence
-pub levels_told : (each : Bool) (number start : ℕ) (text : List ℕ) →
-    let r = sequence_report each number start text in
-    levels_in r.kept.report ≡ with_all r.kept.rate.constant (None, 0, 0) (all_removals (nothing number each start) at_start (first_byte start text) (pieces text))
-levels_told each number start text =
-    (onward (first_byte start text) (pieces text) (nothing number each start) at_start (λ none. record { sequence = refl; anchor = refl; begun = refl; account = refl })).levels
+pub levels_told : (asked : Asked) (number start : ℕ) (text : List ℕ) →
+    let r = sequence_report asked number start text in
+    levels_in r.kept.report ≡ with_all r.kept.rate.constant (None, 0, 0) (all_removals (nothing number asked start) at_start (first_byte start text) (pieces text))
+levels_told asked number start text =
+    (onward (first_byte start text) (pieces text) (nothing number asked start) at_start (λ none. record { sequence = refl; anchor = refl; begun = refl; account = refl })).levels

@@ -22,6 +22,7 @@ pub mod EventsUnits
 pub mod EventsFront
 pub mod EventsPieces
 pub mod BreachJudged
+pub mod BreachStricter
 pub mod BreachPieces
 pub mod BreachTexts
 pub mod VerdictTells

@@ -1,5 +1,5 @@
 -- The report of a sequence that stands further on is that of its text by itself, moved on.
-use Rattle.std.proofs.Common.{◌≡◌, ℕ, ◌+◌, ◌-◌, ◌*◌, Bool, List, [], ◌∷◌, ◌++◌, length, Ok, Err, Option, Some, None, refl, sym, ap, subst, ◌∙◌, arith}
+use Rattle.std.proofs.Common.{◌≡◌, ℕ, ◌+◌, ◌-◌, ◌*◌, List, [], ◌∷◌, ◌++◌, length, Ok, Err, Option, Some, None, refl, sym, ap, subst, ◌∙◌, arith}
 use Rattle.std.specs.Prelude.{map}
 use Rattle.std.specs.List.{flat_map}
 use Rattle.std.specs.Option.{option_map}
@@ -20,6 +20,7 @@ use Rattle.m2v_audit.specs.Account.{Account, ended as all_left}
 use Rattle.m2v_audit.specs.Auditing.{nothing, after_piece, totals_of, with_left, finished, ended_by, ended, cleared, is_begun}
 use Rattle.m2v_audit.specs.Places.{told_at_close}
 use Rattle.m2v_audit.specs.Report.{Report}
+use Rattle.m2v_audit.specs.declared.asked.Asked.{Asked}
 use Rattle.m2v_law_audit.specs.Sequences.{SequenceReport, behind, at_end, by_piece, reported, sequence_report}
 use Rattle.m2v_law_audit.specs.Moved.{Record, record_text, moved, CountAlike, IsMoved}
 use Rattle.m2v_law_audit.proofs.MovedReports.{Together, misplaced_told, removals_told, end_comes, note_on}
@@ -149,20 +150,20 @@ all_tell {n} {k} at (p ∷ ps) a b m h =
 from_none : (m : ℕ) → m ≡ 0 + m
 from_none m = omega arith
 
-begin_moves : (each : Bool) (number start : ℕ) → Moves number start (nothing 0 each 0) (nothing number each start)
-begin_moves each number start = record {
+begin_moves : (asked : Asked) (number start : ℕ) → Moves number start (nothing 0 asked 0) (nothing number asked start)
+begin_moves asked number start = record {
   report = record { records = []; own = refl; other = refl; tally = refl; sequence = from_none number; pictures = refl };
-  rest = ap (λ (byte : ℕ). record (nothing number each start) { start = byte }) (from_none start);
+  rest = ap (λ (byte : ℕ). record (nothing number asked start) { start = byte }) (from_none start);
 }
 
 from_start : (start before : ℕ) → 0 + before + start ≡ start + before
 from_start start before = omega arith
 
-pub report_moves : (each : Bool) (number start : ℕ) (text : List ℕ) → BothTell number start (sequence_report each 0 0 text) (sequence_report each number start text)
-report_moves each number start text =
+pub report_moves : (asked : Asked) (number start : ℕ) (text : List ℕ) → BothTell number start (sequence_report asked 0 0 text) (sequence_report asked number start text)
+report_moves asked number start text =
     let before = length (before_pieces text) in
-    subst (λ (at : ℕ). BothTell number start (sequence_report each 0 0 text) (reported (nothing number each start) at_start at (pieces text))) (from_start start before)
-    (all_tell (0 + before) (pieces text) (nothing 0 each 0) (nothing number each start) at_start (begin_moves each number start))
+    subst (λ (at : ℕ). BothTell number start (sequence_report asked 0 0 text) (reported (nothing number asked start) at_start at (pieces text))) (from_start start before)
+    (all_tell (0 + before) (pieces text) (nothing 0 asked 0) (nothing number asked start) at_start (begin_moves asked number start))
 
 -- what is counted is the same
 alike : {n k : ℕ} (a b : Auditing) → Moves n k a b → CountAlike a b
@@ -175,7 +176,7 @@ alike a b m = record {
   begun = ap (λ (x : Auditing). is_begun x) m.rest;
 }
 
-pub is_moved : (each : Bool) (number start : ℕ) (text : List ℕ) → IsMoved each number start text
-is_moved each number start text =
-    let h = report_moves each number start text in
+pub is_moved : (asked : Asked) (number start : ℕ) (text : List ℕ) → IsMoved asked number start text
+is_moved asked number start text =
+    let h = report_moves asked number start text in
     record { records = h.records; alone = h.own; further = h.other; counted = alike _ _ h.kept }

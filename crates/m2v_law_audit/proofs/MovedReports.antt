@@ -1,15 +1,26 @@
 -- Two reports of which one has the records of the other, moved on: what each call of a report does to both.
-use Rattle.std.proofs.Common.{◌≡◌, ℕ, zero, suc, ◌+◌, ◌*◌, Bool, true, false, List, [], ◌∷◌, ◌++◌, Option, Some, None, sym, ap, subst, ◌∙◌}
+use Rattle.std.proofs.Common.{◌≡◌, ℕ, zero, suc, ◌+◌, ◌*◌, Bool, true, false, List, [], ◌∷◌, ◌++◌, Option, Some, None, refl, sym, ap, subst, ◌∙◌}
 use Rattle.std.specs.Prelude.{nat_eq, map, if◌then◌else◌}
 use Rattle.std.specs.List.{flat_map}
 use Rattle.std.specs.Option.{option_map}
 use Rattle.std.proofs.lemmas.List.{append-nil, map-append}
 use Rattle.std.proofs.lemmas.Grind.{flat_map-append}
 use Rattle.m2v_vbv.specs.declared.removed.Removed.{Removed}
+use Rattle.m2v_model.specs.m2v_macroblock.m2v_head.declared.group.GroupInfo.{GroupInfo}
+use Rattle.m2v_model.specs.declared.state.Sequence.{Sequence}
 use Rattle.m2v_model.specs.declared.notes.PictureNote.{PictureNote}
 use Rattle.m2v_model.specs.Lawful.{Breaches, horizontal_rule, vertical_rule, intra_rule, crowd_rule, repeat_rule, progressive_rule, precision_rule}
 use Rattle.m2v_audit.specs.m2v_check.declared.coded.CodedPicture.{CodedPicture}
 use Rattle.m2v_audit.specs.m2v_check.Breaking.{numbered_of}
+use Rattle.m2v_audit.specs.m2v_strict.declared.rule_set.RuleSet.{RuleSet}
+use Rattle.m2v_audit.specs.m2v_strict.declared.rule_set.RuleSet.TheVariants as sets
+use Rattle.m2v_audit.specs.m2v_strict.declared.runs.Runs.{Runs}
+use Rattle.m2v_audit.specs.m2v_strict.Remarks.{Remarks, is_warning}
+use Rattle.m2v_audit.specs.m2v_strict.SequenceRules.{level_remarks, header_rule, extension_rule, sequence_warnings}
+use Rattle.m2v_audit.specs.m2v_strict.GroupRules.{group_remarks}
+use Rattle.m2v_audit.specs.m2v_strict.PictureRules.{low_delay_rule, f_code_rule, full_pel_rule, field_rule, prediction_rule, top_first_rule, interlaced_rule, repeat_by_rate_rule, dropped_warning, b_repeat_warning, delay_remarks, frame_remarks, picture_warnings}
+use Rattle.m2v_audit.specs.m2v_strict.DvdRules.{b_frames_with, fields_rule, b_frames_warning, first_group_warning, runs_with}
+use Rattle.m2v_audit.specs.m2v_strict.SetRules.{set_remarks, set_group_remarks, set_picture_remarks}
 use Rattle.m2v_audit.specs.declared.account.Due.{Due}
 use Rattle.m2v_audit.specs.declared.places.Misplaced.{Misplaced}
 use Rattle.m2v_audit.specs.declared.records.SequenceRecord.{SequenceRecord}
@@ -22,11 +33,12 @@ use Rattle.m2v_audit.specs.declared.report.SequenceTotals.{SequenceTotals}
 use Rattle.m2v_audit.specs.declared.tally.RuleCount.{RuleCount}
 use Rattle.m2v_audit.specs.declared.tally.Tally.{Tally}
 use Rattle.m2v_audit.specs.Account.{Told}
-use Rattle.m2v_audit.specs.Auditing.{bit_of, with_rules}
-use Rattle.m2v_audit.specs.Findings.{broken_at, misplaced_at, with_breaches, with_misplaced, with_removals}
-use Rattle.m2v_audit.specs.Lines.{skipped_line, sequence_line, group_line, picture_line, held_line, breach_line, failure_line, count_line, end_line}
-use Rattle.m2v_audit.specs.Report.{Report, with_text, with_rule, with_failing, with_due, finding_of, with_breach, held_of, under_of, over_of, with_failure, with_held, with_under, with_over, with_removal, with_begin, with_group_line, with_picture_line, count_of, with_count, with_counts, end_of, with_end}
-use Rattle.m2v_law_audit.specs.Moved.{Record, of_skipped, of_sequence, of_group, of_picture, of_held, of_breach, of_failure, of_count, of_end, record_text, moved}
+use Rattle.m2v_audit.specs.Auditing.{bit_of, with_sequence_remarks, with_group_by, with_rules, with_picture_remarks, with_all_remarks}
+use Rattle.m2v_audit.specs.Findings.{broken_at, remarked_at, misplaced_at, with_breaches, with_remarks, with_misplaced, with_removals}
+use Rattle.m2v_audit.specs.Lines.{skipped_line, sequence_line, group_line, picture_line, held_line, breach_line, warning_line, failure_line, count_line, end_line}
+use Rattle.m2v_audit.specs.Report.{Report, with_text, with_rule, with_warned, with_failing, with_due, finding_of, with_breach, with_warning, with_finding, held_of, under_of, over_of, with_failure, with_held, with_under, with_over, with_removal, with_begin, with_group_line, with_picture_line, count_of, with_count, with_counts, end_of, with_end}
+use Rattle.m2v_audit.specs.Times.{fields_of}
+use Rattle.m2v_law_audit.specs.Moved.{Record, of_skipped, of_sequence, of_group, of_picture, of_held, of_breach, of_warning, of_failure, of_count, of_end, record_text, moved}
 
 -- a report's records, and another report that has them, so many sequences and so many bytes further on; both count the same
 pub record Together (n k : ℕ) (r s : Report) : Type 0 where
@@ -118,6 +130,61 @@ breaches_come {n} {k} r s picture bit (b ∷ bs) h =
 pub breaches_at : {n k : ℕ} {r s : Report} (picture bit other : ℕ) (bs : Breaches) → other ≡ bit + 8 * k → Together n k r s → Together n k (with_breaches r picture bit bs) (with_breaches s picture other bs)
 breaches_at {n} {k} {r} {s} picture bit other bs e h =
     subst (λ (b : ℕ). Together n k (with_breaches r picture bit bs) (with_breaches s picture b bs)) (sym e) (breaches_come r s picture bit bs h)
+
+-- ---- what the stricter rules remark
+
+warning_comes : {n k : ℕ} {r s : Report} (b : Broken) → Together n k r s → Together n k (with_warning r b) (with_warning s (broken_on k b))
+warning_comes {n} {k} {r} {s} b h =
+    counted_line (of_warning (finding_of r.sequence b)) (warning_line (finding_of s.sequence (broken_on k b)))
+    (with_warned r.tally b.rule b.picture) (with_warned s.tally b.rule b.picture) h
+    (ap (λ (q : ℕ). warning_line (finding_of q (broken_on k b))) h.sequence)
+    (ap (λ (t : Tally). with_warned t b.rule b.picture) h.tally)
+
+-- a warning, or else a breach
+finding_chosen : {n k : ℕ} {r s : Report} (warns : Bool) (b : Broken) → Together n k r s
+    → Together n k (if warns then with_warning r b else with_breach r b)
+    (if warns then with_warning s (broken_on k b) else with_breach s (broken_on k b))
+finding_chosen true b h = warning_comes b h
+finding_chosen false b h = breach_comes b h
+
+remarks_come : {n k : ℕ} (r s : Report) (picture bit : ℕ) (ms : Remarks) → Together n k r s
+    → Together n k (with_remarks r picture bit ms) (with_remarks s picture (bit + 8 * k) ms)
+unfolding with_remarks
+remarks_come r s picture bit [] h = h
+remarks_come {n} {k} r s picture bit (m ∷ ms) h =
+    remarks_come (with_finding r (remarked_at picture bit m)) (with_finding s (remarked_at picture (bit + 8 * k) m)) picture bit ms
+    (finding_chosen (is_warning m.rule) (remarked_at picture bit m) h)
+
+-- the same remarks at a bit that is so many bytes further on
+remarks_at : {n k : ℕ} {r s : Report} (picture bit other : ℕ) (ms same : Remarks) → other ≡ bit + 8 * k → same ≡ ms → Together n k r s
+    → Together n k (with_remarks r picture bit ms) (with_remarks s picture other same)
+remarks_at {n} {k} {r} {s} picture bit other ms same e f h =
+    subst (λ (b : ℕ). Together n k (with_remarks r picture bit ms) (with_remarks s picture b same)) (sym e)
+    (subst (λ (l : Remarks). Together n k (with_remarks r picture bit ms) (with_remarks s picture (bit + 8 * k) l)) (sym f)
+    (remarks_come r s picture bit ms h))
+
+-- of a sequence header, beside the first one of its sequence
+pub sequence_remarks_come : {n k : ℕ} {r s : Report} (rules : RuleSet) (picture bit : ℕ) (first x : Sequence) → Together n k r s
+    → Together n k (with_sequence_remarks r rules picture bit first x) (with_sequence_remarks s rules picture (bit + 8 * k) first x)
+sequence_remarks_come {n} {k} rules picture bit first x h =
+    let to = bit + 8 * k in
+    remarks_at picture bit to (set_remarks rules x) (set_remarks rules x) refl refl
+    (remarks_at picture bit to (sequence_warnings rules x) (sequence_warnings rules x) refl refl
+    (remarks_at picture bit to (extension_rule first x) (extension_rule first x) refl refl
+    (remarks_at picture bit to (header_rule first x) (header_rule first x) refl refl
+    (remarks_at picture bit to (level_remarks x) (level_remarks x) refl refl h))))
+
+-- of a group header, in a sequence with this header, where one came
+pub group_remarks_come : {n k : ℕ} {r s : Report} (rules : RuleSet) (headed : Bool) (picture bit : ℕ) (x : Option Sequence) (g : GroupInfo)
+    → Together n k r s
+    → Together n k (with_group_by r rules headed picture bit x g) (with_group_by s rules headed picture (bit + 8 * k) x g)
+group_remarks_come rules headed picture bit None g h = h
+group_remarks_come {n} {k} rules headed picture bit (Some x) g h =
+    let to = bit + 8 * k in
+    remarks_at picture bit to (set_group_remarks rules headed) (set_group_remarks rules headed) refl refl
+    (remarks_at picture bit to (group_remarks x.info.frame_rate_code g) (group_remarks x.info.frame_rate_code g) refl refl h)
+
+-- ---- frames that stand at another place than they say
 
 abbrev pub misplaced_on : ℕ → Misplaced → Misplaced
 misplaced_on k m = record m { bit = m.bit + 8 * k }
@@ -232,7 +299,7 @@ end_by sequence tally totals = end_line (end_of (record { text = []; tally = tal
 
 pub end_comes : {n k : ℕ} {r s : Report} (totals : SequenceTotals) → Together n k r s → Together n k (with_end r totals) (with_end s totals)
 end_comes {n} {k} {r} {s} totals h =
-    line_comes (of_end (end_of r totals)) (end_line (end_of s totals)) (counts_come 15 h)
+    line_comes (of_end (end_of r totals)) (end_line (end_of s totals)) (counts_come 95 h)
     (ap (λ (q : ℕ). end_by q s.tally totals) h.sequence ∙ ap (λ (t : Tally). end_by (r.sequence + n) t totals) h.tally)
 
 -- ---- a picture's rules
@@ -250,3 +317,63 @@ rules_come {n} {k} constant p e h =
     let xs : Breaches = horizontal_rule c ++ vertical_rule c ++ intra_rule c in
     let ys : Breaches = crowd_rule c ++ repeat_rule constant c ++ progressive_rule c ++ precision_rule c in
     breaches_at p.number (bit_of p.note) (bit_of (note_on k p.note)) ys e (breaches_at p.number (bit_of p.note) (bit_of (note_on k p.note)) xs e h)
+
+-- ---- what the stricter rules remark of a picture: where its start code ends is of no matter to them
+
+module _ (k : ℕ) (constant : Bool) (p : CodedPicture) where
+  same_delays : delay_remarks constant (coded_on k p) ≡ delay_remarks constant p
+  unfolding low_delay_rule
+  same_delays = refl
+
+  same_codes : f_code_rule (coded_on k p) ≡ f_code_rule p
+  unfolding f_code_rule
+  same_codes = refl
+
+  same_fields : field_rule constant (coded_on k p) ≡ field_rule constant p
+  unfolding field_rule
+  same_fields = refl
+
+  same_frames : frame_remarks constant (coded_on k p) ≡ frame_remarks constant p
+  unfolding prediction_rule top_first_rule interlaced_rule repeat_by_rate_rule
+  same_frames = refl
+
+  same_warnings : picture_warnings (coded_on k p) ≡ picture_warnings p
+  unfolding dropped_warning b_repeat_warning
+  same_warnings = refl
+
+picture_remarks_come : {n k : ℕ} {r s : Report} (constant : Bool) (p : CodedPicture)
+    → bit_of (note_on k p.note) ≡ bit_of p.note + 8 * k → Together n k r s
+    → Together n k (with_picture_remarks r constant p) (with_picture_remarks s constant (coded_on k p))
+picture_remarks_come {n} {k} constant p e h =
+    let bit = bit_of p.note in
+    let to = bit_of (note_on k p.note) in
+    remarks_at p.number bit to (picture_warnings p) (picture_warnings (coded_on k p)) e (same_warnings k constant p)
+    (remarks_at p.number bit to (frame_remarks constant p) (frame_remarks constant (coded_on k p)) e (same_frames k constant p)
+    (remarks_at p.number bit to (field_rule constant p) (field_rule constant (coded_on k p)) e (same_fields k constant p)
+    (remarks_at p.number bit to (full_pel_rule p.note.info) (full_pel_rule p.note.info) e refl
+    (remarks_at p.number bit to (f_code_rule p) (f_code_rule (coded_on k p)) e (same_codes k constant p)
+    (remarks_at p.number bit to (delay_remarks constant p) (delay_remarks constant (coded_on k p)) e (same_delays k constant p) h)))))
+
+-- what a set of rules remarks of it, behind the same pictures
+set_same : (k : ℕ) (rules : RuleSet) (before : Runs) (p : CodedPicture) (fields : ℕ)
+    → set_picture_remarks rules before (coded_on k p) fields ≡ set_picture_remarks rules before p fields
+unfolding set_picture_remarks fields_rule b_frames_with b_frames_warning first_group_warning
+set_same k sets.Main before p fields = refl
+set_same k sets.Dvd before p fields = refl
+set_same k sets.Dvb before p fields = refl
+set_same k sets.Atsc before p fields = refl
+
+pub all_remarks_come : {n k : ℕ} {r s : Report} (rules : RuleSet) (constant : Bool) (before : Runs) (p : CodedPicture)
+    → bit_of (note_on k p.note) ≡ bit_of p.note + 8 * k → Together n k r s
+    → Together n k (with_all_remarks r rules constant before p) (with_all_remarks s rules constant before (coded_on k p))
+all_remarks_come {n} {k} rules constant before p e h =
+    let fields = fields_of p.sequence p.note in
+    let ms = set_picture_remarks rules before p fields in
+    let same = set_picture_remarks rules before (coded_on k p) fields in
+    remarks_at p.number (bit_of p.note) (bit_of (note_on k p.note)) ms same e (set_same k rules before p fields)
+    (picture_remarks_come constant p e h)
+
+-- what the pictures come to, with this one
+pub same_runs : (k : ℕ) (before : Runs) (p : CodedPicture) (fields : ℕ) → runs_with before (coded_on k p) fields ≡ runs_with before p fields
+unfolding b_frames_with
+same_runs k before p fields = refl

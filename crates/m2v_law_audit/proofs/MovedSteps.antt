@@ -12,11 +12,12 @@ use Rattle.m2v_model.specs.declared.notes.PictureNote.{PictureNote}
 use Rattle.m2v_model.specs.Units.{Units, cut, body}
 use Rattle.m2v_model.specs.Headers.{whole_header, group_in}
 use Rattle.m2v_model.specs.Streams.{value_of}
-use Rattle.m2v_model.specs.States.{is_b}
+use Rattle.m2v_model.specs.States.{first_or, is_b}
 use Rattle.m2v_model.specs.PieceNotes.{PieceNotes}
 use Rattle.m2v_model.specs.Lawful.{sequence_breaches}
 use Rattle.m2v_audit.specs.m2v_check.declared.coded.CodedPicture.{CodedPicture}
 use Rattle.m2v_audit.specs.m2v_check.Running.{ends_frame}
+use Rattle.m2v_audit.specs.m2v_strict.declared.runs.Runs.{Runs}
 use Rattle.m2v_audit.specs.declared.account.Due.{Due}
 use Rattle.m2v_audit.specs.declared.auditing.Auditing.{Auditing}
 use Rattle.m2v_audit.specs.declared.headers.PieceHeader.{PieceHeader}
@@ -32,7 +33,8 @@ use Rattle.m2v_audit.specs.Lines.{sequence_line, group_line, picture_line}
 use Rattle.m2v_audit.specs.Opening.{kind_of}
 use Rattle.m2v_audit.specs.Places.{with_frame, told_with_frame, told_at_close}
 use Rattle.m2v_audit.specs.Report.{Report}
-use Rattle.m2v_law_audit.proofs.MovedReports.{Together, breaches_at, misplaced_told, removals_told, begin_comes, group_comes, picture_comes, rules_come, note_on, coded_on, due_on}
+use Rattle.m2v_audit.specs.Times.{fields_of}
+use Rattle.m2v_law_audit.proofs.MovedReports.{Together, breaches_at, misplaced_told, sequence_remarks_come, group_remarks_come, removals_told, begin_comes, group_comes, picture_comes, rules_come, all_remarks_come, same_runs, note_on, coded_on, due_on}
 use Rattle.m2v_law_audit.proofs.MovedKept.{waiting_on, places_on, frame_told, frame_kept, close_told, account_on, settled_same, after_same, more_same, account_same}
 
 -- what is kept of a sequence so many bytes further on, beside another report
@@ -115,9 +117,10 @@ header_on k (headers.Group bit g) = headers.Group (bit + 8 * k) g
 group_both : {n k : ℕ} {a b : Auditing} (bit : ℕ) (g : GroupInfo) → Moves n k a b → Moves n k (with_group a bit g) (with_group b (bit + 8 * k) g)
 group_both {n} {k} {a} bit g h = step_both (with_group a bit g) (λ x. with_group x (bit + 8 * k) g) h (λ r t. record {
   report =
-      group_comes (group_record a.report.sequence a.groups bit a.pictures g) (group_record r.sequence a.groups (bit + 8 * k) a.pictures g)
+      group_remarks_come a.rules a.headed a.pictures bit a.sequence g
+      (group_comes (group_record a.report.sequence a.groups bit a.pictures g) (group_record r.sequence a.groups (bit + 8 * k) a.pictures g)
       (ap (λ (q : ℕ). group_line (group_record q a.groups (bit + 8 * k) a.pictures g)) t.sequence)
-      (misplaced_told (told_at_close a.places) (told_at_close (places_on k a.places)) (close_told k a.places) t);
+      (misplaced_told (told_at_close a.places) (told_at_close (places_on k a.places)) (close_told k a.places) t));
   rest = refl;
 })
 
@@ -125,7 +128,12 @@ header_both : {n k : ℕ} {a b : Auditing} (h : PieceHeader) (s : Option (Sequen
 unfolding with_header
 header_both (headers.Sequence bit) None m = m
 header_both {n} {k} {a} (headers.Sequence bit) (Some s) m = step_both (with_sequence a bit (sequence_of s)) (λ x. with_sequence x (bit + 8 * k) (sequence_of s)) m
-    (λ r t. record { report = breaches_at a.pictures bit (bit + 8 * k) (sequence_breaches (sequence_of s ∷ [])) refl t; rest = refl })
+    (λ r t. record {
+      report =
+          sequence_remarks_come a.rules a.pictures bit (first_or a.first (sequence_of s)) (sequence_of s)
+          (breaches_at a.pictures bit (bit + 8 * k) (sequence_breaches (sequence_of s ∷ [])) refl t);
+      rest = refl;
+    })
 header_both (headers.Group bit g) s m = group_both bit g m
 
 counts_same : (k : ℕ) (h : PieceHeader) → sequences_of (header_on k h) ≡ sequences_of h
@@ -196,15 +204,19 @@ counted_both {n} {k} {a} p m = step_both (counted a p) (λ x. counted x (coded_o
 abbrev line_at : ℕ → ℕ → CodedPicture → ℕ → ℕ → List ℕ
 line_at number bit p bytes zeros = picture_line (record (picture_record number p bytes zeros) { bit = bit })
 
-told_both : {n k : ℕ} {a b : Auditing} (p : CodedPicture) (bytes zeros : ℕ) → IsFurther k p.note → Moves n k a b → Moves n k (with_told a p bytes zeros) (with_told b (coded_on k p) bytes zeros)
+told_both : {n k : ℕ} {a b : Auditing} (p : CodedPicture) (bytes zeros : ℕ) → IsFurther k p.note → Moves n k a b
+    → Moves n k (with_told a p bytes zeros) (with_told b (coded_on k p) bytes zeros)
 told_both {n} {k} {a} p bytes zeros e m = step_both (with_told a p bytes zeros) (λ x. with_told x (coded_on k p) bytes zeros) m (λ r t. record {
   report =
-      rules_come a.constant p e
+      all_remarks_come a.rules a.constant a.runs p e
+      (rules_come a.constant p e
       (picture_comes (picture_record a.report.sequence p bytes zeros) (picture_record r.sequence (coded_on k p) bytes zeros)
       (ap (λ (q : ℕ). line_at q (bit_of (note_on k p.note)) p bytes zeros) t.sequence
       ∙ ap (λ (bit : ℕ). line_at (a.report.sequence + n) bit p bytes zeros) e)
-      t);
-  rest = refl;
+      t));
+  rest =
+      ap (λ (x : Runs). record (beside k (with_told (beside k r a) (coded_on k p) bytes zeros).report a) { runs = x })
+      (same_runs k a.runs p (fields_of p.sequence p.note));
 })
 
 -- as it waits for its place

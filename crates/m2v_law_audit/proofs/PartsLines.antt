@@ -1,11 +1,14 @@
 -- Each line of a report is one line: its columns hold no newline.
-use Rattle.std.proofs.Common.{◌≡◌, ℕ, zero, suc, ◌+◌, ◌/◌, ◌%◌, Bool, true, false, List, [], ◌∷◌, ◌++◌, refl, ap, ◌∙◌, arith}
+use Rattle.std.proofs.Common.{◌≡◌, ℕ, zero, suc, ◌+◌, ◌/◌, ◌%◌, Bool, true, false, List, [], ◌∷◌, ◌++◌, Option, Some, None, refl, ap, ◌∙◌, arith}
 use Rattle.std.specs.Prelude.{nat_lt, not, ◌==◌, codes, decimal, if◌then◌else◌}
 use Rattle.std.specs.Fmt.{digits, digits_onto, digit_glyph}
 use Rattle.std.specs.List.{flat_map, list_all}
 use Rattle.std.specs.Cmp.Derive.{both_true}
 use Rattle.std.proofs.lemmas.Bool.{and_parts, ne_eqb}
 use Rattle.std.proofs.lemmas.List.Folds.{list_all-append}
+use Rattle.m2v_audit.specs.m2v_strict.declared.element.Element.{Element}
+use Rattle.m2v_audit.specs.m2v_strict.declared.element.Element.TheVariants as elements
+use Rattle.m2v_audit.specs.m2v_strict.Elements.{word_of}
 use Rattle.m2v_audit.specs.declared.words.RateKind.{RateKind}
 use Rattle.m2v_audit.specs.declared.words.RateKind.TheVariants as rates
 use Rattle.m2v_audit.specs.declared.words.PictureType.{PictureType}
@@ -22,7 +25,7 @@ use Rattle.m2v_audit.specs.declared.records.Finding.{Finding}
 use Rattle.m2v_audit.specs.declared.records.FailureRecord.{FailureRecord}
 use Rattle.m2v_audit.specs.declared.records.CountRecord.{CountRecord}
 use Rattle.m2v_audit.specs.declared.records.EndRecord.{EndRecord}
-use Rattle.m2v_audit.specs.Lines.{Column, number, word, column_text, line_of, flag, name_of, rate_word, type_word, structure_word, failure_word, skipped_line, sequence_line, group_line, picture_line, held_line, breach_line, failure_line, count_line, end_line}
+use Rattle.m2v_audit.specs.Lines.{Column, number, word, column_text, line_of, flag, name_of, name_with, rate_word, type_word, structure_word, failure_word, skipped_line, sequence_line, group_line, picture_line, held_line, finding_columns, breach_line, warning_line, failure_line, count_line, end_line}
 use Rattle.m2v_law_audit.specs.Parts.{is_within, IsLine}
 
 abbrev pub within : List ℕ → Bool
@@ -60,6 +63,53 @@ name_within rule =
     (chosen (rule == 5) _ _ refl (chosen (rule == 6) _ _ refl (chosen (rule == 7) _ _ refl (chosen (rule == 8) _ _ refl
     (chosen (rule == 9) _ _ refl (chosen (rule == 10) _ _ refl (chosen (rule == 11) _ _ refl (chosen (rule == 12) _ _ refl
     (chosen (rule == 13) _ _ refl (chosen (rule == 14) _ _ refl (chosen (rule == 15) _ _ refl refl))))))))))))))
+
+element_within : (e : Element) → within (word_of e) ≡ true
+unfolding word_of
+element_within elements.CodedLumaRate = refl
+element_within elements.Width = refl
+element_within elements.Height = refl
+element_within elements.AspectRatioInformation = refl
+element_within elements.FrameRateCode = refl
+element_within elements.BitRate = refl
+element_within elements.VbvBufferSize = refl
+element_within elements.ConstrainedParametersFlag = refl
+element_within elements.IntraQuantiserMatrix = refl
+element_within elements.ProfileAndLevelIndication = refl
+element_within elements.LowDelay = refl
+element_within elements.FrameRateExtensionN = refl
+element_within elements.FrameRateExtensionD = refl
+element_within elements.DropFrameFlag = refl
+element_within elements.TimeCodeHours = refl
+element_within elements.TimeCodeMinutes = refl
+element_within elements.TimeCodeSeconds = refl
+element_within elements.TimeCodePictures = refl
+element_within elements.BrokenLink = refl
+element_within elements.VbvDelay = refl
+element_within elements.FullPelForwardVector = refl
+element_within elements.ForwardFCode = refl
+element_within elements.FullPelBackwardVector = refl
+element_within elements.BackwardFCode = refl
+element_within elements.FCodeHorizontal = refl
+element_within elements.FCodeVertical = refl
+element_within elements.TopFieldFirst = refl
+element_within elements.FramePredFrameDct = refl
+element_within elements.RepeatFirstField = refl
+element_within elements.Chroma420Type = refl
+element_within elements.ProgressiveFrame = refl
+element_within elements.RepeatByRate = refl
+element_within elements.Dropped = refl
+element_within elements.Size = refl
+element_within elements.ProgressiveSequence = refl
+element_within elements.SequenceHeader = refl
+element_within elements.GroupFields = refl
+element_within elements.BFrames = refl
+element_within elements.FirstGroup = refl
+
+named_within : (rule : ℕ) (e : Option Element) → within (name_with rule e) ≡ true
+unfolding name_with
+named_within rule None = name_within rule
+named_within rule (Some e) = element_within e
 
 rate_within : (r : RateKind) → within (rate_word r) ≡ true
 unfolding rate_word
@@ -138,10 +188,14 @@ held_is h = line_is (codes "held")
     (number h.sequence ∷ number h.picture ∷ number h.time ∷ number h.before ∷ number h.taken ∷ number h.after ∷ number h.delay ∷ number h.wait ∷ [])
     refl refl
 
+finding_is : (kind : List ℕ) (f : Finding) → within kind ≡ true → IsLine (line_of kind (finding_columns f))
+finding_is kind f e = line_is kind (finding_columns f) e (both_true (named_within f.rule f.element) refl)
+
 pub breach_is : (f : Finding) → IsLine (breach_line f)
-breach_is f = line_is (codes "breach")
-    (number f.sequence ∷ number f.picture ∷ number f.bit ∷ number f.rule ∷ word (name_of f.rule) ∷ number f.have ∷ number f.need ∷ [])
-    refl (both_true (name_within f.rule) refl)
+breach_is f = finding_is (codes "breach") f refl
+
+pub warning_is : (f : Finding) → IsLine (warning_line f)
+warning_is f = finding_is (codes "warning") f refl
 
 pub failure_is : (f : FailureRecord) → IsLine (failure_line f)
 failure_is f = line_is (codes "failure")

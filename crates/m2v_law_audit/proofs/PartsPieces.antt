@@ -7,7 +7,7 @@ use Rattle.m2v_model.specs.m2v_macroblock.m2v_head.declared.sequence.SequenceInf
 use Rattle.m2v_model.specs.m2v_macroblock.m2v_head.declared.sequence.SequenceExtension.{SequenceExtension}
 use Rattle.m2v_model.specs.declared.state.Sequence.{Sequence}
 use Rattle.m2v_model.specs.declared.notes.PictureNote.{PictureNote}
-use Rattle.m2v_model.specs.States.{is_b}
+use Rattle.m2v_model.specs.States.{first_or, is_b}
 use Rattle.m2v_model.specs.Pieces.{zeros_last}
 use Rattle.m2v_model.specs.PieceNotes.{PieceNotes}
 use Rattle.m2v_model.specs.Lawful.{sequence_breaches}
@@ -28,7 +28,7 @@ use Rattle.m2v_audit.specs.Report.{Report, with_picture_line}
 use Rattle.m2v_law_audit.specs.Parts.{Adds}
 use Rattle.m2v_law_audit.specs.Found.{found_misplaced, header_found, headers_found, coded_found, note_found, piece_found, settled_in, left_in, piece_removals, failures_of}
 use Rattle.m2v_law_audit.proofs.PartsJoined.{IsOf, adds_on, failures_on, of_then, of_own, adds_none}
-use Rattle.m2v_law_audit.proofs.PartsFound.{breaches_add, misplaced_add, rules_add, removals_add, left_add, begin_adds, group_adds, picture_adds, end_adds}
+use Rattle.m2v_law_audit.proofs.PartsFound.{breaches_add, sequence_remarks_add, group_remarks_add, misplaced_add, rules_add, picture_remarks_add, removals_add, left_add, begin_adds, group_adds, picture_adds, end_adds}
 
 -- ---- the beginning
 
@@ -45,11 +45,15 @@ begun_adds None a place notes of = by (slice_get notes.sequences 0)
 header_adds : {n : ℕ} (a : Auditing) (h : PieceHeader) (s : Option (SequenceInfo × SequenceExtension)) → IsOf n a.report → Adds a.report (with_header a h s).report (header_found a h s) []
 unfolding with_header
 header_adds a (headers.Sequence bit) None of = adds_none a.report of
-header_adds a (headers.Sequence bit) (Some s) of = breaches_add a.report a.pictures bit (sequence_breaches (sequence_of s ∷ [])) (of_own of)
+header_adds a (headers.Sequence bit) (Some s) of =
+    let rules = breaches_add a.report a.pictures bit (sequence_breaches (sequence_of s ∷ [])) (of_own of) in
+    adds_on rules
+    (sequence_remarks_add _ a.rules a.pictures bit (first_or a.first (sequence_of s)) (sequence_of s) (of_then (of_own of) rules))
 header_adds a (headers.Group bit g) s of =
     let first = misplaced_add a.report (told_at_close a.places) (of_own of) in
-    subst (λ (l : List Finding). Adds a.report (with_header a (headers.Group bit g) s).report l []) (append-nil (header_found a (headers.Group bit g) s))
-    (adds_on first (group_adds _ (group_record a.report.sequence a.groups bit a.pictures g) (of_then (of_own of) first)))
+    let of_first = of_then (of_own of) first in
+    let line = group_adds _ (group_record a.report.sequence a.groups bit a.pictures g) of_first in
+    adds_on first (adds_on line (group_remarks_add _ a.rules a.headed a.pictures bit a.sequence g (of_then of_first line)))
 
 headers_add : {n : ℕ} (a : Auditing) (ss : List (SequenceInfo × SequenceExtension)) (k : ℕ) (hs : List PieceHeader) → IsOf n a.report → Adds a.report (with_headers a ss k hs).report (headers_found a ss k hs) []
 unfolding with_headers headers_found
@@ -73,7 +77,8 @@ coded_adds {n} a p place bytes zeros of =
     let told : Auditing = with_told c p bytes zeros in
     let line = picture_adds a.report (picture_record a.report.sequence p bytes zeros) own in
     let rules = rules_add (with_picture_line a.report (picture_record a.report.sequence p bytes zeros)) c.constant p (of_then own line) in
-    let before = adds_on line rules in
+    let of_rules = of_then (of_then own line) rules in
+    let before = adds_on line (adds_on rules (picture_remarks_add _ c.rules c.constant c.runs p of_rules)) in
     let of_told : IsOf a.report.sequence told.report = of_then own before in
     adds_on before (place_adds (ends_frame p.note) told _ _ a.places p of_told refl refl)
 

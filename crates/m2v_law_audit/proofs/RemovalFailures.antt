@@ -1,5 +1,5 @@
 -- The failures of the removals that are told of a stream are those of the stream, at the rate that its first piece says.
-use Rattle.std.proofs.Common.{◌≡◌, ℕ, ◌+◌, ◌*◌, Bool, false, List, [], ◌∷◌, length, Option, Some, None, Ok, inl, inr, refl, sym, ap, subst, ◌∙◌}
+use Rattle.std.proofs.Common.{◌≡◌, ℕ, ◌+◌, ◌*◌, false, List, [], ◌∷◌, length, Option, Some, None, Ok, inl, inr, refl, sym, ap, subst, ◌∙◌}
 use Rattle.std.specs.List.{flat_map}
 use Rattle.m2v_model.specs.m2v_macroblock.m2v_head.declared.sequence.SequenceInfo.{SequenceInfo}
 use Rattle.m2v_model.specs.m2v_macroblock.m2v_head.declared.sequence.SequenceExtension.{SequenceExtension}
@@ -19,6 +19,7 @@ use Rattle.m2v_audit.specs.Account.{all_told}
 use Rattle.m2v_audit.specs.Auditing.{nothing, sequence_of, rate_with}
 use Rattle.m2v_audit.proofs.m2v_check.Telling.{first_in, last_in}
 use Rattle.m2v_audit.proofs.m2v_check.Onward.{none_or_one}
+use Rattle.m2v_audit.specs.declared.asked.Asked.{Asked}
 use Rattle.m2v_law_audit.specs.Found.{failures_of, all_found, all_removals}
 use Rattle.m2v_law_audit.specs.Sequences.{sequence_report, first_byte}
 use Rattle.m2v_law_audit.specs.Parts.{Tells, more_by}
@@ -37,10 +38,10 @@ failures_by_rate number rate None ds same = refl
 failures_by_rate number rate (Some x) ds same = ap (λ (r : Rate). flat_map (failures_of number r) (all_told x.buffer ds)) (same x refl)
 
 -- the failures of the removals that are told are those of the stream, at the rate with which its account begins
-pub failures_in : (text : List ℕ) (tree : Sofar) → Stream text tree → (each : Bool) (number start : ℕ) (rate : Rate) → ((x : Beginning) → beginning_in start text tree ≡ Some x → rate ≡ x.rate)
-    → flat_map (failures_of number rate) (all_removals (nothing number each start) at_start (first_byte start text) (pieces text)) ≡ failures_of_stream number start text tree
-failures_in text tree stream each number start rate same =
-    ap (flat_map (failures_of number rate)) (removals_in text tree stream each number start) ∙ failures_by_rate number rate (beginning_in start text tree) (dues_in start text tree) same
+pub failures_in : (text : List ℕ) (tree : Sofar) → Stream text tree → (asked : Asked) (number start : ℕ) (rate : Rate) → ((x : Beginning) → beginning_in start text tree ≡ Some x → rate ≡ x.rate)
+    → flat_map (failures_of number rate) (all_removals (nothing number asked start) at_start (first_byte start text) (pieces text)) ≡ failures_of_stream number start text tree
+failures_in text tree stream asked number start rate same =
+    ap (flat_map (failures_of number rate)) (removals_in text tree stream asked number start) ∙ failures_by_rate number rate (beginning_in start text tree) (dues_in start text tree) same
 
 -- ---- the rate
 
@@ -108,18 +109,18 @@ begins_with text tree stream start x e =
 -- ---- the report
 
 -- the rate of the report is that with which the account begins
-pub rate_is : (text : List ℕ) (tree : Sofar) → Stream text tree → (each : Bool) (number start : ℕ) (x : Beginning) → beginning_in start text tree ≡ Some x → (sequence_report each number start text).kept.rate ≡ x.rate
-rate_is text tree stream each number start x e =
+pub rate_is : (text : List ℕ) (tree : Sofar) → Stream text tree → (asked : Asked) (number start : ℕ) (x : Beginning) → beginning_in start text tree ≡ Some x → (sequence_report asked number start text).kept.rate ≡ x.rate
+rate_is text tree stream asked number start x e =
     let f = begins_with text tree stream start x e in
-    ap (λ (y : Option Sequence × Rate). y.1) (begun_by_first each number start text f.piece f.later f.told f.header f.others f.are f.read f.noted) ∙ sym f.rate
+    ap (λ (y : Option Sequence × Rate). y.1) (begun_by_first asked number start text f.piece f.later f.told f.header f.others f.are f.read f.noted) ∙ sym f.rate
 
 -- the report of a stream tells the stream's failures, and counts them
 pub tells_all_failures : (text : List ℕ) (tree : Sofar) → Stream text tree → TellsAllFailures text tree
-tells_all_failures text tree stream each number start =
-    let r = sequence_report each number start text in
-    let parts = parts_of each number start text in
-    let findings = all_found (nothing number each start) at_start (first_byte start text) (pieces text) in
-    let are = failures_in text tree stream each number start r.kept.rate (rate_is text tree stream each number start) in
+tells_all_failures text tree stream asked number start =
+    let r = sequence_report asked number start text in
+    let parts = parts_of asked number start text in
+    let findings = all_found (nothing number asked start) at_start (first_byte start text) (pieces text) in
+    let are = failures_in text tree stream asked number start r.kept.rate (rate_is text tree stream asked number start) in
     record {
       findings = findings;
       tells = subst (Tells r.lines findings) are parts.tells;

@@ -25,6 +25,7 @@ use Rattle.m2v_audit.specs.Times.{Times, opened as first_times, after}
 use Rattle.m2v_audit.proofs.Reports.{told_in_all}
 use Rattle.m2v_audit.proofs.m2v_check.Telling.{first_in, last_in, AreHeaded}
 use Rattle.m2v_audit.proofs.m2v_check.Onward.{none_or_one}
+use Rattle.m2v_audit.specs.declared.asked.Asked.{Asked}
 use Rattle.m2v_law_audit.specs.Found.{all_along, all_removals, piece_removals, settled_in, left_in}
 use Rattle.m2v_law_audit.specs.Sequences.{first_byte}
 use Rattle.m2v_law_audit.specs.Accounts.{due_at, dues_from, dues_by, dues_in, with_buffer, beginning_by, beginning_in, numbered_in, removals_by}
@@ -145,11 +146,11 @@ abbrev AllTold : Auditing → ℕ → List (List ℕ) → Option Sequence → Li
 AllTold a at ps o ns = all_removals a at_start at ps ≡ removals_by (beginning_by o at ps ns) (dues_by o at ps ns)
 
 -- a first piece without a picture
-none_at_first : (p : List ℕ) (ps : List (List ℕ)) (es : Events) (each : Bool) (number start at : ℕ) → (u : Turn at_start p ps es) → Turns u.next ps u.rest → pictures_in u.own ≡ []
-    → AllTold (nothing number each start) at (p ∷ ps) (first_in None es) (all_numbered es)
+none_at_first : (p : List ℕ) (ps : List (List ℕ)) (es : Events) (asked : Asked) (number start at : ℕ) → (u : Turn at_start p ps es) → Turns u.next ps u.rest → pictures_in u.own ≡ []
+    → AllTold (nothing number asked start) at (p ∷ ps) (first_in None es) (all_numbered es)
 unfolding all_along
-none_at_first p ps es each number start at u turns none =
-    let a : Auditing = nothing number each start in
+none_at_first p ps es asked number start at u turns none =
+    let a : Auditing = nothing number asked start in
     let o : Option Sequence = first_in None es in
     let c : Auditing = begun_at a at p u.own in
     let notes = notes_of at p u.own in
@@ -168,10 +169,10 @@ none_at_first p ps es each number start at u turns none =
     subst (AllTold a at (p ∷ ps) o) (sym all) (one_piece piece_removals left_told a at_start at p ps es u ∙ (λ i. m.told i ++ rest i) ∙ no_pictures o at p ps (dues_by o at (p ∷ ps) []))
 
 -- a first piece with a picture
-one_at_first : (p : List ℕ) (ps : List (List ℕ)) (es : Events) (each : Bool) (number start at : ℕ) → BeginWith 0xB3 (p ∷ ps) → (u : Turn at_start p ps es) → Turns u.next ps u.rest → (q : Picture) → pictures_in u.own ≡ q ∷ []
-    → AllTold (nothing number each start) at (p ∷ ps) (first_in None es) (all_numbered es)
-one_at_first p ps es each number start at begins u turns q one =
-    let a : Auditing = nothing number each start in
+one_at_first : (p : List ℕ) (ps : List (List ℕ)) (es : Events) (asked : Asked) (number start at : ℕ) → BeginWith 0xB3 (p ∷ ps) → (u : Turn at_start p ps es) → Turns u.next ps u.rest → (q : Picture) → pictures_in u.own ≡ q ∷ []
+    → AllTold (nothing number asked start) at (p ∷ ps) (first_in None es) (all_numbered es)
+one_at_first p ps es asked number start at begins u turns q one =
+    let a : Auditing = nothing number asked start in
     let c : Auditing = begun_at a at p u.own in
     let f = first_so u.own u.rest es q (first_header at p u.own begins (u.fronts at)) u.are u.last u.headed one in
     let r = f.one in
@@ -191,20 +192,20 @@ one_at_first p ps es each number start at begins u turns q one =
     subst (λ (x : Option Sequence × List Numbered). AllTold a at (p ∷ ps) x.0 x.1) (λ i. (sym first i, sym all i))
     (first_told p ps es u turns a at s n r.group r.first_in_group r.frames t (rate_with s (Some note)) buffer moves)
 
-from_start : (ps : List (List ℕ)) (es : Events) (each : Bool) (number start at : ℕ) → BeginWith 0xB3 ps → Turns at_start ps es → AllTold (nothing number each start) at ps (first_in None es) (all_numbered es)
+from_start : (ps : List (List ℕ)) (es : Events) (asked : Asked) (number start at : ℕ) → BeginWith 0xB3 ps → Turns at_start ps es → AllTold (nothing number asked start) at ps (first_in None es) (all_numbered es)
 unfolding all_along
-from_start [] es each number start at begins turns = no_pieces (first_in None es) at (all_numbered es) (dues_by (first_in None es) at [] (all_numbered es))
-from_start (p ∷ ps) es each number start at begins turns =
+from_start [] es asked number start at begins turns = no_pieces (first_in None es) at (all_numbered es) (dues_by (first_in None es) at [] (all_numbered es))
+from_start (p ∷ ps) es asked number start at begins turns =
     let u = turns.0 in
     elim (none_or_one u.own u.last) [
-      | inl none ↦ none_at_first p ps es each number start at u turns.1 none
-      | inr one ↦ one_at_first p ps es each number start at begins u turns.1 one.0 one.1
+      | inl none ↦ none_at_first p ps es asked number start at u turns.1 none
+      | inr one ↦ one_at_first p ps es asked number start at begins u turns.1 one.0 one.1
     ]
 
 -- the removals that are told of a stream
-pub removals_in : (text : List ℕ) (tree : Sofar) → Stream text tree → (each : Bool) (number start : ℕ)
-    → all_removals (nothing number each start) at_start (first_byte start text) (pieces text) ≡ removals_by (beginning_in start text tree) (dues_in start text tree)
-removals_in text tree stream each number start =
+pub removals_in : (text : List ℕ) (tree : Sofar) → Stream text tree → (asked : Asked) (number start : ℕ)
+    → all_removals (nothing number asked start) at_start (first_byte start text) (pieces text) ≡ removals_by (beginning_in start text tree) (dues_in start text tree)
+removals_in text tree stream asked number start =
     let r = in_pieces text tree stream in
-    subst (λ (o : Option Sequence). AllTold (nothing number each start) (first_byte start text) (pieces text) o (numbered_in tree)) (sym r.first)
-    (from_start (pieces text) (events tree) each number start (first_byte start text) (text_begins text) r.turns)
+    subst (λ (o : Option Sequence). AllTold (nothing number asked start) (first_byte start text) (pieces text) o (numbered_in tree)) (sym r.first)
+    (from_start (pieces text) (events tree) asked number start (first_byte start text) (text_begins text) r.turns)

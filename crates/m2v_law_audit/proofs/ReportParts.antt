@@ -1,5 +1,5 @@
 -- The report of a sequence tells what its pieces tell, and counts it.
-use Rattle.std.proofs.Common.{◌≡◌, ℕ, ◌+◌, Bool, List, [], ◌∷◌, ◌++◌, length, Option, Some, None, Ok, Err, refl, sym, ap, subst, ◌∙◌, arith}
+use Rattle.std.proofs.Common.{◌≡◌, ℕ, ◌+◌, List, [], ◌∷◌, ◌++◌, length, Option, Some, None, Ok, Err, refl, sym, ap, subst, ◌∙◌, arith}
 use Rattle.std.specs.List.{flat_map}
 use Rattle.std.proofs.lemmas.Grind.{flat_map-append}
 use Rattle.m2v_model.specs.m2v_macroblock.m2v_head.declared.sequence.SequenceInfo.{SequenceInfo}
@@ -16,6 +16,7 @@ use Rattle.m2v_audit.specs.declared.report.Rate.{Rate}
 use Rattle.m2v_audit.specs.Account.{Told}
 use Rattle.m2v_audit.specs.Auditing.{nothing, sequence_of, rate_with, cleared, after_piece, ended, ended_by}
 use Rattle.m2v_audit.specs.Report.{Report}
+use Rattle.m2v_audit.specs.declared.asked.Asked.{Asked}
 use Rattle.m2v_law_audit.specs.Sequences.{SequenceReport, at_end, behind, by_piece, reported, first_byte, sequence_report}
 use Rattle.m2v_law_audit.specs.Parts.{Tells, more_by, Adds}
 use Rattle.m2v_law_audit.specs.Found.{failures_of, piece_found, end_found, piece_removals, left_in, along, all_along, all_found, all_removals}
@@ -146,18 +147,18 @@ parts_onward a b at (p ∷ ps) ready =
 
 -- ---- a whole sequence
 
-begins_ready : (number start : ℕ) (each : Bool) → IsReady (nothing number each start)
-begins_ready number start each = record {
+begins_ready : (number start : ℕ) (asked : Asked) → IsReady (nothing number asked start)
+begins_ready number start asked = record {
   text = refl;
   counts = record { is = refl; breaches = omega arith; failures = omega arith };
   bare = λ none. record { sequence = refl; anchor = refl; begun = refl; account = refl };
 }
 
-pub parts_of : (each : Bool) (number start : ℕ) (text : List ℕ) →
-    let a = nothing number each start in
+pub parts_of : (asked : Asked) (number start : ℕ) (text : List ℕ) →
+    let a = nothing number asked start in
     let at = first_byte start text in
-    Reports a (sequence_report each number start text) (all_found a at_start at (pieces text)) (all_removals a at_start at (pieces text))
-parts_of each number start text = parts_onward (nothing number each start) at_start (first_byte start text) (pieces text) (begins_ready number start each)
+    Reports a (sequence_report asked number start text) (all_found a at_start at (pieces text)) (all_removals a at_start at (pieces text))
+parts_of asked number start text = parts_onward (nothing number asked start) at_start (first_byte start text) (pieces text) (begins_ready number start asked)
 
 -- a sequence that begins with its first piece stays as that says, by its first header and its picture
 begun_first : (a : Auditing) (at : ℕ) (p : List ℕ) (ps : List (List ℕ)) (x : Events × Between) (s : SequenceInfo × SequenceExtension) (ss : List (SequenceInfo × SequenceExtension)) → IsReady a → a.first ≡ None → (notes_of at p x.0).sequences ≡ s ∷ ss
@@ -168,14 +169,14 @@ begun_first a at p ps x s ss ready none e =
     let begins : beginning_of told ≡ (Some (sequence_of s), rate_with (sequence_of s) notes.picture) = begun_with a at p notes s ss none e in
     (parts_onward (cleared told) x.1 (at + length p) ps (ready_after a at p notes ready)).stays (sequence_of s) (ap (λ (y : Option Sequence × Rate). y.0) begins) ∙ begins
 
-pub begun_by_first : (each : Bool) (number start : ℕ) (text p : List ℕ) (ps : List (List ℕ)) (x : Events × Between) (s : SequenceInfo × SequenceExtension) (ss : List (SequenceInfo × SequenceExtension)) →
+pub begun_by_first : (asked : Asked) (number start : ℕ) (text p : List ℕ) (ps : List (List ℕ)) (x : Events × Between) (s : SequenceInfo × SequenceExtension) (ss : List (SequenceInfo × SequenceExtension)) →
     let at = first_byte start text in
     pieces text ≡ p ∷ ps → piece_read at_start (at + length p) p ≡ Ok x → (notes_of at p x.0).sequences ≡ s ∷ ss
-    → beginning_of (sequence_report each number start text).kept ≡ (Some (sequence_of s), rate_with (sequence_of s) (notes_of at p x.0).picture)
+    → beginning_of (sequence_report asked number start text).kept ≡ (Some (sequence_of s), rate_with (sequence_of s) (notes_of at p x.0).picture)
 unfolding reported
-begun_by_first each number start text p ps x s ss whole read e =
+begun_by_first asked number start text p ps x s ss whole read e =
     let at = first_byte start text in
-    let a = nothing number each start in
+    let a = nothing number asked start in
     ap (λ (l : List (List ℕ)). beginning_of (reported a at_start at l).kept) whole
     ∙ ap (λ (r : Course). beginning_of (by_piece a at p r (λ a' b'. reported a' b' (at + length p) ps)).kept) read
-    ∙ begun_first a at p ps x s ss (begins_ready number start each) refl e
+    ∙ begun_first a at p ps x s ss (begins_ready number start asked) refl e

@@ -17,6 +17,7 @@ use Rattle.m2v_audit.specs.Audited.{Audited, Telling, then_comes, counted_with, 
 use Rattle.m2v_law_audit.specs.Sequences.{SequenceReport, behind, by_piece, reported, first_byte, PassNone, StandsIn}
 use Rattle.m2v_audit.proofs.m2v_check.Checking.{units_of_piece}
 use Rattle.m2v_audit.proofs.LeadLaws.{both_come}
+use Rattle.m2v_audit.specs.declared.asked.Asked.{Asked}
 use Rattle.m2v_law_audit.proofs.AccountReading.{behind_ok, ended_ok, stream_read}
 
 -- ---- a stream is read by its pieces
@@ -98,10 +99,10 @@ module _ (x : Telling) where
 no_piece : (ps : List (List ℕ)) (at : ℕ) (y : Events × Between) → rest_read at_start at ps ≡ Ok y → ps ≡ [] → ⊥
 no_piece ps at y e none = some_piece at y (ap (rest_read at_start at) (sym none) ∙ e)
 
-pub stands_in : (text : List ℕ) (tree : Sofar) → Stream text tree → (each : Bool) (x : Telling) (later : Bool) → PassNone (first_byte x.start text) (pieces text) → StandsIn each x later text
-stands_in text tree s each x later pass =
+pub stands_in : (text : List ℕ) (tree : Sofar) → Stream text tree → (asked : Asked) (x : Telling) (later : Bool) → PassNone (first_byte x.start text) (pieces text) → StandsIn asked x later text
+stands_in text tree s asked x later pass =
     let whole = read_of at_start tree in
     let read = rest_of text tree s in
     let before = length (before_pieces text) in
-    stands_on x (first_byte x.start text) (pieces text) (nothing x.totals.sequences each x.start) at_start later before whole read pass
+    stands_on x (first_byte x.start text) (pieces text) (nothing x.totals.sequences asked x.start) at_start later before whole read pass
     (λ none. absurd (no_piece (pieces text) before whole read none))

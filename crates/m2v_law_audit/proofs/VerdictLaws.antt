@@ -1,4 +1,5 @@
--- Of a stream at constant rate a report finds nothing exactly where the verifier calls the stream lawful.
+-- Of a stream at constant rate a report tells no breach of the verifier's rules and no failure exactly where the verifier calls the
+-- stream lawful.
 use Rattle.std.proofs.Common.{◌≡◌, ℕ, ◌+◌, ◌*◌, ◌≤◌, ◌↔◌, Bool, true, false, not, List, [], ◌∷◌, length, map, sum, Option, Some, None, refl, sym, ap, subst, ◌∙◌, arith, le_trans}
 use Rattle.std.specs.Prelude.{if◌then◌else◌}
 use Rattle.std.proofs.lemmas.List.{nil_from_length}
@@ -15,20 +16,24 @@ use Rattle.m2v_model.specs.Buffering.{BufferFigures, code_bits, account_by, acco
 use Rattle.m2v_model.proofs.Unique.{exactly_one}
 use Rattle.m2v_audit.specs.m2v_check.declared.verdict.Figures.{Figures}
 use Rattle.m2v_audit.specs.m2v_check.Meaning.{IsLawful}
+use Rattle.m2v_audit.specs.declared.records.Finding.{Finding}
 use Rattle.m2v_audit.specs.declared.records.FailureRecord.{FailureRecord}
 use Rattle.m2v_audit.specs.declared.report.Rate.{Rate}
 use Rattle.m2v_audit.specs.Auditing.{rate_with}
 use Rattle.m2v_audit.specs.Opening.{has_account, buffer_at_first}
+use Rattle.m2v_audit.specs.declared.asked.Asked.{Asked}
 use Rattle.m2v_law_audit.specs.Sequences.{first_byte, sequence_report}
 use Rattle.m2v_law_audit.specs.Parts.{more_by}
 use Rattle.m2v_law_audit.specs.Accounts.{Beginning, with_buffer, beginning_by, beginning_in, dues_in, numbered_in, failures_by, failures_of_stream, FirstAgree}
-use Rattle.m2v_law_audit.specs.Verdicts.{FindsNothing, FindsNothingWhereLawful}
+use Rattle.m2v_law_audit.specs.Found.{findings_of, judged_in}
+use Rattle.m2v_law_audit.specs.Verdicts.{FindsNothing, FindsNothingWhereLawful, IsClean, LawfulWhereClean}
 use Rattle.m2v_law_audit.proofs.AccountFailures.{begins_so}
 use Rattle.m2v_law_audit.proofs.AccountDues.{few_numbered}
 use Rattle.m2v_law_audit.proofs.AccountReading.{in_pieces, few_pictures}
 use Rattle.m2v_law_audit.proofs.AccountChecked.{fails_as_checked}
 use Rattle.m2v_law_audit.proofs.RemovalFailures.{tells_all_failures}
-use Rattle.m2v_law_audit.proofs.VerdictTells.{tells_all}
+use Rattle.m2v_law_audit.proofs.ReportParts.{parts_of}
+use Rattle.m2v_law_audit.proofs.BreachTexts.{as_many}
 use Rattle.m2v_law_audit.proofs.VerdictRules.{Keeps, keeps_where}
 
 -- ---- failures
@@ -89,12 +94,14 @@ none_where_safe text tree stream steady lawful number start =
 pub uncounted : (n : ℕ) → more_by 0 n ≡ 0 → n ≡ 0
 uncounted n e = omega (arith, e)
 
-lawful_where_finds : (text : List ℕ) (tree : Sofar) → Stream text tree → (each : Bool) (number start : ℕ) → FindsNothing (sequence_report each number start text) → is_variable (numbered_in tree) ≡ false → (f : Figures) × IsLawful text f
-lawful_where_finds text tree stream each number start found steady =
+lawful_where_finds : (text : List ℕ) (tree : Sofar) → Stream text tree → (asked : Asked) (number start : ℕ)
+    → FindsNothing asked number start text → is_variable (numbered_in tree) ≡ false → (f : Figures) × IsLawful text f
+lawful_where_finds text tree stream asked number start found steady =
     let bs : Breaches = breaches_of tree in
     let fs : List FailureRecord = failures_of_stream number start text tree in
-    let lawful : bs ≡ [] = nil_from_length bs (uncounted (length bs) (sym (tells_all text tree stream each number start).counted ∙ found.0)) in
-    let none : fs ≡ [] = nil_from_length fs (uncounted (length fs) (sym (tells_all_failures text tree stream each number start).counted ∙ found.1)) in
+    let lawful : bs ≡ [] =
+    nil_from_length bs (sym (as_many text tree stream asked number start) ∙ ap (λ (l : List Finding). length l) found.0) in
+    let none : fs ≡ [] = nil_from_length fs (uncounted (length fs) (sym (tells_all_failures text tree stream asked number start).counted ∙ found.1)) in
     let b : BufferFigures = figures_in text tree in
     let f : Figures = record {
       frames = length (frames_of tree);
@@ -114,23 +121,37 @@ lawful_where_finds text tree stream each number start found steady =
       },
     )
 
-finds_where_lawful : (text : List ℕ) (tree : Sofar) → Stream text tree → (each : Bool) (number start : ℕ) (f : Figures) → IsLawful text f → FindsNothing (sequence_report each number start text) × (is_variable (numbered_in tree) ≡ false)
-finds_where_lawful text tree stream each number start f is =
+finds_where_lawful : (text : List ℕ) (tree : Sofar) → Stream text tree → (asked : Asked) (number start : ℕ) (f : Figures) → IsLawful text f
+    → FindsNothing asked number start text × (is_variable (numbered_in tree) ≡ false)
+finds_where_lawful text tree stream asked number start f is =
     let one = λ (t : Sofar) (s : Stream text t). (exactly_one text).one_tree t tree s stream in
     let lawful : breaches_of tree ≡ [] = subst (λ (t : Sofar). breaches_of t ≡ []) (one is.lawful.tree is.lawful.stream) is.lawful.lawful in
     let steady : is_variable (numbered_in tree) ≡ false = subst (λ (t : Sofar). is_variable (numbered_in t) ≡ false) (one is.constant.tree is.constant.stream) is.constant.rate in
     let safe : unsafe_in (account_in text tree) ≡ [] = subst (λ (t : Sofar). unsafe_in (account_in text t) ≡ []) (one is.safe.tree is.safe.stream) is.safe.safe in
-    let none = (none_where_safe text tree stream steady lawful number start).1 safe in (
+    let none = (none_where_safe text tree stream steady lawful number start).1 safe in
+    let found : List Finding = judged_in (findings_of asked number start text) in (
       (
-        (tells_all text tree stream each number start).counted ∙ ap (λ (bs : Breaches). more_by 0 (length bs)) lawful,
-        (tells_all_failures text tree stream each number start).counted ∙ ap (λ (fs : List FailureRecord). more_by 0 (length fs)) none,
+        nil_from_length found (as_many text tree stream asked number start ∙ ap (λ (bs : Breaches). length bs) lawful),
+        (tells_all_failures text tree stream asked number start).counted ∙ ap (λ (fs : List FailureRecord). more_by 0 (length fs)) none,
       ),
       steady,
     )
 
 -- nothing is found, and the rate isn't variable, exactly where the verifier calls the stream lawful
 pub finds_nothing_where_lawful : (text : List ℕ) (tree : Sofar) → Stream text tree → FindsNothingWhereLawful text tree
-finds_nothing_where_lawful text tree stream each number start = (
-  λ h. lawful_where_finds text tree stream each number start h.0 h.1,
-  λ l. finds_where_lawful text tree stream each number start l.0 l.1,
+finds_nothing_where_lawful text tree stream asked number start = (
+  λ h. lawful_where_finds text tree stream asked number start h.0 h.1,
+  λ l. finds_where_lawful text tree stream asked number start l.0 l.1,
 )
+
+-- where a report counts no breach at all it tells none of these rules
+finds_where_clean : (asked : Asked) (number start : ℕ) (text : List ℕ) → IsClean (sequence_report asked number start text)
+    → FindsNothing asked number start text
+finds_where_clean asked number start text clean =
+    let fs : List Finding = findings_of asked number start text in
+    let none : fs ≡ [] = nil_from_length fs (uncounted (length fs) (sym (parts_of asked number start text).breaches ∙ clean.0)) in
+    (ap (λ (l : List Finding). judged_in l) none, clean.1)
+
+pub lawful_where_clean : (text : List ℕ) (tree : Sofar) → Stream text tree → LawfulWhereClean text tree
+lawful_where_clean text tree stream asked number start clean steady =
+    lawful_where_finds text tree stream asked number start (finds_where_clean asked number start text clean) steady

@@ -1,5 +1,5 @@
 -- The account of a stream's buffer as a report tells it: every removal, with what the buffer tells of it (Annex C).
-use Rattle.std.specs.Prelude.{◌≡◌, ℕ, ◌+◌, ◌*◌, ◌-◌, ◌↔◌, Bool, true, false, List, [], ◌∷◌, map, sum, length, Option, Some, None}
+use Rattle.std.specs.Prelude.{◌≡◌, ℕ, ◌+◌, ◌*◌, ◌-◌, ◌↔◌, true, false, List, [], ◌∷◌, map, sum, length, Option, Some, None}
 use Rattle.std.specs.List.{flat_map, AllByRecursion}
 use Rattle.m2v_vbv.specs.declared.fault.AccountFault.{AccountFault}
 use Rattle.m2v_vbv.specs.declared.fault.AccountFault.TheVariants.{Under, Over}
@@ -22,6 +22,7 @@ use Rattle.m2v_audit.specs.Account.{Told, pictures, all_told}
 use Rattle.m2v_audit.specs.Auditing.{rate_with}
 use Rattle.m2v_audit.specs.Opening.{first_buffer}
 use Rattle.m2v_audit.specs.Times.{Times, IsOnce, opened, time_of, after}
+use Rattle.m2v_audit.specs.declared.asked.Asked.{Asked}
 use Rattle.m2v_law_audit.specs.Sequences.{SequenceReport, sequence_report, first_byte}
 use Rattle.m2v_law_audit.specs.Parts.{Tells, more_by}
 use Rattle.m2v_law_audit.specs.Found.{failures_of}
@@ -116,7 +117,7 @@ pub record TellsFailures (r : SequenceReport) (fs : List FailureRecord) : Type 0
 -- those of a stream, whichever sequence of the input it is
 abbrev pub TellsAllFailures : List ℕ → Sofar → Type 0
 TellsAllFailures text tree =
-    (each : Bool) (number start : ℕ) → TellsFailures (sequence_report each number start text) (failures_of_stream number start text tree)
+    (asked : Asked) (number start : ℕ) → TellsFailures (sequence_report asked number start text) (failures_of_stream number start text tree)
 
 -- ---- at constant rate: the account of the verifier, up to the first failure
 

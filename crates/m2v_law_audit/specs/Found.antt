@@ -1,19 +1,27 @@
 -- What the pieces of a sequence tell, as lists: its breaches in turn, and the removals that are told.
-use Rattle.std.specs.Prelude.{ℕ, ◌+◌, Bool, if◌then◌else◌, List, [], ◌∷◌, ◌++◌, map, length, slice_get, Option, Some, None, Ok, Err}
+use Rattle.std.specs.Prelude.{ℕ, ◌+◌, Bool, not, nat_le, if◌then◌else◌, List, [], ◌∷◌, ◌++◌, map, filter, length, slice_get, Option, Some, None, Ok, Err}
 use Rattle.std.specs.List.{flat_map}
 use Rattle.std.specs.Option.{option_to_list}
 use Rattle.m2v_model.specs.m2v_macroblock.m2v_head.declared.sequence.SequenceInfo.{SequenceInfo}
 use Rattle.m2v_model.specs.m2v_macroblock.m2v_head.declared.sequence.SequenceExtension.{SequenceExtension}
+use Rattle.m2v_model.specs.m2v_macroblock.m2v_head.declared.group.GroupInfo.{GroupInfo}
 use Rattle.m2v_model.specs.declared.state.Sequence.{Sequence}
 use Rattle.m2v_model.specs.declared.notes.PictureNote.{PictureNote}
 use Rattle.m2v_model.specs.Lawful.{Breaches, sequence_breaches, horizontal_rule, vertical_rule, intra_rule, crowd_rule, repeat_rule, progressive_rule, precision_rule}
-use Rattle.m2v_model.specs.Pieces.{zeros_last}
+use Rattle.m2v_model.specs.Pieces.{pieces, zeros_last}
 use Rattle.m2v_model.specs.PieceNotes.{PieceNotes, notes_of}
-use Rattle.m2v_model.specs.ByPieces.{Between, Course, piece_read}
-use Rattle.m2v_model.specs.States.{is_b}
+use Rattle.m2v_model.specs.ByPieces.{Between, Course, at_start, piece_read}
+use Rattle.m2v_model.specs.States.{first_or, is_b}
 use Rattle.m2v_audit.specs.m2v_check.declared.coded.CodedPicture.{CodedPicture}
 use Rattle.m2v_audit.specs.m2v_check.Breaking.{numbered_of}
 use Rattle.m2v_audit.specs.m2v_check.Running.{ends_frame}
+use Rattle.m2v_audit.specs.m2v_strict.declared.rule_set.RuleSet.{RuleSet}
+use Rattle.m2v_audit.specs.m2v_strict.declared.runs.Runs.{Runs}
+use Rattle.m2v_audit.specs.m2v_strict.Remarks.{Remarks, is_warning}
+use Rattle.m2v_audit.specs.m2v_strict.SequenceRules.{level_remarks, header_rule, extension_rule, sequence_warnings}
+use Rattle.m2v_audit.specs.m2v_strict.GroupRules.{group_remarks}
+use Rattle.m2v_audit.specs.m2v_strict.PictureRules.{delay_remarks, f_code_rule, full_pel_rule, field_rule, frame_remarks, picture_warnings}
+use Rattle.m2v_audit.specs.m2v_strict.SetRules.{set_remarks, set_group_remarks, set_picture_remarks}
 use Rattle.m2v_audit.specs.declared.headers.PieceHeader.{PieceHeader}
 use Rattle.m2v_audit.specs.declared.headers.PieceHeader.TheVariants as headers
 use Rattle.m2v_audit.specs.declared.places.Misplaced.{Misplaced}
@@ -23,11 +31,14 @@ use Rattle.m2v_audit.specs.declared.records.FailureRecord.{FailureRecord}
 use Rattle.m2v_audit.specs.declared.report.Rate.{Rate}
 use Rattle.m2v_audit.specs.Account.{Account, Told, settled, ended as all_left}
 use Rattle.m2v_audit.specs.declared.auditing.Auditing.{Auditing}
-use Rattle.m2v_audit.specs.Auditing.{sequence_of, sequences_of, bit_of, coded, counted, waiting_of, with_header, begun, longer, fronted, pictured, cleared, after_piece}
-use Rattle.m2v_audit.specs.Findings.{broken_at, misplaced_at}
+use Rattle.m2v_audit.specs.Auditing.{nothing, sequence_of, sequences_of, bit_of, coded, counted, waiting_of, with_header, begun, longer, fronted, pictured, cleared, after_piece}
+use Rattle.m2v_audit.specs.Findings.{broken_at, remarked_at, misplaced_at}
 use Rattle.m2v_audit.specs.Front.{front_of}
 use Rattle.m2v_audit.specs.Places.{told_with_frame, told_at_close}
+use Rattle.m2v_audit.specs.Times.{fields_of}
 use Rattle.m2v_audit.specs.Report.{finding_of, under_of, over_of}
+use Rattle.m2v_audit.specs.declared.asked.Asked.{Asked}
+use Rattle.m2v_law_audit.specs.Sequences.{first_byte}
 
 -- ---- breaches
 
@@ -39,18 +50,48 @@ found_at sequence picture bit bs = map (λ b. finding_of sequence (broken_at pic
 abbrev pub found_misplaced : ℕ → List (Option Misplaced) → List Finding
 found_misplaced sequence ms = flat_map (λ m. map (λ x. finding_of sequence (misplaced_at x)) (option_to_list m)) ms
 
--- at a header: of a sequence header its rules, at a group header what waits for rule 11
+-- the breaches among what the stricter rules remark, of a header that stands at a bit and is told of a picture; the others are
+-- warnings
+unfoldable pub remarks_found : ℕ → ℕ → ℕ → Remarks → List Finding
+remarks_found sequence picture bit ms = map (λ m. finding_of sequence (remarked_at picture bit m)) (filter (λ m. not (is_warning m.rule)) ms)
+
+-- of a sequence header, beside the first one of its sequence
+abbrev pub sequence_found : ℕ → RuleSet → ℕ → ℕ → Sequence → Sequence → List Finding
+sequence_found sequence rules picture bit first s =
+    let found : Remarks → List Finding = λ ms. remarks_found sequence picture bit ms in
+    found (level_remarks s) ++ found (header_rule first s) ++ found (extension_rule first s) ++ found (sequence_warnings rules s)
+    ++ found (set_remarks rules s)
+
+-- of a group header, in a sequence with this header, where one came
+abbrev pub group_found : ℕ → RuleSet → Bool → ℕ → ℕ → Option Sequence → GroupInfo → List Finding
+group_found sequence rules headed picture bit None g = []
+group_found sequence rules headed picture bit (Some s) g =
+    remarks_found sequence picture bit (group_remarks s.info.frame_rate_code g)
+    ++ remarks_found sequence picture bit (set_group_remarks rules headed)
+
+-- of a picture, behind what the pictures before it come to
+abbrev pub picture_found : ℕ → RuleSet → Bool → Runs → CodedPicture → List Finding
+picture_found sequence rules constant before p =
+    let found : Remarks → List Finding = λ ms. remarks_found sequence p.number (bit_of p.note) ms in
+    found (delay_remarks constant p) ++ found (f_code_rule p) ++ found (full_pel_rule p.note.info) ++ found (field_rule constant p)
+    ++ found (frame_remarks constant p) ++ found (picture_warnings p)
+    ++ found (set_picture_remarks rules before p (fields_of p.sequence p.note))
+
+-- at a header: of a sequence header its rules, at a group header what waits for rule 11, and the rules of it
 abbrev pub header_found : Auditing → PieceHeader → Option (SequenceInfo × SequenceExtension) → List Finding
 header_found a (headers.Sequence bit) None = []
-header_found a (headers.Sequence bit) (Some s) = found_at a.report.sequence a.pictures bit (sequence_breaches (sequence_of s ∷ []))
-header_found a (headers.Group bit g) s = found_misplaced a.report.sequence (told_at_close a.places)
+header_found a (headers.Sequence bit) (Some s) =
+    found_at a.report.sequence a.pictures bit (sequence_breaches (sequence_of s ∷ []))
+    ++ sequence_found a.report.sequence a.rules a.pictures bit (first_or a.first (sequence_of s)) (sequence_of s)
+header_found a (headers.Group bit g) s =
+    found_misplaced a.report.sequence (told_at_close a.places) ++ group_found a.report.sequence a.rules a.headed a.pictures bit a.sequence g
 
 -- at headers in turn, as many sequence headers standing before them among those that were noted
 unfoldable pub headers_found : Auditing → List (SequenceInfo × SequenceExtension) → ℕ → List PieceHeader → List Finding
 headers_found a ss k [] = []
 headers_found a ss k (h ∷ hs) = header_found a h (slice_get ss k) ++ headers_found (with_header a h (slice_get ss k)) ss (k + sequences_of h) hs
 
--- at a picture: its rules by number, but for 11
+-- at a picture: the verifier's rules by number, but for 11, and the stricter ones
 abbrev pub rules_of : Bool → CodedPicture → Breaches
 rules_of constant p =
     let n = numbered_of p in
@@ -64,7 +105,8 @@ places_found sequence o p =
 abbrev pub coded_found : Auditing → CodedPicture → List Finding
 coded_found a p =
     let behind = counted a p in
-    found_at a.report.sequence p.number (bit_of p.note) (rules_of behind.constant p) ++ places_found a.report.sequence a.places p
+    (found_at a.report.sequence p.number (bit_of p.note) (rules_of behind.constant p) ++ picture_found a.report.sequence a.rules behind.constant a.runs p)
+    ++ places_found a.report.sequence a.places p
 
 abbrev pub note_found : Auditing → Option Sequence → Option PictureNote → List Finding
 note_found a s None = []
@@ -120,6 +162,14 @@ all_along here last a b at (p ∷ ps) = along here last a at p (piece_read b (at
 -- the breaches that are told from here on
 abbrev pub all_found : Auditing → Between → ℕ → List (List ℕ) → List Finding
 all_found = all_along piece_found end_found
+
+-- the breaches that are told of a text's sequence, by its number and the byte of the input where the text begins
+abbrev pub findings_of : Asked → ℕ → ℕ → List ℕ → List Finding
+findings_of asked number start text = all_found (nothing number asked start) at_start (first_byte start text) (pieces text)
+
+-- those of the rules that the verifier looks at, 1 to 15
+abbrev pub judged_in : List Finding → List Finding
+judged_in fs = filter (λ f. nat_le f.rule 15) fs
 
 -- the removals that are told from here on
 abbrev pub all_removals : Auditing → Between → ℕ → List (List ℕ) → List Told

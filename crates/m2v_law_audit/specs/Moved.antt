@@ -1,6 +1,6 @@
 -- The report of a sequence as records, and the same records of a sequence that stands further on: behind other sequences, and at
 -- another place of the input.
-use Rattle.std.specs.Prelude.{◌≡◌, ℕ, suc, ◌+◌, ◌*◌, Bool, true, List, ◌++◌, length, map}
+use Rattle.std.specs.Prelude.{◌≡◌, ℕ, suc, ◌+◌, ◌*◌, true, List, ◌++◌, length, map}
 use Rattle.std.specs.List.{flat_map}
 use Rattle.m2v_model.specs.Pieces.{pieces}
 use Rattle.m2v_model.specs.ByPieces.{end_of}
@@ -17,7 +17,9 @@ use Rattle.m2v_audit.specs.declared.records.EndRecord.{EndRecord}
 use Rattle.m2v_audit.specs.declared.records.TotalRecord.{TotalRecord}
 use Rattle.m2v_audit.specs.Auditing.{is_begun}
 use Rattle.m2v_audit.specs.Audited.{then_comes, none_counted, counted_with, texts_told, audited}
-use Rattle.m2v_audit.specs.Lines.{audit_line, columns_lines, skipped_line, sequence_line, group_line, picture_line, held_line, breach_line, failure_line, count_line, end_line}
+use Rattle.m2v_audit.specs.Lines.{audit_line, columns_lines, skipped_line, sequence_line, group_line, picture_line, held_line, breach_line, warning_line, failure_line, count_line, end_line}
+use Rattle.m2v_audit.specs.declared.asked.Asked.{Asked}
+use Rattle.m2v_audit.specs.m2v_strict.RuleSets.{name_of}
 use Rattle.m2v_law_audit.specs.Sequences.{sequence_report, first_byte}
 
 -- a record of a sequence's report
@@ -28,6 +30,7 @@ pub data Record : Type 0 where
   of_picture : PictureRecord → Record
   of_held : HeldRecord → Record
   of_breach : Finding → Record
+  of_warning : Finding → Record
   of_failure : FailureRecord → Record
   of_count : CountRecord → Record
   of_end : EndRecord → Record
@@ -40,6 +43,7 @@ record_text (of_group g) = group_line g
 record_text (of_picture p) = picture_line p
 record_text (of_held h) = held_line h
 record_text (of_breach f) = breach_line f
+record_text (of_warning f) = warning_line f
 record_text (of_failure f) = failure_line f
 record_text (of_count c) = count_line c
 record_text (of_end e) = end_line e
@@ -52,6 +56,7 @@ moved sequences bytes (of_group g) = of_group (record g { sequence = g.sequence 
 moved sequences bytes (of_picture p) = of_picture (record p { sequence = p.sequence + sequences; bit = p.bit + 8 * bytes })
 moved sequences bytes (of_held h) = of_held (record h { sequence = h.sequence + sequences })
 moved sequences bytes (of_breach f) = of_breach (record f { sequence = f.sequence + sequences; bit = f.bit + 8 * bytes })
+moved sequences bytes (of_warning f) = of_warning (record f { sequence = f.sequence + sequences; bit = f.bit + 8 * bytes })
 moved sequences bytes (of_failure f) = of_failure (record f { sequence = f.sequence + sequences; bit = f.bit + 8 * bytes })
 moved sequences bytes (of_count c) = of_count (record c { sequence = c.sequence + sequences })
 moved sequences bytes (of_end e) = of_end (record e { sequence = e.sequence + sequences })
@@ -67,27 +72,27 @@ pub record CountAlike (a b : Auditing) : Type 0 where
 
 -- The report of the sequence of this number, whose text begins at a byte of the input, has the records of that text's report by
 -- itself, so many sequences and so many bytes further on; and it counts the same.
-pub record IsMoved (each : Bool) (number start : ℕ) (text : List ℕ) : Type 0 where
+pub record IsMoved (asked : Asked) (number start : ℕ) (text : List ℕ) : Type 0 where
   pub records : List Record
-  pub alone : (sequence_report each 0 0 text).lines ≡ flat_map record_text records
-  pub further : (sequence_report each number start text).lines ≡ flat_map record_text (map (moved number start) records)
-  pub counted : CountAlike (sequence_report each 0 0 text).kept (sequence_report each number start text).kept
+  pub alone : (sequence_report asked 0 0 text).lines ≡ flat_map record_text records
+  pub further : (sequence_report asked number start text).lines ≡ flat_map record_text (map (moved number start) records)
+  pub counted : CountAlike (sequence_report asked 0 0 text).kept (sequence_report asked number start text).kept
 
 -- ---- text after text
 
 -- Behind a report's first lines stands that of the first text's sequence, and then those of the texts that follow it.
-abbrev pub BeginsWith : Bool → List ℕ → List ℕ → Type 0
-BeginsWith each rules text =
-    let own = sequence_report each 0 0 text in
+abbrev pub BeginsWith : Asked → List ℕ → Type 0
+BeginsWith asked text =
+    let own = sequence_report asked 0 0 text in
     let end = end_of (first_byte 0 text) (pieces text) in
-    audited each rules text
-    ≡ then_comes ((audit_line rules ++ columns_lines) ++ own.lines)
-    (texts_told (length text) each true (counted_with none_counted own.kept) end (text_after text))
+    audited asked text
+    ≡ then_comes ((audit_line (name_of asked.rules) ++ columns_lines) ++ own.lines)
+    (texts_told (length text) asked true (counted_with none_counted own.kept) end (text_after text))
 
 -- The same of a later text, which begins at a byte of the input, and of no more than a number of texts behind it.
-abbrev pub GoesOnWith : ℕ → Bool → TotalRecord → ℕ → List ℕ → Type 0
-GoesOnWith n each t start text =
-    let own = sequence_report each t.sequences start text in
+abbrev pub GoesOnWith : ℕ → Asked → TotalRecord → ℕ → List ℕ → Type 0
+GoesOnWith n asked t start text =
+    let own = sequence_report asked t.sequences start text in
     let end = end_of (first_byte start text) (pieces text) in
-    texts_told (suc n) each true t start text
-    ≡ then_comes own.lines (texts_told n each true (counted_with t own.kept) end (text_after text))
+    texts_told (suc n) asked true t start text
+    ≡ then_comes own.lines (texts_told n asked true (counted_with t own.kept) end (text_after text))

@@ -6,6 +6,7 @@ use Rattle.m2v_model.specs.ByPieces.{Between, Course, at_start, piece_read, end_
 use Rattle.m2v_audit.specs.declared.auditing.Auditing.{Auditing}
 use Rattle.m2v_audit.specs.Auditing.{nothing, cleared, after_piece, ended}
 use Rattle.m2v_audit.specs.Audited.{Telling, then_comes, counted_with, pieces_told, limit_at}
+use Rattle.m2v_audit.specs.declared.asked.Asked.{Asked}
 
 -- lines that were told, and what is kept behind them; the lines of a piece are taken away from what is kept
 pub record SequenceReport : Type 0 where
@@ -36,9 +37,9 @@ reported a b at (p ∷ ps) = by_piece a at p (piece_read b (at + length p) p) (�
 abbrev pub first_byte : ℕ → List ℕ → ℕ
 first_byte start text = start + length (before_pieces text)
 
--- the report of the sequence of this number, whose text begins at a byte of the input; `each`: each picture is told
-abbrev pub sequence_report : Bool → ℕ → ℕ → List ℕ → SequenceReport
-sequence_report each number start text = reported (nothing number each start) at_start (first_byte start text) (pieces text)
+-- the report of the sequence of this number, whose text begins at a byte of the input, by what is asked for
+abbrev pub sequence_report : Asked → ℕ → ℕ → List ℕ → SequenceReport
+sequence_report asked number start text = reported (nothing number asked start) at_start (first_byte start text) (pieces text)
 
 -- no piece of these passes a limit, of which the first begins at a byte of the input, nor does their end
 abbrev pub PassNone : ℕ → List (List ℕ) → Type 0
@@ -47,9 +48,9 @@ PassNone at (p ∷ ps) = (limit_at at (p ∷ ps) ≡ None) × PassNone (at + len
 
 -- In the report of an input stands, of a text that is a stream without a fault and passes no limit, the report of its
 -- sequence, and then what follows it.
-abbrev pub StandsIn : Bool → Telling → Bool → List ℕ → Type 0
-StandsIn each x later text =
-    let own = sequence_report each x.totals.sequences x.start text in
+abbrev pub StandsIn : Asked → Telling → Bool → List ℕ → Type 0
+StandsIn asked x later text =
+    let own = sequence_report asked x.totals.sequences x.start text in
     let at = first_byte x.start text in
-    pieces_told x later (nothing x.totals.sequences each x.start) at_start at (pieces text)
+    pieces_told x later (nothing x.totals.sequences asked x.start) at_start at (pieces text)
     ≡ then_comes own.lines (x.next (counted_with x.totals own.kept) (end_of at (pieces text)))

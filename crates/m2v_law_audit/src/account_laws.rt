@@ -1,5 +1,5 @@
 //! What the account of a stream's buffer tells, and what it has to do with the verifier's account and with deliveries.
-ghost use Rattle.std.specs.Prelude.{◌≡◌, ℕ, Bool, List, Some};
+ghost use Rattle.std.specs.Prelude.{◌≡◌, ℕ, List, Some};
 ghost use Rattle.std.specs.List.{flat_map};
 ghost use Rattle.m2v_model.specs.Streams.{Sofar};
 ghost use Rattle.m2v_model.specs.Decoding.{Stream};
@@ -7,6 +7,7 @@ ghost use Rattle.m2v_model.specs.Pieces.{pieces};
 ghost use Rattle.m2v_model.specs.ByPieces.{at_start};
 ghost use Rattle.m2v_audit.specs.declared.report.Rate.{Rate};
 ghost use Rattle.m2v_audit.specs.Auditing.{nothing};
+ghost use Rattle.m2v_audit.specs.declared.asked.Asked.{Asked};
 ghost use Rattle.m2v_law_audit.specs.Sequences.{first_byte};
 ghost use Rattle.m2v_law_audit.specs.Found.{failures_of, all_removals};
 ghost use Rattle.m2v_law_audit.specs.Accounts.{Beginning, beginning_in, dues_in, removals_by, failures_of_stream, FailsAsChecked, FailsWhereNoneDelivers};
@@ -16,13 +17,13 @@ ghost use Rattle.m2v_law_audit.specs.Accounts.{Beginning, beginning_in, dues_in,
 /// of the stream.
 pub fn law_removals()
     ensures removals { (text : List ℕ) (tree : Sofar) → Stream text tree →
-        (each : Bool) (number start : ℕ)
-        → all_removals (nothing number each start) at_start (first_byte start text) (pieces text)
+        (asked : Asked) (number start : ℕ)
+        → all_removals (nothing number asked start) at_start (first_byte start text) (pieces text)
         ≡ removals_by (beginning_in start text tree) (dues_in start text tree) }
     ensures failures { (text : List ℕ) (tree : Sofar) → Stream text tree →
-        (each : Bool) (number start : ℕ) (rate : Rate)
+        (asked : Asked) (number start : ℕ) (rate : Rate)
         → ((x : Beginning) → beginning_in start text tree ≡ Some x → rate ≡ x.rate) →
-        let a = nothing number each start in
+        let a = nothing number asked start in
         let told = all_removals a at_start (first_byte start text) (pieces text) in
         flat_map (failures_of number rate) told ≡ failures_of_stream number start text tree }
 {}

@@ -13,6 +13,7 @@ ghost use Rattle.m2v_audit.specs.declared.records.Finding.{Finding};
 ghost use Rattle.m2v_audit.specs.declared.records.FailureRecord.{FailureRecord};
 ghost use Rattle.m2v_audit.specs.Auditing.{nothing, sequence_of, rate_with};
 ghost use Rattle.m2v_audit.specs.Audited.{Telling};
+ghost use Rattle.m2v_audit.specs.declared.asked.Asked.{Asked};
 ghost use Rattle.m2v_law_audit.specs.Sequences.{sequence_report, first_byte, PassNone, StandsIn};
 ghost use Rattle.m2v_law_audit.specs.Parts.{Tells, more_by};
 ghost use Rattle.m2v_law_audit.specs.ByLines.{TellsByLines};
@@ -21,40 +22,40 @@ ghost use Rattle.m2v_law_audit.specs.Found.{all_found, all_removals, failures_of
 /// In the report of an input stands, for a text that is a stream without a fault and passes no limit, the report of its
 /// sequence by itself, and then what follows it.
 pub fn law_sequence()
-    ensures { (text : List ℕ) (tree : Sofar) → Stream text tree → (each : Bool) (x : Telling)
+    ensures { (text : List ℕ) (tree : Sofar) → Stream text tree → (asked : Asked) (x : Telling)
         (later : Bool) → PassNone (first_byte x.start text) (pieces text)
-        → StandsIn each x later text }
+        → StandsIn asked x later text }
 {}
 
 /// The report of a sequence, whatever its text, tells the breaches of its pieces and of its end, and the failures of the
 /// removals that are told, in turn and no others; and it counts both. How the buffer is filled is what the first sequence
 /// header of its first piece says, and that piece's picture.
 pub fn law_parts()
-    ensures tells { (each : Bool) (number start : ℕ) (text : List ℕ) →
-        let r = sequence_report each number start text in
-        let a = nothing number each start in
+    ensures tells { (asked : Asked) (number start : ℕ) (text : List ℕ) →
+        let r = sequence_report asked number start text in
+        let a = nothing number asked start in
         let at = first_byte start text in
         Tells r.lines (all_found a at_start at (pieces text))
         (flat_map (failures_of number r.kept.rate) (all_removals a at_start at (pieces text))) }
-    ensures breaches { (each : Bool) (number start : ℕ) (text : List ℕ) →
-        let r = sequence_report each number start text in
-        let a = nothing number each start in
+    ensures breaches { (asked : Asked) (number start : ℕ) (text : List ℕ) →
+        let r = sequence_report asked number start text in
+        let a = nothing number asked start in
         let found = all_found a at_start (first_byte start text) (pieces text) in
         r.kept.report.tally.breaches ≡ more_by 0 (length found) }
-    ensures failures { (each : Bool) (number start : ℕ) (text : List ℕ) →
-        let r = sequence_report each number start text in
-        let a = nothing number each start in
+    ensures failures { (asked : Asked) (number start : ℕ) (text : List ℕ) →
+        let r = sequence_report asked number start text in
+        let a = nothing number asked start in
         let removals = all_removals a at_start (first_byte start text) (pieces text) in
         let failures = flat_map (failures_of number r.kept.rate) removals in
         r.kept.report.tally.failures ≡ more_by 0 (length failures) }
-    ensures rate { (each : Bool) (number start : ℕ) (text p : List ℕ) (ps : List (List ℕ))
+    ensures rate { (asked : Asked) (number start : ℕ) (text p : List ℕ) (ps : List (List ℕ))
         (x : Events × Between) (s : SequenceInfo × SequenceExtension)
         (ss : List (SequenceInfo × SequenceExtension)) →
         let at = first_byte start text in
         let notes = notes_of at p x.0 in
         pieces text ≡ p ∷ ps → piece_read at_start (at + length p) p ≡ Ok x
         → notes.sequences ≡ s ∷ ss
-        → (sequence_report each number start text).kept.rate
+        → (sequence_report asked number start text).kept.rate
         ≡ rate_with (sequence_of s) notes.picture }
 {}
 

@@ -6,26 +6,26 @@ use Rattle.m2v_dec_piece.specs.declared.answer.DecodeError.{DecodeError}
 use Rattle.m2v_dec_piece.specs.declared.answer.DecodeError.TheVariants as errors
 use Rattle.m2v_audit.specs.declared.outcome.Outcome.{Outcome as Audit}
 use Rattle.m2v_audit.specs.Leading.{IsAudited, Fails}
-use Rattle.m2v_tool.specs.declared.audit.AuditWords.{AuditWords}
+use Rattle.m2v_audit.specs.declared.asked.Asked.{Asked}
 use Rattle.m2v_tool.specs.declared.audit.AuditOutcome.{AuditOutcome}
 use Rattle.m2v_tool.specs.declared.audit.AuditOutcome.TheVariants.{Reported, Stopped}
 use Rattle.m2v_tool.specs.Endings.{Ending, Told}
 use Rattle.m2v_tool.specs.Decoding.{decoding_stopped}
-use Rattle.m2v_tool.specs.Auditing.{name_of_rules, outcome_of, AuditComes, clean_ending, reported_ending, audit_ending, AuditAnswer, AuditKeeps}
+use Rattle.m2v_tool.specs.Auditing.{outcome_of, AuditComes, clean_ending, reported_ending, audit_ending, AuditAnswer, AuditKeeps}
 use Rattle.m2v_tool.specs.Runs.{Run, work_of, IsUntouched, Yields, NoneFailed, Succeeds}
 use Rattle.m2v_tool.proofs.EndingLaws.{refusal, or_memory}
 use Rattle.m2v_tool.proofs.DoneLaws.{audit_done, no_success, clean_told}
 
-module _ (r : Run) (w : AuditWords) where
+module _ (r : Run) (w : Asked) where
   module _ (text : List ℕ) (told : r.input.old ≡ Some text) where
     -- the answer to the text
     abbrev Said : Type 0
     Said = AuditAnswer r w text
 
-    reported_as : (o : Audit) → IsAudited w.pictures (name_of_rules w.rules) text r.output o → Told (reported_ending o) r.status r.report → Said
+    reported_as : (o : Audit) → IsAudited w text r.output o → Told (reported_ending o) r.status r.report → Said
     reported_as o i t = record { report = i.grown; told = subst (λ (x : Audit). Told (reported_ending x) r.status r.report) i.outcome t }
 
-    stopped_as : (e : DecodeError) → Fails w.pictures (name_of_rules w.rules) r.input r.output e → Told (decoding_stopped e) r.status r.report → Yields r Said
+    stopped_as : (e : DecodeError) → Fails w r.input r.output e → Told (decoding_stopped e) r.status r.report → Yields r Said
     unfolding decoding_stopped
     stopped_as errors.Read c t = or_memory r Said 7 (refusal (decoding_stopped errors.Read) r.status 7 r.report t refl refl) (λ is. Yields.read is c.0)
     stopped_as errors.Write c t = or_memory r Said 8 (refusal (decoding_stopped errors.Write) r.status 8 r.report t refl refl) (λ is. Yields.write is c.0)
@@ -37,7 +37,7 @@ module _ (r : Run) (w : AuditWords) where
     answer_at : (o : AuditOutcome) → AuditComes w r.input r.output o → Told (audit_ending o) r.status r.report → Yields r Said
     unfolding AuditComes audit_ending
     answer_at (Reported o) c t =
-        Yields.said (reported_as o (of_text r.input (λ bytes. IsAudited w.pictures (name_of_rules w.rules) bytes r.output o) text told c) t)
+        Yields.said (reported_as o (of_text r.input (λ bytes. IsAudited w bytes r.output o) text told c) t)
     answer_at (Stopped e) c t = stopped_as e c t
 
     clean_as : reported_ending (outcome_of w text) ≡ clean_ending (outcome_of w text).totals → NoneFailed r → Yields r Said → Succeeds r

@@ -31,7 +31,7 @@ use Rattle.m2v_audit.specs.declared.outcome.Ending.{Ending as Audited}
 use Rattle.m2v_audit.specs.declared.outcome.Ending.TheVariants as audits
 use Rattle.m2v_audit.specs.declared.words.LimitKind.TheVariants as limits
 use Rattle.m2v_audit.specs.declared.records.TotalRecord.{TotalRecord}
-use Rattle.m2v_tool.specs.declared.audit.AuditWords.{AuditWords}
+use Rattle.m2v_audit.specs.declared.asked.Asked.{Asked}
 use Rattle.m2v_tool.specs.declared.audit.AuditOutcome.{AuditOutcome}
 use Rattle.m2v_tool.specs.declared.audit.AuditOutcome.TheVariants.{Reported, Stopped}
 use Rattle.m2v_tool.specs.declared.flat.FlatOutcome.{FlatOutcome}
@@ -257,7 +257,7 @@ both_hold false q is = absurd cc
 both_zero : (b c : ℕ) → nat_eq b 0 && nat_eq c 0 ≡ true → (b ≡ 0) × (c ≡ 0)
 both_zero b c is = let e = both_hold (nat_eq b 0) (nat_eq c 0) is in (eqb-true b 0 e.0, eqb-true c 0 e.1)
 
-whole_done : (r : Run) (w : AuditWords) (t : TotalRecord) → AuditComes w r.input r.output (Reported (record { totals = t; ending = audits.Whole })) → Told (whole_ending t) r.status r.report
+whole_done : (r : Run) (w : Asked) (t : TotalRecord) → AuditComes w r.input r.output (Reported (record { totals = t; ending = audits.Whole })) → Told (whole_ending t) r.status r.report
     → r.status ≡ 0 → Success (AuditDone w r.input r.output) clean_ending r.report
 unfolding AuditComes whole_ending clean_ending found_ending
 whole_done r w t c told none = elim (cases_Bool (nat_eq t.breaches 0 && nat_eq t.failures 0)) [
@@ -271,7 +271,7 @@ whole_done r w t c told none = elim (cases_Bool (nat_eq t.breaches 0 && nat_eq t
   | inr isnt ↦ refused (found_ending t) r (subst (λ (b : Bool). Told (if b then clean_ending t else found_ending t) r.status r.report) isnt told) (17, refl) none
 ]
 
-audit_by : (r : Run) (w : AuditWords) (t : TotalRecord) (e : Audited) → AuditComes w r.input r.output (Reported (record { totals = t; ending = e })) → Told (audited_ending t e) r.status r.report
+audit_by : (r : Run) (w : Asked) (t : TotalRecord) (e : Audited) → AuditComes w r.input r.output (Reported (record { totals = t; ending = e })) → Told (audited_ending t e) r.status r.report
     → r.status ≡ 0 → Success (AuditDone w r.input r.output) clean_ending r.report
 unfolding audited_ending limit_ending stream_fault ending_past
 audit_by r w t audits.Whole c told none = whole_done r w t c told none
@@ -279,7 +279,7 @@ audit_by r w t (audits.Fault f) c told none = refused (stream_fault f) r told (8
 audit_by r w t (audits.Limit limits.TooLong) c told none = refused (ending_past too_long) r told (12, refl) none
 audit_by r w t (audits.Limit limits.TooLarge) c told none = refused (ending_past too_large) r told (13, refl) none
 
-pub audit_done : (r : Run) (w : AuditWords) (o : AuditOutcome) → AuditComes w r.input r.output o → Told (audit_ending o) r.status r.report → r.status ≡ 0
+pub audit_done : (r : Run) (w : Asked) (o : AuditOutcome) → AuditComes w r.input r.output o → Told (audit_ending o) r.status r.report → r.status ≡ 0
     → Success (AuditDone w r.input r.output) clean_ending r.report
 unfolding audit_ending
 audit_done r w (Reported o) c told none = audit_by r w o.totals o.ending c told none

@@ -6,7 +6,7 @@ use Rattle.clap.specs.Walk.{Text}
 use Rattle.m2v_y4m.specs.declared.header.Y4mHeader.{Y4mHeader}
 use Rattle.m2v_tool.specs.declared.flat.FlatWords.{FlatWords}
 use Rattle.m2v_tool.specs.declared.encode.EncodeWords.{EncodeWords}
-use Rattle.m2v_tool.specs.declared.audit.AuditWords.{AuditWords}
+use Rattle.m2v_audit.specs.declared.asked.Asked.{Asked}
 use Rattle.m2v_tool.specs.declared.cut.CutWords.{CutWords}
 use Rattle.m2v_tool.specs.declared.command.Command.{Command}
 use Rattle.m2v_tool.specs.declared.command.Command.TheVariants.{Flat, Encode, Decode, Check, Audit, Make, Cut, Pack, Unpack, EncodeY4m}
@@ -77,7 +77,7 @@ Payload flats = FlatWords
 Payload encodes = EncodeWords
 Payload decodes = ℕ
 Payload checks = Unit {0}
-Payload audits = AuditWords
+Payload audits = Asked
 Payload makes = ℕ
 Payload cuts = CutWords
 Payload packs = Y4mHeader
@@ -161,7 +161,7 @@ module _ (P : Command → Type 0) (alike : (v w : EncodeWords) → words_of v �
   one_payload encodes others x y f g p = alike x y (one_some _ (words_of x) (words_of y) f g) p
   one_payload decodes others x y f g p = subst (λ (n : ℕ). P (Decode n)) (one_some _ x y f g) p
   one_payload checks others x y f g p = p
-  one_payload audits others x y f g p = subst (λ (w : AuditWords). P (Audit w)) (one_some _ x y f g) p
+  one_payload audits others x y f g p = subst (λ (w : Asked). P (Audit w)) (one_some _ x y f g) p
   one_payload makes others x y f g p = subst (λ (n : ℕ). P (Make n)) (one_some _ x y f g) p
   one_payload cuts others x y f g p = subst (λ (w : CutWords). P (Cut w)) (one_some _ x y f g) p
   one_payload packs others x y f g p = subst (λ (h : Y4mHeader). P (Pack h)) (one_some _ x y f g) p

@@ -15,9 +15,9 @@ use Rattle.m2v_audit.specs.declared.words.LimitKind.{LimitKind}
 use Rattle.m2v_audit.specs.declared.words.LimitKind.TheVariants as limits
 use Rattle.m2v_audit.specs.Audited.{audit_report, audit_outcome}
 use Rattle.m2v_audit.specs.Leading.{IsAudited, Fails}
-use Rattle.m2v_tool.specs.declared.audit.RuleSet.{RuleSet}
-use Rattle.m2v_tool.specs.declared.audit.RuleSet.TheVariants as sets
-use Rattle.m2v_tool.specs.declared.audit.AuditWords.{AuditWords}
+use Rattle.m2v_audit.specs.m2v_strict.declared.rule_set.RuleSet.{RuleSet}
+use Rattle.m2v_audit.specs.m2v_strict.declared.rule_set.RuleSet.TheVariants as sets
+use Rattle.m2v_audit.specs.declared.asked.Asked.{Asked}
 use Rattle.m2v_tool.specs.declared.audit.AuditOutcome.{AuditOutcome}
 use Rattle.m2v_tool.specs.declared.audit.AuditOutcome.TheVariants.{Reported, Stopped}
 use Rattle.m2v_tool.specs.Simple.{simple, text_option, flag_option, taken, flag}
@@ -31,37 +31,39 @@ use Rattle.m2v_tool.specs.Runs.{Run, Yields, NoneFailed, Succeeds}
 abbrev pub audit_app : App
 audit_app = simple (codes "audit") (text_option (codes "for") ∷ flag_option (codes "pictures") ∷ [])
 
--- a rule set by its name, and the name of one
+-- a rule set by its name
 unfoldable pub rules_named : Text → Option RuleSet
-rules_named word = if bytes_eq word (codes "main") then Some sets.Main else None
-
-unfoldable pub name_of_rules : RuleSet → List ℕ
-name_of_rules sets.Main = codes "main"
+rules_named word =
+    if bytes_eq word (codes "main") then Some sets.Main
+    else if bytes_eq word (codes "dvd") then Some sets.Dvd
+    else if bytes_eq word (codes "dvb") then Some sets.Dvb
+    else if bytes_eq word (codes "atsc") then Some sets.Atsc
+    else None
 
 -- that which was given, and else the rules of the Main profile
 unfoldable pub rules_in : List Row → Option RuleSet
 rules_in rows = rules_named (unwrap_or (first_of (codes "for") rows) (codes "main"))
 
-unfoldable pub audit_of : List Row → Option AuditWords
+unfoldable pub audit_of : List Row → Option Asked
 audit_of rows = option_map (λ rules. record { rules = rules; pictures = flag (codes "pictures") rows }) (rules_in rows)
 
 -- what the words behind `audit` mean, where `clap` takes them and the rule set is one
-unfoldable pub audit_meant : List Text → Option AuditWords
+unfoldable pub audit_meant : List Text → Option Asked
 audit_meant words = option_and_then audit_of (taken audit_app words)
 
 -- ---- outcomes
 
 -- what these words ask to be reported of a text, and what comes of that
-abbrev pub report_of : AuditWords → List ℕ → List ℕ
-report_of w text = audit_report w.pictures (name_of_rules w.rules) text
+abbrev pub report_of : Asked → List ℕ → List ℕ
+report_of w text = audit_report w text
 
-abbrev pub outcome_of : AuditWords → List ℕ → Audit
-outcome_of w text = audit_outcome w.pictures (name_of_rules w.rules) text
+abbrev pub outcome_of : Asked → List ℕ → Audit
+outcome_of w text = audit_outcome w text
 
 -- When each outcome of `audit` comes, and what stands then: the report of the text was written, or the audit stopped.
-unfoldable pub AuditComes : AuditWords → Change → Change → AuditOutcome → Type 0
-AuditComes w left held (Reported o) = OfText left (λ text. IsAudited w.pictures (name_of_rules w.rules) text held o)
-AuditComes w left held (Stopped e) = Fails w.pictures (name_of_rules w.rules) left held e
+unfoldable pub AuditComes : Asked → Change → Change → AuditOutcome → Type 0
+AuditComes w left held (Reported o) = OfText left (λ text. IsAudited w text held o)
+AuditComes w left held (Stopped e) = Fails w left held e
 
 -- ---- statuses and lines
 
@@ -106,19 +108,19 @@ audit_ending (Stopped e) = decoding_stopped e
 -- ---- answers
 
 -- What `audit` answers to a text: its whole report is on output, and the status and the line are those of what came of it.
-pub record AuditAnswer (r : Run) (w : AuditWords) (text : List ℕ) : Type 0 where
+pub record AuditAnswer (r : Run) (w : Asked) (text : List ℕ) : Type 0 where
   pub report : Grows r.output.old (report_of w text) r.output.new
   pub told : Told (reported_ending (outcome_of w text)) r.status r.report
 
 -- An input was read to its end, nothing was found in it, and its report was written.
-pub record AuditDone (w : AuditWords) (left held : Change) (t : TotalRecord) : Type 0 where
-  pub audited : OfText left (λ text. IsAudited w.pictures (name_of_rules w.rules) text held (record { totals = t; ending = audits.Whole }))
+pub record AuditDone (w : Asked) (left held : Change) (t : TotalRecord) : Type 0 where
+  pub audited : OfText left (λ text. IsAudited w text held (record { totals = t; ending = audits.Whole }))
   pub breaches : t.breaches ≡ 0
   pub failures : t.failures ≡ 0
 
 -- What is answered to `audit`: with status 0 nothing was found in all of the input; every text is answered by its report;
 -- and one in which nothing is found succeeds.
-pub record AuditKeeps (w : AuditWords) (r : Run) : Type 0 where
+pub record AuditKeeps (w : Asked) (r : Run) : Type 0 where
   pub done : r.status ≡ 0 → Success (AuditDone w r.input r.output) clean_ending r.report
   pub answer : Tells r.input (λ text. Yields r (AuditAnswer r w text))
   pub clean : Tells r.input (λ text.

@@ -3,7 +3,7 @@ use Rattle.std.specs.Prelude.{ℕ, List}
 use Rattle.m2v_tool.specs.declared.flat.FlatWords.{FlatWords}
 use Rattle.m2v_tool.specs.declared.encode.EncodeWords.{EncodeWords}
 use Rattle.m2v_y4m.specs.declared.header.Y4mHeader.{Y4mHeader}
-use Rattle.m2v_tool.specs.declared.audit.AuditWords.{AuditWords}
+use Rattle.m2v_audit.specs.declared.asked.Asked.{Asked}
 use Rattle.m2v_tool.specs.declared.cut.CutWords.{CutWords}
 use Rattle.m2v_tool.specs.declared.command.Command.{Command}
 use Rattle.m2v_tool.specs.declared.command.Command.TheVariants as commands
@@ -39,7 +39,7 @@ Comes words k (outcomes.Decode o) =
 Comes words k (outcomes.Check o) =
     Means words commands.Check × CheckComes k.input o × k.output.Unchanged × k.recon.Unchanged
 Comes words k (outcomes.Audit o) =
-    (w : AuditWords) × Means words (commands.Audit w) × AuditComes w k.input k.output o
+    (w : Asked) × Means words (commands.Audit w) × AuditComes w k.input k.output o
     × k.recon.Unchanged
 Comes words k (outcomes.Make o) =
     (seed : ℕ) × Means words (commands.Make seed) × MakeComes seed k.output o

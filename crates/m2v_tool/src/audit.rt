@@ -4,32 +4,16 @@ ghost use Rattle.clap.specs.Matches.{found_of};
 ghost use Rattle.clap.specs.Simple.{app_of};
 ghost use Rattle.m2v_port.specs.Ends.{change, SinkStays};
 ghost use Rattle.m2v_tool.specs.Endings.{IsReport};
-ghost use Rattle.m2v_tool.specs.Auditing.{AuditComes, audit_app, audit_ending, audit_meant, audit_of, audited_ending, clean_ending, found_ending, limit_ending, name_of_rules, rules_in, rules_named, whole_ending};
+ghost use Rattle.m2v_tool.specs.Auditing.{AuditComes, audit_app, audit_ending, audit_meant, audit_of, audited_ending, clean_ending, found_ending, limit_ending, rules_in, rules_named, whole_ending};
 
 use crate::decode::stopped;
 use crate::report::{Report, stream_fault, too_large, too_long};
 use crate::words::{flag, flag_option, simple, taken, text_option, text_or};
 use clap::{ArgMatches, Command};
-use m2v_audit::{Ending, LimitKind, Outcome, TotalRecord, audit};
+use m2v_audit::{Asked, Ending, LimitKind, Outcome, RuleSet, TotalRecord, audit};
 use m2v_cut::decode::DecodeError;
 use m2v_port::{Sink, Source};
 use std::alloc::{AllocError, Global};
-
-/// Which rules are looked at.
-#[derive(Clone, Copy, Debug, PartialEq, Eq)]
-pub enum RuleSet {
-    /// Those of the Main profile.
-    Main,
-}
-
-/// What the words behind `audit` say.
-#[derive(Clone, Copy, Debug, PartialEq, Eq)]
-pub struct AuditWords {
-    /// Which rules are looked at.
-    pub rules: RuleSet,
-    /// Each picture is told.
-    pub pictures: bool,
-}
 
 /// The options behind `audit`.
 fn audit_command<'a>(alloc: Global) -> Result<Command<'a>, AllocError>
@@ -47,17 +31,10 @@ fn rules_named(word: &str) -> Option<RuleSet>
 {
     match word {
         "main" => Some(RuleSet::Main),
+        "dvd" => Some(RuleSet::Dvd),
+        "dvb" => Some(RuleSet::Dvb),
+        "atsc" => Some(RuleSet::Atsc),
         _ => None,
-    }
-}
-
-/// The name of a rule set.
-#[tactic(auto, unfolding(crate::specs::Auditing::name_of_rules))]
-fn name_of_rules(rules: RuleSet) -> &'static str
-    ensures { result.now ≡ name_of_rules rules }
-{
-    match rules {
-        RuleSet::Main => "main",
     }
 }
 
@@ -71,11 +48,11 @@ fn rules_in(matches: &ArgMatches) -> Option<RuleSet>
 
 /// What was found in the words behind `audit`.
 #[tactic(auto, unfolding(crate::specs::Auditing::audit_of))]
-fn audit_of(matches: &ArgMatches) -> Option<AuditWords>
+fn audit_of(matches: &ArgMatches) -> Option<Asked>
     ensures { result ≡ audit_of (rows_of (found_of matches.now)) }
 {
     match rules_in(matches) {
-        Some(rules) => Some(AuditWords {
+        Some(rules) => Some(Asked {
             rules,
             pictures: flag(matches, "pictures"),
         }),
@@ -84,7 +61,7 @@ fn audit_of(matches: &ArgMatches) -> Option<AuditWords>
 }
 
 /// What the words behind `audit` mean, where they are taken.
-pub(crate) fn audit_words(alloc: Global, words: &[String]) -> Result<Option<AuditWords>, AllocError>
+pub(crate) fn audit_words(alloc: Global, words: &[String]) -> Result<Option<Asked>, AllocError>
     ensures { IfOk result (λ w. w ≡ audit_meant (map string_bytes words.now)) }
 {
     match taken(audit_command(alloc)?, words)? {
@@ -187,7 +164,7 @@ fn found(alloc: Global, totals: &TotalRecord) -> Result<Report, AllocError>
 /// Audits the input, and writes the report.
 pub(crate) fn audited<S: Source, K: Sink>(
     alloc: Global,
-    meant: &AuditWords,
+    meant: &Asked,
     input: &mut S,
     output: &mut K,
 ) -> AuditOutcome
@@ -198,13 +175,7 @@ pub(crate) fn audited<S: Source, K: Sink>(
     ensures output { SinkStays K.ready K.name K.faults output.old output.new }
     ensures input { S.faults input.old ≤ S.faults input.new }
 {
-    match audit(
-        alloc,
-        meant.pictures,
-        name_of_rules(meant.rules),
-        input,
-        output,
-    ) {
+    match audit(alloc, *meant, input, output) {
         Ok(outcome) => AuditOutcome::Reported(outcome),
         Err(error) => AuditOutcome::Stopped(error),
     }

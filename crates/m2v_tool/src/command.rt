@@ -4,7 +4,7 @@ ghost use Rattle.m2v_tool.specs.Endings.{IsReport};
 ghost use Rattle.m2v_tool.specs.Words.{Means, MeansBy, NoCommand};
 ghost use Rattle.m2v_tool.specs.Commands.{ending_of};
 
-use crate::audit::{AuditOutcome, AuditWords, audit_words};
+use crate::audit::{AuditOutcome, audit_words};
 use crate::check::{CheckOutcome, check_words};
 use crate::cut::{CutOutcome, CutWords, cut_words};
 use crate::decode::{DecodeOutcome, decode_words};
@@ -15,6 +15,7 @@ use crate::make::{MakeOutcome, make_words};
 use crate::pack::{PackOutcome, pack_words};
 use crate::report::{Report, no_memory, usage};
 use crate::unpack::{UnpackOutcome, unpack_words};
+use m2v_audit::Asked;
 use m2v_y4m::Y4mHeader;
 use std::alloc::{AllocError, Global};
 
@@ -30,7 +31,7 @@ pub enum Command {
     /// A stream is judged.
     Check,
     /// All that is wrong with a stream is reported.
-    Audit(AuditWords),
+    Audit(Asked),
     /// The stream of a seed is made.
     Make(u64),
     /// Groups of a stream are copied.

@@ -1,7 +1,7 @@
 use Rattle.std.proofs.Common.{Err, refl, ap, sym, ◌∙◌, arith}
 use Rattle.std.proofs.lemmas.Result.{err_from_is_err_and}
-use Rattle.m2v_port.proofs.Runs.{rose_since, stays_here, stays_on}
-use Rattle.m2v_check.proofs.m2v_decode.EndLaws.{whole_length}
+use Rattle.m2v_port.proofs.Runs.{stays_here, stays_on}
+use Rattle.m2v_strict.proofs.m2v_check.m2v_decode.EndLaws.{whole_length}
 use Rattle.m2v_audit.proofs.TextSteps.{so_none, so_more, so_all, stops_on, cutter_stops, piece_stops}
 use Rattle.m2v_audit.proofs.PieceTelling.{bytes_then, shut_then}
 use Rattle.m2v_audit.proofs.pieces.tell_pieces.Goals as goal

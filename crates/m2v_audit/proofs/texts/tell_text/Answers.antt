@@ -1,4 +1,4 @@
-use Rattle.std.proofs.Common.{sym, ◌∙◌}
+use Rattle.std.proofs.Common.{sym}
 use Rattle.std.proofs.lemmas.Result.{err_from_is_err_and}
 use Rattle.m2v_audit.proofs.TextReports.{fails, stopped_text, stopped_cut, skipped_all, skipped_cut, ended_text, ended_cut}
 use Rattle.m2v_audit.proofs.texts.tell_text.Goals as goal

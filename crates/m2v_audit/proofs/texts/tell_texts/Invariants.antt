@@ -5,7 +5,7 @@ use Rattle.m2v_audit.proofs.texts.tell_texts.Given as goal
 
 abbrev pub invariant-loop-ending : goal.invariant-loop-ending
 invariant-loop-ending g l = record {
-  so_far : TextsSoFar (change g.S.Source.left g.S.Source.faults l.fn.input l.input) (change g.K.Sink.held g.K.Sink.faults l.fn.output l.output) l.fn.each l.later l.totals l.cutter;
+  so_far : TextsSoFar (change g.S.Source.left g.S.Source.faults l.fn.input l.input) (change g.K.Sink.held g.K.Sink.faults l.fn.output l.output) l.fn.asked l.later l.totals l.cutter;
   begun : l.cutter.begun ≡ false;
   still : l.cutter.ended ≡ false;
   going : l.cutter.failed ≡ false;

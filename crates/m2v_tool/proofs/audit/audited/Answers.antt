@@ -3,8 +3,8 @@ use Rattle.m2v_tool.proofs.audit.audited.Goals as goal
 
 pub returns-in-Ok-clause-comes : goal.returns-in-Ok-clause-comes
 unfolding AuditComes
-returns-in-Ok-clause-comes g c = rw (c.name_of_rules.ensures) at c.in-Ok.ensures.ok
+returns-in-Ok-clause-comes g c = c.in-Ok.ensures.ok
 
 pub returns-in-Err-clause-comes : goal.returns-in-Err-clause-comes
 unfolding AuditComes
-returns-in-Err-clause-comes g c = rw (c.name_of_rules.ensures) at c.in-Err.ensures.err
+returns-in-Err-clause-comes g c = c.in-Err.ensures.err

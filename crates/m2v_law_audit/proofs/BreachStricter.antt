@@ -1,0 +1,413 @@
+-- The stricter rules have other numbers than those that the verifier looks at: nothing that they find is one of its breaches.
+use Rattle.std.proofs.Common.{◌≡◌, ℕ, Bool, true, false, List, [], ◌∷◌, ◌++◌, map, Option, Some, None, refl, ◌∙◌}
+use Rattle.std.specs.Prelude.{nat_le, not, filter, if◌then◌else◌}
+use Rattle.std.specs.List.{AllByRecursion}
+use Rattle.std.proofs.ByRecursion.{All-append}
+use Rattle.std.proofs.lemmas.List.Elements.{filter-append}
+use Rattle.m2v_model.specs.m2v_macroblock.m2v_head.declared.group.GroupInfo.{GroupInfo}
+use Rattle.m2v_model.specs.m2v_macroblock.m2v_head.declared.picture.PictureInfo.{PictureInfo}
+use Rattle.m2v_model.specs.m2v_macroblock.m2v_head.declared.picture.PictureExtension.{PictureExtension}
+use Rattle.m2v_model.specs.declared.state.Sequence.{Sequence}
+use Rattle.m2v_model.specs.States.{is_frame}
+use Rattle.m2v_audit.specs.m2v_check.declared.coded.CodedPicture.{CodedPicture}
+use Rattle.m2v_audit.specs.m2v_strict.declared.element.Element.{Element}
+use Rattle.m2v_audit.specs.m2v_strict.declared.element.Element.TheVariants as elements
+use Rattle.m2v_audit.specs.m2v_strict.declared.remark.Remark.{Remark}
+use Rattle.m2v_audit.specs.m2v_strict.declared.rule_set.RuleSet.{RuleSet}
+use Rattle.m2v_audit.specs.m2v_strict.declared.rule_set.RuleSet.TheVariants as sets
+use Rattle.m2v_audit.specs.m2v_strict.declared.runs.Runs.{Runs}
+use Rattle.m2v_audit.specs.m2v_strict.Remarks.{Remarks, is_warning, judge, looked_at, unset, within}
+use Rattle.m2v_audit.specs.m2v_strict.SequenceRules.{coded_luma_rule, aspect_rule, constrained_rule, first_number_rule, header_rule, extension_rule, aspect_warning, size_warning, height_warning, level_remarks, sequence_warnings}
+use Rattle.m2v_audit.specs.m2v_strict.GroupRules.{time_code_rule, drop_rule, passing_rule, broken_link_warning, group_remarks}
+use Rattle.m2v_audit.specs.m2v_strict.PictureRules.{low_delay_rule, delay_rule, f_code_rule, full_pel_rule, is_judged, field_rule, prediction_rule, top_first_rule, interlaced_rule, repeat_by_rate_rule, chroma_rule, dropped_warning, b_repeat_warning, frame_remarks}
+use Rattle.m2v_audit.specs.m2v_strict.DvdRules.{size_rule, format_rule, form_warning, wide_warning, dvd_remarks, headed_warning}
+use Rattle.m2v_audit.specs.m2v_strict.DvdRules.{fields_rule, b_frames_warning, first_group_warning, dvd_picture_remarks}
+use Rattle.m2v_audit.specs.m2v_strict.BroadcastRules.{dvb_rate_rule, dvb_size_rule, dvb_aspect_rule, dvb_remarks}
+use Rattle.m2v_audit.specs.m2v_strict.BroadcastRules.{dvb_level_warning, dvb_rate_warning, dvb_size_warning}
+use Rattle.m2v_audit.specs.m2v_strict.BroadcastRules.{atsc_size_rule, square_or_wide, aspect_at, atsc_aspect_rule, atsc_remarks}
+use Rattle.m2v_audit.specs.m2v_strict.BroadcastRules.{progressive_rate_rule, atsc_rate_rule, atsc_form_rule, atsc_buffer_rule}
+use Rattle.m2v_audit.specs.m2v_strict.BroadcastRules.{atsc_delay_warning}
+use Rattle.m2v_audit.specs.m2v_strict.SetRules.{set_remarks, set_group_remarks, set_picture_remarks}
+use Rattle.m2v_audit.specs.declared.records.Finding.{Finding}
+use Rattle.m2v_audit.specs.Auditing.{bit_of}
+use Rattle.m2v_audit.specs.Findings.{remarked_at}
+use Rattle.m2v_audit.specs.Times.{fields_of}
+use Rattle.m2v_audit.specs.Report.{finding_of}
+use Rattle.m2v_law_audit.specs.Found.{remarks_found, sequence_found, group_found, picture_found, judged_in}
+
+-- ---- remarks of rules from 16 on
+
+abbrev IsStricter : Remark → Type 0
+IsStricter m = nat_le m.rule 15 ≡ false
+
+record AreStricter (ms : Remarks) : Type 0 where
+  each : AllByRecursion IsStricter ms
+
+none : AreStricter []
+none = record { each = tt }
+
+one : {m : Remark} → IsStricter m → AreStricter (m ∷ [])
+one e = record { each = (e, tt) }
+
+both : {xs ys : Remarks} → AreStricter xs → AreStricter ys → AreStricter (xs ++ ys)
+both {xs} {ys} h k = record { each = All-append IsStricter xs ys h.each k.each }
+
+chosen : (b : Bool) (xs ys : Remarks) → AreStricter xs → AreStricter ys → AreStricter (if b then xs else ys)
+chosen true xs ys h k = h
+chosen false xs ys h k = k
+
+-- a rule that may hold, and one that is looked at in some headers alone
+judged : (holds : Bool) (m : Remark) → IsStricter m → AreStricter (judge holds m)
+judged holds m e = chosen holds [] (m ∷ []) none (one e)
+
+looked : (b : Bool) (ms : Remarks) → AreStricter ms → AreStricter (looked_at b ms)
+looked b ms h = chosen b ms [] h none
+
+-- a number that lies between two others
+bounded : (rule : ℕ) (element : Element) (have low high : ℕ) → nat_le rule 15 ≡ false → AreStricter (within rule element have low high)
+bounded rule element have low high e = chosen _ _ _ (one e) (judged _ _ e)
+
+-- ---- a sequence header
+
+coded_luma_is : (s : Sequence) → AreStricter (coded_luma_rule s)
+unfolding coded_luma_rule
+coded_luma_is s = looked _ _ (judged _ _ refl)
+
+aspect_is : (s : Sequence) → AreStricter (aspect_rule s)
+unfolding aspect_rule
+aspect_is s = chosen _ _ _ (one refl) (judged _ _ refl)
+
+constrained_is : (s : Sequence) → AreStricter (constrained_rule s)
+unfolding constrained_rule
+constrained_is s = judged _ _ refl
+
+first_number_is : (matrix : Option (List ℕ)) → AreStricter (first_number_rule matrix)
+unfolding first_number_rule
+first_number_is None = none
+first_number_is (Some numbers) = judged _ _ refl
+
+level_are : (s : Sequence) → AreStricter (level_remarks s)
+level_are s = both (both (both (coded_luma_is s) (aspect_is s)) (constrained_is s)) (first_number_is s.info.load_intra)
+
+header_are : (first s : Sequence) → AreStricter (header_rule first s)
+unfolding header_rule
+header_are first s = both (both (both (both (judged _ _ refl) (judged _ _ refl)) (judged _ _ refl)) (judged _ _ refl)) (judged _ _ refl)
+
+extension_are : (first s : Sequence) → AreStricter (extension_rule first s)
+unfolding extension_rule
+extension_are first s = both (both (both (judged _ _ refl) (judged _ _ refl)) (judged _ _ refl)) (judged _ _ refl)
+
+aspect_warned : (rules : RuleSet) (s : Sequence) → AreStricter (aspect_warning rules s)
+unfolding aspect_warning
+aspect_warned rules s = looked _ _ (judged _ _ refl)
+
+size_warned : (s : Sequence) → AreStricter (size_warning s)
+unfolding size_warning
+size_warned s = both (judged _ _ refl) (judged _ _ refl)
+
+height_warned : (s : Sequence) → AreStricter (height_warning s)
+unfolding height_warning
+height_warned s = looked _ _ (judged _ _ refl)
+
+warned_are : (rules : RuleSet) (s : Sequence) → AreStricter (sequence_warnings rules s)
+warned_are rules s = both (both (aspect_warned rules s) (size_warned s)) (height_warned s)
+
+-- ---- a group header
+
+time_code_is : (g : GroupInfo) → AreStricter (time_code_rule g)
+unfolding time_code_rule
+time_code_is g = both (both (both (judged _ _ refl) (judged _ _ refl)) (judged _ _ refl)) (judged _ _ refl)
+
+drop_is : (code : ℕ) (g : GroupInfo) → AreStricter (drop_rule code g)
+unfolding drop_rule
+drop_is code g = looked _ _ (judged _ _ refl)
+
+passing_is : (g : GroupInfo) → AreStricter (passing_rule g)
+unfolding passing_rule
+passing_is g = judged _ _ refl
+
+broken_link_is : (g : GroupInfo) → AreStricter (broken_link_warning g)
+unfolding broken_link_warning
+broken_link_is g = judged _ _ refl
+
+group_are : (code : ℕ) (g : GroupInfo) → AreStricter (group_remarks code g)
+group_are code g = both (both (both (time_code_is g) (drop_is code g)) (passing_is g)) (broken_link_is g)
+
+-- ---- a picture
+
+low_delay_is : (p : CodedPicture) → AreStricter (low_delay_rule p)
+unfolding low_delay_rule
+low_delay_is p = looked _ _ (judged _ _ refl)
+
+delay_is : (constant : Bool) (delay : ℕ) → AreStricter (delay_rule constant delay)
+unfolding delay_rule
+delay_is constant delay = chosen _ _ _ (judged _ _ refl) (judged _ _ refl)
+
+f_code_are : (p : CodedPicture) → AreStricter (f_code_rule p)
+unfolding f_code_rule
+f_code_are p = both (looked _ _ (both (judged _ _ refl) (judged _ _ refl))) (looked _ _ (both (judged _ _ refl) (judged _ _ refl)))
+
+full_pel_are : (i : PictureInfo) → AreStricter (full_pel_rule i)
+unfolding full_pel_rule
+full_pel_are i = both (looked _ _ (both (judged _ _ refl) (judged _ _ refl))) (looked _ _ (both (judged _ _ refl) (judged _ _ refl)))
+
+unset_in_field : (element : Element) (flag : Bool) → AreStricter (unset 33 element flag)
+unset_in_field element flag = judged _ _ refl
+
+field_are : (constant : Bool) (p : CodedPicture) → AreStricter (field_rule constant p)
+unfolding field_rule
+field_are constant p =
+    let e = p.note.extension in
+    looked (not (is_frame e)) _
+    (both
+    (both
+    (both (unset_in_field elements.TopFieldFirst e.top_field_first) (unset_in_field elements.FramePredFrameDct e.frame_pred_frame_dct))
+    (unset_in_field elements.ProgressiveFrame e.progressive_frame))
+    (looked (not (is_judged constant p)) _ (unset_in_field elements.RepeatFirstField e.repeat_first_field)))
+
+prediction_is : (p : CodedPicture) → AreStricter (prediction_rule p)
+unfolding prediction_rule
+prediction_is p = looked _ _ (judged _ _ refl)
+
+top_first_is : (p : CodedPicture) → AreStricter (top_first_rule p)
+unfolding top_first_rule
+top_first_is p = looked _ _ (judged _ _ refl)
+
+interlaced_is : (constant : Bool) (p : CodedPicture) → AreStricter (interlaced_rule constant p)
+unfolding interlaced_rule
+interlaced_is constant p = looked _ _ (judged _ _ refl)
+
+repeat_is : (constant : Bool) (p : CodedPicture) → AreStricter (repeat_by_rate_rule constant p)
+unfolding repeat_by_rate_rule
+repeat_is constant p = looked _ _ (judged _ _ refl)
+
+chroma_is : (e : PictureExtension) → AreStricter (chroma_rule e)
+unfolding chroma_rule
+chroma_is e = judged _ _ refl
+
+frame_are : (constant : Bool) (p : CodedPicture) → AreStricter (frame_remarks constant p)
+frame_are constant p =
+    both (both (both (both (prediction_is p) (top_first_is p)) (interlaced_is constant p)) (repeat_is constant p))
+    (chroma_is p.note.extension)
+
+dropped_is : (p : CodedPicture) → AreStricter (dropped_warning p)
+unfolding dropped_warning
+dropped_is p = judged _ _ refl
+
+b_repeat_is : (p : CodedPicture) → AreStricter (b_repeat_warning p)
+unfolding b_repeat_warning
+b_repeat_is p = looked _ _ (judged _ _ refl)
+
+-- ---- the rules of a disc
+
+disc_size_is : (s : Sequence) → AreStricter (size_rule s)
+unfolding size_rule
+disc_size_is s = judged _ _ refl
+
+format_are : (s : Sequence) → AreStricter (format_rule s)
+unfolding format_rule
+format_are s =
+    both
+    (both
+    (both (bounded 61 elements.FrameRateCode s.info.frame_rate_code 3 4 refl)
+    (bounded 62 elements.AspectRatioInformation s.info.aspect 2 3 refl))
+    (judged _ _ refl))
+    (judged _ _ refl)
+
+form_warned : (s : Sequence) → AreStricter (form_warning s)
+unfolding form_warning
+form_warned s = both (judged _ _ refl) (judged _ _ refl)
+
+wide_warned : (s : Sequence) → AreStricter (wide_warning s)
+unfolding wide_warning
+wide_warned s = looked _ _ (judged _ _ refl)
+
+dvd_are : (s : Sequence) → AreStricter (dvd_remarks s)
+dvd_are s = both (both (both (disc_size_is s) (format_are s)) (form_warned s)) (wide_warned s)
+
+headed_is : (headed : Bool) → AreStricter (headed_warning headed)
+unfolding headed_warning
+headed_is headed = judged _ _ refl
+
+fields_are : (before : Runs) (p : CodedPicture) (fields : ℕ) → AreStricter (fields_rule before p fields)
+unfolding fields_rule
+fields_are before p fields = looked _ _ (judged _ _ refl)
+
+b_frames_are : (before : Runs) (p : CodedPicture) → AreStricter (b_frames_warning before p)
+unfolding b_frames_warning
+b_frames_are before p = looked _ _ (judged _ _ refl)
+
+first_group_is : (p : CodedPicture) → AreStricter (first_group_warning p)
+unfolding first_group_warning
+first_group_is p = both (judged _ _ refl) (judged _ _ refl)
+
+dvd_picture_are : (before : Runs) (p : CodedPicture) (fields : ℕ) → AreStricter (dvd_picture_remarks before p fields)
+dvd_picture_are before p fields = both (both (fields_are before p fields) (b_frames_are before p)) (first_group_is p)
+
+-- ---- the rules of broadcasts
+
+dvb_rate_is : (s : Sequence) → AreStricter (dvb_rate_rule s)
+unfolding dvb_rate_rule
+dvb_rate_is s = looked _ _ (judged _ _ refl)
+
+dvb_size_is : (s : Sequence) → AreStricter (dvb_size_rule s)
+unfolding dvb_size_rule
+dvb_size_is s = looked _ _ (judged _ _ refl)
+
+dvb_aspect_is : (s : Sequence) → AreStricter (dvb_aspect_rule s)
+unfolding dvb_aspect_rule
+dvb_aspect_is s = bounded 82 elements.AspectRatioInformation s.info.aspect 2 4 refl
+
+dvb_level_warned : (s : Sequence) → AreStricter (dvb_level_warning s)
+unfolding dvb_level_warning
+dvb_level_warned s = judged _ _ refl
+
+dvb_rate_warned : (s : Sequence) → AreStricter (dvb_rate_warning s)
+unfolding dvb_rate_warning
+dvb_rate_warned s = looked _ _ (judged _ _ refl)
+
+dvb_size_warned : (s : Sequence) → AreStricter (dvb_size_warning s)
+unfolding dvb_size_warning
+dvb_size_warned s = looked _ _ (judged _ _ refl)
+
+dvb_are : (s : Sequence) → AreStricter (dvb_remarks s)
+dvb_are s =
+    both
+    (both (both (both (both (dvb_rate_is s) (dvb_size_is s)) (dvb_aspect_is s)) (dvb_level_warned s)) (dvb_rate_warned s))
+    (dvb_size_warned s)
+
+atsc_size_is : (s : Sequence) → AreStricter (atsc_size_rule s)
+unfolding atsc_size_rule
+atsc_size_is s = judged _ _ refl
+
+square_or_wide_is : (aspect : ℕ) → AreStricter (square_or_wide aspect)
+unfolding square_or_wide
+square_or_wide_is aspect = judged _ _ refl
+
+aspect_at_is : (width height aspect : ℕ) → AreStricter (aspect_at width height aspect)
+unfolding aspect_at
+aspect_at_is width height aspect =
+    let within_is : (low high : ℕ) → AreStricter (within 91 elements.AspectRatioInformation aspect low high) =
+    λ low high. bounded 91 elements.AspectRatioInformation aspect low high refl in
+    chosen _ _ _ (square_or_wide_is aspect) (chosen _ _ _ (within_is 1 2) (within_is 2 3))
+
+atsc_aspect_is : (s : Sequence) → AreStricter (atsc_aspect_rule s)
+unfolding atsc_aspect_rule
+atsc_aspect_is s = looked _ _ (aspect_at_is _ _ _)
+
+progressive_rate_is : (s : Sequence) → AreStricter (progressive_rate_rule s)
+unfolding progressive_rate_rule
+progressive_rate_is s = judged _ _ refl
+
+atsc_rate_is : (s : Sequence) → AreStricter (atsc_rate_rule s)
+unfolding atsc_rate_rule
+atsc_rate_is s = chosen _ _ _ (progressive_rate_is s) (bounded 92 elements.FrameRateCode s.info.frame_rate_code 4 5 refl)
+
+atsc_form_is : (s : Sequence) → AreStricter (atsc_form_rule s)
+unfolding atsc_form_rule
+atsc_form_is s = looked _ _ (judged _ _ refl)
+
+atsc_buffer_is : (s : Sequence) → AreStricter (atsc_buffer_rule s)
+unfolding atsc_buffer_rule
+atsc_buffer_is s = both (judged _ _ refl) (judged _ _ refl)
+
+atsc_are : (s : Sequence) → AreStricter (atsc_remarks s)
+atsc_are s = both (both (both (both (atsc_size_is s) (atsc_aspect_is s)) (atsc_rate_is s)) (atsc_form_is s)) (atsc_buffer_is s)
+
+atsc_delay_warned : (delay : ℕ) → AreStricter (atsc_delay_warning delay)
+unfolding atsc_delay_warning
+atsc_delay_warned delay = judged _ _ refl
+
+-- ---- each set of rules
+
+set_are : (rules : RuleSet) (s : Sequence) → AreStricter (set_remarks rules s)
+unfolding set_remarks
+set_are sets.Main s = none
+set_are sets.Dvd s = dvd_are s
+set_are sets.Dvb s = dvb_are s
+set_are sets.Atsc s = atsc_are s
+
+set_group_are : (rules : RuleSet) (headed : Bool) → AreStricter (set_group_remarks rules headed)
+unfolding set_group_remarks
+set_group_are sets.Main headed = none
+set_group_are sets.Dvd headed = headed_is headed
+set_group_are sets.Dvb headed = none
+set_group_are sets.Atsc headed = none
+
+set_picture_are : (rules : RuleSet) (before : Runs) (p : CodedPicture) (fields : ℕ)
+    → AreStricter (set_picture_remarks rules before p fields)
+unfolding set_picture_remarks
+set_picture_are sets.Main before p fields = none
+set_picture_are sets.Dvd before p fields = dvd_picture_are before p fields
+set_picture_are sets.Dvb before p fields = none
+set_picture_are sets.Atsc before p fields = atsc_delay_warned p.note.info.vbv_delay
+
+-- ---- none of what is found is the verifier's
+
+first_out : (n picture bit : ℕ) (warns : Bool) (m : Remark) (ms : Remarks) → IsStricter m →
+    let found : Remark → Finding = λ x. finding_of n (remarked_at picture bit x) in
+    judged_in (map found ms) ≡ [] → judged_in (map found (if not warns then m ∷ ms else ms)) ≡ []
+first_out n picture bit true m ms e rest = rest
+first_out n picture bit false m ms e rest = rw e rest
+
+all_out : (n picture bit : ℕ) (ms : Remarks) → AllByRecursion IsStricter ms → judged_in (remarks_found n picture bit ms) ≡ []
+unfolding remarks_found
+all_out n picture bit [] h = refl
+all_out n picture bit (m ∷ ms) h =
+    first_out n picture bit (is_warning m.rule) m (filter (λ (x : Remark). not (is_warning x.rule)) ms) h.0 (all_out n picture bit ms h.1)
+
+record NoneJudged (fs : List Finding) : Type 0 where
+  is : judged_in fs ≡ []
+
+none_of : (n picture bit : ℕ) {ms : Remarks} → AreStricter ms → NoneJudged (remarks_found n picture bit ms)
+none_of n picture bit {ms} h = record { is = all_out n picture bit ms h.each }
+
+none_both : {xs ys : List Finding} → NoneJudged xs → NoneJudged ys → NoneJudged (xs ++ ys)
+none_both {xs} {ys} h k = record { is = filter-append (λ (x : Finding). nat_le x.rule 15) xs ys ∙ (λ i. h.is i ++ k.is i) }
+
+of_sequence : (n : ℕ) (rules : RuleSet) (picture bit : ℕ) (first s : Sequence)
+    → NoneJudged (sequence_found n rules picture bit first s)
+of_sequence n rules picture bit first s =
+    none_both
+    (none_both
+    (none_both
+    (none_both (none_of n picture bit (level_are s)) (none_of n picture bit (header_are first s)))
+    (none_of n picture bit (extension_are first s)))
+    (none_of n picture bit (warned_are rules s)))
+    (none_of n picture bit (set_are rules s))
+
+pub sequence_stricter : (n : ℕ) (rules : RuleSet) (picture bit : ℕ) (first s : Sequence)
+    → judged_in (sequence_found n rules picture bit first s) ≡ []
+sequence_stricter n rules picture bit first s = (of_sequence n rules picture bit first s).is
+
+of_group : (n : ℕ) (rules : RuleSet) (headed : Bool) (picture bit : ℕ) (s : Option Sequence) (g : GroupInfo)
+    → NoneJudged (group_found n rules headed picture bit s g)
+of_group n rules headed picture bit None g = record { is = refl }
+of_group n rules headed picture bit (Some s) g =
+    none_both (none_of n picture bit (group_are s.info.frame_rate_code g)) (none_of n picture bit (set_group_are rules headed))
+
+pub group_stricter : (n : ℕ) (rules : RuleSet) (headed : Bool) (picture bit : ℕ) (s : Option Sequence) (g : GroupInfo)
+    → judged_in (group_found n rules headed picture bit s g) ≡ []
+group_stricter n rules headed picture bit s g = (of_group n rules headed picture bit s g).is
+
+of_picture : (n : ℕ) (rules : RuleSet) (constant : Bool) (before : Runs) (p : CodedPicture)
+    → NoneJudged (picture_found n rules constant before p)
+of_picture n rules constant before p =
+    let bit = bit_of p.note in
+    none_both
+    (none_both
+    (none_both
+    (none_both
+    (none_both
+    (none_both
+    (none_of n p.number bit (both (low_delay_is p) (delay_is constant p.note.info.vbv_delay)))
+    (none_of n p.number bit (f_code_are p)))
+    (none_of n p.number bit (full_pel_are p.note.info)))
+    (none_of n p.number bit (field_are constant p)))
+    (none_of n p.number bit (frame_are constant p)))
+    (none_of n p.number bit (both (dropped_is p) (b_repeat_is p))))
+    (none_of n p.number bit (set_picture_are rules before p (fields_of p.sequence p.note)))
+
+pub picture_stricter : (n : ℕ) (rules : RuleSet) (constant : Bool) (before : Runs) (p : CodedPicture)
+    → judged_in (picture_found n rules constant before p) ≡ []
+picture_stricter n rules constant before p = (of_picture n rules constant before p).is

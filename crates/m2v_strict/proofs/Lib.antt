@@ -1,0 +1,1 @@
+pub use Rattle.m2v_check.proofs as m2v_check
