@@ -1,15 +1,17 @@
 #!/usr/bin/env python3
 """Writes the report of `audit` on a stream, by the rules alone.
 
-    bench/cases/audited.py [--pictures] < STREAM
+    bench/cases/audited.py [--pictures] [--for NAME] < STREAM
     bench/cases/audited.py --self-test [COUNT] [SEED]
     bench/cases/audited.py --program 'PROGRAM audit' [COUNT] [SEED]
 
 It shares nothing with the program: faults are found by bench/cases/faults.py, what comes before them is read by the parser
-of bench/cases/verdicts.py, whose rules 1 to 15 these are, the account of the buffer is that of
+of bench/cases/verdicts.py, whose rules 1 to 15 these are, the stricter ones are those of bench/cases/audited_strict.py, and
+those of the sets dvd, dvb and atsc are those of bench/cases/audited_sets.py; the account of the buffer is that of
 bench/cases/audited_account.py, and the lines are put together by bench/cases/audited_records.py. --self-test draws accounts
-and streams, and holds the report against a simulation in time and against the verdicts of `check`. --program holds a program
-against the report, on the streams of the table, drawn ones and damaged ones.
+and streams, and holds the report against a simulation in time and against the verdicts of `check`, and the reports by other
+sets against that by main. --program holds a program against the report, on the streams of the table, drawn ones and damaged
+ones, each by main and by one of the other sets.
 
 A text is the input, and then what stands behind each sequence end code. Of each the pieces are told in turn, a piece
 being a picture with the headers before it, up to the next header, picture or end behind it."""
@@ -20,6 +22,8 @@ from dataclasses import dataclass
 
 from audited_account import account, fields, rate_of
 from audited_records import Records, head, line
+from audited_sets import SETS, set_in
+from audited_strict import group_remarks, header_remarks, picture_remarks
 from faults import first_fault
 from pictures_writer import B, I, P
 from verdicts import (END, GROUP, PICTURE, SEQUENCE, Coded, Group, Parser, Sequence, header_breaches, parts,
@@ -106,10 +110,10 @@ class Picture:
 
 
 class Told:
-    """What is told of a sequence: of its pieces up to the one where it stops."""
+    """What is told of a sequence by a set of rules: of its pieces up to the one where it stops."""
 
-    def __init__(self, number, each, data, start, pieces):
-        self.records, self.pieces, self.data = Records(number, each), pieces, data
+    def __init__(self, number, each, rules, data, start, pieces):
+        self.records, self.rules, self.pieces, self.data = Records(number, each), SETS[rules](), pieces, data
         base, end = pieces[0][0], pieces[-1][1]
         stream = Parser(data[base:end])
         self.headers = deque((8 * (base + at), header) for at, header in stream.headers)
@@ -140,6 +144,9 @@ class Told:
             if isinstance(header, Sequence):
                 for broken in header_breaches(header):
                     self.records.breach(self.at, bit, *broken)
+                self.code = header.code
+                of_main = (r for r in header_remarks(header, self.first) if r[0] not in self.rules.silent)
+                self.remarks(self.at, bit, of_main, self.rules.header(header))
             elif isinstance(header, Group):
                 self.group(bit, header)
             else:
@@ -155,6 +162,7 @@ class Told:
         self.places(('group', self.groups))
         self.records.put_each('group', self.groups, bit, self.at, g.drop, g.hours, g.minutes, g.seconds, g.pictures,
                               g.closed, g.broken)
+        self.remarks(self.at, bit, group_remarks(g, self.code), self.rules.group())
         self.groups += 1
 
     def picture(self, bit, p, begin, end):
@@ -162,10 +170,16 @@ class Told:
         self.records.put_each('picture', self.at, bit, TYPES[p.kind], STRUCTURES[p.structure], p.temporal,
                               8 * len(piece), 8 * (len(piece) - len(piece.rstrip(b'\0'))), p.delay, fields(p),
                               int(p.dropped))
-        for broken in picture_breaches(p, self.pictures[0].coded.delay != 65535):
+        constant = self.pictures[0].coded.delay != 65535
+        for broken in picture_breaches(p, constant):
             self.records.breach(self.at, bit, *broken)
+        self.remarks(self.at, bit, picture_remarks(p, constant), self.rules.picture(self.at, p))
         self.places(('picture', self.at))
         self.at += 1
+
+    def remarks(self, picture, bit, of_main, of_set):
+        for remark in (*of_main, *of_set):
+            self.records.remark(picture, bit, *remark)
 
     def places(self, by):
         for number, have, need in self.misplaced[by]:
@@ -195,7 +209,7 @@ class Told:
 def totals(told):
     """The sums of the sequences: pictures, bytes, breaches, failures and warnings."""
     return (sum(len(t.pictures) for t in told), sum(t.size() for t in told), sum(t.records.breaches() for t in told),
-            sum(t.records.failures for t in told), 0)
+            sum(t.records.failures for t in told), sum(t.records.warnings() for t in told))
 
 
 def ending(told):
@@ -208,14 +222,14 @@ def ending(told):
 
 
 def report(data, pictures=False, rules='main'):
-    """The status, the line and the output of an input."""
+    """The status, the line and the output of an input, by a set of rules."""
     told, lines, answer = [], [head(rules)], None
     for start, pieces, end in texts(data):
         if not pieces and start > 0:
             lines += [line('skipped', len(told), start, end - start)] if start < end else []
             break
         stop, record, answer = stop_in(data, start, pieces)
-        sequence = Told(len(told), pictures, data, start, pieces[:stop]) if stop else None
+        sequence = Told(len(told), pictures, rules, data, start, pieces[:stop]) if stop else None
         records = sequence.records if sequence else Records(len(told), pictures)
         if record:
             records.put(*record)
@@ -241,7 +255,11 @@ def main():
         import audited_trials
         audited_trials.hold_program(words[1], *map(int, words[2:]))
         return
-    status, said, output = report(sys.stdin.buffer.read(), '--pictures' in words)
+    rules = set_in(words)
+    if rules not in SETS:
+        print('usage', file=sys.stderr)
+        sys.exit(2)
+    status, said, output = report(sys.stdin.buffer.read(), '--pictures' in words, rules)
     sys.stdout.buffer.write(output)
     print(said, file=sys.stderr)
     sys.exit(status)

@@ -9,6 +9,7 @@ COLUMNS = {
     'picture': 'sequence picture bit type structure temporal_reference bits zeros vbv_delay fields dropped',
     'held': 'sequence picture time before taken after delay wait',
     'breach': 'sequence picture bit rule name have need',
+    'warning': 'sequence picture bit rule name have need',
     'failure': 'sequence picture bit kind time have need wait',
     'fault': 'sequence bit kind',
     'limit': 'sequence kind',
@@ -20,9 +21,16 @@ COLUMNS = {
 RULES = ('level width height frame_rate luma_rate bit_rate vbv_buffer_size f_code_horizontal f_code_vertical group_begins'
          ' temporal_reference large_macroblocks repeat_first_field progressive intra_dc_precision').split()
 
+# the numbers of the warnings
+WARNINGS = {*range(50, 60), *range(66, 72), *range(83, 86), 95}
+
 
 def line(kind, *columns):
     return '\t'.join([kind, *map(str, columns)]) + '\n'
+
+
+def is_warning(rule):
+    return rule in WARNINGS
 
 
 def head(rules):
@@ -49,7 +57,11 @@ class Records:
             self.put(kind, *columns)
 
     def breach(self, picture, bit, rule, have, need):
-        self.put('breach', picture, bit, rule, RULES[rule - 1], have, need)
+        self.remark(picture, bit, rule, RULES[rule - 1], have, need)
+
+    def remark(self, picture, bit, rule, name, have, need):
+        """A breach by its own name, or a warning."""
+        self.put('warning' if is_warning(rule) else 'breach', picture, bit, rule, name, have, need)
         often, first = self.counts.get(rule, (0, picture))
         self.counts[rule] = often + 1, first
 
@@ -71,10 +83,13 @@ class Records:
         self.time = r.time
 
     def breaches(self):
-        return sum(often for often, _ in self.counts.values())
+        return sum(often for rule, (often, _) in self.counts.items() if not is_warning(rule))
+
+    def warnings(self):
+        return sum(often for rule, (often, _) in self.counts.items() if is_warning(rule))
 
     def end(self, pictures, frames, groups, size):
         for rule, (often, first) in sorted(self.counts.items()):
             self.put('count', rule, often, first)
-        self.put('end', pictures, frames, groups, size, self.breaches(), self.failures, 0, min(self.lows, default=0),
-                 max(self.highs, default=0), self.delays, self.time)
+        self.put('end', pictures, frames, groups, size, self.breaches(), self.failures, self.warnings(),
+                 min(self.lows, default=0), max(self.highs, default=0), self.delays, self.time)

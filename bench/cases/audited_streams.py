@@ -29,24 +29,33 @@ def words():
     for name, line in (
             ('alone', 'audit'), ('pictures', EACH), ('the rule set main', 'audit --for main'),
             ('the rule set main with an equal sign', 'audit --for=main'),
+            ('the rule set dvd', 'audit --for dvd'), ('the rule set dvb', 'audit --for dvb'),
+            ('the rule set atsc', 'audit --for atsc'), ('the rule set dvd with an equal sign', 'audit --for=dvd'),
+            ('the rule set dvb with an equal sign', 'audit --for=dvb'),
+            ('the rule set atsc with an equal sign', 'audit --for=atsc'),
+            ('pictures and the rule set dvd', 'audit --pictures --for dvd'),
+            ('the rule set dvb and pictures', 'audit --for dvb --pictures'),
+            ('pictures and the rule set atsc with an equal sign', 'audit --pictures --for=atsc'),
             ('pictures and the rule set', 'audit --pictures --for main'),
             ('the rule set and pictures', 'audit --for main --pictures'), ('the word that ends options', 'audit --')):
         case('words, ' + name, '= grouped', words=line)
     usage = (2, 'usage', b'')
     for name, line in (
-            ('the rule set dvd', 'audit --for dvd'), ('the rule set dvb', 'audit --for dvb'),
-            ('the rule set atsc', 'audit --for atsc'), ('a rule set that is not there', 'audit --for mains'),
-            ('a rule set with a capital', 'audit --for Main'), ('a rule set of no letters', 'audit --for='),
+            ('a rule set that is not there', 'audit --for mains'), ('a rule set with a capital', 'audit --for Main'),
+            ('a rule set of capitals', 'audit --for DVD'), ('the beginning of a rule set', 'audit --for dv'),
+            ('a rule set and a letter', 'audit --for=dvbs'), ('two rule sets in a word', 'audit --for=dvd,dvb'),
+            ('a rule set of no letters', 'audit --for='),
             ('a rule set without its name', 'audit --for'), ('a rule set without its name, behind pictures',
                                                              'audit --pictures --for'),
             ('pictures in place of the name', 'audit --for --pictures'),
-            ('the rule set twice', 'audit --for main --for main'), ('pictures twice', 'audit --pictures --pictures'),
+            ('the rule set twice', 'audit --for main --for main'),
+            ('two rule sets', 'audit --for dvd --for=atsc'), ('pictures twice', 'audit --pictures --pictures'),
             ('pictures with a value', 'audit --pictures=yes'), ('the beginning of an option', 'audit --pict'),
             ('an option that is not there', 'audit --workers 2'), ('a word too many', 'audit x'),
             ('a word behind the options', 'audit --for main --pictures main'), ('the word twice', 'audit audit'),
             ('help', 'audit --help'), ('with another first letter', 'Audit')):
         case('words, ' + name, '= grouped', words=line, wanted=usage)
-    case('words, each call of the report fails in turn', '= grouped', words='audit --for dvd', more=['each report'],
+    case('words, each call of the report fails in turn', '= grouped', words='audit --for mains', more=['each report'],
          wanted=usage)
 
 

@@ -1,6 +1,7 @@
 """Trials of bench/cases/audited.py (`audited.py --self-test`): its account of the buffer held against a simulation in time,
 in which bits come unit by unit, and its reports on drawn streams against what `check` is to say of them, against the
-rule on places as it runs, and against each other."""
+rule on places as it runs, and against each other, also those by one set of rules and by another. What the rules of the sets
+need of a sequence header is put into it, and then keeps them."""
 
 import random
 import subprocess
@@ -12,7 +13,7 @@ from audited_account import UNIT, Inflow, filled, rate_of, removals, removed
 from audited_records import RULES
 from pictures_writer import B, BOTTOM, END, I, P, TOP, group, sequence
 from table_lines import read_bytes, read_table
-from verdicts import Account, Coded, Group, Parser, breaches, verdict
+from verdicts import Account, Coded, Group, Parser, Sequence, breaches, verdict
 from verdicts_cases import WOVEN, one, with_delay
 
 # ---- a simulation in time
@@ -136,7 +137,7 @@ def frame(draw, kind, rows, temporal, progressive, **more):
 def group_of(draw, rows, low_delay, begins):
     """A group of frames in coding order, most with the temporal references that they should have."""
     kinds = [draw.choice([I] if begins or draw.random() < 0.95 else [P, B])]
-    kinds += [draw.choice([P, B, B, I]) for _ in range(draw.randrange(6))]
+    kinds += [draw.choice([P, B, B, I]) for _ in range(draw.randrange(6 if draw.random() < 0.9 else 24))]
     if begins:
         kinds[0] = I
     order = [n for n, k in enumerate(kinds) if k == B or low_delay]
@@ -153,7 +154,8 @@ def group_of(draw, rows, low_delay, begins):
 def drawn_stream(draw):
     """A stream of a few groups, with delays that are exact, or off, or 65535."""
     rows = draw.choice([1, 2])
-    shape = dict(progressive=int(rows == 1), low_delay=int(draw.random() < 0.25), aspect=2, buffer=draw.randrange(1, 4),
+    shape = dict(progressive=int(rows == 1), low_delay=int(draw.random() < 0.25), aspect=draw.choice([1, 2, 2, 2, 3, 4]),
+                 buffer=draw.randrange(1, 4),
                  rate=draw.choice([60, 100, 150, 400]), code=draw.choice([1, 2, 3, 4, 5]),
                  level=draw.choice([72] * 8 + [70, 68, 73]))
     data = sequence(16, 16 * rows, **shape)
@@ -214,10 +216,15 @@ def hold(condition, what, data):
         raise SystemExit('%s; the stream is /tmp/audited.m2v' % what)
 
 
+def rule_of(r):
+    """The number of the rule that a record is about, or 0."""
+    return int(r[4]) if r[0] in ('breach', 'warning') else int(r[2]) if r[0] == 'count' else 0
+
+
 def try_rules(data, told):
-    """The breaches are those that `check` has, and rule 11 is told as frames are shown."""
+    """The breaches are those that `check` has, beside stricter ones, and rule 11 is told as frames are shown."""
     stream = Parser(data)
-    said = [r for r in told if r[0] == 'breach']
+    said = [r for r in told if r[0] == 'breach' and rule_of(r) <= len(RULES)]
     mine = Counter((int(r[2]) if int(r[4]) > 7 else 0, int(r[4]), int(r[6]), int(r[7])) for r in said)
     hold(mine == Counter(breaches(stream)), 'other breaches than check has', data)
     mine = [(int(r[2]), int(r[6]), int(r[7])) for r in said if r[4] == '11']
@@ -247,17 +254,18 @@ def try_account(data, told):
 def try_sums(data, status, told):
     """The counts of `count`, `end` and `total` are those of the other records."""
     kinds = Counter(r[0] for r in told)
-    rules = Counter((r[1], r[4]) for r in told if r[0] == 'breach')
+    rules = Counter((r[1], r[4]) for r in told if r[0] in ('breach', 'warning'))
     hold(Counter({r[1:3]: int(r[3]) for r in told if r[0] == 'count'}) == rules, 'other counts', data)
     total = [int(n) for n in told[-1][1:]]
-    hold(total[3:] == [kinds['breach'], kinds['failure'], 0] and total[0] == kinds['sequence'], 'another total', data)
+    hold(total[3:] == [kinds['breach'], kinds['failure'], kinds['warning']] and total[0] == kinds['sequence'],
+         'another total', data)
     hold(status == (18 if total[3] or total[4] else 0), 'another status', data)
     hold(kinds['picture'] == total[1] and kinds['held'] in (0, total[1]) or total[0] > 1, 'too few records', data)
 
 
 def moved(r, sequences, byte):
     """A record of a text that stands behind so many sequences and bytes."""
-    at = {'skipped': 2, 'sequence': 2, 'group': 3, 'picture': 3, 'breach': 3, 'failure': 3}.get(r[0])
+    at = {'skipped': 2, 'sequence': 2, 'group': 3, 'picture': 3, 'breach': 3, 'warning': 3, 'failure': 3}.get(r[0])
     row = [r[0], str(int(r[1]) + sequences), *r[2:]]
     if at:
         row[at] = str(int(row[at]) + (byte if r[0] == 'skipped' else 8 * byte))
@@ -294,6 +302,111 @@ def try_in_time(data, told):
     hold(mine == wanted, 'in time something else is held', data)
 
 
+# ---- the sets held against main, and against what they need
+
+# the rules of each set, and those of main that it doesn't tell
+OWN = {'dvd': (range(60, 72), ()), 'dvb': (range(80, 86), (50,)), 'atsc': (range(90, 96), ())}
+# the numbers of a drawn sequence header by the names of its elements
+KEYS = {'frame_rate_code': 'code', 'aspect_ratio_information': 'aspect', 'bit_rate': 'rate', 'vbv_buffer_size': 'buffer',
+        'profile_and_level_indication': 'level', 'low_delay': 'low_delay', 'progressive_sequence': 'progressive'}
+
+
+def fields_passed(told):
+    """Rule 65 by the records of groups and pictures, in a sequence of one frame rate."""
+    bound, shown = (36 if next(r[5] for r in told if r[0] == 'sequence') == '4' else 30), 0
+    for r in told:
+        shown = 0 if r[0] == 'group' else shown
+        if r[0] == 'picture':
+            before, shown = shown, shown + int(r[10])
+            if before <= bound < shown:
+                yield 65, int(r[2]), shown, bound
+
+
+def b_frames_ended(pictures):
+    """Rule 66 by the records of pictures: the types of frames in a row."""
+    types, waits = '', False
+    for r in pictures:
+        waits = r[5] != 'frame' and not waits
+        types += '' if waits else r[4]
+        in_a_row = len(types) - len(types.rstrip('B'))
+        if in_a_row > 2 and not waits:
+            yield 66, int(r[2]), in_a_row, 2
+
+
+def by_dvd(told, letters):
+    """The rules of dvd on groups and pictures, by records and by the kinds of the headers, S, G and P."""
+    pictures = [r for r in told if r[0] == 'picture']
+    yield from fields_passed(told)
+    yield from b_frames_ended(pictures)
+    for at, letter in enumerate(letters):
+        if letter == 'G' and 'S' not in letters[:at].rpartition('P')[2]:
+            yield 67, letters[:at].count('P'), 0, 1
+    if 'G' not in letters.partition('P')[0]:
+        yield 69, 0, 0, 1
+    yield from ((69, int(r[2]), 1, 0) for r in pictures if r[11] == '1')
+
+
+def try_sets(data, told):
+    """Each set tells what main does, but for the sums and what it leaves out, and its own rules."""
+    letters = ''.join({Sequence: 'S', Group: 'G', Coded: 'P'}[type(header)] for _, header in Parser(data).headers)
+    delays = [(95, int(r[2]), int(r[9]), 45000) for r in told if r[0] == 'picture' and 45000 < int(r[9]) < 65535]
+    wanted = {'dvd': list(by_dvd(told, letters)), 'dvb': [], 'atsc': delays}
+    for rules, (own, silent) in OWN.items():
+        status, _, output = report(data, True, rules)
+        mine = records(output)
+        try_sums(data, status, mine)
+        of_main = [r for r in told if r[0] not in ('end', 'total') and rule_of(r) not in silent]
+        hold([r for r in mine if r[0] not in ('end', 'total') and rule_of(r) not in own] == of_main,
+             'by %s something else is told' % rules, data)
+        said = [(int(r[4]), int(r[2]), int(r[6]), int(r[7])) for r in mine
+                if r[0] in ('breach', 'warning') and rule_of(r) in (65, 66, 67, 69, 95)]
+        hold(Counter(said) == Counter(wanted[rules]), 'by %s pictures break other rules' % rules, data)
+
+
+def drawn_header(draw):
+    """The numbers of a sequence header: many are those of the sets, or next to them."""
+    return dict(width=draw.choice([1920, 1280, 720, 704, 640, 544, 480, 352, draw.randrange(1, 1921)]),
+                height=draw.choice([1088, 1080, 1079, 720, 576, 480, 288, 240, draw.randrange(1, 1153)]),
+                progressive=draw.randrange(2), low_delay=int(draw.random() < 0.2), aspect=draw.randrange(6),
+                code=draw.randrange(10), level=draw.choice([72, 72, 72, 70, 68, 73, 88]),
+                buffer=draw.choice([112, 488, 489]), rate=draw.choice([0, 24500, 24501, 37501, 48500, 48501]))
+
+
+def header_says(header, rules, rule, name):
+    """What a header says of a rule by a name: have and need."""
+    told = records(report(sequence(**header) + END, False, rules)[2])
+    return [(int(r[6]), int(r[7])) for r in told if rule_of(r) == rule and r[0] != 'count' and r[5] == name]
+
+
+def try_header(header, rules):
+    """What each rule of a set needs keeps it in place of what is there, and no code that is nearer does."""
+    told = records(report(sequence(**header) + END, False, rules)[2])
+    own = [r for r in told if r[0] in ('breach', 'warning') and rule_of(r) in OWN[rules][0]]
+    for rule, name, have, need in ((rule_of(r), r[5], int(r[6]), int(r[7])) for r in own):
+        if name == 'size':
+            other = dict(zip(('width', 'height'), divmod(need, 10000)))
+            assert have == 10000 * header['width'] + header['height'], (header, rules, rule)
+        else:
+            other = {KEYS[name]: need}
+            assert have == header[KEYS[name]], (header, rules, rule)
+        assert not header_says({**header, **other}, rules, rule, name), (header, rules, rule)
+        if rule in (61, 62, 82, 91, 92) and name != 'progressive_sequence':
+            for nearer in range(have - abs(have - need) + 1, have + abs(have - need)):
+                near = {**header, KEYS[name]: max(0, nearer)}
+                assert header_says(near, rules, rule, name), (header, rules, rule, nearer)
+    return Counter(rule_of(r) for r in own)
+
+
+def try_headers(count, seed):
+    """Draws sequence headers. Answers how often each rule of the sets was broken."""
+    draw, seen = random.Random(seed), Counter()
+    for _ in range(count):
+        header = drawn_header(draw)
+        for rules in OWN:
+            seen.update(try_header(header, rules))
+    return {'rule %d' % rule: often for rule, often in seen.items()}
+
+
 def try_streams(count, seed):
     """Draws streams. Answers how many were answered how."""
     draw, seen, before = random.Random(seed), Counter(), None
@@ -305,6 +418,7 @@ def try_streams(count, seed):
         try_sums(data, status, told)
         try_rules(data, told)
         try_account(data, told)
+        try_sets(data, told)
         short = [r for r in told if r[0] not in ('group', 'picture', 'held')]
         hold(records(report(data)[2]) == short, 'without --pictures something else is told', data)
         if number % 5 == 1:
@@ -342,17 +456,26 @@ def first_other(output, wanted):
     return next((a.decode('ascii', 'replace'), b.decode()) for a, b in lines if a != b)
 
 
+def words_in_turn(number):
+    """The sets, and the words, by which the stream of this number is told."""
+    other = list(OWN)[number % len(OWN)]
+    for rules, words in (('main', []), (other, ['--for', other])):
+        yield from ((rules, words), (rules, ['--pictures', *words]))
+
+
 def hold_program(program, count=2000, seed=1):
-    """Gives the streams of the table, drawn ones and damaged ones to a program that writes the report of its input, told
-    by words; answers how many reports were the same, and the least stream with another one."""
+    """Gives the streams of the table, drawn ones, headers and damaged ones to a program that writes the report of its
+    input, told by words, by main and by one of the other sets in turn; answers how many reports were the same, and the
+    least stream with another one."""
     draw, wrong, same = random.Random(seed), [], 0
     whole = table_streams()
     drawn = [drawn_stream(draw) for _ in range(count)]
+    drawn += [sequence(**drawn_header(draw)) + END for _ in range(count)]
     small = [data for data in whole + drawn if len(data) < 5000]
-    for data in [*whole, *drawn, *damaged_streams(draw, small, count)]:
-        for words in ([], ['--pictures']):
+    for number, data in enumerate([*whole, *drawn, *damaged_streams(draw, small, count)]):
+        for rules, words in words_in_turn(number):
             output = subprocess.run([*program.split(), *words], input=data, capture_output=True, check=False).stdout
-            wanted = report(data, bool(words))[2]
+            wanted = report(data, '--pictures' in words, rules)[2]
             same += output == wanted
             if output != wanted:
                 wrong.append((len(data), words, data, output, wanted))
@@ -364,5 +487,6 @@ def hold_program(program, count=2000, seed=1):
 
 
 def main(count=4000, seed=1):
-    for what, seen in (('accounts', try_accounts(count, seed)), ('streams', try_streams(count // 4, seed))):
+    for what, seen in (('accounts', try_accounts(count, seed)), ('headers', try_headers(count // 4, seed)),
+                       ('streams', try_streams(count // 4, seed))):
         print('%s: %s' % (what, ', '.join('%s %d' % pair for pair in sorted(seen.items()))))

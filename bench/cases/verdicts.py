@@ -62,6 +62,8 @@ class Sequence:
     progressive: int
     low_delay: int
     aspect: int
+    constrained: int = 0
+    first_number: int | None = None
 
     def limits(self):
         return LEVELS.get(self.level, LEVELS[72])
@@ -99,6 +101,8 @@ class Coded:
     progressive: int
     top_first: int
     code_end: int
+    directions: list
+    chroma_type: int
     bits: int = 0
     crowded: int = 0
     dropped: bool = False
@@ -184,27 +188,30 @@ class Parser(Decoder):
 
     def take_sequence(self, reader, extension):
         width, height = reader.number(12), reader.number(12)
-        aspect, code, rate, _, buffer = (reader.number(bits) for bits in (4, 4, 18, 1, 10))
+        aspect, code, rate, _, buffer, constrained = (reader.number(bits) for bits in (4, 4, 18, 1, 10, 1))
+        first_number = reader.number(8) if reader.number(1) else None
         _, level, progressive, _, _, _ = (extension.number(bits) for bits in (4, 8, 1, 2, 2, 2))
         rate += extension.number(12) << 18
         extension.number(1)
         buffer += extension.number(8) << 10
         low_delay, n, d = (extension.number(bits) for bits in (1, 2, 5))
-        self.sequences.append(Sequence(level, width, height, code, rate, buffer, n, d, progressive, low_delay, aspect))
+        self.sequences.append(Sequence(level, width, height, code, rate, buffer, n, d, progressive, low_delay, aspect,
+                                       constrained, first_number))
         reader.place = extension.place = 0
         self.sequence(reader, extension)
 
     def take_picture(self, reader, extension, code_end):
         temporal, kind, delay = (reader.number(bits) for bits in (10, 3, 16))
+        directions = [(reader.number(1), reader.number(3)) for _ in range({I: 0, P: 1, B: 2}[kind])]
         extension.number(4)
         f_codes = [extension.number(4) for _ in range(4)]
-        precision, structure, top_first, frame_only, concealment, _, _, _, repeat, _, progressive = (
+        precision, structure, top_first, frame_only, concealment, _, _, _, repeat, chroma_type, progressive = (
             extension.number(bits) for bits in (2, 2, 1, 1, 1, 1, 1, 1, 1, 1, 1))
         ends_frame = structure == FRAME or self.waits
         frame = self.coded[-1].frame + self.coded[-1].ends_frame if self.coded else 0
         self.coded.append(Coded(self.sequences[-1], self.groups, self.leads, frame, ends_frame, kind, temporal, delay,
                                 f_codes, precision, structure, frame_only, concealment, repeat, progressive, top_first,
-                                code_end))
+                                code_end, directions, chroma_type))
         self.leads, self.crowds = False, {}
         reader.place = extension.place = 0
         self.open(reader, extension)
